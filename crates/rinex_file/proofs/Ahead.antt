@@ -1,8 +1,9 @@
 -- Bytes that were read ahead: the lines among them, and what is left.
 use Rattle.std.proofs.Common.{arith, ◌≡◌, ◌∙◌, sym, ap, subst, refl, ℕ, zero, suc, ◌+◌, ◌-◌, ◌<◌, ◌≤◌, Bool, true, false, List, [], ◌∷◌, ◌++◌, length, take, drop, get_or, length-append, take-add, append_assoc, append-nil, Option, Some, None}
-use Rattle.std.specs.Prelude.{◌||◌, nat_eq, nat_lt, min}
+use Rattle.std.specs.Prelude.{◌||◌, ◌==◌, nat_eq, nat_lt, min}
+use Rattle.std.proofs.lemmas.Bool.{eqb-true}
 use Rattle.std.proofs.Math.Nat.{min-eq_left, min-eq_right, min-le_left, min-le_right, le-min}
-use Rattle.std.proofs.lemmas.List.{take_more, length-take-le, take-append-drop, drop-take, drop-drop, take-take}
+use Rattle.std.proofs.lemmas.List.{drop_more, length-take-le, take-append-drop, drop-take, drop-drop, take-take}
 use Rattle.std.specs.Io.KnownBytes.{Consumes, IsAtEnd, prepend_known}
 use Rattle.std.proofs.KnownBytes.{Consumes-nil, Consumes-trans}
 use Rattle.rinex_file.specs.Read.Fields.{has}
@@ -12,56 +13,20 @@ use Rattle.rinex_file.specs.declared.read.lines.Found.TheVariants.{Line, End, Cu
 use Rattle.rinex_file.specs.Exact.{IsLine}
 use Rattle.rinex_file.proofs.Digits.{has-append}
 
-not_ten : (b : ℕ) → (b ≡ 10 → ⊥) → has 10 (b ∷ []) ≡ false
-not_ten b other = grind arith
-
 pub endless_append : (xs ys : List ℕ) → has 10 xs ≡ false → has 10 ys ≡ false → has 10 (xs ++ ys) ≡ false
 endless_append xs ys h k = has-append 10 xs ys ∙ ap (λ t. t || has 10 ys) h ∙ k
-
-pub endless_more : (xs : List ℕ) (n : ℕ) → n < length xs → (get_or xs n 0 ≡ 10 → ⊥) → has 10 (take n xs) ≡ false → has 10 (take (n + 1) xs) ≡ false
-endless_more xs n less other h =
-    ap (has 10) (take_more xs n 0 less) ∙ endless_append (take n xs) (get_or xs n 0 ∷ []) h (not_ten (get_or xs n 0) other)
-
-pub byte_at : (xs : List ℕ) (n : ℕ) → n < length xs → get_or xs n 0 ≡ 10 → take 1 (drop n xs) ≡ 10 ∷ []
-byte_at [] n less e = absurd (omega (arith, less))
-byte_at (x ∷ xs) zero less e = ap (λ b. b ∷ []) e
-byte_at (x ∷ xs) (suc n) less e = byte_at xs n (omega (arith, less)) e
 
 -- ---- bytes that are moved to a line
 
 moved_are : (near : List ℕ) (feed count room : ℕ) (b : Bool) → nat_lt feed room ≡ b → length near ≡ room → has 10 (take feed near) ≡ false → (feed < length near → take 1 (drop feed near) ≡ 10 ∷ [])
     → feed ≤ length near → count ≡ min (feed + 1) room → AreMoved b (take count near)
-moved_are near feed count room true is size none found bound e =
-    let less : feed < length near = grind (arith, is, size) in
-    let n : count ≡ feed + 1 = e ∙ min-eq_left (omega (arith, less, size)) in
-    (take feed near, ap (λ k. take k near) n ∙ take-add feed 1 near ∙ ap (λ l. take feed near ++ l) (found less), none)
-moved_are near feed count room false is size none found bound e =
-    let more : room ≤ feed = grind (arith, is) in
-    let all : count ≡ feed = e ∙ min-eq_right (omega (arith, more)) ∙ omega (arith, more, bound, size) in
-    ap (λ k. has 10 (take k near)) all ∙ none
+moved_are near feed count room true is size none found bound e = grind (arith, min-eq_left, take-add)
+moved_are near feed count room false is size none found bound e = grind (arith, min-eq_right)
 
 pub moved : (held near new line line' : List ℕ) (room feed count : ℕ) → near ≡ take room held → room ≡ min (length held) (1220 - length line) → feed ≤ length near
     → has 10 (take feed near) ≡ false → (feed < length near → take 1 (drop feed near) ≡ 10 ∷ []) → count ≡ min (feed + 1) room → new ≡ drop count held → line' ≡ line ++ take count near
     → length line ≤ 1220 → MovesBytes (nat_lt feed room) held new line line'
-moved held near new line line' room feed count is most bound none found e rest pushed short =
-    let low : room ≤ length held = subst (λ (n : ℕ). n ≤ length held) (sym most) (min-le_left (length held) (1220 - length line)) in
-    let right : room ≤ 1220 - length line = subst (λ (n : ℕ). n ≤ 1220 - length line) (sym most) (min-le_right (length held) (1220 - length line)) in
-    let size : length near ≡ room = ap length is ∙ length-take-le room held low in
-    let few : count ≤ room = subst (λ (n : ℕ). n ≤ room) (sym e) (min-le_right (feed + 1) room) in
-    let bytes : take count near ≡ take count held = ap (take count) is ∙ take-take count room held few in
-    let long : length (take count near) ≡ count = length-take-le count near (omega (arith, few, size)) in
-    record {
-      bytes = take count near;
-      from = sym (take-append-drop count held) ∙ ap (λ l. l ++ drop count held) (sym bytes) ∙ ap (λ l. take count near ++ l) (sym rest);
-      to = pushed;
-      are = moved_are near feed count room (nat_lt feed room) refl size none found bound e;
-      some = λ here space.
-          let one : 1 ≤ min (length held) (1220 - length line) = le-min (omega (arith, here)) (omega (arith, space)) in
-          let room_some : 1 ≤ room = subst (λ (n : ℕ). 1 ≤ n) (sym most) one in
-          let count_some : 1 ≤ count = subst (λ (n : ℕ). 1 ≤ n) (sym e) (le-min (omega arith) room_some) in
-          omega (arith, long, count_some);
-      short = let both : length line' ≡ length line + length (take count near) = ap length pushed ∙ length-append line (take count near) in omega (arith, both, long, few, right, short);
-    }
+moved held near new line line' room feed count is most bound none found e rest pushed short = grind (arith, min-le_left, min-le_right, length-take-le, take-take, take-append-drop, moved_are, le-min, length-append)
 
 pub moved_of : (b : Bool) (held old new line line' : List ℕ) → held ≡ old → MovesBytes b held new line line' → MovesBytes b old new line line'
 moved_of b held old new line line' e m = subst (λ (o : List ℕ). MovesBytes b o new line line') e m
@@ -83,9 +48,7 @@ ahead_moved (Some x) old new bytes e = ap (λ l. l ++ x) e ∙ append_assoc byte
 
 pub moved_taken : (a b r : Option (List ℕ)) (whole : Bool) (old new line line' : List ℕ) → Consumes a b line → Consumes b (prepend_known old r) [] → MovesBytes whole old new line line'
     → Consumes a (prepend_known new r) line'
-moved_taken a b r whole old new line line' first none m =
-    subst (Consumes a (prepend_known new r)) (sym m.to)
-    (Consumes-trans a (prepend_known old r) (prepend_known new r) line m.bytes (consumed_none a b (prepend_known old r) line first none) (ahead_moved r old new m.bytes m.from))
+moved_taken a b r whole old new line line' first none m = grind (arith, Consumes-trans, consumed_none, ahead_moved)
 
 -- the line feed is the last byte of the line
 pub line_whole : (old new line line' : List ℕ) → has 10 line ≡ false → MovesBytes true old new line line' → IsLine line'
@@ -97,10 +60,7 @@ pub still_endless : (old new line line' : List ℕ) → has 10 line ≡ false �
 still_endless old new line line' endless m = ap (has 10) m.to ∙ endless_append line m.bytes endless m.are
 
 pub longer : (old new line line' : List ℕ) → MovesBytes false old new line line' → 0 < length old → length line < 1220 → length line < length line'
-longer old new line line' m some less =
-    let more = m.some some less in
-    let both : length line' ≡ length line + length m.bytes = ap length m.to ∙ length-append line m.bytes in
-    omega (arith, both, more)
+longer old new line line' m some less = grind (arith, length-append)
 
 pub leaves_more : (a b c : Option (List ℕ)) → LeavesRest a b → LeavesRest b c → LeavesRest a c
 leaves_more a b c (xs, first) (ys, next) = (xs ++ ys, Consumes-trans a b c xs ys first next)
@@ -138,3 +98,18 @@ is_empty (x ∷ xs) same = let none : suc (length xs) ≡ 0 = is_full _ _ same i
 
 pub not_empty : (n : ℕ) → false ≡ nat_eq n 0 → 0 < n
 not_empty n other = grind arith
+
+-- ---- the first line feed
+
+not_true : (b : Bool) → (b ≡ true → ⊥) → b ≡ false
+not_true true h = absurd (h refl)
+not_true false h = refl
+
+pub no_feed : (bytes : List ℕ) (n : ℕ) → ((k : ℕ) → k < n → (get_or bytes k 0 == 10) ≡ true → ⊥) → n ≤ length bytes → has 10 (take n bytes) ≡ false
+no_feed bytes zero none h = refl
+no_feed [] (suc n) none h = refl
+no_feed (b ∷ bytes) (suc n) none h =
+    ap (λ a. a || has 10 (take n bytes)) (not_true (b == 10) (none 0 (omega arith))) ∙ no_feed bytes n (λ k less. none (suc k) (omega (arith, less))) (omega (arith, h))
+
+pub feed_at : (bytes : List ℕ) (n : ℕ) → n < length bytes → (get_or bytes n 0 == 10) ≡ true → take 1 (drop n bytes) ≡ 10 ∷ []
+feed_at bytes n h is = ap (take 1) (drop_more bytes n 0 h) ∙ ap (λ b. b ∷ []) (eqb-true (get_or bytes n 0) 10 is)

@@ -249,19 +249,7 @@ room_left rows n most none room = let size : length rows ≡ 0 = ap length none 
 
 pub sound_begun : (s : Progress) (c : Option StationValues) (t n : ℕ) → AreRead s → s.rows ≡ [] → MayBegin s t n → IsTime t → IsChange (values_now s) c → (s.epochs ≡ [] → c ≡ None)
     → IsSound (begun_at s c t n)
-sound_begun s c t n read none may time change same = (
-  read,
-  record {
-    time = time;
-    later = may.later;
-    rows = subst (AreSatelliteRows (length s.known.shown.plan.gps) (length s.known.shown.plan.galileo)) (sym none) (no_rows (length s.known.shown.plan.gps) (length s.known.shown.plan.galileo));
-    first = may.first;
-    change = change;
-    same = same;
-  },
-  may.some,
-  room_left s.rows n (most_rows (length s.known.shown.plan.gps) (length s.known.shown.plan.galileo)) none may.room,
-)
+sound_begun s c t n read none may time change same = grind (arith, no_rows, room_left)
 
 -- ---- the line of a satellite
 
@@ -301,9 +289,7 @@ from_more s n v line left (m ∷ ms) others is count value starts rest =
 
 pub row_next : (s : Progress) (n : ℕ) (v : FileValue) (line : List ℕ) (left : List (List ℕ)) → s.expected ≡ Satellite (suc n) → HasLinesLeft s v (line ∷ left) → RowNext s n v line left
 unfolding HasLinesLeft
-row_next s n v line left expected (is, at) =
-    let here : IsInEpoch s (suc n) v (line ∷ left) = subst (λ d. IsAt s d v (line ∷ left)) expected at in
-    from_more s n v line left here.more here.others is here.count here.value here.starts here.rest
+row_next s n v line left expected (is, at) = grind (arith, from_more)
 
 module _ (s : Progress) (n : ℕ) (line : List ℕ) (expected : s.expected ≡ Satellite (suc n)) where
   pub no_row : ((w : SatelliteRow) → IsSatelliteRow (length s.known.shown.plan.gps) (length s.known.shown.plan.galileo) w → line ≡ satellite_line w → ⊥)
@@ -371,16 +357,7 @@ from_none : (s : Progress) (v : FileValue) (left : List (List ℕ)) (more : List
     → v ≡ file_with s (s.epochs ++ stamped s (s.rows ++ more) ∷ others) → StartsAt s.known.shown.first (s.epochs ++ stamped s (s.rows ++ more) ∷ others)
     → left ≡ map satellite_line more ++ flat_map stamped_lines others → IsBetween (with_epoch s) v left
 from_none s v left (m ∷ ms) others count value starts rest = absurd (omega (arith, count))
-from_none s v left [] others count value starts rest =
-    let rows : s.rows ++ [] ≡ s.rows = append-nil s.rows in
-    let all : s.epochs ++ stamped s (s.rows ++ []) ∷ others ≡ (s.epochs ++ stamped s s.rows ∷ []) ++ others =
-    ap (λ r. s.epochs ++ stamped s r ∷ others) rows ∙ sym (append_assoc s.epochs (stamped s s.rows ∷ []) others) in
-    record {
-      others = others;
-      value = value ∙ ap (file_with s) all;
-      starts = subst (StartsAt s.known.shown.first) all starts;
-      rest = rest;
-    }
+from_none s v left [] others count value starts rest = grind (arith, append-nil, append_assoc)
 
 -- ---- what holds after the line of a satellite is accepted
 

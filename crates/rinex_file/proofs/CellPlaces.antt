@@ -1,12 +1,12 @@
 -- A satellite's cells, each stored at its signal's index in the plan.
-use Rattle.std.proofs.Common.{arith, ◌≡◌, ◌∙◌, sym, ap, ap₂, refl, subst, ℕ, ℤ, zero, suc, ◌+◌, ◌*◌, ◌-◌, ◌<◌, ◌≤◌, List, [], ◌∷◌, ◌++◌, map, take, drop, length, replicate, get_or, append_assoc, append-nil, length-append, take-append-drop, Bool, true, false, not, ◌==◌, ◌&&◌, Option, Some, None, slice_set}
-use Rattle.std.specs.Prelude.{◌≢◌, ◌||◌, nat_eq, nat_lt, find, flat_map, position, All, is_some, if◌then◌else◌, cond}
+use Rattle.std.proofs.Common.{arith, ◌≡◌, ◌∙◌, sym, ap, ap₂, refl, subst, ℕ, ℤ, zero, suc, ◌+◌, ◌*◌, ◌-◌, ◌/◌, ◌%◌, ◌<◌, ◌≤◌, List, [], ◌∷◌, ◌++◌, map, take, drop, length, replicate, get_or, append_assoc, append-nil, length-append, Bool, true, false, not, ◌==◌, ◌&&◌, Option, Some, None, slice_set}
+use Rattle.std.specs.Prelude.{◌≢◌, ◌||◌, nat_eq, find, flat_map, position, All, is_some, if◌then◌else◌, cond}
 use Rattle.std.specs.Option.{option_map_or}
-use Rattle.std.specs.List.{AllByRecursion, IsDistinct, position_or_len}
-use Rattle.std.proofs.lemmas.List.{drop_more, drop_at, drop_all, take_at, length-drop, replicate-append-replicate}
+use Rattle.std.specs.List.{AllByRecursion, IsDistinct, position_or_len, refill}
+use Rattle.std.proofs.lemmas.List.{drop_at, drop_all, take_at, take_all, length-drop, drop_more, set_at, length-take, length-take-le, length-replicate, length-set, take-append-le, drop-append-le, replicate-append-replicate}
 use Rattle.std.proofs.lemmas.List.Concat.{flat_map-append}
 use Rattle.std.proofs.lemmas.List.Quantifiers.{position-Some}
-use Rattle.std.proofs.lemmas.List.Elements.{All-head, All-tail, All-nil, All-cons}
+use Rattle.std.proofs.lemmas.List.Elements.{All-head, All-tail, All-nil, All-cons, All-append, All-drop, All-replicate}
 use Rattle.gnss_obs.specs.declared.system.System.{System}
 use Rattle.obs_epoch.specs.declared.cell.Cell.{Cell}
 use Rattle.obs_epoch.specs.Values.{IsHeld}
@@ -15,17 +15,28 @@ use Rattle.rinex_file.specs.FileValues.{HaveRoom, has_some_value}
 use Rattle.rinex_file.specs.Blanks.{trimmed}
 use Rattle.rinex_file.specs.Lines.{field, lli_byte, strength_byte, signal_text}
 use Rattle.rinex_file.proofs.HeaderText.{trimmed-blanks}
-use Rattle.rinex_file.proofs.RowText.{if_fits}
+use Rattle.rinex_file.proofs.RowText.{if_fits, length-columns}
+use Rattle.rinex_file.specs.Rows.{HasSignals}
+use Rattle.rinex_file.specs.Numbers.{padded}
+use Rattle.rinex_file.proofs.DigitWords.{two_digits}
+use Rattle.std.proofs.lemmas.Grind.{replicate_next}
+use Rattle.std.proofs.Math.Seq.{take-append-add, drop-append-add}
 
 -- ---- a part of a text is overwritten
 
 pub put_more : (front rest new : List ℕ) (n k : ℕ) → length front ≡ n → take n (front ++ rest) ++ (new ++ drop k (drop n (front ++ rest))) ≡ (front ++ new) ++ drop k rest
-put_more front rest new n k l =
-    ap₂ (λ a b. a ++ (new ++ drop k b)) (take_at front rest n l) (drop_at front rest n l) ∙ sym (append_assoc front new (drop k rest))
+put_more front rest new n k l = grind (arith, take_at, drop_at, append_assoc)
 
-put_last : (front rest new : List ℕ) (n k : ℕ) → length front ≡ n → length rest ≤ k → take n (front ++ rest) ++ (new ++ drop k (drop n (front ++ rest))) ≡ front ++ new
-put_last front rest new n k l few =
-    put_more front rest new n k l ∙ ap (λ t. (front ++ new) ++ t) (drop_all k rest few) ∙ append-nil (front ++ new)
+pub put_last : (front rest new : List ℕ) (n k : ℕ) → length front ≡ n → length rest ≤ k → take n (front ++ rest) ++ (new ++ drop k (drop n (front ++ rest))) ≡ front ++ new
+put_last front rest new n k l few = grind (arith, put_more, drop_all, append-nil)
+
+-- the first and the last eight of sixteen columns
+pub halves : (old a b p q : List ℕ) → length old ≡ 16 → length a ≡ 8 → p ≡ a → q ≡ b
+    → take 8 (p ++ drop 8 old) ++ (q ++ drop (length (p ++ drop 8 old) - 8) (drop 8 (p ++ drop 8 old))) ≡ a ++ b
+halves old a b p q lo la ep eq =
+    let size : length p ≡ 8 = ap length ep ∙ la in
+    let whole : length (p ++ drop 8 old) ≡ length p + length (drop 8 old) = length-append p (drop 8 old) in
+    put_last p (drop 8 old) q 8 (length (p ++ drop 8 old) - 8) size (omega (arith, whole, size)) ∙ ap₂ (λ x y. x ++ y) ep eq
 
 -- the second, the third and the last sixteen columns after the first
 pub put_four : (a b c d rest : List ℕ) (k : ℕ) → length a ≡ 16 → length b ≡ 16 → length c ≡ 16 → length rest ≡ 48
@@ -63,20 +74,10 @@ other_satellite : (a b : Bool) → a ≡ false → (a && b) ≡ false
 other_satellite a b e = grind (arith, e)
 
 other_signal : (a : Bool) (x y : ℕ) → y ≢ x → (a && (x == y)) ≡ false
-other_signal true x y n = by (x == y) refl where
-  by : (b : Bool) → (x == y) ≡ b → b ≡ false
-  by true e = absurd (n (grind (arith, e)))
-  by false e = refl
+other_signal true x y n = grind arith
 other_signal false x y n = refl
 
--- a cell of another satellite changes nothing
-pub passed_satellite : (c : Cell) (rest : List Cell) (id : ℕ) (signals : List ℕ) → (c.satellite.id == id) ≡ false
-    → map (signal_values_at (c ∷ rest) id) signals ≡ map (signal_values_at rest id) signals
-passed_satellite c rest id [] apart = refl
-passed_satellite c rest id (s ∷ signals) apart =
-    ap₂ (λ a l. a ∷ l) (passed c rest id s (other_satellite (c.satellite.id == id) (c.signal.index == s) apart)) (passed_satellite c rest id signals apart)
-
--- and one of a satellite changes the values of its own signal alone
+-- a cell changes the values of its own signal alone
 pub others_stay : (c : Cell) (rest : List Cell) (id other : ℕ) → other ≢ c.signal.index → signal_values_at (c ∷ rest) id other ≡ signal_values_at rest id other
 others_stay c rest id other apart = passed c rest id other (other_signal (c.satellite.id == id) c.signal.index other apart)
 
@@ -93,14 +94,7 @@ unplanned index (s ∷ signals) f g h same = by (s == index) refl h (λ few. unp
 
 pub no_place : (index : ℕ) (signals : List ℕ) (f g : ℕ → SignalValues) → position (λ i. i == index) signals ≡ None → ((other : ℕ) → other ≢ index → f other ≡ g other)
     → map f signals ≡ map g signals
-no_place index signals f g e same = unplanned index signals f g (past (position_or_len (λ i. i == index) signals) (length signals) e) same where
-  past : (n m : ℕ) → cond (nat_lt n m) (Some n) None ≡ None → m ≤ n
-  past n m e = by (nat_lt n m) refl e where
-    by : (b : Bool) → nat_lt n m ≡ b → cond b (Some n) None ≡ None → m ≤ n
-    by true is f = absurd (never f) where
-      never : Some n ≡ None → ⊥
-      never f = cc
-    by false is f = grind (arith, is)
+no_place index signals f g e same = grind (arith, unplanned)
 
 -- the signals after one that differ from it
 map_apart : (x : ℕ) (signals : List ℕ) (f g : ℕ → SignalValues) → AllByRecursion (λ y. nat_eq x y ≡ false) signals → ((other : ℕ) → other ≢ x → f other ≡ g other) → map f signals ≡ map g signals
@@ -150,7 +144,7 @@ cell_put signals id p c rest apart is own =
 none_fit : HaveRoom no_signal_values
 none_fit = record { c = tt; l = tt; d = tt; s = tt; lli = omega arith }
 
-held_fit : (system : System) (c : Cell) → IsHeld system c → HaveRoom (signal_values_of c)
+pub held_fit : (system : System) (c : Cell) → IsHeld system c → HaveRoom (signal_values_of c)
 held_fit system c h = record { c = if_fits c.c h.c; l = if_fits c.l h.l; d = if_fits c.d h.d; s = if_fits c.s h.s; lli = h.lli }
 
 found_fit : (system : System) (cells : List Cell) (id index : ℕ) → All (IsHeld system) cells → HaveRoom (signal_values_at cells id index)
@@ -189,23 +183,113 @@ blank_text None None None (Some v) lost strength a b e f = cc
 
 no_value : (e : SignalValues) → has_some_value e ≡ false → signal_text e ≡ replicate 64 32
 unfolding signal_text
-no_value e none =
-    let (c, l, d, s) = or_none (is_some e.c) (is_some e.l) (is_some e.d) (is_some e.s) none in
-    blank_text e.c e.l e.d e.s (lli_byte e.lli) (strength_byte e.s) (is_none e.c c) (is_none e.l l) (is_none e.d d) (is_none e.s s)
+no_value e none = grind (arith, or_none, blank_text, is_none)
+
+-- ---- the signals of a line
+
+length-room : (v : SignalValues) → HaveRoom v → length (signal_text v) ≡ 64
+length-room v h = length-columns v h.c h.l h.d h.s
+
+length-signals : (values : List SignalValues) → All HaveRoom values → length (flat_map signal_text values) ≡ 64 * length values
+length-signals [] all = refl
+length-signals (v ∷ values) all = grind (arith, length-room, All-head, All-tail, length-append, (length-room v (All-head HaveRoom v values all)), (length-signals values (All-tail HaveRoom v values all)))
+
+-- the columns of a signal are replaced
+replaced : (values : List SignalValues) (p : ℕ) (v : SignalValues) → All HaveRoom values → p < length values
+    → take (64 * p) (flat_map signal_text values) ++ (signal_text v ++ drop 64 (drop (64 * p) (flat_map signal_text values))) ≡ flat_map signal_text (slice_set values p v)
+replaced [] p v all h = absurd (omega (arith, h))
+replaced (x ∷ values) zero v all h = ap (λ t. signal_text v ++ t) (drop_at (signal_text x) (flat_map signal_text values) 64 (length-room x (All-head HaveRoom x values all)))
+replaced (x ∷ values) (suc p) v all h =
+    let l = length-room x (All-head HaveRoom x values all) in
+    let size : 64 * suc p ≡ length (signal_text x) + 64 * p = omega (arith, l) in
+    ap (λ n. take n (signal_text x ++ flat_map signal_text values) ++ (signal_text v ++ drop 64 (drop n (signal_text x ++ flat_map signal_text values)))) size
+    ∙ ap₂ (λ a b. a ++ (signal_text v ++ drop 64 b)) (take-append-add (signal_text x) (flat_map signal_text values) (64 * p)) (drop-append-add (signal_text x) (flat_map signal_text values) (64 * p))
+    ∙ append_assoc (signal_text x) (take (64 * p) (flat_map signal_text values)) (signal_text v ++ drop 64 (drop (64 * p) (flat_map signal_text values)))
+    ∙ ap (λ t. signal_text x ++ t) (replaced values p v (All-tail HaveRoom x values all) (omega (arith, h)))
+
+-- a line of which some columns are replaced, with blanks at its end
+pub put_signal : (front line blank : List ℕ) (values : List SignalValues) (p : ℕ) (v : SignalValues) → length front ≡ 3 → All HaveRoom values → p < length values
+    → 3 + 64 * p + 64 ≤ length line → line ++ blank ≡ front ++ flat_map signal_text values
+    → (take (3 + 64 * p) line ++ (signal_text v ++ drop 64 (drop (3 + 64 * p) line))) ++ blank ≡ front ++ flat_map signal_text (slice_set values p v)
+put_signal front line blank values p v l all h within is =
+    let n = 3 + 64 * p in
+    let f = flat_map signal_text values in
+    let size : n ≡ length front + 64 * p = omega (arith, l) in
+    let a : take n line ≡ front ++ take (64 * p) f = sym (take-append-le n line blank (omega (arith, within))) ∙ ap₂ take size is ∙ take-append-add front f (64 * p) in
+    let long : 64 ≤ length (drop n line) = rw length-drop (omega (arith, within)) in
+    let b : drop 64 (drop n line) ++ blank ≡ drop 64 (drop (64 * p) f) =
+    sym (drop-append-le 64 (drop n line) blank long) ∙ ap (drop 64) (sym (drop-append-le n line blank (omega (arith, within))) ∙ ap₂ drop size is ∙ drop-append-add front f (64 * p)) in
+    append_assoc (take n line) (signal_text v ++ drop 64 (drop n line)) blank
+    ∙ ap₂ (λ x y. x ++ y) a (append_assoc (signal_text v) (drop 64 (drop n line)) blank ∙ ap (λ t. signal_text v ++ t) b)
+    ∙ append_assoc front (take (64 * p) f) (signal_text v ++ drop 64 (drop (64 * p) f)) ∙ ap (λ t. front ++ t) (replaced values p v all h)
+
+-- a buffer that was written through its slice
+pub refilled : (n : ℕ) (xs ws : List ℕ) → n ≡ length ws → length xs ≡ length ws → refill n xs ws ≡ ws
+refilled n xs ws e l = ap₂ (λ k t. take k (ws ++ t)) e (drop_all (length ws) xs (omega (arith, l))) ∙ ap (take (length ws)) (append-nil ws) ∙ take_all (length ws) ws (omega arith)
+
+length-columns_put : (x text : List ℕ) (n : ℕ) → n + 64 ≤ length x → length text ≡ 64 → length (take n x ++ (text ++ drop 64 (drop n x))) ≡ length x
+length-columns_put x text n h l = grind (arith, length-take-le, length-drop, length-append, (length-drop 64 (drop n x) ∙ ap (λ k. k - 64) (length-drop n x)))
+
+-- a line has no more columns than its signals
+pub short_line : (line front : List ℕ) (values : List SignalValues) → length front ≡ 3 → All HaveRoom values → HasSignals line front values → length line ≤ 3 + 64 * length values
+short_line line front values l all is =
+    let total : length (front ++ flat_map signal_text values) ≡ 3 + 64 * length values = length-append front (flat_map signal_text values) ∙ ap₂ (λ a b. a + b) l (length-signals values all) in
+    let parts : length (line ++ replicate (3 + 64 * length values - length line) 32) ≡ length line + (3 + 64 * length values - length line) =
+    length-append line (replicate (3 + 64 * length values - length line) 32) ∙ ap (λ k. length line + k) (length-replicate (3 + 64 * length values - length line) 32) in
+    let same = ap length is in
+    omega (arith, total, parts, same)
+
+-- blanks at the end of a line change nothing
+more_blanks : (line front : List ℕ) (values : List SignalValues) (m : ℕ) → HasSignals line front values → length line + m ≤ 3 + 64 * length values → HasSignals (line ++ replicate m 32) front values
+more_blanks line front values m is few = grind (arith, length-append, length-replicate, append_assoc, replicate-append-replicate)
+
+-- the columns of a signal are written into a line
+pub put_row : (old x y text front : List ℕ) (others : List SignalValues) (p m k n : ℕ) (v : SignalValues) → length front ≡ 3 → All HaveRoom others → p < length others
+    → HasSignals old front others → HaveRoom v → m ≡ 3 + 64 * p + 64 - length old → x ≡ y → y ≡ old ++ replicate m 32 → text ≡ signal_text v → k ≡ 64 → n ≡ length y
+    → HasSignals (refill n y (take (3 + 64 * p) x ++ (text ++ drop k (drop (3 + 64 * p) x)))) front (slice_set others p v)
+put_row old x y text front others p m k n v l all h is room is_m same is_y is_text is_k is_n = grind (arith, short_line, length-append, length-replicate, length-room, length-columns_put, refilled, more_blanks, length-set, put_signal)
+
+-- a line and the blanks at its end
+pub trimmed_line : (line front : List ℕ) (values : List SignalValues) → HasSignals line front values → trimmed line ≡ trimmed (front ++ flat_map signal_text values)
+trimmed_line line front values is = sym (trimmed-blanks (3 + 64 * length values - length line) line) ∙ ap trimmed is
+
+-- ---- the beginning of a line
+
+none_text : (n : ℕ) → flat_map signal_text (replicate n no_signal_values) ≡ replicate (64 * n) 32
+none_text zero = refl
+none_text (suc n) =
+    let size : 64 + 64 * n ≡ 64 * suc n = omega arith in
+    ap₂ (λ a b. a ++ b) (no_value no_signal_values refl) (none_text n) ∙ replicate-append-replicate {A = ℕ} 64 (64 * n) 32 ∙ ap (λ k. replicate {A = ℕ} k 32) size
+
+-- letter and number in a line of blanks
+pub begun : (w letter id signals : ℕ) → id < 100 → 3 ≤ w → w ≤ 3 + 64 * signals
+    → HasSignals (slice_set (slice_set (slice_set (replicate w 32) 0 letter) 1 (48 + id / 10)) 2 (48 + id % 10)) (letter ∷ padded 2 id) (replicate signals no_signal_values)
+begun zero letter id signals h low high = absurd (omega (arith, low))
+begun (suc zero) letter id signals h low high = absurd (omega (arith, low))
+begun (suc (suc zero)) letter id signals h low high = absurd (omega (arith, low))
+begun (suc (suc (suc w))) letter id signals h low high = grind (arith, length-replicate, replicate-append-replicate, none_text, two_digits)
+
+pub begun_row : (old t u f y x : List ℕ) (n m q letter letter' id signals : ℕ) → id < 100 → t ≡ take (3 + 64 * signals) old → u ≡ t → f ≡ replicate (length u) 32 → n ≡ length t
+    → m ≡ 3 - length (refill n t f) → y ≡ refill n t f ++ replicate m 32 → x ≡ y → q ≡ length y → letter' ≡ letter
+    → HasSignals (refill q y (slice_set (slice_set (slice_set x 0 letter') 1 (48 + id / 10)) 2 (48 + id % 10))) (letter ∷ padded 2 id) (replicate signals no_signal_values)
+begun_row old t u f y x n m q letter letter' id signals h is_t is_u is_f is_n is_m is_y is_x is_q same = grind (arith, length-take, length-replicate, refilled, replicate-append-replicate, length-set, begun)
+
+-- ---- the loops
+
+-- one more signal with a value
+pub value_put : (values : List SignalValues) (n : ℕ) (v : SignalValues) → n < length values → v ≡ get_or values n v → slice_set (replicate (n + 1) no_signal_values ++ drop (n + 1) values) n v ≡ replicate n no_signal_values ++ drop n values
+value_put values n v h is = grind (arith, replicate_next, append_assoc, set_at, length-replicate, drop_more)
 
 -- one more signal without a value
-pub blank_more : (values : List SignalValues) (n m : ℕ) (v : SignalValues) → m ≡ n + 1 → n < length values → v ≡ get_or values n v → has_some_value v ≡ false
-    → flat_map signal_text (drop m values) ≡ replicate (64 * (length values - m)) 32 → flat_map signal_text (drop n values) ≡ replicate (64 * (length values - n)) 32
-blank_more values n m v next within is none rest =
-    let size : 64 + 64 * (length values - m) ≡ 64 * (length values - n) = omega (arith, within, next) in
-    ap (flat_map signal_text) (drop_more values n v within ∙ ap₂ (λ x k. x ∷ drop k values) (sym is) (sym next))
-    ∙ ap₂ (λ a b. a ++ b) (no_value v none) rest
-    ∙ replicate-append-replicate 64 (64 * (length values - m)) 32 ∙ ap (λ k. replicate k 32) size
+pub value_passed : (line front : List ℕ) (values : List SignalValues) (n : ℕ) (v : SignalValues) → n < length values → v ≡ get_or values n v → has_some_value v ≡ false
+    → HasSignals line front (replicate (n + 1) no_signal_values ++ drop (n + 1) values) → HasSignals line front (replicate n no_signal_values ++ drop n values)
+value_passed line front values n v h is none before = grind (arith, replicate_next, append_assoc, drop_more, no_value, length-append, flat_map-append)
 
--- the line with the blanks of the signals without a value
-pub shown_line : (front : List ℕ) (values : List SignalValues) (n k : ℕ) → flat_map signal_text (drop n values) ≡ replicate k 32
-    → trimmed (front ++ flat_map signal_text (take n values)) ≡ trimmed (front ++ flat_map signal_text values)
-shown_line front values n k blank =
-    sym (trimmed-blanks k (front ++ flat_map signal_text (take n values)))
-    ∙ ap trimmed (append_assoc front (flat_map signal_text (take n values)) (replicate k 32) ∙ ap (λ t. front ++ (flat_map signal_text (take n values) ++ t)) (sym blank)
-    ∙ ap (λ t. front ++ t) (sym (flat_map-append signal_text (take n values) (drop n values))) ∙ ap (λ l. front ++ flat_map signal_text l) (take-append-drop n values))
+all_none : (n : ℕ) → All HaveRoom (replicate n no_signal_values)
+all_none n = All-replicate HaveRoom n no_signal_values none_fit
+
+pub front_fit : (values : List SignalValues) (n : ℕ) → All HaveRoom values → All HaveRoom (replicate n no_signal_values ++ drop n values)
+front_fit values n all = All-append HaveRoom (replicate n no_signal_values) (drop n values) (all_none n) (All-drop HaveRoom n values all)
+
+pub front_length : (letter id : ℕ) → id < 100 → length (letter ∷ padded 2 id) ≡ 3
+front_length letter id h = ap (λ t. suc (length t)) (two_digits id h)

@@ -23,10 +23,7 @@ filled [] = (0, refl)
 filled (b ∷ bs) = one_more b (trimmed bs) bs (filled bs)
 
 same_fill : (part text : List ℕ) → FilledTo part text → part ++ replicate (length text - length part) 32 ≡ text
-same_fill part text (k, e) =
-    let l : length text ≡ length part + k = ap length (sym e) ∙ simp (length-append, length-replicate) in
-    let n : length text - length part ≡ k = omega (arith, l) in
-    ap (λ m. part ++ replicate m 32) n ∙ e
+same_fill part text (k, e) = grind (arith, length-append, length-replicate)
 
 -- padded to its whole width, the text is restored
 pub fill-trimmed : (width : ℕ) (text : List ℕ) → length text ≡ width → trimmed text ++ replicate (width - length (trimmed text)) 32 ≡ text

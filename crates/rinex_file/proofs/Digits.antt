@@ -56,9 +56,7 @@ ten_pow (suc n) = let h = ten_pow n in rw pow-suc (omega (arith, h))
 -- ---- a number with leading zeros
 
 pub length-padded : (places n : ℕ) → 0 < places → n < 10 ^ places → n < 2 ^ 64 → length (padded places n) ≡ places
-length-padded places n some small fits =
-    let short = length-decimal-le places n some small fits in
-    simp (length-append, length-replicate) (omega (arith, short))
+length-padded places n some small fits = grind (arith, length-decimal-le, length-append, length-replicate)
 
 joined : (m p q r n : ℕ) → r ≡ p * q → m * p * q + n ≡ m * r + n
 joined m p q r n e = rw e (omega arith)
@@ -94,24 +92,10 @@ digits_in-sign false text = refl
 
 -- the whole part, a point and the digits after it
 whole_and_part : (places n : ℕ) → 0 < places → n < 2 ^ 64 → digits_in (decimal (n / 10 ^ places) ++ 46 ∷ padded places (n % 10 ^ places)) ≡ n
-whole_and_part places n some fits =
-    let whole = n / 10 ^ places in
-    let part = n % 10 ^ places in
-    let pos_pow = ten_pow places in
-    let small : part < 10 ^ places = mod-lt n pos_pow in
-    let below : whole ≤ n = div-le_self n (10 ^ places) in
-    let least : part ≤ n = mod-le n (10 ^ places) in
-    digits_from-append 0 (decimal whole) (46 ∷ padded places part)
-    ∙ ap (λ a. digits_from a (padded places part)) (digits_from-decimal whole (omega (arith, below, fits)) 0)
-    ∙ digits_from-padded places part (0 * 10 ^ length (decimal whole) + whole) some small (omega (arith, least, fits))
-    ∙ zero_times (10 ^ length (decimal whole)) whole (10 ^ places) part
-    ∙ div-add-mod' n (10 ^ places)
+whole_and_part places n some fits = grind (arith, ten_pow, mod-lt, div-le_self, mod-le, digits_from-append, digits_from-decimal, digits_from-padded, zero_times, div-add-mod')
 
 pub digits_in-fixed : (places : ℕ) (z : ℤ) → 0 < places → unsigned_abs z < 2 ^ 64 → digits_in (fixed places z) ≡ unsigned_abs z
-digits_in-fixed places z some fits =
-    ap digits_in (append_assoc (sign_text (is_negative z)) (decimal (unsigned_abs z / 10 ^ places)) (46 ∷ padded places (unsigned_abs z % 10 ^ places)))
-    ∙ digits_in-sign (is_negative z) (decimal (unsigned_abs z / 10 ^ places) ++ 46 ∷ padded places (unsigned_abs z % 10 ^ places))
-    ∙ whole_and_part places (unsigned_abs z) some fits
+digits_in-fixed places z some fits = grind (arith, append_assoc, digits_in-sign, whole_and_part)
 
 -- ---- the sign
 
@@ -119,13 +103,9 @@ pub has-append : (c : ℕ) (xs ys : List ℕ) → has c (xs ++ ys) ≡ (has c xs
 has-append c [] ys = refl
 has-append c (x ∷ xs) ys = ap (λ b. (x == c) || b) (has-append c xs ys) ∙ or_assoc (x == c) (has c xs) (has c ys)
 
-or_true : (a : Bool) → (a || true) ≡ true
+pub or_true : (a : Bool) → (a || true) ≡ true
 or_true true = refl
 or_true false = refl
-
--- a byte within a text
-pub has-midst : (c : ℕ) (xs ys : List ℕ) → (c == c) ≡ true → has c (xs ++ c ∷ ys) ≡ true
-has-midst c xs ys same = has-append c xs (c ∷ ys) ∙ ap (λ b. has c xs || (b || has c ys)) same ∙ or_true (has c xs)
 
 pub has-not : (c k b : ℕ) → (b == c) ≡ false → has c (replicate k b) ≡ false
 has-not c zero b h = refl
@@ -145,11 +125,7 @@ no_minus-padded : (places n : ℕ) → n < 2 ^ 64 → has 45 (padded places n) �
 no_minus-padded places n h = no_minus-append (replicate (places - length (decimal n)) 48) (decimal n) (has-not 45 (places - length (decimal n)) 48 refl) (no_minus-decimal n h)
 
 no_minus-size : (places n : ℕ) → n < 2 ^ 64 → has 45 (decimal (n / 10 ^ places) ++ 46 ∷ padded places (n % 10 ^ places)) ≡ false
-no_minus-size places n fits =
-    let below : n / 10 ^ places ≤ n = div-le_self n (10 ^ places) in
-    let least : n % 10 ^ places ≤ n = mod-le n (10 ^ places) in
-    no_minus-append (decimal (n / 10 ^ places)) (46 ∷ padded places (n % 10 ^ places)) (no_minus-decimal (n / 10 ^ places) (omega (arith, below, fits)))
-    (no_minus-padded places (n % 10 ^ places) (omega (arith, least, fits)))
+no_minus-size places n fits = grind (arith, div-le_self, mod-le, no_minus-append, no_minus-decimal, no_minus-padded)
 
 has_minus-right : (width : ℕ) (text : List ℕ) → has 45 (right width text) ≡ has 45 text
 has_minus-right width text = has-append 45 (replicate (width - length text) 32) text ∙ ap (λ b. b || has 45 text) (has-not 45 (width - length text) 32 refl)
@@ -158,9 +134,7 @@ pub not_negative : (n : ℕ) → is_negative (pos n) ≡ false
 not_negative n = search rules
 
 has_minus-fixed : (places : ℕ) (z : ℤ) → unsigned_abs z < 2 ^ 64 → has 45 (fixed places z) ≡ is_negative z
-has_minus-fixed places (pos n) fits =
-    ap (λ b. has 45 (sign_text b ++ decimal (n / 10 ^ places) ++ 46 ∷ padded places (n % 10 ^ places))) (not_negative n)
-    ∙ no_minus-size places n fits ∙ sym (not_negative n)
+has_minus-fixed places (pos n) fits = grind (arith, not_negative, no_minus-size)
 has_minus-fixed places (negsuc n) fits = refl
 
 -- ---- the number is read back, so its text determines it
@@ -170,9 +144,7 @@ by_parts (pos n) text d m = ap (λ b. if b then neg_ℤ (pos (digits_in text)) e
 by_parts (negsuc n) text d m = ap (λ b. if b then neg_ℤ (pos (digits_in text)) else pos (digits_in text)) m ∙ ap (λ k. neg_ℤ (pos k)) d
 
 pub number_in-fixed : (width places : ℕ) (z : ℤ) → 0 < places → unsigned_abs z < 2 ^ 64 → number_in (right width (fixed places z)) ≡ z
-number_in-fixed width places z some fits =
-    by_parts z (right width (fixed places z)) (digits_in-right width (fixed places z) ∙ digits_in-fixed places z some fits)
-    (has_minus-right width (fixed places z) ∙ has_minus-fixed places z fits)
+number_in-fixed width places z some fits = grind (arith, by_parts, digits_in-right, digits_in-fixed, has_minus-right, has_minus-fixed)
 
 pub digits_in-padded : (places n : ℕ) → 0 < places → n < 10 ^ places → n < 2 ^ 64 → digits_in (padded places n) ≡ n
 digits_in-padded places n some small fits = digits_from-padded places n 0 some small fits ∙ omega arith
@@ -192,13 +164,7 @@ length-sign false = omega arith
 -- this number of digits before the point
 pub length-fixed : (places digits : ℕ) (z : ℤ) → 0 < places → 0 < digits → unsigned_abs z < 2 ^ 64 → unsigned_abs z / 10 ^ places < 10 ^ digits
     → length (fixed places z) ≤ length (sign_text (is_negative z)) + (digits + (1 + places))
-length-fixed places digits z some any fits bound =
-    let below : unsigned_abs z / 10 ^ places ≤ unsigned_abs z = div-le_self (unsigned_abs z) (10 ^ places) in
-    let least : unsigned_abs z % 10 ^ places ≤ unsigned_abs z = mod-le (unsigned_abs z) (10 ^ places) in
-    let whole = length-decimal-le digits (unsigned_abs z / 10 ^ places) any bound (omega (arith, below, fits)) in
-    let small : unsigned_abs z % 10 ^ places < 10 ^ places = mod-lt (unsigned_abs z) (ten_pow places) in
-    let part = length-padded places (unsigned_abs z % 10 ^ places) some small (omega (arith, least, fits)) in
-    three_parts (sign_text (is_negative z)) (decimal (unsigned_abs z / 10 ^ places)) (padded places (unsigned_abs z % 10 ^ places)) digits places whole part
+length-fixed places digits z some any fits bound = grind (arith, div-le_self, mod-le, length-decimal-le, mod-lt, ten_pow, length-padded, three_parts)
 
 pub length-padded-le : (places n : ℕ) → n < 2 ^ 64 → length (padded places n) ≤ places + 20
 length-padded-le places n fits =
@@ -216,9 +182,3 @@ length-fixed-le places z fits =
     let whole = length-decimal-le 20 (unsigned_abs z / 10 ^ places) (omega arith) (omega (arith, below, fits)) (omega (arith, below, fits)) in
     let part = length-padded-le places (unsigned_abs z % 10 ^ places) (omega (arith, least, fits)) in
     three_bounds (sign_text (is_negative z)) (decimal (unsigned_abs z / 10 ^ places)) (padded places (unsigned_abs z % 10 ^ places)) places (length-sign (is_negative z)) whole part
-
--- a number with decimals has a point
-pub has_point-fixed : (width places : ℕ) (z : ℤ) → has 46 (right width (fixed places z)) ≡ true
-has_point-fixed width places z =
-    ap (has 46) (sym (append_assoc (replicate (width - length (fixed places z)) 32) (sign_text (is_negative z) ++ decimal (unsigned_abs z / 10 ^ places)) (46 ∷ padded places (unsigned_abs z % 10 ^ places))))
-    ∙ has-midst 46 (replicate (width - length (fixed places z)) 32 ++ (sign_text (is_negative z) ++ decimal (unsigned_abs z / 10 ^ places))) (padded places (unsigned_abs z % 10 ^ places)) refl

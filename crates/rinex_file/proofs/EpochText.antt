@@ -35,9 +35,7 @@ field_at : (fs : List (List ℕ)) (k : ℕ) (ws tail : List ℕ) → k < length 
     → take (get_or ws k 0) (drop (start_of ws k) (joined fs ++ tail)) ≡ get_or fs k []
 field_at [] k ws tail less e = absurd (omega (arith, less))
 field_at (f ∷ fs) k [] tail less e = cc
-field_at (f ∷ fs) zero (w ∷ ws) tail less e =
-    let width : length f ≡ w = cc in
-    ap (take w) (append_assoc f (joined fs) tail) ∙ take_at f (joined fs ++ tail) w width
+field_at (f ∷ fs) zero (w ∷ ws) tail less e = grind (arith, append_assoc, take_at)
 field_at (f ∷ fs) (suc k) (w ∷ ws) tail less e =
     let width : length f ≡ w = cc in
     let rest : map length fs ≡ ws = cc in
@@ -94,12 +92,7 @@ seven : (a b c d e f g : ℕ) → a ≡ 4 → b ≡ 2 → c ≡ 2 → d ≡ 2 �
 seven a b c d e f g p q r s t u v = cc
 
 are_wide : (t : Civil) (n : ℕ) → HasColumns t → n < 1000 → map length (epoch_fields t n) ≡ epoch_widths
-are_wide t n is few =
-    seven (length (right 4 (decimal t.year))) (length (padded 2 t.month)) (length (padded 2 t.day)) (length (padded 2 t.hour)) (length (padded 2 t.minute))
-    (length (right 11 (fixed 7 (pos (t.millisecond * 10_000))))) (length (right 3 (decimal n)))
-    (length-whole 4 t.year (omega arith) (omega (arith, is.year)) (omega (arith, is.year)))
-    (length-two t.month (omega (arith, is.month))) (length-two t.day (omega (arith, is.day))) (length-two t.hour (omega (arith, is.hour))) (length-two t.minute (omega (arith, is.minute)))
-    (length-second 11 t.millisecond (omega arith) is.millisecond) (length-whole 3 n (omega arith) (omega (arith, few)) (omega (arith, few)))
+are_wide t n is few = grind (arith, seven, length-whole, length-two, length-second)
 
 -- the values in the columns of an epoch's line
 pub record ShowEpoch (t : Civil) (n : ℕ) (line : List ℕ) : Type 0 where
@@ -148,11 +141,7 @@ six_wide : (n : ℕ) → n < 10_000 → length (right 6 (decimal n)) ≡ 6
 six_wide n few = length-whole 6 n (omega arith) (omega (arith, few)) (omega (arith, few))
 
 first_wide : (t : Civil) → HasColumns t → map length (first_fields t) ≡ first_widths
-first_wide t is =
-    six (length (right 6 (decimal t.year))) (length (right 6 (decimal t.month))) (length (right 6 (decimal t.day))) (length (right 6 (decimal t.hour))) (length (right 6 (decimal t.minute)))
-    (length (right 13 (fixed 7 (pos (t.millisecond * 10_000)))))
-    (six_wide t.year (omega (arith, is.year))) (six_wide t.month (omega (arith, is.month))) (six_wide t.day (omega (arith, is.day))) (six_wide t.hour (omega (arith, is.hour)))
-    (six_wide t.minute (omega (arith, is.minute))) (length-second 13 t.millisecond (omega arith) is.millisecond)
+first_wide t is = grind (arith, six, six_wide, length-second)
 
 six_in : (n : ℕ) → n < 10_000 → digits_in (right 6 (decimal n)) ≡ n
 six_in n few = digits_in-whole 6 n (omega (arith, few))
@@ -232,10 +221,7 @@ of_numbers a b c d e f = record { year = a; month = b; day = c; hour = d; minute
 pub are_read : (t : Civil) (a b c d e f year month day hour minute second : ℕ) → HasColumns t
     → a ≡ min year 65_535 → b ≡ min month 255 → c ≡ min day 255 → d ≡ min hour 255 → e ≡ min minute 255 → f ≡ min (second / 10_000) 65_535
     → year ≡ t.year → month ≡ t.month → day ≡ t.day → hour ≡ t.hour → minute ≡ t.minute → second ≡ t.millisecond * 10_000 → of_numbers a b c d e f ≡ t
-are_read t a b c d e f year month day hour minute second has p q r s u v y m d' h n s' =
-    same_civil (of_numbers a b c d e f) t (kept a 65_535 year t.year p y (omega (arith, has.year))) (kept b 255 month t.month q m (omega (arith, has.month)))
-    (kept c 255 day t.day r d' (omega (arith, has.day))) (kept d 255 hour t.hour s h (omega (arith, has.hour)))
-    (kept e 255 minute t.minute u n (omega (arith, has.minute))) (kept_second f second t.millisecond v s' has.millisecond)
+are_read t a b c d e f year month day hour minute second has p q r s u v y m d' h n s' = grind (arith, same_civil, kept, kept_second)
 
 pub same_some : (x y : Civil) → Some x ≡ Some y → x ≡ y
 same_some x y e = cc

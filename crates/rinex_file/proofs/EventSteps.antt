@@ -1,5 +1,5 @@
 -- The steps of a reading from one line of an event to the next.
-use Rattle.std.proofs.Common.{arith, lit<, ◌≡◌, ◌≢◌, ℕ, zero, suc, ◌<◌, ◌^◌, ◌-◌, ◌*◌, ◌/◌, ◌%◌, unsigned_abs, w64, to_z, of_z, ℤ, pos, get_or, List, [], ◌∷◌, ◌++◌, refl, sym, ap, subst, ◌∙◌, length, drop, append_assoc, replicate, decimal, Option, Some, None, Bool, true, false}
+use Rattle.std.proofs.Common.{arith, lit<, ◌≡◌, ◌≢◌, ℕ, zero, suc, ◌<◌, ◌^◌, ◌-◌, ◌*◌, ◌/◌, ◌%◌, unsigned_abs, w64, to_z, of_z, ℤ, pos, get_or, List, [], ◌∷◌, ◌++◌, refl, sym, ap, subst, ◌∙◌, length, drop, append_assoc, replicate, decimal, Option, Some, None, true, false}
 use Rattle.std.specs.Prelude.{⊤, ◌||◌, flat_map, codes}
 use Rattle.std.specs.Int.{is_negative}
 use Rattle.std.specs.Fmt.{sign_text}
@@ -18,7 +18,7 @@ use Rattle.rinex_file.specs.File.{stamped_lines, event_line, event_lines}
 use Rattle.rinex_file.specs.Begun.{whole_lines}
 use Rattle.rinex_file.specs.ParserState.{GoesOnWithLine, ShowsLine}
 use Rattle.rinex_file.specs.Read.Progress.{Progress, file_with, StartsAt, IsAt, IsBetween, IsInEvent, HasPosition, HasLinesLeft, expected_next}
-use Rattle.rinex_file.specs.Read.Sound.{IsEventExpected, IsSoundAt, IsSound, AreLinesAt, at_position, values_now}
+use Rattle.rinex_file.specs.Read.Sound.{IsSound, AreLinesAt, at_position, values_now}
 use Rattle.rinex_file.proofs.Digits.{has-append}
 use Rattle.rinex_file.proofs.HeaderLearned.{coordinate_same}
 use Rattle.rinex_file.proofs.BodySteps.{lines_with, lines_are, changes_midst, sound_between}
@@ -26,10 +26,7 @@ use Rattle.rinex_file.proofs.BodySteps.{lines_with, lines_are, changes_midst, so
 -- ---- an event's line isn't that of an epoch, which has a point
 
 has_after : (a b : List ℕ) → has 46 b ≡ true → has 46 (a ++ b) ≡ true
-has_after a b h = has-append 46 a b ∙ ap (λ x. has 46 a || x) h ∙ always (has 46 a) where
-  always : (x : Bool) → (x || true) ≡ true
-  always true = refl
-  always false = refl
+has_after a b h = grind (arith, has-append)
 
 has_front : (a b : List ℕ) → has 46 a ≡ true → has 46 (a ++ b) ≡ true
 has_front a b h = has-append 46 a b ∙ ap (λ x. x || has 46 b) h
@@ -53,10 +50,7 @@ unfolding event_line
 no_point = refl
 
 not_epoch : (t : Civil) (n : ℕ) → event_line ≡ epoch_line t n → ⊥
-not_epoch t n e =
-    let same : has 46 event_line ≡ true = ap (has 46) e ∙ has_point t n in
-    let none = no_point in
-    cc
+not_epoch t n e = grind (arith, has_point, no_point)
 
 -- ---- the line of an event
 
@@ -64,10 +58,10 @@ abbrev Others : List Stamped → List (List ℕ)
 Others es = flat_map stamped_lines es
 
 event_begins : (s : Progress) (v : FileValue) (line : List ℕ) (left : List (List ℕ)) (others : List Stamped) → line ≡ event_line → v ≡ file_with s (s.epochs ++ others)
-    → StartsAt s.known.shown.first (s.epochs ++ others) → line ∷ left ≡ Others others → IsInEvent s 1 (λ w. ⊤) v left
+    → StartsAt s.known.shown.first (s.epochs ++ others) → line ∷ left ≡ Others others → IsInEvent (expected_next s EventPosition) 1 (λ w. ⊤) v left
 event_begins s v line left [] shown value starts rest = cc
 event_begins s v line left (e ∷ es) shown value starts rest = by e.change refl where
-  by : (c : Option StationValues) → e.change ≡ c → IsInEvent s 1 (λ w. ⊤) v left
+  by : (c : Option StationValues) → e.change ≡ c → IsInEvent (expected_next s EventPosition) 1 (λ w. ⊤) v left
   by None h =
       let text : line ∷ left ≡ lines_with None e ++ Others es = rest ∙ ap (λ l. l ++ Others es) (lines_are e None h) in
       let same : line ≡ epoch_line (civil_of e.time) (length e.rows) = cc in
@@ -86,25 +80,17 @@ event_begins s v line left (e ∷ es) shown value starts rest = by e.change refl
         rest = after ∙ ap (λ l. drop 1 l ++ Others es) (sym (lines_are e (Some w) h));
       }
 
--- the same of what was read, with another line expected
-to_next : (s : Progress) (d : Expected) (k : ℕ) (Show : StationValues → Type 0) (v : FileValue) (left : List (List ℕ)) → IsInEvent s k Show v left → IsInEvent (expected_next s d) k Show v left
-to_next s d k Show v left h = record {
-  next = h.next;
-  values = h.values;
-  others = h.others;
-  value = h.value;
-  starts = h.starts;
-  change = h.change;
-  shown = h.shown;
-  rest = h.rest;
-}
+-- the event with another line expected and other knowledge of its station values
+abbrev event_with : (s : Progress) (d : Expected) (k n : ℕ) (P Q : StationValues → Type 0) (v : FileValue) (all left : List (List ℕ)) (h : IsInEvent s k P v all) → Q h.values
+    → left ≡ drop n (stamped_lines h.next) ++ Others h.others → IsInEvent (expected_next s d) n Q v left
+event_with s d k n P Q v all left h shown rest =
+    record { next = h.next; values = h.values; others = h.others; value = h.value; starts = h.starts; change = h.change; shown = shown; rest = rest }
 
 pub event_taken : (s : Progress) (line : List ℕ) → s.expected ≡ Epoch → line ≡ event_line → GoesOnWithLine s (expected_next s EventPosition) line
 unfolding HasLinesLeft
 event_taken s line expected shown v left on =
     let here : IsBetween s v (line ∷ left) = subst (λ d. IsAt s d v (line ∷ left)) expected on.1 in
-    let event = event_begins s v line left here.others shown here.value here.starts here.rest in
-    (on.0, to_next s EventPosition 1 (λ w. ⊤) v left event)
+    (on.0, event_begins s v line left here.others shown here.value here.starts here.rest)
 
 pub event_shows : (s : Progress) (line : List ℕ) → s.expected ≡ Epoch → line ≡ event_line → ShowsLine s (expected_next s EventPosition) line
 event_shows s line expected shown taken are =
@@ -118,9 +104,7 @@ lines_more whole taken before line shown e same = ap (λ l. l ++ line ∷ []) e 
 -- the station values of an event differ from those before
 values_in_range : (s : Progress) (v : FileValue) (e : Stamped) (others : List Stamped) (w : StationValues) → IsFileValue v → v ≡ file_with s (s.epochs ++ e ∷ others) → e.change ≡ Some w
     → IsChange (values_now s) (Some w)
-values_in_range s v e others w is value change =
-    let valid : IsFileValue (file_with s (s.epochs ++ e ∷ others)) = subst IsFileValue value is in
-    subst (IsChange (values_now s)) change (changes_midst s.known.shown.values s.epochs others e valid.changes)
+values_in_range s v e others w is value change = grind (arith, changes_midst)
 
 -- ---- the position
 
@@ -134,28 +118,19 @@ abbrev SamePosition : ℤ × ℤ × ℤ → ℤ × ℤ × ℤ → Type 0
 SamePosition p q = p ≡ q
 
 -- what follows if the position of an event is next
-record PositionNext (s : Progress) (v : FileValue) (line : List ℕ) (left : List (List ℕ)) : Type 0 where
-  pub event : IsInEvent s 2 (λ w. line ≡ position_line w) v left
+record PositionNext (s : Progress) (d : Expected) (v : FileValue) (line : List ℕ) (left : List (List ℕ)) : Type 0 where
+  pub event : IsInEvent (expected_next s d) 2 (λ w. line ≡ position_line w) v left
   pub are : AreValues event.values
 
-position_next : (s : Progress) (v : FileValue) (line : List ℕ) (left : List (List ℕ)) → s.expected ≡ EventPosition → HasLinesLeft s v (line ∷ left) → PositionNext s v line left
+position_next : (s : Progress) (d : Expected) (v : FileValue) (line : List ℕ) (left : List (List ℕ)) → s.expected ≡ EventPosition → HasLinesLeft s v (line ∷ left) → PositionNext s d v line left
 unfolding HasLinesLeft
-position_next s v line left expected (is, at) =
+position_next s d v line left expected (is, at) =
     let here : IsInEvent s 1 (λ w. ⊤) v (line ∷ left) = subst (λ d. IsAt s d v (line ∷ left)) expected at in
     let lines = lines_are here.next (Some here.values) here.change in
     let text : line ∷ left ≡ drop 1 (lines_with (Some here.values) here.next) ++ Others here.others = here.rest ∙ ap (λ l. drop 1 l ++ Others here.others) lines in
     let after : left ≡ drop 2 (lines_with (Some here.values) here.next) ++ Others here.others = ap (drop 1) text in
     record {
-      event = record {
-        next = here.next;
-        values = here.values;
-        others = here.others;
-        value = here.value;
-        starts = here.starts;
-        change = here.change;
-        shown = cc;
-        rest = after ∙ ap (λ l. drop 2 l ++ Others here.others) (sym lines);
-      };
+      event = event_with s d 1 2 (λ w. ⊤) (λ w. line ≡ position_line w) v (line ∷ left) left here (cc) (after ∙ ap (λ l. drop 2 l ++ Others here.others) (sym lines));
       are = (values_in_range s v here.next here.others here.values is here.value here.change).0;
     }
 
@@ -164,12 +139,11 @@ abbrev pub back : ℤ → ℤ
 back z = to_z w64 (of_z w64 z)
 
 pub position_back : (p : ℤ × ℤ × ℤ) → IsPosition p → SamePosition (back p.0, back p.1, back p.2) p
-position_back p is =
-    ap (λ t. (t, back p.1, back p.2)) (coordinate_same p.0 is.0) ∙ ap (λ t. (p.0, t, back p.2)) (coordinate_same p.1 is.1) ∙ ap (λ t. (p.0, p.1, t)) (coordinate_same p.2 is.2)
+position_back p is = grind (arith, coordinate_same)
 
 pub no_position : (s : Progress) (line : List ℕ) → s.expected ≡ EventPosition → ((p : ℤ × ℤ × ℤ) → IsPosition p → line ≡ position_text p → ⊥) → (v : FileValue) (left : List (List ℕ)) → HasLinesLeft s v (line ∷ left) → ⊥
 no_position s line expected none v left on =
-    let next = position_next s v line left expected on in
+    let next = position_next s EventPosition v line left expected on in
     let w = next.event.values in
     none (w.x, w.y, w.z) (next.are.x, next.are.y, next.are.z) next.event.shown
 
@@ -177,20 +151,11 @@ pub position_taken : (s : Progress) (x y z : ℤ) (line : List ℕ) → s.expect
     → GoesOnWithLine s (expected_next s (EventHeight x y z)) line
 unfolding HasLinesLeft
 position_taken s x y z line expected only v left on =
-    let next = position_next s v line left expected on in
+    let d = EventHeight x y z in
+    let next = position_next s d v line left expected on in
     let here = next.event in
     let same : SamePosition (here.values.x, here.values.y, here.values.z) (x, y, z) = only (here.values.x, here.values.y, here.values.z) (next.are.x, next.are.y, next.are.z) here.shown in
-    let event : IsInEvent (expected_next s (EventHeight x y z)) 2 (HasPosition x y z) v left = record {
-      next = here.next;
-      values = here.values;
-      others = here.others;
-      value = here.value;
-      starts = here.starts;
-      change = here.change;
-      shown = (ap (λ p. p.0) same, ap (λ p. p.1) same, ap (λ p. p.2) same);
-      rest = here.rest;
-    } in
-    (on.0, event)
+    (on.0, event_with (expected_next s d) d 2 2 (λ w. line ≡ position_line w) (HasPosition x y z) v left left here (ap (λ p. p.0) same, ap (λ p. p.1) same, ap (λ p. p.2) same) here.rest)
 
 pub position_shows : (s : Progress) (x y z : ℤ) (line : List ℕ) → s.expected ≡ EventPosition → line ≡ position_text (x, y, z) → ShowsLine s (expected_next s (EventHeight x y z)) line
 position_shows s x y z line expected shown taken are =
@@ -208,34 +173,24 @@ abbrev SameValues : StationValues → StationValues → Type 0
 SameValues v w = v ≡ w
 
 same_with : (w : StationValues) (x y z : ℤ) (h : ℕ) → w.x ≡ x → w.y ≡ y → w.z ≡ z → w.height ≡ h → SameValues w (values_with x y z h)
-same_with w x y z h a b c d =
-    ap (λ t. values_with t w.y w.z w.height) a ∙ ap (λ t. values_with x t w.z w.height) b ∙ ap (λ t. values_with x y t w.height) c ∙ ap (λ t. values_with x y z t) d
+same_with w x y z h a b c d = grind arith
 
-record HeightNext (s : Progress) (x y z : ℤ) (v : FileValue) (line : List ℕ) (left : List (List ℕ)) : Type 0 where
-  pub event : IsInEvent s 3 (HasPosition x y z) v left
+record HeightNext (s : Progress) (d : Expected) (x y z : ℤ) (v : FileValue) (line : List ℕ) (left : List (List ℕ)) : Type 0 where
+  pub event : IsInEvent (expected_next s d) 3 (HasPosition x y z) v left
   pub shown : line ≡ delta_line event.values
   pub are : AreValues event.values
   pub other : event.values ≢ values_now s
 
-height_next : (s : Progress) (x y z : ℤ) (v : FileValue) (line : List ℕ) (left : List (List ℕ)) → s.expected ≡ EventHeight x y z → HasLinesLeft s v (line ∷ left) → HeightNext s x y z v line left
+height_next : (s : Progress) (d : Expected) (x y z : ℤ) (v : FileValue) (line : List ℕ) (left : List (List ℕ)) → s.expected ≡ EventHeight x y z → HasLinesLeft s v (line ∷ left) → HeightNext s d x y z v line left
 unfolding HasLinesLeft
-height_next s x y z v line left expected (is, at) =
+height_next s d x y z v line left expected (is, at) =
     let here : IsInEvent s 2 (HasPosition x y z) v (line ∷ left) = subst (λ d. IsAt s d v (line ∷ left)) expected at in
     let lines = lines_are here.next (Some here.values) here.change in
     let text : line ∷ left ≡ drop 2 (lines_with (Some here.values) here.next) ++ Others here.others = here.rest ∙ ap (λ l. drop 2 l ++ Others here.others) lines in
     let after : left ≡ drop 3 (lines_with (Some here.values) here.next) ++ Others here.others = ap (drop 1) text in
     let given = values_in_range s v here.next here.others here.values is here.value here.change in
     record {
-      event = record {
-        next = here.next;
-        values = here.values;
-        others = here.others;
-        value = here.value;
-        starts = here.starts;
-        change = here.change;
-        shown = here.shown;
-        rest = after ∙ ap (λ l. drop 3 l ++ Others here.others) (sym lines);
-      };
+      event = event_with s d 2 3 (HasPosition x y z) (HasPosition x y z) v (line ∷ left) left here here.shown (after ∙ ap (λ l. drop 3 l ++ Others here.others) (sym lines));
       shown = cc;
       are = given.0;
       other = given.1;
@@ -244,37 +199,27 @@ height_next s x y z v line left expected (is, at) =
 module _ (s : Progress) (x y z : ℤ) (line : List ℕ) (expected : s.expected ≡ EventHeight x y z) where
   pub no_height : ((h : ℕ) → h < 2 ^ 16 → line ≡ height_text h → ⊥) → (v : FileValue) (left : List (List ℕ)) → HasLinesLeft s v (line ∷ left) → ⊥
   no_height none v left on =
-      let next = height_next s x y z v line left expected on in
+      let next = height_next s (EventHeight x y z) x y z v line left expected on in
       none next.event.values.height next.are.height next.shown
 
   module _ (h : ℕ) (only : (k : ℕ) → k < 2 ^ 16 → line ≡ height_text k → k ≡ h) where
-    same_next : (v : FileValue) (left : List (List ℕ)) (next : HeightNext s x y z v line left) → SameValues next.event.values (values_with x y z h)
-    same_next v left next =
+    same_next : (d : Expected) (v : FileValue) (left : List (List ℕ)) (next : HeightNext s d x y z v line left) → SameValues next.event.values (values_with x y z h)
+    same_next d v left next =
         let w = next.event.values in
         same_with w x y z h next.event.shown.0 next.event.shown.1 next.event.shown.2 (only w.height next.are.height next.shown)
 
     -- the station values are those before
     pub same_height : values_with x y z h ≡ values_now s → (v : FileValue) (left : List (List ℕ)) → HasLinesLeft s v (line ∷ left) → ⊥
     same_height same v left on =
-        let next = height_next s x y z v line left expected on in
-        next.other (same_next v left next ∙ same)
+        let next = height_next s (EventHeight x y z) x y z v line left expected on in
+        next.other (same_next (EventHeight x y z) v left next ∙ same)
 
     pub height_taken : (w : StationValues) → w ≡ values_with x y z h → GoesOnWithLine s (expected_next s (EventEpoch w)) line
     unfolding HasLinesLeft
     height_taken w named v left on =
-        let next = height_next s x y z v line left expected on in
-        let here = next.event in
-        let event : IsInEvent (expected_next s (EventEpoch w)) 3 (λ u. u ≡ w) v left = record {
-          next = here.next;
-          values = here.values;
-          others = here.others;
-          value = here.value;
-          starts = here.starts;
-          change = here.change;
-          shown = same_next v left next ∙ sym named;
-          rest = here.rest;
-        } in
-        (on.0, event)
+        let d = EventEpoch w in
+        let next = height_next s d x y z v line left expected on in
+        (on.0, event_with (expected_next s d) d 3 3 (HasPosition x y z) (λ u. u ≡ w) v left left next.event (same_next d v left next ∙ sym named) next.event.rest)
 
 pub height_shows : (s : Progress) (x y z : ℤ) (h : ℕ) (w : StationValues) (line : List ℕ) → s.expected ≡ EventHeight x y z → line ≡ height_text h → w ≡ values_with x y z h → ShowsLine s (expected_next s (EventEpoch w)) line
 height_shows s x y z h w line expected shown named taken are =
@@ -288,16 +233,10 @@ some_read : (es : List Stamped) → 0 < length es → es ≢ []
 some_read es some none = let size : length es ≡ 0 = ap length none in omega (arith, size, some)
 
 pub sound_event : (s : Progress) → s.expected ≡ Epoch → IsSound s → 0 < length s.epochs → IsSound (expected_next s EventPosition)
-sound_event s expected sound some =
-    let (read, rows) = sound_between s expected sound in
-    (read, rows, some_read s.epochs some)
+sound_event s expected sound some = grind (arith, sound_between, some_read)
 
 pub sound_position : (s : Progress) (x y z : ℤ) → s.expected ≡ EventPosition → IsSound s → IsPosition (x, y, z) → IsSound (expected_next s (EventHeight x y z))
-sound_position s x y z expected sound is =
-    let at : IsEventExpected s = subst (λ d. IsSoundAt s d) expected sound in
-    (at, is)
+sound_position s x y z expected sound is = grind arith
 
 pub sound_height : (s : Progress) (x y z : ℤ) (h : ℕ) → s.expected ≡ EventHeight x y z → IsSound s → h < 2 ^ 16 → (values_with x y z h ≡ values_now s → ⊥) → IsSound (expected_next s (EventEpoch (values_with x y z h)))
-sound_height s x y z h expected sound small other =
-    let at : IsEventExpected s × (IsCoordinate x × IsCoordinate y × IsCoordinate z) = subst (λ d. IsSoundAt s d) expected sound in
-    (at.0, (record { x = at.1.0; y = at.1.1; z = at.1.2; height = small }, other))
+sound_height s x y z h expected sound small other = grind arith

@@ -1,25 +1,25 @@
 -- Some file may begin with the accepted lines, and the kind of the next line is known.
-use Rattle.std.proofs.Common.{arith, ◌≡◌, sym, ap, subst, refl, ℕ, zero, suc, ◌+◌, ◌<◌, ℤ, pos, List, [], ◌∷◌, length, Option, IfSome, inl, inr}
+use Rattle.std.proofs.Common.{arith, ◌≡◌, ◌∙◌, sym, ap, refl, ℕ, zero, suc, ◌+◌, ◌<◌, ℤ, pos, List, [], ◌∷◌, ◌++◌, length, Option, IfSome, inl, inr}
 use Rattle.std.specs.Prelude.{Some}
 use Rattle.obs_epoch.specs.declared.cell.StationValues.{StationValues}
 use Rattle.rinex_file.specs.declared.read.parser_state.ParserState.{ParserState}
 use Rattle.rinex_file.specs.declared.read.expected.Expected.{Expected}
 use Rattle.rinex_file.specs.declared.read.expected.Expected.TheVariants.{Header, Epoch, EventPosition, EventHeight, EventEpoch, Satellite}
-use Rattle.rinex_file.specs.Numbers.{joined}
 use Rattle.rinex_file.specs.FileValues.{IsCoordinate, IsChange}
 use Rattle.rinex_file.specs.Begun.{AreBegun}
 use Rattle.rinex_file.specs.Exact.{AreBefore, IsExpectedAt}
-use Rattle.rinex_file.specs.Read.Progress.{Progress, IsHeaderLeft, Known, Shown, stamped}
+use Rattle.rinex_file.specs.Read.Progress.{Progress, shown_with, lines_after, stamped}
 use Rattle.rinex_file.specs.Read.Sound.{IsSound, IsSoundAt, AreLinesAt, values_now}
 use Rattle.rinex_file.specs.ParserState.{History, FollowsHistory, progress_at}
 use Rattle.rinex_file.specs.Read.Steps.{IsTaken}
-use Rattle.rinex_file.proofs.HeaderRows.{some_left}
+use Rattle.rinex_file.proofs.HeaderRows.{some_after, split_at}
+use Rattle.rinex_file.proofs.HeaderPlans.{some_plan, with_is}
 use Rattle.rinex_file.proofs.HeaderEnd.{zero_values}
 use Rattle.rinex_file.proofs.LineByLine.{consumed}
 
-some_lines : (k : Known) (place : ℕ) (h : Shown) (left : List (List ℕ)) → IsHeaderLeft k place h left → 0 < length left
-some_lines k place h [] header = absurd (some_left k place h header)
-some_lines k place h (l ∷ ls) header = omega arith
+some_lines : (xs : List (List ℕ)) → (xs ≡ [] → ⊥) → 0 < length xs
+some_lines [] some = absurd (some refl)
+some_lines (x ∷ xs) some = omega arith
 
 -- ---- station values of a position that aren't these
 
@@ -50,13 +50,17 @@ at_zero : IsCoordinate (pos 0) × IsCoordinate (pos 0) × IsCoordinate (pos 0)
 at_zero = (is_zero, is_zero, is_zero)
 
 are_before : (s : Progress) (expected : Expected) (lines : List (List ℕ)) → IsSoundAt s expected → AreLinesAt s expected lines → AreBefore expected lines
-are_before s (Header place) lines sound are = record {
-  h = sound.2.h;
-  left = sound.2.left;
-  is = sound.2.at.is;
-  some = some_lines s.known place sound.2.h sound.2.left sound.2.at;
-  are = are sound.2.h sound.2.left sound.2.at;
-}
+are_before s (Header place) lines sound are =
+    let at = sound.2 in
+    let one = some_plan s.known place at.valid at.read in
+    let h = shown_with s.known one.p in
+    record {
+      h = h;
+      left = lines_after h place;
+      is = with_is s.known place at.valid at.read one.p one.may;
+      some = some_lines (lines_after h place) (some_after h place at.expected);
+      are = split_at h place ∙ ap (λ l. l ++ lines_after h place) (sym (are one.p one.may));
+    }
 are_before s Epoch lines sound are = record { h = s.known.shown; es = s.epochs; whole = sound.0; are = are }
 are_before s EventPosition lines sound are = record {
   h = s.known.shown;
@@ -111,11 +115,4 @@ pub begun : (s : Progress) (n : ℕ) (a b : Option (List ℕ)) (t : IsTaken s n 
 begun s n a b t sound = are_begun s.expected t.lines (are_before s s.expected t.lines sound t.stands.are)
 
 pub expected_at : (c : ParserState) (h : History) (expected : Expected) (n : ℕ) (a b : Option (List ℕ)) → IsTaken (progress_at c h) n a b → expected ≡ c.expected → FollowsHistory c h → IfSome a (λ input. IsExpectedAt expected input (n + 1))
-expected_at c h expected n a b t same stands =
-    consumed a b (joined t.lines) (λ input. IsExpectedAt expected input (n + 1)) t.taken (λ rest. record {
-      lines = t.lines;
-      rest = rest;
-      first = record { are = t.are; first = refl };
-      count = ap (λ (k : ℕ). k + 1) t.many;
-      are = subst (λ (d : Expected). AreBefore d t.lines) (sym same) (are_before (progress_at c h) c.expected t.lines stands.sound t.stands.are);
-    })
+expected_at c h expected n a b t same stands = grind (arith, consumed, are_before)

@@ -6,10 +6,10 @@ use Rattle.std.proofs.Math.Seq.{drop-cons}
 use Rattle.std.proofs.Math.ListN.{get_or-map}
 use Rattle.std.proofs.lemmas.List.{length-map}
 use Rattle.gnss_obs.proofs.Checked.{passes_at, is_less}
-use Rattle.rinex_file.specs.declared.header.fault.HeaderField.{HeaderField}
+use Rattle.rinex_file.specs.declared.header.fields.HeaderField.{HeaderField}
 use Rattle.rinex_file.specs.declared.header.fault.HeadFault.{HeadFault}
 use Rattle.rinex_file.specs.declared.header.fault.HeadFault.TheVariants.{TooLong, NotPrintable}
-use Rattle.rinex_file.specs.declared.header.fault.HeaderField.TheVariants.{AntType}
+use Rattle.rinex_file.specs.declared.header.fields.HeaderField.TheVariants.{AntType}
 use Rattle.rinex_file.specs.Blanks.{trimmed, before_cut}
 use Rattle.rinex_file.specs.Texts.{HeaderLists, text_count, width_of, text_of, field_at, is_printable, fault_of, first_fault, fields, trimmed_texts}
 use Rattle.rinex_file.specs.FileValues.{IsText}
@@ -36,10 +36,7 @@ both_hold true b h = (refl, h)
 both_hold false b h = cc
 
 last_printable : (b : ℕ) → is_printable b ≡ true → list_all is_printable (if b == 32 then [] else b ∷ []) ≡ true
-last_printable b p = by (b == 32) where
-  by : (c : Bool) → list_all is_printable (if c then [] else b ∷ []) ≡ true
-  by true = refl
-  by false = ap (λ (v : Bool). v && true) p
+last_printable b p = grind arith
 
 kept_printable : (b : ℕ) (part : List ℕ) → is_printable b ≡ true → list_all is_printable part ≡ true → list_all is_printable (before_cut b part) ≡ true
 kept_printable b [] p h = last_printable b p
@@ -57,14 +54,10 @@ shown f true long e = refl
 shown f false long e = cc
 
 pub fine : (f : HeaderField) (text : List ℕ) → fault_of f text ≡ None → IsText (width_of f) (trimmed text)
-fine f text e = record {
-  short = short f text e;
-  printable = printable_cut text (shown f (list_all is_printable text) (nat_lt (width_of f) (length (trimmed text))) e);
-  cut = trimmed-trimmed text;
-}
+fine f text e = grind (arith, short, printable_cut, shown, trimmed-trimmed)
 
 pub few_columns : (i : ℕ) → i < text_count → width_of (field_at i) ≤ 60
-few_columns i less = let h = is_less (width_of (field_at i)) 61 (passes_at (λ j. nat_lt (width_of (field_at j)) 61) 11 i refl less) in omega (arith, h)
+few_columns i less = let h = is_less (width_of (field_at i)) 61 (passes_at (λ j. nat_lt (width_of (field_at j)) 61) text_count i refl less) in omega (arith, h)
 
 -- ---- one text after the other
 
@@ -89,9 +82,7 @@ abbrev pub AreCut : ℕ → HeaderLists → HeaderLists → Type 0
 AreCut i t x = (j : ℕ) → j < i → get_or x j [] ≡ trimmed (get_or t j [])
 
 pub one_cut : (i : ℕ) (t x y : HeaderLists) (text : List ℕ) → AreCut i t x → text ≡ trimmed (get_or t i []) → get_or y i [] ≡ text → ((j : ℕ) → j ≢ i → get_or y j [] ≡ get_or x j []) → AreCut (i + 1) t y
-one_cut i t x y text cut is value same j less = equal_or (get_or y j [] ≡ trimmed (get_or t j [])) j i
-    (λ e. subst (λ n. get_or y n [] ≡ trimmed (get_or t n [])) (sym e) (value ∙ is))
-    (λ far. same j far ∙ cut j (omega (arith, less, far)))
+one_cut i t x y text cut is value same j less = grind (arith, equal_or)
 
 pub all_cut : (t x : HeaderLists) → length t ≡ text_count → length x ≡ text_count → AreCut text_count t x → x ≡ trimmed_texts t
 unfolding trimmed

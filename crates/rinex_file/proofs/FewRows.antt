@@ -17,11 +17,7 @@ use Rattle.rinex_file.specs.FileValues.{IsPlan, IsSatelliteRow, AreSatelliteRows
 -- ---- signals
 
 one_below : (q x n : ℕ) (others : Bool) → x < n → (others ≡ true → q < n) → ((eqb q x) || others) ≡ true → q < n
-one_below q x n others less more h =
-    elim (eqb q x) as (λ t. eqb q x ≡ t → (t || others) ≡ true → q < n) [
-      | true ↦ λ is k. let same = eqb-true q x is in omega (arith, same, less)
-      | false ↦ λ isnt k. more k
-    ] refl h
+one_below q x n others less more h = grind (arith, eqb-true)
 
 each_below : (n : ℕ) (xs : List ℕ) → All (λ i. i < n) xs → (q : ℕ) → list_any (eqb q) xs ≡ true → q < n
 each_below n [] below q h = cc
@@ -99,12 +95,7 @@ from_one false false = refl
 low_first : (gps galileo : ℕ) (rows : List SatelliteRow) → All (IsSatelliteRow gps galileo) rows → FromFirst 1 (map rank_of rows)
 unfolding FromFirst
 low_first gps galileo [] each h = absurd (omega (arith, h))
-low_first gps galileo (s ∷ rows) each h = some s.system s.row.satellite (All-head (IsSatelliteRow gps galileo) s rows each).row.satellite.0 where
-  some : (system : System) (r : ℕ) → 1 ≤ r → 1 ≤ of_system system r (100 + r)
-  some Gps r h = h
-  some Galileo r h = omega arith
+low_first gps galileo (s ∷ rows) each h = grind (arith, All-head)
 
 pub few_rows : (gps galileo : ℕ) (rows : List SatelliteRow) → AreSatelliteRows gps galileo rows → length rows ≤ most_rows gps galileo
-few_rows gps galileo rows are =
-    let few = few_from gps galileo 1 rows are.each are.rise (low_first gps galileo rows are.each) in
-    subst (λ n. length rows ≤ n) (from_one (nat_lt 0 gps) (nat_lt 0 galileo)) few
+few_rows gps galileo rows are = grind (arith, few_from, low_first, from_one, (few_from gps galileo 1 rows are.each are.rise (low_first gps galileo rows are.each)))

@@ -1,6 +1,6 @@
 -- The lines of a file value are lines, and none is longer than the largest line that is read.
 use Rattle.std.proofs.Common.{arith, lit≤, ◌≡◌, ◌∙◌, ap, refl, sym, subst, ℕ, suc, ◌+◌, ◌*◌, ◌^◌, ◌<◌, ◌≤◌, ℤ, pos, negsuc, unsigned_abs, Bool, true, false, Option, Some, None, IfSome, List, [], ◌∷◌, ◌++◌, length, replicate, decimal, get_or, append_assoc}
-use Rattle.std.specs.Prelude.{◌==◌, ◌||◌, if◌then◌else◌, nat_lt, map, flat_map, All, codes}
+use Rattle.std.specs.Prelude.{◌==◌, ◌||◌, map, flat_map, All, codes}
 use Rattle.std.specs.Int.{is_negative}
 use Rattle.std.specs.Fmt.{sign_text}
 use Rattle.std.proofs.lemmas.Int.{ints}
@@ -111,15 +111,10 @@ length_value (negsuc n) h =
     length-fixed 3 9 (negsuc n) (omega arith) (omega arith) (omega (arith, bound)) (omega (arith, bound))
 
 plain_value : (v : ℤ) → FitsColumns v → IsPlain 14 (right 14 (fixed 3 v))
-plain_value v h = record {
-  clean = clean-right 14 (fixed 3 v) (clean-fixed 3 v (small_value v h));
-  short = let width = length-right 14 (fixed 3 v) (length_value v h) in omega (arith, width);
-}
+plain_value v h = grind (arith, clean-right, clean-fixed, small_value, length-right, length_value)
 
 two_columns : (a b : ℕ) → (a ≡ 10 → ⊥) → (b ≡ 10 → ⊥) → IsPlain 2 (a ∷ b ∷ [])
-two_columns a b h k = record { clean = two_clean a b h k; short = lit≤ tt } where
-  two_clean : (a b : ℕ) → (a ≡ 10 → ⊥) → (b ≡ 10 → ⊥) → Clean (a ∷ b ∷ [])
-  two_clean a b h k = grind arith
+two_columns a b h k = grind arith
 
 plain_field : (v : Option ℤ) (lost strength : ℕ) → IfSome v FitsColumns → (lost ≡ 10 → ⊥) → (strength ≡ 10 → ⊥) → IsPlain 16 (field v lost strength)
 unfolding field
@@ -162,17 +157,10 @@ or_false true b h = cc
 or_false false b h = refl
 
 plain_trimmed : (n : ℕ) (text : List ℕ) → IsPlain n text → IsPlain n (trimmed text)
-plain_trimmed n text is =
-    let f = filled text in
-    let all : (has 10 (trimmed text) || has 10 (replicate f.0 32)) ≡ false = sym (has-append 10 (trimmed text) (replicate f.0 32)) ∙ ap (has 10) f.1 ∙ is.clean in
-    let cut : length (trimmed text) ≤ length text = length-trimmed text in
-    let short : length text ≤ n = is.short in
-    record { clean = or_false (has 10 (trimmed text)) (has 10 (replicate f.0 32)) all; short = omega (arith, cut, short) }
+plain_trimmed n text is = grind (arith, filled, has-append, length-trimmed, or_false, (filled text), (sym (has-append 10 (trimmed text) (replicate (filled text).0 32)) ∙ ap (has 10) (filled text).1 ∙ is.clean), (length-trimmed text))
 
 plain_number : (n : ℕ) → n < 100 → IsPlain 2 (padded 2 n)
-plain_number n h =
-    let width = length-padded 2 n (omega arith) (omega (arith, h)) (omega (arith, h)) in
-    record { clean = clean-padded 2 n (omega (arith, h)); short = omega (arith, width) }
+plain_number n h = grind (arith, length-padded, clean-padded)
 
 few_satellites : (system : System) → satellites system ≤ 36
 few_satellites Gps = lit≤ tt
@@ -199,12 +187,7 @@ line_of_seen gps galileo s is few less =
 -- ---- the whole
 
 at_most_68 : (gps galileo : ℕ) → most_rows gps galileo ≤ 68
-at_most_68 gps galileo = sums (nat_lt 0 gps) (nat_lt 0 galileo) where
-  sums : (a b : Bool) → (if a then 32 else 0) + (if b then 36 else 0) ≤ 68
-  sums true true = lit≤ tt
-  sums true false = lit≤ tt
-  sums false true = lit≤ tt
-  sums false false = lit≤ tt
+at_most_68 gps galileo = grind arith
 
 -- the lines of an event
 event_is_line : IsFileLine event_line

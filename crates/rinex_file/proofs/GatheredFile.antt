@@ -19,7 +19,7 @@ use Rattle.std.proofs.lemmas.Bool.Decides.{Decides-int_eq}
 use Rattle.obs_epoch.specs.declared.cell.StationValues.{StationValues}
 use Rattle.rinex_file.specs.Texts.{HeaderLists}
 use Rattle.rinex_file.specs.Value.{SatelliteRow, numbers, written_satellites, no_signal_values, signal_values_of, is_of_key, signal_values_at, row_of, row_among, row_in_epoch, rows_of, change_from, stamped_after, all_stamped}
-use Rattle.rinex_file.specs.FileValues.{AreTexts, AreValues, has_some_value, AreSignalValues, IsRow, of_system, rank_of, IsSatelliteRow, IsStamped, IsChange, AreChanges, changed_by, time_stamped, IsFileValue}
+use Rattle.rinex_file.specs.FileValues.{AreTexts, AreValues, has_some_value, AreSignalValues, IsRow, rank_of, IsSatelliteRow, IsStamped, IsChange, AreChanges, changed_by, time_stamped, IsFileValue}
 use Rattle.rinex_file.specs.File.{gathered}
 use Rattle.rinex_file.specs.Gathered.{AreSignals, HasSatellite}
 use Rattle.rinex_file.proofs.RowText.{if_fits}
@@ -102,14 +102,7 @@ numbers_rise (suc n) = below_all (suc n) (numbers n) (suc n ∷ []) (all_below n
 -- ---- entries
 
 cell_entry : (system : System) (signals : List ℕ) (c : Cell) → IsGathered system signals c → AreSignalValues (signal_values_of c)
-cell_entry system signals c h = record {
-  c = if_fits c.c h.c;
-  l = if_fits c.l h.l;
-  d = if_fits c.d h.d;
-  s = h.s;
-  lli = h.lli;
-  without_phase = h.without_phase;
-}
+cell_entry system signals c h = grind (arith, if_fits)
 
 none_entry : AreSignalValues no_signal_values
 none_entry = record { c = tt; l = tt; d = tt; s = tt; lli = omega arith; without_phase = λ e. refl }
@@ -146,27 +139,10 @@ pairs P Q [] h k = tt
 pairs P Q (c ∷ cells) h k = ((h.0, k.0), pairs P Q cells h.1 k.1)
 
 at_head : (P : Cell → Type 0) (c : Cell) (cells : List Cell) (id : ℕ) → P c → ((c.satellite.id == id) && has_value c) ≡ true → IsFoundIn P (c ∷ cells) id
-at_head P c cells id p h =
-    let two = both (c.satellite.id == id) (has_value c) h in
-    let self : (c.signal.index == c.signal.index) ≡ true = grind arith in
-    record {
-      cell = c;
-      own = two.0;
-      says = two.1;
-      is = p;
-      found = ap₂ (λ a b. if a && b then Some c else find (is_of_key id c.signal.index) cells) two.0 self;
-    }
+at_head P c cells id p h = grind (arith, both)
 
 after : (P : Cell → Type 0) (c : Cell) (cells : List Cell) (id : ℕ) → IsFoundIn (λ d. P d × (same_place c d ≡ false)) cells id → IsFoundIn P (c ∷ cells) id
-after P c cells id f = record { cell = f.cell; own = f.own; says = f.says; is = f.is.0; found = by (c.satellite.id == id) (c.signal.index == f.cell.signal.index) refl refl } where
-  by : (a b : Bool) → (c.satellite.id == id) ≡ a → (c.signal.index == f.cell.signal.index) ≡ b
-      → (if a && b then Some c else find (is_of_key id f.cell.signal.index) cells) ≡ Some f.cell
-  by false b e g = f.found
-  by true false e g = f.found
-  by true true e g =
-      let same : same_place c f.cell ≡ true = ap₂ (λ x y. x && y) (same_number c.satellite.id f.cell.satellite.id id e f.own) g in
-      let other = f.is.1 in
-      absurd (grind (arith, same, other))
+after P c cells id f = grind (arith, same_number)
 
 speaker : (P : Cell → Type 0) (cells : List Cell) (id : ℕ) → AllByRecursion P cells → IsDistinct same_place cells → is_written cells id ≡ true → IsFoundIn P cells id
 unfolding IsDistinct
@@ -200,11 +176,7 @@ one_says signals cells id c planned value found =
     (at.0, signal_values_of c, subst (λ n. at.0 < n) (sym size) place.0, is, value)
 
 some_planned : (signals : List ℕ) (c : Cell) → is_some (place_in c.signal signals) ≡ true → 0 < length signals
-some_planned signals c planned =
-    let at = some_at (place_in c.signal signals) planned in
-    let place = position-Some (λ i. i == c.signal.index) signals at.0 0 at.1 in
-    let within = place.0 in
-    omega (arith, within)
+some_planned signals c planned = grind (arith, some_at, position-Some)
 
 -- a written satellite
 abbrev IsNumber : List Cell → ℕ → ℕ → Type 0
@@ -212,16 +184,7 @@ IsNumber cells most id = IsUpTo most id × (is_written cells id ≡ true)
 
 row_is : (system : System) (signals : List ℕ) (cells : List Cell) (id : ℕ) → AreGathered system signals cells → IsNumber cells (satellites_in system) id
     → (0 < length signals) × IsRow (satellites_in system) (length signals) (row_of signals cells id)
-row_is system signals cells id h n =
-    let f = speaker (IsGathered system signals) cells id h.each h.apart n.1 in (
-      some_planned signals f.cell f.is.planned,
-      record {
-        satellite = n.0;
-        entries = All-from_recursion AreSignalValues (map (signal_values_at cells id) signals) (are_entries system signals signals id cells h.each);
-        whole = length-map signals (signal_values_at cells id);
-        some = one_says signals cells id f.cell f.is.planned f.says f.found;
-      },
-    )
+row_is system signals cells id h n = grind (arith, speaker, some_planned, All-from_recursion, are_entries, length-map, one_says, (speaker (IsGathered system signals) cells id h.each h.apart n.1))
 
 row_seen : (plan : PlanValue) (system : System) (cells : List Cell) (id : ℕ) → AreGathered system (planned_of system plan) cells → IsNumber cells (satellites_in system) id
     → IsSatelliteRow (length plan.gps) (length plan.galileo) (row_among plan system cells id)
@@ -298,9 +261,7 @@ times_rise plan v (e ∷ es) h = (later plan e.values e.epoch.time es h.0, times
 -- ---- station values
 
 same_self : (v : StationValues) → same_values v v ≡ true
-same_self v = rw ((Decides-int_eq v.x v.x).1 refl, (Decides-int_eq v.y v.y).1 refl, (Decides-int_eq v.z v.z).1 refl) (self v.height) where
-  self : (n : ℕ) → (n == n) ≡ true
-  self n = grind arith
+same_self v = grind (arith, Decides-int_eq)
 
 abbrev SameValues : StationValues → StationValues → Type 0
 SameValues v w = v ≡ w
@@ -315,11 +276,7 @@ all_same : (a b c d e f : ℤ) (m n : ℕ) → a ≡ b → c ≡ d → e ≡ f �
 all_same a b c d e f m n p q r s = ap (λ t. values_with t c e m) p ∙ ap (λ t. values_with b t e m) q ∙ ap (λ t. values_with b d t m) r ∙ ap (values_with b d f) s
 
 same_are : (v w : StationValues) → same_values v w ≡ true → SameValues v w
-same_are v w h =
-    let both_z = both (int_eq v.x w.x && int_eq v.y w.y && int_eq v.z w.z) (v.height == w.height) h in
-    let both_y = both (int_eq v.x w.x && int_eq v.y w.y) (int_eq v.z w.z) both_z.0 in
-    let both_x = both (int_eq v.x w.x) (int_eq v.y w.y) both_y.0 in
-    all_same v.x w.x v.y w.y v.z w.z v.height w.height (int_same v.x w.x both_x.0) (int_same v.y w.y both_x.1) (int_same v.z w.z both_y.1) (same_index v.height w.height both_z.1)
+same_are v w h = grind (arith, both, all_same, int_same, same_index)
 
 values_fit : (v : StationValues) → AreStationValues v → AreValues v
 values_fit v h = record { x = h.x; y = h.y; z = h.z; height = h.height }
@@ -342,10 +299,7 @@ first_same v = ap (λ (b : Bool). if b then None else Some v) (same_self v)
 -- if a satellite is written, a signal is planned
 planned_by : (gps galileo : ℕ) (rows : List SatelliteRow) → AllByRecursion (IsSatelliteRow gps galileo) rows → 0 < length rows → 0 < gps + galileo
 planned_by gps galileo [] h some = absurd (omega (arith, some))
-planned_by gps galileo (r ∷ rows) h some = by r.system h.0.planned where
-  by : (system : System) → 0 < of_system system gps galileo → 0 < gps + galileo
-  by Gps k = omega (arith, k)
-  by Galileo k = omega (arith, k)
+planned_by gps galileo (r ∷ rows) h some = grind arith
 
 pub gathered_file : (texts : HeaderLists) (plan : PlanValue) (e : Closed) (es : List Closed) → AreTexts texts → AreSignals plan → AreGatheredEpochs plan (e ∷ es)
     → AllByRecursion HasSatellite (e ∷ es) → IsFileValue (gathered texts plan e.values (e ∷ es))

@@ -1,13 +1,12 @@
 -- The line of a satellite by its own cells.
-use Rattle.std.proofs.Common.{◌≡◌, ℕ, ◌==◌, Bool, true, false, ◌&&◌, List, [], ◌∷◌, map, filter, ap, ap₂, refl, sym, ◌∙◌, Some}
+use Rattle.std.proofs.Common.{arith, ◌≡◌, ℕ, ◌==◌, Bool, true, false, ◌&&◌, List, [], ◌∷◌, map, filter, ap₂, refl, Some}
 use Rattle.std.specs.Prelude.{if◌then◌else◌, cond, find}
 use Rattle.std.specs.Option.{option_map_or}
 use Rattle.gnss_obs.specs.declared.system.System.{System}
 use Rattle.obs_epoch.specs.declared.cell.Cell.{Cell}
 use Rattle.obs_epoch.specs.Values.{PlanValue, planned_of, is_of_satellite}
-use Rattle.obs_epoch.proofs.GroupLemmas.{any_from}
+use Rattle.rinex_file.proofs.SatelliteGroups.{any_from}
 use Rattle.rinex_file.specs.Value.{is_of_key, signal_values_at, signal_values_of, no_signal_values}
-use Rattle.rinex_file.specs.Lines.{satellite_line}
 use Rattle.rinex_file.specs.File.{line_among}
 
 find_from : (id index : ℕ) (cells : List Cell) → find (is_of_key id index) (filter (is_of_satellite id) cells) ≡ find (is_of_key id index) cells
@@ -24,11 +23,8 @@ entries_from id cells (i ∷ signals) = ap₂ (λ o l. option_map_or signal_valu
 
 pub line_from : (p : PlanValue) (system : System) (cells : List Cell) (id : ℕ) → line_among p system (filter (is_of_satellite id) cells) id ≡ line_among p system cells id
 unfolding line_among
-line_from p system cells id =
-    ap₂ (λ b l. if b then satellite_line (record { system = system; row = record { satellite = id; entries = l } }) else [])
-    (any_from id cells) (entries_from id cells (planned_of system p))
+line_from p system cells id = grind (arith, any_from, entries_from)
 
 pub same_line : (p : PlanValue) (system : System) (cells all : List Cell) (id : ℕ) (group : List Cell) → filter (is_of_satellite id) cells ≡ group → cells ≡ all
     → line_among p system group id ≡ line_among p system all id
-same_line p system cells all id group is same =
-    ap (λ l. line_among p system l id) (sym is) ∙ line_from p system cells id ∙ ap (λ l. line_among p system l id) same
+same_line p system cells all id group is same = grind (arith, line_from)

@@ -1,6 +1,6 @@
 -- The steps of a reading from the header to the epochs, and its end.
-use Rattle.std.proofs.Common.{arith, lit<, ◌≡◌, ◌↔◌, ℕ, zero, suc, ◌<◌, List, [], ◌∷◌, ◌++◌, refl, sym, ap, subst, ◌∙◌, length, drop, append-nil, append_assoc, Option, Some, None}
-use Rattle.std.specs.Prelude.{⊤, All, map, flat_map}
+use Rattle.std.proofs.Common.{arith, lit<, lit≤, ◌≡◌, ℕ, zero, suc, ◌<◌, List, [], ◌∷◌, ◌++◌, refl, sym, ap, subst, ◌∙◌, length, drop, append-nil, append_assoc, Option, Some, None}
+use Rattle.std.specs.Prelude.{⊤, map, flat_map}
 use Rattle.std.proofs.lemmas.List.Elements.{All-head, All-nil}
 use Rattle.std.proofs.lemmas.List.{length-map}
 use Rattle.obs_epoch.specs.Dates.{civil_of}
@@ -8,23 +8,29 @@ use Rattle.obs_epoch.specs.declared.cell.StationValues.{StationValues}
 use Rattle.rinex_file.specs.declared.read.expected.Expected.{Expected}
 use Rattle.rinex_file.specs.declared.read.expected.Expected.TheVariants.{Header, Epoch, EventPosition, EventHeight, EventEpoch, Satellite}
 use Rattle.rinex_file.specs.Value.{SatelliteRow, Stamped, FileValue}
-use Rattle.rinex_file.specs.FileValues.{IsFileValue, IsStamped, AreChanges, IsFirstSame, time_stamped}
+use Rattle.rinex_file.specs.FileValues.{IsFileValue}
 use Rattle.rinex_file.specs.Header.{header_lines}
 use Rattle.rinex_file.specs.Lines.{satellite_line}
 use Rattle.rinex_file.specs.File.{stamped_lines, file_lines, lines_of_parts}
-use Rattle.rinex_file.specs.Read.Progress.{Progress, Known, Shown, IsShown, shown_of, IsHeaderLeft, IsHeaderRead, HasHeaderAt, file_with, StartsAt, IsInHeader, IsAt, IsBetween, IsInEvent, HasPosition, IsInEpoch, HasLinesLeft}
+use Rattle.rinex_file.specs.Read.Progress.{Progress, Known, Shown, IsShown, IsHeadAt, shown_with, lines_before, lines_after, file_with, StartsAt, IsInHeader, IsAt, IsBetween, IsInEvent, HasPosition, IsInEpoch, HasLinesLeft}
 use Rattle.rinex_file.specs.Read.Sound.{AreRead, IsSoundAt, IsSound, AreLinesAt, AreLinesOf}
 use Rattle.rinex_file.specs.Begun.{lines_of_header, whole_lines}
 use Rattle.rinex_file.specs.declared.read.parser_state.ParserState.{ParserState}
 use Rattle.rinex_file.specs.ParserState.{History, FollowsHistory, progress_at, GoesOnWithLine, ShowsLine}
-use Rattle.rinex_file.proofs.HeaderRows.{some_left}
+use Rattle.rinex_file.specs.Read.HeaderSteps.{GoesTo, EndsHeader, NoneGoesOn}
+use Rattle.rinex_file.proofs.HeaderAgree.{agreed}
+use Rattle.rinex_file.proofs.HeaderEnd.{same_header}
+use Rattle.rinex_file.proofs.HeaderPlans.{some_plan, with_is}
+use Rattle.rinex_file.proofs.HeaderRows.{some_after}
 use Rattle.rinex_file.proofs.BodySteps.{lines_with, lines_are, sound_open, sound_between}
+
+-- the contents of the header of a file whose first epoch is at this time
+abbrev shown_of : FileValue → ℕ → Shown
+shown_of v first = record { texts = v.texts; plan = v.plan; values = v.values; first = first }
 
 -- the header of a file value is a header
 pub shown_is : (v : FileValue) (e : Stamped) (es : List Stamped) → v.epochs ≡ e ∷ es → IsFileValue v → IsShown (shown_of v e.time)
-shown_is v e es same is =
-    let all : All (IsStamped (length v.plan.gps) (length v.plan.galileo)) (e ∷ es) = subst (All (IsStamped (length v.plan.gps) (length v.plan.galileo))) same is.epochs in
-    record { texts = is.texts; plan = is.plan; values = is.values; first = (All-head (IsStamped (length v.plan.gps) (length v.plan.galileo)) e es all).time }
+shown_is v e es same is = grind (arith, All-head)
 
 -- the lines of a file, by its first epoch
 lines_by_first : (v : FileValue) (e : Stamped) (es : List Stamped) → v.epochs ≡ e ∷ es
@@ -37,37 +43,6 @@ lines_by_first v e es same = ap (Rattle.rinex_file.specs.File.lines_of_parts v.t
 abbrev pub known_as : Progress → Known → Expected → Progress
 known_as s k expected = record { expected = expected; known = k; epochs = s.epochs; change = s.change; time = s.time; rows = s.rows }
 
--- what follows if a line of the header is expected and a line is next
-pub record HeaderNext (s : Progress) (place : ℕ) (v : FileValue) (line : List ℕ) (left : List (List ℕ)) : Type 0 where
-  pub first : Stamped
-  pub others : List Stamped
-  pub lines : List (List ℕ)
-  pub epochs : v.epochs ≡ first ∷ others
-  pub header : IsHeaderLeft s.known place (shown_of v first.time) (line ∷ lines)
-  pub rest : left ≡ lines ++ flat_map stamped_lines (first ∷ others)
-
-from_lines : (s : Progress) (place : ℕ) (v : FileValue) (line : List ℕ) (left : List (List ℕ)) (first : Stamped) (others : List Stamped) (lines : List (List ℕ))
-    → v.epochs ≡ first ∷ others → IsHeaderLeft s.known place (shown_of v first.time) lines → line ∷ left ≡ lines ++ flat_map stamped_lines (first ∷ others)
-    → HeaderNext s place v line left
-from_lines s place v line left first others [] epochs header rest = absurd (some_left s.known place (shown_of v first.time) header)
-from_lines s place v line left first others (l ∷ ls) epochs header rest =
-    let same : l ≡ line = cc in
-    record {
-      first = first;
-      others = others;
-      lines = ls;
-      epochs = epochs;
-      header = subst (λ x. IsHeaderLeft s.known place (shown_of v first.time) (x ∷ ls)) same header;
-      rest = cc;
-    }
-
-header_next : (s : Progress) (place : ℕ) (v : FileValue) (line : List ℕ) (left : List (List ℕ)) → s.expected ≡ Header place → HasLinesLeft s v (line ∷ left)
-    → HeaderNext s place v line left
-unfolding HasLinesLeft
-header_next s place v line left expected (is, at) =
-    let here : IsInHeader s place v (line ∷ left) = subst (λ d. IsAt s d v (line ∷ left)) expected at in
-    from_lines s place v line left here.first here.others here.lines here.epochs here.header here.rest
-
 -- a file made of the contents of a header
 abbrev file_of : Shown → List Stamped → FileValue
 file_of h epochs = record { texts = h.texts; plan = h.plan; values = h.values; epochs = epochs }
@@ -75,108 +50,106 @@ file_of h epochs = record { texts = h.texts; plan = h.plan; values = h.values; e
 abbrev SameFile : FileValue → FileValue → Type 0
 SameFile v w = v ≡ w
 
-module _ (s : Progress) (place : ℕ) (line : List ℕ) (expected : s.expected ≡ Header place) where
-  pub no_header : ((h : Shown) (left : List (List ℕ)) → IsHeaderLeft s.known place h (line ∷ left) → ⊥) → (v : FileValue) (left : List (List ℕ)) → HasLinesLeft s v (line ∷ left) → ⊥
-  no_header never v left on = let next = header_next s place v line left expected on in never (shown_of v next.first.time) next.lines next.header
+-- what holds if a line of the header is expected
+in_header : (s : Progress) (place : ℕ) (v : FileValue) (left : List (List ℕ)) → s.expected ≡ Header place → HasLinesLeft s v left → IsFileValue v × IsInHeader s place v left
+unfolding HasLinesLeft
+in_header s place v left expected (is, at) = (is, subst (λ d. IsAt s d v left) expected at)
 
-  module _ (k : Known) (place' : ℕ)
-      (step : (h : Shown) (left : List (List ℕ)) → IsHeaderLeft s.known place h (line ∷ left) ↔ IsHeaderLeft k place' h left) where
+-- a file has an epoch, and the header of its time
+record Begins (v : FileValue) : Type 0 where
+  first : Stamped
+  others : List Stamped
+  epochs : v.epochs ≡ first ∷ others
+  is : IsShown (shown_of v first.time)
+  lines : file_lines v ≡ lines_of_header (shown_of v first.time) ++ flat_map stamped_lines (first ∷ others)
+
+begins : (v : FileValue) → IsFileValue v → Begins v
+begins v is = by v.epochs refl where
+  by : (es : List Stamped) → v.epochs ≡ es → Begins v
+  by [] e = let size = ap length e in let some = is.some in absurd (omega (arith, size, some))
+  by (first ∷ others) e = record { first = first; others = others; epochs = e; is = shown_is v first others e is; lines = lines_by_first v first others e }
+
+module _ (s : Progress) (place : ℕ) (line : List ℕ) (expected : s.expected ≡ Header place) where
+  pub no_header : IsHeadAt s.known place → NoneGoesOn s.known place line → (v : FileValue) (left : List (List ℕ)) → HasLinesLeft s v (line ∷ left) → ⊥
+  no_header at never v left on =
+      let here = in_header s place v (line ∷ left) expected on in
+      let b = begins v here.0 in
+      let one = some_plan s.known place at.valid at.read in
+      never one.p (shown_of v b.first.time) (flat_map stamped_lines (b.first ∷ b.others)) left one.may b.is (sym b.lines ∙ here.1 one.p one.may)
+
+  module _ (k : Known) (place' : ℕ) (goes : GoesTo s.known place line k place') where
     pub header_taken : GoesOnWithLine s (known_as s k (Header place')) line
     unfolding HasLinesLeft
     header_taken v left on =
-        let next = header_next s place v line left expected on in (
-          on.0,
-          record {
-            first = next.first;
-            others = next.others;
-            lines = next.lines;
-            epochs = next.epochs;
-            header = (step (shown_of v next.first.time) next.lines).0 next.header;
-            rest = next.rest;
-          },
-        )
+        let here = in_header s place v (line ∷ left) expected on in
+        (here.0, λ p may. here.1 p (goes.plans p may) ∙ sym (append_assoc (lines_before (shown_with s.known p) place) (line ∷ []) left) ∙ ap (λ l. l ++ left) (sym (goes.lines p may)))
 
     pub header_shows : ShowsLine s (known_as s k (Header place')) line
-    header_shows taken are h left at =
-        subst (λ d. AreLinesAt s d taken) expected are h (line ∷ left) ((step h left).1 at) ∙ sym (append_assoc taken (line ∷ []) left)
+    header_shows taken are p may = ap (λ l. l ++ line ∷ []) (subst (λ d. AreLinesAt s d taken) expected are p (goes.plans p may)) ∙ sym (goes.lines p may)
 
-  module _ (k : Known) (none : s.epochs ≡ [])
-      (step : (h : Shown) (left : List (List ℕ)) → IsHeaderLeft s.known place h (line ∷ left) ↔ IsHeaderRead k h left) where
-    ended : (v : FileValue) (left : List (List ℕ)) → HeaderNext s place v line left → IsBetween (known_as s k Epoch) v left
-    ended v left next =
-        let read = (step (shown_of v next.first.time) next.lines).0 next.header in
-        let epochs : next.first ∷ next.others ≡ s.epochs ++ next.first ∷ next.others = ap (λ x. x ++ next.first ∷ next.others) (sym none) in
-        let value : SameFile v (file_of k.shown (s.epochs ++ next.first ∷ next.others)) =
-        ap (λ h. file_of h v.epochs) read.same ∙ ap (file_of k.shown) (next.epochs ∙ epochs) in
-        let first : k.shown.first ≡ next.first.time = sym (ap (λ h. h.first) read.same) in
+  module _ (k : Known) (none : s.epochs ≡ []) (at : IsHeadAt s.known place) (end : EndsHeader s.known place line k) where
+    ended : (v : FileValue) (left : List (List ℕ)) → IsFileValue v → IsInHeader s place v (line ∷ left) → IsBetween (known_as s k Epoch) v left
+    unfolding header_lines
+    ended v left is here =
+        let b = begins v is in
+        let h = shown_of v b.first.time in
+        let one = some_plan s.known place at.valid at.read in
+        let all : lines_of_header h ++ flat_map stamped_lines (b.first ∷ b.others) ≡ lines_of_header k.shown ++ left =
+        sym b.lines ∙ here one.p one.may ∙ sym (append_assoc (lines_before (shown_with s.known one.p) place) (line ∷ []) left) ∙ ap (λ l. l ++ left) (sym (end.lines one.p one.may)) in
+        let same = agreed h k.shown b.is end.is 26 (lit≤ tt) (flat_map stamped_lines (b.first ∷ b.others)) left all in
+        let header : h ≡ k.shown = same_header h k.shown b.is end.is (λ i l. same.agree i (omega (arith, l))) end.only in
+        let epochs : b.first ∷ b.others ≡ s.epochs ++ b.first ∷ b.others = ap (λ x. x ++ b.first ∷ b.others) (sym none) in
+        let value : SameFile v (file_of k.shown (s.epochs ++ b.first ∷ b.others)) =
+        ap (λ g. file_of g v.epochs) header ∙ ap (file_of k.shown) (b.epochs ∙ epochs) in
+        let first : k.shown.first ≡ b.first.time = sym (ap (λ g. g.first) header) in
         record {
-          others = next.first ∷ next.others;
+          others = b.first ∷ b.others;
           value = value;
           starts = subst (StartsAt k.shown.first) epochs first;
-          rest = next.rest ∙ ap (λ l. l ++ flat_map stamped_lines (next.first ∷ next.others)) read.lines;
+          rest = same.rest;
         }
 
     pub header_ended : GoesOnWithLine s (known_as s k Epoch) line
     unfolding HasLinesLeft
-    header_ended v left on = (on.0, ended v left (header_next s place v line left expected on))
+    header_ended v left on = let here = in_header s place v (line ∷ left) expected on in (here.0, ended v left here.0 here.1)
 
-    pub ended_shows : IsShown k.shown → ShowsLine s (known_as s k Epoch) line
-    ended_shows is taken are =
+    pub ended_shows : ShowsLine s (known_as s k Epoch) line
+    ended_shows taken are =
         let head = lines_of_header k.shown in
-        let at = (step k.shown []).1 (record { is = is; same = refl; lines = refl }) in
-        let all : head ≡ taken ++ line ∷ [] = subst (λ d. AreLinesAt s d taken) expected are k.shown (line ∷ []) at in
-        sym all ∙ sym (append-nil head) ∙ ap (λ (es : List Stamped). whole_lines k.shown es) (sym none)
+        let one = some_plan s.known place at.valid at.read in
+        ap (λ l. l ++ line ∷ []) (subst (λ d. AreLinesAt s d taken) expected are one.p one.may) ∙ sym (end.lines one.p one.may)
+        ∙ sym (append-nil head) ∙ ap (λ (es : List Stamped). whole_lines k.shown es) (sym none)
 
 -- the header was read, and nothing more
 pub sound_start : (s : Progress) (k : Known) → IsShown k.shown → s.epochs ≡ [] → AreRead (known_as s k Epoch)
-sound_start s k shown none =
-    record {
-      shown = shown;
-      epochs = subst (All (IsStamped (length k.shown.plan.gps) (length k.shown.plan.galileo))) (sym none) (All-nil (IsStamped (length k.shown.plan.gps) (length k.shown.plan.galileo)));
-      rising = λ i h. absurd (let size = ap length none in let same = length-map s.epochs time_stamped in omega (arith, h, size, same));
-      starts = subst (StartsAt k.shown.first) (sym none) tt;
-      first = subst IsFirstSame (sym none) tt;
-      changes = subst (AreChanges k.shown.values) (sym none) tt;
-    }
+sound_start s k shown none = grind (arith, All-nil, length-map)
 
-pub sound_header : (s : Progress) (place : ℕ) → s.expected ≡ Header place → IsSound s → (s.epochs ≡ []) × (s.rows ≡ []) × HasHeaderAt s.known place
+pub sound_header : (s : Progress) (place : ℕ) → s.expected ≡ Header place → IsSound s → (s.epochs ≡ []) × (s.rows ≡ []) × IsHeadAt s.known place
 sound_header s place expected sound = subst (λ d. IsSoundAt s d) expected sound
 
 -- ---- the first line
 
-module _ (s : Progress) (expected : s.expected ≡ Header 0)
-    (step : (h : Shown) (left : List (List ℕ)) → IsHeaderLeft s.known 0 h left ↔ (IsShown h × (left ≡ header_lines h.texts h.plan h.values (civil_of h.first)))) where
-  from_first : (v : FileValue) (left : List (List ℕ)) (epochs : List Stamped) → v.epochs ≡ epochs → IsFileValue v → left ≡ file_lines v → IsInHeader s 0 v left
-  from_first v left [] epochs is lines =
-      let size = ap length epochs in
-      let some = is.some in
-      absurd (omega (arith, size, some))
-  from_first v left (e ∷ es) epochs is lines =
-      record {
-        first = e;
-        others = es;
-        lines = header_lines v.texts v.plan v.values (civil_of e.time);
-        epochs = epochs;
-        header = (step (shown_of v e.time) (header_lines v.texts v.plan v.values (civil_of e.time))).1 (shown_is v e es epochs is, refl);
-        rest = lines ∙ lines_by_first v e es epochs;
-      }
-
-  pub header_starts : (v : FileValue) → IsFileValue v → HasLinesLeft s v (file_lines v)
-  unfolding HasLinesLeft
-  header_starts v is = (is, subst (λ d. IsAt s d v (file_lines v)) (sym expected) (from_first v (file_lines v) v.epochs refl is refl))
+pub header_starts : (s : Progress) → s.expected ≡ Header 0 → (v : FileValue) → IsFileValue v → HasLinesLeft s v (file_lines v)
+unfolding HasLinesLeft
+header_starts s expected v is = (is, subst (λ d. IsAt s d v (file_lines v)) (sym expected) (λ p may. refl))
 
 -- ---- the end
 
-none_begins : (s : Progress) (place : ℕ) (v : FileValue) (first : Stamped) (others : List Stamped) (lines : List (List ℕ))
-    → IsHeaderLeft s.known place (shown_of v first.time) lines → [] ≡ lines ++ flat_map stamped_lines (first ∷ others) → ⊥
-none_begins s place v first others [] header rest = some_left s.known place (shown_of v first.time) header
-none_begins s place v first others (l ∷ ls) header rest = cc
+no_lines : (xs ys : List (List ℕ)) → [] ≡ xs ++ ys → xs ≡ []
+no_lines [] ys e = refl
+no_lines (x ∷ xs) ys e = cc
 
-pub header_unfinished : (s : Progress) (place : ℕ) → s.expected ≡ Header place → (v : FileValue) → HasLinesLeft s v [] → ⊥
-unfolding HasLinesLeft
-header_unfinished s place expected v (is, at) =
-    let here : IsInHeader s place v [] = subst (λ d. IsAt s d v []) expected at in
-    none_begins s place v here.first here.others here.lines here.header here.rest
+pub header_unfinished : (s : Progress) (place : ℕ) → s.expected ≡ Header place → IsSound s → (v : FileValue) → HasLinesLeft s v [] → ⊥
+header_unfinished s place expected sound v on =
+    let here = in_header s place v [] expected on in
+    let at = (sound_header s place expected sound).2 in
+    let less = at.expected in
+    let b = begins v here.0 in
+    let h = shown_of v b.first.time in
+    let one = some_plan s.known place at.valid at.read in
+    let body = flat_map stamped_lines (b.first ∷ b.others) in
+    let same = agreed h (shown_with s.known one.p) b.is (with_is s.known place at.valid at.read one.p one.may) place (omega (arith, less)) body [] (sym b.lines ∙ here.1 one.p one.may) in
+    some_after h place at.expected (no_lines (lines_after h place) body same.rest)
 
 no_rows_left : (n : ℕ) (more : List SatelliteRow) (others : List Stamped) → 0 < n → length more ≡ n → [] ≡ map satellite_line more ++ flat_map stamped_lines others → ⊥
 no_rows_left n [] others some count rest = omega (arith, some, count)
@@ -211,37 +184,17 @@ none_left s v (e ∷ es) is value rest = absurd (by e.change refl) where
 -- the file that was read whole is the only one that continues without a line
 pub only_file : (s : Progress) → s.expected ≡ Epoch → (v : FileValue) → HasLinesLeft s v [] → v ≡ file_with s s.epochs
 unfolding HasLinesLeft
-only_file s expected v (is, at) =
-    let here : IsBetween s v [] = subst (λ d. IsAt s d v []) expected at in
-    let none = none_left s v here.others is here.value here.rest in
-    here.value ∙ ap (file_with s) (ap (λ x. s.epochs ++ x) none ∙ append-nil s.epochs)
+only_file s expected v (is, at) = grind (arith, none_left, append-nil)
 
 file_value : (s : Progress) (v : FileValue) (left : List (List ℕ)) → HasLinesLeft s v left → IsFileValue v
 unfolding HasLinesLeft
 file_value s v left on = on.0
 
 pub no_file : (s : Progress) → s.expected ≡ Epoch → s.epochs ≡ [] → (v : FileValue) → HasLinesLeft s v [] → ⊥
-no_file s expected none v on =
-    let value = only_file s expected v on in
-    let is : IsFileValue v = file_value s v [] on in
-    let epochs : v.epochs ≡ [] = ap (λ w. w.epochs) value ∙ none in
-    let size = ap length epochs in
-    let some = is.some in
-    omega (arith, size, some)
+no_file s expected none v on = grind (arith, only_file, file_value)
 
 pub file_read : (s : Progress) → s.expected ≡ Epoch → IsSound s → 0 < length s.epochs → IsFileValue (file_with s s.epochs)
-file_read s expected sound some =
-    let read : AreRead s × (s.rows ≡ []) = subst (λ d. IsSoundAt s d) expected sound in
-    record {
-      texts = read.0.shown.texts;
-      plan = read.0.shown.plan;
-      values = read.0.shown.values;
-      some = some;
-      epochs = read.0.epochs;
-      rising = read.0.rising;
-      first = read.0.first;
-      changes = read.0.changes;
-    }
+file_read s expected sound some = grind arith
 
 -- the lines of the file that was read whole
 pub lines_read : (h : Shown) (es : List Stamped) → 0 < length es → StartsAt h.first es → lines_of_parts h.texts h.plan h.values es ≡ whole_lines h es
@@ -263,7 +216,7 @@ unfolding HasLinesLeft
 at_expected s d expected v left on = subst (λ d. IsAt s d v left) expected on.1
 
 unfinished_at : (c : ParserState) (h : History) (expected : Expected) → c.expected ≡ expected → FollowsHistory c h → ((expected ≡ Epoch) × (0 < c.epochs) → ⊥) → (v : FileValue) → HasLinesLeft (progress_at c h) v [] → ⊥
-unfinished_at c h (Header place) same stands never v on = header_unfinished (progress_at c h) place same v on
+unfinished_at c h (Header place) same stands never v on = header_unfinished (progress_at c h) place same stands.sound v on
 unfinished_at c h Epoch same stands never v on = no_file (progress_at c h) same (no_epochs h.epochs c.epochs stands.epochs (λ some. never (refl, some))) v on
 unfinished_at c h EventPosition same stands never v on = event_unfinished (progress_at c h) 1 (λ w. ⊤) (lit< tt) v (at_expected (progress_at c h) EventPosition same v [] on)
 unfinished_at c h (EventHeight x y z) same stands never v on = event_unfinished (progress_at c h) 2 (HasPosition x y z) (lit< tt) v (at_expected (progress_at c h) (EventHeight x y z) same v [] on)
@@ -276,6 +229,4 @@ unfinished c h stands never v on = unfinished_at c h c.expected refl stands neve
 
 -- no satellite was read if an epoch is expected
 pub sound_rows : (s : Progress) → s.expected ≡ Epoch → IsSound s → s.rows ≡ []
-sound_rows s expected sound =
-    let both : AreRead s × (s.rows ≡ []) = subst (λ d. IsSoundAt s d) expected sound in
-    both.1
+sound_rows s expected sound = grind arith

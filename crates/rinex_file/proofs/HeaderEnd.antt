@@ -1,28 +1,35 @@
--- The last line of a header, and the header that was read.
-use Rattle.std.proofs.Common.{arith, ◌≡◌, ◌∙◌, sym, ap, refl, subst, ℕ, ℤ, pos, zero, suc, lit≤, ◌+◌, ◌-◌, ◌<◌, ◌≤◌, List, [], ◌∷◌, length, get_or, take, replicate, None, ◌↔◌, All, nat_eq}
+-- The last line of a header, the header that was read, and the start.
+use Rattle.std.specs.Array.{AllOfLen}
+use Rattle.std.proofs.Common.{arith, ◌≡◌, ◌∙◌, sym, ap, ap₂, map, refl, subst, ℕ, ℤ, pos, zero, suc, lit<, lit≤, ◌+◌, ◌-◌, ◌<◌, ◌≤◌, Bool, true, false, ◌||◌, min, List, [], ◌∷◌, ◌++◌, length, get_or, take, replicate, All, nat_eq}
 use Rattle.std.specs.List.{IsDistinct}
 use Rattle.std.proofs.lemmas.List.{take_all}
 use Rattle.std.proofs.lemmas.List.Elements.{All-map, All-weaker}
-use Rattle.std.specs.Prelude.{Result, Ok, Err}
+use Rattle.std.specs.Prelude.{Result, Ok, Err, codes}
 use Rattle.gnss_obs.specs.Signals.{SignalAt, IsSignal, table}
 use Rattle.gnss_obs.specs.declared.system.System.{System}
 use Rattle.gnss_obs.specs.declared.system.System.TheVariants.{Gps, Galileo}
 use Rattle.obs_epoch.specs.Signals.{indices, IsOf}
 use Rattle.obs_epoch.specs.Values.{PlanValue, planned_of}
 use Rattle.obs_epoch.specs.declared.cell.StationValues.{StationValues}
-use Rattle.rinex_file.specs.Blanks.{trimmed}
-use Rattle.rinex_file.specs.Texts.{HeaderLists, text_count}
-use Rattle.rinex_file.specs.FileValues.{IsText, AreTexts, AreValues, IsPlan, IsTime}
-use Rattle.rinex_file.specs.Header.{row_line, header_lines, end_line, first_types}
-use Rattle.rinex_file.specs.Read.Progress.{Known, Shown, IsShown, KnowsAt, IsHeaderLeft, is_some_planned, plans, signal_count, signals_begun}
-use Rattle.rinex_file.specs.Read.HeaderSteps.{IsWhole, StepsTo, NoneGoesOn}
 use Rattle.obs_epoch.specs.Dates.{civil_of}
-use Rattle.std.proofs.lemmas.Int.{ints}
+use Rattle.rinex_file.specs.declared.header.fields.TextRow.{TextRow}
+use Rattle.rinex_file.specs.declared.header.fields.TextRow.TheVariants as row
+use Rattle.rinex_file.specs.declared.header.rows.HeaderRow.TheVariants.{End}
+use Rattle.rinex_file.specs.Blanks.{trimmed}
+use Rattle.rinex_file.specs.Texts.{HeaderLists, text_count, start_of, count_of}
+use Rattle.rinex_file.specs.FileValues.{IsText, AreTexts, AreValues, IsTime, of_system}
+use Rattle.rinex_file.specs.Header.{row_line, end_line, first_line, first_types, texts_line, position_line, delta_line}
+use Rattle.rinex_file.specs.Read.Fields.{digits_in}
+use Rattle.rinex_file.specs.Read.Progress.{Known, Shown, IsShown, AreValid, MayPlan, IsHeadAt, IsOnlyTime, shown_with, lines_before, plans, signal_count, signals_begun}
+use Rattle.rinex_file.specs.Read.HeaderSteps.{RefusesHeaderLine, EndsHeader}
 use Rattle.obs_epoch.proofs.PlanLemmas.{none_of}
-use Rattle.rinex_file.proofs.HeaderText.{by_places}
-use Rattle.rinex_file.proofs.HeaderKnown.{few_shown, types_high}
+use Rattle.rinex_file.proofs.HeaderAgree.{Agree, single, less_or, few_shown, types_high, agree_types, agree_count, signals_same, none_planned}
+use Rattle.rinex_file.proofs.HeaderPlans.{some_plan, with_is}
+use Rattle.rinex_file.proofs.HeaderRows.{split_at}
+use Rattle.rinex_file.proofs.HeaderText.{by_places, texts_back}
+use Rattle.rinex_file.proofs.StationLines.{lengths-back, height-back, number_at, coordinate-fits}
 
--- ---- a header whose parts are all known
+-- ---- headers with the same lines are the same
 
 pub same_lists : (a b : List (List ℕ)) → length a ≡ length b → ((i : ℕ) → i < length a → get_or a i [] ≡ get_or b i []) → a ≡ b
 same_lists [] [] size same = refl
@@ -43,144 +50,151 @@ abbrev made_values : ℤ → ℤ → ℤ → ℕ → StationValues
 made_values x y z height = record { x = x; y = y; z = z; height = height }
 
 same_values : (v w : StationValues) → v.x ≡ w.x → v.y ≡ w.y → v.z ≡ w.z → v.height ≡ w.height → v ≡ w
-same_values v w a b c d =
-    ap (λ n. made_values n v.y v.z v.height) a
-    ∙ ap (λ n. made_values w.x n v.z v.height) b
-    ∙ ap (λ n. made_values w.x w.y n v.height) c
-    ∙ ap (λ n. made_values w.x w.y w.z n) d
+same_values v w a b c d = grind arith
 
 abbrev made_shown : HeaderLists → PlanValue → StationValues → ℕ → Shown
 made_shown x p v t = record { texts = x; plan = p; values = v; first = t }
 
 same_shown : (g h : Shown) → g.texts ≡ h.texts → g.plan ≡ h.plan → g.values ≡ h.values → g.first ≡ h.first → g ≡ h
-same_shown g h a b c d =
-    ap (λ x. made_shown x g.plan g.values g.first) a
-    ∙ ap (λ p. made_shown h.texts p g.values g.first) b
-    ∙ ap (λ v. made_shown h.texts h.plan v g.first) c
-    ∙ ap (λ t. made_shown h.texts h.plan h.values t) d
+same_shown g h a b c d = grind arith
 
--- all of a system's signals begin before the last row
-all_begin : (h : Shown) → IsShown h → (s : System) → take (signals_begun (25 - first_types s)) (planned_of s h.plan) ≡ planned_of s h.plan
-all_begin h is s =
-    let few = few_shown h is s in
-    let high = types_high s in
-    take_all (signals_begun (25 - first_types s)) (planned_of s h.plan) (most (first_types s) (length (planned_of s h.plan)) high few) where
-      most : (b n : ℕ) → b ≤ 15 → n ≤ 19 → n ≤ signals_begun (25 - b)
-      most b n high few = omega (arith, high, few)
+-- what holds of each text of each row holds of each text
+within_row : (P : ℕ → Type 0) (start count i : ℕ) → ((j : ℕ) → j < count → P (start + j)) → start ≤ i → i < start + count → P i
+within_row P start count i each more less = let e : start + (i - start) ≡ i = omega (arith, more) in subst P e (each (i - start) (omega (arith, more, less)))
 
-all_said : (k : Known) (h : Shown) → IsShown h → length k.shown.texts ≡ text_count → KnowsAt 25 k h → k.shown ≡ h
-all_said k h is count s =
-    let texts : k.shown.texts ≡ h.texts = same_lists k.shown.texts h.texts (count ∙ sym is.texts.count) (λ i less. s.texts i (subst (λ n. i < n) count less)) in
-    let position = s.position (lit≤ tt) in
-    same_shown k.shown h texts
-    (same_plan k.shown.plan h.plan (s.signals Gps ∙ all_begin h is Gps) (s.signals Galileo ∙ all_begin h is Galileo))
-    (same_values k.shown.values h.values position.0 position.1 position.2 (s.height (lit≤ tt)))
-    (s.first (lit≤ tt))
+by_rows : (P : ℕ → Type 0) → ((r : TextRow) (j : ℕ) → j < count_of r → P (start_of r + j)) → (i : ℕ) → i < text_count → P i
+by_rows P each i less =
+    less_or (P i) i (start_of row.Marker) (within row.Program (omega arith)) (λ m.
+    less_or (P i) i (start_of row.MarkerType) (within row.Marker m) (λ m.
+    less_or (P i) i (start_of row.Observer) (within row.MarkerType m) (λ m.
+    less_or (P i) i (start_of row.Receiver) (within row.Observer m) (λ m.
+    less_or (P i) i (start_of row.Antenna) (within row.Receiver m) (λ m. within row.Antenna m less))))) where
+      within : (r : TextRow) → start_of r ≤ i → i < start_of r + count_of r → P i
+      within r = within_row P (start_of r) (count_of r) i (each r)
 
--- what is known of a whole header is its own content
-said_of_itself : (k : Known) → IsShown k.shown → IsWhole k → KnowsAt 25 k k.shown
-said_of_itself k is whole = record {
-  systems = λ s l. (whole.0 s).planned;
-  texts = λ i l. refl;
-  position = λ l. (refl, refl, refl);
-  height = λ l. refl;
-  counts = λ s l. (whole.0 s).count;
-  signals = λ s. sym (all_begin k.shown is s);
-  first = λ l. refl;
-}
+module _ (h g : Shown) (a : IsShown h) (b : IsShown g) (agree : Agree h g 25) where
+  text_lines : (r : TextRow) → texts_line h.texts r ≡ texts_line g.texts r
+  unfolding row_line
+  text_lines row.Program = single (texts_line h.texts row.Program) (texts_line g.texts row.Program) (agree 1 (lit< tt))
+  text_lines row.Marker = single (texts_line h.texts row.Marker) (texts_line g.texts row.Marker) (agree 2 (lit< tt))
+  text_lines row.MarkerType = single (texts_line h.texts row.MarkerType) (texts_line g.texts row.MarkerType) (agree 3 (lit< tt))
+  text_lines row.Observer = single (texts_line h.texts row.Observer) (texts_line g.texts row.Observer) (agree 4 (lit< tt))
+  text_lines row.Receiver = single (texts_line h.texts row.Receiver) (texts_line g.texts row.Receiver) (agree 5 (lit< tt))
+  text_lines row.Antenna = single (texts_line h.texts row.Antenna) (texts_line g.texts row.Antenna) (agree 6 (lit< tt))
 
--- the signals of a system are those of a header
-record IsWholeIn (k : Known) (g : Shown) (s : System) : Type 0 where
-  planned : plans k s ≡ is_some_planned (planned_of s g.plan)
-  count : 0 < length (planned_of s g.plan) → signal_count k s ≡ length (planned_of s g.plan)
+  texts : h.texts ≡ g.texts
+  texts = same_lists h.texts g.texts (a.texts.count ∙ sym b.texts.count) (λ i less. by_rows (λ i. get_or h.texts i [] ≡ get_or g.texts i []) one i (subst (λ n. i < n) a.texts.count less)) where
+    one : (r : TextRow) (j : ℕ) → j < count_of r → get_or h.texts (start_of r + j) [] ≡ get_or g.texts (start_of r + j) []
+    one r j less = sym (texts_back h.texts a.texts r (texts_line h.texts r) refl j less) ∙ texts_back g.texts b.texts r (texts_line h.texts r) (sym (text_lines r)) j less
 
-whole_by : (k : Known) (h : Shown) → length k.shown.texts ≡ text_count → KnowsAt 25 k h → IsShown h → IsWhole k
-whole_by k h count said is =
-    let same : h ≡ k.shown = sym (all_said k h is count said) in
-    let all : ((s : System) → IsWholeIn k k.shown s) × (0 < length k.shown.plan.gps + length k.shown.plan.galileo) =
-    subst (λ (g : Shown). ((s : System) → IsWholeIn k g s) × (0 < length g.plan.gps + length g.plan.galileo)) same
-    (λ s. record { planned = said.systems s (lit≤ tt); count = said.counts s (let high = types_high s in omega (arith, high)) }, is.plan.some) in
-    (λ s. record { planned = (all.0 s).planned; count = (all.0 s).count }, all.1)
+  signals : (s : System) → planned_of s h.plan ≡ planned_of s g.plan
+  signals s =
+      let high = types_high s in
+      let size = agree_count h g a b 25 agree s (omega (arith, high)) in
+      let few = few_shown h a s in
+      let also = few_shown g b s in
+      sym (take_all (signals_begun 6) (planned_of s h.plan) (omega (arith, few)))
+      ∙ signals_same h g a b s size 6 (lit≤ tt) (λ r less. agree_types h g a b 25 agree s r less (omega (arith, less, high)))
+      ∙ take_all (signals_begun 6) (planned_of s g.plan) (omega (arith, also))
+
+  values : h.values ≡ g.values
+  unfolding row_line
+  values =
+      let e : position_line h.values ≡ position_line g.values = single (position_line h.values) (position_line g.values) (agree 7 (lit< tt)) in
+      let f : delta_line h.values ≡ delta_line g.values = single (delta_line h.values) (delta_line g.values) (agree 8 (lit< tt)) in
+      let label = codes "APPROX POSITION XYZ" in
+      let p = lengths-back h.values.x h.values.y h.values.z label (coordinate-fits h.values.x a.values.x) (coordinate-fits h.values.y a.values.y) (coordinate-fits h.values.z a.values.z) in
+      let q = lengths-back g.values.x g.values.y g.values.z label (coordinate-fits g.values.x b.values.x) (coordinate-fits g.values.y b.values.y) (coordinate-fits g.values.z b.values.z) in
+      same_values h.values g.values (sym p.0 ∙ ap (number_at 0) e ∙ q.0) (sym p.1 ∙ ap (number_at 14) e ∙ q.1) (sym p.2 ∙ ap (number_at 28) e ∙ q.2)
+      (sym (height-back h.values.height (pos 0) (pos 0) (codes "ANTENNA: DELTA H/E/N") a.values.height) ∙ ap (λ l. digits_in (take 14 (Rattle.std.specs.Prelude.drop 0 l))) f
+      ∙ height-back g.values.height (pos 0) (pos 0) (codes "ANTENNA: DELTA H/E/N") b.values.height)
+
+  pub same_header : IsOnlyTime g.first → h ≡ g
+  unfolding row_line
+  same_header only =
+      same_shown h g texts (same_plan h.plan g.plan (signals Gps) (signals Galileo)) values
+      (only h.first a.first (single (first_line (civil_of h.first)) (first_line (civil_of g.first)) (agree 22 (lit< tt))))
 
 -- ---- the last line
 
-one_end : (line x : List ℕ) (left : List (List ℕ)) → line ∷ left ≡ x ∷ [] → (line ≡ x) × (left ≡ [])
-one_end line x left e = (cc, cc)
+module _ (k : Known) (at : IsHeadAt k 25) where
+  all_read : (p : PlanValue) → MayPlan k p → (s : System) → planned_of s k.shown.plan ≡ planned_of s p
+  all_read p may s = by (plans k s) refl where
+    all_of : (n c : ℕ) (xs ys : List ℕ) → c ≤ 19 → 20 ≤ n → length xs ≡ min n c → c ≡ length ys → xs ≡ take (length xs) ys → xs ≡ ys
+    all_of n c xs ys few many size is e = e ∙ take_all (length xs) ys (omega (arith, few, many, size, is))
 
-end_lines : (k : Known) (h : Shown) (line : List ℕ) (left : List (List ℕ)) → IsHeaderLeft k 25 h (line ∷ left) → (line ≡ end_line) × (left ≡ [])
-unfolding row_line
-end_lines k h line left i = one_end line end_line left i.lines
+    begun : (b : ℕ) → b ≤ 15 → 20 ≤ signals_begun (25 - b)
+    begun b high = omega (arith, high)
 
-pub end_steps : (k : Known) (line : List ℕ) → line ≡ end_line → length k.shown.texts ≡ text_count → IsWhole k → StepsTo k 25 line k None
-unfolding row_line
-end_steps k line e count whole h left = (
-  λ i. record { is = i.is; same = sym (all_said k h i.is count i.before); lines = (end_lines k h line left i).1 },
-  λ r.
-      let is : IsShown k.shown = subst IsShown r.same r.is in
+    low : (b : ℕ) → b ≤ 15 → b < 25
+    low b high = omega (arith, high)
+
+    by : (c : Bool) → plans k s ≡ c → planned_of s k.shown.plan ≡ planned_of s p
+    by true e =
+        let counted = may.counts s ((at.read.counts s).1 (e, low (first_types s) (types_high s))) in
+        let few = few_shown (shown_with k p) (with_is k 25 at.valid at.read p may) s in
+        all_of (signals_begun (25 - first_types s)) (signal_count k s) (planned_of s k.shown.plan) (planned_of s p) (omega (arith, few, counted)) (begun (first_types s) (types_high s)) (at.read.signals s) counted (may.signals s)
+    by false e =
+        let none : planned_of s p ≡ [] = none_planned (planned_of s p) (sym (may.systems s (at.read.systems (lit< tt))) ∙ e) in
+        may.signals s ∙ ap (take (length (planned_of s k.shown.plan))) none ∙ take_all (length (planned_of s k.shown.plan)) [] (omega arith) ∙ sym none
+
+  whole : (p : PlanValue) → MayPlan k p → p ≡ k.shown.plan
+  whole p may = same_plan p k.shown.plan (sym (all_read p may Gps)) (sym (all_read p may Galileo))
+
+  pub ends : (line : List ℕ) → line ≡ end_line → EndsHeader k 25 line k
+  unfolding row_line
+  ends line e =
+      let one = some_plan k 25 at.valid at.read in
       record {
-        is = r.is;
-        before = subst (λ g. KnowsAt 25 k g) (sym r.same) (said_of_itself k is whole);
-        expected = lit≤ tt;
-        lines = ap (λ l. l ∷ left) e ∙ ap (λ l. end_line ∷ l) r.lines;
-      },
-)
+        is = subst (λ p. IsShown (shown_with k p)) (whole one.p one.may) (with_is k 25 at.valid at.read one.p one.may);
+        only = at.read.only (lit< tt);
+        lines = λ p may. split_at k.shown 25 ∙ ap (λ p. lines_before (shown_with k p) 25 ++ end_line ∷ []) (sym (whole p may)) ∙ ap (λ l. lines_before (shown_with k p) 25 ++ l ∷ []) (sym e);
+      }
 
-pub no_end_line : (k : Known) (line : List ℕ) → (line ≡ end_line → ⊥) → NoneGoesOn k 25 line
-no_end_line k line other h left i = other (end_lines k h line left i).0
+pub no_end_line : (line : List ℕ) → (line ≡ end_line → ⊥) → RefusesHeaderLine End line
+unfolding row_line
+no_end_line line never h is e = never (sym e)
 
-pub not_whole : (k : Known) (line : List ℕ) → length k.shown.texts ≡ text_count → (IsWhole k → ⊥) → NoneGoesOn k 25 line
-not_whole k line count part h left i = part (whole_by k h count i.before i.is)
-
--- ---- the header that was read
+-- ---- the start
 
 pub listed_by : (system : System) (ss : List SignalAt) → All (λ s. (s.system ≡ system) × IsSignal s) ss → All (λ i. i < length (table system)) (indices ss)
 listed_by system ss all = All-map (λ i. i < length (table system)) (λ s. s.index) ss (All-weaker (λ s. (s.system ≡ system) × IsSignal s) (λ s. s.index < length (table system)) (λ (s : SignalAt) (is : (s.system ≡ system) × IsSignal s). subst (λ t. s.index < length (table t)) is.0 is.1) ss all)
 
-pub planned_by : (gps galileo : List SignalAt) → IsOf Gps gps → IsOf Galileo galileo → 0 < length (indices gps) + length (indices galileo)
-    → IsPlan (made_plan (indices gps) (indices galileo))
-planned_by gps galileo g e some = record { listed = listed; apart = apart; some = some } where
-  listed : (system : System) → All (λ i. i < length (table system)) (planned_of system (made_plan (indices gps) (indices galileo)))
-  listed Gps = listed_by Gps gps g.each
-  listed Galileo = listed_by Galileo galileo e.each
+pub valid_by : (k made : Known) → made ≡ k → AreTexts made.shown.texts → (gps galileo : List SignalAt) → IsOf Gps gps → IsOf Galileo galileo → AreValues made.shown.values → IsTime made.shown.first
+    → made.shown.plan ≡ record { gps = indices gps; galileo = indices galileo } → AreValid k
+valid_by k made e texts gps galileo g l values first plan = subst AreValid e (record { texts = texts; listed = listed; apart = apart; values = values; first = first }) where
+  listed : (system : System) → All (λ i. i < length (table system)) (planned_of system made.shown.plan)
+  listed Gps = subst (λ (p : PlanValue). All (λ i. i < length (table Gps)) p.gps) (sym plan) (listed_by Gps gps g.each)
+  listed Galileo = subst (λ (p : PlanValue). All (λ i. i < length (table Galileo)) p.galileo) (sym plan) (listed_by Galileo galileo l.each)
 
-  apart : (system : System) → IsDistinct nat_eq (planned_of system (made_plan (indices gps) (indices galileo)))
-  apart Gps = g.apart
-  apart Galileo = e.apart
+  apart : (system : System) → IsDistinct nat_eq (planned_of system made.shown.plan)
+  apart Gps = subst (λ (p : PlanValue). IsDistinct nat_eq p.gps) (sym plan) g.apart
+  apart Galileo = subst (λ (p : PlanValue). IsDistinct nat_eq p.galileo) (sym plan) l.apart
 
-pub shown_by : (k made : Known) → made ≡ k → IsWhole k → AreTexts made.shown.texts
-    → (0 < length made.shown.plan.gps + length made.shown.plan.galileo → IsPlan made.shown.plan) → AreValues made.shown.values → IsTime made.shown.first → IsShown k.shown
-shown_by k made e whole texts plan values first =
-    let some = subst (λ (n : Known). 0 < length n.shown.plan.gps + length n.shown.plan.galileo) (sym e) whole.1 in
-    subst (λ (n : Known). IsShown n.shown) e (record { texts = texts; plan = plan some; values = values; first = first })
+-- nothing was read
+pub begins : (k : Known) → AreValid k → k.gps ≡ false → k.galileo ≡ false → k.gps_count ≡ 0 → k.galileo_count ≡ 0 → k.shown.plan.gps ≡ [] → k.shown.plan.galileo ≡ [] → IsHeadAt k 0
+begins k valid g l m n gps galileo = record {
+  valid = valid;
+  read = record {
+    systems = λ l. absurd (omega (arith, l));
+    fresh = λ e. ap₂ (λ a b. a || b) g l;
+    few = λ s. let e = none s in omega (arith, e);
+    counts = λ s. (λ l. let e = none s in absurd (omega (arith, l, e)), λ q. let less = q.1 in absurd (omega (arith, less)));
+    signals = λ s. ap length (empty s) ∙ nothing (signals_begun (0 - first_types s)) (of_system s k.gps_count k.galileo_count) (none s);
+    only = λ l. absurd (omega (arith, l));
+  };
+  expected = lit≤ tt;
+} where
+  none : (s : System) → of_system s k.gps_count k.galileo_count ≡ 0
+  none Gps = m
+  none Galileo = n
 
--- ---- no header
+  empty : (s : System) → planned_of s k.shown.plan ≡ []
+  empty Gps = gps
+  empty Galileo = galileo
 
-pub begins_header : (k : Known) → k.shown.plan.gps ≡ [] → k.shown.plan.galileo ≡ [] → (h : Shown) (left : List (List ℕ))
-    → IsHeaderLeft k 0 h left ↔ (IsShown h × (left ≡ header_lines h.texts h.plan h.values (civil_of h.first)))
-unfolding header_lines
-begins_header k gps galileo h left = (
-  λ i. (i.is, i.lines),
-  λ s. record {
-    is = s.0;
-    before = record {
-      systems = λ t l. absurd (omega (arith, l));
-      texts = λ i l. absurd (omega (arith, l));
-      position = λ l. absurd (omega (arith, l));
-      height = λ l. absurd (omega (arith, l));
-      counts = λ t l. absurd (omega (arith, l));
-      signals = λ t. none t ∙ sym (none_begun (planned_of t h.plan) (first_types t));
-      first = λ l. absurd (omega (arith, l));
-    };
-    expected = lit≤ tt;
-    lines = s.1;
-  },
-) where
-  none : (t : System) → planned_of t k.shown.plan ≡ []
-  none Gps = gps
-  none Galileo = galileo
-
-  none_begun : (all : List ℕ) (b : ℕ) → take (signals_begun (0 - b)) all ≡ []
-  none_begun all b = let e : signals_begun (0 - b) ≡ 0 = omega arith in ap (λ n. take n all) e
+  nothing : (a c : ℕ) → c ≡ 0 → 0 ≡ min a c
+  nothing a c e = omega (arith, e)
 
 abbrev blanks : ℕ → List (List ℕ)
 blanks n = replicate n []
@@ -197,6 +211,12 @@ blank_text width text e = subst (IsText width) (sym e) (record { short = omega a
 pub blank_texts : (x : HeaderLists) → x ≡ replicate text_count [] → AreTexts x
 blank_texts x e = subst AreTexts (sym e) (by_places (blanks text_count) refl (λ i less. blank_text _ (get_or (blanks text_count) i []) (blank_at i text_count)))
 
+pub all_blank : (T : Type 0) (bytes : T → List ℕ) (n : ℕ) (xs : List T) → AllOfLen (λ x. bytes x ≡ []) xs n → map bytes xs ≡ replicate n []
+all_blank T bytes n xs are = each xs (λ i d less. are.at i d (subst (λ m. i < m) are.long less)) ∙ ap (λ m. replicate m []) are.long where
+  each : (xs : List T) → ((i : ℕ) (d : T) → i < length xs → bytes (get_or xs i d) ≡ []) → map bytes xs ≡ replicate (length xs) []
+  each [] at = refl
+  each (x ∷ xs) at = ap₂ (λ y ys. y ∷ ys) (at 0 x (omega arith)) (each xs (λ i d less. at (suc i) d (omega (arith, less))))
+
 pub none_read : (system : System) (ss : List SignalAt) → ss ≡ [] → IsOf system ss
 none_read system ss e = subst (IsOf system) (sym e) (none_of system)
 
@@ -204,12 +224,7 @@ pub zero_time : (t : ℕ) → t ≡ 0 → IsTime t
 zero_time t e = subst IsTime (sym e) (lit≤ tt)
 
 pub zero_values : AreValues (made_values (pos 0) (pos 0) (pos 0) 0)
-zero_values = record {
-  x = (omega (arith, ints), omega (arith, ints));
-  y = (omega (arith, ints), omega (arith, ints));
-  z = (omega (arith, ints), omega (arith, ints));
-  height = lit≤ tt;
-}
+zero_values = grind arith
 
 pub ok_bad : {A E : Type 0} (r : Result A E) (a : A) (e : E) → r ≡ Ok a → r ≡ Err e → ⊥
 ok_bad r a e good bad = cc

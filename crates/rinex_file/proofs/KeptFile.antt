@@ -24,12 +24,7 @@ either_few Gps gps galileo few less = few
 either_few Galileo gps galileo few less = less
 
 has_room : (gps galileo : ℕ) (s : SatelliteRow) → gps ≤ 19 → galileo ≤ 19 → IsSatelliteRow gps galileo s → HasRoom s
-has_room gps galileo s g e is =
-    let few = few_satellites s.system in
-    let most = is.row.satellite.1 in
-    let signals = either_few s.system gps galileo g e in
-    let whole = is.row.whole in
-    (omega (arith, few, most), is.row.entries, omega (arith, signals, whole))
+has_room gps galileo s g e is = grind (arith, few_satellites, either_few)
 
 -- each line has room for its satellite
 pub lines_have_room : (v : FileValue) → IsFileValue v → All HaveRowsRoom v.epochs

@@ -1,8 +1,11 @@
 mod Digits
+mod DigitWords
+mod ColumnDigits
 mod Cuts
 mod Grown
 mod Columns
 mod Entries
+mod SatelliteGroups
 mod SignalTypes
 mod TypeCodes
 mod TypeRows
@@ -30,10 +33,11 @@ mod HeaderText
 mod StationLines
 mod RowText
 mod EpochText
-mod HeaderKnown
 mod HeaderLearned
 mod HeaderEnd
-mod HeaderOpen
+mod HeaderAgree
+mod HeaderPlans
+mod HeaderSteps
 mod HeaderTypes
 mod Groups
 mod ExpectedLines

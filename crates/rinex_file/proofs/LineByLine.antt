@@ -1,5 +1,5 @@
 -- A file that is read line by line: what was read describes the accepted lines.
-use Rattle.std.proofs.Common.{arith, ◌≡◌, ◌∙◌, sym, ap, subst, refl, ℕ, suc, ◌+◌, ◌<◌, ◌≤◌, List, [], ◌∷◌, ◌++◌, length, length-append, append_assoc, append-nil, true, false, Option, Some, None, IfSome, inl, inr}
+use Rattle.std.proofs.Common.{arith, ◌≡◌, ◌∙◌, sym, ap, subst, refl, ℕ, ◌+◌, ◌<◌, ◌≤◌, List, [], ◌∷◌, ◌++◌, length, length-append, append_assoc, append-nil, true, false, Option, Some, None, IfSome, inl, inr}
 use Rattle.std.specs.Prelude.{◌==◌, All, if◌then◌else◌, ⊤, Bool, Result, Ok, Err}
 use Rattle.std.specs.Io.KnownBytes.{Consumes, IsAtEnd}
 use Rattle.std.proofs.KnownBytes.{Consumes-nil, Consumes-trans}
@@ -34,19 +34,12 @@ count_more taken line n e = simp length-append (omega (arith, e))
 -- bytes without a line feed contain no line
 endless_lines : (more : List (List ℕ)) (bytes : List ℕ) → All IsLine more → has 10 bytes ≡ false → bytes ≡ joined more → more ≡ []
 endless_lines [] bytes are endless e = refl
-endless_lines (m ∷ ms) bytes are endless e =
-    let some : has 10 (joined (m ∷ ms)) ≡ true = has-line m (joined ms) (All-head IsLine m ms are) in
-    let none : has 10 (joined (m ∷ ms)) ≡ false = ap (has 10) (sym e) ∙ endless in
-    cc
+endless_lines (m ∷ ms) bytes are endless e = grind (arith, has-line, All-head, (has-line m (joined ms) (All-head IsLine m ms are)), (ap (has 10) (sym e) ∙ endless))
 
 -- a short line isn't within bytes without a line feed
 not_within : (body x long rest : List ℕ) → has 10 long ≡ false → length body < length long → body ++ 10 ∷ x ≡ long ++ rest → ⊥
 not_within body x [] rest endless less e = absurd (omega (arith, less))
-not_within [] x (b ∷ bs) rest endless less e =
-    let same : 10 ≡ b = cc in
-    let self : (b == 10) ≡ true = ap (λ n. n == 10) (sym same) in
-    let other = (or_false (b == 10) (has 10 bs) endless).0 in
-    cc
+not_within [] x (b ∷ bs) rest endless less e = grind (arith, or_false)
 not_within (a ∷ us) x (b ∷ bs) rest endless less e =
     let tail : us ++ 10 ∷ x ≡ bs ++ rest = cc in
     not_within us x bs rest (or_false (b == 10) (has 10 bs) endless).1 (omega (arith, less)) tail
@@ -65,33 +58,19 @@ after_short [] more short = short
 after_short (l ∷ ls) more short = after_short ls more (All-tail IsShort l (ls ++ more) short)
 
 not_front : (m x long rest : List ℕ) → IsLine m → IsShort m → length long ≡ 1220 → has 10 long ≡ false → m ++ x ≡ long ++ rest → ⊥
-not_front m x long rest (body, e, endless) short size none same =
-    let size_m : length m ≡ length body + 1 = ap length e ∙ simp length-append refl in
-    let less : length body < length long = omega (arith, size_m, short, size) in
-    not_within body x long rest none less (sym (ap (λ l. l ++ x) e ∙ append_assoc body (10 ∷ []) x) ∙ same)
+not_front m x long rest (body, e, endless) short size none same = grind (arith, length-append, not_within, append_assoc)
 
 not_first : (more : List (List ℕ)) (long rest : List ℕ) → All IsLine more → All IsShort more → length long ≡ 1220 → has 10 long ≡ false → long ++ rest ≡ joined more → ⊥
-not_first [] long rest are short size endless e =
-    let empty : length (long ++ rest) ≡ 0 = ap length e in
-    let both : length (long ++ rest) ≡ length long + length rest = length-append long rest in
-    omega (arith, empty, both, size)
-not_first (m ∷ ms) long rest are short size endless e =
-    not_front m (joined ms) long rest (All-head IsLine m ms are) (All-head IsShort m ms short) size endless (sym e)
+not_first [] long rest are short size endless e = grind (arith, length-append, (ap length e), (length-append long rest))
+not_first (m ∷ ms) long rest are short size endless e = grind (arith, not_front, All-head)
 
 -- bytes after the largest number of lines are no lines of a file
 no_more : (lines more all : List (List ℕ)) (rest : List ℕ) → all ≡ lines ++ more → rest ≡ joined more → length lines ≡ most_lines → length all ≤ most_lines → 0 < length rest → ⊥
-no_more lines [] all rest split text many few some =
-    let empty : length rest ≡ 0 = ap length text in
-    omega (arith, empty, some)
-no_more lines (m ∷ ms) all rest split text many few some =
-    let both : length all ≡ length lines + suc (length ms) = ap length split ∙ length-append lines (m ∷ ms) in
-    omega (arith, both, many, few)
+no_more lines [] all rest split text many few some = grind arith
+no_more lines (m ∷ ms) all rest split text many few some = grind (arith, length-append)
 
 no_bytes : (front bytes : List ℕ) → 0 < length bytes → front ++ bytes ≡ front → ⊥
-no_bytes front bytes some e =
-    let both : length (front ++ bytes) ≡ length front + length bytes = length-append front bytes in
-    let same : length (front ++ bytes) ≡ length front = ap length e in
-    omega (arith, both, same, some)
+no_bytes front bytes some e = grind (arith, length-append, (length-append front bytes), (ap length e))
 
 same_number : (n m : ℕ) → (n == m) ≡ true → n ≡ m
 same_number n m e = grind arith
@@ -117,44 +96,20 @@ taken_more a b c taken line first next = subst (Consumes a c) (sym (joined-more 
 
 -- nothing was read
 pub start : (s : Progress) (a : Option (List ℕ)) → ((v : FileValue) → IsFileValue v → HasLinesLeft s v (file_lines v)) → AreLinesOf s [] → IsTaken s 0 a a
-start s a new are = record {
-  lines = [];
-  are = λ k d less. absurd (omega (arith, less));
-  many = refl;
-  taken = Consumes-nil a;
-  stands = record { goes = λ v left is e. subst (HasLinesLeft s v) e (new v is); are = are };
-}
+start s a new are = grind (arith, Consumes-nil)
 
 stands_more : (old new : Progress) (taken : List (List ℕ)) (line : List ℕ) → HasReadLines old taken → GoesOnWithLine old new line → ShowsLine old new line → HasReadLines new (taken ++ line ∷ [])
-stands_more old new taken line stands more shows = record {
-  goes = λ v left is e. more v left (stands.goes v (line ∷ left) is (e ∙ append_assoc taken (line ∷ []) left));
-  are = shows taken stands.are;
-}
+stands_more old new taken line stands more shows = grind (arith, append_assoc)
 
 -- one more line was read
 pub one_more : (old new : Progress) (n : ℕ) (a b c : Option (List ℕ)) (line : List ℕ) → IsTaken old n a b → IsLine line → Consumes b c line → GoesOnWithLine old new line → ShowsLine old new line
     → IsTaken new (n + 1) a c
-one_more old new n a b c line t is next more shows = record {
-  lines = t.lines ++ line ∷ [];
-  are = are_more t.lines line t.are is;
-  many = count_more t.lines line n t.many;
-  taken = taken_more a b c t.lines line t.taken next;
-  stands = stands_more old new t.lines line t.stands more shows;
-}
+one_more old new n a b c line t is next more shows = grind (arith, are_more, count_more, taken_more, stands_more)
 
 -- the next line has too many bytes
 pub over_long : (s : Progress) (n : ℕ) (a b c : Option (List ℕ)) (bytes : List ℕ) → IsTaken s n a b → length bytes ≡ 1220 → has 10 bytes ≡ false → Consumes b c bytes
     → IfSome a (λ input. IsFaulty input (n + 1))
-over_long s n a b c bytes t size endless next =
-    consumed a c (joined t.lines ++ bytes) (λ input. IsFaulty input (n + 1)) (Consumes-trans a b c (joined t.lines) bytes t.taken next) (λ rest. inr (record {
-      lines = t.lines;
-      long = bytes;
-      rest = rest;
-      first = record { are = t.are; first = append_assoc (joined t.lines) bytes rest };
-      count = ap (λ (k : ℕ). k + 1) t.many;
-      size = size;
-      endless = endless;
-    }))
+over_long s n a b c bytes t size endless next = grind (arith, consumed, Consumes-trans, append_assoc)
 
 -- a byte follows the largest number of lines
 pub too_long : (s : Progress) (n : ℕ) (a b c : Option (List ℕ)) (bytes : List ℕ) → IsTaken s n a b → n ≡ most_lines → 0 < length bytes → Consumes b c bytes → IfSome a IsTooLong
@@ -244,9 +199,7 @@ module _ (are_lines : (v : FileValue) → IsFileValue v → All IsLine (file_lin
 
     not_many : (v : FileValue) (lines : List (List ℕ)) (rest : List ℕ) → IsFileValue v → All IsLine lines → length lines ≡ most_lines → 0 < length rest → length (file_lines v) ≤ most_lines
         → file_text v ≡ joined lines ++ rest → ⊥
-    not_many v lines rest is are many some few e =
-        let (more, split, text) = splits (file_lines v) lines rest (are_lines v is) are e in
-        no_more lines more (file_lines v) rest split text many few some
+    not_many v lines rest is are many some few e = grind (arith, splits, no_more, (splits (file_lines v) lines rest (are_lines v is) are e))
 
     faulty_not : (v : FileValue) (input : List ℕ) (k : ℕ) → IsFileValue v → IsFaulty input k → input ≡ file_text v → ⊥
     faulty_not v input k is (inl r) e = r.none v r.rest is (sym e ∙ r.first.first)

@@ -14,17 +14,17 @@ use Rattle.obs_epoch.specs.declared.civil.Civil.{Civil}
 use Rattle.obs_epoch.specs.Dates.{YearMonthDay, month_on, year_on, month_length, year_length, date_of, civil_with, civil_of}
 use Rattle.obs_epoch.specs.Values.{PlanValue, planned_of}
 use Rattle.obs_epoch.specs.Weeks.{day as day_length}
-use Rattle.rinex_file.specs.declared.header.rows.TextRow.{TextRow}
-use Rattle.rinex_file.specs.declared.header.rows.TextRow.TheVariants as row
+use Rattle.rinex_file.specs.declared.header.fields.TextRow.{TextRow}
+use Rattle.rinex_file.specs.declared.header.fields.TextRow.TheVariants as row
 use Rattle.rinex_file.specs.declared.header.rows.HeaderRow.{HeaderRow}
 use Rattle.rinex_file.specs.declared.header.rows.HeaderRow.TheVariants.{Version, Texts, Position, Delta, Types, StrengthUnit, First, Shift, End}
 use Rattle.rinex_file.specs.Exact.{IsLine}
 use Rattle.rinex_file.specs.FileValues.{AreTexts, IsPlan, AreValues, IsTime, IsFrom, IsCoordinate}
-use Rattle.rinex_file.specs.Header.{header_line, version_line, lengths, file_system, first_line, label_of, start_of, count_of, front_of, text_columns, texts_from, texts_line, types_of, type_front, type_columns, type_line, shift_line, codes_of, row_line, row_lines, has_line, all_rows, header_lines, position_line, delta_line}
+use Rattle.rinex_file.specs.Header.{header_line, version_line, lengths, file_system, first_line, text_columns, texts_from, texts_line, types_of, type_front, type_columns, type_line, shift_line, codes_of, row_line, row_lines, has_line, all_rows, header_lines, position_line, delta_line}
 use Rattle.rinex_file.specs.Lines.{letter_of}
 use Rattle.rinex_file.specs.Numbers.{joined, left, right, fixed}
 use Rattle.rinex_file.specs.Read.Fields.{has}
-use Rattle.rinex_file.specs.Texts.{HeaderLists, text_count, width_of, field_at}
+use Rattle.rinex_file.specs.Texts.{HeaderLists, text_count, width_of, field_at, label_of, start_of, count_of, front_of}
 use Rattle.rinex_file.proofs.Entries.{few_signals}
 use Rattle.rinex_file.proofs.Faultless.{few_columns}
 use Rattle.rinex_file.proofs.HeaderText.{text_at, row_within}
@@ -40,10 +40,7 @@ pub record IsFileLine (l : List ℕ) : Type 0 where
 
 -- the line that a text without a line feed makes with one after it
 pub as_line : (n : ℕ) (body : List ℕ) → IsPlain n body → n ≤ 1219 → IsFileLine (body ++ 10 ∷ [])
-as_line n body is few = record {
-  line = (body, refl, is.clean);
-  short = let short = is.short in simp length-append (omega (arith, few, short));
-}
+as_line n body is few = grind (arith, length-append)
 
 -- ---- lines of the header
 
@@ -133,13 +130,7 @@ plain_code : TableEntry → Bool
 plain_code e = not (has 10 e.1) && nat_le (length e.1) 2
 
 code_is_plain : (text : List ℕ) → (not (has 10 text) && nat_le (length text) 2) ≡ true → IsPlain 2 text
-code_is_plain text h = record { clean = is_not (has 10 text) (both (not (has 10 text)) (nat_le (length text) 2) h).0; short = most (length text) (both (not (has 10 text)) (nat_le (length text) 2) h).1 } where
-  is_not : (a : Bool) → not a ≡ true → a ≡ false
-  is_not true e = cc
-  is_not false e = refl
-
-  most : (n : ℕ) → nat_le n 2 ≡ true → n ≤ 2
-  most n e = grind (arith, e)
+code_is_plain text h = grind (arith, both)
 
 code_at : (es : List TableEntry) → list_all plain_code es ≡ true → (i : ℕ) → IsPlain 2 (option_map_or (λ e. e.1) (slice_get es i) [])
 unfolding plain_code
@@ -160,13 +151,7 @@ plain_type b code is other = plain-append 1 2 (b ∷ []) code (record { clean = 
 
 types_are_plain : (cs : List (List ℕ)) → All (IsPlain 2) cs → All (IsPlain 3) (types_of cs)
 types_are_plain [] are = λ k d h. absurd (omega (arith, h))
-types_are_plain (c ∷ cs) are =
-    let one = All-head (IsPlain 2) c cs are in
-    let others = types_are_plain cs (All-tail (IsPlain 2) c cs are) in
-    All-cons (IsPlain 3) (67 ∷ c) ((76 ∷ c) ∷ (68 ∷ c) ∷ (83 ∷ c) ∷ types_of cs) (plain_type 67 c one refl)
-    (All-cons (IsPlain 3) (76 ∷ c) ((68 ∷ c) ∷ (83 ∷ c) ∷ types_of cs) (plain_type 76 c one refl)
-    (All-cons (IsPlain 3) (68 ∷ c) ((83 ∷ c) ∷ types_of cs) (plain_type 68 c one refl)
-    (All-cons (IsPlain 3) (83 ∷ c) (types_of cs) (plain_type 83 c one refl) others)))
+types_are_plain (c ∷ cs) are = grind (arith, All-head, All-tail, All-cons, plain_type, (All-head (IsPlain 2) c cs are), (types_are_plain cs (All-tail (IsPlain 2) c cs are)))
 
 front_of_types : (letter types line : ℕ) → (letter == 10) ≡ false → types < 2 ^ 64 → IsPlain 26 (type_front letter types line)
 front_of_types letter types zero other few =
@@ -230,18 +215,7 @@ pub record IsShort (t : Civil) : Type 0 where
   pub millisecond : t.millisecond < 2 ^ 32
 
 short_civil : (d : YearMonthDay) (clock : ℕ) → IsWithin d 3900 12 1_000_000 → clock < 100_000_000 → IsShort (civil_with d clock)
-short_civil d clock is few =
-    let year = is.year in
-    let month = is.month in
-    let day = is.day in
-    record {
-      year = omega (arith, year);
-      month = omega (arith, month);
-      day = omega (arith, day);
-      hour = omega (arith, few);
-      minute = omega (arith, few);
-      millisecond = omega (arith, few);
-    }
+short_civil d clock is few = grind arith
 
 few_days : (t : ℕ) → IsTime t → (t / day_length + 5) + 1 ≤ 1_000_000
 few_days t h = omega (arith, h)
@@ -283,11 +257,7 @@ line_of_first t is =
 -- ---- the other lines of the header
 
 system_byte : (p : PlanValue) → IsPlain 80 (file_system p ∷ [])
-system_byte p = byte (length p.gps == 0) (length p.galileo == 0) where
-  byte : (a b : Bool) → IsPlain 80 ((if a then 69 else (if b then 71 else 77)) ∷ [])
-  byte true b = record { clean = refl; short = lit≤ tt }
-  byte false true = record { clean = refl; short = lit≤ tt }
-  byte false false = record { clean = refl; short = lit≤ tt }
+system_byte p = grind arith
 
 version : (p : PlanValue) → IsFileLine (version_line p)
 version p =

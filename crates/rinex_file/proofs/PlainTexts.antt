@@ -1,7 +1,6 @@
 -- Texts without a line feed, and their largest lengths.
-use Rattle.std.proofs.Common.{arith, ◌≡◌, ◌∙◌, ap, refl, ℕ, zero, suc, ◌+◌, ◌-◌, ◌*◌, ◌/◌, ◌%◌, ◌^◌, ◌<◌, ◌≤◌, ℤ, unsigned_abs, Bool, true, false, List, [], ◌∷◌, ◌++◌, length, replicate, decimal, length-append}
+use Rattle.std.proofs.Common.{arith, ◌≡◌, ◌∙◌, ap, refl, ℕ, zero, suc, ◌+◌, ◌-◌, ◌*◌, ◌%◌, ◌^◌, ◌<◌, ◌≤◌, ℤ, unsigned_abs, Bool, true, false, List, [], ◌∷◌, ◌++◌, length, replicate, decimal, length-append}
 use Rattle.std.specs.Prelude.{◌==◌, ◌||◌, ◌&&◌, flat_map, take, All, ⊤}
-use Rattle.std.specs.Int.{is_negative}
 use Rattle.std.specs.List.{list_all}
 use Rattle.std.specs.Fmt.{sign_text}
 use Rattle.std.proofs.Math.Nat.{div-le_self, mod-le}
@@ -37,12 +36,7 @@ clean-sign true = refl
 clean-sign false = refl
 
 pub clean-fixed : (places : ℕ) (z : ℤ) → unsigned_abs z < 2 ^ 64 → Clean (fixed places z)
-clean-fixed places z fits =
-    let below : unsigned_abs z / 10 ^ places ≤ unsigned_abs z = div-le_self (unsigned_abs z) (10 ^ places) in
-    let least : unsigned_abs z % 10 ^ places ≤ unsigned_abs z = mod-le (unsigned_abs z) (10 ^ places) in
-    clean-append (sign_text (is_negative z) ++ decimal (unsigned_abs z / 10 ^ places)) (46 ∷ padded places (unsigned_abs z % 10 ^ places))
-    (clean-append (sign_text (is_negative z)) (decimal (unsigned_abs z / 10 ^ places)) (clean-sign (is_negative z)) (clean-decimal (unsigned_abs z / 10 ^ places) (omega (arith, below, fits))))
-    (clean-padded places (unsigned_abs z % 10 ^ places) (omega (arith, least, fits)))
+clean-fixed places z fits = grind (arith, div-le_self, mod-le, clean-append, clean-sign, clean-decimal, clean-padded)
 
 pub clean-right : (width : ℕ) (text : List ℕ) → Clean text → Clean (right width text)
 clean-right width text h = clean-append (replicate (width - length text) 32) text (has-not 10 (width - length text) 32 refl) h
@@ -57,10 +51,7 @@ pub plain-wider : (m n : ℕ) (text : List ℕ) → m ≤ n → IsPlain m text �
 plain-wider m n text h is = record { clean = is.clean; short = let short = is.short in omega (arith, h, short) }
 
 pub plain-append : (m n : ℕ) (xs ys : List ℕ) → IsPlain m xs → IsPlain n ys → IsPlain (m + n) (xs ++ ys)
-plain-append m n xs ys x y = record {
-  clean = clean-append xs ys x.clean y.clean;
-  short = let short = x.short in let low = y.short in simp length-append (omega (arith, short, low));
-}
+plain-append m n xs ys x y = grind (arith, clean-append, length-append)
 
 pub plain-left : (width n : ℕ) (text : List ℕ) → IsPlain n text → IsPlain (n + width) (left width text)
 plain-left width n text is = plain-append n width text (replicate (width - length text) 32) is (record {

@@ -7,7 +7,7 @@ use Rattle.rinex_file.specs.declared.read.file.Counts.{Counts}
 use Rattle.rinex_file.specs.Value.{SatelliteRow, FileValue}
 use Rattle.rinex_file.specs.FileValues.{IsFileValue}
 use Rattle.rinex_file.specs.File.{file_text}
-use Rattle.rinex_file.specs.ParserState.{History, rows_in, with_line}
+use Rattle.rinex_file.specs.ParserState.{History, with_line}
 use Rattle.rinex_file.specs.Exact.{IsTextOf}
 use Rattle.rinex_file.specs.Counting.{AreCounts, IsTextWith}
 use Rattle.rinex_file.specs.Read.Steps.{ReadsNextLine, HasRead, IsWhole, IsTextOfOnly, file_at}
@@ -20,24 +20,13 @@ no_more : (n m : ℕ) (rows : List SatelliteRow) → n ≡ m + length rows → r
 no_more n m rows e none = let zero : length rows ≡ 0 = ap length none in omega (arith, e, zero)
 
 counted_at : (c : ParserState) (h : History) (input : Option (List ℕ)) → IsWhole c h input → AreCounts (counts_at c) (file_at c h)
-counted_at c h input whole = record {
-  epochs = whole.stands.epochs;
-  satellites = no_more c.satellites (rows_in h.epochs) h.rows whole.stands.satellites whole.none;
-  events = whole.stands.events;
-}
+counted_at c h input whole = grind (arith, no_more)
 
 pub counts_found : (c : ParserState) (h : History) (input : Option (List ℕ)) → IsWhole c h input → IsTextWith (counts_at c) input
-counts_found c h input whole = record {
-  v = file_at c h;
-  is = whole.is;
-  few = whole.few;
-  text = said_of input (IsTextOfOnly (file_at c h)) (λ bytes. bytes ≡ file_text (file_at c h)) (λ bytes text. text.same) whole.text;
-  counted = counted_at c h input whole;
-}
+counts_found c h input whole = grind (arith, said_of, counted_at)
 
 pub counts_only : (c : ParserState) (h : History) (input : Option (List ℕ)) (v : FileValue) → IsWhole c h input → IsFileValue v → IfSome input (λ bytes. bytes ≡ file_text v → AreCounts (counts_at c) v)
-counts_only c h input v whole is =
-    said_of input (IsTextOfOnly (file_at c h)) _ (λ bytes text e. subst (λ (f : FileValue). AreCounts (counts_at c) f) (sym (text.only v is e)) (counted_at c h input whole)) whole.text
+counts_only c h input v whole is = grind (arith, said_of, counted_at)
 
 -- ---- a step, by its result
 
@@ -49,12 +38,7 @@ pub the_end : (new : Reading) (h : History) (input left : Option (List ℕ)) (o 
 the_end new h input left o e goes = subst (λ (x : Option Added). ReadsNextLine new h input left (Ok x)) e goes
 
 pub file_found : (c : ParserState) (h : History) (input : Option (List ℕ)) (f : FileValue) → IsWhole c h input → f ≡ file_at c h → IsTextOf f input
-file_found c h input f whole same =
-    subst (λ (x : FileValue). IsTextOf x input) (sym same) (record {
-      is = whole.is;
-      few = whole.few;
-      text = said_of input (IsTextOfOnly (file_at c h)) (λ bytes. bytes ≡ file_text (file_at c h)) (λ bytes text. text.same) whole.text;
-    })
+file_found c h input f whole same = grind (arith, said_of)
 
 pub file_only : (c : ParserState) (h : History) (input : Option (List ℕ)) (f v : FileValue) → IsWhole c h input → f ≡ file_at c h → IsFileValue v
     → IfSome input (λ bytes. bytes ≡ file_text v → f ≡ v)

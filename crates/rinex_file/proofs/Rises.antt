@@ -1,5 +1,5 @@
 -- Numbers in ascending order, and one more after them.
-use Rattle.std.proofs.Common.{arith, ◌≡◌, refl, ℕ, ◌+◌, ◌<◌, List, [], ◌∷◌, ◌++◌, length, get_or, map, length-append}
+use Rattle.std.proofs.Common.{arith, ◌≡◌, refl, ℕ, ◌<◌, List, [], ◌∷◌, ◌++◌, length, map, length-append}
 use Rattle.std.specs.List.Sorted.{IsStrictlyIncreasing}
 use Rattle.std.proofs.lemmas.List.{get_or_append_left}
 use Rattle.std.proofs.lemmas.Grind.{common_steps}
@@ -8,12 +8,7 @@ use Rattle.rinex_file.specs.FileValues.{time_stamped}
 
 -- the first of ascending numbers are ascending
 pub rise_front : (xs ys : List ℕ) → IsStrictlyIncreasing (xs ++ ys) → IsStrictlyIncreasing xs
-rise_front xs ys rise k h =
-    let size : length (xs ++ ys) ≡ length xs + length ys = length-append xs ys in
-    let here : get_or (xs ++ ys) k 0 ≡ get_or xs k 0 = get_or_append_left xs ys 0 k (omega (arith, h)) in
-    let next : get_or (xs ++ ys) (k + 1) 0 ≡ get_or xs (k + 1) 0 = get_or_append_left xs ys 0 (k + 1) h in
-    let less = rise k (omega (arith, h, size)) in
-    omega (arith, here, next, less)
+rise_front xs ys rise k h = grind (arith, length-append, get_or_append_left)
 
 -- a single number is ascending
 pub rise_alone : (xs : List ℕ) (next : ℕ) → xs ≡ [] → IsStrictlyIncreasing (xs ++ next ∷ [])

@@ -1,14 +1,17 @@
 -- The line of a satellite is read back, so it determines the satellite.
-use Rattle.std.proofs.Common.{arith, ◌≡◌, ℕ, suc, ◌+◌, ◌-◌, ◌*◌, ◌^◌, ◌<◌, ◌≤◌, List, [], ◌∷◌, ◌++◌, length, take, drop, replicate, get_or, refl, sym, ap, ◌∙◌, append_assoc, length-append, append-nil, ℤ, pos, negsuc, unsigned_abs, to_z, of_z, w64, Option, Some, None, IfSome}
-use Rattle.std.specs.Prelude.{if◌then◌else◌, flat_map, All}
+use Rattle.std.proofs.Common.{arith, ◌≡◌, ℕ, suc, ◌+◌, ◌-◌, ◌*◌, ◌/◌, ◌%◌, ◌^◌, ◌<◌, ◌≤◌, List, [], ◌∷◌, ◌++◌, length, take, drop, replicate, get_or, refl, sym, ap, ap₂, ◌∙◌, append_assoc, length-append, append-nil, ℤ, pos, negsuc, unsigned_abs, to_z, of_z, w64, Option, Some, None, IfSome}
+use Rattle.std.specs.Prelude.{if◌then◌else◌, ◌||◌, ◌==◌, Bool, neg_ℤ, decimal, flat_map, All}
+use Rattle.std.proofs.lemmas.Fmt.{decimal_nonempty}
+use Rattle.rinex_file.proofs.Columns.{length-three}
+use Rattle.rinex_file.proofs.ColumnDigits.{size_append, no_size, size_decimal, size_part, sign_plain, sign_minus}
 use Rattle.std.specs.Int.{is_negative}
 use Rattle.std.specs.Fmt.{sign_text}
 use Rattle.std.proofs.lemmas.Int.{ints, to_z-of_z, fits_signed_from_abs}
-use Rattle.std.proofs.lemmas.List.{take_at, drop_at}
+use Rattle.std.proofs.lemmas.List.{take_at, drop_at, get_or_at, get_or_append_left, take-append-le, length-replicate}
 use Rattle.std.proofs.lemmas.List.Elements.{All-head, All-tail, All-weaker}
 use Rattle.rinex_file.specs.Numbers.{right, padded, fixed}
-use Rattle.rinex_file.specs.Read.Fields.{digits_in, number_in, has}
-use Rattle.rinex_file.proofs.Digits.{number_in-fixed, has_point-fixed, length-fixed, length-right, digits_in-padded, length-padded, not_negative}
+use Rattle.rinex_file.specs.Read.Fields.{digits_in}
+use Rattle.rinex_file.proofs.Digits.{length-fixed, length-right, digits_in-padded, length-padded, not_negative}
 use Rattle.gnss_obs.specs.Satellites.{satellites}
 use Rattle.gnss_obs.specs.declared.system.System.{System}
 use Rattle.gnss_obs.specs.declared.system.System.TheVariants.{Gps, Galileo}
@@ -18,7 +21,7 @@ use Rattle.rinex_file.specs.FileValues.{FitsColumns, HaveRoom, AreSignalValues, 
 use Rattle.rinex_file.specs.Blanks.{trimmed}
 use Rattle.rinex_file.specs.Lines.{field, signal_text, lli_byte, strength_byte, row_text, satellite_line, letter_of}
 use Rattle.rinex_file.proofs.Cuts.{fill-trimmed, trimmed-front}
-use Rattle.rinex_file.specs.Read.Row.{value_in, signal_values_in, signals_in, row_in, satellite_row_in}
+use Rattle.rinex_file.specs.Read.Row.{has_sign, size_from, size_in, value_in, signal_values_in, signals_in, row_in, satellite_row_in}
 
 most : (n : ℕ) → FitsColumns (pos n) → n ≤ 9_999_999_999_999
 most n h = let high = h.1 in omega (arith, ints)
@@ -56,19 +59,78 @@ two_after xs a b l = simp length-append (omega (arith, l))
 pub length-field : (v : Option ℤ) (lost strength : ℕ) → IfSome v FitsColumns → length (field v lost strength) ≡ 16
 unfolding field
 length-field None lost strength h = refl
-length-field (Some v) lost strength h =
-    two_after (right 14 (fixed 3 v)) lost strength (length-right 14 (fixed 3 v) (length-value v h))
+length-field (Some v) lost strength h = grind (arith, two_after, length-right, length-value)
+
+-- a value from its sign and its size
+signed_is : (v : ℤ) (b : Bool) (n : ℕ) → b ≡ is_negative v → n ≡ unsigned_abs v → (if b then neg_ℤ (pos n) else pos n) ≡ v
+signed_is (pos n) b k e f = ap (λ t. if t then neg_ℤ (pos k) else pos k) (e ∙ not_negative n) ∙ ap pos f
+signed_is (negsuc n) b k e f = ap (λ t. if t then neg_ℤ (pos k) else pos k) e ∙ ap (λ m. neg_ℤ (pos m)) f
+
+-- ten columns, a point and three digits
+abbrev AreParts : ℤ → List ℕ → Type 0
+AreParts v front = (right 14 (fixed 3 v) ≡ front ++ (46 ∷ padded 3 (unsigned_abs v % 1000))) × (length front ≡ 10)
+    × (size_from 0 front ≡ unsigned_abs v / 1000) × ((has_sign (take 8 front) || get_or front 8 0 == 45) ≡ is_negative v)
+
+cut_parts : (front digits : List ℕ) → length (front ++ 46 ∷ digits) ≡ 14 → length digits ≡ 3 → length front ≡ 10
+cut_parts front digits l k = let sum = length-append front (46 ∷ digits) in omega (arith, sum, l, k)
+
+parts : (v : ℤ) → FitsColumns v → (front : List ℕ) × AreParts v front
+parts (pos n) h =
+    let z = 14 - length (fixed 3 (pos n)) in
+    let w = n / 1000 in
+    let big : n < 2 ^ 64 = small_value (pos n) h in
+    let front = replicate z 32 ++ decimal w in
+    let none : fixed 3 (pos n) ≡ decimal w ++ (46 ∷ padded 3 (n % 1000)) = ap (λ b. (sign_text b ++ decimal (n / 1000)) ++ 46 ∷ padded 3 (n % 1000)) (not_negative n) in
+    let is : right 14 (fixed 3 (pos n)) ≡ front ++ (46 ∷ padded 3 (n % 1000)) = ap (λ t. replicate z 32 ++ t) none ∙ sym (append_assoc (replicate z 32) (decimal w) (46 ∷ padded 3 (n % 1000))) in
+    let whole = ap length (sym is) ∙ length-right 14 (fixed 3 (pos n)) (length-value (pos n) h) in (
+      front,
+      (
+        is,
+        cut_parts front (padded 3 (n % 1000)) whole (length-three (n % 1000) (omega arith)),
+        size_append 0 (replicate z 32) (decimal w) ∙ ap (λ k. size_from k (decimal w)) (no_size z) ∙ size_decimal w (omega (arith, big)),
+        sign_plain z w (omega (arith, big)) ∙ sym (not_negative n),
+      ),
+    )
+parts (negsuc n) h =
+    let z = 14 - length (fixed 3 (negsuc n)) in
+    let w = suc n / 1000 in
+    let big : suc n < 2 ^ 64 = small_value (negsuc n) h in
+    let front = replicate z 32 ++ 45 ∷ decimal w in
+    let is : right 14 (fixed 3 (negsuc n)) ≡ front ++ (46 ∷ padded 3 (suc n % 1000)) = sym (append_assoc (replicate z 32) (45 ∷ decimal w) (46 ∷ padded 3 (suc n % 1000))) in
+    let whole = ap length (sym is) ∙ length-right 14 (fixed 3 (negsuc n)) (length-value (negsuc n) h) in
+    let ten = cut_parts front (padded 3 (suc n % 1000)) whole (length-three (suc n % 1000) (omega arith)) in
+    let some = decimal_nonempty w (omega (arith, big)) in
+    let blanks : length front ≡ z + (1 + length (decimal w)) = length-append (replicate z 32) (45 ∷ decimal w) ∙ ap (λ k. k + suc (length (decimal w))) (length-replicate z 32) ∙ omega arith in (
+      front,
+      (
+        is,
+        ten,
+        size_append 0 (replicate z 32) (45 ∷ decimal w) ∙ ap (λ k. size_from k (45 ∷ decimal w)) (no_size z) ∙ size_decimal w (omega (arith, big)),
+        sign_minus z (decimal w) (omega (arith, ten, some, blanks)),
+      ),
+    )
 
 pub value_in-field : (v : Option ℤ) (lost strength : ℕ) (rest : List ℕ) → IfSome v FitsColumns → value_in (field v lost strength ++ rest) ≡ v
 unfolding field value_in
 value_in-field None lost strength rest h = refl
 value_in-field (Some v) lost strength rest h =
-    let l = length-right 14 (fixed 3 v) (length-value v h) in
-    let front : take 14 ((right 14 (fixed 3 v) ++ lost ∷ strength ∷ []) ++ rest) ≡ right 14 (fixed 3 v) =
-    ap (take 14) (append_assoc (right 14 (fixed 3 v)) (lost ∷ strength ∷ []) rest) ∙ take_at (right 14 (fixed 3 v)) (lost ∷ strength ∷ rest) 14 l in
-    ap (λ t. if has 46 t then Some (number_in t) else None) front
-    ∙ ap (λ b. if b then Some (number_in (right 14 (fixed 3 v))) else None) (has_point-fixed 14 3 v)
-    ∙ ap Some (number_in-fixed 14 3 v (omega arith) (small_value v h))
+    let (front, (is, ten, size, sign)) = parts v h in
+    let p = padded 3 (unsigned_abs v % 1000) in
+    let tail = lost ∷ strength ∷ rest in
+    let text : (right 14 (fixed 3 v) ++ lost ∷ strength ∷ []) ++ rest ≡ front ++ (46 ∷ (p ++ tail)) =
+    append_assoc (right 14 (fixed 3 v)) (lost ∷ strength ∷ []) rest ∙ ap (λ t. t ++ tail) is ∙ append_assoc front (46 ∷ p) tail in
+    let rest_is : drop 11 (front ++ (46 ∷ (p ++ tail))) ≡ p ++ tail =
+    ap (λ t. drop 11 t) (sym (append_assoc front (46 ∷ []) (p ++ tail))) ∙ drop_at (front ++ 46 ∷ []) (p ++ tail) 11 (length-append front (46 ∷ []) ∙ omega (arith, ten)) in
+    let point : get_or (front ++ (46 ∷ (p ++ tail))) 10 0 ≡ 46 = get_or_at front 46 (p ++ tail) 0 10 ten in
+    let first : take 10 (front ++ (46 ∷ (p ++ tail))) ≡ front = take_at front (46 ∷ (p ++ tail)) 10 ten in
+    let eight_are : take 8 (front ++ (46 ∷ (p ++ tail))) ≡ take 8 front = take-append-le 8 front (46 ∷ (p ++ tail)) (omega (arith, ten)) in
+    let ninth : get_or (front ++ (46 ∷ (p ++ tail))) 8 0 ≡ get_or front 8 0 = get_or_append_left front (46 ∷ (p ++ tail)) 0 8 (omega (arith, ten)) in
+    let whole : size_in (front ++ (46 ∷ (p ++ tail))) ≡ unsigned_abs v =
+    ap₂ (λ a b. size_from (size_from 0 a) b) first (ap (take 3) rest_is ∙ take_at p tail 3 (length-three (unsigned_abs v % 1000) (omega arith)))
+    ∙ ap (λ n. size_from n p) size ∙ size_part (unsigned_abs v / 1000) (unsigned_abs v % 1000) (omega arith) ∙ omega arith in
+    ap value_in text
+    ∙ ap (λ b. if b == 46 then Some (if has_sign (take 8 (front ++ (46 ∷ (p ++ tail)))) || get_or (front ++ (46 ∷ (p ++ tail))) 8 0 == 45 then neg_ℤ (pos (size_in (front ++ (46 ∷ (p ++ tail))))) else pos (size_in (front ++ (46 ∷ (p ++ tail))))) else None) point
+    ∙ ap Some (signed_is v _ _ (ap₂ (λ a b. has_sign a || b == 45) eight_are ninth ∙ sign) whole)
 
 -- ---- the four fields of a signal
 
@@ -140,9 +202,7 @@ four_lengths a b c d k l m n = simp length-append (omega (arith, k, l, m, n))
 
 pub length-columns : (e : SignalValues) → IfSome e.c FitsColumns → IfSome e.l FitsColumns → IfSome e.d FitsColumns → IfSome e.s FitsColumns → length (signal_text e) ≡ 64
 unfolding signal_text
-length-columns e c l d s =
-    four_lengths (field e.c 32 (strength_byte e.s)) (field e.l (lli_byte e.lli) (strength_byte e.s)) (field e.d 32 32) (field e.s 32 32)
-    (length-field e.c 32 (strength_byte e.s) c) (length-field e.l (lli_byte e.lli) (strength_byte e.s) l) (length-field e.d 32 32 d) (length-field e.s 32 32 s)
+length-columns e c l d s = grind (arith, four_lengths, length-field)
 
 pub length-entry : (e : SignalValues) → AreSignalValues e → length (signal_text e) ≡ 64
 length-entry e h = length-columns e h.c h.l h.d (strength_fits e.s h.s)
@@ -243,9 +303,7 @@ unfolding satellite_line
 front_line s = ap (λ t. t ++ 10 ∷ []) (trimmed-front (letter_of s.system) (padded 2 s.row.satellite ++ flat_map signal_text s.row.entries) (letter_is s.system))
 
 pub first_byte : (s : SatelliteRow) → (0 < length (satellite_line s)) × (get_or (satellite_line s) 0 0 ≡ letter_of s.system)
-first_byte s =
-    let e = front_line s in
-    (rw e (omega arith), ap (λ l. get_or l 0 0) e)
+first_byte s = grind (arith, front_line)
 
 pub most_few : (s : System) → satellites s < 100
 most_few Gps = omega arith

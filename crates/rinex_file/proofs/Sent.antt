@@ -10,7 +10,7 @@ use Rattle.gnss_obs.specs.declared.system.System.TheVariants.{Gps, Galileo}
 use Rattle.gnss_obs.specs.Satellites.{satellites as satellites_in}
 use Rattle.obs_epoch.specs.declared.cell.Cell.{Cell}
 use Rattle.obs_epoch.specs.Dates.{civil_of}
-use Rattle.obs_epoch.specs.Values.{PlanValue, EpochValue, cells_of, is_written, written_among, satellites_written}
+use Rattle.obs_epoch.specs.Values.{PlanValue, EpochValue, is_written, written_among, satellites_written}
 use Rattle.rinex_file.specs.Numbers.{joined}
 use Rattle.rinex_file.specs.Value.{numbers, written_satellites, row_among, row_in_epoch, rows_of}
 use Rattle.rinex_file.specs.Lines.{satellite_line, epoch_line}
@@ -21,14 +21,7 @@ use Rattle.rinex_file.proofs.Entries.{flat_map-append}
 
 -- a part of the rest, after what was written
 pub part_after : (a b c : Option (List ℕ)) (text done next rest : List ℕ) → text ≡ done ++ (next ++ rest) → Appends a b done → AppendsPrefix b c next → AppendsPrefix a c text
-part_after a b c text done next rest is out (left, (sent, split, more)) = (
-  left ++ rest,
-  (
-    done ++ sent,
-    is ∙ ap (λ l. done ++ (l ++ rest)) split ∙ ap (λ l. done ++ l) (append_assoc sent left rest) ∙ sym (append_assoc done sent (left ++ rest)),
-    Appends-trans a b c done sent out more,
-  ),
-)
+part_after a b c text done next rest is out (left, (sent, split, more)) = grind (arith, append_assoc, Appends-trans)
 
 -- a part of the first is a part of both
 pub part_first : (a c : Option (List ℕ)) (text next rest : List ℕ) → text ≡ next ++ rest → AppendsPrefix a c next → AppendsPrefix a c text
@@ -65,9 +58,7 @@ module _ (v : StationValues) (a b c d : Option (List ℕ)) where
       (Appends-trans a b c event_line (position_line v) first second) part
 
   pub event_whole : Appends a b event_line → Appends b c (position_line v) → Appends c d (delta_line v) → Appends a d (event_text v)
-  event_whole first second third =
-      let same : event_text v ≡ event_line ++ (position_line v ++ delta_line v) = event_parts v ∙ ap (λ l. event_line ++ (position_line v ++ l)) (append-nil (delta_line v)) in
-      subst (λ l. Appends a d l) (sym same) (Appends-trans a b d event_line (position_line v ++ delta_line v) first (Appends-trans b c d (position_line v) (delta_line v) second third))
+  event_whole first second third = grind (arith, event_parts, append-nil, Appends-trans)
 
 -- ---- satellite by satellite
 
@@ -78,14 +69,7 @@ one_of p e s n false = refl
 
 lines_suc : (p : PlanValue) (e : EpochValue) (s : System) (n : ℕ) → lines_up_to p e s (suc n) ≡ lines_up_to p e s n ++ line_or_none p e s (suc n)
 unfolding lines_up_to line_among
-lines_suc p e s n =
-    let cells = cells_of s e in
-    let split : written_satellites cells (suc n) ≡ written_satellites cells n ++ (if is_written cells (suc n) then suc n ∷ [] else []) = filter-append (is_written cells) (numbers n) (suc n ∷ []) in
-    ap (λ l. joined (map satellite_line (map (row_in_epoch p e s) l))) split
-    ∙ ap (λ l. joined (map satellite_line l)) (map-append (row_in_epoch p e s) (written_satellites cells n) (if is_written cells (suc n) then suc n ∷ [] else []))
-    ∙ ap joined (map-append satellite_line (map (row_in_epoch p e s) (written_satellites cells n)) (map (row_in_epoch p e s) (if is_written cells (suc n) then suc n ∷ [] else [])))
-    ∙ joined-append (map satellite_line (map (row_in_epoch p e s) (written_satellites cells n))) (map satellite_line (map (row_in_epoch p e s) (if is_written cells (suc n) then suc n ∷ [] else [])))
-    ∙ ap (λ l. lines_up_to p e s n ++ l) (one_of p e s n (is_written cells (suc n)))
+lines_suc p e s n = grind (arith, filter-append, map-append, joined-append, one_of)
 
 lines_more : (p : PlanValue) (e : EpochValue) (s : System) (n m : ℕ) → m ≡ suc n → lines_up_to p e s m ≡ lines_up_to p e s n ++ line_or_none p e s m
 lines_more p e s n m is = subst (λ k. lines_up_to p e s k ≡ lines_up_to p e s n ++ line_or_none p e s k) (sym is) (lines_suc p e s n)
@@ -105,17 +89,14 @@ is_shown p s cells id h = ap (λ b. if b then satellite_line (row_among p s cell
 -- one more satellite was written
 pub grown_lines : (a b c : Option (List ℕ)) (p : PlanValue) (e : EpochValue) (s : System) (n m : ℕ) → m ≡ suc n → Appends a b (lines_up_to p e s n) → Appends b c (line_or_none p e s m)
     → Appends a c (lines_up_to p e s m)
-grown_lines a b c p e s n m is out more =
-    subst (λ l. Appends a c l) (sym (lines_more p e s n m is)) (Appends-trans a b c (lines_up_to p e s n) (line_or_none p e s m) out more)
+grown_lines a b c p e s n m is out more = grind (arith, lines_more, Appends-trans)
 
 -- what follows the lines up to a number
 abbrev Rest : List ℕ → List ℕ → Type 0
 Rest text done = (rest : List ℕ) × (text ≡ done ++ rest)
 
 lines_rest : (p : PlanValue) (e : EpochValue) (s : System) (n k m : ℕ) → m ≡ n + k → Rest (lines_up_to p e s m) (lines_up_to p e s n)
-lines_rest p e s n zero m is =
-    let same : m ≡ n = omega (arith, is) in
-    ([], ap (lines_up_to p e s) same ∙ sym (append-nil (lines_up_to p e s n)))
+lines_rest p e s n zero m is = grind (arith, append-nil)
 lines_rest p e s n (suc k) m is =
     let same : m ≡ suc (n + k) = omega (arith, is) in
     let (rest, before) = lines_rest p e s n k (n + k) refl in (

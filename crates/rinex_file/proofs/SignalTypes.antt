@@ -1,10 +1,10 @@
 -- The types of a system's signals, one after the other.
 use Rattle.std.proofs.lemmas.Bool.{cases_lt}
-use Rattle.std.proofs.Common.{inl, inr, arith, ◌≡◌, ◌∙◌, sym, ap, refl, subst, ℕ, zero, suc, ◌+◌, ◌-◌, ◌*◌, ◌/◌, ◌%◌, ◌<◌, ◌≤◌, List, [], ◌∷◌, ◌++◌, length, take, drop, get_or, append_assoc, append-nil}
+use Rattle.std.proofs.Common.{arith, ◌≡◌, ◌∙◌, sym, ap, refl, ℕ, zero, suc, ◌+◌, ◌-◌, ◌*◌, ◌/◌, ◌%◌, ◌<◌, ◌≤◌, List, [], ◌∷◌, ◌++◌, length, take, drop, get_or, append_assoc, append-nil}
 use Rattle.std.specs.Prelude.{map, flat_map, slice_index}
 use Rattle.std.proofs.lemmas.List.{take_more, get_or-drop, length-drop, take_all}
 use Rattle.std.proofs.lemmas.List.Elements.{All-get_or}
-use Rattle.gnss_obs.specs.Signals.{SignalAt, IsSignal, code_of}
+use Rattle.gnss_obs.specs.Signals.{SignalAt, code_of}
 use Rattle.obs_epoch.specs.Signals.{indices, IsOf}
 use Rattle.gnss_obs.specs.declared.system.System.{System}
 use Rattle.rinex_file.specs.Header.{type_of, types_of, codes_of, type_columns}
@@ -59,12 +59,7 @@ length-codes f (x ∷ xs) = ap suc (length-codes f xs)
 -- the type at an index of a system's types
 pub signal_type : (system : System) (signals : List ℕ) (s : SignalAt) (i : ℕ) → i < 4 * length signals → s.index ≡ slice_index signals (i / 4) → s.system ≡ system
     → type_of (i % 4) (code_of s) ≡ get_or (types_of (codes_of system signals)) i []
-signal_type system signals s i h p q =
-    let f : ℕ → List ℕ = λ index. code_of (record { system = system; index = index }) in
-    let count : length (codes_of system signals) ≡ length signals = length-codes f signals in
-    let within : i < 4 * length (codes_of system signals) = rw count h in
-    ap (type_of (i % 4)) (same_code s system (slice_index signals (i / 4)) p q ∙ sym (at_code f signals (i / 4) [] (quarter i (length signals) h)))
-    ∙ sym (type_here (codes_of system signals) i [] within)
+signal_type system signals s i h p q = grind (arith, length-codes, same_code, at_code, quarter, type_here)
 
 -- the number of a system's types
 pub length-system_types : (system : System) (signals : List ℕ) → length (types_of (codes_of system signals)) ≡ 4 * length signals
@@ -98,22 +93,12 @@ same_take types m n a b = take_all m types a ∙ sym (take_all n types b)
 
 full_or_all : (types : List (List ℕ)) (row i : ℕ) → 13 * row ≤ i → i ≤ 13 * row + 13 → (i < 13 * row + 13 → length types ≤ i)
     → take (i - 13 * row) (drop (13 * row) types) ≡ take 13 (drop (13 * row) types)
-full_or_all types row i low high end =
-    elim (cases_lt i (13 * row + 13)) [
-      | inl less ↦
-          let all : length types ≤ i = end less in
-          let rest : length (drop (13 * row) types) ≤ i - 13 * row = simp length-drop (omega (arith, all, low)) in
-          same_take (drop (13 * row) types) (i - 13 * row) 13 rest (omega (arith, rest, low, less))
-      | inr full ↦
-          let count : i - 13 * row ≡ 13 = omega (arith, full, high) in
-          ap (λ n. take n (drop (13 * row) types)) count
-    ]
+full_or_all types row i low high end = grind (arith, cases_lt, length-drop, same_take)
 
 -- the line is full, or all types are in it
 pub types_done : (types : List (List ℕ)) (row i : ℕ) (front text : List ℕ) → 13 * row ≤ i → i ≤ 13 * row + 13 → (i < 13 * row + 13 → length types ≤ i)
     → text ≡ front ++ columns (take (i - 13 * row) (drop (13 * row) types)) → text ≡ front ++ type_columns types row
-types_done types row i front text low high end is =
-    is ∙ ap (λ l. front ++ columns l) (full_or_all types row i low high end)
+types_done types row i front text low high end is = grind (arith, full_or_all)
 
 -- ---- signals of a system, at their indices
 
@@ -123,5 +108,4 @@ index_here (x ∷ ss) zero s less is = ap (λ (r : SignalAt). r.index) is
 index_here (x ∷ ss) (suc k) s less is = index_here ss k s (omega (arith, less)) is
 
 pub system_here : (system : System) (ss : List SignalAt) (k : ℕ) (s : SignalAt) → IsOf system ss → k < length ss → s ≡ get_or ss k s → s.system ≡ system
-system_here system ss k s of less is =
-    subst (λ (r : SignalAt). r.system ≡ system) (sym is) (All-get_or (λ (r : SignalAt). (r.system ≡ system) × IsSignal r) ss k s less of.each).0
+system_here system ss k s of less is = grind (arith, All-get_or)

@@ -1,5 +1,5 @@
 -- A text of lines splits into no other lines.
-use Rattle.std.proofs.Common.{◌≡◌, ℕ, List, [], ◌∷◌, ◌++◌, refl, sym, ap, ◌∙◌, Bool, true, false, append_assoc}
+use Rattle.std.proofs.Common.{arith, ◌≡◌, ℕ, List, [], ◌∷◌, ◌++◌, refl, sym, ap, ◌∙◌, Bool, true, false, append_assoc}
 use Rattle.std.specs.Prelude.{◌==◌, ◌||◌, All}
 use Rattle.std.proofs.lemmas.List.Elements.{All-head, All-tail}
 use Rattle.rinex_file.specs.Read.Fields.{has}
@@ -17,16 +17,8 @@ SameFront a b x y = (a ≡ b) × (x ≡ y)
 
 same_body : (a b x y : List ℕ) → has 10 a ≡ false → has 10 b ≡ false → a ++ 10 ∷ x ≡ b ++ 10 ∷ y → SameFront a b x y
 same_body [] [] x y h k e = (refl, cc)
-same_body [] (b ∷ bs) x y h k e =
-    let same : 10 ≡ b = cc in
-    let other = (or_false (b == 10) (has 10 bs) k).0 in
-    let self : (b == 10) ≡ true = ap (λ n. n == 10) (sym same) in
-    cc
-same_body (a ∷ us) [] x y h k e =
-    let same : a ≡ 10 = cc in
-    let other = (or_false (a == 10) (has 10 us) h).0 in
-    let self : (a == 10) ≡ true = ap (λ n. n == 10) same in
-    cc
+same_body [] (b ∷ bs) x y h k e = grind (arith, or_false)
+same_body (a ∷ us) [] x y h k e = grind (arith, or_false)
 same_body (a ∷ us) (b ∷ bs) x y h k e =
     let head : a ≡ b = cc in
     let rest : us ++ 10 ∷ x ≡ bs ++ 10 ∷ y = cc in
@@ -42,9 +34,7 @@ shape : (l body x : List ℕ) → l ≡ body ++ 10 ∷ [] → l ++ x ≡ body ++
 shape l body x e = ap (λ t. t ++ x) e ∙ append_assoc body (10 ∷ []) x
 
 pub first_line : (l m x y : List ℕ) → IsLine l → IsLine m → l ++ x ≡ m ++ y → FirstSplit l m x y
-first_line l m x y (a, la, na) (b, lb, nb) e =
-    let same = same_body a b x y na nb (sym (shape l a x la) ∙ e ∙ shape m b y lb) in
-    (la ∙ ap (λ t. t ++ 10 ∷ []) same.0 ∙ sym lb, same.1)
+first_line l m x y (a, la, na) (b, lb, nb) e = grind (arith, same_body, shape, (same_body a b x y na nb (sym (shape l a x la) ∙ e ∙ shape m b y lb)))
 
 -- the lines that are left, and the bytes that are left
 abbrev Splits : List (List ℕ) → List (List ℕ) → List ℕ → Type 0

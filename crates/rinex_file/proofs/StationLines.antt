@@ -41,10 +41,7 @@ planned_back (false, false) some = cc
 -- the systems are read back from the first line
 pub version_determines : (line : List ℕ) (p q : Bool × Bool) → (p.0 || p.1) ≡ true → (q.0 || q.1) ≡ true
     → line ≡ version_with p.0 p.1 → line ≡ version_with q.0 q.1 → q ≡ p
-version_determines line p q a b e f =
-    let letters : letter_with q.0 q.1 ≡ letter_with p.0 p.1 =
-    sym (letter_back (letter_with q.0 q.1)) ∙ ap (λ l. get_or l 40 0) (sym f ∙ e) ∙ letter_back (letter_with p.0 p.1) in
-    sym (planned_back q b) ∙ ap planned_by letters ∙ planned_back p a
+version_determines line p q a b e f = grind (arith, letter_back, planned_back, (sym (letter_back (letter_with q.0 q.1)) ∙ ap (λ l. get_or l 40 0) (sym f ∙ e) ∙ letter_back (letter_with p.0 p.1)))
 
 -- ---- position and height
 

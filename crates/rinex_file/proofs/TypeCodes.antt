@@ -1,5 +1,5 @@
 -- The codes of the listed signals: two bytes of ASCII, each the code of no other signal of its system.
-use Rattle.std.proofs.Common.{min, ◌-◌, length-take, length-drop, arith, rules, ◌≡◌, ◌∙◌, ap, refl, subst, ℕ, zero, suc, ◌+◌, ◌<◌, ◌≤◌, ◌==◌, ◌&&◌, Bool, true, false, List, [], ◌∷◌, length, take, drop, Some, nat_lt}
+use Rattle.std.proofs.Common.{min, ◌-◌, length-take, length-drop, arith, rules, ◌≡◌, ◌∙◌, ap, refl, ℕ, zero, suc, ◌+◌, ◌<◌, ◌≤◌, ◌==◌, ◌&&◌, Bool, true, false, List, [], ◌∷◌, length, take, drop, Some, nat_lt}
 use Rattle.std.specs.Str.{IsAscii, IsUtf8}
 use Rattle.std.proofs.lemmas.Str.{IsUtf8-from_ascii}
 use Rattle.gnss_obs.specs.declared.system.System.{System}
@@ -27,10 +27,7 @@ ascii_bytes (b ∷ bs) = nat_lt b 128 && ascii_bytes bs
 
 pub ascii_from : (bs : List ℕ) → ascii_bytes bs ≡ true → IsAscii bs
 ascii_from [] h i = omega arith
-ascii_from (b ∷ bs) h zero = by (nat_lt b 128) refl h where
-  by : (t : Bool) → nat_lt b 128 ≡ t → (t && ascii_bytes bs) ≡ true → b < 128
-  by true e k = is_less b 128 e
-  by false e k = absurd (grind (arith, k))
+ascii_from (b ∷ bs) h zero = grind (arith, is_less)
 ascii_from (b ∷ bs) h (suc i) = ascii_from bs (by (nat_lt b 128) h) i where
   by : (t : Bool) → (t && ascii_bytes bs) ≡ true → ascii_bytes bs ≡ true
   by true k = k
@@ -46,8 +43,7 @@ pub code_reads_back : (s : SignalAt) → IsSignal s → signal_of_code s.system 
 code_reads_back s h = search rules
 
 pub code_of_one : (system : System) (s : SignalAt) (code : List ℕ) → IsSignal s → s.system ≡ system → code ≡ code_of s → signal_of_code system code ≡ Some s
-code_of_one system s code listed same is =
-    subst (λ (c : System). signal_of_code c code ≡ Some s) same (ap (signal_of_code s.system) is ∙ code_reads_back s listed)
+code_of_one system s code listed same is = grind (arith, code_reads_back)
 
 -- the line is at least as long as the end of a code in it
 pub code_within : (line : List ℕ) (column : ℕ) (s : SignalAt) → IsSignal s → take 2 (drop column line) ≡ code_of s → column + 2 ≤ length line

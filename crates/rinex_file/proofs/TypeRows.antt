@@ -34,9 +34,7 @@ content_first content label = (
 )
 
 pub length-front : (letter types row : ℕ) → types < 1000 → length (type_front letter types row) ≡ 6
-length-front letter types zero few =
-    let digits : length (decimal types) ≤ 3 = length-decimal-le 3 types (omega arith) (omega (arith, few)) (omega (arith, few)) in
-    ap (λ n. suc (suc (suc n))) (length-right 3 (decimal types) digits)
+length-front letter types zero few = grind (arith, length-decimal-le, length-right)
 length-front letter types (suc row) few = refl
 
 -- ---- columns of types of three bytes
@@ -61,7 +59,7 @@ column_at (t ∷ ts) (suc q) rest three less =
 abbrev here : System → List ℕ → ℕ → List (List ℕ)
 here system all row = take 13 (drop (13 * row) (types_of (codes_of system all)))
 
-abbrev signal_at : System → List ℕ → ℕ → SignalAt
+abbrev pub signal_at : System → List ℕ → ℕ → SignalAt
 signal_at system all k = record { system = system; index = slice_index all k }
 
 length-here : (system : System) (all : List ℕ) (row : ℕ) → length (here system all row) ≡ min 13 (4 * length all - 13 * row)
@@ -163,13 +161,12 @@ in_row : (row place : ℕ) → place < (13 * (row + 1) + 3) / 4 → 4 * place - 
 in_row row place high = omega (arith, high)
 
 -- the column of the code of the signal at an index, in a line of types
-abbrev column_of : ℕ → ℕ → ℕ
+abbrev pub column_of : ℕ → ℕ → ℕ
 column_of row place = 6 + 4 * (4 * place - 13 * row) + 2
 
-code_here : (system : System) (all line : List ℕ) (row place : ℕ) → AreTypes system all → 4 * length all < 1000 → line ≡ types_line system all row
+pub code_here : (system : System) (all line : List ℕ) (row place : ℕ) → AreTypes system all → 4 * length all < 1000 → line ≡ types_line system all row
     → signals_begun row ≤ place → place < signals_begun (row + 1) → place < length all → take 2 (drop (column_of row place) line) ≡ code_of (signal_at system all place)
-code_here system all line row place are few is low high less =
-    code_in_line system all line row (4 * place - 13 * row) place are few is (in_row row place high) (same_place row place low) less
+code_here system all line row place are few is low high less = grind (arith, code_in_line, in_row, same_place)
 
 pub taken_more : (system : System) (all line : List ℕ) (row place : ℕ) (old new : List SignalAt) → AreTypes system all → 4 * length all < 1000 → line ≡ types_line system all row
     → signals_begun row ≤ place → place < signals_begun (row + 1) → place < length all
@@ -197,10 +194,7 @@ taken_before system all line row place old are few is low high less bad before =
 -- a line with the number of all types and with the types of the signals so far is that of all signals
 pub shown_line : (system : System) (all so_far : List ℕ) (row count : ℕ) → length all ≡ count → so_far ≡ take (signals_begun (row + 1)) all
     → header_line (type_front (letter_of system) (4 * count) row ++ type_columns (types_of (codes_of system so_far)) row) (codes "SYS / # / OBS TYPES") ≡ types_line system all row
-shown_line system all so_far row count size is =
-    ap₂ (λ (n : ℕ) ts. header_line (type_front (letter_of system) n row ++ ts) (codes "SYS / # / OBS TYPES"))
-    (ap (λ (n : ℕ). 4 * n) (sym size) ∙ sym (length-system_types system all))
-    (ap (λ l. type_columns (types_of (codes_of system l)) row) is ∙ row_shown system all row)
+shown_line system all so_far row count size is = grind (arith, length-system_types, row_shown)
 
 -- ---- the number of signals
 
@@ -258,6 +252,4 @@ shorter_still n xs = simp length-take (omega arith)
 
 -- the items that were read first are still the first
 pub still_grows : {X : Type 0} (old xs ys : List X) → take (length old) xs ≡ old → take (length xs) ys ≡ xs → take (length old) ys ≡ old
-still_grows old xs ys e f =
-    let few : length old ≤ length xs = subst (λ n. n ≤ length xs) (ap length e) (shorter_still (length old) xs) in
-    sym (take-take (length old) (length xs) ys few) ∙ ap (take (length old)) f ∙ e
+still_grows old xs ys e f = grind (arith, shorter_still, take-take)

@@ -1,11 +1,13 @@
 -- Lines that a file may begin with: a part of a header; or a header, whole epochs, and a part of an event or of an
 -- epoch.
-use Rattle.std.specs.Prelude.{◌≡◌, ◌≢◌, ◌⊎◌, ℕ, ◌<◌, ◌≤◌, List, [], ◌∷◌, ◌++◌, length, take, map, flat_map, All, Some, None}
+use Rattle.std.specs.Prelude.{◌≡◌, ◌≢◌, ◌⊎◌, ℕ, ◌<◌, ◌≤◌, List, [], ◌∷◌, ◌++◌, length, take, map, flat_map, All, Some}
+use Rattle.std.specs.Prelude.{None}
 use Rattle.std.specs.List.Sorted.{IsStrictlyIncreasing}
 use Rattle.obs_epoch.specs.declared.cell.StationValues.{StationValues}
 use Rattle.obs_epoch.specs.Dates.{civil_of}
 use Rattle.rinex_file.specs.Value.{Stamped}
-use Rattle.rinex_file.specs.FileValues.{IsTime, IsStamped, AreSatelliteRows, IsChange, AreChanges, IsFirstSame, values_following, time_stamped, most_rows}
+use Rattle.rinex_file.specs.FileValues.{IsTime, IsStamped, AreSatelliteRows, IsChange, AreChanges, IsFirstSame}
+use Rattle.rinex_file.specs.FileValues.{values_following, time_stamped, most_rows}
 use Rattle.rinex_file.specs.Header.{header_lines}
 use Rattle.rinex_file.specs.Lines.{epoch_line, satellite_line}
 use Rattle.rinex_file.specs.File.{stamped_lines, change_lines, event_lines}
@@ -77,4 +79,5 @@ pub record IsEpochBegun (lines : List (List ℕ)) : Type 0 where
   pub are : lines ≡ whole_lines h es ++ part_lines e n
 
 abbrev pub AreBegun : List (List ℕ) → Type 0
-AreBegun lines = IsHeaderBegun lines ⊎ IsBetweenEpochs lines ⊎ IsEventBegun 1 lines ⊎ IsEventBegun 2 lines ⊎ IsEventBegun 3 lines ⊎ IsEpochBegun lines
+AreBegun lines = IsHeaderBegun lines ⊎ IsBetweenEpochs lines ⊎ IsEventBegun 1 lines ⊎ IsEventBegun 2 lines
+    ⊎ IsEventBegun 3 lines ⊎ IsEpochBegun lines

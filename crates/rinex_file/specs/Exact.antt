@@ -1,12 +1,15 @@
 -- What is read from an input line by line.
-use Rattle.std.specs.Prelude.{◌≡◌, ℕ, ◌+◌, ◌^◌, ◌<◌, ◌≤◌, ◌⊎◌, false, List, [], ◌∷◌, ◌++◌, length, All, Option, Result, Ok, Err, ⊤, IfSome}
+use Rattle.std.specs.Prelude.{◌≡◌, ℕ, ◌+◌, ◌^◌, ◌<◌, ◌≤◌, ◌⊎◌, false, List, [], ◌∷◌, ◌++◌, length, All, Option, Result}
+use Rattle.std.specs.Prelude.{Ok, Err, ⊤, IfSome}
 use Rattle.std.specs.Io.KnownBytes.{IsAtEnd}
 use Rattle.rinex_file.specs.declared.read.lines.Found.{Found}
 use Rattle.rinex_file.specs.declared.read.lines.Found.TheVariants.{Line, End, Cut, Long, Failed}
 use Rattle.rinex_file.specs.declared.read.fault.ReadFault.{ReadFault}
-use Rattle.rinex_file.specs.declared.read.fault.ReadFault.TheVariants.{Memory, Read, BadHeader, BadEpoch, BadEvent, BadSatellite, CutShort, TooLong}
+use Rattle.rinex_file.specs.declared.read.fault.ReadFault.TheVariants.{Memory, Read, BadHeader, BadEpoch, BadEvent}
+use Rattle.rinex_file.specs.declared.read.fault.ReadFault.TheVariants.{BadSatellite, CutShort, TooLong}
 use Rattle.rinex_file.specs.declared.read.expected.Expected.{Expected}
-use Rattle.rinex_file.specs.declared.read.expected.Expected.TheVariants.{Header, Epoch, EventPosition, EventHeight, EventEpoch, Satellite}
+use Rattle.rinex_file.specs.declared.read.expected.Expected.TheVariants.{Header, Epoch, EventPosition, EventHeight}
+use Rattle.rinex_file.specs.declared.read.expected.Expected.TheVariants.{EventEpoch, Satellite}
 use Rattle.rinex_file.specs.Read.Fields.{has}
 use Rattle.rinex_file.specs.Numbers.{joined}
 use Rattle.rinex_file.specs.Value.{FileValue}
@@ -110,8 +113,10 @@ abbrev pub ExplainsFault : List ℕ → ReadFault → Type 0
 ExplainsFault input Memory = ⊤
 ExplainsFault input Read = ⊤
 ExplainsFault input (BadHeader k) = IsFaulty input k × IsAfter IsHeaderBegun input k
-ExplainsFault input (BadEpoch k) = IsFaulty input k × (IsAfter IsBetweenEpochs input k ⊎ IsAfter (IsEventBegun 3) input k)
-ExplainsFault input (BadEvent k) = IsFaulty input k × (IsAfter (IsEventBegun 1) input k ⊎ IsAfter (IsEventBegun 2) input k)
+ExplainsFault input (BadEpoch k) =
+    IsFaulty input k × (IsAfter IsBetweenEpochs input k ⊎ IsAfter (IsEventBegun 3) input k)
+ExplainsFault input (BadEvent k) =
+    IsFaulty input k × (IsAfter (IsEventBegun 1) input k ⊎ IsAfter (IsEventBegun 2) input k)
 ExplainsFault input (BadSatellite k) = IsFaulty input k × IsAfter IsEpochBegun input k
 ExplainsFault input (CutShort k) = IsCutShort input k
 ExplainsFault input TooLong = IsTooLong input
@@ -125,7 +130,8 @@ IsNoFault _ = ⊥
 -- if the input is known to be the text of a file value of at most `most_lines` lines, this holds of the value
 abbrev pub IfTextOfFile : Option (List ℕ) → (FileValue → Type 0) → Type 0
 IfTextOfFile input Holds =
-    (v : FileValue) → IsFileValue v → length (file_lines v) ≤ most_lines → IfSome input (λ bytes. bytes ≡ file_text v → Holds v)
+    (v : FileValue) → IsFileValue v → length (file_lines v) ≤ most_lines
+    → IfSome input (λ bytes. bytes ≡ file_text v → Holds v)
 
 -- the input, if it is known, is the text of this file value, which has at most `most_lines` lines
 pub record IsTextOf (v : FileValue) (input : Option (List ℕ)) : Type 0 where

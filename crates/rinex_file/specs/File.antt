@@ -1,11 +1,13 @@
 -- The text of a file.
-use Rattle.std.specs.Prelude.{◌≡◌, ℕ, List, [], ◌∷◌, ◌++◌, length, map, flat_map, replicate, codes, Option, Some, None, if◌then◌else◌}
+use Rattle.std.specs.Prelude.{◌≡◌, ℕ, List, [], ◌∷◌, ◌++◌, length, map, flat_map, replicate, codes, Option, Some, None}
+use Rattle.std.specs.Prelude.{if◌then◌else◌}
 use Rattle.gnss_obs.specs.declared.system.System.{System}
 use Rattle.obs_epoch.specs.declared.cell.StationValues.{StationValues}
 use Rattle.obs_epoch.specs.Values.{EpochValue, PlanValue, Closed, same_values, cells_of, is_written}
 use Rattle.obs_epoch.specs.Dates.{civil_of}
 use Rattle.rinex_file.specs.Texts.{HeaderLists}
-use Rattle.rinex_file.specs.Value.{Stamped, FileValue, stamped_of, all_stamped, row_among, row_in_epoch, written_satellites}
+use Rattle.rinex_file.specs.Value.{Stamped, FileValue, stamped_of, all_stamped, row_among, row_in_epoch}
+use Rattle.rinex_file.specs.Value.{written_satellites}
 use Rattle.obs_epoch.specs.declared.cell.Cell.{Cell}
 use Rattle.rinex_file.specs.Header.{header_lines, position_line, delta_line}
 use Rattle.rinex_file.specs.Lines.{epoch_line, satellite_line}
@@ -48,7 +50,8 @@ line_or_none plan epoch system id = line_among plan system (cells_of system epoc
 
 -- the lines of a system's satellites up to a number
 unfoldable pub lines_up_to : PlanValue → EpochValue → System → ℕ → List ℕ
-lines_up_to plan epoch system most = joined (map satellite_line (map (row_in_epoch plan epoch system) (written_satellites (cells_of system epoch) most)))
+lines_up_to plan epoch system most =
+    joined (map satellite_line (map (row_in_epoch plan epoch system) (written_satellites (cells_of system epoch) most)))
 
 -- header and epochs; nothing if there is no epoch
 abbrev pub lines_of_parts : HeaderLists → PlanValue → StationValues → List Stamped → List (List ℕ)
@@ -72,13 +75,16 @@ change_text before now = if same_values before now then [] else event_text now
 -- the text of epochs that were closed after others, the last of which has these station values
 abbrev pub closed_text : PlanValue → StationValues → List Closed → List ℕ
 closed_text plan before [] = []
-closed_text plan before (c ∷ cs) = change_text before c.values ++ (epoch_text plan c.epoch ++ closed_text plan c.values cs)
+closed_text plan before (c ∷ cs) =
+    change_text before c.values ++ (epoch_text plan c.epoch ++ closed_text plan c.values cs)
 
 -- the file value of epochs that were closed, with these station values in the header
 abbrev pub gathered : HeaderLists → PlanValue → StationValues → List Closed → FileValue
-gathered texts plan values epochs = record { texts = texts; plan = plan; values = values; epochs = all_stamped plan values epochs }
+gathered texts plan values epochs =
+    record { texts = texts; plan = plan; values = values; epochs = all_stamped plan values epochs }
 
 -- The header of the first epoch and the text of each epoch after it are the text of the file of these epochs.
 abbrev pub IsTextInParts : HeaderLists → PlanValue → StationValues → Closed → List Closed → Type 0
 IsTextInParts texts plan values c cs =
-    header_text texts plan values c.epoch.time ++ closed_text plan values (c ∷ cs) ≡ file_text (gathered texts plan values (c ∷ cs))
+    header_text texts plan values c.epoch.time
+    ++ closed_text plan values (c ∷ cs) ≡ file_text (gathered texts plan values (c ∷ cs))

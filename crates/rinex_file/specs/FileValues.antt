@@ -1,5 +1,7 @@
 -- The values that a file can have: those that its lines have room for, in the order of the file.
-use Rattle.std.specs.Prelude.{◌≡◌, ◌≢◌, ⊤, ℕ, ℤ, pos, neg_ℤ, ◌+◌, ◌*◌, ◌^◌, ◌<◌, ◌≤◌, ◌≤ℤ◌, ◌||◌, Bool, true, List, [], ◌∷◌, length, All, Any, map, Option, Some, None, is_some, nat_eq, nat_lt, if◌then◌else◌, IfSome, IsTrue}
+use Rattle.std.specs.Prelude.{◌≡◌, ◌≢◌, ⊤, ℕ, ℤ, pos, neg_ℤ, ◌+◌, ◌*◌, ◌^◌, ◌<◌, ◌≤◌, ◌≤ℤ◌, ◌||◌, Bool, true, List, []}
+use Rattle.std.specs.Prelude.{◌∷◌, length, All, Any, map, Option, Some, None, is_some, nat_eq, nat_lt, if◌then◌else◌}
+use Rattle.std.specs.Prelude.{IfSome, IsTrue}
 use Rattle.std.specs.List.{IsDistinct, list_all}
 use Rattle.std.specs.List.Sorted.{IsStrictlyIncreasing}
 use Rattle.gnss_obs.specs.declared.system.System.{System}
@@ -9,7 +11,7 @@ use Rattle.gnss_obs.specs.Signals.{table}
 use Rattle.obs_epoch.specs.declared.cell.StationValues.{StationValues}
 use Rattle.obs_epoch.specs.Values.{PlanValue, planned_of}
 use Rattle.obs_epoch.specs.Weeks.{week, weeks}
-use Rattle.rinex_file.specs.declared.header.fault.HeaderField.{HeaderField}
+use Rattle.rinex_file.specs.declared.header.fields.HeaderField.{HeaderField}
 use Rattle.rinex_file.specs.Blanks.{trimmed}
 use Rattle.rinex_file.specs.Texts.{HeaderLists, text_count, width_of, text_of, is_printable}
 use Rattle.rinex_file.specs.Value.{SignalValues, Row, SatelliteRow, Stamped, FileValue}
@@ -105,7 +107,8 @@ pub record AreSatelliteRows (gps galileo : ℕ) (rows : List SatelliteRow) : Typ
 
 -- the number of satellites of the systems of which some signal is planned
 abbrev pub most_rows : ℕ → ℕ → ℕ
-most_rows gps galileo = (if nat_lt 0 gps then satellites Gps else 0) + (if nat_lt 0 galileo then satellites Galileo else 0)
+most_rows gps galileo =
+    (if nat_lt 0 gps then satellites Gps else 0) + (if nat_lt 0 galileo then satellites Galileo else 0)
 
 -- an epoch of at least one satellite
 pub record IsStamped (gps galileo : ℕ) (e : Stamped) : Type 0 where

@@ -1,18 +1,20 @@
 -- The lines of a header, RINEX 3.05, table A2: content in columns 1 to 60, the label from column 61 on.
-use Rattle.std.specs.Prelude.{ℕ, zero, suc, ℤ, pos, ◌+◌, ◌*◌, ◌/◌, ◌==◌, if◌then◌else◌, List, [], ◌∷◌, ◌++◌, length, take, drop, map, flat_map, replicate, decimal, codes, get_or, Bool, true, nat_lt}
+use Rattle.std.specs.Prelude.{ℕ, zero, suc, ℤ, pos, ◌+◌, ◌*◌, ◌/◌, ◌==◌, if◌then◌else◌, List, [], ◌∷◌, ◌++◌, length}
+use Rattle.std.specs.Prelude.{take, drop, map, flat_map, replicate, decimal, codes, get_or, Bool, true, nat_lt}
 use Rattle.gnss_obs.specs.Signals.{code_of}
 use Rattle.gnss_obs.specs.declared.system.System.{System}
 use Rattle.gnss_obs.specs.declared.system.System.TheVariants.{Gps, Galileo}
 use Rattle.obs_epoch.specs.declared.cell.StationValues.{StationValues}
 use Rattle.obs_epoch.specs.declared.civil.Civil.{Civil}
 use Rattle.obs_epoch.specs.Values.{PlanValue, planned_of}
-use Rattle.rinex_file.specs.declared.header.rows.TextRow.{TextRow}
-use Rattle.rinex_file.specs.declared.header.rows.TextRow.TheVariants.{Program, Marker, MarkerType, Observer, Receiver, Antenna}
+use Rattle.rinex_file.specs.declared.header.fields.TextRow.{TextRow}
 use Rattle.rinex_file.specs.declared.header.rows.HeaderRow.{HeaderRow}
-use Rattle.rinex_file.specs.declared.header.rows.HeaderRow.TheVariants.{Version, Texts, Position, Delta, Types, StrengthUnit, First, Shift, End}
+use Rattle.rinex_file.specs.declared.header.rows.HeaderRow.TheVariants.{Version, Texts, Position, Delta, Types}
+use Rattle.rinex_file.specs.declared.header.rows.HeaderRow.TheVariants.{StrengthUnit, First, Shift, End}
 use Rattle.rinex_file.specs.Numbers.{joined, left, right, fixed}
 use Rattle.rinex_file.specs.Limits.{content_columns, label_columns, types_in_line}
-use Rattle.rinex_file.specs.Texts.{HeaderLists, width_of, field_at}
+use Rattle.rinex_file.specs.Texts.{HeaderLists, width_of, field_at, text_rows, text_row_index, start_of, count_of}
+use Rattle.rinex_file.specs.Texts.{front_of, label_of}
 use Rattle.rinex_file.specs.Lines.{letter_of}
 
 -- content, label and a line feed
@@ -31,39 +33,10 @@ file_system p = if length p.gps == 0 then 69 else (if length p.galileo == 0 then
 
 abbrev pub version_line : PlanValue → List ℕ
 version_line p = header_line
-    (joined (right 9 (fixed 2 (pos 305)) ∷ replicate 11 32 ∷ left 20 (codes "OBSERVATION DATA") ∷ (file_system p ∷ []) ∷ []))
+    (joined
+    (right 9 (fixed 2 (pos 305)) ∷ replicate 11 32 ∷ left 20 (codes "OBSERVATION DATA") ∷ (file_system p ∷ [])
+    ∷ []))
     (codes "RINEX VERSION / TYPE")
-
--- the label of a row of texts
-abbrev pub label_of : TextRow → List ℕ
-label_of Program = codes "PGM / RUN BY / DATE"
-label_of Marker = codes "MARKER NAME"
-label_of MarkerType = codes "MARKER TYPE"
-label_of Observer = codes "OBSERVER / AGENCY"
-label_of Receiver = codes "REC # / TYPE / VERS"
-label_of Antenna = codes "ANT # / TYPE"
-
--- the index of its first text among all
-abbrev pub start_of : TextRow → ℕ
-start_of Program = 0
-start_of Marker = 2
-start_of MarkerType = 3
-start_of Observer = 4
-start_of Receiver = 6
-start_of Antenna = 9
-
--- the number of texts of a row
-abbrev pub count_of : TextRow → ℕ
-count_of Program = 2
-count_of Observer = 2
-count_of Receiver = 3
-count_of Antenna = 2
-count_of other = 1
-
--- the columns before its texts: the name of the program, or nothing
-abbrev pub front_of : TextRow → List ℕ
-front_of Program = left 20 (codes "rtcm2rinex")
-front_of other = []
 
 -- the text at an index, in its columns
 abbrev pub text_columns : HeaderLists → ℕ → List ℕ
@@ -106,7 +79,8 @@ abbrev pub type_columns : List (List ℕ) → ℕ → List ℕ
 type_columns types line = flat_map (λ t. 32 ∷ t) (take types_in_line (drop (types_in_line * line) types))
 
 abbrev pub type_line : ℕ → List (List ℕ) → ℕ → List ℕ
-type_line letter types line = header_line (type_front letter (length types) line ++ type_columns types line) (codes "SYS / # / OBS TYPES")
+type_line letter types line =
+    header_line (type_front letter (length types) line ++ type_columns types line) (codes "SYS / # / OBS TYPES")
 
 -- the number of lines that the types of a number of signals need; the last may not be full
 abbrev pub type_rows : ℕ → ℕ
@@ -127,7 +101,9 @@ strength_line = header_line (codes "DBHZ") (codes "SIGNAL STRENGTH UNIT")
 -- year, month, day, hour and minute in six columns each, and the second with seven decimals
 abbrev pub first_line : Civil → List ℕ
 first_line t = header_line
-    (joined (right 6 (decimal t.year) ∷ right 6 (decimal t.month) ∷ right 6 (decimal t.day) ∷ right 6 (decimal t.hour) ∷ right 6 (decimal t.minute)
+    (joined
+    (right 6 (decimal t.year) ∷ right 6 (decimal t.month) ∷ right 6 (decimal t.day) ∷ right 6 (decimal t.hour)
+    ∷ right 6 (decimal t.minute)
     ∷ right 13 (fixed 7 (pos (t.millisecond * 10_000))) ∷ codes "     GPS" ∷ []))
     (codes "TIME OF FIRST OBS")
 
@@ -142,7 +118,8 @@ row_line x p v t Version = version_line p
 row_line x p v t (Texts row) = texts_line x row
 row_line x p v t Position = position_line v
 row_line x p v t Delta = delta_line v
-row_line x p v t (Types system row) = type_line (letter_of system) (types_of (codes_of system (planned_of system p))) row
+row_line x p v t (Types system row) =
+    type_line (letter_of system) (types_of (codes_of system (planned_of system p))) row
 row_line x p v t StrengthUnit = strength_line
 row_line x p v t First = first_line t
 row_line x p v t (Shift system) = shift_line system
@@ -160,7 +137,7 @@ row_lines x p v t row = if has_line p row then row_line x p v t row ∷ [] else 
 -- the rows in order; the signals of a system have at most six lines of types
 abbrev pub all_rows : List HeaderRow
 all_rows =
-    Version ∷ Texts Program ∷ Texts Marker ∷ Texts MarkerType ∷ Texts Observer ∷ Texts Receiver ∷ Texts Antenna ∷ Position ∷ Delta
+    Version ∷ map Texts text_rows ++ Position ∷ Delta
     ∷ Types Gps 0 ∷ Types Gps 1 ∷ Types Gps 2 ∷ Types Gps 3 ∷ Types Gps 4 ∷ Types Gps 5
     ∷ Types Galileo 0 ∷ Types Galileo 1 ∷ Types Galileo 2 ∷ Types Galileo 3 ∷ Types Galileo 4 ∷ Types Galileo 5
     ∷ StrengthUnit ∷ First ∷ Shift Gps ∷ Shift Galileo ∷ End ∷ []
@@ -183,18 +160,10 @@ abbrev pub first_types : System → ℕ
 first_types Gps = 9
 first_types Galileo = 15
 
-abbrev pub text_row_place : TextRow → ℕ
-text_row_place Program = 1
-text_row_place Marker = 2
-text_row_place MarkerType = 3
-text_row_place Observer = 4
-text_row_place Receiver = 5
-text_row_place Antenna = 6
-
 -- the index of a row
 abbrev pub row_place : HeaderRow → ℕ
 row_place Version = 0
-row_place (Texts row) = text_row_place row
+row_place (Texts row) = 1 + text_row_index row
 row_place Position = 7
 row_place Delta = 8
 row_place (Types system row) = first_types system + row

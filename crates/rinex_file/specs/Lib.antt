@@ -1,9 +1,11 @@
 pub mod Limits
 pub mod Numbers
+pub mod Words
 pub mod Blanks
 pub mod Texts
 pub mod Value
 pub mod Lines
+pub mod Rows
 pub mod Header
 pub mod File
 pub mod Heads

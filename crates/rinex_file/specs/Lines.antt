@@ -1,5 +1,6 @@
 -- Epoch records and observation records of RINEX 3.05, table A3.
-use Rattle.std.specs.Prelude.{ℕ, ℤ, pos, ◌+◌, ◌*◌, ◌==◌, List, [], ◌∷◌, ◌++◌, flat_map, replicate, decimal, codes, if◌then◌else◌, Option, Some, None}
+use Rattle.std.specs.Prelude.{ℕ, ℤ, pos, ◌+◌, ◌*◌, ◌==◌, List, [], ◌∷◌, ◌++◌, flat_map, replicate, decimal, codes}
+use Rattle.std.specs.Prelude.{if◌then◌else◌, Option, Some, None}
 use Rattle.std.specs.Option.{option_map_or}
 use Rattle.gnss_obs.specs.Observables.{strength_digit}
 use Rattle.gnss_obs.specs.declared.system.System.{System}
@@ -41,7 +42,8 @@ strength_byte s = option_map_or (λ t. 48 + strength_digit t) s 32
 -- the 64 columns of a signal
 unfoldable pub signal_text : SignalValues → List ℕ
 signal_text e =
-    field e.c 32 (strength_byte e.s) ++ (field e.l (lli_byte e.lli) (strength_byte e.s) ++ (field e.d 32 32 ++ field e.s 32 32))
+    field e.c 32 (strength_byte e.s)
+    ++ (field e.l (lli_byte e.lli) (strength_byte e.s) ++ (field e.d 32 32 ++ field e.s 32 32))
 
 -- the letter of a system
 abbrev pub letter_of : System → ℕ

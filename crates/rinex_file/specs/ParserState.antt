@@ -1,5 +1,6 @@
 -- The parser state while a file is read, and what it means for all that was read.
-use Rattle.std.specs.Prelude.{◌≡◌, ℕ, ◌+◌, ◌≤◌, List, [], ◌∷◌, ◌++◌, length, map, Option, Some, None, Result, Ok, Err, ⊤}
+use Rattle.std.specs.Prelude.{◌≡◌, ℕ, ◌+◌, ◌≤◌, List, [], ◌∷◌, ◌++◌, length, map, Option, Some, None, Result, Ok, Err}
+use Rattle.std.specs.Prelude.{⊤}
 use Rattle.std.specs.List.{sum_by}
 use Rattle.rinex_file.specs.declared.read.parser_state.ParserState.{ParserState}
 use Rattle.rinex_file.specs.declared.read.expected.Added.{Added}
@@ -22,7 +23,8 @@ nothing = record { epochs = []; rows = [] }
 
 -- what was read if a parser state has this history
 abbrev pub progress_at : ParserState → History → Progress
-progress_at c h = record { expected = c.expected; known = c.head; epochs = h.epochs; change = c.change; time = c.time; rows = h.rows }
+progress_at c h =
+    record { expected = c.expected; known = c.head; epochs = h.epochs; change = c.change; time = c.time; rows = h.rows }
 
 -- this is the last of the numbers, or there is none
 abbrev pub EndsIn : List ℕ → Option ℕ → Type 0
@@ -71,7 +73,8 @@ with_line LastRow c h = with_epoch (with_satellite h c.seen) c.change c.time
 
 -- a file that has the line next has these lines left after it
 abbrev pub GoesOnWithLine : Progress → Progress → List ℕ → Type 0
-GoesOnWithLine old new line = (v : FileValue) (left : List (List ℕ)) → HasLinesLeft old v (line ∷ left) → HasLinesLeft new v left
+GoesOnWithLine old new line =
+    (v : FileValue) (left : List (List ℕ)) → HasLinesLeft old v (line ∷ left) → HasLinesLeft new v left
 
 -- the line is that of what was added to what was read
 abbrev pub ShowsLine : Progress → Progress → List ℕ → Type 0

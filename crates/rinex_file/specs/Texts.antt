@@ -1,56 +1,110 @@
--- The eleven texts of a header, RINEX 3.05, table A2.
-use Rattle.std.specs.Prelude.{ℕ, ◌&&◌, Bool, nat_le, nat_lt, List, [], ◌∷◌, length, get_or, map, Option, Some, None, if◌then◌else◌}
+-- The texts of a header: their rows, columns and widths. RINEX 3.05, table A2.
+use Rattle.std.specs.Prelude.{ℕ, ◌+◌, ◌&&◌, Bool, nat_le, nat_lt, List, [], ◌∷◌, length, take, get_or, map, flat_map}
+use Rattle.std.specs.Prelude.{codes, Option, Some, None, if◌then◌else◌}
 use Rattle.std.specs.List.{list_all}
-use Rattle.rinex_file.specs.declared.header.fault.HeaderField.{HeaderField}
-use Rattle.rinex_file.specs.declared.header.fault.HeaderField.TheVariants.{RunBy, Date, Marker, MarkerType, Observer, Agency, RecNumber, RecType, RecVersion, AntNumber, AntType}
+use Rattle.rinex_file.specs.declared.header.fields.HeaderField.{HeaderField}
+use Rattle.rinex_file.specs.declared.header.fields.HeaderField.TheVariants.{RunBy, Date, Marker, MarkerType, Observer}
+use Rattle.rinex_file.specs.declared.header.fields.HeaderField.TheVariants.{Agency, RecNumber, RecType, RecVersion}
+use Rattle.rinex_file.specs.declared.header.fields.HeaderField.TheVariants.{AntNumber, AntType}
+use Rattle.rinex_file.specs.declared.header.fields.TextRow.{TextRow}
+use Rattle.rinex_file.specs.declared.header.fields.TextRow.TheVariants as row
 use Rattle.rinex_file.specs.declared.header.fault.HeadFault.{HeadFault}
 use Rattle.rinex_file.specs.declared.header.fault.HeadFault.TheVariants.{TooLong, NotPrintable}
 use Rattle.rinex_file.specs.Blanks.{trimmed}
+use Rattle.rinex_file.specs.Numbers.{left}
+
+-- ---- the table of the texts
+
+-- the texts of a row, in order
+abbrev pub fields_of : TextRow → List HeaderField
+fields_of row.Program = RunBy ∷ Date ∷ []
+fields_of row.Marker = Marker ∷ []
+fields_of row.MarkerType = MarkerType ∷ []
+fields_of row.Observer = Observer ∷ Agency ∷ []
+fields_of row.Receiver = RecNumber ∷ RecType ∷ RecVersion ∷ []
+fields_of row.Antenna = AntNumber ∷ AntType ∷ []
+
+-- the index of a field among all, and its width in columns
+abbrev pub place_and_width : HeaderField → ℕ × ℕ
+place_and_width RunBy = (0, 20)
+place_and_width Date = (1, 20)
+place_and_width Marker = (2, 60)
+place_and_width MarkerType = (3, 20)
+place_and_width Observer = (4, 20)
+place_and_width Agency = (5, 40)
+place_and_width RecNumber = (6, 20)
+place_and_width RecType = (7, 20)
+place_and_width RecVersion = (8, 20)
+place_and_width AntNumber = (9, 20)
+place_and_width AntType = (10, 20)
+
+-- ---- their rows
+
+-- the rows of texts, in order
+abbrev pub text_rows : List TextRow
+text_rows = row.Program ∷ row.Marker ∷ row.MarkerType ∷ row.Observer ∷ row.Receiver ∷ row.Antenna ∷ []
+
+-- the index of a row among those of texts
+abbrev pub text_row_index : TextRow → ℕ
+text_row_index row.Program = 0
+text_row_index row.Marker = 1
+text_row_index row.MarkerType = 2
+text_row_index row.Observer = 3
+text_row_index row.Receiver = 4
+text_row_index row.Antenna = 5
+
+-- the label of a row
+abbrev pub label_of : TextRow → List ℕ
+label_of row.Program = codes "PGM / RUN BY / DATE"
+label_of row.Marker = codes "MARKER NAME"
+label_of row.MarkerType = codes "MARKER TYPE"
+label_of row.Observer = codes "OBSERVER / AGENCY"
+label_of row.Receiver = codes "REC # / TYPE / VERS"
+label_of row.Antenna = codes "ANT # / TYPE"
+
+-- the columns before its texts: the name of the program, or nothing
+abbrev pub front_of : TextRow → List ℕ
+front_of row.Program = left 20 (codes "rtcm2rinex")
+front_of other = []
+
+-- ---- what follows from the table
+
+-- the fields in the order in which they are validated
+abbrev pub fields : List HeaderField
+fields = flat_map fields_of text_rows
+
+abbrev pub text_count : ℕ
+text_count = length fields
+
+abbrev pub place_of : HeaderField → ℕ
+place_of field = (place_and_width field).0
+
+abbrev pub width_of : HeaderField → ℕ
+width_of field = (place_and_width field).1
+
+-- the index of a row's first text among all, and the number of its texts
+abbrev pub start_of : TextRow → ℕ
+start_of r = length (flat_map fields_of (take (text_row_index r) text_rows))
+
+abbrev pub count_of : TextRow → ℕ
+count_of r = length (fields_of r)
+
+-- the first columns of these fields, one after the other
+abbrev pub columns_from : ℕ → List HeaderField → List ℕ
+columns_from column [] = []
+columns_from column (f ∷ fs) = column ∷ columns_from (column + width_of f) fs
+
+-- the first column of the text at an index, counted from 0
+abbrev pub column_at : ℕ → ℕ
+column_at place = get_or (flat_map (λ r. columns_from (length (front_of r)) (fields_of r)) text_rows) place 0
 
 -- the bytes of each text, in the order of the fields
 abbrev pub HeaderLists : Type 0
 HeaderLists = List (List ℕ)
 
-abbrev pub text_count : ℕ
-text_count = 11
-
--- the index of a field among all
-abbrev pub place_of : HeaderField → ℕ
-place_of RunBy = 0
-place_of Date = 1
-place_of Marker = 2
-place_of MarkerType = 3
-place_of Observer = 4
-place_of Agency = 5
-place_of RecNumber = 6
-place_of RecType = 7
-place_of RecVersion = 8
-place_of AntNumber = 9
-place_of AntType = 10
-
--- the width of a field, in columns
-abbrev pub width_of : HeaderField → ℕ
-width_of Marker = 60
-width_of Agency = 40
-width_of other = 20
-
--- the first column of a field in its line, counted from 0
-abbrev pub column_of : HeaderField → ℕ
-column_of RunBy = 20
-column_of Date = 40
-column_of Agency = 20
-column_of RecType = 20
-column_of RecVersion = 40
-column_of AntType = 20
-column_of other = 0
-
 -- the text of a field
 abbrev pub text_of : HeaderLists → HeaderField → List ℕ
 text_of t field = get_or t (place_of field) []
-
--- the fields in the order in which they are validated
-abbrev pub fields : List HeaderField
-fields = RunBy ∷ Date ∷ Marker ∷ MarkerType ∷ Observer ∷ Agency ∷ RecNumber ∷ RecType ∷ RecVersion ∷ AntNumber ∷ AntType ∷ []
 
 -- the field at an index
 abbrev pub field_at : ℕ → HeaderField

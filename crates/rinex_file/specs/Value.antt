@@ -1,5 +1,6 @@
 -- The contents of a file.
-use Rattle.std.specs.Prelude.{ℕ, ℤ, ◌==◌, ◌&&◌, Bool, List, [], ◌∷◌, ◌++◌, zero, suc, map, filter, find, if◌then◌else◌, Option, Some, None}
+use Rattle.std.specs.Prelude.{ℕ, ℤ, ◌==◌, ◌&&◌, Bool, List, [], ◌∷◌, ◌++◌, zero, suc, map, filter, find, if◌then◌else◌}
+use Rattle.std.specs.Prelude.{Option, Some, None}
 use Rattle.std.specs.Option.{option_map_or}
 use Rattle.gnss_obs.specs.declared.system.System.{System}
 use Rattle.gnss_obs.specs.declared.system.System.TheVariants.{Gps, Galileo}
@@ -31,7 +32,8 @@ pub record SatelliteRow : Type 0 where
 
 -- a satellite of a system with these entries
 abbrev pub satellite_row : System → ℕ → List SignalValues → SatelliteRow
-satellite_row system satellite entries = record { system = system; row = record { satellite = satellite; entries = entries } }
+satellite_row system satellite entries =
+    record { system = system; row = record { satellite = satellite; entries = entries } }
 
 -- An epoch: a map from satellites to entries, as a list of satellites in ascending order, those of GPS first. `change`
 -- are the station values that hold from this epoch on, if they differ from those before.
@@ -90,10 +92,12 @@ row_in_epoch plan epoch system id = row_among plan system (cells_of system epoch
 
 -- the satellites of a system that are written
 abbrev pub rows_of : PlanValue → EpochValue → System → List SatelliteRow
-rows_of plan epoch system = map (row_in_epoch plan epoch system) (written_satellites (cells_of system epoch) (satellites system))
+rows_of plan epoch system =
+    map (row_in_epoch plan epoch system) (written_satellites (cells_of system epoch) (satellites system))
 
 abbrev pub stamped_of : PlanValue → EpochValue → Stamped
-stamped_of plan epoch = record { change = None; time = epoch.time; rows = rows_of plan epoch Gps ++ rows_of plan epoch Galileo }
+stamped_of plan epoch =
+    record { change = None; time = epoch.time; rows = rows_of plan epoch Gps ++ rows_of plan epoch Galileo }
 
 -- the station values now, if they differ from those before
 abbrev pub change_from : StationValues → StationValues → Option StationValues

@@ -1,5 +1,6 @@
 //! The header: its contents, and its lines in order. RINEX 3.05, table A2.
 pub(crate) mod fault;
+pub(crate) mod fields;
 pub(crate) mod head;
 pub(crate) mod labels;
 pub(crate) mod lines;

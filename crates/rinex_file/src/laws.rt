@@ -18,9 +18,11 @@ pub fn file()
     ensures text { (texts : HeaderLists) (plan : PlanValue) (values : StationValues) (c : Closed) (cs : List Closed)
         → IsTextInParts texts plan values c cs }
     // Without an epoch the file is empty.
-    ensures none { (texts : HeaderLists) (plan : PlanValue) (values : StationValues) → file_text (gathered texts plan values []) ≡ [] }
+    ensures none { (texts : HeaderLists) (plan : PlanValue) (values : StationValues)
+        → file_text (gathered texts plan values []) ≡ [] }
     // A header isn't empty.
-    ensures some { (texts : HeaderLists) (plan : PlanValue) (values : StationValues) (first : ℕ) → header_text texts plan values first ≢ [] }
+    ensures some { (texts : HeaderLists) (plan : PlanValue) (values : StationValues) (first : ℕ)
+        → header_text texts plan values first ≢ [] }
 {}
 
 /// Epochs that are gathered from messages that were read make a file value, so their text can be

@@ -11,7 +11,8 @@ mod read;
 mod values;
 mod write;
 
-pub use header::fault::{HeadFault, HeaderField};
+pub use header::fault::HeadFault;
+pub use header::fields::HeaderField;
 pub use header::head::{Head, HeaderLines, header_lines};
 pub use header::texts::{HeaderTexts, Texts};
 pub use read::fault::ReadFault;

@@ -1,6 +1,7 @@
 //! Reading a file line by line: the fields of each line are read leniently, written again, and
 //! compared.
 pub(crate) mod block;
+pub(crate) mod columns;
 pub(crate) mod epoch;
 pub(crate) mod expected;
 pub(crate) mod fault;

@@ -7,6 +7,7 @@ ghost use Rattle.gnss_obs.specs.Satellites.{satellites};
 ghost use Rattle.rinex_file.specs.File.{event_text, epoch_text, line_among, lines_up_to};
 ghost use Rattle.rinex_file.specs.Heads.{head_text};
 
+pub(crate) mod digits;
 pub(crate) mod epoch;
 pub(crate) mod event;
 pub(crate) mod file;
@@ -32,8 +33,10 @@ use std::io::Write;
 /// [`HeadFault::Write`] if the writer fails; the bytes written are then a prefix of the header.
 #[tactic(auto, unfolding(crate::specs::File::header_text))]
 pub fn write_header<W: Write>(head: &Head, writer: &mut Counted<W>) -> Result<(), HeadFault>
-    ensures whole { OnOk result (Appends (W.contents writer.old.inner) (W.contents writer.new.inner) (head_text head.now)) }
-    ensures part { OnErr result (AppendsPrefix (W.contents writer.old.inner) (W.contents writer.new.inner) (head_text head.now)) }
+    ensures whole { OnOk result
+        (Appends (W.contents writer.old.inner) (W.contents writer.new.inner) (head_text head.now)) }
+    ensures part { OnErr result
+        (AppendsPrefix (W.contents writer.old.inner) (W.contents writer.new.inner) (head_text head.now)) }
     ensures only { IfErr result (λ fault. fault ≡ HeadFault.Write) }
     ensures device { FailsWith result writer.old writer.new }
 {
@@ -53,8 +56,10 @@ pub fn write_event<W: Write>(
     values: StationValues,
     writer: &mut Counted<W>,
 ) -> Result<(), HeadFault>
-    ensures whole { OnOk result (Appends (W.contents writer.old.inner) (W.contents writer.new.inner) (event_text values)) }
-    ensures part { OnErr result (AppendsPrefix (W.contents writer.old.inner) (W.contents writer.new.inner) (event_text values)) }
+    ensures whole { OnOk result
+        (Appends (W.contents writer.old.inner) (W.contents writer.new.inner) (event_text values)) }
+    ensures part { OnErr result
+        (AppendsPrefix (W.contents writer.old.inner) (W.contents writer.new.inner) (event_text values)) }
     ensures only { IfErr result (λ fault. fault ≡ HeadFault.Write) }
     ensures device { FailsWith result writer.old writer.new }
 {
@@ -75,8 +80,12 @@ fn write_satellite<W: Write>(
 ) -> Result<(), DeviceFailed>
     requires held { AreHeld system cells.now }
     requires id { id < 100 }
-    ensures whole { OnOk result (Appends (W.contents writer.old.inner) (W.contents writer.new.inner) (line_among plan.now system cells.now id)) }
-    ensures part { OnErr result (AppendsPrefix (W.contents writer.old.inner) (W.contents writer.new.inner) (line_among plan.now system cells.now id)) }
+    ensures whole { OnOk result
+        (Appends (W.contents writer.old.inner) (W.contents writer.new.inner)
+        (line_among plan.now system cells.now id)) }
+    ensures part { OnErr result
+        (AppendsPrefix (W.contents writer.old.inner) (W.contents writer.new.inner)
+        (line_among plan.now system cells.now id)) }
     ensures device { FailsWith result writer.old writer.new }
 {
     if !is_written(cells, id) {
@@ -122,8 +131,11 @@ pub fn write_epoch<W: Write>(
     plan: &Plan,
     writer: &mut Counted<W>,
 ) -> Result<(), HeadFault>
-    ensures whole { OnOk result (Appends (W.contents writer.old.inner) (W.contents writer.new.inner) (epoch_text plan.now epoch.now.epoch)) }
-    ensures part { OnErr result (AppendsPrefix (W.contents writer.old.inner) (W.contents writer.new.inner) (epoch_text plan.now epoch.now.epoch)) }
+    ensures whole { OnOk result
+        (Appends (W.contents writer.old.inner) (W.contents writer.new.inner) (epoch_text plan.now epoch.now.epoch)) }
+    ensures part { OnErr result
+        (AppendsPrefix (W.contents writer.old.inner) (W.contents writer.new.inner)
+        (epoch_text plan.now epoch.now.epoch)) }
     ensures only { IfErr result (λ fault. fault ≡ HeadFault.Write) }
     ensures device { FailsWith result writer.old writer.new }
 {

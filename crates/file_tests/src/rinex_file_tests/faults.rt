@@ -3,38 +3,20 @@ use rinex_file::{HeadFault, HeaderField, ReadFault};
 use std::alloc::Global;
 
 static HEAD_FAULTS: [(HeadFault, &str); 3] = [
-    (
-        HeadFault::TooLong(HeaderField::Agency),
-        "a text of the header has more bytes than columns",
-    ),
-    (
-        HeadFault::NotPrintable(HeaderField::RunBy),
-        "a text of the header has a byte that is not printable",
-    ),
-    (HeadFault::Write, "the writer failed"),
+    (HeadFault::TooLong(HeaderField::Agency), "TooLong agency"),
+    (HeadFault::NotPrintable(HeaderField::RunBy), "NotPrintable run_by"),
+    (HeadFault::Write, "Write"),
 ];
 
 static READ_FAULTS: [(ReadFault, &str); 8] = [
-    (ReadFault::Memory, "memory ran out"),
-    (ReadFault::Read, "the reader failed"),
-    (
-        ReadFault::BadHeader(2),
-        "a line of the header is spelled otherwise",
-    ),
-    (
-        ReadFault::BadEpoch(15),
-        "the line of an epoch is spelled otherwise",
-    ),
-    (
-        ReadFault::BadEvent(18),
-        "a line of an event is spelled otherwise",
-    ),
-    (
-        ReadFault::BadSatellite(16),
-        "the line of a satellite is spelled otherwise",
-    ),
-    (ReadFault::CutShort(1), "the file ends too soon"),
-    (ReadFault::TooLong, "the file has too many lines"),
+    (ReadFault::Memory, "Memory"),
+    (ReadFault::Read, "Read"),
+    (ReadFault::BadHeader(2), "BadHeader 2"),
+    (ReadFault::BadEpoch(15), "BadEpoch 15"),
+    (ReadFault::BadEvent(18), "BadEvent 18"),
+    (ReadFault::BadSatellite(16), "BadSatellite 16"),
+    (ReadFault::CutShort(1), "CutShort 1"),
+    (ReadFault::TooLong, "TooLong"),
 ];
 
 static FIELD_NAMES: [(HeaderField, &str); 11] = [

@@ -1,19 +1,22 @@
 -- From one line of a header to the next while its lines are read.
-use Rattle.std.specs.Prelude.{◌≡◌, ℕ, suc, ◌+◌, ◌<◌, ◌==◌, ◌||◌, ◌&&◌, nat_lt, Bool, true, List, [], ◌∷◌, length, get_or, take, drop, min, Option, Some, ⊤, ◌↔◌, MatchBool, All, nat_eq}
+use Rattle.std.specs.Prelude.{◌≡◌, ℕ, suc, ◌+◌, ◌<◌, ◌==◌, ◌||◌, ◌&&◌, nat_lt, Bool, true, List, [], ◌∷◌, ◌++◌, length}
+use Rattle.std.specs.Prelude.{get_or, take, drop, min, Option, Some, None, ⊤, ◌↔◌, MatchBool}
 use Rattle.obs_epoch.specs.declared.cell.StationValues.{StationValues}
-use Rattle.gnss_obs.specs.Signals.{SignalAt, IsSignal, code_of, table}
-use Rattle.std.specs.List.{IsDistinct}
+use Rattle.gnss_obs.specs.Signals.{SignalAt, IsSignal, code_of}
 use Rattle.gnss_obs.specs.declared.system.System.{System}
 use Rattle.gnss_obs.specs.declared.system.System.TheVariants.{Gps, Galileo}
-use Rattle.obs_epoch.specs.Values.{PlanValue, planned_of}
-use Rattle.rinex_file.specs.declared.header.rows.TextRow.{TextRow}
+use Rattle.obs_epoch.specs.Values.{PlanValue}
+use Rattle.rinex_file.specs.declared.header.fields.TextRow.{TextRow}
 use Rattle.rinex_file.specs.declared.header.rows.HeaderRow.{HeaderRow}
 use Rattle.rinex_file.specs.declared.header.rows.HeaderRow.TheVariants.{Types, Shift, End}
+use Rattle.rinex_file.specs.Begun.{lines_of_header}
 use Rattle.rinex_file.specs.Blanks.{trimmed}
-use Rattle.rinex_file.specs.Texts.{HeaderLists, width_of, column_of, field_at}
-use Rattle.rinex_file.specs.FileValues.{AreTexts, AreValues, IsTime, of_system}
-use Rattle.rinex_file.specs.Header.{row_place, start_of, count_of, texts_line, type_rows}
-use Rattle.rinex_file.specs.Read.Progress.{Known, Shown, IsShown, KnowsAt, IsHeaderLeft, MayFollow, plans, signal_count, shown_line, is_some_planned, AreTypes, types_line, signals_begun}
+use Rattle.rinex_file.specs.Texts.{HeaderLists, width_of, column_at, field_at, start_of, count_of}
+use Rattle.rinex_file.specs.FileValues.{AreTexts, of_system}
+use Rattle.rinex_file.specs.Header.{row_place, texts_line, type_rows}
+use Rattle.rinex_file.specs.Read.Progress.{Known, Shown, IsShown, MayPlan, HasReadRows, IsHeadAt, IsOnlyTime}
+use Rattle.rinex_file.specs.Read.Progress.{shown_with, shown_rows, lines_before, plans, signal_count, shown_line}
+use Rattle.rinex_file.specs.Read.Progress.{AreTypes, types_line, signals_begun}
 
 -- a row other than those of types and the last
 abbrev pub IsSole : HeaderRow → Type 0
@@ -27,59 +30,58 @@ known_line k (Types system row) = plans k system && (row == 0 || nat_lt row (typ
 known_line k (Shift system) = plans k system
 known_line k other = true
 
--- each part of what was read is one of a header
-pub record AreValid (k : Known) : Type 0 where
-  pub texts : AreTexts k.shown.texts
-  pub listed : (system : System) → All (λ i. i < length (table system)) (planned_of system k.shown.plan)
-  pub apart : (system : System) → IsDistinct nat_eq (planned_of system k.shown.plan)
-  pub values : AreValues k.shown.values
-  pub first : IsTime k.shown.first
+-- The line is that of a row, by what is known after it; the rows before and what was known of the plan are unchanged.
+pub record IsLearned (row : HeaderRow) (line : List ℕ) (old new : Known) : Type 0 where
+  pub plans : (p : PlanValue) → MayPlan new p → MayPlan old p
+  pub before : (p : PlanValue)
+      → lines_before (shown_with new p) (row_place row) ≡ lines_before (shown_with old p) (row_place row)
+  pub shows : (p : PlanValue) → MayPlan new p → shown_rows (shown_with new p) row ≡ line ∷ []
+  pub reads : HasReadRows new (suc (row_place row))
 
--- some header has what is known before a row
-pub record HasShownAt (place : ℕ) (k : Known) : Type 0 where
-  pub h : Shown
-  pub is : IsShown h
-  pub knows : KnowsAt place k h
-
--- The content of a row's line is known now, and so is what was known before. Some header still has it.
-pub record LearnsLine (row : HeaderRow) (line : List ℕ) (old new : Known) : Type 0 where
-  pub says : (h : Shown) → IsShown h → (KnowsAt (row_place row) old h × (shown_line h row ≡ line)) ↔ KnowsAt (suc (row_place row)) new h
-  pub stays : AreValid new → HasShownAt (row_place row) old → HasShownAt (suc (row_place row)) new
+abbrev pub LearnsLine : HeaderRow → List ℕ → Known → Known → Type 0
+LearnsLine row line old new = HasReadRows old (row_place row) → known_line old row ≡ true → IsLearned row line old new
 
 -- no header has this line in a row
-abbrev pub RefusesHeaderLine : HeaderRow → List ℕ → Known → Type 0
-RefusesHeaderLine row line old = (h : Shown) → IsShown h → KnowsAt (row_place row) old h → shown_line h row ≡ line → ⊥
+abbrev pub RefusesHeaderLine : HeaderRow → List ℕ → Type 0
+RefusesHeaderLine row line = (h : Shown) → IsShown h → shown_line h row ≡ line → ⊥
 
 -- what was learned from a line, or that it is refused
 abbrev pub LearnsOrRefuses : HeaderRow → List ℕ → Known → Known → Bool → Type 0
-LearnsOrRefuses row line old new taken = MatchBool taken (LearnsLine row line old new) (RefusesHeaderLine row line old)
+LearnsOrRefuses row line old new taken = MatchBool taken (LearnsLine row line old new) (RefusesHeaderLine row line)
 
--- signals of a system were read if and only if it is planned, in the number that its first line of types contains
-pub record IsWholeOf (system : System) (k : Known) : Type 0 where
-  pub planned : plans k system ≡ is_some_planned (planned_of system k.shown.plan)
-  pub count : 0 < length (planned_of system k.shown.plan) → signal_count k system ≡ length (planned_of system k.shown.plan)
+-- the line follows those before a row, and the row at `next` follows it
+pub record GoesTo (old : Known) (place : ℕ) (line : List ℕ) (new : Known) (next : ℕ) : Type 0 where
+  pub plans : (p : PlanValue) → MayPlan new p → MayPlan old p
+  pub lines : (p : PlanValue) → MayPlan new p
+      → lines_before (shown_with new p) next ≡ lines_before (shown_with old p) place ++ line ∷ []
+  pub at : IsHeadAt new next
 
--- the signals of both systems were read, and there is at least one
-abbrev pub IsWhole : Known → Type 0
-IsWhole k = ((system : System) → IsWholeOf system k) × (0 < length k.shown.plan.gps + length k.shown.plan.galileo)
+-- the line is the last of the header that was read
+pub record EndsHeader (old : Known) (place : ℕ) (line : List ℕ) (new : Known) : Type 0 where
+  pub is : IsShown new.shown
+  pub only : IsOnlyTime new.shown.first
+  pub lines : (p : PlanValue) → MayPlan old p
+      → lines_of_header new.shown ≡ lines_before (shown_with old p) place ++ line ∷ []
 
--- the headers that continue with the line are those that continue from the next row
 abbrev pub StepsTo : Known → ℕ → List ℕ → Known → Option ℕ → Type 0
-StepsTo old place line new next = (h : Shown) (left : List (List ℕ)) → IsHeaderLeft old place h (line ∷ left) ↔ MayFollow new next h left
+StepsTo old place line new None = EndsHeader old place line new
+StepsTo old place line new (Some next) = GoesTo old place line new next
 
 -- no header continues with this line
 abbrev pub NoneGoesOn : Known → ℕ → List ℕ → Type 0
-NoneGoesOn old place line = (h : Shown) (left : List (List ℕ)) → IsHeaderLeft old place h (line ∷ left) → ⊥
+NoneGoesOn k place line = (p : PlanValue) (h : Shown) (others left : List (List ℕ)) → MayPlan k p → IsShown h
+    → lines_of_header h ++ others ≡ lines_before (shown_with k p) place ++ line ∷ left → ⊥
 
--- the headers that continue from a row are those that continue from a later one
-abbrev pub SameFrom : Known → ℕ → ℕ → Type 0
-SameFrom k place next = (h : Shown) (left : List (List ℕ)) → IsHeaderLeft k place h left ↔ IsHeaderLeft k next h left
+-- no row from an index up to another has a line
+pub record SameFrom (k : Known) (place next : ℕ) : Type 0 where
+  pub lines : (p : PlanValue) → MayPlan k p → lines_before (shown_with k p) place ≡ lines_before (shown_with k p) next
+  pub at : IsHeadAt k next
 
 -- ---- texts
 
--- the text in the columns of a field
+-- the text in the columns of the field at an index
 abbrev pub text_in : ℕ → List ℕ → List ℕ
-text_in place line = trimmed (take (width_of (field_at place)) (drop (column_of (field_at place)) line))
+text_in place line = trimmed (take (width_of (field_at place)) (drop (column_at place) line))
 
 -- the texts of a row were read from its columns, and those before are unchanged
 pub record TakesTexts (row : TextRow) (count : ℕ) (line : List ℕ) (old new : HeaderLists) : Type 0 where
@@ -126,7 +128,8 @@ with_first k first = record {
 
 -- what was read, with the systems of the first line
 abbrev pub with_systems : Known → Bool → Bool → Known
-with_systems k gps galileo = record { shown = k.shown; gps = gps; galileo = galileo; gps_count = k.gps_count; galileo_count = k.galileo_count }
+with_systems k gps galileo =
+    record { shown = k.shown; gps = gps; galileo = galileo; gps_count = k.gps_count; galileo_count = k.galileo_count }
 
 -- the same plan with the signals of a system
 abbrev pub plan_with : System → PlanValue → List ℕ → PlanValue
@@ -136,7 +139,13 @@ plan_with Galileo p signals = record { gps = p.gps; galileo = signals }
 -- what was read, with the signals of a system
 abbrev pub with_signals : System → Known → List ℕ → Known
 with_signals system k signals = record {
-  shown = record { texts = k.shown.texts; plan = plan_with system k.shown.plan signals; values = k.shown.values; first = k.shown.first };
+  shown =
+      record {
+        texts = k.shown.texts;
+        plan = plan_with system k.shown.plan signals;
+        values = k.shown.values;
+        first = k.shown.first;
+      };
   gps = k.gps;
   galileo = k.galileo;
   gps_count = k.gps_count;
@@ -161,7 +170,8 @@ AreBegun count row signals all = (length all ≡ count) × (signals ≡ take (si
 
 -- the signals that begin in a line were appended to those of the lines before
 pub record TakesRow (system : System) (count row : ℕ) (line old new : List ℕ) : Type 0 where
-  pub taken : (all : List ℕ) → AreTypes system all → (AreBegun count row old all × (line ≡ types_line system all row)) ↔ AreBegun count (row + 1) new all
+  pub taken : (all : List ℕ) → AreTypes system all → (AreBegun count row old all × (line ≡ types_line system all row))
+      ↔ AreBegun count (row + 1) new all
   pub size : length new ≡ min (signals_begun (row + 1)) count
 
 -- the number of signals of a system, if this line of its types is expected
@@ -173,12 +183,14 @@ CountsExpected k system row line count =
 -- if the line is that of these types, the signals that begin in it were appended to those of the lines before
 abbrev pub ReadsRow : System → ℕ → ℕ → List ℕ → List ℕ → List ℕ → Type 0
 ReadsRow system count row line old new =
-    (all : List ℕ) → AreTypes system all → AreBegun count row old all → line ≡ types_line system all row → new ≡ take (signals_begun (row + 1)) all
+    (all : List ℕ) → AreTypes system all → AreBegun count row old all → line ≡ types_line system all row
+    → new ≡ take (signals_begun (row + 1)) all
 
 -- the line is that of these types if and only if the signals that begin in it were appended
 abbrev pub ComparesRow : System → ℕ → ℕ → List ℕ → List ℕ → List ℕ → Type 0
 ComparesRow system count row line old new =
-    (all : List ℕ) → AreTypes system all → AreBegun count row old all → (line ≡ types_line system all row) ↔ (new ≡ take (signals_begun (row + 1)) all)
+    (all : List ℕ) → AreTypes system all → AreBegun count row old all → (line ≡ types_line system all row)
+    ↔ (new ≡ take (signals_begun (row + 1)) all)
 
 -- the code of this signal of a system is at a column of a line, counted from 0
 abbrev pub HasSignalAt : System → List ℕ → ℕ → SignalAt → Type 0
@@ -186,4 +198,5 @@ HasSignalAt system line column s = IsSignal s × (s.system ≡ system) × (take 
 
 -- the line is no line of types after these signals
 abbrev pub RefusesRow : System → ℕ → ℕ → List ℕ → List ℕ → Type 0
-RefusesRow system count row line old = (all : List ℕ) → AreTypes system all → AreBegun count row old all → line ≡ types_line system all row → ⊥
+RefusesRow system count row line old =
+    (all : List ℕ) → AreTypes system all → AreBegun count row old all → line ≡ types_line system all row → ⊥

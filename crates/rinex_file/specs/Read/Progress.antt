@@ -1,22 +1,26 @@
 -- What is known of a file while it is read line by line, and which files are still possible.
-use Rattle.std.specs.Prelude.{◌≡◌, ℕ, ℤ, ◌+◌, ◌-◌, ◌*◌, ◌/◌, ◌<◌, ◌==◌, not, Bool, List, [], ◌∷◌, ◌++◌, length, take, drop, get_or, map, All, replicate, codes, pos, nat_eq, if◌then◌else◌, flat_map, Option, Some, None, ⊤}
+use Rattle.std.specs.Prelude.{◌≡◌, ℕ, ℤ, ◌+◌, ◌-◌, ◌*◌, ◌/◌, ◌<◌, ◌≤◌, ◌==◌, ◌||◌, ◌↔◌, not, true, false, min, Bool}
+use Rattle.std.specs.Prelude.{List, [], ◌∷◌, ◌++◌, length, take, drop, map, All, replicate, codes, pos, nat_eq}
+use Rattle.std.specs.Prelude.{if◌then◌else◌, flat_map, Option, Some, None, ⊤}
 use Rattle.gnss_obs.specs.declared.system.System.{System}
 use Rattle.obs_epoch.specs.declared.cell.StationValues.{StationValues}
 use Rattle.obs_epoch.specs.Values.{PlanValue, planned_of}
 use Rattle.obs_epoch.specs.Dates.{civil_of}
 use Rattle.rinex_file.specs.declared.header.rows.HeaderRow.{HeaderRow}
 use Rattle.rinex_file.specs.declared.read.expected.Expected.{Expected}
-use Rattle.rinex_file.specs.declared.read.expected.Expected.TheVariants.{Header, Epoch, EventPosition, EventHeight, EventEpoch, Satellite}
-use Rattle.rinex_file.specs.Texts.{HeaderLists, text_count}
+use Rattle.rinex_file.specs.declared.read.expected.Expected.TheVariants.{Header, Epoch, EventPosition, EventHeight}
+use Rattle.rinex_file.specs.declared.read.expected.Expected.TheVariants.{EventEpoch, Satellite}
+use Rattle.rinex_file.specs.Texts.{HeaderLists}
 use Rattle.rinex_file.specs.Value.{SatelliteRow, Stamped, FileValue}
 use Rattle.rinex_file.specs.FileValues.{AreTexts, IsPlan, AreValues, IsTime, IsFileValue, of_system}
-use Rattle.rinex_file.specs.Header.{row_line, header_lines, lines_from, row_count, first_types, header_line, type_line, types_of, codes_of}
+use Rattle.rinex_file.specs.Header.{row_line, row_lines, header_lines, lines_from, all_rows, row_count, first_types}
+use Rattle.rinex_file.specs.Header.{first_line, header_line, type_line, types_of, codes_of}
 use Rattle.rinex_file.specs.Limits.{types_in_line}
 use Rattle.rinex_file.specs.Lines.{satellite_line, letter_of}
 use Rattle.rinex_file.specs.Numbers.{joined, left, right, fixed}
 use Rattle.gnss_obs.specs.Signals.{table}
 use Rattle.std.specs.List.{IsDistinct}
-use Rattle.rinex_file.specs.File.{stamped_lines}
+use Rattle.rinex_file.specs.File.{stamped_lines, file_lines}
 
 -- ---- the header
 
@@ -37,13 +41,17 @@ pub record IsShown (h : Shown) : Type 0 where
 abbrev pub shown_line : Shown → HeaderRow → List ℕ
 shown_line h row = row_line h.texts h.plan h.values (civil_of h.first) row
 
--- the lines of the rows from an index on
-abbrev pub shown_from : Shown → ℕ → List (List ℕ)
-shown_from h place = lines_from h.texts h.plan h.values (civil_of h.first) place
+-- the lines of a row: one, or none
+abbrev pub shown_rows : Shown → HeaderRow → List (List ℕ)
+shown_rows h row = row_lines h.texts h.plan h.values (civil_of h.first) row
 
--- these are all lines of this header
-abbrev pub AreHeaderLines : Shown → List (List ℕ) → Type 0
-AreHeaderLines h lines = IsShown h × (lines ≡ header_lines h.texts h.plan h.values (civil_of h.first))
+-- the lines of the rows before an index
+abbrev pub lines_before : Shown → ℕ → List (List ℕ)
+lines_before h place = flat_map (shown_rows h) (take place all_rows)
+
+-- the lines of the rows from an index on
+abbrev pub lines_after : Shown → ℕ → List (List ℕ)
+lines_after h place = lines_from h.texts h.plan h.values (civil_of h.first) place
 
 -- What was read of a header: its parts, each with its initial value until its line is read; whether a system is
 -- planned, by the first line; and the number of its signals, by its first line of types.
@@ -69,7 +77,9 @@ is_some_planned signals = not (length signals == 0)
 -- the first line of a file in which these systems are planned
 abbrev pub version_with : Bool → Bool → List ℕ
 version_with gps galileo = header_line
-    (joined (right 9 (fixed 2 (pos 305)) ∷ replicate 11 32 ∷ left 20 (codes "OBSERVATION DATA") ∷ ((if gps then (if galileo then 77 else 71) else 69) ∷ []) ∷ []))
+    (joined
+    (right 9 (fixed 2 (pos 305)) ∷ replicate 11 32 ∷ left 20 (codes "OBSERVATION DATA")
+    ∷ ((if gps then (if galileo then 77 else 71) else 69) ∷ []) ∷ []))
     (codes "RINEX VERSION / TYPE")
 
 -- signals of a system: listed, none of them twice, and at least one
@@ -88,48 +98,58 @@ signals_begun row = (types_in_line * row + 3) / 4
 
 -- ---- one row after the other
 
--- the number of texts in the rows before an index
-abbrev pub texts_before : ℕ → ℕ
-texts_before place = get_or (0 ∷ 0 ∷ 2 ∷ 3 ∷ 4 ∷ 6 ∷ 9 ∷ []) place text_count
+-- each part that was read is one of a header
+pub record AreValid (k : Known) : Type 0 where
+  pub texts : AreTexts k.shown.texts
+  pub listed : (system : System) → All (λ i. i < length (table system)) (planned_of system k.shown.plan)
+  pub apart : (system : System) → IsDistinct nat_eq (planned_of system k.shown.plan)
+  pub values : AreValues k.shown.values
+  pub first : IsTime k.shown.first
 
--- The contents of the rows before an index are known, and no signal of a later row is.
-pub record KnowsAt (place : ℕ) (k : Known) (h : Shown) : Type 0 where
-  pub systems : (system : System) → 0 < place → plans k system ≡ is_some_planned (planned_of system h.plan)
-  pub texts : (i : ℕ) → i < texts_before place → get_or k.shown.texts i [] ≡ get_or h.texts i []
-  pub position : 7 < place → (k.shown.values.x ≡ h.values.x) × (k.shown.values.y ≡ h.values.y) × (k.shown.values.z ≡ h.values.z)
-  pub height : 8 < place → k.shown.values.height ≡ h.values.height
-  pub counts : (system : System) → first_types system < place → 0 < length (planned_of system h.plan) → signal_count k system ≡ length (planned_of system h.plan)
-  pub signals : (system : System) → planned_of system k.shown.plan ≡ take (signals_begun (place - first_types system)) (planned_of system h.plan)
-  pub first : 22 < place → k.shown.first ≡ h.first
+-- The plan `p` has what was read of it: the systems of the first line, the numbers of signals of the first lines of
+-- types, and the signals so far.
+pub record IsPlanOf (gps galileo : Bool) (gps_count galileo_count : ℕ) (read p : PlanValue) : Type 0 where
+  pub is : IsPlan p
+  pub systems : (s : System) → (gps || galileo) ≡ true → of_system s gps galileo ≡ is_some_planned (planned_of s p)
+  pub counts : (s : System) → 0 < of_system s gps_count galileo_count
+      → of_system s gps_count galileo_count ≡ length (planned_of s p)
+  pub signals : (s : System) → planned_of s read ≡ take (length (planned_of s read)) (planned_of s p)
 
--- The header continues with these lines, those of the rows from an index on. The contents of the rows before are known.
-pub record IsHeaderLeft (k : Known) (place : ℕ) (h : Shown) (left : List (List ℕ)) : Type 0 where
-  pub is : IsShown h
-  pub before : KnowsAt place k h
+abbrev pub MayPlan : Known → PlanValue → Type 0
+MayPlan k p = IsPlanOf k.gps k.galileo k.gps_count k.galileo_count k.shown.plan p
+
+-- the header that was read, with this plan
+abbrev pub shown_with : Known → PlanValue → Shown
+shown_with k p = record { texts = k.shown.texts; plan = p; values = k.shown.values; first = k.shown.first }
+
+-- no other time has the same line
+abbrev pub IsOnlyTime : ℕ → Type 0
+IsOnlyTime time = (t : ℕ) → IsTime t → first_line (civil_of t) ≡ first_line (civil_of time) → t ≡ time
+
+-- The rows before an index were read: so many signals as begin in their lines of types, by the number of all.
+pub record IsReadTo (gps galileo : Bool) (gps_count galileo_count : ℕ) (read : PlanValue)
+    (first place : ℕ) : Type 0 where
+  pub systems : 0 < place → (gps || galileo) ≡ true
+  pub fresh : place ≡ 0 → (gps || galileo) ≡ false
+  pub few : (s : System) → of_system s gps_count galileo_count ≤ length (table s)
+  pub counts : (s : System) → (0 < of_system s gps_count galileo_count)
+      ↔ ((of_system s gps galileo ≡ true) × (first_types s < place))
+  pub signals : (s : System)
+      → length (planned_of s read) ≡ min (signals_begun (place - first_types s)) (of_system s gps_count galileo_count)
+  pub only : 22 < place → IsOnlyTime first
+
+abbrev pub HasReadRows : Known → ℕ → Type 0
+HasReadRows k place = IsReadTo k.gps k.galileo k.gps_count k.galileo_count k.shown.plan k.shown.first place
+
+-- a line of a header is expected, that of the row at an index or of a later one
+pub record IsHeadAt (k : Known) (place : ℕ) : Type 0 where
+  pub valid : AreValid k
+  pub read : HasReadRows k place
   pub expected : place < row_count
-  pub lines : left ≡ shown_from h place
 
--- some header continues from a row
-pub record HasHeaderAt (k : Known) (place : ℕ) : Type 0 where
-  pub h : Shown
-  pub left : List (List ℕ)
-  pub at : IsHeaderLeft k place h left
-
--- the same if no line is left: the header is known
-pub record IsHeaderRead (k : Known) (h : Shown) (left : List (List ℕ)) : Type 0 where
-  pub is : IsShown h
-  pub same : h ≡ k.shown
-  pub lines : left ≡ []
-
--- what follows if the rows from an index on are next, or if none is
-abbrev pub MayFollow : Known → Option ℕ → Shown → List (List ℕ) → Type 0
-MayFollow k None h left = IsHeaderRead k h left
-MayFollow k (Some place) h left = IsHeaderLeft k place h left
-
--- if some header continues from a row, one continues from the next
-abbrev pub StaysOpen : Known → ℕ → Known → Option ℕ → Type 0
-StaysOpen old place new None = ⊤
-StaysOpen old place new (Some next) = HasHeaderAt old place → HasHeaderAt new next
+-- these are the lines of the rows before an index, whatever is still unknown of the plan
+abbrev pub AreHeadLines : Known → ℕ → List (List ℕ) → Type 0
+AreHeadLines k place lines = (p : PlanValue) → MayPlan k p → lines ≡ lines_before (shown_with k p) place
 
 -- ---- the file
 
@@ -145,11 +165,8 @@ pub record Progress : Type 0 where
 
 -- a file with the header that was read, and these epochs
 abbrev pub file_with : Progress → List Stamped → FileValue
-file_with s epochs = record { texts = s.known.shown.texts; plan = s.known.shown.plan; values = s.known.shown.values; epochs = epochs }
-
--- the contents of the header of a file whose first epoch is at this time
-abbrev pub shown_of : FileValue → ℕ → Shown
-shown_of v first = record { texts = v.texts; plan = v.plan; values = v.values; first = first }
+file_with s epochs =
+    record { texts = s.known.shown.texts; plan = s.known.shown.plan; values = s.known.shown.values; epochs = epochs }
 
 -- an epoch with the change and at the time that were read
 abbrev pub stamped : Progress → List SatelliteRow → Stamped
@@ -160,14 +177,10 @@ abbrev pub StartsAt : ℕ → List Stamped → Type 0
 StartsAt first [] = ⊤
 StartsAt first (e ∷ es) = first ≡ e.time
 
--- a line of the header is expected
-pub record IsInHeader (s : Progress) (place : ℕ) (v : FileValue) (left : List (List ℕ)) : Type 0 where
-  pub first : Stamped
-  pub others : List Stamped
-  pub lines : List (List ℕ)
-  pub epochs : v.epochs ≡ first ∷ others
-  pub header : IsHeaderLeft s.known place (shown_of v first.time) lines
-  pub rest : left ≡ lines ++ flat_map stamped_lines (first ∷ others)
+-- a line of the header is expected: the file has the lines that were read, and then these
+abbrev pub IsInHeader : Progress → ℕ → FileValue → List (List ℕ) → Type 0
+IsInHeader s place v left =
+    (p : PlanValue) → MayPlan s.known p → file_lines v ≡ lines_before (shown_with s.known p) place ++ left
 
 -- an epoch is expected, or the end
 pub record IsBetween (s : Progress) (v : FileValue) (left : List (List ℕ)) : Type 0 where
@@ -177,7 +190,8 @@ pub record IsBetween (s : Progress) (v : FileValue) (left : List (List ℕ)) : T
   pub rest : left ≡ flat_map stamped_lines others
 
 -- an event was begun: `taken` of its lines were accepted, and `Show` holds of its station values
-pub record IsInEvent (s : Progress) (taken : ℕ) (Show : StationValues → Type 0) (v : FileValue) (left : List (List ℕ)) : Type 0 where
+pub record IsInEvent (s : Progress) (taken : ℕ) (Show : StationValues → Type 0) (v : FileValue)
+    (left : List (List ℕ)) : Type 0 where
   pub next : Stamped
   pub values : StationValues
   pub others : List Stamped
@@ -214,16 +228,34 @@ HasLinesLeft s v left = IsFileValue v × IsAt s s.expected v left
 
 -- the same with another line expected
 abbrev pub expected_next : Progress → Expected → Progress
-expected_next s expected = record { expected = expected; known = s.known; epochs = s.epochs; change = s.change; time = s.time; rows = s.rows }
+expected_next s expected =
+    record { expected = expected; known = s.known; epochs = s.epochs; change = s.change; time = s.time; rows = s.rows }
 
 -- what was read after the first line of an epoch, with this change of station values before it
 abbrev pub begun_at : Progress → Option StationValues → ℕ → ℕ → Progress
-begun_at s c t n = record { expected = Satellite n; known = s.known; epochs = s.epochs; change = c; time = t; rows = s.rows }
+begun_at s c t n =
+    record { expected = Satellite n; known = s.known; epochs = s.epochs; change = c; time = t; rows = s.rows }
 
 -- what was read after the line of a satellite, if n satellites are left
 abbrev pub with_row : Progress → SatelliteRow → ℕ → Progress
-with_row s seen n = record { expected = Satellite n; known = s.known; epochs = s.epochs; change = s.change; time = s.time; rows = s.rows ++ seen ∷ [] }
+with_row s seen n =
+    record {
+      expected = Satellite n;
+      known = s.known;
+      epochs = s.epochs;
+      change = s.change;
+      time = s.time;
+      rows = s.rows ++ seen ∷ [];
+    }
 
 -- what was read after the line of an epoch's last satellite
 abbrev pub with_epoch : Progress → Progress
-with_epoch s = record { expected = Epoch; known = s.known; epochs = s.epochs ++ stamped s s.rows ∷ []; change = s.change; time = s.time; rows = [] }
+with_epoch s =
+    record {
+      expected = Epoch;
+      known = s.known;
+      epochs = s.epochs ++ stamped s s.rows ∷ [];
+      change = s.change;
+      time = s.time;
+      rows = [];
+    }

@@ -2,19 +2,20 @@
 use Rattle.std.specs.Prelude.{◌≡◌, ◌≢◌, Option, Some, ℕ, ℤ, ◌+◌, ◌<◌, ◌≤◌, List, [], ◌∷◌, ◌++◌, length, map}
 use Rattle.std.specs.List.Sorted.{IsStrictlyIncreasing}
 use Rattle.rinex_file.specs.declared.read.expected.Expected.{Expected}
-use Rattle.rinex_file.specs.declared.read.expected.Expected.TheVariants.{Header, Epoch, EventPosition, EventHeight, EventEpoch, Satellite}
+use Rattle.rinex_file.specs.declared.read.expected.Expected.TheVariants.{Header, Epoch, EventPosition, EventHeight}
+use Rattle.rinex_file.specs.declared.read.expected.Expected.TheVariants.{EventEpoch, Satellite}
 use Rattle.obs_epoch.specs.declared.cell.StationValues.{StationValues}
 use Rattle.rinex_file.specs.Value.{Stamped}
 use Rattle.obs_epoch.specs.Dates.{civil_of}
 use Rattle.rinex_file.specs.Lines.{epoch_line}
 use Rattle.rinex_file.specs.Read.Fields.{ReadsExactly}
 use Rattle.rinex_file.specs.FileValues.{IsTime, IsChange, values_following, time_stamped, most_rows, IsCoordinate}
-use Rattle.rinex_file.specs.Begun.{AreWhole, IsPartOfNext, whole_lines, part_lines, lines_of_header}
+use Rattle.rinex_file.specs.Begun.{AreWhole, IsPartOfNext, whole_lines, part_lines}
 use Rattle.rinex_file.specs.File.{file_lines, event_line, event_lines}
 use Rattle.rinex_file.specs.Header.{position_line}
 use Rattle.rinex_file.specs.Value.{FileValue}
 use Rattle.rinex_file.specs.FileValues.{IsFileValue}
-use Rattle.rinex_file.specs.Read.Progress.{Progress, Shown, stamped, HasLinesLeft, IsHeaderLeft, HasHeaderAt}
+use Rattle.rinex_file.specs.Read.Progress.{Progress, stamped, HasLinesLeft, IsHeadAt, AreHeadLines}
 
 -- the header and the epochs are those of a file
 abbrev pub AreRead : Progress → Type 0
@@ -33,12 +34,13 @@ abbrev pub IsEventExpected : Progress → Type 0
 IsEventExpected s = AreRead s × (s.rows ≡ []) × (s.epochs ≢ [])
 
 abbrev pub IsSoundAt : Progress → Expected → Type 0
-IsSoundAt s (Header place) = (s.epochs ≡ []) × (s.rows ≡ []) × HasHeaderAt s.known place
+IsSoundAt s (Header place) = (s.epochs ≡ []) × (s.rows ≡ []) × IsHeadAt s.known place
 IsSoundAt s Epoch = AreRead s × (s.rows ≡ [])
 IsSoundAt s EventPosition = IsEventExpected s
 IsSoundAt s (EventHeight x y z) = IsEventExpected s × (IsCoordinate x × IsCoordinate y × IsCoordinate z)
 IsSoundAt s (EventEpoch values) = IsEventExpected s × IsChange (values_now s) (Some values)
-IsSoundAt s (Satellite n) = AreRead s × IsBegun s × (0 < n) × (length s.rows + n ≤ most_rows (length s.known.shown.plan.gps) (length s.known.shown.plan.galileo))
+IsSoundAt s (Satellite n) = AreRead s × IsBegun s × (0 < n)
+    × (length s.rows + n ≤ most_rows (length s.known.shown.plan.gps) (length s.known.shown.plan.galileo))
 
 abbrev pub IsSound : Progress → Type 0
 IsSound s = IsSoundAt s s.expected
@@ -49,7 +51,8 @@ IsTimeAfter es first t = IsStrictlyIncreasing (map time_stamped es ++ t ∷ []) 
 
 -- the first line of an epoch is read exactly, for the times and numbers of satellites that are allowed
 abbrev pub ReadsEpochLine : (ℕ → ℕ → Type 0) → List ℕ → Option (ℕ × ℕ) → Type 0
-ReadsEpochLine MayBe line read = ReadsExactly (λ (e : ℕ × ℕ). IsTime e.0 × MayBe e.0 e.1) (λ (e : ℕ × ℕ). epoch_line (civil_of e.0) e.1) line read
+ReadsEpochLine MayBe line read =
+    ReadsExactly (λ (e : ℕ × ℕ). IsTime e.0 × MayBe e.0 e.1) (λ (e : ℕ × ℕ). epoch_line (civil_of e.0) e.1) line read
 
 -- an epoch of n satellites may follow at a time: it is later than those before, or is the time in the header, and the
 -- planned systems have as many satellites
@@ -67,17 +70,20 @@ at_position x y z = record { x = x; y = y; z = z; height = 0 }
 
 -- these are the lines of what was read
 abbrev pub AreLinesAt : Progress → Expected → List (List ℕ) → Type 0
-AreLinesAt s (Header place) lines = (h : Shown) (left : List (List ℕ)) → IsHeaderLeft s.known place h left → lines_of_header h ≡ lines ++ left
+AreLinesAt s (Header place) lines = AreHeadLines s.known place lines
 AreLinesAt s Epoch lines = lines ≡ whole_lines s.known.shown s.epochs
 AreLinesAt s EventPosition lines = lines ≡ whole_lines s.known.shown s.epochs ++ event_line ∷ []
-AreLinesAt s (EventHeight x y z) lines = lines ≡ whole_lines s.known.shown s.epochs ++ event_line ∷ position_line (at_position x y z) ∷ []
+AreLinesAt s (EventHeight x y z) lines =
+    lines ≡ whole_lines s.known.shown s.epochs ++ event_line ∷ position_line (at_position x y z) ∷ []
 AreLinesAt s (EventEpoch values) lines = lines ≡ whole_lines s.known.shown s.epochs ++ event_lines values
-AreLinesAt s (Satellite n) lines = lines ≡ whole_lines s.known.shown s.epochs ++ part_lines (stamped s s.rows) (length s.rows + n)
+AreLinesAt s (Satellite n) lines =
+    lines ≡ whole_lines s.known.shown s.epochs ++ part_lines (stamped s s.rows) (length s.rows + n)
 
 abbrev pub AreLinesOf : Progress → List (List ℕ) → Type 0
 AreLinesOf s lines = AreLinesAt s s.expected lines
 
 -- what was read describes the accepted lines: these are its lines, and the file values that begin with them continue
 pub record HasReadLines (s : Progress) (taken : List (List ℕ)) : Type 0 where
-  pub goes : (v : FileValue) (left : List (List ℕ)) → IsFileValue v → file_lines v ≡ taken ++ left → HasLinesLeft s v left
+  pub goes : (v : FileValue) (left : List (List ℕ)) → IsFileValue v → file_lines v ≡ taken ++ left
+      → HasLinesLeft s v left
   pub are : AreLinesOf s taken

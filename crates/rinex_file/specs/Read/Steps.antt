@@ -49,14 +49,17 @@ pub record IsWhole (c : ParserState) (h : History) (input : Option (List ℕ)) :
   pub none : h.rows ≡ []
 
 -- the result of the next line: a history with what the line adds, the end, or a fault
-abbrev pub ReadsNextLine : Reading → History → Option (List ℕ) → Option (List ℕ) → Result (Option Added) ReadFault → Type 0
+abbrev pub ReadsNextLine : Reading → History → Option (List ℕ) → Option (List ℕ) → Result (Option Added) ReadFault
+    → Type 0
 ReadsNextLine new h input left (Ok (Some added)) = HasRead new (with_line added new.parser_state h) input left
 ReadsNextLine new h input left (Ok None) = IsWhole new.parser_state h input
 ReadsNextLine new h input left (Err fault) = IfSome input (λ bytes. ExplainsFault bytes fault)
 
 -- for every history that was read, the reading continues with the next line
-abbrev pub GoesOnReading : Reading → Option (List ℕ) → Reading → Option (List ℕ) → Result (Option Added) ReadFault → Type 0
-GoesOnReading old before new after result = (h : History) (input : Option (List ℕ)) → HasRead old h input before → ReadsNextLine new h input after result
+abbrev pub GoesOnReading : Reading → Option (List ℕ) → Reading → Option (List ℕ) → Result (Option Added) ReadFault
+    → Type 0
+GoesOnReading old before new after result =
+    (h : History) (input : Option (List ℕ)) → HasRead old h input before → ReadsNextLine new h input after result
 
 -- one more line was accepted
 abbrev pub CountsLine : Reading → Reading → Result (Option Added) ReadFault → Type 0

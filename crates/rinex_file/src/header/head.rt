@@ -45,7 +45,8 @@ fn has_line(plan: &Plan, row: HeaderRow) -> bool
 
 // Returns the index of the first row with a line, at `from` or later.
 fn place_from(plan: &Plan, from: usize) -> Option<usize>
-    ensures none { IfNone result ((x : HeaderLists) (v : StationValues) (t : Civil) → lines_from x plan.now v t from ≡ []) }
+    ensures none { IfNone result
+        ((x : HeaderLists) (v : StationValues) (t : Civil) → lines_from x plan.now v t from ≡ []) }
     ensures bound { IfSome result (λ place. place < row_count) }
     ensures here { IfSome result (λ place. has_line plan.now (row_at place) ≡ true) }
     ensures same { IfSome result (λ place. (x : HeaderLists) (v : StationValues) (t : Civil)
@@ -63,7 +64,8 @@ fn place_from(plan: &Plan, from: usize) -> Option<usize>
 #[tactic(auto, unfolding(crate::specs::Header::row_line))]
 fn line_of(head: &Head, row: HeaderRow) -> Line
     requires { has_line head.now.plan.now row ≡ true }
-    ensures { result.items ≡ row_line head.now.texts.now head.now.plan.now head.now.values (civil_of head.now.first) row }
+    ensures { result.items
+        ≡ row_line head.now.texts.now head.now.plan.now head.now.values (civil_of head.now.first) row }
 {
     match row {
         HeaderRow::Version => version_line(head.plan),

@@ -1,12 +1,12 @@
 //! The lines of a header: RINEX 3.05, table A2.
 ghost use Rattle.std.specs.Prelude.{◌≡◌, ◌+◌, ◌≤◌, length, if◌then◌else◌};
 ghost use Rattle.obs_epoch.specs.Dates.{civil_of};
-ghost use Rattle.rinex_file.specs.Header.{header_line, version_line, lengths, texts_line, position_line, delta_line, first_line};
+ghost use Rattle.rinex_file.specs.Header.{header_line, version_line, lengths, texts_line, position_line, delta_line};
+ghost use Rattle.rinex_file.specs.Header.{first_line};
 ghost use Rattle.rinex_file.specs.Read.Progress.{version_with};
 
-use crate::header::fault::HeaderField;
+use crate::header::fields::{HeaderField, TextRow};
 use crate::header::labels;
-use crate::header::rows::TextRow;
 use crate::header::texts::HeaderTexts;
 use crate::write::numbers::{Line, put, put_fixed, put_left, put_seconds, put_whole};
 use gnss_obs::System;

@@ -3,11 +3,13 @@ ghost use Rattle.std.specs.Prelude.{◌≡◌, ◌≢◌, ◌<◌, ◌≤◌, �
 ghost use Rattle.std.specs.Result.{result_err};
 ghost use Rattle.std.specs.List.{list_all};
 ghost use Rattle.rinex_file.specs.Blanks.{trimmed};
-ghost use Rattle.rinex_file.specs.Texts.{fields, text_of, text_count, place_of, width_of, field_at, fault_of, first_fault, trimmed_texts, is_printable};
+ghost use Rattle.rinex_file.specs.Texts.{fields, text_of, text_count, place_of, width_of, field_at, fault_of};
+ghost use Rattle.rinex_file.specs.Texts.{first_fault, trimmed_texts, is_printable};
 ghost use Rattle.rinex_file.specs.TextsOf.{lists_of};
 ghost use Rattle.rinex_file.specs.FileValues.{AreTexts, IsText};
 
-use crate::header::fault::{HeadFault, HeaderField};
+use crate::header::fault::HeadFault;
+use crate::header::fields::HeaderField;
 use crate::write::numbers::put;
 use crate::write::satellite::trimmed_len;
 use arrayvec::ArrayVec;
@@ -142,19 +144,7 @@ impl HeaderTexts {
         ensures { result ≡ replicate text_count [] }
     {
         HeaderTexts {
-            texts: [
-                ArrayVec::new(),
-                ArrayVec::new(),
-                ArrayVec::new(),
-                ArrayVec::new(),
-                ArrayVec::new(),
-                ArrayVec::new(),
-                ArrayVec::new(),
-                ArrayVec::new(),
-                ArrayVec::new(),
-                ArrayVec::new(),
-                ArrayVec::new(),
-            ],
+            texts: Default::default(),
         }
     }
 

@@ -67,7 +67,8 @@ fn put_types(content: &mut Line, system: System, signals: &[Signal], row: usize)
     requires of { IsOf system signals.now }
     requires row { row ≤ 5 }
     requires room { array_vec_len content.old ≤ 100 }
-    ensures text { content.new.items ≡ content.old.items ++ type_columns (types_of (codes_of system (indices signals.now))) row }
+    ensures text { content.new.items ≡ content.old.items
+        ++ type_columns (types_of (codes_of system (indices signals.now))) row }
     ensures size { array_vec_len content.new ≤ array_vec_len content.old + 52 }
 {
     let types = 4 * signals.len();
@@ -92,7 +93,8 @@ pub(crate) fn put_row(
     requires row { row < type_rows count }
     requires room { array_vec_len content.old ≤ 30 }
     ensures text { content.new.items ≡ content.old.items
-        ++ (type_front (letter_of system) (4 * count) row ++ type_columns (types_of (codes_of system (indices signals.now))) row) }
+        ++ (type_front (letter_of system) (4 * count) row
+        ++ type_columns (types_of (codes_of system (indices signals.now))) row) }
     ensures size { array_vec_len content.new ≤ array_vec_len content.old + 115 }
 {
     put_front(content, letter_of(system), 4 * count, row);
@@ -102,7 +104,8 @@ pub(crate) fn put_row(
 /// Returns a line of a system's types.
 pub(crate) fn type_line(plan: &Plan, system: System, row: usize) -> Line
     requires { row < type_rows (length (planned_of system plan.now)) }
-    ensures { result.items ≡ type_line (letter_of system) (types_of (codes_of system (planned_of system plan.now))) row }
+    ensures { result.items
+        ≡ type_line (letter_of system) (types_of (codes_of system (planned_of system plan.now))) row }
 {
     let signals = plan.of(system);
     let mut content = Line::new();

@@ -8,6 +8,7 @@ ghost use Rattle.rinex_file.specs.Blocks.{MovesBytes, LeavesRest};
 ghost use Rattle.rinex_file.specs.Limits.{most_line};
 
 use crate::write::numbers::{Line, MOST_LINE, put};
+use memchr::memchr;
 use rtcm_bits::Counted;
 use std::io::Read;
 use std::marker::Model;
@@ -50,11 +51,10 @@ fn line_feed(bytes: &[u8]) -> usize
     ensures none { has 10 (take result bytes.now) ≡ false }
     ensures found { result < length bytes.now → take 1 (drop result bytes.now) ≡ 10 ∷ [] }
 {
-    let mut place = 0;
-    while place < bytes.len() && bytes[place] != b'\n' {
-        place += 1;
+    match memchr(b'\n', bytes) {
+        Some(place) => place,
+        None => bytes.len(),
     }
-    place
 }
 
 impl Block {
@@ -71,7 +71,8 @@ impl Block {
 
     /// Reads bytes ahead if none is left.
     pub(crate) fn fill<R: Read>(&mut self, reader: &mut Counted<R>) -> Filled
-        ensures same { Consumes (prepend_known self.old (R.remaining reader.old.inner)) (prepend_known self.new (R.remaining reader.new.inner)) [] }
+        ensures same { Consumes (prepend_known self.old (R.remaining reader.old.inner))
+            (prepend_known self.new (R.remaining reader.new.inner)) [] }
         ensures left { LeavesRest (R.remaining reader.old.inner) (R.remaining reader.new.inner) }
         ensures some { result ≡ Filled.Some → 0 < length self.new }
         ensures end { result ≡ Filled.End → (self.new ≡ []) × IsAtEnd (R.remaining reader.new.inner) }

@@ -1,8 +1,9 @@
 //! The rows of a header other than those of types: the fields of a line are added to what was read.
 ghost use Rattle.rinex_file.specs.Read.HeaderSteps.{IsSole, LearnsOrRefuses};
 
+use crate::header::fields::TextRow;
 use crate::header::labels;
-use crate::header::rows::{HeaderRow, TextRow};
+use crate::header::rows::HeaderRow;
 use crate::read::epoch::read_first;
 use crate::read::head_so_far::HeadSoFar;
 use crate::read::station::{is_header_line, read_delta, read_position, read_version};

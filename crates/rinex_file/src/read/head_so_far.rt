@@ -1,14 +1,15 @@
 //! What was read of a header.
-ghost use Rattle.std.specs.Prelude.{◌≡◌, ◌<◌, ◌≤◌, [], ◌↔◌, ℕ, List, true, length, Err, None, IfOk, IfSome, IfNone, OnOk, IsTrue, MatchBool};
+ghost use Rattle.std.specs.Prelude.{◌≡◌, ◌<◌, ◌≤◌, ◌+◌, true, length, Err, IfOk, IfSome, OnOk};
 ghost use Rattle.gnss_obs.specs.Signals.{table};
 ghost use Rattle.obs_epoch.specs.Signals.{indices, IsOf};
 ghost use Rattle.obs_epoch.specs.Values.{planned_of};
-ghost use Rattle.rinex_file.specs.Header.{type_rows, row_at, row_count};
-ghost use Rattle.rinex_file.specs.Read.Progress.{Shown, IsShown, IsHeaderLeft, AreHeaderLines, HasHeaderAt, StaysOpen, plans, signal_count};
-ghost use Rattle.rinex_file.specs.Read.HeaderSteps.{AreValid, known_line, LearnsLine, RefusesHeaderLine, IsWholeOf, IsWhole, SameFrom, StepsTo, NoneGoesOn, CountsExpected, TakesRow, RefusesRow, with_signals, with_count};
+ghost use Rattle.rinex_file.specs.Header.{type_rows, row_at, first_types};
+ghost use Rattle.rinex_file.specs.Read.Progress.{AreValid, IsHeadAt, plans, signal_count};
+ghost use Rattle.rinex_file.specs.Read.HeaderSteps.{known_line, LearnsLine, NoneGoesOn, SameFrom, StepsTo};
+ghost use Rattle.rinex_file.specs.Read.HeaderSteps.{CountsExpected, TakesRow, RefusesRow, with_signals, with_count};
 
 use crate::header::labels;
-use crate::header::rows::{HeaderRow, ROW_COUNT, row_at};
+use crate::header::rows::{HeaderRow, row_at};
 use crate::header::texts::HeaderTexts;
 use crate::header::types::type_rows;
 use crate::read::expected::Refusal;
@@ -45,7 +46,13 @@ impl Model for HeadSoFar {
     ghost Value = { Known };
 
     ghost view = { λ h. record {
-      shown = record { texts = h.texts; plan = record { gps = indices h.gps.items; galileo = indices h.galileo.items }; values = h.values; first = h.first };
+      shown =
+          record {
+            texts = h.texts;
+            plan = record { gps = indices h.gps.items; galileo = indices h.galileo.items };
+            values = h.values;
+            first = h.first;
+          };
       gps = h.has_gps;
       galileo = h.has_galileo;
       gps_count = h.gps_count;
@@ -69,7 +76,8 @@ fn take_row(
     requires row { row < type_rows count }
     requires signals { IsOf system signals.old.items }
     ensures signals { IsOf system signals.new.items }
-    ensures taken { OnOk result (TakesRow system count row line.now (indices signals.old.items) (indices signals.new.items)) }
+    ensures taken { OnOk result
+        (TakesRow system count row line.now (indices signals.old.items) (indices signals.new.items)) }
     ensures bad { result ≡ Err Refusal.Bad → RefusesRow system count row line.now (indices signals.old.items) }
 {
     if signals.as_slice().len() != signals_begun(row) {
@@ -85,8 +93,7 @@ fn take_row(
 impl HeadSoFar {
     /// Returns a header of which nothing was read.
     pub(crate) fn new(alloc: Global) -> HeadSoFar
-        ensures starts { (h : Shown) (left : List (List ℕ)) → IsHeaderLeft result 0 h left ↔ AreHeaderLines h left }
-        ensures left { HasHeaderAt result 0 }
+        ensures { IsHeadAt result 0 }
     {
         let zero = match GpsTime::new(0) {
             Some(time) => time,
@@ -187,55 +194,16 @@ impl HeadSoFar {
     }
 
     // Returns the index of the first row with a line, at `from` or later.
-    fn place_from(&self, from: usize) -> Option<usize>
-        ensures none { IfNone result ((h : Shown) (left : List (List ℕ)) → IsHeaderLeft self.now from h left → ⊥) }
-        ensures bound { IfSome result (λ place. place < row_count) }
-        ensures here { IfSome result (λ place. known_line self.now (row_at place) ≡ true) }
-        ensures same { IfSome result (λ place. SameFrom self.now from place) }
+    fn place_from(&self, from: usize) -> usize
+        requires { IsHeadAt self.now from }
+        ensures here { known_line self.now (row_at result) ≡ true }
+        ensures same { SameFrom self.now from result }
     {
-        for place in from..ROW_COUNT {
-            if self.has_line(row_at(place)) {
-                return Some(place);
-            }
+        let mut place = from;
+        while !self.has_line(row_at(place)) {
+            place += 1;
         }
-        None
-    }
-
-    // Returns whether the signals of a system were read, in the number that its first line of types
-    // contains.
-    fn is_whole_of(&self, system: System) -> bool
-        ensures { IsTrue result ↔ IsWholeOf system self.now }
-    {
-        let read = self.planned(system);
-        if !self.plans(system) {
-            return read == 0;
-        }
-        read > 0 && self.signal_count(system) == read
-    }
-
-    // Returns whether the signals of both systems were read, and there is at least one.
-    fn is_whole(&self) -> bool
-        ensures { IsTrue result ↔ IsWhole self.now }
-    {
-        if !self.is_whole_of(System::Gps) {
-            return false;
-        }
-        if !self.is_whole_of(System::Galileo) {
-            return false;
-        }
-        self.gps.len() + self.galileo.len() > 0
-    }
-
-    // Returns whether this is the last line of a header.
-    fn is_end(&self, line: &[u8]) -> bool
-        ensures taken { MatchBool result (StepsTo self.now 25 line.now self.now None) (NoneGoesOn self.now 25 line.now) }
-        ensures shown { IsTrue result → IsShown self.now.shown }
-    {
-        self.texts.are_texts();
-        if !is_header_line(line, b"", labels::END) {
-            return false;
-        }
-        self.is_whole()
+        place
     }
 
     // Returns the number of signals of a planned system, if this line of its types is expected.
@@ -267,8 +235,11 @@ impl HeadSoFar {
         requires count { count ≤ length (table system) }
         requires row { row < type_rows count }
         ensures kept { OnOk result (self.new ≡ with_signals system self.old (planned_of system self.new.shown.plan)) }
-        ensures taken { OnOk result (TakesRow system count row line.now (planned_of system self.old.shown.plan) (planned_of system self.new.shown.plan)) }
-        ensures bad { result ≡ Err Refusal.Bad → RefusesRow system count row line.now (planned_of system self.old.shown.plan) }
+        ensures taken { OnOk result
+            (TakesRow system count row line.now (planned_of system self.old.shown.plan)
+            (planned_of system self.new.shown.plan)) }
+        ensures bad { result ≡ Err Refusal.Bad
+            → RefusesRow system count row line.now (planned_of system self.old.shown.plan) }
     {
         match system {
             System::Gps => take_row(&mut self.gps, System::Gps, count, row, line, again),
@@ -303,9 +274,10 @@ impl HeadSoFar {
         again: &mut Line,
     ) -> Result<(), Refusal>
         requires row { row < 6 }
+        requires at { IsHeadAt self.old (first_types system + row) }
         requires here { known_line self.old (HeaderRow.Types system row) ≡ true }
         ensures taken { OnOk result (LearnsLine (HeaderRow.Types system row) line.now self.old self.new) }
-        ensures bad { result ≡ Err Refusal.Bad → RefusesHeaderLine (HeaderRow.Types system row) line.now self.old }
+        ensures bad { result ≡ Err Refusal.Bad → NoneGoesOn self.old (first_types system + row) line.now }
     {
         let Some(count) = self.count_expected(system, row, line) else {
             return Err(Refusal::Bad);
@@ -322,11 +294,9 @@ impl HeadSoFar {
         line: &[u8],
         again: &mut Line,
     ) -> Result<Option<usize>, Refusal>
-        requires place { place < row_count }
+        requires at { IsHeadAt self.old place }
         requires here { known_line self.old (row_at place) ≡ true }
         ensures taken { IfOk result (λ next. StepsTo self.old place line.now self.new next) }
-        ensures shown { IfOk result (λ next. next ≡ None → IsShown self.new.shown) }
-        ensures stays { IfOk result (λ next. StaysOpen self.old place self.new next) }
         ensures bad { result ≡ Err Refusal.Bad → NoneGoesOn self.old place line.now }
     {
         match row_at(place) {
@@ -336,7 +306,7 @@ impl HeadSoFar {
                 Ok(Some(place + 1))
             }
             HeaderRow::End => {
-                if !self.is_end(line) {
+                if !is_header_line(line, b"", labels::END) {
                     return Err(Refusal::Bad);
                 }
                 Ok(None)
@@ -352,22 +322,17 @@ impl HeadSoFar {
     }
 
     /// Processes a line, which is expected to be that of row `from` or of a later one. Returns the
-    /// index of the next row, or None at the end of the header. What is known then describes the
-    /// headers that have this line next.
+    /// index of the next row, or None at the end of the header.
     pub(crate) fn take(
         &mut self,
         from: usize,
         line: &[u8],
         again: &mut Line,
     ) -> Result<Option<usize>, Refusal>
+        requires { IsHeadAt self.old from }
         ensures taken { IfOk result (λ next. StepsTo self.old from line.now self.new next) }
-        ensures shown { IfOk result (λ next. next ≡ None → IsShown self.new.shown) }
-        ensures stays { IfOk result (λ next. StaysOpen self.old from self.new next) }
         ensures bad { result ≡ Err Refusal.Bad → NoneGoesOn self.old from line.now }
     {
-        match self.place_from(from) {
-            None => Err(Refusal::Bad),
-            Some(place) => self.take_at(place, line, again),
-        }
+        self.take_at(self.place_from(from), line, again)
     }
 }

@@ -31,7 +31,8 @@ pub(crate) fn next_line<R: Read>(
     block: &mut Block,
     line: &mut Line,
 ) -> Found
-    ensures taken { Consumes (prepend_known block.old (R.remaining reader.old.inner)) (prepend_known block.new (R.remaining reader.new.inner)) line.new.items }
+    ensures taken { Consumes (prepend_known block.old (R.remaining reader.old.inner))
+        (prepend_known block.new (R.remaining reader.new.inner)) line.new.items }
     ensures found { IsFound result line.new.items (prepend_known block.new (R.remaining reader.new.inner)) }
     ensures left { LeavesRest (R.remaining reader.old.inner) (R.remaining reader.new.inner) }
     ensures failed { result ≡ Found.Failed → HasFailed reader.old.failures reader.new.failures }

@@ -26,51 +26,13 @@ pub(crate) fn digits_in(text: &[u8]) -> u64
     number
 }
 
-/// The content of the columns of a number.
-#[derive(Clone, Copy)]
-pub(crate) struct NumberText {
-    /// Its digits as one number; other bytes are skipped.
-    pub(crate) digits: u64,
-    pub(crate) has_minus: bool,
-    pub(crate) has_point: bool,
-}
-
-impl NumberText {
-    /// Returns the digits as one number, negative if there is a minus.
-    pub(crate) fn value(self) -> i64
-        requires { self.digits < 10 ^ 18 }
-        ensures { result ≡ (if self.has_minus then neg_ℤ (pos self.digits) else pos self.digits) }
-    {
-        let size = self.digits as i64;
-        if self.has_minus { -size } else { size }
-    }
-}
-
-/// Returns the content of the columns of a number, read in one pass.
-pub(crate) fn number_text(text: &[u8]) -> NumberText
-    requires { length text.now ≤ 18 }
-    ensures digits { result.digits ≡ digits_in text.now }
-    ensures bound { result.digits < 10 ^ 18 }
-    ensures minus { result.has_minus ≡ has 45 text.now }
-    ensures point { result.has_point ≡ has 46 text.now }
+/// Returns a number with this size.
+pub(crate) fn signed(size: u64, has_minus: bool) -> i64
+    requires { size < 10 ^ 18 }
+    ensures { result ≡ (if has_minus then neg_ℤ (pos size) else pos size) }
 {
-    let mut digits = 0;
-    let mut has_minus = false;
-    let mut has_point = false;
-    for b in text {
-        if b.is_ascii_digit() {
-            digits = digits * 10 + (*b - b'0') as u64;
-        } else if *b == b'.' {
-            has_point = true;
-        } else if *b == b'-' {
-            has_minus = true;
-        }
-    }
-    NumberText {
-        digits,
-        has_minus,
-        has_point,
-    }
+    let number = size as i64;
+    if has_minus { -number } else { number }
 }
 
 /// Returns the digits of a text as one number, negative if there is a minus.
@@ -78,5 +40,9 @@ pub(crate) fn number_in(text: &[u8]) -> i64
     requires { length text.now ≤ 18 }
     ensures { result ≡ number_in text.now }
 {
-    number_text(text).value()
+    let mut has_minus = false;
+    for b in text {
+        has_minus = has_minus | (*b == b'-');
+    }
+    signed(digits_in(text), has_minus)
 }

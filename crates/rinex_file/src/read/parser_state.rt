@@ -7,7 +7,8 @@ ghost use Rattle.obs_epoch.specs.declared.cell.StationValues.{StationValues};
 ghost use Rattle.rinex_file.specs.FileValues.{IsFileValue, rank_of, time_stamped, most_rows, changed_by};
 ghost use Rattle.rinex_file.specs.File.{event_line, file_lines};
 ghost use Rattle.rinex_file.specs.Read.Progress.{HasLinesLeft};
-ghost use Rattle.rinex_file.specs.ParserState.{EndsIn, History, HasRoom, FollowsHistory, TakesLine, changes_of, nothing, progress_at};
+ghost use Rattle.rinex_file.specs.ParserState.{EndsIn, History, HasRoom, FollowsHistory, TakesLine, changes_of};
+ghost use Rattle.rinex_file.specs.ParserState.{nothing, progress_at};
 ghost use Rattle.rinex_file.specs.Read.Sound.{AreLinesOf, AreRead, IsTimeAfter, MayBegin, ReadsEpochLine};
 ghost use Rattle.rinex_file.specs.Limits.{most_line};
 
@@ -57,7 +58,8 @@ fn rank_of(seen: &KeptSatellite) -> u64
 
 // Returns whether a number is greater than all of an increasing list that ends in the last.
 fn is_after(last: Option<u64>, next: u64) -> bool
-    ensures { (xs : List ℕ) → EndsIn xs last → IsStrictlyIncreasing xs → IsTrue result ↔ IsStrictlyIncreasing (xs ++ next ∷ []) }
+    ensures { (xs : List ℕ) → EndsIn xs last → IsStrictlyIncreasing xs → IsTrue result
+        ↔ IsStrictlyIncreasing (xs ++ next ∷ []) }
 {
     match last {
         None => true,
@@ -163,6 +165,7 @@ impl ParserState {
 
     // Processes a line of the header.
     fn take_header(&mut self, place: usize, line: &[u8], again: &mut Line) -> Result<Added, Refusal>
+        requires stands { (h : History) × FollowsHistory self.old h }
         requires expected { self.old.expected ≡ Expected.Header place }
         ensures takes { TakesLine self.old self.new line.now result }
         ensures room { (n : ℕ) → HasRoom self.old n → OnOk result (HasRoom self.new (n + 1)) }
@@ -184,7 +187,8 @@ impl ParserState {
     // Returns whether an epoch of this number of satellites may follow at a time.
     fn may_begin(&self, time: GpsTime, satellites: usize) -> bool
         requires between { (h : History) → FollowsHistory self.now h → AreRead (progress_at self.now h) }
-        ensures { (h : History) → FollowsHistory self.now h → IsTrue result ↔ MayBegin (progress_at self.now h) time satellites }
+        ensures { (h : History) → FollowsHistory self.now h → IsTrue result
+            ↔ MayBegin (progress_at self.now h) time satellites }
     {
         let most = most_rows(
             self.head.planned(System::Gps),
@@ -199,7 +203,8 @@ impl ParserState {
     // Returns the time and the number of satellites of an epoch that may follow, by its first line.
     fn read_begun(&self, line: &[u8], again: &mut Line) -> Option<(GpsTime, usize)>
         requires between { (h : History) → FollowsHistory self.now h → AreRead (progress_at self.now h) }
-        ensures { (h : History) → FollowsHistory self.now h → ReadsEpochLine (MayBegin (progress_at self.now h)) line.now result }
+        ensures { (h : History) → FollowsHistory self.now h
+            → ReadsEpochLine (MayBegin (progress_at self.now h)) line.now result }
     {
         let Some(read) = read_epoch_line(line, again) else {
             return None;

@@ -31,7 +31,8 @@ pub(crate) struct Reading {
 
 // Returns the fault of a line that isn't of the kind that was expected.
 fn fault_at(expected: Expected, number: u64) -> ReadFault
-    ensures faulty { (input : List ℕ) → IsFaulty input number → IsExpectedAt expected input number → ExplainsFault input result }
+    ensures faulty { (input : List ℕ) → IsFaulty input number → IsExpectedAt expected input number
+        → ExplainsFault input result }
     ensures other { result ≡ ReadFault.Read → ⊥ }
 {
     match expected {
@@ -77,7 +78,8 @@ impl Reading {
     ) -> Result<Option<Added>, ReadFault>
         requires stands { (h : History) × FollowsHistory self.old.parser_state h }
         requires within { MayBeCounted self.old }
-        ensures goes { GoesOnReading self.old (R.remaining reader.old.inner) self.new (R.remaining reader.new.inner) result }
+        ensures goes { GoesOnReading self.old (R.remaining reader.old.inner) self.new (R.remaining reader.new.inner)
+            result }
         ensures within { OnOk result (MayBeCounted self.new) }
         ensures counted { CountsLine self.old self.new result }
         ensures left { LeavesRest (R.remaining reader.old.inner) (R.remaining reader.new.inner) }

@@ -1,33 +1,23 @@
 //! The line of a satellite, read back: its fields are validated, written again and compared.
-ghost use Rattle.std.specs.Prelude.{◌≡◌, ◌↔◌, ℕ, pos, ◌+◌, ◌-◌, ◌*◌, ◌≤◌, ◌<◌, List, [], ◌∷◌, drop, ◌++◌, replicate, length, slice_index, All, Any, Some, IfSome, IsTrue};
+ghost use Rattle.std.specs.Prelude.{◌≡◌, ◌↔◌, ℕ, pos, ◌+◌, ◌-◌, ◌*◌, ◌≤◌, ◌<◌, List, [], ◌∷◌, drop, ◌++◌, replicate};
+ghost use Rattle.std.specs.Prelude.{length, slice_index, All, Any, Some, IfSome, IsTrue};
 ghost use Rattle.arrayvec.specs.ArrayVec.{array_vec_len};
 ghost use Rattle.gnss_obs.specs.declared.system.System.{System};
 ghost use Rattle.gnss_obs.specs.Satellites.{satellites};
-ghost use Rattle.rinex_file.specs.FileValues.{FitsColumns, IsFrom, AreSignalValues, IsRow, IsSatelliteRow, has_some_value, of_system};
+ghost use Rattle.rinex_file.specs.FileValues.{FitsColumns, IsFrom, AreSignalValues, IsRow, IsSatelliteRow};
+ghost use Rattle.rinex_file.specs.FileValues.{has_some_value, of_system};
 ghost use Rattle.rinex_file.specs.Lines.{satellite_line, letter_of};
 ghost use Rattle.rinex_file.specs.Read.Fields.{ReadsExactly, some_if};
-ghost use Rattle.rinex_file.specs.Read.Row.{value_in, signal_values_in, signals_in, satellite_row_in};
+ghost use Rattle.rinex_file.specs.Read.Row.{signal_values_in, signals_in, satellite_row_in};
 ghost use Rattle.rinex_file.specs.Limits.{most_line, signal_columns, most_signals};
 
-use crate::read::numbers::{digits_in, is_same, number_text};
+use crate::read::columns::value_in;
+use crate::read::numbers::{digits_in, is_same};
 use crate::values::kept::{KeptSatellite, SignalValues};
 use crate::write::numbers::{Line, MOST_SIGNALS, SIGNAL_COLUMNS, put, put_times};
 use crate::write::satellite::satellite_text;
 use arrayvec::ArrayVec;
 use gnss_obs::System;
-
-// Returns the value in the first columns of the text, or None if they have no point.
-#[tactic(auto, unfolding(crate::specs::Read::Row::value_in))]
-fn value_in(text: &[u8]) -> Option<i64>
-    requires { 14 ≤ length text.now }
-    ensures { result ≡ value_in text.now }
-{
-    let number = number_text(&text[..14]);
-    if !number.has_point {
-        return None;
-    }
-    Some(number.value())
-}
 
 // Returns the values in the 64 columns of a signal.
 #[tactic(auto, unfolding(crate::specs::Read::Row::signal_values_in))]
@@ -133,7 +123,8 @@ fn is_row(seen: &KeptSatellite, most: u8, signals: usize) -> bool
 fn fill(text: &[u8], signals: usize, filled: &mut Line)
     requires short { length text.now ≤ most_line }
     requires few { signals ≤ most_signals }
-    ensures text { (t : List ℕ) → text.now ≡ t ++ 10 ∷ [] → filled.new.items ≡ t ++ replicate (3 + signal_columns * signals - length t) 32 }
+    ensures text { (t : List ℕ) → text.now ≡ t ++ 10 ∷ []
+        → filled.new.items ≡ t ++ replicate (3 + signal_columns * signals - length t) 32 }
     ensures room { 3 + signal_columns * signals ≤ array_vec_len filled.new }
 {
     filled.clear();
@@ -173,7 +164,8 @@ fn read_of(
 ) -> bool
     requires short { length line.now ≤ most_line }
     requires few { signals ≤ most_signals }
-    ensures { ReadsExactly (λ s. (s.system ≡ system) × IsRow (satellites system) signals s.row) satellite_line line.now (some_if result seen.new) }
+    ensures { ReadsExactly (λ s. (s.system ≡ system) × IsRow (satellites system) signals s.row) satellite_line line.now
+        (some_if result seen.new) }
 {
     fill(line, signals, again);
     put_seen_in(system, again.as_slice(), signals, seen);

@@ -1,5 +1,6 @@
 //! Version, position and height in a header, read back; and lines that are always the same.
-ghost use Rattle.std.specs.Prelude.{◌≡◌, ◌↔◌, ◌+◌, ◌≤◌, ◌<◌, ◌^◌, ◌||◌, IsTrue, pos, Bool, true, IfSome, IfNone, length, take, drop, codes};
+ghost use Rattle.std.specs.Prelude.{◌≡◌, ◌↔◌, ◌+◌, ◌≤◌, ◌<◌, ◌^◌, ◌||◌, IsTrue, pos, Bool, true, IfSome, IfNone};
+ghost use Rattle.std.specs.Prelude.{length, take, drop, codes};
 ghost use Rattle.rinex_file.specs.FileValues.{IsCoordinate};
 ghost use Rattle.rinex_file.specs.Header.{header_line, lengths};
 ghost use Rattle.rinex_file.specs.Read.Fields.{number_in, ReadsExactly};
@@ -21,7 +22,8 @@ fn is_version(line: &[u8], gps: bool, galileo: bool) -> bool
 /// Returns whether signals of GPS and of Galileo are planned, by the first line, or None for any
 /// other line.
 pub(crate) fn read_version(line: &[u8]) -> Option<(bool, bool)>
-    ensures { ReadsExactly (λ (p : Bool × Bool). (p.0 || p.1) ≡ true) (λ (p : Bool × Bool). version_with p.0 p.1) line.now result }
+    ensures { ReadsExactly (λ (p : Bool × Bool). (p.0 || p.1) ≡ true) (λ (p : Bool × Bool). version_with p.0 p.1)
+        line.now result }
 {
     if is_version(line, true, true) {
         return Some((true, true));
@@ -65,7 +67,8 @@ pub(crate) fn read_position(line: &[u8]) -> Option<(i64, i64, i64)>
 /// Returns the height of the antenna above the marker in 0.0001 m by its line, or None for any
 /// other line.
 pub(crate) fn read_delta(line: &[u8]) -> Option<u16>
-    ensures { ReadsExactly (λ h. h < 2 ^ 16) (λ h. header_line (lengths (pos h) (pos 0) (pos 0)) (codes "ANTENNA: DELTA H/E/N")) line.now result }
+    ensures { ReadsExactly (λ h. h < 2 ^ 16)
+        (λ h. header_line (lengths (pos h) (pos 0) (pos 0)) (codes "ANTENNA: DELTA H/E/N")) line.now result }
 {
     let height = u16::try_from(digits_in(columns(line, 0, 14))).ok()?;
     let again = three_lengths(height as i64, 0, 0, labels::DELTA);

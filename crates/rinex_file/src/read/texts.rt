@@ -1,13 +1,11 @@
 //! The texts of a header's lines, read back.
 ghost use Rattle.std.specs.Prelude.{◌≡◌, ◌<◌, ◌≤◌, ℕ, List, length, take, drop, IfSome, IfNone, MatchBool};
-ghost use Rattle.rinex_file.specs.Texts.{text_count, width_of, field_at};
+ghost use Rattle.rinex_file.specs.Texts.{text_count, width_of, field_at, column_at, count_of};
 ghost use Rattle.rinex_file.specs.FileValues.{IsText};
-ghost use Rattle.rinex_file.specs.Header.{count_of};
 ghost use Rattle.rinex_file.specs.Read.HeaderSteps.{text_in, TakesTexts, ReadsTexts, RefusesTexts};
 
-use crate::header::fault::HeaderField;
+use crate::header::fields::{HeaderField, TextRow};
 use crate::header::lines::texts_line;
-use crate::header::rows::TextRow;
 use crate::header::texts::{HeaderTexts, Text, is_printable};
 use crate::read::numbers::is_same;
 use crate::write::numbers::put;
@@ -23,15 +21,17 @@ pub(crate) fn columns(line: &[u8], from: usize, width: usize) -> &[u8]
     &rest[..width.min(rest.len())]
 }
 
-// Returns the text in the columns of the field at an index, without trailing blanks, or None if it
-// isn't printable.
-fn text_in(line: &[u8], place: usize) -> Option<Text>
-    requires { place < text_count }
-    ensures some { IfSome result (λ t. IsText (width_of (field_at place)) t.items × (t.items ≡ text_in place line.now)) }
-    ensures none { IfNone result ((w : List ℕ) → IsText (width_of (field_at place)) w → text_in place line.now ≡ w → ⊥) }
+// Returns the text of the field at an index, whose first column is given, without trailing blanks,
+// or None if it isn't printable.
+fn text_in(line: &[u8], place: usize, column: usize) -> Option<Text>
+    requires place { place < text_count }
+    requires column { column ≡ column_at place }
+    ensures some { IfSome result
+        (λ t. IsText (width_of (field_at place)) t.items × (t.items ≡ text_in place line.now)) }
+    ensures none { IfNone result
+        ((w : List ℕ) → IsText (width_of (field_at place)) w → text_in place line.now ≡ w → ⊥) }
 {
-    let field = HeaderField::at(place);
-    let field = columns(line, field.column(), field.width());
+    let field = columns(line, column, HeaderField::at(place).width());
     let cut = &field[..trimmed_len(field)];
     if !is_printable(cut) {
         return None;
@@ -43,14 +43,17 @@ fn text_in(line: &[u8], place: usize) -> Option<Text>
 
 // Reads the texts in the columns of a row. Returns false if one isn't printable.
 fn take_texts(texts: &mut HeaderTexts, row: TextRow, line: &[u8]) -> bool
-    ensures { MatchBool result (TakesTexts row (count_of row) line.now texts.old texts.new) (RefusesTexts row line.now) }
+    ensures { MatchBool result (TakesTexts row (count_of row) line.now texts.old texts.new)
+        (RefusesTexts row line.now) }
 {
     let start = row.start();
+    let mut column = row.front().len();
     for i in 0..row.count() {
-        let Some(text) = text_in(line, start + i) else {
+        let Some(text) = text_in(line, start + i, column) else {
             return false;
         };
         texts.set(start + i, text);
+        column += HeaderField::at(start + i).width();
     }
     true
 }

@@ -1,5 +1,6 @@
 //! The observation types in a header, read back.
-ghost use Rattle.std.specs.Prelude.{◌≡◌, ◌≤◌, ◌<◌, ◌+◌, ◌++◌, ◌∷◌, [], ◌==◌, ℕ, List, take, length, true, IfSome, OnOk, Err, Some};
+ghost use Rattle.std.specs.Prelude.{◌≡◌, ◌≤◌, ◌<◌, ◌+◌, ◌++◌, ◌∷◌, [], ◌==◌, ℕ, List, take, length, true, IfSome, OnOk};
+ghost use Rattle.std.specs.Prelude.{Err, Some};
 ghost use Rattle.std.specs.List.{list_any};
 ghost use Rattle.gnss_obs.specs.Signals.{SignalAt, IsSignal, table};
 ghost use Rattle.obs_epoch.specs.Signals.{indices, IsOf};
@@ -18,7 +19,8 @@ use gnss_obs::{Signal, System};
 /// Returns the number of planned signals of a system, by its first line of types.
 pub(crate) fn read_count(line: &[u8], system: System) -> Option<usize>
     ensures some { IfSome result (λ n. (1 ≤ n) × (n ≤ length (table system))) }
-    ensures count { (all : List ℕ) → AreTypes system all → line.now ≡ types_line system all 0 → result ≡ Some (length all) }
+    ensures count { (all : List ℕ) → AreTypes system all → line.now ≡ types_line system all 0
+        → result ≡ Some (length all) }
 {
     let types = digits_in(line.get(3..6)?);
     let count = types as usize / 4;
@@ -43,7 +45,8 @@ pub(crate) fn read_types(
     requires signals { IsOf system signals.old.items }
     ensures signals { IsOf system signals.new.items }
     ensures grows { OnOk result (take (length signals.old.items) signals.new.items ≡ signals.old.items) }
-    ensures taken { OnOk result (ComparesRow system count row line.now (indices signals.old.items) (indices signals.new.items)) }
+    ensures taken { OnOk result
+        (ComparesRow system count row line.now (indices signals.old.items) (indices signals.new.items)) }
     ensures bad { result ≡ Err Refusal.Bad → RefusesRow system count row line.now (indices signals.old.items) }
 {
     take_signals(signals, system, count, row, line)?;
@@ -70,7 +73,8 @@ fn take_signals(
     requires signals { IsOf system signals.old.items }
     ensures signals { IsOf system signals.new.items }
     ensures grows { OnOk result (take (length signals.old.items) signals.new.items ≡ signals.old.items) }
-    ensures taken { OnOk result (ReadsRow system count row line.now (indices signals.old.items) (indices signals.new.items)) }
+    ensures taken { OnOk result
+        (ReadsRow system count row line.now (indices signals.old.items) (indices signals.new.items)) }
     ensures bad { result ≡ Err Refusal.Bad → RefusesRow system count row line.now (indices signals.old.items) }
 {
     let end = signals_begun(row + 1).min(count);
@@ -100,7 +104,8 @@ fn take_signal(
     requires signals { IsOf system signals.old.items }
     ensures signals { IsOf system signals.new.items }
     ensures grows { OnOk result (take (length signals.old.items) signals.new.items ≡ signals.old.items) }
-    ensures taken { OnOk result ((s : SignalAt) → HasSignalAt system line.now column s → signals.new.items ≡ signals.old.items ++ s ∷ []) }
+    ensures taken { OnOk result
+        ((s : SignalAt) → HasSignalAt system line.now column s → signals.new.items ≡ signals.old.items ++ s ∷ []) }
     ensures bad { result ≡ Err Refusal.Bad → (s : SignalAt) → HasSignalAt system line.now column s
         → list_any (λ r. s.index == r.index) signals.old.items ≡ true }
 {

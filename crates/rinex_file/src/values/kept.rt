@@ -90,7 +90,8 @@ impl Model for KeptSatellite {
 
     ghost Value = { SatelliteRow };
 
-    ghost view = { λ s. record { system = s.system; row = record { satellite = s.satellite; entries = s.entries.items } } };
+    ghost view = { λ s.
+        record { system = s.system; row = record { satellite = s.satellite; entries = s.entries.items } } };
 }
 
 /// A satellite of a system, with an entry for each planned signal, as it is stored in memory.
@@ -106,7 +107,8 @@ impl Model for KeptRow {
 
     ghost Value = { SatelliteRow };
 
-    ghost view = { λ s. record { system = s.system; row = record { satellite = s.satellite; entries = s.entries.items } } };
+    ghost view = { λ s.
+        record { system = s.system; row = record { satellite = s.satellite; entries = s.entries.items } } };
 }
 
 /// An epoch with its satellites, and the station values that change with it.

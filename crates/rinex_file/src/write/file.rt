@@ -19,7 +19,8 @@ use std::alloc::{AllocError, Global};
 // Appends the header of a file whose first epoch is at this time.
 #[tactic(auto, unfolding(crate::specs::File::header_text))]
 fn add_header(text: &mut Vec<u8>, file: &ObsFile, first: GpsTime) -> Result<(), AllocError>
-    ensures { OnOk result (text.new.items ≡ text.old.items ++ header_text file.now.texts file.now.plan file.now.values first) }
+    ensures { OnOk result
+        (text.new.items ≡ text.old.items ++ header_text file.now.texts file.now.plan file.now.values first) }
 {
     let head = Head {
         texts: &file.texts,

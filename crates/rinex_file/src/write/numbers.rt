@@ -42,6 +42,28 @@ pub(crate) fn put_times<const N: usize>(line: &mut ArrayVec<u8, N>, byte: u8, co
     }
 }
 
+static BLANKS: [u8; MOST_LINE] = [b' '; MOST_LINE];
+
+// Returns blanks.
+fn blanks() -> &'static [u8; MOST_LINE]
+    ensures { result.now ≡ replicate most_line 32 }
+{
+    &BLANKS
+}
+
+/// Appends blanks.
+pub(crate) fn put_blanks<const N: usize>(line: &mut ArrayVec<u8, N>, count: usize)
+    requires room { array_vec_len line.old + count ≤ N }
+    requires few { count ≤ most_line }
+    ensures text { line.new.items ≡ line.old.items ++ replicate count 32 }
+    ensures size { array_vec_len line.new ≡ array_vec_len line.old + count }
+{
+    // Most often none is missing, and a call that fills nothing costs as much as a short one.
+    if count > 0 {
+        put(line, &blanks()[..count]);
+    }
+}
+
 /// Appends a number with leading zeros up to `places` digits.
 pub(crate) fn put_padded<const N: usize>(line: &mut ArrayVec<u8, N>, places: usize, number: u64)
     requires { array_vec_len line.old + length (padded places number) ≤ N }

@@ -1,5 +1,6 @@
 //! Observation lines: RINEX 3.05, table A3, "OBSERVATION DATA RECORD".
-ghost use Rattle.std.specs.Prelude.{◌≡◌, ◌+◌, ◌-◌, ◌*◌, ◌≤◌, ◌<◌, ◌++◌, [], ◌∷◌, length, take, drop, replicate, flat_map, All, List, IfSome, Some, nat_eq};
+ghost use Rattle.std.specs.Prelude.{◌≡◌, ◌≤◌, ◌<◌, ◌++◌, ℕ, [], ◌∷◌, length, take, replicate, All, List, IfSome, Some};
+ghost use Rattle.std.specs.Prelude.{nat_eq, slice_set};
 ghost use Rattle.std.specs.List.{IsDistinct};
 ghost use Rattle.arrayvec.specs.ArrayVec.{array_vec_len};
 ghost use Rattle.obs_epoch.specs.declared.cell.Cell.{Cell};
@@ -9,43 +10,30 @@ ghost use Rattle.rinex_file.specs.Value.{no_signal_values, satellite_row, entrie
 ghost use Rattle.rinex_file.specs.Numbers.{padded};
 ghost use Rattle.rinex_file.specs.Blanks.{trimmed};
 ghost use Rattle.rinex_file.specs.Lines.{field, strength_byte, signal_text, letter_of, satellite_line};
+ghost use Rattle.rinex_file.specs.Rows.{HasSignals};
 ghost use Rattle.rinex_file.specs.Limits.{most_line, signal_columns, value_columns, most_signals};
 
 use crate::values::kept::SignalValues;
-use crate::write::numbers::{Line, MOST_SIGNALS, SIGNAL_COLUMNS, VALUE_COLUMNS, put};
+use crate::write::digits::columns_of;
+use crate::write::numbers::{Line, SIGNAL_COLUMNS, VALUE_COLUMNS, put_blanks};
 use gnss_obs::{Sat, System, Thousandths, strength_digit};
-use itoa::write_digits;
 use obs_epoch::{Cell, Epoch, Plan};
 
-// Returns the columns of a value without its whole part: ten blanks, a point, thousandths, and the
-// LLI and SSI columns.
-fn after_whole(part: u64, lost: u8, strength: u8) -> [u8; VALUE_COLUMNS]
-    requires { part < 1000 }
-    ensures { result ≡ replicate 10 32 ++ (46 ∷ padded 3 part ++ lost ∷ strength ∷ []) }
-{
-    let hundreds = b'0' + (part / 100) as u8;
-    let tens = b'0' + (part / 10 % 10) as u8;
-    let ones = b'0' + (part % 10) as u8;
-    [
-        b' ', b' ', b' ', b' ', b' ', b' ', b' ', b' ', b' ', b' ', b'.', hundreds, tens, ones,
-        lost, strength,
-    ]
-}
-
-/// Returns a value in thousandths as F14.3, and the LLI and SSI columns after it. Its whole part
-/// may have ten digits, or nine and a minus.
+// Writes a value in thousandths as F14.3 and the LLI and SSI columns after it. Its whole part may
+// have ten digits, or nine and a minus.
 #[tactic(auto, unfolding(crate::specs::Lines::field))]
-pub(crate) fn columns_of(value: i64, lost: u8, strength: u8) -> [u8; VALUE_COLUMNS]
-    requires { FitsColumns value }
-    ensures { result ≡ field (Some value) lost strength }
+fn put_value(columns: &mut [u8], value: i64, lost: u8, strength: u8)
+    requires fits { FitsColumns value }
+    requires room { length columns.old ≡ value_columns }
+    ensures text { columns.new ≡ field (Some value) lost strength }
+    ensures size { length columns.new ≡ value_columns }
 {
-    let size = value.unsigned_abs();
-    let mut columns = after_whole(size % 1000, lost, strength);
-    let start = write_digits(size / 1000, &mut columns, 10);
+    let words = columns_of(value.unsigned_abs(), lost, strength);
+    columns[..8].copy_from_slice(&words.first.to_le_bytes());
+    columns[8..].copy_from_slice(&words.last.to_le_bytes());
     if value < 0 {
-        columns[start - 1] = b'-';
+        columns[words.start - 1] = b'-';
     }
-    columns
 }
 
 // Writes a value as F14.3 and the LLI and SSI columns after it, or 16 blanks if it is absent.
@@ -58,7 +46,7 @@ fn put_field(columns: &mut [u8], value: Option<i64>, lost: u8, strength: u8)
 {
     match value {
         None => columns.fill(b' '),
-        Some(value) => columns.copy_from_slice(&columns_of(value, lost, strength)),
+        Some(value) => put_value(columns, value, lost, strength),
     }
 }
 
@@ -102,47 +90,55 @@ fn put_signal(columns: &mut [u8], values: &SignalValues)
     put_field(&mut columns[3 * VALUE_COLUMNS..], values.s, b' ', b' ');
 }
 
-// Returns the columns of a signal, all blank.
-fn blank_columns() -> [u8; SIGNAL_COLUMNS]
-    ensures { length result ≡ signal_columns }
+// Begins the line of a satellite with this number of planned signals: its letter and number,
+// replacing the contents of the buffer. Blanks may follow.
+fn begin_row(line: &mut Line, system: System, id: u8, signals: usize)
+    requires id { id < 100 }
+    requires few { signals ≤ most_signals }
+    ensures { HasSignals line.new.items (letter_of system ∷ padded 2 id) (replicate signals no_signal_values) }
 {
-    [b' '; SIGNAL_COLUMNS]
+    line.truncate(3 + SIGNAL_COLUMNS * signals);
+    line.as_mut_slice().fill(b' ');
+    let missing = 3usize.saturating_sub(line.len());
+    put_blanks(line, missing);
+    let columns = line.as_mut_slice();
+    columns[0] = letter_of(system);
+    columns[1] = b'0' + id / 10;
+    columns[2] = b'0' + id % 10;
 }
 
-// Appends the columns of a signal.
-fn add_signal(line: &mut Line, values: &SignalValues)
+// Writes the columns of the signal at this index, after blanks if the line ends before them.
+fn put_at(line: &mut Line, place: usize, values: &SignalValues)
     requires fits { HaveRoom values.now }
-    requires room { array_vec_len line.old + signal_columns ≤ most_line }
-    ensures text { line.new.items ≡ line.old.items ++ signal_text values.now }
-    ensures size { array_vec_len line.new ≡ array_vec_len line.old + signal_columns }
+    requires few { place < most_signals }
+    ensures { (front : List ℕ) (others : List SignalValues) → length front ≡ 3 → All HaveRoom others
+        → place < length others
+        → HasSignals line.old.items front others → HasSignals line.new.items front (slice_set others place values.now) }
 {
-    let mut columns = blank_columns();
-    put_signal(&mut columns, values);
-    put(line, &columns);
+    let start = 3 + SIGNAL_COLUMNS * place;
+    let end = start + SIGNAL_COLUMNS;
+    let missing = end.saturating_sub(line.len());
+    put_blanks(line, missing);
+    put_signal(&mut line.as_mut_slice()[start..end], values);
 }
 
-// Appends the columns of signals.
-fn add_signals(line: &mut Line, values: &[SignalValues])
+// Writes the columns of these signals into a line without values.
+fn put_values(line: &mut Line, values: &[SignalValues])
     requires fits { All HaveRoom values.now }
-    requires room { array_vec_len line.old + signal_columns * length values.now ≤ most_line }
-    ensures text { line.new.items ≡ line.old.items ++ flat_map signal_text values.now }
-    ensures size { array_vec_len line.new ≡ array_vec_len line.old + signal_columns * length values.now }
+    requires few { length values.now ≤ most_signals }
+    ensures { (front : List ℕ) → length front ≡ 3
+        → HasSignals line.old.items front (replicate (length values.now) no_signal_values)
+        → HasSignals line.new.items front values.now }
 {
-    for value in values {
-        add_signal(line, value);
+    // From the last to the first, so that blanks are appended once.
+    let mut place = values.len();
+    while place > 0 {
+        place -= 1;
+        let value = &values[place];
+        if value.has_value() {
+            put_at(line, place, value);
+        }
     }
-}
-
-// Returns the number of signals up to the last that has a value.
-fn shown_signals(values: &[SignalValues]) -> usize
-    ensures bound { result ≤ length values.now }
-    ensures blank { flat_map signal_text (drop result values.now) ≡ replicate (signal_columns * (length values.now - result)) 32 }
-{
-    let mut end = values.len();
-    while end > 0 && !values[end - 1].has_value() {
-        end -= 1;
-    }
-    end
 }
 
 // Returns the length of the text without trailing blanks, in bytes.
@@ -167,6 +163,16 @@ pub(crate) fn letter_of(system: System) -> u8
     }
 }
 
+// Ends a line: removes trailing blanks and appends a line feed.
+fn end_row(line: &mut Line)
+    requires { array_vec_len line.old < most_line }
+    ensures { line.new.items ≡ trimmed line.old.items ++ 10 ∷ [] }
+{
+    let end = trimmed_len(line.as_slice());
+    line.truncate(end);
+    line.push(b'\n');
+}
+
 /// Writes the line of a satellite with these values of the planned signals, replacing the contents
 /// of the buffer.
 pub(crate) fn satellite_text(line: &mut Line, system: System, id: u8, values: &[SignalValues])
@@ -175,47 +181,45 @@ pub(crate) fn satellite_text(line: &mut Line, system: System, id: u8, values: &[
     requires few { length values.now ≤ most_signals }
     ensures { line.new.items ≡ satellite_line (satellite_row system id values.now) }
 {
-    line.clear();
-    line.push(letter_of(system));
-    line.push(b'0' + id / 10);
-    line.push(b'0' + id % 10);
-    add_signals(line, &values[..shown_signals(values)]);
-    let end = trimmed_len(line.as_slice());
-    line.truncate(end);
-    line.push(b'\n');
+    begin_row(line, system, id, values.len());
+    put_values(line, values);
+    end_row(line);
 }
 
-// Stores the values of a cell of this satellite at the index of its signal, if that is planned,
+// Writes the values of a cell of this satellite at the index of its signal, if that is planned,
 // replacing those of a later cell of the signal. Any other cell is skipped.
-fn put_cell(values: &mut [SignalValues], plan: &Plan, system: System, id: u8, cell: &Cell)
+fn put_cell(line: &mut Line, plan: &Plan, system: System, id: u8, cell: &Cell)
     requires held { IsHeld system cell.now }
     requires apart { IsDistinct nat_eq (planned_of system plan.now) }
-    requires size { length values.old ≡ length (planned_of system plan.now) }
-    ensures put { (rest : List Cell) → values.old ≡ entries_of plan.now system id rest → values.new ≡ entries_of plan.now system id (cell.now ∷ rest) }
-    ensures size { length values.new ≡ length values.old }
+    requires few { length (planned_of system plan.now) ≤ most_signals }
+    ensures { (front : List ℕ) (rest : List Cell) → length front ≡ 3 → All (IsHeld system) rest
+        → HasSignals line.old.items front (entries_of plan.now system id rest)
+        → HasSignals line.new.items front (entries_of plan.now system id (cell.now ∷ rest)) }
 {
     if cell.satellite.id() != id {
         return;
     }
     match plan.place(cell.signal) {
         None => {}
-        Some(place) => values[place] = SignalValues::of(cell),
+        Some(place) => put_at(line, place, &SignalValues::of(cell)),
     }
 }
 
-// Stores the values of a satellite's cells at the indices of their signals.
-fn put_cells(values: &mut [SignalValues], cells: &[Cell], plan: &Plan, system: System, id: u8)
-    requires none { values.old ≡ replicate (length (planned_of system plan.now)) no_signal_values }
+// Writes the values of a satellite's cells into a line without values.
+fn put_cells(line: &mut Line, cells: &[Cell], plan: &Plan, system: System, id: u8)
     requires held { AreHeld system cells.now }
-    ensures { values.new ≡ entries_of plan.now system id cells.now }
+    requires few { length (planned_of system plan.now) ≤ most_signals }
+    ensures { (front : List ℕ) → length front ≡ 3
+        → HasSignals line.old.items front (replicate (length (planned_of system plan.now)) no_signal_values)
+        → HasSignals line.new.items front (entries_of plan.now system id cells.now) }
 {
     // By the contract of `of` no signal is planned twice, so each has one index.
     let _ = plan.of(system);
-    // The first cell of a signal is the one that is written, so it is stored last.
+    // The first cell of a signal is the one that is written, so it is written last.
     let mut at = cells.len();
     while at > 0 {
         at -= 1;
-        put_cell(values, plan, system, id, &cells[at]);
+        put_cell(line, plan, system, id, &cells[at]);
     }
 }
 
@@ -225,10 +229,9 @@ pub(crate) fn put_seen(line: &mut Line, cells: &[Cell], plan: &Plan, system: Sys
     requires id { id < 100 }
     ensures { line.new.items ≡ satellite_line (row_among plan.now system cells.now id) }
 {
-    let mut values = [SignalValues::none(); MOST_SIGNALS];
-    let planned = &mut values[..plan.signals(system)];
-    put_cells(planned, cells, plan, system, id);
-    satellite_text(line, system, id, planned);
+    begin_row(line, system, id, plan.signals(system));
+    put_cells(line, cells, plan, system, id);
+    end_row(line);
 }
 
 /// Writes the line of a satellite of the epoch, replacing the contents of the buffer: its system's

@@ -1,12 +1,8 @@
-use Rattle.std.proofs.Common.{refl}
 use Rattle.rinex_file.proofs.FileText.{file_text-gathered, header_text-some}
 use Rattle.rinex_file.proofs.laws.file.Goals as goal
 
 pub returns-clause-text : goal.returns-clause-text
 returns-clause-text c = file_text-gathered
-
-pub returns-clause-none : goal.returns-clause-none
-returns-clause-none c = λ texts plan values. refl
 
 pub returns-clause-some : goal.returns-clause-some
 returns-clause-some c = header_text-some

@@ -1,8 +1,8 @@
-use Rattle.std.proofs.Common.{◌∙◌, sym, ap, subst, refl, [], ◌++◌, append_assoc, append-nil}
+use Rattle.std.proofs.Common.{arith, ◌∙◌, sym, ap, subst, refl, [], ◌++◌, append_assoc, append-nil}
 use Rattle.std.specs.Io.KnownBytes.{Appends}
 use Rattle.std.proofs.lemmas.Result.{err_from_is_err_and}
 use Rattle.std.proofs.KnownBytes.{Appends-nil, Appends-trans}
-use Rattle.rtcm_bits.specs.Device.{AppendsPrefix, HasFailed}
+use Rattle.rtcm_bits.specs.Device.{AppendsPrefix}
 use Rattle.rinex_file.specs.Numbers.{joined}
 use Rattle.rinex_file.specs.File.{header_text}
 use Rattle.rinex_file.proofs.Appended.{failed}
@@ -46,18 +46,10 @@ returns-in_err-write_whole-clause-part g c =
     (text ∙ ap (λ l. done ++ joined l) c.in-Some.ensures.steps) out (subst (λ l. AppendsPrefix b d l) c.as_slice.ensures.value c.in_err-write_whole.ensures.part))
 
 pub returns-in_err-write_whole-clause-device : goal.returns-in_err-write_whole-clause-device
-returns-in_err-write_whole-clause-device g c =
-    let (can, ends, out, fine, widest) = c.loop-line.invariant in
-    let given = err_from_is_err_and c.from_residual.result c.from_residual.ensures.1 in
-    rw given.1 (subst (λ n. HasFailed n c.write_whole.new.self.failures) fine c.in_err-write_whole.ensures.device.0, tt, c.in_err-write_whole.ensures.device.2 ∙ widest)
+returns-in_err-write_whole-clause-device g c = grind (arith, err_from_is_err_and, c.loop-line.invariant, (err_from_is_err_and c.from_residual.result c.from_residual.ensures.1))
 
 pub returns-clause-whole : goal.returns-clause-whole
-returns-clause-whole g c =
-    let contents = g.W.Write.contents in
-    let (can, ends, (done, text, out), fine, widest) = c.loop-line.invariant in
-    let a = contents c.args.writer.now.inner in
-    let b = contents c.loop-line.writer.inner in
-    subst (λ l. Appends a b l) (sym (text ∙ ap (λ l. done ++ joined l) c.in-None.ensures.steps.0 ∙ append-nil done)) out
+returns-clause-whole g c = grind (arith, append-nil)
 
 pub returns-in_err-write_whole-clause-whole : goal.returns-in_err-write_whole-clause-whole
 returns-in_err-write_whole-clause-whole g c = failed _ c.from_residual.result _ c.from_residual.ensures.1

@@ -4,7 +4,8 @@ use Rattle.std.proofs.KnownBytes.{Appends-nil}
 use Rattle.gnss_obs.specs.Satellites.{satellites}
 use Rattle.rtcm_bits.specs.Device.{AppendsPrefix}
 use Rattle.obs_epoch.specs.Values.{cells_of}
-use Rattle.obs_epoch.proofs.GroupLemmas.{left_all, further, sorted_climbs}
+use Rattle.obs_epoch.proofs.GroupLemmas.{left_all, sorted_climbs}
+use Rattle.rinex_file.proofs.SatelliteGroups.{further}
 use Rattle.rinex_file.proofs.Groups.{same_line}
 use Rattle.rinex_file.proofs.Sent.{no_lines, grown_lines, part_lines, where_failed}
 use Rattle.rinex_file.proofs.write.write_system.Goals as goal

@@ -1,8 +1,8 @@
 use Rattle.std.proofs.Common.{arith, ◌≡◌, ◌∙◌, sym, ap, subst, ℕ, suc, ◌+◌, ◌-◌, ◌<◌, ◌≤◌, List, [], ◌++◌, get_or, append_assoc, append-nil}
-use Rattle.rinex_file.specs.declared.header.fault.HeaderField.{HeaderField}
+use Rattle.rinex_file.specs.declared.header.fields.HeaderField.{HeaderField}
 use Rattle.rinex_file.specs.Numbers.{left}
-use Rattle.rinex_file.specs.Texts.{HeaderLists, place_of, text_of, field_at, width_of}
-use Rattle.rinex_file.specs.Header.{header_line, texts_from, text_columns, start_of, count_of, label_of}
+use Rattle.rinex_file.specs.Texts.{HeaderLists, text_of, field_at, width_of, start_of, count_of, label_of}
+use Rattle.rinex_file.specs.Header.{header_line, texts_from, text_columns}
 use Rattle.rinex_file.proofs.HeaderText.{place_back, field_back, field_less}
 use Rattle.rinex_file.proofs.Faultless.{few_columns}
 use Rattle.rinex_file.proofs.header.lines.texts_line.Goals as goal
@@ -19,14 +19,10 @@ one_more x start i count content new whole less put so_far =
     ∙ sym (ap (λ n. content ++ texts_from x (start + i) n) left_now) ∙ so_far
 
 all_put : (x : HeaderLists) (start i count : ℕ) (content whole : List ℕ) → count ≤ i → content ++ texts_from x (start + i) (count - i) ≡ whole → content ≡ whole
-all_put x start i count content whole far so_far =
-    let none : count - i ≡ 0 = omega (arith, far) in
-    sym (append-nil content) ∙ sym (ap (λ n. content ++ texts_from x (start + i) n) none) ∙ so_far
+all_put x start i count content whole far so_far = grind (arith, append-nil)
 
 width_most : (f : HeaderField) (w : ℕ) → w ≡ width_of f → w ≤ 60
-width_most f w e = subst (λ n. n ≤ 60) (sym e) (by f) where
-  by : (f : HeaderField) → width_of f ≤ 60
-  by f = subst (λ g. width_of g ≤ 60) (field_back f) (few_columns (place_of f) (field_less f))
+width_most f w e = grind (arith, field_back, few_columns, field_less)
 
 pub loop-i-preserved : goal.loop-i-preserved
 loop-i-preserved c =
@@ -35,7 +31,7 @@ loop-i-preserved c =
     let i = c.loop-i.i in
     let within = c.count-i-end.ensures.end in
     let less : i < count_of c.args.row = subst (λ n. i < n) inv.end c.loop-i-test.true in
-    let place : c.start.result + i ≡ start + i = ap (λ n. n + i) c.start.ensures.place in
+    let place : c.start.result + i ≡ start + i = ap (λ n. n + i) c.start.ensures in
     let field : c.at-field.result ≡ field_at (start + i) = c.at-field.ensures ∙ ap field_at place in
     let back = place_back (start + i) (omega (arith, within, less, inv.end)) in
     let text : c.text.result.now ≡ get_or c.args.texts.now (start + i) [] =

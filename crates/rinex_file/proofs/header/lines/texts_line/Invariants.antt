@@ -1,5 +1,6 @@
 use Rattle.std.proofs.Common.{◌≡◌, ◌≤◌, ◌+◌, ◌-◌, ◌*◌, ◌++◌, length}
-use Rattle.rinex_file.specs.Header.{texts_from, front_of, start_of, count_of}
+use Rattle.rinex_file.specs.Header.{texts_from}
+use Rattle.rinex_file.specs.Texts.{front_of, start_of, count_of}
 use Rattle.rinex_file.proofs.header.lines.texts_line.Given as goal
 
 -- the texts that are left complete the content

@@ -1,4 +1,4 @@
-use Rattle.std.proofs.Common.{refl, ◌∙◌, subst, ℕ}
+use Rattle.std.proofs.Common.{arith, refl, ◌∙◌, subst, ℕ}
 use Rattle.rtcm_bits.specs.Device.{HasFailed}
 use Rattle.rinex_file.specs.Read.Keeping.{history_of}
 use Rattle.rinex_file.proofs.Ahead.{leaves_all, leaves_more}
@@ -44,9 +44,7 @@ finish-requires-clause-value g c =
     (c.in-Ok-None.ensures.goes (history_of c.loop-added.file_builder) _ c.loop-added.invariant.read)).is
 
 pub finish-requires-clause-stands : goal.finish-requires-clause-stands
-finish-requires-clause-stands g c =
-    (the_end c.next.new.self (history_of c.loop-added.file_builder) _ _ c.in-Ok-None.field-0 c.in-Ok-None.field-0-is
-    (c.in-Ok-None.ensures.goes (history_of c.loop-added.file_builder) _ c.loop-added.invariant.read)).stands
+finish-requires-clause-stands g c = grind (arith, the_end)
 
 pub returns-in-Ok-finish-clause-found : goal.returns-in-Ok-finish-clause-found
 returns-in-Ok-finish-clause-found g c =

@@ -1,4 +1,4 @@
-use Rattle.std.proofs.Common.{◌≡◌, ◌∙◌, sym, ap, ◌+◌, length, min}
+use Rattle.std.proofs.Common.{arith, ◌≡◌, ◌∙◌, sym, ap, ◌+◌, length, min}
 use Rattle.obs_epoch.specs.Signals.{indices}
 use Rattle.obs_epoch.proofs.PlanLemmas.{length_indices}
 use Rattle.rinex_file.specs.Read.Progress.{signals_begun}
@@ -6,11 +6,7 @@ use Rattle.rinex_file.proofs.HeaderTypes.{begun_size, begun_next_size, row_taken
 use Rattle.rinex_file.proofs.read.head_so_far.take_row.Goals as goal
 
 pub returns-then-as_slice-signals_begun-clause-bad : goal.returns-then-as_slice-signals_begun-clause-bad
-returns-then-as_slice-signals_begun-clause-bad c = λ _ all are begun is.
-    let old = c.args.signals.now.items in
-    let size = ap length c.as_slice.ensures.value in
-    c.if-as_slice-signals_begun.true
-    (size ∙ sym (length_indices old) ∙ begun_size (indices old) all c.args.row c.args.count c.requires.row begun ∙ sym c.signals_begun.ensures)
+returns-then-as_slice-signals_begun-clause-bad c = grind (arith, length_indices, begun_size)
 
 pub returns-then-as_slice-min-clause-bad : goal.returns-then-as_slice-min-clause-bad
 returns-then-as_slice-min-clause-bad c = λ _ all are begun is.

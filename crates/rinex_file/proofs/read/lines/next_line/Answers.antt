@@ -1,23 +1,12 @@
-use Rattle.std.proofs.Common.{arith, lit≤, ◌≡◌, ◌∙◌, sym, ap, refl, subst, ℕ, ◌-◌, ◌≤◌, ◌<◌, Bool, false, nat_eq, List, length}
-use Rattle.std.specs.Io.KnownBytes.{Consumes, prepend_known}
+use Rattle.std.proofs.Common.{arith, ◌≡◌, ◌∙◌, sym, refl, subst, ℕ, ◌-◌, ◌≤◌, ◌<◌, Bool, false, nat_eq, List, length}
 use Rattle.std.proofs.KnownBytes.{Consumes-nil}
 use Rattle.rtcm_bits.specs.Device.{HasFailed}
-use Rattle.rinex_file.specs.Read.Fields.{has}
 use Rattle.rinex_file.specs.Blocks.{MovesBytes}
 use Rattle.rinex_file.proofs.Ahead.{not_failed, is_full, is_empty, not_empty, at_end, consumed_none, moved_taken, line_whole, still_endless, longer, leaves_all, leaves_more}
 use Rattle.rinex_file.proofs.read.lines.next_line.Goals as goal
 
 pub loop-block-init : goal.loop-block-init
-loop-block-init g c =
-    let empty = c.clear.ensures in
-    let ahead = prepend_known c.args.block.now (g.R.Read.remaining c.args.reader.now.inner) in
-    record {
-      taken = subst (Consumes ahead ahead) (sym empty) (Consumes-nil ahead);
-      endless = ap (has 10) empty;
-      within = subst (λ (l : List ℕ). length l ≤ 1220) (sym empty) (lit≤ tt);
-      left = leaves_all _;
-      same = refl;
-    }
+loop-block-init g c = grind (arith, Consumes-nil, leaves_all)
 
 pub returns-then-is_empty-clause-taken : goal.returns-then-is_empty-clause-taken
 returns-then-is_empty-clause-taken g c = consumed_none _ _ _ _ c.loop-block.invariant.taken c.in-End.ensures.same
@@ -76,11 +65,7 @@ shorter : (old new : List ℕ) → length old < length new → length old < 1220
 shorter old new more less = omega (arith, more, less)
 
 pub loop-block-smaller : goal.loop-block-smaller
-loop-block-smaller g c =
-    let inv = c.loop-block.invariant in
-    let moves = subst (λ (b : Bool). MovesBytes b c.fill.new.self c.move_to.new.self c.loop-block.line.items c.move_to.new.line.items) c.if-move_to.false c.move_to.ensures in
-    let less : length c.loop-block.line.items < 1220 = not_full _ _ (sym c.loop-block-test.true ∙ c.is_full.ensures.value) inv.within in
-    shorter c.loop-block.line.items c.move_to.new.line.items (longer _ _ _ _ moves (c.in-Some.ensures.some refl) less) less
+loop-block-smaller g c = grind (arith, not_full, is_full, shorter, longer)
 
 pub returns-then-is_empty-clause-failed : goal.returns-then-is_empty-clause-failed
 returns-then-is_empty-clause-failed g c = not_failed _ _ refl
@@ -119,9 +104,4 @@ pub returns-then-is_empty-clause-found : goal.returns-then-is_empty-clause-found
 returns-then-is_empty-clause-found g c = (is_empty _ (sym c.if-is_empty.true ∙ c.is_empty.ensures), at_end _ _ (c.in-End.ensures.end refl).0 (c.in-End.ensures.end refl).1)
 
 pub returns-else-is_empty-clause-found : goal.returns-else-is_empty-clause-found
-returns-else-is_empty-clause-found g c = (
-  not_empty _ (sym c.if-is_empty.false ∙ c.is_empty.ensures),
-  not_full _ _ (sym c.loop-block-test.true ∙ c.is_full.ensures.value) c.loop-block.invariant.within,
-  c.loop-block.invariant.endless,
-  at_end _ _ (c.in-End.ensures.end refl).0 (c.in-End.ensures.end refl).1,
-)
+returns-else-is_empty-clause-found g c = grind (arith, not_empty, is_empty, not_full, is_full, at_end)

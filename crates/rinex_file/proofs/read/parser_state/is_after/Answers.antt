@@ -1,11 +1,8 @@
-use Rattle.std.proofs.Common.{refl, subst}
+use Rattle.std.proofs.Common.{subst}
 use Rattle.std.proofs.lemmas.Bool.{lt-ltb, ltb-true}
 use Rattle.rinex_file.specs.ParserState.{EndsIn}
-use Rattle.rinex_file.proofs.Rises.{rise_alone, rise_after, rise_last}
+use Rattle.rinex_file.proofs.Rises.{rise_after, rise_last}
 use Rattle.rinex_file.proofs.read.parser_state.is_after.Goals as goal
-
-pub returns-in-None : goal.returns-in-None
-returns-in-None c = λ xs ends rise. (λ yes. rise_alone xs c.args.next (subst (EndsIn xs) c.in-None.is ends), λ all. refl)
 
 pub returns-in-Some : goal.returns-in-Some
 returns-in-Some c = λ xs ends rise.

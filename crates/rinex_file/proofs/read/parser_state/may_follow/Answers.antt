@@ -1,4 +1,4 @@
-use Rattle.std.proofs.Common.{◌∙◌, sym, subst, ◌<◌, map}
+use Rattle.std.proofs.Common.{arith, sym, subst, ◌<◌, map}
 use Rattle.std.proofs.lemmas.Bool.{lt-ltb, ltb-true, eqb-true, eq-eqb}
 use Rattle.rinex_file.specs.FileValues.{time_stamped}
 use Rattle.rinex_file.specs.ParserState.{EndsIn}
@@ -6,13 +6,7 @@ use Rattle.rinex_file.proofs.Rises.{rise_alone, rise_after, rise_last, none_stam
 use Rattle.rinex_file.proofs.read.parser_state.may_follow.Goals as goal
 
 pub returns-in-None : goal.returns-in-None
-returns-in-None c = λ es ends rise.
-    let none = subst (EndsIn (map time_stamped es)) c.in-None.is ends in
-    let first = c.milliseconds.ensures.value in
-    let time = c.milliseconds-in-None.ensures.value in (
-      λ same. (rise_alone _ c.args.time none, λ begun. sym first ∙ eqb-true _ _ same ∙ time),
-      λ after. eq-eqb _ _ (first ∙ after.1 (none_stamped es none) ∙ sym time),
-    )
+returns-in-None c = grind (arith, rise_alone, eqb-true, eq-eqb, none_stamped)
 
 pub returns-in-Some : goal.returns-in-Some
 returns-in-Some c = λ es ends rise.

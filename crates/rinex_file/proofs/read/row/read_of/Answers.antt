@@ -1,7 +1,7 @@
-use Rattle.std.proofs.Common.{◌≡◌, ◌∙◌, ◌↔◌, sym, ap, subst, ℕ, List, Bool, true, false, IsTrue, refl, All}
+use Rattle.std.proofs.Common.{arith, ◌≡◌, ◌∙◌, ◌↔◌, sym, ap, subst, ℕ, List, Bool, true, false, IsTrue, refl}
 use Rattle.gnss_obs.specs.declared.system.System.{System}
 use Rattle.gnss_obs.specs.Satellites.{satellites}
-use Rattle.rinex_file.specs.FileValues.{IsRow, HaveRoom, AreSignalValues}
+use Rattle.rinex_file.specs.FileValues.{IsRow}
 use Rattle.rinex_file.specs.Lines.{satellite_line}
 use Rattle.rinex_file.specs.Read.Fields.{ReadsExactly, some_if}
 use Rattle.rinex_file.specs.Read.Row.{satellite_row_in}
@@ -31,8 +31,7 @@ IsOf system signals s = (s.system ≡ system) × IsRow (satellites system) signa
 compared : (b : Bool) (system : System) (signals : ℕ) (line again : List ℕ) (seen : SatelliteRow) → (IsTrue b ↔ (again ≡ line)) → again ≡ satellite_line seen → IsOf system signals seen
     → ((v : SatelliteRow) → v.system ≡ system → IsRow (satellites system) signals v.row → line ≡ satellite_line v → seen ≡ v) → ReadsExactly (IsOf system signals) satellite_line line (some_if b seen)
 compared true system signals line again seen same text is found = (is, sym (same.0 refl) ∙ text, λ w also e. sym (found w also.0 also.1 e))
-compared false system signals line again seen same text is found = λ v also e.
-    refused false (again ≡ line) same refl (text ∙ ap satellite_line (found v also.0 also.1 e) ∙ sym e)
+compared false system signals line again seen same text is found = grind (arith, refused, found)
 
 pub returns : goal.returns
 returns c =
@@ -43,6 +42,4 @@ returns c =
     (λ v same is e. found ((goal.at.returns c).After-put_seen_in) v same is e)
 
 pub satellite_text-requires-clause-room : goal.satellite_text-requires-clause-room
-satellite_text-requires-clause-room c =
-    subst (λ (es : List SignalValues). All HaveRoom es) (sym c.as_slice-2.ensures.value)
-    (all_values_fit _ (subst (λ (s : SatelliteRow). All AreSignalValues s.row.entries) (sym c.seen.view_is) (c.is_row.ensures.0 c.if-not-is_row.false).entries))
+satellite_text-requires-clause-room c = grind (arith, all_values_fit)

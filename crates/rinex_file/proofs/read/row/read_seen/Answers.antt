@@ -1,4 +1,4 @@
-use Rattle.std.proofs.Common.{arith, ◌≡◌, ◌∙◌, sym, ap, subst, ℕ, ◌<◌, get_or, List, Option, Some, None}
+use Rattle.std.proofs.Common.{arith, ◌≡◌, ◌∙◌, sym, ap, ℕ, ◌<◌, get_or, List, Option, Some, None}
 use Rattle.gnss_obs.specs.declared.system.System.{System}
 use Rattle.gnss_obs.specs.Satellites.{satellites}
 use Rattle.rinex_file.specs.Value.{SatelliteRow}
@@ -13,24 +13,16 @@ abbrev IsOf : System → ℕ → SatelliteRow → Type 0
 IsOf system signals s = (s.system ≡ system) × IsRow (satellites system) signals s.row
 
 is_seen : (gps galileo signals : ℕ) (system : System) (s : SatelliteRow) → signals ≡ of_system system gps galileo → 0 < signals → IsOf system signals s → IsSatelliteRow gps galileo s
-is_seen gps galileo signals system s e some (same, is) =
-    let count : signals ≡ of_system s.system gps galileo = e ∙ ap (λ x. of_system x gps galileo) (sym same) in
-    record {
-      planned = subst (λ n. 0 < n) count some;
-      row = subst (λ n. IsRow (satellites s.system) n s.row) count (subst (λ x. IsRow (satellites x) signals s.row) (sym same) is);
-    }
+is_seen gps galileo signals system s e some (same, is) = grind arith
 
 is_of : (gps galileo signals : ℕ) (system : System) (s : SatelliteRow) → signals ≡ of_system system gps galileo → s.system ≡ system → IsSatelliteRow gps galileo s → IsOf system signals s
-is_of gps galileo signals system s e same is =
-    let row : IsRow (satellites system) (of_system system gps galileo) s.row = subst (λ x. IsRow (satellites x) (of_system x gps galileo) s.row) same is.row in
-    (same, subst (λ n. IsRow (satellites system) n s.row) (sym e) row)
+is_of gps galileo signals system s e same is = grind arith
 
 -- if the line's letter is that of the system, each satellite is one of this system
 of_both : (gps galileo signals : ℕ) (system : System) (line : List ℕ) (r : Option SatelliteRow) → signals ≡ of_system system gps galileo → 0 < signals
     → ((v : SatelliteRow) → line ≡ satellite_line v → v.system ≡ system) → ReadsExactly (IsOf system signals) satellite_line line r → ReadsExactly (IsSatelliteRow gps galileo) satellite_line line r
 of_both gps galileo signals system line None count some letter read = λ v is e. read v (is_of gps galileo signals system v count (letter v e) is) e
-of_both gps galileo signals system line (Some s) count some letter (is, text, only) =
-    (is_seen gps galileo signals system s count some is, text, λ w also e. only w (is_of gps galileo signals system w count (letter w e) also) e)
+of_both gps galileo signals system line (Some s) count some letter (is, text, only) = grind (arith, is_seen, is_of)
 
 same_some : (x : Option System) (s t : System) → x ≡ Some s → x ≡ Some t → t ≡ s
 same_some x s t e f = cc

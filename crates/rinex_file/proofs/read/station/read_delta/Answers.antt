@@ -1,7 +1,6 @@
-use Rattle.std.proofs.Common.{arith, refl, ◌≡◌, ◌∙◌, sym, ap, subst, w64, to_z, ◌<◌, ◌^◌, ℕ, List, take, drop, Some, None}
+use Rattle.std.proofs.Common.{arith, refl, ◌≡◌, ◌∙◌, sym, ap, w64, to_z, ◌<◌, ◌^◌, ℕ, List, take, drop, Some, None}
 use Rattle.std.specs.Prelude.{codes, pos, Result, Ok, Err}
 use Rattle.std.specs.Result.{OkIff, result_ok}
-use Rattle.std.proofs.lemmas.Int.{ints}
 use Rattle.std.proofs.lemmas.Result.{OkIff-at_ok, OkIff-at_err}
 use Rattle.rinex_file.specs.Header.{header_line, lengths}
 use Rattle.rinex_file.specs.Read.Fields.{digits_in}
@@ -21,10 +20,7 @@ same_some x y e = cc
 
 -- a number that fits 16 bits, or doesn't
 held : {E : Type 0} (r : Result ℕ E) (n h : ℕ) → OkIff r (n < 2 ^ 16) n → Some h ≡ result_ok r → (h < 2 ^ 16) × (h ≡ n)
-held {E} (Ok x) n h is e =
-    let both = OkIff-at_ok {E = E} (Ok x) (n < 2 ^ 16) n x is refl in
-    let same : h ≡ n = same_some h x e ∙ both.1 in
-    (subst (λ k. k < 2 ^ 16) (sym same) both.0, same)
+held {E} (Ok x) n h is e = grind (arith, OkIff-at_ok, same_some)
 held {E} (Err x) n h is e = cc
 
 too_great : {E : Type 0} (r : Result ℕ E) (n : ℕ) → OkIff r (n < 2 ^ 16) n → None ≡ result_ok r → n < 2 ^ 16 → ⊥
@@ -32,10 +28,7 @@ too_great {E} (Ok x) n is e = cc
 too_great {E} (Err x) n is e = OkIff-at_err {T = ℕ} {E = E} (Err x) (n < 2 ^ 16) n x is refl
 
 widened : (h : ℕ) → h < 2 ^ 16 → header_line (lengths (to_z w64 h) (pos 0) (pos 0)) (codes "ANTENNA: DELTA H/E/N") ≡ text h
-widened h small = ap (λ z. header_line (lengths z (pos 0) (pos 0)) (codes "ANTENNA: DELTA H/E/N")) (same h small)
-  where
-    same : (n : ℕ) → n < 2 ^ 16 → to_z w64 n ≡ pos n
-    same n small = omega (arith, ints)
+widened h small = grind arith
 
 pub returns-in_err-height : goal.returns-in_err-height
 returns-in_err-height c =

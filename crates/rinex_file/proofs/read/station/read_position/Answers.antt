@@ -1,4 +1,4 @@
-use Rattle.std.proofs.Common.{arith, refl, ◌≡◌, ◌<◌, ◌^◌, ◌∙◌, sym, ap, subst, ℤ, ℕ, List, Some, unsigned_abs, w64, to_z, of_z}
+use Rattle.std.proofs.Common.{arith, refl, ◌≡◌, ◌∙◌, sym, ap, subst, ℤ, ℕ, List, Some, w64, to_z, of_z}
 use Rattle.std.proofs.lemmas.Int.{fits_signed_from_abs, to_z-of_z}
 use Rattle.std.specs.Prelude.{codes}
 use Rattle.rinex_file.specs.FileValues.{IsCoordinate}
@@ -20,9 +20,7 @@ text x y z = header_line (lengths x y z) (codes "APPROX POSITION XYZ")
 -- the columns of the line of a position contain its numbers
 there : (line : List ℕ) (w : Three) → IsCoordinate w.0 × IsCoordinate w.1 × IsCoordinate w.2 → line ≡ text w.0 w.1 w.2
     → (number_at 0 line ≡ w.0) × (number_at 14 line ≡ w.1) × (number_at 28 line ≡ w.2)
-there line w is e =
-    let all = lengths-back w.0 w.1 w.2 (codes "APPROX POSITION XYZ") (coordinate-fits w.0 is.0) (coordinate-fits w.1 is.1) (coordinate-fits w.2 is.2) in
-    (ap (number_at 0) e ∙ all.0, ap (number_at 14) e ∙ all.1, ap (number_at 28) e ∙ all.2)
+there line w is e = grind (arith, lengths-back, coordinate-fits, (lengths-back w.0 w.1 w.2 (codes "APPROX POSITION XYZ") (coordinate-fits w.0 is.0) (coordinate-fits w.1 is.1) (coordinate-fits w.2 is.2)))
 
 same_three : (a b c : ℤ) (w : Three) → w.0 ≡ a → w.1 ≡ b → w.2 ≡ c → w ≡ (a, b, c)
 same_three a b c (x, y, z) d e f = ap (λ p. (p, y, z)) d ∙ ap (λ q. (a, q, z)) e ∙ ap (λ r. (a, b, r)) f
@@ -41,14 +39,10 @@ returns-in_err-z c =
 
 -- a coordinate fits 64 bits
 stays : (z : ℤ) → IsCoordinate z → to_z w64 (of_z w64 z) ≡ z
-stays z is = to_z-of_z w64 z (fits_signed_from_abs w64 z (half (unsigned_abs z) (coordinate-fits z is)))
-  where
-    half : (n : ℕ) → n < 10 ^ 12 → n < 2 ^ 63
-    half n h = omega (arith, h)
+stays z is = grind (arith, to_z-of_z, fits_signed_from_abs, coordinate-fits)
 
 all_stay : (x y z : ℤ) → Are (x, y, z) → text (to_z w64 (of_z w64 x)) (to_z w64 (of_z w64 y)) (to_z w64 (of_z w64 z)) ≡ text x y z
-all_stay x y z is =
-    ap (λ t. text t (to_z w64 (of_z w64 y)) (to_z w64 (of_z w64 z))) (stays x is.0) ∙ ap (λ t. text x t (to_z w64 (of_z w64 z))) (stays y is.1) ∙ ap (λ t. text x y t) (stays z is.2)
+all_stay x y z is = grind (arith, stays)
 
 pub returns-then-not-is_same : goal.returns-then-not-is_same
 returns-then-not-is_same c = λ w is e.

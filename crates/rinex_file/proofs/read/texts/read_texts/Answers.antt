@@ -1,8 +1,8 @@
-use Rattle.std.proofs.Common.{◌≡◌, ◌∙◌, sym, refl, ℕ, List, Bool, true, false, IsTrue, ◌↔◌}
+use Rattle.std.proofs.Common.{arith, ◌≡◌, ◌∙◌, sym, refl, ℕ, List, Bool, true, false, IsTrue, ◌↔◌}
 use Rattle.std.specs.Prelude.{MatchBool}
-use Rattle.rinex_file.specs.declared.header.rows.TextRow.{TextRow}
-use Rattle.rinex_file.specs.Texts.{HeaderLists}
-use Rattle.rinex_file.specs.Header.{count_of, texts_line}
+use Rattle.rinex_file.specs.declared.header.fields.TextRow.{TextRow}
+use Rattle.rinex_file.specs.Texts.{HeaderLists, count_of}
+use Rattle.rinex_file.specs.Header.{texts_line}
 use Rattle.rinex_file.specs.Read.HeaderSteps.{TakesTexts, ReadsTexts, RefusesTexts}
 use Rattle.rinex_file.proofs.HeaderText.{not_same}
 use Rattle.rinex_file.proofs.Judged.{refused}
@@ -18,7 +18,4 @@ taken r line old new true m e = m
 taken r line old new false m e = cc
 
 pub returns : goal.returns
-returns c =
-    compared c.args.row c.args.line.now c.as_slice.result.now c.args.texts.now c.take_texts.new.texts c.is_same.result
-    (taken c.args.row c.args.line.now c.args.texts.now c.take_texts.new.texts c.take_texts.result c.take_texts.ensures c.if-not-take_texts.false)
-    (c.as_slice.ensures.value ∙ c.texts_line.ensures) c.is_same.ensures
+returns c = grind (arith, compared, taken)

@@ -20,6 +20,4 @@ returns-in-Err-clause-read c = λ s (listed, same, is).
     absurd (c.in-Err.ensures.cases.0 (subst IsUtf8 (sym here) (utf8-code s.system s.index listed)))
 
 pub returns-in-Ok-clause-read : goal.returns-in-Ok-clause-read
-returns-in-Ok-clause-read c = λ s (listed, same, is).
-    let here = c.in_ok-code.ensures.lookup.0.2 ∙ ap (λ n. take n (drop c.args.column c.args.line.now)) (two c.args.column) ∙ is in
-    c.from_code.ensures ∙ code_of_one c.args.system s c.in-Ok.code.now listed same (c.in-Ok.ensures.cases.0 ∙ here)
+returns-in-Ok-clause-read c = grind (arith, two, code_of_one)

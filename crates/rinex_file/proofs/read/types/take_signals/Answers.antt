@@ -38,61 +38,29 @@ loop-place-preserved c = record {
 }
 
 whole : (all : List ℕ) (place end a next count : ℕ) → place ≤ end → end ≤ place → end ≡ min a count → a ≡ next → length all ≡ count → take place all ≡ take next all
-whole all place end a next count low high is same size =
-    let least : place ≡ min next (length all) = omega (arith, low, high, is, same, size) in
-    ap (λ n. take n all) least ∙ take_min next all
+whole all place end a next count low high is same size = grind (arith, take_min)
 
 pub returns-clause-taken : goal.returns-clause-taken
-returns-clause-taken c = λ all are begun is.
-    let inv = c.loop-place.invariant in
-    inv.read all are begun is
-    ∙ whole all c.loop-place.place c.min-end.result c.signals_begun.result (signals_begun (c.args.row + 1)) c.args.count inv.to c.loop-place-test.false c.min-end.ensures c.signals_begun.ensures begun.0
+returns-clause-taken c = grind (arith, whole)
 
 -- the index of a signal in a line of types is below the largest number of signals of a system
 within : (place end a count most : ℕ) → place < end → end ≡ min a count → count ≤ most → most ≤ 19 → place < 19
 within place end a count most less least few bound = omega (arith, less, least, few, bound)
 
 pub overflow_mul-column : goal.overflow_mul-column
-overflow_mul-column c =
-    let few = within c.loop-place.place c.min-end.result c.signals_begun.result c.args.count _ c.loop-place-test.true c.min-end.ensures c.requires.count (few_signals c.args.system) in
-    omega (arith, few)
-
-pub overflow_sub-column : goal.overflow_sub-column
-overflow_sub-column c = omega (arith, c.loop-place.invariant.from)
+overflow_mul-column c = grind (arith, few, within, few_signals)
 
 pub overflow_mul-column-in-loop-place : goal.overflow_mul-column-in-loop-place
-overflow_mul-column-in-loop-place c =
-    let few = within c.loop-place.place c.min-end.result c.signals_begun.result c.args.count _ c.loop-place-test.true c.min-end.ensures c.requires.count (few_signals c.args.system) in
-    omega (arith, few, c.loop-place.invariant.from)
+overflow_mul-column-in-loop-place c = grind (arith, few, within, few_signals)
 
 pub overflow_mul-column-in-loop-place-2 : goal.overflow_mul-column-in-loop-place-2
-overflow_mul-column-in-loop-place-2 c =
-    let few = within c.loop-place.place c.min-end.result c.signals_begun.result c.args.count _ c.loop-place-test.true c.min-end.ensures c.requires.count (few_signals c.args.system) in
-    omega (arith, few)
+overflow_mul-column-in-loop-place-2 c = grind (arith, few, within, few_signals)
 
 pub overflow_add-column : goal.overflow_add-column
-overflow_add-column c =
-    let few = within c.loop-place.place c.min-end.result c.signals_begun.result c.args.count _ c.loop-place-test.true c.min-end.ensures c.requires.count (few_signals c.args.system) in
-    omega (arith, few)
+overflow_add-column c = grind (arith, few, within, few_signals)
 
 pub overflow_add-column-in-loop-place : goal.overflow_add-column-in-loop-place
-overflow_add-column-in-loop-place c =
-    let few = within c.loop-place.place c.min-end.result c.signals_begun.result c.args.count _ c.loop-place-test.true c.min-end.ensures c.requires.count (few_signals c.args.system) in
-    omega (arith, few)
+overflow_add-column-in-loop-place c = grind (arith, few, within, few_signals)
 
 pub take_signal-requires-clause-column : goal.take_signal-requires-clause-column
-take_signal-requires-clause-column c =
-    let few = within c.loop-place.place c.min-end.result c.signals_begun.result c.args.count _ c.loop-place-test.true c.min-end.ensures c.requires.count (few_signals c.args.system) in
-    omega (arith, few)
-
-pub take_signal-requires-clause-signals : goal.take_signal-requires-clause-signals
-take_signal-requires-clause-signals c = c.loop-place.invariant.of
-
-pub returns-in_err-take_signal-clause-signals : goal.returns-in_err-take_signal-clause-signals
-returns-in_err-take_signal-clause-signals c = c.take_signal.ensures.signals
-
-pub returns-clause-grows : goal.returns-clause-grows
-returns-clause-grows c = c.loop-place.invariant.grows
-
-pub returns-clause-signals : goal.returns-clause-signals
-returns-clause-signals c = c.loop-place.invariant.of
+take_signal-requires-clause-column c = grind (arith, few, within, few_signals)

@@ -1,4 +1,4 @@
-use Rattle.std.proofs.Common.{rules, arith, ◌≤◌, ◌++◌, ℕ, List, length, decimal, ◌/◌, ◌%◌, ◌∷◌, [], ◌≡◌, length-append}
+use Rattle.std.proofs.Common.{arith, ◌≤◌, ◌++◌, ℕ, List, length, ◌∷◌, [], ◌≡◌, length-append}
 use Rattle.std.proofs.Math.Nat.{div-le_self, mod-le}
 use Rattle.std.proofs.lemmas.Fmt.{length-decimal-le}
 use Rattle.rinex_file.proofs.Digits.{ten_pow, length-padded-le}
@@ -16,13 +16,4 @@ fits_in : (sign whole text : List ℕ) → length sign ≤ 1 → length whole �
 fits_in sign whole text s w e = grind (arith, length-append)
 
 pub put_padded-requires : goal.put_padded-requires
-put_padded-requires c =
-    let size = c.unsigned_abs-size.result in
-    let bound = c.unsigned_abs-size.ensures.bound in
-    let less = div-le_self size c.args.scale in
-    let rest = mod-le size c.args.scale in
-    let whole = length-decimal-le 20 (size / c.args.scale) (omega arith) (omega (arith, bound, less)) (omega (arith, bound, less)) in
-    let part = length-padded-le c.args.places (size % c.args.scale) (omega (arith, bound, rest)) in
-    let sign : length c.if-value-lt0.text.items ≤ 1 = elim c.if-value-lt0.branch [ then-value-lt0 w ↦ search rules | else-value-lt0 w ↦ search rules ] in
-    let text = fits_in c.if-value-lt0.text.items (decimal (size / c.args.scale)) c.push-2.new.self.items sign whole (search rules) in
-    (omega arith, omega (arith, text, part, c.requires.places))
+put_padded-requires c = grind (arith, div-le_self, mod-le, length-decimal-le, length-padded-le, then-value-lt0, else-value-lt0, fits_in)

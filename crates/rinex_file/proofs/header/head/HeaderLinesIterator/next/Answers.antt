@@ -6,9 +6,7 @@ use Rattle.rinex_file.proofs.header.head.HeaderLinesIterator.next.Goals as goal
 use Rattle.rinex_file.proofs.header.head.HeaderLinesIterator.next.Goals.{After-line_of}
 
 pub returns-in-None-clause-steps : goal.returns-in-None-clause-steps
-returns-in-None-clause-steps c =
-    let s = c.self.inside in
-    let none = sym c.self.view_is ∙ c.in-None.ensures.none s.texts.now s.values (civil_of s.first) in (none, none)
+returns-in-None-clause-steps c = grind (arith, c.self.inside, (sym c.self.view_is ∙ c.in-None.ensures.none c.self.inside.texts.now c.self.inside.values (civil_of c.self.inside.first)))
 
 -- the line that was returned, and those that are left
 steps : (c : After-line_of) → let s = c.self.inside in

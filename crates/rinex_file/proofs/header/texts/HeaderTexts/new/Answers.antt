@@ -1,8 +1,7 @@
-use Rattle.std.proofs.Common.{arith, ◌≡◌, ◌∙◌, sym, ap, subst, refl, ℕ, ◌≤◌, [], length, get_or}
+use Rattle.std.proofs.Common.{arith, ◌≡◌, ◌∙◌, sym, ap, refl, ℕ, ◌≤◌, [], get_or}
 use Rattle.rinex_file.specs.Blanks.{trimmed}
-use Rattle.rinex_file.specs.Texts.{width_of, text_of, field_at, fault_of}
+use Rattle.rinex_file.specs.Texts.{text_of, field_at, fault_of}
 use Rattle.rinex_file.specs.TextsOf.{lists_of}
-use Rattle.rinex_file.specs.FileValues.{IsText}
 use Rattle.rinex_file.proofs.HeaderText.{place_back}
 use Rattle.rinex_file.proofs.Faultless.{short, fine, few_columns, fault_here, fine_here, one_cut, all_cut}
 use Rattle.rinex_file.proofs.header.texts.HeaderTexts.new.Goals as goal
@@ -11,20 +10,10 @@ few : (n w : ℕ) → n ≤ w → w ≤ 60 → n ≤ 60
 few n w a b = omega (arith, a, b)
 
 pub cut-requires : goal.cut-requires
-cut-requires c =
-    let t = lists_of c.args.texts.now in
-    let i = c.loop-place.place in
-    let text : c.as_bytes-text.result.now ≡ text_of t (field_at i) = c.as_bytes-text.ensures.value ∙ c.of.ensures ∙ ap (text_of t) c.at-field.ensures in
-    let judged = sym (c.fault_of.ensures ∙ ap (fault_of c.at-field.result) text ∙ ap (λ f. fault_of f (text_of t (field_at i))) c.at-field.ensures) ∙ c.in_default.is in
-    few _ _ (subst (λ l. length (trimmed l) ≤ width_of (field_at i)) (sym text) (short (field_at i) (text_of t (field_at i)) judged)) (few_columns i c.loop-place-test.true)
+cut-requires c = grind (arith, few, short, few_columns)
 
 pub set-requires-clause-text : goal.set-requires-clause-text
-set-requires-clause-text c =
-    let t = lists_of c.args.texts.now in
-    let i = c.loop-place.place in
-    let text : c.as_bytes-text.result.now ≡ text_of t (field_at i) = c.as_bytes-text.ensures.value ∙ c.of.ensures ∙ ap (text_of t) c.at-field.ensures in
-    let judged = sym (c.fault_of.ensures ∙ ap (fault_of c.at-field.result) text ∙ ap (λ f. fault_of f (text_of t (field_at i))) c.at-field.ensures) ∙ c.in_default.is in
-    subst (IsText (width_of (field_at i))) (sym (c.cut.ensures ∙ ap trimmed text)) (fine (field_at i) (text_of t (field_at i)) judged)
+set-requires-clause-text c = grind (arith, fine)
 
 pub loop-place-preserved : goal.loop-place-preserved
 loop-place-preserved c =

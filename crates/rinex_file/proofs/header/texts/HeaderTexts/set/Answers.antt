@@ -1,4 +1,4 @@
-use Rattle.std.proofs.Common.{◌∙◌, ◌<◌, sym, subst, ap, [], get_or}
+use Rattle.std.proofs.Common.{arith, sym, subst}
 use Rattle.std.proofs.lemmas.List.{map-set, get_or-set_same, get_or-set_other}
 use Rattle.std.specs.Prelude.{map}
 use Rattle.rinex_file.specs.FileValues.{AreTexts}
@@ -11,11 +11,7 @@ invariant_of-self c =
     (set_text (map (λ text. text.items) c.self.inside.texts) c.args.place c.args.text.items c.self.invariant c.requires.place c.requires.text)
 
 pub returns-clause-value : goal.returns-clause-value
-returns-clause-value c =
-    ap (λ l. get_or l c.args.place []) (map-set (λ text. text.items) c.self.inside.texts c.args.place c.args.text)
-    ∙ get_or-set_same (map (λ text. text.items) c.self.inside.texts) c.args.place c.args.text.items [] (subst (λ n. c.args.place < n) (sym c.self.invariant.count) c.requires.place)
+returns-clause-value c = grind (arith, map-set, get_or-set_same)
 
 pub returns-clause-same : goal.returns-clause-same
-returns-clause-same c i far =
-    ap (λ l. get_or l i []) (map-set (λ text. text.items) c.self.inside.texts c.args.place c.args.text)
-    ∙ get_or-set_other (map (λ text. text.items) c.self.inside.texts) c.args.place i c.args.text.items [] far ∙ ap (λ l. get_or l i []) c.self.view_is
+returns-clause-same c i far = grind (arith, map-set, get_or-set_other)

@@ -1,12 +1,11 @@
-use Rattle.std.proofs.Common.{ap, lit≤}
-use Rattle.obs_epoch.specs.Signals.{indices}
+use Rattle.std.proofs.Common.{refl, ap, lit≤}
 use Rattle.gnss_obs.specs.declared.system.System.TheVariants.{Gps, Galileo}
-use Rattle.rinex_file.proofs.HeaderEnd.{begins_header, none_read, zero_time, zero_values}
-use Rattle.rinex_file.proofs.HeaderOpen.{some_begins}
+use Rattle.obs_epoch.specs.Signals.{indices}
+use Rattle.rinex_file.proofs.HeaderEnd.{begins, none_read, zero_time, zero_values}
 use Rattle.rinex_file.proofs.read.head_so_far.HeadSoFar.new.Goals as goal
 
-pub returns-clause-starts : goal.returns-clause-starts
-returns-clause-starts c = begins_header _ (ap indices c.new-2.ensures.items) (ap indices c.new-3.ensures.items)
+pub returns : goal.returns
+returns c = begins _ c.are_valid.ensures refl refl refl refl (ap indices c.new-2.ensures.items) (ap indices c.new-3.ensures.items)
 
 pub invariant_of-head : goal.invariant_of-head
 invariant_of-head c = (
@@ -17,6 +16,3 @@ invariant_of-head c = (
   lit≤ tt,
   lit≤ tt,
 )
-
-pub returns-clause-left : goal.returns-clause-left
-returns-clause-left c = some_begins _ c.are_valid.ensures (returns-clause-starts c)

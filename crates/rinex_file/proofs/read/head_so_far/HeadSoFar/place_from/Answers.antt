@@ -1,19 +1,13 @@
-use Rattle.std.proofs.Common.{arith, ◌∙◌, ◌≡◌, ◌+◌, sym, ap, subst, suc, false}
+use Rattle.std.proofs.Common.{arith, ◌≡◌, ◌∙◌, sym, ap, subst, suc, ◌+◌, false}
 use Rattle.rinex_file.specs.Header.{row_at}
-use Rattle.rinex_file.specs.Read.HeaderSteps.{SameFrom, known_line}
-use Rattle.rinex_file.proofs.HeaderKnown.{skipped, same_on, nothing_left}
+use Rattle.rinex_file.specs.Read.HeaderSteps.{known_line, SameFrom}
+use Rattle.rinex_file.proofs.HeaderSteps.{skipped, same_on}
 use Rattle.rinex_file.proofs.read.head_so_far.HeadSoFar.place_from.Goals as goal
-
-pub loop-place-init : goal.loop-place-init
-loop-place-init c h left = (λ i. i, λ i. i)
 
 pub loop-place-preserved : goal.loop-place-preserved
 loop-place-preserved c =
     let k = c.args.self.now in
     let at = c.loop-place.place in
     let next : suc at ≡ at + 1 = omega arith in
-    let lacks : known_line k (row_at at) ≡ false = ap (known_line k) (sym c.row_at.ensures) ∙ sym c.has_line.ensures ∙ c.if-has_line.false in
-    same_on k c.args.from at (at + 1) c.loop-place.invariant (subst (λ n. SameFrom k at n) next (skipped at k c.loop-place-test.true lacks))
-
-pub returns-clause-none : goal.returns-clause-none
-returns-clause-none c = nothing_left c.args.self.now c.args.from c.loop-place.place c.loop-place.invariant c.loop-place-test.false
+    let lacks : known_line k (row_at at) ≡ false = ap (known_line k) (sym c.row_at.ensures) ∙ sym c.has_line.ensures ∙ c.loop-place-test.true in
+    same_on k c.args.from at (at + 1) c.loop-place.invariant (subst (λ n. SameFrom k at n) next (skipped at k c.loop-place.invariant.at lacks))

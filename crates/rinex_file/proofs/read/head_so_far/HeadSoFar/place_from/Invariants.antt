@@ -1,6 +1,11 @@
+use Rattle.std.proofs.Common.{◌-◌}
+use Rattle.rinex_file.specs.Header.{row_count}
 use Rattle.rinex_file.specs.Read.HeaderSteps.{SameFrom}
 use Rattle.rinex_file.proofs.read.head_so_far.HeadSoFar.place_from.Given as goal
 
--- the headers that continue from here are those that continue from the first row
+-- no row so far has a line
 abbrev pub invariant-loop-place : goal.invariant-loop-place
 invariant-loop-place l = SameFrom l.self l.fn.from l.place
+
+abbrev pub decreases-loop-place : goal.decreases-loop-place
+decreases-loop-place l = row_count - l.place

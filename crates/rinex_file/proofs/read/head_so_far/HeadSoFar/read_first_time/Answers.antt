@@ -6,4 +6,4 @@ pub returns-in-Some : goal.returns-in-Some
 returns-in-Some c = put First c.args.line.now c.args.self.now _ _ c.self.view_is (learn_first _ c.in-Some.time c.args.line.now c.in-Some.ensures)
 
 pub returns-in-None : goal.returns-in-None
-returns-in-None c = refuse_first c.args.self.now c.args.line.now c.in-None.ensures
+returns-in-None c = refuse_first c.args.line.now c.in-None.ensures

@@ -8,4 +8,4 @@ returns-in-Some c =
     (learn_version _ c.in-Some.gps c.in-Some.galileo c.args.line.now c.in-Some.ensures)
 
 pub returns-in-None : goal.returns-in-None
-returns-in-None c = refuse_version c.args.self.now c.args.line.now c.in-None.ensures
+returns-in-None c = refuse_version c.args.line.now c.in-None.ensures

@@ -1,16 +1,16 @@
 use Rattle.std.proofs.Common.{◌≡◌, subst, ℕ, List, Bool, true, false}
 use Rattle.std.specs.Prelude.{MatchBool}
-use Rattle.rinex_file.specs.declared.header.rows.TextRow.{TextRow}
+use Rattle.rinex_file.specs.declared.header.fields.TextRow.{TextRow}
 use Rattle.rinex_file.specs.declared.header.rows.HeaderRow.TheVariants.{Texts}
 use Rattle.rinex_file.specs.Texts.{HeaderLists}
 use Rattle.rinex_file.specs.Read.Progress.{Known}
-use Rattle.rinex_file.specs.Read.HeaderSteps.{ReadsTexts, RefusesTexts, LearnsOrRefuses, with_texts}
+use Rattle.rinex_file.specs.Read.HeaderSteps.{LearnsOrRefuses, ReadsTexts, RefusesTexts, with_texts}
 use Rattle.rinex_file.proofs.HeaderLearned.{learn_texts, refuse_texts}
 use Rattle.rinex_file.proofs.read.head_so_far.HeadSoFar.read_text_row.Goals as goal
 
 learned : (r : TextRow) (line : List ℕ) (k : Known) (x : HeaderLists) (b : Bool) → MatchBool b (ReadsTexts r line k.shown.texts x) (RefusesTexts r line) → LearnsOrRefuses (Texts r) line k (with_texts k x) b
 learned r line k x true read = learn_texts r line k x read
-learned r line k x false refuses = refuse_texts r line k refuses
+learned r line k x false refuses = refuse_texts r line refuses
 
 moved : (r : TextRow) (line : List ℕ) (old k : Known) (x : HeaderLists) (b : Bool) → k ≡ old → LearnsOrRefuses (Texts r) line k (with_texts k x) b → LearnsOrRefuses (Texts r) line old (with_texts k x) b
 moved r line old k x b e l = subst (λ o. LearnsOrRefuses (Texts r) line o (with_texts k x) b) e l

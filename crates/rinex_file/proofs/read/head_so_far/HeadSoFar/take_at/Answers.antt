@@ -1,16 +1,27 @@
-use Rattle.std.proofs.Common.{◌≡◌, ◌∙◌, sym, ap, subst, refl, true, false, ℕ, Bool, Some, None}
+use Rattle.std.proofs.Common.{◌≡◌, ◌∙◌, sym, ap, subst, refl, true, false, ℕ, List, Bool}
 use Rattle.std.specs.Prelude.{MatchBool, Err}
 use Rattle.std.proofs.lemmas.Result.{err_from_is_err_and}
 use Rattle.gnss_obs.specs.declared.system.System.{System}
-use Rattle.rinex_file.specs.declared.header.rows.HeaderRow.TheVariants.{Types, End}
-use Rattle.rinex_file.specs.Read.HeaderSteps.{StepsTo, NoneGoesOn}
-use Rattle.rinex_file.proofs.HeaderEnd.{ok_bad}
+use Rattle.rinex_file.specs.declared.header.rows.HeaderRow.{HeaderRow}
+use Rattle.rinex_file.specs.declared.header.rows.HeaderRow.TheVariants.{Version, Texts, Position, Delta, Types, StrengthUnit, First, Shift, End}
+use Rattle.rinex_file.specs.Header.{end_line}
+use Rattle.rinex_file.specs.Read.Progress.{Known, IsHeadAt}
+use Rattle.rinex_file.specs.Read.HeaderSteps.{IsSole, known_line, EndsHeader, NoneGoesOn}
+use Rattle.rinex_file.proofs.HeaderEnd.{ends, no_end_line, ok_bad}
 use Rattle.rinex_file.proofs.HeaderTypes.{same_refusal}
-use Rattle.rinex_file.proofs.HeaderKnown.{step_at, none_at, last_at, types_at}
+use Rattle.rinex_file.proofs.HeaderSteps.{step_at, none_at, last_at, types_few, types_place}
+use Rattle.rinex_file.proofs.Judged.{refused}
 use Rattle.rinex_file.proofs.read.head_so_far.HeadSoFar.take_at.Goals as goal
 
 pub take_types-requires-clause-row : goal.take_types-requires-clause-row
-take_types-requires-clause-row c = types_at c.args.place c.in-Types.system c.in-Types.row c.requires.place (sym c.row_at.ensures ∙ c.in-Types.is)
+take_types-requires-clause-row c = types_few c.args.place c.in-Types.system c.in-Types.row c.requires.at.expected (sym c.row_at.ensures ∙ c.in-Types.is)
+
+pub take_types-requires-clause-at : goal.take_types-requires-clause-at
+take_types-requires-clause-at c =
+    subst (IsHeadAt c.args.self.now) (types_place c.args.place c.in-Types.system c.in-Types.row c.requires.at.expected (sym c.row_at.ensures ∙ c.in-Types.is)) c.requires.at
+
+pub take_types-requires-clause-here : goal.take_types-requires-clause-here
+take_types-requires-clause-here c = sym (ap (known_line c.args.self.now) (sym c.row_at.ensures ∙ c.in-Types.is)) ∙ c.requires.here
 
 not_end : (s : System) (row : ℕ) → Types s row ≡ End → ⊥
 not_end s row e = cc
@@ -23,46 +34,60 @@ when_false : (P Q : Type 0) (b : Bool) → MatchBool b P Q → b ≡ false → Q
 when_false P Q true m e = cc
 when_false P Q false m e = m
 
-no_end : (P : Type 0) (n : ℕ) → Some n ≡ None → P
-no_end P n e = cc
-
 pub returns-in_ok-take_types-in-Types-clause-taken : goal.returns-in_ok-take_types-in-Types-clause-taken
 returns-in_ok-take_types-in-Types-clause-taken c =
-    (step_at c.args.place c.args.line.now c.args.self.now c.take_types.new.self c.requires.place c.requires.here (Types c.in-Types.system c.in-Types.row) (sym c.row_at.ensures ∙ c.in-Types.is)
-    (not_end c.in-Types.system c.in-Types.row) c.in_ok-take_types-in-Types.ensures.taken c.are_valid.ensures).0
-
-pub returns-in_ok-take_types-in-Types-clause-stays : goal.returns-in_ok-take_types-in-Types-clause-stays
-returns-in_ok-take_types-in-Types-clause-stays c =
-    (step_at c.args.place c.args.line.now c.args.self.now c.take_types.new.self c.requires.place c.requires.here (Types c.in-Types.system c.in-Types.row) (sym c.row_at.ensures ∙ c.in-Types.is)
-    (not_end c.in-Types.system c.in-Types.row) c.in_ok-take_types-in-Types.ensures.taken c.are_valid.ensures).1
+    step_at c.args.place c.args.line.now c.args.self.now c.take_types.new.self (Types c.in-Types.system c.in-Types.row) c.requires.at c.requires.here (sym c.row_at.ensures ∙ c.in-Types.is)
+    (not_end c.in-Types.system c.in-Types.row) c.in_ok-take_types-in-Types.ensures.taken c.are_valid.ensures
 
 pub returns-in_err-take_types-in-Types-clause-bad : goal.returns-in_err-take_types-in-Types-clause-bad
-returns-in_err-take_types-in-Types-clause-bad c refused =
+returns-in_err-take_types-in-Types-clause-bad c bad =
     let p = err_from_is_err_and c.from_residual.result c.from_residual.ensures.1 in
-    none_at c.args.place c.args.line.now c.args.self.now c.requires.place c.requires.here (Types c.in-Types.system c.in-Types.row) (sym c.row_at.ensures ∙ c.in-Types.is)
-    (c.in_err-take_types-in-Types.ensures.bad (ap Err (same_refusal _ _ _ (p.1 ∙ ap Err p.2) refused)))
+    subst (λ n. NoneGoesOn c.args.self.now n c.args.line.now) (sym (types_place c.args.place c.in-Types.system c.in-Types.row c.requires.at.expected (sym c.row_at.ensures ∙ c.in-Types.is)))
+    (c.in_err-take_types-in-Types.ensures.bad (ap Err (same_refusal _ _ _ (p.1 ∙ ap Err p.2) bad)))
 
-pub returns-then-not-is_end-clause-bad : goal.returns-then-not-is_end-clause-bad
-returns-then-not-is_end-clause-bad c e =
-    subst (λ n. NoneGoesOn c.args.self.now n c.args.line.now) (sym (last_at c.args.place c.requires.place (sym c.row_at.ensures ∙ c.in-End.is)))
-    (when_false _ _ c.is_end.result c.is_end.ensures.taken c.if-not-is_end.true)
+pub returns-then-not-is_header_line-clause-bad : goal.returns-then-not-is_header_line-clause-bad
+returns-then-not-is_header_line-clause-bad c e =
+    none_at c.args.place c.args.line.now c.args.self.now End c.requires.at c.requires.here (sym c.row_at.ensures ∙ c.in-End.is)
+    (no_end_line c.args.line.now (refused c.is_header_line.result (c.args.line.now ≡ end_line) c.is_header_line.ensures c.if-not-is_header_line.true))
 
-pub returns-else-not-is_end-clause-taken : goal.returns-else-not-is_end-clause-taken
-returns-else-not-is_end-clause-taken c =
-    subst (λ n. StepsTo c.args.self.now n c.args.line.now c.args.self.now None) (sym (last_at c.args.place c.requires.place (sym c.row_at.ensures ∙ c.in-End.is)))
-    (when_true _ _ c.is_end.result c.is_end.ensures.taken c.if-not-is_end.false)
+at_end : (k : Known) (n : ℕ) (line : List ℕ) → n ≡ 25 → IsHeadAt k n → line ≡ end_line → EndsHeader k n line k
+at_end k n line e at same = subst (λ m. EndsHeader k m line k) (sym e) (ends k (subst (IsHeadAt k) e at) line same)
+
+pub returns-else-not-is_header_line-clause-taken : goal.returns-else-not-is_header_line-clause-taken
+returns-else-not-is_header_line-clause-taken c =
+    at_end c.args.self.now c.args.place c.args.line.now (last_at c.args.place c.requires.at.expected (sym c.row_at.ensures ∙ c.in-End.is)) c.requires.at
+    (c.is_header_line.ensures.0 c.if-not-is_header_line.false)
 
 pub returns-then-not-read_header_line : goal.returns-then-not-read_header_line
 returns-then-not-read_header_line c = record {
   taken = tt;
-  shown = tt;
-  stays = tt;
-  bad = λ e. none_at c.args.place c.args.line.now c.args.self.now c.requires.place c.requires.here c.row_at.result (sym c.row_at.ensures)
+  bad = λ e. none_at c.args.place c.args.line.now c.args.self.now c.row_at.result c.requires.at c.requires.here (sym c.row_at.ensures)
       (when_false _ _ c.read_header_line.result c.read_header_line.ensures c.if-not-read_header_line.true);
 }
 
 pub returns-else-not-read_header_line : goal.returns-else-not-read_header_line
-returns-else-not-read_header_line c =
-    let step = step_at c.args.place c.args.line.now c.args.self.now c.read_header_line.new.self c.requires.place c.requires.here c.row_at.result (sym c.row_at.ensures)
-    c.in_default.not-End (when_true _ _ c.read_header_line.result c.read_header_line.ensures c.if-not-read_header_line.false) c.are_valid-in_default.ensures in
-    record { taken = step.0; shown = λ e. no_end _ _ e; stays = step.1; bad = λ e. absurd (ok_bad _ _ _ refl e) }
+returns-else-not-read_header_line c = record {
+  taken = step_at c.args.place c.args.line.now c.args.self.now c.read_header_line.new.self c.row_at.result c.requires.at c.requires.here (sym c.row_at.ensures)
+      c.in_default.not-End (when_true _ _ c.read_header_line.result c.read_header_line.ensures c.if-not-read_header_line.false) c.are_valid-in_default.ensures;
+  bad = λ e. absurd (ok_bad _ _ _ refl e);
+}
+
+pub returns-in_ok-take_types-in-Types-clause-bad : goal.returns-in_ok-take_types-in-Types-clause-bad
+returns-in_ok-take_types-in-Types-clause-bad c e = absurd (ok_bad _ _ _ refl e)
+
+pub returns-else-not-is_header_line-clause-bad : goal.returns-else-not-is_header_line-clause-bad
+returns-else-not-is_header_line-clause-bad c e = absurd (ok_bad _ _ _ refl e)
+
+sole : (r : HeaderRow) → ((s : System) (i : ℕ) → r ≡ Types s i → ⊥) → (r ≡ End → ⊥) → IsSole r
+sole Version other far = tt
+sole (Texts r) other far = tt
+sole Position other far = tt
+sole Delta other far = tt
+sole (Types s i) other far = other s i refl
+sole StrengthUnit other far = tt
+sole First other far = tt
+sole (Shift s) other far = tt
+sole End other far = far refl
+
+pub read_header_line-requires : goal.read_header_line-requires
+read_header_line-requires c = sole c.row_at.result c.in_default.not-Types c.in_default.not-End

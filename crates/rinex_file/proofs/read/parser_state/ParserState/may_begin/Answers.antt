@@ -1,10 +1,9 @@
-use Rattle.std.proofs.Common.{arith, ◌≡◌, ◌∙◌, sym, subst, ℕ, ◌<◌, ◌≤◌}
+use Rattle.std.proofs.Common.{arith, ◌≡◌, ◌∙◌, sym, ℕ, ◌<◌, ◌≤◌}
 use Rattle.rinex_file.specs.FileValues.{most_rows}
 use Rattle.rinex_file.proofs.read.parser_state.ParserState.may_begin.Goals as goal
 
 within : (g e gps galileo n most : ℕ) → g ≡ gps → e ≡ galileo → most ≡ most_rows g e → n ≤ most → n ≤ most_rows gps galileo
-within g e gps galileo n most a b all few =
-    subst (λ (m : ℕ). n ≤ most_rows gps m) b (subst (λ (m : ℕ). n ≤ most_rows m e) a (subst (λ (m : ℕ). n ≤ m) all few))
+within g e gps galileo n most a b all few = grind arith
 
 not_none : (n : ℕ) → (n ≡ 0 → ⊥) → 0 < n
 not_none n some = omega (arith, some)

@@ -1,4 +1,4 @@
-use Rattle.std.proofs.Common.{◌≡◌, ◌∙◌, sym, ap, subst, w64, FitsSigned, ℕ, ℤ}
+use Rattle.std.proofs.Common.{arith, ◌≡◌, ◌∙◌, sym, subst, w64, FitsSigned, ℕ, ℤ}
 use Rattle.std.proofs.lemmas.Int.{to_z-of_z}
 use Rattle.obs_epoch.specs.declared.cell.StationValues.{StationValues}
 use Rattle.rinex_file.specs.declared.read.expected.Expected.TheVariants.{EventEpoch}
@@ -14,8 +14,7 @@ SameValues v w = v ≡ w
 
 -- coordinates are the same after the conversion to bits and back
 same_back : (x y z : ℤ) (h : ℕ) → FitsSigned w64 x → FitsSigned w64 y → FitsSigned w64 z → SameValues (values_with (back x) (back y) (back z) h) (values_with x y z h)
-same_back x y z h a b c =
-    ap (λ t. values_with t (back y) (back z) h) (to_z-of_z w64 x a) ∙ ap (λ t. values_with x t (back z) h) (to_z-of_z w64 y b) ∙ ap (λ t. values_with x y t h) (to_z-of_z w64 z c)
+same_back x y z h a b c = grind (arith, to_z-of_z)
 
 pub returns-in_default-clause-takes : goal.returns-in_default-clause-takes
 returns-in_default-clause-takes c = λ h stands. no_height (progress_at c.args.self.now h) c.args.x c.args.y c.args.z c.args.line.now c.requires.expected c.in_default.ensures

@@ -35,8 +35,7 @@ abbrev Shows : ℕ → ℕ → List ℕ → Bool → SatelliteRow → Type 0
 Shows gps galileo line b seen = ReadsExactly (IsSatelliteRow gps galileo) satellite_line line (some_if b seen)
 
 shows : (g e gps galileo : ℕ) (line : List ℕ) (r b : Bool) (seen : SatelliteRow) → g ≡ gps → e ≡ galileo → r ≡ b → Shows g e line r seen → Shows gps galileo line b seen
-shows g e gps galileo line r b seen x y z h =
-    subst (λ (t : Bool). Shows gps galileo line t seen) z (subst (λ (n : ℕ). Shows gps n line r seen) y (subst (λ (n : ℕ). Shows n e line r seen) x h))
+shows g e gps galileo line r b seen x y z h = grind arith
 
 pub returns-then-not-read_seen-clause-takes : goal.returns-then-not-read_seen-clause-takes
 returns-then-not-read_seen-clause-takes c = λ h stands.
@@ -66,18 +65,13 @@ row_counted : (es : List Stamped) (rows : List SatelliteRow) (seen : SatelliteRo
 row_counted es rows seen n e = let size : length (rows ++ seen ∷ []) ≡ length rows + 1 = length-append rows (seen ∷ []) in omega (arith, e, size)
 
 epoch_counted : (es : List Stamped) (e : Stamped) (rows : List SatelliteRow) (seen : SatelliteRow) (n : ℕ) → e.rows ≡ rows ++ seen ∷ [] → n ≡ rows_in es + length rows → n + 1 ≡ rows_in (es ++ e ∷ []) + 0
-epoch_counted es e rows seen n same all =
-    let size : length e.rows ≡ length rows + 1 = ap length same ∙ length-append rows (seen ∷ []) in
-    let both : rows_in (es ++ e ∷ []) ≡ rows_in es + (0 + length e.rows) = sum_by-append _ es (e ∷ []) in
-    omega (arith, all, size, both)
+epoch_counted es e rows seen n same all = grind (arith, length-append, sum_by-append)
 
 one_longer : (es : List Stamped) (e : Stamped) (n : ℕ) → n ≡ length es → n + 1 ≡ length (es ++ e ∷ [])
 one_longer es e n all = let size : length (es ++ e ∷ []) ≡ length es + 1 = length-append es (e ∷ []) in omega (arith, all, size)
 
 event_counted : (es : List Stamped) (e : Stamped) (n k : ℕ) → k ≡ changes_of e.change → n ≡ events_in es → n + k ≡ events_in (es ++ e ∷ [])
-event_counted es e n k one all =
-    let both : events_in (es ++ e ∷ []) ≡ events_in es + (0 + changes_of e.change) = sum_by-append _ es (e ∷ []) in
-    omega (arith, all, one, both)
+event_counted es e n k one all = grind (arith, sum_by-append)
 
 pub returns-then-left-gt1-clause-takes : goal.returns-then-left-gt1-clause-takes
 returns-then-left-gt1-clause-takes c = λ h stands.

@@ -1,4 +1,4 @@
-use Rattle.std.proofs.Common.{arith, ◌≡◌, ◌∙◌, refl, sym, ap, subst, ℕ, List, ◌+◌, ◌^◌, ◌<◌, ◌≤◌, length, Err}
+use Rattle.std.proofs.Common.{arith, ◌≡◌, ◌∙◌, sym, ap, subst, ℕ, List, ◌+◌, ◌^◌, ◌<◌, ◌≤◌, length, Err}
 use Rattle.std.proofs.Math.Nat.{le_trans}
 use Rattle.rinex_file.specs.declared.read.parser_state.ParserState.{ParserState}
 use Rattle.rinex_file.specs.declared.read.expected.Refusal.{Refusal}
@@ -9,7 +9,7 @@ use Rattle.rinex_file.specs.ParserState.{HasRoom, GoesOnWithLine, ShowsLine, Ref
 use Rattle.rinex_file.proofs.FileLines.{lines_are_lines}
 use Rattle.rinex_file.proofs.Judged.{refused as judged}
 use Rattle.rinex_file.proofs.HeaderBody.{unfinished, file_shown, only_file, file_read, sound_rows}
-use Rattle.rinex_file.proofs.LineByLine.{one_more, refused, over_long, cut_within, cut_after, whole, after_fault, both_said, said_of, long_some, too_long, line_some, said_nothing, not_read, other_fault, other_after, not_cut}
+use Rattle.rinex_file.proofs.LineByLine.{one_more, refused, over_long, cut_within, cut_after, whole, after_fault, both_said, said_of, long_some, too_long, line_some}
 use Rattle.rinex_file.proofs.read.reading.Reading.next.Goals as goal
 
 few_lines : (lines taken : List (List ℕ)) (n : ℕ) → lines ≡ taken → length taken ≡ n → n ≤ 2 ^ 32 → length lines ≤ 2 ^ 32
@@ -90,154 +90,7 @@ wide n few = omega (arith, few)
 one_below : (n : ℕ) → n ≤ 2 ^ 32 → (n ≡ 2 ^ 32 → ⊥) → n + 1 ≤ 2 ^ 32
 one_below n few other = omega (arith, few, other)
 
-pub take-requires-clause-stands : goal.take-requires-clause-stands
-take-requires-clause-stands g c = c.requires.stands
-
-pub take-requires-clause-room : goal.take-requires-clause-room
-take-requires-clause-room g c = room_more c.args.self.now.parser_state _ _ c.requires.within.0 (wide _ c.requires.within.1)
-
-pub returns-in-Ok-clause-within : goal.returns-in-Ok-clause-within
-returns-in-Ok-clause-within g c = (c.in-Ok.ensures.room _ c.requires.within.0, one_below _ c.requires.within.1 c.if-self-eq-MOST_LINES.false)
-
-pub returns-then-may_end-clause-within : goal.returns-then-may_end-clause-within
-returns-then-may_end-clause-within g c = c.requires.within
-
-pub returns-then-may_end-clause-left : goal.returns-then-may_end-clause-left
-returns-then-may_end-clause-left g c = c.next_line.ensures.left
-
-pub returns-else-may_end-clause-left : goal.returns-else-may_end-clause-left
-returns-else-may_end-clause-left g c = c.next_line.ensures.left
-
-pub returns-in-Cut-clause-left : goal.returns-in-Cut-clause-left
-returns-in-Cut-clause-left g c = c.next_line.ensures.left
-
-pub returns-in-Long-clause-left : goal.returns-in-Long-clause-left
-returns-in-Long-clause-left g c = c.next_line.ensures.left
-
-pub returns-in-Failed-clause-left : goal.returns-in-Failed-clause-left
-returns-in-Failed-clause-left g c = c.next_line.ensures.left
-
-pub returns-then-self-eq-MOST_LINES-clause-left : goal.returns-then-self-eq-MOST_LINES-clause-left
-returns-then-self-eq-MOST_LINES-clause-left g c = c.next_line.ensures.left
-
-pub returns-in-Ok-clause-left : goal.returns-in-Ok-clause-left
-returns-in-Ok-clause-left g c = c.next_line.ensures.left
-
-pub returns-in-Err-Memory-clause-left : goal.returns-in-Err-Memory-clause-left
-returns-in-Err-Memory-clause-left g c = c.next_line.ensures.left
-
-pub returns-in-Err-Bad-clause-left : goal.returns-in-Err-Bad-clause-left
-returns-in-Err-Bad-clause-left g c = c.next_line.ensures.left
-
-pub returns-in-Failed-clause-goes : goal.returns-in-Failed-clause-goes
-returns-in-Failed-clause-goes g c = λ h input read. said_nothing input
-
-pub returns-in-Err-Memory-clause-goes : goal.returns-in-Err-Memory-clause-goes
-returns-in-Err-Memory-clause-goes g c = λ h input read. said_nothing input
-
 pub returns-then-self-eq-MOST_LINES-clause-goes : goal.returns-then-self-eq-MOST_LINES-clause-goes
 returns-then-self-eq-MOST_LINES-clause-goes g c = λ h input read.
     too_long (progress_at c.args.self.now.parser_state h) c.args.self.now.count input _ _ c.next_line.new.line.items read.taken c.if-self-eq-MOST_LINES.true
     (line_some c.next_line.new.line.items c.in-Line.ensures.found) c.in-Line.ensures.taken
-
-pub returns-then-may_end-clause-counted : goal.returns-then-may_end-clause-counted
-returns-then-may_end-clause-counted g c = refl
-
-pub returns-else-may_end-clause-counted : goal.returns-else-may_end-clause-counted
-returns-else-may_end-clause-counted g c = refl
-
-pub returns-in-Cut-clause-counted : goal.returns-in-Cut-clause-counted
-returns-in-Cut-clause-counted g c = refl
-
-pub returns-in-Long-clause-counted : goal.returns-in-Long-clause-counted
-returns-in-Long-clause-counted g c = refl
-
-pub returns-in-Failed-clause-counted : goal.returns-in-Failed-clause-counted
-returns-in-Failed-clause-counted g c = refl
-
-pub returns-then-self-eq-MOST_LINES-clause-counted : goal.returns-then-self-eq-MOST_LINES-clause-counted
-returns-then-self-eq-MOST_LINES-clause-counted g c = refl
-
-pub returns-in-Ok-clause-counted : goal.returns-in-Ok-clause-counted
-returns-in-Ok-clause-counted g c = refl
-
-pub returns-in-Err-Memory-clause-counted : goal.returns-in-Err-Memory-clause-counted
-returns-in-Err-Memory-clause-counted g c = refl
-
-pub returns-in-Err-Bad-clause-counted : goal.returns-in-Err-Bad-clause-counted
-returns-in-Err-Bad-clause-counted g c = refl
-
-pub returns-then-may_end-clause-failed : goal.returns-then-may_end-clause-failed
-returns-then-may_end-clause-failed g c = not_read _ _ refl
-
-pub returns-else-may_end-clause-failed : goal.returns-else-may_end-clause-failed
-returns-else-may_end-clause-failed g c = not_read _ _ refl
-
-pub returns-then-self-eq-MOST_LINES-clause-failed : goal.returns-then-self-eq-MOST_LINES-clause-failed
-returns-then-self-eq-MOST_LINES-clause-failed g c = not_read _ _ refl
-
-pub returns-in-Ok-clause-failed : goal.returns-in-Ok-clause-failed
-returns-in-Ok-clause-failed g c = not_read _ _ refl
-
-pub returns-in-Err-Memory-clause-failed : goal.returns-in-Err-Memory-clause-failed
-returns-in-Err-Memory-clause-failed g c = not_read _ _ refl
-
-pub returns-in-Failed-clause-failed : goal.returns-in-Failed-clause-failed
-returns-in-Failed-clause-failed g c = λ e. c.in-Failed.ensures.failed refl
-
-pub returns-then-may_end-clause-same : goal.returns-then-may_end-clause-same
-returns-then-may_end-clause-same g c = λ o. c.in-End.ensures.same (λ e. cc)
-
-pub returns-in-Ok-clause-same : goal.returns-in-Ok-clause-same
-returns-in-Ok-clause-same g c = λ o. c.in-Line.ensures.same (λ e. cc)
-
-pub returns-else-may_end-clause-same : goal.returns-else-may_end-clause-same
-returns-else-may_end-clause-same g c = λ o. c.in-End.ensures.same (λ e. cc)
-
-pub returns-else-may_end-clause-within : goal.returns-else-may_end-clause-within
-returns-else-may_end-clause-within g c = tt
-
-pub returns-in-Cut-clause-same : goal.returns-in-Cut-clause-same
-returns-in-Cut-clause-same g c = λ o. c.in-Cut.ensures.same (λ e. cc)
-
-pub returns-in-Cut-clause-within : goal.returns-in-Cut-clause-within
-returns-in-Cut-clause-within g c = tt
-
-pub returns-in-Long-clause-same : goal.returns-in-Long-clause-same
-returns-in-Long-clause-same g c = λ o. c.in-Long.ensures.same (λ e. cc)
-
-pub returns-in-Long-clause-within : goal.returns-in-Long-clause-within
-returns-in-Long-clause-within g c = tt
-
-pub returns-in-Failed-clause-same : goal.returns-in-Failed-clause-same
-returns-in-Failed-clause-same g c = λ o. absurd (o refl)
-
-pub returns-in-Failed-clause-within : goal.returns-in-Failed-clause-within
-returns-in-Failed-clause-within g c = tt
-
-pub returns-then-self-eq-MOST_LINES-clause-same : goal.returns-then-self-eq-MOST_LINES-clause-same
-returns-then-self-eq-MOST_LINES-clause-same g c = λ o. c.in-Line.ensures.same (λ e. cc)
-
-pub returns-then-self-eq-MOST_LINES-clause-within : goal.returns-then-self-eq-MOST_LINES-clause-within
-returns-then-self-eq-MOST_LINES-clause-within g c = tt
-
-pub returns-in-Err-Memory-clause-same : goal.returns-in-Err-Memory-clause-same
-returns-in-Err-Memory-clause-same g c = λ o. c.in-Line.ensures.same (λ e. cc)
-
-pub returns-in-Err-Memory-clause-within : goal.returns-in-Err-Memory-clause-within
-returns-in-Err-Memory-clause-within g c = tt
-
-pub returns-in-Err-Bad-clause-same : goal.returns-in-Err-Bad-clause-same
-returns-in-Err-Bad-clause-same g c = λ o. c.in-Line.ensures.same (λ e. cc)
-
-pub returns-in-Err-Bad-clause-within : goal.returns-in-Err-Bad-clause-within
-returns-in-Err-Bad-clause-within g c = tt
-
-pub returns-in-Cut-clause-failed : goal.returns-in-Cut-clause-failed
-returns-in-Cut-clause-failed g c = other_after _ _ c.fault_after.result _ c.fault_after.ensures (not_cut _)
-
-pub returns-in-Long-clause-failed : goal.returns-in-Long-clause-failed
-returns-in-Long-clause-failed g c = other_after _ c.fault_at.result c.fault_after-in-Long.result _ c.fault_after-in-Long.ensures c.fault_at.ensures.other
-
-pub returns-in-Err-Bad-clause-failed : goal.returns-in-Err-Bad-clause-failed
-returns-in-Err-Bad-clause-failed g c = other_fault c.fault_at-in-Err-Bad.result _ c.fault_at-in-Err-Bad.ensures.other

@@ -1,0 +1,265 @@
+-- Headers with the same lines before a row have the same contents in these rows.
+use Rattle.std.proofs.Common.{arith, ◌≡◌, ◌∙◌, sym, ap, refl, subst, ℕ, zero, suc, lit<, lit≤, ◌+◌, ◌*◌, ◌/◌, ◌<◌, ◌≤◌, ◌==◌, ◌||◌, Bool, true, false, min, List, [], ◌∷◌, ◌++◌, length, take, drop, append_assoc, Some}
+use Rattle.std.specs.Prelude.{not, if◌then◌else◌, nat_lt, slice_index}
+use Rattle.std.proofs.lemmas.Bool.Decides.{nat_tests}
+use Rattle.std.proofs.lemmas.List.{take_min, take_more_same}
+use Rattle.gnss_obs.specs.Signals.{SignalAt, code_of, signal_of_code}
+use Rattle.gnss_obs.specs.declared.system.System.{System}
+use Rattle.gnss_obs.specs.declared.system.System.TheVariants.{Gps, Galileo}
+use Rattle.obs_epoch.specs.Values.{PlanValue, planned_of}
+use Rattle.rinex_file.specs.declared.header.rows.HeaderRow.{HeaderRow}
+use Rattle.rinex_file.specs.declared.header.rows.HeaderRow.TheVariants.{Version, Texts, Position, Delta, Types, StrengthUnit, First, Shift, End}
+use Rattle.rinex_file.specs.Begun.{lines_of_header}
+use Rattle.rinex_file.specs.Numbers.{left}
+use Rattle.rinex_file.specs.Header.{header_lines, row_line, has_line, row_at, row_count, row_place, first_types, type_rows, version_line}
+use Rattle.rinex_file.specs.Read.Progress.{Shown, IsShown, shown_rows, shown_line, lines_before, lines_after, AreTypes, types_line, is_some_planned, signals_begun, version_with}
+use Rattle.rinex_file.proofs.Entries.{few_signals}
+use Rattle.rinex_file.proofs.FewRows.{few_planned}
+use Rattle.rinex_file.proofs.HeaderRows.{placed, before_next, after_next}
+use Rattle.rinex_file.proofs.HeaderText.{equal_or}
+use Rattle.rinex_file.proofs.StationLines.{version_determines}
+use Rattle.rinex_file.proofs.TypeCodes.{code_reads_back}
+use Rattle.rinex_file.proofs.TypeRows.{code_here, count_read, few_types, listed_at, signal_at, column_of}
+
+pub less_or : (P : Type 0) (i j : ℕ) → (i < j → P) → (j ≤ i → P) → P
+less_or P i j less more = grind arith
+
+pub single : (x y : List ℕ) → ◌≡◌ {A = List (List ℕ)} (x ∷ []) (y ∷ []) → x ≡ y
+single x y e = cc
+
+-- the headers have the same lines in the rows before an index
+abbrev pub Agree : Shown → Shown → ℕ → Type 0
+Agree h g n = (i : ℕ) → i < n → shown_rows h (row_at i) ≡ shown_rows g (row_at i)
+
+-- ---- rows of types
+
+pub types_low : (s : System) → 9 ≤ first_types s
+types_low Gps = lit≤ tt
+types_low Galileo = lit≤ tt
+
+pub types_high : (s : System) → first_types s ≤ 15
+types_high Gps = lit≤ tt
+types_high Galileo = lit≤ tt
+
+pub types_row : (s : System) (r : ℕ) → r < 6 → row_at (first_types s + r) ≡ Types s r
+types_row Gps zero less = refl
+types_row Gps (suc zero) less = refl
+types_row Gps (suc (suc zero)) less = refl
+types_row Gps (suc (suc (suc zero))) less = refl
+types_row Gps (suc (suc (suc (suc zero)))) less = refl
+types_row Gps (suc (suc (suc (suc (suc zero))))) less = refl
+types_row Gps (suc (suc (suc (suc (suc (suc r)))))) less = absurd (omega (arith, less))
+types_row Galileo zero less = refl
+types_row Galileo (suc zero) less = refl
+types_row Galileo (suc (suc zero)) less = refl
+types_row Galileo (suc (suc (suc zero))) less = refl
+types_row Galileo (suc (suc (suc (suc zero)))) less = refl
+types_row Galileo (suc (suc (suc (suc (suc zero))))) less = refl
+types_row Galileo (suc (suc (suc (suc (suc (suc r)))))) less = absurd (omega (arith, less))
+
+pub few_shown : (h : Shown) → IsShown h → (s : System) → length (planned_of s h.plan) ≤ 19
+few_shown h is s = let few = few_planned h.plan is.plan s in let most = few_signals s in omega (arith, few, most)
+
+pub types_shown : (s : System) (h : Shown) → IsShown h → 0 < length (planned_of s h.plan) → AreTypes s (planned_of s h.plan)
+types_shown s h is some = record { listed = is.plan.listed s; apart = is.plan.apart s; some = some }
+
+pub is_lt : (a b : ℕ) → a < b → nat_lt a b ≡ true
+is_lt a b h = grind (arith, h)
+
+pub rows_when : (h : Shown) (r : HeaderRow) (b : Bool) → has_line h.plan r ≡ b → shown_rows h r ≡ (if b then shown_line h r ∷ [] else [])
+rows_when h r b e = ap (λ c. if c then shown_line h r ∷ [] else []) e
+
+pub types_in : (h : Shown) (s : System) (r : ℕ) → r < type_rows (length (planned_of s h.plan)) → shown_rows h (Types s r) ≡ types_line s (planned_of s h.plan) r ∷ []
+unfolding row_line
+types_in h s r less = rows_when h (Types s r) true (is_lt r (type_rows (length (planned_of s h.plan))) less)
+
+-- ---- the systems
+
+abbrev byte_with : Bool → Bool → ℕ
+byte_with gps galileo = if gps then (if galileo then 77 else 71) else 69
+
+same_byte : (a b : Bool) → (if a then 69 else (if b then 71 else 77)) ≡ byte_with (not a) (not b)
+same_byte true true = refl
+same_byte true false = refl
+same_byte false true = refl
+same_byte false false = refl
+
+pub version_same : (p : PlanValue) → version_line p ≡ version_with (is_some_planned p.gps) (is_some_planned p.galileo)
+version_same p = grind (arith, same_byte)
+
+either_planned : (a b : ℕ) → 0 < a + b → (not (a == 0) || not (b == 0)) ≡ true
+either_planned zero zero some = absurd (omega (arith, some))
+either_planned zero (suc b) some = grind (arith, nat_tests)
+either_planned (suc a) b some = grind (arith, nat_tests)
+
+pub some_in : (h : Shown) → IsShown h → (is_some_planned h.plan.gps || is_some_planned h.plan.galileo) ≡ true
+some_in h is = either_planned (length h.plan.gps) (length h.plan.galileo) is.plan.some
+
+pub some_planned : (xs : List ℕ) → is_some_planned xs ≡ true → 0 < length xs
+some_planned [] e = cc
+some_planned (x ∷ xs) e = omega arith
+
+pub none_planned : (xs : List ℕ) → is_some_planned xs ≡ false → xs ≡ []
+none_planned [] e = refl
+none_planned (x ∷ xs) e = absurd (grind (arith, nat_tests, e))
+
+abbrev systems_of : Shown → Bool × Bool
+systems_of h = (is_some_planned h.plan.gps, is_some_planned h.plan.galileo)
+
+module _ (h g : Shown) (a : IsShown h) (b : IsShown g) where
+  systems_same : shown_rows h Version ≡ shown_rows g Version → (s : System) → is_some_planned (planned_of s h.plan) ≡ is_some_planned (planned_of s g.plan)
+  unfolding row_line
+  systems_same e = by where
+    same : systems_of h ≡ systems_of g
+    same = version_determines (version_line g.plan) (systems_of g) (systems_of h)
+        (some_in g b) (some_in h a) (version_same g.plan) (sym (single (version_line h.plan) (version_line g.plan) e) ∙ version_same h.plan)
+
+    by : (s : System) → is_some_planned (planned_of s h.plan) ≡ is_some_planned (planned_of s g.plan)
+    by Gps = ap (λ (p : Bool × Bool). p.0) same
+    by Galileo = ap (λ (p : Bool × Bool). p.1) same
+
+  -- ---- the number of a system's signals
+
+  count_same : (s : System) → is_some_planned (planned_of s h.plan) ≡ is_some_planned (planned_of s g.plan) → shown_rows h (Types s 0) ≡ shown_rows g (Types s 0)
+      → length (planned_of s h.plan) ≡ length (planned_of s g.plan)
+  count_same s some rows = by (is_some_planned (planned_of s h.plan)) refl where
+    first : (n : ℕ) → 0 < n → 0 < type_rows n
+    first n some = omega (arith, some)
+
+    by : (c : Bool) → is_some_planned (planned_of s h.plan) ≡ c → length (planned_of s h.plan) ≡ length (planned_of s g.plan)
+    by false e = ap length (none_planned (planned_of s h.plan) e) ∙ sym (ap length (none_planned (planned_of s g.plan) (sym some ∙ e)))
+    by true e =
+        let hs = planned_of s h.plan in
+        let gs = planned_of s g.plan in
+        let p = some_planned hs e in
+        let q = some_planned gs (sym some ∙ e) in
+        let same : types_line s hs 0 ≡ types_line s gs 0 =
+        single (types_line s hs 0) (types_line s gs 0) (sym (types_in h s 0 (first (length hs) p)) ∙ rows ∙ types_in g s 0 (first (length gs) q)) in
+        sym (count_read s hs (types_line s hs 0) (types_shown s h a p) (few_signals s) refl)
+        ∙ count_read s gs (types_line s hs 0) (types_shown s g b q) (few_signals s) same
+
+  -- ---- the signals of a system
+
+  same_signal : (s : System) (x y : List ℕ) (m : ℕ) → AreTypes s x → AreTypes s y → m < length x → m < length y → types_line s x (4 * m / 13) ≡ types_line s y (4 * m / 13) → slice_index x m ≡ slice_index y m
+  same_signal s x y m ax ay lx ly e =
+      let r = 4 * m / 13 in
+      let fx = few_types s x ax in
+      let fy = few_types s y ay in
+      let most = few_signals s in
+      let at : take 2 (drop (column_of r m) (types_line s y r)) ≡ code_of (signal_at s x m) = code_here s x (types_line s y r) r m ax (omega (arith, fx, most)) (sym e) (begun m) (ends m) lx in
+      let also : take 2 (drop (column_of r m) (types_line s y r)) ≡ code_of (signal_at s y m) = code_here s y (types_line s y r) r m ay (omega (arith, fy, most)) refl (begun m) (ends m) ly in
+      same_index (signal_at s x m) (signal_at s y m)
+      (sym (code_reads_back (signal_at s x m) (listed_at s x m ax lx)) ∙ ap (signal_of_code s) (sym at ∙ also) ∙ code_reads_back (signal_at s y m) (listed_at s y m ay ly)) where
+        begun : (m : ℕ) → signals_begun (4 * m / 13) ≤ m
+        begun m = omega arith
+
+        ends : (m : ℕ) → m < signals_begun (4 * m / 13 + 1)
+        ends m = omega arith
+
+        same_index : (t u : SignalAt) → Some t ≡ Some u → t.index ≡ u.index
+        same_index t u e = cc
+
+  module _ (s : System) (size : length (planned_of s h.plan) ≡ length (planned_of s g.plan)) (row : ℕ) (few : row ≤ 6)
+      (rows : (r : ℕ) → r < row → shown_rows h (Types s r) ≡ shown_rows g (Types s r)) where
+    first_same : (m : ℕ) → m ≤ signals_begun row → m ≤ length (planned_of s h.plan) → take m (planned_of s h.plan) ≡ take m (planned_of s g.plan)
+    first_same zero low less = refl
+    first_same (suc m) low less =
+        let hs = planned_of s h.plan in
+        let gs = planned_of s g.plan in
+        let r = 4 * m / 13 in
+        let lh : m < length hs = omega (arith, less) in
+        let lg : m < length gs = omega (arith, less, size) in
+        let next : suc m ≡ m + 1 = omega arith in
+        let same : types_line s hs r ≡ types_line s gs r = single (types_line s hs r) (types_line s gs r)
+        (sym (types_in h s r (there m (length hs) lh)) ∙ rows r (within m row low) ∙ types_in g s r (there m (length gs) lg)) in
+        ap (λ n. take n hs) next
+        ∙ take_more_same hs gs m 0 lh lg (first_same m (omega (arith, low)) (omega (arith, less)))
+        (same_signal s hs gs m (types_shown s h a (omega (arith, lh))) (types_shown s g b (omega (arith, lg))) lh lg same)
+        ∙ ap (λ n. take n gs) (sym next) where
+          there : (m n : ℕ) → m < n → 4 * m / 13 < type_rows n
+          there m n less = omega (arith, less)
+
+          within : (m row : ℕ) → suc m ≤ signals_begun row → 4 * m / 13 < row
+          within m row low = omega (arith, low)
+
+    pub signals_same : take (signals_begun row) (planned_of s h.plan) ≡ take (signals_begun row) (planned_of s g.plan)
+    signals_same =
+        let n = signals_begun row in
+        sym (take_min n (planned_of s h.plan)) ∙ first_same (min n (length (planned_of s h.plan))) (omega arith) (omega arith)
+        ∙ ap (λ m. take (min n m) (planned_of s g.plan)) size ∙ take_min n (planned_of s g.plan)
+
+  -- ---- which rows have a line
+
+  pub agree_systems : (n : ℕ) → 0 < n → Agree h g n → (s : System) → is_some_planned (planned_of s h.plan) ≡ is_some_planned (planned_of s g.plan)
+  agree_systems n some agree = systems_same (agree 0 some)
+
+  pub agree_types : (n : ℕ) → Agree h g n → (s : System) (r : ℕ) → r < 6 → first_types s + r < n → shown_rows h (Types s r) ≡ shown_rows g (Types s r)
+  agree_types n agree s r few less = subst (λ x. shown_rows h x ≡ shown_rows g x) (types_row s r few) (agree (first_types s + r) less)
+
+  pub agree_count : (n : ℕ) → Agree h g n → (s : System) → first_types s < n → length (planned_of s h.plan) ≡ length (planned_of s g.plan)
+  agree_count n agree s less =
+      let low = types_low s in
+      count_same s (agree_systems n (omega (arith, low, less)) agree s) (agree_types n agree s 0 (lit< tt) (omega (arith, less)))
+
+  types_first : (xs : List ℕ) → nat_lt 0 (type_rows (length xs)) ≡ is_some_planned xs
+  types_first [] = refl
+  types_first (x ∷ xs) = is_lt 0 (type_rows (length (x ∷ xs))) (omega arith) ∙ grind (arith, nat_tests)
+
+  any_first : (xs : List ℕ) → nat_lt 0 (length xs) ≡ is_some_planned xs
+  any_first [] = refl
+  any_first (x ∷ xs) = grind (arith, nat_tests)
+
+  pub same_there : (n : ℕ) → n < row_count → Agree h g n → has_line h.plan (row_at n) ≡ has_line g.plan (row_at n)
+  same_there n less agree = by (row_at n) (placed n less) where
+    shift_low : (s : System) → 22 < row_place (Shift s)
+    shift_low Gps = lit< tt
+    shift_low Galileo = lit< tt
+
+    by : (r : HeaderRow) → row_place r ≡ n → has_line h.plan r ≡ has_line g.plan r
+    by Version e = refl
+    by (Texts r) e = refl
+    by Position e = refl
+    by Delta e = refl
+    by (Types s zero) e = let low = types_low s in types_first (planned_of s h.plan) ∙ agree_systems n (omega (arith, e, low)) agree s ∙ sym (types_first (planned_of s g.plan))
+    by (Types s (suc r)) e = ap (λ k. nat_lt (suc r) (type_rows k)) (agree_count n agree s (omega (arith, e)))
+    by StrengthUnit e = refl
+    by First e = refl
+    by (Shift s) e = let low = shift_low s in any_first (planned_of s h.plan) ∙ agree_systems n (omega (arith, e, low)) agree s ∙ sym (any_first (planned_of s g.plan))
+    by End e = refl
+
+  -- ---- the same lines before a row
+
+  pub record Agreed (n : ℕ) (others left : List (List ℕ)) : Type 0 where
+    pub agree : Agree h g n
+    pub rest : left ≡ lines_after h n ++ others
+
+  one_row : (n : ℕ) → n < row_count → (others left : List (List ℕ)) (c : Bool) → has_line h.plan (row_at n) ≡ c → has_line g.plan (row_at n) ≡ c
+      → shown_rows g (row_at n) ++ left ≡ lines_after h n ++ others → (shown_rows h (row_at n) ≡ shown_rows g (row_at n)) × (left ≡ lines_after h (suc n) ++ others)
+  one_row n less others left true p q e =
+      let x = shown_line h (row_at n) in
+      let y = shown_line g (row_at n) in
+      let hr : shown_rows h (row_at n) ≡ x ∷ [] = rows_when h (row_at n) true p in
+      let gr : shown_rows g (row_at n) ≡ y ∷ [] = rows_when g (row_at n) true q in
+      let both : y ∷ left ≡ x ∷ (lines_after h (suc n) ++ others) =
+      sym (ap (λ l. l ++ left) gr) ∙ e ∙ ap (λ l. l ++ others) (after_next h n less ∙ ap (λ l. l ++ lines_after h (suc n)) hr) in
+      (hr ∙ ap (λ z. z ∷ []) (sym (heads y x left (lines_after h (suc n) ++ others) both).0) ∙ sym gr, (heads y x left (lines_after h (suc n) ++ others) both).1) where
+        heads : (y x : List ℕ) (ys xs : List (List ℕ)) → y ∷ ys ≡ x ∷ xs → (y ≡ x) × (ys ≡ xs)
+        heads y x ys xs e = (cc, cc)
+  one_row n less others left false p q e =
+      let hr : shown_rows h (row_at n) ≡ [] = rows_when h (row_at n) false p in
+      let gr : shown_rows g (row_at n) ≡ [] = rows_when g (row_at n) false q in
+      (hr ∙ sym gr, sym (ap (λ l. l ++ left) gr) ∙ e ∙ ap (λ l. l ++ others) (after_next h n less ∙ ap (λ l. l ++ lines_after h (suc n)) hr))
+
+  pub agreed : (n : ℕ) → n ≤ row_count → (others left : List (List ℕ)) → lines_of_header h ++ others ≡ lines_before g n ++ left → Agreed n others left
+  unfolding header_lines
+  agreed zero few others left e = record { agree = λ i l. absurd (omega (arith, l)); rest = sym e }
+  agreed (suc n) few others left e =
+      let less : n < row_count = omega (arith, few) in
+      let before = agreed n (omega (arith, few)) others (shown_rows g (row_at n) ++ left)
+      (e ∙ ap (λ l. l ++ left) (before_next g n less) ∙ append_assoc (lines_before g n) (shown_rows g (row_at n)) left) in
+      let one = one_row n less others left (has_line g.plan (row_at n)) (same_there n less before.agree) refl before.rest in
+      record {
+        agree = λ i l. equal_or (shown_rows h (row_at i) ≡ shown_rows g (row_at i)) i n (λ e. subst (λ j. shown_rows h (row_at j) ≡ shown_rows g (row_at j)) (sym e) one.0)
+            (λ far. before.agree i (omega (arith, l, far)));
+        rest = one.1;
+      }

@@ -1,0 +1,255 @@
+-- From a row of a header to the next.
+use Rattle.std.proofs.Common.{arith, ◌≡◌, ◌≢◌, ◌∙◌, sym, ap, ap₂, refl, subst, ℕ, zero, suc, lit≤, ◌+◌, ◌-◌, ◌<◌, ◌≤◌, Bool, true, false, ◌==◌, ◌&&◌, ◌||◌, min, List, [], ◌∷◌, ◌++◌, length, append-nil, Option, Some, None, ◌↔◌}
+use Rattle.std.specs.Prelude.{nat_lt, ⊤}
+use Rattle.std.proofs.lemmas.Bool.Decides.{nat_tests}
+use Rattle.gnss_obs.specs.Signals.{table}
+use Rattle.gnss_obs.specs.declared.system.System.{System}
+use Rattle.gnss_obs.specs.declared.system.System.TheVariants.{Gps, Galileo}
+use Rattle.gnss_obs.proofs.Checked.{passes_at, is_less}
+use Rattle.obs_epoch.specs.Dates.{civil_of}
+use Rattle.obs_epoch.specs.Values.{PlanValue, planned_of}
+use Rattle.rinex_file.specs.declared.header.rows.HeaderRow.{HeaderRow}
+use Rattle.rinex_file.specs.declared.header.rows.HeaderRow.TheVariants.{Version, Texts, Position, Delta, Types, StrengthUnit, First, Shift, End}
+use Rattle.rinex_file.specs.Begun.{lines_of_header}
+use Rattle.rinex_file.specs.FileValues.{of_system}
+use Rattle.rinex_file.specs.Header.{has_line, row_at, row_count, row_place, first_types, type_rows}
+use Rattle.rinex_file.specs.Read.Progress.{Known, Shown, IsShown, AreValid, MayPlan, IsReadTo, HasReadRows, IsHeadAt, IsOnlyTime, shown_with, shown_rows, shown_line, lines_before, lines_after, plans, signal_count, is_some_planned, signals_begun}
+use Rattle.rinex_file.specs.Read.HeaderSteps.{known_line, LearnsLine, RefusesHeaderLine, GoesTo, NoneGoesOn, SameFrom, StepsTo}
+use Rattle.rinex_file.proofs.Entries.{few_signals}
+use Rattle.rinex_file.proofs.HeaderAgree.{Agree, agreed, less_or, rows_when, same_there, types_low, types_high, is_lt}
+use Rattle.rinex_file.proofs.HeaderPlans.{with_is}
+use Rattle.rinex_file.proofs.HeaderRows.{placed, line_next, before_next}
+use Rattle.rinex_file.proofs.HeaderText.{equal_or}
+
+-- ---- numbers of signals
+
+-- an index outside the rows of types
+abbrev pub IsOutside : ℕ → Type 0
+IsOutside n = (s : System) → first_types s ≤ n → n < first_types s + 6 → ⊥
+
+pub outside_low : (n : ℕ) → n < 9 → IsOutside n
+outside_low n less s more few = let low = types_low s in omega (arith, less, more, low)
+
+pub outside_high : (n : ℕ) → 20 < n → IsOutside n
+outside_high n far s more few = let high = types_high s in omega (arith, far, few, high)
+
+-- the signals that begin before a row are those that begin before the next
+pub still_size : (n b c : ℕ) → c ≤ 19 → (b ≤ n → n < b + 6 → c ≤ signals_begun (n - b)) → min (signals_begun (n - b)) c ≡ min (signals_begun (suc n - b)) c
+still_size n b c few within = grind (arith, less_or)
+
+few_counted : (s : System) (c : ℕ) → c ≤ length (table s) → c ≤ 19
+few_counted s c few = let most = few_signals s in omega (arith, few, most)
+
+module _ (gps galileo : Bool) (m c : ℕ) (read : PlanValue) (first after n : ℕ) where
+  -- a row without a part of the plan
+  pub reads_next : IsOutside n → (gps || galileo) ≡ true → (22 < suc n → IsOnlyTime after) → IsReadTo gps galileo m c read first n → IsReadTo gps galileo m c read after (suc n)
+  reads_next out some only r = record {
+    systems = λ l. some;
+    fresh = λ e. absurd (omega (arith, e));
+    few = r.few;
+    counts = λ s. (λ l. let q = (r.counts s).0 l in let less = q.1 in (q.0, omega (arith, less)), λ q. (r.counts s).1 (q.0, before s q.1));
+    signals = λ s. r.signals s ∙ still_size n (first_types s) (of_system s m c) (few_counted s (of_system s m c) (r.few s)) (λ more less. absurd (out s more less));
+    only = only;
+  } where
+    before : (s : System) → first_types s < suc n → first_types s < n
+    before s less = equal_or (first_types s < n) n (first_types s) (λ e. absurd (out s (omega (arith, e)) (omega (arith, e)))) (λ far. omega (arith, less, far))
+
+-- ---- which rows have a line
+
+planned_is : (signals : List ℕ) → nat_lt 0 (length signals) ≡ is_some_planned signals
+planned_is [] = refl
+planned_is (x ∷ xs) = grind (arith, nat_tests)
+
+-- a line of types, by whether there is a signal, the number of signals, and the line's number
+types_there : (row count n : ℕ) (b : Bool) → b ≡ nat_lt 0 n → (0 < row → 0 < n → count ≡ n) → nat_lt row (type_rows n) ≡ (b && (row == 0 || nat_lt row (type_rows count)))
+types_there row count zero b planned counted = grind (arith, nat_tests, planned)
+types_there zero count (suc n) b planned counted = grind (arith, nat_tests, planned)
+types_there (suc row) count (suc n) b planned counted = let e = counted (omega arith) (omega arith) in grind (arith, nat_tests, planned, e)
+
+planned_true : (b : Bool) (n : ℕ) → b ≡ nat_lt 0 n → 0 < n → b ≡ true
+planned_true b n e some = e ∙ is_lt 0 n some
+
+pub present : (r : HeaderRow) (k : Known) (p : PlanValue) → MayPlan k p → HasReadRows k (row_place r) → has_line p r ≡ known_line k r
+present Version k p may read = refl
+present (Texts r) k p may read = refl
+present Position k p may read = refl
+present Delta k p may read = refl
+present (Types s row) k p may read =
+    let low = types_low s in
+    let planned : plans k s ≡ nat_lt 0 (length (planned_of s p)) = may.systems s (read.systems (omega (arith, low))) ∙ sym (planned_is (planned_of s p)) in
+    types_there row (signal_count k s) (length (planned_of s p)) (plans k s) planned
+    (λ far some. may.counts s ((read.counts s).1 (planned_true (plans k s) (length (planned_of s p)) planned some, omega (arith, far))))
+present StrengthUnit k p may read = refl
+present First k p may read = refl
+present (Shift Gps) k p may read = planned_is p.gps ∙ sym (may.systems Gps (read.systems (lit≤ tt)))
+present (Shift Galileo) k p may read = planned_is p.galileo ∙ sym (may.systems Galileo (read.systems (lit≤ tt)))
+present End k p may read = refl
+
+present_at : (n : ℕ) (k : Known) (p : PlanValue) → n < row_count → MayPlan k p → HasReadRows k n → has_line p (row_at n) ≡ known_line k (row_at n)
+present_at n k p less may read = present (row_at n) k p may (subst (HasReadRows k) (sym (placed n less)) read)
+
+-- ---- a row without a line
+
+pub same_system : (s t : System) (row : ℕ) → row < 6 → first_types t ≤ first_types s + row → first_types s + row < first_types t + 6 → s ≡ t
+same_system Gps Gps row less more few = refl
+same_system Gps Galileo row less more few = absurd (omega (arith, less, more))
+same_system Galileo Gps row less more few = absurd (omega (arith, less, few))
+same_system Galileo Galileo row less more few = refl
+
+-- a row of types has a number
+abbrev pub IsRow : HeaderRow → Type 0
+IsRow (Types s row) = row < 6
+IsRow other = ⊤
+
+row_numbers : HeaderRow → Bool
+row_numbers (Types s row) = nat_lt row 6
+row_numbers other = true
+
+pub is_row : (n : ℕ) → n < row_count → IsRow (row_at n)
+unfolding row_numbers
+is_row n less = by (row_at n) (passes_at (λ i. row_numbers (row_at i)) 26 n refl less) where
+  by : (r : HeaderRow) → row_numbers r ≡ true → IsRow r
+  by Version e = tt
+  by (Texts r) e = tt
+  by Position e = tt
+  by Delta e = tt
+  by (Types s row) e = is_less row 6 e
+  by StrengthUnit e = tt
+  by First e = tt
+  by (Shift s) e = tt
+  by End e = tt
+
+none_left : (planned : Bool) (row count : ℕ) → (planned && (row == 0 || nat_lt row (type_rows count))) ≡ false → (planned ≡ true → 0 < row × count ≤ signals_begun row)
+none_left true zero count e h = cc
+none_left true (suc row) count e h = let more : type_rows count ≤ suc row = grind (arith, e, nat_tests) in (omega arith, omega (arith, more))
+none_left false row count e h = cc
+
+uncounted : (c : ℕ) (b : Bool) (P : Type 0) → (0 < c ↔ ((b ≡ true) × P)) → (b ≡ false) → c ≡ 0
+uncounted zero b P is e = refl
+uncounted (suc c) b P is e = grind arith
+
+skip_types : (s : System) (row : ℕ) (k : Known) → row < 6 → known_line k (Types s row) ≡ false → HasReadRows k (first_types s + row) → HasReadRows k (suc (first_types s + row))
+skip_types s row k few lacks r = record {
+  systems = λ l. r.systems (let low = types_low s in omega (arith, low));
+  fresh = λ e. absurd (omega (arith, e));
+  few = r.few;
+  counts = λ t. (λ l. let q = (r.counts t).0 l in let less = q.1 in (q.0, omega (arith, less)), λ q. (r.counts t).1 (q.0, before t q.0 q.1));
+  signals = λ t. r.signals t ∙ still_size (first_types s + row) (first_types t) (signal_count k t) (few_counted t (signal_count k t) (r.few t)) (within t);
+  only = λ l. let high = types_high s in absurd (omega (arith, l, few, high));
+} where
+  at_row : plans k s ≡ true → 0 < row × signal_count k s ≤ signals_begun row
+  at_row = none_left (plans k s) row (signal_count k s) lacks
+
+  before : (t : System) → plans k t ≡ true → first_types t < suc (first_types s + row) → first_types t < first_types s + row
+  before t planned less = equal_or (first_types t < first_types s + row) (first_types s + row) (first_types t)
+      (λ e.
+      let same : s ≡ t = same_system s t row few (omega (arith, e)) (omega (arith, e)) in
+      let some = (at_row (subst (λ u. plans k u ≡ true) (sym same) planned)).0 in
+      let f = ap first_types same in
+      absurd (omega (arith, e, f, some)))
+      (λ far. omega (arith, less, far))
+
+  fits : (c b n : ℕ) → c ≤ signals_begun row → n ≡ b + row → c ≤ signals_begun (n - b)
+  fits c b n few e = let m : n - b ≡ row = omega (arith, e) in subst (λ j. c ≤ signals_begun j) (sym m) few
+
+  here : (c : Bool) → plans k s ≡ c → signal_count k s ≤ signals_begun row
+  here true e = (at_row e).1
+  here false e = let none = uncounted (signal_count k s) (plans k s) _ (r.counts s) e in omega (arith, none)
+
+  within : (t : System) → first_types t ≤ first_types s + row → first_types s + row < first_types t + 6 → signal_count k t ≤ signals_begun ((first_types s + row) - first_types t)
+  within t more less =
+      let same : s ≡ t = same_system s t row few more less in
+      subst (λ u. signal_count k u ≤ signals_begun ((first_types s + row) - first_types u)) same (fits (signal_count k s) (first_types s) (first_types s + row) (here (plans k s) refl) refl)
+
+skip_row : (r : HeaderRow) (k : Known) → IsRow r → known_line k r ≡ false → HasReadRows k (row_place r) → HasReadRows k (suc (row_place r))
+skip_row Version k row lacks read = cc
+skip_row (Texts r) k row lacks read = cc
+skip_row Position k row lacks read = cc
+skip_row Delta k row lacks read = cc
+skip_row (Types s i) k row lacks read = skip_types s i k row lacks read
+skip_row StrengthUnit k row lacks read = cc
+skip_row First k row lacks read = cc
+skip_row (Shift Gps) k row lacks read = reads_next k.gps k.galileo k.gps_count k.galileo_count k.shown.plan k.shown.first k.shown.first 23 (outside_high 23 (lit≤ tt)) (read.systems (lit≤ tt)) (λ l. read.only (lit≤ tt)) read
+skip_row (Shift Galileo) k row lacks read = reads_next k.gps k.galileo k.gps_count k.galileo_count k.shown.plan k.shown.first k.shown.first 24 (outside_high 24 (lit≤ tt)) (read.systems (lit≤ tt)) (λ l. read.only (lit≤ tt)) read
+skip_row End k row lacks read = cc
+
+not_last : (n : ℕ) (k : Known) → n < row_count → known_line k (row_at n) ≡ false → suc n < row_count
+not_last n k less lacks = grind (arith, less_or)
+
+pub skipped : (n : ℕ) (k : Known) → IsHeadAt k n → known_line k (row_at n) ≡ false → SameFrom k n (suc n)
+skipped n k at lacks = record {
+  lines = λ p may. sym (before_next (shown_with k p) n at.expected
+      ∙ ap (λ l. lines_before (shown_with k p) n ++ l) (rows_when (shown_with k p) (row_at n) false (present_at n k p at.expected may at.read ∙ lacks))
+      ∙ append-nil (lines_before (shown_with k p) n));
+  at = record {
+    valid = at.valid;
+    read = subst (λ m. HasReadRows k (suc m)) (placed n at.expected) (skip_row (row_at n) k (is_row n at.expected) lacks (subst (HasReadRows k) (sym (placed n at.expected)) at.read));
+    expected = not_last n k at.expected lacks;
+  };
+}
+
+pub steps_from : (k new : Known) (a b : ℕ) (line : List ℕ) (next : Option ℕ) → SameFrom k a b → StepsTo k b line new next → StepsTo k a line new next
+steps_from k new a b line None same step = record { is = step.is; only = step.only; lines = λ p may. step.lines p may ∙ sym (ap (λ l. l ++ line ∷ []) (same.lines p may)) }
+steps_from k new a b line (Some next) same step = record {
+  plans = step.plans;
+  lines = λ p may. step.lines p may ∙ sym (ap (λ l. l ++ line ∷ []) (same.lines p (step.plans p may)));
+  at = step.at;
+}
+
+pub same_on : (k : Known) (a b c : ℕ) → SameFrom k a b → SameFrom k b c → SameFrom k a c
+same_on k a b c s t = record { lines = λ p may. s.lines p may ∙ t.lines p may; at = t.at }
+
+-- ---- a row with a line
+
+before_last : (n : ℕ) (r : HeaderRow) → n < row_count → row_at n ≡ r → r ≢ End → n + 1 < row_count
+before_last n r less is other = grind (arith, less_or)
+
+pub step_at : (n : ℕ) (line : List ℕ) (old new : Known) (r : HeaderRow) → IsHeadAt old n → known_line old (row_at n) ≡ true → row_at n ≡ r → r ≢ End → LearnsLine r line old new → AreValid new → GoesTo old n line new (n + 1)
+step_at n line old new r at has is other learn valid =
+    let place : row_place r ≡ n = sym (ap row_place is) ∙ placed n at.expected in
+    let learns = learn (subst (HasReadRows old) (sym place) at.read) (sym (ap (known_line old) is) ∙ has) in
+    let next : suc n ≡ n + 1 = omega arith in
+    record {
+      plans = learns.plans;
+      lines = λ p may. ap (lines_before (shown_with new p)) (sym next) ∙ before_next (shown_with new p) n at.expected
+          ∙ ap₂ (λ a b. a ++ b) (subst (λ m. lines_before (shown_with new p) m ≡ lines_before (shown_with old p) m) place (learns.before p))
+          (ap (shown_rows (shown_with new p)) is ∙ learns.shows p may);
+      at = record {
+        valid = valid;
+        read = subst (HasReadRows new) (ap suc place ∙ next) learns.reads;
+        expected = before_last n r at.expected is other;
+      };
+    }
+
+-- a header that continues with the line has it in this row
+pub record Follows (g h : Shown) (n : ℕ) (line : List ℕ) (others left : List (List ℕ)) : Type 0 where
+  pub agree : Agree h g n
+  pub there : has_line h.plan (row_at n) ≡ true
+  pub shows : shown_line h (row_at n) ≡ line
+  pub rest : left ≡ lines_after h (suc n) ++ others
+
+pub follows : (n : ℕ) (line : List ℕ) (k : Known) → IsHeadAt k n → known_line k (row_at n) ≡ true → (p : PlanValue) (h : Shown) (others left : List (List ℕ)) → MayPlan k p → IsShown h
+    → lines_of_header h ++ others ≡ lines_before (shown_with k p) n ++ line ∷ left → Follows (shown_with k p) h n line others left
+follows n line k at has p h others left may is e =
+    let g = shown_with k p in
+    let same = agreed h g is (with_is k n at.valid at.read p may) n (let less = at.expected in omega (arith, less)) others (line ∷ left) e in
+    let there : has_line h.plan (row_at n) ≡ true = same_there h g is (with_is k n at.valid at.read p may) n at.expected same.agree ∙ present_at n k p at.expected may at.read ∙ has in
+    let next = line_next h.texts h.plan h.values (civil_of h.first) n at.expected there in
+    let both = heads line (shown_line h (row_at n)) left (lines_after h (suc n) ++ others) (same.rest ∙ ap (λ l. l ++ others) next) in
+    record { agree = same.agree; there = there; shows = sym both.0; rest = both.1 } where
+      heads : (y x : List ℕ) (ys xs : List (List ℕ)) → y ∷ ys ≡ x ∷ xs → (y ≡ x) × (ys ≡ xs)
+      heads y x ys xs e = (cc, cc)
+
+pub none_at : (n : ℕ) (line : List ℕ) (k : Known) (r : HeaderRow) → IsHeadAt k n → known_line k (row_at n) ≡ true → row_at n ≡ r → RefusesHeaderLine r line → NoneGoesOn k n line
+none_at n line k r at has is refuses p h others left may shown e =
+    refuses h shown (ap (shown_line h) (sym is) ∙ (follows n line k at has p h others left may shown e).shows)
+
+-- the last row is at index 25
+pub last_at : (n : ℕ) → n < row_count → row_at n ≡ End → n ≡ 25
+last_at n less at = sym (placed n less) ∙ ap row_place at
+
+pub types_few : (n : ℕ) (s : System) (row : ℕ) → n < row_count → row_at n ≡ Types s row → row < 6
+types_few n s row less at = subst IsRow at (is_row n less)
+
+pub types_place : (n : ℕ) (s : System) (row : ℕ) → n < row_count → row_at n ≡ Types s row → n ≡ first_types s + row
+types_place n s row less at = sym (placed n less) ∙ ap row_place at

@@ -1,0 +1,5 @@
+use Rattle.rinex_file.proofs.DigitWords.{pair_at}
+use Rattle.rinex_file.proofs.write.digits.pair.Goals as goal
+
+pub returns : goal.returns
+returns c = pair_at c.args.number c.requires

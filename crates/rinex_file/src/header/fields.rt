@@ -1,0 +1,174 @@
+//! The texts of a header: their rows, widths and names. RINEX 3.05, table A2.
+ghost use Rattle.std.specs.Prelude.{◌≡◌, ◌+◌, ◌<◌, ◌≤◌, length};
+ghost use Rattle.rinex_file.specs.Texts.{place_of, width_of, field_at, fields_of, text_count, front_of, label_of};
+ghost use Rattle.rinex_file.specs.Texts.{start_of, count_of};
+
+/// A text of the header that the caller passes.
+#[derive(Clone, Copy, Debug, PartialEq, Eq)]
+pub enum HeaderField {
+    /// Who ran the program, 20 columns of `PGM / RUN BY / DATE`.
+    RunBy,
+    /// When it ran, 20 columns of `PGM / RUN BY / DATE`.
+    Date,
+    /// The marker's name, 60 columns of `MARKER NAME`.
+    Marker,
+    /// The marker's type, 20 columns of `MARKER TYPE`.
+    MarkerType,
+    /// The observer, 20 columns of `OBSERVER / AGENCY`.
+    Observer,
+    /// The agency, 40 columns of `OBSERVER / AGENCY`.
+    Agency,
+    /// The receiver's number, 20 columns of `REC # / TYPE / VERS`.
+    RecNumber,
+    /// The receiver's type, 20 columns of `REC # / TYPE / VERS`.
+    RecType,
+    /// The receiver's version, 20 columns of `REC # / TYPE / VERS`.
+    RecVersion,
+    /// The antenna's number, 20 columns of `ANT # / TYPE`.
+    AntNumber,
+    /// The antenna's type, 20 columns of `ANT # / TYPE`.
+    AntType,
+}
+
+/// A row of texts.
+#[derive(Clone, Copy)]
+pub enum TextRow {
+    /// `PGM / RUN BY / DATE`.
+    Program,
+    /// `MARKER NAME`.
+    Marker,
+    /// `MARKER TYPE`.
+    MarkerType,
+    /// `OBSERVER / AGENCY`.
+    Observer,
+    /// `REC # / TYPE / VERS`.
+    Receiver,
+    /// `ANT # / TYPE`.
+    Antenna,
+}
+
+impl HeaderField {
+    /// All fields, in the order in which they are validated.
+    pub const ALL: [HeaderField; 11] = [
+        HeaderField::RunBy,
+        HeaderField::Date,
+        HeaderField::Marker,
+        HeaderField::MarkerType,
+        HeaderField::Observer,
+        HeaderField::Agency,
+        HeaderField::RecNumber,
+        HeaderField::RecType,
+        HeaderField::RecVersion,
+        HeaderField::AntNumber,
+        HeaderField::AntType,
+    ];
+
+    // Returns the width of the text, in columns, and the name of the field.
+    fn width_and_name(self) -> (usize, &'static str)
+        ensures { result.0 ≡ width_of self }
+    {
+        match self {
+            HeaderField::RunBy => (20, "run_by"),
+            HeaderField::Date => (20, "date"),
+            HeaderField::Marker => (60, "marker"),
+            HeaderField::MarkerType => (20, "marker_type"),
+            HeaderField::Observer => (20, "observer"),
+            HeaderField::Agency => (40, "agency"),
+            HeaderField::RecNumber => (20, "rec_number"),
+            HeaderField::RecType => (20, "rec_type"),
+            HeaderField::RecVersion => (20, "rec_version"),
+            HeaderField::AntNumber => (20, "ant_number"),
+            HeaderField::AntType => (20, "ant_type"),
+        }
+    }
+
+    /// Returns the width of the text, in columns.
+    pub fn width(self) -> usize
+        ensures { result ≡ width_of self }
+    {
+        self.width_and_name().0
+    }
+
+    /// Returns the name of the field in [`Texts`](crate::Texts).
+    pub fn name(self) -> &'static str {
+        self.width_and_name().1
+    }
+
+    /// Returns the index among all fields, counted from 0.
+    pub(crate) fn place(self) -> usize
+        ensures place { result ≡ place_of self }
+        ensures bound { result < text_count }
+    {
+        self as usize
+    }
+
+    /// Returns the field at an index, counted from 0.
+    pub(crate) fn at(place: usize) -> HeaderField
+        requires { place < text_count }
+        ensures { result ≡ field_at place }
+    {
+        HeaderField::ALL[place]
+    }
+}
+
+impl TextRow {
+    /// Returns the texts of the row, in the order of [`HeaderField::ALL`].
+    fn fields(self) -> &'static [HeaderField]
+        ensures { result.now ≡ fields_of self }
+    {
+        match self {
+            TextRow::Program => &[HeaderField::RunBy, HeaderField::Date],
+            TextRow::Marker => &[HeaderField::Marker],
+            TextRow::MarkerType => &[HeaderField::MarkerType],
+            TextRow::Observer => &[HeaderField::Observer, HeaderField::Agency],
+            TextRow::Receiver => &[
+                HeaderField::RecNumber,
+                HeaderField::RecType,
+                HeaderField::RecVersion,
+            ],
+            TextRow::Antenna => &[HeaderField::AntNumber, HeaderField::AntType],
+        }
+    }
+
+    /// Returns the index of the first text among all, counted from 0.
+    pub(crate) fn start(self) -> usize
+        ensures { result ≡ start_of self }
+    {
+        self.fields()[0].place()
+    }
+
+    /// Returns the number of texts.
+    pub(crate) fn count(self) -> usize
+        ensures count { result ≡ count_of self }
+        ensures bound { result ≤ 3 }
+        ensures end { start_of self + result ≤ text_count }
+    {
+        self.fields().len()
+    }
+
+    /// Returns the label, in columns 61 to 80.
+    pub(crate) fn label(self) -> &'static [u8]
+        ensures text { result.now ≡ label_of self }
+        ensures size { length result.now ≤ 20 }
+    {
+        match self {
+            TextRow::Program => b"PGM / RUN BY / DATE",
+            TextRow::Marker => b"MARKER NAME",
+            TextRow::MarkerType => b"MARKER TYPE",
+            TextRow::Observer => b"OBSERVER / AGENCY",
+            TextRow::Receiver => b"REC # / TYPE / VERS",
+            TextRow::Antenna => b"ANT # / TYPE",
+        }
+    }
+
+    /// Returns the columns before the texts: the name of the program in 20 columns, or nothing.
+    pub(crate) fn front(self) -> &'static [u8]
+        ensures text { result.now ≡ front_of self }
+        ensures size { length result.now ≤ 20 }
+    {
+        match self {
+            TextRow::Program => b"rtcm2rinex          ",
+            _ => b"",
+        }
+    }
+}
