@@ -17,7 +17,7 @@ use Rattle.rtcm_convert.specs.Steps.{WritesRest, BreaksInRest, CountsEpochs, Gat
 use Rattle.rtcm_convert.specs.Stream.{Drained, Files, BreaksFiling, IsEnded, AppendsPrefixOfRest}
 use Rattle.rtcm_convert.specs.declared.file_writer.FileWriter.{FileWriter}
 use Rattle.rtcm_convert.proofs.ExactLemmas.{tally_whole, whole_epochs, epochs_few, outcomes_length}
-use Rattle.rtcm_convert.proofs.PartLemmas.{goes_on-trans, breaks_off-after, breaks_off-before}
+use Rattle.rtcm_convert.proofs.PartLemmas.{goes_on-trans, breaks_off-after, breaks_off-before, up_to_whole}
 use Rattle.rtcm_convert.proofs.StreamLemmas.{files_self, so_far-front}
 
 -- at most 2^48 bytes were accepted
@@ -87,7 +87,7 @@ drain_part c v w w' o o' stays grows before k s bytes d =
     k w o (known_frames v.has_ended bytes) bytes (known_frames v.has_ended bytes) (record { framer = d.framer; taken = files_self c w o (known_frames v.has_ended bytes) }) in
     let j : known_frames v.has_ended bytes ≡ decided_frames bytes = ap (λ h. known_frames h bytes) before in
     let out : AppendsPrefixBetween (c o.inner) (c o'.inner) (so_far s (decided_frames bytes)) (so_far s p.reached) =
-    subst (λ (l : List Framed). AppendsPrefixBetween (c o.inner) (c o'.inner) (so_far s l) (so_far s p.reached)) j (p.broken.part s d.file_writer) in
+    subst (λ (l : List Framed). AppendsPrefixBetween (c o.inner) (c o'.inner) (so_far s l) (so_far s p.reached)) j (up_to_whole (c o.inner) (c o'.inner) _ _ _ (p.broken.part s d.file_writer)) in
     breaks_off-before (c o.inner) (c o'.inner) _ _ _ (breaks_off-before (c o.inner) (c o'.inner) _ _ _ out (so_far-front grows s p.reached (frames_of bytes) p.known)) (so_far-file stays s (frames_of bytes))
 
 pub drain_failed : {W : Type 0} → (c : W → Option (List ℕ)) (v : FramerValue) (w w' : FileWriter) (o o' : Device W) → BreaksKnown (Files c) (BreaksFiling c) true v w o w' o' → (b : List ℕ)

@@ -1,23 +1,21 @@
 -- A piece that a converter accepts, and the end of its stream.
-use Rattle.std.proofs.Common.{◌≡◌, ℕ, ◌<◌, ◌++◌, List, Bool, true, false, sym, ap, subst, ◌∙◌, Option, length, suc, zero, arith, refl}
+use Rattle.std.proofs.Common.{◌≡◌, ℕ, ◌<◌, ◌++◌, List, Bool, true, false, subst, ◌∙◌, Option, suc, zero, arith, refl}
 use Rattle.rtcm_bits.specs.Device.{Device}
-use Rattle.rtcm_scan.specs.Decided.{skipped_before}
-use Rattle.rtcm_scan.specs.Frames.{frames_of}
-use Rattle.rtcm_scan.specs.Known.{known_place}
-use Rattle.rtcm_scan.specs.Passing.{Passes, Breaks, PassesToLimit, GoesOn, AtFault, up_to_limit}
+use Rattle.rtcm_scan.specs.Examined.{HasExaminedSome}
+use Rattle.rtcm_scan.specs.Passing.{Passes, Breaks, PassesToLimit, AtFault, up_to_limit}
 use Rattle.rtcm_scan.specs.Scan.{FramerValue}
 use Rattle.rtcm_scan.specs.declared.feed.StreamFault.{StreamFault}
-use Rattle.rtcm_scan.specs.declared.feed.StreamFault.TheVariants.{TooLong, Sink}
-use Rattle.rtcm_convert.specs.Conversion.{Conversion, kept_of, KeepsNow, IsGoing, IsFit, HasConverted, HasFinished, TakesPiece, CutsAtLimit, WritesPrefixOfAdded, FinishesNow, FinishesEmptyNow}
-use Rattle.rtcm_convert.specs.Converted.{SetupValue, epochs_in}
+use Rattle.rtcm_scan.specs.declared.feed.StreamFault.TheVariants.{Read, TooLong, Sink}
+use Rattle.rtcm_convert.specs.Conversion.{Conversion, kept_of, KeepsNow, IsGoing, IsFit, HasConverted, HasFinished, TakesPiece, CutsAtLimit, WritesPrefixOfAdded}
+use Rattle.rtcm_convert.specs.Converted.{SetupValue}
 use Rattle.rtcm_convert.specs.Kept.{IsKeptAtEnd, IsWithinBounds}
 use Rattle.rtcm_convert.specs.Laws.{FiledGrows}
-use Rattle.rtcm_convert.specs.Outcomes.{report_with, tally_of, outcomes}
 use Rattle.rtcm_convert.specs.Stream.{Files, BreaksFiling, EndsBytes, AppendsDecided}
 use Rattle.rtcm_convert.specs.declared.file_writer.FileWriter.{FileWriter}
-use Rattle.rtcm_convert.specs.declared.report.Report.{Report}
-use Rattle.rtcm_convert.specs.declared.tally.Tally.{Tally}
 use Rattle.rtcm_convert.proofs.StreamLemmas.{piece_whole, piece_part, piece_fine, to_limit}
+
+pub read_of : {F : Type 0} (f : StreamFault F) (P Q R : Type 0) → f ≡ Read → AtFault f P Q R → P
+read_of f P Q R e a = subst (λ (x : StreamFault _). AtFault x P Q R) e a
 
 pub long_of : {F : Type 0} (f : StreamFault F) (P Q R : Type 0) → f ≡ TooLong → AtFault f P Q R → Q
 long_of f P Q R e a = subst (λ (x : StreamFault _). AtFault x P Q R) e a
@@ -40,14 +38,14 @@ module _ {W : Type 0} (c : W → Option (List ℕ)) (failed over : Bool) (v v' :
         bounds = subst (λ (n : ℕ). IsWithinBounds n (kept_of (with_flags failed over v' w'))) p.0.framer.stands.taken keeps.bounds;
       }
 
-  pub fed_fit : IsFit (with_flags failed over v w) → IsGoing (with_flags failed over v w) → w'.gatherer.has_ended ≡ false → v'.is_ready ≡ true → GoesOn v v' (length piece) → Passes (Files c) v w o v' w' o' piece
-      → IsFit (with_flags failed over v' w')
-  fed_fit fit go goes ready same k = record {
+  pub fed_fit : IsFit (with_flags failed over v w) → IsGoing (with_flags failed over v w) → w'.gatherer.has_ended ≡ false → v'.is_ready ≡ true → v'.has_ended ≡ v.has_ended → (HasExaminedSome v → HasExaminedSome v')
+      → Passes (Files c) v w o v' w' o' piece → IsFit (with_flags failed over v' w')
+  fed_fit fit go goes ready ended some k = record {
     going = λ _. goes;
-    listening = λ _. same.ended ∙ fit.listening go;
+    listening = λ _. ended ∙ fit.listening go;
     ready = λ _. ready;
     drained = λ _. (piece_fine c v v' w w' o o' piece k (fit.drained go)).0;
-    examined = same.some fit.examined;
+    examined = some fit.examined;
   }
 
   pub fed_long : v.has_ended ≡ false → v'.has_ended ≡ false → PassesToLimit (Files c) v w o v' w' o' piece → CutsAtLimit (with_flags failed over v w) (with_flags true over v' w') (c o.inner) (c o'.inner) piece
@@ -60,10 +58,6 @@ module _ {W : Type 0} (c : W → Option (List ℕ)) (failed over : Bool) (v v' :
 
   pub fed_part : FiledGrows → v.has_ended ≡ false → Breaks (Files c) (BreaksFiling c) v w o w' o' piece → WritesPrefixOfAdded (with_flags failed over v w) (c o.inner) (c o'.inner) piece
   fed_part grows before k s bytes h = piece_part c grows v w w' o o' piece before k s bytes h.drained
-
-report_same : (a a' b b' : ℕ) (t t' : Tally) (n n' : ℕ) → a ≡ a' → b ≡ b' → t ≡ t' → n ≡ n' → report_with a b t n ≡ report_with a' b' t' n'
-report_same a a' b b' t t' n n' e f g h =
-    ap (λ x. report_with x b t n) e ∙ ap (λ x. report_with a' x t n) f ∙ ap (λ x. report_with a' b' x n) g ∙ ap (λ x. report_with a' b' t' x) h
 
 some : (n m : ℕ) → n ≡ m → (n ≡ 0 → ⊥) → 0 < m
 some zero m e h = absurd (h refl)
@@ -79,26 +73,3 @@ module _ (failed over : Bool) (v v' : FramerValue) (w w' : FileWriter) (a b : Op
   finished s bytes h =
       let p = ends s bytes h.drained in
       record { ended = p.over; taken = p.taken; within = p.within; drained = p.drained; counted = p.counted; gathered = p.gathered }
-
-  pub finished_file : (report : Report) → (w'.epochs ≡ 0 → ⊥) → report ≡ report_with v'.taken v'.skipped w'.tally w'.epochs → FinishesNow (with_flags failed over v w) (with_flags failed true v' w') a b report
-  finished_file report none is s bytes h =
-      let p = ends s bytes h.drained in
-      let skipped : v'.skipped ≡ skipped_before (length bytes) (frames_of bytes) = p.drained.skipped ∙ ap (λ e. skipped_before (known_place e bytes) (frames_of bytes)) p.over in
-      record {
-        out = p.out;
-        some = some w'.epochs (epochs_in s (frames_of bytes)) p.epochs none;
-        report_is = is ∙ report_same v'.taken (length bytes) v'.skipped (skipped_before (length bytes) (frames_of bytes)) w'.tally (tally_of (outcomes s (frames_of bytes))) w'.epochs (epochs_in s (frames_of bytes))
-            p.taken skipped p.tally p.epochs;
-        finished = finished s bytes h;
-        kept = keeps s bytes (finished s bytes h);
-        bounds = subst (λ (n : ℕ). IsWithinBounds n (kept_of (with_flags failed true v' w'))) p.taken within;
-      }
-
-  pub finished_empty : w'.epochs ≡ 0 → FinishesEmptyNow (with_flags failed over v w) (with_flags failed true v' w') a b
-  finished_empty none s bytes h = let p = ends s bytes h.drained in record {
-    none = sym p.epochs ∙ none;
-    out = p.out;
-    finished = finished s bytes h;
-    kept = keeps s bytes (finished s bytes h);
-    bounds = subst (λ (n : ℕ). IsWithinBounds n (kept_of (with_flags failed true v' w'))) p.taken within;
-  }

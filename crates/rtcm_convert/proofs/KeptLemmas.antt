@@ -1,9 +1,7 @@
 -- What a converter holds.
-use Rattle.std.proofs.Common.{◌≡◌, ℕ, List, [], ◌∷◌, true, false, refl, sym, ap, ◌∙◌, Option, None}
+use Rattle.std.proofs.Common.{◌≡◌, ℕ, List, [], ◌∷◌, true, refl, sym, ap, ◌∙◌, Option, None}
 use Rattle.std.specs.Prelude.{map, length, if◌then◌else◌}
-use Rattle.rtcm_scan.specs.Frames.{Framed, frames_of}
-use Rattle.rtcm_scan.specs.Decided.{decided_frames}
-use Rattle.rtcm_scan.specs.Known.{known_frames}
+use Rattle.rtcm_scan.specs.Frames.{frames_of}
 use Rattle.obs_epoch.specs.Values.{Closed}
 use Rattle.obs_epoch.specs.Heard.{GatherSetup, Heard}
 use Rattle.obs_epoch.specs.Times.{timed}
@@ -12,11 +10,10 @@ use Rattle.obs_epoch.specs.Epochs.{closed_times, closed_so_far}
 use Rattle.obs_epoch.specs.Gather.{Gathered}
 use Rattle.obs_epoch.specs.Standing.{locked_in}
 use Rattle.obs_epoch.specs.Cells.{firsts}
-use Rattle.obs_epoch.specs.Gathering.{HasGatheredEpochs, is_done, closed_list_at, closed_epochs as epochs_so_far}
+use Rattle.obs_epoch.specs.Gathering.{HasGatheredEpochs, is_done, closed_list_at}
 use Rattle.rtcm_convert.specs.Converted.{SetupValue, messages_of}
-use Rattle.rtcm_convert.specs.Filed.{Settled}
-use Rattle.rtcm_convert.specs.Kept.{locks_at, locks_kept, locks_in_all}
-use Rattle.rtcm_convert.specs.Conversion.{Conversion, IsFit, HasConverted, HasFinished}
+use Rattle.rtcm_convert.specs.Kept.{locks_at, locks_in_all}
+use Rattle.rtcm_convert.specs.Conversion.{Conversion, HasFinished}
 
 -- the times of the epochs of these times
 times_back : (s : GatherSetup) (ms : List Heard) (ts : List ℕ) → map (λ (c : Closed). c.epoch.time) (closed_list_at s ms ts) ≡ ts
@@ -25,12 +22,6 @@ times_back s ms (t ∷ ts) = ap (λ l. t ∷ l) (times_back s ms ts)
 
 same_times : (s : GatherSetup) (ms : List Heard) (ts us : List ℕ) → closed_list_at s ms ts ≡ closed_list_at s ms us → ts ≡ us
 same_times s ms ts us e = sym (times_back s ms ts) ∙ ap (map (λ (c : Closed). c.epoch.time)) e ∙ times_back s ms us
-
--- the epochs that count for the lock records are the closed ones; all, if no message follows
-closed_now : (v : Gathered) (s : GatherSetup) (ms : List Heard) (es : List Closed) → HasGatheredEpochs v s ms es None → v.has_ended ≡ false → closed_so_far s (timed s ms) (is_done v s ms None) ≡ closed_times s (timed s ms)
-closed_now v s ms es x going =
-    same_times s ms (closed_so_far s (timed s ms) (is_done v s ms None)) (closed_times s (timed s ms))
-    (sym x.handed ∙ x.epochs refl ∙ ap (λ e. if e then closed_list_at s ms (times (timed s ms)) else closed_list_at s ms (closed_times s (timed s ms))) going)
 
 closed_all : (v : Gathered) (s : GatherSetup) (ms : List Heard) (es : List Closed) → HasGatheredEpochs v s ms es None → v.has_ended ≡ true → closed_so_far s (timed s ms) (is_done v s ms None) ≡ times (timed s ms)
 closed_all v s ms es x over =
@@ -47,14 +38,3 @@ locks_all v n keys s b x =
     let g = x.gathered in
     keys s.gather (messages_of (frames_of b)) g.epochs None g.gathers
     ∙ ap (locks_at s (frames_of b)) (closed_all v.file_writer.gatherer s.gather (messages_of (frames_of b)) g.epochs g.gathers g.ended)
-
-locks_in_known : (v : Conversion) (n : ℕ) (fs : List Framed) (s : SetupValue) → HasKeys v.file_writer.gatherer n → v.file_writer.gatherer.has_ended ≡ false → Settled v.file_writer s (messages_of fs) → n ≡ locks_kept s fs
-locks_in_known v n fs s keys going x =
-    let es = epochs_so_far s.gather (messages_of fs) in
-    keys s.gather (messages_of fs) es None x.gatherer
-    ∙ ap (locks_at s fs) (closed_now v.file_writer.gatherer s.gather (messages_of fs) es x.gatherer going)
-
-pub locks_now : (v : Conversion) (n : ℕ) → IsFit v → HasKeys v.file_writer.gatherer n → (s : SetupValue) (b : List ℕ) → HasConverted v s b → n ≡ locks_kept s (decided_frames b)
-locks_now v n fit keys s b x =
-    locks_in_known v n (known_frames v.scan.has_ended b) s keys (fit.going x.going) x.drained.file_writer.settled
-    ∙ ap (λ h. locks_kept s (known_frames h b)) (fit.listening x.going)

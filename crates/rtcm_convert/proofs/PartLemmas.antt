@@ -1,11 +1,12 @@
 -- Bytes that are written one part after the other.
-use Rattle.std.proofs.Common.{◌≡◌, ℕ, List, [], ◌++◌, sym, ap, ◌∙◌, Option, Result, Ok, Err, OnErr, append_assoc, append-nil}
+use Rattle.std.proofs.Common.{◌≡◌, ℕ, List, [], ◌++◌, sym, ap, ◌∙◌, Option, None, Some, refl, subst, Result, Ok, Err, OnErr, append_assoc, append-nil}
 use Rattle.std.specs.Prelude.{IsErrOf}
 use Rattle.std.specs.Io.KnownBytes.{Appends, Keeps}
+use Rattle.std.proofs.lemmas.List.{append_cancel_left}
 use Rattle.std.proofs.KnownBytes.{Appends-trans, Appends-nil, Appends-kept}
 use Rattle.rtcm_bits.specs.Device.{AppendsPrefix}
 use Rattle.rtcm_bits.specs.Prefix.{IsPrefix}
-use Rattle.rtcm_convert.specs.Fed.{AppendsBetween, AppendsPrefixBetween}
+use Rattle.rtcm_convert.specs.Fed.{AppendsBetween, AppendsPrefixBetween, AppendsUpTo}
 
 pub on_err : {A E : Type 0} (r : Result A E) (P : Type 0) → P → OnErr r P
 on_err (Ok v) P p = tt
@@ -64,11 +65,28 @@ goes_on-kept a b c x y f k = record { part = f.part; text = f.text; out = Append
 pub goes_on-front : (a b : Option (List ℕ)) (x y : List ℕ) → AppendsBetween a b x y → AppendsPrefixBetween a b x y
 goes_on-front a b x y f = record { part = f.part; rest = []; text = f.text ∙ sym (append-nil (x ++ f.part)); out = f.out }
 
-pub prefix-refl : {A : Type 0} (xs : List A) → IsPrefix xs xs
-prefix-refl xs = ([], sym (append-nil xs))
+-- what was written before a point between the earlier and the middle text, and after it
+append_split : (a c : Option (List ℕ)) (x y : List ℕ) → Appends a c (x ++ y) → (b : Option (List ℕ)) × Appends a b x × Appends b c y
+append_split None c x y h = (None, tt, tt)
+append_split (Some l) None x y h = absurd h
+append_split (Some l) (Some k) x y h = (Some (l ++ x), refl, h ∙ sym (append_assoc l x y))
 
-pub prefix-trans : {A : Type 0} (xs ys zs : List A) → IsPrefix xs ys → IsPrefix ys zs → IsPrefix xs zs
-prefix-trans xs ys zs p q = (p.0 ++ q.0, q.1 ∙ ap (λ l. l ++ q.0) p.1 ∙ append_assoc xs p.0 q.0)
+pub up_to_earlier : (a b : Option (List ℕ)) (x m y z : List ℕ) → IsPrefix x m → IsPrefix m y → AppendsUpTo a b x y z → AppendsUpTo a b x m z
+up_to_earlier a b x m y z p q f =
+    let e : f.before.part ≡ p.0 ++ q.0 = append_cancel_left x f.before.part (p.0 ++ q.0) (sym f.before.text ∙ q.1 ∙ ap (λ l. l ++ q.0) p.1 ∙ append_assoc x p.0 q.0) in
+    let s = append_split a f.mid p.0 q.0 (subst (λ (l : List ℕ). Appends a f.mid l) e f.before.out) in
+    record {
+      mid = s.0;
+      before = record { part = p.0; text = p.1; out = s.1 };
+      last = breaks_off-after s.0 f.mid b m y z (record { part = q.0; text = q.1; out = s.2 }) f.last;
+    }
+
+pub up_to_later : (a b : Option (List ℕ)) (x m y z : List ℕ) → IsPrefix y z → AppendsUpTo a b x m y → AppendsUpTo a b x m z
+up_to_later a b x m y z p f = record { mid = f.mid; before = f.before; last = breaks_off-before f.mid b m y z f.last p }
+
+-- the same without the point between
+pub up_to_whole : (a b : Option (List ℕ)) (x m y : List ℕ) → AppendsUpTo a b x m y → AppendsPrefixBetween a b x y
+up_to_whole a b x m y f = breaks_off-after a f.mid b x m y f.before f.last
 
 -- the fault of a call that is returned by another
 pub same_fault : {T U E : Type 0} (x e : E) → IsErrOf {T = T} {E = E} (Err x) e → IsErrOf {T = U} {E = E} (Err x) e

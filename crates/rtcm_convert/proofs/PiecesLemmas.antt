@@ -1,5 +1,5 @@
 -- Pieces that a converter accepts up to the end of its stream.
-use Rattle.std.proofs.Common.{◌≡◌, ℕ, ◌+◌, ◌<◌, ◌≤◌, inl, inr, List, [], ◌∷◌, ◌++◌, sym, ap, subst, ◌∙◌, arith, Option, Result, Ok, Err, IfOk, IfErr, append-nil, append_assoc, length, length-append, take, drop, get_or}
+use Rattle.std.proofs.Common.{◌≡◌, ℕ, ◌+◌, ◌<◌, ◌≤◌, inl, inr, List, [], ◌∷◌, ◌++◌, sym, ap, subst, ◌∙◌, arith, Option, Result, Ok, Err, IfOk, append-nil, append_assoc, length, length-append, take, drop, get_or}
 use Rattle.std.specs.Prelude.{flat_map, Vec}
 use Rattle.std.proofs.lemmas.List.{take_more, take-append-drop, take-append-le}
 use Rattle.std.proofs.lemmas.Grind.{flat_map-append}
@@ -9,10 +9,8 @@ use Rattle.rtcm_convert.specs.Converted.{SetupValue}
 use Rattle.rtcm_convert.specs.Stream.{AppendsDecided, AppendsPrefixOfDecided}
 use Rattle.rtcm_convert.specs.Conversion.{Conversion, HasConverted, TakesPiece, CutsAtLimit, WritesPrefixOfAdded, StopsAtEnd, FinishesNow, FinishesEmptyNow, CompletesFile, CompletesEmptyFile, FailsAtEnd}
 use Rattle.rtcm_convert.specs.Pieces.{StopsInPieces}
-use Rattle.rtcm_convert.specs.Faults.{IsFeedFault, IsFinishFault, IsPiecesFault}
-use Rattle.rtcm_convert.specs.declared.fault.Fault.{Fault}
 use Rattle.rtcm_convert.specs.declared.report.Report.{Report}
-use Rattle.rtcm_convert.proofs.PartLemmas.{goes_on-refl, goes_on-trans}
+use Rattle.rtcm_convert.proofs.PartLemmas.{goes_on-trans}
 use Rattle.rtcm_convert.proofs.RunLemmas.{completed_after, empty_after}
 
 -- ---- the first pieces
@@ -33,10 +31,6 @@ pieces_split bytes pieces i = ap (flat_map bytes) (sym (take-append-drop i piece
 -- these bytes were accepted, and what they add was written
 abbrev pub HasTaken : Conversion → Conversion → Option (List ℕ) → Option (List ℕ) → List ℕ → Type 0
 HasTaken v w a b front = (s : SetupValue) (bytes : List ℕ) → HasConverted v s bytes → HasConverted w s (bytes ++ front) × AppendsDecided a b s bytes (bytes ++ front)
-
-pub taken_none : (v : Conversion) (a : Option (List ℕ)) → HasTaken v v a a []
-taken_none v a s bytes x =
-    (subst (λ (l : List ℕ). HasConverted v s l) (sym (append-nil bytes)) x, subst (λ (l : List ℕ). AppendsDecided a a s bytes l) (sym (append-nil bytes)) (goes_on-refl a _))
 
 pub taken_then : (v w x : Conversion) (a b c : Option (List ℕ)) (front piece all : List ℕ) → front ++ piece ≡ all → HasTaken v w a b front → TakesPiece w x b c piece → HasTaken v x a c all
 taken_then v w x a b c front piece all more f g s bytes y =
@@ -106,11 +100,3 @@ pieces_broke v w a b c pieces i piece came less more stop = inl (
 )
 
 -- ---- faults
-
-pub feed_in_pieces : (fault : Fault) → IsFeedFault fault → IsPiecesFault fault
-feed_in_pieces fault (inl e) = inl e
-feed_in_pieces fault (inr e) = inr (inr e)
-
-pub finish_in_pieces : {A : Type 0} (r : Result A Fault) (P : Fault → Type 0) → IfErr r (λ f. IsFinishFault f × P f) → IfErr r (λ f. IsPiecesFault f × P f)
-finish_in_pieces (Ok x) P h = tt
-finish_in_pieces (Err fault) P h = (inr h.0, h.1)

@@ -1,5 +1,5 @@
 -- The file writer as a sink of frames, and a piece of a stream.
-use Rattle.std.proofs.Common.{◌≡◌, ℕ, List, [], ◌∷◌, ◌++◌, ◌+◌, ◌-◌, ◌≤◌, Bool, false, refl, sym, ap, subst, suc, arith, length, take, ◌∙◌, Option, Result, Ok, Err, OnOk, OnErr}
+use Rattle.std.proofs.Common.{◌≡◌, ℕ, List, [], ◌∷◌, ◌++◌, ◌+◌, ◌-◌, ◌≤◌, Bool, false, refl, sym, ap, subst, suc, arith, length, take, ◌∙◌, Option, Result, Ok, Err, OnOk}
 use Rattle.std.specs.Io.KnownBytes.{Keeps}
 use Rattle.rtcm_bits.specs.Device.{Device, HasFailed}
 use Rattle.rtcm_bits.specs.Prefix.{IsPrefix}
@@ -14,15 +14,11 @@ use Rattle.rtcm_convert.specs.Laws.{FiledGrows}
 use Rattle.rtcm_convert.specs.Steps.{TakesFrame, BreaksInFrame}
 use Rattle.rtcm_convert.specs.Stream.{Drained, HasDrained, HasDrainedSome, Files, BreaksFiling, AppendsDecided, AppendsPrefixOfDecided}
 use Rattle.rtcm_convert.specs.declared.file_writer.FileWriter.{FileWriter}
-use Rattle.rtcm_convert.proofs.PartLemmas.{goes_on-refl, goes_on-trans, goes_on-kept, goes_on-front, breaks_off-after, breaks_off-before}
+use Rattle.rtcm_convert.proofs.PartLemmas.{goes_on-refl, goes_on-trans, goes_on-kept, goes_on-front, breaks_off-before, up_to_whole}
 
 pub ok_both : {T E : Type 0} (r : Result T E) (A B P : Type 0) → (A → B → P) → OnOk r A → OnOk r B → OnOk r P
 ok_both (Ok k) A B P f a b = f a b
 ok_both (Err e) A B P f a b = tt
-
-pub err_both : {T E : Type 0} (r : Result T E) (A B P : Type 0) → (A → B → P) → OnErr r A → OnErr r B → OnErr r P
-err_both (Ok k) A B P f a b = tt
-err_both (Err e) A B P f a b = f a b
 
 pub so_far-front : FiledGrows → (s : SetupValue) (fs gs : List Framed) → IsPrefix fs gs → IsPrefix (so_far s fs) (so_far s gs)
 so_far-front grows s fs gs p = subst (λ (l : List Framed). IsPrefix (so_far s fs) (so_far s l)) (sym p.1) (grows s fs p.0)
@@ -45,15 +41,7 @@ module _ {W : Type 0} (c : W → Option (List ℕ)) where
   files_part v0 v v' o0 o o' ps fs f t failed widest x = record {
     failed = subst (λ (n : ℕ). HasFailed n o'.failures) x.fine failed;
     widest = widest ∙ x.widest;
-    part = λ s y. (let p = x.files s y in breaks_off-after (c o0.inner) (c o.inner) (c o'.inner) _ _ _ p.1 (t s fs p.0));
-  }
-
-  -- the device was flushed
-  pub files_sent : (v0 v : FileWriter) (o0 o o' : Device W) (ps fs : List Framed) → Keeps (c o.inner) (c o'.inner) → o'.failures ≡ o.failures → o'.widest ≡ o.widest → Files c v0 o0 ps v o fs → Files c v0 o0 ps v o' fs
-  files_sent v0 v o0 o o' ps fs k fine widest x = record {
-    fine = fine ∙ x.fine;
-    widest = widest ∙ x.widest;
-    files = λ s y. (let p = x.files s y in (p.0, goes_on-kept (c o0.inner) (c o.inner) (c o'.inner) _ _ p.1 k));
+    part = λ s y. (let p = x.files s y in record { mid = c o.inner; before = p.1; last = t s fs p.0 });
   }
 
   pub files_unsent : (v0 v : FileWriter) (o0 o o' : Device W) (ps fs : List Framed) → Keeps (c o.inner) (c o'.inner) → HasFailed o.failures o'.failures → o'.widest ≡ o.widest → Files c v0 o0 ps v o fs
@@ -61,7 +49,7 @@ module _ {W : Type 0} (c : W → Option (List ℕ)) where
   files_unsent v0 v o0 o o' ps fs k failed widest x = record {
     failed = subst (λ (n : ℕ). HasFailed n o'.failures) x.fine failed;
     widest = widest ∙ x.widest;
-    part = λ s y. (goes_on-front (c o0.inner) (c o'.inner) _ _ (goes_on-kept (c o0.inner) (c o.inner) (c o'.inner) _ _ (x.files s y).1 k));
+    part = λ s y. record { mid = c o'.inner; before = goes_on-kept (c o0.inner) (c o.inner) (c o'.inner) _ _ (x.files s y).1 k; last = goes_on-front (c o'.inner) (c o'.inner) _ _ (goes_on-refl (c o'.inner) (so_far s fs)) };
   }
 
   -- all known frames were passed on
@@ -91,7 +79,7 @@ module _ {W : Type 0} (c : W → Option (List ℕ)) where
       → (s : SetupValue) (bytes : List ℕ) → Drained v w s bytes → AppendsPrefixOfDecided (c o.inner) (c o'.inner) s bytes (bytes ++ piece)
   piece_part grows v w w' o o' piece before k s bytes d =
       let p = k w o (known_frames v.has_ended bytes) bytes (passed_here v w o bytes (scan_of v w s bytes d)) in
-      let q = breaks_off-before (c o.inner) (c o'.inner) _ _ _ (p.broken.part s d.file_writer) (so_far-front grows s p.reached (known_frames v.has_ended (bytes ++ piece)) p.known) in
+      let q = breaks_off-before (c o.inner) (c o'.inner) _ _ _ (up_to_whole (c o.inner) (c o'.inner) _ _ _ (p.broken.part s d.file_writer)) (so_far-front grows s p.reached (known_frames v.has_ended (bytes ++ piece)) p.known) in
       subst (λ (e : Bool). AppendsPrefixBetween (c o.inner) (c o'.inner) (so_far s (known_frames e bytes)) (so_far s (known_frames e (bytes ++ piece)))) before q
 
   -- the device after a piece, of which all known frames were passed on

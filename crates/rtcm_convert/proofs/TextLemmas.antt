@@ -1,10 +1,9 @@
 -- The text of a file, epoch by epoch.
-use Rattle.std.proofs.Common.{◌≡◌, ℕ, List, [], ◌∷◌, ◌++◌, Bool, true, false, refl, sym, ap, subst, ◌∙◌, arith, Option, Some, None, append_assoc, append-nil, nat_lt, length, length-append, ◌+◌, ◌<◌}
+use Rattle.std.proofs.Common.{◌≡◌, ℕ, List, [], ◌∷◌, ◌++◌, Bool, true, false, refl, sym, ap, subst, ◌∙◌, arith, Option, Some, None, append_assoc, append-nil, nat_lt, length, length-append, ◌+◌}
 use Rattle.std.specs.Prelude.{◌==◌, if◌then◌else◌}
 use Rattle.std.proofs.lemmas.Cmp.{int_eq_equiv}
 use Rattle.std.proofs.lemmas.List.Elements.{filter-append, filter_map-append}
 use Rattle.std.specs.Io.KnownBytes.{Appends}
-use Rattle.std.proofs.KnownBytes.{Appends-trans, Appends-nil}
 use Rattle.rtcm_bits.specs.Device.{AppendsPrefix}
 use Rattle.rtcm_scan.specs.Frames.{Framed}
 use Rattle.rtcm_bits.specs.Prefix.{IsPrefix}
@@ -22,12 +21,6 @@ use Rattle.rtcm_convert.proofs.PartLemmas.{prefix_more, prefix_after}
 -- a capped count that is increased
 pub cap_more : (n k : ℕ) → capped (capped n + k) ≡ capped (n + k)
 cap_more n k = omega arith
-
-pub cap_none : (n : ℕ) → capped n ≡ 0 → n ≡ 0
-cap_none n e = omega arith
-
-pub cap_over : (n m : ℕ) → m ≡ capped n → (m ≡ 0 → ⊥) → 0 < n
-cap_over n m e none = grind arith
 
 -- ---- station values
 
@@ -142,29 +135,11 @@ so_far-all stay s fs more =
 lt_true : (k : ℕ) → (k ≡ 0 → ⊥) → nat_lt 0 k ≡ true
 lt_true k some = grind arith
 
-lt_false : (k : ℕ) → k ≡ 0 → nat_lt 0 k ≡ false
-lt_false k none = ap (λ n. nat_lt 0 n) none
-
 -- what an epoch with a satellite adds
 added_is : (t : HeaderLists) (p : PlanValue) (n : Option StationValues) (k : ℕ) (o : Option EpochValue) (e : EpochValue) (v : StationValues) → Some e ≡ o → k ≡ satellites_written e → (k ≡ 0 → ⊥)
     → added t p n o v ≡ opening t p n e v ++ epoch_text p e
 added_is t p n k o e v is count none =
     sym (ap (λ q. added t p n q v) is) ∙ ap (λ (b : Bool). if b then opening t p n e v ++ epoch_text p e else []) (sym (ap (λ m. nat_lt 0 m) count) ∙ lt_true k none)
-
--- an epoch without a satellite adds nothing
-added_not : (t : HeaderLists) (p : PlanValue) (n : Option StationValues) (k : ℕ) (o : Option EpochValue) (e : EpochValue) (v : StationValues) → Some e ≡ o → k ≡ satellites_written e → k ≡ 0 → added t p n o v ≡ []
-added_not t p n k o e v is count none =
-    sym (ap (λ q. added t p n q v) is) ∙ ap (λ (b : Bool). if b then opening t p n e v ++ epoch_text p e else []) (sym (ap (λ m. nat_lt 0 m) count) ∙ lt_false k none)
-
-whole_none : (a : Option (List ℕ)) (t : HeaderLists) (p : PlanValue) (n : Option StationValues) (k : ℕ) (o : Option EpochValue) (e : EpochValue) (v : StationValues) → Some e ≡ o → k ≡ satellites_written e → k ≡ 0
-    → Appends a a (added t p n o v)
-whole_none a t p n k o e v is count none = subst (λ (l : List ℕ). Appends a a l) (sym (added_not t p n k o e v is count none)) (Appends-nil a)
-
-whole_epoch : (a b c : Option (List ℕ)) (t : HeaderLists) (p q : PlanValue) (n : Option StationValues) (k : ℕ) (o : Option EpochValue) (e : EpochValue) (v : StationValues) → Some e ≡ o → k ≡ satellites_written e → (k ≡ 0 → ⊥) → q ≡ p
-    → Appends a b (opening t p n e v) → Appends b c (epoch_text q e) → Appends a c (added t p n o v)
-whole_epoch a b c t p q n k o e v is count none same first x =
-    let y : Appends b c (epoch_text p e) = subst (λ (r : PlanValue). Appends b c (epoch_text r e)) same x in
-    subst (λ (l : List ℕ). Appends a c l) (sym (added_is t p n k o e v is count none)) (Appends-trans a b c (opening t p n e v) (epoch_text p e) first y)
 
 -- the writer failed in the text before the epoch
 part_open : (a b : Option (List ℕ)) (t : HeaderLists) (p : PlanValue) (n : Option StationValues) (k : ℕ) (o : Option EpochValue) (e : EpochValue) (v : StationValues) → Some e ≡ o → k ≡ satellites_written e → (k ≡ 0 → ⊥)
@@ -187,14 +162,6 @@ lent e (Some x) v h = same h where
 
 -- the same for the epoch that the gatherer returns
 module _ (t : HeaderLists) (p : PlanValue) (n : Option StationValues) (k : ℕ) (o : Option EpochValue) (e : Closed) (v : StationValues) (is : e ∷ [] ≡ closed_by o v) (size : k ≡ satellites_written e.epoch) where
-  pub none_lent : (a : Option (List ℕ)) → k ≡ 0 → Appends a a (added t p n o v)
-  none_lent a none = whole_none a t p n k o e.epoch v (lent e o v is).0 size none
-
-  pub whole_lent : (a b c : Option (List ℕ)) (q : PlanValue) → (k ≡ 0 → ⊥) → q ≡ p → Appends a b (opening t p n e.epoch e.values) → Appends b c (epoch_text q e.epoch) → Appends a c (added t p n o v)
-  whole_lent a b c q some same first x =
-      let l = lent e o v is in
-      subst (λ (w : StationValues). Appends a c (added t p n o w)) l.1 (whole_epoch a b c t p q n k o e.epoch e.values l.0 size some same first x)
-
   pub open_lent : (a b : Option (List ℕ)) → (k ≡ 0 → ⊥) → AppendsPrefix a b (opening t p n e.epoch e.values) → AppendsPrefix a b (added t p n o v)
   open_lent a b some x =
       let l = lent e o v is in
@@ -204,23 +171,6 @@ module _ (t : HeaderLists) (p : PlanValue) (n : Option StationValues) (k : ℕ) 
   part_lent a b c q some same first x =
       let l = lent e o v is in
       subst (λ (w : StationValues). AppendsPrefix a c (added t p n o w)) l.1 (part_epoch a b c t p q n k o e.epoch e.values l.0 size some same first x)
-
-  -- the values written last, and the number of epochs
-  pub now_none : (m : ℕ) → k ≡ 0 → (m ≡ epochs_after m o) × (n ≡ values_after n o v)
-  now_none m none =
-      let l = lent e o v is in
-      let no : nat_lt 0 (satellites_written e.epoch) ≡ false = sym (ap (λ x. nat_lt 0 x) size) ∙ lt_false k none in (
-        sym (sym (ap (λ q. epochs_after m q) l.0) ∙ ap (λ (b : Bool). if b then capped (m + 1) else m) no),
-        sym (sym (ap (λ q. values_after n q v) l.0) ∙ ap (λ (b : Bool). if b then Some v else n) no),
-      )
-
-  pub now_lent : (m : ℕ) → (k ≡ 0 → ⊥) → (capped (m + 1) ≡ epochs_after m o) × (Some e.values ≡ values_after n o v)
-  now_lent m some =
-      let l = lent e o v is in
-      let yes : nat_lt 0 (satellites_written e.epoch) ≡ true = sym (ap (λ x. nat_lt 0 x) size) ∙ lt_true k some in (
-        sym (sym (ap (λ q. epochs_after m q) l.0) ∙ ap (λ (b : Bool). if b then capped (m + 1) else m) yes),
-        sym (sym (ap (λ q. values_after n q v) l.0) ∙ ap (λ (b : Bool). if b then Some v else n) yes ∙ ap Some (sym l.1)),
-      )
 
 -- no frames have an empty text
 pub so_far-none : ((s : GatherSetup) → closed_epochs s [] ≡ []) → (s : SetupValue) → so_far s [] ≡ []

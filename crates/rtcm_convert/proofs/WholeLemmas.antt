@@ -1,5 +1,5 @@
 -- Whole streams.
-use Rattle.std.proofs.Common.{◌≡◌, ℕ, ◌+◌, ◌<◌, ◌≤◌, ◌⊎◌, inl, inr, refl, List, [], ◌++◌, sym, ap, subst, ◌∙◌, arith, Option, Some, None, Result, Ok, Err, IfOk, length, take, IfErr, Bool, true, false, true≢false, ◌↔◌}
+use Rattle.std.proofs.Common.{◌≡◌, ℕ, ◌+◌, ◌<◌, ◌≤◌, ◌⊎◌, inl, inr, refl, List, [], ◌++◌, sym, ap, subst, ◌∙◌, arith, Option, Some, None, Result, Ok, Err, IfOk, length, take}
 use Rattle.std.specs.Prelude.{IfSome, Vec}
 use Rattle.std.specs.Io.KnownBytes.{Appends, Consumes}
 use Rattle.std.proofs.KnownBytes.{Appends-trans}
@@ -16,9 +16,6 @@ use Rattle.rtcm_convert.specs.Pieces.{StopsInPieces}
 use Rattle.rtcm_convert.specs.Broken.{IsBetween, IsAtRest, IsBroken, FailedWriting, FailedWritingAtEnd, BrokeInPieces, joined_pieces, of_first}
 use Rattle.rtcm_convert.specs.Conversion.{Conversion, HasConverted, WritesAdded, CutsAtLimit, IsPastLimit, Completed, CompletedEmpty, CompletesFile, CompletesEmptyFile, FailsAtPiece, FailsAtEnd, RanToLimit, FailsFeeding, FailsFinishing}
 use Rattle.rtcm_convert.specs.declared.report.Report.{Report}
-use Rattle.rtcm_convert.specs.Faults.{IsRunFault, IsPiecesFault, IsFinishFault}
-use Rattle.rtcm_convert.specs.declared.fault.Fault.{Fault}
-use Rattle.rtcm_convert.specs.declared.fault.Fault.TheVariants.{BadSetup, Failed, Finished, NoEpoch, Read, TooLong, Write}
 
 pub from_nothing : NothingYet → (a b : Option (List ℕ)) (s : SetupValue) (y : List ℕ) → AppendsBetween a b (so_far s (decided_frames [])) y → Appends a b y
 from_nothing nothing a b s y g =
@@ -119,88 +116,6 @@ pieces_failed v s a b pieces nothing y (inr p) = let f = p s [] y in inr (betwee
 
 -- ---- faults that a call of a new converter doesn't return
 
-abbrev pub is_running : Fault → Bool
-is_running Read = true
-is_running TooLong = true
-is_running NoEpoch = true
-is_running Write = true
-is_running _ = false
-
-running : (fault : Fault) → IsRunFault fault → is_running fault ≡ true
-running fault (inl e) = ap is_running e
-running fault (inr (inl e)) = ap is_running e
-running fault (inr (inr (inl e))) = ap is_running e
-running fault (inr (inr (inr e))) = ap is_running e
-
-abbrev fault_of : Result Report Fault → Bool
-fault_of (Ok report) = true
-fault_of (Err fault) = is_running fault
-
-pub not_running : (r : Result Report Fault) (fault : Fault) → IfErr r IsRunFault → is_running fault ≡ false → r ≡ Err fault → ⊥
-not_running (Ok report) fault only hard e = true≢false (ap fault_of e ∙ hard)
-not_running (Err other) fault only hard e = true≢false (sym (running other only) ∙ ap fault_of e ∙ hard)
-
-pub never : (r : Result Report Fault) → IfErr r IsRunFault → (r ≡ Err Failed → ⊥) × (r ≡ Err Finished → ⊥)
-never r only = (not_running r Failed only refl, not_running r Finished only refl)
-
-abbrev is_made : Result Conversion Fault → Bool
-is_made (Ok x) = true
-is_made (Err e) = false
-
-made_or_not : (made : Result Conversion Fault) (converter : Conversion) (fault : Fault) → made ≡ Ok converter → made ≡ Err fault → ⊥
-made_or_not made converter fault a b = true≢false (sym (ap is_made a) ∙ ap is_made b)
-
--- a converter that was made has a valid setup
-pub not_bad : (made : Result Conversion Fault) (converter : Conversion) (bad : Type 0) (r : Result Report Fault) → made ≡ Ok converter → made ≡ Err BadSetup ↔ bad → IfErr r IsRunFault
-    → r ≡ Err BadSetup ↔ bad
-not_bad made converter bad r is iff only = (λ e. absurd (not_running r BadSetup only refl e), λ b. absurd (made_or_not made converter BadSetup is (iff.1 b)))
-
 -- ---- faults that the end of a stream doesn't return
 
-abbrev pub is_ending : Fault → Bool
-is_ending NoEpoch = true
-is_ending Write = true
-is_ending _ = false
-
-ending : (fault : Fault) → IsFinishFault fault → is_ending fault ≡ true
-ending fault (inl e) = ap is_ending e
-ending fault (inr e) = ap is_ending e
-
-abbrev end_of : Result Report Fault → Bool
-end_of (Ok report) = true
-end_of (Err fault) = is_ending fault
-
-pub not_ending : (r : Result Report Fault) (fault : Fault) → IfErr r IsFinishFault → is_ending fault ≡ false → r ≡ Err fault → ⊥
-not_ending (Ok report) fault only hard e = true≢false (ap end_of e ∙ hard)
-not_ending (Err other) fault only hard e = true≢false (sym (ending other only) ∙ ap end_of e ∙ hard)
-
-pub not_long : (r : Result Report Fault) (P : Type 0) → IfErr r IsFinishFault → r ≡ Err TooLong → P
-not_long r P only e = absurd (not_ending r TooLong only refl e)
-
 -- ---- faults that pieces up to the end don't return
-
-abbrev pub is_in_pieces : Fault → Bool
-is_in_pieces TooLong = true
-is_in_pieces NoEpoch = true
-is_in_pieces Write = true
-is_in_pieces _ = false
-
-in_pieces : (fault : Fault) → IsPiecesFault fault → is_in_pieces fault ≡ true
-in_pieces fault (inl e) = ap is_in_pieces e
-in_pieces fault (inr (inl e)) = ap is_in_pieces e
-in_pieces fault (inr (inr e)) = ap is_in_pieces e
-
-abbrev pieces_of : Result Report Fault → Bool
-pieces_of (Ok report) = true
-pieces_of (Err fault) = is_in_pieces fault
-
-not_in_pieces : (r : Result Report Fault) (fault : Fault) → IfErr r IsPiecesFault → is_in_pieces fault ≡ false → r ≡ Err fault → ⊥
-not_in_pieces (Ok report) fault only hard e = true≢false (ap pieces_of e ∙ hard)
-not_in_pieces (Err other) fault only hard e = true≢false (sym (in_pieces other only) ∙ ap pieces_of e ∙ hard)
-
-pub never_in_pieces : (r : Result Report Fault) → IfErr r IsPiecesFault → (r ≡ Err Failed → ⊥) × (r ≡ Err Finished → ⊥) × (r ≡ Err Read → ⊥)
-never_in_pieces r only = (not_in_pieces r Failed only refl, not_in_pieces r Finished only refl, not_in_pieces r Read only refl)
-
-pub not_bad_in_pieces : (made : Result Conversion Fault) (converter : Conversion) (bad : Type 0) (r : Result Report Fault) → made ≡ Ok converter → made ≡ Err BadSetup ↔ bad → IfErr r IsPiecesFault
-    → r ≡ Err BadSetup ↔ bad
-not_bad_in_pieces made converter bad r is iff only = (λ e. absurd (not_in_pieces r BadSetup only refl e), λ b. absurd (made_or_not made converter BadSetup is (iff.1 b)))

@@ -25,8 +25,10 @@ abbrev pub WroteSoFar : Option (List ℕ) → Option (List ℕ) → Option (List
 WroteSoFar r r' a b s = (front : List ℕ) × Consumes r r' front × Appends a b (so_far s (decided_frames front))
 
 -- they are that of the bytes read up to a limit
-abbrev pub WroteToLimit : Option (List ℕ) → Option (List ℕ) → Option (List ℕ) → Option (List ℕ) → SetupValue → ℕ → Type 0
-WroteToLimit r r' a b s limit = (front : List ℕ) × Consumes r r' front × Appends a b (so_far s (decided_frames (take limit front)))
+abbrev pub WroteToLimit : Option (List ℕ) → Option (List ℕ) → Option (List ℕ) → Option (List ℕ) → SetupValue → ℕ
+    → Type 0
+WroteToLimit r r' a b s limit =
+    (front : List ℕ) × Consumes r r' front × Appends a b (so_far s (decided_frames (take limit front)))
 
 -- The bytes written are at least what the bytes accepted before make, and at most what these make with a last piece;
 -- that piece fits beside the undecided bytes.
@@ -36,10 +38,12 @@ pub record IsBroken (a b : Option (List ℕ)) (s : SetupValue) (front piece : Li
 
 -- the bytes read split into those accepted and a last piece at which the writer failed
 abbrev pub FailedWriting : Option (List ℕ) → Option (List ℕ) → Option (List ℕ) → Option (List ℕ) → SetupValue → Type 0
-FailedWriting r r' a b s = (front : List ℕ) × (piece : List ℕ) × Consumes r r' (front ++ piece) × IsBroken a b s front piece
+FailedWriting r r' a b s =
+    (front : List ℕ) × (piece : List ℕ) × Consumes r r' (front ++ piece) × IsBroken a b s front piece
 
 -- all was read; the bytes written are at least what the decided frames make, and at most the whole file
-abbrev pub FailedWritingAtEnd : Option (List ℕ) → Option (List ℕ) → Option (List ℕ) → Option (List ℕ) → SetupValue → Type 0
+abbrev pub FailedWritingAtEnd : Option (List ℕ) → Option (List ℕ) → Option (List ℕ) → Option (List ℕ) → SetupValue
+    → Type 0
 FailedWritingAtEnd r r' a b s = (front : List ℕ) × Consumes r r' front × IsAtEnd r' × IsAtRest a b s front
 
 -- the writer failed at one of the pieces read, or when all was read
@@ -63,7 +67,8 @@ WrotePieces a b s limit pieces = Appends a b (so_far s (decided_frames (take lim
 -- the writer failed at one of the pieces: the bytes written are at least what the pieces before it make, and at most
 -- what these make with it
 abbrev pub BrokeAtPiece : {Z : Type 0} → Option (List ℕ) → Option (List ℕ) → SetupValue → List (Vec ℕ Z) → Type 0
-BrokeAtPiece a b s pieces = (k : ℕ) × (k < length pieces) × IsBetween a b (of_first s k pieces) (of_first s (k + 1) pieces)
+BrokeAtPiece a b s pieces =
+    (k : ℕ) × (k < length pieces) × IsBetween a b (of_first s k pieces) (of_first s (k + 1) pieces)
 
 -- the writer failed at one of the pieces or, after all were accepted, in the rest of the file
 abbrev pub BrokeInPieces : {Z : Type 0} → Option (List ℕ) → Option (List ℕ) → SetupValue → List (Vec ℕ Z) → Type 0

@@ -16,7 +16,8 @@ use Rattle.rtcm_convert.specs.declared.kept.Kept.{Kept}
 use Rattle.rtcm_convert.specs.Filed.{HasGathered}
 use Rattle.rtcm_convert.specs.Outcomes.{report_of}
 use Rattle.rtcm_scan.specs.Examined.{HasExaminedSome, IsCountedExactly}
-use Rattle.rtcm_convert.specs.Stream.{Drained, HasDrainedSome, AppendsDecided, AppendsPrefixOfDecided, AppendsRest, AppendsPrefixOfRest}
+use Rattle.rtcm_convert.specs.Stream.{Drained, HasDrainedSome, AppendsDecided, AppendsPrefixOfDecided, AppendsRest}
+use Rattle.rtcm_convert.specs.Stream.{AppendsPrefixOfRest}
 use Rattle.rtcm_convert.specs.declared.file_writer.FileWriter.{FileWriter}
 use Rattle.rtcm_convert.specs.declared.report.Report.{Report}
 use Rattle.rtcm_convert.specs.declared.fault.Fault.{Fault}
@@ -82,7 +83,8 @@ pub record KeepsNow (v : Conversion) : Type 0 where
 
 -- it accepted n more bytes, within the same limit, and neither failed nor ended
 abbrev pub GoesOnBy : Conversion → Conversion → ℕ → Type 0
-GoesOnBy v w n = IsGoing w × (w.scan.limit ≡ v.scan.limit) × (w.scan.taken ≡ v.scan.taken + n) × (0 < n → w.scan.taken ≤ w.scan.limit)
+GoesOnBy v w n = IsGoing w × (w.scan.limit ≡ v.scan.limit) × (w.scan.taken ≡ v.scan.taken + n)
+    × (0 < n → w.scan.taken ≤ w.scan.limit)
 
 -- The converter accepted the bytes up to `all`: what they add was written, and what it holds and has examined are the
 -- values for all of them, within the bounds.
@@ -94,11 +96,13 @@ pub record Continued (w : Conversion) (a b : Option (List ℕ)) (s : SetupValue)
 
 -- it accepted these further bytes
 abbrev pub TakesPiece : Conversion → Conversion → Option (List ℕ) → Option (List ℕ) → List ℕ → Type 0
-TakesPiece v w a b piece = (s : SetupValue) (bytes : List ℕ) → HasConverted v s bytes → Continued w a b s bytes (bytes ++ piece)
+TakesPiece v w a b piece =
+    (s : SetupValue) (bytes : List ℕ) → HasConverted v s bytes → Continued w a b s bytes (bytes ++ piece)
 
 -- it accepted these bytes up to its limit, and what they add was written
 abbrev pub TakesToLimit : Conversion → Option (List ℕ) → Option (List ℕ) → List ℕ → Type 0
-TakesToLimit v a b piece = (s : SetupValue) (bytes : List ℕ) → HasConverted v s bytes → AppendsDecided a b s bytes (take v.scan.limit (bytes ++ piece))
+TakesToLimit v a b piece = (s : SetupValue) (bytes : List ℕ) → HasConverted v s bytes
+    → AppendsDecided a b s bytes (take v.scan.limit (bytes ++ piece))
 
 -- these bytes go over the limit; they were accepted up to it, and what they add was written
 pub record CutsAtLimit (v w : Conversion) (a b : Option (List ℕ)) (piece : List ℕ) : Type 0 where
@@ -108,7 +112,8 @@ pub record CutsAtLimit (v w : Conversion) (a b : Option (List ℕ)) (piece : Lis
 
 -- a prefix of what these bytes add was written
 abbrev pub WritesPrefixOfAdded : Conversion → Option (List ℕ) → Option (List ℕ) → List ℕ → Type 0
-WritesPrefixOfAdded v a b piece = (s : SetupValue) (bytes : List ℕ) → HasConverted v s bytes → AppendsPrefixOfDecided a b s bytes (bytes ++ piece)
+WritesPrefixOfAdded v a b piece =
+    (s : SetupValue) (bytes : List ℕ) → HasConverted v s bytes → AppendsPrefixOfDecided a b s bytes (bytes ++ piece)
 
 -- the stream ends here, and a prefix of the rest of its file was written
 abbrev pub StopsAtEnd : Conversion → Option (List ℕ) → Option (List ℕ) → Type 0
@@ -119,24 +124,26 @@ abbrev pub IsPastLimit : Conversion → List ℕ → Type 0
 IsPastLimit v rest = (s : SetupValue) (bytes : List ℕ) → HasConverted v s bytes → v.scan.limit < length (bytes ++ rest)
 
 -- some further bytes were read and accepted, and what they add was written
-abbrev pub TakesFromReader : Conversion → Conversion → Option (List ℕ) → Option (List ℕ) → Option (List ℕ) → Option (List ℕ) → Type 0
-TakesFromReader v w r r' a b = (front : List ℕ) × Consumes r r' front × (w.scan.taken ≡ v.scan.taken + length front) × TakesPiece v w a b front
+abbrev pub TakesFromReader : Conversion → Conversion → Option (List ℕ) → Option (List ℕ) → Option (List ℕ)
+    → Option (List ℕ) → Type 0
+TakesFromReader v w r r' a b =
+    (front : List ℕ) × Consumes r r' front × (w.scan.taken ≡ v.scan.taken + length front) × TakesPiece v w a b front
 
 -- what these bytes add was written
 abbrev pub WritesAdded : Conversion → Option (List ℕ) → Option (List ℕ) → List ℕ → Type 0
-WritesAdded v a b front = (s : SetupValue) (bytes : List ℕ) → HasConverted v s bytes → AppendsDecided a b s bytes (bytes ++ front)
+WritesAdded v a b front =
+    (s : SetupValue) (bytes : List ℕ) → HasConverted v s bytes → AppendsDecided a b s bytes (bytes ++ front)
 
 -- some further bytes were read and accepted, and what they add was written; then the reader failed
-abbrev pub RanToFault : Conversion → Conversion → Option (List ℕ) → Option (List ℕ) → Option (List ℕ) → Option (List ℕ) → Type 0
-RanToFault v w r r' a b = (front : List ℕ) × Consumes r r' front × (w.scan.taken ≡ v.scan.taken + length front) × WritesAdded v a b front
+abbrev pub RanToFault : Conversion → Conversion → Option (List ℕ) → Option (List ℕ) → Option (List ℕ) → Option (List ℕ)
+    → Type 0
+RanToFault v w r r' a b =
+    (front : List ℕ) × Consumes r r' front × (w.scan.taken ≡ v.scan.taken + length front) × WritesAdded v a b front
 
--- a piece of n bytes, 0 only at the end, was read and accepted, and what it adds was written
-abbrev pub PullsPiece : Conversion → Conversion → ℕ → Option (List ℕ) → Option (List ℕ) → Option (List ℕ) → Option (List ℕ) → Type 0
-PullsPiece v w n r r' a b = TakesFromReader v w r r' a b × (n ≡ 0 → IsAtEnd r') × GoesOnBy v w n
-
--- a piece that goes over the limit was read, and accepted up to the limit
-abbrev pub ReadOverLimit : Conversion → Conversion → Option (List ℕ) → Option (List ℕ) → Option (List ℕ) → Option (List ℕ) → Type 0
-ReadOverLimit v w r r' a b = (piece : List ℕ) × Consumes r r' piece × CutsAtLimit v w a b piece
+-- all further bytes were read and accepted, and what they add was written; the stream may go on
+abbrev pub TakesRest : Conversion → Conversion → Option (List ℕ) → Option (List ℕ) → Option (List ℕ) → Option (List ℕ)
+    → Type 0
+TakesRest v w r r' a b = TakesFromReader v w r r' a b × IsAtEnd r' × IsGoing w
 
 -- the stream is longer than the limit; some further bytes were read, and accepted up to it; what these add was written
 pub record RanToLimit (v w : Conversion) (r r' a b : Option (List ℕ)) : Type 0 where
@@ -165,30 +172,30 @@ pub record IsTakenFrom (v w : Conversion) (n m : ℕ) : Type 0 where
   pub least : v.scan.taken + n ≤ w.scan.taken
   pub most : w.scan.taken ≤ v.scan.taken + m
 
--- the writer failed at a piece that was read; the piece fits beside the bytes held
-abbrev pub StopsAtPiece : Conversion → Conversion → Option (List ℕ) → Option (List ℕ) → Option (List ℕ) → Option (List ℕ) → Type 0
-StopsAtPiece v w r r' a b = (piece : List ℕ) × Consumes r r' piece × (length v.scan.held + length piece ≤ longest_frame)
-    × IsTakenFrom v w 0 (length piece) × WritesPrefixOfAdded v a b piece × (v.scan.has_ended ≡ false)
-
 -- the bytes read split into those accepted and a last piece at which the writer failed
-abbrev pub FailsFeeding : Conversion → Conversion → Option (List ℕ) → Option (List ℕ) → Option (List ℕ) → Option (List ℕ) → Type 0
+abbrev pub FailsFeeding : Conversion → Conversion → Option (List ℕ) → Option (List ℕ) → Option (List ℕ)
+    → Option (List ℕ) → Type 0
 FailsFeeding v w r r' a b = (front : List ℕ) × (piece : List ℕ) × Consumes r r' (front ++ piece)
     × IsTakenFrom v w (length front) (length front + length piece)
     × ((s : SetupValue) (bytes : List ℕ) → HasConverted v s bytes → FailsAtPiece a b s bytes piece (bytes ++ front))
 
 -- all was read, and the writer failed in the rest of the file
-abbrev pub FailsFinishing : Conversion → Conversion → Option (List ℕ) → Option (List ℕ) → Option (List ℕ) → Option (List ℕ) → Type 0
-FailsFinishing v w r r' a b = (front : List ℕ) × Consumes r r' front × IsAtEnd r' × (w.scan.taken ≡ v.scan.taken + length front)
+abbrev pub FailsFinishing : Conversion → Conversion → Option (List ℕ) → Option (List ℕ) → Option (List ℕ)
+    → Option (List ℕ) → Type 0
+FailsFinishing v w r r' a b =
+    (front : List ℕ) × Consumes r r' front × IsAtEnd r' × (w.scan.taken ≡ v.scan.taken + length front)
     × ((s : SetupValue) (bytes : List ℕ) → HasConverted v s bytes → FailsAtEnd a b s bytes (bytes ++ front))
 
 -- the writer failed at one of the pieces, or when all was read
-abbrev pub StopsRunning : Conversion → Conversion → Option (List ℕ) → Option (List ℕ) → Option (List ℕ) → Option (List ℕ) → Type 0
+abbrev pub StopsRunning : Conversion → Conversion → Option (List ℕ) → Option (List ℕ) → Option (List ℕ)
+    → Option (List ℕ) → Type 0
 StopsRunning v w r r' a b = FailsFeeding v w r r' a b ⊎ FailsFinishing v w r r' a b
 
 -- The rest of the file of all these bytes, which has an epoch, was written; `report` is its report; all bytes were
 -- decided and examined; and what the converter holds and has examined are the values for these bytes, within the
 -- bounds.
-pub record Completed (w : Conversion) (a b : Option (List ℕ)) (s : SetupValue) (bytes all : List ℕ) (report : Report) : Type 0 where
+pub record Completed (w : Conversion) (a b : Option (List ℕ)) (s : SetupValue) (bytes all : List ℕ)
+    (report : Report) : Type 0 where
   pub out : AppendsRest a b s bytes all
   pub some : 0 < epochs_in s (frames_of all)
   pub report_is : report ≡ report_of s all
@@ -206,26 +213,32 @@ pub record CompletedEmpty (w : Conversion) (a b : Option (List ℕ)) (s : SetupV
 
 -- the stream ends here, and the file was completed
 abbrev pub FinishesNow : Conversion → Conversion → Option (List ℕ) → Option (List ℕ) → Report → Type 0
-FinishesNow v w a b report = (s : SetupValue) (bytes : List ℕ) → HasConverted v s bytes → Completed w a b s bytes bytes report
+FinishesNow v w a b report =
+    (s : SetupValue) (bytes : List ℕ) → HasConverted v s bytes → Completed w a b s bytes bytes report
 
 -- the stream ends here, and the file was completed and is empty
 abbrev pub FinishesEmptyNow : Conversion → Conversion → Option (List ℕ) → Option (List ℕ) → Type 0
-FinishesEmptyNow v w a b = (s : SetupValue) (bytes : List ℕ) → HasConverted v s bytes → CompletedEmpty w a b s bytes bytes
+FinishesEmptyNow v w a b =
+    (s : SetupValue) (bytes : List ℕ) → HasConverted v s bytes → CompletedEmpty w a b s bytes bytes
 
 -- with these further bytes, the file was completed
 abbrev pub CompletesFile : Conversion → Conversion → Option (List ℕ) → Option (List ℕ) → Report → List ℕ → Type 0
-CompletesFile v w a b report rest = (s : SetupValue) (bytes : List ℕ) → HasConverted v s bytes → Completed w a b s bytes (bytes ++ rest) report
+CompletesFile v w a b report rest =
+    (s : SetupValue) (bytes : List ℕ) → HasConverted v s bytes → Completed w a b s bytes (bytes ++ rest) report
 
 -- with these further bytes, the file was completed and is empty
 abbrev pub CompletesEmptyFile : Conversion → Conversion → Option (List ℕ) → Option (List ℕ) → List ℕ → Type 0
-CompletesEmptyFile v w a b rest = (s : SetupValue) (bytes : List ℕ) → HasConverted v s bytes → CompletedEmpty w a b s bytes (bytes ++ rest)
+CompletesEmptyFile v w a b rest =
+    (s : SetupValue) (bytes : List ℕ) → HasConverted v s bytes → CompletedEmpty w a b s bytes (bytes ++ rest)
 
 -- with the rest of the stream, the file was completed
-abbrev pub CompletesFileOfAll : Conversion → Conversion → Report → Option (List ℕ) → Option (List ℕ) → Option (List ℕ) → Option (List ℕ) → Type 0
+abbrev pub CompletesFileOfAll : Conversion → Conversion → Report → Option (List ℕ) → Option (List ℕ) → Option (List ℕ)
+    → Option (List ℕ) → Type 0
 CompletesFileOfAll v w report r r' a b = IfSome r (CompletesFile v w a b report)
 
 -- with the rest of the stream, the file was completed and is empty
-abbrev pub CompletesEmptyFileOfAll : Conversion → Conversion → Option (List ℕ) → Option (List ℕ) → Option (List ℕ) → Option (List ℕ) → Type 0
+abbrev pub CompletesEmptyFileOfAll : Conversion → Conversion → Option (List ℕ) → Option (List ℕ) → Option (List ℕ)
+    → Option (List ℕ) → Type 0
 CompletesEmptyFileOfAll v w r r' a b = IfSome r (CompletesEmptyFile v w a b)
 
 -- the state of a converter after a fault of a call, if it had neither failed nor ended before: finished after
@@ -237,4 +250,5 @@ LeftBy _ v = (v.has_failed ≡ true) × (v.has_ended ≡ false)
 -- the state of a converter after a call: the limit is unchanged; if it had neither failed nor ended before, a fault is
 -- one of these, and the state is that after this fault
 abbrev pub IsLeft : {A : Type 0} → (Fault → Type 0) → Conversion → Conversion → Result A Fault → Type 0
-IsLeft kinds v w result = (w.scan.limit ≡ v.scan.limit) × (IsGoing v → IfErr result (λ fault. kinds fault × LeftBy fault w))
+IsLeft kinds v w result =
+    (w.scan.limit ≡ v.scan.limit) × (IsGoing v → IfErr result (λ fault. kinds fault × LeftBy fault w))

@@ -35,7 +35,8 @@ ReaderFailures _ before after = after ≡ before
 -- read from it
 abbrev pub FailsWithWriter : {T A : Type 0} → Result A Fault → Device T → Device T → Type 0
 FailsWithWriter result old new =
-    IfErr result (λ fault. WriterFailures fault old.failures new.failures) × OnOk result (new.failures ≡ old.failures) × (new.widest ≡ old.widest)
+    IfErr result (λ fault. WriterFailures fault old.failures new.failures) × OnOk result (new.failures ≡ old.failures)
+    × (new.widest ≡ old.widest)
 
 -- `Read` is returned exactly if one failure of the reader was counted, any other result only if none was; no read asked
 -- for more than 1,029 bytes
@@ -56,12 +57,13 @@ IsUntouched r r' w w' = (r' ≡ r) × (w' ≡ w)
 abbrev pub IsSetupFault : Fault → Type 0
 IsSetupFault fault = (fault ≡ BadSetup) ⊎ (fault ≡ Memory)
 
--- the faults of `feed`, of a piece that is read, of `finish`, of `take_pieces`, and of `run`, if no call failed before
+-- the faults of `feed`, of reading the rest of a stream, of `finish`, of `take_pieces`, and of `run`, if no call failed
+-- before
 abbrev pub IsFeedFault : Fault → Type 0
 IsFeedFault fault = (fault ≡ TooLong) ⊎ (fault ≡ Write)
 
-abbrev pub IsPullFault : Fault → Type 0
-IsPullFault fault = (fault ≡ Read) ⊎ IsFeedFault fault
+abbrev pub IsReadFault : Fault → Type 0
+IsReadFault fault = (fault ≡ Read) ⊎ IsFeedFault fault
 
 abbrev pub IsFinishFault : Fault → Type 0
 IsFinishFault fault = (fault ≡ NoEpoch) ⊎ (fault ≡ Write)

@@ -20,7 +20,8 @@ opening texts plan (Some before) e values = change_text before values
 -- what a closed epoch adds to a file
 abbrev pub added : HeaderLists → PlanValue → Option StationValues → Option EpochValue → StationValues → List ℕ
 added texts plan before None values = []
-added texts plan before (Some e) values = (if nat_lt 0 (satellites_written e) then opening texts plan before e values ++ epoch_text plan e else [])
+added texts plan before (Some e) values =
+    (if nat_lt 0 (satellites_written e) then opening texts plan before e values ++ epoch_text plan e else [])
 
 -- the station values that are then written last
 abbrev pub values_after : Option StationValues → Option EpochValue → StationValues → Option StationValues
@@ -43,7 +44,8 @@ added_by v = added v.texts (plan_in v.gatherer) v.values (closed_in v.gatherer) 
 -- the file writer has counted the epoch that its gatherer closed last, and stores the station values that were written
 -- last
 abbrev pub StandsAfterClosed : FileWriter → FileWriter → Type 0
-StandsAfterClosed v w = (w.epochs ≡ epochs_after v.epochs (closed_in v.gatherer)) × (w.values ≡ values_after v.values (closed_in v.gatherer) v.gatherer.values)
+StandsAfterClosed v w = (w.epochs ≡ epochs_after v.epochs (closed_in v.gatherer))
+    × (w.values ≡ values_after v.values (closed_in v.gatherer) v.gatherer.values)
 
 -- the station values written last after these epochs, if the given ones were written before them
 abbrev pub values_following_closed : StationValues → List Closed → StationValues
@@ -56,7 +58,8 @@ last_values [] = None
 last_values (c ∷ cs) = Some (values_following_closed c.values cs)
 
 -- the file writer processed these messages and wrote these epochs; if `again` is a message, it must be passed again
-pub record HasFiledEpochs (v : FileWriter) (s : SetupValue) (ms : List Heard) (es : List Closed) (again : Option Heard) : Type 0 where
+pub record HasFiledEpochs (v : FileWriter) (s : SetupValue) (ms : List Heard) (es : List Closed)
+    (again : Option Heard) : Type 0 where
   pub texts : v.texts ≡ s.texts
   pub gatherer : HasGatheredEpochs v.gatherer s.gather ms es again
   pub epochs : v.epochs ≡ capped (length (written_epochs es))

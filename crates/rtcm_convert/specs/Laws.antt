@@ -12,11 +12,13 @@ use Rattle.rtcm_convert.specs.declared.report.Report.{Report}
 
 -- what is written of some bytes is a prefix of the file, for every rest of the stream
 abbrev pub WrittenStays : Type 0
-WrittenStays = (s : SetupValue) (b more : List ℕ) → IsPrefix (so_far s (decided_frames b)) (file s (frames_of (b ++ more)))
+WrittenStays =
+    (s : SetupValue) (b more : List ℕ) → IsPrefix (so_far s (decided_frames b)) (file s (frames_of (b ++ more)))
 
 -- and a prefix of what is written of more bytes
 abbrev pub WrittenGrows : Type 0
-WrittenGrows = (s : SetupValue) (b more : List ℕ) → IsPrefix (so_far s (decided_frames b)) (so_far s (decided_frames (b ++ more)))
+WrittenGrows =
+    (s : SetupValue) (b more : List ℕ) → IsPrefix (so_far s (decided_frames b)) (so_far s (decided_frames (b ++ more)))
 
 -- the same over frames
 abbrev pub FiledStays : Type 0

@@ -1,5 +1,6 @@
 -- The outcome of each frame, and the counts of the outcomes.
-use Rattle.std.specs.Prelude.{ℕ, ◌≤◌, ◌+◌, ◌-◌, ◌^◌, min, List, [], ◌∷◌, ◌++◌, length, sum_by, Option, Some, None, option_map}
+use Rattle.std.specs.Prelude.{ℕ, ◌≤◌, ◌+◌, ◌-◌, ◌^◌, min, List, [], ◌∷◌, ◌++◌, length, sum_by, Option, Some, None}
+use Rattle.std.specs.Prelude.{option_map}
 use Rattle.rtcm_scan.specs.Frames.{Framed, frames_of}
 use Rattle.rtcm_scan.specs.Decided.{skipped_before}
 use Rattle.obs_epoch.specs.declared.taken.Kind.{Kind}
@@ -22,7 +23,20 @@ abbrev pub outcomes : SetupValue → List Framed → List (Option Kind)
 outcomes s fs = outcomes_after s [] fs
 
 abbrev pub no_tally : Tally
-no_tally = record { frames = 0; faulty = 0; station = 0; other = 0; ignored = 0; late = 0; past = 0; taken = 0; skipped = 0; repeated = 0; crowded = 0 }
+no_tally =
+    record {
+      frames = 0;
+      faulty = 0;
+      station = 0;
+      other = 0;
+      ignored = 0;
+      late = 0;
+      past = 0;
+      taken = 0;
+      skipped = 0;
+      repeated = 0;
+      crowded = 0;
+    }
 
 -- a frame whose message was read
 abbrev one_frame : Tally
@@ -34,7 +48,8 @@ tally_by kind.OtherStation = record one_frame { other = 1 }
 tally_by kind.Ignored = record one_frame { ignored = 1 }
 tally_by kind.Late = record one_frame { late = 1 }
 tally_by kind.PastWeeks = record one_frame { past = 1 }
-tally_by (kind.Kept kept skipped repeated crowded) = record one_frame { taken = 1; skipped = skipped; repeated = repeated; crowded = crowded }
+tally_by (kind.Kept kept skipped repeated crowded) =
+    record one_frame { taken = 1; skipped = skipped; repeated = repeated; crowded = crowded }
 tally_by kind.CloseFirst = one_frame
 
 -- what one frame adds to each count
@@ -137,4 +152,6 @@ report_with bytes skipped_bytes t epochs = record {
 
 -- the report of a stream
 abbrev pub report_of : SetupValue → List ℕ → Report
-report_of s b = report_with (length b) (skipped_before (length b) (frames_of b)) (tally_of (outcomes s (frames_of b))) (epochs_in s (frames_of b))
+report_of s b =
+    report_with (length b) (skipped_before (length b) (frames_of b)) (tally_of (outcomes s (frames_of b)))
+    (epochs_in s (frames_of b))

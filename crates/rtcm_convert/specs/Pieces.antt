@@ -14,11 +14,14 @@ pub record FailsBetween (a b : Option (List ℕ)) (s : SetupValue) (bytes all mo
 -- the writer failed at one of the pieces
 abbrev pub StopsAtOne : {Z : Type 0} → Conversion → Option (List ℕ) → Option (List ℕ) → List (Vec ℕ Z) → Type 0
 StopsAtOne v a b pieces = (k : ℕ) × (k < length pieces)
-    × ((s : SetupValue) (bytes : List ℕ) → HasConverted v s bytes → FailsBetween a b s bytes (bytes ++ joined_pieces (take k pieces)) (bytes ++ joined_pieces (take (k + 1) pieces)))
+    × ((s : SetupValue) (bytes : List ℕ) → HasConverted v s bytes
+    → FailsBetween a b s bytes (bytes ++ joined_pieces (take k pieces))
+    (bytes ++ joined_pieces (take (k + 1) pieces)))
 
 -- it failed at the end, in the rest of the file
 abbrev pub StopsAfterAll : {Z : Type 0} → Conversion → Option (List ℕ) → Option (List ℕ) → List (Vec ℕ Z) → Type 0
-StopsAfterAll v a b pieces = (s : SetupValue) (bytes : List ℕ) → HasConverted v s bytes → FailsAtEnd a b s bytes (bytes ++ joined_pieces pieces)
+StopsAfterAll v a b pieces =
+    (s : SetupValue) (bytes : List ℕ) → HasConverted v s bytes → FailsAtEnd a b s bytes (bytes ++ joined_pieces pieces)
 
 -- it failed at one of the pieces, or at the end
 abbrev pub StopsInPieces : {Z : Type 0} → Conversion → Option (List ℕ) → Option (List ℕ) → List (Vec ℕ Z) → Type 0

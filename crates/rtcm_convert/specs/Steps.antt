@@ -29,21 +29,26 @@ WritesFirst v w m a b = (s : SetupValue) (ms : List Heard) (es : List Closed) �
 
 -- the message was processed, and the epoch that it closed was written
 abbrev pub TakesMessage : FileWriter → FileWriter → Heard → Option (List ℕ) → Option (List ℕ) → Type 0
-TakesMessage v w m a b = (s : SetupValue) (ms : List Heard) (es : List Closed) (again : Option Heard) → IsAwaited again m → HasFiledEpochs v s ms es again
-    → (all : List Closed) × HasFiledEpochs w s (ms ++ m ∷ []) all None × AppendsBetween a b (text_with s es) (text_with s all)
+TakesMessage v w m a b = (s : SetupValue) (ms : List Heard) (es : List Closed) (again : Option Heard)
+    → IsAwaited again m → HasFiledEpochs v s ms es again
+    → (all : List Closed) × HasFiledEpochs w s (ms ++ m ∷ []) all None
+    × AppendsBetween a b (text_with s es) (text_with s all)
 
 -- a message that is passed again is processed
 abbrev pub IsTakenAgain : FileWriter → Heard → Kind → Type 0
-IsTakenAgain v m kind = (s : SetupValue) (ms : List Heard) (es : List Closed) → HasFiledEpochs v s ms es (Some m) → IsFinalKind kind
+IsTakenAgain v m kind =
+    (s : SetupValue) (ms : List Heard) (es : List Closed) → HasFiledEpochs v s ms es (Some m) → IsFinalKind kind
 
 -- the outcome of the message
 abbrev pub IsKindOf : FileWriter → Heard → Kind → Type 0
-IsKindOf v m kind = (s : SetupValue) (ms : List Heard) (es : List Closed) (again : Option Heard) → IsAwaited again m → HasFiledEpochs v s ms es again
+IsKindOf v m kind = (s : SetupValue) (ms : List Heard) (es : List Closed) (again : Option Heard) → IsAwaited again m
+    → HasFiledEpochs v s ms es again
     → kind ≡ kind_of s.gather ms m
 
 -- a prefix of what it closes was written
 abbrev pub BreaksInMessage : FileWriter → Heard → Option (List ℕ) → Option (List ℕ) → Type 0
-BreaksInMessage v m a b = (s : SetupValue) (ms : List Heard) (es : List Closed) (again : Option Heard) → IsAwaited again m → HasFiledEpochs v s ms es again
+BreaksInMessage v m a b = (s : SetupValue) (ms : List Heard) (es : List Closed) (again : Option Heard)
+    → IsAwaited again m → HasFiledEpochs v s ms es again
     → AppendsPrefixBetween a b (text_with s es) (text_with s (closed_epochs s.gather (ms ++ m ∷ [])))
 
 -- ---- the next message
@@ -60,25 +65,30 @@ IsKindOfNext v m kind = (s : SetupValue) (ms : List Heard) → Settled v s ms �
 -- a prefix of what it closes was written
 abbrev pub BreaksInNext : FileWriter → Heard → Option (List ℕ) → Option (List ℕ) → Type 0
 BreaksInNext v m a b = (s : SetupValue) (ms : List Heard) → Settled v s ms
-    → AppendsPrefixBetween a b (text_with s (closed_epochs s.gather ms)) (text_with s (closed_epochs s.gather (ms ++ m ∷ [])))
+    → AppendsPrefixBetween a b (text_with s (closed_epochs s.gather ms))
+    (text_with s (closed_epochs s.gather (ms ++ m ∷ [])))
 
 -- ---- the next frame, and the end
 
 -- the frame was processed, and the epochs that it closes were written
 abbrev pub TakesFrame : FileWriter → FileWriter → Framed → Option (List ℕ) → Option (List ℕ) → Type 0
-TakesFrame v w f a b = (s : SetupValue) (fs : List Framed) → HasFiledFrames v s fs → HasFiledFrames w s (fs ++ f ∷ []) × AppendsBetween a b (so_far s fs) (so_far s (fs ++ f ∷ []))
+TakesFrame v w f a b = (s : SetupValue) (fs : List Framed) → HasFiledFrames v s fs
+    → HasFiledFrames w s (fs ++ f ∷ []) × AppendsBetween a b (so_far s fs) (so_far s (fs ++ f ∷ []))
 
 -- a prefix of what it closes was written
 abbrev pub BreaksInFrame : FileWriter → Framed → Option (List ℕ) → Option (List ℕ) → Type 0
-BreaksInFrame v f a b = (s : SetupValue) (fs : List Framed) → HasFiledFrames v s fs → AppendsPrefixBetween a b (so_far s fs) (so_far s (fs ++ f ∷ []))
+BreaksInFrame v f a b = (s : SetupValue) (fs : List Framed) → HasFiledFrames v s fs
+    → AppendsPrefixBetween a b (so_far s fs) (so_far s (fs ++ f ∷ []))
 
 -- the rest of the file was written
 abbrev pub WritesRest : FileWriter → Option (List ℕ) → Option (List ℕ) → Type 0
-WritesRest v a b = (s : SetupValue) (fs : List Framed) → HasFiledFrames v s fs → AppendsBetween a b (so_far s fs) (file s fs)
+WritesRest v a b =
+    (s : SetupValue) (fs : List Framed) → HasFiledFrames v s fs → AppendsBetween a b (so_far s fs) (file s fs)
 
 -- a prefix of the rest of the file was written
 abbrev pub BreaksInRest : FileWriter → Option (List ℕ) → Option (List ℕ) → Type 0
-BreaksInRest v a b = (s : SetupValue) (fs : List Framed) → HasFiledFrames v s fs → AppendsPrefixBetween a b (so_far s fs) (file s fs)
+BreaksInRest v a b =
+    (s : SetupValue) (fs : List Framed) → HasFiledFrames v s fs → AppendsPrefixBetween a b (so_far s fs) (file s fs)
 
 -- the whole file has n epochs
 abbrev pub CountsEpochs : FileWriter → ℕ → Type 0

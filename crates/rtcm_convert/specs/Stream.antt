@@ -8,7 +8,7 @@ use Rattle.rtcm_scan.specs.Scan.{FramerValue}
 use Rattle.rtcm_scan.specs.Examined.{HasExamined, IsCountedExactly}
 use Rattle.rtcm_scan.specs.Drained.{IsDrained}
 use Rattle.rtcm_convert.specs.Converted.{SetupValue, so_far, file, epochs_in}
-use Rattle.rtcm_convert.specs.Fed.{AppendsBetween, AppendsPrefixBetween}
+use Rattle.rtcm_convert.specs.Fed.{AppendsBetween, AppendsPrefixBetween, AppendsUpTo}
 use Rattle.rtcm_convert.specs.Filed.{HasFiledFrames, HasGathered}
 use Rattle.rtcm_convert.specs.Outcomes.{outcomes, tally_of}
 use Rattle.rtcm_convert.specs.declared.file_writer.FileWriter.{FileWriter}
@@ -36,7 +36,8 @@ AppendsDecided old new s b c = AppendsBetween old new (so_far s (decided_frames 
 
 -- the known bytes grow by a prefix of that
 abbrev pub AppendsPrefixOfDecided : Option (List ℕ) → Option (List ℕ) → SetupValue → List ℕ → List ℕ → Type 0
-AppendsPrefixOfDecided old new s b c = AppendsPrefixBetween old new (so_far s (decided_frames b)) (so_far s (decided_frames c))
+AppendsPrefixOfDecided old new s b c =
+    AppendsPrefixBetween old new (so_far s (decided_frames b)) (so_far s (decided_frames c))
 
 -- the known bytes grow by what follows the text of the decided frames in the whole file
 abbrev pub AppendsRest : Option (List ℕ) → Option (List ℕ) → SetupValue → List ℕ → List ℕ → Type 0
@@ -50,22 +51,27 @@ AppendsPrefixOfRest old new s b c = AppendsPrefixBetween old new (so_far s (deci
 
 -- The first file writer and device, after the frames ps, became the second after the frames fs: the epochs that the
 -- frames between close were written, and no call of the device failed.
-pub record Files {W : Type 0} (contents : W → Option (List ℕ)) (v0 : FileWriter) (o0 : Device W) (ps : List Framed) (v : FileWriter) (o : Device W) (fs : List Framed) : Type 0 where
+pub record Files {W : Type 0} (contents : W → Option (List ℕ)) (v0 : FileWriter) (o0 : Device W) (ps : List Framed)
+    (v : FileWriter) (o : Device W) (fs : List Framed) : Type 0 where
   pub fine : o.failures ≡ o0.failures
   pub widest : o.widest ≡ o0.widest
-  pub files : (s : SetupValue) → HasFiledFrames v0 s ps → HasFiledFrames v s fs × AppendsBetween (contents o0.inner) (contents o.inner) (so_far s ps) (so_far s fs)
+  pub files : (s : SetupValue) → HasFiledFrames v0 s ps
+      → HasFiledFrames v s fs × AppendsBetween (contents o0.inner) (contents o.inner) (so_far s ps) (so_far s fs)
 
--- One call of the device failed: a prefix of what the frames up to gs add was written.
-pub record BreaksFiling {W : Type 0} (contents : W → Option (List ℕ)) (v0 : FileWriter) (o0 : Device W) (ps : List Framed) (v : FileWriter) (o : Device W) (fs gs : List Framed) : Type 0 where
+-- One call of the device failed: what the frames up to fs add was written, and a prefix of what those up to gs add.
+pub record BreaksFiling {W : Type 0} (contents : W → Option (List ℕ)) (v0 : FileWriter) (o0 : Device W)
+    (ps : List Framed) (v : FileWriter) (o : Device W) (fs gs : List Framed) : Type 0 where
   pub failed : HasFailed o0.failures o.failures
   pub widest : o.widest ≡ o0.widest
-  pub part : (s : SetupValue) → HasFiledFrames v0 s ps → AppendsPrefixBetween (contents o0.inner) (contents o.inner) (so_far s ps) (so_far s gs)
+  pub part : (s : SetupValue) → HasFiledFrames v0 s ps
+      → AppendsUpTo (contents o0.inner) (contents o.inner) (so_far s ps) (so_far s fs) (so_far s gs)
 
 -- ---- the end of a stream
 
 -- The rest of the file of these bytes was written; all of them were decided and counted, and all messages were
 -- gathered.
-pub record IsEnded (v : FramerValue) (w : FileWriter) (a b : Option (List ℕ)) (s : SetupValue) (bytes : List ℕ) : Type 0 where
+pub record IsEnded (v : FramerValue) (w : FileWriter) (a b : Option (List ℕ)) (s : SetupValue)
+    (bytes : List ℕ) : Type 0 where
   pub over : v.has_ended ≡ true
   pub out : AppendsRest a b s bytes bytes
   pub epochs : w.epochs ≡ epochs_in s (frames_of bytes)

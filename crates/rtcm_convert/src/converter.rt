@@ -12,15 +12,19 @@ ghost use Rattle.obs_epoch.specs.Held.{recorded};
 ghost use Rattle.obs_epoch.specs.Values.{most_cells};
 ghost use Rattle.rtcm_convert.specs.Kept.{cells_kept, locks_kept, locks_in_all, IsWithinBounds, IsKeptNow, IsKeptAtEnd};
 ghost use Rattle.rtcm_convert.specs.Moves.{Moves};
-ghost use Rattle.rtcm_convert.specs.Faults.{FailsWithReader, FailsWithWriter, IsSentAfter, IsUntouched, IsSetupFault, IsFeedFault, IsPullFault, IsFinishFault, IsPiecesFault, IsRunFault};
+ghost use Rattle.rtcm_convert.specs.Faults.{FailsWithReader, FailsWithWriter, IsSentAfter, IsUntouched, IsSetupFault};
+ghost use Rattle.rtcm_convert.specs.Faults.{IsFeedFault, IsReadFault, IsFinishFault, IsPiecesFault, IsRunFault};
 ghost use Rattle.rtcm_convert.specs.SetupValues.{setup_value, setup_value_at, start_at, IsBad, IsBadAt};
 ghost use Rattle.rtcm_convert.specs.Converted.{SetupValue};
 ghost use Rattle.rtcm_convert.specs.Outcomes.{report_with};
-ghost use Rattle.rtcm_convert.specs.Conversion.{kept_of, KeepsNow, HasConverted, HasFinished, IsGoing, GoesOnBy, TakesPiece, CutsAtLimit, WritesPrefixOfAdded, StopsAtEnd, IsLeft, refusal};
-ghost use Rattle.rtcm_convert.specs.Conversion.{FinishesNow, FinishesEmptyNow, CompletesFile, CompletesEmptyFile, CompletesFileOfAll, CompletesEmptyFileOfAll};
+ghost use Rattle.rtcm_convert.specs.Conversion.{kept_of, KeepsNow, HasConverted, HasFinished, IsGoing, GoesOnBy};
+ghost use Rattle.rtcm_convert.specs.Conversion.{TakesPiece, CutsAtLimit, WritesPrefixOfAdded, StopsAtEnd, IsLeft};
+ghost use Rattle.rtcm_convert.specs.Conversion.{refusal};
+ghost use Rattle.rtcm_convert.specs.Conversion.{FinishesNow, FinishesEmptyNow, CompletesFile, CompletesEmptyFile};
+ghost use Rattle.rtcm_convert.specs.Conversion.{CompletesFileOfAll, CompletesEmptyFileOfAll};
 ghost use Rattle.rtcm_convert.specs.Broken.{joined_pieces};
 ghost use Rattle.rtcm_convert.specs.Pieces.{StopsInPieces};
-ghost use Rattle.rtcm_convert.specs.Conversion.{PullsPiece, RanToFault, RanToLimit, ReadOverLimit, StopsAtPiece, StopsRunning};
+ghost use Rattle.rtcm_convert.specs.Conversion.{TakesRest, RanToFault, RanToLimit, FailsFeeding, StopsRunning};
 
 use crate::fault::Fault;
 use crate::file_writer::FileWriter;
@@ -32,7 +36,7 @@ use crate::stream::end_stream;
 use gnss_obs::System;
 use obs_epoch::StationValues;
 use rtcm_bits::{Counted, LONGEST_FRAME};
-use rtcm_scan::{Framer, MOST_BYTES, StreamFault};
+use rtcm_scan::{Frame, Framer, MOST_BYTES, StreamFault};
 use std::alloc::Global;
 use std::io::{Read, Write};
 use std::marker::Model;
@@ -42,6 +46,8 @@ use std::marker::Model;
 #[derive(Drop)]
 pub struct Converter {
     framer: Framer,
+    /// The buffer of the frames.
+    frame: Frame,
     file_writer: FileWriter,
     failed: bool,
     finished: bool,
@@ -53,9 +59,12 @@ impl Model for Converter {
 
     ghost Value = { Conversion };
 
-    ghost view = { λ c. record { scan = c.framer; file_writer = c.file_writer; has_failed = c.failed; has_ended = c.finished } };
+    ghost view = { λ c.
+        record { scan = c.framer; file_writer = c.file_writer; has_failed = c.failed; has_ended = c.finished } };
 
-    ghost invariant = { λ c. IsFit (record { scan = c.framer; file_writer = c.file_writer; has_failed = c.failed; has_ended = c.finished }) };
+    ghost invariant = { λ c.
+        IsFit
+        (record { scan = c.framer; file_writer = c.file_writer; has_failed = c.failed; has_ended = c.finished }) };
 }
 
 impl Converter {
@@ -95,6 +104,7 @@ impl Converter {
             Ok(file_writer) => match Framer::new(alloc, limit) {
                 Ok(framer) => Ok(Converter {
                     framer,
+                    frame: Frame::new(),
                     file_writer,
                     failed: false,
                     finished: false,
@@ -117,29 +127,36 @@ impl Converter {
     /// the writer failed; and, without any effect, `Finished` if the stream was ended, and `Failed`
     /// if an earlier call failed.
     pub fn feed<W: Write>(&mut self, piece: &[u8], writer: &mut Counted<W>) -> Result<(), Fault>
-        ensures refused { IfSome (refusal self.old) (λ fault. (result ≡ Err fault) × (self.new ≡ self.old) × (writer.new ≡ writer.old)) }
+        ensures refused { IfSome (refusal self.old)
+            (λ fault. (result ≡ Err fault) × (self.new ≡ self.old) × (writer.new ≡ writer.old)) }
         // All bytes were accepted, what they add was written, and the converter holds and has
         // examined the values for all bytes, within the bounds.
-        ensures whole { OnOk result (TakesPiece self.old self.new (W.contents writer.old.inner) (W.contents writer.new.inner) piece.now) }
+        ensures whole { OnOk result
+            (TakesPiece self.old self.new (W.contents writer.old.inner) (W.contents writer.new.inner) piece.now) }
         ensures going { OnOk result (GoesOnBy self.old self.new (length piece.now)) }
         // At a fault no more than this piece was accepted.
-        ensures taken { (self.old.scan.taken ≤ self.new.scan.taken) × (self.new.scan.taken ≤ self.old.scan.taken + length piece.now) }
+        ensures taken { (self.old.scan.taken ≤ self.new.scan.taken)
+            × (self.new.scan.taken ≤ self.old.scan.taken + length piece.now) }
         // What is held and was examined then.
         ensures keeps { OnOk result (KeepsNow self.new) }
         // A prefix of what these bytes add was written.
-        ensures part { IsErrOf result Fault.Write → WritesPrefixOfAdded self.old (W.contents writer.old.inner) (W.contents writer.new.inner) piece.now }
+        ensures part { IsErrOf result Fault.Write
+            → WritesPrefixOfAdded self.old (W.contents writer.old.inner) (W.contents writer.new.inner) piece.now }
         // The bytes up to the limit were accepted, and what they add was written.
-        ensures long { IsErrOf result Fault.TooLong → CutsAtLimit self.old self.new (W.contents writer.old.inner) (W.contents writer.new.inner) piece.now }
+        ensures long { IsErrOf result Fault.TooLong
+            → CutsAtLimit self.old self.new (W.contents writer.old.inner) (W.contents writer.new.inner) piece.now }
         // Nothing waits in the writer.
         ensures sent { IsSentAfter result writer.old.is_sent writer.new.is_sent }
         ensures device { FailsWithWriter result writer.old writer.new }
         ensures left { IsLeft IsFeedFault self.old self.new result }
     {
-        if let Some(fault) = self.refusal() {
-            return Err(fault);
+        if let Some(earlier) = self.refusal() {
+            return Err(earlier);
         }
         laws::filed();
-        match self.framer.feed(piece, &mut self.file_writer, writer) {
+        let frame = &mut self.frame;
+        let file_writer = &mut self.file_writer;
+        match self.framer.feed(piece, frame, file_writer, writer) {
             Ok(()) => {
                 // Brings the values and bounds of what is held into the proof.
                 let _ = self.kept();
@@ -165,13 +182,17 @@ impl Converter {
     /// finished, as after `Ok`. `Write` if the writer failed; and, without any effect, `Finished`
     /// if the stream was ended before, and `Failed` if an earlier call failed.
     pub fn finish<W: Write>(&mut self, writer: &mut Counted<W>) -> Result<Report, Fault>
-        ensures refused { IfSome (refusal self.old) (λ fault. (result ≡ Err fault) × (self.new ≡ self.old) × (writer.new ≡ writer.old)) }
+        ensures refused { IfSome (refusal self.old)
+            (λ fault. (result ≡ Err fault) × (self.new ≡ self.old) × (writer.new ≡ writer.old)) }
         // The rest of the file was written, and that is the report.
-        ensures whole { IfOk result (FinishesNow self.old self.new (W.contents writer.old.inner) (W.contents writer.new.inner)) }
+        ensures whole { IfOk result
+            (FinishesNow self.old self.new (W.contents writer.old.inner) (W.contents writer.new.inner)) }
         // No epoch of the whole stream was written, so nothing was.
-        ensures no_epoch { IsErrOf result Fault.NoEpoch → FinishesEmptyNow self.old self.new (W.contents writer.old.inner) (W.contents writer.new.inner) }
+        ensures no_epoch { IsErrOf result Fault.NoEpoch
+            → FinishesEmptyNow self.old self.new (W.contents writer.old.inner) (W.contents writer.new.inner) }
         // A prefix of the rest of the file was written.
-        ensures part { IsErrOf result Fault.Write → StopsAtEnd self.old (W.contents writer.old.inner) (W.contents writer.new.inner) }
+        ensures part { IsErrOf result Fault.Write
+            → StopsAtEnd self.old (W.contents writer.old.inner) (W.contents writer.new.inner) }
         // Nothing waits in the writer.
         ensures sent { IsSentAfter result writer.old.is_sent writer.new.is_sent }
         ensures device { FailsWithWriter result writer.old writer.new }
@@ -209,17 +230,26 @@ impl Converter {
         pieces: &[Vec<u8>],
         writer: &mut Counted<W>,
     ) -> Result<Report, Fault>
-        ensures refused { IfSome (refusal self.old) (λ fault. (result ≡ Err fault) × (self.new ≡ self.old) × (writer.new ≡ writer.old)) }
+        ensures refused { IfSome (refusal self.old)
+            (λ fault. (result ≡ Err fault) × (self.new ≡ self.old) × (writer.new ≡ writer.old)) }
         // The file of all the bytes, those accepted before and those of the pieces, was completed,
         // with that report, and the converter holds and has examined the values for all bytes,
         // within the bounds.
-        ensures whole { IfOk result (λ report. CompletesFile self.old self.new (W.contents writer.old.inner) (W.contents writer.new.inner) report (joined_pieces pieces.now)) }
+        ensures whole { IfOk result
+            (λ report.
+            CompletesFile self.old self.new (W.contents writer.old.inner) (W.contents writer.new.inner) report
+            (joined_pieces pieces.now)) }
         // No epoch of the whole stream was written, so nothing was.
-        ensures no_epoch { IsErrOf result Fault.NoEpoch → CompletesEmptyFile self.old self.new (W.contents writer.old.inner) (W.contents writer.new.inner) (joined_pieces pieces.now) }
+        ensures no_epoch { IsErrOf result Fault.NoEpoch
+            → CompletesEmptyFile self.old self.new (W.contents writer.old.inner) (W.contents writer.new.inner)
+            (joined_pieces pieces.now) }
         // The bytes up to the limit were accepted, and what they add was written.
-        ensures long { IsErrOf result Fault.TooLong → CutsAtLimit self.old self.new (W.contents writer.old.inner) (W.contents writer.new.inner) (joined_pieces pieces.now) }
+        ensures long { IsErrOf result Fault.TooLong
+            → CutsAtLimit self.old self.new (W.contents writer.old.inner) (W.contents writer.new.inner)
+            (joined_pieces pieces.now) }
         // The writer failed at one of the pieces, or at the end.
-        ensures write { IsErrOf result Fault.Write → StopsInPieces self.old (W.contents writer.old.inner) (W.contents writer.new.inner) pieces.now }
+        ensures write { IsErrOf result Fault.Write
+            → StopsInPieces self.old (W.contents writer.old.inner) (W.contents writer.new.inner) pieces.now }
         // Nothing waits in the writer.
         ensures sent { IsSentAfter result writer.old.is_sent writer.new.is_sent }
         ensures device { FailsWithWriter result writer.old writer.new }
@@ -251,7 +281,9 @@ impl Converter {
 
     /// Returns the report of a stream that was ended.
     fn report(&self) -> Report
-        ensures { result ≡ report_with self.now.scan.taken self.now.scan.skipped self.now.file_writer.tally self.now.file_writer.epochs }
+        ensures { result
+            ≡ report_with self.now.scan.taken self.now.scan.skipped self.now.file_writer.tally
+            self.now.file_writer.epochs }
     {
         let bytes = self.framer.taken();
         let skipped = self.framer.skipped();
@@ -260,37 +292,53 @@ impl Converter {
             .report(bytes, skipped, self.file_writer.epochs)
     }
 
-    /// Reads a piece, accepts it, and returns its length in bytes, 0 at the end.
-    fn pull<R: Read, W: Write>(
+    /// Reads and accepts the rest of the stream, without ending it.
+    fn read_rest<R: Read, W: Write>(
         &mut self,
         reader: &mut Counted<R>,
         writer: &mut Counted<W>,
-    ) -> Result<usize, Fault>
+    ) -> Result<(), Fault>
         requires { IsGoing self.old }
-        ensures whole { IfOk result (λ n. Moves R.remaining reader.old reader.new W.contents writer.old writer.new (PullsPiece self.old self.new n)) }
-        // Nothing was read.
-        ensures read { IsErrOf result Fault.Read → Keeps (R.remaining reader.old.inner) (R.remaining reader.new.inner)
-            × (writer.new ≡ writer.old) × (self.new.scan.taken ≡ self.old.scan.taken) }
-        ensures long { IsErrOf result Fault.TooLong → Moves R.remaining reader.old reader.new W.contents writer.old writer.new
-            (ReadOverLimit self.old self.new) }
-        ensures part { IsErrOf result Fault.Write → Moves R.remaining reader.old reader.new W.contents writer.old writer.new
-            (StopsAtPiece self.old self.new) }
+        ensures whole { OnOk result (Moves R.remaining reader.old reader.new W.contents writer.old writer.new
+            (TakesRest self.old self.new)) }
+        ensures read { IsErrOf result Fault.Read
+            → Moves R.remaining reader.old reader.new W.contents writer.old writer.new
+            (RanToFault self.old self.new) }
+        ensures long { IsErrOf result Fault.TooLong
+            → Moves R.remaining reader.old reader.new W.contents writer.old writer.new
+            (RanToLimit self.old self.new) }
+        ensures write { IsErrOf result Fault.Write
+            → Moves R.remaining reader.old reader.new W.contents writer.old writer.new
+            (FailsFeeding self.old self.new) }
         ensures sent { IsSentAfter result writer.old.is_sent writer.new.is_sent }
         ensures reader { FailsWithReader result reader.old reader.new }
         ensures writer { FailsWithWriter result writer.old writer.new }
-        ensures left { IsLeft IsPullFault self.old self.new result }
+        ensures left { IsLeft IsReadFault self.old self.new result }
     {
-        let room = LONGEST_FRAME - self.held();
+        laws::filed();
+        rtcm_scan::laws::prefix();
         let mut buffer = [0u8; LONGEST_FRAME];
-        let piece = &mut buffer[..room];
-        match reader.read(piece) {
-            Ok(n) => match self.feed(&piece[..n], writer) {
-                Ok(()) => Ok(n),
-                Err(fault) => Err(fault),
-            },
-            Err(_) => {
+        let frame = &mut self.frame;
+        match self
+            .framer
+            .read_pieces(reader, &mut buffer, frame, &mut self.file_writer, writer)
+        {
+            Ok(()) => {
+                // Brings the values and bounds of what is held into the proof.
+                let _ = self.kept();
+                Ok(())
+            }
+            Err(StreamFault::Read) => {
                 self.failed = true;
                 Err(Fault::Read)
+            }
+            Err(StreamFault::TooLong) => {
+                self.failed = true;
+                Err(Fault::TooLong)
+            }
+            Err(StreamFault::Sink(_fault)) => {
+                self.failed = true;
+                Err(Fault::Write)
             }
         }
     }
@@ -312,17 +360,21 @@ impl Converter {
         ensures whole { IfOk result (λ report. Moves R.remaining reader.old reader.new W.contents writer.old writer.new
             (CompletesFileOfAll self.old self.new report)) }
         // No epoch of the whole stream was written, so nothing was.
-        ensures no_epoch { IsErrOf result Fault.NoEpoch → Moves R.remaining reader.old reader.new W.contents writer.old writer.new
+        ensures no_epoch { IsErrOf result Fault.NoEpoch
+            → Moves R.remaining reader.old reader.new W.contents writer.old writer.new
             (CompletesEmptyFileOfAll self.old self.new) }
         // The stream is longer than the limit; the bytes up to it were accepted, and what they add
         // was written.
-        ensures long { IsErrOf result Fault.TooLong → Moves R.remaining reader.old reader.new W.contents writer.old writer.new
+        ensures long { IsErrOf result Fault.TooLong
+            → Moves R.remaining reader.old reader.new W.contents writer.old writer.new
             (RanToLimit self.old self.new) }
         // The reader failed: what the bytes read before add was written.
-        ensures read { IsErrOf result Fault.Read → Moves R.remaining reader.old reader.new W.contents writer.old writer.new
+        ensures read { IsErrOf result Fault.Read
+            → Moves R.remaining reader.old reader.new W.contents writer.old writer.new
             (RanToFault self.old self.new) }
         // The writer failed, at one of the pieces or at the end.
-        ensures write { IsErrOf result Fault.Write → Moves R.remaining reader.old reader.new W.contents writer.old writer.new
+        ensures write { IsErrOf result Fault.Write
+            → Moves R.remaining reader.old reader.new W.contents writer.old writer.new
             (StopsRunning self.old self.new) }
         // Nothing waits in the writer.
         ensures sent { IsSentAfter result writer.old.is_sent writer.new.is_sent }
@@ -333,15 +385,10 @@ impl Converter {
         if let Some(fault) = self.refusal() {
             return Err(fault);
         }
-        // Brings the values and bounds of what is held into the proof.
-        let _ = self.kept();
-        loop {
-            match self.pull(reader, writer) {
-                Ok(0) => return self.finish(writer),
-                Ok(_) => {}
-                Err(fault) => return Err(fault),
-            }
+        if let Err(fault) = self.read_rest(reader, writer) {
+            return Err(fault);
         }
+        self.finish(writer)
     }
 
     /// Returns what the converter holds and has examined: the values of [`held`](Converter::held),
@@ -370,7 +417,8 @@ impl Converter {
         ensures room { IsGoing self.now → result ≤ most_undecided }
         // The held bytes are those from the first undecided offset on; none after the end of the
         // stream.
-        ensures undecided { (s : SetupValue) (b : List ℕ) → HasConverted self.now s b → self.now.scan.held ≡ drop (decided b) b }
+        ensures undecided { (s : SetupValue) (b : List ℕ) → HasConverted self.now s b
+            → self.now.scan.held ≡ drop (decided b) b }
         ensures nothing { (s : SetupValue) (b : List ℕ) → HasFinished self.now s b → result ≡ 0 }
     {
         self.framer.held()
@@ -380,8 +428,10 @@ impl Converter {
     /// if none is pending, of the one closed last.
     pub fn cells(&self, system: System) -> usize
         ensures value { result ≡ length (cells_of system self.now.file_writer.gatherer.epoch) }
-        ensures now { (s : SetupValue) (b : List ℕ) → HasConverted self.now s b → result ≡ cells_kept s system (decided_frames b) }
-        ensures all { (s : SetupValue) (b : List ℕ) → HasFinished self.now s b → result ≡ cells_kept s system (frames_of b) }
+        ensures now { (s : SetupValue) (b : List ℕ) → HasConverted self.now s b
+            → result ≡ cells_kept s system (decided_frames b) }
+        ensures all { (s : SetupValue) (b : List ℕ) → HasFinished self.now s b
+            → result ≡ cells_kept s system (frames_of b) }
         ensures bound { result ≤ most_cells }
     {
         self.file_writer.gatherer.cells(system)
@@ -391,7 +441,8 @@ impl Converter {
     /// of which a closed epoch has a kept cell with a valid phase and a known lock.
     pub fn locks(&self) -> usize
         ensures value { result ≡ recorded self.now.file_writer.gatherer.locks }
-        ensures now { (s : SetupValue) (b : List ℕ) → HasConverted self.now s b → result ≡ locks_kept s (decided_frames b) }
+        ensures now { (s : SetupValue) (b : List ℕ) → HasConverted self.now s b
+            → result ≡ locks_kept s (decided_frames b) }
         ensures all { (s : SetupValue) (b : List ℕ) → HasFinished self.now s b → result ≡ locks_in_all s (frames_of b) }
         ensures bound { result ≤ 1_164 }
     {

@@ -9,8 +9,10 @@ ghost use Rattle.obs_epoch.specs.Heard.{heard};
 ghost use Rattle.rtcm_convert.specs.Faults.{FailsToWrite, IsSetupFault};
 ghost use Rattle.rtcm_convert.specs.SetupValues.{setup_value_at, IsBadStart};
 ghost use Rattle.rtcm_convert.specs.Filed.{HasFiledFrames, opening_of, added_by, StandsAfterClosed};
-ghost use Rattle.rtcm_convert.specs.Steps.{IsCloseFirst, IsFinalKind, WritesFirst, TakesMessage, IsTakenAgain, IsKindOf, BreaksInMessage, TakesNext, IsKindOfNext, BreaksInNext};
-ghost use Rattle.rtcm_convert.specs.Steps.{TakesFrame, BreaksInFrame, WritesRest, BreaksInRest, CountsEpochs, GathersAll};
+ghost use Rattle.rtcm_convert.specs.Steps.{IsCloseFirst, IsFinalKind, WritesFirst, TakesMessage, IsTakenAgain};
+ghost use Rattle.rtcm_convert.specs.Steps.{IsKindOf, BreaksInMessage, TakesNext, IsKindOfNext, BreaksInNext};
+ghost use Rattle.rtcm_convert.specs.Steps.{TakesFrame, BreaksInFrame, WritesRest, BreaksInRest, CountsEpochs};
+ghost use Rattle.rtcm_convert.specs.Steps.{GathersAll};
 
 use crate::fault::Fault;
 use crate::setup::Setup;
@@ -41,8 +43,10 @@ fn write_change<W: Write>(
     values: StationValues,
     writer: &mut Counted<W>,
 ) -> Result<(), Fault>
-    ensures whole { OnOk result (Appends (W.contents writer.old.inner) (W.contents writer.new.inner) (change_text before values)) }
-    ensures part { OnErr result (AppendsPrefix (W.contents writer.old.inner) (W.contents writer.new.inner) (change_text before values)) }
+    ensures whole { OnOk result
+        (Appends (W.contents writer.old.inner) (W.contents writer.new.inner) (change_text before values)) }
+    ensures part { OnErr result
+        (AppendsPrefix (W.contents writer.old.inner) (W.contents writer.new.inner) (change_text before values)) }
     ensures device { FailsToWrite result writer.old writer.new }
 {
     if before.is_same(values) {
@@ -88,8 +92,11 @@ impl FileWriter {
     /// Writes the header if the file has no epoch, or else an event if the epoch's station values
     /// differ from those written last.
     fn open<W: Write>(&self, epoch: &Epoch, writer: &mut Counted<W>) -> Result<(), Fault>
-        ensures whole { OnOk result (Appends (W.contents writer.old.inner) (W.contents writer.new.inner) (opening_of self.now epoch.now)) }
-        ensures part { OnErr result (AppendsPrefix (W.contents writer.old.inner) (W.contents writer.new.inner) (opening_of self.now epoch.now)) }
+        ensures whole { OnOk result
+            (Appends (W.contents writer.old.inner) (W.contents writer.new.inner) (opening_of self.now epoch.now)) }
+        ensures part { OnErr result
+            (AppendsPrefix (W.contents writer.old.inner) (W.contents writer.new.inner)
+            (opening_of self.now epoch.now)) }
         ensures device { FailsToWrite result writer.old writer.new }
     {
         if let Some(before) = self.values {
@@ -107,11 +114,14 @@ impl FileWriter {
     /// Writes the epoch that the gatherer closed last, if a satellite in it has a value, after the
     /// header or the event that it needs.
     fn write_closed<W: Write>(&mut self, writer: &mut Counted<W>) -> Result<(), Fault>
-        ensures whole { OnOk result (Appends (W.contents writer.old.inner) (W.contents writer.new.inner) (added_by self.old)) }
-        ensures part { OnErr result (AppendsPrefix (W.contents writer.old.inner) (W.contents writer.new.inner) (added_by self.old)) }
+        ensures whole { OnOk result
+            (Appends (W.contents writer.old.inner) (W.contents writer.new.inner) (added_by self.old)) }
+        ensures part { OnErr result
+            (AppendsPrefix (W.contents writer.old.inner) (W.contents writer.new.inner) (added_by self.old)) }
         ensures device { FailsToWrite result writer.old writer.new }
         ensures now { OnOk result (StandsAfterClosed self.old self.new) }
-        ensures same { (self.new.gatherer ≡ self.old.gatherer) × (self.new.texts ≡ self.old.texts) × (self.new.tally ≡ self.old.tally) }
+        ensures same { (self.new.gatherer ≡ self.old.gatherer) × (self.new.texts ≡ self.old.texts)
+            × (self.new.tally ≡ self.old.tally) }
     {
         let Some(epoch) = self.gatherer.closed() else {
             return Ok(());
@@ -131,15 +141,20 @@ impl FileWriter {
     fn step<W: Write>(&mut self, message: &View<'_>, writer: &mut Counted<W>) -> Result<Kind, Fault>
         requires { self.old.gatherer.has_ended ≡ false }
         // The message is to be passed again.
-        ensures first { IfOk result (λ kind. IsCloseFirst kind → WritesFirst self.old self.new (heard (viewed_message message.now))
+        ensures first { IfOk result
+            (λ kind. IsCloseFirst kind → WritesFirst self.old self.new (heard (viewed_message message.now))
             (W.contents writer.old.inner) (W.contents writer.new.inner)) }
         // It was accepted.
-        ensures taken { IfOk result (λ kind. IsFinalKind kind → TakesMessage self.old self.new (heard (viewed_message message.now))
+        ensures taken { IfOk result
+            (λ kind. IsFinalKind kind → TakesMessage self.old self.new (heard (viewed_message message.now))
             (W.contents writer.old.inner) (W.contents writer.new.inner)) }
         ensures again { IfOk result (λ kind. IsTakenAgain self.old (heard (viewed_message message.now)) kind) }
-        ensures kind { IfOk result (λ kind. IsFinalKind kind → IsKindOf self.old (heard (viewed_message message.now)) kind) }
+        ensures kind { IfOk result
+            (λ kind. IsFinalKind kind → IsKindOf self.old (heard (viewed_message message.now)) kind) }
         ensures same { self.new.tally ≡ self.old.tally }
-        ensures part { OnErr result (BreaksInMessage self.old (heard (viewed_message message.now)) (W.contents writer.old.inner) (W.contents writer.new.inner)) }
+        ensures part { OnErr result
+            (BreaksInMessage self.old (heard (viewed_message message.now)) (W.contents writer.old.inner)
+            (W.contents writer.new.inner)) }
         ensures device { FailsToWrite result writer.old writer.new }
         ensures ended { self.new.gatherer.has_ended ≡ false }
     {
@@ -151,10 +166,14 @@ impl FileWriter {
     /// Gathers a message: if the gatherer closes an epoch first, it is passed again.
     fn take<W: Write>(&mut self, message: &View<'_>, writer: &mut Counted<W>) -> Result<Kind, Fault>
         requires { self.old.gatherer.has_ended ≡ false }
-        ensures whole { OnOk result (TakesNext self.old self.new (heard (viewed_message message.now)) (W.contents writer.old.inner) (W.contents writer.new.inner)) }
+        ensures whole { OnOk result
+            (TakesNext self.old self.new (heard (viewed_message message.now)) (W.contents writer.old.inner)
+            (W.contents writer.new.inner)) }
         ensures kind { IfOk result (λ kind. IsKindOfNext self.old (heard (viewed_message message.now)) kind) }
         ensures same { self.new.tally ≡ self.old.tally }
-        ensures part { OnErr result (BreaksInNext self.old (heard (viewed_message message.now)) (W.contents writer.old.inner) (W.contents writer.new.inner)) }
+        ensures part { OnErr result
+            (BreaksInNext self.old (heard (viewed_message message.now)) (W.contents writer.old.inner)
+            (W.contents writer.new.inner)) }
         ensures device { FailsToWrite result writer.old writer.new }
         ensures ended { self.new.gatherer.has_ended ≡ false }
     {
@@ -172,8 +191,11 @@ impl FileWriter {
         writer: &mut Counted<W>,
     ) -> Result<(), Fault>
         requires { self.old.gatherer.has_ended ≡ false }
-        ensures whole { OnOk result (TakesFrame self.old self.new (framed frame.now) (W.contents writer.old.inner) (W.contents writer.new.inner)) }
-        ensures part { OnErr result (BreaksInFrame self.old (framed frame.now) (W.contents writer.old.inner) (W.contents writer.new.inner)) }
+        ensures whole { OnOk result
+            (TakesFrame self.old self.new (framed frame.now) (W.contents writer.old.inner)
+            (W.contents writer.new.inner)) }
+        ensures part { OnErr result
+            (BreaksInFrame self.old (framed frame.now) (W.contents writer.old.inner) (W.contents writer.new.inner)) }
         ensures device { FailsToWrite result writer.old writer.new }
         ensures ended { self.new.gatherer.has_ended ≡ false }
     {
@@ -197,7 +219,8 @@ impl FileWriter {
         ensures epochs { OnOk result (CountsEpochs self.old self.new.epochs) }
         ensures gathered { GathersAll self.old self.new }
         ensures same { self.new.tally ≡ self.old.tally }
-        ensures part { OnErr result (BreaksInRest self.old (W.contents writer.old.inner) (W.contents writer.new.inner)) }
+        ensures part { OnErr result
+            (BreaksInRest self.old (W.contents writer.old.inner) (W.contents writer.new.inner)) }
         ensures device { FailsToWrite result writer.old writer.new }
         ensures ended { self.new.gatherer.has_ended ≡ true }
     {

@@ -1,5 +1,6 @@
 //! Laws of the definitions that the contracts cite.
-ghost use Rattle.rtcm_convert.specs.Laws.{WrittenStays, WrittenGrows, NothingYet, FiledStays, FiledGrows, NothingFiled, CountedOnce, IsFileText};
+ghost use Rattle.rtcm_convert.specs.Laws.{WrittenStays, WrittenGrows, NothingYet, FiledStays, FiledGrows, NothingFiled};
+ghost use Rattle.rtcm_convert.specs.Laws.{CountedOnce, IsFileText};
 ghost use Rattle.std.specs.Prelude.{ℕ, ◌<◌, List};
 ghost use Rattle.rtcm_scan.specs.Frames.{frames_of};
 ghost use Rattle.rtcm_scan.specs.Decided.{decided_frames};
@@ -64,10 +65,13 @@ pub fn readable()
 /// For every setup, initial station values and stream: what is written is empty or the text of a
 /// file value, which [`read_file`](rinex_file::read_file) reads as that value.
 pub fn read_back(setup: &Setup)
-    ensures file { (v : StationValues) → AreStationValues v → (b : List ℕ) → IsReadable (file (setup_value_at setup.now v) (frames_of b)) }
-    ensures some { (v : StationValues) → AreStationValues v → (b : List ℕ) → 0 < epochs_in (setup_value_at setup.now v) (frames_of b)
+    ensures file { (v : StationValues) → AreStationValues v → (b : List ℕ)
+        → IsReadable (file (setup_value_at setup.now v) (frames_of b)) }
+    ensures some { (v : StationValues) → AreStationValues v → (b : List ℕ)
+        → 0 < epochs_in (setup_value_at setup.now v) (frames_of b)
         → HasValue (file (setup_value_at setup.now v) (frames_of b)) }
-    ensures so_far { (v : StationValues) → AreStationValues v → (b : List ℕ) → IsReadable (so_far (setup_value_at setup.now v) (decided_frames b)) }
+    ensures so_far { (v : StationValues) → AreStationValues v → (b : List ℕ)
+        → IsReadable (so_far (setup_value_at setup.now v) (decided_frames b)) }
     ensures zero { AreStationValues no_values }
 {
     readable();

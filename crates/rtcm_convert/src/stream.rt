@@ -38,11 +38,13 @@ impl<W: Write> FrameSink<Counted<W>> for FileWriter {
 /// Writes the rest of the file, and flushes it.
 fn end_file<W: Write>(file_writer: &mut FileWriter, writer: &mut Counted<W>) -> Result<(), Fault>
     requires { file_writer.old.gatherer.has_ended ≡ false }
-    ensures whole { OnOk result (WritesRest file_writer.old (W.contents writer.old.inner) (W.contents writer.new.inner)) }
+    ensures whole { OnOk result
+        (WritesRest file_writer.old (W.contents writer.old.inner) (W.contents writer.new.inner)) }
     ensures epochs { OnOk result (CountsEpochs file_writer.old file_writer.new.epochs) }
     ensures gathered { GathersAll file_writer.old file_writer.new }
     ensures same { file_writer.new.tally ≡ file_writer.old.tally }
-    ensures part { OnErr result (BreaksInRest file_writer.old (W.contents writer.old.inner) (W.contents writer.new.inner)) }
+    ensures part { OnErr result
+        (BreaksInRest file_writer.old (W.contents writer.old.inner) (W.contents writer.new.inner)) }
     ensures device { FailsToWrite result writer.old writer.new }
     ensures sent { OnOk result (writer.new.is_sent ≡ true) }
 {
@@ -59,8 +61,11 @@ pub(crate) fn end_stream<W: Write>(
     requires going { file_writer.old.gatherer.has_ended ≡ false }
     requires listening { framer.old.has_ended ≡ false }
     requires some { HasDrainedSome framer.old }
-    ensures whole { OnOk result (EndsBytes framer.old file_writer.old framer.new file_writer.new (W.contents writer.old.inner) (W.contents writer.new.inner)) }
-    ensures part { OnErr result (BreaksAtEndOf framer.old file_writer.old (W.contents writer.old.inner) (W.contents writer.new.inner)) }
+    ensures whole { OnOk result
+        (EndsBytes framer.old file_writer.old framer.new file_writer.new (W.contents writer.old.inner)
+        (W.contents writer.new.inner)) }
+    ensures part { OnErr result
+        (BreaksAtEndOf framer.old file_writer.old (W.contents writer.old.inner) (W.contents writer.new.inner)) }
     ensures device { FailsToWrite result writer.old writer.new }
     ensures sent { OnOk result (writer.new.is_sent ≡ true) }
     ensures some { HasExaminedSome framer.new }

@@ -3,7 +3,8 @@ ghost use Rattle.std.specs.Prelude.{◌≡◌, ◌≢◌, ◌↔◌, Err, IsErrO
 ghost use Rattle.rtcm_convert.specs.Moves.{Moves};
 ghost use Rattle.rtcm_convert.specs.Faults.{FailsWithDevices, FailsWithWriter, IsSentAfter, IsSetupFault, IsUntouched};
 ghost use Rattle.rtcm_convert.specs.Broken.{BrokeInPieces, joined_pieces};
-ghost use Rattle.rtcm_convert.specs.Made.{IsMadeWith, IsMadeEmpty, IsMadeToLimit, AreMadeToLimit, IsMadeSoFar, IsMadeInPart};
+ghost use Rattle.rtcm_convert.specs.Made.{IsMadeWith, IsMadeEmpty, IsMadeToLimit, AreMadeToLimit, IsMadeSoFar};
+ghost use Rattle.rtcm_convert.specs.Made.{IsMadeInPart};
 ghost use Rattle.rtcm_convert.specs.SetupValues.{setup_value, start_at, start_zero, IsBad, IsBadAt};
 
 use crate::converter::Converter;
@@ -32,10 +33,12 @@ pub fn convert_stream<R: Read, W: Write>(
     // The file that was written is the one of the stream's frames in order, has an epoch, and is
     // the text of a file value; and that is its report.
     ensures made { IfOk result (λ report.
-        IfSome (R.remaining reader.old.inner) (IsMadeWith (start_zero setup) report (W.contents writer.old.inner) (W.contents writer.new.inner))) }
+        IfSome (R.remaining reader.old.inner)
+        (IsMadeWith (start_zero setup) report (W.contents writer.old.inner) (W.contents writer.new.inner))) }
     // The file has no epoch, and is empty.
     ensures no_epoch { IsErrOf result Fault.NoEpoch
-        → IfSome (R.remaining reader.old.inner) (IsMadeEmpty (start_zero setup) (W.contents writer.old.inner) (W.contents writer.new.inner)) }
+        → IfSome (R.remaining reader.old.inner)
+        (IsMadeEmpty (start_zero setup) (W.contents writer.old.inner) (W.contents writer.new.inner)) }
     // The stream is longer than the limit; the bytes up to it were accepted, and the file of the
     // epochs that they close was written.
     ensures long { IsErrOf result Fault.TooLong
@@ -76,10 +79,12 @@ pub fn convert_stream_at<R: Read, W: Write>(
     // The file that was written is the one of the stream's frames in order, has an epoch, and is
     // the text of a file value; and that is its report.
     ensures made { IfOk result (λ report.
-        IfSome (R.remaining reader.old.inner) (IsMadeWith (start_at setup initial) report (W.contents writer.old.inner) (W.contents writer.new.inner))) }
+        IfSome (R.remaining reader.old.inner)
+        (IsMadeWith (start_at setup initial) report (W.contents writer.old.inner) (W.contents writer.new.inner))) }
     // The file has no epoch, and is empty.
     ensures no_epoch { IsErrOf result Fault.NoEpoch
-        → IfSome (R.remaining reader.old.inner) (IsMadeEmpty (start_at setup initial) (W.contents writer.old.inner) (W.contents writer.new.inner)) }
+        → IfSome (R.remaining reader.old.inner)
+        (IsMadeEmpty (start_at setup initial) (W.contents writer.old.inner) (W.contents writer.new.inner)) }
     // The stream is longer than the limit; the bytes up to it were accepted, and the file of the
     // epochs that they close was written.
     ensures long { IsErrOf result Fault.TooLong
@@ -128,10 +133,12 @@ pub fn convert_pieces<W: Write>(
     // For every way to cut the stream into pieces, the file that was written is the one of its
     // frames in order, has an epoch, and is the text of a file value; and that is its report.
     ensures made { IfOk result (λ report.
-        IsMadeWith (start_zero setup) report (W.contents writer.old.inner) (W.contents writer.new.inner) (joined_pieces pieces.now)) }
+        IsMadeWith (start_zero setup) report (W.contents writer.old.inner) (W.contents writer.new.inner)
+        (joined_pieces pieces.now)) }
     // The file has no epoch, and is empty.
     ensures no_epoch { IsErrOf result Fault.NoEpoch
-        → IsMadeEmpty (start_zero setup) (W.contents writer.old.inner) (W.contents writer.new.inner) (joined_pieces pieces.now) }
+        → IsMadeEmpty (start_zero setup) (W.contents writer.old.inner) (W.contents writer.new.inner)
+        (joined_pieces pieces.now) }
     // The pieces go over the limit; the file of the epochs that the bytes up to it close was
     // written.
     ensures long { IsErrOf result Fault.TooLong

@@ -1,5 +1,3 @@
-use Rattle.std.proofs.Common.{ap, ◌∙◌}
-use Rattle.rtcm_convert.specs.Converted.{so_far}
 use Rattle.rtcm_convert.proofs.EndLemmas.{written_stays, written_grows}
 use Rattle.rtcm_convert.proofs.laws.prefix.Goals as goal
 
@@ -8,6 +6,3 @@ returns-clause-file c = written_stays c.filed.ensures.file c.prefix.ensures.fram
 
 pub returns-clause-grows : goal.returns-clause-grows
 returns-clause-grows c = written_grows c.filed.ensures.grows c.prefix.ensures.decided
-
-pub returns-clause-nothing : goal.returns-clause-nothing
-returns-clause-nothing c = λ s. ap (so_far s) c.prefix.ensures.empty ∙ c.filed.ensures.nothing s

@@ -1,27 +1,17 @@
-use Rattle.std.proofs.Common.{◌∙◌, refl, sym, subst}
+use Rattle.std.proofs.Common.{◌∙◌, sym, subst}
 use Rattle.rtcm_scan.specs.Passing.{up_to_limit}
 use Rattle.rtcm_convert.specs.Conversion.{Conversion, IsGoing}
-use Rattle.rtcm_convert.specs.declared.fault.Fault.TheVariants.{TooLong, Write}
-use Rattle.rtcm_convert.proofs.FaultLemmas.{of_refusal, not_refusal}
+use Rattle.rtcm_convert.specs.declared.fault.Fault.TheVariants.{Write}
 use Rattle.rtcm_convert.proofs.FeedLemmas.{with_flags, long_of, sink_of, fed_whole, fed_fit, fed_long, fed_part}
 use Rattle.rtcm_convert.proofs.RunLemmas.{going_on}
 use Rattle.rtcm_convert.proofs.StreamLemmas.{piece_fine, piece_failed}
 use Rattle.rtcm_convert.proofs.converter.Converter.feed.Goals as goal
 
-pub returns-in-Some-clause-device : goal.returns-in-Some-clause-device
-returns-in-Some-clause-device g c = ((of_refusal c.args.self.now c.in-Some.fault c.in-Some.ensures c.args.writer.now.failures).0, tt, refl)
-
-pub returns-in-Some-clause-part : goal.returns-in-Some-clause-part
-returns-in-Some-clause-part g c = λ e. absurd (not_refusal c.args.self.now c.in-Some.fault Write c.in-Some.ensures refl e)
-
-pub returns-in-Some-clause-long : goal.returns-in-Some-clause-long
-returns-in-Some-clause-long g c = λ e. absurd (not_refusal c.args.self.now c.in-Some.fault TooLong c.in-Some.ensures refl e)
-
 pub invariant_of-self : goal.invariant_of-self
 invariant_of-self g c =
     let f = c.self.inside in
     let go : IsGoing (with_flags f.failed f.finished f.framer f.file_writer) = subst (λ (x : Conversion). IsGoing x) (sym c.self.view_is) (going_on c.args.self.now c.in_default.ensures) in
-    fed_fit g.W.Write.contents f.failed f.finished f.framer c.feed.new.self f.file_writer c.feed.new.sink c.args.writer.now c.feed.new.out c.args.piece.now c.self.invariant go c.in-Ok.ensures.goes c.in-Ok.ensures.ready c.feed.ensures.same c.in-Ok.ensures.whole
+    fed_fit g.W.Write.contents f.failed f.finished f.framer c.feed.new.self f.file_writer c.feed.new.sink c.args.writer.now c.feed.new.out c.args.piece.now c.self.invariant go c.in-Ok.ensures.goes c.in-Ok.ensures.ready c.feed.ensures.same.ended c.feed.ensures.same.some c.in-Ok.ensures.whole
 
 pub returns-in-Ok-clause-whole : goal.returns-in-Ok-clause-whole
 returns-in-Ok-clause-whole g c =
