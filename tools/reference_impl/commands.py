@@ -4,7 +4,7 @@ import re
 from .epochs import Gathered, Plan, Setup, StationValues
 from .frames import frames_of
 from .lines import epoch_lines, event_lines, fixed, has_value, header
-from .messages import SIGNALS, Msm, Refused, Station, decode, number_of
+from .messages import SIGNALS, Message, Msm, Refused, Station, decode, number_of
 
 KINDS = ("station", "other", "ignored", "late", "past", "taken")
 Report = dict[str, int]
@@ -36,14 +36,21 @@ def show_lines(data: bytes) -> list[str]:
     return lines
 
 
+def messages_of(frames: list[tuple[int, bytes]]) -> list[Message]:
+    """Returns the messages of these frames that aren't refused."""
+    messages = []
+    for _, message in frames:
+        try:
+            messages.append(decode(message))
+        except Refused:
+            pass
+    return messages
+
+
 def signal_counts(data: bytes, station: int | None) -> dict[tuple[str, str], int]:
     """Returns the number of cells with a value of each signal that has one, in the order of the tables."""
     counts = {(system, code): 0 for system, codes in SIGNALS.items() for code in codes.values()}
-    for _, message in frames_of(data):
-        try:
-            read = decode(message)
-        except Refused:
-            continue
+    for read in messages_of(frames_of(data)):
         if isinstance(read, Msm) and station in (None, read.station):
             for cell in read.cells:
                 if cell.key is not None and has_value(cell):
@@ -57,14 +64,8 @@ def count_lines(counts: dict[tuple[str, str], int]) -> list[str]:
 
 def first_station(data: bytes, station: int | None) -> Station | None:
     """Returns the first station message of this station, or of any."""
-    for _, message in frames_of(data):
-        try:
-            read = decode(message)
-        except Refused:
-            continue
-        if isinstance(read, Station) and station in (None, read.station):
-            return read
-    return None
+    stations = (read for read in messages_of(frames_of(data)) if isinstance(read, Station))
+    return next((read for read in stations if station in (None, read.station)), None)
 
 
 def option_line(counts: dict[tuple[str, str], int], first: Station | None) -> str:
@@ -83,12 +84,7 @@ def convert(
 ) -> tuple[list[str], Report]:
     """Returns the lines of the file and the report, or, of a stream that goes on, those of its closed epochs."""
     frames = frames_of(data)
-    messages = []
-    for _, message in frames:
-        try:
-            messages.append(decode(message))
-        except Refused:
-            pass
+    messages = messages_of(frames)
     gathered = Gathered(setup, messages)
     lines: list[str] = []
     closed = [time for time in gathered.times if has_ended or gathered.closing(time) < len(messages)]

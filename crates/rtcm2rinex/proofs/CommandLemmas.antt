@@ -15,7 +15,7 @@ use Rattle.clap.specs.declared.error.kind.ErrorKind.TheVariants as kind
 use Rattle.clap.specs.declared.parser.matches.ArgMatches.{ArgMatches}
 use Rattle.rtcm_bits.specs.Device.{Device}
 use Rattle.rtcm2rinex.specs.CommandLine.{Asks, IsFoundIn, RefusesWords}
-use Rattle.rtcm2rinex.specs.Commands.{AreRefused, EndsFound, HasCommand, HasFailedToServe, HasServed, HasStopped, StopsAnswering, fault_status, status_of}
+use Rattle.rtcm2rinex.specs.Commands.{AreRefused, EndsCommand, EndsFound, HasCommand, HasFailedToServe, HasServed, HasStopped, StopsAnswering, fault_status, status_of}
 use Rattle.rtcm2rinex.specs.SetupOptions.{IsSetupRefused}
 use Rattle.rtcm_convert.specs.Faults.{IsUntouched}
 use Rattle.rtcm2rinex.specs.Devices.{Ends}
@@ -63,9 +63,11 @@ sub_found (Some b) n o e f =
     let q : o ≡ rows_of (found_of (out-SubCommand (box_value b)).matches) = ap (λ (x : Option (List Row)). option_map_or (λ y. y) x o) f in
     sym (ap₂ (λ (x : Text) (y : List Row). Some (x, y)) p q)
 
-pub found_rows : (m : ArgMatches) (n : Text) (o : List Row) → Some n ≡ subcommand_name_of m → Some o ≡ option_map (λ p. p.1) (subcommand_rows (out-ArgMatches m).subcommand)
-    → subcommand_rows_of m ≡ Some (n, o)
-found_rows m n o e f = sub_found (out-ArgMatches m).subcommand n o e f
+-- how the command that was found ended
+pub ends_found : {A R W : Type 0} (ended : Result A ToolFault) (left : R → Option (List ℕ)) (held : W → Option (List ℕ)) (r r2 : Device R) (w w2 : Device W) (m : ArgMatches) (n : Text) (o : List Row)
+    → Some n ≡ subcommand_name_of m → Some o ≡ option_map (λ p. p.1) (subcommand_rows (out-ArgMatches m).subcommand) → EndsCommand ended left r r2 held w w2 n o
+    → EndsFound ended (subcommand_rows_of m) left r r2 held w w2
+ends_found ended left held r r2 w w2 m n o e f h = (n, o, sub_found (out-ArgMatches m).subcommand n o e f, h)
 
 -- a command that was found twice is the same
 asked : (words : List Text) (found : Option (Text × List Row)) (n n2 : Text) (o o2 : List Row) → found ≡ Some (n, o) → found ≡ Some (n2, o2) → Asks words n o → Asks words n2 o2
@@ -73,13 +75,13 @@ asked words found n n2 o o2 p q a = (a.0, a.1, a.2, a.3 ∙ sym p ∙ q)
 
 module _ {R W : Type 0} (left : R → Option (List ℕ)) (held : W → Option (List ℕ)) (r r2 : Device R) (w w2 : Device W) (words : List Text) where
   pub served : (m : ArgMatches) (ended : Result ⊤ ToolFault) (status : ℕ) → status ≡ status_of ended → IsFoundIn words m
-      → EndsFound ended left r r2 held w w2 (subcommand_rows_of m) → status ≡ 0 → HasServed left r r2 held w w2 words
+      → EndsFound ended (subcommand_rows_of m) left r r2 held w w2 → status ≡ 0 → HasServed left r r2 held w w2 words
   served m (Ok u) status is found end zero =
       inl (end.0, end.1, asked words (subcommand_rows_of m) found.0 end.0 found.1 end.1 found.3 end.2 found.4, end.3.0, end.3.1)
   served m (Err fault) status is found end zero = absurd (never_zero fault (sym is ∙ zero))
 
   pub failed_to_serve : (m : ArgMatches) (ended : Result ⊤ ToolFault) (status : ℕ) → status ≡ status_of ended → IsFoundIn words m
-      → EndsFound ended left r r2 held w w2 (subcommand_rows_of m) → status ≡ 1 → HasFailedToServe left r r2 held w w2 words
+      → EndsFound ended (subcommand_rows_of m) left r r2 held w w2 → status ≡ 1 → HasFailedToServe left r r2 held w w2 words
   failed_to_serve m (Ok u) status is found end one = absurd (let bad : 0 ≡ 1 = sym is ∙ one in omega (arith, bad))
   failed_to_serve m (Err fault) status is found end one =
       inl (end.0, end.1, fault, asked words (subcommand_rows_of m) found.0 end.0 found.1 end.1 found.3 end.2 found.4, end.3.0, end.3.1)
@@ -125,7 +127,7 @@ module _ {R W : Type 0} (left : R → Option (List ℕ)) (held : W → Option (L
   refused_by faults.NoSignal two stopped = absurd (one_two two)
 
 pub refused_at_two : {R W : Type 0} (left : R → Option (List ℕ)) (held : W → Option (List ℕ)) (r r2 : Device R) (w w2 : Device W) (words : List Text) (m : ArgMatches) (ended : Result ⊤ ToolFault) (status : ℕ)
-    → status ≡ status_of ended → IsFoundIn words m → EndsFound ended left r r2 held w w2 (subcommand_rows_of m) → status ≡ 2 → AreRefused words × IsUntouched r r2 w w2
+    → status ≡ status_of ended → IsFoundIn words m → EndsFound ended (subcommand_rows_of m) left r r2 held w w2 → status ≡ 2 → AreRefused words × IsUntouched r r2 w w2
 refused_at_two left held r r2 w w2 words m (Ok u) status is found end two = absurd (let bad : 0 ≡ 2 = sym is ∙ two in omega (arith, bad))
 refused_at_two left held r r2 w w2 words m (Err fault) status is found end two =
     let same : fault_status fault ≡ 2 = sym is ∙ two in

@@ -11,9 +11,9 @@ use Rattle.clap.specs.declared.error.Error.{Error}
 use Rattle.std.specs.Borrow.{Bor}
 use Rattle.rtcm2rinex.specs.declared.commands.CommandRow.{CommandRow}
 use Rattle.rtcm2rinex.specs.declared.commands.OptionRow.{OptionRow}
-use Rattle.rtcm2rinex.specs.declared.commands.Reading.{Reading}
-use Rattle.rtcm2rinex.specs.declared.commands.Reading.TheVariants.{Given, Or, Among, Week, Station, Bytes}
-use Rattle.rtcm2rinex.specs.CommandLine.{AddsCommand, AddsOption, IsAnswered, RefusesWords, command_set, option, option_set, program, read_so, with_commands, with_options}
+use Rattle.rtcm2rinex.specs.declared.commands.ValueKind.{ValueKind}
+use Rattle.rtcm2rinex.specs.declared.commands.ValueKind.TheVariants.{Given, Or, Among, Week, Station, Bytes}
+use Rattle.rtcm2rinex.specs.CommandLine.{AddsCommand, AddsOption, IsAnswered, RefusesWords, command_set, option, option_set, program, of_kind, with_commands, with_options}
 use Rattle.clap.specs.Values.{kind_of}
 use Rattle.clap.specs.declared.error.kind.ErrorKind.TheVariants as kind
 use Rattle.clap.specs.declared.builder.arg.Arg.{Arg}
@@ -72,8 +72,8 @@ with_option old (Err e) app r added was simple = tt
 with_option old (Ok new) app r (command, a, same, is, added) was simple =
     added.shape (local a r is simple) ∙ ap₂ with_rule (subst (λ c. Reads c app) same was) is
 
-simple : (name : Text) (reading : Reading) → (read_so reading (option name)).is_simple ≡ true
-unfolding read_so
+simple : (name : Text) (kind : ValueKind) → (of_kind kind (option name)).is_simple ≡ true
+unfolding of_kind
 simple name Given = refl
 simple name (Or default) = refl
 simple name (Among words default) = refl
@@ -81,13 +81,13 @@ simple name Week = refl
 simple name Station = refl
 simple name Bytes = refl
 
--- an option whose reading is known
-pub read_as_given : (reading known : Reading) (a b : Rule) → reading ≡ known → b ≡ read_so known a → b ≡ read_so reading a
-read_as_given reading known a b is so = so ∙ ap (λ (r : Reading). read_so r a) (sym is)
+-- an option whose kind is known
+pub kind_given : (kind known : ValueKind) (a b : Rule) → kind ≡ known → b ≡ of_kind known a → b ≡ of_kind kind a
+kind_given kind known a b is so = so ∙ ap (λ (k : ValueKind). of_kind k a) (sym is)
 
 -- an option of a row is read by clap's definitions
 pub simple_given : (row : OptionRow) → (option_set row).is_simple ≡ true
-simple_given row = simple row.name.now row.reading
+simple_given row = simple row.name.now row.kind
 
 -- the options of a command don't change the command itself
 pub plain : (a : App) (rs : List Rule) → (with_options a rs).top.is_plain ≡ a.top.is_plain
@@ -133,10 +133,10 @@ nothing = record { ref_ptr = (0, 0); now = [] }
 
 -- the row after the last one
 abbrev pub no_option : OptionRow
-no_option = record { name = nothing; value = nothing; help = nothing; reading = Given }
+no_option = record { name = nothing; value = nothing; help = nothing; kind = Given }
 
 abbrev pub no_command : CommandRow
-no_command = record { name = nothing; help = record { about = nothing; examples = nothing }; options = record { ref_ptr = (0, 0); now = [] } }
+no_command = record { name = nothing; about = nothing; examples = nothing; options = record { ref_ptr = (0, 0); now = [] } }
 
 -- one more option of the rows
 pub one_option_more : (a : App) (rows : List OptionRow) (n : ℕ) (d : OptionRow) → n < length rows

@@ -1,10 +1,13 @@
 -- A conversion that is stopped by a fault.
-use Rattle.std.proofs.Common.{◌≡◌, ◌∙◌, ap, sym, subst, refl, ℕ, ℤ, List, Option, Some, None, Result, Ok, Err, IsErrOf, IfSome, inl, inr}
+use Rattle.std.proofs.Common.{◌≡◌, ◌∙◌, ap, sym, subst, refl, rules, ℕ, ℤ, List, Option, Some, None, Result, Ok, Err, IsErrOf, IfSome, inl, inr}
 use Rattle.std.specs.Prelude.{◌≢◌, ◌↔◌, ◌⊎◌}
 use Rattle.rtcm_bits.specs.Device.{Device}
 use Rattle.rtcm_convert.specs.Faults.{FailsWithReader, FailsWithWriter, IsSentAfter, IsSetupFault, IsUntouched}
 use Rattle.rtcm_convert.specs.Made.{IsMadeEmpty, IsMadeSoFar, IsMadeInPart, IsMadeToLimit}
-use Rattle.rtcm_convert.specs.SetupValues.{Start}
+use Rattle.rtcm_convert.specs.SetupValues.{IsBad, IsBadAt, Start, start_zero}
+use Rattle.rtcm_convert.specs.declared.setup.Setup.{Setup}
+use Rattle.obs_epoch.specs.Epochs.{no_values}
+use Rattle.obs_epoch.specs.Reach.{AreStationValues}
 use Rattle.rtcm_convert.specs.declared.fault.Fault.{Fault}
 use Rattle.rtcm_convert.specs.declared.fault.Fault.TheVariants.{Memory, BadSetup, TooLong, Read, Write, Failed, Finished, NoEpoch}
 use Rattle.rtcm_convert.specs.declared.report.Report.{Report}
@@ -17,7 +20,7 @@ use Rattle.rtcm2rinex.specs.SetupOptions.{values_by_message}
 use Rattle.rtcm2rinex.specs.Converting.{StopsConversion, StopsConverting}
 use Rattle.rtcm2rinex.specs.Devices.{HaveFailedBy, tool_fault_of}
 
-module _ {R W : Type 0} (left : R → Option (List ℕ)) (held : W → Option (List ℕ)) (Bad : Type 0) (x : Start) (rd rd2 : Device R) (o o2 : Device W) where
+module _ {R W : Type 0} (left : R → Option (List ℕ)) (held : W → Option (List ℕ)) (x : Start) (rd rd2 : Device R) (o o2 : Device W) where
   abbrev Result-of : Fault → Result Report Fault
   Result-of fault = Err fault
 
@@ -26,8 +29,8 @@ module _ {R W : Type 0} (left : R → Option (List ℕ)) (held : W → Option (L
       → (IsErrOf (Result-of fault) TooLong → IsMadeToLimit x (left rd.inner) (left rd2.inner) (held o.inner) (held o2.inner))
       → (IsErrOf (Result-of fault) Read → IsMadeSoFar x (left rd.inner) (left rd2.inner) (held o.inner) (held o2.inner))
       → (IsErrOf (Result-of fault) Write → IsMadeInPart x (left rd.inner) (left rd2.inner) (held o.inner) (held o2.inner))
-      → (Result-of fault ≡ Err BadSetup ↔ Bad) → (IsSetupFault fault → IsUntouched rd rd2 o o2) → (Result-of fault ≢ Err Failed) × (Result-of fault ≢ Err Finished)
-      → HaveFailedBy (tool_fault_of fault) rd rd2 o o2 × StopsConversion Bad x left rd rd2 held o o2 (tool_fault_of fault)
+      → (Result-of fault ≡ Err BadSetup ↔ IsBadAt x) → (IsSetupFault fault → IsUntouched rd rd2 o o2) → (Result-of fault ≢ Err Failed) × (Result-of fault ≢ Err Finished)
+      → HaveFailedBy (tool_fault_of fault) rd rd2 o o2 × StopsConversion x left rd rd2 held o o2 (tool_fault_of fault)
   conversion_stopped Memory reader writer sent none long read write bad untouched only = ((reader.0, writer.0), untouched (inr refl))
   conversion_stopped BadSetup reader writer sent none long read write bad untouched only = ((reader.0, writer.0), (bad.0 refl, untouched (inl refl)))
   conversion_stopped TooLong reader writer sent none long read write bad untouched only = ((reader.0, writer.0), (long refl, sent))
@@ -93,3 +96,11 @@ module _ {R W : Type 0} (left : R → Option (List ℕ)) (held : W → Option (L
 pub file_made : (P Q : List ℕ → Type 0) (input : Option (List ℕ)) → IfSome input (λ b. P b × Q b) → IfSome input P
 file_made P Q None h = tt
 file_made P Q (Some b) h = h.0
+
+-- 0 is a coordinate and a height
+zero_values : AreStationValues no_values
+zero_values = search rules
+
+pub zero_bad : (x : Setup) → IsBadAt (start_zero x) → IsBad x
+zero_bad x (inl not) = absurd (not zero_values)
+zero_bad x (inr bad) = bad

@@ -1,4 +1,4 @@
--- A survey as a consumer of frames.
+-- Signal counts as a consumer of frames.
 use Rattle.std.proofs.Common.{◌≡◌, ◌∙◌, ap, ◌+◌, ◌*◌, ◌<◌, ◌≤◌, ◌^◌, sym, subst, arith, Bool, true, ℕ, List, [], ◌∷◌, ◌++◌, Option, Some, None, IfSome, Result, Ok, Err, length, length-append, refl}
 use Rattle.rtcm_scan.specs.Frames.{Framed, frames_of}
 use Rattle.rtcm_scan.specs.Known.{known_frames}
@@ -11,18 +11,17 @@ use Rattle.rtcm_scan.specs.declared.framer.ScanFault.TheVariants as scan
 use Rattle.rtcm2rinex.specs.declared.fault.ToolFault.{ToolFault}
 use Rattle.rtcm2rinex.specs.declared.fault.ToolFault.TheVariants as faults
 use Rattle.rtcm2rinex.specs.Printing.{EndsPrinting}
-use Rattle.rtcm2rinex.specs.Devices.{Ends, HaveFailedBy, ReadFailures, stream_fault}
+use Rattle.rtcm2rinex.specs.Devices.{HaveFailedBy, ReadFailures, stream_fault}
 use Rattle.rtcm_scan.specs.Passing.{AtFault, Passes, BreaksReading, HasPassedAll, PassesAll, PassesToLimit, Reads}
 use Rattle.rtcm_scan.specs.Scan.{FramerValue}
 use Rattle.obs_epoch.specs.SignalCounts.{AreSignalCounts}
-use Rattle.rtcm2rinex.specs.Signals.{valued_in}
-use Rattle.rtcm2rinex.specs.Surveying.{PrintsSurvey, ReadsTooMuch, StopsSurvey, SurveyText}
-use Rattle.rtcm2rinex.specs.Counting.{Counts, StopsCounting, HasCounted, IsCounted, IsSurvey, NeverFails}
+use Rattle.rtcm2rinex.specs.SignalOutput.{EndsSignals, ReadsTooMuch, SignalText, StopsSignals}
+use Rattle.rtcm2rinex.specs.Counting.{Counts, StopsCounting, HasCounted, IsCounted, AreSignals, NeverFails}
 use Rattle.rtcm2rinex.specs.Fitting.{first_station, station_of}
 use Rattle.rtcm_msg.specs.Station.{InRange}
 use Rattle.rtcm_msg.specs.declared.station.StationParts.{StationParts}
 use Rattle.std.specs.Option.{option_or}
-use Rattle.rtcm2rinex.specs.declared.survey.Survey.{Survey}
+use Rattle.rtcm2rinex.specs.declared.signals.StreamSignals.{StreamSignals}
 
 -- the first station message of one more frame
 or_more : (a b c : Option StationParts) → option_or a (option_or b c) ≡ option_or (option_or a b) c
@@ -38,50 +37,50 @@ first_more wanted [] f = or_none (station_of wanted f)
 first_more wanted (g ∷ fs) f =
     ap (option_or (station_of wanted g)) (first_more wanted fs f) ∙ or_more (station_of wanted g) (first_station wanted fs) (station_of wanted f)
 
--- no frame was surveyed
-pub none_surveyed : (c : Survey) (wanted : Option ℕ) → AreSignalCounts c.signal_counts [] → c.first ≡ None → IsSurvey c wanted []
-none_surveyed c wanted signal_counts none = record {
+-- no frame was counted
+pub none_counted : (c : StreamSignals) (wanted : Option ℕ) → AreSignalCounts c.signal_counts [] → c.first ≡ None → AreSignals c wanted []
+none_counted c wanted signal_counts none = record {
   counted = record { signal_counts = signal_counts; few = omega arith };
   first = none;
   in_range = subst (λ (o : Option StationParts). IfSome o InRange) (sym none) tt;
 }
 
-pub new_survey : (c : Survey) → Counts c tt [] c tt []
-new_survey c = record { same = refl; surveys = λ few begun. begun }
+pub new_counts : (c : StreamSignals) → Counts c tt [] c tt []
+new_counts c = record { same = refl; counts = λ few begun. begun }
 
--- one more frame was surveyed
-pub one_more_surveyed : (c0 c c2 : Survey) (ps fs : List Framed) (f : Framed) → c2.station ≡ c.station
+-- one more frame was counted
+pub one_more_counted : (c0 c c2 : StreamSignals) (ps fs : List Framed) (f : Framed) → c2.station ≡ c.station
     → ((gs : List Framed) → length gs < 2 ^ 56 → IsCounted c.signal_counts c.station gs → IsCounted c2.signal_counts c.station (gs ++ f ∷ []))
     → c2.first ≡ option_or c.first (station_of c.station f) → (IfSome c.first InRange → IfSome c2.first InRange)
     → Counts c0 tt ps c tt fs → Counts c0 tt ps c2 tt (fs ++ f ∷ [])
-one_more_surveyed c0 c c2 ps fs f kept step first range s = record {
+one_more_counted c0 c c2 ps fs f kept step first range s = record {
   same = kept ∙ s.same;
-  surveys = λ few begun.
+  counts = λ few begun.
       let fewer : length fs < 2 ^ 56 = join (length fs) (length (fs ++ f ∷ [])) (length-append fs (f ∷ [])) few in
-      let before : IsSurvey c c.station fs = subst (λ (wanted : Option ℕ). IsSurvey c wanted fs) (sym s.same) (s.surveys fewer begun) in
-      subst (λ (wanted : Option ℕ). IsSurvey c2 wanted (fs ++ f ∷ [])) s.same (after before fewer);
+      let before : AreSignals c c.station fs = subst (λ (wanted : Option ℕ). AreSignals c wanted fs) (sym s.same) (s.counts fewer begun) in
+      subst (λ (wanted : Option ℕ). AreSignals c2 wanted (fs ++ f ∷ [])) s.same (after before fewer);
 }
   where
     join : (n m : ℕ) → m ≡ n + 1 → m < 2 ^ 56 → n < 2 ^ 56
     join n m e h = omega (arith, e, h)
 
-    after : IsSurvey c c.station fs → length fs < 2 ^ 56 → IsSurvey c2 c.station (fs ++ f ∷ [])
+    after : AreSignals c c.station fs → length fs < 2 ^ 56 → AreSignals c2 c.station (fs ++ f ∷ [])
     after h fewer = record {
       counted = step fs fewer h.counted;
       first = first ∙ ap (λ (o : Option StationParts). option_or o (station_of c.station f)) h.first ∙ sym (first_more c.station fs f);
       in_range = range h.in_range;
     }
 
--- ---- a stream that is surveyed from its start
+-- ---- a stream that is counted from its start
 
-module _ (v v2 : FramerValue) (c c2 : Survey) (r r2 : Option (List ℕ)) (new : HasPassedAll Counts v c tt [] c tt []) where
+module _ (v v2 : FramerValue) (c c2 : StreamSignals) (r r2 : Option (List ℕ)) (new : HasPassedAll Counts v c tt [] c tt []) where
   -- to its end
-  pub counted_all : v2.has_ended ≡ true → IsSurvey c c.station [] → ((b : List ℕ) → 6 * length (frames_of b) ≤ length b)
-      → PassesAll Counts v c tt v2 c2 tt r r2 → HasCounted c2 c.station r r2
+  pub counted_all : v2.has_ended ≡ true → AreSignals c c.station [] → ((b : List ℕ) → 6 * length (frames_of b) ≤ length b)
+      → PassesAll Counts v c tt v2 c2 tt r r2 → (b : List ℕ) × Consumes r r2 b × IsAtEnd r2 × AreSignals c2 c.station (frames_of b)
   counted_all ended begun law p =
       let b : List ℕ = p.0.0 in
       let all = p.0.2 c tt [] [] new in
-      let counts = subst (λ (e : Bool). length (known_frames e b) < 2 ^ 56 → IsSurvey c c.station [] → IsSurvey c2 c.station (known_frames e b)) ended all.passed.taken.surveys in
+      let counts = subst (λ (e : Bool). length (known_frames e b) < 2 ^ 56 → AreSignals c c.station [] → AreSignals c2 c.station (known_frames e b)) ended all.passed.taken.counts in
       let few = join (length (frames_of b)) (length b) v2.taken v2.limit (law b) all.passed.framer.stands.taken all.passed.framer.within all.passed.framer.limit in
       (b, p.0.1, p.1, counts few begun)
     where
@@ -89,23 +88,23 @@ module _ (v v2 : FramerValue) (c c2 : Survey) (r r2 : Option (List ℕ)) (new : 
       join n m t l a e w x = omega (arith, a, e, w, x)
 
   -- over the limit
-  pub counted_too_much : (limit : ℕ) → v.limit ≡ limit → v.taken ≡ 0 → Reads r r2 (PassesToLimit Counts v c tt v2 c2 tt) → ReadsTooMuch limit r r2
-  counted_too_much limit is none p =
-      let over : limit < length p.0 = omega (arith, is, none, p.2.over) in
+  pub counted_too_much : v.limit ≡ 2 ^ 48 → v.taken ≡ 0 → Reads r r2 (PassesToLimit Counts v c tt v2 c2 tt) → ReadsTooMuch (2 ^ 48) r r2
+  counted_too_much is none p =
+      let over : 2 ^ 48 < length p.0 = omega (arith, is, none, p.2.over) in
       (p.0, p.1, over)
 
   pub counter_fails : {n : ℕ} → BreaksReading Counts NeverFails v c tt c2 tt n r r2 → ⊥
   counter_fails p = (p.breaks c tt [] [] new).broken
 
--- the survey was stopped by a fault
-pub counting_stopped : {R F : Type 0} (left : R → Option (List ℕ)) (v v2 : FramerValue) (c c2 : Survey) (rd rd2 : Device R) (n limit : ℕ) (fault : StreamFault F) → v.limit ≡ limit → v.taken ≡ 0
+-- the counting was stopped by a fault
+pub counting_stopped : {R F : Type 0} (left : R → Option (List ℕ)) (v v2 : FramerValue) (c c2 : StreamSignals) (rd rd2 : Device R) (n : ℕ) (wanted : Option ℕ) (fault : StreamFault F) → v.limit ≡ 2 ^ 48 → v.taken ≡ 0
     → HasPassedAll Counts v c tt [] c tt []
     → AtFault fault (Reads (left rd.inner) (left rd2.inner) (Passes Counts v c tt v2 c2 tt)) (Reads (left rd.inner) (left rd2.inner) (PassesToLimit Counts v c tt v2 c2 tt))
     (BreaksReading Counts NeverFails v c tt c2 tt n (left rd.inner) (left rd2.inner))
-    → StopsCounting limit left rd rd2 (stream_fault fault)
-counting_stopped left v v2 c c2 rd rd2 n limit stream.Read is none new passed = tt
-counting_stopped left v v2 c c2 rd rd2 n limit stream.TooLong is none new passed = counted_too_much v v2 c c2 (left rd.inner) (left rd2.inner) new limit is none passed
-counting_stopped left v v2 c c2 rd rd2 n limit (stream.Sink fault) is none new broke = absurd (counter_fails v v2 c c2 (left rd.inner) (left rd2.inner) new broke)
+    → StopsCounting wanted left rd rd2 (stream_fault fault)
+counting_stopped left v v2 c c2 rd rd2 n wanted stream.Read is none new passed = tt
+counting_stopped left v v2 c c2 rd rd2 n wanted stream.TooLong is none new passed = counted_too_much v v2 c c2 (left rd.inner) (left rd2.inner) new is none passed
+counting_stopped left v v2 c c2 rd rd2 n wanted (stream.Sink fault) is none new broke = absurd (counter_fails v v2 c c2 (left rd.inner) (left rd2.inner) new broke)
 
 pub counted_reads : {F : Type 0} (fault : StreamFault F) (before after : ℕ) → AtFault fault (HasFailed before after) (after ≡ before) (after ≡ before) → ReadFailures (stream_fault fault) before after
 counted_reads stream.Read before after h = h
@@ -113,29 +112,27 @@ counted_reads stream.TooLong before after h = h
 counted_reads (stream.Sink fault) before after h = h
 
 -- a fault of the counting is one of the command, and nothing was written
-pub survey_stopped : {R W : Type 0} (left : R → Option (List ℕ)) (held : W → Option (List ℕ)) (text : SurveyText) (wanted : Option ℕ) (r r2 : Device R) (w : Device W) (fault : ToolFault)
-    → ReadFailures fault r.failures r2.failures → StopsCounting (2 ^ 48) left r r2 fault → HaveFailedBy fault r r2 w w × StopsSurvey text wanted left r r2 held w w fault
-survey_stopped left held text wanted r r2 w faults.Read reads stops = ((reads, refl), refl)
-survey_stopped left held text wanted r r2 w (faults.Scan scan.TooLong) reads stops = ((reads, refl), (stops, refl))
-survey_stopped left held text wanted r r2 w (faults.Scan scan.Memory) reads stops = ((reads, refl), (stops, refl))
-survey_stopped left held text wanted r r2 w (faults.Scan scan.BadLimit) reads stops = absurd stops
-survey_stopped left held text wanted r r2 w (faults.Scan scan.Ended) reads stops = absurd stops
-survey_stopped left held text wanted r r2 w faults.Memory reads stops = absurd stops
-survey_stopped left held text wanted r r2 w faults.Write reads stops = absurd stops
-survey_stopped left held text wanted r r2 w faults.BadPosition reads stops = absurd stops
-survey_stopped left held text wanted r r2 w faults.BadHeight reads stops = absurd stops
-survey_stopped left held text wanted r r2 w (faults.Header e) reads stops = absurd stops
-survey_stopped left held text wanted r r2 w (faults.Plan e) reads stops = absurd stops
-survey_stopped left held text wanted r r2 w (faults.Convert e) reads stops = absurd stops
-survey_stopped left held text wanted r r2 w (faults.Check e) reads stops = absurd stops
-survey_stopped left held text wanted r r2 w faults.NoSignal reads stops = absurd stops
+pub signals_stopped : {R W : Type 0} (left : R → Option (List ℕ)) (held : W → Option (List ℕ)) (text : SignalText) (wanted : Option ℕ) (r r2 : Device R) (w : Device W) (fault : ToolFault)
+    → ReadFailures fault r.failures r2.failures → StopsCounting wanted left r r2 fault → HaveFailedBy fault r r2 w w × StopsSignals text wanted left r r2 held w w fault
+signals_stopped left held text wanted r r2 w faults.Read reads stops = ((reads, refl), refl)
+signals_stopped left held text wanted r r2 w (faults.Scan scan.TooLong) reads stops = ((reads, refl), (stops, refl))
+signals_stopped left held text wanted r r2 w (faults.Scan scan.Memory) reads stops = ((reads, refl), (stops, refl))
+signals_stopped left held text wanted r r2 w (faults.Scan scan.BadLimit) reads stops = absurd stops
+signals_stopped left held text wanted r r2 w (faults.Scan scan.Ended) reads stops = absurd stops
+signals_stopped left held text wanted r r2 w faults.Memory reads stops = absurd stops
+signals_stopped left held text wanted r r2 w faults.Write reads stops = absurd stops
+signals_stopped left held text wanted r r2 w faults.BadPosition reads stops = absurd stops
+signals_stopped left held text wanted r r2 w faults.BadHeight reads stops = absurd stops
+signals_stopped left held text wanted r r2 w (faults.Header e) reads stops = absurd stops
+signals_stopped left held text wanted r r2 w (faults.Plan e) reads stops = absurd stops
+signals_stopped left held text wanted r r2 w (faults.Convert e) reads stops = absurd stops
+signals_stopped left held text wanted r r2 w (faults.Check e) reads stops = absurd stops
+signals_stopped left held text wanted r r2 w faults.NoSignal reads stops = ((reads, refl), (stops, refl))
 
 -- the signals of a stream were printed, or a part of their text
-pub survey_printed : {R W : Type 0} (left : R → Option (List ℕ)) (held : W → Option (List ℕ)) (text : SurveyText) (wanted : Option ℕ) (r r2 : Device R) (w w2 : Device W) (ended : Result ⊤ ToolFault)
-    (b : List ℕ) → Consumes (left r.inner) (left r2.inner) b → IsAtEnd (left r2.inner) → 0 < length (valued_in wanted (frames_of b)) → r2.failures ≡ r.failures
-    → EndsPrinting ended held w w2 (text wanted (frames_of b))
-    → Ends ended r r2 w w2 (λ _. PrintsSurvey text wanted (left r.inner) (left r2.inner) (held w.inner) (held w2.inner)) (StopsSurvey text wanted left r r2 held w w2)
-survey_printed left held text wanted r r2 w w2 (Ok u) b read end some same p = ((same, p.0, p.1), (b, read, end, some, p.2))
-survey_printed left held text wanted r r2 w w2 (Err fault) b read end some same p =
-    subst (λ (f : ToolFault). Ends (Err f) r r2 w w2 (λ (u : ⊤). PrintsSurvey text wanted (left r.inner) (left r2.inner) (held w.inner) (held w2.inner))
-    (StopsSurvey text wanted left r r2 held w w2)) (sym p.0) ((same, p.1.0), (b, read, end, some, p.1.1))
+pub signals_printed : {R W : Type 0} (left : R → Option (List ℕ)) (held : W → Option (List ℕ)) (text : SignalText) (wanted : Option ℕ) (r r2 : Device R) (w w2 : Device W) (ended : Result ⊤ ToolFault)
+    (s : StreamSignals) (h : HasCounted s wanted (left r.inner) (left r2.inner)) → r2.failures ≡ r.failures → EndsPrinting ended held w w2 (text wanted (frames_of h.0))
+    → EndsSignals ended text wanted left r r2 held w w2
+signals_printed left held text wanted r r2 w w2 (Ok u) s h same p = ((same, p.0, p.1), (h.0, h.1, h.2, h.4, p.2))
+signals_printed left held text wanted r r2 w w2 (Err fault) s h same p =
+    subst (λ (f : ToolFault). EndsSignals {A = ⊤} (Err f) text wanted left r r2 held w w2) (sym p.0) ((same, p.1.0), (h.0, h.1, h.2, h.4, p.1.1))

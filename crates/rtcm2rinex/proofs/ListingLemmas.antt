@@ -1,6 +1,7 @@
 -- A listing as a consumer of frames.
 use Rattle.std.proofs.Common.{◌≡◌, ◌∙◌, ◌-◌, ◌<◌, ap, sym, subst, refl, arith, Bool, true, false, ℕ, List, [], ◌∷◌, ◌++◌, Option, append_assoc, append-nil, length, take}
 use Rattle.std.specs.Io.KnownBytes.{Appends, Keeps}
+use Rattle.std.proofs.lemmas.Grind.{flat_map-append}
 use Rattle.std.proofs.KnownBytes.{Appends-nil, Appends-trans, Appends-kept}
 use Rattle.rtcm_bits.specs.Device.{AppendsPrefix, Device, HasFailed}
 use Rattle.rtcm_bits.specs.Prefix.{IsPrefix}
@@ -18,16 +19,11 @@ use Rattle.rtcm2rinex.specs.Listing.{Lists, ListsAll, ListsDecided, StopsListing
 
 -- the lines of one more frame
 lines_more : (k : Listing) (fs : List Framed) (f : Framed) → listing_lines k (fs ++ f ∷ []) ≡ listing_lines k fs ++ listing_line k f
-lines_more k [] f = append-nil (listing_line k f)
-lines_more k (g ∷ fs) f = ap (λ (l : List ℕ). listing_line k g ++ l) (lines_more k fs f) ∙ sym (append_assoc (listing_line k g) (listing_lines k fs) (listing_line k f))
-
-lines_join : (k : Listing) (fs gs : List Framed) → listing_lines k (fs ++ gs) ≡ listing_lines k fs ++ listing_lines k gs
-lines_join k [] gs = refl
-lines_join k (f ∷ fs) gs = ap (λ (l : List ℕ). listing_line k f ++ l) (lines_join k fs gs) ∙ sym (append_assoc (listing_line k f) (listing_lines k fs) (listing_lines k gs))
+lines_more k fs f = flat_map-append (listing_line k) fs (f ∷ []) ∙ ap (λ (l : List ℕ). listing_lines k fs ++ l) (append-nil (listing_line k f))
 
 -- the lines of a prefix of the frames are a prefix of the lines
 first_lines : (k : Listing) (fs gs : List Framed) → IsPrefix fs gs → IsPrefix (listing_lines k fs) (listing_lines k gs)
-first_lines k fs gs p = (listing_lines k p.0, ap (listing_lines k) p.1 ∙ lines_join k fs p.0)
+first_lines k fs gs p = (listing_lines k p.0, ap (listing_lines k) p.1 ∙ flat_map-append (listing_line k) fs p.0)
 
 longer_prefix : (a b c : List ℕ) → IsPrefix a b → IsPrefix b c → IsPrefix a c
 longer_prefix a b c p q = (p.0 ++ q.0, q.1 ∙ ap (λ (l : List ℕ). l ++ q.0) p.1 ∙ append_assoc a p.0 q.0)

@@ -4,6 +4,7 @@ use Rattle.std.specs.Prelude.{cond, nat_lt, nat_le, position}
 use Rattle.std.specs.List.{list_any, position_or_len}
 use Rattle.std.specs.Str.{bytes_eq}
 use Rattle.std.proofs.lemmas.List.Elements.{filter-append}
+use Rattle.std.proofs.lemmas.List.Folds.{list_any-append}
 use Rattle.gnss_obs.specs.declared.system.System.{System}
 use Rattle.gnss_obs.specs.declared.system.System.TheVariants.{Gps, Galileo}
 use Rattle.gnss_obs.specs.Satellites.{satellites}
@@ -119,13 +120,6 @@ codes_apart system low i (j ∷ is) h =
 abbrev pub CodesReadBack : Type 0
 CodesReadBack = (s : SignalAt) → IsSignal s → signal_of_code s.system (code_of s) ≡ Some s
 
-any-append : (q : ℕ) (xs ys : List ℕ) → list_any (nat_eq q) (xs ++ ys) ≡ (list_any (nat_eq q) xs || list_any (nat_eq q) ys)
-any-append q [] ys = refl
-any-append q (x ∷ xs) ys = ap (λ b. nat_eq q x || b) (any-append q xs ys) ∙ assoc (nat_eq q x) (list_any (nat_eq q) xs) (list_any (nat_eq q) ys) where
-  assoc : (a b c : Bool) → (a || (b || c)) ≡ ((a || b) || c)
-  assoc true b c = refl
-  assoc false b c = refl
-
 codes_read : CodesReadBack → (system : System) (earlier : List ℕ) (low : ℕ) (is : List ℕ) → Climbs low (length (table system)) is → ((j : ℕ) → low ≤ j → list_any (nat_eq j) earlier ≡ false)
     → signals_after system earlier (map (code_at system) is) ≡ Ok (earlier ++ is)
 codes_read law system earlier low [] h new = ap Ok (sym (append-nil earlier))
@@ -139,7 +133,7 @@ codes_read law system earlier low (i ∷ is) h new =
     unlike a b e = grind (arith, e)
 
     newer : (j : ℕ) → i + 1 ≤ j → list_any (nat_eq j) (earlier ++ i ∷ []) ≡ false
-    newer j le = any-append j earlier (i ∷ []) ∙ ap₂ (λ a b. a || (b || false)) (new j (omega (arith, le, h.0))) (unlike j i le)
+    newer j le = list_any-append (nat_eq j) earlier (i ∷ []) ∙ ap₂ (λ a b. a || (b || false)) (new j (omega (arith, le, h.0))) (unlike j i le)
 
 low-append : (xs ys : List ℕ) → starts_low xs ≡ true → starts_low (xs ++ ys) ≡ true
 low-append [] ys h = absurd (grind (arith, h))
@@ -174,17 +168,10 @@ count_in g (x ∷ xs) (suc i) d within is = by (is_of_signal g x) (count_in g xs
   by true h = omega arith
   by false h = h
 
-any_is-append : (k : ℕ) (xs ys : List ℕ) → list_any (λ i. i == k) (xs ++ ys) ≡ (list_any (λ i. i == k) xs || list_any (λ i. i == k) ys)
-any_is-append k [] ys = refl
-any_is-append k (x ∷ xs) ys = ap (λ b. (x == k) || b) (any_is-append k xs ys) ∙ assoc (x == k) (list_any (λ i. i == k) xs) (list_any (λ i. i == k) ys) where
-  assoc : (a b c : Bool) → (a || (b || c)) ≡ ((a || b) || c)
-  assoc true b c = refl
-  assoc false b c = refl
-
 among_filter : (p : ℕ → Bool) (n k : ℕ) → k < n → p k ≡ true → list_any (λ i. i == k) (filter p (below n)) ≡ true
 among_filter p zero k within is = absurd (omega (arith, within))
 among_filter p (suc n) k within is =
-    ap (list_any (λ i. i == k)) (filter-append p (below n) (n ∷ [])) ∙ any_is-append k (filter p (below n)) (filter p (n ∷ [])) ∙ by (n == k) refl (λ lt. among_filter p n k lt is)
+    ap (list_any (λ i. i == k)) (filter-append p (below n) (n ∷ [])) ∙ list_any-append (λ i. i == k) (filter p (below n)) (filter p (n ∷ [])) ∙ by (n == k) refl (λ lt. among_filter p n k lt is)
   where
     same : (a b : ℕ) → (a == b) ≡ true → a ≡ b
     same a b e = grind (arith, e)

@@ -3,6 +3,9 @@ use Rattle.std.proofs.Common.{◌≡◌, sym, subst, append-nil, ℕ, List, [], 
 use Rattle.std.specs.Io.KnownBytes.{Appends, Keeps}
 use Rattle.std.proofs.KnownBytes.{Appends-kept}
 use Rattle.rtcm_bits.specs.Device.{AppendsPrefix, Device}
+use Rattle.rtcm_bits.specs.declared.counted.DeviceFailed.{DeviceFailed}
+use Rattle.std.specs.Prelude.{⊤}
+use Rattle.rtcm2rinex.specs.Listing.{WritesLine}
 use Rattle.rtcm2rinex.specs.Printing.{EndsPrinting}
 use Rattle.rtcm2rinex.specs.declared.fault.ToolFault.{ToolFault}
 
@@ -21,3 +24,6 @@ kept_front a b c text h k = ([], (text, sym (append-nil text), Appends-kept a b 
 -- the same text in other terms
 pub same_text : {A W : Type 0} (r : Result A ToolFault) (held : W → Option (List ℕ)) (w w2 : Device W) (x y : List ℕ) → x ≡ y → EndsPrinting r held w w2 x → EndsPrinting r held w w2 y
 same_text r held w w2 x y e h = subst (EndsPrinting r held w w2) e h
+
+pub line_written : {W : Type 0} (r : Result ⊤ DeviceFailed) (held : W → Option (List ℕ)) (w w2 : Device W) (x y : List ℕ) → x ≡ y → WritesLine r held w w2 x → WritesLine r held w w2 y
+line_written r held w w2 x y e h = subst (WritesLine r held w w2) e h

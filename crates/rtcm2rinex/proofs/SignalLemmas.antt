@@ -1,6 +1,7 @@
 -- The text of the signals of a stream, signal by signal.
 use Rattle.std.proofs.Common.{◌≡◌, ℕ, zero, suc, ◌+◌, ◌<◌, ◌≤◌, ◌==◌, ◌&&◌, ◌||◌, All, Result, Ok, OnOk, Bool, true, false, List, [], ◌∷◌, ◌++◌, length, get_or, refl, sym, ap, ap₂, ◌∙◌, subst, arith, filter, map, append-nil, append_assoc}
 use Rattle.std.proofs.lemmas.List.{map-append}
+use Rattle.std.proofs.lemmas.Grind.{flat_map-append}
 use Rattle.std.specs.Prelude.{cond, nat_lt, codes}
 use Rattle.std.specs.List.{list_any}
 use Rattle.std.proofs.lemmas.List.Elements.{All-head, filter-append}
@@ -79,17 +80,13 @@ word_none start text more separator system (i ∷ is) h blank e = absurd (let ba
 
 -- ---- a line for each signal
 
-lines-append : (f : ℕ → List ℕ) (is js : List ℕ) → flat_map f (is ++ js) ≡ flat_map f is ++ flat_map f js
-lines-append f [] js = refl
-lines-append f (i ∷ is) js = ap (λ (l : List ℕ). f i ++ l) (lines-append f is js) ∙ sym (append_assoc (f i) (flat_map f is) (flat_map f js))
-
 pub lines_one : (c : SignalCountsValue) (cells : List HeardCell) (system : System) (i n : ℕ) (start text more line : List ℕ) → AreSignalCounts c cells → i < length (table system) → n ≡ counted c system i → 0 < n
     → text ≡ start ++ lines_below cells system i → more ≡ text ++ line → line ≡ count_line (signal_in system i) n → more ≡ start ++ lines_below cells system (i + 1)
 lines_one c cells system i n start text more line h within is some before e same =
     let f = λ (i : ℕ). count_line (signal_in system i) (count_of (signal_in system i) cells) in
     let last : line ≡ f i ++ [] = same ∙ ap (count_line (signal_in system i)) (is ∙ h.each system i within) ∙ sym (append-nil (f i)) in
     e ∙ ap₂ (λ (a b : List ℕ). a ++ b) before last ∙ append_assoc start (lines_below cells system i) (f i ++ [])
-    ∙ ap (λ (l : List ℕ). start ++ l) (sym (lines-append f (had_below cells system i) (i ∷ [])) ∙ ap (flat_map f) (sym (had_one c cells system i n h within is some)))
+    ∙ ap (λ (l : List ℕ). start ++ l) (sym (flat_map-append f (had_below cells system i) (i ∷ [])) ∙ ap (flat_map f) (sym (had_one c cells system i n h within is some)))
 
 pub lines_none : (c : SignalCountsValue) (cells : List HeardCell) (system : System) (i n : ℕ) (start text : List ℕ) → AreSignalCounts c cells → i < length (table system) → n ≡ counted c system i → n ≤ 0
     → text ≡ start ++ lines_below cells system i → text ≡ start ++ lines_below cells system (i + 1)

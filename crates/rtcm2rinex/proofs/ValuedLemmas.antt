@@ -5,7 +5,7 @@ use Rattle.std.proofs.Common.{◌≡◌, ℕ, ◌<◌, ◌≤◌, ◌==◌, ◌&
 use Rattle.std.specs.Prelude.{filter_map, cond, nat_lt, nat_le}
 use Rattle.std.specs.Option.{option_map, option_and_then, option_map_or}
 use Rattle.std.specs.List.{cons_option, position_or_len}
-use Rattle.std.proofs.lemmas.List.Elements.{All-nil, All-cons, All-head, All-tail, All-append}
+use Rattle.std.proofs.lemmas.List.Elements.{All-nil, All-cons, All-append, All-filter}
 use Rattle.gnss_obs.specs.declared.system.System.{System}
 use Rattle.gnss_obs.specs.Satellites.{Satellite, IsSatellite, satellites, satellite_of_id}
 use Rattle.gnss_obs.specs.declared.tables.ListedSignal as tables
@@ -72,13 +72,6 @@ all_seen field system (e ∷ es) = by (seen_in field system e) (seen_key field s
   by None h rest = rest
   by (Some x) h rest = All-cons IsKey x (filter_map (seen_in field system) es) (h x refl) rest
 
-all_passed : (p : HeardCell → Bool) (xs : List HeardCell) → All IsKey xs → All IsKey (filter p xs)
-all_passed p [] h = All-nil IsKey
-all_passed p (x ∷ xs) h = by (p x) (all_passed p xs (All-tail IsKey x xs h)) where
-  by : (b : Bool) → All IsKey (filter p xs) → All IsKey (cond b (x ∷ filter p xs) (filter p xs))
-  by true rest = All-cons IsKey x (filter p xs) (All-head IsKey x xs h) rest
-  by false rest = rest
-
 all_heard : (m : Message) → All IsKey (heard m).cells
 all_heard (Station p) = All-nil IsKey
 all_heard (Msm4 m) = all_seen Df402 (system_of m.is_galileo) (entries (Msm4 m))
@@ -88,7 +81,7 @@ all_heard (Other n set) = All-nil IsKey
 all_valued : (wanted : Option ℕ) (m : Heard) → All IsKey m.cells → All IsKey (valued wanted m)
 all_valued wanted m h = by (is_of_station wanted m) where
   by : (b : Bool) → All IsKey (cond b (filter brings_value m.cells) [])
-  by true = all_passed brings_value m.cells h
+  by true = All-filter brings_value IsKey m.cells h
   by false = All-nil IsKey
 
 frame_keys : (wanted : Option ℕ) (f : Framed) → All IsKey (valued_of wanted f)

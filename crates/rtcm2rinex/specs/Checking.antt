@@ -35,7 +35,8 @@ abbrev pub ChecksPart : (r w w' : Option (List ℕ)) → Type 0
 ChecksPart r w w' = IsFileWith (AppendsPrefix w w') r
 
 -- A file isn't accepted for this reason, and nothing was written; or the writer failed.
-abbrev pub StopsChecking : {R W : Type 0} → (R → Option (List ℕ)) → (r r' : Device R) → (W → Option (List ℕ)) → (w w' : Device W) → ToolFault → Type 0
+abbrev pub StopsChecking : {R W : Type 0} → (R → Option (List ℕ)) → (r r' : Device R) → (W → Option (List ℕ))
+    → (w w' : Device W) → ToolFault → Type 0
 StopsChecking left r r' held w w' (faults.Check e) = IfSome (left r.inner) (λ input. ExplainsFault input e) × (w' ≡ w)
 StopsChecking left r r' held w w' faults.Write = ChecksPart (left r.inner) (held w.inner) (held w'.inner)
 StopsChecking left r r' held w w' other = ⊥

@@ -3,7 +3,8 @@
 use Rattle.std.specs.Prelude.{◌≡◌, ◌⊎◌, pos, true, List, [], ◌∷◌, map, fold, codes, Some, Result, Ok, IfOk}
 use Rattle.std.specs.Borrow.{Bor}
 use Rattle.clap.specs.Walk.{Row, Rule, Text, rule_of}
-use Rattle.clap.specs.Simple.{App, new_app, new_rule, on_top, subcommand_of, subcommand_rows_of, with_rule, with_subcommand}
+use Rattle.clap.specs.Simple.{App, new_app, new_rule, on_top, subcommand_of, subcommand_rows_of, with_rule}
+use Rattle.clap.specs.Simple.{with_subcommand}
 use Rattle.clap.specs.Built.{AddsArg, AddsSubcommand}
 use Rattle.clap.specs.Faults.{fault_of}
 use Rattle.clap.specs.Kinds.{IsAmong}
@@ -19,8 +20,8 @@ use Rattle.clap.specs.declared.builder.value_parser.ValueParser.{ValueParser}
 use Rattle.clap.specs.declared.builder.value_parser.ValueParser.TheVariants as value
 use Rattle.rtcm2rinex.specs.declared.commands.CommandRow.{CommandRow}
 use Rattle.rtcm2rinex.specs.declared.commands.OptionRow.{OptionRow}
-use Rattle.rtcm2rinex.specs.declared.commands.Reading.{Reading}
-use Rattle.rtcm2rinex.specs.declared.commands.Reading.TheVariants.{Given, Or, Among, Week, Station, Bytes}
+use Rattle.rtcm2rinex.specs.declared.commands.ValueKind.{ValueKind}
+use Rattle.rtcm2rinex.specs.declared.commands.ValueKind.TheVariants.{Given, Or, Among, Week, Station, Bytes}
 
 -- ---- options
 
@@ -79,17 +80,17 @@ texts =
     ∷ text (codes "rec-version") ∷ text (codes "ant-number") ∷ text (codes "ant-type") ∷ []
 
 -- the option with this parser and default of its value
-unfoldable pub read_so : Reading → Rule → Rule
-read_so Given a = required a
-read_so (Or default) a = or_else default.now a
-read_so (Among words default) a = read_by (value.Names words) (or_else default.now a)
-read_so Week a = read_by (value.Signed (pos 0) (pos 99999)) (required a)
-read_so Station a = read_by (value.Signed (pos 0) (pos 4095)) a
-read_so Bytes a = read_by (value.Unsigned 0 281474976710656) (or_else (codes "281474976710656") a)
+unfoldable pub of_kind : ValueKind → Rule → Rule
+of_kind Given a = required a
+of_kind (Or default) a = or_else default.now a
+of_kind (Among words default) a = read_by (value.Names words) (or_else default.now a)
+of_kind Week a = read_by (value.Signed (pos 0) (pos 99999)) (required a)
+of_kind Station a = read_by (value.Signed (pos 0) (pos 4095)) a
+of_kind Bytes a = read_by (value.Unsigned 0 281474976710656) (or_else (codes "281474976710656") a)
 
 -- the option of a row
 abbrev pub option_set : OptionRow → Rule
-option_set row = read_so row.reading (option row.name.now)
+option_set row = of_kind row.kind (option row.name.now)
 
 -- ---- commands
 
@@ -108,7 +109,8 @@ of_station name = with_options (new_app name) (station ∷ [])
 
 abbrev pub convert : Bor (List (Bor Text)) → App
 convert names = with_options (with_options (new_app (codes "convert"))
-    (week ∷ date ∷ planned (codes "gps") ∷ planned (codes "galileo") ∷ station ∷ position ∷ height ∷ gather names ∷ limit ∷ []))
+    (week ∷ date ∷ planned (codes "gps") ∷ planned (codes "galileo") ∷ station ∷ position ∷ height ∷ gather names
+    ∷ limit ∷ []))
     texts
 
 -- a command is required, and `--version` is accepted
@@ -118,11 +120,12 @@ start = on_top (λ s. record s { subcommand_required = true; has_version = true 
 abbrev pub listings : App
 listings = with_subcommand (with_subcommand start (new_app (codes "frames")).top) (new_app (codes "show")).top
 
-abbrev pub surveys : App
-surveys = with_subcommand (with_subcommand listings (of_station (codes "signals")).top) (of_station (codes "options")).top
+abbrev pub signal_commands : App
+signal_commands =
+    with_subcommand (with_subcommand listings (of_station (codes "signals")).top) (of_station (codes "options")).top
 
 abbrev pub program : Bor (List (Bor Text)) → App
-program names = with_subcommand (with_subcommand surveys (convert names).top) (new_app (codes "check")).top
+program names = with_subcommand (with_subcommand signal_commands (convert names).top) (new_app (codes "check")).top
 
 -- the commands and options are those of the program
 abbrev pub IsProgram : App → Type 0
@@ -135,7 +138,9 @@ AreCommands rows = IsProgram (with_commands start (map command_set rows))
 -- The result is the given command with one more option or one more command, unless memory ran out.
 abbrev pub AddsOption : {E : Type 0} → Result Command E → Rule → Result Command E → Type 0
 AddsOption old rule new =
-    IfOk new (λ made. (command : Command) × (option : Arg) × (old ≡ Ok command) × (rule_of option ≡ rule) × AddsArg command option made)
+    IfOk new
+    (λ made. (command : Command) × (option : Arg) × (old ≡ Ok command) × (rule_of option ≡ rule)
+    × AddsArg command option made)
 
 abbrev pub AddsCommand : {E : Type 0} → (old below new : Result Command E) → Type 0
 AddsCommand old below new =
@@ -144,14 +149,16 @@ AddsCommand old below new =
 -- the names of the program's commands
 abbrev pub IsCommand : Text → Type 0
 IsCommand name =
-    (name ≡ codes "frames") ⊎ (name ≡ codes "show") ⊎ (name ≡ codes "signals") ⊎ (name ≡ codes "options") ⊎ (name ≡ codes "convert")
+    (name ≡ codes "frames") ⊎ (name ≡ codes "show") ⊎ (name ≡ codes "signals") ⊎ (name ≡ codes "options")
+    ⊎ (name ≡ codes "convert")
     ⊎ (name ≡ codes "check")
 
 -- ---- what words ask for, by clap's own definitions
 
 -- the words have no fault, and ask for the command of this name with these options
 abbrev pub Asks : List Text → Text → List Row → Type 0
-Asks words name options = (a : App) × IsProgram a × (fault_of a words ≡ []) × (subcommand_of a words ≡ Some (name, options))
+Asks words name options =
+    (a : App) × IsProgram a × (fault_of a words ≡ []) × (subcommand_of a words ≡ Some (name, options))
 
 -- the words have a fault or ask for a text, and this is the kind of the error
 abbrev pub IsAnswered : List Text → ErrorKind → Type 0
@@ -159,7 +166,8 @@ IsAnswered words k = (a : App) × IsProgram a × IsAmong k (fault_of a words)
 
 -- a command of the program was found in the words, and they ask for it
 abbrev pub IsFoundIn : List Text → ArgMatches → Type 0
-IsFoundIn words m = (name : Text) × (options : List Row) × IsCommand name × (subcommand_rows_of m ≡ Some (name, options)) × Asks words name options
+IsFoundIn words m = (name : Text) × (options : List Row) × IsCommand name
+    × (subcommand_rows_of m ≡ Some (name, options)) × Asks words name options
 
 -- the reason why the words weren't accepted: memory ran out, or the words themselves
 abbrev pub RefusesWords : List Text → Error → Type 0

@@ -13,7 +13,7 @@ use Rattle.rtcm2rinex.specs.ShowLines.{show_lines}
 use Rattle.rtcm2rinex.specs.Listing.{ListsAll, StopsListing}
 use Rattle.rtcm2rinex.specs.Converting.{IsConverted, StopsConverting}
 use Rattle.rtcm2rinex.specs.Checking.{ChecksFile, StopsChecking}
-use Rattle.rtcm2rinex.specs.Surveying.{PrintsAsked, StopsAsked}
+use Rattle.rtcm2rinex.specs.SignalOutput.{PrintsAsked, StopsAsked}
 use Rattle.rtcm2rinex.specs.Signals.{signals_text}
 use Rattle.rtcm2rinex.specs.Fitting.{options_text}
 use Rattle.rtcm2rinex.specs.CommandLine.{Asks, IsAnswered, IsCommand}
@@ -26,7 +26,8 @@ use Rattle.rtcm2rinex.specs.declared.cli.TheConstants.{VERSION}
 
 -- The command of this name completed with these options: the stream was read to its end and listed, its signals or
 -- options were printed, or its file was written and has an epoch; or a file was read back.
-abbrev pub HasDone : {R W : Type 0} → (R → Option (List ℕ)) → (r r' : Device R) → (W → Option (List ℕ)) → (w w' : Device W) → Text → List Row → Type 0
+abbrev pub HasDone : {R W : Type 0} → (R → Option (List ℕ)) → (r r' : Device R) → (W → Option (List ℕ))
+    → (w w' : Device W) → Text → List Row → Type 0
 HasDone left r r' held w w' name options =
     ((name ≡ codes "frames") × Moves left r r' held w w' (ListsAll frame_lines))
     ⊎ ((name ≡ codes "show") × Moves left r r' held w w' (ListsAll show_lines))
@@ -36,7 +37,8 @@ HasDone left r r' held w w' name options =
     ⊎ ((name ≡ codes "check") × ChecksFile (left r.inner) (held w.inner) (held w'.inner))
 
 -- the command was stopped by a fault
-abbrev pub HasStopped : {R W : Type 0} → (R → Option (List ℕ)) → (r r' : Device R) → (W → Option (List ℕ)) → (w w' : Device W) → Text → List Row → ToolFault → Type 0
+abbrev pub HasStopped : {R W : Type 0} → (R → Option (List ℕ)) → (r r' : Device R) → (W → Option (List ℕ))
+    → (w w' : Device W) → Text → List Row → ToolFault → Type 0
 HasStopped left r r' held w w' name options fault =
     ((name ≡ codes "frames") × StopsListing (2 ^ 48) frame_lines left r r' held w w' fault)
     ⊎ ((name ≡ codes "show") × StopsListing (2 ^ 48) show_lines left r r' held w w' fault)
@@ -46,7 +48,8 @@ HasStopped left r r' held w w' name options fault =
     ⊎ ((name ≡ codes "check") × StopsChecking left r r' held w w' fault)
 
 -- how the command ended
-abbrev pub EndsCommand : {A R W : Type 0} → Result A ToolFault → (R → Option (List ℕ)) → (r r' : Device R) → (W → Option (List ℕ)) → (w w' : Device W) → Text → List Row → Type 0
+abbrev pub EndsCommand : {A R W : Type 0} → Result A ToolFault → (R → Option (List ℕ)) → (r r' : Device R)
+    → (W → Option (List ℕ)) → (w w' : Device W) → Text → List Row → Type 0
 EndsCommand result left r r' held w w' name options =
     Ends result r r' w w' (λ _. HasDone left r r' held w w' name options) (HasStopped left r r' held w w' name options)
 
@@ -55,23 +58,27 @@ abbrev pub HasCommand : ArgMatches → Type 0
 HasCommand m = (name : Text) × (options : List Row) × IsCommand name × (subcommand_rows_of m ≡ Some (name, options))
 
 -- how the command that was found ended
-abbrev pub EndsFound : {A R W : Type 0} → Result A ToolFault → (R → Option (List ℕ)) → (r r' : Device R) → (W → Option (List ℕ)) → (w w' : Device W)
-    → Option (Text × List Row) → Type 0
-EndsFound result left r r' held w w' found =
-    (name : Text) × (options : List Row) × (found ≡ Some (name, options)) × EndsCommand result left r r' held w w' name options
+abbrev pub EndsFound : {A R W : Type 0} → Result A ToolFault → Option (Text × List Row) → (R → Option (List ℕ))
+    → (r r' : Device R) → (W → Option (List ℕ)) → (w w' : Device W) → Type 0
+EndsFound result found left r r' held w w' =
+    (name : Text) × (options : List Row) × (found ≡ Some (name, options))
+    × EndsCommand result left r r' held w w' name options
 
 -- ---- the exit status
 
 -- The command that the words ask for completed with the options that they give; or they ask for the version, and it was
 -- written.
-abbrev pub HasServed : {R W : Type 0} → (R → Option (List ℕ)) → (r r' : Device R) → (W → Option (List ℕ)) → (w w' : Device W) → List Text → Type 0
+abbrev pub HasServed : {R W : Type 0} → (R → Option (List ℕ)) → (r r' : Device R) → (W → Option (List ℕ))
+    → (w w' : Device W) → List Text → Type 0
 HasServed left r r' held w w' words =
-    ((name : Text) × (options : List Row) × Asks words name options × AreFine r r' w w' × HasDone left r r' held w w' name options)
+    ((name : Text) × (options : List Row) × Asks words name options × AreFine r r' w w'
+    × HasDone left r r' held w w' name options)
     ⊎ (IsAnswered words DisplayVersion × (r' ≡ r) × PrintsText held w w' VERSION.now)
 
 -- The command that the words ask for, or the output of the version, was stopped by a fault; or memory ran out before
 -- anything was read or written.
-abbrev pub HasFailedToServe : {R W : Type 0} → (R → Option (List ℕ)) → (r r' : Device R) → (W → Option (List ℕ)) → (w w' : Device W) → List Text → Type 0
+abbrev pub HasFailedToServe : {R W : Type 0} → (R → Option (List ℕ)) → (r r' : Device R) → (W → Option (List ℕ))
+    → (w w' : Device W) → List Text → Type 0
 HasFailedToServe left r r' held w w' words =
     ((name : Text) × (options : List Row) × (fault : ToolFault) × Asks words name options × HaveFailedBy fault r r' w w'
     × HasStopped left r r' held w w' name options fault)
@@ -98,4 +105,5 @@ status_of (Err fault) = fault_status fault
 abbrev pub AreRefused : List Text → Type 0
 AreRefused words =
     ((k : ErrorKind) × IsAnswered words k × (k ≡ DisplayVersion → ⊥))
-    ⊎ ((options : List Row) × (fault : ToolFault) × Asks words (codes "convert") options × IsSetupRefused options fault × (fault_status fault ≡ 2))
+    ⊎ ((options : List Row) × (fault : ToolFault) × Asks words (codes "convert") options × IsSetupRefused options fault
+    × (fault_status fault ≡ 2))

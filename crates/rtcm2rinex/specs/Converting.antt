@@ -1,11 +1,13 @@
 -- What the command `convert` has read and written.
-use Rattle.std.specs.Prelude.{◌≡◌, ◌⊎◌, true, ℕ, List, Option, IfSome}
+use Rattle.std.specs.Prelude.{◌≡◌, ◌⊎◌, true, ℕ, List, Option, Result, IfSome}
 use Rattle.rtcm_convert.specs.SetupValues.{Start, IsBadAt}
-use Rattle.rtcm_convert.specs.Made.{IsMade, IsMadeEmpty, IsMadeToLimit, IsMadeSoFar, IsMadeInPart}
+use Rattle.rtcm_convert.specs.Made.{IsMade, IsMadeEmpty, IsMadeWith, IsMadeToLimit, IsMadeSoFar, IsMadeInPart}
 use Rattle.rtcm_convert.specs.Faults.{IsUntouched}
 use Rattle.rtcm_convert.specs.Moves.{Moves}
 use Rattle.rtcm_bits.specs.Device.{Device}
 use Rattle.rtcm_convert.specs.declared.fault.Fault.TheVariants as convert
+use Rattle.rtcm_convert.specs.declared.report.Report.{Report}
+use Rattle.rtcm2rinex.specs.Devices.{Ends}
 use Rattle.clap.specs.Walk.{Row}
 use Rattle.rtcm2rinex.specs.declared.fault.ToolFault.{ToolFault}
 use Rattle.rtcm2rinex.specs.declared.fault.ToolFault.TheVariants as faults
@@ -20,20 +22,40 @@ IsConverted options r w w' = (x : Start) × IsStartOf options x × (IsBadAt x �
 abbrev pub MakesNoEpoch : Start → (r r' w w' : Option (List ℕ)) → Type 0
 MakesNoEpoch x r r' w w' = IfSome r (IsMadeEmpty x w w')
 
--- What a conversion with this start, which is out of range if Bad holds, has read and written at a fault: at `Read` the
--- file of the epochs that the bytes before close, at `Write` a part of the file, and at `TooLong` the file of the
--- epochs that the bytes up to the limit close.
-abbrev pub StopsConversion : {R W : Type 0} → Type 0 → Start → (R → Option (List ℕ)) → (r r' : Device R) → (W → Option (List ℕ)) → (w w' : Device W) → ToolFault → Type 0
-StopsConversion Bad x left r r' held w w' faults.Read = Moves left r r' held w w' (IsMadeSoFar x) × (w.is_sent ≡ true → w'.is_sent ≡ true)
-StopsConversion Bad x left r r' held w w' faults.Write = Moves left r r' held w w' (IsMadeInPart x)
-StopsConversion Bad x left r r' held w w' (faults.Convert convert.TooLong) = Moves left r r' held w w' (IsMadeToLimit x) × (w'.is_sent ≡ true)
-StopsConversion Bad x left r r' held w w' (faults.Convert convert.NoEpoch) = Moves left r r' held w w' (MakesNoEpoch x) × (w'.is_sent ≡ true)
-StopsConversion Bad x left r r' held w w' (faults.Convert convert.BadSetup) = Bad × IsUntouched r r' w w'
-StopsConversion Bad x left r r' held w w' (faults.Convert convert.Memory) = IsUntouched r r' w w'
-StopsConversion Bad x left r r' held w w' other = ⊥
+-- What a conversion with this start has read and written at a fault: at `Read` the file of the epochs that the bytes
+-- before close, at `Write` a part of the file, and at `TooLong` the file of the epochs that the bytes up to the limit
+-- close.
+abbrev pub StopsConversion : {R W : Type 0} → Start → (R → Option (List ℕ)) → (r r' : Device R) → (W → Option (List ℕ))
+    → (w w' : Device W) → ToolFault → Type 0
+StopsConversion x left r r' held w w' faults.Read =
+    Moves left r r' held w w' (IsMadeSoFar x) × (w.is_sent ≡ true → w'.is_sent ≡ true)
+StopsConversion x left r r' held w w' faults.Write = Moves left r r' held w w' (IsMadeInPart x)
+StopsConversion x left r r' held w w' (faults.Convert convert.TooLong) =
+    Moves left r r' held w w' (IsMadeToLimit x) × (w'.is_sent ≡ true)
+StopsConversion x left r r' held w w' (faults.Convert convert.NoEpoch) =
+    Moves left r r' held w w' (MakesNoEpoch x) × (w'.is_sent ≡ true)
+StopsConversion x left r r' held w w' (faults.Convert convert.BadSetup) = IsBadAt x × IsUntouched r r' w w'
+StopsConversion x left r r' held w w' (faults.Convert convert.Memory) = IsUntouched r r' w w'
+StopsConversion x left r r' held w w' other = ⊥
+
+-- how a conversion with this start ended
+abbrev pub EndsConversion : {R W : Type 0} → Result Report ToolFault → Start → (R → Option (List ℕ)) → (r r' : Device R)
+    → (W → Option (List ℕ)) → (w w' : Device W) → Type 0
+EndsConversion result x left r r' held w w' =
+    Ends result r r' w w' (λ report. IfSome (left r.inner) (IsMadeWith x report (held w.inner) (held w'.inner)))
+    (StopsConversion x left r r' held w w')
 
 -- The setup of these options is refused, and nothing was read or written; or the conversion that they ask for was
 -- stopped.
-abbrev pub StopsConverting : {R W : Type 0} → List Row → (R → Option (List ℕ)) → (r r' : Device R) → (W → Option (List ℕ)) → (w w' : Device W) → ToolFault → Type 0
+abbrev pub StopsConverting : {R W : Type 0} → List Row → (R → Option (List ℕ)) → (r r' : Device R)
+    → (W → Option (List ℕ)) → (w w' : Device W) → ToolFault → Type 0
 StopsConverting options left r r' held w w' fault =
-    (IsSetupRefused options fault × IsUntouched r r' w w') ⊎ ((x : Start) × IsStartOf options x × StopsConversion (IsBadAt x) x left r r' held w w' fault)
+    (IsSetupRefused options fault × IsUntouched r r' w w')
+    ⊎ ((x : Start) × IsStartOf options x × StopsConversion x left r r' held w w' fault)
+
+-- how such a command ended
+abbrev pub EndsConverting : {A R W : Type 0} → Result A ToolFault → List Row → (R → Option (List ℕ)) → (r r' : Device R)
+    → (W → Option (List ℕ)) → (w w' : Device W) → Type 0
+EndsConverting result options left r r' held w w' =
+    Ends result r r' w w' (λ _. IsConverted options (left r.inner) (held w.inner) (held w'.inner))
+    (StopsConverting options left r r' held w w')

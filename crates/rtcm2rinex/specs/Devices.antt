@@ -48,6 +48,7 @@ HaveFailedBy fault r r' w w' = ReadFailures fault r.failures r'.failures × Writ
 
 -- How a command ended: no device failed, nothing waits in the writer, and Done holds for its value; or Stopped holds
 -- for its fault.
-abbrev pub Ends : {A R W : Type 0} → Result A ToolFault → (r r' : Device R) → (w w' : Device W) → (A → Type 0) → (ToolFault → Type 0) → Type 0
+abbrev pub Ends : {A R W : Type 0} → Result A ToolFault → (r r' : Device R) → (w w' : Device W) → (A → Type 0)
+    → (ToolFault → Type 0) → Type 0
 Ends (Ok x) r r' w w' Done Stopped = AreFine r r' w w' × Done x
 Ends (Err fault) r r' w w' Done Stopped = HaveFailedBy fault r r' w w' × Stopped fault

@@ -41,7 +41,8 @@ station_words (Some s) = position_word s ∷ antenna_words s.height
 
 -- the line of the options that plan these signals, and of those with the values of this station message
 unfoldable pub options_line : PlanValue → Option StationParts → List ℕ
-options_line p first = line (codes "--gps" ∷ codes_word Gps p.gps ∷ codes "--galileo" ∷ codes_word Galileo p.galileo ∷ station_words first)
+options_line p first =
+    line (codes "--gps" ∷ codes_word Gps p.gps ∷ codes "--galileo" ∷ codes_word Galileo p.galileo ∷ station_words first)
 
 -- the output of `options` for these frames
 abbrev pub options_text : Option ℕ → List Framed → List ℕ

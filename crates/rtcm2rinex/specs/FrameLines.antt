@@ -7,7 +7,8 @@ use Rattle.rtcm2rinex.specs.Lines.{line}
 
 -- the message number (DF002), which is the first 12 bits, or a dash if there are fewer
 unfoldable pub number_word : List ℕ → List ℕ
-number_word message = if nat_le 12 (length (bits_of message)) then decimal (number (take 12 (bits_of message))) else codes "-"
+number_word message =
+    if nat_le 12 (length (bits_of message)) then decimal (number (take 12 (bits_of message))) else codes "-"
 
 -- the offset, the length of the message in bytes, and the message number
 unfoldable pub frame_line : Framed → List ℕ

@@ -1,5 +1,7 @@
 -- Lengths in metres, read from text in units of 0.0001 m.
-use Rattle.std.specs.Prelude.{ℕ, ℤ, pos, neg_ℤ, nat_le, nat_lt, ◌+◌, ◌-◌, ◌*◌, ◌^◌, ◌==◌, ◌&&◌, Bool, List, take, drop, length, Option, Some, None, Result, Ok, Err, option_map, option_and_then, position, if◌then◌else◌}
+use Rattle.std.specs.Prelude.{ℕ, ℤ, pos, neg_ℤ, nat_le, nat_lt, ◌+◌, ◌-◌, ◌*◌, ◌^◌, ◌==◌, ◌&&◌, List, take, drop}
+use Rattle.std.specs.Prelude.{length, Option, Some, None, Result, Ok, Err, option_map, option_and_then, position}
+use Rattle.std.specs.Prelude.{if◌then◌else◌}
 use Rattle.std.specs.List.{list_all}
 use Rattle.clap.specs.Lexer.{is_digit, strip_byte}
 use Rattle.rinex_file.specs.Read.Fields.{digits_in}
@@ -9,7 +11,8 @@ use Rattle.rtcm2rinex.specs.declared.fault.ToolFault.TheVariants.{BadPosition, B
 
 -- the number of one to `most` digits
 abbrev pub number_of : ℕ → List ℕ → Option ℕ
-number_of most text = if nat_le 1 (length text) && nat_le (length text) most && list_all is_digit text then Some (digits_in text) else None
+number_of most text = if nat_le 1 (length text) && nat_le (length text) most && list_all is_digit text
+    then Some (digits_in text) else None
 
 -- the texts before and after the first separator, if there is one
 abbrev pub cut : ℕ → List ℕ → Option (List ℕ × List ℕ)
@@ -43,7 +46,8 @@ coordinate_of text = coordinate_by text (strip_byte 0x2D text)
 abbrev pub position_of : List ℕ → Option (ℤ × ℤ × ℤ)
 position_of text =
     option_and_then (λ p. option_and_then (λ q.
-    option_and_then (λ x. option_and_then (λ y. option_map (λ z. (x, y, z)) (coordinate_of q.1)) (coordinate_of q.0)) (coordinate_of p.0))
+    option_and_then (λ x. option_and_then (λ y. option_map (λ z. (x, y, z)) (coordinate_of q.1)) (coordinate_of q.0))
+    (coordinate_of p.0))
     (cut 0x2C p.1)) (cut 0x2C text)
 
 -- the station values of a position and an antenna height, or the fault of the text that isn't one

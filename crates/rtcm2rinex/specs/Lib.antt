@@ -8,12 +8,13 @@ pub mod SetupOptions
 pub mod CommandLine
 pub mod Devices
 pub mod Converting
+pub mod Reports
 pub mod ReadBack
 pub mod Checking
 pub mod Signals
 pub mod Fitting
 pub mod Counting
-pub mod Surveying
+pub mod SignalOutput
 pub mod Printing
 pub mod Commands
 pub mod SignalLaws

@@ -7,13 +7,15 @@ use Rattle.rtcm2rinex.specs.declared.fault.ToolFault.TheVariants.{Write}
 
 -- the text was written, nothing waits in the writer, and it didn't fail
 abbrev pub PrintsText : {W : Type 0} → (W → Option (List ℕ)) → (w w' : Device W) → List ℕ → Type 0
-PrintsText held w w' text = (w'.failures ≡ w.failures) × (w'.is_sent ≡ true) × Appends (held w.inner) (held w'.inner) text
+PrintsText held w w' text =
+    (w'.failures ≡ w.failures) × (w'.is_sent ≡ true) × Appends (held w.inner) (held w'.inner) text
 
 -- the writer failed once, and accepted a prefix of the text
 abbrev pub PrintsPart : {W : Type 0} → (W → Option (List ℕ)) → (w w' : Device W) → List ℕ → Type 0
 PrintsPart held w w' text = HasFailed w.failures w'.failures × AppendsPrefix (held w.inner) (held w'.inner) text
 
 -- one or the other
-abbrev pub EndsPrinting : {A W : Type 0} → Result A ToolFault → (W → Option (List ℕ)) → (w w' : Device W) → List ℕ → Type 0
+abbrev pub EndsPrinting : {A W : Type 0} → Result A ToolFault → (W → Option (List ℕ)) → (w w' : Device W) → List ℕ
+    → Type 0
 EndsPrinting (Ok x) held w w' text = PrintsText held w w' text
 EndsPrinting (Err fault) held w w' text = (fault ≡ Write) × PrintsPart held w w' text

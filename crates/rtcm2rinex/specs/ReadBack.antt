@@ -34,7 +34,8 @@ AreReadAs (f ∷ fs) (v ∷ vs) = IsReadAs f.message v × AreReadAs fs vs
 -- The joined frames of encoded messages have exactly these frames, one after the other from place 0 on, with the
 -- encodings as their messages; and these are read back as the messages.
 abbrev pub ReadsBack : List (List ℕ) → List Message → Type 0
-ReadsBack es vs = AreFrames (flat_map frame_bytes es) (placed 0 es) × (map (λ f. f.message) (placed 0 es) ≡ es) × AreReadAs (placed 0 es) vs
+ReadsBack es vs = AreFrames (flat_map frame_bytes es) (placed 0 es) × (map (λ f. f.message) (placed 0 es) ≡ es)
+    × AreReadAs (placed 0 es) vs
 
 -- each message is of a known layout
 abbrev pub AreKnown : List Message → Type 0

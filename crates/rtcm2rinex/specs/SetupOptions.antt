@@ -1,5 +1,6 @@
 -- The settings that the options of `convert` give.
-use Rattle.std.specs.Prelude.{◌≡◌, ◌<◌, ◌^◌, ℕ, List, [], ◌∷◌, map, Option, Some, None, Result, Ok, Err, codes, unwrap_or, not, ◌⊎◌}
+use Rattle.std.specs.Prelude.{◌≡◌, ◌<◌, ◌^◌, ℕ, List, [], ◌∷◌, map, Option, Some, None, Result, Ok, Err, codes}
+use Rattle.std.specs.Prelude.{unwrap_or, not, ◌⊎◌}
 use Rattle.std.specs.Str.{bytes_eq}
 use Rattle.std.specs.Str.Parse.{IsNumeral, digits_value, without_leading_plus}
 use Rattle.clap.specs.Walk.{Row, first_of, one_of, rows_of}
@@ -33,7 +34,8 @@ texts_set options =
 
 -- a text is the decimal form of a number of `bits` bits, with or without a leading plus sign
 abbrev pub SpellsNumber : ℕ → List ℕ → Type 0
-SpellsNumber bits text = IsNumeral 10 (without_leading_plus text) × (digits_value 10 (without_leading_plus text) < 2 ^ bits)
+SpellsNumber bits text =
+    IsNumeral 10 (without_leading_plus text) × (digits_value 10 (without_leading_plus text) < 2 ^ bits)
 
 -- the number of `bits` bits in a text, if there is a text and it is the decimal form of one
 abbrev pub IsNumberOf : ℕ → Option (List ℕ) → Option ℕ → Type 0

@@ -1,5 +1,6 @@
 -- The lines of `show`.
-use Rattle.std.specs.Prelude.{ℕ, pos, List, [], ◌∷◌, Option, Some, None, Result, Ok, Err, is_some, count_ones, codes, decimal, if◌then◌else◌}
+use Rattle.std.specs.Prelude.{ℕ, pos, List, [], ◌∷◌, Option, Some, None, Result, Ok, Err, is_some, count_ones, codes}
+use Rattle.std.specs.Prelude.{decimal, if◌then◌else◌}
 use Rattle.std.specs.List.{flat_map}
 use Rattle.rtcm_bits.specs.Bits.{bit}
 use Rattle.rtcm_scan.specs.Frames.{Framed}
@@ -24,14 +25,19 @@ height_words (Some h) = metres (pos h) ∷ []
 -- a station message: offset, number, station (DF003), X, Y and Z (DF025 to DF027), and the height (DF028) if it has one
 unfoldable pub station_line : ℕ → StationParts → List ℕ
 station_line offset s =
-    line (decimal offset ∷ decimal (if is_some s.height then 1006 else 1005) ∷ decimal s.station ∷ metres s.x ∷ metres s.y ∷ metres s.z ∷ height_words s.height)
+    line
+    (decimal offset ∷ decimal (if is_some s.height then 1006 else 1005) ∷ decimal s.station ∷ metres s.x
+    ∷ metres s.y ∷ metres s.z ∷ height_words s.height)
 
 -- an MSM: offset, number, station (DF003), time (ms of the week), DF393, and the numbers of satellites, signals and
 -- cells
 unfoldable pub msm_line : ℕ → ℕ → MsmValue → List ℕ
 msm_line offset number m =
-    line (decimal offset ∷ decimal number ∷ decimal m.header.station ∷ decimal m.header.time ∷ decimal (bit m.header.more)
-    ∷ decimal (count_ones m.sets.satellites) ∷ decimal (count_ones m.sets.signals) ∷ decimal (count_ones m.sets.cells) ∷ [])
+    line
+    (decimal offset ∷ decimal number ∷ decimal m.header.station ∷ decimal m.header.time
+    ∷ decimal (bit m.header.more)
+    ∷ decimal (count_ones m.sets.satellites) ∷ decimal (count_ones m.sets.signals) ∷ decimal (count_ones m.sets.cells)
+    ∷ [])
 
 abbrev pub fault_words : MsgFault → List (List ℕ)
 fault_words (Short bits) = codes "Short" ∷ decimal bits ∷ []

@@ -16,18 +16,22 @@ use Rattle.rtcm2rinex.specs.Signals.{valued_in, had, plan_had, codes_word}
 -- of unlisted satellites or signals
 abbrev pub SkipsOnly : GatherSetup → List Timed → Framed → Type 0
 SkipsOnly s earlier f =
-    (m : Heard) → heard_in f ≡ Some m → (counts_of_message s earlier m).skipped ≤ m.unlisted + count_by (λ x. not (brings_value x)) m.cells
+    (m : Heard) → heard_in f ≡ Some m
+    → (counts_of_message s earlier m).skipped ≤ m.unlisted + count_by (λ x. not (brings_value x)) m.cells
 
 -- a conversion with this plan has a column for each value of the frames' cells of listed satellites and signals
 abbrev pub LeavesNoneOut : Type 0
-LeavesNoneOut = (s : GatherSetup) (fs : List Framed) → s.plan ≡ plan_had (valued_in s.station fs) → All (λ x. is_planned s x ≡ true) (valued_in s.station fs)
+LeavesNoneOut = (s : GatherSetup) (fs : List Framed) → s.plan ≡ plan_had (valued_in s.station fs)
+    → All (λ x. is_planned s x ≡ true) (valued_in s.station fs)
 
 -- the two words of the options are parsed as this plan
 abbrev pub AreReadAsPlan : Type 0
 AreReadAsPlan = (wanted : Option ℕ) (fs : List Framed) → 0 < length (valued_in wanted fs)
-    → plan_of (codes_word Gps (had (valued_in wanted fs) Gps)) (codes_word Galileo (had (valued_in wanted fs) Galileo)) ≡ Ok (plan_had (valued_in wanted fs))
+    → plan_of (codes_word Gps (had (valued_in wanted fs) Gps)) (codes_word Galileo (had (valued_in wanted fs) Galileo))
+    ≡ Ok (plan_had (valued_in wanted fs))
 
 -- Of a message of these frames, a conversion with this plan counts as skipped only cells of unlisted satellites or
 -- signals and cells without a value, for every list of messages before.
 abbrev pub SkipsNoValue : Type 0
-SkipsNoValue = (s : GatherSetup) (fs : List Framed) → s.plan ≡ plan_had (valued_in s.station fs) → (earlier : List Timed) → All (SkipsOnly s earlier) fs
+SkipsNoValue = (s : GatherSetup) (fs : List Framed) → s.plan ≡ plan_had (valued_in s.station fs)
+    → (earlier : List Timed) → All (SkipsOnly s earlier) fs

@@ -56,7 +56,8 @@ unfoldable pub count_line : SignalAt → ℕ → List ℕ
 count_line g count = line (letter g.system ∷ code_of g ∷ decimal count ∷ [])
 
 abbrev pub lines_below : List HeardCell → System → ℕ → List ℕ
-lines_below cells system n = flat_map (λ i. count_line (signal_in system i) (count_of (signal_in system i) cells)) (had_below cells system n)
+lines_below cells system n =
+    flat_map (λ i. count_line (signal_in system i) (count_of (signal_in system i) cells)) (had_below cells system n)
 
 -- a line for each signal of a system that has a cell
 abbrev pub count_lines : List HeardCell → System → List ℕ

@@ -8,7 +8,7 @@ ghost use Rattle.rtcm2rinex.specs.Devices.{Ends};
 ghost use Rattle.rtcm2rinex.specs.Checking.{check_line, AcceptsFiles, ChecksFile, StopsChecking};
 
 use crate::fault::ToolFault;
-use crate::line::{Line, print_text};
+use crate::line::{OutputLine, print_text};
 use rinex_file::{Counts, check_file};
 use rtcm_bits::Counted;
 use std::alloc::Global;
@@ -16,15 +16,14 @@ use std::io::{Read, Write};
 
 /// Returns the line of a file: its numbers of epochs, satellite lines and events.
 #[tactic(auto, unfolding(crate::specs::Checking::check_line))]
-fn check_line(counts: Counts) -> Line
+fn check_line(counts: Counts) -> OutputLine
     ensures { (v : FileValue) → AreCounts counts v → result ≡ check_line v }
 {
-    let mut line = Line::starting_with_word("epochs");
+    let mut line = OutputLine::new();
+    line.put(b"epochs");
     line.add_number(counts.epochs);
-    line.add_word("satellites");
-    line.add_number(counts.satellites);
-    line.add_word("events");
-    line.add_number(counts.events);
+    line.add_count("satellites", counts.satellites);
+    line.add_count("events", counts.events);
     line.finish();
     line
 }
@@ -52,6 +51,6 @@ pub fn run_check<R: Read, W: Write>(
 {
     match check_file(alloc, reader) {
         Ok(counts) => print_text(check_line(counts).as_bytes(), writer),
-        Err(fault) => Err(ToolFault::from(fault)),
+        Err(fault) => Err(ToolFault::Check(fault)),
     }
 }

@@ -5,14 +5,12 @@ ghost use Rattle.clap.specs.Simple.{app_of, new_app};
 ghost use Rattle.rtcm2rinex.specs.CommandLine.{IsFoundIn, IsProgram, RefusesWords, command_set, option_set};
 ghost use Rattle.rtcm2rinex.specs.CommandLine as line;
 
-use crate::commands::{COMMANDS, CommandRow, OptionRow, Reading};
-use crate::help;
-use crate::help::Help;
+use crate::commands::{ABOUT, COMMANDS, CommandRow, EXAMPLES, OptionRow, ValueKind};
 use clap::{Arg, ArgAction, ArgMatches, Command, Error, value_parser};
 use std::alloc::{AllocError, Global};
 
 /// The name, the version, and the kit that it is proved and built with, as `rt version` prints it.
-pub const VERSION: &str = "rtcm2rinex 1.1.0 (rattle-kit-13b logic dac8208d650f15bf)\n";
+pub const VERSION: &str = "rtcm2rinex 1.1.0 (rattle-kit-13f logic dac8208d650f15bf)\n";
 
 /// Parses the words of the command line, the first of which is the program's name.
 ///
@@ -32,7 +30,7 @@ fn program<'a>(alloc: Global, commands: &[CommandRow<'a>]) -> Result<Command<'a>
     requires { line.AreCommands commands.now }
     ensures { IfOk result (λ c. IsProgram (app_of c)) }
 {
-    let program = described(alloc, "rtcm2rinex", &help::PROGRAM)
+    let program = described(alloc, "rtcm2rinex", ABOUT, EXAMPLES)
         .version(VERSION)
         .subcommand_required(true);
     with_commands(alloc, program, commands)
@@ -57,7 +55,11 @@ fn with_commands<'a>(
 fn command<'a>(alloc: Global, row: &CommandRow<'a>) -> Result<Command<'a>, AllocError>
     ensures { IfOk result (λ c. app_of c ≡ command_set row.now) }
 {
-    with_options(alloc, described(alloc, row.name, &row.help), row.options)
+    with_options(
+        alloc,
+        described(alloc, row.name, row.about, row.examples),
+        row.options,
+    )
 }
 
 /// Returns the command with an option for each of these rows.
@@ -85,19 +87,8 @@ fn with_command<'a>(
 ) -> Result<Command<'a>, AllocError>
     ensures { line.AddsCommand program.entry command.entry result }
 {
-    match program {
-        Ok(program) => match command {
-            Ok(command) => program.subcommand(command),
-            Err(error) => {
-                drop(program);
-                Err(error)
-            }
-        },
-        Err(error) => {
-            drop(command);
-            Err(error)
-        }
-    }
+    let program = program?;
+    program.subcommand(command?)
 }
 
 /// Returns a command with one more option.
@@ -111,13 +102,11 @@ fn with_option<'a>(
     command?.arg(option(alloc, row))
 }
 
-/// Returns a command of this name with its help.
-fn described<'a>(alloc: Global, name: &'a str, help: &Help) -> Command<'a>
+/// Returns a command of this name with its help texts.
+fn described<'a>(alloc: Global, name: &'a str, about: &'a str, examples: &'a str) -> Command<'a>
     ensures { app_of result ≡ new_app name.entry.now }
 {
-    Command::new(alloc, name)
-        .about(help.about)
-        .after_help(help.examples)
+    Command::new(alloc, name).about(about).after_help(examples)
 }
 
 /// Returns an option with its help and the parser of its value.
@@ -125,25 +114,25 @@ fn option<'a>(alloc: Global, row: &OptionRow<'a>) -> Arg<'a>
     ensures { rule_of result ≡ option_set row.now }
 {
     let option = Arg::new(alloc, row.name).long(row.name).help(row.help);
-    read_by(
+    of_kind(
         option.action(ArgAction::Set).value_name(row.value),
-        row.reading,
+        row.kind,
     )
 }
 
 /// Returns the option with the parser and the default of its value.
-fn read_by<'a>(option: Arg<'a>, reading: Reading<'a>) -> Arg<'a>
-    ensures { rule_of result ≡ line.read_so reading.entry (rule_of option.entry) }
+fn of_kind<'a>(option: Arg<'a>, kind: ValueKind<'a>) -> Arg<'a>
+    ensures { rule_of result ≡ line.of_kind kind.entry (rule_of option.entry) }
 {
-    match reading {
-        Reading::Given => option.required(true),
-        Reading::Or(without) => option.default_value(without),
-        Reading::Among(words, without) => option.default_value(without).value_parser(words),
-        Reading::Week => option
+    match kind {
+        ValueKind::Given => option.required(true),
+        ValueKind::Or(without) => option.default_value(without),
+        ValueKind::Among(words, without) => option.default_value(without).value_parser(words),
+        ValueKind::Week => option
             .required(true)
             .value_parser(value_parser!(u32).range(0..100_000)),
-        Reading::Station => option.value_parser(value_parser!(u16).range(0..4_096)),
-        Reading::Bytes => option
+        ValueKind::Station => option.value_parser(value_parser!(u16).range(0..4_096)),
+        ValueKind::Bytes => option
             .default_value("281474976710656")
             .value_parser(value_parser!(u64).range(0..281_474_976_710_657)),
     }

@@ -5,23 +5,21 @@ ghost use Rattle.clap.specs.Walk.{texts};
 ghost use Rattle.rtcm_convert.specs.Faults.{IsUntouched};
 ghost use Rattle.clap.specs.Values.{kind_of};
 ghost use Rattle.clap.specs.declared.error.kind.ErrorKind.TheVariants.{DisplayVersion, OutOfMemory};
-ghost use Rattle.rtcm2rinex.specs.CommandLine.{IsCommand};
-ghost use Rattle.rtcm2rinex.specs.Commands.{AreRefused, EndsCommand, EndsFound, HasCommand, HasFailedToServe, HasServed, StopsAnswering, fault_status, status_of};
+ghost use Rattle.rtcm2rinex.specs.Commands.{AreRefused, EndsFound, HasCommand};
+ghost use Rattle.rtcm2rinex.specs.Commands.{HasFailedToServe, HasServed, StopsAnswering, status_of};
 ghost use Rattle.rtcm2rinex.specs.Printing.{PrintsText};
 ghost use Rattle.rtcm2rinex.specs.declared.cli.TheConstants.{VERSION};
-ghost use Rattle.rtcm2rinex.specs.Converting.{IsConverted, StopsConverting};
-ghost use Rattle.rtcm2rinex.specs.Devices.{Ends};
+ghost use Rattle.rtcm2rinex.specs.Converting.{EndsConverting};
 ghost use Rattle.rtcm2rinex.specs.SetupOptions.{options_of};
 
 use crate::check::run_check;
 use crate::cli::{VERSION, parse};
-use crate::convert::{print_report, run_convert_at};
+use crate::convert::{report_line, run_convert_at};
 use crate::fault::ToolFault;
 use crate::line::print_text;
 use crate::listing::{run_frames, run_show};
 use crate::options::{setup_of, station_of, values_of};
-use crate::plan::run_options;
-use crate::signals::run_signals;
+use crate::signals::{run_options, run_signals};
 use clap::ArgMatches;
 use clap::error::ErrorKind;
 use rtcm_bits::Counted;
@@ -43,18 +41,21 @@ pub fn command<R: Read, W: Write, E: Write>(
 
     // By clap's definitions under the program's options, the words ask for a command, which
     // completed with these options; or they ask for the version, which was written.
-    ensures good { result ≡ 0 → HasServed R.remaining reader.old reader.new W.contents writer.old writer.new (texts words.now) }
+    ensures good { result ≡ 0
+        → HasServed R.remaining reader.old reader.new W.contents writer.old writer.new (texts words.now) }
 
     // They ask for a command that was stopped by a fault.
-    ensures stopped { result ≡ 1 → HasFailedToServe R.remaining reader.old reader.new W.contents writer.old writer.new (texts words.now) }
+    ensures stopped { result ≡ 1
+        → HasFailedToServe R.remaining reader.old reader.new W.contents writer.old writer.new (texts words.now) }
 
     // They aren't accepted, ask for help, or ask to convert with an invalid position or height.
     // Nothing was read, and nothing was written to the output.
-    ensures refused { result ≡ 2 → AreRefused (texts words.now) × IsUntouched reader.old reader.new writer.old writer.new }
+    ensures refused { result ≡ 2
+        → AreRefused (texts words.now) × IsUntouched reader.old reader.new writer.old writer.new }
 {
     match parse(alloc, words) {
         Ok(matches) => {
-            let ended = run_found(alloc, &matches, reader, writer, faults);
+            let ended = run(alloc, &matches, reader, writer, faults);
             drop(matches);
             exit_status(ended, faults)
         }
@@ -63,7 +64,7 @@ pub fn command<R: Read, W: Write, E: Write>(
 }
 
 /// Runs the command that was found in the words.
-fn run_found<R: Read, W: Write, E: Write>(
+fn run<R: Read, W: Write, E: Write>(
     alloc: Global,
     matches: &ArgMatches,
     reader: &mut Counted<R>,
@@ -71,26 +72,12 @@ fn run_found<R: Read, W: Write, E: Write>(
     faults: &mut E,
 ) -> Result<(), ToolFault>
     requires { HasCommand matches.now }
-    ensures { EndsFound result R.remaining reader.old reader.new W.contents writer.old writer.new (subcommand_rows_of matches.now) }
+    ensures { EndsFound result (subcommand_rows_of matches.now)
+        R.remaining reader.old reader.new W.contents writer.old writer.new }
 {
-    match matches.subcommand() {
-        Some((name, options)) => run(alloc, name, options, reader, writer, faults),
-        None => unreachable!(),
-    }
-}
-
-/// Runs the command of this name.
-fn run<R: Read, W: Write, E: Write>(
-    alloc: Global,
-    name: &str,
-    options: &ArgMatches,
-    reader: &mut Counted<R>,
-    writer: &mut Counted<W>,
-    faults: &mut E,
-) -> Result<(), ToolFault>
-    requires { IsCommand name.now }
-    ensures { EndsCommand result R.remaining reader.old reader.new W.contents writer.old writer.new name.now (options_of options.now) }
-{
+    let Some((name, options)) = matches.subcommand() else {
+        unreachable!()
+    };
     match name {
         "frames" => run_frames(alloc, reader, writer),
         "show" => run_show(alloc, reader, writer),
@@ -102,7 +89,8 @@ fn run<R: Read, W: Write, E: Write>(
     }
 }
 
-/// Converts the stream as the options ask, and prints the report.
+/// Converts the stream as the options ask, and prints the report. A failure of its writer is
+/// ignored, since the file is already written.
 fn convert<R: Read, W: Write, E: Write>(
     alloc: Global,
     options: &ArgMatches,
@@ -110,9 +98,8 @@ fn convert<R: Read, W: Write, E: Write>(
     writer: &mut Counted<W>,
     faults: &mut E,
 ) -> Result<(), ToolFault>
-    ensures { Ends result reader.old reader.new writer.old writer.new
-        (λ _. IsConverted (options_of options.now) (R.remaining reader.old.inner) (W.contents writer.old.inner) (W.contents writer.new.inner))
-        (StopsConverting (options_of options.now) R.remaining reader.old reader.new W.contents writer.old writer.new) }
+    ensures { EndsConverting result (options_of options.now)
+        R.remaining reader.old reader.new W.contents writer.old writer.new }
 {
     let initial = match values_of(options) {
         Ok(initial) => initial,
@@ -124,7 +111,7 @@ fn convert<R: Read, W: Write, E: Write>(
     };
     match run_convert_at(alloc, setup, initial, reader, writer) {
         Ok(report) => {
-            print_report(&report, faults);
+            let _ = faults.write_all(report_line(&report).as_bytes());
             Ok(())
         }
         Err(fault) => Err(fault),
@@ -134,9 +121,11 @@ fn convert<R: Read, W: Write, E: Write>(
 /// Prints the version if the words ask for it, else clap's error. Returns the exit status.
 fn answer<W: Write, E: Write>(error: &clap::Error, writer: &mut Counted<W>, faults: &mut E) -> u8
     ensures status { result ≤ 2 }
-    ensures good { result ≡ 0 → (kind_of error.now ≡ DisplayVersion) × PrintsText W.contents writer.old writer.new VERSION.now }
+    ensures good { result ≡ 0
+        → (kind_of error.now ≡ DisplayVersion) × PrintsText W.contents writer.old writer.new VERSION.now }
     ensures stopped { result ≡ 1 → StopsAnswering (kind_of error.now) W.contents writer.old writer.new }
-    ensures refused { result ≡ 2 → (kind_of error.now ≢ DisplayVersion) × (kind_of error.now ≢ OutOfMemory) × (writer.new ≡ writer.old) }
+    ensures refused { result ≡ 2
+        → (kind_of error.now ≢ DisplayVersion) × (kind_of error.now ≢ OutOfMemory) × (writer.new ≡ writer.old) }
 {
     match error.kind() {
         ErrorKind::DisplayVersion => exit_status(print_text(VERSION.as_bytes(), writer), faults),
@@ -167,20 +156,8 @@ fn exit_status<E: Write>(ended: Result<(), ToolFault>, faults: &mut E) -> u8
     ensures value { result ≡ status_of ended }
     ensures range { result ≤ 2 }
 {
-    match ended {
-        Ok(()) => 0,
-        Err(fault) => {
-            let _ = writeln!(faults, "rtcm2rinex: {fault}");
-            fault_status(fault)
-        }
-    }
-}
-
-/// Returns the exit status of a fault.
-fn fault_status(fault: ToolFault) -> u8
-    ensures value { result ≡ fault_status fault }
-    ensures range { (1 ≤ result) × (result ≤ 2) }
-{
+    let Err(fault) = ended else { return 0 };
+    let _ = writeln!(faults, "rtcm2rinex: {fault}");
     match fault {
         ToolFault::BadPosition | ToolFault::BadHeight => 2,
         _ => 1,

@@ -1,12 +1,13 @@
 //! The commands and their options, one row each, as listed in the manual page.
-use crate::help;
-use crate::help::Help;
 
 /// A command.
 #[derive(Clone, Copy)]
 pub struct CommandRow<'a> {
     pub name: &'a str,
-    pub help: Help,
+    /// What it does.
+    pub about: &'static str,
+    /// How it is called, and the meaning of the lines that it prints.
+    pub examples: &'static str,
     pub options: &'a [OptionRow<'a>],
 }
 
@@ -17,12 +18,12 @@ pub struct OptionRow<'a> {
     /// The name of its value in the help text.
     pub value: &'a str,
     pub help: &'a str,
-    pub reading: Reading<'a>,
+    pub kind: ValueKind<'a>,
 }
 
 /// How the value of an option is read, and its default.
 #[derive(Clone, Copy)]
-pub enum Reading<'a> {
+pub enum ValueKind<'a> {
     /// A required text.
     Given,
     /// A text, with this default.
@@ -37,154 +38,114 @@ pub enum Reading<'a> {
     Bytes,
 }
 
+/// An array of options: for each its name, the name of its value in the help text, how the value is
+/// read, and its help.
+macro_rules! option_rows {
+    ($($name:expr, $value:expr, $kind:expr, $help:expr;)*) => {
+        [$(OptionRow { name: $name, value: $value, help: $help, kind: $kind }),*]
+    };
+}
+
+/// What the program does.
+pub const ABOUT: &str = "Reads an RTCM 3 stream from standard input and writes its content to \
+                         standard output";
+
+/// How the program is called.
+pub const EXAMPLES: &str = "Example: rtcm2rinex convert --week 2300 --date \"20240204 000001 UTC\" \
+                            < stream.rtcm3 > station.obs";
+
 pub const COMMANDS: [CommandRow<'static>; 6] = [
     CommandRow {
         name: "frames",
-        help: help::FRAMES,
+        about: "Lists the frames: the place of each, the length of its message and the message's \
+                number",
+        examples: "Example: rtcm2rinex frames < stream.rtcm3\n\
+                   A line as '0 19 1005' is a frame at byte 0 with a message of 19 bytes, which is \
+                   message 1005.",
         options: &[],
     },
     CommandRow {
         name: "show",
-        help: help::SHOW,
+        about: "Shows the messages: stations and their coordinates, heads of MSMs, and why a \
+                message is refused",
+        examples: "Example: rtcm2rinex show < stream.rtcm3\n\
+                   A line as '0 1005 2003 1114104.5999 -4850729.7108 3975521.4643' is a station: \
+                   the place of its frame, the message's number, the station, and X, Y and Z in \
+                   metres.\n\
+                   A line as '52 1077 2003 1000 0 1 1 1' is an MSM: place, number, station, time \
+                   in milliseconds of the week, DF393, and how many satellites, signals and cells \
+                   it has.",
         options: &[],
     },
     CommandRow {
         name: "signals",
-        help: help::SIGNALS,
-        options: &[STATION],
+        about: "Prints a table of the signals of the stream",
+        examples: "Example: rtcm2rinex signals < stream.rtcm3\n\
+                   A line as 'G 1C 3042' is a signal: its system, its code, and the number of its \
+                   cells with a pseudorange, a phase, a Doppler shift or a strength.",
+        options: &STATION,
     },
     CommandRow {
         name: "options",
-        help: help::OPTIONS,
-        options: &[STATION],
+        about: "Prints the options of convert that fit the stream",
+        examples: "Example: plan=$(rtcm2rinex options < stream.rtcm3) && rtcm2rinex convert --week \
+                   2300 --date \"20240204 000001 UTC\" $plan < stream.rtcm3 > station.obs\n\
+                   A line as '--gps 1C,2W --galileo none --position=1.0000,-2.0000,3.0000' has \
+                   every signal with a pseudorange, a phase, a Doppler shift or a strength, and \
+                   the position of the first message 1005 or 1006.",
+        options: &STATION,
     },
     CommandRow {
         name: "convert",
-        help: help::CONVERT,
+        about: "Converts the observations to a RINEX 3.05 observation file",
+        examples: "Example: rtcm2rinex convert --week 2300 --date \"20240204 000001 UTC\" --gps \
+                   1C,2W --galileo none < stream.rtcm3 > station.obs\n\
+                   At the end one line on standard error counts the bytes, frames, messages, cells \
+                   and epochs.",
         options: &CONVERT,
     },
     CommandRow {
         name: "check",
-        help: help::CHECK,
+        about: "Checks that standard input is an observation file just as convert writes it",
+        examples: "Example: rtcm2rinex check < station.obs\n\
+                   A line as 'epochs 2 satellites 17 events 0' counts the epochs, the lines of \
+                   satellites, and the events with other station values. Of any other file the \
+                   first line that is wrong is given on standard error, as 'rtcm2rinex: BadHeader \
+                   2'.",
         options: &[],
     },
 ];
 
-const STATION: OptionRow<'static> = OptionRow {
-    name: "station",
-    value: "NUMBER",
-    help: "Reference station (DF003) whose messages count; without it those of every station",
-    reading: Reading::Station,
+const STATION: [OptionRow<'static>; 1] = option_rows! {
+    "station", "NUMBER", ValueKind::Station,
+        "Reference station (DF003) whose messages count; without it those of every station";
 };
 
-const CONVERT: [OptionRow<'static>; 19] = [
-    OptionRow {
-        name: "week",
-        value: "WEEK",
-        help: "GPS week of the first observations, 0 to 99,999, counted on from 1980 without wrapping",
-        reading: Reading::Week,
-    },
-    OptionRow {
-        name: "date",
-        value: "TEXT",
-        help: "Date of the run, in RINEX's form 'yyyymmdd hhmmss UTC'",
-        reading: Reading::Given,
-    },
-    OptionRow {
-        name: "gps",
-        value: "SIGNALS",
-        help: "GPS signals in the file's order: all, none, or codes as 1C,2W",
-        reading: Reading::Or("all"),
-    },
-    OptionRow {
-        name: "galileo",
-        value: "SIGNALS",
-        help: "Galileo signals in the file's order: all, none, or codes as 1C,5Q",
-        reading: Reading::Or("all"),
-    },
-    STATION,
-    OptionRow {
-        name: "position",
-        value: "X,Y,Z",
-        help: "Position in metres until a message 1005 or 1006; write --position=X,Y,Z if X is negative",
-        reading: Reading::Or("0,0,0"),
-    },
-    OptionRow {
-        name: "antenna-height",
-        value: "HEIGHT",
-        help: "Antenna height in metres until a message 1006, 0 to 6.5535",
-        reading: Reading::Or("0"),
-    },
-    OptionRow {
-        name: "gather",
-        value: "RULE",
-        help: "What closes an epoch: the last message of a set (DF393) or a later time, or a later time alone",
-        reading: Reading::Among(&["bit", "time"], "bit"),
-    },
-    OptionRow {
-        name: "limit",
-        value: "BYTES",
-        help: "Most bytes of the stream; a longer one is a fault",
-        reading: Reading::Bytes,
-    },
-    OptionRow {
-        name: "run-by",
-        value: "TEXT",
-        help: "Who runs the program",
-        reading: Reading::Or(""),
-    },
-    OptionRow {
-        name: "marker",
-        value: "TEXT",
-        help: "Name of the antenna marker",
-        reading: Reading::Or(""),
-    },
-    OptionRow {
-        name: "marker-type",
-        value: "TEXT",
-        help: "Type of the marker",
-        reading: Reading::Or("GEODETIC"),
-    },
-    OptionRow {
-        name: "observer",
-        value: "TEXT",
-        help: "Name of the observer",
-        reading: Reading::Or(""),
-    },
-    OptionRow {
-        name: "agency",
-        value: "TEXT",
-        help: "Name of the observer's agency",
-        reading: Reading::Or(""),
-    },
-    OptionRow {
-        name: "rec-number",
-        value: "TEXT",
-        help: "Serial number of the receiver",
-        reading: Reading::Or(""),
-    },
-    OptionRow {
-        name: "rec-type",
-        value: "TEXT",
-        help: "Type of the receiver",
-        reading: Reading::Or(""),
-    },
-    OptionRow {
-        name: "rec-version",
-        value: "TEXT",
-        help: "Version of the receiver's firmware",
-        reading: Reading::Or(""),
-    },
-    OptionRow {
-        name: "ant-number",
-        value: "TEXT",
-        help: "Serial number of the antenna",
-        reading: Reading::Or(""),
-    },
-    OptionRow {
-        name: "ant-type",
-        value: "TEXT",
-        help: "Type of the antenna",
-        reading: Reading::Or(""),
-    },
-];
+const CONVERT: [OptionRow<'static>; 19] = option_rows! {
+    "week", "WEEK", ValueKind::Week,
+        "GPS week of the first observations, 0 to 99,999, counted on from 1980 without wrapping";
+    "date", "TEXT", ValueKind::Given, "Date of the run, in RINEX's form 'yyyymmdd hhmmss UTC'";
+    "gps", "SIGNALS", ValueKind::Or("all"),
+        "GPS signals in the file's order: all, none, or codes as 1C,2W";
+    "galileo", "SIGNALS", ValueKind::Or("all"),
+        "Galileo signals in the file's order: all, none, or codes as 1C,5Q";
+    "station", "NUMBER", ValueKind::Station,
+        "Reference station (DF003) whose messages count; without it those of every station";
+    "position", "X,Y,Z", ValueKind::Or("0,0,0"),
+        "Position in metres until a message 1005 or 1006; write --position=X,Y,Z if X is negative";
+    "antenna-height", "HEIGHT", ValueKind::Or("0"),
+        "Antenna height in metres until a message 1006, 0 to 6.5535";
+    "gather", "RULE", ValueKind::Among(&["bit", "time"], "bit"),
+        "What closes an epoch: the last message of a set (DF393) or a later time; or time alone";
+    "limit", "BYTES", ValueKind::Bytes, "Most bytes of the stream; a longer one is a fault";
+    "run-by", "TEXT", ValueKind::Or(""), "Who runs the program";
+    "marker", "TEXT", ValueKind::Or(""), "Name of the antenna marker";
+    "marker-type", "TEXT", ValueKind::Or("GEODETIC"), "Type of the marker";
+    "observer", "TEXT", ValueKind::Or(""), "Name of the observer";
+    "agency", "TEXT", ValueKind::Or(""), "Name of the observer's agency";
+    "rec-number", "TEXT", ValueKind::Or(""), "Serial number of the receiver";
+    "rec-type", "TEXT", ValueKind::Or(""), "Type of the receiver";
+    "rec-version", "TEXT", ValueKind::Or(""), "Version of the receiver's firmware";
+    "ant-number", "TEXT", ValueKind::Or(""), "Serial number of the antenna";
+    "ant-type", "TEXT", ValueKind::Or(""), "Type of the antenna";
+};

@@ -1,15 +1,15 @@
 //! The command `convert`: the observation file of a stream.
-ghost use Rattle.std.specs.Prelude.{◌≡◌, ◌≤◌, ◌↔◌, Err, IfSome, max};
+ghost use Rattle.std.specs.Prelude.{◌≡◌, ◌≤◌, ◌↔◌, Err, max};
 ghost use Rattle.rtcm_bits.specs.FrameOf.{longest_frame};
 ghost use Rattle.rtcm_convert.specs.SetupValues.{IsBad, IsBadAt, start_at, start_zero};
-ghost use Rattle.rtcm_convert.specs.Made.{IsMadeWith};
-ghost use Rattle.rtcm2rinex.specs.Converting.{StopsConversion};
-ghost use Rattle.rtcm2rinex.specs.Devices.{Ends};
+ghost use Rattle.rtcm2rinex.specs.Converting.{EndsConversion};
+ghost use Rattle.rtcm2rinex.specs.Reports.{report_line};
 
 use crate::fault::ToolFault;
+use crate::line::OutputLine;
 use obs_epoch::StationValues;
 use rtcm_bits::Counted;
-use rtcm_convert::{Fault, Report, Setup, convert_stream, convert_stream_at};
+use rtcm_convert::{Fault, Report, Setup, convert_stream_at};
 use std::alloc::Global;
 use std::io::{Read, Write};
 
@@ -27,19 +27,15 @@ pub fn run_convert<R: Read, W: Write>(
     reader: &mut Counted<R>,
     writer: &mut Counted<W>,
 ) -> Result<Report, ToolFault>
-    ensures ends { Ends result reader.old reader.new writer.old writer.new
-        (λ report. IfSome (R.remaining reader.old.inner) (IsMadeWith (start_zero setup) report (W.contents writer.old.inner) (W.contents writer.new.inner)))
-        (StopsConversion (IsBad setup) (start_zero setup) R.remaining reader.old reader.new W.contents writer.old writer.new) }
+    ensures ends { EndsConversion result (start_zero setup)
+        R.remaining reader.old reader.new W.contents writer.old writer.new }
     ensures bad_setup { result ≡ Err (ToolFault.Convert Fault.BadSetup) ↔ IsBad setup }
     ensures widest { reader.new.widest ≤ max reader.old.widest longest_frame }
 {
-    match convert_stream(alloc, setup, reader, writer) {
-        Ok(report) => Ok(report),
-        Err(fault) => Err(ToolFault::from(fault)),
-    }
+    run_convert_at(alloc, setup, StationValues::zero(), reader, writer)
 }
 
-/// Writes the observation file of a stream as `run_convert` does, with the station values `initial`
+/// Writes the observation file of a stream as `run_convert` does. The station values are `initial`
 /// until a station message has others.
 ///
 /// # Errors
@@ -52,38 +48,37 @@ pub fn run_convert_at<R: Read, W: Write>(
     reader: &mut Counted<R>,
     writer: &mut Counted<W>,
 ) -> Result<Report, ToolFault>
-    ensures ends { Ends result reader.old reader.new writer.old writer.new
-        (λ report. IfSome (R.remaining reader.old.inner) (IsMadeWith (start_at setup initial) report (W.contents writer.old.inner) (W.contents writer.new.inner)))
-        (StopsConversion (IsBadAt (start_at setup initial)) (start_at setup initial) R.remaining reader.old reader.new W.contents writer.old writer.new) }
+    ensures ends { EndsConversion result (start_at setup initial)
+        R.remaining reader.old reader.new W.contents writer.old writer.new }
     ensures bad_setup { result ≡ Err (ToolFault.Convert Fault.BadSetup) ↔ IsBadAt (start_at setup initial) }
     ensures widest { reader.new.widest ≤ max reader.old.widest longest_frame }
 {
     match convert_stream_at(alloc, setup, initial, reader, writer) {
-        Ok(counts) => Ok(counts),
-        Err(refusal) => Err(ToolFault::from(refusal)),
+        Ok(report) => Ok(report),
+        Err(fault) => Err(ToolFault::from(fault)),
     }
 }
 
-/// Prints one line of all counts, each after its name. A failure of this writer is ignored, since
-/// the file is already written.
-pub fn print_report<E: Write>(report: &Report, faults: &mut E) {
-    let _ = writeln!(
-        faults,
-        "bytes {} skipped_bytes {} frames {} faulty {} station {} other {} ignored {} late {} \
-         past {} taken {} skipped {} repeated {} crowded {} epochs {}",
-        report.bytes,
-        report.skipped_bytes,
-        report.frames,
-        report.faulty,
-        report.station,
-        report.other,
-        report.ignored,
-        report.late,
-        report.past,
-        report.taken,
-        report.skipped,
-        report.repeated,
-        report.crowded,
-        report.epochs,
-    );
+/// Returns the line of a report: each count after its name.
+pub fn report_line(report: &Report) -> OutputLine
+    ensures { result ≡ report_line report.now }
+{
+    let mut line = OutputLine::new();
+    line.put(b"bytes");
+    line.add_number(report.bytes);
+    line.add_count("skipped_bytes", report.skipped_bytes);
+    line.add_count("frames", report.frames);
+    line.add_count("faulty", report.faulty);
+    line.add_count("station", report.station);
+    line.add_count("other", report.other);
+    line.add_count("ignored", report.ignored);
+    line.add_count("late", report.late);
+    line.add_count("past", report.past);
+    line.add_count("taken", report.taken);
+    line.add_count("skipped", report.skipped);
+    line.add_count("repeated", report.repeated);
+    line.add_count("crowded", report.crowded);
+    line.add_count("epochs", report.epochs);
+    line.finish();
+    line
 }

@@ -10,60 +10,62 @@ use rtcm_bits::Counted;
 use std::io::Write;
 use std::marker::Model;
 
-/// A line of at most 320 bytes, built word by word with single blanks between the words.
+/// A line of at most 400 bytes, built word by word with single blanks between the words.
 #[derive(Drop)]
-pub struct Line {
-    text: ArrayVec<u8, 320>,
+pub struct OutputLine {
+    text: ArrayVec<u8, 400>,
 }
 
-impl Model for Line {
+impl Model for OutputLine {
     ghost use Rattle.std.specs.Prelude.{List, ℕ, ◌≤◌, length};
 
     ghost Value = { List ℕ };
 
     ghost view = { λ l. l.text.items };
 
-    ghost invariant = { λ l. length l.text.items ≤ 320 };
+    ghost invariant = { λ l. length l.text.items ≤ 400 };
 }
 
-impl Line {
-    /// Returns a line whose first word is this number.
-    pub fn starting_with(number: u64) -> Line
-        ensures text { result ≡ decimal number }
-        ensures short { length result ≤ 20 }
+impl OutputLine {
+    /// Returns a line without a byte.
+    pub fn new() -> OutputLine
+        ensures { result ≡ [] }
     {
-        let mut line = Line {
+        OutputLine {
             text: ArrayVec::new(),
-        };
-        line.put(Buffer::new().format(number).as_bytes());
-        line
+        }
     }
 
-    /// Returns a line with this first word.
-    pub fn starting_with_word(word: &str) -> Line
-        requires { length word.now ≤ 320 }
-        ensures text { result ≡ word.now }
+    /// Appends these bytes.
+    pub fn put(&mut self, bytes: &[u8])
+        requires { length self.old + length bytes.now ≤ 400 }
+        ensures { self.new ≡ self.old ++ bytes.now }
     {
-        let mut line = Line {
-            text: ArrayVec::new(),
-        };
-        line.put(word.as_bytes());
-        line
+        self.text.try_extend_from_slice(bytes).unwrap();
+    }
+
+    /// Appends a number.
+    pub fn put_number(&mut self, number: u64)
+        requires { length self.old ≤ 380 }
+        ensures text { self.new ≡ self.old ++ decimal number }
+        ensures short { length self.new ≤ length self.old + 20 }
+    {
+        self.put(Buffer::new().format(number).as_bytes());
     }
 
     /// Appends a blank and a number.
     pub fn add_number(&mut self, number: u64)
-        requires { length self.old ≤ 235 }
+        requires { length self.old ≤ 379 }
         ensures text { self.new ≡ self.old ++ 0x20 ∷ decimal number }
         ensures short { length self.new ≤ length self.old + 21 }
     {
         self.put(b" ");
-        self.put(Buffer::new().format(number).as_bytes());
+        self.put_number(number);
     }
 
     /// Appends a blank and a word.
     pub fn add_word(&mut self, word: &str)
-        requires { length self.old + length word.now + 1 ≤ 320 }
+        requires { length self.old + length word.now + 1 ≤ 400 }
         ensures text { self.new ≡ self.old ++ 0x20 ∷ word.now }
         ensures short { length self.new ≡ length self.old + length word.now + 1 }
     {
@@ -71,9 +73,19 @@ impl Line {
         self.put(word.as_bytes());
     }
 
+    /// Appends a blank, a name, a blank and a number.
+    pub fn add_count(&mut self, name: &str, number: u64)
+        requires { length self.old + length name.now + 22 ≤ 400 }
+        ensures text { self.new ≡ (self.old ++ 0x20 ∷ name.now) ++ 0x20 ∷ decimal number }
+        ensures short { length self.new ≤ length self.old + length name.now + 22 }
+    {
+        self.add_word(name);
+        self.add_number(number);
+    }
+
     /// Appends a separator and a text.
     pub fn add_part(&mut self, separator: u8, part: &[u8])
-        requires { length self.old + length part.now + 1 ≤ 320 }
+        requires { length self.old + length part.now + 1 ≤ 400 }
         ensures text { self.new ≡ self.old ++ separator ∷ part.now }
         ensures short { length self.new ≡ length self.old + length part.now + 1 }
     {
@@ -97,7 +109,7 @@ impl Line {
         ensures text { self.new ≡ self.old ++ size_text size }
         ensures short { length self.new ≤ length self.old + 25 }
     {
-        self.put(Buffer::new().format(size / 10_000).as_bytes());
+        self.put_number(size / 10_000);
         let decimals = [
             b'.',
             digit(size / 1_000),
@@ -110,7 +122,7 @@ impl Line {
 
     /// Appends the line feed.
     pub fn finish(&mut self)
-        requires { length self.old < 320 }
+        requires { length self.old < 400 }
         ensures { self.new ≡ self.old ++ 0x0A ∷ [] }
     {
         self.put(b"\n");
@@ -119,16 +131,9 @@ impl Line {
     /// Returns the line's bytes.
     pub fn as_bytes(&self) -> &[u8]
         ensures text { result.now ≡ self.now }
-        ensures short { length result.now ≤ 320 }
+        ensures short { length result.now ≤ 400 }
     {
         self.text.as_slice()
-    }
-
-    fn put(&mut self, bytes: &[u8])
-        requires { length self.old + length bytes.now ≤ 320 }
-        ensures { self.new ≡ self.old ++ bytes.now }
-    {
-        self.text.try_extend_from_slice(bytes).unwrap();
     }
 }
 

@@ -1,17 +1,19 @@
 //! The commands `frames` and `show`: a line for each frame, or for each message, of a stream.
-ghost use Rattle.std.specs.Prelude.{◌≡◌, ◌≤◌, ◌^◌, OnOk, OnErr};
-ghost use Rattle.std.specs.Io.KnownBytes.{Appends};
-ghost use Rattle.rtcm_bits.specs.Device.{FailsWith, AppendsPrefix};
-ghost use Rattle.rtcm_convert.specs.Moves.{Moves};
+ghost use Rattle.std.specs.Prelude.{◌≡◌, ◌+◌, ◌≤◌, ◌^◌, ◌∷◌, ◌++◌, length};
+ghost use Rattle.rtcm_bits.specs.FrameOf.{longest_message};
 ghost use Rattle.rtcm_scan.specs.Answers.{framed};
-ghost use Rattle.rtcm2rinex.specs.Devices.{Ends};
-ghost use Rattle.rtcm2rinex.specs.FrameLines.{frame_lines};
-ghost use Rattle.rtcm2rinex.specs.ShowLines.{show_lines};
-ghost use Rattle.rtcm2rinex.specs.Listing.{listing_line, listing_lines, ListsAll, StopsListing};
+ghost use Rattle.rtcm_msg.specs.Station.{InRange};
+ghost use Rattle.rtcm_msg.specs.Views.{message_number};
+ghost use Rattle.rtcm2rinex.specs.FrameLines.{frame_line, frame_lines, number_word};
+ghost use Rattle.rtcm2rinex.specs.Lines.{with_words};
+ghost use Rattle.rtcm2rinex.specs.ShowLines.{fault_line, fault_words, height_words};
+ghost use Rattle.rtcm2rinex.specs.ShowLines.{msm_line, show_line, show_lines, station_line};
+ghost use Rattle.rtcm2rinex.specs.Listing.{EndsListing, WritesLine, listing_line, listing_lines};
 
 use crate::fault::ToolFault;
-use crate::show::{frame_line, message_line};
-use rtcm_bits::{Counted, DeviceFailed};
+use crate::line::OutputLine;
+use rtcm_bits::{BitReader, Counted, DeviceFailed};
+use rtcm_msg::{MsgFault, MsmView, StationParts, View, look};
 use rtcm_scan::{Frame, FrameSink, Framer, MOST_BYTES, ScanFault, laws};
 use std::alloc::Global;
 use std::io::{Read, Write};
@@ -55,16 +57,21 @@ fn write_line<W: Write>(
     frame: &Frame,
     writer: &mut Counted<W>,
 ) -> Result<(), DeviceFailed>
-    ensures whole { OnOk result (Appends (W.contents writer.old.inner) (W.contents writer.new.inner) (listing_line listing (framed frame.now))) }
-    ensures part { OnErr result (AppendsPrefix (W.contents writer.old.inner) (W.contents writer.new.inner) (listing_line listing (framed frame.now))) }
-    ensures device { FailsWith result writer.old writer.new }
+    ensures { WritesLine result W.contents writer.old writer.new (listing_line listing (framed frame.now)) }
+{
+    let mut line = OutputLine::new();
+    add_line(&mut line, listing, frame);
+    writer.write_whole(line.as_bytes())
+}
+
+/// Adds the line of a frame, if it has one.
+fn add_line(line: &mut OutputLine, listing: Listing, frame: &Frame)
+    requires { length line.old ≤ 80 }
+    ensures { line.new ≡ line.old ++ listing_line listing (framed frame.now) }
 {
     match listing {
-        Listing::Frames => writer.write_whole(frame_line(frame).as_bytes()),
-        Listing::Messages => match message_line(frame) {
-            Some(line) => writer.write_whole(line.as_bytes()),
-            None => Ok(()),
-        },
+        Listing::Frames => add_frame(line, frame),
+        Listing::Messages => add_message(line, frame),
     }
 }
 
@@ -79,9 +86,8 @@ pub fn run_frames<R: Read, W: Write>(
     reader: &mut Counted<R>,
     writer: &mut Counted<W>,
 ) -> Result<(), ToolFault>
-    ensures { Ends result reader.old reader.new writer.old writer.new
-        (λ _. Moves R.remaining reader.old reader.new W.contents writer.old writer.new (ListsAll frame_lines))
-        (StopsListing (2 ^ 48) frame_lines R.remaining reader.old reader.new W.contents writer.old writer.new) }
+    ensures { EndsListing result (2 ^ 48) frame_lines
+        R.remaining reader.old reader.new W.contents writer.old writer.new }
 {
     list(alloc, Listing::Frames, MOST_BYTES, reader, writer)
 }
@@ -97,9 +103,8 @@ pub fn run_show<R: Read, W: Write>(
     reader: &mut Counted<R>,
     writer: &mut Counted<W>,
 ) -> Result<(), ToolFault>
-    ensures { Ends result reader.old reader.new writer.old writer.new
-        (λ _. Moves R.remaining reader.old reader.new W.contents writer.old writer.new (ListsAll show_lines))
-        (StopsListing (2 ^ 48) show_lines R.remaining reader.old reader.new W.contents writer.old writer.new) }
+    ensures { EndsListing result (2 ^ 48) show_lines
+        R.remaining reader.old reader.new W.contents writer.old writer.new }
 {
     list(alloc, Listing::Messages, MOST_BYTES, reader, writer)
 }
@@ -119,9 +124,8 @@ pub fn list<R: Read, W: Write>(
     writer: &mut Counted<W>,
 ) -> Result<(), ToolFault>
     requires { limit ≤ 2 ^ 48 }
-    ensures { Ends result reader.old reader.new writer.old writer.new
-        (λ _. Moves R.remaining reader.old reader.new W.contents writer.old writer.new (ListsAll (listing_lines listing)))
-        (StopsListing limit (listing_lines listing) R.remaining reader.old reader.new W.contents writer.old writer.new) }
+    ensures { EndsListing result limit (listing_lines listing)
+        R.remaining reader.old reader.new W.contents writer.old writer.new }
 {
     // The limit is valid, so a framer is refused only when out of memory.
     let Ok(mut framer) = Framer::new(alloc, limit) else {
@@ -135,5 +139,123 @@ pub fn list<R: Read, W: Write>(
     match read {
         Ok(()) => Ok(()),
         Err(fault) => Err(ToolFault::from(fault)),
+    }
+}
+
+/// Adds the line of a frame: its offset and the length of its message in bytes, and the message
+/// number (DF002).
+fn add_frame(line: &mut OutputLine, frame: &Frame)
+    requires { length line.old ≤ 80 }
+    ensures { line.new ≡ line.old ++ frame_line (framed frame.now) }
+{
+    line.put_number(frame.offset);
+    line.add_number(frame.message.len() as u64);
+    add_message_number(line, frame.message.as_slice());
+    line.finish();
+}
+
+/// Adds the line of a frame's message, if it is read or refused.
+// Inlined into the loop of `frames`, its buffers would be cleared for every frame.
+#[inline(never)]
+fn add_message(line: &mut OutputLine, frame: &Frame)
+    requires { length line.old ≤ 80 }
+    ensures { line.new ≡ line.old ++ show_line (framed frame.now) }
+{
+    let message = frame.message.as_slice();
+    match look(message) {
+        Ok(view) => match &view {
+            View::Station(station) => add_station(line, frame.offset, station.parts()),
+            View::Msm(msm) => add_msm(line, frame.offset, msm),
+            View::Other { .. } => {}
+        },
+        Err(fault) => add_refused(line, frame.offset, message, fault),
+    }
+}
+
+/// Adds the number of a message, or a dash if it has fewer than 12 bits.
+fn add_message_number(line: &mut OutputLine, message: &[u8])
+    requires room { length line.old ≤ 235 }
+    requires short { length message.now ≤ longest_message }
+    ensures text { line.new ≡ line.old ++ 0x20 ∷ number_word message.now }
+    ensures short { length line.new ≤ length line.old + 21 }
+{
+    match BitReader::new(message).unsigned(12) {
+        Some(number) => line.add_number(number),
+        None => line.add_word("-"),
+    }
+}
+
+/// Adds the line of a station message: offset, number, station, X, Y and Z in metres, and the
+/// height of a 1006 in metres.
+fn add_station(line: &mut OutputLine, offset: u64, station: StationParts)
+    requires room { length line.old ≤ 80 }
+    requires in_range { InRange station }
+    ensures { line.new ≡ line.old ++ station_line offset station }
+{
+    line.put_number(offset);
+    line.add_number(if station.height.is_some() { 1006 } else { 1005 });
+    line.add_number(u64::from(station.station));
+    line.add_metres(b' ', station.x);
+    line.add_metres(b' ', station.y);
+    line.add_metres(b' ', station.z);
+    add_height(line, station.height);
+    line.finish();
+}
+
+/// Adds the height of a 1006 in metres.
+fn add_height(line: &mut OutputLine, height: Option<u16>)
+    requires { length line.old ≤ 229 }
+    ensures text { line.new ≡ with_words line.old (height_words height) }
+    ensures short { length line.new ≤ length line.old + 27 }
+{
+    if let Some(height) = height {
+        line.add_metres(b' ', i64::from(height));
+    }
+}
+
+/// Adds the line of an MSM: offset, number, station, epoch time, DF393, and the numbers of
+/// satellites, signals and cells.
+fn add_msm(line: &mut OutputLine, offset: u64, msm: &MsmView<'_>)
+    requires { length line.old ≤ 80 }
+    ensures { line.new
+        ≡ line.old ++ msm_line offset (message_number msm.now.form msm.now.msm.is_galileo) msm.now.msm }
+{
+    let header = msm.header();
+    line.put_number(offset);
+    line.add_number(u64::from(msm.number()));
+    line.add_number(u64::from(header.station));
+    line.add_number(u64::from(header.time));
+    line.add_number(u64::from(header.more));
+    line.add_number(msm.satellites() as u64);
+    line.add_number(u64::from(msm.masks().signals().count_ones()));
+    line.add_number(msm.cells() as u64);
+    line.finish();
+}
+
+/// Adds the line of a refused message: offset, number and fault.
+fn add_refused(line: &mut OutputLine, offset: u64, message: &[u8], fault: MsgFault)
+    requires room { length line.old ≤ 80 }
+    requires short { length message.now ≤ longest_message }
+    ensures { line.new ≡ line.old ++ fault_line offset message.now fault }
+{
+    line.put_number(offset);
+    add_message_number(line, message);
+    add_fault(line, fault);
+    line.finish();
+}
+
+/// Adds the name of a fault and, for `Short`, the index of the first bit of the field.
+fn add_fault(line: &mut OutputLine, fault: MsgFault)
+    requires { length line.old ≤ 200 }
+    ensures text { line.new ≡ with_words line.old (fault_words fault) }
+    ensures short { length line.new ≤ length line.old + 40 }
+{
+    match fault {
+        MsgFault::Short(bits) => {
+            line.add_word("Short");
+            line.add_number(bits as u64);
+        }
+        MsgFault::TooManyCells => line.add_word("TooManyCells"),
+        MsgFault::BadTime => line.add_word("BadTime"),
     }
 }

@@ -9,16 +9,11 @@ mod command;
 mod commands;
 mod convert;
 mod fault;
-mod help;
 pub mod laws;
 mod line;
 mod listing;
-mod metres;
 mod options;
-mod plan;
-mod show;
 mod signals;
-mod survey;
 #[cfg(test)]
 mod tests;
 
@@ -40,8 +35,8 @@ fn main(rt: HostRuntime) -> ExitCode {
     ExitCode::from(status)
 }
 
-/// Runs the command of the command line, and returns the exit status, or an error if the words of
-/// the command line can't be read or memory ran out.
+/// Runs the command of the command line over the standard streams, and returns the exit status, or
+/// an error if the words of the command line can't be read or memory ran out.
 fn run(rt: &HostRuntime) -> io::Result<u8> {
     let alloc: Global = rt.alloc();
     let owned: Vec<String> = std::env::args(rt)?.collect(alloc)?;
@@ -49,16 +44,11 @@ fn run(rt: &HostRuntime) -> io::Result<u8> {
     for word in &owned {
         words.push(word.as_str())?;
     }
-    run_over_streams(rt, alloc, words.as_slice())
-}
-
-/// Runs the command over the standard streams, and returns the exit status.
-fn run_over_streams(rt: &HostRuntime, alloc: Global, words: &[&str]) -> io::Result<u8> {
     // Files are read line by line, streams in small pieces, and lines are written one by one. The
-    // buffers avoid a system call for each.
+    // buffers avoid a system call for each. The commands flush the buffer before they read more.
     let input = BufReader::with_capacity(alloc, INPUT_BYTES, rt.stdin())?;
     let mut reader = Counted::new(input);
-    // The commands flush the buffer before they read more.
     let mut writer = Counted::new(Buffered::new(alloc, rt.stdout())?);
+    let words = words.as_slice();
     Ok(command(alloc, words, &mut reader, &mut writer, &mut rt.stderr()))
 }

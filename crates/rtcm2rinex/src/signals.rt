@@ -1,22 +1,31 @@
-//! The command `signals`: a table of the signals of a stream.
-ghost use Rattle.std.specs.Prelude.{◌≡◌, ◌+◌, ◌≤◌, ◌<◌, ◌++◌, List, length, ◌*◌};
+//! The commands `signals` and `options`: the signals of a stream, as a table and as options.
+ghost use Rattle.std.specs.Prelude.{◌≡◌, ◌+◌, ◌*◌, ◌<◌, ◌≤◌, ◌^◌, [], ◌∷◌, ◌++◌, List, IfOk, IfErr, IfSome, length};
+ghost use Rattle.std.specs.Option.{option_or};
 ghost use Rattle.gnss_obs.specs.Signals.{table, code_of};
 ghost use Rattle.gnss_obs.specs.declared.system.System.TheVariants.{Gps, Galileo};
-ghost use Rattle.obs_epoch.specs.Heard.{HeardCell};
-ghost use Rattle.obs_epoch.specs.SignalCounts.{signal_in, AreSignalCounts};
-ghost use Rattle.rtcm_convert.specs.Moves.{Moves};
-ghost use Rattle.rtcm2rinex.specs.Devices.{Ends};
-ghost use Rattle.rtcm2rinex.specs.Signals.{count_line, count_lines, letter, signals_text};
-ghost use Rattle.rtcm2rinex.specs.Surveying.{PrintsSurvey, StopsSurvey};
+ghost use Rattle.rtcm_msg.specs.Station.{InRange};
+ghost use Rattle.rtcm_msg.specs.Viewed.{viewed_message};
+ghost use Rattle.rtcm_scan.specs.Answers.{framed};
+ghost use Rattle.rtcm_scan.specs.Frames.{Framed};
+ghost use Rattle.obs_epoch.specs.Heard.{HeardCell, heard};
+ghost use Rattle.obs_epoch.specs.SignalCounts.{AreSignalCounts, signal_in};
+ghost use Rattle.rtcm2rinex.specs.Counting.{HasCounted, IsCounted, StopsCounting};
+ghost use Rattle.rtcm2rinex.specs.Devices.{CountsReader};
+ghost use Rattle.rtcm2rinex.specs.Fitting.{antenna_words, options_line, options_text};
+ghost use Rattle.rtcm2rinex.specs.Fitting.{point_of, station_of, station_words};
+ghost use Rattle.rtcm2rinex.specs.Lines.{with_words};
+ghost use Rattle.rtcm2rinex.specs.SignalOutput.{EndsSignals};
+ghost use Rattle.rtcm2rinex.specs.Signals.{codes_word, count_line, count_lines, had, letter, plan_had, signals_text};
 
 use crate::fault::ToolFault;
-use crate::line::{Line, print_text};
-use crate::survey::survey_stream;
+use crate::line::{OutputLine, print_text};
+use crate::listing::PIECE_BYTES;
 use arrayvec::ArrayVec;
 use gnss_obs::{Signal, System};
 use obs_epoch::SignalCounts;
-use rtcm_bits::Counted;
-use rtcm_scan::MOST_BYTES;
+use rtcm_bits::{Counted, DeviceFailed};
+use rtcm_msg::{StationParts, View, look};
+use rtcm_scan::{Frame, FrameSink, Framer, MOST_BYTES, ScanFault, laws};
 use std::alloc::Global;
 use std::io::{Read, Write};
 
@@ -28,42 +37,174 @@ const TEXT_BYTES: usize = 1_024;
 ///
 /// # Errors
 ///
-/// `NoSignal` if no cell has a value, `Write` if the writer failed, and those of `survey_stream`.
+/// `Write` if the writer failed, and those of `read_signals`.
 pub fn run_signals<R: Read, W: Write>(
     alloc: Global,
     station: Option<u16>,
     reader: &mut Counted<R>,
     writer: &mut Counted<W>,
 ) -> Result<(), ToolFault>
-    ensures { Ends result reader.old reader.new writer.old writer.new
-        (λ _. Moves R.remaining reader.old reader.new W.contents writer.old writer.new (PrintsSurvey signals_text station))
-        (StopsSurvey signals_text station R.remaining reader.old reader.new W.contents writer.old writer.new) }
+    ensures { EndsSignals result signals_text station
+        R.remaining reader.old reader.new W.contents writer.old writer.new }
 {
-    let survey = match survey_stream(alloc, station, MOST_BYTES, reader) {
-        Ok(survey) => survey,
-        Err(fault) => return Err(fault),
-    };
-    if !survey.signal_counts.has_any() {
-        return Err(ToolFault::NoSignal);
+    match read_signals(alloc, station, reader) {
+        Ok(signals) => print_text(count_lines(&signals.signal_counts).as_slice(), writer),
+        Err(fault) => Err(fault),
     }
-    print_text(count_lines(&survey.signal_counts).as_slice(), writer)
 }
 
-/// Returns the RINEX code of the signal at an index of a system's table, in ASCII.
-pub fn code_at(system: System, index: usize) -> [u8; 2]
-    requires { index < length (table system) }
-    ensures value { result ≡ code_of (signal_in system index) }
-    ensures short { length result ≡ 2 }
+/// Writes a line of the options of `convert` that fit the stream: the signals of the cells that
+/// have a value, and the values of the first station message, of one station or of all.
+///
+/// # Errors
+///
+/// `Write` if the writer failed, and those of `read_signals`.
+pub fn run_options<R: Read, W: Write>(
+    alloc: Global,
+    station: Option<u16>,
+    reader: &mut Counted<R>,
+    writer: &mut Counted<W>,
+) -> Result<(), ToolFault>
+    ensures { EndsSignals result options_text station
+        R.remaining reader.old reader.new W.contents writer.old writer.new }
 {
-    match Signal::from_index(system, index) {
-        Some(signal) => signal.code(),
-        None => unreachable!(),
+    match read_signals(alloc, station, reader) {
+        Ok(signals) => print_text(options_line(&signals).as_bytes(), writer),
+        Err(fault) => Err(fault),
     }
 }
+
+// ---- the signals of a stream
+
+/// The signals of the messages read so far, and the first station message.
+#[derive(Drop)]
+pub struct StreamSignals {
+    /// The station whose messages count; `None` counts those of every station.
+    pub station: Option<u16>,
+    /// The number of cells of each signal that have a value.
+    pub signal_counts: SignalCounts,
+    /// The content of the first station message.
+    pub first: Option<StationParts>,
+}
+
+impl FrameSink<()> for StreamSignals {
+    ghost use Rattle.rtcm2rinex.specs.Counting.{Counts, NeverFails};
+
+    type Fault = DeviceFailed;
+
+    ghost took = { Counts };
+
+    ghost broke = { NeverFails };
+
+    fn take(&mut self, frame: &Frame, _out: &mut ()) -> Result<(), DeviceFailed> {
+        count_frame(
+            self.station,
+            &mut self.signal_counts,
+            &mut self.first,
+            frame,
+        );
+        Ok(())
+    }
+
+    fn send(&self, _out: &mut ()) -> Result<(), DeviceFailed> {
+        Ok(())
+    }
+}
+
+/// Counts the cells of a frame's message, and keeps the first station message. A refused message
+/// has no cells.
+fn count_frame(
+    station: Option<u16>,
+    signal_counts: &mut SignalCounts,
+    first: &mut Option<StationParts>,
+    frame: &Frame,
+)
+    ensures counts { (fs : List Framed) → length fs < 2 ^ 56 → IsCounted signal_counts.old station fs
+        → IsCounted signal_counts.new station (fs ++ framed frame.now ∷ []) }
+    ensures first { first.new ≡ option_or first.old (station_of station (framed frame.now)) }
+    ensures in_range { IfSome first.old InRange → IfSome first.new InRange }
+{
+    match look(frame.message.as_slice()) {
+        Ok(view) => {
+            signal_counts.count_view(station, &view);
+            *first = first_of(*first, station, &view);
+        }
+        Err(_) => {}
+    }
+}
+
+/// Returns the first station message of the station, or of any if none is given, after another
+/// message is processed.
+fn first_of(
+    first: Option<StationParts>,
+    station: Option<u16>,
+    view: &View<'_>,
+) -> Option<StationParts>
+    ensures value { result ≡ option_or first (point_of station (heard (viewed_message view.now))) }
+    ensures in_range { IfSome first InRange → IfSome result InRange }
+{
+    match (first, view) {
+        (None, View::Station(message)) => {
+            let parts = message.parts();
+            match station {
+                Some(wanted) if wanted != parts.station => None,
+                _ => Some(parts),
+            }
+        }
+        _ => first,
+    }
+}
+
+/// Counts the signals of a stream of at most 2^48 bytes that have a cell with a value, for one
+/// station or for all.
+///
+/// # Errors
+///
+/// `NoSignal` if no cell has a value, `Read` if the reader failed, and `Scan` if the stream is
+/// longer than the limit or memory ran out.
+fn read_signals<R: Read>(
+    alloc: Global,
+    station: Option<u16>,
+    reader: &mut Counted<R>,
+) -> Result<StreamSignals, ToolFault>
+    ensures whole { IfOk result
+        (λ s. HasCounted s station (R.remaining reader.old.inner) (R.remaining reader.new.inner)) }
+    ensures fault { IfErr result (StopsCounting station R.remaining reader.old reader.new) }
+    ensures reader { CountsReader result reader.old reader.new }
+{
+    // The limit is valid, so a framer is refused only when out of memory.
+    let Ok(mut framer) = Framer::new(alloc, MOST_BYTES) else {
+        return Err(ToolFault::Scan(ScanFault::Memory));
+    };
+    let mut signals = StreamSignals {
+        station,
+        signal_counts: SignalCounts::new(),
+        first: None,
+    };
+    let mut buffer = [0; PIECE_BYTES];
+    laws::prefix();
+    let read = framer.read_frames(reader, &mut buffer, &mut signals, &mut ());
+    // At most the limit's number of bytes was read, so no count reaches its largest number.
+    let _ = framer.taken();
+    drop(framer);
+    match read {
+        Ok(()) => {
+            if signals.signal_counts.has_any() {
+                Ok(signals)
+            } else {
+                Err(ToolFault::NoSignal)
+            }
+        }
+        Err(fault) => Err(ToolFault::from(fault)),
+    }
+}
+
+// ---- the table of `signals`
 
 /// Returns a line for each signal that has a cell.
 fn count_lines(signal_counts: &SignalCounts) -> ArrayVec<u8, TEXT_BYTES>
-    ensures { (cells : List HeardCell) → AreSignalCounts signal_counts.now cells → result.items ≡ count_lines cells Gps ++ count_lines cells Galileo }
+    ensures { (cells : List HeardCell) → AreSignalCounts signal_counts.now cells
+        → result.items ≡ count_lines cells Gps ++ count_lines cells Galileo }
 {
     let mut text = ArrayVec::new();
     add_lines(&mut text, signal_counts, System::Gps);
@@ -74,7 +215,8 @@ fn count_lines(signal_counts: &SignalCounts) -> ArrayVec<u8, TEXT_BYTES>
 /// Adds a line for each signal of a system that has a cell.
 fn add_lines(text: &mut ArrayVec<u8, TEXT_BYTES>, signal_counts: &SignalCounts, system: System)
     requires { length text.old.items ≤ 512 }
-    ensures text { (cells : List HeardCell) → AreSignalCounts signal_counts.now cells → text.new.items ≡ text.old.items ++ count_lines cells system }
+    ensures text { (cells : List HeardCell) → AreSignalCounts signal_counts.now cells
+        → text.new.items ≡ text.old.items ++ count_lines cells system }
     ensures short { length text.new.items ≤ length text.old.items + 26 * length (table system) }
 {
     for index in 0..system.signals() {
@@ -87,12 +229,13 @@ fn add_lines(text: &mut ArrayVec<u8, TEXT_BYTES>, signal_counts: &SignalCounts, 
 }
 
 /// Returns the line of a signal: the letter of its system, its code, and the number of its cells.
-fn count_line(system: System, index: usize, count: u64) -> Line
+fn count_line(system: System, index: usize, count: u64) -> OutputLine
     requires { index < length (table system) }
     ensures text { result ≡ count_line (signal_in system index) count }
     ensures short { length result ≤ 26 }
 {
-    let mut line = Line::starting_with_word(letter(system));
+    let mut line = OutputLine::new();
+    line.put(letter(system).as_bytes());
     line.add_part(b' ', code_at(system, index).as_slice());
     line.add_number(count);
     line.finish();
@@ -106,5 +249,90 @@ fn letter(system: System) -> &'static str
     match system {
         System::Gps => "G",
         System::Galileo => "E",
+    }
+}
+
+/// Returns the RINEX code of the signal at an index of a system's table, in ASCII.
+fn code_at(system: System, index: usize) -> [u8; 2]
+    requires { index < length (table system) }
+    ensures value { result ≡ code_of (signal_in system index) }
+    ensures short { length result ≡ 2 }
+{
+    match Signal::from_index(system, index) {
+        Some(signal) => signal.code(),
+        None => unreachable!(),
+    }
+}
+
+// ---- the line of `options`
+
+/// Returns the line of the options that plan the counted signals, and of those of the station
+/// message.
+fn options_line(signals: &StreamSignals) -> OutputLine
+    requires { IfSome signals.now.first InRange }
+    ensures { (cells : List HeardCell) → AreSignalCounts signals.now.signal_counts cells
+        → result ≡ options_line (plan_had cells) signals.now.first }
+{
+    let mut line = OutputLine::new();
+    line.put(b"--gps");
+    add_codes(&mut line, &signals.signal_counts, System::Gps);
+    line.add_word("--galileo");
+    add_codes(&mut line, &signals.signal_counts, System::Galileo);
+    add_station(&mut line, signals.first);
+    line.finish();
+    line
+}
+
+/// Adds a word, the codes of the signals of a system that have a cell, separated by commas, or
+/// `none`.
+fn add_codes(line: &mut OutputLine, signal_counts: &SignalCounts, system: System)
+    requires { length line.old ≤ 150 }
+    ensures text { (cells : List HeardCell) → AreSignalCounts signal_counts.now cells
+        → line.new ≡ line.old ++ 0x20 ∷ codes_word system (had cells system) }
+    ensures short { length line.new ≤ length line.old + 62 }
+{
+    let mut separator = b' ';
+    for index in 0..system.signals() {
+        if signal_counts.count(system, index) > 0 {
+            line.add_part(separator, code_at(system, index).as_slice());
+            separator = b',';
+        }
+    }
+    if separator == b' ' {
+        line.add_word("none");
+    }
+}
+
+/// Adds the options of a station message, if there is one.
+fn add_station(line: &mut OutputLine, station: Option<StationParts>)
+    requires room { length line.old ≤ 150 }
+    requires in_range { IfSome station InRange }
+    ensures text { line.new ≡ with_words line.old (station_words station) }
+    ensures short { length line.new ≤ length line.old + 160 }
+{
+    match station {
+        Some(station) => {
+            line.add_word("--position");
+            line.add_metres(b'=', station.x);
+            line.add_metres(b',', station.y);
+            line.add_metres(b',', station.z);
+            add_height(line, station.height);
+        }
+        None => {}
+    }
+}
+
+/// Adds the option of the antenna height of a 1006.
+fn add_height(line: &mut OutputLine, height: Option<u16>)
+    requires { length line.old ≤ 260 }
+    ensures text { line.new ≡ with_words line.old (antenna_words height) }
+    ensures short { length line.new ≤ length line.old + 44 }
+{
+    match height {
+        Some(height) => {
+            line.add_word("--antenna-height");
+            line.add_metres(b' ', i64::from(height));
+        }
+        None => {}
     }
 }

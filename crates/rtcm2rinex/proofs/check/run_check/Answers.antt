@@ -1,9 +1,6 @@
-use Rattle.std.proofs.Common.{◌≡◌, ◌∙◌, ap, refl, sym, subst, Err}
+use Rattle.std.proofs.Common.{◌≡◌, ◌∙◌, ap, refl, Err}
 use Rattle.rinex_file.specs.File.{file_text}
 use Rattle.rinex_file.specs.Counting.{AreCounts}
-use Rattle.rtcm2rinex.specs.Checking.{IsCheckedOr, StopsChecking}
-use Rattle.rtcm2rinex.specs.Devices.{HaveFailedBy}
-use Rattle.rtcm2rinex.specs.declared.fault.ToolFault.{ToolFault}
 use Rattle.rtcm2rinex.proofs.CheckLemmas.{checked, checked_or, line_of, read_failures, refused, where_known}
 use Rattle.rtcm2rinex.proofs.PrintingLemmas.{same_text}
 use Rattle.rtcm2rinex.proofs.check.run_check.Goals as goal
@@ -26,17 +23,8 @@ returns-in-Ok-clause-only g c = λ v is few.
 pub returns-in-Err-clause-ends : goal.returns-in-Err-clause-ends
 returns-in-Err-clause-ends g c =
     let end = c.in-Err.ensures in
-    let reader = c.args.reader.now in
-    let writer = c.args.writer.now in
-    let before = reader.failures in
-    let after = c.check_file.new.reader.failures in
-    subst (λ (fault : ToolFault). HaveFailedBy fault reader c.check_file.new.reader writer writer
-    × StopsChecking g.R.Read.remaining reader c.check_file.new.reader g.W.Write.contents writer writer fault) (sym c.from.ensures)
-    ((read_failures c.in-Err.fault before after (λ e. end.failed (ap Err e)) (λ isnt. end.same (λ e. isnt cc)), refl), (end.fault, refl))
+    ((read_failures c.in-Err.fault _ _ (λ e. end.failed (ap Err e)) (λ isnt. end.same (λ e. isnt cc)), refl), (end.fault, refl))
 
 pub returns-in-Err-clause-only : goal.returns-in-Err-clause-only
 returns-in-Err-clause-only g c = λ v is few.
-    let contents = g.W.Write.contents in
-    where_known _ _ (g.R.Read.remaining c.args.reader.now.inner)
-    (λ input h same. subst (λ (fault : ToolFault). IsCheckedOr v (Err fault) (contents c.args.writer.now.inner) (contents c.args.writer.now.inner)) (sym c.from.ensures) (refused v c.in-Err.fault _ _ (h same)))
-    (c.in-Err.ensures.only v is few)
+    where_known _ _ (g.R.Read.remaining c.args.reader.now.inner) (λ input h same. refused v c.in-Err.fault _ _ (h same)) (c.in-Err.ensures.only v is few)

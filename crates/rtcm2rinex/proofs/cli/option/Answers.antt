@@ -6,4 +6,4 @@ use Rattle.rtcm2rinex.proofs.cli.option.Goals as goal
 pub returns : goal.returns
 returns c =
     let is : rule_of c.value_name.result ≡ line.option c.args.row.now.name.now = search rules in
-    c.read_by.ensures ∙ ap (λ (r : Rule). line.read_so c.args.row.now.reading r) is
+    c.of_kind.ensures ∙ ap (λ (r : Rule). line.of_kind c.args.row.now.kind r) is

@@ -9,7 +9,7 @@ use Rattle.rtcm2rinex.proofs.AcceptedLemmas.{found_command}
 use Rattle.rtcm2rinex.proofs.cli.parse.Goals as goal
 
 pub program-requires : goal.program-requires
-unfolding line.read_so
+unfolding line.of_kind
 program-requires c = (_, refl, refl)
 
 pub returns : goal.returns

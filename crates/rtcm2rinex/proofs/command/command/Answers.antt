@@ -4,23 +4,23 @@ use Rattle.rtcm2rinex.proofs.CommandLineLemmas.{is_version}
 use Rattle.rtcm2rinex.proofs.CommandLemmas.{answered_in_part, failed_to_serve, has_command, refused_at_two, refused_words, served}
 use Rattle.rtcm2rinex.proofs.command.command.Goals as goal
 
-pub run_found-ended-requires : goal.run_found-ended-requires
-run_found-ended-requires g c = has_command (texts c.args.words.now) c.in-Ok.matches c.in-Ok.ensures.asked
+pub run-ended-requires : goal.run-ended-requires
+run-ended-requires g c = has_command (texts c.args.words.now) c.in-Ok.matches c.in-Ok.ensures.asked
 
 pub returns-in-Ok-clause-good : goal.returns-in-Ok-clause-good
 returns-in-Ok-clause-good g c =
-    served g.R.Read.remaining g.W.Write.contents c.args.reader.now c.run_found-ended.new.reader c.args.writer.now c.run_found-ended.new.writer (texts c.args.words.now)
-    c.in-Ok.matches c.run_found-ended.result c.exit_status.result c.exit_status.ensures.value c.in-Ok.ensures.asked c.run_found-ended.ensures
+    served g.R.Read.remaining g.W.Write.contents c.args.reader.now c.run-ended.new.reader c.args.writer.now c.run-ended.new.writer (texts c.args.words.now)
+    c.in-Ok.matches c.run-ended.result c.exit_status.result c.exit_status.ensures.value c.in-Ok.ensures.asked c.run-ended.ensures
 
 pub returns-in-Ok-clause-stopped : goal.returns-in-Ok-clause-stopped
 returns-in-Ok-clause-stopped g c =
-    failed_to_serve g.R.Read.remaining g.W.Write.contents c.args.reader.now c.run_found-ended.new.reader c.args.writer.now c.run_found-ended.new.writer (texts c.args.words.now)
-    c.in-Ok.matches c.run_found-ended.result c.exit_status.result c.exit_status.ensures.value c.in-Ok.ensures.asked c.run_found-ended.ensures
+    failed_to_serve g.R.Read.remaining g.W.Write.contents c.args.reader.now c.run-ended.new.reader c.args.writer.now c.run-ended.new.writer (texts c.args.words.now)
+    c.in-Ok.matches c.run-ended.result c.exit_status.result c.exit_status.ensures.value c.in-Ok.ensures.asked c.run-ended.ensures
 
 pub returns-in-Ok-clause-refused : goal.returns-in-Ok-clause-refused
 returns-in-Ok-clause-refused g c =
-    refused_at_two g.R.Read.remaining g.W.Write.contents c.args.reader.now c.run_found-ended.new.reader c.args.writer.now c.run_found-ended.new.writer (texts c.args.words.now)
-    c.in-Ok.matches c.run_found-ended.result c.exit_status.result c.exit_status.ensures.value c.in-Ok.ensures.asked c.run_found-ended.ensures
+    refused_at_two g.R.Read.remaining g.W.Write.contents c.args.reader.now c.run-ended.new.reader c.args.writer.now c.run-ended.new.writer (texts c.args.words.now)
+    c.in-Ok.matches c.run-ended.result c.exit_status.result c.exit_status.ensures.value c.in-Ok.ensures.asked c.run-ended.ensures
 
 pub returns-in-Err-clause-good : goal.returns-in-Err-clause-good
 returns-in-Err-clause-good g c = λ e. (let good = c.answer.ensures.good e in

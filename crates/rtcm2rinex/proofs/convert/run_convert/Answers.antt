@@ -1,22 +1,19 @@
-use Rattle.std.proofs.Common.{sym, subst}
-use Rattle.rtcm_convert.specs.SetupValues.{IsBad, start_zero}
-use Rattle.rtcm2rinex.specs.Converting.{StopsConversion}
-use Rattle.rtcm2rinex.specs.Devices.{HaveFailedBy}
-use Rattle.rtcm2rinex.specs.declared.fault.ToolFault.{ToolFault}
-use Rattle.rtcm2rinex.proofs.ConvertLemmas.{conversion_stopped}
+use Rattle.std.proofs.Common.{inr, subst}
+use Rattle.std.specs.Prelude.{◌≡◌, ◌↔◌, Err}
+use Rattle.obs_epoch.specs.declared.cell.StationValues.{StationValues}
+use Rattle.rtcm_convert.specs.SetupValues.{IsBadAt, start_at}
+use Rattle.rtcm_convert.specs.declared.fault.Fault.TheVariants.{BadSetup}
+use Rattle.rtcm2rinex.specs.Converting.{EndsConversion}
+use Rattle.rtcm2rinex.specs.declared.fault.ToolFault.TheVariants.{Convert}
+use Rattle.rtcm2rinex.proofs.ConvertLemmas.{zero_bad}
 use Rattle.rtcm2rinex.proofs.convert.run_convert.Goals as goal
 
-pub returns-in-Ok-clause-ends : goal.returns-in-Ok-clause-ends
-returns-in-Ok-clause-ends g c =
-    let end = c.in-Ok.ensures in
-    ((end.devices.0.1, end.devices.1.1, end.sent), end.made)
+pub returns-clause-ends : goal.returns-clause-ends
+returns-clause-ends g c =
+    subst (λ (v : StationValues). EndsConversion c.run_convert_at.result (start_at c.args.setup v) g.R.Read.remaining c.args.reader.now c.run_convert_at.new.reader
+    g.W.Write.contents c.args.writer.now c.run_convert_at.new.writer) c.zero.ensures c.run_convert_at.ensures.ends
 
-pub returns-in-Err-clause-ends : goal.returns-in-Err-clause-ends
-returns-in-Err-clause-ends g c =
-    let end = c.in-Err.ensures in
-    let reader = c.args.reader.now in
-    let writer = c.args.writer.now in
-    subst (λ (fault : ToolFault). HaveFailedBy fault reader c.convert_stream.new.reader writer c.convert_stream.new.writer
-    × StopsConversion (IsBad c.args.setup) (start_zero c.args.setup) g.R.Read.remaining reader c.convert_stream.new.reader g.W.Write.contents writer c.convert_stream.new.writer fault) (sym c.from.ensures)
-    (conversion_stopped g.R.Read.remaining g.W.Write.contents (IsBad c.args.setup) (start_zero c.args.setup) reader c.convert_stream.new.reader writer c.convert_stream.new.writer c.in-Err.fault
-    end.devices.0 end.devices.1 end.sent end.no_epoch end.long end.read end.write end.bad_setup end.untouched end.only)
+pub returns-clause-bad_setup : goal.returns-clause-bad_setup
+returns-clause-bad_setup g c =
+    let bad = subst (λ (v : StationValues). c.run_convert_at.result ≡ Err (Convert BadSetup) ↔ IsBadAt (start_at c.args.setup v)) c.zero.ensures c.run_convert_at.ensures.bad_setup in
+    (λ e. zero_bad c.args.setup (bad.0 e), λ b. bad.1 (inr b))

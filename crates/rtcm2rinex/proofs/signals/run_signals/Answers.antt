@@ -1,25 +1,16 @@
-use Rattle.std.proofs.Common.{◌∙◌, refl, sym}
-use Rattle.rtcm_scan.specs.Frames.{frames_of}
+use Rattle.std.proofs.Common.{◌∙◌}
 use Rattle.rtcm2rinex.specs.Signals.{signals_text, valued_in}
-use Rattle.rtcm2rinex.proofs.SignalLemmas.{some_cells, no_cells}
-use Rattle.rtcm2rinex.proofs.CountingLemmas.{survey_stopped, survey_printed}
+use Rattle.rtcm_scan.specs.Frames.{frames_of}
+use Rattle.rtcm2rinex.proofs.CountingLemmas.{signals_stopped, signals_printed}
 use Rattle.rtcm2rinex.proofs.PrintingLemmas.{same_text}
-use Rattle.rtcm2rinex.proofs.ValuedLemmas.{valued_keys}
 use Rattle.rtcm2rinex.proofs.signals.run_signals.Goals as goal
 
-pub returns-then-not-has_any : goal.returns-then-not-has_any
-returns-then-not-has_any g c =
+pub returns-in-Ok : goal.returns-in-Ok
+returns-in-Ok g c =
     let s = c.in-Ok.ensures.whole in
-    let cells = valued_in c.args.station (frames_of s.0) in
-    ((c.in-Ok.ensures.reader, refl), ((s.0, s.1, s.2, no_cells c.in-Ok.survey.signal_counts cells s.3.counted.signal_counts (valued_keys c.args.station (frames_of s.0)) (sym c.has_any.ensures ∙ c.if-not-has_any.true)), refl))
-
-pub returns : goal.returns
-returns g c =
-    let s = c.in-Ok.ensures.whole in
-    let cells = valued_in c.args.station (frames_of s.0) in
-    survey_printed g.R.Read.remaining g.W.Write.contents signals_text c.args.station c.args.reader.now c.survey_stream.new.reader c.args.writer.now c.print_text.new.writer c.print_text.result
-    s.0 s.1 s.2 (some_cells c.in-Ok.survey.signal_counts cells s.3.counted.signal_counts (sym c.has_any.ensures ∙ c.if-not-has_any.false)) c.in-Ok.ensures.reader
-    (same_text c.print_text.result g.W.Write.contents c.args.writer.now c.print_text.new.writer _ _ (c.as_slice.ensures.value ∙ c.count_lines.ensures cells s.3.counted.signal_counts) c.print_text.ensures)
+    signals_printed g.R.Read.remaining g.W.Write.contents signals_text c.args.station c.args.reader.now c.read_signals.new.reader c.args.writer.now c.print_text.new.writer c.print_text.result
+    c.in-Ok.signals s c.in-Ok.ensures.reader (same_text c.print_text.result g.W.Write.contents c.args.writer.now c.print_text.new.writer _ _
+    (c.as_slice.ensures.value ∙ c.count_lines.ensures (valued_in c.args.station (frames_of s.0)) s.3.counted.signal_counts) c.print_text.ensures)
 
 pub returns-in-Err : goal.returns-in-Err
-returns-in-Err g c = survey_stopped g.R.Read.remaining g.W.Write.contents signals_text c.args.station c.args.reader.now c.survey_stream.new.reader c.args.writer.now c.in-Err.fault c.in-Err.ensures.reader c.in-Err.ensures.fault
+returns-in-Err g c = signals_stopped g.R.Read.remaining g.W.Write.contents signals_text c.args.station c.args.reader.now c.read_signals.new.reader c.args.writer.now c.in-Err.fault c.in-Err.ensures.reader c.in-Err.ensures.fault
