@@ -4,7 +4,10 @@ use std::alloc::Global;
 
 static HEAD_FAULTS: [(HeadFault, &str); 3] = [
     (HeadFault::TooLong(HeaderField::Agency), "TooLong agency"),
-    (HeadFault::NotPrintable(HeaderField::RunBy), "NotPrintable run_by"),
+    (
+        HeadFault::NotPrintable(HeaderField::RunBy),
+        "NotPrintable run_by",
+    ),
     (HeadFault::Write, "Write"),
 ];
 

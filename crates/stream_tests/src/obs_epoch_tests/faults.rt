@@ -6,7 +6,10 @@ use std::test::*;
 
 static TEXTS: [(PlanFault, &str); 6] = [
     (PlanFault::UnknownCode(System::Gps, 3), "UnknownCode G 3"),
-    (PlanFault::RepeatedCode(System::Galileo, 1), "RepeatedCode E 1"),
+    (
+        PlanFault::RepeatedCode(System::Galileo, 1),
+        "RepeatedCode E 1",
+    ),
     (PlanFault::NothingPlanned, "NothingPlanned"),
     (PlanFault::BadWeek, "BadWeek"),
     (PlanFault::BadStation, "BadStation"),
