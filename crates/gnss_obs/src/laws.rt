@@ -21,9 +21,9 @@ pub fn signal_tables()
     ensures code_reads_back { (s : SignalAt) → IsSignal s → signal_of_code s.system (code_of s) ≡ Some s }
 {}
 
-/// The lock time indicators: the least times rise with the indicator, so that each upper time is
-/// above its least. Those of DF407 are milliseconds up to 64, and from 32 on an indicator that is
-/// larger by 32 has twice the time.
+/// The lock time indicators: the least times rise with the indicator, so that each upper bound is
+/// above its least time. Those of DF407 are milliseconds up to 64, and from 32 on an indicator that
+/// is larger by 32 has twice the time.
 pub fn lock_times()
     ensures rising4 { (i : ℕ) → i < last4 → least4 i < least4 (i + 1) }
     ensures rising7 { (i : ℕ) → i < last7 → least7 i < least7 (i + 1) }

@@ -99,8 +99,8 @@ impl Lock {
 
 /// Returns whether lock was lost between two times that are `elapsed` milliseconds apart.
 ///
-/// It was if the later lock has a smaller least time than the earlier one, or an upper time that is
-/// not above the elapsed time. If either lock is unknown, the result is `false`.
+/// It was if the later lock has a smaller least time than the earlier one, or an upper bound that
+/// is at most the elapsed time. If either lock is unknown, the result is `false`.
 pub fn is_lost(then: Lock, now: Lock, elapsed: u64) -> bool
     ensures lost { IsTrue result ↔ IsLost then now elapsed }
     ensures value { result ≡ lost then.least now.least now.upper elapsed }
@@ -108,7 +108,8 @@ pub fn is_lost(then: Lock, now: Lock, elapsed: u64) -> bool
     has_fallen(then.least, now.least, now.upper, elapsed)
 }
 
-/// Returns the same from the lock times that the result depends on, in milliseconds.
+/// Returns the result of `is_lost` from the least time of the earlier lock, and the least time and
+/// upper bound of the later one, in milliseconds.
 fn has_fallen(before: Option<u32>, least: Option<u32>, upper: Option<u32>, elapsed: u64) -> bool
     ensures { result ≡ lost before least upper elapsed }
 {

@@ -12,7 +12,7 @@ use crate::{Signal, Thousandths};
 const LIGHT: u32 = 299_792_458;
 
 /// Returns the pseudorange in metres from a range in units of 2^-31 ms, the sum of DF397, DF398 and
-/// DF400 or DF405 of RTCM 10403.3. `None` if there is no range.
+/// DF400 or DF405 of RTCM 10403.3, at most 2^40 in size. `None` if there is no range.
 pub fn pseudorange(range: Option<i64>) -> Option<Thousandths>
     requires { ForSome range (λ r. unsigned_abs r ≤ 2 ^ 40) }
     ensures rounded { IsRounded (λ r. r *ℤ pos light) (2 ^ 31) range result }
@@ -26,7 +26,8 @@ pub fn pseudorange(range: Option<i64>) -> Option<Thousandths>
 }
 
 /// Returns the carrier phase in cycles from a phase range in units of 2^-31 ms, the sum of DF397,
-/// DF398 and DF401 or DF406 of RTCM 10403.3. `None` if there is no phase range.
+/// DF398 and DF401 or DF406 of RTCM 10403.3, at most 2^40 in size. `None` if there is no phase
+/// range.
 pub fn phase(phase: Option<i64>, signal: Signal) -> Option<Thousandths>
     requires { ForSome phase (λ p. unsigned_abs p ≤ 2 ^ 40) }
     ensures rounded { IsRounded (λ p. p *ℤ pos (hertz_of signal)) (2 ^ 31) phase result }
@@ -43,8 +44,8 @@ pub fn phase(phase: Option<i64>, signal: Signal) -> Option<Thousandths>
 }
 
 /// Returns the Doppler shift in hertz from a phase range rate in units of 0.0001 m/s, the sum of
-/// DF399 and DF404 of RTCM 10403.3. It is positive if the rate is negative: the satellite
-/// approaches. `None` if there is no rate.
+/// DF399 and DF404 of RTCM 10403.3, at most 10^8 in size. It is positive if the rate is negative:
+/// the satellite approaches. `None` if there is no rate.
 pub fn doppler(rate: Option<i32>, signal: Signal) -> Option<Thousandths>
     requires { ForSome rate (λ v. unsigned_abs v ≤ 10 ^ 8) }
     ensures rounded { IsRounded (λ v. pos 0 -ℤ (v *ℤ pos (hertz_of signal))) (10 * light) rate result }
@@ -61,7 +62,7 @@ pub fn doppler(rate: Option<i32>, signal: Signal) -> Option<Thousandths>
 }
 
 /// Returns the signal strength in dB-Hz from a carrier to noise ratio in units of 1/16 dB-Hz, DF403
-/// or DF408 of RTCM 10403.3. `None` if there is no ratio.
+/// or DF408 of RTCM 10403.3, below 1,024. `None` if there is no ratio.
 pub fn strength(strength: Option<u16>) -> Option<Thousandths>
     requires { ForSome strength (λ s. s < 1024) }
     ensures rounded { IsRounded (λ s. pos (s * 1000)) 16 strength result }

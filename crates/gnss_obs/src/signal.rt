@@ -84,7 +84,8 @@ impl Signal {
         Some(Signal { system, index })
     }
 
-    /// Returns the signal at an index of the system's table, from 0, or `None` from its end on.
+    /// Returns the signal at an index of the system's table, counted from 0, or `None` if the table
+    /// has no such index.
     pub fn from_index(system: System, index: usize) -> Option<Signal>
         ensures { result ≡ signal_at system index }
     {
@@ -102,7 +103,7 @@ impl Signal {
         listed(self.system)[self.index].1
     }
 
-    /// Returns the carrier frequency, in hertz.
+    /// Returns the carrier frequency, in hertz: at most 1,575,420,000.
     pub fn hertz(self) -> u32
         ensures value { result ≡ hertz_of self }
         ensures positive { 0 < result }

@@ -55,7 +55,7 @@ begun_next_size new all row count size is = ap length is ∙ length-take (signal
 begins_by : (n : ℕ) (xs all : List ℕ) → xs ≡ take n all → xs ≡ take (length xs) all
 begins_by n xs all e = e ∙ sym (take_min n all) ∙ ap (λ m. take m all) (sym (length-take n all) ∙ sym (ap length e))
 
--- so many of all, by their number
+-- a prefix of all, by its length
 all_by : (n count : ℕ) (xs all : List ℕ) → xs ≡ take (length xs) all → length xs ≡ min n count → count ≡ length all → xs ≡ take n all
 all_by n count xs all e size is = e ∙ ap (λ m. take m all) (size ∙ ap (min n) is) ∙ take_min n all
 

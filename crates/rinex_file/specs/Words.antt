@@ -27,7 +27,7 @@ spaced [] = []
 spaced (zero ∷ ds) = 32 ∷ spaced ds
 spaced (suc d ∷ ds) = map (λ x. 48 + x) (suc d ∷ ds)
 
--- what n digits lack, the first `empty` of which are leading zeros, to be columns
+-- the number added to n digits, the first `empty` of which are leading zeros, to get their columns
 abbrev pub front_word : ℕ → ℕ → ℕ
 front_word zero empty = 0
 front_word (suc n) zero = 48 + 256 * front_word n zero

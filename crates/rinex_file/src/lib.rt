@@ -1,8 +1,10 @@
 //! Observation files: RINEX 3.05.
 //!
-//! A [`Head`] holds the contents of a header; its texts are validated by [`HeaderTexts`].
-//! [`header_lines`], [`epoch_line`] and [`satellite_line`] make lines; [`write_header`],
-//! [`write_event`] and [`write_epoch`] write them. None of these allocates memory.
+//! A [`Head`] has the contents of a header; its texts are validated by [`HeaderTexts`].
+//! [`header_lines`], [`epoch_line`] and [`satellite_line`] format lines; [`write_header`],
+//! [`write_event`] and [`write_epoch`] write them. None of these allocates memory. [`read_file`]
+//! reads a file back, [`check_file`] only counts its contents, and [`file_bytes`] returns the text
+//! of a file that was read.
 #![tactic(auto)]
 
 mod header;

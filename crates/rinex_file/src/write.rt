@@ -69,7 +69,7 @@ pub fn write_event<W: Write>(
     Ok(())
 }
 
-// Writes the line of a satellite if one of its cells has a value.
+/// Writes the line of a satellite if one of its cells has a value.
 fn write_satellite<W: Write>(
     cells: &[Cell],
     plan: &Plan,
@@ -95,7 +95,7 @@ fn write_satellite<W: Write>(
     writer.write_whole(line.as_slice())
 }
 
-// Writes the lines of a system's satellites.
+/// Writes the lines of a system's satellites.
 fn write_system<W: Write>(
     epoch: &Epoch,
     plan: &Plan,

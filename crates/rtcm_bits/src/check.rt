@@ -23,7 +23,7 @@ impl Model for CheckRegister {
 }
 
 impl CheckRegister {
-    /// Returns the register of no bytes.
+    /// Returns the register after no bytes.
     pub fn new() -> CheckRegister
         ensures { result ≡ check [] }
     {

@@ -1,4 +1,4 @@
-//! From bytes to a consumer of frames.
+//! Passing the frames of pieces of a stream to a consumer.
 ghost use Rattle.std.specs.Prelude.{◌≡◌, ◌+◌, ◌≤◌, ◌<◌, true, length, take, OnOk, OnErr, IfOk, IfErr};
 ghost use Rattle.rtcm_scan.specs.Passing.{PassesKnown, BreaksKnown, Passes, Breaks, PassesToLimit};
 ghost use Rattle.rtcm_scan.specs.Passing.{GoesOn, IsSameStream, AtFault, UnlessBroken};
@@ -87,7 +87,8 @@ impl Framer {
     ///
     /// # Errors
     ///
-    /// `TooLong` if these bytes go over the limit, and `Sink` if the sink failed.
+    /// `TooLong` if these bytes go over the limit: those up to it were accepted. `Sink` if the sink
+    /// failed.
     pub fn feed<O, S: FrameSink<O>>(
         &mut self,
         piece: &[u8],
@@ -124,7 +125,7 @@ impl Framer {
     ///
     /// # Errors
     ///
-    /// The fault of the sink.
+    /// The fault of the sink, if it failed.
     pub fn finish<O, S: FrameSink<O>>(&mut self, sink: &mut S, out: &mut O) -> Result<(), S::Fault>
         requires { S.can_take sink.old }
         ensures goes { S.can_take sink.new }

@@ -225,8 +225,8 @@ impl Framer {
         self.window.held()
     }
 
-    /// Returns the number of bytes that may be pushed at once, within the limit and beside the held
-    /// bytes.
+    /// Returns the number of bytes that may be pushed at once, 0 to 1,029: within the limit, and
+    /// beside the held bytes.
     pub fn room(&self) -> usize
         ensures value { result ≡ min (longest_frame - length self.now.held) (self.now.limit - self.now.taken) }
         ensures fits { length self.now.held + result ≤ longest_frame }
@@ -237,7 +237,7 @@ impl Framer {
         (LONGEST_FRAME - self.held()).min(allowed as usize)
     }
 
-    /// Returns the number of bytes accepted.
+    /// Returns the number of bytes accepted, at most the limit.
     pub fn taken(&self) -> u64
         ensures value { result ≡ self.now.taken }
         ensures within { (result ≤ self.now.limit) × (self.now.limit ≤ most_bytes) }
@@ -268,7 +268,7 @@ impl Framer {
         self.window.most()
     }
 
-    /// Returns the next frame that the accepted bytes decide, if there is one.
+    /// Returns the next frame that the accepted bytes decide, or `None` if they decide no more.
     pub fn next(&mut self) -> Option<Frame>
         ensures some { IfSome result (λ f. HandsOut self.old self.new (framed f)) }
         ensures none { IfNone result

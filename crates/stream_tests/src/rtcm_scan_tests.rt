@@ -374,7 +374,7 @@ fn longest_frames() -> ArrayVec<u8, 2_048> {
     frames
 }
 
-// Blocks of two end with the first frame if a byte precedes it, the longest block if none does.
+/// Blocks of two end with the first frame if a byte precedes it, the longest block if none does.
 #[test]
 fn longest_messages(rt: HostRuntime) {
     let frames = longest_frames();

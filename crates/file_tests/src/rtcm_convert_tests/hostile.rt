@@ -127,7 +127,7 @@ fn said(from: usize, to: usize, has_ended: bool) -> (Good, Answer, usize) {
     )
 }
 
-// The definitions themselves, by numbers counted by hand.
+/// The definitions themselves, by numbers counted by hand.
 #[test]
 fn the_slow_definitions_are_right(rt: HostRuntime) {
     let none: Answer = Err(Fault::NoEpoch);

@@ -45,7 +45,7 @@ LearnsLine row line old new = HasReadRows old (row_place row) → known_line old
 abbrev pub RefusesHeaderLine : HeaderRow → List ℕ → Type 0
 RefusesHeaderLine row line = (h : Shown) → IsShown h → shown_line h row ≡ line → ⊥
 
--- what was learned from a line, or that it is refused
+-- the line was accepted, and this is known after it; or no header has it in this row
 abbrev pub LearnsOrRefuses : HeaderRow → List ℕ → Known → Known → Bool → Type 0
 LearnsOrRefuses row line old new taken = MatchBool taken (LearnsLine row line old new) (RefusesHeaderLine row line)
 

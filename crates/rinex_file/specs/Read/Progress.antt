@@ -126,7 +126,7 @@ shown_with k p = record { texts = k.shown.texts; plan = p; values = k.shown.valu
 abbrev pub IsOnlyTime : ℕ → Type 0
 IsOnlyTime time = (t : ℕ) → IsTime t → first_line (civil_of t) ≡ first_line (civil_of time) → t ≡ time
 
--- The rows before an index were read: so many signals as begin in their lines of types, by the number of all.
+-- The rows before an index were read: of each system the signals that begin in its lines of types, at most its count.
 pub record IsReadTo (gps galileo : Bool) (gps_count galileo_count : ℕ) (read : PlanValue)
     (first place : ℕ) : Type 0 where
   pub systems : 0 < place → (gps || galileo) ≡ true
@@ -147,7 +147,7 @@ pub record IsHeadAt (k : Known) (place : ℕ) : Type 0 where
   pub read : HasReadRows k place
   pub expected : place < row_count
 
--- these are the lines of the rows before an index, whatever is still unknown of the plan
+-- these are the lines of the rows before an index, for every plan with what was read
 abbrev pub AreHeadLines : Known → ℕ → List (List ℕ) → Type 0
 AreHeadLines k place lines = (p : PlanValue) → MayPlan k p → lines ≡ lines_before (shown_with k p) place
 

@@ -63,7 +63,7 @@ impl HeaderField {
         HeaderField::AntType,
     ];
 
-    // Returns the width of the text, in columns, and the name of the field.
+    /// Returns the width of the text, in columns, and the name of the field.
     fn width_and_name(self) -> (usize, &'static str)
         ensures { result.0 ≡ width_of self }
     {
@@ -82,7 +82,7 @@ impl HeaderField {
         }
     }
 
-    /// Returns the width of the text, in columns.
+    /// Returns the width of the text, in columns: 20, 40 or 60.
     pub fn width(self) -> usize
         ensures { result ≡ width_of self }
     {

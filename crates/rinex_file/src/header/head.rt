@@ -32,7 +32,7 @@ pub struct Head<'a> {
     pub first: GpsTime,
 }
 
-// Returns whether a row has a line.
+/// Returns whether a row has a line.
 fn has_line(plan: &Plan, row: HeaderRow) -> bool
     ensures { result ≡ has_line plan.now row }
 {
@@ -43,7 +43,7 @@ fn has_line(plan: &Plan, row: HeaderRow) -> bool
     }
 }
 
-// Returns the index of the first row with a line, at `from` or later.
+/// Returns the index of the first row with a line, at `from` or later.
 fn place_from(plan: &Plan, from: usize) -> Option<usize>
     ensures none { IfNone result
         ((x : HeaderLists) (v : StationValues) (t : Civil) → lines_from x plan.now v t from ≡ []) }
@@ -60,7 +60,7 @@ fn place_from(plan: &Plan, from: usize) -> Option<usize>
     None
 }
 
-// Returns the line of a row.
+/// Returns the line of a row.
 #[tactic(auto, unfolding(crate::specs::Header::row_line))]
 fn line_of(head: &Head, row: HeaderRow) -> Line
     requires { has_line head.now.plan.now row ≡ true }

@@ -17,5 +17,5 @@ pub(crate) const SHIFT: &[u8] = b"SYS / PHASE SHIFT";
 /// The last line.
 pub(crate) const END: &[u8] = b"END OF HEADER";
 
-/// The content of the unit of the strengths.
+/// The content of the line of that unit.
 pub(crate) const UNIT: &[u8] = b"DBHZ";

@@ -37,7 +37,7 @@ pub(crate) fn three_lengths(a: i64, b: i64, c: i64, label: &[u8]) -> Line
     labelled(content.as_slice(), label)
 }
 
-// Returns the letter of the planned systems: `G`, `E`, or `M` if both are.
+/// Returns the letter of the planned systems: `G`, `E`, or `M` if both are.
 fn file_system(gps: bool, galileo: bool) -> u8
     ensures { result ≡ (if gps then (if galileo then 77 else 71) else 69) }
 {
@@ -100,7 +100,7 @@ pub(crate) fn delta_line(values: &StationValues) -> Line
     three_lengths(values.height as i64, 0, 0, labels::DELTA)
 }
 
-// Returns the line with the time of the first epoch, given as date and time of day.
+/// Returns the line with the time of the first epoch, given as date and time of day.
 fn civil_line(civil: &Civil) -> Line
     ensures { result.items ≡ first_line civil.now }
 {

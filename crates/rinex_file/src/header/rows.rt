@@ -31,7 +31,7 @@ pub enum HeaderRow {
 /// The number of rows.
 pub(crate) const ROW_COUNT: usize = 26;
 
-// The rows. The signals of a system have at most six lines of types.
+/// The rows. The signals of a system have at most six lines of types.
 const ROWS: [HeaderRow; ROW_COUNT] = [
     HeaderRow::Version,
     HeaderRow::Texts(TextRow::Program),

@@ -70,7 +70,7 @@ pub(crate) fn is_printable(text: &[u8]) -> bool
     text.iter().all(|b| *b >= 0x20 && *b <= 0x7E)
 }
 
-// Returns the fault of the text of a field, or None if it has none.
+/// Returns the fault of the text of a field, or None if it has none.
 fn fault_of(field: HeaderField, text: &[u8]) -> Option<HeadFault>
     ensures { result ≡ fault_of field text.now }
 {
@@ -83,7 +83,7 @@ fn fault_of(field: HeaderField, text: &[u8]) -> Option<HeadFault>
     None
 }
 
-// Returns the text without trailing blanks.
+/// Returns the text without trailing blanks.
 fn cut(text: &[u8]) -> Text
     requires { length (trimmed text.now) ≤ 60 }
     ensures { result.items ≡ trimmed text.now }
@@ -94,7 +94,7 @@ fn cut(text: &[u8]) -> Text
 }
 
 impl<'a> Texts<'a> {
-    // Returns the text of a field.
+    /// Returns the text of a field.
     fn of(&self, field: HeaderField) -> &'a str
         ensures { result.now ≡ text_of (lists_of self.now) field }
     {
@@ -162,7 +162,7 @@ impl HeaderTexts {
     pub(crate) fn are_texts(&self)
         ensures { AreTexts self.now }
     {
-        // For the prover alone: the invariant of a type is known once a field is read.
+        // The prover knows the invariant of a type once a field is read.
         let _ = &self.texts;
     }
 

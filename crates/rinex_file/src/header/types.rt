@@ -26,8 +26,8 @@ pub(crate) fn type_rows(signals: usize) -> usize
     (4 * signals + TYPES_IN_LINE - 1) / TYPES_IN_LINE
 }
 
-// Appends the columns before the types of a line: the system's letter and the number of types on
-// the first line, blanks on the others.
+/// Appends the columns before the types of a line: the system's letter and the number of types on
+/// the first line, blanks on the others.
 fn put_front(content: &mut Line, letter: u8, types: usize, row: usize)
     requires room { array_vec_len content.old ≤ 100 }
     requires types { types ≤ 1000 }
@@ -43,8 +43,8 @@ fn put_front(content: &mut Line, letter: u8, types: usize, row: usize)
     }
 }
 
-// Appends a blank and a signal's type: 0 is the pseudorange, 1 the phase, 2 the Doppler and 3 the
-// strength.
+/// Appends a blank and a signal's type: 0 is the pseudorange, 1 the phase, 2 the Doppler and 3 the
+/// strength.
 fn put_type(content: &mut Line, signal: Signal, kind: usize)
     requires kind { kind < 4 }
     requires room { array_vec_len content.old + 4 ≤ most_line }
@@ -62,7 +62,7 @@ fn put_type(content: &mut Line, signal: Signal, kind: usize)
     put(content, &signal.code());
 }
 
-// Appends the types of a line, up to the last type of these signals.
+/// Appends the types of a line, up to the last type of these signals.
 fn put_types(content: &mut Line, system: System, signals: &[Signal], row: usize)
     requires of { IsOf system signals.now }
     requires row { row ≤ 5 }

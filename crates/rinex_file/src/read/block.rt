@@ -45,7 +45,7 @@ pub(crate) enum Filled {
     Failed,
 }
 
-// Returns the index of the first line feed, or the number of bytes if there is none.
+/// Returns the index of the first line feed, or the number of bytes if there is none.
 fn line_feed(bytes: &[u8]) -> usize
     ensures bound { result ≤ length bytes.now }
     ensures none { has 10 (take result bytes.now) ≡ false }

@@ -6,7 +6,7 @@ ghost use Rattle.rinex_file.specs.Read.Row.{digit_in, has_sign, pairs_in, size_i
 
 use crate::read::numbers::signed;
 
-// Returns eight columns as a word.
+/// Returns eight columns as a word.
 fn word_at(text: &[u8], first: usize) -> u64
     requires { first + 8 ≤ length text.now }
     ensures { result ≡ word (take 8 (drop first text.now)) }
@@ -18,7 +18,7 @@ fn word_at(text: &[u8], first: usize) -> u64
     ])
 }
 
-// The digits in eight columns.
+/// The digits in eight columns.
 #[derive(Clone, Copy)]
 struct Digits {
     // Each two neighbouring digits as one number; any other column counts as 0.
@@ -27,7 +27,7 @@ struct Digits {
     has_sign: bool,
 }
 
-// Returns the digits in eight columns.
+/// Returns the digits in eight columns.
 fn digits_at(text: &[u8], first: usize) -> Digits
     requires { first + 8 ≤ length text.now }
     ensures pairs { result.pairs ≡ word (pairs_in (map digit_in (take 8 (drop first text.now)))) }
@@ -43,7 +43,7 @@ fn digits_at(text: &[u8], first: usize) -> Digits
     }
 }
 
-// Returns the size of a value in thousandths, in columns with a point in the eleventh.
+/// Returns the size of a value in thousandths, in columns with a point in the eleventh.
 fn size_in(first: u64, last: u64) -> u64
     ensures size { (text : List ℕ) → IsPoint text → first ≡ word (pairs_in (map digit_in (take 8 text)))
         → last ≡ word (pairs_in (map digit_in (take 8 (drop 8 text)))) → result ≡ size_in text }

@@ -15,21 +15,21 @@ use crate::write::numbers::Line;
 use obs_epoch::laws::calendar;
 use obs_epoch::{Civil, GpsTime};
 
-// Returns the number, or 255 if it is greater; no field of a date has that value.
+/// Returns the number, or 255 if it is greater; no field of a date has that value.
 fn byte_of(number: u64) -> u8
     ensures { result ≡ min number 255 }
 {
     number.min(255) as u8
 }
 
-// Returns the number, or 65,535 if it is greater; no field of a date has that value.
+/// Returns the number, or 65,535 if it is greater; no field of a date has that value.
 fn word_of(number: u64) -> u16
     ensures { result ≡ min number 65_535 }
 {
     number.min(65_535) as u16
 }
 
-// Returns the date and time of day in the header's line of the first epoch.
+/// Returns the date and time of day in the header's line of the first epoch.
 fn first_in(line: &[u8]) -> Option<Civil>
     ensures { (t : ℕ) → IsTime t → line.now ≡ first_line (civil_of t) → result ≡ Some (civil_of t) }
 {
@@ -47,7 +47,7 @@ fn first_in(line: &[u8]) -> Option<Civil>
     })
 }
 
-// Returns the date and time of day in the first line of an epoch.
+/// Returns the date and time of day in the first line of an epoch.
 fn civil_in(line: &[u8]) -> Option<Civil>
     ensures long { IfSome result (λ _. 35 ≤ length line.now) }
     ensures all { (t n : ℕ) → IsTime t → n ≤ 999 → line.now ≡ epoch_line (civil_of t) n → result ≡ Some (civil_of t) }
@@ -66,7 +66,7 @@ fn civil_in(line: &[u8]) -> Option<Civil>
     })
 }
 
-// Returns the number of satellites in the first line of an epoch.
+/// Returns the number of satellites in the first line of an epoch.
 fn count_in(line: &[u8]) -> usize
     requires { 35 ≤ length line.now }
     ensures all { (t n : ℕ) → IsTime t → n ≤ 999 → line.now ≡ epoch_line (civil_of t) n → result ≡ n }

@@ -4,29 +4,29 @@ use thiserror::Error;
 /// Why a file wasn't read. Lines count from 1. It is displayed by its name and the line.
 #[derive(Clone, Copy, Debug, PartialEq, Eq, Error)]
 pub enum ReadFault {
-    /// Memory ran out.
+    /// Out of memory.
     #[error("Memory")]
     Memory,
     /// The reader failed.
     #[error("Read")]
     Read,
-    /// The line isn't one of a header, or not the one that is expected.
+    /// The line isn't a header line that may follow the lines before it.
     #[error("BadHeader {0}")]
     BadHeader(u64),
-    /// The line isn't that of an epoch, or not of one that may follow.
+    /// The line isn't the first line of an epoch or an event that may follow.
     #[error("BadEpoch {0}")]
     BadEpoch(u64),
-    /// The line isn't one of the two after that of an event, or they repeat the station values that
-    /// hold already.
+    /// The line isn't the second or third line of an event, or the event repeats the current
+    /// station values.
     #[error("BadEvent {0}")]
     BadEvent(u64),
-    /// The line isn't that of a satellite, or not of one that may follow.
+    /// The line isn't a satellite line that may follow.
     #[error("BadSatellite {0}")]
     BadSatellite(u64),
-    /// The input ended before the line feed of this line, which was expected or begun.
+    /// The input ended before the line feed of this line.
     #[error("CutShort {0}")]
     CutShort(u64),
-    /// A byte follows 2^32 lines.
+    /// The file has more than 2^32 lines.
     #[error("TooLong")]
     TooLong,
 }

@@ -13,12 +13,14 @@ use rtcm_bits::Counted;
 use std::alloc::Global;
 use std::io::Read;
 
-/// Counts of a file: its epochs, the lines of satellites in all epochs, and the events that change
-/// the station values.
+/// Counts of a file.
 #[derive(Clone, Copy, Debug, PartialEq, Eq)]
 pub struct Counts {
+    /// Number of epochs.
     pub epochs: u64,
+    /// Number of satellite lines in all epochs.
     pub satellites: u64,
+    /// Number of events, each of which changes the station values.
     pub events: u64,
 }
 

@@ -52,7 +52,7 @@ impl FileBuilder {
         }
     }
 
-    // Stores a satellite of the epoch that was begun.
+    /// Stores a satellite of the epoch that was begun.
     fn keep_row(&mut self, seen: &KeptSatellite) -> Result<(), AllocError>
         ensures { OnOk result (history_of self.new ≡ with_satellite (history_of self.old) seen.now) }
     {
@@ -66,7 +66,7 @@ impl FileBuilder {
         Ok(())
     }
 
-    // Stores the epoch that was begun, after this change of station values and at this time.
+    /// Stores the epoch that was begun, after this change of station values and at this time.
     fn close(&mut self, change: Option<StationValues>, time: GpsTime) -> Result<(), AllocError>
         ensures { OnOk result (history_of self.new ≡ with_epoch (history_of self.old) change time) }
     {

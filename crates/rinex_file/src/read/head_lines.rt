@@ -13,7 +13,7 @@ use gnss_obs::System;
 use obs_epoch::StationValues;
 
 impl HeadSoFar {
-    // Reads the line with version and systems.
+    /// Reads the line with version and systems.
     fn read_systems(&mut self, line: &[u8]) -> bool
         ensures { LearnsOrRefuses HeaderRow.Version line.now self.old self.new result }
     {
@@ -27,7 +27,7 @@ impl HeadSoFar {
         }
     }
 
-    // Reads the line with the position of the antenna.
+    /// Reads the line with the position of the antenna.
     fn read_position(&mut self, line: &[u8]) -> bool
         ensures { LearnsOrRefuses HeaderRow.Position line.now self.old self.new result }
     {
@@ -41,7 +41,7 @@ impl HeadSoFar {
         }
     }
 
-    // Reads the line with the height of the antenna above the marker.
+    /// Reads the line with the height of the antenna above the marker.
     fn read_height(&mut self, line: &[u8]) -> bool
         ensures { LearnsOrRefuses HeaderRow.Delta line.now self.old self.new result }
     {
@@ -54,7 +54,7 @@ impl HeadSoFar {
         }
     }
 
-    // Reads the line with the time of the first epoch.
+    /// Reads the line with the time of the first epoch.
     fn read_first_time(&mut self, line: &[u8]) -> bool
         ensures { LearnsOrRefuses HeaderRow.First line.now self.old self.new result }
     {
@@ -67,21 +67,21 @@ impl HeadSoFar {
         }
     }
 
-    // Returns whether the line is that of the unit of the strengths.
+    /// Returns whether the line is that of the unit of the strengths.
     fn is_unit(&self, line: &[u8]) -> bool
         ensures { LearnsOrRefuses HeaderRow.StrengthUnit line.now self.now self.now result }
     {
         is_header_line(line, labels::UNIT, labels::STRENGTH_UNIT)
     }
 
-    // Returns whether the line is that of a system without phase shifts.
+    /// Returns whether the line is that of a system without phase shifts.
     fn is_shift(&self, system: System, line: &[u8]) -> bool
         ensures { LearnsOrRefuses (HeaderRow.Shift system) line.now self.now self.now result }
     {
         is_header_line(line, &[letter_of(system)], labels::SHIFT)
     }
 
-    // Reads the line of a row of texts.
+    /// Reads the line of a row of texts.
     fn read_text_row(&mut self, row: TextRow, line: &[u8]) -> bool
         ensures { LearnsOrRefuses (HeaderRow.Texts row) line.now self.old self.new result }
     {

@@ -63,7 +63,7 @@ impl Model for HeadSoFar {
         × (h.gps_count ≤ length (table Gps)) × (h.galileo_count ≤ length (table Galileo)) };
 }
 
-// Appends the signals whose types begin in a line to those of the lines before.
+/// Appends the signals whose types begin in a line to those of the lines before.
 fn take_row(
     signals: &mut Vec<Signal>,
     system: System,
@@ -143,7 +143,7 @@ impl HeadSoFar {
         self.first
     }
 
-    // Shows that each part that was read is one of a header.
+    /// Shows that each part that was read is one of a header.
     fn are_valid(&self)
         ensures { AreValid self.now }
     {
@@ -161,7 +161,7 @@ impl HeadSoFar {
         }
     }
 
-    // Returns the number of signals of a system, by its first line of types.
+    /// Returns the number of signals of a system, by its first line of types.
     fn signal_count(&self, system: System) -> usize
         ensures count { result ≡ signal_count self.now system }
         ensures bound { result ≤ length (table system) }
@@ -172,7 +172,7 @@ impl HeadSoFar {
         }
     }
 
-    // Returns whether a system has a line of types with this number, by the lines before.
+    /// Returns whether a system has a line of types with this number, by the lines before.
     fn has_types(&self, system: System, row: usize) -> bool
         ensures { result ≡ known_line self.now (HeaderRow.Types system row) }
     {
@@ -182,7 +182,7 @@ impl HeadSoFar {
         row == 0 || row < type_rows(self.signal_count(system))
     }
 
-    // Returns whether a row has a line, by the lines before.
+    /// Returns whether a row has a line, by the lines before.
     fn has_line(&self, row: HeaderRow) -> bool
         ensures { result ≡ known_line self.now row }
     {
@@ -193,7 +193,7 @@ impl HeadSoFar {
         }
     }
 
-    // Returns the index of the first row with a line, at `from` or later.
+    /// Returns the index of the first row with a line, at `from` or later.
     fn place_from(&self, from: usize) -> usize
         requires { IsHeadAt self.now from }
         ensures here { known_line self.now (row_at result) ≡ true }
@@ -206,7 +206,7 @@ impl HeadSoFar {
         place
     }
 
-    // Returns the number of signals of a planned system, if this line of its types is expected.
+    /// Returns the number of signals of a planned system, if this line of its types is expected.
     fn count_expected(&self, system: System, row: usize, line: &[u8]) -> Option<usize>
         ensures bound { IfSome result (λ n. n ≤ length (table system)) }
         ensures rows { IfSome result (λ n. row < type_rows n) }
@@ -223,7 +223,7 @@ impl HeadSoFar {
         Some(count)
     }
 
-    // Appends the signals of a system whose types begin in a line.
+    /// Appends the signals of a system whose types begin in a line.
     fn take_signals(
         &mut self,
         system: System,
@@ -254,7 +254,7 @@ impl HeadSoFar {
         }
     }
 
-    // Sets the number of signals of a system.
+    /// Sets the number of signals of a system.
     fn set_count(&mut self, system: System, count: usize)
         requires { count ≤ length (table system) }
         ensures { self.new ≡ with_count system self.old count }
@@ -265,7 +265,7 @@ impl HeadSoFar {
         }
     }
 
-    // Processes a line of the types of a system.
+    /// Processes a line of the types of a system.
     fn take_types(
         &mut self,
         system: System,
@@ -287,7 +287,7 @@ impl HeadSoFar {
         Ok(())
     }
 
-    // Processes the line of the row at an index.
+    /// Processes the line of the row at an index.
     fn take_at(
         &mut self,
         place: usize,

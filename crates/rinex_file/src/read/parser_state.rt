@@ -46,7 +46,7 @@ pub(crate) struct ParserState {
     pub(crate) events: u64,
 }
 
-// Returns a satellite's rank among all: those of GPS come first.
+/// Returns a satellite's rank among all: those of GPS come first.
 fn rank_of(seen: &KeptSatellite) -> u64
     ensures { result ≡ rank_of seen.now }
 {
@@ -56,7 +56,7 @@ fn rank_of(seen: &KeptSatellite) -> u64
     }
 }
 
-// Returns whether a number is greater than all of an increasing list that ends in the last.
+/// Returns whether a number is greater than all of an increasing list that ends in the last.
 fn is_after(last: Option<u64>, next: u64) -> bool
     ensures { (xs : List ℕ) → EndsIn xs last → IsStrictlyIncreasing xs → IsTrue result
         ↔ IsStrictlyIncreasing (xs ++ next ∷ []) }
@@ -67,8 +67,8 @@ fn is_after(last: Option<u64>, next: u64) -> bool
     }
 }
 
-// Returns whether an epoch may have this time after epochs of increasing times that end in the
-// last, in a file that begins at this first time.
+/// Returns whether an epoch may have this time after epochs of increasing times that end in the
+/// last, in a file that begins at this first time.
 fn may_follow(last: Option<u64>, first: GpsTime, time: GpsTime) -> bool
     ensures { (es : List Stamped) → EndsIn (map time_stamped es) last → IsStrictlyIncreasing (map time_stamped es)
         → IsTrue result ↔ IsTimeAfter es first time }
@@ -79,7 +79,7 @@ fn may_follow(last: Option<u64>, first: GpsTime, time: GpsTime) -> bool
     }
 }
 
-// Returns the number of satellites of the systems of which some signal is planned.
+/// Returns the number of satellites of the systems of which some signal is planned.
 fn most_rows(gps: usize, galileo: usize) -> usize
     ensures { result ≡ most_rows gps galileo }
 {
@@ -96,7 +96,7 @@ fn most_rows(gps: usize, galileo: usize) -> usize
     of_gps + of_galileo
 }
 
-// Returns the number of events of a change of station values: one, or zero for no change.
+/// Returns the number of events of a change of station values: one, or zero for no change.
 fn changes_of(change: Option<StationValues>) -> u64
     ensures { result ≡ changes_of change }
 {
@@ -106,7 +106,7 @@ fn changes_of(change: Option<StationValues>) -> u64
     }
 }
 
-// Returns the station values that changed last, after a change or none.
+/// Returns the station values that changed last, after a change or none.
 fn changed_by(before: Option<StationValues>, change: Option<StationValues>) -> Option<StationValues>
     ensures { (v : StationValues) → changed_by v result ≡ changed_by (changed_by v before) change }
 {
@@ -163,7 +163,7 @@ impl ParserState {
         }
     }
 
-    // Processes a line of the header.
+    /// Processes a line of the header.
     fn take_header(&mut self, place: usize, line: &[u8], again: &mut Line) -> Result<Added, Refusal>
         requires stands { (h : History) × FollowsHistory self.old h }
         requires expected { self.old.expected ≡ Expected.Header place }
@@ -184,7 +184,7 @@ impl ParserState {
         }
     }
 
-    // Returns whether an epoch of this number of satellites may follow at a time.
+    /// Returns whether an epoch of this number of satellites may follow at a time.
     fn may_begin(&self, time: GpsTime, satellites: usize) -> bool
         requires between { (h : History) → FollowsHistory self.now h → AreRead (progress_at self.now h) }
         ensures { (h : History) → FollowsHistory self.now h → IsTrue result
@@ -200,7 +200,8 @@ impl ParserState {
         may_follow(self.last, self.head.first(), time)
     }
 
-    // Returns the time and the number of satellites of an epoch that may follow, by its first line.
+    /// Returns the time and the number of satellites of an epoch that may follow, by its first
+    /// line.
     fn read_begun(&self, line: &[u8], again: &mut Line) -> Option<(GpsTime, usize)>
         requires between { (h : History) → FollowsHistory self.now h → AreRead (progress_at self.now h) }
         ensures { (h : History) → FollowsHistory self.now h
@@ -215,14 +216,14 @@ impl ParserState {
         Some(read)
     }
 
-    // Returns whether an event begins with the line; no event precedes the first epoch.
+    /// Returns whether an event begins with the line; no event precedes the first epoch.
     fn begins_event(&self, line: &[u8]) -> bool
         ensures { IsTrue result ↔ ((0 < self.now.epochs) × (line.now ≡ event_line)) }
     {
         self.epochs > 0 && is_same(line, event_line())
     }
 
-    // Processes the first line of an epoch or of an event.
+    /// Processes the first line of an epoch or of an event.
     fn take_next(&mut self, line: &[u8], again: &mut Line) -> Result<Added, Refusal>
         requires expected { self.old.expected ≡ Expected.Epoch }
         ensures takes { TakesLine self.old self.new line.now result }
@@ -241,7 +242,7 @@ impl ParserState {
         Ok(Added::NoRow)
     }
 
-    // Processes the position in an event.
+    /// Processes the position in an event.
     fn take_position(&mut self, line: &[u8]) -> Result<Added, Refusal>
         requires expected { self.old.expected ≡ Expected.EventPosition }
         ensures takes { TakesLine self.old self.new line.now result }
@@ -254,7 +255,7 @@ impl ParserState {
         Ok(Added::NoRow)
     }
 
-    // Returns the station values after the epochs that were read.
+    /// Returns the station values after the epochs that were read.
     fn station_values(&self) -> StationValues
         ensures { result ≡ changed_by self.now.head.shown.values self.now.values }
     {
@@ -264,8 +265,8 @@ impl ParserState {
         }
     }
 
-    // Processes the height in an event, after this position. Refuses the line if neither differs
-    // from the current station values.
+    /// Processes the height in an event, after this position. Refuses the line if neither differs
+    /// from the current station values.
     fn take_height(&mut self, x: i64, y: i64, z: i64, line: &[u8]) -> Result<Added, Refusal>
         requires expected { self.old.expected ≡ Expected.EventHeight x y z }
         ensures takes { TakesLine self.old self.new line.now result }
@@ -282,7 +283,7 @@ impl ParserState {
         Ok(Added::NoRow)
     }
 
-    // Processes the first line of an epoch after an event with these station values.
+    /// Processes the first line of an epoch after an event with these station values.
     fn take_changed(
         &mut self,
         values: StationValues,
@@ -302,7 +303,7 @@ impl ParserState {
         Ok(Added::NoRow)
     }
 
-    // Processes the line of a satellite, of which this number is left.
+    /// Processes the line of a satellite, of which this number is left.
     fn take_satellite(
         &mut self,
         left: usize,

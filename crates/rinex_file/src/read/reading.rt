@@ -29,7 +29,7 @@ pub(crate) struct Reading {
     again: Line,
 }
 
-// Returns the fault of a line that isn't of the kind that was expected.
+/// Returns the fault of a line that isn't of the kind that was expected.
 fn fault_at(expected: Expected, number: u64) -> ReadFault
     ensures faulty { (input : List ℕ) → IsFaulty input number → IsExpectedAt expected input number
         → ExplainsFault input result }
@@ -45,7 +45,7 @@ fn fault_at(expected: Expected, number: u64) -> ReadFault
     }
 }
 
-// Returns the fault if a byte follows this number of lines: `TooLong` if it is the largest.
+/// Returns the fault if a byte follows this number of lines: `TooLong` if it is the largest.
 fn fault_after(lines: u64, fault: ReadFault) -> ReadFault
     ensures { result ≡ (if lines == most_lines then ReadFault.TooLong else fault) }
 {

@@ -19,7 +19,7 @@ use crate::write::satellite::satellite_text;
 use arrayvec::ArrayVec;
 use gnss_obs::System;
 
-// Returns the values in the 64 columns of a signal.
+/// Returns the values in the 64 columns of a signal.
 #[tactic(auto, unfolding(crate::specs::Read::Row::signal_values_in))]
 fn signal_values_in(text: &[u8]) -> SignalValues
     requires { signal_columns ≤ length text.now }
@@ -34,7 +34,7 @@ fn signal_values_in(text: &[u8]) -> SignalValues
     }
 }
 
-// Reads the entries in the columns of this number of signals, replacing those in the buffer.
+/// Reads the entries in the columns of this number of signals, replacing those in the buffer.
 fn put_entries(text: &[u8], signals: usize, entries: &mut ArrayVec<SignalValues, MOST_SIGNALS>)
     requires few { signals ≤ most_signals }
     requires room { 3 + signal_columns * signals ≤ length text.now }
@@ -48,7 +48,7 @@ fn put_entries(text: &[u8], signals: usize, entries: &mut ArrayVec<SignalValues,
     }
 }
 
-// Reads the satellite in a line that was padded with blanks.
+/// Reads the satellite in a line that was padded with blanks.
 fn put_seen_in(system: System, text: &[u8], signals: usize, seen: &mut KeptSatellite)
     requires few { signals ≤ most_signals }
     requires room { 3 + signal_columns * signals ≤ length text.now }
@@ -59,7 +59,7 @@ fn put_seen_in(system: System, text: &[u8], signals: usize, seen: &mut KeptSatel
     put_entries(text, signals, &mut seen.entries);
 }
 
-// Returns whether a value fits its columns or is absent.
+/// Returns whether a value fits its columns or is absent.
 fn is_value(value: Option<i64>) -> bool
     ensures { IsTrue result ↔ IfSome value FitsColumns }
 {
@@ -69,7 +69,7 @@ fn is_value(value: Option<i64>) -> bool
     }
 }
 
-// Returns whether a strength is one that is written, 0.001 to 99.999 dB-Hz, or is absent.
+/// Returns whether a strength is one that is written, 0.001 to 99.999 dB-Hz, or is absent.
 fn is_strength(value: Option<i64>) -> bool
     ensures { IsTrue result ↔ IfSome value (IsFrom (pos 1) (pos 99_999)) }
 {
@@ -79,8 +79,8 @@ fn is_strength(value: Option<i64>) -> bool
     }
 }
 
-// Returns whether values and indicator may be those of a signal: only a phase has a loss-of-lock
-// indicator.
+/// Returns whether values and indicator may be those of a signal: only a phase has a loss-of-lock
+/// indicator.
 fn is_entry(entry: &SignalValues) -> bool
     ensures { IsTrue result ↔ AreSignalValues entry.now }
 {
@@ -92,22 +92,22 @@ fn is_entry(entry: &SignalValues) -> bool
     c && l && d && s && lli
 }
 
-// Returns whether each is an entry of a file value.
+/// Returns whether each is an entry of a file value.
 fn are_entries(entries: &[SignalValues]) -> bool
     ensures { IsTrue result ↔ All AreSignalValues entries.now }
 {
     entries.iter().all(|e| is_entry(e))
 }
 
-// Returns whether one of them has a value.
+/// Returns whether one of them has a value.
 fn say_something(entries: &[SignalValues]) -> bool
     ensures { IsTrue result ↔ Any (λ e. IsTrue (has_some_value e)) entries.now }
 {
     entries.iter().any(|e| e.has_value())
 }
 
-// Returns whether a system with this number of satellites and of planned signals can have
-// this row.
+/// Returns whether a system with this number of satellites and of planned signals can have this
+/// row.
 fn is_row(seen: &KeptSatellite, most: u8, signals: usize) -> bool
     ensures { IsTrue result ↔ IsRow most signals seen.now.row }
 {
@@ -119,7 +119,7 @@ fn is_row(seen: &KeptSatellite, most: u8, signals: usize) -> bool
         && say_something(entries)
 }
 
-// Writes the line without its line feed, padded with blanks, to the buffer.
+/// Writes the line without its line feed, padded with blanks, to the buffer.
 fn fill(text: &[u8], signals: usize, filled: &mut Line)
     requires short { length text.now ≤ most_line }
     requires few { signals ≤ most_signals }
@@ -133,7 +133,7 @@ fn fill(text: &[u8], signals: usize, filled: &mut Line)
     put_times(filled, b' ', blanks);
 }
 
-// Returns the first value for GPS, the second for Galileo.
+/// Returns the first value for GPS, the second for Galileo.
 fn of_system(system: System, gps: usize, galileo: usize) -> usize
     ensures { result ≡ of_system system gps galileo }
 {
@@ -143,7 +143,7 @@ fn of_system(system: System, gps: usize, galileo: usize) -> usize
     }
 }
 
-// Returns the system whose letter the line begins with.
+/// Returns the system whose letter the line begins with.
 fn system_of(line: &[u8]) -> Option<System>
     ensures { (s : System) → 0 < length line.now → slice_index line.now 0 ≡ letter_of s → result ≡ Some s }
 {
@@ -154,7 +154,7 @@ fn system_of(line: &[u8]) -> Option<System>
     }
 }
 
-// Reads the satellite of this system in a line. Returns whether the line is that of one.
+/// Reads the satellite of this system in a line. Returns whether the line is that of one.
 fn read_of(
     line: &[u8],
     again: &mut Line,

@@ -12,7 +12,7 @@ use crate::header::lines::{labelled, three_lengths, version_with};
 use crate::read::numbers::{digits_in, is_same, number_in};
 use crate::read::texts::columns;
 
-// Returns whether this is the first line of a file in which these systems are planned.
+/// Returns whether this is the first line of a file in which these systems are planned.
 fn is_version(line: &[u8], gps: bool, galileo: bool) -> bool
     ensures { IsTrue result ↔ (line.now ≡ version_with gps galileo) }
 {
@@ -37,8 +37,8 @@ pub(crate) fn read_version(line: &[u8]) -> Option<(bool, bool)>
     None
 }
 
-// Returns the number in the 14 columns of a line that begin at `from`, in 0.0001 m, or None if it
-// doesn't fit 38 bits.
+/// Returns the number in the 14 columns of a line that begin at `from`, in 0.0001 m, or None if it
+/// doesn't fit 38 bits.
 fn coordinate_in(line: &[u8], from: usize) -> Option<i64>
     ensures some { IfSome result (λ z. IsCoordinate z × (z ≡ number_in (take 14 (drop from line.now)))) }
     ensures none { IfNone result (IsCoordinate (number_in (take 14 (drop from line.now))) → ⊥) }

@@ -21,8 +21,8 @@ pub(crate) fn columns(line: &[u8], from: usize, width: usize) -> &[u8]
     &rest[..width.min(rest.len())]
 }
 
-// Returns the text of the field at an index, whose first column is given, without trailing blanks,
-// or None if it isn't printable.
+/// Returns the text of the field at an index, whose first column is given, without trailing blanks,
+/// or None if it isn't printable.
 fn text_in(line: &[u8], place: usize, column: usize) -> Option<Text>
     requires place { place < text_count }
     requires column { column ≡ column_at place }
@@ -41,7 +41,7 @@ fn text_in(line: &[u8], place: usize, column: usize) -> Option<Text>
     Some(text)
 }
 
-// Reads the texts in the columns of a row. Returns false if one isn't printable.
+/// Reads the texts in the columns of a row. Returns false if one isn't printable.
 fn take_texts(texts: &mut HeaderTexts, row: TextRow, line: &[u8]) -> bool
     ensures { MatchBool result (TakesTexts row (count_of row) line.now texts.old texts.new)
         (RefusesTexts row line.now) }

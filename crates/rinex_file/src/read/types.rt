@@ -59,8 +59,8 @@ pub(crate) fn read_types(
     }
 }
 
-// Appends the signals of the codes in a line of types that follow a `C`, the letter of a
-// signal's first type.
+/// Appends the signals of the codes in a line of types that follow a `C`, the letter of a signal's
+/// first type.
 fn take_signals(
     signals: &mut Vec<Signal>,
     system: System,
@@ -93,7 +93,7 @@ pub(crate) fn signals_begun(row: usize) -> usize
     (TYPES_IN_LINE * row + 3) / 4
 }
 
-// Appends the signal whose code is at a column, counted from 0.
+/// Appends the signal whose code is at a column, counted from 0.
 fn take_signal(
     signals: &mut Vec<Signal>,
     system: System,
@@ -121,14 +121,14 @@ fn take_signal(
     }
 }
 
-// Returns whether the signal at this index of its table is among these.
+/// Returns whether the signal at this index of its table is among these.
 fn has_signal(signals: &[Signal], index: usize) -> bool
     ensures { result ≡ list_any (λ s. index == s.index) signals.now }
 {
     signals.iter().any(|s| index == s.index())
 }
 
-// Returns the signal whose code is at a column, counted from 0.
+/// Returns the signal whose code is at a column, counted from 0.
 fn signal_in(line: &[u8], system: System, column: usize) -> Option<Signal>
     requires { column ≤ 100 }
     ensures system { IfSome result (λ s. (s.system ≡ system) × IsSignal s) }

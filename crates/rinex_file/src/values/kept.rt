@@ -31,7 +31,7 @@ impl Model for SignalValues {
     ghost inverse = { λ e. record { c = e.c; l = e.l; d = e.d; s = e.s; lli = e.lli } };
 }
 
-// Returns the number of thousandths.
+/// Returns the number of thousandths.
 fn number_of(value: Option<Thousandths>) -> Option<i64>
     ensures { result ≡ value }
 {

@@ -18,8 +18,8 @@ const PAIRS: [u16; 100] = [
     0x0609, 0x0709, 0x0809, 0x0909,
 ];
 
-/// What turns eight digits into columns, by the number of leading zeros: a blank for each of these,
-/// and the code of a digit otherwise.
+/// The number added to eight digits to get their columns, by the number of leading zeros: a blank
+/// for each of these, and the code of 0 otherwise.
 const FRONTS: [u64; 9] = [
     0x3030_3030_3030_3030,
     0x3030_3030_3030_3020,
@@ -32,7 +32,7 @@ const FRONTS: [u64; 9] = [
     0x2020_2020_2020_2020,
 ];
 
-// Returns the two digits of a number.
+/// Returns the two digits of a number.
 fn pair(number: u64) -> u64
     requires { number < 100 }
     ensures { result ≡ number / 10 + number % 10 * 256 }
@@ -40,7 +40,8 @@ fn pair(number: u64) -> u64
     PAIRS[number as usize] as u64
 }
 
-// Returns what turns eight digits, of which `zeros` are leading zeros, into columns.
+/// Returns the number added to eight digits, of which `zeros` are leading zeros, to get their
+/// columns.
 fn front(zeros: usize) -> u64
     requires { zeros ≤ 8 }
     ensures word { result ≡ front_word 8 zeros }
@@ -49,7 +50,7 @@ fn front(zeros: usize) -> u64
     FRONTS[zeros]
 }
 
-// Returns the eight digits of a number.
+/// Returns the eight digits of a number.
 fn eight(number: u64) -> u64
     requires { number < 10 ^ 8 }
     ensures word { result ≡ word (eight_digits number) }
@@ -63,8 +64,8 @@ fn eight(number: u64) -> u64
         + pair(low % 100) * 0x1_0000_0000_0000
 }
 
-// Returns the last eight columns of a value: two digits, a point, thousandths, and the LLI and SSI
-// columns.
+/// Returns the last eight columns of a value: two digits, a point, thousandths, and the LLI and SSI
+/// columns.
 fn last(two: u64, part: u64, lost: u8, strength: u8) -> u64
     requires two { two < 100 }
     requires part { part < 1000 }

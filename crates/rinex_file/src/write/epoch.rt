@@ -6,7 +6,7 @@ ghost use Rattle.rinex_file.specs.Lines.{epoch_line};
 use crate::write::numbers::{Line, put, put_digits, put_seconds, put_whole};
 use obs_epoch::{Civil, GpsTime};
 
-// Writes the first line of an epoch at a date and time of day into the empty buffer.
+/// Writes the first line of an epoch at a date and time of day into the empty buffer.
 fn put_epoch(line: &mut Line, civil: &Civil, satellites: usize)
     requires { line.old.items ≡ [] }
     ensures { line.new.items ≡ epoch_line civil.now satellites }
@@ -28,7 +28,7 @@ fn put_epoch(line: &mut Line, civil: &Civil, satellites: usize)
 }
 
 /// Writes the first line of an epoch, replacing the contents of the buffer: date and time of day,
-/// the flag 0 and the number of its satellites, which has three columns.
+/// the flag 0 and the number of its satellites, which fits its three columns up to 999.
 pub fn epoch_line(time: GpsTime, satellites: usize, line: &mut Line)
     ensures { line.new.items ≡ epoch_line (civil_of time) satellites }
 {

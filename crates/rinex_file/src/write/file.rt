@@ -16,7 +16,7 @@ use crate::write::satellite::satellite_text;
 use obs_epoch::{GpsTime, StationValues};
 use std::alloc::{AllocError, Global};
 
-// Appends the header of a file whose first epoch is at this time.
+/// Appends the header of a file whose first epoch is at this time.
 #[tactic(auto, unfolding(crate::specs::File::header_text))]
 fn add_header(text: &mut Vec<u8>, file: &ObsFile, first: GpsTime) -> Result<(), AllocError>
     ensures { OnOk result
@@ -34,7 +34,7 @@ fn add_header(text: &mut Vec<u8>, file: &ObsFile, first: GpsTime) -> Result<(), 
     Ok(())
 }
 
-// Appends the line of a satellite.
+/// Appends the line of a satellite.
 fn add_row(text: &mut Vec<u8>, row: &KeptRow, line: &mut Line) -> Result<(), AllocError>
     requires { HasRoom row.now }
     ensures { OnOk result (text.new.items ≡ text.old.items ++ satellite_line row.now) }
@@ -43,7 +43,7 @@ fn add_row(text: &mut Vec<u8>, row: &KeptRow, line: &mut Line) -> Result<(), All
     text.extend_from_slice(line.as_slice())
 }
 
-// Appends the lines of satellites.
+/// Appends the lines of satellites.
 fn add_rows(text: &mut Vec<u8>, rows: &[KeptRow], line: &mut Line) -> Result<(), AllocError>
     requires { All HasRoom rows.now }
     ensures { OnOk result (text.new.items ≡ text.old.items ++ flat_map satellite_line rows.now) }
@@ -54,7 +54,7 @@ fn add_rows(text: &mut Vec<u8>, rows: &[KeptRow], line: &mut Line) -> Result<(),
     Ok(())
 }
 
-// Appends the event of an epoch that has a change of station values.
+/// Appends the event of an epoch that has a change of station values.
 #[tactic(auto, unfolding(crate::specs::File::event_text))]
 fn add_change(text: &mut Vec<u8>, change: Option<StationValues>) -> Result<(), AllocError>
     ensures { OnOk result (text.new.items ≡ text.old.items ++ joined (change_lines change)) }
@@ -67,7 +67,7 @@ fn add_change(text: &mut Vec<u8>, change: Option<StationValues>) -> Result<(), A
     text.extend_from_slice(delta_line(&values).as_slice())
 }
 
-// Appends the lines of an epoch.
+/// Appends the lines of an epoch.
 fn add_epoch(text: &mut Vec<u8>, epoch: &KeptEpoch, line: &mut Line) -> Result<(), AllocError>
     requires { HaveRowsRoom epoch.now }
     ensures { OnOk result (text.new.items ≡ text.old.items ++ stamped_text epoch.now) }
@@ -79,7 +79,7 @@ fn add_epoch(text: &mut Vec<u8>, epoch: &KeptEpoch, line: &mut Line) -> Result<(
     add_rows(text, rows, line)
 }
 
-// Appends the lines of these epochs.
+/// Appends the lines of these epochs.
 fn add_epochs(text: &mut Vec<u8>, epochs: &[KeptEpoch], line: &mut Line) -> Result<(), AllocError>
     requires { All HaveRowsRoom epochs.now }
     ensures { OnOk result (text.new.items ≡ text.old.items ++ flat_map stamped_text epochs.now) }

@@ -20,7 +20,7 @@ pub(crate) const MOST_SIGNALS: usize = 19;
 /// those of its signals.
 pub(crate) const MOST_LINE: usize = 1220;
 
-/// A line of a file, its line feed included.
+/// A line of a file, its line feed included: at most 1,220 bytes.
 pub type Line = ArrayVec<u8, MOST_LINE>;
 
 /// Appends the bytes.
@@ -44,7 +44,7 @@ pub(crate) fn put_times<const N: usize>(line: &mut ArrayVec<u8, N>, byte: u8, co
 
 static BLANKS: [u8; MOST_LINE] = [b' '; MOST_LINE];
 
-// Returns blanks.
+/// Returns blanks.
 fn blanks() -> &'static [u8; MOST_LINE]
     ensures { result.now ≡ replicate most_line 32 }
 {
@@ -58,7 +58,7 @@ pub(crate) fn put_blanks<const N: usize>(line: &mut ArrayVec<u8, N>, count: usiz
     ensures text { line.new.items ≡ line.old.items ++ replicate count 32 }
     ensures size { array_vec_len line.new ≡ array_vec_len line.old + count }
 {
-    // Most often none is missing, and a call that fills nothing costs as much as a short one.
+    // Usually none is missing, and a call that fills nothing costs as much as a short one.
     if count > 0 {
         put(line, &blanks()[..count]);
     }

@@ -19,8 +19,8 @@ use crate::write::numbers::{Line, SIGNAL_COLUMNS, VALUE_COLUMNS, put_blanks};
 use gnss_obs::{Sat, System, Thousandths, strength_digit};
 use obs_epoch::{Cell, Epoch, Plan};
 
-// Writes a value in thousandths as F14.3 and the LLI and SSI columns after it. Its whole part may
-// have ten digits, or nine and a minus.
+/// Writes a value in thousandths as F14.3 and the LLI and SSI columns after it. Its whole part may
+/// have ten digits, or nine and a minus.
 #[tactic(auto, unfolding(crate::specs::Lines::field))]
 fn put_value(columns: &mut [u8], value: i64, lost: u8, strength: u8)
     requires fits { FitsColumns value }
@@ -36,7 +36,7 @@ fn put_value(columns: &mut [u8], value: i64, lost: u8, strength: u8)
     }
 }
 
-// Writes a value as F14.3 and the LLI and SSI columns after it, or 16 blanks if it is absent.
+/// Writes a value as F14.3 and the LLI and SSI columns after it, or 16 blanks if it is absent.
 #[tactic(auto, unfolding(crate::specs::Lines::field))]
 fn put_field(columns: &mut [u8], value: Option<i64>, lost: u8, strength: u8)
     requires fits { IfSome value FitsColumns }
@@ -50,7 +50,7 @@ fn put_field(columns: &mut [u8], value: Option<i64>, lost: u8, strength: u8)
     }
 }
 
-// Returns the strength (SSI) column.
+/// Returns the strength (SSI) column.
 fn strength_column(s: Option<i64>) -> u8
     ensures { result ≡ strength_byte s }
 {
@@ -60,7 +60,7 @@ fn strength_column(s: Option<i64>) -> u8
     }
 }
 
-// Writes the columns of a signal.
+/// Writes the columns of a signal.
 #[tactic(auto, unfolding(crate::specs::Lines::signal_text))]
 fn put_signal(columns: &mut [u8], values: &SignalValues)
     requires fits { HaveRoom values.now }
@@ -90,8 +90,8 @@ fn put_signal(columns: &mut [u8], values: &SignalValues)
     put_field(&mut columns[3 * VALUE_COLUMNS..], values.s, b' ', b' ');
 }
 
-// Begins the line of a satellite with this number of planned signals: its letter and number,
-// replacing the contents of the buffer. Blanks may follow.
+/// Begins the line of a satellite with this number of planned signals: its letter and number,
+/// replacing the contents of the buffer. Blanks may follow.
 fn begin_row(line: &mut Line, system: System, id: u8, signals: usize)
     requires id { id < 100 }
     requires few { signals ≤ most_signals }
@@ -107,7 +107,7 @@ fn begin_row(line: &mut Line, system: System, id: u8, signals: usize)
     columns[2] = b'0' + id % 10;
 }
 
-// Writes the columns of the signal at this index, after blanks if the line ends before them.
+/// Writes the columns of the signal at this index, after blanks if the line ends before them.
 fn put_at(line: &mut Line, place: usize, values: &SignalValues)
     requires fits { HaveRoom values.now }
     requires few { place < most_signals }
@@ -122,7 +122,7 @@ fn put_at(line: &mut Line, place: usize, values: &SignalValues)
     put_signal(&mut line.as_mut_slice()[start..end], values);
 }
 
-// Writes the columns of these signals into a line without values.
+/// Writes the columns of these signals into a line without values.
 fn put_values(line: &mut Line, values: &[SignalValues])
     requires fits { All HaveRoom values.now }
     requires few { length values.now ≤ most_signals }
@@ -141,7 +141,7 @@ fn put_values(line: &mut Line, values: &[SignalValues])
     }
 }
 
-// Returns the length of the text without trailing blanks, in bytes.
+/// Returns the length of the text without trailing blanks, in bytes.
 pub(crate) fn trimmed_len(text: &[u8]) -> usize
     ensures text { take result text.now ≡ trimmed text.now }
     ensures bound { result ≤ length text.now }
@@ -163,7 +163,7 @@ pub(crate) fn letter_of(system: System) -> u8
     }
 }
 
-// Ends a line: removes trailing blanks and appends a line feed.
+/// Ends a line: removes trailing blanks and appends a line feed.
 fn end_row(line: &mut Line)
     requires { array_vec_len line.old < most_line }
     ensures { line.new.items ≡ trimmed line.old.items ++ 10 ∷ [] }
@@ -186,8 +186,8 @@ pub(crate) fn satellite_text(line: &mut Line, system: System, id: u8, values: &[
     end_row(line);
 }
 
-// Writes the values of a cell of this satellite at the index of its signal, if that is planned,
-// replacing those of a later cell of the signal. Any other cell is skipped.
+/// Writes the values of a cell of this satellite at the index of its signal, if that is planned,
+/// replacing those of a later cell of the signal. Any other cell is skipped.
 fn put_cell(line: &mut Line, plan: &Plan, system: System, id: u8, cell: &Cell)
     requires held { IsHeld system cell.now }
     requires apart { IsDistinct nat_eq (planned_of system plan.now) }
@@ -205,7 +205,7 @@ fn put_cell(line: &mut Line, plan: &Plan, system: System, id: u8, cell: &Cell)
     }
 }
 
-// Writes the values of a satellite's cells into a line without values.
+/// Writes the values of a satellite's cells into a line without values.
 fn put_cells(line: &mut Line, cells: &[Cell], plan: &Plan, system: System, id: u8)
     requires held { AreHeld system cells.now }
     requires few { length (planned_of system plan.now) ≤ most_signals }

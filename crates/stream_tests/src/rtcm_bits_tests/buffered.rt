@@ -65,7 +65,7 @@ fn after_lines(alloc: Global) -> Result<(bool, usize, usize), AllocError> {
     Ok((are_written, device.calls, device.taken))
 }
 
-// Bytes are written when the buffer is full, and at a flush.
+/// Bytes are written when the buffer is full, and at a flush.
 #[test]
 fn bytes_go_out_many_at_a_time(rt: HostRuntime) {
     // One write of 65,536 bytes, one of the rest, and a flush.
@@ -122,7 +122,7 @@ static OUTCOMES: [Outcome; 3] = [
     ([true, true, false, false, false], 3, 65_537),
 ];
 
-// After a failure nothing more is written: not by a write, not by a flush, and not by the drop.
+/// After a failure nothing more is written: not by a write, not by a flush, and not by the drop.
 #[test]
 fn nothing_is_tried_again(rt: HostRuntime) {
     assert_eq!(rt; after_each_failure(rt.alloc()), Ok(OUTCOMES));
