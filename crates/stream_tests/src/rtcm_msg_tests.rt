@@ -400,7 +400,7 @@ static FAULTS: [(Sent, Option<MsgFault>); 11] = [
     (Sent(&STATION, 18, &[]), Some(MsgFault::Short(114))),
     (Sent(&FINE, 35, &[]), Some(MsgFault::Short(271))),
     (Sent(&STATION, 1, &[]), Some(MsgFault::Short(0))),
-    // The time is judged when it is read, and not before.
+    // The time is validated when its field is complete, and not before.
     (Sent(&LATE, 7, &[]), Some(MsgFault::BadTime)),
     (Sent(&LATE, 6, &[]), Some(MsgFault::Short(24))),
     // 604,800,000 ms, and the last millisecond of the week

@@ -221,7 +221,7 @@ fn refused_otherwise(
     None
 }
 
-/// Lines of the small file with their indices, each misspelled.
+/// Lines in place of those of the small file, each with its index and another text.
 static SPELLED_OTHERWISE: [(usize, &str, ReadFault); 11] = [
     (
         1,

@@ -1,4 +1,4 @@
-//! A slow conversion, as the definitions state it, for streams of four known messages: their
+//! A conversion by the definitions, over whole lists, for streams of four known messages: their
 //! frames, the looks at each byte, the report and the file.
 use super::FILE;
 use super::script::{Answer, Good};

@@ -1,4 +1,4 @@
-//! Streams truncated and damaged at each byte, framed slowly, as the definitions state it.
+//! Streams truncated and damaged at each byte, framed by the definitions over whole lists.
 use super::{Counts, FOUR_FRAMES, Stream, given_by, is_listed};
 use rtcm_bits::crc24q;
 use std::alloc::Global;
