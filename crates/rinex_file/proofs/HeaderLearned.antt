@@ -1,4 +1,4 @@
--- What is learned from each line of a header but those of types.
+-- What is known after each line of a header but those of types.
 use Rattle.std.proofs.Common.{arith, ◌≡◌, ◌≢◌, ◌∙◌, sym, ap, refl, subst, ℕ, ℤ, pos, suc, lit≤, ◌+◌, ◌-◌, ◌<◌, ◌≤◌, ◌^◌, Bool, true, false, List, [], ◌∷◌, take, map, get_or, min, Option, Some, None, IsTrue, ◌↔◌}
 use Rattle.std.proofs.Common.{w64, to_z, of_z, neg_ℤ}
 use Rattle.std.proofs.lemmas.Int.{to_z-of_z}
