@@ -13,8 +13,8 @@ use Rattle.gnss_obs.specs.LockTimes.{LockTime}
 use Rattle.rtcm_msg.specs.declared.entry.Entry.{Entry}
 use Rattle.rtcm_msg.specs.declared.message.Message.{Message}
 use Rattle.rtcm_msg.specs.declared.message.Message.TheVariants.{Station, Msm4, Msm7, Other}
-use Rattle.rtcm_msg.specs.Spelling.{IsMessage}
-use Rattle.rtcm_msg.specs.Reach.{IsMeasured, EntriesAreMeasured, PointsAreInRange}
+use Rattle.rtcm_msg.specs.Encoding.{IsMessage}
+use Rattle.rtcm_msg.specs.Bounds.{IsMeasured, EntriesAreMeasured, PointsAreInRange}
 use Rattle.rtcm_msg.specs.Entries.{entries}
 use Rattle.obs_epoch.specs.declared.cell.StationValues.{StationValues}
 use Rattle.rtcm_msg.specs.Msm.{week}

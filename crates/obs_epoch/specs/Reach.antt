@@ -5,8 +5,8 @@ use Rattle.std.specs.List.{AllByRecursion, IsDistinct}
 use Rattle.gnss_obs.specs.declared.system.System.{System}
 use Rattle.gnss_obs.specs.Satellites.{satellites}
 use Rattle.rtcm_msg.specs.declared.message.Message.{Message}
-use Rattle.rtcm_msg.specs.Spelling.{IsMessage}
-use Rattle.rtcm_msg.specs.Reach.{IsCoordinate, IsPoint}
+use Rattle.rtcm_msg.specs.Encoding.{IsMessage}
+use Rattle.rtcm_msg.specs.Bounds.{IsCoordinate, IsPoint}
 use Rattle.obs_epoch.specs.declared.cell.Cell.{Cell}
 use Rattle.obs_epoch.specs.declared.cell.StationValues.{StationValues}
 use Rattle.rtcm_msg.specs.Msm.{week}

@@ -1,6 +1,6 @@
 //! Data kept from messages: cells, and the station values.
 ghost use Rattle.std.specs.Prelude.{◌≡◌, ◌↔◌, IsTrue};
-ghost use Rattle.rtcm_msg.specs.Reach.{IsCoordinate};
+ghost use Rattle.rtcm_msg.specs.Bounds.{IsCoordinate};
 
 use gnss_obs::{Lock, Sat, Signal, Thousandths};
 

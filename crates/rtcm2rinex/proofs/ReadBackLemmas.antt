@@ -5,7 +5,7 @@ use Rattle.rtcm_bits.specs.FrameOf.{frame_bytes}
 use Rattle.rtcm_scan.specs.Frames.{Framed, AreFrames, frames_of}
 use Rattle.rtcm_scan.specs.Local.{placed}
 use Rattle.rtcm_msg.specs.declared.message.Message.{Message}
-use Rattle.rtcm_msg.specs.Spelling.{IsEncoding, IsMessage, ReadsMessage, is_other, message_bits}
+use Rattle.rtcm_msg.specs.Encoding.{IsEncoding, IsMessage, ReadsMessage, is_other, message_bits}
 use Rattle.rtcm2rinex.specs.ReadBack.{AreEncoded, AreReadAs, ReadsBack, AreKnown}
 
 -- laws of the layers below

@@ -6,7 +6,7 @@ use Rattle.rtcm_bits.specs.FrameOf.{frame_bytes}
 use Rattle.rtcm_scan.specs.Frames.{Framed, AreFrames}
 use Rattle.rtcm_scan.specs.Local.{placed}
 use Rattle.rtcm_msg.specs.declared.message.Message.{Message}
-use Rattle.rtcm_msg.specs.Spelling.{IsEncoding, IsMessage, ReadsMessage, is_other}
+use Rattle.rtcm_msg.specs.Encoding.{IsEncoding, IsMessage, ReadsMessage, is_other}
 
 -- a message whose layout is known
 abbrev pub IsKnown : Message → Type 0

@@ -14,9 +14,9 @@ use Rattle.rtcm_scan.specs.Frames.{Framed}
 use Rattle.rtcm_msg.specs.declared.message.Message.{Message}
 use Rattle.rtcm_msg.specs.declared.message.Message.TheVariants as message
 use Rattle.rtcm_msg.specs.declared.entry.Entry.{Entry}
-use Rattle.rtcm_msg.specs.Msm.{MasksValue, MsmValue, AreMasks, pairs}
-use Rattle.rtcm_msg.specs.Spelling.{IsMessage}
-use Rattle.rtcm_msg.specs.Entries.{chosen, seats, all_pairs, entries, entry4, entry7}
+use Rattle.rtcm_msg.specs.Msm.{MasksValue, MsmValue, AreMasks, pair_count}
+use Rattle.rtcm_msg.specs.Encoding.{IsMessage}
+use Rattle.rtcm_msg.specs.Entries.{chosen, cell_pairs, all_pairs, entries, entry4, entry7}
 use Rattle.obs_epoch.specs.declared.taken.Kind.{Kind}
 use Rattle.obs_epoch.specs.declared.taken.Kind.TheVariants as kind
 use Rattle.obs_epoch.specs.declared.clock.Answer.{Answer}
@@ -55,11 +55,11 @@ zip_few [] ys = omega arith
 zip_few (x ∷ xs) [] = omega arith
 zip_few (x ∷ xs) (y ∷ ys) = let i = zip_few xs ys in omega arith
 
-seats_few : {B : Type 0} (s : MasksValue) (ys : List B) → AreMasks s → length (zip (seats s) ys) ≤ 64
-seats_few s ys h =
-    let a = zip_few (seats s) ys in
-    let b : length (seats s) ≤ length (uint (pairs s.satellites s.signals) s.cells) = chosen_few (uint (pairs s.satellites s.signals) s.cells) (all_pairs s) in
-    let c : length (uint (pairs s.satellites s.signals) s.cells) ≡ pairs s.satellites s.signals = length-uint (pairs s.satellites s.signals) s.cells in
+cell_pairs_few : {B : Type 0} (s : MasksValue) (ys : List B) → AreMasks s → length (zip (cell_pairs s) ys) ≤ 64
+cell_pairs_few s ys h =
+    let a = zip_few (cell_pairs s) ys in
+    let b : length (cell_pairs s) ≤ length (uint (pair_count s.satellites s.signals) s.cells) = chosen_few (uint (pair_count s.satellites s.signals) s.cells) (all_pairs s) in
+    let c : length (uint (pair_count s.satellites s.signals) s.cells) ≡ pair_count s.satellites s.signals = length-uint (pair_count s.satellites s.signals) s.cells in
     chain _ _ _ _ a b c h.few
   where
     chain : (x y z p : ℕ) → x ≤ y → y ≤ z → z ≡ p → p ≤ 64 → x ≤ 64
@@ -67,8 +67,8 @@ seats_few s ys h =
 
 entries_few : (m : Message) → IsMessage m → length (entries m) ≤ 64
 entries_few (message.Station s) h = omega arith
-entries_few (message.Msm4 v) h = subst (λ (n : ℕ). n ≤ 64) (sym (length-map (zip (seats v.sets) v.cells) (entry4 v))) (seats_few v.sets v.cells h.sets)
-entries_few (message.Msm7 v) h = subst (λ (n : ℕ). n ≤ 64) (sym (length-map (zip (seats v.sets) v.cells) (entry7 v))) (seats_few v.sets v.cells h.sets)
+entries_few (message.Msm4 v) h = subst (λ (n : ℕ). n ≤ 64) (sym (length-map (zip (cell_pairs v.sets) v.cells) (entry4 v))) (cell_pairs_few v.sets v.cells h.sets)
+entries_few (message.Msm7 v) h = subst (λ (n : ℕ). n ≤ 64) (sym (length-map (zip (cell_pairs v.sets) v.cells) (entry7 v))) (cell_pairs_few v.sets v.cells h.sets)
 entries_few (message.Other n set) h = omega arith
 
 cons_option_few : {Y : Type 0} (o : Option Y) (ys : List Y) (n : ℕ) → length ys ≤ n → length (cons_option o ys) ≤ suc n

@@ -32,24 +32,24 @@ pub of_read : {A : Type 0} (P : A → Type 0) (x y : A) → done x ≡ done y �
 of_read P x y e p = subst P (ok_inj x y (done x) refl e) p
 
 -- The properties of a field that was read.
-pub record Took (w : ℕ) (c : Cursor) (x : ℕ × Cursor) : Type 0 where
+pub record Consumed (w : ℕ) (c : Cursor) (x : ℕ × Cursor) : Type 0 where
   pub fits : x.0 < 2 ^ w
   pub room : w ≤ length c.rest
   pub bits : c.rest ≡ uint w x.0 ++ x.1.rest
   pub place : x.1.place ≡ c.place + w
 
-pub took_at : (w : ℕ) (c : Cursor) → w ≤ length c.rest → Took w c (unsigned_at w c, advanced c w)
-took_at w c h = record {
+pub consumed_at : (w : ℕ) (c : Cursor) → w ≤ length c.rest → Consumed w c (unsigned_at w c, advanced c w)
+consumed_at w c h = record {
   fits = number-take-fits c.rest w h;
   room = h;
   bits = sym (take-append-drop w c.rest) ∙ ap (λ t. t ++ drop w c.rest) (sym (let P : ℕ → Type 0 = λ n. uint n (number (take w c.rest)) ≡ take w c.rest in subst P (length-take-le w c.rest h) (uint-number (take w c.rest) 0)));
   place = refl;
 }
 
-pub number_took : (w : ℕ) (c : Cursor) (x : ℕ × Cursor) → number_at w c ≡ Ok x → Took w c x
-number_took w c x e = elim (cases_lt (length c.rest) w) [
+pub number_consumed : (w : ℕ) (c : Cursor) (x : ℕ × Cursor) → number_at w c ≡ Ok x → Consumed w c x
+number_consumed w c x e = elim (cases_lt (length c.rest) w) [
   | inl short ↦ absurd (no_ok (number_at w c) (Short c.place) x (number_short w c short) e)
-  | inr there ↦ let is = ok_inj (unsigned_at w c, advanced c w) x (number_at w c) (number_there w c there) e in subst (Took w c) is (took_at w c there)
+  | inr there ↦ let is = ok_inj (unsigned_at w c, advanced c w) x (number_at w c) (number_there w c there) e in subst (Consumed w c) is (consumed_at w c there)
 ]
   where
     no_ok : {A : Type 0} (r : Result A MsgFault) (d : MsgFault) (x : A) → r ≡ Err d → r ≡ Ok x → ⊥

@@ -10,7 +10,7 @@ use Rattle.rtcm_bits.specs.BitLaws.{uint-low}
 use Rattle.rtcm_msg.specs.Fields.{number_at}
 use Rattle.rtcm_msg.specs.Packed.{total_width, columns}
 use Rattle.rtcm_msg.specs.Columns.{column_at, columns_at, EachBelow}
-use Rattle.rtcm_msg.proofs.Binds.{bind_ok, ok_inj, number_took, Took}
+use Rattle.rtcm_msg.proofs.Binds.{bind_ok, ok_inj, number_consumed, Consumed}
 use Rattle.rtcm_msg.proofs.Combine.{cursor, number_again}
 
 -- ---- the fault
@@ -21,28 +21,28 @@ use Rattle.rtcm_msg.proofs.Combine.{cursor, number_again}
 abbrev pub highs : ℕ → List ℕ → List ℕ
 highs w ns = map (λ n. n / 2 ^ w) ns
 
-pub record ColumnTook (w : ℕ) (ps : List ℕ) (c : Cursor) (x : List ℕ × Cursor) : Type 0 where
+pub record ColumnConsumed (w : ℕ) (ps : List ℕ) (c : Cursor) (x : List ℕ × Cursor) : Type 0 where
   pub bits : c.rest ≡ flat_map (uint w) x.0 ++ x.1.rest
   pub high : highs w x.0 ≡ ps
 
-pub column_took : (w : ℕ) (ps : List ℕ) (c : Cursor) (x : List ℕ × Cursor) → column_at w ps c ≡ Ok x → ColumnTook w ps c x
+pub column_consumed : (w : ℕ) (ps : List ℕ) (c : Cursor) (x : List ℕ × Cursor) → column_at w ps c ≡ Ok x → ColumnConsumed w ps c x
 unfolding column_at
-column_took w [] c x e = subst (ColumnTook w [] c) (ok_inj ([], c) x (column_at w [] c) refl e) (record { bits = refl; high = refl })
-column_took w (p ∷ ps) c x e =
+column_consumed w [] c x e = subst (ColumnConsumed w [] c) (ok_inj ([], c) x (column_at w [] c) refl e) (record { bits = refl; high = refl })
+column_consumed w (p ∷ ps) c x e =
     let here = bind_ok (number_at w c) _ x e in
     let others = bind_ok (column_at w ps here.0.1) _ x here.2 in
-    let took = number_took w c here.0 here.1 in
-    let rest = column_took w ps here.0.1 others.0 others.1 in
-    subst (ColumnTook w (p ∷ ps) c) (ok_inj _ x _ refl others.2) (join w p ps c here.0 others.0 took rest)
+    let consumed = number_consumed w c here.0 here.1 in
+    let rest = column_consumed w ps here.0.1 others.0 others.1 in
+    subst (ColumnConsumed w (p ∷ ps) c) (ok_inj _ x _ refl others.2) (join w p ps c here.0 others.0 consumed rest)
   where
-    join : (w p : ℕ) (ps : List ℕ) (c : Cursor) (h : ℕ × Cursor) (o : List ℕ × Cursor) → Took w c h → ColumnTook w ps h.1 o → ColumnTook w (p ∷ ps) c ((p * 2 ^ w + h.0) ∷ o.0, o.1)
+    join : (w p : ℕ) (ps : List ℕ) (c : Cursor) (h : ℕ × Cursor) (o : List ℕ × Cursor) → Consumed w c h → ColumnConsumed w ps h.1 o → ColumnConsumed w (p ∷ ps) c ((p * 2 ^ w + h.0) ∷ o.0, o.1)
     join w p ps c h o t r = record {
       bits = t.bits ∙ rw (r.bits, uint-low w p h.0) (sym (append_assoc (uint w h.0) (flat_map (uint w) o.0) o.1.rest));
       high = rw (shr_high p w h.0 t.fits, r.high) refl;
     }
 
 -- The bits begin with the columns that were read.
-pub record ColumnsTook (ws ps : List ℕ) (c : Cursor) (x : List ℕ × Cursor) : Type 0 where
+pub record ColumnsConsumed (ws ps : List ℕ) (c : Cursor) (x : List ℕ × Cursor) : Type 0 where
   pub bits : c.rest ≡ columns ws x.0 ++ x.1.rest
   pub high : highs (total_width ws) x.0 ≡ ps
 
@@ -58,16 +58,16 @@ highs_none : (ns : List ℕ) → highs 0 ns ≡ ns
 highs_none [] = refl
 highs_none (n ∷ ns) = let e : n / 2 ^ 0 ≡ n = omega arith in rw (e, highs_none ns) refl
 
-pub columns_took : (ws ps : List ℕ) (c : Cursor) (x : List ℕ × Cursor) → columns_at ws ps c ≡ Ok x → ColumnsTook ws ps c x
+pub columns_consumed : (ws ps : List ℕ) (c : Cursor) (x : List ℕ × Cursor) → columns_at ws ps c ≡ Ok x → ColumnsConsumed ws ps c x
 unfolding columns_at columns
-columns_took [] ps c x e = subst (ColumnsTook [] ps c) (ok_inj (ps, c) x (columns_at [] ps c) refl e) (record { bits = refl; high = highs_none ps })
-columns_took (w ∷ ws) ps c x e =
+columns_consumed [] ps c x e = subst (ColumnsConsumed [] ps c) (ok_inj (ps, c) x (columns_at [] ps c) refl e) (record { bits = refl; high = highs_none ps })
+columns_consumed (w ∷ ws) ps c x e =
     let first = bind_ok (column_at w ps c) _ x e in
-    let here = column_took w ps c first.0 first.1 in
-    let rest = columns_took ws first.0.0 first.0.1 x first.2 in
+    let here = column_consumed w ps c first.0 first.1 in
+    let rest = columns_consumed ws first.0.0 first.0.1 x first.2 in
     join w ws ps c first.0 x here rest
   where
-    join : (w : ℕ) (ws ps : List ℕ) (c : Cursor) (q x : List ℕ × Cursor) → ColumnTook w ps c q → ColumnsTook ws q.0 q.1 x → ColumnsTook (w ∷ ws) ps c x
+    join : (w : ℕ) (ws ps : List ℕ) (c : Cursor) (q x : List ℕ × Cursor) → ColumnConsumed w ps c q → ColumnsConsumed ws q.0 q.1 x → ColumnsConsumed (w ∷ ws) ps c x
     join w ws ps c q x a b = record {
       bits = a.bits ∙ rw (← b.high, column_of_highs w (total_width ws) x.0, b.bits) (sym (append_assoc (flat_map (λ p. uint w (p / 2 ^ total_width ws)) x.0) (columns ws x.0) x.1.rest));
       high = sym (highs_highs w (total_width ws) x.0) ∙ (rw b.high a.high);

@@ -5,7 +5,7 @@ use Rattle.std.proofs.lemmas.Nat.{pow-add, pow_pos}
 use Rattle.rtcm_bits.specs.Reading.{Cursor}
 use Rattle.rtcm_msg.specs.Fields.{number_at}
 use Rattle.rtcm_msg.specs.Packed.{total_width}
-use Rattle.rtcm_msg.proofs.Binds.{bind_ok, ok_inj, number_took}
+use Rattle.rtcm_msg.proofs.Binds.{bind_ok, ok_inj, number_consumed}
 use Rattle.rtcm_msg.specs.Columns.{column_at, columns_at, EachBelow}
 
 -- One more field in each.
@@ -16,9 +16,9 @@ column_below w a (p ∷ ps) c x e h =
     let here = bind_ok (number_at w c) _ x e in
     let others = bind_ok (column_at w ps here.0.1) _ x here.2 in
     let is : ((p * 2 ^ w + here.0.0) ∷ others.0.0) ≡ x.0 = ap (λ (y : List ℕ × Cursor). y.0) (ok_inj _ x _ refl others.2) in
-    let took = number_took w c here.0 here.1 in
+    let consumed = number_consumed w c here.0 here.1 in
     let tail = column_below w a ps here.0.1 others.0 others.1 (λ k. h (suc k)) in
-    subst (EachBelow (a + w)) is (each _ _ _ (rw (pow-add 2 a w) (below p here.0.0 (2 ^ a) (2 ^ w) (h 0) took.fits)) tail)
+    subst (EachBelow (a + w)) is (each _ _ _ (rw (pow-add 2 a w) (below p here.0.0 (2 ^ a) (2 ^ w) (h 0) consumed.fits)) tail)
   where
     below : (p n q r : ℕ) → p < q → n < r → p * r + n < q * r
     below p n q r a b = grind arith

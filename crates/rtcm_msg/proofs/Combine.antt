@@ -25,25 +25,25 @@ past_next w ws len place h = grind arith
 abbrev pub cursor : ℕ → List Bool → Cursor
 cursor place rest = record { place = place; rest = rest }
 
-take_front : (xs ys : List Bool) → take (length xs) (xs ++ ys) ≡ xs
-take_front [] ys = refl
-take_front (x ∷ xs) ys = ap (λ t. x ∷ t) (take_front xs ys)
+take_prefix : (xs ys : List Bool) → take (length xs) (xs ++ ys) ≡ xs
+take_prefix [] ys = refl
+take_prefix (x ∷ xs) ys = ap (λ t. x ∷ t) (take_prefix xs ys)
 
-drop_front : (xs ys : List Bool) → drop (length xs) (xs ++ ys) ≡ ys
-drop_front [] ys = refl
-drop_front (x ∷ xs) ys = drop_front xs ys
+drop_prefix : (xs ys : List Bool) → drop (length xs) (xs ++ ys) ≡ ys
+drop_prefix [] ys = refl
+drop_prefix (x ∷ xs) ys = drop_prefix xs ys
 
 pub number_again : (w n place : ℕ) (rest : List Bool) → n < 2 ^ w → number_at w (cursor place (uint w n ++ rest)) ≡ Ok (n, cursor (place + w) rest)
 number_again w n place rest h =
     let len = length-uint w n in
     let room : w ≤ length (uint w n ++ rest) = omega (arith, length-append (uint w n) rest, len) in
-    number_there w (cursor place (uint w n ++ rest)) room ∙ rw (front w n rest, after w n rest, value w n h) refl
+    number_there w (cursor place (uint w n ++ rest)) room ∙ rw (prefix w n rest, after w n rest, value w n h) refl
   where
-    front : (w n : ℕ) (rest : List Bool) → take w (uint w n ++ rest) ≡ uint w n
-    front w n rest = let P : ℕ → Type 0 = λ k. take k (uint w n ++ rest) ≡ uint w n in subst P (length-uint w n) (take_front (uint w n) rest)
+    prefix : (w n : ℕ) (rest : List Bool) → take w (uint w n ++ rest) ≡ uint w n
+    prefix w n rest = let P : ℕ → Type 0 = λ k. take k (uint w n ++ rest) ≡ uint w n in subst P (length-uint w n) (take_prefix (uint w n) rest)
 
     after : (w n : ℕ) (rest : List Bool) → drop w (uint w n ++ rest) ≡ rest
-    after w n rest = let P : ℕ → Type 0 = λ k. drop k (uint w n ++ rest) ≡ rest in subst P (length-uint w n) (drop_front (uint w n) rest)
+    after w n rest = let P : ℕ → Type 0 = λ k. drop k (uint w n ++ rest) ≡ rest in subst P (length-uint w n) (drop_prefix (uint w n) rest)
 
     value : (w n : ℕ) → n < 2 ^ w → number (uint w n) ≡ n
     value w n h =

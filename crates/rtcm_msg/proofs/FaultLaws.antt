@@ -9,9 +9,9 @@ use Rattle.rtcm_msg.specs.declared.header.MsmHeader.{MsmHeader}
 use Rattle.rtcm_msg.specs.Fields.{number_at, ◌>>=◌, first_past}
 use Rattle.rtcm_msg.specs.Packed.{total_width}
 use Rattle.rtcm_msg.specs.Columns.{column_at, columns_at}
-use Rattle.rtcm_msg.specs.Spelling.{repeated}
-use Rattle.rtcm_msg.specs.Msm.{time_table, header_table, mask_table, header_of, header_at, masks_at, msm_at, week, MsmValue, MasksValue, pairs}
-use Rattle.rtcm_msg.proofs.FieldLaws.{contents_at, fields_at, standing, field_at, number_there_at, ShortAt, short_at_more, short_at_after, fields_read, past_none, past_through}
+use Rattle.rtcm_msg.specs.Encoding.{repeated}
+use Rattle.rtcm_msg.specs.Msm.{time_table, header_table, mask_table, header_of, header_at, masks_at, msm_at, week, MsmValue, MasksValue, pair_count}
+use Rattle.rtcm_msg.proofs.FieldLaws.{contents_at, fields_at, cursor_at, field_at, number_there_at, ShortAt, short_at_more, short_at_after, fields_read, past_none, past_through}
 use Rattle.rtcm_msg.proofs.Binds.{number_short, ok_inj}
 use Rattle.rtcm_msg.proofs.Combine.{past_here, past_next, ok_err}
 use Rattle.rtcm_msg.proofs.MsmLaws.{head_widths, tail_widths, mask_widths, header_chain, header_rest_is, in_time, too_late, sets_chain, few_rest, many_rest}
@@ -20,8 +20,8 @@ use Rattle.rtcm_msg.proofs.MsmLaws.{head_widths, tail_widths, mask_widths, heade
 
 abbrev ColumnRead : ℕ → List ℕ → List Bool → ℕ → Type 0
 ColumnRead w ps bits place =
-    ((e : MsgFault) × (column_at w ps (standing bits place) ≡ Err e) × ShortAt bits place (replicate (length ps) w) e)
-    ⊎ ((ns : List ℕ) × (column_at w ps (standing bits place) ≡ Ok (ns, standing bits (place + w * length ps))) × (length ns ≡ length ps) × (place + w * length ps ≤ length bits))
+    ((e : MsgFault) × (column_at w ps (cursor_at bits place) ≡ Err e) × ShortAt bits place (replicate (length ps) w) e)
+    ⊎ ((ns : List ℕ) × (column_at w ps (cursor_at bits place) ≡ Ok (ns, cursor_at bits (place + w * length ps))) × (length ns ≡ length ps) × (place + w * length ps ≤ length bits))
 
 one_more : (place w n : ℕ) → place + w + w * n ≡ place + w * suc n
 one_more place w n = omega arith
@@ -30,7 +30,7 @@ column_read : (w : ℕ) (ps : List ℕ) (bits : List Bool) (place : ℕ) → pla
 unfolding column_at
 column_read w [] bits place h = let e : place + w * 0 ≡ place = omega arith in inr ([], rw e refl, refl, rw e h)
 column_read w (p ∷ ps) bits place h = elim (cases_lt (length bits) (place + w)) [
-  | inl few ↦ inl (Short place, rw (number_short w (standing bits place) (omega (arith, length-drop place bits))) refl, record { first = place; is = refl; past = past_here w (replicate (length ps) w) (length bits) place few })
+  | inl few ↦ inl (Short place, rw (number_short w (cursor_at bits place) (omega (arith, length-drop place bits))) refl, record { first = place; is = refl; past = past_here w (replicate (length ps) w) (length bits) place few })
   | inr there ↦
       let here = number_there_at w bits place there in
       elim (column_read w ps bits (place + w) there) [
@@ -41,8 +41,8 @@ column_read w (p ∷ ps) bits place h = elim (cases_lt (length bits) (place + w)
 
 abbrev ColumnsRead : List ℕ → ℕ → List ℕ → List Bool → ℕ → Type 0
 ColumnsRead ws count ps bits place =
-    ((e : MsgFault) × (columns_at ws ps (standing bits place) ≡ Err e) × ShortAt bits place (repeated count ws) e)
-    ⊎ ((ns : List ℕ) × (columns_at ws ps (standing bits place) ≡ Ok (ns, standing bits (place + total_width ws * count))) × (place + total_width ws * count ≤ length bits))
+    ((e : MsgFault) × (columns_at ws ps (cursor_at bits place) ≡ Err e) × ShortAt bits place (repeated count ws) e)
+    ⊎ ((ns : List ℕ) × (columns_at ws ps (cursor_at bits place) ≡ Ok (ns, cursor_at bits (place + total_width ws * count))) × (place + total_width ws * count ≤ length bits))
 
 pub total-append : (ws vs : List ℕ) → total_width (ws ++ vs) ≡ total_width ws + total_width vs
 total-append [] vs = omega arith
@@ -63,7 +63,7 @@ columns_read (w ∷ ws) count ps bits place len h = elim (column_read w ps bits 
   | inl short ↦ inl (short.0, rw short.1 refl, rw len at (short_at_more (replicate (length ps) w) (repeated (length ps) ws) bits place short.0 short.2))
   | inr here ↦
       let all : place + w * count ≤ length bits = rw len at here.3 in
-      let read : column_at w ps (standing bits place) ≡ Ok (here.0, standing bits (place + w * count)) = rw len at here.1 in
+      let read : column_at w ps (cursor_at bits place) ≡ Ok (here.0, cursor_at bits (place + w * count)) = rw len at here.1 in
       let width : total_width (replicate count w) ≡ w * count = total-replicate count w in
       elim (columns_read ws count here.0 bits (place + w * count) (here.2 ∙ len) all) [
         | inl rest ↦ inl (rest.0, rw (read, rest.1) refl, short_at_after (replicate count w) (repeated count ws) bits place rest.0 (rw width all) (rw width rest.2))
@@ -79,35 +79,35 @@ columns_read (w ∷ ws) count ps bits place len h = elim (column_read w ps bits 
 -- The widths after the message number.
 abbrev pub msm_widths : List ℕ → List ℕ → List Bool → List ℕ
 msm_widths sw cw bits =
-    let width = pairs (field_at bits 73 64) (field_at bits 137 32) in
+    let width = pair_count (field_at bits 73 64) (field_at bits 137 32) in
     12 ∷ 30 ∷ 1 ∷ 3 ∷ 7 ∷ 2 ∷ 2 ∷ 1 ∷ 3 ∷ 64 ∷ 32 ∷ width ∷ (repeated (count_ones (field_at bits 73 64)) sw ++ repeated (count_ones (field_at bits 169 width)) cw)
 
-abbrev pub pairs_of : List Bool → ℕ
-pairs_of bits = pairs (field_at bits 73 64) (field_at bits 137 32)
+abbrev pub pair_count_of : List Bool → ℕ
+pair_count_of bits = pair_count (field_at bits 73 64) (field_at bits 137 32)
 
 -- The cases of the result.
 pub data MsmEnd (sw cw : List ℕ) (g : Bool) (bits : List Bool) : Type 0 where
-  no_time : (e : MsgFault) → length bits < 54 → ShortAt bits 12 (msm_widths sw cw bits) e → msm_at sw cw g (standing bits 12) ≡ Err e → MsmEnd sw cw g bits
-  late : 54 ≤ length bits → week ≤ field_at bits 24 30 → msm_at sw cw g (standing bits 12) ≡ Err BadTime → MsmEnd sw cw g bits
-  no_masks : (e : MsgFault) → field_at bits 24 30 < week → length bits < 169 → ShortAt bits 12 (msm_widths sw cw bits) e → msm_at sw cw g (standing bits 12) ≡ Err e → MsmEnd sw cw g bits
-  many : field_at bits 24 30 < week → 169 ≤ length bits → 64 < pairs_of bits → msm_at sw cw g (standing bits 12) ≡ Err TooManyCells → MsmEnd sw cw g bits
-  short : (e : MsgFault) → field_at bits 24 30 < week → pairs_of bits ≤ 64 → ShortAt bits 12 (msm_widths sw cw bits) e → msm_at sw cw g (standing bits 12) ≡ Err e → MsmEnd sw cw g bits
-  good : (v : MsmValue × Cursor) → field_at bits 24 30 < week → pairs_of bits ≤ 64 → first_past (length bits) 12 (msm_widths sw cw bits) ≡ None → msm_at sw cw g (standing bits 12) ≡ Ok v → MsmEnd sw cw g bits
+  no_time : (e : MsgFault) → length bits < 54 → ShortAt bits 12 (msm_widths sw cw bits) e → msm_at sw cw g (cursor_at bits 12) ≡ Err e → MsmEnd sw cw g bits
+  late : 54 ≤ length bits → week ≤ field_at bits 24 30 → msm_at sw cw g (cursor_at bits 12) ≡ Err BadTime → MsmEnd sw cw g bits
+  no_masks : (e : MsgFault) → field_at bits 24 30 < week → length bits < 169 → ShortAt bits 12 (msm_widths sw cw bits) e → msm_at sw cw g (cursor_at bits 12) ≡ Err e → MsmEnd sw cw g bits
+  many : field_at bits 24 30 < week → 169 ≤ length bits → 64 < pair_count_of bits → msm_at sw cw g (cursor_at bits 12) ≡ Err TooManyCells → MsmEnd sw cw g bits
+  short : (e : MsgFault) → field_at bits 24 30 < week → pair_count_of bits ≤ 64 → ShortAt bits 12 (msm_widths sw cw bits) e → msm_at sw cw g (cursor_at bits 12) ≡ Err e → MsmEnd sw cw g bits
+  good : (v : MsmValue × Cursor) → field_at bits 24 30 < week → pair_count_of bits ≤ 64 → first_past (length bits) 12 (msm_widths sw cw bits) ≡ None → msm_at sw cw g (cursor_at bits 12) ≡ Ok v → MsmEnd sw cw g bits
 
 -- The cases of the header.
 data HeaderEnd (bits : List Bool) : Type 0 where
-  no_time : (e : MsgFault) → length bits < 54 → ShortAt bits 12 head_widths e → header_at (standing bits 12) ≡ Err e → HeaderEnd bits
-  late : 54 ≤ length bits → week ≤ field_at bits 24 30 → header_at (standing bits 12) ≡ Err BadTime → HeaderEnd bits
-  short : (e : MsgFault) → field_at bits 24 30 < week → length bits < 73 → ShortAt bits 12 (head_widths ++ tail_widths) e → header_at (standing bits 12) ≡ Err e → HeaderEnd bits
-  good : (v : MsmHeader) → field_at bits 24 30 < week → 73 ≤ length bits → header_at (standing bits 12) ≡ Ok (v, standing bits 73) → HeaderEnd bits
+  no_time : (e : MsgFault) → length bits < 54 → ShortAt bits 12 head_widths e → header_at (cursor_at bits 12) ≡ Err e → HeaderEnd bits
+  late : 54 ≤ length bits → week ≤ field_at bits 24 30 → header_at (cursor_at bits 12) ≡ Err BadTime → HeaderEnd bits
+  short : (e : MsgFault) → field_at bits 24 30 < week → length bits < 73 → ShortAt bits 12 (head_widths ++ tail_widths) e → header_at (cursor_at bits 12) ≡ Err e → HeaderEnd bits
+  good : (v : MsmHeader) → field_at bits 24 30 < week → 73 ≤ length bits → header_at (cursor_at bits 12) ≡ Ok (v, cursor_at bits 73) → HeaderEnd bits
 
 header_end : (bits : List Bool) → 12 ≤ length bits → HeaderEnd bits
 header_end bits h = elim (fields_read time_table bits 12 h) [
-  | inl few ↦ no_time few.1.0 few.0 few.1.2 (header_chain (standing bits 12) ∙ rw few.1.1 refl)
+  | inl few ↦ no_time few.1.0 few.0 few.1.2 (header_chain (cursor_at bits 12) ∙ rw few.1.1 refl)
   | inr there ↦ elim (cases_lt (field_at bits 24 30) week) [
-    | inr over ↦ late there.0 over (header_chain (standing bits 12) ∙ rw (there.1, too_late (field_at bits 24 30) (standing bits 54) over) refl)
+    | inr over ↦ late there.0 over (header_chain (cursor_at bits 12) ∙ rw (there.1, too_late (field_at bits 24 30) (cursor_at bits 54) over) refl)
     | inl early ↦
-        let chain : header_at (standing bits 12) ≡ (fields_at header_table (standing bits 54) >>= λ m. Ok (header_of (field_at bits 12 12) (field_at bits 24 30) m.0, m.1)) = header_chain (standing bits 12) ∙ rw (there.1, in_time (field_at bits 24 30) (standing bits 54) early, header_rest_is (field_at bits 12 12) (field_at bits 24 30) (standing bits 54)) refl in
+        let chain : header_at (cursor_at bits 12) ≡ (fields_at header_table (cursor_at bits 54) >>= λ m. Ok (header_of (field_at bits 12 12) (field_at bits 24 30) m.0, m.1)) = header_chain (cursor_at bits 12) ∙ rw (there.1, in_time (field_at bits 24 30) (cursor_at bits 54) early, header_rest_is (field_at bits 12 12) (field_at bits 24 30) (cursor_at bits 54)) refl in
         elim (fields_read header_table bits 54 there.0) [
           | inl few ↦ short few.1.0 early few.0 (short_at_after head_widths tail_widths bits 12 few.1.0 there.0 few.1.2) (chain ∙ rw few.1.1 refl)
           | inr all ↦ good (header_of (field_at bits 12 12) (field_at bits 24 30) (contents_at header_table bits 54)) early all.0 (chain ∙ rw all.1 refl)
@@ -117,21 +117,21 @@ header_end bits h = elim (fields_read time_table bits 12 h) [
 
 -- The cases of the masks.
 data SetsEnd (bits : List Bool) : Type 0 where
-  no_masks : (e : MsgFault) → length bits < 169 → ShortAt bits 73 mask_widths e → masks_at (standing bits 73) ≡ Err e → SetsEnd bits
-  many : 169 ≤ length bits → 64 < pairs_of bits → masks_at (standing bits 73) ≡ Err TooManyCells → SetsEnd bits
-  short : (e : MsgFault) → pairs_of bits ≤ 64 → ShortAt bits 73 (64 ∷ 32 ∷ pairs_of bits ∷ []) e → masks_at (standing bits 73) ≡ Err e → SetsEnd bits
-  good : pairs_of bits ≤ 64 → 169 + pairs_of bits ≤ length bits → masks_at (standing bits 73) ≡ Ok (record { satellites = field_at bits 73 64; signals = field_at bits 137 32; cells = field_at bits 169 (pairs_of bits) }, standing bits (169 + pairs_of bits)) → SetsEnd bits
+  no_masks : (e : MsgFault) → length bits < 169 → ShortAt bits 73 mask_widths e → masks_at (cursor_at bits 73) ≡ Err e → SetsEnd bits
+  many : 169 ≤ length bits → 64 < pair_count_of bits → masks_at (cursor_at bits 73) ≡ Err TooManyCells → SetsEnd bits
+  short : (e : MsgFault) → pair_count_of bits ≤ 64 → ShortAt bits 73 (64 ∷ 32 ∷ pair_count_of bits ∷ []) e → masks_at (cursor_at bits 73) ≡ Err e → SetsEnd bits
+  good : pair_count_of bits ≤ 64 → 169 + pair_count_of bits ≤ length bits → masks_at (cursor_at bits 73) ≡ Ok (record { satellites = field_at bits 73 64; signals = field_at bits 137 32; cells = field_at bits 169 (pair_count_of bits) }, cursor_at bits (169 + pair_count_of bits)) → SetsEnd bits
 
 sets_end : (bits : List Bool) → 73 ≤ length bits → SetsEnd bits
 sets_end bits h = elim (fields_read mask_table bits 73 h) [
-  | inl few ↦ no_masks few.1.0 few.0 few.1.2 (sets_chain (standing bits 73) ∙ rw few.1.1 refl)
+  | inl few ↦ no_masks few.1.0 few.0 few.1.2 (sets_chain (cursor_at bits 73) ∙ rw few.1.1 refl)
   | inr there ↦
-      let p = pairs_of bits in
-      let c = standing bits 169 in
+      let p = pair_count_of bits in
+      let c = cursor_at bits 169 in
       elim (cases_lt 64 p) [
-        | inl over ↦ many there.0 over (sets_chain (standing bits 73) ∙ rw (there.1, many_rest (field_at bits 73 64) (field_at bits 137 32) c over) refl)
+        | inl over ↦ many there.0 over (sets_chain (cursor_at bits 73) ∙ rw (there.1, many_rest (field_at bits 73 64) (field_at bits 137 32) c over) refl)
         | inr few ↦
-            let chain : masks_at (standing bits 73) ≡ (number_at p c >>= λ cells. Ok (record { satellites = field_at bits 73 64; signals = field_at bits 137 32; cells = cells.0 }, cells.1)) = sets_chain (standing bits 73) ∙ rw (there.1, few_rest (field_at bits 73 64) (field_at bits 137 32) c few) refl in
+            let chain : masks_at (cursor_at bits 73) ≡ (number_at p c >>= λ cells. Ok (record { satellites = field_at bits 73 64; signals = field_at bits 137 32; cells = cells.0 }, cells.1)) = sets_chain (cursor_at bits 73) ∙ rw (there.1, few_rest (field_at bits 73 64) (field_at bits 137 32) c few) refl in
             elim (cases_lt (length bits) (169 + p)) [
               | inl less ↦ short (Short 169) few (short_at_after mask_widths (p ∷ []) bits 73 (Short 169) there.0 (record { first = 169; is = refl; past = past_here p [] (length bits) 169 less })) (chain ∙ rw (number_short p c (omega (arith, length-drop 169 bits))) refl)
               | inr all ↦ good few all (chain ∙ rw (number_there_at p bits 169 all) refl)
@@ -140,43 +140,43 @@ sets_end bits h = elim (fields_read mask_table bits 73 h) [
 ]
 
 -- The position of the reader after the header and after the masks.
-pub record Stands (bits : List Bool) (c : Cursor) : Type 0 where
-  pub is : c ≡ standing bits c.place
+pub record AfterHeader (bits : List Bool) (c : Cursor) : Type 0 where
+  pub is : c ≡ cursor_at bits c.place
   pub there : c.place ≤ length bits
   pub after : 64 ≤ c.place
 
-stands_at : (bits : List Bool) (c : Cursor) (place : ℕ) → c ≡ standing bits place → place ≤ length bits → 64 ≤ place → Stands bits c
-stands_at bits c place e h after =
+after_header_at : (bits : List Bool) (c : Cursor) (place : ℕ) → c ≡ cursor_at bits place → place ≤ length bits → 64 ≤ place → AfterHeader bits c
+after_header_at bits c place e h after =
     let same : c.place ≡ place = ap (λ (x : Cursor). x.place) e in
-    record { is = e ∙ ap (standing bits) (sym same); there = rw same h; after = rw same after }
+    record { is = e ∙ ap (cursor_at bits) (sym same); there = rw same h; after = rw same after }
 
-header_stands : (bits : List Bool) (h : MsmHeader) (c : Cursor) → 12 ≤ length bits → header_at (standing bits 12) ≡ Ok (h, c) → (c ≡ standing bits 73) × (73 ≤ length bits)
-header_stands bits h c room e = by_end (header_end bits room)
+cursor_after_header : (bits : List Bool) (h : MsmHeader) (c : Cursor) → 12 ≤ length bits → header_at (cursor_at bits 12) ≡ Ok (h, c) → (c ≡ cursor_at bits 73) × (73 ≤ length bits)
+cursor_after_header bits h c room e = by_end (header_end bits room)
   where
-    by_end : HeaderEnd bits → (c ≡ standing bits 73) × (73 ≤ length bits)
-    by_end (no_time f few s is) = absurd (ok_err (h, c) f (header_at (standing bits 12)) e is)
-    by_end (late there over is) = absurd (ok_err (h, c) BadTime (header_at (standing bits 12)) e is)
-    by_end (short f early few s is) = absurd (ok_err (h, c) f (header_at (standing bits 12)) e is)
-    by_end (good v early all is) = (ap (λ (x : MsmHeader × Cursor). x.1) (ok_inj (h, c) (v, standing bits 73) (header_at (standing bits 12)) e is), all)
+    by_end : HeaderEnd bits → (c ≡ cursor_at bits 73) × (73 ≤ length bits)
+    by_end (no_time f few s is) = absurd (ok_err (h, c) f (header_at (cursor_at bits 12)) e is)
+    by_end (late there over is) = absurd (ok_err (h, c) BadTime (header_at (cursor_at bits 12)) e is)
+    by_end (short f early few s is) = absurd (ok_err (h, c) f (header_at (cursor_at bits 12)) e is)
+    by_end (good v early all is) = (ap (λ (x : MsmHeader × Cursor). x.1) (ok_inj (h, c) (v, cursor_at bits 73) (header_at (cursor_at bits 12)) e is), all)
 
-sets_stand : (bits : List Bool) (s : MasksValue) (c : Cursor) → 73 ≤ length bits → masks_at (standing bits 73) ≡ Ok (s, c) → Stands bits c
-sets_stand bits s c room e = by_end (sets_end bits room)
+cursor_after_sets : (bits : List Bool) (s : MasksValue) (c : Cursor) → 73 ≤ length bits → masks_at (cursor_at bits 73) ≡ Ok (s, c) → AfterHeader bits c
+cursor_after_sets bits s c room e = by_end (sets_end bits room)
   where
-    by_end : SetsEnd bits → Stands bits c
-    by_end (no_masks f few t is) = absurd (ok_err (s, c) f (masks_at (standing bits 73)) e is)
-    by_end (many there over is) = absurd (ok_err (s, c) TooManyCells (masks_at (standing bits 73)) e is)
-    by_end (short f few t is) = absurd (ok_err (s, c) f (masks_at (standing bits 73)) e is)
-    by_end (good few there is) = stands_at bits c (169 + pairs_of bits) (ap (λ (x : MasksValue × Cursor). x.1) (ok_inj (s, c) _ (masks_at (standing bits 73)) e is)) there (omega arith)
+    by_end : SetsEnd bits → AfterHeader bits c
+    by_end (no_masks f few t is) = absurd (ok_err (s, c) f (masks_at (cursor_at bits 73)) e is)
+    by_end (many there over is) = absurd (ok_err (s, c) TooManyCells (masks_at (cursor_at bits 73)) e is)
+    by_end (short f few t is) = absurd (ok_err (s, c) f (masks_at (cursor_at bits 73)) e is)
+    by_end (good few there is) = after_header_at bits c (169 + pair_count_of bits) (ap (λ (x : MasksValue × Cursor). x.1) (ok_inj (s, c) _ (masks_at (cursor_at bits 73)) e is)) there (omega arith)
 
-pub masks_stand : (bits : List Bool) (h : MsmHeader) (s : MasksValue) (c d : Cursor) → 12 ≤ length bits → header_at (standing bits 12) ≡ Ok (h, c) → masks_at c ≡ Ok (s, d) → Stands bits d
-masks_stand bits h s c d room e f =
-    let head = header_stands bits h c room e in
-    sets_stand bits s d head.1 (sym (ap masks_at head.0) ∙ f)
+pub cursor_after_masks : (bits : List Bool) (h : MsmHeader) (s : MasksValue) (c d : Cursor) → 12 ≤ length bits → header_at (cursor_at bits 12) ≡ Ok (h, c) → masks_at c ≡ Ok (s, d) → AfterHeader bits d
+cursor_after_masks bits h s c d room e f =
+    let head = cursor_after_header bits h c room e in
+    cursor_after_sets bits s d head.1 (sym (ap masks_at head.0) ∙ f)
 
 -- The cases of the data.
 data DataEnd (sw cw : List ℕ) (satellites cells : ℕ) (bits : List Bool) (place : ℕ) : Type 0 where
-  short : (e : MsgFault) → ShortAt bits place (repeated satellites sw ++ repeated cells cw) e → ((f : List ℕ → List ℕ × Cursor → Result (MsmValue × Cursor) MsgFault) → (columns_at sw (replicate satellites 0) (standing bits place) >>= λ s. columns_at cw (replicate cells 0) s.1 >>= λ c. f s.0 c) ≡ Err e) → DataEnd sw cw satellites cells bits place
-  good : (s : List ℕ) (c : List ℕ × Cursor) → place + total_width (repeated satellites sw ++ repeated cells cw) ≤ length bits → ((f : List ℕ → List ℕ × Cursor → Result (MsmValue × Cursor) MsgFault) → (columns_at sw (replicate satellites 0) (standing bits place) >>= λ s. columns_at cw (replicate cells 0) s.1 >>= λ c. f s.0 c) ≡ f s c) → DataEnd sw cw satellites cells bits place
+  short : (e : MsgFault) → ShortAt bits place (repeated satellites sw ++ repeated cells cw) e → ((f : List ℕ → List ℕ × Cursor → Result (MsmValue × Cursor) MsgFault) → (columns_at sw (replicate satellites 0) (cursor_at bits place) >>= λ s. columns_at cw (replicate cells 0) s.1 >>= λ c. f s.0 c) ≡ Err e) → DataEnd sw cw satellites cells bits place
+  good : (s : List ℕ) (c : List ℕ × Cursor) → place + total_width (repeated satellites sw ++ repeated cells cw) ≤ length bits → ((f : List ℕ → List ℕ × Cursor → Result (MsmValue × Cursor) MsgFault) → (columns_at sw (replicate satellites 0) (cursor_at bits place) >>= λ s. columns_at cw (replicate cells 0) s.1 >>= λ c. f s.0 c) ≡ f s c) → DataEnd sw cw satellites cells bits place
 
 data_end : (sw cw : List ℕ) (satellites cells : ℕ) (bits : List Bool) (place : ℕ) → place ≤ length bits → DataEnd sw cw satellites cells bits place
 data_end sw cw satellites cells bits place h = elim (columns_read sw satellites (replicate satellites 0) bits place (length-replicate satellites 0) h) [
@@ -186,7 +186,7 @@ data_end sw cw satellites cells bits place h = elim (columns_read sw satellites 
       let width = total-repeated satellites sw in
       elim (columns_read cw cells (replicate cells 0) bits next (length-replicate cells 0) one.2) [
         | inl few ↦ short few.0 (short_at_after (repeated satellites sw) (repeated cells cw) bits place few.0 (rw width one.2) (rw width few.2)) (λ f. rw (one.1, few.1) refl)
-        | inr two ↦ good one.0 (two.0, standing bits (next + total_width cw * cells)) (room place (repeated satellites sw) (repeated cells cw) _ _ _ width (total-repeated cells cw) two.2) (λ f. rw (one.1, two.1) refl)
+        | inr two ↦ good one.0 (two.0, cursor_at bits (next + total_width cw * cells)) (room place (repeated satellites sw) (repeated cells cw) _ _ _ width (total-repeated cells cw) two.2) (λ f. rw (one.1, two.1) refl)
       ]
 ]
   where
@@ -207,20 +207,20 @@ msm_end sw cw g bits h = by_header (header_end bits h)
     long p h = omega (arith, h)
 
     p : ℕ
-    p = pairs_of bits
+    p = pair_count_of bits
 
     data_widths : List ℕ
     data_widths = repeated (count_ones (field_at bits 73 64)) sw ++ repeated (count_ones (field_at bits 169 p)) cw
 
-    by_data : (v : MsmHeader) → field_at bits 24 30 < week → header_at (standing bits 12) ≡ Ok (v, standing bits 73) → 73 ≤ length bits → p ≤ 64 → 169 + p ≤ length bits
-        → masks_at (standing bits 73) ≡ Ok (record { satellites = field_at bits 73 64; signals = field_at bits 137 32; cells = field_at bits 169 p }, standing bits (169 + p)) → DataEnd sw cw (count_ones (field_at bits 73 64)) (count_ones (field_at bits 169 p)) bits (169 + p) → MsmEnd sw cw g bits
+    by_data : (v : MsmHeader) → field_at bits 24 30 < week → header_at (cursor_at bits 12) ≡ Ok (v, cursor_at bits 73) → 73 ≤ length bits → p ≤ 64 → 169 + p ≤ length bits
+        → masks_at (cursor_at bits 73) ≡ Ok (record { satellites = field_at bits 73 64; signals = field_at bits 137 32; cells = field_at bits 169 p }, cursor_at bits (169 + p)) → DataEnd sw cw (count_ones (field_at bits 73 64)) (count_ones (field_at bits 169 p)) bits (169 + p) → MsmEnd sw cw g bits
     by_data v early header room few there sets (short e s is) = short e early few (short_at_after (header_widths ++ (64 ∷ 32 ∷ p ∷ [])) data_widths bits 12 e (long p there) (rw (place p) s))
         (rw (header, sets) (is (λ s c. Ok (record { is_galileo = g; header = v; sets = record { satellites = field_at bits 73 64; signals = field_at bits 137 32; cells = field_at bits 169 p }; satellites = s; cells = c.0 }, c.1))))
     by_data v early header room few there sets (good s c all is) = good (record { is_galileo = g; header = v; sets = record { satellites = field_at bits 73 64; signals = field_at bits 137 32; cells = field_at bits 169 p }; satellites = s; cells = c.0 }, c.1) early few
         (past_through (header_widths ++ (64 ∷ 32 ∷ p ∷ [])) data_widths (length bits) 12 (long p there) ∙ past_none data_widths (length bits) (12 + total_width (header_widths ++ (64 ∷ 32 ∷ p ∷ []))) (rw (place p) all))
         (rw (header, sets) (is (λ s c. Ok (record { is_galileo = g; header = v; sets = record { satellites = field_at bits 73 64; signals = field_at bits 137 32; cells = field_at bits 169 p }; satellites = s; cells = c.0 }, c.1))))
 
-    by_sets : (v : MsmHeader) → field_at bits 24 30 < week → header_at (standing bits 12) ≡ Ok (v, standing bits 73) → 73 ≤ length bits → SetsEnd bits → MsmEnd sw cw g bits
+    by_sets : (v : MsmHeader) → field_at bits 24 30 < week → header_at (cursor_at bits 12) ≡ Ok (v, cursor_at bits 73) → 73 ≤ length bits → SetsEnd bits → MsmEnd sw cw g bits
     by_sets v early header room (no_masks e few s is) = no_masks e early few (short_at_after header_widths (mask_widths ++ (p ∷ data_widths)) bits 12 e room (short_at_more mask_widths (p ∷ data_widths) bits 73 e s)) (rw (header, is) refl)
     by_sets v early header room (many there over is) = many early there over (rw (header, is) refl)
     by_sets v early header room (short e few s is) = short e early few (short_at_after header_widths ((64 ∷ 32 ∷ p ∷ []) ++ data_widths) bits 12 e room (short_at_more (64 ∷ 32 ∷ p ∷ []) data_widths bits 73 e s)) (rw (header, is) refl)

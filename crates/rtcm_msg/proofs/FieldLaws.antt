@@ -8,10 +8,10 @@ use Rattle.rtcm_msg.specs.Layout.{Table, width, widths, Contents, number_of, con
 use Rattle.rtcm_bits.specs.Reading.{Cursor, advanced, unsigned_at}
 use Rattle.rtcm_msg.specs.declared.fault.MsgFault.{MsgFault}
 use Rattle.rtcm_msg.specs.declared.fault.MsgFault.TheVariants.{Short}
-use Rattle.rtcm_msg.specs.Fields.{number_at, ◌>>=◌, spelled, first_past, reading}
-pub use Rattle.rtcm_msg.specs.Fields.{standing, field_at}
+use Rattle.rtcm_msg.specs.Fields.{number_at, ◌>>=◌, field_bits, first_past, reading}
+pub use Rattle.rtcm_msg.specs.Fields.{cursor_at, field_at}
 use Rattle.rtcm_msg.specs.Packed.{total_width}
-use Rattle.rtcm_msg.proofs.Binds.{ok_inj, number_there, number_short, took_at}
+use Rattle.rtcm_msg.proofs.Binds.{ok_inj, number_there, number_short, consumed_at}
 use Rattle.rtcm_msg.proofs.Combine.{past_here, past_next, cursor, number_again, ok_err, bind_bind}
 
 -- Reads the fields as one.
@@ -39,10 +39,10 @@ abbrev pub after : Table → Cursor → Cursor
 after [] c = c
 after (f ∷ fs) c = after fs (advanced c (width f.1))
 
-pub record FieldsTook (t : Table) (c : Cursor) (x : Contents t × Cursor) : Type 0 where
+pub record FieldsConsumed (t : Table) (c : Cursor) (x : Contents t × Cursor) : Type 0 where
   pub room : total_width (widths t) ≤ length c.rest
   pub fit : FitAll t x.0
-  pub bits : c.rest ≡ spelled (fields_of t x.0) ++ x.1.rest
+  pub bits : c.rest ≡ field_bits (fields_of t x.0) ++ x.1.rest
 
 fields_there : (t : Table) (c : Cursor) → total_width (widths t) ≤ length c.rest → fields_at t c ≡ Ok (values t c, after t c)
 fields_there [] c room = refl
@@ -51,20 +51,20 @@ fields_there (f ∷ fs) c room =
     let others = fields_there fs (advanced c (width f.1)) (omega (arith, length-drop (width f.1) c.rest)) in
     rw (here, others) refl
 
-values_took : (t : Table) (c : Cursor) → have_signs t ≡ true → total_width (widths t) ≤ length c.rest → FieldsTook t c (values t c, after t c)
-unfolding spelled
-values_took [] c signs room = record { room = room; fit = tt; bits = refl }
-values_took (f ∷ fs) c signs room =
+values_consumed : (t : Table) (c : Cursor) → have_signs t ≡ true → total_width (widths t) ≤ length c.rest → FieldsConsumed t c (values t c, after t c)
+unfolding field_bits
+values_consumed [] c signs room = record { room = room; fit = tt; bits = refl }
+values_consumed (f ∷ fs) c signs room =
     let w = width f.1 in
     let sign = sign_first (has_sign f.1) (have_signs fs) signs in
-    let took = took_at w c (omega arith) in
-    let rest = values_took fs (advanced c w) (sign_others (has_sign f.1) (have_signs fs) signs) (omega (arith, length-drop w c.rest)) in
+    let consumed = consumed_at w c (omega arith) in
+    let rest = values_consumed fs (advanced c w) (sign_others (has_sign f.1) (have_signs fs) signs) (omega (arith, length-drop w c.rest)) in
     let n = unsigned_at w c in
-    let tail = spelled (fields_of fs (values fs (advanced c w))) in
+    let tail = field_bits (fields_of fs (values fs (advanced c w))) in
     record {
       room = room;
-      fit = (content_fits f.1 n sign took.fits, rest.fit);
-      bits = took.bits ∙ (ap (λ t. uint w n ++ t) rest.bits ∙ (sym (append_assoc (uint w n) tail (after fs (advanced c w)).rest) ∙ ap (λ (k : ℕ). (uint w k ++ tail) ++ (after fs (advanced c w)).rest) (sym (number-content f.1 n sign took.fits))));
+      fit = (content_fits f.1 n sign consumed.fits, rest.fit);
+      bits = consumed.bits ∙ (ap (λ t. uint w n ++ t) rest.bits ∙ (sym (append_assoc (uint w n) tail (after fs (advanced c w)).rest) ∙ ap (λ (k : ℕ). (uint w k ++ tail) ++ (after fs (advanced c w)).rest) (sym (number-content f.1 n sign consumed.fits))));
     }
 
 pub fields_short : (t : Table) (c : Cursor) → length c.rest < total_width (widths t) → (k : ℕ) × (fields_at t c ≡ Err (Short k)) × (first_past (c.place + length c.rest) c.place (widths t) ≡ Some k)
@@ -78,24 +78,24 @@ fields_short (f ∷ fs) c h = elim (cases_lt (length c.rest) (width f.1)) [
       (rest.0, rw (number_there w c there, rest.1) refl, past_next w (widths fs) (c.place + length c.rest) c.place (omega arith) ∙ (rw same at rest.2))
 ]
 
-pub fields_ok : (t : Table) (c : Cursor) (x : Contents t × Cursor) → have_signs t ≡ true → fields_at t c ≡ Ok x → FieldsTook t c x
+pub fields_ok : (t : Table) (c : Cursor) (x : Contents t × Cursor) → have_signs t ≡ true → fields_at t c ≡ Ok x → FieldsConsumed t c x
 fields_ok t c x signs e = elim (cases_lt (length c.rest) (total_width (widths t))) [
   | inl short ↦ let s = fields_short t c short in absurd (ok_err x (Short s.0) (fields_at t c) e s.1)
-  | inr there ↦ subst (FieldsTook t c) (ok_inj (values t c, after t c) x (fields_at t c) (fields_there t c there) e) (values_took t c signs there)
+  | inr there ↦ subst (FieldsConsumed t c) (ok_inj (values t c, after t c) x (fields_at t c) (fields_there t c there) e) (values_consumed t c signs there)
 ]
 
 -- ---- reading encoded fields
 
-pub fields_again : (t : Table) (cs : Contents t) (place : ℕ) (rest : List Bool) → have_signs t ≡ true → FitAll t cs → fields_at t (cursor place (spelled (fields_of t cs) ++ rest)) ≡ Ok (cs, cursor (place + total_width (widths t)) rest)
-unfolding spelled
+pub fields_again : (t : Table) (cs : Contents t) (place : ℕ) (rest : List Bool) → have_signs t ≡ true → FitAll t cs → fields_at t (cursor place (field_bits (fields_of t cs) ++ rest)) ≡ Ok (cs, cursor (place + total_width (widths t)) rest)
+unfolding field_bits
 fields_again [] cs place rest signs fit = rw (add-zero place) refl
 fields_again (f ∷ fs) cs place rest signs fit =
     let w = width f.1 in
     let n = number_of f.1 cs.0 in
     let sign = sign_first (has_sign f.1) (have_signs fs) signs in
-    let here = number_again w n place (spelled (fields_of fs cs.1) ++ rest) (number_fits f.1 cs.0 sign fit.0) in
+    let here = number_again w n place (field_bits (fields_of fs cs.1) ++ rest) (number_fits f.1 cs.0 sign fit.0) in
     let others = fields_again fs cs.1 (place + w) rest (sign_others (has_sign f.1) (have_signs fs) signs) fit.1 in
-    rw (append_assoc (uint w n) (spelled (fields_of fs cs.1)) rest, here, others, content-number f.1 cs.0 sign fit.0, add_assoc place w (total_width (widths fs))) refl
+    rw (append_assoc (uint w n) (field_bits (fields_of fs cs.1)) rest, here, others, content-number f.1 cs.0 sign fit.0, add_assoc place w (total_width (widths fs))) refl
 
 -- ---- the end of fields
 
@@ -122,11 +122,11 @@ abbrev pub contents_at : (t : Table) → List Bool → ℕ → Contents t
 contents_at [] bits place = tt
 contents_at (f ∷ fs) bits place = (content f.1 (field_at bits place (width f.1)), contents_at fs bits (place + width f.1))
 
-pub step_on : (w : ℕ) (bits : List Bool) (place : ℕ) → advanced (standing bits place) w ≡ standing bits (place + w)
+pub step_on : (w : ℕ) (bits : List Bool) (place : ℕ) → advanced (cursor_at bits place) w ≡ cursor_at bits (place + w)
 step_on w bits place = ap (cursor (place + w)) (drop-drop w place bits)
 
-pub number_there_at : (w : ℕ) (bits : List Bool) (place : ℕ) → place + w ≤ length bits → number_at w (standing bits place) ≡ Ok (field_at bits place w, standing bits (place + w))
-number_there_at w bits place h = number_there w (standing bits place) (omega (arith, length-drop place bits)) ∙ rw (step_on w bits place) refl
+pub number_there_at : (w : ℕ) (bits : List Bool) (place : ℕ) → place + w ≤ length bits → number_at w (cursor_at bits place) ≡ Ok (field_at bits place w, cursor_at bits (place + w))
+number_there_at w bits place h = number_there w (cursor_at bits place) (omega (arith, length-drop place bits)) ∙ rw (step_on w bits place) refl
 
 -- The first of these fields that does not end within the bits.
 pub record ShortAt (bits : List Bool) (place : ℕ) (ws : List ℕ) (e : MsgFault) : Type 0 where
@@ -143,19 +143,19 @@ short_at_after ws vs bits place e room s = record { first = s.first; is = s.is; 
 -- The bits contain all of the fields, or one field is the first that does not end within the bits.
 abbrev pub FieldsRead : Table → List Bool → ℕ → Type 0
 FieldsRead t bits place =
-    ((length bits < place + total_width (widths t)) × ((e : MsgFault) × (fields_at t (standing bits place) ≡ Err e) × ShortAt bits place (widths t) e))
-    ⊎ ((place + total_width (widths t) ≤ length bits) × (fields_at t (standing bits place) ≡ Ok (contents_at t bits place, standing bits (place + total_width (widths t)))))
+    ((length bits < place + total_width (widths t)) × ((e : MsgFault) × (fields_at t (cursor_at bits place) ≡ Err e) × ShortAt bits place (widths t) e))
+    ⊎ ((place + total_width (widths t) ≤ length bits) × (fields_at t (cursor_at bits place) ≡ Ok (contents_at t bits place, cursor_at bits (place + total_width (widths t)))))
 
 pub fields_read : (t : Table) (bits : List Bool) (place : ℕ) → place ≤ length bits → FieldsRead t bits place
 fields_read t bits place h = elim (cases_lt (length bits) (place + total_width (widths t))) [
   | inl few ↦
-      let s = fields_short t (standing bits place) (omega (arith, length-drop place bits)) in
+      let s = fields_short t (cursor_at bits place) (omega (arith, length-drop place bits)) in
       let whole : place + length (drop place bits) ≡ length bits = omega (arith, length-drop place bits) in
       inl (few, (Short s.0, s.1, record { first = s.0; is = refl; past = rw whole at s.2 }))
   | inr there ↦ inr (there, all_there t bits place there)
 ]
   where
-    all_there : (t : Table) (bits : List Bool) (place : ℕ) → place + total_width (widths t) ≤ length bits → fields_at t (standing bits place) ≡ Ok (contents_at t bits place, standing bits (place + total_width (widths t)))
+    all_there : (t : Table) (bits : List Bool) (place : ℕ) → place + total_width (widths t) ≤ length bits → fields_at t (cursor_at bits place) ≡ Ok (contents_at t bits place, cursor_at bits (place + total_width (widths t)))
     all_there [] bits place h = rw (add-zero place) refl
     all_there (f ∷ fs) bits place h =
         let w = width f.1 in

@@ -5,19 +5,19 @@ use Rattle.std.proofs.lemmas.Nat.{mul-le, ones-le}
 use Rattle.rtcm_bits.specs.Bits.{uint}
 use Rattle.rtcm_bits.specs.BitLaws.{length-uint}
 use Rattle.rtcm_msg.specs.declared.message.Message.{Message}
-use Rattle.rtcm_msg.specs.Fields.{spelled, fields_width}
+use Rattle.rtcm_msg.specs.Fields.{field_bits, fields_width}
 use Rattle.rtcm_msg.specs.Packed.{total_width, columns}
 use Rattle.rtcm_msg.specs.Station.{station_fields}
-use Rattle.rtcm_msg.specs.Msm.{MsmValue, IsValue, pairs, msm_bits, header_fields, mask_fields}
-use Rattle.rtcm_msg.specs.Spelling.{IsMessage, message_bits}
+use Rattle.rtcm_msg.specs.Msm.{MsmValue, IsValue, pair_count, msm_bits, header_fields, mask_fields}
+use Rattle.rtcm_msg.specs.Encoding.{IsMessage, message_bits}
 use Rattle.rtcm_msg.specs.declared.message.Message.TheVariants as messages
 use Rattle.rtcm_msg.specs.Grid4 as grid4
 use Rattle.rtcm_msg.specs.Grid7 as grid7
 
-length-spelled : (fs : List (ℕ × ℕ)) → length (spelled fs) ≡ fields_width fs
-unfolding spelled
-length-spelled [] = refl
-length-spelled (f ∷ fs) = length-append (uint f.0 f.1) (spelled fs) ∙ rw (length-uint f.0 f.1, length-spelled fs) refl
+length-field_bits : (fs : List (ℕ × ℕ)) → length (field_bits fs) ≡ fields_width fs
+unfolding field_bits
+length-field_bits [] = refl
+length-field_bits (f ∷ fs) = length-append (uint f.0 f.1) (field_bits fs) ∙ rw (length-uint f.0 f.1, length-field_bits fs) refl
 
 length-column : (w t : ℕ) (ns : List ℕ) → length (flat_map (λ p. uint w (p / 2 ^ t)) ns) ≡ w * length ns
 length-column w t [] = omega arith
@@ -33,12 +33,12 @@ length-columns (w ∷ ws) ns = length-append (flat_map (λ p. uint w (p / 2 ^ to
 
 msm_short : (sw cw : List ℕ) (number : ℕ) (v : MsmValue) → total_width sw + total_width cw ≤ 124 → IsValue sw cw v → length (msm_bits sw cw number v 0) ≤ 8184
 msm_short sw cw number v few h =
-    let p = pairs v.sets.satellites v.sets.signals in
-    let head : length (spelled (header_fields number v.header 0)) ≡ 73 = length-spelled (header_fields number v.header 0) in
-    let sets : length (spelled (mask_fields v.sets)) ≡ 96 + p = length-spelled (mask_fields v.sets) ∙ wide p in
+    let p = pair_count v.sets.satellites v.sets.signals in
+    let head : length (field_bits (header_fields number v.header 0)) ≡ 73 = length-field_bits (header_fields number v.header 0) in
+    let sets : length (field_bits (mask_fields v.sets)) ≡ 96 + p = length-field_bits (mask_fields v.sets) ∙ wide p in
     let satellites : length (columns sw v.satellites) ≤ total_width sw * 64 = rw (length-columns sw v.satellites, h.satellite_count) (mul-le (total_width sw) (count_ones v.sets.satellites) (total_width sw) 64 (omega arith) (ones-le 64 v.sets.satellites h.sets.satellites)) in
     let cells : length (columns cw v.cells) ≤ total_width cw * 64 = rw (length-columns cw v.cells, h.cell_count) (mul-le (total_width cw) (count_ones v.sets.cells) (total_width cw) 64 (omega arith) (few_cells p v.sets.cells h.sets.few (ones-le p v.sets.cells h.sets.cells))) in
-    rw (length-append (spelled (header_fields number v.header 0)) (spelled (mask_fields v.sets) ++ (columns sw v.satellites ++ columns cw v.cells)), length-append (spelled (mask_fields v.sets)) (columns sw v.satellites ++ columns cw v.cells), length-append (columns sw v.satellites) (columns cw v.cells), head, sets)
+    rw (length-append (field_bits (header_fields number v.header 0)) (field_bits (mask_fields v.sets) ++ (columns sw v.satellites ++ columns cw v.cells)), length-append (field_bits (mask_fields v.sets)) (columns sw v.satellites ++ columns cw v.cells), length-append (columns sw v.satellites) (columns cw v.cells), head, sets)
     (sum p (length (columns sw v.satellites)) (length (columns cw v.cells)) (total_width sw) (total_width cw) h.sets.few satellites cells few)
   where
     wide : (p : ℕ) → 64 + (32 + (p + 0)) ≡ 96 + p
@@ -51,7 +51,7 @@ msm_short sw cw number v few h =
     sum p s c a b h i j k = omega arith
 
 pub message_short : (v : Message) → IsMessage v → length (message_bits v 0) ≤ 8184
-message_short (messages.Station s) h = rw (length-spelled (station_fields s 0)) (by_height s.height)
+message_short (messages.Station s) h = rw (length-field_bits (station_fields s 0)) (by_height s.height)
   where
     by_height : (x : Option ℕ) → fields_width (station_fields (record s { height = x }) 0) ≤ 8184
     by_height None = lit≤ tt

@@ -11,9 +11,9 @@ use Rattle.rtcm_msg.specs.declared.message.Message.{Message}
 use Rattle.rtcm_msg.specs.Fields.{first_past}
 use Rattle.rtcm_msg.specs.Packed.{total_width}
 use Rattle.rtcm_msg.specs.Reading.{message_of, message_at}
-use Rattle.rtcm_msg.specs.Spelling.{ReadsMessage, IsFault, is_read_msm, is_read, number_of, set_of, layout, layout_of, has_bad_time, has_too_many, repeated}
+use Rattle.rtcm_msg.specs.Encoding.{ReadsMessage, IsFault, is_read_msm, is_read, number_of, set_of, layout, layout_of, has_bad_time, has_too_many, repeated}
 use Rattle.rtcm_msg.proofs.FieldLaws.{past_none, field_at}
-use Rattle.rtcm_msg.proofs.FaultLaws.{total-append, total-repeated, pairs_of}
+use Rattle.rtcm_msg.proofs.FaultLaws.{total-append, total-repeated, pair_count_of}
 use Rattle.rtcm_msg.proofs.MessageLaws.{Kind, station, msm4, msm7, other, kind_of, read_again, message_found, message_fault, message_only_fault, layout_station, layout_msm4, layout_msm7, msm4_is_msm, msm7_is_msm, and_all, le_true, lt_true, not_true, some_none}
 use Rattle.rtcm_msg.proofs.StationLaws.{station_widths, height_widths}
 use Rattle.rtcm_msg.specs.declared.message.Message.TheVariants as messages
@@ -35,7 +35,7 @@ module _ (a b : List Bool) (long : 8184 ≤ length a) where
   set_more = rw (number_more, le_more 55 a b (omega (arith, long)), field_more a b 12 12 (omega (arith, long)), field_more a b 54 1 (omega (arith, long))) refl
 
   reads_more : (v : Message) → ReadsMessage a v → ReadsMessage (a ++ b) v
-  reads_more v (inl r) = inl (record { is_value = r.is_value; known = r.known; front = r.front; rest = r.rest ++ b; joined = ap (λ t. t ++ b) r.joined ∙ append_assoc r.front r.rest b; spells = r.spells })
+  reads_more v (inl r) = inl (record { is_value = r.is_value; known = r.known; prefix = r.prefix; rest = r.rest ++ b; joined = ap (λ t. t ++ b) r.joined ∙ append_assoc r.prefix r.rest b; encodes = r.encodes })
   reads_more v (inr r) = inr (record { number_there = omega (arith, long, length-append a b); unread = ap is_read number_more ∙ r.unread; value = r.value ∙ (ap (λ (n : ℕ). messages.Other n (set_of a)) (sym number_more) ∙ ap (λ (s : Option (ℕ × Bool)). messages.Other (number_of (a ++ b)) s) (sym set_more)) })
 
   time_more : has_bad_time (a ++ b) ≡ has_bad_time a
@@ -57,9 +57,9 @@ ones_few bits place w few h =
     let most : count_ones (field_at bits place w) ≤ w = ones-le w (field_at bits place w) fits in
     omega (arith, most, few)
 
-pairs_are : (bits : List Bool) → is_read_msm (number_of bits) ≡ true → 8184 ≤ length bits → has_too_many bits ≡ false → pairs_of bits ≤ 64
-pairs_are bits msm long few = elim (cases_lt 64 (pairs_of bits)) [
-  | inl over ↦ absurd (not_true (has_too_many bits) few (and_all (is_read_msm (number_of bits)) (nat_le 169 (length bits)) (nat_lt 64 (pairs_of bits)) msm (le_true 169 (length bits) (omega (arith, long))) (lt_true 64 (pairs_of bits) over)))
+pairs_are : (bits : List Bool) → is_read_msm (number_of bits) ≡ true → 8184 ≤ length bits → has_too_many bits ≡ false → pair_count_of bits ≤ 64
+pairs_are bits msm long few = elim (cases_lt 64 (pair_count_of bits)) [
+  | inl over ↦ absurd (not_true (has_too_many bits) few (and_all (is_read_msm (number_of bits)) (nat_le 169 (length bits)) (nat_lt 64 (pair_count_of bits)) msm (le_true 169 (length bits) (omega (arith, long))) (lt_true 64 (pair_count_of bits) over)))
   | inr fine ↦ fine
 ]
 
@@ -72,11 +72,11 @@ layout_few bits n (station has e) is long few = rw (ap (λ (k : ℕ). layout_of 
 layout_few bits n (msm4 g e) is long few =
     let pairs_few = pairs_are bits (ap is_read_msm (is ∙ e) ∙ msm4_is_msm g) long few in
     rw (ap (λ (k : ℕ). layout_of k bits) (is ∙ e) ∙ layout_msm4 g bits)
-    (total_few (count_ones (field_at bits 73 64)) (count_ones (field_at bits 169 (pairs_of bits))) (pairs_of bits) grid4.satellite_widths grid4.cell_widths (lit≤ tt) (lit≤ tt) (ones_few bits 73 64 (lit≤ tt) (omega (arith, long))) (ones_few bits 169 (pairs_of bits) pairs_few (omega (arith, long, pairs_few))) pairs_few)
+    (total_few (count_ones (field_at bits 73 64)) (count_ones (field_at bits 169 (pair_count_of bits))) (pair_count_of bits) grid4.satellite_widths grid4.cell_widths (lit≤ tt) (lit≤ tt) (ones_few bits 73 64 (lit≤ tt) (omega (arith, long))) (ones_few bits 169 (pair_count_of bits) pairs_few (omega (arith, long, pairs_few))) pairs_few)
 layout_few bits n (msm7 g e) is long few =
     let pairs_few = pairs_are bits (ap is_read_msm (is ∙ e) ∙ msm7_is_msm g) long few in
     rw (ap (λ (k : ℕ). layout_of k bits) (is ∙ e) ∙ layout_msm7 g bits)
-    (total_few (count_ones (field_at bits 73 64)) (count_ones (field_at bits 169 (pairs_of bits))) (pairs_of bits) grid7.satellite_widths grid7.cell_widths (lit≤ tt) (lit≤ tt) (ones_few bits 73 64 (lit≤ tt) (omega (arith, long))) (ones_few bits 169 (pairs_of bits) pairs_few (omega (arith, long, pairs_few))) pairs_few)
+    (total_few (count_ones (field_at bits 73 64)) (count_ones (field_at bits 169 (pair_count_of bits))) (pair_count_of bits) grid7.satellite_widths grid7.cell_widths (lit≤ tt) (lit≤ tt) (ones_few bits 73 64 (lit≤ tt) (omega (arith, long))) (ones_few bits 169 (pair_count_of bits) pairs_few (omega (arith, long, pairs_few))) pairs_few)
 layout_few bits n (other unread no_msm empty body) is long few = rw (ap (λ (k : ℕ). layout_of k bits) is ∙ empty bits) (lit≤ tt)
 
 fault_more : (a b : List Bool) (e : MsgFault) → 8184 ≤ length a → IsFault a e → IsFault (a ++ b) e
@@ -96,12 +96,12 @@ message_more a b long = go (message_of a) refl
     go (Err f) e = e ∙ sym (message_only_fault (a ++ b) f (fault_more a b f long (message_fault a f e)))
 
 -- The first 1,023 bytes determine the message.
-pub message_front : (bytes : List ℕ) → 1023 ≤ length bytes → message_at (take 1023 bytes) ≡ message_at bytes
-message_front bytes h =
-    let front = take 1023 bytes in
-    let len : length (bits_of front) ≡ 8 * 1023 = length-bits_of front ∙ ap (λ (n : ℕ). 8 * n) (length-take-le 1023 bytes h) in
-    let whole : bits_of bytes ≡ bits_of front ++ bits_of (drop 1023 bytes) = ap bits_of (sym (take-append-drop 1023 bytes)) ∙ bits_of-append front (drop 1023 bytes) in
-    message_more (bits_of front) (bits_of (drop 1023 bytes)) (exact_long _ len) ∙ ap message_of (sym whole)
+pub message_prefix : (bytes : List ℕ) → 1023 ≤ length bytes → message_at (take 1023 bytes) ≡ message_at bytes
+message_prefix bytes h =
+    let prefix = take 1023 bytes in
+    let len : length (bits_of prefix) ≡ 8 * 1023 = length-bits_of prefix ∙ ap (λ (n : ℕ). 8 * n) (length-take-le 1023 bytes h) in
+    let whole : bits_of bytes ≡ bits_of prefix ++ bits_of (drop 1023 bytes) = ap bits_of (sym (take-append-drop 1023 bytes)) ∙ bits_of-append prefix (drop 1023 bytes) in
+    message_more (bits_of prefix) (bits_of (drop 1023 bytes)) (exact_long _ len) ∙ ap message_of (sym whole)
   where
     exact_long : (n : ℕ) → n ≡ 8 * 1023 → 8184 ≤ n
     exact_long n e = omega arith

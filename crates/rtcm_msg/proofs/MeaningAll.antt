@@ -5,19 +5,19 @@ use Rattle.std.proofs.lemmas.List.{length-map}
 use Rattle.std.proofs.lemmas.Nat.{pow_pos}
 use Rattle.rtcm_bits.specs.Bits.{uint, number}
 use Rattle.rtcm_bits.specs.BitLaws.{uint-number, number-fits}
-use Rattle.rtcm_msg.specs.declared.seats.Seat.{Seat}
-use Rattle.rtcm_msg.specs.Msm.{MsmValue, MasksValue, AreMasks, IsValue, pairs}
-use Rattle.rtcm_msg.specs.Entries.{ids, chosen, seat, all_pairs, seats, Rising}
-use Rattle.rtcm_msg.specs.Meaning.{Meaning, meaning, pair, pair_number, cell_pairs, IsMeaning, IsIn, Each, keys, data_of}
+use Rattle.rtcm_msg.specs.declared.pairs.Pair.{Pair}
+use Rattle.rtcm_msg.specs.Msm.{MsmValue, MasksValue, AreMasks, IsValue, pair_count}
+use Rattle.rtcm_msg.specs.Entries.{ids, chosen, pair, all_pairs, cell_pairs, Rising}
+use Rattle.rtcm_msg.specs.Meaning.{Meaning, meaning, ids_of, pair_number, cell_ids, IsMeaning, IsIn, Each, keys, data_of}
 use Rattle.rtcm_msg.proofs.IdLaws.{weaken, ids_all}
-use Rattle.rtcm_msg.proofs.SeatLaws.{ids_count, pairs_count, seats_count}
+use Rattle.rtcm_msg.proofs.CountLaws.{ids_count, pairs_count, cell_pairs_count}
 use Rattle.rtcm_msg.proofs.MeaningLaws.{map-map, all_rising}
 
 -- The pairs of two lists.
 abbrev cross : List ℕ → List ℕ → List (ℕ × ℕ)
 cross xs gs = flat_map (λ a. map (λ g. (a, g)) gs) xs
 
-row_pairs : (k a : ℕ) (gs : List ℕ) → map pair (map (seat (k, a)) gs) ≡ map (λ g. (a, g)) gs
+row_pairs : (k a : ℕ) (gs : List ℕ) → map ids_of (map (pair (k, a)) gs) ≡ map (λ g. (a, g)) gs
 row_pairs k a [] = refl
 row_pairs k a (g ∷ gs) = ap (λ t. (a, g) ∷ t) (row_pairs k a gs)
 
@@ -25,15 +25,15 @@ map-append : {A B : Type 0} (f : A → B) (xs ys : List A) → map f (xs ++ ys) 
 map-append f [] ys = refl
 map-append f (x ∷ xs) ys = ap (λ t. f x ∷ t) (map-append f xs ys)
 
-all_are_cross : (k : ℕ) (xs gs : List ℕ) → map pair (flat_map (λ x. map (seat x) gs) (enumerate_from k xs)) ≡ cross xs gs
+all_are_cross : (k : ℕ) (xs gs : List ℕ) → map ids_of (flat_map (λ x. map (pair x) gs) (enumerate_from k xs)) ≡ cross xs gs
 all_are_cross k [] gs = refl
-all_are_cross k (x ∷ xs) gs = map-append pair (map (seat (k, x)) gs) (flat_map (λ y. map (seat y) gs) (enumerate_from (k + 1) xs)) ∙ rw (row_pairs k x gs, all_are_cross (k + 1) xs gs) refl
+all_are_cross k (x ∷ xs) gs = map-append ids_of (map (pair (k, x)) gs) (flat_map (λ y. map (pair y) gs) (enumerate_from (k + 1) xs)) ∙ rw (row_pairs k x gs, all_are_cross (k + 1) xs gs) refl
 
-chosen-map : (bits : List Bool) (xs : List Seat) → map pair (chosen bits xs) ≡ chosen bits (map pair xs)
+chosen-map : (bits : List Bool) (xs : List Pair) → map ids_of (chosen bits xs) ≡ chosen bits (map ids_of xs)
 unfolding chosen
 chosen-map [] xs = refl
 chosen-map (b ∷ bits) [] = refl
-chosen-map (true ∷ bits) (x ∷ xs) = ap (λ t. pair x ∷ t) (chosen-map bits xs)
+chosen-map (true ∷ bits) (x ∷ xs) = ap (λ t. ids_of x ∷ t) (chosen-map bits xs)
 chosen-map (false ∷ bits) (x ∷ xs) = chosen-map bits xs
 
 -- ---- the pairs that are chosen from all pairs
@@ -144,25 +144,25 @@ zip_back (x ∷ xs) = ap (λ t. x ∷ t) (zip_back xs)
 -- The cell mask of these pairs, for two masks.
 pub record Masked (a g : ℕ) (ps : List (ℕ × ℕ)) : Type 0 where
   pub cells : ℕ
-  pub fits : cells < 2 ^ pairs a g
-  pub are : cell_pairs (record { satellites = a; signals = g; cells = cells }) ≡ ps
+  pub fits : cells < 2 ^ pair_count a g
+  pub are : cell_ids (record { satellites = a; signals = g; cells = cells }) ≡ ps
 
-masked : (a g : ℕ) (ps : List (ℕ × ℕ)) → a < 2 ^ 64 → g < 2 ^ 32 → pairs a g ≤ 64 → Rising 65 4128 (map pair_number ps) → Each (λ p. IsIn p (cross (ids 64 a) (ids 32 g))) ps → Masked a g ps
+masked : (a g : ℕ) (ps : List (ℕ × ℕ)) → a < 2 ^ 64 → g < 2 ^ 32 → pair_count a g ≤ 64 → Rising 65 4128 (map pair_number ps) → Each (λ p. IsIn p (cross (ids 64 a) (ids 32 g))) ps → Masked a g ps
 masked a g ps fa fg few s h =
     let all = cross (ids 64 a) (ids 32 g) in
     let t : MasksValue = record { satellites = a; signals = g; cells = 0 } in
-    let is_all : map pair (all_pairs t) ≡ all = all_are_cross 0 (ids 64 a) (ids 32 g) in
+    let is_all : map ids_of (all_pairs t) ≡ all = all_are_cross 0 (ids 64 a) (ids 32 g) in
     let r : Rising 65 4128 (map pair_number all) = rw is_all at (rw (← map-map (all_pairs t)) at (all_rising t)) in
     let p = picked 65 4128 65 4128 all ps r s h in
     let bits = pick all ps in
-    let count : length bits ≡ pairs a g = p.len ∙ (ap length (sym is_all) ∙ (length-map (all_pairs t) pair ∙ pairs_count t (record { satellites = fa; signals = fg; few = few; cells = pow_pos (pairs a g) }))) in
+    let count : length bits ≡ pair_count a g = p.len ∙ (ap length (sym is_all) ∙ (length-map (all_pairs t) ids_of ∙ pairs_count t (record { satellites = fa; signals = fg; few = few; cells = pow_pos (pair_count a g) }))) in
     let P : ℕ → Type 0 = λ n. number bits < 2 ^ n in
     let Q : ℕ → Type 0 = λ n. uint n (number bits) ≡ bits in
-    let spelled : uint (pairs a g) (number bits) ≡ bits = subst Q count (uint-number bits 0) in
+    let encoded : uint (pair_count a g) (number bits) ≡ bits = subst Q count (uint-number bits 0) in
     record {
       cells = number bits;
       fits = subst P count (number-fits bits);
-      are = chosen-map (uint (pairs a g) (number bits)) (all_pairs t) ∙ (rw (spelled, is_all) p.back);
+      are = chosen-map (uint (pair_count a g) (number bits)) (all_pairs t) ∙ (rw (encoded, is_all) p.back);
     }
 
 pub value_all : (sw cw : List ℕ) (m : Meaning) → IsMeaning sw cw m → (v : MsmValue) × IsValue sw cw v × (meaning v ≡ m)
@@ -173,7 +173,7 @@ value_all sw cw m h =
     let g = two.0 in
     let some : count_ones a ≡ length (keys m.satellites) = sym (ids_count 64 a one.1) ∙ ap length one.2 in
     let more : count_ones g ≡ length m.signals = sym (ids_count 32 g two.1) ∙ ap length two.2 in
-    let few : pairs a g ≤ 64 = rw (some, more) h.few in
+    let few : pair_count a g ≤ 64 = rw (some, more) h.few in
     let each = each_cross (ids 64 a) (ids 32 g) (keys m.cells) (rw (one.2, two.2) h.pairs) in
     let k = masked a g (keys m.cells) one.1 two.1 few h.cells each in
     let s : MasksValue = record { satellites = a; signals = g; cells = k.cells } in
@@ -183,13 +183,13 @@ value_all sw cw m h =
       header = h.header;
       sets = are;
       satellite_count = length-map m.satellites (λ x. x.1) ∙ (sym (length-map m.satellites (λ x. x.0)) ∙ sym some);
-      cell_count = length-map m.cells (λ x. x.1) ∙ (sym (length-map m.cells (λ x. x.0)) ∙ (ap length (sym k.are) ∙ (length-map (seats s) pair ∙ seats_count s are)));
+      cell_count = length-map m.cells (λ x. x.1) ∙ (sym (length-map m.cells (λ x. x.0)) ∙ (ap length (sym k.are) ∙ (length-map (cell_pairs s) ids_of ∙ cell_pairs_count s are)));
       satellites = h.satellite_data;
       cells = h.cell_data;
     } in
     let x : zip (ids 64 a) (data_of m.satellites) ≡ m.satellites = ap (λ (xs : List ℕ). zip xs (data_of m.satellites)) one.2 ∙ zip_back m.satellites in
-    let y : zip (cell_pairs s) (data_of m.cells) ≡ m.cells = ap (λ (ps : List (ℕ × ℕ)). zip ps (data_of m.cells)) k.are ∙ zip_back m.cells in
-    (v, value, meant m (zip (ids 64 a) (data_of m.satellites)) (ids 32 g) (zip (cell_pairs s) (data_of m.cells)) x two.2 y)
+    let y : zip (cell_ids s) (data_of m.cells) ≡ m.cells = ap (λ (ps : List (ℕ × ℕ)). zip ps (data_of m.cells)) k.are ∙ zip_back m.cells in
+    (v, value, meant m (zip (ids 64 a) (data_of m.satellites)) (ids 32 g) (zip (cell_ids s) (data_of m.cells)) x two.2 y)
   where
     meant : (m : Meaning) (xs : List (ℕ × ℕ)) (gs : List ℕ) (cs : List ((ℕ × ℕ) × ℕ)) → xs ≡ m.satellites → gs ≡ m.signals → cs ≡ m.cells → Path Meaning (record { is_galileo = m.is_galileo; header = m.header; satellites = xs; signals = gs; cells = cs }) m
     meant m xs gs cs x y z = rw (x, y, z) refl

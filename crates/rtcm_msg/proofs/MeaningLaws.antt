@@ -4,66 +4,66 @@ use Rattle.std.specs.List.{flat_map, zip, enumerate_from}
 use Rattle.std.proofs.lemmas.List.{length-map}
 use Rattle.rtcm_bits.specs.Bits.{uint, number}
 use Rattle.rtcm_bits.specs.BitLaws.{length-uint, number_of-uint}
-use Rattle.rtcm_msg.specs.declared.seats.Seat.{Seat}
-use Rattle.rtcm_msg.specs.Msm.{MsmValue, MasksValue, AreMasks, IsValue, pairs}
-use Rattle.rtcm_msg.specs.Entries.{ids, chosen, seat, all_pairs, seats, Rising}
-use Rattle.rtcm_msg.specs.Meaning.{Meaning, meaning, pair, pair_number, cell_pairs}
+use Rattle.rtcm_msg.specs.declared.pairs.Pair.{Pair}
+use Rattle.rtcm_msg.specs.Msm.{MsmValue, MasksValue, AreMasks, IsValue, pair_count}
+use Rattle.rtcm_msg.specs.Entries.{ids, chosen, pair, all_pairs, cell_pairs, Rising}
+use Rattle.rtcm_msg.specs.Meaning.{Meaning, meaning, ids_of, pair_number, cell_ids}
 use Rattle.rtcm_msg.proofs.IdLaws.{weaken, ids_rising, ids_one, cons_tail}
-use Rattle.rtcm_msg.proofs.SeatLaws.{ids_count, pairs_count, seats_count}
+use Rattle.rtcm_msg.proofs.CountLaws.{ids_count, pairs_count, cell_pairs_count}
 
 -- ---- the pairs rise
 
-abbrev pub key : Seat → ℕ
-key x = pair_number (pair x)
+abbrev pub key : Pair → ℕ
+key x = pair_number (ids_of x)
 
 -- A rising list before one that begins above it.
 rising-append : (low middle high : ℕ) (xs ys : List ℕ) → low ≤ middle + 1 → middle ≤ high → Rising low middle xs → Rising (middle + 1) high ys → Rising low high (xs ++ ys)
 rising-append low middle high [] ys h k r s = weaken low (middle + 1) high ys h s
 rising-append low middle high (x ∷ xs) ys h k r s = (r.0, omega (arith, k, r.1), rising-append (x + 1) middle high xs ys (omega (arith, r.1)) k r.2 s)
 
-map-append : (f : Seat → ℕ) (xs ys : List Seat) → map f (xs ++ ys) ≡ map f xs ++ map f ys
+map-append : (f : Pair → ℕ) (xs ys : List Pair) → map f (xs ++ ys) ≡ map f xs ++ map f ys
 map-append f [] ys = refl
 map-append f (x ∷ xs) ys = ap (λ t. f x ∷ t) (map-append f xs ys)
 
 -- The pairs of one satellite.
-row_rising : (x : ℕ × ℕ) (low : ℕ) (gs : List ℕ) → Rising low 32 gs → Rising (64 * x.1 + low) (64 * x.1 + 32) (map key (map (seat x) gs))
+row_rising : (x : ℕ × ℕ) (low : ℕ) (gs : List ℕ) → Rising low 32 gs → Rising (64 * x.1 + low) (64 * x.1 + 32) (map key (map (pair x) gs))
 row_rising x low [] r = tt
 row_rising x low (g ∷ gs) r =
     let next : 64 * x.1 + g + 1 ≡ 64 * x.1 + (g + 1) = omega arith in
     (omega (arith, r.0), omega (arith, r.1), rw next (row_rising x (g + 1) gs r.2))
 
-rows_rising : (gs : List ℕ) (k low : ℕ) (xs : List ℕ) → Rising 1 32 gs → low ≤ 65 → Rising low 64 xs → Rising (64 * low + 1) (64 * 64 + 32) (map key (flat_map (λ x. map (seat x) gs) (enumerate_from k xs)))
+rows_rising : (gs : List ℕ) (k low : ℕ) (xs : List ℕ) → Rising 1 32 gs → low ≤ 65 → Rising low 64 xs → Rising (64 * low + 1) (64 * 64 + 32) (map key (flat_map (λ x. map (pair x) gs) (enumerate_from k xs)))
 rows_rising gs k low [] g h r = tt
 rows_rising gs k low (x ∷ xs) g h r =
     let others = rows_rising gs (k + 1) (x + 1) xs g (omega (arith, r.1)) r.2 in
-    let here = weaken (64 * low + 1) (64 * x + 1) (64 * x + 32) (map key (map (seat (k, x)) gs)) (omega (arith, r.0)) (row_rising (k, x) 1 gs g) in
-    let above = weaken (64 * x + 32 + 1) (64 * (x + 1) + 1) (64 * 64 + 32) (map key (flat_map (λ y. map (seat y) gs) (enumerate_from (k + 1) xs))) (omega arith) others in
-    rw (map-append key (map (seat (k, x)) gs) (flat_map (λ y. map (seat y) gs) (enumerate_from (k + 1) xs)))
+    let here = weaken (64 * low + 1) (64 * x + 1) (64 * x + 32) (map key (map (pair (k, x)) gs)) (omega (arith, r.0)) (row_rising (k, x) 1 gs g) in
+    let above = weaken (64 * x + 32 + 1) (64 * (x + 1) + 1) (64 * 64 + 32) (map key (flat_map (λ y. map (pair y) gs) (enumerate_from (k + 1) xs))) (omega arith) others in
+    rw (map-append key (map (pair (k, x)) gs) (flat_map (λ y. map (pair y) gs) (enumerate_from (k + 1) xs)))
     (rising-append (64 * low + 1) (64 * x + 32) (64 * 64 + 32) _ _ (omega (arith, r.0)) (omega (arith, r.1)) here above)
 
 pub all_rising : (s : MasksValue) → Rising (64 * 1 + 1) (64 * 64 + 32) (map key (all_pairs s))
 all_rising s = rows_rising (ids 32 s.signals) 0 1 (ids 64 s.satellites) (ids_rising 32 s.signals) (omega arith) (ids_rising 64 s.satellites)
 
-chosen_rising : (low high : ℕ) (bits : List Bool) (xs : List Seat) → Rising low high (map key xs) → Rising low high (map key (chosen bits xs))
+chosen_rising : (low high : ℕ) (bits : List Bool) (xs : List Pair) → Rising low high (map key xs) → Rising low high (map key (chosen bits xs))
 unfolding chosen
 chosen_rising low high [] xs r = tt
 chosen_rising low high (b ∷ bits) [] r = tt
 chosen_rising low high (true ∷ bits) (x ∷ xs) r = (r.0, r.1, chosen_rising (key x + 1) high bits xs r.2)
 chosen_rising low high (false ∷ bits) (x ∷ xs) r = weaken low (key x + 1) high (map key (chosen bits xs)) (omega (arith, r.0)) (chosen_rising (key x + 1) high bits xs r.2)
 
-pub map-map : (xs : List Seat) → map pair_number (map pair xs) ≡ map key xs
+pub map-map : (xs : List Pair) → map pair_number (map ids_of xs) ≡ map key xs
 map-map [] = refl
 map-map (x ∷ xs) = ap (λ t. key x ∷ t) (map-map xs)
 
-pub pairs_rising : (s : MasksValue) → Rising 65 4128 (map pair_number (cell_pairs s))
-pairs_rising s = rw (map-map (seats s)) (chosen_rising 65 4128 (uint (pairs s.satellites s.signals) s.cells) (all_pairs s) (all_rising s))
+pub pairs_rising : (s : MasksValue) → Rising 65 4128 (map pair_number (cell_ids s))
+pairs_rising s = rw (map-map (cell_pairs s)) (chosen_rising 65 4128 (uint (pair_count s.satellites s.signals) s.cells) (all_pairs s) (all_rising s))
 
 -- ---- the pairs determine one mask
 
 not_above : (n high : ℕ) (xs ys : List ℕ) → Rising (n + 1) high ys → n ∷ xs ≡ ys → ⊥
 not_above n high xs ys r e = let s : Rising (n + 1) high (n ∷ xs) = subst (Rising (n + 1) high) (sym e) r in omega (arith, s.0)
 
-chosen_one : (low high : ℕ) (bs cs : List Bool) (xs : List Seat) → length bs ≡ length xs → length cs ≡ length xs → Rising low high (map key xs) → map key (chosen bs xs) ≡ map key (chosen cs xs) → bs ≡ cs
+chosen_one : (low high : ℕ) (bs cs : List Bool) (xs : List Pair) → length bs ≡ length xs → length cs ≡ length xs → Rising low high (map key xs) → map key (chosen bs xs) ≡ map key (chosen cs xs) → bs ≡ cs
 unfolding chosen
 chosen_one low high [] [] xs a b r e = refl
 chosen_one low high [] (c ∷ cs) xs a b r e = absurd (omega (arith, a, b))
@@ -76,24 +76,24 @@ chosen_one low high (false ∷ bs) (true ∷ cs) (x ∷ xs) l m r e = absurd (no
 
 -- Masks with the same satellites, signals and pairs.
 cells_same : (a g m n : ℕ) → AreMasks (record { satellites = a; signals = g; cells = m }) → AreMasks (record { satellites = a; signals = g; cells = n })
-    → cell_pairs (record { satellites = a; signals = g; cells = m }) ≡ cell_pairs (record { satellites = a; signals = g; cells = n }) → m ≡ n
+    → cell_ids (record { satellites = a; signals = g; cells = m }) ≡ cell_ids (record { satellites = a; signals = g; cells = n }) → m ≡ n
 cells_same a g m n h k e =
-    let p = pairs a g in
+    let p = pair_count a g in
     let s : MasksValue = record { satellites = a; signals = g; cells = m } in
     let t : MasksValue = record { satellites = a; signals = g; cells = n } in
     let count = pairs_count s h in
-    let keys : map key (seats s) ≡ map key (seats t) = sym (map-map (seats s)) ∙ (ap (map pair_number) e ∙ map-map (seats t)) in
+    let keys : map key (cell_pairs s) ≡ map key (cell_pairs t) = sym (map-map (cell_pairs s)) ∙ (ap (map pair_number) e ∙ map-map (cell_pairs t)) in
     let bits = chosen_one 65 4128 (uint p m) (uint p n) (all_pairs s) (length-uint p m ∙ sym count) (length-uint p n ∙ sym count) (all_rising s) keys in
     sym (number_of-uint p m h.cells) ∙ (ap number bits ∙ number_of-uint p n k.cells)
 
-pub sets_one : (s t : MasksValue) → AreMasks s → AreMasks t → ids 64 s.satellites ≡ ids 64 t.satellites → ids 32 s.signals ≡ ids 32 t.signals → cell_pairs s ≡ cell_pairs t → s ≡ t
+pub sets_one : (s t : MasksValue) → AreMasks s → AreMasks t → ids 64 s.satellites ≡ ids 64 t.satellites → ids 32 s.signals ≡ ids 32 t.signals → cell_ids s ≡ cell_ids t → s ≡ t
 sets_one s t h k a g e =
     let sat : s.satellites ≡ t.satellites = ids_one 64 s.satellites t.satellites h.satellites k.satellites a in
     let sig : s.signals ≡ t.signals = ids_one 32 s.signals t.signals h.signals k.signals g in
     join s.satellites t.satellites s.signals t.signals s.cells t.cells sat sig h k e
   where
     join : (a b g f m n : ℕ) → a ≡ b → g ≡ f → AreMasks (record { satellites = a; signals = g; cells = m }) → AreMasks (record { satellites = b; signals = f; cells = n })
-        → cell_pairs (record { satellites = a; signals = g; cells = m }) ≡ cell_pairs (record { satellites = b; signals = f; cells = n }) → Path MasksValue (record { satellites = a; signals = g; cells = m }) (record { satellites = b; signals = f; cells = n })
+        → cell_ids (record { satellites = a; signals = g; cells = m }) ≡ cell_ids (record { satellites = b; signals = f; cells = n }) → Path MasksValue (record { satellites = a; signals = g; cells = m }) (record { satellites = b; signals = f; cells = n })
     join a b g f m n p q h k e =
         let h' = rw (p, q) at h in
         let e' = rw (p, q) at e in
@@ -143,20 +143,20 @@ zip_firsts (x ∷ xs) (n ∷ ns) e = ap (λ t. x ∷ t) (zip_firsts xs ns (omega
 satellites_count : (sw cw : List ℕ) (v : MsmValue) → IsValue sw cw v → length (ids 64 v.sets.satellites) ≡ length v.satellites
 satellites_count sw cw v h = ids_count 64 v.sets.satellites h.sets.satellites ∙ sym h.satellite_count
 
-cells_count : (sw cw : List ℕ) (v : MsmValue) → IsValue sw cw v → length (cell_pairs v.sets) ≡ length v.cells
-cells_count sw cw v h = length-map (seats v.sets) pair ∙ (seats_count v.sets h.sets ∙ sym h.cell_count)
+cells_count : (sw cw : List ℕ) (v : MsmValue) → IsValue sw cw v → length (cell_ids v.sets) ≡ length v.cells
+cells_count sw cw v h = length-map (cell_pairs v.sets) ids_of ∙ (cell_pairs_count v.sets h.sets ∙ sym h.cell_count)
 
 pub satellite_keys : (sw cw : List ℕ) (v : MsmValue) → IsValue sw cw v → map (λ x. x.0) (meaning v).satellites ≡ ids 64 v.sets.satellites
 satellite_keys sw cw v h = zip_firsts (ids 64 v.sets.satellites) v.satellites (satellites_count sw cw v h)
 
-pub cell_keys : (sw cw : List ℕ) (v : MsmValue) → IsValue sw cw v → map (λ x. x.0) (meaning v).cells ≡ cell_pairs v.sets
-cell_keys sw cw v h = zip_firsts (cell_pairs v.sets) v.cells (cells_count sw cw v h)
+pub cell_keys : (sw cw : List ℕ) (v : MsmValue) → IsValue sw cw v → map (λ x. x.0) (meaning v).cells ≡ cell_ids v.sets
+cell_keys sw cw v h = zip_firsts (cell_ids v.sets) v.cells (cells_count sw cw v h)
 
 pub value_one : (sw cw : List ℕ) (v w : MsmValue) → IsValue sw cw v → IsValue sw cw w → meaning v ≡ meaning w → v ≡ w
 value_one sw cw v w h k e =
     let galileo : v.is_galileo ≡ w.is_galileo = ap (λ (m : Meaning). m.is_galileo) e in
     let header = ap (λ (m : Meaning). m.header) e in
     let one = zip_keys (ids 64 v.sets.satellites) (ids 64 w.sets.satellites) v.satellites w.satellites (satellites_count sw cw v h) (satellites_count sw cw w k) (ap (λ (m : Meaning). m.satellites) e) in
-    let two = zip_keys (cell_pairs v.sets) (cell_pairs w.sets) v.cells w.cells (cells_count sw cw v h) (cells_count sw cw w k) (ap (λ (m : Meaning). m.cells) e) in
+    let two = zip_keys (cell_ids v.sets) (cell_ids w.sets) v.cells w.cells (cells_count sw cw v h) (cells_count sw cw w k) (ap (λ (m : Meaning). m.cells) e) in
     let sets = sets_one v.sets w.sets h.sets k.sets one.0 (ap (λ (m : Meaning). m.signals) e) two.0 in
     rw (galileo, header, sets, one.1, two.1) refl

@@ -9,18 +9,18 @@ use Rattle.rtcm_msg.specs.declared.fault.MsgFault.{MsgFault}
 use Rattle.rtcm_msg.specs.declared.fault.MsgFault.TheVariants.{BadTime, TooManyCells, Short}
 use Rattle.rtcm_msg.specs.declared.station.StationParts.{StationParts}
 use Rattle.rtcm_msg.specs.declared.message.Message.{Message}
-use Rattle.rtcm_msg.specs.Fields.{◌>>=◌, spelled, first_past}
+use Rattle.rtcm_msg.specs.Fields.{◌>>=◌, field_bits, first_past}
 use Rattle.rtcm_msg.specs.Packed.{total_width, columns}
 use Rattle.rtcm_msg.specs.Station.{station_at, station_table, station_parts}
 use Rattle.rtcm_msg.specs.Msm.{msm_at, MsmValue, week, mask_fields}
 use Rattle.rtcm_msg.specs.Reading.{message_of, body_at, start, other_at, set_at}
-use Rattle.rtcm_msg.specs.Spelling.{ReadsMessage, IsMessage, IsFault, message_bits, reserved_width, is_other, is_read, is_read_msm, number_of, set_of, layout, layout_of, has_bad_time, has_too_many}
-use Rattle.rtcm_msg.proofs.Binds.{bind_ok, ok_inj, of_read, number_took, number_short}
+use Rattle.rtcm_msg.specs.Encoding.{ReadsMessage, IsMessage, IsFault, message_bits, reserved_width, is_other, is_read, is_read_msm, number_of, set_of, layout, layout_of, has_bad_time, has_too_many}
+use Rattle.rtcm_msg.proofs.Binds.{bind_ok, ok_inj, of_read, number_consumed, number_short}
 use Rattle.rtcm_msg.proofs.Combine.{cursor, number_again, ok_err, past_here, past_next}
-use Rattle.rtcm_msg.proofs.StationLaws.{station_again, station_took, station_tail, station_widths, height_widths, station_chain, IsRead}
-use Rattle.rtcm_msg.proofs.MsmLaws.{msm_took, msm_again, msm_tail, header_tail, IsMsmRead}
-use Rattle.rtcm_msg.proofs.FieldLaws.{contents_at, fields_at, standing, field_at, ShortAt, fields_read, number_there_at, short_at_more, short_at_after, past_none}
-use Rattle.rtcm_msg.proofs.FaultLaws.{MsmEnd, no_time, late, no_masks, many, short, good, msm_end, msm_widths, pairs_of}
+use Rattle.rtcm_msg.proofs.StationLaws.{station_again, station_consumed, station_tail, station_widths, height_widths, station_chain, IsRead}
+use Rattle.rtcm_msg.proofs.MsmLaws.{msm_consumed, msm_again, msm_tail, header_tail, IsMsmRead}
+use Rattle.rtcm_msg.proofs.FieldLaws.{contents_at, fields_at, cursor_at, field_at, ShortAt, fields_read, number_there_at, short_at_more, short_at_after, past_none}
+use Rattle.rtcm_msg.proofs.FaultLaws.{MsmEnd, no_time, late, no_masks, many, short, good, msm_end, msm_widths, pair_count_of}
 use Rattle.rtcm_msg.specs.declared.message.Message.TheVariants as messages
 use Rattle.rtcm_msg.specs.Grid4 as grid4
 use Rattle.rtcm_msg.specs.Grid7 as grid7
@@ -83,7 +83,7 @@ unfolding body_at
 body_msm7 true c = refl
 body_msm7 false c = refl
 
-message_there : (bits : List Bool) → 12 ≤ length bits → message_of bits ≡ body_at (number_of bits) (standing bits 12)
+message_there : (bits : List Bool) → 12 ≤ length bits → message_of bits ≡ body_at (number_of bits) (cursor_at bits 12)
 unfolding message_of
 message_there bits h = rw (number_there_at 12 bits 0 h) refl
 
@@ -93,19 +93,19 @@ message_none bits h = rw (number_short 12 (start bits) h) refl
 
 -- ---- other messages
 
-other_set : (bits : List Bool) → 12 ≤ length bits → set_at (standing bits 12) ≡ (if nat_le 55 (length bits) then Some (field_at bits 12 12, field_at bits 54 1 == 1) else None)
+other_set : (bits : List Bool) → 12 ≤ length bits → set_at (cursor_at bits 12) ≡ (if nat_le 55 (length bits) then Some (field_at bits 12 12, field_at bits 54 1 == 1) else None)
 other_set bits h = elim (cases_lt (length bits) 55) [ inl few ↦ none bits few | inr lots ↦ some bits lots ]
   where
-    none : (bits : List Bool) → length bits < 55 → set_at (standing bits 12) ≡ (if nat_le 55 (length bits) then Some (field_at bits 12 12, field_at bits 54 1 == 1) else None)
+    none : (bits : List Bool) → length bits < 55 → set_at (cursor_at bits 12) ≡ (if nat_le 55 (length bits) then Some (field_at bits 12 12, field_at bits 54 1 == 1) else None)
     none bits few = let less : length (drop 12 bits) < 43 = omega (arith, length-drop 12 bits) in grind arith
 
-    some : (bits : List Bool) → 55 ≤ length bits → set_at (standing bits 12) ≡ (if nat_le 55 (length bits) then Some (field_at bits 12 12, field_at bits 54 1 == 1) else None)
+    some : (bits : List Bool) → 55 ≤ length bits → set_at (cursor_at bits 12) ≡ (if nat_le 55 (length bits) then Some (field_at bits 12 12, field_at bits 54 1 == 1) else None)
     some bits lots =
         let more : 43 ≤ length (drop 12 bits) = omega (arith, length-drop 12 bits) in
         let one : drop 30 (drop 12 (drop 12 bits)) ≡ drop 54 bits = ap (drop 30) (drop-drop 12 12 bits) ∙ drop-drop 30 24 bits in
         rw one (grind arith)
 
-other_is : (bits : List Bool) → 12 ≤ length bits → other_at (number_of bits) (standing bits 12) ≡ messages.Other (number_of bits) (set_of bits)
+other_is : (bits : List Bool) → 12 ≤ length bits → other_at (number_of bits) (cursor_at bits 12) ≡ messages.Other (number_of bits) (set_of bits)
 other_is bits h = rw (other_set bits h) refl
 
 -- ---- reading an encoding
@@ -116,11 +116,11 @@ unfolding message_of
 again bits n tail rest small is = rw (is, append_assoc (uint 12 n) tail rest, number_again 12 n 0 (tail ++ rest) small) refl
 
 pub message_again : (bits rest : List Bool) (v : Message) (reserved : ℕ) → IsMessage v → is_other v ≡ false → reserved < 2 ^ reserved_width v → bits ≡ message_bits v reserved ++ rest → message_of bits ≡ Ok v
-unfolding spelled
+unfolding field_bits
 message_again bits rest (messages.Station s) reserved h known small is =
     let n = station_number (is_some s.height) in
     let few : n < 2 ^ 12 = few_number (is_some s.height) in
-    again bits n (spelled (station_tail s reserved)) rest few is ∙ (body_station (is_some s.height) (cursor 12 (spelled (station_tail s reserved) ++ rest)) ∙ rw (station_again s reserved 12 rest h small) refl)
+    again bits n (field_bits (station_tail s reserved)) rest few is ∙ (body_station (is_some s.height) (cursor 12 (field_bits (station_tail s reserved) ++ rest)) ∙ rw (station_again s reserved 12 rest h small) refl)
   where
     few_number : (has : Bool) → station_number has < 2 ^ 12
     few_number true = lit< tt
@@ -128,7 +128,7 @@ message_again bits rest (messages.Station s) reserved h known small is =
 message_again bits rest (messages.Msm4 m) reserved h known small is =
     let tail = msm_tail grid4.satellite_widths grid4.cell_widths m reserved in
     let read = msm_again grid4.satellite_widths grid4.cell_widths m reserved 12 rest h small in
-    again bits (grid4.message_number m.is_galileo) tail rest (few_number m.is_galileo) (is ∙ ap (λ t. t ++ rest) (append_assoc (uint 12 (grid4.message_number m.is_galileo)) (spelled (header_tail m.header reserved)) (spelled (mask_fields m.sets) ++ (columns grid4.satellite_widths m.satellites ++ columns grid4.cell_widths m.cells))))
+    again bits (grid4.message_number m.is_galileo) tail rest (few_number m.is_galileo) (is ∙ ap (λ t. t ++ rest) (append_assoc (uint 12 (grid4.message_number m.is_galileo)) (field_bits (header_tail m.header reserved)) (field_bits (mask_fields m.sets) ++ (columns grid4.satellite_widths m.satellites ++ columns grid4.cell_widths m.cells))))
     ∙ (body_msm4 m.is_galileo (cursor 12 (tail ++ rest)) ∙ rw read.1 refl)
   where
     few_number : (g : Bool) → grid4.message_number g < 2 ^ 12
@@ -137,7 +137,7 @@ message_again bits rest (messages.Msm4 m) reserved h known small is =
 message_again bits rest (messages.Msm7 m) reserved h known small is =
     let tail = msm_tail grid7.satellite_widths grid7.cell_widths m reserved in
     let read = msm_again grid7.satellite_widths grid7.cell_widths m reserved 12 rest h small in
-    again bits (grid7.message_number m.is_galileo) tail rest (few_number m.is_galileo) (is ∙ ap (λ t. t ++ rest) (append_assoc (uint 12 (grid7.message_number m.is_galileo)) (spelled (header_tail m.header reserved)) (spelled (mask_fields m.sets) ++ (columns grid7.satellite_widths m.satellites ++ columns grid7.cell_widths m.cells))))
+    again bits (grid7.message_number m.is_galileo) tail rest (few_number m.is_galileo) (is ∙ ap (λ t. t ++ rest) (append_assoc (uint 12 (grid7.message_number m.is_galileo)) (field_bits (header_tail m.header reserved)) (field_bits (mask_fields m.sets) ++ (columns grid7.satellite_widths m.satellites ++ columns grid7.cell_widths m.cells))))
     ∙ (body_msm7 m.is_galileo (cursor 12 (tail ++ rest)) ∙ rw read.1 refl)
   where
     few_number : (g : Bool) → grid7.message_number g < 2 ^ 12
@@ -150,8 +150,8 @@ true_false b p q = cc
 
 -- Bits that begin with the encoding of a value are read as the value.
 pub read_again : (bits : List Bool) (v : Message) → ReadsMessage bits v → message_of bits ≡ Ok v
-read_again bits v (inl b) = message_again bits b.rest v b.spells.reserved b.is_value b.known b.spells.fits (b.joined ∙ ap (λ t. t ++ b.rest) b.spells.bits_are)
-read_again bits v (inr o) = message_there bits o.number_there ∙ go (number_of bits) (kind_of (number_of bits)) o.unread (standing bits 12) ∙ ap Ok (other_is bits o.number_there ∙ sym o.value)
+read_again bits v (inl b) = message_again bits b.rest v b.encodes.reserved b.is_value b.known b.encodes.fits (b.joined ∙ ap (λ t. t ++ b.rest) b.encodes.bits_are)
+read_again bits v (inr o) = message_there bits o.number_there ∙ go (number_of bits) (kind_of (number_of bits)) o.unread (cursor_at bits 12) ∙ ap Ok (other_is bits o.number_there ∙ sym o.value)
   where
     go : (n : ℕ) → Kind n → is_read n ≡ false → (c : Cursor) → body_at n c ≡ Ok (other_at n c)
     go n (station true e) un c = absurd (true_false _ (rw e refl) un)
@@ -169,55 +169,55 @@ pub record Found (bits : List Bool) (v : Message) : Type 0 where
   pub reads : ReadsMessage bits v
 
 -- The message number and the bits after it.
-in_front : (bits : List Bool) → 12 ≤ length bits → bits ≡ uint 12 (number_of bits) ++ drop 12 bits
-in_front bits h = (number_took 12 (start bits) (number_of bits, standing bits 12) (number_there_at 12 bits 0 h)).bits
+begins_with_number : (bits : List Bool) → 12 ≤ length bits → bits ≡ uint 12 (number_of bits) ++ drop 12 bits
+begins_with_number bits h = (number_consumed 12 (start bits) (number_of bits, cursor_at bits 12) (number_there_at 12 bits 0 h)).bits
 
 begins : (bits : List Bool) (v : Message) (reserved : ℕ) (rest : List Bool) → IsMessage v → is_other v ≡ false → reserved < 2 ^ reserved_width v → bits ≡ message_bits v reserved ++ rest → Found bits v
-begins bits v reserved rest h known small is = record { is_message = h; reads = inl (record { is_value = h; known = known; front = message_bits v reserved; rest = rest; joined = is; spells = record { reserved = reserved; fits = small; bits_are = refl } }) }
+begins bits v reserved rest h known small is = record { is_message = h; reads = inl (record { is_value = h; known = known; prefix = message_bits v reserved; rest = rest; joined = is; encodes = record { reserved = reserved; fits = small; bits_are = refl } }) }
 
 -- A message number and the fields after it.
 with_number : (bits : List Bool) (n : ℕ) (tail rest : List Bool) → bits ≡ uint 12 n ++ drop 12 bits → drop 12 bits ≡ tail ++ rest → bits ≡ (uint 12 n ++ tail) ++ rest
 with_number bits n tail rest e f = e ∙ (ap (λ t. uint 12 n ++ t) f ∙ sym (append_assoc (uint 12 n) tail rest))
 
-found_station : (bits : List Bool) (has : Bool) (s : StationParts) (d : Cursor) → bits ≡ uint 12 (station_number has) ++ drop 12 bits → IsRead s has (standing bits 12) d → Found bits (messages.Station s)
-unfolding spelled
-found_station bits has s d front r =
+found_station : (bits : List Bool) (has : Bool) (s : StationParts) (d : Cursor) → bits ≡ uint 12 (station_number has) ++ drop 12 bits → IsRead s has (cursor_at bits 12) d → Found bits (messages.Station s)
+unfolding field_bits
+found_station bits has s d prefix r =
     let number : station_number has ≡ station_number (is_some s.height) = ap station_number (sym r.height) in
-    begins bits (messages.Station s) r.reserved d.rest r.in_range refl r.one (with_number bits (station_number (is_some s.height)) (spelled (station_tail s r.reserved)) d.rest (front ∙ ap (λ (n : ℕ). uint 12 n ++ drop 12 bits) number) r.bits)
+    begins bits (messages.Station s) r.reserved d.rest r.in_range refl r.one (with_number bits (station_number (is_some s.height)) (field_bits (station_tail s r.reserved)) d.rest (prefix ∙ ap (λ (n : ℕ). uint 12 n ++ drop 12 bits) number) r.bits)
 
-found_msm4 : (bits : List Bool) (g : Bool) (m : MsmValue) (d : Cursor) → bits ≡ uint 12 (grid4.message_number g) ++ drop 12 bits → IsMsmRead grid4.satellite_widths grid4.cell_widths g m (standing bits 12) d → Found bits (messages.Msm4 m)
-unfolding spelled
-found_msm4 bits g m d front r =
+found_msm4 : (bits : List Bool) (g : Bool) (m : MsmValue) (d : Cursor) → bits ≡ uint 12 (grid4.message_number g) ++ drop 12 bits → IsMsmRead grid4.satellite_widths grid4.cell_widths g m (cursor_at bits 12) d → Found bits (messages.Msm4 m)
+unfolding field_bits
+found_msm4 bits g m d prefix r =
     let n = grid4.message_number m.is_galileo in
     let content = columns grid4.satellite_widths m.satellites ++ columns grid4.cell_widths m.cells in
     let number : grid4.message_number g ≡ n = ap grid4.message_number (sym r.galileo) in
-    begins bits (messages.Msm4 m) r.reserved d.rest r.is_value refl r.small (with_number bits n (msm_tail grid4.satellite_widths grid4.cell_widths m r.reserved) d.rest (front ∙ ap (λ (n : ℕ). uint 12 n ++ drop 12 bits) number) r.bits
-    ∙ ap (λ (t : List Bool). t ++ d.rest) (sym (append_assoc (uint 12 n) (spelled (header_tail m.header r.reserved)) (spelled (mask_fields m.sets) ++ content))))
+    begins bits (messages.Msm4 m) r.reserved d.rest r.is_value refl r.small (with_number bits n (msm_tail grid4.satellite_widths grid4.cell_widths m r.reserved) d.rest (prefix ∙ ap (λ (n : ℕ). uint 12 n ++ drop 12 bits) number) r.bits
+    ∙ ap (λ (t : List Bool). t ++ d.rest) (sym (append_assoc (uint 12 n) (field_bits (header_tail m.header r.reserved)) (field_bits (mask_fields m.sets) ++ content))))
 
-found_msm7 : (bits : List Bool) (g : Bool) (m : MsmValue) (d : Cursor) → bits ≡ uint 12 (grid7.message_number g) ++ drop 12 bits → IsMsmRead grid7.satellite_widths grid7.cell_widths g m (standing bits 12) d → Found bits (messages.Msm7 m)
-unfolding spelled
-found_msm7 bits g m d front r =
+found_msm7 : (bits : List Bool) (g : Bool) (m : MsmValue) (d : Cursor) → bits ≡ uint 12 (grid7.message_number g) ++ drop 12 bits → IsMsmRead grid7.satellite_widths grid7.cell_widths g m (cursor_at bits 12) d → Found bits (messages.Msm7 m)
+unfolding field_bits
+found_msm7 bits g m d prefix r =
     let n = grid7.message_number m.is_galileo in
     let content = columns grid7.satellite_widths m.satellites ++ columns grid7.cell_widths m.cells in
     let number : grid7.message_number g ≡ n = ap grid7.message_number (sym r.galileo) in
-    begins bits (messages.Msm7 m) r.reserved d.rest r.is_value refl r.small (with_number bits n (msm_tail grid7.satellite_widths grid7.cell_widths m r.reserved) d.rest (front ∙ ap (λ (n : ℕ). uint 12 n ++ drop 12 bits) number) r.bits
-    ∙ ap (λ (t : List Bool). t ++ d.rest) (sym (append_assoc (uint 12 n) (spelled (header_tail m.header r.reserved)) (spelled (mask_fields m.sets) ++ content))))
+    begins bits (messages.Msm7 m) r.reserved d.rest r.is_value refl r.small (with_number bits n (msm_tail grid7.satellite_widths grid7.cell_widths m r.reserved) d.rest (prefix ∙ ap (λ (n : ℕ). uint 12 n ++ drop 12 bits) number) r.bits
+    ∙ ap (λ (t : List Bool). t ++ d.rest) (sym (append_assoc (uint 12 n) (field_bits (header_tail m.header r.reserved)) (field_bits (mask_fields m.sets) ++ content))))
 
-body_found : (bits : List Bool) (n : ℕ) (v : Message) → 12 ≤ length bits → number_of bits ≡ n → Kind n → body_at n (standing bits 12) ≡ Ok v → Found bits v
+body_found : (bits : List Bool) (n : ℕ) (v : Message) → 12 ≤ length bits → number_of bits ≡ n → Kind n → body_at n (cursor_at bits 12) ≡ Ok v → Found bits v
 body_found bits n v h is (station has e) read =
-    let body = bind_ok (station_at has (standing bits 12)) _ v (sym (body_station has (standing bits 12)) ∙ (rw e at read)) in
+    let body = bind_ok (station_at has (cursor_at bits 12)) _ v (sym (body_station has (cursor_at bits 12)) ∙ (rw e at read)) in
     let x : Message = messages.Station body.0.0 in
-    of_read (Found bits) x v body.2 (found_station bits has body.0.0 body.0.1 (in_front bits h ∙ ap (λ (k : ℕ). uint 12 k ++ drop 12 bits) (is ∙ e)) (station_took has (standing bits 12) body.0 body.1))
+    of_read (Found bits) x v body.2 (found_station bits has body.0.0 body.0.1 (begins_with_number bits h ∙ ap (λ (k : ℕ). uint 12 k ++ drop 12 bits) (is ∙ e)) (station_consumed has (cursor_at bits 12) body.0 body.1))
 body_found bits n v h is (msm4 g e) read =
-    let body = bind_ok (msm_at grid4.satellite_widths grid4.cell_widths g (standing bits 12)) _ v (sym (body_msm4 g (standing bits 12)) ∙ (rw e at read)) in
+    let body = bind_ok (msm_at grid4.satellite_widths grid4.cell_widths g (cursor_at bits 12)) _ v (sym (body_msm4 g (cursor_at bits 12)) ∙ (rw e at read)) in
     let x : Message = messages.Msm4 body.0.0 in
-    of_read (Found bits) x v body.2 (found_msm4 bits g body.0.0 body.0.1 (in_front bits h ∙ ap (λ (k : ℕ). uint 12 k ++ drop 12 bits) (is ∙ e)) (msm_took grid4.satellite_widths grid4.cell_widths g (standing bits 12) body.0 body.1))
+    of_read (Found bits) x v body.2 (found_msm4 bits g body.0.0 body.0.1 (begins_with_number bits h ∙ ap (λ (k : ℕ). uint 12 k ++ drop 12 bits) (is ∙ e)) (msm_consumed grid4.satellite_widths grid4.cell_widths g (cursor_at bits 12) body.0 body.1))
 body_found bits n v h is (msm7 g e) read =
-    let body = bind_ok (msm_at grid7.satellite_widths grid7.cell_widths g (standing bits 12)) _ v (sym (body_msm7 g (standing bits 12)) ∙ (rw e at read)) in
+    let body = bind_ok (msm_at grid7.satellite_widths grid7.cell_widths g (cursor_at bits 12)) _ v (sym (body_msm7 g (cursor_at bits 12)) ∙ (rw e at read)) in
     let x : Message = messages.Msm7 body.0.0 in
-    of_read (Found bits) x v body.2 (found_msm7 bits g body.0.0 body.0.1 (in_front bits h ∙ ap (λ (k : ℕ). uint 12 k ++ drop 12 bits) (is ∙ e)) (msm_took grid7.satellite_widths grid7.cell_widths g (standing bits 12) body.0 body.1))
+    of_read (Found bits) x v body.2 (found_msm7 bits g body.0.0 body.0.1 (begins_with_number bits h ∙ ap (λ (k : ℕ). uint 12 k ++ drop 12 bits) (is ∙ e)) (msm_consumed grid7.satellite_widths grid7.cell_widths g (cursor_at bits 12) body.0 body.1))
 body_found bits n v h is (other unread no_msm empty body) read =
-    let value : v ≡ messages.Other (number_of bits) (set_of bits) = ok_inj v (other_at n (standing bits 12)) _ read (body (standing bits 12)) ∙ (ap (λ (k : ℕ). other_at k (standing bits 12)) (sym is) ∙ other_is bits h) in
+    let value : v ≡ messages.Other (number_of bits) (set_of bits) = ok_inj v (other_at n (cursor_at bits 12)) _ read (body (cursor_at bits 12)) ∙ (ap (λ (k : ℕ). other_at k (cursor_at bits 12)) (sym is) ∙ other_is bits h) in
     let unread' : is_read (number_of bits) ≡ false = ap is_read is ∙ unread in
     subst (Found bits) (sym value) (record { is_message = tt; reads = inr (record { number_there = h; unread = unread'; value = refl }) })
 
@@ -273,7 +273,7 @@ pub record InTime (bits : List Bool) : Type 0 where
   pub few : has_too_many bits ≡ false
 
 no_msm_in_time : (bits : List Bool) → is_read_msm (number_of bits) ≡ false → InTime bits
-no_msm_in_time bits h = record { time = and_first (is_read_msm (number_of bits)) (nat_le 54 (length bits)) (nat_le week (field_at bits 24 30)) h; few = and_first (is_read_msm (number_of bits)) (nat_le 169 (length bits)) (nat_lt 64 (pairs_of bits)) h }
+no_msm_in_time bits h = record { time = and_first (is_read_msm (number_of bits)) (nat_le 54 (length bits)) (nat_le week (field_at bits 24 30)) h; few = and_first (is_read_msm (number_of bits)) (nat_le 169 (length bits)) (nat_lt 64 (pair_count_of bits)) h }
 
 no_fault : (bits : List Bool) → 12 ≤ length bits → InTime bits → first_past (length bits) 0 (layout bits) ≡ None → (f : MsgFault) → IsFault bits f → ⊥
 no_fault bits h clean none BadTime f = not_true (has_bad_time bits) clean.time f
@@ -288,18 +288,18 @@ past_all : (bits : List Bool) (ws : List ℕ) → 12 ≤ length bits → layout 
 past_all bits ws h is none = ap (first_past (length bits) 0) is ∙ (past_next 12 ws (length bits) 0 h ∙ none)
 
 station_end : (bits : List Bool) (has : Bool) → 12 ≤ length bits
-    → ((e : MsgFault) × (station_at has (standing bits 12) ≡ Err e) × ShortAt bits 12 (station_widths ++ height_widths has) e) ⊎ ((v : StationParts × Cursor) × (station_at has (standing bits 12) ≡ Ok v) × (first_past (length bits) 12 (station_widths ++ height_widths has) ≡ None))
+    → ((e : MsgFault) × (station_at has (cursor_at bits 12) ≡ Err e) × ShortAt bits 12 (station_widths ++ height_widths has) e) ⊎ ((v : StationParts × Cursor) × (station_at has (cursor_at bits 12) ≡ Ok v) × (first_past (length bits) 12 (station_widths ++ height_widths has) ≡ None))
 station_end bits has h = elim (fields_read station_table bits 12 h) [
-  | inl few ↦ inl (few.1.0, station_chain has (standing bits 12) ∙ rw few.1.1 refl, short_at_more station_widths (height_widths has) bits 12 few.1.0 few.1.2)
+  | inl few ↦ inl (few.1.0, station_chain has (cursor_at bits 12) ∙ rw few.1.1 refl, short_at_more station_widths (height_widths has) bits 12 few.1.0 few.1.2)
   | inr there ↦ by_height has there.0 there.1
 ]
   where
-    by_height : (has : Bool) → 12 + total_width station_widths ≤ length bits → fields_at station_table (standing bits 12) ≡ Ok (contents_at station_table bits 12, standing bits (12 + total_width station_widths))
-        → ((e : MsgFault) × (station_at has (standing bits 12) ≡ Err e) × ShortAt bits 12 (station_widths ++ height_widths has) e) ⊎ ((v : StationParts × Cursor) × (station_at has (standing bits 12) ≡ Ok v) × (first_past (length bits) 12 (station_widths ++ height_widths has) ≡ None))
-    by_height false room read = inr ((station_parts (contents_at station_table bits 12) None, standing bits 152), station_chain false (standing bits 12) ∙ rw read refl, past_none (station_widths ++ []) (length bits) 12 room)
+    by_height : (has : Bool) → 12 + total_width station_widths ≤ length bits → fields_at station_table (cursor_at bits 12) ≡ Ok (contents_at station_table bits 12, cursor_at bits (12 + total_width station_widths))
+        → ((e : MsgFault) × (station_at has (cursor_at bits 12) ≡ Err e) × ShortAt bits 12 (station_widths ++ height_widths has) e) ⊎ ((v : StationParts × Cursor) × (station_at has (cursor_at bits 12) ≡ Ok v) × (first_past (length bits) 12 (station_widths ++ height_widths has) ≡ None))
+    by_height false room read = inr ((station_parts (contents_at station_table bits 12) None, cursor_at bits 152), station_chain false (cursor_at bits 12) ∙ rw read refl, past_none (station_widths ++ []) (length bits) 12 room)
     by_height true room read = elim (cases_lt (length bits) 168) [
-      | inl few ↦ inl (Short 152, station_chain true (standing bits 12) ∙ rw (read, number_short 16 (standing bits 152) (omega (arith, length-drop 152 bits))) refl, short_at_after station_widths (16 ∷ []) bits 12 (Short 152) room (record { first = 152; is = refl; past = past_here 16 [] (length bits) 152 few }))
-      | inr all ↦ inr ((station_parts (contents_at station_table bits 12) (Some (field_at bits 152 16)), standing bits 168), station_chain true (standing bits 12) ∙ rw (read, number_there_at 16 bits 152 all) refl, past_none (station_widths ++ (16 ∷ [])) (length bits) 12 all)
+      | inl few ↦ inl (Short 152, station_chain true (cursor_at bits 12) ∙ rw (read, number_short 16 (cursor_at bits 152) (omega (arith, length-drop 152 bits))) refl, short_at_after station_widths (16 ∷ []) bits 12 (Short 152) room (record { first = 152; is = refl; past = past_here 16 [] (length bits) 152 few }))
+      | inr all ↦ inr ((station_parts (contents_at station_table bits 12) (Some (field_at bits 152 16)), cursor_at bits 168), station_chain true (cursor_at bits 12) ∙ rw (read, number_there_at 16 bits 152 all) refl, past_none (station_widths ++ (16 ∷ [])) (length bits) 12 all)
     ]
 
 pub layout_station : (has : Bool) (bits : List Bool) → layout_of (station_number has) bits ≡ 12 ∷ (station_widths ++ height_widths has)
@@ -328,7 +328,7 @@ msm7_is_msm false = refl
 
 -- The result of reading a multiple signal message, for the widths of either grid.
 msm_message_end : (bits : List Bool) (sw cw : List ℕ) (g : Bool) (wrap : MsmValue → Message) → 12 ≤ length bits → is_read_msm (number_of bits) ≡ true → layout bits ≡ 12 ∷ msm_widths sw cw bits
-    → message_of bits ≡ (msm_at sw cw g (standing bits 12) >>= λ m. Ok (wrap m.0)) → MsmEnd sw cw g bits → MessageEnd bits
+    → message_of bits ≡ (msm_at sw cw g (cursor_at bits 12) >>= λ m. Ok (wrap m.0)) → MsmEnd sw cw g bits → MessageEnd bits
 msm_message_end bits sw cw g wrap h msm lay read end = go end
   where
     m : Bool
@@ -337,14 +337,14 @@ msm_message_end bits sw cw g wrap h msm lay read end = go end
     early_is : field_at bits 24 30 < week → has_bad_time bits ≡ false
     early_is early = and_third m (nat_le 54 (length bits)) (nat_le week (field_at bits 24 30)) (le_false week (field_at bits 24 30) early)
 
-    few_is : pairs_of bits ≤ 64 → has_too_many bits ≡ false
-    few_is few = and_third m (nat_le 169 (length bits)) (nat_lt 64 (pairs_of bits)) (lt_false 64 (pairs_of bits) few)
+    few_is : pair_count_of bits ≤ 64 → has_too_many bits ≡ false
+    few_is few = and_third m (nat_le 169 (length bits)) (nat_lt 64 (pair_count_of bits)) (lt_false 64 (pair_count_of bits) few)
 
     go : MsmEnd sw cw g bits → MessageEnd bits
-    go (no_time e few s is) = faulty e (short_fault bits (msm_widths sw cw bits) e h (record { time = and_second m (nat_le 54 (length bits)) (nat_le week (field_at bits 24 30)) (le_false 54 (length bits) few); few = and_second m (nat_le 169 (length bits)) (nat_lt 64 (pairs_of bits)) (le_false 169 (length bits) (omega (arith, few))) }) lay s) (read ∙ rw is refl)
+    go (no_time e few s is) = faulty e (short_fault bits (msm_widths sw cw bits) e h (record { time = and_second m (nat_le 54 (length bits)) (nat_le week (field_at bits 24 30)) (le_false 54 (length bits) few); few = and_second m (nat_le 169 (length bits)) (nat_lt 64 (pair_count_of bits)) (le_false 169 (length bits) (omega (arith, few))) }) lay s) (read ∙ rw is refl)
     go (late there over is) = faulty BadTime (and_all m (nat_le 54 (length bits)) (nat_le week (field_at bits 24 30)) msm (le_true 54 (length bits) there) (le_true week (field_at bits 24 30) over)) (read ∙ rw is refl)
-    go (no_masks e early few s is) = faulty e (short_fault bits (msm_widths sw cw bits) e h (record { time = early_is early; few = and_second m (nat_le 169 (length bits)) (nat_lt 64 (pairs_of bits)) (le_false 169 (length bits) few) }) lay s) (read ∙ rw is refl)
-    go (many early there over is) = faulty TooManyCells (early_is early, and_all m (nat_le 169 (length bits)) (nat_lt 64 (pairs_of bits)) msm (le_true 169 (length bits) there) (lt_true 64 (pairs_of bits) over)) (read ∙ rw is refl)
+    go (no_masks e early few s is) = faulty e (short_fault bits (msm_widths sw cw bits) e h (record { time = early_is early; few = and_second m (nat_le 169 (length bits)) (nat_lt 64 (pair_count_of bits)) (le_false 169 (length bits) few) }) lay s) (read ∙ rw is refl)
+    go (many early there over is) = faulty TooManyCells (early_is early, and_all m (nat_le 169 (length bits)) (nat_lt 64 (pair_count_of bits)) msm (le_true 169 (length bits) there) (lt_true 64 (pair_count_of bits) over)) (read ∙ rw is refl)
     go (short e early few s is) = faulty e (short_fault bits (msm_widths sw cw bits) e h (record { time = early_is early; few = few_is few }) lay s) (read ∙ rw is refl)
     go (good v early few none is) = sound (wrap v.0) (no_fault bits h (record { time = early_is early; few = few_is few }) (past_all bits (msm_widths sw cw bits) h lay none)) (read ∙ rw is refl)
 
@@ -353,7 +353,7 @@ unfolding first_past
 message_end bits = elim (cases_lt (length bits) 12) [
   | inl few ↦ faulty (Short 0) (
     and_second (is_read_msm (number_of bits)) (nat_le 54 (length bits)) (nat_le week (field_at bits 24 30)) (le_false 54 (length bits) (omega (arith, few))),
-    and_second (is_read_msm (number_of bits)) (nat_le 169 (length bits)) (nat_lt 64 (pairs_of bits)) (le_false 169 (length bits) (omega (arith, few))),
+    and_second (is_read_msm (number_of bits)) (nat_le 169 (length bits)) (nat_lt 64 (pair_count_of bits)) (le_false 169 (length bits) (omega (arith, few))),
     inl (few, refl),
   ) (message_none bits few)
   | inr there ↦ go (number_of bits) refl there (kind_of (number_of bits))
@@ -363,17 +363,17 @@ message_end bits = elim (cases_lt (length bits) 12) [
     go n is h (station has e) =
         let lay : layout bits ≡ 12 ∷ (station_widths ++ height_widths has) = ap (λ (k : ℕ). layout_of k bits) (is ∙ e) ∙ layout_station has bits in
         let clean = no_msm_in_time bits (ap is_read_msm (is ∙ e) ∙ station_no_msm has) in
-        let read : message_of bits ≡ (station_at has (standing bits 12) >>= λ s. Ok (messages.Station s.0)) = message_there bits h ∙ (ap (λ (k : ℕ). body_at k (standing bits 12)) (is ∙ e) ∙ body_station has (standing bits 12)) in
+        let read : message_of bits ≡ (station_at has (cursor_at bits 12) >>= λ s. Ok (messages.Station s.0)) = message_there bits h ∙ (ap (λ (k : ℕ). body_at k (cursor_at bits 12)) (is ∙ e) ∙ body_station has (cursor_at bits 12)) in
         elim (station_end bits has h) [
           | inl bad ↦ faulty bad.0 (short_fault bits (station_widths ++ height_widths has) bad.0 h clean lay bad.2) (read ∙ rw bad.1 refl)
           | inr fine ↦ sound (messages.Station fine.0.0) (no_fault bits h clean (past_all bits (station_widths ++ height_widths has) h lay fine.2)) (read ∙ rw fine.1 refl)
         ]
     go n is h (msm4 g e) = msm_message_end bits grid4.satellite_widths grid4.cell_widths g messages.Msm4 h (ap is_read_msm (is ∙ e) ∙ msm4_is_msm g) (ap (λ (k : ℕ). layout_of k bits) (is ∙ e) ∙ layout_msm4 g bits)
-        (message_there bits h ∙ (ap (λ (k : ℕ). body_at k (standing bits 12)) (is ∙ e) ∙ body_msm4 g (standing bits 12))) (msm_end grid4.satellite_widths grid4.cell_widths g bits h)
+        (message_there bits h ∙ (ap (λ (k : ℕ). body_at k (cursor_at bits 12)) (is ∙ e) ∙ body_msm4 g (cursor_at bits 12))) (msm_end grid4.satellite_widths grid4.cell_widths g bits h)
     go n is h (msm7 g e) = msm_message_end bits grid7.satellite_widths grid7.cell_widths g messages.Msm7 h (ap is_read_msm (is ∙ e) ∙ msm7_is_msm g) (ap (λ (k : ℕ). layout_of k bits) (is ∙ e) ∙ layout_msm7 g bits)
-        (message_there bits h ∙ (ap (λ (k : ℕ). body_at k (standing bits 12)) (is ∙ e) ∙ body_msm7 g (standing bits 12))) (msm_end grid7.satellite_widths grid7.cell_widths g bits h)
-    go n is h (other unread no_msm empty body) = sound (other_at n (standing bits 12)) (no_fault bits h (no_msm_in_time bits (ap is_read_msm is ∙ no_msm)) (ap (first_past (length bits) 0) (ap (λ (k : ℕ). layout_of k bits) is ∙ empty bits)))
-        (message_there bits h ∙ (ap (λ (k : ℕ). body_at k (standing bits 12)) is ∙ body (standing bits 12)))
+        (message_there bits h ∙ (ap (λ (k : ℕ). body_at k (cursor_at bits 12)) (is ∙ e) ∙ body_msm7 g (cursor_at bits 12))) (msm_end grid7.satellite_widths grid7.cell_widths g bits h)
+    go n is h (other unread no_msm empty body) = sound (other_at n (cursor_at bits 12)) (no_fault bits h (no_msm_in_time bits (ap is_read_msm is ∙ no_msm)) (ap (first_past (length bits) 0) (ap (λ (k : ℕ). layout_of k bits) is ∙ empty bits)))
+        (message_there bits h ∙ (ap (λ (k : ℕ). body_at k (cursor_at bits 12)) is ∙ body (cursor_at bits 12)))
 
 pub message_fault : (bits : List Bool) (e : MsgFault) → message_of bits ≡ Err e → IsFault bits e
 message_fault bits e read = go (message_end bits)
@@ -406,13 +406,13 @@ pub message_only_fault : (bits : List Bool) (f : MsgFault) → IsFault bits f �
 message_only_fault bits f fault = go (message_end bits)
   where
     go : MessageEnd bits → message_of bits ≡ Err f
-    go (faulty d stands is) = is ∙ ap Err (fault_one bits d f stands fault)
+    go (faulty d at_masks is) = is ∙ ap Err (fault_one bits d f at_masks fault)
     go (sound v none is) = absurd (none f fault)
 
 -- ---- the encoding
 
 pub zero_read : (v : Message) → IsMessage v → is_other v ≡ false → ReadsMessage (filled (message_bits v 0)) v
-zero_read v value known = inl (record { is_value = value; known = known; front = message_bits v 0; rest = replicate (missing (length (message_bits v 0))) false; joined = refl; spells = record { reserved = 0; fits = zero_fits v; bits_are = refl } })
+zero_read v value known = inl (record { is_value = value; known = known; prefix = message_bits v 0; rest = replicate (missing (length (message_bits v 0))) false; joined = refl; encodes = record { reserved = 0; fits = zero_fits v; bits_are = refl } })
   where
     zero_fits : (v : Message) → 0 < 2 ^ reserved_width v
     zero_fits v = pow_pos (reserved_width v)

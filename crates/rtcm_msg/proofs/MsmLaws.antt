@@ -7,17 +7,17 @@ use Rattle.rtcm_bits.specs.Reading.{Cursor}
 use Rattle.rtcm_msg.specs.declared.fault.MsgFault.{MsgFault}
 use Rattle.rtcm_msg.specs.declared.fault.MsgFault.TheVariants.{BadTime, TooManyCells}
 use Rattle.rtcm_msg.specs.declared.header.MsmHeader.{MsmHeader}
-use Rattle.rtcm_msg.specs.Fields.{number_at, reading, ◌>>=◌, spelled}
+use Rattle.rtcm_msg.specs.Fields.{number_at, reading, ◌>>=◌, field_bits}
 use Rattle.rtcm_msg.specs.Packed.{total_width, columns}
 use Rattle.rtcm_msg.specs.Columns.{columns_at, EachBelow}
-use Rattle.rtcm_msg.specs.Msm.{masks_after, header_at, masks_at, msm_at, timely, week, IsHeader, AreMasks, IsValue, MasksValue, MsmValue, pairs, mask_fields, time_table, header_table, mask_table, time_contents, header_contents, header_of}
-use Rattle.rtcm_msg.proofs.Binds.{of_read, bind_ok, number_took}
+use Rattle.rtcm_msg.specs.Msm.{masks_after, header_at, masks_at, msm_at, checked_time, week, IsHeader, AreMasks, IsValue, MasksValue, MsmValue, pair_count, mask_fields, time_table, header_table, mask_table, time_contents, header_contents, header_of}
+use Rattle.rtcm_msg.proofs.Binds.{of_read, bind_ok, number_consumed}
 use Rattle.rtcm_msg.proofs.Combine.{ok_err, cursor, number_again}
-use Rattle.rtcm_msg.proofs.WritingSteps.{spelled-append}
-use Rattle.rtcm_msg.proofs.FieldLaws.{fields_at, reading_is, fields_ok, fields_again, FieldsTook}
+use Rattle.rtcm_msg.proofs.WritingSteps.{field_bits-append}
+use Rattle.rtcm_msg.proofs.FieldLaws.{fields_at, reading_is, fields_ok, fields_again, FieldsConsumed}
 use Rattle.rtcm_msg.specs.Layout.{widths, Contents, fields_of}
 use Rattle.rtcm_msg.proofs.ColumnSteps.{columns_fit}
-use Rattle.rtcm_msg.proofs.ColumnLaws.{ColumnsTook, columns_took, columns_again, highs_zero}
+use Rattle.rtcm_msg.proofs.ColumnLaws.{ColumnsConsumed, columns_consumed, columns_again, highs_zero}
 
 -- ---- the parts
 
@@ -41,20 +41,20 @@ header_rest station time c = reading header_table c (λ m. Ok (header_of station
 pub header_rest_is : (station time : ℕ) (c : Cursor) → header_rest station time c ≡ (fields_at header_table c >>= λ m. Ok (header_of station time m.0, m.1))
 header_rest_is station time c = reading_is header_table c (λ m. Ok (header_of station time m.0, m.1))
 
-pub header_chain : (c : Cursor) → header_at c ≡ (fields_at time_table c >>= λ n. timely n.0.1.0 n.1 >>= λ t. header_rest n.0.0 t.0 t.1)
+pub header_chain : (c : Cursor) → header_at c ≡ (fields_at time_table c >>= λ n. checked_time n.0.1.0 n.1 >>= λ t. header_rest n.0.0 t.0 t.1)
 unfolding header_at
-header_chain c = reading_is time_table c (λ n. timely n.0.1.0 n.1 >>= λ t. header_rest n.0.0 t.0 t.1)
+header_chain c = reading_is time_table c (λ n. checked_time n.0.1.0 n.1 >>= λ t. header_rest n.0.0 t.0 t.1)
 
 -- Two sequences of fields, one after the other.
-pub both : (fs gs : List (ℕ × ℕ)) (a b d : List Bool) → a ≡ spelled fs ++ b → b ≡ spelled gs ++ d → a ≡ spelled (fs ++ gs) ++ d
-both fs gs a b d e f = e ∙ (ap (λ t. spelled fs ++ t) f ∙ (sym (append_assoc (spelled fs) (spelled gs) d) ∙ ap (λ t. t ++ d) (sym (spelled-append fs gs))))
+pub both : (fs gs : List (ℕ × ℕ)) (a b d : List Bool) → a ≡ field_bits fs ++ b → b ≡ field_bits gs ++ d → a ≡ field_bits (fs ++ gs) ++ d
+both fs gs a b d e f = e ∙ (ap (λ t. field_bits fs ++ t) f ∙ (sym (append_assoc (field_bits fs) (field_bits gs) d) ∙ ap (λ t. t ++ d) (sym (field_bits-append fs gs))))
 
 -- ---- times
 
-pub in_time : (t : ℕ) (c : Cursor) → t < week → timely t c ≡ Ok (t, c)
+pub in_time : (t : ℕ) (c : Cursor) → t < week → checked_time t c ≡ Ok (t, c)
 in_time t c h = grind arith
 
-pub too_late : (t : ℕ) (c : Cursor) → week ≤ t → timely t c ≡ Err BadTime
+pub too_late : (t : ℕ) (c : Cursor) → week ≤ t → checked_time t c ≡ Err BadTime
 too_late t c h = grind arith
 
 -- ---- headers
@@ -63,9 +63,9 @@ pub record IsHeaderRead (v : MsmHeader) (c d : Cursor) : Type 0 where
   pub reserved : ℕ
   pub small : reserved < 128
   pub is_header : IsHeader v
-  pub bits : c.rest ≡ spelled (header_tail v reserved) ++ d.rest
+  pub bits : c.rest ≡ field_bits (header_tail v reserved) ++ d.rest
 
-header_done : (c : Cursor) (n : Contents time_table × Cursor) (m : Contents header_table × Cursor) → FieldsTook time_table c n → n.0.1.0 < week → FieldsTook header_table n.1 m → IsHeaderRead (header_of n.0.0 n.0.1.0 m.0) c m.1
+header_done : (c : Cursor) (n : Contents time_table × Cursor) (m : Contents header_table × Cursor) → FieldsConsumed time_table c n → n.0.1.0 < week → FieldsConsumed header_table n.1 m → IsHeaderRead (header_of n.0.0 n.0.1.0 m.0) c m.1
 header_done c n m a early b = record {
   reserved = m.0.1.1.0;
   small = b.fit.1.1.0;
@@ -73,27 +73,27 @@ header_done c n m a early b = record {
   bits = both (fields_of time_table n.0) (fields_of header_table m.0) _ _ _ a.bits b.bits;
 }
 
-pub header_took : (c : Cursor) (v : MsmHeader × Cursor) → header_at c ≡ Ok v → IsHeaderRead v.0 c v.1
-header_took c v e =
+pub header_consumed : (c : Cursor) (v : MsmHeader × Cursor) → header_at c ≡ Ok v → IsHeaderRead v.0 c v.1
+header_consumed c v e =
     let head = bind_ok (fields_at time_table c) _ v (sym (header_chain c) ∙ e) in
-    let took = fields_ok time_table c head.0 refl head.1 in
+    let consumed = fields_ok time_table c head.0 refl head.1 in
     elim (cases_lt head.0.0.1.0 week) [
       | inl early ↦
           let tail = bind_ok (fields_at header_table head.0.1) _ v (sym (header_rest_is head.0.0.0 head.0.0.1.0 head.0.1) ∙ (rw (in_time head.0.0.1.0 head.0.1 early) at head.2)) in
           let x : MsmHeader × Cursor = (header_of head.0.0.0 head.0.0.1.0 tail.0.0, tail.0.1) in
-          of_read (λ (w : MsmHeader × Cursor). IsHeaderRead w.0 c w.1) x v tail.2 (header_done c head.0 tail.0 took early (fields_ok header_table head.0.1 tail.0 refl tail.1))
+          of_read (λ (w : MsmHeader × Cursor). IsHeaderRead w.0 c w.1) x v tail.2 (header_done c head.0 tail.0 consumed early (fields_ok header_table head.0.1 tail.0 refl tail.1))
       | inr late ↦ absurd (ok_err v BadTime _ head.2 (rw (too_late head.0.0.1.0 head.0.1 late) refl))
     ]
 
-pub header_again : (v : MsmHeader) (reserved place : ℕ) (rest : List Bool) → IsHeader v → reserved < 128 → header_at (cursor place (spelled (header_tail v reserved) ++ rest)) ≡ Ok (v, cursor (place + 42 + 19) rest)
+pub header_again : (v : MsmHeader) (reserved place : ℕ) (rest : List Bool) → IsHeader v → reserved < 128 → header_at (cursor place (field_bits (header_tail v reserved) ++ rest)) ≡ Ok (v, cursor (place + 42 + 19) rest)
 header_again v reserved place rest h small =
     let n = time_contents v in
     let m = header_contents v reserved in
-    let c = cursor place (spelled (header_tail v reserved) ++ rest) in
-    let split : c ≡ cursor place (spelled (fields_of time_table n) ++ (spelled (fields_of header_table m) ++ rest)) = ap (cursor place) (ap (λ t. t ++ rest) (spelled-append (fields_of time_table n) (fields_of header_table m)) ∙ append_assoc (spelled (fields_of time_table n)) (spelled (fields_of header_table m)) rest) in
-    let first = fields_again time_table n place (spelled (fields_of header_table m) ++ rest) refl (h.station, (early v.time h.time, tt)) in
+    let c = cursor place (field_bits (header_tail v reserved) ++ rest) in
+    let split : c ≡ cursor place (field_bits (fields_of time_table n) ++ (field_bits (fields_of header_table m) ++ rest)) = ap (cursor place) (ap (λ t. t ++ rest) (field_bits-append (fields_of time_table n) (fields_of header_table m)) ∙ append_assoc (field_bits (fields_of time_table n)) (field_bits (fields_of header_table m)) rest) in
+    let first = fields_again time_table n place (field_bits (fields_of header_table m) ++ rest) refl (h.station, (early v.time h.time, tt)) in
     let second = fields_again header_table m (place + 42) rest refl (tt, (h.iods, (small, (h.steering, (h.clock, (tt, (h.interval, tt))))))) in
-    header_chain c ∙ rw (split, first, in_time v.time (cursor (place + 42) (spelled (fields_of header_table m) ++ rest)) h.time, header_rest_is v.station v.time (cursor (place + 42) (spelled (fields_of header_table m) ++ rest)), second) refl
+    header_chain c ∙ rw (split, first, in_time v.time (cursor (place + 42) (field_bits (fields_of header_table m) ++ rest)) h.time, header_rest_is v.station v.time (cursor (place + 42) (field_bits (fields_of header_table m) ++ rest)), second) refl
   where
     early : (t : ℕ) → t < week → t < 2 ^ 30
     early t h = omega (arith, h)
@@ -104,55 +104,55 @@ pub sets_chain : (c : Cursor) → masks_at c ≡ (fields_at mask_table c >>= λ 
 unfolding masks_at
 sets_chain c = reading_is mask_table c (λ n. masks_after n.0.0 n.0.1.0 n.1)
 
-pub few_rest : (satellites signals : ℕ) (c : Cursor) → pairs satellites signals ≤ 64 → masks_after satellites signals c ≡ (number_at (pairs satellites signals) c >>= λ cells. Ok (record { satellites = satellites; signals = signals; cells = cells.0 }, cells.1))
+pub few_rest : (satellites signals : ℕ) (c : Cursor) → pair_count satellites signals ≤ 64 → masks_after satellites signals c ≡ (number_at (pair_count satellites signals) c >>= λ cells. Ok (record { satellites = satellites; signals = signals; cells = cells.0 }, cells.1))
 few_rest a b c h = grind arith
 
-pub many_rest : (satellites signals : ℕ) (c : Cursor) → 64 < pairs satellites signals → masks_after satellites signals c ≡ Err TooManyCells
+pub many_rest : (satellites signals : ℕ) (c : Cursor) → 64 < pair_count satellites signals → masks_after satellites signals c ≡ Err TooManyCells
 many_rest a b c h = grind arith
 
 pub record AreSetsRead (v : MasksValue) (c d : Cursor) : Type 0 where
   pub are_sets : AreMasks v
-  pub bits : c.rest ≡ spelled (mask_fields v) ++ d.rest
+  pub bits : c.rest ≡ field_bits (mask_fields v) ++ d.rest
 
 -- One field is a list of one.
 alone : (bits all rest : List Bool) → all ≡ bits ++ rest → all ≡ (bits ++ []) ++ rest
 alone bits all rest e = e ∙ sym (append_assoc bits [] rest)
 
-pub sets_took : (c : Cursor) (v : MasksValue × Cursor) → masks_at c ≡ Ok v → AreSetsRead v.0 c v.1
-unfolding spelled
-sets_took c v e =
+pub sets_consumed : (c : Cursor) (v : MasksValue × Cursor) → masks_at c ≡ Ok v → AreSetsRead v.0 c v.1
+unfolding field_bits
+sets_consumed c v e =
     let masks = bind_ok (fields_at mask_table c) _ v (sym (sets_chain c) ∙ e) in
-    let took = fields_ok mask_table c masks.0 refl masks.1 in
+    let consumed = fields_ok mask_table c masks.0 refl masks.1 in
     let a = masks.0.0.0 in
     let b = masks.0.0.1.0 in
-    elim (cases_lt 64 (pairs a b)) [
+    elim (cases_lt 64 (pair_count a b)) [
       | inl many ↦ absurd (ok_err v TooManyCells _ masks.2 (many_rest a b masks.0.1 many))
       | inr few ↦
-          let cells = bind_ok (number_at (pairs a b) masks.0.1) _ v (sym (few_rest a b masks.0.1 few) ∙ masks.2) in
-          let read = number_took (pairs a b) masks.0.1 cells.0 cells.1 in
+          let cells = bind_ok (number_at (pair_count a b) masks.0.1) _ v (sym (few_rest a b masks.0.1 few) ∙ masks.2) in
+          let read = number_consumed (pair_count a b) masks.0.1 cells.0 cells.1 in
           let x : MasksValue × Cursor = (record { satellites = a; signals = b; cells = cells.0.0 }, cells.0.1) in
           of_read (λ (w : MasksValue × Cursor). AreSetsRead w.0 c w.1) x v cells.2 (record {
-            are_sets = record { satellites = took.fit.0; signals = took.fit.1.0; few = few; cells = read.fits };
-            bits = both (fields_of mask_table masks.0.0) ((pairs a b, cells.0.0) ∷ []) _ _ _ took.bits (alone (uint (pairs a b) cells.0.0) masks.0.1.rest cells.0.1.rest read.bits);
+            are_sets = record { satellites = consumed.fit.0; signals = consumed.fit.1.0; few = few; cells = read.fits };
+            bits = both (fields_of mask_table masks.0.0) ((pair_count a b, cells.0.0) ∷ []) _ _ _ consumed.bits (alone (uint (pair_count a b) cells.0.0) masks.0.1.rest cells.0.1.rest read.bits);
           })
     ]
 
-pub sets_again : (v : MasksValue) (place : ℕ) (rest : List Bool) → AreMasks v → masks_at (cursor place (spelled (mask_fields v) ++ rest)) ≡ Ok (v, cursor (place + 96 + pairs v.satellites v.signals) rest)
-unfolding spelled
+pub sets_again : (v : MasksValue) (place : ℕ) (rest : List Bool) → AreMasks v → masks_at (cursor place (field_bits (mask_fields v) ++ rest)) ≡ Ok (v, cursor (place + 96 + pair_count v.satellites v.signals) rest)
+unfolding field_bits
 sets_again v place rest h =
     let n : Contents mask_table = (v.satellites, (v.signals, tt)) in
-    let p = pairs v.satellites v.signals in
-    let c = cursor place (spelled (mask_fields v) ++ rest) in
-    let split : c ≡ cursor place (spelled (fields_of mask_table n) ++ (spelled ((p, v.cells) ∷ []) ++ rest)) = ap (cursor place) (ap (λ t. t ++ rest) (spelled-append (fields_of mask_table n) ((p, v.cells) ∷ [])) ∙ append_assoc (spelled (fields_of mask_table n)) (spelled ((p, v.cells) ∷ [])) rest) in
-    let first = fields_again mask_table n place (spelled ((p, v.cells) ∷ []) ++ rest) refl (h.satellites, (h.signals, tt)) in
+    let p = pair_count v.satellites v.signals in
+    let c = cursor place (field_bits (mask_fields v) ++ rest) in
+    let split : c ≡ cursor place (field_bits (fields_of mask_table n) ++ (field_bits ((p, v.cells) ∷ []) ++ rest)) = ap (cursor place) (ap (λ t. t ++ rest) (field_bits-append (fields_of mask_table n) ((p, v.cells) ∷ [])) ∙ append_assoc (field_bits (fields_of mask_table n)) (field_bits ((p, v.cells) ∷ [])) rest) in
+    let first = fields_again mask_table n place (field_bits ((p, v.cells) ∷ []) ++ rest) refl (h.satellites, (h.signals, tt)) in
     let second = number_again p v.cells (place + 96) rest h.cells in
-    sets_chain c ∙ rw (split, first, few_rest v.satellites v.signals (cursor (place + 96) (spelled ((p, v.cells) ∷ []) ++ rest)) h.few, append_assoc (uint p v.cells) [] rest, second) refl
+    sets_chain c ∙ rw (split, first, few_rest v.satellites v.signals (cursor (place + 96) (field_bits ((p, v.cells) ∷ []) ++ rest)) h.few, append_assoc (uint p v.cells) [] rest, second) refl
 
 -- ---- the whole message
 
 -- The bits after the message number.
 abbrev pub msm_tail : List ℕ → List ℕ → MsmValue → ℕ → List Bool
-msm_tail sw cw v reserved = spelled (header_tail v.header reserved) ++ (spelled (mask_fields v.sets) ++ (columns sw v.satellites ++ columns cw v.cells))
+msm_tail sw cw v reserved = field_bits (header_tail v.header reserved) ++ (field_bits (mask_fields v.sets) ++ (columns sw v.satellites ++ columns cw v.cells))
 
 pub record IsMsmRead (sw cw : List ℕ) (g : Bool) (v : MsmValue) (c d : Cursor) : Type 0 where
   pub reserved : ℕ
@@ -162,15 +162,15 @@ pub record IsMsmRead (sw cw : List ℕ) (g : Bool) (v : MsmValue) (c d : Cursor)
   pub bits : c.rest ≡ msm_tail sw cw v reserved ++ d.rest
 
 -- The number of numbers read from columns is the one requested.
-columns_count : (ws : List ℕ) (n : ℕ) (c : Cursor) (x : List ℕ × Cursor) → ColumnsTook ws (replicate n 0) c x → length x.0 ≡ n
+columns_count : (ws : List ℕ) (n : ℕ) (c : Cursor) (x : List ℕ × Cursor) → ColumnsConsumed ws (replicate n 0) c x → length x.0 ≡ n
 columns_count ws n c x t = sym (length-map x.0 (λ k. k / 2 ^ total_width ws)) ∙ (ap length t.high ∙ length-replicate n 0)
 
 msm_done : (sw cw : List ℕ) (g : Bool) (c : Cursor) (h : MsmHeader × Cursor) (s : MasksValue × Cursor) (x y : List ℕ × Cursor) → IsHeaderRead h.0 c h.1 → AreSetsRead s.0 h.1 s.1
     → columns_at sw (replicate (count_ones s.0.satellites) 0) s.1 ≡ Ok x → columns_at cw (replicate (count_ones s.0.cells) 0) x.1 ≡ Ok y
     → IsMsmRead sw cw g (record { is_galileo = g; header = h.0; sets = s.0; satellites = x.0; cells = y.0 }) c y.1
 msm_done sw cw g c h s x y a b e f =
-    let xs = columns_took sw (replicate (count_ones s.0.satellites) 0) s.1 x e in
-    let ys = columns_took cw (replicate (count_ones s.0.cells) 0) x.1 y f in
+    let xs = columns_consumed sw (replicate (count_ones s.0.satellites) 0) s.1 x e in
+    let ys = columns_consumed cw (replicate (count_ones s.0.cells) 0) x.1 y f in
     record {
       reserved = a.reserved;
       small = a.small;
@@ -183,7 +183,7 @@ msm_done sw cw g c h s x y a b e f =
         satellites = columns_fit sw (count_ones s.0.satellites) s.1 x e;
         cells = columns_fit cw (count_ones s.0.cells) x.1 y f;
       };
-      bits = join4 (spelled (header_tail h.0 a.reserved)) (spelled (mask_fields s.0)) (columns sw x.0) (columns cw y.0) _ _ _ _ _ a.bits b.bits xs.bits ys.bits;
+      bits = join4 (field_bits (header_tail h.0 a.reserved)) (field_bits (mask_fields s.0)) (columns sw x.0) (columns cw y.0) _ _ _ _ _ a.bits b.bits xs.bits ys.bits;
     }
   where
     join4 : (p q r t a b c d e : List Bool) → a ≡ p ++ b → b ≡ q ++ c → c ≡ r ++ d → d ≡ t ++ e → a ≡ (p ++ (q ++ (r ++ t))) ++ e
@@ -193,30 +193,30 @@ msm_done sw cw g c h s x y a b e f =
 columns_same : (ws ns : List ℕ) (count place : ℕ) (rest : List Bool) → length ns ≡ count → EachBelow (total_width ws) ns → columns_at ws (replicate count 0) (cursor place (columns ws ns ++ rest)) ≡ Ok (ns, cursor (place + total_width ws * length ns) rest)
 columns_same ws ns count place rest len below = rw (← len, ← highs_zero (total_width ws) ns below) (columns_again ws ns place rest)
 
-pub msm_took : (sw cw : List ℕ) (g : Bool) (c : Cursor) (v : MsmValue × Cursor) → msm_at sw cw g c ≡ Ok v → IsMsmRead sw cw g v.0 c v.1
+pub msm_consumed : (sw cw : List ℕ) (g : Bool) (c : Cursor) (v : MsmValue × Cursor) → msm_at sw cw g c ≡ Ok v → IsMsmRead sw cw g v.0 c v.1
 unfolding msm_at
-msm_took sw cw g c v e =
+msm_consumed sw cw g c v e =
     let header = bind_ok (header_at c) _ v e in
     let sets = bind_ok (masks_at header.0.1) _ v header.2 in
     let satellites = bind_ok (columns_at sw (replicate (count_ones sets.0.0.satellites) 0) sets.0.1) _ v sets.2 in
     let cells = bind_ok (columns_at cw (replicate (count_ones sets.0.0.cells) 0) satellites.0.1) _ v satellites.2 in
     let x : MsmValue × Cursor = (record { is_galileo = g; header = header.0.0; sets = sets.0.0; satellites = satellites.0.0; cells = cells.0.0 }, cells.0.1) in
     of_read (λ (w : MsmValue × Cursor). IsMsmRead sw cw g w.0 c w.1) x v cells.2
-    (msm_done sw cw g c header.0 sets.0 satellites.0 cells.0 (header_took c header.0 header.1) (sets_took header.0.1 sets.0 sets.1) satellites.1 cells.1)
+    (msm_done sw cw g c header.0 sets.0 satellites.0 cells.0 (header_consumed c header.0 header.1) (sets_consumed header.0.1 sets.0 sets.1) satellites.1 cells.1)
 
 pub msm_again : (sw cw : List ℕ) (v : MsmValue) (reserved place : ℕ) (rest : List Bool) → IsValue sw cw v → reserved < 128 → (d : Cursor) × (msm_at sw cw v.is_galileo (cursor place (msm_tail sw cw v reserved ++ rest)) ≡ Ok (v, d))
 unfolding msm_at
 msm_again sw cw v reserved place rest h small =
-    let p = pairs v.sets.satellites v.sets.signals in
+    let p = pair_count v.sets.satellites v.sets.signals in
     let here = place + 42 + 19 in
     let there = here + 96 + p in
     let last = columns cw v.cells ++ rest in
     let mid = columns sw v.satellites ++ last in
-    let sets = spelled (mask_fields v.sets) ++ mid in
-    let split : msm_tail sw cw v reserved ++ rest ≡ spelled (header_tail v.header reserved) ++ sets =
-    append_assoc (spelled (header_tail v.header reserved)) (spelled (mask_fields v.sets) ++ (columns sw v.satellites ++ columns cw v.cells)) rest
-    ∙ ap (λ t. spelled (header_tail v.header reserved) ++ t) (append_assoc (spelled (mask_fields v.sets)) (columns sw v.satellites ++ columns cw v.cells) rest
-    ∙ ap (λ t. spelled (mask_fields v.sets) ++ t) (append_assoc (columns sw v.satellites) (columns cw v.cells) rest)) in
+    let sets = field_bits (mask_fields v.sets) ++ mid in
+    let split : msm_tail sw cw v reserved ++ rest ≡ field_bits (header_tail v.header reserved) ++ sets =
+    append_assoc (field_bits (header_tail v.header reserved)) (field_bits (mask_fields v.sets) ++ (columns sw v.satellites ++ columns cw v.cells)) rest
+    ∙ ap (λ t. field_bits (header_tail v.header reserved) ++ t) (append_assoc (field_bits (mask_fields v.sets)) (columns sw v.satellites ++ columns cw v.cells) rest
+    ∙ ap (λ t. field_bits (mask_fields v.sets) ++ t) (append_assoc (columns sw v.satellites) (columns cw v.cells) rest)) in
     let first = header_again v.header reserved place sets h.header small in
     let second = sets_again v.sets here mid h.sets in
     let third = columns_same sw v.satellites (count_ones v.sets.satellites) there last h.satellite_count h.satellites in

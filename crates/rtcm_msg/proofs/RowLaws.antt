@@ -7,7 +7,7 @@ use Rattle.std.proofs.lemmas.List.{length-replicate, length-drop, get_or-replica
 use Rattle.rtcm_bits.specs.Reading.{Cursor}
 use Rattle.rtcm_msg.specs.declared.fault.MsgFault.{MsgFault}
 use Rattle.rtcm_msg.specs.declared.fault.MsgFault.TheVariants.{Short}
-use Rattle.rtcm_msg.specs.Fields.{standing, field_at}
+use Rattle.rtcm_msg.specs.Fields.{cursor_at, field_at}
 use Rattle.rtcm_msg.specs.Packed.{total_width}
 use Rattle.rtcm_msg.specs.Columns.{column_at, columns_at}
 use Rattle.rtcm_msg.specs.Rows.{numbers_in, rows_at, end_of_rows, row_at}
@@ -34,7 +34,7 @@ end_over k ws n len p h = rw (h, drop-length ws) refl
 one_more : (place n w : ℕ) → place + w + n * w ≡ place + suc n * w
 one_more place n w = omega arith
 
-column_short : (w : ℕ) (ps : List ℕ) (bits : List Bool) (place : ℕ) → place ≤ length bits → length bits < place + length ps * w → column_at w ps (standing bits place) ≡ Err (Short (length bits - (length bits - place) % w))
+column_short : (w : ℕ) (ps : List ℕ) (bits : List Bool) (place : ℕ) → place ≤ length bits → length bits < place + length ps * w → column_at w ps (cursor_at bits place) ≡ Err (Short (length bits - (length bits - place) % w))
 unfolding column_at
 column_short w [] bits place h few = absurd (omega (arith, h, few))
 column_short w (p ∷ ps) bits place h few = elim (cases_lt (length bits) (place + w)) [
@@ -42,7 +42,7 @@ column_short w (p ∷ ps) bits place h few = elim (cases_lt (length bits) (place
       let small : length bits - place < w = omega (arith, h, short) in
       let rest : (length bits - place) % w ≡ length bits - place = mod-eq_of_lt small in
       let here : length bits - (length bits - place) ≡ place = omega (arith, h) in
-      rw (number_short w (standing bits place) (omega (arith, length-drop place bits, small)), rest, here) refl
+      rw (number_short w (cursor_at bits place) (omega (arith, length-drop place bits, small)), rest, here) refl
   | inr there ↦
       let down : length bits - place ≡ length bits - (place + w) + w = omega (arith, there) in
       let same : (length bits - place) % w ≡ (length bits - (place + w)) % w = ap (λ (k : ℕ). k % w) down ∙ add-mod_right (length bits - (place + w)) w in
@@ -50,15 +50,15 @@ column_short w (p ∷ ps) bits place h few = elim (cases_lt (length bits) (place
 ]
 
 pub record ColumnRow (w : ℕ) (ps : List ℕ) (bits : List Bool) (place : ℕ) (x : List ℕ × Cursor) : Type 0 where
-  pub after : x.1 ≡ standing bits (place + length ps * w)
+  pub after : x.1 ≡ cursor_at bits (place + length ps * w)
   pub len : length x.0 ≡ length ps
   pub row : (i : ℕ) → i < length ps → get_or x.0 i 0 ≡ get_or ps i 0 * 2 ^ w + field_at bits (place + i * w) w
 
-column_row : (w : ℕ) (ps : List ℕ) (bits : List Bool) (place : ℕ) → place + length ps * w ≤ length bits → (x : List ℕ × Cursor) × (column_at w ps (standing bits place) ≡ Ok x) × ColumnRow w ps bits place x
+column_row : (w : ℕ) (ps : List ℕ) (bits : List Bool) (place : ℕ) → place + length ps * w ≤ length bits → (x : List ℕ × Cursor) × (column_at w ps (cursor_at bits place) ≡ Ok x) × ColumnRow w ps bits place x
 unfolding column_at
 column_row w [] bits place h =
     let e : place ≡ place + 0 * w = omega arith in
-    (([], standing bits place), refl, record { after = ap (standing bits) e; len = refl; row = λ i h. absurd (omega (arith, h)) })
+    (([], cursor_at bits place), refl, record { after = ap (cursor_at bits) e; len = refl; row = λ i h. absurd (omega (arith, h)) })
 column_row w (p ∷ ps) bits place h =
     let more : place + w + length ps * w ≤ length bits = rw (one_more place (length ps) w) h in
     let here = number_there_at w bits place (omega (arith, more)) in
@@ -69,7 +69,7 @@ column_row w (p ∷ ps) bits place h =
     first p xs = let e : place ≡ place + 0 * w = omega arith in ap (λ (k : ℕ). p * 2 ^ w + field_at bits k w) e
 
     join : (p : ℕ) (x : List ℕ × Cursor) → ColumnRow w ps bits (place + w) x → ColumnRow w (p ∷ ps) bits place ((p * 2 ^ w + field_at bits place w) ∷ x.0, x.1)
-    join p x r = record { after = r.after ∙ ap (standing bits) (one_more place (length ps) w); len = ap suc r.len; row = each }
+    join p x r = record { after = r.after ∙ ap (cursor_at bits) (one_more place (length ps) w); len = ap suc r.len; row = each }
       where
         each : (i : ℕ) → i < length (p ∷ ps) → get_or ((p * 2 ^ w + field_at bits place w) ∷ x.0) i 0 ≡ get_or (p ∷ ps) i 0 * 2 ^ w + field_at bits (place + i * w) w
         each zero h = first p x.0
@@ -82,10 +82,10 @@ two_more place n w t = omega arith
 
 -- The end of the data determines the result of reading them.
 abbrev pub Ends : List Bool → Result ℕ MsgFault → Result (List ℕ × Cursor) MsgFault → Type 0
-Ends bits (Ok e) read = read ≡ Ok (numbers_in read, standing bits e)
+Ends bits (Ok e) read = read ≡ Ok (numbers_in read, cursor_at bits e)
 Ends bits (Err f) read = read ≡ Err f
 
-columns_end : (ws ps : List ℕ) (bits : List Bool) (n place : ℕ) → length ps ≡ n → place ≤ length bits → Ends bits (end_of_rows ws n (length bits) place) (columns_at ws ps (standing bits place))
+columns_end : (ws ps : List ℕ) (bits : List Bool) (n place : ℕ) → length ps ≡ n → place ≤ length bits → Ends bits (end_of_rows ws n (length bits) place) (columns_at ws ps (cursor_at bits place))
 unfolding columns_at end_of_rows
 columns_end [] ps bits n place len h = refl
 columns_end (w ∷ ws) ps bits n place len h = elim (cases_lt (length bits) (place + n * w)) [
@@ -95,11 +95,11 @@ columns_end (w ∷ ws) ps bits n place len h = elim (cases_lt (length bits) (pla
   | inr there ↦
       let more : nat_lt (length bits) (place + n * w) ≡ false = grind (arith, there) in
       let read = column_row w ps bits place (rw len there) in
-      let after : read.0.1 ≡ standing bits (place + n * w) = rw len at read.2.after in
+      let after : read.0.1 ≡ cursor_at bits (place + n * w) = rw len at read.2.after in
       rw (more, read.1, after) (columns_end ws read.0.0 bits n (place + n * w) (read.2.len ∙ len) there)
 ]
 
-pub rows_end : (ws : List ℕ) (bits : List Bool) (n place : ℕ) → place ≤ length bits → Ends bits (end_of_rows ws n (length bits) place) (columns_at ws (replicate n 0) (standing bits place))
+pub rows_end : (ws : List ℕ) (bits : List Bool) (n place : ℕ) → place ≤ length bits → Ends bits (end_of_rows ws n (length bits) place) (columns_at ws (replicate n 0) (cursor_at bits place))
 rows_end ws bits n place h = columns_end ws (replicate n 0) bits n place (length-replicate n 0) h
 
 -- The end of the data.
@@ -116,12 +116,12 @@ unfolding columns_at
 columns_next w ws ps xs c d e = rw e refl
 
 -- The first column was read.
-first_read : (w : ℕ) (ws ps : List ℕ) (bits : List Bool) (n place : ℕ) → length ps ≡ n → (x : (r : List ℕ × Cursor) × (column_at w ps (standing bits place) ≡ Ok r) × ColumnRow w ps bits place r) → columns_at (w ∷ ws) ps (standing bits place) ≡ columns_at ws x.0.0 (standing bits (place + n * w))
+first_read : (w : ℕ) (ws ps : List ℕ) (bits : List Bool) (n place : ℕ) → length ps ≡ n → (x : (r : List ℕ × Cursor) × (column_at w ps (cursor_at bits place) ≡ Ok r) × ColumnRow w ps bits place r) → columns_at (w ∷ ws) ps (cursor_at bits place) ≡ columns_at ws x.0.0 (cursor_at bits (place + n * w))
 first_read w ws ps bits n place len x =
-    let after : x.0.1 ≡ standing bits (place + n * w) = rw len at x.2.after in
-    columns_next w ws ps x.0.0 (standing bits place) x.0.1 x.1 ∙ ap (columns_at ws x.0.0) after
+    let after : x.0.1 ≡ cursor_at bits (place + n * w) = rw len at x.2.after in
+    columns_next w ws ps x.0.0 (cursor_at bits place) x.0.1 x.1 ∙ ap (columns_at ws x.0.0) after
 
-columns_row : (ws ps : List ℕ) (bits : List Bool) (n place i : ℕ) → length ps ≡ n → place + n * total_width ws ≤ length bits → i < n → get_or (numbers_in (columns_at ws ps (standing bits place))) i 0 ≡ row_at ws n bits place i (get_or ps i 0)
+columns_row : (ws ps : List ℕ) (bits : List Bool) (n place i : ℕ) → length ps ≡ n → place + n * total_width ws ≤ length bits → i < n → get_or (numbers_in (columns_at ws ps (cursor_at bits place))) i 0 ≡ row_at ws n bits place i (get_or ps i 0)
 unfolding columns_at row_at
 columns_row [] ps bits n place i len h there = refl
 columns_row (w ∷ ws) ps bits n place i len h there =
@@ -131,7 +131,7 @@ columns_row (w ∷ ws) ps bits n place i len h there =
     ap (λ (r : Result (List ℕ × Cursor) MsgFault). get_or (numbers_in r) i 0) (first_read w ws ps bits n place len read)
     ∙ (columns_row ws read.0.0 bits n (place + n * w) i (read.2.len ∙ len) room there ∙ ap (row_at ws n bits (place + n * w) i) here)
 
-columns_length : (ws ps : List ℕ) (bits : List Bool) (n place : ℕ) → length ps ≡ n → place + n * total_width ws ≤ length bits → length (numbers_in (columns_at ws ps (standing bits place))) ≡ n
+columns_length : (ws ps : List ℕ) (bits : List Bool) (n place : ℕ) → length ps ≡ n → place + n * total_width ws ≤ length bits → length (numbers_in (columns_at ws ps (cursor_at bits place))) ≡ n
 unfolding columns_at
 columns_length [] ps bits n place len h = len
 columns_length (w ∷ ws) ps bits n place len h =

@@ -3,13 +3,13 @@ use Rattle.std.proofs.Common.{ℕ, ◌≡◌, ◌+◌, ◌^◌, ◌<◌, Bool, t
 use Rattle.rtcm_bits.specs.Bits.{uint}
 use Rattle.rtcm_bits.specs.Reading.{Cursor}
 use Rattle.rtcm_msg.specs.declared.station.StationParts.{StationParts}
-use Rattle.rtcm_msg.specs.Fields.{number_at, ◌>>=◌, spelled}
+use Rattle.rtcm_msg.specs.Fields.{number_at, ◌>>=◌, field_bits}
 use Rattle.rtcm_msg.specs.Packed.{total_width}
 use Rattle.rtcm_msg.specs.Station.{station_at, height_at, InRange, height_fields, station_table, height_table, station_contents, station_parts}
-use Rattle.rtcm_msg.proofs.Binds.{bind_ok, ok_inj, number_took}
+use Rattle.rtcm_msg.proofs.Binds.{bind_ok, ok_inj, number_consumed}
 use Rattle.rtcm_msg.proofs.Combine.{cursor, number_again}
-use Rattle.rtcm_msg.proofs.WritingSteps.{spelled-append}
-use Rattle.rtcm_msg.proofs.FieldLaws.{fields_at, reading_is, fields_ok, fields_again, FieldsTook}
+use Rattle.rtcm_msg.proofs.WritingSteps.{field_bits-append}
+use Rattle.rtcm_msg.proofs.FieldLaws.{fields_at, reading_is, fields_ok, fields_again, FieldsConsumed}
 use Rattle.rtcm_msg.specs.Layout.{widths, Contents, fields_of}
 use Rattle.rtcm_msg.specs.LayoutLaws.{FitAll}
 
@@ -37,7 +37,7 @@ pub record IsRead (s : StationParts) (has : Bool) (c d : Cursor) : Type 0 where
   pub one : reserved < 2
   pub in_range : InRange s
   pub height : is_some s.height ≡ has
-  pub bits : c.rest ≡ spelled (station_tail s reserved) ++ d.rest
+  pub bits : c.rest ≡ field_bits (station_tail s reserved) ++ d.rest
 
 abbrev reserved_of : Contents station_table → ℕ
 reserved_of cs = cs.1.1.1.1.1.1.1.1.0
@@ -47,49 +47,49 @@ in_range_of cs h (station, (realization, (gps, (glonass, (galileo, (reference, (
     record { station = station; realization = realization; x = x; y = y; quarter = quarter; z = z; height = height }
 
 -- The bits of the fields that were read, with those of the height.
-took_bits : (has : Bool) (c : Cursor) (n : Contents station_table × Cursor) (h : Option ℕ × Cursor) → FieldsTook station_table c n → IfSome h.0 (λ k. k < 2 ^ 16) → is_some h.0 ≡ has → n.1.rest ≡ spelled (height_fields h.0) ++ h.1.rest
+consumed_bits : (has : Bool) (c : Cursor) (n : Contents station_table × Cursor) (h : Option ℕ × Cursor) → FieldsConsumed station_table c n → IfSome h.0 (λ k. k < 2 ^ 16) → is_some h.0 ≡ has → n.1.rest ≡ field_bits (height_fields h.0) ++ h.1.rest
     → IsRead (station_parts n.0 h.0) has c h.1
-took_bits has c n h took fits is bits = record {
+consumed_bits has c n h consumed fits is bits = record {
   reserved = reserved_of n.0;
-  one = took.fit.1.1.1.1.1.1.1.1.0;
-  in_range = in_range_of n.0 h.0 took.fit fits;
+  one = consumed.fit.1.1.1.1.1.1.1.1.0;
+  in_range = in_range_of n.0 h.0 consumed.fit fits;
   height = is;
-  bits = took.bits ∙ (ap (λ t. spelled (fields_of station_table n.0) ++ t) bits ∙ (sym (append_assoc (spelled (fields_of station_table n.0)) (spelled (height_fields h.0)) h.1.rest)
-      ∙ ap (λ (m : List Bool). m ++ h.1.rest) (sym (spelled-append (fields_of station_table n.0) (height_fields h.0)))));
+  bits = consumed.bits ∙ (ap (λ t. field_bits (fields_of station_table n.0) ++ t) bits ∙ (sym (append_assoc (field_bits (fields_of station_table n.0)) (field_bits (height_fields h.0)) h.1.rest)
+      ∙ ap (λ (m : List Bool). m ++ h.1.rest) (sym (field_bits-append (fields_of station_table n.0) (height_fields h.0)))));
 }
 
-by_height : (has : Bool) (c : Cursor) (n : Contents station_table × Cursor) (h : Option ℕ × Cursor) → FieldsTook station_table c n → height_at has n.1 ≡ Ok h → IsRead (station_parts n.0 h.0) has c h.1
-unfolding spelled
-by_height false c n h took e = subst (λ (k : Option ℕ × Cursor). IsRead (station_parts n.0 k.0) false c k.1) (ok_inj (None, n.1) h _ refl e) (took_bits false c n (None, n.1) took tt refl refl)
-by_height true c n h took e =
+by_height : (has : Bool) (c : Cursor) (n : Contents station_table × Cursor) (h : Option ℕ × Cursor) → FieldsConsumed station_table c n → height_at has n.1 ≡ Ok h → IsRead (station_parts n.0 h.0) has c h.1
+unfolding field_bits
+by_height false c n h consumed e = subst (λ (k : Option ℕ × Cursor). IsRead (station_parts n.0 k.0) false c k.1) (ok_inj (None, n.1) h _ refl e) (consumed_bits false c n (None, n.1) consumed tt refl refl)
+by_height true c n h consumed e =
     let read = bind_ok (number_at 16 n.1) _ h e in
-    let one = number_took 16 n.1 read.0 read.1 in
+    let one = number_consumed 16 n.1 read.0 read.1 in
     subst (λ (k : Option ℕ × Cursor). IsRead (station_parts n.0 k.0) true c k.1) (ok_inj (Some read.0.0, read.0.1) h _ refl read.2)
-    (took_bits true c n (Some read.0.0, read.0.1) took one.fits refl (one.bits ∙ sym (append_assoc (uint 16 read.0.0) [] read.0.1.rest)))
+    (consumed_bits true c n (Some read.0.0, read.0.1) consumed one.fits refl (one.bits ∙ sym (append_assoc (uint 16 read.0.0) [] read.0.1.rest)))
 
-pub station_took : (has : Bool) (c : Cursor) (v : StationParts × Cursor) → station_at has c ≡ Ok v → IsRead v.0 has c v.1
-station_took has c v e =
+pub station_consumed : (has : Bool) (c : Cursor) (v : StationParts × Cursor) → station_at has c ≡ Ok v → IsRead v.0 has c v.1
+station_consumed has c v e =
     let first = bind_ok (fields_at station_table c) _ v (sym (station_chain has c) ∙ e) in
-    let took = fields_ok station_table c first.0 refl first.1 in
+    let consumed = fields_ok station_table c first.0 refl first.1 in
     let second = bind_ok (height_at has first.0.1) _ v first.2 in
-    subst (λ (w : StationParts × Cursor). IsRead w.0 has c w.1) (ok_inj _ v _ refl second.2) (by_height has c first.0 second.0 took second.1)
+    subst (λ (w : StationParts × Cursor). IsRead w.0 has c w.1) (ok_inj _ v _ refl second.2) (by_height has c first.0 second.0 consumed second.1)
 
 -- ---- reading an encoding
 
 fit_again : (s : StationParts) (reserved : ℕ) → InRange s → reserved < 2 → FitAll station_table (station_contents s reserved)
 fit_again s reserved r one = (r.station, (r.realization, (tt, (tt, (tt, (tt, (r.x, (tt, (one, (r.y, (r.quarter, (r.z, tt))))))))))))
 
-height_again : (h : Option ℕ) (place : ℕ) (rest : List Bool) → IfSome h (λ k. k < 2 ^ 16) → height_at (is_some h) (cursor place (spelled (height_fields h) ++ rest)) ≡ Ok (h, cursor (place + total_width (height_widths (is_some h))) rest)
-unfolding spelled
+height_again : (h : Option ℕ) (place : ℕ) (rest : List Bool) → IfSome h (λ k. k < 2 ^ 16) → height_at (is_some h) (cursor place (field_bits (height_fields h) ++ rest)) ≡ Ok (h, cursor (place + total_width (height_widths (is_some h))) rest)
+unfolding field_bits
 height_again None place rest fits = rw (add-zero place) refl
 height_again (Some h) place rest fits = rw (append_assoc (uint 16 h) [] rest, number_again 16 h place rest fits) refl
 
 pub station_again : (s : StationParts) (reserved place : ℕ) (rest : List Bool) → InRange s → reserved < 2
-    → station_at (is_some s.height) (cursor place (spelled (station_tail s reserved) ++ rest)) ≡ Ok (s, cursor (place + total_width station_widths + total_width (height_widths (is_some s.height))) rest)
+    → station_at (is_some s.height) (cursor place (field_bits (station_tail s reserved) ++ rest)) ≡ Ok (s, cursor (place + total_width station_widths + total_width (height_widths (is_some s.height))) rest)
 station_again s reserved place rest r one =
     let cs = station_contents s reserved in
-    let c = cursor place (spelled (fields_of station_table cs ++ height_fields s.height) ++ rest) in
-    let split : c ≡ cursor place (spelled (fields_of station_table cs) ++ (spelled (height_fields s.height) ++ rest)) = ap (cursor place) (ap (λ t. t ++ rest) (spelled-append (fields_of station_table cs) (height_fields s.height)) ∙ append_assoc (spelled (fields_of station_table cs)) (spelled (height_fields s.height)) rest) in
-    let first = fields_again station_table cs place (spelled (height_fields s.height) ++ rest) refl (fit_again s reserved r one) in
+    let c = cursor place (field_bits (fields_of station_table cs ++ height_fields s.height) ++ rest) in
+    let split : c ≡ cursor place (field_bits (fields_of station_table cs) ++ (field_bits (height_fields s.height) ++ rest)) = ap (cursor place) (ap (λ t. t ++ rest) (field_bits-append (fields_of station_table cs) (height_fields s.height)) ∙ append_assoc (field_bits (fields_of station_table cs)) (field_bits (height_fields s.height)) rest) in
+    let first = fields_again station_table cs place (field_bits (height_fields s.height) ++ rest) refl (fit_again s reserved r one) in
     let second = height_again s.height (place + total_width station_widths) rest r.height in
     station_chain (is_some s.height) c ∙ rw (split, first, second) refl

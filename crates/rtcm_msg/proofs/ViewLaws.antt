@@ -6,16 +6,16 @@ use Rattle.rtcm_bits.specs.BitLaws.{length-bits_of}
 use Rattle.rtcm_msg.specs.declared.fault.MsgFault.{MsgFault}
 use Rattle.rtcm_msg.specs.declared.header.MsmHeader.{MsmHeader}
 use Rattle.rtcm_msg.specs.declared.view.Form.{Form}
-use Rattle.rtcm_msg.specs.Fields.{standing, number_at}
+use Rattle.rtcm_msg.specs.Fields.{cursor_at, number_at}
 use Rattle.rtcm_msg.specs.Packed.{total_width}
 use Rattle.rtcm_msg.specs.Columns.{columns_at, EachBelow}
 use Rattle.rtcm_msg.specs.Msm.{MasksValue, IsHeader, AreMasks, IsValue, header_at, masks_at, msm_at}
 use Rattle.rtcm_msg.specs.Rows.{rows_at, row_at, end_of_rows}
 use Rattle.rtcm_msg.specs.declared.view.Data.{Data}
 use Rattle.rtcm_msg.specs.declared.view.Data.TheVariants as datas
-use Rattle.rtcm_msg.specs.Views.{satellite_widths, cell_widths, satellite_rows, cell_rows, message_in, formed_at, LieWithin, AreDataThere}
-use Rattle.rtcm_msg.proofs.Binds.{ok_inj, number_took, number_there}
-use Rattle.rtcm_msg.proofs.FaultLaws.{Stands, masks_stand}
+use Rattle.rtcm_msg.specs.Views.{satellite_widths, cell_widths, satellite_rows, cell_rows, message_in, formed_at, AreWithin, AreDataOf}
+use Rattle.rtcm_msg.proofs.Binds.{ok_inj, number_consumed, number_there}
+use Rattle.rtcm_msg.proofs.FaultLaws.{AfterHeader, cursor_after_masks}
 use Rattle.rtcm_msg.proofs.ColumnSteps.{columns_fit}
 use Rattle.rtcm_msg.proofs.RowLaws.{Ends, rows_end, rows_count, end_is, row_is}
 
@@ -43,40 +43,40 @@ pub ends : (bits : List Bool) (r : Result ℕ MsgFault) (read : Result (List ℕ
 ends bits r read x e h = subst (λ (y : Result ℕ MsgFault). Ends bits y read) (sym e) h
 
 -- The data of a number of items end at a bit.
-abbrev pub data_read : (ws : List ℕ) (bits : List Bool) (n m place : ℕ) (x : Result ℕ MsgFault) → n ≡ m → place ≤ length bits → x ≡ end_of_rows ws n (length bits) place → Ends bits x (columns_at ws (replicate m 0) (standing bits place))
+abbrev pub data_read : (ws : List ℕ) (bits : List Bool) (n m place : ℕ) (x : Result ℕ MsgFault) → n ≡ m → place ≤ length bits → x ≡ end_of_rows ws n (length bits) place → Ends bits x (columns_at ws (replicate m 0) (cursor_at bits place))
 data_read ws bits n m place x same h e = ends bits (end_of_rows ws m (length bits) place) _ x (e ∙ ap (λ (k : ℕ). end_of_rows ws k (length bits) place) same) (rows_end ws bits m place h)
 
 pub formed_short : (form : Form) (g : Bool) (c0 : Cursor) (x : MsgFault) → msm_at (satellite_widths form) (cell_widths form) g c0 ≡ Err x → formed_at form g c0 ≡ Err x
 formed_short form g c0 x e = rw e refl
 
 pub first_short : (form : Form) (g : Bool) (bits : List Bool) (c0 c1 c2 : Cursor) (h : MsmHeader) (s : MasksValue) (n : ℕ) (x : MsgFault) → header_at c0 ≡ Ok (h, c1) → masks_at c1 ≡ Ok (s, c2)
-    → c2 ≡ standing bits c2.place → c2.place ≤ length bits → n ≡ count_ones s.satellites → Err x ≡ end_of_rows (satellite_widths form) n (length bits) c2.place → formed_at form g c0 ≡ Err x
-first_short form g bits c0 c1 c2 h s n x e f stands there same short =
+    → c2 ≡ cursor_at bits c2.place → c2.place ≤ length bits → n ≡ count_ones s.satellites → Err x ≡ end_of_rows (satellite_widths form) n (length bits) c2.place → formed_at form g c0 ≡ Err x
+first_short form g bits c0 c1 c2 h s n x e f at_masks there same short =
     let read = data_read (satellite_widths form) bits n (count_ones s.satellites) c2.place (Err x) same there short in
-    formed_short form g c0 x (msm_first (satellite_widths form) (cell_widths form) g c0 c1 c2 h s x e f (ap (columns_at (satellite_widths form) (replicate (count_ones s.satellites) 0)) stands ∙ read))
+    formed_short form g c0 x (msm_first (satellite_widths form) (cell_widths form) g c0 c1 c2 h s x e f (ap (columns_at (satellite_widths form) (replicate (count_ones s.satellites) 0)) at_masks ∙ read))
 
 pub second_short : (form : Form) (g : Bool) (bits : List Bool) (c0 c1 c2 : Cursor) (h : MsmHeader) (s : MasksValue) (n m at : ℕ) (x : MsgFault) → header_at c0 ≡ Ok (h, c1) → masks_at c1 ≡ Ok (s, c2)
-    → c2 ≡ standing bits c2.place → c2.place ≤ length bits → n ≡ count_ones s.satellites → m ≡ count_ones s.cells → Ok at ≡ end_of_rows (satellite_widths form) n (length bits) c2.place → at ≤ length bits
+    → c2 ≡ cursor_at bits c2.place → c2.place ≤ length bits → n ≡ count_ones s.satellites → m ≡ count_ones s.cells → Ok at ≡ end_of_rows (satellite_widths form) n (length bits) c2.place → at ≤ length bits
     → Err x ≡ end_of_rows (cell_widths form) m (length bits) at → formed_at form g c0 ≡ Err x
-second_short form g bits c0 c1 c2 h s n m at x e f stands there same same2 first room short =
+second_short form g bits c0 c1 c2 h s n m at x e f at_masks there same same2 first room short =
     let one = data_read (satellite_widths form) bits n (count_ones s.satellites) c2.place (Ok at) same there first in
     let two = data_read (cell_widths form) bits m (count_ones s.cells) at (Err x) same2 room short in
-    formed_short form g c0 x (msm_second (satellite_widths form) (cell_widths form) g c0 c1 c2 (standing bits at) h s _ x e f (ap (columns_at (satellite_widths form) (replicate (count_ones s.satellites) 0)) stands ∙ one) two)
+    formed_short form g c0 x (msm_second (satellite_widths form) (cell_widths form) g c0 c1 c2 (cursor_at bits at) h s _ x e f (ap (columns_at (satellite_widths form) (replicate (count_ones s.satellites) 0)) at_masks ∙ one) two)
 
 -- The same with the terms of the code.
 pub moved : (r : Result ℕ MsgFault) (vs ws : List ℕ) (n a b p q : ℕ) → r ≡ end_of_rows vs n a p → vs ≡ ws → a ≡ b → p ≡ q → r ≡ end_of_rows ws n b q
 moved r vs ws n a b p q e f g h = e ∙ rw (f, g, h) refl
 
 -- The position of the reader after the message number, and after the masks.
-pub number_stands : (bytes : List ℕ) (r c : Cursor) (n : ℕ) → r ≡ record { place = 0; rest = bits_of bytes } → number_at 12 r ≡ Ok (n, c) → (12 ≤ 8 * length bytes) × (c ≡ standing (bits_of bytes) 12)
-number_stands bytes r c n is e =
+pub cursor_after_number : (bytes : List ℕ) (r c : Cursor) (n : ℕ) → r ≡ record { place = 0; rest = bits_of bytes } → number_at 12 r ≡ Ok (n, c) → (12 ≤ 8 * length bytes) × (c ≡ cursor_at (bits_of bytes) 12)
+cursor_after_number bytes r c n is e =
     let read : number_at 12 (record { place = 0; rest = bits_of bytes }) ≡ Ok (n, c) = ap (number_at 12) (sym is) ∙ e in
-    let took = number_took 12 (record { place = 0; rest = bits_of bytes }) (n, c) read in
-    let there : 12 ≤ length (bits_of bytes) = took.room in
+    let consumed = number_consumed 12 (record { place = 0; rest = bits_of bytes }) (n, c) read in
+    let there : 12 ≤ length (bits_of bytes) = consumed.room in
     (rw (← length-bits_of bytes) there, ap (λ (x : ℕ × Cursor). x.1) (ok_inj (n, c) (unsigned_at 12 (record { place = 0; rest = bits_of bytes }), advanced (record { place = 0; rest = bits_of bytes }) 12) _ read (number_there 12 (record { place = 0; rest = bits_of bytes }) there)))
 
-pub stood : (bytes : List ℕ) (r c d : Cursor) (h : MsmHeader) (s : MasksValue) → 12 ≤ 8 * length bytes → r ≡ standing (bits_of bytes) 12 → header_at r ≡ Ok (h, c) → masks_at c ≡ Ok (s, d) → Stands (bits_of bytes) d
-stood bytes r c d h s room is e f = masks_stand (bits_of bytes) h s c d (rw (length-bits_of bytes) room) (ap header_at (sym is) ∙ e) f
+pub masks_end : (bytes : List ℕ) (r c d : Cursor) (h : MsmHeader) (s : MasksValue) → 12 ≤ 8 * length bytes → r ≡ cursor_at (bits_of bytes) 12 → header_at r ≡ Ok (h, c) → masks_at c ≡ Ok (s, d) → AfterHeader (bits_of bytes) d
+masks_end bytes r c d h s room is e f = cursor_after_masks (bits_of bytes) h s c d (rw (length-bits_of bytes) room) (ap header_at (sym is) ∙ e) f
 
 pub rows_counted : (ws bytes : List ℕ) (n place : ℕ) → place + n * total_width ws ≤ 8 * length bytes → length (rows_at ws n (bits_of bytes) place) ≡ n
 rows_counted ws bytes n place h = rows_count ws (bits_of bytes) n place (rw (length-bits_of bytes) h)
@@ -93,9 +93,9 @@ pub record Found (form : Form) (g : Bool) (bits : List Bool) (c0 : Cursor) (h : 
   pub cells_there : at + m * total_width (cell_widths form) ≤ length bits
 
 pub found : (form : Form) (g : Bool) (bits : List Bool) (c0 c1 c2 : Cursor) (h : MsmHeader) (s : MasksValue) (n m at end : ℕ) → header_at c0 ≡ Ok (h, c1) → masks_at c1 ≡ Ok (s, c2)
-    → c2 ≡ standing bits c2.place → c2.place ≤ length bits → n ≡ count_ones s.satellites → m ≡ count_ones s.cells → Ok at ≡ end_of_rows (satellite_widths form) n (length bits) c2.place → at ≤ length bits
+    → c2 ≡ cursor_at bits c2.place → c2.place ≤ length bits → n ≡ count_ones s.satellites → m ≡ count_ones s.cells → Ok at ≡ end_of_rows (satellite_widths form) n (length bits) c2.place → at ≤ length bits
     → Ok end ≡ end_of_rows (cell_widths form) m (length bits) at → end ≤ length bits → IsHeader h → AreMasks s → Found form g bits c0 h s n c2.place m at
-found form g bits c0 c1 c2 h s n m at end e f stands there same same2 first room second last is_header are_sets =
+found form g bits c0 c1 c2 h s n m at end e f at_masks there same same2 first room second last is_header are_sets =
     let sw = satellite_widths form in
     let cw = cell_widths form in
     let one = data_read sw bits n (count_ones s.satellites) c2.place (Ok at) same there first in
@@ -104,7 +104,7 @@ found form g bits c0 c1 c2 h s n m at end e f stands there same same2 first room
     let second_end : at + m * total_width cw ≤ length bits = rw (← end_is cw m (length bits) at end (sym second)) last in
     let xs : rows_at sw n bits c2.place ≡ rows_at sw (count_ones s.satellites) bits c2.place = ap (λ (k : ℕ). rows_at sw k bits c2.place) same in
     let ys : rows_at cw m bits at ≡ rows_at cw (count_ones s.cells) bits at = ap (λ (k : ℕ). rows_at cw k bits at) same2 in
-    let good = msm_good sw cw g c0 c1 c2 (standing bits at) (standing bits end) h s (rows_at sw (count_ones s.satellites) bits c2.place) (rows_at cw (count_ones s.cells) bits at) e f (ap (columns_at sw (replicate (count_ones s.satellites) 0)) stands ∙ one) two in
+    let good = msm_good sw cw g c0 c1 c2 (cursor_at bits at) (cursor_at bits end) h s (rows_at sw (count_ones s.satellites) bits c2.place) (rows_at cw (count_ones s.cells) bits at) e f (ap (columns_at sw (replicate (count_ones s.satellites) 0)) at_masks ∙ one) two in
     record {
       read = rw (good, xs, ys) refl;
       value = record {
@@ -112,8 +112,8 @@ found form g bits c0 c1 c2 h s n m at end e f stands there same same2 first room
         sets = are_sets;
         satellite_count = rows_count sw bits n c2.place first_end ∙ same;
         cell_count = rows_count cw bits m at second_end ∙ same2;
-        satellites = subst (EachBelow (total_width sw)) (sym xs) (columns_fit sw (count_ones s.satellites) (standing bits c2.place) (rows_at sw (count_ones s.satellites) bits c2.place, standing bits at) one);
-        cells = subst (EachBelow (total_width cw)) (sym ys) (columns_fit cw (count_ones s.cells) (standing bits at) (rows_at cw (count_ones s.cells) bits at, standing bits end) two);
+        satellites = subst (EachBelow (total_width sw)) (sym xs) (columns_fit sw (count_ones s.satellites) (cursor_at bits c2.place) (rows_at sw (count_ones s.satellites) bits c2.place, cursor_at bits at) one);
+        cells = subst (EachBelow (total_width cw)) (sym ys) (columns_fit cw (count_ones s.cells) (cursor_at bits at) (rows_at cw (count_ones s.cells) bits at, cursor_at bits end) two);
       };
       order = omega (arith, end_is sw n (length bits) c2.place at (sym first));
       satellites_there = first_end;
@@ -121,12 +121,12 @@ found form g bits c0 c1 c2 h s n m at end e f stands there same same2 first room
     }
 
 -- The message whose data end within the bits, in the terms of the code.
-pub whole : (form : Form) (g : Bool) (bytes sw cw : List ℕ) (c0 c1 c2 : Cursor) (h : MsmHeader) (s : MasksValue) (n m p at end : ℕ) → 12 ≤ 8 * length bytes → c0 ≡ standing (bits_of bytes) 12 → header_at c0 ≡ Ok (h, c1) → masks_at c1 ≡ Ok (s, c2)
+pub whole : (form : Form) (g : Bool) (bytes sw cw : List ℕ) (c0 c1 c2 : Cursor) (h : MsmHeader) (s : MasksValue) (n m p at end : ℕ) → 12 ≤ 8 * length bytes → c0 ≡ cursor_at (bits_of bytes) 12 → header_at c0 ≡ Ok (h, c1) → masks_at c1 ≡ Ok (s, c2)
     → p ≡ c2.place → sw ≡ satellite_widths form → cw ≡ cell_widths form → n ≡ s.satellites → m ≡ s.cells → Ok at ≡ end_of_rows sw (count_ones n) (8 * length bytes) p → at ≤ 8 * length bytes → Ok end ≡ end_of_rows cw (count_ones m) (8 * length bytes) at
     → end ≤ 8 * length bytes → IsHeader h → AreMasks s → Found form g (bits_of bytes) c0 h s (count_ones n) p (count_ones m) at
-whole form g bytes sw cw c0 c1 c2 h s n m p at end number stands e f place sws cws ns ms first room second last is_header are_sets =
+whole form g bytes sw cw c0 c1 c2 h s n m p at end number at_masks e f place sws cws ns ms first room second last is_header are_sets =
     let bits = bits_of bytes in
-    let there = stood bytes c0 c1 c2 h s number stands e f in
+    let there = masks_end bytes c0 c1 c2 h s number at_masks e f in
     let len : 8 * length bytes ≡ length bits = sym (length-bits_of bytes) in
     let one = moved (Ok at) sw (satellite_widths form) (count_ones n) _ (length bits) p c2.place first sws len place in
     let two = moved (Ok end) cw (cell_widths form) (count_ones m) _ (length bits) at at second cws len refl in
@@ -134,16 +134,16 @@ whole form g bytes sw cw c0 c1 c2 h s n m p at end number stands e f place sws c
     subst (λ (q : ℕ). Found form g bits c0 h s (count_ones n) q (count_ones m) at) (sym place) all
 
 -- The bounds of the data, counted in bytes.
-pub laid : (form : Form) (bytes : List ℕ) (n place m at : ℕ) → length bytes ≤ 1023 → 64 ≤ place → place ≤ at → place + n * total_width (satellite_widths form) ≤ length (bits_of bytes) → at + m * total_width (cell_widths form) ≤ length (bits_of bytes)
-    → LieWithin form (length bytes) n place m at
-laid form bytes n place m at small after order first second = record { small = small; satellites_after = after; cells_after = omega (arith, after, order); satellites_there = rw (← length-bits_of bytes) first; cells_there = rw (← length-bits_of bytes) second }
+pub are_within : (form : Form) (bytes : List ℕ) (n place m at : ℕ) → length bytes ≤ 1023 → 64 ≤ place → place ≤ at → place + n * total_width (satellite_widths form) ≤ length (bits_of bytes) → at + m * total_width (cell_widths form) ≤ length (bits_of bytes)
+    → AreWithin form (length bytes) n place m at
+are_within form bytes n place m at small after order first second = record { small = small; satellites_after = after; cells_after = omega (arith, after, order); satellites_there = rw (← length-bits_of bytes) first; cells_there = rw (← length-bits_of bytes) second }
 
 -- The number of satellites and cells, in either form of the data.
-pub satellites_counted : (form : Form) (n m : ℕ) (d : Data) → AreDataThere form n m d → length (satellite_rows form n d) ≡ n
+pub satellites_counted : (form : Form) (n m : ℕ) (d : Data) → AreDataOf form n m d → length (satellite_rows form n d) ≡ n
 satellites_counted form n m (datas.Bits bytes at cells_at) h = rows_counted (satellite_widths form) bytes.now n at h.there.satellites_there
 satellites_counted form n m (datas.Packed s c) h = h.there.0
 
-pub cells_counted : (form : Form) (n m : ℕ) (d : Data) → AreDataThere form n m d → length (cell_rows form m d) ≡ m
+pub cells_counted : (form : Form) (n m : ℕ) (d : Data) → AreDataOf form n m d → length (cell_rows form m d) ≡ m
 cells_counted form n m (datas.Bits bytes at cells_at) h = rows_counted (cell_widths form) bytes.now m cells_at h.there.cells_there
 cells_counted form n m (datas.Packed s c) h = h.there.1
 

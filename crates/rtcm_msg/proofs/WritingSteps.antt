@@ -5,19 +5,19 @@ use Rattle.std.proofs.lemmas.Nat.{one_shl, div-add-mod'}
 use Rattle.std.specs.List.{flat_map}
 use Rattle.rtcm_bits.specs.Bits.{uint}
 use Rattle.rtcm_bits.specs.BitLaws.{uint-low}
-use Rattle.rtcm_msg.specs.Fields.{spelled, fields_width}
+use Rattle.rtcm_msg.specs.Fields.{field_bits, fields_width}
 use Rattle.rtcm_msg.specs.Packed.{columns, total_width}
 
-pub spelled-append : (fs gs : List (ℕ × ℕ)) → spelled (fs ++ gs) ≡ spelled fs ++ spelled gs
-unfolding spelled
-spelled-append [] gs = refl
-spelled-append (f ∷ fs) gs = rw (spelled-append fs gs, append_assoc (uint f.0 f.1) (spelled fs) (spelled gs)) refl
+pub field_bits-append : (fs gs : List (ℕ × ℕ)) → field_bits (fs ++ gs) ≡ field_bits fs ++ field_bits gs
+unfolding field_bits
+field_bits-append [] gs = refl
+field_bits-append (f ∷ fs) gs = rw (field_bits-append fs gs, append_assoc (uint f.0 f.1) (field_bits fs) (field_bits gs)) refl
 
-pub fields_next : (fs : List (ℕ × ℕ)) (i : ℕ) (old new whole : List Bool) → i < length fs → new ≡ old ++ uint (get_or fs i (0, 0)).0 (get_or fs i (0, 0)).1 → old ++ spelled (drop i fs) ≡ whole → new ++ spelled (drop (i + 1) fs) ≡ whole
-unfolding spelled
+pub fields_next : (fs : List (ℕ × ℕ)) (i : ℕ) (old new whole : List Bool) → i < length fs → new ≡ old ++ uint (get_or fs i (0, 0)).0 (get_or fs i (0, 0)).1 → old ++ field_bits (drop i fs) ≡ whole → new ++ field_bits (drop (i + 1) fs) ≡ whole
+unfolding field_bits
 fields_next fs i old new whole h put inv =
     let here = rw (drop-cons fs i (0, 0) h) at inv in
-    rw (add-one i, put, append_assoc old (uint (get_or fs i (0, 0)).0 (get_or fs i (0, 0)).1) (spelled (drop (suc i) fs))) here
+    rw (add-one i, put, append_assoc old (uint (get_or fs i (0, 0)).0 (get_or fs i (0, 0)).1) (field_bits (drop (suc i) fs))) here
 
 pub width_next : (fs : List (ℕ × ℕ)) (i : ℕ) → i < length fs → fields_width (drop i fs) ≡ (get_or fs i (0, 0)).0 + fields_width (drop (i + 1) fs)
 width_next fs i h = rw (add-one i, drop-cons fs i (0, 0) h) refl

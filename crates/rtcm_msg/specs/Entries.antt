@@ -5,9 +5,9 @@ use Rattle.std.specs.List.{flat_map, zip, enumerate_from}
 use Rattle.rtcm_bits.specs.Bits.{uint}
 use Rattle.rtcm_msg.specs.declared.message.Message.{Message}
 use Rattle.rtcm_msg.specs.declared.message.Message.TheVariants.{Station, Msm4, Msm7, Other}
-use Rattle.rtcm_msg.specs.declared.seats.Seat.{Seat}
+use Rattle.rtcm_msg.specs.declared.pairs.Pair.{Pair}
 use Rattle.rtcm_msg.specs.declared.entry.Entry.{Entry}
-use Rattle.rtcm_msg.specs.Msm.{MsmValue, MasksValue, pairs, satellite_mask_bits, signal_mask_bits}
+use Rattle.rtcm_msg.specs.Msm.{MsmValue, MasksValue, pair_count, satellite_mask_bits, signal_mask_bits}
 use Rattle.rtcm_msg.specs.Grid4 as grid4
 use Rattle.rtcm_msg.specs.Grid7 as grid7
 
@@ -32,18 +32,18 @@ Rising low high [] = Unit {0}
 Rising low high (x ∷ xs) = (low ≤ x) × (x ≤ high) × Rising (x + 1) high xs
 
 -- A satellite, by its index in the set and its ID, with a signal.
-abbrev pub seat : ℕ × ℕ → ℕ → Seat
-seat x g = record { place = x.0; satellite = x.1; signal = g }
+abbrev pub pair : ℕ × ℕ → ℕ → Pair
+pair x g = record { index = x.0; satellite = x.1; signal = g }
 
 -- All pairs, ordered by satellite, then by signal.
-abbrev pub all_pairs : MasksValue → List Seat
+abbrev pub all_pairs : MasksValue → List Pair
 all_pairs s =
-    flat_map (λ x. map (seat x) (ids signal_mask_bits s.signals))
+    flat_map (λ x. map (pair x) (ids signal_mask_bits s.signals))
     (enumerate_from 0 (ids satellite_mask_bits s.satellites))
 
 -- The pairs that have a cell.
-abbrev pub seats : MasksValue → List Seat
-seats s = chosen (uint (pairs s.satellites s.signals) s.cells) (all_pairs s)
+abbrev pub cell_pairs : MasksValue → List Pair
+cell_pairs s = chosen (uint (pair_count s.satellites s.signals) s.cells) (all_pairs s)
 
 -- Bounds of the values of a cell, with `codes` lock time indicators.
 pub record IsEntry (codes : ℕ) (e : Entry) : Type 0 where
@@ -55,9 +55,9 @@ pub record IsEntry (codes : ℕ) (e : Entry) : Type 0 where
 
 -- The entry of a cell, for the functions of a grid.
 abbrev pub entry_by : {S C : Type 0} → (ℕ → S) → (ℕ → C) → (S → C → Option ℤ) → (S → C → Option ℤ) → (S → C → Option ℤ)
-    → (C → Option ℕ) → (C → ℕ) → (C → Bool) → List ℕ → Seat × ℕ → Entry
+    → (C → Option ℕ) → (C → ℕ) → (C → Bool) → List ℕ → Pair × ℕ → Entry
 entry_by satellite_at cell_at range_of phase_of rate_of strength_of lock_of half_cycle_of satellites x =
-    let s = satellite_at (slice_index satellites x.0.place) in
+    let s = satellite_at (slice_index satellites x.0.index) in
     let c = cell_at x.1 in
     record {
       satellite = x.0.satellite;
@@ -70,12 +70,12 @@ entry_by satellite_at cell_at range_of phase_of rate_of strength_of lock_of half
       half_cycle = half_cycle_of c;
     }
 
-abbrev pub entry4 : MsmValue → Seat × ℕ → Entry
+abbrev pub entry4 : MsmValue → Pair × ℕ → Entry
 entry4 v =
     entry_by grid4.satellite_data grid4.cell_data grid4.range_of grid4.phase_of grid4.rate_of grid4.strength_of
     (λ c. c.lock) (λ c. c.half_cycle) v.satellites
 
-abbrev pub entry7 : MsmValue → Seat × ℕ → Entry
+abbrev pub entry7 : MsmValue → Pair × ℕ → Entry
 entry7 v =
     entry_by grid7.satellite_data grid7.cell_data grid7.range_of grid7.phase_of grid7.rate_of grid7.strength_of
     (λ c. c.lock) (λ c. c.half_cycle) v.satellites
@@ -83,6 +83,6 @@ entry7 v =
 -- The cells of a message in order.
 abbrev pub entries : Message → List Entry
 entries (Station s) = []
-entries (Msm4 v) = map (entry4 v) (zip (seats v.sets) v.cells)
-entries (Msm7 v) = map (entry7 v) (zip (seats v.sets) v.cells)
+entries (Msm4 v) = map (entry4 v) (zip (cell_pairs v.sets) v.cells)
+entries (Msm7 v) = map (entry7 v) (zip (cell_pairs v.sets) v.cells)
 entries (Other n set) = []

@@ -9,8 +9,8 @@ use Rattle.rtcm_msg.specs.declared.fault.MsgFault.TheVariants.{Short}
 
 -- ---- from a bit on
 
-abbrev pub standing : List Bool → ℕ → Cursor
-standing bits place = record { place = place; rest = drop place bits }
+abbrev pub cursor_at : List Bool → ℕ → Cursor
+cursor_at bits place = record { place = place; rest = drop place bits }
 
 -- The number of the w bits from a bit on.
 abbrev pub field_at : List Bool → ℕ → ℕ → ℕ
@@ -19,9 +19,9 @@ field_at bits place w = number (take w (drop place bits))
 -- ---- encoding
 
 -- The bits of fields in order. A field is its width and its number.
-unfoldable pub spelled : List (ℕ × ℕ) → List Bool
-spelled [] = []
-spelled (f ∷ fs) = uint f.0 f.1 ++ spelled fs
+unfoldable pub field_bits : List (ℕ × ℕ) → List Bool
+field_bits [] = []
+field_bits (f ∷ fs) = uint f.0 f.1 ++ field_bits fs
 
 -- The sum of the widths of the fields.
 abbrev pub fields_width : List (ℕ × ℕ) → ℕ

@@ -3,11 +3,11 @@
 use Rattle.std.specs.Prelude.{ℕ, ◌≡◌, ◌+◌, ◌*◌, ◌≤◌, ◌⊎◌, Bool, List, [], ◌∷◌, map, length}
 use Rattle.std.specs.List.{zip}
 use Rattle.rtcm_msg.specs.declared.header.MsmHeader.{MsmHeader}
-use Rattle.rtcm_msg.specs.declared.seats.Seat.{Seat}
+use Rattle.rtcm_msg.specs.declared.pairs.Pair.{Pair}
 use Rattle.rtcm_msg.specs.Packed.{total_width}
 use Rattle.rtcm_msg.specs.Columns.{EachBelow}
 use Rattle.rtcm_msg.specs.Msm.{MsmValue, MasksValue, IsHeader, satellite_mask_bits, signal_mask_bits, most_pairs}
-use Rattle.rtcm_msg.specs.Entries.{ids, seats, Rising}
+use Rattle.rtcm_msg.specs.Entries.{ids, cell_pairs, Rising}
 
 -- For each satellite its ID and its data, in rising order of the IDs; the IDs of the signals, rising; for each cell the
 -- IDs of its satellite and its signal, and its data, ordered by satellite, then by signal.
@@ -18,12 +18,12 @@ pub record Meaning : Type 0 where
   pub signals : List ℕ
   pub cells : List ((ℕ × ℕ) × ℕ)
 
-abbrev pub pair : Seat → ℕ × ℕ
-pair x = (x.satellite, x.signal)
+abbrev pub ids_of : Pair → ℕ × ℕ
+ids_of x = (x.satellite, x.signal)
 
 -- The pairs of a satellite and a signal that have a cell.
-abbrev pub cell_pairs : MasksValue → List (ℕ × ℕ)
-cell_pairs s = map pair (seats s)
+abbrev pub cell_ids : MasksValue → List (ℕ × ℕ)
+cell_ids s = map ids_of (cell_pairs s)
 
 -- A pair as one number, which rises by satellite, then by signal.
 abbrev pub pair_number : ℕ × ℕ → ℕ
@@ -42,7 +42,7 @@ meaning v = record {
   header = v.header;
   satellites = zip (ids satellite_mask_bits v.sets.satellites) v.satellites;
   signals = ids signal_mask_bits v.sets.signals;
-  cells = zip (cell_pairs v.sets) v.cells;
+  cells = zip (cell_ids v.sets) v.cells;
 }
 
 -- ---- the meanings of values

@@ -7,7 +7,7 @@ use Rattle.rtcm_msg.specs.declared.fault.MsgFault.TheVariants.{TooManyCells, Bad
 use Rattle.rtcm_msg.specs.declared.header.MsmHeader.{MsmHeader}
 use Rattle.rtcm_msg.specs.declared.entry.LockField.{LockField}
 use Rattle.rtcm_msg.specs.declared.entry.LockField.TheVariants.{Df402, Df407}
-use Rattle.rtcm_msg.specs.Fields.{spelled, reading, ◌>>=◌}
+use Rattle.rtcm_msg.specs.Fields.{field_bits, reading, ◌>>=◌}
 use Rattle.rtcm_msg.specs.Layout.{Table, Uint, Flag, Reserved, Contents, fields_of, ◌▸◌, number_table}
 use Rattle.rtcm_msg.specs.Packed.{total_width, columns}
 use Rattle.rtcm_msg.specs.Columns.{columns_at, EachBelow}
@@ -41,8 +41,8 @@ pub record MasksValue : Type 0 where
   pub cells : ℕ
 
 -- The number of pairs of a satellite and a signal.
-abbrev pub pairs : ℕ → ℕ → ℕ
-pairs satellites signals = count_ones satellites * count_ones signals
+abbrev pub pair_count : ℕ → ℕ → ℕ
+pair_count satellites signals = count_ones satellites * count_ones signals
 
 -- A message, with the fields of each satellite and of each cell packed in one number.
 pub record MsmValue : Type 0 where
@@ -63,8 +63,8 @@ pub record IsHeader (h : MsmHeader) : Type 0 where
 pub record AreMasks (s : MasksValue) : Type 0 where
   pub satellites : s.satellites < 2 ^ satellite_mask_bits
   pub signals : s.signals < 2 ^ signal_mask_bits
-  pub few : pairs s.satellites s.signals ≤ most_pairs
-  pub cells : s.cells < 2 ^ pairs s.satellites s.signals
+  pub few : pair_count s.satellites s.signals ≤ most_pairs
+  pub cells : s.cells < 2 ^ pair_count s.satellites s.signals
 
 -- A message with these parts.
 abbrev pub msm_of_parts : Bool → MsmHeader → MasksValue → List ℕ → List ℕ → MsmValue
@@ -109,8 +109,8 @@ mask_table =
     ∷ []
 
 abbrev pub cell_mask_table : ℕ → Table
-cell_mask_table pairs =
-    (396, Uint pairs)  -- cell mask
+cell_mask_table width =
+    (396, Uint width)  -- cell mask
     ∷ []
 
 -- ---- the bits, for all values of the reserved ones
@@ -129,19 +129,19 @@ header_fields number h reserved =
 
 abbrev pub mask_fields : MasksValue → List (ℕ × ℕ)
 mask_fields s = fields_of mask_table (s.satellites ▸ s.signals ▸ tt)
-    ++ fields_of (cell_mask_table (pairs s.satellites s.signals)) (s.cells ▸ tt)
+    ++ fields_of (cell_mask_table (pair_count s.satellites s.signals)) (s.cells ▸ tt)
 
 -- All bits of a message with this number: after the masks the data of satellites, then of cells, each field by field.
 abbrev pub msm_bits : List ℕ → List ℕ → ℕ → MsmValue → ℕ → List Bool
 msm_bits satellite_widths cell_widths number v reserved =
-    spelled (header_fields number v.header reserved)
-    ++ (spelled (mask_fields v.sets) ++ (columns satellite_widths v.satellites ++ columns cell_widths v.cells))
+    field_bits (header_fields number v.header reserved)
+    ++ (field_bits (mask_fields v.sets) ++ (columns satellite_widths v.satellites ++ columns cell_widths v.cells))
 
 -- ---- reading, after the message number
 
 -- The epoch time is checked as soon as it is read.
-abbrev pub timely : ℕ → Cursor → Result (ℕ × Cursor) MsgFault
-timely time c = if nat_le week time then Err BadTime else Ok (time, c)
+abbrev pub checked_time : ℕ → Cursor → Result (ℕ × Cursor) MsgFault
+checked_time time c = if nat_le week time then Err BadTime else Ok (time, c)
 
 abbrev pub header_of : ℕ → ℕ → Contents header_table → MsmHeader
 header_of station time (more, (iods, (reserved, (steering, (clock, (smoothing, (interval, end))))))) =
@@ -161,13 +161,13 @@ abbrev pub after_time_at : ℕ → ℕ → Cursor → Result (MsmHeader × Curso
 after_time_at station time c = reading header_table c (λ m. Ok (header_of station time m.0, m.1))
 
 unfoldable pub header_at : Cursor → Result (MsmHeader × Cursor) MsgFault
-header_at c = reading time_table c (λ n. timely n.0.1.0 n.1 >>= λ time. after_time_at n.0.0 time.0 time.1)
+header_at c = reading time_table c (λ n. checked_time n.0.1.0 n.1 >>= λ time. after_time_at n.0.0 time.0 time.1)
 
 -- The number of pairs is checked as soon as both masks are read.
 abbrev pub masks_after : ℕ → ℕ → Cursor → Result (MasksValue × Cursor) MsgFault
 masks_after satellites signals c =
-    if nat_lt most_pairs (pairs satellites signals) then Err TooManyCells
-    else reading (cell_mask_table (pairs satellites signals)) c
+    if nat_lt most_pairs (pair_count satellites signals) then Err TooManyCells
+    else reading (cell_mask_table (pair_count satellites signals)) c
     (λ cells. Ok (record { satellites = satellites; signals = signals; cells = cells.0.0 }, cells.1))
 
 unfoldable pub masks_at : Cursor → Result (MasksValue × Cursor) MsgFault

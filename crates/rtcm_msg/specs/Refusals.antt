@@ -6,14 +6,14 @@ use Rattle.rtcm_msg.specs.declared.header.MsmHeader.{MsmHeader}
 use Rattle.rtcm_msg.specs.declared.station.StationParts.{StationParts}
 use Rattle.rtcm_msg.specs.declared.fault.ValueFault.{ValueFault}
 use Rattle.rtcm_msg.specs.Ranges.{fits_int}
-use Rattle.rtcm_msg.specs.Msm.{MasksValue, pairs, week, most_pairs}
+use Rattle.rtcm_msg.specs.Msm.{MasksValue, pair_count, week, most_pairs}
 use Rattle.rtcm_msg.specs.declared.fault.ValueFault.TheVariants as faults
 use Rattle.rtcm_msg.specs.declared.fault.Field.TheVariants as fields
 
 abbrev pub masks_of : ℕ → ℕ → ℕ → Result MasksValue ValueFault
 masks_of satellites signals cells =
-    if nat_lt most_pairs (pairs satellites signals) then Err faults.TooManyCells
-    else (if nat_le (2 ^ pairs satellites signals) cells then Err (faults.OutOfRange fields.Cells)
+    if nat_lt most_pairs (pair_count satellites signals) then Err faults.TooManyCells
+    else (if nat_le (2 ^ pair_count satellites signals) cells then Err (faults.OutOfRange fields.Cells)
     else Ok (record { satellites = satellites; signals = signals; cells = cells }))
 
 -- The first field of a station message, in the order of the layout, that is out of range.

@@ -4,7 +4,7 @@ use Rattle.std.specs.Prelude.{replicate}
 use Rattle.rtcm_bits.specs.Reading.{Cursor}
 use Rattle.rtcm_msg.specs.declared.fault.MsgFault.{MsgFault}
 use Rattle.rtcm_msg.specs.declared.fault.MsgFault.TheVariants.{Short}
-use Rattle.rtcm_msg.specs.Fields.{standing, field_at}
+use Rattle.rtcm_msg.specs.Fields.{cursor_at, field_at}
 use Rattle.rtcm_msg.specs.Columns.{columns_at}
 
 -- The numbers that were read; none after a fault.
@@ -14,7 +14,7 @@ numbers_in (Err e) = []
 
 -- The data of `count` satellites or cells that begin at a bit, the fields of each packed in one number.
 abbrev pub rows_at : List ℕ → ℕ → List Bool → ℕ → List ℕ
-rows_at widths count bits place = numbers_in (columns_at widths (replicate count 0) (standing bits place))
+rows_at widths count bits place = numbers_in (columns_at widths (replicate count 0) (cursor_at bits place))
 
 -- The bit after the data of `count` satellites or cells in len bits; or `Short` with the first field that does not end
 -- within them.

@@ -9,7 +9,7 @@ use Rattle.rtcm_msg.specs.declared.view.Form.TheVariants as forms
 use Rattle.rtcm_msg.specs.declared.entry.Entry.{Entry}
 use Rattle.rtcm_msg.specs.declared.entry.LockField.{LockField}
 use Rattle.rtcm_msg.specs.declared.entry.LockField.TheVariants.{Df402, Df407}
-use Rattle.rtcm_msg.specs.declared.seats.Seat.{Seat}
+use Rattle.rtcm_msg.specs.declared.pairs.Pair.{Pair}
 use Rattle.rtcm_msg.specs.declared.grid4.Satellite4.{Satellite4}
 use Rattle.rtcm_msg.specs.declared.grid7.Satellite7.{Satellite7}
 use Rattle.rtcm_msg.specs.Msm.{MsmValue}
@@ -29,7 +29,7 @@ lock_field forms.Msm4 = Df402
 lock_field forms.Msm7 = Df407
 
 -- The data of a cell, by the form of its message.
-abbrev pub entry_in : Form → MsmValue → Seat × ℕ → Entry
+abbrev pub entry_in : Form → MsmValue → Pair × ℕ → Entry
 entry_in forms.Msm4 v = entry4 v
 entry_in forms.Msm7 v = entry7 v
 
@@ -44,7 +44,7 @@ rough forms.Msm7 n = grid7.satellite_data n
 
 -- The data of the satellite at an index are kept, if there is one.
 abbrev pub Keeps : Form → List ℕ → ℕ → Satellite7 → Type 0
-Keeps form satellites place kept = place < length satellites → kept ≡ rough form (slice_index satellites place)
+Keeps form satellites i kept = i < length satellites → kept ≡ rough form (slice_index satellites i)
 
 -- An iteration over the cells of a message of this form: the data of the cells that are left.
 pub record Unread : Type 0 where

@@ -60,19 +60,19 @@ cell_rows form n (datas.Bits bytes satellites_at cells_at) = rows_at (cell_width
 cell_rows form n (datas.Packed satellites cells) = cells.now
 
 -- The bytes contain the data of this number of satellites and of cells from these bits on.
-pub record LieWithin (form : Form) (bytes satellites satellites_at cells cells_at : ℕ) : Type 0 where
+pub record AreWithin (form : Form) (bytes satellites satellites_at cells cells_at : ℕ) : Type 0 where
   pub small : bytes ≤ longest_message
   pub satellites_after : 64 ≤ satellites_at
   pub cells_after : 64 ≤ cells_at
   pub satellites_there : satellites_at + satellites * total_width (satellite_widths form) ≤ 8 * bytes
   pub cells_there : cells_at + cells * total_width (cell_widths form) ≤ 8 * bytes
 
-abbrev pub Lie : Form → ℕ → ℕ → Data → Type 0
-Lie form satellites cells (datas.Bits bytes satellites_at cells_at) =
-    LieWithin form (length bytes.now) satellites satellites_at cells cells_at
-Lie form satellites cells (datas.Packed s c) = (length s.now ≡ satellites) × (length c.now ≡ cells)
+abbrev pub AreIn : Form → ℕ → ℕ → Data → Type 0
+AreIn form satellites cells (datas.Bits bytes satellites_at cells_at) =
+    AreWithin form (length bytes.now) satellites satellites_at cells cells_at
+AreIn form satellites cells (datas.Packed s c) = (length s.now ≡ satellites) × (length c.now ≡ cells)
 
-pub record AreDataThere (form : Form) (satellites cells : ℕ) (rows : Data) : Type 0 where
+pub record AreDataOf (form : Form) (satellites cells : ℕ) (rows : Data) : Type 0 where
   pub satellites_few : satellites ≤ satellite_mask_bits
   pub cells_few : cells ≤ most_pairs
-  pub there : Lie form satellites cells rows
+  pub there : AreIn form satellites cells rows

@@ -1,7 +1,7 @@
 ghost use Rattle.std.specs.Prelude.{◌≡◌, ◌<◌, ◌≤◌, ◌^◌, IfSome, unsigned_abs};
 
 use crate::grid::Grid;
-use crate::seats::Seat;
+use crate::pairs::Pair;
 
 /// The data of a cell of MSM4 or MSM7, as exact fractions.
 #[derive(Clone, Copy, Debug, PartialEq, Eq, Default)]
@@ -34,12 +34,12 @@ pub enum LockField {
 }
 
 /// Returns the entry of a cell from its data and those of its satellite.
-pub(crate) fn entry_of<G: Grid>(seat: Seat, satellite: &G::Satellite, cell: &G::Cell) -> Entry
+pub(crate) fn entry_of<G: Grid>(pair: Pair, satellite: &G::Satellite, cell: &G::Cell) -> Entry
     requires satellite { G.is_satellite satellite.now }
     requires cell { G.is_cell cell.now }
     ensures value { result ≡ record {
-      satellite = seat.satellite;
-      signal = seat.signal;
+      satellite = pair.satellite;
+      signal = pair.signal;
       range = G.range_of satellite.now cell.now;
       phase = G.phase_of satellite.now cell.now;
       rate = G.rate_of satellite.now cell.now;
@@ -54,8 +54,8 @@ pub(crate) fn entry_of<G: Grid>(seat: Seat, satellite: &G::Satellite, cell: &G::
     ensures lock { result.lock < G.lock_codes }
 {
     Entry {
-        satellite: seat.satellite,
-        signal: seat.signal,
+        satellite: pair.satellite,
+        signal: pair.signal,
         range: G::range(satellite, cell),
         phase: G::phase(satellite, cell),
         rate: G::rate(satellite, cell),

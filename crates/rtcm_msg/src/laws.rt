@@ -4,17 +4,17 @@ ghost use Rattle.std.specs.Prelude.{◌≤◌, length, ◌<◌, ◌^◌, ◌≡�
 ghost use Rattle.rtcm_bits.specs.Bits.{filled};
 ghost use Rattle.rtcm_bits.specs.FrameOf.{longest_message_bits};
 ghost use Rattle.rtcm_msg.specs.declared.message.Message.{Message};
-ghost use Rattle.rtcm_msg.specs.Spelling.{message_bits, is_other, ReadsMessage, IsMessage, IsEncoding};
+ghost use Rattle.rtcm_msg.specs.Encoding.{message_bits, is_other, ReadsMessage, IsMessage, IsEncoding};
 ghost use Rattle.rtcm_msg.specs.Reading.{message_at};
-ghost use Rattle.rtcm_msg.specs.Reach.{EntriesAreMeasured, PointsAreInRange};
+ghost use Rattle.rtcm_msg.specs.Bounds.{EntriesAreMeasured, PointsAreInRange};
 ghost use Rattle.rtcm_msg.specs.Msm.{MsmValue, MasksValue, IsValue, satellite_mask_bits};
 ghost use Rattle.rtcm_msg.specs.Meaning.{Meaning, IsMeaning, meaning, keys};
-ghost use Rattle.rtcm_msg.specs.Meaning.{pair_number, cell_pairs, first_pair, last_pair};
+ghost use Rattle.rtcm_msg.specs.Meaning.{pair_number, cell_ids, first_pair, last_pair};
 
 /// The encoding of a message, with reserved bits of zero and padded with zero bits to a byte, is
 /// decoded to the same message.
 pub fn read_back()
-    ensures spelled { (v : Message) → IsMessage v → is_other v ≡ false → ReadsMessage (filled (message_bits v 0)) v }
+    ensures encoded { (v : Message) → IsMessage v → is_other v ≡ false → ReadsMessage (filled (message_bits v 0)) v }
     ensures read { (v : Message) (bytes : List ℕ) → IsMessage v → is_other v ≡ false
         → IsEncoding bytes v → message_at bytes ≡ Ok v }
     // so its bytes fit a frame
@@ -39,8 +39,8 @@ pub fn masks_are_sets()
 pub fn values_are_maps()
     ensures satellites { (sw cw : List ℕ) (v : MsmValue) → IsValue sw cw v
         → keys (meaning v).satellites ≡ ids satellite_mask_bits v.sets.satellites }
-    ensures cells { (sw cw : List ℕ) (v : MsmValue) → IsValue sw cw v → keys (meaning v).cells ≡ cell_pairs v.sets }
-    ensures rising { (s : MasksValue) → Rising first_pair last_pair (map pair_number (cell_pairs s)) }
+    ensures cells { (sw cw : List ℕ) (v : MsmValue) → IsValue sw cw v → keys (meaning v).cells ≡ cell_ids v.sets }
+    ensures rising { (s : MasksValue) → Rising first_pair last_pair (map pair_number (cell_ids s)) }
     ensures one { (sw cw : List ℕ) (v w : MsmValue) → IsValue sw cw v → IsValue sw cw w
         → meaning v ≡ meaning w → v ≡ w }
     ensures all { (sw cw : List ℕ) (m : Meaning) → IsMeaning sw cw m

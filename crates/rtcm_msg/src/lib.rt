@@ -16,7 +16,7 @@ pub mod laws;
 mod masks;
 mod message;
 mod msm;
-mod seats;
+mod pairs;
 mod station;
 mod summary;
 mod view;

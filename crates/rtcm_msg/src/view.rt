@@ -2,12 +2,12 @@ ghost use Rattle.std.specs.Prelude.{[], ◌≡◌, ◌*◌, ◌<◌, ◌≤◌, 
 ghost use Rattle.std.specs.Prelude.{All, IfOk, IfSome, IfNone};
 ghost use Rattle.rtcm_bits.specs.Bits.{bits_of};
 ghost use Rattle.rtcm_bits.specs.FrameOf.{longest_message};
-ghost use Rattle.rtcm_msg.specs.Fields.{GivesViewed, standing};
+ghost use Rattle.rtcm_msg.specs.Fields.{GivesViewed, cursor_at};
 ghost use Rattle.rtcm_msg.specs.Msm.{codes_of, IsHeader, IsValue, satellite_mask_bits, most_pairs};
 ghost use Rattle.rtcm_msg.specs.Reading.{message_at, body_at};
 ghost use Rattle.rtcm_msg.specs.Viewed.{viewed_message, entry_in, lock_field, rough, Keeps};
 ghost use Rattle.rtcm_msg.specs.Entries.{IsEntry, entries};
-ghost use Rattle.rtcm_msg.specs.Spelling.{IsMessage};
+ghost use Rattle.rtcm_msg.specs.Encoding.{IsMessage};
 ghost use Rattle.rtcm_msg.specs.Rows as rows;
 ghost use Rattle.rtcm_msg.specs.Views as views;
 
@@ -21,7 +21,7 @@ use crate::header::{MsmHeader, read_header};
 use crate::masks::{Masks, read_masks};
 use crate::message::{Message, read_set};
 use crate::msm::msm_of;
-use crate::seats::{Pairs, Seat, first_pairs, split_cells};
+use crate::pairs::{Pair, Pairs, first_pairs, split_cells};
 use crate::station::{Station, read_station};
 use rtcm_bits::{BitReader, LONGEST_MESSAGE};
 use std::marker::Model;
@@ -84,7 +84,7 @@ pub struct MsmView<'a> {
 }
 
 impl<'a> Model for MsmView<'a> {
-    ghost use Rattle.rtcm_msg.specs.Views.{FormedMsm, AreDataThere, satellite_rows, cell_rows};
+    ghost use Rattle.rtcm_msg.specs.Views.{FormedMsm, AreDataOf, satellite_rows, cell_rows};
     ghost use Rattle.rtcm_msg.specs.Views.{satellite_widths, cell_widths};
     ghost use Rattle.rtcm_msg.specs.Msm.{IsValue};
 
@@ -109,7 +109,7 @@ impl<'a> Model for MsmView<'a> {
           satellites = satellite_rows v.form v.satellites v.rows;
           cells = cell_rows v.form v.cells v.rows;
         })
-        × AreDataThere v.form v.satellites v.cells v.rows };
+        × AreDataOf v.form v.satellites v.cells v.rows };
 }
 
 impl<'a> MsmView<'a> {
@@ -204,12 +204,12 @@ impl<'a> MsmView<'a> {
 
     /// Returns the data of satellite `i` in the form of MSM7: `kept`, if those are of satellite `i`.
     /// MSM4 has no rate and no extended information.
-    fn rough(&self, i: usize, place: usize, kept: Satellite7) -> Satellite7
+    fn rough(&self, i: usize, index: usize, kept: Satellite7) -> Satellite7
         requires there { i < length self.now.msm.satellites }
-        requires keeps { Keeps self.now.form self.now.msm.satellites place kept }
+        requires keeps { Keeps self.now.form self.now.msm.satellites index kept }
         ensures { result ≡ rough self.now.form (slice_index self.now.msm.satellites i) }
     {
-        if i == place {
+        if i == index {
             return kept;
         }
         match self.form() {
@@ -228,10 +228,10 @@ impl<'a> MsmView<'a> {
 
     /// Returns the entry of cell `i`, which is of this satellite and signal.
     #[inline(always)]
-    fn entry(&self, seat: Seat, satellite: &Satellite7, i: usize) -> Entry
-        requires rough { satellite.now ≡ rough self.now.form (slice_index self.now.msm.satellites seat.place) }
+    fn entry(&self, pair: Pair, satellite: &Satellite7, i: usize) -> Entry
+        requires rough { satellite.now ≡ rough self.now.form (slice_index self.now.msm.satellites pair.index) }
         requires cell { i < length self.now.msm.cells }
-        ensures value { result ≡ entry_in self.now.form self.now.msm (seat, slice_index self.now.msm.cells i) }
+        ensures value { result ≡ entry_in self.now.form self.now.msm (pair, slice_index self.now.msm.cells i) }
         ensures bounds { IsEntry (codes_of (lock_field self.now.form)) result }
     {
         match self.form() {
@@ -242,9 +242,9 @@ impl<'a> MsmView<'a> {
                     ..
                 } = *satellite;
                 let cell = self.cell::<Grid4>(i);
-                entry_of::<Grid4>(seat, &Satellite4 { whole, fraction }, &cell)
+                entry_of::<Grid4>(pair, &Satellite4 { whole, fraction }, &cell)
             }
-            Form::Msm7 => entry_of::<Grid7>(seat, satellite, &self.cell::<Grid7>(i)),
+            Form::Msm7 => entry_of::<Grid7>(pair, satellite, &self.cell::<Grid7>(i)),
         }
     }
 
@@ -260,7 +260,7 @@ impl<'a> MsmView<'a> {
             pairs,
             left,
             next: 0,
-            place: self.satellites(),
+            index: self.satellites(),
             satellite: Satellite7::default(),
         }
     }
@@ -275,14 +275,14 @@ pub struct Entries<'a> {
     left: u32,
     next: usize,
     /// The index of the satellite whose data were read last, or the number of satellites.
-    place: usize,
+    index: usize,
     satellite: Satellite7,
 }
 
 impl<'a> Model for Entries<'a> {
     ghost use Rattle.std.specs.Prelude.{◌≡◌, ◌+◌, map, drop, length, count_ones};
     ghost use Rattle.std.specs.List.{zip};
-    ghost use Rattle.rtcm_msg.specs.Walks.{seats_left, AreLeft};
+    ghost use Rattle.rtcm_msg.specs.Pairs.{cell_pairs_left, AreLeft};
     ghost use Rattle.rtcm_msg.specs.Viewed.{Unread, Keeps, entry_in};
 
     ghost Value = { Unread };
@@ -290,12 +290,12 @@ impl<'a> Model for Entries<'a> {
     ghost view = { λ e. record {
       form = e.view.now.form;
       left = map (entry_in e.view.now.form e.view.now.msm)
-          (zip (seats_left e.left e.view.now.msm.sets e.pairs) (drop e.next e.view.now.msm.cells));
+          (zip (cell_pairs_left e.left e.view.now.msm.sets e.pairs) (drop e.next e.view.now.msm.cells));
     } };
 
     ghost invariant = { λ e. AreLeft (count_ones e.view.now.msm.sets.satellites) e.left e.pairs
-        × (length (seats_left e.left e.view.now.msm.sets e.pairs) + e.next ≡ length e.view.now.msm.cells)
-        × Keeps e.view.now.form e.view.now.msm.satellites e.place e.satellite };
+        × (length (cell_pairs_left e.left e.view.now.msm.sets e.pairs) + e.next ≡ length e.view.now.msm.cells)
+        × Keeps e.view.now.form e.view.now.msm.satellites e.index e.satellite };
 }
 
 impl<'a> Entries<'a> {
@@ -307,13 +307,13 @@ impl<'a> Entries<'a> {
         ensures none { IfNone result ((self.old.left ≡ []) × (self.new.left ≡ [])) }
         ensures same { self.new.form ≡ self.old.form }
     {
-        let (seat, pairs, left) = split_cells(self.pairs, self.view.masks().cells(), self.left)?;
+        let (pair, pairs, left) = split_cells(self.pairs, self.view.masks().cells(), self.left)?;
         let _ = (self.view.satellites(), self.view.cells());
-        let satellite = self.view.rough(seat.place, self.place, self.satellite);
-        let entry = self.view.entry(seat, &satellite, self.next);
+        let satellite = self.view.rough(pair.index, self.index, self.satellite);
+        let entry = self.view.entry(pair, &satellite, self.next);
         self.pairs = pairs;
         self.left = left;
-        self.place = seat.place;
+        self.index = pair.index;
         self.satellite = satellite;
         self.next += 1;
         Some(entry)
@@ -384,7 +384,7 @@ fn view_msm<'a>(
 ) -> Result<View<'a>, MsgFault>
     requires small { length bytes.now ≤ longest_message }
     requires number { 12 ≤ 8 * length bytes.now }
-    requires stands { reader.old ≡ standing (bits_of bytes.now) 12 }
+    requires cursor { reader.old ≡ cursor_at (bits_of bytes.now) 12 }
     ensures { GivesViewed viewed_message result (views.formed_at form is_galileo reader.old) }
 {
     let header = read_header(reader)?;
@@ -411,7 +411,7 @@ fn view_msm<'a>(
 fn view_body<'a>(number: u16, bytes: &'a [u8], reader: &mut BitReader) -> Result<View<'a>, MsgFault>
     requires small { length bytes.now ≤ longest_message }
     requires number { 12 ≤ 8 * length bytes.now }
-    requires stands { reader.old ≡ standing (bits_of bytes.now) 12 }
+    requires cursor { reader.old ≡ cursor_at (bits_of bytes.now) 12 }
     ensures { GivesViewed viewed_message result (body_at number reader.old) }
 {
     match number {

@@ -2,7 +2,7 @@ ghost use Rattle.std.specs.Prelude.{◌≡◌, ◌+◌, ◌*◌, ◌/◌, ◌^�
 ghost use Rattle.std.specs.List.{list_all, flat_map};
 ghost use Rattle.rtcm_bits.specs.Bits.{uint};
 ghost use Rattle.rtcm_bits.specs.FrameOf.{longest_message_bits};
-ghost use Rattle.rtcm_msg.specs.Fields.{spelled, fields_width};
+ghost use Rattle.rtcm_msg.specs.Fields.{field_bits, fields_width};
 ghost use Rattle.rtcm_msg.specs.Station.{InRange, station_fields};
 ghost use Rattle.rtcm_msg.specs.Msm.{header_fields, mask_fields};
 ghost use Rattle.rtcm_msg.specs.Packed.{columns, total_width};
@@ -16,7 +16,7 @@ use rtcm_bits::{BitWriter, raw_of};
 fn write_fields(writer: &mut BitWriter, fields: &[(u32, u64)])
     requires few { IsTrue (list_all (λ f. nat_le f.0 64) fields.now) }
     requires room { length writer.old + fields_width fields.now ≤ longest_message_bits }
-    ensures bits { writer.new ≡ writer.old ++ spelled fields.now }
+    ensures bits { writer.new ≡ writer.old ++ field_bits fields.now }
     ensures len { length writer.new ≡ length writer.old + fields_width fields.now }
 {
     for (width, number) in fields {
@@ -28,7 +28,7 @@ fn write_fields(writer: &mut BitWriter, fields: &[(u32, u64)])
 pub(crate) fn write_station(writer: &mut BitWriter, parts: &StationParts)
     requires room { length writer.old + 168 ≤ longest_message_bits }
     requires in_range { InRange parts.now }
-    ensures { writer.new ≡ writer.old ++ spelled (station_fields parts.now 0) }
+    ensures { writer.new ≡ writer.old ++ field_bits (station_fields parts.now 0) }
 {
     let fields = [
         (12, 1005 + parts.height.is_some() as u64),
@@ -54,7 +54,7 @@ pub(crate) fn write_station(writer: &mut BitWriter, parts: &StationParts)
 /// Writes the header of an MSM with its message number.
 pub(crate) fn write_header(writer: &mut BitWriter, number: u16, header: &MsmHeader)
     requires { length writer.old + 73 ≤ longest_message_bits }
-    ensures bits { writer.new ≡ writer.old ++ spelled (header_fields number header.now 0) }
+    ensures bits { writer.new ≡ writer.old ++ field_bits (header_fields number header.now 0) }
     ensures len { length writer.new ≡ length writer.old + 73 }
 {
     let fields = [
@@ -75,7 +75,7 @@ pub(crate) fn write_header(writer: &mut BitWriter, number: u16, header: &MsmHead
 /// Writes the masks, DF394 to DF396.
 pub(crate) fn write_masks(writer: &mut BitWriter, masks: &Masks)
     requires { length writer.old + 160 ≤ longest_message_bits }
-    ensures bits { writer.new ≡ writer.old ++ spelled (mask_fields masks.now) }
+    ensures bits { writer.new ≡ writer.old ++ field_bits (mask_fields masks.now) }
     ensures len { length writer.new ≤ length writer.old + 160 }
 {
     let _ = masks.cells();

@@ -1,6 +1,6 @@
 use Rattle.rtcm_bits.specs.Bits.{bits_of}
 use Rattle.rtcm_msg.proofs.MessageLaws.{message_found}
-use Rattle.rtcm_msg.proofs.ReachLaws.{entries_measured, point_in_range}
+use Rattle.rtcm_msg.proofs.BoundsLaws.{entries_measured, point_in_range}
 use Rattle.rtcm_msg.proofs.laws.measures.Goals as goal
 
 pub returns-clause-cells : goal.returns-clause-cells

@@ -1,6 +1,6 @@
 use Rattle.std.proofs.Common.{◌≡◌, length, arith, ◌∙◌, sym, append-nil}
 use Rattle.std.proofs.Math.Seq.{drop-length}
-use Rattle.rtcm_msg.specs.Fields.{spelled}
+use Rattle.rtcm_msg.specs.Fields.{field_bits}
 use Rattle.rtcm_msg.proofs.WritingSteps.{fields_next, width_next}
 use Rattle.rtcm_msg.proofs.writing.write_fields.Goals as goal
 
@@ -13,7 +13,7 @@ loop-width-preserved c =
     }
 
 pub returns-clause-bits : goal.returns-clause-bits
-unfolding spelled
+unfolding field_bits
 returns-clause-bits c =
     let end : c.loop-width.width-index ≡ length c.args.fields.now = omega arith in
     sym (append-nil c.loop-width.writer) ∙ (rw (end, drop-length c.args.fields.now) at c.loop-width.invariant.bits)

@@ -3,17 +3,17 @@ use Rattle.std.proofs.lemmas.Int.{to_z-of_z}
 use Rattle.rtcm_bits.specs.Bits.{raw}
 use Rattle.rtcm_bits.specs.BitLaws.{byte-bit}
 use Rattle.rtcm_msg.specs.declared.station.StationParts.{StationParts}
-use Rattle.rtcm_msg.specs.Fields.{spelled}
+use Rattle.rtcm_msg.specs.Fields.{field_bits}
 use Rattle.rtcm_msg.specs.Station.{common_fields, station_fields}
-use Rattle.rtcm_msg.proofs.WritingSteps.{spelled-append}
+use Rattle.rtcm_msg.proofs.WritingSteps.{field_bits-append}
 use Rattle.rtcm_msg.proofs.writing.write_station.Goals as goal
 
 coordinate : (r : ℕ) (z : ℤ) → FitsSigned w64 z → r ≡ raw 38 (to_z w64 (of_z w64 z)) → r ≡ raw 38 z
 coordinate r z f e = e ∙ ap (raw 38) (to_z-of_z w64 z f)
 
-with_height : (s : StationParts) (h : ℕ) (old mid new : List Bool) → s.height ≡ Some h → mid ≡ old ++ spelled (common_fields 1006 s 0) → new ≡ mid ++ spelled ((16, h) ∷ []) → new ≡ old ++ spelled (station_fields s 0)
+with_height : (s : StationParts) (h : ℕ) (old mid new : List Bool) → s.height ≡ Some h → mid ≡ old ++ field_bits (common_fields 1006 s 0) → new ≡ mid ++ field_bits ((16, h) ∷ []) → new ≡ old ++ field_bits (station_fields s 0)
 with_height s h old mid new e m n =
-    rw (e, n, m) (append_assoc old (spelled (common_fields 1006 s 0)) (spelled ((16, h) ∷ [])) ∙ ap (λ t. old ++ t) (sym (spelled-append (common_fields 1006 s 0) ((16, h) ∷ []))))
+    rw (e, n, m) (append_assoc old (field_bits (common_fields 1006 s 0)) (field_bits ((16, h) ∷ [])) ∙ ap (λ t. old ++ t) (sym (field_bits-append (common_fields 1006 s 0) ((16, h) ∷ []))))
 
 pub returns-in-Some : goal.returns-in-Some
 returns-in-Some c =
@@ -21,7 +21,7 @@ returns-in-Some c =
     let x = coordinate c.raw_of.result p.x (search rules) c.raw_of.ensures.value in
     let y = coordinate c.raw_of-2.result p.y (search rules) c.raw_of-2.ensures.value in
     let z = coordinate c.raw_of-3.result p.z (search rules) c.raw_of-3.ensures.value in
-    let common : c.write_fields.new.writer ≡ c.args.writer.now ++ spelled (common_fields 1006 p 0) = rw (c.write_fields.ensures.bits, x, y, z, byte-bit p.gps, byte-bit p.glonass, byte-bit p.galileo, byte-bit p.reference, byte-bit p.oscillator, c.is_some.ensures, c.in-Some.is) refl in
+    let common : c.write_fields.new.writer ≡ c.args.writer.now ++ field_bits (common_fields 1006 p 0) = rw (c.write_fields.ensures.bits, x, y, z, byte-bit p.gps, byte-bit p.glonass, byte-bit p.galileo, byte-bit p.reference, byte-bit p.oscillator, c.is_some.ensures, c.in-Some.is) refl in
     with_height p c.in-Some.height c.args.writer.now c.write_fields.new.writer c.write_fields-in-Some.new.writer c.in-Some.is common c.write_fields-in-Some.ensures.bits
 
 pub returns-in_default : goal.returns-in_default

@@ -5,8 +5,8 @@ use Rattle.rtcm_bits.specs.BitLaws.{byte-bit}
 use Rattle.rtcm_msg.proofs.grid7.Grid7Grid.cell_number.Goals as goal
 
 -- The positions of the fields in the number.
-laid : (a b l h s r : ℕ) → ((((a * 16777216 + b) * 1024 + l) * 2 + h) * 1024 + s) * 32768 + r ≡ a * 1152921504606846976 + (b * 68719476736 + (l * 67108864 + (h * 33554432 + (s * 32768 + (r * 1 + 0)))))
-laid a b l h s r = omega arith
+are_within : (a b l h s r : ℕ) → ((((a * 16777216 + b) * 1024 + l) * 2 + h) * 1024 + s) * 32768 + r ≡ a * 1152921504606846976 + (b * 68719476736 + (l * 67108864 + (h * 33554432 + (s * 32768 + (r * 1 + 0)))))
+are_within a b l h s r = omega arith
 
 from_32 : (z : ℤ) → FitsSigned w32 z → to_z w64 (of_z w64 (to_z w32 (of_z w32 z))) ≡ z
 from_32 z f = rw (to_z-of_z w32 z f) (to_z-of_z w64 z (omega (arith, ints, f)))
@@ -23,4 +23,4 @@ returns c =
     let x : c.raw_of-range.result ≡ raw 20 v.range = c.raw_of-range.ensures.value ∙ ap (raw 20) (from_32 v.range fx) in
     let y : c.raw_of-phase.result ≡ raw 24 v.phase = c.raw_of-phase.ensures.value ∙ ap (raw 24) (from_32 v.phase fy) in
     let z : c.raw_of-rate.result ≡ raw 15 v.rate = c.raw_of-rate.ensures.value ∙ ap (raw 15) (from_16 v.rate fz) in
-    rw (x, y, z, byte-bit v.half_cycle) (laid (raw 20 v.range) (raw 24 v.phase) v.lock _ v.strength (raw 15 v.rate))
+    rw (x, y, z, byte-bit v.half_cycle) (are_within (raw 20 v.range) (raw 24 v.phase) v.lock _ v.strength (raw 15 v.rate))

@@ -1,6 +1,6 @@
 use Rattle.std.proofs.Common.{◌∙◌, ap, sym, subst, slice_index}
 use Rattle.rtcm_msg.specs.declared.view.Data.{Data}
-use Rattle.rtcm_msg.specs.Views.{FormedMsm, AreDataThere, cell_widths, cell_rows}
+use Rattle.rtcm_msg.specs.Views.{FormedMsm, AreDataOf, cell_widths, cell_rows}
 use Rattle.rtcm_msg.proofs.ViewLaws.{row_value, below, fits, cells_counted}
 use Rattle.rtcm_msg.proofs.view.MsmView.cell.Goals as goal
 
@@ -9,7 +9,7 @@ cell_in-requires-clause-there g c = below c.args.i c.self.inside.cells _ _ (cell
 
 pub returns-in-Bits-clause-value : goal.returns-in-Bits-clause-value
 returns-in-Bits-clause-value g c =
-    let there = subst (AreDataThere c.self.inside.form c.self.inside.satellites c.self.inside.cells) c.in-Bits.is c.self.invariant.1 in
+    let there = subst (AreDataOf c.self.inside.form c.self.inside.satellites c.self.inside.cells) c.in-Bits.is c.self.invariant.1 in
     let h = below c.args.i c.self.inside.cells _ _ (cells_counted c.self.inside.form c.self.inside.satellites c.self.inside.cells c.self.inside.rows c.self.invariant.1) (ap (λ (v : FormedMsm). v.msm.cells) c.self.view_is) c.requires.there in
     let widths = c.requires.widths ∙ sym (ap (λ (v : FormedMsm). cell_widths v.form) c.self.view_is) in
     c.cell_in.ensures

@@ -6,11 +6,11 @@ use Rattle.std.proofs.Math.Nat.{mod-eq_of_lt}
 use Rattle.std.proofs.lemmas.List.{length-map}
 use Rattle.std.proofs.lemmas.List.FromFn.{length-enumerate_from}
 use Rattle.std.specs.List.{flat_map, enumerate_from}
-use Rattle.rtcm_msg.specs.declared.seats.Seat.{Seat}
-use Rattle.rtcm_msg.specs.Msm.{MasksValue, AreMasks, pairs}
+use Rattle.rtcm_msg.specs.declared.pairs.Pair.{Pair}
+use Rattle.rtcm_msg.specs.Msm.{MasksValue, AreMasks, pair_count}
 use Rattle.rtcm_bits.specs.Bits.{uint}
 use Rattle.rtcm_bits.specs.BitLaws.{length-uint, mod-suc}
-use Rattle.rtcm_msg.specs.Entries.{up_from, ids, chosen, seat, all_pairs, seats}
+use Rattle.rtcm_msg.specs.Entries.{up_from, ids, chosen, pair, all_pairs, cell_pairs}
 
 -- ---- the number of IDs
 
@@ -41,23 +41,23 @@ ids_count w n h = up_count w n 1 ∙ ap count_ones (mod-eq_of_lt h)
 
 -- ---- pairs
 
-rows_length : (f : ℕ × ℕ → ℕ → Seat) (sig : List ℕ) (xs : List (ℕ × ℕ)) → length (flat_map (λ x. map (f x) sig) xs) ≡ length xs * length sig
+rows_length : (f : ℕ × ℕ → ℕ → Pair) (sig : List ℕ) (xs : List (ℕ × ℕ)) → length (flat_map (λ x. map (f x) sig) xs) ≡ length xs * length sig
 rows_length f sig [] = omega arith
 rows_length f sig (x ∷ xs) = length-append (map (f x) sig) (flat_map (λ x. map (f x) sig) xs) ∙ rw (length-map sig (f x), rows_length f sig xs) (omega arith)
 
-pub pairs_count : (s : MasksValue) → AreMasks s → length (all_pairs s) ≡ pairs s.satellites s.signals
+pub pairs_count : (s : MasksValue) → AreMasks s → length (all_pairs s) ≡ pair_count s.satellites s.signals
 pairs_count s h =
-    rows_length seat (ids 32 s.signals) (enumerate_from 0 (ids 64 s.satellites))
+    rows_length pair (ids 32 s.signals) (enumerate_from 0 (ids 64 s.satellites))
     ∙ rw (length-enumerate_from 0 (ids 64 s.satellites), ids_count 64 s.satellites h.satellites, ids_count 32 s.signals h.signals) refl
 
-chosen_count : (i : ℕ) (bits : List Bool) (xs : List Seat) → length bits ≤ length xs → length (chosen bits xs) ≡ length (up_from i bits)
+chosen_count : (i : ℕ) (bits : List Bool) (xs : List Pair) → length bits ≤ length xs → length (chosen bits xs) ≡ length (up_from i bits)
 unfolding chosen up_from
 chosen_count i [] xs h = refl
 chosen_count i (b ∷ bits) [] h = absurd (omega (arith, h))
 chosen_count i (true ∷ bits) (x ∷ xs) h = ap suc (chosen_count (i + 1) bits xs (omega (arith, h)))
 chosen_count i (false ∷ bits) (x ∷ xs) h = chosen_count (i + 1) bits xs (omega (arith, h))
 
-pub seats_count : (s : MasksValue) → AreMasks s → length (seats s) ≡ count_ones s.cells
-seats_count s h =
-    let p = pairs s.satellites s.signals in
+pub cell_pairs_count : (s : MasksValue) → AreMasks s → length (cell_pairs s) ≡ count_ones s.cells
+cell_pairs_count s h =
+    let p = pair_count s.satellites s.signals in
     chosen_count 1 (uint p s.cells) (all_pairs s) (omega (arith, length-uint p s.cells, pairs_count s h)) ∙ (up_count p s.cells 1 ∙ ap count_ones (mod-eq_of_lt h.cells))

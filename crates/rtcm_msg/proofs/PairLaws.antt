@@ -5,13 +5,13 @@ use Rattle.std.proofs.lemmas.Nat.{leading_top, pow_pos}
 use Rattle.std.proofs.lemmas.Bool.{cases_lt}
 use Rattle.std.proofs.Math.Nat.{div-eq_of_lt}
 use Rattle.rtcm_bits.specs.Bits.{uint, odd}
-use Rattle.rtcm_msg.specs.declared.seats.Seat.{Seat}
-use Rattle.rtcm_msg.specs.declared.seats.Pairs.{Pairs}
+use Rattle.rtcm_msg.specs.declared.pairs.Pair.{Pair}
+use Rattle.rtcm_msg.specs.declared.pairs.Pairs.{Pairs}
 use Rattle.rtcm_bits.specs.BitLaws.{uint-low, pow_mono, length-uint}
-use Rattle.rtcm_msg.specs.Entries.{up_from, ids, seat, chosen}
-use Rattle.rtcm_msg.specs.Msm.{MasksValue, AreMasks, pairs}
-use Rattle.rtcm_msg.specs.Walks.{rows, pairs_from, pairs_left, IsWalking, ArePlaced}
-use Rattle.rtcm_msg.proofs.SeatLaws.{ids_count, pairs_count}
+use Rattle.rtcm_msg.specs.Entries.{up_from, ids, pair, chosen}
+use Rattle.rtcm_msg.specs.Msm.{MasksValue, AreMasks, pair_count}
+use Rattle.rtcm_msg.specs.Pairs.{all_pairs_from, pairs_from, pairs_left, ArePairs, IndicesAreBelow}
+use Rattle.rtcm_msg.proofs.CountLaws.{ids_count, pairs_count}
 
 -- ---- the highest bit of a set
 
@@ -86,13 +86,13 @@ ids_few w m = let few = up_few 1 (uint w m) in omega (arith, few, length-uint w 
 
 -- ---- pairs
 
-pub rows_are : (all : List ℕ) (k : ℕ) (xs : List ℕ) → rows all k xs ≡ pairs_from k xs all all
-rows_are all k [] = refl
-rows_are all k (x ∷ xs) = refl
+pub all_pairs_from_is : (all : List ℕ) (k : ℕ) (xs : List ℕ) → all_pairs_from all k xs ≡ pairs_from k xs all all
+all_pairs_from_is all k [] = refl
+all_pairs_from_is all k (x ∷ xs) = refl
 
-rows_none : (k : ℕ) (xs : List ℕ) → rows [] k xs ≡ []
-rows_none k [] = refl
-rows_none k (x ∷ xs) = rows_none (k + 1) xs
+all_pairs_from_none : (k : ℕ) (xs : List ℕ) → all_pairs_from [] k xs ≡ []
+all_pairs_from_none k [] = refl
+all_pairs_from_none k (x ∷ xs) = all_pairs_from_none (k + 1) xs
 
 -- If pairs are left, a satellite is left.
 pub satellite_left : (k m : ℕ) (left all : List ℕ) → 0 < length (pairs_from k (ids 64 m) left all) → 0 < m
@@ -102,35 +102,35 @@ satellite_left k (suc m) left all h = omega arith
 -- If pairs are left and no signal was removed, a signal is left.
 pub signal_left : (k : ℕ) (xs : List ℕ) (g : ℕ) → 0 < length (pairs_from k xs (ids 32 g) (ids 32 g)) → 0 < g
 signal_left k xs zero h =
-    let none : pairs_from k xs (ids 32 0) (ids 32 0) ≡ [] = sym (rows_are (ids 32 0) k xs) ∙ (ap (λ (gs : List ℕ). rows gs k xs) (ids_none 32) ∙ rows_none k xs) in
+    let none : pairs_from k xs (ids 32 0) (ids 32 0) ≡ [] = sym (all_pairs_from_is (ids 32 0) k xs) ∙ (ap (λ (gs : List ℕ). all_pairs_from gs k xs) (ids_none 32) ∙ all_pairs_from_none k xs) in
     absurd (omega (arith, rw none at h))
 signal_left k xs (suc g) h = omega arith
 
 -- No signal of the first satellite is left.
 pub next_row : (k m g x n all : ℕ) → g ≡ 0 → ids 64 m ≡ x ∷ ids 64 n → pairs_from (k + 1) (ids 64 n) (ids 32 all) (ids 32 all) ≡ pairs_from k (ids 64 m) (ids 32 g) (ids 32 all)
-next_row k m g x n all none e = sym (rows_are (ids 32 all) (k + 1) (ids 64 n)) ∙ rw (none, e, ids_none 32) refl
+next_row k m g x n all none e = sym (all_pairs_from_is (ids 32 all) (k + 1) (ids 64 n)) ∙ rw (none, e, ids_none 32) refl
 
 -- ---- indices
 
-placed_row : (n k x : ℕ) (gs : List ℕ) (others : List Seat) → k < n → ArePlaced n others → ArePlaced n (map (seat (k, x)) gs ++ others)
-placed_row n k x [] others h rest = rest
-placed_row n k x (g ∷ gs) others h rest = (h, placed_row n k x gs others h rest)
+row_indices : (n k x : ℕ) (gs : List ℕ) (others : List Pair) → k < n → IndicesAreBelow n others → IndicesAreBelow n (map (pair (k, x)) gs ++ others)
+row_indices n k x [] others h rest = rest
+row_indices n k x (g ∷ gs) others h rest = (h, row_indices n k x gs others h rest)
 
-pub rows_placed : (n : ℕ) (gs : List ℕ) (k : ℕ) (xs : List ℕ) → k + length xs ≤ n → ArePlaced n (rows gs k xs)
-rows_placed n gs k [] h = tt
-rows_placed n gs k (x ∷ xs) h = placed_row n k x gs (rows gs (k + 1) xs) (omega (arith, h)) (rows_placed n gs (k + 1) xs (omega (arith, h)))
+pub all_pairs_indices : (n : ℕ) (gs : List ℕ) (k : ℕ) (xs : List ℕ) → k + length xs ≤ n → IndicesAreBelow n (all_pairs_from gs k xs)
+all_pairs_indices n gs k [] h = tt
+all_pairs_indices n gs k (x ∷ xs) h = row_indices n k x gs (all_pairs_from gs (k + 1) xs) (omega (arith, h)) (all_pairs_indices n gs (k + 1) xs (omega (arith, h)))
 
 -- Before the first pair: all pairs are left.
 pub record Start (s : MasksValue) (p : Pairs) : Type 0 where
-  pub count : length (pairs_left p) ≡ pairs s.satellites s.signals
-  pub walking : IsWalking p
-  pub placed : ArePlaced (count_ones s.satellites) (pairs_left p)
+  pub count : length (pairs_left p) ≡ pair_count s.satellites s.signals
+  pub in_range : ArePairs p
+  pub indices : IndicesAreBelow (count_ones s.satellites) (pairs_left p)
 
-pub start : (s : MasksValue) (m g : ℕ) → AreMasks s → m ≡ s.satellites → g ≡ s.signals → Start s (record { place = 0; satellites = m; signals = g; all = g })
+pub start : (s : MasksValue) (m g : ℕ) → AreMasks s → m ≡ s.satellites → g ≡ s.signals → Start s (record { index = 0; satellites = m; signals = g; all = g })
 start s m g sets e f = rw (e, f) (record {
-  count = ap length (sym (rows_are (ids 32 s.signals) 0 (ids 64 s.satellites))) ∙ pairs_count s sets;
-  walking = record { satellites = sets.satellites; signals = sets.signals; all = sets.signals; place = rw (zero-add (length (ids 64 s.satellites))) (ids_few 64 s.satellites) };
-  placed = subst (ArePlaced (count_ones s.satellites)) (rows_are (ids 32 s.signals) 0 (ids 64 s.satellites)) (rows_placed (count_ones s.satellites) (ids 32 s.signals) 0 (ids 64 s.satellites) (all_there (length (ids 64 s.satellites)) (count_ones s.satellites) (ids_count 64 s.satellites sets.satellites)));
+  count = ap length (sym (all_pairs_from_is (ids 32 s.signals) 0 (ids 64 s.satellites))) ∙ pairs_count s sets;
+  in_range = record { satellites = sets.satellites; signals = sets.signals; all = sets.signals; index = rw (zero-add (length (ids 64 s.satellites))) (ids_few 64 s.satellites) };
+  indices = subst (IndicesAreBelow (count_ones s.satellites)) (all_pairs_from_is (ids 32 s.signals) 0 (ids 64 s.satellites)) (all_pairs_indices (count_ones s.satellites) (ids 32 s.signals) 0 (ids 64 s.satellites) (all_there (length (ids 64 s.satellites)) (count_ones s.satellites) (ids_count 64 s.satellites sets.satellites)));
 })
   where
     all_there : (a b : ℕ) → a ≡ b → 0 + a ≤ b
@@ -144,23 +144,23 @@ cell_set n r h = rw h refl
 cell_clear : (n r : ℕ) → n / 2 ^ r % 2 ≢ 1 → odd (n / 2 ^ r) ≡ false
 cell_clear n r h = grind (arith, h)
 
-pub found : (l r n : ℕ) (whole xs ys : List Seat) (x : Seat) → 0 < l → r ≡ l - 1 → whole ≡ chosen (uint l n) xs → xs ≡ x ∷ ys → n / 2 ^ r % 2 ≡ 1 → whole ≡ x ∷ chosen (uint r n) ys
+pub found : (l r n : ℕ) (whole xs ys : List Pair) (x : Pair) → 0 < l → r ≡ l - 1 → whole ≡ chosen (uint l n) xs → xs ≡ x ∷ ys → n / 2 ^ r % 2 ≡ 1 → whole ≡ x ∷ chosen (uint r n) ys
 unfolding chosen uint
 found zero r n whole xs ys x some is same e set = absurd (omega (arith, some))
 found (suc l) r n whole xs ys x some is same e set = let down : r ≡ l = omega (arith, is) in same ∙ rw (e, down, cell_set n l (rw down at set)) refl
 
-pub passed : (l r n : ℕ) (whole xs ys : List Seat) (x : Seat) → 0 < l → r ≡ l - 1 → whole ≡ chosen (uint l n) xs → xs ≡ x ∷ ys → n / 2 ^ r % 2 ≢ 1 → whole ≡ chosen (uint r n) ys
+pub passed : (l r n : ℕ) (whole xs ys : List Pair) (x : Pair) → 0 < l → r ≡ l - 1 → whole ≡ chosen (uint l n) xs → xs ≡ x ∷ ys → n / 2 ^ r % 2 ≢ 1 → whole ≡ chosen (uint r n) ys
 unfolding chosen uint
 passed zero r n whole xs ys x some is same e clear = absurd (omega (arith, some))
 passed (suc l) r n whole xs ys x some is same e clear = let down : r ≡ l = omega (arith, is) in same ∙ rw (e, down, cell_clear n l (rw down at clear)) refl
 
-pub over : (l n : ℕ) (whole xs : List Seat) → l ≡ 0 → whole ≡ chosen (uint l n) xs → whole ≡ []
+pub over : (l n : ℕ) (whole xs : List Pair) → l ≡ 0 → whole ≡ chosen (uint l n) xs → whole ≡ []
 unfolding chosen uint
 over l n whole xs none same = same ∙ rw none refl
 
 -- One pair fewer.
-pub one_less : (l : ℕ) (xs ys : List Seat) (x : Seat) → length xs ≡ l → xs ≡ x ∷ ys → length ys ≡ l - 1
+pub one_less : (l : ℕ) (xs ys : List Pair) (x : Pair) → length xs ≡ l → xs ≡ x ∷ ys → length ys ≡ l - 1
 one_less l xs ys x count e = omega (arith, rw e at count)
 
-pub first_placed : (n : ℕ) (xs ys : List Seat) (x : Seat) → xs ≡ x ∷ ys → ArePlaced n xs → (x.place < n) × ArePlaced n ys
-first_placed n xs ys x e h = subst (ArePlaced n) e h
+pub first_index : (n : ℕ) (xs ys : List Pair) (x : Pair) → xs ≡ x ∷ ys → IndicesAreBelow n xs → (x.index < n) × IndicesAreBelow n ys
+first_index n xs ys x e h = subst (IndicesAreBelow n) e h

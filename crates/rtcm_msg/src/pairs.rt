@@ -1,16 +1,16 @@
 ghost use Rattle.std.specs.Prelude.{[], ◌≡◌, ◌<◌, ◌≤◌, ◌^◌, length, IfSome, IfNone, ◌∷◌, count_ones, ℕ};
 ghost use Rattle.rtcm_bits.specs.Bits.{uint};
 ghost use Rattle.rtcm_msg.specs.Msm.{most_pairs};
-ghost use Rattle.rtcm_msg.specs.Entries.{ids, seats, chosen};
-ghost use Rattle.rtcm_msg.specs.Walks.{pairs_left, AreLeft, IsWalking, ArePlaced, SplitsCells};
+ghost use Rattle.rtcm_msg.specs.Entries.{ids, cell_pairs, chosen};
+ghost use Rattle.rtcm_msg.specs.Pairs.{pairs_left, AreLeft, ArePairs, IndicesAreBelow, SplitsCells};
 
 use crate::masks::{Masks, SATELLITE_MASK_BITS, SIGNAL_MASK_BITS};
 
 /// The satellite and the signal of a cell.
 #[derive(Clone, Copy, Debug, PartialEq, Eq, Default)]
-pub(crate) struct Seat {
+pub(crate) struct Pair {
     /// The index of the satellite among the message's satellites.
-    pub place: usize,
+    pub index: usize,
     /// The satellite's ID, from 1 to 64.
     pub satellite: u8,
     /// The signal's ID, from 1 to 32.
@@ -35,7 +35,7 @@ fn split_first(mask: u64, width: u32) -> (u8, u64)
 #[derive(Clone, Copy)]
 pub(crate) struct Pairs {
     /// The index of the first satellite in the message.
-    place: usize,
+    index: usize,
     satellites: u64,
     signals: u64,
     all: u64,
@@ -44,14 +44,14 @@ pub(crate) struct Pairs {
 /// Returns the same pairs, beginning with a satellite that has a signal left.
 fn with_signals(mut pairs: Pairs) -> Pairs
     requires some { 0 < length (pairs_left pairs) }
-    requires walking { IsWalking pairs }
+    requires in_range { ArePairs pairs }
     ensures same { pairs_left result ≡ pairs_left pairs }
-    ensures walking { IsWalking result }
+    ensures in_range { ArePairs result }
     ensures satellite { 0 < result.satellites }
     ensures signal { 0 < result.signals }
 {
     if pairs.signals == 0 {
-        pairs.place += 1;
+        pairs.index += 1;
         pairs.satellites = split_first(pairs.satellites, SATELLITE_MASK_BITS).1;
         pairs.signals = pairs.all;
     }
@@ -59,40 +59,40 @@ fn with_signals(mut pairs: Pairs) -> Pairs
 }
 
 /// Returns the first pair, and the other pairs.
-fn split_pairs(pairs: Pairs) -> (Seat, Pairs)
+fn split_pairs(pairs: Pairs) -> (Pair, Pairs)
     requires some { 0 < length (pairs_left pairs) }
-    requires walking { IsWalking pairs }
+    requires in_range { ArePairs pairs }
     ensures first { pairs_left pairs ≡ result.0 ∷ pairs_left result.1 }
-    ensures walking { IsWalking result.1 }
+    ensures in_range { ArePairs result.1 }
 {
     let pairs = with_signals(pairs);
     let (signal, signals) = split_first(pairs.signals, SIGNAL_MASK_BITS);
-    let seat = Seat {
-        place: pairs.place,
+    let pair = Pair {
+        index: pairs.index,
         satellite: split_first(pairs.satellites, SATELLITE_MASK_BITS).0,
         signal,
     };
-    (seat, Pairs { signals, ..pairs })
+    (pair, Pairs { signals, ..pairs })
 }
 
 /// Returns the first remaining pair with a cell, the pairs after it, and their number. `None` if no
 /// remaining pair has a cell. The low `left` bits of the cell mask are those of the remaining
 /// pairs.
-pub(crate) fn split_cells(mut pairs: Pairs, cells: u64, mut left: u32) -> Option<(Seat, Pairs, u32)>
+pub(crate) fn split_cells(mut pairs: Pairs, cells: u64, mut left: u32) -> Option<(Pair, Pairs, u32)>
     requires few { left ≤ most_pairs }
     requires count { length (pairs_left pairs) ≡ left }
-    requires walking { IsWalking pairs }
+    requires in_range { ArePairs pairs }
     ensures some { IfSome result (λ x. SplitsCells left cells pairs x.0 x.1 x.2) }
-    ensures placed { IfSome result (λ x. (n : ℕ) → ArePlaced n (pairs_left pairs)
-        → (x.0.place < n) × ArePlaced n (pairs_left x.1)) }
+    ensures indices { IfSome result (λ x. (n : ℕ) → IndicesAreBelow n (pairs_left pairs)
+        → (x.0.index < n) × IndicesAreBelow n (pairs_left x.1)) }
     ensures none { IfNone result (chosen (uint left cells) (pairs_left pairs) ≡ []) }
 {
     while left > 0 {
         left -= 1;
-        let (seat, after) = split_pairs(pairs);
+        let (pair, after) = split_pairs(pairs);
         pairs = after;
         if (cells >> left) % 2 == 1 {
-            return Some((seat, pairs, left));
+            return Some((pair, pairs, left));
         }
     }
     None
@@ -100,14 +100,14 @@ pub(crate) fn split_cells(mut pairs: Pairs, cells: u64, mut left: u32) -> Option
 
 /// Returns the pairs of all satellites and signals, and their number.
 pub(crate) fn first_pairs(masks: Masks) -> (Pairs, u32)
-    ensures all { chosen (uint result.1 masks.cells) (pairs_left result.0) ≡ seats masks }
-    ensures count { length (seats masks) ≡ count_ones masks.cells }
+    ensures all { chosen (uint result.1 masks.cells) (pairs_left result.0) ≡ cell_pairs masks }
+    ensures count { length (cell_pairs masks) ≡ count_ones masks.cells }
     ensures left { AreLeft (count_ones masks.satellites) result.1 result.0 }
 {
     let _ = masks.cells();
     let signals = masks.signals() as u64;
     let pairs = Pairs {
-        place: 0,
+        index: 0,
         satellites: masks.satellites(),
         signals,
         all: signals,

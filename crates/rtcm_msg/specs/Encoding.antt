@@ -6,10 +6,10 @@ use Rattle.rtcm_msg.specs.declared.fault.MsgFault.{MsgFault}
 use Rattle.rtcm_msg.specs.declared.fault.MsgFault.TheVariants.{Short, TooManyCells, BadTime}
 use Rattle.rtcm_msg.specs.declared.message.Message.{Message}
 use Rattle.rtcm_msg.specs.declared.message.Message.TheVariants.{Station, Msm4, Msm7, Other}
-use Rattle.rtcm_msg.specs.Fields.{spelled, first_past, field_at}
+use Rattle.rtcm_msg.specs.Fields.{field_bits, first_past, field_at}
 use Rattle.rtcm_msg.specs.Station.{station_fields, InRange, station_table, height_table}
-use Rattle.rtcm_msg.specs.Msm.{msm_bits, IsValue, pairs, week, time_table, header_table, mask_table, cell_mask_table}
-use Rattle.rtcm_msg.specs.Msm.{satellite_mask_bits, signal_mask_bits, most_pairs}
+use Rattle.rtcm_msg.specs.Msm.{msm_bits, IsValue, week, time_table, header_table, mask_table, cell_mask_table}
+use Rattle.rtcm_msg.specs.Msm.{satellite_mask_bits, signal_mask_bits, pair_count, most_pairs}
 use Rattle.rtcm_msg.specs.Layout.{widths, number_table}
 use Rattle.rtcm_msg.specs.Reading.{is_any_msm}
 use Rattle.rtcm_msg.specs.Grid4 as grid4
@@ -37,7 +37,7 @@ reserved_width (Other n set) = 0
 
 -- The bits of a message with the given reserved bits.
 abbrev pub message_bits : Message → ℕ → List Bool
-message_bits (Station s) reserved = spelled (station_fields s reserved)
+message_bits (Station s) reserved = field_bits (station_fields s reserved)
 message_bits (Msm4 m) reserved =
     msm_bits grid4.satellite_widths grid4.cell_widths (grid4.message_number m.is_galileo) m reserved
 message_bits (Msm7 m) reserved =
@@ -49,7 +49,7 @@ abbrev pub IsEncoding : List ℕ → Message → Type 0
 IsEncoding bytes v = bits_of bytes ≡ filled (message_bits v 0)
 
 -- The bits encode the message, with any reserved bits.
-pub record IsSpelledBy (v : Message) (bits : List Bool) : Type 0 where
+pub record IsEncodedBy (v : Message) (bits : List Bool) : Type 0 where
   pub reserved : ℕ
   pub fits : reserved < 2 ^ reserved_width v
   pub bits_are : bits ≡ message_bits v reserved
@@ -78,10 +78,10 @@ pub record IsOther (bits : List Bool) (v : Message) : Type 0 where
 pub record BeginsWith (bits : List Bool) (v : Message) : Type 0 where
   pub is_value : IsMessage v
   pub known : is_other v ≡ false
-  pub front : List Bool
+  pub prefix : List Bool
   pub rest : List Bool
-  pub joined : bits ≡ front ++ rest
-  pub spells : IsSpelledBy v front
+  pub joined : bits ≡ prefix ++ rest
+  pub encodes : IsEncodedBy v prefix
 
 abbrev pub ReadsMessage : List Bool → Message → Type 0
 ReadsMessage bits v = BeginsWith bits v ⊎ IsOther bits v
@@ -97,7 +97,7 @@ abbrev pub msm_layout : List ℕ → List ℕ → List Bool → List ℕ
 msm_layout satellite_widths cell_widths bits =
     let satellites = field_at bits 73 satellite_mask_bits in
     let signals = field_at bits 137 signal_mask_bits in
-    let width = pairs satellites signals in
+    let width = pair_count satellites signals in
     widths (number_table ++ (time_table ++ (header_table ++ (mask_table ++ cell_mask_table width))))
     ++ (repeated (count_ones satellites) satellite_widths
     ++ repeated (count_ones (field_at bits 169 width)) cell_widths)
@@ -119,7 +119,7 @@ has_bad_time bits = is_read_msm (number_of bits) && nat_le 54 (length bits) && n
 abbrev pub has_too_many : List Bool → Bool
 has_too_many bits =
     is_read_msm (number_of bits) && nat_le 169 (length bits)
-    && nat_lt most_pairs (pairs (field_at bits 73 satellite_mask_bits) (field_at bits 137 signal_mask_bits))
+    && nat_lt most_pairs (pair_count (field_at bits 73 satellite_mask_bits) (field_at bits 137 signal_mask_bits))
 
 -- The fault of bits that are refused.
 abbrev pub IsFault : List Bool → MsgFault → Type 0

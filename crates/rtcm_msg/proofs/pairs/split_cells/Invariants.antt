@@ -1,16 +1,16 @@
 use Rattle.std.proofs.Common.{ℕ, ◌≡◌, ◌≤◌, length}
 use Rattle.rtcm_bits.specs.Bits.{uint}
 use Rattle.rtcm_msg.specs.Entries.{chosen}
-use Rattle.rtcm_msg.specs.Walks.{pairs_left, IsWalking, ArePlaced}
-use Rattle.rtcm_msg.proofs.seats.split_cells.Given as goal
+use Rattle.rtcm_msg.specs.Pairs.{pairs_left, ArePairs, IndicesAreBelow}
+use Rattle.rtcm_msg.proofs.pairs.split_cells.Given as goal
 
 abbrev pub invariant-loop-left : goal.invariant-loop-left
 invariant-loop-left l = record {
   same : chosen (uint l.fn.left l.cells) (pairs_left l.fn.pairs) ≡ chosen (uint l.left l.cells) (pairs_left l.pairs);
   count : length (pairs_left l.pairs) ≡ l.left;
   few : l.left ≤ 64;
-  walking : IsWalking l.pairs;
-  placed : (n : ℕ) → ArePlaced n (pairs_left l.fn.pairs) → ArePlaced n (pairs_left l.pairs);
+  in_range : ArePairs l.pairs;
+  indices : (n : ℕ) → IndicesAreBelow n (pairs_left l.fn.pairs) → IndicesAreBelow n (pairs_left l.pairs);
 }
 
 abbrev pub decreases-loop-left : goal.decreases-loop-left

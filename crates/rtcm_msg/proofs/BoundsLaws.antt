@@ -8,7 +8,7 @@ use Rattle.std.proofs.lemmas.Nat.{mul-le}
 use Rattle.rtcm_bits.specs.Bits.{FitsInt}
 use Rattle.rtcm_msg.specs.declared.message.Message.{Message}
 use Rattle.rtcm_msg.specs.declared.message.Message.TheVariants.{Station, Msm4, Msm7, Other}
-use Rattle.rtcm_msg.specs.declared.seats.Seat.{Seat}
+use Rattle.rtcm_msg.specs.declared.pairs.Pair.{Pair}
 use Rattle.rtcm_msg.specs.declared.grid4.Satellite4.{Satellite4}
 use Rattle.rtcm_msg.specs.declared.grid4.Cell4.{Cell4}
 use Rattle.rtcm_msg.specs.declared.grid7.Satellite7.{Satellite7}
@@ -16,10 +16,10 @@ use Rattle.rtcm_msg.specs.declared.grid7.Cell7.{Cell7}
 use Rattle.rtcm_msg.specs.LayoutLaws.{unpacked_fit}
 use Rattle.rtcm_msg.specs.Fractions.{scaled, range_joined, rate_joined, strength_of}
 use Rattle.rtcm_msg.specs.Msm.{MsmValue}
-use Rattle.rtcm_msg.specs.Entries.{entry4, entry7, seats, entries}
+use Rattle.rtcm_msg.specs.Entries.{entry4, entry7, cell_pairs, entries}
 use Rattle.rtcm_msg.specs.declared.station.StationParts.{StationParts}
 use Rattle.rtcm_msg.specs.Station.{InRange}
-use Rattle.rtcm_msg.specs.Reach.{IsMeasured, IsCoordinate, IsPoint}
+use Rattle.rtcm_msg.specs.Bounds.{IsMeasured, IsCoordinate, IsPoint}
 use Rattle.rtcm_msg.specs.Grid4 as grid4
 use Rattle.rtcm_msg.specs.Grid7 as grid7
 
@@ -72,7 +72,7 @@ signed_within w m (negsuc n) h k = omega (arith, h, k)
 
 -- ---- cells
 
-measured4 : (v : MsmValue) (x : Seat × ℕ) (s : Satellite4) (c : Cell4) → grid4.IsSatelliteData s → grid4.IsCellData c
+measured4 : (v : MsmValue) (x : Pair × ℕ) (s : Satellite4) (c : Cell4) → grid4.IsSatelliteData s → grid4.IsCellData c
     → IsMeasured (record { satellite = x.0.satellite; signal = x.0.signal; range = grid4.range_of s c; phase = grid4.phase_of s c; rate = grid4.rate_of s c; strength = grid4.strength_of c; lock = c.lock; half_cycle = c.half_cycle })
 measured4 v x s c a b = record {
   range = joined_within s.whole s.fraction _ a.whole a.fraction (fine_within (negsuc 16383) 128 (2 ^ 14) c.range (signed_within 15 (2 ^ 14) c.range b.range (lit≤ tt)) (lit≤ tt));
@@ -81,7 +81,7 @@ measured4 v x s c a b = record {
   strength = strength_within c.strength 16 (omega arith) (let few = b.strength in omega (arith, few));
 }
 
-measured7 : (v : MsmValue) (x : Seat × ℕ) (s : Satellite7) (c : Cell7) → grid7.IsSatelliteData s → grid7.IsCellData c
+measured7 : (v : MsmValue) (x : Pair × ℕ) (s : Satellite7) (c : Cell7) → grid7.IsSatelliteData s → grid7.IsCellData c
     → IsMeasured (record { satellite = x.0.satellite; signal = x.0.signal; range = grid7.range_of s c; phase = grid7.phase_of s c; rate = grid7.rate_of s c; strength = grid7.strength_of c; lock = c.lock; half_cycle = c.half_cycle })
 measured7 v x s c a b = record {
   range = joined_within s.whole s.fraction _ a.whole a.fraction (fine_within (negsuc 524287) 4 (2 ^ 19) c.range (signed_within 20 (2 ^ 19) c.range b.range (lit≤ tt)) (lit≤ tt));
@@ -103,18 +103,18 @@ satellite7 n = let h = unpacked_fit grid7.satellite_table n refl in record { who
 cell7 : (n : ℕ) → grid7.IsCellData (grid7.cell_data n)
 cell7 n = let h = unpacked_fit grid7.cell_table n refl in record { range = h.0; phase = h.1.0; lock = h.1.1.0; strength = h.1.1.1.1.0; rate = h.1.1.1.1.1.0 }
 
-each4 : (v : MsmValue) (xs : List (Seat × ℕ)) → AllByRecursion IsMeasured (map (entry4 v) xs)
+each4 : (v : MsmValue) (xs : List (Pair × ℕ)) → AllByRecursion IsMeasured (map (entry4 v) xs)
 each4 v [] = tt
 each4 v (x ∷ xs) = (measured4 v x _ _ (satellite4 _) (cell4 x.1), each4 v xs)
 
-each7 : (v : MsmValue) (xs : List (Seat × ℕ)) → AllByRecursion IsMeasured (map (entry7 v) xs)
+each7 : (v : MsmValue) (xs : List (Pair × ℕ)) → AllByRecursion IsMeasured (map (entry7 v) xs)
 each7 v [] = tt
 each7 v (x ∷ xs) = (measured7 v x _ _ (satellite7 _) (cell7 x.1), each7 v xs)
 
 pub entries_measured : (m : Message) → AllByRecursion IsMeasured (entries m)
 entries_measured (Station s) = tt
-entries_measured (Msm4 v) = each4 v (zip (seats v.sets) v.cells)
-entries_measured (Msm7 v) = each7 v (zip (seats v.sets) v.cells)
+entries_measured (Msm4 v) = each4 v (zip (cell_pairs v.sets) v.cells)
+entries_measured (Msm7 v) = each7 v (zip (cell_pairs v.sets) v.cells)
 entries_measured (Other n set) = tt
 
 -- ---- points

@@ -1,8 +1,8 @@
 use Rattle.std.proofs.Common.{ℕ, ◌≡◌, ◌-◌, ◌*◌, ◌^◌, ◌%◌, arith}
 use Rattle.std.specs.Int.Count.{count_leading_zeros}
 use Rattle.std.proofs.lemmas.Nat.{one_shl}
-use Rattle.rtcm_msg.proofs.WalkLaws.{top_of, ids_split}
-use Rattle.rtcm_msg.proofs.seats.split_first.Goals as goal
+use Rattle.rtcm_msg.proofs.PairLaws.{top_of, ids_split}
+use Rattle.rtcm_msg.proofs.pairs.split_first.Goals as goal
 
 shifted : (m : ℕ) → (1 * 2 ^ (63 - count_leading_zeros 64 m)) % 2 ^ 64 ≡ 2 ^ (63 - count_leading_zeros 64 m)
 shifted m = one_shl (63 - count_leading_zeros 64 m) 64 (omega arith)
