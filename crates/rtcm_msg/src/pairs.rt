@@ -1,10 +1,10 @@
-ghost use Rattle.std.specs.Prelude.{[], ◌≡◌, ◌<◌, ◌≤◌, ◌^◌, length, IfSome, IfNone, ◌∷◌, count_ones, ℕ};
+ghost use Rattle.std.specs.Prelude.{[], ◌≡◌, ◌<◌, ◌≤◌, ◌^◌, length, IfSome, IfNone, ◌∷◌, ℕ};
 ghost use Rattle.rtcm_bits.specs.Bits.{uint};
 ghost use Rattle.rtcm_msg.specs.Msm.{most_pairs};
-ghost use Rattle.rtcm_msg.specs.Entries.{ids, cell_pairs, chosen};
-ghost use Rattle.rtcm_msg.specs.Pairs.{pairs_left, AreLeft, ArePairs, IndicesAreBelow, SplitsCells};
+ghost use Rattle.rtcm_msg.specs.Entries.{ids, chosen};
+ghost use Rattle.rtcm_msg.specs.Pairs.{pairs_left, ArePairs, IndicesAreBelow, SplitsCells};
 
-use crate::masks::{Masks, SATELLITE_MASK_BITS, SIGNAL_MASK_BITS};
+use crate::masks::{SATELLITE_MASK_BITS, SIGNAL_MASK_BITS};
 
 /// The satellite and the signal of a cell.
 #[derive(Clone, Copy, Debug, PartialEq, Eq, Default)]
@@ -35,10 +35,13 @@ fn split_first(mask: u64, width: u32) -> (u8, u64)
 #[derive(Clone, Copy)]
 pub(crate) struct Pairs {
     /// The index of the first satellite in the message.
-    index: usize,
-    satellites: u64,
-    signals: u64,
-    all: u64,
+    pub index: usize,
+    /// The satellites that are left.
+    pub satellites: u64,
+    /// The signals that are left of the first satellite.
+    pub signals: u64,
+    /// All signals of the message.
+    pub all: u64,
 }
 
 /// Returns the same pairs, beginning with a satellite that has a signal left.
@@ -96,22 +99,4 @@ pub(crate) fn split_cells(mut pairs: Pairs, cells: u64, mut left: u32) -> Option
         }
     }
     None
-}
-
-/// Returns the pairs of all satellites and signals, and their number.
-pub(crate) fn first_pairs(masks: Masks) -> (Pairs, u32)
-    ensures all { chosen (uint result.1 masks.cells) (pairs_left result.0) ≡ cell_pairs masks }
-    ensures count { length (cell_pairs masks) ≡ count_ones masks.cells }
-    ensures left { AreLeft (count_ones masks.satellites) result.1 result.0 }
-{
-    let _ = masks.cells();
-    let signals = masks.signals() as u64;
-    let pairs = Pairs {
-        index: 0,
-        satellites: masks.satellites(),
-        signals,
-        all: signals,
-    };
-    let count = masks.satellites().count_ones() * signals.count_ones();
-    (pairs, count)
 }

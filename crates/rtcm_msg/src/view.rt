@@ -21,7 +21,7 @@ use crate::header::{MsmHeader, read_header};
 use crate::masks::{Masks, read_masks};
 use crate::message::{Message, read_set};
 use crate::msm::msm_of;
-use crate::pairs::{Pair, Pairs, first_pairs, split_cells};
+use crate::pairs::{Pair, Pairs, split_cells};
 use crate::station::{Station, read_station};
 use rtcm_bits::{BitReader, LONGEST_MESSAGE};
 use std::marker::Model;
@@ -236,11 +236,7 @@ impl<'a> MsmView<'a> {
     {
         match self.form() {
             Form::Msm4 => {
-                let Satellite7 {
-                    whole,
-                    fraction,
-                    ..
-                } = *satellite;
+                let (whole, fraction) = (satellite.whole, satellite.fraction);
                 let cell = self.cell::<Grid4>(i);
                 entry_of::<Grid4>(pair, &Satellite4 { whole, fraction }, &cell)
             }
@@ -253,12 +249,18 @@ impl<'a> MsmView<'a> {
         ensures all { result ≡ record { form = self.now.form; left = entries (views.formed self.now) } }
         ensures few { length result.left ≤ most_pairs }
     {
-        let _ = self.cells();
-        let (pairs, left) = first_pairs(self.masks());
+        let _ = (self.form(), self.cells());
+        let masks = self.masks();
+        let signals = masks.signals() as u64;
         Entries {
             view: self,
-            pairs,
-            left,
+            pairs: Pairs {
+                index: 0,
+                satellites: masks.satellites(),
+                signals,
+                all: signals,
+            },
+            left: masks.satellites().count_ones() * signals.count_ones(),
             next: 0,
             index: self.satellites(),
             satellite: Satellite7::default(),

@@ -1,4 +1,4 @@
-use Rattle.std.proofs.Common.{ℕ, ◌≡◌, ◌+◌, ◌<◌, length, arith, List}
+use Rattle.std.proofs.Common.{◌≡◌, ◌+◌, ◌<◌, length, arith, List}
 use Rattle.rtcm_msg.specs.declared.pairs.Pair.{Pair}
 use Rattle.rtcm_msg.specs.Entries.{ids}
 use Rattle.rtcm_msg.proofs.PairLaws.{satellite_left, signal_left, next_row}
@@ -9,9 +9,6 @@ returns-else-pairs-eq0-clause-satellite c = satellite_left c.args.pairs.index c.
 
 pub split_first-requires-clause-some : goal.split_first-requires-clause-some
 split_first-requires-clause-some c = satellite_left c.args.pairs.index c.args.pairs.satellites (ids 32 c.args.pairs.signals) (ids 32 c.args.pairs.all) c.requires.some
-
-none : (n : ℕ) → (n < 1) → n ≡ 0
-none n h = omega (arith, h)
 
 still : (xs ys : List Pair) → xs ≡ ys → 0 < length ys → 0 < length xs
 still xs ys e h = rw e h
