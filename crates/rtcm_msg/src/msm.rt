@@ -115,7 +115,7 @@ impl<G: Grid> Msm<G> {
         self.masks
     }
 
-    /// Returns the number of satellites.
+    /// Returns the number of satellites, at most 64.
     pub fn satellites(&self) -> usize
         ensures count { result ≡ length self.now.satellites }
         ensures set { result ≡ count_ones self.now.sets.satellites }
@@ -123,7 +123,7 @@ impl<G: Grid> Msm<G> {
         self.satellites.len()
     }
 
-    /// Returns the number of cells.
+    /// Returns the number of cells, at most 64.
     pub fn cells(&self) -> usize
         ensures count { result ≡ length self.now.cells }
         ensures set { result ≡ count_ones self.now.sets.cells }

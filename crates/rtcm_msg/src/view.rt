@@ -128,7 +128,7 @@ impl<'a> MsmView<'a> {
         self.is_galileo
     }
 
-    /// Returns the message number, DF002.
+    /// Returns the message number, DF002: 1074, 1077, 1094 or 1097.
     pub fn number(&self) -> u16
         ensures value { result ≡ views.message_number self.now.form self.now.msm.is_galileo }
         ensures bound { result < 2 ^ 12 }
@@ -154,7 +154,7 @@ impl<'a> MsmView<'a> {
         self.masks
     }
 
-    /// Returns the number of satellites.
+    /// Returns the number of satellites, at most 64.
     pub fn satellites(&self) -> usize
         ensures count { result ≡ length self.now.msm.satellites }
         ensures set { result ≡ count_ones self.now.msm.sets.satellites }
@@ -163,7 +163,7 @@ impl<'a> MsmView<'a> {
         self.satellites
     }
 
-    /// Returns the number of cells.
+    /// Returns the number of cells, at most 64.
     pub fn cells(&self) -> usize
         ensures count { result ≡ length self.now.msm.cells }
         ensures set { result ≡ count_ones self.now.msm.sets.cells }
@@ -202,8 +202,8 @@ impl<'a> MsmView<'a> {
         }
     }
 
-    /// Returns the data of satellite `i` in the form of MSM7: `kept`, if those are of satellite `i`.
-    /// MSM4 has no rate and no extended information.
+    /// Returns the data of satellite `i` in the form of MSM7: `kept` if `i` is `index`, otherwise
+    /// read from the message. MSM4 has no rate and no extended information: both are 0.
     fn rough(&self, i: usize, index: usize, kept: Satellite7) -> Satellite7
         requires there { i < length self.now.msm.satellites }
         requires keeps { Keeps self.now.form self.now.msm.satellites index kept }
@@ -226,7 +226,7 @@ impl<'a> MsmView<'a> {
         }
     }
 
-    /// Returns the entry of cell `i`, which is of this satellite and signal.
+    /// Returns the entry of cell `i`, which is of the satellite and the signal of `pair`.
     #[inline(always)]
     fn entry(&self, pair: Pair, satellite: &Satellite7, i: usize) -> Entry
         requires rough { satellite.now ≡ rough self.now.form (slice_index self.now.msm.satellites pair.index) }
