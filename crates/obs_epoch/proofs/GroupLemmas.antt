@@ -7,7 +7,7 @@ use Rattle.gnss_obs.specs.declared.system.System.{System}
 use Rattle.gnss_obs.specs.Satellites.{satellites as satellites_in}
 use Rattle.obs_epoch.specs.declared.cell.Cell.{Cell}
 use Rattle.obs_epoch.specs.Values.{IsHeld, AreHeld, has_value, is_written, written_among, is_of_satellite}
-use Rattle.obs_epoch.specs.Order.{is_before, SeatsRise, cell_seat, AreSorted}
+use Rattle.obs_epoch.specs.Order.{is_before, SortKeysRise, cell_sort_key, AreSorted}
 use Rattle.std.proofs.lemmas.Grind.{common_steps}
 
 -- ---- cells in the order of satellites
@@ -17,12 +17,12 @@ abbrev pub Climb : List Cell → Type 0
 Climb [] = Unit {0}
 Climb (c ∷ cells) = AllByRecursion (λ (d : Cell). c.satellite.id ≤ d.satellite.id) cells × Climb cells
 
-before_climbs : (planned : List ℕ) (c : Cell) (cells : List Cell) → AllByRecursion (λ t. is_before (cell_seat planned c) t ≡ true) (map (cell_seat planned) cells)
+before_climbs : (planned : List ℕ) (c : Cell) (cells : List Cell) → AllByRecursion (λ t. is_before (cell_sort_key planned c) t ≡ true) (map (cell_sort_key planned) cells)
     → AllByRecursion (λ (d : Cell). c.satellite.id ≤ d.satellite.id) cells
 before_climbs planned c [] h = tt
 before_climbs planned c (d ∷ cells) h = grind (arith, common_steps, before_climbs planned c cells h.1)
 
-rise_climbs : (planned : List ℕ) (cells : List Cell) → SeatsRise (map (cell_seat planned) cells) → Climb cells
+rise_climbs : (planned : List ℕ) (cells : List Cell) → SortKeysRise (map (cell_sort_key planned) cells) → Climb cells
 rise_climbs planned [] h = tt
 rise_climbs planned (c ∷ cells) h = (before_climbs planned c cells h.0, rise_climbs planned cells h.1)
 

@@ -10,7 +10,7 @@ use Rattle.obs_epoch.specs.Loss.{lli_with}
 use Rattle.obs_epoch.specs.Held.{lookup, is_held, fate_of, count_in}
 use Rattle.obs_epoch.specs.Gather.{Gathered, with_more, fate_in, hold, hold_by, load}
 use Rattle.obs_epoch.specs.Values.{PlanValue, planned_of, most_cells, EpochValue, cells_of}
-use Rattle.obs_epoch.specs.Order.{insert_by, seat_of, sorted, cell_seat}
+use Rattle.obs_epoch.specs.Order.{insert_by, sort_key_of, sorted, cell_sort_key}
 use Rattle.obs_epoch.proofs.CellsLemmas.{kept-add}
 use Rattle.obs_epoch.proofs.OrderLemmas.{sorted-push, among-sorted, length-sorted}
 use Rattle.obs_epoch.specs.declared.cell.Cell.{Cell}
@@ -25,13 +25,13 @@ with_lli_by f t [] = []
 with_lli_by f t (x ∷ xs) = kept_cell x (lli_with t x (f x)) ∷ with_lli_by f t xs
 
 with_lli_by-insert : (planned : List ℕ) (f : HeardCell → Option KnownLock) (t : ℕ) (xs : List HeardCell) (x : HeardCell)
-    → with_lli_by f t (insert_by (seat_of planned) x xs) ≡ insert_by (cell_seat planned) (kept_cell x (lli_with t x (f x))) (with_lli_by f t xs)
+    → with_lli_by f t (insert_by (sort_key_of planned) x xs) ≡ insert_by (cell_sort_key planned) (kept_cell x (lli_with t x (f x))) (with_lli_by f t xs)
 with_lli_by-insert planned f t [] x = refl
 with_lli_by-insert planned f t (y ∷ xs) x = grind (arith, common_steps, with_lli_by-insert planned f t xs x)
 
 -- A kept cell is inserted at its index in the order.
 with_lli_by-push : (planned : List ℕ) (f : HeardCell → Option KnownLock) (t : ℕ) (xs : List HeardCell) (x : HeardCell)
-    → with_lli_by f t (sorted planned (xs ++ x ∷ [])) ≡ insert_by (cell_seat planned) (kept_cell x (lli_with t x (f x))) (with_lli_by f t (sorted planned xs))
+    → with_lli_by f t (sorted planned (xs ++ x ∷ [])) ≡ insert_by (cell_sort_key planned) (kept_cell x (lli_with t x (f x))) (with_lli_by f t (sorted planned xs))
 with_lli_by-push planned f t xs x = ap (with_lli_by f t) (sorted-push planned xs x) ∙ with_lli_by-insert planned f t (sorted planned xs) x
 
 with_lli_by-length : (f : HeardCell → Option KnownLock) (t : ℕ) (xs : List HeardCell) → length (with_lli_by f t xs) ≡ length xs

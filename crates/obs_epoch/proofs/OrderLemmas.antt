@@ -4,97 +4,97 @@ use Rattle.std.specs.Prelude.{if◌then◌else◌, fold}
 use Rattle.std.proofs.lemmas.List.{get_or-map, length-map}
 use Rattle.std.specs.List.{list_any, AllByRecursion, IsDistinct}
 use Rattle.std.proofs.lemmas.Map.Keys.{IsDistinct-head, IsDistinct-tail, IsDistinct-cons}
-use Rattle.obs_epoch.specs.declared.epoch.Seat.{Seat}
+use Rattle.obs_epoch.specs.declared.epoch.SortKey.{SortKey}
 use Rattle.obs_epoch.specs.Cells.{has_same_key, is_among}
 use Rattle.obs_epoch.proofs.CellsLemmas.{same_key_laws}
 use Rattle.gnss_obs.specs.declared.system.System.{System}
 use Rattle.obs_epoch.specs.declared.cell.Cell.{Cell}
 use Rattle.obs_epoch.specs.Values.{PlanValue, planned_of}
-use Rattle.obs_epoch.specs.Order.{is_before, SeatsRise, insert_by, spot, cell_seat, seat_of, sorted}
+use Rattle.obs_epoch.specs.Order.{is_before, SortKeysRise, insert_by, insertion_index, cell_sort_key, sort_key_of, sorted}
 use Rattle.obs_epoch.specs.Heard.{HeardCell}
 use Rattle.std.proofs.lemmas.Grind.{common_steps}
 
 -- ---- sort keys
 
-pub before_self : (a : Seat) → is_before a a ≡ false
+pub before_self : (a : SortKey) → is_before a a ≡ false
 before_self a = grind arith
 
-pub before_trans : (a b c : Seat) → is_before a b ≡ true → is_before b c ≡ true → is_before a c ≡ true
+pub before_trans : (a b c : SortKey) → is_before a b ≡ true → is_before b c ≡ true → is_before a c ≡ true
 before_trans a b c h k = grind (arith, h, k)
 
-pub before_other : (a b : Seat) → is_before a b ≡ false → (a ≡ b → ⊥) → is_before b a ≡ true
+pub before_other : (a b : SortKey) → is_before a b ≡ false → (a ≡ b → ⊥) → is_before b a ≡ true
 before_other a b h other = grind (arith, common_steps)
 
-abbrev pub Before : Seat → List Seat → Type 0
+abbrev pub Before : SortKey → List SortKey → Type 0
 Before s ts = AllByRecursion (λ t. is_before s t ≡ true) ts
 
-pub before_all : (a b : Seat) (ts : List Seat) → is_before a b ≡ true → Before b ts → Before a ts
+pub before_all : (a b : SortKey) (ts : List SortKey) → is_before a b ≡ true → Before b ts → Before a ts
 before_all a b [] h k = tt
 before_all a b (t ∷ ts) h k = (before_trans a b t h k.0, before_all a b ts h k.1)
 
 -- ---- one more item
 
-pub length-insert_by : {X : Type 0} (at : X → Seat) (x : X) (ys : List X) → length (insert_by at x ys) ≡ suc (length ys)
+pub length-insert_by : {X : Type 0} (at : X → SortKey) (x : X) (ys : List X) → length (insert_by at x ys) ≡ suc (length ys)
 length-insert_by at x [] = refl
 length-insert_by at x (y ∷ ys) = grind (arith, common_steps, length-insert_by at x ys)
 
-pub any-insert_by : {X : Type 0} (p : X → Bool) (at : X → Seat) (x : X) (ys : List X) → list_any p (insert_by at x ys) ≡ (p x || list_any p ys)
+pub any-insert_by : {X : Type 0} (p : X → Bool) (at : X → SortKey) (x : X) (ys : List X) → list_any p (insert_by at x ys) ≡ (p x || list_any p ys)
 any-insert_by p at x [] = refl
 any-insert_by p at x (y ∷ ys) = grind (arith, common_steps, any-insert_by p at x ys)
 
-pub all-insert_by : {X : Type 0} (P : X → Type 0) (at : X → Seat) (x : X) (ys : List X) → P x → AllByRecursion P ys → AllByRecursion P (insert_by at x ys)
+pub all-insert_by : {X : Type 0} (P : X → Type 0) (at : X → SortKey) (x : X) (ys : List X) → P x → AllByRecursion P ys → AllByRecursion P (insert_by at x ys)
 all-insert_by P at x [] h k = (h, tt)
 all-insert_by P at x (y ∷ ys) h k = grind (arith, common_steps, all-insert_by P at x ys h k.1)
 
-pub map-insert_by : {X Y : Type 0} (f : X → Y) (at : X → Seat) (to : Y → Seat) → ((x : X) → to (f x) ≡ at x) → (x : X) (ys : List X)
+pub map-insert_by : {X Y : Type 0} (f : X → Y) (at : X → SortKey) (to : Y → SortKey) → ((x : X) → to (f x) ≡ at x) → (x : X) (ys : List X)
     → map f (insert_by at x ys) ≡ insert_by to (f x) (map f ys)
 map-insert_by f at to same x [] = refl
 map-insert_by f at to same x (y ∷ ys) = grind (arith, common_steps, map-insert_by f at to same x ys)
 
 -- The item is inserted at its index.
-pub insert_spot : {X : Type 0} (at : X → Seat) (x : X) (ys : List X) → insert ys (spot (at x) (map at ys)) x ≡ insert_by at x ys
-insert_spot at x [] = refl
-insert_spot at x (y ∷ ys) = grind (arith, common_steps, insert_spot at x ys)
+pub insert_at_index : {X : Type 0} (at : X → SortKey) (x : X) (ys : List X) → insert ys (insertion_index (at x) (map at ys)) x ≡ insert_by at x ys
+insert_at_index at x [] = refl
+insert_at_index at x (y ∷ ys) = grind (arith, common_steps, insert_at_index at x ys)
 
-pub rise-insert_by : {X : Type 0} (at : X → Seat) (x : X) (ys : List X) → SeatsRise (map at ys) → AllByRecursion (λ y. at x ≡ at y → ⊥) ys → SeatsRise (map at (insert_by at x ys))
+pub rise-insert_by : {X : Type 0} (at : X → SortKey) (x : X) (ys : List X) → SortKeysRise (map at ys) → AllByRecursion (λ y. at x ≡ at y → ⊥) ys → SortKeysRise (map at (insert_by at x ys))
 rise-insert_by at x [] r other = (tt, tt)
 rise-insert_by at x (y ∷ ys) r other = by (is_before (at x) (at y)) refl (rise-insert_by at x ys r.1 other.1) where
-  by : (b : Bool) → is_before (at x) (at y) ≡ b → SeatsRise (map at (insert_by at x ys)) → SeatsRise (map at (if b then x ∷ y ∷ ys else y ∷ insert_by at x ys))
+  by : (b : Bool) → is_before (at x) (at y) ≡ b → SortKeysRise (map at (insert_by at x ys)) → SortKeysRise (map at (if b then x ∷ y ∷ ys else y ∷ insert_by at x ys))
   by true e h = ((e, before_all (at x) (at y) (map at ys) e r.0), r)
   by false e h =
       let first = before_other (at x) (at y) e other.0 in
-      let all : Before (at y) (insert_by (λ (s : Seat). s) (at x) (map at ys)) = all-insert_by (λ t. is_before (at y) t ≡ true) (λ (s : Seat). s) (at x) (map at ys) first r.0 in
-      (subst (Before (at y)) (sym (map-insert_by at at (λ (s : Seat). s) (λ z. refl) x ys)) all, h)
+      let all : Before (at y) (insert_by (λ (s : SortKey). s) (at x) (map at ys)) = all-insert_by (λ t. is_before (at y) t ≡ true) (λ (s : SortKey). s) (at x) (map at ys) first r.0 in
+      (subst (Before (at y)) (sym (map-insert_by at at (λ (s : SortKey). s) (λ z. refl) x ys)) all, h)
 
 -- ---- the search for the index
 
-not_before : (s a b : Seat) → is_before a b ≡ true → is_before s b ≡ false → is_before s a ≡ false
+not_before : (s a b : SortKey) → is_before a b ≡ true → is_before s b ≡ false → is_before s a ≡ false
 not_before s a b h k = grind (arith, common_steps)
 
-pub get_before : (a : Seat) (ts : List Seat) (k : ℕ) (d : Seat) → k < length ts → Before a ts → is_before a (get_or ts k d) ≡ true
+pub get_before : (a : SortKey) (ts : List SortKey) (k : ℕ) (d : SortKey) → k < length ts → Before a ts → is_before a (get_or ts k d) ≡ true
 get_before a [] k d h all = absurd (omega (arith, h))
 get_before a (t ∷ ts) zero d h all = all.0
 get_before a (t ∷ ts) (suc k) d h all = get_before a ts k d (omega (arith, h)) all.1
 
-spot_most : (s : Seat) (ts : List Seat) → spot s ts ≤ length ts
-spot_most s [] = omega arith
-spot_most s (t ∷ ts) = grind (arith, common_steps, spot_most s ts)
+pub index_most : (s : SortKey) (ts : List SortKey) → insertion_index s ts ≤ length ts
+index_most s [] = omega arith
+index_most s (t ∷ ts) = grind (arith, common_steps, index_most s ts)
 
-spot_upper : (s : Seat) (ts : List Seat) (k : ℕ) (d : Seat) → k < length ts → is_before s (get_or ts k d) ≡ true → spot s ts ≤ k
-spot_upper s [] k d h after = absurd (omega (arith, h))
-spot_upper s (t ∷ ts) zero d h after = let e : spot s (t ∷ ts) ≡ 0 = ap (λ b. if b then 0 else suc (spot s ts)) after in omega (arith, e)
-spot_upper s (t ∷ ts) (suc k) d h after = grind (arith, common_steps, spot_upper s ts k d (omega (arith, h)) after)
+index_upper : (s : SortKey) (ts : List SortKey) (k : ℕ) (d : SortKey) → k < length ts → is_before s (get_or ts k d) ≡ true → insertion_index s ts ≤ k
+index_upper s [] k d h after = absurd (omega (arith, h))
+index_upper s (t ∷ ts) zero d h after = let e : insertion_index s (t ∷ ts) ≡ 0 = ap (λ b. if b then 0 else suc (insertion_index s ts)) after in omega (arith, e)
+index_upper s (t ∷ ts) (suc k) d h after = grind (arith, common_steps, index_upper s ts k d (omega (arith, h)) after)
 
-spot_lower : (s : Seat) (ts : List Seat) (k : ℕ) (d : Seat) → SeatsRise ts → k < length ts → is_before s (get_or ts k d) ≡ false → suc k ≤ spot s ts
-spot_lower s [] k d r h front = absurd (omega (arith, h))
-spot_lower s (t ∷ ts) zero d r h front = let e : spot s (t ∷ ts) ≡ suc (spot s ts) = ap (λ b. if b then 0 else suc (spot s ts)) front in omega (arith, e)
-spot_lower s (t ∷ ts) (suc k) d r h front =
+index_lower : (s : SortKey) (ts : List SortKey) (k : ℕ) (d : SortKey) → SortKeysRise ts → k < length ts → is_before s (get_or ts k d) ≡ false → suc k ≤ insertion_index s ts
+index_lower s [] k d r h front = absurd (omega (arith, h))
+index_lower s (t ∷ ts) zero d r h front = let e : insertion_index s (t ∷ ts) ≡ suc (insertion_index s ts) = ap (λ b. if b then 0 else suc (insertion_index s ts)) front in omega (arith, e)
+index_lower s (t ∷ ts) (suc k) d r h front =
     let less : k < length ts = omega (arith, h) in
-    let e : spot s (t ∷ ts) ≡ suc (spot s ts) = ap (λ b. if b then 0 else suc (spot s ts)) (not_before s t (get_or ts k d) (get_before t ts k d less r.0) front) in
-    let more = spot_lower s ts k d r.1 less front in
+    let e : insertion_index s (t ∷ ts) ≡ suc (insertion_index s ts) = ap (λ b. if b then 0 else suc (insertion_index s ts)) (not_before s t (get_or ts k d) (get_before t ts k d less r.0) front) in
+    let more = index_lower s ts k d r.1 less front in
     omega (arith, e, more)
 
-module _ {X : Type 0} (s : Seat) (f : X → Seat) (xs : List X) (k : ℕ) (x : X) (less : k < length xs) (is : x ≡ get_or xs k x) where
+module _ {X : Type 0} (s : SortKey) (f : X → SortKey) (xs : List X) (k : ℕ) (x : X) (less : k < length xs) (is : x ≡ get_or xs k x) where
   here : get_or (map f xs) k (f x) ≡ f x
   here = get_or-map f xs k x (f x) less ∙ ap f (sym is)
 
@@ -102,33 +102,33 @@ module _ {X : Type 0} (s : Seat) (f : X → Seat) (xs : List X) (k : ℕ) (x : X
   within = subst (λ n. k < n) (sym (length-map xs f)) less
 
   -- An item with a greater sort key, and one without.
-  pub spot_before : is_before s (f x) ≡ true → spot s (map f xs) ≤ k
-  spot_before after = spot_upper s (map f xs) k (f x) within (ap (is_before s) here ∙ after)
+  pub index_before : is_before s (f x) ≡ true → insertion_index s (map f xs) ≤ k
+  index_before after = index_upper s (map f xs) k (f x) within (ap (is_before s) here ∙ after)
 
-  pub spot_after : SeatsRise (map f xs) → is_before s (f x) ≡ false → k + 1 ≤ spot s (map f xs)
-  spot_after r front = let h = spot_lower s (map f xs) k (f x) r within (ap (is_before s) here ∙ front) in omega (arith, h)
+  pub index_after : SortKeysRise (map f xs) → is_before s (f x) ≡ false → k + 1 ≤ insertion_index s (map f xs)
+  index_after r front = let h = index_lower s (map f xs) k (f x) r within (ap (is_before s) here ∙ front) in omega (arith, h)
 
-pub spot_within : {X : Type 0} (s : Seat) (f : X → Seat) (xs : List X) → spot s (map f xs) ≤ length xs
-spot_within s f xs = let h = spot_most s (map f xs) in let n = length-map xs f in omega (arith, h, n)
+pub index_within : {X : Type 0} (s : SortKey) (f : X → SortKey) (xs : List X) → insertion_index s (map f xs) ≤ length xs
+index_within s f xs = let h = index_most s (map f xs) in let n = length-map xs f in omega (arith, h, n)
 
 -- The sort key of a cell of a system, by the system of its signal.
-pub own_seat : (system : System) (p : PlanValue) (x : Seat) (cell : Cell) (b v : Bool) → cell.signal.system ≡ system → b ≡ is_before x (cell_seat (planned_of cell.signal.system p) cell) → b ≡ v
-    → is_before x (cell_seat (planned_of system p) cell) ≡ v
-own_seat system p x cell b v same is e = ap (λ s. is_before x (cell_seat (planned_of s p) cell)) (sym same) ∙ sym is ∙ e
+pub own_sort_key : (system : System) (p : PlanValue) (x : SortKey) (cell : Cell) (b v : Bool) → cell.signal.system ≡ system → b ≡ is_before x (cell_sort_key (planned_of cell.signal.system p) cell) → b ≡ v
+    → is_before x (cell_sort_key (planned_of system p) cell) ≡ v
+own_sort_key system p x cell b v same is e = ap (λ s. is_before x (cell_sort_key (planned_of s p) cell)) (sym same) ∙ sym is ∙ e
 
 -- ---- the same cells
 
-pub sorted-push : (planned : List ℕ) (xs : List HeardCell) (x : HeardCell) → sorted planned (xs ++ x ∷ []) ≡ insert_by (seat_of planned) x (sorted planned xs)
+pub sorted-push : (planned : List ℕ) (xs : List HeardCell) (x : HeardCell) → sorted planned (xs ++ x ∷ []) ≡ insert_by (sort_key_of planned) x (sorted planned xs)
 sorted-push planned xs x = grind (arith, common_steps)
 
 abbrev onto : List ℕ → List HeardCell → List HeardCell → List HeardCell
-onto planned ys xs = fold (λ zs z. insert_by (seat_of planned) z zs) ys xs
+onto planned ys xs = fold (λ zs z. insert_by (sort_key_of planned) z zs) ys xs
 
 among-onto : (planned : List ℕ) (key : HeardCell) (ys xs : List HeardCell) → is_among (onto planned ys xs) key ≡ (is_among ys key || is_among xs key)
 among-onto planned key ys [] = grind (arith, common_steps)
 among-onto planned key ys (x ∷ xs) =
-    among-onto planned key (insert_by (seat_of planned) x ys) xs
-    ∙ ap (λ b. b || is_among xs key) (any-insert_by (has_same_key key) (seat_of planned) x ys)
+    among-onto planned key (insert_by (sort_key_of planned) x ys) xs
+    ∙ ap (λ b. b || is_among xs key) (any-insert_by (has_same_key key) (sort_key_of planned) x ys)
     ∙ by (has_same_key key x) (is_among ys key) (is_among xs key) where
       by : (a b c : Bool) → ((a || b) || c) ≡ (b || (a || c))
       by true true c = refl
@@ -141,14 +141,14 @@ among-sorted planned xs key = among-onto planned key [] xs
 
 length-onto : (planned : List ℕ) (ys xs : List HeardCell) → length (onto planned ys xs) ≡ length ys + length xs
 length-onto planned ys [] = omega arith
-length-onto planned ys (x ∷ xs) = grind (arith, common_steps, length-insert_by, length-onto planned (insert_by (seat_of planned) x ys) xs)
+length-onto planned ys (x ∷ xs) = grind (arith, common_steps, length-insert_by, length-onto planned (insert_by (sort_key_of planned) x ys) xs)
 
 pub length-sorted : (planned : List ℕ) (xs : List HeardCell) → length (sorted planned xs) ≡ length xs
 length-sorted planned xs = let is = length-onto planned [] xs in omega (arith, is)
 
 all-onto : (P : HeardCell → Type 0) (planned : List ℕ) (ys xs : List HeardCell) → AllByRecursion P ys → AllByRecursion P xs → AllByRecursion P (onto planned ys xs)
 all-onto P planned ys [] h k = h
-all-onto P planned ys (x ∷ xs) h k = all-onto P planned (insert_by (seat_of planned) x ys) xs (all-insert_by P (seat_of planned) x ys k.0 h) k.1
+all-onto P planned ys (x ∷ xs) h k = all-onto P planned (insert_by (sort_key_of planned) x ys) xs (all-insert_by P (sort_key_of planned) x ys k.0 h) k.1
 
 pub all-sorted : (P : HeardCell → Type 0) (planned : List ℕ) (xs : List HeardCell) → AllByRecursion P xs → AllByRecursion P (sorted planned xs)
 all-sorted P planned xs h = all-onto P planned [] xs tt h
@@ -160,29 +160,29 @@ unlike (y ∷ xs) x h = by (has_same_key x y) refl (unlike xs x) where
   by true e more = absurd (grind (arith, e, h))
   by false e more = (e, more (ap (λ b. b || is_among xs x) (sym e) ∙ h))
 
-distinct-insert : (planned : List ℕ) (x : HeardCell) (ys : List HeardCell) → IsDistinct has_same_key ys → is_among ys x ≡ false → IsDistinct has_same_key (insert_by (seat_of planned) x ys)
+distinct-insert : (planned : List ℕ) (x : HeardCell) (ys : List HeardCell) → IsDistinct has_same_key ys → is_among ys x ≡ false → IsDistinct has_same_key (insert_by (sort_key_of planned) x ys)
 distinct-insert planned x [] d h = IsDistinct-cons has_same_key x [] tt d
 distinct-insert planned x (y ∷ ys) d h =
     let other = unlike (y ∷ ys) x h in
     let tail = IsDistinct-tail has_same_key y ys d in
-    by (is_before (seat_of planned x) (seat_of planned y)) (distinct-insert planned x ys tail (ap (λ b. b || is_among ys x) (sym other.0) ∙ h)) where
-      by : (b : Bool) → IsDistinct has_same_key (insert_by (seat_of planned) x ys) → IsDistinct has_same_key (if b then x ∷ y ∷ ys else y ∷ insert_by (seat_of planned) x ys)
+    by (is_before (sort_key_of planned x) (sort_key_of planned y)) (distinct-insert planned x ys tail (ap (λ b. b || is_among ys x) (sym other.0) ∙ h)) where
+      by : (b : Bool) → IsDistinct has_same_key (insert_by (sort_key_of planned) x ys) → IsDistinct has_same_key (if b then x ∷ y ∷ ys else y ∷ insert_by (sort_key_of planned) x ys)
       by true e = IsDistinct-cons has_same_key x (y ∷ ys) (unlike (y ∷ ys) x h) d
       by false e =
-          IsDistinct-cons has_same_key y (insert_by (seat_of planned) x ys)
-          (all-insert_by (λ z. has_same_key y z ≡ false) (seat_of planned) x ys (same_key_laws.symm y x ∙ (unlike (y ∷ ys) x h).0) (IsDistinct-head has_same_key y ys d)) e
+          IsDistinct-cons has_same_key y (insert_by (sort_key_of planned) x ys)
+          (all-insert_by (λ z. has_same_key y z ≡ false) (sort_key_of planned) x ys (same_key_laws.symm y x ∙ (unlike (y ∷ ys) x h).0) (IsDistinct-head has_same_key y ys d)) e
 
 abbrev Apart : List HeardCell → List HeardCell → Type 0
 Apart ys xs = AllByRecursion (λ x. is_among ys x ≡ false) xs
 
-still_apart : (planned : List ℕ) (x : HeardCell) (ys xs : List HeardCell) → AllByRecursion (λ z. has_same_key x z ≡ false) xs → Apart ys xs → Apart (insert_by (seat_of planned) x ys) xs
+still_apart : (planned : List ℕ) (x : HeardCell) (ys xs : List HeardCell) → AllByRecursion (λ z. has_same_key x z ≡ false) xs → Apart ys xs → Apart (insert_by (sort_key_of planned) x ys) xs
 still_apart planned x ys [] h k = tt
 still_apart planned x ys (z ∷ xs) h k = grind (arith, common_steps, any-insert_by, same_key_laws, still_apart planned x ys xs h.1 k.1)
 
 distinct-onto : (planned : List ℕ) (ys xs : List HeardCell) → IsDistinct has_same_key ys → IsDistinct has_same_key xs → Apart ys xs → IsDistinct has_same_key (onto planned ys xs)
 distinct-onto planned ys [] d e a = d
 distinct-onto planned ys (x ∷ xs) d e a =
-    distinct-onto planned (insert_by (seat_of planned) x ys) xs (distinct-insert planned x ys d a.0) (IsDistinct-tail has_same_key x xs e)
+    distinct-onto planned (insert_by (sort_key_of planned) x ys) xs (distinct-insert planned x ys d a.0) (IsDistinct-tail has_same_key x xs e)
     (still_apart planned x ys xs (IsDistinct-head has_same_key x xs e) a.1)
 
 none_apart : (xs : List HeardCell) → Apart [] xs

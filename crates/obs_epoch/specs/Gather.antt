@@ -15,7 +15,7 @@ use Rattle.obs_epoch.specs.Cells.{with_skipped}
 use Rattle.std.specs.List.{AllByRecursion}
 use Rattle.obs_epoch.specs.Values.{PlanValue, planned_of, EpochValue, cells_of}
 use Rattle.obs_epoch.specs.Plans.{place_in}
-use Rattle.obs_epoch.specs.Order.{SeatsRise, insert_by, spot, seat_of, cell_seat}
+use Rattle.obs_epoch.specs.Order.{SortKeysRise, insert_by, insertion_index, sort_key_of, cell_sort_key}
 use Rattle.obs_epoch.specs.Loss.{lli_with}
 use Rattle.obs_epoch.specs.Epochs.{values_by_message}
 use Rattle.obs_epoch.specs.Held.{lookup, note_all, fate_of, count_in}
@@ -33,8 +33,8 @@ no_epoch = record { time = 0; gps = []; galileo = [] }
 
 -- One more cell, inserted in the order of a plan.
 abbrev pub with_more_in : System → PlanValue → EpochValue → Cell → EpochValue
-with_more_in Gps p e m = record e { gps = insert_by (cell_seat p.gps) m e.gps }
-with_more_in Galileo p e m = record e { galileo = insert_by (cell_seat p.galileo) m e.galileo }
+with_more_in Gps p e m = record e { gps = insert_by (cell_sort_key p.gps) m e.gps }
+with_more_in Galileo p e m = record e { galileo = insert_by (cell_sort_key p.galileo) m e.galileo }
 
 abbrev pub with_more : PlanValue → EpochValue → Cell → EpochValue
 with_more p e m = with_more_in m.satellite.system p e m
@@ -45,15 +45,15 @@ more_at Gps at e m = record e { gps = insert e.gps at m }
 more_at Galileo at e m = record e { galileo = insert e.galileo at m }
 
 -- The number of cells that are not after a cell of that key.
-abbrev pub spot_in : PlanValue → EpochValue → HeardCell → ℕ
-spot_in p e x =
+abbrev pub insertion_index_in : PlanValue → EpochValue → HeardCell → ℕ
+insertion_index_in p e x =
     let planned = planned_of x.satellite.system p in
-    spot (seat_of planned x) (map (cell_seat planned) (cells_of x.satellite.system e))
+    insertion_index (sort_key_of planned x) (map (cell_sort_key planned) (cells_of x.satellite.system e))
 
 -- Planned cells of a system in the order of a plan.
 pub record AreInPlanOrder (system : System) (planned : List ℕ) (ms : List Cell) : Type 0 where
   pub each : AllByRecursion (λ m. (m.satellite.system ≡ system) × (is_some (place_in m.signal planned) ≡ true)) ms
-  pub rise : SeatsRise (map (cell_seat planned) ms)
+  pub rise : SortKeysRise (map (cell_sort_key planned) ms)
 
 pub record AreInOrder (p : PlanValue) (e : EpochValue) : Type 0 where
   pub gps : AreInPlanOrder Gps p.gps e.gps

@@ -7,8 +7,8 @@ ghost use Rattle.obs_epoch.specs.Values.{AreHeld, MayBeHeld, cells_of, satellite
 ghost use Rattle.obs_epoch.specs.Values.{most_cells, most_written, planned_of, run};
 ghost use Rattle.obs_epoch.specs.Heard.{heard_cell, IsKey, IsObserved};
 ghost use Rattle.obs_epoch.specs.Held.{is_held, is_cell_of, note_all};
-ghost use Rattle.obs_epoch.specs.Gather.{more_at, spot_in, AreInOrder};
-ghost use Rattle.obs_epoch.specs.Order.{AreSorted, AreOrderedBy, plan_seat, is_before, cell_seat, spot as spot_of};
+ghost use Rattle.obs_epoch.specs.Gather.{more_at, insertion_index_in, AreInOrder};
+ghost use Rattle.obs_epoch.specs.Order.{AreSorted, AreOrderedBy, sort_key, is_before, cell_sort_key, insertion_index};
 ghost use Rattle.gnss_obs.specs.Satellites.{satellites as satellites_in};
 
 use crate::cell::{Cell, StationValues};
@@ -24,7 +24,7 @@ pub(crate) const MOST_CELLS: usize = 256;
 
 /// The sort key of a cell: the number of its satellite, and the index of its signal in the plan.
 #[derive(Clone, Copy)]
-pub struct Seat {
+pub struct SortKey {
     pub satellite: u8,
     pub place: usize,
 }
@@ -92,13 +92,13 @@ impl Epoch {
     pub(crate) fn place_of(&self, plan: &Plan, x: &Cell) -> (usize, bool)
         requires key { IsKey (heard_cell x.now) }
         requires order { AreInOrder plan.now self.now.epoch }
-        ensures at { result.0 ≡ spot_in plan.now self.now.epoch (heard_cell x.now) }
+        ensures at { result.0 ≡ insertion_index_in plan.now self.now.epoch (heard_cell x.now) }
         ensures kept { result.1 ≡ is_held (cells_of x.now.satellite.system self.now.epoch) (heard_cell x.now) }
         ensures within { result.0 ≤ length (cells_of x.now.satellite.system self.now.epoch) }
     {
         let system = x.satellite.system();
         let cells = self.cells(system);
-        let at = spot(cells, plan, seat_at(plan, x.satellite, x.signal), system);
+        let at = insertion_index(cells, plan, sort_key(plan, x.satellite, x.signal), system);
         (at, is_last(cells, at, x))
     }
 
@@ -170,17 +170,17 @@ impl Epoch {
 }
 
 // Returns the sort key of a satellite and signal.
-fn seat_at(plan: &Plan, satellite: Sat, signal: Signal) -> Seat
-    ensures { result ≡ plan_seat (planned_of signal.system plan.now) satellite signal }
+fn sort_key(plan: &Plan, satellite: Sat, signal: Signal) -> SortKey
+    ensures { result ≡ sort_key (planned_of signal.system plan.now) satellite signal }
 {
-    Seat {
+    SortKey {
         satellite: satellite.id(),
         place: plan.place(signal).unwrap_or(0),
     }
 }
 
 // Returns whether a sort key is less than another: by satellite, then by index in the plan.
-fn is_before(a: Seat, b: Seat) -> bool
+fn is_before(a: SortKey, b: SortKey) -> bool
     ensures { result ≡ is_before a b }
 {
     a.satellite < b.satellite || a.satellite == b.satellite && a.place < b.place
@@ -189,16 +189,16 @@ fn is_before(a: Seat, b: Seat) -> bool
 // Returns the number of cells whose sort key isn't greater. Cells usually arrive in this order, so
 // the search begins at the last cell.
 #[inline(always)]
-fn spot(cells: &[Cell], plan: &Plan, x: Seat, system: System) -> usize
+fn insertion_index(cells: &[Cell], plan: &Plan, x: SortKey, system: System) -> usize
     requires held { AreHeld system cells.now }
     requires order { AreOrderedBy (planned_of system plan.now) cells.now }
-    ensures spot { result ≡ spot_of x (map (cell_seat (planned_of system plan.now)) cells.now) }
+    ensures index { result ≡ insertion_index x (map (cell_sort_key (planned_of system plan.now)) cells.now) }
     ensures bound { result ≤ length cells.now }
 {
     let mut at = cells.len();
     while at > 0 {
         let cell = &cells[at - 1];
-        if !is_before(x, seat_at(plan, cell.satellite, cell.signal)) {
+        if !is_before(x, sort_key(plan, cell.satellite, cell.signal)) {
             return at;
         }
         at -= 1;
