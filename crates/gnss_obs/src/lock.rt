@@ -12,7 +12,7 @@ const LAST_DF407: u16 = 704;
 
 /// The time for which a receiver has tracked a phase without a break, in milliseconds, as given by
 /// a lock time indicator: a range with its least value included and its upper value excluded.
-#[derive(Clone, Copy, Debug, PartialEq, Eq)]
+#[derive(Clone, Copy, Debug, Default, PartialEq, Eq)]
 pub struct Lock {
     least: Option<u32>,
     upper: Option<u32>,

@@ -21,6 +21,16 @@ impl Model for Sat {
     ghost inverse = { λ s. record { system = s.system; id = s.id } };
 }
 
+impl Default for Sat {
+    /// Returns satellite 1 of GPS.
+    fn default() -> Sat {
+        Sat {
+            system: System::Gps,
+            id: 1,
+        }
+    }
+}
+
 impl Sat {
     /// Returns the satellite with this number, or `None` if the system has none. The number is that
     /// of RINEX, and the position in the satellite mask DF394 of RTCM 10403.3, counted from 1.

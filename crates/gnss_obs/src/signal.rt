@@ -25,6 +25,16 @@ impl Model for Signal {
     ghost inverse = { λ s. record { system = s.system; index = s.index } };
 }
 
+impl Default for Signal {
+    /// Returns the first signal of GPS.
+    fn default() -> Signal {
+        Signal {
+            system: System::Gps,
+            index: 0,
+        }
+    }
+}
+
 /// Returns the table of a system.
 fn listed(system: System) -> &'static [ListedSignal]
     ensures { result.now ≡ table system }

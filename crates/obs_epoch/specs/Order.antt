@@ -1,5 +1,5 @@
 -- The order of kept cells: by satellite, then by the order of the plan.
-use Rattle.std.specs.Prelude.{ℕ, suc, ◌≡◌, ◌≤◌, ◌==◌, ◌&&◌, ◌||◌, ⊤, Bool, true, nat_lt, List, [], ◌∷◌, fold, map}
+use Rattle.std.specs.Prelude.{ℕ, suc, ◌≡◌, ◌==◌, ◌&&◌, ◌||◌, ⊤, Bool, true, nat_lt, List, [], ◌∷◌, fold, map}
 use Rattle.std.specs.Prelude.{if◌then◌else◌}
 use Rattle.std.specs.Option.{option_map_or}
 use Rattle.std.specs.List.{AllByRecursion}
@@ -8,7 +8,7 @@ use Rattle.gnss_obs.specs.Satellites.{Satellite}
 use Rattle.gnss_obs.specs.Signals.{SignalAt}
 use Rattle.obs_epoch.specs.declared.cell.Cell.{Cell}
 use Rattle.obs_epoch.specs.declared.epoch.SortKey.{SortKey}
-use Rattle.obs_epoch.specs.Values.{PlanValue, EpochValue, AreHeld, most_cells}
+use Rattle.obs_epoch.specs.Values.{PlanValue, EpochValue, AreHeld}
 use Rattle.obs_epoch.specs.Plans.{place_in}
 use Rattle.obs_epoch.specs.Heard.{HeardCell}
 
@@ -60,6 +60,6 @@ StandByPlan p e = AreOrderedBy p.gps e.gps × AreOrderedBy p.galileo e.galileo
 abbrev pub AreSorted : List Cell → Type 0
 AreSorted cells = (planned : List ℕ) × AreOrderedBy planned cells
 
--- The kept cells of a system, in a list with room for all that an epoch can keep.
-abbrev pub AreHeldIn : System → ℕ → List Cell → Type 0
-AreHeldIn system room cells = AreHeld system cells × AreSorted cells × (most_cells ≤ room)
+-- The kept cells of a system in their order.
+abbrev pub AreKept : System → List Cell → Type 0
+AreKept system cells = AreHeld system cells × AreSorted cells

@@ -5,7 +5,7 @@ ghost use Rattle.rtcm_msg.specs.Bounds.{IsCoordinate};
 use gnss_obs::{Lock, Sat, Signal, Thousandths};
 
 /// The observations of one signal of one satellite.
-#[derive(Clone, Copy, Debug, PartialEq, Eq)]
+#[derive(Clone, Copy, Debug, Default, PartialEq, Eq)]
 pub struct Cell {
     /// The satellite.
     pub satellite: Sat,

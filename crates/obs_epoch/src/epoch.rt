@@ -1,7 +1,6 @@
 //! Epochs: the observations of one time.
-ghost use Rattle.std.specs.Prelude.{◌≡◌, ◌+◌, ◌-◌, ◌<◌, ◌≤◌, [], false, length, drop, IfOk, insert, map};
+ghost use Rattle.std.specs.Prelude.{◌≡◌, ◌+◌, ◌-◌, ◌<◌, ◌≤◌, [], false, length, drop, insert, map};
 ghost use Rattle.std.specs.Prelude.{slice_index_or, if◌then◌else◌};
-ghost use Rattle.std.specs.Vec.{vec_len, vec_capacity};
 ghost use Rattle.obs_epoch.specs.declared.cell.Cell.{Cell};
 ghost use Rattle.obs_epoch.specs.Values.{AreHeld, MayBeHeld, cells_of, satellites_written, is_written, written_among};
 ghost use Rattle.obs_epoch.specs.Values.{most_cells, most_written, planned_of, run};
@@ -12,11 +11,11 @@ ghost use Rattle.obs_epoch.specs.Order.{AreSorted, AreOrderedBy, sort_key, is_be
 ghost use Rattle.gnss_obs.specs.Satellites.{satellites as satellites_in};
 
 use crate::cell::{Cell, StationValues};
-use crate::locks::{Locks, insert_within, is_same_system};
+use crate::locks::{Locks, is_same_system};
 use crate::plan::Plan;
 use crate::time::GpsTime;
+use arrayvec::ArrayVec;
 use gnss_obs::{Sat, Signal, System};
-use std::alloc::{AllocError, Global};
 use std::marker::Model;
 
 /// Largest number of cells of one system that an epoch keeps.
@@ -34,40 +33,35 @@ pub struct SortKey {
 #[derive(Drop)]
 pub struct Epoch {
     time: GpsTime,
-    gps: Vec<Cell>,
-    galileo: Vec<Cell>,
+    gps: ArrayVec<Cell, MOST_CELLS>,
+    galileo: ArrayVec<Cell, MOST_CELLS>,
     values: StationValues,
 }
 
 impl Model for Epoch {
-    ghost use Rattle.std.specs.Vec.{vec_capacity};
     ghost use Rattle.gnss_obs.specs.declared.system.System.TheVariants.{Gps, Galileo};
     ghost use Rattle.obs_epoch.specs.Values.{Closed};
-    ghost use Rattle.obs_epoch.specs.Order.{AreHeldIn};
+    ghost use Rattle.obs_epoch.specs.Order.{AreKept};
 
     ghost Value = { Closed };
 
     ghost view = { λ e.
         record { epoch = record { time = e.time; gps = e.gps.items; galileo = e.galileo.items }; values = e.values } };
 
-    ghost invariant = { λ e. AreHeldIn Gps (vec_capacity e.gps) e.gps.items
-        × AreHeldIn Galileo (vec_capacity e.galileo) e.galileo.items };
+    ghost invariant = { λ e. AreKept Gps e.gps.items × AreKept Galileo e.galileo.items };
 }
 
 impl Epoch {
-    // Returns an epoch without cells, with room for all cells that it can keep.
-    pub(crate) fn new(alloc: Global, values: StationValues) -> Result<Epoch, AllocError>
-        ensures { IfOk result
-            (λ e. e ≡ record { epoch = record { time = 0; gps = []; galileo = [] }; values = values }) }
+    // Returns an epoch without cells.
+    pub(crate) fn new(values: StationValues) -> Epoch
+        ensures { result ≡ record { epoch = record { time = 0; gps = []; galileo = [] }; values = values } }
     {
-        let gps = Vec::with_capacity(alloc, MOST_CELLS)?;
-        let galileo = Vec::with_capacity(alloc, MOST_CELLS)?;
-        Ok(Epoch {
+        Epoch {
             time: GpsTime::within(0),
-            gps,
-            galileo,
+            gps: ArrayVec::new(),
+            galileo: ArrayVec::new(),
             values,
-        })
+        }
     }
 
     // Begins the epoch of another time, without cells.
@@ -113,9 +107,11 @@ impl Epoch {
         ensures { self.new
             ≡ record { epoch = more_at x.satellite.system at self.old.epoch x; values = self.old.values } }
     {
-        match x.satellite.system() {
-            System::Gps => insert_cell(&mut self.gps, at, x),
-            System::Galileo => insert_cell(&mut self.galileo, at, x),
+        // A copy: the prover doesn't find the types of the fields of a cell that is only passed on.
+        let cell = Cell { lli: x.lli, ..x };
+        match cell.satellite.system() {
+            System::Gps => self.gps.insert(at, cell),
+            System::Galileo => self.galileo.insert(at, cell),
         }
     }
 
@@ -246,23 +242,6 @@ fn written(cells: &[Cell], system: System) -> usize
         }
     }
     count
-}
-
-#[inline(always)]
-fn insert_cell(cells: &mut Vec<Cell>, at: usize, x: Cell)
-    requires room { vec_len cells.old < vec_capacity cells.old }
-    requires within { at ≤ vec_len cells.old }
-    ensures items { cells.new.items ≡ insert cells.old.items at x }
-    ensures len { vec_len cells.new ≡ vec_len cells.old + 1 }
-    ensures room { vec_capacity cells.old ≤ vec_capacity cells.new }
-{
-    // A copy: the prover doesn't find the types of the fields of a cell that is only passed on.
-    let cell = Cell { lli: x.lli, ..x };
-    if at == cells.len() {
-        let _ = cells.push(cell);
-    } else {
-        insert_within(cells, at, cell);
-    }
 }
 
 // Returns whether the cell before an index is of the same satellite and signal.

@@ -128,12 +128,9 @@ impl Gatherer {
         let Ok(locks) = Locks::new(alloc) else {
             return Err(PlanFault::Memory);
         };
-        let Ok(epoch) = Epoch::new(alloc, initial) else {
-            return Err(PlanFault::Memory);
-        };
         Ok(Gatherer {
             clock: Clock::new(plan, start_week, station, gather, initial),
-            epoch,
+            epoch: Epoch::new(initial),
             locks,
             handed: false,
             has_ended: false,

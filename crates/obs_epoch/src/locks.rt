@@ -1,7 +1,6 @@
 //! Lock records: for each satellite and signal, the latest known lock in a closed epoch. The loss
 //! of lock indicators of the next epoch are computed from them.
-ghost use Rattle.std.specs.Prelude.{IsTrue, ◌↔◌, ◌≡◌, ◌+◌, ◌<◌, ◌≤◌, length, IfOk, insert};
-ghost use Rattle.std.specs.Vec.{vec_len, vec_capacity};
+ghost use Rattle.std.specs.Prelude.{IsTrue, ◌↔◌, ◌≡◌, ◌+◌, ◌<◌, ◌≤◌, length, IfOk};
 ghost use Rattle.obs_epoch.specs.Held.{lock_place, lookup, most_locks, no_locks, note, recorded};
 ghost use Rattle.obs_epoch.specs.Cells.{is_system};
 ghost use Rattle.obs_epoch.specs.Heard.{IsKey, heard_cell};
@@ -125,19 +124,6 @@ pub fn lli(x: &Cell, time: u64, before: Option<KnownLock>) -> u8
     };
     let half = if x.half_cycle { 2 } else { 0 };
     if lost { 1 + half } else { half }
-}
-
-/// Inserts an item within the capacity, without allocation. Most cells are appended, so this
-/// function is not inlined.
-#[inline(never)]
-pub fn insert_within<T: Drop>(xs: &mut Vec<T>, at: usize, x: T)
-    requires room { vec_len xs.old < vec_capacity xs.old }
-    requires within { at ≤ vec_len xs.old }
-    ensures items { xs.new.items ≡ insert xs.old.items at x }
-    ensures len { vec_len xs.new ≡ vec_len xs.old + 1 }
-    ensures room { vec_capacity xs.old ≤ vec_capacity xs.new }
-{
-    let _ = xs.insert(at, x);
 }
 
 /// Returns whether two systems are the same.

@@ -8,14 +8,14 @@ use Rattle.obs_epoch.proofs.gather.Gatherer.new_at.Goals as goal
 pub returns-clause-stands : goal.returns-clause-stands
 returns-clause-stands c = record {
   standing = record {
-    clock = subst (λ (s : GatherSetup). HasHeardMessages c.new-3.result s [] false) c.new-3.ensures.setup c.new-3.ensures.stands;
-    epoch = ap (λ (e : Closed). e.epoch) c.in-Ok-new.ensures;
+    clock = subst (λ (s : GatherSetup). HasHeardMessages c.new-2.result s [] false) c.new-2.ensures.setup c.new-2.ensures.stands;
+    epoch = ap (λ (e : Closed). e.epoch) c.new-3.ensures;
     locks = none_locked _ _ c.in-Ok.ensures;
-    values = ap (λ (e : Closed). e.values) c.in-Ok-new.ensures;
+    values = ap (λ (e : Closed). e.values) c.new-3.ensures;
   };
   handed = refl;
   epochs = λ e. refl;
   first = search rules;
   fits = tt;
-  plan = ap (λ (s : GatherSetup). s.plan) c.new-3.ensures.setup;
+  plan = ap (λ (s : GatherSetup). s.plan) c.new-2.ensures.setup;
 }
