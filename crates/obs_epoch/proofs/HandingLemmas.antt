@@ -12,9 +12,9 @@ use Rattle.obs_epoch.specs.Epochs.{is_shut, closed_times, closed_so_far, epoch_a
 use Rattle.obs_epoch.specs.Clock.{is_pending, closes_first}
 use Rattle.obs_epoch.specs.Step.{closed_by as closes}
 use Rattle.obs_epoch.specs.Gather.{Gathered, no_epoch, take_step, end_step, noted}
-use Rattle.obs_epoch.specs.Standing.{HasTakenMessages, held_at}
+use Rattle.obs_epoch.specs.GathererHistory.{HasTakenMessages, held_at}
 use Rattle.rtcm_bits.specs.Prefix.{IsPrefix}
-use Rattle.obs_epoch.specs.Gathering.{before_closing, closed_at, closed_list_at, known_epochs, closed_by, closed_in, handed_over, is_done, HasGatheredEpochs}
+use Rattle.obs_epoch.specs.Gathering.{before_closing, closed_at, closed_list_at, known_epochs, closed_by, closed_in, returned_epoch, is_done, HasGatheredEpochs}
 use Rattle.obs_epoch.proofs.TimesLemmas.{next, timed-push, greater-absent, none-absent}
 use Rattle.obs_epoch.proofs.ClockLemmas.{Follows, first, greater, equal, new_time, same_time, standing as standing_at}
 use Rattle.obs_epoch.proofs.ClosedLemmas.{taken_follows}
@@ -86,8 +86,8 @@ shut_new s ys before t grown =
 
 -- The epoch that a step closes, as it is returned.
 new_closed : (g : Gathered) (s : GatherSetup) (ms : List Heard) (m : Heard) (shut : Bool) → HasTakenMessages g s ms shut → closes_first s (timed s ms) m ≡ shut → IsSet m
-    → (o : Option ℕ) → closes g.clock m ≡ o → (take_step g m).state.handed ≡ is_some o
-    → handed_over (take_step g m).state ≡ closed_list_at s (ms ++ m ∷ []) (option_to_list o)
+    → (o : Option ℕ) → closes g.clock m ≡ o → (take_step g m).state.just_closed ≡ is_some o
+    → returned_epoch (take_step g m).state ≡ closed_list_at s (ms ++ m ∷ []) (option_to_list o)
 new_closed g s ms m shut h early given None e has = let v = (take_step g m).state in ap (λ b. closed_by (if b then Some (v.epoch) else None) v.values) has
 new_closed g s ms m shut h early given (Some t) e has =
     let v = (take_step g m).state in
@@ -105,7 +105,7 @@ new_closed g s ms m shut h early given (Some t) e has =
 
 -- The pending epoch, as it is returned.
 pending_closed : (v : Gathered) (s : GatherSetup) (ms : List Heard) (t : ℕ) → greatest_time (timed s ms) ≡ Some t → is_pending s (timed s ms) ≡ true
-    → v.epoch ≡ held_at s (timed s ms) → v.values ≡ values_of s ms → v.handed ≡ true → handed_over v ≡ closed_list_at s ms (option_to_list (greatest_time (timed s ms)))
+    → v.epoch ≡ held_at s (timed s ms) → v.values ≡ values_of s ms → v.just_closed ≡ true → returned_epoch v ≡ closed_list_at s ms (option_to_list (greatest_time (timed s ms)))
 pending_closed v s ms t e p epoch values has = grind (arith, common_steps, before_all, pending_open)
 
 -- ---- the calls
@@ -122,32 +122,32 @@ not_done v s ms again going = or_and (is_some again) v.has_ended (is_pending s (
 
 -- A message is processed.
 pub gathers_taken : (g : Gathered) (s : GatherSetup) (ms : List Heard) (es : List Closed) (again : Option Heard) (m : Heard) → HasGatheredEpochs g s ms es again → g.has_ended ≡ false
-    → closes_first s (timed s ms) m ≡ is_some again → IsSet m → HasGatheredEpochs (take_step g m).state s (ms ++ m ∷ []) (es ++ handed_over (take_step g m).state) None
+    → closes_first s (timed s ms) m ≡ is_some again → IsSet m → HasGatheredEpochs (take_step g m).state s (ms ++ m ∷ []) (es ++ returned_epoch (take_step g m).state) None
 gathers_taken g s ms es again m h going early given =
     let v = (take_step g m).state in
     let ns = ms ++ m ∷ [] in
     let shut = is_some again in
     let standing = subst (HasTakenMessages g s ms) (not_done g s ms again going) h.standing in
-    let was : es ≡ closed_list_at s ms (closed_so_far s (timed s ms) shut) = subst (λ b. es ≡ closed_list_at s ms (closed_so_far s (timed s ms) b)) (not_done g s ms again going) h.handed in
+    let was : es ≡ closed_list_at s ms (closed_so_far s (timed s ms) shut) = subst (λ b. es ≡ closed_list_at s ms (closed_so_far s (timed s ms) b)) (not_done g s ms again going) h.just_closed in
     let goes : v.has_ended ≡ false = ended_is g m ∙ going in
     let o = closes g.clock m in
     let grown = times_taken g s ms m shut standing early in
-    let handed : es ++ handed_over v ≡ closed_list_at s ns (closed_so_far s (timed s ns) false) =
+    let just_closed : es ++ returned_epoch v ≡ closed_list_at s ns (closed_so_far s (timed s ns) false) =
     ap₂ (λ a b. a ++ b) was (new_closed g s ms m shut standing early given o refl (handed_is g m)) ∙ sym (keeps s ms m shut o early grown) in
-    let epochs : es ++ handed_over v ≡ known_epochs v.has_ended s ns =
-    handed ∙ ap (closed_list_at s ns) (append-nil (closed_times s (timed s ns))) ∙ ap (λ b. known_epochs b s ns) (sym goes) in
+    let epochs : es ++ returned_epoch v ≡ known_epochs v.has_ended s ns =
+    just_closed ∙ ap (closed_list_at s ns) (append-nil (closed_times s (timed s ns))) ∙ ap (λ b. known_epochs b s ns) (sym goes) in
     record {
       standing = subst (HasTakenMessages v s ns) (sym (not_done v s ns None goes)) (taken g s ms m shut standing early).after;
-      handed = handed ∙ ap (λ b. closed_list_at s ns (closed_so_far s (timed s ns) b)) (sym (not_done v s ns None goes));
+      just_closed = just_closed ∙ ap (λ b. closed_list_at s ns (closed_so_far s (timed s ns) b)) (sym (not_done v s ns None goes));
       epochs = λ _. epochs;
-      first = subst (λ l. IsPrefix (es ++ handed_over v) (known_epochs v.has_ended s l)) (sym (append-nil ns)) (subst (IsPrefix (es ++ handed_over v)) epochs (prefix_self (es ++ handed_over v)));
+      first = subst (λ l. IsPrefix (es ++ returned_epoch v) (known_epochs v.has_ended s l)) (sym (append-nil ns)) (subst (IsPrefix (es ++ returned_epoch v)) epochs (prefix_self (es ++ returned_epoch v)));
       fits = tt;
       plan = ap (λ (u : GatherSetup). u.plan) (taken g s ms m shut standing early).after.clock.setup;
     }
 
 -- The pending epoch is closed first.
 pub gathers_first : (g : Gathered) (s : GatherSetup) (ms : List Heard) (es : List Closed) (m : Heard) → HasGatheredEpochs g s ms es None → g.has_ended ≡ false
-    → closes_first s (timed s ms) m ≡ true → m.point ≡ None → HasGatheredEpochs (take_step g m).state s ms (es ++ handed_over (take_step g m).state) (Some m)
+    → closes_first s (timed s ms) m ≡ true → m.point ≡ None → HasGatheredEpochs (take_step g m).state s ms (es ++ returned_epoch (take_step g m).state) (Some m)
 gathers_first g s ms es m h going early point = by (greatest_time (timed s ms)) refl where
   xs : List Timed
   xs = timed s ms
@@ -159,7 +159,7 @@ gathers_first g s ms es m h going early point = by (greatest_time (timed s ms)) 
   standing = subst (HasTakenMessages g s ms) (not_done g s ms None going) h.standing
 
   was : es ≡ closed_list_at s ms (closed_so_far s xs false)
-  was = subst (λ b. es ≡ closed_list_at s ms (closed_so_far s xs b)) (not_done g s ms None going) h.handed
+  was = subst (λ b. es ≡ closed_list_at s ms (closed_so_far s xs b)) (not_done g s ms None going) h.just_closed
 
   goes : v.has_ended ≡ false
   goes = ended_is g m ∙ going
@@ -170,12 +170,12 @@ gathers_first g s ms es m h going early point = by (greatest_time (timed s ms)) 
     by_pending true e = refl
     by_pending false e = absurd (grind (arith, e, early))
 
-  by : (o : Option ℕ) → greatest_time xs ≡ o → HasGatheredEpochs v s ms (es ++ handed_over v) (Some m)
+  by : (o : Option ℕ) → greatest_time xs ≡ o → HasGatheredEpochs v s ms (es ++ returned_epoch v) (Some m)
   by None e = absurd (grind (arith, e, pending))
   by (Some t) e =
       let f = closes_it g s ms m standing early point in
-      let has : v.handed ≡ true = handed_is g m ∙ f.has in
-      let handed : es ++ handed_over v ≡ closed_list_at s ms (closed_so_far s xs true) =
+      let has : v.just_closed ≡ true = handed_is g m ∙ f.has in
+      let just_closed : es ++ returned_epoch v ≡ closed_list_at s ms (closed_so_far s xs true) =
       ap₂ (λ a b. a ++ b) (was ∙ ap (closed_list_at s ms) (append-nil (closed_times s xs))) (pending_closed v s ms t e pending f.after.epoch f.after.values has)
       ∙ sym (map-append (closed_at s ms) (closed_times s xs) (option_to_list (greatest_time xs))) in
       let ns = ms ++ m ∷ [] in
@@ -184,24 +184,24 @@ gathers_first g s ms es m h going early point = by (greatest_time (timed s ms)) 
       let kept = keeps s ms m true o early grown in
       record {
         standing = f.after;
-        handed = handed;
+        just_closed = just_closed;
         epochs = λ never. absurd (grind (arith, never));
-        first = subst (λ b. IsPrefix (es ++ handed_over v) (known_epochs b s ns)) (sym goes) (
+        first = subst (λ b. IsPrefix (es ++ returned_epoch v) (known_epochs b s ns)) (sym goes) (
           closed_list_at s ns (option_to_list o),
-          ap (closed_list_at s ns) (sym (append-nil (closed_times s (timed s ns)))) ∙ kept ∙ ap (λ l. l ++ closed_list_at s ns (option_to_list o)) (sym handed),
+          ap (closed_list_at s ns) (sym (append-nil (closed_times s (timed s ns)))) ∙ kept ∙ ap (λ l. l ++ closed_list_at s ns (option_to_list o)) (sym just_closed),
         );
         fits = early;
         plan = ap (λ (u : GatherSetup). u.plan) f.after.clock.setup;
       }
 
-pub has_closed : (v : Gathered) → v.handed ≡ is_some (closed_in v)
+pub has_closed : (v : Gathered) → v.just_closed ≡ is_some (closed_in v)
 has_closed v = grind (arith, common_steps)
 
 pub end_ended : (b : Bool) (h : Gathered) → h.has_ended ≡ true → (if b then noted h else h).has_ended ≡ true
 end_ended true h e = e
 end_ended false h e = e
 
-end_handed : (b : Bool) (h : Gathered) → (if b then noted h else h).handed ≡ h.handed
+end_handed : (b : Bool) (h : Gathered) → (if b then noted h else h).just_closed ≡ h.just_closed
 end_handed true h = refl
 end_handed false h = refl
 
@@ -211,14 +211,14 @@ and_true false = refl
 
 -- No message follows.
 pub gathers_ended : (g : Gathered) (s : GatherSetup) (ms : List Heard) (es : List Closed) → HasGatheredEpochs g s ms es None → g.has_ended ≡ false
-    → (g.clock.pending ≡ is_pending s (timed s ms)) × HasGatheredEpochs (end_step g) s ms (es ++ handed_over (end_step g)) None
+    → (g.clock.pending ≡ is_pending s (timed s ms)) × HasGatheredEpochs (end_step g) s ms (es ++ returned_epoch (end_step g)) None
 gathers_ended g s ms es h going = (
   pending,
   record {
     standing = subst (HasTakenMessages v s ms) (sym done) (subst (HasTakenMessages v s ms) pending f.after);
-    handed = handed ∙ ap (λ b. closed_list_at s ms (closed_so_far s xs b)) (sym done);
+    just_closed = just_closed ∙ ap (λ b. closed_list_at s ms (closed_so_far s xs b)) (sym done);
     epochs = λ _. epochs;
-    first = subst (λ l. IsPrefix (es ++ handed_over v) (known_epochs v.has_ended s l)) (sym (append-nil ms)) (subst (IsPrefix (es ++ handed_over v)) epochs (prefix_self (es ++ handed_over v)));
+    first = subst (λ l. IsPrefix (es ++ returned_epoch v) (known_epochs v.has_ended s l)) (sym (append-nil ms)) (subst (IsPrefix (es ++ returned_epoch v)) epochs (prefix_self (es ++ returned_epoch v)));
     fits = tt;
     plan = ap (λ (u : GatherSetup). u.plan) f.after.clock.setup;
   },
@@ -234,7 +234,7 @@ gathers_ended g s ms es h going = (
 
   was : es ≡ closed_list_at s ms (closed_times s xs)
   was =
-      subst (λ b. es ≡ closed_list_at s ms (closed_so_far s xs b)) (not_done g s ms None going) h.handed
+      subst (λ b. es ≡ closed_list_at s ms (closed_so_far s xs b)) (not_done g s ms None going) h.just_closed
       ∙ ap (closed_list_at s ms) (append-nil (closed_times s xs))
 
   f : Ended g s ms false
@@ -249,20 +249,20 @@ gathers_ended g s ms es h going = (
   done : is_done v s ms None ≡ is_pending s xs
   done = ap (λ b. b && is_pending s xs) over
 
-  has : v.handed ≡ is_pending s xs
+  has : v.just_closed ≡ is_pending s xs
   has = end_handed g.clock.pending _ ∙ pending
 
-  last : (p : Bool) → is_pending s xs ≡ p → handed_over v ≡ closed_list_at s ms (if p then option_to_list (greatest_time xs) else [])
+  last : (p : Bool) → is_pending s xs ≡ p → returned_epoch v ≡ closed_list_at s ms (if p then option_to_list (greatest_time xs) else [])
   last false p = ap (λ b. closed_by (if b then Some (v.epoch) else None) v.values) (has ∙ p)
   last true p = by (greatest_time xs) refl where
-    by : (o : Option ℕ) → greatest_time xs ≡ o → handed_over v ≡ closed_list_at s ms (option_to_list (greatest_time xs))
+    by : (o : Option ℕ) → greatest_time xs ≡ o → returned_epoch v ≡ closed_list_at s ms (option_to_list (greatest_time xs))
     by None e = absurd (grind (arith, e, p))
     by (Some t) e = pending_closed v s ms t e p f.after.epoch f.after.values (has ∙ p)
 
-  handed : es ++ handed_over v ≡ closed_list_at s ms (closed_so_far s xs (is_pending s xs))
-  handed =
+  just_closed : es ++ returned_epoch v ≡ closed_list_at s ms (closed_so_far s xs (is_pending s xs))
+  just_closed =
       ap₂ (λ a b. a ++ b) was (last (is_pending s xs) refl)
       ∙ sym (map-append (closed_at s ms) (closed_times s xs) (if is_pending s xs then option_to_list (greatest_time xs) else []))
 
-  epochs : es ++ handed_over v ≡ known_epochs v.has_ended s ms
-  epochs = handed ∙ ap (closed_list_at s ms) (with_pending s xs) ∙ ap (λ b. known_epochs b s ms) (sym over)
+  epochs : es ++ returned_epoch v ≡ known_epochs v.has_ended s ms
+  epochs = just_closed ∙ ap (closed_list_at s ms) (with_pending s xs) ∙ ap (λ b. known_epochs b s ms) (sym over)

@@ -9,7 +9,7 @@ use Rattle.obs_epoch.specs.Clock.{closes_first}
 use Rattle.obs_epoch.specs.Step.{answer_by}
 use Rattle.obs_epoch.specs.Kinds.{is_close_first, kind_by, kind_of}
 use Rattle.obs_epoch.specs.Gather.{Gathered, take_step}
-use Rattle.obs_epoch.specs.Standing.{HasTakenMessages}
+use Rattle.obs_epoch.specs.GathererHistory.{HasTakenMessages}
 use Rattle.obs_epoch.specs.Gathering.{HasGatheredEpochs, IsAwaited}
 use Rattle.obs_epoch.proofs.TakeLemmas.{taken, closes_it, not_first}
 use Rattle.obs_epoch.proofs.HandingLemmas.{not_done}

@@ -17,7 +17,7 @@ use Rattle.obs_epoch.specs.Loss.{lock_of, locked_at, latest_in, last_of, is_lock
 use Rattle.obs_epoch.specs.Epochs.{cells_with_lli, epoch_at}
 use Rattle.obs_epoch.specs.Held.{lookup, note_all, most_locks, TracksLocks}
 use Rattle.obs_epoch.specs.Gather.{Gathered, noted}
-use Rattle.obs_epoch.specs.Standing.{locked_in, Locked}
+use Rattle.obs_epoch.specs.GathererHistory.{locked_in, Locked}
 use Rattle.obs_epoch.proofs.CellsLemmas.{kept-add, same_key_laws}
 use Rattle.obs_epoch.proofs.LockLemmas.{seens, lookup-note_all, note_all_size, tracks_all, locked, find_none, AllListed}
 use Rattle.obs_epoch.specs.declared.cell.Cell.{Cell}

@@ -13,7 +13,7 @@ use Rattle.obs_epoch.specs.Epochs.{cells_with_lli, epoch_at, closed_so_far}
 use Rattle.obs_epoch.specs.Held.{lookup, no_locks}
 use Rattle.obs_epoch.specs.Clock.{State, closes_first}
 use Rattle.obs_epoch.specs.Gather.{Gathered, no_epoch, no_counts, load, epoch_begun, is_same}
-use Rattle.obs_epoch.specs.Standing.{locked_in, held_at, Locked}
+use Rattle.obs_epoch.specs.GathererHistory.{locked_in, held_at, Locked}
 use Rattle.obs_epoch.proofs.TimesLemmas.{next, greater-absent, none-absent}
 use Rattle.obs_epoch.proofs.ClockLemmas.{standing, same_time, Follows, first, greater, equal, new_time}
 use Rattle.obs_epoch.proofs.ClosedLemmas.{Below, when, ends, closed_is, passes_all, one_fails, less_true, less_false, taken_follows, times-push_same}

@@ -14,8 +14,8 @@ use Rattle.obs_epoch.specs.Cells.{with_skipped, offered, counts_of}
 use Rattle.obs_epoch.specs.Epochs.{epoch_at, closed_so_far, closed_times, values_of, values_by_message}
 use Rattle.obs_epoch.specs.Clock.{State, HasHeardMessages, is_pending, closes_first, answer_of}
 use Rattle.obs_epoch.specs.Step.{answer_by, step_by, closed_by, closed_of}
-use Rattle.obs_epoch.specs.Gather.{with_unlisted, Gathered, Loaded, no_epoch, no_counts, noted, load, loaded_by, fate_in, load_one, ticked, closed_if, take_step, end_step}
-use Rattle.obs_epoch.specs.Standing.{held_at, Locked, HasTakenMessages, closed_list, counts_of_message, handed_out}
+use Rattle.obs_epoch.specs.Gather.{with_unlisted, Gathered, Loaded, no_epoch, no_counts, noted, load, loaded_by, fate_in, load_one, with_time, closed_if, take_step, end_step}
+use Rattle.obs_epoch.specs.GathererHistory.{held_at, Locked, HasTakenMessages, closed_list, counts_of_message, closed_epoch}
 use Rattle.obs_epoch.proofs.TimesLemmas.{next, timed-push}
 use Rattle.obs_epoch.proofs.ClockLemmas.{standing, same_state, takes, closes, new_time}
 use Rattle.obs_epoch.proofs.ClosedLemmas.{taken_follows}
@@ -97,7 +97,7 @@ pub record Reached (l : Loaded) (s : GatherSetup) (ms : List Heard) (m : Heard) 
   pub counts : l.counts ≡ counts_of_message s (timed s ms) m
 
 reached : (g : Gathered) (s : GatherSetup) (ms : List Heard) (m : Heard) (shut : Bool) → HasTakenMessages g s ms shut → closes_first s (timed s ms) m ≡ shut
-    → Reached (loaded_by (answer_by g.clock m) g.clock.latest (ticked g m) m) s ms m shut
+    → Reached (loaded_by (answer_by g.clock m) g.clock.latest (with_time g m) m) s ms m shut
 reached g s ms m shut h early = by (taken_at s xs m) refl where
   xs : List Timed
   xs = timed s ms
@@ -108,21 +108,21 @@ reached g s ms m shut h early = by (taken_at s xs m) refl where
   was : g.clock ≡ standing s xs shut
   was = clock_is g.clock s ms shut h.clock
 
-  now : (ticked g m).clock ≡ standing s (xs ++ next s xs m ∷ []) false
+  now : (with_time g m).clock ≡ standing s (xs ++ next s xs m ∷ []) false
   now = ap (λ c. step_by c m) was ∙ (takes s xs m shut early).1
 
   answer : answer_by g.clock m ≡ answer_of s xs m
   answer = ap (λ c. answer_by c m) was ∙ (takes s xs m shut early).0
 
-  values : (ticked g m).values ≡ values_of s (ms ++ m ∷ [])
+  values : (with_time g m).values ≡ values_of s (ms ++ m ∷ [])
   values = ap₂ (λ c v. values_by_message c v m) h.clock.setup h.values ∙ sym (values-push s ms m)
 
-  locks : Locked (ticked g m) s (xs ++ next s xs m ∷ []) (closed_so_far s xs shut)
+  locks : Locked (with_time g m) s (xs ++ next s xs m ∷ []) (closed_so_far s xs shut)
   locks =
       let l = locked-push g s xs (next s xs m) (closed_so_far s xs shut) (closed_later s xs m shut early) h.locks in
       record { found = l.found; tracks = l.tracks }
 
-  before : Locked (ticked g m) s xs (closed_so_far s xs shut)
+  before : Locked (with_time g m) s xs (closed_so_far s xs shut)
   before = record { found = h.locks.found; tracks = h.locks.tracks }
 
   moved : (v : Gathered) → v.clock ≡ standing s (xs ++ next s xs m ∷ []) false → v.epoch ≡ held_at s (xs ++ next s xs m ∷ [])
@@ -134,20 +134,20 @@ reached g s ms m shut h early = by (taken_at s xs m) refl where
     values = d;
   }
 
-  by : (o : Option ℕ) → taken_at s xs m ≡ o → Reached (loaded_by (answer_by g.clock m) g.clock.latest (ticked g m) m) s ms m shut
+  by : (o : Option ℕ) → taken_at s xs m ≡ o → Reached (loaded_by (answer_by g.clock m) g.clock.latest (with_time g m) m) s ms m shut
   by None none =
-      let is = ap (λ k. loaded_by k g.clock.latest (ticked g m) m) answer ∙ others (answer_of s xs m) g.clock.latest (ticked g m) m (other_kind s xs m none) in
+      let is = ap (λ k. loaded_by k g.clock.latest (with_time g m) m) answer ∙ others (answer_of s xs m) g.clock.latest (with_time g m) m (other_kind s xs m none) in
       subst (λ l. Reached l s ms m shut) (sym is) (record {
-        mid = moved (ticked g m) now (h.epoch ∙ sym (held_same s xs m none)) locks values;
+        mid = moved (with_time g m) now (h.epoch ∙ sym (held_same s xs m none)) locks values;
         counts = ap (λ o. option_map_or (λ u. with_skipped m.unlisted (counts_of s (offered s u xs) m.cells)) o no_counts) (sym none);
       })
   by (Some u) some =
       let new = new_time s xs (next s xs m) u some (taken_follows s xs m u some) in
       let latest : g.clock.latest ≡ greatest_time xs = ap (λ (c : State). c.latest) was in
-      let is = ap₂ (λ k o. loaded_by k o (ticked g m) m) (answer ∙ kept_kind s xs m u some) latest
-      ∙ ap (with_unlisted m.unlisted) (loaded_taken (ticked g m) s xs m u shut some early h.epoch before now) in
+      let is = ap₂ (λ k o. loaded_by k o (with_time g m) m) (answer ∙ kept_kind s xs m u some) latest
+      ∙ ap (with_unlisted m.unlisted) (loaded_taken (with_time g m) s xs m u shut some early h.epoch before now) in
       subst (λ l. Reached l s ms m shut) (sym is) (record {
-        mid = moved (record (ticked g m) { epoch = epoch_at s (xs ++ next s xs m ∷ []) u }) now
+        mid = moved (record (with_time g m) { epoch = epoch_at s (xs ++ next s xs m ∷ []) u }) now
             (ap (λ o. option_map_or (epoch_at s (xs ++ next s xs m ∷ [])) o no_epoch) (sym new.0)) (record { found = locks.found; tracks = locks.tracks }) values;
         counts = ap (with_skipped m.unlisted) (counts_are s (offered s u xs) m.cells) ∙ ap (λ o. option_map_or (λ v. with_skipped m.unlisted (counts_of s (offered s v xs) m.cells)) o no_counts) (sym some);
       })
@@ -156,7 +156,7 @@ reached g s ms m shut h early = by (taken_at s xs m) refl where
 grown : (s : GatherSetup) (ms : List Heard) (m : Heard) (shut : Bool) (o : Option ℕ) (e : EpochValue) → closes_first s (timed s ms) m ≡ shut
     → closed_so_far s (timed s (ms ++ m ∷ [])) false ≡ closed_so_far s (timed s ms) shut ++ option_to_list o
     → e ≡ held_at s (timed s (ms ++ m ∷ [])) → ((t : ℕ) → o ≡ Some t → greatest_time (timed s (ms ++ m ∷ [])) ≡ Some t)
-    → closed_list s (timed s (ms ++ m ∷ [])) false ≡ closed_list s (timed s ms) shut ++ handed_out (is_some o) e
+    → closed_list s (timed s (ms ++ m ∷ [])) false ≡ closed_list s (timed s ms) shut ++ closed_epoch (is_some o) e
 grown s ms m shut o e early closed held at =
     ap (map (epoch_at s ys)) closed ∙ map-append (epoch_at s ys) (closed_so_far s xs shut) (option_to_list o)
     ∙ ap₂ (λ a b. a ++ b) stay (by o at) where
@@ -171,7 +171,7 @@ grown s ms m shut o e early closed held at =
           ap (λ l. map (epoch_at s l) (closed_so_far s xs shut)) (timed-push s ms m)
           ∙ same_epochs s xs (next s xs m) (taken_follows s xs m) (closed_so_far s xs shut) (closed_later s xs m shut early)
 
-      by : (o : Option ℕ) → ((t : ℕ) → o ≡ Some t → greatest_time ys ≡ Some t) → map (epoch_at s ys) (option_to_list o) ≡ handed_out (is_some o) e
+      by : (o : Option ℕ) → ((t : ℕ) → o ≡ Some t → greatest_time ys ≡ Some t) → map (epoch_at s ys) (option_to_list o) ≡ closed_epoch (is_some o) e
       by None h = refl
       by (Some t) h = ap (λ v. v ∷ []) (sym (held ∙ ap (λ o. option_map_or (epoch_at s ys) o no_epoch) (h t refl)))
 
@@ -183,7 +183,7 @@ pub record Taken (g : Gathered) (s : GatherSetup) (ms : List Heard) (m : Heard) 
   pub kind : answer_by g.clock m ≡ answer_of s (timed s ms) m
   pub counts : (take_step g m).counts ≡ counts_of_message s (timed s ms) m
   pub after : HasTakenMessages (take_step g m).state s (ms ++ m ∷ []) false
-  pub closed : closed_list s (timed s (ms ++ m ∷ [])) false ≡ closed_list s (timed s ms) shut ++ handed_out (is_some (closed_by g.clock m)) (take_step g m).state.epoch
+  pub closed : closed_list s (timed s (ms ++ m ∷ [])) false ≡ closed_list s (timed s ms) shut ++ closed_epoch (is_some (closed_by g.clock m)) (take_step g m).state.epoch
 
 -- A message is processed.
 pub taken : (g : Gathered) (s : GatherSetup) (ms : List Heard) (m : Heard) (shut : Bool) → HasTakenMessages g s ms shut → closes_first s (timed s ms) m ≡ shut → Taken g s ms m shut
@@ -199,7 +199,7 @@ taken g s ms m shut h early =
     λ t e. ap greatest_time (timed-push s ms m) ∙ ap (λ (c : State). c.latest) (sym now)
     ∙ after_closed (answer_by g.clock m) _ _ _ _ t (λ f. not_first s xs m (sym answer ∙ f)) e in
     let r = reached g s ms m shut h early in
-    let l = loaded_by (answer_by g.clock m) g.clock.latest (ticked g m) m in
+    let l = loaded_by (answer_by g.clock m) g.clock.latest (with_time g m) m in
     record {
       kind = answer;
       counts = r.counts;
@@ -292,8 +292,8 @@ closes_it g s ms m h early none = by (greatest_time (timed s ms)) refl where
   now : step_by g.clock m ≡ standing s xs true
   now = ap (λ c. step_by c m) was ∙ (closes s xs m early).1
 
-  handed : closed_by g.clock m ≡ greatest_time xs
-  handed = ap (λ k. closed_of k (g.clock.setup.by_bit && option_map_or not m.more false) g.clock.pending g.clock.latest (step_by g.clock m).latest) answer ∙ ap (λ (c : State). c.latest) was
+  just_closed : closed_by g.clock m ≡ greatest_time xs
+  just_closed = ap (λ k. closed_of k (g.clock.setup.by_bit && option_map_or not m.more false) g.clock.pending g.clock.latest (step_by g.clock m).latest) answer ∙ ap (λ (c : State). c.latest) was
 
   unchanged : values_by_message g.clock.setup g.values m ≡ values_of s ms
   unchanged = by_own (is_own g.clock.setup m) ∙ h.values where
@@ -301,16 +301,16 @@ closes_it g s ms m h early none = by (greatest_time (timed s ms)) refl where
     by_own true = grind (arith, none)
     by_own false = refl
 
-  step : take_step g m ≡ closed_if (is_some (closed_by g.clock m)) (record { state = ticked g m; counts = no_counts })
-  step = ap (λ k. closed_if (is_some (closed_by g.clock m)) (loaded_by k g.clock.latest (ticked g m) m)) answer
+  step : take_step g m ≡ closed_if (is_some (closed_by g.clock m)) (record { state = with_time g m; counts = no_counts })
+  step = ap (λ k. closed_if (is_some (closed_by g.clock m)) (loaded_by k g.clock.latest (with_time g m) m)) answer
 
   by : (o : Option ℕ) → greatest_time xs ≡ o → First g s ms m
   by None e = absurd (grind (arith, early, e))
   by (Some t) e =
-      let is : closed_by g.clock m ≡ Some t = handed ∙ e in
-      let to : take_step g m ≡ record { state = noted (ticked g m); counts = no_counts } =
-      step ∙ ap (λ o. closed_if (is_some o) (record { state = ticked g m; counts = no_counts })) is in
-      let mid : Mid (ticked g m) s ms true (closed_so_far s xs false) = record {
+      let is : closed_by g.clock m ≡ Some t = just_closed ∙ e in
+      let to : take_step g m ≡ record { state = noted (with_time g m); counts = no_counts } =
+      step ∙ ap (λ o. closed_if (is_some o) (record { state = with_time g m; counts = no_counts })) is in
+      let mid : Mid (with_time g m) s ms true (closed_so_far s xs false) = record {
         clock = clock_stands (step_by g.clock m) s ms xs true refl now;
         epoch = h.epoch;
         locks = record { found = h.locks.found; tracks = h.locks.tracks };
@@ -323,7 +323,7 @@ closes_it g s ms m h early none = by (greatest_time (timed s ms)) refl where
         kind = answer;
         has = ap is_some is;
         after = subst (λ (l : Loaded). HasTakenMessages l.state s ms true) (sym to)
-            (assemble (ticked g m) s ms true (closed_so_far s xs false) (Some t) mid (λ u f. e ∙ f) more);
+            (assemble (with_time g m) s ms true (closed_so_far s xs false) (Some t) mid (λ u f. e ∙ f) more);
         closed = ap (map (epoch_at s xs)) more ∙ map-append (epoch_at s xs) (closed_so_far s xs false) (t ∷ [])
             ∙ ap (λ v. closed_list s xs false ++ v ∷ []) (sym held ∙ ap (λ (l : Loaded). l.state.epoch) (sym to));
       }
@@ -331,14 +331,14 @@ closes_it g s ms m h early none = by (greatest_time (timed s ms)) refl where
 pub record Ended (g : Gathered) (s : GatherSetup) (ms : List Heard) (shut : Bool) : Type 0 where
   pub was : g.clock.pending ≡ (is_pending s (timed s ms) && not shut)
   pub after : HasTakenMessages (end_step g) s ms (shut || g.clock.pending)
-  pub closed : closed_list s (timed s ms) (shut || g.clock.pending) ≡ closed_list s (timed s ms) shut ++ handed_out g.clock.pending (end_step g).epoch
+  pub closed : closed_list s (timed s ms) (shut || g.clock.pending) ≡ closed_list s (timed s ms) shut ++ closed_epoch g.clock.pending (end_step g).epoch
 
 abbrev stopping : Gathered → Gathered
-stopping g = record g { clock = record g.clock { pending = false }; handed = g.clock.pending; has_ended = true }
+stopping g = record g { clock = record g.clock { pending = false }; just_closed = g.clock.pending; has_ended = true }
 
 ended_by : (g : Gathered) (s : GatherSetup) (ms : List Heard) (shut : Bool) (b : Bool) → g.clock.pending ≡ b → g.clock.pending ≡ (is_pending s (timed s ms) && not shut)
     → HasTakenMessages (if b then noted (stopping g) else stopping g) s ms (shut || b)
-    → closed_list s (timed s ms) (shut || b) ≡ closed_list s (timed s ms) shut ++ handed_out b (if b then noted (stopping g) else stopping g).epoch
+    → closed_list s (timed s ms) (shut || b) ≡ closed_list s (timed s ms) shut ++ closed_epoch b (if b then noted (stopping g) else stopping g).epoch
     → Ended g s ms shut
 ended_by g s ms shut b is was after closed = grind (arith, common_steps)
 
@@ -389,15 +389,15 @@ no_point s xs (message.Other number set) h = refl
 
 -- ---- the epochs that were returned
 
-load_handed : (l : Loaded) (xs : List HeardCell) → (load l xs).state.handed ≡ l.state.handed
+load_handed : (l : Loaded) (xs : List HeardCell) → (load l xs).state.just_closed ≡ l.state.just_closed
 load_handed l [] = refl
-load_handed l (x ∷ xs) = load_handed (load_one l x) xs ∙ ap (λ (g : Gathered). g.handed) (hold_is (fate_in l.state x) l.state x)
+load_handed l (x ∷ xs) = load_handed (load_one l x) xs ∙ ap (λ (g : Gathered). g.just_closed) (hold_is (fate_in l.state x) l.state x)
 
-begun_handed : (b : Bool) (g e : Gathered) → e.handed ≡ g.handed → (if b then g else e).handed ≡ g.handed
+begun_handed : (b : Bool) (g e : Gathered) → e.just_closed ≡ g.just_closed → (if b then g else e).just_closed ≡ g.just_closed
 begun_handed true g e h = refl
 begun_handed false g e h = h
 
-loaded_handed : (k : Answer) (before : Option ℕ) (g : Gathered) (m : Heard) → (loaded_by k before g m).state.handed ≡ g.handed
+loaded_handed : (k : Answer) (before : Option ℕ) (g : Gathered) (m : Heard) → (loaded_by k before g m).state.just_closed ≡ g.just_closed
 loaded_handed answers.Kept before g m = grind (arith, common_steps, load_handed, begun_handed)
 loaded_handed answers.OtherStation before g m = refl
 loaded_handed answers.Ignored before g m = refl
@@ -405,7 +405,7 @@ loaded_handed answers.Late before g m = refl
 loaded_handed answers.PastWeeks before g m = refl
 loaded_handed answers.CloseFirst before g m = refl
 
-pub handed_is : (g : Gathered) (m : Heard) → (take_step g m).state.handed ≡ is_some (closed_by g.clock m)
+pub handed_is : (g : Gathered) (m : Heard) → (take_step g m).state.just_closed ≡ is_some (closed_by g.clock m)
 handed_is g m = grind (arith, common_steps, loaded_handed)
 
 -- ---- whether it has ended

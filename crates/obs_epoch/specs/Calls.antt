@@ -10,13 +10,13 @@ use Rattle.obs_epoch.specs.Cells.{firsts}
 use Rattle.obs_epoch.specs.Epochs.{closed_so_far}
 use Rattle.obs_epoch.specs.Clock.{is_pending, closes_first}
 use Rattle.obs_epoch.specs.Gather.{Gathered}
-use Rattle.obs_epoch.specs.Standing.{held_at, locked_in}
+use Rattle.obs_epoch.specs.GathererHistory.{held_at, locked_in}
 use Rattle.obs_epoch.specs.Kinds.{is_close_first, kind_of}
-use Rattle.obs_epoch.specs.Gathering.{HasGatheredEpochs, IsAwaited, handed_over, closed_in, is_done}
+use Rattle.obs_epoch.specs.Gathering.{HasGatheredEpochs, IsAwaited, returned_epoch, closed_in, is_done}
 
 -- The kind is `CloseFirst` exactly if an epoch is pending and the message's time is greater and within the weeks.
-abbrev pub TellsClosingFirst : Gathered → Heard → Kind → Type 0
-TellsClosingFirst old m kind =
+abbrev pub IsCloseFirstExactly : Gathered → Heard → Kind → Type 0
+IsCloseFirstExactly old m kind =
     (s : GatherSetup) (ms : List Heard) (es : List Closed) → HasGatheredEpochs old s ms es None
     → is_close_first kind ≡ closes_first s (timed s ms) m
 
@@ -24,18 +24,18 @@ TellsClosingFirst old m kind =
 abbrev pub AwaitsMessage : Gathered → Gathered → Heard → Kind → Type 0
 AwaitsMessage old new m kind =
     (s : GatherSetup) (ms : List Heard) (es : List Closed) → HasGatheredEpochs old s ms es None
-    → is_close_first kind ≡ true → HasGatheredEpochs new s ms (es ++ handed_over new) (Some m)
+    → is_close_first kind ≡ true → HasGatheredEpochs new s ms (es ++ returned_epoch new) (Some m)
 
 -- If the message is processed, it comes after the others, and the epoch that it closes is returned after the others.
 abbrev pub GathersMessage : Gathered → Gathered → Heard → Kind → Type 0
 GathersMessage old new m kind =
     (s : GatherSetup) (ms : List Heard) (es : List Closed) (again : Option Heard) → HasGatheredEpochs old s ms es again
     → IsAwaited again m → is_close_first kind ≡ false
-    → HasGatheredEpochs new s (ms ++ m ∷ []) (es ++ handed_over new) None
+    → HasGatheredEpochs new s (ms ++ m ∷ []) (es ++ returned_epoch new) None
 
 -- If the message is processed, the kind is its outcome after the others.
-abbrev pub TellsKindOfTaken : Gathered → Heard → Kind → Type 0
-TellsKindOfTaken old m kind =
+abbrev pub IsKindOfProcessed : Gathered → Heard → Kind → Type 0
+IsKindOfProcessed old m kind =
     (s : GatherSetup) (ms : List Heard) (es : List Closed) (again : Option Heard) → HasGatheredEpochs old s ms es again
     → IsAwaited again m → is_close_first kind ≡ false → kind ≡ kind_of s ms m
 
@@ -49,11 +49,11 @@ TakesAwaited old m kind =
 -- within the weeks, and then the message is expected again; every other message is processed, and the epoch that it
 -- closes is returned.
 pub record TakesMessage (old new : Gathered) (m : Heard) (answer : Taken) : Type 0 where
-  pub exactly : TellsClosingFirst old m answer.kind
+  pub exactly : IsCloseFirstExactly old m answer.kind
   pub first : AwaitsMessage old new m answer.kind
   pub again : TakesAwaited old m answer.kind
   pub taken : GathersMessage old new m answer.kind
-  pub kind : TellsKindOfTaken old m answer.kind
+  pub kind : IsKindOfProcessed old m answer.kind
   pub closed : answer.closed ≡ is_some (closed_in new)
   pub going : new.has_ended ≡ false
 
@@ -61,7 +61,7 @@ pub record TakesMessage (old new : Gathered) (m : Heard) (answer : Taken) : Type
 abbrev pub EndsPendingEpoch : Gathered → Gathered → Bool → Type 0
 EndsPendingEpoch old new was =
     (s : GatherSetup) (ms : List Heard) (es : List Closed) → HasGatheredEpochs old s ms es None → old.has_ended ≡ false
-    → (was ≡ is_pending s (timed s ms)) × HasGatheredEpochs new s ms (es ++ handed_over new) None
+    → (was ≡ is_pending s (timed s ms)) × HasGatheredEpochs new s ms (es ++ returned_epoch new) None
 
 -- A gatherer that has ended keeps its messages and epochs.
 abbrev pub StaysEnded : Gathered → Gathered → Type 0

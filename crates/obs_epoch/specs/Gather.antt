@@ -66,7 +66,7 @@ pub record Gathered : Type 0 where
   pub epoch : EpochValue
   pub locks : List (Option KnownLock)
   pub values : StationValues
-  pub handed : Bool
+  pub just_closed : Bool
   pub has_ended : Bool
 
 -- A cell of a planned signal, before it is kept.
@@ -139,12 +139,12 @@ loaded_by answers.Kept before g m = load_heard (record { state = epoch_begun bef
 loaded_by _ before g m = record { state = g; counts = no_counts }
 
 -- The clock and the station values process the message.
-abbrev pub ticked : Gathered → Heard → Gathered
-ticked g m =
+abbrev pub with_time : Gathered → Heard → Gathered
+with_time g m =
     record g {
       clock = step_by g.clock m;
       values = values_by_message g.clock.setup g.values m;
-      handed = is_some (closed_by g.clock m);
+      just_closed = is_some (closed_by g.clock m);
     }
 
 abbrev pub closed_if : Bool → Loaded → Loaded
@@ -152,11 +152,11 @@ closed_if b l = record { state = if b then noted l.state else l.state; counts = 
 
 abbrev pub take_step : Gathered → Heard → Loaded
 take_step g m =
-    closed_if (is_some (closed_by g.clock m)) (loaded_by (answer_by g.clock m) g.clock.latest (ticked g m) m)
+    closed_if (is_some (closed_by g.clock m)) (loaded_by (answer_by g.clock m) g.clock.latest (with_time g m) m)
 
 -- The last call closed no epoch.
 abbrev pub rested : Gathered → Gathered
-rested g = record g { handed = false }
+rested g = record g { just_closed = false }
 
 abbrev pub stopped : State → State
 stopped c = record c { pending = false }
@@ -164,5 +164,5 @@ stopped c = record c { pending = false }
 -- The step of `end`: no message follows.
 abbrev pub end_step : Gathered → Gathered
 end_step g =
-    let h = record g { clock = stopped g.clock; handed = g.clock.pending; has_ended = true } in
+    let h = record g { clock = stopped g.clock; just_closed = g.clock.pending; has_ended = true } in
     if g.clock.pending then noted h else h

@@ -11,7 +11,7 @@ use Rattle.obs_epoch.specs.Loss.{times}
 use Rattle.obs_epoch.specs.Epochs.{epoch_at, is_shut, closed_times, closed_so_far, values_of}
 use Rattle.obs_epoch.specs.Clock.{is_pending, closes_first}
 use Rattle.obs_epoch.specs.Gather.{Gathered}
-use Rattle.obs_epoch.specs.Standing.{HasTakenMessages}
+use Rattle.obs_epoch.specs.GathererHistory.{HasTakenMessages}
 
 -- ---- the epochs of a list of messages
 
@@ -51,15 +51,15 @@ plan_in v = v.clock.setup.plan
 
 -- The epoch that the last call closed.
 abbrev pub closed_in : Gathered → Option EpochValue
-closed_in v = if v.handed then Some (v.epoch) else None
+closed_in v = if v.just_closed then Some (v.epoch) else None
 
 -- The epoch with these station values, if there is one.
 abbrev pub closed_by : Option EpochValue → StationValues → List Closed
 closed_by e values = option_map_or (λ epoch. record { epoch = epoch; values = values } ∷ []) e []
 
 -- The epoch that the last call returned, if any.
-abbrev pub handed_over : Gathered → List Closed
-handed_over v = closed_by (closed_in v) v.values
+abbrev pub returned_epoch : Gathered → List Closed
+returned_epoch v = closed_by (closed_in v) v.values
 
 -- The pending epoch was closed after the last message: for a message that is expected again, or by `end`.
 abbrev pub is_done : Gathered → GatherSetup → List Heard → Option Heard → Bool
@@ -73,7 +73,7 @@ IsAwaited again m = IfSome again (λ awaited. m ≡ awaited)
 pub record HasGatheredEpochs (v : Gathered) (s : GatherSetup) (ms : List Heard) (es : List Closed)
     (again : Option Heard) : Type 0 where
   pub standing : HasTakenMessages v s ms (is_done v s ms again)
-  pub handed : es ≡ closed_list_at s ms (closed_so_far s (timed s ms) (is_done v s ms again))
+  pub just_closed : es ≡ closed_list_at s ms (closed_so_far s (timed s ms) (is_done v s ms again))
   pub epochs : again ≡ None → es ≡ known_epochs v.has_ended s ms
   pub first : IsPrefix es (known_epochs v.has_ended s (ms ++ option_to_list again))
   pub fits : IfSome again (λ m. closes_first s (timed s ms) m ≡ true)

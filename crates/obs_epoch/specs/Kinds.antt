@@ -14,7 +14,7 @@ use Rattle.obs_epoch.specs.declared.cell.StationValues.{StationValues}
 use Rattle.obs_epoch.specs.Epochs.{no_values}
 use Rattle.obs_epoch.specs.Times.{timed}
 use Rattle.obs_epoch.specs.Clock.{answer_of}
-use Rattle.obs_epoch.specs.Standing.{counts_of_message}
+use Rattle.obs_epoch.specs.GathererHistory.{counts_of_message}
 use Rattle.obs_epoch.specs.declared.taken.CellCounts.{CellCounts}
 
 abbrev pub is_close_first : Kind → Bool

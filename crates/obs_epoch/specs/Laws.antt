@@ -34,7 +34,7 @@ CodesNameSignals system (code ∷ codes) (i ∷ signals) =
     (signal_of_code system code ≡ Some (record { system = system; index = i })) × CodesNameSignals system codes signals
 
 -- If codes have no fault, the signals are those of the codes, and no two are the same.
-abbrev pub CodesAreSpelled : Type 0
-CodesAreSpelled =
+abbrev pub CodesNameTheirSignals : Type 0
+CodesNameTheirSignals =
     (system : System) (codes : List (List ℕ)) (signals : List ℕ) → signals_after system [] codes ≡ Ok signals
     → CodesNameSignals system codes signals × IsDistinct nat_eq signals

@@ -13,7 +13,7 @@ pub mod Held
 pub mod Clock
 pub mod Step
 pub mod Gather
-pub mod Standing
+pub mod GathererHistory
 pub mod Kinds
 pub mod Gathering
 pub mod Calls

@@ -53,8 +53,8 @@ abbrev pub AreOrderedBy : List ℕ → List Cell → Type 0
 AreOrderedBy planned cells = SortKeysRise (map (cell_sort_key planned) cells)
 
 -- The cells of each system are in the order of the plan.
-abbrev pub StandByPlan : PlanValue → EpochValue → Type 0
-StandByPlan p e = AreOrderedBy p.gps e.gps × AreOrderedBy p.galileo e.galileo
+abbrev pub AreSortedByPlan : PlanValue → EpochValue → Type 0
+AreSortedByPlan p e = AreOrderedBy p.gps e.gps × AreOrderedBy p.galileo e.galileo
 
 -- Cells in the order of satellites, then in some order of signals.
 abbrev pub AreSorted : List Cell → Type 0

@@ -73,7 +73,7 @@ impl Clock {
     ) -> Clock
         requires { start_week < weeks }
         ensures setup { result.setup ≡ setup_at plan start_week station gather initial }
-        ensures stands { HasHeardMessages result result.setup [] false }
+        ensures history { HasHeardMessages result result.setup [] false }
     {
         Clock {
             plan,

@@ -6,7 +6,7 @@ ghost use Rattle.rtcm_msg.specs.Msm.{codes_of, most_pairs, week};
 ghost use Rattle.rtcm_msg.specs.Viewed.{viewed_message, lock_field};
 ghost use Rattle.obs_epoch.specs.Weeks.{weeks};
 ghost use Rattle.obs_epoch.specs.Heard.{GatherSetup, Heard, heard, heard_summary, system_of};
-ghost use Rattle.obs_epoch.specs.Order.{StandByPlan};
+ghost use Rattle.obs_epoch.specs.Order.{AreSortedByPlan};
 ghost use Rattle.obs_epoch.specs.Plans.{place_in};
 ghost use Rattle.obs_epoch.specs.Heard.{heard_cell, IsObserved};
 ghost use Rattle.obs_epoch.specs.Epochs.{values_by_message, values_of};
@@ -41,7 +41,7 @@ pub struct Gatherer {
     clock: Clock,
     epoch: Epoch,
     locks: Locks,
-    handed: bool,
+    just_closed: bool,
     has_ended: bool,
 }
 
@@ -56,7 +56,7 @@ impl Model for Gatherer {
       epoch = a.epoch.epoch;
       locks = a.locks;
       values = a.epoch.values;
-      handed = a.handed;
+      just_closed = a.just_closed;
       has_ended = a.has_ended;
     } };
 
@@ -80,7 +80,7 @@ impl Gatherer {
         station: Option<u16>,
         gather: Gather,
     ) -> Result<Gatherer, PlanFault>
-        ensures stands { IfOk result (λ g. HasGatheredEpochs g (setup_of plan start_week station gather) [] [] None) }
+        ensures history { IfOk result (λ g. HasGatheredEpochs g (setup_of plan start_week station gather) [] [] None) }
         ensures going { IfOk result (λ g. g.has_ended ≡ false) }
         ensures none { IfOk result (λ g. closed_in g ≡ None) }
         ensures accepted { IsOk result → (start_week < weeks) × (is_no_station station ≡ false) }
@@ -108,7 +108,7 @@ impl Gatherer {
         gather: Gather,
         initial: StationValues,
     ) -> Result<Gatherer, PlanFault>
-        ensures stands { IfOk result
+        ensures history { IfOk result
             (λ g. HasGatheredEpochs g (setup_at plan start_week station gather initial) [] [] None) }
         ensures going { IfOk result (λ g. g.has_ended ≡ false) }
         ensures none { IfOk result (λ g. closed_in g ≡ None) }
@@ -132,7 +132,7 @@ impl Gatherer {
             clock: Clock::new(plan, start_week, station, gather, initial),
             epoch: Epoch::new(initial),
             locks,
-            handed: false,
+            just_closed: false,
             has_ended: false,
         })
     }
@@ -165,7 +165,7 @@ impl Gatherer {
         ensures stays { StaysEnded self.old self.new }
     {
         if self.has_ended {
-            self.handed = false;
+            self.just_closed = false;
             return false;
         }
         self.finish()
@@ -174,12 +174,16 @@ impl Gatherer {
     /// Returns the epoch that the last call of `take` or `end` closed. `None` if that call closed
     /// no epoch, and before the first call.
     pub fn closed(&self) -> Option<&Epoch>
-        ensures order { IfSome (option_map (λ e. e.now.epoch) result) (StandByPlan (plan_in self.now)) }
+        ensures order { IfSome (option_map (λ e. e.now.epoch) result) (AreSortedByPlan (plan_in self.now)) }
         // The last epoch returned, with the station values that were known when it was closed.
         ensures closed { option_to_list (option_map (λ e. e.now) result)
             ≡ closed_by (closed_in self.now) self.now.values }
     {
-        if self.handed { Some(&self.epoch) } else { None }
+        if self.just_closed {
+            Some(&self.epoch)
+        } else {
+            None
+        }
     }
 
     /// Returns whether `end` was called.
@@ -239,7 +243,7 @@ impl Gatherer {
         let values = self.values_after(&said);
         self.epoch.set_values(values);
         let (answer, closed) = self.clock.step(&said);
-        self.handed = closed.is_some();
+        self.just_closed = closed.is_some();
         let counts = self.load(answer, before, view);
         if closed.is_some() {
             self.epoch.note_locks(&mut self.locks);
@@ -253,11 +257,11 @@ impl Gatherer {
     fn finish(&mut self) -> bool
         ensures was { result ≡ self.old.clock.pending }
         ensures step { self.new ≡ end_step self.old }
-        ensures handed { self.new.handed ≡ result }
+        ensures just_closed { self.new.just_closed ≡ result }
     {
         let was = self.clock.end();
         self.has_ended = true;
-        self.handed = was;
+        self.just_closed = was;
         if was {
             self.epoch.note_locks(&mut self.locks);
         }

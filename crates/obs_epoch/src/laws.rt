@@ -4,7 +4,7 @@ ghost use Rattle.rtcm_msg.specs.Msm.{week};
 ghost use Rattle.obs_epoch.specs.Weeks.{weeks};
 ghost use Rattle.obs_epoch.specs.Dates.{IsCivilOf, civil_of};
 ghost use Rattle.obs_epoch.specs.Epochs.{no_values};
-ghost use Rattle.obs_epoch.specs.Laws.{ClosedStay, ClosedComeFirst, NoneClosed, NeverFirst, CodesAreSpelled};
+ghost use Rattle.obs_epoch.specs.Laws.{ClosedStay, ClosedComeFirst, NoneClosed, NeverFirst, CodesNameTheirSignals};
 ghost use Rattle.obs_epoch.specs.Reach.{AreStationValues, MessagesAreHeard, EpochsAreGathered};
 
 /// Later messages don't change the epochs that are closed.
@@ -21,7 +21,7 @@ pub fn kinds()
 
 /// A list of codes gives the signals of these codes, one by one, and no two are the same.
 pub fn plans()
-    ensures { CodesAreSpelled }
+    ensures { CodesNameTheirSignals }
 {}
 
 /// Each time has a date and a time of day.

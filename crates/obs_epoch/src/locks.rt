@@ -33,7 +33,7 @@ pub struct KnownLock {
 /// The lock records: an entry for each key, and the number of keys that have a record.
 #[derive(Drop)]
 pub struct Locks {
-    entries: Vec<Option<KnownLock>>,
+    records: Vec<Option<KnownLock>>,
     count: usize,
 }
 
@@ -44,9 +44,9 @@ impl Model for Locks {
 
     ghost Value = { List (Option KnownLock) };
 
-    ghost view = { λ a. a.entries.items };
+    ghost view = { λ a. a.records.items };
 
-    ghost invariant = { λ a. (length a.entries.items ≡ most_locks) × (a.count ≡ recorded a.entries.items) };
+    ghost invariant = { λ a. (length a.records.items ≡ most_locks) × (a.count ≡ recorded a.records.items) };
 }
 
 impl Locks {
@@ -58,8 +58,8 @@ impl Locks {
     pub fn new(alloc: Global) -> Result<Locks, AllocError>
         ensures { IfOk result (λ l. l ≡ no_locks) }
     {
-        let entries = vec![in alloc; None; MOST_LOCKS]?;
-        Ok(Locks { entries, count: 0 })
+        let records = vec![in alloc; None; MOST_LOCKS]?;
+        Ok(Locks { records, count: 0 })
     }
 
     /// Returns the number of lock records.
@@ -75,7 +75,7 @@ impl Locks {
         requires { IsKey (heard_cell x.now) }
         ensures { result ≡ lookup self.now (heard_cell x.now) }
     {
-        self.entries[lock_place(x)]
+        self.records[lock_place(x)]
     }
 
     /// Records the lock of a kept cell, if it is known, when its epoch of this time is closed.
@@ -85,8 +85,8 @@ impl Locks {
     {
         if x.l.is_some() && x.lock.least().is_some() {
             let entry = lock_place(x);
-            let is_new = self.entries[entry].is_none();
-            self.entries[entry] = Some(KnownLock { time, lock: x.lock });
+            let is_new = self.records[entry].is_none();
+            self.records[entry] = Some(KnownLock { time, lock: x.lock });
             if is_new {
                 self.count += 1;
             }

@@ -20,7 +20,7 @@ use Rattle.rinex_file.specs.ParserState.{GoesOnWithLine, ShowsLine}
 use Rattle.rinex_file.specs.Read.Progress.{Progress, file_with, StartsAt, IsAt, IsBetween, IsInEvent, HasPosition, HasLinesLeft, expected_next}
 use Rattle.rinex_file.specs.Read.Sound.{IsSound, AreLinesAt, at_position, values_now}
 use Rattle.rinex_file.proofs.Digits.{has-append}
-use Rattle.rinex_file.proofs.HeaderLearned.{coordinate_same}
+use Rattle.rinex_file.proofs.HeaderRead.{coordinate_same}
 use Rattle.rinex_file.proofs.BodySteps.{lines_with, lines_are, changes_midst, sound_between}
 
 -- ---- an event's line isn't that of an epoch, which has a point

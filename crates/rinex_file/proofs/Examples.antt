@@ -23,7 +23,7 @@ one = record {
   epochs = record {
     change = None;
     time = 2300 * 604_800_000 + 1000;
-    rows = record { system = Gps; row = record { satellite = 5; entries = record { c = Some (pos 20_985_472_060); l = Some (pos 110_279_400_000); d = Some (negsuc 525_503); s = Some (pos 45_063); lli = 0 } ∷ [] } } ∷ [];
+    rows = record { system = Gps; row = record { satellite = 5; signal_values = record { c = Some (pos 20_985_472_060); l = Some (pos 110_279_400_000); d = Some (negsuc 525_503); s = Some (pos 45_063); lli = 0 } ∷ [] } } ∷ [];
   } ∷ [];
 }
 

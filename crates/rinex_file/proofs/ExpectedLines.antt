@@ -112,7 +112,7 @@ are_begun (EventEpoch w) lines h = inr (inr (inr (inr (inl h))))
 are_begun (Satellite n) lines h = inr (inr (inr (inr (inr h))))
 
 pub begun : (s : Progress) (n : ℕ) (a b : Option (List ℕ)) (t : IsTaken s n a b) → IsSound s → AreBegun t.lines
-begun s n a b t sound = are_begun s.expected t.lines (are_before s s.expected t.lines sound t.stands.are)
+begun s n a b t sound = are_begun s.expected t.lines (are_before s s.expected t.lines sound t.history.are)
 
 pub expected_at : (c : ParserState) (h : History) (expected : Expected) (n : ℕ) (a b : Option (List ℕ)) → IsTaken (progress_at c h) n a b → expected ≡ c.expected → FollowsHistory c h → IfSome a (λ input. IsExpectedAt expected input (n + 1))
-expected_at c h expected n a b t same stands = grind (arith, consumed, are_before)
+expected_at c h expected n a b t same history = grind (arith, consumed, are_before)

@@ -171,10 +171,10 @@ line_of_row letter signals most r is other few less =
     let count = is.whole in
     let number = is.satellite.1 in
     let small : r.satellite < 100 = omega (arith, number, few) in
-    let columns = plain-append 2 (64 * length r.entries) (padded 2 r.satellite) (flat_map signal_text r.entries) (plain_number r.satellite small) (plain_entries r.entries is.entries) in
-    let all = plain-append 1 (2 + 64 * length r.entries) (letter ∷ []) (padded 2 r.satellite ++ flat_map signal_text r.entries)
+    let columns = plain-append 2 (64 * length r.signal_values) (padded 2 r.satellite) (flat_map signal_text r.signal_values) (plain_number r.satellite small) (plain_entries r.signal_values is.signal_values) in
+    let all = plain-append 1 (2 + 64 * length r.signal_values) (letter ∷ []) (padded 2 r.satellite ++ flat_map signal_text r.signal_values)
     (record { clean = ap (λ c. c || false) other; short = lit≤ tt }) columns in
-    as_line (1 + (2 + 64 * length r.entries)) (trimmed (row_text letter r)) (plain_trimmed (1 + (2 + 64 * length r.entries)) (row_text letter r) all) (omega (arith, count, less))
+    as_line (1 + (2 + 64 * length r.signal_values)) (trimmed (row_text letter r)) (plain_trimmed (1 + (2 + 64 * length r.signal_values)) (row_text letter r) all) (omega (arith, count, less))
 
 line_of_seen : (gps galileo : ℕ) (s : SatelliteRow) → IsSatelliteRow gps galileo s → gps ≤ 19 → galileo ≤ 19 → IsFileLine (satellite_line s)
 unfolding satellite_line

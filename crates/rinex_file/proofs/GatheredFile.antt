@@ -114,9 +114,9 @@ found_entry system signals id index (c ∷ cells) h = by (is_of_key id index c) 
   by true k = cell_entry system signals c h.0
   by false k = k
 
-are_entries : (system : System) (signals ss : List ℕ) (id : ℕ) (cells : List Cell) → AllByRecursion (IsGathered system signals) cells → AllByRecursion AreSignalValues (map (signal_values_at cells id) ss)
-are_entries system signals [] id cells h = tt
-are_entries system signals (i ∷ ss) id cells h = (found_entry system signals id i cells h, are_entries system signals ss id cells h)
+are_signal_values : (system : System) (signals ss : List ℕ) (id : ℕ) (cells : List Cell) → AllByRecursion (IsGathered system signals) cells → AllByRecursion AreSignalValues (map (signal_values_at cells id) ss)
+are_signal_values system signals [] id cells h = tt
+are_signal_values system signals (i ∷ ss) id cells h = (found_entry system signals id i cells h, are_signal_values system signals ss id cells h)
 
 -- ---- a cell with a value is the one that its entry is made of
 
@@ -184,7 +184,7 @@ IsNumber cells most id = IsUpTo most id × (is_written cells id ≡ true)
 
 row_is : (system : System) (signals : List ℕ) (cells : List Cell) (id : ℕ) → AreGathered system signals cells → IsNumber cells (satellites_in system) id
     → (0 < length signals) × IsRow (satellites_in system) (length signals) (row_of signals cells id)
-row_is system signals cells id h n = grind (arith, speaker, some_planned, All-from_recursion, are_entries, length-map, one_says, (speaker (IsGathered system signals) cells id h.each h.apart n.1))
+row_is system signals cells id h n = grind (arith, speaker, some_planned, All-from_recursion, are_signal_values, length-map, one_says, (speaker (IsGathered system signals) cells id h.each h.apart n.1))
 
 row_seen : (plan : PlanValue) (system : System) (cells : List Cell) (id : ℕ) → AreGathered system (planned_of system plan) cells → IsNumber cells (satellites_in system) id
     → IsSatelliteRow (length plan.gps) (length plan.galileo) (row_among plan system cells id)

@@ -14,7 +14,7 @@ use Rattle.rinex_file.specs.Begun.{lines_of_header}
 use Rattle.rinex_file.specs.FileValues.{of_system}
 use Rattle.rinex_file.specs.Header.{has_line, row_at, row_count, row_place, first_types, type_rows}
 use Rattle.rinex_file.specs.Read.Progress.{Known, Shown, IsShown, AreValid, MayPlan, IsReadTo, HasReadRows, IsHeadAt, IsOnlyTime, shown_with, shown_rows, shown_line, lines_before, lines_after, plans, signal_count, is_some_planned, signals_begun}
-use Rattle.rinex_file.specs.Read.HeaderSteps.{known_line, LearnsLine, RefusesHeaderLine, GoesTo, NoneGoesOn, SameFrom, StepsTo}
+use Rattle.rinex_file.specs.Read.HeaderSteps.{known_line, ReadsHeaderLine, RefusesHeaderLine, GoesTo, NoneGoesOn, SameFrom, StepsTo}
 use Rattle.rinex_file.proofs.Entries.{few_signals}
 use Rattle.rinex_file.proofs.HeaderAgree.{Agree, agreed, less_or, rows_when, same_there, types_low, types_high, is_lt}
 use Rattle.rinex_file.proofs.HeaderPlans.{with_is}
@@ -204,19 +204,19 @@ same_on k a b c s t = record { lines = λ p may. s.lines p may ∙ t.lines p may
 before_last : (n : ℕ) (r : HeaderRow) → n < row_count → row_at n ≡ r → r ≢ End → n + 1 < row_count
 before_last n r less is other = grind (arith, less_or)
 
-pub step_at : (n : ℕ) (line : List ℕ) (old new : Known) (r : HeaderRow) → IsHeadAt old n → known_line old (row_at n) ≡ true → row_at n ≡ r → r ≢ End → LearnsLine r line old new → AreValid new → GoesTo old n line new (n + 1)
-step_at n line old new r at has is other learn valid =
+pub step_at : (n : ℕ) (line : List ℕ) (old new : Known) (r : HeaderRow) → IsHeadAt old n → known_line old (row_at n) ≡ true → row_at n ≡ r → r ≢ End → ReadsHeaderLine r line old new → AreValid new → GoesTo old n line new (n + 1)
+step_at n line old new r at has is other line_read valid =
     let place : row_place r ≡ n = sym (ap row_place is) ∙ placed n at.expected in
-    let learns = learn (subst (HasReadRows old) (sym place) at.read) (sym (ap (known_line old) is) ∙ has) in
+    let reads_header_line = line_read (subst (HasReadRows old) (sym place) at.read) (sym (ap (known_line old) is) ∙ has) in
     let next : suc n ≡ n + 1 = omega arith in
     record {
-      plans = learns.plans;
+      plans = reads_header_line.plans;
       lines = λ p may. ap (lines_before (shown_with new p)) (sym next) ∙ before_next (shown_with new p) n at.expected
-          ∙ ap₂ (λ a b. a ++ b) (subst (λ m. lines_before (shown_with new p) m ≡ lines_before (shown_with old p) m) place (learns.before p))
-          (ap (shown_rows (shown_with new p)) is ∙ learns.shows p may);
+          ∙ ap₂ (λ a b. a ++ b) (subst (λ m. lines_before (shown_with new p) m ≡ lines_before (shown_with old p) m) place (reads_header_line.before p))
+          (ap (shown_rows (shown_with new p)) is ∙ reads_header_line.shows p may);
       at = record {
         valid = valid;
-        read = subst (HasReadRows new) (ap suc place ∙ next) learns.reads;
+        read = subst (HasReadRows new) (ap suc place ∙ next) reads_header_line.reads;
         expected = before_last n r at.expected is other;
       };
     }

@@ -13,7 +13,7 @@ use Rattle.rinex_file.specs.declared.header.rows.HeaderRow.TheVariants.{Types}
 use Rattle.rinex_file.specs.Begun.{lines_of_header}
 use Rattle.rinex_file.specs.Header.{row_line, has_line, first_types, type_rows}
 use Rattle.rinex_file.specs.Read.Progress.{Known, Shown, IsShown, MayPlan, IsHeadAt, shown_with, shown_line, lines_before, plans, signal_count, AreTypes, types_line, signals_begun}
-use Rattle.rinex_file.specs.Read.HeaderSteps.{known_line, LearnsLine, NoneGoesOn, AreBegun, CountsExpected, ComparesRow, TakesRow, RefusesRow, plan_with, with_signals, with_count}
+use Rattle.rinex_file.specs.Read.HeaderSteps.{known_line, ReadsHeaderLine, NoneGoesOn, AreBegun, CountsExpected, ComparesRow, TakesRow, RefusesRow, plan_with, with_signals, with_count}
 use Rattle.rinex_file.proofs.Entries.{few_signals}
 use Rattle.rinex_file.proofs.HeaderAgree.{agree_count, agree_types, signals_same, less_or, types_in, types_row, types_low, types_high, types_shown}
 use Rattle.rinex_file.proofs.HeaderPlans.{with_is}
@@ -129,10 +129,10 @@ module _ (k : Known) (s : System) (row : ℕ) (line : List ℕ) (few : row < 6) 
     some_count : 0 < count
     some_count = omega (arith, less)
 
-    pub learn_types : (signals : List ℕ) → (0 < row → signal_count k s ≡ count) → TakesRow s count row line (planned_of s k.shown.plan) signals
-        → LearnsLine (Types s row) line k (made s k signals count)
+    pub line_types : (signals : List ℕ) → (0 < row → signal_count k s ≡ count) → TakesRow s count row line (planned_of s k.shown.plan) signals
+        → ReadsHeaderLine (Types s row) line k (made s k signals count)
     unfolding made row_line
-    learn_types signals later takes rows known = record {
+    line_types signals later takes rows known = record {
       plans = λ p may. record {
         is = may.is;
         systems = may.systems;

@@ -33,7 +33,7 @@ mod HeaderText
 mod StationLines
 mod RowText
 mod EpochText
-mod HeaderLearned
+mod HeaderRead
 mod HeaderEnd
 mod HeaderAgree
 mod HeaderPlans

@@ -99,7 +99,7 @@ pub start : (s : Progress) (a : Option (List ℕ)) → ((v : FileValue) → IsFi
 start s a new are = grind (arith, Consumes-nil)
 
 stands_more : (old new : Progress) (taken : List (List ℕ)) (line : List ℕ) → HasReadLines old taken → GoesOnWithLine old new line → ShowsLine old new line → HasReadLines new (taken ++ line ∷ [])
-stands_more old new taken line stands more shows = grind (arith, append_assoc)
+stands_more old new taken line history more shows = grind (arith, append_assoc)
 
 -- one more line was read
 pub one_more : (old new : Progress) (n : ℕ) (a b c : Option (List ℕ)) (line : List ℕ) → IsTaken old n a b → IsLine line → Consumes b c line → GoesOnWithLine old new line → ShowsLine old new line
@@ -124,9 +124,9 @@ too_long s n a b c bytes t most some next =
 
 module _ (are_lines : (v : FileValue) → IsFileValue v → All IsLine (file_lines v)) where
   refuted : (s : Progress) (taken : List (List ℕ)) (line : List ℕ) → All IsLine (taken ++ line ∷ []) → HasReadLines s taken → RefusesLine s line → NoFileBegins (joined (taken ++ line ∷ []))
-  refuted s taken line are stands bad v rest is e =
+  refuted s taken line are history bad v rest is e =
       let (more, lines, text) = splits (file_lines v) (taken ++ line ∷ []) rest (are_lines v is) are e in
-      bad v more (stands.goes v (line ∷ more) is (lines ∙ append_assoc taken (line ∷ []) more))
+      bad v more (history.goes v (line ∷ more) is (lines ∙ append_assoc taken (line ∷ []) more))
 
   -- the line is refused
   pub refused : (s : Progress) (n : ℕ) (a b c : Option (List ℕ)) (line : List ℕ) → IsTaken s n a b → IsLine line → Consumes b c line → RefusesLine s line → IfSome a (λ input. IsFaulty input (n + 1))
@@ -137,7 +137,7 @@ module _ (are_lines : (v : FileValue) → IsFileValue v → All IsLine (file_lin
         rest = rest;
         first = record { are = all; first = refl };
         count = count_more t.lines line n t.many;
-        none = refuted s t.lines line all t.stands bad;
+        none = refuted s t.lines line all t.history bad;
       }))
 
   -- the lines of a file after those that were accepted
@@ -173,7 +173,7 @@ module _ (are_lines : (v : FileValue) → IsFileValue v → All IsLine (file_lin
         count = ap (λ (k : ℕ). k + 1) t.many;
         endless = endless;
         begun = begun;
-        none = λ v is e. never v (t.stands.goes v [] is (after v t.lines bytes is t.are e endless ∙ sym (append-nil t.lines)));
+        none = λ v is e. never v (t.history.goes v [] is (after v t.lines bytes is t.are e endless ∙ sym (append-nil t.lines)));
       })
 
   -- the input is the text of the file that was read
@@ -183,7 +183,7 @@ module _ (are_lines : (v : FileValue) → IsFileValue v → All IsLine (file_lin
       let endless : has 10 bytes ≡ false = ap (has 10) none in
       consumed_all a c (joined t.lines ++ bytes) (IsTextOfOnly f) (Consumes-trans a b c (joined t.lines) bytes t.taken next) end (record {
         same = ap (λ l. joined t.lines ++ l) none ∙ append-nil (joined t.lines) ∙ sym (ap joined lines);
-        only = λ v also e. only v (t.stands.goes v [] also (after v t.lines bytes also t.are e endless ∙ sym (append-nil t.lines)));
+        only = λ v also e. only v (t.history.goes v [] also (after v t.lines bytes also t.are e endless ∙ sym (append-nil t.lines)));
       })
 
   -- ---- a text of a file is no fault

@@ -246,24 +246,24 @@ entries_in-text (e ∷ es) all =
     ∙ ap (λ t. e ∷ signals_in (length es) t) (drop_at (signal_text e) (flat_map signal_text es) 64 l)
     ∙ ap (λ xs. e ∷ xs) (entries_in-text es more)
 
-pub length-entries : (es : List SignalValues) → All AreSignalValues es → length (flat_map signal_text es) ≡ 64 * length es
-length-entries [] all = refl
-length-entries (e ∷ es) all =
+pub length-signal_values : (es : List SignalValues) → All AreSignalValues es → length (flat_map signal_text es) ≡ 64 * length es
+length-signal_values [] all = refl
+length-signal_values (e ∷ es) all =
     let l = length-entry e (All-head AreSignalValues e es all) in
-    let more = length-entries es (All-tail AreSignalValues e es all) in
+    let more = length-signal_values es (All-tail AreSignalValues e es all) in
     rest_lengths (signal_text e) (flat_map signal_text es) (length es) l more
 
 -- ---- the line
 
 made_row : ℕ → List SignalValues → Row
-made_row n es = record { satellite = n; entries = es }
+made_row n es = record { satellite = n; signal_values = es }
 
 same_row_parts : (m n : ℕ) (es fs : List SignalValues) → m ≡ n → es ≡ fs → made_row m es ≡ made_row n fs
 same_row_parts m n es fs p q = cc
 
-pub same_row : (x y : Row) → x.satellite ≡ y.satellite → x.entries ≡ y.entries → x ≡ y
+pub same_row : (x y : Row) → x.satellite ≡ y.satellite → x.signal_values ≡ y.signal_values → x ≡ y
 unfolding made_row
-same_row x y p q = same_row_parts x.satellite y.satellite x.entries y.entries p q
+same_row x y p q = same_row_parts x.satellite y.satellite x.signal_values y.signal_values p q
 
 row_lengths : (letter : ℕ) (p f : List ℕ) (n : ℕ) → length p ≡ 2 → length f ≡ 64 * n → length (letter ∷ (p ++ f)) ≡ 3 + 64 * n
 row_lengths letter p f n k l = ap suc (length-append p f) ∙ omega (arith, k, l)
@@ -276,15 +276,15 @@ module _ (letter signals : ℕ) (r : Row) (most : ℕ) (is : IsRow most signals 
   two = length-padded 2 r.satellite (omega arith) small (omega (arith, small))
 
   pub length-row : length (row_text letter r) ≡ 3 + 64 * signals
-  length-row = row_lengths letter (padded 2 r.satellite) (flat_map signal_text r.entries) signals two (length-entries r.entries is.entries ∙ ap (λ n. 64 * n) is.whole)
+  length-row = row_lengths letter (padded 2 r.satellite) (flat_map signal_text r.signal_values) signals two (length-signal_values r.signal_values is.signal_values ∙ ap (λ n. 64 * n) is.whole)
 
   pub row_in-text : row_in signals (row_text letter r) ≡ r
   row_in-text =
       let p = padded 2 r.satellite in
-      let f = flat_map signal_text r.entries in
+      let f = flat_map signal_text r.signal_values in
       same_row (row_in signals (row_text letter r)) r
       (ap digits_in (take_at p f 2 two) ∙ digits_in-padded 2 r.satellite (omega arith) small (omega (arith, small)))
-      (ap (signals_in signals) (drop_at p f 2 two) ∙ ap (λ n. signals_in n f) (sym is.whole) ∙ entries_in-text r.entries is.entries)
+      (ap (signals_in signals) (drop_at p f 2 two) ∙ ap (λ n. signals_in n f) (sym is.whole) ∙ entries_in-text r.signal_values is.signal_values)
 
 -- a row is read from its line: the line without the line feed, padded with blanks
 pub row_in-line : (letter signals : ℕ) (r : Row) (most : ℕ) → IsRow most signals r → most < 100
@@ -298,9 +298,9 @@ letter_is : (s : System) → letter_of s ≡ 32 → ⊥
 letter_is Gps e = absurd (omega (arith, e))
 letter_is Galileo e = absurd (omega (arith, e))
 
-pub front_line : (s : SatelliteRow) → satellite_line s ≡ letter_of s.system ∷ (trimmed (padded 2 s.row.satellite ++ flat_map signal_text s.row.entries) ++ 10 ∷ [])
+pub front_line : (s : SatelliteRow) → satellite_line s ≡ letter_of s.system ∷ (trimmed (padded 2 s.row.satellite ++ flat_map signal_text s.row.signal_values) ++ 10 ∷ [])
 unfolding satellite_line
-front_line s = ap (λ t. t ++ 10 ∷ []) (trimmed-front (letter_of s.system) (padded 2 s.row.satellite ++ flat_map signal_text s.row.entries) (letter_is s.system))
+front_line s = ap (λ t. t ++ 10 ∷ []) (trimmed-front (letter_of s.system) (padded 2 s.row.satellite ++ flat_map signal_text s.row.signal_values) (letter_is s.system))
 
 pub first_byte : (s : SatelliteRow) → (0 < length (satellite_line s)) × (get_or (satellite_line s) 0 0 ≡ letter_of s.system)
 first_byte s = grind (arith, front_line)

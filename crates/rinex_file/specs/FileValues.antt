@@ -82,9 +82,9 @@ pub record AreSignalValues (e : SignalValues) : Type 0 where
 -- a satellite of a system with `most` satellites and `signals` planned signals
 pub record IsRow (most signals : ℕ) (r : Row) : Type 0 where
   pub satellite : (1 ≤ r.satellite) × (r.satellite ≤ most)
-  pub entries : All AreSignalValues r.entries
-  pub whole : length r.entries ≡ signals
-  pub some : Any (λ e. IsTrue (has_some_value e)) r.entries
+  pub signal_values : All AreSignalValues r.signal_values
+  pub whole : length r.signal_values ≡ signals
+  pub some : Any (λ e. IsTrue (has_some_value e)) r.signal_values
 
 -- the first value for GPS, the second for Galileo
 abbrev pub of_system : {X : Type 0} → System → X → X → X

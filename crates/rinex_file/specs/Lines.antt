@@ -52,7 +52,7 @@ letter_of Galileo = 69
 
 -- letter and number of a satellite, and the columns of its signals
 abbrev pub row_text : ℕ → Row → List ℕ
-row_text letter r = letter ∷ padded 2 r.satellite ++ flat_map signal_text r.entries
+row_text letter r = letter ∷ padded 2 r.satellite ++ flat_map signal_text r.signal_values
 
 -- the line of a satellite, without trailing blanks
 unfoldable pub satellite_line : SatelliteRow → List ℕ

@@ -86,7 +86,7 @@ RefusesLine s line = (v : FileValue) (left : List (List ℕ)) → HasLinesLeft s
 
 -- a line was accepted: it may follow what was read, and the state has the history with what the line adds
 pub record IsNext (old new : ParserState) (added : Added) (line : List ℕ) (h : History) : Type 0 where
-  pub stands : FollowsHistory new (with_line added new h)
+  pub history : FollowsHistory new (with_line added new h)
   pub follows : GoesOnWithLine (progress_at old h) (progress_at new (with_line added new h)) line
   pub shows : ShowsLine (progress_at old h) (progress_at new (with_line added new h)) line
 

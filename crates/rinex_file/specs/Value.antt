@@ -23,7 +23,7 @@ pub record SignalValues : Type 0 where
 -- signal.
 pub record Row : Type 0 where
   pub satellite : ℕ
-  pub entries : List SignalValues
+  pub signal_values : List SignalValues
 
 -- a satellite of a system, with its entries
 pub record SatelliteRow : Type 0 where
@@ -32,8 +32,8 @@ pub record SatelliteRow : Type 0 where
 
 -- a satellite of a system with these entries
 abbrev pub satellite_row : System → ℕ → List SignalValues → SatelliteRow
-satellite_row system satellite entries =
-    record { system = system; row = record { satellite = satellite; entries = entries } }
+satellite_row system satellite signal_values =
+    record { system = system; row = record { satellite = satellite; signal_values = signal_values } }
 
 -- An epoch: a map from satellites to entries, as a list of satellites in ascending order, those of GPS first. `change`
 -- are the station values that hold from this epoch on, if they differ from those before.
@@ -78,7 +78,7 @@ signal_values_at cells id index = option_map_or signal_values_of (find (is_of_ke
 
 -- a satellite's entries of these signals
 abbrev pub row_of : List ℕ → List Cell → ℕ → Row
-row_of signals cells id = record { satellite = id; entries = map (signal_values_at cells id) signals }
+row_of signals cells id = record { satellite = id; signal_values = map (signal_values_at cells id) signals }
 
 abbrev pub entries_of : PlanValue → System → ℕ → List Cell → List SignalValues
 entries_of plan system id cells = map (signal_values_at cells id) (planned_of system plan)

@@ -14,8 +14,8 @@ use Rattle.clap.specs.declared.error.Error.{Error}
 use Rattle.clap.specs.declared.error.kind.ErrorKind.TheVariants as kind
 use Rattle.clap.specs.declared.parser.matches.ArgMatches.{ArgMatches}
 use Rattle.rtcm_bits.specs.Device.{Device}
-use Rattle.rtcm2rinex.specs.CommandLine.{Asks, IsFoundIn, RefusesWords}
-use Rattle.rtcm2rinex.specs.Commands.{AreRefused, EndsCommand, EndsFound, HasCommand, HasFailedToServe, HasServed, HasStopped, StopsAnswering, fault_status, status_of}
+use Rattle.rtcm2rinex.specs.CommandLine.{SelectsCommand, IsFoundIn, RefusesWords}
+use Rattle.rtcm2rinex.specs.Commands.{AreRefused, EndsCommand, EndsFound, HasCommand, HasStoppedEarly, HasCompleted, HasStopped, StopsPrinting, fault_status, status_of}
 use Rattle.rtcm2rinex.specs.SetupOptions.{IsSetupRefused}
 use Rattle.rtcm_convert.specs.Faults.{IsUntouched}
 use Rattle.rtcm2rinex.specs.Devices.{Ends}
@@ -70,23 +70,23 @@ pub ends_found : {A R W : Type 0} (ended : Result A ToolFault) (left : R → Opt
 ends_found ended left held r r2 w w2 m n o e f h = (n, o, sub_found (out-ArgMatches m).subcommand n o e f, h)
 
 -- a command that was found twice is the same
-asked : (words : List Text) (found : Option (Text × List Row)) (n n2 : Text) (o o2 : List Row) → found ≡ Some (n, o) → found ≡ Some (n2, o2) → Asks words n o → Asks words n2 o2
+asked : (words : List Text) (found : Option (Text × List Row)) (n n2 : Text) (o o2 : List Row) → found ≡ Some (n, o) → found ≡ Some (n2, o2) → SelectsCommand words n o → SelectsCommand words n2 o2
 asked words found n n2 o o2 p q a = (a.0, a.1, a.2, a.3 ∙ sym p ∙ q)
 
 module _ {R W : Type 0} (left : R → Option (List ℕ)) (held : W → Option (List ℕ)) (r r2 : Device R) (w w2 : Device W) (words : List Text) where
   pub served : (m : ArgMatches) (ended : Result ⊤ ToolFault) (status : ℕ) → status ≡ status_of ended → IsFoundIn words m
-      → EndsFound ended (subcommand_rows_of m) left r r2 held w w2 → status ≡ 0 → HasServed left r r2 held w w2 words
+      → EndsFound ended (subcommand_rows_of m) left r r2 held w w2 → status ≡ 0 → HasCompleted left r r2 held w w2 words
   served m (Ok u) status is found end zero =
       inl (end.0, end.1, asked words (subcommand_rows_of m) found.0 end.0 found.1 end.1 found.3 end.2 found.4, end.3.0, end.3.1)
   served m (Err fault) status is found end zero = absurd (never_zero fault (sym is ∙ zero))
 
   pub failed_to_serve : (m : ArgMatches) (ended : Result ⊤ ToolFault) (status : ℕ) → status ≡ status_of ended → IsFoundIn words m
-      → EndsFound ended (subcommand_rows_of m) left r r2 held w w2 → status ≡ 1 → HasFailedToServe left r r2 held w w2 words
+      → EndsFound ended (subcommand_rows_of m) left r r2 held w w2 → status ≡ 1 → HasStoppedEarly left r r2 held w w2 words
   failed_to_serve m (Ok u) status is found end one = absurd (let bad : 0 ≡ 1 = sym is ∙ one in omega (arith, bad))
   failed_to_serve m (Err fault) status is found end one =
       inl (end.0, end.1, fault, asked words (subcommand_rows_of m) found.0 end.0 found.1 end.1 found.3 end.2 found.4, end.3.0, end.3.1)
 
-  pub answered_in_part : (e : Error) → RefusesWords words e → StopsAnswering (kind_of e) held w w2 → r2 ≡ r → HasFailedToServe left r r2 held w w2 words
+  pub answered_in_part : (e : Error) → RefusesWords words e → StopsPrinting (kind_of e) held w w2 → r2 ≡ r → HasStoppedEarly left r r2 held w w2 words
   answered_in_part e refused (inl same) unread = inr (inr (unread, same))
   answered_in_part e refused (inr part) unread = inr (inl (is_version words e refused part.0, unread, part.1))
 
@@ -132,8 +132,8 @@ refused_at_two left held r r2 w w2 words m (Ok u) status is found end two = absu
 refused_at_two left held r r2 w w2 words m (Err fault) status is found end two =
     let same : fault_status fault ≡ 2 = sym is ∙ two in
     let refused = refused_by left held r r2 w w2 end.0 end.1 fault same end.3.1 in
-    let asks : Asks words end.0 end.1 = asked words (subcommand_rows_of m) found.0 end.0 found.1 end.1 found.3 end.2 found.4 in
-    (inr (end.1, fault, subst (λ (n : Text). Asks words n end.1) refused.0 asks, refused.1, same), refused.2)
+    let asks : SelectsCommand words end.0 end.1 = asked words (subcommand_rows_of m) found.0 end.0 found.1 end.1 found.3 end.2 found.4 in
+    (inr (end.1, fault, subst (λ (n : Text). SelectsCommand words n end.1) refused.0 asks, refused.1, same), refused.2)
 
 pub refused_words : (words : List Text) (e : Error) → RefusesWords words e → (kind_of e ≢ kind.DisplayVersion) → (kind_of e ≢ kind.OutOfMemory) → AreRefused words
 refused_words words e (inl memory) version some = absurd (some memory)

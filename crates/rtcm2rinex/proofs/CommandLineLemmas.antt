@@ -13,7 +13,7 @@ use Rattle.rtcm2rinex.specs.declared.commands.CommandRow.{CommandRow}
 use Rattle.rtcm2rinex.specs.declared.commands.OptionRow.{OptionRow}
 use Rattle.rtcm2rinex.specs.declared.commands.ValueKind.{ValueKind}
 use Rattle.rtcm2rinex.specs.declared.commands.ValueKind.TheVariants.{Given, Or, Among, Week, Station, Bytes}
-use Rattle.rtcm2rinex.specs.CommandLine.{AddsCommand, AddsOption, IsAnswered, RefusesWords, command_set, option, option_set, program, of_kind, with_commands, with_options}
+use Rattle.rtcm2rinex.specs.CommandLine.{AddsCommand, AddsOption, FailsParsing, RefusesWords, command_set, option, option_set, program, of_kind, with_commands, with_options}
 use Rattle.clap.specs.Values.{kind_of}
 use Rattle.clap.specs.declared.error.kind.ErrorKind.TheVariants as kind
 use Rattle.clap.specs.declared.builder.arg.Arg.{Arg}
@@ -152,8 +152,8 @@ one_command_more a rows n d lt =
     sym (ap (with_commands a) (map_more command_set rows n d lt) ∙ fold-append _ a (map command_set (take n rows)) (command_set (get_or rows n d) ∷ []))
 
 -- if the error is the version's text, the words ask for the version
-pub is_version : (words : List Text) (e : Error) → RefusesWords words e → kind_of e ≡ kind.DisplayVersion → IsAnswered words kind.DisplayVersion
+pub is_version : (words : List Text) (e : Error) → RefusesWords words e → kind_of e ≡ kind.DisplayVersion → FailsParsing words kind.DisplayVersion
 is_version words e (inl memory) version =
     let bad : kind.OutOfMemory ≡ kind.DisplayVersion = sym memory ∙ version in
     cc
-is_version words e (inr answered) version = subst (IsAnswered words) version answered
+is_version words e (inr answered) version = subst (FailsParsing words) version answered

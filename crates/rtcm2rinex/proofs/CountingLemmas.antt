@@ -81,7 +81,7 @@ module _ (v v2 : FramerValue) (c c2 : StreamSignals) (r r2 : Option (List ℕ)) 
       let b : List ℕ = p.0.0 in
       let all = p.0.2 c tt [] [] new in
       let counts = subst (λ (e : Bool). length (known_frames e b) < 2 ^ 56 → AreSignals c c.station [] → AreSignals c2 c.station (known_frames e b)) ended all.passed.taken.counts in
-      let few = join (length (frames_of b)) (length b) v2.taken v2.limit (law b) all.passed.framer.stands.taken all.passed.framer.within all.passed.framer.limit in
+      let few = join (length (frames_of b)) (length b) v2.taken v2.limit (law b) all.passed.framer.history.taken all.passed.framer.within all.passed.framer.limit in
       (b, p.0.1, p.1, counts few begun)
     where
       join : (n m t l : ℕ) → 6 * n ≤ m → t ≡ m → t ≤ l → l ≤ 2 ^ 48 → n < 2 ^ 56

@@ -5,7 +5,7 @@ use Rattle.rtcm_bits.specs.Bits.{FitsInt}
 use Rattle.rtcm_scan.specs.Frames.{Framed}
 use Rattle.rtcm_msg.specs.declared.fault.MsgFault.{MsgFault}
 use Rattle.rtcm_msg.specs.declared.message.Message.{Message}
-use Rattle.rtcm_msg.specs.Reading.{message_at}
+use Rattle.rtcm_msg.specs.Decoding.{message_at}
 use Rattle.rtcm_msg.specs.declared.view.Form.{Form}
 use Rattle.rtcm_msg.specs.declared.view.Form.TheVariants as forms
 use Rattle.rtcm_msg.specs.Msm.{MsmValue}

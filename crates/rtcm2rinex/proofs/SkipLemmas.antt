@@ -10,7 +10,7 @@ use Rattle.obs_epoch.specs.Cells.{counts_of, is_planned, offered, with_skipped}
 use Rattle.obs_epoch.specs.SignalCounts.{brings_value, is_of_station, valued}
 use Rattle.obs_epoch.specs.Gather.{no_counts}
 use Rattle.obs_epoch.specs.Heard.{GatherSetup, Heard, HeardCell, is_own}
-use Rattle.obs_epoch.specs.Standing.{counts_of_message}
+use Rattle.obs_epoch.specs.GathererHistory.{counts_of_message}
 use Rattle.obs_epoch.specs.Times.{Timed}
 use Rattle.rtcm2rinex.specs.SignalLaws.{SkipsOnly}
 use Rattle.rtcm2rinex.specs.Signals.{valued_in, valued_of}

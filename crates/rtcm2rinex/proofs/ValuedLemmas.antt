@@ -15,7 +15,7 @@ use Rattle.rtcm_msg.specs.declared.message.Message.{Message}
 use Rattle.rtcm_msg.specs.declared.message.Message.TheVariants.{Station, Msm4, Msm7, Other}
 use Rattle.rtcm_msg.specs.Entries.{entries}
 use Rattle.rtcm_msg.specs.declared.fault.MsgFault.{MsgFault}
-use Rattle.rtcm_msg.specs.Reading.{message_at}
+use Rattle.rtcm_msg.specs.Decoding.{message_at}
 use Rattle.rtcm_scan.specs.Frames.{Framed}
 use Rattle.obs_epoch.specs.Heard.{Heard, heard, seen_in, lock_by, observed, system_of, HeardCell, IsKey}
 use Rattle.rtcm_convert.specs.Converted.{heard_of}

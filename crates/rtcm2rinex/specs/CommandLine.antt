@@ -156,19 +156,19 @@ IsCommand name =
 -- ---- what words ask for, by clap's own definitions
 
 -- the words have no fault, and ask for the command of this name with these options
-abbrev pub Asks : List Text → Text → List Row → Type 0
-Asks words name options =
+abbrev pub SelectsCommand : List Text → Text → List Row → Type 0
+SelectsCommand words name options =
     (a : App) × IsProgram a × (fault_of a words ≡ []) × (subcommand_of a words ≡ Some (name, options))
 
 -- the words have a fault or ask for a text, and this is the kind of the error
-abbrev pub IsAnswered : List Text → ErrorKind → Type 0
-IsAnswered words k = (a : App) × IsProgram a × IsAmong k (fault_of a words)
+abbrev pub FailsParsing : List Text → ErrorKind → Type 0
+FailsParsing words k = (a : App) × IsProgram a × IsAmong k (fault_of a words)
 
 -- a command of the program was found in the words, and they ask for it
 abbrev pub IsFoundIn : List Text → ArgMatches → Type 0
 IsFoundIn words m = (name : Text) × (options : List Row) × IsCommand name
-    × (subcommand_rows_of m ≡ Some (name, options)) × Asks words name options
+    × (subcommand_rows_of m ≡ Some (name, options)) × SelectsCommand words name options
 
 -- the reason why the words weren't accepted: memory ran out, or the words themselves
 abbrev pub RefusesWords : List Text → Error → Type 0
-RefusesWords words e = (kind_of e ≡ kind.OutOfMemory) ⊎ IsAnswered words (kind_of e)
+RefusesWords words e = (kind_of e ≡ kind.OutOfMemory) ⊎ FailsParsing words (kind_of e)

@@ -16,7 +16,7 @@ use Rattle.rtcm2rinex.specs.Checking.{ChecksFile, StopsChecking}
 use Rattle.rtcm2rinex.specs.SignalOutput.{PrintsAsked, StopsAsked}
 use Rattle.rtcm2rinex.specs.Signals.{signals_text}
 use Rattle.rtcm2rinex.specs.Fitting.{options_text}
-use Rattle.rtcm2rinex.specs.CommandLine.{Asks, IsAnswered, IsCommand}
+use Rattle.rtcm2rinex.specs.CommandLine.{SelectsCommand, FailsParsing, IsCommand}
 use Rattle.rtcm2rinex.specs.Printing.{PrintsText, PrintsPart}
 use Rattle.rtcm2rinex.specs.Devices.{AreFine, Ends, HaveFailedBy}
 use Rattle.rtcm2rinex.specs.SetupOptions.{IsSetupRefused}
@@ -68,26 +68,26 @@ EndsFound result found left r r' held w w' =
 
 -- The command that the words ask for completed with the options that they give; or they ask for the version, and it was
 -- written.
-abbrev pub HasServed : {R W : Type 0} → (R → Option (List ℕ)) → (r r' : Device R) → (W → Option (List ℕ))
+abbrev pub HasCompleted : {R W : Type 0} → (R → Option (List ℕ)) → (r r' : Device R) → (W → Option (List ℕ))
     → (w w' : Device W) → List Text → Type 0
-HasServed left r r' held w w' words =
-    ((name : Text) × (options : List Row) × Asks words name options × AreFine r r' w w'
+HasCompleted left r r' held w w' words =
+    ((name : Text) × (options : List Row) × SelectsCommand words name options × AreFine r r' w w'
     × HasDone left r r' held w w' name options)
-    ⊎ (IsAnswered words DisplayVersion × (r' ≡ r) × PrintsText held w w' VERSION.now)
+    ⊎ (FailsParsing words DisplayVersion × (r' ≡ r) × PrintsText held w w' VERSION.now)
 
 -- The command that the words ask for, or the output of the version, was stopped by a fault; or memory ran out before
 -- anything was read or written.
-abbrev pub HasFailedToServe : {R W : Type 0} → (R → Option (List ℕ)) → (r r' : Device R) → (W → Option (List ℕ))
+abbrev pub HasStoppedEarly : {R W : Type 0} → (R → Option (List ℕ)) → (r r' : Device R) → (W → Option (List ℕ))
     → (w w' : Device W) → List Text → Type 0
-HasFailedToServe left r r' held w w' words =
-    ((name : Text) × (options : List Row) × (fault : ToolFault) × Asks words name options × HaveFailedBy fault r r' w w'
-    × HasStopped left r r' held w w' name options fault)
-    ⊎ (IsAnswered words DisplayVersion × (r' ≡ r) × PrintsPart held w w' VERSION.now)
+HasStoppedEarly left r r' held w w' words =
+    ((name : Text) × (options : List Row) × (fault : ToolFault) × SelectsCommand words name options
+    × HaveFailedBy fault r r' w w' × HasStopped left r r' held w w' name options fault)
+    ⊎ (FailsParsing words DisplayVersion × (r' ≡ r) × PrintsPart held w w' VERSION.now)
     ⊎ IsUntouched r r' w w'
 
 -- Nothing was written since memory ran out, or the version's text was written in part.
-abbrev pub StopsAnswering : {W : Type 0} → ErrorKind → (W → Option (List ℕ)) → (w w' : Device W) → Type 0
-StopsAnswering k held w w' = (w' ≡ w) ⊎ ((k ≡ DisplayVersion) × PrintsPart held w w' VERSION.now)
+abbrev pub StopsPrinting : {W : Type 0} → ErrorKind → (W → Option (List ℕ)) → (w w' : Device W) → Type 0
+StopsPrinting k held w w' = (w' ≡ w) ⊎ ((k ≡ DisplayVersion) × PrintsPart held w w' VERSION.now)
 
 -- the exit status of a fault: 2 for an invalid position or height
 abbrev pub fault_status : ToolFault → ℕ
@@ -104,6 +104,6 @@ status_of (Err fault) = fault_status fault
 -- height is invalid.
 abbrev pub AreRefused : List Text → Type 0
 AreRefused words =
-    ((k : ErrorKind) × IsAnswered words k × (k ≡ DisplayVersion → ⊥))
-    ⊎ ((options : List Row) × (fault : ToolFault) × Asks words (codes "convert") options × IsSetupRefused options fault
-    × (fault_status fault ≡ 2))
+    ((k : ErrorKind) × FailsParsing words k × (k ≡ DisplayVersion → ⊥))
+    ⊎ ((options : List Row) × (fault : ToolFault) × SelectsCommand words (codes "convert") options
+    × IsSetupRefused options fault × (fault_status fault ≡ 2))

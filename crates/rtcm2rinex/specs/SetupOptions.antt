@@ -33,15 +33,15 @@ texts_set options =
     ∷ codes "rec-number" ∷ codes "rec-type" ∷ codes "rec-version" ∷ codes "ant-number" ∷ codes "ant-type" ∷ [])
 
 -- a text is the decimal form of a number of `bits` bits, with or without a leading plus sign
-abbrev pub SpellsNumber : ℕ → List ℕ → Type 0
-SpellsNumber bits text =
+abbrev pub IsDecimalForm : ℕ → List ℕ → Type 0
+IsDecimalForm bits text =
     IsNumeral 10 (without_leading_plus text) × (digits_value 10 (without_leading_plus text) < 2 ^ bits)
 
 -- the number of `bits` bits in a text, if there is a text and it is the decimal form of one
 abbrev pub IsNumberOf : ℕ → Option (List ℕ) → Option ℕ → Type 0
 IsNumberOf bits None n = n ≡ None
-IsNumberOf bits (Some text) None = SpellsNumber bits text → ⊥
-IsNumberOf bits (Some text) (Some n) = SpellsNumber bits text × (n ≡ digits_value 10 (without_leading_plus text))
+IsNumberOf bits (Some text) None = IsDecimalForm bits text → ⊥
+IsNumberOf bits (Some text) (Some n) = IsDecimalForm bits text × (n ≡ digits_value 10 (without_leading_plus text))
 
 -- the number of an option, or `otherwise` if it has none
 abbrev pub IsNumberOr : ℕ → ℕ → Option (List ℕ) → ℕ → Type 0

@@ -6,7 +6,7 @@ use Rattle.rtcm_scan.specs.Frames.{Framed}
 use Rattle.obs_epoch.specs.Cells.{is_planned}
 use Rattle.obs_epoch.specs.SignalCounts.{brings_value}
 use Rattle.obs_epoch.specs.Heard.{GatherSetup, Heard}
-use Rattle.obs_epoch.specs.Standing.{counts_of_message}
+use Rattle.obs_epoch.specs.GathererHistory.{counts_of_message}
 use Rattle.obs_epoch.specs.Times.{Timed}
 use Rattle.rtcm_convert.specs.Converted.{heard_in}
 use Rattle.obs_epoch.specs.Plans.{plan_of}

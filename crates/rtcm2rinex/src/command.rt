@@ -6,7 +6,7 @@ ghost use Rattle.rtcm_convert.specs.Faults.{IsUntouched};
 ghost use Rattle.clap.specs.Values.{kind_of};
 ghost use Rattle.clap.specs.declared.error.kind.ErrorKind.TheVariants.{DisplayVersion, OutOfMemory};
 ghost use Rattle.rtcm2rinex.specs.Commands.{AreRefused, EndsFound, HasCommand};
-ghost use Rattle.rtcm2rinex.specs.Commands.{HasFailedToServe, HasServed, StopsAnswering, status_of};
+ghost use Rattle.rtcm2rinex.specs.Commands.{HasStoppedEarly, HasCompleted, StopsPrinting, status_of};
 ghost use Rattle.rtcm2rinex.specs.Printing.{PrintsText};
 ghost use Rattle.rtcm2rinex.specs.declared.cli.TheConstants.{VERSION};
 ghost use Rattle.rtcm2rinex.specs.Converting.{EndsConverting};
@@ -42,11 +42,11 @@ pub fn command<R: Read, W: Write, E: Write>(
     // By clap's definitions under the program's options, the words ask for a command, which
     // completed with these options; or they ask for the version, which was written.
     ensures good { result ≡ 0
-        → HasServed R.remaining reader.old reader.new W.contents writer.old writer.new (texts words.now) }
+        → HasCompleted R.remaining reader.old reader.new W.contents writer.old writer.new (texts words.now) }
 
     // They ask for a command that was stopped by a fault.
     ensures stopped { result ≡ 1
-        → HasFailedToServe R.remaining reader.old reader.new W.contents writer.old writer.new (texts words.now) }
+        → HasStoppedEarly R.remaining reader.old reader.new W.contents writer.old writer.new (texts words.now) }
 
     // They aren't accepted, ask for help, or ask to convert with an invalid position or height.
     // Nothing was read, and nothing was written to the output.
@@ -123,7 +123,7 @@ fn answer<W: Write, E: Write>(error: &clap::Error, writer: &mut Counted<W>, faul
     ensures status { result ≤ 2 }
     ensures good { result ≡ 0
         → (kind_of error.now ≡ DisplayVersion) × PrintsText W.contents writer.old writer.new VERSION.now }
-    ensures stopped { result ≡ 1 → StopsAnswering (kind_of error.now) W.contents writer.old writer.new }
+    ensures stopped { result ≡ 1 → StopsPrinting (kind_of error.now) W.contents writer.old writer.new }
     ensures refused { result ≡ 2
         → (kind_of error.now ≢ DisplayVersion) × (kind_of error.now ≢ OutOfMemory) × (writer.new ≡ writer.old) }
 {

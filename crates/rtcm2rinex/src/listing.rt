@@ -1,7 +1,7 @@
 //! The commands `frames` and `show`: a line for each frame, or for each message, of a stream.
 ghost use Rattle.std.specs.Prelude.{◌≡◌, ◌+◌, ◌≤◌, ◌^◌, ◌∷◌, ◌++◌, length};
 ghost use Rattle.rtcm_bits.specs.FrameOf.{longest_message};
-ghost use Rattle.rtcm_scan.specs.Answers.{framed};
+ghost use Rattle.rtcm_scan.specs.Results.{framed};
 ghost use Rattle.rtcm_msg.specs.Station.{InRange};
 ghost use Rattle.rtcm_msg.specs.Views.{message_number};
 ghost use Rattle.rtcm2rinex.specs.FrameLines.{frame_line, frame_lines, number_word};

@@ -5,7 +5,7 @@ ghost use Rattle.gnss_obs.specs.Signals.{table, code_of};
 ghost use Rattle.gnss_obs.specs.declared.system.System.TheVariants.{Gps, Galileo};
 ghost use Rattle.rtcm_msg.specs.Station.{InRange};
 ghost use Rattle.rtcm_msg.specs.Viewed.{viewed_message};
-ghost use Rattle.rtcm_scan.specs.Answers.{framed};
+ghost use Rattle.rtcm_scan.specs.Results.{framed};
 ghost use Rattle.rtcm_scan.specs.Frames.{Framed};
 ghost use Rattle.obs_epoch.specs.Heard.{HeardCell, heard};
 ghost use Rattle.obs_epoch.specs.SignalCounts.{AreSignalCounts, signal_in};

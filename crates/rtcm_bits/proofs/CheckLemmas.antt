@@ -2,7 +2,7 @@
 use Rattle.std.proofs.Common.{◌≡◌, ℕ, ◌<◌, ◌≤◌, Bool, true, false, cond, List, [], ◌∷◌, ◌++◌, length, drop, replicate, refl, sym, ap, ◌∙◌, arith, length-append, suc, zero, lit<}
 use Rattle.std.proofs.lemmas.List.{length-replicate}
 use Rattle.rtcm_bits.specs.Bits.{uint}
-use Rattle.rtcm_bits.specs.Check.{plus, add_front, generator, remainder, bits_remainder}
+use Rattle.rtcm_bits.specs.Crc.{plus, add_front, generator, remainder, bits_remainder}
 use Rattle.rtcm_bits.specs.Register.{after_bit, after_bits}
 
 pub plus_assoc : (a b c : Bool) → plus a (plus b c) ≡ plus (plus a b) c

@@ -5,7 +5,7 @@ use Rattle.std.specs.Int.Bits.{xor_zero_r}
 use Rattle.std.proofs.lemmas.List.{get_or-drop, get_or-map, get_or-take, length-take-le, length-replicate, replicate-append-replicate}
 use Rattle.std.proofs.lemmas.Nat.{xor_lt, and_mask}
 use Rattle.rtcm_bits.specs.Bits.{uint, number, bits_of}
-use Rattle.rtcm_bits.specs.Check.{add_front, remainder, bits_remainder, check}
+use Rattle.rtcm_bits.specs.Crc.{add_front, remainder, bits_remainder, crc}
 use Rattle.rtcm_bits.specs.Register.{after_bits}
 use Rattle.rtcm_bits.specs.declared.tables.TheConstants.{TABLES}
 use Rattle.rtcm_bits.specs.BitLaws.{length-uint, number_of-uint}
@@ -62,17 +62,17 @@ front_sizes c rest =
 number_is : (x y : ℕ) → x < 2 ^ 24 → y < 2 ^ 24 → uint 24 x ≡ uint 24 y → x ≡ y
 number_is x y h k e = sym (number_of-uint 24 x h) ∙ ap number e ∙ number_of-uint 24 y k
 
-check_front : (c : ℕ) (rest : List ℕ) → check (c ∷ rest) ≡ bit_xor (check rest) (check (c ∷ replicate (length rest) 0))
+check_front : (c : ℕ) (rest : List ℕ) → crc (c ∷ rest) ≡ bit_xor (crc rest) (crc (c ∷ replicate (length rest) 0))
 unfolding bits_of
 check_front c rest =
     let zeros : List ℕ = replicate (length rest) 0 in
-    let e : uint 24 (check (c ∷ rest)) ≡ uint 24 (bit_xor (check rest) (check (c ∷ replicate (length rest) 0))) =
+    let e : uint 24 (crc (c ∷ rest)) ≡ uint 24 (bit_xor (crc rest) (crc (c ∷ replicate (length rest) 0))) =
     check_is (c ∷ rest) ∙ ap bits_remainder (front_bits c rest) ∙ sum_remainder (replicate 8 false ++ bits_of rest) (uint 8 c ++ bits_of (replicate (length rest) 0)) (front_sizes c rest)
     ∙ ap (λ (t : List Bool). add_front t (bits_remainder (bits_of (c ∷ replicate (length rest) 0)))) (zeros_first (bits_of rest) ∙ sym (check_is rest))
-    ∙ ap (add_front (uint 24 (check rest))) (sym (check_is (c ∷ replicate (length rest) 0)))
-    ∙ sym (uint-xor 24 (check rest) (check (c ∷ replicate (length rest) 0))) in
-    number_is (check (c ∷ rest)) (bit_xor (check rest) (check (c ∷ replicate (length rest) 0))) (check_below (c ∷ rest))
-    (xor_lt 24 (check rest) (check (c ∷ replicate (length rest) 0)) (check_below rest) (check_below (c ∷ replicate (length rest) 0))) e
+    ∙ ap (add_front (uint 24 (crc rest))) (sym (check_is (c ∷ replicate (length rest) 0)))
+    ∙ sym (uint-xor 24 (crc rest) (crc (c ∷ replicate (length rest) 0))) in
+    number_is (crc (c ∷ rest)) (bit_xor (crc rest) (crc (c ∷ replicate (length rest) 0))) (check_below (c ∷ rest))
+    (xor_lt 24 (crc rest) (crc (c ∷ replicate (length rest) 0)) (check_below rest) (check_below (c ∷ replicate (length rest) 0))) e
 
 -- the register is added to the first three bytes
 three_bytes : (h m l : ℕ) → m < 256 → l < 256 → uint 24 (h * 65536 + (m * 256 + l)) ≡ uint 8 h ++ (uint 8 m ++ uint 8 l)
@@ -91,7 +91,7 @@ taken_in h m l a b c rest =
     (add_front-append (uint 8 l) (uint 8 c) rest (omega (arith, length-uint 8 l, length-uint 8 c)) ∙ ap (λ (t : List Bool). t ++ rest) (sym (uint-xor 8 l c))))
 
 into_bytes : (x h m l a b c : ℕ) (rest : List ℕ) → x ≡ h * 65536 + (m * 256 + l) → m < 256 → l < 256
-    → after_bits (uint 24 x) (bits_of (a ∷ b ∷ c ∷ rest)) ≡ uint 24 (check (bit_xor h a ∷ bit_xor m b ∷ bit_xor l c ∷ rest))
+    → after_bits (uint 24 x) (bits_of (a ∷ b ∷ c ∷ rest)) ≡ uint 24 (crc (bit_xor h a ∷ bit_xor m b ∷ bit_xor l c ∷ rest))
 unfolding bits_of
 into_bytes x h m l a b c rest e j k =
     let s : uint 24 x ≡ uint 8 h ++ (uint 8 m ++ uint 8 l) = ap (uint 24) e ∙ three_bytes h m l j k in
@@ -113,36 +113,36 @@ entry_after j h =
     sym (get_or-drop 256 TABLES j 0) ∙ ap (λ (t : List ℕ). get_or t j 0) tables_go_on ∙ get_or-map next_entry (take 1792 TABLES) j 0 0 (omega (arith, h, length-take-le 1792 TABLES (lit≤ tt)))
     ∙ ap next_entry (get_or-take 1792 TABLES j 0 h)
 
-zero_after : (m : List ℕ) → next_entry (check m) ≡ check (m ++ 0 ∷ [])
+zero_after : (m : List ℕ) → next_entry (crc m) ≡ crc (m ++ 0 ∷ [])
 zero_after m =
-    let x : ℕ = check m in
-    let t : ℕ = get_or TABLES (check m / 65536) 0 in
-    let b : check m < 2 ^ 24 = check_below m in
-    let i : check m / 65536 < 256 = omega (arith, b) in
-    let e : get_or TABLES (check m / 65536) 0 ≡ check (bit_xor (check m / 65536) 0 ∷ []) = table_right (check m / 65536) i ∙ ap (λ (n : ℕ). check (n ∷ [])) (sym (xor_zero_r (check m / 65536))) in
-    let a : bit_and (check m) 65535 ≡ check m % 65536 = and_mask (check m) 16 in
-    let l : bit_and (check m) 65535 * 256 < 2 ^ 24 = omega (arith, a) in
-    let r : get_or TABLES (check m / 65536) 0 < 2 ^ 24 = rw e (check_below (bit_xor (check m / 65536) 0 ∷ [])) in
-    check_push m (check m) (next_entry (check m)) 0 refl (xor_lt 24 (bit_and (check m) 65535 * 256) (get_or TABLES (check m / 65536) 0) l r)
-    (table_step (check m) (next_entry (check m)) 0 (get_or TABLES (check m / 65536) 0) b (lit< tt) e refl)
+    let x : ℕ = crc m in
+    let t : ℕ = get_or TABLES (crc m / 65536) 0 in
+    let b : crc m < 2 ^ 24 = check_below m in
+    let i : crc m / 65536 < 256 = omega (arith, b) in
+    let e : get_or TABLES (crc m / 65536) 0 ≡ crc (bit_xor (crc m / 65536) 0 ∷ []) = table_right (crc m / 65536) i ∙ ap (λ (n : ℕ). crc (n ∷ [])) (sym (xor_zero_r (crc m / 65536))) in
+    let a : bit_and (crc m) 65535 ≡ crc m % 65536 = and_mask (crc m) 16 in
+    let l : bit_and (crc m) 65535 * 256 < 2 ^ 24 = omega (arith, a) in
+    let r : get_or TABLES (crc m / 65536) 0 < 2 ^ 24 = rw e (check_below (bit_xor (crc m / 65536) 0 ∷ [])) in
+    check_push m (crc m) (next_entry (crc m)) 0 refl (xor_lt 24 (bit_and (crc m) 65535 * 256) (get_or TABLES (crc m / 65536) 0) l r)
+    (table_step (crc m) (next_entry (crc m)) 0 (get_or TABLES (crc m / 65536) 0) b (lit< tt) e refl)
 
-pub entry_right : (k i : ℕ) → i < 256 → k < 8 → get_or TABLES (k * 256 + i) 0 ≡ check (i ∷ replicate k 0)
+pub entry_right : (k i : ℕ) → i < 256 → k < 8 → get_or TABLES (k * 256 + i) 0 ≡ crc (i ∷ replicate k 0)
 entry_right zero i h l = let z : 0 * 256 + i ≡ i = omega arith in ap (λ (n : ℕ). get_or TABLES n 0) z ∙ table_right i h
 entry_right (suc k) i h l =
     let z : suc k * 256 + i ≡ 256 + (k * 256 + i) = omega arith in
     let y : k + 1 ≡ suc k = omega arith in
     ap (λ (n : ℕ). get_or TABLES n 0) z ∙ entry_after (k * 256 + i) (omega (arith, h, l)) ∙ ap next_entry (entry_right k i h (omega (arith, l))) ∙ zero_after (i ∷ replicate k 0)
-    ∙ ap (λ (t : List ℕ). check (i ∷ t)) (replicate-append-replicate k 1 0 ∙ ap (λ (n : ℕ). replicate n 0) y)
+    ∙ ap (λ (t : List ℕ). crc (i ∷ t)) (replicate-append-replicate k 1 0 ∙ ap (λ (n : ℕ). replicate n 0) y)
 
 -- the sum of the entries
 abbrev pub entries : List ℕ → ℕ
 entries [] = 0
-entries (c ∷ []) = check (c ∷ [])
-entries (c ∷ (d ∷ rest)) = bit_xor (entries (d ∷ rest)) (check (c ∷ replicate (length (d ∷ rest)) 0))
+entries (c ∷ []) = crc (c ∷ [])
+entries (c ∷ (d ∷ rest)) = bit_xor (entries (d ∷ rest)) (crc (c ∷ replicate (length (d ∷ rest)) 0))
 
-entries_check : (c : ℕ) (rest : List ℕ) → check (c ∷ rest) ≡ entries (c ∷ rest)
+entries_check : (c : ℕ) (rest : List ℕ) → crc (c ∷ rest) ≡ entries (c ∷ rest)
 entries_check c [] = refl
-entries_check c (d ∷ rest) = check_front c (d ∷ rest) ∙ ap (λ (n : ℕ). bit_xor n (check (c ∷ replicate (length (d ∷ rest)) 0))) (entries_check d rest)
+entries_check c (d ∷ rest) = check_front c (d ∷ rest) ∙ ap (λ (n : ℕ). bit_xor n (crc (c ∷ replicate (length (d ∷ rest)) 0))) (entries_check d rest)
 
 eight_steps_sum : (x h m l a b c d e f g i y : ℕ) → x ≡ h * 65536 + (m * 256 + l) → m < 256 → l < 256
     → y ≡ entries (bit_xor h a ∷ bit_xor m b ∷ bit_xor l c ∷ d ∷ e ∷ f ∷ g ∷ i ∷ []) → uint 24 y ≡ after_bits (uint 24 x) (bits_of (a ∷ b ∷ c ∷ d ∷ e ∷ f ∷ g ∷ i ∷ []))
@@ -151,9 +151,9 @@ eight_steps_sum x h m l a b c d e f g i y p j k q =
     ap (uint 24) (q ∙ sym (entries_check (bit_xor h a) (bit_xor m b ∷ bit_xor l c ∷ rest))) ∙ sym (into_bytes x h m l a b c rest p j k)
 
 pub eight_right : (x : ℕ) (xs : List ℕ) (e0 e1 e2 e3 e4 e5 e6 e7 : ℕ) → x < 2 ^ 24 → length xs ≡ 8
-    → e0 ≡ check (get_or xs 7 0 ∷ []) → e1 ≡ check (get_or xs 6 0 ∷ replicate 1 0) → e2 ≡ check (get_or xs 5 0 ∷ replicate 2 0) → e3 ≡ check (get_or xs 4 0 ∷ replicate 3 0)
-    → e4 ≡ check (get_or xs 3 0 ∷ replicate 4 0) → e5 ≡ check (bit_xor (x % 256) (get_or xs 2 0) ∷ replicate 5 0) → e6 ≡ check (bit_xor (x / 256 % 256) (get_or xs 1 0) ∷ replicate 6 0)
-    → e7 ≡ check (bit_xor (x / 65536) (get_or xs 0 0) ∷ replicate 7 0)
+    → e0 ≡ crc (get_or xs 7 0 ∷ []) → e1 ≡ crc (get_or xs 6 0 ∷ replicate 1 0) → e2 ≡ crc (get_or xs 5 0 ∷ replicate 2 0) → e3 ≡ crc (get_or xs 4 0 ∷ replicate 3 0)
+    → e4 ≡ crc (get_or xs 3 0 ∷ replicate 4 0) → e5 ≡ crc (bit_xor (x % 256) (get_or xs 2 0) ∷ replicate 5 0) → e6 ≡ crc (bit_xor (x / 256 % 256) (get_or xs 1 0) ∷ replicate 6 0)
+    → e7 ≡ crc (bit_xor (x / 65536) (get_or xs 0 0) ∷ replicate 7 0)
     → (bit_xor (bit_xor (bit_xor (bit_xor (bit_xor (bit_xor (bit_xor e0 e1) e2) e3) e4) e5) e6) e7 < 2 ^ 24)
     × (uint 24 (bit_xor (bit_xor (bit_xor (bit_xor (bit_xor (bit_xor (bit_xor e0 e1) e2) e3) e4) e5) e6) e7) ≡ after_bits (uint 24 x) (bits_of xs))
 eight_right x xs e0 e1 e2 e3 e4 e5 e6 e7 h n p0 p1 p2 p3 p4 p5 p6 p7 =

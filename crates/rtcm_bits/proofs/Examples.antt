@@ -1,7 +1,7 @@
 -- The definitions at known values.
 use Rattle.std.proofs.Common.{◌≡◌, [], ◌∷◌, take, drop, refl, negsuc}
 use Rattle.rtcm_bits.specs.Bits.{uint, number, number_from, bits_of, signed}
-use Rattle.rtcm_bits.specs.Check.{check, bits_remainder, remainder, add_front, generator}
+use Rattle.rtcm_bits.specs.Crc.{crc, bits_remainder, remainder, add_front, generator}
 use Rattle.rtcm_bits.specs.FrameOf.{frame_bytes}
 use Rattle.rtcm_bits.specs.Window.{WindowValue, nothing_held, pushed, looked, looked_through, without_front}
 
@@ -16,12 +16,12 @@ second_field = refl
 
 -- a message without a byte
 empty_frame : frame_bytes [] ≡ 0xD3 ∷ 0x00 ∷ 0x00 ∷ 0x47 ∷ 0xEA ∷ 0x4B ∷ []
-unfolding check bits_remainder remainder add_front generator uint number_from bits_of
+unfolding crc bits_remainder remainder add_front generator uint number_from bits_of
 empty_frame = refl
 
 -- a message 1005
-station_frame : check (0xD3 ∷ 0x00 ∷ 0x13 ∷ 0x3E ∷ 0xD7 ∷ 0xD3 ∷ 0x02 ∷ 0x02 ∷ 0x98 ∷ 0x0E ∷ 0xDE ∷ 0xEF ∷ 0x34 ∷ 0xB4 ∷ 0xBD ∷ 0x62 ∷ 0xAC ∷ 0x09 ∷ 0x41 ∷ 0x98 ∷ 0x6F ∷ 0x33 ∷ []) ≡ 0x360B98
-unfolding check bits_remainder remainder add_front generator uint number_from bits_of
+station_frame : crc (0xD3 ∷ 0x00 ∷ 0x13 ∷ 0x3E ∷ 0xD7 ∷ 0xD3 ∷ 0x02 ∷ 0x02 ∷ 0x98 ∷ 0x0E ∷ 0xDE ∷ 0xEF ∷ 0x34 ∷ 0xB4 ∷ 0xBD ∷ 0x62 ∷ 0xAC ∷ 0x09 ∷ 0x41 ∷ 0x98 ∷ 0x6F ∷ 0x33 ∷ []) ≡ 0x360B98
+unfolding crc bits_remainder remainder add_front generator uint number_from bits_of
 station_frame = refl
 
 -- five bytes: two looks at the first one, the next two passed on, and the first one dropped

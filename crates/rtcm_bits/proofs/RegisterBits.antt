@@ -5,7 +5,7 @@ use Rattle.std.proofs.lemmas.Nat.{div-add-mod'}
 use Rattle.std.proofs.lemmas.Nat.Bits.{bit_at_cat_low, bit_at_cat_high, bit_at_xor, bit_at-lt}
 use Rattle.std.specs.Int.{bit_at}
 use Rattle.rtcm_bits.specs.Bits.{odd, uint}
-use Rattle.rtcm_bits.specs.Check.{plus, add_front}
+use Rattle.rtcm_bits.specs.Crc.{plus, add_front}
 
 -- only the low bits count
 pub uint-cat : (w a k b : ℕ) → w ≤ k → uint w (a * 2 ^ k + b) ≡ uint w b

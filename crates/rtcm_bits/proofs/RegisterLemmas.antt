@@ -1,35 +1,35 @@
 -- The register as a number.
 use Rattle.std.proofs.Common.{◌≡◌, ℕ, ◌^◌, ◌<◌, Bool, List, [], ◌∷◌, ◌++◌, length, refl, sym, ap, ◌∙◌}
 use Rattle.rtcm_bits.specs.Bits.{uint, number, number_from, bits_of}
-use Rattle.rtcm_bits.specs.Check.{check, bits_remainder}
+use Rattle.rtcm_bits.specs.Crc.{crc, bits_remainder}
 use Rattle.rtcm_bits.specs.Register.{after_bits}
 use Rattle.rtcm_bits.specs.BitLaws.{uint-number, number-fits, bits_of-append, number_of-uint}
 use Rattle.rtcm_bits.proofs.BitLemmas.{bits_of-push}
 use Rattle.rtcm_bits.proofs.CheckLemmas.{after_bits-append, remainder-append, length-bits_remainder}
 
 -- the bits of a CRC are the remainder
-pub check_is : (m : List ℕ) → uint 24 (check m) ≡ bits_remainder (bits_of m)
-unfolding check
+pub check_is : (m : List ℕ) → uint 24 (crc m) ≡ bits_remainder (bits_of m)
+unfolding crc
 check_is m =
     let r = bits_remainder (bits_of m) in
     ap (λ n. uint n (number r)) (sym (length-bits_remainder (bits_of m))) ∙ uint-number r 0
 
-pub check_below : (m : List ℕ) → check m < 2 ^ 24
-unfolding check
+pub check_below : (m : List ℕ) → crc m < 2 ^ 24
+unfolding crc
 check_below m =
     let r = bits_remainder (bits_of m) in
     let h : number r < 2 ^ length r = number-fits r in rw (length-bits_remainder (bits_of m)) at h
 
 -- one byte more
-pub check_push : (m : List ℕ) (x y b : ℕ) → x ≡ check m → y < 2 ^ 24 → uint 24 y ≡ after_bits (uint 24 x) (uint 8 b) → y ≡ check (m ++ b ∷ [])
+pub check_push : (m : List ℕ) (x y b : ℕ) → x ≡ crc m → y < 2 ^ 24 → uint 24 y ≡ after_bits (uint 24 x) (uint 8 b) → y ≡ crc (m ++ b ∷ [])
 check_push m x y b e h f =
     let g : uint 24 x ≡ bits_remainder (bits_of m) = ap (uint 24) e ∙ check_is m in
     let k : bits_of (m ++ b ∷ []) ≡ bits_of m ++ uint 8 b = bits_of-push m b in
-    let s : uint 24 y ≡ uint 24 (check (m ++ b ∷ [])) = f ∙ ap (λ r. after_bits r (uint 8 b)) g ∙ sym (remainder-append (bits_of m) (uint 8 b)) ∙ sym (ap bits_remainder k) ∙ sym (check_is (m ++ b ∷ [])) in
-    sym (number_of-uint 24 y h) ∙ ap number s ∙ number_of-uint 24 (check (m ++ b ∷ [])) (check_below (m ++ b ∷ []))
+    let s : uint 24 y ≡ uint 24 (crc (m ++ b ∷ [])) = f ∙ ap (λ r. after_bits r (uint 8 b)) g ∙ sym (remainder-append (bits_of m) (uint 8 b)) ∙ sym (ap bits_remainder k) ∙ sym (check_is (m ++ b ∷ [])) in
+    sym (number_of-uint 24 y h) ∙ ap number s ∙ number_of-uint 24 (crc (m ++ b ∷ [])) (check_below (m ++ b ∷ []))
 
-pub check_nil : 0 ≡ check []
-unfolding check bits_remainder Rattle.rtcm_bits.specs.Check.remainder number_from bits_of
+pub check_nil : 0 ≡ crc []
+unfolding crc bits_remainder Rattle.rtcm_bits.specs.Crc.remainder number_from bits_of
 check_nil = refl
 
 -- more bytes, one after the other
@@ -44,12 +44,12 @@ steps_more r bytes more all x y m e f =
     f ∙ ap (λ t. after_bits t (bits_of more)) e ∙ sym (after_bits-append r (bits_of bytes) (bits_of more)) ∙ ap (after_bits r) (sym (bits_of-append bytes more) ∙ ap bits_of (sym m))
 
 -- several more bytes
-pub check_append : (m bytes : List ℕ) (x y : ℕ) → x ≡ check m → y < 2 ^ 24 → uint 24 y ≡ after_bits (uint 24 x) (bits_of bytes) → y ≡ check (m ++ bytes)
+pub check_append : (m bytes : List ℕ) (x y : ℕ) → x ≡ crc m → y < 2 ^ 24 → uint 24 y ≡ after_bits (uint 24 x) (bits_of bytes) → y ≡ crc (m ++ bytes)
 check_append m bytes x y e h f =
     let g : uint 24 x ≡ bits_remainder (bits_of m) = ap (uint 24) e ∙ check_is m in
     let k : bits_of (m ++ bytes) ≡ bits_of m ++ bits_of bytes = bits_of-append m bytes in
-    let s : uint 24 y ≡ uint 24 (check (m ++ bytes)) = f ∙ ap (λ r. after_bits r (bits_of bytes)) g ∙ sym (remainder-append (bits_of m) (bits_of bytes)) ∙ sym (ap bits_remainder k) ∙ sym (check_is (m ++ bytes)) in
-    sym (number_of-uint 24 y h) ∙ ap number s ∙ number_of-uint 24 (check (m ++ bytes)) (check_below (m ++ bytes))
+    let s : uint 24 y ≡ uint 24 (crc (m ++ bytes)) = f ∙ ap (λ r. after_bits r (bits_of bytes)) g ∙ sym (remainder-append (bits_of m) (bits_of bytes)) ∙ sym (ap bits_remainder k) ∙ sym (check_is (m ++ bytes)) in
+    sym (number_of-uint 24 y h) ∙ ap number s ∙ number_of-uint 24 (crc (m ++ bytes)) (check_below (m ++ bytes))
 
 pub no_steps : (r : List Bool) → r ≡ after_bits r (bits_of [])
 unfolding bits_of after_bits

@@ -3,7 +3,7 @@ use Rattle.std.proofs.Common.{◌≡◌, ℕ, ◌+◌, ◌*◌, ◌^◌, ◌<◌
 use Rattle.std.proofs.lemmas.Bool.{true≢false}
 use Rattle.std.proofs.lemmas.List.{append-nil, length-replicate, get_or_push, take-append-le, take_all}
 use Rattle.rtcm_bits.specs.Bits.{uint, number, number_from, bits_of}
-use Rattle.rtcm_bits.specs.Check.{plus, add_front, generator, remainder, bits_remainder, check}
+use Rattle.rtcm_bits.specs.Crc.{plus, add_front, generator, remainder, bits_remainder, crc}
 use Rattle.rtcm_bits.specs.Register.{after_bit, after_bits}
 use Rattle.rtcm_bits.specs.BitLaws.{length-uint, uint-number, bits_of-append, number-split, number_of-uint}
 use Rattle.rtcm_bits.proofs.BitLemmas as bit_lemmas
@@ -132,8 +132,8 @@ bytes_three : (x y z : ℕ) → bits_of (x ∷ y ∷ z ∷ []) ≡ three x y z
 unfolding bits_of three uint
 bytes_three x y z = ap (λ q. uint 8 x ++ (uint 8 y ++ q)) (append-nil (uint 8 z))
 
-check_three : (m : List ℕ) (x y z : ℕ) → check (m ++ x ∷ y ∷ z ∷ []) ≡ number (after_bits (bits_remainder (bits_of m)) (three x y z))
-unfolding check bits_of
+check_three : (m : List ℕ) (x y z : ℕ) → crc (m ++ x ∷ y ∷ z ∷ []) ≡ number (after_bits (bits_remainder (bits_of m)) (three x y z))
+unfolding crc bits_of
 check_three m x y z =
     let k : bits_of (m ++ x ∷ y ∷ z ∷ []) ≡ bits_of m ++ three x y z = bits_of-append m (x ∷ y ∷ z ∷ []) ∙ ap (λ t. bits_of m ++ t) (bytes_three x y z) in
     ap (λ q. number (bits_remainder q)) k ∙ ap number (remainder-append (bits_of m) (three x y z))
@@ -149,8 +149,8 @@ bits_same r n l k e =
     sym a ∙ ap (uint 24) e ∙ b
 
 -- the remainder is 0 if the three bytes after a message are its CRC
-pub residue_check : (m : List ℕ) (x y z : ℕ) → x < 256 → y < 256 → z < 256 → check (m ++ x ∷ y ∷ z ∷ []) ≡ 0 → x * 65536 + y * 256 + z ≡ check m
-unfolding check
+pub residue_check : (m : List ℕ) (x y z : ℕ) → x < 256 → y < 256 → z < 256 → crc (m ++ x ∷ y ∷ z ∷ []) ≡ 0 → x * 65536 + y * 256 + z ≡ crc m
+unfolding crc
 residue_check m x y z h k l e =
     let r = bits_remainder (bits_of m) in
     let n = length-bits_remainder (bits_of m) in
@@ -159,8 +159,8 @@ residue_check m x y z h k l e =
     let s : r ≡ three x y z = after_none r (three x y z) n (length-three x y z) a in
     sym (ap number s ∙ number-three x y z h k l)
 
-pub residue_none : (m : List ℕ) (x y z : ℕ) → x < 256 → y < 256 → z < 256 → x * 65536 + y * 256 + z ≡ check m → check (m ++ x ∷ y ∷ z ∷ []) ≡ 0
-unfolding check
+pub residue_none : (m : List ℕ) (x y z : ℕ) → x < 256 → y < 256 → z < 256 → x * 65536 + y * 256 + z ≡ crc m → crc (m ++ x ∷ y ∷ z ∷ []) ≡ 0
+unfolding crc
 residue_none m x y z h k l e =
     let r = bits_remainder (bits_of m) in
     let n = length-bits_remainder (bits_of m) in

@@ -6,7 +6,7 @@ use Rattle.std.proofs.lemmas.Nat.{and_mask, xor_comm, xor_lt}
 use Rattle.std.proofs.Math.Nat.{mod-eq_of_lt}
 use Rattle.std.proofs.lemmas.Nat.{div-add-mod'}
 use Rattle.rtcm_bits.specs.Bits.{uint, number_from, bits_of}
-use Rattle.rtcm_bits.specs.Check.{plus, add_front, generator, remainder, bits_remainder, check}
+use Rattle.rtcm_bits.specs.Crc.{plus, add_front, generator, remainder, bits_remainder, crc}
 use Rattle.rtcm_bits.specs.Register.{after_bits}
 use Rattle.rtcm_bits.specs.declared.tables.TheConstants.{TABLES}
 use Rattle.rtcm_bits.specs.BitLaws.{length-uint}
@@ -15,9 +15,9 @@ use Rattle.rtcm_bits.proofs.CheckLemmas.{divide_all, length-add_front, add_front
 use Rattle.rtcm_bits.proofs.ResidueLemmas.{add_front-append, add_front-same}
 use Rattle.rtcm_bits.proofs.RegisterLemmas.{check_is, check_below}
 
-pub table_right : (i : ℕ) → i < 256 → get_or TABLES i 0 ≡ check (i ∷ [])
-unfolding check bits_remainder remainder add_front generator uint number_from bits_of
-table_right i h = eqb-true (get_or TABLES i 0) (check (i ∷ [])) (agree_below_at (λ k. eqb (get_or TABLES k 0) (check (k ∷ []))) (λ k. true) 256 i refl h)
+pub table_right : (i : ℕ) → i < 256 → get_or TABLES i 0 ≡ crc (i ∷ [])
+unfolding crc bits_remainder remainder add_front generator uint number_from bits_of
+table_right i h = eqb-true (get_or TABLES i 0) (crc (i ∷ [])) (agree_below_at (λ k. eqb (get_or TABLES k 0) (crc (k ∷ []))) (λ k. true) 256 i refl h)
 
 plus_comm : (a b : Bool) → plus a b ≡ plus b a
 plus_comm true true = refl
@@ -110,7 +110,7 @@ unfolding uint
 uint-none = refl
 
 -- the register after a byte, by the table
-pub table_step : (x y b t : ℕ) → x < 2 ^ 24 → b < 256 → t ≡ check (bit_xor (x / 65536) b ∷ []) → y ≡ bit_xor (bit_and x 65535 * 256) t → uint 24 y ≡ after_bits (uint 24 x) (uint 8 b)
+pub table_step : (x y b t : ℕ) → x < 2 ^ 24 → b < 256 → t ≡ crc (bit_xor (x / 65536) b ∷ []) → y ≡ bit_xor (bit_and x 65535 * 256) t → uint 24 y ≡ after_bits (uint 24 x) (uint 8 b)
 unfolding bits_of
 table_step x y b t h k e f =
     let hi = x / 65536 in
@@ -132,8 +132,8 @@ moved_up x t =
     let m : bit_and x 65535 ≡ x % 65536 = and_mask x 16 in
     ap (λ q. bit_xor q t) (mod-eq_of_lt (rw m (omega arith)))
 
-pub table_below : (x t i : ℕ) → t ≡ check (i ∷ []) → bit_xor (bit_and x 65535 * 256 % 4294967296) t < 2 ^ 24
+pub table_below : (x t i : ℕ) → t ≡ crc (i ∷ []) → bit_xor (bit_and x 65535 * 256 % 4294967296) t < 2 ^ 24
 table_below x t i e =
     let m : bit_and x 65535 ≡ x % 65536 = and_mask x 16 in
-    let b : check (i ∷ []) < 2 ^ 24 = check_below (i ∷ []) in
+    let b : crc (i ∷ []) < 2 ^ 24 = check_below (i ∷ []) in
     xor_lt 24 (bit_and x 65535 * 256 % 4294967296) t (rw m (omega arith)) (rw e b)

@@ -1,8 +1,8 @@
 pub mod Bits
 pub mod BitLaws
 pub mod Prefix
-pub mod Reading
-pub mod Check
+pub mod Cursors
+pub mod Crc
 pub mod Register
 pub mod FrameOf
 pub mod Window

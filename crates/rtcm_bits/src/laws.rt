@@ -2,7 +2,7 @@
 //! complement, CRC-24Q. Each is the contract of a function without a body.
 ghost use Rattle.std.specs.Prelude.{◌≡◌, ◌+◌, ◌*◌, ◌%◌, ◌^◌, ◌<◌, ◌↔◌, ℕ, ℤ, Bool, List, [], ◌∷◌, ◌++◌, length};
 ghost use Rattle.rtcm_bits.specs.Bits.{uint, number, bits_of, signed, raw, FitsInt};
-ghost use Rattle.rtcm_bits.specs.Check.{check};
+ghost use Rattle.rtcm_bits.specs.Crc.{crc};
 
 /// Bits, most significant first, and the number that they encode determine each other.
 pub fn numbers()
@@ -31,5 +31,5 @@ pub fn complement()
 /// them.
 pub fn residue()
     ensures { (bytes : List ℕ) (x y z : ℕ) → x < 256 → y < 256 → z < 256
-        → ((check (bytes ++ x ∷ y ∷ z ∷ []) ≡ 0) ↔ (x * 65536 + y * 256 + z ≡ check bytes)) }
+        → ((crc (bytes ++ x ∷ y ∷ z ∷ []) ≡ 0) ↔ (x * 65536 + y * 256 + z ≡ crc bytes)) }
 {}

@@ -3,9 +3,9 @@
 #![tactic(auto)]
 
 mod buffered;
-mod check;
 mod complement;
 mod counted;
+mod crc;
 pub mod devices;
 mod framing;
 pub mod laws;
@@ -16,9 +16,9 @@ mod window;
 mod writer;
 
 pub use buffered::Buffered;
-pub use check::{CheckRegister, crc24q};
 pub use complement::{raw_of, signed_of};
 pub use counted::{Counted, DeviceFailed};
+pub use crc::{CheckRegister, crc24q};
 pub use framing::{LONGEST_FRAME, LONGEST_MESSAGE, frame_of};
 pub use reader::{BitReader, number_at};
 pub use window::Window;

@@ -1,6 +1,6 @@
 //! The tables of CRC-24Q: the contribution of each byte, by the number of bytes that follow it.
 ghost use Rattle.std.specs.Prelude.{◌≡◌, ◌^◌, ◌<◌, ◌∷◌, replicate};
-ghost use Rattle.rtcm_bits.specs.Check.{check};
+ghost use Rattle.rtcm_bits.specs.Crc.{crc};
 
 /// Eight consecutive tables: the CRC of each byte followed by 0 to 7 bytes of 0.
 const TABLES: [u32; 2048] = [
@@ -237,7 +237,7 @@ const TABLES: [u32; 2048] = [
 /// Returns the CRC of one byte followed by `zeros` bytes of 0.
 pub(crate) fn entry(zeros: usize, byte: u8) -> u32
     requires { zeros < 8 }
-    ensures value { result ≡ check (byte ∷ replicate zeros 0) }
+    ensures value { result ≡ crc (byte ∷ replicate zeros 0) }
     ensures bound { result < 2 ^ 24 }
 {
     TABLES[zeros * 256 + byte as usize]

@@ -22,7 +22,7 @@ use Rattle.rtcm_convert.proofs.StreamLemmas.{files_self, so_far-front}
 
 -- at most 2^48 bytes were accepted
 within : (v : FramerValue) (w : FileWriter) (s : SetupValue) (bytes : List ℕ) → Drained v w s bytes → length bytes ≤ 2 ^ 48
-within v w s bytes d = let t = d.framer.stands.taken in let a = d.framer.within in let b = d.framer.limit in omega arith
+within v w s bytes d = let t = d.framer.history.taken in let a = d.framer.within in let b = d.framer.limit in omega arith
 
 abbrev pub Few : Type 0
 Few = (b : List ℕ) → 6 * length (frames_of b) ≤ length b
@@ -51,7 +51,7 @@ module _ {W : Type 0} (c : W → Option (List ℕ)) (v v' : FramerValue) (w w' :
       let p = filed_all before after k s bytes d in
       let a = passed_all k s bytes d in
       let n : length (outcomes s (frames_of bytes)) ≡ length (frames_of bytes) = outcomes_length s [] (frames_of bytes) in
-      let t : v.taken ≡ length bytes = d.framer.stands.taken in
+      let t : v.taken ≡ length bytes = d.framer.history.taken in
       let l : v.taken ≤ v.limit = d.framer.within in
       record {
         over = after;

@@ -26,7 +26,7 @@ use Rattle.obs_epoch.specs.Times.{Timed, timed, timed_after, taken_at}
 use Rattle.obs_epoch.specs.Loss.{times}
 use Rattle.obs_epoch.specs.Cells.{counts_of, with_skipped, is_planned, is_among, kept_of_both as kept_both, offered}
 use Rattle.obs_epoch.specs.Gather.{no_counts}
-use Rattle.obs_epoch.specs.Standing.{counts_of_message}
+use Rattle.obs_epoch.specs.GathererHistory.{counts_of_message}
 use Rattle.obs_epoch.specs.Clock.{answer_of}
 use Rattle.obs_epoch.specs.Kinds.{kind_of, kind_at, station_kind}
 use Rattle.obs_epoch.specs.Gathering.{all_epochs, closed_at}

@@ -8,7 +8,7 @@ use Rattle.obs_epoch.specs.Times.{timed}
 use Rattle.obs_epoch.specs.Loss.{times}
 use Rattle.obs_epoch.specs.Epochs.{closed_times, closed_so_far}
 use Rattle.obs_epoch.specs.Gather.{Gathered}
-use Rattle.obs_epoch.specs.Standing.{locked_in}
+use Rattle.obs_epoch.specs.GathererHistory.{locked_in}
 use Rattle.obs_epoch.specs.Cells.{firsts}
 use Rattle.obs_epoch.specs.Gathering.{HasGatheredEpochs, is_done, closed_list_at}
 use Rattle.rtcm_convert.specs.Converted.{SetupValue, messages_of}

@@ -6,7 +6,7 @@ use Rattle.rtcm_scan.specs.Frames.{Framed}
 use Rattle.rtcm_msg.specs.declared.message.Message.{Message}
 use Rattle.rtcm_msg.specs.declared.fault.MsgFault.{MsgFault}
 use Rattle.rtcm_msg.specs.Encoding.{IsMessage}
-use Rattle.rtcm_msg.specs.Reading.{message_at}
+use Rattle.rtcm_msg.specs.Decoding.{message_at}
 use Rattle.obs_epoch.specs.Values.{PlanValue, Closed, satellites_written}
 use Rattle.obs_epoch.specs.Heard.{Heard}
 use Rattle.rtcm_bits.specs.Prefix.{IsPrefix}

@@ -74,7 +74,7 @@ ran_long v w r r' a b front e k = record {
   adds = k.adds;
   full = k.full;
   over = above r r' front (IsPastLimit v) e (λ xs ys f s bytes y.
-      let taken : v.scan.taken ≡ length bytes = y.drained.framer.stands.taken in
+      let taken : v.scan.taken ≡ length bytes = y.drained.framer.history.taken in
       let all : length (bytes ++ front) ≡ length bytes + length front = length-append bytes front in
       let over : v.scan.limit < v.scan.taken + length front = k.over in
       longer v.scan.limit bytes xs front ys (omega (arith, taken, all, over)) f);

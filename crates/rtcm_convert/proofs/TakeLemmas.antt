@@ -8,7 +8,7 @@ use Rattle.rtcm_bits.specs.Device.{AppendsPrefix}
 use Rattle.rtcm_scan.specs.Frames.{Framed}
 use Rattle.rtcm_msg.specs.declared.message.Message.{Message}
 use Rattle.rtcm_msg.specs.declared.fault.MsgFault.{MsgFault}
-use Rattle.rtcm_msg.specs.Reading.{message_at}
+use Rattle.rtcm_msg.specs.Decoding.{message_at}
 use Rattle.rtcm_msg.specs.Encoding.{IsMessage}
 use Rattle.obs_epoch.specs.declared.taken.Kind.{Kind}
 use Rattle.obs_epoch.specs.Values.{Closed}

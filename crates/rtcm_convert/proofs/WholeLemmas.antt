@@ -13,7 +13,7 @@ use Rattle.rtcm_convert.specs.SetupValues.{Start, start_value}
 use Rattle.rtcm_convert.specs.Readable.{HasValue}
 use Rattle.rtcm_convert.specs.Made.{IsMade, IsMadeEmpty, IsMadeWith, IsMadeToLimit, AreMadeToLimit}
 use Rattle.rtcm_convert.specs.Pieces.{StopsInPieces}
-use Rattle.rtcm_convert.specs.Broken.{IsBetween, IsAtRest, IsBroken, FailedWriting, FailedWritingAtEnd, BrokeInPieces, joined_pieces, of_first}
+use Rattle.rtcm_convert.specs.Broken.{IsBetween, IsBetweenDecidedAndWhole, IsBroken, FailedWriting, FailedWritingAtEnd, BrokeInPieces, joined_pieces, of_first}
 use Rattle.rtcm_convert.specs.Conversion.{Conversion, HasConverted, WritesAdded, CutsAtLimit, IsPastLimit, Completed, CompletedEmpty, CompletesFile, CompletesEmptyFile, FailsAtPiece, FailsAtEnd, RanToLimit, FailsFeeding, FailsFinishing}
 use Rattle.rtcm_convert.specs.declared.report.Report.{Report}
 
@@ -93,7 +93,7 @@ broken a b s front piece nothing p = record {
   near = p.near;
 }
 
-broken_at_end : (a b : Option (List ℕ)) (s : SetupValue) (front : List ℕ) → NothingYet → FailsAtEnd a b s [] front → IsAtRest a b s front
+broken_at_end : (a b : Option (List ℕ)) (s : SetupValue) (front : List ℕ) → NothingYet → FailsAtEnd a b s [] front → IsBetweenDecidedAndWhole a b s front
 broken_at_end a b s front nothing p = between a p.mid b s front (file s (frames_of front)) nothing p.before p.last
 
 pub run_write : (v w : Conversion) (s : SetupValue) (r r' a b : Option (List ℕ)) → NothingYet → HasConverted v s [] → (FailsFeeding v w r r' a b ⊎ FailsFinishing v w r r' a b)

@@ -15,8 +15,8 @@ pub record IsBetween (a b : Option (List ℕ)) (lower upper : List ℕ) : Type 0
   pub most : IsPrefix out upper
 
 -- they are at least the file of the epochs that the decided frames of these bytes close, and at most the whole file
-abbrev pub IsAtRest : Option (List ℕ) → Option (List ℕ) → SetupValue → List ℕ → Type 0
-IsAtRest a b s bytes = IsBetween a b (so_far s (decided_frames bytes)) (file s (frames_of bytes))
+abbrev pub IsBetweenDecidedAndWhole : Option (List ℕ) → Option (List ℕ) → SetupValue → List ℕ → Type 0
+IsBetweenDecidedAndWhole a b s bytes = IsBetween a b (so_far s (decided_frames bytes)) (file s (frames_of bytes))
 
 -- ---- a stream that is read
 
@@ -44,7 +44,8 @@ FailedWriting r r' a b s =
 -- all was read; the bytes written are at least what the decided frames make, and at most the whole file
 abbrev pub FailedWritingAtEnd : Option (List ℕ) → Option (List ℕ) → Option (List ℕ) → Option (List ℕ) → SetupValue
     → Type 0
-FailedWritingAtEnd r r' a b s = (front : List ℕ) × Consumes r r' front × IsAtEnd r' × IsAtRest a b s front
+FailedWritingAtEnd r r' a b s =
+    (front : List ℕ) × Consumes r r' front × IsAtEnd r' × IsBetweenDecidedAndWhole a b s front
 
 -- the writer failed at one of the pieces read, or when all was read
 abbrev pub BrokeReading : Option (List ℕ) → Option (List ℕ) → Option (List ℕ) → Option (List ℕ) → SetupValue → Type 0
@@ -72,4 +73,4 @@ BrokeAtPiece a b s pieces =
 
 -- the writer failed at one of the pieces or, after all were accepted, in the rest of the file
 abbrev pub BrokeInPieces : {Z : Type 0} → Option (List ℕ) → Option (List ℕ) → SetupValue → List (Vec ℕ Z) → Type 0
-BrokeInPieces a b s pieces = BrokeAtPiece a b s pieces ⊎ IsAtRest a b s (joined_pieces pieces)
+BrokeInPieces a b s pieces = BrokeAtPiece a b s pieces ⊎ IsBetweenDecidedAndWhole a b s (joined_pieces pieces)

@@ -43,8 +43,8 @@ added_by v = added v.texts (plan_in v.gatherer) v.values (closed_in v.gatherer) 
 
 -- the file writer has counted the epoch that its gatherer closed last, and stores the station values that were written
 -- last
-abbrev pub StandsAfterClosed : FileWriter → FileWriter → Type 0
-StandsAfterClosed v w = (w.epochs ≡ epochs_after v.epochs (closed_in v.gatherer))
+abbrev pub HasCountedClosed : FileWriter → FileWriter → Type 0
+HasCountedClosed v w = (w.epochs ≡ epochs_after v.epochs (closed_in v.gatherer))
     × (w.values ≡ values_after v.values (closed_in v.gatherer) v.gatherer.values)
 
 -- the station values written last after these epochs, if the given ones were written before them

@@ -74,7 +74,7 @@ impl Converter {
     ///
     /// `BadSetup` for a limit, week or station out of range, and `Memory`.
     pub fn new(alloc: Global, setup: Setup) -> Result<Converter, Fault>
-        ensures stands { IfOk result (λ c. HasConverted c (setup_value setup) []) }
+        ensures history { IfOk result (λ c. HasConverted c (setup_value setup) []) }
         ensures fresh { IfOk result (λ c. (c.scan.limit ≡ setup.limit) × (c.scan.taken ≡ 0)) }
         ensures bad { result ≡ Err Fault.BadSetup ↔ IsBad setup }
         ensures only { IfErr result IsSetupFault }
@@ -89,7 +89,7 @@ impl Converter {
     ///
     /// Those of `new`, and `BadSetup` for coordinates that don't fit 38 bits (DF025 to DF027).
     pub fn new_at(alloc: Global, setup: Setup, initial: StationValues) -> Result<Converter, Fault>
-        ensures stands { IfOk result (λ c. HasConverted c (setup_value_at setup initial) []) }
+        ensures history { IfOk result (λ c. HasConverted c (setup_value_at setup initial) []) }
         ensures fresh { IfOk result (λ c. (c.scan.limit ≡ setup.limit) × (c.scan.taken ≡ 0)) }
         ensures bad { result ≡ Err Fault.BadSetup ↔ IsBadAt (start_at setup initial) }
         ensures fits { IfOk result (λ c. AreStationValues initial) }

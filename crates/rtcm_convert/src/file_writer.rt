@@ -2,13 +2,13 @@
 ghost use Rattle.std.specs.Prelude.{◌≡◌, ◌↔◌, [], false, true, Err, OnOk, OnErr, IfOk, IfErr};
 ghost use Rattle.std.specs.Io.KnownBytes.{Appends};
 ghost use Rattle.rtcm_bits.specs.Device.{AppendsPrefix};
-ghost use Rattle.rtcm_scan.specs.Answers.{framed};
+ghost use Rattle.rtcm_scan.specs.Results.{framed};
 ghost use Rattle.rinex_file.specs.File.{change_text};
 ghost use Rattle.rtcm_msg.specs.Viewed.{viewed_message};
 ghost use Rattle.obs_epoch.specs.Heard.{heard};
 ghost use Rattle.rtcm_convert.specs.Faults.{FailsToWrite, IsSetupFault};
 ghost use Rattle.rtcm_convert.specs.SetupValues.{setup_value_at, IsBadStart};
-ghost use Rattle.rtcm_convert.specs.Filed.{HasFiledFrames, opening_of, added_by, StandsAfterClosed};
+ghost use Rattle.rtcm_convert.specs.Filed.{HasFiledFrames, opening_of, added_by, HasCountedClosed};
 ghost use Rattle.rtcm_convert.specs.Steps.{IsCloseFirst, IsFinalKind, WritesFirst, TakesMessage, IsTakenAgain};
 ghost use Rattle.rtcm_convert.specs.Steps.{IsKindOf, BreaksInMessage, TakesNext, IsKindOfNext, BreaksInNext};
 ghost use Rattle.rtcm_convert.specs.Steps.{TakesFrame, BreaksInFrame, WritesRest, BreaksInRest, CountsEpochs};
@@ -63,7 +63,7 @@ impl FileWriter {
         setup: Setup,
         initial: StationValues,
     ) -> Result<FileWriter, Fault>
-        ensures stands { IfOk result (λ file_writer. HasFiledFrames file_writer (setup_value_at setup initial) []) }
+        ensures history { IfOk result (λ file_writer. HasFiledFrames file_writer (setup_value_at setup initial) []) }
         ensures going { IfOk result (λ file_writer. file_writer.gatherer.has_ended ≡ false) }
         ensures bad { result ≡ Err Fault.BadSetup ↔ IsBadStart setup }
         ensures only { IfErr result IsSetupFault }
@@ -119,7 +119,7 @@ impl FileWriter {
         ensures part { OnErr result
             (AppendsPrefix (W.contents writer.old.inner) (W.contents writer.new.inner) (added_by self.old)) }
         ensures device { FailsToWrite result writer.old writer.new }
-        ensures now { OnOk result (StandsAfterClosed self.old self.new) }
+        ensures now { OnOk result (HasCountedClosed self.old self.new) }
         ensures same { (self.new.gatherer ≡ self.old.gatherer) × (self.new.texts ≡ self.old.texts)
             × (self.new.tally ≡ self.old.tally) }
     {

@@ -3,7 +3,7 @@ use Rattle.std.proofs.Common.{ℕ, ◌≡◌, ◌+◌, ◌^◌, ◌<◌, ◌≤�
 use Rattle.std.proofs.lemmas.Bool.{cases_lt}
 use Rattle.std.proofs.lemmas.List.{take-append-drop, length-take-le}
 use Rattle.rtcm_bits.specs.Bits.{uint, number}
-use Rattle.rtcm_bits.specs.Reading.{Cursor, advanced, unsigned_at}
+use Rattle.rtcm_bits.specs.Cursors.{Cursor, advanced, unsigned_at}
 use Rattle.rtcm_bits.specs.BitLaws.{number-take-fits, uint-number}
 use Rattle.rtcm_msg.specs.declared.fault.MsgFault.{MsgFault}
 use Rattle.rtcm_msg.specs.declared.fault.MsgFault.TheVariants.{Short}

@@ -2,7 +2,7 @@
 use Rattle.std.proofs.Common.{[], ℕ, zero, suc, subst, ◌≡◌, ◌+◌, ◌*◌, ◌^◌, ◌<◌, List, ◌∷◌, length, drop, get_or, Ok, refl, ap, arith, add-one, add-zero, zero-add, add_assoc, replicate}
 use Rattle.std.proofs.Math.Seq.{drop-cons}
 use Rattle.std.proofs.lemmas.Nat.{pow-add, pow_pos}
-use Rattle.rtcm_bits.specs.Reading.{Cursor}
+use Rattle.rtcm_bits.specs.Cursors.{Cursor}
 use Rattle.rtcm_msg.specs.Fields.{number_at}
 use Rattle.rtcm_msg.specs.Packed.{total_width}
 use Rattle.rtcm_msg.proofs.Binds.{bind_ok, ok_inj, number_consumed}

@@ -2,7 +2,7 @@
 use Rattle.std.proofs.Common.{ℕ, ◌≡◌, ◌+◌, ◌*◌, ◌%◌, ◌^◌, ◌<◌, ◌≤◌, Bool, List, [], ◌∷◌, ◌++◌, length, take, drop, Result, Ok, Err, Some, refl, ap, subst, ◌∙◌, arith, length-append}
 use Rattle.std.proofs.lemmas.Nat.{mod_low}
 use Rattle.rtcm_bits.specs.Bits.{uint, number}
-use Rattle.rtcm_bits.specs.Reading.{Cursor}
+use Rattle.rtcm_bits.specs.Cursors.{Cursor}
 use Rattle.rtcm_bits.specs.BitLaws.{length-uint, number-uint}
 use Rattle.rtcm_msg.specs.declared.fault.MsgFault.{MsgFault}
 use Rattle.rtcm_msg.specs.Fields.{number_at, ◌>>=◌, first_past}

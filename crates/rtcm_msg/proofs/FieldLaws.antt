@@ -5,7 +5,7 @@ use Rattle.std.proofs.lemmas.List.{length-drop, drop-drop}
 use Rattle.rtcm_bits.specs.Bits.{uint}
 use Rattle.rtcm_msg.specs.LayoutLaws.{has_sign, have_signs, FitAll, number-content, content_fits, content-number, number_fits, sign_first, sign_others}
 use Rattle.rtcm_msg.specs.Layout.{Table, width, widths, Contents, number_of, content, fields_of}
-use Rattle.rtcm_bits.specs.Reading.{Cursor, advanced, unsigned_at}
+use Rattle.rtcm_bits.specs.Cursors.{Cursor, advanced, unsigned_at}
 use Rattle.rtcm_msg.specs.declared.fault.MsgFault.{MsgFault}
 use Rattle.rtcm_msg.specs.declared.fault.MsgFault.TheVariants.{Short}
 use Rattle.rtcm_msg.specs.Fields.{number_at, ◌>>=◌, field_bits, first_past, reading}

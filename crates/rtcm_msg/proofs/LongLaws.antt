@@ -10,7 +10,7 @@ use Rattle.rtcm_msg.specs.declared.fault.MsgFault.TheVariants.{BadTime, TooManyC
 use Rattle.rtcm_msg.specs.declared.message.Message.{Message}
 use Rattle.rtcm_msg.specs.Fields.{first_past}
 use Rattle.rtcm_msg.specs.Packed.{total_width}
-use Rattle.rtcm_msg.specs.Reading.{message_of, message_at}
+use Rattle.rtcm_msg.specs.Decoding.{message_of, message_at}
 use Rattle.rtcm_msg.specs.Encoding.{ReadsMessage, IsFault, is_read_msm, is_read, number_of, set_of, layout, layout_of, has_bad_time, has_too_many, repeated}
 use Rattle.rtcm_msg.proofs.FieldLaws.{past_none, field_at}
 use Rattle.rtcm_msg.proofs.FaultLaws.{total-append, total-repeated, pair_count_of}

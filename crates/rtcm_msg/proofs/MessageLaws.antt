@@ -4,7 +4,7 @@ use Rattle.std.proofs.lemmas.Bool.{cases_lt, cases_eq}
 use Rattle.std.proofs.lemmas.Nat.{pow_pos}
 use Rattle.std.proofs.lemmas.List.{length-drop, drop-drop}
 use Rattle.rtcm_bits.specs.Bits.{uint, filled, missing}
-use Rattle.rtcm_bits.specs.Reading.{Cursor}
+use Rattle.rtcm_bits.specs.Cursors.{Cursor}
 use Rattle.rtcm_msg.specs.declared.fault.MsgFault.{MsgFault}
 use Rattle.rtcm_msg.specs.declared.fault.MsgFault.TheVariants.{BadTime, TooManyCells, Short}
 use Rattle.rtcm_msg.specs.declared.station.StationParts.{StationParts}
@@ -13,7 +13,7 @@ use Rattle.rtcm_msg.specs.Fields.{◌>>=◌, field_bits, first_past}
 use Rattle.rtcm_msg.specs.Packed.{total_width, columns}
 use Rattle.rtcm_msg.specs.Station.{station_at, station_table, station_parts}
 use Rattle.rtcm_msg.specs.Msm.{msm_at, MsmValue, week, mask_fields}
-use Rattle.rtcm_msg.specs.Reading.{message_of, body_at, start, other_at, set_at}
+use Rattle.rtcm_msg.specs.Decoding.{message_of, body_at, start, other_at, set_at}
 use Rattle.rtcm_msg.specs.Encoding.{ReadsMessage, IsMessage, IsFault, message_bits, reserved_width, is_other, is_read, is_read_msm, number_of, set_of, layout, layout_of, has_bad_time, has_too_many}
 use Rattle.rtcm_msg.proofs.Binds.{bind_ok, ok_inj, of_read, number_consumed, number_short}
 use Rattle.rtcm_msg.proofs.Combine.{cursor, number_again, ok_err, past_here, past_next}

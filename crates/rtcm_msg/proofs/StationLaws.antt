@@ -1,7 +1,7 @@
 -- Reading a station message: the bits that were read, reading an encoding, and the fault.
 use Rattle.std.proofs.Common.{ℕ, ◌≡◌, ◌+◌, ◌^◌, ◌<◌, Bool, true, false, List, [], ◌++◌, Ok, Option, Some, None, refl, sym, ap, ◌∙◌, is_some, subst, append_assoc, IfSome, add-zero}
 use Rattle.rtcm_bits.specs.Bits.{uint}
-use Rattle.rtcm_bits.specs.Reading.{Cursor}
+use Rattle.rtcm_bits.specs.Cursors.{Cursor}
 use Rattle.rtcm_msg.specs.declared.station.StationParts.{StationParts}
 use Rattle.rtcm_msg.specs.Fields.{number_at, ◌>>=◌, field_bits}
 use Rattle.rtcm_msg.specs.Packed.{total_width}

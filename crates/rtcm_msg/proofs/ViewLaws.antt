@@ -1,7 +1,7 @@
 -- The message of a view is the one that `decode` returns.
 use Rattle.std.proofs.Common.{ℕ, ◌≡◌, ◌+◌, ◌*◌, ◌^◌, ◌<◌, ◌≤◌, Bool, List, length, slice_index, Result, Ok, Err, refl, sym, ap, subst, ◌∙◌, arith, replicate, count_ones}
 use Rattle.rtcm_bits.specs.Bits.{bits_of}
-use Rattle.rtcm_bits.specs.Reading.{Cursor, advanced, unsigned_at}
+use Rattle.rtcm_bits.specs.Cursors.{Cursor, advanced, unsigned_at}
 use Rattle.rtcm_bits.specs.BitLaws.{length-bits_of}
 use Rattle.rtcm_msg.specs.declared.fault.MsgFault.{MsgFault}
 use Rattle.rtcm_msg.specs.declared.header.MsmHeader.{MsmHeader}

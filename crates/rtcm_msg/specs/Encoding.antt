@@ -11,7 +11,7 @@ use Rattle.rtcm_msg.specs.Station.{station_fields, InRange, station_table, heigh
 use Rattle.rtcm_msg.specs.Msm.{msm_bits, IsValue, week, time_table, header_table, mask_table, cell_mask_table}
 use Rattle.rtcm_msg.specs.Msm.{satellite_mask_bits, signal_mask_bits, pair_count, most_pairs}
 use Rattle.rtcm_msg.specs.Layout.{widths, number_table}
-use Rattle.rtcm_msg.specs.Reading.{is_any_msm}
+use Rattle.rtcm_msg.specs.Decoding.{is_any_msm}
 use Rattle.rtcm_msg.specs.Grid4 as grid4
 use Rattle.rtcm_msg.specs.Grid7 as grid7
 

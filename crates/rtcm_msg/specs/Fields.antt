@@ -2,7 +2,7 @@
 use Rattle.std.specs.Prelude.{◌≡◌, ℕ, ◌+◌, nat_lt, if◌then◌else◌, Bool, List, [], ◌∷◌, ◌++◌, length, take, drop, Option}
 use Rattle.std.specs.Prelude.{Some, None, Result, Ok, Err}
 use Rattle.rtcm_bits.specs.Bits.{uint, number}
-use Rattle.rtcm_bits.specs.Reading.{Cursor, advanced, unsigned_at}
+use Rattle.rtcm_bits.specs.Cursors.{Cursor, advanced, unsigned_at}
 use Rattle.rtcm_msg.specs.Layout.{Table, Contents, width, content}
 use Rattle.rtcm_msg.specs.declared.fault.MsgFault.{MsgFault}
 use Rattle.rtcm_msg.specs.declared.fault.MsgFault.TheVariants.{Short}

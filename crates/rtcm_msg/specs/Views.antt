@@ -9,7 +9,7 @@ use Rattle.rtcm_msg.specs.declared.view.Data.TheVariants as datas
 use Rattle.rtcm_msg.specs.Rows.{rows_at}
 use Rattle.rtcm_bits.specs.Bits.{bits_of}
 use Rattle.rtcm_bits.specs.FrameOf.{longest_message}
-use Rattle.rtcm_bits.specs.Reading.{Cursor}
+use Rattle.rtcm_bits.specs.Cursors.{Cursor}
 use Rattle.rtcm_msg.specs.declared.fault.MsgFault.{MsgFault}
 use Rattle.rtcm_msg.specs.Fields.{◌>>=◌}
 use Rattle.rtcm_msg.specs.Msm.{MsmValue, msm_at, satellite_mask_bits, most_pairs}

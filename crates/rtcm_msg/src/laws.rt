@@ -5,7 +5,7 @@ ghost use Rattle.rtcm_bits.specs.Bits.{filled};
 ghost use Rattle.rtcm_bits.specs.FrameOf.{longest_message_bits};
 ghost use Rattle.rtcm_msg.specs.declared.message.Message.{Message};
 ghost use Rattle.rtcm_msg.specs.Encoding.{message_bits, is_other, ReadsMessage, IsMessage, IsEncoding};
-ghost use Rattle.rtcm_msg.specs.Reading.{message_at};
+ghost use Rattle.rtcm_msg.specs.Decoding.{message_at};
 ghost use Rattle.rtcm_msg.specs.Bounds.{EntriesAreMeasured, PointsAreInRange};
 ghost use Rattle.rtcm_msg.specs.Msm.{MsmValue, MasksValue, IsValue, satellite_mask_bits};
 ghost use Rattle.rtcm_msg.specs.Meaning.{Meaning, IsMeaning, meaning, keys};

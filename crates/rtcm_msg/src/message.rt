@@ -6,7 +6,7 @@ ghost use Rattle.rtcm_msg.specs.Encoding.{message_bits, is_other, ReadsMessage, 
 ghost use Rattle.rtcm_msg.specs.declared.message.Message.{Message};
 ghost use Rattle.rtcm_msg.specs.declared.fault.MsgFault.{MsgFault};
 ghost use Rattle.rtcm_msg.specs.Viewed.{viewed_message};
-ghost use Rattle.rtcm_msg.specs.Reading.{message_at, set_of};
+ghost use Rattle.rtcm_msg.specs.Decoding.{message_at, set_of};
 ghost use Rattle.rtcm_msg.specs.declared.message.Message.TheVariants as messages;
 
 use crate::fault::MsgFault;

@@ -4,7 +4,7 @@ ghost use Rattle.rtcm_bits.specs.Bits.{bits_of};
 ghost use Rattle.rtcm_bits.specs.FrameOf.{longest_message};
 ghost use Rattle.rtcm_msg.specs.Fields.{GivesViewed, cursor_at};
 ghost use Rattle.rtcm_msg.specs.Msm.{codes_of, IsHeader, IsValue, satellite_mask_bits, most_pairs};
-ghost use Rattle.rtcm_msg.specs.Reading.{message_at, body_at};
+ghost use Rattle.rtcm_msg.specs.Decoding.{message_at, body_at};
 ghost use Rattle.rtcm_msg.specs.Viewed.{viewed_message, entry_in, lock_field, rough, Keeps};
 ghost use Rattle.rtcm_msg.specs.Entries.{IsEntry, entries};
 ghost use Rattle.rtcm_msg.specs.Encoding.{IsMessage};
@@ -409,7 +409,7 @@ fn view_msm<'a>(
 }
 
 /// Reads a message after its message number.
-#[tactic(auto, unfolding(crate::specs::Reading::body_at))]
+#[tactic(auto, unfolding(crate::specs::Decoding::body_at))]
 fn view_body<'a>(number: u16, bytes: &'a [u8], reader: &mut BitReader) -> Result<View<'a>, MsgFault>
     requires small { length bytes.now ≤ longest_message }
     requires number { 12 ≤ 8 * length bytes.now }
@@ -436,7 +436,7 @@ fn view_body<'a>(number: u16, bytes: &'a [u8], reader: &mut BitReader) -> Result
 /// # Errors
 ///
 /// Those of `decode`.
-#[tactic(auto, unfolding(crate::specs::Reading::message_of))]
+#[tactic(auto, unfolding(crate::specs::Decoding::message_of))]
 pub fn look(bytes: &[u8]) -> Result<View<'_>, MsgFault>
     ensures exact { GivesViewed viewed_message result (message_at bytes.now) }
     ensures message { IfOk result (λ v. IsMessage (viewed_message v)) }

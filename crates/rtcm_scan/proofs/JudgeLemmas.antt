@@ -2,12 +2,12 @@
 use Rattle.std.proofs.Common.{ℕ, ◌≡◌, ◌+◌, ◌*◌, ◌<◌, ◌≤◌, ◌↔◌, Bool, true, false, cond, eqb, List, [], ◌∷◌, ◌++◌, length, take, drop, get_or, slice_index, refl, sym, ap, ◌∙◌, arith, ◌⊎◌, ⊎_elim, inl, inr, take-append-drop, append_assoc}
 use Rattle.std.proofs.lemmas.Bool.{cases_lt, cases_eq, eq-eqb, ne_eqb}
 use Rattle.std.proofs.lemmas.List.{length-take-le, take_more}
-use Rattle.rtcm_bits.specs.Check.{check}
+use Rattle.rtcm_bits.specs.Crc.{crc}
 use Rattle.rtcm_scan.specs.Frame.{message_length, frame_length, has_preamble, sent_check}
 use Rattle.rtcm_scan.specs.declared.candidate.Candidate.{Candidate}
 use Rattle.rtcm_scan.specs.Candidate.{wanted_by, HasTaken}
 use Rattle.rtcm_scan.specs.Pending.{asked}
-use Rattle.rtcm_scan.specs.Answers.{decision, if_missing}
+use Rattle.rtcm_scan.specs.Results.{decision, if_missing}
 use Rattle.rtcm_scan.specs.declared.front.Decision.TheVariants.{Passed, Found}
 use Rattle.rtcm_scan.proofs.FrameLemmas.{length_stays, preamble_stays}
 use Rattle.rtcm_scan.proofs.CandidateLemmas.{wanted_stays, wanted_bound}
@@ -18,7 +18,7 @@ AreBytes s = (i : ℕ) → slice_index s i < 256
 
 -- the law of the CRC of bytes followed by their CRC
 abbrev pub Residue : Type 0
-Residue = (bytes : List ℕ) (x y z : ℕ) → x < 256 → y < 256 → z < 256 → ((check (bytes ++ x ∷ y ∷ z ∷ []) ≡ 0) ↔ (x * 65536 + y * 256 + z ≡ check bytes))
+Residue = (bytes : List ℕ) (x y z : ℕ) → x < 256 → y < 256 → z < 256 → ((crc (bytes ++ x ∷ y ∷ z ∷ []) ≡ 0) ↔ (x * 65536 + y * 256 + z ≡ crc bytes))
 
 -- a place that is decided by more than one byte begins with the preamble
 pub wanted_cases : (s : List ℕ) → ((slice_index s 0 ≡ 0xD3) × (wanted_by s ≡ frame_length s)) ⊎ ((slice_index s 0 ≡ 0xD3 → ⊥) × (wanted_by s ≡ 1))
@@ -54,15 +54,15 @@ take_three s n h =
     ∙ append_assoc (take (n + 3) s) (get_or s (n + 3) 0 ∷ get_or s (n + 3 + 1) 0 ∷ []) (get_or s (n + 3 + 2) 0 ∷ [])
 
 -- a whole candidate whose register is 0 has a valid CRC
-right_check : Residue → (s : List ℕ) → AreBytes s → frame_length s ≤ length s → check (take (frame_length s) s) ≡ 0 → sent_check s (message_length s + 3) ≡ check (take (message_length s + 3) s)
+right_check : Residue → (s : List ℕ) → AreBytes s → frame_length s ≤ length s → crc (take (frame_length s) s) ≡ 0 → sent_check s (message_length s + 3) ≡ crc (take (message_length s + 3) s)
 right_check law s b h e =
     let n = message_length s in
-    (law (take (n + 3) s) (get_or s (n + 3) 0) (get_or s (n + 3 + 1) 0) (get_or s (n + 3 + 2) 0) (b (n + 3)) (b (n + 3 + 1)) (b (n + 3 + 2))).0 (ap check (sym (take_three s n h)) ∙ e)
+    (law (take (n + 3) s) (get_or s (n + 3) 0) (get_or s (n + 3 + 1) 0) (get_or s (n + 3 + 2) 0) (b (n + 3)) (b (n + 3 + 1)) (b (n + 3 + 2))).0 (ap crc (sym (take_three s n h)) ∙ e)
 
-wrong_check : Residue → (s : List ℕ) → AreBytes s → frame_length s ≤ length s → sent_check s (message_length s + 3) ≡ check (take (message_length s + 3) s) → check (take (frame_length s) s) ≡ 0
+wrong_check : Residue → (s : List ℕ) → AreBytes s → frame_length s ≤ length s → sent_check s (message_length s + 3) ≡ crc (take (message_length s + 3) s) → crc (take (frame_length s) s) ≡ 0
 wrong_check law s b h e =
     let n = message_length s in
-    ap check (take_three s n h) ∙ (law (take (n + 3) s) (get_or s (n + 3) 0) (get_or s (n + 3 + 1) 0) (get_or s (n + 3 + 2) 0) (b (n + 3)) (b (n + 3 + 1)) (b (n + 3 + 2))).1 e
+    ap crc (take_three s n h) ∙ (law (take (n + 3) s) (get_or s (n + 3) 0) (get_or s (n + 3 + 1) 0) (get_or s (n + 3 + 2) 0) (b (n + 3)) (b (n + 3 + 1)) (b (n + 3 + 2))).1 e
 
 pub judge_missing : (c : Candidate) (e : Bool) (s : List ℕ) → 0 < length s → HasTaken c (take c.count s) → c.count ≡ asked s → c.count < c.wanted → if_missing e ≡ decision e s
 judge_missing c e s l t a h =
@@ -97,7 +97,7 @@ judge_found law c e s b t a h g r =
     (λ (k : (slice_index s 0 ≡ 0xD3) × (wanted_by s ≡ frame_length s)).
     let d : wanted_by s ≡ frame_length s = k.1 in
     let n : c.count ≡ frame_length s = omega arith in
-    let z : check (take (frame_length s) s) ≡ 0 = ap (λ q. check (take q s)) (sym n) ∙ sym t.register ∙ r in
+    let z : crc (take (frame_length s) s) ≡ 0 = ap (λ q. crc (take q s)) (sym n) ∙ sym t.register ∙ r in
     ap Found n ∙ decision_found e s k.0 (omega arith) (right_check law s b (omega arith) z))
     (λ (k : (slice_index s 0 ≡ 0xD3 → ⊥) × (wanted_by s ≡ 1)). let d : wanted_by s ≡ 1 = k.1 in absurd (omega arith))
     (wanted_cases s)
@@ -111,7 +111,7 @@ judge_wrong law c e s b t a h g r =
     (λ (k : (slice_index s 0 ≡ 0xD3) × (wanted_by s ≡ frame_length s)).
     let d : wanted_by s ≡ frame_length s = k.1 in
     let n : c.count ≡ frame_length s = omega arith in
-    decision_wrong e s (omega arith) (λ q. r (t.register ∙ ap (λ q. check (take q s)) n ∙ wrong_check law s b (omega arith) q)))
+    decision_wrong e s (omega arith) (λ q. r (t.register ∙ ap (λ q. crc (take q s)) n ∙ wrong_check law s b (omega arith) q)))
     (λ (k : (slice_index s 0 ≡ 0xD3 → ⊥) × (wanted_by s ≡ 1)). let d : wanted_by s ≡ 1 = k.1 in absurd (omega arith))
     (wanted_cases s)
 

@@ -1,6 +1,6 @@
 pub mod FrameLemmas
 pub mod ScanLemmas
-pub mod StandsLemmas
+pub mod HistoryLemmas
 pub mod DecisionLemmas
 pub mod DecidedLemmas
 pub mod SkippedLemmas

@@ -5,11 +5,11 @@ use Rattle.std.proofs.lemmas.Bool.{cases_lt, and_from, le-leb}
 use Rattle.std.proofs.lemmas.List.{append-nil, take_at, drop_at, length-drop, drop_all, get_or-drop, take-append-drop, drop_more}
 use Rattle.std.proofs.lemmas.List.Elements.{All-head, All-tail, All-drop, Contains-append_right}
 use Rattle.std.proofs.lemmas.List.Concat.{flat_map-append}
-use Rattle.rtcm_bits.specs.Check.{check}
+use Rattle.rtcm_bits.specs.Crc.{crc}
 use Rattle.rtcm_bits.specs.FrameOf.{frame_bytes, frame_header, three_bytes}
 use Rattle.rtcm_scan.specs.Frame.{begins_frame, message_length, frame_length, sent_check, framed_message}
 use Rattle.rtcm_scan.specs.Frames.{Framed, IsFrameOf, frame_end, frames_from, frames_of}
-use Rattle.rtcm_scan.specs.Local.{stream_after, frame_place, IsQuiet, StaysLocal, placed}
+use Rattle.rtcm_scan.specs.Local.{stream_after, frame_place, HasNoNewBytes, StaysLocal, placed}
 use Rattle.rtcm_scan.specs.Scan.{Scanned}
 use Rattle.rtcm_scan.proofs.ScanLemmas.{scanned_frames, scanned_all}
 use Rattle.rtcm_scan.proofs.FrameLemmas.{length-message}
@@ -17,8 +17,8 @@ use Rattle.rtcm_scan.proofs.DecisionLemmas.{frame_length_bound}
 use Rattle.rtcm_scan.proofs.LawLemmas.{frames_scanned, same_frame}
 
 -- the parts of a list: header, message, CRC and the rest
-spread : (m rest : List ℕ) → frame_bytes m ++ rest ≡ (frame_header m ++ m) ++ (three_bytes (check (frame_header m ++ m)) ++ rest)
-spread m rest = append_assoc (frame_header m ++ m) (three_bytes (check (frame_header m ++ m))) rest
+spread : (m rest : List ℕ) → frame_bytes m ++ rest ≡ (frame_header m ++ m) ++ (three_bytes (crc (frame_header m ++ m)) ++ rest)
+spread m rest = append_assoc (frame_header m ++ m) (three_bytes (crc (frame_header m ++ m))) rest
 
 length_claimed : (m rest : List ℕ) → length m ≤ 1023 → message_length (frame_bytes m ++ rest) ≡ length m
 length_claimed m rest h = omega arith
@@ -27,16 +27,16 @@ pub frame_begins : (m rest : List ℕ) → length m ≤ 1023 → begins_frame (f
 unfolding begins_frame
 frame_begins m rest h =
     let s : List ℕ = frame_bytes m ++ rest in
-    let c : ℕ = check (frame_header m ++ m) in
+    let c : ℕ = crc (frame_header m ++ m) in
     let l : message_length (frame_bytes m ++ rest) ≡ length m = length_claimed m rest h in
     let e = spread m rest in
     let n : length (frame_header m ++ m) ≡ length m + 3 = omega arith in
-    let t : take (length m + 3) (frame_bytes m ++ rest) ≡ frame_header m ++ m = ap (take (length m + 3)) e ∙ take_at (frame_header m ++ m) (three_bytes (check (frame_header m ++ m)) ++ rest) (length m + 3) n in
-    let d : drop (length m + 3) (frame_bytes m ++ rest) ≡ three_bytes (check (frame_header m ++ m)) ++ rest = ap (drop (length m + 3)) e ∙ drop_at (frame_header m ++ m) (three_bytes (check (frame_header m ++ m)) ++ rest) (length m + 3) n in
-    let w : sent_check (frame_bytes m ++ rest) (length m + 3) ≡ check (frame_header m ++ m) = sent_at (frame_bytes m ++ rest) rest (length m + 3) (check (frame_header m ++ m)) d in
-    let u : length (frame_bytes m ++ rest) ≡ length m + 6 + length rest = ap length e ∙ (length-append (frame_header m ++ m) (three_bytes (check (frame_header m ++ m)) ++ rest) ∙ (omega arith)) in
+    let t : take (length m + 3) (frame_bytes m ++ rest) ≡ frame_header m ++ m = ap (take (length m + 3)) e ∙ take_at (frame_header m ++ m) (three_bytes (crc (frame_header m ++ m)) ++ rest) (length m + 3) n in
+    let d : drop (length m + 3) (frame_bytes m ++ rest) ≡ three_bytes (crc (frame_header m ++ m)) ++ rest = ap (drop (length m + 3)) e ∙ drop_at (frame_header m ++ m) (three_bytes (crc (frame_header m ++ m)) ++ rest) (length m + 3) n in
+    let w : sent_check (frame_bytes m ++ rest) (length m + 3) ≡ crc (frame_header m ++ m) = sent_at (frame_bytes m ++ rest) rest (length m + 3) (crc (frame_header m ++ m)) d in
+    let u : length (frame_bytes m ++ rest) ≡ length m + 6 + length rest = ap length e ∙ (length-append (frame_header m ++ m) (three_bytes (crc (frame_header m ++ m)) ++ rest) ∙ (omega arith)) in
     and_from _ _ refl (and_from _ _ (le-leb (frame_length (frame_bytes m ++ rest)) (length (frame_bytes m ++ rest)) (omega arith))
-    (eq-eqb _ _ (ap (λ x. sent_check (frame_bytes m ++ rest) (x + 3)) l ∙ w ∙ ap check (sym t) ∙ ap (λ x. check (take (x + 3) (frame_bytes m ++ rest))) (sym l))))
+    (eq-eqb _ _ (ap (λ x. sent_check (frame_bytes m ++ rest) (x + 3)) l ∙ w ∙ ap crc (sym t) ∙ ap (λ x. crc (take (x + 3) (frame_bytes m ++ rest))) (sym l))))
   where
     sent_at : (s rest : List ℕ) (n c : ℕ) → drop n s ≡ three_bytes c ++ rest → sent_check s n ≡ c
     sent_at s rest n c d =
@@ -50,11 +50,11 @@ frame_message m rest h =
     let l : message_length (frame_bytes m ++ rest) ≡ length m = length_claimed m rest h in
     ap (λ n. take n (drop 3 (frame_bytes m ++ rest))) l
     ∙ ap (λ x. take (length m) (drop 3 x)) (spread m rest)
-    ∙ take_at m (three_bytes (check (frame_header m ++ m)) ++ rest) (length m) refl
+    ∙ take_at m (three_bytes (crc (frame_header m ++ m)) ++ rest) (length m) refl
 
 -- ---- a list of frames after bytes
 length-frame : (m : List ℕ) → length (frame_bytes m) ≡ length m + 6
-length-frame m = length-append (frame_header m ++ m) (three_bytes (check (frame_header m ++ m))) ∙ (omega arith)
+length-frame m = length-append (frame_header m ++ m) (three_bytes (crc (frame_header m ++ m))) ∙ (omega arith)
 
 frame_here : (pre m : List ℕ) (rest : List ℕ) → length m ≤ 1023 → IsFrameOf (pre ++ (frame_bytes m ++ rest)) (record { offset = length pre; message = m })
 frame_here pre m rest h =
@@ -139,7 +139,7 @@ frame_ends bytes ms i k h l =
     close x y u w r m a b c = omega arith
 
 -- no frame lies across the beginning of a frame that is far enough after the bytes
-none_across : (bytes : List ℕ) (ms : List (List ℕ)) (k : ℕ) → All (λ m. length m ≤ 1023) ms → k < length ms → length bytes + 1028 ≤ frame_place bytes ms k → IsQuiet bytes ms k
+none_across : (bytes : List ℕ) (ms : List (List ℕ)) (k : ℕ) → All (λ m. length m ≤ 1023) ms → k < length ms → length bytes + 1028 ≤ frame_place bytes ms k → HasNoNewBytes bytes ms k
     → (f : Framed) → IsFrameOf (stream_after bytes ms) f → f.offset < frame_place bytes ms k → frame_place bytes ms k < frame_end f → ⊥
 none_across bytes ms k a l far quiet f v h c = ⊎_elim
     (λ (x : f.offset < length bytes).

@@ -3,18 +3,18 @@ use Rattle.std.proofs.Common.{ℕ, ◌≡◌, ◌*◌, ◌≤◌, ◌^◌, true,
 use Rattle.rtcm_scan.specs.Frames.{Framed, frames_of, frames_from}
 use Rattle.rtcm_bits.specs.Window.{WindowValue, nothing_held}
 use Rattle.rtcm_scan.specs.Scan.{FramerValue, scan_of, HasFramed, first_held}
-use Rattle.rtcm_scan.specs.Answers.{new_scan}
+use Rattle.rtcm_scan.specs.Results.{new_scan}
 use Rattle.rtcm_scan.specs.Decided.{places, tried, decided, decided_frames, frames_before}
 use Rattle.rtcm_scan.specs.Drained.{IsDrained}
 use Rattle.rtcm_scan.specs.Looks.{greatest_below, spans_now, looks_at, all_looks, spans_at, tried_before}
 use Rattle.rtcm_scan.specs.Examined.{HasExamined, IsCountedExactly}
 use Rattle.rtcm_scan.proofs.BoundLemmas.{looks_bound, all_bound, greatest_bound}
-use Rattle.rtcm_scan.proofs.StandsLemmas.{stands_end, stands_by}
+use Rattle.rtcm_scan.proofs.HistoryLemmas.{stands_end, stands_by}
 use Rattle.rtcm_scan.proofs.ScanLemmas.{scanned_none}
 
 pub most_moment : (v : FramerValue) (b : List ℕ) (fs : List Framed) → length v.held ≤ 1029 → HasExamined v b fs → v.most ≤ 1030
 most_moment v b fs h x =
-    let s : HasFramed v b fs = x.stands in
+    let s : HasFramed v b fs = x.history in
     let k : v.tried ≤ length v.held = x.tried in
     let e : v.most ≡ greatest_below (looks_at (spans_at b fs (first_held v) v.tried)) (length b) = x.counts.greatest_is in
     let g : greatest_below (looks_at (spans_at b fs (first_held v) v.tried)) (length b) ≤ 1030 =
@@ -23,7 +23,7 @@ most_moment v b fs h x =
 
 pub examined_moment : (v : FramerValue) (b : List ℕ) (fs : List Framed) → length v.held ≤ 1029 → HasExamined v b fs → v.examined ≤ 1030 * length b
 examined_moment v b fs h x =
-    let s : HasFramed v b fs = x.stands in
+    let s : HasFramed v b fs = x.history in
     let k : v.tried ≤ length v.held = x.tried in
     let f : length v.held ≤ v.taken = s.fits in
     let t : v.taken ≡ length b = s.taken in
@@ -32,7 +32,7 @@ examined_moment v b fs h x =
     rw e g
 
 pub counts_end : (v : FramerValue) (b : List ℕ) (fs : List Framed) → HasExamined v b fs → HasExamined (record v { has_ended = true }) b fs
-counts_end v b fs x = record { stands = stands_end v b fs x.stands; limit = x.limit; within = x.within; each = x.each; tried = x.tried; counts = x.counts }
+counts_end v b fs x = record { history = stands_end v b fs x.history; limit = x.limit; within = x.within; each = x.each; tried = x.tried; counts = x.counts }
 
 stands_new : (limit : ℕ) → HasFramed (new_scan limit) [] []
 stands_new limit = stands_by (new_scan limit) [] [] refl refl (omega arith) (scanned_none false [] 0) refl
@@ -40,7 +40,7 @@ stands_new limit = stands_by (new_scan limit) [] [] refl refl (omega arith) (sca
 counts_empty : (limit : ℕ) → limit ≤ 2 ^ 48 → HasFramed (new_scan limit) [] [] → HasExamined (new_scan limit) [] []
 unfolding tried_before places greatest_below
 counts_empty limit h s = record {
-  stands = s;
+  history = s;
   limit = h;
   within = omega arith;
   each = refl;

@@ -15,7 +15,7 @@ use Rattle.rtcm_scan.proofs.DecidedLemmas.{none_past}
 use Rattle.rtcm_scan.specs.Frame.{message_length}
 use Rattle.std.proofs.Common.{subst, length-drop}
 use Rattle.rtcm_scan.specs.Drained.{IsDrained}
-use Rattle.rtcm_scan.proofs.StandsLemmas.{stands_give_up, stands_take, stands_ready}
+use Rattle.rtcm_scan.proofs.HistoryLemmas.{stands_give_up, stands_take, stands_ready}
 use Rattle.rtcm_scan.proofs.DrainedLemmas.{drained_ended, drained_waiting}
 
 -- other counts don't change what a framer has accepted
@@ -86,7 +86,7 @@ counts_found v w b fs size f g z h o m t x =
     (step_take v b fs h t x)) in
     let k : frame_taken v (frame_length v.held) ≡ w = sym (rw (g, z) refl) in
     let r' : HasExamined w b (fs ++ found v ∷ []) = subst (λ (y : FramerValue). HasExamined y b (fs ++ found v ∷ [])) k r in
-    let s : HasFramed v b fs = x.stands in
+    let s : HasFramed v b fs = x.history in
     let l : length (framed_message v.held) ≡ message_length v.held = length-message v.held h in
     let a : frame_length v.held ≤ length v.held = (begins_parts v.held h).1 in
     let fit : length v.held ≤ v.taken = s.fits in
@@ -100,7 +100,7 @@ finish : (d w : FramerValue) (b : List ℕ) (fs : List Framed) → w ≡ record 
 finish d w b fs f s r = rw f (stands_ready d b fs true s, record { frames = r.frames; held = r.held; skipped = r.skipped })
 
 counts_finish : (d w : FramerValue) (b : List ℕ) (fs : List Framed) → w ≡ record d { is_ready = true } → HasExamined d b fs → IsCountedExactly d b → HasExamined w b fs × IsCountedExactly w b
-counts_finish d w b fs f x r = rw f (record { stands = stands_ready d b fs true x.stands; limit = x.limit; within = x.within; each = x.each; tried = x.tried; counts = x.counts }, record { examined = r.examined; most = r.most })
+counts_finish d w b fs f x r = rw f (record { history = stands_ready d b fs true x.history; limit = x.limit; within = x.within; each = x.each; tried = x.tried; counts = x.counts }, record { examined = r.examined; most = r.most })
 
 pub finish_empty : (v d w : FramerValue) (b : List ℕ) (fs : List Framed) → d ≡ v → w ≡ record d { is_ready = true } → length v.held ≡ 0 → HasFramed v b fs → HasFramed w b fs × IsDrained w b fs
 finish_empty v d w b fs e f h s =

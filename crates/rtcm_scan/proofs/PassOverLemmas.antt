@@ -13,7 +13,7 @@ use Rattle.rtcm_scan.specs.Pending.{asked, with_candidate_examined}
 use Rattle.rtcm_scan.specs.Examined.{HasExamined}
 use Rattle.rtcm_scan.proofs.CandidateLemmas.{looked_twice, taken_more}
 use Rattle.rtcm_scan.proofs.NextLemmas.{passed, step_passed, counts_passed, stands_looks}
-use Rattle.rtcm_scan.proofs.StandsLemmas.{view_dropped}
+use Rattle.rtcm_scan.proofs.HistoryLemmas.{view_dropped}
 use Rattle.rtcm_scan.proofs.StepLemmas.{looked_bytes, step_examined_to}
 
 -- looks after the first byte, if that is dropped

@@ -5,7 +5,7 @@ use Rattle.rtcm_bits.specs.Window.{WindowValue, pushed_all}
 use Rattle.rtcm_scan.specs.Frames.{Framed}
 use Rattle.rtcm_scan.specs.Scan.{FramerValue, scan_of, with_bytes, HasFramed}
 use Rattle.rtcm_scan.specs.Examined.{HasExamined}
-use Rattle.rtcm_scan.proofs.StandsLemmas.{stands_push, stands_ready}
+use Rattle.rtcm_scan.proofs.HistoryLemmas.{stands_push, stands_ready}
 use Rattle.rtcm_scan.proofs.StepLemmas.{step_push}
 
 -- the state after one byte is pushed
@@ -41,7 +41,7 @@ stands_push_all v b xs fs = push_each (λ v b. HasFramed v b fs) (λ v b s. stan
 
 pub step_push_all : (v : FramerValue) (b xs : List ℕ) (fs : List Framed) → v.has_ended ≡ false → v.taken + length xs ≤ v.limit → HasExamined v b fs → HasExamined (with_bytes v xs) (b ++ xs) fs
 step_push_all v b xs fs = push_each (λ v b. HasExamined v b fs)
-    (λ v b h. record { stands = stands_ready v b fs false h.stands; limit = h.limit; within = h.within; each = h.each; tried = h.tried; counts = h.counts })
+    (λ v b h. record { history = stands_ready v b fs false h.history; limit = h.limit; within = h.within; each = h.each; tried = h.tried; counts = h.counts })
     (λ v b x n l h. step_push v b fs x n l h) v b xs
 
 -- the framer's view after it

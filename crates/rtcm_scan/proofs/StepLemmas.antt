@@ -19,7 +19,7 @@ use Rattle.rtcm_scan.proofs.BoundLemmas.{looks_bound, all_bound}
 use Rattle.rtcm_scan.proofs.CandidateLemmas.{wanted_bound}
 use Rattle.rtcm_scan.proofs.DecidedLemmas.{none_past}
 use Rattle.rtcm_scan.proofs.ScanLemmas.{scanned_le, scanned_frame}
-use Rattle.rtcm_scan.proofs.StandsLemmas.{stands_push, stands_give_up, stands_take}
+use Rattle.rtcm_scan.proofs.HistoryLemmas.{stands_push, stands_give_up, stands_take}
 use Rattle.rtcm_scan.proofs.FrameLemmas.{begins_parts, length-message}
 
 -- a longer span covers no less
@@ -130,7 +130,7 @@ cost_asked b p h = elim (has_preamble (drop p b)) as (λ v. cond v (min (frame_l
 pub step_examined_to : (v : FramerValue) (n : ℕ) (b : List ℕ) (fs : List Framed) → v.tried ≤ n → n ≤ 1029 → n ≤ length v.held → HasExamined v b fs
     → HasExamined (with_looks v (looked_through (window_of v) v.tried (n - v.tried)) n) b fs
 step_examined_to v n b fs h a0 a1 x =
-    let s : HasFramed v b fs = x.stands in
+    let s : HasFramed v b fs = x.history in
     let sc : Scanned v.has_ended b 0 (first_held v) fs = s.scanned in
     let t : v.taken ≡ length b = s.taken in
     let f : length v.held ≤ v.taken = s.fits in
@@ -143,7 +143,7 @@ step_examined_to v n b fs h a0 a1 x =
     counts_through _ (first_held v) v.tried (first_held v) (length b) v.tried (n - v.tried) (window_of v) refl (omega arith) (omega arith)
     (subst (λ (q : ℕ). Fit (spans_at b fs (first_held v) q)) (sym z) k) x.counts in
     record {
-      stands = record { taken = s.taken; held = s.held; fits = s.fits; scanned = s.scanned; first = s.first; skipped = s.skipped };
+      history = record { taken = s.taken; held = s.held; fits = s.fits; scanned = s.scanned; first = s.first; skipped = s.skipped };
       limit = x.limit;
       within = x.within;
       each = looked_length (window_of v) v.tried (n - v.tried) ∙ e;
@@ -159,7 +159,7 @@ step_examined v b fs h x = let a = asked_bound v.held in step_examined_to v (ask
 pub step_give_up : (v : FramerValue) (b : List ℕ) (fs : List Framed) → 0 < length v.held → v.tried ≡ asked v.held → IsPassed v.has_ended v.held → HasExamined v b fs
     → HasExamined (record (with_window v (without_front (window_of v) 1) 0) { skipped = v.skipped + 1 }) b fs
 step_give_up v b fs h a p x =
-    let s : HasFramed v b fs = x.stands in
+    let s : HasFramed v b fs = x.history in
     let n : HasFramed (record v { held = drop 1 v.held; skipped = v.skipped + 1 }) b fs = stands_give_up v b fs h p s in
     let l : length (drop 1 v.held) ≡ length v.held - 1 = length-drop 1 v.held in
     let f : length v.held ≤ v.taken = s.fits in
@@ -173,7 +173,7 @@ step_give_up v b fs h a p x =
     let d : CountsLooks (spans_at b fs (first_held v + 1) 0) (first_held v + 1) (length b) (drop 1 v.looks) v.examined v.most =
     counts_skip v.has_ended b fs (first_held v) (length b) v.looks v.examined v.most s.scanned (omega arith) c in
     record {
-      stands = record { taken = n.taken; held = n.held; fits = n.fits; scanned = n.scanned; first = n.first; skipped = n.skipped };
+      history = record { taken = n.taken; held = n.held; fits = n.fits; scanned = n.scanned; first = n.first; skipped = n.skipped };
       limit = x.limit;
       within = x.within;
       each = length-drop 1 v.looks ∙ ap (λ q. q - 1) g ∙ sym l;
@@ -208,7 +208,7 @@ step_take v b fs h a x =
     let p = first_held v in
     let m : ℕ = message_length v.held in
     let g : Framed = record { offset = first_held v; message = framed_message v.held } in
-    let s : HasFramed v b fs = x.stands in
+    let s : HasFramed v b fs = x.history in
     let n : HasFramed (record v { held = drop (frame_length v.held) v.held }) b (fs ++ g ∷ []) = stands_take v b fs h s in
     let w : frame_length v.held ≤ length v.held = (begins_parts v.held h).1 in
     let q : length (framed_message v.held) ≡ message_length v.held = length-message v.held h in
@@ -253,7 +253,7 @@ step_take v b fs h a x =
     let lb : length (drop (frame_length v.held) u.bytes) ≡ length (drop (frame_length v.held) v.held) = ap length bs in
     let e' : frame_end g ≡ v.taken - length (drop (frame_length v.held) u.bytes) = omega arith in
     record {
-      stands = subst (λ (r : List ℕ). HasFramed (record (with_window v (without_front u (frame_length v.held)) 0) { held = r }) b (fs ++ g ∷ [])) (sym bs)
+      history = subst (λ (r : List ℕ). HasFramed (record (with_window v (without_front u (frame_length v.held)) 0) { held = r }) b (fs ++ g ∷ [])) (sym bs)
           (record { taken = n.taken; held = n.held; fits = n.fits; scanned = n.scanned; first = n.first; skipped = n.skipped });
       limit = x.limit;
       within = x.within;
@@ -289,7 +289,7 @@ pub step_push : (v : FramerValue) (b : List ℕ) (fs : List Framed) (x : ℕ) �
 unfolding tried_before
 step_push v b fs x n lt h =
     let p = first_held v in
-    let s : HasFramed v b fs = h.stands in
+    let s : HasFramed v b fs = h.history in
     let r = stands_push v b fs x n s in
     let f : length v.held ≤ v.taken = s.fits in
     let t : v.taken ≡ length b = s.taken in
@@ -309,7 +309,7 @@ step_push v b fs x n lt h =
     subst (λ (q : ℕ). CountsLooks (spans_at (b ++ x ∷ []) fs (first_held v) v.tried) (first_held v) q (v.looks ++ 0 ∷ []) v.examined v.most) (sym m)
     (subst (λ (q : List Span). CountsLooks q (first_held v) (length b + 1) (v.looks ++ 0 ∷ []) v.examined v.most) (sym w) c) in
     record {
-      stands = r;
+      history = r;
       limit = h.limit;
       within = omega arith;
       each = ll ∙ ap (λ q. q + 1) g ∙ sym l;

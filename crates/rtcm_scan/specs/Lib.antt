@@ -4,7 +4,7 @@ pub mod Decided
 pub mod Known
 pub mod Scan
 pub mod Drained
-pub mod Answers
+pub mod Results
 pub mod Looks
 pub mod Candidate
 pub mod Pending

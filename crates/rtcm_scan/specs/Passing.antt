@@ -81,7 +81,7 @@ pub record PassesToLimit {S O : Type 0} (took : Coming S O) (v : FramerValue) (s
   pub over : v.limit < v.taken + length next
 
 -- at most n more bytes were accepted, within the same limit, and the framer still has examined some stream
-pub record GoesOn (v v' : FramerValue) (n : ℕ) : Type 0 where
+pub record Continues (v v' : FramerValue) (n : ℕ) : Type 0 where
   pub least : v.taken ≤ v'.taken
   pub most : v'.taken ≤ v.taken + n
   pub within : v'.taken ≤ v.limit
@@ -117,7 +117,7 @@ PassesAll took v s o v' s' o' r r' = Reads r r' (Passes took v s o v' s' o') × 
 pub record BreaksAt {S O : Type 0} (took : Coming S O) (broke : Breaking S O) (v : FramerValue) (s : S) (o : O)
     (v' : FramerValue) (s' : S) (o' : O) (most : ℕ) (piece : List ℕ) : Type 0 where
   pub breaks : Breaks took broke v s o s' o' piece
-  pub goes : GoesOn v v' (length piece)
+  pub goes : Continues v v' (length piece)
   pub few : length piece ≤ most
   pub near : length v.held + length piece ≤ max most (length v.held + 1)
 

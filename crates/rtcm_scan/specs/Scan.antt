@@ -100,8 +100,8 @@ pub record HasFramed (v : FramerValue) (b : List ℕ) (fs : List Framed) : Type 
   pub skipped : v.skipped + sum_by (λ f. length f.message + 6) fs ≡ first_held v
 
 -- for all bytes accepted and frames returned before, it has returned this frame after them
-abbrev pub HandsOut : FramerValue → FramerValue → Framed → Type 0
-HandsOut old new f = (b : List ℕ) (fs : List Framed) → HasFramed old b fs → HasFramed new b (fs ++ f ∷ [])
+abbrev pub ReturnsFrame : FramerValue → FramerValue → Framed → Type 0
+ReturnsFrame old new f = (b : List ℕ) (fs : List Framed) → HasFramed old b fs → HasFramed new b (fs ++ f ∷ [])
 
 -- no byte was accepted, and no more are held than before
 pub record IsScannedOn (v v' : FramerValue) : Type 0 where

@@ -1,7 +1,7 @@
 //! Passing the frames of pieces of a stream to a consumer.
 ghost use Rattle.std.specs.Prelude.{◌≡◌, ◌+◌, ◌≤◌, ◌<◌, true, length, take, OnOk, OnErr, IfOk, IfErr};
 ghost use Rattle.rtcm_scan.specs.Passing.{PassesKnown, BreaksKnown, Passes, Breaks, PassesToLimit};
-ghost use Rattle.rtcm_scan.specs.Passing.{GoesOn, IsSameStream, AtFault, UnlessBroken};
+ghost use Rattle.rtcm_scan.specs.Passing.{Continues, IsSameStream, AtFault, UnlessBroken};
 
 use crate::framer::{Frame, Framer};
 use crate::sink::FrameSink;
@@ -62,7 +62,7 @@ impl Framer {
         ensures taken { IfOk result (λ n. self.new.taken ≡ self.old.taken + n) }
         ensures full { IfOk result (λ n. n < length piece.now → self.new.taken ≡ self.old.limit) }
         ensures ready { OnOk result (self.new.is_ready ≡ true) }
-        ensures same { GoesOn self.old self.new (length piece.now) }
+        ensures same { Continues self.old self.new (length piece.now) }
     {
         // Brings the bound on the number of accepted bytes into the proof.
         let _ = self.taken();
@@ -106,7 +106,7 @@ impl Framer {
         ensures sent { UnlessBroken result (S.is_sent out.new) }
         ensures taken { OnOk result (self.new.taken ≡ self.old.taken + length piece.now) }
         ensures ready { OnOk result (self.new.is_ready ≡ true) }
-        ensures same { GoesOn self.old self.new (length piece.now) }
+        ensures same { Continues self.old self.new (length piece.now) }
     {
         let taken = match self.take_piece(piece, frame, sink, out) {
             Ok(taken) => taken,

@@ -8,7 +8,7 @@ ghost use Rattle.std.specs.Prelude.{◌≡◌, ◌+◌, ◌-◌, ◌*◌, ◌<�
 ghost use Rattle.std.specs.Prelude.{true, false, IsTrue, IfOk, OnOk, OnErr, IfErr, IfSome, IfNone, OnSome, ◌↔◌};
 ghost use Rattle.rtcm_scan.specs.Frame.{begins_frame, frame_length, framed_message};
 ghost use Rattle.rtcm_scan.specs.Frames.{Framed};
-ghost use Rattle.rtcm_scan.specs.Scan.{HasFramed, HandsOut, IsScannedOn, most_bytes, first_held, window_of};
+ghost use Rattle.rtcm_scan.specs.Scan.{HasFramed, ReturnsFrame, IsScannedOn, most_bytes, first_held, window_of};
 ghost use Rattle.rtcm_scan.specs.Scan.{with_window, with_byte, with_bytes};
 ghost use Rattle.rtcm_scan.specs.Candidate.{HasTaken};
 ghost use Rattle.rtcm_scan.specs.Examined.{HasExamined, IsCountedExactly, CountsFrame, CountsKnown};
@@ -18,7 +18,7 @@ ghost use Rattle.rtcm_bits.specs.Window.{looked_through, without_front};
 ghost use Rattle.rtcm_scan.specs.Decided.{most_undecided};
 ghost use Rattle.rtcm_scan.specs.Looks.{most_looks};
 ghost use Rattle.rtcm_scan.specs.Drained.{IsDrained};
-ghost use Rattle.rtcm_scan.specs.Answers.{framed, frame_at, push_answer, push_all_answer, decision, new_scan};
+ghost use Rattle.rtcm_scan.specs.Results.{framed, frame_at, push_result, push_all_result, decision, new_scan};
 
 use crate::candidate::Candidate;
 use crate::front::{Decision, examine, judge, pass_others};
@@ -112,7 +112,7 @@ impl Framer {
     /// be allocated.
     pub fn new(alloc: Global, limit: u64) -> Result<Framer, ScanFault>
         ensures new { IfOk result (λ f. f ≡ new_scan limit) }
-        ensures stands { IfOk result (λ f. HasFramed f [] []) }
+        ensures history { IfOk result (λ f. HasFramed f [] []) }
         ensures counts { IfOk result (λ f. HasExamined f [] []) }
         ensures drained { IfOk result (λ f. IsDrained f [] []) }
         ensures counted { IfOk result (λ f. IsCountedExactly f []) }
@@ -152,8 +152,8 @@ impl Framer {
     /// `Ended` after `end`, and `TooLong` if the number of bytes accepted is the limit.
     pub fn push(&mut self, byte: u8) -> Result<(), ScanFault>
         requires { IsTrue self.old.is_ready }
-        ensures answer { result ≡ push_answer self.old }
-        ensures stands { OnOk result
+        ensures answer { result ≡ push_result self.old }
+        ensures history { OnOk result
             ((b : List ℕ) (fs : List Framed) → HasFramed self.old b fs → HasFramed self.new (b ++ byte ∷ []) fs) }
         ensures counts { OnOk result
             ((b : List ℕ) (fs : List Framed) → HasExamined self.old b fs → HasExamined self.new (b ++ byte ∷ []) fs) }
@@ -184,8 +184,8 @@ impl Framer {
     pub fn push_all(&mut self, bytes: &[u8]) -> Result<(), ScanFault>
         requires ready { IsTrue self.old.is_ready }
         requires room { length self.old.held + length bytes.now ≤ longest_frame }
-        ensures answer { result ≡ push_all_answer self.old (length bytes.now) }
-        ensures stands { OnOk result
+        ensures answer { result ≡ push_all_result self.old (length bytes.now) }
+        ensures history { OnOk result
             ((b : List ℕ) (fs : List Framed) → HasFramed self.old b fs → HasFramed self.new (b ++ bytes.now) fs) }
         ensures counts { OnOk result
             ((b : List ℕ) (fs : List Framed) → HasExamined self.old b fs → HasExamined self.new (b ++ bytes.now) fs) }
@@ -209,7 +209,7 @@ impl Framer {
     /// Ends the stream: `next` then decides all held bytes.
     pub fn end(&mut self)
         ensures ended { self.new ≡ record self.old { has_ended = true } }
-        ensures stands { (b : List ℕ) (fs : List Framed) → HasFramed self.old b fs → HasFramed self.new b fs }
+        ensures history { (b : List ℕ) (fs : List Framed) → HasFramed self.old b fs → HasFramed self.new b fs }
         ensures counts { (b : List ℕ) (fs : List Framed) → HasExamined self.old b fs → HasExamined self.new b fs }
     {
         self.ended = true;
@@ -270,7 +270,7 @@ impl Framer {
 
     /// Returns the next frame that the accepted bytes decide, or `None` if they decide no more.
     pub fn next(&mut self) -> Option<Frame>
-        ensures some { IfSome result (λ f. HandsOut self.old self.new (framed f)) }
+        ensures some { IfSome result (λ f. ReturnsFrame self.old self.new (framed f)) }
         ensures none { IfNone result
             ((b : List ℕ) (fs : List Framed) → HasFramed self.old b fs
             → HasFramed self.new b fs × IsDrained self.new b fs) }
@@ -292,7 +292,7 @@ impl Framer {
     /// Returns the offset of the next frame, as [`next`](Framer::next) does, and replaces the
     /// buffer's content by its message. If there is no frame, the buffer is unchanged.
     pub fn next_into(&mut self, message: &mut ArrayVec<u8, LONGEST_MESSAGE>) -> Option<u64>
-        ensures some { IfSome result (λ offset. HandsOut self.old self.new (frame_at offset message.new.items)) }
+        ensures some { IfSome result (λ offset. ReturnsFrame self.old self.new (frame_at offset message.new.items)) }
         ensures none { IfNone result
             ((b : List ℕ) (fs : List Framed) → HasFramed self.old b fs
             → HasFramed self.new b fs × IsDrained self.new b fs) }
@@ -316,7 +316,7 @@ impl Framer {
     /// decide one.
     fn seek(&mut self) -> Option<usize>
         ensures begins { IfSome result (HasFrame self.new) }
-        ensures stands { (b : List ℕ) (fs : List Framed) → HasFramed self.old b fs → HasFramed self.new b fs }
+        ensures history { (b : List ℕ) (fs : List Framed) → HasFramed self.old b fs → HasFramed self.new b fs }
         ensures counts { (b : List ℕ) (fs : List Framed) → HasExamined self.old b fs → HasExamined self.new b fs }
         ensures none { IfNone result
             ((b : List ℕ) (fs : List Framed) → HasFramed self.old b fs → IsDrained self.new b fs) }
@@ -370,7 +370,7 @@ impl Framer {
     /// Drops the bytes before the next preamble, all at once.
     fn pass_over(&mut self)
         requires { self.old.tried ≡ 0 }
-        ensures stands { (b : List ℕ) (fs : List Framed) → HasFramed self.old b fs → HasFramed self.new b fs }
+        ensures history { (b : List ℕ) (fs : List Framed) → HasFramed self.old b fs → HasFramed self.new b fs }
         ensures counts { (b : List ℕ) (fs : List Framed) → HasExamined self.old b fs → HasExamined self.new b fs }
         ensures ready { self.new.is_ready ≡ self.old.is_ready }
         ensures same { IsScannedOn self.old self.new }

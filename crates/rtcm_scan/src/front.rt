@@ -3,7 +3,7 @@ ghost use Rattle.std.specs.Prelude.{◌≡◌, ◌≢◌, ◌+◌, ◌-◌, ◌<
 ghost use Rattle.rtcm_scan.specs.Candidate.{HasTaken, wanted_by};
 ghost use Rattle.rtcm_scan.specs.Pending.{asked};
 ghost use Rattle.rtcm_bits.specs.Window.{looked_through, without_front};
-ghost use Rattle.rtcm_scan.specs.Answers.{ComesTo, if_missing};
+ghost use Rattle.rtcm_scan.specs.Results.{ComesTo, if_missing};
 
 use crate::candidate::{Candidate, PREAMBLE};
 use rtcm_bits::{Window, laws};

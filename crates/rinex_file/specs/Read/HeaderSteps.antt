@@ -19,10 +19,10 @@ use Rattle.rinex_file.specs.Read.Progress.{shown_with, shown_rows, lines_before,
 use Rattle.rinex_file.specs.Read.Progress.{AreTypes, types_line, signals_begun}
 
 -- a row other than those of types and the last
-abbrev pub IsSole : HeaderRow → Type 0
-IsSole (Types system row) = ⊥
-IsSole End = ⊥
-IsSole other = ⊤
+abbrev pub IsOnly : HeaderRow → Type 0
+IsOnly (Types system row) = ⊥
+IsOnly End = ⊥
+IsOnly other = ⊤
 
 -- whether a row has a line, by the first line of the file and a system's first line of types
 abbrev pub known_line : Known → HeaderRow → Bool
@@ -31,23 +31,24 @@ known_line k (Shift system) = plans k system
 known_line k other = true
 
 -- The line is that of a row, by what is known after it; the rows before and what was known of the plan are unchanged.
-pub record IsLearned (row : HeaderRow) (line : List ℕ) (old new : Known) : Type 0 where
+pub record IsHeaderLineRead (row : HeaderRow) (line : List ℕ) (old new : Known) : Type 0 where
   pub plans : (p : PlanValue) → MayPlan new p → MayPlan old p
   pub before : (p : PlanValue)
       → lines_before (shown_with new p) (row_place row) ≡ lines_before (shown_with old p) (row_place row)
   pub shows : (p : PlanValue) → MayPlan new p → shown_rows (shown_with new p) row ≡ line ∷ []
   pub reads : HasReadRows new (suc (row_place row))
 
-abbrev pub LearnsLine : HeaderRow → List ℕ → Known → Known → Type 0
-LearnsLine row line old new = HasReadRows old (row_place row) → known_line old row ≡ true → IsLearned row line old new
+abbrev pub ReadsHeaderLine : HeaderRow → List ℕ → Known → Known → Type 0
+ReadsHeaderLine row line old new =
+    HasReadRows old (row_place row) → known_line old row ≡ true → IsHeaderLineRead row line old new
 
 -- no header has this line in a row
 abbrev pub RefusesHeaderLine : HeaderRow → List ℕ → Type 0
 RefusesHeaderLine row line = (h : Shown) → IsShown h → shown_line h row ≡ line → ⊥
 
 -- the line was accepted, and this is known after it; or no header has it in this row
-abbrev pub LearnsOrRefuses : HeaderRow → List ℕ → Known → Known → Bool → Type 0
-LearnsOrRefuses row line old new taken = MatchBool taken (LearnsLine row line old new) (RefusesHeaderLine row line)
+abbrev pub ReadsOrRefuses : HeaderRow → List ℕ → Known → Known → Bool → Type 0
+ReadsOrRefuses row line old new taken = MatchBool taken (ReadsHeaderLine row line old new) (RefusesHeaderLine row line)
 
 -- the line follows those before a row, and the row at `next` follows it
 pub record GoesTo (old : Known) (place : ℕ) (line : List ℕ) (new : Known) (next : ℕ) : Type 0 where

@@ -14,7 +14,9 @@ history_of k = record { epochs = k.epochs.items; rows = k.rows.items }
 
 -- a line has room for a satellite
 abbrev pub HasRoom : SatelliteRow → Type 0
-HasRoom s = (s.row.satellite < 100) × All AreSignalValues s.row.entries × (length s.row.entries ≤ most_signals)
+HasRoom s =
+    (s.row.satellite < 100) × All AreSignalValues s.row.signal_values
+    × (length s.row.signal_values ≤ most_signals)
 
 abbrev pub HaveRowsRoom : Stamped → Type 0
 HaveRowsRoom e = All HasRoom e.rows

@@ -66,7 +66,7 @@ signals_in (suc n) text = signal_values_in (take signal_columns text) ∷ signal
 -- the row of a line that was padded with blanks, if this number of signals is planned
 abbrev pub row_in : ℕ → List ℕ → Row
 row_in signals text =
-    record { satellite = digits_in (take 2 (drop 1 text)); entries = signals_in signals (drop 3 text) }
+    record { satellite = digits_in (take 2 (drop 1 text)); signal_values = signals_in signals (drop 3 text) }
 
 -- the same for a satellite of a system
 abbrev pub satellite_row_in : System → ℕ → List ℕ → SatelliteRow

@@ -20,7 +20,7 @@ pub record IsTaken (s : Progress) (count : ℕ) (input left : Option (List ℕ))
   pub are : All IsLine lines
   pub many : length lines ≡ count
   pub taken : Consumes input left (joined lines)
-  pub stands : HasReadLines s lines
+  pub history : HasReadLines s lines
 
 -- no count is greater than the number of lines, which is at most `most_lines`
 abbrev pub MayBeCounted : Reading → Type 0
@@ -29,7 +29,7 @@ MayBeCounted r = HasRoom r.parser_state r.count × (r.count ≤ most_lines)
 -- a history was read of the input, and this is left of it after what was read ahead
 pub record HasRead (r : Reading) (h : History) (input left : Option (List ℕ)) : Type 0 where
   pub taken : IsTaken (progress_at r.parser_state h) r.count input (prepend_known r.block left)
-  pub stands : FollowsHistory r.parser_state h
+  pub history : FollowsHistory r.parser_state h
 
 -- the file of a history
 abbrev pub file_at : ParserState → History → FileValue
@@ -45,7 +45,7 @@ pub record IsWhole (c : ParserState) (h : History) (input : Option (List ℕ)) :
   pub is : IsFileValue (file_at c h)
   pub few : length (file_lines (file_at c h)) ≤ most_lines
   pub text : IfSome input (IsTextOfOnly (file_at c h))
-  pub stands : FollowsHistory c h
+  pub history : FollowsHistory c h
   pub none : h.rows ≡ []
 
 -- the result of the next line: a history with what the line adds, the end, or a fault

@@ -56,12 +56,12 @@ impl FileBuilder {
     fn keep_row(&mut self, seen: &KeptSatellite) -> Result<(), AllocError>
         ensures { OnOk result (history_of self.new ≡ with_satellite (history_of self.old) seen.now) }
     {
-        let mut entries = Vec::new(self.alloc);
-        entries.extend_from_slice(seen.entries.as_slice())?;
+        let mut signal_values = Vec::new(self.alloc);
+        signal_values.extend_from_slice(seen.signal_values.as_slice())?;
         self.rows.push(KeptRow {
             system: seen.system,
             satellite: seen.satellite,
-            entries,
+            signal_values,
         })?;
         Ok(())
     }
@@ -79,7 +79,7 @@ impl FileBuilder {
     pub(crate) fn finish(self, parser_state: ParserState) -> Result<ObsFile, AllocError>
         requires none { (history_of self).rows ≡ [] }
         requires value { IsFileValue (file_at parser_state (history_of self)) }
-        requires stands { FollowsHistory parser_state (history_of self) }
+        requires history { FollowsHistory parser_state (history_of self) }
         ensures { IfOk result (λ f. f ≡ file_at parser_state (history_of self)) }
     {
         let HeadSoFar {

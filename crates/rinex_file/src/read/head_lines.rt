@@ -1,5 +1,5 @@
 //! The rows of a header other than those of types: the fields of a line are added to what was read.
-ghost use Rattle.rinex_file.specs.Read.HeaderSteps.{IsSole, LearnsOrRefuses};
+ghost use Rattle.rinex_file.specs.Read.HeaderSteps.{IsOnly, ReadsOrRefuses};
 
 use crate::header::fields::TextRow;
 use crate::header::labels;
@@ -15,7 +15,7 @@ use obs_epoch::StationValues;
 impl HeadSoFar {
     /// Reads the line with version and systems.
     fn read_systems(&mut self, line: &[u8]) -> bool
-        ensures { LearnsOrRefuses HeaderRow.Version line.now self.old self.new result }
+        ensures { ReadsOrRefuses HeaderRow.Version line.now self.old self.new result }
     {
         match read_version(line) {
             Some((gps, galileo)) => {
@@ -29,7 +29,7 @@ impl HeadSoFar {
 
     /// Reads the line with the position of the antenna.
     fn read_position(&mut self, line: &[u8]) -> bool
-        ensures { LearnsOrRefuses HeaderRow.Position line.now self.old self.new result }
+        ensures { ReadsOrRefuses HeaderRow.Position line.now self.old self.new result }
     {
         match read_position(line) {
             Some((x, y, z)) => {
@@ -43,7 +43,7 @@ impl HeadSoFar {
 
     /// Reads the line with the height of the antenna above the marker.
     fn read_height(&mut self, line: &[u8]) -> bool
-        ensures { LearnsOrRefuses HeaderRow.Delta line.now self.old self.new result }
+        ensures { ReadsOrRefuses HeaderRow.Delta line.now self.old self.new result }
     {
         match read_delta(line) {
             Some(height) => {
@@ -56,7 +56,7 @@ impl HeadSoFar {
 
     /// Reads the line with the time of the first epoch.
     fn read_first_time(&mut self, line: &[u8]) -> bool
-        ensures { LearnsOrRefuses HeaderRow.First line.now self.old self.new result }
+        ensures { ReadsOrRefuses HeaderRow.First line.now self.old self.new result }
     {
         match read_first(line) {
             Some(time) => {
@@ -69,29 +69,29 @@ impl HeadSoFar {
 
     /// Returns whether the line is that of the unit of the strengths.
     fn is_unit(&self, line: &[u8]) -> bool
-        ensures { LearnsOrRefuses HeaderRow.StrengthUnit line.now self.now self.now result }
+        ensures { ReadsOrRefuses HeaderRow.StrengthUnit line.now self.now self.now result }
     {
         is_header_line(line, labels::UNIT, labels::STRENGTH_UNIT)
     }
 
     /// Returns whether the line is that of a system without phase shifts.
     fn is_shift(&self, system: System, line: &[u8]) -> bool
-        ensures { LearnsOrRefuses (HeaderRow.Shift system) line.now self.now self.now result }
+        ensures { ReadsOrRefuses (HeaderRow.Shift system) line.now self.now self.now result }
     {
         is_header_line(line, &[letter_of(system)], labels::SHIFT)
     }
 
     /// Reads the line of a row of texts.
     fn read_text_row(&mut self, row: TextRow, line: &[u8]) -> bool
-        ensures { LearnsOrRefuses (HeaderRow.Texts row) line.now self.old self.new result }
+        ensures { ReadsOrRefuses (HeaderRow.Texts row) line.now self.old self.new result }
     {
         read_texts(&mut self.texts, row, line)
     }
 
     /// Reads the line of a row, and returns whether some header has it.
     pub(crate) fn read_header_line(&mut self, row: HeaderRow, line: &[u8]) -> bool
-        requires { IsSole row }
-        ensures { LearnsOrRefuses row line.now self.old self.new result }
+        requires { IsOnly row }
+        ensures { ReadsOrRefuses row line.now self.old self.new result }
     {
         match row {
             HeaderRow::Version => self.read_systems(line),

@@ -5,7 +5,7 @@ ghost use Rattle.obs_epoch.specs.Signals.{indices, IsOf};
 ghost use Rattle.obs_epoch.specs.Values.{planned_of};
 ghost use Rattle.rinex_file.specs.Header.{type_rows, row_at, first_types};
 ghost use Rattle.rinex_file.specs.Read.Progress.{AreValid, IsHeadAt, plans, signal_count};
-ghost use Rattle.rinex_file.specs.Read.HeaderSteps.{known_line, LearnsLine, NoneGoesOn, SameFrom, StepsTo};
+ghost use Rattle.rinex_file.specs.Read.HeaderSteps.{known_line, ReadsHeaderLine, NoneGoesOn, SameFrom, StepsTo};
 ghost use Rattle.rinex_file.specs.Read.HeaderSteps.{CountsExpected, TakesRow, RefusesRow, with_signals, with_count};
 
 use crate::header::labels;
@@ -276,7 +276,7 @@ impl HeadSoFar {
         requires row { row < 6 }
         requires at { IsHeadAt self.old (first_types system + row) }
         requires here { known_line self.old (HeaderRow.Types system row) ≡ true }
-        ensures taken { OnOk result (LearnsLine (HeaderRow.Types system row) line.now self.old self.new) }
+        ensures taken { OnOk result (ReadsHeaderLine (HeaderRow.Types system row) line.now self.old self.new) }
         ensures bad { result ≡ Err Refusal.Bad → NoneGoesOn self.old (first_types system + row) line.now }
     {
         let Some(count) = self.count_expected(system, row, line) else {

@@ -119,7 +119,7 @@ fn changed_by(before: Option<StationValues>, change: Option<StationValues>) -> O
 impl ParserState {
     /// Returns the state of a parser that has read nothing.
     pub(crate) fn new(alloc: Global) -> ParserState
-        ensures stands { FollowsHistory result nothing }
+        ensures history { FollowsHistory result nothing }
         ensures starts { (v : FileValue) → IsFileValue v → HasLinesLeft (progress_at result nothing) v (file_lines v) }
         ensures lines { AreLinesOf (progress_at result nothing) [] }
         ensures none { HasRoom result 0 }
@@ -136,7 +136,7 @@ impl ParserState {
             seen: KeptSatellite {
                 system: System::Gps,
                 satellite: 0,
-                entries: ArrayVec::new(),
+                signal_values: ArrayVec::new(),
             },
             rank: None,
             epochs: 0,
@@ -147,7 +147,7 @@ impl ParserState {
 
     /// Processes the next line; the buffer is for the line as it would be written.
     pub(crate) fn take(&mut self, line: &[u8], again: &mut Line) -> Result<Added, Refusal>
-        requires stands { (h : History) × FollowsHistory self.old h }
+        requires history { (h : History) × FollowsHistory self.old h }
         requires room { HasRoom self.old (2 ^ 40) }
         requires short { length line.now ≤ most_line }
         ensures takes { TakesLine self.old self.new line.now result }
@@ -165,7 +165,7 @@ impl ParserState {
 
     /// Processes a line of the header.
     fn take_header(&mut self, place: usize, line: &[u8], again: &mut Line) -> Result<Added, Refusal>
-        requires stands { (h : History) × FollowsHistory self.old h }
+        requires history { (h : History) × FollowsHistory self.old h }
         requires expected { self.old.expected ≡ Expected.Header place }
         ensures takes { TakesLine self.old self.new line.now result }
         ensures room { (n : ℕ) → HasRoom self.old n → OnOk result (HasRoom self.new (n + 1)) }
@@ -310,7 +310,7 @@ impl ParserState {
         line: &[u8],
         again: &mut Line,
     ) -> Result<Added, Refusal>
-        requires stands { (h : History) × FollowsHistory self.old h }
+        requires history { (h : History) × FollowsHistory self.old h }
         requires room { HasRoom self.old (2 ^ 40) }
         requires expected { self.old.expected ≡ Expected.Satellite left }
         requires short { length line.now ≤ most_line }

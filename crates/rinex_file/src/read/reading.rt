@@ -76,7 +76,7 @@ impl Reading {
         &mut self,
         reader: &mut Counted<R>,
     ) -> Result<Option<Added>, ReadFault>
-        requires stands { (h : History) × FollowsHistory self.old.parser_state h }
+        requires history { (h : History) × FollowsHistory self.old.parser_state h }
         requires within { MayBeCounted self.old }
         ensures goes { GoesOnReading self.old (R.remaining reader.old.inner) self.new (R.remaining reader.new.inner)
             result }

@@ -35,14 +35,18 @@ fn signal_values_in(text: &[u8]) -> SignalValues
 }
 
 /// Reads the entries in the columns of this number of signals, replacing those in the buffer.
-fn put_entries(text: &[u8], signals: usize, entries: &mut ArrayVec<SignalValues, MOST_SIGNALS>)
+fn put_signal_values(
+    text: &[u8],
+    signals: usize,
+    signal_values: &mut ArrayVec<SignalValues, MOST_SIGNALS>,
+)
     requires few { signals ≤ most_signals }
     requires room { 3 + signal_columns * signals ≤ length text.now }
-    ensures { entries.new.items ≡ signals_in signals (drop 3 text.now) }
+    ensures { signal_values.new.items ≡ signals_in signals (drop 3 text.now) }
 {
-    entries.clear();
+    signal_values.clear();
     for i in 0..signals {
-        entries.push(signal_values_in(
+        signal_values.push(signal_values_in(
             &text[3 + SIGNAL_COLUMNS * i..3 + SIGNAL_COLUMNS * i + SIGNAL_COLUMNS],
         ));
     }
@@ -56,7 +60,7 @@ fn put_seen_in(system: System, text: &[u8], signals: usize, seen: &mut KeptSatel
 {
     seen.system = system;
     seen.satellite = digits_in(&text[1..3]) as u8;
-    put_entries(text, signals, &mut seen.entries);
+    put_signal_values(text, signals, &mut seen.signal_values);
 }
 
 /// Returns whether a value fits its columns or is absent.
@@ -81,7 +85,7 @@ fn is_strength(value: Option<i64>) -> bool
 
 /// Returns whether values and indicator may be those of a signal: only a phase has a loss-of-lock
 /// indicator.
-fn is_entry(entry: &SignalValues) -> bool
+fn is_signal_values(entry: &SignalValues) -> bool
     ensures { IsTrue result ↔ AreSignalValues entry.now }
 {
     let c = is_value(entry.c);
@@ -93,17 +97,17 @@ fn is_entry(entry: &SignalValues) -> bool
 }
 
 /// Returns whether each is an entry of a file value.
-fn are_entries(entries: &[SignalValues]) -> bool
-    ensures { IsTrue result ↔ All AreSignalValues entries.now }
+fn are_signal_values(signal_values: &[SignalValues]) -> bool
+    ensures { IsTrue result ↔ All AreSignalValues signal_values.now }
 {
-    entries.iter().all(|e| is_entry(e))
+    signal_values.iter().all(|e| is_signal_values(e))
 }
 
 /// Returns whether one of them has a value.
-fn say_something(entries: &[SignalValues]) -> bool
-    ensures { IsTrue result ↔ Any (λ e. IsTrue (has_some_value e)) entries.now }
+fn have_value(signal_values: &[SignalValues]) -> bool
+    ensures { IsTrue result ↔ Any (λ e. IsTrue (has_some_value e)) signal_values.now }
 {
-    entries.iter().any(|e| e.has_value())
+    signal_values.iter().any(|e| e.has_value())
 }
 
 /// Returns whether a system with this number of satellites and of planned signals can have this
@@ -111,12 +115,12 @@ fn say_something(entries: &[SignalValues]) -> bool
 fn is_row(seen: &KeptSatellite, most: u8, signals: usize) -> bool
     ensures { IsTrue result ↔ IsRow most signals seen.now.row }
 {
-    let entries = seen.entries.as_slice();
+    let signal_values = seen.signal_values.as_slice();
     1 <= seen.satellite
         && seen.satellite <= most
-        && entries.len() == signals
-        && are_entries(entries)
-        && say_something(entries)
+        && signal_values.len() == signals
+        && are_signal_values(signal_values)
+        && have_value(signal_values)
 }
 
 /// Writes the line without its line feed, padded with blanks, to the buffer.
@@ -172,7 +176,12 @@ fn read_of(
     if !is_row(seen, system.satellites(), signals) {
         return false;
     }
-    satellite_text(again, seen.system, seen.satellite, seen.entries.as_slice());
+    satellite_text(
+        again,
+        seen.system,
+        seen.satellite,
+        seen.signal_values.as_slice(),
+    );
     is_same(again.as_slice(), line)
 }
 

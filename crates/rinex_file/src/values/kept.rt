@@ -82,7 +82,7 @@ impl SignalValues {
 pub(crate) struct KeptSatellite {
     pub(crate) system: System,
     pub(crate) satellite: u8,
-    pub(crate) entries: ArrayVec<SignalValues, MOST_SIGNALS>,
+    pub(crate) signal_values: ArrayVec<SignalValues, MOST_SIGNALS>,
 }
 
 impl Model for KeptSatellite {
@@ -91,7 +91,7 @@ impl Model for KeptSatellite {
     ghost Value = { SatelliteRow };
 
     ghost view = { λ s.
-        record { system = s.system; row = record { satellite = s.satellite; entries = s.entries.items } } };
+        record { system = s.system; row = record { satellite = s.satellite; signal_values = s.signal_values.items } } };
 }
 
 /// A satellite of a system, with an entry for each planned signal, as it is stored in memory.
@@ -99,7 +99,7 @@ impl Model for KeptSatellite {
 pub(crate) struct KeptRow {
     pub(crate) system: System,
     pub(crate) satellite: u8,
-    pub(crate) entries: Vec<SignalValues>,
+    pub(crate) signal_values: Vec<SignalValues>,
 }
 
 impl Model for KeptRow {
@@ -108,7 +108,7 @@ impl Model for KeptRow {
     ghost Value = { SatelliteRow };
 
     ghost view = { λ s.
-        record { system = s.system; row = record { satellite = s.satellite; entries = s.entries.items } } };
+        record { system = s.system; row = record { satellite = s.satellite; signal_values = s.signal_values.items } } };
 }
 
 /// An epoch with its satellites, and the station values that change with it.

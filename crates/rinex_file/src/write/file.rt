@@ -39,7 +39,12 @@ fn add_row(text: &mut Vec<u8>, row: &KeptRow, line: &mut Line) -> Result<(), All
     requires { HasRoom row.now }
     ensures { OnOk result (text.new.items ≡ text.old.items ++ satellite_line row.now) }
 {
-    satellite_text(line, row.system, row.satellite, row.entries.as_slice());
+    satellite_text(
+        line,
+        row.system,
+        row.satellite,
+        row.signal_values.as_slice(),
+    );
     text.extend_from_slice(line.as_slice())
 }
 

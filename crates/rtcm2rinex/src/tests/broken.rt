@@ -85,10 +85,10 @@ fn untold_read_fault(
 ) -> Result<Option<usize>, AllocError> {
     let input = input.bytes(alloc)?;
     let output = output.bytes(alloc)?;
-    Ok(untold_read(alloc, words, input.as_slice(), output.as_slice()))
+    Ok(unprinted_read(alloc, words, input.as_slice(), output.as_slice()))
 }
 
-fn untold_read(alloc: Global, words: &[&str], input: &[u8], output: &[u8]) -> Option<usize> {
+fn unprinted_read(alloc: Global, words: &[&str], input: &[u8], output: &[u8]) -> Option<usize> {
     for given in 0..=input.len() {
         let written = if given == input.len() { output } else { &[] };
         if !is_read_given(alloc, words, front(input, given), written) {
@@ -164,17 +164,17 @@ fn has_sent(
 }
 
 /// The status of a command whose writer for faults fails, and whether that accepted nothing.
-pub fn untold(
+pub fn unprinted(
     alloc: Global,
     words: &[&str],
     input: Text<'_>,
     end: ReadEnd,
 ) -> Result<(u8, bool), AllocError> {
     let input = input.bytes(alloc)?;
-    Ok(status_untold(alloc, words, input.as_slice(), end))
+    Ok(status_without_error(alloc, words, input.as_slice(), end))
 }
 
-fn status_untold(alloc: Global, words: &[&str], input: &[u8], end: ReadEnd) -> (u8, bool) {
+fn status_without_error(alloc: Global, words: &[&str], input: &[u8], end: ReadEnd) -> (u8, bool) {
     let mut reader = Counted::new(PieceReader::new(input, &[], end));
     let mut writer = Counted::new(Vec::new(alloc));
     let end = WriteEnd::Fails(ErrorKind::Other);

@@ -1,6 +1,6 @@
 //! Devices that fail.
 use super::broken::{
-    assert_read_faults, assert_write_faults, is_given_after_buffer, is_sent_before_fault, untold,
+    assert_read_faults, assert_write_faults, is_given_after_buffer, is_sent_before_fault, unprinted,
 };
 use super::check::CHECK;
 use super::convert::OPTIONS;
@@ -189,7 +189,10 @@ static UNTOLD: [(&[&str], Text, ReadEnd, u8); 3] = [
 #[test]
 fn a_fault_writer_may_fail(rt: HostRuntime) -> Result<(), Fail> {
     for (words, input, end, status) in &UNTOLD {
-        assert_eq!(rt; untold(rt.alloc(), words, *input, *end)?, (*status, true));
+        assert_eq!(rt;
+            unprinted(rt.alloc(), words, *input, *end)?,
+            (*status, true)
+        );
     }
     Ok(())
 }

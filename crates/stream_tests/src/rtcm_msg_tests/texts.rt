@@ -2,11 +2,11 @@ use rtcm_msg::{Field, MsgFault, ValueFault};
 use std::alloc::{AllocError, Global};
 use std::test::*;
 
-fn message_fault_says(alloc: Global, fault: MsgFault, text: &str) -> Result<bool, AllocError> {
+fn message_fault_has_text(alloc: Global, fault: MsgFault, text: &str) -> Result<bool, AllocError> {
     Ok(fault.to_string(alloc)?.as_str() == text)
 }
 
-fn value_fault_says(alloc: Global, fault: ValueFault, text: &str) -> Result<bool, AllocError> {
+fn value_fault_has_text(alloc: Global, fault: ValueFault, text: &str) -> Result<bool, AllocError> {
     Ok(fault.to_string(alloc)?.as_str() == text)
 }
 
@@ -41,9 +41,9 @@ static VALUE_TEXTS: [(ValueFault, &str); 4] = [
 #[test]
 fn faults_have_texts(rt: HostRuntime) {
     for (fault, text) in &MESSAGE_TEXTS {
-        assert!(rt; message_fault_says(rt.alloc(), *fault, text) == Ok(true));
+        assert!(rt; message_fault_has_text(rt.alloc(), *fault, text) == Ok(true));
     }
     for (fault, text) in &VALUE_TEXTS {
-        assert!(rt; value_fault_says(rt.alloc(), *fault, text) == Ok(true));
+        assert!(rt; value_fault_has_text(rt.alloc(), *fault, text) == Ok(true));
     }
 }

@@ -1,5 +1,5 @@
 use Rattle.std.proofs.Common.{◌∙◌, ◌++◌, ap, sym, append-nil, ℕ, List, Err}
-use Rattle.rtcm_scan.specs.Answers.{framed}
+use Rattle.rtcm_scan.specs.Results.{framed}
 use Rattle.rtcm_msg.specs.Viewed.{viewed_message}
 use Rattle.rtcm_msg.specs.Views.{formed}
 use Rattle.rtcm_msg.specs.declared.message.Message.TheVariants.{Station, Other}

@@ -1,6 +1,6 @@
 use Rattle.std.proofs.Common.{◌≡◌, ap}
 use Rattle.rtcm_bits.specs.Bits.{bits_of}
-use Rattle.rtcm_bits.specs.Reading.{Cursor}
+use Rattle.rtcm_bits.specs.Cursors.{Cursor}
 use Rattle.rtcm2rinex.proofs.FrameLemmas.{number_there, number_missing}
 use Rattle.rtcm2rinex.proofs.listing.add_message_number.Goals as goal
 

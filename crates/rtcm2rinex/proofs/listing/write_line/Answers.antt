@@ -1,5 +1,5 @@
 use Rattle.std.proofs.Common.{◌∙◌, ◌++◌, ap, ℕ, List}
-use Rattle.rtcm_scan.specs.Answers.{framed}
+use Rattle.rtcm_scan.specs.Results.{framed}
 use Rattle.rtcm2rinex.specs.Listing.{listing_line}
 use Rattle.rtcm2rinex.proofs.PrintingLemmas.{line_written}
 use Rattle.rtcm2rinex.proofs.listing.write_line.Goals as goal

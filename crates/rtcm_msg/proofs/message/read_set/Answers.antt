@@ -1,7 +1,7 @@
 use Rattle.std.proofs.Common.{ℕ, ◌%◌, true, refl, ◌≡◌, ◌<◌, ◌≤◌, ◌==◌, length, arith, drop, ap, ◌∙◌, sym, Some, None}
 use Rattle.std.proofs.lemmas.List.{length-drop}
-use Rattle.rtcm_bits.specs.Reading.{Cursor, advanced, unsigned_at}
-use Rattle.rtcm_msg.specs.Reading.{set_at, set_of, is_any_msm}
+use Rattle.rtcm_bits.specs.Cursors.{Cursor, advanced, unsigned_at}
+use Rattle.rtcm_msg.specs.Decoding.{set_at, set_of, is_any_msm}
 use Rattle.rtcm_msg.proofs.message.read_set.Goals as goal
 
 set_short : (c : Cursor) → length (advanced (advanced c 12) 30).rest < 1 → set_at c ≡ None

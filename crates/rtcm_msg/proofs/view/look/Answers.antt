@@ -3,7 +3,7 @@ use Rattle.rtcm_bits.specs.Bits.{bits_of}
 use Rattle.rtcm_msg.specs.declared.fault.MsgFault.{MsgFault}
 use Rattle.rtcm_msg.specs.declared.view.View.{View}
 use Rattle.rtcm_msg.specs.Fields.{GivesViewed}
-use Rattle.rtcm_msg.specs.Reading.{message_at, message_of}
+use Rattle.rtcm_msg.specs.Decoding.{message_at, message_of}
 use Rattle.rtcm_msg.specs.Viewed.{viewed_message}
 use Rattle.rtcm_msg.specs.Encoding.{IsMessage}
 use Rattle.rtcm_msg.proofs.MessageLaws.{message_found}

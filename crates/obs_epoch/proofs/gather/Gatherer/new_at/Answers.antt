@@ -5,15 +5,15 @@ use Rattle.obs_epoch.specs.Values.{Closed}
 use Rattle.obs_epoch.proofs.StandingLemmas.{none_locked}
 use Rattle.obs_epoch.proofs.gather.Gatherer.new_at.Goals as goal
 
-pub returns-clause-stands : goal.returns-clause-stands
-returns-clause-stands c = record {
+pub returns-clause-history : goal.returns-clause-history
+returns-clause-history c = record {
   standing = record {
-    clock = subst (λ (s : GatherSetup). HasHeardMessages c.new-2.result s [] false) c.new-2.ensures.setup c.new-2.ensures.stands;
+    clock = subst (λ (s : GatherSetup). HasHeardMessages c.new-2.result s [] false) c.new-2.ensures.setup c.new-2.ensures.history;
     epoch = ap (λ (e : Closed). e.epoch) c.new-3.ensures;
     locks = none_locked _ _ c.in-Ok.ensures;
     values = ap (λ (e : Closed). e.values) c.new-3.ensures;
   };
-  handed = refl;
+  just_closed = refl;
   epochs = λ e. refl;
   first = search rules;
   fits = tt;

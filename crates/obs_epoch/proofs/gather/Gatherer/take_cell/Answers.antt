@@ -27,18 +27,18 @@ invariant_of-self c = grind (arith, common_steps, more_is, order_more, c.place_o
 
 -- The same with other station values.
 abbrev with_values : Gathered → StationValues → Gathered
-with_values g values = record { clock = g.clock; epoch = g.epoch; locks = g.locks; values = values; handed = g.handed; has_ended = g.has_ended }
+with_values g values = record { clock = g.clock; epoch = g.epoch; locks = g.locks; values = values; just_closed = g.just_closed; has_ended = g.has_ended }
 
 pub returns-clause-step : goal.returns-clause-step
 returns-clause-step c =
     let x = heard_cell c.args.x in
     let e = c.self.inside.epoch.epoch in
-    let g : Gathered = record { clock = c.self.inside.clock; epoch = e; locks = c.self.inside.locks; values = c.self.inside.epoch.values; handed = c.self.inside.handed; has_ended = c.self.inside.has_ended } in
+    let g : Gathered = record { clock = c.self.inside.clock; epoch = e; locks = c.self.inside.locks; values = c.self.inside.epoch.values; just_closed = c.self.inside.just_closed; has_ended = c.self.inside.has_ended } in
     let planned = subst (λ (v : Gathered). is_some (place_in c.args.x.signal (planned_of c.args.x.satellite.system v.clock.setup.plan)) ≡ true) (sym c.self.view_is) c.requires.planned in
     let cells = c.cells.ensures.cells ∙ ap (λ s. cells_of s e) c.system.ensures in
     let room = ap (λ (l : List Cell). nat_le most_cells (length l)) (sym cells) ∙ not_full (length c.cells.result.now) c.if-cells-ge-MOST_CELLS.false in
     let fate = fate_by g x _ _ (planned_is g.clock.setup x c.requires.observed.key planned) (sym c.place_of-at.ensures.kept ∙ c.if-is_kept.false) room in
     let at = c.place_of-at.ensures.at ∙ ap (λ q. insertion_index_in q e x) c.plan.ensures in
     let lli = c.lli.ensures.value ∙ ap₂ (λ t o. lli_with t x o) (c.milliseconds.ensures.value ∙ c.time.ensures) c.latest.ensures in
-    ap (with_values (record { clock = c.self.inside.clock; epoch = c.insert.new.self.epoch; locks = c.self.inside.locks; values = c.insert.new.self.values; handed = c.self.inside.handed; has_ended = c.self.inside.has_ended })) (ap (λ (h : Closed). h.values) c.insert.ensures)
+    ap (with_values (record { clock = c.self.inside.clock; epoch = c.insert.new.self.epoch; locks = c.self.inside.locks; values = c.insert.new.self.values; just_closed = c.self.inside.just_closed; has_ended = c.self.inside.has_ended })) (ap (λ (h : Closed). h.values) c.insert.ensures)
     ∙ kept_is g x c.place_of-at.result.0 c.lli.result _ fate lli at (ap (λ (h : Closed). h.epoch) c.insert.ensures) ∙ ap (λ v. hold v x) c.self.view_is

@@ -43,8 +43,8 @@ finish-requires-clause-value g c =
     (the_end c.next.new.self (history_of c.loop-added.file_builder) _ _ c.in-Ok-None.field-0 c.in-Ok-None.field-0-is
     (c.in-Ok-None.ensures.goes (history_of c.loop-added.file_builder) _ c.loop-added.invariant.read)).is
 
-pub finish-requires-clause-stands : goal.finish-requires-clause-stands
-finish-requires-clause-stands g c = grind (arith, the_end)
+pub finish-requires-clause-history : goal.finish-requires-clause-history
+finish-requires-clause-history g c = grind (arith, the_end)
 
 pub returns-in-Ok-finish-clause-found : goal.returns-in-Ok-finish-clause-found
 returns-in-Ok-finish-clause-found g c =

@@ -1,4 +1,4 @@
-use Rattle.rtcm_scan.specs.Answers.{framed}
+use Rattle.rtcm_scan.specs.Results.{framed}
 use Rattle.rtcm2rinex.proofs.ListingLemmas.{stopped_at_line}
 use Rattle.rtcm2rinex.proofs.PrintingLemmas.{on_err, both_err}
 use Rattle.rtcm2rinex.proofs.listing.ListingFrameSinkCounted.take.Goals as goal

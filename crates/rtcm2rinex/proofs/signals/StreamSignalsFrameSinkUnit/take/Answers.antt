@@ -1,5 +1,5 @@
 use Rattle.std.proofs.Common.{refl}
-use Rattle.rtcm_scan.specs.Answers.{framed}
+use Rattle.rtcm_scan.specs.Results.{framed}
 use Rattle.rtcm2rinex.specs.declared.signals.StreamSignals.{StreamSignals}
 use Rattle.rtcm2rinex.proofs.CountingLemmas.{one_more_counted}
 use Rattle.rtcm2rinex.proofs.signals.StreamSignalsFrameSinkUnit.take.Goals as goal

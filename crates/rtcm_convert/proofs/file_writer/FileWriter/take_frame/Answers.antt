@@ -1,7 +1,7 @@
 use Rattle.std.proofs.Common.{sym, ap, ◌∙◌}
-use Rattle.rtcm_msg.specs.Reading.{message_at}
+use Rattle.rtcm_msg.specs.Decoding.{message_at}
 use Rattle.rtcm_msg.specs.Viewed.{viewed_message}
-use Rattle.rtcm_scan.specs.Answers.{framed}
+use Rattle.rtcm_scan.specs.Results.{framed}
 use Rattle.rtcm_convert.proofs.PartLemmas.{on_err}
 use Rattle.rtcm_convert.proofs.TakeLemmas.{files_more, files_same, files_part}
 use Rattle.rtcm_convert.proofs.file_writer.FileWriter.take_frame.Goals as goal

@@ -1,4 +1,4 @@
-use Rattle.rtcm_scan.specs.Answers.{framed}
+use Rattle.rtcm_scan.specs.Results.{framed}
 use Rattle.rtcm_convert.proofs.StreamLemmas.{ok_both, files_more}
 use Rattle.rtcm_convert.proofs.stream.FileWriterFrameSinkCounted.take.Goals as goal
 

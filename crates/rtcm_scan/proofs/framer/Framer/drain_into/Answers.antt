@@ -1,5 +1,5 @@
 use Rattle.std.proofs.Common.{[], ◌∷◌, ◌++◌, ◌∙◌}
-use Rattle.rtcm_scan.specs.Answers.{frame_at}
+use Rattle.rtcm_scan.specs.Results.{frame_at}
 use Rattle.rtcm_scan.specs.Frames.{Framed}
 use Rattle.rtcm_scan.proofs.PassingLemmas.{prefix_one_more}
 use Rattle.rtcm_scan.proofs.framer.Framer.drain_into.Goals as goal

@@ -23,7 +23,7 @@ returns-in-Ok-clause-part g c = on_err_weaker c.send.result (λ send s o ps b fs
     record {
       taken = known_frames c.drain_into.new.self.has_ended b;
       reached = known_frames c.drain_into.new.self.has_ended b;
-      first = subst (λ (e : Bool). IsPrefix fs (known_frames e b)) (sym c.drain_into.ensures.ended) f.stands.first;
+      first = subst (λ (e : Bool). IsPrefix fs (known_frames e b)) (sym c.drain_into.ensures.ended) f.history.first;
       known = subst (λ (e : Bool). IsPrefix (known_frames c.drain_into.new.self.has_ended b) (known_frames e b)) over (prefix_self (known_frames c.drain_into.new.self.has_ended b));
       broken = send s o ps (known_frames c.drain_into.new.self.has_ended b) d.passed.taken;
     }) c.send.ensures.part

@@ -1,5 +1,5 @@
 use Rattle.std.proofs.Common.{ap, ◌∙◌, arith}
-use Rattle.rtcm_scan.specs.Answers.{frame_at}
+use Rattle.rtcm_scan.specs.Results.{frame_at}
 use Rattle.rtcm_scan.specs.Scan.{FramerValue}
 use Rattle.rtcm_scan.proofs.NextLemmas.{step_found, counts_found, less_found}
 use Rattle.rtcm_scan.proofs.framer.Framer.next_into.Goals as goal
@@ -8,7 +8,7 @@ pub returns-in-Some-clause-some : goal.returns-in-Some-clause-some
 returns-in-Some-clause-some c = λ b fs s.
     let f = c.in-Some.ensures.begins in
     step_found c.seek.new.self c.take_frame.new.self b fs c.in-Some.size (frame_at c.take_frame.result c.take_frame.new.message.items) c.take_frame.ensures.taken f.1 f.0 c.take_frame.ensures.offset c.take_frame.ensures.message
-    (c.in-Some.ensures.stands b fs s)
+    (c.in-Some.ensures.history b fs s)
 
 pub returns-in-Some-clause-some_counts : goal.returns-in-Some-clause-some_counts
 returns-in-Some-clause-some_counts c = λ b fs s.

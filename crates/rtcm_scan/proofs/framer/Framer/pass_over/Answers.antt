@@ -8,8 +8,8 @@ use Rattle.rtcm_scan.proofs.framer.Framer.pass_over.Goals as goal
 pub pass_others-n-requires : goal.pass_others-n-requires
 pass_others-n-requires c = taken_nothing c.self.inside.candidate c.self.inside.window.bytes (ap (λ (v : FramerValue). v.tried) c.self.view_is ∙ c.requires) c.self.invariant.5
 
-pub returns-clause-stands : goal.returns-clause-stands
-returns-clause-stands c = λ b fs s.
+pub returns-clause-history : goal.returns-clause-history
+returns-clause-history c = λ b fs s.
     let o = c.pass_others-n.ensures in
     let e = view_passed c.args.self.now c.self.inside.limit c.self.inside.place c.self.inside.given_up c.self.inside.candidate.count c.pass_others-n.result c.pass_others-n.new.candidate.count c.self.inside.window c.pass_others-n.new.window
     c.self.inside.ended c.self.inside.drained c.self.view_is o.window o.within in

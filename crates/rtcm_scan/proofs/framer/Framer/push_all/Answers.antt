@@ -3,8 +3,8 @@ use Rattle.rtcm_scan.specs.Scan.{FramerValue}
 use Rattle.rtcm_scan.proofs.PushLemmas.{stands_push_all, step_push_all, view_pushed_all}
 use Rattle.rtcm_scan.proofs.framer.Framer.push_all.Goals as goal
 
-pub returns-else-self-taken-clause-stands : goal.returns-else-self-taken-clause-stands
-returns-else-self-taken-clause-stands c = λ b fs s.
+pub returns-else-self-taken-clause-history : goal.returns-else-self-taken-clause-history
+returns-else-self-taken-clause-history c = λ b fs s.
     let n : c.args.self.now.has_ended ≡ false = ap (λ (v : FramerValue). v.has_ended) (sym c.self.view_is) ∙ c.if-self.false in
     let t : c.args.self.now.taken ≡ c.self.inside.place + length c.self.inside.window.bytes = ap (λ (v : FramerValue). v.taken) (sym c.self.view_is) in
     let l : c.args.self.now.limit ≡ c.self.inside.limit = ap (λ (v : FramerValue). v.limit) (sym c.self.view_is) in

@@ -13,8 +13,8 @@ loop-self-preserved c =
     let h : 0 < length c.loop-self.self.held = omega (arith, c.held.ensures.value, c.loop-self-test.true) in
     let o = c.pass_over.ensures in
     record {
-      stands = λ b fs s. o.stands b fs (step_passed c.loop-self.self c.decide.new.self c.give_up.new.self b fs c.in-Passed.ensures.examined c.give_up.ensures h
-          (from_passed c.loop-self.self.has_ended c.loop-self.self.held c.in-Passed.ensures.decision) (c.loop-self.invariant.stands b fs s));
+      history = λ b fs s. o.history b fs (step_passed c.loop-self.self c.decide.new.self c.give_up.new.self b fs c.in-Passed.ensures.examined c.give_up.ensures h
+          (from_passed c.loop-self.self.has_ended c.loop-self.self.held c.in-Passed.ensures.decision) (c.loop-self.invariant.history b fs s));
       counts = λ b fs s. o.counts b fs (counts_passed c.loop-self.self c.decide.new.self c.give_up.new.self b fs c.in-Passed.ensures.examined c.give_up.ensures h
           (from_passed c.loop-self.self.has_ended c.loop-self.self.held c.in-Passed.ensures.decision) c.in-Passed.ensures.tried (c.loop-self.invariant.counts b fs s));
       same = record {
@@ -30,8 +30,8 @@ pub returns-in-Found-clause-begins : goal.returns-in-Found-clause-begins
 returns-in-Found-clause-begins c =
     found_begins c.loop-self.self c.decide.new.self c.in-Found.size c.in-Found.ensures.examined (from_found c.loop-self.self.has_ended c.loop-self.self.held c.in-Found.size c.in-Found.ensures.decision)
 
-pub returns-in-Found-clause-stands : goal.returns-in-Found-clause-stands
-returns-in-Found-clause-stands c = λ b fs s. found_stands c.loop-self.self c.decide.new.self b fs c.in-Found.ensures.examined (c.loop-self.invariant.stands b fs s)
+pub returns-in-Found-clause-history : goal.returns-in-Found-clause-history
+returns-in-Found-clause-history c = λ b fs s. found_stands c.loop-self.self c.decide.new.self b fs c.in-Found.ensures.examined (c.loop-self.invariant.history b fs s)
 
 pub returns-in-Found-clause-counts : goal.returns-in-Found-clause-counts
 returns-in-Found-clause-counts c = λ b fs s. found_counts c.loop-self.self c.decide.new.self b fs c.in-Found.ensures.examined c.in-Found.ensures.tried (c.loop-self.invariant.counts b fs s)
@@ -45,20 +45,20 @@ set_drained-requires c = elim c.loop-self-test.branch [
       let l : length c.loop-self.self.held < 1029 = open_bound c.loop-self.self.held o.1 in omega (arith, e, l))
 ]
 
-pub returns-clause-stands : goal.returns-clause-stands
-returns-clause-stands c = λ b fs s. elim c.loop-self-test.branch [
+pub returns-clause-history : goal.returns-clause-history
+returns-clause-history c = λ b fs s. elim c.loop-self-test.branch [
   | else-loop-self-test w ↦ (finish_empty c.loop-self.self c.loop-self-test.self c.set_drained.new.self b fs w.self-is c.set_drained.ensures.drained
-      (omega (arith, c.held.ensures.value, w.loop-self-test.false)) (c.loop-self.invariant.stands b fs s)).0
+      (omega (arith, c.held.ensures.value, w.loop-self-test.false)) (c.loop-self.invariant.history b fs s)).0
   | then-loop-self-test+in-Open w ↦ (let o = from_open c.loop-self.self.has_ended c.loop-self.self.held w.in-Open.ensures.decision in
-      (finish_open c.loop-self.self w.decide.new.self c.loop-self-test.self c.set_drained.new.self b fs w.in-Open.ensures.examined w.self-is c.set_drained.ensures.drained o.2 o.1 (c.loop-self.invariant.stands b fs s)).0)
+      (finish_open c.loop-self.self w.decide.new.self c.loop-self-test.self c.set_drained.new.self b fs w.in-Open.ensures.examined w.self-is c.set_drained.ensures.drained o.2 o.1 (c.loop-self.invariant.history b fs s)).0)
 ]
 
 pub returns-clause-none : goal.returns-clause-none
 returns-clause-none c = λ b fs s. elim c.loop-self-test.branch [
   | else-loop-self-test w ↦ (finish_empty c.loop-self.self c.loop-self-test.self c.set_drained.new.self b fs w.self-is c.set_drained.ensures.drained
-      (omega (arith, c.held.ensures.value, w.loop-self-test.false)) (c.loop-self.invariant.stands b fs s)).1
+      (omega (arith, c.held.ensures.value, w.loop-self-test.false)) (c.loop-self.invariant.history b fs s)).1
   | then-loop-self-test+in-Open w ↦ (let o = from_open c.loop-self.self.has_ended c.loop-self.self.held w.in-Open.ensures.decision in
-      (finish_open c.loop-self.self w.decide.new.self c.loop-self-test.self c.set_drained.new.self b fs w.in-Open.ensures.examined w.self-is c.set_drained.ensures.drained o.2 o.1 (c.loop-self.invariant.stands b fs s)).1)
+      (finish_open c.loop-self.self w.decide.new.self c.loop-self-test.self c.set_drained.new.self b fs w.in-Open.ensures.examined w.self-is c.set_drained.ensures.drained o.2 o.1 (c.loop-self.invariant.history b fs s)).1)
 ]
 
 pub returns-clause-counts : goal.returns-clause-counts

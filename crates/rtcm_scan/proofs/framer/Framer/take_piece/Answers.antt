@@ -38,7 +38,7 @@ loop-fault-preserved g c =
           let d = c.in_default.ensures.whole s o ps (b ++ take n piece) k.0 k.2 in (
             known_frames c.drain_into.new.self.has_ended (b ++ take n piece),
             prefix_trans (known_frames c.args.self.now.has_ended b) k.0 (known_frames c.drain_into.new.self.has_ended (b ++ take n piece)) k.1
-                (subst (λ (e : Bool). IsPrefix k.0 (known_frames e (b ++ take n piece))) (sym end.ended) k.2.framer.stands.first),
+                (subst (λ (e : Bool). IsPrefix k.0 (known_frames e (b ++ take n piece))) (sym end.ended) k.2.framer.history.first),
             record {
               framer = subst (λ (l : List ℕ). HasExamined c.push_all.new.self l (known_frames c.drain_into.new.self.has_ended (b ++ take n piece))) (take_block b piece n m) (push.counts (b ++ take n piece) (known_frames c.drain_into.new.self.has_ended (b ++ take n piece)) d.passed.framer);
               taken = d.passed.taken;

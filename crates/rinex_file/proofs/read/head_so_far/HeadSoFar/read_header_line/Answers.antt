@@ -1,11 +1,11 @@
 use Rattle.std.proofs.Common.{◌≡◌, sym, subst, ℕ, List, Bool}
 use Rattle.rinex_file.specs.declared.header.rows.HeaderRow.{HeaderRow}
 use Rattle.rinex_file.specs.Read.Progress.{Known}
-use Rattle.rinex_file.specs.Read.HeaderSteps.{IsSole, LearnsOrRefuses}
+use Rattle.rinex_file.specs.Read.HeaderSteps.{IsOnly, ReadsOrRefuses}
 use Rattle.rinex_file.proofs.read.head_so_far.HeadSoFar.read_header_line.Goals as goal
 
-of_row : (r t : HeaderRow) (line : List ℕ) (old new : Known) (taken : Bool) → r ≡ t → LearnsOrRefuses t line old new taken → LearnsOrRefuses r line old new taken
-of_row r t line old new taken e l = subst (λ u. LearnsOrRefuses u line old new taken) (sym e) l
+of_row : (r t : HeaderRow) (line : List ℕ) (old new : Known) (taken : Bool) → r ≡ t → ReadsOrRefuses t line old new taken → ReadsOrRefuses r line old new taken
+of_row r t line old new taken e l = subst (λ u. ReadsOrRefuses u line old new taken) (sym e) l
 
 pub returns-in-Version : goal.returns-in-Version
 returns-in-Version c = of_row c.args.row _ c.args.line.now c.args.self.now c.read_systems.new.self c.read_systems.result c.in-Version.is c.read_systems.ensures
@@ -29,7 +29,7 @@ pub returns-in-Shift : goal.returns-in-Shift
 returns-in-Shift c = of_row c.args.row _ c.args.line.now c.args.self.now c.args.self.now c.is_shift.result c.in-Shift.is c.is_shift.ensures
 
 pub returns-in-Types : goal.returns-in-Types
-returns-in-Types c = absurd (subst IsSole c.in-Types.is c.requires)
+returns-in-Types c = absurd (subst IsOnly c.in-Types.is c.requires)
 
 pub returns-in-End : goal.returns-in-End
-returns-in-End c = absurd (subst IsSole c.in-End.is c.requires)
+returns-in-End c = absurd (subst IsOnly c.in-End.is c.requires)

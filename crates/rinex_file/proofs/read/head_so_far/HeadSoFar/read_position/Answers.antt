@@ -1,4 +1,4 @@
-use Rattle.rinex_file.proofs.HeaderLearned.{put_position, refuse_position}
+use Rattle.rinex_file.proofs.HeaderRead.{put_position, refuse_position}
 use Rattle.rinex_file.proofs.read.head_so_far.HeadSoFar.read_position.Goals as goal
 
 pub returns-in-Some : goal.returns-in-Some

@@ -6,7 +6,7 @@ use Rattle.rinex_file.specs.declared.header.rows.HeaderRow.{HeaderRow}
 use Rattle.rinex_file.specs.declared.header.rows.HeaderRow.TheVariants.{Version, Texts, Position, Delta, Types, StrengthUnit, First, Shift, End}
 use Rattle.rinex_file.specs.Header.{end_line}
 use Rattle.rinex_file.specs.Read.Progress.{Known, IsHeadAt}
-use Rattle.rinex_file.specs.Read.HeaderSteps.{IsSole, known_line, EndsHeader, NoneGoesOn}
+use Rattle.rinex_file.specs.Read.HeaderSteps.{IsOnly, known_line, EndsHeader, NoneGoesOn}
 use Rattle.rinex_file.proofs.HeaderEnd.{ends, no_end_line, ok_bad}
 use Rattle.rinex_file.proofs.HeaderTypes.{same_refusal}
 use Rattle.rinex_file.proofs.HeaderSteps.{step_at, none_at, last_at, types_few, types_place}
@@ -78,7 +78,7 @@ returns-in_ok-take_types-in-Types-clause-bad c e = absurd (ok_bad _ _ _ refl e)
 pub returns-else-not-is_header_line-clause-bad : goal.returns-else-not-is_header_line-clause-bad
 returns-else-not-is_header_line-clause-bad c e = absurd (ok_bad _ _ _ refl e)
 
-sole : (r : HeaderRow) → ((s : System) (i : ℕ) → r ≡ Types s i → ⊥) → (r ≡ End → ⊥) → IsSole r
+sole : (r : HeaderRow) → ((s : System) (i : ℕ) → r ≡ Types s i → ⊥) → (r ≡ End → ⊥) → IsOnly r
 sole Version other far = tt
 sole (Texts r) other far = tt
 sole Position other far = tt

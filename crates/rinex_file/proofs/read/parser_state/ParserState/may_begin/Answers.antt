@@ -9,8 +9,8 @@ not_none : (n : ℕ) → (n ≡ 0 → ⊥) → 0 < n
 not_none n some = omega (arith, some)
 
 pub returns : goal.returns
-returns c = λ h stands.
-    let follow = c.may_follow.ensures h.epochs stands.last (c.requires.between h stands).rising in (
+returns c = λ h history.
+    let follow = c.may_follow.ensures h.epochs history.last (c.requires.between h history).rising in (
       λ yes.
           let after = follow.0 yes in
           record {

@@ -17,34 +17,34 @@ same_back : (x y z : ℤ) (h : ℕ) → FitsSigned w64 x → FitsSigned w64 y �
 same_back x y z h a b c = grind (arith, to_z-of_z)
 
 pub returns-in_default-clause-takes : goal.returns-in_default-clause-takes
-returns-in_default-clause-takes c = λ h stands. no_height (progress_at c.args.self.now h) c.args.x c.args.y c.args.z c.args.line.now c.requires.expected c.in_default.ensures
+returns-in_default-clause-takes c = λ h history. no_height (progress_at c.args.self.now h) c.args.x c.args.y c.args.z c.args.line.now c.requires.expected c.in_default.ensures
 
 pub returns-then-is_same-clause-takes : goal.returns-then-is_same-clause-takes
-returns-then-is_same-clause-takes c = λ h stands.
+returns-then-is_same-clause-takes c = λ h history.
     let s = progress_at c.args.self.now h in
     let height = c.in-Some.height in
     let same = same_back c.args.x c.args.y c.args.z height c.ranges.x c.ranges.y c.ranges.z in
     same_height s c.args.x c.args.y c.args.z c.args.line.now c.requires.expected height c.in-Some.ensures.2
-    (sym same ∙ c.is_same.ensures.exact.0 c.if-is_same.true ∙ c.station_values.ensures ∙ stands.values c.args.self.now.head.shown.values)
+    (sym same ∙ c.is_same.ensures.exact.0 c.if-is_same.true ∙ c.station_values.ensures ∙ history.values c.args.self.now.head.shown.values)
 
 pub returns-clause-takes : goal.returns-clause-takes
-returns-clause-takes c = λ h stands.
+returns-clause-takes c = λ h history.
     let s = progress_at c.args.self.now h in
     let height = c.in-Some.height in
     let same = same_back c.args.x c.args.y c.args.z height c.ranges.x c.ranges.y c.ranges.z in
     let w = values_with (back c.args.x) (back c.args.y) (back c.args.z) height in
-    let now = c.station_values.ensures ∙ stands.values c.args.self.now.head.shown.values in
+    let now = c.station_values.ensures ∙ history.values c.args.self.now.head.shown.values in
     record {
-      stands = record {
+      history = record {
         sound = subst (λ (u : StationValues). IsSound (expected_next s (EventEpoch u))) (sym same)
-            (sound_height s c.args.x c.args.y c.args.z height c.requires.expected stands.sound c.in-Some.ensures.0
+            (sound_height s c.args.x c.args.y c.args.z height c.requires.expected history.sound c.in-Some.ensures.0
             (λ other. refused c.is_same.result _ c.is_same.ensures.exact c.if-is_same.false (same ∙ other ∙ sym now)));
-        last = stands.last;
-        rank = stands.rank;
-        epochs = stands.epochs;
-        satellites = stands.satellites;
-        events = stands.events;
-        values = stands.values;
+        last = history.last;
+        rank = history.rank;
+        epochs = history.epochs;
+        satellites = history.satellites;
+        events = history.events;
+        values = history.values;
       };
       follows = height_taken s c.args.x c.args.y c.args.z c.args.line.now c.requires.expected height c.in-Some.ensures.2 w same;
       shows = height_shows s c.args.x c.args.y c.args.z height w c.args.line.now c.requires.expected c.in-Some.ensures.1 same;

@@ -17,8 +17,8 @@ use Rattle.rinex_file.proofs.read.parser_state.ParserState.take_satellite.Goals 
 
 pub read_seen-requires-clause-few : goal.read_seen-requires-clause-few
 read_seen-requires-clause-few c =
-    let (h, stands) = c.requires.stands in
-    let (gps, galileo) = few_at (progress_at c.args.self.now h) c.args.left c.requires.expected stands.sound in
+    let (h, history) = c.requires.history in
+    let (gps, galileo) = few_at (progress_at c.args.self.now h) c.args.left c.requires.expected history.sound in
     let g = c.planned-gps.ensures in
     let e = c.planned-galileo.ensures in
     (omega (arith, gps, g), omega (arith, galileo, e))
@@ -38,20 +38,20 @@ shows : (g e gps galileo : ℕ) (line : List ℕ) (r b : Bool) (seen : Satellite
 shows g e gps galileo line r b seen x y z h = grind arith
 
 pub returns-then-not-read_seen-clause-takes : goal.returns-then-not-read_seen-clause-takes
-returns-then-not-read_seen-clause-takes c = λ h stands.
+returns-then-not-read_seen-clause-takes c = λ h history.
     let s = progress_at c.args.self.now h in
-    let some = (sound_open s c.args.left c.requires.expected stands.sound).2 in
+    let some = (sound_open s c.args.left c.requires.expected history.sound).2 in
     no_row s (c.args.left - 1) c.args.line.now (one_expected c.args.left s c.requires.expected some)
     (shows c.planned-gps.result c.planned-galileo.result _ _ c.args.line.now c.read_seen.result false c.read_seen.new.seen c.planned-gps.ensures c.planned-galileo.ensures c.if-not-read_seen.true c.read_seen.ensures)
 
 pub returns-then-not-is_after-clause-takes : goal.returns-then-not-is_after-clause-takes
-returns-then-not-is_after-clause-takes c = λ h stands.
+returns-then-not-is_after-clause-takes c = λ h history.
     let s = progress_at c.args.self.now h in
-    let (read, begun, some, room) = sound_open s c.args.left c.requires.expected stands.sound in
+    let (read, begun, some, room) = sound_open s c.args.left c.requires.expected history.sound in
     let shown = shows c.planned-gps.result c.planned-galileo.result (length s.known.shown.plan.gps) (length s.known.shown.plan.galileo) c.args.line.now c.read_seen.result true c.read_seen.new.seen
     c.planned-gps.ensures c.planned-galileo.ensures c.if-not-read_seen.false c.read_seen.ensures in
     bad_row s (c.args.left - 1) c.args.line.now (one_expected c.args.left s c.requires.expected some) c.read_seen.new.seen shown.2
-    (λ rise. refused c.is_after.result _ (c.is_after.ensures (map rank_of h.rows) stands.rank begun.rows.rise) c.if-not-is_after.true
+    (λ rise. refused c.is_after.result _ (c.is_after.ensures (map rank_of h.rows) history.rank begun.rows.rise) c.if-not-is_after.true
     (subst (λ (n : ℕ). IsStrictlyIncreasing (map rank_of h.rows ++ n ∷ [])) (sym c.rank_of-rank.ensures) rise))
 
 rises : (xs : List ℕ) (n k : ℕ) → n ≡ k → IsStrictlyIncreasing (xs ++ n ∷ []) → IsStrictlyIncreasing (xs ++ k ∷ [])
@@ -74,49 +74,49 @@ event_counted : (es : List Stamped) (e : Stamped) (n k : ℕ) → k ≡ changes_
 event_counted es e n k one all = grind (arith, sum_by-append)
 
 pub returns-then-left-gt1-clause-takes : goal.returns-then-left-gt1-clause-takes
-returns-then-left-gt1-clause-takes c = λ h stands.
+returns-then-left-gt1-clause-takes c = λ h history.
     let s = progress_at c.args.self.now h in
     let seen = c.read_seen.new.seen in
-    let (read, begun, some, room) = sound_open s c.args.left c.requires.expected stands.sound in
+    let (read, begun, some, room) = sound_open s c.args.left c.requires.expected history.sound in
     let shown = shows c.planned-gps.result c.planned-galileo.result (length s.known.shown.plan.gps) (length s.known.shown.plan.galileo) c.args.line.now c.read_seen.result true seen
     c.planned-gps.ensures c.planned-galileo.ensures c.if-not-read_seen.false c.read_seen.ensures in
     let rise = rises (map rank_of h.rows) c.rank_of-rank.result (rank_of seen) c.rank_of-rank.ensures
-    ((c.is_after.ensures (map rank_of h.rows) stands.rank begun.rows.rise).0 c.if-not-is_after.false) in
+    ((c.is_after.ensures (map rank_of h.rows) history.rank begun.rows.rise).0 c.if-not-is_after.false) in
     let more : 0 < c.args.left - 1 = let n = c.if-left-gt1.true in omega (arith, n) in
     record {
-      stands = record {
-        sound = sound_row s (c.args.left - 1) c.args.left c.requires.expected stands.sound seen shown.0 rise more (one_left c.args.left some);
-        last = stands.last;
+      history = record {
+        sound = sound_row s (c.args.left - 1) c.args.left c.requires.expected history.sound seen shown.0 rise more (one_left c.args.left some);
+        last = history.last;
         rank = ends rank_of h.rows seen c.rank_of-rank.result c.rank_of-rank.ensures;
-        epochs = stands.epochs;
-        satellites = row_counted h.epochs h.rows seen c.args.self.now.satellites stands.satellites;
-        events = stands.events;
-        values = stands.values;
+        epochs = history.epochs;
+        satellites = row_counted h.epochs h.rows seen c.args.self.now.satellites history.satellites;
+        events = history.events;
+        values = history.values;
       };
       follows = row_taken s (c.args.left - 1) c.args.line.now (one_expected c.args.left s c.requires.expected some) seen shown.1 shown.2;
       shows = row_shows s (c.args.left - 1) c.args.line.now (one_expected c.args.left s c.requires.expected some) seen shown.1;
     }
 
 pub returns-clause-takes : goal.returns-clause-takes
-returns-clause-takes c = λ h stands.
+returns-clause-takes c = λ h history.
     let s = progress_at c.args.self.now h in
     let seen = c.read_seen.new.seen in
-    let (read, begun, some, room) = sound_open s c.args.left c.requires.expected stands.sound in
+    let (read, begun, some, room) = sound_open s c.args.left c.requires.expected history.sound in
     let shown = shows c.planned-gps.result c.planned-galileo.result (length s.known.shown.plan.gps) (length s.known.shown.plan.galileo) c.args.line.now c.read_seen.result true seen
     c.planned-gps.ensures c.planned-galileo.ensures c.if-not-read_seen.false c.read_seen.ensures in
     let rise = rises (map rank_of h.rows) c.rank_of-rank.result (rank_of seen) c.rank_of-rank.ensures
-    ((c.is_after.ensures (map rank_of h.rows) stands.rank begun.rows.rise).0 c.if-not-is_after.false) in
+    ((c.is_after.ensures (map rank_of h.rows) history.rank begun.rows.rise).0 c.if-not-is_after.false) in
     let last : c.args.left ≡ suc 0 = let n = c.if-left-gt1.false in omega (arith, n, some) in
     let epoch = stamped_at c.args.self.now.change c.args.self.now.time (h.rows ++ seen ∷ []) in
     record {
-      stands = record {
-        sound = sound_closed s 0 c.args.left c.requires.expected stands.sound seen shown.0 rise;
+      history = record {
+        sound = sound_closed s 0 c.args.left c.requires.expected history.sound seen shown.0 rise;
         last = ends time_stamped h.epochs epoch c.milliseconds.result c.milliseconds.ensures.value;
         rank = refl;
-        epochs = one_longer h.epochs epoch c.args.self.now.epochs stands.epochs;
-        satellites = epoch_counted h.epochs epoch h.rows seen c.args.self.now.satellites refl stands.satellites;
-        events = event_counted h.epochs epoch c.args.self.now.events c.changes_of.result c.changes_of.ensures stands.events;
-        values = λ v. c.changed_by-self.ensures v ∙ ap (λ (w : StationValues). changed_by w c.args.self.now.change) (stands.values v) ∙ sym (values_more v h.epochs epoch);
+        epochs = one_longer h.epochs epoch c.args.self.now.epochs history.epochs;
+        satellites = epoch_counted h.epochs epoch h.rows seen c.args.self.now.satellites refl history.satellites;
+        events = event_counted h.epochs epoch c.args.self.now.events c.changes_of.result c.changes_of.ensures history.events;
+        values = λ v. c.changed_by-self.ensures v ∙ ap (λ (w : StationValues). changed_by w c.args.self.now.change) (history.values v) ∙ sym (values_more v h.epochs epoch);
       };
       follows = last_taken s c.args.line.now (c.requires.expected ∙ ap Satellite last) seen shown.1 shown.2;
       shows = last_shows s c.args.line.now (c.requires.expected ∙ ap Satellite last) seen shown.1;

@@ -21,22 +21,22 @@ returns-then-may_end-clause-goes g c = λ h input read.
     let s = progress_at parser_state h in
     let end = c.in-End.ensures in
     let (expected, counted) = c.may_end.ensures.0 c.if-may_end.true in
-    let some : 0 < length h.epochs = subst (λ (n : ℕ). 0 < n) read.stands.epochs counted in
-    let lines = file_shown s read.taken.lines expected read.stands.sound some read.taken.stands.are in
+    let some : 0 < length h.epochs = subst (λ (n : ℕ). 0 < n) read.history.epochs counted in
+    let lines = file_shown s read.taken.lines expected read.history.sound some read.taken.history.are in
     record {
-      is = file_read s expected read.stands.sound some;
+      is = file_read s expected read.history.sound some;
       few = few_lines _ read.taken.lines _ lines read.taken.many c.requires.within.1;
       text = whole lines_are_lines s c.args.self.now.count input _ _ c.next_line.new.line.items _ read.taken lines end.found.0 end.found.1 end.taken (only_file s expected);
-      stands = read.stands;
-      none = sound_rows s expected read.stands.sound;
+      history = read.history;
+      none = sound_rows s expected read.history.sound;
     }
 
 pub returns-else-may_end-clause-goes : goal.returns-else-may_end-clause-goes
 returns-else-may_end-clause-goes g c = λ h input read.
     let parser_state = c.args.self.now.parser_state in
     let end = c.in-End.ensures in
-    cut_after lines_are_lines (progress_at parser_state h) c.args.self.now.count input _ _ c.next_line.new.line.items read.taken (begun _ _ _ _ read.taken read.stands.sound) end.found.0 end.found.1 end.taken
-    (unfinished parser_state h read.stands (judged c.may_end.result _ c.may_end.ensures c.if-may_end.false))
+    cut_after lines_are_lines (progress_at parser_state h) c.args.self.now.count input _ _ c.next_line.new.line.items read.taken (begun _ _ _ _ read.taken read.history.sound) end.found.0 end.found.1 end.taken
+    (unfinished parser_state h read.history (judged c.may_end.result _ c.may_end.ensures c.if-may_end.false))
 
 pub returns-in-Cut-clause-goes : goal.returns-in-Cut-clause-goes
 returns-in-Cut-clause-goes g c = λ h input read.
@@ -45,7 +45,7 @@ returns-in-Cut-clause-goes g c = λ h input read.
     let cut = c.in-Cut.ensures in
     let bytes = c.next_line.new.line.items in
     after_fault s n input _ _ bytes (CutShort (n + 1)) c.fault_after.result read.taken cut.found.0 cut.taken c.fault_after.ensures
-    (cut_within lines_are_lines s n input _ _ bytes read.taken (begun _ _ _ _ read.taken read.stands.sound) cut.found.0 cut.found.2 cut.found.3 cut.taken)
+    (cut_within lines_are_lines s n input _ _ bytes read.taken (begun _ _ _ _ read.taken read.history.sound) cut.found.0 cut.found.2 cut.found.3 cut.taken)
 
 pub returns-in-Long-clause-goes : goal.returns-in-Long-clause-goes
 returns-in-Long-clause-goes g c = λ h input read.
@@ -56,18 +56,18 @@ returns-in-Long-clause-goes g c = λ h input read.
     after_fault s n input _ _ bytes c.fault_at.result c.fault_after-in-Long.result read.taken (long_some bytes long.found.0) long.taken c.fault_after-in-Long.ensures
     (said_of input (λ text. IsFaulty text (n + 1) × IsExpectedAt c.expected.result text (n + 1)) _ (λ text both. c.fault_at.ensures.faulty text both.0 both.1)
     (both_said input (λ text. IsFaulty text (n + 1)) (λ text. IsExpectedAt c.expected.result text (n + 1)) (over_long s n input _ _ bytes read.taken long.found.0 long.found.1 long.taken)
-    (expected_at c.args.self.now.parser_state h c.expected.result n input _ read.taken c.expected.ensures read.stands)))
+    (expected_at c.args.self.now.parser_state h c.expected.result n input _ read.taken c.expected.ensures read.history)))
 
 pub returns-in-Ok-clause-goes : goal.returns-in-Ok-clause-goes
 returns-in-Ok-clause-goes g c = λ h input read.
     let old = progress_at c.args.self.now.parser_state h in
     let new = progress_at c.take.new.self (with_line c.in-Ok.added c.take.new.self h) in
     let line = c.next_line.new.line.items in
-    let next = c.in-Ok.ensures.takes h read.stands in
+    let next = c.in-Ok.ensures.takes h read.history in
     record {
       taken = one_more old new c.args.self.now.count input _ _ line read.taken c.in-Line.ensures.found c.in-Line.ensures.taken (subst (GoesOnWithLine old new) c.as_slice.ensures.value next.follows)
           (subst (ShowsLine old new) c.as_slice.ensures.value next.shows);
-      stands = next.stands;
+      history = next.history;
     }
 
 pub returns-in-Err-Bad-clause-goes : goal.returns-in-Err-Bad-clause-goes
@@ -78,8 +78,8 @@ returns-in-Err-Bad-clause-goes g c = λ h input read.
     let takes = subst (λ (r : Refusal). TakesLine c.args.self.now.parser_state c.take.new.self c.as_slice.result.now (Err r)) c.in-Err-Bad.field-0-is c.in-Err-Bad.ensures.takes in
     said_of input (λ text. IsFaulty text (n + 1) × IsExpectedAt c.expected-expected.result text (n + 1)) _ (λ text both. c.fault_at-in-Err-Bad.ensures.faulty text both.0 both.1)
     (both_said input (λ text. IsFaulty text (n + 1)) (λ text. IsExpectedAt c.expected-expected.result text (n + 1))
-    (refused lines_are_lines s n input _ _ line read.taken c.in-Line.ensures.found c.in-Line.ensures.taken (subst (RefusesLine s) c.as_slice.ensures.value (takes h read.stands)))
-    (expected_at c.args.self.now.parser_state h c.expected-expected.result n input _ read.taken c.expected-expected.ensures read.stands))
+    (refused lines_are_lines s n input _ _ line read.taken c.in-Line.ensures.found c.in-Line.ensures.taken (subst (RefusesLine s) c.as_slice.ensures.value (takes h read.history)))
+    (expected_at c.args.self.now.parser_state h c.expected-expected.result n input _ read.taken c.expected-expected.ensures read.history))
 
 room_more : (c : ParserState) (n m : ℕ) → HasRoom c n → n ≤ m → HasRoom c m
 room_more c n m (epochs, satellites, events) more = (le_trans epochs more, le_trans satellites more, le_trans events more)

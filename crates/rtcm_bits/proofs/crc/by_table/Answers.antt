@@ -1,5 +1,5 @@
 use Rattle.rtcm_bits.proofs.TableLemmas.{table_step, table_below, moved_up}
-use Rattle.rtcm_bits.proofs.check.by_table.Goals as goal
+use Rattle.rtcm_bits.proofs.crc.by_table.Goals as goal
 
 pub returns-clause-bound : goal.returns-clause-bound
 returns-clause-bound c = table_below c.args.register c.entry.result _ c.entry.ensures.value

@@ -18,7 +18,7 @@ use Rattle.rinex_file.specs.Lines.{letter_of}
 use Rattle.rinex_file.specs.Read.Fields.{ReadsExactly}
 use Rattle.rinex_file.specs.Read.Texts.{ReadsPosition}
 use Rattle.rinex_file.specs.Read.Progress.{Known, Shown, IsReadTo, IsOnlyTime, HasReadRows, shown_with, shown_line, lines_before, signals_begun, version_with, is_some_planned}
-use Rattle.rinex_file.specs.Read.HeaderSteps.{LearnsLine, RefusesHeaderLine, LearnsOrRefuses, ReadsTexts, RefusesTexts, with_texts, with_values, with_first, with_systems}
+use Rattle.rinex_file.specs.Read.HeaderSteps.{ReadsHeaderLine, RefusesHeaderLine, ReadsOrRefuses, ReadsTexts, RefusesTexts, with_texts, with_values, with_first, with_systems}
 use Rattle.rinex_file.proofs.HeaderText.{same_line}
 use Rattle.rinex_file.proofs.HeaderAgree.{rows_when, version_same, some_in, types_low}
 use Rattle.rinex_file.proofs.HeaderSteps.{IsOutside, outside_low, outside_high, reads_next, present}
@@ -28,8 +28,8 @@ false_true : IsTrue false → ⊥
 false_true e = cc
 
 -- what was known before, by another name
-pub put : (r : HeaderRow) (line : List ℕ) (old k new : Known) → k ≡ old → LearnsLine r line k new → LearnsLine r line old new
-put r line old k new e l = subst (λ o. LearnsLine r line o new) e l
+pub put : (r : HeaderRow) (line : List ℕ) (old k new : Known) → k ≡ old → ReadsHeaderLine r line k new → ReadsHeaderLine r line old new
+put r line old k new e l = subst (λ o. ReadsHeaderLine r line o new) e l
 
 -- the rows before and the next one were read
 next : (k : Known) (after n : ℕ) → IsOutside n → 0 < n → (22 < suc n → HasReadRows k n → IsOnlyTime after) → HasReadRows k n
@@ -70,9 +70,9 @@ text_low row.Observer = lit≤ tt
 text_low row.Receiver = lit≤ tt
 text_low row.Antenna = lit≤ tt
 
-pub learn_texts : (r : TextRow) (line : List ℕ) (k : Known) (x : HeaderLists) → ReadsTexts r line k.shown.texts x → LearnsLine (Texts r) line k (with_texts k x)
+pub line_texts : (r : TextRow) (line : List ℕ) (k : Known) (x : HeaderLists) → ReadsTexts r line k.shown.texts x → ReadsHeaderLine (Texts r) line k (with_texts k x)
 unfolding row_line
-learn_texts r line k x read rows known =
+line_texts r line k x read rows known =
     let low = text_low r in
     record {
       plans = λ p may. may;
@@ -89,10 +89,10 @@ refuse_texts r line refuses h is e = refuses h.texts is.texts e
 
 -- ---- station values
 
-pub learn_position : (k : Known) (x y z : ℤ) (line : List ℕ) → ReadsPosition line (Some (x, y, z))
-    → LearnsLine Position line k (with_values k (record { x = x; y = y; z = z; height = k.shown.values.height }))
+pub line_position : (k : Known) (x y z : ℤ) (line : List ℕ) → ReadsPosition line (Some (x, y, z))
+    → ReadsHeaderLine Position line k (with_values k (record { x = x; y = y; z = z; height = k.shown.values.height }))
 unfolding row_line
-learn_position k x y z line r rows known = record {
+line_position k x y z line r rows known = record {
   plans = λ p may. may;
   before = λ p. refl;
   shows = λ p may. ap (λ l. l ∷ []) (sym r.1);
@@ -106,10 +106,10 @@ refuse_position line r h is e = r (h.values.x, h.values.y, h.values.z) (is.value
 abbrev Height : List ℕ → Option ℕ → Type 0
 Height line r = ReadsExactly (λ h. h < 2 ^ 16) (λ h. header_line (lengths (pos h) (pos 0) (pos 0)) (codes "ANTENNA: DELTA H/E/N")) line r
 
-pub learn_delta : (k : Known) (height : ℕ) (line : List ℕ) → Height line (Some height)
-    → LearnsLine Delta line k (with_values k (record { x = k.shown.values.x; y = k.shown.values.y; z = k.shown.values.z; height = height }))
+pub line_delta : (k : Known) (height : ℕ) (line : List ℕ) → Height line (Some height)
+    → ReadsHeaderLine Delta line k (with_values k (record { x = k.shown.values.x; y = k.shown.values.y; z = k.shown.values.z; height = height }))
 unfolding row_line
-learn_delta k height line r rows known = record {
+line_delta k height line r rows known = record {
   plans = λ p may. may;
   before = λ p. refl;
   shows = λ p may. ap (λ l. l ∷ []) (sym r.1);
@@ -122,9 +122,9 @@ refuse_delta line r h is e = r h.values.height is.values.height (sym e)
 
 -- ---- the first epoch
 
-pub learn_first : (k : Known) (t : ℕ) (line : List ℕ) → ReadsExactly IsTime (λ t. first_line (civil_of t)) line (Some t) → LearnsLine First line k (with_first k t)
+pub line_first : (k : Known) (t : ℕ) (line : List ℕ) → ReadsExactly IsTime (λ t. first_line (civil_of t)) line (Some t) → ReadsHeaderLine First line k (with_first k t)
 unfolding row_line
-learn_first k t line r rows known = record {
+line_first k t line r rows known = record {
   plans = λ p may. may;
   before = λ p. refl;
   shows = λ p may. ap (λ l. l ∷ []) (sym r.1);
@@ -137,27 +137,27 @@ refuse_first line r h is e = r h.first is.first (sym e)
 
 -- ---- lines that are always the same
 
-learn_fixed : (r : HeaderRow) (text line : List ℕ) (k : Known) (b : Bool) → ((h : Shown) → shown_line h r ≡ text) → 20 < row_place r → row_place r ≢ 22
-    → (IsTrue b ↔ (line ≡ text)) → LearnsOrRefuses r line k k b
-learn_fixed r text line k true shows far other is = λ rows known. record {
+line_fixed : (r : HeaderRow) (text line : List ℕ) (k : Known) (b : Bool) → ((h : Shown) → shown_line h r ≡ text) → 20 < row_place r → row_place r ≢ 22
+    → (IsTrue b ↔ (line ≡ text)) → ReadsOrRefuses r line k k b
+line_fixed r text line k true shows far other is = λ rows known. record {
   plans = λ p may. may;
   before = λ p. refl;
   shows = λ p may. rows_when (shown_with k p) r true (present r k p may rows ∙ known) ∙ ap (λ l. l ∷ []) (shows (shown_with k p) ∙ sym (is.0 refl));
   reads = next k k.shown.first (row_place r) (outside_high (row_place r) far) (omega (arith, far)) (λ l read. read.only (omega (arith, l, other))) rows;
 }
-learn_fixed r text line k false shows far other is = λ h shown e. false_true (is.1 (sym e ∙ shows h))
+line_fixed r text line k false shows far other is = λ h shown e. false_true (is.1 (sym e ∙ shows h))
 
-pub learn_unit : (k : Known) (line : List ℕ) (b : Bool) → (IsTrue b ↔ (line ≡ strength_line)) → LearnsOrRefuses StrengthUnit line k k b
+pub line_unit : (k : Known) (line : List ℕ) (b : Bool) → (IsTrue b ↔ (line ≡ strength_line)) → ReadsOrRefuses StrengthUnit line k k b
 unfolding row_line
-learn_unit k line b is = learn_fixed StrengthUnit strength_line line k b (λ h. refl) (lit≤ tt) (λ e. absurd (omega (arith, e))) is
+line_unit k line b is = line_fixed StrengthUnit strength_line line k b (λ h. refl) (lit≤ tt) (λ e. absurd (omega (arith, e))) is
 
-pub learn_shift : (system : System) (letter : ℕ) (k : Known) (line : List ℕ) (b : Bool) → letter ≡ letter_of system
-    → (IsTrue b ↔ (line ≡ header_line (letter ∷ []) (codes "SYS / PHASE SHIFT"))) → LearnsOrRefuses (Shift system) line k k b
+pub line_shift : (system : System) (letter : ℕ) (k : Known) (line : List ℕ) (b : Bool) → letter ≡ letter_of system
+    → (IsTrue b ↔ (line ≡ header_line (letter ∷ []) (codes "SYS / PHASE SHIFT"))) → ReadsOrRefuses (Shift system) line k k b
 unfolding row_line
-learn_shift system letter k line b e is = by system (subst (λ l. IsTrue b ↔ (line ≡ header_line (l ∷ []) (codes "SYS / PHASE SHIFT"))) e is) where
-  by : (s : System) → (IsTrue b ↔ (line ≡ shift_line s)) → LearnsOrRefuses (Shift s) line k k b
-  by Gps is = learn_fixed (Shift Gps) (shift_line Gps) line k b (λ h. refl) (lit≤ tt) (λ e. absurd (omega (arith, e))) is
-  by Galileo is = learn_fixed (Shift Galileo) (shift_line Galileo) line k b (λ h. refl) (lit≤ tt) (λ e. absurd (omega (arith, e))) is
+line_shift system letter k line b e is = by system (subst (λ l. IsTrue b ↔ (line ≡ header_line (l ∷ []) (codes "SYS / PHASE SHIFT"))) e is) where
+  by : (s : System) → (IsTrue b ↔ (line ≡ shift_line s)) → ReadsOrRefuses (Shift s) line k k b
+  by Gps is = line_fixed (Shift Gps) (shift_line Gps) line k b (λ h. refl) (lit≤ tt) (λ e. absurd (omega (arith, e))) is
+  by Galileo is = line_fixed (Shift Galileo) (shift_line Galileo) line k b (λ h. refl) (lit≤ tt) (λ e. absurd (omega (arith, e))) is
 
 -- ---- version and systems
 
@@ -167,9 +167,9 @@ Systems line r = ReadsExactly (λ (p : Bool × Bool). (p.0 || p.1) ≡ true) (λ
 no_both : (b : Bool) → b ≡ true → b ≡ false → ⊥
 no_both b h k = cc
 
-pub learn_version : (k : Known) (gps galileo : Bool) (line : List ℕ) → Systems line (Some (gps, galileo)) → LearnsLine Version line k (with_systems k gps galileo)
+pub line_version : (k : Known) (gps galileo : Bool) (line : List ℕ) → Systems line (Some (gps, galileo)) → ReadsHeaderLine Version line k (with_systems k gps galileo)
 unfolding row_line
-learn_version k gps galileo line r rows known = record {
+line_version k gps galileo line r rows known = record {
   plans = λ p may. record {
     is = may.is;
     systems = λ s some. absurd (no_both (k.gps || k.galileo) some (rows.fresh refl));
@@ -201,11 +201,11 @@ pub coordinate_same : (z : ℤ) → IsCoordinate z → to_z w64 (of_z w64 z) ≡
 coordinate_same z is = grind (arith, to_z-of_z, neg_ℤ)
 
 pub put_position : (line : List ℕ) (old k : Known) (x y z : ℤ) → k ≡ old → ReadsPosition line (Some (x, y, z))
-    → LearnsLine Position line old
+    → ReadsHeaderLine Position line old
     (with_values k (record { x = to_z w64 (of_z w64 x); y = to_z w64 (of_z w64 y); z = to_z w64 (of_z w64 z); height = k.shown.values.height }))
 put_position line old k x y z e r =
     let made = λ (a b c : ℤ). with_values k (record { x = a; y = b; z = c; height = k.shown.values.height }) in
     put Position line old k _ e
-    (subst (λ a. LearnsLine Position line k (made a (to_z w64 (of_z w64 y)) (to_z w64 (of_z w64 z)))) (sym (coordinate_same x r.0.0))
-    (subst (λ b. LearnsLine Position line k (made x b (to_z w64 (of_z w64 z)))) (sym (coordinate_same y r.0.1))
-    (subst (λ c. LearnsLine Position line k (made x y c)) (sym (coordinate_same z r.0.2)) (learn_position k x y z line r))))
+    (subst (λ a. ReadsHeaderLine Position line k (made a (to_z w64 (of_z w64 y)) (to_z w64 (of_z w64 z)))) (sym (coordinate_same x r.0.0))
+    (subst (λ b. ReadsHeaderLine Position line k (made x b (to_z w64 (of_z w64 z)))) (sym (coordinate_same y r.0.1))
+    (subst (λ c. ReadsHeaderLine Position line k (made x y c)) (sym (coordinate_same z r.0.2)) (line_position k x y z line r))))

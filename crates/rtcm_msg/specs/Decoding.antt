@@ -2,7 +2,7 @@
 use Rattle.std.specs.Prelude.{ℕ, ◌%◌, ◌==◌, ◌&&◌, nat_lt, nat_le, if◌then◌else◌, Bool, true, false, List, length}
 use Rattle.std.specs.Prelude.{Option, Some, None, Result, Ok}
 use Rattle.rtcm_bits.specs.Bits.{bits_of}
-use Rattle.rtcm_bits.specs.Reading.{Cursor, advanced, unsigned_at}
+use Rattle.rtcm_bits.specs.Cursors.{Cursor, advanced, unsigned_at}
 use Rattle.rtcm_msg.specs.declared.fault.MsgFault.{MsgFault}
 use Rattle.rtcm_msg.specs.declared.message.Message.{Message}
 use Rattle.rtcm_msg.specs.Fields.{number_at, ◌>>=◌}

@@ -31,5 +31,5 @@ unfoldable pub bits_remainder : List Bool → List Bool
 bits_remainder m = remainder (length m) (m ++ replicate 24 false)
 
 -- the CRC of these bytes, a number of 24 bits
-unfoldable pub check : List ℕ → ℕ
-check m = number (bits_remainder (bits_of m))
+unfoldable pub crc : List ℕ → ℕ
+crc m = number (bits_remainder (bits_of m))

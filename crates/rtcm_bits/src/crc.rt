@@ -2,7 +2,7 @@
 //! 0, most significant bit first, no final exclusive or.
 ghost use Rattle.std.specs.Prelude.{◌≡◌, ◌^◌, ◌<◌, List, ℕ, [], ◌∷◌, ◌++◌, length};
 ghost use Rattle.rtcm_bits.specs.Bits.{uint, bits_of};
-ghost use Rattle.rtcm_bits.specs.Check.{check};
+ghost use Rattle.rtcm_bits.specs.Crc.{crc};
 ghost use Rattle.rtcm_bits.specs.Register.{after_bits};
 
 use crate::tables::entry;
@@ -25,21 +25,21 @@ impl Model for CheckRegister {
 impl CheckRegister {
     /// Returns the register after no bytes.
     pub fn new() -> CheckRegister
-        ensures { result ≡ check [] }
+        ensures { result ≡ crc [] }
     {
         CheckRegister { register: 0 }
     }
 
     /// Processes one more byte.
     pub fn take(&mut self, byte: u8)
-        ensures { (bytes : List ℕ) → self.old ≡ check bytes → self.new ≡ check (bytes ++ byte ∷ []) }
+        ensures { (bytes : List ℕ) → self.old ≡ crc bytes → self.new ≡ crc (bytes ++ byte ∷ []) }
     {
         self.register = by_table(self.register, byte);
     }
 
     /// Processes these bytes, one after the other.
     pub fn take_all(&mut self, bytes: &[u8])
-        ensures { (front : List ℕ) → self.old ≡ check front → self.new ≡ check (front ++ bytes.now) }
+        ensures { (front : List ℕ) → self.old ≡ crc front → self.new ≡ crc (front ++ bytes.now) }
     {
         self.register = after_all(self.register, bytes);
     }
@@ -55,7 +55,7 @@ impl CheckRegister {
 
 /// Returns the CRC-24Q of these bytes, 24 bits.
 pub fn crc24q(bytes: &[u8]) -> u32
-    ensures value { result ≡ check bytes.now }
+    ensures value { result ≡ crc bytes.now }
     ensures bound { result < 2 ^ 24 }
 {
     let mut register = CheckRegister::new();

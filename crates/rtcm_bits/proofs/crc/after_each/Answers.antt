@@ -3,7 +3,7 @@ use Rattle.std.proofs.lemmas.List.{take_more, take_all}
 use Rattle.rtcm_bits.specs.Bits.{uint, bits_of}
 use Rattle.rtcm_bits.specs.Register.{after_bits}
 use Rattle.rtcm_bits.proofs.RegisterLemmas.{steps_push, no_steps}
-use Rattle.rtcm_bits.proofs.check.after_each.Goals as goal
+use Rattle.rtcm_bits.proofs.crc.after_each.Goals as goal
 
 pub loop-byte-init : goal.loop-byte-init
 loop-byte-init c = record { bound = c.requires; steps = no_steps (uint 24 c.args.register) }

@@ -1,5 +1,5 @@
 use Rattle.rtcm_bits.proofs.EightLemmas.{eight_right}
-use Rattle.rtcm_bits.proofs.check.after_eight.Goals as goal
+use Rattle.rtcm_bits.proofs.crc.after_eight.Goals as goal
 
 pub returns-clause-bound : goal.returns-clause-bound
 returns-clause-bound c = (eight_right c.args.register c.args.bytes.now c.entry.result c.entry-2.result c.entry-3.result c.entry-4.result c.entry-5.result c.entry-6.result c.entry-7.result c.entry-8.result

@@ -43,5 +43,5 @@ counts_of_message s xs m =
     option_map_or (λ u. with_skipped m.unlisted (counts_of s (offered s u xs) m.cells)) (taken_at s xs m) no_counts
 
 -- The epoch, if the call closed one.
-abbrev pub handed_out : Bool → EpochValue → List EpochValue
-handed_out closed e = if closed then e ∷ [] else []
+abbrev pub closed_epoch : Bool → EpochValue → List EpochValue
+closed_epoch closed e = if closed then e ∷ [] else []
