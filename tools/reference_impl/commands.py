@@ -1,7 +1,5 @@
 """The commands: the lines printed for the bytes of a stream."""
-import re
-
-from .epochs import Gathered, Plan, Setup, StationValues
+from .epochs import Gathered, Setup
 from .frames import frames_of
 from .lines import epoch_lines, event_lines, fixed, has_value, header
 from .messages import SIGNALS, Message, Msm, Refused, Station, decode, number_of
@@ -104,42 +102,5 @@ def convert(
     return lines, report | {"epochs": len(written)}
 
 
-def check_line(data: bytes) -> str:
-    """Returns the counts of a valid file."""
-    lines = data.decode("ascii").split("END OF HEADER", 1)[1].split("\n")[1:]
-    flags = [line[31] for line in lines if line.startswith(">")]
-    satellites = sum(line[:1] in ("G", "E") for line in lines)
-    return f"epochs {flags.count('0')} satellites {satellites} events {flags.count('4')}"
-
-
 def report_line(report: Report) -> str:
     return " ".join(f"{name} {count}" for name, count in report.items())
-
-
-def length_of(text: str) -> int:
-    """Returns a length in units of 0.0001 m, from a text in metres."""
-    found = re.fullmatch(r"(-?)(\d{1,8})(?:\.(\d{1,4}))?", text, re.ASCII)
-    if found is None:
-        raise ValueError(text)
-    sign, whole, decimals = found.groups("")
-    size = int(whole) * 10_000 + int(decimals.ljust(4, "0"))
-    return -size if sign else size
-
-
-def station_values(position: str, height: str) -> StationValues:
-    """Returns the values of the options `--position` and `--antenna-height`."""
-    lengths = [length_of(text) for text in position.split(",")]
-    if len(lengths) != 3 or any(not -(1 << 37) <= length < 1 << 37 for length in lengths):
-        raise ValueError(position)
-    if height.startswith("-") or length_of(height) >= 1 << 16:
-        raise ValueError(height)
-    return (lengths[0], lengths[1], lengths[2]), length_of(height)
-
-
-def plan_of(gps: str, galileo: str) -> Plan:
-    """Returns the plan of the options `--gps` and `--galileo`."""
-    plan = {}
-    for system, text in (("G", gps), ("E", galileo)):
-        every = list(SIGNALS[system].values())
-        plan[system] = every if text == "all" else [] if text == "none" else text.split(",")
-    return plan

@@ -1,8 +1,9 @@
 """What a command has to write of a stream before it ends."""
 
-from .commands import convert, frame_lines, plan_of, show_lines
+from .commands import convert, frame_lines, show_lines
 from .epochs import Setup
 from .frames import decided_length
+from .options import plan_of
 
 CONVERT = "convert --week 2075 --date x --gps 1C,2L --galileo 1C,7Q".split()
 TEXTS = "run_by marker observer agency rec_number rec_type rec_version ant_number ant_type".split()

@@ -35,6 +35,7 @@ class Gathered:
         for place in range(len(messages)):
             self.kinds.append(self.kind(place))
         self.times = sorted(set(self.taken.values()))
+        self.kept_cells: dict[int, dict[Key, Cell]] = {}
 
     def is_own(self, place: int) -> bool:
         station = self.messages[place].station
@@ -96,7 +97,10 @@ class Gathered:
         return outcomes
 
     def kept(self, time: int) -> dict[Key, Cell]:
-        return {cell.key: cell for outcome, cell in self.outcomes(time) if outcome == "kept"}
+        """Returns the kept cells of an epoch by their keys. They are collected once."""
+        if time not in self.kept_cells:
+            self.kept_cells[time] = {cell.key: cell for outcome, cell in self.outcomes(time) if outcome == "kept"}
+        return self.kept_cells[time]
 
     def lli(self, time: int, cell: Cell) -> int:
         """Returns the loss-of-lock indicator of a kept cell.

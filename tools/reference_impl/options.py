@@ -1,0 +1,76 @@
+"""The options of `convert`: plans, lengths and the texts of the header."""
+import re
+
+from .epochs import Plan, StationValues
+from .messages import SIGNALS
+
+# The texts of the header in the order in which they are judged, with their columns.
+COLUMNS = {"run_by": 20, "date": 20, "marker": 60, "marker_type": 20, "observer": 20, "agency": 40}
+COLUMNS |= dict.fromkeys("rec_number rec_type rec_version ant_number ant_type".split(), 20)
+MOST = 1 << 37
+POSITION = "X,Y,Z: metres, up to 8 digits and 4 decimals each, -13743895.3472 to 13743895.3471"
+HEIGHT = "HEIGHT: metres, up to 4 decimals, 0 to 6.5535"
+
+
+class Fault(Exception):
+    """An error that is printed: its name and what follows it."""
+
+
+def check_texts(texts: dict[str, str]) -> None:
+    """Raises the fault of the first text that isn't printable or has too many columns."""
+    for name, columns in COLUMNS.items():
+        text = texts[name].rstrip(" ").encode("utf-8", "surrogateescape")
+        if any(not 0x20 <= byte <= 0x7E for byte in text):
+            raise Fault(f"NotPrintable {name}")
+        if len(text) > columns:
+            raise Fault(f"TooLong {name}")
+
+
+def length_of(text: str) -> int:
+    """Returns a length in units of 0.0001 m, from a text in metres."""
+    found = re.fullmatch(r"(-?)(\d{1,8})(?:\.(\d{1,4}))?", text, re.ASCII)
+    if found is None:
+        raise ValueError(text)
+    sign, whole, decimals = found.groups("")
+    size = int(whole) * 10_000 + int(decimals.ljust(4, "0"))
+    return -size if sign else size
+
+
+def station_values(position: str, height: str) -> StationValues:
+    """Returns the values of the options `--position` and `--antenna-height`."""
+    try:
+        x, y, z = (length_of(text) for text in position.split(","))
+    except ValueError:
+        raise Fault(f"BadPosition --position {POSITION}") from None
+    if not all(-MOST <= length < MOST for length in (x, y, z)):
+        raise Fault(f"BadPosition --position {POSITION}")
+    try:
+        above = -1 if height.startswith("-") else length_of(height)
+    except ValueError:
+        above = -1
+    if not 0 <= above < 1 << 16:
+        raise Fault(f"BadHeight --antenna-height {HEIGHT}")
+    return (x, y, z), above
+
+
+def codes_of(system: str, text: str) -> list[str]:
+    """Returns the codes of a plan's text."""
+    every = list(SIGNALS[system].values())
+    if text in ("all", "none"):
+        return every if text == "all" else []
+    codes: list[str] = []
+    for place, code in enumerate(text.split(",")):
+        if code not in every:
+            raise Fault(f"UnknownCode {system} {place}")
+        if code in codes:
+            raise Fault(f"RepeatedCode {system} {place}")
+        codes.append(code)
+    return codes
+
+
+def plan_of(gps: str, galileo: str) -> Plan:
+    """Returns the plan of the options `--gps` and `--galileo`."""
+    plan = {system: codes_of(system, text) for system, text in (("G", gps), ("E", galileo))}
+    if not any(plan.values()):
+        raise Fault("NothingPlanned")
+    return plan
