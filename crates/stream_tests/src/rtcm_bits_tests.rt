@@ -364,6 +364,39 @@ fn reads_are_counted(rt: HostRuntime) {
     assert!(rt; counted_reads() == ((7, [0x0B, 0x98]), [0, 10], 7));
 }
 
+/// A reader that fails in its first call, and then has one byte in each.
+#[derive(Drop)]
+struct FailsFirst {
+    calls: u8,
+}
+
+impl Read for FailsFirst {
+    fn read(&mut self, buf: &mut [u8]) -> io::Result<usize> {
+        self.calls = self.calls.saturating_add(1);
+        match buf.first_mut() {
+            Some(byte) if self.calls > 1 => {
+                *byte = self.calls;
+                Ok(1)
+            }
+            _ => Err(io::Error::from(ErrorKind::Interrupted)),
+        }
+    }
+}
+
+/// Whether the failure is returned, and the byte by the second read alone.
+fn fails_first() -> bool {
+    let mut reader = Counted::new(FailsFirst { calls: 0 });
+    let mut buf = [0; 2];
+    let first = reader.read(&mut buf).is_err() && buf == [0, 0] && reader.failures() == 1;
+    let second = reader.read(&mut buf).is_ok() && buf == [2, 0] && reader.failures() == 1;
+    first && second && reader.into_inner().calls == 2
+}
+
+#[test]
+fn a_failed_read_is_not_repeated(rt: HostRuntime) {
+    assert!(rt; fails_first());
+}
+
 /// A writer of at most eight bytes that accepts two of them at a time.
 type Pairs = Counted<ShortWriter<ArrayVec<u8, 8>>>;
 

@@ -17,7 +17,7 @@ static EVENT: [&str; 3] = [
 ];
 
 /// The epoch one second later.
-static SECOND: [&str; 2] = [
+pub static SECOND: [&str; 2] = [
     "> 2024 02 04 00 00  2.0000000  0  1",
     "G05  20985472.060 7 110279400.00017      -525.504          45.063",
 ];

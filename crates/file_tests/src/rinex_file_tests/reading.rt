@@ -1,4 +1,5 @@
 //! Files that are read back, and files that are refused.
+use super::events::SECOND;
 use super::{EPOCH, HEADER, Text, VALUES, joined, place_of_difference, put_lines};
 use gnss_obs::System;
 use obs_epoch::StationValues;
@@ -164,6 +165,16 @@ const WITH_STATION: Options = Options {
     ..SMALL
 };
 
+/// The small file with a second epoch.
+const OF_TWO: Options = Options {
+    counts: Counts {
+        epochs: 2,
+        satellites: 2,
+        events: 0,
+    },
+    ..SMALL
+};
+
 #[test]
 fn a_file_is_read_and_written_back(rt: HostRuntime) {
     let with_station: [&[&str]; 4] = [&HEADER[..7], &STATION, &HEADER[9..], &EPOCH];
@@ -171,8 +182,9 @@ fn a_file_is_read_and_written_back(rt: HostRuntime) {
         [
             timing_of(rt.alloc(), &[&HEADER, &EPOCH]),
             timing_of(rt.alloc(), &with_station),
+            timing_of(rt.alloc(), &[&HEADER, &EPOCH, &SECOND]),
         ],
-        [Ok(SMALL), Ok(WITH_STATION)]
+        [Ok(SMALL), Ok(WITH_STATION), Ok(OF_TWO)]
     );
 }
 

@@ -1,11 +1,12 @@
 //! Devices that fail after each byte.
-use super::scenario::{FAULTLESS, READ, Room, Setting, WRITE, run};
+use super::scenario::{Comes, FAULTLESS, Outcome, READ, Room, Setting, WRITE, run};
 use super::texts::{Text, front};
 use crate::command::command;
 use rtcm_bits::devices::{PieceReader, ReadEnd, ShortWriter, WriteEnd};
 use rtcm_bits::{Buffered, Counted};
 use std::alloc::{AllocError, Global};
-use std::io::ErrorKind;
+use std::io;
+use std::io::{ErrorKind, Read};
 use std::process::Abort;
 
 /// Asserts, for each byte of the output, that a writer that fails after it is reported, with the
@@ -161,6 +162,56 @@ fn has_sent(
     let status = command(alloc, words, &mut reader, &mut writer, &mut faults);
     let taken: Vec<u8> = writer.into_inner().into_inner();
     Ok(status == 1 && taken.as_slice() == output && faults.as_slice() == READ.as_bytes())
+}
+
+/// A reader that has the same piece twice, and fails or ends once between them.
+#[derive(Drop)]
+struct Resumes<'a> {
+    piece: &'a [u8],
+    stop: ReadEnd,
+    reads: usize,
+}
+
+impl<'a> Read for Resumes<'a> {
+    fn read(&mut self, buf: &mut [u8]) -> io::Result<usize> {
+        self.reads = self.reads.saturating_add(1);
+        match self.stop {
+            ReadEnd::Fails(kind) if self.reads == 2 => Err(io::Error::from(kind)),
+            ReadEnd::Ends if self.reads == 2 => Ok(0),
+            _ => {
+                let n = buf.len().min(self.piece.len());
+                buf[..n].copy_from_slice(&self.piece[..n]);
+                Ok(n)
+            }
+        }
+    }
+}
+
+/// Whether a command over such a reader has this outcome, with at most one failure.
+pub fn is_stopped(
+    alloc: Global,
+    words: &[&str],
+    piece: Text<'_>,
+    stop: ReadEnd,
+    comes: &Comes<'_>,
+) -> Result<bool, AllocError> {
+    let piece = piece.bytes(alloc)?;
+    let output = comes.output().bytes(alloc)?;
+    let mut reader = Counted::new(Resumes {
+        piece: piece.as_slice(),
+        stop,
+        reads: 0,
+    });
+    let mut writer = Counted::new(Vec::new(alloc));
+    let mut faults = Vec::new(alloc);
+    let status = command(alloc, words, &mut reader, &mut writer, &mut faults);
+    let outcome = Outcome {
+        status,
+        output: writer.into_inner(),
+        faults,
+        has_read: true,
+    };
+    Ok(comes.is(&outcome, output.as_slice()) && reader.into_inner().reads == 2)
 }
 
 /// The status of a command whose writer for faults fails, and whether that accepted nothing.

@@ -1,13 +1,14 @@
 //! Devices that fail.
 use super::broken::{
-    assert_read_faults, assert_write_faults, is_given_after_buffer, is_sent_before_fault, unprinted,
+    assert_read_faults, assert_write_faults, is_given_after_buffer, is_sent_before_fault,
+    is_stopped, unprinted,
 };
 use super::check::CHECK;
 use super::convert::OPTIONS;
-use super::frames::FRAMES;
+use super::frames::{FRAMES, SHOW, SHOWN};
 use super::messages::{FINE, FRAMED_STATION, HEIGHT, LATE_FRAME};
 use super::scenario::Comes::{Fault, Good};
-use super::scenario::{Case, FAULTLESS, READ, Room, Setting, WRITE, assert_come};
+use super::scenario::{Case, Comes, FAULTLESS, READ, Room, Setting, WRITE, assert_come};
 use super::signals::SIGNALS;
 use super::texts::Line::{Above, NextTime, NextValues, Position, Time, TwoLines, Values};
 use super::texts::Piece::{Fine, Framed, Front};
@@ -16,8 +17,6 @@ use super::texts::{FINE_FILE, REPORT, Text};
 use rtcm_bits::devices::{ReadEnd, WriteEnd};
 use std::io::ErrorKind;
 use std::test::Fail;
-
-const SHOW: [&str; 2] = ["rtcm2rinex", "show"];
 
 /// The frame of `FINE`.
 const ONE_FRAME: Text = Stream(&[Fine(&[])]);
@@ -162,11 +161,7 @@ fn a_flush_that_fails_is_given(rt: HostRuntime) -> Result<(), Fail> {
 
 static SENT: [Read; 3] = [
     (&FRAMES, Bytes(&FRAMED_STATION), Lines("0 19 1005\n")),
-    (
-        &SHOW,
-        Bytes(&FRAMED_STATION),
-        Lines("0 1005 2003 1114104.5999 -4850729.7108 3975521.4643\n"),
-    ),
+    (&SHOW, Bytes(&FRAMED_STATION), SHOWN),
     (&OPTIONS, ONE_FRAME, FINE_FILE),
 ];
 
@@ -175,6 +170,41 @@ static SENT: [Read; 3] = [
 fn decided_output_is_flushed(rt: HostRuntime) -> Result<(), Fail> {
     for (words, input, output) in &SENT {
         assert!(rt; is_sent_before_fault(rt.alloc(), words, *input, *output)?);
+    }
+    Ok(())
+}
+
+/// The words, what a read returns after the first piece, and the outcome.
+type Stopped<'a> = (&'a [&'a str], ReadEnd, Comes<'a>);
+
+const FAILS: ReadEnd = ReadEnd::Fails(ErrorKind::Interrupted);
+
+static STOPPED: [Stopped; 8] = [
+    (&FRAMES, FAILS, Fault(Lines("0 36 1077\n"), READ)),
+    (&FRAMES, ReadEnd::Ends, Good(Lines("0 36 1077\n"), "")),
+    (&SHOW, FAILS, Fault(SHOWN_FINE, READ)),
+    (&SHOW, ReadEnd::Ends, Good(SHOWN_FINE, "")),
+    (&SIGNALS, FAILS, Fault(Lines(""), READ)),
+    (&SIGNALS, ReadEnd::Ends, Good(Lines("G 1C 1\n"), "")),
+    (&OPTIONS, FAILS, Fault(FINE_FILE, READ)),
+    (&OPTIONS, ReadEnd::Ends, Good(FINE_FILE, REPORT)),
+];
+
+/// The line of `FINE`.
+const SHOWN_FINE: Text = Lines("0 1077 2003 1000 0 1 1 1\n");
+
+// The reader has the same piece again after it failed once, and after it ended.
+#[test]
+fn nothing_is_read_after_a_failure_or_the_end(rt: HostRuntime) -> Result<(), Fail> {
+    for (words, stop, comes) in &STOPPED {
+        assert!(rt; is_stopped(rt.alloc(), words, ONE_FRAME, *stop, comes)?);
+    }
+    let counts = Lines("epochs 1 satellites 1 events 0\n");
+    for (stop, comes) in [
+        (FAILS, Fault(Lines(""), READ)),
+        (ReadEnd::Ends, Good(counts, "")),
+    ] {
+        assert!(rt; is_stopped(rt.alloc(), &CHECK, FINE_FILE, stop, &comes)?);
     }
     Ok(())
 }

@@ -1,8 +1,9 @@
-//! The output of `frames`.
+//! The output of `frames` and `show`.
 use super::messages::{FRAMED_NOTHING, FRAMED_STATION, INNER_FRAME, LATE_FRAME, STATION};
 use super::scenario::Comes::Good;
 use super::scenario::{Case, FAULTLESS, Setting, assert_come};
 use super::texts::Piece::{Framed, Front, Repeated};
+use super::texts::Text;
 use super::texts::Text::{Bytes, Lines, Stream};
 use crate::fault::ToolFault;
 use crate::listing::{Listing, list};
@@ -13,25 +14,44 @@ use std::test::Fail;
 
 pub const FRAMES: [&str; 2] = ["rtcm2rinex", "frames"];
 
-static LISTED: [Case; 7] = [
-    (&[], Bytes(&FRAMED_STATION), Good(Lines("0 19 1005\n"), "")),
-    (&[], Bytes(&[]), Good(Lines(""), "")),
-    (&[], Bytes(&FRAMED_NOTHING), Good(Lines("0 0 -\n"), "")),
-    (&[], Bytes(&LATE_FRAME), Good(Lines("1 0 -\n"), "")),
-    (&[], Stream(&[Repeated(0xD3, 10)]), Good(Lines(""), "")),
+pub const SHOW: [&str; 2] = ["rtcm2rinex", "show"];
+
+/// The line of `FRAMED_STATION`.
+pub const SHOWN: Text = Lines("0 1005 2003 1114104.5999 -4850729.7108 3975521.4643\n");
+
+static LISTED: [Case; 10] = [
     (
-        &[],
+        &FRAMES,
+        Bytes(&FRAMED_STATION),
+        Good(Lines("0 19 1005\n"), ""),
+    ),
+    (&FRAMES, Bytes(&[]), Good(Lines(""), "")),
+    (&FRAMES, Bytes(&FRAMED_NOTHING), Good(Lines("0 0 -\n"), "")),
+    (&FRAMES, Bytes(&LATE_FRAME), Good(Lines("1 0 -\n"), "")),
+    (&FRAMES, Stream(&[Repeated(0xD3, 10)]), Good(Lines(""), "")),
+    (
+        &FRAMES,
         Stream(&[Front(&FRAMED_STATION, 24)]),
         Good(Lines(""), ""),
     ),
-    (&[], Bytes(&INNER_FRAME), Good(Lines("3 0 -\n"), "")),
+    (&FRAMES, Bytes(&INNER_FRAME), Good(Lines("3 0 -\n"), "")),
+    (&SHOW, Bytes(&FRAMED_STATION), Good(SHOWN, "")),
+    (
+        &SHOW,
+        Bytes(&FRAMED_NOTHING),
+        Good(Lines("0 - Short 0\n"), ""),
+    ),
+    (
+        &SHOW,
+        Stream(&[Front(&FRAMED_STATION, 24)]),
+        Good(Lines(""), ""),
+    ),
 ];
 
 #[test]
 fn frames_are_listed_in_any_pieces(rt: HostRuntime) {
     for first in 1..26 {
         let setting = Setting {
-            words: &FRAMES,
             sizes: &[&[first, 1_000], &[1]],
             ..FAULTLESS
         };

@@ -89,7 +89,7 @@ impl Outcome {
 
 impl<'a> Comes<'a> {
     /// The expected output.
-    fn output(&self) -> Text<'a> {
+    pub fn output(&self) -> Text<'a> {
         match self {
             Comes::Good(output, _) | Comes::Fault(output, _) => *output,
             Comes::Unread(_) | Comes::Refused => Text::Lines(""),
@@ -97,7 +97,7 @@ impl<'a> Comes<'a> {
     }
 
     /// Whether it is this outcome, with this output.
-    fn is(&self, outcome: &Outcome, output: &[u8]) -> bool {
+    pub fn is(&self, outcome: &Outcome, output: &[u8]) -> bool {
         match self {
             Comes::Good(_, given) => outcome.is(0, output, given.as_bytes()),
             Comes::Fault(_, given) => outcome.is(1, output, given.as_bytes()),
