@@ -1,12 +1,12 @@
 //! What no clause states: a worked stream and its file, that each call can succeed, and the output
 //! if a device fails.
+mod by_definition;
 mod faults;
 mod hostile;
 mod script;
-mod slow;
 
 use rtcm_convert::{Fault, Report};
-use script::{Answer, Call, Good, IDLE, Script, Way, first_broken};
+use script::{Call, CallResult, Good, IDLE, Script, Way, first_broken};
 
 /// The frame of message 1077 of station 2003, one second into the week, the last of its time:
 /// satellite 5, signal 1C.
@@ -50,7 +50,7 @@ G05  20985472.060 7 110279400.000 7      -525.504          45.063\n\
 > 2024 02 04 00 00  2.0000000  0  1\n\
 G05  20985472.060 7 110279400.00017      -525.504          45.063\n";
 
-const FED: Answer = Ok(Good::Fed);
+const FED: CallResult = Ok(Good::Fed);
 
 /// The report of the first message.
 const ONE: Report = Report {

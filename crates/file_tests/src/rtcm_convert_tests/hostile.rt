@@ -1,7 +1,7 @@
 //! Streams truncated and damaged at each byte: file, report, held bytes and looks of a converter,
 //! before the end of a stream and after it, agree with the definitions.
-use super::script::{Answer, Good, OPTIONS, converter, feed, finish, looks};
-use super::slow::{FOUR_FRAMES, SIZE, Slow, Text, slowly};
+use super::by_definition::{DefinedConversion, FOUR_FRAMES, SIZE, Text, defined_conversion};
+use super::script::{CallResult, Good, OPTIONS, converter, feed, finish, looks};
 use super::{FED, FILE, ONE};
 use rtcm_bits::Counted;
 use rtcm_bits::devices::{ShortWriter, WriteEnd};
@@ -9,7 +9,7 @@ use rtcm_convert::{Converter, Fault, Report};
 use std::alloc::Global;
 
 /// The last result, the counts, and whether the file is the expected one.
-type Comes = (Answer, Good, bool);
+type Comes = (CallResult, Good, bool);
 
 /// Feeds the bytes in pieces of a size, and ends the stream or not.
 fn take<W: std::io::Write>(
@@ -18,7 +18,7 @@ fn take<W: std::io::Write>(
     size: usize,
     ends: bool,
     writer: &mut Counted<W>,
-) -> Answer {
+) -> CallResult {
     let fed = feed(converter, bytes, size, writer)?;
     if !ends {
         return Ok(fed);
@@ -34,9 +34,9 @@ fn comes_of(
     file: &Text,
 ) -> Comes {
     let mut writer = Counted::new(ShortWriter::new(Text::new(), 4096, 4096, WriteEnd::TakesNone));
-    let answer = take(converter, bytes, size, ends, &mut writer);
+    let result = take(converter, bytes, size, ends, &mut writer);
     let text = writer.into_inner().into_inner();
-    (answer, looks(converter), text.as_slice() == file.as_slice())
+    (result, looks(converter), text.as_slice() == file.as_slice())
 }
 
 fn by_converter(
@@ -56,17 +56,17 @@ fn by_converter(
     }
 }
 
-fn wanted(slow: &Slow, size: usize, ends: bool) -> Comes {
-    let answer = if ends { slow.answer(size) } else { FED };
-    (answer, slow.counts(size), true)
+fn wanted(defined: &DefinedConversion, size: usize, ends: bool) -> Comes {
+    let result = if ends { defined.result(size) } else { FED };
+    (result, defined.counts(size), true)
 }
 
 /// Whether a stream agrees in pieces of one byte and of two, before its end and after it.
 fn agrees(alloc: Global, bytes: &[u8]) -> bool {
     for ends in [false, true] {
-        let slow = slowly(bytes, ends);
-        let want = Some(wanted(&slow, bytes.len(), ends));
-        let file = slow.file();
+        let defined = defined_conversion(bytes, ends);
+        let want = Some(wanted(&defined, bytes.len(), ends));
+        let file = defined.file();
         for size in [1, 2] {
             if by_converter(alloc, bytes, size, ends, &file) != want {
                 return false;
@@ -116,22 +116,22 @@ const FOUR: Report = Report {
 
 /// The counts, the result and the length of the file of a part of the four frames by the
 /// definitions.
-fn said(from: usize, to: usize, has_ended: bool) -> (Good, Answer, usize) {
+fn expected(from: usize, to: usize, has_ended: bool) -> (Good, CallResult, usize) {
     let bytes = FOUR_FRAMES.get(from..to).unwrap_or(&[]);
-    let slow = slowly(bytes, has_ended);
-    let file = slow.file();
+    let defined = defined_conversion(bytes, has_ended);
+    let file = defined.file();
     (
-        slow.counts(bytes.len()),
-        slow.answer(bytes.len()),
+        defined.counts(bytes.len()),
+        defined.result(bytes.len()),
         file.len(),
     )
 }
 
 /// The definitions themselves, by numbers counted by hand.
 #[test]
-fn the_slow_definitions_are_right(rt: HostRuntime) {
-    let none: Answer = Err(Fault::NoEpoch);
-    let rows: [((usize, usize, bool), (Good, Answer, usize)); 6] = [
+fn the_definitions_are_right(rt: HostRuntime) {
+    let none: CallResult = Err(Fault::NoEpoch);
+    let rows: [((usize, usize, bool), (Good, CallResult, usize)); 6] = [
         (
             (0, 130, true),
             (Good::Counts(0, 236, 2), Ok(Good::Made(FOUR)), 1_236),
@@ -146,8 +146,8 @@ fn the_slow_definitions_are_right(rt: HostRuntime) {
         ((52, 91, true), (Good::Counts(0, 82, 3), none, 0)),
     ];
     for ((from, to, has_ended), want) in rows {
-        assert_eq!(rt; said(from, to, has_ended), want, "{from} to {to}");
+        assert_eq!(rt; expected(from, to, has_ended), want, "{from} to {to}");
     }
-    let third = slowly(&FOUR_FRAMES[52..94], true);
+    let third = defined_conversion(&FOUR_FRAMES[52..94], true);
     assert!(rt; FILE.as_bytes().get(..1_236) == Some(third.file().as_slice()));
 }

@@ -65,16 +65,16 @@ pub enum Good {
     Counts(u64, u64, u64),
 }
 
-pub type Answer = Result<Good, Fault>;
+pub type CallResult = Result<Good, Fault>;
 
 /// The calls that make a file.
 #[derive(Clone, Copy)]
 pub enum Way {
     /// A converter, by these calls with these results.
-    Calls(&'static [(Call, Answer)]),
-    Stream(Answer),
+    Calls(&'static [(Call, CallResult)]),
+    Stream(CallResult),
     /// In pieces, of the bytes of the stream that the reader has.
-    Pieces(Answer),
+    Pieces(CallResult),
 }
 
 /// The calls, the devices, and the expected outcome.
@@ -116,7 +116,7 @@ pub const IDLE: Script = Script {
 };
 
 /// The index of the first call with another result, and that result.
-type Broken = Option<(usize, Answer)>;
+type Broken = Option<(usize, CallResult)>;
 
 /// The failures of reader and writer, the sizes of the last and the largest buffer of a read, the
 /// number of bytes written, and whether they are a prefix of the file.
@@ -201,8 +201,8 @@ fn take<R: Read, W: Write>(
     }
 }
 
-fn differs(made: Result<Report, Fault>, want: Answer) -> Broken {
-    let got = answered(made);
+fn differs(made: Result<Report, Fault>, want: CallResult) -> Broken {
+    let got = as_result(made);
     if got == want {
         return None;
     }
@@ -213,7 +213,7 @@ fn differs(made: Result<Report, Fault>, want: Answer) -> Broken {
 fn follow<R: Read, W: Write>(
     alloc: Global,
     options: Options,
-    calls: &[(Call, Answer)],
+    calls: &[(Call, CallResult)],
     stream: &[u8],
     size: usize,
     reader: &mut Counted<R>,
@@ -231,14 +231,14 @@ fn follow<R: Read, W: Write>(
 
 fn take_all<R: Read, W: Write>(
     converter: &mut Converter,
-    calls: &[(Call, Answer)],
+    calls: &[(Call, CallResult)],
     stream: &[u8],
     size: usize,
     reader: &mut Counted<R>,
     writer: &mut Counted<W>,
 ) -> Broken {
     for (place, (call, want)) in calls.iter().enumerate() {
-        let got = answer(converter, *call, stream, size, reader, writer);
+        let got = result(converter, *call, stream, size, reader, writer);
         if got != *want {
             return Some((place, got));
         }
@@ -246,27 +246,27 @@ fn take_all<R: Read, W: Write>(
     None
 }
 
-fn answer<R: Read, W: Write>(
+fn result<R: Read, W: Write>(
     converter: &mut Converter,
     call: Call,
     stream: &[u8],
     size: usize,
     reader: &mut Counted<R>,
     writer: &mut Counted<W>,
-) -> Answer {
+) -> CallResult {
     match call {
         Call::Feed(from, to) => {
             let bytes = stream.get(from..to).unwrap_or(&[]);
             feed(converter, bytes, size, writer)
         }
-        Call::Run => answered(run(converter, reader, writer)),
-        Call::Finish => answered(finish(converter, writer)),
+        Call::Run => as_result(run(converter, reader, writer)),
+        Call::Finish => as_result(finish(converter, writer)),
         Call::Looks => Ok(looks(converter)),
         Call::Kept => Ok(kept(converter)),
     }
 }
 
-fn answered(made: Result<Report, Fault>) -> Answer {
+fn as_result(made: Result<Report, Fault>) -> CallResult {
     Ok(Good::Made(made?))
 }
 
@@ -276,7 +276,7 @@ pub fn feed<W: Write>(
     bytes: &[u8],
     size: usize,
     writer: &mut Counted<W>,
-) -> Answer {
+) -> CallResult {
     if bytes.is_empty() {
         converter.feed(bytes, writer)?;
     }

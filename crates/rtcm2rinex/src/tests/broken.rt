@@ -1,5 +1,5 @@
 //! Devices that fail after each byte.
-use super::scenario::{Comes, FAULTLESS, Outcome, READ, Room, Setting, WRITE, run};
+use super::scenario::{Expected, FAULTLESS, Outcome, READ, Room, Setting, WRITE, run};
 use super::texts::{Text, front};
 use crate::command::command;
 use rtcm_bits::devices::{PieceReader, ReadEnd, ShortWriter, WriteEnd};
@@ -20,7 +20,7 @@ pub fn assert_write_faults(
     output: Text<'_>,
 ) {
     assert_eq!(*rt;
-        untold_write_fault(alloc, words, input, most, output),
+        unprinted_write_fault(alloc, words, input, most, output),
         Ok(None)
     );
 }
@@ -34,11 +34,11 @@ pub fn assert_read_faults(
     input: Text<'_>,
     output: Text<'_>,
 ) {
-    assert_eq!(*rt; untold_read_fault(alloc, words, input, output), Ok(None));
+    assert_eq!(*rt; unprinted_read_fault(alloc, words, input, output), Ok(None));
 }
 
 /// The first number of bytes after which a failing writer has another outcome.
-fn untold_write_fault(
+fn unprinted_write_fault(
     alloc: Global,
     words: &[&str],
     input: Text<'_>,
@@ -47,10 +47,10 @@ fn untold_write_fault(
 ) -> Result<Option<usize>, AllocError> {
     let input = input.bytes(alloc)?;
     let output = output.bytes(alloc)?;
-    Ok(untold_write(alloc, words, input.as_slice(), most, output.as_slice()))
+    Ok(unprinted_write(alloc, words, input.as_slice(), most, output.as_slice()))
 }
 
-fn untold_write(
+fn unprinted_write(
     alloc: Global,
     words: &[&str],
     input: &[u8],
@@ -78,7 +78,7 @@ fn is_write_given(alloc: Global, words: &[&str], input: &[u8], room: Room, taken
 }
 
 /// The first number of bytes after which a failing reader has another outcome.
-fn untold_read_fault(
+fn unprinted_read_fault(
     alloc: Global,
     words: &[&str],
     input: Text<'_>,
@@ -193,10 +193,10 @@ pub fn is_stopped(
     words: &[&str],
     piece: Text<'_>,
     stop: ReadEnd,
-    comes: &Comes<'_>,
+    expected: &Expected<'_>,
 ) -> Result<bool, AllocError> {
     let piece = piece.bytes(alloc)?;
-    let output = comes.output().bytes(alloc)?;
+    let output = expected.output().bytes(alloc)?;
     let mut reader = Counted::new(Resumes {
         piece: piece.as_slice(),
         stop,
@@ -211,7 +211,7 @@ pub fn is_stopped(
         faults,
         has_read: true,
     };
-    Ok(comes.is(&outcome, output.as_slice()) && reader.into_inner().reads == 2)
+    Ok(expected.is(&outcome, output.as_slice()) && reader.into_inner().reads == 2)
 }
 
 /// The status of a command whose writer for faults fails, and whether that accepted nothing.

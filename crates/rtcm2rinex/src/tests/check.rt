@@ -1,8 +1,8 @@
 //! Files that are checked.
-use super::scenario::Comes::{Fault, Good};
+use super::scenario::Expected::{Fault, Good};
 use super::scenario::{Case, FAULTLESS, Setting, assert_come};
+use super::texts::ExpectedLine::{Above, NextTime, NextValues, Position, Time, TwoLines, Values};
 use super::texts::FINE_FILE;
-use super::texts::Line::{Above, NextTime, NextValues, Position, Time, TwoLines, Values};
 use super::texts::Text::{File, Lines};
 
 pub const CHECK: [&str; 2] = ["rtcm2rinex", "check"];
@@ -47,7 +47,7 @@ static SPOILT: [Case; 1] = [(
 )];
 
 #[test]
-fn a_spoilt_file_is_refused(rt: HostRuntime) {
+fn a_damaged_file_is_refused(rt: HostRuntime) {
     let setting = Setting {
         words: &CHECK,
         sizes: &[&[1], &[]],

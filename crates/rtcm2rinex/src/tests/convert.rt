@@ -1,8 +1,8 @@
 //! Streams that are converted in pieces of any size: their files and reports.
 use super::messages::HEIGHT;
-use super::scenario::Comes::{Good, Refused, Unread};
+use super::scenario::Expected::{Good, Refused, Unread};
 use super::scenario::{Case, FAULTLESS, Setting, assert_come};
-use super::texts::Line::{Above, NextTime, NextValues, Position, Time, TwoLines, Values};
+use super::texts::ExpectedLine::{Above, NextTime, NextValues, Position, Time, TwoLines, Values};
 use super::texts::Piece::{Fine, Framed};
 use super::texts::Text::{File, Stream};
 use super::texts::{FINE_FILE, REPORT, Text};

@@ -7,10 +7,10 @@ use super::check::CHECK;
 use super::convert::OPTIONS;
 use super::frames::{FRAMES, SHOW, SHOWN};
 use super::messages::{FINE, FRAMED_STATION, HEIGHT, LATE_FRAME};
-use super::scenario::Comes::{Fault, Good};
-use super::scenario::{Case, Comes, FAULTLESS, READ, Room, Setting, WRITE, assert_come};
+use super::scenario::Expected::{Fault, Good};
+use super::scenario::{Case, Expected, FAULTLESS, READ, Room, Setting, WRITE, assert_come};
 use super::signals::SIGNALS;
-use super::texts::Line::{Above, NextTime, NextValues, Position, Time, TwoLines, Values};
+use super::texts::ExpectedLine::{Above, NextTime, NextValues, Position, Time, TwoLines, Values};
 use super::texts::Piece::{Fine, Framed, Front};
 use super::texts::Text::{Bytes, File, Lines, Stream};
 use super::texts::{FINE_FILE, REPORT, Text};
@@ -175,7 +175,7 @@ fn decided_output_is_flushed(rt: HostRuntime) -> Result<(), Fail> {
 }
 
 /// The words, what a read returns after the first piece, and the outcome.
-type Stopped<'a> = (&'a [&'a str], ReadEnd, Comes<'a>);
+type Stopped<'a> = (&'a [&'a str], ReadEnd, Expected<'a>);
 
 const FAILS: ReadEnd = ReadEnd::Fails(ErrorKind::Interrupted);
 
@@ -196,15 +196,15 @@ const SHOWN_FINE: Text = Lines("0 1077 2003 1000 0 1 1 1\n");
 // The reader has the same piece again after it failed once, and after it ended.
 #[test]
 fn nothing_is_read_after_a_failure_or_the_end(rt: HostRuntime) -> Result<(), Fail> {
-    for (words, stop, comes) in &STOPPED {
-        assert!(rt; is_stopped(rt.alloc(), words, ONE_FRAME, *stop, comes)?);
+    for (words, stop, expected) in &STOPPED {
+        assert!(rt; is_stopped(rt.alloc(), words, ONE_FRAME, *stop, expected)?);
     }
     let counts = Lines("epochs 1 satellites 1 events 0\n");
-    for (stop, comes) in [
+    for (stop, expected) in [
         (FAILS, Fault(Lines(""), READ)),
         (ReadEnd::Ends, Good(counts, "")),
     ] {
-        assert!(rt; is_stopped(rt.alloc(), &CHECK, FINE_FILE, stop, &comes)?);
+        assert!(rt; is_stopped(rt.alloc(), &CHECK, FINE_FILE, stop, &expected)?);
     }
     Ok(())
 }

@@ -1,6 +1,6 @@
 //! The output of `frames` and `show`.
 use super::messages::{FRAMED_NOTHING, FRAMED_STATION, INNER_FRAME, LATE_FRAME, STATION};
-use super::scenario::Comes::Good;
+use super::scenario::Expected::Good;
 use super::scenario::{Case, FAULTLESS, Setting, assert_come};
 use super::texts::Piece::{Framed, Front, Repeated};
 use super::texts::Text;

@@ -49,11 +49,11 @@ pub const FAULTLESS: Setting<'static> = Setting {
 };
 
 /// The words that follow those of the setting, the stream, and the expected outcome.
-pub type Case<'a> = (&'a [&'a str], Text<'a>, Comes<'a>);
+pub type Case<'a> = (&'a [&'a str], Text<'a>, Expected<'a>);
 
 /// The expected outcome of a command.
 #[derive(Clone, Copy)]
-pub enum Comes<'a> {
+pub enum Expected<'a> {
     /// Success: this is written, and this is printed on standard error.
     Good(Text<'a>, &'a str),
     /// This is written, and then a fault is printed.
@@ -87,22 +87,22 @@ impl Outcome {
     }
 }
 
-impl<'a> Comes<'a> {
+impl<'a> Expected<'a> {
     /// The expected output.
     pub fn output(&self) -> Text<'a> {
         match self {
-            Comes::Good(output, _) | Comes::Fault(output, _) => *output,
-            Comes::Unread(_) | Comes::Refused => Text::Lines(""),
+            Expected::Good(output, _) | Expected::Fault(output, _) => *output,
+            Expected::Unread(_) | Expected::Refused => Text::Lines(""),
         }
     }
 
     /// Whether it is this outcome, with this output.
     pub fn is(&self, outcome: &Outcome, output: &[u8]) -> bool {
         match self {
-            Comes::Good(_, given) => outcome.is(0, output, given.as_bytes()),
-            Comes::Fault(_, given) => outcome.is(1, output, given.as_bytes()),
-            Comes::Unread(given) => outcome.is(1, &[], given.as_bytes()) && !outcome.has_read,
-            Comes::Refused => outcome.is_refused(),
+            Expected::Good(_, given) => outcome.is(0, output, given.as_bytes()),
+            Expected::Fault(_, given) => outcome.is(1, output, given.as_bytes()),
+            Expected::Unread(given) => outcome.is(1, &[], given.as_bytes()) && !outcome.has_read,
+            Expected::Refused => outcome.is_refused(),
         }
     }
 }
@@ -156,7 +156,7 @@ fn is_right_in_pieces(
     alloc: Global,
     setting: &Setting<'_>,
     input: &[u8],
-    wanted: &Comes<'_>,
+    wanted: &Expected<'_>,
     output: &[u8],
 ) -> bool {
     for sizes in setting.sizes {

@@ -1,6 +1,6 @@
 //! The signals of streams.
 use super::messages::{COARSE, HEIGHT};
-use super::scenario::Comes::Good;
+use super::scenario::Expected::Good;
 use super::scenario::{Case, FAULTLESS, Setting, assert_come};
 use super::texts::Piece::{Fine, Framed};
 use super::texts::Text;

@@ -12,7 +12,7 @@ pub enum Text<'a> {
     /// These pieces, one after the other.
     Stream(&'a [Piece<'a>]),
     /// A file: the lines that replace those of `HEADER`, and the lines after the header.
-    File(&'a [Replaced<'a>], &'a [Line<'a>]),
+    File(&'a [Replaced<'a>], &'a [ExpectedLine<'a>]),
 }
 
 /// A part of a stream.
@@ -29,12 +29,12 @@ pub enum Piece<'a> {
 }
 
 /// The index of a line of `HEADER`, and the lines that replace it.
-pub type Replaced<'a> = (usize, &'a [Line<'a>]);
+pub type Replaced<'a> = (usize, &'a [ExpectedLine<'a>]);
 
 /// A line of a file. Lines of several files have names, so that a proof has each of them once.
 #[derive(Clone, Copy)]
-pub enum Line<'a> {
-    Spelled(&'a str),
+pub enum ExpectedLine<'a> {
+    Valid(&'a str),
     /// The two lines of the epoch of `FINE`.
     Time,
     Values,
@@ -67,28 +67,29 @@ pub const HEADER: [&str; 14] = [
 ];
 
 /// The file of `FINE` alone.
-pub const FINE_FILE: Text<'static> = Text::File(&[], &[Line::Time, Line::Values]);
+pub const FINE_FILE: Text<'static> = Text::File(&[], &[ExpectedLine::Time, ExpectedLine::Values]);
 
 /// The report of `FINE` alone in its frame.
 pub const REPORT: &str =
     "bytes 42 skipped_bytes 0 frames 1 faulty 0 station 0 other 0 ignored 0 late 0 past 0 taken 1 \
      skipped 0 repeated 0 crowded 0 epochs 1\n";
 
-impl<'a> Line<'a> {
+impl<'a> ExpectedLine<'a> {
     fn text(&self) -> &'a str {
         match self {
-            Line::Spelled(text) => text,
-            Line::Time => "> 2024 02 04 00 00  1.0000000  0  1",
-            Line::Values => "G05  20985472.060 7 110279400.000 7      -525.504          45.063",
-            Line::NextTime => "> 2024 02 04 00 00  2.0000000  0  1",
-            Line::NextValues => {
+            ExpectedLine::Valid(text) => text,
+            ExpectedLine::Time => "> 2024 02 04 00 00  1.0000000  0  1",
+            ExpectedLine::Values =>
+                "G05  20985472.060 7 110279400.000 7      -525.504          45.063",
+            ExpectedLine::NextTime => "> 2024 02 04 00 00  2.0000000  0  1",
+            ExpectedLine::NextValues => {
                 "G05  20985472.060 7 110279400.00017      -525.504          45.063"
             }
-            Line::TwoLines => ">                              4  2",
-            Line::Above => {
+            ExpectedLine::TwoLines => ">                              4  2",
+            ExpectedLine::Above => {
                 "        1.5000        0.0000        0.0000                  ANTENNA: DELTA H/E/N"
             }
-            Line::Position => {
+            ExpectedLine::Position => {
                 "  1114104.5999 -4850729.7108  3975521.4643                  APPROX POSITION XYZ "
             }
         }
@@ -149,19 +150,19 @@ fn add_frame(stream: &mut Vec<u8>, message: &[u8]) -> Result<(), AllocError> {
 fn add_file(
     text: &mut Vec<u8>,
     replaced: &[Replaced<'_>],
-    lines: &[Line<'_>],
+    lines: &[ExpectedLine<'_>],
 ) -> Result<(), AllocError> {
     for (place, line) in HEADER.iter().enumerate() {
         match replacement(replaced, place) {
             Some(others) => add_lines(text, others, 80)?,
-            None => add_lines(text, &[Line::Spelled(*line)], 80)?,
+            None => add_lines(text, &[ExpectedLine::Valid(*line)], 80)?,
         }
     }
     add_lines(text, lines, 0)
 }
 
 /// The lines that replace one of the header.
-fn replacement<'a>(replaced: &[Replaced<'a>], place: usize) -> Option<&'a [Line<'a>]> {
+fn replacement<'a>(replaced: &[Replaced<'a>], place: usize) -> Option<&'a [ExpectedLine<'a>]> {
     for (other, lines) in replaced {
         if *other == place {
             return Some(*lines);
@@ -171,7 +172,11 @@ fn replacement<'a>(replaced: &[Replaced<'a>], place: usize) -> Option<&'a [Line<
 }
 
 /// Lines that are padded to a number of columns, each with its line feed.
-fn add_lines(text: &mut Vec<u8>, lines: &[Line<'_>], columns: usize) -> Result<(), AllocError> {
+fn add_lines(
+    text: &mut Vec<u8>,
+    lines: &[ExpectedLine<'_>],
+    columns: usize,
+) -> Result<(), AllocError> {
     for line in lines {
         let line = line.text();
         text.extend_from_slice(line.as_bytes())?;

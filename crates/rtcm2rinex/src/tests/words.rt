@@ -1,6 +1,6 @@
 //! Words of a command line that are not accepted.
 use super::messages::FRAMED_STATION;
-use super::scenario::Comes::Refused;
+use super::scenario::Expected::Refused;
 use super::scenario::{Case, FAULTLESS, assert_come};
 use super::texts::Text::Bytes;
 use crate::command::refuse_words;
@@ -34,10 +34,10 @@ fn are_refused(alloc: Global, kind: ErrorKind, status: u8, text: &[u8]) -> bool 
 
 #[test]
 fn words_that_cannot_be_had_are_given(rt: HostRuntime) {
-    let unspelled = b"error: a word of the command line isn't UTF-8\n";
+    let invalid_text = b"error: a word of the command line isn't UTF-8\n";
     let rows: [(ErrorKind, u8, &[u8]); 2] = [
         (ErrorKind::OutOfMemory, 1, b"rtcm2rinex: Memory\n"),
-        (ErrorKind::InvalidData, 2, unspelled),
+        (ErrorKind::InvalidData, 2, invalid_text),
     ];
     for (kind, status, text) in rows {
         assert!(rt; are_refused(rt.alloc(), kind, status, text));

@@ -10,7 +10,7 @@ const MOST_FRAMES: usize = 24;
 
 /// The frames of a stream, and the number of looks at each of its bytes.
 #[derive(Drop)]
-struct Slow {
+struct DefinedScan {
     frames: [(usize, usize); MOST_FRAMES],
     count: usize,
     looks: [u16; SIZE],
@@ -36,7 +36,7 @@ fn is_frame(rest: &[u8], size: usize) -> bool {
     rest[size - 3..size] == check[1..]
 }
 
-impl Slow {
+impl DefinedScan {
     /// Counts one more look at each of these bytes.
     fn look_at(&mut self, from: usize, to: usize) {
         for place in from..to.min(SIZE) {
@@ -84,8 +84,8 @@ impl Slow {
 }
 
 /// The whole stream by the definitions.
-fn slowly(bytes: &[u8]) -> Slow {
-    let mut slow = Slow {
+fn defined_scan(bytes: &[u8]) -> DefinedScan {
+    let mut defined = DefinedScan {
         frames: [(0, 0); MOST_FRAMES],
         count: 0,
         looks: [0; SIZE],
@@ -93,22 +93,22 @@ fn slowly(bytes: &[u8]) -> Slow {
     let mut next = 0;
     for place in 0..bytes.len() {
         if place == next {
-            next = slow.try_at(bytes, place);
+            next = defined.try_at(bytes, place);
         }
     }
-    slow
+    defined
 }
 
 /// Whether a framer and the slice agree with the definitions, the framer in blocks of one byte and
 /// of two.
 fn agrees(alloc: Global, bytes: &[u8]) -> bool {
-    let slow = slowly(bytes);
+    let defined = defined_scan(bytes);
     let stream = Stream {
         bytes,
         size: bytes.len(),
-        frames: &slow.frames[..slow.count.min(MOST_FRAMES)],
+        frames: &defined.frames[..defined.count.min(MOST_FRAMES)],
         before: (0, 0, (0, 0, 0)),
-        after: slow.counts(bytes.len()),
+        after: defined.counts(bytes.len()),
     };
     is_listed(&stream) && is_counted(alloc, &stream, 1) && is_counted(alloc, &stream, 2)
 }

@@ -1,7 +1,7 @@
 //! A conversion by the definitions, over whole lists, for streams of four known messages: their
 //! frames, the looks at each byte, the report and the file.
 use super::FILE;
-use super::script::{Answer, Good};
+use super::script::{CallResult, Good};
 use arrayvec::ArrayVec;
 use rtcm_bits::crc24q;
 use rtcm_convert::{Fault, Report};
@@ -38,7 +38,7 @@ pub type Text = ArrayVec<u8, 1_500>;
 
 /// A stream by the definitions.
 #[derive(Drop)]
-pub struct Slow {
+pub struct DefinedConversion {
     /// The messages of the four that it has.
     has: [bool; 4],
     /// The number of frames, their bytes, and the number of places before the first undecided one.
@@ -76,7 +76,7 @@ fn is_known(frame: &[u8], number: usize) -> bool {
     }
 }
 
-impl Slow {
+impl DefinedConversion {
     /// Counts one more look at each of these bytes.
     fn look_at(&mut self, from: usize, to: usize) {
         for place in from..to.min(SIZE) {
@@ -131,7 +131,7 @@ impl Slow {
     }
 
     /// The result of the end of the stream.
-    pub fn answer(&self, size: usize) -> Answer {
+    pub fn result(&self, size: usize) -> CallResult {
         if !self.has_epoch() {
             return Err(Fault::NoEpoch);
         }
@@ -186,8 +186,8 @@ fn put(text: &mut Text, bytes: Option<&[u8]>) {
 }
 
 /// These bytes by the definitions, as a whole stream or as its start.
-pub fn slowly(bytes: &[u8], has_ended: bool) -> Slow {
-    let mut slow = Slow {
+pub fn defined_conversion(bytes: &[u8], has_ended: bool) -> DefinedConversion {
+    let mut defined = DefinedConversion {
         has: [false; 4],
         frames: 0,
         framed: 0,
@@ -195,12 +195,12 @@ pub fn slowly(bytes: &[u8], has_ended: bool) -> Slow {
         looks: [0; SIZE],
     };
     for place in 0..bytes.len() {
-        if place == slow.decided {
-            match slow.try_at(bytes, place, has_ended) {
-                Some(next) => slow.decided = next,
-                None => return slow,
+        if place == defined.decided {
+            match defined.try_at(bytes, place, has_ended) {
+                Some(next) => defined.decided = next,
+                None => return defined,
             }
         }
     }
-    slow
+    defined
 }
