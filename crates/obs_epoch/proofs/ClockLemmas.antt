@@ -2,12 +2,14 @@
 use Rattle.std.proofs.Common.{◌≡◌, ℕ, zero, suc, ◌+◌, ◌*◌, ◌<◌, Bool, true, false, not, ◌||◌, ◌&&◌, List, [], ◌∷◌, ◌++◌, refl, ap, ap₂, ◌∙◌, subst, arith, Option, Some, None, nat_lt}
 use Rattle.std.specs.Prelude.{◌==◌}
 use Rattle.std.specs.Option.{option_map_or}
-use Rattle.obs_epoch.specs.declared.clock.Answer.TheVariants.{CloseFirst}
+use Rattle.obs_epoch.specs.declared.taken.Kind.TheVariants.{CloseFirst}
+use Rattle.obs_epoch.specs.declared.taken.CellCounts.{CellCounts}
 use Rattle.obs_epoch.specs.Heard.{GatherSetup, Heard, ends_epoch, is_own}
 use Rattle.obs_epoch.specs.Times.{Timed, is_at, max_known, greatest_time, is_closed, taken_at, ahead, is_late, is_past, time_of}
 use Rattle.rtcm_msg.specs.Msm.{week}
-use Rattle.obs_epoch.specs.Clock.{State, is_pending, closes_first, answer_of}
-use Rattle.obs_epoch.specs.Step.{answer_by, step_by, is_late_at, is_first_at, ended_where}
+use Rattle.obs_epoch.specs.Clock.{State, is_pending, closes_first}
+use Rattle.obs_epoch.specs.Kinds.{kind_after}
+use Rattle.obs_epoch.specs.Step.{kind_by, step_by, is_late_at, is_first_at, ended_where}
 use Rattle.obs_epoch.proofs.TimesLemmas.{next, greatest-push, greatest-present, greater-absent, none-absent, closed-push, closed-new}
 use Rattle.std.proofs.lemmas.Grind.{common_steps}
 
@@ -55,11 +57,15 @@ pub same_state : (g : State) (s : GatherSetup) (latest : Option ℕ) (pending : 
     → g ≡ record { setup = s; latest = latest; pending = pending }
 same_state g s latest pending a b c = grind (arith, common_steps)
 
+-- The message is one more of the list.
+abbrev pub Takes : GatherSetup → List Timed → CellCounts → Heard → Bool → Type 0
+Takes s xs n m shut =
+    (kind_by (standing s xs shut) n m ≡ kind_after s xs n m) × (step_by (standing s xs shut) m ≡ standing s (xs ++ next s xs m ∷ []) false)
+
 -- The message isn't of the station.
-not_own : (s : GatherSetup) (xs : List Timed) (m : Heard) (shut : Bool) → is_own s m ≡ false → closes_first s xs m ≡ shut
-    → (answer_by (standing s xs shut) m ≡ answer_of s xs m)
-    × (step_by (standing s xs shut) m ≡ standing s (xs ++ next s xs m ∷ []) false)
-not_own s xs m shut own closes = grind (arith, common_steps, same_time, next, same_state)
+not_own : (s : GatherSetup) (xs : List Timed) (n : CellCounts) (m : Heard) (shut : Bool) → is_own s m ≡ false → closes_first s xs m ≡ shut
+    → Takes s xs n m shut
+not_own s xs n m shut own closes = grind (arith, common_steps, same_time, next, same_state)
 
 pub and_true : (a : Bool) → a ≡ (a && true)
 and_true true = refl
@@ -75,12 +81,6 @@ ended-is : (b : Bool) (s : GatherSetup) (latest : Option ℕ) (pending : Bool)
 ended-is true s latest pending = ap (λ x. record { setup = s; latest = latest; pending = x }) (and_false pending)
 ended-is false s latest pending = ap (λ x. record { setup = s; latest = latest; pending = x }) (and_true pending)
 
-abbrev pub ends_epoch_by : GatherSetup → Heard → Bool
-ends_epoch_by s m = s.by_bit && option_map_or not m.more false
-
-pub own_mark : (s : GatherSetup) (m : Heard) → is_own s m ≡ true → ends_epoch s m ≡ ends_epoch_by s m
-own_mark s m own = grind (arith, own)
-
 abbrev state : GatherSetup → Option ℕ → Bool → State
 state s latest pending = record { setup = s; latest = latest; pending = pending }
 
@@ -88,17 +88,16 @@ same_fields : (s : GatherSetup) (a b : Option ℕ) (p q : Bool) → a ≡ b → 
 same_fields s a b p q e f = ap₂ (state s) e f
 
 -- From the value after the message's time to that after a message that ends its epoch.
-ended_to : (s : GatherSetup) (xs : List Timed) (m : Heard) (latest : Option ℕ) (pending : Bool) → is_own s m ≡ true
+ended_to : (s : GatherSetup) (xs : List Timed) (m : Heard) (latest : Option ℕ) (pending : Bool)
     → greatest_time (xs ++ next s xs m ∷ []) ≡ latest
     → is_pending s (xs ++ next s xs m ∷ []) ≡ (pending && not (ends_epoch s m))
-    → ended_where (ends_epoch_by s m) (record { setup = s; latest = latest; pending = pending }) ≡ standing s (xs ++ next s xs m ∷ []) false
-ended_to s xs m latest pending own at is = grind (arith, common_steps)
+    → ended_where (ends_epoch s m) (record { setup = s; latest = latest; pending = pending }) ≡ standing s (xs ++ next s xs m ∷ []) false
+ended_to s xs m latest pending at is = grind (arith, common_steps)
 
 -- An own message without a time.
-no_time : (s : GatherSetup) (xs : List Timed) (m : Heard) (shut : Bool) → is_own s m ≡ true → m.tow ≡ None → closes_first s xs m ≡ shut
-    → (answer_by (standing s xs shut) m ≡ answer_of s xs m)
-    × (step_by (standing s xs shut) m ≡ standing s (xs ++ next s xs m ∷ []) false)
-no_time s xs m shut own none closes = grind (arith, common_steps, same_time, next, and_true, ended_to)
+no_time : (s : GatherSetup) (xs : List Timed) (n : CellCounts) (m : Heard) (shut : Bool) → is_own s m ≡ true → m.tow ≡ None → closes_first s xs m ≡ shut
+    → Takes s xs n m shut
+no_time s xs n m shut own none closes = grind (arith, common_steps, same_time, next, and_true, ended_to)
 
 not_later : (s : GatherSetup) (xs : List Timed) (m : Heard) (tow t : ℕ) (shut : Bool) → m.tow ≡ Some tow → greatest_time xs ≡ Some t
     → closes_first s xs m ≡ shut → ahead t tow ≡ 0 → shut ≡ false
@@ -115,11 +114,10 @@ late_same : (s : GatherSetup) (xs : List Timed) (m : Heard) (tow : ℕ) (shut : 
 late_same s xs m tow shut some closes = late_by s xs m tow shut (greatest_time xs) refl some closes
 
 -- An own message that is late or after the last week.
-not_taken : (s : GatherSetup) (xs : List Timed) (m : Heard) (tow : ℕ) (shut : Bool) → is_own s m ≡ true → m.tow ≡ Some tow → closes_first s xs m ≡ shut
+not_taken : (s : GatherSetup) (xs : List Timed) (n : CellCounts) (m : Heard) (tow : ℕ) (shut : Bool) → is_own s m ≡ true → m.tow ≡ Some tow → closes_first s xs m ≡ shut
     → (is_late s xs tow || is_past (time_of s xs tow)) ≡ true
-    → (answer_by (standing s xs shut) m ≡ answer_of s xs m)
-    × (step_by (standing s xs shut) m ≡ standing s (xs ++ next s xs m ∷ []) false)
-not_taken s xs m tow shut own some closes bad = grind (arith, common_steps, same_time, next, late_same, closes, and_true)
+    → Takes s xs n m shut
+not_taken s xs n m tow shut own some closes bad = grind (arith, common_steps, same_time, next, late_same, closes, and_true)
 
 pub follows : (s : GatherSetup) (xs : List Timed) (tow : ℕ) → is_late s xs tow ≡ false → Follows s xs (time_of s xs tow)
 follows s xs tow early = by (greatest_time xs) refl early where
@@ -137,38 +135,35 @@ no_first : (s : GatherSetup) (xs : List Timed) (m : Heard) (tow : ℕ) (shut : B
 no_first s xs m tow shut own some closes early within = grind (arith, common_steps)
 
 -- An own message that is accepted.
-is_taken : (s : GatherSetup) (xs : List Timed) (m : Heard) (tow : ℕ) (shut : Bool) → is_own s m ≡ true → m.tow ≡ Some tow → closes_first s xs m ≡ shut
+is_taken : (s : GatherSetup) (xs : List Timed) (n : CellCounts) (m : Heard) (tow : ℕ) (shut : Bool) → is_own s m ≡ true → m.tow ≡ Some tow → closes_first s xs m ≡ shut
     → is_late s xs tow ≡ false → is_past (time_of s xs tow) ≡ false
-    → (answer_by (standing s xs shut) m ≡ answer_of s xs m)
-    × (step_by (standing s xs shut) m ≡ standing s (xs ++ next s xs m ∷ []) false)
-is_taken s xs m tow shut own some closes early within =
+    → Takes s xs n m shut
+is_taken s xs n m tow shut own some closes early within =
     let u = time_of s xs tow in
     let taken : taken_at s xs m ≡ Some u = grind (arith, own, some, early, within) in
     let new = new_time s xs (next s xs m) u taken (follows s xs tow early) in
     let late = late_same s xs m tow shut some closes in
     let none_first = no_first s xs m tow shut own some closes early within in
-    let step : step_by (standing s xs shut) m ≡ ended_where (ends_epoch_by s m) (record { setup = s; latest = Some u; pending = true }) =
+    let step : step_by (standing s xs shut) m ≡ ended_where (ends_epoch s m) (record { setup = s; latest = Some u; pending = true }) =
     grind (arith, own, some, late, early, within, none_first) in
-    (grind (arith, own, some, late, early, within, none_first), step ∙ ended_to s xs m (Some u) true own new.0 new.1)
+    (grind (arith, own, some, late, early, within, none_first), step ∙ ended_to s xs m (Some u) true new.0 new.1)
 
--- The message is one more of the list.
-pub takes : (s : GatherSetup) (xs : List Timed) (m : Heard) (shut : Bool) → closes_first s xs m ≡ shut
-    → (answer_by (standing s xs shut) m ≡ answer_of s xs m)
-    × (step_by (standing s xs shut) m ≡ standing s (xs ++ next s xs m ∷ []) false)
-takes s xs m shut closes = by_own (is_own s m) m.tow refl refl where
+pub takes : (s : GatherSetup) (xs : List Timed) (n : CellCounts) (m : Heard) (shut : Bool) → closes_first s xs m ≡ shut
+    → Takes s xs n m shut
+takes s xs n m shut closes = by_own (is_own s m) m.tow refl refl where
   by_bad : (tow : ℕ) (bad late past : Bool) → is_own s m ≡ true → m.tow ≡ Some tow → is_late s xs tow ≡ late → is_past (time_of s xs tow) ≡ past
-      → (answer_by (standing s xs shut) m ≡ answer_of s xs m) × (step_by (standing s xs shut) m ≡ standing s (xs ++ next s xs m ∷ []) false)
-  by_bad tow bad true past own some late is_over = not_taken s xs m tow shut own some closes (ap (λ v. v || is_past (time_of s xs tow)) late)
-  by_bad tow bad false true own some late is_over = not_taken s xs m tow shut own some closes (ap₂ (λ v w. v || w) late is_over)
-  by_bad tow bad false false own some late is_over = is_taken s xs m tow shut own some closes late is_over
+      → Takes s xs n m shut
+  by_bad tow bad true past own some late is_over = not_taken s xs n m tow shut own some closes (ap (λ v. v || is_past (time_of s xs tow)) late)
+  by_bad tow bad false true own some late is_over = not_taken s xs n m tow shut own some closes (ap₂ (λ v w. v || w) late is_over)
+  by_bad tow bad false false own some late is_over = is_taken s xs n m tow shut own some closes late is_over
 
   by_own : (own : Bool) (tow : Option ℕ) → is_own s m ≡ own → m.tow ≡ tow
-      → (answer_by (standing s xs shut) m ≡ answer_of s xs m) × (step_by (standing s xs shut) m ≡ standing s (xs ++ next s xs m ∷ []) false)
-  by_own false tow own some = not_own s xs m shut own closes
-  by_own true None own some = no_time s xs m shut own some closes
+      → Takes s xs n m shut
+  by_own false tow own some = not_own s xs n m shut own closes
+  by_own true None own some = no_time s xs n m shut own some closes
   by_own true (Some tow) own some = by_bad tow true _ _ own some refl refl
 
 -- A message that closes first isn't.
-pub closes : (s : GatherSetup) (xs : List Timed) (m : Heard) → closes_first s xs m ≡ true
-    → (answer_by (standing s xs false) m ≡ CloseFirst) × (step_by (standing s xs false) m ≡ standing s xs true)
-closes s xs m h = grind (arith, common_steps, ended-is, same_fields, and_false)
+pub closes : (s : GatherSetup) (xs : List Timed) (n : CellCounts) (m : Heard) → closes_first s xs m ≡ true
+    → (kind_by (standing s xs false) n m ≡ CloseFirst) × (step_by (standing s xs false) m ≡ standing s xs true)
+closes s xs n m h = grind (arith, common_steps, ended-is, same_fields, and_false)

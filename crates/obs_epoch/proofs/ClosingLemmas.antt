@@ -2,15 +2,17 @@
 use Rattle.std.proofs.Common.{◌≡◌, ℕ, ◌<◌, Bool, true, false, not, ◌&&◌, List, [], ◌∷◌, ◌++◌, refl, sym, ap, ap₂, ◌∙◌, arith, Option, Some, None, nat_lt, append-nil}
 use Rattle.std.specs.Prelude.{if◌then◌else◌, option_to_list}
 use Rattle.std.specs.Option.{option_map_or}
-use Rattle.obs_epoch.specs.declared.clock.Answer.{Answer}
-use Rattle.obs_epoch.specs.declared.clock.Answer.TheVariants.{OtherStation, Ignored, Late, PastWeeks, Kept, CloseFirst}
+use Rattle.obs_epoch.specs.declared.taken.Kind.{Kind}
+use Rattle.obs_epoch.specs.declared.taken.CellCounts.{CellCounts}
 use Rattle.obs_epoch.specs.Heard.{GatherSetup, Heard, ends_epoch, is_own}
 use Rattle.obs_epoch.specs.Times.{Timed, greatest_time, is_closed, taken_at, is_late, is_past, time_of}
-use Rattle.obs_epoch.specs.Clock.{is_pending, closes_first, answer_of}
+use Rattle.obs_epoch.specs.Clock.{State, is_pending, closes_first}
+use Rattle.obs_epoch.specs.Cells.{no_counts}
+use Rattle.obs_epoch.specs.Kinds.{is_close_first, is_kept, kind_after}
 use Rattle.obs_epoch.specs.Step.{closed_of, closed_by}
 use Rattle.obs_epoch.specs.Epochs.{closed_times, closed_so_far}
 use Rattle.obs_epoch.proofs.TimesLemmas.{next}
-use Rattle.obs_epoch.proofs.ClockLemmas.{standing, takes, ends_epoch_by, own_mark, same_time, Follows, first, greater, equal, new_time}
+use Rattle.obs_epoch.proofs.ClockLemmas.{standing, takes, same_time, Follows, first, greater, equal, new_time}
 use Rattle.obs_epoch.proofs.ClosedLemmas.{when, no_greatest, taken_follows, closed-push_none, closed-push_greater, closed-push_same, closed-push_first}
 use Rattle.std.proofs.lemmas.Grind.{common_steps}
 
@@ -32,16 +34,6 @@ untaken s xs x none = by (greatest_time xs) refl where
       → closed_times s (xs ++ x ∷ []) ≡ closed_times s xs ++ option_to_list (if ends_epoch s x.message && option_map_or (λ t. not (is_closed s t xs)) g false then g else None)
   by None e = no_greatest s xs x none e ∙ ap (λ l. closed_times s xs ++ l) (neither (ends_epoch s x.message) None)
   by (Some g) e = closed-push_none s xs x g none e ∙ ap (λ l. closed_times s xs ++ l) (either (ends_epoch s x.message) (is_closed s g xs) g)
-
--- The same for the outcomes of such a message.
-untaken_kind : (k : Answer) (own m p : Bool) (before after : Option ℕ) → own ≡ true → (k ≡ CloseFirst → ⊥) → (k ≡ OtherStation → ⊥) → (k ≡ Kept → ⊥)
-    → closed_of k m p before after ≡ (if m && p then after else None)
-untaken_kind Ignored own m p before after e a b c = refl
-untaken_kind Late own m p before after e a b c = refl
-untaken_kind PastWeeks own m p before after e a b c = refl
-untaken_kind CloseFirst own m p before after e a b c = absurd (a refl)
-untaken_kind OtherStation own m p before after e a b c = absurd (b refl)
-untaken_kind Kept own m p before after e a b c = absurd (c refl)
 
 plain : (s : GatherSetup) (ys : List Timed) → closed_so_far s ys false ≡ closed_times s ys
 plain s ys = append-nil (closed_times s ys)
@@ -88,60 +80,52 @@ taken_by s xs m u own some (greater t e lt) shut h =
 
 -- The epoch that a step closes, defined by the list.
 abbrev closed_in : GatherSetup → List Timed → Heard → Bool → Option ℕ
-closed_in s xs m shut = closed_of (answer_of s xs m) (ends_epoch_by s m) (is_pending s xs && not shut) (greatest_time xs) (greatest_time (xs ++ next s xs m ∷ []))
+closed_in s xs m shut = closed_of (kind_after s xs no_counts m) (ends_epoch s m) (is_pending s xs && not shut) (greatest_time xs) (greatest_time (xs ++ next s xs m ∷ []))
 
 closed_in_is : (s : GatherSetup) (xs : List Timed) (m : Heard) (shut : Bool) → closes_first s xs m ≡ shut → closed_by (standing s xs shut) m ≡ closed_in s xs m shut
-closed_in_is s xs m shut h = grind (arith, common_steps, takes, ends_epoch_by)
+closed_in_is s xs m shut h = ap₂ (λ k (g : State). closed_of k (ends_epoch s m) (is_pending s xs && not shut) (greatest_time xs) g.latest) (takes s xs no_counts m shut h).0 (takes s xs no_counts m shut h).1
 
--- A message that isn't accepted.
+-- The outcome of a message that isn't accepted, and of one that is.
+pub refused : (s : GatherSetup) (xs : List Timed) (n : CellCounts) (m : Heard) → taken_at s xs m ≡ None
+    → (is_close_first (kind_after s xs n m) ≡ false) × (is_kept (kind_after s xs n m) ≡ false)
+refused s xs n m none = grind (arith, common_steps)
+
+pub accepted : (s : GatherSetup) (xs : List Timed) (n : CellCounts) (m : Heard) (u : ℕ) → taken_at s xs m ≡ Some u
+    → (is_close_first (kind_after s xs n m) ≡ false) × (is_kept (kind_after s xs n m) ≡ true)
+accepted s xs n m u some = grind (arith, common_steps)
+
 closing_none : (s : GatherSetup) (xs : List Timed) (m : Heard) (shut : Bool) → taken_at s xs m ≡ None → closes_first s xs m ≡ shut
     → closed_so_far s (xs ++ next s xs m ∷ []) false ≡ closed_so_far s xs shut ++ option_to_list (closed_in s xs m shut)
 closing_none s xs m shut none h =
     plain s (xs ++ next s xs m ∷ []) ∙ untaken s xs (next s xs m) none
-    ∙ ap₂ (λ l o. l ++ option_to_list o) (sym (plain s xs) ∙ ap (closed_so_far s xs) (sym open_still)) (closed (is_own s m) refl) where
+    ∙ ap₂ (λ l o. l ++ option_to_list o) (sym (plain s xs) ∙ ap (closed_so_far s xs) (sym open_still)) closed where
       open_still : shut ≡ false
       open_still = grind (arith, none, h)
 
-      same : greatest_time (xs ++ next s xs m ∷ []) ≡ greatest_time xs
-      same = (same_time s xs (next s xs m) none).0
+      by : (k : Kind) (ends p sh : Bool) (before after : Option ℕ) → is_close_first k ≡ false → is_kept k ≡ false → sh ≡ false → after ≡ before
+          → (if ends && p then before else None) ≡ closed_of k ends (p && not sh) before after
+      by k ends p sh before after other untaken still same = grind (arith, common_steps)
 
-      known : (b p sh : Bool) (c d : Bool) (g : Option ℕ) → sh ≡ false → c ≡ b → (if c && p then g else None) ≡ (if b && (p && not sh) then g else None)
-      known b p sh c d g e f = grind (arith, e, f)
-
-      other : is_own s m ≡ false → (if ends_epoch s m && is_pending s xs then greatest_time xs else None) ≡ closed_in s xs m shut
-      other own =
-          let kind : answer_of s xs m ≡ OtherStation = grind (arith, own) in
-          let not_last : ends_epoch s m ≡ false = grind (arith, own) in
-          ap (λ b. if b && is_pending s xs then greatest_time xs else None) not_last
-          ∙ ap (λ k. closed_of k (ends_epoch_by s m) (is_pending s xs && not shut) (greatest_time xs) (greatest_time (xs ++ next s xs m ∷ []))) (sym kind)
-
-      closed : (own : Bool) → is_own s m ≡ own → (if ends_epoch s m && is_pending s xs then greatest_time xs else None) ≡ closed_in s xs m shut
-      closed false own = other own
-      closed true own =
-          known (ends_epoch_by s m) (is_pending s xs) shut (ends_epoch s m) false (greatest_time xs) open_still (own_mark s m own)
-          ∙ ap (λ g. if ends_epoch_by s m && (is_pending s xs && not shut) then g else None) (sym same)
-          ∙ sym (untaken_kind (answer_of s xs m) true (ends_epoch_by s m) (is_pending s xs && not shut) (greatest_time xs) _ refl
-          (λ e. grind (arith, own, e)) (λ e. grind (arith, own, e)) (λ e. grind (arith, own, e, none)))
+      closed : (if ends_epoch s m && is_pending s xs then greatest_time xs else None) ≡ closed_in s xs m shut
+      closed =
+          let kind = refused s xs no_counts m none in
+          by (kind_after s xs no_counts m) (ends_epoch s m) (is_pending s xs) shut (greatest_time xs) _ kind.0 kind.1 open_still (same_time s xs (next s xs m) none).0
 
 closing_some : (s : GatherSetup) (xs : List Timed) (m : Heard) (u : ℕ) (shut : Bool) → taken_at s xs m ≡ Some u → closes_first s xs m ≡ shut
     → closed_so_far s (xs ++ next s xs m ∷ []) false ≡ closed_so_far s xs shut ++ option_to_list (closed_in s xs m shut)
 closing_some s xs m u shut some h =
     let own : is_own s m ≡ true = own_of (is_own s m) refl in
-    let p = parts s xs m u some in
     let new = new_time s xs (next s xs m) u some (taken_follows s xs m u some) in
-    let tow = p.some in let early = p.early in let within = p.within in
-    let kind : answer_of s xs m ≡ Kept = grind (arith, own, tow, early, within) in
-    let closed : when (ends_epoch s m) u ≡ option_to_list (closed_in s xs m shut) =
-    ap (λ b. when b u) (own_mark s m own) ∙ kept_text (ends_epoch_by s m) u
-    ∙ ap₂ (λ k g. option_to_list (closed_of k (ends_epoch_by s m) (is_pending s xs && not shut) (greatest_time xs) g)) (sym kind) (sym new.0) in
-    plain s (xs ++ next s xs m ∷ []) ∙ taken_by s xs m u own some (taken_follows s xs m u some) shut h ∙ ap (λ l. closed_so_far s xs shut ++ l) closed where
+    let kind = accepted s xs no_counts m u some in
+    plain s (xs ++ next s xs m ∷ []) ∙ taken_by s xs m u own some (taken_follows s xs m u some) shut h
+    ∙ ap (λ l. closed_so_far s xs shut ++ l) (kept_text (kind_after s xs no_counts m) (ends_epoch s m) (is_pending s xs && not shut) (greatest_time xs) _ u kind.0 kind.1 new.0) where
       own_of : (own : Bool) → is_own s m ≡ own → is_own s m ≡ true
       own_of true e = e
       own_of false e = absurd (grind (arith, e, some))
 
-      kept_text : (b : Bool) (v : ℕ) → when b v ≡ option_to_list (if b then Some v else None)
-      kept_text true v = refl
-      kept_text false v = refl
+      kept_text : (k : Kind) (ends was : Bool) (before after : Option ℕ) (v : ℕ) → is_close_first k ≡ false → is_kept k ≡ true → after ≡ Some v
+          → when ends v ≡ option_to_list (closed_of k ends was before after)
+      kept_text k ends was before after v other kept at = grind (arith, common_steps)
 
 pub closing : (s : GatherSetup) (xs : List Timed) (m : Heard) (shut : Bool) → closes_first s xs m ≡ shut
     → closed_so_far s (xs ++ next s xs m ∷ []) false ≡ closed_so_far s xs shut ++ option_to_list (closed_by (standing s xs shut) m)

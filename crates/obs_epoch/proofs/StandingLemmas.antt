@@ -7,12 +7,12 @@ use Rattle.std.proofs.lemmas.List.Elements.{filter-append}
 use Rattle.gnss_obs.specs.declared.system.System.TheVariants.{Gps, Galileo}
 use Rattle.obs_epoch.specs.Heard.{GatherSetup, Heard, is_own, ends_epoch, HeardCell, kept_cell}
 use Rattle.obs_epoch.specs.Times.{Timed, is_at, greatest_time, is_closed, taken_at}
-use Rattle.obs_epoch.specs.Cells.{kept_at, offered, is_planned}
+use Rattle.obs_epoch.specs.Cells.{no_counts, kept_at, offered, is_planned}
 use Rattle.obs_epoch.specs.Loss.{locked_at, latest_in, previous, times, lli_with}
 use Rattle.obs_epoch.specs.Epochs.{cells_with_lli, epoch_at, closed_so_far}
 use Rattle.obs_epoch.specs.Held.{lookup, no_locks}
 use Rattle.obs_epoch.specs.Clock.{State, closes_first}
-use Rattle.obs_epoch.specs.Gather.{Gathered, no_epoch, no_counts, load, epoch_begun, is_same}
+use Rattle.obs_epoch.specs.Gather.{Gathered, no_epoch, load, epoch_begun, is_same}
 use Rattle.obs_epoch.specs.GathererHistory.{locked_in, held_at, Locked}
 use Rattle.obs_epoch.proofs.TimesLemmas.{next, greater-absent, none-absent}
 use Rattle.obs_epoch.proofs.ClockLemmas.{standing, same_time, Follows, first, greater, equal, new_time}

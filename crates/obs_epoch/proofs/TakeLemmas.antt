@@ -6,20 +6,22 @@ use Rattle.std.proofs.lemmas.List.{map-append}
 use Rattle.std.proofs.lemmas.List.Sums.{fold-append}
 use Rattle.rtcm_msg.specs.declared.message.Message.{Message}
 use Rattle.rtcm_msg.specs.declared.message.Message.TheVariants as message
-use Rattle.obs_epoch.specs.declared.clock.Answer.{Answer}
-use Rattle.obs_epoch.specs.declared.clock.Answer.TheVariants as answers
-use Rattle.obs_epoch.specs.Heard.{GatherSetup, Heard, heard, is_own, HeardCell}
+use Rattle.obs_epoch.specs.declared.taken.Kind.{Kind}
+use Rattle.obs_epoch.specs.declared.taken.Kind.TheVariants.{CloseFirst}
+use Rattle.obs_epoch.specs.declared.taken.CellCounts.{CellCounts}
+use Rattle.obs_epoch.specs.Heard.{GatherSetup, Heard, heard, is_own, ends_epoch, HeardCell}
 use Rattle.obs_epoch.specs.Times.{Timed, greatest_time, taken_at, timed}
-use Rattle.obs_epoch.specs.Cells.{with_skipped, offered, counts_of}
+use Rattle.obs_epoch.specs.Cells.{no_counts, with_skipped, offered, counts_of, counts_of_message}
 use Rattle.obs_epoch.specs.Epochs.{epoch_at, closed_so_far, closed_times, values_of, values_by_message}
-use Rattle.obs_epoch.specs.Clock.{State, HasHeardMessages, is_pending, closes_first, answer_of}
-use Rattle.obs_epoch.specs.Step.{answer_by, step_by, closed_by, closed_of}
-use Rattle.obs_epoch.specs.Gather.{with_unlisted, Gathered, Loaded, no_epoch, no_counts, noted, load, loaded_by, fate_in, load_one, with_time, closed_if, take_step, end_step}
-use Rattle.obs_epoch.specs.GathererHistory.{held_at, Locked, HasTakenMessages, closed_list, counts_of_message, closed_epoch}
+use Rattle.obs_epoch.specs.Clock.{State, HasHeardMessages, is_pending, closes_first}
+use Rattle.obs_epoch.specs.Kinds.{is_close_first, is_kept, kind_after}
+use Rattle.obs_epoch.specs.Step.{kind_by, step_by, closed_by, closed_of}
+use Rattle.obs_epoch.specs.Gather.{with_unlisted, Gathered, Loaded, no_epoch, noted, load, loaded_if, fate_in, load_one, with_time, closed_if, take_step, end_step}
+use Rattle.obs_epoch.specs.GathererHistory.{held_at, Locked, HasTakenMessages, closed_list, closed_epoch}
 use Rattle.obs_epoch.proofs.TimesLemmas.{next, timed-push}
 use Rattle.obs_epoch.proofs.ClockLemmas.{standing, same_state, takes, closes, new_time}
 use Rattle.obs_epoch.proofs.ClosedLemmas.{taken_follows}
-use Rattle.obs_epoch.proofs.ClosingLemmas.{closing}
+use Rattle.obs_epoch.proofs.ClosingLemmas.{accepted, closing, refused}
 use Rattle.obs_epoch.proofs.EpochLemmas.{same_epochs}
 use Rattle.obs_epoch.proofs.CountsLemmas.{counts_are}
 use Rattle.obs_epoch.proofs.LoadLemmas.{hold_is}
@@ -58,38 +60,11 @@ assemble g s ms shut ts (Some t) h at closed = record {
 }
 
 -- An epoch that is closed by a message that isn't passed again is of the greatest time then.
-after_closed : (k : Answer) (b p : Bool) (before after : Option ℕ) (t : ℕ) → (k ≡ answers.CloseFirst → ⊥) → closed_of k b p before after ≡ Some t → after ≡ Some t
-after_closed answers.CloseFirst b p before after t unlike e = absurd (unlike refl)
-after_closed answers.OtherStation b p before after t unlike e = grind (arith, e)
-after_closed answers.Kept true p before after t unlike e = e
-after_closed answers.Kept false p before after t unlike e = grind (arith, e)
-after_closed answers.Ignored true true before after t unlike e = e
-after_closed answers.Ignored true false before after t unlike e = grind (arith, e)
-after_closed answers.Ignored false p before after t unlike e = grind (arith, e)
-after_closed answers.Late true true before after t unlike e = e
-after_closed answers.Late true false before after t unlike e = grind (arith, e)
-after_closed answers.Late false p before after t unlike e = grind (arith, e)
-after_closed answers.PastWeeks true true before after t unlike e = e
-after_closed answers.PastWeeks true false before after t unlike e = grind (arith, e)
-after_closed answers.PastWeeks false p before after t unlike e = grind (arith, e)
+after_closed : (k : Kind) (b p : Bool) (before after : Option ℕ) (t : ℕ) → is_close_first k ≡ false → closed_of k b p before after ≡ Some t → after ≡ Some t
+after_closed k b p before after t other e = grind (arith, common_steps)
 
-pub not_first : (s : GatherSetup) (xs : List Timed) (m : Heard) → answer_of s xs m ≡ answers.CloseFirst → ⊥
-not_first s xs m e = grind (arith, common_steps)
-
--- A message of another outcome adds no cells.
-others : (k : Answer) (before : Option ℕ) (g : Gathered) (m : Heard) → (k ≡ answers.Kept → ⊥) → loaded_by k before g m ≡ record { state = g; counts = no_counts }
-others answers.Kept before g m unlike = absurd (unlike refl)
-others answers.OtherStation before g m unlike = refl
-others answers.Ignored before g m unlike = refl
-others answers.Late before g m unlike = refl
-others answers.PastWeeks before g m unlike = refl
-others answers.CloseFirst before g m unlike = refl
-
-kept_kind : (s : GatherSetup) (xs : List Timed) (m : Heard) (u : ℕ) → taken_at s xs m ≡ Some u → answer_of s xs m ≡ answers.Kept
-kept_kind s xs m u some = grind (arith, common_steps)
-
-other_kind : (s : GatherSetup) (xs : List Timed) (m : Heard) → taken_at s xs m ≡ None → answer_of s xs m ≡ answers.Kept → ⊥
-other_kind s xs m none e = grind (arith, none, e)
+pub not_first : (s : GatherSetup) (xs : List Timed) (n : CellCounts) (m : Heard) → is_close_first (kind_after s xs n m) ≡ false
+not_first s xs n m = grind (arith, common_steps)
 
 -- The value before the closing, and the counts.
 pub record Reached (l : Loaded) (s : GatherSetup) (ms : List Heard) (m : Heard) (shut : Bool) : Type 0 where
@@ -97,7 +72,7 @@ pub record Reached (l : Loaded) (s : GatherSetup) (ms : List Heard) (m : Heard) 
   pub counts : l.counts ≡ counts_of_message s (timed s ms) m
 
 reached : (g : Gathered) (s : GatherSetup) (ms : List Heard) (m : Heard) (shut : Bool) → HasTakenMessages g s ms shut → closes_first s (timed s ms) m ≡ shut
-    → Reached (loaded_by (answer_by g.clock m) g.clock.latest (with_time g m) m) s ms m shut
+    → Reached (loaded_if (is_kept (kind_by g.clock no_counts m)) g.clock.latest (with_time g m) m) s ms m shut
 reached g s ms m shut h early = by (taken_at s xs m) refl where
   xs : List Timed
   xs = timed s ms
@@ -109,10 +84,10 @@ reached g s ms m shut h early = by (taken_at s xs m) refl where
   was = clock_is g.clock s ms shut h.clock
 
   now : (with_time g m).clock ≡ standing s (xs ++ next s xs m ∷ []) false
-  now = ap (λ c. step_by c m) was ∙ (takes s xs m shut early).1
+  now = ap (λ c. step_by c m) was ∙ (takes s xs no_counts m shut early).1
 
-  answer : answer_by g.clock m ≡ answer_of s xs m
-  answer = ap (λ c. answer_by c m) was ∙ (takes s xs m shut early).0
+  kind : kind_by g.clock no_counts m ≡ kind_after s xs no_counts m
+  kind = ap (λ c. kind_by c no_counts m) was ∙ (takes s xs no_counts m shut early).0
 
   values : (with_time g m).values ≡ values_of s (ms ++ m ∷ [])
   values = ap₂ (λ c v. values_by_message c v m) h.clock.setup h.values ∙ sym (values-push s ms m)
@@ -134,9 +109,9 @@ reached g s ms m shut h early = by (taken_at s xs m) refl where
     values = d;
   }
 
-  by : (o : Option ℕ) → taken_at s xs m ≡ o → Reached (loaded_by (answer_by g.clock m) g.clock.latest (with_time g m) m) s ms m shut
+  by : (o : Option ℕ) → taken_at s xs m ≡ o → Reached (loaded_if (is_kept (kind_by g.clock no_counts m)) g.clock.latest (with_time g m) m) s ms m shut
   by None none =
-      let is = ap (λ k. loaded_by k g.clock.latest (with_time g m) m) answer ∙ others (answer_of s xs m) g.clock.latest (with_time g m) m (other_kind s xs m none) in
+      let is = ap (λ b. loaded_if b g.clock.latest (with_time g m) m) (ap is_kept kind ∙ (refused s xs no_counts m none).1) in
       subst (λ l. Reached l s ms m shut) (sym is) (record {
         mid = moved (with_time g m) now (h.epoch ∙ sym (held_same s xs m none)) locks values;
         counts = ap (λ o. option_map_or (λ u. with_skipped m.unlisted (counts_of s (offered s u xs) m.cells)) o no_counts) (sym none);
@@ -144,7 +119,7 @@ reached g s ms m shut h early = by (taken_at s xs m) refl where
   by (Some u) some =
       let new = new_time s xs (next s xs m) u some (taken_follows s xs m u some) in
       let latest : g.clock.latest ≡ greatest_time xs = ap (λ (c : State). c.latest) was in
-      let is = ap₂ (λ k o. loaded_by k o (with_time g m) m) (answer ∙ kept_kind s xs m u some) latest
+      let is = ap₂ (λ b o. loaded_if b o (with_time g m) m) (ap is_kept kind ∙ (accepted s xs no_counts m u some).1) latest
       ∙ ap (with_unlisted m.unlisted) (loaded_taken (with_time g m) s xs m u shut some early h.epoch before now) in
       subst (λ l. Reached l s ms m shut) (sym is) (record {
         mid = moved (record (with_time g m) { epoch = epoch_at s (xs ++ next s xs m ∷ []) u }) now
@@ -180,7 +155,7 @@ epoch_stays true g = refl
 epoch_stays false g = refl
 
 pub record Taken (g : Gathered) (s : GatherSetup) (ms : List Heard) (m : Heard) (shut : Bool) : Type 0 where
-  pub kind : answer_by g.clock m ≡ answer_of s (timed s ms) m
+  pub kind : (n : CellCounts) → kind_by g.clock n m ≡ kind_after s (timed s ms) n m
   pub counts : (take_step g m).counts ≡ counts_of_message s (timed s ms) m
   pub after : HasTakenMessages (take_step g m).state s (ms ++ m ∷ []) false
   pub closed : closed_list s (timed s (ms ++ m ∷ [])) false ≡ closed_list s (timed s ms) shut ++ closed_epoch (is_some (closed_by g.clock m)) (take_step g m).state.epoch
@@ -191,17 +166,17 @@ taken g s ms m shut h early =
     let xs = timed s ms in
     let o = closed_by g.clock m in
     let was = clock_is g.clock s ms shut h.clock in
-    let answer : answer_by g.clock m ≡ answer_of s xs m = ap (λ c. answer_by c m) was ∙ (takes s xs m shut early).0 in
-    let now : step_by g.clock m ≡ standing s (xs ++ next s xs m ∷ []) false = ap (λ c. step_by c m) was ∙ (takes s xs m shut early).1 in
+    let kind : (n : CellCounts) → kind_by g.clock n m ≡ kind_after s xs n m = λ n. ap (λ c. kind_by c n m) was ∙ (takes s xs n m shut early).0 in
+    let now : step_by g.clock m ≡ standing s (xs ++ next s xs m ∷ []) false = ap (λ c. step_by c m) was ∙ (takes s xs no_counts m shut early).1 in
     let closed : closed_so_far s (timed s (ms ++ m ∷ [])) false ≡ closed_so_far s xs shut ++ option_to_list o =
     ap (λ l. closed_so_far s l false) (timed-push s ms m) ∙ closing s xs m shut early ∙ ap (λ c. closed_so_far s xs shut ++ option_to_list (closed_by c m)) (sym was) in
     let at : (t : ℕ) → o ≡ Some t → greatest_time (timed s (ms ++ m ∷ [])) ≡ Some t =
     λ t e. ap greatest_time (timed-push s ms m) ∙ ap (λ (c : State). c.latest) (sym now)
-    ∙ after_closed (answer_by g.clock m) _ _ _ _ t (λ f. not_first s xs m (sym answer ∙ f)) e in
+    ∙ after_closed (kind_by g.clock no_counts m) _ _ _ _ t (ap is_close_first (kind no_counts) ∙ not_first s xs no_counts m) e in
     let r = reached g s ms m shut h early in
-    let l = loaded_by (answer_by g.clock m) g.clock.latest (with_time g m) m in
+    let l = loaded_if (is_kept (kind_by g.clock no_counts m)) g.clock.latest (with_time g m) m in
     record {
-      kind = answer;
+      kind = kind;
       counts = r.counts;
       after = assemble l.state s (ms ++ m ∷ []) false (closed_so_far s xs shut) o r.mid at closed;
       closed = grown s ms m shut o (take_step g m).state.epoch early closed (epoch_stays (is_some o) l.state ∙ r.mid.epoch) at;
@@ -218,33 +193,22 @@ pub time_taken : (g : Gathered) (s : GatherSetup) (ms : List Heard) (m : Heard) 
 time_taken g s ms m shut h early t e =
     let xs = timed s ms in
     let was = clock_is g.clock s ms shut h.clock in
-    let answer : answer_by g.clock m ≡ answer_of s xs m = ap (λ c. answer_by c m) was ∙ (takes s xs m shut early).0 in
-    let now : step_by g.clock m ≡ standing s (xs ++ next s xs m ∷ []) false = ap (λ c. step_by c m) was ∙ (takes s xs m shut early).1 in
+    let kind : (n : CellCounts) → kind_by g.clock n m ≡ kind_after s xs n m = λ n. ap (λ c. kind_by c n m) was ∙ (takes s xs n m shut early).0 in
+    let now : step_by g.clock m ≡ standing s (xs ++ next s xs m ∷ []) false = ap (λ c. step_by c m) was ∙ (takes s xs no_counts m shut early).1 in
     ap greatest_time (timed-push s ms m) ∙ ap (λ (c : State). c.latest) (sym now)
-    ∙ after_closed (answer_by g.clock m) _ _ _ _ t (λ f. not_first s xs m (sym answer ∙ f)) e
+    ∙ after_closed (kind_by g.clock no_counts m) _ _ _ _ t (ap is_close_first (kind no_counts) ∙ not_first s xs no_counts m) e
 
 -- An epoch that a message closes that isn't accepted was pending.
-was_pending : (k : Answer) (b p : Bool) (before after : Option ℕ) (t : ℕ) → (k ≡ answers.CloseFirst → ⊥) → (k ≡ answers.Kept → ⊥) → closed_of k b p before after ≡ Some t → p ≡ true
-was_pending answers.CloseFirst b p before after t unlike untaken e = absurd (unlike refl)
-was_pending answers.Kept b p before after t unlike untaken e = absurd (untaken refl)
-was_pending answers.OtherStation b p before after t unlike untaken e = grind (arith, e)
-was_pending answers.Ignored b true before after t unlike untaken e = refl
-was_pending answers.Ignored true false before after t unlike untaken e = grind (arith, e)
-was_pending answers.Ignored false false before after t unlike untaken e = grind (arith, e)
-was_pending answers.Late b true before after t unlike untaken e = refl
-was_pending answers.Late true false before after t unlike untaken e = grind (arith, e)
-was_pending answers.Late false false before after t unlike untaken e = grind (arith, e)
-was_pending answers.PastWeeks b true before after t unlike untaken e = refl
-was_pending answers.PastWeeks true false before after t unlike untaken e = grind (arith, e)
-was_pending answers.PastWeeks false false before after t unlike untaken e = grind (arith, e)
+was_pending : (k : Kind) (b p : Bool) (before after : Option ℕ) (t : ℕ) → is_close_first k ≡ false → is_kept k ≡ false → closed_of k b p before after ≡ Some t → p ≡ true
+was_pending k b p before after t other untaken e = grind (arith, common_steps)
 
 pub pending_taken : (g : Gathered) (s : GatherSetup) (ms : List Heard) (m : Heard) (shut : Bool) → HasTakenMessages g s ms shut → closes_first s (timed s ms) m ≡ shut
     → taken_at s (timed s ms) m ≡ None → (t : ℕ) → closed_by g.clock m ≡ Some t → is_pending s (timed s ms) ≡ true
 pending_taken g s ms m shut h early none t e =
     let xs = timed s ms in
     let was = clock_is g.clock s ms shut h.clock in
-    let answer : answer_by g.clock m ≡ answer_of s xs m = ap (λ c. answer_by c m) was ∙ (takes s xs m shut early).0 in
-    let p : g.clock.pending ≡ true = was_pending (answer_by g.clock m) _ g.clock.pending _ _ t (λ f. not_first s xs m (sym answer ∙ f)) (λ f. other_kind s xs m none (sym answer ∙ f)) e in
+    let kind : (n : CellCounts) → kind_by g.clock n m ≡ kind_after s xs n m = λ n. ap (λ c. kind_by c n m) was ∙ (takes s xs n m shut early).0 in
+    let p : g.clock.pending ≡ true = was_pending (kind_by g.clock no_counts m) _ g.clock.pending _ _ t (ap is_close_first (kind no_counts) ∙ (refused s xs no_counts m none).0) (ap is_kept (kind no_counts) ∙ (refused s xs no_counts m none).1) e in
     left_true (is_pending s xs) (not shut) (sym h.clock.pending ∙ p) where
       left_true : (a b : Bool) → (a && b) ≡ true → a ≡ true
       left_true true b e = refl
@@ -272,7 +236,7 @@ pub same_values : (s : GatherSetup) (ms : List Heard) (m : Heard) → m.point �
 same_values s ms m none = grind (arith, common_steps)
 
 pub record First (g : Gathered) (s : GatherSetup) (ms : List Heard) (m : Heard) : Type 0 where
-  pub kind : answer_by g.clock m ≡ answers.CloseFirst
+  pub kind : (n : CellCounts) → kind_by g.clock n m ≡ CloseFirst
   pub has : is_some (closed_by g.clock m) ≡ true
   pub after : HasTakenMessages (take_step g m).state s ms true
   pub closed : closed_list s (timed s ms) true ≡ closed_list s (timed s ms) false ++ (take_step g m).state.epoch ∷ []
@@ -286,14 +250,14 @@ closes_it g s ms m h early none = by (greatest_time (timed s ms)) refl where
   was : g.clock ≡ standing s xs false
   was = clock_is g.clock s ms false h.clock
 
-  answer : answer_by g.clock m ≡ answers.CloseFirst
-  answer = ap (λ c. answer_by c m) was ∙ (closes s xs m early).0
+  kind : (n : CellCounts) → kind_by g.clock n m ≡ CloseFirst
+  kind n = ap (λ c. kind_by c n m) was ∙ (closes s xs n m early).0
 
   now : step_by g.clock m ≡ standing s xs true
-  now = ap (λ c. step_by c m) was ∙ (closes s xs m early).1
+  now = ap (λ c. step_by c m) was ∙ (closes s xs no_counts m early).1
 
   just_closed : closed_by g.clock m ≡ greatest_time xs
-  just_closed = ap (λ k. closed_of k (g.clock.setup.by_bit && option_map_or not m.more false) g.clock.pending g.clock.latest (step_by g.clock m).latest) answer ∙ ap (λ (c : State). c.latest) was
+  just_closed = ap (λ k. closed_of k (ends_epoch g.clock.setup m) g.clock.pending g.clock.latest (step_by g.clock m).latest) (kind no_counts) ∙ ap (λ (c : State). c.latest) was
 
   unchanged : values_by_message g.clock.setup g.values m ≡ values_of s ms
   unchanged = by_own (is_own g.clock.setup m) ∙ h.values where
@@ -302,7 +266,7 @@ closes_it g s ms m h early none = by (greatest_time (timed s ms)) refl where
     by_own false = refl
 
   step : take_step g m ≡ closed_if (is_some (closed_by g.clock m)) (record { state = with_time g m; counts = no_counts })
-  step = ap (λ k. closed_if (is_some (closed_by g.clock m)) (loaded_by k g.clock.latest (with_time g m) m)) answer
+  step = ap (λ k. closed_if (is_some (closed_by g.clock m)) (loaded_if (is_kept k) g.clock.latest (with_time g m) m)) (kind no_counts)
 
   by : (o : Option ℕ) → greatest_time xs ≡ o → First g s ms m
   by None e = absurd (grind (arith, early, e))
@@ -320,7 +284,7 @@ closes_it g s ms m h early none = by (greatest_time (timed s ms)) refl where
       ap (λ o. closed_times s xs ++ option_to_list o) e ∙ ap (λ l. l ++ t ∷ []) (sym (append-nil (closed_times s xs))) in
       let held : g.epoch ≡ epoch_at s xs t = h.epoch ∙ ap (λ o. option_map_or (epoch_at s xs) o no_epoch) e in
       record {
-        kind = answer;
+        kind = kind;
         has = ap is_some is;
         after = subst (λ (l : Loaded). HasTakenMessages l.state s ms true) (sym to)
             (assemble (with_time g m) s ms true (closed_so_far s xs false) (Some t) mid (λ u f. e ∙ f) more);
@@ -397,16 +361,18 @@ begun_handed : (b : Bool) (g e : Gathered) → e.just_closed ≡ g.just_closed �
 begun_handed true g e h = refl
 begun_handed false g e h = h
 
-loaded_handed : (k : Answer) (before : Option ℕ) (g : Gathered) (m : Heard) → (loaded_by k before g m).state.just_closed ≡ g.just_closed
-loaded_handed answers.Kept before g m = grind (arith, common_steps, load_handed, begun_handed)
-loaded_handed answers.OtherStation before g m = refl
-loaded_handed answers.Ignored before g m = refl
-loaded_handed answers.Late before g m = refl
-loaded_handed answers.PastWeeks before g m = refl
-loaded_handed answers.CloseFirst before g m = refl
+loaded_handed : (accepted : Bool) (before : Option ℕ) (g : Gathered) (m : Heard) → (loaded_if accepted before g m).state.just_closed ≡ g.just_closed
+loaded_handed true before g m = grind (arith, common_steps, load_handed, begun_handed)
+loaded_handed false before g m = refl
+
+closed_handed : (b : Bool) (l : Loaded) → (closed_if b l).state.just_closed ≡ l.state.just_closed
+closed_handed true l = refl
+closed_handed false l = refl
 
 pub handed_is : (g : Gathered) (m : Heard) → (take_step g m).state.just_closed ≡ is_some (closed_by g.clock m)
-handed_is g m = grind (arith, common_steps, loaded_handed)
+handed_is g m =
+    let is_kept_kind = is_kept (kind_by g.clock no_counts m) in
+    closed_handed (is_some (closed_by g.clock m)) (loaded_if is_kept_kind g.clock.latest (with_time g m) m) ∙ loaded_handed is_kept_kind g.clock.latest (with_time g m) m
 
 -- ---- whether it has ended
 
@@ -418,13 +384,15 @@ begun_ended : (b : Bool) (g e : Gathered) → e.has_ended ≡ g.has_ended → (i
 begun_ended true g e h = refl
 begun_ended false g e h = h
 
-loaded_ended : (k : Answer) (before : Option ℕ) (g : Gathered) (m : Heard) → (loaded_by k before g m).state.has_ended ≡ g.has_ended
-loaded_ended answers.Kept before g m = grind (arith, common_steps, load_ended, begun_ended)
-loaded_ended answers.OtherStation before g m = refl
-loaded_ended answers.Ignored before g m = refl
-loaded_ended answers.Late before g m = refl
-loaded_ended answers.PastWeeks before g m = refl
-loaded_ended answers.CloseFirst before g m = refl
+loaded_ended : (accepted : Bool) (before : Option ℕ) (g : Gathered) (m : Heard) → (loaded_if accepted before g m).state.has_ended ≡ g.has_ended
+loaded_ended true before g m = grind (arith, common_steps, load_ended, begun_ended)
+loaded_ended false before g m = refl
+
+closed_ended : (b : Bool) (l : Loaded) → (closed_if b l).state.has_ended ≡ l.state.has_ended
+closed_ended true l = refl
+closed_ended false l = refl
 
 pub ended_is : (g : Gathered) (m : Heard) → (take_step g m).state.has_ended ≡ g.has_ended
-ended_is g m = grind (arith, common_steps, loaded_ended)
+ended_is g m =
+    let is_kept_kind = is_kept (kind_by g.clock no_counts m) in
+    closed_ended (is_some (closed_by g.clock m)) (loaded_if is_kept_kind g.clock.latest (with_time g m) m) ∙ loaded_ended is_kept_kind g.clock.latest (with_time g m) m

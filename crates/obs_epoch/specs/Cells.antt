@@ -1,6 +1,7 @@
 -- The cells of an epoch: the first of each key, and of these the first ones of each system, up to the largest number.
 use Rattle.std.specs.Prelude.{ℕ, ◌+◌, ◌-◌, ◌==◌, ◌&&◌, ◌||◌, Bool, true, false, not, nat_le, nat_lt, List, [], ◌∷◌}
 use Rattle.std.specs.Prelude.{◌++◌, filter, flat_map, take, length, count_by, is_some, if◌then◌else◌}
+use Rattle.std.specs.Option.{option_map_or}
 use Rattle.std.specs.List.{list_any}
 use Rattle.gnss_obs.specs.declared.system.System.{System}
 use Rattle.gnss_obs.specs.declared.system.System.TheVariants.{Gps, Galileo}
@@ -9,8 +10,8 @@ use Rattle.gnss_obs.specs.Signals.{SignalAt, table}
 use Rattle.obs_epoch.specs.Values.{planned_of, most_cells}
 use Rattle.obs_epoch.specs.Plans.{place_in}
 use Rattle.obs_epoch.specs.Order.{sorted}
-use Rattle.obs_epoch.specs.Heard.{GatherSetup, HeardCell}
-use Rattle.obs_epoch.specs.Times.{Timed, is_at}
+use Rattle.obs_epoch.specs.Heard.{GatherSetup, Heard, HeardCell}
+use Rattle.obs_epoch.specs.Times.{Timed, is_at, taken_at}
 use Rattle.obs_epoch.specs.declared.taken.CellCounts.{CellCounts}
 
 abbrev pub is_gps : System → Bool
@@ -76,6 +77,9 @@ kept_at s t xs system = sorted (planned_of system s.plan) (kept system (offered 
 abbrev pub kept_of_both : List HeardCell → List HeardCell
 kept_of_both xs = kept Gps xs ++ kept Galileo xs
 
+abbrev pub no_counts : CellCounts
+no_counts = record { kept = 0; skipped = 0; repeated = 0; crowded = 0 }
+
 -- The outcomes of a message's cells after the earlier cells: the kept, unplanned, repeated and surplus ones.
 abbrev pub counts_of : GatherSetup → List HeardCell → List HeardCell → CellCounts
 counts_of s before cells =
@@ -92,3 +96,8 @@ counts_of s before cells =
 -- The same with n more cells of an unlisted satellite or signal.
 abbrev pub with_skipped : ℕ → CellCounts → CellCounts
 with_skipped n c = record c { skipped = c.skipped + n }
+
+-- The outcomes of the cells of a message after these messages.
+abbrev pub counts_of_message : GatherSetup → List Timed → Heard → CellCounts
+counts_of_message s xs m =
+    option_map_or (λ u. with_skipped m.unlisted (counts_of s (offered s u xs) m.cells)) (taken_at s xs m) no_counts

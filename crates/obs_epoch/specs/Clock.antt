@@ -1,8 +1,6 @@
--- The value of a clock, and the outcome of a message.
-use Rattle.std.specs.Prelude.{ℕ, ◌≡◌, ◌*◌, ◌<◌, ◌&&◌, Bool, false, not, nat_lt, List, Option, if◌then◌else◌}
+-- The value of a clock.
+use Rattle.std.specs.Prelude.{ℕ, ◌≡◌, ◌*◌, ◌<◌, ◌&&◌, Bool, false, not, nat_lt, List, Option}
 use Rattle.std.specs.Option.{option_map_or, ForSome}
-use Rattle.obs_epoch.specs.declared.clock.Answer.{Answer}
-use Rattle.obs_epoch.specs.declared.clock.Answer.TheVariants.{OtherStation, Ignored, Late, PastWeeks, Kept}
 use Rattle.obs_epoch.specs.Heard.{GatherSetup, Heard, is_own}
 use Rattle.rtcm_msg.specs.Msm.{week}
 use Rattle.obs_epoch.specs.Weeks.{weeks}
@@ -29,15 +27,6 @@ closes_first s xs m =
     is_pending s xs && is_own s m
     && option_map_or (λ tow. not (is_late s xs tow) && not (is_past (time_of s xs tow))
     && option_map_or (λ t. nat_lt t (time_of s xs tow)) (greatest_time xs) false) m.tow false
-
--- The outcome of a message after these messages.
-abbrev pub answer_of : GatherSetup → List Timed → Heard → Answer
-answer_of s xs m =
-    if is_own s m
-    then option_map_or
-    (λ tow. if is_late s xs tow then Late else (if is_past (time_of s xs tow) then PastWeeks else Kept)) m.tow
-    Ignored
-    else OtherStation
 
 -- The clock has processed these messages; if `shut`, the pending epoch was closed after the last of them.
 pub record HasHeardMessages (g : State) (s : GatherSetup) (ms : List Heard) (shut : Bool) : Type 0 where

@@ -6,12 +6,11 @@ use Rattle.gnss_obs.specs.declared.system.System.{System}
 use Rattle.gnss_obs.specs.declared.system.System.TheVariants.{Gps, Galileo}
 use Rattle.obs_epoch.specs.declared.cell.StationValues.{StationValues}
 use Rattle.obs_epoch.specs.declared.taken.Fate.TheVariants.{Kept}
-use Rattle.obs_epoch.specs.declared.clock.Answer.{Answer}
-use Rattle.obs_epoch.specs.declared.clock.Answer.TheVariants as answers
 use Rattle.rtcm_msg.specs.declared.entry.Entry.{Entry}
 use Rattle.rtcm_msg.specs.declared.entry.LockField.{LockField}
 use Rattle.obs_epoch.specs.Heard.{Heard, seen_in, HeardCell, kept_cell}
-use Rattle.obs_epoch.specs.Cells.{with_skipped}
+use Rattle.obs_epoch.specs.Cells.{no_counts, with_skipped}
+use Rattle.obs_epoch.specs.Kinds.{is_kept}
 use Rattle.std.specs.List.{AllByRecursion}
 use Rattle.obs_epoch.specs.Values.{PlanValue, planned_of, EpochValue, cells_of}
 use Rattle.obs_epoch.specs.Plans.{place_in}
@@ -20,7 +19,7 @@ use Rattle.obs_epoch.specs.Loss.{lli_with}
 use Rattle.obs_epoch.specs.Epochs.{values_by_message}
 use Rattle.obs_epoch.specs.Held.{lookup, note_all, fate_of, count_in}
 use Rattle.obs_epoch.specs.Clock.{State}
-use Rattle.obs_epoch.specs.Step.{answer_by, step_by, closed_by}
+use Rattle.obs_epoch.specs.Step.{kind_by, step_by, closed_by}
 use Rattle.obs_epoch.specs.declared.cell.Cell.{Cell}
 use Rattle.obs_epoch.specs.declared.locks.KnownLock.{KnownLock}
 use Rattle.obs_epoch.specs.declared.taken.CellCounts.{CellCounts}
@@ -89,9 +88,6 @@ pub record Loaded : Type 0 where
   pub state : Gathered
   pub counts : CellCounts
 
-abbrev pub no_counts : CellCounts
-no_counts = record { kept = 0; skipped = 0; repeated = 0; crowded = 0 }
-
 abbrev pub load_one : Loaded → HeardCell → Loaded
 load_one l x = record { state = hold l.state x; counts = count_in (fate_in l.state x) l.counts }
 
@@ -134,9 +130,11 @@ epoch_begun before g =
     if is_same before g.clock.latest then g
     else record g { epoch = record { time = option_map_or (λ t. t) g.clock.latest 0; gps = []; galileo = [] } }
 
-abbrev pub loaded_by : Answer → Option ℕ → Gathered → Heard → Loaded
-loaded_by answers.Kept before g m = load_heard (record { state = epoch_begun before g; counts = no_counts }) m
-loaded_by _ before g m = record { state = g; counts = no_counts }
+-- The cells of a message are kept if it is accepted.
+abbrev pub loaded_if : Bool → Option ℕ → Gathered → Heard → Loaded
+loaded_if accepted before g m =
+    if accepted then load_heard (record { state = epoch_begun before g; counts = no_counts }) m
+    else record { state = g; counts = no_counts }
 
 -- The clock and the station values process the message.
 abbrev pub with_time : Gathered → Heard → Gathered
@@ -152,7 +150,8 @@ closed_if b l = record { state = if b then noted l.state else l.state; counts = 
 
 abbrev pub take_step : Gathered → Heard → Loaded
 take_step g m =
-    closed_if (is_some (closed_by g.clock m)) (loaded_by (answer_by g.clock m) g.clock.latest (with_time g m) m)
+    closed_if (is_some (closed_by g.clock m))
+    (loaded_if (is_kept (kind_by g.clock no_counts m)) g.clock.latest (with_time g m) m)
 
 -- The last call closed no epoch.
 abbrev pub rested : Gathered → Gathered

@@ -3,14 +3,13 @@ use Rattle.std.specs.Prelude.{ℕ, ◌≡◌, Bool, List, [], ◌∷◌, ◌++�
 use Rattle.std.specs.Option.{option_map_or}
 use Rattle.gnss_obs.specs.declared.system.System.TheVariants.{Gps, Galileo}
 use Rattle.obs_epoch.specs.Heard.{GatherSetup, Heard, HeardCell}
-use Rattle.obs_epoch.specs.Times.{Timed, greatest_time, timed, taken_at}
-use Rattle.obs_epoch.specs.Cells.{kept_at, offered, counts_of, with_skipped}
+use Rattle.obs_epoch.specs.Times.{Timed, greatest_time, timed}
+use Rattle.obs_epoch.specs.Cells.{kept_at}
 use Rattle.obs_epoch.specs.Loss.{is_locked, latest_in}
 use Rattle.obs_epoch.specs.Epochs.{epoch_at, closed_so_far, values_of}
 use Rattle.obs_epoch.specs.Held.{lookup, TracksLocks}
 use Rattle.obs_epoch.specs.Clock.{HasHeardMessages}
-use Rattle.obs_epoch.specs.Gather.{Gathered, no_epoch, no_counts}
-use Rattle.obs_epoch.specs.declared.taken.CellCounts.{CellCounts}
+use Rattle.obs_epoch.specs.Gather.{Gathered, no_epoch}
 use Rattle.obs_epoch.specs.Values.{EpochValue}
 
 -- The locked cells of the epochs of these times.
@@ -36,11 +35,6 @@ pub record HasTakenMessages (g : Gathered) (s : GatherSetup) (ms : List Heard) (
 -- The closed epochs; if `shut`, also the pending epoch, which was closed after the list.
 abbrev pub closed_list : GatherSetup → List Timed → Bool → List EpochValue
 closed_list s xs shut = map (epoch_at s xs) (closed_so_far s xs shut)
-
--- The outcomes of the cells of a message after these messages.
-abbrev pub counts_of_message : GatherSetup → List Timed → Heard → CellCounts
-counts_of_message s xs m =
-    option_map_or (λ u. with_skipped m.unlisted (counts_of s (offered s u xs) m.cells)) (taken_at s xs m) no_counts
 
 -- The epoch, if the call closed one.
 abbrev pub closed_epoch : Bool → EpochValue → List EpochValue

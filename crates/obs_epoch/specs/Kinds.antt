@@ -1,7 +1,5 @@
 -- The outcome of a message.
-use Rattle.std.specs.Prelude.{ℕ, Bool, true, false, List, Option, is_some, if◌then◌else◌}
-use Rattle.obs_epoch.specs.declared.clock.Answer.{Answer}
-use Rattle.obs_epoch.specs.declared.clock.Answer.TheVariants as answers
+use Rattle.std.specs.Prelude.{ℕ, ◌||◌, Bool, true, false, List, Option, is_some, if◌then◌else◌}
 use Rattle.obs_epoch.specs.declared.taken.Kind.{Kind}
 use Rattle.obs_epoch.specs.declared.taken.Kind.TheVariants as kinds
 use Rattle.std.specs.Prelude.{nat_lt}
@@ -9,40 +7,46 @@ use Rattle.std.specs.Option.{option_map_or}
 use Rattle.obs_epoch.specs.declared.taken.Gather.{Gather}
 use Rattle.obs_epoch.specs.declared.taken.Gather.TheVariants as gathers
 use Rattle.obs_epoch.specs.Values.{PlanValue}
-use Rattle.obs_epoch.specs.Heard.{GatherSetup, Heard}
+use Rattle.obs_epoch.specs.Heard.{GatherSetup, Heard, is_own}
 use Rattle.obs_epoch.specs.declared.cell.StationValues.{StationValues}
 use Rattle.obs_epoch.specs.Epochs.{no_values}
-use Rattle.obs_epoch.specs.Times.{timed}
-use Rattle.obs_epoch.specs.Clock.{answer_of}
-use Rattle.obs_epoch.specs.GathererHistory.{counts_of_message}
+use Rattle.obs_epoch.specs.Times.{Timed, is_late, is_past, time_of, timed}
+use Rattle.obs_epoch.specs.Cells.{counts_of_message}
 use Rattle.obs_epoch.specs.declared.taken.CellCounts.{CellCounts}
 
 abbrev pub is_close_first : Kind → Bool
 is_close_first kinds.CloseFirst = true
 is_close_first _ = false
 
--- The outcome of observations.
-abbrev pub kind_at : Answer → CellCounts → Kind
-kind_at answers.OtherStation n = kinds.OtherStation
-kind_at answers.Ignored n = kinds.Ignored
-kind_at answers.Late n = kinds.Late
-kind_at answers.PastWeeks n = kinds.PastWeeks
-kind_at answers.CloseFirst n = kinds.CloseFirst
-kind_at answers.Kept n = kinds.Kept n.kept n.skipped n.repeated n.crowded
+-- The observations were accepted.
+abbrev pub is_kept : Kind → Bool
+is_kept (kinds.Kept kept skipped repeated crowded) = true
+is_kept _ = false
 
--- The outcome of a station message.
-abbrev pub station_kind : Answer → Kind
-station_kind answers.OtherStation = kinds.OtherStation
-station_kind _ = kinds.Station
+-- The outcome of accepted observations.
+abbrev pub kept_kind : CellCounts → Kind
+kept_kind n = kinds.Kept n.kept n.skipped n.repeated n.crowded
 
--- The outcome of a message: of observations if it has a time of week, else of a station message if it has a point.
-abbrev pub kind_by : Heard → Answer → CellCounts → Kind
-kind_by m answer n =
-    if is_some m.tow then kind_at answer n else (if is_some m.point then station_kind answer else kinds.Ignored)
+-- The outcome with these counts, if the observations were accepted.
+abbrev pub with_counts : CellCounts → Kind → Kind
+with_counts n kind = if is_kept kind then kept_kind n else kind
+
+-- The outcome of observations of the wanted station with this time of week.
+abbrev pub kind_at : GatherSetup → List Timed → CellCounts → ℕ → Kind
+kind_at s xs n tow =
+    if is_late s xs tow then kinds.Late else (if is_past (time_of s xs tow) then kinds.PastWeeks else kept_kind n)
+
+-- The outcome of a message with these counts of its cells: observations have a time of week, a station message has a
+-- point.
+abbrev pub kind_after : GatherSetup → List Timed → CellCounts → Heard → Kind
+kind_after s xs n m =
+    if is_some m.tow || is_some m.point
+    then (if is_own s m then option_map_or (kind_at s xs n) m.tow kinds.Station else kinds.OtherStation)
+    else kinds.Ignored
 
 -- The outcome of a message after these messages.
 abbrev pub kind_of : GatherSetup → List Heard → Heard → Kind
-kind_of s ms m = kind_by m (answer_of s (timed s ms) m) (counts_of_message s (timed s ms) m)
+kind_of s ms m = kind_after s (timed s ms) (counts_of_message s (timed s ms) m) m
 
 -- The multiple message bit may close an epoch.
 abbrev pub is_by_bit : Gather → Bool

@@ -10,11 +10,11 @@ pub mod Cells
 pub mod Loss
 pub mod Epochs
 pub mod Held
+pub mod Kinds
 pub mod Clock
 pub mod Step
 pub mod Gather
 pub mod GathererHistory
-pub mod Kinds
 pub mod Gathering
 pub mod Calls
 pub mod Laws

@@ -1,28 +1,17 @@
 //! The times of messages.
 ghost use Rattle.std.specs.Prelude.{◌==◌, ◌≡◌, ◌<◌, ◌*◌, [], true, false};
-ghost use Rattle.std.specs.Option.{ForSome, option_map_or};
+ghost use Rattle.std.specs.Option.{ForSome};
 ghost use Rattle.rtcm_msg.specs.Msm.{week};
-ghost use Rattle.obs_epoch.specs.Heard.{heard_summary};
+ghost use Rattle.obs_epoch.specs.Heard.{heard_summary, is_own};
 ghost use Rattle.obs_epoch.specs.Kinds.{setup_at};
 ghost use Rattle.obs_epoch.specs.Weeks.{weeks};
 
 use crate::cell::StationValues;
 use crate::plan::Plan;
-use crate::taken::Gather;
+use crate::taken::{Gather, Kind, no_counts};
 use crate::time::{WEEK, WEEKS};
 use rtcm_msg::Summary;
 use std::marker::Model;
-
-/// The outcome of a message, determined by its station and time.
-#[derive(Clone, Copy, PartialEq, Eq)]
-pub enum Answer {
-    OtherStation,
-    Ignored,
-    Late,
-    PastWeeks,
-    Kept,
-    CloseFirst,
-}
 
 /// The times of a station's messages: the greatest so far, and whether its epoch is pending.
 #[derive(Drop)]
@@ -60,8 +49,8 @@ impl Model for Clock {
 
 impl Clock {
     ghost use Rattle.obs_epoch.specs.Clock.{HasHeardMessages};
-    ghost use Rattle.obs_epoch.specs.Step.{answer_by, step_by, answer_at, step_at, is_own_summary, closed_by};
-    ghost use Rattle.obs_epoch.specs.declared.clock.Answer.{Answer};
+    ghost use Rattle.obs_epoch.specs.Cells.{no_counts};
+    ghost use Rattle.obs_epoch.specs.Step.{kind_by, step_by, kind_at, step_at, timed_by, closed_by};
 
     /// Returns the clock before the first message.
     pub fn new(
@@ -111,68 +100,78 @@ impl Clock {
         self.latest
     }
 
-    /// Processes a message, and returns its outcome and the time of the epoch that it closes.
-    pub fn step(&mut self, said: &Summary) -> (Answer, Option<u64>)
+    /// Processes a message, and returns its outcome, with counts of 0, and the time of the epoch
+    /// that it closes.
+    pub fn step(&mut self, said: &Summary) -> (Kind, Option<u64>)
         requires { ForSome said.now.time (λ tow. tow < week) }
-        ensures answer { result.0 ≡ answer_by self.old (heard_summary said.now) }
+        ensures kind { result.0 ≡ kind_by self.old no_counts (heard_summary said.now) }
         ensures closed { result.1 ≡ closed_by self.old (heard_summary said.now) }
         ensures step { self.new ≡ step_by self.old (heard_summary said.now) }
     {
-        if !self.is_own(said.station) {
-            return (Answer::OtherStation, None);
-        }
-        let is_mark = self.by_bit && said.more == Some(false);
+        let is_mark = self.by_bit && self.is_own(said) && said.more == Some(false);
         let was = self.pending;
         let before = self.latest;
-        let answer = self.place(said.time);
+        let kind = self.outcome(said);
         if is_mark {
             self.pending = false;
         }
-        let closed = match answer {
-            Answer::CloseFirst => before,
-            Answer::Kept if is_mark => self.latest,
-            Answer::Ignored | Answer::Late | Answer::PastWeeks if is_mark && was => self.latest,
+        let closed = match kind {
+            Kind::CloseFirst => before,
+            Kind::Kept { .. } if is_mark => self.latest,
+            _ if is_mark && was => self.latest,
             _ => None,
         };
-        (answer, closed)
+        (kind, closed)
     }
 
-    pub fn is_own(&self, station: Option<u16>) -> bool
-        ensures { result ≡ is_own_summary self.now station }
+    /// Returns whether a message is of the wanted station.
+    pub fn is_own(&self, said: &Summary) -> bool
+        ensures { result ≡ is_own self.now.setup (heard_summary said.now) }
     {
-        match (station, self.station) {
+        match (said.station, self.station) {
             (None, _) => false,
             (Some(_), None) => true,
             (Some(from), Some(wanted)) => from == wanted,
         }
     }
 
-    // Processes a message with this time of week in milliseconds.
-    fn place(&mut self, tow: Option<u32>) -> Answer
-        requires { ForSome tow (λ tow. tow < week) }
-        ensures answer { result ≡ option_map_or (answer_at self.old) tow Answer.Ignored }
-        ensures step { self.new ≡ option_map_or (step_at self.old) tow self.old }
+    // Processes the time of a message, and returns its outcome.
+    fn outcome(&mut self, said: &Summary) -> Kind
+        requires { ForSome said.now.time (λ tow. tow < week) }
+        ensures kind { result ≡ kind_by self.old no_counts (heard_summary said.now) }
+        ensures step { self.new ≡ timed_by self.old (heard_summary said.now) }
     {
-        let Some(tow) = tow else {
-            return Answer::Ignored;
-        };
+        match said.time {
+            None if said.point.is_none() => Kind::Ignored,
+            _ if !self.is_own(said) => Kind::OtherStation,
+            None => Kind::Station,
+            Some(tow) => self.place(tow),
+        }
+    }
+
+    // Processes observations of the station with this time of week in milliseconds.
+    fn place(&mut self, tow: u32) -> Kind
+        requires { tow < week }
+        ensures kind { result ≡ kind_at self.old no_counts tow }
+        ensures step { self.new ≡ step_at self.old tow }
+    {
         let mut time = self.start_week as u64 * WEEK + tow as u64;
         if let Some(latest) = self.latest {
             let ahead = (tow as u64 + (WEEK - latest % WEEK)) % WEEK;
             if ahead > WEEK / 2 || ahead == 0 && !self.pending {
-                return Answer::Late;
+                return Kind::Late;
             }
             time = latest + ahead;
             if time < WEEKS * WEEK && ahead > 0 && self.pending {
                 self.pending = false;
-                return Answer::CloseFirst;
+                return Kind::CloseFirst;
             }
         }
         if time >= WEEKS * WEEK {
-            return Answer::PastWeeks;
+            return Kind::PastWeeks;
         }
         self.latest = Some(time);
         self.pending = true;
-        Answer::Kept
+        Kind::kept(no_counts())
     }
 }

@@ -11,24 +11,25 @@ ghost use Rattle.obs_epoch.specs.Plans.{place_in};
 ghost use Rattle.obs_epoch.specs.Heard.{heard_cell, IsObserved};
 ghost use Rattle.obs_epoch.specs.Epochs.{values_by_message, values_of};
 ghost use Rattle.obs_epoch.specs.Held.{count_in, most_locks, recorded};
-ghost use Rattle.obs_epoch.specs.Step.{answer_by, closed_by as closes};
+ghost use Rattle.obs_epoch.specs.Step.{kind_by, closed_by as closes};
 ghost use Rattle.obs_epoch.specs.Values.{Closed, cells_of, most_cells, planned_of};
-ghost use Rattle.obs_epoch.specs.Kinds.{kind_by, is_no_station, setup_at, setup_of};
+ghost use Rattle.obs_epoch.specs.Kinds.{is_no_station, setup_at, setup_of, with_counts};
 ghost use Rattle.obs_epoch.specs.Gathering.{HasGatheredEpochs, closed_by, closed_in, plan_in};
 ghost use Rattle.obs_epoch.specs.Calls.{TakesMessage, EndsPendingEpoch, StaysEnded, HoldsCells, HoldsLockedKeys};
 ghost use Rattle.obs_epoch.specs.declared.fault.PlanFault.{PlanFault};
-ghost use Rattle.obs_epoch.specs.Gather.{take_step, end_step, loaded_by, load_entry, load_entries, epoch_begun};
-ghost use Rattle.obs_epoch.specs.Gather.{no_counts, load, rested, fate_in, hold};
+ghost use Rattle.obs_epoch.specs.Gather.{take_step, end_step, loaded_if, load_entry, load_entries, epoch_begun};
+ghost use Rattle.obs_epoch.specs.Gather.{load, rested, fate_in, hold};
+ghost use Rattle.obs_epoch.specs.Cells.{no_counts};
 ghost use Rattle.obs_epoch.specs.declared.taken.CellCounts.{CellCounts};
 
 use crate::cell::{Cell, StationValues};
-use crate::clock::{Answer, Clock};
+use crate::clock::Clock;
 use crate::epoch::{Epoch, MOST_CELLS};
 use crate::fault::PlanFault;
 use crate::locks::{Locks, lli};
 use crate::observe::{observe, system_of};
 use crate::plan::Plan;
-use crate::taken::{CellCounts, Fate, Gather, Taken, counted, kind_by, no_counts};
+use crate::taken::{CellCounts, Fate, Gather, Taken, counted, no_counts};
 use crate::time::{GpsTime, WEEKS};
 use gnss_obs::System;
 use rtcm_msg::{Entries, Entry, LockField, Message, Summary, View};
@@ -64,8 +65,6 @@ impl Model for Gatherer {
 }
 
 impl Gatherer {
-    ghost use Rattle.obs_epoch.specs.declared.clock.Answer.{Answer};
-
     /// Returns a gatherer of the messages of one station; with `None`, of all stations as if they
     /// were one. The first time is in the start week. No other call allocates memory.
     ///
@@ -233,8 +232,8 @@ impl Gatherer {
     #[tactic(auto, using(crate::proofs::ViewLemmas::summary_heard))]
     fn step(&mut self, view: &View<'_>) -> Taken
         ensures kind { result.kind
-            ≡ kind_by (heard (viewed_message view.now)) (answer_by self.old.clock (heard (viewed_message view.now)))
-            (take_step self.old (heard (viewed_message view.now))).counts }
+            ≡ with_counts (take_step self.old (heard (viewed_message view.now))).counts
+            (kind_by self.old.clock no_counts (heard (viewed_message view.now))) }
         ensures closed { result.closed ≡ is_some (closes self.old.clock (heard (viewed_message view.now))) }
         ensures step { self.new ≡ (take_step self.old (heard (viewed_message view.now))).state }
     {
@@ -242,14 +241,14 @@ impl Gatherer {
         let said = view.summary();
         let values = self.values_after(&said);
         self.epoch.set_values(values);
-        let (answer, closed) = self.clock.step(&said);
+        let (kind, closed) = self.clock.step(&said);
         self.just_closed = closed.is_some();
-        let counts = self.load(answer, before, view);
+        let counts = self.load(kind.is_kept(), before, view);
         if closed.is_some() {
             self.epoch.note_locks(&mut self.locks);
         }
         Taken {
-            kind: kind_by(&said, answer, counts),
+            kind: kind.with_counts(counts),
             closed: closed.is_some(),
         }
     }
@@ -274,7 +273,7 @@ impl Gatherer {
     {
         let values = self.epoch.station_values();
         match said.point {
-            Some(parts) if self.clock.is_own(said.station) => StationValues {
+            Some(parts) if self.clock.is_own(said) => StationValues {
                 x: parts.x,
                 y: parts.y,
                 z: parts.z,
@@ -284,13 +283,14 @@ impl Gatherer {
         }
     }
 
-    fn load(&mut self, answer: Answer, before: Option<u64>, view: &View<'_>) -> CellCounts
+    // Processes the cells of a message if it is accepted, and returns their outcomes.
+    fn load(&mut self, is_kept: bool, before: Option<u64>, view: &View<'_>) -> CellCounts
         ensures { record { state = self.new; counts = result }
-            ≡ loaded_by answer before self.old (heard (viewed_message view.now)) }
+            ≡ loaded_if is_kept before self.old (heard (viewed_message view.now)) }
     {
-        let Answer::Kept = answer else {
+        if !is_kept {
             return no_counts();
-        };
+        }
         self.begin(before);
         match view {
             View::Msm(m) => {

@@ -1,12 +1,8 @@
 //! The outcome of a message.
 ghost use Rattle.std.specs.Prelude.{◌≡◌, ◌+◌, ◌<◌};
-ghost use Rattle.obs_epoch.specs.Heard.{heard_summary};
 ghost use Rattle.obs_epoch.specs.Held.{count_in};
-ghost use Rattle.obs_epoch.specs.Gather.{no_counts};
-ghost use Rattle.obs_epoch.specs.Kinds.{is_close_first, kind_by};
-
-use crate::clock::Answer;
-use rtcm_msg::Summary;
+ghost use Rattle.obs_epoch.specs.Cells.{no_counts};
+ghost use Rattle.obs_epoch.specs.Kinds.{is_close_first, is_kept, kept_kind, with_counts};
 
 /// How the epochs of a station are closed.
 #[derive(Clone, Copy, Debug, PartialEq, Eq)]
@@ -80,28 +76,31 @@ impl Kind {
     {
         matches!(self, Kind::CloseFirst)
     }
-}
 
-// Returns the kind of a message from its outcome and the counts of its cells.
-pub(crate) fn kind_by(said: &Summary, answer: Answer, counts: CellCounts) -> Kind
-    ensures { result ≡ kind_by (heard_summary said.now) answer counts }
-{
-    if said.time.is_none() && said.point.is_none() {
-        return Kind::Ignored;
+    // Returns whether the message was accepted.
+    pub(crate) fn is_kept(self) -> bool
+        ensures { result ≡ is_kept self }
+    {
+        matches!(self, Kind::Kept { .. })
     }
-    match answer {
-        Answer::OtherStation => Kind::OtherStation,
-        _ if said.time.is_none() => Kind::Station,
-        Answer::Ignored => Kind::Ignored,
-        Answer::Late => Kind::Late,
-        Answer::PastWeeks => Kind::PastWeeks,
-        Answer::CloseFirst => Kind::CloseFirst,
-        Answer::Kept => Kind::Kept {
-            kept: counts.kept,
-            skipped: counts.skipped,
-            repeated: counts.repeated,
-            crowded: counts.crowded,
-        },
+
+    // Returns the outcome of an accepted message with these counts of its cells.
+    pub(crate) fn kept(n: CellCounts) -> Kind
+        ensures { result ≡ kept_kind n }
+    {
+        Kind::Kept {
+            kept: n.kept,
+            skipped: n.skipped,
+            repeated: n.repeated,
+            crowded: n.crowded,
+        }
+    }
+
+    // Returns the outcome with these counts if the message was accepted.
+    pub(crate) fn with_counts(self, n: CellCounts) -> Kind
+        ensures { result ≡ with_counts n self }
+    {
+        if self.is_kept() { Kind::kept(n) } else { self }
     }
 }
 

@@ -3,10 +3,9 @@ use Rattle.std.specs.Prelude.{◌≡◌, ℕ, ◌+◌, ◌<◌, ◌≤◌, true,
 use Rattle.std.specs.List.{All, count_by}
 use Rattle.gnss_obs.specs.declared.system.System.TheVariants.{Gps, Galileo}
 use Rattle.rtcm_scan.specs.Frames.{Framed}
-use Rattle.obs_epoch.specs.Cells.{is_planned}
+use Rattle.obs_epoch.specs.Cells.{counts_of_message, is_planned}
 use Rattle.obs_epoch.specs.SignalCounts.{brings_value}
 use Rattle.obs_epoch.specs.Heard.{GatherSetup, Heard}
-use Rattle.obs_epoch.specs.GathererHistory.{counts_of_message}
 use Rattle.obs_epoch.specs.Times.{Timed}
 use Rattle.rtcm_convert.specs.Converted.{heard_in}
 use Rattle.obs_epoch.specs.Plans.{plan_of}

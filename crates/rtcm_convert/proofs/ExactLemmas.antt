@@ -2,7 +2,7 @@
 -- cells.
 use Rattle.rtcm_msg.specs.declared.entry.LockField.{LockField}
 use Rattle.rtcm_msg.specs.declared.entry.LockField.TheVariants.{Df402, Df407}
-use Rattle.std.proofs.Common.{◌≡◌, ℕ, ◌+◌, ◌-◌, ◌*◌, ◌≤◌, ◌^◌, List, [], ◌∷◌, ◌++◌, Bool, true, false, refl, sym, ap, subst, ◌∙◌, arith, length, length-append, add-zero, suc, zero, nat_lt, Option, Some, None, is_some, not}
+use Rattle.std.proofs.Common.{◌≡◌, ◌||◌, ℕ, ◌+◌, ◌-◌, ◌*◌, ◌≤◌, ◌^◌, List, [], ◌∷◌, ◌++◌, Bool, true, false, refl, sym, ap, subst, ◌∙◌, arith, length, length-append, add-zero, suc, zero, nat_lt, Option, Some, None, is_some, not}
 use Rattle.std.specs.Prelude.{count_by, filter, filter_map, if◌then◌else◌}
 use Rattle.std.specs.List.{cons_option, zip}
 use Rattle.std.specs.Option.{option_map_or}
@@ -19,16 +19,11 @@ use Rattle.rtcm_msg.specs.Encoding.{IsMessage}
 use Rattle.rtcm_msg.specs.Entries.{chosen, cell_pairs, all_pairs, entries, entry4, entry7}
 use Rattle.obs_epoch.specs.declared.taken.Kind.{Kind}
 use Rattle.obs_epoch.specs.declared.taken.Kind.TheVariants as kind
-use Rattle.obs_epoch.specs.declared.clock.Answer.{Answer}
-use Rattle.obs_epoch.specs.declared.clock.Answer.TheVariants as answers
-use Rattle.obs_epoch.specs.Heard.{GatherSetup, Heard, heard, heard_msm, seen_in, system_of, unlisted_in, HeardCell}
-use Rattle.obs_epoch.specs.Times.{Timed, timed, timed_after, taken_at}
+use Rattle.obs_epoch.specs.Heard.{GatherSetup, Heard, heard, heard_msm, is_own, seen_in, system_of, unlisted_in, HeardCell}
+use Rattle.obs_epoch.specs.Times.{Timed, timed, timed_after, taken_at, is_late, is_past, time_of}
 use Rattle.obs_epoch.specs.Loss.{times}
-use Rattle.obs_epoch.specs.Cells.{counts_of, with_skipped, is_planned, is_among, kept_of_both as kept_both, offered}
-use Rattle.obs_epoch.specs.Gather.{no_counts}
-use Rattle.obs_epoch.specs.GathererHistory.{counts_of_message}
-use Rattle.obs_epoch.specs.Clock.{answer_of}
-use Rattle.obs_epoch.specs.Kinds.{kind_of, kind_at, station_kind}
+use Rattle.obs_epoch.specs.Cells.{counts_of, counts_of_message, no_counts, with_skipped, is_planned, is_among, kept_of_both as kept_both, offered}
+use Rattle.obs_epoch.specs.Kinds.{kind_of, kind_at, kept_kind}
 use Rattle.obs_epoch.specs.Gathering.{all_epochs, closed_at}
 use Rattle.obs_epoch.specs.Values.{satellites_written}
 use Rattle.rtcm_convert.specs.Converted.{SetupValue, messages_of, heard_in, epochs_in}
@@ -155,30 +150,24 @@ plain_few t a b c d e f g h i j k = record { frames = a; faulty = b; station = c
 pub refused_few : IsFew (tally_of_one None)
 refused_few = plain_few (tally_of_one None) one_few one_few none_few none_few none_few none_few none_few none_few none_few none_few none_few
 
-kind_few : (a : Answer) (n : CellCounts) → CountsFew n → IsFew (tally_of_one (Some (kind_at a n)))
-kind_few answers.OtherStation n h = plain_few (tally_of_one (Some kind.OtherStation)) one_few none_few none_few one_few none_few none_few none_few none_few none_few none_few none_few
-kind_few answers.Ignored n h = plain_few (tally_of_one (Some kind.Ignored)) one_few none_few none_few none_few one_few none_few none_few none_few none_few none_few none_few
-kind_few answers.Late n h = plain_few (tally_of_one (Some kind.Late)) one_few none_few none_few none_few none_few one_few none_few none_few none_few none_few none_few
-kind_few answers.PastWeeks n h = plain_few (tally_of_one (Some kind.PastWeeks)) one_few none_few none_few none_few none_few none_few one_few none_few none_few none_few none_few
-kind_few answers.CloseFirst n h = plain_few (tally_of_one (Some kind.CloseFirst)) one_few none_few none_few none_few none_few none_few none_few none_few none_few none_few none_few
-kind_few answers.Kept n h = plain_few (tally_of_one (Some (kind.Kept n.kept n.skipped n.repeated n.crowded))) one_few none_few none_few none_few none_few none_few none_few one_few h.skipped h.repeated h.crowded
+timed_few : (late past : Bool) (n : CellCounts) → CountsFew n → IsFew (tally_of_one (Some (if late then kind.Late else (if past then kind.PastWeeks else kept_kind n))))
+timed_few true past n h = plain_few (tally_of_one (Some kind.Late)) one_few none_few none_few none_few none_few one_few none_few none_few none_few none_few none_few
+timed_few false true n h = plain_few (tally_of_one (Some kind.PastWeeks)) one_few none_few none_few none_few none_few none_few one_few none_few none_few none_few none_few
+timed_few false false n h = plain_few (tally_of_one (Some (kept_kind n))) one_few none_few none_few none_few none_few none_few none_few one_few h.skipped h.repeated h.crowded
 
-station_few : (a : Answer) → IsFew (tally_of_one (Some (station_kind a)))
-station_few answers.OtherStation = plain_few (tally_of_one (Some kind.OtherStation)) one_few none_few none_few one_few none_few none_few none_few none_few none_few none_few none_few
-station_few answers.Ignored = plain_few (tally_of_one (Some kind.Station)) one_few none_few one_few none_few none_few none_few none_few none_few none_few none_few none_few
-station_few answers.Late = plain_few (tally_of_one (Some kind.Station)) one_few none_few one_few none_few none_few none_few none_few none_few none_few none_few none_few
-station_few answers.PastWeeks = plain_few (tally_of_one (Some kind.Station)) one_few none_few one_few none_few none_few none_few none_few none_few none_few none_few none_few
-station_few answers.CloseFirst = plain_few (tally_of_one (Some kind.Station)) one_few none_few one_few none_few none_few none_few none_few none_few none_few none_few none_few
-station_few answers.Kept = plain_few (tally_of_one (Some kind.Station)) one_few none_few one_few none_few none_few none_few none_few none_few none_few none_few none_few
+own_few : (s : GatherSetup) (xs : List Timed) (n : CellCounts) (tow : Option ℕ) → CountsFew n → IsFew (tally_of_one (Some (option_map_or (kind_at s xs n) tow kind.Station)))
+own_few s xs n None h = plain_few (tally_of_one (Some kind.Station)) one_few none_few one_few none_few none_few none_few none_few none_few none_few none_few none_few
+own_few s xs n (Some tow) h = timed_few (is_late s xs tow) (is_past (time_of s xs tow)) n h
 
-kind_by_few : (p q : Bool) (a : Answer) (n : CellCounts) → CountsFew n → IsFew (tally_of_one (Some (if p then kind_at a n else (if q then station_kind a else kind.Ignored))))
-kind_by_few true q a n h = kind_few a n h
-kind_by_few false true a n h = station_few a
-kind_by_few false false a n h = plain_few (tally_of_one (Some kind.Ignored)) one_few none_few none_few none_few one_few none_few none_few none_few none_few none_few none_few
+kind_few : (known own : Bool) (k : Kind) → IsFew (tally_of_one (Some k)) → IsFew (tally_of_one (Some (if known then (if own then k else kind.OtherStation) else kind.Ignored)))
+kind_few true true k h = h
+kind_few true false k h = plain_few (tally_of_one (Some kind.OtherStation)) one_few none_few none_few one_few none_few none_few none_few none_few none_few none_few none_few
+kind_few false own k h = plain_few (tally_of_one (Some kind.Ignored)) one_few none_few none_few none_few one_few none_few none_few none_few none_few none_few none_few
 
 heard_kind_few : (s : GatherSetup) (ms : List Heard) (m : Heard) → HasFew m → IsFew (tally_of_one (Some (kind_of s ms m)))
 heard_kind_few s ms m h =
-    kind_by_few (is_some m.tow) (is_some m.point) (answer_of s (timed s ms) m) (counts_of_message s (timed s ms) m) (counts_few_at s (timed s ms) m (taken_at s (timed s ms) m) h)
+    let xs = timed s ms in
+    kind_few (is_some m.tow || is_some m.point) (is_own s m) _ (own_few s xs (counts_of_message s xs m) m.tow (counts_few_at s xs m (taken_at s xs m) h))
 
 pub message_few : (s : GatherSetup) (ms : List Heard) (m : Message) → IsMessage m → IsFew (tally_of_one (Some (kind_of s ms (heard m))))
 message_few s ms m h = heard_kind_few s ms (heard m) (heard_few m h)

@@ -1,5 +1,6 @@
 use Rattle.std.proofs.Common.{◌≡◌, ◌+◌, ◌≤◌, length}
-use Rattle.obs_epoch.specs.Gather.{no_counts, load_entries}
+use Rattle.obs_epoch.specs.Cells.{no_counts}
+use Rattle.obs_epoch.specs.Gather.{load_entries}
 use Rattle.obs_epoch.proofs.gather.Gatherer.take_all.Given as goal
 
 abbrev pub invariant-loop-entry : goal.invariant-loop-entry
