@@ -6,14 +6,13 @@ use Rattle.std.proofs.lemmas.List.Folds.{list_any-append}
 use Rattle.std.proofs.lemmas.List.{length-take-le, take_all}
 use Rattle.gnss_obs.specs.declared.system.System.{System}
 use Rattle.gnss_obs.specs.declared.system.System.TheVariants.{Gps, Galileo}
-use Rattle.obs_epoch.specs.declared.taken.Fate.TheVariants.{Skipped, Repeated, Crowded, Kept}
+use Rattle.obs_epoch.specs.Held.{Crowded, Kept, Repeated, Skipped, count_in}
 use Rattle.obs_epoch.specs.Heard.{GatherSetup, HeardCell}
 use Rattle.obs_epoch.specs.Cells.{no_counts, counts_of, is_of_system, is_among, has_same_key, kept, kept_of_both, is_planned}
 use Rattle.obs_epoch.specs.Values.{most_cells}
-use Rattle.obs_epoch.specs.Held.{count_in}
 use Rattle.obs_epoch.proofs.CellsLemmas.{kept-add, mine, mine-among, among-push, same_key_laws, key_system}
 use Rattle.obs_epoch.proofs.NotingLemmas.{kept_apart}
-use Rattle.obs_epoch.proofs.LoadLemmas.{counts_after, fate_after, planned_one}
+use Rattle.obs_epoch.proofs.LoadLemmas.{counts_after, outcome_after, planned_one}
 use Rattle.obs_epoch.specs.declared.taken.CellCounts.{CellCounts}
 use Rattle.std.proofs.lemmas.Grind.{common_steps}
 
@@ -136,11 +135,11 @@ Tally s xs n ys =
 count_cons : (p : HeardCell → Bool) (x : HeardCell) (xs : List HeardCell) → count_by p (x ∷ xs) ≡ (if p x then 1 else 0) + count_by p xs
 count_cons p x xs = sum_by-cons (λ y. cond (p y) 1 0) x xs
 
-tally_step : (s : GatherSetup) (xs : List HeardCell) (n : CellCounts) (y : HeardCell) (ys : List HeardCell) → Tally s (xs ++ planned_one s y) (count_in (fate_after s xs y) n) ys → Tally s xs n (y ∷ ys)
+tally_step : (s : GatherSetup) (xs : List HeardCell) (n : CellCounts) (y : HeardCell) (ys : List HeardCell) → Tally s (xs ++ planned_one s y) (count_in (outcome_after s xs y) n) ys → Tally s xs n (y ∷ ys)
 tally_step s xs n y ys h =
-    change (counts_after s (xs ++ planned_one s y) (count_in (fate_after s xs y) n) ys) n (length (kept_of_both xs)) (length (kept_of_both (xs ++ planned s (y ∷ ys)))) _ _ _ _ _ _ (sym skips) (sym (knows (is_planned s y))) (sym (crowds (is_planned s y)))
-    (one_sum (counts_after s (xs ++ planned_one s y) (count_in (fate_after s xs y) n) ys) n (is_planned s y) a f (length (kept_of_both xs)) (length (kept_of_both (xs ++ planned_one s y))) (length (kept_of_both (xs ++ planned s (y ∷ ys)))) _ _ _
-    (subst (λ w. Sums (counts_after s (xs ++ planned_one s y) (count_in (fate_after s xs y) n) ys) (count_in (fate_after s xs y) n) (length (kept_of_both (xs ++ planned_one s y))) (length (kept_of_both w)) (count_by (λ x. not (is_planned s x)) ys)
+    change (counts_after s (xs ++ planned_one s y) (count_in (outcome_after s xs y) n) ys) n (length (kept_of_both xs)) (length (kept_of_both (xs ++ planned s (y ∷ ys)))) _ _ _ _ _ _ (sym skips) (sym (knows (is_planned s y))) (sym (crowds (is_planned s y)))
+    (one_sum (counts_after s (xs ++ planned_one s y) (count_in (outcome_after s xs y) n) ys) n (is_planned s y) a f (length (kept_of_both xs)) (length (kept_of_both (xs ++ planned_one s y))) (length (kept_of_both (xs ++ planned s (y ∷ ys)))) _ _ _
+    (subst (λ w. Sums (counts_after s (xs ++ planned_one s y) (count_in (outcome_after s xs y) n) ys) (count_in (outcome_after s xs y) n) (length (kept_of_both (xs ++ planned_one s y))) (length (kept_of_both w)) (count_by (λ x. not (is_planned s x)) ys)
     (count_by (is_among (kept_of_both w)) (planned s ys)) (count_by (λ x. not (is_among (kept_of_both w) x)) (planned s ys))) (whole (is_planned s y)) h)
     (before (is_planned s y))) where
       a : Bool
@@ -179,7 +178,7 @@ tally_step s xs n y ys h =
 
 tally : (s : GatherSetup) (xs : List HeardCell) (n : CellCounts) (ys : List HeardCell) → Tally s xs n ys
 tally s xs n [] = grind (arith, common_steps, append-nil)
-tally s xs n (y ∷ ys) = tally_step s xs n y ys (tally s (xs ++ planned_one s y) (count_in (fate_after s xs y) n) ys)
+tally s xs n (y ∷ ys) = tally_step s xs n y ys (tally s (xs ++ planned_one s y) (count_in (outcome_after s xs y) n) ys)
 
 pub counts_are : (s : GatherSetup) (xs ys : List HeardCell) → counts_after s xs no_counts ys ≡ counts_of s xs ys
 counts_are s xs ys = grind (arith, common_steps, tally, counts_after)

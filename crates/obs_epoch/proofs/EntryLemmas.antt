@@ -6,23 +6,21 @@ use Rattle.std.specs.Option.{option_map_or}
 use Rattle.std.specs.List.{cons_option}
 use Rattle.gnss_obs.specs.declared.system.System.{System}
 use Rattle.rtcm_msg.specs.declared.entry.Entry.{Entry}
-use Rattle.obs_epoch.specs.declared.taken.Fate.TheVariants.{Skipped, Repeated, Crowded, Kept}
+use Rattle.obs_epoch.specs.Held.{CellOutcome, Crowded, Kept, Repeated, Skipped, count_in}
 use Rattle.obs_epoch.specs.Heard.{seen_in, unlisted_in, HeardCell}
 use Rattle.obs_epoch.specs.Cells.{with_skipped}
-use Rattle.obs_epoch.specs.Held.{count_in}
-use Rattle.obs_epoch.specs.Gather.{Loaded, load, load_one, load_entries, with_unlisted, fate_in, hold}
+use Rattle.obs_epoch.specs.Gather.{Loaded, load, load_one, load_entries, with_unlisted, outcome_in, hold}
 use Rattle.obs_epoch.specs.declared.taken.CellCounts.{CellCounts}
-use Rattle.obs_epoch.specs.declared.taken.Fate.{Fate}
 use Rattle.std.proofs.lemmas.Grind.{common_steps}
 
-later_count : (k : Fate) (n : ℕ) (c : CellCounts) → count_in k (with_skipped n c) ≡ with_skipped n (count_in k c)
+later_count : (k : CellOutcome) (n : ℕ) (c : CellCounts) → count_in k (with_skipped n c) ≡ with_skipped n (count_in k c)
 later_count Kept n c = refl
 later_count Repeated n c = refl
 later_count Crowded n c = refl
 later_count Skipped n c = grind (arith, common_steps)
 
 later_one : (n : ℕ) (l : Loaded) (x : HeardCell) → load_one (with_unlisted n l) x ≡ with_unlisted n (load_one l x)
-later_one n l x = ap (λ c. record { state = hold l.state x; counts = c }) (later_count (fate_in l.state x) n l.counts)
+later_one n l x = ap (λ c. record { state = hold l.state x; counts = c }) (later_count (outcome_in l.state x) n l.counts)
 
 later : (n : ℕ) (l : Loaded) (xs : List HeardCell) → load (with_unlisted n l) xs ≡ with_unlisted n (load l xs)
 later n l [] = refl

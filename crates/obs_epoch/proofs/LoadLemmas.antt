@@ -3,12 +3,11 @@ use Rattle.std.proofs.Common.{[], ◌≡◌, ℕ, suc, Bool, true, false, not, �
 use Rattle.std.specs.Prelude.{if◌then◌else◌, cond}
 use Rattle.gnss_obs.specs.declared.system.System.{System}
 use Rattle.gnss_obs.specs.declared.system.System.TheVariants.{Gps, Galileo}
-use Rattle.obs_epoch.specs.declared.taken.Fate.TheVariants.{Skipped, Repeated, Crowded, Kept}
+use Rattle.obs_epoch.specs.Held.{CellOutcome, Crowded, Kept, Repeated, Skipped, count_in, is_held, lookup, outcome_of}
 use Rattle.obs_epoch.specs.Heard.{GatherSetup, HeardCell, kept_cell}
 use Rattle.obs_epoch.specs.Cells.{is_of_system, has_same_key, is_among, kept, add, is_planned}
 use Rattle.obs_epoch.specs.Loss.{lli_with}
-use Rattle.obs_epoch.specs.Held.{lookup, is_held, fate_of, count_in}
-use Rattle.obs_epoch.specs.Gather.{Gathered, with_more, fate_in, hold, hold_by, load}
+use Rattle.obs_epoch.specs.Gather.{Gathered, with_more, outcome_in, hold, hold_by, load}
 use Rattle.obs_epoch.specs.Values.{PlanValue, planned_of, most_cells, EpochValue, cells_of}
 use Rattle.obs_epoch.specs.Order.{insert_by, sort_key_of, sorted, cell_sort_key}
 use Rattle.obs_epoch.proofs.CellsLemmas.{kept-add}
@@ -16,7 +15,6 @@ use Rattle.obs_epoch.proofs.OrderLemmas.{sorted-push, among-sorted, length-sorte
 use Rattle.obs_epoch.specs.declared.cell.Cell.{Cell}
 use Rattle.obs_epoch.specs.declared.locks.KnownLock.{KnownLock}
 use Rattle.obs_epoch.specs.declared.taken.CellCounts.{CellCounts}
-use Rattle.obs_epoch.specs.declared.taken.Fate.{Fate}
 use Rattle.std.proofs.lemmas.Grind.{common_steps}
 
 -- Cells with their loss of lock indicators, from the earlier locks of their keys.
@@ -47,8 +45,8 @@ abbrev pub epoch_of : PlanValue → (HeardCell → Option KnownLock) → ℕ →
 epoch_of p f t xs = record { time = t; gps = with_lli_by f t (sorted p.gps (kept Gps xs)); galileo = with_lli_by f t (sorted p.galileo (kept Galileo xs)) }
 
 -- The outcome of a cell after these cells.
-abbrev pub fate_after : GatherSetup → List HeardCell → HeardCell → Fate
-fate_after s xs x =
+abbrev pub outcome_after : GatherSetup → List HeardCell → HeardCell → CellOutcome
+outcome_after s xs x =
     if is_planned s x then (if is_among (kept x.satellite.system xs) x then Repeated else (if nat_le most_cells (length (kept x.satellite.system xs)) then Crowded else Kept)) else Skipped
 
 abbrev pub planned_one : GatherSetup → HeardCell → List HeardCell
@@ -58,8 +56,8 @@ cells_in_of : (system : System) (p : PlanValue) (f : HeardCell → Option KnownL
 cells_in_of Gps p f t xs = refl
 cells_in_of Galileo p f t xs = refl
 
-pub fate_is : (s : GatherSetup) (f : HeardCell → Option KnownLock) (t : ℕ) (xs : List HeardCell) (x : HeardCell) → fate_of s (cells_of x.satellite.system (epoch_of s.plan f t xs)) x ≡ fate_after s xs x
-fate_is s f t xs x = grind (arith, common_steps, cells_in_of, with_lli_by-held, among-sorted, with_lli_by-length, length-sorted)
+pub outcome_is : (s : GatherSetup) (f : HeardCell → Option KnownLock) (t : ℕ) (xs : List HeardCell) (x : HeardCell) → outcome_of s (cells_of x.satellite.system (epoch_of s.plan f t xs)) x ≡ outcome_after s xs x
+outcome_is s f t xs x = grind (arith, common_steps, cells_in_of, with_lli_by-held, among-sorted, with_lli_by-length, length-sorted)
 
 -- The cells of the other system don't change.
 add_other : (system : System) (ks : List HeardCell) (x : HeardCell) → is_of_system system x ≡ false → add system ks x ≡ ks
@@ -68,7 +66,7 @@ add_other system ks x h = ap (λ b. if b && not (is_among ks x || nat_le most_ce
 add_own : (system : System) (ks : List HeardCell) (x : HeardCell) → is_of_system system x ≡ true → add system ks x ≡ (if is_among ks x || nat_le most_cells (length ks) then ks else ks ++ x ∷ [])
 add_own system ks x h = grind (arith, common_steps)
 
-abbrev pub epoch_by : PlanValue → Fate → (HeardCell → Option KnownLock) → EpochValue → HeardCell → EpochValue
+abbrev pub epoch_by : PlanValue → CellOutcome → (HeardCell → Option KnownLock) → EpochValue → HeardCell → EpochValue
 epoch_by p Kept f e x = with_more p e (kept_cell x (lli_with e.time x (f x)))
 epoch_by p _ f e x = e
 
@@ -88,7 +86,7 @@ one_galileo s f t xs x true a n g e h k = grind (arith, common_steps, kept-add, 
 
 -- After one more cell, the kept epoch is that of the longer list.
 one_more : (s : GatherSetup) (f : HeardCell → Option KnownLock) (t : ℕ) (xs : List HeardCell) (x : HeardCell)
-    → epoch_by s.plan (fate_after s xs x) f (epoch_of s.plan f t xs) x ≡ epoch_of s.plan f t (xs ++ planned_one s x)
+    → epoch_by s.plan (outcome_after s xs x) f (epoch_of s.plan f t xs) x ≡ epoch_of s.plan f t (xs ++ planned_one s x)
 one_more s f t xs x = by x.satellite.system refl where
   by : (system : System) → x.satellite.system ≡ system
       → epoch_by s.plan (if is_planned s x then (if is_among (kept x.satellite.system xs) x then Repeated else (if nat_le most_cells (length (kept x.satellite.system xs)) then Crowded else Kept)) else Skipped) f (epoch_of s.plan f t xs) x
@@ -103,9 +101,9 @@ one_more s f t xs x = by x.satellite.system refl where
 -- The counts after these cells, one by one.
 abbrev pub counts_after : GatherSetup → List HeardCell → CellCounts → List HeardCell → CellCounts
 counts_after s xs n [] = n
-counts_after s xs n (y ∷ ys) = counts_after s (xs ++ planned_one s y) (count_in (fate_after s xs y) n) ys
+counts_after s xs n (y ∷ ys) = counts_after s (xs ++ planned_one s y) (count_in (outcome_after s xs y) n) ys
 
-pub hold_is : (k : Fate) (g : Gathered) (x : HeardCell) → hold_by k g x ≡ record g { epoch = epoch_by g.clock.setup.plan k (lookup g.locks) g.epoch x }
+pub hold_is : (k : CellOutcome) (g : Gathered) (x : HeardCell) → hold_by k g x ≡ record g { epoch = epoch_by g.clock.setup.plan k (lookup g.locks) g.epoch x }
 hold_is Kept g x = refl
 hold_is Skipped g x = refl
 hold_is Repeated g x = refl
@@ -119,13 +117,13 @@ load_is g n t xs [] h = ap (λ e. record { state = record g { epoch = e }; count
 load_is g n t xs (y ∷ ys) h =
     let s = g.clock.setup in
     let f = lookup g.locks in
-    let fate : fate_in g y ≡ fate_after s xs y = ap (λ e. fate_of s (cells_of y.satellite.system e) y) h ∙ fate_is s f t xs y in
+    let outcome : outcome_in g y ≡ outcome_after s xs y = ap (λ e. outcome_of s (cells_of y.satellite.system e) y) h ∙ outcome_is s f t xs y in
     let after : hold g y ≡ record g { epoch = epoch_of s.plan f t (xs ++ planned_one s y) } =
-    ap (λ k. hold_by k g y) fate ∙ hold_is (fate_after s xs y) g y
-    ∙ ap (λ e. record g { epoch = e }) (ap (λ e. epoch_by s.plan (fate_after s xs y) f e y) h ∙ one_more s f t xs y) in
-    ap₂ (λ v k. load (record { state = v; counts = count_in k n }) ys) after fate
-    ∙ load_is (record g { epoch = epoch_of s.plan f t (xs ++ planned_one s y) }) (count_in (fate_after s xs y) n) t (xs ++ planned_one s y) ys refl
-    ∙ ap (λ l. record { state = record g { epoch = epoch_of s.plan f t l }; counts = counts_after s (xs ++ planned_one s y) (count_in (fate_after s xs y) n) ys })
+    ap (λ k. hold_by k g y) outcome ∙ hold_is (outcome_after s xs y) g y
+    ∙ ap (λ e. record g { epoch = e }) (ap (λ e. epoch_by s.plan (outcome_after s xs y) f e y) h ∙ one_more s f t xs y) in
+    ap₂ (λ v k. load (record { state = v; counts = count_in k n }) ys) after outcome
+    ∙ load_is (record g { epoch = epoch_of s.plan f t (xs ++ planned_one s y) }) (count_in (outcome_after s xs y) n) t (xs ++ planned_one s y) ys refl
+    ∙ ap (λ l. record { state = record g { epoch = epoch_of s.plan f t l }; counts = counts_after s (xs ++ planned_one s y) (count_in (outcome_after s xs y) n) ys })
     (append_assoc xs (planned_one s y) (filter (is_planned s) ys) ∙ ap (λ l. xs ++ l) (split (is_planned s y) y (filter (is_planned s) ys))) where
       split : (b : Bool) (y : HeardCell) (l : List HeardCell) → (if b then y ∷ [] else []) ++ l ≡ cond b (y ∷ l) l
       split true y l = refl

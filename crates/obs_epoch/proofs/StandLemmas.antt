@@ -13,9 +13,8 @@ use Rattle.obs_epoch.specs.Plans.{place_in}
 use Rattle.obs_epoch.specs.Cells.{has_same_key, same_key, is_planned}
 use Rattle.obs_epoch.specs.Heard.{IsKey, IsObserved, GatherSetup, Heard, HeardCell, kept_cell, heard_cell}
 use Rattle.obs_epoch.specs.Order.{is_before, SortKeysRise, insert_by, insertion_index, sort_key_of, cell_sort_key, AreOrderedBy, AreSorted}
-use Rattle.obs_epoch.specs.Held.{is_held, lookup}
-use Rattle.obs_epoch.specs.Gather.{Gathered, with_more_in, more_at, with_more, insertion_index_in, AreInPlanOrder, AreInOrder, fate_in, hold, hold_by}
-use Rattle.obs_epoch.specs.declared.taken.Fate.TheVariants.{Kept, Repeated, Crowded}
+use Rattle.obs_epoch.specs.Held.{Crowded, Kept, Repeated, is_held, lookup}
+use Rattle.obs_epoch.specs.Gather.{Gathered, with_more_in, more_at, with_more, insertion_index_in, AreInPlanOrder, AreInOrder, outcome_in, hold, hold_by}
 use Rattle.obs_epoch.specs.Clock.{State}
 use Rattle.obs_epoch.specs.Step.{step_by}
 use Rattle.obs_epoch.specs.Loss.{lli_with}
@@ -192,17 +191,17 @@ pub planned_is : (s : GatherSetup) (x : HeardCell) → IsKey x → is_some (plac
 planned_is s x key h = grind (arith, common_steps)
 
 -- The outcome of a planned cell.
-pub fate_by : (g : Gathered) (x : HeardCell) (held full : Bool) → is_planned g.clock.setup x ≡ true → is_held (cells_of x.satellite.system g.epoch) x ≡ held
-    → nat_le most_cells (length (cells_of x.satellite.system g.epoch)) ≡ full → fate_in g x ≡ (if held then Repeated else (if full then Crowded else Kept))
-fate_by g x held full planned h f = grind (arith, common_steps)
+pub outcome_by : (g : Gathered) (x : HeardCell) (held full : Bool) → is_planned g.clock.setup x ≡ true → is_held (cells_of x.satellite.system g.epoch) x ≡ held
+    → nat_le most_cells (length (cells_of x.satellite.system g.epoch)) ≡ full → outcome_in g x ≡ (if held then Repeated else (if full then Crowded else Kept))
+outcome_by g x held full planned h f = grind (arith, common_steps)
 
 -- A cell that is kept is inserted in the kept epoch.
-pub kept_is : (g : Gathered) (x : HeardCell) (at lli : ℕ) (e : EpochValue) → fate_in g x ≡ Kept → lli ≡ lli_with g.epoch.time x (lookup g.locks x)
+pub kept_is : (g : Gathered) (x : HeardCell) (at lli : ℕ) (e : EpochValue) → outcome_in g x ≡ Kept → lli ≡ lli_with g.epoch.time x (lookup g.locks x)
     → at ≡ insertion_index_in g.clock.setup.plan g.epoch x → e ≡ more_at x.satellite.system at g.epoch (kept_cell x lli) → record g { epoch = e } ≡ hold g x
-kept_is g x at lli e fate mark_is at_is e_is =
+kept_is g x at lli e outcome mark_is at_is e_is =
     let m : Cell = kept_cell x (lli_with g.epoch.time x (lookup g.locks x)) in
     ap (λ v. record g { epoch = v }) (e_is ∙ ap₂ (λ i n. more_at x.satellite.system i g.epoch (kept_cell x n)) at_is mark_is ∙ more_is g.clock.setup.plan g.epoch m)
-    ∙ ap (λ k. hold_by k g x) (sym fate)
+    ∙ ap (λ k. hold_by k g x) (sym outcome)
 
 pub step_setup : (g : State) (m : Heard) → (step_by g m).setup ≡ g.setup
 step_setup g m = grind (arith, common_steps)

@@ -16,7 +16,7 @@ use Rattle.obs_epoch.specs.Epochs.{epoch_at, closed_so_far, closed_times, values
 use Rattle.obs_epoch.specs.Clock.{State, HasHeardMessages, is_pending, closes_first}
 use Rattle.obs_epoch.specs.Kinds.{is_close_first, is_kept, kind_after}
 use Rattle.obs_epoch.specs.Step.{kind_by, step_by, closed_by, closed_of}
-use Rattle.obs_epoch.specs.Gather.{with_unlisted, Gathered, Loaded, no_epoch, noted, load, loaded_if, fate_in, load_one, with_time, closed_if, take_step, end_step}
+use Rattle.obs_epoch.specs.Gather.{with_unlisted, Gathered, Loaded, no_epoch, noted, load, loaded_if, outcome_in, load_one, with_time, closed_if, take_step, end_step}
 use Rattle.obs_epoch.specs.GathererHistory.{held_at, Locked, HasTakenMessages, closed_list, closed_epoch}
 use Rattle.obs_epoch.proofs.TimesLemmas.{next, timed-push}
 use Rattle.obs_epoch.proofs.ClockLemmas.{standing, same_state, takes, closes, new_time}
@@ -355,7 +355,7 @@ no_point s xs (message.Other number set) h = refl
 
 load_handed : (l : Loaded) (xs : List HeardCell) → (load l xs).state.just_closed ≡ l.state.just_closed
 load_handed l [] = refl
-load_handed l (x ∷ xs) = load_handed (load_one l x) xs ∙ ap (λ (g : Gathered). g.just_closed) (hold_is (fate_in l.state x) l.state x)
+load_handed l (x ∷ xs) = load_handed (load_one l x) xs ∙ ap (λ (g : Gathered). g.just_closed) (hold_is (outcome_in l.state x) l.state x)
 
 begun_handed : (b : Bool) (g e : Gathered) → e.just_closed ≡ g.just_closed → (if b then g else e).just_closed ≡ g.just_closed
 begun_handed true g e h = refl
@@ -378,7 +378,7 @@ handed_is g m =
 
 load_ended : (l : Loaded) (xs : List HeardCell) → (load l xs).state.has_ended ≡ l.state.has_ended
 load_ended l [] = refl
-load_ended l (x ∷ xs) = load_ended (load_one l x) xs ∙ ap (λ (g : Gathered). g.has_ended) (hold_is (fate_in l.state x) l.state x)
+load_ended l (x ∷ xs) = load_ended (load_one l x) xs ∙ ap (λ (g : Gathered). g.has_ended) (hold_is (outcome_in l.state x) l.state x)
 
 begun_ended : (b : Bool) (g e : Gathered) → e.has_ended ≡ g.has_ended → (if b then g else e).has_ended ≡ g.has_ended
 begun_ended true g e h = refl

@@ -80,6 +80,10 @@ kept_of_both xs = kept Gps xs ++ kept Galileo xs
 abbrev pub no_counts : CellCounts
 no_counts = record { kept = 0; skipped = 0; repeated = 0; crowded = 0 }
 
+-- The number of cells of all outcomes.
+abbrev pub cells_counted : CellCounts → ℕ
+cells_counted n = n.kept + n.skipped + n.repeated + n.crowded
+
 -- The outcomes of a message's cells after the earlier cells: the kept, unplanned, repeated and surplus ones.
 abbrev pub counts_of : GatherSetup → List HeardCell → List HeardCell → CellCounts
 counts_of s before cells =

@@ -5,7 +5,7 @@ use Rattle.std.specs.Option.{option_map_or}
 use Rattle.gnss_obs.specs.declared.system.System.{System}
 use Rattle.gnss_obs.specs.declared.system.System.TheVariants.{Gps, Galileo}
 use Rattle.obs_epoch.specs.declared.cell.StationValues.{StationValues}
-use Rattle.obs_epoch.specs.declared.taken.Fate.TheVariants.{Kept}
+use Rattle.obs_epoch.specs.Held.{CellOutcome, Kept, count_in, lookup, note_all, outcome_of}
 use Rattle.rtcm_msg.specs.declared.entry.Entry.{Entry}
 use Rattle.rtcm_msg.specs.declared.entry.LockField.{LockField}
 use Rattle.obs_epoch.specs.Heard.{Heard, seen_in, HeardCell, kept_cell}
@@ -17,13 +17,11 @@ use Rattle.obs_epoch.specs.Plans.{place_in}
 use Rattle.obs_epoch.specs.Order.{SortKeysRise, insert_by, insertion_index, sort_key_of, cell_sort_key}
 use Rattle.obs_epoch.specs.Loss.{lli_with}
 use Rattle.obs_epoch.specs.Epochs.{values_by_message}
-use Rattle.obs_epoch.specs.Held.{lookup, note_all, fate_of, count_in}
 use Rattle.obs_epoch.specs.Clock.{State}
 use Rattle.obs_epoch.specs.Step.{kind_by, step_by, closed_by}
 use Rattle.obs_epoch.specs.declared.cell.Cell.{Cell}
 use Rattle.obs_epoch.specs.declared.locks.KnownLock.{KnownLock}
 use Rattle.obs_epoch.specs.declared.taken.CellCounts.{CellCounts}
-use Rattle.obs_epoch.specs.declared.taken.Fate.{Fate}
 
 -- ---- the kept epoch
 
@@ -72,24 +70,24 @@ pub record Gathered : Type 0 where
 abbrev pub planned_cell : PlanValue → HeardCell → Option Cell
 planned_cell p x = if is_some (place_in x.signal (planned_of x.satellite.system p)) then Some (kept_cell x 0) else None
 
-abbrev pub fate_in : Gathered → HeardCell → Fate
-fate_in g x = fate_of g.clock.setup (cells_of x.satellite.system g.epoch) x
+abbrev pub outcome_in : Gathered → HeardCell → CellOutcome
+outcome_in g x = outcome_of g.clock.setup (cells_of x.satellite.system g.epoch) x
 
-abbrev pub hold_by : Fate → Gathered → HeardCell → Gathered
+abbrev pub hold_by : CellOutcome → Gathered → HeardCell → Gathered
 hold_by Kept g x =
     record g { epoch = with_more g.clock.setup.plan g.epoch (kept_cell x (lli_with g.epoch.time x (lookup g.locks x))) }
 hold_by _ g x = g
 
 -- One more cell.
 abbrev pub hold : Gathered → HeardCell → Gathered
-hold g x = hold_by (fate_in g x) g x
+hold g x = hold_by (outcome_in g x) g x
 
 pub record Loaded : Type 0 where
   pub state : Gathered
   pub counts : CellCounts
 
 abbrev pub load_one : Loaded → HeardCell → Loaded
-load_one l x = record { state = hold l.state x; counts = count_in (fate_in l.state x) l.counts }
+load_one l x = record { state = hold l.state x; counts = count_in (outcome_in l.state x) l.counts }
 
 -- More cells, one by one.
 abbrev pub load : Loaded → List HeardCell → Loaded

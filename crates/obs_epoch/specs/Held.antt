@@ -8,14 +8,12 @@ use Rattle.gnss_obs.specs.declared.system.System.TheVariants.{Gps, Galileo}
 use Rattle.gnss_obs.specs.Satellites.{satellites}
 use Rattle.gnss_obs.specs.Signals.{table}
 use Rattle.obs_epoch.specs.declared.cell.Cell.{Cell}
-use Rattle.obs_epoch.specs.declared.taken.Fate.TheVariants.{Skipped, Repeated, Crowded, Kept}
 use Rattle.obs_epoch.specs.Heard.{GatherSetup, HeardCell, heard_cell}
 use Rattle.obs_epoch.specs.Cells.{is_among, firsts, has_same_key, same_key, is_planned, has_listed_key}
 use Rattle.obs_epoch.specs.Values.{most_cells}
 use Rattle.obs_epoch.specs.Loss.{lock_of}
 use Rattle.obs_epoch.specs.declared.locks.KnownLock.{KnownLock}
 use Rattle.obs_epoch.specs.declared.taken.CellCounts.{CellCounts}
-use Rattle.obs_epoch.specs.declared.taken.Fate.{Fate}
 
 -- ---- lock records: an entry for each key, those of GPS first
 
@@ -76,12 +74,19 @@ is_held ms x = list_any (λ m. has_same_key x (heard_cell m)) ms
 abbrev pub is_cell_of : HeardCell → Cell → Bool
 is_cell_of x c = same_key x.satellite x.signal c.satellite c.signal
 
-abbrev pub fate_of : GatherSetup → List Cell → HeardCell → Fate
-fate_of s ms x =
+-- The outcome of a cell.
+pub data CellOutcome : Type 0 where
+  Skipped : CellOutcome
+  Repeated : CellOutcome
+  Crowded : CellOutcome
+  Kept : CellOutcome
+
+abbrev pub outcome_of : GatherSetup → List Cell → HeardCell → CellOutcome
+outcome_of s ms x =
     if is_planned s x
     then (if is_held ms x then Repeated else (if nat_le most_cells (length ms) then Crowded else Kept)) else Skipped
 
-abbrev pub count_in : Fate → CellCounts → CellCounts
+abbrev pub count_in : CellOutcome → CellCounts → CellCounts
 count_in Kept n = record n { kept = n.kept + 1 }
 count_in Skipped n = record n { skipped = n.skipped + 1 }
 count_in Repeated n = record n { repeated = n.repeated + 1 }

@@ -1,6 +1,6 @@
 //! Gathers messages into epochs, with loss of lock indicators.
-ghost use Rattle.std.specs.Prelude.{[], ◌≡◌, ◌↔◌, ◌⊎◌, ◌<◌, ◌≤◌, true, false, length, None, Some, is_some, IfOk, IfErr};
-ghost use Rattle.std.specs.Prelude.{IfSome, IsOk, Err, option_map, option_to_list, not, List, Option};
+ghost use Rattle.std.specs.Prelude.{[], ◌≡◌, ◌↔◌, ◌⊎◌, ◌+◌, ◌<◌, ◌≤◌, true, false, length, None, Some, is_some, IfOk};
+ghost use Rattle.std.specs.Prelude.{IfErr, IfSome, IsOk, Err, option_map, option_to_list, not, List, Option};
 ghost use Rattle.rtcm_msg.specs.Entries.{IsEntry};
 ghost use Rattle.rtcm_msg.specs.Msm.{codes_of, most_pairs, week};
 ghost use Rattle.rtcm_msg.specs.Viewed.{viewed_message, lock_field};
@@ -18,9 +18,8 @@ ghost use Rattle.obs_epoch.specs.Gathering.{HasGatheredEpochs, closed_by, closed
 ghost use Rattle.obs_epoch.specs.Calls.{TakesMessage, EndsPendingEpoch, StaysEnded, HoldsCells, HoldsLockedKeys};
 ghost use Rattle.obs_epoch.specs.declared.fault.PlanFault.{PlanFault};
 ghost use Rattle.obs_epoch.specs.Gather.{take_step, end_step, loaded_if, load_entry, load_entries, epoch_begun};
-ghost use Rattle.obs_epoch.specs.Gather.{load, rested, fate_in, hold};
-ghost use Rattle.obs_epoch.specs.Cells.{no_counts};
-ghost use Rattle.obs_epoch.specs.declared.taken.CellCounts.{CellCounts};
+ghost use Rattle.obs_epoch.specs.Gather.{load, rested, outcome_in, hold};
+ghost use Rattle.obs_epoch.specs.Cells.{cells_counted, no_counts};
 
 use crate::cell::{Cell, StationValues};
 use crate::clock::Clock;
@@ -29,7 +28,7 @@ use crate::fault::PlanFault;
 use crate::locks::{Locks, lli};
 use crate::observe::{observe, system_of};
 use crate::plan::Plan;
-use crate::taken::{CellCounts, Fate, Gather, Taken, counted, no_counts};
+use crate::taken::{CellCounts, Gather, Taken, no_counts};
 use crate::time::{GpsTime, WEEKS};
 use gnss_obs::System;
 use rtcm_msg::{Entries, Entry, LockField, Message, Summary, View};
@@ -310,25 +309,30 @@ impl Gatherer {
         }
     }
 
-    // Keeps a cell of a planned signal, unless a cell of its key is kept or there is no room.
+    // Keeps a cell of a planned signal, unless a cell of its key is kept or there is no room, and
+    // counts its outcome.
     #[inline(always)]
-    fn take_cell(&mut self, mut x: Cell) -> Fate
+    fn take_cell(&mut self, mut x: Cell, n: &mut CellCounts)
         requires observed { IsObserved (heard_cell x) }
         requires planned { is_some (place_in x.signal (planned_of x.satellite.system self.old.clock.setup.plan))
             ≡ true }
-        ensures fate { result ≡ fate_in self.old (heard_cell x) }
+        requires few { cells_counted n.old < usize.MAX }
+        ensures counts { n.new ≡ count_in (outcome_in self.old (heard_cell x)) n.old }
         ensures step { self.new ≡ hold self.old (heard_cell x) }
+        ensures one { cells_counted n.new ≡ cells_counted n.old + 1 }
     {
         let (at, is_kept) = self.epoch.place_of(self.clock.plan(), &x);
         if is_kept {
-            return Fate::Repeated;
+            n.repeated += 1;
+            return;
         }
         if self.epoch.cells(x.satellite.system()).len() >= MOST_CELLS {
-            return Fate::Crowded;
+            n.crowded += 1;
+            return;
         }
         x.lli = lli(&x, self.epoch.time().milliseconds(), self.locks.latest(&x));
         self.epoch.insert(at, x);
-        Fate::Kept
+        n.kept += 1;
     }
 
     // Processes the cells of a message, and returns their outcomes.
@@ -340,21 +344,23 @@ impl Gatherer {
     {
         let mut counts = no_counts();
         while let Some(entry) = cells.next() {
-            counts = counted(self.take_entry(field, system, &entry), counts);
+            self.take_entry(field, system, &entry, &mut counts);
         }
         counts
     }
 
-    // Processes a cell of a message, and returns its outcome.
+    // Processes a cell of a message, and counts its outcome.
     #[inline(always)]
-    fn take_entry(&mut self, field: LockField, system: System, entry: &Entry) -> Fate
-        requires { IsEntry (codes_of field) entry.now }
-        ensures { (n : CellCounts) → record { state = self.new; counts = count_in result n }
-            ≡ load_entry field system (record { state = self.old; counts = n }) entry.now }
+    fn take_entry(&mut self, field: LockField, system: System, entry: &Entry, n: &mut CellCounts)
+        requires entry { IsEntry (codes_of field) entry.now }
+        requires few { cells_counted n.old < usize.MAX }
+        ensures step { record { state = self.new; counts = n.new }
+            ≡ load_entry field system (record { state = self.old; counts = n.old }) entry.now }
+        ensures one { cells_counted n.new ≡ cells_counted n.old + 1 }
     {
         match observe(self.clock.plan(), field, system, entry) {
-            None => Fate::Skipped,
-            Some(x) => self.take_cell(x),
+            None => n.skipped += 1,
+            Some(x) => self.take_cell(x, n),
         }
     }
 }

@@ -1,6 +1,5 @@
 //! The outcome of a message.
-ghost use Rattle.std.specs.Prelude.{◌≡◌, ◌+◌, ◌<◌};
-ghost use Rattle.obs_epoch.specs.Held.{count_in};
+ghost use Rattle.std.specs.Prelude.{◌≡◌};
 ghost use Rattle.obs_epoch.specs.Cells.{no_counts};
 ghost use Rattle.obs_epoch.specs.Kinds.{is_close_first, is_kept, kept_kind, with_counts};
 
@@ -49,15 +48,6 @@ pub struct CellCounts {
     pub skipped: usize,
     pub repeated: usize,
     pub crowded: usize,
-}
-
-/// The outcome of a cell.
-#[derive(Clone, Copy)]
-pub enum Fate {
-    Skipped,
-    Repeated,
-    Crowded,
-    Kept,
 }
 
 /// The outcome of a message, and whether the call closed an epoch.
@@ -114,20 +104,4 @@ pub(crate) fn no_counts() -> CellCounts
         repeated: 0,
         crowded: 0,
     }
-}
-
-/// Returns the counts after one more cell with this outcome.
-pub(crate) fn counted(fate: Fate, mut n: CellCounts) -> CellCounts
-    requires { n.kept + n.skipped + n.repeated + n.crowded < usize.MAX }
-    ensures counts { result ≡ count_in fate n }
-    ensures all { result.kept + result.skipped + result.repeated + result.crowded
-        ≡ n.kept + n.skipped + n.repeated + n.crowded + 1 }
-{
-    match fate {
-        Fate::Kept => n.kept += 1,
-        Fate::Skipped => n.skipped += 1,
-        Fate::Repeated => n.repeated += 1,
-        Fate::Crowded => n.crowded += 1,
-    }
-    n
 }

@@ -1,5 +1,5 @@
 use Rattle.std.proofs.Common.{◌≡◌, ◌+◌, ◌≤◌, length}
-use Rattle.obs_epoch.specs.Cells.{no_counts}
+use Rattle.obs_epoch.specs.Cells.{cells_counted, no_counts}
 use Rattle.obs_epoch.specs.Gather.{load_entries}
 use Rattle.obs_epoch.proofs.gather.Gatherer.take_all.Given as goal
 
@@ -8,7 +8,7 @@ invariant-loop-entry l = record {
   same : load_entries l.field l.system (record { state = l.self; counts = l.counts }) l.cells.left
       ≡ load_entries l.field l.system (record { state = l.fn.self; counts = no_counts }) l.fn.cells.left;
   form : l.cells.form ≡ l.fn.cells.form;
-  counted : l.counts.kept + l.counts.skipped + l.counts.repeated + l.counts.crowded + length l.cells.left ≤ 64;
+  counted : cells_counted l.counts + length l.cells.left ≤ 64;
 }
 
 abbrev pub decreases-loop-entry : goal.decreases-loop-entry

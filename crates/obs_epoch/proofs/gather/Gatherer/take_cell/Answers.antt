@@ -7,7 +7,7 @@ use Rattle.obs_epoch.specs.Heard.{heard_cell, kept_cell}
 use Rattle.obs_epoch.specs.Gather.{Gathered, insertion_index_in, hold}
 use Rattle.obs_epoch.specs.Plans.{place_in}
 use Rattle.obs_epoch.specs.Loss.{lli_with}
-use Rattle.obs_epoch.proofs.StandLemmas.{order_more, sorted_more, more_is, kept_is, not_full, planned_is, fate_by}
+use Rattle.obs_epoch.proofs.StandLemmas.{order_more, sorted_more, more_is, kept_is, not_full, planned_is, outcome_by}
 use Rattle.obs_epoch.proofs.gather.Gatherer.take_cell.Goals as goal
 use Rattle.std.proofs.Common.{arith}
 use Rattle.std.proofs.lemmas.Grind.{common_steps}
@@ -37,8 +37,8 @@ returns-clause-step c =
     let planned = subst (λ (v : Gathered). is_some (place_in c.args.x.signal (planned_of c.args.x.satellite.system v.clock.setup.plan)) ≡ true) (sym c.self.view_is) c.requires.planned in
     let cells = c.cells.ensures.cells ∙ ap (λ s. cells_of s e) c.system.ensures in
     let room = ap (λ (l : List Cell). nat_le most_cells (length l)) (sym cells) ∙ not_full (length c.cells.result.now) c.if-cells-ge-MOST_CELLS.false in
-    let fate = fate_by g x _ _ (planned_is g.clock.setup x c.requires.observed.key planned) (sym c.place_of-at.ensures.kept ∙ c.if-is_kept.false) room in
+    let outcome = outcome_by g x _ _ (planned_is g.clock.setup x c.requires.observed.key planned) (sym c.place_of-at.ensures.kept ∙ c.if-is_kept.false) room in
     let at = c.place_of-at.ensures.at ∙ ap (λ q. insertion_index_in q e x) c.plan.ensures in
     let lli = c.lli.ensures.value ∙ ap₂ (λ t o. lli_with t x o) (c.milliseconds.ensures.value ∙ c.time.ensures) c.latest.ensures in
     ap (with_values (record { clock = c.self.inside.clock; epoch = c.insert.new.self.epoch; locks = c.self.inside.locks; values = c.insert.new.self.values; just_closed = c.self.inside.just_closed; has_ended = c.self.inside.has_ended })) (ap (λ (h : Closed). h.values) c.insert.ensures)
-    ∙ kept_is g x c.place_of-at.result.0 c.lli.result _ fate lli at (ap (λ (h : Closed). h.epoch) c.insert.ensures) ∙ ap (λ v. hold v x) c.self.view_is
+    ∙ kept_is g x c.place_of-at.result.0 c.lli.result _ outcome lli at (ap (λ (h : Closed). h.epoch) c.insert.ensures) ∙ ap (λ v. hold v x) c.self.view_is
