@@ -13,7 +13,7 @@ use Rattle.rtcm_convert.specs.Fed.{AppendsBetween, AppendsPrefixBetween}
 use Rattle.rtcm_convert.specs.Filed.{HasFiledFrames}
 use Rattle.rtcm_convert.specs.Laws.{FiledStays, FiledGrows, WrittenStays, WrittenGrows}
 use Rattle.rtcm_convert.specs.Outcomes.{outcomes}
-use Rattle.rtcm_convert.specs.Steps.{WritesRest, BreaksInRest, CountsEpochs, GathersAll}
+use Rattle.rtcm_convert.specs.Steps.{EndsFile, BreaksInRest}
 use Rattle.rtcm_convert.specs.Stream.{Drained, Files, BreaksFiling, IsEnded, AppendsPrefixOfRest}
 use Rattle.rtcm_convert.specs.declared.file_writer.FileWriter.{FileWriter}
 use Rattle.rtcm_convert.proofs.ExactLemmas.{tally_whole, whole_epochs, epochs_few, outcomes_length}
@@ -45,24 +45,25 @@ module _ {W : Type 0} (c : W → Option (List ℕ)) (v v' : FramerValue) (w w' :
 
   -- then the rest of the file was written
   pub ended : Few → (w2 : FileWriter) (e : Option (List ℕ)) → v.has_ended ≡ false → v'.has_ended ≡ true → v'.limit ≡ v.limit → v'.taken ≡ v.taken → PassesKnown (Files c) v w o v' w' o'
-      → WritesRest w' (c o'.inner) e → CountsEpochs w' w2.epochs → GathersAll w' w2 → w2.tally ≡ w'.tally
+      → EndsFile w' w2 (c o'.inner) e → w2.tally ≡ w'.tally
       → (s : SetupValue) (bytes : List ℕ) → Drained v w s bytes → IsEnded v' w2 (c o.inner) e s bytes
-  ended few w2 e before after limit taken k rest epochs gathers tally s bytes d =
+  ended few w2 e before after limit taken k rest tally s bytes d =
       let p = filed_all before after k s bytes d in
+      let q = rest s (frames_of bytes) p.0 in
       let a = passed_all k s bytes d in
       let n : length (outcomes s (frames_of bytes)) ≡ length (frames_of bytes) = outcomes_length s [] (frames_of bytes) in
       let t : v.taken ≡ length bytes = d.framer.history.taken in
       let l : v.taken ≤ v.limit = d.framer.within in
       record {
         over = after;
-        out = goes_on-trans (c o.inner) (c o'.inner) e _ _ _ p.1 (rest s (frames_of bytes) p.0);
-        epochs = epochs s (frames_of bytes) p.0 ∙ whole_epochs (epochs_in s (frames_of bytes)) (length (frames_of bytes)) (length bytes) (epochs_few s (frames_of bytes)) (few bytes) (within v w s bytes d);
+        out = goes_on-trans (c o.inner) (c o'.inner) e _ _ _ p.1 q.0;
+        epochs = q.1 ∙ whole_epochs (epochs_in s (frames_of bytes)) (length (frames_of bytes)) (length bytes) (epochs_few s (frames_of bytes)) (few bytes) (within v w s bytes d);
         tally = tally ∙ p.0.tally ∙ tally_whole (outcomes s (frames_of bytes)) (length bytes) p.0.few (subst (λ (k : ℕ). 6 * k ≤ length bytes) (sym n) (few bytes)) (within v w s bytes d);
         taken = taken ∙ t;
         within = omega (arith, t, l, limit);
         drained = subst (λ (l : List Framed). IsDrained v' bytes l) (ap (λ h. known_frames h bytes) after) a.drained;
         counted = a.counted;
-        gathered = gathers s (frames_of bytes) p.0;
+        gathered = q.2;
       }
 
   -- a prefix of it was written

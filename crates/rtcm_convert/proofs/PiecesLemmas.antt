@@ -1,6 +1,6 @@
 -- Pieces that a converter accepts up to the end of its stream.
 use Rattle.std.proofs.Common.{◌≡◌, ℕ, ◌+◌, ◌<◌, ◌≤◌, inl, inr, List, [], ◌∷◌, ◌++◌, sym, ap, subst, ◌∙◌, arith, Option, Result, Ok, Err, IfOk, append-nil, append_assoc, length, length-append, take, drop, get_or}
-use Rattle.std.specs.Prelude.{flat_map, Vec}
+use Rattle.std.specs.Prelude.{IsErrOf, flat_map, Vec}
 use Rattle.std.proofs.lemmas.List.{take_more, take-append-drop, take-append-le}
 use Rattle.std.proofs.lemmas.Grind.{flat_map-append}
 use Rattle.std.proofs.Math.Seq.{take-length}
@@ -9,17 +9,20 @@ use Rattle.rtcm_convert.specs.Converted.{SetupValue}
 use Rattle.rtcm_convert.specs.Stream.{AppendsDecided, AppendsPrefixOfDecided}
 use Rattle.rtcm_convert.specs.Conversion.{Conversion, HasConverted, TakesPiece, CutsAtLimit, WritesPrefixOfAdded, StopsAtEnd, FinishesNow, FinishesEmptyNow, CompletesFile, CompletesEmptyFile, FailsAtEnd}
 use Rattle.rtcm_convert.specs.Pieces.{StopsInPieces}
+use Rattle.rtcm_convert.specs.Faults.{IsFeedFault}
+use Rattle.rtcm_convert.specs.declared.fault.Fault.{Fault}
+use Rattle.rtcm_convert.specs.declared.fault.Fault.TheVariants.{NoEpoch}
 use Rattle.rtcm_convert.specs.declared.report.Report.{Report}
 use Rattle.rtcm_convert.proofs.PartLemmas.{goes_on-trans}
 use Rattle.rtcm_convert.proofs.RunLemmas.{completed_after, empty_after}
 
 -- ---- the first pieces
 
-pub pieces_more : {X : Type 0} (bytes : X → List ℕ) (pieces : List X) (i : ℕ) (d : X) → i < length pieces
-    → flat_map bytes (take i pieces) ++ bytes (get_or pieces i d) ≡ flat_map bytes (take (i + 1) pieces)
-pieces_more bytes pieces i d lt =
+pub pieces_more : {X : Type 0} (bytes : X → List ℕ) (pieces : List X) (i : ℕ) (d : X) (piece : List ℕ) → piece ≡ bytes (get_or pieces i d) → i < length pieces
+    → flat_map bytes (take i pieces) ++ piece ≡ flat_map bytes (take (i + 1) pieces)
+pieces_more bytes pieces i d piece is lt =
     sym (ap (flat_map bytes) (take_more pieces i d lt) ∙ flat_map-append bytes (take i pieces) (get_or pieces i d ∷ [])
-    ∙ ap (λ l. flat_map bytes (take i pieces) ++ l) (append-nil (bytes (get_or pieces i d))))
+    ∙ ap (λ l. flat_map bytes (take i pieces) ++ l) (append-nil (bytes (get_or pieces i d)) ∙ sym is))
 
 pub pieces_all : {X : Type 0} (bytes : X → List ℕ) (pieces : List X) (i : ℕ) → i ≤ length pieces → length pieces ≤ i → flat_map bytes (take i pieces) ≡ flat_map bytes pieces
 pieces_all bytes pieces i le ge = let e : i ≡ length pieces = omega arith in ap (λ k. flat_map bytes (take k pieces)) e ∙ ap (flat_map bytes) (take-length pieces)
@@ -99,4 +102,7 @@ pieces_broke v w a b c pieces i piece came less more stop = inl (
       record { mid = b; before = j.1; last = subst (λ (l : List ℕ). AppendsPrefixOfDecided b c s (bytes ++ joined_pieces (take i pieces)) l) e (stop s (bytes ++ joined_pieces (take i pieces)) j.0) },
 )
 
--- ---- faults
+-- `feed` never returns `NoEpoch`
+pub not_empty : {A : Type 0} (fault : Fault) → IsFeedFault fault → IsErrOf {T = A} {E = Fault} (Err fault) NoEpoch → ⊥
+not_empty fault (inl long) e = absurd cc
+not_empty fault (inr write) e = absurd cc

@@ -30,6 +30,9 @@ pub record Known : Type 0 where
   pub gathered : IsGatheredFile
   pub text : IsFileText
 
+pub known : ((bytes : List ℕ) (m : Message) → message_at bytes ≡ Ok m → IsMessage m) → MessagesAreHeard → EpochsAreGathered → ClosedComeFirst → IsGatheredFile → IsFileText → Known
+known value heard epochs first gathered text = record { value = value; heard = heard; epochs = epochs; first = first; gathered = gathered; text = text }
+
 -- ---- messages
 
 message_heard : Known → (bytes : List ℕ) (r : Result Message MsgFault) → message_at bytes ≡ r → IfSome (heard_of r) IsHeard

@@ -16,20 +16,17 @@ use Rattle.obs_epoch.specs.Heard.{GatherSetup, Heard, heard}
 use Rattle.obs_epoch.specs.Kinds.{is_close_first, kind_of}
 use Rattle.obs_epoch.specs.Gather.{Gathered}
 use Rattle.obs_epoch.specs.Gathering.{HasGatheredEpochs, IsAwaited, closed_by, closed_in, plan_in, closed_epochs, all_epochs, known_epochs}
-use Rattle.rtcm_convert.specs.Converted.{SetupValue, text_with, so_far, file, epochs_in, messages_of, heard_in}
+use Rattle.rtcm_convert.specs.Converted.{SetupValue, text_with, so_far, file, messages_of, heard_in}
 use Rattle.rtcm_convert.specs.Outcomes.{outcome, outcomes, outcomes_after, capped, capped_tally, tallies_added, sum_of_counts, tally_of, tally_of_one, IsFew, AreFew}
 use Rattle.rtcm_convert.specs.Fed.{AppendsBetween, AppendsPrefixBetween}
-use Rattle.rtcm_convert.specs.Filed.{added, HasFiledEpochs, Settled, HasFiledFrames, HasGathered}
+use Rattle.rtcm_convert.specs.Filed.{added, HasFiledEpochs, Settled, HasFiledFrames}
+use Rattle.rtcm_convert.specs.Steps.{EndsFile}
 use Rattle.rtcm_convert.specs.declared.tally.Tally.{Tally}
 use Rattle.rtcm_convert.specs.declared.file_writer.FileWriter.{FileWriter}
 use Rattle.rtcm_convert.proofs.PartLemmas.{goes_on-refl, goes_on-trans, breaks_off-after, breaks_off-by}
 use Rattle.rtcm_convert.proofs.TextLemmas.{cap_more, count, last, text-closed}
 use Rattle.rtcm_convert.proofs.ExactLemmas.{few_more, message_few, refused_few}
 use Rattle.rtcm_convert.proofs.StepLemmas.{Wrote, wrote_all, part_of}
-
-pub if_ok_both : {T E : Type 0} (r : Result T E) (A B : T → Type 0) (P : Type 0) → ((k : T) → A k → B k → P) → IfOk r A → IfOk r B → OnOk r P
-if_ok_both (Ok k) A B P f a b = f k a b
-if_ok_both (Err e) A B P f a b = tt
 
 -- the epochs written after these, and their text
 abbrev pub Written : FileWriter → SetupValue → List Heard → Option Heard → Option (List ℕ) → Option (List ℕ) → List Closed → Type 0
@@ -158,26 +155,21 @@ files_part v f m a b e t s fs x =
 -- the rest of the file
 pub file_whole : (v w : FileWriter) (g : Gathered) (a b : Option (List ℕ)) → Wrote v w g a b → g.has_ended ≡ true
     → ((s : GatherSetup) (ms : List Heard) (es : List Closed) → HasGatheredEpochs v.gatherer s ms es None → HasGatheredEpochs g s ms (es ++ closed_by (closed_in g) g.values) None)
-    → (s : SetupValue) (fs : List Framed) → HasFiledFrames v s fs → AppendsBetween a b (so_far s fs) (file s fs) × (w.epochs ≡ capped (epochs_in s fs))
+    → EndsFile v w a b
 file_whole v w g a b o over t s fs x =
     let ms = messages_of fs in
     let es = closed_epochs s.gather ms in
-    let p = wrote_all v w g a b s ms ms es None None o x.settled (t s.gather ms es x.settled.gatherer) in
-    let e : p.0 ≡ all_epochs s.gather ms = p.1.gatherer.epochs refl ∙ ap (λ (h : Gathered). known_epochs h.has_ended s.gather ms) o.gatherer ∙ ap (λ h. known_epochs h s.gather ms) over in
-    (subst (λ (all : List Closed). AppendsBetween a b (so_far s fs) (text_with s all)) e p.2, p.1.epochs ∙ ap count e)
-
--- no message follows
-pub gathered : (v w : FileWriter) (g : Gathered) → w.gatherer ≡ g → g.has_ended ≡ true
-    → ((s : GatherSetup) (ms : List Heard) (es : List Closed) → HasGatheredEpochs v.gatherer s ms es None → HasGatheredEpochs g s ms (es ++ closed_by (closed_in g) g.values) None)
-    → (s : SetupValue) (fs : List Framed) → HasFiledFrames v s fs → HasGathered w s fs
-gathered v w g is over t s fs x =
-    let es = closed_epochs s.gather (messages_of fs) in
-    let all = es ++ closed_by (closed_in g) g.values in
-    record {
-      ended = ap (λ (h : Gathered). h.has_ended) is ∙ over;
-      epochs = all;
-      gathers = subst (λ (h : Gathered). HasGatheredEpochs h s.gather (messages_of fs) all None) (sym is) (t s.gather (messages_of fs) es x.settled.gatherer);
-    }
+    let now = t s.gather ms es x.settled.gatherer in
+    let p = wrote_all v w g a b s ms ms es None None o x.settled now in
+    let e : p.0 ≡ all_epochs s.gather ms = p.1.gatherer.epochs refl ∙ ap (λ (h : Gathered). known_epochs h.has_ended s.gather ms) o.gatherer ∙ ap (λ h. known_epochs h s.gather ms) over in (
+      subst (λ (all : List Closed). AppendsBetween a b (so_far s fs) (text_with s all)) e p.2,
+      p.1.epochs ∙ ap count e,
+      record {
+        ended = ap (λ (h : Gathered). h.has_ended) o.gatherer ∙ over;
+        epochs = es ++ closed_by (closed_in g) g.values;
+        gathers = subst (λ (h : Gathered). HasGatheredEpochs h s.gather ms (es ++ closed_by (closed_in g) g.values) None) (sym o.gatherer) now;
+      },
+    )
 
 pub file_part : (v : FileWriter) (g : Gathered) (a b : Option (List ℕ)) → AppendsPrefix a b (added v.texts (plan_in g) v.values (closed_in g) g.values) → g.has_ended ≡ true
     → ((s : GatherSetup) (ms : List Heard) (es : List Closed) → HasGatheredEpochs v.gatherer s ms es None → HasGatheredEpochs g s ms (es ++ closed_by (closed_in g) g.values) None)

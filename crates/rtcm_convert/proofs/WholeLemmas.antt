@@ -113,9 +113,3 @@ pieces_cut v w x a b pieces nothing y e none p = record {
 pub pieces_failed : {Z : Type 0} → (v : Conversion) (s : SetupValue) (a b : Option (List ℕ)) (pieces : List (Vec ℕ Z)) → NothingYet → HasConverted v s [] → StopsInPieces v a b pieces → BrokeInPieces a b s pieces
 pieces_failed v s a b pieces nothing y (inl p) = let f = p.2 s [] y in inl (p.0, p.1, between a f.mid b s (joined_pieces (take p.0 pieces)) (of_first s (p.0 + 1) pieces) nothing f.before f.last)
 pieces_failed v s a b pieces nothing y (inr p) = let f = p s [] y in inr (between a f.mid b s (joined_pieces pieces) (file s (frames_of (joined_pieces pieces))) nothing f.before f.last)
-
--- ---- faults that a call of a new converter doesn't return
-
--- ---- faults that the end of a stream doesn't return
-
--- ---- faults that pieces up to the end don't return

@@ -80,20 +80,12 @@ abbrev pub BreaksInFrame : FileWriter → Framed → Option (List ℕ) → Optio
 BreaksInFrame v f a b = (s : SetupValue) (fs : List Framed) → HasFiledFrames v s fs
     → AppendsPrefixBetween a b (so_far s fs) (so_far s (fs ++ f ∷ []))
 
--- the rest of the file was written
-abbrev pub WritesRest : FileWriter → Option (List ℕ) → Option (List ℕ) → Type 0
-WritesRest v a b =
-    (s : SetupValue) (fs : List Framed) → HasFiledFrames v s fs → AppendsBetween a b (so_far s fs) (file s fs)
+-- the rest of the file was written, its epochs were counted, and all messages of its frames were gathered
+abbrev pub EndsFile : FileWriter → FileWriter → Option (List ℕ) → Option (List ℕ) → Type 0
+EndsFile v w a b = (s : SetupValue) (fs : List Framed) → HasFiledFrames v s fs
+    → AppendsBetween a b (so_far s fs) (file s fs) × (w.epochs ≡ capped (epochs_in s fs)) × HasGathered w s fs
 
 -- a prefix of the rest of the file was written
 abbrev pub BreaksInRest : FileWriter → Option (List ℕ) → Option (List ℕ) → Type 0
 BreaksInRest v a b =
     (s : SetupValue) (fs : List Framed) → HasFiledFrames v s fs → AppendsPrefixBetween a b (so_far s fs) (file s fs)
-
--- the whole file has n epochs
-abbrev pub CountsEpochs : FileWriter → ℕ → Type 0
-CountsEpochs v n = (s : SetupValue) (fs : List Framed) → HasFiledFrames v s fs → n ≡ capped (epochs_in s fs)
-
--- all messages of its frames were gathered
-abbrev pub GathersAll : FileWriter → FileWriter → Type 0
-GathersAll v w = (s : SetupValue) (fs : List Framed) → HasFiledFrames v s fs → HasGathered w s fs

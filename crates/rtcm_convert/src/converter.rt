@@ -16,7 +16,6 @@ ghost use Rattle.rtcm_convert.specs.Faults.{FailsWithReader, FailsWithWriter, Is
 ghost use Rattle.rtcm_convert.specs.Faults.{IsFeedFault, IsReadFault, IsFinishFault, IsPiecesFault, IsRunFault};
 ghost use Rattle.rtcm_convert.specs.SetupValues.{setup_value, setup_value_at, start_at, IsBad, IsBadAt};
 ghost use Rattle.rtcm_convert.specs.Converted.{SetupValue};
-ghost use Rattle.rtcm_convert.specs.Outcomes.{report_with};
 ghost use Rattle.rtcm_convert.specs.Conversion.{kept_of, KeepsNow, HasConverted, HasFinished, IsGoing, GoesOnBy};
 ghost use Rattle.rtcm_convert.specs.Conversion.{TakesPiece, CutsAtLimit, WritesPrefixOfAdded, StopsAtEnd, IsLeft};
 ghost use Rattle.rtcm_convert.specs.Conversion.{refusal};
@@ -207,10 +206,13 @@ impl Converter {
                 self.finished = true;
                 // Brings the values and bounds of what is held into the proof.
                 let _ = self.kept();
-                if self.file_writer.epochs == 0 {
+                let epochs = self.file_writer.epochs;
+                if epochs == 0 {
                     return Err(Fault::NoEpoch);
                 }
-                Ok(self.report())
+                let bytes = self.framer.taken();
+                let skipped = self.framer.skipped();
+                Ok(self.file_writer.tally.report(bytes, skipped, epochs))
             }
             Err(fault) => {
                 self.failed = true;
@@ -277,19 +279,6 @@ impl Converter {
             return Some(Fault::Failed);
         }
         None
-    }
-
-    /// Returns the report of a stream that was ended.
-    fn report(&self) -> Report
-        ensures { result
-            ≡ report_with self.now.scan.taken self.now.scan.skipped self.now.file_writer.tally
-            self.now.file_writer.epochs }
-    {
-        let bytes = self.framer.taken();
-        let skipped = self.framer.skipped();
-        self.file_writer
-            .tally
-            .report(bytes, skipped, self.file_writer.epochs)
     }
 
     /// Reads and accepts the rest of the stream, without ending it.

@@ -3,7 +3,6 @@ ghost use Rattle.std.specs.Prelude.{◌≡◌, ◌↔◌, [], false, true, Err, 
 ghost use Rattle.std.specs.Io.KnownBytes.{Appends};
 ghost use Rattle.rtcm_bits.specs.Device.{AppendsPrefix};
 ghost use Rattle.rtcm_scan.specs.Results.{framed};
-ghost use Rattle.rinex_file.specs.File.{change_text};
 ghost use Rattle.rtcm_msg.specs.Viewed.{viewed_message};
 ghost use Rattle.obs_epoch.specs.Heard.{heard};
 ghost use Rattle.rtcm_convert.specs.Faults.{FailsToWrite, IsSetupFault};
@@ -11,8 +10,7 @@ ghost use Rattle.rtcm_convert.specs.SetupValues.{setup_value_at, IsBadStart};
 ghost use Rattle.rtcm_convert.specs.Filed.{HasFiledFrames, opening_of, added_by, HasCountedClosed};
 ghost use Rattle.rtcm_convert.specs.Steps.{IsCloseFirst, IsFinalKind, WritesFirst, TakesMessage, IsTakenAgain};
 ghost use Rattle.rtcm_convert.specs.Steps.{IsKindOf, BreaksInMessage, TakesNext, IsKindOfNext, BreaksInNext};
-ghost use Rattle.rtcm_convert.specs.Steps.{TakesFrame, BreaksInFrame, WritesRest, BreaksInRest, CountsEpochs};
-ghost use Rattle.rtcm_convert.specs.Steps.{GathersAll};
+ghost use Rattle.rtcm_convert.specs.Steps.{TakesFrame, BreaksInFrame, EndsFile, BreaksInRest};
 
 use crate::fault::Fault;
 use crate::setup::Setup;
@@ -35,24 +33,6 @@ pub(crate) struct FileWriter {
     /// Number of epochs in the file.
     pub(crate) epochs: u64,
     pub(crate) tally: Tally,
-}
-
-/// Writes an event if the station values have changed.
-fn write_change<W: Write>(
-    before: StationValues,
-    values: StationValues,
-    writer: &mut Counted<W>,
-) -> Result<(), Fault>
-    ensures whole { OnOk result
-        (Appends (W.contents writer.old.inner) (W.contents writer.new.inner) (change_text before values)) }
-    ensures part { OnErr result
-        (AppendsPrefix (W.contents writer.old.inner) (W.contents writer.new.inner) (change_text before values)) }
-    ensures device { FailsToWrite result writer.old writer.new }
-{
-    if before.is_same(values) {
-        return Ok(());
-    }
-    Ok(write_event(values, writer)?)
 }
 
 impl FileWriter {
@@ -99,13 +79,17 @@ impl FileWriter {
             (opening_of self.now epoch.now)) }
         ensures device { FailsToWrite result writer.old writer.new }
     {
+        let values = epoch.station_values();
         if let Some(before) = self.values {
-            return write_change(before, epoch.station_values(), writer);
+            if before.is_same(values) {
+                return Ok(());
+            }
+            return Ok(write_event(values, writer)?);
         }
         let head = Head {
             texts: &self.texts,
             plan: self.gatherer.plan(),
-            values: epoch.station_values(),
+            values,
             first: epoch.time(),
         };
         Ok(write_header(&head, writer)?)
@@ -212,19 +196,20 @@ impl FileWriter {
         }
     }
 
-    /// Writes the rest of the file.
+    /// Writes the rest of the file, and flushes it.
     pub(crate) fn end<W: Write>(&mut self, writer: &mut Counted<W>) -> Result<(), Fault>
         requires { self.old.gatherer.has_ended ≡ false }
-        ensures whole { OnOk result (WritesRest self.old (W.contents writer.old.inner) (W.contents writer.new.inner)) }
-        ensures epochs { OnOk result (CountsEpochs self.old self.new.epochs) }
-        ensures gathered { GathersAll self.old self.new }
+        ensures whole { OnOk result
+            (EndsFile self.old self.new (W.contents writer.old.inner) (W.contents writer.new.inner)) }
         ensures same { self.new.tally ≡ self.old.tally }
         ensures part { OnErr result
             (BreaksInRest self.old (W.contents writer.old.inner) (W.contents writer.new.inner)) }
         ensures device { FailsToWrite result writer.old writer.new }
+        ensures sent { OnOk result (writer.new.is_sent ≡ true) }
         ensures ended { self.new.gatherer.has_ended ≡ true }
     {
         self.gatherer.end();
-        self.write_closed(writer)
+        self.write_closed(writer)?;
+        Ok(writer.flush_whole()?)
     }
 }

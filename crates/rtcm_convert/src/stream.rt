@@ -2,7 +2,6 @@
 ghost use Rattle.std.specs.Prelude.{◌≡◌, false, true, OnOk, OnErr};
 ghost use Rattle.rtcm_scan.specs.Examined.{HasExaminedSome};
 ghost use Rattle.rtcm_convert.specs.Faults.{FailsToWrite};
-ghost use Rattle.rtcm_convert.specs.Steps.{WritesRest, BreaksInRest, CountsEpochs, GathersAll};
 ghost use Rattle.rtcm_convert.specs.Stream.{Files, BreaksFiling, HasDrainedSome, EndsBytes, BreaksAtEndOf};
 
 use crate::fault::Fault;
@@ -35,23 +34,6 @@ impl<W: Write> FrameSink<Counted<W>> for FileWriter {
     }
 }
 
-/// Writes the rest of the file, and flushes it.
-fn end_file<W: Write>(file_writer: &mut FileWriter, writer: &mut Counted<W>) -> Result<(), Fault>
-    requires { file_writer.old.gatherer.has_ended ≡ false }
-    ensures whole { OnOk result
-        (WritesRest file_writer.old (W.contents writer.old.inner) (W.contents writer.new.inner)) }
-    ensures epochs { OnOk result (CountsEpochs file_writer.old file_writer.new.epochs) }
-    ensures gathered { GathersAll file_writer.old file_writer.new }
-    ensures same { file_writer.new.tally ≡ file_writer.old.tally }
-    ensures part { OnErr result
-        (BreaksInRest file_writer.old (W.contents writer.old.inner) (W.contents writer.new.inner)) }
-    ensures device { FailsToWrite result writer.old writer.new }
-    ensures sent { OnOk result (writer.new.is_sent ≡ true) }
-{
-    file_writer.end(writer)?;
-    Ok(writer.flush_whole()?)
-}
-
 /// Ends the stream: processes the remaining frames, writes the rest of the file, and flushes it.
 pub(crate) fn end_stream<W: Write>(
     framer: &mut Framer,
@@ -74,7 +56,7 @@ pub(crate) fn end_stream<W: Write>(
     laws::filed();
     rtcm_scan::laws::prefix();
     match framer.finish(file_writer, writer) {
-        Ok(()) => end_file(file_writer, writer),
+        Ok(()) => file_writer.end(writer),
         Err(_) => Err(Fault::Write),
     }
 }

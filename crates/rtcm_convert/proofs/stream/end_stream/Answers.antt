@@ -2,31 +2,31 @@ use Rattle.std.proofs.Common.{◌∙◌, ℕ, refl, subst}
 use Rattle.std.proofs.lemmas.Result.{on_ok_weaker, on_err_weaker}
 use Rattle.rtcm_bits.specs.Device.{HasFailed}
 use Rattle.rtcm_convert.proofs.EndLemmas.{ended, ended_part, ended_fine, drain_part, drain_failed}
-use Rattle.rtcm_convert.proofs.StreamLemmas.{ok_both, passed_here}
+use Rattle.rtcm_convert.proofs.StreamLemmas.{passed_here}
 use Rattle.rtcm_convert.proofs.stream.end_stream.Goals as goal
 
 pub returns-in-Ok-clause-whole : goal.returns-in-Ok-clause-whole
 returns-in-Ok-clause-whole g c =
-    let e = c.end_file.ensures in
+    let e = c.end.ensures in
     let n = c.finish.ensures in
-    ok_both c.end_file.result _ _ _ (λ rest epochs. ended g.W.Write.contents c.args.framer.now c.finish.new.self c.args.file_writer.now c.finish.new.sink c.args.writer.now c.finish.new.out
-    c.prefix.ensures.few c.end_file.new.file_writer _ c.requires.listening c.in-Ok.ensures.ended n.same.limit n.same.taken c.in-Ok.ensures.whole rest epochs e.gathered e.same) e.whole e.epochs
+    on_ok_weaker c.end.result (λ rest. ended g.W.Write.contents c.args.framer.now c.finish.new.self c.args.file_writer.now c.finish.new.sink c.args.writer.now c.finish.new.out
+    c.prefix.ensures.few c.end.new.self _ c.requires.listening c.in-Ok.ensures.ended n.same.limit n.same.taken c.in-Ok.ensures.whole rest e.same) e.whole
 
 pub returns-in-Ok-clause-part : goal.returns-in-Ok-clause-part
 returns-in-Ok-clause-part g c =
-    on_err_weaker c.end_file.result (ended_part g.W.Write.contents c.args.framer.now c.finish.new.self c.args.file_writer.now c.finish.new.sink c.args.writer.now c.finish.new.out
-    _ c.requires.listening c.in-Ok.ensures.ended c.in-Ok.ensures.whole) c.end_file.ensures.part
+    on_err_weaker c.end.result (ended_part g.W.Write.contents c.args.framer.now c.finish.new.self c.args.file_writer.now c.finish.new.sink c.args.writer.now c.finish.new.out
+    _ c.requires.listening c.in-Ok.ensures.ended c.in-Ok.ensures.whole) c.end.ensures.part
 
 pub returns-in-Ok-clause-device : goal.returns-in-Ok-clause-device
 returns-in-Ok-clause-device g c =
-    let d = c.end_file.ensures.device in
+    let d = c.end.ensures.device in
     let x = c.requires.some in
     let f = ended_fine g.W.Write.contents c.args.framer.now c.finish.new.self c.args.file_writer.now c.finish.new.sink c.args.writer.now c.finish.new.out c.in-Ok.ensures.whole x.0
     (passed_here g.W.Write.contents c.args.framer.now c.args.file_writer.now c.args.writer.now x.0 x.1) in (
       d.0,
       (
-        on_err_weaker c.end_file.result (λ h. subst (λ (n : ℕ). HasFailed n c.end_file.new.writer.failures) f.0 h) d.1.0,
-        on_ok_weaker c.end_file.result (λ h. h ∙ f.0) d.1.1,
+        on_err_weaker c.end.result (λ h. subst (λ (n : ℕ). HasFailed n c.end.new.writer.failures) f.0 h) d.1.0,
+        on_ok_weaker c.end.result (λ h. h ∙ f.0) d.1.1,
         d.1.2 ∙ f.1,
       ),
     )

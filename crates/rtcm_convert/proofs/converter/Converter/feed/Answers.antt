@@ -1,7 +1,6 @@
 use Rattle.std.proofs.Common.{◌∙◌, sym, subst}
 use Rattle.rtcm_scan.specs.Passing.{up_to_limit}
 use Rattle.rtcm_convert.specs.Conversion.{Conversion, IsGoing}
-use Rattle.rtcm_convert.specs.declared.fault.Fault.TheVariants.{Write}
 use Rattle.rtcm_convert.proofs.FeedLemmas.{with_flags, long_of, sink_of, fed_whole, fed_fit, fed_long, fed_part}
 use Rattle.rtcm_convert.proofs.RunLemmas.{going_on}
 use Rattle.rtcm_convert.proofs.StreamLemmas.{piece_fine, piece_failed}

@@ -1,16 +1,11 @@
-use Rattle.std.proofs.Common.{◌≡◌, ◌+◌, ◌++◌, ◌∙◌, refl, ap, take}
-use Rattle.std.specs.Prelude.{flat_map}
-use Rattle.rtcm_convert.specs.declared.fault.Fault.TheVariants.{NoEpoch}
-use Rattle.rtcm_convert.proofs.FaultLemmas.{not_of_feed}
+use Rattle.std.proofs.Common.{◌∙◌, ap}
 use Rattle.rtcm_convert.proofs.PartLemmas.{same_fault}
-use Rattle.rtcm_convert.proofs.PiecesLemmas.{taken_then, longer_by, pieces_more, pieces_all, pieces_rest, pieces_whole, pieces_empty, pieces_long, pieces_broke, pieces_broke_at_end}
+use Rattle.rtcm_convert.proofs.PiecesLemmas.{not_empty, taken_then, longer_by, pieces_more, pieces_all, pieces_rest, pieces_whole, pieces_empty, pieces_long, pieces_broke, pieces_broke_at_end}
 use Rattle.rtcm_convert.proofs.converter.Converter.take_pieces.Goals as goal
 
 pub loop-piece-preserved : goal.loop-piece-preserved
 loop-piece-preserved g c =
-    let more : flat_map (λ piece. piece.items) (take c.loop-piece.piece-index c.args.pieces.now) ++ c.deref.result.now ≡ flat_map (λ piece. piece.items) (take (c.loop-piece.piece-index + 1) c.args.pieces.now) =
-    ap (λ l. flat_map (λ piece. piece.items) (take c.loop-piece.piece-index c.args.pieces.now) ++ l) (c.deref.ensures.value ∙ ap (λ v. v.items) c.piece-item.is)
-    ∙ pieces_more (λ piece. piece.items) c.args.pieces.now c.loop-piece.piece-index c.piece-item.result c.loop-piece-test.true in
+    let more = pieces_more (λ piece. piece.items) c.args.pieces.now c.loop-piece.piece-index c.piece-item.result c.deref.result.now (c.deref.ensures.value ∙ ap (λ v. v.items) c.piece-item.is) c.loop-piece-test.true in
     let i = c.loop-piece.invariant in
     let n = c.in_default-feed.ensures in
     record {
@@ -25,22 +20,18 @@ loop-piece-preserved g c =
 
 pub returns-in-Err-clause-long : goal.returns-in-Err-clause-long
 returns-in-Err-clause-long g c = λ e.
-    let more : flat_map (λ piece. piece.items) (take c.loop-piece.piece-index c.args.pieces.now) ++ c.deref.result.now ≡ flat_map (λ piece. piece.items) (take (c.loop-piece.piece-index + 1) c.args.pieces.now) =
-    ap (λ l. flat_map (λ piece. piece.items) (take c.loop-piece.piece-index c.args.pieces.now) ++ l) (c.deref.ensures.value ∙ ap (λ v. v.items) c.piece-item.is)
-    ∙ pieces_more (λ piece. piece.items) c.args.pieces.now c.loop-piece.piece-index c.piece-item.result c.loop-piece-test.true in
+    let more = pieces_more (λ piece. piece.items) c.args.pieces.now c.loop-piece.piece-index c.piece-item.result c.deref.result.now (c.deref.ensures.value ∙ ap (λ v. v.items) c.piece-item.is) c.loop-piece-test.true in
     let i = c.loop-piece.invariant in
     pieces_long c.args.self.now c.loop-piece.self c.feed.new.self _ _ _ _ i.came c.deref.result.now _ _ i.limit i.taken
     (pieces_rest (λ piece. piece.items) c.args.pieces.now c.loop-piece.piece-index c.deref.result.now more) (c.in-Err.ensures.long (same_fault _ _ e))
 
 pub returns-in-Err-clause-write : goal.returns-in-Err-clause-write
 returns-in-Err-clause-write g c = λ e.
-    let more : flat_map (λ piece. piece.items) (take c.loop-piece.piece-index c.args.pieces.now) ++ c.deref.result.now ≡ flat_map (λ piece. piece.items) (take (c.loop-piece.piece-index + 1) c.args.pieces.now) =
-    ap (λ l. flat_map (λ piece. piece.items) (take c.loop-piece.piece-index c.args.pieces.now) ++ l) (c.deref.ensures.value ∙ ap (λ v. v.items) c.piece-item.is)
-    ∙ pieces_more (λ piece. piece.items) c.args.pieces.now c.loop-piece.piece-index c.piece-item.result c.loop-piece-test.true in
+    let more = pieces_more (λ piece. piece.items) c.args.pieces.now c.loop-piece.piece-index c.piece-item.result c.deref.result.now (c.deref.ensures.value ∙ ap (λ v. v.items) c.piece-item.is) c.loop-piece-test.true in
     pieces_broke c.args.self.now c.loop-piece.self _ _ _ c.args.pieces.now c.loop-piece.piece-index c.deref.result.now c.loop-piece.invariant.came c.loop-piece-test.true more (c.in-Err.ensures.part (same_fault _ _ e))
 
 pub returns-in-Err-clause-no_epoch : goal.returns-in-Err-clause-no_epoch
-returns-in-Err-clause-no_epoch g c = λ e. absurd (not_of_feed c.in-Err.fault NoEpoch (c.in-Err.ensures.left.1 c.loop-piece.invariant.going).0 refl e)
+returns-in-Err-clause-no_epoch g c = λ e. absurd (not_empty c.in-Err.fault (c.in-Err.ensures.left.1 c.loop-piece.invariant.going).0 e)
 
 pub returns-clause-whole : goal.returns-clause-whole
 returns-clause-whole g c = pieces_whole c.args.self.now c.loop-piece.self c.finish.new.self _ _ _ _ c.loop-piece.invariant.came _ c.finish.result
