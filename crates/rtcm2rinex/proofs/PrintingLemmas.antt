@@ -5,6 +5,7 @@ use Rattle.std.proofs.KnownBytes.{Appends-kept}
 use Rattle.rtcm_bits.specs.Device.{AppendsPrefix, Device}
 use Rattle.rtcm_bits.specs.declared.counted.DeviceFailed.{DeviceFailed}
 use Rattle.std.specs.Prelude.{⊤}
+use Rattle.std.specs.Result.{IsErrAnd}
 use Rattle.rtcm2rinex.specs.Listing.{WritesLine}
 use Rattle.rtcm2rinex.specs.Printing.{EndsPrinting}
 use Rattle.rtcm2rinex.specs.declared.fault.ToolFault.{ToolFault}
@@ -27,3 +28,8 @@ same_text r held w w2 x y e h = subst (EndsPrinting r held w w2) e h
 
 pub line_written : {W : Type 0} (r : Result ⊤ DeviceFailed) (held : W → Option (List ℕ)) (w w2 : Device W) (x y : List ℕ) → x ≡ y → WritesLine r held w w2 x → WritesLine r held w w2 y
 line_written r held w w2 x y e h = subst (WritesLine r held w w2) e h
+
+-- an error that `?` returns
+pub passed : {A E : Type 0} (r : Result A E) (e : E) (P : Result A E → Type 0) → IsErrAnd r (λ y. y ≡ e) → P (Err e) → P r
+passed (Ok x) e P is h = absurd is
+passed (Err y) e P is h = subst (λ z. P (Err z)) (sym is) h

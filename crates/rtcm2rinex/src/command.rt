@@ -101,21 +101,11 @@ fn convert<R: Read, W: Write, E: Write>(
     ensures { EndsConverting result (options_of options.now)
         R.remaining reader.old reader.new W.contents writer.old writer.new }
 {
-    let initial = match values_of(options) {
-        Ok(initial) => initial,
-        Err(refusal) => return Err(refusal),
-    };
-    let setup = match setup_of(alloc, options) {
-        Ok(setup) => setup,
-        Err(fault) => return Err(fault),
-    };
-    match run_convert_at(alloc, setup, initial, reader, writer) {
-        Ok(report) => {
-            let _ = faults.write_all(report_line(&report).as_bytes());
-            Ok(())
-        }
-        Err(fault) => Err(fault),
-    }
+    let initial = values_of(options)?;
+    let setup = setup_of(alloc, options)?;
+    let report = run_convert_at(alloc, setup, initial, reader, writer)?;
+    let _ = faults.write_all(report_line(&report).as_bytes());
+    Ok(())
 }
 
 /// Prints the version if the words ask for it, else clap's error. Returns the exit status.

@@ -54,6 +54,7 @@ pub const ABOUT: &str = "Reads an RTCM 3 stream from standard input and writes i
 pub const EXAMPLES: &str = "Example: rtcm2rinex convert --week 2300 --date \"20240204 000001 UTC\" \
                             < stream.rtcm3 > station.obs";
 
+/// The commands, in the order of the help text.
 pub const COMMANDS: [CommandRow<'static>; 6] = [
     CommandRow {
         name: "frames",

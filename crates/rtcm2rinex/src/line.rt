@@ -146,10 +146,7 @@ pub fn print_text<W: Write>(text: &[u8], writer: &mut Counted<W>) -> Result<(), 
     ensures { EndsPrinting result W.contents writer.old writer.new text.now }
 {
     writer.write_whole(text)?;
-    match writer.flush_whole() {
-        Ok(()) => Ok(()),
-        Err(failed) => Err(ToolFault::from(failed)),
-    }
+    Ok(writer.flush_whole()?)
 }
 
 /// Returns the last decimal digit of a number, in ASCII.

@@ -8,7 +8,7 @@ ghost use Rattle.rtcm2rinex.specs.FrameLines.{frame_line, frame_lines, number_wo
 ghost use Rattle.rtcm2rinex.specs.Lines.{with_words};
 ghost use Rattle.rtcm2rinex.specs.ShowLines.{fault_line, fault_words, height_words};
 ghost use Rattle.rtcm2rinex.specs.ShowLines.{msm_line, show_line, show_lines, station_line};
-ghost use Rattle.rtcm2rinex.specs.Listing.{EndsListing, WritesLine, listing_line, listing_lines};
+ghost use Rattle.rtcm2rinex.specs.Listing.{EndsListing, listing_line, listing_lines};
 
 use crate::fault::ToolFault;
 use crate::line::OutputLine;
@@ -43,25 +43,14 @@ impl<W: Write> FrameSink<Counted<W>> for Listing {
     ghost broke = { ListsUpTo W.contents };
 
     fn take(&mut self, frame: &Frame, out: &mut Counted<W>) -> Result<(), DeviceFailed> {
-        write_line(*self, frame, out)
+        let mut line = OutputLine::new();
+        add_line(&mut line, *self, frame);
+        out.write_whole(line.as_bytes())
     }
 
     fn send(&self, out: &mut Counted<W>) -> Result<(), DeviceFailed> {
         out.send()
     }
-}
-
-/// Writes the line of a frame, if it has one.
-fn write_line<W: Write>(
-    listing: Listing,
-    frame: &Frame,
-    writer: &mut Counted<W>,
-) -> Result<(), DeviceFailed>
-    ensures { WritesLine result W.contents writer.old writer.new (listing_line listing (framed frame.now)) }
-{
-    let mut line = OutputLine::new();
-    add_line(&mut line, listing, frame);
-    writer.write_whole(line.as_bytes())
 }
 
 /// Adds the line of a frame, if it has one.
@@ -136,10 +125,7 @@ pub fn list<R: Read, W: Write>(
     laws::prefix();
     let read = framer.read_frames(reader, &mut buffer, &mut listing, writer);
     drop(framer);
-    match read {
-        Ok(()) => Ok(()),
-        Err(fault) => Err(ToolFault::from(fault)),
-    }
+    Ok(read?)
 }
 
 /// Adds the line of a frame: its offset and the length of its message in bytes, and the message

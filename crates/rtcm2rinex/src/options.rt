@@ -1,8 +1,8 @@
 //! The values of the options of the commands.
-ghost use Rattle.std.specs.Prelude.{◌≡◌, ◌==◌, ◌≤◌, ◌<◌, ◌^◌, IfSome, MatchOption};
-ghost use Rattle.std.specs.Prelude.{MatchResult, None, Some, codes, length, not, position};
+ghost use Rattle.std.specs.Prelude.{◌≡◌, ◌≤◌, ◌<◌, ◌^◌, IfSome, MatchOption};
+ghost use Rattle.std.specs.Prelude.{MatchResult, None, Some, codes, length, not};
 ghost use Rattle.std.specs.List.{list_all};
-ghost use Rattle.clap.specs.Lexer.{is_digit, strip_byte};
+ghost use Rattle.clap.specs.Lexer.{is_digit};
 ghost use Rattle.rinex_file.specs.Read.Fields.{digits_in};
 ghost use Rattle.clap.specs.Walk.{one_of};
 ghost use Rattle.std.specs.Str.{bytes_eq};
@@ -76,10 +76,7 @@ fn gather_of(name: &str) -> Gather
 fn text<'a>(options: &ArgMatches<'a>, name: &str) -> &'a str
     ensures { result.now ≡ text_set (options_of options.now) name.now }
 {
-    match options.get_str(name) {
-        Some(text) => text,
-        None => "",
-    }
+    options.get_str(name).unwrap_or("")
 }
 
 /// Returns the station whose messages count, or `None` if the option isn't given.
@@ -97,57 +94,35 @@ pub fn station_of(options: &ArgMatches) -> Option<u16>
 pub fn values_of(options: &ArgMatches) -> Result<StationValues, ToolFault>
     ensures { result ≡ values_by_message (options_of options.now) }
 {
-    match position_of(text(options, "position").as_bytes()) {
-        Some((x, y, z)) => match length_below(text(options, "antenna-height").as_bytes(), 1 << 16) {
-            Some(height) => Ok(StationValues {
-                x,
-                y,
-                z,
-                height: height as u16,
-            }),
-            None => Err(ToolFault::BadHeight),
-        },
-        None => Err(ToolFault::BadPosition),
-    }
+    let (x, y, z) = position_of(text(options, "position")).ok_or(ToolFault::BadPosition)?;
+    let height = length_below(text(options, "antenna-height"), 1 << 16);
+    let height = height.ok_or(ToolFault::BadHeight)? as u16;
+    Ok(StationValues { x, y, z, height })
 }
 
 // ---- lengths in metres, read from text in units of 0.0001 m
 
 /// Parses X, Y and Z, separated by commas.
-fn position_of(text: &[u8]) -> Option<(i64, i64, i64)>
+fn position_of(text: &str) -> Option<(i64, i64, i64)>
     ensures { result ≡ position_of text.now }
 {
-    let (x, rest) = cut(text, b',')?;
-    let (y, z) = cut(rest, b',')?;
+    let (x, rest) = cut(text, ',')?;
+    let (y, z) = cut(rest, ',')?;
     Some((coordinate_of(x)?, coordinate_of(y)?, coordinate_of(z)?))
 }
 
 /// Parses a length that fits 38 bits, with or without a minus sign, in units of 0.0001 m.
-fn coordinate_of(text: &[u8]) -> Option<i64>
+fn coordinate_of(text: &str) -> Option<i64>
     ensures { result ≡ coordinate_of text.now }
 {
-    match without_minus(text) {
+    match text.strip_prefix('-') {
         Some(size) => Some(-(length_below(size, (1 << 37) + 1)? as i64)),
         None => Some(length_below(text, 1 << 37)? as i64),
     }
 }
 
-/// Returns the text after a minus sign, or `None` if it doesn't begin with one.
-fn without_minus(text: &[u8]) -> Option<&[u8]>
-    ensures { MatchOption result (strip_byte 0x2D text.now ≡ None) (λ r. strip_byte 0x2D text.now ≡ Some r.now) }
-{
-    if text.is_empty() {
-        return None;
-    }
-    if text[0] == b'-' {
-        Some(&text[1..])
-    } else {
-        None
-    }
-}
-
 /// Parses a length below a bound, in units of 0.0001 m.
-fn length_below(text: &[u8], bound: u64) -> Option<u64>
+fn length_below(text: &str, bound: u64) -> Option<u64>
     ensures value { result ≡ length_below bound text.now }
     ensures below { IfSome result (λ n. n < bound) }
 {
@@ -156,10 +131,10 @@ fn length_below(text: &[u8], bound: u64) -> Option<u64>
 }
 
 /// Parses a length of at most eight digits, a point and four decimals, in units of 0.0001 m.
-fn length_of(text: &[u8]) -> Option<u64>
+fn length_of(text: &str) -> Option<u64>
     ensures { result ≡ length_of text.now }
 {
-    match cut(text, b'.') {
+    match cut(text, '.') {
         Some((whole, decimals)) => {
             let whole = number_of(whole, 8)?;
             Some(whole * 10_000 + decimals_of(decimals)?)
@@ -169,7 +144,7 @@ fn length_of(text: &[u8]) -> Option<u64>
 }
 
 /// Parses one to four decimals, in units of 0.0001.
-fn decimals_of(text: &[u8]) -> Option<u64>
+fn decimals_of(text: &str) -> Option<u64>
     ensures value { result ≡ decimals_of text.now }
     ensures small { IfSome result (λ n. n < 10 ^ 12) }
 {
@@ -184,39 +159,24 @@ fn decimals_of(text: &[u8]) -> Option<u64>
 }
 
 /// Returns the texts before and after the first separator, or `None` if there is none.
-fn cut(text: &[u8], separator: u8) -> Option<(&[u8], &[u8])>
+fn cut(text: &str, separator: char) -> Option<(&str, &str)>
+    requires { separator < 128 }
     ensures { MatchOption result (cut separator text.now ≡ None)
         (λ p. cut separator text.now ≡ Some (p.0.now, p.1.now)) }
 {
-    match place_of(text, separator) {
-        Some(i) => Some((&text[..i], &text[i + 1..])),
-        None => None,
-    }
-}
-
-fn place_of(text: &[u8], separator: u8) -> Option<usize>
-    ensures value { result ≡ position (λ b. b == separator) text.now }
-    ensures below { IfSome result (λ i. i < length text.now) }
-{
-    text.iter().position(|b| *b == separator)
+    text.split_once(separator)
 }
 
 /// Parses a number of one to `most` digits.
-fn number_of(text: &[u8], most: usize) -> Option<u64>
+fn number_of(text: &str, most: usize) -> Option<u64>
     requires { most ≤ 8 }
     ensures value { result ≡ number_of most text.now }
     ensures small { IfSome result (λ n. n < 10 ^ 8) }
 {
-    if text.is_empty() {
-        return None;
-    }
-    if text.len() > most {
-        return None;
-    }
-    if are_digits(text) {
-        Some(digits_in(text))
-    } else {
+    if text.is_empty() || text.len() > most || !are_digits(text.as_bytes()) {
         None
+    } else {
+        Some(digits_in(text.as_bytes()))
     }
 }
 

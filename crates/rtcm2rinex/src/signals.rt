@@ -47,10 +47,8 @@ pub fn run_signals<R: Read, W: Write>(
     ensures { EndsSignals result signals_text station
         R.remaining reader.old reader.new W.contents writer.old writer.new }
 {
-    match read_signals(alloc, station, reader) {
-        Ok(signals) => print_text(count_lines(&signals.signal_counts).as_slice(), writer),
-        Err(fault) => Err(fault),
-    }
+    let signals = read_signals(alloc, station, reader)?;
+    print_text(count_lines(&signals.signal_counts).as_slice(), writer)
 }
 
 /// Writes a line of the options of `convert` that fit the stream: the signals of the cells that
@@ -68,10 +66,8 @@ pub fn run_options<R: Read, W: Write>(
     ensures { EndsSignals result options_text station
         R.remaining reader.old reader.new W.contents writer.old writer.new }
 {
-    match read_signals(alloc, station, reader) {
-        Ok(signals) => print_text(options_line(&signals).as_bytes(), writer),
-        Err(fault) => Err(fault),
-    }
+    let signals = read_signals(alloc, station, reader)?;
+    print_text(options_line(&signals).as_bytes(), writer)
 }
 
 // ---- the signals of a stream
@@ -97,12 +93,7 @@ impl FrameSink<()> for StreamSignals {
     ghost broke = { NeverFails };
 
     fn take(&mut self, frame: &Frame, _out: &mut ()) -> Result<(), DeviceFailed> {
-        count_frame(
-            self.station,
-            &mut self.signal_counts,
-            &mut self.first,
-            frame,
-        );
+        count_frame(self, frame);
         Ok(())
     }
 
@@ -113,23 +104,18 @@ impl FrameSink<()> for StreamSignals {
 
 /// Counts the cells of a frame's message, and keeps the first station message. A refused message
 /// has no cells.
-fn count_frame(
-    station: Option<u16>,
-    signal_counts: &mut SignalCounts,
-    first: &mut Option<StationParts>,
-    frame: &Frame,
-)
-    ensures counts { (fs : List Framed) → length fs < 2 ^ 56 → IsCounted signal_counts.old station fs
-        → IsCounted signal_counts.new station (fs ++ framed frame.now ∷ []) }
-    ensures first { first.new ≡ option_or first.old (station_of station (framed frame.now)) }
-    ensures in_range { IfSome first.old InRange → IfSome first.new InRange }
+fn count_frame(signals: &mut StreamSignals, frame: &Frame)
+    ensures same { signals.new.station ≡ signals.old.station }
+    ensures counts { (fs : List Framed) → length fs < 2 ^ 56
+        → IsCounted signals.old.signal_counts signals.old.station fs
+        → IsCounted signals.new.signal_counts signals.old.station (fs ++ framed frame.now ∷ []) }
+    ensures first { signals.new.first
+        ≡ option_or signals.old.first (station_of signals.old.station (framed frame.now)) }
+    ensures in_range { IfSome signals.old.first InRange → IfSome signals.new.first InRange }
 {
-    match look(frame.message.as_slice()) {
-        Ok(view) => {
-            signal_counts.count_view(station, &view);
-            *first = first_of(*first, station, &view);
-        }
-        Err(_) => {}
+    if let Ok(view) = look(frame.message.as_slice()) {
+        signals.signal_counts.count_view(signals.station, &view);
+        signals.first = first_of(signals.first, signals.station, &view);
     }
 }
 
@@ -187,15 +173,11 @@ fn read_signals<R: Read>(
     // At most the limit's number of bytes was read, so no count reaches its largest number.
     let _ = framer.taken();
     drop(framer);
-    match read {
-        Ok(()) => {
-            if signals.signal_counts.has_any() {
-                Ok(signals)
-            } else {
-                Err(ToolFault::NoSignal)
-            }
-        }
-        Err(fault) => Err(ToolFault::from(fault)),
+    read?;
+    if signals.signal_counts.has_any() {
+        Ok(signals)
+    } else {
+        Err(ToolFault::NoSignal)
     }
 }
 
@@ -258,10 +240,7 @@ fn code_at(system: System, index: usize) -> [u8; 2]
     ensures value { result ≡ code_of (signal_in system index) }
     ensures short { length result ≡ 2 }
 {
-    match Signal::from_index(system, index) {
-        Some(signal) => signal.code(),
-        None => unreachable!(),
-    }
+    Signal::from_index(system, index).unwrap().code()
 }
 
 // ---- the line of `options`
@@ -310,15 +289,12 @@ fn add_station(line: &mut OutputLine, station: Option<StationParts>)
     ensures text { line.new ≡ with_words line.old (station_words station) }
     ensures short { length line.new ≤ length line.old + 160 }
 {
-    match station {
-        Some(station) => {
-            line.add_word("--position");
-            line.add_metres(b'=', station.x);
-            line.add_metres(b',', station.y);
-            line.add_metres(b',', station.z);
-            add_height(line, station.height);
-        }
-        None => {}
+    if let Some(station) = station {
+        line.add_word("--position");
+        line.add_metres(b'=', station.x);
+        line.add_metres(b',', station.y);
+        line.add_metres(b',', station.z);
+        add_height(line, station.height);
     }
 }
 
@@ -328,11 +304,8 @@ fn add_height(line: &mut OutputLine, height: Option<u16>)
     ensures text { line.new ≡ with_words line.old (antenna_words height) }
     ensures short { length line.new ≤ length line.old + 44 }
 {
-    match height {
-        Some(height) => {
-            line.add_word("--antenna-height");
-            line.add_metres(b' ', i64::from(height));
-        }
-        None => {}
+    if let Some(height) = height {
+        line.add_word("--antenna-height");
+        line.add_metres(b' ', i64::from(height));
     }
 }

@@ -1,13 +1,22 @@
-use Rattle.std.proofs.Common.{◌≡◌, ◌∙◌, ◌+◌, ◌-◌, ◌≤◌, ap, sym, arith, ℕ, List, Some, length, take, drop, option_map, length-drop, take_all}
+use Rattle.std.proofs.Common.{◌≡◌, ◌<◌, ◌==◌, arith, refl, true, false, ℕ, List, Option, Some, None, Bor, length}
+use Rattle.std.specs.Prelude.{MatchOption, nat_lt}
+use Rattle.std.specs.List.{position_or_len, before_first, after_first}
+use Rattle.std.proofs.lemmas.Bool.Decides.{nat_tests}
+use Rattle.rtcm2rinex.specs.Lengths.{cut}
 use Rattle.rtcm2rinex.proofs.options.cut.Goals as goal
 
-rest_whole : (t : List ℕ) (i : ℕ) → take (length t - (i + 1)) (drop (i + 1) t) ≡ drop (i + 1) t
-rest_whole t i = take_all (length t - (i + 1)) (drop (i + 1) t) (let h : length (drop (i + 1) t) ≤ length t - (i + 1) = omega (arith, length-drop (i + 1) t) in h)
+is_below : (n m : ℕ) → n < m → nat_lt n m ≡ true
+is_below n m h = grind (arith, nat_tests)
 
-pub returns-in-Some : goal.returns-in-Some
-returns-in-Some c =
-    let t = c.args.text.now in
-    ap (option_map (λ (i : ℕ). (take i t, drop (i + 1) t))) (sym c.place_of.ensures.value ∙ c.in-Some.is) ∙ ap (λ (r : List ℕ). Some (take c.in-Some.i t, r)) (sym (rest_whole t c.in-Some.i))
+is_not_below : (n m : ℕ) → n ≡ m → nat_lt n m ≡ false
+is_not_below n m h = grind (arith, nat_tests)
 
-pub returns-in-None : goal.returns-in-None
-returns-in-None c = let t = c.args.text.now in ap (option_map (λ (i : ℕ). (take i t, drop (i + 1) t))) (sym c.place_of.ensures.value ∙ c.in-None.is)
+cut_is : (c : ℕ) (bs : List ℕ) (r : Option (Bor (List ℕ) × Bor (List ℕ)))
+    → MatchOption r (position_or_len (λ b. b == c) bs ≡ length bs)
+    (λ x. (x.0.now ≡ before_first (λ b. b == c) bs) × (x.1.now ≡ after_first (λ b. b == c) bs) × (position_or_len (λ b. b == c) bs < length bs))
+    → MatchOption r (cut c bs ≡ None) (λ x. cut c bs ≡ Some (x.0.now, x.1.now))
+cut_is c bs None h = rw (is_not_below (position_or_len (λ b. b == c) bs) (length bs) h) refl
+cut_is c bs (Some x) h = rw (is_below (position_or_len (λ b. b == c) bs) (length bs) h.2, h.0, h.1) refl
+
+pub returns : goal.returns
+returns c = cut_is c.args.separator c.args.text.now c.split_once.result (c.split_once.ensures.byte c.requires (λ w o h. h))

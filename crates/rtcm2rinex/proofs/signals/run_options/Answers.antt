@@ -2,20 +2,17 @@ use Rattle.std.proofs.Common.{◌∙◌, ap}
 use Rattle.rtcm_scan.specs.Frames.{frames_of}
 use Rattle.rtcm2rinex.specs.Signals.{plan_had, valued_in}
 use Rattle.rtcm2rinex.specs.Fitting.{options_line, options_text}
-use Rattle.rtcm2rinex.proofs.CountingLemmas.{signals_stopped, signals_printed}
+use Rattle.rtcm2rinex.proofs.CountingLemmas.{signals_printed}
 use Rattle.rtcm2rinex.proofs.PrintingLemmas.{same_text}
 use Rattle.rtcm2rinex.proofs.signals.run_options.Goals as goal
 
 pub options_line-requires : goal.options_line-requires
-options_line-requires g c = c.in-Ok.ensures.whole.3.in_range
+options_line-requires g c = c.in_ok-signals.ensures.whole.3.in_range
 
-pub returns-in-Ok : goal.returns-in-Ok
-returns-in-Ok g c =
-    let s = c.in-Ok.ensures.whole in
+pub returns : goal.returns
+returns g c =
+    let s = c.in_ok-signals.ensures.whole in
     let cells = valued_in c.args.station (frames_of s.0) in
     signals_printed g.R.Read.remaining g.W.Write.contents options_text c.args.station c.args.reader.now c.read_signals.new.reader c.args.writer.now c.print_text.new.writer c.print_text.result
-    c.in-Ok.signals s c.in-Ok.ensures.reader (same_text c.print_text.result g.W.Write.contents c.args.writer.now c.print_text.new.writer _ _
+    c.in_ok-signals.signals s c.in_ok-signals.ensures.reader (same_text c.print_text.result g.W.Write.contents c.args.writer.now c.print_text.new.writer _ _
     (c.as_bytes.ensures.text ∙ c.options_line.ensures cells s.3.counted.signal_counts ∙ ap (options_line (plan_had cells)) s.3.first) c.print_text.ensures)
-
-pub returns-in-Err : goal.returns-in-Err
-returns-in-Err g c = signals_stopped g.R.Read.remaining g.W.Write.contents options_text c.args.station c.args.reader.now c.read_signals.new.reader c.args.writer.now c.in-Err.fault c.in-Err.ensures.reader c.in-Err.ensures.fault
