@@ -19,30 +19,40 @@ pub const SHOW: [&str; 2] = ["rtcm2rinex", "show"];
 /// The line of `FRAMED_STATION`.
 pub const SHOWN: Text = Lines("0 1005 2003 1114104.5999 -4850729.7108 3975521.4643\n");
 
+const PROGRAM: [&str; 1] = ["rtcm2rinex"];
+
 static LISTED: [Case; 10] = [
     (
-        &FRAMES,
+        &["frames"],
         Bytes(&FRAMED_STATION),
         Good(Lines("0 19 1005\n"), ""),
     ),
-    (&FRAMES, Bytes(&[]), Good(Lines(""), "")),
-    (&FRAMES, Bytes(&FRAMED_NOTHING), Good(Lines("0 0 -\n"), "")),
-    (&FRAMES, Bytes(&LATE_FRAME), Good(Lines("1 0 -\n"), "")),
-    (&FRAMES, Stream(&[Repeated(0xD3, 10)]), Good(Lines(""), "")),
+    (&["frames"], Bytes(&[]), Good(Lines(""), "")),
     (
-        &FRAMES,
+        &["frames"],
+        Bytes(&FRAMED_NOTHING),
+        Good(Lines("0 0 -\n"), ""),
+    ),
+    (&["frames"], Bytes(&LATE_FRAME), Good(Lines("1 0 -\n"), "")),
+    (
+        &["frames"],
+        Stream(&[Repeated(0xD3, 10)]),
+        Good(Lines(""), ""),
+    ),
+    (
+        &["frames"],
         Stream(&[Front(&FRAMED_STATION, 24)]),
         Good(Lines(""), ""),
     ),
-    (&FRAMES, Bytes(&INNER_FRAME), Good(Lines("3 0 -\n"), "")),
-    (&SHOW, Bytes(&FRAMED_STATION), Good(SHOWN, "")),
+    (&["frames"], Bytes(&INNER_FRAME), Good(Lines("3 0 -\n"), "")),
+    (&["show"], Bytes(&FRAMED_STATION), Good(SHOWN, "")),
     (
-        &SHOW,
+        &["show"],
         Bytes(&FRAMED_NOTHING),
         Good(Lines("0 - Short 0\n"), ""),
     ),
     (
-        &SHOW,
+        &["show"],
         Stream(&[Front(&FRAMED_STATION, 24)]),
         Good(Lines(""), ""),
     ),
@@ -52,6 +62,7 @@ static LISTED: [Case; 10] = [
 fn frames_are_listed_in_any_pieces(rt: HostRuntime) {
     for first in 1..26 {
         let setting = Setting {
+            words: &PROGRAM,
             sizes: &[&[first, 1_000], &[1]],
             ..FAULTLESS
         };
