@@ -49,6 +49,9 @@ cell_same n h = packed-unpacked cell_table n refl h
 pub satellite_widths_few : All (λ w. w ≤ 64) satellite_widths
 satellite_widths_few = All-from_recursion (λ w. w ≤ 64) satellite_widths (lit≤ tt, (lit≤ tt, (lit≤ tt, (lit≤ tt, tt))))
 
+pub satellite_width : total_width satellite_widths ≤ 64
+satellite_width = lit≤ tt
+
 pub cell_widths_few : All (λ w. w ≤ 64) cell_widths
 cell_widths_few =
     All-from_recursion (λ w. w ≤ 64) cell_widths (lit≤ tt, (lit≤ tt, (lit≤ tt, (lit≤ tt, (lit≤ tt, (lit≤ tt, tt))))))

@@ -132,12 +132,12 @@ pub trait Grid {
         ensures { result.now ≡ cell_widths };
 
     /// Returns a satellite's fields in one number, the first field in the most significant bits.
-    fn satellite_number(satellite: &Self::Satellite) -> u128
+    fn satellite_number(satellite: &Self::Satellite) -> u64
         requires { is_satellite satellite.now }
         ensures { result ≡ satellite_packed satellite.now };
 
     /// Returns the satellite whose fields are packed in the number.
-    fn satellite_of(number: u128) -> Self::Satellite
+    fn satellite_of(number: u64) -> Self::Satellite
         requires { number < 2 ^ total_width satellite_widths }
         ensures { result ≡ satellite_at number };
 
@@ -156,6 +156,8 @@ pub trait Grid {
 
     /// So the largest message fits a frame.
     ghost room: { total_width satellite_widths + total_width cell_widths ≤ 124 };
+
+    ghost satellite_width: { total_width satellite_widths ≤ 64 };
 
     ghost cell_widths_few: { All (λ w. w ≤ 64) cell_widths };
 

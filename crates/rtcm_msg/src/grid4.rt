@@ -164,11 +164,11 @@ impl Grid for Grid4 {
         &[15, 22, 4, 1, 6]
     }
 
-    fn satellite_number(satellite: &Satellite4) -> u128 {
-        satellite.whole as u128 * 1024 + satellite.fraction as u128
+    fn satellite_number(satellite: &Satellite4) -> u64 {
+        satellite.whole as u64 * 1024 + satellite.fraction as u64
     }
 
-    fn satellite_of(number: u128) -> Satellite4 {
+    fn satellite_of(number: u64) -> Satellite4 {
         Satellite4 {
             whole: (number / 1024 % 256) as u8,
             fraction: (number % 1024) as u16,
@@ -197,6 +197,8 @@ impl Grid for Grid4 {
     ghost satellite_widths_few = { laws.satellite_widths_few };
 
     ghost room = { laws.room };
+
+    ghost satellite_width = { laws.satellite_width };
 
     ghost cell_widths_few = { laws.cell_widths_few };
 

@@ -189,18 +189,18 @@ impl Grid for Grid7 {
         &[20, 24, 10, 1, 10, 15]
     }
 
-    fn satellite_number(satellite: &Satellite7) -> u128 {
+    fn satellite_number(satellite: &Satellite7) -> u64 {
         let rate = raw_of(satellite.rate as i64, 14);
-        let number = satellite.whole as u128 * 16 + satellite.extended as u128;
-        (number * 1024 + satellite.fraction as u128) * 16384 + rate as u128
+        let number = satellite.whole as u64 * 16 + satellite.extended as u64;
+        (number * 1024 + satellite.fraction as u64) * 16384 + rate
     }
 
-    fn satellite_of(number: u128) -> Satellite7 {
+    fn satellite_of(number: u64) -> Satellite7 {
         Satellite7 {
             whole: (number / (1 << 28) % 256) as u8,
             extended: (number / (1 << 24) % 16) as u8,
             fraction: (number / 16384 % 1024) as u16,
-            rate: signed_of((number % 16384) as u64, 14) as i16,
+            rate: signed_of(number % 16384, 14) as i16,
         }
     }
 
@@ -229,6 +229,8 @@ impl Grid for Grid7 {
     ghost satellite_widths_few = { laws.satellite_widths_few };
 
     ghost room = { laws.room };
+
+    ghost satellite_width = { laws.satellite_width };
 
     ghost cell_widths_few = { laws.cell_widths_few };
 

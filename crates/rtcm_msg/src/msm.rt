@@ -137,7 +137,7 @@ impl<G: Grid> Msm<G> {
         ensures value { result ≡ G.satellite_at (slice_index self.now.satellites i) }
         ensures in_range { G.is_satellite result }
     {
-        G::satellite_of(self.satellites[i])
+        G::satellite_of(self.satellites[i] as u64)
     }
 
     /// Returns the data of cell `i`, counted from 0 in the order of the cell mask.
@@ -157,7 +157,7 @@ fn satellites_of<G: ReadGrid>(view: &MsmView<'_>) -> ArrayVec<u128, MOST_PAIRS>
 {
     let mut satellites = ArrayVec::new();
     for i in 0..view.satellites() {
-        satellites.push(G::satellite_number(&view.satellite::<G>(i)));
+        satellites.push(G::satellite_number(&view.satellite::<G>(i)) as u128);
     }
     satellites
 }
@@ -230,7 +230,7 @@ fn pack_satellites<G: Grid>(satellites: &[G::Satellite]) -> ArrayVec<u128, MOST_
 {
     let mut packed = ArrayVec::new();
     for satellite in satellites {
-        packed.push(G::satellite_number(satellite));
+        packed.push(G::satellite_number(satellite) as u128);
     }
     packed
 }

@@ -183,7 +183,7 @@ impl<'a> MsmView<'a> {
     {
         match self.rows {
             Data::Bits(bytes, place, _) => G::satellite_in(bytes, self.satellites, place, i),
-            Data::Packed(satellites, _) => G::satellite_of(satellites[i]),
+            Data::Packed(satellites, _) => G::satellite_of(satellites[i] as u64),
         }
     }
 
