@@ -1,6 +1,7 @@
 //! Epochs: the observations of one time.
 ghost use Rattle.std.specs.Prelude.{◌≡◌, ◌+◌, ◌-◌, ◌<◌, ◌≤◌, [], false, length, drop, insert, map};
 ghost use Rattle.std.specs.Prelude.{slice_index_or, if◌then◌else◌};
+ghost use Rattle.arrayvec.specs.ArrayVec.{array_vec_len};
 ghost use Rattle.obs_epoch.specs.declared.cell.Cell.{Cell};
 ghost use Rattle.obs_epoch.specs.Values.{AreHeld, MayBeHeld, cells_of, satellites_written, is_written, written_among};
 ghost use Rattle.obs_epoch.specs.Values.{most_cells, most_written, planned_of, run};
@@ -107,11 +108,9 @@ impl Epoch {
         ensures { self.new
             ≡ record { epoch = more_at x.satellite.system at self.old.epoch x; values = self.old.values } }
     {
-        // A copy: the prover doesn't find the types of the fields of a cell that is only passed on.
-        let cell = Cell { lli: x.lli, ..x };
-        match cell.satellite.system() {
-            System::Gps => self.gps.insert(at, cell),
-            System::Galileo => self.galileo.insert(at, cell),
+        match x.satellite.system() {
+            System::Gps => insert_cell(&mut self.gps, at, x),
+            System::Galileo => insert_cell(&mut self.galileo, at, x),
         }
     }
 
@@ -242,6 +241,22 @@ fn written(cells: &[Cell], system: System) -> usize
         }
     }
     count
+}
+
+// Inserts a cell at an index. Most cells are appended, so only `push` is inlined.
+#[inline(always)]
+fn insert_cell(cells: &mut ArrayVec<Cell, MOST_CELLS>, at: usize, x: Cell)
+    requires within { at ≤ array_vec_len cells.old }
+    requires room { array_vec_len cells.old < most_cells }
+    ensures { cells.new.items ≡ insert cells.old.items at x }
+{
+    // A copy: the prover doesn't find the types of the fields of a cell that is only passed on.
+    let cell = Cell { lli: x.lli, ..x };
+    if at == cells.len() {
+        cells.push(cell);
+    } else {
+        cells.insert(at, cell);
+    }
 }
 
 // Returns whether the cell before an index is of the same satellite and signal.
