@@ -128,17 +128,17 @@ gathers_taken g s ms es again m h going early given =
     let ns = ms ++ m ∷ [] in
     let shut = is_some again in
     let standing = subst (HasTakenMessages g s ms) (not_done g s ms again going) h.standing in
-    let was : es ≡ closed_list_at s ms (closed_so_far s (timed s ms) shut) = subst (λ b. es ≡ closed_list_at s ms (closed_so_far s (timed s ms) b)) (not_done g s ms again going) h.just_closed in
+    let was : es ≡ closed_list_at s ms (closed_so_far s (timed s ms) shut) = subst (λ b. es ≡ closed_list_at s ms (closed_so_far s (timed s ms) b)) (not_done g s ms again going) h.returned in
     let goes : v.has_ended ≡ false = ended_is g m ∙ going in
     let o = closes g.clock m in
     let grown = times_taken g s ms m shut standing early in
-    let just_closed : es ++ returned_epoch v ≡ closed_list_at s ns (closed_so_far s (timed s ns) false) =
+    let returned : es ++ returned_epoch v ≡ closed_list_at s ns (closed_so_far s (timed s ns) false) =
     ap₂ (λ a b. a ++ b) was (new_closed g s ms m shut standing early given o refl (handed_is g m)) ∙ sym (keeps s ms m shut o early grown) in
     let epochs : es ++ returned_epoch v ≡ known_epochs v.has_ended s ns =
-    just_closed ∙ ap (closed_list_at s ns) (append-nil (closed_times s (timed s ns))) ∙ ap (λ b. known_epochs b s ns) (sym goes) in
+    returned ∙ ap (closed_list_at s ns) (append-nil (closed_times s (timed s ns))) ∙ ap (λ b. known_epochs b s ns) (sym goes) in
     record {
       standing = subst (HasTakenMessages v s ns) (sym (not_done v s ns None goes)) (taken g s ms m shut standing early).after;
-      just_closed = just_closed ∙ ap (λ b. closed_list_at s ns (closed_so_far s (timed s ns) b)) (sym (not_done v s ns None goes));
+      returned = returned ∙ ap (λ b. closed_list_at s ns (closed_so_far s (timed s ns) b)) (sym (not_done v s ns None goes));
       epochs = λ _. epochs;
       first = subst (λ l. IsPrefix (es ++ returned_epoch v) (known_epochs v.has_ended s l)) (sym (append-nil ns)) (subst (IsPrefix (es ++ returned_epoch v)) epochs (prefix_self (es ++ returned_epoch v)));
       fits = tt;
@@ -159,7 +159,7 @@ gathers_first g s ms es m h going early point = by (greatest_time (timed s ms)) 
   standing = subst (HasTakenMessages g s ms) (not_done g s ms None going) h.standing
 
   was : es ≡ closed_list_at s ms (closed_so_far s xs false)
-  was = subst (λ b. es ≡ closed_list_at s ms (closed_so_far s xs b)) (not_done g s ms None going) h.just_closed
+  was = subst (λ b. es ≡ closed_list_at s ms (closed_so_far s xs b)) (not_done g s ms None going) h.returned
 
   goes : v.has_ended ≡ false
   goes = ended_is g m ∙ going
@@ -175,7 +175,7 @@ gathers_first g s ms es m h going early point = by (greatest_time (timed s ms)) 
   by (Some t) e =
       let f = closes_it g s ms m standing early point in
       let has : v.just_closed ≡ true = handed_is g m ∙ f.has in
-      let just_closed : es ++ returned_epoch v ≡ closed_list_at s ms (closed_so_far s xs true) =
+      let returned : es ++ returned_epoch v ≡ closed_list_at s ms (closed_so_far s xs true) =
       ap₂ (λ a b. a ++ b) (was ∙ ap (closed_list_at s ms) (append-nil (closed_times s xs))) (pending_closed v s ms t e pending f.after.epoch f.after.values has)
       ∙ sym (map-append (closed_at s ms) (closed_times s xs) (option_to_list (greatest_time xs))) in
       let ns = ms ++ m ∷ [] in
@@ -184,11 +184,11 @@ gathers_first g s ms es m h going early point = by (greatest_time (timed s ms)) 
       let kept = keeps s ms m true o early grown in
       record {
         standing = f.after;
-        just_closed = just_closed;
+        returned = returned;
         epochs = λ never. absurd (grind (arith, never));
         first = subst (λ b. IsPrefix (es ++ returned_epoch v) (known_epochs b s ns)) (sym goes) (
           closed_list_at s ns (option_to_list o),
-          ap (closed_list_at s ns) (sym (append-nil (closed_times s (timed s ns)))) ∙ kept ∙ ap (λ l. l ++ closed_list_at s ns (option_to_list o)) (sym just_closed),
+          ap (closed_list_at s ns) (sym (append-nil (closed_times s (timed s ns)))) ∙ kept ∙ ap (λ l. l ++ closed_list_at s ns (option_to_list o)) (sym returned),
         );
         fits = early;
         plan = ap (λ (u : GatherSetup). u.plan) f.after.clock.setup;
@@ -216,7 +216,7 @@ gathers_ended g s ms es h going = (
   pending,
   record {
     standing = subst (HasTakenMessages v s ms) (sym done) (subst (HasTakenMessages v s ms) pending f.after);
-    just_closed = just_closed ∙ ap (λ b. closed_list_at s ms (closed_so_far s xs b)) (sym done);
+    returned = returned ∙ ap (λ b. closed_list_at s ms (closed_so_far s xs b)) (sym done);
     epochs = λ _. epochs;
     first = subst (λ l. IsPrefix (es ++ returned_epoch v) (known_epochs v.has_ended s l)) (sym (append-nil ms)) (subst (IsPrefix (es ++ returned_epoch v)) epochs (prefix_self (es ++ returned_epoch v)));
     fits = tt;
@@ -234,7 +234,7 @@ gathers_ended g s ms es h going = (
 
   was : es ≡ closed_list_at s ms (closed_times s xs)
   was =
-      subst (λ b. es ≡ closed_list_at s ms (closed_so_far s xs b)) (not_done g s ms None going) h.just_closed
+      subst (λ b. es ≡ closed_list_at s ms (closed_so_far s xs b)) (not_done g s ms None going) h.returned
       ∙ ap (closed_list_at s ms) (append-nil (closed_times s xs))
 
   f : Ended g s ms false
@@ -259,10 +259,10 @@ gathers_ended g s ms es h going = (
     by None e = absurd (grind (arith, e, p))
     by (Some t) e = pending_closed v s ms t e p f.after.epoch f.after.values (has ∙ p)
 
-  just_closed : es ++ returned_epoch v ≡ closed_list_at s ms (closed_so_far s xs (is_pending s xs))
-  just_closed =
+  returned : es ++ returned_epoch v ≡ closed_list_at s ms (closed_so_far s xs (is_pending s xs))
+  returned =
       ap₂ (λ a b. a ++ b) was (last (is_pending s xs) refl)
       ∙ sym (map-append (closed_at s ms) (closed_times s xs) (if is_pending s xs then option_to_list (greatest_time xs) else []))
 
   epochs : es ++ returned_epoch v ≡ known_epochs v.has_ended s ms
-  epochs = just_closed ∙ ap (closed_list_at s ms) (with_pending s xs) ∙ ap (λ b. known_epochs b s ms) (sym over)
+  epochs = returned ∙ ap (closed_list_at s ms) (with_pending s xs) ∙ ap (λ b. known_epochs b s ms) (sym over)

@@ -73,7 +73,7 @@ IsAwaited again m = IfSome again (λ awaited. m ≡ awaited)
 pub record HasGatheredEpochs (v : Gathered) (s : GatherSetup) (ms : List Heard) (es : List Closed)
     (again : Option Heard) : Type 0 where
   pub standing : HasTakenMessages v s ms (is_done v s ms again)
-  pub just_closed : es ≡ closed_list_at s ms (closed_so_far s (timed s ms) (is_done v s ms again))
+  pub returned : es ≡ closed_list_at s ms (closed_so_far s (timed s ms) (is_done v s ms again))
   pub epochs : again ≡ None → es ≡ known_epochs v.has_ended s ms
   pub first : IsPrefix es (known_epochs v.has_ended s (ms ++ option_to_list again))
   pub fits : IfSome again (λ m. closes_first s (timed s ms) m ≡ true)

@@ -44,10 +44,6 @@ lookup locks key = if has_listed_key key then get_or locks (lock_place key) None
 abbrev pub recorded : List (Option KnownLock) → ℕ
 recorded locks = count_by is_some locks
 
--- The number of records that are added by a key with this entry.
-abbrev pub one_if_new : Option KnownLock → ℕ
-one_if_new before = if is_some before then 0 else 1
-
 abbrev pub put : List (Option KnownLock) → HeardCell → KnownLock → List (Option KnownLock)
 put locks x l = set locks (lock_place x) (Some l)
 

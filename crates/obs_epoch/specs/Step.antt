@@ -22,8 +22,8 @@ is_late_at g tow =
 abbrev pub is_first_at : State → ℕ → Bool
 is_first_at g tow = g.pending && option_map_or (λ t. not (ahead t tow == 0)) g.latest false
 
-abbrev pub kind_at : State → CellCounts → ℕ → Kind
-kind_at g n tow =
+abbrev pub kind_now : State → CellCounts → ℕ → Kind
+kind_now g n tow =
     if is_late_at g tow then Late
     else (if is_past (time_at g tow) then PastWeeks else (if is_first_at g tow then CloseFirst else kept_kind n))
 
@@ -38,7 +38,7 @@ step_at g tow =
 abbrev pub kind_by : State → CellCounts → Heard → Kind
 kind_by g n m =
     if is_some m.tow || is_some m.point
-    then (if is_own g.setup m then option_map_or (kind_at g n) m.tow Station else OtherStation)
+    then (if is_own g.setup m then option_map_or (kind_now g n) m.tow Station else OtherStation)
     else Ignored
 
 abbrev pub ended_where : Bool → State → State

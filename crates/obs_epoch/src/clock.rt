@@ -50,7 +50,7 @@ impl Model for Clock {
 impl Clock {
     ghost use Rattle.obs_epoch.specs.Clock.{HasHeardMessages};
     ghost use Rattle.obs_epoch.specs.Cells.{no_counts};
-    ghost use Rattle.obs_epoch.specs.Step.{kind_by, step_by, kind_at, step_at, timed_by, closed_by};
+    ghost use Rattle.obs_epoch.specs.Step.{kind_by, step_by, kind_now, step_at, timed_by, closed_by};
 
     /// Returns the clock before the first message.
     pub fn new(
@@ -152,7 +152,7 @@ impl Clock {
     // Processes observations of the station with this time of week in milliseconds.
     fn place(&mut self, tow: u32) -> Kind
         requires { tow < week }
-        ensures kind { result ≡ kind_at self.old no_counts tow }
+        ensures kind { result ≡ kind_now self.old no_counts tow }
         ensures step { self.new ≡ step_at self.old tow }
     {
         let mut time = self.start_week as u64 * WEEK + tow as u64;

@@ -26,7 +26,7 @@ same_times s ms ts us e = sym (times_back s ms ts) ∙ ap (map (λ (c : Closed).
 closed_all : (v : Gathered) (s : GatherSetup) (ms : List Heard) (es : List Closed) → HasGatheredEpochs v s ms es None → v.has_ended ≡ true → closed_so_far s (timed s ms) (is_done v s ms None) ≡ times (timed s ms)
 closed_all v s ms es x over =
     same_times s ms (closed_so_far s (timed s ms) (is_done v s ms None)) (times (timed s ms))
-    (sym x.just_closed ∙ x.epochs refl ∙ ap (λ e. if e then closed_list_at s ms (times (timed s ms)) else closed_list_at s ms (closed_times s (timed s ms))) over)
+    (sym x.returned ∙ x.epochs refl ∙ ap (λ e. if e then closed_list_at s ms (times (timed s ms)) else closed_list_at s ms (closed_times s (timed s ms))) over)
 
 -- one record for each key that is locked in an epoch that counts
 abbrev pub HasKeys : Gathered → ℕ → Type 0

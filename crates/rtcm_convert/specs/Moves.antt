@@ -8,13 +8,3 @@ abbrev pub Moves : {R W : Type 0} → (R → Option (List ℕ)) → (r r' : Devi
     → (w w' : Device W)
     → ((r r' w w' : Option (List ℕ)) → Type 0) → Type 0
 Moves left r r' held w w' P = P (left r.inner) (left r'.inner) (held w.inner) (held w'.inner)
-
--- The writer was w and is w'.
-abbrev pub Writes : {W : Type 0} → (W → Option (List ℕ)) → (w w' : Device W) → ((w w' : Option (List ℕ)) → Type 0)
-    → Type 0
-Writes held w w' P = P (held w.inner) (held w'.inner)
-
--- The reader was r and is r'.
-abbrev pub Reads : {R : Type 0} → (R → Option (List ℕ)) → (r r' : Device R) → ((r r' : Option (List ℕ)) → Type 0)
-    → Type 0
-Reads left r r' P = P (left r.inner) (left r'.inner)

@@ -21,11 +21,11 @@ abbrev pub set_at : Cursor → Option (ℕ × Bool)
 set_at c = if nat_lt (length c.rest) 43 then None
     else Some (unsigned_at 12 c, unsigned_at 1 (advanced (advanced c 12) 30) == 1)
 
-abbrev pub set_of : ℕ → Cursor → Option (ℕ × Bool)
-set_of n c = if is_any_msm n then set_at c else None
+abbrev pub set_in : ℕ → Cursor → Option (ℕ × Bool)
+set_in n c = if is_any_msm n then set_at c else None
 
 abbrev pub other_at : ℕ → Cursor → Message
-other_at n c = messages.Other n (set_of n c)
+other_at n c = messages.Other n (set_in n c)
 
 abbrev pub start : List Bool → Cursor
 start bits = record { place = 0; rest = bits }

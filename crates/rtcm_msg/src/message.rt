@@ -6,7 +6,7 @@ ghost use Rattle.rtcm_msg.specs.Encoding.{message_bits, is_other, ReadsMessage, 
 ghost use Rattle.rtcm_msg.specs.declared.message.Message.{Message};
 ghost use Rattle.rtcm_msg.specs.declared.fault.MsgFault.{MsgFault};
 ghost use Rattle.rtcm_msg.specs.Viewed.{viewed_message};
-ghost use Rattle.rtcm_msg.specs.Decoding.{message_at, set_of};
+ghost use Rattle.rtcm_msg.specs.Decoding.{message_at, set_in};
 ghost use Rattle.rtcm_msg.specs.declared.message.Message.TheVariants as messages;
 
 use crate::fault::MsgFault;
@@ -40,7 +40,7 @@ pub enum Message {
 /// 1127, after its message number. `None` for another number, or if the message does not contain
 /// them.
 pub(crate) fn read_set(number: u16, reader: &mut BitReader) -> Option<(u16, bool)>
-    ensures { result ≡ set_of number reader.old }
+    ensures { result ≡ set_in number reader.old }
 {
     if number < 1071 || number > 1127 || number % 10 < 1 || number % 10 > 7 {
         return None;

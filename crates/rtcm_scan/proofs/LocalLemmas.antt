@@ -9,7 +9,7 @@ use Rattle.rtcm_bits.specs.Crc.{crc}
 use Rattle.rtcm_bits.specs.FrameOf.{frame_bytes, frame_header, three_bytes}
 use Rattle.rtcm_scan.specs.Frame.{begins_frame, message_length, frame_length, sent_check, framed_message}
 use Rattle.rtcm_scan.specs.Frames.{Framed, IsFrameOf, frame_end, frames_from, frames_of}
-use Rattle.rtcm_scan.specs.Local.{stream_after, frame_place, HasNoNewBytes, StaysLocal, placed}
+use Rattle.rtcm_scan.specs.Local.{stream_after, frame_place, HasNoOtherFrame, StaysLocal, placed}
 use Rattle.rtcm_scan.specs.Scan.{Scanned}
 use Rattle.rtcm_scan.proofs.ScanLemmas.{scanned_frames, scanned_all}
 use Rattle.rtcm_scan.proofs.FrameLemmas.{length-message}
@@ -139,7 +139,7 @@ frame_ends bytes ms i k h l =
     close x y u w r m a b c = omega arith
 
 -- no frame lies across the beginning of a frame that is far enough after the bytes
-none_across : (bytes : List ℕ) (ms : List (List ℕ)) (k : ℕ) → All (λ m. length m ≤ 1023) ms → k < length ms → length bytes + 1028 ≤ frame_place bytes ms k → HasNoNewBytes bytes ms k
+none_across : (bytes : List ℕ) (ms : List (List ℕ)) (k : ℕ) → All (λ m. length m ≤ 1023) ms → k < length ms → length bytes + 1028 ≤ frame_place bytes ms k → HasNoOtherFrame bytes ms k
     → (f : Framed) → IsFrameOf (stream_after bytes ms) f → f.offset < frame_place bytes ms k → frame_place bytes ms k < frame_end f → ⊥
 none_across bytes ms k a l far quiet f v h c = ⊎_elim
     (λ (x : f.offset < length bytes).

@@ -19,8 +19,8 @@ abbrev pub FitFrames : List (List ℕ) → Type 0
 FitFrames messages = All (λ m. length m ≤ longest_message) messages
 
 -- after the bytes and before the frame with number k, no frame begins except these frames
-abbrev pub HasNoNewBytes : List ℕ → List (List ℕ) → ℕ → Type 0
-HasNoNewBytes bytes messages k = (q : ℕ) → length bytes ≤ q → q < frame_place bytes messages k
+abbrev pub HasNoOtherFrame : List ℕ → List (List ℕ) → ℕ → Type 0
+HasNoOtherFrame bytes messages k = (q : ℕ) → length bytes ≤ q → q < frame_place bytes messages k
     → begins_frame (drop q (stream_after bytes messages)) ≡ true
     → (i : ℕ) × (i < k) × (q ≡ frame_place bytes messages i)
 
@@ -28,7 +28,7 @@ HasNoNewBytes bytes messages k = (q : ℕ) → length bytes ≤ q → q < frame_
 -- all later frames are found
 abbrev pub StaysLocal : List ℕ → List (List ℕ) → ℕ → Type 0
 StaysLocal bytes messages k = FitFrames messages → k < length messages
-    → length bytes + most_undecided ≤ frame_place bytes messages k → HasNoNewBytes bytes messages k
+    → length bytes + most_undecided ≤ frame_place bytes messages k → HasNoOtherFrame bytes messages k
     → (i : ℕ) → k ≤ i → i < length messages
     → Contains (frames_of (stream_after bytes messages))
     (record { offset = frame_place bytes messages i; message = slice_index_or messages i [] })

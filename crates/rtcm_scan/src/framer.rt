@@ -59,7 +59,9 @@ pub struct Frame {
 
 impl Frame {
     /// Returns an empty buffer for frames.
-    pub fn new() -> Frame {
+    pub fn new() -> Frame
+        ensures { (result.offset ≡ 0) × (result.message.items ≡ []) }
+    {
         Frame {
             offset: 0,
             message: ArrayVec::new(),

@@ -13,7 +13,7 @@ returns-clause-history c = record {
     locks = none_locked _ _ c.in-Ok.ensures;
     values = ap (λ (e : Closed). e.values) c.new-3.ensures;
   };
-  just_closed = refl;
+  returned = refl;
   epochs = λ e. refl;
   first = search rules;
   fits = tt;
