@@ -87,8 +87,19 @@ fn with_command<'a>(
 ) -> Result<Command<'a>, AllocError>
     ensures { line.AddsCommand program.entry command.entry result }
 {
-    let program = program?;
-    program.subcommand(command?)
+    match command {
+        Ok(command) => match program {
+            Ok(program) => program.subcommand(command),
+            Err(failed) => {
+                drop(command);
+                Err(failed)
+            }
+        },
+        Err(failed) => {
+            drop(program);
+            Err(failed)
+        }
+    }
 }
 
 /// Returns a command with one more option.
