@@ -7,7 +7,7 @@ use Rattle.std.proofs.Math.Seq.{take-append_seam, drop-append_seam}
 use Rattle.rtcm_bits.specs.Bits.{uint, number, number_from, bits_of}
 use Rattle.rtcm_bits.specs.BitLaws.{length-bits_of, bits_of-append, number-uint, uint-number}
 use Rattle.rtcm_bits.proofs.BitLemmas.{number-append}
-use Rattle.rtcm_bits.proofs.PartLemmas.{part-uint}
+use Rattle.rtcm_bits.proofs.PartLemmas.{part-uint, Next, next_part}
 use Rattle.rtcm_bits.proofs.ListLemmas.{eight_of}
 
 -- the part of a word that two shifts leave
@@ -79,3 +79,20 @@ within_word l at skip width place h e =
     let f : skip + (64 - skip) ≡ 64 = omega arith in
     ap (λ (n : ℕ). take width (drop skip (take n (drop at l)))) (sym f) ∙ ap (take width) (drop-take skip (64 - skip) (drop at l))
     ∙ take-take width (64 - skip) (drop skip (drop at l)) (omega arith) ∙ ap (take width) (drop-drop skip at l) ∙ ap (λ (n : ℕ). take width (drop n l)) (sym e)
+
+-- bits of nine bytes: those of a word, and the rest in the byte after it
+pub in_nine : (xs : List ℕ) (first skip width rest word high low : ℕ) → skip < 8 → 64 < skip + width → width ≤ 64 → 8 * first + (skip + width) ≤ 8 * length xs
+    → rest ≡ skip + width - 64 → uint 64 word ≡ take 64 (drop (8 * first) (bits_of xs)) → high ≡ number (take (64 - skip) (drop skip (uint 64 word)))
+    → low ≡ number (take rest (drop 0 (uint 8 (get_or xs (first + 8) 0)))) → Next xs (8 * first + skip) (8 * first + 64) rest high low
+in_nine xs first skip width rest word high low h i j k r w f g =
+    let l : List Bool = bits_of xs in
+    let place : ℕ = 8 * first + skip in
+    let at : ℕ = 8 * first + 64 in
+    let e : at - place ≡ 64 - skip = omega arith in
+    let m : at % 8 ≡ 0 = omega arith in
+    let d : at / 8 ≡ first + 8 = omega arith in
+    let v : high ≡ number (take (at - place) (drop place l)) =
+    f ∙ ap (λ (t : List Bool). number (take (64 - skip) (drop skip t))) w ∙ ap number (within_word l (8 * first) skip (64 - skip) place (omega arith) refl)
+    ∙ ap (λ (n : ℕ). number (take n (drop place l))) (sym e) in
+    let p : low ≡ number (take rest (drop (at % 8) (uint 8 (get_or xs (at / 8) 0)))) = rw (m, d) g in
+    next_part xs place at rest high low (omega arith) (omega arith) (omega arith) (omega arith) (omega arith) v p
