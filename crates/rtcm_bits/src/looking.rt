@@ -1,10 +1,14 @@
 //! Looks at the bytes of a window.
-ghost use Rattle.std.specs.Prelude.{◌≡◌, ◌≢◌, ◌+◌, ◌<◌, ◌≤◌, ◌++◌, ℕ, length, slice_index, slice_range, max};
+ghost use Rattle.std.specs.Prelude.{◌≡◌, ◌≢◌, ◌+◌, ◌*◌, ◌<◌, ◌≤◌, ℕ, length, drop, slice_index, max};
+ghost use Rattle.std.specs.Vec.{vec_capacity};
 ghost use Rattle.rtcm_bits.specs.FrameOf.{longest_frame};
 ghost use Rattle.rtcm_bits.specs.Window.{looked_through, counts_alone};
 
 use crate::framing::LONGEST_FRAME;
-use circular_buffer::HeapCircularBuffer;
+
+/// Capacity of a window's memory. It is larger than the longest frame, so that the bytes in the
+/// window are seldom moved to the front.
+pub(crate) const CAPACITY: usize = 8 * LONGEST_FRAME;
 
 /// Adds one look, up to 65,535, to each of the `n` counts from index `start` on, and returns the
 /// greatest of them and of `greatest`.
@@ -22,38 +26,51 @@ pub(crate) fn look_at_each(counts: &mut [u16], start: usize, n: usize, greatest:
     most
 }
 
-/// Moves the counts into one slice: `make_contiguous` moves wrapped items one by one, and leaves
-/// them at the end of the ring, so that the next ones wrap round again.
-pub(crate) fn unwrap_counts(counts: &mut HeapCircularBuffer<u16>)
-    requires few { length counts.old.items ≤ longest_frame }
-    requires room { longest_frame ≤ counts.old.capacity }
-    ensures { counts.new ≡ counts.old }
+/// Makes room for `n` more items after those in the window, which are the ones from index `first`
+/// on, and returns their first index then.
+#[inline(always)]
+pub(crate) fn make_room(bytes: &mut Vec<u8>, counts: &mut Vec<u16>, first: usize, n: usize) -> usize
+    requires within { (first ≤ length bytes.old.items) × (length bytes.old.items ≤ 8 * longest_frame) }
+    requires few { length bytes.old.items + n ≤ first + longest_frame }
+    requires counts { length counts.old.items ≡ length bytes.old.items }
+    ensures bytes { drop result bytes.new.items ≡ drop first bytes.old.items }
+    ensures counts { drop result counts.new.items ≡ drop first counts.old.items }
+    ensures room { length bytes.new.items + n ≤ 8 * longest_frame }
+    ensures within { result ≤ length bytes.new.items }
+    ensures len { length counts.new.items ≡ length bytes.new.items }
+    ensures capacity { (vec_capacity bytes.new ≡ vec_capacity bytes.old)
+        × (vec_capacity counts.new ≡ vec_capacity counts.old) }
 {
-    let (_, wrapped) = counts.as_slices();
-    if !wrapped.is_empty() {
-        begin_anew(counts);
+    if n <= CAPACITY - bytes.len() {
+        return first;
     }
+    move_to_front(bytes, counts, first);
+    0
 }
 
-/// Calls `move_through` with a local buffer, which most looks don't need.
+/// Removes the items before index `first`.
 #[inline(never)]
-fn begin_anew(counts: &mut HeapCircularBuffer<u16>)
-    requires few { length counts.old.items ≤ longest_frame }
-    requires room { longest_frame ≤ counts.old.capacity }
-    ensures { counts.new ≡ counts.old }
+fn move_to_front(bytes: &mut Vec<u8>, counts: &mut Vec<u16>, first: usize)
+    requires within { first ≤ length bytes.old.items }
+    requires counts { length counts.old.items ≡ length bytes.old.items }
+    ensures bytes { bytes.new.items ≡ drop first bytes.old.items }
+    ensures counts { counts.new.items ≡ drop first counts.old.items }
+    ensures capacity { (vec_capacity bytes.new ≡ vec_capacity bytes.old)
+        × (vec_capacity counts.new ≡ vec_capacity counts.old) }
 {
-    let mut spare = [0; LONGEST_FRAME];
-    move_through(counts, &mut spare);
+    remove_front(bytes, first);
+    remove_front(counts, first);
 }
 
-/// Moves all counts out and back in, so that they begin at the position at which they ended.
-fn move_through(counts: &mut HeapCircularBuffer<u16>, spare: &mut [u16])
-    requires few { length counts.old.items ≤ length spare.old }
-    requires room { length spare.old ≤ counts.old.capacity }
-    ensures { counts.new ≡ counts.old }
+/// Removes the first `n` items.
+fn remove_front<T: Copy + Drop>(items: &mut Vec<T>, n: usize)
+    requires { n ≤ length items.old.items }
+    ensures items { items.new.items ≡ drop n items.old.items }
+    ensures capacity { vec_capacity items.new ≡ vec_capacity items.old }
 {
-    let n = counts.read_into(spare);
-    counts.extend_from_slice(&spare[..n]);
+    let len = items.len();
+    items.as_mut_slice().copy_within(n..len, 0);
+    items.truncate(len - n);
 }
 
 /// Raises the greatest count if this one is above it. It stores nothing otherwise, so that a look
@@ -66,38 +83,8 @@ pub(crate) fn raise(greatest: &mut u16, looks: u16)
     }
 }
 
-/// Returns the `n` bytes from index `start` on of two consecutive slices.
-pub(crate) fn part_of<'a>(
-    front: &'a [u8],
-    back: &'a [u8],
-    start: usize,
-    n: usize,
-) -> (&'a [u8], &'a [u8])
-    requires { start + n ≤ length front.now + length back.now }
-    ensures bytes { result.0.now ++ result.1.now ≡ slice_range (front.now ++ back.now) start (start + n) }
-    ensures size { length result.0.now + length result.1.now ≡ n }
-{
-    let from = start.min(front.len());
-    let to = (start + n).min(front.len());
-    (&front[from..to], &back[start - from..start + n - to])
-}
-
-/// Returns the number of bytes of two consecutive slices before the first one equal to `byte`.
-pub(crate) fn others_in(front: &[u8], back: &[u8], byte: u8) -> usize
-    ensures within { result ≤ length front.now + length back.now }
-    ensures others { (i : ℕ) → i < result → slice_index (front.now ++ back.now) i ≢ byte }
-    ensures stops { result < length front.now + length back.now → slice_index (front.now ++ back.now) result ≡ byte }
-{
-    let n = others_before(front, byte);
-    if n < front.len() {
-        n
-    } else {
-        n + others_before(back, byte)
-    }
-}
-
 /// Returns the number of bytes before the first one equal to `byte`.
-fn others_before(bytes: &[u8], byte: u8) -> usize
+pub(crate) fn others_before(bytes: &[u8], byte: u8) -> usize
     ensures within { result ≤ length bytes.now }
     ensures others { (i : ℕ) → i < result → slice_index bytes.now i ≢ byte }
     ensures stops { result < length bytes.now → slice_index bytes.now result ≡ byte }

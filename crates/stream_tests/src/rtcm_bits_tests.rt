@@ -153,9 +153,9 @@ fn drops_others(window: &mut Window) -> bool {
 }
 
 /// The first of many rounds in which other bytes aren't dropped with a look at each. The bytes
-/// begin at another position of the ring in each round, and some wrap round.
+/// begin at another position of the memory in each round, and reach its end.
 fn first_wrong_round(window: &mut Window) -> Option<usize> {
-    for round in 0..2 * LONGEST_FRAME {
+    for round in 0..3 * LONGEST_FRAME {
         let dropped = push_all(window, &[1, 2, 3, 0xD3])
             && drop_others(window, 0xD3) == 3
             && looks(window, 0) == Some(1)

@@ -1,12 +1,17 @@
-use Rattle.std.proofs.Common.{◌∙◌, ap, rules}
-use Rattle.circular_buffer.specs.Buffer.{Buffer}
-use Rattle.rtcm_bits.specs.Window.{held_of}
+use Rattle.std.proofs.Common.{List, ℕ, ◌+◌, drop, ap, ◌∙◌, rules}
+use Rattle.std.proofs.lemmas.List.{with_items_is, places}
+use Rattle.rtcm_bits.specs.Window.{held_of, looked_through, counts_alone}
 use Rattle.rtcm_bits.proofs.WindowLemmas.{view_looked}
 use Rattle.rtcm_bits.proofs.window.Window.count_looks.Goals as goal
-use Rattle.std.proofs.Common.{ℕ}
 
 pub returns-clause-counted : goal.returns-clause-counted
 returns-clause-counted c =
-    view_looked c.self.inside.bytes.items c.unwrap_counts.new.counts.items c.look_at_each-self-inside.new.counts c.self.inside.looks c.saturating_add-self-inside.result c.self.inside.greatest c.look_at_each-self-inside.result
-    c.args.start c.args.n c.args.self.now (ap (λ (b : Buffer ℕ). held_of c.self.inside.bytes.items b.items c.self.inside.looks c.self.inside.greatest) c.unwrap_counts.ensures ∙ c.self.view_is)
-    (search rules) (search rules) c.make_contiguous.ensures.same_len (search rules) (search rules) c.saturating_add-self-inside.ensures
+    let i = c.self.inside in
+    let ys = c.look_at_each-self-inside.new.counts in
+    let e = c.saturating_add-self-inside.result in
+    let g = c.look_at_each-self-inside.result in
+    ap (λ (t : List ℕ). held_of (drop i.first i.bytes.items) (drop i.first t) e g) (with_items_is i.counts ys (search (rules, places)))
+    ∙ view_looked i.bytes.items i.counts.items ys i.first i.looks e i.greatest g c.args.start c.args.n c.args.self.now c.self.view_is (search rules)
+    (c.look_at_each-self-inside.ensures.counts ∙ ap (λ (t : List ℕ). (looked_through (counts_alone t i.greatest) (i.first + c.args.start) c.args.n).looks) c.as_mut_slice.ensures.value)
+    (c.look_at_each-self-inside.ensures.greatest ∙ ap (λ (t : List ℕ). (looked_through (counts_alone t i.greatest) (i.first + c.args.start) c.args.n).most) c.as_mut_slice.ensures.value)
+    c.saturating_add-self-inside.ensures
