@@ -1,5 +1,5 @@
 //! Passing the frames of pieces of a stream to a consumer.
-ghost use Rattle.std.specs.Prelude.{◌≡◌, ◌+◌, ◌≤◌, ◌<◌, true, length, take, OnOk, OnErr, IfOk, IfErr};
+ghost use Rattle.std.specs.Prelude.{◌≡◌, ◌+◌, ◌≤◌, ◌<◌, true, [], length, take, OnOk, OnErr, IfOk, IfErr};
 ghost use Rattle.rtcm_scan.specs.Passing.{PassesKnown, BreaksKnown, Passes, Breaks, PassesToLimit};
 ghost use Rattle.rtcm_scan.specs.Passing.{Continues, IsSameStream, AtFault, UnlessBroken};
 
@@ -43,6 +43,30 @@ impl Framer {
         Ok(())
     }
 
+    /// Passes the frames of the held bytes to the sink, unless it is known that they decide none.
+    fn drain_held<O, S: FrameSink<O>>(
+        &mut self,
+        frame: &mut Frame,
+        sink: &mut S,
+        out: &mut O,
+    ) -> Result<(), S::Fault>
+        requires { S.can_take sink.old }
+        ensures goes { S.can_take sink.new }
+        ensures whole { OnOk result (Passes S.took self.old sink.old out.old self.new sink.new out.new []) }
+        ensures part { OnErr result (Breaks S.took S.broke self.old sink.old out.old sink.new out.new []) }
+        ensures ready { OnOk result (self.new.is_ready ≡ true) }
+        ensures ended { self.new.has_ended ≡ self.old.has_ended }
+        ensures same { IsSameStream self.old self.new }
+    {
+        if self.ready() {
+            return Ok(());
+        }
+        match self.drain_into(frame, sink, out) {
+            Ok(()) => Ok(()),
+            Err(fault) => Err(fault),
+        }
+    }
+
     /// Accepts these bytes up to the limit, passes each frame to the sink as soon as it is decided,
     /// and returns the number of bytes accepted.
     fn take_piece<O, S: FrameSink<O>>(
@@ -66,11 +90,11 @@ impl Framer {
     {
         // Brings the bound on the number of accepted bytes into the proof.
         let _ = self.taken();
+        if let Err(fault) = self.drain_held(frame, sink, out) {
+            return Err(fault);
+        }
         let mut taken = 0;
-        loop {
-            if let Err(fault) = self.drain_into(frame, sink, out) {
-                return Err(fault);
-            }
+        while taken < piece.len() {
             let next = taken + self.room().min(piece.len() - taken);
             if next == taken {
                 return Ok(taken);
@@ -79,7 +103,11 @@ impl Framer {
                 unreachable!()
             };
             taken = next;
+            if let Err(fault) = self.drain_into(frame, sink, out) {
+                return Err(fault);
+            }
         }
+        Ok(taken)
     }
 
     /// Accepts these bytes up to the limit, passes each frame to the sink as soon as it is decided,
