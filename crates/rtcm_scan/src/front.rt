@@ -36,7 +36,8 @@ pub(crate) fn examine(window: &mut Window, candidate: &mut Candidate)
     examine_rest(window, candidate);
 }
 
-/// Reads the candidate's header byte by byte, since each of its bytes may change the frame's size.
+/// Reads the candidate's header byte by byte, since each of its bytes may change the frame's size,
+/// and a single byte that follows.
 fn examine_header(window: &mut Window, candidate: &mut Candidate)
     requires taken { HasTaken candidate.old (take candidate.old.count window.old.bytes) }
     requires within { candidate.old.count ≤ length window.old.bytes }
@@ -48,11 +49,21 @@ fn examine_header(window: &mut Window, candidate: &mut Candidate)
         ≡ looked_through window.old candidate.old.count (candidate.new.count - candidate.old.count) }
     ensures bytes { window.new.bytes ≡ window.old.bytes }
 {
-    let header = window.held().min(3);
-    while candidate.count < candidate.wanted && candidate.count < header {
+    let end = read_singly(window.held(), candidate.count);
+    while candidate.count < candidate.wanted && candidate.count < end {
         let byte = window.look(candidate.count);
         candidate.take(byte);
     }
+}
+
+/// Returns the number of held bytes up to which a candidate is read byte by byte, if `count` of
+/// them are read.
+fn read_singly(held: usize, count: usize) -> usize
+    requires { count ≤ held }
+    ensures within { result ≤ held }
+    ensures header { min held 3 ≤ result }
+{
+    if held - count == 1 { held } else { held.min(3) }
 }
 
 /// Reads the held bytes after the candidate's header, all at once.

@@ -6,7 +6,7 @@ pub loop-candidate-preserved : goal.loop-candidate-preserved
 loop-candidate-preserved c =
     let s = c.args.window.now.bytes in
     let k = c.loop-candidate.candidate.count in
-    let l : c.loop-candidate.candidate.count < length c.args.window.now.bytes = omega (arith, c.if-candidate-header.true, c.min-header.ensures, c.held.ensures.value) in
+    let l : c.loop-candidate.candidate.count < length c.args.window.now.bytes = omega (arith, c.if-candidate-end.true, c.read_singly-end.ensures.within, c.held.ensures.value) in
     let n = c.take.ensures.count in
     record {
       taken = taken_more c.take.new.self s k c.look-byte.result (c.take.ensures.taken (take k s) c.loop-candidate.invariant.taken) n l
