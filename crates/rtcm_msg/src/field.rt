@@ -11,6 +11,7 @@ use rtcm_bits::{BitReader, signed_of};
 ///
 /// `Short` if the field does not end within the message.
 #[tactic(auto, unfolding(crate::specs::Fields::number_at))]
+#[inline(always)]
 pub(crate) fn field(reader: &mut BitReader, width: u32) -> Result<u64, MsgFault>
     requires few { width ≤ 64 }
     ensures read { GivesViewed (λ n. (n, reader.new)) result (number_at width reader.old) }
