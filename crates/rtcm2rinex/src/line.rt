@@ -50,7 +50,11 @@ impl OutputLine {
         ensures text { self.new ≡ self.old ++ decimal number }
         ensures short { length self.new ≤ length self.old + 20 }
     {
-        self.put(Buffer::new().format(number).as_bytes());
+        if number < 10 {
+            self.put(&[digit(number)]);
+        } else {
+            self.put(Buffer::new().format(number).as_bytes());
+        }
     }
 
     /// Appends a blank and a number.
