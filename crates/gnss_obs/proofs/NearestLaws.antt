@@ -1,8 +1,8 @@
--- Rounding in 128 bits.
-use Rattle.std.proofs.Common.{ℕ, zero, suc, ℤ, pos, negsuc, ◌≡◌, ◌+◌, ◌*◌, ◌^◌, ◌<◌, ◌≤◌, ◌-ℤ◌, ◌*ℤ◌, ◌<ℤ◌, ◌≤ℤ◌, unsigned_abs, refl, ap, subst, ◌∙◌, arith, w64, to_z, of_z, FitsSigned, add-one}
-use Rattle.std.specs.Int.{w128}
+-- Rounding a product.
+use Rattle.std.proofs.Common.{ℕ, zero, suc, ℤ, pos, negsuc, ◌≡◌, ◌+◌, ◌*◌, ◌/◌, ◌^◌, ◌<◌, ◌≤◌, ◌-ℤ◌, ◌*ℤ◌, ◌<ℤ◌, ◌≤ℤ◌, unsigned_abs, refl, ap, sym, subst, ◌∙◌, arith, w64, to_z, of_z, add-one}
 use Rattle.std.proofs.Math.IntN.{neg_ℤ, negsuc-*ℤ-pos}
-use Rattle.std.proofs.lemmas.Int.{ints, unsigned_abs-mul, to_z-of_z, fits_signed_mul}
+use Rattle.std.proofs.Math.Nat.{div-div-eq-div-mul, mul-div_cancel_left}
+use Rattle.std.proofs.lemmas.Int.{ints, unsigned_abs-mul}
 use Rattle.std.proofs.lemmas.Nat.{mul-le, div_below, div-add-mod', mod_below}
 use Rattle.gnss_obs.specs.Rounding.{IsNearest, nearest, nearest_size}
 
@@ -16,7 +16,7 @@ size_bounds n q some =
 pub size_fits : (n q : ℕ) → 0 < q → n ≤ q * 2 ^ 61 → nearest_size n q < 2 ^ 62
 size_fits n q some h = div_below (2 * n + q) (2 * q) (2 ^ 62) (omega arith) (omega arith)
 
-pub neg_casts : (t : ℕ) → t < 2 ^ 62 → to_z w64 (of_z w64 (to_z w128 (of_z w128 (pos 0 -ℤ to_z w128 t)))) ≡ pos 0 -ℤ pos t
+pub neg_casts : (t : ℕ) → t < 2 ^ 62 → to_z w64 (of_z w64 (pos 0 -ℤ to_z w64 t)) ≡ pos 0 -ℤ pos t
 neg_casts t h = omega (arith, ints)
 
 pub pos_casts : (t : ℕ) → t < 2 ^ 62 → to_z w64 t ≡ pos t
@@ -37,6 +37,16 @@ apart s n q a b = omega (arith, ints)
 tied : (s n q : ℕ) → 2 * n + q < 2 * s + 2 * q → 2 * unsigned_abs (pos s -ℤ pos n) ≡ q → n < s
 tied s n q b e = omega (arith, ints)
 
+-- the product with a number turned negative
+mirrored : (t q : ℕ) → (pos 0 -ℤ pos t) *ℤ pos q ≡ pos 0 -ℤ pos (t * q)
+mirrored zero q = let z : zero * q ≡ 0 = omega arith in rw z refl
+mirrored (suc t) q =
+    let down : pos 0 -ℤ pos (suc t) ≡ negsuc t = omega (arith, ints) in
+    ap (λ x. x *ℤ pos q) down ∙ negsuc-*ℤ-pos t q ∙ turned (suc t * q)
+  where
+    turned : (k : ℕ) → neg_ℤ (pos k) ≡ pos 0 -ℤ pos k
+    turned k = omega (arith, ints)
+
 pub nearest_is : (a : ℤ) (q : ℕ) → 0 < q → IsNearest a q (nearest a q)
 nearest_is (pos n) q some =
     let b = size_bounds n q some in
@@ -45,15 +55,6 @@ nearest_is (negsuc n) q some =
     let b = size_bounds (n + 1) q some in
     mirror (nearest (negsuc n) q) (nearest_size (n + 1) q) n q refl b.0 b.1
   where
-    mirrored : (t q : ℕ) → (pos 0 -ℤ pos t) *ℤ pos q ≡ pos 0 -ℤ pos (t * q)
-    mirrored zero q = let z : zero * q ≡ 0 = omega arith in rw z refl
-    mirrored (suc t) q =
-        let down : pos 0 -ℤ pos (suc t) ≡ negsuc t = omega (arith, ints) in
-        ap (λ x. x *ℤ pos q) down ∙ negsuc-*ℤ-pos t q ∙ turned (suc t * q)
-      where
-        turned : (k : ℕ) → neg_ℤ (pos k) ≡ pos 0 -ℤ pos k
-        turned k = omega (arith, ints)
-
     mirror_apart : (s n q : ℕ) → 2 * s ≤ 2 * (n + 1) + q → 2 * (n + 1) + q < 2 * s + 2 * q → 2 * unsigned_abs ((pos 0 -ℤ pos s) -ℤ negsuc n) ≤ q
     mirror_apart s n q a b = omega (arith, ints)
 
@@ -65,31 +66,43 @@ nearest_is (negsuc n) q some =
         let product : v *ℤ pos q ≡ pos 0 -ℤ pos (t * q) = ap (λ x. x *ℤ pos q) e ∙ mirrored t q in
         record { near = rw product (mirror_apart (t * q) n q a b); tie = rw product (mirror_tied (t * q) n q b) }
 
--- a product of a number and a carrier, as the code computes it
-pub product_casts : (x : ℤ) (h m : ℕ) → FitsSigned w128 x → unsigned_abs x ≤ m → m * 2 ^ 31 < 2 ^ 127 → h < 2 ^ 31 → to_z w128 (of_z w128 (x *ℤ to_z w128 h)) ≡ x *ℤ pos h
-product_casts x h m f size room small =
-    let carrier : to_z w128 h ≡ pos h = omega (arith, ints) in
-    rw carrier (to_z-of_z w128 (x *ℤ pos h) (fits_signed_mul w128 x (pos h) m (2 ^ 31) size (omega arith) room))
+-- the size of a quotient by an even number
+halved : (n h : ℕ) → nearest_size n (2 * h) ≡ (n + h) / (2 * h)
+halved n h =
+    let twice : 2 * n + 2 * h ≡ 2 * (n + h) = omega arith in
+    ap (λ k. k / (2 * (2 * h))) twice ∙ sym (div-div-eq-div-mul (2 * (n + h)) 2 (2 * h)) ∙ ap (λ k. k / (2 * h)) (mul-div_cancel_left (n + h) (omega arith))
 
--- a product is within its bound
-pub product_size : (x : ℤ) (h m b : ℕ) → unsigned_abs x ≤ m → h < 2 ^ 31 → m * 2 ^ 31 ≤ b → unsigned_abs (x *ℤ pos h) ≤ b
-product_size x h m b size small room = rw unsigned_abs-mul (step (unsigned_abs x) h m b size small room)
+pub half_fits : (n h : ℕ) → 0 < h → n ≤ h * 2 ^ 62 → (n + h) / (2 * h) < 2 ^ 62
+half_fits n h some room = subst (λ k. k < 2 ^ 62) (halved n h) (size_fits n (2 * h) (omega arith) (omega arith))
+
+-- the number nearest to a product
+pub nearest_below : (x : ℤ) (f h : ℕ) → x <ℤ pos 0 → 0 < f → nearest (x *ℤ pos f) (2 * h) ≡ pos 0 -ℤ pos ((unsigned_abs x * f + h) / (2 * h))
+nearest_below x f h neg some =
+    nearest_neg (x *ℤ pos f) (2 * h) (below x f neg some) ∙ ap (λ n. pos 0 -ℤ pos (nearest_size n (2 * h))) (unsigned_abs-mul x (pos f))
+    ∙ ap (λ n. pos 0 -ℤ pos n) (halved (unsigned_abs x * f) h)
   where
-    step : (y h m b : ℕ) → y ≤ m → h < 2 ^ 31 → m * 2 ^ 31 ≤ b → y * h ≤ b
-    step y h m b size small room = let p : y * h ≤ m * 2 ^ 31 = mul-le y h m (2 ^ 31) size (omega arith) in omega arith
+    below : (x : ℤ) (f : ℕ) → x <ℤ pos 0 → 0 < f → (x *ℤ pos f) <ℤ pos 0
+    below (pos n) f neg some = absurd (omega (arith, ints))
+    below (negsuc n) zero neg some = absurd (omega arith)
+    below (negsuc n) (suc f) neg some = rw negsuc-*ℤ-pos (omega (arith, ints))
+
+pub nearest_above : (x : ℤ) (f h : ℕ) → pos 0 ≤ℤ x → nearest (x *ℤ pos f) (2 * h) ≡ pos ((unsigned_abs x * f + h) / (2 * h))
+nearest_above (pos n) f h up = ap pos (halved (n * f) h)
+nearest_above (negsuc n) f h up = absurd (omega (arith, ints))
 
 -- a product is within the product of the bounds of its factors
 pub product_within : (x : ℤ) (h m n : ℕ) → unsigned_abs x ≤ m → h ≤ n → unsigned_abs (x *ℤ pos h) ≤ m * n
 product_within x h m n size small = rw unsigned_abs-mul (mul-le (unsigned_abs x) h m n size small)
 
--- the same product, negated
-pub turned_casts : (x : ℤ) (h m : ℕ) → FitsSigned w128 x → unsigned_abs x ≤ m → m * 2 ^ 31 < 2 ^ 100 → h < 2 ^ 31 → to_z w128 (of_z w128 (pos 0 -ℤ to_z w128 (of_z w128 (x *ℤ to_z w128 h)))) ≡ pos 0 -ℤ (x *ℤ pos h)
-turned_casts x h m f size room small =
-    let bound = product_size x h m (2 ^ 100) size small (omega arith) in
-    rw (product_casts x h m f size (omega arith) small) (below (x *ℤ pos h) bound)
+-- a negated factor
+pub turned : (x : ℤ) (q : ℕ) → (pos 0 -ℤ x) *ℤ pos q ≡ pos 0 -ℤ (x *ℤ pos q)
+turned (pos t) q = mirrored t q
+turned (negsuc t) q =
+    let up : pos 0 -ℤ negsuc t ≡ pos (suc t) = omega (arith, ints) in
+    ap (λ x. x *ℤ pos q) up ∙ back (suc t * q) ∙ ap (λ x. pos 0 -ℤ x) (sym (negsuc-*ℤ-pos t q))
   where
-    below : (p : ℤ) → unsigned_abs p ≤ 2 ^ 100 → to_z w128 (of_z w128 (pos 0 -ℤ p)) ≡ pos 0 -ℤ p
-    below p b = omega (arith, ints)
+    back : (k : ℕ) → pos k ≡ pos 0 -ℤ neg_ℤ (pos k)
+    back k = omega (arith, ints)
 
 -- a nearest number in other terms
 pub nearest_named : (a b : ℤ) (q : ℕ) (t u : ℤ) → a ≡ b → t ≡ u → IsNearest a q t → IsNearest b q u

@@ -1,4 +1,4 @@
-ghost use Rattle.std.specs.Prelude.{◌≡◌, ◌^◌, ◌<◌, ◌≤◌, ◌↔◌, IsTrue};
+ghost use Rattle.std.specs.Prelude.{◌≡◌, ◌+◌, ◌^◌, ◌<◌, ◌≤◌, ◌↔◌, IsTrue};
 ghost use Rattle.gnss_obs.specs.LockTimes.{LockTime, IsLost, last4, last7, times4, times7, lost};
 ghost use Rattle.gnss_obs.specs.LockTimes as LockTimes;
 
@@ -34,13 +34,16 @@ fn least4(code: u8) -> u32
     if code == 0 { 0 } else { 1 << (code + 4) }
 }
 
-/// Returns the least time of an indicator DF407 from 0 to 704, in milliseconds.
-fn least7(code: u16) -> u32
+/// Returns the least time of an indicator DF407 from 0 to 704, and the length of its range, in
+/// milliseconds.
+fn range7(code: u16) -> (u32, u32)
     requires { code ≤ last7 }
-    ensures { result ≡ LockTimes.least7 code }
+    ensures least { result.0 ≡ LockTimes.least7 code }
+    ensures next { code < last7 → result.0 + result.1 ≡ LockTimes.least7 (code + 1) }
+    ensures fits { result.0 + result.1 < 2 ^ 32 }
 {
     let k = (code / 32).saturating_sub(1);
-    ((code - 32 * k) as u32) << k
+    (((code - 32 * k) as u32) << k, 1 << k)
 }
 
 impl Lock {
@@ -71,12 +74,13 @@ impl Lock {
                 upper: None,
             };
         }
+        let (least, length) = range7(code);
         Lock {
-            least: Some(least7(code)),
+            least: Some(least),
             upper: if code == LAST_DF407 {
                 None
             } else {
-                Some(least7(code + 1))
+                Some(least + length)
             },
         }
     }

@@ -21,7 +21,7 @@ pub fn pseudorange(range: Option<i64>) -> Option<Thousandths>
 {
     match range {
         None => None,
-        Some(r) => Some(Thousandths::new(nearest_whole(r as i128 * LIGHT as i128, 1 << 31))),
+        Some(r) => Some(Thousandths::new(nearest_whole(r, LIGHT, 1 << 30))),
     }
 }
 
@@ -36,10 +36,7 @@ pub fn phase(phase: Option<i64>, signal: Signal) -> Option<Thousandths>
 {
     match phase {
         None => None,
-        Some(p) => Some(Thousandths::new(nearest_whole(
-            p as i128 * signal.hertz() as i128,
-            1 << 31,
-        ))),
+        Some(p) => Some(Thousandths::new(nearest_whole(p, signal.hertz(), 1 << 30))),
     }
 }
 
@@ -54,10 +51,7 @@ pub fn doppler(rate: Option<i32>, signal: Signal) -> Option<Thousandths>
 {
     match rate {
         None => None,
-        Some(v) => Some(Thousandths::new(nearest_whole(
-            0 - v as i128 * signal.hertz() as i128,
-            10 * LIGHT as u64,
-        ))),
+        Some(v) => Some(Thousandths::new(nearest_whole(0 - v as i64, signal.hertz(), 5 * LIGHT))),
     }
 }
 
@@ -73,7 +67,7 @@ pub fn strength(strength: Option<u16>) -> Option<Thousandths>
 {
     match strength {
         None => None,
-        Some(s) => Some(Thousandths::new(nearest_whole(s as i128 * 1000, 16))),
+        Some(s) => Some(Thousandths::new(nearest_whole(s as i64, 1000, 8))),
     }
 }
 
