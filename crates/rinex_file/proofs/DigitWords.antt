@@ -257,29 +257,28 @@ more_digits n w first last z part lost strength are high big small p l s is =
           ∙ ap₂ (λ k t. replicate k 32 ++ t) (sym start) (sym (append_assoc (decimal n) ((48 + w / 10 % 10) ∷ (48 + w % 10) ∷ []) rest) ∙ ap (λ t. t ++ rest) (sym d)),
     )
 
--- the columns of a size in thousandths
-module _ (size digits front last lost strength : ℕ) (fits : size < 10 ^ 13) (l : lost < 256) (s : strength < 256)
-    (is_digits : digits ≡ word (eight_digits (size / 100_000))) (is_front : front ≡ front_word 8 (trailing_zeros w64 digits / 8))
-    (is_last : last ≡ word (last_columns (48 + size % 100_000 / 1000 / 10) (size % 100_000 / 1000 % 10) (size % 100_000 % 1000) lost strength)) where
-  first : AreFirst (size / 100_000) (digits + front) (trailing_zeros w64 digits / 8)
-  first = first_columns (size / 100_000) digits front (trailing_zeros w64 digits / 8) (omega (arith, fits)) is_digits refl is_front
+-- eight blanks
+no_digits : AreFirst 0 0x2020_2020_2020_2020 8
+no_digits = (refl, refl)
 
-  part : size % 100_000 % 1000 ≡ size % 1000
-  part = omega arith
+-- the columns of a size in thousandths, below 10.000, below 100.000 and from there on
+module _ (size last lost strength : ℕ) (l : lost < 256) (s : strength < 256)
+    (is_last : last ≡ word (last_columns (48 + size / 1000 / 10) (size / 1000 % 10) (size % 1000) lost strength)) where
+  pub columns_below : size < 10_000 → AreColumns 0x2020_2020_2020_2020 (last - 16) 9 (size / 1000) (size % 1000) lost strength
+  columns_below small = one_digit 0 (size / 1000) 0x2020_2020_2020_2020 last 8 (size % 1000) lost strength no_digits refl (omega (arith, small)) (omega arith) l s is_last
 
-  shown : (tens ones : ℕ) → size % 100_000 / 1000 / 10 ≡ tens → size % 100_000 / 1000 % 10 ≡ ones → last ≡ word (last_columns (48 + tens) ones (size % 1000) lost strength)
-  shown tens ones a b = is_last ∙ ap₂ (λ x y. word (last_columns (48 + x) y (size % 100_000 % 1000) lost strength)) a b ∙ ap (λ p. word (last_columns (48 + tens) ones p lost strength)) part
+  pub columns_two : 10_000 ≤ size → size < 100_000 → AreColumns 0x2020_2020_2020_2020 last 8 (size / 1000) (size % 1000) lost strength
+  columns_two big small = two_more 0 (size / 1000) 0x2020_2020_2020_2020 last 8 (size % 1000) lost strength no_digits refl (omega (arith, big)) (omega (arith, small)) (omega arith) l s is_last
 
-  pub columns_below : size < 10_000 → AreColumns (digits + front) (last - 16) 9 (size / 1000) (size % 1000) lost strength
-  columns_below small =
-      one_digit (size / 100_000) (size / 1000) (digits + front) last (trailing_zeros w64 digits / 8) (size % 1000) lost strength first (omega (arith, small)) (omega (arith, small)) (omega arith) l s
-      (shown (size / 1000 / 10) (size / 1000 % 10) (omega (arith, small)) (omega (arith, small)))
-
-  pub columns_from : (size < 10_000 → ⊥) → AreColumns (digits + front) last (trailing_zeros w64 digits / 8) (size / 1000) (size % 1000) lost strength
-  columns_from big =
-      elim (cases_lt size 100_000) [
-        | inl small ↦ two_more (size / 100_000) (size / 1000) (digits + front) last (trailing_zeros w64 digits / 8) (size % 1000) lost strength first (omega (arith, small)) (omega (arith, big)) (omega (arith, small)) (omega arith) l s
-            (shown (size / 1000 / 10) (size / 1000 % 10) (omega (arith, small)) (omega (arith, small)))
-        | inr more ↦ more_digits (size / 100_000) (size / 1000) (digits + front) last (trailing_zeros w64 digits / 8) (size % 1000) lost strength first (omega arith) (omega (arith, more)) (omega (arith, fits)) (omega arith) l s
-            (shown (size / 1000 / 10 % 10) (size / 1000 % 10) (omega arith) (omega arith))
-      ]
+pub columns_from : (size digits front last lost strength : ℕ) → 100_000 ≤ size → size < 10 ^ 13 → lost < 256 → strength < 256
+    → digits ≡ word (eight_digits (size / 100_000)) → front ≡ front_word 8 (trailing_zeros w64 digits / 8)
+    → last ≡ word (last_columns (48 + size % 100_000 / 1000 / 10) (size % 100_000 / 1000 % 10) (size % 100_000 % 1000) lost strength)
+    → AreColumns (digits + front) last (trailing_zeros w64 digits / 8) (size / 1000) (size % 1000) lost strength
+columns_from size digits front last lost strength big fits l s is_digits is_front is_last =
+    let first = first_columns (size / 100_000) digits front (trailing_zeros w64 digits / 8) (omega (arith, fits)) is_digits refl is_front in
+    let tens : size % 100_000 / 1000 / 10 ≡ size / 1000 / 10 % 10 = omega arith in
+    let ones : size % 100_000 / 1000 % 10 ≡ size / 1000 % 10 = omega arith in
+    let part : size % 100_000 % 1000 ≡ size % 1000 = omega arith in
+    let shown : last ≡ word (last_columns (48 + size / 1000 / 10 % 10) (size / 1000 % 10) (size % 1000) lost strength) =
+    is_last ∙ ap₂ (λ x y. word (last_columns (48 + x) y (size % 100_000 % 1000) lost strength)) tens ones ∙ ap (λ p. word (last_columns (48 + size / 1000 / 10 % 10) (size / 1000 % 10) p lost strength)) part in
+    more_digits (size / 100_000) (size / 1000) (digits + front) last (trailing_zeros w64 digits / 8) (size % 1000) lost strength first (omega arith) (omega (arith, big)) (omega (arith, fits)) (omega arith) l s shown

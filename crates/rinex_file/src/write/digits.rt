@@ -33,7 +33,7 @@ const FRONTS: [u64; 9] = [
 ];
 
 /// Returns the two digits of a number.
-fn pair(number: u64) -> u64
+fn pair(number: u32) -> u64
     requires { number < 100 }
     ensures { result ≡ number / 10 + number % 10 * 256 }
 {
@@ -50,12 +50,15 @@ fn front(zeros: usize) -> u64
     FRONTS[zeros]
 }
 
-/// Returns the eight digits of a number.
-fn eight(number: u64) -> u64
+/// Returns the eight digits of a number. Those of a Doppler shift are below 100.
+fn eight(number: u32) -> u64
     requires { number < 10 ^ 8 }
     ensures word { result ≡ word (eight_digits number) }
     ensures bound { result ≤ 0x0909_0909_0909_0909 }
 {
+    if number < 100 {
+        return pair(number) * 0x1_0000_0000_0000;
+    }
     let high = number / 10_000;
     let low = number % 10_000;
     pair(high / 100)
@@ -66,14 +69,14 @@ fn eight(number: u64) -> u64
 
 /// Returns the last eight columns of a value: two digits, a point, thousandths, and the LLI and SSI
 /// columns.
-fn last(two: u64, part: u64, lost: u8, strength: u8) -> u64
+fn last(two: u32, part: u32, lost: u8, strength: u8) -> u64
     requires two { two < 100 }
     requires part { part < 1000 }
     ensures word { result ≡ word (last_columns (48 + two / 10) (two % 10) part lost strength) }
     ensures bound { 48 ≤ result }
 {
     pair(two)
-        + part / 100 * 0x100_0000
+        + (part / 100) as u64 * 0x100_0000
         + pair(part % 100) * 0x1_0000_0000
         + lost as u64 * 0x1_0000_0000_0000
         + strength as u64 * 0x100_0000_0000_0000
@@ -89,22 +92,18 @@ pub(crate) struct Columns {
     pub(crate) start: usize,
 }
 
-/// Returns the columns of a size in thousandths: blanks, its whole part up to the tenth column, a
-/// point, thousandths, and the LLI and SSI columns.
+/// Returns the columns of a size in thousandths below 100.000, such as a strength: its first eight
+/// columns are blanks.
 #[inline(always)]
-pub(crate) fn columns_of(size: u64, lost: u8, strength: u8) -> Columns
-    requires { size < 10 ^ 13 }
+fn short_columns(size: u32, lost: u8, strength: u8) -> Columns
+    requires { size < 100_000 }
     ensures start { result.start + length (decimal (size / 1000)) ≡ 10 }
     ensures text { to_le_bytes w64 result.first ++ to_le_bytes w64 result.last
         ≡ replicate result.start 32
         ++ (decimal (size / 1000) ++ (46 ∷ padded 3 (size % 1000) ++ lost ∷ strength ∷ [])) }
 {
-    let high = size / 100_000;
-    let low = size % 100_000;
-    let digits = eight(high);
-    let zeros = digits.trailing_zeros() as usize / 8;
-    let first = digits + front(zeros);
-    let last = last(low / 1000, low % 1000, lost, strength);
+    let first = 0x2020_2020_2020_2020;
+    let last = last(size / 1000, size % 1000, lost, strength);
     // A zero before the last digit of the whole part is a blank, too.
     if size < 10_000 {
         return Columns {
@@ -116,6 +115,29 @@ pub(crate) fn columns_of(size: u64, lost: u8, strength: u8) -> Columns
     Columns {
         first,
         last,
+        start: 8,
+    }
+}
+
+/// Returns the columns of a size in thousandths: blanks, its whole part up to the tenth column, a
+/// point, thousandths, and the LLI and SSI columns.
+#[inline(always)]
+pub(crate) fn columns_of(size: u64, lost: u8, strength: u8) -> Columns
+    requires { size < 10 ^ 13 }
+    ensures start { result.start + length (decimal (size / 1000)) ≡ 10 }
+    ensures text { to_le_bytes w64 result.first ++ to_le_bytes w64 result.last
+        ≡ replicate result.start 32
+        ++ (decimal (size / 1000) ++ (46 ∷ padded 3 (size % 1000) ++ lost ∷ strength ∷ [])) }
+{
+    if size < 100_000 {
+        return short_columns(size as u32, lost, strength);
+    }
+    let digits = eight((size / 100_000) as u32);
+    let zeros = digits.trailing_zeros() as usize / 8;
+    let low = (size % 100_000) as u32;
+    Columns {
+        first: digits + front(zeros),
+        last: last(low / 1000, low % 1000, lost, strength),
         start: zeros,
     }
 }

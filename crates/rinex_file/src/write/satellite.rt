@@ -108,6 +108,7 @@ fn begin_row(line: &mut Line, system: System, id: u8, signals: usize)
 }
 
 /// Writes the columns of the signal at this index, after blanks if the line ends before them.
+#[inline(always)]
 fn put_at(line: &mut Line, place: usize, values: &SignalValues)
     requires fits { HaveRoom values.now }
     requires few { place < most_signals }
