@@ -203,15 +203,23 @@ impl<'a> MsmView<'a> {
     }
 
     /// Returns the data of satellite `i` in the form of MSM7: `kept` if `i` is `index`, otherwise
-    /// read from the message. MSM4 has no rate and no extended information: both are 0.
+    /// read from the message.
+    #[inline(always)]
     fn rough(&self, i: usize, index: usize, kept: Satellite7) -> Satellite7
         requires there { i < length self.now.msm.satellites }
         requires keeps { Keeps self.now.form self.now.msm.satellites index kept }
         ensures { result ≡ rough self.now.form (slice_index self.now.msm.satellites i) }
     {
-        if i == index {
-            return kept;
-        }
+        if i == index { kept } else { self.read_rough(i) }
+    }
+
+    /// Reads the data of satellite `i` in the form of MSM7. MSM4 has no rate and no extended
+    /// information: both are 0.
+    #[inline(never)]
+    fn read_rough(&self, i: usize) -> Satellite7
+        requires { i < length self.now.msm.satellites }
+        ensures { result ≡ rough self.now.form (slice_index self.now.msm.satellites i) }
+    {
         match self.form() {
             Form::Msm4 => {
                 let satellite = self.satellite::<Grid4>(i);
