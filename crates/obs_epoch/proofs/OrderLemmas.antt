@@ -7,10 +7,7 @@ use Rattle.std.proofs.lemmas.Map.Keys.{IsDistinct-head, IsDistinct-tail, IsDisti
 use Rattle.obs_epoch.specs.declared.epoch.SortKey.{SortKey}
 use Rattle.obs_epoch.specs.Cells.{has_same_key, is_among}
 use Rattle.obs_epoch.proofs.CellsLemmas.{same_key_laws}
-use Rattle.gnss_obs.specs.declared.system.System.{System}
-use Rattle.obs_epoch.specs.declared.cell.Cell.{Cell}
-use Rattle.obs_epoch.specs.Values.{PlanValue, planned_of}
-use Rattle.obs_epoch.specs.Order.{is_before, SortKeysRise, insert_by, insertion_index, cell_sort_key, sort_key_of, sorted}
+use Rattle.obs_epoch.specs.Order.{is_before, SortKeysRise, insert_by, insertion_index, sort_key_of, sorted}
 use Rattle.obs_epoch.specs.Heard.{HeardCell}
 use Rattle.std.proofs.lemmas.Grind.{common_steps}
 
@@ -110,11 +107,6 @@ module _ {X : Type 0} (s : SortKey) (f : X → SortKey) (xs : List X) (k : ℕ) 
 
 pub index_within : {X : Type 0} (s : SortKey) (f : X → SortKey) (xs : List X) → insertion_index s (map f xs) ≤ length xs
 index_within s f xs = let h = index_most s (map f xs) in let n = length-map xs f in omega (arith, h, n)
-
--- The sort key of a cell of a system, by the system of its signal.
-pub own_sort_key : (system : System) (p : PlanValue) (x : SortKey) (cell : Cell) (b v : Bool) → cell.signal.system ≡ system → b ≡ is_before x (cell_sort_key (planned_of cell.signal.system p) cell) → b ≡ v
-    → is_before x (cell_sort_key (planned_of system p) cell) ≡ v
-own_sort_key system p x cell b v same is e = ap (λ s. is_before x (cell_sort_key (planned_of s p) cell)) (sym same) ∙ sym is ∙ e
 
 -- ---- the same cells
 

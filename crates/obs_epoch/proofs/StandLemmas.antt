@@ -18,8 +18,9 @@ use Rattle.obs_epoch.specs.Gather.{Gathered, with_more_in, more_at, with_more, i
 use Rattle.obs_epoch.specs.Clock.{State}
 use Rattle.obs_epoch.specs.Step.{step_by}
 use Rattle.obs_epoch.specs.Loss.{lli_with}
-use Rattle.obs_epoch.proofs.OrderLemmas.{before_self, before_all, Before, get_before, insert_at_index, index_most, rise-insert_by, all-insert_by}
+use Rattle.obs_epoch.proofs.OrderLemmas.{before_self, before_all, Before, get_before, insert_at_index, index_most, rise-insert_by, all-insert_by, index_after, index_within}
 use Rattle.std.proofs.lemmas.List.Elements.{All-append, All-take, All-drop, All-cons}
+use Rattle.std.proofs.lemmas.List.{get_or_default}
 use Rattle.std.proofs.lemmas.List.Edits.{length-insert}
 use Rattle.std.proofs.lemmas.Grind.{common_steps}
 
@@ -103,6 +104,36 @@ held_is_last planned x (c ∷ cells) at r rise e none last = by at refl where
       let one : at - 1 ≡ n = omega (arith, f) in
       last c (omega (arith, f)) ∙ ap (λ k. same_key x.satellite x.signal (get_or (c ∷ cells) k c).satellite (get_or (c ∷ cells) k c).signal) one
       ∙ sym (any_last (λ d. same_key x.satellite x.signal d.satellite d.signal) (cell_sort_key planned) (sort_key_of planned x) (same_sort_key planned x) (c ∷ cells) n c rise (sym e ∙ f))
+
+-- A sort key that is greater than that of the last cell is greater than each, and its key isn't kept.
+pub after_last : (planned : List ℕ) (x : HeardCell) (cells : List Cell) → AreOrderedBy planned cells
+    → ((d : Cell) → 0 < length cells → true ≡ is_before (cell_sort_key planned (get_or cells (length cells - 1) d)) (sort_key_of planned x))
+    → (length cells ≡ insertion_index (sort_key_of planned x) (map (cell_sort_key planned) cells))
+    × (false ≡ list_any (λ c. same_key x.satellite x.signal c.satellite c.signal) cells)
+after_last planned x [] rise last = (refl, refl)
+after_last planned x (c ∷ cells) rise last =
+    let one : length (c ∷ cells) - 1 ≡ length cells = omega arith in
+    let less : is_before (cell_sort_key planned (get_or (c ∷ cells) (length cells) c)) (sort_key_of planned x) ≡ true =
+    ap (λ n. is_before (cell_sort_key planned (get_or (c ∷ cells) n c)) (sort_key_of planned x)) (sym one) ∙ sym (last c (omega arith)) in
+    let most = index_within (sort_key_of planned x) (cell_sort_key planned) (c ∷ cells) in
+    let least = least_at (length cells) (get_or (c ∷ cells) (length cells) c) (omega arith) (get_or_default (c ∷ cells) (length cells) c _ (omega arith)) less in
+    let index : length (c ∷ cells) ≡ insertion_index (sort_key_of planned x) (map (cell_sort_key planned) (c ∷ cells)) = omega (arith, most, least) in
+    (index, held_is_last planned x (c ∷ cells) (length (c ∷ cells)) false rise index (λ none. refl) (λ d some. sym (unlike_key (get_or (c ∷ cells) (length (c ∷ cells) - 1) d) (sym (last d some)))))
+  where
+    not_after : (a b : SortKey) → is_before a b ≡ true → is_before b a ≡ false
+    not_after a b h = grind (arith, h)
+
+    least_at : (k : ℕ) (m : Cell) → k < length (c ∷ cells) → m ≡ get_or (c ∷ cells) k m → is_before (cell_sort_key planned m) (sort_key_of planned x) ≡ true
+        → k + 1 ≤ insertion_index (sort_key_of planned x) (map (cell_sort_key planned) (c ∷ cells))
+    least_at k m h is less = index_after (sort_key_of planned x) (cell_sort_key planned) (c ∷ cells) k m h is rise (not_after (cell_sort_key planned m) (sort_key_of planned x) less)
+
+    unlike_key : (m : Cell) → is_before (cell_sort_key planned m) (sort_key_of planned x) ≡ true → same_key x.satellite x.signal m.satellite m.signal ≡ false
+    unlike_key m h = by (same_key x.satellite x.signal m.satellite m.signal) refl where
+      by : (b : Bool) → same_key x.satellite x.signal m.satellite m.signal ≡ b → b ≡ false
+      by false e = refl
+      by true e =
+          let self : is_before (sort_key_of planned x) (sort_key_of planned x) ≡ true = ap (λ k. is_before k (sort_key_of planned x)) (sym (same_sort_key planned x m e)) ∙ h in
+          sym self ∙ before_self (sort_key_of planned x)
 
 -- ---- one more cell
 

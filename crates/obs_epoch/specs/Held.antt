@@ -9,7 +9,7 @@ use Rattle.gnss_obs.specs.Satellites.{satellites}
 use Rattle.gnss_obs.specs.Signals.{table}
 use Rattle.obs_epoch.specs.declared.cell.Cell.{Cell}
 use Rattle.obs_epoch.specs.Heard.{GatherSetup, HeardCell, heard_cell}
-use Rattle.obs_epoch.specs.Cells.{is_among, firsts, has_same_key, same_key, is_planned, has_listed_key}
+use Rattle.obs_epoch.specs.Cells.{is_among, firsts, has_same_key, is_planned, has_listed_key}
 use Rattle.obs_epoch.specs.Values.{most_cells}
 use Rattle.obs_epoch.specs.Loss.{lock_of}
 use Rattle.obs_epoch.specs.declared.locks.KnownLock.{KnownLock}
@@ -65,10 +65,6 @@ pub record TracksLocks (locks : List (Option KnownLock)) (noted : List HeardCell
 
 abbrev pub is_held : List Cell → HeardCell → Bool
 is_held ms x = list_any (λ m. has_same_key x (heard_cell m)) ms
-
--- A cell of the same key.
-abbrev pub is_cell_of : HeardCell → Cell → Bool
-is_cell_of x c = same_key x.satellite x.signal c.satellite c.signal
 
 -- The outcome of a cell.
 pub data CellOutcome : Type 0 where

@@ -6,7 +6,8 @@ ghost use Rattle.obs_epoch.specs.declared.cell.Cell.{Cell};
 ghost use Rattle.obs_epoch.specs.Values.{AreHeld, MayBeHeld, cells_of, satellites_written, is_written, written_among};
 ghost use Rattle.obs_epoch.specs.Values.{most_cells, most_written, planned_of, run};
 ghost use Rattle.obs_epoch.specs.Heard.{heard_cell, IsKey, IsObserved};
-ghost use Rattle.obs_epoch.specs.Held.{is_held, is_cell_of, note_all};
+ghost use Rattle.obs_epoch.specs.Held.{is_held, note_all};
+ghost use Rattle.obs_epoch.specs.Cells.{same_key};
 ghost use Rattle.obs_epoch.specs.Gather.{more_at, insertion_index_in, AreInOrder};
 ghost use Rattle.obs_epoch.specs.Order.{AreSorted, AreOrderedBy, sort_key, is_before, cell_sort_key, insertion_index};
 ghost use Rattle.gnss_obs.specs.Satellites.{satellites as satellites_in};
@@ -93,8 +94,11 @@ impl Epoch {
     {
         let system = x.satellite.system();
         let cells = self.cells(system);
-        let at = insertion_index(cells, plan, sort_key(plan, x.satellite, x.signal), system);
-        (at, is_last(cells, at, x))
+        let key = sort_key(plan, system, x.satellite, x.signal);
+        if is_after_last(cells, plan, system, key) {
+            return (cells.len(), false);
+        }
+        search(cells, plan, system, key, x.satellite, x.signal)
     }
 
     // Inserts a cell at an index.
@@ -164,14 +168,53 @@ impl Epoch {
     }
 }
 
-// Returns the sort key of a satellite and signal.
-fn sort_key(plan: &Plan, satellite: Sat, signal: Signal) -> SortKey
-    ensures { result ≡ sort_key (planned_of signal.system plan.now) satellite signal }
+// Returns the sort key of a satellite and signal of a system.
+fn sort_key(plan: &Plan, system: System, satellite: Sat, signal: Signal) -> SortKey
+    ensures { result ≡ sort_key (planned_of system plan.now) satellite signal }
 {
     SortKey {
         satellite: satellite.id(),
-        place: plan.place(signal).unwrap_or(0),
+        place: plan.place_among(system, signal).unwrap_or(0),
     }
+}
+
+// Returns whether a sort key is greater than that of the last cell, or there is no cell. Cells
+// usually arrive in this order.
+#[inline(always)]
+fn is_after_last(cells: &[Cell], plan: &Plan, system: System, x: SortKey) -> bool
+    ensures { (d : Cell) → 0 < length cells.now → result ≡ is_before
+        (cell_sort_key (planned_of system plan.now) (slice_index_or cells.now (length cells.now - 1) d)) x }
+{
+    if cells.is_empty() {
+        return true;
+    }
+    let cell = &cells[cells.len() - 1];
+    let id = cell.satellite.id();
+    if id != x.satellite {
+        return id < x.satellite;
+    }
+    plan.place_among(system, cell.signal).unwrap_or(0) < x.place
+}
+
+// Returns the insertion index of a cell, and whether a cell of its key is kept before that index.
+#[inline(never)]
+fn search(
+    cells: &[Cell],
+    plan: &Plan,
+    system: System,
+    key: SortKey,
+    satellite: Sat,
+    signal: Signal,
+) -> (usize, bool)
+    requires order { AreOrderedBy (planned_of system plan.now) cells.now }
+    ensures index { result.0 ≡ insertion_index key (map (cell_sort_key (planned_of system plan.now)) cells.now) }
+    ensures none { result.0 ≡ 0 → result.1 ≡ false }
+    ensures last { (d : Cell) → 0 < result.0 → result.1 ≡ same_key satellite signal
+        (slice_index_or cells.now (result.0 - 1) d).satellite (slice_index_or cells.now (result.0 - 1) d).signal }
+    ensures bound { result.0 ≤ length cells.now }
+{
+    let at = insertion_index(cells, plan, key, system);
+    (at, is_last(cells, at, satellite, signal))
 }
 
 // Returns whether a sort key is less than another: by satellite, then by index in the plan.
@@ -181,19 +224,16 @@ fn is_before(a: SortKey, b: SortKey) -> bool
     a.satellite < b.satellite || a.satellite == b.satellite && a.place < b.place
 }
 
-// Returns the number of cells whose sort key isn't greater. Cells usually arrive in this order, so
-// the search begins at the last cell.
-#[inline(always)]
+// Returns the number of cells whose sort key isn't greater.
 fn insertion_index(cells: &[Cell], plan: &Plan, x: SortKey, system: System) -> usize
-    requires held { AreHeld system cells.now }
-    requires order { AreOrderedBy (planned_of system plan.now) cells.now }
+    requires { AreOrderedBy (planned_of system plan.now) cells.now }
     ensures index { result ≡ insertion_index x (map (cell_sort_key (planned_of system plan.now)) cells.now) }
     ensures bound { result ≤ length cells.now }
 {
     let mut at = cells.len();
     while at > 0 {
         let cell = &cells[at - 1];
-        if !is_before(x, sort_key(plan, cell.satellite, cell.signal)) {
+        if !is_before(x, sort_key(plan, system, cell.satellite, cell.signal)) {
             return at;
         }
         at -= 1;
@@ -235,7 +275,7 @@ fn written(cells: &[Cell], system: System) -> usize
     let mut last = 0;
     for i in 0..cells.len() {
         let id = cells[i].satellite.id();
-        if cells[i].has_value() && id != last {
+        if id != last && cells[i].has_value() {
             count += 1;
             last = id;
         }
@@ -260,18 +300,19 @@ fn insert_cell(cells: &mut ArrayVec<Cell, MOST_CELLS>, at: usize, x: Cell)
 }
 
 // Returns whether the cell before an index is of the same satellite and signal.
-fn is_last(cells: &[Cell], at: usize, x: &Cell) -> bool
+fn is_last(cells: &[Cell], at: usize, satellite: Sat, signal: Signal) -> bool
     requires { at ≤ length cells.now }
     ensures none { at ≡ 0 → result ≡ false }
-    ensures last { (d : Cell) → 0 < at → result ≡ is_cell_of (heard_cell x.now) (slice_index_or cells.now (at - 1) d) }
+    ensures last { (d : Cell) → 0 < at → result ≡ same_key satellite signal
+        (slice_index_or cells.now (at - 1) d).satellite (slice_index_or cells.now (at - 1) d).signal }
 {
     if at == 0 {
         return false;
     }
     let c = &cells[at - 1];
-    is_same_system(x.satellite.system(), c.satellite.system())
-        && x.satellite.id() == c.satellite.id()
-        && x.signal.index() == c.signal.index()
+    is_same_system(satellite.system(), c.satellite.system())
+        && satellite.id() == c.satellite.id()
+        && signal.index() == c.signal.index()
 }
 
 fn note_cells(locks: &mut Locks, time: u64, cells: &[Cell])

@@ -116,7 +116,14 @@ impl Plan {
     pub fn place(&self, signal: Signal) -> Option<usize>
         ensures place { result ≡ place_in signal (planned_of signal.system self.now) }
     {
-        match signal.system() {
+        self.place_among(signal.system(), signal)
+    }
+
+    // Returns the index of a signal among the wanted signals of this system, which is its own.
+    pub(crate) fn place_among(&self, system: System, signal: Signal) -> Option<usize>
+        ensures { result ≡ place_in signal (planned_of system self.now) }
+    {
+        match system {
             System::Gps => self.gps.place(signal),
             System::Galileo => self.galileo.place(signal),
         }
