@@ -10,7 +10,7 @@ ghost use Rattle.obs_epoch.specs.Order.{AreSortedByPlan};
 ghost use Rattle.obs_epoch.specs.Plans.{place_in};
 ghost use Rattle.obs_epoch.specs.Heard.{heard_cell, IsObserved};
 ghost use Rattle.obs_epoch.specs.Epochs.{values_by_message, values_of};
-ghost use Rattle.obs_epoch.specs.Held.{count_in, most_locks, recorded};
+ghost use Rattle.obs_epoch.specs.Held.{count_in, most_locks, no_locks, recorded};
 ghost use Rattle.obs_epoch.specs.Step.{kind_by, closed_by as closes};
 ghost use Rattle.obs_epoch.specs.Values.{Closed, cells_of, most_cells, planned_of};
 ghost use Rattle.obs_epoch.specs.Kinds.{is_no_station, setup_at, setup_of, with_counts};
@@ -18,7 +18,7 @@ ghost use Rattle.obs_epoch.specs.Gathering.{HasGatheredEpochs, closed_by, closed
 ghost use Rattle.obs_epoch.specs.Calls.{TakesMessage, EndsPendingEpoch, StaysEnded, HoldsCells, HoldsLockedKeys};
 ghost use Rattle.obs_epoch.specs.declared.fault.PlanFault.{PlanFault};
 ghost use Rattle.obs_epoch.specs.Gather.{take_step, end_step, loaded_if, load_entry, load_entries, epoch_begun};
-ghost use Rattle.obs_epoch.specs.Gather.{load, rested, outcome_in, hold};
+ghost use Rattle.obs_epoch.specs.Gather.{load, rested, outcome_in, hold, no_epoch};
 ghost use Rattle.obs_epoch.specs.Cells.{cells_counted, no_counts};
 
 use crate::cell::{Cell, StationValues};
@@ -117,22 +117,33 @@ impl Gatherer {
         ensures only { IfErr result
             (λ e. (e ≡ PlanFault.BadWeek) ⊎ ((e ≡ PlanFault.BadStation) ⊎ (e ≡ PlanFault.Memory))) }
     {
-        if start_week as u64 >= WEEKS {
-            return Err(PlanFault::BadWeek);
+        match new_locks(alloc, start_week, station) {
+            Ok(locks) => {
+                let clock = Clock::new(plan, start_week, station, gather, initial);
+                Ok(Gatherer::of(clock, locks, initial))
+            }
+            Err(fault) => Err(fault),
         }
-        if station.is_some_and(|number| number > 4_095) {
-            return Err(PlanFault::BadStation);
-        }
-        let Ok(locks) = Locks::new(alloc) else {
-            return Err(PlanFault::Memory);
-        };
-        Ok(Gatherer {
-            clock: Clock::new(plan, start_week, station, gather, initial),
+    }
+
+    // Returns a gatherer before its first message.
+    fn of(clock: Clock, locks: Locks, initial: StationValues) -> Gatherer
+        ensures { result ≡ record {
+          clock = clock;
+          epoch = no_epoch;
+          locks = locks;
+          values = initial;
+          just_closed = false;
+          has_ended = false;
+        } }
+    {
+        Gatherer {
+            clock,
             epoch: Epoch::new(initial),
             locks,
             just_closed: false,
             has_ended: false,
-        })
+        }
     }
 
     /// Processes a message of any kind; `end` must not have been called. If the kind is
@@ -363,4 +374,23 @@ impl Gatherer {
             Some(x) => self.take_cell(x, n),
         }
     }
+}
+
+// Returns empty lock records, if the start week and the station are valid.
+fn new_locks(alloc: Global, start_week: u32, station: Option<u16>) -> Result<Locks, PlanFault>
+    ensures none { IfOk result (λ l. l ≡ no_locks) }
+    ensures accepted { IsOk result → (start_week < weeks) × (is_no_station station ≡ false) }
+    ensures week { (result ≡ Err PlanFault.BadWeek) ↔ (weeks ≤ start_week) }
+    ensures station { (result ≡ Err PlanFault.BadStation)
+        ↔ ((start_week < weeks) × (is_no_station station ≡ true)) }
+    ensures only { IfErr result
+        (λ e. (e ≡ PlanFault.BadWeek) ⊎ ((e ≡ PlanFault.BadStation) ⊎ (e ≡ PlanFault.Memory))) }
+{
+    if start_week as u64 >= WEEKS {
+        return Err(PlanFault::BadWeek);
+    }
+    if station.is_some_and(|number| number > 4_095) {
+        return Err(PlanFault::BadStation);
+    }
+    Locks::new(alloc).map_err(|_| PlanFault::Memory)
 }
