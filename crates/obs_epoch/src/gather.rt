@@ -1,6 +1,7 @@
 //! Gathers messages into epochs, with loss of lock indicators.
 ghost use Rattle.std.specs.Prelude.{[], ◌≡◌, ◌↔◌, ◌⊎◌, ◌+◌, ◌<◌, ◌≤◌, true, false, length, None, Some, is_some, IfOk};
 ghost use Rattle.std.specs.Prelude.{IfErr, IfSome, IsOk, Err, option_map, option_to_list, not, List, Option};
+ghost use Rattle.std.specs.Option.{ForSome};
 ghost use Rattle.rtcm_msg.specs.Entries.{IsEntry};
 ghost use Rattle.rtcm_msg.specs.Msm.{codes_of, most_pairs, week};
 ghost use Rattle.rtcm_msg.specs.Viewed.{viewed_message, lock_field};
@@ -18,7 +19,7 @@ ghost use Rattle.obs_epoch.specs.Gathering.{HasGatheredEpochs, closed_by, closed
 ghost use Rattle.obs_epoch.specs.Calls.{TakesMessage, EndsPendingEpoch, StaysEnded, HoldsCells, HoldsLockedKeys};
 ghost use Rattle.obs_epoch.specs.declared.fault.PlanFault.{PlanFault};
 ghost use Rattle.obs_epoch.specs.Gather.{take_step, end_step, loaded_if, load_entry, load_entries, epoch_begun};
-ghost use Rattle.obs_epoch.specs.Gather.{load, rested, outcome_in, hold, no_epoch};
+ghost use Rattle.obs_epoch.specs.Gather.{load, rested, outcome_in, hold, no_epoch, with_time};
 ghost use Rattle.obs_epoch.specs.Cells.{cells_counted, no_counts};
 
 use crate::cell::{Cell, StationValues};
@@ -28,7 +29,7 @@ use crate::fault::PlanFault;
 use crate::locks::{Locks, lli};
 use crate::observe::{observe, system_of};
 use crate::plan::Plan;
-use crate::taken::{CellCounts, Gather, Taken, no_counts};
+use crate::taken::{CellCounts, Gather, Kind, Taken, no_counts};
 use crate::time::{GpsTime, WEEKS};
 use gnss_obs::System;
 use rtcm_msg::{Entries, Entry, LockField, Message, Summary, View};
@@ -248,19 +249,30 @@ impl Gatherer {
         ensures step { self.new ≡ (take_step self.old (heard (viewed_message view.now))).state }
     {
         let before = self.clock.latest();
-        let said = view.summary();
-        let values = self.values_after(&said);
-        self.epoch.set_values(values);
-        let (kind, closed) = self.clock.step(&said);
-        self.just_closed = closed.is_some();
+        let (kind, closed) = self.hear(&view.summary());
         let counts = self.load(kind.is_kept(), before, view);
-        if closed.is_some() {
+        if closed {
             self.epoch.note_locks(&mut self.locks);
         }
         Taken {
             kind: kind.with_counts(counts),
-            closed: closed.is_some(),
+            closed,
         }
+    }
+
+    // Processes the time and the station values of a message. Returns its outcome, with counts of
+    // 0, and whether it closes an epoch.
+    fn hear(&mut self, said: &Summary) -> (Kind, bool)
+        requires { ForSome said.now.time (λ tow. tow < week) }
+        ensures kind { result.0 ≡ kind_by self.old.clock no_counts (heard_summary said.now) }
+        ensures closed { result.1 ≡ is_some (closes self.old.clock (heard_summary said.now)) }
+        ensures step { self.new ≡ with_time self.old (heard_summary said.now) }
+    {
+        let values = self.values_after(said);
+        self.epoch.set_values(values);
+        let (kind, closed) = self.clock.step(said);
+        self.just_closed = closed.is_some();
+        (kind, self.just_closed)
     }
 
     fn finish(&mut self) -> bool
