@@ -1,5 +1,6 @@
 //! Plans: the wanted signals of each system.
 ghost use Rattle.std.specs.Prelude.{◌≡◌, ◌<◌, ◌≤◌, ◌+◌, ◌∷◌, [], length, slice_index, IfErr, IfSome, Err, option_map};
+ghost use Rattle.std.specs.Prelude.{IsOk, MatchResult};
 ghost use Rattle.gnss_obs.specs.declared.system.System.TheVariants.{Gps, Galileo};
 ghost use Rattle.gnss_obs.specs.Signals.{table};
 ghost use Rattle.obs_epoch.specs.Values.{planned_of};
@@ -51,11 +52,8 @@ impl Plan {
     {
         let mut first = Signals::new(alloc);
         let mut second = Signals::new(alloc);
-        read_both(&mut first, &mut second, gps, galileo)?;
-        Ok(Plan {
-            gps: first,
-            galileo: second,
-        })
+        let added = read_both(&mut first, &mut second, gps, galileo);
+        Plan::with(added, first, second)
     }
 
     /// Returns the plan of these signals in this order.
@@ -76,11 +74,20 @@ impl Plan {
     {
         let mut first = Signals::new(alloc);
         let mut second = Signals::new(alloc);
-        add_both(&mut first, &mut second, gps, galileo)?;
-        Ok(Plan {
-            gps: first,
-            galileo: second,
-        })
+        let added = add_both(&mut first, &mut second, gps, galileo);
+        Plan::with(added, first, second)
+    }
+
+    // Returns the plan of these signals, if they were added without a fault.
+    fn with(added: Added, gps: Signals, galileo: Signals) -> Result<Plan, PlanFault>
+        requires { IsOk added → IsOf Gps gps × IsOf Galileo galileo }
+        ensures { MatchResult result
+            (λ p. IsOk added × (p ≡ record { gps = indices gps; galileo = indices galileo })) (λ e. added ≡ Err e) }
+    {
+        match added {
+            Ok(()) => Ok(Plan { gps, galileo }),
+            Err(fault) => Err(fault),
+        }
     }
 
     /// Returns the number of wanted signals of a system.
