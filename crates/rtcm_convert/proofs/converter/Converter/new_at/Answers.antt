@@ -1,0 +1,109 @@
+use Rattle.std.proofs.Common.{◌≡◌, ◌≤◌, ◌^◌, ℕ, List, [], refl, sym, ap, subst, inl, inr, arith, true≢false, Result, Ok, Err}
+use Rattle.rtcm_scan.specs.Decided.{decided_frames, frames_before}
+use Rattle.rtcm_scan.specs.Drained.{IsDrained}
+use Rattle.rtcm_scan.specs.Examined.{HasExamined, IsCountedExactly}
+use Rattle.rtcm_scan.specs.Frames.{Framed, frames_of, frames_from}
+use Rattle.rtcm_scan.specs.Known.{known_frames}
+use Rattle.rtcm_scan.specs.Results.{new_scan}
+use Rattle.rtcm_scan.specs.Scan.{FramerValue}
+use Rattle.obs_epoch.specs.Reach.{AreStationValues}
+use Rattle.rtcm_convert.specs.Filed.{HasFiledFrames}
+use Rattle.rtcm_convert.specs.SetupValues.{Start, start_at, start_value, IsBadAt, IsBadStart}
+use Rattle.rtcm_convert.specs.Stream.{HasDrained}
+use Rattle.rtcm_convert.proofs.converter.Converter.new_at.Goals.{then-setup-gt-MOST_BYTES-via-then-setup-gt-MOST_BYTES, then-setup-gt-MOST_BYTES-via-else-setup-gt-MOST_BYTES+then-not-fits_message}
+use Rattle.rtcm_convert.proofs.converter.Converter.new_at.Goals as goal
+
+none_known : (v : FramerValue) (limit : ℕ) → v ≡ new_scan limit → [] ≡ known_frames v.has_ended []
+unfolding decided_frames frames_before frames_of frames_from
+none_known v limit e = sym (ap (λ (x : FramerValue). known_frames x.has_ended []) e)
+
+new_drained : (v : FramerValue) (limit : ℕ) → v ≡ new_scan limit → HasExamined v [] [] → IsDrained v [] [] → IsCountedExactly v [] → HasDrained v []
+new_drained v limit e framer drained counted = record {
+  framer = subst (λ (l : List Framed). HasExamined v [] l) (none_known v limit e) framer;
+  drained = subst (λ (l : List Framed). IsDrained v [] l) (none_known v limit e) drained;
+  counted = counted;
+}
+
+bad_start : (x : Start) → AreStationValues x.initial → x.setup.limit ≤ 2 ^ 48 → IsBadAt x → IsBadStart x.setup
+bad_start x fits within (inl unfit) = absurd (unfit fits)
+bad_start x fits within (inr (inl over)) = absurd (omega (arith, within, over))
+bad_start x fits within (inr (inr start)) = start
+
+not_err : {A E P : Type 0} (x : A) (e : E) → Ok x ≡ Err e → P
+not_err x e h = absurd cc
+
+same_err : {A B E : Type 0} (e f : E) → ◌≡◌ {A = Result A E} (Err e) (Err f) → ◌≡◌ {A = Result B E} (Err e) (Err f)
+same_err e f h = let k : e ≡ f = cc in ap Err k
+
+pub returns-then-setup-gt-MOST_BYTES : goal.returns-then-setup-gt-MOST_BYTES
+returns-then-setup-gt-MOST_BYTES c = record {
+  history = tt;
+  fresh = tt;
+  bad = (
+    λ _. elim c.then-setup-gt-MOST_BYTES.branch [
+      | then-setup-gt-MOST_BYTES-via-then-setup-gt-MOST_BYTES w ↦ inr (inl w.if-setup-gt-MOST_BYTES.true)
+      | then-setup-gt-MOST_BYTES-via-else-setup-gt-MOST_BYTES+then-not-fits_message w ↦ inl (λ a. true≢false (sym (w.if-not-fits_message.ensures.1 a)))
+    ],
+    λ _. refl,
+  );
+  fits = tt;
+  only = inl refl;
+}
+
+pub returns-in-Ok-new : goal.returns-in-Ok-new
+returns-in-Ok-new c =
+    let n = c.in-Ok-new.ensures in
+    let x = start_at c.args.setup c.args.initial in
+    let fits = c.if-not-fits_message.ensures.0 refl in
+    let d = new_drained c.in-Ok-new.framer c.args.setup.limit n.new n.counts n.drained n.counted in
+    record {
+      history = record {
+        going = record { fine = refl; more = refl };
+        drained = record {
+          framer = d.framer;
+          drained = d.drained;
+          counted = d.counted;
+          file_writer = subst (λ (l : List Framed). HasFiledFrames c.in-Ok.file_writer (start_value x) l) (none_known _ _ n.new) c.in-Ok.ensures.history;
+        };
+      };
+      fresh = (ap (λ v. v.limit) n.new, ap (λ v. v.taken) n.new);
+      bad = (λ e. not_err _ _ e, λ b. not_err _ _ (c.in-Ok.ensures.bad.1 (bad_start x fits c.if-setup-gt-MOST_BYTES.false b)));
+      fits = fits;
+      only = tt;
+    }
+
+pub returns-in-Err-new : goal.returns-in-Err-new
+returns-in-Err-new c =
+    let x = start_at c.args.setup c.args.initial in
+    record {
+      history = tt;
+      fresh = tt;
+      bad = (λ e. absurd (cc e), λ b. not_err _ _ (c.in-Ok.ensures.bad.1 (bad_start x (c.if-not-fits_message.ensures.0 refl) c.if-setup-gt-MOST_BYTES.false b)));
+      fits = tt;
+      only = inr refl;
+    }
+
+pub returns-in-Err : goal.returns-in-Err
+returns-in-Err c =
+    let x = start_at c.args.setup c.args.initial in
+    record {
+      history = tt;
+      fresh = tt;
+      bad = (
+        λ e. inr (inr (c.in-Err.ensures.bad.0 (same_err _ _ e))),
+        λ b. same_err _ _ (c.in-Err.ensures.bad.1 (bad_start x (c.if-not-fits_message.ensures.0 refl) c.if-setup-gt-MOST_BYTES.false b)),
+      );
+      fits = tt;
+      only = c.in-Err.ensures.only;
+    }
+
+pub invariant_of-result : goal.invariant_of-result
+invariant_of-result c =
+    let n = c.in-Ok-new.ensures in
+    record {
+      going = λ _. c.in-Ok.ensures.going;
+      listening = λ _. ap (λ v. v.has_ended) n.new;
+      ready = λ _. ap (λ v. v.is_ready) n.new;
+      drained = λ _. ([], new_drained c.in-Ok-new.framer c.args.setup.limit n.new n.counts n.drained n.counted);
+      examined = ([], [], n.counts);
+    }
