@@ -1,14 +1,20 @@
 -- A piece that a converter accepts, and the end of its stream.
-use Rattle.std.proofs.Common.{◌≡◌, ℕ, ◌<◌, ◌++◌, List, Bool, true, false, subst, ◌∙◌, Option, suc, zero, arith, refl}
+use Rattle.std.proofs.Common.{◌≡◌, ℕ, ◌<◌, ◌++◌, List, length, Bool, true, false, sym, subst, ◌∙◌, Option, suc, zero, arith, refl, true≢false}
 use Rattle.rtcm_bits.specs.Device.{Device}
 use Rattle.rtcm_scan.specs.Examined.{HasExaminedSome}
 use Rattle.rtcm_scan.specs.Passing.{Passes, Breaks, PassesToLimit, AtFault, up_to_limit}
 use Rattle.rtcm_scan.specs.Scan.{FramerValue}
 use Rattle.rtcm_scan.specs.declared.feed.StreamFault.{StreamFault}
 use Rattle.rtcm_scan.specs.declared.feed.StreamFault.TheVariants.{Read, TooLong, Sink}
-use Rattle.rtcm_convert.specs.Conversion.{Conversion, kept_of, KeepsNow, IsGoing, IsFit, HasConverted, HasFinished, TakesPiece, CutsAtLimit, WritesPrefixOfAdded}
+use Rattle.rtcm_convert.specs.Conversion.{Conversion, kept_of, KeepsNow, IsGoing, IsFit, HasConverted, HasFinished, TakesPiece, CutsAtLimit, WritesPrefixOfAdded, FinishesNow, FinishesEmptyNow}
 use Rattle.rtcm_convert.specs.Converted.{SetupValue}
 use Rattle.rtcm_convert.specs.Kept.{IsKeptAtEnd, IsWithinBounds}
+use Rattle.rtcm_scan.specs.Decided.{skipped_before}
+use Rattle.rtcm_scan.specs.Frames.{frames_of}
+use Rattle.rtcm_scan.specs.Known.{known_place}
+use Rattle.rtcm_convert.specs.Outcomes.{report_with}
+use Rattle.rtcm_convert.specs.declared.report.Report.{Report}
+use Rattle.rtcm_convert.specs.declared.tally.Tally.{Tally}
 use Rattle.rtcm_convert.specs.Laws.{FiledGrows}
 use Rattle.rtcm_convert.specs.Stream.{Files, BreaksFiling, EndsBytes, AppendsDecided}
 use Rattle.rtcm_convert.specs.declared.file_writer.FileWriter.{FileWriter}
@@ -25,6 +31,25 @@ sink_of f x P Q R e a = subst (λ (y : StreamFault _). AtFault y P Q R) e a
 
 abbrev pub with_flags : Bool → Bool → FramerValue → FileWriter → Conversion
 with_flags failed over v w = record { scan = v; file_writer = w; has_failed = failed; has_ended = over }
+
+-- nothing is asked of a converter that has failed or ended but that its framer examined some bytes
+pub failed_fit : (over : Bool) (v : FramerValue) (w : FileWriter) → HasExaminedSome v → IsFit (with_flags true over v w)
+failed_fit over v w some = record {
+  going = λ go. absurd (true≢false go.fine);
+  listening = λ go. absurd (true≢false go.fine);
+  ready = λ go. absurd (true≢false go.fine);
+  drained = λ go. absurd (true≢false go.fine);
+  examined = some;
+}
+
+pub ended_fit : (failed : Bool) (v : FramerValue) (w : FileWriter) → HasExaminedSome v → IsFit (with_flags failed true v w)
+ended_fit failed v w some = record {
+  going = λ go. absurd (true≢false go.more);
+  listening = λ go. absurd (true≢false go.more);
+  ready = λ go. absurd (true≢false go.more);
+  drained = λ go. absurd (true≢false go.more);
+  examined = some;
+}
 
 module _ {W : Type 0} (c : W → Option (List ℕ)) (failed over : Bool) (v v' : FramerValue) (w w' : FileWriter) (o o' : Device W) (piece : List ℕ) where
   pub fed_whole : KeepsNow (with_flags failed over v' w') → v.has_ended ≡ false → v'.has_ended ≡ false → Passes (Files c) v w o v' w' o' piece → TakesPiece (with_flags failed over v w) (with_flags failed over v' w') (c o.inner) (c o'.inner) piece
@@ -67,9 +92,38 @@ some (suc n) m e h = omega (arith, e)
 abbrev pub KeepsAtEnd : Conversion → Type 0
 KeepsAtEnd x = (s : SetupValue) (b : List ℕ) → HasFinished x s b → IsKeptAtEnd s b (kept_of x)
 
+same_report : (m n k l : ℕ) (t u : Tally) (d e : ℕ) → m ≡ n → k ≡ l → t ≡ u → d ≡ e → report_with m k t d ≡ report_with n l u e
+same_report m n k l t u d e p q r s = rw (p, q, r, s) refl
+
 module _ (failed over : Bool) (v v' : FramerValue) (w w' : FileWriter) (a b : Option (List ℕ)) (ends : EndsBytes v w v' w' a b)
     (keeps : KeepsAtEnd (with_flags failed true v' w')) (within : IsWithinBounds v'.taken (kept_of (with_flags failed true v' w'))) where
   finished : (s : SetupValue) (bytes : List ℕ) → HasConverted (with_flags failed over v w) s bytes → HasFinished (with_flags failed true v' w') s bytes
   finished s bytes h =
       let p = ends s bytes h.drained in
       record { ended = p.over; taken = p.taken; within = p.within; drained = p.drained; counted = p.counted; gathered = p.gathered }
+
+  pub finishes_empty : w'.epochs ≡ 0 → FinishesEmptyNow (with_flags failed over v w) (with_flags failed true v' w') a b
+  finishes_empty none s bytes h =
+      let p = ends s bytes h.drained in
+      let f = finished s bytes h in
+      record {
+        none = sym p.epochs ∙ none;
+        out = p.out;
+        finished = f;
+        kept = keeps s bytes f;
+        bounds = subst (λ (n : ℕ). IsWithinBounds n (kept_of (with_flags failed true v' w'))) p.taken within;
+      }
+
+  pub finishes : (report : Report) (m k : ℕ) → report ≡ report_with m k w'.tally w'.epochs → m ≡ v'.taken → k ≡ v'.skipped → (w'.epochs ≡ 0 → ⊥) → FinishesNow (with_flags failed over v w) (with_flags failed true v' w') a b report
+  finishes report m k is taken passed_over not_empty s bytes h =
+      let p = ends s bytes h.drained in
+      let f = finished s bytes h in
+      let skipped : v'.skipped ≡ skipped_before (length bytes) (frames_of bytes) = subst (λ (e : Bool). v'.skipped ≡ skipped_before (known_place e bytes) (frames_of bytes)) p.over p.drained.skipped in
+      record {
+        out = p.out;
+        some = some _ _ p.epochs not_empty;
+        report_is = is ∙ same_report _ _ _ _ _ _ _ _ (taken ∙ p.taken) (passed_over ∙ skipped) p.tally p.epochs;
+        finished = f;
+        kept = keeps s bytes f;
+        bounds = subst (λ (n : ℕ). IsWithinBounds n (kept_of (with_flags failed true v' w'))) p.taken within;
+      }

@@ -1,7 +1,10 @@
-use Rattle.std.proofs.Common.{◌∙◌, sym, subst}
+use Rattle.std.proofs.Common.{ℕ, ◌≤◌, ◌∙◌, sym, subst, refl, inl, inr, length}
+use Rattle.rtcm_convert.specs.declared.fault.Fault.TheVariants.{TooLong, Write}
+use Rattle.rtcm_convert.proofs.FaultLemmas.{not_err, only_too_long, only_write}
+use Rattle.rtcm_convert.proofs.RefusalLemmas.{refused_going, refused_is, refused_only, refused_sent, refused_writer, not_refused, none_taken}
 use Rattle.rtcm_scan.specs.Passing.{up_to_limit}
 use Rattle.rtcm_convert.specs.Conversion.{Conversion, IsGoing}
-use Rattle.rtcm_convert.proofs.FeedLemmas.{with_flags, long_of, sink_of, fed_whole, fed_fit, fed_long, fed_part}
+use Rattle.rtcm_convert.proofs.FeedLemmas.{with_flags, long_of, sink_of, fed_whole, fed_fit, failed_fit, fed_long, fed_part}
 use Rattle.rtcm_convert.proofs.RunLemmas.{going_on}
 use Rattle.rtcm_convert.proofs.StreamLemmas.{piece_fine, piece_failed}
 use Rattle.rtcm_convert.proofs.converter.Converter.feed.Goals as goal
@@ -54,3 +57,103 @@ returns-in-Err-Sink-clause-device g c =
     let k = sink_of c.in-Err-Sink.field-0 c.in-Err-Sink.field-0-0 _ _ _ c.in-Err-Sink.field-0-is c.in-Err-Sink.ensures.fault in
     let d = piece_failed g.W.Write.contents f.framer f.file_writer c.feed.new.sink c.args.writer.now c.feed.new.out c.args.piece.now k (c.self.invariant.drained go) in
     (d.0, tt, d.1)
+
+pub returns-in-Some : goal.returns-in-Some
+returns-in-Some g c =
+    let v = c.args.self.now in
+    let f = c.in-Some.earlier in
+    let e = c.in-Some.ensures in
+    record {
+      refused = refused_is v f e _ (refl, refl, refl);
+      whole = tt;
+      going = tt;
+      taken = none_taken v.scan.taken (length c.args.piece.now);
+      keeps = tt;
+      part = λ h. absurd (refused_only v f e Write refl h);
+      long = λ h. absurd (refused_only v f e TooLong refl h);
+      sent = refused_sent v f e c.args.writer.now.is_sent;
+      device = refused_writer v f e c.args.writer.now;
+      left = (refl, λ go. absurd (refused_going v f e go));
+    }
+
+pub returns-in-Ok-clause-refused : goal.returns-in-Ok-clause-refused
+returns-in-Ok-clause-refused g c = not_refused c.args.self.now _ c.in_default.ensures
+
+pub returns-in-Ok-clause-keeps : goal.returns-in-Ok-clause-keeps
+returns-in-Ok-clause-keeps g c = record { bounds = c.kept.ensures.bounds; values = c.kept.ensures.now }
+
+pub returns-in-Ok-clause-part : goal.returns-in-Ok-clause-part
+returns-in-Ok-clause-part g c = λ h. absurd (not_err _ Write h)
+
+pub returns-in-Ok-clause-long : goal.returns-in-Ok-clause-long
+returns-in-Ok-clause-long g c = λ h. absurd (not_err _ TooLong h)
+
+pub returns-in-Ok-clause-sent : goal.returns-in-Ok-clause-sent
+returns-in-Ok-clause-sent g c = c.in-Ok.ensures.sent
+
+pub returns-in-Err-TooLong-clause-refused : goal.returns-in-Err-TooLong-clause-refused
+returns-in-Err-TooLong-clause-refused g c = not_refused c.args.self.now _ c.in_default.ensures
+
+pub returns-in-Err-TooLong-clause-whole : goal.returns-in-Err-TooLong-clause-whole
+returns-in-Err-TooLong-clause-whole g c = tt
+
+pub returns-in-Err-TooLong-clause-going : goal.returns-in-Err-TooLong-clause-going
+returns-in-Err-TooLong-clause-going g c = tt
+
+pub returns-in-Err-TooLong-clause-keeps : goal.returns-in-Err-TooLong-clause-keeps
+returns-in-Err-TooLong-clause-keeps g c = tt
+
+pub returns-in-Err-TooLong-clause-part : goal.returns-in-Err-TooLong-clause-part
+returns-in-Err-TooLong-clause-part g c = λ h. absurd (only_too_long Write refl h)
+
+pub returns-in-Err-Sink-clause-refused : goal.returns-in-Err-Sink-clause-refused
+returns-in-Err-Sink-clause-refused g c = not_refused c.args.self.now _ c.in_default.ensures
+
+pub returns-in-Err-Sink-clause-whole : goal.returns-in-Err-Sink-clause-whole
+returns-in-Err-Sink-clause-whole g c = tt
+
+pub returns-in-Err-Sink-clause-going : goal.returns-in-Err-Sink-clause-going
+returns-in-Err-Sink-clause-going g c = tt
+
+pub returns-in-Err-Sink-clause-keeps : goal.returns-in-Err-Sink-clause-keeps
+returns-in-Err-Sink-clause-keeps g c = tt
+
+pub returns-in-Err-Sink-clause-long : goal.returns-in-Err-Sink-clause-long
+returns-in-Err-Sink-clause-long g c = λ h. absurd (only_write TooLong refl h)
+
+pub returns-in-Err-Sink-clause-sent : goal.returns-in-Err-Sink-clause-sent
+returns-in-Err-Sink-clause-sent g c = tt
+
+pub returns-in-Ok-clause-going : goal.returns-in-Ok-clause-going
+returns-in-Ok-clause-going g c =
+    let f = c.self.inside in
+    let go : IsGoing (with_flags f.failed f.finished f.framer f.file_writer) = subst (λ (x : Conversion). IsGoing x) (sym c.self.view_is) (going_on c.args.self.now c.in_default.ensures) in
+    let n = c.feed.ensures.same in
+    rw (← c.self.view_is) (record { fine = go.fine; more = go.more }, n.limit, c.in-Ok.ensures.taken, λ _. subst (λ (k : ℕ). c.feed.new.self.taken ≤ k) (sym n.limit) n.within)
+
+pub returns-in-Ok-clause-taken : goal.returns-in-Ok-clause-taken
+returns-in-Ok-clause-taken g c = rw (← c.self.view_is) (c.feed.ensures.same.least, c.feed.ensures.same.most)
+
+pub returns-in-Ok-clause-left : goal.returns-in-Ok-clause-left
+returns-in-Ok-clause-left g c = rw (← c.self.view_is) (c.feed.ensures.same.limit, λ _. tt)
+
+pub invariant_of-self-in-Err-TooLong : goal.invariant_of-self-in-Err-TooLong
+invariant_of-self-in-Err-TooLong g c = failed_fit c.self.inside.finished c.feed.new.self c.feed.new.sink (c.feed.ensures.same.some c.self.invariant.examined)
+
+pub returns-in-Err-TooLong-clause-taken : goal.returns-in-Err-TooLong-clause-taken
+returns-in-Err-TooLong-clause-taken g c = rw (← c.self.view_is) (c.feed.ensures.same.least, c.feed.ensures.same.most)
+
+pub returns-in-Err-TooLong-clause-sent : goal.returns-in-Err-TooLong-clause-sent
+returns-in-Err-TooLong-clause-sent g c = long_of c.in-Err-TooLong.field-0 _ _ _ c.in-Err-TooLong.field-0-is c.in-Err-TooLong.ensures.sent
+
+pub returns-in-Err-TooLong-clause-left : goal.returns-in-Err-TooLong-clause-left
+returns-in-Err-TooLong-clause-left g c = rw (← c.self.view_is) (c.feed.ensures.same.limit, λ go. (inl refl, (refl, go.more)))
+
+pub invariant_of-self-in-Err-Sink : goal.invariant_of-self-in-Err-Sink
+invariant_of-self-in-Err-Sink g c = failed_fit c.self.inside.finished c.feed.new.self c.feed.new.sink (c.feed.ensures.same.some c.self.invariant.examined)
+
+pub returns-in-Err-Sink-clause-taken : goal.returns-in-Err-Sink-clause-taken
+returns-in-Err-Sink-clause-taken g c = rw (← c.self.view_is) (c.feed.ensures.same.least, c.feed.ensures.same.most)
+
+pub returns-in-Err-Sink-clause-left : goal.returns-in-Err-Sink-clause-left
+returns-in-Err-Sink-clause-left g c = rw (← c.self.view_is) (c.feed.ensures.same.limit, λ go. (inr refl, (refl, go.more)))

@@ -1,4 +1,6 @@
-use Rattle.std.proofs.Common.{◌∙◌, ap}
+use Rattle.std.proofs.Common.{◌∙◌, ap, refl}
+use Rattle.rtcm_convert.specs.declared.fault.Fault.TheVariants.{NoEpoch, TooLong, Write}
+use Rattle.rtcm_convert.proofs.RefusalLemmas.{refused_going, refused_is, refused_only, refused_sent, refused_writer, not_refused}
 use Rattle.rtcm_convert.proofs.PartLemmas.{same_fault}
 use Rattle.rtcm_convert.proofs.PiecesLemmas.{not_empty, taken_then, longer_by, pieces_more, pieces_all, pieces_rest, pieces_whole, pieces_empty, pieces_long, pieces_broke, pieces_broke_at_end}
 use Rattle.rtcm_convert.proofs.converter.Converter.take_pieces.Goals as goal
@@ -44,3 +46,28 @@ returns-clause-no_epoch g c = λ e. pieces_empty c.args.self.now c.loop-piece.se
 pub returns-clause-write : goal.returns-clause-write
 returns-clause-write g c = λ e. pieces_broke_at_end c.args.self.now c.loop-piece.self c.finish.new.self _ _ _ _ c.loop-piece.invariant.came c.args.pieces.now
     (pieces_all (λ piece. piece.items) c.args.pieces.now c.loop-piece.piece-index c.loop-piece.auto.piece-index-end c.loop-piece-test.false) (c.finish.ensures.part e)
+
+pub returns-in-Some : goal.returns-in-Some
+returns-in-Some g c =
+    let v = c.args.self.now in
+    let f = c.in-Some.fault in
+    let e = c.in-Some.ensures in
+    record {
+      refused = refused_is v f e _ (refl, refl, refl);
+      whole = tt;
+      no_epoch = λ h. absurd (refused_only v f e NoEpoch refl h);
+      long = λ h. absurd (refused_only v f e TooLong refl h);
+      write = λ h. absurd (refused_only v f e Write refl h);
+      sent = refused_sent v f e c.args.writer.now.is_sent;
+      device = refused_writer v f e c.args.writer.now;
+      left = ((refl, λ go. absurd (refused_going v f e go)), tt);
+    }
+
+pub returns-in-Err-clause-refused : goal.returns-in-Err-clause-refused
+returns-in-Err-clause-refused g c = not_refused c.args.self.now _ c.in_default.ensures
+
+pub returns-in-Err-clause-whole : goal.returns-in-Err-clause-whole
+returns-in-Err-clause-whole g c = tt
+
+pub returns-clause-refused : goal.returns-clause-refused
+returns-clause-refused g c = not_refused c.args.self.now _ c.in_default.ensures
