@@ -101,64 +101,30 @@ pub record ReadsTexts (row : TextRow) (line : List ℕ) (old new : HeaderLists) 
 -- ---- what was read, with one part replaced
 
 abbrev pub with_texts : Known → HeaderLists → Known
-with_texts k texts = record {
-  shown = record { texts = texts; plan = k.shown.plan; values = k.shown.values; first = k.shown.first };
-  gps = k.gps;
-  galileo = k.galileo;
-  gps_count = k.gps_count;
-  galileo_count = k.galileo_count;
-}
+with_texts k texts = record k { shown = record k.shown { texts = texts } }
 
 abbrev pub with_values : Known → StationValues → Known
-with_values k values = record {
-  shown = record { texts = k.shown.texts; plan = k.shown.plan; values = values; first = k.shown.first };
-  gps = k.gps;
-  galileo = k.galileo;
-  gps_count = k.gps_count;
-  galileo_count = k.galileo_count;
-}
+with_values k values = record k { shown = record k.shown { values = values } }
 
 abbrev pub with_first : Known → ℕ → Known
-with_first k first = record {
-  shown = record { texts = k.shown.texts; plan = k.shown.plan; values = k.shown.values; first = first };
-  gps = k.gps;
-  galileo = k.galileo;
-  gps_count = k.gps_count;
-  galileo_count = k.galileo_count;
-}
+with_first k first = record k { shown = record k.shown { first = first } }
 
 -- what was read, with the systems of the first line
 abbrev pub with_systems : Known → Bool → Bool → Known
-with_systems k gps galileo =
-    record { shown = k.shown; gps = gps; galileo = galileo; gps_count = k.gps_count; galileo_count = k.galileo_count }
+with_systems k gps galileo = record k { gps = gps; galileo = galileo }
 
 -- the same plan with the signals of a system
 abbrev pub plan_with : System → PlanValue → List ℕ → PlanValue
-plan_with Gps p signals = record { gps = signals; galileo = p.galileo }
-plan_with Galileo p signals = record { gps = p.gps; galileo = signals }
+plan_with Gps p signals = record p { gps = signals }
+plan_with Galileo p signals = record p { galileo = signals }
 
 -- what was read, with the signals of a system
 abbrev pub with_signals : System → Known → List ℕ → Known
-with_signals system k signals = record {
-  shown =
-      record {
-        texts = k.shown.texts;
-        plan = plan_with system k.shown.plan signals;
-        values = k.shown.values;
-        first = k.shown.first;
-      };
-  gps = k.gps;
-  galileo = k.galileo;
-  gps_count = k.gps_count;
-  galileo_count = k.galileo_count;
-}
+with_signals system k signals = record k { shown = record k.shown { plan = plan_with system k.shown.plan signals } }
 
 -- what was read, with the number of a system's signals
 abbrev pub with_count : System → Known → ℕ → Known
-with_count system k count = record {
-  shown = k.shown;
-  gps = k.gps;
-  galileo = k.galileo;
+with_count system k count = record k {
   gps_count = of_system system count k.gps_count;
   galileo_count = of_system system k.galileo_count count;
 }

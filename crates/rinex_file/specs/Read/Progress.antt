@@ -120,7 +120,7 @@ MayPlan k p = IsPlanOf k.gps k.galileo k.gps_count k.galileo_count k.shown.plan 
 
 -- the header that was read, with this plan
 abbrev pub shown_with : Known → PlanValue → Shown
-shown_with k p = record { texts = k.shown.texts; plan = p; values = k.shown.values; first = k.shown.first }
+shown_with k p = record k.shown { plan = p }
 
 -- no other time has the same line
 abbrev pub IsOnlyTime : ℕ → Type 0
@@ -228,34 +228,16 @@ HasLinesLeft s v left = IsFileValue v × IsAt s s.expected v left
 
 -- the same with another line expected
 abbrev pub expected_next : Progress → Expected → Progress
-expected_next s expected =
-    record { expected = expected; known = s.known; epochs = s.epochs; change = s.change; time = s.time; rows = s.rows }
+expected_next s expected = record s { expected = expected }
 
 -- what was read after the first line of an epoch, with this change of station values before it
 abbrev pub begun_at : Progress → Option StationValues → ℕ → ℕ → Progress
-begun_at s c t n =
-    record { expected = Satellite n; known = s.known; epochs = s.epochs; change = c; time = t; rows = s.rows }
+begun_at s c t n = record s { expected = Satellite n; change = c; time = t }
 
 -- what was read after the line of a satellite, if n satellites are left
 abbrev pub with_row : Progress → SatelliteRow → ℕ → Progress
-with_row s seen n =
-    record {
-      expected = Satellite n;
-      known = s.known;
-      epochs = s.epochs;
-      change = s.change;
-      time = s.time;
-      rows = s.rows ++ seen ∷ [];
-    }
+with_row s seen n = record s { expected = Satellite n; rows = s.rows ++ seen ∷ [] }
 
 -- what was read after the line of an epoch's last satellite
 abbrev pub with_epoch : Progress → Progress
-with_epoch s =
-    record {
-      expected = Epoch;
-      known = s.known;
-      epochs = s.epochs ++ stamped s s.rows ∷ [];
-      change = s.change;
-      time = s.time;
-      rows = [];
-    }
+with_epoch s = record s { expected = Epoch; epochs = s.epochs ++ stamped s s.rows ∷ []; rows = [] }
