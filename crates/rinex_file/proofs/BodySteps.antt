@@ -146,10 +146,7 @@ changed_next s w v line left expected (is, at) =
     (here.rest ∙ ap (λ l. drop 3 l ++ flat_map stamped_lines here.others) (lines_are here.next (Some w) change))
 
 few_of : (b c : Bool) → (if b then 32 else 0) + (if c then 36 else 0) ≤ 999
-few_of true true = omega arith
-few_of true false = omega arith
-few_of false true = omega arith
-few_of false false = omega arith
+few_of b c = grind arith
 
 -- as many satellites as the planned systems have fit their columns
 pub few_satellites : (gps galileo n : ℕ) → n ≤ most_rows gps galileo → n ≤ 999

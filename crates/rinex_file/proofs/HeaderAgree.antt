@@ -34,12 +34,10 @@ Agree h g n = (i : ℕ) → i < n → shown_rows h (row_at i) ≡ shown_rows g (
 -- ---- rows of types
 
 pub types_low : (s : System) → 9 ≤ first_types s
-types_low Gps = lit≤ tt
-types_low Galileo = lit≤ tt
+types_low s = grind arith
 
 pub types_high : (s : System) → first_types s ≤ 15
-types_high Gps = lit≤ tt
-types_high Galileo = lit≤ tt
+types_high s = grind arith
 
 pub types_row : (s : System) (r : ℕ) → r < 6 → row_at (first_types s + r) ≡ Types s r
 types_row Gps zero less = refl
@@ -79,10 +77,7 @@ abbrev byte_with : Bool → Bool → ℕ
 byte_with gps galileo = if gps then (if galileo then 77 else 71) else 69
 
 same_byte : (a b : Bool) → (if a then 69 else (if b then 71 else 77)) ≡ byte_with (not a) (not b)
-same_byte true true = refl
-same_byte true false = refl
-same_byte false true = refl
-same_byte false false = refl
+same_byte a b = grind arith
 
 pub version_same : (p : PlanValue) → version_line p ≡ version_with (is_some_planned p.gps) (is_some_planned p.galileo)
 version_same p = grind (arith, same_byte)

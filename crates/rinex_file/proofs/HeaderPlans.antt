@@ -141,8 +141,7 @@ choose n planned (suc c) read some below apart fits few is =
 -- ---- a plan
 
 table_some : (s : System) → 0 < length (table s)
-table_some Gps = omega arith
-table_some Galileo = omega arith
+table_some s = grind arith
 
 pub record SomePlan (k : Known) : Type 0 where
   pub p : PlanValue

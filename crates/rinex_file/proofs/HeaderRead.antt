@@ -40,35 +40,20 @@ next k after n out some only read = reads_next k.gps k.galileo k.gps_count k.gal
 
 front_lines : (h : Shown) (r : TextRow) → lines_before h (1 + text_row_index r) ≡ version_line h.plan ∷ map (texts_line h.texts) (take (text_row_index r) text_rows)
 unfolding row_line
-front_lines h row.Program = refl
-front_lines h row.Marker = refl
-front_lines h row.MarkerType = refl
-front_lines h row.Observer = refl
-front_lines h row.Receiver = refl
-front_lines h row.Antenna = refl
+front_lines h r = grind arith
 
 abbrev ends_by : ℕ → TextRow → Bool
 ends_by n r = nat_le (start_of r + count_of r) n
 
 rows_in_front : (r : TextRow) → list_all (ends_by (start_of r)) (take (text_row_index r) text_rows) ≡ true
-rows_in_front row.Program = refl
-rows_in_front row.Marker = refl
-rows_in_front row.MarkerType = refl
-rows_in_front row.Observer = refl
-rows_in_front row.Receiver = refl
-rows_in_front row.Antenna = refl
+rows_in_front r = grind arith
 
 same_rows : (x y : HeaderLists) (n : ℕ) → ((i : ℕ) → i < n → get_or x i [] ≡ get_or y i []) → (rows : List TextRow) → list_all (ends_by n) rows ≡ true → map (texts_line x) rows ≡ map (texts_line y) rows
 same_rows x y n same [] all = refl
 same_rows x y n same (r ∷ rows) all = grind (arith, both, same_line, (both (ends_by n r) (list_all (ends_by n) rows) all), (same_rows x y n same rows (both (ends_by n r) (list_all (ends_by n) rows) all).1))
 
 text_low : (r : TextRow) → text_row_index r < 6
-text_low row.Program = lit≤ tt
-text_low row.Marker = lit≤ tt
-text_low row.MarkerType = lit≤ tt
-text_low row.Observer = lit≤ tt
-text_low row.Receiver = lit≤ tt
-text_low row.Antenna = lit≤ tt
+text_low r = grind arith
 
 pub line_texts : (r : TextRow) (line : List ℕ) (k : Known) (x : HeaderLists) → ReadsTexts r line k.shown.texts x → ReadsHeaderLine (Texts r) line k (with_texts k x)
 unfolding row_line

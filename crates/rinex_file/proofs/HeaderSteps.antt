@@ -91,10 +91,7 @@ present_at n k p less may read = present (row_at n) k p may (subst (HasReadRows 
 -- ---- a row without a line
 
 pub same_system : (s t : System) (row : ℕ) → row < 6 → first_types t ≤ first_types s + row → first_types s + row < first_types t + 6 → s ≡ t
-same_system Gps Gps row less more few = refl
-same_system Gps Galileo row less more few = absurd (omega (arith, less, more))
-same_system Galileo Gps row less more few = absurd (omega (arith, less, few))
-same_system Galileo Galileo row less more few = refl
+same_system s t row less more few = grind arith
 
 -- a row of types has a number
 abbrev pub IsRow : HeaderRow → Type 0

@@ -92,12 +92,7 @@ columns_by place (suc more) column e =
 
 checked_columns : (r : TextRow) → are_columns (start_of r) (count_of r) (length (front_of r)) ≡ true
 unfolding are_columns
-checked_columns row.Program = refl
-checked_columns row.Marker = refl
-checked_columns row.MarkerType = refl
-checked_columns row.Observer = refl
-checked_columns row.Receiver = refl
-checked_columns row.Antenna = refl
+checked_columns r = grind arith
 
 pub row_columns : (r : TextRow) → AreColumns (start_of r) (count_of r) (length (front_of r))
 row_columns r = columns_by (start_of r) (count_of r) (length (front_of r)) (checked_columns r)
@@ -111,12 +106,7 @@ here_column place zero column some at = absurd (omega (arith, some))
 here_column place (suc more) column some at = sym at.0
 
 pub row_within : (r : TextRow) → start_of r + count_of r ≤ text_count
-row_within row.Program = omega arith
-row_within row.Marker = omega arith
-row_within row.MarkerType = omega arith
-row_within row.Observer = omega arith
-row_within row.Receiver = omega arith
-row_within row.Antenna = omega arith
+row_within r = grind arith
 
 -- the columns of a row's line have its texts
 pub texts_back : (x : HeaderLists) → AreTexts x → (r : TextRow) (line : List ℕ) → texts_line x r ≡ line → (i : ℕ) → i < count_of r

@@ -67,35 +67,26 @@ other Galileo = Gps
 
 -- what holds of a system and of the other holds of every system
 either_system : (P : System → Type 0) (s : System) → P s → P (other s) → (t : System) → P t
-either_system P Gps a b Gps = a
-either_system P Gps a b Galileo = b
-either_system P Galileo a b Gps = b
-either_system P Galileo a b Galileo = a
+either_system P s a b t = grind arith
 
 planned_made : (s : System) (p : PlanValue) (signals : List ℕ) → planned_of s (plan_with s p signals) ≡ signals
-planned_made Gps p signals = refl
-planned_made Galileo p signals = refl
+planned_made s p signals = grind arith
 
 planned_other : (s : System) (p : PlanValue) (signals : List ℕ) → planned_of (other s) (plan_with s p signals) ≡ planned_of (other s) p
-planned_other Gps p signals = refl
-planned_other Galileo p signals = refl
+planned_other s p signals = grind arith
 
 count_made : (s : System) (k : Known) (count : ℕ) → signal_count (with_count s k count) s ≡ count
-count_made Gps k count = refl
-count_made Galileo k count = refl
+count_made s k count = grind arith
 
 count_other : (s : System) (k : Known) (count : ℕ) → signal_count (with_count s k count) (other s) ≡ signal_count k (other s)
-count_other Gps k count = refl
-count_other Galileo k count = refl
+count_other s k count = grind arith
 
 far_other : (s : System) (row : ℕ) → row < 6 → first_types (other s) ≤ first_types s + row → first_types s + row < first_types (other s) + 6 → ⊥
-far_other Gps row less more few = omega (arith, less, more)
-far_other Galileo row less more few = omega (arith, less, few)
+far_other s row less more few = grind arith
 
 -- if the other system's rows begin before the next row, they begin before this one
 not_next : (s : System) (row : ℕ) → row < 6 → first_types (other s) < suc (first_types s + row) → first_types (other s) < first_types s + row
-not_next Gps row less more = absurd (omega (arith, less, more))
-not_next Galileo row less more = omega (arith, less)
+not_next s row less more = grind arith
 
 -- ---- a line of types
 

@@ -74,28 +74,13 @@ plain_texts x are (suc more) place within =
     (plain_texts x are more (suc place) (omega (arith, within))))
 
 plain_front : (r : TextRow) → IsPlain 20 (front_of r)
-plain_front row.Program = record { clean = refl; short = lit≤ tt }
-plain_front row.Marker = record { clean = refl; short = lit≤ tt }
-plain_front row.MarkerType = record { clean = refl; short = lit≤ tt }
-plain_front row.Observer = record { clean = refl; short = lit≤ tt }
-plain_front row.Receiver = record { clean = refl; short = lit≤ tt }
-plain_front row.Antenna = record { clean = refl; short = lit≤ tt }
+plain_front r = grind arith
 
 plain_row_label : (r : TextRow) → IsPlain 20 (label_of r)
-plain_row_label row.Program = record { clean = refl; short = lit≤ tt }
-plain_row_label row.Marker = record { clean = refl; short = lit≤ tt }
-plain_row_label row.MarkerType = record { clean = refl; short = lit≤ tt }
-plain_row_label row.Observer = record { clean = refl; short = lit≤ tt }
-plain_row_label row.Receiver = record { clean = refl; short = lit≤ tt }
-plain_row_label row.Antenna = record { clean = refl; short = lit≤ tt }
+plain_row_label r = grind arith
 
 few_texts : (r : TextRow) → count_of r ≤ 3
-few_texts row.Program = lit≤ tt
-few_texts row.Marker = lit≤ tt
-few_texts row.MarkerType = lit≤ tt
-few_texts row.Observer = lit≤ tt
-few_texts row.Receiver = lit≤ tt
-few_texts row.Antenna = lit≤ tt
+few_texts r = grind arith
 
 line_of_texts : (x : HeaderLists) → AreTexts x → (r : TextRow) → IsFileLine (texts_line x r)
 line_of_texts x are r =
@@ -167,8 +152,7 @@ line_of_types letter types line other few are =
     (plain_label (codes "SYS / # / OBS TYPES") refl (lit≤ tt)) (lit≤ tt)
 
 pub no_letter : (system : System) → (letter_of system == 10) ≡ false
-no_letter Gps = refl
-no_letter Galileo = refl
+no_letter system = grind arith
 
 one_of_types : (system : System) (signals : List ℕ) (row : ℕ) → length signals ≤ 19 → IsFileLine (type_line (letter_of system) (types_of (codes_of system signals)) row)
 one_of_types system signals row few =

@@ -33,10 +33,7 @@ abbrev planned_by : ℕ → Bool × Bool
 planned_by letter = if letter == 77 then (true, true) else (if letter == 71 then (true, false) else (false, true))
 
 planned_back : (p : Bool × Bool) → (p.0 || p.1) ≡ true → planned_by (letter_with p.0 p.1) ≡ p
-planned_back (true, true) some = refl
-planned_back (true, false) some = refl
-planned_back (false, true) some = refl
-planned_back (false, false) some = cc
+planned_back p some = grind arith
 
 -- the systems are read back from the first line
 pub version_determines : (line : List ℕ) (p q : Bool × Bool) → (p.0 || p.1) ≡ true → (q.0 || q.1) ≡ true
@@ -46,8 +43,7 @@ version_determines line p q a b e f = grind (arith, letter_back, planned_back, (
 -- ---- position and height
 
 length-sign : (b : Bool) → length (sign_text b) ≤ 1
-length-sign true = omega arith
-length-sign false = omega arith
+length-sign b = grind arith
 
 -- a number that fits 14 columns
 abbrev pub Fits14 : ℤ → Type 0
