@@ -1,5 +1,5 @@
 -- Bytes that were read ahead: the lines among them, and what is left.
-use Rattle.std.proofs.Common.{arith, ◌≡◌, ◌∙◌, sym, ap, subst, refl, ℕ, zero, suc, ◌+◌, ◌-◌, ◌<◌, ◌≤◌, Bool, true, false, List, [], ◌∷◌, ◌++◌, length, take, drop, get_or, length-append, take-add, append_assoc, append-nil, Option, Some, None}
+use Rattle.std.proofs.Common.{arith, ◌≡◌, ◌∙◌, sym, ap, subst, refl, ℕ, zero, suc, ◌+◌, ◌-◌, ◌<◌, ◌≤◌, Bool, true, false, List, [], ◌∷◌, ◌++◌, length, take, drop, get_or, length-append, take-add, append_assoc, append-nil, Option}
 use Rattle.std.specs.Prelude.{◌||◌, ◌==◌, nat_eq, nat_lt, min}
 use Rattle.std.proofs.lemmas.Bool.{eqb-true}
 use Rattle.std.proofs.Math.Nat.{min-eq_left, min-eq_right, min-le_left, min-le_right, le-min}
@@ -43,8 +43,7 @@ pub consumed_none : (a b c : Option (List ℕ)) (bytes : List ℕ) → Consumes 
 consumed_none a b c bytes first next = subst (Consumes a c) (append-nil bytes) (Consumes-trans a b c bytes [] first next)
 
 ahead_moved : (r : Option (List ℕ)) (old new bytes : List ℕ) → old ≡ bytes ++ new → Consumes (prepend_known old r) (prepend_known new r) bytes
-ahead_moved None old new bytes e = tt
-ahead_moved (Some x) old new bytes e = ap (λ l. l ++ x) e ∙ append_assoc bytes new x
+ahead_moved v0 old new bytes e = grind (arith, append_assoc)
 
 pub moved_taken : (a b r : Option (List ℕ)) (whole : Bool) (old new line line' : List ℕ) → Consumes a b line → Consumes b (prepend_known old r) [] → MovesBytes whole old new line line'
     → Consumes a (prepend_known new r) line'
@@ -70,8 +69,7 @@ leaves_all a = ([], Consumes-nil a)
 
 -- no byte is left ahead, nor of the reader
 pub at_end : (ahead : List ℕ) (r : Option (List ℕ)) → ahead ≡ [] → IsAtEnd r → IsAtEnd (prepend_known ahead r)
-at_end ahead None none end = tt
-at_end ahead (Some x) none end = ap (λ l. l ++ x) none ∙ end
+at_end ahead v1 none end = grind arith
 
 abbrev pub is_failed : Found → Bool
 is_failed Line = false

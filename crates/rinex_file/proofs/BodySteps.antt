@@ -1,5 +1,5 @@
 -- The steps of a reading from one line of an epoch to the next.
-use Rattle.std.proofs.Common.{arith, ◌≡◌, ℕ, suc, ◌+◌, ◌<◌, ◌≤◌, List, [], ◌∷◌, ◌++◌, refl, sym, ap, subst, ◌∙◌, length, append_assoc, append-nil, zero-add, length-append, drop, get_or, Option, Some, None, Bool, true, false}
+use Rattle.std.proofs.Common.{arith, ◌≡◌, ℕ, suc, ◌+◌, ◌<◌, ◌≤◌, List, [], ◌∷◌, ◌++◌, refl, sym, ap, subst, ◌∙◌, length, append_assoc, append-nil, zero-add, length-append, drop, get_or, Option, Some, None, Bool}
 use Rattle.std.specs.Prelude.{All, map, flat_map, if◌then◌else◌, nat_lt}
 use Rattle.std.specs.List.Sorted.{IsStrictlyIncreasing}
 use Rattle.std.proofs.lemmas.List.{map-append}
@@ -61,8 +61,7 @@ values_more v [] x = refl
 values_more v (e ∷ es) x = values_more (changed_by v e.change) es x
 
 first_more : (es : List Stamped) (x : Stamped) → IsFirstSame es → (es ≡ [] → x.change ≡ None) → IsFirstSame (es ++ x ∷ [])
-first_more [] x h k = k refl
-first_more (e ∷ es) x h k = h
+first_more v0 x h k = grind arith
 
 -- ---- the line of an epoch
 
@@ -379,8 +378,7 @@ seen_more gps galileo rows seen these is rise =
     }
 
 starts_more : (first : ℕ) (es : List Stamped) (x : Stamped) → StartsAt first es → (es ≡ [] → first ≡ x.time) → StartsAt first (es ++ x ∷ [])
-starts_more first [] x starts none = none refl
-starts_more first (e ∷ es) x starts none = starts
+starts_more first v1 x starts none = grind arith
 
 module _ (s : Progress) (n left : ℕ) (expected : s.expected ≡ Satellite left) (sound : IsSound s) (seen : SatelliteRow)
     (is : IsSatelliteRow (length s.known.shown.plan.gps) (length s.known.shown.plan.galileo) seen) (rise : IsStrictlyIncreasing (map rank_of s.rows ++ rank_of seen ∷ [])) where

@@ -1,5 +1,5 @@
 -- Some file may begin with the accepted lines, and the kind of the next line is known.
-use Rattle.std.proofs.Common.{arith, ◌≡◌, ◌∙◌, sym, ap, refl, ℕ, zero, suc, ◌+◌, ◌<◌, ℤ, pos, List, [], ◌∷◌, ◌++◌, length, Option, IfSome, inl, inr}
+use Rattle.std.proofs.Common.{arith, ◌≡◌, ◌∙◌, sym, ap, refl, ℕ, zero, suc, ◌+◌, ◌<◌, ℤ, pos, List, [], ◌∷◌, ◌++◌, length, Option, IfSome}
 use Rattle.std.specs.Prelude.{Some}
 use Rattle.obs_epoch.specs.declared.cell.StationValues.{StationValues}
 use Rattle.rinex_file.specs.declared.read.parser_state.ParserState.{ParserState}
@@ -104,12 +104,7 @@ are_before s (Satellite n) lines sound are =
     }
 
 are_begun : (expected : Expected) (lines : List (List ℕ)) → AreBefore expected lines → AreBegun lines
-are_begun (Header place) lines h = inl h
-are_begun Epoch lines h = inr (inl h)
-are_begun EventPosition lines h = inr (inr (inl h))
-are_begun (EventHeight x y z) lines h = inr (inr (inr (inl h)))
-are_begun (EventEpoch w) lines h = inr (inr (inr (inr (inl h))))
-are_begun (Satellite n) lines h = inr (inr (inr (inr (inr h))))
+are_begun v0 lines h = grind arith
 
 pub begun : (s : Progress) (n : ℕ) (a b : Option (List ℕ)) (t : IsTaken s n a b) → IsSound s → AreBegun t.lines
 begun s n a b t sound = are_begun s.expected t.lines (are_before s s.expected t.lines sound t.history.are)

@@ -1,5 +1,5 @@
 -- Texts without a fault fit their columns.
-use Rattle.std.proofs.Common.{arith, ◌≡◌, ◌∙◌, refl, sym, ap, ap₂, subst, ℕ, suc, ◌+◌, ◌<◌, ◌≤◌, ◌≢◌, ◌&&◌, List, [], ◌∷◌, length, drop, get_or, Bool, true, false, Some, None}
+use Rattle.std.proofs.Common.{arith, ◌≡◌, ◌∙◌, refl, sym, ap, subst, ℕ, suc, ◌+◌, ◌<◌, ◌≤◌, ◌≢◌, ◌&&◌, List, [], ◌∷◌, length, drop, get_or, Bool, true, false, Some, None}
 use Rattle.std.specs.Prelude.{if◌then◌else◌, nat_lt, ◌==◌, map}
 use Rattle.std.specs.List.{list_all}
 use Rattle.std.proofs.Math.Seq.{drop-cons}
@@ -39,8 +39,7 @@ last_printable : (b : ℕ) → is_printable b ≡ true → list_all is_printable
 last_printable b p = grind arith
 
 kept_printable : (b : ℕ) (part : List ℕ) → is_printable b ≡ true → list_all is_printable part ≡ true → list_all is_printable (before_cut b part) ≡ true
-kept_printable b [] p h = last_printable b p
-kept_printable b (c ∷ cs) p h = ap₂ (λ (v w : Bool). v && w) p h
+kept_printable b v1 p h = grind (arith, last_printable)
 
 printable_cut : (text : List ℕ) → list_all is_printable text ≡ true → list_all is_printable (trimmed text) ≡ true
 unfolding trimmed

@@ -1,5 +1,5 @@
 -- Headers with the same lines before a row have the same contents in these rows.
-use Rattle.std.proofs.Common.{arith, ◌≡◌, ◌∙◌, sym, ap, refl, subst, ℕ, zero, suc, lit<, lit≤, ◌+◌, ◌*◌, ◌/◌, ◌<◌, ◌≤◌, ◌==◌, ◌||◌, Bool, true, false, min, List, [], ◌∷◌, ◌++◌, length, take, drop, append_assoc, Some}
+use Rattle.std.proofs.Common.{arith, ◌≡◌, ◌∙◌, sym, ap, refl, subst, ℕ, zero, suc, lit<, ◌+◌, ◌*◌, ◌/◌, ◌<◌, ◌≤◌, ◌==◌, ◌||◌, Bool, true, false, min, List, [], ◌∷◌, ◌++◌, length, take, drop, append_assoc, Some}
 use Rattle.std.specs.Prelude.{not, if◌then◌else◌, nat_lt, slice_index}
 use Rattle.std.proofs.lemmas.Bool.Decides.{nat_tests}
 use Rattle.std.proofs.lemmas.List.{take_min, take_more_same}
@@ -91,8 +91,7 @@ pub some_in : (h : Shown) → IsShown h → (is_some_planned h.plan.gps || is_so
 some_in h is = either_planned (length h.plan.gps) (length h.plan.galileo) is.plan.some
 
 pub some_planned : (xs : List ℕ) → is_some_planned xs ≡ true → 0 < length xs
-some_planned [] e = cc
-some_planned (x ∷ xs) e = omega arith
+some_planned v0 e = grind arith
 
 pub none_planned : (xs : List ℕ) → is_some_planned xs ≡ false → xs ≡ []
 none_planned [] e = refl
@@ -197,12 +196,10 @@ module _ (h g : Shown) (a : IsShown h) (b : IsShown g) where
       count_same s (agree_systems n (omega (arith, low, less)) agree s) (agree_types n agree s 0 (lit< tt) (omega (arith, less)))
 
   types_first : (xs : List ℕ) → nat_lt 0 (type_rows (length xs)) ≡ is_some_planned xs
-  types_first [] = refl
-  types_first (x ∷ xs) = is_lt 0 (type_rows (length (x ∷ xs))) (omega arith) ∙ grind (arith, nat_tests)
+  types_first v0 = grind (arith, is_lt, nat_tests)
 
   any_first : (xs : List ℕ) → nat_lt 0 (length xs) ≡ is_some_planned xs
-  any_first [] = refl
-  any_first (x ∷ xs) = grind (arith, nat_tests)
+  any_first v0 = grind (arith, nat_tests)
 
   pub same_there : (n : ℕ) → n < row_count → Agree h g n → has_line h.plan (row_at n) ≡ has_line g.plan (row_at n)
   same_there n less agree = by (row_at n) (placed n less) where

@@ -17,10 +17,10 @@ use Rattle.rinex_file.specs.declared.header.fields.TextRow.TheVariants as row
 use Rattle.rinex_file.specs.declared.header.rows.HeaderRow.TheVariants.{End}
 use Rattle.rinex_file.specs.Blanks.{trimmed}
 use Rattle.rinex_file.specs.Texts.{HeaderLists, text_count, start_of, count_of}
-use Rattle.rinex_file.specs.FileValues.{IsText, AreTexts, AreValues, IsTime, of_system}
+use Rattle.rinex_file.specs.FileValues.{IsText, AreTexts, AreValues, IsTime}
 use Rattle.rinex_file.specs.Header.{row_line, end_line, first_line, first_types, texts_line, position_line, delta_line}
 use Rattle.rinex_file.specs.Read.Fields.{digits_in}
-use Rattle.rinex_file.specs.Read.Progress.{Known, Shown, IsShown, AreValid, MayPlan, IsHeadAt, IsOnlyTime, shown_with, lines_before, plans, signal_count, signals_begun}
+use Rattle.rinex_file.specs.Read.Progress.{Announced, Known, Shown, AreTypesRead, IsShown, AreValid, MayPlan, IsHeadAt, IsOnlyTime, shown_with, lines_before, announced, signals_begun}
 use Rattle.rinex_file.specs.Read.HeaderSteps.{RefusesHeaderLine, EndsHeader}
 use Rattle.obs_epoch.proofs.PlanLemmas.{none_of}
 use Rattle.rinex_file.proofs.HeaderAgree.{Agree, single, less_or, few_shown, types_high, agree_types, agree_count, signals_same, none_planned}
@@ -119,7 +119,7 @@ module _ (h g : Shown) (a : IsShown h) (b : IsShown g) (agree : Agree h g 25) wh
 
 module _ (k : Known) (at : IsHeadAt k 25) where
   all_read : (p : PlanValue) → MayPlan k p → (s : System) → planned_of s k.shown.plan ≡ planned_of s p
-  all_read p may s = by (plans k s) refl where
+  all_read p may s = by (announced k s).planned refl where
     all_of : (n c : ℕ) (xs ys : List ℕ) → c ≤ 19 → 20 ≤ n → length xs ≡ min n c → c ≡ length ys → xs ≡ take (length xs) ys → xs ≡ ys
     all_of n c xs ys few many size is e = e ∙ take_all (length xs) ys (omega (arith, few, many, size, is))
 
@@ -129,14 +129,14 @@ module _ (k : Known) (at : IsHeadAt k 25) where
     low : (b : ℕ) → b ≤ 15 → b < 25
     low b high = omega (arith, high)
 
-    by : (c : Bool) → plans k s ≡ c → planned_of s k.shown.plan ≡ planned_of s p
+    by : (c : Bool) → (announced k s).planned ≡ c → planned_of s k.shown.plan ≡ planned_of s p
     by true e =
-        let counted = may.counts s ((at.read.counts s).1 (e, low (first_types s) (types_high s))) in
+        let counted = (may.each s).count ((at.read.each s).counted.1 (e, low (first_types s) (types_high s))) in
         let few = few_shown (shown_with k p) (with_is k 25 at.valid at.read p may) s in
-        all_of (signals_begun (25 - first_types s)) (signal_count k s) (planned_of s k.shown.plan) (planned_of s p) (omega (arith, few, counted)) (begun (first_types s) (types_high s)) (at.read.signals s) counted (may.signals s)
+        all_of (signals_begun (25 - first_types s)) (announced k s).count (planned_of s k.shown.plan) (planned_of s p) (omega (arith, few, counted)) (begun (first_types s) (types_high s)) (at.read.each s).size counted (may.each s).begins
     by false e =
-        let none : planned_of s p ≡ [] = none_planned (planned_of s p) (sym (may.systems s (at.read.systems (lit< tt))) ∙ e) in
-        may.signals s ∙ ap (take (length (planned_of s k.shown.plan))) none ∙ take_all (length (planned_of s k.shown.plan)) [] (omega arith) ∙ sym none
+        let none : planned_of s p ≡ [] = none_planned (planned_of s p) (sym ((may.each s).planned (at.read.systems (lit< tt))) ∙ e) in
+        (may.each s).begins ∙ ap (take (length (planned_of s k.shown.plan))) none ∙ take_all (length (planned_of s k.shown.plan)) [] (omega arith) ∙ sym none
 
   whole : (p : PlanValue) → MayPlan k p → p ≡ k.shown.plan
   whole p may = same_plan p k.shown.plan (sym (all_read p may Gps)) (sym (all_read p may Galileo))
@@ -172,29 +172,24 @@ valid_by k made e texts gps galileo g l values first plan = subst AreValid e (re
   apart Galileo = subst (λ (p : PlanValue). IsDistinct nat_eq p.galileo) (sym plan) l.apart
 
 -- nothing was read
-pub begins : (k : Known) → AreValid k → k.gps ≡ false → k.galileo ≡ false → k.gps_count ≡ 0 → k.galileo_count ≡ 0 → k.shown.plan.gps ≡ [] → k.shown.plan.galileo ≡ [] → IsHeadAt k 0
+pub begins : (k : Known) → AreValid k → k.gps.planned ≡ false → k.galileo.planned ≡ false → k.gps.count ≡ 0 → k.galileo.count ≡ 0 → k.shown.plan.gps ≡ [] → k.shown.plan.galileo ≡ [] → IsHeadAt k 0
 begins k valid g l m n gps galileo = record {
   valid = valid;
-  read = record {
-    systems = λ l. absurd (omega (arith, l));
-    fresh = λ e. ap₂ (λ a b. a || b) g l;
-    few = λ s. let e = none s in omega (arith, e);
-    counts = λ s. (λ l. let e = none s in absurd (omega (arith, l, e)), λ q. let less = q.1 in absurd (omega (arith, less)));
-    signals = λ s. ap length (empty s) ∙ nothing (signals_begun (0 - first_types s)) (of_system s k.gps_count k.galileo_count) (none s);
-    only = λ l. absurd (omega (arith, l));
-  };
+  read = record { systems = λ l. absurd (omega (arith, l)); fresh = λ e. ap₂ (λ a b. a || b) g l; each = each; only = λ l. absurd (omega (arith, l)) };
   expected = lit≤ tt;
 } where
-  none : (s : System) → of_system s k.gps_count k.galileo_count ≡ 0
-  none Gps = m
-  none Galileo = n
+  unread : (s : System) (a : Announced) (signals : List ℕ) → a.count ≡ 0 → signals ≡ [] → AreTypesRead s a signals 0
+  unread s a signals none empty = record {
+    few = omega (arith, none);
+    counted = (λ l. absurd (omega (arith, l, none)), λ q. let less = q.1 in absurd (omega (arith, less)));
+    size = ap length empty ∙ nothing (signals_begun (0 - first_types s)) a.count none;
+  } where
+    nothing : (a c : ℕ) → c ≡ 0 → 0 ≡ min a c
+    nothing a c e = omega (arith, e)
 
-  empty : (s : System) → planned_of s k.shown.plan ≡ []
-  empty Gps = gps
-  empty Galileo = galileo
-
-  nothing : (a c : ℕ) → c ≡ 0 → 0 ≡ min a c
-  nothing a c e = omega (arith, e)
+  each : (s : System) → AreTypesRead s (announced k s) (planned_of s k.shown.plan) 0
+  each Gps = unread Gps k.gps k.shown.plan.gps m gps
+  each Galileo = unread Galileo k.galileo k.shown.plan.galileo n galileo
 
 abbrev blanks : ℕ → List (List ℕ)
 blanks n = replicate n []

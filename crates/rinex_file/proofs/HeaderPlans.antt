@@ -10,8 +10,7 @@ use Rattle.gnss_obs.specs.Signals.{table}
 use Rattle.gnss_obs.specs.declared.system.System.{System}
 use Rattle.gnss_obs.specs.declared.system.System.TheVariants.{Gps, Galileo}
 use Rattle.obs_epoch.specs.Values.{PlanValue, planned_of}
-use Rattle.rinex_file.specs.FileValues.{of_system}
-use Rattle.rinex_file.specs.Read.Progress.{Known, IsShown, AreValid, MayPlan, HasReadRows, is_some_planned, shown_with}
+use Rattle.rinex_file.specs.Read.Progress.{Known, MayBeAll, announced, IsShown, AreValid, MayPlan, HasReadRows, is_some_planned, shown_with}
 
 -- ---- numbers below N that a list doesn't have
 
@@ -148,27 +147,25 @@ pub record SomePlan (k : Known) : Type 0 where
   pub may : MayPlan k p
 
 module _ (k : Known) (place : ℕ) (valid : AreValid k) (read : HasReadRows k place) where
-  chosen : (s : System) (planned : Bool) → (of_system s k.gps k.galileo ≡ true → planned ≡ true)
-      → Choice (length (table s)) planned (of_system s k.gps_count k.galileo_count) (planned_of s k.shown.plan)
+  chosen : (s : System) (planned : Bool) → ((announced k s).planned ≡ true → planned ≡ true)
+      → Choice (length (table s)) planned (announced k s).count (planned_of s k.shown.plan)
   chosen s planned is =
-      let size = read.signals s in
-      choose (length (table s)) planned (of_system s k.gps_count k.galileo_count) (planned_of s k.shown.plan) (table_some s) (valid.listed s) (valid.apart s)
-      (omega (arith, size)) (read.few s) (λ l. is ((read.counts s).0 l).0)
+      let size = (read.each s).size in
+      choose (length (table s)) planned (announced k s).count (planned_of s k.shown.plan) (table_some s) (valid.listed s) (valid.apart s)
+      (omega (arith, size)) (read.each s).few (λ l. is ((read.each s).counted.0 l).0)
 
-  made : (a b : Bool) → (a || b) ≡ true → (k.gps ≡ true → a ≡ true) → (k.galileo ≡ true → b ≡ true) → ((k.gps || k.galileo) ≡ true → (k.gps ≡ a) × (k.galileo ≡ b)) → SomePlan k
+  made : (a b : Bool) → (a || b) ≡ true → (k.gps.planned ≡ true → a ≡ true) → (k.galileo.planned ≡ true → b ≡ true) → ((k.gps.planned || k.galileo.planned) ≡ true → (k.gps.planned ≡ a) × (k.galileo.planned ≡ b)) → SomePlan k
   made a b some gps galileo same = record {
     p = p;
     may = record {
       is = record { listed = listed; apart = apart; some = some_signals a b g.all l.all g.some l.some some };
-      systems = systems;
-      counts = counts;
-      signals = signals;
+      each = each;
     };
   } where
-    g : Choice (length (table Gps)) a k.gps_count k.shown.plan.gps
+    g : Choice (length (table Gps)) a k.gps.count k.shown.plan.gps
     g = chosen Gps a gps
 
-    l : Choice (length (table Galileo)) b k.galileo_count k.shown.plan.galileo
+    l : Choice (length (table Galileo)) b k.galileo.count k.shown.plan.galileo
     l = chosen Galileo b galileo
 
     p : PlanValue
@@ -187,26 +184,18 @@ module _ (k : Known) (place : ℕ) (valid : AreValid k) (read : HasReadRows k pl
     apart Gps = g.apart
     apart Galileo = l.apart
 
-    systems : (s : System) → (k.gps || k.galileo) ≡ true → of_system s k.gps k.galileo ≡ is_some_planned (planned_of s p)
-    systems Gps e = (same e).0 ∙ g.some
-    systems Galileo e = (same e).1 ∙ l.some
-
-    counts : (s : System) → 0 < of_system s k.gps_count k.galileo_count → of_system s k.gps_count k.galileo_count ≡ length (planned_of s p)
-    counts Gps = g.size
-    counts Galileo = l.size
-
-    signals : (s : System) → planned_of s k.shown.plan ≡ take (length (planned_of s k.shown.plan)) (planned_of s p)
-    signals Gps = g.begins
-    signals Galileo = l.begins
+    each : (s : System) → MayBeAll (k.gps.planned || k.galileo.planned) (announced k s) (planned_of s k.shown.plan) (planned_of s p)
+    each Gps = record { planned = λ e. (same e).0 ∙ g.some; count = g.size; begins = g.begins }
+    each Galileo = record { planned = λ e. (same e).1 ∙ l.some; count = l.size; begins = l.begins }
 
   pub some_plan : SomePlan k
-  some_plan = by (k.gps || k.galileo) refl where
+  some_plan = by (k.gps.planned || k.galileo.planned) refl where
     true_false : (c : Bool) → c ≡ true → c ≡ false → ⊥
     true_false c h e = cc
 
-    by : (c : Bool) → (k.gps || k.galileo) ≡ c → SomePlan k
-    by true e = made k.gps k.galileo e (λ h. h) (λ h. h) (λ h. (refl, refl))
-    by false e = made true true refl (λ h. refl) (λ h. refl) (λ h. absurd (true_false (k.gps || k.galileo) h e))
+    by : (c : Bool) → (k.gps.planned || k.galileo.planned) ≡ c → SomePlan k
+    by true e = made k.gps.planned k.galileo.planned e (λ h. h) (λ h. h) (λ h. (refl, refl))
+    by false e = made true true refl (λ h. refl) (λ h. refl) (λ h. absurd (true_false (k.gps.planned || k.galileo.planned) h e))
 
   pub with_is : (p : PlanValue) → MayPlan k p → IsShown (shown_with k p)
   with_is p may = record { texts = valid.texts; plan = may.is; values = valid.values; first = valid.first }

@@ -1,5 +1,5 @@
 -- What is known after each line of a header but those of types.
-use Rattle.std.proofs.Common.{arith, ◌≡◌, ◌≢◌, ◌∙◌, sym, ap, refl, subst, ℕ, ℤ, pos, suc, lit≤, ◌+◌, ◌-◌, ◌<◌, ◌≤◌, ◌^◌, Bool, true, false, List, [], ◌∷◌, take, map, get_or, min, Option, Some, None, IsTrue, ◌↔◌}
+use Rattle.std.proofs.Common.{arith, ◌≡◌, ◌≢◌, ◌∙◌, sym, ap, refl, subst, ℕ, ℤ, pos, suc, lit≤, ◌+◌, ◌-◌, ◌<◌, ◌≤◌, ◌^◌, Bool, true, false, List, [], ◌∷◌, length, take, map, get_or, min, Option, Some, None, IsTrue, ◌↔◌}
 use Rattle.std.proofs.Common.{w64, to_z, of_z, neg_ℤ}
 use Rattle.std.proofs.lemmas.Int.{to_z-of_z}
 use Rattle.std.specs.Prelude.{codes, ◌||◌, nat_le}
@@ -8,16 +8,17 @@ use Rattle.obs_epoch.specs.Dates.{civil_of}
 use Rattle.gnss_obs.specs.declared.system.System.{System}
 use Rattle.gnss_obs.specs.declared.system.System.TheVariants.{Gps, Galileo}
 use Rattle.rinex_file.specs.declared.header.fields.TextRow.{TextRow}
-use Rattle.rinex_file.specs.declared.header.fields.TextRow.TheVariants as row
 use Rattle.rinex_file.specs.declared.header.rows.HeaderRow.{HeaderRow}
 use Rattle.rinex_file.specs.declared.header.rows.HeaderRow.TheVariants.{Version, Texts, Position, Delta, StrengthUnit, First, Shift}
 use Rattle.rinex_file.specs.Texts.{HeaderLists, text_rows, text_row_index, start_of, count_of}
-use Rattle.rinex_file.specs.FileValues.{IsTime, IsCoordinate, of_system}
+use Rattle.obs_epoch.specs.Values.{PlanValue, planned_of}
+use Rattle.gnss_obs.specs.Signals.{table}
+use Rattle.rinex_file.specs.FileValues.{IsTime, IsCoordinate}
 use Rattle.rinex_file.specs.Header.{row_line, row_place, header_line, lengths, first_line, strength_line, shift_line, version_line, texts_line, first_types}
 use Rattle.rinex_file.specs.Lines.{letter_of}
 use Rattle.rinex_file.specs.Read.Fields.{ReadsExactly}
 use Rattle.rinex_file.specs.Read.Texts.{ReadsPosition}
-use Rattle.rinex_file.specs.Read.Progress.{Known, Shown, IsReadTo, IsOnlyTime, HasReadRows, shown_with, shown_line, lines_before, signals_begun, version_with, is_some_planned}
+use Rattle.rinex_file.specs.Read.Progress.{Announced, Known, Shown, MayBeAll, MayPlan, AreTypesRead, announced, IsReadTo, IsOnlyTime, HasReadRows, shown_with, shown_line, lines_before, signals_begun, version_with, is_some_planned}
 use Rattle.rinex_file.specs.Read.HeaderSteps.{ReadsHeaderLine, RefusesHeaderLine, ReadsOrRefuses, ReadsTexts, RefusesTexts, with_texts, with_values, with_first, with_systems}
 use Rattle.rinex_file.proofs.HeaderText.{same_line}
 use Rattle.rinex_file.proofs.HeaderAgree.{rows_when, version_same, some_in, types_low}
@@ -33,8 +34,8 @@ put r line old k new e l = subst (λ o. ReadsHeaderLine r line o new) e l
 
 -- the rows before and the next one were read
 next : (k : Known) (after n : ℕ) → IsOutside n → 0 < n → (22 < suc n → HasReadRows k n → IsOnlyTime after) → HasReadRows k n
-    → IsReadTo k.gps k.galileo k.gps_count k.galileo_count k.shown.plan after (suc n)
-next k after n out some only read = reads_next k.gps k.galileo k.gps_count k.galileo_count k.shown.plan k.shown.first after n out (read.systems some) (λ l. only l read) read
+    → IsReadTo k.gps k.galileo k.shown.plan after (suc n)
+next k after n out some only read = reads_next k.gps k.galileo k.shown.plan k.shown.first after n out (read.systems some) (λ l. only l read) read
 
 -- ---- texts
 
@@ -152,29 +153,34 @@ Systems line r = ReadsExactly (λ (p : Bool × Bool). (p.0 || p.1) ≡ true) (λ
 no_both : (b : Bool) → b ≡ true → b ≡ false → ⊥
 no_both b h k = cc
 
+-- no line of types was read before or after the first line
+first_read : (s : System) (a b : Announced) (signals : List ℕ) → b.count ≡ a.count → AreTypesRead s a signals 0 → AreTypesRead s b signals 1
+first_read s a b signals same r =
+    let low = types_low s in
+    record {
+      few = subst (λ (n : ℕ). n ≤ length (table s)) (sym same) r.few;
+      counted = (λ l. let less = (r.counted.0 (subst (λ (n : ℕ). 0 < n) same l)).1 in absurd (omega (arith, less)), λ q. let less = q.1 in absurd (omega (arith, low, less)));
+      size = r.size ∙ zeros a.count b.count (first_types s) low same;
+    } where
+      zeros : (c d b : ℕ) → 9 ≤ b → d ≡ c → min (signals_begun (0 - b)) c ≡ min (signals_begun (1 - b)) d
+      zeros c d b low same = let e : 0 - b ≡ 1 - b = omega (arith, low) in ap (λ m. min (signals_begun m) c) e ∙ ap (λ n. min (signals_begun (1 - b)) n) (sym same)
+
 pub line_version : (k : Known) (gps galileo : Bool) (line : List ℕ) → Systems line (Some (gps, galileo)) → ReadsHeaderLine Version line k (with_systems k gps galileo)
 unfolding row_line
 line_version k gps galileo line r rows known = record {
-  plans = λ p may. record {
-    is = may.is;
-    systems = λ s some. absurd (no_both (k.gps || k.galileo) some (rows.fresh refl));
-    counts = may.counts;
-    signals = may.signals;
-  };
+  plans = λ p may. record { is = may.is; each = before p may };
   before = λ p. refl;
   shows = λ p may. ap (λ l. l ∷ []) (version_same p
-      ∙ ap (λ g. version_with g (is_some_planned p.galileo)) (sym (may.systems Gps r.0)) ∙ ap (λ g. version_with gps g) (sym (may.systems Galileo r.0)) ∙ sym r.1);
-  reads = record {
-    systems = λ l. r.0;
-    fresh = λ e. absurd (omega (arith, e));
-    few = rows.few;
-    counts = λ s. (λ l. let less = ((rows.counts s).0 l).1 in absurd (omega (arith, less)), λ q. let low = types_low s in let less = q.1 in absurd (omega (arith, low, less)));
-    signals = λ s. rows.signals s ∙ zeros (of_system s k.gps_count k.galileo_count) (first_types s) (types_low s);
-    only = λ l. absurd (omega (arith, l));
-  };
+      ∙ ap (λ g. version_with g (is_some_planned p.galileo)) (sym ((may.each Gps).planned r.0)) ∙ ap (λ g. version_with gps g) (sym ((may.each Galileo).planned r.0)) ∙ sym r.1);
+  reads = record { systems = λ l. r.0; fresh = λ e. absurd (omega (arith, e)); each = each; only = λ l. absurd (omega (arith, l)) };
 } where
-  zeros : (c b : ℕ) → 9 ≤ b → min (signals_begun (0 - b)) c ≡ min (signals_begun (1 - b)) c
-  zeros c b low = let e : 0 - b ≡ 1 - b = omega (arith, low) in ap (λ m. min (signals_begun m) c) e
+  before : (p : PlanValue) → MayPlan (with_systems k gps galileo) p → (s : System) → MayBeAll (k.gps.planned || k.galileo.planned) (announced k s) (planned_of s k.shown.plan) (planned_of s p)
+  before p may Gps = let m = may.each Gps in record { planned = λ some. absurd (no_both _ some (rows.fresh refl)); count = m.count; begins = m.begins }
+  before p may Galileo = let m = may.each Galileo in record { planned = λ some. absurd (no_both _ some (rows.fresh refl)); count = m.count; begins = m.begins }
+
+  each : (s : System) → AreTypesRead s (announced (with_systems k gps galileo) s) (planned_of s k.shown.plan) 1
+  each Gps = first_read Gps k.gps _ _ refl (rows.each Gps)
+  each Galileo = first_read Galileo k.galileo _ _ refl (rows.each Galileo)
 
 pub refuse_version : (line : List ℕ) → Systems line None → RefusesHeaderLine Version line
 unfolding row_line

@@ -13,8 +13,8 @@ use Rattle.rinex_file.specs.declared.header.rows.HeaderRow.TheVariants.{Version,
 use Rattle.rinex_file.specs.Begun.{lines_of_header}
 use Rattle.rinex_file.specs.FileValues.{of_system}
 use Rattle.rinex_file.specs.Header.{has_line, row_at, row_count, row_place, first_types, type_rows}
-use Rattle.rinex_file.specs.Read.Progress.{Known, Shown, IsShown, AreValid, MayPlan, IsReadTo, HasReadRows, IsHeadAt, IsOnlyTime, shown_with, shown_rows, shown_line, lines_before, lines_after, plans, signal_count, is_some_planned, signals_begun}
-use Rattle.rinex_file.specs.Read.HeaderSteps.{known_line, ReadsHeaderLine, RefusesHeaderLine, GoesTo, NoneGoesOn, SameFrom, StepsTo}
+use Rattle.rinex_file.specs.Read.Progress.{Announced, Known, Shown, IsShown, AreValid, MayPlan, AreTypesRead, IsReadTo, HasReadRows, IsHeadAt, IsOnlyTime, shown_with, shown_rows, shown_line, lines_before, lines_after, announced, is_some_planned, signals_begun}
+use Rattle.rinex_file.specs.Read.HeaderSteps.{has_types, known_line, ReadsHeaderLine, RefusesHeaderLine, GoesTo, NoneGoesOn, SameFrom, StepsTo}
 use Rattle.rinex_file.proofs.Entries.{few_signals}
 use Rattle.rinex_file.proofs.HeaderAgree.{Agree, agreed, less_or, rows_when, same_there, types_low, types_high, is_lt}
 use Rattle.rinex_file.proofs.HeaderPlans.{with_is}
@@ -40,19 +40,25 @@ still_size n b c few within = grind (arith, less_or)
 few_counted : (s : System) (c : ℕ) → c ≤ length (table s) → c ≤ 19
 few_counted s c few = let most = few_signals s in omega (arith, few, most)
 
-module _ (gps galileo : Bool) (m c : ℕ) (read : PlanValue) (first after n : ℕ) where
+-- what was read of a system is the same after a row outside its types
+pub still_read : (s : System) (a : Announced) (signals : List ℕ) (n : ℕ) → (first_types s ≤ n → n < first_types s + 6 → ⊥) → AreTypesRead s a signals n → AreTypesRead s a signals (suc n)
+still_read s a signals n out r = record {
+  few = r.few;
+  counted = (λ l. let q = r.counted.0 l in let less = q.1 in (q.0, omega (arith, less)), λ q. r.counted.1 (q.0, before q.1));
+  size = r.size ∙ still_size n (first_types s) a.count (few_counted s a.count r.few) (λ more less. absurd (out more less));
+} where
+  before : first_types s < suc n → first_types s < n
+  before less = equal_or (first_types s < n) n (first_types s) (λ e. absurd (out (omega (arith, e)) (omega (arith, e)))) (λ far. omega (arith, less, far))
+
+module _ (gps galileo : Announced) (plan : PlanValue) (first after n : ℕ) where
   -- a row without a part of the plan
-  pub reads_next : IsOutside n → (gps || galileo) ≡ true → (22 < suc n → IsOnlyTime after) → IsReadTo gps galileo m c read first n → IsReadTo gps galileo m c read after (suc n)
+  pub reads_next : IsOutside n → (gps.planned || galileo.planned) ≡ true → (22 < suc n → IsOnlyTime after) → IsReadTo gps galileo plan first n → IsReadTo gps galileo plan after (suc n)
   reads_next out some only r = record {
     systems = λ l. some;
     fresh = λ e. absurd (omega (arith, e));
-    few = r.few;
-    counts = λ s. (λ l. let q = (r.counts s).0 l in let less = q.1 in (q.0, omega (arith, less)), λ q. (r.counts s).1 (q.0, before s q.1));
-    signals = λ s. r.signals s ∙ still_size n (first_types s) (of_system s m c) (few_counted s (of_system s m c) (r.few s)) (λ more less. absurd (out s more less));
+    each = λ s. still_read s (of_system s gps galileo) (planned_of s plan) n (out s) (r.each s);
     only = only;
-  } where
-    before : (s : System) → first_types s < suc n → first_types s < n
-    before s less = equal_or (first_types s < n) n (first_types s) (λ e. absurd (out s (omega (arith, e)) (omega (arith, e)))) (λ far. omega (arith, less, far))
+  }
 
 -- ---- which rows have a line
 
@@ -76,13 +82,14 @@ present Position k p may read = refl
 present Delta k p may read = refl
 present (Types s row) k p may read =
     let low = types_low s in
-    let planned : plans k s ≡ nat_lt 0 (length (planned_of s p)) = may.systems s (read.systems (omega (arith, low))) ∙ sym (planned_is (planned_of s p)) in
-    types_there row (signal_count k s) (length (planned_of s p)) (plans k s) planned
-    (λ far some. may.counts s ((read.counts s).1 (planned_true (plans k s) (length (planned_of s p)) planned some, omega (arith, far))))
+    let a = announced k s in
+    let planned : a.planned ≡ nat_lt 0 (length (planned_of s p)) = (may.each s).planned (read.systems (omega (arith, low))) ∙ sym (planned_is (planned_of s p)) in
+    types_there row a.count (length (planned_of s p)) a.planned planned
+    (λ far some. (may.each s).count ((read.each s).counted.1 (planned_true a.planned (length (planned_of s p)) planned some, omega (arith, far))))
 present StrengthUnit k p may read = refl
 present First k p may read = refl
-present (Shift Gps) k p may read = planned_is p.gps ∙ sym (may.systems Gps (read.systems (lit≤ tt)))
-present (Shift Galileo) k p may read = planned_is p.galileo ∙ sym (may.systems Galileo (read.systems (lit≤ tt)))
+present (Shift Gps) k p may read = planned_is p.gps ∙ sym ((may.each Gps).planned (read.systems (lit≤ tt)))
+present (Shift Galileo) k p may read = planned_is p.galileo ∙ sym ((may.each Galileo).planned (read.systems (lit≤ tt)))
 present End k p may read = refl
 
 present_at : (n : ℕ) (k : Known) (p : PlanValue) → n < row_count → MayPlan k p → HasReadRows k n → has_line p (row_at n) ≡ known_line k (row_at n)
@@ -90,8 +97,16 @@ present_at n k p less may read = present (row_at n) k p may (subst (HasReadRows 
 
 -- ---- a row without a line
 
-pub same_system : (s t : System) (row : ℕ) → row < 6 → first_types t ≤ first_types s + row → first_types s + row < first_types t + 6 → s ≡ t
-same_system s t row less more few = grind arith
+abbrev pub other : System → System
+other Gps = Galileo
+other Galileo = Gps
+
+-- what holds of a system and of the other holds of every system
+pub either_system : (P : System → Type 0) (s : System) → P s → P (other s) → (t : System) → P t
+either_system P s a b t = grind arith
+
+pub far_other : (s : System) (row : ℕ) → row < 6 → first_types (other s) ≤ first_types s + row → first_types s + row < first_types (other s) + 6 → ⊥
+far_other s row less more few = grind arith
 
 -- a row of types has a number
 abbrev pub IsRow : HeaderRow → Type 0
@@ -125,38 +140,28 @@ uncounted : (c : ℕ) (b : Bool) (P : Type 0) → (0 < c ↔ ((b ≡ true) × P)
 uncounted zero b P is e = refl
 uncounted (suc c) b P is e = grind arith
 
+skip_own : (s : System) (a : Announced) (signals : List ℕ) (row : ℕ) → has_types a row ≡ false → AreTypesRead s a signals (first_types s + row) → AreTypesRead s a signals (suc (first_types s + row))
+skip_own s a signals row lacks r = record {
+  few = r.few;
+  counted = (λ l. let q = r.counted.0 l in let less = q.1 in (q.0, omega (arith, less)), λ q. let some = (none_left a.planned row a.count lacks q.0).0 in r.counted.1 (q.0, omega (arith, some)));
+  size = r.size ∙ still_size (first_types s + row) (first_types s) a.count (few_counted s a.count r.few) (λ more less. fits a.count (first_types s) (first_types s + row) (here a.planned refl) refl);
+} where
+  fits : (c b n : ℕ) → c ≤ signals_begun row → n ≡ b + row → c ≤ signals_begun (n - b)
+  fits c b n few e = let m : n - b ≡ row = omega (arith, e) in subst (λ j. c ≤ signals_begun j) (sym m) few
+
+  here : (c : Bool) → a.planned ≡ c → a.count ≤ signals_begun row
+  here true e = (none_left a.planned row a.count lacks e).1
+  here false e = let none = uncounted a.count a.planned _ r.counted e in omega (arith, none)
+
 skip_types : (s : System) (row : ℕ) (k : Known) → row < 6 → known_line k (Types s row) ≡ false → HasReadRows k (first_types s + row) → HasReadRows k (suc (first_types s + row))
 skip_types s row k few lacks r = record {
   systems = λ l. r.systems (let low = types_low s in omega (arith, low));
   fresh = λ e. absurd (omega (arith, e));
-  few = r.few;
-  counts = λ t. (λ l. let q = (r.counts t).0 l in let less = q.1 in (q.0, omega (arith, less)), λ q. (r.counts t).1 (q.0, before t q.0 q.1));
-  signals = λ t. r.signals t ∙ still_size (first_types s + row) (first_types t) (signal_count k t) (few_counted t (signal_count k t) (r.few t)) (within t);
+  each = either_system (λ t. AreTypesRead t (announced k t) (planned_of t k.shown.plan) (suc (first_types s + row))) s
+      (skip_own s (announced k s) (planned_of s k.shown.plan) row lacks (r.each s))
+      (still_read (other s) (announced k (other s)) (planned_of (other s) k.shown.plan) (first_types s + row) (far_other s row few) (r.each (other s)));
   only = λ l. let high = types_high s in absurd (omega (arith, l, few, high));
-} where
-  at_row : plans k s ≡ true → 0 < row × signal_count k s ≤ signals_begun row
-  at_row = none_left (plans k s) row (signal_count k s) lacks
-
-  before : (t : System) → plans k t ≡ true → first_types t < suc (first_types s + row) → first_types t < first_types s + row
-  before t planned less = equal_or (first_types t < first_types s + row) (first_types s + row) (first_types t)
-      (λ e.
-      let same : s ≡ t = same_system s t row few (omega (arith, e)) (omega (arith, e)) in
-      let some = (at_row (subst (λ u. plans k u ≡ true) (sym same) planned)).0 in
-      let f = ap first_types same in
-      absurd (omega (arith, e, f, some)))
-      (λ far. omega (arith, less, far))
-
-  fits : (c b n : ℕ) → c ≤ signals_begun row → n ≡ b + row → c ≤ signals_begun (n - b)
-  fits c b n few e = let m : n - b ≡ row = omega (arith, e) in subst (λ j. c ≤ signals_begun j) (sym m) few
-
-  here : (c : Bool) → plans k s ≡ c → signal_count k s ≤ signals_begun row
-  here true e = (at_row e).1
-  here false e = let none = uncounted (signal_count k s) (plans k s) _ (r.counts s) e in omega (arith, none)
-
-  within : (t : System) → first_types t ≤ first_types s + row → first_types s + row < first_types t + 6 → signal_count k t ≤ signals_begun ((first_types s + row) - first_types t)
-  within t more less =
-      let same : s ≡ t = same_system s t row few more less in
-      subst (λ u. signal_count k u ≤ signals_begun ((first_types s + row) - first_types u)) same (fits (signal_count k s) (first_types s) (first_types s + row) (here (plans k s) refl) refl)
+}
 
 skip_row : (r : HeaderRow) (k : Known) → IsRow r → known_line k r ≡ false → HasReadRows k (row_place r) → HasReadRows k (suc (row_place r))
 skip_row Version k row lacks read = cc
@@ -166,8 +171,8 @@ skip_row Delta k row lacks read = cc
 skip_row (Types s i) k row lacks read = skip_types s i k row lacks read
 skip_row StrengthUnit k row lacks read = cc
 skip_row First k row lacks read = cc
-skip_row (Shift Gps) k row lacks read = reads_next k.gps k.galileo k.gps_count k.galileo_count k.shown.plan k.shown.first k.shown.first 23 (outside_high 23 (lit≤ tt)) (read.systems (lit≤ tt)) (λ l. read.only (lit≤ tt)) read
-skip_row (Shift Galileo) k row lacks read = reads_next k.gps k.galileo k.gps_count k.galileo_count k.shown.plan k.shown.first k.shown.first 24 (outside_high 24 (lit≤ tt)) (read.systems (lit≤ tt)) (λ l. read.only (lit≤ tt)) read
+skip_row (Shift Gps) k row lacks read = reads_next k.gps k.galileo k.shown.plan k.shown.first k.shown.first 23 (outside_high 23 (lit≤ tt)) (read.systems (lit≤ tt)) (λ l. read.only (lit≤ tt)) read
+skip_row (Shift Galileo) k row lacks read = reads_next k.gps k.galileo k.shown.plan k.shown.first k.shown.first 24 (outside_high 24 (lit≤ tt)) (read.systems (lit≤ tt)) (λ l. read.only (lit≤ tt)) read
 skip_row End k row lacks read = cc
 
 not_last : (n : ℕ) (k : Known) → n < row_count → known_line k (row_at n) ≡ false → suc n < row_count

@@ -6,7 +6,6 @@ use Rattle.std.proofs.lemmas.List.{length-replicate, take_at, drop_at, get_or-se
 use Rattle.gnss_obs.proofs.Checked.{is_equal, passes_at}
 use Rattle.rinex_file.specs.declared.header.fields.HeaderField.{HeaderField}
 use Rattle.rinex_file.specs.declared.header.fields.TextRow.{TextRow}
-use Rattle.rinex_file.specs.declared.header.fields.TextRow.TheVariants as row
 use Rattle.rinex_file.specs.Blanks.{trimmed}
 use Rattle.rinex_file.specs.Numbers.{left}
 use Rattle.rinex_file.specs.Texts.{HeaderLists, width_of, column_at, place_of, field_at, text_count, front_of, start_of, count_of, label_of}

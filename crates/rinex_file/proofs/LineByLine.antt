@@ -79,15 +79,11 @@ same_number n m e = grind arith
 
 -- what holds of these bytes with any rest holds of the input of a reader that returned them
 pub consumed : (a b : Option (List ℕ)) (bytes : List ℕ) (P : List ℕ → Type 0) → Consumes a b bytes → ((rest : List ℕ) → P (bytes ++ rest)) → IfSome a P
-consumed None b bytes P took h = tt
-consumed (Some x) None bytes P took h = absurd took
-consumed (Some x) (Some y) bytes P took h = subst P (sym took) (h y)
+consumed v0 b bytes v3 took h = grind arith
 
 -- the same if nothing is left
 consumed_all : (a b : Option (List ℕ)) (bytes : List ℕ) (P : List ℕ → Type 0) → Consumes a b bytes → IsAtEnd b → P bytes → IfSome a P
-consumed_all None b bytes P took end h = tt
-consumed_all (Some x) None bytes P took end h = absurd took
-consumed_all (Some x) (Some y) bytes P took end h = subst P (sym (took ∙ ap (λ l. bytes ++ l) end ∙ append-nil bytes)) h
+consumed_all v0 b bytes v3 took end h = grind (arith, append-nil)
 
 taken_more : (a b c : Option (List ℕ)) (taken : List (List ℕ)) (line : List ℕ) → Consumes a b (joined taken) → Consumes b c line → Consumes a c (joined (taken ++ line ∷ []))
 taken_more a b c taken line first next = subst (Consumes a c) (sym (joined-more taken line)) (Consumes-trans a b c (joined taken) line first next)
@@ -232,21 +228,18 @@ after_fault s n a b c bytes fault result t some next is why =
 
 -- two properties of the input, if it is known
 pub both_said : (a : Option (List ℕ)) (P Q : List ℕ → Type 0) → IfSome a P → IfSome a Q → IfSome a (λ input. P input × Q input)
-both_said None P Q p q = tt
-both_said (Some x) P Q p q = (p, q)
+both_said v0 v1 v2 p q = grind arith
 
 -- a property of the input that follows from another
 pub said_of : (a : Option (List ℕ)) (P Q : List ℕ → Type 0) → ((input : List ℕ) → P input → Q input) → IfSome a P → IfSome a Q
-said_of None P Q h p = tt
-said_of (Some x) P Q h p = h x p
+said_of v0 v1 v2 h p = grind arith
 
 pub long_some : (bytes : List ℕ) → length bytes ≡ 1220 → 0 < length bytes
 long_some bytes size = omega (arith, size)
 
 -- a memory fault has nothing to explain
 pub no_reason : (a : Option (List ℕ)) (v : FileValue) → IfSome a (λ input. input ≡ file_text v → ⊤)
-no_reason None v = tt
-no_reason (Some x) v = λ e. tt
+no_reason v0 v = grind arith
 
 -- a line has its line feed
 pub line_some : (bytes : List ℕ) → IsLine bytes → 0 < length bytes
@@ -255,8 +248,7 @@ line_some bytes (b ∷ body, is, endless) = subst (λ (l : List ℕ). 0 < length
 
 -- a fault with nothing to explain
 pub said_nothing : (a : Option (List ℕ)) → IfSome a (λ input. ⊤)
-said_nothing None = tt
-said_nothing (Some x) = tt
+said_nothing v0 = grind arith
 
 -- ---- if the reader didn't fail
 

@@ -5,7 +5,7 @@ use Rattle.std.specs.List.{list_all}
 use Rattle.std.specs.Option.{option_map_or}
 use Rattle.std.proofs.lemmas.Int.{ints}
 use Rattle.std.proofs.lemmas.List.Elements.{All-head, All-tail, All-cons, All-map, All-drop}
-use Rattle.gnss_obs.specs.Signals.{table, code_of}
+use Rattle.gnss_obs.specs.Signals.{code_of}
 use Rattle.gnss_obs.specs.declared.tables.ListedSignal.{ListedSignal as TableEntry}
 use Rattle.gnss_obs.specs.declared.system.System.{System}
 use Rattle.gnss_obs.specs.declared.system.System.TheVariants.{Gps, Galileo}
@@ -15,7 +15,6 @@ use Rattle.obs_epoch.specs.Dates.{YearMonthDay, month_on, year_on, month_length,
 use Rattle.obs_epoch.specs.Values.{PlanValue, planned_of}
 use Rattle.obs_epoch.specs.Weeks.{day as day_length}
 use Rattle.rinex_file.specs.declared.header.fields.TextRow.{TextRow}
-use Rattle.rinex_file.specs.declared.header.fields.TextRow.TheVariants as row
 use Rattle.rinex_file.specs.declared.header.rows.HeaderRow.{HeaderRow}
 use Rattle.rinex_file.specs.declared.header.rows.HeaderRow.TheVariants.{Version, Texts, Position, Delta, Types, StrengthUnit, First, Shift, End}
 use Rattle.rinex_file.specs.Exact.{IsLine}
@@ -98,8 +97,7 @@ length_field : (z : ℤ) → unsigned_abs z < 2 ^ 64 → IsPlain 80 (right 14 (f
 length_field z fits = of_80 (14 + 46) (right 14 (fixed 4 z)) (plain-right 14 46 (fixed 4 z) (plain-fixed 4 z fits)) (lit≤ tt)
 
 small_number : (low high : ℕ) (z : ℤ) → IsFrom (negsuc low) (pos high) z → low < 2 ^ 60 → high < 2 ^ 60 → unsigned_abs z < 2 ^ 64
-small_number low high (pos n) h a b = let top = h.1 in let most : n ≤ high = omega (arith, ints, top) in omega (arith, most, b)
-small_number low high (negsuc n) h a b = let least = h.0 in let most : n ≤ low = omega (arith, ints, least) in omega (arith, most, a)
+small_number low high v2 h a b = grind (arith, ints, negsuc, pos)
 
 three_lengths : (a b c : ℤ) (label : List ℕ) → unsigned_abs a < 2 ^ 64 → unsigned_abs b < 2 ^ 64 → unsigned_abs c < 2 ^ 64 → IsPlain 20 label
     → IsFileLine (header_line (lengths a b c) label)
@@ -125,8 +123,7 @@ code_at (e ∷ es) h (suc i) = code_at es (both (plain_code e) (list_all plain_c
 
 code_of_signal : (system : System) (i : ℕ) → IsPlain 2 (code_of (record { system = system; index = i }))
 unfolding plain_code
-code_of_signal Gps i = code_at (table Gps) refl i
-code_of_signal Galileo i = code_at (table Galileo) refl i
+code_of_signal v0 i = grind (arith, code_at)
 
 codes_are_plain : (system : System) (signals : List ℕ) → All (IsPlain 2) (codes_of system signals)
 codes_are_plain system signals = All-map (IsPlain 2) (λ index. code_of (record { system = system; index = index })) signals (λ k d h. code_of_signal system (get_or signals k d))

@@ -1,8 +1,8 @@
 -- From one line of a header to the next while its lines are read.
-use Rattle.std.specs.Prelude.{◌≡◌, ℕ, suc, ◌+◌, ◌<◌, ◌==◌, ◌||◌, ◌&&◌, nat_lt, Bool, true, List, [], ◌∷◌, ◌++◌, length}
+use Rattle.std.specs.Prelude.{◌≡◌, ℕ, suc, ◌+◌, ◌<◌, ◌≤◌, ◌==◌, ◌||◌, ◌&&◌, nat_lt, Bool, true, List, [], ◌∷◌, ◌++◌, length}
 use Rattle.std.specs.Prelude.{get_or, take, drop, min, Option, Some, None, ⊤, ◌↔◌, MatchBool}
 use Rattle.obs_epoch.specs.declared.cell.StationValues.{StationValues}
-use Rattle.gnss_obs.specs.Signals.{SignalAt, IsSignal, code_of}
+use Rattle.gnss_obs.specs.Signals.{SignalAt, IsSignal, code_of, table}
 use Rattle.gnss_obs.specs.declared.system.System.{System}
 use Rattle.gnss_obs.specs.declared.system.System.TheVariants.{Gps, Galileo}
 use Rattle.obs_epoch.specs.Values.{PlanValue}
@@ -14,8 +14,8 @@ use Rattle.rinex_file.specs.Blanks.{trimmed}
 use Rattle.rinex_file.specs.Texts.{HeaderLists, width_of, column_at, field_at, start_of, count_of}
 use Rattle.rinex_file.specs.FileValues.{AreTexts, of_system}
 use Rattle.rinex_file.specs.Header.{row_place, texts_line, type_rows}
-use Rattle.rinex_file.specs.Read.Progress.{Known, Shown, IsShown, MayPlan, HasReadRows, IsHeadAt, IsOnlyTime}
-use Rattle.rinex_file.specs.Read.Progress.{shown_with, shown_rows, lines_before, plans, signal_count, shown_line}
+use Rattle.rinex_file.specs.Read.Progress.{Announced, Known, Shown, IsShown, MayPlan, HasReadRows, IsHeadAt, IsOnlyTime}
+use Rattle.rinex_file.specs.Read.Progress.{shown_with, shown_rows, lines_before, announced, shown_line}
 use Rattle.rinex_file.specs.Read.Progress.{AreTypes, types_line, signals_begun}
 
 -- a row other than those of types and the last
@@ -24,10 +24,14 @@ IsOnly (Types system row) = ⊥
 IsOnly End = ⊥
 IsOnly other = ⊤
 
+-- whether a system has a line of types with this number, counted from 0
+abbrev pub has_types : Announced → ℕ → Bool
+has_types a row = a.planned && (row == 0 || nat_lt row (type_rows a.count))
+
 -- whether a row has a line, by the first line of the file and a system's first line of types
 abbrev pub known_line : Known → HeaderRow → Bool
-known_line k (Types system row) = plans k system && (row == 0 || nat_lt row (type_rows (signal_count k system)))
-known_line k (Shift system) = plans k system
+known_line k (Types system row) = has_types (announced k system) row
+known_line k (Shift system) = (announced k system).planned
 known_line k other = true
 
 -- The line is that of a row, by what is known after it; the rows before and what was known of the plan are unchanged.
@@ -111,22 +115,20 @@ with_first k first = record k { shown = record k.shown { first = first } }
 
 -- what was read, with the systems of the first line
 abbrev pub with_systems : Known → Bool → Bool → Known
-with_systems k gps galileo = record k { gps = gps; galileo = galileo }
+with_systems k gps galileo =
+    record k { gps = record k.gps { planned = gps }; galileo = record k.galileo { planned = galileo } }
 
 -- the same plan with the signals of a system
 abbrev pub plan_with : System → PlanValue → List ℕ → PlanValue
 plan_with Gps p signals = record p { gps = signals }
 plan_with Galileo p signals = record p { galileo = signals }
 
--- what was read, with the signals of a system
-abbrev pub with_signals : System → Known → List ℕ → Known
-with_signals system k signals = record k { shown = record k.shown { plan = plan_with system k.shown.plan signals } }
-
--- what was read, with the number of a system's signals
-abbrev pub with_count : System → Known → ℕ → Known
-with_count system k count = record k {
-  gps_count = of_system system count k.gps_count;
-  galileo_count = of_system system k.galileo_count count;
+-- what was read, with the number of a system's signals and those that were read
+abbrev pub with_types : System → Known → ℕ → List ℕ → Known
+with_types system k count signals = record k {
+  shown = record k.shown { plan = plan_with system k.shown.plan signals };
+  gps = record k.gps { count = of_system system count k.gps.count };
+  galileo = record k.galileo { count = of_system system k.galileo.count count };
 }
 
 -- ---- lines of types
@@ -135,29 +137,28 @@ with_count system k count = record k {
 abbrev pub AreBegun : ℕ → ℕ → List ℕ → List ℕ → Type 0
 AreBegun count row signals all = (length all ≡ count) × (signals ≡ take (signals_begun row) all)
 
--- the signals that begin in a line were appended to those of the lines before
-pub record TakesRow (system : System) (count row : ℕ) (line old new : List ℕ) : Type 0 where
+-- A line of the types of a system was read, after lines with the number `before` and the signals `old`: the number of
+-- the system's signals, and those that begin in the lines up to this one.
+pub record TakesTypes (system : System) (row : ℕ) (line : List ℕ) (before : ℕ) (old : List ℕ) (count : ℕ)
+    (new : List ℕ) : Type 0 where
+  pub few : count ≤ length (table system)
+  pub rows : row < type_rows count
+  pub later : 0 < row → before ≡ count
   pub taken : (all : List ℕ) → AreTypes system all → (AreBegun count row old all × (line ≡ types_line system all row))
       ↔ AreBegun count (row + 1) new all
   pub size : length new ≡ min (signals_begun (row + 1)) count
 
--- the number of signals of a system, if this line of its types is expected
-abbrev pub CountsExpected : Known → System → ℕ → List ℕ → Option ℕ → Type 0
-CountsExpected k system row line count =
-    (all : List ℕ) → AreTypes system all → (0 < row → signal_count k system ≡ length all) → row < type_rows (length all)
-    → line ≡ types_line system all row → count ≡ Some (length all)
+-- no signals of a system with this number, of which `old` were read, have this line of types
+abbrev pub RefusesTypes : System → ℕ → List ℕ → ℕ → List ℕ → Type 0
+RefusesTypes system row line count old =
+    (all : List ℕ) → AreTypes system all → (0 < row → count ≡ length all) → old ≡ take (signals_begun row) all
+    → line ≡ types_line system all row → ⊥
 
 -- if the line is that of these types, the signals that begin in it were appended to those of the lines before
 abbrev pub ReadsRow : System → ℕ → ℕ → List ℕ → List ℕ → List ℕ → Type 0
 ReadsRow system count row line old new =
     (all : List ℕ) → AreTypes system all → AreBegun count row old all → line ≡ types_line system all row
     → new ≡ take (signals_begun (row + 1)) all
-
--- the line is that of these types if and only if the signals that begin in it were appended
-abbrev pub ComparesRow : System → ℕ → ℕ → List ℕ → List ℕ → List ℕ → Type 0
-ComparesRow system count row line old new =
-    (all : List ℕ) → AreTypes system all → AreBegun count row old all → (line ≡ types_line system all row)
-    ↔ (new ≡ take (signals_begun (row + 1)) all)
 
 -- the code of this signal of a system is at a column of a line, counted from 0
 abbrev pub HasSignalAt : System → List ℕ → ℕ → SignalAt → Type 0

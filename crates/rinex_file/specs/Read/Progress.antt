@@ -1,7 +1,7 @@
 -- What is known of a file while it is read line by line, and which files are still possible.
 use Rattle.std.specs.Prelude.{◌≡◌, ℕ, ℤ, ◌+◌, ◌-◌, ◌*◌, ◌/◌, ◌<◌, ◌≤◌, ◌==◌, ◌||◌, ◌↔◌, not, true, false, min, Bool}
 use Rattle.std.specs.Prelude.{List, [], ◌∷◌, ◌++◌, length, take, drop, map, All, replicate, codes, pos, nat_eq}
-use Rattle.std.specs.Prelude.{if◌then◌else◌, flat_map, Option, Some, None, ⊤}
+use Rattle.std.specs.Prelude.{if◌then◌else◌, flat_map, Option, Some, ⊤}
 use Rattle.gnss_obs.specs.declared.system.System.{System}
 use Rattle.obs_epoch.specs.declared.cell.StationValues.{StationValues}
 use Rattle.obs_epoch.specs.Values.{PlanValue, planned_of}
@@ -13,7 +13,7 @@ use Rattle.rinex_file.specs.declared.read.expected.Expected.TheVariants.{EventEp
 use Rattle.rinex_file.specs.Texts.{HeaderLists}
 use Rattle.rinex_file.specs.Value.{SatelliteRow, Stamped, FileValue}
 use Rattle.rinex_file.specs.FileValues.{AreTexts, IsPlan, AreValues, IsTime, IsFileValue, of_system}
-use Rattle.rinex_file.specs.Header.{row_line, row_lines, header_lines, lines_from, all_rows, row_count, first_types}
+use Rattle.rinex_file.specs.Header.{row_line, row_lines, lines_from, all_rows, row_count, first_types}
 use Rattle.rinex_file.specs.Header.{first_line, header_line, type_line, types_of, codes_of}
 use Rattle.rinex_file.specs.Limits.{types_in_line}
 use Rattle.rinex_file.specs.Lines.{satellite_line, letter_of}
@@ -53,20 +53,20 @@ lines_before h place = flat_map (shown_rows h) (take place all_rows)
 abbrev pub lines_after : Shown → ℕ → List (List ℕ)
 lines_after h place = lines_from h.texts h.plan h.values (civil_of h.first) place
 
--- What was read of a header: its parts, each with its initial value until its line is read; whether a system is
--- planned, by the first line; and the number of its signals, by its first line of types.
+-- what the lines of a header have of a system: whether it is planned, by the first line, and the number of its
+-- signals, by its first line of types
+pub record Announced : Type 0 where
+  pub planned : Bool
+  pub count : ℕ
+
+-- what was read of a header: its parts, each with its initial value until its line is read
 pub record Known : Type 0 where
   pub shown : Shown
-  pub gps : Bool
-  pub galileo : Bool
-  pub gps_count : ℕ
-  pub galileo_count : ℕ
+  pub gps : Announced
+  pub galileo : Announced
 
-abbrev pub plans : Known → System → Bool
-plans k system = of_system system k.gps k.galileo
-
-abbrev pub signal_count : Known → System → ℕ
-signal_count k system = of_system system k.gps_count k.galileo_count
+abbrev pub announced : Known → System → Announced
+announced k system = of_system system k.gps k.galileo
 
 -- some signal is planned
 abbrev pub is_some_planned : List ℕ → Bool
@@ -106,17 +106,21 @@ pub record AreValid (k : Known) : Type 0 where
   pub values : AreValues k.shown.values
   pub first : IsTime k.shown.first
 
--- The plan `p` has what was read of it: the systems of the first line, the numbers of signals of the first lines of
--- types, and the signals so far.
-pub record IsPlanOf (gps galileo : Bool) (gps_count galileo_count : ℕ) (read p : PlanValue) : Type 0 where
+-- A system has these signals in all: it is planned or not, by the first line if that was read, they are as many as its
+-- first line of types has, and those that were read are the first of them.
+pub record MayBeAll (is_begun : Bool) (a : Announced) (signals all : List ℕ) : Type 0 where
+  pub planned : is_begun ≡ true → a.planned ≡ is_some_planned all
+  pub count : 0 < a.count → a.count ≡ length all
+  pub begins : signals ≡ take (length signals) all
+
+-- the plan `p` has what was read of it
+pub record IsPlanOf (gps galileo : Announced) (plan p : PlanValue) : Type 0 where
   pub is : IsPlan p
-  pub systems : (s : System) → (gps || galileo) ≡ true → of_system s gps galileo ≡ is_some_planned (planned_of s p)
-  pub counts : (s : System) → 0 < of_system s gps_count galileo_count
-      → of_system s gps_count galileo_count ≡ length (planned_of s p)
-  pub signals : (s : System) → planned_of s read ≡ take (length (planned_of s read)) (planned_of s p)
+  pub each : (s : System)
+      → MayBeAll (gps.planned || galileo.planned) (of_system s gps galileo) (planned_of s plan) (planned_of s p)
 
 abbrev pub MayPlan : Known → PlanValue → Type 0
-MayPlan k p = IsPlanOf k.gps k.galileo k.gps_count k.galileo_count k.shown.plan p
+MayPlan k p = IsPlanOf k.gps k.galileo k.shown.plan p
 
 -- the header that was read, with this plan
 abbrev pub shown_with : Known → PlanValue → Shown
@@ -126,20 +130,21 @@ shown_with k p = record k.shown { plan = p }
 abbrev pub IsOnlyTime : ℕ → Type 0
 IsOnlyTime time = (t : ℕ) → IsTime t → first_line (civil_of t) ≡ first_line (civil_of time) → t ≡ time
 
--- The rows before an index were read: of each system the signals that begin in its lines of types, at most its count.
-pub record IsReadTo (gps galileo : Bool) (gps_count galileo_count : ℕ) (read : PlanValue)
-    (first place : ℕ) : Type 0 where
-  pub systems : 0 < place → (gps || galileo) ≡ true
-  pub fresh : place ≡ 0 → (gps || galileo) ≡ false
-  pub few : (s : System) → of_system s gps_count galileo_count ≤ length (table s)
-  pub counts : (s : System) → (0 < of_system s gps_count galileo_count)
-      ↔ ((of_system s gps galileo ≡ true) × (first_types s < place))
-  pub signals : (s : System)
-      → length (planned_of s read) ≡ min (signals_begun (place - first_types s)) (of_system s gps_count galileo_count)
+-- the lines of a system's types before an index were read: the signals that begin in them, at most its count
+pub record AreTypesRead (s : System) (a : Announced) (signals : List ℕ) (place : ℕ) : Type 0 where
+  pub few : a.count ≤ length (table s)
+  pub counted : (0 < a.count) ↔ ((a.planned ≡ true) × (first_types s < place))
+  pub size : length signals ≡ min (signals_begun (place - first_types s)) a.count
+
+-- the rows before an index were read
+pub record IsReadTo (gps galileo : Announced) (plan : PlanValue) (first place : ℕ) : Type 0 where
+  pub systems : 0 < place → (gps.planned || galileo.planned) ≡ true
+  pub fresh : place ≡ 0 → (gps.planned || galileo.planned) ≡ false
+  pub each : (s : System) → AreTypesRead s (of_system s gps galileo) (planned_of s plan) place
   pub only : 22 < place → IsOnlyTime first
 
 abbrev pub HasReadRows : Known → ℕ → Type 0
-HasReadRows k place = IsReadTo k.gps k.galileo k.gps_count k.galileo_count k.shown.plan k.shown.first place
+HasReadRows k place = IsReadTo k.gps k.galileo k.shown.plan k.shown.first place
 
 -- a line of a header is expected, that of the row at an index or of a later one
 pub record IsHeadAt (k : Known) (place : ℕ) : Type 0 where

@@ -19,8 +19,8 @@ impl HeadSoFar {
     {
         match read_version(line) {
             Some((gps, galileo)) => {
-                self.has_gps = gps;
-                self.has_galileo = galileo;
+                self.gps.is_planned = gps;
+                self.galileo.is_planned = galileo;
                 true
             }
             None => false,

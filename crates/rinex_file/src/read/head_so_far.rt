@@ -1,12 +1,12 @@
 //! What was read of a header.
-ghost use Rattle.std.specs.Prelude.{◌≡◌, ◌<◌, ◌≤◌, ◌+◌, true, length, Err, IfOk, IfSome, OnOk};
+ghost use Rattle.std.specs.Prelude.{◌≡◌, ◌<◌, ◌≤◌, ◌+◌, true, length, Err, IfOk, OnOk};
 ghost use Rattle.gnss_obs.specs.Signals.{table};
-ghost use Rattle.obs_epoch.specs.Signals.{indices, IsOf};
+ghost use Rattle.obs_epoch.specs.Signals.{indices};
 ghost use Rattle.obs_epoch.specs.Values.{planned_of};
-ghost use Rattle.rinex_file.specs.Header.{type_rows, row_at, first_types};
-ghost use Rattle.rinex_file.specs.Read.Progress.{AreValid, IsHeadAt, plans, signal_count};
-ghost use Rattle.rinex_file.specs.Read.HeaderSteps.{known_line, ReadsHeaderLine, NoneGoesOn, SameFrom, StepsTo};
-ghost use Rattle.rinex_file.specs.Read.HeaderSteps.{CountsExpected, TakesRow, RefusesRow, with_signals, with_count};
+ghost use Rattle.rinex_file.specs.Header.{type_rows, row_at};
+ghost use Rattle.rinex_file.specs.Read.Progress.{AreValid, IsHeadAt, announced, signals_begun};
+ghost use Rattle.rinex_file.specs.Read.HeaderSteps.{known_line, NoneGoesOn, SameFrom, StepsTo};
+ghost use Rattle.rinex_file.specs.Read.HeaderSteps.{TakesTypes, RefusesTypes, with_types};
 
 use crate::header::labels;
 use crate::header::rows::{HeaderRow, row_at};
@@ -14,9 +14,9 @@ use crate::header::texts::HeaderTexts;
 use crate::header::types::type_rows;
 use crate::read::expected::Refusal;
 use crate::read::station::is_header_line;
-use crate::read::types::{read_count, read_types, signals_begun};
+use crate::read::types::TypesSoFar;
 use crate::write::numbers::Line;
-use gnss_obs::{Signal, System};
+use gnss_obs::System;
 use obs_epoch::{GpsTime, StationValues};
 use std::alloc::Global;
 use std::marker::Model;
@@ -25,14 +25,10 @@ use std::marker::Model;
 #[derive(Drop)]
 pub(crate) struct HeadSoFar {
     pub(crate) texts: HeaderTexts,
-    pub(crate) gps: Vec<Signal>,
-    pub(crate) galileo: Vec<Signal>,
+    pub(crate) gps: TypesSoFar,
+    pub(crate) galileo: TypesSoFar,
     pub(crate) values: StationValues,
     pub(crate) first: GpsTime,
-    pub(crate) has_gps: bool,
-    pub(crate) has_galileo: bool,
-    gps_count: usize,
-    galileo_count: usize,
 }
 
 impl Model for HeadSoFar {
@@ -49,45 +45,17 @@ impl Model for HeadSoFar {
       shown =
           record {
             texts = h.texts;
-            plan = record { gps = indices h.gps.items; galileo = indices h.galileo.items };
+            plan = record { gps = indices h.gps.signals.items; galileo = indices h.galileo.signals.items };
             values = h.values;
             first = h.first;
           };
-      gps = h.has_gps;
-      galileo = h.has_galileo;
-      gps_count = h.gps_count;
-      galileo_count = h.galileo_count;
+      gps = record { planned = h.gps.is_planned; count = h.gps.count };
+      galileo = record { planned = h.galileo.is_planned; count = h.galileo.count };
     } };
 
-    ghost invariant = { λ h. IsOf Gps h.gps.items × IsOf Galileo h.galileo.items × AreValues h.values × IsTime h.first
-        × (h.gps_count ≤ length (table Gps)) × (h.galileo_count ≤ length (table Galileo)) };
-}
-
-/// Appends the signals whose types begin in a line to those of the lines before.
-fn take_row(
-    signals: &mut Vec<Signal>,
-    system: System,
-    count: usize,
-    row: usize,
-    line: &[u8],
-    again: &mut Line,
-) -> Result<(), Refusal>
-    requires count { count ≤ length (table system) }
-    requires row { row < type_rows count }
-    requires signals { IsOf system signals.old.items }
-    ensures signals { IsOf system signals.new.items }
-    ensures taken { OnOk result
-        (TakesRow system count row line.now (indices signals.old.items) (indices signals.new.items)) }
-    ensures bad { result ≡ Err Refusal.Bad → RefusesRow system count row line.now (indices signals.old.items) }
-{
-    if signals.as_slice().len() != signals_begun(row) {
-        return Err(Refusal::Bad);
-    }
-    read_types(signals, system, count, row, line, again)?;
-    if signals.as_slice().len() != signals_begun(row + 1).min(count) {
-        return Err(Refusal::Bad);
-    }
-    Ok(())
+    ghost invariant = { λ h. IsOf Gps h.gps.signals.items × IsOf Galileo h.galileo.signals.items
+        × AreValues h.values × IsTime h.first
+        × (h.gps.count ≤ length (table Gps)) × (h.galileo.count ≤ length (table Galileo)) };
 }
 
 impl HeadSoFar {
@@ -101,8 +69,8 @@ impl HeadSoFar {
         };
         let head = HeadSoFar {
             texts: HeaderTexts::blank(),
-            gps: Vec::new(alloc),
-            galileo: Vec::new(alloc),
+            gps: TypesSoFar::new(alloc),
+            galileo: TypesSoFar::new(alloc),
             values: StationValues {
                 x: 0,
                 y: 0,
@@ -110,23 +78,29 @@ impl HeadSoFar {
                 height: 0,
             },
             first: zero,
-            has_gps: false,
-            has_galileo: false,
-            gps_count: 0,
-            galileo_count: 0,
         };
         head.are_valid();
         head
+    }
+
+    /// Returns what was read of the types of a system.
+    fn of(&self, system: System) -> &TypesSoFar
+        ensures planned { result.now.is_planned ≡ (announced self.now system).planned }
+        ensures count { result.now.count ≡ (announced self.now system).count }
+        ensures signals { indices result.now.signals.items ≡ planned_of system self.now.shown.plan }
+        ensures few { result.now.count ≤ length (table system) }
+    {
+        match system {
+            System::Gps => &self.gps,
+            System::Galileo => &self.galileo,
+        }
     }
 
     /// Returns the number of signals of a system that were read.
     pub(crate) fn planned(&self, system: System) -> usize
         ensures { result ≡ length (planned_of system self.now.shown.plan) }
     {
-        match system {
-            System::Gps => self.gps.len(),
-            System::Galileo => self.galileo.len(),
-        }
+        self.of(system).signals.len()
     }
 
     /// Returns the station values, as they were read.
@@ -151,35 +125,15 @@ impl HeadSoFar {
         self.texts.are_texts();
     }
 
-    /// Returns whether signals of a system are planned, by the first line.
-    pub(crate) fn plans(&self, system: System) -> bool
-        ensures { result ≡ plans self.now system }
-    {
-        match system {
-            System::Gps => self.has_gps,
-            System::Galileo => self.has_galileo,
-        }
-    }
-
-    /// Returns the number of signals of a system, by its first line of types.
-    fn signal_count(&self, system: System) -> usize
-        ensures count { result ≡ signal_count self.now system }
-        ensures bound { result ≤ length (table system) }
-    {
-        match system {
-            System::Gps => self.gps_count,
-            System::Galileo => self.galileo_count,
-        }
-    }
-
     /// Returns whether a system has a line of types with this number, by the lines before.
     fn has_types(&self, system: System, row: usize) -> bool
         ensures { result ≡ known_line self.now (HeaderRow.Types system row) }
     {
-        if !self.plans(system) {
+        let types = self.of(system);
+        if !types.is_planned {
             return false;
         }
-        row == 0 || row < type_rows(self.signal_count(system))
+        row == 0 || row < type_rows(types.count)
     }
 
     /// Returns whether a row has a line, by the lines before.
@@ -188,7 +142,7 @@ impl HeadSoFar {
     {
         match row {
             HeaderRow::Types(system, row) => self.has_types(system, row),
-            HeaderRow::Shift(system) => self.plans(system),
+            HeaderRow::Shift(system) => self.of(system).is_planned,
             _ => true,
         }
     }
@@ -206,65 +160,6 @@ impl HeadSoFar {
         place
     }
 
-    /// Returns the number of signals of a planned system, if this line of its types is expected.
-    fn count_expected(&self, system: System, row: usize, line: &[u8]) -> Option<usize>
-        ensures bound { IfSome result (λ n. n ≤ length (table system)) }
-        ensures rows { IfSome result (λ n. row < type_rows n) }
-        ensures later { IfSome result (λ n. 0 < row → signal_count self.now system ≡ n) }
-        ensures expected { CountsExpected self.now system row line.now result }
-    {
-        if row == 0 {
-            return read_count(line, system);
-        }
-        let count = self.signal_count(system);
-        if row >= type_rows(count) {
-            return None;
-        }
-        Some(count)
-    }
-
-    /// Appends the signals of a system whose types begin in a line.
-    fn take_signals(
-        &mut self,
-        system: System,
-        count: usize,
-        row: usize,
-        line: &[u8],
-        again: &mut Line,
-    ) -> Result<(), Refusal>
-        requires count { count ≤ length (table system) }
-        requires row { row < type_rows count }
-        ensures kept { OnOk result (self.new ≡ with_signals system self.old (planned_of system self.new.shown.plan)) }
-        ensures taken { OnOk result
-            (TakesRow system count row line.now (planned_of system self.old.shown.plan)
-            (planned_of system self.new.shown.plan)) }
-        ensures bad { result ≡ Err Refusal.Bad
-            → RefusesRow system count row line.now (planned_of system self.old.shown.plan) }
-    {
-        match system {
-            System::Gps => take_row(&mut self.gps, System::Gps, count, row, line, again),
-            System::Galileo => take_row(
-                &mut self.galileo,
-                System::Galileo,
-                count,
-                row,
-                line,
-                again,
-            ),
-        }
-    }
-
-    /// Sets the number of signals of a system.
-    fn set_count(&mut self, system: System, count: usize)
-        requires { count ≤ length (table system) }
-        ensures { self.new ≡ with_count system self.old count }
-    {
-        match system {
-            System::Gps => self.gps_count = count,
-            System::Galileo => self.galileo_count = count,
-        }
-    }
-
     /// Processes a line of the types of a system.
     fn take_types(
         &mut self,
@@ -273,18 +168,20 @@ impl HeadSoFar {
         line: &[u8],
         again: &mut Line,
     ) -> Result<(), Refusal>
-        requires row { row < 6 }
-        requires at { IsHeadAt self.old (first_types system + row) }
-        requires here { known_line self.old (HeaderRow.Types system row) ≡ true }
-        ensures taken { OnOk result (ReadsHeaderLine (HeaderRow.Types system row) line.now self.old self.new) }
-        ensures bad { result ≡ Err Refusal.Bad → NoneGoesOn self.old (first_types system + row) line.now }
+        requires rows { 0 < row → row < type_rows (announced self.old system).count }
+        requires begun { length (planned_of system self.old.shown.plan) ≡ signals_begun row }
+        ensures kept { OnOk result (self.new
+            ≡ with_types system self.old (announced self.new system).count (planned_of system self.new.shown.plan)) }
+        ensures taken { OnOk result
+            (TakesTypes system row line.now (announced self.old system).count (planned_of system self.old.shown.plan)
+            (announced self.new system).count (planned_of system self.new.shown.plan)) }
+        ensures bad { result ≡ Err Refusal.Bad → RefusesTypes system row line.now (announced self.old system).count
+            (planned_of system self.old.shown.plan) }
     {
-        let Some(count) = self.count_expected(system, row, line) else {
-            return Err(Refusal::Bad);
-        };
-        self.take_signals(system, count, row, line, again)?;
-        self.set_count(system, count);
-        Ok(())
+        match system {
+            System::Gps => self.gps.take(System::Gps, row, line, again),
+            System::Galileo => self.galileo.take(System::Galileo, row, line, again),
+        }
     }
 
     /// Processes the line of the row at an index.

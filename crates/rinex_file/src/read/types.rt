@@ -1,61 +1,106 @@
 //! The observation types in a header, read back.
-ghost use Rattle.std.specs.Prelude.{◌≡◌, ◌≤◌, ◌<◌, ◌+◌, ◌++◌, ◌∷◌, [], ◌==◌, ℕ, List, take, length, true, IfSome, OnOk};
-ghost use Rattle.std.specs.Prelude.{Err, Some};
+ghost use Rattle.std.specs.Prelude.{◌≡◌, ◌≤◌, ◌<◌, ◌+◌, ◌++◌, ◌∷◌, [], ◌==◌, ℕ, List, take, length, min, true, false, IfSome};
+ghost use Rattle.std.specs.Prelude.{OnOk, Err, Some};
 ghost use Rattle.std.specs.List.{list_any};
 ghost use Rattle.gnss_obs.specs.Signals.{SignalAt, IsSignal, table};
 ghost use Rattle.obs_epoch.specs.Signals.{indices, IsOf};
 ghost use Rattle.rinex_file.specs.Header.{type_rows};
 ghost use Rattle.rinex_file.specs.Read.Progress.{AreTypes, types_line, signals_begun};
-ghost use Rattle.rinex_file.specs.Read.HeaderSteps.{ReadsRow, ComparesRow, RefusesRow, HasSignalAt};
+ghost use Rattle.rinex_file.specs.Read.HeaderSteps.{ReadsRow, RefusesRow, TakesTypes, RefusesTypes, HasSignalAt};
 
 use crate::header::labels;
-use crate::header::types::{TYPES_IN_LINE, put_row};
+use crate::header::types::{TYPES_IN_LINE, put_row, type_rows};
 use crate::read::expected::Refusal;
 use crate::read::numbers::digits_in;
 use crate::read::station::is_header_line;
 use crate::write::numbers::Line;
 use gnss_obs::{Signal, System};
+use std::alloc::Global;
 
-/// Returns the number of planned signals of a system, by its first line of types.
-pub(crate) fn read_count(line: &[u8], system: System) -> Option<usize>
-    ensures some { IfSome result (λ n. (1 ≤ n) × (n ≤ length (table system))) }
-    ensures count { (all : List ℕ) → AreTypes system all → line.now ≡ types_line system all 0
-        → result ≡ Some (length all) }
-{
-    let types = digits_in(line.get(3..6)?);
-    let count = types as usize / 4;
-    if count == 0 || count > system.signals() {
-        return None;
-    }
-    Some(count)
+/// What was read of the types of a system.
+#[derive(Drop)]
+pub(crate) struct TypesSoFar {
+    /// Whether signals are planned, by the first line of the file.
+    pub(crate) is_planned: bool,
+    /// The number of planned signals, by the first line of types; zero before it is read.
+    pub(crate) count: usize,
+    /// The signals whose types begin in the lines that were read.
+    pub(crate) signals: Vec<Signal>,
 }
 
-/// Appends the signals whose types begin in a line to those of the lines before. `count` signals
-/// are planned.
-pub(crate) fn read_types(
-    signals: &mut Vec<Signal>,
-    system: System,
-    count: usize,
-    row: usize,
-    line: &[u8],
-    again: &mut Line,
-) -> Result<(), Refusal>
-    requires count { count ≤ length (table system) }
-    requires row { row < type_rows count }
-    requires signals { IsOf system signals.old.items }
-    ensures signals { IsOf system signals.new.items }
-    ensures grows { OnOk result (take (length signals.old.items) signals.new.items ≡ signals.old.items) }
-    ensures taken { OnOk result
-        (ComparesRow system count row line.now (indices signals.old.items) (indices signals.new.items)) }
-    ensures bad { result ≡ Err Refusal.Bad → RefusesRow system count row line.now (indices signals.old.items) }
-{
-    take_signals(signals, system, count, row, line)?;
-    again.clear();
-    put_row(again, system, count, signals.as_slice(), row);
-    if is_header_line(line, again.as_slice(), labels::TYPES) {
+impl TypesSoFar {
+    /// Returns the types of a system of which nothing was read.
+    pub(crate) fn new(alloc: Global) -> TypesSoFar
+        ensures planned { result.is_planned ≡ false }
+        ensures count { result.count ≡ 0 }
+        ensures signals { result.signals.items ≡ [] }
+    {
+        TypesSoFar {
+            is_planned: false,
+            count: 0,
+            signals: Vec::new(alloc),
+        }
+    }
+
+    /// Returns the signals whose types begin in the lines that were read.
+    pub(crate) fn as_slice(&self) -> &[Signal]
+        ensures value { result.now ≡ self.now.signals.items }
+    {
+        self.signals.as_slice()
+    }
+
+    /// Returns the number of planned signals, if this line of types is expected.
+    fn read_count(&self, system: System, row: usize, line: &[u8]) -> Option<usize>
+        requires few { self.now.count ≤ length (table system) }
+        requires rows { 0 < row → row < type_rows self.now.count }
+        ensures few { IfSome result (λ n. n ≤ length (table system)) }
+        ensures rows { IfSome result (λ n. row < type_rows n) }
+        ensures later { IfSome result (λ n. 0 < row → self.now.count ≡ n) }
+        ensures count { (all : List ℕ) → AreTypes system all → (0 < row → self.now.count ≡ length all)
+            → line.now ≡ types_line system all row → result ≡ Some (length all) }
+    {
+        if row > 0 {
+            return Some(self.count);
+        }
+        let types = digits_in(line.get(3..6)?);
+        let count = types as usize / 4;
+        if count == 0 || count > system.signals() {
+            return None;
+        }
+        Some(count)
+    }
+
+    /// Processes a line of the types of the system: appends the signals whose types begin in it.
+    pub(crate) fn take(
+        &mut self,
+        system: System,
+        row: usize,
+        line: &[u8],
+        again: &mut Line,
+    ) -> Result<(), Refusal>
+        requires few { self.old.count ≤ length (table system) }
+        requires rows { 0 < row → row < type_rows self.old.count }
+        requires signals { IsOf system self.old.signals.items }
+        requires begun { length self.old.signals.items ≡ signals_begun row }
+        ensures few { self.new.count ≤ length (table system) }
+        ensures signals { IsOf system self.new.signals.items }
+        ensures planned { self.new.is_planned ≡ self.old.is_planned }
+        ensures taken { OnOk result (TakesTypes system row line.now self.old.count (indices self.old.signals.items)
+            self.new.count (indices self.new.signals.items)) }
+        ensures bad { result ≡ Err Refusal.Bad
+            → RefusesTypes system row line.now self.old.count (indices self.old.signals.items) }
+    {
+        let Some(count) = self.read_count(system, row, line) else {
+            return Err(Refusal::Bad);
+        };
+        take_signals(&mut self.signals, system, count, row, line)?;
+        self.count = count;
+        again.clear();
+        put_row(again, system, count, self.signals.as_slice(), row);
+        if !is_header_line(line, again.as_slice(), labels::TYPES) {
+            return Err(Refusal::Bad);
+        }
         Ok(())
-    } else {
-        Err(Refusal::Bad)
     }
 }
 
@@ -71,8 +116,10 @@ fn take_signals(
     requires count { count ≤ length (table system) }
     requires row { row < type_rows count }
     requires signals { IsOf system signals.old.items }
+    requires begun { length signals.old.items ≡ signals_begun row }
     ensures signals { IsOf system signals.new.items }
     ensures grows { OnOk result (take (length signals.old.items) signals.new.items ≡ signals.old.items) }
+    ensures size { OnOk result (length signals.new.items ≡ min (signals_begun (row + 1)) count) }
     ensures taken { OnOk result
         (ReadsRow system count row line.now (indices signals.old.items) (indices signals.new.items)) }
     ensures bad { result ≡ Err Refusal.Bad → RefusesRow system count row line.now (indices signals.old.items) }
@@ -104,6 +151,7 @@ fn take_signal(
     requires signals { IsOf system signals.old.items }
     ensures signals { IsOf system signals.new.items }
     ensures grows { OnOk result (take (length signals.old.items) signals.new.items ≡ signals.old.items) }
+    ensures one { OnOk result (length signals.new.items ≡ length signals.old.items + 1) }
     ensures taken { OnOk result
         ((s : SignalAt) → HasSignalAt system line.now column s → signals.new.items ≡ signals.old.items ++ s ∷ []) }
     ensures bad { result ≡ Err Refusal.Bad → (s : SignalAt) → HasSignalAt system line.now column s

@@ -27,6 +27,7 @@ pub loop-place-preserved : goal.loop-place-preserved
 loop-place-preserved c = record {
   of = c.take_signal.ensures.signals;
   grows = still_grows c.args.signals.now.items c.loop-place.signals.items c.take_signal.new.signals.items c.loop-place.invariant.grows c.in_ok-take_signal.ensures.grows;
+  size = c.in_ok-take_signal.ensures.one ∙ ap (λ n. n + 1) c.loop-place.invariant.size;
   from = omega (arith, c.loop-place.invariant.from);
   to = omega arith;
   read = λ all are begun is.

@@ -9,6 +9,7 @@ abbrev pub invariant-loop-place : goal.invariant-loop-place
 invariant-loop-place l = record {
   of : IsOf l.fn.system l.signals.items;
   grows : take (length l.fn.signals.items) l.signals.items ≡ l.fn.signals.items;
+  size : length l.signals.items ≡ l.place;
   from : signals_begun l.row ≤ l.place;
   to : l.place ≤ l.end;
   read : (all : List ℕ) → AreTypes l.fn.system all → AreBegun l.fn.count l.row (indices l.fn.signals.items) all → l.line ≡ types_line l.fn.system all l.row

@@ -1,27 +1,35 @@
-use Rattle.std.proofs.Common.{◌≡◌, ◌∙◌, sym, ap, subst, refl, true, false, ℕ, List, Bool}
+use Rattle.std.proofs.Common.{◌≡◌, ◌∙◌, ◌+◌, ◌<◌, sym, ap, subst, refl, true, false, ℕ, List, Bool}
 use Rattle.std.specs.Prelude.{MatchBool, Err}
 use Rattle.std.proofs.lemmas.Result.{err_from_is_err_and}
 use Rattle.gnss_obs.specs.declared.system.System.{System}
 use Rattle.rinex_file.specs.declared.header.rows.HeaderRow.{HeaderRow}
 use Rattle.rinex_file.specs.declared.header.rows.HeaderRow.TheVariants.{Version, Texts, Position, Delta, Types, StrengthUnit, First, Shift, End}
-use Rattle.rinex_file.specs.Header.{end_line}
-use Rattle.rinex_file.specs.Read.Progress.{Known, IsHeadAt}
-use Rattle.rinex_file.specs.Read.HeaderSteps.{IsOnly, known_line, EndsHeader, NoneGoesOn}
+use Rattle.obs_epoch.specs.Values.{planned_of}
+use Rattle.rinex_file.specs.Header.{end_line, first_types, row_at}
+use Rattle.rinex_file.specs.Read.Progress.{Known, IsHeadAt, announced}
+use Rattle.rinex_file.specs.Read.HeaderSteps.{IsOnly, known_line, EndsHeader, NoneGoesOn, ReadsHeaderLine}
 use Rattle.rinex_file.proofs.HeaderEnd.{ends, no_end_line, ok_bad}
-use Rattle.rinex_file.proofs.HeaderTypes.{same_refusal}
+use Rattle.rinex_file.proofs.HeaderTypes.{begun_here, line_types, none_taken, rows_there, same_refusal}
 use Rattle.rinex_file.proofs.HeaderSteps.{step_at, none_at, last_at, types_few, types_place}
 use Rattle.rinex_file.proofs.Judged.{refused}
 use Rattle.rinex_file.proofs.read.head_so_far.HeadSoFar.take_at.Goals as goal
 
-pub take_types-requires-clause-row : goal.take_types-requires-clause-row
-take_types-requires-clause-row c = types_few c.args.place c.in-Types.system c.in-Types.row c.requires.at.expected (sym c.row_at.ensures ∙ c.in-Types.is)
+-- what is known at a line of types
+abbrev at_types : (k : Known) (place : ℕ) (s : System) (row : ℕ) → IsHeadAt k place → row_at place ≡ Types s row → IsHeadAt k (first_types s + row)
+at_types k place s row at is = subst (IsHeadAt k) (types_place place s row at.expected is) at
 
-pub take_types-requires-clause-at : goal.take_types-requires-clause-at
-take_types-requires-clause-at c =
-    subst (IsHeadAt c.args.self.now) (types_place c.args.place c.in-Types.system c.in-Types.row c.requires.at.expected (sym c.row_at.ensures ∙ c.in-Types.is)) c.requires.at
+pub take_types-requires-clause-rows : goal.take_types-requires-clause-rows
+take_types-requires-clause-rows c =
+    let is = sym c.row_at.ensures ∙ c.in-Types.is in
+    rows_there (announced c.args.self.now c.in-Types.system) c.in-Types.row (sym (ap (known_line c.args.self.now) is) ∙ c.requires.here)
 
-pub take_types-requires-clause-here : goal.take_types-requires-clause-here
-take_types-requires-clause-here c = sym (ap (known_line c.args.self.now) (sym c.row_at.ensures ∙ c.in-Types.is)) ∙ c.requires.here
+pub take_types-requires-clause-begun : goal.take_types-requires-clause-begun
+take_types-requires-clause-begun c =
+    let k = c.args.self.now in
+    let is = sym c.row_at.ensures ∙ c.in-Types.is in
+    let s = c.in-Types.system in
+    begun_here s c.in-Types.row (announced k s) (planned_of s k.shown.plan) (rows_there (announced k s) c.in-Types.row (sym (ap (known_line k) is) ∙ c.requires.here))
+    ((at_types k c.args.place s c.in-Types.row c.requires.at is).read.each s)
 
 not_end : (s : System) (row : ℕ) → Types s row ≡ End → ⊥
 not_end s row e = cc
@@ -37,13 +45,24 @@ when_false P Q false m e = m
 pub returns-in_ok-take_types-in-Types-clause-taken : goal.returns-in_ok-take_types-in-Types-clause-taken
 returns-in_ok-take_types-in-Types-clause-taken c =
     step_at c.args.place c.args.line.now c.args.self.now c.take_types.new.self (Types c.in-Types.system c.in-Types.row) c.requires.at c.requires.here (sym c.row_at.ensures ∙ c.in-Types.is)
-    (not_end c.in-Types.system c.in-Types.row) c.in_ok-take_types-in-Types.ensures.taken c.are_valid.ensures
+    (not_end c.in-Types.system c.in-Types.row) (read (types_few c.args.place c.in-Types.system c.in-Types.row c.requires.at.expected (sym c.row_at.ensures ∙ c.in-Types.is))) c.are_valid.ensures where
+      read : c.in-Types.row < 6 → ReadsHeaderLine (Types c.in-Types.system c.in-Types.row) c.args.line.now c.args.self.now c.take_types.new.self
+      read few =
+          let s = c.in-Types.system in
+          let new = c.take_types.new.self in
+          subst (ReadsHeaderLine (Types s c.in-Types.row) c.args.line.now c.args.self.now) (sym c.in_ok-take_types-in-Types.ensures.kept)
+          (line_types c.args.self.now s c.in-Types.row c.args.line.now few (announced new s).count (planned_of s new.shown.plan) c.in_ok-take_types-in-Types.ensures.taken)
 
 pub returns-in_err-take_types-in-Types-clause-bad : goal.returns-in_err-take_types-in-Types-clause-bad
 returns-in_err-take_types-in-Types-clause-bad c bad =
     let p = err_from_is_err_and c.from_residual.result c.from_residual.ensures.1 in
-    subst (λ n. NoneGoesOn c.args.self.now n c.args.line.now) (sym (types_place c.args.place c.in-Types.system c.in-Types.row c.requires.at.expected (sym c.row_at.ensures ∙ c.in-Types.is)))
-    (c.in_err-take_types-in-Types.ensures.bad (ap Err (same_refusal _ _ _ (p.1 ∙ ap Err p.2) bad)))
+    let is = sym c.row_at.ensures ∙ c.in-Types.is in
+    let s = c.in-Types.system in
+    let row = c.in-Types.row in
+    let k = c.args.self.now in
+    subst (λ n. NoneGoesOn k n c.args.line.now) (sym (types_place c.args.place s row c.requires.at.expected is))
+    (none_taken k s row c.args.line.now (types_few c.args.place s row c.requires.at.expected is) (at_types k c.args.place s row c.requires.at is) (sym (ap (known_line k) is) ∙ c.requires.here)
+    (c.in_err-take_types-in-Types.ensures.bad (ap Err (same_refusal _ _ _ (p.1 ∙ ap Err p.2) bad))))
 
 pub returns-then-not-is_header_line-clause-bad : goal.returns-then-not-is_header_line-clause-bad
 returns-then-not-is_header_line-clause-bad c e =
