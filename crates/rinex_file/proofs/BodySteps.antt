@@ -6,12 +6,12 @@ use Rattle.std.proofs.lemmas.List.{map-append}
 use Rattle.std.proofs.lemmas.List.Elements.{All-head, All-tail, All-nil, All-push}
 use Rattle.obs_epoch.specs.Dates.{civil_of}
 use Rattle.obs_epoch.specs.declared.cell.StationValues.{StationValues}
-use Rattle.rinex_file.specs.declared.read.expected.Expected.TheVariants.{Epoch, EventEpoch, Satellite}
+use Rattle.rinex_file.specs.declared.read.expected.Expected.TheVariants.{Epoch, Satellite}
 use Rattle.rinex_file.specs.Value.{SatelliteRow, Stamped, FileValue}
 use Rattle.rinex_file.specs.FileValues.{IsFileValue, IsStamped, IsSatelliteRow, AreSatelliteRows, IsTime, IsChange, AreChanges, IsFirstSame, changed_by, values_following, time_stamped, rank_of, most_rows}
 use Rattle.rinex_file.specs.Lines.{epoch_line, satellite_line}
 use Rattle.rinex_file.specs.File.{stamped_lines, change_lines, event_line}
-use Rattle.rinex_file.specs.Read.Progress.{Progress, file_with, stamped, StartsAt, IsAt, IsBetween, IsInEvent, IsInEpoch, HasLinesLeft, begun_at, with_row, with_epoch}
+use Rattle.rinex_file.specs.Read.Progress.{Progress, file_with, stamped, StartsAt, IsAt, IsBetween, IsInEvent, IsInEpoch, HasLinesLeft, epoch_after, begun_at, with_row, with_epoch}
 use Rattle.rinex_file.specs.Read.Sound.{AreRead, IsBegun, IsEventExpected, IsSoundAt, IsSound, MayBegin, values_now, AreLinesAt}
 use Rattle.rinex_file.specs.Begun.{lines_of_header, whole_lines, part_lines}
 use Rattle.rinex_file.specs.ParserState.{GoesOnWithLine, ShowsLine}
@@ -130,15 +130,12 @@ from_others s v line left (e ∷ es) never is value starts rest = by e.change re
       let text : line ∷ left ≡ lines_with (Some w) e ++ flat_map stamped_lines es = rest ∙ ap (λ l. l ++ flat_map stamped_lines es) (lines_are e (Some w) h) in
       absurd (never (some_epochs s.epochs es e w valid.first h, (cons_parts _ _ _ _ text).0))
 
-pub plain_next : (s : Progress) (v : FileValue) (line : List ℕ) (left : List (List ℕ)) → s.expected ≡ Epoch → NoEvent s line → HasLinesLeft s v (line ∷ left) → EpochNext s None v line left
+pub epoch_next : (s : Progress) (c : Option StationValues) (v : FileValue) (line : List ℕ) (left : List (List ℕ)) → s.expected ≡ epoch_after c → (c ≡ None → NoEvent s line) → HasLinesLeft s v (line ∷ left) → EpochNext s c v line left
 unfolding HasLinesLeft
-plain_next s v line left expected never (is, at) =
+epoch_next s None v line left expected never (is, at) =
     let here : IsBetween s v (line ∷ left) = subst (λ d. IsAt s d v (line ∷ left)) expected at in
-    from_others s v line left here.others never is here.value here.starts here.rest
-
-pub changed_next : (s : Progress) (w : StationValues) (v : FileValue) (line : List ℕ) (left : List (List ℕ)) → s.expected ≡ EventEpoch w → HasLinesLeft s v (line ∷ left) → EpochNext s (Some w) v line left
-unfolding HasLinesLeft
-changed_next s w v line left expected (is, at) =
+    from_others s v line left here.others (never refl) is here.value here.starts here.rest
+epoch_next s (Some w) v line left expected never (is, at) =
     let here : IsInEvent s 3 (λ x. x ≡ w) v (line ∷ left) = subst (λ d. IsAt s d v (line ∷ left)) expected at in
     let change : here.next.change ≡ Some w = here.change ∙ ap Some here.shown in
     next_with s (Some w) v line left here.next here.others is here.value here.starts change
@@ -174,14 +171,10 @@ abbrev pub begin_line : ℕ × ℕ → List ℕ
 begin_line w = epoch_line (civil_of w.0) w.1
 
 -- no epoch may begin with the line
-no_begin : (s : Progress) (c : Option StationValues) (v : FileValue) (line : List ℕ) (left : List (List ℕ)) → ((w : ℕ × ℕ) → Begins s w → line ≡ begin_line w → ⊥) → EpochNext s c v line left → ⊥
-no_begin s c v line left none next = none (next.e.time, length next.e.rows) (may_begin s c v line left next) next.shown
-
-pub no_plain : (s : Progress) (line : List ℕ) → s.expected ≡ Epoch → NoEvent s line → ((w : ℕ × ℕ) → Begins s w → line ≡ begin_line w → ⊥) → (v : FileValue) (left : List (List ℕ)) → HasLinesLeft s v (line ∷ left) → ⊥
-no_plain s line expected never none v left on = no_begin s None v line left none (plain_next s v line left expected never on)
-
-pub no_changed : (s : Progress) (w : StationValues) (line : List ℕ) → s.expected ≡ EventEpoch w → ((w : ℕ × ℕ) → Begins s w → line ≡ begin_line w → ⊥) → (v : FileValue) (left : List (List ℕ)) → HasLinesLeft s v (line ∷ left) → ⊥
-no_changed s w line expected none v left on = no_begin s (Some w) v line left none (changed_next s w v line left expected on)
+pub no_epoch : (s : Progress) (c : Option StationValues) (line : List ℕ) → s.expected ≡ epoch_after c → (c ≡ None → NoEvent s line) → ((w : ℕ × ℕ) → Begins s w → line ≡ begin_line w → ⊥) → (v : FileValue) (left : List (List ℕ)) → HasLinesLeft s v (line ∷ left) → ⊥
+no_epoch s c line expected never none v left on =
+    let next = epoch_next s c v line left expected never on in
+    none (next.e.time, length next.e.rows) (may_begin s c v line left next) next.shown
 
 module _ (s : Progress) (c : Option StationValues) (t n : ℕ) (line : List ℕ) (none : s.rows ≡ []) (shown : line ≡ epoch_line (civil_of t) n)
     (only : (w : ℕ × ℕ) → Begins s w → line ≡ begin_line w → w ≡ (t, n)) where
@@ -200,17 +193,9 @@ module _ (s : Progress) (c : Option StationValues) (t n : ℕ) (line : List ℕ)
         rest = next.rest;
       }
 
--- the line of an epoch with the station values before
-pub plain_taken : (s : Progress) (t n : ℕ) (line : List ℕ) → s.expected ≡ Epoch → NoEvent s line → s.rows ≡ [] → line ≡ epoch_line (civil_of t) n
-    → ((w : ℕ × ℕ) → Begins s w → line ≡ begin_line w → w ≡ (t, n)) → GoesOnWithLine s (begun_at s None t n) line
-unfolding HasLinesLeft
-plain_taken s t n line expected never none shown only v left on = (on.0, to_within s None t n line none shown only v left (plain_next s v line left expected never on))
-
--- the line of an epoch after an event
-pub changed_taken : (s : Progress) (w : StationValues) (t n : ℕ) (line : List ℕ) → s.expected ≡ EventEpoch w → s.rows ≡ [] → line ≡ epoch_line (civil_of t) n
-    → ((w : ℕ × ℕ) → Begins s w → line ≡ begin_line w → w ≡ (t, n)) → GoesOnWithLine s (begun_at s (Some w) t n) line
-unfolding HasLinesLeft
-changed_taken s w t n line expected none shown only v left on = (on.0, to_within s (Some w) t n line none shown only v left (changed_next s w v line left expected on))
+  pub epoch_taken : s.expected ≡ epoch_after c → (c ≡ None → NoEvent s line) → GoesOnWithLine s (begun_at s c t n) line
+  unfolding HasLinesLeft
+  epoch_taken expected never v left on = (on.0, to_within v left (epoch_next s c v line left expected never on))
 
 -- the lines with that of an epoch
 begun_lines : (whole taken before : List (List ℕ)) (line : List ℕ) (t n : ℕ) (c : Option StationValues) (rows : List SatelliteRow) → rows ≡ [] → taken ≡ whole ++ before → before ≡ change_lines c
@@ -219,14 +204,11 @@ begun_lines whole taken before line t n c rows none e same shown =
     ap (λ l. l ++ line ∷ []) e ∙ append_assoc whole before (line ∷ []) ∙ ap (λ l. whole ++ (l ++ line ∷ [])) same ∙ ap (λ l. whole ++ (change_lines c ++ l ∷ [])) shown
     ∙ ap (λ (k : ℕ). whole ++ part_lines (at_time c t []) k) (sym (zero-add n)) ∙ sym (ap (λ (r : List SatelliteRow). whole ++ part_lines (at_time c t r) (length r + n)) none)
 
-pub plain_shows : (s : Progress) (t n : ℕ) (line : List ℕ) → s.expected ≡ Epoch → s.rows ≡ [] → line ≡ epoch_line (civil_of t) n → ShowsLine s (begun_at s None t n) line
-plain_shows s t n line expected none shown taken are =
+pub epoch_shows : (s : Progress) (c : Option StationValues) (t n : ℕ) (line : List ℕ) → s.expected ≡ epoch_after c → s.rows ≡ [] → line ≡ epoch_line (civil_of t) n → ShowsLine s (begun_at s c t n) line
+epoch_shows s None t n line expected none shown taken are =
     let whole = whole_lines s.known.shown s.epochs in
-    let here : taken ≡ whole = subst (λ d. AreLinesAt s d taken) expected are in
-    begun_lines whole taken [] line t n None s.rows none (here ∙ sym (append-nil whole)) refl shown
-
-pub changed_shows : (s : Progress) (w : StationValues) (t n : ℕ) (line : List ℕ) → s.expected ≡ EventEpoch w → s.rows ≡ [] → line ≡ epoch_line (civil_of t) n → ShowsLine s (begun_at s (Some w) t n) line
-changed_shows s w t n line expected none shown taken are =
+    begun_lines whole taken [] line t n None s.rows none (subst (λ d. AreLinesAt s d taken) expected are ∙ sym (append-nil whole)) refl shown
+epoch_shows s (Some w) t n line expected none shown taken are =
     begun_lines (whole_lines s.known.shown s.epochs) taken (change_lines (Some w)) line t n (Some w) s.rows none (subst (λ d. AreLinesAt s d taken) expected are) refl shown
 
 -- ---- what holds after the first line of an epoch is accepted
@@ -237,8 +219,12 @@ no_rows gps galileo = record { each = All-nil (IsSatelliteRow gps galileo); rise
 pub sound_between : (s : Progress) → s.expected ≡ Epoch → IsSound s → AreRead s × (s.rows ≡ [])
 sound_between s expected sound = subst (λ d. IsSoundAt s d) expected sound
 
-pub sound_changed : (s : Progress) (w : StationValues) → s.expected ≡ EventEpoch w → IsSound s → IsEventExpected s × IsChange (values_now s) (Some w)
-sound_changed s w expected sound = subst (λ d. IsSoundAt s d) expected sound
+-- what holds before the first line of an epoch
+pub sound_epoch : (s : Progress) (c : Option StationValues) → s.expected ≡ epoch_after c → IsSound s → AreRead s × (s.rows ≡ []) × IsChange (values_now s) c × (s.epochs ≡ [] → c ≡ None)
+sound_epoch s None expected sound = let (read, rows) = sound_between s expected sound in (read, rows, tt, λ none. refl)
+sound_epoch s (Some w) expected sound =
+    let held : IsEventExpected s × IsChange (values_now s) (Some w) = subst (λ d. IsSoundAt s d) expected sound in
+    (held.0.0, held.0.1, held.1, λ none. absurd (held.0.2 none))
 
 room_left : (rows : List SatelliteRow) (n most : ℕ) → rows ≡ [] → n ≤ most → length rows + n ≤ most
 room_left rows n most none room = let size : length rows ≡ 0 = ap length none in omega (arith, size, room)

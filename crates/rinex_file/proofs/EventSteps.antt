@@ -1,5 +1,5 @@
 -- The steps of a reading from one line of an event to the next.
-use Rattle.std.proofs.Common.{arith, lit<, ◌≡◌, ◌≢◌, ℕ, zero, suc, ◌<◌, ◌^◌, ◌-◌, ◌*◌, ◌/◌, ◌%◌, unsigned_abs, w64, to_z, of_z, ℤ, pos, get_or, List, [], ◌∷◌, ◌++◌, refl, sym, ap, subst, ◌∙◌, length, drop, append_assoc, replicate, decimal, Option, Some, None, true, false}
+use Rattle.std.proofs.Common.{arith, lit<, ◌≡◌, ◌≢◌, ℕ, zero, suc, ◌<◌, ◌^◌, ◌-◌, ◌*◌, ◌/◌, ◌%◌, unsigned_abs, ℤ, pos, get_or, List, [], ◌∷◌, ◌++◌, refl, sym, ap, subst, ◌∙◌, length, drop, append_assoc, replicate, decimal, Option, Some, None, true, false}
 use Rattle.std.specs.Prelude.{⊤, ◌||◌, flat_map, codes}
 use Rattle.std.specs.Int.{is_negative}
 use Rattle.std.specs.Fmt.{sign_text}
@@ -9,18 +9,17 @@ use Rattle.obs_epoch.specs.declared.cell.StationValues.{StationValues}
 use Rattle.rinex_file.specs.declared.read.expected.Expected.{Expected}
 use Rattle.rinex_file.specs.declared.read.expected.Expected.TheVariants.{Epoch, EventPosition, EventHeight, EventEpoch}
 use Rattle.rinex_file.specs.Value.{Stamped, FileValue}
-use Rattle.rinex_file.specs.FileValues.{IsFileValue, AreValues, IsChange, IsCoordinate}
+use Rattle.rinex_file.specs.FileValues.{IsFileValue, AreValues, IsChange}
 use Rattle.rinex_file.specs.Header.{header_line, lengths, position_line, delta_line}
 use Rattle.rinex_file.specs.Lines.{epoch_fields, epoch_line}
 use Rattle.rinex_file.specs.Numbers.{joined, padded, fixed}
 use Rattle.rinex_file.specs.Read.Fields.{has}
-use Rattle.rinex_file.specs.File.{stamped_lines, event_line, event_lines}
+use Rattle.rinex_file.specs.File.{stamped_lines, event_line}
 use Rattle.rinex_file.specs.Begun.{whole_lines}
 use Rattle.rinex_file.specs.ParserState.{GoesOnWithLine, ShowsLine}
-use Rattle.rinex_file.specs.Read.Progress.{Progress, file_with, StartsAt, IsAt, IsBetween, IsInEvent, HasPosition, HasLinesLeft, expected_next}
-use Rattle.rinex_file.specs.Read.Sound.{IsSound, AreLinesAt, at_position, values_now}
+use Rattle.rinex_file.specs.Read.Progress.{Progress, file_with, StartsAt, IsAt, IsBetween, IsInEvent, IsPosition, position_of, HasLinesLeft, expected_next}
+use Rattle.rinex_file.specs.Read.Sound.{IsSound, AreLinesAt, values_now}
 use Rattle.rinex_file.proofs.Digits.{has-append}
-use Rattle.rinex_file.proofs.HeaderRead.{coordinate_same}
 use Rattle.rinex_file.proofs.BodySteps.{lines_with, lines_are, changes_midst, sound_between}
 
 -- ---- an event's line isn't that of an epoch, which has a point
@@ -108,15 +107,6 @@ values_in_range s v e others w is value change = grind (arith, changes_midst)
 
 -- ---- the position
 
-abbrev pub position_text : ℤ × ℤ × ℤ → List ℕ
-position_text p = header_line (lengths p.0 p.1 p.2) (codes "APPROX POSITION XYZ")
-
-abbrev pub IsPosition : ℤ × ℤ × ℤ → Type 0
-IsPosition p = IsCoordinate p.0 × IsCoordinate p.1 × IsCoordinate p.2
-
-abbrev SamePosition : ℤ × ℤ × ℤ → ℤ × ℤ × ℤ → Type 0
-SamePosition p q = p ≡ q
-
 -- what follows if the position of an event is next
 record PositionNext (s : Progress) (d : Expected) (v : FileValue) (line : List ℕ) (left : List (List ℕ)) : Type 0 where
   pub event : IsInEvent (expected_next s d) 2 (λ w. line ≡ position_line w) v left
@@ -134,98 +124,86 @@ position_next s d v line left expected (is, at) =
       are = (values_in_range s v here.next here.others here.values is here.value here.change).0;
     }
 
--- a number after its conversion to 64 bits and back
-abbrev pub back : ℤ → ℤ
-back z = to_z w64 (of_z w64 z)
-
-pub position_back : (p : ℤ × ℤ × ℤ) → IsPosition p → SamePosition (back p.0, back p.1, back p.2) p
-position_back p is = grind (arith, coordinate_same)
-
-pub no_position : (s : Progress) (line : List ℕ) → s.expected ≡ EventPosition → ((p : ℤ × ℤ × ℤ) → IsPosition p → line ≡ position_text p → ⊥) → (v : FileValue) (left : List (List ℕ)) → HasLinesLeft s v (line ∷ left) → ⊥
+pub no_position : (s : Progress) (line : List ℕ) → s.expected ≡ EventPosition → ((p : StationValues) → IsPosition p → line ≡ position_line p → ⊥) → (v : FileValue) (left : List (List ℕ)) → HasLinesLeft s v (line ∷ left) → ⊥
 no_position s line expected none v left on =
     let next = position_next s EventPosition v line left expected on in
-    let w = next.event.values in
-    none (w.x, w.y, w.z) (next.are.x, next.are.y, next.are.z) next.event.shown
+    none (position_of next.event.values) (next.are.x, next.are.y, next.are.z, refl) next.event.shown
 
-pub position_taken : (s : Progress) (x y z : ℤ) (line : List ℕ) → s.expected ≡ EventPosition → ((p : ℤ × ℤ × ℤ) → IsPosition p → line ≡ position_text p → p ≡ (x, y, z))
-    → GoesOnWithLine s (expected_next s (EventHeight x y z)) line
+pub position_taken : (s : Progress) (p : StationValues) (line : List ℕ) → s.expected ≡ EventPosition → ((q : StationValues) → IsPosition q → line ≡ position_line q → q ≡ p)
+    → GoesOnWithLine s (expected_next s (EventHeight p)) line
 unfolding HasLinesLeft
-position_taken s x y z line expected only v left on =
-    let d = EventHeight x y z in
+position_taken s p line expected only v left on =
+    let d = EventHeight p in
     let next = position_next s d v line left expected on in
     let here = next.event in
-    let same : SamePosition (here.values.x, here.values.y, here.values.z) (x, y, z) = only (here.values.x, here.values.y, here.values.z) (next.are.x, next.are.y, next.are.z) here.shown in
-    (on.0, event_with (expected_next s d) d 2 2 (λ w. line ≡ position_line w) (HasPosition x y z) v left left here (ap (λ p. p.0) same, ap (λ p. p.1) same, ap (λ p. p.2) same) here.rest)
+    (on.0, event_with (expected_next s d) d 2 2 (λ w. line ≡ position_line w) (λ w. position_of w ≡ p) v left left here
+        (only (position_of here.values) (next.are.x, next.are.y, next.are.z, refl) here.shown) here.rest)
 
-pub position_shows : (s : Progress) (x y z : ℤ) (line : List ℕ) → s.expected ≡ EventPosition → line ≡ position_text (x, y, z) → ShowsLine s (expected_next s (EventHeight x y z)) line
-position_shows s x y z line expected shown taken are =
-    lines_more (whole_lines s.known.shown s.epochs) taken (event_line ∷ []) line (position_text (x, y, z)) (subst (λ d. AreLinesAt s d taken) expected are) shown
+pub position_shows : (s : Progress) (p : StationValues) (line : List ℕ) → s.expected ≡ EventPosition → line ≡ position_line p → ShowsLine s (expected_next s (EventHeight p)) line
+position_shows s p line expected shown taken are =
+    lines_more (whole_lines s.known.shown s.epochs) taken (event_line ∷ []) line (position_line p) (subst (λ d. AreLinesAt s d taken) expected are) shown
 
 -- ---- the height
 
 abbrev height_text : ℕ → List ℕ
 height_text h = header_line (lengths (pos h) (pos 0) (pos 0)) (codes "ANTENNA: DELTA H/E/N")
 
-abbrev pub values_with : ℤ → ℤ → ℤ → ℕ → StationValues
-values_with x y z h = record { x = x; y = y; z = z; height = h }
+abbrev pub with_height : StationValues → ℕ → StationValues
+with_height p h = record p { height = h }
 
 abbrev SameValues : StationValues → StationValues → Type 0
 SameValues v w = v ≡ w
 
-same_with : (w : StationValues) (x y z : ℤ) (h : ℕ) → w.x ≡ x → w.y ≡ y → w.z ≡ z → w.height ≡ h → SameValues w (values_with x y z h)
-same_with w x y z h a b c d = grind arith
+same_with : (w p : StationValues) (h : ℕ) → position_of w ≡ p → w.height ≡ h → SameValues w (with_height p h)
+same_with w p h a b = ap (λ q. with_height q w.height) a ∙ ap (with_height p) b
 
-record HeightNext (s : Progress) (d : Expected) (x y z : ℤ) (v : FileValue) (line : List ℕ) (left : List (List ℕ)) : Type 0 where
-  pub event : IsInEvent (expected_next s d) 3 (HasPosition x y z) v left
-  pub shown : line ≡ delta_line event.values
+record HeightNext (s : Progress) (d : Expected) (p : StationValues) (v : FileValue) (text : List ℕ) (left : List (List ℕ)) : Type 0 where
+  pub event : IsInEvent (expected_next s d) 3 (λ w. position_of w ≡ p) v left
+  pub line : text ≡ delta_line event.values
   pub are : AreValues event.values
   pub other : event.values ≢ values_now s
 
-height_next : (s : Progress) (d : Expected) (x y z : ℤ) (v : FileValue) (line : List ℕ) (left : List (List ℕ)) → s.expected ≡ EventHeight x y z → HasLinesLeft s v (line ∷ left) → HeightNext s d x y z v line left
+height_next : (s : Progress) (d : Expected) (p : StationValues) (v : FileValue) (line : List ℕ) (left : List (List ℕ)) → s.expected ≡ EventHeight p → HasLinesLeft s v (line ∷ left) → HeightNext s d p v line left
 unfolding HasLinesLeft
-height_next s d x y z v line left expected (is, at) =
-    let here : IsInEvent s 2 (HasPosition x y z) v (line ∷ left) = subst (λ d. IsAt s d v (line ∷ left)) expected at in
+height_next s d p v line left expected (is, at) =
+    let here : IsInEvent s 2 (λ w. position_of w ≡ p) v (line ∷ left) = subst (λ d. IsAt s d v (line ∷ left)) expected at in
     let lines = lines_are here.next (Some here.values) here.change in
     let text : line ∷ left ≡ drop 2 (lines_with (Some here.values) here.next) ++ Others here.others = here.rest ∙ ap (λ l. drop 2 l ++ Others here.others) lines in
     let after : left ≡ drop 3 (lines_with (Some here.values) here.next) ++ Others here.others = ap (drop 1) text in
     let given = values_in_range s v here.next here.others here.values is here.value here.change in
     record {
-      event = event_with s d 2 3 (HasPosition x y z) (HasPosition x y z) v (line ∷ left) left here here.shown (after ∙ ap (λ l. drop 3 l ++ Others here.others) (sym lines));
-      shown = cc;
+      event = event_with s d 2 3 (λ w. position_of w ≡ p) (λ w. position_of w ≡ p) v (line ∷ left) left here here.shown (after ∙ ap (λ l. drop 3 l ++ Others here.others) (sym lines));
+      line = cc;
       are = given.0;
       other = given.1;
     }
 
-module _ (s : Progress) (x y z : ℤ) (line : List ℕ) (expected : s.expected ≡ EventHeight x y z) where
+module _ (s : Progress) (p : StationValues) (line : List ℕ) (expected : s.expected ≡ EventHeight p) where
   pub no_height : ((h : ℕ) → h < 2 ^ 16 → line ≡ height_text h → ⊥) → (v : FileValue) (left : List (List ℕ)) → HasLinesLeft s v (line ∷ left) → ⊥
   no_height none v left on =
-      let next = height_next s (EventHeight x y z) x y z v line left expected on in
-      none next.event.values.height next.are.height next.shown
+      let next = height_next s (EventHeight p) p v line left expected on in
+      none next.event.values.height next.are.height next.line
 
   module _ (h : ℕ) (only : (k : ℕ) → k < 2 ^ 16 → line ≡ height_text k → k ≡ h) where
-    same_next : (d : Expected) (v : FileValue) (left : List (List ℕ)) (next : HeightNext s d x y z v line left) → SameValues next.event.values (values_with x y z h)
-    same_next d v left next =
-        let w = next.event.values in
-        same_with w x y z h next.event.shown.0 next.event.shown.1 next.event.shown.2 (only w.height next.are.height next.shown)
+    same_next : (d : Expected) (v : FileValue) (left : List (List ℕ)) (next : HeightNext s d p v line left) → SameValues next.event.values (with_height p h)
+    same_next d v left next = same_with next.event.values p h next.event.shown (only next.event.values.height next.are.height next.line)
 
     -- the station values are those before
-    pub same_height : values_with x y z h ≡ values_now s → (v : FileValue) (left : List (List ℕ)) → HasLinesLeft s v (line ∷ left) → ⊥
+    pub same_height : with_height p h ≡ values_now s → (v : FileValue) (left : List (List ℕ)) → HasLinesLeft s v (line ∷ left) → ⊥
     same_height same v left on =
-        let next = height_next s (EventHeight x y z) x y z v line left expected on in
-        next.other (same_next (EventHeight x y z) v left next ∙ same)
+        let next = height_next s (EventHeight p) p v line left expected on in
+        next.other (same_next (EventHeight p) v left next ∙ same)
 
-    pub height_taken : (w : StationValues) → w ≡ values_with x y z h → GoesOnWithLine s (expected_next s (EventEpoch w)) line
+    pub height_taken : GoesOnWithLine s (expected_next s (EventEpoch (with_height p h))) line
     unfolding HasLinesLeft
-    height_taken w named v left on =
-        let d = EventEpoch w in
-        let next = height_next s d x y z v line left expected on in
-        (on.0, event_with (expected_next s d) d 3 3 (HasPosition x y z) (λ u. u ≡ w) v left left next.event (same_next d v left next ∙ sym named) next.event.rest)
+    height_taken v left on =
+        let d = EventEpoch (with_height p h) in
+        let next = height_next s d p v line left expected on in
+        (on.0, event_with (expected_next s d) d 3 3 (λ w. position_of w ≡ p) (λ u. u ≡ with_height p h) v left left next.event (same_next d v left next) next.event.rest)
 
-pub height_shows : (s : Progress) (x y z : ℤ) (h : ℕ) (w : StationValues) (line : List ℕ) → s.expected ≡ EventHeight x y z → line ≡ height_text h → w ≡ values_with x y z h → ShowsLine s (expected_next s (EventEpoch w)) line
-height_shows s x y z h w line expected shown named taken are =
-    let whole = whole_lines s.known.shown s.epochs in
-    lines_more whole taken (event_line ∷ position_line (at_position x y z) ∷ []) line (height_text h) (subst (λ d. AreLinesAt s d taken) expected are) shown
-    ∙ ap (λ (u : StationValues). whole ++ event_lines u) (sym named)
+pub height_shows : (s : Progress) (p : StationValues) (h : ℕ) (line : List ℕ) → s.expected ≡ EventHeight p → line ≡ height_text h → ShowsLine s (expected_next s (EventEpoch (with_height p h))) line
+height_shows s p h line expected shown taken are =
+    lines_more (whole_lines s.known.shown s.epochs) taken (event_line ∷ position_line p ∷ []) line (height_text h) (subst (λ d. AreLinesAt s d taken) expected are) shown
 
 -- ---- what holds after a line of an event is accepted
 
@@ -235,8 +213,8 @@ some_read es some none = let size : length es ≡ 0 = ap length none in omega (a
 pub sound_event : (s : Progress) → s.expected ≡ Epoch → IsSound s → 0 < length s.epochs → IsSound (expected_next s EventPosition)
 sound_event s expected sound some = grind (arith, sound_between, some_read)
 
-pub sound_position : (s : Progress) (x y z : ℤ) → s.expected ≡ EventPosition → IsSound s → IsPosition (x, y, z) → IsSound (expected_next s (EventHeight x y z))
-sound_position s x y z expected sound is = grind arith
+pub sound_position : (s : Progress) (p : StationValues) → s.expected ≡ EventPosition → IsSound s → IsPosition p → IsSound (expected_next s (EventHeight p))
+sound_position s p expected sound is = grind arith
 
-pub sound_height : (s : Progress) (x y z : ℤ) (h : ℕ) → s.expected ≡ EventHeight x y z → IsSound s → h < 2 ^ 16 → (values_with x y z h ≡ values_now s → ⊥) → IsSound (expected_next s (EventEpoch (values_with x y z h)))
-sound_height s x y z h expected sound small other = grind arith
+pub sound_height : (s : Progress) (p : StationValues) (h : ℕ) → s.expected ≡ EventHeight p → IsSound s → h < 2 ^ 16 → (with_height p h ≡ values_now s → ⊥) → IsSound (expected_next s (EventEpoch (with_height p h)))
+sound_height s p h expected sound small other = grind arith

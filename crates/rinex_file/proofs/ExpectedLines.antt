@@ -1,14 +1,14 @@
 -- Some file may begin with the accepted lines, and the kind of the next line is known.
-use Rattle.std.proofs.Common.{arith, ◌≡◌, ◌∙◌, sym, ap, refl, ℕ, zero, suc, ◌+◌, ◌<◌, ℤ, pos, List, [], ◌∷◌, ◌++◌, length, Option, IfSome}
+use Rattle.std.proofs.Common.{arith, ◌≡◌, ◌∙◌, sym, ap, refl, ℕ, zero, suc, ◌+◌, ◌<◌, pos, List, [], ◌∷◌, ◌++◌, length, Option, IfSome}
 use Rattle.std.specs.Prelude.{Some}
 use Rattle.obs_epoch.specs.declared.cell.StationValues.{StationValues}
 use Rattle.rinex_file.specs.declared.read.parser_state.ParserState.{ParserState}
 use Rattle.rinex_file.specs.declared.read.expected.Expected.{Expected}
 use Rattle.rinex_file.specs.declared.read.expected.Expected.TheVariants.{Header, Epoch, EventPosition, EventHeight, EventEpoch, Satellite}
-use Rattle.rinex_file.specs.FileValues.{IsCoordinate, IsChange}
+use Rattle.rinex_file.specs.FileValues.{IsChange}
 use Rattle.rinex_file.specs.Begun.{AreBegun}
 use Rattle.rinex_file.specs.Exact.{AreBefore, IsExpectedAt}
-use Rattle.rinex_file.specs.Read.Progress.{Progress, shown_with, lines_after, stamped}
+use Rattle.rinex_file.specs.Read.Progress.{Progress, IsPosition, shown_with, lines_after, stamped}
 use Rattle.rinex_file.specs.Read.Sound.{IsSound, IsSoundAt, AreLinesAt, values_now}
 use Rattle.rinex_file.specs.ParserState.{History, FollowsHistory, progress_at}
 use Rattle.rinex_file.specs.Read.Steps.{IsTaken}
@@ -27,8 +27,8 @@ abbrev other_height : ℕ → ℕ
 other_height zero = 1
 other_height (suc n) = 0
 
-abbrev other_values : StationValues → ℤ → ℤ → ℤ → StationValues
-other_values v x y z = record { x = x; y = y; z = z; height = other_height v.height }
+abbrev other_values : StationValues → StationValues → StationValues
+other_values v p = record p { height = other_height v.height }
 
 small_height : (n : ℕ) → other_height n < 65_536
 small_height zero = omega arith
@@ -38,16 +38,13 @@ no_height : (n : ℕ) → other_height n ≡ n → ⊥
 no_height zero e = cc
 no_height (suc n) e = cc
 
-is_change : (v : StationValues) (x y z : ℤ) → IsCoordinate x × IsCoordinate y × IsCoordinate z → IsChange v (Some (other_values v x y z))
-is_change v x y z is = (record { x = is.0; y = is.1; z = is.2; height = small_height v.height }, λ e. no_height v.height (ap (λ (w : StationValues). w.height) e))
+is_change : (v p : StationValues) → IsPosition p → IsChange v (Some (other_values v p))
+is_change v p is = (record { x = is.0; y = is.1; z = is.2; height = small_height v.height }, λ e. no_height v.height (ap (λ (w : StationValues). w.height) e))
 
-is_zero : IsCoordinate (pos 0)
-is_zero = zero_values.x
+abbrev no_values : StationValues
+no_values = record { x = pos 0; y = pos 0; z = pos 0; height = 0 }
 
 -- ---- the lines before one that is expected
-
-at_zero : IsCoordinate (pos 0) × IsCoordinate (pos 0) × IsCoordinate (pos 0)
-at_zero = (is_zero, is_zero, is_zero)
 
 are_before : (s : Progress) (expected : Expected) (lines : List (List ℕ)) → IsSoundAt s expected → AreLinesAt s expected lines → AreBefore expected lines
 are_before s (Header place) lines sound are =
@@ -65,19 +62,19 @@ are_before s Epoch lines sound are = record { h = s.known.shown; es = s.epochs; 
 are_before s EventPosition lines sound are = record {
   h = s.known.shown;
   es = s.epochs;
-  values = other_values (values_now s) (pos 0) (pos 0) (pos 0);
+  values = other_values (values_now s) no_values;
   whole = sound.0;
   some = sound.2;
-  change = is_change (values_now s) (pos 0) (pos 0) (pos 0) at_zero;
+  change = is_change (values_now s) no_values (zero_values.x, zero_values.y, zero_values.z, refl);
   are = are;
 }
-are_before s (EventHeight x y z) lines sound are = record {
+are_before s (EventHeight p) lines sound are = record {
   h = s.known.shown;
   es = s.epochs;
-  values = other_values (values_now s) x y z;
+  values = other_values (values_now s) p;
   whole = sound.0.0;
   some = sound.0.2;
-  change = is_change (values_now s) x y z sound.1;
+  change = is_change (values_now s) p sound.1;
   are = are;
 }
 are_before s (EventEpoch w) lines sound are = record {

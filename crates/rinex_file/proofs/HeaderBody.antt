@@ -12,7 +12,7 @@ use Rattle.rinex_file.specs.FileValues.{IsFileValue}
 use Rattle.rinex_file.specs.Header.{header_lines}
 use Rattle.rinex_file.specs.Lines.{satellite_line}
 use Rattle.rinex_file.specs.File.{stamped_lines, file_lines, lines_of_parts}
-use Rattle.rinex_file.specs.Read.Progress.{Progress, Known, Shown, IsShown, IsHeadAt, shown_with, lines_before, lines_after, file_with, StartsAt, IsInHeader, IsAt, IsBetween, IsInEvent, HasPosition, IsInEpoch, HasLinesLeft}
+use Rattle.rinex_file.specs.Read.Progress.{Progress, Known, Shown, IsShown, IsHeadAt, shown_with, lines_before, lines_after, file_with, StartsAt, IsInHeader, IsAt, IsBetween, IsInEvent, position_of, IsInEpoch, HasLinesLeft}
 use Rattle.rinex_file.specs.Read.Sound.{AreRead, IsSoundAt, IsSound, AreLinesAt, AreLinesOf}
 use Rattle.rinex_file.specs.Begun.{lines_of_header, whole_lines}
 use Rattle.rinex_file.specs.declared.read.parser_state.ParserState.{ParserState}
@@ -217,9 +217,9 @@ at_expected s d expected v left on = subst (λ d. IsAt s d v left) expected on.1
 
 unfinished_at : (c : ParserState) (h : History) (expected : Expected) → c.expected ≡ expected → FollowsHistory c h → ((expected ≡ Epoch) × (0 < c.epochs) → ⊥) → (v : FileValue) → HasLinesLeft (progress_at c h) v [] → ⊥
 unfinished_at c h (Header place) same history never v on = header_unfinished (progress_at c h) place same history.sound v on
-unfinished_at c h Epoch same history never v on = no_file (progress_at c h) same (no_epochs h.epochs c.epochs history.epochs (λ some. never (refl, some))) v on
+unfinished_at c h Epoch same history never v on = no_file (progress_at c h) same (no_epochs h.epochs c.epochs history.counted.epochs (λ some. never (refl, some))) v on
 unfinished_at c h EventPosition same history never v on = event_unfinished (progress_at c h) 1 (λ w. ⊤) (lit< tt) v (at_expected (progress_at c h) EventPosition same v [] on)
-unfinished_at c h (EventHeight x y z) same history never v on = event_unfinished (progress_at c h) 2 (HasPosition x y z) (lit< tt) v (at_expected (progress_at c h) (EventHeight x y z) same v [] on)
+unfinished_at c h (EventHeight p) same history never v on = event_unfinished (progress_at c h) 2 (λ w. position_of w ≡ p) (lit< tt) v (at_expected (progress_at c h) (EventHeight p) same v [] on)
 unfinished_at c h (EventEpoch w) same history never v on = event_unfinished (progress_at c h) 3 (λ x. x ≡ w) (lit< tt) v (at_expected (progress_at c h) (EventEpoch w) same v [] on)
 unfinished_at c h (Satellite n) same history never v on = epoch_unfinished (progress_at c h) n same history.sound v on
 

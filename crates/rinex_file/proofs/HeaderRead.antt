@@ -1,7 +1,5 @@
 -- What is known after each line of a header but those of types.
-use Rattle.std.proofs.Common.{arith, ◌≡◌, ◌≢◌, ◌∙◌, sym, ap, refl, subst, ℕ, ℤ, pos, suc, lit≤, ◌+◌, ◌-◌, ◌<◌, ◌≤◌, ◌^◌, Bool, true, false, List, [], ◌∷◌, length, take, map, get_or, min, Option, Some, None, IsTrue, ◌↔◌}
-use Rattle.std.proofs.Common.{w64, to_z, of_z, neg_ℤ}
-use Rattle.std.proofs.lemmas.Int.{to_z-of_z}
+use Rattle.std.proofs.Common.{arith, ◌≡◌, ◌≢◌, ◌∙◌, sym, ap, refl, subst, ℕ, pos, suc, lit≤, ◌+◌, ◌-◌, ◌<◌, ◌≤◌, ◌^◌, Bool, true, false, List, [], ◌∷◌, length, take, map, get_or, min, Option, Some, None, IsTrue, ◌↔◌}
 use Rattle.std.specs.Prelude.{codes, ◌||◌, nat_le}
 use Rattle.std.specs.List.{list_all}
 use Rattle.obs_epoch.specs.Dates.{civil_of}
@@ -13,12 +11,12 @@ use Rattle.rinex_file.specs.declared.header.rows.HeaderRow.TheVariants.{Version,
 use Rattle.rinex_file.specs.Texts.{HeaderLists, text_rows, text_row_index, start_of, count_of}
 use Rattle.obs_epoch.specs.Values.{PlanValue, planned_of}
 use Rattle.gnss_obs.specs.Signals.{table}
-use Rattle.rinex_file.specs.FileValues.{IsTime, IsCoordinate}
-use Rattle.rinex_file.specs.Header.{row_line, row_place, header_line, lengths, first_line, strength_line, shift_line, version_line, texts_line, first_types}
+use Rattle.rinex_file.specs.FileValues.{IsTime}
+use Rattle.obs_epoch.specs.declared.cell.StationValues.{StationValues}
+use Rattle.rinex_file.specs.Header.{position_line, row_line, row_place, header_line, lengths, first_line, strength_line, shift_line, version_line, texts_line, first_types}
 use Rattle.rinex_file.specs.Lines.{letter_of}
 use Rattle.rinex_file.specs.Read.Fields.{ReadsExactly}
-use Rattle.rinex_file.specs.Read.Texts.{ReadsPosition}
-use Rattle.rinex_file.specs.Read.Progress.{Announced, Known, Shown, MayBeAll, MayPlan, AreTypesRead, announced, IsReadTo, IsOnlyTime, HasReadRows, shown_with, shown_line, lines_before, signals_begun, version_with, is_some_planned}
+use Rattle.rinex_file.specs.Read.Progress.{IsPosition, position_of, Announced, Known, Shown, MayBeAll, MayPlan, AreTypesRead, announced, IsReadTo, IsOnlyTime, HasReadRows, shown_with, shown_line, lines_before, signals_begun, version_with, is_some_planned}
 use Rattle.rinex_file.specs.Read.HeaderSteps.{ReadsHeaderLine, RefusesHeaderLine, ReadsOrRefuses, ReadsTexts, RefusesTexts, with_texts, with_values, with_first, with_systems}
 use Rattle.rinex_file.proofs.HeaderText.{same_line}
 use Rattle.rinex_file.proofs.HeaderAgree.{rows_when, version_same, some_in, types_low}
@@ -75,19 +73,19 @@ refuse_texts r line refuses h is e = refuses h.texts is.texts e
 
 -- ---- station values
 
-pub line_position : (k : Known) (x y z : ℤ) (line : List ℕ) → ReadsPosition line (Some (x, y, z))
-    → ReadsHeaderLine Position line k (with_values k (record { x = x; y = y; z = z; height = k.shown.values.height }))
+pub line_position : (k : Known) (v : StationValues) (line : List ℕ) → ReadsExactly IsPosition position_line line (Some v)
+    → ReadsHeaderLine Position line k (with_values k (record v { height = k.shown.values.height }))
 unfolding row_line
-line_position k x y z line r rows known = record {
+line_position k v line r rows known = record {
   plans = λ p may. may;
   before = λ p. refl;
   shows = λ p may. ap (λ l. l ∷ []) (sym r.1);
   reads = next k k.shown.first 7 (outside_low 7 (lit≤ tt)) (lit≤ tt) (λ l. absurd (omega (arith, l))) rows;
 }
 
-pub refuse_position : (line : List ℕ) → ReadsPosition line None → RefusesHeaderLine Position line
+pub refuse_position : (line : List ℕ) → ReadsExactly IsPosition position_line line None → RefusesHeaderLine Position line
 unfolding row_line
-refuse_position line r h is e = r (h.values.x, h.values.y, h.values.z) (is.values.x, is.values.y, is.values.z) (sym e)
+refuse_position line r h is e = r (position_of h.values) (is.values.x, is.values.y, is.values.z, refl) (sym e)
 
 abbrev Height : List ℕ → Option ℕ → Type 0
 Height line r = ReadsExactly (λ h. h < 2 ^ 16) (λ h. header_line (lengths (pos h) (pos 0) (pos 0)) (codes "ANTENNA: DELTA H/E/N")) line r
@@ -185,18 +183,3 @@ line_version k gps galileo line r rows known = record {
 pub refuse_version : (line : List ℕ) → Systems line None → RefusesHeaderLine Version line
 unfolding row_line
 refuse_version line r h is e = r (is_some_planned h.plan.gps, is_some_planned h.plan.galileo) (some_in h is) (sym e ∙ version_same h.plan)
-
--- ---- a coordinate, by its bits
-
-pub coordinate_same : (z : ℤ) → IsCoordinate z → to_z w64 (of_z w64 z) ≡ z
-coordinate_same z is = grind (arith, to_z-of_z, neg_ℤ)
-
-pub put_position : (line : List ℕ) (old k : Known) (x y z : ℤ) → k ≡ old → ReadsPosition line (Some (x, y, z))
-    → ReadsHeaderLine Position line old
-    (with_values k (record { x = to_z w64 (of_z w64 x); y = to_z w64 (of_z w64 y); z = to_z w64 (of_z w64 z); height = k.shown.values.height }))
-put_position line old k x y z e r =
-    let made = λ (a b c : ℤ). with_values k (record { x = a; y = b; z = c; height = k.shown.values.height }) in
-    put Position line old k _ e
-    (subst (λ a. ReadsHeaderLine Position line k (made a (to_z w64 (of_z w64 y)) (to_z w64 (of_z w64 z)))) (sym (coordinate_same x r.0.0))
-    (subst (λ b. ReadsHeaderLine Position line k (made x b (to_z w64 (of_z w64 z)))) (sym (coordinate_same y r.0.1))
-    (subst (λ c. ReadsHeaderLine Position line k (made x y c)) (sym (coordinate_same z r.0.2)) (line_position k x y z line r))))

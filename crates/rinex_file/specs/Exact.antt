@@ -83,7 +83,7 @@ abbrev pub AreBefore : Expected → List (List ℕ) → Type 0
 AreBefore (Header place) lines = IsHeaderBegun lines
 AreBefore Epoch lines = IsBetweenEpochs lines
 AreBefore EventPosition lines = IsEventBegun 1 lines
-AreBefore (EventHeight x y z) lines = IsEventBegun 2 lines
+AreBefore (EventHeight position) lines = IsEventBegun 2 lines
 AreBefore (EventEpoch values) lines = IsEventBegun 3 lines
 AreBefore (Satellite n) lines = IsEpochBegun lines
 

@@ -43,15 +43,20 @@ changes_of (Some v) = 1
 abbrev pub events_in : List Stamped → ℕ
 events_in epochs = sum_by (λ e. changes_of e.change) epochs
 
+-- the last time and rank, the last change of station values, and the counts are those of a history
+pub record AreCounted (h : History) (last_time last_rank : Option ℕ) (changed : Option StationValues)
+    (epoch_count satellite_count event_count : ℕ) : Type 0 where
+  pub last : EndsIn (map time_stamped h.epochs) last_time
+  pub rank : EndsIn (map rank_of h.rows) last_rank
+  pub values : (v : StationValues) → changed_by v changed ≡ values_following v h.epochs
+  pub epochs : epoch_count ≡ length h.epochs
+  pub satellites : satellite_count ≡ rows_in h.epochs + length h.rows
+  pub events : event_count ≡ events_in h.epochs
+
 -- this is the parser state after this history
 pub record FollowsHistory (c : ParserState) (h : History) : Type 0 where
   pub sound : IsSound (progress_at c h)
-  pub last : EndsIn (map time_stamped h.epochs) c.last
-  pub rank : EndsIn (map rank_of h.rows) c.rank
-  pub epochs : c.epochs ≡ length h.epochs
-  pub satellites : c.satellites ≡ rows_in h.epochs + length h.rows
-  pub events : c.events ≡ events_in h.epochs
-  pub values : (v : StationValues) → changed_by v c.values ≡ values_following v h.epochs
+  pub counted : AreCounted h c.last c.rank c.values c.epochs c.satellites c.events
 
 -- an epoch after this change of station values
 abbrev pub stamped_at : Option StationValues → ℕ → List SatelliteRow → Stamped

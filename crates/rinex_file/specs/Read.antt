@@ -1,6 +1,5 @@
 -- The reading of a file, line by line.
 pub mod Fields
-pub mod Texts
 pub mod Row
 pub mod HeaderSteps
 pub mod Progress

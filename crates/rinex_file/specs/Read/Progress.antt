@@ -1,7 +1,7 @@
 -- What is known of a file while it is read line by line, and which files are still possible.
-use Rattle.std.specs.Prelude.{◌≡◌, ℕ, ℤ, ◌+◌, ◌-◌, ◌*◌, ◌/◌, ◌<◌, ◌≤◌, ◌==◌, ◌||◌, ◌↔◌, not, true, false, min, Bool}
+use Rattle.std.specs.Prelude.{◌≡◌, ℕ, ◌+◌, ◌-◌, ◌*◌, ◌/◌, ◌<◌, ◌≤◌, ◌==◌, ◌||◌, ◌↔◌, not, true, false, min, Bool}
 use Rattle.std.specs.Prelude.{List, [], ◌∷◌, ◌++◌, length, take, drop, map, All, replicate, codes, pos, nat_eq}
-use Rattle.std.specs.Prelude.{if◌then◌else◌, flat_map, Option, Some, ⊤}
+use Rattle.std.specs.Prelude.{if◌then◌else◌, flat_map, Option, Some, None, ⊤}
 use Rattle.gnss_obs.specs.declared.system.System.{System}
 use Rattle.obs_epoch.specs.declared.cell.StationValues.{StationValues}
 use Rattle.obs_epoch.specs.Values.{PlanValue, planned_of}
@@ -12,7 +12,7 @@ use Rattle.rinex_file.specs.declared.read.expected.Expected.TheVariants.{Header,
 use Rattle.rinex_file.specs.declared.read.expected.Expected.TheVariants.{EventEpoch, Satellite}
 use Rattle.rinex_file.specs.Texts.{HeaderLists}
 use Rattle.rinex_file.specs.Value.{SatelliteRow, Stamped, FileValue}
-use Rattle.rinex_file.specs.FileValues.{AreTexts, IsPlan, AreValues, IsTime, IsFileValue, of_system}
+use Rattle.rinex_file.specs.FileValues.{AreTexts, IsPlan, AreValues, IsCoordinate, IsTime, IsFileValue, of_system}
 use Rattle.rinex_file.specs.Header.{row_line, row_lines, lines_from, all_rows, row_count, first_types}
 use Rattle.rinex_file.specs.Header.{first_line, header_line, type_line, types_of, codes_of}
 use Rattle.rinex_file.specs.Limits.{types_in_line}
@@ -206,9 +206,12 @@ pub record IsInEvent (s : Progress) (taken : ℕ) (Show : StationValues → Type
   pub shown : Show values
   pub rest : left ≡ drop taken (stamped_lines next) ++ flat_map stamped_lines others
 
--- station values of this position
-abbrev pub HasPosition : ℤ → ℤ → ℤ → StationValues → Type 0
-HasPosition x y z v = (v.x ≡ x) × (v.y ≡ y) × (v.z ≡ z)
+-- a position: coordinates, and no height
+abbrev pub IsPosition : StationValues → Type 0
+IsPosition v = IsCoordinate v.x × IsCoordinate v.y × IsCoordinate v.z × (v.height ≡ 0)
+
+abbrev pub position_of : StationValues → StationValues
+position_of v = record v { height = 0 }
 
 -- this number of satellites is expected
 pub record IsInEpoch (s : Progress) (satellites : ℕ) (v : FileValue) (left : List (List ℕ)) : Type 0 where
@@ -223,7 +226,7 @@ abbrev pub IsAt : Progress → Expected → FileValue → List (List ℕ) → Ty
 IsAt s (Header place) v left = IsInHeader s place v left
 IsAt s Epoch v left = IsBetween s v left
 IsAt s EventPosition v left = IsInEvent s 1 (λ w. ⊤) v left
-IsAt s (EventHeight x y z) v left = IsInEvent s 2 (HasPosition x y z) v left
+IsAt s (EventHeight position) v left = IsInEvent s 2 (λ w. position_of w ≡ position) v left
 IsAt s (EventEpoch values) v left = IsInEvent s 3 (λ w. w ≡ values) v left
 IsAt s (Satellite n) v left = IsInEpoch s n v left
 
@@ -234,6 +237,11 @@ HasLinesLeft s v left = IsFileValue v × IsAt s s.expected v left
 -- the same with another line expected
 abbrev pub expected_next : Progress → Expected → Progress
 expected_next s expected = record s { expected = expected }
+
+-- the first line of an epoch, after an event with these station values or none
+abbrev pub epoch_after : Option StationValues → Expected
+epoch_after None = Epoch
+epoch_after (Some values) = EventEpoch values
 
 -- what was read after the first line of an epoch, with this change of station values before it
 abbrev pub begun_at : Progress → Option StationValues → ℕ → ℕ → Progress

@@ -1,5 +1,5 @@
 -- What holds of all that was read of a file, for every kind of expected line.
-use Rattle.std.specs.Prelude.{◌≡◌, ◌≢◌, Option, Some, ℕ, ℤ, ◌+◌, ◌<◌, ◌≤◌, List, [], ◌∷◌, ◌++◌, length, map}
+use Rattle.std.specs.Prelude.{◌≡◌, ◌≢◌, Option, Some, ℕ, ◌+◌, ◌<◌, ◌≤◌, List, [], ◌∷◌, ◌++◌, length, map}
 use Rattle.std.specs.List.Sorted.{IsStrictlyIncreasing}
 use Rattle.rinex_file.specs.declared.read.expected.Expected.{Expected}
 use Rattle.rinex_file.specs.declared.read.expected.Expected.TheVariants.{Header, Epoch, EventPosition, EventHeight}
@@ -9,13 +9,13 @@ use Rattle.rinex_file.specs.Value.{Stamped}
 use Rattle.obs_epoch.specs.Dates.{civil_of}
 use Rattle.rinex_file.specs.Lines.{epoch_line}
 use Rattle.rinex_file.specs.Read.Fields.{ReadsExactly}
-use Rattle.rinex_file.specs.FileValues.{IsTime, IsChange, values_following, time_stamped, most_rows, IsCoordinate}
+use Rattle.rinex_file.specs.FileValues.{IsTime, IsChange, values_following, time_stamped, most_rows}
 use Rattle.rinex_file.specs.Begun.{AreWhole, IsPartOfNext, whole_lines, part_lines}
 use Rattle.rinex_file.specs.File.{file_lines, event_line, event_lines}
 use Rattle.rinex_file.specs.Header.{position_line}
 use Rattle.rinex_file.specs.Value.{FileValue}
 use Rattle.rinex_file.specs.FileValues.{IsFileValue}
-use Rattle.rinex_file.specs.Read.Progress.{Progress, stamped, HasLinesLeft, IsHeadAt, AreHeadLines}
+use Rattle.rinex_file.specs.Read.Progress.{Progress, stamped, HasLinesLeft, IsHeadAt, AreHeadLines, IsPosition}
 
 -- the header and the epochs are those of a file
 abbrev pub AreRead : Progress → Type 0
@@ -37,7 +37,7 @@ abbrev pub IsSoundAt : Progress → Expected → Type 0
 IsSoundAt s (Header place) = (s.epochs ≡ []) × (s.rows ≡ []) × IsHeadAt s.known place
 IsSoundAt s Epoch = AreRead s × (s.rows ≡ [])
 IsSoundAt s EventPosition = IsEventExpected s
-IsSoundAt s (EventHeight x y z) = IsEventExpected s × (IsCoordinate x × IsCoordinate y × IsCoordinate z)
+IsSoundAt s (EventHeight position) = IsEventExpected s × IsPosition position
 IsSoundAt s (EventEpoch values) = IsEventExpected s × IsChange (values_now s) (Some values)
 IsSoundAt s (Satellite n) = AreRead s × IsBegun s × (0 < n)
     × (length s.rows + n ≤ most_rows (length s.known.shown.plan.gps) (length s.known.shown.plan.galileo))
@@ -64,17 +64,13 @@ pub record MayBegin (s : Progress) (t n : ℕ) : Type 0 where
 
 -- ---- the lines that were read
 
--- station values of a position, and any height
-abbrev pub at_position : ℤ → ℤ → ℤ → StationValues
-at_position x y z = record { x = x; y = y; z = z; height = 0 }
-
 -- these are the lines of what was read
 abbrev pub AreLinesAt : Progress → Expected → List (List ℕ) → Type 0
 AreLinesAt s (Header place) lines = AreHeadLines s.known place lines
 AreLinesAt s Epoch lines = lines ≡ whole_lines s.known.shown s.epochs
 AreLinesAt s EventPosition lines = lines ≡ whole_lines s.known.shown s.epochs ++ event_line ∷ []
-AreLinesAt s (EventHeight x y z) lines =
-    lines ≡ whole_lines s.known.shown s.epochs ++ event_line ∷ position_line (at_position x y z) ∷ []
+AreLinesAt s (EventHeight position) lines =
+    lines ≡ whole_lines s.known.shown s.epochs ++ event_line ∷ position_line position ∷ []
 AreLinesAt s (EventEpoch values) lines = lines ≡ whole_lines s.known.shown s.epochs ++ event_lines values
 AreLinesAt s (Satellite n) lines =
     lines ≡ whole_lines s.known.shown s.epochs ++ part_lines (stamped s s.rows) (length s.rows + n)

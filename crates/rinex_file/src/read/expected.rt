@@ -10,8 +10,8 @@ pub(crate) enum Expected {
     Epoch,
     /// The position in an event.
     EventPosition,
-    /// The height in an event, after this position in 0.0001 m.
-    EventHeight(i64, i64, i64),
+    /// The height in an event, after this position, whose height is zero.
+    EventHeight(StationValues),
     /// The line of an epoch after an event with these station values.
     EventEpoch(StationValues),
     /// The line of a satellite, with the number of satellites that are left.

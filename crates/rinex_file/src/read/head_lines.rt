@@ -10,7 +10,6 @@ use crate::read::station::{is_header_line, read_delta, read_position, read_versi
 use crate::read::texts::read_texts;
 use crate::write::satellite::letter_of;
 use gnss_obs::System;
-use obs_epoch::StationValues;
 
 impl HeadSoFar {
     /// Reads the line with version and systems.
@@ -32,9 +31,10 @@ impl HeadSoFar {
         ensures { ReadsOrRefuses HeaderRow.Position line.now self.old self.new result }
     {
         match read_position(line) {
-            Some((x, y, z)) => {
+            Some(position) => {
                 let height = self.values.height;
-                self.values = StationValues { x, y, z, height };
+                self.values = position;
+                self.values.height = height;
                 true
             }
             None => false,

@@ -1,12 +1,12 @@
 //! The state of the parser of a file: what the next line has to fit, and counts. It doesn't grow
 //! with the file.
-ghost use Rattle.std.specs.Prelude.{◌≡◌, ◌<◌, ◌≤◌, ◌+◌, ◌^◌, ◌∷◌, ◌++◌, ◌↔◌, ℕ, [], List, OnOk, IsTrue, map, length};
+ghost use Rattle.std.specs.Prelude.{◌≡◌, ◌<◌, ◌≤◌, ◌+◌, ◌^◌, ◌∷◌, ◌++◌, ◌↔◌, ℕ, [], List, None, OnOk, IsTrue, map, length};
 ghost use Rattle.std.specs.List.Sorted.{IsStrictlyIncreasing};
 ghost use Rattle.rinex_file.specs.Value.{FileValue, Stamped};
 ghost use Rattle.obs_epoch.specs.declared.cell.StationValues.{StationValues};
 ghost use Rattle.rinex_file.specs.FileValues.{IsFileValue, rank_of, time_stamped, most_rows, changed_by};
 ghost use Rattle.rinex_file.specs.File.{event_line, file_lines};
-ghost use Rattle.rinex_file.specs.Read.Progress.{HasLinesLeft};
+ghost use Rattle.rinex_file.specs.Read.Progress.{HasLinesLeft, epoch_after};
 ghost use Rattle.rinex_file.specs.ParserState.{EndsIn, History, HasRoom, FollowsHistory, TakesLine, changes_of};
 ghost use Rattle.rinex_file.specs.ParserState.{nothing, progress_at};
 ghost use Rattle.rinex_file.specs.Read.Sound.{AreLinesOf, AreRead, IsTimeAfter, MayBegin, ReadsEpochLine};
@@ -106,16 +106,6 @@ fn changes_of(change: Option<StationValues>) -> u64
     }
 }
 
-/// Returns the station values that changed last, after a change or none.
-fn changed_by(before: Option<StationValues>, change: Option<StationValues>) -> Option<StationValues>
-    ensures { (v : StationValues) → changed_by v result ≡ changed_by (changed_by v before) change }
-{
-    match change {
-        None => before,
-        Some(_) => change,
-    }
-}
-
 impl ParserState {
     /// Returns the state of a parser that has read nothing.
     pub(crate) fn new(alloc: Global) -> ParserState
@@ -157,8 +147,8 @@ impl ParserState {
             Expected::Header(place) => self.take_header(place, line, again),
             Expected::Epoch => self.take_next(line, again),
             Expected::EventPosition => self.take_position(line),
-            Expected::EventHeight(x, y, z) => self.take_height(x, y, z, line),
-            Expected::EventEpoch(values) => self.take_changed(values, line, again),
+            Expected::EventHeight(position) => self.take_height(position, line),
+            Expected::EventEpoch(values) => self.take_epoch(Some(values), line, again),
             Expected::Satellite(left) => self.take_satellite(left, line, again),
         }
     }
@@ -233,10 +223,25 @@ impl ParserState {
             self.expected = Expected::EventPosition;
             return Ok(Added::NoRow);
         }
+        self.take_epoch(None, line, again)
+    }
+
+    /// Processes the first line of an epoch, after an event with these station values or none.
+    fn take_epoch(
+        &mut self,
+        change: Option<StationValues>,
+        line: &[u8],
+        again: &mut Line,
+    ) -> Result<Added, Refusal>
+        requires expected { self.old.expected ≡ epoch_after change }
+        requires event { change ≡ None → (0 < self.old.epochs) × (line.now ≡ event_line) → ⊥ }
+        ensures takes { TakesLine self.old self.new line.now result }
+        ensures room { (n : ℕ) → HasRoom self.old n → OnOk result (HasRoom self.new (n + 1)) }
+    {
         let Some(begun) = self.read_begun(line, again) else {
             return Err(Refusal::Bad);
         };
-        self.change = None;
+        self.change = change;
         self.time = begun.0;
         self.expected = Expected::Satellite(begun.1);
         Ok(Added::NoRow)
@@ -251,7 +256,7 @@ impl ParserState {
         let Some(position) = read_position(line) else {
             return Err(Refusal::Bad);
         };
-        self.expected = Expected::EventHeight(position.0, position.1, position.2);
+        self.expected = Expected::EventHeight(position);
         Ok(Added::NoRow)
     }
 
@@ -267,39 +272,20 @@ impl ParserState {
 
     /// Processes the height in an event, after this position. Refuses the line if neither differs
     /// from the current station values.
-    fn take_height(&mut self, x: i64, y: i64, z: i64, line: &[u8]) -> Result<Added, Refusal>
-        requires expected { self.old.expected ≡ Expected.EventHeight x y z }
+    fn take_height(&mut self, position: StationValues, line: &[u8]) -> Result<Added, Refusal>
+        requires expected { self.old.expected ≡ Expected.EventHeight position }
         ensures takes { TakesLine self.old self.new line.now result }
         ensures room { (n : ℕ) → HasRoom self.old n → OnOk result (HasRoom self.new (n + 1)) }
     {
         let Some(height) = read_delta(line) else {
             return Err(Refusal::Bad);
         };
-        let values = StationValues { x, y, z, height };
+        let mut values = position;
+        values.height = height;
         if values.is_same(self.station_values()) {
             return Err(Refusal::Bad);
         }
         self.expected = Expected::EventEpoch(values);
-        Ok(Added::NoRow)
-    }
-
-    /// Processes the first line of an epoch after an event with these station values.
-    fn take_changed(
-        &mut self,
-        values: StationValues,
-        line: &[u8],
-        again: &mut Line,
-    ) -> Result<Added, Refusal>
-        requires expected { self.old.expected ≡ Expected.EventEpoch values }
-        ensures takes { TakesLine self.old self.new line.now result }
-        ensures room { (n : ℕ) → HasRoom self.old n → OnOk result (HasRoom self.new (n + 1)) }
-    {
-        let Some(begun) = self.read_begun(line, again) else {
-            return Err(Refusal::Bad);
-        };
-        self.change = Some(values);
-        self.time = begun.0;
-        self.expected = Expected::Satellite(begun.1);
         Ok(Added::NoRow)
     }
 
@@ -334,7 +320,7 @@ impl ParserState {
         }
         self.epochs += 1;
         self.events += changes_of(self.change);
-        self.values = changed_by(self.values, self.change);
+        self.values = self.change.or(self.values);
         self.last = Some(self.time.milliseconds());
         self.rank = None;
         self.expected = Expected::Epoch;

@@ -39,7 +39,7 @@ fn fault_at(expected: Expected, number: u64) -> ReadFault
         Expected::Header(_) => ReadFault::BadHeader(number),
         Expected::Epoch => ReadFault::BadEpoch(number),
         Expected::EventPosition => ReadFault::BadEvent(number),
-        Expected::EventHeight(_, _, _) => ReadFault::BadEvent(number),
+        Expected::EventHeight(_) => ReadFault::BadEvent(number),
         Expected::EventEpoch(_) => ReadFault::BadEpoch(number),
         Expected::Satellite(_) => ReadFault::BadSatellite(number),
     }

@@ -2,15 +2,15 @@
 ghost use Rattle.std.specs.Prelude.{◌≡◌, ◌↔◌, ◌+◌, ◌≤◌, ◌<◌, ◌^◌, ◌||◌, IsTrue, pos, Bool, true, IfSome, IfNone};
 ghost use Rattle.std.specs.Prelude.{length, take, drop, codes};
 ghost use Rattle.rinex_file.specs.FileValues.{IsCoordinate};
-ghost use Rattle.rinex_file.specs.Header.{header_line, lengths};
+ghost use Rattle.rinex_file.specs.Header.{header_line, lengths, position_line};
 ghost use Rattle.rinex_file.specs.Read.Fields.{number_in, ReadsExactly};
-ghost use Rattle.rinex_file.specs.Read.Progress.{version_with};
-ghost use Rattle.rinex_file.specs.Read.Texts.{ReadsPosition};
+ghost use Rattle.rinex_file.specs.Read.Progress.{IsPosition, version_with};
 
 use crate::header::labels;
-use crate::header::lines::{labelled, three_lengths, version_with};
+use crate::header::lines::{labelled, position_line, three_lengths, version_with};
 use crate::read::numbers::{digits_in, is_same, number_in};
 use crate::read::texts::columns;
+use obs_epoch::StationValues;
 
 /// Returns whether this is the first line of a file in which these systems are planned.
 fn is_version(line: &[u8], gps: bool, galileo: bool) -> bool
@@ -50,18 +50,20 @@ fn coordinate_in(line: &[u8], from: usize) -> Option<i64>
     Some(length)
 }
 
-/// Returns the position of the antenna in 0.0001 m by its line, or None for any other line.
-pub(crate) fn read_position(line: &[u8]) -> Option<(i64, i64, i64)>
-    ensures { ReadsPosition line.now result }
+/// Returns the position of the antenna in 0.0001 m, with height zero, by its line, or None for any
+/// other line.
+pub(crate) fn read_position(line: &[u8]) -> Option<StationValues>
+    ensures { ReadsExactly IsPosition position_line line.now result }
 {
     let x = coordinate_in(line, 0)?;
     let y = coordinate_in(line, 14)?;
     let z = coordinate_in(line, 28)?;
-    let again = three_lengths(x, y, z, labels::POSITION);
+    let position = StationValues { x, y, z, height: 0 };
+    let again = position_line(&position);
     if !is_same(line, again.as_slice()) {
         return None;
     }
-    Some((x, y, z))
+    Some(position)
 }
 
 /// Returns the height of the antenna above the marker in 0.0001 m by its line, or None for any

@@ -1,29 +1,24 @@
 use Rattle.std.proofs.Common.{arith, refl, ◌≡◌, ◌∙◌, sym, ap, subst, ℤ, ℕ, List, Some, w64, to_z, of_z}
 use Rattle.std.proofs.lemmas.Int.{fits_signed_from_abs, to_z-of_z}
 use Rattle.std.specs.Prelude.{codes}
+use Rattle.obs_epoch.specs.declared.cell.StationValues.{StationValues}
 use Rattle.rinex_file.specs.FileValues.{IsCoordinate}
-use Rattle.rinex_file.specs.Header.{header_line, lengths}
+use Rattle.rinex_file.specs.Header.{position_line}
 use Rattle.rinex_file.specs.Read.Fields.{ReadsExactly}
+use Rattle.rinex_file.specs.Read.Progress.{IsPosition}
 use Rattle.rinex_file.proofs.Judged.{refused}
 use Rattle.rinex_file.proofs.StationLines.{lengths-back, coordinate-fits, number_at}
 use Rattle.rinex_file.proofs.read.station.read_position.Goals as goal
 
-abbrev Three : Type 0
-Three = ℤ × ℤ × ℤ
-
-abbrev Are : Three → Type 0
-Are p = IsCoordinate p.0 × IsCoordinate p.1 × IsCoordinate p.2
-
-abbrev text : ℤ → ℤ → ℤ → List ℕ
-text x y z = header_line (lengths x y z) (codes "APPROX POSITION XYZ")
+abbrev at : ℤ → ℤ → ℤ → StationValues
+at x y z = record { x = x; y = y; z = z; height = 0 }
 
 -- the columns of the line of a position contain its numbers
-there : (line : List ℕ) (w : Three) → IsCoordinate w.0 × IsCoordinate w.1 × IsCoordinate w.2 → line ≡ text w.0 w.1 w.2
-    → (number_at 0 line ≡ w.0) × (number_at 14 line ≡ w.1) × (number_at 28 line ≡ w.2)
-there line w is e = grind (arith, lengths-back, coordinate-fits, (lengths-back w.0 w.1 w.2 (codes "APPROX POSITION XYZ") (coordinate-fits w.0 is.0) (coordinate-fits w.1 is.1) (coordinate-fits w.2 is.2)))
+there : (line : List ℕ) (w : StationValues) → IsPosition w → line ≡ position_line w → (number_at 0 line ≡ w.x) × (number_at 14 line ≡ w.y) × (number_at 28 line ≡ w.z)
+there line w is e = grind (arith, lengths-back, coordinate-fits, (lengths-back w.x w.y w.z (codes "APPROX POSITION XYZ") (coordinate-fits w.x is.0) (coordinate-fits w.y is.1) (coordinate-fits w.z is.2)))
 
-same_three : (a b c : ℤ) (w : Three) → w.0 ≡ a → w.1 ≡ b → w.2 ≡ c → w ≡ (a, b, c)
-same_three a b c (x, y, z) d e f = ap (λ p. (p, y, z)) d ∙ ap (λ q. (a, q, z)) e ∙ ap (λ r. (a, b, r)) f
+same_at : (x y z : ℤ) (w : StationValues) → w.x ≡ x → w.y ≡ y → w.z ≡ z → w.height ≡ 0 → w ≡ at x y z
+same_at x y z w a b c d = grind arith
 
 pub returns-in_err-x : goal.returns-in_err-x
 returns-in_err-x c =
@@ -41,30 +36,29 @@ returns-in_err-z c =
 stays : (z : ℤ) → IsCoordinate z → to_z w64 (of_z w64 z) ≡ z
 stays z is = grind (arith, to_z-of_z, fits_signed_from_abs, coordinate-fits)
 
-all_stay : (x y z : ℤ) → Are (x, y, z) → text (to_z w64 (of_z w64 x)) (to_z w64 (of_z w64 y)) (to_z w64 (of_z w64 z)) ≡ text x y z
-all_stay x y z is = grind (arith, stays)
+all_stay : (x y z : ℤ) → IsCoordinate x → IsCoordinate y → IsCoordinate z → at (to_z w64 (of_z w64 x)) (to_z w64 (of_z w64 y)) (to_z w64 (of_z w64 z)) ≡ at x y z
+all_stay x y z a b c = grind (arith, stays)
 
 pub returns-then-not-is_same : goal.returns-then-not-is_same
 returns-then-not-is_same c = λ w is e.
     let all = there c.args.line.now w is e in
-    let x = sym (c.in_ok-x.ensures.some.1 ∙ all.0) in
-    let y = sym (c.in_ok-y.ensures.some.1 ∙ all.1) in
-    let z = sym (c.in_ok-z.ensures.some.1 ∙ all.2) in
+    let x = c.in_ok-x.ensures.some in
+    let y = c.in_ok-y.ensures.some in
+    let z = c.in_ok-z.ensures.some in
     refused c.is_same.result _ c.is_same.ensures c.if-not-is_same.true
-    (e ∙ ap (λ t. text t w.1 w.2) x ∙ ap (λ t. text c.in_ok-x.x t w.2) y ∙ ap (λ t. text c.in_ok-x.x c.in_ok-y.y t) z
-    ∙ sym (c.as_slice.ensures.value ∙ c.three_lengths-again.ensures ∙ all_stay c.in_ok-x.x c.in_ok-y.y c.in_ok-z.z (c.in_ok-x.ensures.some.0, c.in_ok-y.ensures.some.0, c.in_ok-z.ensures.some.0)))
+    (e ∙ ap position_line (same_at c.in_ok-x.x c.in_ok-y.y c.in_ok-z.z w (sym (x.1 ∙ all.0)) (sym (y.1 ∙ all.1)) (sym (z.1 ∙ all.2)) is.3 ∙ sym (all_stay _ _ _ x.0 y.0 z.0))
+    ∙ sym (c.as_slice.ensures.value ∙ c.position_line-again.ensures))
 
 pub returns : goal.returns
 returns c =
-    let x = c.in_ok-x.x in
-    let y = c.in_ok-y.y in
-    let z = c.in_ok-z.z in
-    let are : Are (x, y, z) = (c.in_ok-x.ensures.some.0, c.in_ok-y.ensures.some.0, c.in_ok-z.ensures.some.0) in
-    let kept : (x, y, z) ≡ (to_z w64 (of_z w64 x), to_z w64 (of_z w64 y), to_z w64 (of_z w64 z)) = same_three _ _ _ (x, y, z) (sym (stays x are.0)) (sym (stays y are.1)) (sym (stays z are.2)) in
-    subst (λ (p : Three). ReadsExactly Are (λ (q : Three). text q.0 q.1 q.2) c.args.line.now (Some p)) kept (
-      are,
-      c.if-not-is_same.ensures.0 refl ∙ c.as_slice.ensures.value ∙ c.three_lengths-again.ensures ∙ all_stay x y z are,
+    let x = c.in_ok-x.ensures.some in
+    let y = c.in_ok-y.ensures.some in
+    let z = c.in_ok-z.ensures.some in
+    let kept = all_stay c.in_ok-x.x c.in_ok-y.y c.in_ok-z.z x.0 y.0 z.0 in
+    subst (λ (v : StationValues). ReadsExactly IsPosition position_line c.args.line.now (Some v)) (sym kept) (
+      (x.0, y.0, z.0, refl),
+      c.if-not-is_same.ensures.0 refl ∙ c.as_slice.ensures.value ∙ c.position_line-again.ensures ∙ ap position_line kept,
       λ w is e.
           let all = there c.args.line.now w is e in
-          same_three x y z w (sym (c.in_ok-x.ensures.some.1 ∙ all.0)) (sym (c.in_ok-y.ensures.some.1 ∙ all.1)) (sym (c.in_ok-z.ensures.some.1 ∙ all.2)),
+          same_at c.in_ok-x.x c.in_ok-y.y c.in_ok-z.z w (sym (x.1 ∙ all.0)) (sym (y.1 ∙ all.1)) (sym (z.1 ∙ all.2)) is.3,
     )

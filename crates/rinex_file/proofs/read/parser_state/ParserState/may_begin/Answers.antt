@@ -10,7 +10,7 @@ not_none n some = omega (arith, some)
 
 pub returns : goal.returns
 returns c = λ h history.
-    let follow = c.may_follow.ensures h.epochs history.last (c.requires.between h history).rising in (
+    let follow = c.may_follow.ensures h.epochs history.counted.last (c.requires.between h history).rising in (
       λ yes.
           let after = follow.0 yes in
           record {

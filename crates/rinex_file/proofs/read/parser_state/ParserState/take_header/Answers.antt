@@ -27,12 +27,7 @@ returns-in-Ok-Some-clause-takes c = λ h history.
     record {
       history = record {
         sound = let (epochs, rows, here) = sound_header s c.args.place c.requires.expected history.sound in (epochs, rows, goes.at);
-        last = history.last;
-        rank = history.rank;
-        epochs = history.epochs;
-        satellites = history.satellites;
-        events = history.events;
-        values = history.values;
+        counted = history.counted;
       };
       follows = header_taken s c.args.place c.args.line.now c.requires.expected c.take.new.self next goes;
       shows = header_shows s c.args.place c.args.line.now c.requires.expected c.take.new.self next goes;
@@ -46,12 +41,7 @@ returns-in-Ok-None-clause-takes c = λ h history.
     record {
       history = record {
         sound = (sound_start s c.take.new.self end.is epochs, rows);
-        last = history.last;
-        rank = history.rank;
-        epochs = history.epochs;
-        satellites = history.satellites;
-        events = history.events;
-        values = history.values;
+        counted = history.counted;
       };
       follows = header_ended s c.args.place c.args.line.now c.requires.expected c.take.new.self epochs here end;
       shows = ended_shows s c.args.place c.args.line.now c.requires.expected c.take.new.self epochs here end;

@@ -1,4 +1,5 @@
-use Rattle.std.proofs.Common.{arith, ◌≡◌, ◌∙◌, ◌+◌, ◌-◌, ◌<◌, ◌∷◌, ◌++◌, [], ℕ, suc, List, sym, ap, subst, refl, length, length-append, Bool, true, false, Some}
+use Rattle.std.proofs.Common.{arith, ◌≡◌, ◌∙◌, ◌+◌, ◌-◌, ◌<◌, ◌∷◌, ◌++◌, [], ℕ, suc, List, sym, ap, subst, refl, length, length-append, Bool, true, false, Option, Some, None}
+use Rattle.std.specs.Option.{option_or}
 use Rattle.std.specs.Prelude.{map}
 use Rattle.std.specs.List.Sorted.{IsStrictlyIncreasing}
 use Rattle.std.proofs.lemmas.List.{map-append}
@@ -51,7 +52,7 @@ returns-then-not-is_after-clause-takes c = λ h history.
     let shown = shows c.planned-gps.result c.planned-galileo.result (length s.known.shown.plan.gps) (length s.known.shown.plan.galileo) c.args.line.now c.read_seen.result true c.read_seen.new.seen
     c.planned-gps.ensures c.planned-galileo.ensures c.if-not-read_seen.false c.read_seen.ensures in
     bad_row s (c.args.left - 1) c.args.line.now (one_expected c.args.left s c.requires.expected some) c.read_seen.new.seen shown.2
-    (λ rise. refused c.is_after.result _ (c.is_after.ensures (map rank_of h.rows) history.rank begun.rows.rise) c.if-not-is_after.true
+    (λ rise. refused c.is_after.result _ (c.is_after.ensures (map rank_of h.rows) history.counted.rank begun.rows.rise) c.if-not-is_after.true
     (subst (λ (n : ℕ). IsStrictlyIncreasing (map rank_of h.rows ++ n ∷ [])) (sym c.rank_of-rank.ensures) rise))
 
 rises : (xs : List ℕ) (n k : ℕ) → n ≡ k → IsStrictlyIncreasing (xs ++ n ∷ []) → IsStrictlyIncreasing (xs ++ k ∷ [])
@@ -81,21 +82,30 @@ returns-then-left-gt1-clause-takes c = λ h history.
     let shown = shows c.planned-gps.result c.planned-galileo.result (length s.known.shown.plan.gps) (length s.known.shown.plan.galileo) c.args.line.now c.read_seen.result true seen
     c.planned-gps.ensures c.planned-galileo.ensures c.if-not-read_seen.false c.read_seen.ensures in
     let rise = rises (map rank_of h.rows) c.rank_of-rank.result (rank_of seen) c.rank_of-rank.ensures
-    ((c.is_after.ensures (map rank_of h.rows) history.rank begun.rows.rise).0 c.if-not-is_after.false) in
+    ((c.is_after.ensures (map rank_of h.rows) history.counted.rank begun.rows.rise).0 c.if-not-is_after.false) in
     let more : 0 < c.args.left - 1 = let n = c.if-left-gt1.true in omega (arith, n) in
     record {
       history = record {
         sound = sound_row s (c.args.left - 1) c.args.left c.requires.expected history.sound seen shown.0 rise more (one_left c.args.left some);
-        last = history.last;
-        rank = ends rank_of h.rows seen c.rank_of-rank.result c.rank_of-rank.ensures;
-        epochs = history.epochs;
-        satellites = row_counted h.epochs h.rows seen c.args.self.now.satellites history.satellites;
-        events = history.events;
-        values = history.values;
+        counted =
+            let old = history.counted in
+            record {
+              last = old.last;
+              rank = ends rank_of h.rows seen c.rank_of-rank.result c.rank_of-rank.ensures;
+              values = old.values;
+              epochs = old.epochs;
+              satellites = row_counted h.epochs h.rows seen c.args.self.now.satellites old.satellites;
+              events = old.events;
+            };
       };
       follows = row_taken s (c.args.left - 1) c.args.line.now (one_expected c.args.left s c.requires.expected some) seen shown.1 shown.2;
       shows = row_shows s (c.args.left - 1) c.args.line.now (one_expected c.args.left s c.requires.expected some) seen shown.1;
     }
+
+-- the station values that changed last, after a change or none
+changed_or : (result change before : Option StationValues) (v : StationValues) → result ≡ option_or change before → changed_by v result ≡ changed_by (changed_by v before) change
+changed_or result None before v e = ap (changed_by v) e
+changed_or result (Some w) before v e = ap (changed_by v) e
 
 pub returns-clause-takes : goal.returns-clause-takes
 returns-clause-takes c = λ h history.
@@ -105,18 +115,22 @@ returns-clause-takes c = λ h history.
     let shown = shows c.planned-gps.result c.planned-galileo.result (length s.known.shown.plan.gps) (length s.known.shown.plan.galileo) c.args.line.now c.read_seen.result true seen
     c.planned-gps.ensures c.planned-galileo.ensures c.if-not-read_seen.false c.read_seen.ensures in
     let rise = rises (map rank_of h.rows) c.rank_of-rank.result (rank_of seen) c.rank_of-rank.ensures
-    ((c.is_after.ensures (map rank_of h.rows) history.rank begun.rows.rise).0 c.if-not-is_after.false) in
+    ((c.is_after.ensures (map rank_of h.rows) history.counted.rank begun.rows.rise).0 c.if-not-is_after.false) in
     let last : c.args.left ≡ suc 0 = let n = c.if-left-gt1.false in omega (arith, n, some) in
     let epoch = stamped_at c.args.self.now.change c.args.self.now.time (h.rows ++ seen ∷ []) in
     record {
       history = record {
         sound = sound_closed s 0 c.args.left c.requires.expected history.sound seen shown.0 rise;
-        last = ends time_stamped h.epochs epoch c.milliseconds.result c.milliseconds.ensures.value;
-        rank = refl;
-        epochs = one_longer h.epochs epoch c.args.self.now.epochs history.epochs;
-        satellites = epoch_counted h.epochs epoch h.rows seen c.args.self.now.satellites refl history.satellites;
-        events = event_counted h.epochs epoch c.args.self.now.events c.changes_of.result c.changes_of.ensures history.events;
-        values = λ v. c.changed_by-self.ensures v ∙ ap (λ (w : StationValues). changed_by w c.args.self.now.change) (history.values v) ∙ sym (values_more v h.epochs epoch);
+        counted =
+            let old = history.counted in
+            record {
+              last = ends time_stamped h.epochs epoch c.milliseconds.result c.milliseconds.ensures.value;
+              rank = refl;
+              values = λ v. changed_or c.or-self.result c.args.self.now.change c.args.self.now.values v c.or-self.ensures ∙ ap (λ (w : StationValues). changed_by w c.args.self.now.change) (old.values v) ∙ sym (values_more v h.epochs epoch);
+              epochs = one_longer h.epochs epoch c.args.self.now.epochs old.epochs;
+              satellites = epoch_counted h.epochs epoch h.rows seen c.args.self.now.satellites refl old.satellites;
+              events = event_counted h.epochs epoch c.args.self.now.events c.changes_of.result c.changes_of.ensures old.events;
+            };
       };
       follows = last_taken s c.args.line.now (c.requires.expected ∙ ap Satellite last) seen shown.1 shown.2;
       shows = last_shows s c.args.line.now (c.requires.expected ∙ ap Satellite last) seen shown.1;

@@ -21,7 +21,7 @@ returns-then-may_end-clause-goes g c = λ h input read.
     let s = progress_at parser_state h in
     let end = c.in-End.ensures in
     let (expected, counted) = c.may_end.ensures.0 c.if-may_end.true in
-    let some : 0 < length h.epochs = subst (λ (n : ℕ). 0 < n) read.history.epochs counted in
+    let some : 0 < length h.epochs = subst (λ (n : ℕ). 0 < n) read.history.counted.epochs counted in
     let lines = file_shown s read.taken.lines expected read.history.sound some read.taken.history.are in
     record {
       is = file_read s expected read.history.sound some;
