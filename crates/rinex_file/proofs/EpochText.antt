@@ -1,5 +1,5 @@
 -- A date and time of day is read back from its columns.
-use Rattle.std.proofs.Common.{arith, lit<, ◌≡◌, ℕ, zero, suc, ◌+◌, ◌-◌, ◌*◌, ◌/◌, ◌%◌, ◌^◌, ◌<◌, ◌≤◌, List, [], ◌∷◌, ◌++◌, refl, sym, ap, ◌∙◌, length, get_or, take, drop, replicate, append_assoc, append-nil, length-append, decimal, pos, Some, None}
+use Rattle.std.proofs.Common.{arith, lit<, ◌≡◌, ℕ, zero, suc, ◌+◌, ◌-◌, ◌*◌, ◌/◌, ◌%◌, ◌^◌, ◌<◌, ◌≤◌, List, [], ◌∷◌, ◌++◌, refl, sym, ap, ◌∙◌, length, get_or, take, drop, replicate, append_assoc, append-nil, length-append, decimal, pos, Some, None, Option, subst}
 use Rattle.std.specs.Prelude.{map, codes, min}
 use Rattle.std.specs.Int.{is_negative}
 use Rattle.std.specs.Fmt.{sign_text}
@@ -225,6 +225,10 @@ are_read t a b c d e f year month day hour minute second has p q r s u v y m d' 
 
 pub same_some : (x y : Civil) → Some x ≡ Some y → x ≡ y
 same_some x y e = cc
+
+-- the date and time of day that was read is that of a time whose line this is
+pub found : (civil : Civil) (r : Option Civil) (v : ℕ) → Some civil ≡ r → r ≡ Some (civil_of v) → IsCivilOf v (civil_of v) → IsCivilOf v civil
+found civil r v was all is = subst (λ (x : Civil). IsCivilOf v x) (sym (same_some civil (civil_of v) (was ∙ all))) is
 
 pub none_some : (x : Civil) → None ≡ Some x → ⊥
 none_some x e = cc

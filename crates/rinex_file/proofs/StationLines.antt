@@ -1,6 +1,7 @@
 -- The planned systems are read back from the first line of a header, and position and height from their lines.
 use Rattle.std.proofs.Common.{arith, ◌≡◌, ◌∙◌, refl, sym, ap, ℕ, ◌+◌, ◌-◌, ◌/◌, ◌<◌, ◌≤◌, ◌^◌, List, [], ◌∷◌, ◌++◌, length, take, drop, get_or, replicate, append_assoc, append-nil, length-append, Bool, true, false, ℤ, pos, neg_ℤ, ◌≤ℤ◌, unsigned_abs}
-use Rattle.std.specs.Prelude.{◌||◌, ◌==◌, codes, if◌then◌else◌}
+use Rattle.std.proofs.lemmas.Bool.Decides.{nat_tests}
+use Rattle.std.specs.Prelude.{IsTrue, ◌↔◌, not, ◌||◌, ◌==◌, codes, if◌then◌else◌}
 use Rattle.std.specs.Int.{is_negative}
 use Rattle.std.proofs.lemmas.Int.{ints}
 use Rattle.std.specs.Fmt.{digits, sign_text}
@@ -28,6 +29,10 @@ letter_back : (letter : ℕ) → get_or (version_of letter) 40 0 ≡ letter
 unfolding header_line digits
 letter_back letter = refl
 
+letter_at : (letter : ℕ) → take 1 (drop 40 (version_of letter)) ≡ letter ∷ []
+unfolding header_line digits
+letter_at letter = refl
+
 -- the systems that a letter means
 abbrev planned_by : ℕ → Bool × Bool
 planned_by letter = if letter == 77 then (true, true) else (if letter == 71 then (true, false) else (false, true))
@@ -39,6 +44,28 @@ planned_back p some = grind arith
 pub version_determines : (line : List ℕ) (p q : Bool × Bool) → (p.0 || p.1) ≡ true → (q.0 || q.1) ≡ true
     → line ≡ version_with p.0 p.1 → line ≡ version_with q.0 q.1 → q ≡ p
 version_determines line p q a b e f = grind (arith, letter_back, planned_back, (sym (letter_back (letter_with q.0 q.1)) ∙ ap (λ l. get_or l 40 0) (sym f ∙ e) ∙ letter_back (letter_with p.0 p.1)))
+
+-- a byte as the letter of the systems that aren't planned
+is_letter : (a : Bool) (letter : List ℕ) (x y : ℕ) → letter ≡ x ∷ [] → (IsTrue a ↔ (letter ≡ y ∷ [])) → a ≡ (x == y)
+is_letter a letter x y e is = grind (arith, nat_tests)
+
+-- E, or else signals of GPS are planned; G, or else of Galileo
+pub version_read : (line : List ℕ) (w : Bool × Bool) (a b : Bool) (letter : List ℕ) → letter ≡ take 1 (drop 40 line) → (IsTrue a ↔ (letter ≡ 69 ∷ [])) → (IsTrue b ↔ (letter ≡ 71 ∷ []))
+    → (w.0 || w.1) ≡ true → line ≡ version_with w.0 w.1 → w ≡ (not a, not b)
+version_read line w a b letter at gps galileo some e =
+    let l = letter_with w.0 w.1 in
+    let here : letter ≡ l ∷ [] = at ∙ ap (λ t. take 1 (drop 40 t)) e ∙ letter_at l in
+    by w some ∙ sym (ap (λ x. (not x, not b)) (is_letter a letter l 69 here gps) ∙ ap (λ x. (not (l == 69), not x)) (is_letter b letter l 71 here galileo)) where
+      by : (p : Bool × Bool) → (p.0 || p.1) ≡ true → p ≡ (not (letter_with p.0 p.1 == 69), not (letter_with p.0 p.1 == 71))
+      by p some = grind arith
+
+no_letters : ◌≡◌ {A = List ℕ} (69 ∷ []) (71 ∷ []) → ⊥
+no_letters e = let f : 69 ≡ 71 = ap (λ l. get_or l 0 0) e in omega (arith, f)
+
+pub letters_differ : (a b : Bool) (letter : List ℕ) → (IsTrue a ↔ (letter ≡ 69 ∷ [])) → (IsTrue b ↔ (letter ≡ 71 ∷ [])) → (not a || not b) ≡ true
+letters_differ true true letter gps galileo = absurd (no_letters (sym (gps.0 refl) ∙ galileo.0 refl))
+letters_differ true false letter gps galileo = refl
+letters_differ false b letter gps galileo = refl
 
 -- ---- position and height
 

@@ -81,20 +81,9 @@ pub(crate) fn read_first(line: &[u8]) -> Option<GpsTime>
     ensures { ReadsExactly IsTime (λ t. first_line (civil_of t)) line.now result }
 {
     calendar();
-    let civil = match first_in(line) {
-        Some(civil) => civil,
-        None => return None,
-    };
-    let time = match GpsTime::from_civil(&civil) {
-        Some(time) => time,
-        None => return None,
-    };
-    let again = first_line(time);
-    if is_same(again.as_slice(), line) {
-        Some(time)
-    } else {
-        None
-    }
+    let civil = first_in(line)?;
+    let time = GpsTime::from_civil(&civil)?;
+    is_same(line, first_line(time).as_slice()).then_some(time)
 }
 
 /// Returns the time of an epoch and the number of its satellites by its first line, or None for any
@@ -103,19 +92,9 @@ pub(crate) fn read_epoch_line(line: &[u8], again: &mut Line) -> Option<(GpsTime,
     ensures { ReadsEpochLine (λ t n. n ≤ 999) line.now result }
 {
     calendar();
-    let civil = match civil_in(line) {
-        Some(civil) => civil,
-        None => return None,
-    };
+    let civil = civil_in(line)?;
     let count = count_in(line);
-    let time = match GpsTime::from_civil(&civil) {
-        Some(time) => time,
-        None => return None,
-    };
+    let time = GpsTime::from_civil(&civil)?;
     epoch_line(time, count, again);
-    if is_same(again.as_slice(), line) {
-        Some((time, count))
-    } else {
-        None
-    }
+    is_same(line, again.as_slice()).then_some((time, count))
 }

@@ -12,29 +12,16 @@ use crate::read::numbers::{digits_in, is_same, number_in};
 use crate::read::texts::columns;
 use obs_epoch::StationValues;
 
-/// Returns whether this is the first line of a file in which these systems are planned.
-fn is_version(line: &[u8], gps: bool, galileo: bool) -> bool
-    ensures { IsTrue result ↔ (line.now ≡ version_with gps galileo) }
-{
-    is_same(line, version_with(gps, galileo).as_slice())
-}
-
 /// Returns whether signals of GPS and of Galileo are planned, by the first line, or None for any
 /// other line.
 pub(crate) fn read_version(line: &[u8]) -> Option<(bool, bool)>
     ensures { ReadsExactly (λ (p : Bool × Bool). (p.0 || p.1) ≡ true) (λ (p : Bool × Bool). version_with p.0 p.1)
         line.now result }
 {
-    if is_version(line, true, true) {
-        return Some((true, true));
-    }
-    if is_version(line, true, false) {
-        return Some((true, false));
-    }
-    if is_version(line, false, true) {
-        return Some((false, true));
-    }
-    None
+    let letter = columns(line, 40, 1);
+    let gps = !is_same(letter, b"E");
+    let galileo = !is_same(letter, b"G");
+    is_same(line, version_with(gps, galileo).as_slice()).then_some((gps, galileo))
 }
 
 /// Returns the number in the 14 columns of a line that begin at `from`, in 0.0001 m, or None if it
@@ -59,11 +46,7 @@ pub(crate) fn read_position(line: &[u8]) -> Option<StationValues>
     let y = coordinate_in(line, 14)?;
     let z = coordinate_in(line, 28)?;
     let position = StationValues { x, y, z, height: 0 };
-    let again = position_line(&position);
-    if !is_same(line, again.as_slice()) {
-        return None;
-    }
-    Some(position)
+    is_same(line, position_line(&position).as_slice()).then_some(position)
 }
 
 /// Returns the height of the antenna above the marker in 0.0001 m by its line, or None for any
@@ -74,10 +57,7 @@ pub(crate) fn read_delta(line: &[u8]) -> Option<u16>
 {
     let height = u16::try_from(digits_in(columns(line, 0, 14))).ok()?;
     let again = three_lengths(height as i64, 0, 0, labels::DELTA);
-    if !is_same(line, again.as_slice()) {
-        return None;
-    }
-    Some(height)
+    is_same(line, again.as_slice()).then_some(height)
 }
 
 /// Returns whether the line is that of this content and this label.

@@ -1,45 +1,27 @@
-use Rattle.std.proofs.Common.{rules, ◌≡◌, ◌∙◌, sym, subst, ℕ, ◌≤◌}
-use Rattle.obs_epoch.specs.declared.civil.Civil.{Civil}
-use Rattle.obs_epoch.specs.Dates.{IsCivilOf, civil_of}
+use Rattle.std.proofs.Common.{rules, ◌≡◌, ◌∙◌, ◌≤◌, sym, ℕ}
+use Rattle.obs_epoch.specs.Dates.{civil_of}
 use Rattle.rinex_file.specs.FileValues.{IsTime}
 use Rattle.rinex_file.specs.Lines.{epoch_line}
-use Rattle.rinex_file.proofs.Judged.{refused}
-use Rattle.rinex_file.proofs.EpochText.{one_time, same_some, none_some}
+use Rattle.rinex_file.proofs.Judged.{exactly}
+use Rattle.rinex_file.proofs.EpochText.{found, one_time, none_some}
 use Rattle.rinex_file.proofs.read.epoch.read_epoch_line.Goals as goal
-use Rattle.rinex_file.proofs.read.epoch.read_epoch_line.Goals.{In-Some}
-
--- the date and time of day of a time whose line this is
-read : (c : In-Some) (v n : ℕ) → IsTime v → n ≤ 999 → c.args.line.now ≡ epoch_line (civil_of v) n → c.in-Some.civil ≡ civil_of v
-read c v n is few e = same_some c.in-Some.civil (civil_of v) (sym c.in-Some.is ∙ c.civil_in.ensures.all v n is few e)
-
-has : (c : In-Some) (v n : ℕ) → IsTime v → n ≤ 999 → c.args.line.now ≡ epoch_line (civil_of v) n → IsCivilOf v c.in-Some.civil
-has c v n is few e = subst (λ (x : Civil). IsCivilOf v x) (sym (read c v n is few e)) (c.calendar.ensures.civil v is)
-
-same_line : (x y : Civil) (m n : ℕ) → x ≡ y → m ≡ n → epoch_line x m ≡ epoch_line y n
-same_line x y m n e f = cc
 
 same_pair : (w : ℕ × ℕ) (t n : ℕ) → w.0 ≡ t → n ≡ w.1 → w ≡ (t, n)
 same_pair (a, b) t n e f = cc
 
-pub returns-in-None : goal.returns-in-None
-returns-in-None c = λ v is e. none_some (civil_of v.0) (sym c.in-None.is ∙ c.civil_in.ensures.all v.0 v.1 is.0 is.1 e)
+pub returns-in_err-civil : goal.returns-in_err-civil
+returns-in_err-civil c = rw c.from_residual.ensures (λ v is e. none_some (civil_of v.0) (sym c.in_err-civil.was ∙ c.civil_in.ensures.all v.0 v.1 is.0 is.1 e))
 
-pub returns-in-None-from_civil : goal.returns-in-None-from_civil
-returns-in-None-from_civil c = λ v is e. c.in-None-from_civil.ensures.none v.0 is.0 (has ((goal.at.returns-in-None-from_civil c).In-Some) v.0 v.1 is.0 is.1 e)
+pub returns-in_err-time : goal.returns-in_err-time
+returns-in_err-time c = rw c.from_residual-in_err-time.ensures
+    (λ v is e. c.in_err-time.ensures.none v.0 is.0 (found c.in_ok-civil.civil c.civil_in.result v.0 (sym c.in_ok-civil.was) (c.civil_in.ensures.all v.0 v.1 is.0 is.1 e) (c.calendar.ensures.civil v.0 is.0)))
 
-pub returns-then-is_same : goal.returns-then-is_same
-returns-then-is_same c =
-    let here = (goal.at.returns-then-is_same c).In-Some in (
-      (search rules, c.count_in-count.ensures.bound),
-      sym (c.is_same.ensures.0 c.if-is_same.true) ∙ c.as_slice.ensures.value ∙ c.epoch_line.ensures,
-      λ w is e. same_pair w c.in-Some-from_civil.time c.count_in-count.result
-          (one_time w.0 c.in-Some-from_civil.time c.in-Some.civil (has here w.0 w.1 is.0 is.1 e) c.in-Some-from_civil.ensures.some) (c.count_in-count.ensures.all w.0 w.1 is.0 is.1 e),
-    )
-
-pub returns-else-is_same : goal.returns-else-is_same
-returns-else-is_same c = λ v is e.
-    let here = (goal.at.returns-else-is_same c).In-Some in
-    let civil = sym c.in-Some-from_civil.ensures.walk ∙ read here v.0 v.1 is.0 is.1 e in
-    let count = c.count_in-count.ensures.all v.0 v.1 is.0 is.1 e in
-    refused c.is_same.result _ c.is_same.ensures c.if-is_same.false
-    (c.as_slice.ensures.value ∙ c.epoch_line.ensures ∙ same_line (civil_of c.in-Some-from_civil.time) (civil_of v.0) c.count_in-count.result v.1 civil count ∙ sym e)
+pub returns : goal.returns
+returns c =
+    exactly (λ (e : ℕ × ℕ). IsTime e.0 × e.1 ≤ 999) (λ (e : ℕ × ℕ). epoch_line (civil_of e.0) e.1) c.args.line.now _ (c.in_ok-time.time, c.count_in-count.result) c.is_same.result _
+    c.then_some.ensures (search rules, c.count_in-count.ensures.bound)
+    (λ w is e. same_pair w c.in_ok-time.time c.count_in-count.result
+    (one_time w.0 c.in_ok-time.time c.in_ok-civil.civil
+    (found c.in_ok-civil.civil c.civil_in.result w.0 (sym c.in_ok-civil.was) (c.civil_in.ensures.all w.0 w.1 is.0 is.1 e) (c.calendar.ensures.civil w.0 is.0)) c.in_ok-time.ensures.some)
+    (c.count_in-count.ensures.all w.0 w.1 is.0 is.1 e))
+    (c.as_slice.ensures.value ∙ c.epoch_line.ensures) c.is_same.ensures

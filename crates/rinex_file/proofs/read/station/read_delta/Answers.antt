@@ -4,7 +4,7 @@ use Rattle.std.specs.Result.{OkIff, result_ok}
 use Rattle.std.proofs.lemmas.Result.{OkIff-at_ok, OkIff-at_err}
 use Rattle.rinex_file.specs.Header.{header_line, lengths}
 use Rattle.rinex_file.specs.Read.Fields.{digits_in}
-use Rattle.rinex_file.proofs.Judged.{refused}
+use Rattle.rinex_file.proofs.Judged.{exactly}
 use Rattle.rinex_file.proofs.StationLines.{height-back}
 use Rattle.rinex_file.proofs.read.station.read_delta.Goals as goal
 
@@ -38,17 +38,9 @@ returns-in_err-height c =
     too_great c.try_from.result c.digits_in.result c.try_from.ensures c.in_err-height.ensures.value (rw is small)
     )
 
-pub returns-then-not-is_same : goal.returns-then-not-is_same
-returns-then-not-is_same c = λ h small e.
-    let is = c.digits_in.ensures.value ∙ ap digits_in c.columns.ensures.value ∙ there c.args.line.now h small e in
-    let found = held c.try_from.result c.digits_in.result c.in_ok-height.height c.try_from.ensures c.in_ok-height.ensures.value in
-    refused c.is_same.result _ c.is_same.ensures c.if-not-is_same.true
-    (e ∙ ap text (sym (found.1 ∙ is)) ∙ sym (c.as_slice.ensures.value ∙ c.three_lengths-again.ensures ∙ widened c.in_ok-height.height found.0))
-
 pub returns : goal.returns
 returns c =
-    let found = held c.try_from.result c.digits_in.result c.in_ok-height.height c.try_from.ensures c.in_ok-height.ensures.value in (
-      found.0,
-      c.if-not-is_same.ensures.0 refl ∙ c.as_slice.ensures.value ∙ c.three_lengths-again.ensures ∙ widened c.in_ok-height.height found.0,
-      λ h small e. sym (found.1 ∙ c.digits_in.ensures.value ∙ ap digits_in c.columns.ensures.value ∙ there c.args.line.now h small e),
-    )
+    let found = held c.try_from.result c.digits_in.result c.in_ok-height.height c.try_from.ensures c.in_ok-height.ensures.value in
+    exactly (λ h. h < 2 ^ 16) text c.args.line.now _ c.in_ok-height.height c.is_same.result _ c.then_some.ensures found.0
+    (λ h small e. sym (found.1 ∙ c.digits_in.ensures.value ∙ ap digits_in c.columns.ensures.value ∙ there c.args.line.now h small e))
+    (c.as_slice.ensures.value ∙ c.three_lengths-again.ensures ∙ widened c.in_ok-height.height found.0) c.is_same.ensures

@@ -1,12 +1,12 @@
-use Rattle.std.proofs.Common.{arith, refl, ◌≡◌, ◌∙◌, sym, ap, subst, ℤ, ℕ, List, Some, w64, to_z, of_z}
+use Rattle.std.proofs.Common.{arith, refl, ◌≡◌, ◌∙◌, sym, ap, subst, ℤ, ℕ, List, w64, to_z, of_z}
 use Rattle.std.proofs.lemmas.Int.{fits_signed_from_abs, to_z-of_z}
 use Rattle.std.specs.Prelude.{codes}
+use Rattle.std.specs.Bool.{then_some}
 use Rattle.obs_epoch.specs.declared.cell.StationValues.{StationValues}
 use Rattle.rinex_file.specs.FileValues.{IsCoordinate}
 use Rattle.rinex_file.specs.Header.{position_line}
-use Rattle.rinex_file.specs.Read.Fields.{ReadsExactly}
 use Rattle.rinex_file.specs.Read.Progress.{IsPosition}
-use Rattle.rinex_file.proofs.Judged.{refused}
+use Rattle.rinex_file.proofs.Judged.{exactly}
 use Rattle.rinex_file.proofs.StationLines.{lengths-back, coordinate-fits, number_at}
 use Rattle.rinex_file.proofs.read.station.read_position.Goals as goal
 
@@ -39,26 +39,14 @@ stays z is = grind (arith, to_z-of_z, fits_signed_from_abs, coordinate-fits)
 all_stay : (x y z : ℤ) → IsCoordinate x → IsCoordinate y → IsCoordinate z → at (to_z w64 (of_z w64 x)) (to_z w64 (of_z w64 y)) (to_z w64 (of_z w64 z)) ≡ at x y z
 all_stay x y z a b c = grind (arith, stays)
 
-pub returns-then-not-is_same : goal.returns-then-not-is_same
-returns-then-not-is_same c = λ w is e.
-    let all = there c.args.line.now w is e in
-    let x = c.in_ok-x.ensures.some in
-    let y = c.in_ok-y.ensures.some in
-    let z = c.in_ok-z.ensures.some in
-    refused c.is_same.result _ c.is_same.ensures c.if-not-is_same.true
-    (e ∙ ap position_line (same_at c.in_ok-x.x c.in_ok-y.y c.in_ok-z.z w (sym (x.1 ∙ all.0)) (sym (y.1 ∙ all.1)) (sym (z.1 ∙ all.2)) is.3 ∙ sym (all_stay _ _ _ x.0 y.0 z.0))
-    ∙ sym (c.as_slice.ensures.value ∙ c.position_line-again.ensures))
-
 pub returns : goal.returns
 returns c =
     let x = c.in_ok-x.ensures.some in
     let y = c.in_ok-y.ensures.some in
     let z = c.in_ok-z.ensures.some in
     let kept = all_stay c.in_ok-x.x c.in_ok-y.y c.in_ok-z.z x.0 y.0 z.0 in
-    subst (λ (v : StationValues). ReadsExactly IsPosition position_line c.args.line.now (Some v)) (sym kept) (
-      (x.0, y.0, z.0, refl),
-      c.if-not-is_same.ensures.0 refl ∙ c.as_slice.ensures.value ∙ c.position_line-again.ensures ∙ ap position_line kept,
-      λ w is e.
-          let all = there c.args.line.now w is e in
-          same_at c.in_ok-x.x c.in_ok-y.y c.in_ok-z.z w (sym (x.1 ∙ all.0)) (sym (y.1 ∙ all.1)) (sym (z.1 ∙ all.2)) is.3,
-    )
+    exactly IsPosition position_line c.args.line.now _ (at c.in_ok-x.x c.in_ok-y.y c.in_ok-z.z) c.is_same.result _ (c.then_some.ensures ∙ ap (then_some c.is_same.result) kept) (x.0, y.0, z.0, refl)
+    (λ w is e.
+    let all = there c.args.line.now w is e in
+    same_at c.in_ok-x.x c.in_ok-y.y c.in_ok-z.z w (sym (x.1 ∙ all.0)) (sym (y.1 ∙ all.1)) (sym (z.1 ∙ all.2)) is.3)
+    (c.as_slice.ensures.value ∙ c.position_line.ensures ∙ ap position_line kept) c.is_same.ensures
