@@ -108,6 +108,3 @@ no_feed bytes zero none h = refl
 no_feed [] (suc n) none h = refl
 no_feed (b ∷ bytes) (suc n) none h =
     ap (λ a. a || has 10 (take n bytes)) (not_true (b == 10) (none 0 (omega arith))) ∙ no_feed bytes n (λ k less. none (suc k) (omega (arith, less))) (omega (arith, h))
-
-pub feed_at : (bytes : List ℕ) (n : ℕ) → n < length bytes → (get_or bytes n 0 == 10) ≡ true → take 1 (drop n bytes) ≡ 10 ∷ []
-feed_at bytes n h is = ap (take 1) (drop_more bytes n 0 h) ∙ ap (λ b. b ∷ []) (eqb-true (get_or bytes n 0) 10 is)

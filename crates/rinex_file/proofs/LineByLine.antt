@@ -246,10 +246,6 @@ pub line_some : (bytes : List ℕ) → IsLine bytes → 0 < length bytes
 line_some bytes ([], is, endless) = subst (λ (l : List ℕ). 0 < length l) (sym is) (omega arith)
 line_some bytes (b ∷ body, is, endless) = subst (λ (l : List ℕ). 0 < length l) (sym is) (omega arith)
 
--- a fault with nothing to explain
-pub said_nothing : (a : Option (List ℕ)) → IfSome a (λ input. ⊤)
-said_nothing v0 = grind arith
-
 -- ---- if the reader didn't fail
 
 abbrev pub is_read : {A : Type 0} → Result A ReadFault → Bool
@@ -278,13 +274,6 @@ not_read r P isnt e = absurd (differ (sym isnt ∙ ap is_read e))
 
 pub other_fault : {A : Type 0} (fault : ReadFault) (P : Type 0) → (fault ≡ Read → ⊥) → result_of A fault ≡ Err Read → P
 other_fault fault P other e = absurd (other (ap fault_in e))
-
-pub other_after : {A : Type 0} (most : Bool) (fault result : ReadFault) (P : Type 0) → result ≡ (if most then TooLong else fault) → (fault ≡ Read → ⊥) → result_of A result ≡ Err Read → P
-other_after true fault result P is other e = not_read (Err TooLong) P refl (sym (ap Err is) ∙ e)
-other_after false fault result P is other e = other_fault fault P other (sym (ap Err is) ∙ e)
-
-pub not_cut : (n : ℕ) → CutShort n ≡ Read → ⊥
-not_cut n e = cc
 
 -- the same fault in another type of result
 pub still_read : {A B : Type 0} (fault : ReadFault) → result_of A fault ≡ Err Read → result_of B fault ≡ Err Read

@@ -51,18 +51,13 @@ pub fn check_file<R: Read>(alloc: Global, reader: &mut Counted<R>) -> Result<Cou
         match reading.next(reader) {
             Ok(Some(_)) => {}
             Ok(None) => {
-                let counts = Counts {
+                return Ok(Counts {
                     epochs: reading.parser_state.epochs,
                     satellites: reading.parser_state.satellites,
                     events: reading.parser_state.events,
-                };
-                drop(reading);
-                return Ok(counts);
+                });
             }
-            Err(fault) => {
-                drop(reading);
-                return Err(fault);
-            }
+            Err(fault) => return Err(fault),
         }
     }
 }
@@ -95,11 +90,7 @@ pub fn read_file<R: Read>(alloc: Global, reader: &mut Counted<R>) -> Result<ObsF
         match reading.next(reader) {
             Ok(Some(added)) => match file_builder.keep(added, &reading.parser_state) {
                 Ok(()) => {}
-                Err(_) => {
-                    drop(file_builder);
-                    drop(reading);
-                    return Err(ReadFault::Memory);
-                }
+                Err(_) => return Err(ReadFault::Memory),
             },
             Ok(None) => {
                 return match file_builder.finish(reading.parser_state) {
@@ -107,11 +98,7 @@ pub fn read_file<R: Read>(alloc: Global, reader: &mut Counted<R>) -> Result<ObsF
                     Err(_) => Err(ReadFault::Memory),
                 };
             }
-            Err(fault) => {
-                drop(file_builder);
-                drop(reading);
-                return Err(fault);
-            }
+            Err(fault) => return Err(fault),
         }
     }
 }

@@ -1,10 +1,11 @@
 //! The state of the parser of a file: what the next line has to fit, and counts. It doesn't grow
 //! with the file.
-ghost use Rattle.std.specs.Prelude.{◌≡◌, ◌<◌, ◌≤◌, ◌+◌, ◌^◌, ◌∷◌, ◌++◌, ◌↔◌, ℕ, [], List, None, OnOk, IsTrue, map, length};
+ghost use Rattle.std.specs.Prelude.{◌≡◌, ◌<◌, ◌≤◌, ◌+◌, ◌^◌, ◌∷◌, ◌++◌, ◌↔◌, ℕ, [], List, None, OnOk, IsTrue, map, length, nat_lt, if◌then◌else◌};
+ghost use Rattle.gnss_obs.specs.Satellites.{satellites};
 ghost use Rattle.std.specs.List.Sorted.{IsStrictlyIncreasing};
 ghost use Rattle.rinex_file.specs.Value.{FileValue, Stamped};
 ghost use Rattle.obs_epoch.specs.declared.cell.StationValues.{StationValues};
-ghost use Rattle.rinex_file.specs.FileValues.{IsFileValue, rank_of, time_stamped, most_rows, changed_by};
+ghost use Rattle.rinex_file.specs.FileValues.{IsFileValue, rank_of, time_stamped, changed_by};
 ghost use Rattle.rinex_file.specs.File.{event_line, file_lines};
 ghost use Rattle.rinex_file.specs.Read.Progress.{HasLinesLeft, epoch_after};
 ghost use Rattle.rinex_file.specs.ParserState.{EndsIn, History, HasRoom, FollowsHistory, TakesLine, changes_of};
@@ -79,21 +80,14 @@ fn may_follow(last: Option<u64>, first: GpsTime, time: GpsTime) -> bool
     }
 }
 
-/// Returns the number of satellites of the systems of which some signal is planned.
-fn most_rows(gps: usize, galileo: usize) -> usize
-    ensures { result ≡ most_rows gps galileo }
+/// Returns the number of satellites of a system, if some signal of it is planned.
+fn most_of(system: System, signals: usize) -> usize
+    ensures { result ≡ (if nat_lt 0 signals then satellites system else 0) }
 {
-    let of_gps = if gps > 0 {
-        System::Gps.satellites() as usize
-    } else {
-        0
-    };
-    let of_galileo = if galileo > 0 {
-        System::Galileo.satellites() as usize
-    } else {
-        0
-    };
-    of_gps + of_galileo
+    if signals == 0 {
+        return 0;
+    }
+    system.satellites() as usize
 }
 
 /// Returns the number of events of a change of station values: one, or zero for no change.
@@ -180,10 +174,8 @@ impl ParserState {
         ensures { (h : History) → FollowsHistory self.now h → IsTrue result
             ↔ MayBegin (progress_at self.now h) time satellites }
     {
-        let most = most_rows(
-            self.head.planned(System::Gps),
-            self.head.planned(System::Galileo),
-        );
+        let most = most_of(System::Gps, self.head.planned(System::Gps))
+            + most_of(System::Galileo, self.head.planned(System::Galileo));
         if satellites == 0 || satellites > most {
             return false;
         }
@@ -197,13 +189,8 @@ impl ParserState {
         ensures { (h : History) → FollowsHistory self.now h
             → ReadsEpochLine (MayBegin (progress_at self.now h)) line.now result }
     {
-        let Some(read) = read_epoch_line(line, again) else {
-            return None;
-        };
-        if !self.may_begin(read.0, read.1) {
-            return None;
-        }
-        Some(read)
+        let read = read_epoch_line(line, again)?;
+        self.may_begin(read.0, read.1).then_some(read)
     }
 
     /// Returns whether an event begins with the line; no event precedes the first epoch.
@@ -325,13 +312,6 @@ impl ParserState {
         self.rank = None;
         self.expected = Expected::Epoch;
         Ok(Added::LastRow)
-    }
-
-    /// Returns the kind of line that is expected.
-    pub(crate) fn expected(&self) -> Expected
-        ensures { result ≡ self.now.expected }
-    {
-        self.expected
     }
 
     /// Returns whether the file may end here.

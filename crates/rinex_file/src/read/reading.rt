@@ -97,14 +97,14 @@ impl Reading {
             Found::Cut => return Err(fault_after(self.count, ReadFault::CutShort(number))),
             Found::Long => return Err(fault_after(
                 self.count,
-                fault_at(self.parser_state.expected(), number),
+                fault_at(self.parser_state.expected, number),
             )),
             Found::Failed => return Err(ReadFault::Read),
         }
         if self.count == MOST_LINES {
             return Err(ReadFault::TooLong);
         }
-        let expected = self.parser_state.expected();
+        let expected = self.parser_state.expected;
         match self
             .parser_state
             .take(self.line.as_slice(), &mut self.again)

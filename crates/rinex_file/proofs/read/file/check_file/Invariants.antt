@@ -6,8 +6,8 @@ use Rattle.rinex_file.specs.Read.Steps.{HasRead, MayBeCounted}
 use Rattle.rinex_file.proofs.read.file.check_file.Given as goal
 
 -- some history was read of the input
-abbrev pub invariant-loop-counts : goal.invariant-loop-counts
-invariant-loop-counts g l =
+abbrev pub invariant-loop-reading : goal.invariant-loop-reading
+invariant-loop-reading g l =
     let remaining = g.R.Read.remaining in
     record {
       read : (h : History) × HasRead l.reading h (remaining l.fn.reader.inner) (remaining l.reader.inner);
@@ -16,5 +16,5 @@ invariant-loop-counts g l =
       same : l.reader.failures ≡ l.fn.reader.failures;
     }
 
-abbrev pub decreases-loop-counts : goal.decreases-loop-counts
-decreases-loop-counts g l = most_lines + 1 - l.reading.count
+abbrev pub decreases-loop-reading : goal.decreases-loop-reading
+decreases-loop-reading g l = most_lines + 1 - l.reading.count

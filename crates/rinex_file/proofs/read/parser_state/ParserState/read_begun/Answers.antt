@@ -1,24 +1,19 @@
-use Rattle.std.proofs.Common.{ℕ, subst}
-use Rattle.rinex_file.specs.ParserState.{progress_at}
-use Rattle.rinex_file.specs.Read.Sound.{MayBegin}
+use Rattle.std.proofs.Common.{◌≡◌, ◌↔◌, ◌≤◌, refl, ℕ, List, Bool, true, false, IsTrue, Option, Some, subst, sym}
+use Rattle.std.specs.Bool.{then_some}
+use Rattle.rinex_file.specs.Read.Progress.{Progress}
+use Rattle.rinex_file.specs.Read.Sound.{MayBegin, ReadsEpochLine}
 use Rattle.rinex_file.proofs.BodySteps.{few_satellites}
 use Rattle.rinex_file.proofs.Judged.{refused}
 use Rattle.rinex_file.proofs.read.parser_state.ParserState.read_begun.Goals as goal
 
-pub returns-in_default : goal.returns-in_default
-returns-in_default c = λ h history.
-    λ w is. c.in_default.ensures w (is.0, few_satellites _ _ w.1 is.1.room)
+pub returns-in_err-read : goal.returns-in_err-read
+returns-in_err-read c = rw c.from_residual.ensures (λ h history w is. c.in_err-read.ensures w (is.0, few_satellites _ _ w.1 is.1.room))
 
-pub returns-then-not-may_begin : goal.returns-then-not-may_begin
-returns-then-not-may_begin c = λ h history.
-    λ w is text.
-    let same = c.in-Some.ensures.2 w (is.0, few_satellites _ _ w.1 is.1.room) text in
-    refused c.may_begin.result _ (c.may_begin.ensures h history) c.if-not-may_begin.true
-    (subst (λ (e : ℕ × ℕ). MayBegin (progress_at c.args.self.now h) e.0 e.1) same is.1)
+-- an epoch that may begin is read exactly among those that its line has room for
+begun : (s : Progress) (line : List ℕ) (e : ℕ × ℕ) (may : Bool) → ReadsEpochLine (λ t n. n ≤ 999) line (Some e) → (IsTrue may ↔ MayBegin s e.0 e.1) → ReadsEpochLine (MayBegin s) line (then_some may e)
+begun s line e true (is, shown, only) may = ((is.0, may.0 refl), shown, λ w also text. only w (also.0, few_satellites _ _ w.1 also.1.room) text)
+begun s line e false (is, shown, only) may = λ w also text.
+    refused false _ may refl (subst (λ (p : ℕ × ℕ). MayBegin s p.0 p.1) (only w (also.0, few_satellites _ _ w.1 also.1.room) text) also.1)
 
 pub returns : goal.returns
-returns c = λ h history. (
-  (c.in-Some.ensures.0.0, (c.may_begin.ensures h history).0 c.if-not-may_begin.false),
-  c.in-Some.ensures.1,
-  λ w is text. c.in-Some.ensures.2 w (is.0, few_satellites _ _ w.1 is.1.room) text,
-)
+returns c = rw c.then_some.ensures (λ h history. begun _ c.args.line.now c.in_ok-read.read c.may_begin.result c.in_ok-read.ensures (c.may_begin.ensures h history))

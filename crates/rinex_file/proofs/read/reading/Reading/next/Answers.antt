@@ -1,4 +1,4 @@
-use Rattle.std.proofs.Common.{arith, ◌≡◌, ◌∙◌, sym, ap, subst, ℕ, List, ◌+◌, ◌^◌, ◌<◌, ◌≤◌, length, Err}
+use Rattle.std.proofs.Common.{arith, refl, ◌≡◌, ◌∙◌, sym, ap, subst, ℕ, List, ◌+◌, ◌^◌, ◌<◌, ◌≤◌, length, Err}
 use Rattle.std.proofs.Math.Nat.{le_trans}
 use Rattle.rinex_file.specs.declared.read.parser_state.ParserState.{ParserState}
 use Rattle.rinex_file.specs.declared.read.expected.Refusal.{Refusal}
@@ -54,9 +54,9 @@ returns-in-Long-clause-goes g c = λ h input read.
     let long = c.in-Long.ensures in
     let bytes = c.next_line.new.line.items in
     after_fault s n input _ _ bytes c.fault_at.result c.fault_after-in-Long.result read.taken (long_some bytes long.found.0) long.taken c.fault_after-in-Long.ensures
-    (said_of input (λ text. IsFaulty text (n + 1) × IsExpectedAt c.expected.result text (n + 1)) _ (λ text both. c.fault_at.ensures.faulty text both.0 both.1)
-    (both_said input (λ text. IsFaulty text (n + 1)) (λ text. IsExpectedAt c.expected.result text (n + 1)) (over_long s n input _ _ bytes read.taken long.found.0 long.found.1 long.taken)
-    (expected_at c.args.self.now.parser_state h c.expected.result n input _ read.taken c.expected.ensures read.history)))
+    (said_of input (λ text. IsFaulty text (n + 1) × IsExpectedAt c.args.self.now.parser_state.expected text (n + 1)) _ (λ text both. c.fault_at.ensures.faulty text both.0 both.1)
+    (both_said input (λ text. IsFaulty text (n + 1)) (λ text. IsExpectedAt c.args.self.now.parser_state.expected text (n + 1)) (over_long s n input _ _ bytes read.taken long.found.0 long.found.1 long.taken)
+    (expected_at c.args.self.now.parser_state h c.args.self.now.parser_state.expected n input _ read.taken refl read.history)))
 
 pub returns-in-Ok-clause-goes : goal.returns-in-Ok-clause-goes
 returns-in-Ok-clause-goes g c = λ h input read.
@@ -76,19 +76,10 @@ returns-in-Err-Bad-clause-goes g c = λ h input read.
     let n = c.args.self.now.count in
     let line = c.next_line.new.line.items in
     let takes = subst (λ (r : Refusal). TakesLine c.args.self.now.parser_state c.take.new.self c.as_slice.result.now (Err r)) c.in-Err-Bad.field-0-is c.in-Err-Bad.ensures.takes in
-    said_of input (λ text. IsFaulty text (n + 1) × IsExpectedAt c.expected-expected.result text (n + 1)) _ (λ text both. c.fault_at-in-Err-Bad.ensures.faulty text both.0 both.1)
-    (both_said input (λ text. IsFaulty text (n + 1)) (λ text. IsExpectedAt c.expected-expected.result text (n + 1))
+    said_of input (λ text. IsFaulty text (n + 1) × IsExpectedAt c.args.self.now.parser_state.expected text (n + 1)) _ (λ text both. c.fault_at-in-Err-Bad.ensures.faulty text both.0 both.1)
+    (both_said input (λ text. IsFaulty text (n + 1)) (λ text. IsExpectedAt c.args.self.now.parser_state.expected text (n + 1))
     (refused lines_are_lines s n input _ _ line read.taken c.in-Line.ensures.found c.in-Line.ensures.taken (subst (RefusesLine s) c.as_slice.ensures.value (takes h read.history)))
-    (expected_at c.args.self.now.parser_state h c.expected-expected.result n input _ read.taken c.expected-expected.ensures read.history))
-
-room_more : (c : ParserState) (n m : ℕ) → HasRoom c n → n ≤ m → HasRoom c m
-room_more c n m (epochs, satellites, events) more = (le_trans epochs more, le_trans satellites more, le_trans events more)
-
-wide : (n : ℕ) → n ≤ 2 ^ 32 → n ≤ 2 ^ 40
-wide n few = omega (arith, few)
-
-one_below : (n : ℕ) → n ≤ 2 ^ 32 → (n ≡ 2 ^ 32 → ⊥) → n + 1 ≤ 2 ^ 32
-one_below n few other = omega (arith, few, other)
+    (expected_at c.args.self.now.parser_state h c.args.self.now.parser_state.expected n input _ read.taken refl read.history))
 
 pub returns-then-self-eq-MOST_LINES-clause-goes : goal.returns-then-self-eq-MOST_LINES-clause-goes
 returns-then-self-eq-MOST_LINES-clause-goes g c = λ h input read.
