@@ -15,8 +15,7 @@ use Rattle.rinex_file.specs.Header.{row_line, has_line, first_types, type_rows}
 use Rattle.rinex_file.specs.Read.Progress.{Announced, Known, MayBeAll, MayPlan, AreTypesRead, IsHeadAt, announced, shown_with, shown_line, AreTypes, types_line, signals_begun}
 use Rattle.rinex_file.specs.Read.HeaderSteps.{has_types, known_line, ReadsHeaderLine, NoneGoesOn, AreBegun, TakesTypes, RefusesTypes, with_types}
 use Rattle.rinex_file.proofs.HeaderAgree.{agree_count, agree_types, signals_same, less_or, types_in, types_row, types_low, types_high, types_shown}
-use Rattle.rinex_file.proofs.HeaderPlans.{with_is}
-use Rattle.rinex_file.proofs.HeaderSteps.{follows, other, either_system, far_other, still_read}
+use Rattle.rinex_file.proofs.HeaderSteps.{follows, other, either_system, far_other, still_read, with_is}
 
 -- ---- numbers of signals
 

@@ -6,12 +6,9 @@ mod Grown
 mod Columns
 mod Entries
 mod SatelliteGroups
-mod SignalTypes
 mod TypeCodes
 mod TypeRows
-mod HeaderRows
 mod Sent
-mod Splits
 mod LineByLine
 mod Appended
 mod Faultless
@@ -19,7 +16,6 @@ mod FileText
 mod Examples
 mod Ahead
 mod KeptFile
-mod ReadWhole
 mod Judged
 mod Rises
 mod BodySteps
@@ -36,10 +32,8 @@ mod EpochText
 mod HeaderRead
 mod HeaderEnd
 mod HeaderAgree
-mod HeaderPlans
 mod HeaderSteps
 mod HeaderTypes
 mod Groups
-mod ExpectedLines
 mod GatheredFile
 mod CellPlaces

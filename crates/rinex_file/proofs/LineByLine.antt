@@ -1,24 +1,83 @@
 -- A file that is read line by line: what was read describes the accepted lines.
-use Rattle.std.proofs.Common.{arith, ◌≡◌, ◌∙◌, sym, ap, subst, refl, ℕ, ◌+◌, ◌<◌, ◌≤◌, List, [], ◌∷◌, ◌++◌, length, length-append, append_assoc, append-nil, true, false, Option, Some, None, IfSome, inl, inr}
-use Rattle.std.specs.Prelude.{◌==◌, All, if◌then◌else◌, ⊤, Bool, Result, Ok, Err}
+use Rattle.std.specs.Prelude.{◌==◌, ◌||◌, All, if◌then◌else◌, ⊤, Bool, Result, Ok, Err}
 use Rattle.std.specs.Io.KnownBytes.{Consumes, IsAtEnd}
-use Rattle.std.proofs.KnownBytes.{Consumes-nil, Consumes-trans}
+use Rattle.std.proofs.Common.{arith, ◌≡◌, ◌∙◌, sym, ap, subst, ℕ, ◌+◌, List, [], length, Option, Some, None, IfSome, ◌∷◌, ◌++◌, refl, true, false, append_assoc, ◌<◌, ◌≤◌, length-append, append-nil, inl, inr}
 use Rattle.std.proofs.lemmas.List.Elements.{All-head, All-tail, All-cons, All-append}
-use Rattle.rinex_file.specs.declared.read.fault.ReadFault.{ReadFault}
-use Rattle.rinex_file.specs.declared.read.fault.ReadFault.TheVariants.{Memory, Read, BadHeader, BadEpoch, BadEvent, BadSatellite, CutShort, TooLong}
-use Rattle.rinex_file.specs.Read.Fields.{has}
-use Rattle.rinex_file.specs.Numbers.{joined}
-use Rattle.rinex_file.specs.Value.{FileValue}
+use Rattle.std.proofs.KnownBytes.{Consumes-nil, Consumes-trans}
+use Rattle.rinex_file.specs.declared.read.parser_state.ParserState.{ParserState}
+use Rattle.rinex_file.specs.declared.read.expected.Added.{Added}
+use Rattle.rinex_file.specs.declared.read.reading.Reading.{Reading}
+use Rattle.rinex_file.specs.declared.read.file.Counts.{Counts}
+use Rattle.rinex_file.specs.Value.{SatelliteRow, FileValue}
 use Rattle.rinex_file.specs.FileValues.{IsFileValue}
 use Rattle.rinex_file.specs.File.{file_text, file_lines}
-use Rattle.rinex_file.specs.Exact.{IsLine, NoFileBegins, IsCutShort, IsTooLong, IsFaulty, ExplainsFault, IsNoFault, most_lines}
+use Rattle.rinex_file.specs.ParserState.{History, with_line, GoesOnWithLine, ShowsLine, RefusesLine}
+use Rattle.rinex_file.specs.Exact.{IsTextOf, IsLine, NoFileBegins, IsCutShort, IsTooLong, IsFaulty, ExplainsFault, IsNoFault, most_lines}
+use Rattle.rinex_file.specs.Counting.{AreCounts, IsTextWith}
+use Rattle.rinex_file.specs.Read.Steps.{ReadsNextLine, HasRead, IsWhole, IsTextOfOnly, file_at, IsTaken}
+use Rattle.rinex_file.specs.Read.Fields.{has}
+use Rattle.rinex_file.specs.Numbers.{joined}
+use Rattle.rinex_file.specs.declared.read.fault.ReadFault.{ReadFault}
+use Rattle.rinex_file.specs.declared.read.fault.ReadFault.TheVariants.{Memory, Read, BadHeader, BadEpoch, BadEvent, BadSatellite, CutShort, TooLong}
 use Rattle.rinex_file.specs.Begun.{AreBegun}
 use Rattle.rinex_file.specs.Read.Progress.{Progress, HasLinesLeft}
 use Rattle.rinex_file.specs.Read.Sound.{AreLinesOf, HasReadLines}
-use Rattle.rinex_file.specs.ParserState.{GoesOnWithLine, ShowsLine, RefusesLine}
-use Rattle.rinex_file.specs.Read.Steps.{IsTaken, IsTextOfOnly}
+use Rattle.rinex_file.proofs.Digits.{has-append}
 use Rattle.rinex_file.proofs.Sent.{joined-append}
-use Rattle.rinex_file.proofs.Splits.{splits, or_false, has-line}
+
+pub or_false : (a b : Bool) → (a || b) ≡ false → (a ≡ false) × (b ≡ false)
+or_false true b h = cc
+or_false false b h = (refl, h)
+
+-- two bodies without line feeds, each with a line feed after it
+abbrev SameFront : List ℕ → List ℕ → List ℕ → List ℕ → Type 0
+SameFront a b x y = (a ≡ b) × (x ≡ y)
+
+same_body : (a b x y : List ℕ) → has 10 a ≡ false → has 10 b ≡ false → a ++ 10 ∷ x ≡ b ++ 10 ∷ y → SameFront a b x y
+same_body [] [] x y h k e = (refl, cc)
+same_body [] (b ∷ bs) x y h k e = grind (arith, or_false)
+same_body (a ∷ us) [] x y h k e = grind (arith, or_false)
+same_body (a ∷ us) (b ∷ bs) x y h k e =
+    let head : a ≡ b = cc in
+    let rest : us ++ 10 ∷ x ≡ bs ++ 10 ∷ y = cc in
+    let more = same_body us bs x y (or_false (a == 10) (has 10 us) h).1 (or_false (b == 10) (has 10 bs) k).1 rest in
+    let tail : us ≡ bs = more.0 in
+    (cc, more.1)
+
+-- a first line
+abbrev FirstSplit : List ℕ → List ℕ → List ℕ → List ℕ → Type 0
+FirstSplit l m x y = (l ≡ m) × (x ≡ y)
+
+shape : (l body x : List ℕ) → l ≡ body ++ 10 ∷ [] → l ++ x ≡ body ++ 10 ∷ x
+shape l body x e = ap (λ t. t ++ x) e ∙ append_assoc body (10 ∷ []) x
+
+pub first_line : (l m x y : List ℕ) → IsLine l → IsLine m → l ++ x ≡ m ++ y → FirstSplit l m x y
+first_line l m x y (a, la, na) (b, lb, nb) e = grind (arith, same_body, shape, (same_body a b x y na nb (sym (shape l a x la) ∙ e ∙ shape m b y lb)))
+
+-- the lines that are left, and the bytes that are left
+abbrev Splits : List (List ℕ) → List (List ℕ) → List ℕ → Type 0
+Splits all done rest = (more : List (List ℕ)) × (all ≡ done ++ more) × (rest ≡ joined more)
+
+not_empty : (m x : List ℕ) → IsLine m → [] ≡ m ++ x → ⊥
+not_empty m x ([], e, n) h = let whole : [] ≡ 10 ∷ x = h ∙ shape m [] x e in cc
+not_empty m x (b ∷ bs, e, n) h = let whole : [] ≡ b ∷ (bs ++ 10 ∷ x) = h ∙ shape m (b ∷ bs) x e in cc
+
+pub splits : (all done : List (List ℕ)) (rest : List ℕ) → All IsLine all → All IsLine done → joined all ≡ joined done ++ rest → Splits all done rest
+splits all [] rest h k e = (all, refl, sym e)
+splits [] (d ∷ ds) rest h k e = absurd (not_empty d (joined ds ++ rest) (All-head IsLine d ds k) (e ∙ append_assoc d (joined ds) rest))
+splits (l ∷ ls) (d ∷ ds) rest h k e =
+    let one = first_line l d (joined ls) (joined ds ++ rest) (All-head IsLine l ls h) (All-head IsLine d ds k) (e ∙ append_assoc d (joined ds) rest) in
+    let (more, lines, text) = splits ls ds rest (All-tail IsLine l ls h) (All-tail IsLine d ds k) one.1 in
+    let same : l ≡ d = one.0 in
+    (more, cc, text)
+
+or_right : (a : Bool) → (a || true) ≡ true
+or_right true = refl
+or_right false = refl
+
+-- a line has a line feed, so bytes that begin with a line have one
+pub has-line : (line x : List ℕ) → IsLine line → has 10 (line ++ x) ≡ true
+has-line line x (body, e, n) = ap (has 10) (shape line body x e) ∙ has-append 10 body (10 ∷ x) ∙ or_right (has 10 body)
 
 -- ---- lists of lines
 
@@ -278,3 +337,40 @@ other_fault fault P other e = absurd (other (ap fault_in e))
 -- the same fault in another type of result
 pub still_read : {A B : Type 0} (fault : ReadFault) → result_of A fault ≡ Err Read → result_of B fault ≡ Err Read
 still_read {A} {B} fault e = ap (result_of B) (ap fault_in e)
+
+-- ---- a file that was read whole, and its counts
+
+abbrev pub counts_at : ParserState → Counts
+counts_at c = record { epochs = c.epochs; satellites = c.satellites; events = c.events }
+
+no_rows_more : (n m : ℕ) (rows : List SatelliteRow) → n ≡ m + length rows → rows ≡ [] → n ≡ m
+no_rows_more n m rows e none = let zero : length rows ≡ 0 = ap length none in omega (arith, e, zero)
+
+counted_at : (c : ParserState) (h : History) (input : Option (List ℕ)) → IsWhole c h input → AreCounts (counts_at c) (file_at c h)
+counted_at c h input whole = grind (arith, no_rows_more)
+
+pub counts_found : (c : ParserState) (h : History) (input : Option (List ℕ)) → IsWhole c h input → IsTextWith (counts_at c) input
+counts_found c h input whole = grind (arith, said_of, counted_at)
+
+pub counts_only : (c : ParserState) (h : History) (input : Option (List ℕ)) (v : FileValue) → IsWhole c h input → IsFileValue v → IfSome input (λ bytes. bytes ≡ file_text v → AreCounts (counts_at c) v)
+counts_only c h input v whole is = grind (arith, said_of, counted_at)
+
+-- ---- a step, by its result
+
+pub added_more : (new : Reading) (h : History) (input left : Option (List ℕ)) (o : Option Added) (added : Added) → o ≡ Some added → ReadsNextLine new h input left (Ok o)
+    → HasRead new (with_line added new.parser_state h) input left
+added_more new h input left o added e goes = subst (λ (x : Option Added). ReadsNextLine new h input left (Ok x)) e goes
+
+pub the_end : (new : Reading) (h : History) (input left : Option (List ℕ)) (o : Option Added) → o ≡ None → ReadsNextLine new h input left (Ok o) → IsWhole new.parser_state h input
+the_end new h input left o e goes = subst (λ (x : Option Added). ReadsNextLine new h input left (Ok x)) e goes
+
+pub file_found : (c : ParserState) (h : History) (input : Option (List ℕ)) (f : FileValue) → IsWhole c h input → f ≡ file_at c h → IsTextOf f input
+file_found c h input f whole same = grind (arith, said_of)
+
+pub file_only : (c : ParserState) (h : History) (input : Option (List ℕ)) (f v : FileValue) → IsWhole c h input → f ≡ file_at c h → IsFileValue v
+    → IfSome input (λ bytes. bytes ≡ file_text v → f ≡ v)
+file_only c h input f v whole same is = said_of input (IsTextOfOnly (file_at c h)) _ (λ bytes text e. same ∙ sym (text.only v is e)) whole.text
+
+-- what is stored is a history that was read
+pub kept_read : (r : Reading) (h k : History) (input left : Option (List ℕ)) → k ≡ h → HasRead r h input left → HasRead r k input left
+kept_read r h k input left same read = subst (λ (x : History). HasRead r x input left) (sym same) read

@@ -2,7 +2,7 @@ use Rattle.std.proofs.Common.{arith, ◌≡◌, ◌∙◌, ◌+◌, ap, sym, suc
 use Rattle.std.specs.Prelude.{flat_map}
 use Rattle.std.proofs.lemmas.List.{drop_all}
 use Rattle.rinex_file.specs.Header.{row_at, row_lines, has_line, all_rows, lines_from}
-use Rattle.rinex_file.proofs.HeaderRows.{line_none}
+use Rattle.rinex_file.proofs.HeaderAgree.{line_none}
 use Rattle.rinex_file.proofs.header.head.place_from.Goals as goal
 
 pub loop-place-preserved : goal.loop-place-preserved

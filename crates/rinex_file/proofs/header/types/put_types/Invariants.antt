@@ -1,7 +1,7 @@
 use Rattle.std.proofs.Common.{◌≡◌, ◌≤◌, ◌+◌, ◌-◌, ◌*◌, ◌++◌, length, take, drop}
 use Rattle.obs_epoch.specs.Signals.{indices}
 use Rattle.rinex_file.specs.Header.{types_of, codes_of}
-use Rattle.rinex_file.proofs.SignalTypes.{columns}
+use Rattle.rinex_file.proofs.TypeRows.{columns}
 use Rattle.rinex_file.proofs.header.types.put_types.Given as goal
 
 -- the types so far are in the line

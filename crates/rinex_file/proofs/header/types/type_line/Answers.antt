@@ -4,7 +4,7 @@ use Rattle.obs_epoch.specs.Signals.{indices}
 use Rattle.obs_epoch.proofs.PlanLemmas.{length_indices, few_signals}
 use Rattle.rinex_file.specs.Lines.{letter_of}
 use Rattle.rinex_file.specs.Header.{header_line, type_front, type_columns, type_line, types_of, codes_of}
-use Rattle.rinex_file.proofs.SignalTypes.{length-system_types}
+use Rattle.rinex_file.proofs.TypeRows.{length-system_types}
 use Rattle.rinex_file.proofs.header.types.type_line.Goals as goal
 
 pub put_row-requires-clause-count : goal.put_row-requires-clause-count

@@ -3,8 +3,7 @@ use Rattle.rtcm_bits.specs.Device.{HasFailed}
 use Rattle.rinex_file.specs.ParserState.{nothing, with_line}
 use Rattle.rinex_file.proofs.Ahead.{leaves_all, leaves_more}
 use Rattle.rinex_file.proofs.FileLines.{lines_are_lines, lines_are_short}
-use Rattle.rinex_file.proofs.LineByLine.{still_read, only_faults}
-use Rattle.rinex_file.proofs.ReadWhole.{one_more, the_end, counts_found, counts_only}
+use Rattle.rinex_file.proofs.LineByLine.{still_read, only_faults, added_more, the_end, counts_found, counts_only}
 use Rattle.rinex_file.proofs.read.file.check_file.Goals as goal
 
 pub loop-reading-init : goal.loop-reading-init
@@ -19,7 +18,7 @@ pub loop-reading-preserved : goal.loop-reading-preserved
 loop-reading-preserved g c =
     let inv = c.loop-reading.invariant in
     let (h, read) = inv.read in
-    let goes = one_more c.next.new.self h _ _ c.in-Ok-Some.field-0 c.in-Ok-Some.field-0-0 c.in-Ok-Some.field-0-is (c.in-Ok-Some.ensures.goes h _ read) in
+    let goes = added_more c.next.new.self h _ _ c.in-Ok-Some.field-0 c.in-Ok-Some.field-0-0 c.in-Ok-Some.field-0-is (c.in-Ok-Some.ensures.goes h _ read) in
     record {
       read = (with_line c.in-Ok-Some.field-0-0 c.next.new.self.parser_state h, goes);
       within = c.in-Ok-Some.ensures.within;

@@ -3,8 +3,7 @@ use Rattle.rtcm_bits.specs.Device.{HasFailed}
 use Rattle.rinex_file.specs.Read.Keeping.{history_of}
 use Rattle.rinex_file.proofs.Ahead.{leaves_all, leaves_more}
 use Rattle.rinex_file.proofs.FileLines.{lines_are_lines, lines_are_short}
-use Rattle.rinex_file.proofs.LineByLine.{still_read, only_faults, no_reason}
-use Rattle.rinex_file.proofs.ReadWhole.{one_more, the_end, file_found, file_only, kept_read}
+use Rattle.rinex_file.proofs.LineByLine.{still_read, only_faults, no_reason, added_more, the_end, file_found, file_only, kept_read}
 use Rattle.rinex_file.proofs.read.file.read_file.Goals as goal
 
 pub loop-added-init : goal.loop-added-init
@@ -18,7 +17,7 @@ loop-added-init g c = record {
 pub loop-added-preserved : goal.loop-added-preserved
 loop-added-preserved g c =
     let inv = c.loop-added.invariant in
-    let goes = one_more c.next.new.self (history_of c.loop-added.file_builder) _ _ c.in-Ok-Some.field-0 c.in-Ok-Some.added c.in-Ok-Some.field-0-is
+    let goes = added_more c.next.new.self (history_of c.loop-added.file_builder) _ _ c.in-Ok-Some.field-0 c.in-Ok-Some.added c.in-Ok-Some.field-0-is
     (c.in-Ok-Some.ensures.goes (history_of c.loop-added.file_builder) _ inv.read) in
     record {
       read = kept_read c.next.new.self _ (history_of c.keep.new.self) _ _ c.in-Ok.ensures goes;

@@ -1,7 +1,7 @@
 use Rattle.std.proofs.Common.{arith, ◌≡◌, ◌∙◌, sym, ap, ◌∷◌, ◌+◌, ◌<◌, ℕ, suc, List, length}
 use Rattle.obs_epoch.specs.Dates.{civil_of}
 use Rattle.rinex_file.specs.Header.{lines_from, row_line, row_at}
-use Rattle.rinex_file.proofs.HeaderRows.{line_next}
+use Rattle.rinex_file.proofs.HeaderAgree.{line_next}
 use Rattle.rinex_file.proofs.header.head.HeaderLinesIterator.next.Goals as goal
 use Rattle.rinex_file.proofs.header.head.HeaderLinesIterator.next.Goals.{After-line_of}
 

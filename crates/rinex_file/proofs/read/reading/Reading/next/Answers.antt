@@ -4,11 +4,10 @@ use Rattle.rinex_file.specs.declared.read.parser_state.ParserState.{ParserState}
 use Rattle.rinex_file.specs.declared.read.expected.Refusal.{Refusal}
 use Rattle.rinex_file.specs.declared.read.fault.ReadFault.TheVariants.{CutShort}
 use Rattle.rinex_file.specs.Exact.{IsFaulty, IsExpectedAt}
-use Rattle.rinex_file.proofs.ExpectedLines.{begun, expected_at}
 use Rattle.rinex_file.specs.ParserState.{HasRoom, GoesOnWithLine, ShowsLine, RefusesLine, TakesLine, progress_at, with_line}
 use Rattle.rinex_file.proofs.FileLines.{lines_are_lines}
 use Rattle.rinex_file.proofs.Judged.{refused as judged}
-use Rattle.rinex_file.proofs.HeaderBody.{unfinished, file_shown, only_file, file_read, sound_rows}
+use Rattle.rinex_file.proofs.HeaderBody.{unfinished, file_shown, only_file, file_read, sound_rows, begun, expected_at}
 use Rattle.rinex_file.proofs.LineByLine.{one_more, refused, over_long, cut_within, cut_after, whole, after_fault, both_said, said_of, long_some, too_long, line_some}
 use Rattle.rinex_file.proofs.read.reading.Reading.next.Goals as goal
 
