@@ -1,9 +1,8 @@
 -- Bytes that were read ahead: the lines among them, and what is left.
 use Rattle.std.proofs.Common.{arith, ◌≡◌, ◌∙◌, sym, ap, subst, refl, ℕ, zero, suc, ◌+◌, ◌-◌, ◌<◌, ◌≤◌, Bool, true, false, List, [], ◌∷◌, ◌++◌, length, take, drop, get_or, length-append, take-add, append_assoc, append-nil, Option}
 use Rattle.std.specs.Prelude.{◌||◌, ◌==◌, nat_eq, nat_lt, min}
-use Rattle.std.proofs.lemmas.Bool.{eqb-true}
 use Rattle.std.proofs.Math.Nat.{min-eq_left, min-eq_right, min-le_left, min-le_right, le-min}
-use Rattle.std.proofs.lemmas.List.{drop_more, length-take-le, take-append-drop, drop-take, drop-drop, take-take}
+use Rattle.std.proofs.lemmas.List.{length-take-le, take-append-drop, drop-take, drop-drop, take-take}
 use Rattle.std.specs.Io.KnownBytes.{Consumes, IsAtEnd, prepend_known}
 use Rattle.std.proofs.KnownBytes.{Consumes-nil, Consumes-trans}
 use Rattle.rinex_file.specs.Read.Fields.{has}

@@ -24,8 +24,7 @@ use Rattle.rinex_file.proofs.Entries.{few_signals}
 use Rattle.rinex_file.proofs.FewRows.{few_planned}
 use Rattle.rinex_file.proofs.HeaderText.{equal_or}
 use Rattle.rinex_file.proofs.StationLines.{version_determines}
-use Rattle.rinex_file.proofs.TypeCodes.{code_reads_back}
-use Rattle.rinex_file.proofs.TypeRows.{code_here, count_read, few_types, listed_at, signal_at, column_of}
+use Rattle.rinex_file.proofs.TypeRows.{code_here, count_read, few_types, listed_at, signal_at, column_of, code_reads_back}
 
 -- a row is at its index
 pub placed : (n : ℕ) → n < row_count → row_place (row_at n) ≡ n

@@ -25,19 +25,10 @@ use Rattle.rinex_file.specs.Read.HeaderSteps.{RefusesHeaderLine, EndsHeader}
 use Rattle.obs_epoch.proofs.PlanLemmas.{none_of}
 use Rattle.rinex_file.proofs.HeaderAgree.{Agree, single, less_or, few_shown, types_high, agree_types, agree_count, signals_same, none_planned, split_at}
 use Rattle.rinex_file.proofs.HeaderSteps.{some_plan, with_is}
-use Rattle.rinex_file.proofs.HeaderText.{by_places, texts_back}
+use Rattle.rinex_file.proofs.HeaderText.{by_places, same_lists, texts_back}
 use Rattle.rinex_file.proofs.StationLines.{lengths-back, height-back, number_at, coordinate-fits}
 
 -- ---- headers with the same lines are the same
-
-pub same_lists : (a b : List (List ℕ)) → length a ≡ length b → ((i : ℕ) → i < length a → get_or a i [] ≡ get_or b i []) → a ≡ b
-same_lists [] [] size same = refl
-same_lists [] (y ∷ ys) size same = absurd (omega (arith, size))
-same_lists (x ∷ xs) [] size same = absurd (omega (arith, size))
-same_lists (x ∷ xs) (y ∷ ys) size same =
-    let head : x ≡ y = same 0 (omega arith) in
-    let rest : xs ≡ ys = same_lists xs ys (omega (arith, size)) (λ i less. same (suc i) (omega (arith, less))) in
-    cc
 
 abbrev made_plan : List ℕ → List ℕ → PlanValue
 made_plan a b = record { gps = a; galileo = b }

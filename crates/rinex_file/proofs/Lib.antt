@@ -6,12 +6,10 @@ mod Grown
 mod Columns
 mod Entries
 mod SatelliteGroups
-mod TypeCodes
 mod TypeRows
 mod Sent
 mod LineByLine
 mod Appended
-mod Faultless
 mod FileText
 mod Examples
 mod Ahead
@@ -33,7 +31,6 @@ mod HeaderRead
 mod HeaderEnd
 mod HeaderAgree
 mod HeaderSteps
-mod HeaderTypes
 mod Groups
 mod GatheredFile
 mod CellPlaces

@@ -25,8 +25,7 @@ use Rattle.rinex_file.specs.Numbers.{joined, left, right, fixed}
 use Rattle.rinex_file.specs.Read.Fields.{has}
 use Rattle.rinex_file.specs.Texts.{HeaderLists, text_count, width_of, field_at, label_of, start_of, count_of, front_of}
 use Rattle.rinex_file.proofs.Entries.{few_signals}
-use Rattle.rinex_file.proofs.Faultless.{few_columns}
-use Rattle.rinex_file.proofs.HeaderText.{text_at, row_within}
+use Rattle.rinex_file.proofs.HeaderText.{text_at, row_within, few_columns}
 use Rattle.rinex_file.proofs.FewRows.{few_planned}
 use Rattle.rinex_file.proofs.TypeRows.{length-system_types}
 use Rattle.rinex_file.proofs.PlainTexts.{both, Clean, IsPlain, plain-wider, plain-append, plain-left, plain-right, plain-decimal, plain-fixed, ArePlain, plain-joined, plain-spaced, plain-text}

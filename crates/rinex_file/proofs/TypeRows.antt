@@ -1,15 +1,19 @@
 -- A line of types: the columns of the signals that begin in it, and the signals that are read from it.
+use Rattle.std.specs.Str.{IsAscii, IsUtf8}
 use Rattle.std.specs.Prelude.{map, flat_map, slice_index, codes, All}
 use Rattle.std.specs.List.{list_any, IsDistinct}
+use Rattle.std.proofs.Common.{min, ◌-◌, length-take, length-drop, arith, rules, ◌≡◌, ◌∙◌, ap, refl, ℕ, zero, suc, ◌+◌, ◌<◌, ◌≤◌, ◌==◌, ◌&&◌, Bool, true, false, List, [], ◌∷◌, length, take, drop, Some, nat_lt, sym, ◌*◌, ◌/◌, ◌%◌, ◌++◌, get_or, append_assoc, append-nil, ap₂, subst, ◌^◌, ◌||◌, replicate, decimal, nat_eq}
+use Rattle.std.proofs.lemmas.Str.{IsUtf8-from_ascii}
 use Rattle.std.proofs.lemmas.Bool.{cases_lt}
-use Rattle.std.proofs.Common.{arith, ◌≡◌, ◌∙◌, sym, ap, refl, ℕ, zero, suc, ◌+◌, ◌-◌, ◌*◌, ◌/◌, ◌%◌, ◌<◌, ◌≤◌, List, [], ◌∷◌, ◌++◌, length, take, drop, get_or, append_assoc, append-nil, ap₂, subst, ◌^◌, ◌||◌, ◌==◌, Bool, true, false, min, replicate, decimal, nat_eq, length-take, length-drop}
 use Rattle.std.proofs.lemmas.List.{take_more, get_or-drop, take_all, take_at, take-take, take-map, drop_at, drop-drop, drop-take, get_or-take}
 use Rattle.std.proofs.lemmas.List.Elements.{All-get_or, All-head, All-tail}
 use Rattle.std.proofs.lemmas.Map.Keys.{apart_from_distinct, IsDistinct-tail}
 use Rattle.std.proofs.lemmas.Map.Steps.{length-le_from_distinct_below}
 use Rattle.std.proofs.lemmas.Fmt.{length-decimal-le}
-use Rattle.gnss_obs.specs.Signals.{SignalAt, code_of, table}
 use Rattle.gnss_obs.specs.declared.system.System.{System}
+use Rattle.gnss_obs.specs.declared.system.System.TheVariants.{Gps, Galileo}
+use Rattle.gnss_obs.specs.Signals.{SignalAt, IsSignal, table, code_of, signal_of_code}
+use Rattle.gnss_obs.proofs.Checked.{passes_at, is_less, is_equal}
 use Rattle.obs_epoch.specs.Signals.{indices, IsOf}
 use Rattle.obs_epoch.proofs.PlanLemmas.{any_index, indices-push}
 use Rattle.rinex_file.specs.Header.{type_of, types_of, codes_of, type_columns, header_line, type_front}
@@ -20,7 +24,53 @@ use Rattle.rinex_file.specs.Read.Progress.{AreTypes, types_line, signals_begun}
 use Rattle.rinex_file.specs.Read.HeaderSteps.{HasSignalAt}
 use Rattle.rinex_file.proofs.Entries.{flat_map-append}
 use Rattle.rinex_file.proofs.Digits.{length-right, digits_in-whole}
-use Rattle.rinex_file.proofs.TypeCodes.{length-code}
+
+abbrev signal : System → ℕ → SignalAt
+signal system index = record { system = system; index = index }
+
+-- ---- two bytes
+
+abbrev two_bytes : System → ℕ → Bool
+two_bytes system i = length (code_of (signal system i)) == 2
+
+pub length-code : (system : System) (i : ℕ) → i < length (table system) → length (code_of (signal system i)) ≡ 2
+length-code Gps i h = is_equal _ _ (passes_at (two_bytes Gps) 15 i refl h)
+length-code Galileo i h = is_equal _ _ (passes_at (two_bytes Galileo) 19 i refl h)
+
+-- ---- ASCII
+
+abbrev ascii_bytes : List ℕ → Bool
+ascii_bytes [] = true
+ascii_bytes (b ∷ bs) = nat_lt b 128 && ascii_bytes bs
+
+pub ascii_from : (bs : List ℕ) → ascii_bytes bs ≡ true → IsAscii bs
+ascii_from [] h i = omega arith
+ascii_from (b ∷ bs) h zero = grind (arith, is_less)
+ascii_from (b ∷ bs) h (suc i) = ascii_from bs (by (nat_lt b 128) h) i where
+  by : (t : Bool) → (t && ascii_bytes bs) ≡ true → ascii_bytes bs ≡ true
+  by true k = k
+  by false k = absurd (grind (arith, k))
+
+pub utf8-code : (system : System) (i : ℕ) → i < length (table system) → IsUtf8 (code_of (signal system i))
+utf8-code Gps i h = IsUtf8-from_ascii _ (ascii_from _ (passes_at (λ j. ascii_bytes (code_of (signal Gps j))) 15 i refl h))
+utf8-code Galileo i h = IsUtf8-from_ascii _ (ascii_from _ (passes_at (λ j. ascii_bytes (code_of (signal Galileo j))) 19 i refl h))
+
+-- ---- one signal
+
+pub code_reads_back : (s : SignalAt) → IsSignal s → signal_of_code s.system (code_of s) ≡ Some s
+code_reads_back s h = search rules
+
+pub code_of_one : (system : System) (s : SignalAt) (code : List ℕ) → IsSignal s → s.system ≡ system → code ≡ code_of s → signal_of_code system code ≡ Some s
+code_of_one system s code listed same is = grind (arith, code_reads_back)
+
+-- the line is at least as long as the end of a code in it
+pub code_within : (line : List ℕ) (column : ℕ) (s : SignalAt) → IsSignal s → take 2 (drop column line) ≡ code_of s → column + 2 ≤ length line
+code_within line column s listed is =
+    let two : length (code_of s) ≡ 2 = length-code s.system s.index listed in
+    let l : length (take 2 (drop column line)) ≡ length (code_of s) = ap length is in
+    reach (length line) column (simp (length-take, length-drop) at (l ∙ two)) where
+      reach : (n c : ℕ) → min 2 (n - c) ≡ 2 → c + 2 ≤ n
+      reach n c h = omega (arith, h)
 
 at_code : (f : ℕ → List ℕ) (xs : List ℕ) (k : ℕ) (d : List ℕ) → k < length xs → get_or (map f xs) k d ≡ f (slice_index xs k)
 at_code f [] k d h = absurd (omega (arith, h))

@@ -247,16 +247,6 @@ impl ParserState {
         Ok(Added::NoRow)
     }
 
-    /// Returns the station values after the epochs that were read.
-    fn station_values(&self) -> StationValues
-        ensures { result ≡ changed_by self.now.head.shown.values self.now.values }
-    {
-        match self.values {
-            None => self.head.values(),
-            Some(values) => values,
-        }
-    }
-
     /// Processes the height in an event, after this position. Refuses the line if neither differs
     /// from the current station values.
     fn take_height(&mut self, position: StationValues, line: &[u8]) -> Result<Added, Refusal>
@@ -269,7 +259,7 @@ impl ParserState {
         };
         let mut values = position;
         values.height = height;
-        if values.is_same(self.station_values()) {
+        if values.is_same(self.values.unwrap_or(self.head.values())) {
             return Err(Refusal::Bad);
         }
         self.expected = Expected::EventEpoch(values);

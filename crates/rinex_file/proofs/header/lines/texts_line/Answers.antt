@@ -3,8 +3,7 @@ use Rattle.rinex_file.specs.declared.header.fields.HeaderField.{HeaderField}
 use Rattle.rinex_file.specs.Numbers.{left}
 use Rattle.rinex_file.specs.Texts.{HeaderLists, text_of, field_at, width_of, start_of, count_of, label_of}
 use Rattle.rinex_file.specs.Header.{header_line, texts_from, text_columns}
-use Rattle.rinex_file.proofs.HeaderText.{place_back, field_back, field_less}
-use Rattle.rinex_file.proofs.Faultless.{few_columns}
+use Rattle.rinex_file.proofs.HeaderText.{place_back, field_back, field_less, few_columns}
 use Rattle.rinex_file.proofs.header.lines.texts_line.Goals as goal
 
 -- one more text

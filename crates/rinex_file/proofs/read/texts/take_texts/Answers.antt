@@ -2,8 +2,7 @@ use Rattle.std.proofs.Common.{arith, ◌≡◌, ap, subst, ℕ, ◌+◌, ◌-◌
 use Rattle.rinex_file.specs.Texts.{width_of, field_at, start_of}
 use Rattle.rinex_file.specs.FileValues.{IsText}
 use Rattle.rinex_file.specs.Read.HeaderSteps.{text_in}
-use Rattle.rinex_file.proofs.Faultless.{few_columns}
-use Rattle.rinex_file.proofs.HeaderText.{AreColumns, row_columns, row_within, next_column, here_column, nothing_taken, one_taken, not_printable}
+use Rattle.rinex_file.proofs.HeaderText.{AreColumns, row_columns, row_within, next_column, here_column, nothing_taken, one_taken, not_printable, few_columns}
 use Rattle.rinex_file.proofs.read.texts.take_texts.Goals as goal
 
 first_columns : (start count column : ℕ) → AreColumns start count column → AreColumns (start + 0) (count - 0) column

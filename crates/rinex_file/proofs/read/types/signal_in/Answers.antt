@@ -1,6 +1,6 @@
 use Rattle.std.proofs.Common.{arith, ◌≡◌, ◌∙◌, sym, ap, subst, ℕ, length, take, drop, ◌+◌, ◌-◌, ◌<◌, ◌≤◌, ◌⊎◌, inl, inr}
 use Rattle.std.specs.Str.{IsUtf8}
-use Rattle.rinex_file.proofs.TypeCodes.{code_within, utf8-code, code_of_one}
+use Rattle.rinex_file.proofs.TypeRows.{code_within, utf8-code, code_of_one}
 use Rattle.rinex_file.proofs.read.types.signal_in.Goals as goal
 
 no_part : (column size : ℕ) → (column + 2 < column) ⊎ (size < column + 2) → column + 2 ≤ size → ⊥

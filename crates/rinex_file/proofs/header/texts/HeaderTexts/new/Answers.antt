@@ -2,8 +2,7 @@ use Rattle.std.proofs.Common.{arith, ◌≡◌, ◌∙◌, sym, ap, refl, ℕ, �
 use Rattle.rinex_file.specs.Blanks.{trimmed}
 use Rattle.rinex_file.specs.Texts.{text_of, field_at, fault_of}
 use Rattle.rinex_file.specs.TextsOf.{lists_of}
-use Rattle.rinex_file.proofs.HeaderText.{place_back}
-use Rattle.rinex_file.proofs.Faultless.{short, fine, few_columns, fault_here, fine_here, one_cut, all_cut}
+use Rattle.rinex_file.proofs.HeaderText.{place_back, short, fine, few_columns, fault_here, fine_here, one_cut, all_cut}
 use Rattle.rinex_file.proofs.header.texts.HeaderTexts.new.Goals as goal
 
 few : (n w : ℕ) → n ≤ w → w ≤ 60 → n ≤ 60

@@ -1,7 +1,7 @@
 use Rattle.std.proofs.Common.{◌≡◌, drop, None}
 use Rattle.rinex_file.specs.Texts.{fields, first_fault}
 use Rattle.rinex_file.specs.TextsOf.{lists_of}
-use Rattle.rinex_file.proofs.Faultless.{AreCut}
+use Rattle.rinex_file.proofs.HeaderText.{AreCut}
 use Rattle.rinex_file.proofs.header.texts.HeaderTexts.new.Given as goal
 
 -- no text so far has a fault, and each was stored

@@ -9,7 +9,7 @@ use Rattle.rinex_file.specs.Header.{end_line, first_types, row_at}
 use Rattle.rinex_file.specs.Read.Progress.{Known, IsHeadAt, announced}
 use Rattle.rinex_file.specs.Read.HeaderSteps.{IsOnly, known_line, EndsHeader, NoneGoesOn, ReadsHeaderLine}
 use Rattle.rinex_file.proofs.HeaderEnd.{ends, no_end_line, ok_bad}
-use Rattle.rinex_file.proofs.HeaderTypes.{begun_here, line_types, none_taken, rows_there, same_refusal}
+use Rattle.rinex_file.proofs.HeaderRead.{begun_here, line_types, none_taken, rows_there, same_refusal}
 use Rattle.rinex_file.proofs.HeaderSteps.{step_at, none_at, last_at, types_few, types_place}
 use Rattle.rinex_file.proofs.Judged.{refused}
 use Rattle.rinex_file.proofs.read.head_so_far.HeadSoFar.take_at.Goals as goal

@@ -1,4 +1,4 @@
-use Rattle.std.proofs.Common.{◌≡◌, ◌↔◌, ◌≤◌, refl, ℕ, List, Bool, true, false, IsTrue, Option, Some, subst, sym}
+use Rattle.std.proofs.Common.{◌↔◌, ◌≤◌, refl, ℕ, List, Bool, true, false, IsTrue, Some, subst}
 use Rattle.std.specs.Bool.{then_some}
 use Rattle.rinex_file.specs.Read.Progress.{Progress}
 use Rattle.rinex_file.specs.Read.Sound.{MayBegin, ReadsEpochLine}

@@ -1,10 +1,8 @@
-use Rattle.std.proofs.Common.{arith, refl, ◌≡◌, ◌∙◌, sym, ap, subst, ℕ, List, ◌+◌, ◌^◌, ◌<◌, ◌≤◌, length, Err}
-use Rattle.std.proofs.Math.Nat.{le_trans}
-use Rattle.rinex_file.specs.declared.read.parser_state.ParserState.{ParserState}
+use Rattle.std.proofs.Common.{refl, ◌≡◌, ◌∙◌, sym, ap, subst, ℕ, List, ◌+◌, ◌^◌, ◌<◌, ◌≤◌, length, Err}
 use Rattle.rinex_file.specs.declared.read.expected.Refusal.{Refusal}
 use Rattle.rinex_file.specs.declared.read.fault.ReadFault.TheVariants.{CutShort}
 use Rattle.rinex_file.specs.Exact.{IsFaulty, IsExpectedAt}
-use Rattle.rinex_file.specs.ParserState.{HasRoom, GoesOnWithLine, ShowsLine, RefusesLine, TakesLine, progress_at, with_line}
+use Rattle.rinex_file.specs.ParserState.{GoesOnWithLine, ShowsLine, RefusesLine, TakesLine, progress_at, with_line}
 use Rattle.rinex_file.proofs.FileLines.{lines_are_lines}
 use Rattle.rinex_file.proofs.Judged.{refused as judged}
 use Rattle.rinex_file.proofs.HeaderBody.{unfinished, file_shown, only_file, file_read, sound_rows, begun, expected_at}

@@ -4,7 +4,7 @@ use Rattle.std.proofs.lemmas.Result.{err_from_is_err_and}
 use Rattle.obs_epoch.specs.Signals.{indices}
 use Rattle.rinex_file.specs.Header.{header_line}
 use Rattle.rinex_file.proofs.HeaderEnd.{ok_bad}
-use Rattle.rinex_file.proofs.HeaderTypes.{row_taken, same_refusal}
+use Rattle.rinex_file.proofs.HeaderRead.{row_taken, same_refusal}
 use Rattle.rinex_file.proofs.TypeRows.{shown_line}
 use Rattle.rinex_file.proofs.read.types.TypesSoFar.take.Goals as goal
 
