@@ -8,7 +8,7 @@ use Rattle.std.proofs.KnownBytes.{Consumes-nil, Consumes-trans}
 use Rattle.rinex_file.specs.Read.Fields.{has}
 use Rattle.rinex_file.specs.Blocks.{LeavesRest, AreMoved, MovesBytes}
 use Rattle.rinex_file.specs.declared.read.lines.Found.{Found}
-use Rattle.rinex_file.specs.declared.read.lines.Found.TheVariants.{Line, End, Cut, Long, Failed}
+use Rattle.rinex_file.specs.declared.read.lines.Found.TheVariants.{Line, End, Long, Failed}
 use Rattle.rinex_file.specs.Exact.{IsLine}
 use Rattle.rinex_file.proofs.Digits.{has-append}
 
@@ -73,7 +73,6 @@ at_end ahead v1 none end = grind arith
 abbrev pub is_failed : Found → Bool
 is_failed Line = false
 is_failed End = false
-is_failed Cut = false
 is_failed Long = false
 is_failed Failed = true
 

@@ -3,7 +3,7 @@ use Rattle.std.specs.Prelude.{◌≡◌, ℕ, ◌+◌, ◌^◌, ◌<◌, ◌≤�
 use Rattle.std.specs.Prelude.{Ok, Err, ⊤, IfSome}
 use Rattle.std.specs.Io.KnownBytes.{IsAtEnd}
 use Rattle.rinex_file.specs.declared.read.lines.Found.{Found}
-use Rattle.rinex_file.specs.declared.read.lines.Found.TheVariants.{Line, End, Cut, Long, Failed}
+use Rattle.rinex_file.specs.declared.read.lines.Found.TheVariants.{Line, End, Long, Failed}
 use Rattle.rinex_file.specs.declared.read.fault.ReadFault.{ReadFault}
 use Rattle.rinex_file.specs.declared.read.fault.ReadFault.TheVariants.{Memory, Read, BadHeader, BadEpoch, BadEvent}
 use Rattle.rinex_file.specs.declared.read.fault.ReadFault.TheVariants.{BadSatellite, CutShort, TooLong}
@@ -25,8 +25,7 @@ IsLine line = (body : List ℕ) × (line ≡ body ++ 10 ∷ []) × (has 10 body 
 -- what the bytes are that were consumed for a line, if `left` is the rest of the input
 abbrev pub IsFound : Found → List ℕ → Option (List ℕ) → Type 0
 IsFound Line bytes left = IsLine bytes
-IsFound End bytes left = (bytes ≡ []) × IsAtEnd left
-IsFound Cut bytes left = (0 < length bytes) × (length bytes < most_line) × (has 10 bytes ≡ false) × IsAtEnd left
+IsFound End bytes left = (has 10 bytes ≡ false) × IsAtEnd left
 IsFound Long bytes left = (length bytes ≡ most_line) × (has 10 bytes ≡ false)
 IsFound Failed bytes left = ⊤
 

@@ -83,10 +83,7 @@ fn line_of(head: &Head, row: HeaderRow) -> Line
 /// Iterator over the lines of a header that are left.
 #[derive(Drop)]
 pub struct HeaderLines<'a> {
-    texts: &'a HeaderTexts,
-    plan: &'a Plan,
-    values: StationValues,
-    first: GpsTime,
+    head: Head<'a>,
     place: usize,
 }
 
@@ -97,7 +94,7 @@ impl<'a> Model for HeaderLines<'a> {
 
     ghost Value = { List (List ℕ) };
 
-    ghost view = { λ s. lines_from s.texts.now s.plan.now s.values (civil_of s.first) s.place };
+    ghost view = { λ s. lines_from s.head.texts.now s.head.plan.now s.head.values (civil_of s.head.first) s.place };
 }
 
 impl<'a> Iterator for HeaderLines<'a> {
@@ -108,19 +105,11 @@ impl<'a> Iterator for HeaderLines<'a> {
     ghost remaining = { item_count (λ lines. lines) };
 
     fn next(&mut self) -> Option<Line> {
-        let head = Head {
-            texts: self.texts,
-            plan: self.plan,
-            values: self.values,
-            first: self.first,
+        let Some(place) = place_from(self.head.plan, self.place) else {
+            return None;
         };
-        match place_from(self.plan, self.place) {
-            None => None,
-            Some(place) => {
-                self.place = place + 1;
-                Some(line_of(&head, row_at(place)))
-            }
-        }
+        self.place = place + 1;
+        Some(line_of(&self.head, row_at(place)))
     }
 }
 
@@ -129,10 +118,12 @@ pub fn header_lines<'a>(head: &Head<'a>) -> HeaderLines<'a>
     ensures { result ≡ header_lines head.now.texts.now head.now.plan.now head.now.values (civil_of head.now.first) }
 {
     HeaderLines {
-        texts: head.texts,
-        plan: head.plan,
-        values: head.values,
-        first: head.first,
+        head: Head {
+            texts: head.texts,
+            plan: head.plan,
+            values: head.values,
+            first: head.first,
+        },
         place: 0,
     }
 }

@@ -15,10 +15,8 @@ use std::io::Read;
 pub(crate) enum Found {
     /// A line with its line feed.
     Line,
-    /// The end of the input, without a byte of a line.
+    /// The end of the input, after some bytes of a line or none.
     End,
-    /// Some bytes of a line, and then the end of the input.
-    Cut,
     /// No line feed in 1,220 bytes.
     Long,
     /// The reader failed.
@@ -42,11 +40,7 @@ pub(crate) fn next_line<R: Read>(
     while !line.is_full() {
         match block.fill(reader) {
             Filled::Some => {}
-            Filled::End => return if line.is_empty() {
-                Found::End
-            } else {
-                Found::Cut
-            },
+            Filled::End => return Found::End,
             Filled::Failed => return Found::Failed,
         }
         if block.move_to(line) {

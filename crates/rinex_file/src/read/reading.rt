@@ -89,12 +89,15 @@ impl Reading {
         let number = self.count + 1;
         match next_line(reader, &mut self.block, &mut self.line) {
             Found::Line => {}
-            Found::End => return if self.parser_state.may_end() {
-                Ok(None)
-            } else {
-                Err(ReadFault::CutShort(number))
-            },
-            Found::Cut => return Err(fault_after(self.count, ReadFault::CutShort(number))),
+            Found::End => {
+                if !self.line.is_empty() {
+                    return Err(fault_after(self.count, ReadFault::CutShort(number)));
+                }
+                if self.parser_state.may_end() {
+                    return Ok(None);
+                }
+                return Err(ReadFault::CutShort(number));
+            }
             Found::Long => return Err(fault_after(
                 self.count,
                 fault_at(self.parser_state.expected, number),

@@ -2,29 +2,26 @@ use Rattle.std.proofs.Common.{arith, ◌≡◌, ◌∙◌, sym, refl, subst, ℕ
 use Rattle.std.proofs.KnownBytes.{Consumes-nil}
 use Rattle.rtcm_bits.specs.Device.{HasFailed}
 use Rattle.rinex_file.specs.Blocks.{MovesBytes}
-use Rattle.rinex_file.proofs.Ahead.{not_failed, is_full, is_empty, not_empty, at_end, consumed_none, moved_taken, line_whole, still_endless, longer, leaves_all, leaves_more}
+use Rattle.rinex_file.proofs.Ahead.{not_failed, is_full, at_end, consumed_none, moved_taken, line_whole, still_endless, longer, leaves_all, leaves_more}
 use Rattle.rinex_file.proofs.read.lines.next_line.Goals as goal
 
 pub loop-block-init : goal.loop-block-init
 loop-block-init g c = grind (arith, Consumes-nil, leaves_all)
 
-pub returns-then-is_empty-clause-taken : goal.returns-then-is_empty-clause-taken
-returns-then-is_empty-clause-taken g c = consumed_none _ _ _ _ c.loop-block.invariant.taken c.in-End.ensures.same
+pub returns-in-End-clause-taken : goal.returns-in-End-clause-taken
+returns-in-End-clause-taken g c = consumed_none _ _ _ _ c.loop-block.invariant.taken c.in-End.ensures.same
 
-pub returns-then-is_empty-clause-left : goal.returns-then-is_empty-clause-left
-returns-then-is_empty-clause-left g c = leaves_more _ _ _ c.loop-block.invariant.left c.in-End.ensures.left
+pub returns-in-End-clause-left : goal.returns-in-End-clause-left
+returns-in-End-clause-left g c = leaves_more _ _ _ c.loop-block.invariant.left c.in-End.ensures.left
 
-pub returns-then-is_empty-clause-same : goal.returns-then-is_empty-clause-same
-returns-then-is_empty-clause-same g c = λ _. c.in-End.ensures.fine (λ e. cc) ∙ c.loop-block.invariant.same
+pub returns-in-End-clause-same : goal.returns-in-End-clause-same
+returns-in-End-clause-same g c = λ _. c.in-End.ensures.fine (λ e. cc) ∙ c.loop-block.invariant.same
 
-pub returns-else-is_empty-clause-taken : goal.returns-else-is_empty-clause-taken
-returns-else-is_empty-clause-taken g c = consumed_none _ _ _ _ c.loop-block.invariant.taken c.in-End.ensures.same
+pub returns-in-End-clause-failed : goal.returns-in-End-clause-failed
+returns-in-End-clause-failed g c = not_failed _ _ refl
 
-pub returns-else-is_empty-clause-left : goal.returns-else-is_empty-clause-left
-returns-else-is_empty-clause-left g c = leaves_more _ _ _ c.loop-block.invariant.left c.in-End.ensures.left
-
-pub returns-else-is_empty-clause-same : goal.returns-else-is_empty-clause-same
-returns-else-is_empty-clause-same g c = λ _. c.in-End.ensures.fine (λ e. cc) ∙ c.loop-block.invariant.same
+pub returns-in-End-clause-found : goal.returns-in-End-clause-found
+returns-in-End-clause-found g c = (c.loop-block.invariant.endless, at_end _ _ (c.in-End.ensures.end refl).0 (c.in-End.ensures.end refl).1)
 
 pub returns-in-Failed-clause-taken : goal.returns-in-Failed-clause-taken
 returns-in-Failed-clause-taken g c = consumed_none _ _ _ _ c.loop-block.invariant.taken c.in-Failed.ensures.same
@@ -67,12 +64,6 @@ shorter old new more less = omega (arith, more, less)
 pub loop-block-smaller : goal.loop-block-smaller
 loop-block-smaller g c = grind (arith, not_full, is_full, shorter, longer)
 
-pub returns-then-is_empty-clause-failed : goal.returns-then-is_empty-clause-failed
-returns-then-is_empty-clause-failed g c = not_failed _ _ refl
-
-pub returns-else-is_empty-clause-failed : goal.returns-else-is_empty-clause-failed
-returns-else-is_empty-clause-failed g c = not_failed _ _ refl
-
 pub returns-then-move_to-clause-failed : goal.returns-then-move_to-clause-failed
 returns-then-move_to-clause-failed g c = not_failed _ _ refl
 
@@ -99,9 +90,3 @@ returns-clause-left g c = c.loop-block.invariant.left
 
 pub returns-clause-found : goal.returns-clause-found
 returns-clause-found g c = (is_full _ _ (sym c.loop-block-test.false ∙ c.is_full.ensures.value), c.loop-block.invariant.endless)
-
-pub returns-then-is_empty-clause-found : goal.returns-then-is_empty-clause-found
-returns-then-is_empty-clause-found g c = (is_empty _ (sym c.if-is_empty.true ∙ c.is_empty.ensures), at_end _ _ (c.in-End.ensures.end refl).0 (c.in-End.ensures.end refl).1)
-
-pub returns-else-is_empty-clause-found : goal.returns-else-is_empty-clause-found
-returns-else-is_empty-clause-found g c = grind (arith, not_empty, is_empty, not_full, is_full, at_end)

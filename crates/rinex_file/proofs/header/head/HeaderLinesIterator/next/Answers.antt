@@ -5,14 +5,14 @@ use Rattle.rinex_file.proofs.HeaderAgree.{line_next}
 use Rattle.rinex_file.proofs.header.head.HeaderLinesIterator.next.Goals as goal
 use Rattle.rinex_file.proofs.header.head.HeaderLinesIterator.next.Goals.{After-line_of}
 
-pub returns-in-None-clause-steps : goal.returns-in-None-clause-steps
-returns-in-None-clause-steps c = grind (arith, c.self.inside, (sym c.self.view_is ∙ c.in-None.ensures.none c.self.inside.texts.now c.self.inside.values (civil_of c.self.inside.first)))
+pub returns-in_default-clause-steps : goal.returns-in_default-clause-steps
+returns-in_default-clause-steps c = grind (arith, c.self.inside, (sym c.self.view_is ∙ c.in_default.ensures.none c.self.inside.head.texts.now c.self.inside.head.values (civil_of c.self.inside.head.first)))
 
 -- the line that was returned, and those that are left
-steps : (c : After-line_of) → let s = c.self.inside in
+steps : (c : After-line_of) → let s = c.self.inside.head in
     c.args.self.now ≡ c.line_of.result.items ∷ lines_from s.texts.now s.plan.now s.values (civil_of s.first) (c.in-Some.place + 1)
 steps c =
-    let s = c.self.inside in
+    let s = c.self.inside.head in
     let t = civil_of s.first in
     let place = c.in-Some.place in
     let line : c.line_of.result.items ≡ row_line s.texts.now s.plan.now s.values t (row_at place) =
@@ -26,12 +26,12 @@ steps c =
 shorter : (old new : List (List ℕ)) (x : List ℕ) → old ≡ x ∷ new → length new < length old
 shorter old new x e = let l = ap length e in omega (arith, l)
 
-pub returns-in-Some-clause-steps : goal.returns-in-Some-clause-steps
-returns-in-Some-clause-steps c = steps c
+pub returns-clause-steps : goal.returns-clause-steps
+returns-clause-steps c = steps c
 
-pub returns-in-Some-clause-goes : goal.returns-in-Some-clause-goes
-returns-in-Some-clause-goes c =
-    let s = c.self.inside in
+pub returns-clause-goes : goal.returns-clause-goes
+returns-clause-goes c =
+    let s = c.self.inside.head in
     record {
       on = λ finite. (tt, tt, shorter c.args.self.now (lines_from s.texts.now s.plan.now s.values (civil_of s.first) (c.in-Some.place + 1)) c.line_of.result.items (steps c));
       keeps = tt;

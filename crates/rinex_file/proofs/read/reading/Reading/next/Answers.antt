@@ -3,6 +3,7 @@ use Rattle.rinex_file.specs.declared.read.expected.Refusal.{Refusal}
 use Rattle.rinex_file.specs.declared.read.fault.ReadFault.TheVariants.{CutShort}
 use Rattle.rinex_file.specs.Exact.{IsFaulty, IsExpectedAt}
 use Rattle.rinex_file.specs.ParserState.{GoesOnWithLine, ShowsLine, RefusesLine, TakesLine, progress_at, with_line}
+use Rattle.rinex_file.proofs.Ahead.{is_empty, not_empty}
 use Rattle.rinex_file.proofs.FileLines.{lines_are_lines}
 use Rattle.rinex_file.proofs.Judged.{refused as judged}
 use Rattle.rinex_file.proofs.HeaderBody.{unfinished, file_shown, only_file, file_read, sound_rows, begun, expected_at}
@@ -23,26 +24,27 @@ returns-then-may_end-clause-goes g c = λ h input read.
     record {
       is = file_read s expected read.history.sound some;
       few = few_lines _ read.taken.lines _ lines read.taken.many c.requires.within.1;
-      text = whole lines_are_lines s c.args.self.now.count input _ _ c.next_line.new.line.items _ read.taken lines end.found.0 end.found.1 end.taken (only_file s expected);
+      text = whole lines_are_lines s c.args.self.now.count input _ _ c.next_line.new.line.items _ read.taken lines (is_empty _ (sym c.if-not-is_empty.false ∙ c.is_empty.ensures)) end.found.1 end.taken (only_file s expected);
       history = read.history;
       none = sound_rows s expected read.history.sound;
     }
 
-pub returns-else-may_end-clause-goes : goal.returns-else-may_end-clause-goes
-returns-else-may_end-clause-goes g c = λ h input read.
+pub returns-in-End-clause-goes : goal.returns-in-End-clause-goes
+returns-in-End-clause-goes g c = λ h input read.
     let parser_state = c.args.self.now.parser_state in
     let end = c.in-End.ensures in
-    cut_after lines_are_lines (progress_at parser_state h) c.args.self.now.count input _ _ c.next_line.new.line.items read.taken (begun _ _ _ _ read.taken read.history.sound) end.found.0 end.found.1 end.taken
+    cut_after lines_are_lines (progress_at parser_state h) c.args.self.now.count input _ _ c.next_line.new.line.items read.taken (begun _ _ _ _ read.taken read.history.sound) (is_empty _ (sym c.if-not-is_empty.false ∙ c.is_empty.ensures)) end.found.1 end.taken
     (unfinished parser_state h read.history (judged c.may_end.result _ c.may_end.ensures c.if-may_end.false))
 
-pub returns-in-Cut-clause-goes : goal.returns-in-Cut-clause-goes
-returns-in-Cut-clause-goes g c = λ h input read.
+pub returns-then-not-is_empty-clause-goes : goal.returns-then-not-is_empty-clause-goes
+returns-then-not-is_empty-clause-goes g c = λ h input read.
     let s = progress_at c.args.self.now.parser_state h in
     let n = c.args.self.now.count in
-    let cut = c.in-Cut.ensures in
+    let end = c.in-End.ensures in
     let bytes = c.next_line.new.line.items in
-    after_fault s n input _ _ bytes (CutShort (n + 1)) c.fault_after.result read.taken cut.found.0 cut.taken c.fault_after.ensures
-    (cut_within lines_are_lines s n input _ _ bytes read.taken (begun _ _ _ _ read.taken read.history.sound) cut.found.0 cut.found.2 cut.found.3 cut.taken)
+    let some = not_empty _ (sym c.if-not-is_empty.true ∙ c.is_empty.ensures) in
+    after_fault s n input _ _ bytes (CutShort (n + 1)) c.fault_after.result read.taken some end.taken c.fault_after.ensures
+    (cut_within lines_are_lines s n input _ _ bytes read.taken (begun _ _ _ _ read.taken read.history.sound) some end.found.0 end.found.1 end.taken)
 
 pub returns-in-Long-clause-goes : goal.returns-in-Long-clause-goes
 returns-in-Long-clause-goes g c = λ h input read.
