@@ -1,25 +1,50 @@
 -- The steps of a reading from one line of an epoch to the next.
-use Rattle.std.proofs.Common.{arith, ◌≡◌, ℕ, suc, ◌+◌, ◌<◌, ◌≤◌, List, [], ◌∷◌, ◌++◌, refl, sym, ap, subst, ◌∙◌, length, append_assoc, append-nil, zero-add, length-append, drop, get_or, Option, Some, None, Bool}
-use Rattle.std.specs.Prelude.{All, map, flat_map, if◌then◌else◌, nat_lt}
 use Rattle.std.specs.List.Sorted.{IsStrictlyIncreasing}
-use Rattle.std.proofs.lemmas.List.{map-append}
+use Rattle.std.specs.Prelude.{All, map, flat_map, if◌then◌else◌, nat_lt}
+use Rattle.std.proofs.Common.{arith, ◌≡◌, refl, ℕ, ◌<◌, List, [], ◌∷◌, ◌++◌, length, length-append, suc, ◌+◌, ◌≤◌, sym, ap, subst, ◌∙◌, append_assoc, append-nil, zero-add, drop, get_or, Option, Some, None, Bool}
+use Rattle.std.proofs.lemmas.List.{get_or_append_left, map-append}
+use Rattle.std.proofs.lemmas.Grind.{common_steps}
 use Rattle.std.proofs.lemmas.List.Elements.{All-head, All-tail, All-nil, All-push}
+use Rattle.std.proofs.lemmas.List.Concat.{flat_map-append}
+use Rattle.gnss_obs.specs.declared.system.System.TheVariants.{Gps, Galileo}
 use Rattle.obs_epoch.specs.Dates.{civil_of}
 use Rattle.obs_epoch.specs.declared.cell.StationValues.{StationValues}
+use Rattle.rinex_file.specs.Value.{Stamped, SatelliteRow, FileValue}
+use Rattle.rinex_file.specs.FileValues.{time_stamped, IsFileValue, IsStamped, IsSatelliteRow, AreSatelliteRows, IsTime, IsChange, AreChanges, IsFirstSame, changed_by, values_following, rank_of, most_rows}
 use Rattle.rinex_file.specs.declared.read.expected.Expected.TheVariants.{Epoch, Satellite}
-use Rattle.rinex_file.specs.Value.{SatelliteRow, Stamped, FileValue}
-use Rattle.rinex_file.specs.FileValues.{IsFileValue, IsStamped, IsSatelliteRow, AreSatelliteRows, IsTime, IsChange, AreChanges, IsFirstSame, changed_by, values_following, time_stamped, rank_of, most_rows}
 use Rattle.rinex_file.specs.Lines.{epoch_line, satellite_line}
 use Rattle.rinex_file.specs.File.{stamped_lines, change_lines, event_line}
 use Rattle.rinex_file.specs.Read.Progress.{Progress, file_with, stamped, StartsAt, IsAt, IsBetween, IsInEvent, IsInEpoch, HasLinesLeft, epoch_after, begun_at, with_row, with_epoch}
 use Rattle.rinex_file.specs.Read.Sound.{AreRead, IsBegun, IsEventExpected, IsSoundAt, IsSound, MayBegin, values_now, AreLinesAt}
 use Rattle.rinex_file.specs.Begun.{lines_of_header, whole_lines, part_lines}
 use Rattle.rinex_file.specs.ParserState.{GoesOnWithLine, ShowsLine}
-use Rattle.std.proofs.lemmas.List.Concat.{flat_map-append}
 use Rattle.rinex_file.proofs.FewRows.{few_rows, few_planned}
 use Rattle.rinex_file.proofs.Entries.{few_signals}
-use Rattle.gnss_obs.specs.declared.system.System.TheVariants.{Gps, Galileo}
-use Rattle.rinex_file.proofs.Rises.{rise_front}
+
+-- the first of ascending numbers are ascending
+pub rise_front : (xs ys : List ℕ) → IsStrictlyIncreasing (xs ++ ys) → IsStrictlyIncreasing xs
+rise_front xs ys rise k h = grind (arith, length-append, get_or_append_left)
+
+-- a single number is ascending
+pub rise_alone : (xs : List ℕ) (next : ℕ) → xs ≡ [] → IsStrictlyIncreasing (xs ++ next ∷ [])
+rise_alone xs next none = grind (arith, common_steps)
+
+-- ascending numbers and a number above their last are ascending
+pub rise_after : (xs front : List ℕ) (x next : ℕ) → xs ≡ front ++ x ∷ [] → IsStrictlyIncreasing xs → x < next → IsStrictlyIncreasing (xs ++ next ∷ [])
+rise_after xs front x next ends rise less = grind (arith, common_steps)
+
+-- if numbers are ascending, the last is above the one before it
+pub rise_last : (xs front : List ℕ) (x next : ℕ) → xs ≡ front ++ x ∷ [] → IsStrictlyIncreasing (xs ++ next ∷ []) → x < next
+rise_last xs front x next ends rise = let k = rise (length front) in grind (arith, common_steps)
+
+-- without times there are no epochs
+pub none_stamped : (es : List Stamped) → map time_stamped es ≡ [] → es ≡ []
+none_stamped [] none = refl
+none_stamped (e ∷ es) none = cc
+
+-- if there is a last time, there is an epoch
+pub not_none : (es : List Stamped) (front : List ℕ) (x : ℕ) → map time_stamped es ≡ front ++ x ∷ [] → es ≡ [] → ⊥
+not_none es front x last none = grind (arith, common_steps)
 
 -- the first line and the rest of what is left are those of the same lines
 cons_parts : (x y : List ℕ) (xs ys : List (List ℕ)) → x ∷ xs ≡ y ∷ ys → (x ≡ y) × (xs ≡ ys)

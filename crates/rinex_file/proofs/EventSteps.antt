@@ -135,9 +135,11 @@ unfolding HasLinesLeft
 position_taken s p line expected only v left on =
     let d = EventHeight p in
     let next = position_next s d v line left expected on in
-    let here = next.event in
-    (on.0, event_with (expected_next s d) d 2 2 (λ w. line ≡ position_line w) (λ w. position_of w ≡ p) v left left here
-        (only (position_of here.values) (next.are.x, next.are.y, next.are.z, refl) here.shown) here.rest)
+    let here = next.event in (
+      on.0,
+      event_with (expected_next s d) d 2 2 (λ w. line ≡ position_line w) (λ w. position_of w ≡ p) v left left here
+          (only (position_of here.values) (next.are.x, next.are.y, next.are.z, refl) here.shown) here.rest,
+    )
 
 pub position_shows : (s : Progress) (p : StationValues) (line : List ℕ) → s.expected ≡ EventPosition → line ≡ position_line p → ShowsLine s (expected_next s (EventHeight p)) line
 position_shows s p line expected shown taken are =

@@ -23,10 +23,9 @@ use Rattle.rinex_file.specs.Read.Fields.{digits_in}
 use Rattle.rinex_file.specs.Read.Progress.{Announced, Known, Shown, AreTypesRead, IsShown, AreValid, MayPlan, IsHeadAt, IsOnlyTime, shown_with, lines_before, announced, signals_begun}
 use Rattle.rinex_file.specs.Read.HeaderSteps.{RefusesHeaderLine, EndsHeader}
 use Rattle.obs_epoch.proofs.PlanLemmas.{none_of}
-use Rattle.rinex_file.proofs.HeaderAgree.{Agree, single, less_or, few_shown, types_high, agree_types, agree_count, signals_same, none_planned, split_at}
+use Rattle.rinex_file.proofs.HeaderAgree.{Agree, single, less_or, few_shown, types_high, agree_types, agree_count, signals_same, none_planned, split_at, lengths-back, height-back, number_at, coordinate-fits}
 use Rattle.rinex_file.proofs.HeaderSteps.{some_plan, with_is}
 use Rattle.rinex_file.proofs.HeaderText.{by_places, same_lists, texts_back}
-use Rattle.rinex_file.proofs.StationLines.{lengths-back, height-back, number_at, coordinate-fits}
 
 -- ---- headers with the same lines are the same
 

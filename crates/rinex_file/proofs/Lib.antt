@@ -12,10 +12,8 @@ mod LineByLine
 mod Appended
 mod FileText
 mod Examples
-mod Ahead
 mod KeptFile
 mod Judged
-mod Rises
 mod BodySteps
 mod EventSteps
 mod HeaderBody
@@ -24,7 +22,6 @@ mod PlainTexts
 mod PlainHeader
 mod FileLines
 mod HeaderText
-mod StationLines
 mod RowText
 mod EpochText
 mod HeaderRead

@@ -3,7 +3,7 @@ use Rattle.std.specs.Prelude.{codes, pos}
 use Rattle.rinex_file.specs.Numbers.{left, right, fixed}
 use Rattle.rinex_file.specs.Header.{header_line}
 use Rattle.rinex_file.proofs.Grown.{grown_whole}
-use Rattle.rinex_file.proofs.StationLines.{letter_with}
+use Rattle.rinex_file.proofs.HeaderAgree.{letter_with}
 use Rattle.rinex_file.proofs.header.lines.version_with.Goals as goal
 
 pub returns : goal.returns

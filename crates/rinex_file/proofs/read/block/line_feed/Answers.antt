@@ -1,5 +1,5 @@
 use Rattle.std.proofs.Common.{arith, length}
-use Rattle.rinex_file.proofs.Ahead.{no_feed}
+use Rattle.rinex_file.proofs.LineByLine.{no_feed}
 use Rattle.rinex_file.proofs.read.block.line_feed.Goals as goal
 
 pub returns-in-Some-clause-none : goal.returns-in-Some-clause-none

@@ -1,9 +1,8 @@
 use Rattle.std.proofs.Common.{refl, ◌∙◌, subst, ℕ}
 use Rattle.rtcm_bits.specs.Device.{HasFailed}
 use Rattle.rinex_file.specs.ParserState.{nothing, with_line}
-use Rattle.rinex_file.proofs.Ahead.{leaves_all, leaves_more}
 use Rattle.rinex_file.proofs.FileLines.{lines_are_lines, lines_are_short}
-use Rattle.rinex_file.proofs.LineByLine.{still_read, only_faults, added_more, the_end, counts_found, counts_only}
+use Rattle.rinex_file.proofs.LineByLine.{still_read, only_faults, added_more, the_end, counts_found, counts_only, leaves_all, leaves_more}
 use Rattle.rinex_file.proofs.read.file.check_file.Goals as goal
 
 pub loop-reading-init : goal.loop-reading-init

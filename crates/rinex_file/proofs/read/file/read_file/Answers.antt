@@ -1,9 +1,8 @@
 use Rattle.std.proofs.Common.{arith, refl, ◌∙◌, subst, ℕ}
 use Rattle.rtcm_bits.specs.Device.{HasFailed}
 use Rattle.rinex_file.specs.Read.Keeping.{history_of}
-use Rattle.rinex_file.proofs.Ahead.{leaves_all, leaves_more}
 use Rattle.rinex_file.proofs.FileLines.{lines_are_lines, lines_are_short}
-use Rattle.rinex_file.proofs.LineByLine.{still_read, only_faults, no_reason, added_more, the_end, file_found, file_only, kept_read}
+use Rattle.rinex_file.proofs.LineByLine.{still_read, only_faults, no_reason, added_more, the_end, file_found, file_only, kept_read, leaves_all, leaves_more}
 use Rattle.rinex_file.proofs.read.file.read_file.Goals as goal
 
 pub loop-added-init : goal.loop-added-init

@@ -2,7 +2,7 @@ use Rattle.std.proofs.Common.{arith, ◌≡◌, ◌∙◌, sym, refl, subst, ℕ
 use Rattle.std.proofs.KnownBytes.{Consumes-nil}
 use Rattle.rtcm_bits.specs.Device.{HasFailed}
 use Rattle.rinex_file.specs.Blocks.{MovesBytes}
-use Rattle.rinex_file.proofs.Ahead.{not_failed, is_full, at_end, consumed_none, moved_taken, line_whole, still_endless, longer, leaves_all, leaves_more}
+use Rattle.rinex_file.proofs.LineByLine.{not_failed, is_full, at_end, consumed_none, moved_taken, line_whole, still_endless, longer, leaves_all, leaves_more}
 use Rattle.rinex_file.proofs.read.lines.next_line.Goals as goal
 
 pub loop-block-init : goal.loop-block-init

@@ -1,7 +1,7 @@
 use Rattle.std.proofs.Common.{subst}
 use Rattle.std.proofs.lemmas.Bool.{lt-ltb, ltb-true}
 use Rattle.rinex_file.specs.ParserState.{EndsIn}
-use Rattle.rinex_file.proofs.Rises.{rise_after, rise_last}
+use Rattle.rinex_file.proofs.BodySteps.{rise_after, rise_last}
 use Rattle.rinex_file.proofs.read.parser_state.is_after.Goals as goal
 
 pub returns-in-Some : goal.returns-in-Some

@@ -2,7 +2,7 @@ use Rattle.std.proofs.Common.{arith, sym, subst, ◌<◌, map}
 use Rattle.std.proofs.lemmas.Bool.{lt-ltb, ltb-true, eqb-true, eq-eqb}
 use Rattle.rinex_file.specs.FileValues.{time_stamped}
 use Rattle.rinex_file.specs.ParserState.{EndsIn}
-use Rattle.rinex_file.proofs.Rises.{rise_alone, rise_after, rise_last, none_stamped, not_none}
+use Rattle.rinex_file.proofs.BodySteps.{rise_alone, rise_after, rise_last, none_stamped, not_none}
 use Rattle.rinex_file.proofs.read.parser_state.may_follow.Goals as goal
 
 pub returns-in-None : goal.returns-in-None

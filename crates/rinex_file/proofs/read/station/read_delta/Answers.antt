@@ -5,7 +5,7 @@ use Rattle.std.proofs.lemmas.Result.{OkIff-at_ok, OkIff-at_err}
 use Rattle.rinex_file.specs.Header.{header_line, lengths}
 use Rattle.rinex_file.specs.Read.Fields.{digits_in}
 use Rattle.rinex_file.proofs.Judged.{exactly}
-use Rattle.rinex_file.proofs.StationLines.{height-back}
+use Rattle.rinex_file.proofs.HeaderAgree.{height-back}
 use Rattle.rinex_file.proofs.read.station.read_delta.Goals as goal
 
 abbrev text : ℕ → List ℕ

@@ -1,5 +1,5 @@
 use Rattle.std.proofs.Common.{arith}
-use Rattle.rinex_file.proofs.Ahead.{moved, moved_of, left_ahead}
+use Rattle.rinex_file.proofs.LineByLine.{moved, moved_of, left_ahead}
 use Rattle.rinex_file.proofs.read.block.Block.move_to.Goals as goal
 
 pub returns : goal.returns

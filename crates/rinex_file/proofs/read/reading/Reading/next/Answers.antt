@@ -3,11 +3,10 @@ use Rattle.rinex_file.specs.declared.read.expected.Refusal.{Refusal}
 use Rattle.rinex_file.specs.declared.read.fault.ReadFault.TheVariants.{CutShort}
 use Rattle.rinex_file.specs.Exact.{IsFaulty, IsExpectedAt}
 use Rattle.rinex_file.specs.ParserState.{GoesOnWithLine, ShowsLine, RefusesLine, TakesLine, progress_at, with_line}
-use Rattle.rinex_file.proofs.Ahead.{is_empty, not_empty}
 use Rattle.rinex_file.proofs.FileLines.{lines_are_lines}
 use Rattle.rinex_file.proofs.Judged.{refused as judged}
 use Rattle.rinex_file.proofs.HeaderBody.{unfinished, file_shown, only_file, file_read, sound_rows, begun, expected_at}
-use Rattle.rinex_file.proofs.LineByLine.{one_more, refused, over_long, cut_within, cut_after, whole, after_fault, both_said, said_of, long_some, too_long, line_some}
+use Rattle.rinex_file.proofs.LineByLine.{one_more, refused, over_long, cut_within, cut_after, whole, after_fault, both_said, said_of, long_some, too_long, line_some, is_empty, not_empty}
 use Rattle.rinex_file.proofs.read.reading.Reading.next.Goals as goal
 
 few_lines : (lines taken : List (List ℕ)) (n : ℕ) → lines ≡ taken → length taken ≡ n → n ≤ 2 ^ 32 → length lines ≤ 2 ^ 32
