@@ -70,9 +70,6 @@ passed c rest id index is = ap (λ b. option_map_or signal_values_of (if b then 
 of_key : (a : Bool) (x y : ℕ) → a ≡ true → x ≡ y → (a && (x == y)) ≡ true
 of_key a x y e f = grind (arith, e, f)
 
-other_satellite : (a b : Bool) → a ≡ false → (a && b) ≡ false
-other_satellite a b e = grind (arith, e)
-
 other_signal : (a : Bool) (x y : ℕ) → y ≢ x → (a && (x == y)) ≡ false
 other_signal true x y n = grind arith
 other_signal false x y n = refl

@@ -1,6 +1,7 @@
 -- The text of a file that is stored in memory.
-use Rattle.std.proofs.Common.{arith, ◌≡◌, ◌∙◌, sym, ap, refl, subst, ℕ, ◌<◌, ◌≤◌, List, [], ◌∷◌, ◌++◌, length, get_or, append_assoc, Result, Ok, Err, OnOk}
+use Rattle.std.proofs.Common.{arith, ◌≡◌, ◌∙◌, sym, ap, ap₂, refl, subst, ℕ, ◌<◌, ◌≤◌, List, [], ◌∷◌, ◌++◌, length, take, get_or, append_assoc}
 use Rattle.std.specs.Prelude.{All, map, flat_map}
+use Rattle.std.proofs.lemmas.List.{take_all}
 use Rattle.gnss_obs.specs.declared.system.System.{System}
 use Rattle.gnss_obs.specs.declared.system.System.TheVariants.{Gps, Galileo}
 use Rattle.gnss_obs.specs.Satellites.{satellites}
@@ -59,23 +60,21 @@ epoch_whole v e rows old mid line text new is same changed begun more last =
     ∙ ap (λ l. old ++ l) (ap (λ l. joined (change_lines v.change) ++ l) (sym own) ∙ sym (joined-append (change_lines v.change) (epoch_line (civil_of v.time) (length v.rows) ∷ map satellite_line v.rows)))
     ∙ ap (λ (x : Stamped). old ++ joined (stamped_lines x)) is
 
-pub on_ok : {A E : Type 0} (r : Result A E) (P Q : Type 0) → (P → Q) → OnOk r P → OnOk r Q
-on_ok (Ok x) P Q f h = f h
-on_ok (Err e) P Q f h = tt
-
 parts : (v : FileValue) (first : Stamped) (es : List Stamped) → 0 < length es → first ≡ get_or es 0 first
-    → header_text v.texts v.plan v.values first.time ++ joined (flat_map stamped_lines es) ≡ joined (lines_of_parts v.texts v.plan v.values es)
+    → header_text v.texts v.plan v.values first.time ++ flat_map stamped_text es ≡ joined (lines_of_parts v.texts v.plan v.values es)
 unfolding header_text
 parts v first [] some at = absurd (omega (arith, some))
 parts v first (e ∷ es) some at =
-    ap (λ (f : Stamped). joined (header_lines v.texts v.plan v.values (civil_of f.time)) ++ joined (flat_map stamped_lines (e ∷ es))) at
+    ap₂ (λ (f : Stamped) t. joined (header_lines v.texts v.plan v.values (civil_of f.time)) ++ t) at (sym (joined_parts (e ∷ es)))
     ∙ sym (joined-append (header_lines v.texts v.plan v.values (civil_of e.time)) (flat_map stamped_lines (e ∷ es)))
 
--- header and epochs were appended to nothing
-pub all_appended : (v w : FileValue) (first : Stamped) (old text new : List ℕ) → v ≡ w → IsFileValue v → first ≡ get_or v.epochs 0 first → old ≡ [] → text ≡ old ++ header_text w.texts w.plan w.values first.time
-    → new ≡ text ++ flat_map stamped_text v.epochs → new ≡ file_text w
-all_appended v w first old text new same is at none grown more =
-    more ∙ ap (λ l. text ++ l) (sym (joined_parts v.epochs))
-    ∙ ap (λ l. l ++ joined (flat_map stamped_lines v.epochs))
-    (grown ∙ ap (λ l. l ++ header_text w.texts w.plan w.values first.time) none ∙ ap (λ (x : FileValue). header_text x.texts x.plan x.values first.time) (sym same))
-    ∙ parts v first v.epochs is.some at ∙ ap file_text same
+-- header and epochs were written
+pub all_written : (v w : FileValue) (first : Stamped) (es : List Stamped) (old new : List ℕ) (n : ℕ) → v ≡ w → IsFileValue v → es ≡ v.epochs → first ≡ get_or es 0 first → length es ≤ n
+    → new ≡ (old ++ header_text w.texts w.plan w.values first.time) ++ flat_map stamped_text (take n es) → new ≡ old ++ file_text w
+all_written v w first es old new n same is those at all written =
+    let own = is.some in
+    let shape : header_text v.texts v.plan v.values first.time ++ flat_map stamped_text es ≡ file_text v =
+    parts v first es (rw those own) at ∙ ap (λ (xs : List Stamped). joined (lines_of_parts v.texts v.plan v.values xs)) those in
+    written ∙ ap (λ (xs : List Stamped). (old ++ header_text w.texts w.plan w.values first.time) ++ flat_map stamped_text xs) (take_all n es all)
+    ∙ append_assoc old (header_text w.texts w.plan w.values first.time) (flat_map stamped_text es)
+    ∙ ap (λ l. old ++ l) (ap (λ (x : FileValue). header_text x.texts x.plan x.values first.time ++ flat_map stamped_text es) (sym same) ∙ shape ∙ ap file_text same)

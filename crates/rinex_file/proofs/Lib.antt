@@ -9,7 +9,6 @@ mod SatelliteGroups
 mod TypeRows
 mod Sent
 mod LineByLine
-mod Appended
 mod FileText
 mod Examples
 mod KeptFile

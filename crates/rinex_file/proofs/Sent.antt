@@ -1,6 +1,6 @@
 -- Lines that were written, and a part of them.
-use Rattle.std.proofs.Common.{arith, ◌≡◌, ◌∙◌, sym, ap, refl, subst, ℕ, zero, suc, ◌+◌, ◌-◌, ◌≤◌, List, [], ◌∷◌, ◌++◌, length, append_assoc, append-nil, length-append, Option, Bool, true, false, Result, Ok, Err, OnErr}
-use Rattle.std.specs.Prelude.{map, filter, if◌then◌else◌}
+use Rattle.std.proofs.Common.{arith, ◌≡◌, ◌∙◌, sym, ap, refl, subst, ℕ, zero, suc, ◌+◌, ◌-◌, ◌≤◌, List, [], ◌∷◌, ◌++◌, length, append_assoc, append-nil, length-append, Option, Bool, true, false, Result, Ok, Err, OnOk, OnErr}
+use Rattle.std.specs.Prelude.{map, filter, if◌then◌else◌, IsErrAnd}
 use Rattle.std.specs.Io.KnownBytes.{Appends}
 use Rattle.std.proofs.KnownBytes.{Appends-trans, Appends-nil}
 use Rattle.std.proofs.lemmas.List.{map-append}
@@ -151,3 +151,8 @@ epoch_parts p e =
 pub where_failed : {A E : Type 0} (r : Result A E) (P : Type 0) → P → OnErr r P
 where_failed (Ok x) P p = tt
 where_failed (Err e) P p = p
+
+-- nothing is promised of it
+pub failed : {A E : Type 0} (Q : E → Type 0) (r : Result A E) (P : Type 0) → IsErrAnd r Q → OnOk r P
+failed Q (Ok x) P h = absurd h
+failed Q (Err e) P h = tt

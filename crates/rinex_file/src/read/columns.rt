@@ -5,6 +5,7 @@ ghost use Rattle.rinex_file.specs.Words.{word};
 ghost use Rattle.rinex_file.specs.Read.Row.{digit_in, has_sign, pairs_in, size_in, value_in, IsPoint};
 
 use crate::read::numbers::signed;
+use gnss_obs::Thousandths;
 
 /// Returns eight columns as a word.
 fn word_at(text: &[u8], first: usize) -> u64
@@ -60,7 +61,7 @@ fn size_in(first: u64, last: u64) -> u64
 /// Returns the value in the columns of a field, or None if the column of the point has none.
 #[inline(always)]
 #[tactic(auto, unfolding(crate::specs::Read::Row::value_in))]
-pub(crate) fn value_in(text: &[u8]) -> Option<i64>
+pub(crate) fn value_in(text: &[u8]) -> Option<Thousandths>
     requires { 16 ≤ length text.now }
     ensures { result ≡ value_in text.now }
 {
@@ -70,5 +71,6 @@ pub(crate) fn value_in(text: &[u8]) -> Option<i64>
     let first = digits_at(text, 0);
     let last = digits_at(text, 8);
     let has_minus = first.has_sign | (text[8] == b'-');
-    Some(signed(size_in(first.pairs, last.pairs), has_minus))
+    let value = signed(size_in(first.pairs, last.pairs), has_minus);
+    Some(Thousandths::new(value))
 }

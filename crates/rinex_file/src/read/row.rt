@@ -1,10 +1,10 @@
 //! The line of a satellite, read back: its fields are validated, written again and compared.
-ghost use Rattle.std.specs.Prelude.{◌≡◌, ◌↔◌, ℕ, pos, ◌+◌, ◌-◌, ◌*◌, ◌≤◌, ◌<◌, List, [], ◌∷◌, drop, ◌++◌, replicate};
+ghost use Rattle.std.specs.Prelude.{◌≡◌, ◌↔◌, ℕ, ◌+◌, ◌-◌, ◌*◌, ◌≤◌, ◌<◌, List, [], ◌∷◌, drop, ◌++◌, replicate};
 ghost use Rattle.std.specs.Prelude.{length, slice_index, All, Any, Some, IfSome, IsTrue};
 ghost use Rattle.arrayvec.specs.ArrayVec.{array_vec_len};
 ghost use Rattle.gnss_obs.specs.declared.system.System.{System};
 ghost use Rattle.gnss_obs.specs.Satellites.{satellites};
-ghost use Rattle.rinex_file.specs.FileValues.{FitsColumns, IsFrom, AreSignalValues, IsRow, IsSatelliteRow};
+ghost use Rattle.rinex_file.specs.FileValues.{IsFrom, AreSignalValues, IsRow, IsSatelliteRow};
 ghost use Rattle.rinex_file.specs.FileValues.{has_some_value, of_system};
 ghost use Rattle.rinex_file.specs.Lines.{satellite_line, letter_of};
 ghost use Rattle.rinex_file.specs.Read.Fields.{ReadsExactly, some_if};
@@ -14,10 +14,15 @@ ghost use Rattle.rinex_file.specs.Limits.{most_line, signal_columns, most_signal
 use crate::read::columns::value_in;
 use crate::read::numbers::{digits_in, is_same};
 use crate::values::kept::{KeptSatellite, SignalValues};
-use crate::write::numbers::{Line, MOST_SIGNALS, SIGNAL_COLUMNS, put, put_times};
+use crate::write::numbers::{Line, MOST_SIGNALS, SIGNAL_COLUMNS, put, put_blanks};
 use crate::write::satellite::satellite_text;
 use arrayvec::ArrayVec;
-use gnss_obs::System;
+use gnss_obs::{System, Thousandths};
+
+/// The smallest and the largest value that fit 14 columns, in thousandths.
+const LEAST_VALUE: i64 = -999_999_999_999;
+
+const MOST_VALUE: i64 = 9_999_999_999_999;
 
 /// Returns the values in the 64 columns of a signal.
 #[tactic(auto, unfolding(crate::specs::Read::Row::signal_values_in))]
@@ -63,23 +68,13 @@ fn put_seen_in(system: System, text: &[u8], signals: usize, seen: &mut KeptSatel
     put_signal_values(text, signals, &mut seen.signal_values);
 }
 
-/// Returns whether a value fits its columns or is absent.
-fn is_value(value: Option<i64>) -> bool
-    ensures { IsTrue result ↔ IfSome value FitsColumns }
+/// Returns whether a value is from `low` to `high` thousandths, or is absent.
+fn is_from(value: Option<Thousandths>, low: i64, high: i64) -> bool
+    ensures { IsTrue result ↔ IfSome value (IsFrom low high) }
 {
     match value {
         None => true,
-        Some(v) => -999_999_999_999 <= v && v <= 9_999_999_999_999,
-    }
-}
-
-/// Returns whether a strength is one that is written, 0.001 to 99.999 dB-Hz, or is absent.
-fn is_strength(value: Option<i64>) -> bool
-    ensures { IsTrue result ↔ IfSome value (IsFrom (pos 1) (pos 99_999)) }
-{
-    match value {
-        None => true,
-        Some(v) => 1 <= v && v <= 99_999,
+        Some(v) => low <= v.value() && v.value() <= high,
     }
 }
 
@@ -88,10 +83,10 @@ fn is_strength(value: Option<i64>) -> bool
 fn is_signal_values(entry: &SignalValues) -> bool
     ensures { IsTrue result ↔ AreSignalValues entry.now }
 {
-    let c = is_value(entry.c);
-    let l = is_value(entry.l);
-    let d = is_value(entry.d);
-    let s = is_strength(entry.s);
+    let c = is_from(entry.c, LEAST_VALUE, MOST_VALUE);
+    let l = is_from(entry.l, LEAST_VALUE, MOST_VALUE);
+    let d = is_from(entry.d, LEAST_VALUE, MOST_VALUE);
+    let s = is_from(entry.s, 1, 99_999);
     let lli = entry.lli == 0 || (entry.lli < 4 && entry.l.is_some());
     c && l && d && s && lli
 }
@@ -134,7 +129,7 @@ fn fill(text: &[u8], signals: usize, filled: &mut Line)
     filled.clear();
     put(filled, &text[..text.len().saturating_sub(1)]);
     let blanks = (3 + SIGNAL_COLUMNS * signals).saturating_sub(filled.len());
-    put_times(filled, b' ', blanks);
+    put_blanks(filled, blanks);
 }
 
 /// Returns the first value for GPS, the second for Galileo.
@@ -176,12 +171,8 @@ fn read_of(
     if !is_row(seen, system.satellites(), signals) {
         return false;
     }
-    satellite_text(
-        again,
-        seen.system,
-        seen.satellite,
-        seen.signal_values.as_slice(),
-    );
+    let values = seen.signal_values.as_slice();
+    satellite_text(again, seen.system, seen.satellite, values);
     is_same(again.as_slice(), line)
 }
 

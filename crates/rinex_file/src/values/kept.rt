@@ -1,6 +1,6 @@
 //! An epoch that was read, as it is stored in memory.
 ghost use Rattle.std.specs.Prelude.{◌≡◌};
-ghost use Rattle.rinex_file.specs.Value.{no_signal_values, signal_values_of};
+ghost use Rattle.rinex_file.specs.Value.{signal_values_of};
 ghost use Rattle.rinex_file.specs.FileValues.{has_some_value};
 
 use crate::write::numbers::MOST_SIGNALS;
@@ -9,15 +9,14 @@ use gnss_obs::{System, Thousandths};
 use obs_epoch::{Cell, GpsTime, StationValues};
 use std::marker::Model;
 
-/// The values of a signal in a line: pseudorange (0.001 m), phase (0.001 cycles), Doppler
-/// (0.001 Hz) and strength (0.001 dB-Hz), and the loss-of-lock indicator of the phase. All are
-/// absent if nothing was observed.
+/// The values of a signal in a line: pseudorange (m), phase (cycles), Doppler (Hz) and strength
+/// (dB-Hz), and the loss-of-lock indicator of the phase. All are absent if nothing was observed.
 #[derive(Clone, Copy, Default)]
 pub(crate) struct SignalValues {
-    pub(crate) c: Option<i64>,
-    pub(crate) l: Option<i64>,
-    pub(crate) d: Option<i64>,
-    pub(crate) s: Option<i64>,
+    pub(crate) c: Option<Thousandths>,
+    pub(crate) l: Option<Thousandths>,
+    pub(crate) d: Option<Thousandths>,
+    pub(crate) s: Option<Thousandths>,
     pub(crate) lli: u8,
 }
 
@@ -31,39 +30,16 @@ impl Model for SignalValues {
     ghost inverse = { λ e. record { c = e.c; l = e.l; d = e.d; s = e.s; lli = e.lli } };
 }
 
-/// Returns the number of thousandths.
-fn number_of(value: Option<Thousandths>) -> Option<i64>
-    ensures { result ≡ value }
-{
-    match value {
-        None => None,
-        Some(value) => Some(value.value()),
-    }
-}
-
 impl SignalValues {
-    /// Returns the values of a signal of which nothing was observed.
-    pub(crate) fn none() -> SignalValues
-        ensures { result ≡ no_signal_values }
-    {
-        SignalValues {
-            c: None,
-            l: None,
-            d: None,
-            s: None,
-            lli: 0,
-        }
-    }
-
     /// Returns the values of a cell.
     pub(crate) fn of(cell: &Cell) -> SignalValues
         ensures { result ≡ signal_values_of cell.now }
     {
         SignalValues {
-            c: number_of(cell.c),
-            l: number_of(cell.l),
-            d: number_of(cell.d),
-            s: number_of(cell.s),
+            c: cell.c,
+            l: cell.l,
+            d: cell.d,
+            s: cell.s,
             lli: cell.lli,
         }
     }

@@ -3,7 +3,7 @@ ghost use Rattle.std.specs.Prelude.{◌≡◌, []};
 ghost use Rattle.obs_epoch.specs.Dates.{civil_of};
 ghost use Rattle.rinex_file.specs.Lines.{epoch_line};
 
-use crate::write::numbers::{Line, put, put_digits, put_seconds, put_whole};
+use crate::write::numbers::{Line, put, put_padded, put_seconds, put_whole};
 use obs_epoch::{Civil, GpsTime};
 
 /// Writes the first line of an epoch at a date and time of day into the empty buffer.
@@ -14,13 +14,13 @@ fn put_epoch(line: &mut Line, civil: &Civil, satellites: usize)
     put(line, b"> ");
     put_whole(line, 4, civil.year as u64);
     put(line, b" ");
-    put_digits(line, 2, civil.month as u64);
+    put_padded(line, 2, civil.month as u64);
     put(line, b" ");
-    put_digits(line, 2, civil.day as u64);
+    put_padded(line, 2, civil.day as u64);
     put(line, b" ");
-    put_digits(line, 2, civil.hour as u64);
+    put_padded(line, 2, civil.hour as u64);
     put(line, b" ");
-    put_digits(line, 2, civil.minute as u64);
+    put_padded(line, 2, civil.minute as u64);
     put_seconds(line, 11, civil.millisecond);
     put(line, b"  0");
     put_whole(line, 3, satellites as u64);

@@ -1,96 +1,78 @@
 //! The text of a file that was read.
 ghost use Rattle.std.specs.Prelude.{◌≡◌, ◌++◌, All, OnOk, IfOk, flat_map};
 ghost use Rattle.rinex_file.specs.Numbers.{joined};
-ghost use Rattle.rinex_file.specs.File.{header_text, change_lines, file_text};
+ghost use Rattle.rinex_file.specs.File.{change_lines, file_text};
 ghost use Rattle.rinex_file.specs.Read.Keeping.{HasRoom, HaveRowsRoom, stamped_text};
 ghost use Rattle.rinex_file.specs.Lines.{satellite_line};
 
-use crate::header::head::{Head, header_lines};
-use crate::header::lines::{delta_line, position_line};
+use crate::header::fault::HeadFault;
+use crate::header::head::Head;
 use crate::values::kept::{KeptEpoch, KeptRow};
 use crate::values::obs_file::ObsFile;
 use crate::write::epoch::epoch_line;
-use crate::write::event::event_line;
 use crate::write::numbers::Line;
 use crate::write::satellite::satellite_text;
-use obs_epoch::{GpsTime, StationValues};
+use crate::write::{write_event, write_header};
+use obs_epoch::StationValues;
+use rtcm_bits::{Counted, DeviceFailed};
 use std::alloc::{AllocError, Global};
 
-/// Appends the header of a file whose first epoch is at this time.
-#[tactic(auto, unfolding(crate::specs::File::header_text))]
-fn add_header(text: &mut Vec<u8>, file: &ObsFile, first: GpsTime) -> Result<(), AllocError>
-    ensures { OnOk result
-        (text.new.items ≡ text.old.items ++ header_text file.now.texts file.now.plan file.now.values first) }
+/// A file in memory; a write fails if memory runs out.
+type Text = Counted<Vec<u8>>;
+
+/// Writes the lines of satellites.
+fn write_rows(rows: &[KeptRow], line: &mut Line, text: &mut Text) -> Result<(), DeviceFailed>
+    requires { All HasRoom rows.now }
+    ensures { OnOk result (text.new.inner.items ≡ text.old.inner.items ++ flat_map satellite_line rows.now) }
 {
+    for row in rows {
+        let values = row.signal_values.as_slice();
+        satellite_text(line, row.system, row.satellite, values);
+        text.write_whole(line.as_slice())?;
+    }
+    Ok(())
+}
+
+/// Writes the event of an epoch that has a change of station values.
+#[tactic(auto, unfolding(crate::specs::File::event_text))]
+fn write_change(change: Option<StationValues>, text: &mut Text) -> Result<(), HeadFault>
+    ensures { OnOk result (text.new.inner.items ≡ text.old.inner.items ++ joined (change_lines change)) }
+{
+    match change {
+        None => Ok(()),
+        Some(values) => write_event(values, text),
+    }
+}
+
+/// Writes the lines of an epoch.
+fn write_kept(epoch: &KeptEpoch, line: &mut Line, text: &mut Text) -> Result<(), HeadFault>
+    requires { HaveRowsRoom epoch.now }
+    ensures { OnOk result (text.new.inner.items ≡ text.old.inner.items ++ stamped_text epoch.now) }
+{
+    write_change(epoch.change, text)?;
+    let rows = epoch.rows.as_slice();
+    epoch_line(epoch.time, rows.len(), line);
+    text.write_whole(line.as_slice())?;
+    write_rows(rows, line, text)?;
+    Ok(())
+}
+
+/// Writes the lines of a file.
+fn write_file(file: &ObsFile, text: &mut Text) -> Result<(), HeadFault>
+    ensures { OnOk result (text.new.inner.items ≡ text.old.inner.items ++ file_text file.now) }
+{
+    let mut line = Line::new();
+    let epochs = file.epochs.as_slice();
+    let first = &epochs[0];
     let head = Head {
         texts: &file.texts,
         plan: &file.plan,
         values: file.values,
-        first,
+        first: first.time,
     };
-    for line in header_lines(&head) {
-        text.extend_from_slice(line.as_slice())?;
-    }
-    Ok(())
-}
-
-/// Appends the line of a satellite.
-fn add_row(text: &mut Vec<u8>, row: &KeptRow, line: &mut Line) -> Result<(), AllocError>
-    requires { HasRoom row.now }
-    ensures { OnOk result (text.new.items ≡ text.old.items ++ satellite_line row.now) }
-{
-    satellite_text(
-        line,
-        row.system,
-        row.satellite,
-        row.signal_values.as_slice(),
-    );
-    text.extend_from_slice(line.as_slice())
-}
-
-/// Appends the lines of satellites.
-fn add_rows(text: &mut Vec<u8>, rows: &[KeptRow], line: &mut Line) -> Result<(), AllocError>
-    requires { All HasRoom rows.now }
-    ensures { OnOk result (text.new.items ≡ text.old.items ++ flat_map satellite_line rows.now) }
-{
-    for row in rows {
-        add_row(text, row, line)?;
-    }
-    Ok(())
-}
-
-/// Appends the event of an epoch that has a change of station values.
-#[tactic(auto, unfolding(crate::specs::File::event_text))]
-fn add_change(text: &mut Vec<u8>, change: Option<StationValues>) -> Result<(), AllocError>
-    ensures { OnOk result (text.new.items ≡ text.old.items ++ joined (change_lines change)) }
-{
-    let Some(values) = change else {
-        return Ok(());
-    };
-    text.extend_from_slice(event_line())?;
-    text.extend_from_slice(position_line(&values).as_slice())?;
-    text.extend_from_slice(delta_line(&values).as_slice())
-}
-
-/// Appends the lines of an epoch.
-fn add_epoch(text: &mut Vec<u8>, epoch: &KeptEpoch, line: &mut Line) -> Result<(), AllocError>
-    requires { HaveRowsRoom epoch.now }
-    ensures { OnOk result (text.new.items ≡ text.old.items ++ stamped_text epoch.now) }
-{
-    add_change(text, epoch.change)?;
-    let rows = epoch.rows.as_slice();
-    epoch_line(epoch.time, rows.len(), line);
-    text.extend_from_slice(line.as_slice())?;
-    add_rows(text, rows, line)
-}
-
-/// Appends the lines of these epochs.
-fn add_epochs(text: &mut Vec<u8>, epochs: &[KeptEpoch], line: &mut Line) -> Result<(), AllocError>
-    requires { All HaveRowsRoom epochs.now }
-    ensures { OnOk result (text.new.items ≡ text.old.items ++ flat_map stamped_text epochs.now) }
-{
+    write_header(&head, text)?;
     for epoch in epochs {
-        add_epoch(text, epoch, line)?;
+        write_kept(epoch, &mut line, text)?;
     }
     Ok(())
 }
@@ -103,9 +85,9 @@ fn add_epochs(text: &mut Vec<u8>, epochs: &[KeptEpoch], line: &mut Line) -> Resu
 pub fn file_bytes(alloc: Global, file: &ObsFile) -> Result<Vec<u8>, AllocError>
     ensures { IfOk result (λ text. text.items ≡ file_text file.now) }
 {
-    let mut text = Vec::new(alloc);
-    let mut line = Line::new();
-    add_header(&mut text, file, file.epochs[0].time)?;
-    add_epochs(&mut text, file.epochs.as_slice(), &mut line)?;
-    Ok(text)
+    let mut text = Counted::new(Vec::new(alloc));
+    match write_file(file, &mut text) {
+        Ok(()) => Ok(text.into_inner()),
+        Err(_) => Err(AllocError),
+    }
 }

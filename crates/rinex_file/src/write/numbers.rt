@@ -32,16 +32,6 @@ pub(crate) fn put<const N: usize>(line: &mut ArrayVec<u8, N>, bytes: &[u8])
     let _ = line.try_extend_from_slice(bytes);
 }
 
-/// Appends a byte `count` times.
-pub(crate) fn put_times<const N: usize>(line: &mut ArrayVec<u8, N>, byte: u8, count: usize)
-    requires { array_vec_len line.old + count ≤ N }
-    ensures { line.new.items ≡ line.old.items ++ replicate count byte }
-{
-    for _ in 0..count {
-        line.push(byte);
-    }
-}
-
 static BLANKS: [u8; MOST_LINE] = [b' '; MOST_LINE];
 
 /// Returns blanks.
@@ -52,9 +42,8 @@ fn blanks() -> &'static [u8; MOST_LINE]
 }
 
 /// Appends blanks.
-pub(crate) fn put_blanks<const N: usize>(line: &mut ArrayVec<u8, N>, count: usize)
-    requires room { array_vec_len line.old + count ≤ N }
-    requires few { count ≤ most_line }
+pub(crate) fn put_blanks(line: &mut Line, count: usize)
+    requires { array_vec_len line.old + count ≤ most_line }
     ensures text { line.new.items ≡ line.old.items ++ replicate count 32 }
     ensures size { array_vec_len line.new ≡ array_vec_len line.old + count }
 {
@@ -66,12 +55,15 @@ pub(crate) fn put_blanks<const N: usize>(line: &mut ArrayVec<u8, N>, count: usiz
 
 /// Appends a number with leading zeros up to `places` digits.
 pub(crate) fn put_padded<const N: usize>(line: &mut ArrayVec<u8, N>, places: usize, number: u64)
-    requires { array_vec_len line.old + length (padded places number) ≤ N }
-    ensures { line.new.items ≡ line.old.items ++ padded places number }
+    requires { array_vec_len line.old + places + 20 ≤ N }
+    ensures text { line.new.items ≡ line.old.items ++ padded places number }
+    ensures size { array_vec_len line.new ≤ array_vec_len line.old + places + 20 }
 {
     let mut buffer = Buffer::new();
     let digits = buffer.format(number).as_bytes();
-    put_times(line, b'0', places.saturating_sub(digits.len()));
+    for _ in 0..places.saturating_sub(digits.len()) {
+        line.push(b'0');
+    }
     put(line, digits);
 }
 
@@ -82,7 +74,7 @@ pub(crate) fn put_left(line: &mut Line, width: usize, text: &[u8])
     ensures size { array_vec_len line.new ≤ array_vec_len line.old + width + length text.now }
 {
     put(line, text);
-    put_times(line, b' ', width.saturating_sub(text.len()));
+    put_blanks(line, width.saturating_sub(text.len()));
 }
 
 /// Appends a text, right-aligned in `width` columns.
@@ -91,7 +83,7 @@ fn put_right(line: &mut Line, width: usize, text: &[u8])
     ensures text { line.new.items ≡ line.old.items ++ right width text.now }
     ensures size { array_vec_len line.new ≤ array_vec_len line.old + width + length text.now }
 {
-    put_times(line, b' ', width.saturating_sub(text.len()));
+    put_blanks(line, width.saturating_sub(text.len()));
     put(line, text);
 }
 
@@ -105,16 +97,6 @@ pub(crate) fn put_whole(line: &mut Line, width: usize, number: u64)
     let mut buffer = Buffer::new();
     let digits = buffer.format(number).as_bytes();
     put_right(line, width, digits);
-}
-
-/// Appends a number with leading zeros up to `places` digits.
-pub(crate) fn put_digits(line: &mut Line, places: usize, number: u64)
-    requires places { places ≤ 20 }
-    requires room { array_vec_len line.old + 60 ≤ most_line }
-    ensures text { line.new.items ≡ line.old.items ++ padded places number }
-    ensures size { array_vec_len line.new ≤ array_vec_len line.old + 60 }
-{
-    put_padded(line, places, number);
 }
 
 /// Returns a number, given in units of 10 to the minus `places`, with a decimal point.
@@ -157,11 +139,6 @@ pub(crate) fn put_seconds(line: &mut Line, width: usize, milliseconds: u16)
     ensures text { line.new.items ≡ line.old.items ++ right width (fixed 7 (pos (milliseconds * 10_000))) }
     ensures size { array_vec_len line.new ≤ array_vec_len line.old + 84 }
 {
-    put_fixed(
-        line,
-        width,
-        7,
-        10_000_000,
-        (milliseconds as u64 * 10_000) as i64,
-    );
+    let value = milliseconds as u64 * 10_000;
+    put_fixed(line, width, 7, 10_000_000, value as i64);
 }

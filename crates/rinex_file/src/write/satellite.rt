@@ -38,7 +38,7 @@ fn put_value(columns: &mut [u8], value: i64, lost: u8, strength: u8)
 
 /// Writes a value as F14.3 and the LLI and SSI columns after it, or 16 blanks if it is absent.
 #[tactic(auto, unfolding(crate::specs::Lines::field))]
-fn put_field(columns: &mut [u8], value: Option<i64>, lost: u8, strength: u8)
+fn put_field(columns: &mut [u8], value: Option<Thousandths>, lost: u8, strength: u8)
     requires fits { IfSome value FitsColumns }
     requires room { length columns.old ≡ value_columns }
     ensures text { columns.new ≡ field value lost strength }
@@ -46,17 +46,17 @@ fn put_field(columns: &mut [u8], value: Option<i64>, lost: u8, strength: u8)
 {
     match value {
         None => columns.fill(b' '),
-        Some(value) => put_value(columns, value, lost, strength),
+        Some(value) => put_value(columns, value.value(), lost, strength),
     }
 }
 
 /// Returns the strength (SSI) column.
-fn strength_column(s: Option<i64>) -> u8
+fn strength_column(s: Option<Thousandths>) -> u8
     ensures { result ≡ strength_byte s }
 {
     match s {
         None => b' ',
-        Some(s) => b'0' + strength_digit(Thousandths::new(s)),
+        Some(s) => b'0' + strength_digit(s),
     }
 }
 

@@ -8,8 +8,7 @@ use Rattle.obs_epoch.specs.Dates.{civil_of}
 use Rattle.obs_epoch.specs.Values.{satellites_written}
 use Rattle.rinex_file.specs.Lines.{epoch_line}
 use Rattle.rinex_file.specs.File.{lines_up_to, epoch_text}
-use Rattle.rinex_file.proofs.Appended.{failed}
-use Rattle.rinex_file.proofs.Sent.{epoch_parts, part_first, part_after, where_failed}
+use Rattle.rinex_file.proofs.Sent.{failed, epoch_parts, part_first, part_after, where_failed}
 use Rattle.rinex_file.proofs.write.write_epoch.Goals as goal
 
 pub returns-in_err-write_whole-clause-part : goal.returns-in_err-write_whole-clause-part

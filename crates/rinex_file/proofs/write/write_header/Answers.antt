@@ -5,8 +5,7 @@ use Rattle.std.proofs.KnownBytes.{Appends-nil, Appends-trans}
 use Rattle.rtcm_bits.specs.Device.{AppendsPrefix}
 use Rattle.rinex_file.specs.Numbers.{joined}
 use Rattle.rinex_file.specs.File.{header_text}
-use Rattle.rinex_file.proofs.Appended.{failed}
-use Rattle.rinex_file.proofs.Sent.{part_after, where_failed}
+use Rattle.rinex_file.proofs.Sent.{failed, part_after, where_failed}
 use Rattle.rinex_file.proofs.write.write_header.Goals as goal
 
 pub loop-line-init : goal.loop-line-init

@@ -36,8 +36,8 @@ compared false system signals line again seen same text is found = grind (arith,
 pub returns : goal.returns
 returns c =
     let row = subst (λ (n : ℕ). IsRow n c.args.signals c.put_seen_in.new.seen.row) c.satellites.ensures.value (c.is_row.ensures.0 c.if-not-is_row.false) in
-    compared c.is_same.result c.args.system c.args.signals c.args.line.now c.as_slice-3.result.now c.put_seen_in.new.seen c.is_same.ensures
-    (c.as_slice-3.ensures.value ∙ c.satellite_text.ensures ∙ ap (λ (es : List SignalValues). satellite_line (satellite_row c.seen.inside.system c.seen.inside.satellite es)) c.as_slice-2.ensures.value ∙ ap satellite_line c.seen.view_is)
+    compared c.is_same.result c.args.system c.args.signals c.args.line.now c.as_slice-2.result.now c.put_seen_in.new.seen c.is_same.ensures
+    (c.as_slice-2.ensures.value ∙ c.satellite_text.ensures ∙ ap (λ (es : List SignalValues). satellite_line (satellite_row c.seen.inside.system c.seen.inside.satellite es)) c.as_slice-values.ensures.value ∙ ap satellite_line c.seen.view_is)
     (ap (λ (s : SatelliteRow). s.system) c.put_seen_in.ensures, row)
     (λ v same is e. found ((goal.at.returns c).After-put_seen_in) v same is e)
 

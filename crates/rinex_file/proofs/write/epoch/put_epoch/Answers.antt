@@ -17,25 +17,25 @@ returns c =
           c.put-2.ensures.text,
           (
             _,
-            c.put_digits.ensures.text,
+            c.put_padded.ensures.text,
             (
               _,
               c.put-3.ensures.text,
               (
                 _,
-                c.put_digits-2.ensures.text,
+                c.put_padded-2.ensures.text,
                 (
                   _,
                   c.put-4.ensures.text,
                   (
                     _,
-                    c.put_digits-3.ensures.text,
+                    c.put_padded-3.ensures.text,
                     (
                       _,
                       c.put-5.ensures.text,
                       (
                         _,
-                        c.put_digits-4.ensures.text,
+                        c.put_padded-4.ensures.text,
                         (_, c.put_seconds.ensures.text, (_, c.put-6.ensures.text, (_, c.put_whole-2.ensures.text, (_, c.put-7.ensures.text, refl)))),
                       ),
                     ),

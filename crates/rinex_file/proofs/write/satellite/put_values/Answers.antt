@@ -5,10 +5,6 @@ use Rattle.rinex_file.specs.Rows.{HasSignals}
 use Rattle.rinex_file.proofs.CellPlaces.{value_put, value_passed, front_fit}
 use Rattle.rinex_file.proofs.write.satellite.put_values.Goals as goal
 
--- the signals from here on, after those that were not written yet
-pending : List SignalValues → ℕ → List SignalValues
-pending values n = replicate n no_signal_values ++ drop n values
-
 within : (values : List SignalValues) (n : ℕ) → n < length values → n < length (replicate (n + 1) no_signal_values ++ drop (n + 1) values)
 within values n h = rw (length-append (replicate (n + 1) no_signal_values) (drop (n + 1) values), length-replicate (n + 1) no_signal_values) (omega arith)
 

@@ -1,0 +1,13 @@
+use Rattle.std.proofs.Common.{◌≡◌, ◌++◌, take, get_or}
+use Rattle.std.specs.Prelude.{flat_map}
+use Rattle.rinex_file.specs.Value.{Stamped}
+use Rattle.rinex_file.specs.File.{header_text}
+use Rattle.rinex_file.specs.Read.Keeping.{stamped_text}
+use Rattle.rinex_file.proofs.write.file.write_file.Given as goal
+
+-- the header and the epochs so far were written
+abbrev pub invariant-loop-epoch : goal.invariant-loop-epoch
+invariant-loop-epoch l =
+    (first : Stamped) × (first ≡ get_or l.epochs 0 first)
+    × (l.text.inner.items
+    ≡ (l.fn.text.inner.items ++ header_text l.file.texts l.file.plan l.file.values first.time) ++ flat_map stamped_text (take l.epoch-index l.epochs))
