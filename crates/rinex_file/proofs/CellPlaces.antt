@@ -15,7 +15,7 @@ use Rattle.rinex_file.specs.FileValues.{HaveRoom, has_some_value}
 use Rattle.rinex_file.specs.Blanks.{trimmed}
 use Rattle.rinex_file.specs.Lines.{field, lli_byte, strength_byte, signal_text}
 use Rattle.rinex_file.proofs.HeaderText.{trimmed-blanks}
-use Rattle.rinex_file.proofs.RowText.{if_fits, length-columns}
+use Rattle.rinex_file.proofs.RowText.{if_fits, length-room, length-signals}
 use Rattle.rinex_file.specs.Rows.{HasSignals}
 use Rattle.rinex_file.specs.Numbers.{padded}
 use Rattle.rinex_file.proofs.DigitWords.{two_digits}
@@ -96,9 +96,7 @@ no_place index signals f g e same = grind (arith, unplanned)
 -- the signals after one that differ from it
 map_apart : (x : ℕ) (signals : List ℕ) (f g : ℕ → SignalValues) → AllByRecursion (λ y. nat_eq x y ≡ false) signals → ((other : ℕ) → other ≢ x → f other ≡ g other) → map f signals ≡ map g signals
 map_apart x [] f g h same = refl
-map_apart x (y ∷ signals) f g h same = ap₂ (λ a l. a ∷ l) (same y (differ y h.0)) (map_apart x signals f g h.1 same) where
-  differ : (y : ℕ) → nat_eq x y ≡ false → y ≢ x
-  differ y e = λ is. grind (arith, e, is)
+map_apart x (y ∷ signals) f g h same = grind (arith, (map_apart x signals f g h.1 same))
 
 apart_at : (s p : ℕ) (signals : List ℕ) → AllByRecursion (λ y. nat_eq s y ≡ false) signals → p < length signals → nat_eq s (get_or signals p 0) ≡ false
 apart_at s p [] all within = absurd (omega (arith, within))
@@ -183,13 +181,6 @@ unfolding signal_text
 no_value e none = grind (arith, or_none, blank_text, is_none)
 
 -- ---- the signals of a line
-
-length-room : (v : SignalValues) → HaveRoom v → length (signal_text v) ≡ 64
-length-room v h = length-columns v h.c h.l h.d h.s
-
-length-signals : (values : List SignalValues) → All HaveRoom values → length (flat_map signal_text values) ≡ 64 * length values
-length-signals [] all = refl
-length-signals (v ∷ values) all = grind (arith, length-room, All-head, All-tail, length-append, (length-room v (All-head HaveRoom v values all)), (length-signals values (All-tail HaveRoom v values all)))
 
 -- the columns of a signal are replaced
 replaced : (values : List SignalValues) (p : ℕ) (v : SignalValues) → All HaveRoom values → p < length values

@@ -224,9 +224,7 @@ no_minus (b ∷ bs) (suc i) h = no_minus bs i h.1
 
 at_most : (bs : List ℕ) → word (map digit_in bs) ≤ word (map low_in bs)
 at_most [] = omega arith
-at_most (b ∷ bs) = let more = at_most bs in let one = digit_most b in omega (arith, more, one) where
-  digit_most : (b : ℕ) → digit_in b ≤ low_in b
-  digit_most b = elim (b / 16 % 2 == 1) as (λ t. (if t then b % 16 else 0) ≤ b % 16) [ true ↦ omega arith | false ↦ omega arith ]
+at_most (b ∷ bs) = grind (arith, (at_most bs))
 
 less : (z k : ℕ) (ds : List ℕ) → z < k → word (map digit_in (take k (replicate z 32 ++ 45 ∷ ds))) < word (map low_in (take k (replicate z 32 ++ 45 ∷ ds)))
 less z zero ds h = absurd (omega (arith, h))

@@ -172,9 +172,7 @@ tenth k n h = let p : 10 ^ suc k ≡ 10 ^ k * 10 = pow-suc 10 k in omega (arith,
 
 pub padded_digits : (k n : ℕ) (ds : List ℕ) → n < 10 ^ suc k → n < 2 ^ 64 → padded (suc k) n ++ map (λ x. 48 + x) ds ≡ map (λ x. 48 + x) (digits_onto k n ds)
 padded_digits zero n ds small fits = ap (λ d. (replicate (1 - length d) 48 ++ d) ++ map (λ x. 48 + x) ds) (decimal_digit n (omega (arith, small)))
-padded_digits (suc k) n ds small fits =
-    ap (λ t. t ++ map (λ x. 48 + x) ds) (padded_more k n fits) ∙ append_assoc (padded (suc k) (n / 10)) ((48 + n % 10) ∷ []) (map (λ x. 48 + x) ds)
-    ∙ padded_digits k (n / 10) (n % 10 ∷ ds) (tenth (suc k) n small) (omega (arith, fits))
+padded_digits (suc k) n ds small fits = grind (arith, padded_more, append_assoc, tenth, (padded_digits k (n / 10) (n % 10 ∷ ds) (tenth (suc k) n small) (omega (arith, fits))))
 
 -- the digits of a number other than zero, with blanks for leading zeros
 pub eight_spaced : (n : ℕ) → 0 < n → n < 10 ^ 8 → IsSpaced (eight_digits n) (8 - length (decimal n)) (decimal n)

@@ -1,12 +1,8 @@
 -- The lines of a file value are lines, and none is longer than the largest line that is read.
-use Rattle.std.proofs.Common.{arith, lit≤, ◌≡◌, ◌∙◌, ap, refl, sym, subst, ℕ, suc, ◌+◌, ◌*◌, ◌^◌, ◌<◌, ◌≤◌, ℤ, pos, negsuc, unsigned_abs, Bool, true, false, Option, Some, None, IfSome, List, [], ◌∷◌, ◌++◌, length, replicate, decimal, get_or, append_assoc}
+use Rattle.std.proofs.Common.{arith, lit≤, ◌≡◌, ◌∙◌, ap, refl, sym, subst, ℕ, suc, ◌+◌, ◌*◌, ◌^◌, ◌<◌, ◌≤◌, ℤ, pos, Bool, true, false, Option, Some, None, IfSome, List, [], ◌∷◌, ◌++◌, length, replicate, decimal, get_or, append_assoc}
 use Rattle.std.specs.Prelude.{◌==◌, ◌||◌, map, flat_map, All, codes}
-use Rattle.std.specs.Int.{is_negative}
-use Rattle.std.specs.Fmt.{sign_text}
-use Rattle.std.proofs.lemmas.Int.{ints}
 use Rattle.std.proofs.lemmas.List.Elements.{All-head, All-tail, All-cons, All-append, All-map}
 use Rattle.gnss_obs.specs.Satellites.{satellites}
-use Rattle.gnss_obs.specs.declared.system.System.{System}
 use Rattle.gnss_obs.specs.declared.system.System.TheVariants.{Gps, Galileo}
 use Rattle.obs_epoch.specs.declared.cell.StationValues.{StationValues}
 use Rattle.obs_epoch.specs.declared.civil.Civil.{Civil}
@@ -15,15 +11,17 @@ use Rattle.obs_epoch.specs.Values.{PlanValue}
 use Rattle.rinex_file.specs.Blanks.{trimmed}
 use Rattle.rinex_file.specs.Exact.{IsLine}
 use Rattle.rinex_file.specs.File.{event_line, stamped_lines, change_lines, lines_of_parts as lines_of_file, file_lines}
-use Rattle.rinex_file.specs.FileValues.{AreTexts, IsPlan, AreValues, FitsColumns, IsFrom, AreSignalValues, IsRow, IsSatelliteRow, IsStamped, IsChange, AreChanges, IsFileValue, changed_by, of_system, most_rows}
+use Rattle.rinex_file.specs.FileValues.{AreTexts, IsPlan, AreValues, FitsColumns, AreSignalValues, IsRow, IsSatelliteRow, IsStamped, IsChange, AreChanges, IsFileValue, changed_by, of_system, most_rows}
 use Rattle.rinex_file.specs.Header.{header_lines, position_line, delta_line}
 use Rattle.rinex_file.specs.Lines.{epoch_line, field, lli_byte, strength_byte, signal_text, letter_of, row_text, satellite_line}
 use Rattle.rinex_file.specs.Numbers.{joined, right, padded, fixed}
 use Rattle.rinex_file.specs.Read.Fields.{has}
 use Rattle.rinex_file.specs.Texts.{HeaderLists}
 use Rattle.rinex_file.specs.Value.{SignalValues, Row, SatelliteRow, Stamped, FileValue}
+use Rattle.rinex_file.proofs.RowText.{small_value, length-value, strength_fits, few_satellites}
+use Rattle.rinex_file.proofs.KeptFile.{either_few}
 use Rattle.rinex_file.proofs.Cuts.{filled, length-trimmed}
-use Rattle.rinex_file.proofs.Digits.{has-append, length-right, length-fixed, length-padded, not_negative}
+use Rattle.rinex_file.proofs.Digits.{has-append, length-right, length-padded}
 use Rattle.rinex_file.proofs.FewRows.{few_rows}
 use Rattle.rinex_file.proofs.PlainTexts.{Clean, clean-fixed, clean-right, clean-padded, IsPlain, plain-wider, plain-append, plain-padded, ArePlain, plain-joined}
 use Rattle.rinex_file.proofs.PlainHeader.{IsFileLine, as_line, of_80, whole_field, second_field, no_letter, few_signals_of, IsShort, short_time, line_of_position, line_of_delta, lines_of_header}
@@ -90,28 +88,8 @@ line_of_epoch t n is few =
 
 -- ---- satellites
 
-most : (n : ℕ) → FitsColumns (pos n) → n ≤ 9_999_999_999_999
-most n h = let high = h.1 in omega (arith, ints, high)
-
-least : (n : ℕ) → FitsColumns (negsuc n) → suc n ≤ 999_999_999_999
-least n h = let low = h.0 in omega (arith, ints, low)
-
-small_value : (v : ℤ) → FitsColumns v → unsigned_abs v < 2 ^ 64
-small_value (pos n) h = let bound = most n h in omega (arith, bound)
-small_value (negsuc n) h = let bound = least n h in omega (arith, bound)
-
-length_value : (v : ℤ) → FitsColumns v → length (fixed 3 v) ≤ 14
-length_value (pos n) h =
-    let bound = most n h in
-    let l = length-fixed 3 10 (pos n) (omega arith) (omega arith) (omega (arith, bound)) (omega (arith, bound)) in
-    let none : length (sign_text (is_negative (pos n))) ≡ 0 = ap (λ b. length (sign_text b)) (not_negative n) in
-    omega (arith, l, none)
-length_value (negsuc n) h =
-    let bound = least n h in
-    length-fixed 3 9 (negsuc n) (omega arith) (omega arith) (omega (arith, bound)) (omega (arith, bound))
-
 plain_value : (v : ℤ) → FitsColumns v → IsPlain 14 (right 14 (fixed 3 v))
-plain_value v h = grind (arith, clean-right, clean-fixed, small_value, length-right, length_value)
+plain_value v h = grind (arith, clean-right, clean-fixed, small_value, length-right, length-value)
 
 two_columns : (a b : ℕ) → (a ≡ 10 → ⊥) → (b ≡ 10 → ⊥) → IsPlain 2 (a ∷ b ∷ [])
 two_columns a b h k = grind arith
@@ -130,10 +108,6 @@ strength_other (Some s) e = absurd (omega (arith, e))
 
 blank_other : ◌≡◌ {A = ℕ} 32 10 → ⊥
 blank_other e = absurd (omega (arith, e))
-
-strength_fits : (s : Option ℤ) → IfSome s (IsFrom (pos 1) (pos 99_999)) → IfSome s FitsColumns
-strength_fits None h = tt
-strength_fits (Some s) h = let low = h.0 in let high = h.1 in (omega (arith, ints, low), omega (arith, ints, high))
 
 plain_entry : (e : SignalValues) → AreSignalValues e → IsPlain 64 (signal_text e)
 unfolding signal_text
@@ -162,10 +136,6 @@ plain_trimmed n text is = grind (arith, filled, has-append, length-trimmed, or_f
 plain_number : (n : ℕ) → n < 100 → IsPlain 2 (padded 2 n)
 plain_number n h = grind (arith, length-padded, clean-padded)
 
-few_satellites : (system : System) → satellites system ≤ 36
-few_satellites Gps = lit≤ tt
-few_satellites Galileo = lit≤ tt
-
 line_of_row : (letter signals most : ℕ) (r : Row) → IsRow most signals r → (letter == 10) ≡ false → most ≤ 36 → signals ≤ 19 → IsFileLine (trimmed (row_text letter r) ++ 10 ∷ [])
 line_of_row letter signals most r is other few less =
     let count = is.whole in
@@ -179,10 +149,7 @@ line_of_row letter signals most r is other few less =
 line_of_seen : (gps galileo : ℕ) (s : SatelliteRow) → IsSatelliteRow gps galileo s → gps ≤ 19 → galileo ≤ 19 → IsFileLine (satellite_line s)
 unfolding satellite_line
 line_of_seen gps galileo s is few less =
-    line_of_row (letter_of s.system) (of_system s.system gps galileo) (satellites s.system) s.row is.row (no_letter s.system) (few_satellites s.system) (either_few s.system) where
-      either_few : (system : System) → of_system system gps galileo ≤ 19
-      either_few Gps = few
-      either_few Galileo = less
+    line_of_row (letter_of s.system) (of_system s.system gps galileo) (satellites s.system) s.row is.row (no_letter s.system) (few_satellites s.system) (either_few s.system gps galileo few less)
 
 -- ---- the whole
 

@@ -1,6 +1,6 @@
 -- Epochs that were gathered from messages make a file value.
 use Rattle.std.proofs.Common.{◌≡◌, ℕ, zero, suc, ℤ, ◌+◌, ◌<◌, ◌≤◌, ◌==◌, Bool, true, false, ◌||◌, ◌&&◌, List, [], ◌∷◌, ◌++◌, filter, map, length, get_or, refl, sym, ap, ap₂, ◌∙◌, subst, arith, Option, Some, None, is_some}
-use Rattle.std.specs.Prelude.{if◌then◌else◌, cond, find, IsTrue, Any, slice_index}
+use Rattle.std.specs.Prelude.{if◌then◌else◌, cond, find, IsTrue, Any}
 use Rattle.std.specs.Option.{option_map_or}
 use Rattle.std.specs.List.{AllByRecursion, IsDistinct}
 use Rattle.std.specs.List.Sorted.{IsStrictlyIncreasing}
@@ -33,10 +33,7 @@ all_append P (x ∷ xs) ys h k = (h.0, all_append P xs ys h.1 k)
 
 all_filter : {X : Type 0} (P : X → Type 0) (p : X → Bool) (xs : List X) → AllByRecursion P xs → AllByRecursion (λ x. P x × (p x ≡ true)) (filter p xs)
 all_filter P p [] h = tt
-all_filter P p (x ∷ xs) h = by (p x) refl (all_filter P p xs h.1) where
-  by : (b : Bool) → p x ≡ b → AllByRecursion (λ y. P y × (p y ≡ true)) (filter p xs) → AllByRecursion (λ y. P y × (p y ≡ true)) (cond b (x ∷ filter p xs) (filter p xs))
-  by true e k = ((h.0, e), k)
-  by false e k = k
+all_filter P p (x ∷ xs) h = grind (arith, (all_filter P p xs h.1))
 
 all_map : {X Y : Type 0} (f : X → Y) (P : X → Type 0) (Q : Y → Type 0) → ((x : X) → P x → Q (f x)) → (xs : List X) → AllByRecursion P xs → AllByRecursion Q (map f xs)
 all_map f P Q h [] k = tt
@@ -53,9 +50,7 @@ rises : (xs : List ℕ) → Rise xs → IsStrictlyIncreasing xs
 rises [] h k less = absurd (omega (arith, less))
 rises (x ∷ []) h k less = absurd (omega (arith, less))
 rises (x ∷ y ∷ xs) h zero less = h.0.0
-rises (x ∷ y ∷ xs) h (suc k) less =
-    let next : suc k + 1 ≡ suc (k + 1) = omega arith in
-    subst (λ n. slice_index (x ∷ y ∷ xs) (suc k) < slice_index (x ∷ y ∷ xs) n) (sym next) (rises (y ∷ xs) h.1 k (omega (arith, less)))
+rises (x ∷ y ∷ xs) h (suc k) less = grind (arith, (rises (y ∷ xs) h.1 k (omega (arith, less))))
 
 below_all : (m : ℕ) (xs ys : List ℕ) → AllByRecursion (λ x. x < m) xs → AllByRecursion (λ y. m ≤ y) ys → Rise xs → Rise ys → Rise (xs ++ ys)
 below_all m [] ys h k r s = s
@@ -289,9 +284,7 @@ changes v w h = by (same_values v w) refl where
 
 changes_are : (plan : PlanValue) (v : StationValues) (es : List Closed) → AllByRecursion (IsGatheredEpoch plan) es → AreChanges v (all_stamped plan v es)
 changes_are plan v [] h = tt
-changes_are plan v (e ∷ es) h =
-    let c = changes v e.values h.0.values in
-    (c.0, subst (λ w. AreChanges w (all_stamped plan e.values es)) (sym c.1) (changes_are plan e.values es h.1))
+changes_are plan v (e ∷ es) h = grind (arith, changes, (changes_are plan e.values es h.1))
 
 first_same : (v : StationValues) → change_from v v ≡ None
 first_same v = ap (λ (b : Bool). if b then None else Some v) (same_self v)

@@ -1,21 +1,17 @@
 -- The line of a satellite by its own cells.
-use Rattle.std.proofs.Common.{arith, ◌≡◌, ℕ, ◌==◌, Bool, true, false, ◌&&◌, List, [], ◌∷◌, map, filter, ap₂, refl, Some}
-use Rattle.std.specs.Prelude.{if◌then◌else◌, cond, find}
+use Rattle.std.proofs.Common.{arith, ◌≡◌, ℕ, List, [], ◌∷◌, map, filter, ap₂, refl}
+use Rattle.std.specs.Prelude.{find}
 use Rattle.std.specs.Option.{option_map_or}
 use Rattle.gnss_obs.specs.declared.system.System.{System}
 use Rattle.obs_epoch.specs.declared.cell.Cell.{Cell}
-use Rattle.obs_epoch.specs.Values.{PlanValue, planned_of, is_of_satellite}
+use Rattle.obs_epoch.specs.Values.{PlanValue, is_of_satellite}
 use Rattle.rinex_file.proofs.SatelliteGroups.{any_from}
 use Rattle.rinex_file.specs.Value.{is_of_key, signal_values_at, signal_values_of, no_signal_values}
 use Rattle.rinex_file.specs.File.{line_among}
 
 find_from : (id index : ℕ) (cells : List Cell) → find (is_of_key id index) (filter (is_of_satellite id) cells) ≡ find (is_of_key id index) cells
 find_from id index [] = refl
-find_from id index (c ∷ cells) = by (c.satellite.id == id) refl (find_from id index cells) where
-  by : (b : Bool) → (c.satellite.id == id) ≡ b → find (is_of_key id index) (filter (is_of_satellite id) cells) ≡ find (is_of_key id index) cells
-      → find (is_of_key id index) (cond b (c ∷ filter (is_of_satellite id) cells) (filter (is_of_satellite id) cells)) ≡ (if b && (c.signal.index == index) then Some c else find (is_of_key id index) cells)
-  by true e h = ap₂ (λ v w. if v && (c.signal.index == index) then Some c else w) e h
-  by false e h = h
+find_from id index (c ∷ cells) = grind (arith, (find_from id index cells))
 
 entries_from : (id : ℕ) (cells : List Cell) (signals : List ℕ) → map (signal_values_at (filter (is_of_satellite id) cells) id) signals ≡ map (signal_values_at cells id) signals
 entries_from id cells [] = refl

@@ -4,7 +4,6 @@ use Rattle.std.specs.Prelude.{All, map, flat_map}
 use Rattle.std.proofs.lemmas.List.{take_all}
 use Rattle.gnss_obs.specs.declared.system.System.{System}
 use Rattle.gnss_obs.specs.declared.system.System.TheVariants.{Gps, Galileo}
-use Rattle.gnss_obs.specs.Satellites.{satellites}
 use Rattle.obs_epoch.specs.Dates.{civil_of}
 use Rattle.rinex_file.specs.Value.{SatelliteRow, Stamped, FileValue}
 use Rattle.rinex_file.specs.FileValues.{IsSatelliteRow, IsFileValue, of_system}
@@ -14,13 +13,10 @@ use Rattle.rinex_file.specs.Lines.{epoch_line, satellite_line}
 use Rattle.rinex_file.specs.File.{header_text, change_lines, stamped_lines, file_text, lines_of_parts}
 use Rattle.rinex_file.specs.Read.Keeping.{HasRoom, HaveRowsRoom, stamped_text}
 use Rattle.rinex_file.proofs.PlainHeader.{few_signals_of}
+use Rattle.rinex_file.proofs.RowText.{few_satellites}
 use Rattle.rinex_file.proofs.Sent.{joined-append}
 
-few_satellites : (s : System) → satellites s < 100
-few_satellites Gps = omega arith
-few_satellites Galileo = omega arith
-
-either_few : (s : System) (gps galileo : ℕ) → gps ≤ 19 → galileo ≤ 19 → of_system s gps galileo ≤ 19
+pub either_few : (s : System) (gps galileo : ℕ) → gps ≤ 19 → galileo ≤ 19 → of_system s gps galileo ≤ 19
 either_few Gps gps galileo few less = few
 either_few Galileo gps galileo few less = less
 
@@ -71,10 +67,4 @@ parts v first (e ∷ es) some at =
 -- header and epochs were written
 pub all_written : (v w : FileValue) (first : Stamped) (es : List Stamped) (old new : List ℕ) (n : ℕ) → v ≡ w → IsFileValue v → es ≡ v.epochs → first ≡ get_or es 0 first → length es ≤ n
     → new ≡ (old ++ header_text w.texts w.plan w.values first.time) ++ flat_map stamped_text (take n es) → new ≡ old ++ file_text w
-all_written v w first es old new n same is those at all written =
-    let own = is.some in
-    let shape : header_text v.texts v.plan v.values first.time ++ flat_map stamped_text es ≡ file_text v =
-    parts v first es (rw those own) at ∙ ap (λ (xs : List Stamped). joined (lines_of_parts v.texts v.plan v.values xs)) those in
-    written ∙ ap (λ (xs : List Stamped). (old ++ header_text w.texts w.plan w.values first.time) ++ flat_map stamped_text xs) (take_all n es all)
-    ∙ append_assoc old (header_text w.texts w.plan w.values first.time) (flat_map stamped_text es)
-    ∙ ap (λ l. old ++ l) (ap (λ (x : FileValue). header_text x.texts x.plan x.values first.time ++ flat_map stamped_text es) (sym same) ∙ shape ∙ ap file_text same)
+all_written v w first es old new n same is those at all written = grind (arith, parts, take_all, append_assoc)

@@ -1,5 +1,5 @@
 -- The line of a satellite is read back, so it determines the satellite.
-use Rattle.std.proofs.Common.{arith, ◌≡◌, ℕ, suc, ◌+◌, ◌-◌, ◌*◌, ◌/◌, ◌%◌, ◌^◌, ◌<◌, ◌≤◌, List, [], ◌∷◌, ◌++◌, length, take, drop, replicate, get_or, refl, sym, ap, ap₂, ◌∙◌, append_assoc, length-append, append-nil, ℤ, pos, negsuc, unsigned_abs, to_z, of_z, w64, Option, Some, None, IfSome}
+use Rattle.std.proofs.Common.{arith, lit≤, ◌≡◌, ℕ, suc, ◌+◌, ◌-◌, ◌*◌, ◌/◌, ◌%◌, ◌^◌, ◌<◌, ◌≤◌, List, [], ◌∷◌, ◌++◌, length, take, drop, replicate, get_or, refl, sym, ap, ap₂, ◌∙◌, append_assoc, length-append, append-nil, ℤ, pos, negsuc, unsigned_abs, to_z, of_z, w64, Option, Some, None, IfSome}
 use Rattle.std.specs.Prelude.{if◌then◌else◌, ◌||◌, ◌==◌, Bool, neg_ℤ, decimal, flat_map, All}
 use Rattle.std.proofs.lemmas.Fmt.{decimal_nonempty}
 use Rattle.rinex_file.proofs.Columns.{length-three}
@@ -200,12 +200,13 @@ all_values_fit es all = All-weaker AreSignalValues HaveRoom values_fit es all
 four_lengths : (a b c d : List ℕ) → length a ≡ 16 → length b ≡ 16 → length c ≡ 16 → length d ≡ 16 → length (a ++ (b ++ (c ++ d))) ≡ 64
 four_lengths a b c d k l m n = simp length-append (omega (arith, k, l, m, n))
 
-pub length-columns : (e : SignalValues) → IfSome e.c FitsColumns → IfSome e.l FitsColumns → IfSome e.d FitsColumns → IfSome e.s FitsColumns → length (signal_text e) ≡ 64
+pub length-room : (e : SignalValues) → HaveRoom e → length (signal_text e) ≡ 64
 unfolding signal_text
-length-columns e c l d s = grind (arith, four_lengths, length-field)
+length-room e h = grind (arith, four_lengths, length-field, h.c, h.l, h.d, h.s)
 
-pub length-entry : (e : SignalValues) → AreSignalValues e → length (signal_text e) ≡ 64
-length-entry e h = length-columns e h.c h.l h.d (strength_fits e.s h.s)
+pub length-signals : (es : List SignalValues) → All HaveRoom es → length (flat_map signal_text es) ≡ 64 * length es
+length-signals [] all = refl
+length-signals (e ∷ es) all = grind (arith, length-append, (length-room e (All-head HaveRoom e es all)), (length-signals es (All-tail HaveRoom e es all)))
 
 pub entry_in-text : (e : SignalValues) (rest : List ℕ) → AreSignalValues e → signal_values_in (signal_text e ++ rest) ≡ e
 unfolding signal_values_in signal_text
@@ -232,38 +233,21 @@ entry_in-text e rest h =
 entry_alone : (e : SignalValues) → AreSignalValues e → signal_values_in (signal_text e) ≡ e
 entry_alone e h = ap signal_values_in (sym (append-nil (signal_text e))) ∙ entry_in-text e [] h
 
-rest_lengths : (a b : List ℕ) (n : ℕ) → length a ≡ 64 → length b ≡ 64 * n → length (a ++ b) ≡ 64 * suc n
-rest_lengths a b n l m = simp length-append (omega (arith, l, m))
-
 pub entries_in-text : (es : List SignalValues) → All AreSignalValues es → signals_in (length es) (flat_map signal_text es) ≡ es
 entries_in-text [] all = refl
 entries_in-text (e ∷ es) all =
     let one = All-head AreSignalValues e es all in
     let more = All-tail AreSignalValues e es all in
-    let l = length-entry e one in
+    let l = length-room e (values_fit e one) in
     ap (λ t. signal_values_in t ∷ signals_in (length es) (drop 64 (signal_text e ++ flat_map signal_text es))) (take_at (signal_text e) (flat_map signal_text es) 64 l)
     ∙ ap (λ x. x ∷ signals_in (length es) (drop 64 (signal_text e ++ flat_map signal_text es))) (entry_alone e one)
     ∙ ap (λ t. e ∷ signals_in (length es) t) (drop_at (signal_text e) (flat_map signal_text es) 64 l)
     ∙ ap (λ xs. e ∷ xs) (entries_in-text es more)
 
-pub length-signal_values : (es : List SignalValues) → All AreSignalValues es → length (flat_map signal_text es) ≡ 64 * length es
-length-signal_values [] all = refl
-length-signal_values (e ∷ es) all =
-    let l = length-entry e (All-head AreSignalValues e es all) in
-    let more = length-signal_values es (All-tail AreSignalValues e es all) in
-    rest_lengths (signal_text e) (flat_map signal_text es) (length es) l more
-
 -- ---- the line
 
-made_row : ℕ → List SignalValues → Row
-made_row n es = record { satellite = n; signal_values = es }
-
-same_row_parts : (m n : ℕ) (es fs : List SignalValues) → m ≡ n → es ≡ fs → made_row m es ≡ made_row n fs
-same_row_parts m n es fs p q = cc
-
-pub same_row : (x y : Row) → x.satellite ≡ y.satellite → x.signal_values ≡ y.signal_values → x ≡ y
-unfolding made_row
-same_row x y p q = same_row_parts x.satellite y.satellite x.signal_values y.signal_values p q
+same_row : (x y : Row) → x.satellite ≡ y.satellite → x.signal_values ≡ y.signal_values → x ≡ y
+same_row x y p q = ap₂ (λ (n : ℕ) (es : List SignalValues). record { satellite = n; signal_values = es }) p q
 
 row_lengths : (letter : ℕ) (p f : List ℕ) (n : ℕ) → length p ≡ 2 → length f ≡ 64 * n → length (letter ∷ (p ++ f)) ≡ 3 + 64 * n
 row_lengths letter p f n k l = ap suc (length-append p f) ∙ omega (arith, k, l)
@@ -276,7 +260,7 @@ module _ (letter signals : ℕ) (r : Row) (most : ℕ) (is : IsRow most signals 
   two = length-padded 2 r.satellite (omega arith) small (omega (arith, small))
 
   pub length-row : length (row_text letter r) ≡ 3 + 64 * signals
-  length-row = row_lengths letter (padded 2 r.satellite) (flat_map signal_text r.signal_values) signals two (length-signal_values r.signal_values is.signal_values ∙ ap (λ n. 64 * n) is.whole)
+  length-row = row_lengths letter (padded 2 r.satellite) (flat_map signal_text r.signal_values) signals two (length-signals r.signal_values (all_values_fit r.signal_values is.signal_values) ∙ ap (λ n. 64 * n) is.whole)
 
   pub row_in-text : row_in signals (row_text letter r) ≡ r
   row_in-text =
@@ -305,19 +289,12 @@ front_line s = ap (λ t. t ++ 10 ∷ []) (trimmed-front (letter_of s.system) (pa
 pub first_byte : (s : SatelliteRow) → (0 < length (satellite_line s)) × (get_or (satellite_line s) 0 0 ≡ letter_of s.system)
 first_byte s = grind (arith, front_line)
 
-pub most_few : (s : System) → satellites s < 100
-most_few Gps = omega arith
-most_few Galileo = omega arith
+pub few_satellites : (s : System) → satellites s ≤ 36
+few_satellites Gps = lit≤ tt
+few_satellites Galileo = lit≤ tt
 
-made_seen : System → Row → SatelliteRow
-made_seen s r = record { system = s; row = r }
-
-same_seen_parts : (s t : System) (q r : Row) → s ≡ t → q ≡ r → made_seen s q ≡ made_seen t r
-same_seen_parts s t q r e f = cc
-
-pub same_seen : (s t : SatelliteRow) → s.system ≡ t.system → s.row ≡ t.row → s ≡ t
-unfolding made_seen
-same_seen s t e f = same_seen_parts s.system t.system s.row t.row e f
+same_seen : (s t : SatelliteRow) → s.system ≡ t.system → s.row ≡ t.row → s ≡ t
+same_seen s t e f = ap₂ (λ (system : System) (row : Row). record { system = system; row = row }) e f
 
 -- ---- a satellite is read from its line, padded with blanks
 
@@ -327,4 +304,4 @@ unfolding satellite_line
 seen_in-line system signals v line filled same is e fill =
     let text = trimmed (row_text (letter_of v.system) v.row) in
     same_seen (satellite_row_in system signals filled) v (sym same)
-    (ap (row_in signals) (fill text e) ∙ row_in-line (letter_of v.system) signals v.row (satellites system) is (most_few system))
+    (ap (row_in signals) (fill text e) ∙ row_in-line (letter_of v.system) signals v.row (satellites system) is (omega (arith, few_satellites system)))

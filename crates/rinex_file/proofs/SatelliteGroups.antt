@@ -1,10 +1,10 @@
 -- The cells of one satellite, in a list in the order of satellites.
-use Rattle.std.proofs.Common.{◌≡◌, ℕ, zero, suc, ◌+◌, ◌-◌, ◌<◌, ◌≤◌, ◌==◌, Bool, true, false, ◌||◌, ◌&&◌, List, [], ◌∷◌, filter, take, drop, refl, sym, ap, ap₂, ◌∙◌, subst, arith, length}
+use Rattle.std.proofs.Common.{◌≡◌, ℕ, zero, suc, ◌+◌, ◌-◌, ◌<◌, ◌≤◌, Bool, true, false, List, [], ◌∷◌, filter, take, drop, refl, sym, ap, ap₂, ◌∙◌, subst, arith, length}
 use Rattle.std.specs.Prelude.{if◌then◌else◌, cond}
 use Rattle.std.specs.List.{AllByRecursion}
 use Rattle.std.proofs.lemmas.List.{drop-drop}
 use Rattle.obs_epoch.specs.declared.cell.Cell.{Cell}
-use Rattle.obs_epoch.specs.Values.{has_value, is_written, is_of_satellite, run}
+use Rattle.obs_epoch.specs.Values.{is_written, is_of_satellite, run}
 use Rattle.obs_epoch.proofs.GroupLemmas.{Above, Climb, Left}
 
 climb-drop : (n : ℕ) (cells : List Cell) → Climb cells → Climb (drop n cells)
@@ -23,10 +23,7 @@ all_above n m (c ∷ cells) lt h = (omega (arith, lt, h.0), all_above n m cells 
 
 none_above : (n : ℕ) (cells : List Cell) → Above n cells → filter (is_of_satellite n) cells ≡ []
 none_above n [] h = refl
-none_above n (c ∷ cells) h = by (c.satellite.id == n) refl (none_above n cells h.1) where
-  by : (b : Bool) → (c.satellite.id == n) ≡ b → filter (is_of_satellite n) cells ≡ [] → cond b (c ∷ filter (is_of_satellite n) cells) (filter (is_of_satellite n) cells) ≡ []
-  by true e k = absurd (grind (arith, e, h.0))
-  by false e k = k
+none_above n (c ∷ cells) h = grind (arith, (none_above n cells h.1))
 
 parted_by : (n id : ℕ) (c : Cell) (cells : List Cell) (b : Bool) → is_of_satellite id c ≡ b → n < c.satellite.id → id ≡ suc n → AllByRecursion (λ (d : Cell). c.satellite.id ≤ d.satellite.id) cells
     → Parted id cells → Parted id (c ∷ cells)
@@ -62,11 +59,7 @@ parted n id (c ∷ cells) is up h = parted_by n id c cells (is_of_satellite id c
 -- Whether a satellite is written depends on its own cells only.
 pub any_from : (id : ℕ) (cells : List Cell) → is_written (filter (is_of_satellite id) cells) id ≡ is_written cells id
 any_from id [] = refl
-any_from id (c ∷ cells) = by (c.satellite.id == id) refl (any_from id cells) where
-  by : (b : Bool) → (c.satellite.id == id) ≡ b → is_written (filter (is_of_satellite id) cells) id ≡ is_written cells id
-      → is_written (cond b (c ∷ filter (is_of_satellite id) cells) (filter (is_of_satellite id) cells)) id ≡ ((b && has_value c) || is_written cells id)
-  by true e h = ap₂ (λ v w. (v && has_value c) || w) e h
-  by false e h = h
+any_from id (c ∷ cells) = grind (arith, (any_from id cells))
 
 drop_plus : (a b : ℕ) (cells : List Cell) → drop b (drop a cells) ≡ drop (a + b) cells
 drop_plus a b cells = drop-drop b a cells
@@ -77,16 +70,4 @@ pub record Further (n from to id : ℕ) (cells : List Cell) : Type 0 where
   pub left : Left id to cells
 
 pub further : (n from to id : ℕ) (cells : List Cell) → id ≡ suc n → to ≡ from + run id (drop from cells) → to ≤ length cells → Climb cells → Left n from cells → Further n from to id cells
-further n from to id cells is at within climb h =
-    let part = parted n id (drop from cells) is (climb-drop from cells climb) h.above in
-    let size : to - from ≡ run id (drop from cells) = omega (arith, at) in
-    let lower : n < id = omega (arith, is) in
-    let same : drop (run id (drop from cells)) (drop from cells) ≡ drop to cells = drop_plus from (run id (drop from cells)) cells ∙ ap (λ k. drop k cells) (sym at) in
-    record {
-      group = h.rest id lower ∙ part.group ∙ ap (λ k. take k (drop from cells)) (sym size);
-      left = record {
-        within = within;
-        above = subst (Above id) same part.above;
-        rest = λ later l. h.rest later (omega (arith, lower, l)) ∙ part.rest later l ∙ ap (filter (is_of_satellite later)) same;
-      };
-    }
+further n from to id cells is at within climb h = grind (arith, parted, climb-drop, drop_plus)

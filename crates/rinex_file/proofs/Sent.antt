@@ -12,7 +12,7 @@ use Rattle.obs_epoch.specs.declared.cell.Cell.{Cell}
 use Rattle.obs_epoch.specs.Dates.{civil_of}
 use Rattle.obs_epoch.specs.Values.{PlanValue, EpochValue, is_written, written_among, satellites_written}
 use Rattle.rinex_file.specs.Numbers.{joined}
-use Rattle.rinex_file.specs.Value.{numbers, written_satellites, row_among, row_in_epoch, rows_of}
+use Rattle.rinex_file.specs.Value.{written_satellites, row_among, row_in_epoch, rows_of}
 use Rattle.rinex_file.specs.Lines.{satellite_line, epoch_line}
 use Rattle.obs_epoch.specs.declared.cell.StationValues.{StationValues}
 use Rattle.rinex_file.specs.Header.{position_line, delta_line}
@@ -29,11 +29,7 @@ part_first a c text next rest is part = part_after a a c text [] next rest is (A
 
 pub filter-append : {X : Type 0} (test : X → Bool) (xs ys : List X) → filter test (xs ++ ys) ≡ filter test xs ++ filter test ys
 filter-append test [] ys = refl
-filter-append test (x ∷ xs) ys =
-    elim (test x) as (λ b. (if b then x ∷ filter test (xs ++ ys) else filter test (xs ++ ys)) ≡ (if b then x ∷ filter test xs else filter test xs) ++ filter test ys) [
-      | true ↦ ap (λ l. x ∷ l) (filter-append test xs ys)
-      | false ↦ filter-append test xs ys
-    ]
+filter-append test (x ∷ xs) ys = grind (arith, (filter-append test xs ys))
 
 pub joined-append : (xs ys : List (List ℕ)) → joined (xs ++ ys) ≡ joined xs ++ joined ys
 joined-append xs ys = flat_map-append (λ l. l) xs ys
@@ -122,11 +118,7 @@ one_more n false = refl
 length-written : (cells : List Cell) (n : ℕ) → length (written_satellites cells n) ≡ written_among cells n
 unfolding written_among
 length-written cells zero = refl
-length-written cells (suc n) =
-    ap length (filter-append (is_written cells) (numbers n) (suc n ∷ []))
-    ∙ length-append (written_satellites cells n) (if is_written cells (suc n) then suc n ∷ [] else [])
-    ∙ ap (λ k. k + length (if is_written cells (suc n) then suc n ∷ [] else [])) (length-written cells n)
-    ∙ ap (λ k. written_among cells n + k) (one_more n (is_written cells (suc n)))
+length-written cells (suc n) = grind (arith, filter-append, length-append, one_more, (length-written cells n))
 
 length-of : {X : Type 0} (f : ℕ → X) (ids : List ℕ) → length (map f ids) ≡ length ids
 length-of f [] = refl
@@ -145,6 +137,31 @@ epoch_parts p e =
     ap (λ n. epoch_line (civil_of e.time) n ++ joined (map satellite_line (rows_of p e Gps ++ rows_of p e Galileo))) (length-rows p e)
     ∙ ap (λ l. epoch_line (civil_of e.time) (satellites_written e) ++ joined l) (map-append satellite_line (rows_of p e Gps) (rows_of p e Galileo))
     ∙ ap (λ l. epoch_line (civil_of e.time) (satellites_written e) ++ l) (joined-append (map satellite_line (rows_of p e Gps)) (map satellite_line (rows_of p e Galileo)))
+
+-- its lines, one after the other
+module _ (p : PlanValue) (e : EpochValue) (a b c d : Option (List ℕ)) (line : List ℕ) (is : line ≡ epoch_line (civil_of e.time) (satellites_written e)) where
+  abbrev gps : List ℕ
+  gps = lines_up_to p e Gps (satellites_in Gps)
+
+  abbrev galileo : List ℕ
+  galileo = lines_up_to p e Galileo (satellites_in Galileo)
+
+  parts : epoch_text p e ≡ line ++ (gps ++ galileo)
+  parts = epoch_parts p e ∙ ap (λ l. l ++ (gps ++ galileo)) (sym is)
+
+  pub epoch_first : AppendsPrefix a b line → AppendsPrefix a b (epoch_text p e)
+  epoch_first part = part_first a b (epoch_text p e) line (gps ++ galileo) parts part
+
+  pub epoch_second : Appends a b line → AppendsPrefix b c (lines_up_to p e Gps (satellites_in Gps)) → AppendsPrefix a c (epoch_text p e)
+  epoch_second first part = part_after a b c (epoch_text p e) line gps galileo parts first part
+
+  pub epoch_third : Appends a b line → Appends b c (lines_up_to p e Gps (satellites_in Gps)) → AppendsPrefix c d (lines_up_to p e Galileo (satellites_in Galileo)) → AppendsPrefix a d (epoch_text p e)
+  epoch_third first second part =
+      part_after a c d (epoch_text p e) (line ++ gps) galileo [] (parts ∙ sym (append_assoc line gps galileo) ∙ ap (λ l. (line ++ gps) ++ l) (sym (append-nil galileo)))
+      (Appends-trans a b c line gps first second) part
+
+  pub epoch_whole : Appends a b line → Appends b c (lines_up_to p e Gps (satellites_in Gps)) → Appends c d (lines_up_to p e Galileo (satellites_in Galileo)) → Appends a d (epoch_text p e)
+  epoch_whole first second third = subst (λ l. Appends a d l) (sym parts) (Appends-trans a b d line (gps ++ galileo) first (Appends-trans b c d gps galileo second third))
 
 -- ---- what holds of a call that failed
 

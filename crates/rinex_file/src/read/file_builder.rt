@@ -6,7 +6,6 @@ ghost use Rattle.rinex_file.specs.Read.Steps.{file_at};
 ghost use Rattle.rinex_file.specs.Read.Keeping.{history_of};
 
 use crate::read::expected::Added;
-use crate::read::head_so_far::HeadSoFar;
 use crate::read::parser_state::ParserState;
 use crate::values::kept::{KeptEpoch, KeptRow, KeptSatellite};
 use crate::values::obs_file::ObsFile;
@@ -82,18 +81,12 @@ impl FileBuilder {
         requires history { FollowsHistory parser_state (history_of self) }
         ensures { IfOk result (λ f. f ≡ file_at parser_state (history_of self)) }
     {
-        let HeadSoFar {
-            texts,
-            gps,
-            galileo,
-            values,
-            ..
-        } = parser_state.head;
-        match Plan::from_signals(self.alloc, gps.as_slice(), galileo.as_slice()) {
+        let head = parser_state.head;
+        match Plan::from_signals(self.alloc, head.gps.as_slice(), head.galileo.as_slice()) {
             Ok(plan) => Ok(ObsFile {
-                texts,
+                texts: head.texts,
                 plan,
-                values,
+                values: head.values,
                 epochs: self.epochs,
                 satellites: parser_state.satellites,
                 events: parser_state.events,

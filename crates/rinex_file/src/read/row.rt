@@ -5,8 +5,8 @@ ghost use Rattle.arrayvec.specs.ArrayVec.{array_vec_len};
 ghost use Rattle.gnss_obs.specs.declared.system.System.{System};
 ghost use Rattle.gnss_obs.specs.Satellites.{satellites};
 ghost use Rattle.rinex_file.specs.FileValues.{IsFrom, AreSignalValues, IsRow, IsSatelliteRow};
-ghost use Rattle.rinex_file.specs.FileValues.{has_some_value, of_system};
-ghost use Rattle.rinex_file.specs.Lines.{satellite_line, letter_of};
+ghost use Rattle.rinex_file.specs.FileValues.{has_some_value};
+ghost use Rattle.rinex_file.specs.Lines.{satellite_line};
 ghost use Rattle.rinex_file.specs.Read.Fields.{ReadsExactly, some_if};
 ghost use Rattle.rinex_file.specs.Read.Row.{signal_values_in, signals_in, satellite_row_in};
 ghost use Rattle.rinex_file.specs.Limits.{most_line, signal_columns, most_signals};
@@ -132,27 +132,6 @@ fn fill(text: &[u8], signals: usize, filled: &mut Line)
     put_blanks(filled, blanks);
 }
 
-/// Returns the first value for GPS, the second for Galileo.
-fn of_system(system: System, gps: usize, galileo: usize) -> usize
-    ensures { result ≡ of_system system gps galileo }
-{
-    match system {
-        System::Gps => gps,
-        System::Galileo => galileo,
-    }
-}
-
-/// Returns the system whose letter the line begins with.
-fn system_of(line: &[u8]) -> Option<System>
-    ensures { (s : System) → 0 < length line.now → slice_index line.now 0 ≡ letter_of s → result ≡ Some s }
-{
-    match line.first() {
-        Some(b'G') => Some(System::Gps),
-        Some(b'E') => Some(System::Galileo),
-        _ => None,
-    }
-}
-
 /// Reads the satellite of this system in a line. Returns whether the line is that of one.
 fn read_of(
     line: &[u8],
@@ -189,13 +168,9 @@ pub(crate) fn read_seen(
     requires few { (gps ≤ most_signals) × (galileo ≤ most_signals) }
     ensures { ReadsExactly (IsSatelliteRow gps galileo) satellite_line line.now (some_if result seen.new) }
 {
-    let system = match system_of(line) {
-        Some(system) => system,
-        None => return false,
-    };
-    let signals = of_system(system, gps, galileo);
-    if signals == 0 {
-        return false;
+    match line.first() {
+        Some(b'G') => read_of(line, again, System::Gps, gps, seen),
+        Some(b'E') => read_of(line, again, System::Galileo, galileo, seen),
+        _ => false,
     }
-    read_of(line, again, system, signals, seen)
 }

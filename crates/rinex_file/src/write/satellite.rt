@@ -9,7 +9,7 @@ ghost use Rattle.rinex_file.specs.FileValues.{FitsColumns, HaveRoom};
 ghost use Rattle.rinex_file.specs.Value.{no_signal_values, satellite_row, entries_of, row_among, row_in_epoch};
 ghost use Rattle.rinex_file.specs.Numbers.{padded};
 ghost use Rattle.rinex_file.specs.Blanks.{trimmed};
-ghost use Rattle.rinex_file.specs.Lines.{field, strength_byte, signal_text, letter_of, satellite_line};
+ghost use Rattle.rinex_file.specs.Lines.{field, lli_byte, strength_byte, signal_text, letter_of, satellite_line};
 ghost use Rattle.rinex_file.specs.Rows.{HasSignals};
 ghost use Rattle.rinex_file.specs.Limits.{most_line, signal_columns, value_columns, most_signals};
 
@@ -29,8 +29,9 @@ fn put_value(columns: &mut [u8], value: i64, lost: u8, strength: u8)
     ensures size { length columns.new ≡ value_columns }
 {
     let words = columns_of(value.unsigned_abs(), lost, strength);
-    columns[..8].copy_from_slice(&words.first.to_le_bytes());
-    columns[8..].copy_from_slice(&words.last.to_le_bytes());
+    let (first, last) = columns.split_at_mut(8);
+    first.copy_from_slice(&words.first.to_le_bytes());
+    last.copy_from_slice(&words.last.to_le_bytes());
     if value < 0 {
         columns[words.start - 1] = b'-';
     }
@@ -48,6 +49,14 @@ fn put_field(columns: &mut [u8], value: Option<Thousandths>, lost: u8, strength:
         None => columns.fill(b' '),
         Some(value) => put_value(columns, value.value(), lost, strength),
     }
+}
+
+/// Returns the loss-of-lock (LLI) column of a phase.
+fn lli_column(lli: u8) -> u8
+    requires { lli < 4 }
+    ensures { result ≡ lli_byte lli }
+{
+    if lli == 0 { b' ' } else { b'0' + lli }
 }
 
 /// Returns the strength (SSI) column.
@@ -69,25 +78,13 @@ fn put_signal(columns: &mut [u8], values: &SignalValues)
     ensures size { length columns.new ≡ signal_columns }
 {
     let strength = strength_column(values.s);
-    let lost = if values.lli == 0 {
-        b' '
-    } else {
-        b'0' + values.lli
-    };
-    put_field(&mut columns[..VALUE_COLUMNS], values.c, b' ', strength);
-    put_field(
-        &mut columns[VALUE_COLUMNS..2 * VALUE_COLUMNS],
-        values.l,
-        lost,
-        strength,
-    );
-    put_field(
-        &mut columns[2 * VALUE_COLUMNS..3 * VALUE_COLUMNS],
-        values.d,
-        b' ',
-        b' ',
-    );
-    put_field(&mut columns[3 * VALUE_COLUMNS..], values.s, b' ', b' ');
+    let (c, rest) = columns.split_at_mut(VALUE_COLUMNS);
+    let (l, rest) = rest.split_at_mut(VALUE_COLUMNS);
+    let (d, s) = rest.split_at_mut(VALUE_COLUMNS);
+    put_field(c, values.c, b' ', strength);
+    put_field(l, values.l, lli_column(values.lli), strength);
+    put_field(d, values.d, b' ', b' ');
+    put_field(s, values.s, b' ', b' ');
 }
 
 /// Begins the line of a satellite with this number of planned signals: its letter and number,

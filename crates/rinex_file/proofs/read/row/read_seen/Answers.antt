@@ -1,52 +1,68 @@
-use Rattle.std.proofs.Common.{arith, ◌≡◌, ◌∙◌, sym, ap, ℕ, ◌<◌, get_or, List, Option, Some, None}
+use Rattle.std.proofs.Common.{arith, ◌≡◌, ◌≢◌, ◌∙◌, sym, ap, refl, ℕ, ◌<◌, List, Option, Some, None}
+use Rattle.std.specs.Prelude.{slice_get, option_copied}
 use Rattle.gnss_obs.specs.declared.system.System.{System}
+use Rattle.gnss_obs.specs.declared.system.System.TheVariants.{Gps, Galileo}
 use Rattle.gnss_obs.specs.Satellites.{satellites}
-use Rattle.rinex_file.specs.Value.{SatelliteRow}
+use Rattle.rinex_file.specs.Value.{Row, SatelliteRow}
 use Rattle.rinex_file.specs.FileValues.{IsSatelliteRow, IsRow, of_system}
-use Rattle.rinex_file.specs.Lines.{satellite_line}
+use Rattle.rinex_file.specs.Lines.{satellite_line, letter_of}
 use Rattle.rinex_file.specs.Read.Fields.{ReadsExactly}
-use Rattle.rinex_file.proofs.RowText.{first_byte}
+use Rattle.rinex_file.proofs.RowText.{front_line}
 use Rattle.rinex_file.proofs.read.row.read_seen.Goals as goal
-use Rattle.rinex_file.proofs.read.row.read_seen.Goals.{After-system_of}
 
 abbrev IsOf : System → ℕ → SatelliteRow → Type 0
 IsOf system signals s = (s.system ≡ system) × IsRow (satellites system) signals s.row
 
-is_seen : (gps galileo signals : ℕ) (system : System) (s : SatelliteRow) → signals ≡ of_system system gps galileo → 0 < signals → IsOf system signals s → IsSatelliteRow gps galileo s
-is_seen gps galileo signals system s e some (same, is) = grind arith
+-- a row with a value has a signal
+has_signal : (most signals : ℕ) (r : Row) → IsRow most signals r → 0 < signals
+has_signal most signals r is = let (k, d, less, at, value) = is.some in omega (arith, less, is.whole)
 
-is_of : (gps galileo signals : ℕ) (system : System) (s : SatelliteRow) → signals ≡ of_system system gps galileo → s.system ≡ system → IsSatelliteRow gps galileo s → IsOf system signals s
-is_of gps galileo signals system s e same is = grind arith
+is_seen : (gps galileo : ℕ) (system : System) (s : SatelliteRow) → IsOf system (of_system system gps galileo) s → IsSatelliteRow gps galileo s
+is_seen gps galileo system s (same, is) = grind (arith, has_signal)
 
--- if the line's letter is that of the system, each satellite is one of this system
-of_both : (gps galileo signals : ℕ) (system : System) (line : List ℕ) (r : Option SatelliteRow) → signals ≡ of_system system gps galileo → 0 < signals
-    → ((v : SatelliteRow) → line ≡ satellite_line v → v.system ≡ system) → ReadsExactly (IsOf system signals) satellite_line line r → ReadsExactly (IsSatelliteRow gps galileo) satellite_line line r
-of_both gps galileo signals system line None count some letter read = λ v is e. read v (is_of gps galileo signals system v count (letter v e) is) e
-of_both gps galileo signals system line (Some s) count some letter (is, text, only) = grind (arith, is_seen, is_of)
+is_of : (gps galileo : ℕ) (system : System) (s : SatelliteRow) → s.system ≡ system → IsSatelliteRow gps galileo s → IsOf system (of_system system gps galileo) s
+is_of gps galileo system s same is = grind arith
 
-same_some : (x : Option System) (s t : System) → x ≡ Some s → x ≡ Some t → t ≡ s
-same_some x s t e f = cc
+inside : (a b : ℕ) → Some a ≡ Some b → a ≡ b
+inside a b e = cc
 
-none_some : (s : System) → None ≡ Some s → ⊥
-none_some s e = cc
+one_letter : (s t : System) → letter_of s ≡ letter_of t → s ≡ t
+one_letter Gps Gps e = refl
+one_letter Galileo Galileo e = refl
+one_letter Gps Galileo e = absurd (omega (arith, e))
+one_letter Galileo Gps e = absurd (omega (arith, e))
 
--- the first letter of a line
-given : (c : After-system_of) (v : SatelliteRow) → c.args.line.now ≡ satellite_line v → c.system_of.result ≡ Some v.system
-given c v e = c.system_of.ensures v.system (rw e (first_byte v).0) (ap (λ l. get_or l 0 0) e ∙ (first_byte v).1)
+-- the first byte of a line
+first_is : (line : List ℕ) (v : SatelliteRow) → line ≡ satellite_line v → slice_get line 0 ≡ Some (letter_of v.system)
+first_is line v e = ap (λ l. slice_get l 0) (e ∙ front_line v)
 
-pub returns-in-None : goal.returns-in-None
-returns-in-None c = λ v is e. none_some v.system (sym c.in-None.is ∙ given ((goal.at.returns-in-None c).After-system_of) v e)
+-- if the line begins with the letter of a system, each satellite is one of this system
+of_both : (gps galileo : ℕ) (system : System) (line : List ℕ) (r : Option SatelliteRow) → slice_get line 0 ≡ Some (letter_of system)
+    → ReadsExactly (IsOf system (of_system system gps galileo)) satellite_line line r → ReadsExactly (IsSatelliteRow gps galileo) satellite_line line r
+of_both gps galileo system line None letter read =
+    λ v is e. read v (is_of gps galileo system v (one_letter v.system system (inside _ _ (sym (first_is line v e) ∙ letter))) is) e
+of_both gps galileo system line (Some s) letter (is, text, only) =
+    (is_seen gps galileo system s is, text, λ v also e. only v (is_of gps galileo system v (one_letter v.system system (inside _ _ (sym (first_is line v e) ∙ letter))) also) e)
 
-pub returns-then-signals-eq0 : goal.returns-then-signals-eq0
-returns-then-signals-eq0 c = λ v is e.
-    let system = same_some c.system_of.result c.in-Some.system v.system c.in-Some.is (given ((goal.at.returns-then-signals-eq0 c).After-system_of) v e) in
-    let count : c.of_system-signals.result ≡ of_system v.system c.args.gps c.args.galileo =
-    c.of_system-signals.ensures ∙ ap (λ s. of_system s c.args.gps c.args.galileo) (sym system) in
-    let planned = is.planned in
-    absurd (omega (arith, count, planned, c.if-signals-eq0.true))
+-- a line with another first byte is that of no satellite
+no_letter : (line : List ℕ) (b : ℕ) (v : SatelliteRow) → Some b ≡ slice_get line 0 → b ≢ 71 → b ≢ 69 → line ≡ satellite_line v → ⊥
+no_letter line b v at h k e = other b v.system h k (inside _ _ (at ∙ first_is line v e)) where
+  other : (b : ℕ) (system : System) → b ≢ 71 → b ≢ 69 → b ≡ letter_of system → ⊥
+  other b Gps h k e = h e
+  other b Galileo h k e = k e
 
-pub returns : goal.returns
-returns c =
-    let some : 0 < c.of_system-signals.result = omega (arith, c.if-signals-eq0.false) in
-    of_both c.args.gps c.args.galileo c.of_system-signals.result c.in-Some.system c.args.line.now _ c.of_system-signals.ensures some
-    (λ v e. same_some c.system_of.result c.in-Some.system v.system c.in-Some.is (given ((goal.at.returns c).After-system_of) v e)) c.read_of.ensures
+no_byte : (line : List ℕ) (v : SatelliteRow) → None ≡ slice_get line 0 → line ≡ satellite_line v → ⊥
+no_byte line v at e = let same : None ≡ Some (letter_of v.system) = at ∙ first_is line v e in cc
+
+pub returns-in-Some-eq71 : goal.returns-in-Some-eq71
+returns-in-Some-eq71 c = of_both c.args.gps c.args.galileo Gps c.args.line.now _ (sym c.in-Some-eq71.ensures.value ∙ ap Some c.in-Some-eq71.field-0-test) c.read_of.ensures
+
+pub returns-in-Some-eq69 : goal.returns-in-Some-eq69
+returns-in-Some-eq69 c =
+    of_both c.args.gps c.args.galileo Galileo c.args.line.now _ (sym c.in-Some-eq69.ensures.value ∙ ap Some c.in-Some-eq69.field-0-test) c.read_of-in-Some-eq69.ensures
+
+pub returns-in_default : goal.returns-in_default
+returns-in_default c = grind (arith, no_letter)
+
+pub returns-in_default-2 : goal.returns-in_default-2
+returns-in_default-2 c = λ v is e. no_byte c.args.line.now v (ap option_copied (sym c.in_default.is) ∙ c.first.ensures.value) e

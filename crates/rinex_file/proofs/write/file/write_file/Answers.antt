@@ -1,4 +1,4 @@
-use Rattle.std.proofs.Common.{arith, sym, subst, All}
+use Rattle.std.proofs.Common.{sym, subst, All}
 use Rattle.rinex_file.specs.Read.Keeping.{HaveRowsRoom}
 use Rattle.rinex_file.proofs.KeptFile.{lines_have_room, all_written}
 use Rattle.rinex_file.proofs.write.file.write_file.Goals as goal

@@ -14,8 +14,7 @@ few : (n m : ℕ) → n ≤ m → m ≤ 19 → n ≤ 19
 few n m a b = omega (arith, a, b)
 
 pub put_cells-requires-clause-few : goal.put_cells-requires-clause-few
-put_cells-requires-clause-few c =
-    subst (λ (n : ℕ). n ≤ 19) c.signals.ensures.count (few c.signals.result (length (table c.args.system)) c.signals.ensures.bound (few_signals c.args.system))
+put_cells-requires-clause-few c = grind (arith, few, few_signals)
 
 pub end_row-requires : goal.end_row-requires
 end_row-requires c =

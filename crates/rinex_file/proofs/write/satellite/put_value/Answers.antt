@@ -1,29 +1,25 @@
-use Rattle.std.proofs.Common.{arith, ◌∙◌, sym, ap, refl, ◌-◌, unsigned_abs, w64}
+use Rattle.std.proofs.Common.{arith, ◌∙◌, sym, ap, ap₂, ◌-◌, ◌++◌, unsigned_abs, w64}
 use Rattle.std.specs.Prelude.{set}
-use Rattle.std.specs.Int.{is_negative, to_le_bytes}
+use Rattle.std.specs.Int.{is_negative}
 use Rattle.std.proofs.lemmas.Int.{to_z-of_z}
 use Rattle.rinex_file.proofs.Columns.{plain, signed, some_blank}
-use Rattle.rinex_file.proofs.CellPlaces.{halves}
 use Rattle.rinex_file.proofs.write.satellite.put_value.Goals as goal
 
 pub overflow_sub-columns : goal.overflow_sub-columns
-overflow_sub-columns c = grind (arith, to_z-of_z, some_blank)
+overflow_sub-columns c =
+    let w = c.columns_of-words in
+    let same = to_z-of_z w64 c.args.value c.ranges.value in
+    let some = some_blank c.args.value c.unsigned_abs.result w.result.first w.result.last w.result.start c.args.lost c.args.strength c.requires.fits
+    (c.unsigned_abs.ensures.value ∙ ap unsigned_abs same) (sym (ap is_negative same) ∙ c.if-value-lt0.true) (w.ensures.start, w.ensures.text) in
+    omega (arith, some)
 
 pub returns-then-value-lt0-clause-text : goal.returns-then-value-lt0-clause-text
 returns-then-value-lt0-clause-text c =
     let w = c.columns_of-words in
     let same = to_z-of_z w64 c.args.value c.ranges.value in
-    ap (λ t. set t (w.result.start - 1) 45)
-    (halves c.args.columns.now (to_le_bytes w64 w.result.first) (to_le_bytes w64 w.result.last) c.copy_from_slice.new.self c.copy_from_slice-2.new.self c.requires.room refl
-    (c.copy_from_slice.ensures.after ∙ c.to_le_bytes.ensures) (c.copy_from_slice-2.ensures.after ∙ c.to_le_bytes-2.ensures))
+    ap₂ (λ a b. set (a ++ b) (w.result.start - 1) 45) (c.copy_from_slice.ensures.after ∙ c.to_le_bytes.ensures) (c.copy_from_slice-2.ensures.after ∙ c.to_le_bytes-2.ensures)
     ∙ signed c.args.value c.unsigned_abs.result w.result.first w.result.last w.result.start c.args.lost c.args.strength c.requires.fits
     (c.unsigned_abs.ensures.value ∙ ap unsigned_abs same) (sym (ap is_negative same) ∙ c.if-value-lt0.true) (w.ensures.start, w.ensures.text)
 
 pub returns-else-value-lt0-clause-text : goal.returns-else-value-lt0-clause-text
-returns-else-value-lt0-clause-text c =
-    let w = c.columns_of-words in
-    let same = to_z-of_z w64 c.args.value c.ranges.value in
-    halves c.args.columns.now (to_le_bytes w64 w.result.first) (to_le_bytes w64 w.result.last) c.copy_from_slice.new.self c.copy_from_slice-2.new.self c.requires.room refl
-    (c.copy_from_slice.ensures.after ∙ c.to_le_bytes.ensures) (c.copy_from_slice-2.ensures.after ∙ c.to_le_bytes-2.ensures)
-    ∙ plain c.args.value c.unsigned_abs.result w.result.first w.result.last w.result.start c.args.lost c.args.strength
-    (c.unsigned_abs.ensures.value ∙ ap unsigned_abs same) (sym (ap is_negative same) ∙ c.if-value-lt0.false) (w.ensures.start, w.ensures.text)
+returns-else-value-lt0-clause-text c = grind (arith, to_z-of_z, plain)
