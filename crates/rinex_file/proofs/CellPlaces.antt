@@ -3,7 +3,7 @@ use Rattle.std.proofs.Common.{arith, ◌≡◌, ◌∙◌, sym, ap, ap₂, refl,
 use Rattle.std.specs.Prelude.{◌≢◌, ◌||◌, nat_eq, find, flat_map, position, All, is_some, if◌then◌else◌, cond}
 use Rattle.std.specs.Option.{option_map_or}
 use Rattle.std.specs.List.{AllByRecursion, IsDistinct, position_or_len, refill}
-use Rattle.std.proofs.lemmas.List.{drop_at, drop_all, take_at, take_all, length-drop, drop_more, set_at, length-take, length-take-le, length-replicate, length-set, take-append-le, drop-append-le, replicate-append-replicate}
+use Rattle.std.proofs.lemmas.List.{drop_at, drop_all, take_all, length-drop, drop_more, set_at, length-take, length-take-le, length-replicate, length-set, take-append-le, drop-append-le, replicate-append-replicate}
 use Rattle.std.proofs.lemmas.List.Concat.{flat_map-append}
 use Rattle.std.proofs.lemmas.List.Quantifiers.{position-Some}
 use Rattle.std.proofs.lemmas.List.Elements.{All-head, All-tail, All-nil, All-cons, All-append, All-drop, All-replicate}
@@ -13,7 +13,7 @@ use Rattle.obs_epoch.specs.Values.{IsHeld}
 use Rattle.rinex_file.specs.Value.{SignalValues, signal_values_of, no_signal_values, signal_values_at, is_of_key}
 use Rattle.rinex_file.specs.FileValues.{HaveRoom, has_some_value}
 use Rattle.rinex_file.specs.Blanks.{trimmed}
-use Rattle.rinex_file.specs.Lines.{field, lli_byte, strength_byte, signal_text}
+use Rattle.rinex_file.specs.Lines.{field, signal_text}
 use Rattle.rinex_file.proofs.HeaderText.{trimmed-blanks}
 use Rattle.rinex_file.proofs.RowText.{if_fits, length-room, length-signals}
 use Rattle.rinex_file.specs.Rows.{HasSignals}
@@ -21,43 +21,6 @@ use Rattle.rinex_file.specs.Numbers.{padded}
 use Rattle.rinex_file.proofs.DigitWords.{two_digits}
 use Rattle.std.proofs.lemmas.Grind.{replicate_next}
 use Rattle.std.proofs.Math.Seq.{take-append-add, drop-append-add}
-
--- ---- a part of a text is overwritten
-
-pub put_more : (front rest new : List ℕ) (n k : ℕ) → length front ≡ n → take n (front ++ rest) ++ (new ++ drop k (drop n (front ++ rest))) ≡ (front ++ new) ++ drop k rest
-put_more front rest new n k l = grind (arith, take_at, drop_at, append_assoc)
-
-pub put_last : (front rest new : List ℕ) (n k : ℕ) → length front ≡ n → length rest ≤ k → take n (front ++ rest) ++ (new ++ drop k (drop n (front ++ rest))) ≡ front ++ new
-put_last front rest new n k l few = grind (arith, put_more, drop_all, append-nil)
-
--- the first and the last eight of sixteen columns
-pub halves : (old a b p q : List ℕ) → length old ≡ 16 → length a ≡ 8 → p ≡ a → q ≡ b
-    → take 8 (p ++ drop 8 old) ++ (q ++ drop (length (p ++ drop 8 old) - 8) (drop 8 (p ++ drop 8 old))) ≡ a ++ b
-halves old a b p q lo la ep eq =
-    let size : length p ≡ 8 = ap length ep ∙ la in
-    let whole : length (p ++ drop 8 old) ≡ length p + length (drop 8 old) = length-append p (drop 8 old) in
-    put_last p (drop 8 old) q 8 (length (p ++ drop 8 old) - 8) size (omega (arith, whole, size)) ∙ ap₂ (λ x y. x ++ y) ep eq
-
--- the second, the third and the last sixteen columns after the first
-pub put_four : (a b c d rest : List ℕ) (k : ℕ) → length a ≡ 16 → length b ≡ 16 → length c ≡ 16 → length rest ≡ 48
-    → (two three : List ℕ) → two ≡ take 16 (a ++ rest) ++ (b ++ drop 16 (drop 16 (a ++ rest))) → three ≡ take 32 two ++ (c ++ drop 16 (drop 32 two))
-    → k ≡ length three - 48 → take 48 three ++ (d ++ drop k (drop 48 three)) ≡ a ++ (b ++ (c ++ d))
-put_four a b c d rest k la lb lc lr two three is_two is_three is_k =
-    let second : two ≡ (a ++ b) ++ drop 16 rest = is_two ∙ put_more a rest b 16 16 la in
-    let lab : length (a ++ b) ≡ 32 = length-append a b ∙ omega (arith, la, lb) in
-    let third : three ≡ ((a ++ b) ++ c) ++ drop 16 (drop 16 rest) =
-    is_three ∙ ap (λ t. take 32 t ++ (c ++ drop 16 (drop 32 t))) second ∙ put_more (a ++ b) (drop 16 rest) c 32 16 lab in
-    let labc : length ((a ++ b) ++ c) ≡ 48 = length-append (a ++ b) c ∙ omega (arith, lab, lc) in
-    let left : length (drop 16 (drop 16 rest)) ≡ 16 = length-drop 16 (drop 16 rest) ∙ ap (λ n. n - 16) (length-drop 16 rest) ∙ omega (arith, lr) in
-    let whole : length three ≡ 64 = ap length third ∙ length-append ((a ++ b) ++ c) (drop 16 (drop 16 rest)) ∙ omega (arith, labc, left) in
-    ap (λ t. take 48 t ++ (d ++ drop k (drop 48 t))) third
-    ∙ put_last ((a ++ b) ++ c) (drop 16 (drop 16 rest)) d 48 k labc (omega (arith, left, whole, is_k))
-    ∙ append_assoc (a ++ b) c d ∙ append_assoc a b (c ++ d)
-
-pub same_text : (e : SignalValues) (a b c d : List ℕ) (lost strength : ℕ) → strength ≡ strength_byte e.s → lost ≡ lli_byte e.lli
-    → a ≡ field e.c 32 strength → b ≡ field e.l lost strength → c ≡ field e.d 32 32 → d ≡ field e.s 32 32 → a ++ (b ++ (c ++ d)) ≡ signal_text e
-unfolding signal_text
-same_text e a b c d lost strength s l fa fb fc fd = cc
 
 -- ---- what a cell before others changes
 

@@ -1,5 +1,5 @@
 -- The lines of a file value are lines, and none is longer than the largest line that is read.
-use Rattle.std.proofs.Common.{arith, lit≤, ◌≡◌, ◌∙◌, ap, refl, sym, subst, ℕ, suc, ◌+◌, ◌*◌, ◌^◌, ◌<◌, ◌≤◌, ℤ, pos, Bool, true, false, Option, Some, None, IfSome, List, [], ◌∷◌, ◌++◌, length, replicate, decimal, get_or, append_assoc}
+use Rattle.std.proofs.Common.{arith, lit≤, ◌≡◌, ◌∙◌, ap, refl, sym, subst, ℕ, suc, ◌+◌, ◌*◌, ◌^◌, ◌<◌, ◌≤◌, ℤ, pos, false, Option, Some, None, IfSome, List, [], ◌∷◌, ◌++◌, length, replicate, decimal, get_or, append_assoc}
 use Rattle.std.specs.Prelude.{◌==◌, ◌||◌, map, flat_map, All, codes}
 use Rattle.std.proofs.lemmas.List.Elements.{All-head, All-tail, All-cons, All-append, All-map}
 use Rattle.gnss_obs.specs.Satellites.{satellites}
@@ -22,6 +22,7 @@ use Rattle.rinex_file.proofs.RowText.{small_value, length-value, strength_fits, 
 use Rattle.rinex_file.proofs.KeptFile.{either_few}
 use Rattle.rinex_file.proofs.Cuts.{filled, length-trimmed}
 use Rattle.rinex_file.proofs.Digits.{has-append, length-right, length-padded}
+use Rattle.rinex_file.proofs.LineByLine.{or_false}
 use Rattle.rinex_file.proofs.FewRows.{few_rows}
 use Rattle.rinex_file.proofs.PlainTexts.{Clean, clean-fixed, clean-right, clean-padded, IsPlain, plain-wider, plain-append, plain-padded, ArePlain, plain-joined}
 use Rattle.rinex_file.proofs.PlainHeader.{IsFileLine, as_line, of_80, whole_field, second_field, no_letter, few_signals_of, IsShort, short_time, line_of_position, line_of_delta, lines_of_header}
@@ -125,10 +126,6 @@ plain_entries [] all = record { clean = refl; short = lit≤ tt }
 plain_entries (e ∷ es) all =
     plain-wider (64 + 64 * length es) (64 * suc (length es)) (signal_text e ++ flat_map signal_text es) (omega arith)
     (plain-append 64 (64 * length es) (signal_text e) (flat_map signal_text es) (plain_entry e (All-head AreSignalValues e es all)) (plain_entries es (All-tail AreSignalValues e es all)))
-
-or_false : (a b : Bool) → (a || b) ≡ false → a ≡ false
-or_false true b h = cc
-or_false false b h = refl
 
 plain_trimmed : (n : ℕ) (text : List ℕ) → IsPlain n text → IsPlain n (trimmed text)
 plain_trimmed n text is = grind (arith, filled, has-append, length-trimmed, or_false, (filled text), (sym (has-append 10 (trimmed text) (replicate (filled text).0 32)) ∙ ap (has 10) (filled text).1 ∙ is.clean), (length-trimmed text))

@@ -2,6 +2,7 @@
 use Rattle.std.proofs.Common.{arith, ◌≡◌, ◌∙◌, sym, ap, ap₂, refl, subst, ℕ, ◌<◌, ◌≤◌, List, [], ◌∷◌, ◌++◌, length, take, get_or, append_assoc}
 use Rattle.std.specs.Prelude.{All, map, flat_map}
 use Rattle.std.proofs.lemmas.List.{take_all}
+use Rattle.std.proofs.lemmas.List.Folds.{flat_map-map}
 use Rattle.gnss_obs.specs.declared.system.System.{System}
 use Rattle.gnss_obs.specs.declared.system.System.TheVariants.{Gps, Galileo}
 use Rattle.obs_epoch.specs.Dates.{civil_of}
@@ -33,10 +34,6 @@ lines_have_room v is =
 pub same_room : (e : Stamped) (rows : List SatelliteRow) → rows ≡ e.rows → HaveRowsRoom e → All HasRoom rows
 same_room e rows same room = subst (All HasRoom) (sym same) room
 
-joined_map : {X : Type 0} (f : X → List ℕ) (xs : List X) → joined (map f xs) ≡ flat_map f xs
-joined_map f [] = refl
-joined_map f (x ∷ xs) = ap (λ l. f x ++ l) (joined_map f xs)
-
 joined_parts : (es : List Stamped) → joined (flat_map stamped_lines es) ≡ flat_map stamped_text es
 unfolding stamped_text
 joined_parts [] = refl
@@ -48,7 +45,7 @@ pub epoch_whole : (v e : Stamped) (rows : List SatelliteRow) (old mid line text 
 unfolding stamped_text
 epoch_whole v e rows old mid line text new is same changed begun more last =
     let own : joined (epoch_line (civil_of v.time) (length v.rows) ∷ map satellite_line v.rows) ≡ epoch_line (civil_of v.time) (length v.rows) ++ flat_map satellite_line v.rows =
-    ap (λ l. epoch_line (civil_of v.time) (length v.rows) ++ l) (joined_map satellite_line v.rows) in
+    ap (λ l. epoch_line (civil_of v.time) (length v.rows) ++ l) (flat_map-map (λ l. l) satellite_line v.rows) in
     last ∙ ap (λ l. l ++ flat_map satellite_line rows) (more ∙ ap (λ l. mid ++ l) begun ∙ ap (λ l. l ++ epoch_line (civil_of v.time) (length rows)) changed)
     ∙ ap (λ (r : List SatelliteRow). ((old ++ joined (change_lines v.change)) ++ epoch_line (civil_of v.time) (length r)) ++ flat_map satellite_line r) same
     ∙ append_assoc (old ++ joined (change_lines v.change)) (epoch_line (civil_of v.time) (length v.rows)) (flat_map satellite_line v.rows)

@@ -27,7 +27,7 @@ use Rattle.rinex_file.specs.declared.read.fault.ReadFault.TheVariants.{Memory, R
 use Rattle.rinex_file.specs.Begun.{AreBegun}
 use Rattle.rinex_file.specs.Read.Progress.{Progress, HasLinesLeft}
 use Rattle.rinex_file.specs.Read.Sound.{AreLinesOf, HasReadLines}
-use Rattle.rinex_file.proofs.Digits.{has-append}
+use Rattle.rinex_file.proofs.Digits.{has-append, or_true}
 use Rattle.rinex_file.proofs.Sent.{joined-append}
 
 pub endless_append : (xs ys : List ℕ) → has 10 xs ≡ false → has 10 ys ≡ false → has 10 (xs ++ ys) ≡ false
@@ -171,13 +171,9 @@ splits (l ∷ ls) (d ∷ ds) rest h k e =
     let same : l ≡ d = one.0 in
     (more, cc, text)
 
-or_right : (a : Bool) → (a || true) ≡ true
-or_right true = refl
-or_right false = refl
-
 -- a line has a line feed, so bytes that begin with a line have one
 pub has-line : (line x : List ℕ) → IsLine line → has 10 (line ++ x) ≡ true
-has-line line x (body, e, n) = ap (has 10) (shape line body x e) ∙ has-append 10 body (10 ∷ x) ∙ or_right (has 10 body)
+has-line line x (body, e, n) = ap (has 10) (shape line body x e) ∙ has-append 10 body (10 ∷ x) ∙ or_true (has 10 body)
 
 -- ---- lists of lines
 

@@ -286,9 +286,6 @@ pub front_line : (s : SatelliteRow) → satellite_line s ≡ letter_of s.system 
 unfolding satellite_line
 front_line s = ap (λ t. t ++ 10 ∷ []) (trimmed-front (letter_of s.system) (padded 2 s.row.satellite ++ flat_map signal_text s.row.signal_values) (letter_is s.system))
 
-pub first_byte : (s : SatelliteRow) → (0 < length (satellite_line s)) × (get_or (satellite_line s) 0 0 ≡ letter_of s.system)
-first_byte s = grind (arith, front_line)
-
 pub few_satellites : (s : System) → satellites s ≤ 36
 few_satellites Gps = lit≤ tt
 few_satellites Galileo = lit≤ tt

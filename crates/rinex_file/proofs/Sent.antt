@@ -1,9 +1,10 @@
 -- Lines that were written, and a part of them.
-use Rattle.std.proofs.Common.{arith, ◌≡◌, ◌∙◌, sym, ap, refl, subst, ℕ, zero, suc, ◌+◌, ◌-◌, ◌≤◌, List, [], ◌∷◌, ◌++◌, length, append_assoc, append-nil, length-append, Option, Bool, true, false, Result, Ok, Err, OnOk, OnErr}
-use Rattle.std.specs.Prelude.{map, filter, if◌then◌else◌, IsErrAnd}
+use Rattle.std.proofs.Common.{arith, ◌≡◌, ◌∙◌, sym, ap, ap₂, refl, subst, ℕ, zero, suc, ◌+◌, ◌-◌, ◌≤◌, List, [], ◌∷◌, ◌++◌, length, append_assoc, append-nil, length-append, Option, Bool, true, false, Result, Ok, Err, OnOk, OnErr}
+use Rattle.std.specs.Prelude.{map, if◌then◌else◌, IsErrAnd}
 use Rattle.std.specs.Io.KnownBytes.{Appends}
 use Rattle.std.proofs.KnownBytes.{Appends-trans, Appends-nil}
-use Rattle.std.proofs.lemmas.List.{map-append}
+use Rattle.std.proofs.lemmas.List.{map-append, length-map}
+use Rattle.std.proofs.lemmas.List.Elements.{filter-append}
 use Rattle.rtcm_bits.specs.Device.{AppendsPrefix}
 use Rattle.gnss_obs.specs.declared.system.System.{System}
 use Rattle.gnss_obs.specs.declared.system.System.TheVariants.{Gps, Galileo}
@@ -26,10 +27,6 @@ part_after a b c text done next rest is out (left, (sent, split, more)) = grind 
 -- a part of the first is a part of both
 pub part_first : (a c : Option (List ℕ)) (text next rest : List ℕ) → text ≡ next ++ rest → AppendsPrefix a c next → AppendsPrefix a c text
 part_first a c text next rest is part = part_after a a c text [] next rest is (Appends-nil a) part
-
-pub filter-append : {X : Type 0} (test : X → Bool) (xs ys : List X) → filter test (xs ++ ys) ≡ filter test xs ++ filter test ys
-filter-append test [] ys = refl
-filter-append test (x ∷ xs) ys = grind (arith, (filter-append test xs ys))
 
 pub joined-append : (xs ys : List (List ℕ)) → joined (xs ++ ys) ≡ joined xs ++ joined ys
 joined-append xs ys = flat_map-append (λ l. l) xs ys
@@ -120,15 +117,11 @@ unfolding written_among
 length-written cells zero = refl
 length-written cells (suc n) = grind (arith, filter-append, length-append, one_more, (length-written cells n))
 
-length-of : {X : Type 0} (f : ℕ → X) (ids : List ℕ) → length (map f ids) ≡ length ids
-length-of f [] = refl
-length-of f (x ∷ xs) = ap suc (length-of f xs)
-
 pub length-rows : (p : PlanValue) (e : EpochValue) → length (rows_of p e Gps ++ rows_of p e Galileo) ≡ satellites_written e
 length-rows p e =
     length-append (rows_of p e Gps) (rows_of p e Galileo)
-    ∙ ap (λ k. k + length (rows_of p e Galileo)) (length-of (row_in_epoch p e Gps) (written_satellites e.gps (satellites_in Gps)) ∙ length-written e.gps (satellites_in Gps))
-    ∙ ap (λ k. written_among e.gps (satellites_in Gps) + k) (length-of (row_in_epoch p e Galileo) (written_satellites e.galileo (satellites_in Galileo)) ∙ length-written e.galileo (satellites_in Galileo))
+    ∙ ap₂ (λ m n. m + n) (length-map (written_satellites e.gps (satellites_in Gps)) (row_in_epoch p e Gps) ∙ length-written e.gps (satellites_in Gps))
+    (length-map (written_satellites e.galileo (satellites_in Galileo)) (row_in_epoch p e Galileo) ∙ length-written e.galileo (satellites_in Galileo))
 
 -- the lines of an epoch: its own, those of GPS and those of Galileo
 pub epoch_parts : (p : PlanValue) (e : EpochValue) → epoch_text p e ≡ epoch_line (civil_of e.time) (satellites_written e) ++ (lines_up_to p e Gps (satellites_in Gps) ++ lines_up_to p e Galileo (satellites_in Galileo))
