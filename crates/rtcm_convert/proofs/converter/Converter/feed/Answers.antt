@@ -1,7 +1,7 @@
 use Rattle.std.proofs.Common.{ℕ, ◌≤◌, ◌∙◌, sym, subst, refl, inl, inr, length}
 use Rattle.rtcm_convert.specs.declared.fault.Fault.TheVariants.{TooLong, Write}
 use Rattle.rtcm_convert.proofs.FaultLemmas.{not_err, only_too_long, only_write}
-use Rattle.rtcm_convert.proofs.RefusalLemmas.{refused_going, refused_is, refused_only, refused_sent, refused_writer, not_refused, none_taken}
+use Rattle.rtcm_convert.proofs.RefusalLemmas.{refused_going, refused_only, refused_sent, refused_writer, not_refused, none_taken}
 use Rattle.rtcm_scan.specs.Passing.{up_to_limit}
 use Rattle.rtcm_convert.specs.Conversion.{Conversion, IsGoing}
 use Rattle.rtcm_convert.proofs.FeedLemmas.{with_flags, long_of, sink_of, fed_whole, fed_fit, failed_fit, fed_long, fed_part}
@@ -58,23 +58,32 @@ returns-in-Err-Sink-clause-device g c =
     let d = piece_failed g.W.Write.contents f.framer f.file_writer c.feed.new.sink c.args.writer.now c.feed.new.out c.args.piece.now k (c.self.invariant.drained go) in
     (d.0, tt, d.1)
 
-pub returns-in-Some : goal.returns-in-Some
-returns-in-Some g c =
-    let v = c.args.self.now in
-    let f = c.in-Some.earlier in
-    let e = c.in-Some.ensures in
-    record {
-      refused = refused_is v f e _ (refl, refl, refl);
-      whole = tt;
-      going = tt;
-      taken = none_taken v.scan.taken (length c.args.piece.now);
-      keeps = tt;
-      part = λ h. absurd (refused_only v f e Write refl h);
-      long = λ h. absurd (refused_only v f e TooLong refl h);
-      sent = refused_sent v f e c.args.writer.now.is_sent;
-      device = refused_writer v f e c.args.writer.now;
-      left = (refl, λ go. absurd (refused_going v f e go));
-    }
+pub returns-in-Some-clause-whole : goal.returns-in-Some-clause-whole
+returns-in-Some-clause-whole g c = tt
+
+pub returns-in-Some-clause-going : goal.returns-in-Some-clause-going
+returns-in-Some-clause-going g c = tt
+
+pub returns-in-Some-clause-taken : goal.returns-in-Some-clause-taken
+returns-in-Some-clause-taken g c = none_taken c.args.self.now.scan.taken (length c.args.piece.now)
+
+pub returns-in-Some-clause-keeps : goal.returns-in-Some-clause-keeps
+returns-in-Some-clause-keeps g c = tt
+
+pub returns-in-Some-clause-part : goal.returns-in-Some-clause-part
+returns-in-Some-clause-part g c = λ h. absurd (refused_only c.args.self.now c.in-Some.earlier c.in-Some.ensures Write refl h)
+
+pub returns-in-Some-clause-long : goal.returns-in-Some-clause-long
+returns-in-Some-clause-long g c = λ h. absurd (refused_only c.args.self.now c.in-Some.earlier c.in-Some.ensures TooLong refl h)
+
+pub returns-in-Some-clause-sent : goal.returns-in-Some-clause-sent
+returns-in-Some-clause-sent g c = refused_sent c.args.self.now c.in-Some.earlier c.in-Some.ensures c.args.writer.now.is_sent
+
+pub returns-in-Some-clause-device : goal.returns-in-Some-clause-device
+returns-in-Some-clause-device g c = refused_writer c.args.self.now c.in-Some.earlier c.in-Some.ensures c.args.writer.now
+
+pub returns-in-Some-clause-left : goal.returns-in-Some-clause-left
+returns-in-Some-clause-left g c = (refl, λ go. absurd (refused_going c.args.self.now c.in-Some.earlier c.in-Some.ensures go))
 
 pub returns-in-Ok-clause-refused : goal.returns-in-Ok-clause-refused
 returns-in-Ok-clause-refused g c = not_refused c.args.self.now _ c.in_default.ensures

@@ -50,27 +50,28 @@ returns-then-setup-gt-MOST_BYTES c = record {
   only = inl refl;
 }
 
-pub returns-in-Ok-new : goal.returns-in-Ok-new
-returns-in-Ok-new c =
+pub returns-in-Ok-new-clause-history : goal.returns-in-Ok-new-clause-history
+returns-in-Ok-new-clause-history c =
     let n = c.in-Ok-new.ensures in
-    let x = start_at c.args.setup c.args.initial in
-    let fits = c.if-not-fits_message.ensures.0 refl in
-    let d = new_drained c.in-Ok-new.framer c.args.setup.limit n.new n.counts n.drained n.counted in
+    let d = new_drained c.in-Ok-new.framer _ n.new n.counts n.drained n.counted in
     record {
-      history = record {
-        going = record { fine = refl; more = refl };
-        drained = record {
-          framer = d.framer;
-          drained = d.drained;
-          counted = d.counted;
-          file_writer = subst (λ (l : List Framed). HasFiledFrames c.in-Ok.file_writer (start_value x) l) (none_known _ _ n.new) c.in-Ok.ensures.history;
-        };
+      going = record { fine = refl; more = refl };
+      drained = record {
+        framer = d.framer;
+        drained = d.drained;
+        counted = d.counted;
+        file_writer = subst (λ (l : List Framed). HasFiledFrames c.in-Ok.file_writer (start_value (start_at c.args.setup c.args.initial)) l) (none_known _ _ n.new) c.in-Ok.ensures.history;
       };
-      fresh = (ap (λ v. v.limit) n.new, ap (λ v. v.taken) n.new);
-      bad = (λ e. not_err _ _ e, λ b. not_err _ _ (c.in-Ok.ensures.bad.1 (bad_start x fits c.if-setup-gt-MOST_BYTES.false b)));
-      fits = fits;
-      only = tt;
     }
+
+pub returns-in-Ok-new-clause-bad : goal.returns-in-Ok-new-clause-bad
+returns-in-Ok-new-clause-bad c = (
+  λ e. not_err _ _ e,
+  λ b. not_err _ _ (c.in-Ok.ensures.bad.1 (bad_start (start_at c.args.setup c.args.initial) (c.if-not-fits_message.ensures.0 refl) c.if-setup-gt-MOST_BYTES.false b)),
+)
+
+pub returns-in-Ok-new-clause-fits : goal.returns-in-Ok-new-clause-fits
+returns-in-Ok-new-clause-fits c = c.if-not-fits_message.ensures.0 refl
 
 pub returns-in-Err-new : goal.returns-in-Err-new
 returns-in-Err-new c =
@@ -104,6 +105,6 @@ invariant_of-result c =
       going = λ _. c.in-Ok.ensures.going;
       listening = λ _. ap (λ v. v.has_ended) n.new;
       ready = λ _. ap (λ v. v.is_ready) n.new;
-      drained = λ _. ([], new_drained c.in-Ok-new.framer c.args.setup.limit n.new n.counts n.drained n.counted);
+      drained = λ _. ([], new_drained c.in-Ok-new.framer _ n.new n.counts n.drained n.counted);
       examined = ([], [], n.counts);
     }
