@@ -1,6 +1,6 @@
 -- The test for a loss of lock.
 use Rattle.std.proofs.Common.{ℕ, ◌≡◌, ◌<◌, ◌≤◌, ◌↔◌, IsTrue, Option, Some, None, arith, rules, refl, ◌+◌, ◌*◌, ◌^◌, ◌==◌, ◌||◌, nat_lt}
-use Rattle.gnss_obs.specs.LockTimes.{LockTime, IsLost, lost, doublings, least4, least7}
+use Rattle.gnss_obs.specs.LockTimes.{LockTime, IsLost, lost, doublings, least4, least7, no_time}
 use Rattle.gnss_obs.proofs.Checked.{passes_at, is_less, is_equal, unless_less}
 
 pub lost_is : (earlier later : LockTime) (elapsed : ℕ) → IsTrue (lost earlier.least later.least later.upper elapsed) ↔ IsLost earlier later elapsed
@@ -29,5 +29,5 @@ doubles7 i above below = is_equal _ _ (unless_less i 32 _ (passes_at (λ j. nat_
 pub steps7 : (i : ℕ) → i < 704 → least7 i + 2 ^ doublings i ≡ least7 (i + 1)
 steps7 i below = is_equal _ _ (passes_at (λ j. (least7 j + 2 ^ doublings j) == least7 (j + 1)) 704 i refl below)
 
-pub ends7 : (i : ℕ) → i < 705 → least7 i + 2 ^ doublings i < 2 ^ 32
-ends7 i below = is_less _ _ (passes_at (λ j. nat_lt (least7 j + 2 ^ doublings j) (2 ^ 32)) 705 i refl below)
+pub ends7 : (i : ℕ) → i < 705 → least7 i + 2 ^ doublings i < no_time
+ends7 i below = is_less _ _ (passes_at (λ j. nat_lt (least7 j + 2 ^ doublings j) no_time) 705 i refl below)

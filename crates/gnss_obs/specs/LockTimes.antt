@@ -1,12 +1,22 @@
 -- Lock times in milliseconds.
 use Rattle.std.specs.Prelude.{ℕ, ◌+◌, ◌-◌, ◌*◌, ◌/◌, ◌^◌, ◌==◌, ◌||◌, ◌<◌, ◌≤◌, ◌⊎◌, nat_lt, nat_le, if◌then◌else◌}
 use Rattle.std.specs.Prelude.{Bool, false, Option, Some, None}
-use Rattle.std.specs.Option.{IsSomeAnd}
+use Rattle.std.specs.Option.{IsSomeAnd, unwrap_or}
 
 -- the least lock time in milliseconds, and the excluded upper bound; `None` is unknown
 pub record LockTime : Type 0 where
   pub least : Option ℕ
   pub upper : Option ℕ
+
+-- the word stored for a time, and the time stored as a word: 2^32 - 1 is none
+abbrev pub no_time : ℕ
+no_time = 4294967295
+
+abbrev pub word_of : Option ℕ → ℕ
+word_of t = unwrap_or t no_time
+
+abbrev pub time_of : ℕ → Option ℕ
+time_of word = if word == no_time then None else Some word
 
 -- the last indicator of MSM4 (DF402)
 abbrev pub last4 : ℕ

@@ -1,5 +1,5 @@
-ghost use Rattle.std.specs.Prelude.{◌≡◌, ◌+◌, ◌^◌, ◌<◌, ◌≤◌, ◌↔◌, IsTrue};
-ghost use Rattle.gnss_obs.specs.LockTimes.{LockTime, IsLost, last4, last7, times4, times7, lost};
+ghost use Rattle.std.specs.Prelude.{◌≡◌, ◌+◌, ◌^◌, ◌<◌, ◌≤◌, ◌↔◌, IsTrue, None};
+ghost use Rattle.gnss_obs.specs.LockTimes.{LockTime, IsLost, last4, last7, times4, times7, lost, time_of, word_of};
 ghost use Rattle.gnss_obs.specs.LockTimes as LockTimes;
 
 use std::marker::Model;
@@ -10,20 +10,43 @@ const LAST_DF402: u8 = 15;
 /// The greatest indicator DF407 that has a time.
 const LAST_DF407: u16 = 704;
 
+/// The word stored in place of a time if there is none.
+const NO_TIME: u32 = u32::MAX;
+
 /// The time for which a receiver has tracked a phase without a break, in milliseconds, as given by
 /// a lock time indicator: a range with its least value included and its upper value excluded.
-#[derive(Clone, Copy, Debug, Default, PartialEq, Eq)]
+#[derive(Clone, Copy, Debug, PartialEq, Eq)]
 pub struct Lock {
-    least: Option<u32>,
-    upper: Option<u32>,
+    // Milliseconds, or `NO_TIME`.
+    least: u32,
+    upper: u32,
 }
 
 impl Model for Lock {
     ghost Value = { LockTime };
 
-    ghost view = { λ l. record { least = l.least; upper = l.upper } };
+    ghost view = { λ l. record { least = time_of l.least; upper = time_of l.upper } };
 
-    ghost inverse = { λ t. record { least = t.least; upper = t.upper } };
+    ghost inverse = { λ t. record { least = word_of t.least; upper = word_of t.upper } };
+}
+
+impl Default for Lock {
+    /// Returns an unknown lock.
+    fn default() -> Lock
+        ensures { result ≡ record { least = None; upper = None } }
+    {
+        Lock {
+            least: NO_TIME,
+            upper: NO_TIME,
+        }
+    }
+}
+
+/// Returns the time stored as this word.
+fn time_of(word: u32) -> Option<u32>
+    ensures { result ≡ time_of word }
+{
+    if word == NO_TIME { None } else { Some(word) }
 }
 
 /// Returns the least time of an indicator DF402 from 0 to 15, in milliseconds.
@@ -40,7 +63,7 @@ fn range7(code: u16) -> (u32, u32)
     requires { code ≤ last7 }
     ensures least { result.0 ≡ LockTimes.least7 code }
     ensures next { code < last7 → result.0 + result.1 ≡ LockTimes.least7 (code + 1) }
-    ensures fits { result.0 + result.1 < 2 ^ 32 }
+    ensures fits { result.0 + result.1 < u32.MAX }
 {
     let k = (code / 32).saturating_sub(1);
     (((code - 32 * k) as u32) << k, 1 << k)
@@ -53,11 +76,11 @@ impl Lock {
         ensures { result ≡ times4 code }
     {
         Lock {
-            least: Some(least4(code)),
+            least: least4(code),
             upper: if code == LAST_DF402 {
-                None
+                NO_TIME
             } else {
-                Some(least4(code + 1))
+                least4(code + 1)
             },
         }
     }
@@ -69,18 +92,15 @@ impl Lock {
         ensures { result ≡ times7 code }
     {
         if code > LAST_DF407 {
-            return Lock {
-                least: None,
-                upper: None,
-            };
+            return Lock::default();
         }
         let (least, length) = range7(code);
         Lock {
-            least: Some(least),
+            least,
             upper: if code == LAST_DF407 {
-                None
+                NO_TIME
             } else {
-                Some(least + length)
+                least + length
             },
         }
     }
@@ -89,7 +109,7 @@ impl Lock {
     pub fn least(self) -> Option<u32>
         ensures { result ≡ self.least }
     {
-        self.least
+        time_of(self.least)
     }
 
     /// Returns the excluded upper bound of the lock time in milliseconds, or `None` if the lock is
@@ -97,7 +117,7 @@ impl Lock {
     pub fn upper(self) -> Option<u32>
         ensures { result ≡ self.upper }
     {
-        self.upper
+        time_of(self.upper)
     }
 }
 
@@ -109,7 +129,7 @@ pub fn is_lost(then: Lock, now: Lock, elapsed: u64) -> bool
     ensures lost { IsTrue result ↔ IsLost then now elapsed }
     ensures value { result ≡ lost then.least now.least now.upper elapsed }
 {
-    has_fallen(then.least, now.least, now.upper, elapsed)
+    has_fallen(then.least(), now.least(), now.upper(), elapsed)
 }
 
 /// Returns the result of `is_lost` from the least time of the earlier lock, and the least time and

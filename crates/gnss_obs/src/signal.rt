@@ -12,7 +12,7 @@ use std::marker::Model;
 #[derive(Clone, Copy, Debug, PartialEq, Eq, Hash)]
 pub struct Signal {
     system: System,
-    index: usize,
+    index: u8,
 }
 
 impl Model for Signal {
@@ -56,16 +56,12 @@ fn rows(system: System) -> &'static [u8]
 }
 
 /// Returns the row of a signal ID, or `None` if no signal has it.
-fn row_of_id(system: System, id: u8) -> Option<usize>
+fn row_of_id(system: System, id: u8) -> Option<u8>
     ensures value { result ≡ position (λ e. e.0 == id) (table system) }
     ensures below { IfSome result (λ i. i < length (table system)) }
 {
     let row = rows(system).get(id as usize).copied().unwrap_or(NO_ROW);
-    if row == NO_ROW {
-        None
-    } else {
-        Some(row as usize)
-    }
+    if row == NO_ROW { None } else { Some(row) }
 }
 
 /// Returns the row of a code, or `None` if no signal has it.
@@ -91,7 +87,7 @@ impl Signal {
         ensures { result ≡ signal_of_code system code.now }
     {
         let index = row_of_code(listed(system), code.as_bytes())?;
-        Some(Signal { system, index })
+        Signal::from_index(system, index)
     }
 
     /// Returns the signal at an index of the system's table, counted from 0, or `None` if the table
@@ -100,7 +96,10 @@ impl Signal {
         ensures { result ≡ signal_at system index }
     {
         if index < system.signals() {
-            Some(Signal { system, index })
+            Some(Signal {
+                system,
+                index: index as u8,
+            })
         } else {
             None
         }
@@ -110,7 +109,7 @@ impl Signal {
     pub fn code(self) -> [u8; 2]
         ensures { result ≡ code_of self }
     {
-        listed(self.system)[self.index].1
+        listed(self.system)[self.index as usize].1
     }
 
     /// Returns the carrier frequency, in hertz: at most 1,575,420,000.
@@ -119,7 +118,7 @@ impl Signal {
         ensures positive { 0 < result }
         ensures bound { result ≤ 1575420000 }
     {
-        listed(self.system)[self.index].2
+        listed(self.system)[self.index as usize].2
     }
 
     /// Returns the system of the signal.
@@ -135,6 +134,6 @@ impl Signal {
         ensures value { result ≡ self.index }
         ensures listed { IsSignal self }
     {
-        self.index
+        self.index as usize
     }
 }

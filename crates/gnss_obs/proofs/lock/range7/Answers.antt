@@ -23,4 +23,4 @@ returns-clause-next c below =
 pub returns-clause-fits : goal.returns-clause-fits
 returns-clause-fits c =
     let sum = ap₂ (λ x y. x + y) (least c.args.code c.saturating_sub-k.result c.requires c.saturating_sub-k.ensures) (length c.args.code c.saturating_sub-k.result c.requires c.saturating_sub-k.ensures) in
-    subst (λ n. n < 2 ^ 32) (sym sum) (ends7 c.args.code (omega (arith, c.requires)))
+    subst (λ n. n < 4294967295) (sym sum) (ends7 c.args.code (omega (arith, c.requires)))
