@@ -11,6 +11,12 @@ pub struct Cell {
     pub satellite: Sat,
     /// The signal, of the satellite's system.
     pub signal: Signal,
+    /// The loss of lock indicator (LLI) of RINEX. Bit 0: lock was lost since the latest earlier
+    /// cell of this satellite and signal with a phase and a known lock time. Bit 1: the phase may
+    /// be off by half a cycle (DF420). 0 without a phase.
+    pub lli: u8,
+    // Whether the phase may be off by half a cycle (DF420).
+    pub(crate) half_cycle: bool,
     /// The pseudorange in thousandths of a metre; `None` if absent.
     pub c: Option<Thousandths>,
     /// The carrier phase in thousandths of a cycle; `None` if absent.
@@ -19,13 +25,8 @@ pub struct Cell {
     pub d: Option<Thousandths>,
     /// The signal strength in thousandths of a dB-Hz; `None` if absent.
     pub s: Option<Thousandths>,
-    /// The loss of lock indicator (LLI) of RINEX. Bit 0: lock was lost since the latest earlier
-    /// cell of this satellite and signal with a phase and a known lock time. Bit 1: the phase may
-    /// be off by half a cycle (DF420). 0 without a phase.
-    pub lli: u8,
-    // The lock of the phase, and whether the phase may be off by half a cycle (DF420).
+    // The lock of the phase.
     pub(crate) lock: Lock,
-    pub(crate) half_cycle: bool,
 }
 
 /// The antenna reference point and the antenna height in the last messages that contain them; 0
