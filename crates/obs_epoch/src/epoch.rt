@@ -98,7 +98,8 @@ impl Epoch {
         if is_after_last(cells, plan, system, key) {
             return (cells.len(), false);
         }
-        search(cells, plan, system, key, x.satellite, x.signal)
+        let at = insertion_index(cells, plan, key, system);
+        (at, is_last(cells, at, x.satellite, x.signal))
     }
 
     // Inserts a cell at an index.
@@ -151,9 +152,18 @@ impl Epoch {
         ensures held { AreHeld system result.now }
         ensures order { AreSorted result.now }
     {
+        self.list(system).as_slice()
+    }
+
+    // Returns the list of the kept cells of a system.
+    fn list(&self, system: System) -> &ArrayVec<Cell, MOST_CELLS>
+        ensures cells { result.now.items ≡ cells_of system self.now.epoch }
+        ensures held { AreHeld system result.now.items }
+        ensures order { AreSorted result.now.items }
+    {
         match system {
-            System::Gps => self.gps.as_slice(),
-            System::Galileo => self.galileo.as_slice(),
+            System::Gps => &self.gps,
+            System::Galileo => &self.galileo,
         }
     }
 
@@ -196,27 +206,6 @@ fn is_after_last(cells: &[Cell], plan: &Plan, system: System, x: SortKey) -> boo
     plan.place_among(system, cell.signal).unwrap_or(0) < x.place
 }
 
-// Returns the insertion index of a cell, and whether a cell of its key is kept before that index.
-#[inline(never)]
-fn search(
-    cells: &[Cell],
-    plan: &Plan,
-    system: System,
-    key: SortKey,
-    satellite: Sat,
-    signal: Signal,
-) -> (usize, bool)
-    requires order { AreOrderedBy (planned_of system plan.now) cells.now }
-    ensures index { result.0 ≡ insertion_index key (map (cell_sort_key (planned_of system plan.now)) cells.now) }
-    ensures none { result.0 ≡ 0 → result.1 ≡ false }
-    ensures last { (d : Cell) → 0 < result.0 → result.1 ≡ same_key satellite signal
-        (slice_index_or cells.now (result.0 - 1) d).satellite (slice_index_or cells.now (result.0 - 1) d).signal }
-    ensures bound { result.0 ≤ length cells.now }
-{
-    let at = insertion_index(cells, plan, key, system);
-    (at, is_last(cells, at, satellite, signal))
-}
-
 // Returns whether a sort key is less than another: by satellite, then by index in the plan.
 fn is_before(a: SortKey, b: SortKey) -> bool
     ensures { result ≡ is_before a b }
@@ -225,6 +214,7 @@ fn is_before(a: SortKey, b: SortKey) -> bool
 }
 
 // Returns the number of cells whose sort key isn't greater.
+#[inline(never)]
 fn insertion_index(cells: &[Cell], plan: &Plan, x: SortKey, system: System) -> usize
     requires { AreOrderedBy (planned_of system plan.now) cells.now }
     ensures index { result ≡ insertion_index x (map (cell_sort_key (planned_of system plan.now)) cells.now) }

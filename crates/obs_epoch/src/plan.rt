@@ -103,10 +103,7 @@ impl Plan {
         ensures indices { indices result.now ≡ planned_of system self.now }
         ensures system { IsOf system result.now }
     {
-        match system {
-            System::Gps => self.gps.as_slice(),
-            System::Galileo => self.galileo.as_slice(),
-        }
+        self.list(system).as_slice()
     }
 
     /// Returns the wanted signal of a system at this index.
@@ -130,9 +127,17 @@ impl Plan {
     pub(crate) fn place_among(&self, system: System, signal: Signal) -> Option<usize>
         ensures { result ≡ place_in signal (planned_of system self.now) }
     {
+        self.list(system).place(signal)
+    }
+
+    // Returns the list of the wanted signals of a system.
+    fn list(&self, system: System) -> &Signals
+        ensures indices { indices result.now ≡ planned_of system self.now }
+        ensures system { IsOf system result.now }
+    {
         match system {
-            System::Gps => self.gps.place(signal),
-            System::Galileo => self.galileo.place(signal),
+            System::Gps => &self.gps,
+            System::Galileo => &self.galileo,
         }
     }
 }

@@ -40,8 +40,8 @@ returns-clause-kept c =
     let found = c.cells-cells.result.now in
     let cells = c.cells-cells.ensures.cells ∙ ap (λ s. cells_of s c.args.self.now.epoch) c.system-system.ensures in
     let own = c.sort_key-key.ensures ∙ ap (λ s. sort_key (planned_of s c.args.plan.now) x.satellite x.signal) c.system-system.ensures in
-    let at = c.search.ensures.index ∙ ap (λ s. insertion_index c.sort_key-key.result (map (cell_sort_key (planned_of s c.args.plan.now)) found)) c.system-system.ensures
+    let at = c.insertion_index-at.ensures.index ∙ ap (λ s. insertion_index c.sort_key-key.result (map (cell_sort_key (planned_of s c.args.plan.now)) found)) c.system-system.ensures
     ∙ ap (λ s. insertion_index s (map (cell_sort_key planned) found)) own in
     let rise = subst (AreOrderedBy planned) (sym cells) (stand_in x.satellite.system c.args.plan.now c.args.self.now.epoch c.requires.order).rise in
-    held_is_last planned x found c.search.result.0 c.search.result.1 rise at c.search.ensures.none c.search.ensures.last
+    held_is_last planned x found c.insertion_index-at.result c.is_last.result rise at c.is_last.ensures.none c.is_last.ensures.last
     ∙ ap (λ (l : List Cell). is_held l x) cells
