@@ -3,7 +3,7 @@ use Rattle.std.proofs.Common.{ℕ, zero, suc, ℤ, pos, negsuc, ◌≡◌, ◌+�
 use Rattle.std.proofs.Math.IntN.{neg_ℤ, negsuc-*ℤ-pos}
 use Rattle.std.proofs.Math.Nat.{div-div-eq-div-mul, mul-div_cancel_left}
 use Rattle.std.proofs.lemmas.Int.{ints, unsigned_abs-mul}
-use Rattle.std.proofs.lemmas.Nat.{mul-le, div_below, div-add-mod', mod_below}
+use Rattle.std.proofs.lemmas.Nat.{mul-le, div-add-mod', mod_below}
 use Rattle.gnss_obs.specs.Rounding.{IsNearest, nearest, nearest_size}
 
 -- the distance of the product from the fraction
@@ -12,9 +12,6 @@ size_bounds n q some =
     let split = div-add-mod' (2 * n + q) (2 * q) in
     let rest = mod_below (2 * n + q) (2 * q) (omega arith) in
     (omega (arith, split), omega (arith, split, rest))
-
-pub size_fits : (n q : ℕ) → 0 < q → n ≤ q * 2 ^ 61 → nearest_size n q < 2 ^ 62
-size_fits n q some h = div_below (2 * n + q) (2 * q) (2 ^ 62) (omega arith) (omega arith)
 
 pub neg_casts : (t : ℕ) → t < 2 ^ 62 → to_z w64 (of_z w64 (pos 0 -ℤ to_z w64 t)) ≡ pos 0 -ℤ pos t
 neg_casts t h = omega (arith, ints)
@@ -71,9 +68,6 @@ halved : (n h : ℕ) → nearest_size n (2 * h) ≡ (n + h) / (2 * h)
 halved n h =
     let twice : 2 * n + 2 * h ≡ 2 * (n + h) = omega arith in
     ap (λ k. k / (2 * (2 * h))) twice ∙ sym (div-div-eq-div-mul (2 * (n + h)) 2 (2 * h)) ∙ ap (λ k. k / (2 * h)) (mul-div_cancel_left (n + h) (omega arith))
-
-pub half_fits : (n h : ℕ) → 0 < h → n ≤ h * 2 ^ 62 → (n + h) / (2 * h) < 2 ^ 62
-half_fits n h some room = subst (λ k. k < 2 ^ 62) (halved n h) (size_fits n (2 * h) (omega arith) (omega arith))
 
 -- the number nearest to a product
 pub nearest_below : (x : ℤ) (f h : ℕ) → x <ℤ pos 0 → 0 < f → nearest (x *ℤ pos f) (2 * h) ≡ pos 0 -ℤ pos ((unsigned_abs x * f + h) / (2 * h))

@@ -65,8 +65,9 @@ fn range7(code: u16) -> (u32, u32)
     ensures next { code < last7 → result.0 + result.1 ≡ LockTimes.least7 (code + 1) }
     ensures fits { result.0 + result.1 < u32.MAX }
 {
+    let code = code as u32;
     let k = (code / 32).saturating_sub(1);
-    (((code - 32 * k) as u32) << k, 1 << k)
+    ((code - 32 * k) << k, 1 << k)
 }
 
 impl Lock {
