@@ -66,8 +66,11 @@ fn range7(code: u16) -> (u32, u32)
     ensures fits { result.0 + result.1 < u32.MAX }
 {
     let code = code as u32;
-    let k = (code / 32).saturating_sub(1);
-    ((code - 32 * k) << k, 1 << k)
+    if code < 32 {
+        return (code, 1);
+    }
+    let k = code / 32 - 1;
+    ((code % 32 + 32) << k, 1 << k)
 }
 
 impl Lock {
