@@ -280,12 +280,12 @@ fn insert_cell(cells: &mut ArrayVec<Cell, MOST_CELLS>, at: usize, x: Cell)
     requires room { array_vec_len cells.old < most_cells }
     ensures { cells.new.items ≡ insert cells.old.items at x }
 {
-    // A copy: the prover doesn't find the types of the fields of a cell that is only passed on.
-    let cell = Cell { lli: x.lli, ..x };
+    // The prover finds the types of the fields of a cell only where they are read.
+    let _value = x.c;
     if at == cells.len() {
-        cells.push(cell);
+        cells.push(x);
     } else {
-        cells.insert(at, cell);
+        cells.insert(at, x);
     }
 }
 
