@@ -123,8 +123,9 @@ impl Plan {
         self.place_among(signal.system(), signal)
     }
 
-    // Returns the index of a signal among the wanted signals of this system, which is its own.
-    pub(crate) fn place_among(&self, system: System, signal: Signal) -> Option<usize>
+    /// Returns the result of `place` for a signal of this system. This is faster if the system is
+    /// the same for many signals.
+    pub fn place_among(&self, system: System, signal: Signal) -> Option<usize>
         ensures { result ≡ place_in signal (planned_of system self.now) }
     {
         self.list(system).place(signal)
