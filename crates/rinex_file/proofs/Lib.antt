@@ -1,5 +1,6 @@
 mod Digits
 mod DigitWords
+mod EightDigits
 mod ColumnDigits
 mod Cuts
 mod Grown

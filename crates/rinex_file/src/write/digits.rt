@@ -59,12 +59,13 @@ fn eight(number: u32) -> u64
     if number < 100 {
         return pair(number) * 0x1_0000_0000_0000;
     }
-    let high = number / 10_000;
-    let low = number % 10_000;
-    pair(high / 100)
-        + pair(high % 100) * 65_536
-        + pair(low / 100) * 0x1_0000_0000
-        + pair(low % 100) * 0x1_0000_0000_0000
+    // Four digits in each half, then two in each quarter, then one in each byte.
+    let high = (number / 10_000) as u64;
+    let fours = high + (number % 10_000) as u64 * 0x1_0000_0000;
+    let hundreds = (fours * 10_486 / 0x10_0000) & 0x7F_0000_007F;
+    let twos = fours * 0x1_0000 - hundreds * 0x63_FFFF;
+    let tens = (twos * 103 / 0x400) & 0x0F_000F_000F_000F;
+    twos * 0x100 - tens * 0x9FF
 }
 
 /// Returns the last eight columns of a value: two digits, a point, thousandths, and the LLI and SSI
