@@ -1,7 +1,7 @@
 -- A text whose trailing blanks were cut is restored by padding it.
 use Rattle.std.proofs.Common.{arith, ◌≡◌, ℕ, suc, ◌+◌, ◌-◌, ◌<◌, ◌≤◌, List, [], ◌∷◌, ◌++◌, length, replicate, take, get_or, refl, sym, ap, ◌∙◌, true, false, length-append}
 use Rattle.std.specs.Prelude.{◌==◌, if◌then◌else◌}
-use Rattle.std.proofs.lemmas.List.{length-replicate, take_more}
+use Rattle.std.proofs.lemmas.List.{length-replicate, take_all, take_more}
 use Rattle.std.proofs.lemmas.Bool.{eqb-true}
 use Rattle.rinex_file.specs.Blanks.{trimmed, before_cut}
 
@@ -60,6 +60,23 @@ cut_more text n h e = ap trimmed (take_more text n 0 h ∙ ap (λ b. take n text
 
 pub cut_enough : (text : List ℕ) (n : ℕ) → n < length text → (get_or text n 0 ≡ 32 → ⊥) → take (n + 1) text ≡ trimmed (take (n + 1) text)
 cut_enough text n h other = take_more text n 0 h ∙ sym (trimmed-other (take n text) (get_or text n 0) other) ∙ ap trimmed (sym (take_more text n 0 h))
+
+-- and those on the whole text
+pub cut_last : (text rest : List ℕ) (n : ℕ) → n ≡ length text → 0 < n → get_or text (n - 1) 0 ≡ 32 → rest ≡ take (n - 1) text → trimmed rest ≡ trimmed text
+cut_last text rest n size some blank is =
+    let whole : n - 1 + 1 ≡ length text = omega (arith, size, some) in
+    ap trimmed is ∙ sym (cut_more text (n - 1) (omega (arith, size, some)) blank) ∙ ap trimmed (ap (λ k. take k text) whole ∙ take_all (length text) text (omega arith))
+
+pub uncut : (text : List ℕ) (n : ℕ) → n ≡ length text → 0 < n → (get_or text (n - 1) 0 ≡ 32 → ⊥) → text ≡ trimmed text
+uncut text n size some other =
+    let whole : n - 1 + 1 ≡ length text = omega (arith, size, some) in
+    let all : take (n - 1 + 1) text ≡ text = ap (λ k. take k text) whole ∙ take_all (length text) text (omega arith) in
+    sym all ∙ cut_enough text (n - 1) (omega (arith, size, some)) other ∙ ap trimmed all
+
+pub uncut_none : (text : List ℕ) → length text ≡ 0 → text ≡ trimmed text
+unfolding trimmed
+uncut_none [] none = refl
+uncut_none (b ∷ bs) none = absurd (omega (arith, none))
 
 in_front : (b : ℕ) (l : List ℕ) → (b ≡ 32 → ⊥) → before_cut b l ≡ b ∷ l
 in_front b [] other = before_cut-other b other

@@ -166,8 +166,12 @@ fn end_row(line: &mut Line)
     requires { array_vec_len line.old < most_line }
     ensures { line.new.items ≡ trimmed line.old.items ++ 10 ∷ [] }
 {
-    let end = trimmed_len(line.as_slice());
-    line.truncate(end);
+    // These are few, as no blanks are written after the last signal with a value.
+    let mut end = line.len();
+    while end > 0 && line[end - 1] == b' ' {
+        line.pop();
+        end -= 1;
+    }
     line.push(b'\n');
 }
 
