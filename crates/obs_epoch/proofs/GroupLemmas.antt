@@ -1,7 +1,7 @@
 -- The cells of one satellite, in a list in the order of satellites.
 use Rattle.std.proofs.Common.{◌≡◌, ℕ, zero, suc, ◌+◌, ◌<◌, ◌≤◌, ◌==◌, Bool, true, false, ◌||◌, ◌&&◌, List, [], ◌∷◌, map, filter, drop, refl, sym, ap, ap₂, ◌∙◌, subst, arith, length, not, All}
-use Rattle.std.specs.Prelude.{if◌then◌else◌}
-use Rattle.std.specs.List.{AllByRecursion}
+use Rattle.std.specs.Prelude.{if◌then◌else◌, nat_lt}
+use Rattle.std.specs.List.{AllByRecursion, list_any}
 use Rattle.std.proofs.lemmas.List.Elements.{All-head, All-tail}
 use Rattle.gnss_obs.specs.declared.system.System.{System}
 use Rattle.gnss_obs.specs.Satellites.{satellites as satellites_in}
@@ -183,3 +183,12 @@ counted_all system cells held sorted = (is, subst (λ k. k ≤ satellites_in sys
       sym (sum ∙ ap (λ b. counted_after 0 cells + one_if b) none ∙ plus (counted_after 0 cells)) where
         plus : (k : ℕ) → k + 0 ≡ k
         plus k = omega arith
+
+-- A satellite of kept cells is written if one of the cells has a value.
+pub some_counted : (system : System) (cells kept : List Cell) → cells ≡ kept → AreHeld system cells → AreSorted cells
+    → list_any has_value cells ≡ nat_lt 0 (written_among kept (satellites_in system))
+some_counted system cells kept is held sorted =
+    by cells (left_all system cells held).above ∙ ap (nat_lt 0) ((counted_all system cells held sorted).0 ∙ ap (λ (xs : List Cell). written_among xs (satellites_in system)) is) where
+      by : (cells : List Cell) → Above 0 cells → list_any has_value cells ≡ nat_lt 0 (counted_after 0 cells)
+      by [] above = refl
+      by (c ∷ cells) above = grind (arith, common_steps, (by cells above.1))

@@ -1,9 +1,10 @@
 //! Epochs: the observations of one time.
 ghost use Rattle.std.specs.Prelude.{◌≡◌, ◌+◌, ◌-◌, ◌<◌, ◌≤◌, [], false, length, drop, insert, map};
-ghost use Rattle.std.specs.Prelude.{slice_index_or, if◌then◌else◌};
+ghost use Rattle.std.specs.Prelude.{slice_index_or, if◌then◌else◌, nat_lt};
+ghost use Rattle.std.specs.List.{list_any};
 ghost use Rattle.arrayvec.specs.ArrayVec.{array_vec_len};
 ghost use Rattle.obs_epoch.specs.declared.cell.Cell.{Cell};
-ghost use Rattle.obs_epoch.specs.Values.{AreHeld, MayBeHeld, cells_of, satellites_written, is_written, written_among};
+ghost use Rattle.obs_epoch.specs.Values.{AreHeld, MayBeHeld, cells_of, has_value, satellites_written, is_written, written_among};
 ghost use Rattle.obs_epoch.specs.Values.{most_cells, most_written, planned_of, run};
 ghost use Rattle.obs_epoch.specs.Heard.{heard_cell, IsKey, IsObserved};
 ghost use Rattle.obs_epoch.specs.Held.{is_held, note_all};
@@ -176,6 +177,20 @@ impl Epoch {
         written(self.gps.as_slice(), System::Gps)
             + written(self.galileo.as_slice(), System::Galileo)
     }
+
+    /// Returns whether there is a satellite to write.
+    pub fn has_satellites(&self) -> bool
+        ensures { result ≡ nat_lt 0 (satellites_written self.now.epoch) }
+    {
+        has_value(self.cells(System::Gps)) || has_value(self.cells(System::Galileo))
+    }
+}
+
+// Returns whether one of the cells has a value.
+fn has_value(cells: &[Cell]) -> bool
+    ensures { result ≡ list_any has_value cells.now }
+{
+    cells.iter().any(|cell| cell.has_value())
 }
 
 // Returns the sort key of a satellite and signal of a system.

@@ -132,26 +132,22 @@ so_far-all stay s fs more =
     text-more s (closed_epochs s.gather (messages_of fs)) (all_epochs s.gather (messages_of (fs ++ more)))
     (rw filter_map-append (stay s.gather (messages_of fs) (messages_of more)))
 
-lt_true : (k : ℕ) → (k ≡ 0 → ⊥) → nat_lt 0 k ≡ true
-lt_true k some = grind arith
-
 -- what an epoch with a satellite adds
-added_is : (t : HeaderLists) (p : PlanValue) (n : Option StationValues) (k : ℕ) (o : Option EpochValue) (e : EpochValue) (v : StationValues) → Some e ≡ o → k ≡ satellites_written e → (k ≡ 0 → ⊥)
+added_is : (t : HeaderLists) (p : PlanValue) (n : Option StationValues) (o : Option EpochValue) (e : EpochValue) (v : StationValues) → Some e ≡ o → nat_lt 0 (satellites_written e) ≡ true
     → added t p n o v ≡ opening t p n e v ++ epoch_text p e
-added_is t p n k o e v is count none =
-    sym (ap (λ q. added t p n q v) is) ∙ ap (λ (b : Bool). if b then opening t p n e v ++ epoch_text p e else []) (sym (ap (λ m. nat_lt 0 m) count) ∙ lt_true k none)
+added_is t p n o e v is some = sym (ap (λ q. added t p n q v) is) ∙ ap (λ (b : Bool). if b then opening t p n e v ++ epoch_text p e else []) some
 
 -- the writer failed in the text before the epoch
-part_open : (a b : Option (List ℕ)) (t : HeaderLists) (p : PlanValue) (n : Option StationValues) (k : ℕ) (o : Option EpochValue) (e : EpochValue) (v : StationValues) → Some e ≡ o → k ≡ satellites_written e → (k ≡ 0 → ⊥)
+part_open : (a b : Option (List ℕ)) (t : HeaderLists) (p : PlanValue) (n : Option StationValues) (o : Option EpochValue) (e : EpochValue) (v : StationValues) → Some e ≡ o → nat_lt 0 (satellites_written e) ≡ true
     → AppendsPrefix a b (opening t p n e v) → AppendsPrefix a b (added t p n o v)
-part_open a b t p n k o e v is count none x = rw (added_is t p n k o e v is count none) (prefix_more a b (opening t p n e v) (epoch_text p e) x)
+part_open a b t p n o e v is some x = rw (added_is t p n o e v is some) (prefix_more a b (opening t p n e v) (epoch_text p e) x)
 
 -- the writer failed in the epoch
-part_epoch : (a b c : Option (List ℕ)) (t : HeaderLists) (p q : PlanValue) (n : Option StationValues) (k : ℕ) (o : Option EpochValue) (e : EpochValue) (v : StationValues) → Some e ≡ o → k ≡ satellites_written e → (k ≡ 0 → ⊥) → q ≡ p
+part_epoch : (a b c : Option (List ℕ)) (t : HeaderLists) (p q : PlanValue) (n : Option StationValues) (o : Option EpochValue) (e : EpochValue) (v : StationValues) → Some e ≡ o → nat_lt 0 (satellites_written e) ≡ true → q ≡ p
     → Appends a b (opening t p n e v) → AppendsPrefix b c (epoch_text q e) → AppendsPrefix a c (added t p n o v)
-part_epoch a b c t p q n k o e v is count none same first x =
+part_epoch a b c t p q n o e v is some same first x =
     let y : AppendsPrefix b c (epoch_text p e) = subst (λ (r : PlanValue). AppendsPrefix b c (epoch_text r e)) same x in
-    rw (added_is t p n k o e v is count none) (prefix_after a b c (opening t p n e v) (epoch_text p e) first y)
+    rw (added_is t p n o e v is some) (prefix_after a b c (opening t p n e v) (epoch_text p e) first y)
 
 -- the epoch that the gatherer returns is the one that it closed last, with the known station values
 lent : (e : Closed) (o : Option EpochValue) (v : StationValues) → e ∷ [] ≡ closed_by o v → (Some e.epoch ≡ o) × (e.values ≡ v)
@@ -161,16 +157,16 @@ lent e (Some x) v h = same h where
   same h = let is : e ≡ record { epoch = x; values = v } = cc in (ap (λ (c : Closed). Some c.epoch) is, ap (λ (c : Closed). c.values) is)
 
 -- the same for the epoch that the gatherer returns
-module _ (t : HeaderLists) (p : PlanValue) (n : Option StationValues) (k : ℕ) (o : Option EpochValue) (e : Closed) (v : StationValues) (is : e ∷ [] ≡ closed_by o v) (size : k ≡ satellites_written e.epoch) where
-  pub open_lent : (a b : Option (List ℕ)) → (k ≡ 0 → ⊥) → AppendsPrefix a b (opening t p n e.epoch e.values) → AppendsPrefix a b (added t p n o v)
-  open_lent a b some x =
+module _ (t : HeaderLists) (p : PlanValue) (n : Option StationValues) (o : Option EpochValue) (e : Closed) (v : StationValues) (is : e ∷ [] ≡ closed_by o v) (some : nat_lt 0 (satellites_written e.epoch) ≡ true) where
+  pub open_lent : (a b : Option (List ℕ)) → AppendsPrefix a b (opening t p n e.epoch e.values) → AppendsPrefix a b (added t p n o v)
+  open_lent a b x =
       let l = lent e o v is in
-      subst (λ (w : StationValues). AppendsPrefix a b (added t p n o w)) l.1 (part_open a b t p n k o e.epoch e.values l.0 size some x)
+      subst (λ (w : StationValues). AppendsPrefix a b (added t p n o w)) l.1 (part_open a b t p n o e.epoch e.values l.0 some x)
 
-  pub part_lent : (a b c : Option (List ℕ)) (q : PlanValue) → (k ≡ 0 → ⊥) → q ≡ p → Appends a b (opening t p n e.epoch e.values) → AppendsPrefix b c (epoch_text q e.epoch) → AppendsPrefix a c (added t p n o v)
-  part_lent a b c q some same first x =
+  pub part_lent : (a b c : Option (List ℕ)) (q : PlanValue) → q ≡ p → Appends a b (opening t p n e.epoch e.values) → AppendsPrefix b c (epoch_text q e.epoch) → AppendsPrefix a c (added t p n o v)
+  part_lent a b c q same first x =
       let l = lent e o v is in
-      subst (λ (w : StationValues). AppendsPrefix a c (added t p n o w)) l.1 (part_epoch a b c t p q n k o e.epoch e.values l.0 size some same first x)
+      subst (λ (w : StationValues). AppendsPrefix a c (added t p n o w)) l.1 (part_epoch a b c t p q n o e.epoch e.values l.0 some same first x)
 
 -- no frames have an empty text
 pub so_far-none : ((s : GatherSetup) → closed_epochs s [] ≡ []) → (s : SetupValue) → so_far s [] ≡ []

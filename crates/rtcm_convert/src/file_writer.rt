@@ -110,7 +110,7 @@ impl FileWriter {
         let Some(epoch) = self.gatherer.closed() else {
             return Ok(());
         };
-        if epoch.satellites() == 0 {
+        if !epoch.has_satellites() {
             return Ok(());
         }
         self.open(epoch, writer)?;
