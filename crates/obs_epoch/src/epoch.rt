@@ -1,6 +1,6 @@
 //! Epochs: the observations of one time.
 ghost use Rattle.std.specs.Prelude.{◌≡◌, ◌+◌, ◌-◌, ◌<◌, ◌≤◌, [], false, length, drop, insert, map};
-ghost use Rattle.std.specs.Prelude.{slice_index_or, if◌then◌else◌, nat_lt};
+ghost use Rattle.std.specs.Prelude.{slice_index_or, if◌then◌else◌, nat_lt, IfOk};
 ghost use Rattle.std.specs.List.{list_any};
 ghost use Rattle.arrayvec.specs.ArrayVec.{array_vec_len};
 ghost use Rattle.obs_epoch.specs.declared.cell.Cell.{Cell};
@@ -19,6 +19,8 @@ use crate::plan::Plan;
 use crate::time::GpsTime;
 use arrayvec::ArrayVec;
 use gnss_obs::{Sat, Signal, System};
+use std::alloc::{AllocError, Global};
+use std::boxed::Box;
 use std::marker::Model;
 
 /// Largest number of cells of one system that an epoch keeps.
@@ -36,10 +38,13 @@ pub struct SortKey {
 #[derive(Drop)]
 pub struct Epoch {
     time: GpsTime,
-    gps: ArrayVec<Cell, MOST_CELLS>,
-    galileo: ArrayVec<Cell, MOST_CELLS>,
+    // On the heap, so that a move of the epoch is short.
+    gps: Box<Cells>,
+    galileo: Box<Cells>,
     values: StationValues,
 }
+
+type Cells = ArrayVec<Cell, MOST_CELLS>;
 
 impl Model for Epoch {
     ghost use Rattle.gnss_obs.specs.declared.system.System.TheVariants.{Gps, Galileo};
@@ -49,22 +54,28 @@ impl Model for Epoch {
     ghost Value = { Closed };
 
     ghost view = { λ e.
-        record { epoch = record { time = e.time; gps = e.gps.items; galileo = e.galileo.items }; values = e.values } };
+        record {
+          epoch = record { time = e.time; gps = e.gps.value.items; galileo = e.galileo.value.items };
+          values = e.values;
+        } };
 
-    ghost invariant = { λ e. AreKept Gps e.gps.items × AreKept Galileo e.galileo.items };
+    ghost invariant = { λ e. AreKept Gps e.gps.value.items × AreKept Galileo e.galileo.value.items };
 }
 
 impl Epoch {
     // Returns an epoch without cells.
-    pub(crate) fn new(values: StationValues) -> Epoch
-        ensures { result ≡ record { epoch = record { time = 0; gps = []; galileo = [] }; values = values } }
+    pub(crate) fn new(alloc: Global, values: StationValues) -> Result<Epoch, AllocError>
+        ensures { IfOk result
+            (λ e. e ≡ record { epoch = record { time = 0; gps = []; galileo = [] }; values = values }) }
     {
-        Epoch {
+        let gps = no_cells(alloc)?;
+        let galileo = no_cells(alloc)?;
+        Ok(Epoch {
             time: GpsTime::within(0),
-            gps: ArrayVec::new(),
-            galileo: ArrayVec::new(),
+            gps,
+            galileo,
             values,
-        }
+        })
     }
 
     // Begins the epoch of another time, without cells.
@@ -191,6 +202,14 @@ fn has_value(cells: &[Cell]) -> bool
     ensures { result ≡ list_any has_value cells.now }
 {
     cells.iter().any(|cell| cell.has_value())
+}
+
+// Returns an empty list of cells. It isn't inlined, so that the stack has room for one at most.
+#[inline(never)]
+fn no_cells(alloc: Global) -> Result<Box<Cells>, AllocError>
+    ensures { IfOk result (λ cells. cells.value.items ≡ []) }
+{
+    Ok(Box::new(alloc, ArrayVec::new())?)
 }
 
 // Returns the sort key of a satellite and signal of a system.

@@ -119,31 +119,23 @@ impl Gatherer {
             (λ e. (e ≡ PlanFault.BadWeek) ⊎ ((e ≡ PlanFault.BadStation) ⊎ (e ≡ PlanFault.Memory))) }
     {
         match new_locks(alloc, start_week, station) {
-            Ok(locks) => {
-                let clock = Clock::new(plan, start_week, station, gather, initial);
-                Ok(Gatherer::of(clock, locks, initial))
-            }
+            Ok(locks) => match Epoch::new(alloc, initial) {
+                Ok(epoch) => {
+                    let clock = Clock::new(plan, start_week, station, gather, initial);
+                    Ok(Gatherer {
+                        clock,
+                        epoch,
+                        locks,
+                        just_closed: false,
+                        has_ended: false,
+                    })
+                }
+                Err(_) => {
+                    drop(locks);
+                    Err(PlanFault::Memory)
+                }
+            },
             Err(fault) => Err(fault),
-        }
-    }
-
-    // Returns a gatherer before its first message.
-    fn of(clock: Clock, locks: Locks, initial: StationValues) -> Gatherer
-        ensures { result ≡ record {
-          clock = clock;
-          epoch = no_epoch;
-          locks = locks;
-          values = initial;
-          just_closed = false;
-          has_ended = false;
-        } }
-    {
-        Gatherer {
-            clock,
-            epoch: Epoch::new(initial),
-            locks,
-            just_closed: false,
-            has_ended: false,
         }
     }
 
