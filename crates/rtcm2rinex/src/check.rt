@@ -34,6 +34,7 @@ fn check_line(counts: Counts) -> OutputLine
 /// # Errors
 ///
 /// `Check` with the fault of `check_file`, and `Write` if the writer failed.
+#[inline(never)]
 pub fn run_check<R: Read, W: Write>(
     alloc: Global,
     reader: &mut Counted<R>,

@@ -69,6 +69,7 @@ pub fn convert_stream<R: Read, W: Write>(
 ///
 /// Those of [`convert_stream`], and `BadSetup` for coordinates that don't fit 38 bits (DF025 to
 /// DF027).
+#[inline(never)]
 pub fn convert_stream_at<R: Read, W: Write>(
     alloc: Global,
     setup: Setup,
