@@ -201,7 +201,7 @@ fn put_cell(line: &mut Line, plan: &Plan, system: System, id: u8, cell: &Cell)
     if cell.satellite.id() != id {
         return;
     }
-    match plan.place(cell.signal) {
+    match plan.place_among(system, cell.signal) {
         None => {}
         Some(place) => put_at(line, place, &SignalValues::of(cell)),
     }

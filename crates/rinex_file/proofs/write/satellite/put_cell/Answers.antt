@@ -13,7 +13,7 @@ pub returns-in-None : goal.returns-in-None
 returns-in-None c front rest l held before =
     let cell = c.args.cell.now in
     let id = c.args.id in
-    let none = ap (λ s. place_in cell.signal (planned_of s c.args.plan.now)) (sym c.requires.held.signal) ∙ sym c.place.ensures.place ∙ c.in-None.is in
+    let none = sym c.place_among.ensures ∙ c.in-None.is in
     subst (λ (xs : List SignalValues). HasSignals c.args.line.now.items front xs)
     (sym (no_place cell.signal.index (planned_of c.args.system c.args.plan.now) (signal_values_at (cell ∷ rest) id) (signal_values_at rest id) none (others_stay cell rest id))) before
 
@@ -22,7 +22,7 @@ returns-in-Some c front rest l held before =
     let cell = c.args.cell.now in
     let signals = planned_of c.args.system c.args.plan.now in
     let own : cell.satellite.id ≡ c.args.id = grind (arith, c.if-id.false, c.id.ensures.value) in
-    let place = ap (λ s. place_in cell.signal (planned_of s c.args.plan.now)) (sym c.requires.held.signal) ∙ sym c.place.ensures.place ∙ c.in-Some.is in
+    let place = sym c.place_among.ensures ∙ c.in-Some.is in
     let (within, here, none) = position-Some (λ i. i == cell.signal.index) signals c.in-Some.place 0 place in
     let size = length-map signals (signal_values_at rest c.args.id) in
     let put = c.put_at.ensures front (entries_of c.args.plan.now c.args.system c.args.id rest) l (all_fit c.args.system rest c.args.id signals held) (subst (λ (n : ℕ). c.in-Some.place < n) (sym size) within) before in
