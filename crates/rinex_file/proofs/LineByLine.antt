@@ -1,5 +1,5 @@
 -- Bytes that were read ahead and the lines among them; a file that is read line by line, and its counts.
-use Rattle.std.specs.Prelude.{◌||◌, ◌==◌, nat_eq, nat_lt, min, All, if◌then◌else◌, ⊤, Bool, Result, Ok, Err}
+use Rattle.std.specs.Prelude.{◌||◌, ◌==◌, nat_eq, nat_lt, min, All, ⊤, Bool, Result, Ok, Err}
 use Rattle.std.specs.Io.KnownBytes.{Consumes, IsAtEnd, prepend_known}
 use Rattle.std.proofs.Common.{arith, ◌≡◌, ◌∙◌, sym, ap, subst, refl, ℕ, zero, suc, ◌+◌, ◌-◌, ◌<◌, ◌≤◌, true, false, List, [], ◌∷◌, ◌++◌, length, take, drop, get_or, length-append, take-add, append_assoc, append-nil, Option, Some, None, IfSome, inl, inr}
 use Rattle.std.proofs.Math.Nat.{min-eq_left, min-eq_right, min-le_left, min-le_right, le-min}
@@ -8,8 +8,6 @@ use Rattle.std.proofs.KnownBytes.{Consumes-nil, Consumes-trans}
 use Rattle.std.proofs.lemmas.List.Elements.{All-head, All-tail, All-cons, All-append}
 use Rattle.rinex_file.specs.Read.Fields.{has}
 use Rattle.rinex_file.specs.Blocks.{LeavesRest, AreMoved, MovesBytes}
-use Rattle.rinex_file.specs.declared.read.lines.Found.{Found}
-use Rattle.rinex_file.specs.declared.read.lines.Found.TheVariants.{Line, End, Long, Failed}
 use Rattle.rinex_file.specs.Exact.{IsLine, IsTextOf, NoFileBegins, IsCutShort, IsTooLong, IsFaulty, ExplainsFault, IsNoFault, most_lines}
 use Rattle.rinex_file.specs.declared.read.parser_state.ParserState.{ParserState}
 use Rattle.rinex_file.specs.declared.read.expected.Added.{Added}
@@ -87,19 +85,6 @@ leaves_all a = ([], Consumes-nil a)
 -- no byte is left ahead, nor of the reader
 pub at_end : (ahead : List ℕ) (r : Option (List ℕ)) → ahead ≡ [] → IsAtEnd r → IsAtEnd (prepend_known ahead r)
 at_end ahead v1 none end = grind arith
-
-abbrev pub is_failed : Found → Bool
-is_failed Line = false
-is_failed End = false
-is_failed Long = false
-is_failed Failed = true
-
-differ : false ≡ true → ⊥
-differ e = cc
-
--- if something was found, the reader didn't fail
-pub not_failed : (found : Found) (P : Type 0) → is_failed found ≡ false → found ≡ Failed → P
-not_failed found P isnt e = absurd (differ (sym isnt ∙ ap is_failed e))
 
 -- ---- the bytes of a line if no more is read
 
@@ -224,11 +209,9 @@ no_more : (lines more all : List (List ℕ)) (rest : List ℕ) → all ≡ lines
 no_more lines [] all rest split text many few some = grind arith
 no_more lines (m ∷ ms) all rest split text many few some = grind (arith, length-append)
 
-no_bytes : (front bytes : List ℕ) → 0 < length bytes → front ++ bytes ≡ front → ⊥
-no_bytes front bytes some e = grind (arith, length-append, (length-append front bytes), (ap length e))
-
-same_number : (n m : ℕ) → (n == m) ≡ true → n ≡ m
-same_number n m e = grind arith
+no_bytes : (front bytes : List ℕ) → front ++ bytes ≡ front → bytes ≡ []
+no_bytes front [] e = refl
+no_bytes front (b ∷ bytes) e = grind (arith, length-append, (length-append front (b ∷ bytes)), (ap length e))
 
 -- ---- what a reader returned
 
@@ -298,10 +281,10 @@ module _ (are_lines : (v : FileValue) → IsFileValue v → All IsLine (file_lin
       let none : more ≡ [] = endless_lines more bytes (after_are taken more (subst (All IsLine) lines (are_lines v is))) endless text in
       lines ∙ ap (λ l. taken ++ l) none ∙ append-nil taken
 
-  -- the input ends within a line
-  pub cut_within : (s : Progress) (n : ℕ) (a b c : Option (List ℕ)) (bytes : List ℕ) (t : IsTaken s n a b) → AreBegun t.lines → 0 < length bytes → has 10 bytes ≡ false → IsAtEnd c → Consumes b c bytes
-      → IfSome a (λ input. IsCutShort input (n + 1))
-  cut_within s n a b c bytes t begun some endless end next =
+  -- the input ends before the next line's line feed; if no byte of the line was read, more lines are expected
+  pub cut : (s : Progress) (n : ℕ) (a b c : Option (List ℕ)) (bytes : List ℕ) (t : IsTaken s n a b) → AreBegun t.lines → has 10 bytes ≡ false → IsAtEnd c → Consumes b c bytes
+      → (bytes ≡ [] → (v : FileValue) → HasLinesLeft s v [] → ⊥) → IfSome a (λ input. IsCutShort input (n + 1))
+  cut s n a b c bytes t begun endless end next never =
       consumed_all a c (joined t.lines ++ bytes) (λ input. IsCutShort input (n + 1)) (Consumes-trans a b c (joined t.lines) bytes t.taken next) end (record {
         lines = t.lines;
         rest = bytes;
@@ -309,22 +292,9 @@ module _ (are_lines : (v : FileValue) → IsFileValue v → All IsLine (file_lin
         count = ap (λ (k : ℕ). k + 1) t.many;
         endless = endless;
         begun = begun;
-        none = λ v is e. no_bytes (joined t.lines) bytes some (e ∙ ap joined (after v t.lines bytes is t.are e endless));
-      })
-
-  -- the input ends after a line, and more lines are expected
-  pub cut_after : (s : Progress) (n : ℕ) (a b c : Option (List ℕ)) (bytes : List ℕ) (t : IsTaken s n a b) → AreBegun t.lines → bytes ≡ [] → IsAtEnd c → Consumes b c bytes
-      → ((v : FileValue) → HasLinesLeft s v [] → ⊥) → IfSome a (λ input. IsCutShort input (n + 1))
-  cut_after s n a b c bytes t begun none end next never =
-      let endless : has 10 bytes ≡ false = ap (has 10) none in
-      consumed_all a c (joined t.lines ++ bytes) (λ input. IsCutShort input (n + 1)) (Consumes-trans a b c (joined t.lines) bytes t.taken next) end (record {
-        lines = t.lines;
-        rest = bytes;
-        first = record { are = t.are; first = refl };
-        count = ap (λ (k : ℕ). k + 1) t.many;
-        endless = endless;
-        begun = begun;
-        none = λ v is e. never v (t.history.goes v [] is (after v t.lines bytes is t.are e endless ∙ sym (append-nil t.lines)));
+        none = λ v is e.
+            let same = after v t.lines bytes is t.are e endless in
+            never (no_bytes (joined t.lines) bytes (e ∙ ap joined same)) v (t.history.goes v [] is (same ∙ sym (append-nil t.lines)));
       })
 
   -- the input is the text of the file that was read
@@ -372,25 +342,13 @@ module _ (are_lines : (v : FileValue) → IsFileValue v → All IsLine (file_lin
     only_faults None fault v why is few = tt
     only_faults (Some input) fault v why is few = not_explained v input fault is few why
 
--- the fault if a byte follows this number of lines
-pub after_fault : (s : Progress) (n : ℕ) (a b c : Option (List ℕ)) (bytes : List ℕ) (fault result : ReadFault) → IsTaken s n a b → 0 < length bytes → Consumes b c bytes
-    → result ≡ (if n == most_lines then TooLong else fault) → IfSome a (λ input. ExplainsFault input fault) → IfSome a (λ input. ExplainsFault input result)
-after_fault s n a b c bytes fault result t some next is why =
-    elim (n == most_lines) as (λ most. (n == most_lines) ≡ most → result ≡ (if most then TooLong else fault) → IfSome a (λ input. ExplainsFault input result)) [
-      | true ↦ λ most same. subst (λ f. IfSome a (λ input. ExplainsFault input f)) (sym same) (too_long s n a b c bytes t (same_number n most_lines most) some next)
-      | false ↦ λ most same. subst (λ f. IfSome a (λ input. ExplainsFault input f)) (sym same) why
-    ] refl is
-
--- two properties of the input, if it is known
-pub both_said : (a : Option (List ℕ)) (P Q : List ℕ → Type 0) → IfSome a P → IfSome a Q → IfSome a (λ input. P input × Q input)
-both_said v0 v1 v2 p q = grind arith
+-- a property of the input that follows from two others
+pub both_said : (a : Option (List ℕ)) (P Q R : List ℕ → Type 0) → ((input : List ℕ) → P input → Q input → R input) → IfSome a P → IfSome a Q → IfSome a R
+both_said v0 v1 v2 v3 h p q = grind arith
 
 -- a property of the input that follows from another
 pub said_of : (a : Option (List ℕ)) (P Q : List ℕ → Type 0) → ((input : List ℕ) → P input → Q input) → IfSome a P → IfSome a Q
 said_of v0 v1 v2 h p = grind arith
-
-pub long_some : (bytes : List ℕ) → length bytes ≡ 1220 → 0 < length bytes
-long_some bytes size = omega (arith, size)
 
 -- a memory fault has nothing to explain
 pub no_reason : (a : Option (List ℕ)) (v : FileValue) → IfSome a (λ input. input ≡ file_text v → ⊤)
@@ -401,18 +359,7 @@ pub line_some : (bytes : List ℕ) → IsLine bytes → 0 < length bytes
 line_some bytes ([], is, endless) = subst (λ (l : List ℕ). 0 < length l) (sym is) (omega arith)
 line_some bytes (b ∷ body, is, endless) = subst (λ (l : List ℕ). 0 < length l) (sym is) (omega arith)
 
--- ---- if the reader didn't fail
-
-abbrev pub is_read : {A : Type 0} → Result A ReadFault → Bool
-is_read (Ok a) = false
-is_read (Err Memory) = false
-is_read (Err Read) = true
-is_read (Err (BadHeader k)) = false
-is_read (Err (BadEpoch k)) = false
-is_read (Err (BadEvent k)) = false
-is_read (Err (BadSatellite k)) = false
-is_read (Err (CutShort k)) = false
-is_read (Err TooLong) = false
+-- ---- the same fault in two types of results
 
 abbrev pub fault_in : {A : Type 0} → Result A ReadFault → ReadFault
 fault_in (Ok a) = Memory
@@ -420,12 +367,6 @@ fault_in (Err fault) = fault
 
 abbrev pub result_of : (A : Type 0) → ReadFault → Result A ReadFault
 result_of A fault = Err fault
-
-pub not_read : {A : Type 0} (r : Result A ReadFault) (P : Type 0) → is_read r ≡ false → r ≡ Err Read → P
-not_read r P isnt e = absurd (differ (sym isnt ∙ ap is_read e))
-
-pub other_fault : {A : Type 0} (fault : ReadFault) (P : Type 0) → (fault ≡ Read → ⊥) → result_of A fault ≡ Err Read → P
-other_fault fault P other e = absurd (other (ap fault_in e))
 
 -- the same fault in another type of result
 pub still_read : {A B : Type 0} (fault : ReadFault) → result_of A fault ≡ Err Read → result_of B fault ≡ Err Read

@@ -2,6 +2,7 @@
 use Rattle.std.specs.Prelude.{◌≡◌, ℕ, ◌+◌, ◌^◌, ◌<◌, ◌≤◌, ◌⊎◌, false, List, [], ◌∷◌, ◌++◌, length, All, Option, Result}
 use Rattle.std.specs.Prelude.{Ok, Err, ⊤, IfSome}
 use Rattle.std.specs.Io.KnownBytes.{IsAtEnd}
+use Rattle.rtcm_bits.specs.Device.{HasFailed}
 use Rattle.rinex_file.specs.declared.read.lines.Found.{Found}
 use Rattle.rinex_file.specs.declared.read.lines.Found.TheVariants.{Line, End, Long, Failed}
 use Rattle.rinex_file.specs.declared.read.fault.ReadFault.{ReadFault}
@@ -22,12 +23,12 @@ use Rattle.rinex_file.specs.Limits.{most_line}
 abbrev pub IsLine : List ℕ → Type 0
 IsLine line = (body : List ℕ) × (line ≡ body ++ 10 ∷ []) × (has 10 body ≡ false)
 
--- what the bytes are that were consumed for a line, if `left` is the rest of the input
-abbrev pub IsFound : Found → List ℕ → Option (List ℕ) → Type 0
-IsFound Line bytes left = IsLine bytes
-IsFound End bytes left = (has 10 bytes ≡ false) × IsAtEnd left
-IsFound Long bytes left = (length bytes ≡ most_line) × (has 10 bytes ≡ false)
-IsFound Failed bytes left = ⊤
+-- what the bytes are that were consumed for a line, if `left` is the rest of the input, and the reader's failures
+abbrev pub IsFound : Found → List ℕ → Option (List ℕ) → ℕ → ℕ → Type 0
+IsFound Line bytes left old new = IsLine bytes × (new ≡ old)
+IsFound End bytes left old new = (has 10 bytes ≡ false) × IsAtEnd left × (new ≡ old)
+IsFound Long bytes left old new = (length bytes ≡ most_line) × (has 10 bytes ≡ false) × (new ≡ old)
+IsFound Failed bytes left old new = HasFailed old new
 
 -- `lines` are the first lines of the input, and `rest` follows them
 pub record AreFirstLines (input : List ℕ) (lines : List (List ℕ)) (rest : List ℕ) : Type 0 where

@@ -1,7 +1,5 @@
 //! The lines of a reader.
-ghost use Rattle.std.specs.Prelude.{◌≡◌};
 ghost use Rattle.std.specs.Io.KnownBytes.{Consumes, prepend_known};
-ghost use Rattle.rtcm_bits.specs.Device.{HasFailed};
 ghost use Rattle.rinex_file.specs.Exact.{IsFound};
 ghost use Rattle.rinex_file.specs.Blocks.{LeavesRest};
 
@@ -29,12 +27,11 @@ pub(crate) fn next_line<R: Read>(
     block: &mut Block,
     line: &mut Line,
 ) -> Found
-    ensures taken { Consumes (prepend_known block.old (R.remaining reader.old.inner))
-        (prepend_known block.new (R.remaining reader.new.inner)) line.new.items }
-    ensures found { IsFound result line.new.items (prepend_known block.new (R.remaining reader.new.inner)) }
-    ensures left { LeavesRest (R.remaining reader.old.inner) (R.remaining reader.new.inner) }
-    ensures failed { result ≡ Found.Failed → HasFailed reader.old.failures reader.new.failures }
-    ensures same { (result ≡ Found.Failed → ⊥) → reader.new.failures ≡ reader.old.failures }
+    ensures taken { (Consumes (prepend_known block.old (R.remaining reader.old.inner))
+        (prepend_known block.new (R.remaining reader.new.inner)) line.new.items)
+        × LeavesRest (R.remaining reader.old.inner) (R.remaining reader.new.inner) }
+    ensures found { IsFound result line.new.items (prepend_known block.new (R.remaining reader.new.inner))
+        reader.old.failures reader.new.failures }
 {
     line.clear();
     while !line.is_full() {

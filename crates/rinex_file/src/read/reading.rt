@@ -45,17 +45,6 @@ fn fault_at(expected: Expected, number: u64) -> ReadFault
     }
 }
 
-/// Returns the fault if a byte follows this number of lines: `TooLong` if it is the largest.
-fn fault_after(lines: u64, fault: ReadFault) -> ReadFault
-    ensures { result ≡ (if lines == most_lines then ReadFault.TooLong else fault) }
-{
-    if lines == MOST_LINES {
-        ReadFault::TooLong
-    } else {
-        fault
-    }
-}
-
 impl Reading {
     /// Returns the reading of a file of which nothing was read.
     pub(crate) fn new(alloc: Global) -> Reading
@@ -87,27 +76,17 @@ impl Reading {
         ensures same { (result ≡ Err ReadFault.Read → ⊥) → reader.new.failures ≡ reader.old.failures }
     {
         let number = self.count + 1;
-        match next_line(reader, &mut self.block, &mut self.line) {
-            Found::Line => {}
-            Found::End => {
-                if !self.line.is_empty() {
-                    return Err(fault_after(self.count, ReadFault::CutShort(number)));
-                }
-                if self.parser_state.may_end() {
-                    return Ok(None);
-                }
-                return Err(ReadFault::CutShort(number));
-            }
-            Found::Long => return Err(fault_after(
-                self.count,
-                fault_at(self.parser_state.expected, number),
-            )),
-            Found::Failed => return Err(ReadFault::Read),
-        }
-        if self.count == MOST_LINES {
-            return Err(ReadFault::TooLong);
-        }
         let expected = self.parser_state.expected;
+        match next_line(reader, &mut self.block, &mut self.line) {
+            Found::Failed => return Err(ReadFault::Read),
+            _ if self.count == MOST_LINES && !self.line.is_empty() => {
+                return Err(ReadFault::TooLong);
+            }
+            Found::Line => {}
+            Found::End if self.line.is_empty() && self.parser_state.may_end() => return Ok(None),
+            Found::End => return Err(ReadFault::CutShort(number)),
+            Found::Long => return Err(fault_at(expected, number)),
+        }
         match self
             .parser_state
             .take(self.line.as_slice(), &mut self.again)

@@ -1,19 +1,23 @@
-use Rattle.std.proofs.Common.{refl, ◌≡◌, ◌∙◌, sym, ap, subst, ℕ, List, ◌+◌, ◌^◌, ◌<◌, ◌≤◌, length, Err}
+use Rattle.std.proofs.Common.{refl, ◌≡◌, ◌∙◌, sym, ap, subst, ℕ, List, ◌^◌, ◌<◌, ◌≤◌, length, Err, arith}
 use Rattle.rinex_file.specs.declared.read.expected.Refusal.{Refusal}
-use Rattle.rinex_file.specs.declared.read.fault.ReadFault.TheVariants.{CutShort}
-use Rattle.rinex_file.specs.Exact.{IsFaulty, IsExpectedAt}
 use Rattle.rinex_file.specs.ParserState.{GoesOnWithLine, ShowsLine, RefusesLine, TakesLine, progress_at, with_line}
 use Rattle.rinex_file.proofs.FileLines.{lines_are_lines}
 use Rattle.rinex_file.proofs.Judged.{refused as judged}
 use Rattle.rinex_file.proofs.HeaderBody.{unfinished, file_shown, only_file, file_read, sound_rows, begun, expected_at}
-use Rattle.rinex_file.proofs.LineByLine.{one_more, refused, over_long, cut_within, cut_after, whole, after_fault, both_said, said_of, long_some, too_long, line_some, is_empty, not_empty}
+use Rattle.rinex_file.proofs.LineByLine.{one_more, refused, over_long, cut, whole, both_said, too_long, line_some, is_empty, not_empty}
 use Rattle.rinex_file.proofs.read.reading.Reading.next.Goals as goal
+use Rattle.rinex_file.proofs.read.reading.Reading.next.Goals.{then-self-eq-MOST_LINES+else-not-is_empty, else-self-eq-MOST_LINES}
 
 few_lines : (lines taken : List (List ℕ)) (n : ℕ) → lines ≡ taken → length taken ≡ n → n ≤ 2 ^ 32 → length lines ≤ 2 ^ 32
 few_lines lines taken n same size few = subst (λ (k : ℕ). k ≤ 2 ^ 32) (sym (ap length same ∙ size)) few
 
-pub returns-then-may_end-clause-goes : goal.returns-then-may_end-clause-goes
-returns-then-may_end-clause-goes g c = λ h input read.
+pub returns-in_default-clause-goes : goal.returns-in_default-clause-goes
+returns-in_default-clause-goes g c = λ h input read.
+    too_long (progress_at c.args.self.now.parser_state h) c.args.self.now.count input _ _ c.next_line.new.line.items read.taken c.if-self-eq-MOST_LINES.true
+    (not_empty _ (sym c.if-not-is_empty.true ∙ c.is_empty.ensures)) c.next_line.ensures.taken.0
+
+pub returns-in-End-clause-goes : goal.returns-in-End-clause-goes
+returns-in-End-clause-goes g c = λ h input read.
     let parser_state = c.args.self.now.parser_state in
     let s = progress_at parser_state h in
     let end = c.in-End.ensures in
@@ -23,38 +27,30 @@ returns-then-may_end-clause-goes g c = λ h input read.
     record {
       is = file_read s expected read.history.sound some;
       few = few_lines _ read.taken.lines _ lines read.taken.many c.requires.within.1;
-      text = whole lines_are_lines s c.args.self.now.count input _ _ c.next_line.new.line.items _ read.taken lines (is_empty _ (sym c.if-not-is_empty.false ∙ c.is_empty.ensures)) end.found.1 end.taken (only_file s expected);
+      text = whole lines_are_lines s c.args.self.now.count input _ _ c.next_line.new.line.items _ read.taken lines (is_empty _ c.if-is_empty.ensures) end.found.1 end.taken.0 (only_file s expected);
       history = read.history;
       none = sound_rows s expected read.history.sound;
     }
 
-pub returns-in-End-clause-goes : goal.returns-in-End-clause-goes
-returns-in-End-clause-goes g c = λ h input read.
+pub returns-in-End-2-clause-goes : goal.returns-in-End-2-clause-goes
+returns-in-End-2-clause-goes g c = λ h input read.
     let parser_state = c.args.self.now.parser_state in
     let end = c.in-End.ensures in
-    cut_after lines_are_lines (progress_at parser_state h) c.args.self.now.count input _ _ c.next_line.new.line.items read.taken (begun _ _ _ _ read.taken read.history.sound) (is_empty _ (sym c.if-not-is_empty.false ∙ c.is_empty.ensures)) end.found.1 end.taken
-    (unfinished parser_state h read.history (judged c.may_end.result _ c.may_end.ensures c.if-may_end.false))
+    cut lines_are_lines (progress_at parser_state h) c.args.self.now.count input _ _ c.next_line.new.line.items read.taken (begun _ _ _ _ read.taken read.history.sound) end.found.0 end.found.1 end.taken.0
+    (λ none. unfinished parser_state h read.history (judged c.may_end.result _ c.may_end.ensures c.if-may_end.false))
 
-pub returns-then-not-is_empty-clause-goes : goal.returns-then-not-is_empty-clause-goes
-returns-then-not-is_empty-clause-goes g c = λ h input read.
-    let s = progress_at c.args.self.now.parser_state h in
-    let n = c.args.self.now.count in
+pub returns-in-End-2-2-clause-goes : goal.returns-in-End-2-2-clause-goes
+returns-in-End-2-2-clause-goes g c = λ h input read.
     let end = c.in-End.ensures in
-    let bytes = c.next_line.new.line.items in
-    let some = not_empty _ (sym c.if-not-is_empty.true ∙ c.is_empty.ensures) in
-    after_fault s n input _ _ bytes (CutShort (n + 1)) c.fault_after.result read.taken some end.taken c.fault_after.ensures
-    (cut_within lines_are_lines s n input _ _ bytes read.taken (begun _ _ _ _ read.taken read.history.sound) some end.found.0 end.found.1 end.taken)
+    cut lines_are_lines (progress_at c.args.self.now.parser_state h) c.args.self.now.count input _ _ c.next_line.new.line.items read.taken (begun _ _ _ _ read.taken read.history.sound) end.found.0 end.found.1 end.taken.0
+    (λ none. let some = not_empty _ c.if-is_empty.ensures in let size = ap length none in absurd (omega (arith, some, size)))
 
 pub returns-in-Long-clause-goes : goal.returns-in-Long-clause-goes
 returns-in-Long-clause-goes g c = λ h input read.
     let s = progress_at c.args.self.now.parser_state h in
-    let n = c.args.self.now.count in
     let long = c.in-Long.ensures in
-    let bytes = c.next_line.new.line.items in
-    after_fault s n input _ _ bytes c.fault_at.result c.fault_after-in-Long.result read.taken (long_some bytes long.found.0) long.taken c.fault_after-in-Long.ensures
-    (said_of input (λ text. IsFaulty text (n + 1) × IsExpectedAt c.args.self.now.parser_state.expected text (n + 1)) _ (λ text both. c.fault_at.ensures.faulty text both.0 both.1)
-    (both_said input (λ text. IsFaulty text (n + 1)) (λ text. IsExpectedAt c.args.self.now.parser_state.expected text (n + 1)) (over_long s n input _ _ bytes read.taken long.found.0 long.found.1 long.taken)
-    (expected_at c.args.self.now.parser_state h c.args.self.now.parser_state.expected n input _ read.taken refl read.history)))
+    both_said input _ _ _ c.fault_at.ensures.faulty (over_long s c.args.self.now.count input _ _ c.next_line.new.line.items read.taken long.found.0 long.found.1 long.taken.0)
+    (expected_at c.args.self.now.parser_state h c.args.self.now.parser_state.expected c.args.self.now.count input _ read.taken refl read.history)
 
 pub returns-in-Ok-clause-goes : goal.returns-in-Ok-clause-goes
 returns-in-Ok-clause-goes g c = λ h input read.
@@ -63,10 +59,19 @@ returns-in-Ok-clause-goes g c = λ h input read.
     let line = c.next_line.new.line.items in
     let next = c.in-Ok.ensures.takes h read.history in
     record {
-      taken = one_more old new c.args.self.now.count input _ _ line read.taken c.in-Line.ensures.found c.in-Line.ensures.taken (subst (GoesOnWithLine old new) c.as_slice.ensures.value next.follows)
+      taken = one_more old new c.args.self.now.count input _ _ line read.taken c.in-Line.ensures.found.0 c.in-Line.ensures.taken.0 (subst (GoesOnWithLine old new) c.as_slice.ensures.value next.follows)
           (subst (ShowsLine old new) c.as_slice.ensures.value next.shows);
       history = next.history;
     }
+
+pub returns-in-Ok-clause-within : goal.returns-in-Ok-clause-within
+returns-in-Ok-clause-within g c = elim c.if-self-eq-MOST_LINES.branch [
+  | then-self-eq-MOST_LINES+else-not-is_empty w ↦
+      let empty = ap length (is_empty _ (sym w.if-not-is_empty.false ∙ w.is_empty.ensures)) in
+      let some = line_some _ c.in-Line.ensures.found.0 in
+      absurd (omega (arith, empty, some))
+  | else-self-eq-MOST_LINES w ↦ (c.in-Ok.ensures.room _ c.requires.within.0, let few = c.requires.within.1 in omega (arith, few, w.if-self-eq-MOST_LINES.false))
+]
 
 pub returns-in-Err-Bad-clause-goes : goal.returns-in-Err-Bad-clause-goes
 returns-in-Err-Bad-clause-goes g c = λ h input read.
@@ -74,12 +79,6 @@ returns-in-Err-Bad-clause-goes g c = λ h input read.
     let n = c.args.self.now.count in
     let line = c.next_line.new.line.items in
     let takes = subst (λ (r : Refusal). TakesLine c.args.self.now.parser_state c.take.new.self c.as_slice.result.now (Err r)) c.in-Err-Bad.field-0-is c.in-Err-Bad.ensures.takes in
-    said_of input (λ text. IsFaulty text (n + 1) × IsExpectedAt c.args.self.now.parser_state.expected text (n + 1)) _ (λ text both. c.fault_at-in-Err-Bad.ensures.faulty text both.0 both.1)
-    (both_said input (λ text. IsFaulty text (n + 1)) (λ text. IsExpectedAt c.args.self.now.parser_state.expected text (n + 1))
-    (refused lines_are_lines s n input _ _ line read.taken c.in-Line.ensures.found c.in-Line.ensures.taken (subst (RefusesLine s) c.as_slice.ensures.value (takes h read.history)))
-    (expected_at c.args.self.now.parser_state h c.args.self.now.parser_state.expected n input _ read.taken refl read.history))
-
-pub returns-then-self-eq-MOST_LINES-clause-goes : goal.returns-then-self-eq-MOST_LINES-clause-goes
-returns-then-self-eq-MOST_LINES-clause-goes g c = λ h input read.
-    too_long (progress_at c.args.self.now.parser_state h) c.args.self.now.count input _ _ c.next_line.new.line.items read.taken c.if-self-eq-MOST_LINES.true
-    (line_some c.next_line.new.line.items c.in-Line.ensures.found) c.in-Line.ensures.taken
+    both_said input _ _ _ c.fault_at-in-Err-Bad.ensures.faulty
+    (refused lines_are_lines s n input _ _ line read.taken c.in-Line.ensures.found.0 c.in-Line.ensures.taken.0 (subst (RefusesLine s) c.as_slice.ensures.value (takes h read.history)))
+    (expected_at c.args.self.now.parser_state h c.args.self.now.parser_state.expected n input _ read.taken refl read.history)
