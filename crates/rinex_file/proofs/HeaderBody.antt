@@ -309,16 +309,16 @@ at_expected : (s : Progress) (d : Expected) → s.expected ≡ d → (v : FileVa
 unfolding HasLinesLeft
 at_expected s d expected v left on = subst (λ d. IsAt s d v left) expected on.1
 
-unfinished_at : (c : ParserState) (h : History) (expected : Expected) → c.expected ≡ expected → FollowsHistory c h → ((expected ≡ Epoch) × (0 < c.epochs) → ⊥) → (v : FileValue) → HasLinesLeft (progress_at c h) v [] → ⊥
+unfinished_at : (c : ParserState) (h : History) (expected : Expected) → c.expected ≡ expected → FollowsHistory c h → ((expected ≡ Epoch) × (0 < c.counts.epochs) → ⊥) → (v : FileValue) → HasLinesLeft (progress_at c h) v [] → ⊥
 unfinished_at c h (Header place) same history never v on = header_unfinished (progress_at c h) place same history.sound v on
-unfinished_at c h Epoch same history never v on = no_file (progress_at c h) same (no_epochs h.epochs c.epochs history.counted.epochs (λ some. never (refl, some))) v on
+unfinished_at c h Epoch same history never v on = no_file (progress_at c h) same (no_epochs h.epochs c.counts.epochs history.counted.epochs (λ some. never (refl, some))) v on
 unfinished_at c h EventPosition same history never v on = event_unfinished (progress_at c h) 1 (λ w. ⊤) (lit< tt) v (at_expected (progress_at c h) EventPosition same v [] on)
 unfinished_at c h (EventHeight p) same history never v on = event_unfinished (progress_at c h) 2 (λ w. position_of w ≡ p) (lit< tt) v (at_expected (progress_at c h) (EventHeight p) same v [] on)
 unfinished_at c h (EventEpoch w) same history never v on = event_unfinished (progress_at c h) 3 (λ x. x ≡ w) (lit< tt) v (at_expected (progress_at c h) (EventEpoch w) same v [] on)
 unfinished_at c h (Satellite n) same history never v on = epoch_unfinished (progress_at c h) n same history.sound v on
 
 -- lines are missing
-pub unfinished : (c : ParserState) (h : History) → FollowsHistory c h → ((c.expected ≡ Epoch) × (0 < c.epochs) → ⊥) → (v : FileValue) → HasLinesLeft (progress_at c h) v [] → ⊥
+pub unfinished : (c : ParserState) (h : History) → FollowsHistory c h → ((c.expected ≡ Epoch) × (0 < c.counts.epochs) → ⊥) → (v : FileValue) → HasLinesLeft (progress_at c h) v [] → ⊥
 unfinished c h history never v on = unfinished_at c h c.expected refl history never v on
 
 -- no satellite was read if an epoch is expected

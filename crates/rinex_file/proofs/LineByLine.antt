@@ -1,5 +1,5 @@
 -- Bytes that were read ahead and the lines among them; a file that is read line by line, and its counts.
-use Rattle.std.specs.Prelude.{◌||◌, ◌==◌, nat_eq, nat_lt, min, All, ⊤, Bool, Result, Ok, Err}
+use Rattle.std.specs.Prelude.{is_some, ◌||◌, ◌==◌, nat_eq, nat_lt, min, All, ⊤, Bool, Ok}
 use Rattle.std.specs.Io.KnownBytes.{Consumes, IsAtEnd, prepend_known}
 use Rattle.std.proofs.Common.{arith, ◌≡◌, ◌∙◌, sym, ap, subst, refl, ℕ, zero, suc, ◌+◌, ◌-◌, ◌<◌, ◌≤◌, true, false, List, [], ◌∷◌, ◌++◌, length, take, drop, get_or, length-append, take-add, append_assoc, append-nil, Option, Some, None, IfSome, inl, inr}
 use Rattle.std.proofs.Math.Nat.{min-eq_left, min-eq_right, min-le_left, min-le_right, le-min}
@@ -12,7 +12,6 @@ use Rattle.rinex_file.specs.Exact.{IsLine, IsTextOf, NoFileBegins, IsCutShort, I
 use Rattle.rinex_file.specs.declared.read.parser_state.ParserState.{ParserState}
 use Rattle.rinex_file.specs.declared.read.expected.Added.{Added}
 use Rattle.rinex_file.specs.declared.read.reading.Reading.{Reading}
-use Rattle.rinex_file.specs.declared.read.file.Counts.{Counts}
 use Rattle.rinex_file.specs.Value.{SatelliteRow, FileValue}
 use Rattle.rinex_file.specs.FileValues.{IsFileValue}
 use Rattle.rinex_file.specs.File.{file_text, file_lines}
@@ -359,34 +358,18 @@ pub line_some : (bytes : List ℕ) → IsLine bytes → 0 < length bytes
 line_some bytes ([], is, endless) = subst (λ (l : List ℕ). 0 < length l) (sym is) (omega arith)
 line_some bytes (b ∷ body, is, endless) = subst (λ (l : List ℕ). 0 < length l) (sym is) (omega arith)
 
--- ---- the same fault in two types of results
-
-abbrev pub fault_in : {A : Type 0} → Result A ReadFault → ReadFault
-fault_in (Ok a) = Memory
-fault_in (Err fault) = fault
-
-abbrev pub result_of : (A : Type 0) → ReadFault → Result A ReadFault
-result_of A fault = Err fault
-
--- the same fault in another type of result
-pub still_read : {A B : Type 0} (fault : ReadFault) → result_of A fault ≡ Err Read → result_of B fault ≡ Err Read
-still_read {A} {B} fault e = ap (result_of B) (ap fault_in e)
-
 -- ---- a file that was read whole, and its counts
-
-abbrev pub counts_at : ParserState → Counts
-counts_at c = record { epochs = c.epochs; satellites = c.satellites; events = c.events }
 
 no_rows_more : (n m : ℕ) (rows : List SatelliteRow) → n ≡ m + length rows → rows ≡ [] → n ≡ m
 no_rows_more n m rows e none = let zero : length rows ≡ 0 = ap length none in omega (arith, e, zero)
 
-counted_at : (c : ParserState) (h : History) (input : Option (List ℕ)) → IsWhole c h input → AreCounts (counts_at c) (file_at c h)
+counted_at : (c : ParserState) (h : History) (input : Option (List ℕ)) → IsWhole c h input → AreCounts c.counts (file_at c h)
 counted_at c h input whole = grind (arith, no_rows_more)
 
-pub counts_found : (c : ParserState) (h : History) (input : Option (List ℕ)) → IsWhole c h input → IsTextWith (counts_at c) input
+pub counts_found : (c : ParserState) (h : History) (input : Option (List ℕ)) → IsWhole c h input → IsTextWith c.counts input
 counts_found c h input whole = grind (arith, said_of, counted_at)
 
-pub counts_only : (c : ParserState) (h : History) (input : Option (List ℕ)) (v : FileValue) → IsWhole c h input → IsFileValue v → IfSome input (λ bytes. bytes ≡ file_text v → AreCounts (counts_at c) v)
+pub counts_only : (c : ParserState) (h : History) (input : Option (List ℕ)) (v : FileValue) → IsWhole c h input → IsFileValue v → IfSome input (λ bytes. bytes ≡ file_text v → AreCounts c.counts v)
 counts_only c h input v whole is = grind (arith, said_of, counted_at)
 
 -- ---- a step, by its result
@@ -395,8 +378,13 @@ pub added_more : (new : Reading) (h : History) (input left : Option (List ℕ)) 
     → HasRead new (with_line added new.parser_state h) input left
 added_more new h input left o added e goes = subst (λ (x : Option Added). ReadsNextLine new h input left (Ok x)) e goes
 
-pub the_end : (new : Reading) (h : History) (input left : Option (List ℕ)) (o : Option Added) → o ≡ None → ReadsNextLine new h input left (Ok o) → IsWhole new.parser_state h input
-the_end new h input left o e goes = subst (λ (x : Option Added). ReadsNextLine new h input left (Ok x)) e goes
+pub one_added : (new : Reading) (h : History) (input left : Option (List ℕ)) (o : Option Added) → is_some o ≡ true → ReadsNextLine new h input left (Ok o) → (k : History) × HasRead new k input left
+one_added new h input left (Some added) some goes = (with_line added new.parser_state h, goes)
+one_added new h input left None some goes = cc
+
+pub the_end : (new : Reading) (h : History) (input left : Option (List ℕ)) (o : Option Added) → is_some o ≡ false → ReadsNextLine new h input left (Ok o) → IsWhole new.parser_state h input
+the_end new h input left None none goes = goes
+the_end new h input left (Some added) none goes = cc
 
 pub file_found : (c : ParserState) (h : History) (input : Option (List ℕ)) (f : FileValue) → IsWhole c h input → f ≡ file_at c h → IsTextOf f input
 file_found c h input f whole same = grind (arith, said_of)

@@ -1,8 +1,10 @@
 -- The parser state while a file is read, and what it means for all that was read.
 use Rattle.std.specs.Prelude.{◌≡◌, ℕ, ◌+◌, ◌≤◌, List, [], ◌∷◌, ◌++◌, length, map, Option, Some, None, Result, Ok, Err}
-use Rattle.std.specs.Prelude.{⊤}
+use Rattle.std.specs.Prelude.{⊤, ◌<◌, ◌↔◌}
 use Rattle.std.specs.List.{sum_by}
+use Rattle.std.specs.List.Sorted.{IsStrictlyIncreasing}
 use Rattle.rinex_file.specs.declared.read.parser_state.ParserState.{ParserState}
+use Rattle.rinex_file.specs.declared.read.file.Counts.{Counts}
 use Rattle.rinex_file.specs.declared.read.expected.Added.{Added}
 use Rattle.rinex_file.specs.declared.read.expected.Added.TheVariants.{NoRow, OneRow, LastRow}
 use Rattle.rinex_file.specs.declared.read.expected.Refusal.{Refusal}
@@ -31,6 +33,10 @@ abbrev pub EndsIn : List ℕ → Option ℕ → Type 0
 EndsIn xs None = xs ≡ []
 EndsIn xs (Some x) = (front : List ℕ) × (xs ≡ front ++ x ∷ [])
 
+-- exactly the numbers above this one continue the increasing numbers
+abbrev pub IsLast : List ℕ → ℕ → Type 0
+IsLast xs last = (n : ℕ) → 0 < n → (last < n) ↔ IsStrictlyIncreasing (xs ++ n ∷ [])
+
 -- the number of lines of satellites
 abbrev pub rows_in : List Stamped → ℕ
 rows_in epochs = sum_by (λ e. length e.rows) epochs
@@ -44,19 +50,19 @@ abbrev pub events_in : List Stamped → ℕ
 events_in epochs = sum_by (λ e. changes_of e.change) epochs
 
 -- the last time and rank, the last change of station values, and the counts are those of a history
-pub record AreCounted (h : History) (last_time last_rank : Option ℕ) (changed : Option StationValues)
-    (epoch_count satellite_count event_count : ℕ) : Type 0 where
+pub record AreCounted (h : History) (last_time : Option ℕ) (last_rank : ℕ) (changed : Option StationValues)
+    (n : Counts) : Type 0 where
   pub last : EndsIn (map time_stamped h.epochs) last_time
-  pub rank : EndsIn (map rank_of h.rows) last_rank
+  pub rank : IsLast (map rank_of h.rows) last_rank
   pub values : (v : StationValues) → changed_by v changed ≡ values_following v h.epochs
-  pub epochs : epoch_count ≡ length h.epochs
-  pub satellites : satellite_count ≡ rows_in h.epochs + length h.rows
-  pub events : event_count ≡ events_in h.epochs
+  pub epochs : n.epochs ≡ length h.epochs
+  pub satellites : n.satellites ≡ rows_in h.epochs + length h.rows
+  pub events : n.events ≡ events_in h.epochs
 
 -- this is the parser state after this history
 pub record FollowsHistory (c : ParserState) (h : History) : Type 0 where
   pub sound : IsSound (progress_at c h)
-  pub counted : AreCounted h c.last c.rank c.values c.epochs c.satellites c.events
+  pub counted : AreCounted h c.last c.rank c.values c.counts
 
 -- an epoch after this change of station values
 abbrev pub stamped_at : Option StationValues → ℕ → List SatelliteRow → Stamped
@@ -103,4 +109,4 @@ TakesLine old new line (Err Memory) = ⊤
 
 -- no count is greater than this number of lines
 abbrev pub HasRoom : ParserState → ℕ → Type 0
-HasRoom c lines = (c.epochs ≤ lines) × (c.satellites ≤ lines) × (c.events ≤ lines)
+HasRoom c lines = (c.counts.epochs ≤ lines) × (c.counts.satellites ≤ lines) × (c.counts.events ≤ lines)

@@ -14,7 +14,7 @@ use std::alloc::Global;
 use std::io::Read;
 
 /// Counts of a file.
-#[derive(Clone, Copy, Debug, PartialEq, Eq)]
+#[derive(Clone, Copy, Debug, Default, PartialEq, Eq)]
 pub struct Counts {
     /// Number of epochs.
     pub epochs: u64,
@@ -47,19 +47,8 @@ pub fn check_file<R: Read>(alloc: Global, reader: &mut Counted<R>) -> Result<Cou
     ensures left { LeavesRest (R.remaining reader.old.inner) (R.remaining reader.new.inner) }
 {
     let mut reading = Reading::new(alloc);
-    loop {
-        match reading.next(reader) {
-            Ok(Some(_)) => {}
-            Ok(None) => {
-                return Ok(Counts {
-                    epochs: reading.parser_state.epochs,
-                    satellites: reading.parser_state.satellites,
-                    events: reading.parser_state.events,
-                });
-            }
-            Err(fault) => return Err(fault),
-        }
-    }
+    while reading.next(reader)?.is_some() {}
+    Ok(reading.parser_state.counts)
 }
 
 /// Reads a file to its end and returns it. A file is accepted if and only if it is exactly what
@@ -86,19 +75,13 @@ pub fn read_file<R: Read>(alloc: Global, reader: &mut Counted<R>) -> Result<ObsF
 {
     let mut reading = Reading::new(alloc);
     let mut file_builder = FileBuilder::new(alloc);
-    loop {
-        match reading.next(reader) {
-            Ok(Some(added)) => match file_builder.keep(added, &reading.parser_state) {
-                Ok(()) => {}
-                Err(_) => return Err(ReadFault::Memory),
-            },
-            Ok(None) => {
-                return match file_builder.finish(reading.parser_state) {
-                    Ok(file) => Ok(file),
-                    Err(_) => Err(ReadFault::Memory),
-                };
-            }
-            Err(fault) => return Err(fault),
-        }
+    while let Some(added) = reading.next(reader)? {
+        let Ok(()) = file_builder.keep(added, &reading.parser_state) else {
+            return Err(ReadFault::Memory);
+        };
+    }
+    match file_builder.finish(reading.parser_state) {
+        Ok(file) => Ok(file),
+        Err(_) => Err(ReadFault::Memory),
     }
 }

@@ -88,8 +88,7 @@ impl FileBuilder {
                 plan,
                 values: head.values,
                 epochs: self.epochs,
-                satellites: parser_state.satellites,
-                events: parser_state.events,
+                counts: parser_state.counts,
             }),
             Err(_) => Err(AllocError),
         }

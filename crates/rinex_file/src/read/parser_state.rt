@@ -2,19 +2,19 @@
 //! with the file.
 ghost use Rattle.std.specs.Prelude.{◌≡◌, ◌<◌, ◌≤◌, ◌+◌, ◌^◌, ◌∷◌, ◌++◌, ◌↔◌, ℕ, [], List, None, OnOk, IsTrue, map, length, nat_lt, if◌then◌else◌};
 ghost use Rattle.gnss_obs.specs.Satellites.{satellites};
-ghost use Rattle.std.specs.List.Sorted.{IsStrictlyIncreasing};
-ghost use Rattle.rinex_file.specs.Value.{FileValue, Stamped};
+ghost use Rattle.rinex_file.specs.Value.{FileValue};
 ghost use Rattle.obs_epoch.specs.declared.cell.StationValues.{StationValues};
-ghost use Rattle.rinex_file.specs.FileValues.{IsFileValue, rank_of, time_stamped, changed_by};
+ghost use Rattle.rinex_file.specs.FileValues.{IsFileValue, rank_of};
 ghost use Rattle.rinex_file.specs.File.{event_line, file_lines};
 ghost use Rattle.rinex_file.specs.Read.Progress.{HasLinesLeft, epoch_after};
-ghost use Rattle.rinex_file.specs.ParserState.{EndsIn, History, HasRoom, FollowsHistory, TakesLine, changes_of};
+ghost use Rattle.rinex_file.specs.ParserState.{History, HasRoom, FollowsHistory, TakesLine};
 ghost use Rattle.rinex_file.specs.ParserState.{nothing, progress_at};
-ghost use Rattle.rinex_file.specs.Read.Sound.{AreLinesOf, AreRead, IsTimeAfter, MayBegin, ReadsEpochLine};
+ghost use Rattle.rinex_file.specs.Read.Sound.{AreLinesOf, AreRead, MayBegin};
 ghost use Rattle.rinex_file.specs.Limits.{most_line};
 
 use crate::read::epoch::read_epoch_line;
 use crate::read::expected::{Added, Expected, Refusal};
+use crate::read::file::Counts;
 use crate::read::head_so_far::HeadSoFar;
 use crate::read::numbers::is_same;
 use crate::read::row::read_seen;
@@ -39,12 +39,10 @@ pub(crate) struct ParserState {
     // did.
     pub(crate) last: Option<u64>,
     pub(crate) values: Option<StationValues>,
-    // The satellite that was read last, and its rank if it is one of the epoch that was begun.
+    // The satellite that was read last, and its rank if it is one of the epoch that was begun, or 0.
     pub(crate) seen: KeptSatellite,
-    pub(crate) rank: Option<u64>,
-    pub(crate) epochs: u64,
-    pub(crate) satellites: u64,
-    pub(crate) events: u64,
+    pub(crate) rank: u64,
+    pub(crate) counts: Counts,
 }
 
 /// Returns a satellite's rank among all: those of GPS come first.
@@ -57,29 +55,6 @@ fn rank_of(seen: &KeptSatellite) -> u64
     }
 }
 
-/// Returns whether a number is greater than all of an increasing list that ends in the last.
-fn is_after(last: Option<u64>, next: u64) -> bool
-    ensures { (xs : List ℕ) → EndsIn xs last → IsStrictlyIncreasing xs → IsTrue result
-        ↔ IsStrictlyIncreasing (xs ++ next ∷ []) }
-{
-    match last {
-        None => true,
-        Some(last) => last < next,
-    }
-}
-
-/// Returns whether an epoch may have this time after epochs of increasing times that end in the
-/// last, in a file that begins at this first time.
-fn may_follow(last: Option<u64>, first: GpsTime, time: GpsTime) -> bool
-    ensures { (es : List Stamped) → EndsIn (map time_stamped es) last → IsStrictlyIncreasing (map time_stamped es)
-        → IsTrue result ↔ IsTimeAfter es first time }
-{
-    match last {
-        None => first.milliseconds() == time.milliseconds(),
-        Some(last) => last < time.milliseconds(),
-    }
-}
-
 /// Returns the number of satellites of a system, if some signal of it is planned.
 fn most_of(system: System, signals: usize) -> usize
     ensures { result ≡ (if nat_lt 0 signals then satellites system else 0) }
@@ -88,16 +63,6 @@ fn most_of(system: System, signals: usize) -> usize
         return 0;
     }
     system.satellites() as usize
-}
-
-/// Returns the number of events of a change of station values: one, or zero for no change.
-fn changes_of(change: Option<StationValues>) -> u64
-    ensures { result ≡ changes_of change }
-{
-    match change {
-        None => 0,
-        Some(_) => 1,
-    }
 }
 
 impl ParserState {
@@ -122,10 +87,8 @@ impl ParserState {
                 satellite: 0,
                 signal_values: ArrayVec::new(),
             },
-            rank: None,
-            epochs: 0,
-            satellites: 0,
-            events: 0,
+            rank: 0,
+            counts: Counts::default(),
         }
     }
 
@@ -138,33 +101,26 @@ impl ParserState {
         ensures room { (n : ℕ) → HasRoom self.old n → OnOk result (HasRoom self.new (n + 1)) }
     {
         match self.expected {
-            Expected::Header(place) => self.take_header(place, line, again),
-            Expected::Epoch => self.take_next(line, again),
-            Expected::EventPosition => self.take_position(line),
+            Expected::Header(place) => {
+                let next = self.head.take(place, line, again)?;
+                self.expected = next.map_or(Expected::Epoch, Expected::Header);
+                Ok(Added::NoRow)
+            }
+            Expected::Epoch if self.begins_event(line) => {
+                self.expected = Expected::EventPosition;
+                Ok(Added::NoRow)
+            }
+            Expected::Epoch => self.take_epoch(None, line, again),
+            Expected::EventPosition => {
+                let Some(position) = read_position(line) else {
+                    return Err(Refusal::Bad);
+                };
+                self.expected = Expected::EventHeight(position);
+                Ok(Added::NoRow)
+            }
             Expected::EventHeight(position) => self.take_height(position, line),
             Expected::EventEpoch(values) => self.take_epoch(Some(values), line, again),
             Expected::Satellite(left) => self.take_satellite(left, line, again),
-        }
-    }
-
-    /// Processes a line of the header.
-    fn take_header(&mut self, place: usize, line: &[u8], again: &mut Line) -> Result<Added, Refusal>
-        requires history { (h : History) × FollowsHistory self.old h }
-        requires expected { self.old.expected ≡ Expected.Header place }
-        ensures takes { TakesLine self.old self.new line.now result }
-        ensures room { (n : ℕ) → HasRoom self.old n → OnOk result (HasRoom self.new (n + 1)) }
-    {
-        match self.head.take(place, line, again) {
-            Err(Refusal::Memory) => Err(Refusal::Memory),
-            Err(Refusal::Bad) => Err(Refusal::Bad),
-            Ok(Some(next)) => {
-                self.expected = Expected::Header(next);
-                Ok(Added::NoRow)
-            }
-            Ok(None) => {
-                self.expected = Expected::Epoch;
-                Ok(Added::NoRow)
-            }
         }
     }
 
@@ -179,38 +135,17 @@ impl ParserState {
         if satellites == 0 || satellites > most {
             return false;
         }
-        may_follow(self.last, self.head.first(), time)
-    }
-
-    /// Returns the time and the number of satellites of an epoch that may follow, by its first
-    /// line.
-    fn read_begun(&self, line: &[u8], again: &mut Line) -> Option<(GpsTime, usize)>
-        requires between { (h : History) → FollowsHistory self.now h → AreRead (progress_at self.now h) }
-        ensures { (h : History) → FollowsHistory self.now h
-            → ReadsEpochLine (MayBegin (progress_at self.now h)) line.now result }
-    {
-        let read = read_epoch_line(line, again)?;
-        self.may_begin(read.0, read.1).then_some(read)
+        match self.last {
+            None => self.head.first().milliseconds() == time.milliseconds(),
+            Some(last) => last < time.milliseconds(),
+        }
     }
 
     /// Returns whether an event begins with the line; no event precedes the first epoch.
     fn begins_event(&self, line: &[u8]) -> bool
-        ensures { IsTrue result ↔ ((0 < self.now.epochs) × (line.now ≡ event_line)) }
+        ensures { IsTrue result ↔ ((0 < self.now.counts.epochs) × (line.now ≡ event_line)) }
     {
-        self.epochs > 0 && is_same(line, event_line())
-    }
-
-    /// Processes the first line of an epoch or of an event.
-    fn take_next(&mut self, line: &[u8], again: &mut Line) -> Result<Added, Refusal>
-        requires expected { self.old.expected ≡ Expected.Epoch }
-        ensures takes { TakesLine self.old self.new line.now result }
-        ensures room { (n : ℕ) → HasRoom self.old n → OnOk result (HasRoom self.new (n + 1)) }
-    {
-        if self.begins_event(line) {
-            self.expected = Expected::EventPosition;
-            return Ok(Added::NoRow);
-        }
-        self.take_epoch(None, line, again)
+        self.counts.epochs > 0 && is_same(line, event_line())
     }
 
     /// Processes the first line of an epoch, after an event with these station values or none.
@@ -221,29 +156,19 @@ impl ParserState {
         again: &mut Line,
     ) -> Result<Added, Refusal>
         requires expected { self.old.expected ≡ epoch_after change }
-        requires event { change ≡ None → (0 < self.old.epochs) × (line.now ≡ event_line) → ⊥ }
+        requires event { change ≡ None → (0 < self.old.counts.epochs) × (line.now ≡ event_line) → ⊥ }
         ensures takes { TakesLine self.old self.new line.now result }
         ensures room { (n : ℕ) → HasRoom self.old n → OnOk result (HasRoom self.new (n + 1)) }
     {
-        let Some(begun) = self.read_begun(line, again) else {
+        let Some(begun) = read_epoch_line(line, again) else {
             return Err(Refusal::Bad);
         };
+        if !self.may_begin(begun.0, begun.1) {
+            return Err(Refusal::Bad);
+        }
         self.change = change;
         self.time = begun.0;
         self.expected = Expected::Satellite(begun.1);
-        Ok(Added::NoRow)
-    }
-
-    /// Processes the position in an event.
-    fn take_position(&mut self, line: &[u8]) -> Result<Added, Refusal>
-        requires expected { self.old.expected ≡ Expected.EventPosition }
-        ensures takes { TakesLine self.old self.new line.now result }
-        ensures room { (n : ℕ) → HasRoom self.old n → OnOk result (HasRoom self.new (n + 1)) }
-    {
-        let Some(position) = read_position(line) else {
-            return Err(Refusal::Bad);
-        };
-        self.expected = Expected::EventHeight(position);
         Ok(Added::NoRow)
     }
 
@@ -286,30 +211,30 @@ impl ParserState {
             return Err(Refusal::Bad);
         }
         let rank = rank_of(&self.seen);
-        if !is_after(self.rank, rank) {
+        if rank <= self.rank {
             return Err(Refusal::Bad);
         }
-        self.satellites += 1;
+        self.counts.satellites += 1;
         if left > 1 {
-            self.rank = Some(rank);
+            self.rank = rank;
             self.expected = Expected::Satellite(left - 1);
             return Ok(Added::OneRow);
         }
-        self.epochs += 1;
-        self.events += changes_of(self.change);
+        self.counts.epochs += 1;
+        self.counts.events += self.change.map_or(0, |_| 1);
         self.values = self.change.or(self.values);
         self.last = Some(self.time.milliseconds());
-        self.rank = None;
+        self.rank = 0;
         self.expected = Expected::Epoch;
         Ok(Added::LastRow)
     }
 
     /// Returns whether the file may end here.
     pub(crate) fn may_end(&self) -> bool
-        ensures { IsTrue result ↔ ((self.now.expected ≡ Expected.Epoch) × (0 < self.now.epochs)) }
+        ensures { IsTrue result ↔ ((self.now.expected ≡ Expected.Epoch) × (0 < self.now.counts.epochs)) }
     {
         match self.expected {
-            Expected::Epoch => self.epochs > 0,
+            Expected::Epoch => self.counts.epochs > 0,
             _ => false,
         }
     }

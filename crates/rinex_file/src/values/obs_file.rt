@@ -4,6 +4,7 @@ ghost use Rattle.std.specs.List.{sum_by};
 ghost use Rattle.rinex_file.specs.ParserState.{events_in};
 
 use crate::header::texts::HeaderTexts;
+use crate::read::file::Counts;
 use crate::values::kept::KeptEpoch;
 use obs_epoch::{Plan, StationValues};
 use std::marker::Model;
@@ -15,8 +16,7 @@ pub struct ObsFile {
     pub(crate) plan: Plan,
     pub(crate) values: StationValues,
     pub(crate) epochs: Vec<KeptEpoch>,
-    pub(crate) satellites: u64,
-    pub(crate) events: u64,
+    pub(crate) counts: Counts,
 }
 
 impl Model for ObsFile {
@@ -30,7 +30,7 @@ impl Model for ObsFile {
     ghost view = { λ f. file_with f.texts f.plan f.values f.epochs.items };
 
     ghost invariant = { λ f. IsFileValue (file_with f.texts f.plan f.values f.epochs.items)
-        × (f.satellites ≡ rows_in f.epochs.items) × (f.events ≡ events_in f.epochs.items) };
+        × (f.counts.satellites ≡ rows_in f.epochs.items) × (f.counts.events ≡ events_in f.epochs.items) };
 }
 
 impl ObsFile {
@@ -66,13 +66,13 @@ impl ObsFile {
     pub fn events(&self) -> usize
         ensures { result ≡ events_in self.now.epochs }
     {
-        self.events as usize
+        self.counts.events as usize
     }
 
     /// Returns the number of lines of satellites in all epochs.
     pub fn satellites(&self) -> usize
         ensures { result ≡ sum_by (λ e. length e.rows) self.now.epochs }
     {
-        self.satellites as usize
+        self.counts.satellites as usize
     }
 }

@@ -6,8 +6,8 @@ use Rattle.rinex_file.specs.Read.Steps.{HasRead, MayBeCounted}
 use Rattle.rinex_file.proofs.read.file.read_file.Given as goal
 
 -- what is stored was read of the input
-abbrev pub invariant-loop-added : goal.invariant-loop-added
-invariant-loop-added g l =
+abbrev pub invariant-loop-file_builder : goal.invariant-loop-file_builder
+invariant-loop-file_builder g l =
     let remaining = g.R.Read.remaining in
     record {
       read : HasRead l.reading (history_of l.file_builder) (remaining l.fn.reader.inner) (remaining l.reader.inner);
@@ -16,5 +16,5 @@ invariant-loop-added g l =
       same : l.reader.failures ≡ l.fn.reader.failures;
     }
 
-abbrev pub decreases-loop-added : goal.decreases-loop-added
-decreases-loop-added g l = most_lines + 1 - l.reading.count
+abbrev pub decreases-loop-file_builder : goal.decreases-loop-file_builder
+decreases-loop-file_builder g l = most_lines + 1 - l.reading.count

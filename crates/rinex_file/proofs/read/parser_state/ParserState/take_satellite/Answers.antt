@@ -1,6 +1,6 @@
 use Rattle.std.proofs.Common.{arith, ◌≡◌, ◌∙◌, ◌+◌, ◌-◌, ◌<◌, ◌∷◌, ◌++◌, [], ℕ, suc, List, sym, ap, subst, refl, length, length-append, Bool, true, false, Option, Some, None}
 use Rattle.std.specs.Option.{option_or}
-use Rattle.std.specs.Prelude.{map}
+use Rattle.std.specs.Prelude.{map, MatchOption, ◌↔◌}
 use Rattle.std.specs.List.Sorted.{IsStrictlyIncreasing}
 use Rattle.std.proofs.lemmas.List.{map-append}
 use Rattle.std.proofs.lemmas.List.Sums.{sum_by-append}
@@ -11,9 +11,8 @@ use Rattle.rinex_file.specs.FileValues.{IsSatelliteRow, changed_by, rank_of, tim
 use Rattle.rinex_file.specs.Lines.{satellite_line}
 use Rattle.rinex_file.specs.Read.Progress.{Progress}
 use Rattle.rinex_file.specs.Read.Fields.{ReadsExactly, some_if}
-use Rattle.rinex_file.specs.ParserState.{EndsIn, changes_of, stamped_at, events_in, progress_at, rows_in}
-use Rattle.rinex_file.proofs.Judged.{refused}
-use Rattle.rinex_file.proofs.BodySteps.{values_more, row_taken, row_shows, last_shows, no_row, bad_row, last_taken, sound_open, few_at, sound_row, sound_closed}
+use Rattle.rinex_file.specs.ParserState.{EndsIn, IsLast, changes_of, stamped_at, events_in, progress_at, rows_in}
+use Rattle.rinex_file.proofs.BodySteps.{rise_alone, rise_after, rise_last, values_more, row_taken, row_shows, last_shows, no_row, bad_row, last_taken, sound_open, few_at, sound_row, sound_closed}
 use Rattle.rinex_file.proofs.read.parser_state.ParserState.take_satellite.Goals as goal
 
 pub read_seen-requires-clause-few : goal.read_seen-requires-clause-few
@@ -45,22 +44,33 @@ returns-then-not-read_seen-clause-takes c = λ h history.
     no_row s (c.args.left - 1) c.args.line.now (one_expected c.args.left s c.requires.expected some)
     (shows c.planned-gps.result c.planned-galileo.result _ _ c.args.line.now c.read_seen.result false c.read_seen.new.seen c.planned-gps.ensures c.planned-galileo.ensures c.if-not-read_seen.true c.read_seen.ensures)
 
-pub returns-then-not-is_after-clause-takes : goal.returns-then-not-is_after-clause-takes
-returns-then-not-is_after-clause-takes c = λ h history.
+-- the last number of a list with one more item
+ends : {X : Type 0} (f : X → ℕ) (xs : List X) (x : X) (n : ℕ) → n ≡ f x → EndsIn (map f (xs ++ x ∷ [])) (Some n)
+ends f xs x n same = (map f xs, map-append f xs (x ∷ []) ∙ ap (λ m. map f xs ++ m ∷ []) (sym same))
+
+some_rank : (gps galileo : ℕ) (s : SatelliteRow) → IsSatelliteRow gps galileo s → 0 < rank_of s
+some_rank gps galileo s is = grind arith
+
+-- the ranks and a greater one are increasing, and those alone
+increasing : (gps galileo : ℕ) (rows : List SatelliteRow) (seen : SatelliteRow) (last rank : ℕ) → IsLast (map rank_of rows) last → IsSatelliteRow gps galileo seen → rank ≡ rank_of seen
+    → (last < rank) ↔ IsStrictlyIncreasing (map rank_of rows ++ rank_of seen ∷ [])
+increasing gps galileo rows seen last rank is row same =
+    subst (λ (n : ℕ). (last < n) ↔ IsStrictlyIncreasing (map rank_of rows ++ rank_of seen ∷ [])) (sym same) (is (rank_of seen) (some_rank gps galileo seen row))
+
+last_rank : (rows : List SatelliteRow) (seen : SatelliteRow) (n : ℕ) → n ≡ rank_of seen → IsStrictlyIncreasing (map rank_of rows ++ rank_of seen ∷ []) → IsLast (map rank_of (rows ++ seen ∷ [])) n
+last_rank rows seen n same rise m some =
+    let (front, ends_in) = ends rank_of rows seen n same in
+    let all = subst IsStrictlyIncreasing (sym (map-append rank_of rows (seen ∷ []))) rise in
+    (rise_after _ front n m ends_in all, rise_last _ front n m ends_in)
+
+pub returns-then-rank-self-clause-takes : goal.returns-then-rank-self-clause-takes
+returns-then-rank-self-clause-takes c = λ h history.
     let s = progress_at c.args.self.now h in
     let (read, begun, some, room) = sound_open s c.args.left c.requires.expected history.sound in
     let shown = shows c.planned-gps.result c.planned-galileo.result (length s.known.shown.plan.gps) (length s.known.shown.plan.galileo) c.args.line.now c.read_seen.result true c.read_seen.new.seen
     c.planned-gps.ensures c.planned-galileo.ensures c.if-not-read_seen.false c.read_seen.ensures in
     bad_row s (c.args.left - 1) c.args.line.now (one_expected c.args.left s c.requires.expected some) c.read_seen.new.seen shown.2
-    (λ rise. refused c.is_after.result _ (c.is_after.ensures (map rank_of h.rows) history.counted.rank begun.rows.rise) c.if-not-is_after.true
-    (subst (λ (n : ℕ). IsStrictlyIncreasing (map rank_of h.rows ++ n ∷ [])) (sym c.rank_of-rank.ensures) rise))
-
-rises : (xs : List ℕ) (n k : ℕ) → n ≡ k → IsStrictlyIncreasing (xs ++ n ∷ []) → IsStrictlyIncreasing (xs ++ k ∷ [])
-rises xs n k same rise = subst (λ (m : ℕ). IsStrictlyIncreasing (xs ++ m ∷ [])) same rise
-
--- the last number of a list with one more item
-ends : {X : Type 0} (f : X → ℕ) (xs : List X) (x : X) (n : ℕ) → n ≡ f x → EndsIn (map f (xs ++ x ∷ [])) (Some n)
-ends f xs x n same = (map f xs, map-append f xs (x ∷ []) ∙ ap (λ m. map f xs ++ m ∷ []) (sym same))
+    (λ rise. let less = (increasing _ _ h.rows c.read_seen.new.seen _ _ history.counted.rank shown.0 c.rank_of-rank.ensures).1 rise in omega (arith, less, c.if-rank-self.true))
 
 row_counted : (es : List Stamped) (rows : List SatelliteRow) (seen : SatelliteRow) (n : ℕ) → n ≡ rows_in es + length rows → n + 1 ≡ rows_in es + length (rows ++ seen ∷ [])
 row_counted es rows seen n e = let size : length (rows ++ seen ∷ []) ≡ length rows + 1 = length-append rows (seen ∷ []) in omega (arith, e, size)
@@ -81,8 +91,7 @@ returns-then-left-gt1-clause-takes c = λ h history.
     let (read, begun, some, room) = sound_open s c.args.left c.requires.expected history.sound in
     let shown = shows c.planned-gps.result c.planned-galileo.result (length s.known.shown.plan.gps) (length s.known.shown.plan.galileo) c.args.line.now c.read_seen.result true seen
     c.planned-gps.ensures c.planned-galileo.ensures c.if-not-read_seen.false c.read_seen.ensures in
-    let rise = rises (map rank_of h.rows) c.rank_of-rank.result (rank_of seen) c.rank_of-rank.ensures
-    ((c.is_after.ensures (map rank_of h.rows) history.counted.rank begun.rows.rise).0 c.if-not-is_after.false) in
+    let rise = (increasing _ _ h.rows seen _ _ history.counted.rank shown.0 c.rank_of-rank.ensures).0 c.if-rank-self.false in
     let more : 0 < c.args.left - 1 = let n = c.if-left-gt1.true in omega (arith, n) in
     record {
       history = record {
@@ -91,10 +100,10 @@ returns-then-left-gt1-clause-takes c = λ h history.
             let old = history.counted in
             record {
               last = old.last;
-              rank = ends rank_of h.rows seen c.rank_of-rank.result c.rank_of-rank.ensures;
+              rank = last_rank h.rows seen c.rank_of-rank.result c.rank_of-rank.ensures rise;
               values = old.values;
               epochs = old.epochs;
-              satellites = row_counted h.epochs h.rows seen c.args.self.now.satellites old.satellites;
+              satellites = row_counted h.epochs h.rows seen c.args.self.now.counts.satellites old.satellites;
               events = old.events;
             };
       };
@@ -107,6 +116,10 @@ changed_or : (result change before : Option StationValues) (v : StationValues) �
 changed_or result None before v e = ap (changed_by v) e
 changed_or result (Some w) before v e = ap (changed_by v) e
 
+changed : (o : Option StationValues) (n : ℕ) → MatchOption o (n ≡ 0) (λ v. n ≡ 1) → n ≡ changes_of o
+changed None n is = is
+changed (Some v) n is = is
+
 pub returns-clause-takes : goal.returns-clause-takes
 returns-clause-takes c = λ h history.
     let s = progress_at c.args.self.now h in
@@ -114,8 +127,7 @@ returns-clause-takes c = λ h history.
     let (read, begun, some, room) = sound_open s c.args.left c.requires.expected history.sound in
     let shown = shows c.planned-gps.result c.planned-galileo.result (length s.known.shown.plan.gps) (length s.known.shown.plan.galileo) c.args.line.now c.read_seen.result true seen
     c.planned-gps.ensures c.planned-galileo.ensures c.if-not-read_seen.false c.read_seen.ensures in
-    let rise = rises (map rank_of h.rows) c.rank_of-rank.result (rank_of seen) c.rank_of-rank.ensures
-    ((c.is_after.ensures (map rank_of h.rows) history.counted.rank begun.rows.rise).0 c.if-not-is_after.false) in
+    let rise = (increasing _ _ h.rows seen _ _ history.counted.rank shown.0 c.rank_of-rank.ensures).0 c.if-rank-self.false in
     let last : c.args.left ≡ suc 0 = let n = c.if-left-gt1.false in omega (arith, n, some) in
     let epoch = stamped_at c.args.self.now.change c.args.self.now.time (h.rows ++ seen ∷ []) in
     record {
@@ -125,11 +137,11 @@ returns-clause-takes c = λ h history.
             let old = history.counted in
             record {
               last = ends time_stamped h.epochs epoch c.milliseconds.result c.milliseconds.ensures.value;
-              rank = refl;
+              rank = λ n some. (λ less. rise_alone [] n refl, λ rise. some);
               values = λ v. changed_or c.or-self.result c.args.self.now.change c.args.self.now.values v c.or-self.ensures ∙ ap (λ (w : StationValues). changed_by w c.args.self.now.change) (old.values v) ∙ sym (values_more v h.epochs epoch);
-              epochs = one_longer h.epochs epoch c.args.self.now.epochs old.epochs;
-              satellites = epoch_counted h.epochs epoch h.rows seen c.args.self.now.satellites refl old.satellites;
-              events = event_counted h.epochs epoch c.args.self.now.events c.changes_of.result c.changes_of.ensures old.events;
+              epochs = one_longer h.epochs epoch c.args.self.now.counts.epochs old.epochs;
+              satellites = epoch_counted h.epochs epoch h.rows seen c.args.self.now.counts.satellites refl old.satellites;
+              events = event_counted h.epochs epoch c.args.self.now.counts.events c.map_or.result (changed c.args.self.now.change c.map_or.result (grind (arith, c.map_or.ensures))) old.events;
             };
       };
       follows = last_taken s c.args.line.now (c.requires.expected ∙ ap Satellite last) seen shown.1 shown.2;
