@@ -1,15 +1,11 @@
 -- What holds of all that was read of a file, for every kind of expected line.
-use Rattle.std.specs.Prelude.{◌≡◌, ◌≢◌, Option, Some, ℕ, ◌+◌, ◌<◌, ◌≤◌, List, [], ◌∷◌, ◌++◌, length, map}
+use Rattle.std.specs.Prelude.{◌≡◌, ◌≢◌, Some, ℕ, ◌+◌, ◌<◌, ◌≤◌, List, [], ◌∷◌, ◌++◌, length, map}
 use Rattle.std.specs.List.Sorted.{IsStrictlyIncreasing}
 use Rattle.rinex_file.specs.declared.read.expected.Expected.{Expected}
 use Rattle.rinex_file.specs.declared.read.expected.Expected.TheVariants.{Header, Epoch, EventPosition, EventHeight}
 use Rattle.rinex_file.specs.declared.read.expected.Expected.TheVariants.{EventEpoch, Satellite}
 use Rattle.obs_epoch.specs.declared.cell.StationValues.{StationValues}
-use Rattle.rinex_file.specs.Value.{Stamped}
-use Rattle.obs_epoch.specs.Dates.{civil_of}
-use Rattle.rinex_file.specs.Lines.{epoch_line}
-use Rattle.rinex_file.specs.Read.Fields.{ReadsExactly}
-use Rattle.rinex_file.specs.FileValues.{IsTime, IsChange, values_following, time_stamped, most_rows}
+use Rattle.rinex_file.specs.FileValues.{IsChange, values_following, time_stamped, most_rows}
 use Rattle.rinex_file.specs.Begun.{AreWhole, IsPartOfNext, whole_lines, part_lines}
 use Rattle.rinex_file.specs.File.{file_lines, event_line, event_lines}
 use Rattle.rinex_file.specs.Header.{position_line}
@@ -44,15 +40,6 @@ IsSoundAt s (Satellite n) = AreRead s × IsBegun s × (0 < n)
 
 abbrev pub IsSound : Progress → Type 0
 IsSound s = IsSoundAt s s.expected
-
--- an epoch at this time may follow these epochs, in a file that begins at this first time
-abbrev pub IsTimeAfter : List Stamped → ℕ → ℕ → Type 0
-IsTimeAfter es first t = IsStrictlyIncreasing (map time_stamped es ++ t ∷ []) × (es ≡ [] → first ≡ t)
-
--- the first line of an epoch is read exactly, for the times and numbers of satellites that are allowed
-abbrev pub ReadsEpochLine : (ℕ → ℕ → Type 0) → List ℕ → Option (ℕ × ℕ) → Type 0
-ReadsEpochLine MayBe line read =
-    ReadsExactly (λ (e : ℕ × ℕ). IsTime e.0 × MayBe e.0 e.1) (λ (e : ℕ × ℕ). epoch_line (civil_of e.0) e.1) line read
 
 -- an epoch of n satellites may follow at a time: it is later than those before, or is the time in the header, and the
 -- planned systems have as many satellites

@@ -6,7 +6,6 @@ ghost use Rattle.rinex_file.specs.FileValues.{IsTime};
 ghost use Rattle.rinex_file.specs.Header.{first_line};
 ghost use Rattle.rinex_file.specs.Lines.{epoch_line};
 ghost use Rattle.rinex_file.specs.Read.Fields.{ReadsExactly};
-ghost use Rattle.rinex_file.specs.Read.Sound.{ReadsEpochLine};
 
 use crate::header::lines::first_line;
 use crate::read::numbers::{digits_in, is_same};
@@ -89,7 +88,8 @@ pub(crate) fn read_first(line: &[u8]) -> Option<GpsTime>
 /// Returns the time of an epoch and the number of its satellites by its first line, or None for any
 /// other line.
 pub(crate) fn read_epoch_line(line: &[u8], again: &mut Line) -> Option<(GpsTime, usize)>
-    ensures { ReadsEpochLine (λ t n. n ≤ 999) line.now result }
+    ensures { ReadsExactly (λ (e : ℕ × ℕ). IsTime e.0 × e.1 ≤ 999) (λ (e : ℕ × ℕ). epoch_line (civil_of e.0) e.1)
+        line.now result }
 {
     calendar();
     let civil = civil_in(line)?;

@@ -12,7 +12,7 @@ use Rattle.rinex_file.specs.Lines.{satellite_line}
 use Rattle.rinex_file.specs.Read.Progress.{Progress}
 use Rattle.rinex_file.specs.Read.Fields.{ReadsExactly, some_if}
 use Rattle.rinex_file.specs.ParserState.{EndsIn, IsLast, changes_of, stamped_at, events_in, progress_at, rows_in}
-use Rattle.rinex_file.proofs.BodySteps.{rise_alone, rise_after, rise_last, values_more, row_taken, row_shows, last_shows, no_row, bad_row, last_taken, sound_open, few_at, sound_row, sound_closed}
+use Rattle.rinex_file.proofs.BodySteps.{rise_after, rise_last, values_more, row_taken, row_shows, last_shows, no_row, bad_row, last_taken, sound_open, few_at, sound_row, sound_closed}
 use Rattle.rinex_file.proofs.read.parser_state.ParserState.take_satellite.Goals as goal
 
 pub read_seen-requires-clause-few : goal.read_seen-requires-clause-few
@@ -137,7 +137,7 @@ returns-clause-takes c = λ h history.
             let old = history.counted in
             record {
               last = ends time_stamped h.epochs epoch c.milliseconds.result c.milliseconds.ensures.value;
-              rank = λ n some. (λ less. rise_alone [] n refl, λ rise. some);
+              rank = λ n some. (λ less k room. absurd (omega (arith, room)), λ rise. some);
               values = λ v. changed_or c.or-self.result c.args.self.now.change c.args.self.now.values v c.or-self.ensures ∙ ap (λ (w : StationValues). changed_by w c.args.self.now.change) (old.values v) ∙ sym (values_more v h.epochs epoch);
               epochs = one_longer h.epochs epoch c.args.self.now.counts.epochs old.epochs;
               satellites = epoch_counted h.epochs epoch h.rows seen c.args.self.now.counts.satellites refl old.satellites;
