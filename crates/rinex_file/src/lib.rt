@@ -19,7 +19,7 @@ pub use header::head::{Head, HeaderLines, header_lines};
 pub use header::texts::{HeaderTexts, Texts};
 pub use read::fault::ReadFault;
 pub use read::file::{Counts, check_file, read_file};
-pub use values::obs_file::ObsFile;
+pub use values::ObsFile;
 pub use write::epoch::epoch_line;
 pub use write::file::file_bytes;
 pub use write::numbers::Line;

@@ -1,3 +1,178 @@
 //! A file that was read, as it is stored in memory.
-pub(crate) mod kept;
-pub(crate) mod obs_file;
+ghost use Rattle.std.specs.Prelude.{◌≡◌, length};
+ghost use Rattle.std.specs.List.{sum_by};
+ghost use Rattle.rinex_file.specs.Value.{signal_values_of};
+ghost use Rattle.rinex_file.specs.FileValues.{has_some_value};
+ghost use Rattle.rinex_file.specs.ParserState.{events_in};
+
+use crate::header::texts::HeaderTexts;
+use crate::read::file::Counts;
+use crate::write::numbers::MOST_SIGNALS;
+use arrayvec::ArrayVec;
+use gnss_obs::{System, Thousandths};
+use obs_epoch::{Cell, GpsTime, Plan, StationValues};
+use std::marker::Model;
+
+/// The values of a signal in a line: pseudorange (m), phase (cycles), Doppler (Hz) and strength
+/// (dB-Hz), and the loss-of-lock indicator of the phase. All are absent if nothing was observed.
+#[derive(Clone, Copy, Default)]
+pub(crate) struct SignalValues {
+    pub(crate) c: Option<Thousandths>,
+    pub(crate) l: Option<Thousandths>,
+    pub(crate) d: Option<Thousandths>,
+    pub(crate) s: Option<Thousandths>,
+    pub(crate) lli: u8,
+}
+
+impl Model for SignalValues {
+    ghost use Rattle.rinex_file.specs.Value.{SignalValues};
+
+    ghost Value = { SignalValues };
+
+    ghost view = { λ e. record { c = e.c; l = e.l; d = e.d; s = e.s; lli = e.lli } };
+
+    ghost inverse = { λ e. record { c = e.c; l = e.l; d = e.d; s = e.s; lli = e.lli } };
+}
+
+impl SignalValues {
+    /// Returns the values of a cell.
+    pub(crate) fn of(cell: &Cell) -> SignalValues
+        ensures { result ≡ signal_values_of cell.now }
+    {
+        let Cell {
+            c,
+            l,
+            d,
+            s,
+            lli,
+            ..
+        } = *cell;
+        SignalValues { c, l, d, s, lli }
+    }
+
+    /// Returns whether something was observed.
+    pub(crate) fn has_value(&self) -> bool
+        ensures { result ≡ has_some_value self.now }
+    {
+        self.c.is_some() || self.l.is_some() || self.d.is_some() || self.s.is_some()
+    }
+}
+
+/// A satellite of a system, with an entry for each planned signal in the plan's order, as it is in
+/// a line.
+#[derive(Drop)]
+pub(crate) struct KeptSatellite {
+    pub(crate) system: System,
+    pub(crate) satellite: u8,
+    pub(crate) signal_values: ArrayVec<SignalValues, MOST_SIGNALS>,
+}
+
+impl Model for KeptSatellite {
+    ghost use Rattle.rinex_file.specs.Value.{SatelliteRow};
+
+    ghost Value = { SatelliteRow };
+
+    ghost view = { λ s.
+        record { system = s.system; row = record { satellite = s.satellite; signal_values = s.signal_values.items } } };
+}
+
+/// A satellite of a system, with an entry for each planned signal, as it is stored in memory.
+#[derive(Drop)]
+pub(crate) struct KeptRow {
+    pub(crate) system: System,
+    pub(crate) satellite: u8,
+    pub(crate) signal_values: Vec<SignalValues>,
+}
+
+impl Model for KeptRow {
+    ghost use Rattle.rinex_file.specs.Value.{SatelliteRow};
+
+    ghost Value = { SatelliteRow };
+
+    ghost view = { λ s.
+        record { system = s.system; row = record { satellite = s.satellite; signal_values = s.signal_values.items } } };
+}
+
+/// An epoch with its satellites, and the station values that change with it.
+#[derive(Drop)]
+pub(crate) struct KeptEpoch {
+    pub(crate) change: Option<StationValues>,
+    pub(crate) time: GpsTime,
+    pub(crate) rows: Vec<KeptRow>,
+}
+
+impl Model for KeptEpoch {
+    ghost use Rattle.rinex_file.specs.Value.{Stamped};
+
+    ghost Value = { Stamped };
+
+    ghost view = { λ e. record { change = e.change; time = e.time; rows = e.rows.items } };
+}
+
+/// An observation file that was read; only [`read_file`](crate::read_file) makes one.
+#[derive(Drop)]
+pub struct ObsFile {
+    pub(crate) texts: HeaderTexts,
+    pub(crate) plan: Plan,
+    pub(crate) values: StationValues,
+    pub(crate) epochs: Vec<KeptEpoch>,
+    pub(crate) counts: Counts,
+}
+
+impl Model for ObsFile {
+    ghost use Rattle.std.specs.Prelude.{◌≡◌};
+    ghost use Rattle.rinex_file.specs.Value.{FileValue, file_with};
+    ghost use Rattle.rinex_file.specs.FileValues.{IsFileValue};
+    ghost use Rattle.rinex_file.specs.ParserState.{rows_in, events_in};
+
+    ghost Value = { FileValue };
+
+    ghost view = { λ f. file_with f.texts f.plan f.values f.epochs.items };
+
+    ghost invariant = { λ f. IsFileValue (file_with f.texts f.plan f.values f.epochs.items)
+        × (f.counts.satellites ≡ rows_in f.epochs.items) × (f.counts.events ≡ events_in f.epochs.items) };
+}
+
+impl ObsFile {
+    /// Returns the texts of the header.
+    pub fn texts(&self) -> &HeaderTexts
+        ensures { result.now ≡ self.now.texts }
+    {
+        &self.texts
+    }
+
+    /// Returns the signals whose observations the file has.
+    pub fn plan(&self) -> &Plan
+        ensures { result.now ≡ self.now.plan }
+    {
+        &self.plan
+    }
+
+    /// Returns position and height of the antenna in 0.0001 m, as in the header.
+    pub fn station_values(&self) -> StationValues
+        ensures { result ≡ self.now.values }
+    {
+        self.values
+    }
+
+    /// Returns the number of epochs.
+    pub fn epochs(&self) -> usize
+        ensures { result ≡ length self.now.epochs }
+    {
+        self.epochs.as_slice().len()
+    }
+
+    /// Returns the number of events, each of which changes the station values.
+    pub fn events(&self) -> usize
+        ensures { result ≡ events_in self.now.epochs }
+    {
+        self.counts.events as usize
+    }
+
+    /// Returns the number of lines of satellites in all epochs.
+    pub fn satellites(&self) -> usize
+        ensures { result ≡ sum_by (λ e. length e.rows) self.now.epochs }
+    {
+        self.counts.satellites as usize
+    }
+}

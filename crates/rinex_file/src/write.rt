@@ -9,7 +9,6 @@ ghost use Rattle.rinex_file.specs.Heads.{head_text};
 
 pub(crate) mod digits;
 pub(crate) mod epoch;
-pub(crate) mod event;
 pub(crate) mod file;
 pub(crate) mod numbers;
 pub(crate) mod satellite;
@@ -17,8 +16,7 @@ pub(crate) mod satellite;
 use crate::header::fault::HeadFault;
 use crate::header::head::{Head, header_lines};
 use crate::header::lines::{delta_line, position_line};
-use crate::write::epoch::epoch_line;
-use crate::write::event::event_line;
+use crate::write::epoch::{epoch_line, event_line};
 use crate::write::numbers::Line;
 use crate::write::satellite::put_seen;
 use gnss_obs::System;

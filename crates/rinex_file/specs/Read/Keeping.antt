@@ -1,6 +1,6 @@
 -- The epochs of a file that are stored while it is read.
 use Rattle.std.specs.Prelude.{ℕ, ◌<◌, ◌≤◌, List, length, All}
-use Rattle.rinex_file.specs.declared.read.file_builder.FileBuilder.{FileBuilder}
+use Rattle.rinex_file.specs.declared.read.file.FileBuilder.{FileBuilder}
 use Rattle.rinex_file.specs.Value.{SatelliteRow, Stamped}
 use Rattle.rinex_file.specs.FileValues.{AreSignalValues}
 use Rattle.rinex_file.specs.ParserState.{History}

@@ -1,7 +1,6 @@
 //! The state of the parser of a file: what the next line has to fit, and counts. It doesn't grow
 //! with the file.
-ghost use Rattle.std.specs.Prelude.{◌≡◌, ◌<◌, ◌≤◌, ◌+◌, ◌^◌, ◌∷◌, ◌++◌, ◌↔◌, ℕ, [], List, None, OnOk, IsTrue, map, length, nat_lt, if◌then◌else◌};
-ghost use Rattle.gnss_obs.specs.Satellites.{satellites};
+ghost use Rattle.std.specs.Prelude.{◌≡◌, ◌<◌, ◌≤◌, ◌+◌, ◌^◌, ◌∷◌, ◌++◌, ◌↔◌, ℕ, [], List, None, OnOk, IsTrue, map, length};
 ghost use Rattle.rinex_file.specs.Value.{FileValue};
 ghost use Rattle.obs_epoch.specs.declared.cell.StationValues.{StationValues};
 ghost use Rattle.rinex_file.specs.FileValues.{IsFileValue, rank_of};
@@ -19,8 +18,8 @@ use crate::read::head_so_far::HeadSoFar;
 use crate::read::numbers::is_same;
 use crate::read::row::read_seen;
 use crate::read::station::{read_delta, read_position};
-use crate::values::kept::KeptSatellite;
-use crate::write::event::event_line;
+use crate::values::KeptSatellite;
+use crate::write::epoch::event_line;
 use crate::write::numbers::Line;
 use arrayvec::ArrayVec;
 use gnss_obs::System;
@@ -53,16 +52,6 @@ fn rank_of(seen: &KeptSatellite) -> u64
         System::Gps => seen.satellite as u64,
         System::Galileo => 100 + seen.satellite as u64,
     }
-}
-
-/// Returns the number of satellites of a system, if some signal of it is planned.
-fn most_of(system: System, signals: usize) -> usize
-    ensures { result ≡ (if nat_lt 0 signals then satellites system else 0) }
-{
-    if signals == 0 {
-        return 0;
-    }
-    system.satellites() as usize
 }
 
 impl ParserState {
@@ -130,9 +119,10 @@ impl ParserState {
         ensures { (h : History) → FollowsHistory self.now h → IsTrue result
             ↔ MayBegin (progress_at self.now h) time satellites }
     {
-        let most = most_of(System::Gps, self.head.planned(System::Gps))
-            + most_of(System::Galileo, self.head.planned(System::Galileo));
-        if satellites == 0 || satellites > most {
+        let gps = self.head.planned(System::Gps).min(1) * System::Gps.satellites() as usize;
+        let galileo = self.head.planned(System::Galileo).min(1)
+            * System::Galileo.satellites() as usize;
+        if satellites == 0 || satellites > gps + galileo {
             return false;
         }
         match self.last {

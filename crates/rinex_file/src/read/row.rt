@@ -13,7 +13,7 @@ ghost use Rattle.rinex_file.specs.Limits.{most_line, signal_columns, most_signal
 
 use crate::read::columns::value_in;
 use crate::read::numbers::{digits_in, is_same};
-use crate::values::kept::{KeptSatellite, SignalValues};
+use crate::values::{KeptSatellite, SignalValues};
 use crate::write::numbers::{Line, MOST_SIGNALS, SIGNAL_COLUMNS, put, put_blanks};
 use crate::write::satellite::satellite_text;
 use arrayvec::ArrayVec;

@@ -1,6 +1,8 @@
-//! Epoch lines: RINEX 3.05, table A3, "EPOCH record".
+//! Epoch and event lines: RINEX 3.05, table A3, "EPOCH record" and event flag 4. An event precedes
+//! each epoch whose station values differ from those before.
 ghost use Rattle.std.specs.Prelude.{◌≡◌, []};
 ghost use Rattle.obs_epoch.specs.Dates.{civil_of};
+ghost use Rattle.rinex_file.specs.File.{event_line};
 ghost use Rattle.rinex_file.specs.Lines.{epoch_line};
 
 use crate::write::numbers::{Line, put, put_padded, put_seconds, put_whole};
@@ -35,4 +37,13 @@ pub fn epoch_line(time: GpsTime, satellites: usize, line: &mut Line)
     let civil = time.civil();
     line.clear();
     put_epoch(line, &civil, satellites);
+}
+
+/// Returns the first line of an event: flag 4 without a time, and the number of header lines that
+/// follow.
+#[tactic(auto, unfolding(crate::specs::File::event_line))]
+pub(crate) fn event_line() -> &'static [u8]
+    ensures { result.now ≡ event_line }
+{
+    b">                              4  2\n"
 }

@@ -7,8 +7,7 @@ ghost use Rattle.rinex_file.specs.Lines.{satellite_line};
 
 use crate::header::fault::HeadFault;
 use crate::header::head::Head;
-use crate::values::kept::{KeptEpoch, KeptRow};
-use crate::values::obs_file::ObsFile;
+use crate::values::{KeptEpoch, KeptRow, ObsFile};
 use crate::write::epoch::epoch_line;
 use crate::write::numbers::Line;
 use crate::write::satellite::satellite_text;
@@ -86,8 +85,6 @@ pub fn file_bytes(alloc: Global, file: &ObsFile) -> Result<Vec<u8>, AllocError>
     ensures { IfOk result (λ text. text.items ≡ file_text file.now) }
 {
     let mut text = Counted::new(Vec::new(alloc));
-    match write_file(file, &mut text) {
-        Ok(()) => Ok(text.into_inner()),
-        Err(_) => Err(AllocError),
-    }
+    write_file(file, &mut text).map_err(|_| AllocError)?;
+    Ok(text.into_inner())
 }

@@ -13,7 +13,7 @@ ghost use Rattle.rinex_file.specs.Lines.{field, lli_byte, strength_byte, signal_
 ghost use Rattle.rinex_file.specs.Rows.{HasSignals};
 ghost use Rattle.rinex_file.specs.Limits.{most_line, signal_columns, value_columns, most_signals};
 
-use crate::values::kept::SignalValues;
+use crate::values::SignalValues;
 use crate::write::digits::columns_of;
 use crate::write::numbers::{Line, SIGNAL_COLUMNS, VALUE_COLUMNS, put_blanks};
 use gnss_obs::{Sat, System, Thousandths, strength_digit};

@@ -1,15 +1,21 @@
-use Rattle.std.proofs.Common.{arith, ◌≡◌, sym, subst, map, ℕ, ◌+◌, ◌<◌, ◌≤◌}
-use Rattle.std.specs.Prelude.{if◌then◌else◌, nat_lt}
-use Rattle.std.proofs.lemmas.Bool.{lt-ltb, ltb-true}
+use Rattle.std.proofs.Common.{arith, ◌≡◌, ap, sym, subst, map, ℕ, zero, suc, ◌+◌, ◌*◌, ◌<◌, ◌≤◌}
+use Rattle.std.specs.Prelude.{min, nat_lt, if◌then◌else◌}
+use Rattle.std.proofs.Math.Nat.{min-eq_right}
 use Rattle.gnss_obs.specs.Satellites.{satellites}
 use Rattle.gnss_obs.specs.declared.system.System.TheVariants.{Gps, Galileo}
+use Rattle.std.proofs.lemmas.Bool.{lt-ltb, ltb-true}
 use Rattle.rinex_file.specs.FileValues.{most_rows, time_stamped}
 use Rattle.rinex_file.specs.ParserState.{EndsIn}
 use Rattle.rinex_file.proofs.BodySteps.{rise_after, rise_last, not_none}
 use Rattle.rinex_file.proofs.read.parser_state.ParserState.may_begin.Goals as goal
 
-within : (g e gps galileo n m k : ℕ) → g ≡ gps → e ≡ galileo → m ≡ (if nat_lt 0 g then satellites Gps else 0) → k ≡ (if nat_lt 0 e then satellites Galileo else 0) → n ≤ m + k → n ≤ most_rows gps galileo
-within g e gps galileo n m k a b c d few = grind arith
+-- the satellites of a system of which some signal is planned
+of_some : (n most : ℕ) → min n 1 * most ≡ (if nat_lt 0 n then most else 0)
+of_some zero most = omega arith
+of_some (suc n) most = let one : min (suc n) 1 ≡ 1 = min-eq_right (omega arith) in grind (arith, one, (ap (λ (k : ℕ). k * most) one))
+
+within : (g e gps galileo n m k s t : ℕ) → g ≡ gps → e ≡ galileo → m ≡ min g 1 → k ≡ min e 1 → s ≡ satellites Gps → t ≡ satellites Galileo → n ≤ m * s + k * t → n ≤ most_rows gps galileo
+within g e gps galileo n m k s t a b c d x y few = grind (arith, (of_some gps (satellites Gps)), (of_some galileo (satellites Galileo)))
 
 some_one : (n : ℕ) → (n ≡ 0 → ⊥) → 0 < n
 some_one n some = omega (arith, some)
@@ -23,7 +29,7 @@ returns-in-Some c = λ h history.
         later = rise_after _ front x c.args.time last (c.requires.between h history).rising (subst (λ t. x < t) time (ltb-true _ _ less));
         first = λ none. absurd (not_none h.epochs front x last none);
         some = some_one c.args.satellites c.if-satellites-eq0.false;
-        room = within _ _ _ _ c.args.satellites _ _ c.planned.ensures c.planned-2.ensures c.most_of.ensures c.most_of-2.ensures c.if-satellites-most.false;
+        room = within _ _ _ _ c.args.satellites _ _ _ _ c.planned.ensures c.planned-2.ensures c.min.ensures c.min-2.ensures c.satellites.ensures.value c.satellites-2.ensures.value c.if-satellites-gps.false;
       },
       λ may. lt-ltb _ _ (subst (λ t. x < t) (sym time) (rise_last _ front x c.args.time last may.later)),
     )
