@@ -1,7 +1,7 @@
 -- The steps of a reading from one line of an epoch to the next.
 use Rattle.std.specs.List.Sorted.{IsStrictlyIncreasing}
 use Rattle.std.specs.Prelude.{All, map, flat_map, if◌then◌else◌, nat_lt}
-use Rattle.std.proofs.Common.{arith, ◌≡◌, refl, ℕ, ◌<◌, List, [], ◌∷◌, ◌++◌, length, length-append, suc, ◌+◌, ◌≤◌, sym, ap, subst, ◌∙◌, append_assoc, append-nil, zero-add, drop, get_or, Option, Some, None, Bool}
+use Rattle.std.proofs.Common.{arith, ◌≡◌, refl, ℕ, ◌<◌, List, [], ◌∷◌, ◌++◌, length, length-append, suc, ◌+◌, ◌≤◌, sym, ap, ap₂, subst, ◌∙◌, append_assoc, append-nil, zero-add, drop, get_or, Option, Some, None, Bool}
 use Rattle.std.proofs.lemmas.List.{get_or_append_left, map-append}
 use Rattle.std.proofs.lemmas.Grind.{common_steps}
 use Rattle.std.proofs.lemmas.List.Elements.{All-head, All-tail, All-nil, All-push}
@@ -85,14 +85,8 @@ first_more v0 x h k = grind arith
 abbrev pub at_time : Option StationValues → ℕ → List SatelliteRow → Stamped
 at_time c t rows = record { change = c; time = t; rows = rows }
 
-abbrev SameEpoch : Stamped → Stamped → Type 0
-SameEpoch a b = a ≡ b
-
-made : (change c : Option StationValues) (time t : ℕ) (rows : List SatelliteRow) → change ≡ c → time ≡ t → SameEpoch (record { change = change; time = time; rows = rows }) (at_time c t rows)
-made change c time t rows h k = ap (λ x. record { change = x; time = time; rows = rows }) h ∙ ap (λ x. at_time c x rows) k
-
 same_epoch : (e : Stamped) (c : Option StationValues) (t : ℕ) → e.change ≡ c → e.time ≡ t → e ≡ at_time c t e.rows
-same_epoch e c t h k = made e.change c e.time t e.rows h k
+same_epoch e c t h k = ap₂ (λ (x : Option StationValues) (u : ℕ). at_time x u e.rows) h k
 
 -- the same time and number
 abbrev SameLine : ℕ → ℕ → ℕ → ℕ → Type 0

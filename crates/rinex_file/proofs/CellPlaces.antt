@@ -236,11 +236,8 @@ pub value_passed : (line front : List ℕ) (values : List SignalValues) (n : ℕ
     → HasSignals line front (replicate (n + 1) no_signal_values ++ drop (n + 1) values) → HasSignals line front (replicate n no_signal_values ++ drop n values)
 value_passed line front values n v h is none before = grind (arith, replicate_next, append_assoc, drop_more, no_value, length-append, flat_map-append)
 
-all_none : (n : ℕ) → All HaveRoom (replicate n no_signal_values)
-all_none n = All-replicate HaveRoom n no_signal_values none_fit
-
 pub front_fit : (values : List SignalValues) (n : ℕ) → All HaveRoom values → All HaveRoom (replicate n no_signal_values ++ drop n values)
-front_fit values n all = All-append HaveRoom (replicate n no_signal_values) (drop n values) (all_none n) (All-drop HaveRoom n values all)
+front_fit values n all = All-append HaveRoom (replicate n no_signal_values) (drop n values) (All-replicate HaveRoom n no_signal_values none_fit) (All-drop HaveRoom n values all)
 
 pub front_length : (letter id : ℕ) → id < 100 → length (letter ∷ padded 2 id) ≡ 3
 front_length letter id h = ap (λ t. suc (length t)) (two_digits id h)

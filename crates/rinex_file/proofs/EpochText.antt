@@ -1,5 +1,5 @@
 -- A date and time of day is read back from its columns.
-use Rattle.std.proofs.Common.{arith, lit<, ◌≡◌, ℕ, zero, suc, ◌+◌, ◌-◌, ◌*◌, ◌/◌, ◌%◌, ◌^◌, ◌<◌, ◌≤◌, List, [], ◌∷◌, ◌++◌, refl, sym, ap, ◌∙◌, length, get_or, take, drop, replicate, append_assoc, append-nil, length-append, decimal, pos, Some, None, Option, subst}
+use Rattle.std.proofs.Common.{arith, lit<, ◌≡◌, ℕ, zero, suc, ◌+◌, ◌-◌, ◌*◌, ◌/◌, ◌%◌, ◌^◌, ◌<◌, ◌≤◌, List, [], ◌∷◌, ◌++◌, refl, sym, ap, ap₂, ◌∙◌, length, get_or, take, drop, replicate, append_assoc, append-nil, length-append, decimal, pos, Some, None, Option, subst}
 use Rattle.std.specs.Prelude.{map, codes, min}
 use Rattle.std.specs.Int.{is_negative}
 use Rattle.std.specs.Fmt.{sign_text}
@@ -204,18 +204,13 @@ kept number most digits value e f small = grind arith
 kept_second : (number digits value : ℕ) → number ≡ min (digits / 10_000) 65_535 → digits ≡ value * 10_000 → value < 60_000 → number ≡ value
 kept_second number digits value e f small = let d : digits / 10_000 ≡ value = omega (arith, f) in kept number 65_535 (digits / 10_000) value e d (omega (arith, small))
 
-made : ℕ → ℕ → ℕ → ℕ → ℕ → ℕ → Civil
-made a b c d e f = record { year = a; month = b; day = c; hour = d; minute = e; millisecond = f }
-
-same_parts : (a b c d e f a' b' c' d' e' f' : ℕ) → a ≡ a' → b ≡ b' → c ≡ c' → d ≡ d' → e ≡ e' → f ≡ f' → made a b c d e f ≡ made a' b' c' d' e' f'
-same_parts a b c d e f a' b' c' d' e' f' p q r s t u = cc
-
-same_civil : (t u : Civil) → t.year ≡ u.year → t.month ≡ u.month → t.day ≡ u.day → t.hour ≡ u.hour → t.minute ≡ u.minute → t.millisecond ≡ u.millisecond → t ≡ u
-unfolding made
-same_civil t u p q r s v w = same_parts t.year t.month t.day t.hour t.minute t.millisecond u.year u.month u.day u.hour u.minute u.millisecond p q r s v w
-
 abbrev pub of_numbers : ℕ → ℕ → ℕ → ℕ → ℕ → ℕ → Civil
 of_numbers a b c d e f = record { year = a; month = b; day = c; hour = d; minute = e; millisecond = f }
+
+same_civil : (t u : Civil) → t.year ≡ u.year → t.month ≡ u.month → t.day ≡ u.day → t.hour ≡ u.hour → t.minute ≡ u.minute → t.millisecond ≡ u.millisecond → t ≡ u
+same_civil t u p q r s v w =
+    ap₂ (λ (a b : ℕ). of_numbers a b t.day t.hour t.minute t.millisecond) p q ∙ ap₂ (λ (a b : ℕ). of_numbers u.year u.month a b t.minute t.millisecond) r s
+    ∙ ap₂ (λ (a b : ℕ). of_numbers u.year u.month u.day u.hour a b) v w
 
 -- a date is read back although each number is limited to the largest value of its type
 pub are_read : (t : Civil) (a b c d e f year month day hour minute second : ℕ) → HasColumns t

@@ -36,45 +36,18 @@ line_feed_last (t ∷ ts) = append_assoc t (joined ts) (10 ∷ []) ∙ ap (λ l.
 line_of_fields : (ts : List (List ℕ)) → ArePlain 80 ts → length ts ≤ 15 → IsFileLine (joined (ts ++ (10 ∷ []) ∷ []))
 line_of_fields ts are few = subst IsFileLine (line_feed_last ts) (as_line (length ts * 80) (joined ts) (plain-joined 80 ts are) (omega (arith, few)))
 
+also : {A B : Type 0} → A → B → A × B
+also first rest = (first, rest)
+
 line_of_epoch : (t : Civil) (n : ℕ) → IsShort t → n < 2 ^ 64 → IsFileLine (epoch_line t n)
 unfolding epoch_line
 line_of_epoch t n is few =
     line_of_fields
     (codes "> " ∷ right 4 (decimal t.year) ∷ codes " " ∷ padded 2 t.month ∷ codes " " ∷ padded 2 t.day ∷ codes " " ∷ padded 2 t.hour ∷ codes " " ∷ padded 2 t.minute
-    ∷ right 11 (fixed 7 (pos (t.millisecond * 10_000))) ∷ codes "  0" ∷ right 3 (decimal n) ∷ []) (
-      fixed_text (codes "> ") refl (lit≤ tt),
-      (
-        whole_field 4 t.year (lit≤ tt) (wide is.year),
-        (
-          blank,
-          (
-            digits t.month is.month,
-            (
-              blank,
-              (
-                digits t.day is.day,
-                (
-                  blank,
-                  (
-                    digits t.hour is.hour,
-                    (
-                      blank,
-                      (
-                        digits t.minute is.minute,
-                        (
-                          second_field 11 t.millisecond (lit≤ tt) is.millisecond,
-                          (fixed_text (codes "  0") refl (lit≤ tt), (whole_field 3 n (lit≤ tt) few, tt)),
-                        ),
-                      ),
-                    ),
-                  ),
-                ),
-              ),
-            ),
-          ),
-        ),
-      ),
-    ) (lit≤ tt) where
+    ∷ right 11 (fixed 7 (pos (t.millisecond * 10_000))) ∷ codes "  0" ∷ right 3 (decimal n) ∷ [])
+    (also (fixed_text (codes "> ") refl (lit≤ tt)) (also (whole_field 4 t.year (lit≤ tt) (wide is.year)) (also blank (also (digits t.month is.month) (also blank (also (digits t.day is.day)
+    (also blank (also (digits t.hour is.hour) (also blank (also (digits t.minute is.minute) (also (second_field 11 t.millisecond (lit≤ tt) is.millisecond)
+    (also (fixed_text (codes "  0") refl (lit≤ tt)) (also (whole_field 3 n (lit≤ tt) few) tt))))))))))))) (lit≤ tt) where
       wide : {m : ℕ} → m < 2 ^ 32 → m < 2 ^ 64
       wide h = omega (arith, h)
 

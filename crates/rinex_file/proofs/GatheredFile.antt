@@ -39,6 +39,10 @@ all_map : {X Y : Type 0} (f : X → Y) (P : X → Type 0) (Q : Y → Type 0) →
 all_map f P Q h [] k = tt
 all_map f P Q h (x ∷ xs) k = (h x k.0, all_map f P Q h xs k.1)
 
+all_weaker : {X : Type 0} (P Q : X → Type 0) → ((x : X) → P x → Q x) → (xs : List X) → AllByRecursion P xs → AllByRecursion Q xs
+all_weaker P Q h [] k = tt
+all_weaker P Q h (x ∷ xs) k = (h x k.0, all_weaker P Q h xs k.1)
+
 -- ---- numbers in ascending order
 
 -- each before all after it
@@ -54,10 +58,9 @@ rises (x ∷ y ∷ xs) h (suc k) less = grind (arith, (rises (y ∷ xs) h.1 k (o
 
 below_all : (m : ℕ) (xs ys : List ℕ) → AllByRecursion (λ x. x < m) xs → AllByRecursion (λ y. m ≤ y) ys → Rise xs → Rise ys → Rise (xs ++ ys)
 below_all m [] ys h k r s = s
-below_all m (x ∷ xs) ys h k r s = (all_append (λ y. x < y) xs ys r.0 (later ys k), below_all m xs ys h.1 k r.1 s) where
-  later : (zs : List ℕ) → AllByRecursion (λ y. m ≤ y) zs → AllByRecursion (λ y. x < y) zs
-  later [] l = tt
-  later (z ∷ zs) l = (let a = h.0 in let b = l.0 in omega (arith, a, b), later zs l.1)
+below_all m (x ∷ xs) ys h k r s =
+    let less = h.0 in
+    (all_append (λ y. x < y) xs ys r.0 (all_weaker (λ y. m ≤ y) (λ y. x < y) (λ y most. omega (arith, less, most)) ys k), below_all m xs ys h.1 k r.1 s)
 
 rise_filter : (p : ℕ → Bool) (xs : List ℕ) → Rise xs → Rise (filter p xs)
 rise_filter p [] h = tt
@@ -78,21 +81,15 @@ rise_filter p (x ∷ xs) h = by (p x) (rise_filter p xs h.1) where
 abbrev IsUpTo : ℕ → ℕ → Type 0
 IsUpTo most i = (1 ≤ i) × (i ≤ most)
 
-more_room : (n : ℕ) (xs : List ℕ) → AllByRecursion (IsUpTo n) xs → AllByRecursion (IsUpTo (suc n)) xs
-more_room n [] h = tt
-more_room n (x ∷ xs) h = ((h.0.0, let l = h.0.1 in omega (arith, l)), more_room n xs h.1)
-
 numbers_within : (n : ℕ) → AllByRecursion (IsUpTo n) (numbers n)
 numbers_within zero = tt
-numbers_within (suc n) = all_append (IsUpTo (suc n)) (numbers n) (suc n ∷ []) (more_room n (numbers n) (numbers_within n)) ((omega arith, omega arith), tt)
-
-all_below : (n : ℕ) (xs : List ℕ) → AllByRecursion (IsUpTo n) xs → AllByRecursion (λ x. x < suc n) xs
-all_below n [] h = tt
-all_below n (x ∷ xs) h = (let l = h.0.1 in omega (arith, l), all_below n xs h.1)
+numbers_within (suc n) =
+    all_append (IsUpTo (suc n)) (numbers n) (suc n ∷ []) (all_weaker (IsUpTo n) (IsUpTo (suc n)) (λ i h. let most = h.1 in (h.0, omega (arith, most))) (numbers n) (numbers_within n))
+    ((omega arith, omega arith), tt)
 
 numbers_rise : (n : ℕ) → Rise (numbers n)
 numbers_rise zero = tt
-numbers_rise (suc n) = below_all (suc n) (numbers n) (suc n ∷ []) (all_below n (numbers n) (numbers_within n)) (omega arith, tt) (numbers_rise n) (tt, tt)
+numbers_rise (suc n) = below_all (suc n) (numbers n) (suc n ∷ []) (all_weaker (IsUpTo n) (λ x. x < suc n) (λ x h. let most = h.1 in omega (arith, most)) (numbers n) (numbers_within n)) (omega arith, tt) (numbers_rise n) (tt, tt)
 
 -- ---- entries
 
@@ -209,10 +206,6 @@ rise_higher : (ids : List ℕ) → Rise ids → Rise (map (λ id. 100 + id) ids)
 rise_higher [] h = tt
 rise_higher (id ∷ ids) h = (all_map (λ i. 100 + i) (λ i. id < i) (λ i. 100 + id < i) (λ i less. omega (arith, less)) ids h.0, rise_higher ids h.1)
 
-low : (cells : List Cell) (ids : List ℕ) → AllByRecursion (IsNumber cells 32) ids → AllByRecursion (λ x. x < 100) ids
-low cells [] h = tt
-low cells (id ∷ ids) h = (let l = h.0.0.1 in omega (arith, l), low cells ids h.1)
-
 high : (ids : List ℕ) → AllByRecursion (λ y. 100 ≤ y) (map (λ id. 100 + id) ids)
 high [] = tt
 high (id ∷ ids) = (omega arith, high ids)
@@ -223,7 +216,7 @@ ranks_rise plan e =
     let galileo = written_satellites e.galileo (satellites_in Galileo) in
     let is : map rank_of (rows_of plan e Gps ++ rows_of plan e Galileo) ≡ gps ++ map (λ id. 100 + id) galileo =
     map-append rank_of (rows_of plan e Gps) (rows_of plan e Galileo) ∙ ap₂ (λ a b. a ++ b) (gps_ranks plan e gps) (galileo_ranks plan e galileo) in
-    subst Rise (sym is) (below_all 100 gps (map (λ id. 100 + id) galileo) (low e.gps gps (numbers_of e.gps (satellites_in Gps))) (high galileo)
+    subst Rise (sym is) (below_all 100 gps (map (λ id. 100 + id) galileo) (all_weaker (IsNumber e.gps 32) (λ x. x < 100) (λ x h. let most = h.0.1 in omega (arith, most)) gps (numbers_of e.gps (satellites_in Gps))) (high galileo)
     (rise_filter (is_written e.gps) (numbers (satellites_in Gps)) (numbers_rise (satellites_in Gps)))
     (rise_higher galileo (rise_filter (is_written e.galileo) (numbers (satellites_in Galileo)) (numbers_rise (satellites_in Galileo)))))
 

@@ -1,5 +1,5 @@
 -- The text of a file that is stored in memory.
-use Rattle.std.proofs.Common.{arith, ◌≡◌, ◌∙◌, sym, ap, ap₂, refl, subst, ℕ, ◌<◌, ◌≤◌, List, [], ◌∷◌, ◌++◌, length, take, get_or, append_assoc}
+use Rattle.std.proofs.Common.{arith, ◌≡◌, ◌∙◌, sym, ap, ap₂, refl, ℕ, ◌<◌, ◌≤◌, List, [], ◌∷◌, ◌++◌, length, take, get_or, append_assoc}
 use Rattle.std.specs.Prelude.{All, map, flat_map}
 use Rattle.std.proofs.lemmas.List.{take_all}
 use Rattle.std.proofs.lemmas.List.Folds.{flat_map-map}
@@ -29,10 +29,6 @@ pub lines_have_room : (v : FileValue) → IsFileValue v → All HaveRowsRoom v.e
 lines_have_room v is =
     λ i d less k x here. has_room (length v.plan.gps) (length v.plan.galileo) (get_or (get_or v.epochs i d).rows k x) (few_signals_of v.plan is.plan Gps) (few_signals_of v.plan is.plan Galileo)
     ((is.epochs i d less).rows.each k x here)
-
--- the same satellites have room
-pub same_room : (e : Stamped) (rows : List SatelliteRow) → rows ≡ e.rows → HaveRowsRoom e → All HasRoom rows
-same_room e rows same room = subst (All HasRoom) (sym same) room
 
 joined_parts : (es : List Stamped) → joined (flat_map stamped_lines es) ≡ flat_map stamped_text es
 unfolding stamped_text

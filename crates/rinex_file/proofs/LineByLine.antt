@@ -185,16 +185,12 @@ not_within (a ∷ us) x (b ∷ bs) rest endless less e =
 
 -- ---- lines after lines
 
-after_are : (lines more : List (List ℕ)) → All IsLine (lines ++ more) → All IsLine more
-after_are [] more are = are
-after_are (l ∷ ls) more are = after_are ls more (All-tail IsLine l (ls ++ more) are)
+after_all : (P : List ℕ → Type 0) (lines more : List (List ℕ)) → All P (lines ++ more) → All P more
+after_all P [] more all = all
+after_all P (l ∷ ls) more all = after_all P ls more (All-tail P l (ls ++ more) all)
 
 abbrev IsShort : List ℕ → Type 0
 IsShort l = length l ≤ 1220
-
-after_short : (lines more : List (List ℕ)) → All IsShort (lines ++ more) → All IsShort more
-after_short [] more short = short
-after_short (l ∷ ls) more short = after_short ls more (All-tail IsShort l (ls ++ more) short)
 
 not_front : (m x long rest : List ℕ) → IsLine m → IsShort m → length long ≡ 1220 → has 10 long ≡ false → m ++ x ≡ long ++ rest → ⊥
 not_front m x long rest (body, e, endless) short size none same = grind (arith, length-append, not_within, append_assoc)
@@ -277,7 +273,7 @@ module _ (are_lines : (v : FileValue) → IsFileValue v → All IsLine (file_lin
   after : (v : FileValue) (taken : List (List ℕ)) (bytes : List ℕ) → IsFileValue v → All IsLine taken → joined taken ++ bytes ≡ file_text v → has 10 bytes ≡ false → file_lines v ≡ taken
   after v taken bytes is are e endless =
       let (more, lines, text) = splits (file_lines v) taken bytes (are_lines v is) are (sym e) in
-      let none : more ≡ [] = endless_lines more bytes (after_are taken more (subst (All IsLine) lines (are_lines v is))) endless text in
+      let none : more ≡ [] = endless_lines more bytes (after_all IsLine taken more (subst (All IsLine) lines (are_lines v is))) endless text in
       lines ∙ ap (λ l. taken ++ l) none ∙ append-nil taken
 
   -- the input ends before the next line's line feed; if no byte of the line was read, more lines are expected
@@ -314,7 +310,7 @@ module _ (are_lines : (v : FileValue) → IsFileValue v → All IsLine (file_lin
         → file_text v ≡ joined lines ++ (long ++ rest) → ⊥
     not_long v lines long rest is are size endless e =
         let (more, split, text) = splits (file_lines v) lines (long ++ rest) (are_lines v is) are e in
-        not_first more long rest (after_are lines more (subst (All IsLine) split (are_lines v is))) (after_short lines more (subst (All (λ l. length l ≤ 1220)) split (are_short v is)))
+        not_first more long rest (after_all IsLine lines more (subst (All IsLine) split (are_lines v is))) (after_all IsShort lines more (subst (All (λ l. length l ≤ 1220)) split (are_short v is)))
         size endless text
 
     not_many : (v : FileValue) (lines : List (List ℕ)) (rest : List ℕ) → IsFileValue v → All IsLine lines → length lines ≡ most_lines → 0 < length rest → length (file_lines v) ≤ most_lines

@@ -134,20 +134,8 @@ value_in-field (Some v) lost strength rest h =
 
 -- ---- the four fields of a signal
 
-second : (x a b c d e : List ℕ) → x ≡ (a ++ (b ++ (c ++ d))) ++ e → length a ≡ 16 → drop 16 x ≡ b ++ (c ++ (d ++ e))
-second x a b c d e is l =
-    let shape : x ≡ a ++ (b ++ (c ++ (d ++ e))) = is ∙ simp append_assoc in
-    ap (drop 16) shape ∙ drop_at a (b ++ (c ++ (d ++ e))) 16 l
-
-third : (x a b c d e : List ℕ) → x ≡ (a ++ (b ++ (c ++ d))) ++ e → length a ≡ 16 → length b ≡ 16 → drop 32 x ≡ c ++ (d ++ e)
-third x a b c d e is l m =
-    let shape : x ≡ (a ++ b) ++ (c ++ (d ++ e)) = is ∙ simp append_assoc in
-    ap (drop 32) shape ∙ drop_at (a ++ b) (c ++ (d ++ e)) 32 (simp length-append (omega (arith, l, m)))
-
-fourth : (x a b c d e : List ℕ) → x ≡ (a ++ (b ++ (c ++ d))) ++ e → length a ≡ 16 → length b ≡ 16 → length c ≡ 16 → drop 48 x ≡ d ++ e
-fourth x a b c d e is l m n =
-    let shape : x ≡ (a ++ (b ++ c)) ++ (d ++ e) = is ∙ simp append_assoc in
-    ap (drop 48) shape ∙ drop_at (a ++ (b ++ c)) (d ++ e) 48 (simp length-append (omega (arith, l, m, n)))
+at_field : (x front rest : List ℕ) (n : ℕ) → x ≡ front ++ rest → length front ≡ n → drop n x ≡ rest
+at_field x front rest n is size = ap (drop n) is ∙ drop_at front rest n size
 
 -- the byte after a value, if there is one
 abbrev shown : Option ℤ → ℕ → ℕ
@@ -180,15 +168,11 @@ strength_fits None h = tt
 strength_fits (Some s) h = let low = h.0 in let high = h.1 in (omega (arith, ints), omega (arith, ints))
 
 -- the parts of a record of five
-made : Option ℤ → Option ℤ → Option ℤ → Option ℤ → ℕ → SignalValues
+abbrev made : Option ℤ → Option ℤ → Option ℤ → Option ℤ → ℕ → SignalValues
 made c l d s m = record { c = c; l = l; d = d; s = s; lli = m }
 
-same_parts : (a b c d e f g h : Option ℤ) (m n : ℕ) → a ≡ b → c ≡ d → e ≡ f → g ≡ h → m ≡ n → made a c e g m ≡ made b d f h n
-same_parts a b c d e f g h m n p q r s t = cc
-
 pub same_entry : (x y : SignalValues) → x.c ≡ y.c → x.l ≡ y.l → x.d ≡ y.d → x.s ≡ y.s → x.lli ≡ y.lli → x ≡ y
-unfolding made
-same_entry x y c l d s m = same_parts x.c y.c x.l y.l x.d y.d x.s y.s x.lli y.lli c l d s m
+same_entry x y c l d s m = ap₂ (λ (a b : Option ℤ). made a b x.d x.s x.lli) c l ∙ ap₂ (λ (a b : Option ℤ). made y.c y.l a b x.lli) d s ∙ ap (made y.c y.l y.d y.s) m
 
 -- values of a file fit their columns
 pub values_fit : (e : SignalValues) → AreSignalValues e → HaveRoom e
@@ -225,9 +209,9 @@ entry_in-text e rest h =
     front ∙ ap (λ y. c ++ y) (append_assoc l (d ++ s) rest) ∙ ap (λ y. c ++ (y ++ ((d ++ s) ++ rest))) parts in
     same_entry (signal_values_in x) e
     (ap value_in front ∙ value_in-field e.c 32 (strength_byte e.s) ((l ++ (d ++ s)) ++ rest) h.c)
-    (ap value_in (second x c l d s rest refl lc) ∙ value_in-field e.l (lli_byte e.lli) (strength_byte e.s) (d ++ (s ++ rest)) h.l)
-    (ap value_in (third x c l d s rest refl lc ll) ∙ value_in-field e.d 32 32 (s ++ rest) h.d)
-    (ap value_in (fourth x c l d s rest refl lc ll ld) ∙ value_in-field e.s 32 32 rest (strength_fits e.s h.s))
+    (ap value_in (at_field x c (l ++ (d ++ (s ++ rest))) 16 (simp append_assoc) lc) ∙ value_in-field e.l (lli_byte e.lli) (strength_byte e.s) (d ++ (s ++ rest)) h.l)
+    (ap value_in (at_field x (c ++ l) (d ++ (s ++ rest)) 32 (simp append_assoc) (simp length-append (omega (arith, lc, ll)))) ∙ value_in-field e.d 32 32 (s ++ rest) h.d)
+    (ap value_in (at_field x (c ++ (l ++ d)) (s ++ rest) 48 (simp append_assoc) (simp length-append (omega (arith, lc, ll, ld)))) ∙ value_in-field e.s 32 32 rest (strength_fits e.s h.s))
     (ap digits_in (first_of_rest x c t ((d ++ s) ++ rest) (shown e.l (lli_byte e.lli)) (shown e.l (strength_byte e.s)) with_lli lc lt) ∙ lli_shown e.l e.lli h.lli h.without_phase)
 
 entry_alone : (e : SignalValues) → AreSignalValues e → signal_values_in (signal_text e) ≡ e

@@ -61,13 +61,10 @@ pub any_from : (id : ℕ) (cells : List Cell) → is_written (filter (is_of_sate
 any_from id [] = refl
 any_from id (c ∷ cells) = grind (arith, (any_from id cells))
 
-drop_plus : (a b : ℕ) (cells : List Cell) → drop b (drop a cells) ≡ drop (a + b) cells
-drop_plus a b cells = drop-drop b a cells
-
 -- One more satellite.
 pub record Further (n from to id : ℕ) (cells : List Cell) : Type 0 where
   pub group : filter (is_of_satellite id) cells ≡ take (to - from) (drop from cells)
   pub left : Left id to cells
 
 pub further : (n from to id : ℕ) (cells : List Cell) → id ≡ suc n → to ≡ from + run id (drop from cells) → to ≤ length cells → Climb cells → Left n from cells → Further n from to id cells
-further n from to id cells is at within climb h = grind (arith, parted, climb-drop, drop_plus)
+further n from to id cells is at within climb h = grind (arith, parted, climb-drop, drop-drop)

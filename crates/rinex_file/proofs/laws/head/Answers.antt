@@ -10,18 +10,11 @@ use Rattle.rinex_file.proofs.HeaderEnd.{listed_by}
 use Rattle.rinex_file.proofs.laws.head.Goals as goal
 
 -- these are the signals of a system
-are_listed : (system : System) (ss : List SignalAt) (signals : List ℕ) → indices ss ≡ signals → IsOf system ss → All (λ i. i < length (table system)) signals
-are_listed system ss signals e is = subst (All (λ i. i < length (table system))) e (listed_by system ss is.each)
-
-are_apart : (system : System) (ss : List SignalAt) (signals : List ℕ) → indices ss ≡ signals → IsOf system ss → IsDistinct nat_eq signals
-are_apart system ss signals e is = subst (IsDistinct nat_eq) e is.apart
+are_signals : (system : System) (ss : List SignalAt) (signals : List ℕ) → indices ss ≡ signals → IsOf system ss → All (λ i. i < length (table system)) signals × IsDistinct nat_eq signals
+are_signals system ss signals e is = (subst (All (λ i. i < length (table system))) e (listed_by system ss is.each), subst (IsDistinct nat_eq) e is.apart)
 
 pub returns-clause-plan : goal.returns-clause-plan
-returns-clause-plan c = record { listed = listed; apart = apart } where
-  listed : (system : System) → All (λ i. i < length (table system)) (planned_of system c.args.plan.now)
-  listed Gps = are_listed Gps c.of.result.now _ c.of.ensures.indices c.of.ensures.system
-  listed Galileo = are_listed Galileo c.of-2.result.now _ c.of-2.ensures.indices c.of-2.ensures.system
-
-  apart : (system : System) → IsDistinct nat_eq (planned_of system c.args.plan.now)
-  apart Gps = are_apart Gps c.of.result.now _ c.of.ensures.indices c.of.ensures.system
-  apart Galileo = are_apart Galileo c.of-2.result.now _ c.of-2.ensures.indices c.of-2.ensures.system
+returns-clause-plan c = record { listed = λ system. (each system).0; apart = λ system. (each system).1 } where
+  each : (system : System) → All (λ i. i < length (table system)) (planned_of system c.args.plan.now) × IsDistinct nat_eq (planned_of system c.args.plan.now)
+  each Gps = are_signals Gps c.of.result.now _ c.of.ensures.indices c.of.ensures.system
+  each Galileo = are_signals Galileo c.of-2.result.now _ c.of-2.ensures.indices c.of-2.ensures.system

@@ -1,10 +1,11 @@
-use Rattle.std.proofs.Common.{◌∙◌, ap}
+use Rattle.std.proofs.Common.{◌∙◌, ap, subst, sym, All}
+use Rattle.rinex_file.specs.Read.Keeping.{HasRoom}
 use Rattle.rinex_file.specs.Value.{Stamped}
-use Rattle.rinex_file.proofs.KeptFile.{same_room, epoch_whole}
+use Rattle.rinex_file.proofs.KeptFile.{epoch_whole}
 use Rattle.rinex_file.proofs.write.file.write_kept.Goals as goal
 
 pub write_rows-requires : goal.write_rows-requires
-write_rows-requires c = same_room c.args.epoch.now c.as_slice-rows.result.now (c.as_slice-rows.ensures.value ∙ ap (λ (e : Stamped). e.rows) c.epoch.view_is) c.requires
+write_rows-requires c = subst (All HasRoom) (sym (c.as_slice-rows.ensures.value ∙ ap (λ (e : Stamped). e.rows) c.epoch.view_is)) c.requires
 
 pub returns : goal.returns
 returns c =
