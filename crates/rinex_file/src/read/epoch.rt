@@ -1,6 +1,6 @@
 //! The lines with a date and time of day, read back: their fields are validated, written again and
 //! compared.
-ghost use Rattle.std.specs.Prelude.{◌≡◌, ◌≤◌, ℕ, length, min, IfSome, Some};
+ghost use Rattle.std.specs.Prelude.{◌≡◌, ◌≤◌, ℕ, length, IfSome, Some};
 ghost use Rattle.obs_epoch.specs.Dates.{civil_of};
 ghost use Rattle.rinex_file.specs.FileValues.{IsTime};
 ghost use Rattle.rinex_file.specs.Header.{first_line};
@@ -14,21 +14,8 @@ use crate::write::numbers::Line;
 use obs_epoch::laws::calendar;
 use obs_epoch::{Civil, GpsTime};
 
-/// Returns the number, or 255 if it is greater; no field of a date has that value.
-fn byte_of(number: u64) -> u8
-    ensures { result ≡ min number 255 }
-{
-    number.min(255) as u8
-}
-
-/// Returns the number, or 65,535 if it is greater; no field of a date has that value.
-fn word_of(number: u64) -> u16
-    ensures { result ≡ min number 65_535 }
-{
-    number.min(65_535) as u16
-}
-
-/// Returns the date and time of day in the header's line of the first epoch.
+/// Returns the date and time of day in the header's line of the first epoch. Each number is limited
+/// to the largest value of its type, which no field of a date has.
 fn first_in(line: &[u8]) -> Option<Civil>
     ensures { (t : ℕ) → IsTime t → line.now ≡ first_line (civil_of t) → result ≡ Some (civil_of t) }
 {
@@ -37,12 +24,12 @@ fn first_in(line: &[u8]) -> Option<Civil>
         return None;
     }
     Some(Civil {
-        year: word_of(digits_in(&line[0..6])),
-        month: byte_of(digits_in(&line[6..12])),
-        day: byte_of(digits_in(&line[12..18])),
-        hour: byte_of(digits_in(&line[18..24])),
-        minute: byte_of(digits_in(&line[24..30])),
-        millisecond: word_of(digits_in(&line[30..43]) / 10_000),
+        year: digits_in(&line[0..6]).min(65_535) as u16,
+        month: digits_in(&line[6..12]).min(255) as u8,
+        day: digits_in(&line[12..18]).min(255) as u8,
+        hour: digits_in(&line[18..24]).min(255) as u8,
+        minute: digits_in(&line[24..30]).min(255) as u8,
+        millisecond: (digits_in(&line[30..43]) / 10_000).min(65_535) as u16,
     })
 }
 
@@ -56,12 +43,12 @@ fn civil_in(line: &[u8]) -> Option<Civil>
         return None;
     }
     Some(Civil {
-        year: word_of(digits_in(&line[2..6])),
-        month: byte_of(digits_in(&line[7..9])),
-        day: byte_of(digits_in(&line[10..12])),
-        hour: byte_of(digits_in(&line[13..15])),
-        minute: byte_of(digits_in(&line[16..18])),
-        millisecond: word_of(digits_in(&line[18..29]) / 10_000),
+        year: digits_in(&line[2..6]).min(65_535) as u16,
+        month: digits_in(&line[7..9]).min(255) as u8,
+        day: digits_in(&line[10..12]).min(255) as u8,
+        hour: digits_in(&line[13..15]).min(255) as u8,
+        minute: digits_in(&line[16..18]).min(255) as u8,
+        millisecond: (digits_in(&line[18..29]) / 10_000).min(65_535) as u16,
     })
 }
 

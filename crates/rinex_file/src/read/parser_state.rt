@@ -223,9 +223,6 @@ impl ParserState {
     pub(crate) fn may_end(&self) -> bool
         ensures { IsTrue result ↔ ((self.now.expected ≡ Expected.Epoch) × (0 < self.now.counts.epochs)) }
     {
-        match self.expected {
-            Expected::Epoch => self.counts.epochs > 0,
-            _ => false,
-        }
+        matches!(self.expected, Expected::Epoch) && self.counts.epochs > 0
     }
 }

@@ -37,10 +37,8 @@ fn fault_at(expected: Expected, number: u64) -> ReadFault
 {
     match expected {
         Expected::Header(_) => ReadFault::BadHeader(number),
-        Expected::Epoch => ReadFault::BadEpoch(number),
-        Expected::EventPosition => ReadFault::BadEvent(number),
-        Expected::EventHeight(_) => ReadFault::BadEvent(number),
-        Expected::EventEpoch(_) => ReadFault::BadEpoch(number),
+        Expected::Epoch | Expected::EventEpoch(_) => ReadFault::BadEpoch(number),
+        Expected::EventPosition | Expected::EventHeight(_) => ReadFault::BadEvent(number),
         Expected::Satellite(_) => ReadFault::BadSatellite(number),
     }
 }
@@ -87,10 +85,8 @@ impl Reading {
             Found::End => return Err(ReadFault::CutShort(number)),
             Found::Long => return Err(fault_at(expected, number)),
         }
-        match self
-            .parser_state
-            .take(self.line.as_slice(), &mut self.again)
-        {
+        let line = self.line.as_slice();
+        match self.parser_state.take(line, &mut self.again) {
             Ok(added) => {
                 self.count = number;
                 Ok(Some(added))

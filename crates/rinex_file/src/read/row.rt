@@ -51,9 +51,8 @@ fn put_signal_values(
 {
     signal_values.clear();
     for i in 0..signals {
-        signal_values.push(signal_values_in(
-            &text[3 + SIGNAL_COLUMNS * i..3 + SIGNAL_COLUMNS * i + SIGNAL_COLUMNS],
-        ));
+        let at = 3 + SIGNAL_COLUMNS * i;
+        signal_values.push(signal_values_in(&text[at..at + SIGNAL_COLUMNS]));
     }
 }
 
@@ -72,10 +71,7 @@ fn put_seen_in(system: System, text: &[u8], signals: usize, seen: &mut KeptSatel
 fn is_from(value: Option<Thousandths>, low: i64, high: i64) -> bool
     ensures { IsTrue result ↔ IfSome value (IsFrom low high) }
 {
-    match value {
-        None => true,
-        Some(v) => low <= v.value() && v.value() <= high,
-    }
+    value.is_none_or(|v| low <= v.value() && v.value() <= high)
 }
 
 /// Returns whether values and indicator may be those of a signal: only a phase has a loss-of-lock

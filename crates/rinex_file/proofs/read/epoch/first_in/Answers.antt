@@ -23,9 +23,9 @@ returns c = λ t is e.
     let here = (goal.at.returns c).After-calendar in
     let s = shown here t is e in
     ap Some (
-    are_read (civil_of t) c.word_of.result c.byte_of.result c.byte_of-2.result c.byte_of-3.result c.byte_of-4.result c.word_of-2.result
+    are_read (civil_of t) c.min.result c.min-2.result c.min-3.result c.min-4.result c.min-5.result c.min-6.result
     c.digits_in.result c.digits_in-2.result c.digits_in-3.result c.digits_in-4.result c.digits_in-5.result c.digits_in-6.result (room here t is)
-    c.word_of.ensures c.byte_of.ensures c.byte_of-2.ensures c.byte_of-3.ensures c.byte_of-4.ensures c.word_of-2.ensures
+    c.min.ensures c.min-2.ensures c.min-3.ensures c.min-4.ensures c.min-5.ensures c.min-6.ensures
     (c.digits_in.ensures.value ∙ s.year) (c.digits_in-2.ensures.value ∙ s.month) (c.digits_in-3.ensures.value ∙ s.day) (c.digits_in-4.ensures.value ∙ s.hour)
     (c.digits_in-5.ensures.value ∙ s.minute) (c.digits_in-6.ensures.value ∙ s.second)
     )

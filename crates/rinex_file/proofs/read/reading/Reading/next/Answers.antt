@@ -59,8 +59,8 @@ returns-in-Ok-clause-goes g c = λ h input read.
     let line = c.next_line.new.line.items in
     let next = c.in-Ok.ensures.takes h read.history in
     record {
-      taken = one_more old new c.args.self.now.count input _ _ line read.taken c.in-Line.ensures.found.0 c.in-Line.ensures.taken.0 (subst (GoesOnWithLine old new) c.as_slice.ensures.value next.follows)
-          (subst (ShowsLine old new) c.as_slice.ensures.value next.shows);
+      taken = one_more old new c.args.self.now.count input _ _ line read.taken c.in-Line.ensures.found.0 c.in-Line.ensures.taken.0 (subst (GoesOnWithLine old new) c.as_slice-line.ensures.value next.follows)
+          (subst (ShowsLine old new) c.as_slice-line.ensures.value next.shows);
       history = next.history;
     }
 
@@ -78,7 +78,7 @@ returns-in-Err-Bad-clause-goes g c = λ h input read.
     let s = progress_at c.args.self.now.parser_state h in
     let n = c.args.self.now.count in
     let line = c.next_line.new.line.items in
-    let takes = subst (λ (r : Refusal). TakesLine c.args.self.now.parser_state c.take.new.self c.as_slice.result.now (Err r)) c.in-Err-Bad.field-0-is c.in-Err-Bad.ensures.takes in
+    let takes = subst (λ (r : Refusal). TakesLine c.args.self.now.parser_state c.take.new.self c.as_slice-line.result.now (Err r)) c.in-Err-Bad.field-0-is c.in-Err-Bad.ensures.takes in
     both_said input _ _ _ c.fault_at-in-Err-Bad.ensures.faulty
-    (refused lines_are_lines s n input _ _ line read.taken c.in-Line.ensures.found.0 c.in-Line.ensures.taken.0 (subst (RefusesLine s) c.as_slice.ensures.value (takes h read.history)))
+    (refused lines_are_lines s n input _ _ line read.taken c.in-Line.ensures.found.0 c.in-Line.ensures.taken.0 (subst (RefusesLine s) c.as_slice-line.ensures.value (takes h read.history)))
     (expected_at c.args.self.now.parser_state h c.args.self.now.parser_state.expected n input _ read.taken refl read.history)
