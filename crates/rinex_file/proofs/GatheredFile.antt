@@ -14,7 +14,6 @@ use Rattle.obs_epoch.specs.declared.cell.Cell.{Cell}
 use Rattle.obs_epoch.specs.Values.{PlanValue, EpochValue, Closed, same_values, cells_of, planned_of, has_value, is_written}
 use Rattle.obs_epoch.specs.Plans.{place_in}
 use Rattle.obs_epoch.specs.Reach.{IsGathered, AreGathered, IsGatheredEpoch, AreGatheredEpochs, TimesRise, AreStationValues, same_place}
-use Rattle.std.specs.Ordering.{int_eq}
 use Rattle.std.proofs.lemmas.Bool.Decides.{Decides-int_eq}
 use Rattle.obs_epoch.specs.declared.cell.StationValues.{StationValues}
 use Rattle.rinex_file.specs.Texts.{HeaderLists}
@@ -257,14 +256,11 @@ SameValues v w = v ≡ w
 abbrev values_with : ℤ → ℤ → ℤ → ℕ → StationValues
 values_with x y z h = record { x = x; y = y; z = z; height = h }
 
-int_same : (a b : ℤ) → int_eq a b ≡ true → a ≡ b
-int_same a b h = (Decides-int_eq a b).0 h
-
 all_same : (a b c d e f : ℤ) (m n : ℕ) → a ≡ b → c ≡ d → e ≡ f → m ≡ n → SameValues (values_with a c e m) (values_with b d f n)
 all_same a b c d e f m n p q r s = ap (λ t. values_with t c e m) p ∙ ap (λ t. values_with b t e m) q ∙ ap (λ t. values_with b d t m) r ∙ ap (values_with b d f) s
 
 same_are : (v w : StationValues) → same_values v w ≡ true → SameValues v w
-same_are v w h = grind (arith, both, all_same, int_same, same_index)
+same_are v w h = grind (arith, both, all_same, Decides-int_eq, same_index)
 
 values_fit : (v : StationValues) → AreStationValues v → AreValues v
 values_fit v h = record { x = h.x; y = h.y; z = h.z; height = h.height }

@@ -351,8 +351,7 @@ no_reason v0 v = grind arith
 
 -- a line has its line feed
 pub line_some : (bytes : List ℕ) → IsLine bytes → 0 < length bytes
-line_some bytes ([], is, endless) = subst (λ (l : List ℕ). 0 < length l) (sym is) (omega arith)
-line_some bytes (b ∷ body, is, endless) = subst (λ (l : List ℕ). 0 < length l) (sym is) (omega arith)
+line_some bytes (body, is, endless) = let size = ap length is ∙ length-append body (10 ∷ []) in omega (arith, size)
 
 -- ---- a file that was read whole, and its counts
 

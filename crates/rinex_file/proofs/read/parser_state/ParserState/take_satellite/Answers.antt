@@ -67,8 +67,7 @@ pub returns-then-rank-self-clause-takes : goal.returns-then-rank-self-clause-tak
 returns-then-rank-self-clause-takes c = λ h history.
     let s = progress_at c.args.self.now h in
     let (read, begun, some, room) = sound_open s c.args.left c.requires.expected history.sound in
-    let shown = shows c.planned-gps.result c.planned-galileo.result (length s.known.shown.plan.gps) (length s.known.shown.plan.galileo) c.args.line.now c.read_seen.result true c.read_seen.new.seen
-    c.planned-gps.ensures c.planned-galileo.ensures c.if-not-read_seen.false c.read_seen.ensures in
+    let shown = shows _ _ _ _ c.args.line.now _ true c.read_seen.new.seen c.planned-gps.ensures c.planned-galileo.ensures c.if-not-read_seen.false c.read_seen.ensures in
     bad_row s (c.args.left - 1) c.args.line.now (one_expected c.args.left s c.requires.expected some) c.read_seen.new.seen shown.2
     (λ rise. let less = (increasing _ _ h.rows c.read_seen.new.seen _ _ history.counted.rank shown.0 c.rank_of-rank.ensures).1 rise in omega (arith, less, c.if-rank-self.true))
 
@@ -89,8 +88,7 @@ returns-then-left-gt1-clause-takes c = λ h history.
     let s = progress_at c.args.self.now h in
     let seen = c.read_seen.new.seen in
     let (read, begun, some, room) = sound_open s c.args.left c.requires.expected history.sound in
-    let shown = shows c.planned-gps.result c.planned-galileo.result (length s.known.shown.plan.gps) (length s.known.shown.plan.galileo) c.args.line.now c.read_seen.result true seen
-    c.planned-gps.ensures c.planned-galileo.ensures c.if-not-read_seen.false c.read_seen.ensures in
+    let shown = shows _ _ _ _ c.args.line.now _ true seen c.planned-gps.ensures c.planned-galileo.ensures c.if-not-read_seen.false c.read_seen.ensures in
     let rise = (increasing _ _ h.rows seen _ _ history.counted.rank shown.0 c.rank_of-rank.ensures).0 c.if-rank-self.false in
     let more : 0 < c.args.left - 1 = let n = c.if-left-gt1.true in omega (arith, n) in
     record {
@@ -125,8 +123,7 @@ returns-clause-takes c = λ h history.
     let s = progress_at c.args.self.now h in
     let seen = c.read_seen.new.seen in
     let (read, begun, some, room) = sound_open s c.args.left c.requires.expected history.sound in
-    let shown = shows c.planned-gps.result c.planned-galileo.result (length s.known.shown.plan.gps) (length s.known.shown.plan.galileo) c.args.line.now c.read_seen.result true seen
-    c.planned-gps.ensures c.planned-galileo.ensures c.if-not-read_seen.false c.read_seen.ensures in
+    let shown = shows _ _ _ _ c.args.line.now _ true seen c.planned-gps.ensures c.planned-galileo.ensures c.if-not-read_seen.false c.read_seen.ensures in
     let rise = (increasing _ _ h.rows seen _ _ history.counted.rank shown.0 c.rank_of-rank.ensures).0 c.if-rank-self.false in
     let last : c.args.left ≡ suc 0 = let n = c.if-left-gt1.false in omega (arith, n, some) in
     let epoch = stamped_at c.args.self.now.change c.args.self.now.time (h.rows ++ seen ∷ []) in
