@@ -38,7 +38,7 @@ pub(crate) struct ParserState {
     // did.
     pub(crate) last: Option<u64>,
     pub(crate) values: Option<StationValues>,
-    // The satellite that was read last, and its rank if it is one of the epoch that was begun, or 0.
+    // The satellite that was read last, and its rank if it is of the epoch that was begun, or 0.
     pub(crate) seen: KeptSatellite,
     pub(crate) rank: u64,
     pub(crate) counts: Counts,
