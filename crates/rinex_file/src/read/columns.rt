@@ -19,29 +19,19 @@ fn word_at(text: &[u8], first: usize) -> u64
     ])
 }
 
-/// The digits in eight columns.
-#[derive(Clone, Copy)]
-struct Digits {
-    // Each two neighbouring digits as one number; any other column counts as 0.
-    pairs: u64,
-    // A column is neither a digit nor a blank.
-    has_sign: bool,
-}
-
-/// Returns the digits in eight columns.
-fn digits_at(text: &[u8], first: usize) -> Digits
+/// Returns the digits in eight columns: each two neighbouring digits as one number, where any other
+/// column counts as 0, and whether a column is neither a digit nor a blank.
+fn digits_at(text: &[u8], first: usize) -> (u64, bool)
     requires { first + 8 ≤ length text.now }
-    ensures pairs { result.pairs ≡ word (pairs_in (map digit_in (take 8 (drop first text.now)))) }
-    ensures sign { result.has_sign ≡ has_sign (take 8 (drop first text.now)) }
+    ensures pairs { result.0 ≡ word (pairs_in (map digit_in (take 8 (drop first text.now)))) }
+    ensures sign { result.1 ≡ has_sign (take 8 (drop first text.now)) }
 {
     let columns = word_at(text, first);
     // Of the bytes of a field only digits, 0x30 to 0x39, have this bit.
     let marks = columns & 0x1010_1010_1010_1010;
     let digits = columns & (marks - marks / 16);
-    Digits {
-        pairs: digits * 10 + digits / 256,
-        has_sign: digits != (columns & 0x0F0F_0F0F_0F0F_0F0F),
-    }
+    let has_sign = digits != (columns & 0x0F0F_0F0F_0F0F_0F0F);
+    (digits * 10 + digits / 256, has_sign)
 }
 
 /// Returns the size of a value in thousandths, in columns with a point in the eleventh.
@@ -68,9 +58,8 @@ pub(crate) fn value_in(text: &[u8]) -> Option<Thousandths>
     if text[10] != b'.' {
         return None;
     }
-    let first = digits_at(text, 0);
-    let last = digits_at(text, 8);
-    let has_minus = first.has_sign | (text[8] == b'-');
-    let value = signed(size_in(first.pairs, last.pairs), has_minus);
+    let (first, has_sign) = digits_at(text, 0);
+    let (last, _) = digits_at(text, 8);
+    let value = signed(size_in(first, last), has_sign | (text[8] == b'-'));
     Some(Thousandths::new(value))
 }
