@@ -51,10 +51,7 @@ fn line_feed(bytes: &[u8]) -> usize
     ensures none { has 10 (take result bytes.now) ≡ false }
     ensures found { result < length bytes.now → take 1 (drop result bytes.now) ≡ 10 ∷ [] }
 {
-    match memchr(b'\n', bytes) {
-        Some(place) => place,
-        None => bytes.len(),
-    }
+    memchr(b'\n', bytes).unwrap_or(bytes.len())
 }
 
 impl Block {
