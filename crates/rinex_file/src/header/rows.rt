@@ -31,40 +31,28 @@ pub enum HeaderRow {
 /// The number of rows.
 pub(crate) const ROW_COUNT: usize = 26;
 
-/// The rows. The signals of a system have at most six lines of types.
-const ROWS: [HeaderRow; ROW_COUNT] = [
-    HeaderRow::Version,
-    HeaderRow::Texts(TextRow::Program),
-    HeaderRow::Texts(TextRow::Marker),
-    HeaderRow::Texts(TextRow::MarkerType),
-    HeaderRow::Texts(TextRow::Observer),
-    HeaderRow::Texts(TextRow::Receiver),
-    HeaderRow::Texts(TextRow::Antenna),
-    HeaderRow::Position,
-    HeaderRow::Delta,
-    HeaderRow::Types(System::Gps, 0),
-    HeaderRow::Types(System::Gps, 1),
-    HeaderRow::Types(System::Gps, 2),
-    HeaderRow::Types(System::Gps, 3),
-    HeaderRow::Types(System::Gps, 4),
-    HeaderRow::Types(System::Gps, 5),
-    HeaderRow::Types(System::Galileo, 0),
-    HeaderRow::Types(System::Galileo, 1),
-    HeaderRow::Types(System::Galileo, 2),
-    HeaderRow::Types(System::Galileo, 3),
-    HeaderRow::Types(System::Galileo, 4),
-    HeaderRow::Types(System::Galileo, 5),
-    HeaderRow::StrengthUnit,
-    HeaderRow::First,
-    HeaderRow::Shift(System::Gps),
-    HeaderRow::Shift(System::Galileo),
-    HeaderRow::End,
-];
-
-/// Returns the row at an index, counted from 0.
+/// Returns the row at an index, counted from 0. The signals of a system have at most six lines of
+/// types.
 pub(crate) fn row_at(place: usize) -> HeaderRow
     requires { place < row_count }
     ensures { result ≡ row_at place }
 {
-    ROWS[place]
+    match place {
+        0 => HeaderRow::Version,
+        1 => HeaderRow::Texts(TextRow::Program),
+        2 => HeaderRow::Texts(TextRow::Marker),
+        3 => HeaderRow::Texts(TextRow::MarkerType),
+        4 => HeaderRow::Texts(TextRow::Observer),
+        5 => HeaderRow::Texts(TextRow::Receiver),
+        6 => HeaderRow::Texts(TextRow::Antenna),
+        7 => HeaderRow::Position,
+        8 => HeaderRow::Delta,
+        9..=14 => HeaderRow::Types(System::Gps, place - 9),
+        15..=20 => HeaderRow::Types(System::Galileo, place - 15),
+        21 => HeaderRow::StrengthUnit,
+        22 => HeaderRow::First,
+        23 => HeaderRow::Shift(System::Gps),
+        24 => HeaderRow::Shift(System::Galileo),
+        _ => HeaderRow::End,
+    }
 }
