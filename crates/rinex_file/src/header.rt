@@ -2,7 +2,6 @@
 pub(crate) mod fault;
 pub(crate) mod fields;
 pub(crate) mod head;
-pub(crate) mod labels;
 pub(crate) mod lines;
 pub(crate) mod rows;
 pub(crate) mod texts;

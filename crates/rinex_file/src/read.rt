@@ -6,7 +6,6 @@ pub(crate) mod epoch;
 pub(crate) mod expected;
 pub(crate) mod fault;
 pub(crate) mod file;
-pub(crate) mod head_lines;
 pub(crate) mod head_so_far;
 pub(crate) mod lines;
 pub(crate) mod numbers;

@@ -7,9 +7,9 @@ ghost use Rattle.obs_epoch.specs.declared.civil.Civil.{Civil};
 ghost use Rattle.rinex_file.specs.Texts.{HeaderLists};
 ghost use Rattle.rinex_file.specs.Header.{row_line, has_line, row_at, row_count, lines_from, header_lines};
 
-use crate::header::labels;
 use crate::header::lines::{
-    delta_line, first_line, labelled, position_line, texts_line, version_line,
+    END, SHIFT, STRENGTH_UNIT, UNIT, delta_line, first_line, labelled, position_line, texts_line,
+    version_line,
 };
 use crate::header::rows::{HeaderRow, ROW_COUNT, row_at};
 use crate::header::texts::HeaderTexts;
@@ -73,10 +73,10 @@ fn line_of(head: &Head, row: HeaderRow) -> Line
         HeaderRow::Position => position_line(&head.values),
         HeaderRow::Delta => delta_line(&head.values),
         HeaderRow::Types(system, row) => type_line(head.plan, system, row),
-        HeaderRow::StrengthUnit => labelled(labels::UNIT, labels::STRENGTH_UNIT),
+        HeaderRow::StrengthUnit => labelled(UNIT, STRENGTH_UNIT),
         HeaderRow::First => first_line(head.first),
-        HeaderRow::Shift(system) => labelled(&[letter_of(system)], labels::SHIFT),
-        HeaderRow::End => labelled(b"", labels::END),
+        HeaderRow::Shift(system) => labelled(&[letter_of(system)], SHIFT),
+        HeaderRow::End => labelled(b"", END),
     }
 }
 

@@ -6,11 +6,32 @@ ghost use Rattle.rinex_file.specs.Header.{first_line};
 ghost use Rattle.rinex_file.specs.Read.Progress.{version_with};
 
 use crate::header::fields::{HeaderField, TextRow};
-use crate::header::labels;
 use crate::header::texts::HeaderTexts;
 use crate::write::numbers::{Line, put, put_fixed, put_left, put_seconds, put_whole};
 use gnss_obs::System;
-use obs_epoch::{Civil, GpsTime, Plan, StationValues};
+use obs_epoch::{GpsTime, Plan, StationValues};
+
+// The labels of the rows other than those of texts, in columns 61 to 80.
+
+/// Version, the file's type and its systems.
+pub(crate) const VERSION: &[u8] = b"RINEX VERSION / TYPE";
+/// The position of the antenna.
+pub(crate) const POSITION: &[u8] = b"APPROX POSITION XYZ";
+/// The height of the antenna above the marker.
+pub(crate) const DELTA: &[u8] = b"ANTENNA: DELTA H/E/N";
+/// The types of a system.
+pub(crate) const TYPES: &[u8] = b"SYS / # / OBS TYPES";
+/// The unit of the strengths.
+pub(crate) const STRENGTH_UNIT: &[u8] = b"SIGNAL STRENGTH UNIT";
+/// The time of the first epoch.
+pub(crate) const FIRST: &[u8] = b"TIME OF FIRST OBS";
+/// The phase shifts of a system, of which there are none.
+pub(crate) const SHIFT: &[u8] = b"SYS / PHASE SHIFT";
+/// The last line.
+pub(crate) const END: &[u8] = b"END OF HEADER";
+
+/// The content of the line of that unit.
+pub(crate) const UNIT: &[u8] = b"DBHZ";
 
 /// Returns a line: content in columns 1 to 60, the label from column 61 on, and a line feed.
 #[tactic(auto, unfolding(crate::specs::Header::header_line))]
@@ -41,13 +62,11 @@ pub(crate) fn three_lengths(a: i64, b: i64, c: i64, label: &[u8]) -> Line
 fn file_system(gps: bool, galileo: bool) -> u8
     ensures { result ≡ (if gps then (if galileo then 77 else 71) else 69) }
 {
-    if !gps {
-        return b'E';
+    match (gps, galileo) {
+        (false, _) => b'E',
+        (true, false) => b'G',
+        (true, true) => b'M',
     }
-    if !galileo {
-        return b'G';
-    }
-    b'M'
 }
 
 /// Returns the line with version 3.05, the file's type and its systems, given whether GPS and
@@ -60,7 +79,7 @@ pub(crate) fn version_with(gps: bool, galileo: bool) -> Line
     put(&mut content, b"           ");
     put_left(&mut content, 20, b"OBSERVATION DATA");
     content.push(file_system(gps, galileo));
-    labelled(content.as_slice(), labels::VERSION)
+    labelled(content.as_slice(), VERSION)
 }
 
 /// Returns the line with version 3.05, the file's type and the planned systems.
@@ -90,20 +109,21 @@ pub(crate) fn texts_line(texts: &HeaderTexts, row: TextRow) -> Line
 pub(crate) fn position_line(values: &StationValues) -> Line
     ensures { result.items ≡ position_line values.now }
 {
-    three_lengths(values.x, values.y, values.z, labels::POSITION)
+    three_lengths(values.x, values.y, values.z, POSITION)
 }
 
 /// Returns the line with the height of the antenna above the marker.
 pub(crate) fn delta_line(values: &StationValues) -> Line
     ensures { result.items ≡ delta_line values.now }
 {
-    three_lengths(values.height as i64, 0, 0, labels::DELTA)
+    three_lengths(values.height as i64, 0, 0, DELTA)
 }
 
-/// Returns the line with the time of the first epoch, given as date and time of day.
-fn civil_line(civil: &Civil) -> Line
-    ensures { result.items ≡ first_line civil.now }
+/// Returns the line with the time of the first epoch.
+pub(crate) fn first_line(time: GpsTime) -> Line
+    ensures { result.items ≡ first_line (civil_of time) }
 {
+    let civil = time.civil();
     let mut content = Line::new();
     put_whole(&mut content, 6, civil.year as u64);
     put_whole(&mut content, 6, civil.month as u64);
@@ -112,13 +132,5 @@ fn civil_line(civil: &Civil) -> Line
     put_whole(&mut content, 6, civil.minute as u64);
     put_seconds(&mut content, 13, civil.millisecond);
     put(&mut content, b"     GPS");
-    labelled(content.as_slice(), labels::FIRST)
-}
-
-/// Returns the line with the time of the first epoch.
-pub(crate) fn first_line(time: GpsTime) -> Line
-    ensures { result.items ≡ first_line (civil_of time) }
-{
-    let civil = time.civil();
-    civil_line(&civil)
+    labelled(content.as_slice(), FIRST)
 }

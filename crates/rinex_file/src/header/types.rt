@@ -1,15 +1,15 @@
 //! The observation types of a header: RINEX 3.05, table A2, "SYS / # / OBS TYPES".
-ghost use Rattle.std.specs.Prelude.{◌≡◌, ◌+◌, ◌*◌, ◌≤◌, ◌<◌, ◌++◌, ◌∷◌, length};
+ghost use Rattle.std.specs.Prelude.{◌≡◌, ◌+◌, ◌*◌, ◌≤◌, ◌<◌, ◌++◌, ◌∷◌, length, codes};
 ghost use Rattle.arrayvec.specs.ArrayVec.{array_vec_len};
 ghost use Rattle.gnss_obs.specs.Signals.{table, code_of};
 ghost use Rattle.obs_epoch.specs.Signals.{indices, IsOf};
 ghost use Rattle.obs_epoch.specs.Values.{planned_of};
 ghost use Rattle.rinex_file.specs.Lines.{letter_of};
-ghost use Rattle.rinex_file.specs.Header.{type_line, type_front, type_columns, type_rows, types_of, codes_of, type_of};
+ghost use Rattle.rinex_file.specs.Header.{header_line, type_line, type_front, type_columns, type_rows, types_of};
+ghost use Rattle.rinex_file.specs.Header.{codes_of, type_of};
 ghost use Rattle.rinex_file.specs.Limits.{most_line};
 
-use crate::header::labels;
-use crate::header::lines::labelled;
+use crate::header::lines::{TYPES, labelled};
 use crate::write::numbers::{Line, put, put_whole};
 use crate::write::satellite::letter_of;
 use gnss_obs::{Signal, System};
@@ -51,14 +51,8 @@ fn put_type(content: &mut Line, signal: Signal, kind: usize)
     ensures text { content.new.items ≡ content.old.items ++ 32 ∷ type_of kind (code_of signal) }
     ensures size { array_vec_len content.new ≡ array_vec_len content.old + 4 }
 {
-    let letter = match kind {
-        0 => b'C',
-        1 => b'L',
-        2 => b'D',
-        _ => b'S',
-    };
     content.push(b' ');
-    content.push(letter);
+    content.push(b"CLDS"[kind]);
     put(content, &signal.code());
 }
 
@@ -79,26 +73,21 @@ fn put_types(content: &mut Line, system: System, signals: &[Signal], row: usize)
     }
 }
 
-/// Appends the content of a line of a system's types. `count` signals are planned, and `signals`
-/// are the first of them.
-pub(crate) fn put_row(
-    content: &mut Line,
-    system: System,
-    count: usize,
-    signals: &[Signal],
-    row: usize,
-)
+/// Returns a line of a system's types. `count` signals are planned, and `signals` are the first of
+/// them.
+pub(crate) fn types_with(system: System, count: usize, signals: &[Signal], row: usize) -> Line
     requires of { IsOf system signals.now }
     requires count { count ≤ length (table system) }
     requires row { row < type_rows count }
-    requires room { array_vec_len content.old ≤ 30 }
-    ensures text { content.new.items ≡ content.old.items
-        ++ (type_front (letter_of system) (4 * count) row
-        ++ type_columns (types_of (codes_of system (indices signals.now))) row) }
-    ensures size { array_vec_len content.new ≤ array_vec_len content.old + 115 }
+    ensures { result.items ≡ header_line
+        (type_front (letter_of system) (4 * count) row
+        ++ type_columns (types_of (codes_of system (indices signals.now))) row)
+        (codes "SYS / # / OBS TYPES") }
 {
-    put_front(content, letter_of(system), 4 * count, row);
-    put_types(content, system, signals, row);
+    let mut content = Line::new();
+    put_front(&mut content, letter_of(system), 4 * count, row);
+    put_types(&mut content, system, signals, row);
+    labelled(content.as_slice(), TYPES)
 }
 
 /// Returns a line of a system's types.
@@ -108,7 +97,5 @@ pub(crate) fn type_line(plan: &Plan, system: System, row: usize) -> Line
         ≡ type_line (letter_of system) (types_of (codes_of system (planned_of system plan.now))) row }
 {
     let signals = plan.of(system);
-    let mut content = Line::new();
-    put_row(&mut content, system, signals.len(), signals, row);
-    labelled(content.as_slice(), labels::TYPES)
+    types_with(system, signals.len(), signals, row)
 }

@@ -6,16 +6,18 @@ ghost use Rattle.obs_epoch.specs.Values.{planned_of};
 ghost use Rattle.rinex_file.specs.Header.{type_rows, row_at};
 ghost use Rattle.rinex_file.specs.Read.Progress.{AreValid, IsHeadAt, announced, signals_begun};
 ghost use Rattle.rinex_file.specs.Read.HeaderSteps.{known_line, NoneGoesOn, SameFrom, StepsTo};
-ghost use Rattle.rinex_file.specs.Read.HeaderSteps.{TakesTypes, RefusesTypes, with_types};
+ghost use Rattle.rinex_file.specs.Read.HeaderSteps.{TakesTypes, RefusesTypes, with_types, IsOnly, ReadsOrRefuses};
 
-use crate::header::labels;
+use crate::header::lines::{END, SHIFT, STRENGTH_UNIT, UNIT};
 use crate::header::rows::{HeaderRow, row_at};
 use crate::header::texts::HeaderTexts;
 use crate::header::types::type_rows;
+use crate::read::epoch::read_first;
 use crate::read::expected::Refusal;
-use crate::read::station::is_header_line;
+use crate::read::station::{is_header_line, read_delta, read_position, read_version};
+use crate::read::texts::read_texts;
 use crate::read::types::TypesSoFar;
-use crate::write::numbers::Line;
+use crate::write::satellite::letter_of;
 use gnss_obs::System;
 use obs_epoch::{GpsTime, StationValues};
 use std::alloc::Global;
@@ -161,13 +163,7 @@ impl HeadSoFar {
     }
 
     /// Processes a line of the types of a system.
-    fn take_types(
-        &mut self,
-        system: System,
-        row: usize,
-        line: &[u8],
-        again: &mut Line,
-    ) -> Result<(), Refusal>
+    fn take_types(&mut self, system: System, row: usize, line: &[u8]) -> Result<(), Refusal>
         requires rows { 0 < row → row < type_rows (announced self.old system).count }
         requires begun { length (planned_of system self.old.shown.plan) ≡ signals_begun row }
         ensures kept { OnOk result (self.new
@@ -179,18 +175,78 @@ impl HeadSoFar {
             (planned_of system self.old.shown.plan) }
     {
         match system {
-            System::Gps => self.gps.take(System::Gps, row, line, again),
-            System::Galileo => self.galileo.take(System::Galileo, row, line, again),
+            System::Gps => self.gps.take(System::Gps, row, line),
+            System::Galileo => self.galileo.take(System::Galileo, row, line),
+        }
+    }
+
+    /// Reads the line with version and systems.
+    fn read_systems(&mut self, line: &[u8]) -> bool
+        ensures { ReadsOrRefuses HeaderRow.Version line.now self.old self.new result }
+    {
+        let Some((gps, galileo)) = read_version(line) else {
+            return false;
+        };
+        self.gps.is_planned = gps;
+        self.galileo.is_planned = galileo;
+        true
+    }
+
+    /// Reads the line with the position of the antenna.
+    fn read_position(&mut self, line: &[u8]) -> bool
+        ensures { ReadsOrRefuses HeaderRow.Position line.now self.old self.new result }
+    {
+        let Some(position) = read_position(line) else {
+            return false;
+        };
+        let height = self.values.height;
+        self.values = position;
+        self.values.height = height;
+        true
+    }
+
+    /// Reads the line with the height of the antenna above the marker.
+    fn read_height(&mut self, line: &[u8]) -> bool
+        ensures { ReadsOrRefuses HeaderRow.Delta line.now self.old self.new result }
+    {
+        let Some(height) = read_delta(line) else {
+            return false;
+        };
+        self.values.height = height;
+        true
+    }
+
+    /// Reads the line with the time of the first epoch.
+    fn read_first_time(&mut self, line: &[u8]) -> bool
+        ensures { ReadsOrRefuses HeaderRow.First line.now self.old self.new result }
+    {
+        let Some(time) = read_first(line) else {
+            return false;
+        };
+        self.first = time;
+        true
+    }
+
+    /// Reads the line of a row, and returns whether some header has it.
+    fn read_header_line(&mut self, row: HeaderRow, line: &[u8]) -> bool
+        requires { IsOnly row }
+        ensures { ReadsOrRefuses row line.now self.old self.new result }
+    {
+        match row {
+            HeaderRow::Version => self.read_systems(line),
+            HeaderRow::Texts(row) => read_texts(&mut self.texts, row, line),
+            HeaderRow::Position => self.read_position(line),
+            HeaderRow::Delta => self.read_height(line),
+            HeaderRow::StrengthUnit => is_header_line(line, UNIT, STRENGTH_UNIT),
+            HeaderRow::First => self.read_first_time(line),
+            HeaderRow::Shift(system) => is_header_line(line, &[letter_of(system)], SHIFT),
+            HeaderRow::Types(_, _) => false,
+            HeaderRow::End => false,
         }
     }
 
     /// Processes the line of the row at an index.
-    fn take_at(
-        &mut self,
-        place: usize,
-        line: &[u8],
-        again: &mut Line,
-    ) -> Result<Option<usize>, Refusal>
+    fn take_at(&mut self, place: usize, line: &[u8]) -> Result<Option<usize>, Refusal>
         requires at { IsHeadAt self.old place }
         requires here { known_line self.old (row_at place) ≡ true }
         ensures taken { IfOk result (λ next. StepsTo self.old place line.now self.new next) }
@@ -198,12 +254,12 @@ impl HeadSoFar {
     {
         match row_at(place) {
             HeaderRow::Types(system, row) => {
-                self.take_types(system, row, line, again)?;
+                self.take_types(system, row, line)?;
                 self.are_valid();
                 Ok(Some(place + 1))
             }
             HeaderRow::End => {
-                if !is_header_line(line, b"", labels::END) {
+                if !is_header_line(line, b"", END) {
                     return Err(Refusal::Bad);
                 }
                 Ok(None)
@@ -220,16 +276,11 @@ impl HeadSoFar {
 
     /// Processes a line, which is expected to be that of row `from` or of a later one. Returns the
     /// index of the next row, or None at the end of the header.
-    pub(crate) fn take(
-        &mut self,
-        from: usize,
-        line: &[u8],
-        again: &mut Line,
-    ) -> Result<Option<usize>, Refusal>
+    pub(crate) fn take(&mut self, from: usize, line: &[u8]) -> Result<Option<usize>, Refusal>
         requires { IsHeadAt self.old from }
         ensures taken { IfOk result (λ next. StepsTo self.old from line.now self.new next) }
         ensures bad { result ≡ Err Refusal.Bad → NoneGoesOn self.old from line.now }
     {
-        self.take_at(self.place_from(from), line, again)
+        self.take_at(self.place_from(from), line)
     }
 }

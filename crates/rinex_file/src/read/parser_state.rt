@@ -91,7 +91,7 @@ impl ParserState {
     {
         match self.expected {
             Expected::Header(place) => {
-                let next = self.head.take(place, line, again)?;
+                let next = self.head.take(place, line)?;
                 self.expected = next.map_or(Expected::Epoch, Expected::Header);
                 Ok(Added::NoRow)
             }

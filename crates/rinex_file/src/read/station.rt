@@ -6,8 +6,7 @@ ghost use Rattle.rinex_file.specs.Header.{header_line, lengths, position_line};
 ghost use Rattle.rinex_file.specs.Read.Fields.{number_in, ReadsExactly};
 ghost use Rattle.rinex_file.specs.Read.Progress.{IsPosition, version_with};
 
-use crate::header::labels;
-use crate::header::lines::{labelled, position_line, three_lengths, version_with};
+use crate::header::lines::{DELTA, labelled, position_line, three_lengths, version_with};
 use crate::read::numbers::{digits_in, is_same, number_in};
 use crate::read::texts::columns;
 use obs_epoch::StationValues;
@@ -56,7 +55,7 @@ pub(crate) fn read_delta(line: &[u8]) -> Option<u16>
         (λ h. header_line (lengths (pos h) (pos 0) (pos 0)) (codes "ANTENNA: DELTA H/E/N")) line.now result }
 {
     let height = u16::try_from(digits_in(columns(line, 0, 14))).ok()?;
-    let again = three_lengths(height as i64, 0, 0, labels::DELTA);
+    let again = three_lengths(height as i64, 0, 0, DELTA);
     is_same(line, again.as_slice()).then_some(height)
 }
 

@@ -8,12 +8,9 @@ ghost use Rattle.rinex_file.specs.Header.{type_rows};
 ghost use Rattle.rinex_file.specs.Read.Progress.{AreTypes, types_line, signals_begun};
 ghost use Rattle.rinex_file.specs.Read.HeaderSteps.{ReadsRow, RefusesRow, TakesTypes, RefusesTypes, HasSignalAt};
 
-use crate::header::labels;
-use crate::header::types::{TYPES_IN_LINE, put_row, type_rows};
+use crate::header::types::{TYPES_IN_LINE, type_rows, types_with};
 use crate::read::expected::Refusal;
-use crate::read::numbers::digits_in;
-use crate::read::station::is_header_line;
-use crate::write::numbers::Line;
+use crate::read::numbers::{digits_in, is_same};
 use gnss_obs::{Signal, System};
 use std::alloc::Global;
 
@@ -71,13 +68,7 @@ impl TypesSoFar {
     }
 
     /// Processes a line of the types of the system: appends the signals whose types begin in it.
-    pub(crate) fn take(
-        &mut self,
-        system: System,
-        row: usize,
-        line: &[u8],
-        again: &mut Line,
-    ) -> Result<(), Refusal>
+    pub(crate) fn take(&mut self, system: System, row: usize, line: &[u8]) -> Result<(), Refusal>
         requires few { self.old.count ≤ length (table system) }
         requires rows { 0 < row → row < type_rows self.old.count }
         requires signals { IsOf system self.old.signals.items }
@@ -95,9 +86,8 @@ impl TypesSoFar {
         };
         take_signals(&mut self.signals, system, count, row, line)?;
         self.count = count;
-        again.clear();
-        put_row(again, system, count, self.signals.as_slice(), row);
-        if !is_header_line(line, again.as_slice(), labels::TYPES) {
+        let again = types_with(system, count, self.signals.as_slice(), row);
+        if !is_same(line, again.as_slice()) {
             return Err(Refusal::Bad);
         }
         Ok(())
