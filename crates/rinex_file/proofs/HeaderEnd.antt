@@ -1,6 +1,6 @@
 -- The last line of a header, the header that was read, and the start.
 use Rattle.std.specs.Array.{AllOfLen}
-use Rattle.std.proofs.Common.{arith, ◌≡◌, ◌∙◌, sym, ap, ap₂, map, refl, subst, ℕ, ℤ, pos, zero, suc, lit<, lit≤, ◌+◌, ◌-◌, ◌<◌, ◌≤◌, Bool, true, false, ◌||◌, min, List, [], ◌∷◌, ◌++◌, length, get_or, take, replicate, All, nat_eq}
+use Rattle.std.proofs.Common.{arith, ◌≡◌, ◌∙◌, sym, ap, ap₂, map, refl, subst, ℕ, ℤ, pos, suc, lit<, lit≤, ◌-◌, ◌<◌, ◌≤◌, Bool, true, false, ◌||◌, min, List, [], ◌∷◌, ◌++◌, length, get_or, take, replicate, All, nat_eq}
 use Rattle.std.specs.List.{IsDistinct}
 use Rattle.std.proofs.lemmas.List.{take_all}
 use Rattle.std.proofs.lemmas.List.Elements.{All-map, All-weaker}
@@ -16,16 +16,18 @@ use Rattle.rinex_file.specs.declared.header.fields.TextRow.{TextRow}
 use Rattle.rinex_file.specs.declared.header.fields.TextRow.TheVariants as row
 use Rattle.rinex_file.specs.declared.header.rows.HeaderRow.TheVariants.{End}
 use Rattle.rinex_file.specs.Blanks.{trimmed}
-use Rattle.rinex_file.specs.Texts.{HeaderLists, text_count, start_of, count_of}
+use Rattle.rinex_file.specs.Texts.{HeaderLists, text_count, text_of, width_of, fields, fields_of, text_rows}
+use Rattle.rinex_file.specs.declared.header.fields.HeaderField.{HeaderField}
+use Rattle.rinex_file.specs.declared.header.fields.HeaderField.TheVariants.{AntType}
 use Rattle.rinex_file.specs.FileValues.{IsText, AreTexts, AreValues, IsTime}
 use Rattle.rinex_file.specs.Header.{row_line, end_line, first_line, first_types, texts_line, position_line, delta_line}
 use Rattle.rinex_file.specs.Read.Fields.{digits_in}
 use Rattle.rinex_file.specs.Read.Progress.{Announced, Known, Shown, AreTypesRead, IsShown, AreValid, MayPlan, IsHeadAt, IsOnlyTime, shown_with, lines_before, announced, signals_begun}
 use Rattle.rinex_file.specs.Read.HeaderSteps.{RefusesHeaderLine, EndsHeader}
 use Rattle.obs_epoch.proofs.PlanLemmas.{none_of}
-use Rattle.rinex_file.proofs.HeaderAgree.{Agree, single, less_or, few_shown, types_high, agree_types, agree_count, signals_same, none_planned, split_at, lengths-back, height-back, number_at, coordinate-fits}
+use Rattle.rinex_file.proofs.HeaderAgree.{Agree, single, few_shown, types_high, agree_types, agree_count, signals_same, none_planned, split_at, lengths-back, height-back, number_at, coordinate-fits}
 use Rattle.rinex_file.proofs.HeaderSteps.{some_plan, with_is}
-use Rattle.rinex_file.proofs.HeaderText.{by_places, same_lists, texts_back}
+use Rattle.rinex_file.proofs.HeaderText.{place_back, same_at, same_rows, same_lists, texts_back, same_texts, same_some, SameTexts}
 
 -- ---- headers with the same lines are the same
 
@@ -47,20 +49,6 @@ made_shown x p v t = record { texts = x; plan = p; values = v; first = t }
 same_shown : (g h : Shown) → g.texts ≡ h.texts → g.plan ≡ h.plan → g.values ≡ h.values → g.first ≡ h.first → g ≡ h
 same_shown g h a b c d = grind arith
 
--- what holds of each text of each row holds of each text
-within_row : (P : ℕ → Type 0) (start count i : ℕ) → ((j : ℕ) → j < count → P (start + j)) → start ≤ i → i < start + count → P i
-within_row P start count i each more less = let e : start + (i - start) ≡ i = omega (arith, more) in subst P e (each (i - start) (omega (arith, more, less)))
-
-by_rows : (P : ℕ → Type 0) → ((r : TextRow) (j : ℕ) → j < count_of r → P (start_of r + j)) → (i : ℕ) → i < text_count → P i
-by_rows P each i less =
-    less_or (P i) i (start_of row.Marker) (within row.Program (omega arith)) (λ m.
-    less_or (P i) i (start_of row.MarkerType) (within row.Marker m) (λ m.
-    less_or (P i) i (start_of row.Observer) (within row.MarkerType m) (λ m.
-    less_or (P i) i (start_of row.Receiver) (within row.Observer m) (λ m.
-    less_or (P i) i (start_of row.Antenna) (within row.Receiver m) (λ m. within row.Antenna m less))))) where
-      within : (r : TextRow) → start_of r ≤ i → i < start_of r + count_of r → P i
-      within r = within_row P (start_of r) (count_of r) i (each r)
-
 module _ (h g : Shown) (a : IsShown h) (b : IsShown g) (agree : Agree h g 25) where
   text_lines : (r : TextRow) → texts_line h.texts r ≡ texts_line g.texts r
   unfolding row_line
@@ -72,9 +60,15 @@ module _ (h g : Shown) (a : IsShown h) (b : IsShown g) (agree : Agree h g 25) wh
   text_lines row.Antenna = single (texts_line h.texts row.Antenna) (texts_line g.texts row.Antenna) (agree 6 (lit< tt))
 
   texts : h.texts ≡ g.texts
-  texts = same_lists h.texts g.texts (a.texts.count ∙ sym b.texts.count) (λ i less. by_rows (λ i. get_or h.texts i [] ≡ get_or g.texts i []) one i (subst (λ n. i < n) a.texts.count less)) where
-    one : (r : TextRow) (j : ℕ) → j < count_of r → get_or h.texts (start_of r + j) [] ≡ get_or g.texts (start_of r + j) []
-    one r j less = sym (texts_back h.texts a.texts r (texts_line h.texts r) refl j less) ∙ texts_back g.texts b.texts r (texts_line h.texts r) (sym (text_lines r)) j less
+  texts = same_lists h.texts g.texts (a.texts.count ∙ sym b.texts.count) (λ i less. at i (subst (λ n. i < n) a.texts.count less)) where
+    row_of : (r : TextRow) → SameTexts h.texts g.texts (fields_of r)
+    row_of r =
+        let p = texts_back h.texts a.texts r (texts_line h.texts r) h.texts a.texts.count refl in
+        let q = texts_back g.texts b.texts r (texts_line h.texts r) h.texts a.texts.count (sym (text_lines r)) in
+        same_texts p.new h.texts g.texts (fields_of r) p.same (subst (λ x. SameTexts x g.texts (fields_of r)) (same_some _ q.new p.new q.read p.read) q.same)
+
+    at : (i : ℕ) → i < text_count → get_or h.texts i [] ≡ get_or g.texts i []
+    at i less = subst (λ j. get_or h.texts j [] ≡ get_or g.texts j []) (place_back i less) (same_at h.texts g.texts fields i AntType less (same_rows h.texts g.texts row_of text_rows))
 
   signals : (s : System) → planned_of s h.plan ≡ planned_of s g.plan
   signals s =
@@ -180,20 +174,12 @@ begins k valid g l m n gps galileo = record {
   each Gps = unread Gps k.gps k.shown.plan.gps m gps
   each Galileo = unread Galileo k.galileo k.shown.plan.galileo n galileo
 
-abbrev blanks : ℕ → List (List ℕ)
-blanks n = replicate n []
-
-blank_at : (i n : ℕ) → get_or (blanks n) i [] ≡ []
-blank_at i zero = refl
-blank_at zero (suc n) = refl
-blank_at (suc i) (suc n) = blank_at i n
-
-blank_text : (width : ℕ) (text : List ℕ) → text ≡ [] → IsText width text
+blank_text : (f : HeaderField) → IsText (width_of f) (text_of (replicate text_count []) f)
 unfolding trimmed
-blank_text width text e = subst (IsText width) (sym e) (record { short = omega arith; printable = refl; cut = refl })
+blank_text f = grind arith
 
 pub blank_texts : (x : HeaderLists) → x ≡ replicate text_count [] → AreTexts x
-blank_texts x e = subst AreTexts (sym e) (by_places (blanks text_count) refl (λ i less. blank_text _ (get_or (blanks text_count) i []) (blank_at i text_count)))
+blank_texts x e = subst AreTexts (sym e) (record { count = refl; each = blank_text })
 
 pub all_blank : (T : Type 0) (bytes : T → List ℕ) (n : ℕ) (xs : List T) → AllOfLen (λ x. bytes x ≡ []) xs n → map bytes xs ≡ replicate n []
 all_blank T bytes n xs are = each xs (λ i d less. are.at i d (subst (λ m. i < m) are.long less)) ∙ ap (λ m. replicate m []) are.long where

@@ -1,7 +1,7 @@
 -- What is known after each line of a header.
 use Rattle.std.specs.Prelude.{Result, Err, nat_lt, codes, ◌||◌, nat_le}
 use Rattle.std.specs.List.{list_all}
-use Rattle.std.proofs.Common.{arith, ◌≡◌, ◌∙◌, sym, ap, refl, subst, ℕ, suc, ◌+◌, ◌-◌, ◌<◌, ◌≤◌, ◌==◌, ◌&&◌, Bool, true, false, List, [], ◌∷◌, length, take, min, ◌↔◌, ◌≢◌, pos, lit≤, ◌^◌, map, get_or, Option, Some, None, IsTrue}
+use Rattle.std.proofs.Common.{arith, ◌≡◌, ◌∙◌, sym, ap, ap₂, refl, subst, ℕ, suc, ◌+◌, ◌-◌, ◌<◌, ◌≤◌, ◌==◌, ◌&&◌, Bool, true, false, List, [], ◌∷◌, length, take, min, ◌↔◌, ◌≢◌, pos, lit≤, ◌^◌, map, get_or, Option, Some, None, IsTrue}
 use Rattle.std.proofs.lemmas.Bool.Decides.{nat_tests}
 use Rattle.std.proofs.lemmas.List.{take-take, take-map, take_min, length-take}
 use Rattle.gnss_obs.specs.Signals.{SignalAt, table}
@@ -19,13 +19,15 @@ use Rattle.rinex_file.specs.Read.Progress.{Announced, Known, MayBeAll, MayPlan, 
 use Rattle.rinex_file.specs.Read.HeaderSteps.{has_types, known_line, ReadsHeaderLine, NoneGoesOn, AreBegun, TakesTypes, RefusesTypes, with_types, RefusesHeaderLine, ReadsOrRefuses, ReadsTexts, RefusesTexts, with_texts, with_values, with_first, with_systems}
 use Rattle.rinex_file.specs.declared.header.fields.TextRow.{TextRow}
 use Rattle.rinex_file.specs.declared.header.rows.HeaderRow.{HeaderRow}
-use Rattle.rinex_file.specs.Texts.{HeaderLists, text_rows, text_row_index, start_of, count_of}
+use Rattle.rinex_file.specs.Texts.{HeaderLists, text_rows, text_row_index, fields_of, place_of, front_of}
+use Rattle.rinex_file.specs.declared.header.fields.HeaderField.{HeaderField}
+use Rattle.rinex_file.specs.declared.header.fields.HeaderField.TheVariants.{AntType}
 use Rattle.rinex_file.specs.FileValues.{IsTime}
 use Rattle.rinex_file.specs.Lines.{letter_of}
 use Rattle.rinex_file.specs.Read.Fields.{ReadsExactly}
 use Rattle.rinex_file.proofs.HeaderAgree.{agree_count, agree_types, signals_same, less_or, types_in, types_row, types_low, types_high, types_shown, rows_when, version_same, some_in}
 use Rattle.rinex_file.proofs.HeaderSteps.{follows, other, either_system, far_other, still_read, with_is, IsOutside, outside_low, outside_high, reads_next, present}
-use Rattle.rinex_file.proofs.HeaderText.{same_line}
+use Rattle.rinex_file.proofs.HeaderText.{same_line, kept_texts, SameTexts}
 use Rattle.rinex_file.proofs.PlainTexts.{both}
 
 -- ---- numbers of signals
@@ -194,15 +196,28 @@ front_lines : (h : Shown) (r : TextRow) → lines_before h (1 + text_row_index r
 unfolding row_line
 front_lines h r = grind arith
 
+-- the index of a row's first text among all
+abbrev start_of : TextRow → ℕ
+start_of r = place_of (get_or (fields_of r) 0 AntType)
+
 abbrev ends_by : ℕ → TextRow → Bool
-ends_by n r = nat_le (start_of r + count_of r) n
+ends_by n r = list_all (λ f. nat_lt (place_of f) n) (fields_of r)
 
 rows_in_front : (r : TextRow) → list_all (ends_by (start_of r)) (take (text_row_index r) text_rows) ≡ true
 rows_in_front r = grind arith
 
+own_texts : (r : TextRow) → list_all (λ f. nat_le (start_of r) (place_of f)) (fields_of r) ≡ true
+own_texts r = grind arith
+
+same_in : (x y : HeaderLists) (n : ℕ) → ((i : ℕ) → i < n → get_or x i [] ≡ get_or y i []) → (fs : List HeaderField) → list_all (λ f. nat_lt (place_of f) n) fs ≡ true → SameTexts x y fs
+same_in x y n same [] all = tt
+same_in x y n same (f ∷ fs) all = let parts = both (nat_lt (place_of f) n) (list_all (λ f. nat_lt (place_of f) n) fs) all in (same (place_of f) (is_less (place_of f) n parts.0), same_in x y n same fs parts.1)
+
 same_rows : (x y : HeaderLists) (n : ℕ) → ((i : ℕ) → i < n → get_or x i [] ≡ get_or y i []) → (rows : List TextRow) → list_all (ends_by n) rows ≡ true → map (texts_line x) rows ≡ map (texts_line y) rows
 same_rows x y n same [] all = refl
-same_rows x y n same (r ∷ rows) all = grind (arith, both, same_line, (both (ends_by n r) (list_all (ends_by n) rows) all), (same_rows x y n same rows (both (ends_by n r) (list_all (ends_by n) rows) all).1))
+same_rows x y n same (r ∷ rows) all =
+    let parts = both (ends_by n r) (list_all (ends_by n) rows) all in
+    ap₂ (λ l ls. l ∷ ls) (same_line x y r (same_in x y n same (fields_of r) parts.0)) (same_rows x y n same rows parts.1)
 
 text_low : (r : TextRow) → text_row_index r < 6
 text_low r = grind arith
@@ -214,7 +229,7 @@ line_texts r line k x read rows known =
     record {
       plans = λ p may. may;
       before = λ p. front_lines (shown_with (with_texts k x) p) r
-          ∙ ap (λ l. version_line p ∷ l) (same_rows x k.shown.texts (start_of r) read.taken.same (take (text_row_index r) text_rows) (rows_in_front r))
+          ∙ ap (λ l. version_line p ∷ l) (same_rows x k.shown.texts (start_of r) (kept_texts (start_of r) (fields_of r) (length (front_of r)) line k.shown.texts x (own_texts r) read.read) (take (text_row_index r) text_rows) (rows_in_front r))
           ∙ sym (front_lines (shown_with k p) r);
       shows = λ p may. ap (λ l. l ∷ []) read.shown;
       reads = next k k.shown.first (1 + text_row_index r) (outside_low (1 + text_row_index r) (omega (arith, low))) (omega arith) (λ l. absurd (omega (arith, l, low))) rows;

@@ -1,22 +1,22 @@
 -- The texts of a header: set one by one, read back from the columns of a line, and without a fault.
-use Rattle.std.specs.Prelude.{if◌then◌else◌, nat_lt, ◌==◌, map, ⊤}
+use Rattle.std.specs.Prelude.{if◌then◌else◌, nat_le, ◌==◌, map, flat_map, ⊤}
 use Rattle.std.specs.List.{list_all}
-use Rattle.std.proofs.Common.{arith, ◌≡◌, ◌∙◌, refl, sym, ap, subst, ℕ, suc, ◌+◌, ◌<◌, ◌≤◌, ◌≢◌, ◌&&◌, List, [], ◌∷◌, length, drop, get_or, Bool, true, false, Some, None, zero, ◌-◌, ◌++◌, take, replicate, append_assoc, append-nil, length-append}
+use Rattle.std.proofs.Common.{arith, ◌≡◌, ◌∙◌, refl, sym, ap, ap₂, subst, ℕ, Option, suc, ◌+◌, ◌<◌, ◌≤◌, ◌≢◌, List, [], ◌∷◌, length, drop, get_or, true, Some, None, zero, ◌-◌, ◌++◌, take, replicate, append_assoc, append-nil, length-append}
 use Rattle.std.proofs.Math.Seq.{drop-cons}
 use Rattle.std.proofs.Math.ListN.{get_or-map, set, length-set}
 use Rattle.std.proofs.lemmas.List.{length-map, length-replicate, take_at, drop_at, get_or-set_same, get_or-set_other}
-use Rattle.gnss_obs.proofs.Checked.{passes_at, is_less, is_equal}
+use Rattle.std.proofs.lemmas.List.Folds.{list_all-append}
+use Rattle.gnss_obs.proofs.Checked.{passes_at, is_equal}
 use Rattle.rinex_file.specs.declared.header.fields.HeaderField.{HeaderField}
 use Rattle.rinex_file.specs.declared.header.fault.HeadFault.{HeadFault}
-use Rattle.rinex_file.specs.declared.header.fault.HeadFault.TheVariants.{TooLong, NotPrintable}
 use Rattle.rinex_file.specs.declared.header.fields.HeaderField.TheVariants.{AntType}
 use Rattle.rinex_file.specs.Blanks.{trimmed, before_cut}
-use Rattle.rinex_file.specs.Texts.{HeaderLists, text_count, width_of, text_of, field_at, is_printable, fault_of, first_fault, fields, trimmed_texts, column_at, place_of, front_of, start_of, count_of, label_of}
+use Rattle.rinex_file.specs.Texts.{HeaderLists, text_count, width_of, text_of, is_printable, fault_of, first_fault, fields, fields_of, trimmed_texts, place_of, front_of, label_of}
 use Rattle.rinex_file.specs.FileValues.{IsText, AreTexts}
 use Rattle.rinex_file.specs.declared.header.fields.TextRow.{TextRow}
 use Rattle.rinex_file.specs.Numbers.{left}
-use Rattle.rinex_file.specs.Header.{header_line, text_columns, texts_from, texts_line}
-use Rattle.rinex_file.specs.Read.HeaderSteps.{text_in, TakesTexts, RefusesTexts}
+use Rattle.rinex_file.specs.Header.{header_line, text_columns, texts_line}
+use Rattle.rinex_file.specs.Read.HeaderSteps.{texts_in, if_fine, RefusesTexts}
 use Rattle.rinex_file.proofs.Cuts.{filled, trimmed-blank}
 use Rattle.rinex_file.proofs.PlainTexts.{both}
 use Rattle.rinex_file.proofs.TypeRows.{content_first}
@@ -33,137 +33,167 @@ trimmed-trimmed text = grind (arith, filled, trimmed-blanks, (filled text))
 length-left : (width : ℕ) (text : List ℕ) → length text ≤ width → length (left width text) ≡ width
 length-left width text short = simp (length-append, length-replicate) (omega (arith, short))
 
--- ---- a text at its index
+-- ---- a text of a field
 
-pub field_back : (field : HeaderField) → field_at (place_of field) ≡ field
-field_back field = grind arith
+abbrev pub field_at : ℕ → HeaderField
+field_at i = get_or fields i AntType
 
-pub field_less : (field : HeaderField) → place_of field < text_count
+field_back : (f g : HeaderField) → place_of f ≡ place_of g → f ≡ g
+field_back f g e = back f ∙ ap field_at e ∙ sym (back g) where
+  back : (f : HeaderField) → f ≡ field_at (place_of f)
+  back f = grind arith
+
+field_less : (field : HeaderField) → place_of field < text_count
 field_less field = grind arith
 
 pub place_back : (i : ℕ) → i < text_count → place_of (field_at i) ≡ i
 place_back i less = is_equal (place_of (field_at i)) i (passes_at (λ j. place_of (field_at j) == j) text_count i refl less)
 
--- the text at an index is a text of its field
-pub text_at : (x : HeaderLists) → AreTexts x → (i : ℕ) → i < text_count → IsText (width_of (field_at i)) (get_or x i [])
-text_at x are i less = subst (λ j. IsText (width_of (field_at i)) (get_or x j [])) (place_back i less) (are.each (field_at i))
-
--- texts by their indices
-pub by_places : (x : HeaderLists) → length x ≡ text_count → ((i : ℕ) → i < text_count → IsText (width_of (field_at i)) (get_or x i [])) → AreTexts x
-by_places x count each = grind (arith, field_back, field_less)
+pub few_columns : (f : HeaderField) → width_of f ≤ 60
+few_columns f = grind arith
 
 pub equal_or : (P : Type 0) (i j : ℕ) → (i ≡ j → P) → (i ≢ j → P) → P
 equal_or P i j same other = grind (arith, is_equal)
 
-pub set_text : (x : HeaderLists) (place : ℕ) (text : List ℕ) → AreTexts x → place < text_count → IsText (width_of (field_at place)) text → AreTexts (set x place text)
-set_text x place text are less is = grind (arith, by_places, set, length-set, equal_or, get_or-set_same, get_or-set_other, text_at)
+module _ (x : HeaderLists) (f : HeaderField) (text : List ℕ) (size : length x ≡ text_count) where
+  set_here : text_of (set x (place_of f) text) f ≡ text
+  set_here = get_or-set_same x (place_of f) text [] (subst (λ n. place_of f < n) (sym size) (field_less f))
+
+  -- what holds of the text that is set and of the others holds of each
+  set_each : (P : HeaderField → List ℕ → Type 0) → P f text → (g : HeaderField) → P g (text_of x g) → P g (text_of (set x (place_of f) text) g)
+  set_each P own g other = equal_or (P g (text_of (set x (place_of f) text) g)) (place_of g) (place_of f)
+      (λ e. subst (λ h. P h (text_of (set x (place_of f) text) h)) (sym (field_back g f e)) (subst (P f) (sym set_here) own))
+      (λ e. subst (P g) (sym (get_or-set_other x (place_of f) (place_of g) text [] e)) other)
+
+pub set_text : (x : HeaderLists) (f : HeaderField) (text : List ℕ) → AreTexts x → IsText (width_of f) text → AreTexts (set x (place_of f) text)
+set_text x f text are is =
+    record { count = length-set x (place_of f) text ∙ are.count; each = λ g. set_each x f text are.count (λ h t. IsText (width_of h) t) is g (are.each g) }
 
 -- ---- the columns of a line
 
--- the columns of texts from an index on begin at this one
-abbrev pub AreColumns : ℕ → ℕ → ℕ → Type 0
-AreColumns place zero column = ⊤
-AreColumns place (suc more) column = (column_at place ≡ column) × AreColumns (suc place) more (column + width_of (field_at place))
+blanks_printable : (k : ℕ) → list_all is_printable (replicate k 32) ≡ true
+blanks_printable zero = refl
+blanks_printable (suc k) = blanks_printable k
 
-cut_columns : (width : ℕ) (text rest : List ℕ) → IsText width text → trimmed (take width (left width text ++ rest)) ≡ text
-cut_columns width text rest is = grind (arith, take_at, length-left, trimmed-blanks)
+-- the columns of a text have no fault, and its trailing blanks are cut
+no_fault : (f : HeaderField) (text : List ℕ) → IsText (width_of f) text → fault_of f (left (width_of f) text) ≡ None
+no_fault f text is = grind (arith, list_all-append, blanks_printable, trimmed-blanks)
 
-module _ (x : HeaderLists) (are : AreTexts x) (line : List ℕ) where
-  from_columns : (j more place column : ℕ) (front rest : List ℕ) → AreColumns place more column → place + more ≤ text_count → length front ≡ column
-      → line ≡ front ++ (texts_from x place more ++ rest) → j < more → text_in (place + j) line ≡ get_or x (place + j) []
-  from_columns j zero place column front rest at within size shape less = absurd (omega (arith, less))
-  from_columns zero (suc more) place column front rest at within size shape less = grind (arith, text_at, drop_at, append_assoc, cut_columns)
-  from_columns (suc j) (suc more) place column front rest at within size shape less =
-      let e : place + suc j ≡ suc place + j = omega arith in
-      let few : place < text_count = omega (arith, within) in
-      let wide = length-left (width_of (field_at place)) (get_or x place []) (text_at x are place few).short in
-      subst (λ i. text_in i line ≡ get_or x i []) (sym e)
-      (from_columns j more (suc place) (column + width_of (field_at place)) (front ++ text_columns x place) rest at.1 (omega (arith, within))
-      (length-append front (text_columns x place) ∙ ap (λ n. n + length (text_columns x place)) size ∙ ap (λ n. column + n) wide)
-      (shape ∙ ap (λ l. front ++ l) (append_assoc (text_columns x place) (texts_from x (suc place) more) rest) ∙ sym (append_assoc front (text_columns x place) (texts_from x (suc place) more ++ rest)))
-      (omega (arith, less)))
+cut_left : (width : ℕ) (text : List ℕ) → IsText width text → trimmed (left width text) ≡ text
+cut_left width text is = trimmed-blanks (width - length text) text ∙ is.cut
 
-are_columns : ℕ → ℕ → ℕ → Bool
-are_columns place zero column = true
-are_columns place (suc more) column = (column_at place == column) && are_columns (suc place) more (column + width_of (field_at place))
+abbrev pub SameTexts : HeaderLists → HeaderLists → List HeaderField → Type 0
+SameTexts x y [] = ⊤
+SameTexts x y (f ∷ fs) = (text_of x f ≡ text_of y f) × SameTexts x y fs
 
-columns_by : (place more column : ℕ) → are_columns place more column ≡ true → AreColumns place more column
-unfolding are_columns
-columns_by place zero column e = tt
-columns_by place (suc more) column e =
-    let parts = both (column_at place == column) (are_columns (suc place) more (column + width_of (field_at place))) e in
-    (is_equal (column_at place) column parts.0, columns_by (suc place) more (column + width_of (field_at place)) parts.1)
+-- texts that are read from the columns of those of `x`: in these fields they are the same, and what was the same stays so
+pub record Back (x : HeaderLists) (fs : List HeaderField) (column : ℕ) (line : List ℕ) (old : HeaderLists) : Type 0 where
+  pub new : HeaderLists
+  pub read : texts_in fs column line old ≡ Some new
+  pub same : SameTexts new x fs
+  pub stays : (g : HeaderField) → text_of old g ≡ text_of x g → text_of new g ≡ text_of x g
 
-checked_columns : (r : TextRow) → are_columns (start_of r) (count_of r) (length (front_of r)) ≡ true
-unfolding are_columns
-checked_columns r = grind arith
+read_back : (x : HeaderLists) → AreTexts x → (fs : List HeaderField) (column : ℕ) (front rest line : List ℕ) (old : HeaderLists) → length old ≡ text_count → length front ≡ column
+    → line ≡ front ++ (flat_map (text_columns x) fs ++ rest) → Back x fs column line old
+read_back x are [] column front rest line old size at shape = record { new = old; read = refl; same = tt; stays = λ g e. e }
+read_back x are (f ∷ fs) column front rest line old size at shape =
+    let w = width_of f in
+    let own = text_columns x f in
+    let more = flat_map (text_columns x) fs in
+    let wide : length own ≡ w = length-left w (text_of x f) (are.each f).short in
+    let columns : take w (drop column line) ≡ own =
+    ap (λ l. take w (drop column l)) shape ∙ ap (take w) (drop_at front ((own ++ more) ++ rest) column at ∙ append_assoc own more rest) ∙ take_at own (more ++ rest) w wide in
+    let text = trimmed (take w (drop column line)) in
+    let is : text ≡ text_of x f = ap trimmed columns ∙ cut_left w (text_of x f) (are.each f) in
+    let next = read_back x are fs (column + w) (front ++ own) rest line (set old (place_of f) text) (length-set old (place_of f) text ∙ size)
+    (length-append front own ∙ ap (λ n. n + length own) at ∙ ap (λ n. column + n) wide)
+    (shape ∙ ap (λ l. front ++ l) (append_assoc own more rest) ∙ sym (append_assoc front own (more ++ rest))) in
+    record {
+      new = next.new;
+      read = ap (λ fault. if_fine fault (texts_in fs (column + w) line (set old (place_of f) text))) (ap (fault_of f) columns ∙ no_fault f (text_of x f) (are.each f)) ∙ next.read;
+      same = (next.stays f (set_here old f text size ∙ is), next.same);
+      stays = λ g e. next.stays g (set_each old f text size (λ h t. t ≡ text_of x h) is g e);
+    }
 
-pub row_columns : (r : TextRow) → AreColumns (start_of r) (count_of r) (length (front_of r))
-row_columns r = columns_by (start_of r) (count_of r) (length (front_of r)) (checked_columns r)
+-- the texts of a header are read back from the line of a row
+pub texts_back : (x : HeaderLists) → AreTexts x → (r : TextRow) (line : List ℕ) (old : HeaderLists) → length old ≡ text_count → texts_line x r ≡ line → Back x (fields_of r) (length (front_of r)) line old
+texts_back x are r line old size e =
+    let texts = flat_map (text_columns x) (fields_of r) in
+    let first = content_first (front_of r ++ texts) (label_of r) in
+    read_back x are (fields_of r) (length (front_of r)) (front_of r) first.0 line old size refl (sym e ∙ first.1 ∙ append_assoc (front_of r) texts first.0)
 
-pub next_column : (place more column : ℕ) → 0 < more → AreColumns place more column → AreColumns (place + 1) (more - 1) (column + width_of (field_at place))
-next_column place zero column some at = absurd (omega (arith, some))
-next_column place (suc more) column some at = grind arith
+same_columns : (x y : HeaderLists) (fs : List HeaderField) → SameTexts x y fs → flat_map (text_columns x) fs ≡ flat_map (text_columns y) fs
+same_columns x y [] same = refl
+same_columns x y (f ∷ fs) same = ap₂ (λ t l. left (width_of f) t ++ l) same.0 (same_columns x y fs same.1)
 
-pub here_column : (place more column : ℕ) → 0 < more → AreColumns place more column → column ≡ column_at place
-here_column place zero column some at = absurd (omega (arith, some))
-here_column place (suc more) column some at = sym at.0
+pub same_line : (x y : HeaderLists) (r : TextRow) → SameTexts x y (fields_of r) → texts_line x r ≡ texts_line y r
+same_line x y r same = ap (λ l. header_line (front_of r ++ l) (label_of r)) (same_columns x y (fields_of r) same)
 
-pub row_within : (r : TextRow) → start_of r + count_of r ≤ text_count
-row_within r = grind arith
+-- two headers with what was read have the same texts
+pub same_texts : (new x y : HeaderLists) (fs : List HeaderField) → SameTexts new x fs → SameTexts new y fs → SameTexts x y fs
+same_texts new x y [] a b = tt
+same_texts new x y (f ∷ fs) a b = (sym a.0 ∙ b.0, same_texts new x y fs a.1 b.1)
 
--- the columns of a row's line have its texts
-pub texts_back : (x : HeaderLists) → AreTexts x → (r : TextRow) (line : List ℕ) → texts_line x r ≡ line → (i : ℕ) → i < count_of r
-    → text_in (start_of r + i) line ≡ get_or x (start_of r + i) []
-texts_back x are r line e i less =
-    let content = front_of r ++ texts_from x (start_of r) (count_of r) in
-    let first = content_first content (label_of r) in
-    from_columns x are line i (count_of r) (start_of r) (length (front_of r)) (front_of r) first.0 (row_columns r) (row_within r) refl
-    (sym e ∙ first.1 ∙ append_assoc (front_of r) (texts_from x (start_of r) (count_of r)) first.0) less
+same_append : (x y : HeaderLists) (fs gs : List HeaderField) → SameTexts x y fs → SameTexts x y gs → SameTexts x y (fs ++ gs)
+same_append x y [] gs a b = b
+same_append x y (f ∷ fs) gs a b = (a.0, same_append x y fs gs a.1 b)
 
-same_from : (x y : HeaderLists) (more place : ℕ) → ((i : ℕ) → i < more → get_or x (place + i) [] ≡ get_or y (place + i) []) → texts_from x place more ≡ texts_from y place more
-same_from x y zero place same = refl
-same_from x y (suc more) place same =
-    let e : place + zero ≡ place = omega arith in
-    let one : get_or x place [] ≡ get_or y place [] = subst (λ i. get_or x i [] ≡ get_or y i []) e (same zero (omega arith)) in
-    let rest = same_from x y more (suc place) (λ i less. let f : place + suc i ≡ suc place + i = omega arith in subst (λ j. get_or x j [] ≡ get_or y j []) f (same (suc i) (omega (arith, less)))) in
-    ap (λ t. left (width_of (field_at place)) t ++ texts_from x (suc place) more) one ∙ ap (λ l. text_columns y place ++ l) rest
+-- texts that are the same in each row
+pub same_rows : (x y : HeaderLists) → ((r : TextRow) → SameTexts x y (fields_of r)) → (rows : List TextRow) → SameTexts x y (flat_map fields_of rows)
+same_rows x y each [] = tt
+same_rows x y each (r ∷ rows) = same_append x y (fields_of r) (flat_map fields_of rows) (each r) (same_rows x y each rows)
 
-pub same_line : (x y : HeaderLists) (r : TextRow) → ((i : ℕ) → i < count_of r → get_or x (start_of r + i) [] ≡ get_or y (start_of r + i) []) → texts_line x r ≡ texts_line y r
-same_line x y r same = ap (λ l. header_line (front_of r ++ l) (label_of r)) (same_from x y (count_of r) (start_of r) same)
+pub same_at : (x y : HeaderLists) (fs : List HeaderField) (i : ℕ) (d : HeaderField) → i < length fs → SameTexts x y fs → text_of x (get_or fs i d) ≡ text_of y (get_or fs i d)
+same_at x y [] i d less same = absurd (omega (arith, less))
+same_at x y (f ∷ fs) zero d less same = same.0
+same_at x y (f ∷ fs) (suc i) d less same = same_at x y fs i d (omega (arith, less)) same.1
 
 -- ---- read
 
-pub nothing_taken : (r : TextRow) (line : List ℕ) (x : HeaderLists) → TakesTexts r 0 line x x
-nothing_taken r line x = record { same = λ i less. refl; taken = λ i less. absurd (omega (arith, less)) }
+none_some : {X : Type 0} (r : Option X) (x : X) → r ≡ None → r ≡ Some x → ⊥
+none_some r x a b = cc
 
-pub one_taken : (r : TextRow) (count : ℕ) (line : List ℕ) (old x new : HeaderLists) (text : List ℕ) → TakesTexts r count line old x → text ≡ text_in (start_of r + count) line
-    → get_or new (start_of r + count) [] ≡ text → ((i : ℕ) → i ≢ start_of r + count → get_or new i [] ≡ get_or x i []) → TakesTexts r (count + 1) line old new
-one_taken r count line old x new text takes is value others = grind (arith, equal_or)
+pub same_some : {X : Type 0} (r : Option X) (x y : X) → r ≡ Some x → r ≡ Some y → x ≡ y
+same_some r x y a b = cc
 
-pub not_printable : (r : TextRow) (i : ℕ) (line : List ℕ) → i < count_of r
-    → ((w : List ℕ) → IsText (width_of (field_at (start_of r + i))) w → text_in (start_of r + i) line ≡ w → ⊥) → RefusesTexts r line
-not_printable r i line less none x are e =
-    let within = row_within r in
-    none (get_or x (start_of r + i) []) (text_at x are (start_of r + i) (omega (arith, within, less))) (texts_back x are r line e i less)
+pub not_printable : (r : TextRow) (line : List ℕ) (old : HeaderLists) → length old ≡ text_count → texts_in (fields_of r) (length (front_of r)) line old ≡ None → RefusesTexts r line
+not_printable r line old size none x are e = let back = texts_back x are r line old size e in none_some _ back.new none back.read
 
-pub not_same : (r : TextRow) (line : List ℕ) (old new : HeaderLists) → TakesTexts r (count_of r) line old new → (line ≡ texts_line new r → ⊥) → RefusesTexts r line
-not_same r line old new takes other x are e = grind (arith, same_line, texts_back)
+pub not_same : (r : TextRow) (line : List ℕ) (old new : HeaderLists) → length old ≡ text_count → texts_in (fields_of r) (length (front_of r)) line old ≡ Some new
+    → (line ≡ texts_line new r → ⊥) → RefusesTexts r line
+not_same r line old new size read other x are e =
+    let back = texts_back x are r line old size e in
+    other (sym e ∙ sym (same_line back.new x r back.same) ∙ ap (λ y. texts_line y r) (same_some _ back.new new back.read read))
 
--- ---- texts without a fault
+not_fine : (fault : Option HeadFault) (r : Option HeaderLists) → (fault ≡ None → ⊥) → if_fine fault r ≡ None
+not_fine None r some = absurd (some refl)
+not_fine (Some fault) r some = refl
 
-judged : (f : HeaderField) (printable long : Bool) → (if printable then (if long then Some (TooLong f) else None) else Some (NotPrintable f)) ≡ None → long ≡ false
-judged f true true e = cc
-judged f true false e = refl
-judged f false long e = cc
+-- a text that is left has a fault
+pub refused_text : (items fs : List HeaderField) (i : ℕ) (d : HeaderField) (column width : ℕ) (line columns : List ℕ) (x : HeaderLists) (fault : Option HeadFault) → items ≡ fs → i < length items
+    → width ≡ width_of (get_or items i d) → columns ≡ take width (drop column line) → fault ≡ fault_of (get_or items i d) columns → (fault ≡ None → ⊥) → texts_in (drop i fs) column line x ≡ None
+refused_text items fs i d column width line columns x fault same less w at is some =
+    let f = get_or items i d in
+    ap (λ l. texts_in l column line x) (ap (drop i) (sym same) ∙ drop-cons items i d less)
+    ∙ not_fine _ _ (λ e. some (is ∙ ap (fault_of f) (at ∙ ap (λ n. take n (drop column line)) w) ∙ e))
 
-not_longer : (w n : ℕ) → nat_lt w n ≡ false → n ≤ w
-not_longer w n e = grind (arith, e)
+fine_read : (fault : Option HeadFault) (r : Option HeaderLists) (new : HeaderLists) → if_fine fault r ≡ Some new → r ≡ Some new
+fine_read None r new e = e
+fine_read (Some fault) r new e = cc
 
-pub short : (f : HeaderField) (text : List ℕ) → fault_of f text ≡ None → length (trimmed text) ≤ width_of f
-short f text e = not_longer (width_of f) (length (trimmed text)) (judged f (list_all is_printable text) (nat_lt (width_of f) (length (trimmed text))) e)
+far_place : (i n place : ℕ) → i < n → nat_le n place ≡ true → i ≢ place
+far_place i n place less far = grind (arith, far)
 
--- ---- and are printable without trailing blanks
+-- the texts before those that are read are unchanged
+pub kept_texts : (n : ℕ) (fs : List HeaderField) (column : ℕ) (line : List ℕ) (old new : HeaderLists) → list_all (λ f. nat_le n (place_of f)) fs ≡ true → texts_in fs column line old ≡ Some new
+    → (i : ℕ) → i < n → get_or new i [] ≡ get_or old i []
+kept_texts n [] column line old new all read i less = ap (λ x. get_or x i []) (sym (same_some _ old new refl read))
+kept_texts n (f ∷ fs) column line old new all read i less =
+    let parts = both (nat_le n (place_of f)) (list_all (λ f. nat_le n (place_of f)) fs) all in
+    kept_texts n fs (column + width_of f) line _ new parts.1 (fine_read _ _ new read) i less
+    ∙ get_or-set_other old (place_of f) i (trimmed (take (width_of f) (drop column line))) [] (far_place i n (place_of f) less parts.0)
+
+-- ---- texts are printable without trailing blanks
 
 last_printable : (b : ℕ) → is_printable b ≡ true → list_all is_printable (if b == 32 then [] else b ∷ []) ≡ true
 last_printable b p = grind arith
@@ -178,15 +208,8 @@ printable_cut (b ∷ bs) h =
     let parts = both (is_printable b) (list_all is_printable bs) h in
     kept_printable b (trimmed bs) parts.0 (printable_cut bs parts.1)
 
-shown : (f : HeaderField) (printable long : Bool) → (if printable then (if long then Some (TooLong f) else None) else Some (NotPrintable f)) ≡ None → printable ≡ true
-shown f true long e = refl
-shown f false long e = cc
-
-pub fine : (f : HeaderField) (text : List ℕ) → fault_of f text ≡ None → IsText (width_of f) (trimmed text)
-fine f text e = grind (arith, short, printable_cut, shown, trimmed-trimmed)
-
-pub few_columns : (i : ℕ) → i < text_count → width_of (field_at i) ≤ 60
-few_columns i less = let h = is_less (width_of (field_at i)) 61 (passes_at (λ j. nat_lt (width_of (field_at j)) 61) text_count i refl less) in omega (arith, h)
+pub cut_text : (f : HeaderField) (text : List ℕ) → list_all is_printable text ≡ true → length (trimmed text) ≤ width_of f → IsText (width_of f) (trimmed text)
+cut_text f text printable short = record { short = short; printable = printable_cut text printable; cut = trimmed-trimmed text }
 
 -- ---- one text after the other
 
@@ -194,14 +217,14 @@ found_stays : (t : HeaderLists) (fs : List HeaderField) (fault : HeadFault) → 
 found_stays t [] fault = refl
 found_stays t (f ∷ fs) fault = found_stays t fs fault
 
-module _ (t : HeaderLists) (i : ℕ) (less : i < text_count) where
-  fields_next : first_fault t None (drop i fields) ≡ first_fault t (fault_of (field_at i) (text_of t (field_at i))) (drop (suc i) fields)
-  fields_next = ap (first_fault t None) (drop-cons fields i AntType less)
+module _ (t : HeaderLists) (i : ℕ) (d : HeaderField) (less : i < text_count) where
+  fields_next : first_fault t None (drop i fields) ≡ first_fault t (fault_of (get_or fields i d) (text_of t (get_or fields i d))) (drop (suc i) fields)
+  fields_next = ap (first_fault t None) (drop-cons fields i d less)
 
-  pub fault_here : (fault : HeadFault) → fault_of (field_at i) (text_of t (field_at i)) ≡ Some fault → first_fault t None (drop i fields) ≡ Some fault
+  pub fault_here : (fault : HeadFault) → fault_of (get_or fields i d) (text_of t (get_or fields i d)) ≡ Some fault → first_fault t None (drop i fields) ≡ Some fault
   fault_here fault e = fields_next ∙ ap (λ found. first_fault t found (drop (suc i) fields)) e ∙ found_stays t (drop (suc i) fields) fault
 
-  pub fine_here : fault_of (field_at i) (text_of t (field_at i)) ≡ None → first_fault t None (drop i fields) ≡ first_fault t None (drop (i + 1) fields)
+  pub fine_here : fault_of (get_or fields i d) (text_of t (get_or fields i d)) ≡ None → first_fault t None (drop i fields) ≡ first_fault t None (drop (i + 1) fields)
   fine_here e =
       let next : suc i ≡ i + 1 = omega arith in
       fields_next ∙ ap (λ found. first_fault t found (drop (suc i) fields)) e ∙ ap (λ n. first_fault t None (drop n fields)) next
@@ -219,8 +242,22 @@ same_lists (x ∷ xs) (y ∷ ys) size same =
 abbrev pub AreCut : ℕ → HeaderLists → HeaderLists → Type 0
 AreCut i t x = (j : ℕ) → j < i → get_or x j [] ≡ trimmed (get_or t j [])
 
-pub one_cut : (i : ℕ) (t x y : HeaderLists) (text : List ℕ) → AreCut i t x → text ≡ trimmed (get_or t i []) → get_or y i [] ≡ text → ((j : ℕ) → j ≢ i → get_or y j [] ≡ get_or x j []) → AreCut (i + 1) t y
-one_cut i t x y text cut is value same j less = grind (arith, equal_or)
+pub one_cut : (i : ℕ) (t x : HeaderLists) → length x ≡ text_count → i < text_count → AreCut i t x → AreCut (i + 1) t (set x i (trimmed (get_or t i [])))
+one_cut i t x size few cut j less = equal_or _ j i
+    (λ e. subst (λ k. get_or (set x i (trimmed (get_or t i []))) k [] ≡ trimmed (get_or t k [])) (sym e) (get_or-set_same x i (trimmed (get_or t i [])) [] (subst (λ n. i < n) (sym size) few)))
+    (λ other. get_or-set_other x i j (trimmed (get_or t i [])) [] other ∙ cut j (omega (arith, less, other)))
+
+same_default : {A : Type 0} (xs : List A) (i : ℕ) (d e : A) → i < length xs → get_or xs i d ≡ get_or xs i e
+same_default [] i d e less = absurd (omega (arith, less))
+same_default (x ∷ xs) zero d e less = refl
+same_default (x ∷ xs) (suc i) d e less = same_default xs i d e (omega (arith, less))
+
+pub one_stored : (t x new : HeaderLists) (i : ℕ) (d : HeaderField) (text : List ℕ) → i < text_count → length x ≡ text_count → AreCut i t x → text ≡ text_of t (get_or fields i d)
+    → new ≡ set x (place_of (get_or fields i d)) (trimmed text) → AreCut (i + 1) t new × (length new ≡ text_count)
+one_stored t x new i d text less size cut is value =
+    let place : place_of (get_or fields i d) ≡ i = ap place_of (same_default fields i d AntType less) ∙ place_back i less in
+    let stored : new ≡ set x i (trimmed (get_or t i [])) = value ∙ ap₂ (λ n b. set x n (trimmed b)) place (is ∙ ap (λ n. get_or t n []) place) in
+    (subst (AreCut (i + 1) t) (sym stored) (one_cut i t x size less cut), ap length stored ∙ length-set x i (trimmed (get_or t i [])) ∙ size)
 
 pub all_cut : (t x : HeaderLists) → length t ≡ text_count → length x ≡ text_count → AreCut text_count t x → x ≡ trimmed_texts t
 unfolding trimmed

@@ -14,18 +14,19 @@ use Rattle.obs_epoch.specs.declared.civil.Civil.{Civil}
 use Rattle.obs_epoch.specs.Dates.{YearMonthDay, month_on, year_on, month_length, year_length, date_of, civil_with, civil_of}
 use Rattle.obs_epoch.specs.Values.{PlanValue, planned_of}
 use Rattle.obs_epoch.specs.Weeks.{day as day_length}
+use Rattle.rinex_file.specs.declared.header.fields.HeaderField.{HeaderField}
 use Rattle.rinex_file.specs.declared.header.fields.TextRow.{TextRow}
 use Rattle.rinex_file.specs.declared.header.rows.HeaderRow.{HeaderRow}
 use Rattle.rinex_file.specs.declared.header.rows.HeaderRow.TheVariants.{Version, Texts, Position, Delta, Types, StrengthUnit, First, Shift, End}
 use Rattle.rinex_file.specs.Exact.{IsLine}
 use Rattle.rinex_file.specs.FileValues.{AreTexts, IsPlan, AreValues, IsTime, IsFrom, IsCoordinate}
-use Rattle.rinex_file.specs.Header.{header_line, version_line, lengths, file_system, first_line, text_columns, texts_from, texts_line, types_of, type_front, type_columns, type_line, shift_line, codes_of, row_line, row_lines, has_line, all_rows, header_lines, position_line, delta_line}
+use Rattle.rinex_file.specs.Header.{header_line, version_line, lengths, file_system, first_line, text_columns, texts_line, types_of, type_front, type_columns, type_line, shift_line, codes_of, row_line, row_lines, has_line, all_rows, header_lines, position_line, delta_line}
 use Rattle.rinex_file.specs.Lines.{letter_of}
 use Rattle.rinex_file.specs.Numbers.{joined, left, right, fixed}
 use Rattle.rinex_file.specs.Read.Fields.{has}
-use Rattle.rinex_file.specs.Texts.{HeaderLists, text_count, width_of, field_at, label_of, start_of, count_of, front_of}
+use Rattle.rinex_file.specs.Texts.{HeaderLists, width_of, text_of, fields_of, label_of, front_of}
 use Rattle.rinex_file.proofs.Entries.{few_signals}
-use Rattle.rinex_file.proofs.HeaderText.{text_at, row_within, few_columns}
+use Rattle.rinex_file.proofs.HeaderText.{few_columns}
 use Rattle.rinex_file.proofs.FewRows.{few_planned}
 use Rattle.rinex_file.proofs.TypeRows.{length-system_types}
 use Rattle.rinex_file.proofs.PlainTexts.{both, Clean, IsPlain, plain-wider, plain-append, plain-left, plain-right, plain-decimal, plain-fixed, ArePlain, plain-joined, plain-spaced, plain-text}
@@ -60,16 +61,14 @@ of_80 n text is h = plain-wider n 80 text h is
 
 -- ---- texts
 
--- a number of texts from an index on
-plain_texts : (x : HeaderLists) → AreTexts x → (more place : ℕ) → place + more ≤ text_count → IsPlain (more * 120) (texts_from x place more)
-plain_texts x are zero place within = record { clean = refl; short = omega arith }
-plain_texts x are (suc more) place within =
-    let few = few_columns place (omega (arith, within)) in
-    let text = plain-text (width_of (field_at place)) (get_or x place []) (text_at x are place (omega (arith, within))) few in
-    plain-wider (120 + more * 120) (suc more * 120) (texts_from x place (suc more)) (omega arith)
-    (plain-append 120 (more * 120) (text_columns x place) (texts_from x (suc place) more)
-    (plain-wider (60 + width_of (field_at place)) 120 (text_columns x place) (omega (arith, few)) (plain-left (width_of (field_at place)) 60 (get_or x place []) text))
-    (plain_texts x are more (suc place) (omega (arith, within))))
+plain_texts : (x : HeaderLists) → AreTexts x → (fs : List HeaderField) → IsPlain (length fs * 120) (flat_map (text_columns x) fs)
+plain_texts x are [] = record { clean = refl; short = omega arith }
+plain_texts x are (f ∷ fs) =
+    let few = few_columns f in
+    plain-wider (120 + length fs * 120) (suc (length fs) * 120) (flat_map (text_columns x) (f ∷ fs)) (omega arith)
+    (plain-append 120 (length fs * 120) (text_columns x f) (flat_map (text_columns x) fs)
+    (plain-wider (60 + width_of f) 120 (text_columns x f) (omega (arith, few)) (plain-left (width_of f) 60 (text_of x f) (plain-text (width_of f) (text_of x f) (are.each f) few)))
+    (plain_texts x are fs))
 
 plain_front : (r : TextRow) → IsPlain 20 (front_of r)
 plain_front r = grind arith
@@ -77,14 +76,14 @@ plain_front r = grind arith
 plain_row_label : (r : TextRow) → IsPlain 20 (label_of r)
 plain_row_label r = grind arith
 
-few_texts : (r : TextRow) → count_of r ≤ 3
+few_texts : (r : TextRow) → length (fields_of r) ≤ 3
 few_texts r = grind arith
 
 line_of_texts : (x : HeaderLists) → AreTexts x → (r : TextRow) → IsFileLine (texts_line x r)
 line_of_texts x are r =
     let few = few_texts r in
-    header (20 + count_of r * 120) (front_of r ++ texts_from x (start_of r) (count_of r)) (label_of r)
-    (plain-append 20 (count_of r * 120) (front_of r) (texts_from x (start_of r) (count_of r)) (plain_front r) (plain_texts x are (count_of r) (start_of r) (row_within r)))
+    header (20 + length (fields_of r) * 120) (front_of r ++ flat_map (text_columns x) (fields_of r)) (label_of r)
+    (plain-append 20 (length (fields_of r) * 120) (front_of r) (flat_map (text_columns x) (fields_of r)) (plain_front r) (plain_texts x are (fields_of r)))
     (plain_row_label r) (omega (arith, few))
 
 -- ---- numbers

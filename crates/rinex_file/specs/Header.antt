@@ -7,14 +7,14 @@ use Rattle.gnss_obs.specs.declared.system.System.TheVariants.{Gps, Galileo}
 use Rattle.obs_epoch.specs.declared.cell.StationValues.{StationValues}
 use Rattle.obs_epoch.specs.declared.civil.Civil.{Civil}
 use Rattle.obs_epoch.specs.Values.{PlanValue, planned_of}
+use Rattle.rinex_file.specs.declared.header.fields.HeaderField.{HeaderField}
 use Rattle.rinex_file.specs.declared.header.fields.TextRow.{TextRow}
 use Rattle.rinex_file.specs.declared.header.rows.HeaderRow.{HeaderRow}
 use Rattle.rinex_file.specs.declared.header.rows.HeaderRow.TheVariants.{Version, Texts, Position, Delta, Types}
 use Rattle.rinex_file.specs.declared.header.rows.HeaderRow.TheVariants.{StrengthUnit, First, Shift, End}
 use Rattle.rinex_file.specs.Numbers.{joined, left, right, fixed}
 use Rattle.rinex_file.specs.Limits.{content_columns, label_columns, types_in_line}
-use Rattle.rinex_file.specs.Texts.{HeaderLists, width_of, field_at, text_rows, text_row_index, start_of, count_of}
-use Rattle.rinex_file.specs.Texts.{front_of, label_of}
+use Rattle.rinex_file.specs.Texts.{HeaderLists, width_of, text_of, fields_of, text_rows, text_row_index, front_of, label_of}
 use Rattle.rinex_file.specs.Lines.{letter_of}
 
 -- content, label and a line feed
@@ -38,17 +38,12 @@ version_line p = header_line
     ∷ []))
     (codes "RINEX VERSION / TYPE")
 
--- the text at an index, in its columns
-abbrev pub text_columns : HeaderLists → ℕ → List ℕ
-text_columns x place = left (width_of (field_at place)) (get_or x place [])
-
--- a number of texts from an index on, each in its columns
-abbrev pub texts_from : HeaderLists → ℕ → ℕ → List ℕ
-texts_from x place zero = []
-texts_from x place (suc more) = text_columns x place ++ texts_from x (suc place) more
+-- the text of a field, in its columns
+abbrev pub text_columns : HeaderLists → HeaderField → List ℕ
+text_columns x field = left (width_of field) (text_of x field)
 
 abbrev pub texts_line : HeaderLists → TextRow → List ℕ
-texts_line x row = header_line (front_of row ++ texts_from x (start_of row) (count_of row)) (label_of row)
+texts_line x row = header_line (front_of row ++ flat_map (text_columns x) (fields_of row)) (label_of row)
 
 -- ---- station
 

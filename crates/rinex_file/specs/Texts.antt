@@ -1,5 +1,5 @@
 -- The texts of a header: their rows, columns and widths. RINEX 3.05, table A2.
-use Rattle.std.specs.Prelude.{ℕ, ◌+◌, ◌&&◌, Bool, nat_le, nat_lt, List, [], ◌∷◌, length, take, get_or, map, flat_map}
+use Rattle.std.specs.Prelude.{ℕ, ◌&&◌, Bool, nat_le, nat_lt, List, [], ◌∷◌, length, get_or, map, flat_map}
 use Rattle.std.specs.Prelude.{codes, Option, Some, None, if◌then◌else◌}
 use Rattle.std.specs.List.{list_all}
 use Rattle.rinex_file.specs.declared.header.fields.HeaderField.{HeaderField}
@@ -82,22 +82,6 @@ place_of field = (place_and_width field).0
 abbrev pub width_of : HeaderField → ℕ
 width_of field = (place_and_width field).1
 
--- the index of a row's first text among all, and the number of its texts
-abbrev pub start_of : TextRow → ℕ
-start_of r = length (flat_map fields_of (take (text_row_index r) text_rows))
-
-abbrev pub count_of : TextRow → ℕ
-count_of r = length (fields_of r)
-
--- the first columns of these fields, one after the other
-abbrev pub columns_from : ℕ → List HeaderField → List ℕ
-columns_from column [] = []
-columns_from column (f ∷ fs) = column ∷ columns_from (column + width_of f) fs
-
--- the first column of the text at an index, counted from 0
-abbrev pub column_at : ℕ → ℕ
-column_at place = get_or (flat_map (λ r. columns_from (length (front_of r)) (fields_of r)) text_rows) place 0
-
 -- the bytes of each text, in the order of the fields
 abbrev pub HeaderLists : Type 0
 HeaderLists = List (List ℕ)
@@ -105,10 +89,6 @@ HeaderLists = List (List ℕ)
 -- the text of a field
 abbrev pub text_of : HeaderLists → HeaderField → List ℕ
 text_of t field = get_or t (place_of field) []
-
--- the field at an index
-abbrev pub field_at : ℕ → HeaderField
-field_at place = get_or fields place AntType
 
 abbrev pub is_printable : ℕ → Bool
 is_printable b = nat_le 32 b && nat_le b 126

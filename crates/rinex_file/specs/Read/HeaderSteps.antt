@@ -1,17 +1,19 @@
 -- From one line of a header to the next while its lines are read.
 use Rattle.std.specs.Prelude.{◌≡◌, ℕ, suc, ◌+◌, ◌<◌, ◌≤◌, ◌==◌, ◌||◌, ◌&&◌, nat_lt, Bool, true, List, [], ◌∷◌, ◌++◌, length}
-use Rattle.std.specs.Prelude.{get_or, take, drop, min, Option, Some, None, ⊤, ◌↔◌, MatchBool}
+use Rattle.std.specs.Prelude.{set, take, drop, min, Option, Some, None, ⊤, ◌↔◌, MatchBool}
 use Rattle.obs_epoch.specs.declared.cell.StationValues.{StationValues}
 use Rattle.gnss_obs.specs.Signals.{SignalAt, IsSignal, code_of, table}
 use Rattle.gnss_obs.specs.declared.system.System.{System}
 use Rattle.gnss_obs.specs.declared.system.System.TheVariants.{Gps, Galileo}
 use Rattle.obs_epoch.specs.Values.{PlanValue}
+use Rattle.rinex_file.specs.declared.header.fault.HeadFault.{HeadFault}
+use Rattle.rinex_file.specs.declared.header.fields.HeaderField.{HeaderField}
 use Rattle.rinex_file.specs.declared.header.fields.TextRow.{TextRow}
 use Rattle.rinex_file.specs.declared.header.rows.HeaderRow.{HeaderRow}
 use Rattle.rinex_file.specs.declared.header.rows.HeaderRow.TheVariants.{Types, Shift, End}
 use Rattle.rinex_file.specs.Begun.{lines_of_header}
 use Rattle.rinex_file.specs.Blanks.{trimmed}
-use Rattle.rinex_file.specs.Texts.{HeaderLists, width_of, column_at, field_at, start_of, count_of}
+use Rattle.rinex_file.specs.Texts.{HeaderLists, place_of, width_of, fault_of, fields_of, front_of}
 use Rattle.rinex_file.specs.FileValues.{AreTexts, of_system}
 use Rattle.rinex_file.specs.Header.{row_place, texts_line, type_rows}
 use Rattle.rinex_file.specs.Read.Progress.{Announced, Known, Shown, IsShown, MayPlan, HasReadRows, IsHeadAt, IsOnlyTime}
@@ -84,14 +86,16 @@ pub record SameFrom (k : Known) (place next : ℕ) : Type 0 where
 
 -- ---- texts
 
--- the text in the columns of the field at an index
-abbrev pub text_in : ℕ → List ℕ → List ℕ
-text_in place line = trimmed (take (width_of (field_at place)) (drop (column_at place) line))
+-- a result, unless there is a fault
+abbrev pub if_fine : Option HeadFault → Option HeaderLists → Option HeaderLists
+if_fine None result = result
+if_fine (Some fault) result = None
 
--- the texts of a row were read from its columns, and those before are unchanged
-pub record TakesTexts (row : TextRow) (count : ℕ) (line : List ℕ) (old new : HeaderLists) : Type 0 where
-  pub same : (i : ℕ) → i < start_of row → get_or new i [] ≡ get_or old i []
-  pub taken : (i : ℕ) → i < count → get_or new (start_of row + i) [] ≡ text_in (start_of row + i) line
+-- the texts with those of these fields as they are in the columns from one on, unless one isn't printable
+abbrev pub texts_in : List HeaderField → ℕ → List ℕ → HeaderLists → Option HeaderLists
+texts_in [] column line x = Some x
+texts_in (f ∷ fs) column line x = if_fine (fault_of f (take (width_of f) (drop column line)))
+    (texts_in fs (column + width_of f) line (set x (place_of f) (trimmed (take (width_of f) (drop column line)))))
 
 -- no header has this line in a row of texts
 abbrev pub RefusesTexts : TextRow → List ℕ → Type 0
@@ -99,7 +103,7 @@ RefusesTexts row line = (x : HeaderLists) → AreTexts x → texts_line x row �
 
 -- the texts of a row were read: the line is that of these texts
 pub record ReadsTexts (row : TextRow) (line : List ℕ) (old new : HeaderLists) : Type 0 where
-  pub taken : TakesTexts row (count_of row) line old new
+  pub read : texts_in (fields_of row) (length (front_of row)) line old ≡ Some new
   pub shown : texts_line new row ≡ line
 
 -- ---- what was read, with one part replaced

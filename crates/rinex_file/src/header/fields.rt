@@ -1,7 +1,6 @@
 //! The texts of a header: their rows, widths and names. RINEX 3.05, table A2.
-ghost use Rattle.std.specs.Prelude.{◌≡◌, ◌+◌, ◌<◌, ◌≤◌, length};
-ghost use Rattle.rinex_file.specs.Texts.{place_of, width_of, field_at, fields_of, text_count, front_of, label_of};
-ghost use Rattle.rinex_file.specs.Texts.{start_of, count_of};
+ghost use Rattle.std.specs.Prelude.{◌≡◌, ◌<◌, ◌≤◌, length};
+ghost use Rattle.rinex_file.specs.Texts.{place_of, width_of, fields_of, text_count, front_of, label_of};
 
 /// A text of the header that the caller passes.
 #[derive(Clone, Copy, Debug, PartialEq, Eq)]
@@ -101,20 +100,13 @@ impl HeaderField {
     {
         self as usize
     }
-
-    /// Returns the field at an index, counted from 0.
-    pub(crate) fn at(place: usize) -> HeaderField
-        requires { place < text_count }
-        ensures { result ≡ field_at place }
-    {
-        HeaderField::ALL[place]
-    }
 }
 
 impl TextRow {
     /// Returns the texts of the row, in the order of [`HeaderField::ALL`].
-    fn fields(self) -> &'static [HeaderField]
-        ensures { result.now ≡ fields_of self }
+    pub(crate) fn fields(self) -> &'static [HeaderField]
+        ensures value { result.now ≡ fields_of self }
+        ensures size { length result.now ≤ 3 }
     {
         match self {
             TextRow::Program => &[HeaderField::RunBy, HeaderField::Date],
@@ -128,22 +120,6 @@ impl TextRow {
             ],
             TextRow::Antenna => &[HeaderField::AntNumber, HeaderField::AntType],
         }
-    }
-
-    /// Returns the index of the first text among all, counted from 0.
-    pub(crate) fn start(self) -> usize
-        ensures { result ≡ start_of self }
-    {
-        self.fields()[0].place()
-    }
-
-    /// Returns the number of texts.
-    pub(crate) fn count(self) -> usize
-        ensures count { result ≡ count_of self }
-        ensures bound { result ≤ 3 }
-        ensures end { start_of self + result ≤ text_count }
-    {
-        self.fields().len()
     }
 
     /// Returns the label, in columns 61 to 80.

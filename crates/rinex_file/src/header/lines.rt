@@ -5,7 +5,7 @@ ghost use Rattle.rinex_file.specs.Header.{header_line, version_line, lengths, te
 ghost use Rattle.rinex_file.specs.Header.{first_line};
 ghost use Rattle.rinex_file.specs.Read.Progress.{version_with};
 
-use crate::header::fields::{HeaderField, TextRow};
+use crate::header::fields::TextRow;
 use crate::header::texts::HeaderTexts;
 use crate::write::numbers::{Line, put, put_fixed, put_left, put_seconds, put_whole};
 use gnss_obs::System;
@@ -98,9 +98,8 @@ pub(crate) fn texts_line(texts: &HeaderTexts, row: TextRow) -> Line
 {
     let mut content = Line::new();
     put(&mut content, row.front());
-    for i in 0..row.count() {
-        let field = HeaderField::at(row.start() + i);
-        put_left(&mut content, field.width(), texts.text(field));
+    for field in row.fields() {
+        put_left(&mut content, field.width(), texts.text(*field));
     }
     labelled(content.as_slice(), row.label())
 }

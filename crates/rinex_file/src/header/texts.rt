@@ -1,12 +1,12 @@
 //! The texts of a header.
-ghost use Rattle.std.specs.Prelude.{◌≡◌, ◌≢◌, ◌<◌, ◌≤◌, ℕ, [], length, get_or, replicate, None, IfOk};
+ghost use Rattle.std.specs.Prelude.{◌≡◌, ◌≤◌, [], length, set, replicate, None, IfOk, OnOk};
 ghost use Rattle.std.specs.Result.{result_err};
 ghost use Rattle.std.specs.List.{list_all};
 ghost use Rattle.rinex_file.specs.Blanks.{trimmed};
-ghost use Rattle.rinex_file.specs.Texts.{fields, text_of, text_count, place_of, width_of, field_at, fault_of};
-ghost use Rattle.rinex_file.specs.Texts.{first_fault, trimmed_texts, is_printable};
+ghost use Rattle.rinex_file.specs.Texts.{fields, text_of, text_count, place_of, fault_of, first_fault};
+ghost use Rattle.rinex_file.specs.Texts.{trimmed_texts, is_printable};
 ghost use Rattle.rinex_file.specs.TextsOf.{lists_of};
-ghost use Rattle.rinex_file.specs.FileValues.{AreTexts, IsText};
+ghost use Rattle.rinex_file.specs.FileValues.{AreTexts};
 
 use crate::header::fault::HeadFault;
 use crate::header::fields::HeaderField;
@@ -43,7 +43,7 @@ pub struct Texts<'a> {
 }
 
 /// The bytes of a text, at most 60.
-pub(crate) type Text = ArrayVec<u8, 60>;
+type Text = ArrayVec<u8, 60>;
 
 /// The texts of a header: each printable, within its columns, and without trailing blanks.
 #[derive(Drop)]
@@ -64,33 +64,10 @@ impl Model for HeaderTexts {
 }
 
 /// Returns whether all bytes are printable.
-pub(crate) fn is_printable(text: &[u8]) -> bool
+fn is_printable(text: &[u8]) -> bool
     ensures { result ≡ list_all is_printable text.now }
 {
     text.iter().all(|b| *b >= 0x20 && *b <= 0x7E)
-}
-
-/// Returns the fault of the text of a field, or None if it has none.
-fn fault_of(field: HeaderField, text: &[u8]) -> Option<HeadFault>
-    ensures { result ≡ fault_of field text.now }
-{
-    if !is_printable(text) {
-        return Some(HeadFault::NotPrintable(field));
-    }
-    if trimmed_len(text) > field.width() {
-        return Some(HeadFault::TooLong(field));
-    }
-    None
-}
-
-/// Returns the text without trailing blanks.
-fn cut(text: &[u8]) -> Text
-    requires { length (trimmed text.now) ≤ 60 }
-    ensures { result.items ≡ trimmed text.now }
-{
-    let mut taken = ArrayVec::new();
-    put(&mut taken, &text[..trimmed_len(text)]);
-    taken
 }
 
 impl<'a> Texts<'a> {
@@ -127,13 +104,8 @@ impl HeaderTexts {
         ensures texts { IfOk result (λ t. t ≡ trimmed_texts (lists_of texts.now)) }
     {
         let mut taken = HeaderTexts::blank();
-        for place in 0..HeaderField::ALL.len() {
-            let field = HeaderField::at(place);
-            let text = texts.of(field).as_bytes();
-            if let Some(fault) = fault_of(field, text) {
-                return Err(fault);
-            }
-            taken.set(place, cut(text));
+        for field in &HeaderField::ALL {
+            taken.set(*field, texts.of(*field).as_bytes())?;
         }
         taken.are_texts();
         Ok(taken)
@@ -148,14 +120,22 @@ impl HeaderTexts {
         }
     }
 
-    /// Sets the text at an index, counted from 0.
-    pub(crate) fn set(&mut self, place: usize, text: Text)
-        requires place { place < text_count }
-        requires text { IsText (width_of (field_at place)) text.items }
-        ensures value { get_or self.new place [] ≡ text.items }
-        ensures same { (i : ℕ) → i ≢ place → get_or self.new i [] ≡ get_or self.old i [] }
+    /// Sets the text of a field, without trailing blanks, or returns its fault.
+    pub(crate) fn set(&mut self, field: HeaderField, text: &[u8]) -> Result<(), HeadFault>
+        ensures fault { result_err result ≡ fault_of field text.now }
+        ensures value { OnOk result (self.new ≡ set self.old (place_of field) (trimmed text.now)) }
     {
-        self.texts[place] = text;
+        if !is_printable(text) {
+            return Err(HeadFault::NotPrintable(field));
+        }
+        let cut = &text[..trimmed_len(text)];
+        if cut.len() > field.width() {
+            return Err(HeadFault::TooLong(field));
+        }
+        let mut taken = ArrayVec::new();
+        put(&mut taken, cut);
+        self.texts[field.place()] = taken;
+        Ok(())
     }
 
     /// Shows that each text is printable, within its columns, and has no trailing blank.

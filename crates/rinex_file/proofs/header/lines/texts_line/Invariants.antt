@@ -1,13 +1,12 @@
-use Rattle.std.proofs.Common.{◌≡◌, ◌≤◌, ◌+◌, ◌-◌, ◌*◌, ◌++◌, length}
-use Rattle.rinex_file.specs.Header.{texts_from}
-use Rattle.rinex_file.specs.Texts.{front_of, start_of, count_of}
+use Rattle.std.proofs.Common.{◌≡◌, ◌≤◌, ◌+◌, ◌*◌, ◌++◌, length, take}
+use Rattle.std.specs.Prelude.{flat_map}
+use Rattle.rinex_file.specs.Header.{text_columns}
+use Rattle.rinex_file.specs.Texts.{fields_of, front_of}
 use Rattle.rinex_file.proofs.header.lines.texts_line.Given as goal
 
--- the texts that are left complete the content
-abbrev pub invariant-loop-i : goal.invariant-loop-i
-invariant-loop-i l = record {
-  end : l.i-end ≡ count_of l.row;
-  to : l.i ≤ count_of l.row;
-  text : l.content.items ++ texts_from l.texts (start_of l.row + l.i) (count_of l.row - l.i) ≡ front_of l.row ++ texts_from l.texts (start_of l.row) (count_of l.row);
-  size : length l.content.items ≤ 20 + 120 * l.i;
+-- the texts so far are in the content
+abbrev pub invariant-loop-field : goal.invariant-loop-field
+invariant-loop-field l = record {
+  text : l.content.items ≡ front_of l.row ++ flat_map (text_columns l.texts) (take l.field-index (fields_of l.row));
+  size : length l.content.items ≤ 20 + 120 * l.field-index;
 }

@@ -1,41 +1,32 @@
-use Rattle.std.proofs.Common.{arith, ◌≡◌, ◌∙◌, sym, ap, refl, ℕ, ◌≤◌, [], get_or}
-use Rattle.rinex_file.specs.Blanks.{trimmed}
-use Rattle.rinex_file.specs.Texts.{text_of, field_at, fault_of}
+use Rattle.std.proofs.Common.{arith, ◌∙◌, sym, ap, refl}
+use Rattle.std.specs.Prelude.{Err}
+use Rattle.std.specs.Result.{result_err}
+use Rattle.std.proofs.lemmas.Result.{err_from_is_err_and}
+use Rattle.rinex_file.specs.Texts.{fault_of}
 use Rattle.rinex_file.specs.TextsOf.{lists_of}
-use Rattle.rinex_file.proofs.HeaderText.{place_back, short, fine, few_columns, fault_here, fine_here, one_cut, all_cut}
+use Rattle.rinex_file.proofs.HeaderText.{fault_here, fine_here, one_stored, all_cut}
 use Rattle.rinex_file.proofs.header.texts.HeaderTexts.new.Goals as goal
 
-few : (n w : ℕ) → n ≤ w → w ≤ 60 → n ≤ 60
-few n w a b = omega (arith, a, b)
-
-pub cut-requires : goal.cut-requires
-cut-requires c = grind (arith, few, short, few_columns)
-
-pub set-requires-clause-text : goal.set-requires-clause-text
-set-requires-clause-text c = grind (arith, fine)
-
-pub loop-place-preserved : goal.loop-place-preserved
-loop-place-preserved c =
+pub loop-field-preserved : goal.loop-field-preserved
+loop-field-preserved c =
     let t = lists_of c.args.texts.now in
-    let i = c.loop-place.place in
-    let less = c.loop-place-test.true in
-    let text : c.as_bytes-text.result.now ≡ text_of t (field_at i) = c.as_bytes-text.ensures.value ∙ c.of.ensures ∙ ap (text_of t) c.at-field.ensures in
-    let judged = sym (c.fault_of.ensures ∙ ap (fault_of c.at-field.result) text ∙ ap (λ f. fault_of f (text_of t (field_at i))) c.at-field.ensures) ∙ c.in_default.is in
+    let i = c.loop-field.field-index in
+    let text = c.as_bytes.ensures.value ∙ c.of.ensures in
+    let stored = one_stored t c.loop-field.taken c.set.new.self i _ _ c.loop-field-test.true c.loop-field.invariant.count c.loop-field.invariant.cut text c.in_ok-set.ensures.value in
     record {
-      faultless = c.loop-place.invariant.faultless ∙ fine_here t i less judged;
-      cut = one_cut i t c.loop-place.taken c.set.new.self c.cut.result.items c.loop-place.invariant.cut
-          (c.cut.ensures ∙ ap trimmed (text ∙ ap (λ n. get_or t n []) (place_back i less))) c.set.ensures.value c.set.ensures.same;
+      faultless = c.loop-field.invariant.faultless ∙ fine_here t i _ c.loop-field-test.true (sym (c.in_ok-set.ensures.fault ∙ ap (fault_of _) text));
+      cut = stored.0;
+      count = stored.1;
     }
 
-pub returns-in-Some-clause-fault : goal.returns-in-Some-clause-fault
-returns-in-Some-clause-fault c =
-    let t = lists_of c.args.texts.now in
-    let i = c.loop-place.place in
-    let text : c.as_bytes-text.result.now ≡ text_of t (field_at i) = c.as_bytes-text.ensures.value ∙ c.of.ensures ∙ ap (text_of t) c.at-field.ensures in
-    let judged = sym (c.fault_of.ensures ∙ ap (fault_of c.at-field.result) text ∙ ap (λ f. fault_of f (text_of t (field_at i))) c.at-field.ensures) ∙ c.in-Some.is in
-    sym (c.loop-place.invariant.faultless ∙ fault_here t i c.loop-place-test.true c.in-Some.fault judged)
+pub returns-in_err-set-clause-fault : goal.returns-in_err-set-clause-fault
+returns-in_err-set-clause-fault c =
+    let p = err_from_is_err_and c.from_residual.result c.from_residual.ensures.1 in
+    let text = c.as_bytes.ensures.value ∙ c.of.ensures in
+    ap result_err (p.1 ∙ ap Err p.2)
+    ∙ sym (c.loop-field.invariant.faultless ∙ fault_here (lists_of c.args.texts.now) c.loop-field.field-index _ c.loop-field-test.true _ (sym (c.in_err-set.ensures.fault ∙ ap (fault_of _) text)))
 
 pub returns-clause-texts : goal.returns-clause-texts
 returns-clause-texts c =
-    let far = c.loop-place-test.false in
-    all_cut (lists_of c.args.texts.now) c.loop-place.taken refl c.are_texts.ensures.count (λ j less. c.loop-place.invariant.cut j (omega (arith, less, far)))
+    let far = c.loop-field-test.false in
+    all_cut (lists_of c.args.texts.now) c.loop-field.taken refl c.are_texts.ensures.count (λ j less. c.loop-field.invariant.cut j (omega (arith, less, far)))

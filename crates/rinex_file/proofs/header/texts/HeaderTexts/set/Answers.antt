@@ -1,17 +1,27 @@
-use Rattle.std.proofs.Common.{arith, sym, subst}
-use Rattle.std.proofs.lemmas.List.{map-set, get_or-set_same, get_or-set_other}
-use Rattle.std.specs.Prelude.{map}
-use Rattle.rinex_file.specs.FileValues.{AreTexts}
-use Rattle.rinex_file.proofs.HeaderText.{set_text}
+use Rattle.std.proofs.Common.{arith, ◌≡◌, ◌∙◌, sym, ap, ap₂, ◌≤◌, ◌++◌, length, set, take, map, length-take}
+use Rattle.std.proofs.lemmas.List.{map-set}
+use Rattle.rinex_file.specs.Blanks.{trimmed}
+use Rattle.rinex_file.specs.Texts.{place_of, width_of}
+use Rattle.rinex_file.proofs.HeaderText.{set_text, cut_text}
 use Rattle.rinex_file.proofs.header.texts.HeaderTexts.set.Goals as goal
+use Rattle.rinex_file.proofs.header.texts.HeaderTexts.set.Goals.{After-put}
+
+kept : (c : After-put) → c.put.new.line.items ≡ trimmed c.args.text.now
+kept c = c.put.ensures.text ∙ ap (λ l. l ++ take c.trimmed_len.result c.args.text.now) c.new-taken.ensures ∙ c.trimmed_len.ensures.text
 
 pub invariant_of-self : goal.invariant_of-self
 invariant_of-self c =
-    subst AreTexts (sym (map-set (λ text. text.items) c.self.inside.texts c.args.place c.args.text))
-    (set_text (map (λ text. text.items) c.self.inside.texts) c.args.place c.args.text.items c.self.invariant c.requires.place c.requires.text)
+    let text = c.args.text.now in
+    let size : length (trimmed text) ≡ length (take c.trimmed_len.result text) = ap length (sym c.trimmed_len.ensures.text) in
+    let cut = length-take c.trimmed_len.result text in
+    let wide = c.width.ensures in
+    let short : length (trimmed text) ≤ width_of c.args.field = omega (arith, size, cut, wide, c.if-cut-width.false) in
+    let is = cut_text c.args.field text (sym c.is_printable.ensures ∙ c.if-not-is_printable.false) short in
+    rw (map-set (λ text. text.items) c.self.inside.texts c.place.result c.put.new.line, c.place.ensures.place, kept ((goal.at.invariant_of-self c).After-put))
+    (set_text _ c.args.field (trimmed text) c.self.invariant is)
 
 pub returns-clause-value : goal.returns-clause-value
-returns-clause-value c = grind (arith, map-set, get_or-set_same)
-
-pub returns-clause-same : goal.returns-clause-same
-returns-clause-same c i far = grind (arith, map-set, get_or-set_other)
+returns-clause-value c =
+    map-set (λ text. text.items) c.self.inside.texts c.place.result c.put.new.line
+    ∙ ap₂ (λ i t. set (map (λ text. text.items) c.self.inside.texts) i t) c.place.ensures.place (kept ((goal.at.returns-clause-value c).After-put))
+    ∙ ap (λ x. set x (place_of c.args.field) (trimmed c.args.text.now)) c.self.view_is
