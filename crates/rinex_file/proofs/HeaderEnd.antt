@@ -43,9 +43,6 @@ made_values x y z height = record { x = x; y = y; z = z; height = height }
 same_values : (v w : StationValues) → v.x ≡ w.x → v.y ≡ w.y → v.z ≡ w.z → v.height ≡ w.height → v ≡ w
 same_values v w a b c d = grind arith
 
-abbrev made_shown : HeaderLists → PlanValue → StationValues → ℕ → Shown
-made_shown x p v t = record { texts = x; plan = p; values = v; first = t }
-
 same_shown : (g h : Shown) → g.texts ≡ h.texts → g.plan ≡ h.plan → g.values ≡ h.values → g.first ≡ h.first → g ≡ h
 same_shown g h a b c d = grind arith
 
