@@ -1,7 +1,6 @@
 //! A file that was read, as it is stored in memory.
 ghost use Rattle.std.specs.Prelude.{◌≡◌, length};
 ghost use Rattle.std.specs.List.{sum_by};
-ghost use Rattle.rinex_file.specs.Value.{signal_values_of};
 ghost use Rattle.rinex_file.specs.FileValues.{has_some_value};
 ghost use Rattle.rinex_file.specs.ParserState.{events_in};
 
@@ -10,7 +9,7 @@ use crate::read::file::Counts;
 use crate::write::numbers::MOST_SIGNALS;
 use arrayvec::ArrayVec;
 use gnss_obs::{System, Thousandths};
-use obs_epoch::{Cell, GpsTime, Plan, StationValues};
+use obs_epoch::{GpsTime, Plan, StationValues};
 use std::marker::Model;
 
 /// The values of a signal in a line: pseudorange (m), phase (cycles), Doppler (Hz) and strength
@@ -35,21 +34,6 @@ impl Model for SignalValues {
 }
 
 impl SignalValues {
-    /// Returns the values of a cell.
-    pub(crate) fn of(cell: &Cell) -> SignalValues
-        ensures { result ≡ signal_values_of cell.now }
-    {
-        let Cell {
-            c,
-            l,
-            d,
-            s,
-            lli,
-            ..
-        } = *cell;
-        SignalValues { c, l, d, s, lli }
-    }
-
     /// Returns whether something was observed.
     pub(crate) fn has_value(&self) -> bool
         ensures { result ≡ has_some_value self.now }

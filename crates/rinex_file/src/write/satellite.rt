@@ -6,7 +6,8 @@ ghost use Rattle.arrayvec.specs.ArrayVec.{array_vec_len};
 ghost use Rattle.obs_epoch.specs.declared.cell.Cell.{Cell};
 ghost use Rattle.obs_epoch.specs.Values.{IsHeld, AreHeld, planned_of};
 ghost use Rattle.rinex_file.specs.FileValues.{FitsColumns, HaveRoom};
-ghost use Rattle.rinex_file.specs.Value.{no_signal_values, satellite_row, entries_of, row_among, row_in_epoch};
+ghost use Rattle.rinex_file.specs.Value.{no_signal_values, signal_values_of, satellite_row, entries_of, row_among};
+ghost use Rattle.rinex_file.specs.Value.{row_in_epoch};
 ghost use Rattle.rinex_file.specs.Numbers.{padded};
 ghost use Rattle.rinex_file.specs.Blanks.{trimmed};
 ghost use Rattle.rinex_file.specs.Lines.{field, lli_byte, strength_byte, signal_text, letter_of, satellite_line};
@@ -18,6 +19,7 @@ use crate::write::digits::columns_of;
 use crate::write::numbers::{Line, SIGNAL_COLUMNS, VALUE_COLUMNS, put_blanks};
 use gnss_obs::{Sat, System, Thousandths, strength_digit};
 use obs_epoch::{Cell, Epoch, Plan};
+use std::marker::Model;
 
 /// Writes a value in thousandths as F14.3 and the LLI and SSI columns after it. Its whole part may
 /// have ten digits, or nine and a minus.
@@ -69,22 +71,63 @@ fn strength_column(s: Option<Thousandths>) -> u8
     }
 }
 
+/// The values of a signal, borrowed, so that each is read when its columns are written.
+#[derive(Drop)]
+struct Shown<'a> {
+    c: &'a Option<Thousandths>,
+    l: &'a Option<Thousandths>,
+    d: &'a Option<Thousandths>,
+    s: &'a Option<Thousandths>,
+    lli: &'a u8,
+}
+
+impl<'a> Model for Shown<'a> {
+    ghost use Rattle.rinex_file.specs.Value.{SignalValues};
+
+    ghost Value = { SignalValues };
+
+    ghost view = { λ v. record { c = v.c.now; l = v.l.now; d = v.d.now; s = v.s.now; lli = v.lli.now } };
+}
+
+impl<'a> Shown<'a> {
+    /// Returns the values of a cell.
+    fn of(cell: &'a Cell) -> Shown<'a>
+        ensures { result ≡ signal_values_of cell.now }
+    {
+        Shown {
+            c: &cell.c,
+            l: &cell.l,
+            d: &cell.d,
+            s: &cell.s,
+            lli: &cell.lli,
+        }
+    }
+
+    /// Returns the values in a line.
+    fn in_line(values: &'a SignalValues) -> Shown<'a>
+        ensures { result ≡ values.now }
+    {
+        let SignalValues { c, l, d, s, lli } = values;
+        Shown { c, l, d, s, lli }
+    }
+}
+
 /// Writes the columns of a signal.
 #[tactic(auto, unfolding(crate::specs::Lines::signal_text))]
-fn put_signal(columns: &mut [u8], values: &SignalValues)
+fn put_signal(columns: &mut [u8], values: &Shown)
     requires fits { HaveRoom values.now }
     requires room { length columns.old ≡ signal_columns }
     ensures text { columns.new ≡ signal_text values.now }
     ensures size { length columns.new ≡ signal_columns }
 {
-    let strength = strength_column(values.s);
+    let strength = strength_column(*values.s);
     let (c, rest) = columns.split_at_mut(VALUE_COLUMNS);
     let (l, rest) = rest.split_at_mut(VALUE_COLUMNS);
     let (d, s) = rest.split_at_mut(VALUE_COLUMNS);
-    put_field(c, values.c, b' ', strength);
-    put_field(l, values.l, lli_column(values.lli), strength);
-    put_field(d, values.d, b' ', b' ');
-    put_field(s, values.s, b' ', b' ');
+    put_field(c, *values.c, b' ', strength);
+    put_field(l, *values.l, lli_column(*values.lli), strength);
+    put_field(d, *values.d, b' ', b' ');
+    put_field(s, *values.s, b' ', b' ');
 }
 
 /// Begins the line of a satellite with this number of planned signals: its letter and number,
@@ -106,7 +149,7 @@ fn begin_row(line: &mut Line, system: System, id: u8, signals: usize)
 
 /// Writes the columns of the signal at this index, after blanks if the line ends before them.
 #[inline(always)]
-fn put_at(line: &mut Line, place: usize, values: &SignalValues)
+fn put_at(line: &mut Line, place: usize, values: &Shown)
     requires fits { HaveRoom values.now }
     requires few { place < most_signals }
     ensures { (front : List ℕ) (others : List SignalValues) → length front ≡ 3 → All HaveRoom others
@@ -134,7 +177,7 @@ fn put_values(line: &mut Line, values: &[SignalValues])
         place -= 1;
         let value = &values[place];
         if value.has_value() {
-            put_at(line, place, value);
+            put_at(line, place, &Shown::in_line(value));
         }
     }
 }
@@ -203,7 +246,7 @@ fn put_cell(line: &mut Line, plan: &Plan, system: System, id: u8, cell: &Cell)
     }
     match plan.place_among(system, cell.signal) {
         None => {}
-        Some(place) => put_at(line, place, &SignalValues::of(cell)),
+        Some(place) => put_at(line, place, &Shown::of(cell)),
     }
 }
 

@@ -1,5 +1,6 @@
-use Rattle.std.proofs.Common.{arith, ◌≡◌, subst, ℕ, ◌+◌, ◌-◌, ◌<◌, List, ◌++◌, length, drop, replicate, length-append}
+use Rattle.std.proofs.Common.{arith, ◌≡◌, ◌∙◌, ap, subst, ℕ, ◌+◌, ◌-◌, ◌<◌, List, ◌++◌, length, drop, replicate, length-append}
 use Rattle.std.proofs.lemmas.List.{length-replicate}
+use Rattle.std.specs.Prelude.{slice_set}
 use Rattle.rinex_file.specs.Value.{SignalValues, no_signal_values}
 use Rattle.rinex_file.specs.Rows.{HasSignals}
 use Rattle.rinex_file.proofs.CellPlaces.{value_put, value_passed, front_fit}
@@ -17,7 +18,9 @@ loop-place-preserved-then-has_value c =
     record {
       shown = λ front l start.
           let before = subst (λ (k : ℕ). HasSignals c.loop-place.line.items front (replicate k no_signal_values ++ drop k values)) back (c.loop-place.invariant.shown front l start) in
-          subst (λ (xs : List SignalValues). HasSignals c.put_at.new.line.items front xs) (value_put values n c.index-values-place.result few c.index-values-place.is)
+          subst (λ (xs : List SignalValues). HasSignals c.put_at.new.line.items front xs)
+          (ap (λ v. slice_set (replicate (n + 1) no_signal_values ++ drop (n + 1) values) n v) c.in_line.ensures
+          ∙ value_put values n c.index-values-place.result few c.index-values-place.is)
           (c.put_at.ensures front (replicate (n + 1) no_signal_values ++ drop (n + 1) values) l (front_fit values (n + 1) c.requires.fits) (within values n few) before);
       within = omega (arith, few);
     }
