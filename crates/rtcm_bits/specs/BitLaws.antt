@@ -129,7 +129,7 @@ pub half : (w : ℕ) → 0 < w → 2 ^ w ≡ 2 * 2 ^ (w - 1)
 half zero h = absurd (omega arith)
 half (suc w) h = let e : suc w - 1 ≡ w = omega arith in rw e (omega arith)
 
-signed_low : (v w : ℕ) → v < 2 ^ (w - 1) → signed w v ≡ pos v
+pub signed_low : (v w : ℕ) → v < 2 ^ (w - 1) → signed w v ≡ pos v
 signed_low v w h = grind arith
 
 pub signed_high : (v w : ℕ) → 2 ^ (w - 1) ≤ v → signed w v ≡ negsuc (2 ^ w - (v + 1))
