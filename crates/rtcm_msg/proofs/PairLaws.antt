@@ -1,7 +1,10 @@
 -- Iteration over pairs: the first ID is removed from a set.
 use Rattle.std.proofs.Common.{ℕ, zero, suc, ◌≡◌, ◌≢◌, ◌+◌, ◌*◌, ◌-◌, ◌/◌, ◌%◌, ◌^◌, ◌<◌, ◌≤◌, Bool, true, false, List, [], ◌∷◌, ◌++◌, length, map, refl, sym, ap, ◌∙◌, subst, arith, count_ones, inl, inr, zero-add}
 use Rattle.std.specs.Int.Count.{count_leading_zeros}
+use Rattle.std.specs.Int.{bit_at}
+use Rattle.std.specs.Int.Bits.{bit_and, bit_xor, xor_add_and}
 use Rattle.std.proofs.lemmas.Nat.{leading_top, pow_pos}
+use Rattle.std.proofs.lemmas.Nat.Bits.{and_pow}
 use Rattle.std.proofs.lemmas.Bool.{cases_lt}
 use Rattle.std.proofs.Math.Nat.{div-eq_of_lt}
 use Rattle.rtcm_bits.specs.Bits.{uint, odd}
@@ -38,6 +41,13 @@ whole_part m w low high = part m (2 ^ w) low (omega (arith, high))
 
 none_part : (m w : ℕ) → m < 2 ^ w → m / 2 ^ w ≡ 0
 none_part m w h = div-eq_of_lt h
+
+-- The number without its top bit.
+pub without_top : (w m j : ℕ) → Top w m j → bit_xor m (2 ^ j) ≡ m - 2 ^ j
+without_top w m j top =
+    let one : bit_at m j ≡ 1 = ap (λ (n : ℕ). n % 2) (whole_part m j top.low top.high) in
+    let both : bit_and m (2 ^ j) ≡ 1 * 2 ^ j = and_pow m j ∙ ap (λ (n : ℕ). n * 2 ^ j) one in
+    omega (arith, xor_add_and m (2 ^ j), both)
 
 up_split : (w i m j : ℕ) → j < w → 2 ^ j ≤ m → m < 2 ^ suc j → up_from i (uint w m) ≡ (i + (w - 1 - j)) ∷ up_from i (uint w (m - 2 ^ j))
 unfolding up_from uint

@@ -26,7 +26,7 @@ fn split_first(mask: u64, width: u32) -> (u8, u64)
     ensures fits { result.1 < 2 ^ width }
 {
     let top = 63 - mask.leading_zeros();
-    ((width - top) as u8, mask - (1 << top))
+    ((width - top) as u8, mask ^ (1 << (top % 64)))
 }
 
 /// The pairs of a satellite and a signal that are left: those of the first satellite with the

@@ -1,19 +1,28 @@
-use Rattle.std.proofs.Common.{ℕ, ◌≡◌, ◌-◌, ◌*◌, ◌^◌, ◌%◌, arith}
+use Rattle.std.proofs.Common.{ℕ, ◌≡◌, ◌-◌, ◌*◌, ◌^◌, ◌%◌, ◌<◌, ◌≤◌, ap, ◌∙◌, arith}
+use Rattle.std.specs.Int.Bits.{bit_xor}
 use Rattle.std.specs.Int.Count.{count_leading_zeros}
 use Rattle.std.proofs.lemmas.Nat.{one_shl}
-use Rattle.rtcm_msg.proofs.PairLaws.{top_of, ids_split}
+use Rattle.std.proofs.Math.Nat.{mod-eq_of_lt}
+use Rattle.rtcm_msg.proofs.PairLaws.{Top, top_of, without_top, ids_split}
 use Rattle.rtcm_msg.proofs.pairs.split_first.Goals as goal
 
-shifted : (m : ℕ) → (1 * 2 ^ (63 - count_leading_zeros 64 m)) % 2 ^ 64 ≡ 2 ^ (63 - count_leading_zeros 64 m)
-shifted m = one_shl (63 - count_leading_zeros 64 m) 64 (omega arith)
+-- The exclusive or removes the top bit.
+removed : (w m j : ℕ) → w ≤ 64 → Top w m j → bit_xor m ((1 * 2 ^ (j % 64)) % 2 ^ 64) ≡ m - 2 ^ j
+removed w m j few top =
+    let below : j < 64 = omega (arith, top.within, few) in
+    let same : j % 64 ≡ j = mod-eq_of_lt below in
+    let shifted : (1 * 2 ^ (j % 64)) % 2 ^ 64 ≡ 2 ^ j = ap (λ (n : ℕ). (1 * 2 ^ n) % 2 ^ 64) same ∙ one_shl j 64 below in
+    ap (bit_xor m) shifted ∙ without_top w m j top
 
 pub overflow_sub-result : goal.overflow_sub-result
 overflow_sub-result c = let top = top_of c.args.width c.args.mask c.requires.some c.requires.within c.requires.few in omega (arith, top.within)
 
-pub overflow_sub-result-2 : goal.overflow_sub-result-2
-overflow_sub-result-2 c = let top = top_of c.args.width c.args.mask c.requires.some c.requires.within c.requires.few in rw (shifted c.args.mask) top.low
-
 pub returns-clause-first : goal.returns-clause-first
 returns-clause-first c =
     let top = top_of c.args.width c.args.mask c.requires.some c.requires.within c.requires.few in
-    rw (shifted c.args.mask) (ids_split c.args.width c.args.mask (63 - count_leading_zeros 64 c.args.mask) top)
+    rw (removed c.args.width c.args.mask (63 - count_leading_zeros 64 c.args.mask) c.requires.few top) (ids_split c.args.width c.args.mask (63 - count_leading_zeros 64 c.args.mask) top)
+
+pub returns-clause-fits : goal.returns-clause-fits
+returns-clause-fits c =
+    let top = top_of c.args.width c.args.mask c.requires.some c.requires.within c.requires.few in
+    rw (removed c.args.width c.args.mask (63 - count_leading_zeros 64 c.args.mask) c.requires.few top) (omega (arith, c.requires.within))
