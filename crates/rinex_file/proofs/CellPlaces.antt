@@ -4,9 +4,10 @@ use Rattle.std.specs.Prelude.{◌≢◌, ◌||◌, nat_eq, find, flat_map, posit
 use Rattle.std.specs.Option.{option_map_or}
 use Rattle.std.specs.List.{AllByRecursion, IsDistinct, position_or_len, refill}
 use Rattle.std.proofs.lemmas.List.{drop_at, drop_all, take_all, length-drop, drop_more, set_at, length-take, length-take-le, length-replicate, length-set, take-append-le, drop-append-le, replicate-append-replicate}
+use Rattle.std.proofs.lemmas.Bool.{cond_both}
 use Rattle.std.proofs.lemmas.List.Concat.{flat_map-append}
 use Rattle.std.proofs.lemmas.List.Quantifiers.{position-Some}
-use Rattle.std.proofs.lemmas.List.Elements.{All-head, All-tail, All-nil, All-cons, All-append, All-drop, All-replicate}
+use Rattle.std.proofs.lemmas.List.Elements.{All-head, All-tail, All-map, All-append, All-drop, All-replicate}
 use Rattle.gnss_obs.specs.declared.system.System.{System}
 use Rattle.obs_epoch.specs.declared.cell.Cell.{Cell}
 use Rattle.obs_epoch.specs.Values.{IsHeld}
@@ -105,17 +106,15 @@ none_fit = record { c = tt; l = tt; d = tt; s = tt; lli = omega arith }
 pub held_fit : (system : System) (c : Cell) → IsHeld system c → HaveRoom (signal_values_of c)
 held_fit system c h = record { c = if_fits c.c h.c; l = if_fits c.l h.l; d = if_fits c.d h.d; s = if_fits c.s h.s; lli = h.lli }
 
-found_fit : (system : System) (cells : List Cell) (id index : ℕ) → All (IsHeld system) cells → HaveRoom (signal_values_at cells id index)
-found_fit system [] id index all = none_fit
-found_fit system (c ∷ cells) id index all =
-    elim (is_of_key id index c) as (λ b. HaveRoom (option_map_or signal_values_of (if b then Some c else find (is_of_key id index) cells) no_signal_values)) [
-      | true ↦ held_fit system c (All-head (IsHeld system) c cells all)
-      | false ↦ found_fit system cells id index (All-tail (IsHeld system) c cells all)
-    ]
+-- what holds of the values of each cell, and if there is none, holds of those at a signal
+pub found_as : (P : Cell → Type 0) (Q : SignalValues → Type 0) (id index : ℕ) → ((c : Cell) → P c → Q (signal_values_of c)) → Q no_signal_values → (cells : List Cell) → All P cells → Q (signal_values_at cells id index)
+found_as P Q id index each none [] all = none
+found_as P Q id index each none (c ∷ cells) all =
+    cond_both (is_of_key id index c) (Some c) (find (is_of_key id index) cells) (λ o. Q (option_map_or signal_values_of o no_signal_values)) (λ is. each c (All-head P c cells all))
+    (λ isnt. found_as P Q id index each none cells (All-tail P c cells all))
 
 pub all_fit : (system : System) (cells : List Cell) (id : ℕ) (signals : List ℕ) → All (IsHeld system) cells → All HaveRoom (map (signal_values_at cells id) signals)
-all_fit system cells id [] all = All-nil HaveRoom
-all_fit system cells id (s ∷ signals) all = All-cons HaveRoom (signal_values_at cells id s) (map (signal_values_at cells id) signals) (found_fit system cells id s all) (all_fit system cells id signals all)
+all_fit system cells id signals all = All-map HaveRoom (signal_values_at cells id) signals (λ k d less. found_as (IsHeld system) HaveRoom id (get_or signals k d) (held_fit system) none_fit cells all)
 
 -- ---- signals without a value
 

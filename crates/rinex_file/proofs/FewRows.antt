@@ -66,7 +66,7 @@ one_less gps galileo k r n Galileo planned number low h =
 FromFirst : ℕ → List ℕ → Type 0
 FromFirst k xs = 0 < length xs → k ≤ slice_index xs 0
 
-rise-tail : (x : ℕ) (xs : List ℕ) → IsStrictlyIncreasing (x ∷ xs) → IsStrictlyIncreasing xs
+pub rise-tail : (x : ℕ) (xs : List ℕ) → IsStrictlyIncreasing (x ∷ xs) → IsStrictlyIncreasing xs
 rise-tail x xs rise k h =
     let next : suc k + 1 ≡ suc (k + 1) = omega arith in
     subst (λ (n : ℕ). slice_index xs k < slice_index (x ∷ xs) n) next (rise (suc k) (omega (arith, h)))

@@ -1,11 +1,14 @@
 -- Epochs that were gathered from messages make a file value.
-use Rattle.std.proofs.Common.{◌≡◌, ℕ, zero, suc, ℤ, ◌+◌, ◌<◌, ◌≤◌, ◌==◌, Bool, true, false, ◌||◌, ◌&&◌, List, [], ◌∷◌, ◌++◌, filter, map, length, get_or, refl, sym, ap, ap₂, ◌∙◌, subst, arith, Option, Some, None, is_some}
-use Rattle.std.specs.Prelude.{if◌then◌else◌, cond, find, IsTrue, Any}
+use Rattle.std.proofs.Common.{◌≡◌, ℕ, zero, suc, ℤ, ◌+◌, ◌<◌, ◌≤◌, ◌==◌, Bool, true, false, ◌||◌, ◌&&◌, List, [], ◌∷◌, ◌++◌, map, length, get_or, refl, sym, ap, ap₂, ◌∙◌, subst, arith, Option, Some, None, is_some, inl, inr}
+use Rattle.std.specs.Prelude.{if◌then◌else◌, find, IsTrue, Any, All}
 use Rattle.std.specs.Option.{option_map_or}
 use Rattle.std.specs.List.{AllByRecursion, IsDistinct}
 use Rattle.std.specs.List.Sorted.{IsStrictlyIncreasing}
-use Rattle.std.proofs.lemmas.List.{map-append, get_or-map, length-map}
-use Rattle.std.proofs.lemmas.List.Elements.{All-from_recursion}
+use Rattle.std.proofs.lemmas.Bool.{and_parts, eqb-true, cases_Bool}
+use Rattle.std.proofs.lemmas.List.{map-append, map-id, get_or-map, length-map}
+use Rattle.std.proofs.lemmas.List.Elements.{All-from_recursion, All-nil, All-cons, All-head, All-tail, All-append, All-push, All-map, All-weaker, All-filter, All-replicate, filter_passes}
+use Rattle.std.proofs.lemmas.List.Kept.{IsStrictlyIncreasing-filter}
+use Rattle.std.proofs.lemmas.Simd.{map-map}
 use Rattle.std.proofs.lemmas.List.Quantifiers.{position-Some}
 use Rattle.gnss_obs.specs.declared.system.System.{System}
 use Rattle.gnss_obs.specs.declared.system.System.TheVariants.{Gps, Galileo}
@@ -17,78 +20,41 @@ use Rattle.obs_epoch.specs.Reach.{IsGathered, AreGathered, IsGatheredEpoch, AreG
 use Rattle.std.proofs.lemmas.Bool.Decides.{Decides-int_eq}
 use Rattle.obs_epoch.specs.declared.cell.StationValues.{StationValues}
 use Rattle.rinex_file.specs.Texts.{HeaderLists}
-use Rattle.rinex_file.specs.Value.{SatelliteRow, numbers, written_satellites, no_signal_values, signal_values_of, is_of_key, signal_values_at, row_of, row_among, row_in_epoch, rows_of, change_from, stamped_after, all_stamped}
-use Rattle.rinex_file.specs.FileValues.{AreTexts, AreValues, has_some_value, AreSignalValues, IsRow, rank_of, IsSatelliteRow, IsStamped, IsChange, AreChanges, changed_by, time_stamped, IsFileValue}
+use Rattle.rinex_file.specs.Value.{numbers, written_satellites, no_signal_values, signal_values_of, is_of_key, signal_values_at, row_of, row_among, row_in_epoch, rows_of, change_from, stamped_after, all_stamped}
+use Rattle.rinex_file.specs.FileValues.{AreTexts, AreValues, has_some_value, AreSignalValues, IsRow, of_system, rank_of, IsSatelliteRow, IsStamped, IsChange, AreChanges, changed_by, time_stamped, IsFileValue}
 use Rattle.rinex_file.specs.File.{gathered}
 use Rattle.rinex_file.specs.Gathered.{AreSignals, HasSatellite}
 use Rattle.rinex_file.proofs.RowText.{if_fits}
+use Rattle.rinex_file.proofs.CellPlaces.{found_as}
+use Rattle.rinex_file.proofs.FewRows.{rise-tail}
 use Rattle.rinex_file.proofs.Sent.{length-rows}
-
--- ---- what holds of each
-
-all_append : {X : Type 0} (P : X → Type 0) (xs ys : List X) → AllByRecursion P xs → AllByRecursion P ys → AllByRecursion P (xs ++ ys)
-all_append P [] ys h k = k
-all_append P (x ∷ xs) ys h k = (h.0, all_append P xs ys h.1 k)
-
-all_filter : {X : Type 0} (P : X → Type 0) (p : X → Bool) (xs : List X) → AllByRecursion P xs → AllByRecursion (λ x. P x × (p x ≡ true)) (filter p xs)
-all_filter P p [] h = tt
-all_filter P p (x ∷ xs) h = grind (arith, (all_filter P p xs h.1))
-
-all_map : {X Y : Type 0} (f : X → Y) (P : X → Type 0) (Q : Y → Type 0) → ((x : X) → P x → Q (f x)) → (xs : List X) → AllByRecursion P xs → AllByRecursion Q (map f xs)
-all_map f P Q h [] k = tt
-all_map f P Q h (x ∷ xs) k = (h x k.0, all_map f P Q h xs k.1)
-
-all_weaker : {X : Type 0} (P Q : X → Type 0) → ((x : X) → P x → Q x) → (xs : List X) → AllByRecursion P xs → AllByRecursion Q xs
-all_weaker P Q h [] k = tt
-all_weaker P Q h (x ∷ xs) k = (h x k.0, all_weaker P Q h xs k.1)
 
 -- ---- numbers in ascending order
 
--- each before all after it
-abbrev Rise : List ℕ → Type 0
-Rise [] = Unit {0}
-Rise (x ∷ xs) = AllByRecursion (λ y. x < y) xs × Rise xs
-
-rises : (xs : List ℕ) → Rise xs → IsStrictlyIncreasing xs
-rises [] h k less = absurd (omega (arith, less))
-rises (x ∷ []) h k less = absurd (omega (arith, less))
-rises (x ∷ y ∷ xs) h zero less = h.0.0
-rises (x ∷ y ∷ xs) h (suc k) less = grind (arith, (rises (y ∷ xs) h.1 k (omega (arith, less))))
-
-below_all : (m : ℕ) (xs ys : List ℕ) → AllByRecursion (λ x. x < m) xs → AllByRecursion (λ y. m ≤ y) ys → Rise xs → Rise ys → Rise (xs ++ ys)
-below_all m [] ys h k r s = s
-below_all m (x ∷ xs) ys h k r s =
-    let less = h.0 in
-    (all_append (λ y. x < y) xs ys r.0 (all_weaker (λ y. m ≤ y) (λ y. x < y) (λ y most. omega (arith, less, most)) ys k), below_all m xs ys h.1 k r.1 s)
-
-rise_filter : (p : ℕ → Bool) (xs : List ℕ) → Rise xs → Rise (filter p xs)
-rise_filter p [] h = tt
-rise_filter p (x ∷ xs) h = by (p x) (rise_filter p xs h.1) where
-  front : (zs : List ℕ) → AllByRecursion (λ y. x < y) zs → AllByRecursion (λ y. x < y) (filter p zs)
-  front [] k = tt
-  front (z ∷ zs) k = by_z (p z) (front zs k.1) where
-    by_z : (b : Bool) → AllByRecursion (λ y. x < y) (filter p zs) → AllByRecursion (λ y. x < y) (cond b (z ∷ filter p zs) (filter p zs))
-    by_z true l = (k.0, l)
-    by_z false l = l
-
-  by : (b : Bool) → Rise (filter p xs) → Rise (cond b (x ∷ filter p xs) (filter p xs))
-  by true k = (front xs h.0, k)
-  by false k = k
+-- numbers below one after which all others come
+below_all : (m : ℕ) (xs ys : List ℕ) → All (λ x. x < m) xs → All (λ y. m ≤ y) ys → IsStrictlyIncreasing xs → IsStrictlyIncreasing ys → IsStrictlyIncreasing (xs ++ ys)
+below_all m [] ys h k r s i less = s i less
+below_all m (x ∷ []) ys h k r s zero less = let low = All-head (λ x. x < m) x [] h in let high = k 0 0 (omega (arith, less)) in omega (arith, low, high)
+below_all m (x ∷ []) ys h k r s (suc j) less = grind (arith, (s j (omega (arith, less))))
+below_all m (x ∷ y ∷ xs) ys h k r s zero less = r 0 (omega arith)
+below_all m (x ∷ y ∷ xs) ys h k r s (suc j) less =
+    grind (arith, (below_all m (y ∷ xs) ys (All-tail (λ x. x < m) x (y ∷ xs) h) k (rise-tail x (y ∷ xs) r) s j (omega (arith, less))))
 
 -- ---- the numbers of satellites
 
 abbrev IsUpTo : ℕ → ℕ → Type 0
 IsUpTo most i = (1 ≤ i) × (i ≤ most)
 
-numbers_within : (n : ℕ) → AllByRecursion (IsUpTo n) (numbers n)
-numbers_within zero = tt
+numbers_within : (n : ℕ) → All (IsUpTo n) (numbers n)
+numbers_within zero = All-nil (IsUpTo 0)
 numbers_within (suc n) =
-    all_append (IsUpTo (suc n)) (numbers n) (suc n ∷ []) (all_weaker (IsUpTo n) (IsUpTo (suc n)) (λ i h. let most = h.1 in (h.0, omega (arith, most))) (numbers n) (numbers_within n))
-    ((omega arith, omega arith), tt)
+    All-push (IsUpTo (suc n)) (numbers n) (suc n) (All-weaker (IsUpTo n) (IsUpTo (suc n)) (λ i h. let most = h.1 in (h.0, omega (arith, most))) (numbers n) (numbers_within n)) (omega arith, omega arith)
 
-numbers_rise : (n : ℕ) → Rise (numbers n)
-numbers_rise zero = tt
-numbers_rise (suc n) = below_all (suc n) (numbers n) (suc n ∷ []) (all_weaker (IsUpTo n) (λ x. x < suc n) (λ x h. let most = h.1 in omega (arith, most)) (numbers n) (numbers_within n)) (omega arith, tt) (numbers_rise n) (tt, tt)
+numbers_rise : (n : ℕ) → IsStrictlyIncreasing (numbers n)
+numbers_rise zero = λ k less. absurd (omega (arith, less))
+numbers_rise (suc n) =
+    below_all (suc n) (numbers n) (suc n ∷ []) (All-weaker (IsUpTo n) (λ x. x < suc n) (λ x h. let most = h.1 in omega (arith, most)) (numbers n) (numbers_within n))
+    (All-replicate (λ y. suc n ≤ y) 1 (suc n) (omega arith)) (numbers_rise n) (λ k less. absurd (omega (arith, less)))
 
 -- ---- entries
 
@@ -97,17 +63,6 @@ cell_entry system signals c h = grind (arith, if_fits)
 
 none_entry : AreSignalValues no_signal_values
 none_entry = record { c = tt; l = tt; d = tt; s = tt; lli = omega arith; without_phase = λ e. refl }
-
-found_entry : (system : System) (signals : List ℕ) (id index : ℕ) (cells : List Cell) → AllByRecursion (IsGathered system signals) cells → AreSignalValues (signal_values_at cells id index)
-found_entry system signals id index [] h = none_entry
-found_entry system signals id index (c ∷ cells) h = by (is_of_key id index c) (found_entry system signals id index cells h.1) where
-  by : (b : Bool) → AreSignalValues (signal_values_at cells id index) → AreSignalValues (option_map_or signal_values_of (if b then Some c else find (is_of_key id index) cells) no_signal_values)
-  by true k = cell_entry system signals c h.0
-  by false k = k
-
-are_signal_values : (system : System) (signals ss : List ℕ) (id : ℕ) (cells : List Cell) → AllByRecursion (IsGathered system signals) cells → AllByRecursion AreSignalValues (map (signal_values_at cells id) ss)
-are_signal_values system signals [] id cells h = tt
-are_signal_values system signals (i ∷ ss) id cells h = (found_entry system signals id i cells h, are_signal_values system signals ss id cells h)
 
 -- ---- a cell with a value is the one that its entry is made of
 
@@ -118,53 +73,37 @@ record IsFoundIn (P : Cell → Type 0) (cells : List Cell) (id : ℕ) : Type 0 w
   is : P cell
   found : find (is_of_key id cell.signal.index) cells ≡ Some cell
 
-both : (a b : Bool) → (a && b) ≡ true → (a ≡ true) × (b ≡ true)
-both true b h = (refl, h)
-both false b h = absurd (grind (arith, h))
-
-same_number : (a b id : ℕ) → (a == id) ≡ true → (b == id) ≡ true → (a == b) ≡ true
-same_number a b id h k = grind (arith, h, k)
-
-pairs : (P Q : Cell → Type 0) (cells : List Cell) → AllByRecursion P cells → AllByRecursion Q cells → AllByRecursion (λ c. P c × Q c) cells
-pairs P Q [] h k = tt
-pairs P Q (c ∷ cells) h k = ((h.0, k.0), pairs P Q cells h.1 k.1)
-
 at_head : (P : Cell → Type 0) (c : Cell) (cells : List Cell) (id : ℕ) → P c → ((c.satellite.id == id) && has_value c) ≡ true → IsFoundIn P (c ∷ cells) id
-at_head P c cells id p h = grind (arith, both)
+at_head P c cells id p h = grind (arith, and_parts)
 
 after : (P : Cell → Type 0) (c : Cell) (cells : List Cell) (id : ℕ) → IsFoundIn (λ d. P d × (same_place c d ≡ false)) cells id → IsFoundIn P (c ∷ cells) id
-after P c cells id f = grind (arith, same_number)
+after P c cells id f = grind (arith, eqb-true)
 
-speaker : (P : Cell → Type 0) (cells : List Cell) (id : ℕ) → AllByRecursion P cells → IsDistinct same_place cells → is_written cells id ≡ true → IsFoundIn P cells id
+speaker : (P : Cell → Type 0) (cells : List Cell) (id : ℕ) → All P cells → IsDistinct same_place cells → is_written cells id ≡ true → IsFoundIn P cells id
 unfolding IsDistinct
-speaker P [] id h d e = absurd (grind (arith, e))
+speaker P [] id h d e = cc
 speaker P (c ∷ cells) id h d e =
-    by ((c.satellite.id == id) && has_value c) refl (speaker (λ x. P x × (same_place c x ≡ false)) cells id (pairs P (λ x. same_place c x ≡ false) cells h.1 d.0) d.1) where
-      by : (b : Bool) → ((c.satellite.id == id) && has_value c) ≡ b → (is_written cells id ≡ true → IsFoundIn (λ x. P x × (same_place c x ≡ false)) cells id)
-          → IsFoundIn P (c ∷ cells) id
-      by true f next = at_head P c cells id h.0 f
-      by false f next = after P c cells id (next (sym (ap (λ b. b || is_written cells id) f) ∙ e))
+    let apart = All-from_recursion (λ x. same_place c x ≡ false) cells d.0 in
+    let next = speaker (λ x. P x × (same_place c x ≡ false)) cells id (λ k x less. (All-tail P c cells h k x less, apart k x less)) d.1 in
+    elim (cases_Bool ((c.satellite.id == id) && has_value c)) [
+      | inl f ↦ at_head P c cells id (All-head P c cells h) f
+      | inr f ↦ after P c cells id (next (sym (ap (λ b. b || is_written cells id) f) ∙ e))
+    ]
 
 -- ---- rows
 
 some_at : (o : Option ℕ) → is_some o ≡ true → (k : ℕ) × (o ≡ Some k)
-some_at None h = absurd (grind (arith, h))
+some_at None h = cc
 some_at (Some k) h = (k, refl)
-
-same_index : (a b : ℕ) → (a == b) ≡ true → a ≡ b
-same_index a b h = grind (arith, h)
 
 one_says : (signals : List ℕ) (cells : List Cell) (id : ℕ) (c : Cell) → is_some (place_in c.signal signals) ≡ true → has_value c ≡ true
     → find (is_of_key id c.signal.index) cells ≡ Some c → Any (λ e. IsTrue (has_some_value e)) (map (signal_values_at cells id) signals)
 one_says signals cells id c planned value found =
     let at = some_at (place_in c.signal signals) planned in
-    let place = position-Some (λ i. i == c.signal.index) signals at.0 0 at.1 in
-    let here : get_or signals at.0 0 ≡ c.signal.index = same_index _ _ place.1 in
-    let entry : signal_values_at cells id c.signal.index ≡ signal_values_of c = ap (λ o. option_map_or signal_values_of o no_signal_values) found in
+    let (within, here, none) = position-Some (λ i. i == c.signal.index) signals at.0 0 at.1 in
     let is : get_or (map (signal_values_at cells id) signals) at.0 (signal_values_of c) ≡ signal_values_of c =
-    get_or-map (signal_values_at cells id) signals at.0 0 (signal_values_of c) place.0 ∙ ap (signal_values_at cells id) here ∙ entry in
-    let size : length (map (signal_values_at cells id) signals) ≡ length signals = length-map signals (signal_values_at cells id) in
-    (at.0, signal_values_of c, subst (λ n. at.0 < n) (sym size) place.0, is, value)
+    get_or-map (signal_values_at cells id) signals at.0 0 (signal_values_of c) within ∙ ap (signal_values_at cells id) (eqb-true _ _ here) ∙ ap (λ o. option_map_or signal_values_of o no_signal_values) found in
+    (at.0, signal_values_of c, rw length-map within, is, value)
 
 some_planned : (signals : List ℕ) (c : Cell) → is_some (place_in c.signal signals) ≡ true → 0 < length signals
 some_planned signals c planned = grind (arith, some_at, position-Some)
@@ -175,92 +114,91 @@ IsNumber cells most id = IsUpTo most id × (is_written cells id ≡ true)
 
 row_is : (system : System) (signals : List ℕ) (cells : List Cell) (id : ℕ) → AreGathered system signals cells → IsNumber cells (satellites_in system) id
     → (0 < length signals) × IsRow (satellites_in system) (length signals) (row_of signals cells id)
-row_is system signals cells id h n = grind (arith, speaker, some_planned, All-from_recursion, are_signal_values, length-map, one_says, (speaker (IsGathered system signals) cells id h.each h.apart n.1))
+row_is system signals cells id h n =
+    let each = All-from_recursion (IsGathered system signals) cells h.each in
+    let s = speaker (IsGathered system signals) cells id each h.apart n.1 in (
+      some_planned signals s.cell s.is.planned,
+      record {
+        satellite = n.0;
+        signal_values = All-map AreSignalValues (signal_values_at cells id) signals (λ k d less. found_as (IsGathered system signals) AreSignalValues id (get_or signals k d) (cell_entry system signals) none_entry cells each);
+        whole = length-map signals (signal_values_at cells id);
+        some = one_says signals cells id s.cell s.is.planned s.says s.found;
+      },
+    )
 
 row_seen : (plan : PlanValue) (system : System) (cells : List Cell) (id : ℕ) → AreGathered system (planned_of system plan) cells → IsNumber cells (satellites_in system) id
     → IsSatelliteRow (length plan.gps) (length plan.galileo) (row_among plan system cells id)
 row_seen plan Gps cells id h n = let r = row_is Gps plan.gps cells id h n in record { planned = r.0; row = r.1 }
 row_seen plan Galileo cells id h n = let r = row_is Galileo plan.galileo cells id h n in record { planned = r.0; row = r.1 }
 
-numbers_of : (cells : List Cell) (most : ℕ) → AllByRecursion (IsNumber cells most) (written_satellites cells most)
-numbers_of cells most = all_filter (IsUpTo most) (is_written cells) (numbers most) (numbers_within most)
+numbers_of : (cells : List Cell) (most : ℕ) → All (IsNumber cells most) (written_satellites cells most)
+numbers_of cells most k d less =
+    (All-filter (is_written cells) (IsUpTo most) (numbers most) (numbers_within most) k d less, filter_passes (is_written cells) (numbers most) k d less)
 
-rows_seen : (plan : PlanValue) (e : EpochValue) (system : System) → AreGathered system (planned_of system plan) (cells_of system e)
-    → AllByRecursion (IsSatelliteRow (length plan.gps) (length plan.galileo)) (rows_of plan e system)
+rows_seen : (plan : PlanValue) (e : EpochValue) (system : System) → AreGathered system (planned_of system plan) (cells_of system e) → All (IsSatelliteRow (length plan.gps) (length plan.galileo)) (rows_of plan e system)
 rows_seen plan e system h =
-    all_map (row_in_epoch plan e system) (IsNumber (cells_of system e) (satellites_in system)) (IsSatelliteRow (length plan.gps) (length plan.galileo))
-    (λ id n. row_seen plan system (cells_of system e) id h n) (written_satellites (cells_of system e) (satellites_in system)) (numbers_of (cells_of system e) (satellites_in system))
+    let cells = cells_of system e in
+    All-map (IsSatelliteRow (length plan.gps) (length plan.galileo)) (row_in_epoch plan e system) (written_satellites cells (satellites_in system))
+    (λ k d less. row_seen plan system cells (get_or (written_satellites cells (satellites_in system)) k d) h (numbers_of cells (satellites_in system) k d less))
+
+all_seen : (plan : PlanValue) (c : Closed) → IsGatheredEpoch plan c → All (IsSatelliteRow (length plan.gps) (length plan.galileo)) (rows_of plan c.epoch Gps ++ rows_of plan c.epoch Galileo)
+all_seen plan c h =
+    All-append (IsSatelliteRow (length plan.gps) (length plan.galileo)) (rows_of plan c.epoch Gps) (rows_of plan c.epoch Galileo) (rows_seen plan c.epoch Gps (h.cells Gps)) (rows_seen plan c.epoch Galileo (h.cells Galileo))
 
 -- ---- ranks
 
-gps_ranks : (plan : PlanValue) (e : EpochValue) (ids : List ℕ) → map rank_of (map (row_in_epoch plan e Gps) ids) ≡ ids
-gps_ranks plan e [] = refl
-gps_ranks plan e (id ∷ ids) = ap (λ l. id ∷ l) (gps_ranks plan e ids)
+written_rise : (cells : List Cell) (most : ℕ) → IsStrictlyIncreasing (written_satellites cells most)
+written_rise cells most = IsStrictlyIncreasing-filter (is_written cells) (numbers most) (numbers_rise most)
 
-galileo_ranks : (plan : PlanValue) (e : EpochValue) (ids : List ℕ) → map rank_of (map (row_in_epoch plan e Galileo) ids) ≡ map (λ id. 100 + id) ids
-galileo_ranks plan e [] = refl
-galileo_ranks plan e (id ∷ ids) = ap (λ l. (100 + id) ∷ l) (galileo_ranks plan e ids)
+rise_higher : (ids : List ℕ) → IsStrictlyIncreasing ids → IsStrictlyIncreasing (map (λ id. 100 + id) ids)
+rise_higher ids h k less =
+    let size : length (map (λ id. 100 + id) ids) ≡ length ids = length-map ids (λ id. 100 + id) in
+    let low = get_or-map (λ id. 100 + id) ids k 0 0 (omega (arith, size, less)) in
+    let high = get_or-map (λ id. 100 + id) ids (k + 1) 0 0 (omega (arith, size, less)) in
+    let more = h k (omega (arith, size, less)) in
+    omega (arith, low, high, more)
 
-rise_higher : (ids : List ℕ) → Rise ids → Rise (map (λ id. 100 + id) ids)
-rise_higher [] h = tt
-rise_higher (id ∷ ids) h = (all_map (λ i. 100 + i) (λ i. id < i) (λ i. 100 + id < i) (λ i less. omega (arith, less)) ids h.0, rise_higher ids h.1)
-
-high : (ids : List ℕ) → AllByRecursion (λ y. 100 ≤ y) (map (λ id. 100 + id) ids)
-high [] = tt
-high (id ∷ ids) = (omega arith, high ids)
-
-ranks_rise : (plan : PlanValue) (e : EpochValue) → Rise (map rank_of (rows_of plan e Gps ++ rows_of plan e Galileo))
+ranks_rise : (plan : PlanValue) (e : EpochValue) → IsStrictlyIncreasing (map rank_of (rows_of plan e Gps ++ rows_of plan e Galileo))
 ranks_rise plan e =
     let gps = written_satellites e.gps (satellites_in Gps) in
     let galileo = written_satellites e.galileo (satellites_in Galileo) in
     let is : map rank_of (rows_of plan e Gps ++ rows_of plan e Galileo) ≡ gps ++ map (λ id. 100 + id) galileo =
-    map-append rank_of (rows_of plan e Gps) (rows_of plan e Galileo) ∙ ap₂ (λ a b. a ++ b) (gps_ranks plan e gps) (galileo_ranks plan e galileo) in
-    subst Rise (sym is) (below_all 100 gps (map (λ id. 100 + id) galileo) (all_weaker (IsNumber e.gps 32) (λ x. x < 100) (λ x h. let most = h.0.1 in omega (arith, most)) gps (numbers_of e.gps (satellites_in Gps))) (high galileo)
-    (rise_filter (is_written e.gps) (numbers (satellites_in Gps)) (numbers_rise (satellites_in Gps)))
-    (rise_higher galileo (rise_filter (is_written e.galileo) (numbers (satellites_in Galileo)) (numbers_rise (satellites_in Galileo)))))
+    map-append rank_of (rows_of plan e Gps) (rows_of plan e Galileo) ∙ ap₂ (λ a b. a ++ b) (map-map rank_of (row_in_epoch plan e Gps) gps ∙ map-id gps) (map-map rank_of (row_in_epoch plan e Galileo) galileo) in
+    subst IsStrictlyIncreasing (sym is)
+    (below_all 100 gps (map (λ id. 100 + id) galileo) (All-weaker (IsNumber e.gps 32) (λ x. x < 100) (λ x h. let most = h.0.1 in omega (arith, most)) gps (numbers_of e.gps (satellites_in Gps)))
+    (All-map (λ y. 100 ≤ y) (λ id. 100 + id) galileo (λ k d less. omega arith)) (written_rise e.gps (satellites_in Gps)) (rise_higher galileo (written_rise e.galileo (satellites_in Galileo))))
 
 -- ---- epochs
 
 epoch_is : (plan : PlanValue) (v : StationValues) (c : Closed) → IsGatheredEpoch plan c → HasSatellite c → IsStamped (length plan.gps) (length plan.galileo) (stamped_after plan v c)
 epoch_is plan v c h some = record {
   time = h.time;
-  rows = record {
-    each = All-from_recursion (IsSatelliteRow (length plan.gps) (length plan.galileo)) (rows_of plan c.epoch Gps ++ rows_of plan c.epoch Galileo)
-        (all_append (IsSatelliteRow (length plan.gps) (length plan.galileo)) (rows_of plan c.epoch Gps) (rows_of plan c.epoch Galileo) (rows_seen plan c.epoch Gps (h.cells Gps)) (rows_seen plan c.epoch Galileo (h.cells Galileo)));
-    rise = rises _ (ranks_rise plan c.epoch);
-  };
+  rows = record { each = all_seen plan c h; rise = ranks_rise plan c.epoch };
   some = subst (λ n. 0 < n) (sym (length-rows plan c.epoch)) some;
 }
 
 epochs_are : (plan : PlanValue) (v : StationValues) (es : List Closed) → AllByRecursion (IsGatheredEpoch plan) es → AllByRecursion HasSatellite es
-    → AllByRecursion (IsStamped (length plan.gps) (length plan.galileo)) (all_stamped plan v es)
-epochs_are plan v [] h k = tt
-epochs_are plan v (e ∷ es) h k = (epoch_is plan v e h.0 k.0, epochs_are plan e.values es h.1 k.1)
+    → All (IsStamped (length plan.gps) (length plan.galileo)) (all_stamped plan v es)
+epochs_are plan v [] h k = All-nil (IsStamped (length plan.gps) (length plan.galileo))
+epochs_are plan v (e ∷ es) h k =
+    All-cons (IsStamped (length plan.gps) (length plan.galileo)) (stamped_after plan v e) (all_stamped plan e.values es) (epoch_is plan v e h.0 k.0) (epochs_are plan e.values es h.1 k.1)
 
-later : (plan : PlanValue) (v : StationValues) (t : ℕ) (es : List Closed) → AllByRecursion (λ (f : Closed). t < f.epoch.time) es → AllByRecursion (λ u. t < u) (map time_stamped (all_stamped plan v es))
-later plan v t [] h = tt
-later plan v t (e ∷ es) h = (h.0, later plan e.values t es h.1)
-
-times_rise : (plan : PlanValue) (v : StationValues) (es : List Closed) → TimesRise es → Rise (map time_stamped (all_stamped plan v es))
-times_rise plan v [] h = tt
-times_rise plan v (e ∷ es) h = (later plan e.values e.epoch.time es h.0, times_rise plan e.values es h.1)
+times_rise : (plan : PlanValue) (v : StationValues) (es : List Closed) → TimesRise es → IsStrictlyIncreasing (map time_stamped (all_stamped plan v es))
+times_rise plan v [] h k less = absurd (omega (arith, less))
+times_rise plan v (e ∷ []) h k less = absurd (omega (arith, less))
+times_rise plan v (e ∷ f ∷ es) h zero less = h.0.0
+times_rise plan v (e ∷ f ∷ es) h (suc k) less = grind (arith, (times_rise plan e.values (f ∷ es) h.1 k (omega (arith, less))))
 
 -- ---- station values
 
 same_self : (v : StationValues) → same_values v v ≡ true
 same_self v = grind (arith, Decides-int_eq)
 
-abbrev SameValues : StationValues → StationValues → Type 0
-SameValues v w = v ≡ w
+all_same : (v w : StationValues) → v.x ≡ w.x → v.y ≡ w.y → v.z ≡ w.z → v.height ≡ w.height → v ≡ w
+all_same v w p q r s = ap (λ (t : ℤ). record v { x = t }) p ∙ ap (λ (t : ℤ). record v { x = w.x; y = t }) q ∙ ap (λ (t : ℤ). record w { z = t; height = v.height }) r ∙ ap (λ (t : ℕ). record w { height = t }) s
 
-abbrev values_with : ℤ → ℤ → ℤ → ℕ → StationValues
-values_with x y z h = record { x = x; y = y; z = z; height = h }
-
-all_same : (a b c d e f : ℤ) (m n : ℕ) → a ≡ b → c ≡ d → e ≡ f → m ≡ n → SameValues (values_with a c e m) (values_with b d f n)
-all_same a b c d e f m n p q r s = ap (λ t. values_with t c e m) p ∙ ap (λ t. values_with b t e m) q ∙ ap (λ t. values_with b d t m) r ∙ ap (values_with b d f) s
-
-same_are : (v w : StationValues) → same_values v w ≡ true → SameValues v w
-same_are v w h = grind (arith, both, all_same, Decides-int_eq, same_index)
+same_are : (v w : StationValues) → same_values v w ≡ true → v ≡ w
+same_are v w h = grind (arith, and_parts, all_same, Decides-int_eq, eqb-true)
 
 values_fit : (v : StationValues) → AreStationValues v → AreValues v
 values_fit v h = record { x = h.x; y = h.y; z = h.z; height = h.height }
@@ -275,31 +213,21 @@ changes_are : (plan : PlanValue) (v : StationValues) (es : List Closed) → AllB
 changes_are plan v [] h = tt
 changes_are plan v (e ∷ es) h = grind (arith, changes, (changes_are plan e.values es h.1))
 
-first_same : (v : StationValues) → change_from v v ≡ None
-first_same v = ap (λ (b : Bool). if b then None else Some v) (same_self v)
-
 -- if a satellite is written, a signal is planned
-planned_by : (gps galileo : ℕ) (rows : List SatelliteRow) → AllByRecursion (IsSatelliteRow gps galileo) rows → 0 < length rows → 0 < gps + galileo
-planned_by gps galileo [] h some = absurd (omega (arith, some))
-planned_by gps galileo (r ∷ rows) h some = grind arith
+planned_by : (gps galileo : ℕ) (system : System) → 0 < of_system system gps galileo → 0 < gps + galileo
+planned_by gps galileo system some = grind arith
 
 pub gathered_file : (texts : HeaderLists) (plan : PlanValue) (e : Closed) (es : List Closed) → AreTexts texts → AreSignals plan → AreGatheredEpochs plan (e ∷ es)
     → AllByRecursion HasSatellite (e ∷ es) → IsFileValue (gathered texts plan e.values (e ∷ es))
 gathered_file texts plan e es x p h some =
-    let rows = rows_of plan e.epoch Gps ++ rows_of plan e.epoch Galileo in
-    let seen = all_append (IsSatelliteRow (length plan.gps) (length plan.galileo)) (rows_of plan e.epoch Gps) (rows_of plan e.epoch Galileo)
-    (rows_seen plan e.epoch Gps (h.each.0.cells Gps)) (rows_seen plan e.epoch Galileo (h.each.0.cells Galileo)) in
+    let seen = all_seen plan e h.each.0 0 (row_in_epoch plan e.epoch Gps 0) (subst (λ n. 0 < n) (sym (length-rows plan e.epoch)) some.0) in
     record {
       texts = x;
-      plan = record {
-        listed = p.listed;
-        apart = p.apart;
-        some = planned_by (length plan.gps) (length plan.galileo) rows seen (subst (λ n. 0 < n) (sym (length-rows plan e.epoch)) some.0);
-      };
+      plan = record { listed = p.listed; apart = p.apart; some = planned_by (length plan.gps) (length plan.galileo) _ seen.planned };
       values = values_fit e.values h.each.0.values;
       some = omega arith;
-      epochs = All-from_recursion (IsStamped (length plan.gps) (length plan.galileo)) (all_stamped plan e.values (e ∷ es)) (epochs_are plan e.values (e ∷ es) h.each some);
-      rising = rises (map time_stamped (all_stamped plan e.values (e ∷ es))) (times_rise plan e.values (e ∷ es) h.rise);
-      first = first_same e.values;
+      epochs = epochs_are plan e.values (e ∷ es) h.each some;
+      rising = times_rise plan e.values (e ∷ es) h.rise;
+      first = ap (λ (b : Bool). if b then None else Some e.values) (same_self e.values);
       changes = changes_are plan e.values (e ∷ es) h.each;
     }
