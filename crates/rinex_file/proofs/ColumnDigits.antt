@@ -1,14 +1,13 @@
 -- The digits in the columns of a value, eight columns at a time.
 use Rattle.std.proofs.Common.{arith, ◌≡◌, ◌∙◌, sym, ap, ap₂, refl, ℕ, zero, suc, ◌+◌, ◌-◌, ◌*◌, ◌/◌, ◌%◌, ◌^◌, ◌<◌, ◌≤◌, List, [], ◌∷◌, ◌++◌, map, length, take, drop, replicate, get_or, decimal, take-append-drop, true, false, not, eqb, ◌==◌, inl, inr}
 use Rattle.std.specs.Prelude.{⊤, if◌then◌else◌, ◌||◌, bit_and}
-use Rattle.std.proofs.lemmas.Bool.{agree_below_at, eqb-true, cases_lt}
+use Rattle.std.proofs.lemmas.Bool.{agree_below_at, eqb-true, cases_lt, or_right}
 use Rattle.std.proofs.lemmas.Nat.{and_block}
 use Rattle.std.proofs.lemmas.Fmt.{decimal_by_steps}
 use Rattle.std.proofs.lemmas.List.{length-drop, length-take-le, get_or-take, get_or-drop}
 use Rattle.rinex_file.specs.Words.{word}
 use Rattle.rinex_file.specs.Numbers.{padded}
 use Rattle.rinex_file.specs.Read.Row.{digit_in, low_in, has_sign, pairs_in, size_from, size_in, IsPoint}
-use Rattle.rinex_file.proofs.Digits.{or_true}
 use Rattle.rinex_file.proofs.DigitWords.{AreBytes, eight, three_digits}
 
 -- ---- bits of each byte of a word
@@ -244,5 +243,5 @@ sign_minus z ds h =
       | inl early ↦ ap (λ a. a || get_or (replicate z 32 ++ 45 ∷ ds) 8 0 == 45) (some_sign z 8 ds early)
       | inr last ↦
           let e : z ≡ 8 = omega (arith, h, last) in
-          ap (λ k. has_sign (take 8 (replicate k 32 ++ 45 ∷ ds)) || get_or (replicate k 32 ++ 45 ∷ ds) 8 0 == 45) e ∙ or_true (has_sign (take 8 (replicate 8 32 ++ 45 ∷ ds)))
+          ap (λ k. has_sign (take 8 (replicate k 32 ++ 45 ∷ ds)) || get_or (replicate k 32 ++ 45 ∷ ds) 8 0 == 45) e ∙ or_right (has_sign (take 8 (replicate 8 32 ++ 45 ∷ ds))) true refl
     ]

@@ -1,5 +1,5 @@
 -- A number that was written is read back, so its text determines it.
-use Rattle.std.proofs.Common.{rules, arith, ◌≡◌, ℕ, zero, suc, ◌+◌, ◌-◌, ◌*◌, ◌/◌, ◌%◌, ◌^◌, ◌<◌, ◌≤◌, List, [], ◌∷◌, ◌++◌, length, replicate, decimal, refl, sym, ap, ◌∙◌, Bool, true, false, append_assoc, length-append, ℤ, pos, negsuc, neg_ℤ, unsigned_abs}
+use Rattle.std.proofs.Common.{rules, arith, ◌≡◌, ℕ, zero, suc, ◌+◌, ◌-◌, ◌*◌, ◌/◌, ◌%◌, ◌^◌, ◌<◌, ◌≤◌, List, [], ◌∷◌, ◌++◌, length, replicate, decimal, refl, sym, ap, ◌∙◌, Bool, false, append_assoc, length-append, ℤ, pos, negsuc, neg_ℤ, unsigned_abs}
 use Rattle.std.specs.Prelude.{◌||◌, ◌==◌, if◌then◌else◌}
 use Rattle.std.specs.Int.{is_negative}
 use Rattle.std.specs.Fmt.{sign_text}
@@ -64,10 +64,6 @@ joined m p q r n e = rw e (omega arith)
 zero_times : (l w p r : ℕ) → (0 * l + w) * p + r ≡ w * p + r
 zero_times l w p r = omega arith
 
-or_assoc : (a b c : Bool) → (a || (b || c)) ≡ ((a || b) || c)
-or_assoc true b c = refl
-or_assoc false b c = refl
-
 three_parts : (sign whole part : List ℕ) (digits places : ℕ) → length whole ≤ digits → length part ≡ places
     → length (sign ++ whole ++ 46 ∷ part) ≤ length sign + (digits + (1 + places))
 three_parts sign whole part digits places w p = simp length-append (omega (arith, w, p))
@@ -87,8 +83,7 @@ digits_in-right width text = digits_from-append 0 (replicate (width - length tex
 -- ---- a number with decimals
 
 digits_in-sign : (b : Bool) (text : List ℕ) → digits_in (sign_text b ++ text) ≡ digits_in text
-digits_in-sign true text = refl
-digits_in-sign false text = refl
+digits_in-sign b text = grind arith
 
 -- the whole part, a point and the digits after it
 whole_and_part : (places n : ℕ) → 0 < places → n < 2 ^ 64 → digits_in (decimal (n / 10 ^ places) ++ 46 ∷ padded places (n % 10 ^ places)) ≡ n
@@ -101,34 +96,30 @@ digits_in-fixed places z some fits = grind (arith, append_assoc, digits_in-sign,
 
 pub has-append : (c : ℕ) (xs ys : List ℕ) → has c (xs ++ ys) ≡ (has c xs || has c ys)
 has-append c [] ys = refl
-has-append c (x ∷ xs) ys = ap (λ b. (x == c) || b) (has-append c xs ys) ∙ or_assoc (x == c) (has c xs) (has c ys)
-
-pub or_true : (a : Bool) → (a || true) ≡ true
-or_true true = refl
-or_true false = refl
+has-append c (x ∷ xs) ys = grind (arith, (has-append c xs ys))
 
 pub has-not : (c k b : ℕ) → (b == c) ≡ false → has c (replicate k b) ≡ false
 has-not c zero b h = refl
 has-not c (suc k) b h = ap (λ a. a || has c (replicate k b)) h ∙ has-not c k b h
 
-no_minus-append : (xs ys : List ℕ) → has 45 xs ≡ false → has 45 ys ≡ false → has 45 (xs ++ ys) ≡ false
-no_minus-append xs ys x y = has-append 45 xs ys ∙ ap (λ b. b || has 45 ys) x ∙ y
+pub lacks-append : (c : ℕ) (xs ys : List ℕ) → has c xs ≡ false → has c ys ≡ false → has c (xs ++ ys) ≡ false
+lacks-append c xs ys x y = has-append c xs ys ∙ ap (λ b. b || has c ys) x ∙ y
 
-no_minus-digit : (d : ℕ) → has 45 ((48 + d) ∷ []) ≡ false
-no_minus-digit d = grind arith
+lacks-digit : (c d : ℕ) → c < 48 → has c ((48 + d) ∷ []) ≡ false
+lacks-digit c d low = grind arith
 
-no_minus-decimal : (n : ℕ) → n < 2 ^ 64 → has 45 (decimal n) ≡ false
-no_minus-decimal n h =
-    decimal_by_steps (λ m ds. has 45 ds ≡ false) (λ m small. no_minus-digit m) (λ m ds big before. no_minus-append ds _ before (no_minus-digit (m % 10))) n h
+pub lacks-decimal : (c n : ℕ) → c < 48 → n < 2 ^ 64 → has c (decimal n) ≡ false
+lacks-decimal c n low h =
+    decimal_by_steps (λ m ds. has c ds ≡ false) (λ m small. lacks-digit c m low) (λ m ds big before. lacks-append c ds _ before (lacks-digit c (m % 10) low)) n h
 
-no_minus-padded : (places n : ℕ) → n < 2 ^ 64 → has 45 (padded places n) ≡ false
-no_minus-padded places n h = no_minus-append (replicate (places - length (decimal n)) 48) (decimal n) (has-not 45 (places - length (decimal n)) 48 refl) (no_minus-decimal n h)
+pub lacks-padded : (c places n : ℕ) → c < 48 → n < 2 ^ 64 → has c (padded places n) ≡ false
+lacks-padded c places n low h = grind (arith, lacks-append, has-not, lacks-decimal)
 
 no_minus-size : (places n : ℕ) → n < 2 ^ 64 → has 45 (decimal (n / 10 ^ places) ++ 46 ∷ padded places (n % 10 ^ places)) ≡ false
-no_minus-size places n fits = grind (arith, div-le_self, mod-le, no_minus-append, no_minus-decimal, no_minus-padded)
+no_minus-size places n fits = grind (arith, div-le_self, mod-le, lacks-append, lacks-decimal, lacks-padded)
 
-has_minus-right : (width : ℕ) (text : List ℕ) → has 45 (right width text) ≡ has 45 text
-has_minus-right width text = has-append 45 (replicate (width - length text) 32) text ∙ ap (λ b. b || has 45 text) (has-not 45 (width - length text) 32 refl)
+pub has-right : (c width : ℕ) (text : List ℕ) → (32 == c) ≡ false → has c (right width text) ≡ has c text
+has-right c width text other = has-append c (replicate (width - length text) 32) text ∙ ap (λ b. b || has c text) (has-not c (width - length text) 32 other)
 
 pub not_negative : (n : ℕ) → is_negative (pos n) ≡ false
 not_negative n = search rules
@@ -144,7 +135,7 @@ by_parts (pos n) text d m = ap (λ b. if b then neg_ℤ (pos (digits_in text)) e
 by_parts (negsuc n) text d m = ap (λ b. if b then neg_ℤ (pos (digits_in text)) else pos (digits_in text)) m ∙ ap (λ k. neg_ℤ (pos k)) d
 
 pub number_in-fixed : (width places : ℕ) (z : ℤ) → 0 < places → unsigned_abs z < 2 ^ 64 → number_in (right width (fixed places z)) ≡ z
-number_in-fixed width places z some fits = grind (arith, by_parts, digits_in-right, digits_in-fixed, has_minus-right, has_minus-fixed)
+number_in-fixed width places z some fits = grind (arith, by_parts, digits_in-right, digits_in-fixed, has-right, has_minus-fixed)
 
 pub digits_in-padded : (places n : ℕ) → 0 < places → n < 10 ^ places → n < 2 ^ 64 → digits_in (padded places n) ≡ n
 digits_in-padded places n some small fits = digits_from-padded places n 0 some small fits ∙ omega arith
@@ -158,8 +149,7 @@ pub length-right : (width : ℕ) (text : List ℕ) → length text ≤ width →
 length-right width text short = simp (length-append, length-replicate) (omega (arith, short))
 
 length-sign : (b : Bool) → length (sign_text b) ≤ 1
-length-sign true = omega arith
-length-sign false = omega arith
+length-sign b = grind arith
 
 -- this number of digits before the point
 pub length-fixed : (places digits : ℕ) (z : ℤ) → 0 < places → 0 < digits → unsigned_abs z < 2 ^ 64 → unsigned_abs z / 10 ^ places < 10 ^ digits
@@ -171,14 +161,10 @@ length-padded-le places n fits =
     let digits = length-decimal-le 20 n (omega arith) (omega arith) fits in
     simp (length-append, length-replicate) (omega (arith, digits))
 
-three_bounds : (sign whole part : List ℕ) (places : ℕ) → length sign ≤ 1 → length whole ≤ 20 → length part ≤ places + 20
-    → length (sign ++ whole ++ 46 ∷ part) ≤ places + 42
-three_bounds sign whole part places s w p = simp length-append (omega (arith, s, w, p))
-
 pub length-fixed-le : (places : ℕ) (z : ℤ) → unsigned_abs z < 2 ^ 64 → length (fixed places z) ≤ places + 42
 length-fixed-le places z fits =
-    let below : unsigned_abs z / 10 ^ places ≤ unsigned_abs z = div-le_self (unsigned_abs z) (10 ^ places) in
-    let least : unsigned_abs z % 10 ^ places ≤ unsigned_abs z = mod-le (unsigned_abs z) (10 ^ places) in
+    let below = div-le_self (unsigned_abs z) (10 ^ places) in
+    let least = mod-le (unsigned_abs z) (10 ^ places) in
     let whole = length-decimal-le 20 (unsigned_abs z / 10 ^ places) (omega arith) (omega (arith, below, fits)) (omega (arith, below, fits)) in
-    let part = length-padded-le places (unsigned_abs z % 10 ^ places) (omega (arith, least, fits)) in
-    three_bounds (sign_text (is_negative z)) (decimal (unsigned_abs z / 10 ^ places)) (padded places (unsigned_abs z % 10 ^ places)) places (length-sign (is_negative z)) whole part
+    let part = length-decimal-le 20 (unsigned_abs z % 10 ^ places) (omega arith) (omega (arith, least, fits)) (omega (arith, least, fits)) in
+    simp (length-append, length-replicate) (omega (arith, whole, part, length-sign (is_negative z)))

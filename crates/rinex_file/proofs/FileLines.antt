@@ -1,6 +1,7 @@
 -- The lines of a file value are lines, and none is longer than the largest line that is read.
 use Rattle.std.proofs.Common.{arith, lit≤, ◌≡◌, ◌∙◌, ap, refl, sym, subst, ℕ, suc, ◌+◌, ◌*◌, ◌^◌, ◌<◌, ◌≤◌, ℤ, pos, false, Option, Some, None, IfSome, List, [], ◌∷◌, ◌++◌, length, replicate, decimal, get_or, append_assoc}
 use Rattle.std.specs.Prelude.{◌==◌, ◌||◌, map, flat_map, All, codes}
+use Rattle.std.proofs.lemmas.Bool.{or_parts}
 use Rattle.std.proofs.lemmas.List.Elements.{All-head, All-tail, All-cons, All-append, All-map}
 use Rattle.gnss_obs.specs.Satellites.{satellites}
 use Rattle.gnss_obs.specs.declared.system.System.TheVariants.{Gps, Galileo}
@@ -21,10 +22,9 @@ use Rattle.rinex_file.specs.Value.{SignalValues, Row, SatelliteRow, Stamped, Fil
 use Rattle.rinex_file.proofs.RowText.{small_value, length-value, strength_fits, few_satellites}
 use Rattle.rinex_file.proofs.KeptFile.{either_few}
 use Rattle.rinex_file.proofs.Cuts.{filled, length-trimmed}
-use Rattle.rinex_file.proofs.Digits.{has-append, length-right, length-padded}
-use Rattle.rinex_file.proofs.LineByLine.{or_false}
+use Rattle.rinex_file.proofs.Digits.{has-append, has-right, lacks-padded, length-right, length-padded}
 use Rattle.rinex_file.proofs.FewRows.{few_rows}
-use Rattle.rinex_file.proofs.PlainTexts.{Clean, clean-fixed, clean-right, clean-padded, IsPlain, plain-wider, plain-append, plain-padded, ArePlain, plain-joined}
+use Rattle.rinex_file.proofs.PlainTexts.{Clean, clean-fixed, IsPlain, plain-wider, plain-append, plain-padded, ArePlain, plain-joined}
 use Rattle.rinex_file.proofs.PlainHeader.{IsFileLine, as_line, of_80, whole_field, second_field, no_letter, few_signals_of, IsShort, short_time, line_of_position, line_of_delta, lines_of_header}
 
 -- ---- epochs
@@ -63,7 +63,7 @@ line_of_epoch t n is few =
 -- ---- satellites
 
 plain_value : (v : ℤ) → FitsColumns v → IsPlain 14 (right 14 (fixed 3 v))
-plain_value v h = grind (arith, clean-right, clean-fixed, small_value, length-right, length-value)
+plain_value v h = grind (arith, has-right, clean-fixed, small_value, length-right, length-value)
 
 two_columns : (a b : ℕ) → (a ≡ 10 → ⊥) → (b ≡ 10 → ⊥) → IsPlain 2 (a ∷ b ∷ [])
 two_columns a b h k = grind arith
@@ -101,10 +101,10 @@ plain_entries (e ∷ es) all =
     (plain-append 64 (64 * length es) (signal_text e) (flat_map signal_text es) (plain_entry e (All-head AreSignalValues e es all)) (plain_entries es (All-tail AreSignalValues e es all)))
 
 plain_trimmed : (n : ℕ) (text : List ℕ) → IsPlain n text → IsPlain n (trimmed text)
-plain_trimmed n text is = grind (arith, filled, has-append, length-trimmed, or_false, (filled text), (sym (has-append 10 (trimmed text) (replicate (filled text).0 32)) ∙ ap (has 10) (filled text).1 ∙ is.clean), (length-trimmed text))
+plain_trimmed n text is = grind (arith, filled, has-append, length-trimmed, or_parts, (filled text), (sym (has-append 10 (trimmed text) (replicate (filled text).0 32)) ∙ ap (has 10) (filled text).1 ∙ is.clean), (length-trimmed text))
 
 plain_number : (n : ℕ) → n < 100 → IsPlain 2 (padded 2 n)
-plain_number n h = grind (arith, length-padded, clean-padded)
+plain_number n h = grind (arith, length-padded, lacks-padded)
 
 line_of_row : (letter signals most : ℕ) (r : Row) → IsRow most signals r → (letter == 10) ≡ false → most ≤ 36 → signals ≤ 19 → IsFileLine (trimmed (row_text letter r) ++ 10 ∷ [])
 line_of_row letter signals most r is other few less =

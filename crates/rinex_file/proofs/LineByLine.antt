@@ -3,7 +3,8 @@ use Rattle.std.specs.Prelude.{is_some, ◌||◌, ◌==◌, nat_eq, nat_lt, min, 
 use Rattle.std.specs.Io.KnownBytes.{Consumes, IsAtEnd, prepend_known}
 use Rattle.std.proofs.Common.{arith, ◌≡◌, ◌∙◌, sym, ap, subst, refl, ℕ, zero, suc, ◌+◌, ◌-◌, ◌<◌, ◌≤◌, true, false, List, [], ◌∷◌, ◌++◌, length, take, drop, get_or, length-append, take-add, append_assoc, append-nil, Option, Some, None, IfSome, inl, inr}
 use Rattle.std.proofs.Math.Nat.{min-eq_left, min-eq_right, min-le_left, min-le_right, le-min}
-use Rattle.std.proofs.lemmas.List.{length-take-le, take-append-drop, drop-take, drop-drop, take-take}
+use Rattle.std.proofs.lemmas.Bool.{false_from_ne_true, or_parts, or_right}
+use Rattle.std.proofs.lemmas.List.{append_cancel_left, length-take-le, take-append-drop, drop-take, drop-drop, take-take}
 use Rattle.std.proofs.KnownBytes.{Consumes-nil, Consumes-trans}
 use Rattle.std.proofs.lemmas.List.Elements.{All-head, All-tail, All-cons, All-append}
 use Rattle.rinex_file.specs.Read.Fields.{has}
@@ -24,11 +25,8 @@ use Rattle.rinex_file.specs.declared.read.fault.ReadFault.TheVariants.{Memory, R
 use Rattle.rinex_file.specs.Begun.{AreBegun}
 use Rattle.rinex_file.specs.Read.Progress.{Progress, HasLinesLeft}
 use Rattle.rinex_file.specs.Read.Sound.{AreLinesOf, HasReadLines}
-use Rattle.rinex_file.proofs.Digits.{has-append, or_true}
+use Rattle.rinex_file.proofs.Digits.{has-append, lacks-append}
 use Rattle.rinex_file.proofs.Sent.{joined-append}
-
-pub endless_append : (xs ys : List ℕ) → has 10 xs ≡ false → has 10 ys ≡ false → has 10 (xs ++ ys) ≡ false
-endless_append xs ys h k = has-append 10 xs ys ∙ ap (λ t. t || has 10 ys) h ∙ k
 
 -- ---- bytes that are moved to a line
 
@@ -67,10 +65,10 @@ moved_taken a b r whole old new line line' first none m = grind (arith, Consumes
 pub line_whole : (old new line line' : List ℕ) → has 10 line ≡ false → MovesBytes true old new line line' → IsLine line'
 line_whole old new line line' endless m =
     let (body, shape, none) = m.are in
-    (line ++ body, m.to ∙ ap (λ l. line ++ l) shape ∙ sym (append_assoc line body (10 ∷ [])), endless_append line body endless none)
+    (line ++ body, m.to ∙ ap (λ l. line ++ l) shape ∙ sym (append_assoc line body (10 ∷ [])), lacks-append 10 line body endless none)
 
 pub still_endless : (old new line line' : List ℕ) → has 10 line ≡ false → MovesBytes false old new line line' → has 10 line' ≡ false
-still_endless old new line line' endless m = ap (has 10) m.to ∙ endless_append line m.bytes endless m.are
+still_endless old new line line' endless m = ap (has 10) m.to ∙ lacks-append 10 line m.bytes endless m.are
 
 pub longer : (old new line line' : List ℕ) → MovesBytes false old new line line' → 0 < length old → length line < 1220 → length line < length line'
 longer old new line line' m some less = grind (arith, length-append)
@@ -99,19 +97,11 @@ not_empty n other = grind arith
 
 -- ---- the first line feed
 
-not_true : (b : Bool) → (b ≡ true → ⊥) → b ≡ false
-not_true true h = absurd (h refl)
-not_true false h = refl
-
 pub no_feed : (bytes : List ℕ) (n : ℕ) → ((k : ℕ) → k < n → (get_or bytes k 0 == 10) ≡ true → ⊥) → n ≤ length bytes → has 10 (take n bytes) ≡ false
 no_feed bytes zero none h = refl
 no_feed [] (suc n) none h = refl
 no_feed (b ∷ bytes) (suc n) none h =
-    ap (λ a. a || has 10 (take n bytes)) (not_true (b == 10) (none 0 (omega arith))) ∙ no_feed bytes n (λ k less. none (suc k) (omega (arith, less))) (omega (arith, h))
-
-pub or_false : (a b : Bool) → (a || b) ≡ false → (a ≡ false) × (b ≡ false)
-or_false true b h = cc
-or_false false b h = (refl, h)
+    ap (λ a. a || has 10 (take n bytes)) (false_from_ne_true (b == 10) (none 0 (omega arith))) ∙ no_feed bytes n (λ k less. none (suc k) (omega (arith, less))) (omega (arith, h))
 
 -- two bodies without line feeds, each with a line feed after it
 abbrev SameFront : List ℕ → List ℕ → List ℕ → List ℕ → Type 0
@@ -119,23 +109,19 @@ SameFront a b x y = (a ≡ b) × (x ≡ y)
 
 same_body : (a b x y : List ℕ) → has 10 a ≡ false → has 10 b ≡ false → a ++ 10 ∷ x ≡ b ++ 10 ∷ y → SameFront a b x y
 same_body [] [] x y h k e = (refl, cc)
-same_body [] (b ∷ bs) x y h k e = grind (arith, or_false)
-same_body (a ∷ us) [] x y h k e = grind (arith, or_false)
+same_body [] (b ∷ bs) x y h k e = grind (arith, or_parts)
+same_body (a ∷ us) [] x y h k e = grind (arith, or_parts)
 same_body (a ∷ us) (b ∷ bs) x y h k e =
     let head : a ≡ b = cc in
     let rest : us ++ 10 ∷ x ≡ bs ++ 10 ∷ y = cc in
-    let more = same_body us bs x y (or_false (a == 10) (has 10 us) h).1 (or_false (b == 10) (has 10 bs) k).1 rest in
+    let more = same_body us bs x y (or_parts (a == 10) (has 10 us) h).1 (or_parts (b == 10) (has 10 bs) k).1 rest in
     let tail : us ≡ bs = more.0 in
     (cc, more.1)
-
--- a first line
-abbrev FirstSplit : List ℕ → List ℕ → List ℕ → List ℕ → Type 0
-FirstSplit l m x y = (l ≡ m) × (x ≡ y)
 
 shape : (l body x : List ℕ) → l ≡ body ++ 10 ∷ [] → l ++ x ≡ body ++ 10 ∷ x
 shape l body x e = ap (λ t. t ++ x) e ∙ append_assoc body (10 ∷ []) x
 
-pub first_line : (l m x y : List ℕ) → IsLine l → IsLine m → l ++ x ≡ m ++ y → FirstSplit l m x y
+pub first_line : (l m x y : List ℕ) → IsLine l → IsLine m → l ++ x ≡ m ++ y → SameFront l m x y
 first_line l m x y (a, la, na) (b, lb, nb) e = grind (arith, same_body, shape, (same_body a b x y na nb (sym (shape l a x la) ∙ e ∙ shape m b y lb)))
 
 -- the lines that are left, and the bytes that are left
@@ -157,7 +143,7 @@ splits (l ∷ ls) (d ∷ ds) rest h k e =
 
 -- a line has a line feed, so bytes that begin with a line have one
 pub has-line : (line x : List ℕ) → IsLine line → has 10 (line ++ x) ≡ true
-has-line line x (body, e, n) = ap (has 10) (shape line body x e) ∙ has-append 10 body (10 ∷ x) ∙ or_true (has 10 body)
+has-line line x (body, e, n) = ap (has 10) (shape line body x e) ∙ has-append 10 body (10 ∷ x) ∙ or_right (has 10 body) true refl
 
 -- ---- lists of lines
 
@@ -178,10 +164,10 @@ endless_lines (m ∷ ms) bytes are endless e = grind (arith, has-line, All-head,
 -- a short line isn't within bytes without a line feed
 not_within : (body x long rest : List ℕ) → has 10 long ≡ false → length body < length long → body ++ 10 ∷ x ≡ long ++ rest → ⊥
 not_within body x [] rest endless less e = absurd (omega (arith, less))
-not_within [] x (b ∷ bs) rest endless less e = grind (arith, or_false)
+not_within [] x (b ∷ bs) rest endless less e = grind (arith, or_parts)
 not_within (a ∷ us) x (b ∷ bs) rest endless less e =
     let tail : us ++ 10 ∷ x ≡ bs ++ rest = cc in
-    not_within us x bs rest (or_false (b == 10) (has 10 bs) endless).1 (omega (arith, less)) tail
+    not_within us x bs rest (or_parts (b == 10) (has 10 bs) endless).1 (omega (arith, less)) tail
 
 -- ---- lines after lines
 
@@ -203,10 +189,6 @@ not_first (m ∷ ms) long rest are short size endless e = grind (arith, not_fron
 no_more : (lines more all : List (List ℕ)) (rest : List ℕ) → all ≡ lines ++ more → rest ≡ joined more → length lines ≡ most_lines → length all ≤ most_lines → 0 < length rest → ⊥
 no_more lines [] all rest split text many few some = grind arith
 no_more lines (m ∷ ms) all rest split text many few some = grind (arith, length-append)
-
-no_bytes : (front bytes : List ℕ) → front ++ bytes ≡ front → bytes ≡ []
-no_bytes front [] e = refl
-no_bytes front (b ∷ bytes) e = grind (arith, length-append, (length-append front (b ∷ bytes)), (ap length e))
 
 -- ---- what a reader returned
 
@@ -289,7 +271,7 @@ module _ (are_lines : (v : FileValue) → IsFileValue v → All IsLine (file_lin
         begun = begun;
         none = λ v is e.
             let same = after v t.lines bytes is t.are e endless in
-            never (no_bytes (joined t.lines) bytes (e ∙ ap joined same)) v (t.history.goes v [] is (same ∙ sym (append-nil t.lines)));
+            never (append_cancel_left (joined t.lines) bytes [] (e ∙ ap joined same ∙ sym (append-nil (joined t.lines)))) v (t.history.goes v [] is (same ∙ sym (append-nil t.lines)));
       })
 
   -- the input is the text of the file that was read
@@ -334,8 +316,7 @@ module _ (are_lines : (v : FileValue) → IsFileValue v → All IsLine (file_lin
 
     pub only_faults : (a : Option (List ℕ)) (fault : ReadFault) (v : FileValue) → IfSome a (λ input. ExplainsFault input fault) → IsFileValue v → length (file_lines v) ≤ most_lines
         → IfSome a (λ input. input ≡ file_text v → IsNoFault fault)
-    only_faults None fault v why is few = tt
-    only_faults (Some input) fault v why is few = not_explained v input fault is few why
+    only_faults v0 fault v why is few = grind (arith, not_explained)
 
 -- a property of the input that follows from two others
 pub both_said : (a : Option (List ℕ)) (P Q R : List ℕ → Type 0) → ((input : List ℕ) → P input → Q input → R input) → IfSome a P → IfSome a Q → IfSome a R
@@ -378,8 +359,7 @@ one_added new h input left (Some added) some goes = (with_line added new.parser_
 one_added new h input left None some goes = cc
 
 pub the_end : (new : Reading) (h : History) (input left : Option (List ℕ)) (o : Option Added) → is_some o ≡ false → ReadsNextLine new h input left (Ok o) → IsWhole new.parser_state h input
-the_end new h input left None none goes = goes
-the_end new h input left (Some added) none goes = cc
+the_end new h input left v4 none goes = grind arith
 
 pub file_found : (c : ParserState) (h : History) (input : Option (List ℕ)) (f : FileValue) → IsWhole c h input → f ≡ file_at c h → IsTextOf f input
 file_found c h input f whole same = grind (arith, said_of)

@@ -1,45 +1,30 @@
 -- Texts without a line feed, and their largest lengths.
-use Rattle.std.proofs.Common.{arith, ◌≡◌, ◌∙◌, ap, refl, ℕ, zero, suc, ◌+◌, ◌-◌, ◌*◌, ◌%◌, ◌^◌, ◌<◌, ◌≤◌, ℤ, unsigned_abs, Bool, true, false, List, [], ◌∷◌, ◌++◌, length, replicate, decimal, length-append}
-use Rattle.std.specs.Prelude.{◌==◌, ◌||◌, ◌&&◌, flat_map, take, All, ⊤}
+use Rattle.std.proofs.Common.{arith, ◌≡◌, ◌∙◌, ap, refl, ℕ, zero, suc, ◌+◌, ◌-◌, ◌*◌, ◌^◌, ◌<◌, ◌≤◌, ℤ, unsigned_abs, Bool, true, false, List, [], ◌∷◌, ◌++◌, length, replicate, decimal, length-append}
+use Rattle.std.specs.Prelude.{◌==◌, ◌||◌, flat_map, take, All, ⊤}
 use Rattle.std.specs.List.{list_all}
 use Rattle.std.specs.Fmt.{sign_text}
 use Rattle.std.proofs.Math.Nat.{div-le_self, mod-le}
-use Rattle.std.proofs.lemmas.Fmt.{decimal_by_steps, length-decimal-le}
+use Rattle.std.proofs.lemmas.Fmt.{length-decimal-le}
+pub use Rattle.std.proofs.lemmas.Bool.{and_parts as both}
+use Rattle.std.proofs.lemmas.Bool.{and_parts}
 use Rattle.std.proofs.lemmas.List.{length-replicate}
 use Rattle.std.proofs.lemmas.List.Elements.{All-head, All-tail}
 use Rattle.rinex_file.specs.Numbers.{joined, left, right, padded, fixed}
 use Rattle.rinex_file.specs.Read.Fields.{has}
 use Rattle.rinex_file.specs.Texts.{is_printable}
 use Rattle.rinex_file.specs.FileValues.{IsText}
-use Rattle.rinex_file.proofs.Digits.{has-append, has-not, length-fixed-le, length-padded-le}
+use Rattle.rinex_file.proofs.Digits.{has-not, lacks-append, lacks-decimal, lacks-padded, length-fixed-le, length-padded-le}
 
 -- ---- no line feed
 
 abbrev pub Clean : List ℕ → Type 0
 Clean text = has 10 text ≡ false
 
-pub clean-append : (xs ys : List ℕ) → Clean xs → Clean ys → Clean (xs ++ ys)
-clean-append xs ys x y = has-append 10 xs ys ∙ ap (λ b. b || has 10 ys) x ∙ y
-
-clean-digit : (d : ℕ) → Clean ((48 + d) ∷ [])
-clean-digit d = grind arith
-
-pub clean-decimal : (n : ℕ) → n < 2 ^ 64 → Clean (decimal n)
-clean-decimal n h =
-    decimal_by_steps (λ m ds. Clean ds) (λ m small. clean-digit m) (λ m ds big before. clean-append ds ((48 + m % 10) ∷ []) before (clean-digit (m % 10))) n h
-
-pub clean-padded : (places n : ℕ) → n < 2 ^ 64 → Clean (padded places n)
-clean-padded places n h = clean-append (replicate (places - length (decimal n)) 48) (decimal n) (has-not 10 (places - length (decimal n)) 48 refl) (clean-decimal n h)
-
 clean-sign : (b : Bool) → Clean (sign_text b)
-clean-sign true = refl
-clean-sign false = refl
+clean-sign b = grind arith
 
 pub clean-fixed : (places : ℕ) (z : ℤ) → unsigned_abs z < 2 ^ 64 → Clean (fixed places z)
-clean-fixed places z fits = grind (arith, div-le_self, mod-le, clean-append, clean-sign, clean-decimal, clean-padded)
-
-pub clean-right : (width : ℕ) (text : List ℕ) → Clean text → Clean (right width text)
-clean-right width text h = clean-append (replicate (width - length text) 32) text (has-not 10 (width - length text) 32 refl) h
+clean-fixed places z fits = grind (arith, div-le_self, mod-le, lacks-append, clean-sign, lacks-decimal, lacks-padded)
 
 -- ---- at most this number of bytes as well
 
@@ -51,25 +36,22 @@ pub plain-wider : (m n : ℕ) (text : List ℕ) → m ≤ n → IsPlain m text �
 plain-wider m n text h is = record { clean = is.clean; short = let short = is.short in omega (arith, h, short) }
 
 pub plain-append : (m n : ℕ) (xs ys : List ℕ) → IsPlain m xs → IsPlain n ys → IsPlain (m + n) (xs ++ ys)
-plain-append m n xs ys x y = grind (arith, clean-append, length-append)
+plain-append m n xs ys x y = grind (arith, lacks-append, length-append)
+
+plain-blanks : (width n : ℕ) → IsPlain width (replicate (width - n) 32)
+plain-blanks width n = record { clean = has-not 10 (width - n) 32 refl; short = simp length-replicate (omega arith) }
 
 pub plain-left : (width n : ℕ) (text : List ℕ) → IsPlain n text → IsPlain (n + width) (left width text)
-plain-left width n text is = plain-append n width text (replicate (width - length text) 32) is (record {
-  clean = has-not 10 (width - length text) 32 refl;
-  short = simp length-replicate (omega arith);
-})
+plain-left width n text is = plain-append n width text _ is (plain-blanks width (length text))
 
 pub plain-right : (width n : ℕ) (text : List ℕ) → IsPlain n text → IsPlain (width + n) (right width text)
-plain-right width n text is = plain-append width n (replicate (width - length text) 32) text (record {
-  clean = has-not 10 (width - length text) 32 refl;
-  short = simp length-replicate (omega arith);
-}) is
+plain-right width n text is = plain-append width n _ text (plain-blanks width (length text)) is
 
 pub plain-decimal : (n : ℕ) → n < 2 ^ 64 → IsPlain 20 (decimal n)
-plain-decimal n h = record { clean = clean-decimal n h; short = length-decimal-le 20 n (omega arith) (omega (arith, h)) h }
+plain-decimal n h = record { clean = lacks-decimal 10 n (omega arith) h; short = length-decimal-le 20 n (omega arith) (omega (arith, h)) h }
 
 pub plain-padded : (places n : ℕ) → n < 2 ^ 64 → IsPlain (places + 20) (padded places n)
-plain-padded places n h = record { clean = clean-padded places n h; short = length-padded-le places n h }
+plain-padded places n h = record { clean = lacks-padded 10 places n (omega arith) h; short = length-padded-le places n h }
 
 pub plain-fixed : (places : ℕ) (z : ℤ) → unsigned_abs z < 2 ^ 64 → IsPlain (places + 42) (fixed places z)
 plain-fixed places z h = record { clean = clean-fixed places z h; short = length-fixed-le places z h }
@@ -101,17 +83,13 @@ plain-spaced n (suc k) (t ∷ ts) are =
 
 -- ---- what is printable has no line feed
 
-pub both : (a b : Bool) → (a && b) ≡ true → (a ≡ true) × (b ≡ true)
-both true b h = (refl, h)
-both false b h = cc
-
 no_feed : (b : ℕ) → is_printable b ≡ true → (b == 10) ≡ false
 no_feed b h = grind (arith, h)
 
 pub clean-printable : (text : List ℕ) → list_all is_printable text ≡ true → Clean text
 clean-printable [] h = refl
 clean-printable (b ∷ bs) h =
-    let parts = both (is_printable b) (list_all is_printable bs) h in
+    let parts = and_parts (is_printable b) (list_all is_printable bs) h in
     ap (λ c. c || has 10 bs) (no_feed b parts.0) ∙ clean-printable bs parts.1
 
 pub plain-text : (width : ℕ) (text : List ℕ) → IsText width text → width ≤ 60 → IsPlain 60 text
