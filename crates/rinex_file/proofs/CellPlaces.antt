@@ -1,13 +1,14 @@
 -- A satellite's cells, each stored at its signal's index in the plan.
-use Rattle.std.proofs.Common.{arith, ◌≡◌, ◌∙◌, sym, ap, ap₂, refl, subst, ℕ, ℤ, zero, suc, ◌+◌, ◌*◌, ◌-◌, ◌/◌, ◌%◌, ◌<◌, ◌≤◌, List, [], ◌∷◌, ◌++◌, map, take, drop, length, replicate, get_or, append_assoc, append-nil, length-append, Bool, true, false, not, ◌==◌, ◌&&◌, Option, Some, None, slice_set}
-use Rattle.std.specs.Prelude.{◌≢◌, ◌||◌, nat_eq, find, flat_map, position, All, is_some, if◌then◌else◌, cond}
+use Rattle.std.proofs.Common.{arith, ◌≡◌, ◌∙◌, sym, ap, ap₂, refl, ℕ, ℤ, zero, suc, ◌+◌, ◌*◌, ◌-◌, ◌/◌, ◌%◌, ◌<◌, ◌≤◌, List, [], ◌∷◌, ◌++◌, map, take, drop, length, replicate, get_or, append_assoc, append-nil, length-append, Bool, false, ◌==◌, Option, Some, None, slice_set}
+use Rattle.std.specs.Prelude.{◌≢◌, ◌||◌, nat_eq, find, flat_map, position, All, is_some, if◌then◌else◌}
 use Rattle.std.specs.Option.{option_map_or}
-use Rattle.std.specs.List.{AllByRecursion, IsDistinct, position_or_len, refill}
+use Rattle.std.specs.List.{IsDistinct, position_or_len, refill}
 use Rattle.std.proofs.lemmas.List.{drop_at, drop_all, take_all, length-drop, drop_more, set_at, length-take, length-take-le, length-replicate, length-set, take-append-le, drop-append-le, replicate-append-replicate}
-use Rattle.std.proofs.lemmas.Bool.{cond_both}
+use Rattle.std.proofs.lemmas.Bool.{cond_both, and_from, and_right, eq-eqb, ne_eqb, eqb-true, eqb-false}
 use Rattle.std.proofs.lemmas.List.Concat.{flat_map-append}
 use Rattle.std.proofs.lemmas.List.Quantifiers.{position-Some}
-use Rattle.std.proofs.lemmas.List.Elements.{All-head, All-tail, All-map, All-append, All-drop, All-replicate}
+use Rattle.std.proofs.lemmas.List.Elements.{All-from_recursion, All-head, All-tail, All-map, All-append, All-drop, All-replicate}
+use Rattle.std.proofs.lemmas.List.Sums.{fails_before_first}
 use Rattle.gnss_obs.specs.declared.system.System.{System}
 use Rattle.obs_epoch.specs.declared.cell.Cell.{Cell}
 use Rattle.obs_epoch.specs.Values.{IsHeld}
@@ -25,50 +26,22 @@ use Rattle.std.proofs.Math.Seq.{take-append-add, drop-append-add}
 
 -- ---- what a cell before others changes
 
-pub found_first : (c : Cell) (rest : List Cell) (id index : ℕ) → is_of_key id index c ≡ true → signal_values_at (c ∷ rest) id index ≡ signal_values_of c
-found_first c rest id index is = ap (λ b. option_map_or signal_values_of (if b then Some c else find (is_of_key id index) rest) no_signal_values) is
-
-passed : (c : Cell) (rest : List Cell) (id index : ℕ) → is_of_key id index c ≡ false → signal_values_at (c ∷ rest) id index ≡ signal_values_at rest id index
-passed c rest id index is = ap (λ b. option_map_or signal_values_of (if b then Some c else find (is_of_key id index) rest) no_signal_values) is
-
-of_key : (a : Bool) (x y : ℕ) → a ≡ true → x ≡ y → (a && (x == y)) ≡ true
-of_key a x y e f = grind (arith, e, f)
-
-other_signal : (a : Bool) (x y : ℕ) → y ≢ x → (a && (x == y)) ≡ false
-other_signal true x y n = grind arith
-other_signal false x y n = refl
-
 -- a cell changes the values of its own signal alone
 pub others_stay : (c : Cell) (rest : List Cell) (id other : ℕ) → other ≢ c.signal.index → signal_values_at (c ∷ rest) id other ≡ signal_values_at rest id other
-others_stay c rest id other apart = passed c rest id other (other_signal (c.satellite.id == id) c.signal.index other apart)
+others_stay c rest id other apart =
+    ap (λ b. option_map_or signal_values_of (if b then Some c else find (is_of_key id other) rest) no_signal_values) (and_right (c.satellite.id == id) (c.signal.index == other) (ne_eqb c.signal.index other (λ e. apart (sym e))))
 
 -- ---- if the signal is planned, and if it isn't
 
-unplanned : (index : ℕ) (signals : List ℕ) (f g : ℕ → SignalValues) → length signals ≤ position_or_len (λ i. i == index) signals → ((other : ℕ) → other ≢ index → f other ≡ g other)
-    → map f signals ≡ map g signals
-unplanned index [] f g h same = refl
-unplanned index (s ∷ signals) f g h same = by (s == index) refl h (λ few. unplanned index signals f g few same) where
-  by : (b : Bool) → (s == index) ≡ b → length (s ∷ signals) ≤ cond (not b) (1 + position_or_len (λ i. i == index) signals) 0
-      → (length signals ≤ position_or_len (λ i. i == index) signals → map f signals ≡ map g signals) → map f (s ∷ signals) ≡ map g (s ∷ signals)
-  by true e few more = absurd (omega (arith, few))
-  by false e few more = ap₂ (λ a l. a ∷ l) (same s (λ is. grind (arith, e, is))) (more (omega (arith, few)))
+map_same : (f g : ℕ → SignalValues) (signals : List ℕ) → All (λ s. f s ≡ g s) signals → map f signals ≡ map g signals
+map_same f g [] all = refl
+map_same f g (s ∷ signals) all = ap₂ (λ a l. a ∷ l) (All-head (λ s. f s ≡ g s) s signals all) (map_same f g signals (All-tail (λ s. f s ≡ g s) s signals all))
 
 pub no_place : (index : ℕ) (signals : List ℕ) (f g : ℕ → SignalValues) → position (λ i. i == index) signals ≡ None → ((other : ℕ) → other ≢ index → f other ≡ g other)
     → map f signals ≡ map g signals
-no_place index signals f g e same = grind (arith, unplanned)
-
--- the signals after one that differ from it
-map_apart : (x : ℕ) (signals : List ℕ) (f g : ℕ → SignalValues) → AllByRecursion (λ y. nat_eq x y ≡ false) signals → ((other : ℕ) → other ≢ x → f other ≡ g other) → map f signals ≡ map g signals
-map_apart x [] f g h same = refl
-map_apart x (y ∷ signals) f g h same = grind (arith, (map_apart x signals f g h.1 same))
-
-apart_at : (s p : ℕ) (signals : List ℕ) → AllByRecursion (λ y. nat_eq s y ≡ false) signals → p < length signals → nat_eq s (get_or signals p 0) ≡ false
-apart_at s p [] all within = absurd (omega (arith, within))
-apart_at s zero (x ∷ signals) all within = all.0
-apart_at s (suc p) (x ∷ signals) all within = apart_at s p signals all.1 (omega (arith, within))
-
-differs : (s x y : ℕ) → nat_eq s x ≡ false → x ≡ y → s ≢ y
-differs s x y e f = λ is. grind (arith, e, f, is)
+no_place index signals f g e same =
+    let none : length signals ≤ position_or_len (λ i. i == index) signals = grind arith in
+    map_same f g signals (λ k d less. same (get_or signals k d) (eqb-false (get_or signals k d) index (fails_before_first (λ i. i == index) signals k d (omega (arith, less, none)))))
 
 -- a list of values with the one at a signal's index replaced
 set_place : (p index : ℕ) (signals : List ℕ) (f g : ℕ → SignalValues) → p < length signals → get_or signals p 0 ≡ index → IsDistinct nat_eq signals → ((other : ℕ) → other ≢ index → f other ≡ g other)
@@ -76,10 +49,10 @@ set_place : (p index : ℕ) (signals : List ℕ) (f g : ℕ → SignalValues) �
 unfolding IsDistinct
 set_place p index [] f g within here apart same = absurd (omega (arith, within))
 set_place zero index (s ∷ signals) f g within here apart same =
-    ap₂ (λ a l. a ∷ l) (ap f (sym here)) (sym (map_apart s signals f g apart.0 (λ other isnt. same other (subst (λ (x : ℕ). other ≢ x) here isnt))))
+    ap₂ (λ a l. a ∷ l) (ap f (sym here)) (sym (map_same f g signals (λ k d less. same (get_or signals k d) (λ e. eqb-false s (get_or signals k d) (All-from_recursion (λ y. nat_eq s y ≡ false) signals apart.0 k d less) (here ∙ sym e)))))
 set_place (suc p) index (s ∷ signals) f g within here apart same =
-    ap₂ (λ a l. a ∷ l) (sym (same s (differs s (get_or signals p 0) index (apart_at s p signals apart.0 (omega (arith, within))) here)))
-    (set_place p index signals f g (omega (arith, within)) here apart.1 same)
+    let other = All-from_recursion (λ y. nat_eq s y ≡ false) signals apart.0 p 0 (omega (arith, within)) in
+    ap₂ (λ a l. a ∷ l) (sym (same s (λ e. eqb-false s (get_or signals p 0) other (e ∙ sym here)))) (set_place p index signals f g (omega (arith, within)) here apart.1 same)
 
 -- ---- a satellite's cells
 
@@ -93,11 +66,9 @@ pub cell_put : (signals : List ℕ) (id p : ℕ) (c : Cell) (rest : List Cell) �
     → slice_set (map (signal_values_at rest id) signals) p (signal_values_of c) ≡ map (signal_values_at (c ∷ rest) id) signals
 cell_put signals id p c rest apart is own =
     let (within, here, none) = position-Some (λ i. i == c.signal.index) signals p 0 is in
-    let at : get_or signals p 0 ≡ c.signal.index = grind (arith, here) in
-    ap (slice_set (map (signal_values_at rest id) signals) p) (sym (found_first c rest id c.signal.index (of_key (c.satellite.id == id) c.signal.index c.signal.index (same c.satellite.id id own) refl)))
-    ∙ set_place p c.signal.index signals (signal_values_at (c ∷ rest) id) (signal_values_at rest id) within at apart (others_stay c rest id) where
-      same : (x y : ℕ) → x ≡ y → (x == y) ≡ true
-      same x y e = grind (arith, e)
+    let key = and_from (c.satellite.id == id) (c.signal.index == c.signal.index) (eq-eqb c.satellite.id id own) (eq-eqb c.signal.index c.signal.index refl) in
+    ap (λ b. slice_set (map (signal_values_at rest id) signals) p (option_map_or signal_values_of (if b then Some c else find (is_of_key id c.signal.index) rest) no_signal_values)) (sym key)
+    ∙ set_place p c.signal.index signals (signal_values_at (c ∷ rest) id) (signal_values_at rest id) within (eqb-true (get_or signals p 0) c.signal.index here) apart (others_stay c rest id)
 
 -- the values of cells fit their columns
 none_fit : HaveRoom no_signal_values
@@ -120,10 +91,7 @@ all_fit system cells id signals all = All-map HaveRoom (signal_values_at cells i
 
 or_none : (a b c d : Bool) → (a || b || c || d) ≡ false → (a ≡ false) × (b ≡ false) × (c ≡ false) × (d ≡ false)
 or_none false false false false e = (refl, refl, refl, refl)
-or_none true b c d e = cc
-or_none false true c d e = cc
-or_none false false true d e = cc
-or_none false false false true e = cc
+or_none a b c d e = cc
 
 is_none : (v : Option ℤ) → is_some v ≡ false → v ≡ None
 is_none None e = refl
@@ -133,10 +101,7 @@ blank_text : (c l d s : Option ℤ) (lost strength : ℕ) → c ≡ None → l �
     → field c 32 strength ++ (field l lost strength ++ (field d 32 32 ++ field s 32 32)) ≡ replicate 64 32
 unfolding field
 blank_text None None None None lost strength a b e f = refl
-blank_text (Some v) l d s lost strength a b e f = cc
-blank_text None (Some v) d s lost strength a b e f = cc
-blank_text None None (Some v) s lost strength a b e f = cc
-blank_text None None None (Some v) lost strength a b e f = cc
+blank_text c l d s lost strength a b e f = cc
 
 no_value : (e : SignalValues) → has_some_value e ≡ false → signal_text e ≡ replicate 64 32
 unfolding signal_text
@@ -214,10 +179,8 @@ none_text (suc n) =
 -- letter and number in a line of blanks
 pub begun : (w letter id signals : ℕ) → id < 100 → 3 ≤ w → w ≤ 3 + 64 * signals
     → HasSignals (slice_set (slice_set (slice_set (replicate w 32) 0 letter) 1 (48 + id / 10)) 2 (48 + id % 10)) (letter ∷ padded 2 id) (replicate signals no_signal_values)
-begun zero letter id signals h low high = absurd (omega (arith, low))
-begun (suc zero) letter id signals h low high = absurd (omega (arith, low))
-begun (suc (suc zero)) letter id signals h low high = absurd (omega (arith, low))
 begun (suc (suc (suc w))) letter id signals h low high = grind (arith, length-replicate, replicate-append-replicate, none_text, two_digits)
+begun w letter id signals h low high = absurd (omega (arith, low))
 
 pub begun_row : (old t u f y x : List ℕ) (n m q letter letter' id signals : ℕ) → id < 100 → t ≡ take (3 + 64 * signals) old → u ≡ t → f ≡ replicate (length u) 32 → n ≡ length t
     → m ≡ 3 - length (refill n t f) → y ≡ refill n t f ++ replicate m 32 → x ≡ y → q ≡ length y → letter' ≡ letter
