@@ -1,76 +1,48 @@
 -- The digits in the columns of a value, eight columns at a time.
-use Rattle.std.proofs.Common.{arith, ◌≡◌, ◌∙◌, sym, ap, ap₂, refl, ℕ, zero, suc, ◌+◌, ◌-◌, ◌*◌, ◌/◌, ◌%◌, ◌^◌, ◌<◌, ◌≤◌, List, [], ◌∷◌, ◌++◌, map, length, take, drop, replicate, get_or, decimal, take-append-drop, true, false, not, eqb, ◌==◌, inl, inr}
-use Rattle.std.specs.Prelude.{⊤, if◌then◌else◌, ◌||◌, bit_and}
-use Rattle.std.proofs.lemmas.Bool.{agree_below_at, eqb-true, cases_lt, or_right}
+use Rattle.std.proofs.Common.{arith, ◌≡◌, ◌∙◌, sym, ap, ap₂, refl, subst, ℕ, zero, suc, ◌+◌, ◌-◌, ◌*◌, ◌/◌, ◌%◌, ◌^◌, ◌<◌, ◌≤◌, List, [], ◌∷◌, ◌++◌, map, length, take, drop, replicate, get_or, decimal, take-append-drop, true, false, not, eqb, ◌==◌, inl, inr}
+use Rattle.std.specs.Prelude.{All, if◌then◌else◌, ◌||◌, bit_and}
+use Rattle.std.proofs.lemmas.Bool.{agree_below, agree_below_at, eqb-true, eq-eqb, cases_lt, or_from, or_left, or_right}
 use Rattle.std.proofs.lemmas.Nat.{and_block}
 use Rattle.std.proofs.lemmas.Fmt.{decimal_by_steps}
-use Rattle.std.proofs.lemmas.List.{length-drop, length-take-le, get_or-take, get_or-drop}
+use Rattle.std.proofs.lemmas.List.{length-drop, length-take, length-take-le, length-replicate, get_or-take, get_or-drop, get_or_at}
+use Rattle.std.proofs.lemmas.List.Elements.{All-head, All-tail, All-append, All-push, All-take, All-replicate}
 use Rattle.rinex_file.specs.Words.{word}
 use Rattle.rinex_file.specs.Numbers.{padded}
 use Rattle.rinex_file.specs.Read.Row.{digit_in, low_in, has_sign, pairs_in, size_from, size_in, IsPoint}
-use Rattle.rinex_file.proofs.DigitWords.{AreBytes, eight, three_digits}
+use Rattle.rinex_file.proofs.DigitWords.{AreBelow, eight, three_digits}
 
 -- ---- bits of each byte of a word
 
-and_each : (f : ℕ → ℕ) (bs : List ℕ) → AreBytes bs → AreBytes (map f bs) → bit_and (word bs) (word (map f bs)) ≡ word (map (λ b. bit_and b (f b)) bs)
-and_each f [] h k = refl
-and_each f (b ∷ bs) h k =
+-- a mask of each byte, and what it leaves of it
+masked : (f g : ℕ → ℕ) → ((b : ℕ) → f b < 256) → agree_below (λ b. eqb (bit_and b (f b)) (g b)) (λ b. true) 256 ≡ true → (bs : List ℕ) → AreBelow 256 bs
+    → bit_and (word bs) (word (map f bs)) ≡ word (map g bs)
+masked f g small same [] h = refl
+masked f g small same (b ∷ bs) h =
     let p : b + 256 * word bs ≡ word bs * 256 + b = omega arith in
     let q : f b + 256 * word (map f bs) ≡ word (map f bs) * 256 + f b = omega arith in
-    let n : ℕ = bit_and (word bs) (word (map f bs)) in
-    let r : n * 256 + bit_and b (f b) ≡ bit_and b (f b) + 256 * n = omega arith in
-    ap₂ bit_and p q ∙ and_block 8 (word bs) (word (map f bs)) b (f b) h.0 k.0 ∙ r ∙ ap (λ m. bit_and b (f b) + 256 * m) (and_each f bs h.1 k.1)
-
-same_bytes : (f g : ℕ → ℕ) → ((b : ℕ) → b < 256 → f b ≡ g b) → (bs : List ℕ) → AreBytes bs → map f bs ≡ map g bs
-same_bytes f g same [] h = refl
-same_bytes f g same (b ∷ bs) h = ap₂ (λ x xs. x ∷ xs) (same b h.0) (same_bytes f g same bs h.1)
-
-each_byte : (f : ℕ → ℕ) → ((b : ℕ) → f b < 256) → (bs : List ℕ) → AreBytes (map f bs)
-each_byte f small [] = tt
-each_byte f small (b ∷ bs) = (small b, each_byte f small bs)
-
-constant : (m : ℕ) (bs : List ℕ) → map (λ b. m) bs ≡ replicate (length bs) m
-constant m [] = refl
-constant m (b ∷ bs) = ap (λ xs. m ∷ xs) (constant m bs)
+    let here = eqb-true (bit_and b (f b)) (g b) (agree_below_at (λ k. eqb (bit_and k (f k)) (g k)) (λ k. true) 256 b same h.0) in
+    ap₂ bit_and p q ∙ and_block 8 (word bs) (word (map f bs)) b (f b) h.0 (small b) ∙ ap₂ (λ m n. m * 256 + n) (masked f g small same bs h.1) here ∙ omega arith
 
 mask_word : (m : ℕ) (bs : List ℕ) → length bs ≡ 8 → word (map (λ b. m) bs) ≡ word (replicate 8 m)
-mask_word m bs l = ap word (constant m bs ∙ ap (λ n. replicate n m) l)
-
--- 1 for a digit
-bit : ℕ → ℕ
-bit b = b / 16 % 2
-
-bit_16 : (b : ℕ) → b < 256 → bit_and b 16 ≡ 16 * (b / 16 % 2)
-bit_16 b h = eqb-true (bit_and b 16) (16 * (b / 16 % 2)) (agree_below_at (λ k. eqb (bit_and k 16) (16 * (k / 16 % 2))) (λ k. true) 256 b refl h)
-
-bit_15 : (b : ℕ) → b < 256 → bit_and b 15 ≡ low_in b
-bit_15 b h = eqb-true (bit_and b 15) (low_in b) (agree_below_at (λ k. eqb (bit_and k 15) (low_in k)) (λ k. true) 256 b refl h)
-
-bit_digit : (b : ℕ) → b < 256 → bit_and b (15 * (b / 16 % 2)) ≡ digit_in b
-bit_digit b h = eqb-true (bit_and b (15 * (b / 16 % 2))) (digit_in b) (agree_below_at (λ k. eqb (bit_and k (15 * (k / 16 % 2))) (digit_in k)) (λ k. true) 256 b refl h)
-
-spread : (k x n : ℕ) → k * x + 256 * (k * n) ≡ k * (x + 256 * n)
-spread k x n = omega arith
+mask_word m bs l = eight (λ xs. word (map (λ b. m) xs) ≡ word (replicate 8 m)) (λ a b c d e f g h. refl) bs l
 
 times : (k : ℕ) (bs : List ℕ) → word (map (λ b. k * (b / 16 % 2)) bs) ≡ k * word (map (λ b. b / 16 % 2) bs)
 times k [] = omega arith
-times k (b ∷ bs) = ap (λ n. k * (b / 16 % 2) + 256 * n) (times k bs) ∙ spread k (b / 16 % 2) (word (map (λ x. x / 16 % 2) bs))
+times k (b ∷ bs) = ap (λ n. k * (b / 16 % 2) + 256 * n) (times k bs) ∙ omega arith
 
 -- the columns that are digits
-pub marks : (bs : List ℕ) → length bs ≡ 8 → AreBytes bs → bit_and (word bs) 0x1010_1010_1010_1010 ≡ 16 * word (map (λ b. b / 16 % 2) bs)
-marks bs l h =
-    ap (bit_and (word bs)) (sym (mask_word 16 bs l)) ∙ and_each (λ b. 16) bs h (each_byte (λ b. 16) (λ b. omega arith) bs) ∙ ap word (same_bytes (λ b. bit_and b 16) (λ b. 16 * (b / 16 % 2)) bit_16 bs h) ∙ times 16 bs
+marks : (bs : List ℕ) → length bs ≡ 8 → AreBelow 256 bs → bit_and (word bs) 0x1010_1010_1010_1010 ≡ 16 * word (map (λ b. b / 16 % 2) bs)
+marks bs l h = ap (bit_and (word bs)) (sym (mask_word 16 bs l)) ∙ masked (λ b. 16) (λ b. 16 * (b / 16 % 2)) (λ b. omega arith) refl bs h ∙ times 16 bs
 
-pub digits_are : (bs : List ℕ) (m : ℕ) → length bs ≡ 8 → AreBytes bs → m ≡ bit_and (word bs) 0x1010_1010_1010_1010 → bit_and (word bs) (m - m / 16) ≡ word (map digit_in bs)
+digits_are : (bs : List ℕ) (m : ℕ) → length bs ≡ 8 → AreBelow 256 bs → m ≡ bit_and (word bs) 0x1010_1010_1010_1010 → bit_and (word bs) (m - m / 16) ≡ word (map digit_in bs)
 digits_are bs m l h is =
     let t : ℕ = word (map (λ b. b / 16 % 2) bs) in
     let sixteen : m ≡ 16 * t = is ∙ marks bs l h in
     let mask : m - m / 16 ≡ 15 * t = omega (arith, sixteen) in
-    ap (bit_and (word bs)) (mask ∙ sym (times 15 bs)) ∙ and_each (λ b. 15 * (b / 16 % 2)) bs h (each_byte (λ b. 15 * (b / 16 % 2)) (λ b. omega arith) bs)
-    ∙ ap word (same_bytes (λ b. bit_and b (15 * (b / 16 % 2))) digit_in bit_digit bs h)
+    ap (bit_and (word bs)) (mask ∙ sym (times 15 bs)) ∙ masked (λ b. 15 * (b / 16 % 2)) digit_in (λ b. omega arith) refl bs h
 
-pub lows_are : (bs : List ℕ) → length bs ≡ 8 → AreBytes bs → bit_and (word bs) 0x0F0F_0F0F_0F0F_0F0F ≡ word (map low_in bs)
-lows_are bs l h = ap (bit_and (word bs)) (sym (mask_word 15 bs l)) ∙ and_each (λ b. 15) bs h (each_byte (λ b. 15) (λ b. omega arith) bs) ∙ ap word (same_bytes (λ b. bit_and b 15) low_in bit_15 bs h)
+lows_are : (bs : List ℕ) → length bs ≡ 8 → AreBelow 256 bs → bit_and (word bs) 0x0F0F_0F0F_0F0F_0F0F ≡ word (map low_in bs)
+lows_are bs l h = ap (bit_and (word bs)) (sym (mask_word 15 bs l)) ∙ masked (λ b. 15) low_in (λ b. omega arith) refl bs h
 
 -- ---- pairs of digits
 
@@ -99,33 +71,25 @@ high_eight a b c d e f g h sa sb sc sd se sf sg sh = grind arith
 
 -- ---- eight columns of a text
 
-all_bytes : (text : List ℕ) → ((i : ℕ) → get_or text i 0 < 256) → AreBytes text
+all_bytes : (text : List ℕ) → ((i : ℕ) → i < length text → get_or text i 0 < 256) → AreBelow 256 text
 all_bytes [] h = tt
-all_bytes (b ∷ bs) h = (h 0, all_bytes bs (λ i. h (suc i)))
+all_bytes (b ∷ bs) h = (h 0 (omega arith), all_bytes bs (λ i less. h (suc i) (omega (arith, less))))
 
-bytes_after : (n : ℕ) (text : List ℕ) → AreBytes text → AreBytes (drop n text)
-bytes_after zero text h = h
-bytes_after (suc n) [] h = tt
-bytes_after (suc n) (b ∷ bs) h = bytes_after n bs h.1
-
-bytes_before : (n : ℕ) (text : List ℕ) → AreBytes text → AreBytes (take n text)
-bytes_before zero text h = tt
-bytes_before (suc n) [] h = tt
-bytes_before (suc n) (b ∷ bs) h = (h.0, bytes_before n bs h.1)
-
-pub columns_at : (text : List ℕ) (first : ℕ) → ((i : ℕ) → get_or text i 0 < 256) → AreBytes (take 8 (drop first text))
-columns_at text first h = bytes_before 8 (drop first text) (bytes_after first text (all_bytes text h))
+pub columns_at : (text : List ℕ) (first : ℕ) → ((i : ℕ) → get_or text i 0 < 256) → AreBelow 256 (take 8 (drop first text))
+columns_at text first h = all_bytes (take 8 (drop first text)) (λ i less.
+    let few : i < 8 = omega (arith, less, length-take 8 (drop first text)) in
+    subst (λ n. n < 256) (sym (get_or-take 8 (drop first text) i 0 few ∙ get_or-drop first text i 0)) (h (first + i)))
 
 pub count_at : (text : List ℕ) (first : ℕ) → first + 8 ≤ length text → length (take 8 (drop first text)) ≡ 8
 count_at text first h = let l : length (drop first text) ≡ length text - first = length-drop first text in length-take-le 8 (drop first text) (omega (arith, l, h))
 
 -- the pairs of the digits in a word of columns
-pub pairs_at : (bs : List ℕ) (w : ℕ) → length bs ≡ 8 → AreBytes bs → w ≡ word bs
+pub pairs_at : (bs : List ℕ) (w : ℕ) → length bs ≡ 8 → AreBelow 256 bs → w ≡ word bs
     → bit_and w (bit_and w 0x1010_1010_1010_1010 - bit_and w 0x1010_1010_1010_1010 / 16) * 10 + bit_and w (bit_and w 0x1010_1010_1010_1010 - bit_and w 0x1010_1010_1010_1010 / 16) / 256
     ≡ word (pairs_in (map digit_in bs))
 pairs_at bs w l h is = grind (arith, digits_are, pairs_are)
 
-pub sign_at : (bs : List ℕ) (w : ℕ) → length bs ≡ 8 → AreBytes bs → w ≡ word bs
+pub sign_at : (bs : List ℕ) (w : ℕ) → length bs ≡ 8 → AreBelow 256 bs → w ≡ word bs
     → not (bit_and w (bit_and w 0x1010_1010_1010_1010 - bit_and w 0x1010_1010_1010_1010 / 16) == bit_and w 0x0F0F_0F0F_0F0F_0F0F) ≡ has_sign bs
 sign_at bs w l h is = grind (arith, digits_are, lows_are)
 
@@ -183,43 +147,26 @@ size_decimal n h = decimal_by_steps (λ m ds. size_from 0 ds ≡ m) (λ m small.
 pub size_part : (n p : ℕ) → p < 1000 → size_from n (padded 3 p) ≡ n * 1000 + p
 size_part n p h = grind (arith, three_digits, digit_shown)
 
--- digits and blanks
-abbrev ArePlain : List ℕ → Type 0
-ArePlain [] = ⊤
-ArePlain (b ∷ bs) = (digit_in b ≡ low_in b) × ArePlain bs
+-- a digit or a blank
+abbrev IsBlankOrDigit : ℕ → Type 0
+IsBlankOrDigit b = digit_in b ≡ low_in b
 
-plain_append : (xs ys : List ℕ) → ArePlain xs → ArePlain ys → ArePlain (xs ++ ys)
-plain_append [] ys h k = k
-plain_append (x ∷ xs) ys h k = (h.0, plain_append xs ys h.1 k)
+plain_digit : (d : ℕ) → d < 10 → IsBlankOrDigit (48 + d)
+plain_digit d h = digit_shown d h ∙ omega (arith, h)
 
-plain_take : (n : ℕ) (xs : List ℕ) → ArePlain xs → ArePlain (take n xs)
-plain_take zero xs h = tt
-plain_take (suc n) [] h = tt
-plain_take (suc n) (x ∷ xs) h = (h.0, plain_take n xs h.1)
+plain_decimal : (n : ℕ) → n < 2 ^ 64 → All IsBlankOrDigit (decimal n)
+plain_decimal n h =
+    decimal_by_steps (λ m ds. All IsBlankOrDigit ds) (λ m small. All-replicate IsBlankOrDigit 1 (48 + m) (plain_digit m small))
+    (λ m ds big before. All-push IsBlankOrDigit ds (48 + m % 10) before (plain_digit (m % 10) (omega arith))) n h
 
-plain_blanks : (k : ℕ) → ArePlain (replicate k 32)
-plain_blanks zero = tt
-plain_blanks (suc k) = (refl, plain_blanks k)
+same_words : (bs : List ℕ) → All IsBlankOrDigit bs → word (map digit_in bs) ≡ word (map low_in bs)
+same_words [] h = refl
+same_words (b ∷ bs) h = ap₂ (λ x y. x + 256 * y) (All-head IsBlankOrDigit b bs h) (same_words bs (All-tail IsBlankOrDigit b bs h))
 
-plain_digit : (d : ℕ) → d < 10 → ArePlain ((48 + d) ∷ [])
-plain_digit d h = (digit_shown d h ∙ omega (arith, h), tt)
-
-plain_decimal : (n : ℕ) → n < 2 ^ 64 → ArePlain (decimal n)
-plain_decimal n h = decimal_by_steps (λ m ds. ArePlain ds) plain_digit (λ m ds big before. plain_append ds ((48 + m % 10) ∷ []) before (plain_digit (m % 10) (omega arith))) n h
-
-same_eq : (n : ℕ) → not (n == n) ≡ false
-same_eq n = grind arith
-
-no_sign : (bs : List ℕ) → ArePlain bs → has_sign bs ≡ false
-no_sign bs h = ap (λ x. not (x == word (map low_in bs))) (same bs h) ∙ same_eq (word (map low_in bs)) where
-  same : (bs : List ℕ) → ArePlain bs → word (map digit_in bs) ≡ word (map low_in bs)
-  same [] h = refl
-  same (b ∷ bs) h = ap₂ (λ x y. x + 256 * y) h.0 (same bs h.1)
-
-no_minus : (bs : List ℕ) (i : ℕ) → ArePlain bs → (get_or bs i 0 == 45) ≡ false
+no_minus : (bs : List ℕ) (i : ℕ) → All IsBlankOrDigit bs → (get_or bs i 0 == 45) ≡ false
 no_minus [] i h = refl
-no_minus (b ∷ bs) zero h = grind (arith, eqb-true)
-no_minus (b ∷ bs) (suc i) h = no_minus bs i h.1
+no_minus (b ∷ bs) zero h = let plain = All-head IsBlankOrDigit b bs h in grind (arith, eqb-true)
+no_minus (b ∷ bs) (suc i) h = no_minus bs i (All-tail IsBlankOrDigit b bs h)
 
 at_most : (bs : List ℕ) → word (map digit_in bs) ≤ word (map low_in bs)
 at_most [] = omega arith
@@ -235,13 +182,14 @@ some_sign z k ds h = grind (arith, less)
 
 -- the sign in ten columns before a point
 pub sign_plain : (z : ℕ) (w : ℕ) → w < 2 ^ 64 → (has_sign (take 8 (replicate z 32 ++ decimal w)) || get_or (replicate z 32 ++ decimal w) 8 0 == 45) ≡ false
-sign_plain z w h = grind (arith, plain_append, plain_blanks, plain_decimal, no_sign, plain_take, no_minus)
+sign_plain z w h =
+    let all = All-append IsBlankOrDigit (replicate z 32) (decimal w) (All-replicate IsBlankOrDigit z 32 refl) (plain_decimal w h) in
+    let front = take 8 (replicate z 32 ++ decimal w) in
+    or_from (has_sign front) _ (ap not (eq-eqb _ _ (same_words front (All-take IsBlankOrDigit 8 _ all)))) (no_minus _ 8 all)
 
 pub sign_minus : (z : ℕ) (ds : List ℕ) → z ≤ 8 → (has_sign (take 8 (replicate z 32 ++ 45 ∷ ds)) || get_or (replicate z 32 ++ 45 ∷ ds) 8 0 == 45) ≡ true
 sign_minus z ds h =
     elim (cases_lt z 8) [
-      | inl early ↦ ap (λ a. a || get_or (replicate z 32 ++ 45 ∷ ds) 8 0 == 45) (some_sign z 8 ds early)
-      | inr last ↦
-          let e : z ≡ 8 = omega (arith, h, last) in
-          ap (λ k. has_sign (take 8 (replicate k 32 ++ 45 ∷ ds)) || get_or (replicate k 32 ++ 45 ∷ ds) 8 0 == 45) e ∙ or_right (has_sign (take 8 (replicate 8 32 ++ 45 ∷ ds))) true refl
+      | inl early ↦ or_left _ _ (some_sign z 8 ds early)
+      | inr last ↦ or_right _ _ (eq-eqb _ 45 (get_or_at (replicate z 32) 45 ds 0 8 (length-replicate z 32 ∙ omega (arith, h, last))))
     ]

@@ -14,34 +14,27 @@ use Rattle.rinex_file.specs.Words.{word, digits_onto, eight_digits, leading, spa
 
 -- ---- the bytes of a word
 
-abbrev pub AreBytes : List ℕ → Type 0
-AreBytes [] = ⊤
-AreBytes (b ∷ bs) = (b < 256) × AreBytes bs
+-- each is less than n
+abbrev pub AreBelow : ℕ → List ℕ → Type 0
+AreBelow n [] = ⊤
+AreBelow n (b ∷ bs) = (b < n) × AreBelow n bs
 
-byte_at : (bs : List ℕ) → AreBytes bs → (i : ℕ) → get_or bs i 0 < 256
+byte_at : (bs : List ℕ) → AreBelow 256 bs → (i : ℕ) → get_or bs i 0 < 256
 byte_at [] h i = omega arith
 byte_at (b ∷ bs) h zero = h.0
 byte_at (b ∷ bs) h (suc i) = byte_at bs h.1 i
 
-pub bytes_of : (a b c d e f g h : ℕ) → AreBytes (a ∷ b ∷ c ∷ d ∷ e ∷ f ∷ g ∷ h ∷ [])
+pub bytes_of : (a b c d e f g h : ℕ) → AreBelow 256 (a ∷ b ∷ c ∷ d ∷ e ∷ f ∷ g ∷ h ∷ [])
     → to_le_bytes w64 (word (a ∷ b ∷ c ∷ d ∷ e ∷ f ∷ g ∷ h ∷ [])) ≡ a ∷ b ∷ c ∷ d ∷ e ∷ f ∷ g ∷ h ∷ []
 bytes_of a b c d e f g h are = le_bytes_8 (a ∷ b ∷ c ∷ d ∷ e ∷ f ∷ g ∷ h ∷ []) (word (a ∷ b ∷ c ∷ d ∷ e ∷ f ∷ g ∷ h ∷ [])) refl (byte_at (a ∷ b ∷ c ∷ d ∷ e ∷ f ∷ g ∷ h ∷ []) are) (omega arith)
 
 -- what holds of eight elements
 pub eight : (P : List ℕ → Type 0) → ((a b c d e f g h : ℕ) → P (a ∷ b ∷ c ∷ d ∷ e ∷ f ∷ g ∷ h ∷ [])) → (bs : List ℕ) → length bs ≡ 8 → P bs
 eight P all (a ∷ b ∷ c ∷ d ∷ e ∷ f ∷ g ∷ h ∷ []) l = all a b c d e f g h
-eight P all [] l = cc
-eight P all (a ∷ []) l = absurd (omega (arith, l))
-eight P all (a ∷ b ∷ []) l = absurd (omega (arith, l))
-eight P all (a ∷ b ∷ c ∷ []) l = absurd (omega (arith, l))
-eight P all (a ∷ b ∷ c ∷ d ∷ []) l = absurd (omega (arith, l))
-eight P all (a ∷ b ∷ c ∷ d ∷ e ∷ []) l = absurd (omega (arith, l))
-eight P all (a ∷ b ∷ c ∷ d ∷ e ∷ f ∷ []) l = absurd (omega (arith, l))
-eight P all (a ∷ b ∷ c ∷ d ∷ e ∷ f ∷ g ∷ []) l = absurd (omega (arith, l))
-eight P all (a ∷ b ∷ c ∷ d ∷ e ∷ f ∷ g ∷ h ∷ i ∷ bs) l = absurd (omega (arith, l))
+eight P all bs l = absurd (omega (arith, l))
 
-eight_bytes : (bs : List ℕ) → length bs ≡ 8 → AreBytes bs → to_le_bytes w64 (word bs) ≡ bs
-eight_bytes bs l are = eight (λ xs. AreBytes xs → to_le_bytes w64 (word xs) ≡ xs) bytes_of bs l are
+eight_bytes : (bs : List ℕ) → length bs ≡ 8 → AreBelow 256 bs → to_le_bytes w64 (word bs) ≡ bs
+eight_bytes bs l are = eight (λ xs. AreBelow 256 xs → to_le_bytes w64 (word xs) ≡ xs) bytes_of bs l are
 
 -- ---- pairs of digits
 
@@ -58,24 +51,11 @@ odd : (k n : ℕ) → n % 2 ≡ 1 → count_trailing_zeros (suc k) n ≡ 0
 unfolding count_trailing_zeros
 odd k n e = ap (λ d. under d (count_trailing_zeros k (n / 2))) e
 
-twice : (k m : ℕ) → count_trailing_zeros (suc k) (2 * m) ≡ suc (count_trailing_zeros k m)
-twice k m = even k (2 * m) (omega arith) ∙ ap (λ n. suc (count_trailing_zeros k n)) (omega arith)
-
-four_times : (k m : ℕ) → count_trailing_zeros (suc (suc (suc (suc k)))) (16 * m) ≡ 4 + count_trailing_zeros k m
-four_times k m =
-    let join : 16 * m ≡ 2 * (2 * (2 * (2 * m))) = omega arith in
-    let t : ℕ = count_trailing_zeros k m in
-    let four : suc (suc (suc (suc t))) ≡ 4 + t = omega arith in
-    ap (count_trailing_zeros (suc (suc (suc (suc k))))) join
-    ∙ twice (suc (suc (suc k))) (2 * (2 * (2 * m))) ∙ ap suc (twice (suc (suc k)) (2 * (2 * m)) ∙ ap suc (twice (suc k) (2 * m) ∙ ap suc (twice k m))) ∙ four
-
-zero_byte : (k m : ℕ) → count_trailing_zeros (8 + k) (0 + 256 * m) ≡ 8 + count_trailing_zeros k m
-zero_byte k m =
-    let size : 8 + k ≡ suc (suc (suc (suc (suc (suc (suc (suc k))))))) = omega arith in
-    let join : 0 + 256 * m ≡ 16 * (16 * m) = omega arith in
-    let t : ℕ = count_trailing_zeros k m in
-    let sum : 4 + (4 + t) ≡ 8 + t = omega arith in
-    ap₂ count_trailing_zeros size join ∙ four_times (suc (suc (suc (suc k)))) (16 * m) ∙ ap (λ n. 4 + n) (four_times k m) ∙ sum
+zeros : (j k m : ℕ) → count_trailing_zeros (j + k) (2 ^ j * m) ≡ j + count_trailing_zeros k m
+zeros zero k m = grind arith
+zeros (suc j) k m =
+    let twice : 2 ^ suc j * m ≡ 2 * (2 ^ j * m) = ap (λ t. t * m) (pow-suc 2 j) ∙ omega arith in
+    grind (arith, (even (j + k) (2 * (2 ^ j * m)) (omega arith)), (zeros j k m))
 
 -- a digit other than zero has a bit
 at_most : (a b : ℕ) → a ≡ b → b ≤ 3 → a ≤ 3
@@ -84,29 +64,14 @@ at_most a b e h = omega (arith, e, h)
 some_bit : (k n : ℕ) → 0 < n % 16 → count_trailing_zeros (suc (suc (suc (suc k)))) n ≤ 3
 some_bit k n some = grind (arith, cases_lt, at_most, odd, even)
 
-abbrev pub AreDigits : List ℕ → Type 0
-AreDigits [] = ⊤
-AreDigits (d ∷ ds) = (d < 10) × AreDigits ds
-
-add_eight : (n : ℕ) → (8 + n) / 8 ≡ suc (n / 8)
-add_eight n = omega arith
-
-no_eight : (n : ℕ) → n ≤ 3 → n / 8 ≡ 0
-no_eight n h = omega (arith, h)
-
-low_bits : (d m : ℕ) → suc d < 10 → 0 < (suc d + 256 * m) % 16
-low_bits d m h = omega (arith, h)
-
 -- the number of bytes of 0 at the low end of a word of digits
-pub low_zeros : (ds : List ℕ) → AreDigits ds → count_trailing_zeros (8 * length ds) (word ds) / 8 ≡ leading ds
+pub low_zeros : (ds : List ℕ) → AreBelow 10 ds → count_trailing_zeros (8 * length ds) (word ds) / 8 ≡ leading ds
 unfolding count_trailing_zeros
 low_zeros [] h = refl
-low_zeros (zero ∷ ds) h =
-    let size : 8 * suc (length ds) ≡ 8 + 8 * length ds = omega arith in
-    ap (λ k. count_trailing_zeros k (0 + 256 * word ds) / 8) size ∙ ap (λ n. n / 8) (zero_byte (8 * length ds) (word ds)) ∙ add_eight (count_trailing_zeros (8 * length ds) (word ds)) ∙ ap suc (low_zeros ds h.1)
+low_zeros (zero ∷ ds) h = grind (arith, (zeros 8 (8 * length ds) (word ds)), (low_zeros ds h.1))
 low_zeros (suc d ∷ ds) h =
     let size : 8 * suc (length ds) ≡ suc (suc (suc (suc (4 + 8 * length ds)))) = omega arith in
-    ap (λ k. count_trailing_zeros k (suc d + 256 * word ds) / 8) size ∙ no_eight _ (some_bit (4 + 8 * length ds) (suc d + 256 * word ds) (low_bits d (word ds) h.0))
+    grind (arith, size, (some_bit (4 + 8 * length ds) (suc d + 256 * word ds) (omega (arith, h.0))))
 
 -- ---- columns with blanks
 
@@ -119,11 +84,11 @@ spaced_word [] = refl
 spaced_word (zero ∷ ds) = let more = spaced_word ds in omega (arith, more)
 spaced_word (suc d ∷ ds) = all_digits (suc d ∷ ds)
 
-digit_bytes : (ds : List ℕ) → AreDigits ds → AreBytes (map (λ x. 48 + x) ds)
+digit_bytes : (ds : List ℕ) → AreBelow 10 ds → AreBelow 256 (map (λ x. 48 + x) ds)
 digit_bytes [] h = tt
 digit_bytes (d ∷ ds) h = (omega (arith, h.0), digit_bytes ds h.1)
 
-spaced_bytes : (ds : List ℕ) → AreDigits ds → AreBytes (spaced ds)
+spaced_bytes : (ds : List ℕ) → AreBelow 10 ds → AreBelow 256 (spaced ds)
 spaced_bytes [] h = tt
 spaced_bytes (zero ∷ ds) h = (omega arith, spaced_bytes ds h.1)
 spaced_bytes (suc d ∷ ds) h = digit_bytes (suc d ∷ ds) h
@@ -180,7 +145,7 @@ eight_spaced n some small =
     let is : map (λ x. 48 + x) (eight_digits n) ≡ replicate (8 - length (decimal n)) 48 ++ decimal n = sym (padded_digits 7 n [] small (omega (arith, small))) ∙ append-nil (padded 8 n) in
     spaced_is (eight_digits n) (8 - length (decimal n)) (decimal n) is (first_decimal n some (omega (arith, small)))
 
-pub are_digits : (n : ℕ) → n < 10 ^ 8 → AreDigits (eight_digits n)
+pub are_digits : (n : ℕ) → n < 10 ^ 8 → AreBelow 10 (eight_digits n)
 are_digits n small = (omega (arith, small), (omega arith, (omega arith, (omega arith, (omega arith, (omega arith, (omega arith, (omega arith, tt))))))))
 
 -- a whole number ends in its two last digits
