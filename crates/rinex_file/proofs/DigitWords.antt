@@ -7,7 +7,8 @@ use Rattle.std.proofs.lemmas.Bool.{cases_lt, agree_below_at, eqb-true}
 use Rattle.std.proofs.Math.Nat.{pow-suc}
 use Rattle.std.proofs.lemmas.Nat.{le_bytes_8}
 use Rattle.std.proofs.lemmas.Fmt.{decimal_digit, decimal_step, first_decimal, length-decimal-le}
-use Rattle.std.proofs.lemmas.List.{length-map, replicate-append-replicate}
+use Rattle.std.proofs.lemmas.Grind.{replicate_next}
+use Rattle.std.proofs.lemmas.List.{length-map}
 use Rattle.rinex_file.specs.declared.write.digits.TheConstants.{PAIRS}
 use Rattle.rinex_file.specs.Numbers.{padded}
 use Rattle.rinex_file.specs.Words.{word, digits_onto, eight_digits, leading, spaced, front_word, last_columns}
@@ -112,24 +113,22 @@ spaced_is (suc d ∷ ds) (suc z) text e h = absurd (let low : 48 + suc d ≡ 48 
 
 -- ---- a number with leading zeros, digit by digit
 
-pub padded_more : (k n : ℕ) → n < 2 ^ 64 → padded (suc (suc k)) n ≡ padded (suc k) (n / 10) ++ (48 + n % 10) ∷ []
+padded_one : (k n : ℕ) → n < 10 → padded (suc k) n ≡ replicate k 48 ++ (48 + n) ∷ []
+padded_one k n small = grind (arith, decimal_digit)
+
+padded_big : (k n : ℕ) → 10 ≤ n → n < 2 ^ 64 → padded (suc (suc k)) n ≡ padded (suc k) (n / 10) ++ (48 + n % 10) ∷ []
+padded_big k n big fits = grind (arith, decimal_step, length-append, append_assoc)
+
+padded_more : (k n : ℕ) → n < 2 ^ 64 → padded (suc (suc k)) n ≡ padded (suc k) (n / 10) ++ (48 + n % 10) ∷ []
 padded_more k n fits =
     elim (cases_lt n 10) [
       | inl small ↦
-          let zero_tens : n / 10 ≡ 0 = omega (arith, small) in
-          let same : n % 10 ≡ n = omega (arith, small) in
-          let none : decimal (n / 10) ≡ 48 ∷ [] = ap decimal zero_tens ∙ decimal_digit 0 (omega arith) in
-          let a : suc (suc k) - 1 ≡ suc k = omega arith in
-          let b : suc k - 1 ≡ k = omega arith in
-          let c : k + 1 ≡ suc k = omega arith in
-          let split : replicate {A = ℕ} (suc k) 48 ≡ replicate k 48 ++ 48 ∷ [] = ap (λ j. replicate {A = ℕ} j 48) (sym c) ∙ sym (replicate-append-replicate {A = ℕ} k 1 48) in
-          ap (λ d. replicate (suc (suc k) - length d) 48 ++ d) (decimal_digit n small) ∙ ap (λ j. replicate j 48 ++ (48 + n) ∷ []) a ∙ ap (λ t. t ++ (48 + n) ∷ []) split
-          ∙ sym (ap₂ (λ d x. (replicate (suc k - length d) 48 ++ d) ++ (48 + x) ∷ []) none same ∙ ap (λ j. (replicate {A = ℕ} j 48 ++ 48 ∷ []) ++ (48 + n) ∷ []) b)
-      | inr big ↦
-          let d = decimal_step n big fits in
-          let l : length (decimal n) ≡ length (decimal (n / 10)) + 1 = ap length d ∙ length-append (decimal (n / 10)) ((48 + n % 10) ∷ []) in
-          let z : suc (suc k) - length (decimal n) ≡ suc k - length (decimal (n / 10)) = omega (arith, l) in
-          ap₂ (λ j t. replicate j 48 ++ t) z d ∙ sym (append_assoc (replicate (suc k - length (decimal (n / 10))) 48) (decimal (n / 10)) ((48 + n % 10) ∷ []))
+          let tens : n / 10 ≡ 0 = omega (arith, small) in
+          let ones : n % 10 ≡ n = omega (arith, small) in
+          let next : suc k ≡ k + 1 = omega arith in
+          padded_one (suc k) n small ∙ ap (λ t. t ++ (48 + n) ∷ []) (ap (λ j. replicate {A = ℕ} j 48) next ∙ replicate_next k 48 ∙ sym (padded_one k 0 (omega arith)))
+          ∙ sym (ap₂ (λ t x. padded (suc k) t ++ (48 + x) ∷ []) tens ones)
+      | inr big ↦ padded_big k n big fits
     ]
 
 tenth : (k n : ℕ) → n < 10 ^ suc k → n / 10 < 10 ^ k
@@ -188,14 +187,8 @@ last_bytes tens ones part lost strength t o p l s = grind (arith, bytes_of, thre
 pub one_digit : (n w first last z part lost strength : ℕ) → AreFirst n first z → n ≡ 0 → w < 10 → part < 1000 → lost < 256 → strength < 256
     → last ≡ word (last_columns (48 + w / 10) (w % 10) part lost strength) → AreColumns first (last - 16) 9 w part lost strength
 one_digit n w first last z part lost strength are none small p l s is =
-    let d = decimal_digit w small in
-    let zero_tens : w / 10 ≡ 0 = omega (arith, small) in
-    let same : w % 10 ≡ w = omega (arith, small) in
-    let less : last - 16 ≡ word (last_columns 32 w part lost strength) = ap (λ k. k - 16) (is ∙ ap₂ (λ a b. word (last_columns (48 + a) b part lost strength)) zero_tens same) ∙ omega arith in (
-      ap (λ t. 9 + length t) d,
-      ap₂ (λ a b. a ++ b) (are.0 ∙ ap (λ k. spaced (eight_digits k)) none) (ap (to_le_bytes w64) less ∙ last_bytes 32 w part lost strength (omega arith) small p l s)
-          ∙ ap (λ t. replicate 9 32 ++ (t ++ (46 ∷ padded 3 part ++ lost ∷ strength ∷ []))) (sym d),
-    )
+    let less : last - 16 ≡ word (last_columns 32 w part lost strength) = omega (arith, is, small) in
+    grind (arith, decimal_digit, less, (last_bytes 32 w part lost strength (omega arith) small p l s))
 
 -- a whole part of two digits
 pub two_more : (n w first last z part lost strength : ℕ) → AreFirst n first z → n ≡ 0 → 10 ≤ w → w < 100 → part < 1000 → lost < 256 → strength < 256

@@ -1,5 +1,5 @@
 -- The line of a satellite is read back, so it determines the satellite.
-use Rattle.std.proofs.Common.{arith, lit≤, ◌≡◌, ℕ, suc, ◌+◌, ◌-◌, ◌*◌, ◌/◌, ◌%◌, ◌^◌, ◌<◌, ◌≤◌, List, [], ◌∷◌, ◌++◌, length, take, drop, replicate, get_or, refl, sym, ap, ap₂, ◌∙◌, append_assoc, length-append, append-nil, ℤ, pos, negsuc, unsigned_abs, to_z, of_z, w64, Option, Some, None, IfSome}
+use Rattle.std.proofs.Common.{arith, ◌≡◌, ℕ, suc, ◌+◌, ◌-◌, ◌*◌, ◌/◌, ◌%◌, ◌^◌, ◌<◌, ◌≤◌, List, [], ◌∷◌, ◌++◌, length, take, drop, replicate, get_or, refl, sym, ap, ap₂, ◌∙◌, append_assoc, length-append, append-nil, ℤ, pos, negsuc, unsigned_abs, to_z, of_z, w64, Option, Some, None, IfSome}
 use Rattle.std.specs.Prelude.{if◌then◌else◌, ◌||◌, ◌==◌, Bool, neg_ℤ, decimal, flat_map, All}
 use Rattle.std.proofs.lemmas.Fmt.{decimal_nonempty}
 use Rattle.rinex_file.proofs.Columns.{length-three}
@@ -14,7 +14,6 @@ use Rattle.rinex_file.specs.Read.Fields.{digits_in}
 use Rattle.rinex_file.proofs.Digits.{length-fixed, length-right, digits_in-padded, length-padded, not_negative}
 use Rattle.gnss_obs.specs.Satellites.{satellites}
 use Rattle.gnss_obs.specs.declared.system.System.{System}
-use Rattle.gnss_obs.specs.declared.system.System.TheVariants.{Gps, Galileo}
 use Rattle.obs_epoch.specs.Values.{HasTwelveDigits}
 use Rattle.rinex_file.specs.Value.{SignalValues, Row, SatelliteRow}
 use Rattle.rinex_file.specs.FileValues.{FitsColumns, HaveRoom, AreSignalValues, IsFrom, IsRow}
@@ -31,27 +30,21 @@ least n h = let low = h.0 in omega (arith, ints)
 
 -- a value of at most twelve digits fits its columns
 pub if_fits : (o : Option ℤ) → IfSome o HasTwelveDigits → IfSome o FitsColumns
-if_fits None h = tt
-if_fits (Some v) h = (omega (arith, ints, h), omega (arith, ints, h))
+if_fits o h = grind (arith, ints)
 
 pub length-value : (v : ℤ) → FitsColumns v → length (fixed 3 v) ≤ 14
 length-value (pos n) h =
     let bound = most n h in
     let l = length-fixed 3 10 (pos n) (omega arith) (omega arith) (omega (arith, bound)) (omega (arith, bound)) in
-    let none : length (sign_text (is_negative (pos n))) ≡ 0 = ap (λ b. length (sign_text b)) (not_negative n) in
-    omega (arith, l, none)
-length-value (negsuc n) h =
-    let bound = least n h in
-    length-fixed 3 9 (negsuc n) (omega arith) (omega arith) (omega (arith, bound)) (omega (arith, bound))
+    omega (arith, l, ap (λ b. length (sign_text b)) (not_negative n))
+length-value (negsuc n) h = let bound = least n h in length-fixed 3 9 (negsuc n) (omega arith) (omega arith) (omega (arith, bound)) (omega (arith, bound))
 
 pub small_value : (v : ℤ) → FitsColumns v → unsigned_abs v < 2 ^ 64
-small_value (pos n) h = let bound = most n h in omega (arith, bound)
-small_value (negsuc n) h = let bound = least n h in omega (arith, bound)
+small_value v h = grind (arith, ints, most, least)
 
 -- it fits 64 bits, so the code's value is the number
 pub stays : (v : ℤ) → FitsColumns v → to_z w64 (of_z w64 v) ≡ v
-stays (pos n) h = let bound = most n h in to_z-of_z w64 (pos n) (fits_signed_from_abs w64 (pos n) (omega (arith, bound)))
-stays (negsuc n) h = let bound = least n h in to_z-of_z w64 (negsuc n) (fits_signed_from_abs w64 (negsuc n) (omega (arith, bound)))
+stays v h = to_z-of_z w64 v (fits_signed_from_abs w64 v (grind (arith, ints, most, least)))
 
 two_after : (xs : List ℕ) (a b : ℕ) → length xs ≡ 14 → length (xs ++ a ∷ b ∷ []) ≡ 16
 two_after xs a b l = simp length-append (omega (arith, l))
@@ -160,12 +153,10 @@ lli_read : (m : ℕ) → m < 4 → digits_in (lli_byte m ∷ []) ≡ m
 lli_read m h = grind arith
 
 lli_shown : (v : Option ℤ) (m : ℕ) → m < 4 → (v ≡ None → m ≡ 0) → digits_in (shown v (lli_byte m) ∷ []) ≡ m
-lli_shown None m h none = sym (none refl)
-lli_shown (Some v) m h none = lli_read m h
+lli_shown v m h none = grind (arith, lli_read)
 
 pub strength_fits : (s : Option ℤ) → IfSome s (IsFrom (pos 1) (pos 99_999)) → IfSome s FitsColumns
-strength_fits None h = tt
-strength_fits (Some s) h = let low = h.0 in let high = h.1 in (omega (arith, ints), omega (arith, ints))
+strength_fits s h = grind (arith, ints)
 
 -- the parts of a record of five
 abbrev made : Option ℤ → Option ℤ → Option ℤ → Option ℤ → ℕ → SignalValues
@@ -230,9 +221,6 @@ entries_in-text (e ∷ es) all =
 
 -- ---- the line
 
-same_row : (x y : Row) → x.satellite ≡ y.satellite → x.signal_values ≡ y.signal_values → x ≡ y
-same_row x y p q = ap₂ (λ (n : ℕ) (es : List SignalValues). record { satellite = n; signal_values = es }) p q
-
 row_lengths : (letter : ℕ) (p f : List ℕ) (n : ℕ) → length p ≡ 2 → length f ≡ 64 * n → length (letter ∷ (p ++ f)) ≡ 3 + 64 * n
 row_lengths letter p f n k l = ap suc (length-append p f) ∙ omega (arith, k, l)
 
@@ -250,7 +238,7 @@ module _ (letter signals : ℕ) (r : Row) (most : ℕ) (is : IsRow most signals 
   row_in-text =
       let p = padded 2 r.satellite in
       let f = flat_map signal_text r.signal_values in
-      same_row (row_in signals (row_text letter r)) r
+      ap₂ (λ (n : ℕ) (es : List SignalValues). record { satellite = n; signal_values = es })
       (ap digits_in (take_at p f 2 two) ∙ digits_in-padded 2 r.satellite (omega arith) small (omega (arith, small)))
       (ap (signals_in signals) (drop_at p f 2 two) ∙ ap (λ n. signals_in n f) (sym is.whole) ∙ entries_in-text r.signal_values is.signal_values)
 
@@ -263,19 +251,14 @@ row_in-line letter signals r most is few =
 -- ---- the first letter
 
 letter_is : (s : System) → letter_of s ≡ 32 → ⊥
-letter_is Gps e = absurd (omega (arith, e))
-letter_is Galileo e = absurd (omega (arith, e))
+letter_is s e = grind arith
 
 pub front_line : (s : SatelliteRow) → satellite_line s ≡ letter_of s.system ∷ (trimmed (padded 2 s.row.satellite ++ flat_map signal_text s.row.signal_values) ++ 10 ∷ [])
 unfolding satellite_line
 front_line s = ap (λ t. t ++ 10 ∷ []) (trimmed-front (letter_of s.system) (padded 2 s.row.satellite ++ flat_map signal_text s.row.signal_values) (letter_is s.system))
 
 pub few_satellites : (s : System) → satellites s ≤ 36
-few_satellites Gps = lit≤ tt
-few_satellites Galileo = lit≤ tt
-
-same_seen : (s t : SatelliteRow) → s.system ≡ t.system → s.row ≡ t.row → s ≡ t
-same_seen s t e f = ap₂ (λ (system : System) (row : Row). record { system = system; row = row }) e f
+few_satellites s = grind arith
 
 -- ---- a satellite is read from its line, padded with blanks
 
@@ -284,5 +267,5 @@ pub seen_in-line : (system : System) (signals : ℕ) (v : SatelliteRow) (line fi
 unfolding satellite_line
 seen_in-line system signals v line filled same is e fill =
     let text = trimmed (row_text (letter_of v.system) v.row) in
-    same_seen (satellite_row_in system signals filled) v (sym same)
+    ap₂ (λ (system : System) (row : Row). record { system = system; row = row }) (sym same)
     (ap (row_in signals) (fill text e) ∙ row_in-line (letter_of v.system) signals v.row (satellites system) is (omega (arith, few_satellites system)))
