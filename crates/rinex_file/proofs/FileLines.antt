@@ -1,8 +1,9 @@
 -- The lines of a file value are lines, and none is longer than the largest line that is read.
-use Rattle.std.proofs.Common.{arith, lit≤, ◌≡◌, ◌∙◌, ap, refl, sym, subst, ℕ, suc, ◌+◌, ◌*◌, ◌^◌, ◌<◌, ◌≤◌, ℤ, pos, false, Option, Some, None, IfSome, List, [], ◌∷◌, ◌++◌, length, replicate, decimal, get_or, append_assoc}
+use Rattle.std.proofs.Common.{arith, lit≤, ◌≡◌, ◌∙◌, ap, refl, sym, subst, ℕ, ◌+◌, ◌*◌, ◌^◌, ◌<◌, ◌≤◌, ℤ, pos, false, Option, Some, None, IfSome, List, [], ◌∷◌, ◌++◌, length, replicate, decimal, get_or, append_assoc}
 use Rattle.std.specs.Prelude.{◌==◌, ◌||◌, map, flat_map, All, codes}
+use Rattle.std.specs.List.{AllByRecursion}
 use Rattle.std.proofs.lemmas.Bool.{or_parts}
-use Rattle.std.proofs.lemmas.List.Elements.{All-head, All-tail, All-cons, All-append, All-map}
+use Rattle.std.proofs.lemmas.List.Elements.{All-nil, All-head, All-tail, All-cons, All-append, All-map}
 use Rattle.gnss_obs.specs.Satellites.{satellites}
 use Rattle.gnss_obs.specs.declared.system.System.TheVariants.{Gps, Galileo}
 use Rattle.obs_epoch.specs.declared.cell.StationValues.{StationValues}
@@ -24,7 +25,7 @@ use Rattle.rinex_file.proofs.KeptFile.{either_few}
 use Rattle.rinex_file.proofs.Cuts.{filled, length-trimmed}
 use Rattle.rinex_file.proofs.Digits.{has-append, has-right, lacks-padded, length-right, length-padded}
 use Rattle.rinex_file.proofs.FewRows.{few_rows}
-use Rattle.rinex_file.proofs.PlainTexts.{Clean, clean-fixed, IsPlain, plain-wider, plain-append, plain-padded, ArePlain, plain-joined}
+use Rattle.rinex_file.proofs.PlainTexts.{clean-fixed, IsPlain, plain-append, plain-padded, plain, plain-flat_map, plain-joined, also}
 use Rattle.rinex_file.proofs.PlainHeader.{IsFileLine, as_line, of_80, whole_field, second_field, no_letter, few_signals_of, IsShort, short_time, line_of_position, line_of_delta, lines_of_header}
 
 -- ---- epochs
@@ -33,11 +34,8 @@ line_feed_last : (ts : List (List ℕ)) → joined ts ++ 10 ∷ [] ≡ joined (t
 line_feed_last [] = refl
 line_feed_last (t ∷ ts) = append_assoc t (joined ts) (10 ∷ []) ∙ ap (λ l. t ++ l) (line_feed_last ts)
 
-line_of_fields : (ts : List (List ℕ)) → ArePlain 80 ts → length ts ≤ 15 → IsFileLine (joined (ts ++ (10 ∷ []) ∷ []))
+line_of_fields : (ts : List (List ℕ)) → AllByRecursion (IsPlain 80) ts → length ts ≤ 15 → IsFileLine (joined (ts ++ (10 ∷ []) ∷ []))
 line_of_fields ts are few = subst IsFileLine (line_feed_last ts) (as_line (length ts * 80) (joined ts) (plain-joined 80 ts are) (omega (arith, few)))
-
-also : {A B : Type 0} → A → B → A × B
-also first rest = (first, rest)
 
 line_of_epoch : (t : Civil) (n : ℕ) → IsShort t → n < 2 ^ 64 → IsFileLine (epoch_line t n)
 unfolding epoch_line
@@ -45,17 +43,14 @@ line_of_epoch t n is few =
     line_of_fields
     (codes "> " ∷ right 4 (decimal t.year) ∷ codes " " ∷ padded 2 t.month ∷ codes " " ∷ padded 2 t.day ∷ codes " " ∷ padded 2 t.hour ∷ codes " " ∷ padded 2 t.minute
     ∷ right 11 (fixed 7 (pos (t.millisecond * 10_000))) ∷ codes "  0" ∷ right 3 (decimal n) ∷ [])
-    (also (fixed_text (codes "> ") refl (lit≤ tt)) (also (whole_field 4 t.year (lit≤ tt) (wide is.year)) (also blank (also (digits t.month is.month) (also blank (also (digits t.day is.day)
+    (also (plain 80 (codes "> ") refl (lit≤ tt)) (also (whole_field 4 t.year (lit≤ tt) (wide is.year)) (also blank (also (digits t.month is.month) (also blank (also (digits t.day is.day)
     (also blank (also (digits t.hour is.hour) (also blank (also (digits t.minute is.minute) (also (second_field 11 t.millisecond (lit≤ tt) is.millisecond)
-    (also (fixed_text (codes "  0") refl (lit≤ tt)) (also (whole_field 3 n (lit≤ tt) few) tt))))))))))))) (lit≤ tt) where
+    (also (plain 80 (codes "  0") refl (lit≤ tt)) (also (whole_field 3 n (lit≤ tt) few) tt))))))))))))) (lit≤ tt) where
       wide : {m : ℕ} → m < 2 ^ 32 → m < 2 ^ 64
       wide h = omega (arith, h)
 
-      fixed_text : (text : List ℕ) → Clean text → length text ≤ 80 → IsPlain 80 text
-      fixed_text text clean short = record { clean = clean; short = short }
-
       blank : IsPlain 80 (codes " ")
-      blank = record { clean = refl; short = lit≤ tt }
+      blank = plain 80 (codes " ") refl (lit≤ tt)
 
       digits : (m : ℕ) → m < 2 ^ 32 → IsPlain 80 (padded 2 m)
       digits m h = of_80 22 (padded 2 m) (plain-padded 2 m (omega (arith, h))) (lit≤ tt)
@@ -77,8 +72,7 @@ mark_other : (m : ℕ) → m < 4 → lli_byte m ≡ 10 → ⊥
 mark_other m h e = grind arith
 
 strength_other : (s : Option ℤ) → strength_byte s ≡ 10 → ⊥
-strength_other None e = absurd (omega (arith, e))
-strength_other (Some s) e = absurd (omega (arith, e))
+strength_other s e = grind arith
 
 blank_other : ◌≡◌ {A = ℕ} 32 10 → ⊥
 blank_other e = absurd (omega (arith, e))
@@ -94,11 +88,8 @@ plain_entry e h =
     (plain-append 16 32 l (d ++ s) (plain_field e.l (lli_byte e.lli) (strength_byte e.s) h.l (mark_other e.lli h.lli) (strength_other e.s))
     (plain-append 16 16 d s (plain_field e.d 32 32 h.d blank_other blank_other) (plain_field e.s 32 32 (strength_fits e.s h.s) blank_other blank_other)))
 
-plain_entries : (es : List SignalValues) → All AreSignalValues es → IsPlain (64 * length es) (flat_map signal_text es)
-plain_entries [] all = record { clean = refl; short = lit≤ tt }
-plain_entries (e ∷ es) all =
-    plain-wider (64 + 64 * length es) (64 * suc (length es)) (signal_text e ++ flat_map signal_text es) (omega arith)
-    (plain-append 64 (64 * length es) (signal_text e) (flat_map signal_text es) (plain_entry e (All-head AreSignalValues e es all)) (plain_entries es (All-tail AreSignalValues e es all)))
+plain_entries : (es : List SignalValues) → All AreSignalValues es → IsPlain (length es * 64) (flat_map signal_text es)
+plain_entries es all = plain-flat_map 64 signal_text es (λ k d h. plain_entry (get_or es k d) (all k d h))
 
 plain_trimmed : (n : ℕ) (text : List ℕ) → IsPlain n text → IsPlain n (trimmed text)
 plain_trimmed n text is = grind (arith, filled, has-append, length-trimmed, or_parts, (filled text), (sym (has-append 10 (trimmed text) (replicate (filled text).0 32)) ∙ ap (has 10) (filled text).1 ∙ is.clean), (length-trimmed text))
@@ -111,10 +102,10 @@ line_of_row letter signals most r is other few less =
     let count = is.whole in
     let number = is.satellite.1 in
     let small : r.satellite < 100 = omega (arith, number, few) in
-    let columns = plain-append 2 (64 * length r.signal_values) (padded 2 r.satellite) (flat_map signal_text r.signal_values) (plain_number r.satellite small) (plain_entries r.signal_values is.signal_values) in
-    let all = plain-append 1 (2 + 64 * length r.signal_values) (letter ∷ []) (padded 2 r.satellite ++ flat_map signal_text r.signal_values)
+    let columns = plain-append 2 (length r.signal_values * 64) (padded 2 r.satellite) (flat_map signal_text r.signal_values) (plain_number r.satellite small) (plain_entries r.signal_values is.signal_values) in
+    let all = plain-append 1 (2 + length r.signal_values * 64) (letter ∷ []) (padded 2 r.satellite ++ flat_map signal_text r.signal_values)
     (record { clean = ap (λ c. c || false) other; short = lit≤ tt }) columns in
-    as_line (1 + (2 + 64 * length r.signal_values)) (trimmed (row_text letter r)) (plain_trimmed (1 + (2 + 64 * length r.signal_values)) (row_text letter r) all) (omega (arith, count, less))
+    as_line (1 + (2 + length r.signal_values * 64)) (trimmed (row_text letter r)) (plain_trimmed (1 + (2 + length r.signal_values * 64)) (row_text letter r) all) (omega (arith, count, less))
 
 line_of_seen : (gps galileo : ℕ) (s : SatelliteRow) → IsSatelliteRow gps galileo s → gps ≤ 19 → galileo ≤ 19 → IsFileLine (satellite_line s)
 unfolding satellite_line
@@ -132,11 +123,11 @@ unfolding event_line
 event_is_line = as_line 35 (codes ">" ++ (replicate 30 32 ++ codes "4  2")) (record { clean = refl; short = lit≤ tt }) (lit≤ tt)
 
 lines_of_change : (v : StationValues) (c : Option StationValues) → IsChange v c → All IsFileLine (change_lines c)
-lines_of_change v None is = λ k d h. absurd (omega (arith, h))
+lines_of_change v None is = All-nil IsFileLine
 lines_of_change v (Some w) is =
     All-cons IsFileLine event_line (position_line w ∷ delta_line w ∷ []) event_is_line
     (All-cons IsFileLine (position_line w) (delta_line w ∷ []) (line_of_position w is.0)
-    (All-cons IsFileLine (delta_line w) [] (line_of_delta w is.0) (λ k d h. absurd (omega (arith, h)))))
+    (All-cons IsFileLine (delta_line w) [] (line_of_delta w is.0) (All-nil IsFileLine)))
 
 lines_of_stamped : (gps galileo : ℕ) (v : StationValues) (e : Stamped) → IsStamped gps galileo e → IsChange v e.change → gps ≤ 19 → galileo ≤ 19 → All IsFileLine (stamped_lines e)
 lines_of_stamped gps galileo v e is change few less =
@@ -148,14 +139,14 @@ lines_of_stamped gps galileo v e is change few less =
     (All-map IsFileLine satellite_line e.rows (λ k d h. line_of_seen gps galileo (get_or e.rows k d) (is.rows.each k d h) few less)))
 
 lines_of_epochs : (gps galileo : ℕ) (v : StationValues) (es : List Stamped) → All (IsStamped gps galileo) es → AreChanges v es → gps ≤ 19 → galileo ≤ 19 → All IsFileLine (flat_map stamped_lines es)
-lines_of_epochs gps galileo v [] are changes few less = λ k d h. absurd (omega (arith, h))
+lines_of_epochs gps galileo v [] are changes few less = All-nil IsFileLine
 lines_of_epochs gps galileo v (e ∷ es) are changes few less =
     All-append IsFileLine (stamped_lines e) (flat_map stamped_lines es) (lines_of_stamped gps galileo v e (All-head (IsStamped gps galileo) e es are) changes.0 few less)
     (lines_of_epochs gps galileo (changed_by v e.change) es (All-tail (IsStamped gps galileo) e es are) changes.1 few less)
 
 file_lines_are : (x : HeaderLists) (p : PlanValue) (v : StationValues) (es : List Stamped) → AreTexts x → IsPlan p → AreValues v
     → All (IsStamped (length p.gps) (length p.galileo)) es → AreChanges v es → All IsFileLine (lines_of_file x p v es)
-file_lines_are x p v [] texts plan values are changes = λ k d h. absurd (omega (arith, h))
+file_lines_are x p v [] texts plan values are changes = All-nil IsFileLine
 file_lines_are x p v (e ∷ es) texts plan values are changes =
     let first = All-head (IsStamped (length p.gps) (length p.galileo)) e es are in
     All-append IsFileLine (header_lines x p v (civil_of e.time)) (flat_map stamped_lines (e ∷ es)) (lines_of_header x p v (civil_of e.time) texts plan values (short_time e.time first.time))

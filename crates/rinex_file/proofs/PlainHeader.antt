@@ -1,14 +1,15 @@
 -- The lines of a header are lines, and none is longer than the largest line that is read.
-use Rattle.std.proofs.Common.{arith, lit≤, lit<, ◌≡◌, ap, refl, subst, ℕ, zero, suc, ◌+◌, ◌-◌, ◌*◌, ◌/◌, ◌%◌, ◌^◌, ◌<◌, ◌≤◌, ℤ, pos, negsuc, unsigned_abs, Bool, true, false, List, [], ◌∷◌, ◌++◌, length, replicate, drop, decimal, get_or, append_assoc, length-append}
+use Rattle.std.proofs.Common.{arith, lit≤, lit<, ◌≡◌, ap, refl, subst, ℕ, zero, suc, ◌+◌, ◌-◌, ◌*◌, ◌/◌, ◌%◌, ◌^◌, ◌<◌, ◌≤◌, ℤ, pos, negsuc, unsigned_abs, Bool, true, false, List, [], ◌∷◌, ◌++◌, length, replicate, take, drop, decimal, get_or, append_assoc, length-append}
 use Rattle.std.specs.Prelude.{◌==◌, ◌||◌, ◌&&◌, not, if◌then◌else◌, nat_lt, nat_le, flat_map, All, codes, slice_get}
-use Rattle.std.specs.List.{list_all}
+use Rattle.std.specs.List.{AllByRecursion, list_all}
 use Rattle.std.specs.Option.{option_map_or}
+use Rattle.std.proofs.lemmas.Bool.{cond_both}
 use Rattle.std.proofs.lemmas.Int.{ints}
-use Rattle.std.proofs.lemmas.List.Elements.{All-head, All-tail, All-cons, All-map, All-drop}
+use Rattle.std.proofs.lemmas.List.{length-take}
+use Rattle.std.proofs.lemmas.List.Elements.{All-nil, All-head, All-tail, All-cons, All-append, All-map, All-take, All-drop, All-replicate}
 use Rattle.gnss_obs.specs.Signals.{code_of}
 use Rattle.gnss_obs.specs.declared.tables.ListedSignal.{ListedSignal as TableEntry}
 use Rattle.gnss_obs.specs.declared.system.System.{System}
-use Rattle.gnss_obs.specs.declared.system.System.TheVariants.{Gps, Galileo}
 use Rattle.obs_epoch.specs.declared.cell.StationValues.{StationValues}
 use Rattle.obs_epoch.specs.declared.civil.Civil.{Civil}
 use Rattle.obs_epoch.specs.Dates.{YearMonthDay, month_on, year_on, month_length, year_length, date_of, civil_with, civil_of}
@@ -29,7 +30,7 @@ use Rattle.rinex_file.proofs.Entries.{few_signals}
 use Rattle.rinex_file.proofs.HeaderText.{few_columns}
 use Rattle.rinex_file.proofs.FewRows.{few_planned}
 use Rattle.rinex_file.proofs.TypeRows.{length-system_types}
-use Rattle.rinex_file.proofs.PlainTexts.{both, Clean, IsPlain, plain-wider, plain-append, plain-left, plain-right, plain-decimal, plain-fixed, ArePlain, plain-joined, plain-spaced, plain-text}
+use Rattle.rinex_file.proofs.PlainTexts.{both, IsPlain, plain-wider, plain-append, plain-left, plain-right, plain-decimal, plain-fixed, plain, plain-flat_map, plain-joined, also, plain-text}
 
 -- ---- a line of a file
 
@@ -43,9 +44,6 @@ as_line n body is few = grind (arith, length-append)
 
 -- ---- lines of the header
 
-plain_label : (label : List ℕ) → Clean label → length label ≤ 20 → IsPlain 20 label
-plain_label label clean short = record { clean = clean; short = short }
-
 header : (n : ℕ) (content label : List ℕ) → IsPlain n content → IsPlain 20 label → n ≤ 600 → IsFileLine (header_line content label)
 unfolding header_line
 header n content label is also few =
@@ -53,7 +51,7 @@ header n content label is also few =
     (as_line ((n + 60) + 40) (left 60 content ++ left 20 label) (plain-append (n + 60) 40 (left 60 content) (left 20 label) (plain-left 60 n content is) (plain-left 20 20 label also)) (omega (arith, few)))
 
 -- fields of up to 80 bytes each
-header_fields : (parts : List (List ℕ)) (label : List ℕ) → ArePlain 80 parts → length parts ≤ 7 → IsPlain 20 label → IsFileLine (header_line (joined parts) label)
+header_fields : (parts : List (List ℕ)) (label : List ℕ) → AllByRecursion (IsPlain 80) parts → length parts ≤ 7 → IsPlain 20 label → IsFileLine (header_line (joined parts) label)
 header_fields parts label are few is = header (length parts * 80) (joined parts) label (plain-joined 80 parts are) is (omega (arith, few))
 
 pub of_80 : (n : ℕ) (text : List ℕ) → IsPlain n text → n ≤ 80 → IsPlain 80 text
@@ -62,13 +60,10 @@ of_80 n text is h = plain-wider n 80 text h is
 -- ---- texts
 
 plain_texts : (x : HeaderLists) → AreTexts x → (fs : List HeaderField) → IsPlain (length fs * 120) (flat_map (text_columns x) fs)
-plain_texts x are [] = record { clean = refl; short = omega arith }
-plain_texts x are (f ∷ fs) =
+plain_texts x are fs = plain-flat_map 120 (text_columns x) fs (λ k d h.
+    let f = get_or fs k d in
     let few = few_columns f in
-    plain-wider (120 + length fs * 120) (suc (length fs) * 120) (flat_map (text_columns x) (f ∷ fs)) (omega arith)
-    (plain-append 120 (length fs * 120) (text_columns x f) (flat_map (text_columns x) fs)
-    (plain-wider (60 + width_of f) 120 (text_columns x f) (omega (arith, few)) (plain-left (width_of f) 60 (text_of x f) (plain-text (width_of f) (text_of x f) (are.each f) few)))
-    (plain_texts x are fs))
+    plain-wider (60 + width_of f) 120 (text_columns x f) (omega (arith, few)) (plain-left (width_of f) 60 (text_of x f) (plain-text (width_of f) (text_of x f) (are.each f) few)))
 
 plain_front : (r : TextRow) → IsPlain 20 (front_of r)
 plain_front r = grind arith
@@ -130,7 +125,7 @@ plain_type : (b : ℕ) (code : List ℕ) → IsPlain 2 code → (b == 10) ≡ fa
 plain_type b code is other = plain-append 1 2 (b ∷ []) code (record { clean = ap (λ c. c || false) other; short = lit≤ tt }) is
 
 types_are_plain : (cs : List (List ℕ)) → All (IsPlain 2) cs → All (IsPlain 3) (types_of cs)
-types_are_plain [] are = λ k d h. absurd (omega (arith, h))
+types_are_plain [] are = All-nil (IsPlain 3)
 types_are_plain (c ∷ cs) are = grind (arith, All-head, All-tail, All-cons, plain_type, (All-head (IsPlain 2) c cs are), (types_are_plain cs (All-tail (IsPlain 2) c cs are)))
 
 front_of_types : (letter types line : ℕ) → (letter == 10) ≡ false → types < 2 ^ 64 → IsPlain 26 (type_front letter types line)
@@ -139,12 +134,17 @@ front_of_types letter types zero other few =
     (plain-right 3 20 (decimal types) (plain-decimal types few))
 front_of_types letter types (suc line) other few = record { clean = refl; short = lit≤ tt }
 
+plain_columns : (types : List (List ℕ)) → All (IsPlain 3) types → IsPlain 52 (flat_map (λ t. 32 ∷ t) (take 13 types))
+plain_columns types are =
+    plain-wider (length (take 13 types) * 4) 52 (flat_map (λ t. 32 ∷ t) (take 13 types)) (omega (arith, length-take 13 types))
+    (plain-flat_map 4 (λ t. 32 ∷ t) (take 13 types) (λ k d h. plain-append 1 3 (32 ∷ []) (get_or (take 13 types) k d) (plain 1 (32 ∷ []) refl (lit≤ tt)) (All-take (IsPlain 3) 13 types are k d h)))
+
 line_of_types : (letter : ℕ) (types : List (List ℕ)) (line : ℕ) → (letter == 10) ≡ false → length types < 2 ^ 64 → All (IsPlain 3) types → IsFileLine (type_line letter types line)
 line_of_types letter types line other few are =
     header (26 + 52) (type_front letter (length types) line ++ type_columns types line) (codes "SYS / # / OBS TYPES")
     (plain-append 26 52 (type_front letter (length types) line) (type_columns types line) (front_of_types letter (length types) line other few)
-    (plain-spaced 3 13 (drop (13 * line) types) (All-drop (IsPlain 3) (13 * line) types are)))
-    (plain_label (codes "SYS / # / OBS TYPES") refl (lit≤ tt)) (lit≤ tt)
+    (plain_columns (drop (13 * line) types) (All-drop (IsPlain 3) (13 * line) types are)))
+    (plain 20 (codes "SYS / # / OBS TYPES") refl (lit≤ tt)) (lit≤ tt)
 
 pub no_letter : (system : System) → (letter_of system == 10) ≡ false
 no_letter system = grind arith
@@ -156,8 +156,7 @@ one_of_types system signals row few =
     line_of_types (letter_of system) types row (no_letter system) (omega (arith, count, few)) (types_are_plain (codes_of system signals) (codes_are_plain system signals))
 
 one_shift : (system : System) → IsFileLine (shift_line system)
-one_shift Gps = header 1 (71 ∷ []) (codes "SYS / PHASE SHIFT") (record { clean = refl; short = lit≤ tt }) (plain_label _ refl (lit≤ tt)) (lit≤ tt)
-one_shift Galileo = header 1 (69 ∷ []) (codes "SYS / PHASE SHIFT") (record { clean = refl; short = lit≤ tt }) (plain_label _ refl (lit≤ tt)) (lit≤ tt)
+one_shift system = header 1 (letter_of system ∷ []) (codes "SYS / PHASE SHIFT") (plain 1 _ (ap (λ c. c || false) (no_letter system)) (lit≤ tt)) (plain 20 _ refl (lit≤ tt)) (lit≤ tt)
 
 -- ---- times
 
@@ -166,23 +165,19 @@ record IsWithin (d : YearMonthDay) (y m k : ℕ) : Type 0 where
   month : d.month ≤ m
   day : d.day ≤ k
 
-either : (b : Bool) (c d : YearMonthDay) (year month day : ℕ) → IsWithin c year month day → IsWithin d year month day → IsWithin (if b then c else d) year month day
-either true c d year month day h k = h
-either false c d year month day h k = k
-
 within_year : (months y m days year month day : ℕ) → y ≤ year → m + months ≤ month → days + 1 ≤ day → IsWithin (month_on months y m days) year month day
 within_year zero y m days year month day h k l = record { year = h; month = omega (arith, k); day = l }
 within_year (suc months) y m days year month day h k l =
-    either (nat_lt days (month_length y m)) (record { year = y; month = m; day = days + 1 }) (month_on months y (m + 1) (days - month_length y m)) year month day
-    (record { year = h; month = omega (arith, k); day = l })
-    (within_year months y (m + 1) (days - month_length y m) year month day h (omega (arith, k)) (omega (arith, l)))
+    cond_both (nat_lt days (month_length y m)) (record { year = y; month = m; day = days + 1 }) (month_on months y (m + 1) (days - month_length y m)) (λ d. IsWithin d year month day)
+    (λ here. record { year = h; month = omega (arith, k); day = l })
+    (λ later. within_year months y (m + 1) (days - month_length y m) year month day h (omega (arith, k)) (omega (arith, l)))
 
 within_years : (years y days year day : ℕ) → y + years ≤ year → days + 1 ≤ day → IsWithin (year_on years y days) year 12 day
 within_years zero y days year day h l = within_year 11 y 1 days year 12 day (omega (arith, h)) (lit≤ tt) l
 within_years (suc years) y days year day h l =
-    either (nat_lt days (year_length y)) (month_on 11 y 1 days) (year_on years (y + 1) (days - year_length y)) year 12 day
-    (within_year 11 y 1 days year 12 day (omega (arith, h)) (lit≤ tt) l)
-    (within_years years (y + 1) (days - year_length y) year day (omega (arith, h)) (omega (arith, l)))
+    cond_both (nat_lt days (year_length y)) (month_on 11 y 1 days) (year_on years (y + 1) (days - year_length y)) (λ d. IsWithin d year 12 day)
+    (λ here. within_year 11 y 1 days year 12 day (omega (arith, h)) (lit≤ tt) l)
+    (λ later. within_years years (y + 1) (days - year_length y) year day (omega (arith, h)) (omega (arith, l)))
 
 -- each part of a date and time of day fits 32 bits
 pub record IsShort (t : Civil) : Type 0 where
@@ -196,12 +191,9 @@ pub record IsShort (t : Civil) : Type 0 where
 short_civil : (d : YearMonthDay) (clock : ℕ) → IsWithin d 3900 12 1_000_000 → clock < 100_000_000 → IsShort (civil_with d clock)
 short_civil d clock is few = grind arith
 
-few_days : (t : ℕ) → IsTime t → (t / day_length + 5) + 1 ≤ 1_000_000
-few_days t h = omega (arith, h)
-
 pub short_time : (t : ℕ) → IsTime t → IsShort (civil_of t)
 short_time t h =
-    short_civil (date_of (t / day_length)) (t % day_length) (within_years 1920 1980 (t / day_length + 5) 3900 1_000_000 (lit≤ tt) (few_days t h))
+    short_civil (date_of (t / day_length)) (t % day_length) (within_years 1920 1980 (t / day_length + 5) 3900 1_000_000 (lit≤ tt) (omega (arith, h)))
     (omega arith)
 
 pub second_field : (width m : ℕ) → width ≤ 20 → m < 2 ^ 32 → IsPlain 80 (right width (fixed 7 (pos (m * 10_000))))
@@ -213,23 +205,9 @@ line_of_first t is =
     header_fields
     (right 6 (decimal t.year) ∷ right 6 (decimal t.month) ∷ right 6 (decimal t.day) ∷ right 6 (decimal t.hour) ∷ right 6 (decimal t.minute)
     ∷ right 13 (fixed 7 (pos (t.millisecond * 10_000))) ∷ codes "     GPS" ∷ [])
-    (codes "TIME OF FIRST OBS") (
-      whole t.year is.year,
-      (
-        whole t.month is.month,
-        (
-          whole t.day is.day,
-          (
-            whole t.hour is.hour,
-            (
-              whole t.minute is.minute,
-              (second_field 13 t.millisecond (lit≤ tt) is.millisecond, (record { clean = refl; short = lit≤ tt }, tt)),
-            ),
-          ),
-        ),
-      ),
-    )
-    (lit≤ tt) (plain_label (codes "TIME OF FIRST OBS") refl (lit≤ tt)) where
+    (codes "TIME OF FIRST OBS")
+    (also (whole t.year is.year) (also (whole t.month is.month) (also (whole t.day is.day) (also (whole t.hour is.hour) (also (whole t.minute is.minute)
+    (also (second_field 13 t.millisecond (lit≤ tt) is.millisecond) (plain 80 (codes "     GPS") refl (lit≤ tt), tt))))))) (lit≤ tt) (plain 20 (codes "TIME OF FIRST OBS") refl (lit≤ tt)) where
       whole : (n : ℕ) → n < 2 ^ 32 → IsPlain 80 (right 6 (decimal n))
       whole n h = whole_field 6 n (lit≤ tt) (omega (arith, h))
 
@@ -244,7 +222,7 @@ version p =
       of_80 (9 + 44) (right 9 (fixed 2 (pos 305))) (plain-right 9 44 (fixed 2 (pos 305)) (plain-fixed 2 (pos 305) (lit< tt))) (lit≤ tt),
       (record { clean = refl; short = lit≤ tt }, (record { clean = refl; short = lit≤ tt }, (system_byte p, tt))),
     )
-    (lit≤ tt) (plain_label (codes "RINEX VERSION / TYPE") refl (lit≤ tt))
+    (lit≤ tt) (plain 20 (codes "RINEX VERSION / TYPE") refl (lit≤ tt))
 
 pub few_signals_of : (p : PlanValue) → IsPlan p → (system : System) → length (planned_of system p) ≤ 19
 few_signals_of p is system = let few = few_planned p is system in let most = few_signals system in omega (arith, few, most)
@@ -253,11 +231,11 @@ few_signals_of p is system = let few = few_planned p is system in let most = few
 
 pub line_of_position : (v : StationValues) → AreValues v → IsFileLine (position_line v)
 line_of_position v values = three_lengths v.x v.y v.z (codes "APPROX POSITION XYZ")
-    (coordinate v.x values.x) (coordinate v.y values.y) (coordinate v.z values.z) (plain_label _ refl (lit≤ tt))
+    (coordinate v.x values.x) (coordinate v.y values.y) (coordinate v.z values.z) (plain 20 _ refl (lit≤ tt))
 
 pub line_of_delta : (v : StationValues) → AreValues v → IsFileLine (delta_line v)
 line_of_delta v values = three_lengths (pos v.height) (pos 0) (pos 0) (codes "ANTENNA: DELTA H/E/N")
-    (let height = values.height in omega (arith, height)) (lit< tt) (lit< tt) (plain_label _ refl (lit≤ tt))
+    (let height = values.height in omega (arith, height)) (lit< tt) (lit< tt) (plain 20 _ refl (lit≤ tt))
 
 -- ---- rows
 
@@ -268,17 +246,16 @@ line_in x p v t texts plan values time (Texts r) = line_of_texts x texts r
 line_in x p v t texts plan values time Position = line_of_position v values
 line_in x p v t texts plan values time Delta = line_of_delta v values
 line_in x p v t texts plan values time (Types s row) = one_of_types s (planned_of s p) row (few_signals_of p plan s)
-line_in x p v t texts plan values time StrengthUnit = header 4 (codes "DBHZ") (codes "SIGNAL STRENGTH UNIT") (record { clean = refl; short = lit≤ tt }) (plain_label _ refl (lit≤ tt)) (lit≤ tt)
+line_in x p v t texts plan values time StrengthUnit = header 4 (codes "DBHZ") (codes "SIGNAL STRENGTH UNIT") (record { clean = refl; short = lit≤ tt }) (plain 20 _ refl (lit≤ tt)) (lit≤ tt)
 line_in x p v t texts plan values time First = line_of_first t time
 line_in x p v t texts plan values time (Shift s) = one_shift s
-line_in x p v t texts plan values time End = header 0 [] (codes "END OF HEADER") (record { clean = refl; short = lit≤ tt }) (plain_label _ refl (lit≤ tt)) (lit≤ tt)
+line_in x p v t texts plan values time End = header 0 [] (codes "END OF HEADER") (record { clean = refl; short = lit≤ tt }) (plain 20 _ refl (lit≤ tt)) (lit≤ tt)
 
 lines_of_rows : (x : HeaderLists) (p : PlanValue) (v : StationValues) (t : Civil) → ((r : HeaderRow) → IsFileLine (row_line x p v t r)) → (rows : List HeaderRow) → All IsFileLine (flat_map (row_lines x p v t) rows)
-lines_of_rows x p v t each [] = λ k d h. absurd (omega (arith, h))
-lines_of_rows x p v t each (r ∷ rows) = by (has_line p r) (lines_of_rows x p v t each rows) where
-  by : (b : Bool) → All IsFileLine (flat_map (row_lines x p v t) rows) → All IsFileLine ((if b then row_line x p v t r ∷ [] else []) ++ flat_map (row_lines x p v t) rows)
-  by true others = All-cons IsFileLine (row_line x p v t r) (flat_map (row_lines x p v t) rows) (each r) others
-  by false others = others
+lines_of_rows x p v t each [] = All-nil IsFileLine
+lines_of_rows x p v t each (r ∷ rows) =
+    All-append IsFileLine (if has_line p r then row_line x p v t r ∷ [] else []) (flat_map (row_lines x p v t) rows)
+    (cond_both (has_line p r) (row_line x p v t r ∷ []) [] (All IsFileLine) (λ has. All-replicate IsFileLine 1 (row_line x p v t r) (each r)) (λ none. All-nil IsFileLine)) (lines_of_rows x p v t each rows)
 
 pub lines_of_header : (x : HeaderLists) (p : PlanValue) (v : StationValues) (t : Civil) → AreTexts x → IsPlan p → AreValues v → IsShort t → All IsFileLine (header_lines x p v t)
 unfolding header_lines

@@ -1,14 +1,14 @@
 -- Texts without a line feed, and their largest lengths.
-use Rattle.std.proofs.Common.{arith, ◌≡◌, ◌∙◌, ap, refl, ℕ, zero, suc, ◌+◌, ◌-◌, ◌*◌, ◌^◌, ◌<◌, ◌≤◌, ℤ, unsigned_abs, Bool, true, false, List, [], ◌∷◌, ◌++◌, length, replicate, decimal, length-append}
-use Rattle.std.specs.Prelude.{◌==◌, ◌||◌, flat_map, take, All, ⊤}
-use Rattle.std.specs.List.{list_all}
+use Rattle.std.proofs.Common.{arith, ◌≡◌, ◌∙◌, ap, refl, ℕ, suc, ◌+◌, ◌-◌, ◌*◌, ◌^◌, ◌<◌, ◌≤◌, ℤ, unsigned_abs, Bool, true, false, List, [], ◌∷◌, ◌++◌, length, replicate, decimal, length-append}
+use Rattle.std.specs.Prelude.{◌==◌, ◌||◌, flat_map, All}
+use Rattle.std.specs.List.{AllByRecursion, list_all}
 use Rattle.std.specs.Fmt.{sign_text}
 use Rattle.std.proofs.Math.Nat.{div-le_self, mod-le}
 use Rattle.std.proofs.lemmas.Fmt.{length-decimal-le}
 pub use Rattle.std.proofs.lemmas.Bool.{and_parts as both}
 use Rattle.std.proofs.lemmas.Bool.{and_parts}
 use Rattle.std.proofs.lemmas.List.{length-replicate}
-use Rattle.std.proofs.lemmas.List.Elements.{All-head, All-tail}
+use Rattle.std.proofs.lemmas.List.Elements.{All-from_recursion, All-head, All-tail}
 use Rattle.rinex_file.specs.Numbers.{joined, left, right, padded, fixed}
 use Rattle.rinex_file.specs.Read.Fields.{has}
 use Rattle.rinex_file.specs.Texts.{is_printable}
@@ -56,30 +56,27 @@ plain-padded places n h = record { clean = lacks-padded 10 places n (omega arith
 pub plain-fixed : (places : ℕ) (z : ℤ) → unsigned_abs z < 2 ^ 64 → IsPlain (places + 42) (fixed places z)
 plain-fixed places z h = record { clean = clean-fixed places z h; short = length-fixed-le places z h }
 
--- ---- fields, one after the other
+-- a text of its own
+pub plain : (n : ℕ) (text : List ℕ) → Clean text → length text ≤ n → IsPlain n text
+plain n text clean short = record { clean = clean; short = short }
 
-abbrev pub ArePlain : ℕ → List (List ℕ) → Type 0
-ArePlain n [] = ⊤
-ArePlain n (t ∷ ts) = IsPlain n t × ArePlain n ts
+-- ---- fields, one after the other
 
 one_more : (n k : ℕ) → n + k * n ≡ suc k * n
 one_more n k = omega arith
 
-pub plain-joined : (n : ℕ) (ts : List (List ℕ)) → ArePlain n ts → IsPlain (length ts * n) (joined ts)
-plain-joined n [] are = record { clean = refl; short = omega arith }
-plain-joined n (t ∷ ts) are =
-    plain-wider (n + length ts * n) (suc (length ts) * n) (t ++ joined ts) (let e = one_more n (length ts) in omega (arith, e))
-    (plain-append n (length ts * n) t (joined ts) are.0 (plain-joined n ts are.1))
+pub plain-flat_map : {X : Type 0} (n : ℕ) (f : X → List ℕ) (xs : List X) → All (λ x. IsPlain n (f x)) xs → IsPlain (length xs * n) (flat_map f xs)
+plain-flat_map n f [] are = record { clean = refl; short = omega arith }
+plain-flat_map n f (x ∷ xs) are =
+    plain-wider (n + length xs * n) (suc (length xs) * n) (f x ++ flat_map f xs) (let e = one_more n (length xs) in omega (arith, e))
+    (plain-append n (length xs * n) (f x) (flat_map f xs) (All-head (λ x. IsPlain n (f x)) x xs are) (plain-flat_map n f xs (All-tail (λ x. IsPlain n (f x)) x xs are)))
 
--- a number of the types
-pub plain-spaced : (n k : ℕ) (ts : List (List ℕ)) → All (IsPlain n) ts → IsPlain (k * (1 + n)) (flat_map (λ t. 32 ∷ t) (take k ts))
-plain-spaced n zero ts are = record { clean = refl; short = omega arith }
-plain-spaced n (suc k) [] are = record { clean = refl; short = omega arith }
-plain-spaced n (suc k) (t ∷ ts) are =
-    let one = All-head (IsPlain n) t ts are in
-    let spaced : IsPlain (1 + n) (32 ∷ t) = plain-append 1 n (32 ∷ []) t (record { clean = refl; short = omega arith }) one in
-    plain-wider ((1 + n) + k * (1 + n)) (suc k * (1 + n)) (32 ∷ (t ++ flat_map (λ t. 32 ∷ t) (take k ts))) (let e = one_more (1 + n) k in omega (arith, e))
-    (plain-append (1 + n) (k * (1 + n)) (32 ∷ t) (flat_map (λ t. 32 ∷ t) (take k ts)) spaced (plain-spaced n k ts (All-tail (IsPlain n) t ts are)))
+pub plain-joined : (n : ℕ) (ts : List (List ℕ)) → AllByRecursion (IsPlain n) ts → IsPlain (length ts * n) (joined ts)
+plain-joined n ts are = plain-flat_map n (λ t. t) ts (All-from_recursion (IsPlain n) ts are)
+
+-- one more field before others
+pub also : {A B : Type 0} → A → B → A × B
+also first rest = (first, rest)
 
 -- ---- what is printable has no line feed
 
