@@ -1,24 +1,24 @@
 -- The steps of a reading from the header to the epochs, and its end.
 use Rattle.std.specs.Prelude.{Some, ⊤, map, flat_map}
-use Rattle.std.proofs.Common.{arith, ◌≡◌, ◌∙◌, sym, ap, refl, ℕ, zero, suc, ◌+◌, ◌<◌, pos, List, [], ◌∷◌, ◌++◌, length, Option, IfSome, lit<, lit≤, subst, drop, append-nil, append_assoc, None}
+use Rattle.std.proofs.Common.{arith, ◌≡◌, ◌∙◌, sym, ap, refl, ℕ, zero, suc, ◌+◌, ◌<◌, pos, List, [], ◌∷◌, ◌++◌, length, Option, IfSome, lit<, lit≤, subst, take, drop, append-nil, append_assoc, None}
 use Rattle.std.proofs.lemmas.List.Elements.{All-head, All-nil}
-use Rattle.std.proofs.lemmas.List.{length-map}
+use Rattle.std.proofs.lemmas.List.{length-map, nil_from_length}
 use Rattle.obs_epoch.specs.declared.cell.StationValues.{StationValues}
 use Rattle.obs_epoch.specs.Dates.{civil_of}
 use Rattle.rinex_file.specs.declared.read.parser_state.ParserState.{ParserState}
 use Rattle.rinex_file.specs.declared.read.expected.Expected.{Expected}
 use Rattle.rinex_file.specs.declared.read.expected.Expected.TheVariants.{Header, Epoch, EventPosition, EventHeight, EventEpoch, Satellite}
 use Rattle.rinex_file.specs.FileValues.{IsChange, IsFileValue}
-use Rattle.rinex_file.specs.Begun.{AreBegun, lines_of_header, whole_lines}
+use Rattle.rinex_file.specs.Begun.{AreBegun, IsEventBegun, lines_of_header, whole_lines}
 use Rattle.rinex_file.specs.Exact.{AreBefore, IsExpectedAt}
 use Rattle.rinex_file.specs.Read.Progress.{Progress, IsPosition, shown_with, lines_after, stamped, Known, Shown, IsShown, IsHeadAt, lines_before, file_with, StartsAt, IsInHeader, IsAt, IsBetween, IsInEvent, position_of, IsInEpoch, HasLinesLeft}
-use Rattle.rinex_file.specs.Read.Sound.{IsSound, IsSoundAt, AreLinesAt, values_now, AreRead, AreLinesOf}
+use Rattle.rinex_file.specs.Read.Sound.{IsSound, IsSoundAt, IsEventExpected, AreLinesAt, values_now, AreRead, AreLinesOf}
 use Rattle.rinex_file.specs.ParserState.{History, FollowsHistory, progress_at, GoesOnWithLine, ShowsLine}
 use Rattle.rinex_file.specs.Read.Steps.{IsTaken}
 use Rattle.rinex_file.specs.Value.{SatelliteRow, Stamped, FileValue}
 use Rattle.rinex_file.specs.Header.{header_lines}
 use Rattle.rinex_file.specs.Lines.{satellite_line}
-use Rattle.rinex_file.specs.File.{stamped_lines, file_lines, lines_of_parts}
+use Rattle.rinex_file.specs.File.{event_lines, stamped_lines, file_lines, lines_of_parts}
 use Rattle.rinex_file.specs.Read.HeaderSteps.{GoesTo, EndsHeader, NoneGoesOn}
 use Rattle.rinex_file.proofs.HeaderAgree.{some_after, split_at, agreed}
 use Rattle.rinex_file.proofs.HeaderSteps.{some_plan, with_is}
@@ -40,12 +40,10 @@ abbrev other_values : StationValues → StationValues → StationValues
 other_values v p = record p { height = other_height v.height }
 
 small_height : (n : ℕ) → other_height n < 65_536
-small_height zero = omega arith
-small_height (suc n) = omega arith
+small_height n = grind arith
 
 no_height : (n : ℕ) → other_height n ≡ n → ⊥
-no_height zero e = cc
-no_height (suc n) e = cc
+no_height n e = grind arith
 
 is_change : (v p : StationValues) → IsPosition p → IsChange v (Some (other_values v p))
 is_change v p is = (record { x = is.0; y = is.1; z = is.2; height = small_height v.height }, λ e. no_height v.height (ap (λ (w : StationValues). w.height) e))
@@ -54,6 +52,10 @@ abbrev no_values : StationValues
 no_values = record { x = pos 0; y = pos 0; z = pos 0; height = 0 }
 
 -- ---- the lines before one that is expected
+
+event_before : (s : Progress) (k : ℕ) (values : StationValues) (lines : List (List ℕ)) → IsEventExpected s → IsChange (values_now s) (Some values)
+    → lines ≡ whole_lines s.known.shown s.epochs ++ take k (event_lines values) → IsEventBegun k lines
+event_before s k values lines sound change are = record { h = s.known.shown; es = s.epochs; values = values; whole = sound.0; some = sound.2; change = change; are = are }
 
 are_before : (s : Progress) (expected : Expected) (lines : List (List ℕ)) → IsSoundAt s expected → AreLinesAt s expected lines → AreBefore expected lines
 are_before s (Header place) lines sound are =
@@ -68,46 +70,21 @@ are_before s (Header place) lines sound are =
       are = split_at h place ∙ ap (λ l. l ++ lines_after h place) (sym (are one.p one.may));
     }
 are_before s Epoch lines sound are = record { h = s.known.shown; es = s.epochs; whole = sound.0; are = are }
-are_before s EventPosition lines sound are = record {
+are_before s EventPosition lines sound are =
+    event_before s 1 (other_values (values_now s) no_values) lines sound (is_change (values_now s) no_values (zero_values.x, zero_values.y, zero_values.z, refl)) are
+are_before s (EventHeight p) lines sound are = event_before s 2 (other_values (values_now s) p) lines sound.0 (is_change (values_now s) p sound.1) are
+are_before s (EventEpoch w) lines sound are = event_before s 3 w lines sound.0 sound.1 are
+are_before s (Satellite n) lines sound are = record {
   h = s.known.shown;
   es = s.epochs;
-  values = other_values (values_now s) no_values;
+  e = stamped s s.rows;
+  n = length s.rows + n;
   whole = sound.0;
-  some = sound.2;
-  change = is_change (values_now s) no_values (zero_values.x, zero_values.y, zero_values.z, refl);
+  next = sound.1;
+  fewer = omega (arith, sound.2);
+  room = sound.3;
   are = are;
 }
-are_before s (EventHeight p) lines sound are = record {
-  h = s.known.shown;
-  es = s.epochs;
-  values = other_values (values_now s) p;
-  whole = sound.0.0;
-  some = sound.0.2;
-  change = is_change (values_now s) p sound.1;
-  are = are;
-}
-are_before s (EventEpoch w) lines sound are = record {
-  h = s.known.shown;
-  es = s.epochs;
-  values = w;
-  whole = sound.0.0;
-  some = sound.0.2;
-  change = sound.1;
-  are = are;
-}
-are_before s (Satellite n) lines sound are =
-    let some : 0 < n = sound.2 in
-    record {
-      h = s.known.shown;
-      es = s.epochs;
-      e = stamped s s.rows;
-      n = length s.rows + n;
-      whole = sound.0;
-      next = sound.1;
-      fewer = omega (arith, some);
-      room = sound.3;
-      are = are;
-    }
 
 are_begun : (expected : Expected) (lines : List (List ℕ)) → AreBefore expected lines → AreBegun lines
 are_begun v0 lines h = grind arith
@@ -126,23 +103,11 @@ shown_of v first = record { texts = v.texts; plan = v.plan; values = v.values; f
 pub shown_is : (v : FileValue) (e : Stamped) (es : List Stamped) → v.epochs ≡ e ∷ es → IsFileValue v → IsShown (shown_of v e.time)
 shown_is v e es same is = grind (arith, All-head)
 
--- the lines of a file, by its first epoch
-lines_by_first : (v : FileValue) (e : Stamped) (es : List Stamped) → v.epochs ≡ e ∷ es
-    → file_lines v ≡ header_lines v.texts v.plan v.values (civil_of e.time) ++ flat_map stamped_lines (e ∷ es)
-lines_by_first v e es same = ap (Rattle.rinex_file.specs.File.lines_of_parts v.texts v.plan v.values) same
-
 -- ---- a line of the header
 
 -- what was read, with another header and another line expected
 abbrev pub known_as : Progress → Known → Expected → Progress
 known_as s k expected = record { expected = expected; known = k; epochs = s.epochs; change = s.change; time = s.time; rows = s.rows }
-
--- a file made of the contents of a header
-abbrev file_of : Shown → List Stamped → FileValue
-file_of h epochs = record { texts = h.texts; plan = h.plan; values = h.values; epochs = epochs }
-
-abbrev SameFile : FileValue → FileValue → Type 0
-SameFile v w = v ≡ w
 
 -- what holds if a line of the header is expected
 in_header : (s : Progress) (place : ℕ) (v : FileValue) (left : List (List ℕ)) → s.expected ≡ Header place → HasLinesLeft s v left → IsFileValue v × IsInHeader s place v left
@@ -161,7 +126,7 @@ begins : (v : FileValue) → IsFileValue v → Begins v
 begins v is = by v.epochs refl where
   by : (es : List Stamped) → v.epochs ≡ es → Begins v
   by [] e = let size = ap length e in let some = is.some in absurd (omega (arith, size, some))
-  by (first ∷ others) e = record { first = first; others = others; epochs = e; is = shown_is v first others e is; lines = lines_by_first v first others e }
+  by (first ∷ others) e = record { first = first; others = others; epochs = e; is = shown_is v first others e is; lines = ap (lines_of_parts v.texts v.plan v.values) e }
 
 module _ (s : Progress) (place : ℕ) (line : List ℕ) (expected : s.expected ≡ Header place) where
   pub no_header : IsHeadAt s.known place → NoneGoesOn s.known place line → (v : FileValue) (left : List (List ℕ)) → HasLinesLeft s v (line ∷ left) → ⊥
@@ -193,8 +158,8 @@ module _ (s : Progress) (place : ℕ) (line : List ℕ) (expected : s.expected �
         let same = agreed h k.shown b.is end.is 26 (lit≤ tt) (flat_map stamped_lines (b.first ∷ b.others)) left all in
         let header : h ≡ k.shown = same_header h k.shown b.is end.is (λ i l. same.agree i (omega (arith, l))) end.only in
         let epochs : b.first ∷ b.others ≡ s.epochs ++ b.first ∷ b.others = ap (λ x. x ++ b.first ∷ b.others) (sym none) in
-        let value : SameFile v (file_of k.shown (s.epochs ++ b.first ∷ b.others)) =
-        ap (λ g. file_of g v.epochs) header ∙ ap (file_of k.shown) (b.epochs ∙ epochs) in
+        let file = λ (g : Shown) (es : List Stamped). record v { texts = g.texts; plan = g.plan; values = g.values; epochs = es } in
+        let value : v ≡ file k.shown (s.epochs ++ b.first ∷ b.others) = ap (λ g. file g v.epochs) header ∙ ap (file k.shown) (b.epochs ∙ epochs) in
         let first : k.shown.first ≡ b.first.time = sym (ap (λ g. g.first) header) in
         record {
           others = b.first ∷ b.others;
@@ -261,19 +226,16 @@ pub event_unfinished : (s : Progress) (k : ℕ) (Show : StationValues → Type 0
 event_unfinished s k Show few v here =
     none_after k here.next here.values (flat_map stamped_lines here.others) few (here.rest ∙ ap (λ l. drop k l ++ flat_map stamped_lines here.others) (lines_are here.next (Some here.values) here.change)) where
       none_after : (k : ℕ) (e : Stamped) (w : StationValues) (others : List (List ℕ)) → k < 4 → [] ≡ drop k (lines_with (Some w) e) ++ others → ⊥
-      none_after zero e w others few h = cc
-      none_after (suc zero) e w others few h = cc
-      none_after (suc (suc zero)) e w others few h = cc
-      none_after (suc (suc (suc zero))) e w others few h = cc
       none_after (suc (suc (suc (suc k)))) e w others few h = omega (arith, few)
+      none_after k e w others few h = cc
 
 -- no epoch is left if no line is
 none_left : (s : Progress) (v : FileValue) (others : List Stamped) → IsFileValue v → v ≡ file_with s (s.epochs ++ others) → [] ≡ flat_map stamped_lines others → others ≡ []
 none_left s v [] is value rest = refl
-none_left s v (e ∷ es) is value rest = absurd (by e.change refl) where
-  by : (c : Option StationValues) → e.change ≡ c → ⊥
-  by None h = let text : [] ≡ lines_with None e ++ flat_map stamped_lines es = rest ∙ ap (λ l. l ++ flat_map stamped_lines es) (lines_are e None h) in cc
-  by (Some w) h = let text : [] ≡ lines_with (Some w) e ++ flat_map stamped_lines es = rest ∙ ap (λ l. l ++ flat_map stamped_lines es) (lines_are e (Some w) h) in cc
+none_left s v (e ∷ es) is value rest = absurd (by e.change (rest ∙ ap (λ l. l ++ flat_map stamped_lines es) (lines_are e e.change refl))) where
+  by : (c : Option StationValues) → [] ≡ lines_with c e ++ flat_map stamped_lines es → ⊥
+  by None h = cc
+  by (Some w) h = cc
 
 -- the file that was read whole is the only one that continues without a line
 pub only_file : (s : Progress) → s.expected ≡ Epoch → (v : FileValue) → HasLinesLeft s v [] → v ≡ file_with s s.epochs
@@ -302,8 +264,7 @@ file_shown s taken expected sound some are =
 -- ---- when a file may not end
 
 no_epochs : (es : List Stamped) (n : ℕ) → n ≡ length es → (0 < n → ⊥) → es ≡ []
-no_epochs [] n size never = refl
-no_epochs (e ∷ es) n size never = absurd (never (omega (arith, size)))
+no_epochs es n size never = nil_from_length es (omega (arith, size, never))
 
 at_expected : (s : Progress) (d : Expected) → s.expected ≡ d → (v : FileValue) (left : List (List ℕ)) → HasLinesLeft s v left → IsAt s d v left
 unfolding HasLinesLeft

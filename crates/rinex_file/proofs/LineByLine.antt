@@ -4,9 +4,9 @@ use Rattle.std.specs.Io.KnownBytes.{Consumes, IsAtEnd, prepend_known}
 use Rattle.std.proofs.Common.{arith, ◌≡◌, ◌∙◌, sym, ap, subst, refl, ℕ, zero, suc, ◌+◌, ◌-◌, ◌<◌, ◌≤◌, true, false, List, [], ◌∷◌, ◌++◌, length, take, drop, get_or, length-append, take-add, append_assoc, append-nil, Option, Some, None, IfSome, inl, inr}
 use Rattle.std.proofs.Math.Nat.{min-eq_left, min-eq_right, min-le_left, min-le_right, le-min}
 use Rattle.std.proofs.lemmas.Bool.{false_from_ne_true, or_parts, or_right}
-use Rattle.std.proofs.lemmas.List.{append_cancel_left, length-take-le, take-append-drop, drop-take, drop-drop, take-take}
+use Rattle.std.proofs.lemmas.List.{append_cancel_left, length-take-le, take-append-drop, length_push, drop-take, drop-drop, take-take}
 use Rattle.std.proofs.KnownBytes.{Consumes-nil, Consumes-trans}
-use Rattle.std.proofs.lemmas.List.Elements.{All-head, All-tail, All-cons, All-append}
+use Rattle.std.proofs.lemmas.List.Elements.{All-head, All-tail, All-push}
 use Rattle.rinex_file.specs.Read.Fields.{has}
 use Rattle.rinex_file.specs.Blocks.{LeavesRest, AreMoved, MovesBytes}
 use Rattle.rinex_file.specs.Exact.{IsLine, IsTextOf, NoFileBegins, IsCutShort, IsTooLong, IsFaulty, ExplainsFault, IsNoFault, most_lines}
@@ -112,10 +112,8 @@ same_body [] [] x y h k e = (refl, cc)
 same_body [] (b ∷ bs) x y h k e = grind (arith, or_parts)
 same_body (a ∷ us) [] x y h k e = grind (arith, or_parts)
 same_body (a ∷ us) (b ∷ bs) x y h k e =
-    let head : a ≡ b = cc in
     let rest : us ++ 10 ∷ x ≡ bs ++ 10 ∷ y = cc in
     let more = same_body us bs x y (or_parts (a == 10) (has 10 us) h).1 (or_parts (b == 10) (has 10 bs) k).1 rest in
-    let tail : us ≡ bs = more.0 in
     (cc, more.1)
 
 shape : (l body x : List ℕ) → l ≡ body ++ 10 ∷ [] → l ++ x ≡ body ++ 10 ∷ x
@@ -129,8 +127,7 @@ abbrev Splits : List (List ℕ) → List (List ℕ) → List ℕ → Type 0
 Splits all done rest = (more : List (List ℕ)) × (all ≡ done ++ more) × (rest ≡ joined more)
 
 not_nil : (m x : List ℕ) → IsLine m → [] ≡ m ++ x → ⊥
-not_nil m x ([], e, n) h = let whole : [] ≡ 10 ∷ x = h ∙ shape m [] x e in cc
-not_nil m x (b ∷ bs, e, n) h = let whole : [] ≡ b ∷ (bs ++ 10 ∷ x) = h ∙ shape m (b ∷ bs) x e in cc
+not_nil m x (body, e, n) h = grind (arith, length-append, (ap length h), (ap length e))
 
 pub splits : (all done : List (List ℕ)) (rest : List ℕ) → All IsLine all → All IsLine done → joined all ≡ joined done ++ rest → Splits all done rest
 splits all [] rest h k e = (all, refl, sym e)
@@ -138,7 +135,6 @@ splits [] (d ∷ ds) rest h k e = absurd (not_nil d (joined ds ++ rest) (All-hea
 splits (l ∷ ls) (d ∷ ds) rest h k e =
     let one = first_line l d (joined ls) (joined ds ++ rest) (All-head IsLine l ls h) (All-head IsLine d ds k) (e ∙ append_assoc d (joined ds) rest) in
     let (more, lines, text) = splits ls ds rest (All-tail IsLine l ls h) (All-tail IsLine d ds k) one.1 in
-    let same : l ≡ d = one.0 in
     (more, cc, text)
 
 -- a line has a line feed, so bytes that begin with a line have one
@@ -151,10 +147,7 @@ joined-more : (taken : List (List ℕ)) (line : List ℕ) → joined (taken ++ l
 joined-more taken line = joined-append taken (line ∷ []) ∙ ap (λ l. joined taken ++ l) (append-nil line)
 
 are_more : (taken : List (List ℕ)) (line : List ℕ) → All IsLine taken → IsLine line → All IsLine (taken ++ line ∷ [])
-are_more taken line are is = All-append IsLine taken (line ∷ []) are (All-cons IsLine line [] is (λ k d less. absurd (omega (arith, less))))
-
-count_more : (taken : List (List ℕ)) (line : List ℕ) (n : ℕ) → length taken ≡ n → length (taken ++ line ∷ []) ≡ n + 1
-count_more taken line n e = simp length-append (omega (arith, e))
+are_more taken line are is = All-push IsLine taken line are is
 
 -- bytes without a line feed contain no line
 endless_lines : (more : List (List ℕ)) (bytes : List ℕ) → All IsLine more → has 10 bytes ≡ false → bytes ≡ joined more → more ≡ []
@@ -215,7 +208,7 @@ stands_more old new taken line history more shows = grind (arith, append_assoc)
 -- one more line was read
 pub one_more : (old new : Progress) (n : ℕ) (a b c : Option (List ℕ)) (line : List ℕ) → IsTaken old n a b → IsLine line → Consumes b c line → GoesOnWithLine old new line → ShowsLine old new line
     → IsTaken new (n + 1) a c
-one_more old new n a b c line t is next more shows = grind (arith, are_more, count_more, taken_more, stands_more)
+one_more old new n a b c line t is next more shows = grind (arith, are_more, length_push, taken_more, stands_more)
 
 -- the next line has too many bytes
 pub over_long : (s : Progress) (n : ℕ) (a b c : Option (List ℕ)) (bytes : List ℕ) → IsTaken s n a b → length bytes ≡ 1220 → has 10 bytes ≡ false → Consumes b c bytes
@@ -247,7 +240,7 @@ module _ (are_lines : (v : FileValue) → IsFileValue v → All IsLine (file_lin
         lines = t.lines ++ line ∷ [];
         rest = rest;
         first = record { are = all; first = refl };
-        count = count_more t.lines line n t.many;
+        count = length_push t.lines line ∙ ap (λ (k : ℕ). k + 1) t.many;
         none = refuted s t.lines line all t.history bad;
       }))
 
