@@ -1,5 +1,5 @@
 -- The line of a satellite is read back, so it determines the satellite.
-use Rattle.std.proofs.Common.{arith, ◌≡◌, ℕ, suc, ◌+◌, ◌-◌, ◌*◌, ◌/◌, ◌%◌, ◌^◌, ◌<◌, ◌≤◌, List, [], ◌∷◌, ◌++◌, length, take, drop, replicate, get_or, refl, sym, ap, ap₂, ◌∙◌, append_assoc, length-append, append-nil, ℤ, pos, negsuc, unsigned_abs, to_z, of_z, w64, Option, Some, None, IfSome}
+use Rattle.std.proofs.Common.{arith, ◌≡◌, ℕ, suc, ◌+◌, ◌-◌, ◌*◌, ◌/◌, ◌%◌, ◌^◌, ◌<◌, ◌≤◌, List, [], ◌∷◌, ◌++◌, length, take, drop, replicate, get_or, refl, sym, ap, ap₂, ◌∙◌, append_assoc, length-append, append-nil, ℤ, pos, negsuc, unsigned_abs, to_z, of_z, w64, Option, Some, None, IfSome, true, false}
 use Rattle.std.specs.Prelude.{if◌then◌else◌, ◌||◌, ◌==◌, Bool, neg_ℤ, decimal, flat_map, All}
 use Rattle.std.proofs.lemmas.Fmt.{decimal_nonempty}
 use Rattle.rinex_file.proofs.Columns.{length-three}
@@ -67,39 +67,32 @@ AreParts v front = (right 14 (fixed 3 v) ≡ front ++ (46 ∷ padded 3 (unsigned
 cut_parts : (front digits : List ℕ) → length (front ++ 46 ∷ digits) ≡ 14 → length digits ≡ 3 → length front ≡ 10
 cut_parts front digits l k = let sum = length-append front (46 ∷ digits) in omega (arith, sum, l, k)
 
+size_signed : (b : Bool) (w : ℕ) → w < 2 ^ 64 → size_from 0 (sign_text b ++ decimal w) ≡ w
+size_signed true w big = size_decimal w big
+size_signed false w big = size_decimal w big
+
+signed_front : (b : Bool) (z w : ℕ) → w < 2 ^ 64 → z + length (sign_text b ++ decimal w) ≡ 10
+    → (has_sign (take 8 (replicate z 32 ++ (sign_text b ++ decimal w))) || get_or (replicate z 32 ++ (sign_text b ++ decimal w)) 8 0 == 45) ≡ b
+signed_front true z w big ten = let some = decimal_nonempty w big in sign_minus z (decimal w) (omega (arith, ten, some))
+signed_front false z w big ten = sign_plain z w big
+
 parts : (v : ℤ) → FitsColumns v → (front : List ℕ) × AreParts v front
-parts (pos n) h =
-    let z = 14 - length (fixed 3 (pos n)) in
-    let w = n / 1000 in
-    let big : n < 2 ^ 64 = small_value (pos n) h in
-    let front = replicate z 32 ++ decimal w in
-    let none : fixed 3 (pos n) ≡ decimal w ++ (46 ∷ padded 3 (n % 1000)) = ap (λ b. (sign_text b ++ decimal (n / 1000)) ++ 46 ∷ padded 3 (n % 1000)) (not_negative n) in
-    let is : right 14 (fixed 3 (pos n)) ≡ front ++ (46 ∷ padded 3 (n % 1000)) = ap (λ t. replicate z 32 ++ t) none ∙ sym (append_assoc (replicate z 32) (decimal w) (46 ∷ padded 3 (n % 1000))) in
-    let whole = ap length (sym is) ∙ length-right 14 (fixed 3 (pos n)) (length-value (pos n) h) in (
-      front,
-      (
-        is,
-        cut_parts front (padded 3 (n % 1000)) whole (length-three (n % 1000) (omega arith)),
-        size_append 0 (replicate z 32) (decimal w) ∙ ap (λ k. size_from k (decimal w)) (no_size z) ∙ size_decimal w (omega (arith, big)),
-        sign_plain z w (omega (arith, big)) ∙ sym (not_negative n),
-      ),
-    )
-parts (negsuc n) h =
-    let z = 14 - length (fixed 3 (negsuc n)) in
-    let w = suc n / 1000 in
-    let big : suc n < 2 ^ 64 = small_value (negsuc n) h in
-    let front = replicate z 32 ++ 45 ∷ decimal w in
-    let is : right 14 (fixed 3 (negsuc n)) ≡ front ++ (46 ∷ padded 3 (suc n % 1000)) = sym (append_assoc (replicate z 32) (45 ∷ decimal w) (46 ∷ padded 3 (suc n % 1000))) in
-    let whole = ap length (sym is) ∙ length-right 14 (fixed 3 (negsuc n)) (length-value (negsuc n) h) in
-    let ten = cut_parts front (padded 3 (suc n % 1000)) whole (length-three (suc n % 1000) (omega arith)) in
-    let some = decimal_nonempty w (omega (arith, big)) in
-    let blanks : length front ≡ z + (1 + length (decimal w)) = length-append (replicate z 32) (45 ∷ decimal w) ∙ ap (λ k. k + suc (length (decimal w))) (length-replicate z 32) ∙ omega arith in (
+parts v h =
+    let z = 14 - length (fixed 3 v) in
+    let w = unsigned_abs v / 1000 in
+    let p = padded 3 (unsigned_abs v % 1000) in
+    let big = small_value v h in
+    let whole = sign_text (is_negative v) ++ decimal w in
+    let front = replicate z 32 ++ whole in
+    let is : right 14 (fixed 3 v) ≡ front ++ (46 ∷ p) = sym (append_assoc (replicate z 32) whole (46 ∷ p)) in
+    let ten = cut_parts front p (ap length (sym is) ∙ length-right 14 (fixed 3 v) (length-value v h)) (length-three (unsigned_abs v % 1000) (omega arith)) in
+    let blanks : length front ≡ z + length whole = length-append (replicate z 32) whole ∙ ap (λ k. k + length whole) (length-replicate z 32) in (
       front,
       (
         is,
         ten,
-        size_append 0 (replicate z 32) (45 ∷ decimal w) ∙ ap (λ k. size_from k (45 ∷ decimal w)) (no_size z) ∙ size_decimal w (omega (arith, big)),
-        sign_minus z (decimal w) (omega (arith, ten, some, blanks)),
+        size_append 0 (replicate z 32) whole ∙ ap (λ k. size_from k whole) (no_size z) ∙ size_signed (is_negative v) w (omega (arith, big)),
+        signed_front (is_negative v) z w (omega (arith, big)) (sym blanks ∙ ten),
       ),
     )
 
