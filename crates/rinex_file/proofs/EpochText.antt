@@ -1,9 +1,10 @@
 -- A date and time of day is read back from its columns.
-use Rattle.std.proofs.Common.{arith, lit<, ◌≡◌, ℕ, zero, suc, ◌+◌, ◌-◌, ◌*◌, ◌/◌, ◌%◌, ◌^◌, ◌<◌, ◌≤◌, List, [], ◌∷◌, ◌++◌, refl, sym, ap, ap₂, ◌∙◌, length, get_or, take, drop, replicate, append_assoc, append-nil, length-append, decimal, pos, Some, None, Option, subst}
+use Rattle.std.proofs.Common.{arith, lit<, ◌≡◌, ℕ, zero, suc, ◌+◌, ◌-◌, ◌*◌, ◌/◌, ◌%◌, ◌^◌, ◌<◌, ◌≤◌, List, [], ◌∷◌, ◌++◌, refl, sym, ap, ap₂, ◌∙◌, length, get_or, take, drop, replicate, append_assoc, append-nil, length-append, decimal, pos, Some, Option, subst}
 use Rattle.std.specs.Prelude.{map, codes, min}
 use Rattle.std.specs.Int.{is_negative}
 use Rattle.std.specs.Fmt.{sign_text}
 use Rattle.std.proofs.lemmas.Fmt.{length-decimal-le}
+pub use Rattle.std.proofs.lemmas.Option.{none-some as none_some, same_Some}
 use Rattle.std.proofs.lemmas.List.{take_at, drop_at, drop-drop}
 use Rattle.std.proofs.lemmas.Nat.{div-add-mod'}
 use Rattle.obs_epoch.specs.declared.civil.Civil.{Civil}
@@ -45,13 +46,8 @@ field_at (f ∷ fs) (suc k) (w ∷ ws) tail less e =
 
 length-joined : (fs : List (List ℕ)) (ws : List ℕ) → map length fs ≡ ws → length (joined fs) ≡ total ws
 length-joined [] [] e = refl
-length-joined [] (w ∷ ws) e = cc
-length-joined (f ∷ fs) [] e = cc
-length-joined (f ∷ fs) (w ∷ ws) e =
-    let width : length f ≡ w = cc in
-    let rest : map length fs ≡ ws = cc in
-    let more = length-joined fs ws rest in
-    length-append f (joined fs) ∙ omega (arith, width, more)
+length-joined (f ∷ fs) (w ∷ ws) e = grind (arith, length-append, (length-joined fs ws (cc)))
+length-joined fs ws e = cc
 
 -- ---- the line of an epoch
 
@@ -218,12 +214,6 @@ pub are_read : (t : Civil) (a b c d e f year month day hour minute second : ℕ)
     → year ≡ t.year → month ≡ t.month → day ≡ t.day → hour ≡ t.hour → minute ≡ t.minute → second ≡ t.millisecond * 10_000 → of_numbers a b c d e f ≡ t
 are_read t a b c d e f year month day hour minute second has p q r s u v y m d' h n s' = grind (arith, same_civil, kept, kept_second)
 
-pub same_some : (x y : Civil) → Some x ≡ Some y → x ≡ y
-same_some x y e = cc
-
 -- the date and time of day that was read is that of a time whose line this is
 pub found : (civil : Civil) (r : Option Civil) (v : ℕ) → Some civil ≡ r → r ≡ Some (civil_of v) → IsCivilOf v (civil_of v) → IsCivilOf v civil
-found civil r v was all is = subst (λ (x : Civil). IsCivilOf v x) (sym (same_some civil (civil_of v) (was ∙ all))) is
-
-pub none_some : (x : Civil) → None ≡ Some x → ⊥
-none_some x e = cc
+found civil r v was all is = subst (λ (x : Civil). IsCivilOf v x) (sym (same_Some civil (civil_of v) (was ∙ all))) is

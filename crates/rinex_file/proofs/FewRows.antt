@@ -1,9 +1,9 @@
 -- A plan has no more signals than the tables, and an epoch no more satellites than the planned systems.
-use Rattle.std.proofs.Common.{arith, ◌≡◌, sym, refl, subst, ℕ, suc, ◌+◌, ◌-◌, ◌<◌, ◌≤◌, Bool, true, false, eqb, List, [], ◌∷◌, length}
+use Rattle.std.proofs.Common.{arith, ◌≡◌, sym, subst, ℕ, suc, ◌+◌, ◌-◌, ◌<◌, ◌≤◌, Bool, true, false, eqb, List, [], ◌∷◌, length}
 use Rattle.std.specs.Prelude.{◌||◌, if◌then◌else◌, All, map, nat_lt, slice_index}
 use Rattle.std.specs.List.{list_any}
 use Rattle.std.specs.List.Sorted.{IsStrictlyIncreasing}
-use Rattle.std.proofs.lemmas.Bool.{eqb-true}
+use Rattle.std.proofs.lemmas.Bool.{eqb-true, lt-ltb}
 use Rattle.std.proofs.lemmas.List.Elements.{All-head, All-tail}
 use Rattle.std.proofs.lemmas.Map.Steps.{length-le_from_distinct_below}
 use Rattle.gnss_obs.specs.Signals.{table}
@@ -39,26 +39,21 @@ room false false k = 0
 
 after_gps : (galileo : Bool) (k r n : ℕ) → k ≤ r → r ≤ 32 → n ≤ room true galileo (r + 1) → suc n ≤ room true galileo k
 unfolding room
-after_gps true k r n low high h = omega (arith, low, high, h)
-after_gps false k r n low high h = omega (arith, low, high, h)
+after_gps galileo k r n low high h = grind arith
 
 after_galileo : (gps : Bool) (k r n : ℕ) → k ≤ 100 + r → 1 ≤ r → r ≤ 36 → n ≤ room gps true ((100 + r) + 1) → suc n ≤ room gps true k
 unfolding room
-after_galileo true k r n low some high h = omega (arith, low, some, high, h)
-after_galileo false k r n low some high h = omega (arith, low, some, high, h)
-
-is_planned : (n : ℕ) → 0 < n → nat_lt 0 n ≡ true
-is_planned n h = grind (arith, h)
+after_galileo gps k r n low some high h = grind arith
 
 -- a satellite has one of the ranks that are left
 one_less : (gps galileo k r n : ℕ) (system : System) → 0 < of_system system gps galileo → (1 ≤ r) × (r ≤ satellites system) → k ≤ of_system system r (100 + r)
     → n ≤ room (nat_lt 0 gps) (nat_lt 0 galileo) (of_system system r (100 + r) + 1) → suc n ≤ room (nat_lt 0 gps) (nat_lt 0 galileo) k
 one_less gps galileo k r n Gps planned number low h =
-    let is = is_planned gps planned in
+    let is = lt-ltb 0 gps planned in
     let left : n ≤ room true (nat_lt 0 galileo) (r + 1) = subst (λ b. n ≤ room b (nat_lt 0 galileo) (r + 1)) is h in
     subst (λ b. suc n ≤ room b (nat_lt 0 galileo) k) (sym is) (after_gps (nat_lt 0 galileo) k r n low number.1 left)
 one_less gps galileo k r n Galileo planned number low h =
-    let is = is_planned galileo planned in
+    let is = lt-ltb 0 galileo planned in
     let left : n ≤ room (nat_lt 0 gps) true ((100 + r) + 1) = subst (λ b. n ≤ room (nat_lt 0 gps) b ((100 + r) + 1)) is h in
     subst (λ b. suc n ≤ room (nat_lt 0 gps) b k) (sym is) (after_galileo (nat_lt 0 gps) k r n low number.0 number.1 left)
 
@@ -87,10 +82,7 @@ few_from gps galileo k (s ∷ rows) each rise low =
 
 from_one : (gps galileo : Bool) → room gps galileo 1 ≡ (if gps then 32 else 0) + (if galileo then 36 else 0)
 unfolding room
-from_one true true = refl
-from_one true false = refl
-from_one false true = refl
-from_one false false = refl
+from_one gps galileo = grind arith
 
 low_first : (gps galileo : ℕ) (rows : List SatelliteRow) → All (IsSatelliteRow gps galileo) rows → FromFirst 1 (map rank_of rows)
 unfolding FromFirst

@@ -1,5 +1,5 @@
 -- Lines that were written, and a part of them.
-use Rattle.std.proofs.Common.{arith, ◌≡◌, ◌∙◌, sym, ap, ap₂, refl, subst, ℕ, zero, suc, ◌+◌, ◌-◌, ◌≤◌, List, [], ◌∷◌, ◌++◌, length, append_assoc, append-nil, length-append, Option, Bool, true, false, Result, Ok, Err, OnOk, OnErr}
+use Rattle.std.proofs.Common.{arith, ◌≡◌, ◌∙◌, sym, ap, ap₂, refl, subst, ℕ, zero, suc, ◌+◌, ◌-◌, ◌≤◌, List, [], ◌∷◌, ◌++◌, length, append_assoc, append-nil, length-append, Option, Bool, true, false, Result, OnOk, OnErr}
 use Rattle.std.specs.Prelude.{map, if◌then◌else◌, IsErrAnd}
 use Rattle.std.specs.Io.KnownBytes.{Appends}
 use Rattle.std.proofs.KnownBytes.{Appends-trans, Appends-nil}
@@ -57,8 +57,7 @@ module _ (v : StationValues) (a b c d : Option (List ℕ)) where
 
 one_of : (p : PlanValue) (e : EpochValue) (s : System) (n : ℕ) (b : Bool)
     → joined (map satellite_line (map (row_in_epoch p e s) (if b then suc n ∷ [] else []))) ≡ (if b then satellite_line (row_in_epoch p e s (suc n)) else [])
-one_of p e s n true = append-nil (satellite_line (row_in_epoch p e s (suc n)))
-one_of p e s n false = refl
+one_of p e s n b = grind (arith, append-nil)
 
 lines_suc : (p : PlanValue) (e : EpochValue) (s : System) (n : ℕ) → lines_up_to p e s (suc n) ≡ lines_up_to p e s n ++ line_or_none p e s (suc n)
 unfolding lines_up_to line_among
@@ -109,8 +108,7 @@ part_lines a b c p e s n m most is h out part =
 -- ---- an epoch
 
 one_more : (n : ℕ) (b : Bool) → length (if b then suc n ∷ [] else []) ≡ (if b then 1 else 0)
-one_more n true = refl
-one_more n false = refl
+one_more n b = grind arith
 
 length-written : (cells : List Cell) (n : ℕ) → length (written_satellites cells n) ≡ written_among cells n
 unfolding written_among
@@ -159,10 +157,8 @@ module _ (p : PlanValue) (e : EpochValue) (a b c d : Option (List ℕ)) (line : 
 -- ---- what holds of a call that failed
 
 pub where_failed : {A E : Type 0} (r : Result A E) (P : Type 0) → P → OnErr r P
-where_failed (Ok x) P p = tt
-where_failed (Err e) P p = p
+where_failed r P p = grind arith
 
 -- nothing is promised of it
 pub failed : {A E : Type 0} (Q : E → Type 0) (r : Result A E) (P : Type 0) → IsErrAnd r Q → OnOk r P
-failed Q (Ok x) P h = absurd h
-failed Q (Err e) P h = tt
+failed Q r P h = grind arith
