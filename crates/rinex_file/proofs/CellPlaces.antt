@@ -1,6 +1,6 @@
 -- A satellite's cells, each stored at its signal's index in the plan.
 use Rattle.std.proofs.Common.{arith, ◌≡◌, ◌∙◌, sym, ap, ap₂, refl, ℕ, ℤ, zero, suc, ◌+◌, ◌*◌, ◌-◌, ◌/◌, ◌%◌, ◌<◌, ◌≤◌, List, [], ◌∷◌, ◌++◌, map, take, drop, length, replicate, get_or, append_assoc, append-nil, length-append, Bool, false, ◌==◌, Option, Some, None, slice_set}
-use Rattle.std.specs.Prelude.{◌≢◌, ◌||◌, nat_eq, find, flat_map, position, All, is_some, if◌then◌else◌}
+use Rattle.std.specs.Prelude.{◌&&◌, ◌≢◌, ◌||◌, nat_eq, find, flat_map, position, All, is_some, if◌then◌else◌}
 use Rattle.std.specs.Option.{option_map_or}
 use Rattle.std.specs.List.{IsDistinct, position_or_len, refill}
 use Rattle.std.proofs.lemmas.List.{drop_at, drop_all, take_all, length-drop, drop_more, set_at, length-take, length-take-le, length-replicate, length-set, take-append-le, drop-append-le, replicate-append-replicate}
@@ -30,6 +30,11 @@ use Rattle.std.proofs.Math.Seq.{take-append-add, drop-append-add}
 pub others_stay : (c : Cell) (rest : List Cell) (id other : ℕ) → other ≢ c.signal.index → signal_values_at (c ∷ rest) id other ≡ signal_values_at rest id other
 others_stay c rest id other apart =
     ap (λ b. option_map_or signal_values_of (if b then Some c else find (is_of_key id other) rest) no_signal_values) (and_right (c.satellite.id == id) (c.signal.index == other) (ne_eqb c.signal.index other (λ e. apart (sym e))))
+
+-- a cell of another satellite changes none
+pub other_stays : (c : Cell) (rest : List Cell) (id : ℕ) (signals : List ℕ) → (c.satellite.id == id) ≡ false → map (signal_values_at (c ∷ rest) id) signals ≡ map (signal_values_at rest id) signals
+other_stays c rest id signals other =
+    ap (λ b. map (λ index. option_map_or signal_values_of (if b && (c.signal.index == index) then Some c else find (is_of_key id index) rest) no_signal_values) signals) other
 
 -- ---- if the signal is planned, and if it isn't
 

@@ -2,9 +2,8 @@
 ghost use Rattle.std.specs.Prelude.{◌≡◌, ◌<◌, OnOk, OnErr, IfErr};
 ghost use Rattle.std.specs.Io.KnownBytes.{Appends};
 ghost use Rattle.rtcm_bits.specs.Device.{AppendsPrefix, FailsWith};
-ghost use Rattle.obs_epoch.specs.Values.{AreHeld};
 ghost use Rattle.gnss_obs.specs.Satellites.{satellites};
-ghost use Rattle.rinex_file.specs.File.{event_text, epoch_text, line_among, lines_up_to};
+ghost use Rattle.rinex_file.specs.File.{event_text, epoch_text, lines_up_to};
 ghost use Rattle.rinex_file.specs.Heads.{head_text};
 
 pub(crate) mod digits;
@@ -20,7 +19,7 @@ use crate::write::epoch::{epoch_line, event_line};
 use crate::write::numbers::Line;
 use crate::write::satellite::put_seen;
 use gnss_obs::System;
-use obs_epoch::{Cell, Epoch, Plan, StationValues, end_of, is_written};
+use obs_epoch::{Epoch, Plan, StationValues, end_of, is_written};
 use rtcm_bits::{Counted, DeviceFailed};
 use std::io::Write;
 
@@ -67,33 +66,7 @@ pub fn write_event<W: Write>(
     Ok(())
 }
 
-/// Writes the line of a satellite if one of its cells has a value.
-fn write_satellite<W: Write>(
-    cells: &[Cell],
-    plan: &Plan,
-    system: System,
-    id: u8,
-    line: &mut Line,
-    writer: &mut Counted<W>,
-) -> Result<(), DeviceFailed>
-    requires held { AreHeld system cells.now }
-    requires id { id < 100 }
-    ensures whole { OnOk result
-        (Appends (W.contents writer.old.inner) (W.contents writer.new.inner)
-        (line_among plan.now system cells.now id)) }
-    ensures part { OnErr result
-        (AppendsPrefix (W.contents writer.old.inner) (W.contents writer.new.inner)
-        (line_among plan.now system cells.now id)) }
-    ensures device { FailsWith result writer.old writer.new }
-{
-    if !is_written(cells, id) {
-        return Ok(());
-    }
-    put_seen(line, cells, plan, system, id);
-    writer.write_whole(line.as_slice())
-}
-
-/// Writes the lines of a system's satellites.
+/// Writes the line of each satellite of a system that has a value.
 fn write_system<W: Write>(
     epoch: &Epoch,
     plan: &Plan,
@@ -111,7 +84,11 @@ fn write_system<W: Write>(
     let mut from = 0;
     for before in 0..system.satellites() {
         let to = end_of(cells, from, before + 1);
-        write_satellite(&cells[from..to], plan, system, before + 1, line, writer)?;
+        let own = &cells[from..to];
+        if is_written(own, before + 1) {
+            put_seen(line, own, plan, system, before + 1);
+            writer.write_whole(line.as_slice())?;
+        }
         from = to;
     }
     Ok(())

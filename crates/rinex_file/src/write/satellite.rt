@@ -21,15 +21,21 @@ use gnss_obs::{Sat, System, Thousandths, strength_digit};
 use obs_epoch::{Cell, Epoch, Plan};
 use std::marker::Model;
 
-/// Writes a value in thousandths as F14.3 and the LLI and SSI columns after it. Its whole part may
-/// have ten digits, or nine and a minus.
+/// Writes a value as F14.3 and the LLI and SSI columns after it, or 16 blanks if it is absent. Its
+/// whole part may have ten digits, or nine and a minus.
+#[inline(always)]
 #[tactic(auto, unfolding(crate::specs::Lines::field))]
-fn put_value(columns: &mut [u8], value: i64, lost: u8, strength: u8)
-    requires fits { FitsColumns value }
+fn put_value(columns: &mut [u8], value: &Option<Thousandths>, lost: u8, strength: u8)
+    requires fits { IfSome value.now FitsColumns }
     requires room { length columns.old ≡ value_columns }
-    ensures text { columns.new ≡ field (Some value) lost strength }
+    ensures text { columns.new ≡ field value.now lost strength }
     ensures size { length columns.new ≡ value_columns }
 {
+    let Some(value) = value else {
+        columns.fill(b' ');
+        return;
+    };
+    let value = value.value();
     let words = columns_of(value.unsigned_abs(), lost, strength);
     let (first, last) = columns.split_at_mut(8);
     first.copy_from_slice(&words.first.to_le_bytes());
@@ -39,36 +45,12 @@ fn put_value(columns: &mut [u8], value: i64, lost: u8, strength: u8)
     }
 }
 
-/// Writes a value as F14.3 and the LLI and SSI columns after it, or 16 blanks if it is absent.
-#[tactic(auto, unfolding(crate::specs::Lines::field))]
-fn put_field(columns: &mut [u8], value: Option<Thousandths>, lost: u8, strength: u8)
-    requires fits { IfSome value FitsColumns }
-    requires room { length columns.old ≡ value_columns }
-    ensures text { columns.new ≡ field value lost strength }
-    ensures size { length columns.new ≡ value_columns }
-{
-    match value {
-        None => columns.fill(b' '),
-        Some(value) => put_value(columns, value.value(), lost, strength),
-    }
-}
-
 /// Returns the loss-of-lock (LLI) column of a phase.
 fn lli_column(lli: u8) -> u8
     requires { lli < 4 }
     ensures { result ≡ lli_byte lli }
 {
     if lli == 0 { b' ' } else { b'0' + lli }
-}
-
-/// Returns the strength (SSI) column.
-fn strength_column(s: Option<Thousandths>) -> u8
-    ensures { result ≡ strength_byte s }
-{
-    match s {
-        None => b' ',
-        Some(s) => b'0' + strength_digit(s),
-    }
 }
 
 /// The values of a signal, borrowed, so that each is read when its columns are written.
@@ -113,6 +95,7 @@ impl<'a> Shown<'a> {
 }
 
 /// Writes the columns of a signal.
+#[inline(always)]
 #[tactic(auto, unfolding(crate::specs::Lines::signal_text))]
 fn put_signal(columns: &mut [u8], values: &Shown)
     requires fits { HaveRoom values.now }
@@ -120,14 +103,14 @@ fn put_signal(columns: &mut [u8], values: &Shown)
     ensures text { columns.new ≡ signal_text values.now }
     ensures size { length columns.new ≡ signal_columns }
 {
-    let strength = strength_column(*values.s);
+    let strength = values.s.map_or(b' ', |s| b'0' + strength_digit(s));
     let (c, rest) = columns.split_at_mut(VALUE_COLUMNS);
     let (l, rest) = rest.split_at_mut(VALUE_COLUMNS);
     let (d, s) = rest.split_at_mut(VALUE_COLUMNS);
-    put_field(c, *values.c, b' ', strength);
-    put_field(l, *values.l, lli_column(*values.lli), strength);
-    put_field(d, *values.d, b' ', b' ');
-    put_field(s, *values.s, b' ', b' ');
+    put_value(c, values.c, b' ', strength);
+    put_value(l, values.l, lli_column(*values.lli), strength);
+    put_value(d, values.d, b' ', b' ');
+    put_value(s, values.s, b' ', b' ');
 }
 
 /// Begins the line of a satellite with this number of planned signals: its letter and number,
@@ -231,25 +214,6 @@ pub(crate) fn satellite_text(line: &mut Line, system: System, id: u8, values: &[
     end_row(line);
 }
 
-/// Writes the values of a cell of this satellite at the index of its signal, if that is planned,
-/// replacing those of a later cell of the signal. Any other cell is skipped.
-fn put_cell(line: &mut Line, plan: &Plan, system: System, id: u8, cell: &Cell)
-    requires held { IsHeld system cell.now }
-    requires apart { IsDistinct nat_eq (planned_of system plan.now) }
-    requires few { length (planned_of system plan.now) ≤ most_signals }
-    ensures { (front : List ℕ) (rest : List Cell) → length front ≡ 3 → All (IsHeld system) rest
-        → HasSignals line.old.items front (entries_of plan.now system id rest)
-        → HasSignals line.new.items front (entries_of plan.now system id (cell.now ∷ rest)) }
-{
-    if cell.satellite.id() != id {
-        return;
-    }
-    match plan.place_among(system, cell.signal) {
-        None => {}
-        Some(place) => put_at(line, place, &Shown::of(cell)),
-    }
-}
-
 /// Writes the values of a satellite's cells into a line without values.
 fn put_cells(line: &mut Line, cells: &[Cell], plan: &Plan, system: System, id: u8)
     requires held { AreHeld system cells.now }
@@ -264,7 +228,12 @@ fn put_cells(line: &mut Line, cells: &[Cell], plan: &Plan, system: System, id: u
     let mut at = cells.len();
     while at > 0 {
         at -= 1;
-        put_cell(line, plan, system, id, &cells[at]);
+        let cell = &cells[at];
+        if cell.satellite.id() == id
+            && let Some(place) = plan.place_among(system, cell.signal)
+        {
+            put_at(line, place, &Shown::of(cell));
+        }
     }
 }
 

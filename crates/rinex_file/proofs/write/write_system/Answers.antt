@@ -1,4 +1,5 @@
-use Rattle.std.proofs.Common.{arith, ◌≡◌, ◌∙◌, sym, subst, refl, suc, ◌+◌, ◌≤◌}
+use Rattle.std.proofs.Common.{arith, ◌≡◌, ◌∙◌, sym, subst, refl, suc, ◌+◌, ◌≤◌, take, drop}
+use Rattle.std.specs.Prelude.{◌-◌}
 use Rattle.std.specs.Io.KnownBytes.{Appends}
 use Rattle.std.proofs.KnownBytes.{Appends-nil}
 use Rattle.gnss_obs.specs.Satellites.{satellites}
@@ -7,8 +8,9 @@ use Rattle.obs_epoch.specs.Values.{cells_of}
 use Rattle.obs_epoch.proofs.GroupLemmas.{left_all, sorted_climbs}
 use Rattle.rinex_file.proofs.SatelliteGroups.{further}
 use Rattle.rinex_file.proofs.Groups.{same_line}
-use Rattle.rinex_file.proofs.Sent.{no_lines, grown_lines, part_lines, where_failed}
+use Rattle.rinex_file.proofs.Sent.{no_lines, grown_lines, part_lines, where_failed, not_written, is_shown}
 use Rattle.rinex_file.proofs.write.write_system.Goals as goal
+use Rattle.rinex_file.proofs.write.write_system.Goals.{then-is_written+in_ok-write_whole, else-is_written}
 
 pub loop-before-init : goal.loop-before-init
 loop-before-init g c =
@@ -27,29 +29,43 @@ loop-before-preserved g c =
     let next : n + 1 ≡ suc n = omega arith in
     let inv = c.loop-before.invariant in
     let cells = c.cells-cells.result.now in
+    let own = take (c.end_of-to.result - c.loop-before.from) (drop c.loop-before.from cells) in
     let part = further n c.loop-before.from c.end_of-to.result (n + 1) cells next c.end_of-to.ensures.end c.end_of-to.ensures.bound (sorted_climbs cells c.cells-cells.ensures.order) inv.left in
-    let line = same_line c.args.plan.now c.args.system cells (cells_of c.args.system c.args.epoch.now.epoch) (n + 1) _ part.group c.cells-cells.ensures.cells in
+    let line = same_line c.args.plan.now c.args.system cells (cells_of c.args.system c.args.epoch.now.epoch) (n + 1) own part.group c.cells-cells.ensures.cells in
     let b = contents c.loop-before.writer.inner in
-    let d = contents c.write_satellite.new.writer.inner in
-    record {
-      out = grown_lines (contents c.args.writer.now.inner) (contents c.loop-before.writer.inner) (contents c.write_satellite.new.writer.inner) c.args.plan.now c.args.epoch.now.epoch c.args.system n (n + 1) next
-          inv.out (subst (λ l. Appends b d l) line c.in_ok-write_satellite.ensures.whole);
-      fine = c.in_ok-write_satellite.ensures.device.1 ∙ inv.fine;
-      left = part.left;
-      widest = c.in_ok-write_satellite.ensures.device.2 ∙ inv.widest;
-    }
+    let d = contents c.if-is_written.writer.inner in
+    elim c.if-is_written.branch [
+      then-is_written+in_ok-write_whole w ↦
+        let shown = is_shown c.args.plan.now c.args.system own (n + 1) (grind (arith, w)) in
+        record {
+          out = grown_lines (contents c.args.writer.now.inner) b d c.args.plan.now c.args.epoch.now.epoch c.args.system n (n + 1) next inv.out (subst (λ l. Appends b d l) line (subst (λ l. Appends b d l) (sym shown) (grind (arith, w))));
+          fine = grind (arith, w, inv.fine);
+          left = part.left;
+          widest = grind (arith, w, inv.widest);
+        }
+    | else-is_written w ↦
+        let none = not_written c.args.plan.now c.args.system own (n + 1) (grind (arith, w)) in
+        record {
+          out = grown_lines (contents c.args.writer.now.inner) b d c.args.plan.now c.args.epoch.now.epoch c.args.system n (n + 1) next inv.out (subst (λ l. Appends b d l) line (subst (λ l. Appends b d l) (sym none) (grind (arith, w, Appends-nil))));
+          fine = grind (arith, w, inv.fine);
+          left = part.left;
+          widest = grind (arith, w, inv.widest);
+        }
+    ]
 
-pub returns-in_err-write_satellite-clause-part : goal.returns-in_err-write_satellite-clause-part
-returns-in_err-write_satellite-clause-part g c =
+pub returns-in_err-write_whole-clause-part : goal.returns-in_err-write_whole-clause-part
+returns-in_err-write_whole-clause-part g c =
     let contents = g.W.Write.contents in
     let n = c.loop-before.before in
     let next : n + 1 ≡ suc n = omega arith in
     let within : n + 1 ≤ satellites c.args.system = omega (arith, c.loop-before-test.true, c.satellites-before-end.ensures.value) in
     let cells = c.cells-cells.result.now in
+    let own = take (c.end_of-to.result - c.loop-before.from) (drop c.loop-before.from cells) in
     let part = further n c.loop-before.from c.end_of-to.result (n + 1) cells next c.end_of-to.ensures.end c.end_of-to.ensures.bound (sorted_climbs cells c.cells-cells.ensures.order) c.loop-before.invariant.left in
-    let line = same_line c.args.plan.now c.args.system cells (cells_of c.args.system c.args.epoch.now.epoch) (n + 1) _ part.group c.cells-cells.ensures.cells in
+    let line = same_line c.args.plan.now c.args.system cells (cells_of c.args.system c.args.epoch.now.epoch) (n + 1) own part.group c.cells-cells.ensures.cells in
+    let shown = is_shown c.args.plan.now c.args.system own (n + 1) (sym c.is_written.ensures ∙ c.if-is_written.true) in
     let b = contents c.loop-before.writer.inner in
-    let d = contents c.write_satellite.new.writer.inner in
+    let d = contents c.write_whole.new.self.inner in
     where_failed c.from_residual.result _
-    (part_lines (contents c.args.writer.now.inner) (contents c.loop-before.writer.inner) (contents c.write_satellite.new.writer.inner) c.args.plan.now c.args.epoch.now.epoch c.args.system n (n + 1)
-    (satellites c.args.system) next within c.loop-before.invariant.out (subst (λ l. AppendsPrefix b d l) line c.in_err-write_satellite.ensures.part))
+    (part_lines (contents c.args.writer.now.inner) b d c.args.plan.now c.args.epoch.now.epoch c.args.system n (n + 1)
+    (satellites c.args.system) next within c.loop-before.invariant.out (subst (λ l. AppendsPrefix b d l) line (subst (λ l. AppendsPrefix b d l) (sym shown) (grind (arith, c.in_err-write_whole.ensures, c.put_seen.ensures, c.as_slice.ensures)))))
