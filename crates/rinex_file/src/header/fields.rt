@@ -2,6 +2,8 @@
 ghost use Rattle.std.specs.Prelude.{◌≡◌, ◌<◌, ◌≤◌, length};
 ghost use Rattle.rinex_file.specs.Texts.{place_of, width_of, fields_of, text_count, front_of, label_of};
 
+use HeaderField::*;
+
 /// A text of the header that the caller passes.
 #[derive(Clone, Copy, Debug, PartialEq, Eq)]
 pub enum HeaderField {
@@ -49,17 +51,8 @@ pub enum TextRow {
 impl HeaderField {
     /// All fields, in the order in which they are validated.
     pub const ALL: [HeaderField; 11] = [
-        HeaderField::RunBy,
-        HeaderField::Date,
-        HeaderField::Marker,
-        HeaderField::MarkerType,
-        HeaderField::Observer,
-        HeaderField::Agency,
-        HeaderField::RecNumber,
-        HeaderField::RecType,
-        HeaderField::RecVersion,
-        HeaderField::AntNumber,
-        HeaderField::AntType,
+        RunBy, Date, Marker, MarkerType, Observer, Agency, RecNumber, RecType, RecVersion,
+        AntNumber, AntType,
     ];
 
     /// Returns the width of the text, in columns, and the name of the field.
@@ -67,17 +60,17 @@ impl HeaderField {
         ensures { result.0 ≡ width_of self }
     {
         match self {
-            HeaderField::RunBy => (20, "run_by"),
-            HeaderField::Date => (20, "date"),
-            HeaderField::Marker => (60, "marker"),
-            HeaderField::MarkerType => (20, "marker_type"),
-            HeaderField::Observer => (20, "observer"),
-            HeaderField::Agency => (40, "agency"),
-            HeaderField::RecNumber => (20, "rec_number"),
-            HeaderField::RecType => (20, "rec_type"),
-            HeaderField::RecVersion => (20, "rec_version"),
-            HeaderField::AntNumber => (20, "ant_number"),
-            HeaderField::AntType => (20, "ant_type"),
+            RunBy => (20, "run_by"),
+            Date => (20, "date"),
+            Marker => (60, "marker"),
+            MarkerType => (20, "marker_type"),
+            Observer => (20, "observer"),
+            Agency => (40, "agency"),
+            RecNumber => (20, "rec_number"),
+            RecType => (20, "rec_type"),
+            RecVersion => (20, "rec_version"),
+            AntNumber => (20, "ant_number"),
+            AntType => (20, "ant_type"),
         }
     }
 
@@ -103,23 +96,36 @@ impl HeaderField {
 }
 
 impl TextRow {
+    /// Returns the label, in columns 61 to 80, the columns before the texts, and the texts.
+    fn parts(self) -> (&'static [u8], &'static [u8], &'static [HeaderField])
+        ensures label { (result.0.now ≡ label_of self) × (length result.0.now ≤ 20) }
+        ensures front { (result.1.now ≡ front_of self) × (length result.1.now ≤ 20) }
+        ensures fields { (result.2.now ≡ fields_of self) × (length result.2.now ≤ 3) }
+    {
+        match self {
+            TextRow::Program => (
+                b"PGM / RUN BY / DATE",
+                b"rtcm2rinex          ",
+                &[RunBy, Date],
+            ),
+            TextRow::Marker => (b"MARKER NAME", b"", &[Marker]),
+            TextRow::MarkerType => (b"MARKER TYPE", b"", &[MarkerType]),
+            TextRow::Observer => (b"OBSERVER / AGENCY", b"", &[Observer, Agency]),
+            TextRow::Receiver => (
+                b"REC # / TYPE / VERS",
+                b"",
+                &[RecNumber, RecType, RecVersion],
+            ),
+            TextRow::Antenna => (b"ANT # / TYPE", b"", &[AntNumber, AntType]),
+        }
+    }
+
     /// Returns the texts of the row, in the order of [`HeaderField::ALL`].
     pub(crate) fn fields(self) -> &'static [HeaderField]
         ensures value { result.now ≡ fields_of self }
         ensures size { length result.now ≤ 3 }
     {
-        match self {
-            TextRow::Program => &[HeaderField::RunBy, HeaderField::Date],
-            TextRow::Marker => &[HeaderField::Marker],
-            TextRow::MarkerType => &[HeaderField::MarkerType],
-            TextRow::Observer => &[HeaderField::Observer, HeaderField::Agency],
-            TextRow::Receiver => &[
-                HeaderField::RecNumber,
-                HeaderField::RecType,
-                HeaderField::RecVersion,
-            ],
-            TextRow::Antenna => &[HeaderField::AntNumber, HeaderField::AntType],
-        }
+        self.parts().2
     }
 
     /// Returns the label, in columns 61 to 80.
@@ -127,14 +133,7 @@ impl TextRow {
         ensures text { result.now ≡ label_of self }
         ensures size { length result.now ≤ 20 }
     {
-        match self {
-            TextRow::Program => b"PGM / RUN BY / DATE",
-            TextRow::Marker => b"MARKER NAME",
-            TextRow::MarkerType => b"MARKER TYPE",
-            TextRow::Observer => b"OBSERVER / AGENCY",
-            TextRow::Receiver => b"REC # / TYPE / VERS",
-            TextRow::Antenna => b"ANT # / TYPE",
-        }
+        self.parts().0
     }
 
     /// Returns the columns before the texts: the name of the program in 20 columns, or nothing.
@@ -142,9 +141,6 @@ impl TextRow {
         ensures text { result.now ≡ front_of self }
         ensures size { length result.now ≤ 20 }
     {
-        match self {
-            TextRow::Program => b"rtcm2rinex          ",
-            _ => b"",
-        }
+        self.parts().1
     }
 }
