@@ -1,18 +1,20 @@
 //! Epoch and event lines: RINEX 3.05, table A3, "EPOCH record" and event flag 4. An event precedes
 //! each epoch whose station values differ from those before.
-ghost use Rattle.std.specs.Prelude.{◌≡◌, []};
+ghost use Rattle.std.specs.Prelude.{◌≡◌};
 ghost use Rattle.obs_epoch.specs.Dates.{civil_of};
 ghost use Rattle.rinex_file.specs.File.{event_line};
 ghost use Rattle.rinex_file.specs.Lines.{epoch_line};
 
 use crate::write::numbers::{Line, put, put_padded, put_seconds, put_whole};
-use obs_epoch::{Civil, GpsTime};
+use obs_epoch::GpsTime;
 
-/// Writes the first line of an epoch at a date and time of day into the empty buffer.
-fn put_epoch(line: &mut Line, civil: &Civil, satellites: usize)
-    requires { line.old.items ≡ [] }
-    ensures { line.new.items ≡ epoch_line civil.now satellites }
+/// Writes the first line of an epoch, replacing the contents of the buffer: date and time of day,
+/// the flag 0 and the number of its satellites, which fits its three columns up to 999.
+pub fn epoch_line(time: GpsTime, satellites: usize, line: &mut Line)
+    ensures { line.new.items ≡ epoch_line (civil_of time) satellites }
 {
+    let civil = time.civil();
+    line.clear();
     put(line, b"> ");
     put_whole(line, 4, civil.year as u64);
     put(line, b" ");
@@ -27,16 +29,6 @@ fn put_epoch(line: &mut Line, civil: &Civil, satellites: usize)
     put(line, b"  0");
     put_whole(line, 3, satellites as u64);
     put(line, b"\n");
-}
-
-/// Writes the first line of an epoch, replacing the contents of the buffer: date and time of day,
-/// the flag 0 and the number of its satellites, which fits its three columns up to 999.
-pub fn epoch_line(time: GpsTime, satellites: usize, line: &mut Line)
-    ensures { line.new.items ≡ epoch_line (civil_of time) satellites }
-{
-    let civil = time.civil();
-    line.clear();
-    put_epoch(line, &civil, satellites);
 }
 
 /// Returns the first line of an event: flag 4 without a time, and the number of header lines that
