@@ -105,9 +105,7 @@ impl<'a> Iterator for HeaderLines<'a> {
     ghost remaining = { item_count (λ lines. lines) };
 
     fn next(&mut self) -> Option<Line> {
-        let Some(place) = place_from(self.head.plan, self.place) else {
-            return None;
-        };
+        let place = place_from(self.head.plan, self.place)?;
         self.place = place + 1;
         Some(line_of(&self.head, row_at(place)))
     }

@@ -11,20 +11,12 @@ use crate::write::numbers::{Line, put, put_fixed, put_left, put_seconds, put_who
 use gnss_obs::System;
 use obs_epoch::{GpsTime, Plan, StationValues};
 
-// The labels of the rows other than those of texts, in columns 61 to 80.
+// The labels, in columns 61 to 80, of the rows that are read and written by `labelled`.
 
-/// Version, the file's type and its systems.
-pub(crate) const VERSION: &[u8] = b"RINEX VERSION / TYPE";
-/// The position of the antenna.
-pub(crate) const POSITION: &[u8] = b"APPROX POSITION XYZ";
 /// The height of the antenna above the marker.
 pub(crate) const DELTA: &[u8] = b"ANTENNA: DELTA H/E/N";
-/// The types of a system.
-pub(crate) const TYPES: &[u8] = b"SYS / # / OBS TYPES";
 /// The unit of the strengths.
 pub(crate) const STRENGTH_UNIT: &[u8] = b"SIGNAL STRENGTH UNIT";
-/// The time of the first epoch.
-pub(crate) const FIRST: &[u8] = b"TIME OF FIRST OBS";
 /// The phase shifts of a system, of which there are none.
 pub(crate) const SHIFT: &[u8] = b"SYS / PHASE SHIFT";
 /// The last line.
@@ -75,11 +67,9 @@ pub(crate) fn version_with(gps: bool, galileo: bool) -> Line
     ensures { result.items ≡ version_with gps galileo }
 {
     let mut content = Line::new();
-    put_fixed(&mut content, 9, 2, 100, 305);
-    put(&mut content, b"           ");
-    put_left(&mut content, 20, b"OBSERVATION DATA");
+    put(&mut content, b"     3.05           OBSERVATION DATA    ");
     content.push(file_system(gps, galileo));
-    labelled(content.as_slice(), VERSION)
+    labelled(content.as_slice(), b"RINEX VERSION / TYPE")
 }
 
 /// Returns the line with version 3.05, the file's type and the planned systems.
@@ -108,7 +98,7 @@ pub(crate) fn texts_line(texts: &HeaderTexts, row: TextRow) -> Line
 pub(crate) fn position_line(values: &StationValues) -> Line
     ensures { result.items ≡ position_line values.now }
 {
-    three_lengths(values.x, values.y, values.z, POSITION)
+    three_lengths(values.x, values.y, values.z, b"APPROX POSITION XYZ")
 }
 
 /// Returns the line with the height of the antenna above the marker.
@@ -131,5 +121,5 @@ pub(crate) fn first_line(time: GpsTime) -> Line
     put_whole(&mut content, 6, civil.minute as u64);
     put_seconds(&mut content, 13, civil.millisecond);
     put(&mut content, b"     GPS");
-    labelled(content.as_slice(), FIRST)
+    labelled(content.as_slice(), b"TIME OF FIRST OBS")
 }

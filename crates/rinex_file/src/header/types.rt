@@ -9,7 +9,7 @@ ghost use Rattle.rinex_file.specs.Header.{header_line, type_line, type_front, ty
 ghost use Rattle.rinex_file.specs.Header.{codes_of, type_of};
 ghost use Rattle.rinex_file.specs.Limits.{most_line};
 
-use crate::header::lines::{TYPES, labelled};
+use crate::header::lines::labelled;
 use crate::write::numbers::{Line, put, put_whole};
 use crate::write::satellite::letter_of;
 use gnss_obs::{Signal, System};
@@ -87,7 +87,7 @@ pub(crate) fn types_with(system: System, count: usize, signals: &[Signal], row: 
     let mut content = Line::new();
     put_front(&mut content, letter_of(system), 4 * count, row);
     put_types(&mut content, system, signals, row);
-    labelled(content.as_slice(), TYPES)
+    labelled(content.as_slice(), b"SYS / # / OBS TYPES")
 }
 
 /// Returns a line of a system's types.

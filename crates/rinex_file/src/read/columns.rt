@@ -12,11 +12,9 @@ fn word_at(text: &[u8], first: usize) -> u64
     requires { first + 8 ≤ length text.now }
     ensures { result ≡ word (take 8 (drop first text.now)) }
 {
-    let columns = &text[first..first + 8];
-    u64::from_le_bytes([
-        columns[0], columns[1], columns[2], columns[3], columns[4], columns[5], columns[6],
-        columns[7],
-    ])
+    let mut columns = [0; 8];
+    columns.copy_from_slice(&text[first..first + 8]);
+    u64::from_le_bytes(columns)
 }
 
 /// Returns the digits in eight columns: each two neighbouring digits as one number, where any other

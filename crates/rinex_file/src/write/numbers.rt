@@ -94,9 +94,7 @@ pub(crate) fn put_whole(line: &mut Line, width: usize, number: u64)
     ensures text { line.new.items ≡ line.old.items ++ right width (decimal number) }
     ensures size { array_vec_len line.new ≤ array_vec_len line.old + 60 }
 {
-    let mut buffer = Buffer::new();
-    let digits = buffer.format(number).as_bytes();
-    put_right(line, width, digits);
+    put_right(line, width, Buffer::new().format(number).as_bytes());
 }
 
 /// Returns a number, given in units of 10 to the minus `places`, with a decimal point.
@@ -127,8 +125,7 @@ pub(crate) fn put_fixed(line: &mut Line, width: usize, places: usize, scale: u64
     ensures text { line.new.items ≡ line.old.items ++ right width (fixed places value) }
     ensures size { array_vec_len line.new ≤ array_vec_len line.old + 84 }
 {
-    let text = fixed_text(places, scale, value);
-    put_right(line, width, text.as_slice());
+    put_right(line, width, fixed_text(places, scale, value).as_slice());
 }
 
 /// Appends seconds, given in milliseconds, with seven decimals and right-aligned in `width`
