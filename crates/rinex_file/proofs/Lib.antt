@@ -11,7 +11,6 @@ mod TypeRows
 mod Sent
 mod LineByLine
 mod FileText
-mod Examples
 mod KeptFile
 mod Judged
 mod BodySteps
