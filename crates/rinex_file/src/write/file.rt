@@ -1,36 +1,22 @@
 //! The text of a file that was read.
-ghost use Rattle.std.specs.Prelude.{◌≡◌, ◌++◌, All, OnOk, IfOk, flat_map};
+ghost use Rattle.std.specs.Prelude.{◌≡◌, ◌++◌, OnOk, IfOk};
 ghost use Rattle.rinex_file.specs.Numbers.{joined};
 ghost use Rattle.rinex_file.specs.File.{change_lines, file_text};
-ghost use Rattle.rinex_file.specs.Read.Keeping.{HasRoom, HaveRowsRoom, stamped_text};
-ghost use Rattle.rinex_file.specs.Lines.{satellite_line};
+ghost use Rattle.rinex_file.specs.Read.Keeping.{HaveRowsRoom, stamped_text};
 
 use crate::header::fault::HeadFault;
 use crate::header::head::Head;
-use crate::values::{KeptEpoch, KeptRow, ObsFile};
+use crate::values::{KeptEpoch, ObsFile};
 use crate::write::epoch::epoch_line;
 use crate::write::numbers::Line;
 use crate::write::satellite::satellite_text;
 use crate::write::{write_event, write_header};
 use obs_epoch::StationValues;
-use rtcm_bits::{Counted, DeviceFailed};
+use rtcm_bits::Counted;
 use std::alloc::{AllocError, Global};
 
 /// A file in memory; a write fails if memory runs out.
 type Text = Counted<Vec<u8>>;
-
-/// Writes the lines of satellites.
-fn write_rows(rows: &[KeptRow], line: &mut Line, text: &mut Text) -> Result<(), DeviceFailed>
-    requires { All HasRoom rows.now }
-    ensures { OnOk result (text.new.inner.items ≡ text.old.inner.items ++ flat_map satellite_line rows.now) }
-{
-    for row in rows {
-        let values = row.signal_values.as_slice();
-        satellite_text(line, row.system, row.satellite, values);
-        text.write_whole(line.as_slice())?;
-    }
-    Ok(())
-}
 
 /// Writes the event of an epoch that has a change of station values.
 #[tactic(auto, unfolding(crate::specs::File::event_text))]
@@ -52,7 +38,11 @@ fn write_kept(epoch: &KeptEpoch, line: &mut Line, text: &mut Text) -> Result<(),
     let rows = epoch.rows.as_slice();
     epoch_line(epoch.time, rows.len(), line);
     text.write_whole(line.as_slice())?;
-    write_rows(rows, line, text)?;
+    for row in rows {
+        let values = row.signal_values.as_slice();
+        satellite_text(line, row.system, row.satellite, values);
+        text.write_whole(line.as_slice())?;
+    }
     Ok(())
 }
 

@@ -1,8 +1,12 @@
-use Rattle.std.proofs.Common.{◌≡◌, ◌++◌, take}
+use Rattle.std.proofs.Common.{◌≡◌, ◌++◌, take, length}
 use Rattle.std.specs.Prelude.{flat_map}
-use Rattle.rinex_file.specs.Lines.{satellite_line}
-use Rattle.rinex_file.proofs.write.file.write_rows.Given as goal
+use Rattle.obs_epoch.specs.Dates.{civil_of}
+use Rattle.rinex_file.specs.Numbers.{joined}
+use Rattle.rinex_file.specs.File.{change_lines}
+use Rattle.rinex_file.specs.Lines.{epoch_line, satellite_line}
+use Rattle.rinex_file.proofs.write.file.write_kept.Given as goal
 
--- the satellites so far were written
+-- the change, the epoch line and the satellites so far were written
 abbrev pub invariant-loop-row : goal.invariant-loop-row
-invariant-loop-row l = l.text.inner.items ≡ l.fn.text.inner.items ++ flat_map satellite_line (take l.row-index l.rows)
+invariant-loop-row l = l.text.inner.items
+    ≡ ((l.fn.text.inner.items ++ joined (change_lines l.epoch.change)) ++ epoch_line (civil_of l.epoch.time) (length l.rows)) ++ flat_map satellite_line (take l.row-index l.rows)
