@@ -1,11 +1,10 @@
 //! The line of a satellite, read back: its fields are validated, written again and compared.
 ghost use Rattle.std.specs.Prelude.{◌≡◌, ◌↔◌, ℕ, ◌+◌, ◌-◌, ◌*◌, ◌≤◌, ◌<◌, List, [], ◌∷◌, drop, ◌++◌, replicate};
-ghost use Rattle.std.specs.Prelude.{length, slice_index, All, Any, Some, IfSome, IsTrue};
+ghost use Rattle.std.specs.Prelude.{length, slice_index, Some, IfSome, IsTrue};
 ghost use Rattle.arrayvec.specs.ArrayVec.{array_vec_len};
 ghost use Rattle.gnss_obs.specs.declared.system.System.{System};
 ghost use Rattle.gnss_obs.specs.Satellites.{satellites};
 ghost use Rattle.rinex_file.specs.FileValues.{IsFrom, AreSignalValues, IsRow, IsSatelliteRow};
-ghost use Rattle.rinex_file.specs.FileValues.{has_some_value};
 ghost use Rattle.rinex_file.specs.Lines.{satellite_line};
 ghost use Rattle.rinex_file.specs.Read.Fields.{ReadsExactly, some_if};
 ghost use Rattle.rinex_file.specs.Read.Row.{signal_values_in, signals_in, satellite_row_in};
@@ -87,31 +86,17 @@ fn is_signal_values(entry: &SignalValues) -> bool
     c && l && d && s && lli
 }
 
-/// Returns whether each is an entry of a file value.
-fn are_signal_values(signal_values: &[SignalValues]) -> bool
-    ensures { IsTrue result ↔ All AreSignalValues signal_values.now }
-{
-    signal_values.iter().all(|e| is_signal_values(e))
-}
-
-/// Returns whether one of them has a value.
-fn have_value(signal_values: &[SignalValues]) -> bool
-    ensures { IsTrue result ↔ Any (λ e. IsTrue (has_some_value e)) signal_values.now }
-{
-    signal_values.iter().any(|e| e.has_value())
-}
-
 /// Returns whether a system with this number of satellites and of planned signals can have this
 /// row.
 fn is_row(seen: &KeptSatellite, most: u8, signals: usize) -> bool
     ensures { IsTrue result ↔ IsRow most signals seen.now.row }
 {
-    let signal_values = seen.signal_values.as_slice();
+    let values = seen.signal_values.as_slice();
     1 <= seen.satellite
         && seen.satellite <= most
-        && signal_values.len() == signals
-        && are_signal_values(signal_values)
-        && have_value(signal_values)
+        && values.len() == signals
+        && values.iter().all(|e| is_signal_values(e))
+        && values.iter().any(|e| e.has_value())
 }
 
 /// Writes the line without its line feed, padded with blanks, to the buffer.
