@@ -39,8 +39,10 @@ eight_bytes bs l are = eight (λ xs. AreBelow 256 xs → to_le_bytes w64 (word x
 
 -- ---- pairs of digits
 
-pub pair_at : (i : ℕ) → i < 100 → get_or PAIRS i 0 ≡ i / 10 + i % 10 * 256
-pair_at i h = eqb-true (get_or PAIRS i 0) (i / 10 + i % 10 * 256) (agree_below_at (λ k. eqb (get_or PAIRS k 0) (k / 10 + k % 10 * 256)) (λ k. true) 100 i refl h)
+pub pair_at : (i : ℕ) → i < 100 → get_or PAIRS (2 * i) 0 + get_or PAIRS (2 * i + 1) 0 * 256 ≡ (48 + i / 10) + (48 + i % 10) * 256
+pair_at i h =
+    eqb-true (get_or PAIRS (2 * i) 0 + get_or PAIRS (2 * i + 1) 0 * 256) ((48 + i / 10) + (48 + i % 10) * 256)
+    (agree_below_at (λ k. eqb (get_or PAIRS (2 * k) 0 + get_or PAIRS (2 * k + 1) 0 * 256) ((48 + k / 10) + (48 + k % 10) * 256)) (λ k. true) 100 i refl h)
 
 -- ---- trailing zeros
 

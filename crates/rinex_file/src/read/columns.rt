@@ -8,7 +8,7 @@ use crate::read::numbers::signed;
 use gnss_obs::Thousandths;
 
 /// Returns eight columns as a word.
-fn word_at(text: &[u8], first: usize) -> u64
+pub(crate) fn word_at(text: &[u8], first: usize) -> u64
     requires { first + 8 ≤ length text.now }
     ensures { result ≡ word (take 8 (drop first text.now)) }
 {

@@ -5,39 +5,20 @@ ghost use Rattle.std.specs.Int.{to_le_bytes, w64};
 ghost use Rattle.rinex_file.specs.Numbers.{padded};
 ghost use Rattle.rinex_file.specs.Words.{word, eight_digits, front_word, last_columns};
 
-/// The digits of each number below 100: the tens in the low byte, the ones in the high byte.
-const PAIRS: [u16; 100] = [
-    0x0000, 0x0100, 0x0200, 0x0300, 0x0400, 0x0500, 0x0600, 0x0700, 0x0800, 0x0900, 0x0001, 0x0101,
-    0x0201, 0x0301, 0x0401, 0x0501, 0x0601, 0x0701, 0x0801, 0x0901, 0x0002, 0x0102, 0x0202, 0x0302,
-    0x0402, 0x0502, 0x0602, 0x0702, 0x0802, 0x0902, 0x0003, 0x0103, 0x0203, 0x0303, 0x0403, 0x0503,
-    0x0603, 0x0703, 0x0803, 0x0903, 0x0004, 0x0104, 0x0204, 0x0304, 0x0404, 0x0504, 0x0604, 0x0704,
-    0x0804, 0x0904, 0x0005, 0x0105, 0x0205, 0x0305, 0x0405, 0x0505, 0x0605, 0x0705, 0x0805, 0x0905,
-    0x0006, 0x0106, 0x0206, 0x0306, 0x0406, 0x0506, 0x0606, 0x0706, 0x0806, 0x0906, 0x0007, 0x0107,
-    0x0207, 0x0307, 0x0407, 0x0507, 0x0607, 0x0707, 0x0807, 0x0907, 0x0008, 0x0108, 0x0208, 0x0308,
-    0x0408, 0x0508, 0x0608, 0x0708, 0x0808, 0x0908, 0x0009, 0x0109, 0x0209, 0x0309, 0x0409, 0x0509,
-    0x0609, 0x0709, 0x0809, 0x0909,
-];
+use crate::read::columns::word_at;
 
-/// The number added to eight digits to get their columns, by the number of leading zeros: a blank
-/// for each of these, and the code of 0 otherwise.
-const FRONTS: [u64; 9] = [
-    0x3030_3030_3030_3030,
-    0x3030_3030_3030_3020,
-    0x3030_3030_3030_2020,
-    0x3030_3030_3020_2020,
-    0x3030_3030_2020_2020,
-    0x3030_3020_2020_2020,
-    0x3030_2020_2020_2020,
-    0x3020_2020_2020_2020,
-    0x2020_2020_2020_2020,
-];
+/// The two digits of each number below 100.
+const PAIRS: [u8; 200] = *b"000102030405060708091011121314151617181920212223242526272829\
+    30313233343536373839404142434445464748495051525354555657585960616263646566676869\
+    707172737475767778798081828384858687888990919293949596979899";
 
-/// Returns the two digits of a number.
+/// Returns the columns of the two digits of a number.
 fn pair(number: u32) -> u64
     requires { number < 100 }
-    ensures { result ≡ number / 10 + number % 10 * 256 }
+    ensures { result ≡ (48 + number / 10) + (48 + number % 10) * 256 }
 {
-    PAIRS[number as usize] as u64
+    let tens = 2 * number as usize;
+    u16::from_le_bytes([PAIRS[tens], PAIRS[tens + 1]]) as u64
 }
 
 /// Returns the number added to eight digits, of which `zeros` are leading zeros, to get their
@@ -47,7 +28,7 @@ fn front(zeros: usize) -> u64
     ensures word { result ≡ front_word 8 zeros }
     ensures bound { result ≤ 0x3030_3030_3030_3030 }
 {
-    FRONTS[zeros]
+    word_at(b"        00000000", 8 - zeros)
 }
 
 /// Returns the eight digits of a number. Those of a Doppler shift are below 100.
@@ -57,7 +38,7 @@ fn eight(number: u32) -> u64
     ensures bound { result ≤ 0x0909_0909_0909_0909 }
 {
     if number < 100 {
-        return pair(number) * 0x1_0000_0000_0000;
+        return (pair(number) - 0x3030) * 0x1_0000_0000_0000;
     }
     // Four digits in each half, then two in each quarter, then one in each byte.
     let high = (number / 10_000) as u64;
@@ -81,7 +62,7 @@ fn last(two: u32, part: u32, lost: u8, strength: u8) -> u64
         + pair(part % 100) * 0x1_0000_0000
         + lost as u64 * 0x1_0000_0000_0000
         + strength as u64 * 0x100_0000_0000_0000
-        + 0x3030_302E_3030
+        + 0x302E_0000
 }
 
 /// The columns of a value without its sign.

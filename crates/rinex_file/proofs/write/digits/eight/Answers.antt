@@ -11,8 +11,8 @@ overflow_mul-tens c = let twos = of_twos c.args.number c.requires in omega (arit
 pub overflow_mul-result-2 : goal.overflow_mul-result-2
 overflow_mul-result-2 c = let twos = of_twos c.args.number c.requires in omega (arith, c.requires, twos)
 
-pub overflow_sub-result : goal.overflow_sub-result
-overflow_sub-result c = fewer c.args.number c.requires
+pub overflow_sub-result-2 : goal.overflow_sub-result-2
+overflow_sub-result-2 c = fewer c.args.number c.requires
 
 pub returns-clause-word : goal.returns-clause-word
 returns-clause-word c = digits_are c.args.number c.requires
