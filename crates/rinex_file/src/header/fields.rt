@@ -97,7 +97,7 @@ impl HeaderField {
 
 impl TextRow {
     /// Returns the label, in columns 61 to 80, the columns before the texts, and the texts.
-    fn parts(self) -> (&'static [u8], &'static [u8], &'static [HeaderField])
+    pub(crate) fn parts(self) -> (&'static [u8], &'static [u8], &'static [HeaderField])
         ensures label { (result.0.now ≡ label_of self) × (length result.0.now ≤ 20) }
         ensures front { (result.1.now ≡ front_of self) × (length result.1.now ≤ 20) }
         ensures fields { (result.2.now ≡ fields_of self) × (length result.2.now ≤ 3) }
@@ -126,14 +126,6 @@ impl TextRow {
         ensures size { length result.now ≤ 3 }
     {
         self.parts().2
-    }
-
-    /// Returns the label, in columns 61 to 80.
-    pub(crate) fn label(self) -> &'static [u8]
-        ensures text { result.now ≡ label_of self }
-        ensures size { length result.now ≤ 20 }
-    {
-        self.parts().0
     }
 
     /// Returns the columns before the texts: the name of the program in 20 columns, or nothing.

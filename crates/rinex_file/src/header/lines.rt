@@ -50,25 +50,19 @@ pub(crate) fn three_lengths(a: i64, b: i64, c: i64, label: &[u8]) -> Line
     labelled(content.as_slice(), label)
 }
 
-/// Returns the letter of the planned systems: `G`, `E`, or `M` if both are.
-fn file_system(gps: bool, galileo: bool) -> u8
-    ensures { result ≡ (if gps then (if galileo then 77 else 71) else 69) }
-{
-    match (gps, galileo) {
-        (false, _) => b'E',
-        (true, false) => b'G',
-        (true, true) => b'M',
-    }
-}
-
 /// Returns the line with version 3.05, the file's type and its systems, given whether GPS and
 /// Galileo are planned.
 pub(crate) fn version_with(gps: bool, galileo: bool) -> Line
     ensures { result.items ≡ version_with gps galileo }
 {
+    let letter = match (gps, galileo) {
+        (false, _) => b'E',
+        (true, false) => b'G',
+        (true, true) => b'M',
+    };
     let mut content = Line::new();
     put(&mut content, b"     3.05           OBSERVATION DATA    ");
-    content.push(file_system(gps, galileo));
+    content.push(letter);
     labelled(content.as_slice(), b"RINEX VERSION / TYPE")
 }
 
@@ -86,12 +80,13 @@ pub(crate) fn version_line(plan: &Plan) -> Line
 pub(crate) fn texts_line(texts: &HeaderTexts, row: TextRow) -> Line
     ensures { result.items ≡ texts_line texts.now row }
 {
+    let (label, front, fields) = row.parts();
     let mut content = Line::new();
-    put(&mut content, row.front());
-    for field in row.fields() {
+    put(&mut content, front);
+    for field in fields {
         put_left(&mut content, field.width(), texts.text(*field));
     }
-    labelled(content.as_slice(), row.label())
+    labelled(content.as_slice(), label)
 }
 
 /// Returns the line with the position of the antenna.

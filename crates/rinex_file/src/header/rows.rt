@@ -2,7 +2,7 @@
 ghost use Rattle.std.specs.Prelude.{◌≡◌, ◌<◌};
 ghost use Rattle.rinex_file.specs.Header.{row_at, row_count};
 
-use crate::header::fields::TextRow;
+use crate::header::fields::TextRow::{self, *};
 use gnss_obs::System;
 
 /// The content of the line of a row.
@@ -28,6 +28,9 @@ pub enum HeaderRow {
     End,
 }
 
+/// The rows of texts, in order.
+const TEXT_ROWS: [TextRow; 6] = [Program, Marker, MarkerType, Observer, Receiver, Antenna];
+
 /// The number of rows.
 pub(crate) const ROW_COUNT: usize = 26;
 
@@ -39,12 +42,7 @@ pub(crate) fn row_at(place: usize) -> HeaderRow
 {
     match place {
         0 => HeaderRow::Version,
-        1 => HeaderRow::Texts(TextRow::Program),
-        2 => HeaderRow::Texts(TextRow::Marker),
-        3 => HeaderRow::Texts(TextRow::MarkerType),
-        4 => HeaderRow::Texts(TextRow::Observer),
-        5 => HeaderRow::Texts(TextRow::Receiver),
-        6 => HeaderRow::Texts(TextRow::Antenna),
+        1..=6 => HeaderRow::Texts(TEXT_ROWS[place - 1]),
         7 => HeaderRow::Position,
         8 => HeaderRow::Delta,
         9..=14 => HeaderRow::Types(System::Gps, place - 9),

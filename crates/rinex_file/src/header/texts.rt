@@ -42,13 +42,10 @@ pub struct Texts<'a> {
     pub ant_type: &'a str,
 }
 
-/// The bytes of a text, at most 60.
-type Text = ArrayVec<u8, 60>;
-
 /// The texts of a header: each printable, within its columns, and without trailing blanks.
 #[derive(Drop)]
 pub struct HeaderTexts {
-    texts: [Text; HeaderField::ALL.len()],
+    texts: [ArrayVec<u8, 60>; HeaderField::ALL.len()],
 }
 
 impl Model for HeaderTexts {

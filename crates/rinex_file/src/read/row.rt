@@ -13,9 +13,8 @@ ghost use Rattle.rinex_file.specs.Limits.{most_line, signal_columns, most_signal
 use crate::read::columns::value_in;
 use crate::read::numbers::{digits_in, is_same};
 use crate::values::{KeptSatellite, SignalValues};
-use crate::write::numbers::{Line, MOST_SIGNALS, SIGNAL_COLUMNS, put, put_blanks};
+use crate::write::numbers::{Line, SIGNAL_COLUMNS, put, put_blanks};
 use crate::write::satellite::satellite_text;
-use arrayvec::ArrayVec;
 use gnss_obs::{System, Thousandths};
 
 /// The smallest and the largest value that fit 14 columns, in thousandths.
@@ -38,32 +37,20 @@ fn signal_values_in(text: &[u8]) -> SignalValues
     }
 }
 
-/// Reads the entries in the columns of this number of signals, replacing those in the buffer.
-fn put_signal_values(
-    text: &[u8],
-    signals: usize,
-    signal_values: &mut ArrayVec<SignalValues, MOST_SIGNALS>,
-)
-    requires few { signals ≤ most_signals }
-    requires room { 3 + signal_columns * signals ≤ length text.now }
-    ensures { signal_values.new.items ≡ signals_in signals (drop 3 text.now) }
-{
-    signal_values.clear();
-    for i in 0..signals {
-        let at = 3 + SIGNAL_COLUMNS * i;
-        signal_values.push(signal_values_in(&text[at..at + SIGNAL_COLUMNS]));
-    }
-}
-
 /// Reads the satellite in a line that was padded with blanks.
 fn put_seen_in(system: System, text: &[u8], signals: usize, seen: &mut KeptSatellite)
     requires few { signals ≤ most_signals }
     requires room { 3 + signal_columns * signals ≤ length text.now }
     ensures { seen.new ≡ satellite_row_in system signals text.now }
 {
+    seen.signal_values.clear();
+    for i in 0..signals {
+        let at = 3 + SIGNAL_COLUMNS * i;
+        seen.signal_values
+            .push(signal_values_in(&text[at..at + SIGNAL_COLUMNS]));
+    }
     seen.system = system;
     seen.satellite = digits_in(&text[1..3]) as u8;
-    put_signal_values(text, signals, &mut seen.signal_values);
 }
 
 /// Returns whether a value is from `low` to `high` thousandths, or is absent.

@@ -34,13 +34,6 @@ pub(crate) fn put<const N: usize>(line: &mut ArrayVec<u8, N>, bytes: &[u8])
 
 static BLANKS: [u8; MOST_LINE] = [b' '; MOST_LINE];
 
-/// Returns blanks.
-fn blanks() -> &'static [u8; MOST_LINE]
-    ensures { result.now ≡ replicate most_line 32 }
-{
-    &BLANKS
-}
-
 /// Appends blanks.
 pub(crate) fn put_blanks(line: &mut Line, count: usize)
     requires { array_vec_len line.old + count ≤ most_line }
@@ -49,7 +42,7 @@ pub(crate) fn put_blanks(line: &mut Line, count: usize)
 {
     // Usually none is missing, and a call that fills nothing costs as much as a short one.
     if count > 0 {
-        put(line, &blanks()[..count]);
+        put(line, &BLANKS[..count]);
     }
 }
 

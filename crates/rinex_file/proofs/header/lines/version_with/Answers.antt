@@ -1,15 +1,18 @@
-use Rattle.std.proofs.Common.{◌≡◌, ◌∙◌, ap, ◌∷◌, ◌++◌, []}
+use Rattle.std.proofs.Common.{arith, ◌≡◌, ◌∙◌, ap, ◌∷◌, ◌++◌, []}
 use Rattle.std.specs.Prelude.{codes}
 use Rattle.std.specs.Fmt.{digits}
 use Rattle.rinex_file.specs.Header.{header_line}
 use Rattle.rinex_file.proofs.HeaderAgree.{letter_with}
 use Rattle.rinex_file.proofs.header.lines.version_with.Goals as goal
+use Rattle.rinex_file.proofs.header.lines.version_with.Goals.{in-true-true, in-true-false, in-false-default}
 
 pub returns : goal.returns
 unfolding digits
 returns c =
     let text = codes "     3.05           OBSERVATION DATA    " in
     let letter = letter_with c.args.gps c.args.galileo in
+    let is : c.if-gps.letter ≡ letter =
+    elim c.if-gps.branch [ in-true-true w ↦ grind arith | in-true-false w ↦ grind arith | in-false-default w ↦ grind arith ] in
     let content : c.push.new.self.items ≡ text ++ letter ∷ [] =
-    c.push.ensures.items ∙ ap (λ t. t ++ c.file_system.result ∷ []) (c.put.ensures.text ∙ ap (λ t. t ++ text) c.new-content.ensures) ∙ ap (λ l. text ++ l ∷ []) c.file_system.ensures in
+    c.push.ensures.items ∙ ap (λ t. t ++ c.if-gps.letter ∷ []) (c.put.ensures.text ∙ ap (λ t. t ++ text) c.new-content.ensures) ∙ ap (λ l. text ++ l ∷ []) is in
     c.labelled.ensures ∙ ap (λ t. header_line t (codes "RINEX VERSION / TYPE")) (c.as_slice.ensures.value ∙ content)

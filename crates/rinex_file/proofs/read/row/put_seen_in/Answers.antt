@@ -2,7 +2,7 @@ use Rattle.std.proofs.Common.{arith, ◌≡◌, ◌∙◌, sym, ap, ℕ, suc, �
 use Rattle.std.proofs.lemmas.List.{drop-drop}
 use Rattle.rinex_file.specs.Value.{SignalValues}
 use Rattle.rinex_file.specs.Read.Row.{signal_values_in, signals_in}
-use Rattle.rinex_file.proofs.read.row.put_signal_values.Goals as goal
+use Rattle.rinex_file.proofs.read.row.put_seen_in.Goals as goal
 
 -- one more entry
 step : (text : List ℕ) (signals i k : ℕ) (items all new : List SignalValues) (e : SignalValues) → i < signals → k ≡ 64 → e ≡ signal_values_in (take k (drop (3 + 64 * i) text)) → new ≡ items ++ e ∷ []
@@ -20,7 +20,7 @@ step text signals i k items all new e less size is pushed before =
 pub loop-i-preserved : goal.loop-i-preserved
 loop-i-preserved c =
     record {
-      all = step c.args.text.now c.args.signals c.loop-i.i _ c.loop-i.signal_values.items (signals_in c.args.signals (drop 3 c.args.text.now)) c.push.new.self.items c.signal_values_in.result
+      all = step c.args.text.now c.args.signals c.loop-i.i _ c.loop-i.seen-inside.signal_values.items (signals_in c.args.signals (drop 3 c.args.text.now)) c.push.new.self.items c.signal_values_in.result
           (omega arith) (omega arith) c.signal_values_in.ensures c.push.ensures.items c.loop-i.invariant.all;
       size = omega (arith, c.push.ensures.len, c.loop-i.invariant.size);
     }
