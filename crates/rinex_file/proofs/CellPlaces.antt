@@ -99,8 +99,7 @@ or_none false false false false e = (refl, refl, refl, refl)
 or_none a b c d e = cc
 
 is_none : (v : Option ℤ) → is_some v ≡ false → v ≡ None
-is_none None e = refl
-is_none (Some v) e = cc
+is_none v e = grind arith
 
 blank_text : (c l d s : Option ℤ) (lost strength : ℕ) → c ≡ None → l ≡ None → d ≡ None → s ≡ None
     → field c 32 strength ++ (field l lost strength ++ (field d 32 32 ++ field s 32 32)) ≡ replicate 64 32

@@ -166,14 +166,13 @@ first_shown t line is e =
 
 -- ---- one time has a date and time of day
 
-same_pos : (m n : ℕ) → pos m ≡ pos n → m ≡ n
-same_pos m n e = cc
-
 by_parts : (t u : ℕ) → t / day_length ≡ u / day_length → t % day_length ≡ u % day_length → t ≡ u
 by_parts t u d c = sym (div-add-mod' t day_length) ∙ ap (λ q. q * day_length + t % day_length) d ∙ ap (λ r. u / day_length * day_length + r) c ∙ div-add-mod' u day_length
 
 pub one_time : (t u : ℕ) (c : Civil) → IsCivilOf t c → IsCivilOf u c → t ≡ u
-one_time t u c is also = by_parts t u (same_pos (t / day_length) (u / day_length) (sym is.days ∙ also.days)) (sym is.clock ∙ also.clock)
+one_time t u c is also =
+    let days : pos (t / day_length) ≡ pos (u / day_length) = sym is.days ∙ also.days in
+    by_parts t u (cc) (sym is.clock ∙ also.clock)
 
 -- ---- the date and time of day of the numbers that were read
 
