@@ -1,5 +1,5 @@
 -- The data of one satellite or cell, read field by field.
-use Rattle.std.proofs.Common.{ℕ, ℤ, w16, w32, w64, to_z, of_z, FitsSigned, ◌≡◌, ◌+◌, ◌*◌, ◌/◌, ◌%◌, ◌^◌, ◌<◌, ◌≤◌, Bool, List, [], ◌∷◌, length, take, drop, refl, ap, ap₂, ◌∙◌, arith, lit<}
+use Rattle.std.proofs.Common.{ℕ, ℤ, w16, w32, w64, to_z, of_z, FitsSigned, ◌≡◌, ◌+◌, ◌*◌, ◌-◌, ◌/◌, ◌%◌, ◌^◌, ◌<◌, ◌≤◌, Bool, List, [], ◌∷◌, length, take, drop, refl, ap, ap₂, ◌∙◌, arith, lit<}
 use Rattle.std.proofs.lemmas.Nat.{mod_low, shr_high, pow-add}
 use Rattle.std.proofs.lemmas.List.{length-take}
 use Rattle.std.proofs.lemmas.Int.{ints, to_z-of_z}
@@ -67,6 +67,13 @@ pub unpacked_row : (t : Table) (n : ℕ) (bits : List Bool) (p i m : ℕ) → un
 unfolding row_at
 unpacked_row [] n bits p i m = refl
 unpacked_row (f ∷ fs) n bits p i m = first_unpacked f fs n bits p i m (contents_after fs n bits p (width f.1) i) (unpacked_after fs n bits p (width f.1) i _)
+
+-- A field that is found by its last bit.
+pub field_to : (bits : List Bool) (last at w : ℕ) → last + 1 ≡ at + w → field_at bits (last + 1 - w) w ≡ field_at bits at w
+field_to bits last at w e = ap (λ (p : ℕ). field_at bits p w) (begins last at w e)
+  where
+    begins : (last at w : ℕ) → last + 1 ≡ at + w → last + 1 - w ≡ at
+    begins last at w e = omega (arith, e)
 
 -- A number in two's complement that was narrowed.
 pub narrow_16 : (z : ℤ) → FitsSigned w16 z → to_z w16 (of_z w16 (to_z w64 (of_z w64 z))) ≡ z

@@ -10,6 +10,8 @@ use Rattle.rtcm_msg.specs.Fields.{cursor_at, number_at}
 use Rattle.rtcm_msg.specs.Packed.{total_width}
 use Rattle.rtcm_msg.specs.Columns.{columns_at, EachBelow}
 use Rattle.rtcm_msg.specs.Msm.{MasksValue, IsHeader, AreMasks, IsValue, header_at, masks_at, msm_at}
+use Rattle.rtcm_msg.specs.declared.last_bits.LastBits.{LastBits}
+use Rattle.rtcm_msg.specs.LastBits.{AreLast}
 use Rattle.rtcm_msg.specs.Rows.{rows_at, row_at, end_of_rows}
 use Rattle.rtcm_msg.specs.declared.view.Data.{Data}
 use Rattle.rtcm_msg.specs.declared.view.Data.TheVariants as datas
@@ -134,17 +136,25 @@ whole form g bytes sw cw c0 c1 c2 h s n m p at end number at_masks e f place sws
     subst (λ (q : ℕ). Found form g bits c0 h s (count_ones n) q (count_ones m) at) (sym place) all
 
 -- The bounds of the data, counted in bytes.
-pub are_within : (form : Form) (bytes : List ℕ) (n place m at : ℕ) → length bytes ≤ 1023 → 64 ≤ place → place ≤ at → place + n * total_width (satellite_widths form) ≤ length (bits_of bytes) → at + m * total_width (cell_widths form) ≤ length (bits_of bytes)
-    → AreWithin form (length bytes) n place m at
-are_within form bytes n place m at small after order first second = record { small = small; satellites_after = after; cells_after = omega (arith, after, order); satellites_there = rw (← length-bits_of bytes) first; cells_there = rw (← length-bits_of bytes) second }
+pub are_within : (form : Form) (bytes : List ℕ) (n place m : ℕ) (b : LastBits) → length bytes ≤ 1023 → 64 ≤ place → place ≤ b.place → place + n * total_width (satellite_widths form) ≤ length (bits_of bytes) → b.place + m * total_width (cell_widths form) ≤ length (bits_of bytes)
+    → b.count ≡ m → AreLast (cell_widths form) b → AreWithin form (length bytes) n place m b
+are_within form bytes n place m b small after order first second count last = record {
+  small = small;
+  satellites_after = after;
+  cells_after = omega (arith, after, order);
+  satellites_there = rw (← length-bits_of bytes) first;
+  cells_there = rw (← length-bits_of bytes) second;
+  cell_count = count;
+  last = last;
+}
 
 -- The number of satellites and cells, in either form of the data.
 pub satellites_counted : (form : Form) (n m : ℕ) (d : Data) → AreDataOf form n m d → length (satellite_rows form n d) ≡ n
-satellites_counted form n m (datas.Bits bytes at cells_at) h = rows_counted (satellite_widths form) bytes.now n at h.there.satellites_there
+satellites_counted form n m (datas.Bits bytes at b) h = rows_counted (satellite_widths form) bytes.now n at h.there.satellites_there
 satellites_counted form n m (datas.Packed s c) h = h.there.0
 
 pub cells_counted : (form : Form) (n m : ℕ) (d : Data) → AreDataOf form n m d → length (cell_rows form m d) ≡ m
-cells_counted form n m (datas.Bits bytes at cells_at) h = rows_counted (cell_widths form) bytes.now m cells_at h.there.cells_there
+cells_counted form n m (datas.Bits bytes at b) h = rows_counted (cell_widths form) bytes.now m b.place h.there.cells_there
 cells_counted form n m (datas.Packed s c) h = h.there.1
 
 -- The index is less than the number of rows.

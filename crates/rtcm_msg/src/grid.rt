@@ -8,8 +8,10 @@ ghost use Rattle.rtcm_bits.specs.Bits.{bits_of};
 ghost use Rattle.rtcm_bits.specs.FrameOf.{longest_message};
 ghost use Rattle.rtcm_msg.specs.Msm.{satellite_mask_bits, most_pairs};
 ghost use Rattle.rtcm_msg.specs.Rows.{row_at};
+ghost use Rattle.rtcm_msg.specs.LastBits.{AreLast};
 
 use crate::fault::Field;
+use crate::last_bits::LastBits;
 
 /// The precision of an MSM: the fields of a satellite and of a cell, and their meaning. Reading and
 /// writing are the same in each precision.
@@ -196,14 +198,24 @@ pub(crate) trait ReadGrid: Grid {
         requires after { 64 ≤ place }
         ensures { result ≡ Self.satellite_at (row_at Self.satellite_widths count (bits_of bytes.now) place i 0) };
 
-    /// Reads cell `i` of `count` cells whose data begin at bit `place`.
-    fn cell_in(bytes: &[u8], count: usize, place: usize, i: usize) -> Self::Cell
-        requires there { i < count }
+    /// Returns the last bits of the fields of `count` cells whose data begin at bit `place`.
+    fn last_bits(count: usize, place: usize) -> LastBits
         requires few { count ≤ most_pairs }
-        requires within { place + count * total_width Self.cell_widths ≤ 8 * length bytes.now }
+        requires small { place ≤ 8 * longest_message }
+        ensures count { result.count ≡ count }
+        ensures place { result.place ≡ place }
+        ensures last { AreLast Self.cell_widths result };
+
+    /// Reads cell `i`.
+    fn cell_in(bytes: &[u8], cells: &LastBits, i: usize) -> Self::Cell
+        requires there { i < cells.now.count }
+        requires few { cells.now.count ≤ most_pairs }
+        requires last { AreLast Self.cell_widths cells.now }
+        requires within { cells.now.place + cells.now.count * total_width Self.cell_widths ≤ 8 * length bytes.now }
         requires small { length bytes.now ≤ longest_message }
-        requires after { 64 ≤ place }
-        ensures { result ≡ Self.cell_at (row_at Self.cell_widths count (bits_of bytes.now) place i 0) };
+        requires after { 64 ≤ cells.now.place }
+        ensures { result ≡ Self.cell_at
+            (row_at Self.cell_widths cells.now.count (bits_of bytes.now) cells.now.place i 0) };
 }
 
 /// Returns a fine part in 2^-31 ms: `number` units of `unit`, or `None` for the invalid number.

@@ -3,8 +3,9 @@ ghost use Rattle.std.specs.List.{list_any};
 ghost use Rattle.rtcm_msg.specs.Grid4 as grid4;
 
 use crate::fault::Field;
-use crate::field::{short_at, signed_at};
+use crate::field::{short_at, short_to, signed_to};
 use crate::grid::{Grid, ReadGrid, range_joined, scaled};
+use crate::last_bits::LastBits;
 use rtcm_bits::{raw_of, signed_of};
 
 /// Data of a satellite in MSM4.
@@ -232,14 +233,27 @@ impl ReadGrid for Grid4 {
         }
     }
 
+    fn last_bits(count: usize, place: usize) -> LastBits {
+        LastBits {
+            count,
+            place,
+            range: place + 14,
+            phase: place + count * 15 + 21,
+            lock: place + count * (15 + 22) + 3,
+            half_cycle: place + count * (15 + 22 + 4),
+            strength: place + count * (15 + 22 + 4 + 1) + 5,
+            rate: 0,
+        }
+    }
+
     #[inline(always)]
-    fn cell_in(bytes: &[u8], count: usize, place: usize, i: usize) -> Cell4 {
+    fn cell_in(bytes: &[u8], cells: &LastBits, i: usize) -> Cell4 {
         Cell4 {
-            range: signed_at(bytes, place + i * 15, 15) as i16,
-            phase: signed_at(bytes, place + count * 15 + i * 22, 22) as i32,
-            lock: short_at(bytes, place + count * (15 + 22) + i * 4, 4) as u8,
-            half_cycle: short_at(bytes, place + count * (15 + 22 + 4) + i * 1, 1) == 1,
-            strength: short_at(bytes, place + count * (15 + 22 + 4 + 1) + i * 6, 6) as u8,
+            range: signed_to(bytes, cells.range + i * 15, 15) as i16,
+            phase: signed_to(bytes, cells.phase + i * 22, 22) as i32,
+            lock: short_to(bytes, cells.lock + i * 4, 4) as u8,
+            half_cycle: short_to(bytes, cells.half_cycle + i, 1) == 1,
+            strength: short_to(bytes, cells.strength + i * 6, 6) as u8,
         }
     }
 }

@@ -3,8 +3,9 @@ ghost use Rattle.std.specs.List.{list_any};
 ghost use Rattle.rtcm_msg.specs.Grid7 as grid7;
 
 use crate::fault::Field;
-use crate::field::{short_at, signed_at};
+use crate::field::{short_at, short_to, signed_at, signed_to};
 use crate::grid::{Grid, ReadGrid, range_joined, scaled};
+use crate::last_bits::LastBits;
 use rtcm_bits::{raw_of, signed_of};
 
 /// Data of a satellite in MSM7.
@@ -266,15 +267,28 @@ impl ReadGrid for Grid7 {
         }
     }
 
+    fn last_bits(count: usize, place: usize) -> LastBits {
+        LastBits {
+            count,
+            place,
+            range: place + 19,
+            phase: place + count * 20 + 23,
+            lock: place + count * (20 + 24) + 9,
+            half_cycle: place + count * (20 + 24 + 10),
+            strength: place + count * (20 + 24 + 10 + 1) + 9,
+            rate: place + count * (20 + 24 + 10 + 1 + 10) + 14,
+        }
+    }
+
     #[inline(always)]
-    fn cell_in(bytes: &[u8], count: usize, place: usize, i: usize) -> Cell7 {
+    fn cell_in(bytes: &[u8], cells: &LastBits, i: usize) -> Cell7 {
         Cell7 {
-            range: signed_at(bytes, place + i * 20, 20) as i32,
-            phase: signed_at(bytes, place + count * 20 + i * 24, 24) as i32,
-            lock: short_at(bytes, place + count * (20 + 24) + i * 10, 10) as u16,
-            half_cycle: short_at(bytes, place + count * (20 + 24 + 10) + i * 1, 1) == 1,
-            strength: short_at(bytes, place + count * (20 + 24 + 10 + 1) + i * 10, 10) as u16,
-            rate: signed_at(bytes, place + count * (20 + 24 + 10 + 1 + 10) + i * 15, 15) as i16,
+            range: signed_to(bytes, cells.range + i * 20, 20) as i32,
+            phase: signed_to(bytes, cells.phase + i * 24, 24) as i32,
+            lock: short_to(bytes, cells.lock + i * 10, 10) as u16,
+            half_cycle: short_to(bytes, cells.half_cycle + i, 1) == 1,
+            strength: short_to(bytes, cells.strength + i * 10, 10) as u16,
+            rate: signed_to(bytes, cells.rate + i * 15, 15) as i16,
         }
     }
 }

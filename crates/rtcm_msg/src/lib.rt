@@ -12,6 +12,7 @@ mod grid;
 mod grid4;
 mod grid7;
 mod header;
+mod last_bits;
 pub mod laws;
 mod masks;
 mod message;

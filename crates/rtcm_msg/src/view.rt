@@ -8,6 +8,7 @@ ghost use Rattle.rtcm_msg.specs.Decoding.{message_at, body_at};
 ghost use Rattle.rtcm_msg.specs.Viewed.{viewed_message, entry_in, lock_field, rough, Keeps};
 ghost use Rattle.rtcm_msg.specs.Entries.{IsEntry, entries};
 ghost use Rattle.rtcm_msg.specs.Encoding.{IsMessage};
+ghost use Rattle.rtcm_msg.specs.LastBits.{AreLast};
 ghost use Rattle.rtcm_msg.specs.Rows as rows;
 ghost use Rattle.rtcm_msg.specs.Views as views;
 
@@ -18,6 +19,7 @@ use crate::grid::{Grid, ReadGrid};
 use crate::grid4::{Grid4, Satellite4};
 use crate::grid7::{Grid7, Satellite7};
 use crate::header::{MsmHeader, read_header};
+use crate::last_bits::LastBits;
 use crate::masks::{Masks, read_masks};
 use crate::message::{Message, read_set};
 use crate::msm::msm_of;
@@ -59,13 +61,27 @@ impl Form {
             Form::Msm7 => (Grid7::satellite_widths(), Grid7::cell_widths()),
         }
     }
+
+    /// Returns the last bits of the fields of `count` cells whose data begin at bit `place`.
+    fn last_bits(self, count: usize, place: usize) -> LastBits
+        requires few { count ≤ most_pairs }
+        requires small { place ≤ 8 * longest_message }
+        ensures count { result.count ≡ count }
+        ensures place { result.place ≡ place }
+        ensures last { AreLast (views.cell_widths self) result }
+    {
+        match self {
+            Form::Msm4 => Grid4::last_bits(count, place),
+            Form::Msm7 => Grid7::last_bits(count, place),
+        }
+    }
 }
 
 /// The data of a message's satellites and cells.
 #[derive(Clone, Copy)]
 pub(crate) enum Data<'a> {
-    /// The bytes of a message, and the first bits of the satellites' data and of the cells' data.
-    Bits(&'a [u8], usize, usize),
+    /// The bytes of a message, the first bit of the satellites' data, and the cells' last bits.
+    Bits(&'a [u8], usize, LastBits),
     /// Packed numbers, one for each satellite and one for each cell.
     Packed(&'a [u128], &'a [u128]),
 }
@@ -181,8 +197,8 @@ impl<'a> MsmView<'a> {
         ensures in_range { G.is_satellite result }
         ensures same { G.satellite_packed result ≡ slice_index self.now.msm.satellites i }
     {
-        match self.rows {
-            Data::Bits(bytes, place, _) => G::satellite_in(bytes, self.satellites, place, i),
+        match &self.rows {
+            Data::Bits(bytes, place, _) => G::satellite_in(bytes, self.satellites, *place, i),
             Data::Packed(satellites, _) => G::satellite_of(satellites[i] as u64),
         }
     }
@@ -196,8 +212,8 @@ impl<'a> MsmView<'a> {
         ensures in_range { G.is_cell result }
         ensures same { G.cell_packed result ≡ slice_index self.now.msm.cells i }
     {
-        match self.rows {
-            Data::Bits(bytes, _, cells_at) => G::cell_in(bytes, self.cells, cells_at, i),
+        match &self.rows {
+            Data::Bits(bytes, _, cells) => G::cell_in(bytes, cells, i),
             Data::Packed(_, cells) => G::cell_of(cells[i]),
         }
     }
@@ -412,7 +428,7 @@ fn view_msm<'a>(
         masks,
         satellites,
         cells,
-        rows: Data::Bits(bytes, satellites_at, cells_at),
+        rows: Data::Bits(bytes, satellites_at, form.last_bits(cells, cells_at)),
     }))
 }
 

@@ -1,11 +1,28 @@
-use Rattle.std.proofs.Common.{◌∙◌, ap, sym, subst, slice_index}
+use Rattle.std.proofs.Common.{ℕ, List, ◌∙◌, ap, sym, subst, slice_index}
+use Rattle.rtcm_bits.specs.Bits.{bits_of}
+use Rattle.rtcm_msg.specs.LastBits.{AreLast}
+use Rattle.rtcm_msg.specs.Rows.{row_at}
 use Rattle.rtcm_msg.specs.declared.view.Data.{Data}
 use Rattle.rtcm_msg.specs.Views.{FormedMsm, AreDataOf, cell_widths, cell_rows}
 use Rattle.rtcm_msg.proofs.ViewLaws.{row_value, below, fits, cells_counted}
 use Rattle.rtcm_msg.proofs.view.MsmView.cell.Goals as goal
 
 pub cell_in-requires-clause-there : goal.cell_in-requires-clause-there
-cell_in-requires-clause-there g c = below c.args.i c.self.inside.cells _ _ (cells_counted c.self.inside.form c.self.inside.satellites c.self.inside.cells c.self.inside.rows c.self.invariant.1) (ap (λ (v : FormedMsm). v.msm.cells) c.self.view_is) c.requires.there
+cell_in-requires-clause-there g c =
+    let there = subst (AreDataOf c.self.inside.form c.self.inside.satellites c.self.inside.cells) c.in-Bits.is c.self.invariant.1 in
+    let h = below c.args.i c.self.inside.cells _ _ (cells_counted c.self.inside.form c.self.inside.satellites c.self.inside.cells c.self.inside.rows c.self.invariant.1) (ap (λ (v : FormedMsm). v.msm.cells) c.self.view_is) c.requires.there in
+    rw there.there.cell_count h
+
+pub cell_in-requires-clause-few : goal.cell_in-requires-clause-few
+cell_in-requires-clause-few g c =
+    let there = subst (AreDataOf c.self.inside.form c.self.inside.satellites c.self.inside.cells) c.in-Bits.is c.self.invariant.1 in
+    rw there.there.cell_count there.cells_few
+
+pub cell_in-requires-clause-last : goal.cell_in-requires-clause-last
+cell_in-requires-clause-last g c =
+    let there = subst (AreDataOf c.self.inside.form c.self.inside.satellites c.self.inside.cells) c.in-Bits.is c.self.invariant.1 in
+    let widths = c.requires.widths ∙ sym (ap (λ (v : FormedMsm). cell_widths v.form) c.self.view_is) in
+    subst (λ (ws : List ℕ). AreLast ws c.in-Bits.cells) (sym widths) there.there.last
 
 pub returns-in-Bits-clause-value : goal.returns-in-Bits-clause-value
 returns-in-Bits-clause-value g c =
@@ -13,7 +30,8 @@ returns-in-Bits-clause-value g c =
     let h = below c.args.i c.self.inside.cells _ _ (cells_counted c.self.inside.form c.self.inside.satellites c.self.inside.cells c.self.inside.rows c.self.invariant.1) (ap (λ (v : FormedMsm). v.msm.cells) c.self.view_is) c.requires.there in
     let widths = c.requires.widths ∙ sym (ap (λ (v : FormedMsm). cell_widths v.form) c.self.view_is) in
     c.cell_in.ensures
-    ∙ ap g.G.Grid.cell_at (row_value g.G.Grid.cell_widths (cell_widths c.self.inside.form) c.in-Bits.bytes.now c.self.inside.cells c.in-Bits.cells_at c.args.i widths there.there.cells_there h
+    ∙ ap (λ (n : ℕ). g.G.Grid.cell_at (row_at g.G.Grid.cell_widths n (bits_of c.in-Bits.bytes.now) c.in-Bits.cells.place c.args.i 0)) there.there.cell_count
+    ∙ ap g.G.Grid.cell_at (row_value g.G.Grid.cell_widths (cell_widths c.self.inside.form) c.in-Bits.bytes.now c.self.inside.cells c.in-Bits.cells.place c.args.i widths there.there.cells_there h
     ∙ (ap (λ (d : Data). slice_index (cell_rows c.self.inside.form c.self.inside.cells d) c.args.i) (sym c.in-Bits.is)
     ∙ ap (λ (v : FormedMsm). slice_index v.msm.cells c.args.i) c.self.view_is))
 
