@@ -27,5 +27,6 @@ pub use fault::PlanFault;
 pub use gather::Gatherer;
 pub use plan::Plan;
 pub use signal_counts::SignalCounts;
+pub use signals::Signals;
 pub use taken::{Gather, Kind, Taken};
 pub use time::GpsTime;

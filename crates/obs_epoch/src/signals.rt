@@ -1,5 +1,5 @@
 //! Lists of distinct signals of one system.
-ghost use Rattle.std.specs.Prelude.{◌≡◌, ◌↔◌, ◌==◌, [], IsTrue, length, true, false, Ok};
+ghost use Rattle.std.specs.Prelude.{◌≡◌, ◌↔◌, ◌==◌, [], IsTrue, length, true, false, Ok, OnErr};
 ghost use Rattle.std.specs.List.{list_any};
 ghost use Rattle.gnss_obs.specs.Signals.{SignalAt, table};
 ghost use Rattle.obs_epoch.specs.Plans.{place_in};
@@ -43,7 +43,7 @@ impl Signals {
     }
 
     /// Appends a signal of the same system as the others, and returns whether it is new. A signal
-    /// that is in the list already leaves the list unchanged.
+    /// that is in the list already leaves the list unchanged, and so does an error.
     ///
     /// # Errors
     ///
@@ -53,6 +53,7 @@ impl Signals {
         ensures new { result ≡ Ok true → IsAdded self.old signal self.new }
         ensures old { result ≡ Ok false
             → (self.new ≡ self.old) × (list_any (λ s. signal.index == s.index) self.old ≡ true) }
+        ensures failed { OnErr result (self.new ≡ self.old) }
     {
         let index = signal.index();
         match self.order.insert_full(signal) {

@@ -2,7 +2,7 @@
 use Rattle.std.specs.Str.{IsAscii, IsUtf8}
 use Rattle.std.specs.Prelude.{map, flat_map, slice_index, codes, All}
 use Rattle.std.specs.List.{list_any, IsDistinct}
-use Rattle.std.proofs.Common.{min, ◌-◌, length-take, length-drop, arith, rules, ◌≡◌, ◌∙◌, ap, refl, ℕ, zero, suc, ◌+◌, ◌<◌, ◌≤◌, ◌==◌, ◌&&◌, Bool, true, false, List, [], ◌∷◌, length, take, drop, Some, nat_lt, sym, ◌*◌, ◌/◌, ◌%◌, ◌++◌, get_or, append_assoc, append-nil, ap₂, subst, ◌^◌, ◌||◌, replicate, decimal, nat_eq}
+use Rattle.std.proofs.Common.{min, ◌-◌, length-take, length-drop, arith, rules, ◌≡◌, ◌∙◌, ap, refl, ℕ, zero, suc, ◌+◌, ◌<◌, ◌≤◌, ◌==◌, ◌&&◌, Bool, true, false, List, [], ◌∷◌, length, take, drop, Some, None, Option, nat_lt, sym, ◌*◌, ◌/◌, ◌%◌, ◌++◌, get_or, append_assoc, append-nil, ap₂, subst, ◌^◌, ◌||◌, replicate, decimal, nat_eq}
 use Rattle.std.proofs.lemmas.Str.{IsUtf8-from_ascii}
 use Rattle.std.proofs.lemmas.Bool.{cases_lt}
 use Rattle.std.proofs.lemmas.List.{take_more, get_or-drop, take_all, take_at, take-take, take-map, drop_at, drop-drop, drop-take, get_or-take}
@@ -316,26 +316,34 @@ pub code_here : (system : System) (all line : List ℕ) (row place : ℕ) → Ar
     → signals_begun row ≤ place → place < signals_begun (row + 1) → place < length all → take 2 (drop (column_of row place) line) ≡ code_of (signal_at system all place)
 code_here system all line row place are few is low high less = grind (arith, code_in_line, in_row, same_place)
 
-pub taken_more : (system : System) (all line : List ℕ) (row place : ℕ) (old new : List SignalAt) → AreTypes system all → 4 * length all < 1000 → line ≡ types_line system all row
-    → signals_begun row ≤ place → place < signals_begun (row + 1) → place < length all
-    → ((s : SignalAt) → HasSignalAt system line (column_of row place) s → new ≡ old ++ s ∷ [])
-    → indices old ≡ take place all → indices new ≡ take (place + 1) all
-taken_more system all line row place old new are few is low high less more before =
-    let s = signal_at system all place in
-    let grown = more s (listed_at system all place are less, refl, code_here system all line row place are few is low high less) in
-    ap indices grown ∙ indices-push old s ∙ ap (λ l. l ++ slice_index all place ∷ []) before ∙ sym (take_more all place 0 less)
+same_signal : (s t : SignalAt) → Some s ≡ Some t → s ≡ t
+same_signal s t e = cc
+
+no_signal : (s : SignalAt) → None ≡ Some s → ⊥
+no_signal s e = cc
 
 not_both : (b : Bool) → b ≡ true → b ≡ false → ⊥
 not_both b h k = grind (arith, h, k)
 
-pub taken_before : (system : System) (all line : List ℕ) (row place : ℕ) (old : List SignalAt) → AreTypes system all → 4 * length all < 1000 → line ≡ types_line system all row
-    → signals_begun row ≤ place → place < signals_begun (row + 1) → place < length all
-    → ((s : SignalAt) → HasSignalAt system line (column_of row place) s → list_any (λ (r : SignalAt). s.index == r.index) old ≡ true)
-    → indices old ≡ take place all → ⊥
-taken_before system all line row place old are few is low high less bad before =
-    let s = signal_at system all place in
-    let found = bad s (listed_at system all place are less, refl, code_here system all line row place are few is low high less) in
-    not_both _ found (any_index (slice_index all place) old ∙ ap (list_any (nat_eq (slice_index all place))) before ∙ not_before all place are.apart less)
+-- the signal that is read from the column of the next one
+module _ (system : System) (all line : List ℕ) (row place : ℕ) (are : AreTypes system all) (few : 4 * length all < 1000) (is : line ≡ types_line system all row)
+    (low : signals_begun row ≤ place) (high : place < signals_begun (row + 1)) (less : place < length all) (found : Option SignalAt)
+    (read : (s : SignalAt) → HasSignalAt system line (column_of row place) s → found ≡ Some s) where
+  read_here : found ≡ Some (signal_at system all place)
+  read_here = read (signal_at system all place) (listed_at system all place are less, refl, code_here system all line row place are few is low high less)
+
+  pub not_read : found ≡ None → ⊥
+  not_read none = no_signal _ (sym none ∙ read_here)
+
+  pub taken_more : (s : SignalAt) (old : List SignalAt) → found ≡ Some s → indices old ≡ take place all → indices (old ++ s ∷ []) ≡ take (place + 1) all
+  taken_more s old e before =
+      let same : s.index ≡ slice_index all place = ap (λ (t : SignalAt). t.index) (same_signal s (signal_at system all place) (sym e ∙ read_here)) in
+      indices-push old s ∙ ap₂ (λ l i. l ++ i ∷ []) before same ∙ sym (take_more all place 0 less)
+
+  pub taken_before : (s : SignalAt) (old : List SignalAt) → found ≡ Some s → list_any (λ (r : SignalAt). s.index == r.index) old ≡ true → indices old ≡ take place all → ⊥
+  taken_before s old e twice before =
+      let same : s.index ≡ slice_index all place = ap (λ (t : SignalAt). t.index) (same_signal s (signal_at system all place) (sym e ∙ read_here)) in
+      not_both _ twice (any_index s.index old ∙ ap₂ (λ i l. list_any (nat_eq i) l) same before ∙ not_before all place are.apart less)
 
 -- ---- the whole line
 

@@ -100,7 +100,11 @@ impl FileBuilder {
         ensures { IfOk result (λ f. f ≡ file_at parser_state (history_of self)) }
     {
         let head = parser_state.head;
-        match Plan::from_signals(self.alloc, head.gps.as_slice(), head.galileo.as_slice()) {
+        match Plan::from_signals(
+            self.alloc,
+            head.gps.signals.as_slice(),
+            head.galileo.signals.as_slice(),
+        ) {
             Ok(plan) => Ok(ObsFile {
                 texts: head.texts,
                 plan,

@@ -47,7 +47,7 @@ impl Model for HeadSoFar {
       shown =
           record {
             texts = h.texts;
-            plan = record { gps = indices h.gps.signals.items; galileo = indices h.galileo.signals.items };
+            plan = record { gps = indices h.gps.signals; galileo = indices h.galileo.signals };
             values = h.values;
             first = h.first;
           };
@@ -55,7 +55,7 @@ impl Model for HeadSoFar {
       galileo = record { planned = h.galileo.is_planned; count = h.galileo.count };
     } };
 
-    ghost invariant = { λ h. IsOf Gps h.gps.signals.items × IsOf Galileo h.galileo.signals.items
+    ghost invariant = { λ h. IsOf Gps h.gps.signals × IsOf Galileo h.galileo.signals
         × AreValues h.values × IsTime h.first
         × (h.gps.count ≤ length (table Gps)) × (h.galileo.count ≤ length (table Galileo)) };
 }
@@ -89,7 +89,7 @@ impl HeadSoFar {
     fn of(&self, system: System) -> &TypesSoFar
         ensures planned { result.now.is_planned ≡ (announced self.now system).planned }
         ensures count { result.now.count ≡ (announced self.now system).count }
-        ensures signals { indices result.now.signals.items ≡ planned_of system self.now.shown.plan }
+        ensures signals { indices result.now.signals ≡ planned_of system self.now.shown.plan }
         ensures few { result.now.count ≤ length (table system) }
     {
         match system {

@@ -9,9 +9,10 @@ ghost use Rattle.rinex_file.specs.Read.Progress.{AreTypes, types_line, signals_b
 ghost use Rattle.rinex_file.specs.Read.HeaderSteps.{ReadsRow, RefusesRow, TakesTypes, RefusesTypes, HasSignalAt};
 
 use crate::header::types::{TYPES_IN_LINE, type_rows, types_with};
-use crate::read::expected::Refusal;
+use crate::read::expected::{Refusal, accept};
 use crate::read::numbers::{digits_in, is_same};
 use gnss_obs::{Signal, System};
+use obs_epoch::Signals;
 use std::alloc::Global;
 
 /// What was read of the types of a system.
@@ -22,7 +23,7 @@ pub(crate) struct TypesSoFar {
     /// The number of planned signals, by the first line of types; zero before it is read.
     pub(crate) count: usize,
     /// The signals whose types begin in the lines that were read.
-    pub(crate) signals: Vec<Signal>,
+    pub(crate) signals: Signals,
 }
 
 impl TypesSoFar {
@@ -30,20 +31,13 @@ impl TypesSoFar {
     pub(crate) fn new(alloc: Global) -> TypesSoFar
         ensures planned { result.is_planned ≡ false }
         ensures count { result.count ≡ 0 }
-        ensures signals { result.signals.items ≡ [] }
+        ensures signals { result.signals ≡ [] }
     {
         TypesSoFar {
             is_planned: false,
             count: 0,
-            signals: Vec::new(alloc),
+            signals: Signals::new(alloc),
         }
-    }
-
-    /// Returns the signals whose types begin in the lines that were read.
-    pub(crate) fn as_slice(&self) -> &[Signal]
-        ensures value { result.now ≡ self.now.signals.items }
-    {
-        self.signals.as_slice()
     }
 
     /// Returns the number of planned signals, if this line of types is expected.
@@ -71,33 +65,28 @@ impl TypesSoFar {
     pub(crate) fn take(&mut self, system: System, row: usize, line: &[u8]) -> Result<(), Refusal>
         requires few { self.old.count ≤ length (table system) }
         requires rows { 0 < row → row < type_rows self.old.count }
-        requires signals { IsOf system self.old.signals.items }
-        requires begun { length self.old.signals.items ≡ signals_begun row }
+        requires signals { IsOf system self.old.signals }
+        requires begun { length self.old.signals ≡ signals_begun row }
         ensures few { self.new.count ≤ length (table system) }
-        ensures signals { IsOf system self.new.signals.items }
+        ensures signals { IsOf system self.new.signals }
         ensures planned { self.new.is_planned ≡ self.old.is_planned }
-        ensures taken { OnOk result (TakesTypes system row line.now self.old.count (indices self.old.signals.items)
-            self.new.count (indices self.new.signals.items)) }
+        ensures taken { OnOk result (TakesTypes system row line.now self.old.count (indices self.old.signals)
+            self.new.count (indices self.new.signals)) }
         ensures bad { result ≡ Err Refusal.Bad
-            → RefusesTypes system row line.now self.old.count (indices self.old.signals.items) }
+            → RefusesTypes system row line.now self.old.count (indices self.old.signals) }
     {
-        let Some(count) = self.read_count(system, row, line) else {
-            return Err(Refusal::Bad);
-        };
+        let count = self.read_count(system, row, line).ok_or(Refusal::Bad)?;
         take_signals(&mut self.signals, system, count, row, line)?;
         self.count = count;
         let again = types_with(system, count, self.signals.as_slice(), row);
-        if !is_same(line, again.as_slice()) {
-            return Err(Refusal::Bad);
-        }
-        Ok(())
+        accept(is_same(line, again.as_slice()))
     }
 }
 
 /// Appends the signals of the codes in a line of types that follow a `C`, the letter of a signal's
 /// first type.
 fn take_signals(
-    signals: &mut Vec<Signal>,
+    signals: &mut Signals,
     system: System,
     count: usize,
     row: usize,
@@ -105,19 +94,24 @@ fn take_signals(
 ) -> Result<(), Refusal>
     requires count { count ≤ length (table system) }
     requires row { row < type_rows count }
-    requires signals { IsOf system signals.old.items }
-    requires begun { length signals.old.items ≡ signals_begun row }
-    ensures signals { IsOf system signals.new.items }
-    ensures grows { OnOk result (take (length signals.old.items) signals.new.items ≡ signals.old.items) }
-    ensures size { OnOk result (length signals.new.items ≡ min (signals_begun (row + 1)) count) }
+    requires signals { IsOf system signals.old }
+    requires begun { length signals.old ≡ signals_begun row }
+    ensures signals { IsOf system signals.new }
+    ensures grows { OnOk result (take (length signals.old) signals.new ≡ signals.old) }
+    ensures size { OnOk result (length signals.new ≡ min (signals_begun (row + 1)) count) }
     ensures taken { OnOk result
-        (ReadsRow system count row line.now (indices signals.old.items) (indices signals.new.items)) }
-    ensures bad { result ≡ Err Refusal.Bad → RefusesRow system count row line.now (indices signals.old.items) }
+        (ReadsRow system count row line.now (indices signals.old) (indices signals.new)) }
+    ensures bad { result ≡ Err Refusal.Bad → RefusesRow system count row line.now (indices signals.old) }
 {
     let end = signals_begun(row + 1).min(count);
     for place in signals_begun(row)..end {
         let column = 6 + 4 * (4 * place - TYPES_IN_LINE * row) + 2;
-        take_signal(signals, system, line, column)?;
+        let signal = signal_in(line, system, column).ok_or(Refusal::Bad)?;
+        match signals.add(signal) {
+            Ok(true) => {}
+            Ok(false) => return Err(Refusal::Bad),
+            Err(_) => return Err(Refusal::Memory),
+        }
     }
     Ok(())
 }
@@ -128,42 +122,6 @@ pub(crate) fn signals_begun(row: usize) -> usize
     ensures { result ≡ signals_begun row }
 {
     (TYPES_IN_LINE * row + 3) / 4
-}
-
-/// Appends the signal whose code is at a column, counted from 0.
-fn take_signal(
-    signals: &mut Vec<Signal>,
-    system: System,
-    line: &[u8],
-    column: usize,
-) -> Result<(), Refusal>
-    requires column { column ≤ 100 }
-    requires signals { IsOf system signals.old.items }
-    ensures signals { IsOf system signals.new.items }
-    ensures grows { OnOk result (take (length signals.old.items) signals.new.items ≡ signals.old.items) }
-    ensures one { OnOk result (length signals.new.items ≡ length signals.old.items + 1) }
-    ensures taken { OnOk result
-        ((s : SignalAt) → HasSignalAt system line.now column s → signals.new.items ≡ signals.old.items ++ s ∷ []) }
-    ensures bad { result ≡ Err Refusal.Bad → (s : SignalAt) → HasSignalAt system line.now column s
-        → list_any (λ r. s.index == r.index) signals.old.items ≡ true }
-{
-    let Some(signal) = signal_in(line, system, column) else {
-        return Err(Refusal::Bad);
-    };
-    if has_signal(signals.as_slice(), signal.index()) {
-        return Err(Refusal::Bad);
-    }
-    match signals.push(signal) {
-        Ok(()) => Ok(()),
-        Err(_) => Err(Refusal::Memory),
-    }
-}
-
-/// Returns whether the signal at this index of its table is among these.
-fn has_signal(signals: &[Signal], index: usize) -> bool
-    ensures { result ≡ list_any (λ s. index == s.index) signals.now }
-{
-    signals.iter().any(|s| index == s.index())
 }
 
 /// Returns the signal whose code is at a column, counted from 0.

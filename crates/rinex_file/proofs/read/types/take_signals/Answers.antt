@@ -1,10 +1,12 @@
-use Rattle.std.proofs.Common.{arith, ◌≡◌, ◌∙◌, sym, ap, ℕ, List, length, take, min, ◌+◌, ◌*◌, ◌<◌, ◌≤◌}
-use Rattle.std.specs.Prelude.{Err}
-use Rattle.std.proofs.lemmas.Result.{err_from_is_err_and}
-use Rattle.std.proofs.lemmas.List.{take_min}
-use Rattle.rinex_file.specs.Read.Progress.{signals_begun}
+use Rattle.std.proofs.Common.{arith, ◌≡◌, ◌∙◌, ap, refl, subst, ℕ, List, [], ◌∷◌, ◌++◌, length-append, length, take, min, ◌+◌, ◌*◌, ◌<◌, ◌≤◌}
+use Rattle.std.specs.Prelude.{Ok}
+use Rattle.std.proofs.lemmas.List.{take_at, take_min}
+use Rattle.gnss_obs.specs.declared.system.System.{System}
+use Rattle.gnss_obs.specs.Signals.{SignalAt, IsSignal, table}
+use Rattle.obs_epoch.specs.Signals.{indices, IsAdded, IsOf}
 use Rattle.rinex_file.proofs.Entries.{few_signals}
-use Rattle.rinex_file.proofs.TypeRows.{still_grows, taken_more, taken_before}
+use Rattle.rinex_file.proofs.Judged.{at_some}
+use Rattle.rinex_file.proofs.TypeRows.{still_grows, not_read, taken_more, taken_before}
 use Rattle.rinex_file.proofs.read.types.take_signals.Goals as goal
 
 few : (n count most : ℕ) → n ≡ count → count ≤ most → most ≤ 19 → 4 * n < 1000
@@ -13,30 +15,44 @@ few n count most is less bound = omega (arith, is, less, bound)
 below : (end a begun_next count place n : ℕ) → place < end → end ≡ min a count → a ≡ begun_next → n ≡ count → (place < begun_next) × (place < n)
 below end a begun_next count place n less least next is = (omega (arith, less, least, next), omega (arith, less, least, is))
 
-pub returns-in_err-take_signal-clause-bad : goal.returns-in_err-take_signal-clause-bad
-returns-in_err-take_signal-clause-bad c = λ refused all are begun is.
-    let p = err_from_is_err_and c.from_residual.result c.from_residual.ensures.1 in
-    let inv = c.loop-place.invariant in
-    let place = c.loop-place.place in
-    let b = below c.min-end.result c.signals_begun.result (signals_begun (c.args.row + 1)) c.args.count place (length all) c.loop-place-test.true c.min-end.ensures c.signals_begun.ensures begun.0 in
-    taken_before c.args.system all c.args.line.now c.args.row place c.loop-place.signals.items are
-    (few (length all) c.args.count _ begun.0 c.requires.count (few_signals c.args.system)) is inv.from b.0 b.1
-    (c.in_err-take_signal.ensures.bad (sym (p.1 ∙ ap Err p.2) ∙ refused)) (inv.read all are begun is)
+-- the index of the signal is below that of the first one of the next line, and there are that many
+there : (system : System) (all : List ℕ) (end a begun_next count place : ℕ) → place < end → end ≡ min a count → a ≡ begun_next → length all ≡ count → count ≤ length (table system)
+    → (4 * length all < 1000) × (place < begun_next) × (place < length all)
+there system all end a begun_next count place less least next is bound = let most = few_signals system in (omega (arith, is, bound, most), omega (arith, less, least, next), omega (arith, less, least, is))
+
+pub returns-in_err-signal-clause-bad : goal.returns-in_err-signal-clause-bad
+returns-in_err-signal-clause-bad c = λ refused all are begun is.
+    let b = there c.args.system all _ _ _ _ _ c.loop-place-test.true c.min-end.ensures c.signals_begun.ensures begun.0 c.requires.count in
+    not_read c.args.system all c.args.line.now c.args.row c.loop-place.place are b.0 is c.loop-place.invariant.from b.1 b.2 _ c.signal_in.ensures.read c.in_err-signal.ensures.ok_part
+
+pub returns-in-Ok-false-clause-bad : goal.returns-in-Ok-false-clause-bad
+returns-in-Ok-false-clause-bad c = λ refused all are begun is.
+    let b = there c.args.system all _ _ _ _ _ c.loop-place-test.true c.min-end.ensures c.signals_begun.ensures begun.0 c.requires.count in
+    taken_before c.args.system all c.args.line.now c.args.row c.loop-place.place are b.0 is c.loop-place.invariant.from b.1 b.2 _ c.signal_in.ensures.read c.in_ok-signal.signal c.loop-place.signals c.in_ok-signal.ensures.ok_part
+    (c.add.ensures.old (c.in-Ok-false.is ∙ ap Ok c.in-Ok-false.field-0-test)).1 (c.loop-place.invariant.read all are begun is)
+
+one_more : (old : List SignalAt) (s : SignalAt) (new : List SignalAt) → new ≡ old ++ s ∷ [] → length new ≡ length old + 1
+one_more old s new e = ap length e ∙ length-append old (s ∷ [])
+
+one_grows : (old : List SignalAt) (s : SignalAt) (new : List SignalAt) → new ≡ old ++ s ∷ [] → take (length old) new ≡ old
+one_grows old s new e = ap (take (length old)) e ∙ take_at old (s ∷ []) (length old) refl
 
 pub loop-place-preserved : goal.loop-place-preserved
-loop-place-preserved c = record {
-  of = c.take_signal.ensures.signals;
-  grows = still_grows c.args.signals.now.items c.loop-place.signals.items c.take_signal.new.signals.items c.loop-place.invariant.grows c.in_ok-take_signal.ensures.grows;
-  size = c.in_ok-take_signal.ensures.one ∙ ap (λ n. n + 1) c.loop-place.invariant.size;
-  from = omega (arith, c.loop-place.invariant.from);
-  to = omega arith;
-  read = λ all are begun is.
-      let inv = c.loop-place.invariant in
-      let place = c.loop-place.place in
-      let b = below c.min-end.result c.signals_begun.result (signals_begun (c.args.row + 1)) c.args.count place (length all) c.loop-place-test.true c.min-end.ensures c.signals_begun.ensures begun.0 in
-      taken_more c.args.system all c.args.line.now c.args.row place c.loop-place.signals.items c.take_signal.new.signals.items are
-      (few (length all) c.args.count _ begun.0 c.requires.count (few_signals c.args.system)) is inv.from b.0 b.1 c.in_ok-take_signal.ensures.taken (inv.read all are begun is);
-}
+loop-place-preserved c =
+    let inv = c.loop-place.invariant in
+    let s = c.in_ok-signal.signal in
+    let added : IsAdded c.loop-place.signals s c.add.new.self = c.add.ensures.new (c.in-Ok-true.is ∙ ap Ok c.in-Ok-true.field-0-test) in
+    record {
+      of = subst (λ (t : System). IsOf t c.add.new.self) (at_some _ s (λ (t : SignalAt). (t.system ≡ c.args.system) × IsSignal t) c.in_ok-signal.ensures.ok_part c.signal_in.ensures.system).0 added.2;
+      grows = still_grows c.args.signals.now c.loop-place.signals c.add.new.self inv.grows (one_grows _ s _ added.0);
+      size = one_more _ s _ added.0 ∙ ap (λ n. n + 1) inv.size;
+      from = omega (arith, inv.from);
+      to = omega arith;
+      read = λ all are begun is.
+          let b = there c.args.system all _ _ _ _ _ c.loop-place-test.true c.min-end.ensures c.signals_begun.ensures begun.0 c.requires.count in
+          ap indices added.0 ∙ taken_more c.args.system all c.args.line.now c.args.row c.loop-place.place are b.0 is inv.from b.1 b.2 _ c.signal_in.ensures.read s c.loop-place.signals c.in_ok-signal.ensures.ok_part
+          (inv.read all are begun is);
+    }
 
 whole : (all : List ℕ) (place end a next count : ℕ) → place ≤ end → end ≤ place → end ≡ min a count → a ≡ next → length all ≡ count → take place all ≡ take next all
 whole all place end a next count low high is same size = grind (arith, take_min)
@@ -63,5 +79,5 @@ overflow_add-column c = grind (arith, few, within, few_signals)
 pub overflow_add-column-in-loop-place : goal.overflow_add-column-in-loop-place
 overflow_add-column-in-loop-place c = grind (arith, few, within, few_signals)
 
-pub take_signal-requires-clause-column : goal.take_signal-requires-clause-column
-take_signal-requires-clause-column c = grind (arith, few, within, few_signals)
+pub signal_in-requires : goal.signal_in-requires
+signal_in-requires c = grind (arith, few, within, few_signals)

@@ -7,11 +7,11 @@ use Rattle.rinex_file.proofs.read.types.take_signals.Given as goal
 -- if the line is that of these signals, those so far were appended
 abbrev pub invariant-loop-place : goal.invariant-loop-place
 invariant-loop-place l = record {
-  of : IsOf l.fn.system l.signals.items;
-  grows : take (length l.fn.signals.items) l.signals.items ≡ l.fn.signals.items;
-  size : length l.signals.items ≡ l.place;
+  of : IsOf l.fn.system l.signals;
+  grows : take (length l.fn.signals) l.signals ≡ l.fn.signals;
+  size : length l.signals ≡ l.place;
   from : signals_begun l.row ≤ l.place;
   to : l.place ≤ l.end;
-  read : (all : List ℕ) → AreTypes l.fn.system all → AreBegun l.fn.count l.row (indices l.fn.signals.items) all → l.line ≡ types_line l.fn.system all l.row
-      → indices l.signals.items ≡ take l.place all;
+  read : (all : List ℕ) → AreTypes l.fn.system all → AreBegun l.fn.count l.row (indices l.fn.signals) all → l.line ≡ types_line l.fn.system all l.row
+      → indices l.signals ≡ take l.place all;
 }

@@ -14,8 +14,8 @@ pub invariant_of-head : goal.invariant_of-head
 invariant_of-head c =
     let g = c.new-2.ensures in
     let e = c.new-3.ensures in (
-      none_read Gps c.new-2.result.signals.items g.signals,
-      none_read Galileo c.new-3.result.signals.items e.signals,
+      none_read Gps c.new-2.result.signals g.signals,
+      none_read Galileo c.new-3.result.signals e.signals,
       zero_values,
       zero_time c.in-Some.time c.in-Some.ensures.value,
       omega (arith, g.count),
