@@ -79,9 +79,6 @@ cell_put signals id p c rest apart is own =
 none_fit : HaveRoom no_signal_values
 none_fit = record { c = tt; l = tt; d = tt; s = tt; lli = omega arith }
 
-pub held_fit : (system : System) (c : Cell) → IsHeld system c → HaveRoom (signal_values_of c)
-held_fit system c h = record { c = if_fits c.c h.c; l = if_fits c.l h.l; d = if_fits c.d h.d; s = if_fits c.s h.s; lli = h.lli }
-
 -- what holds of the values of each cell, and if there is none, holds of those at a signal
 pub found_as : (P : Cell → Type 0) (Q : SignalValues → Type 0) (id index : ℕ) → ((c : Cell) → P c → Q (signal_values_of c)) → Q no_signal_values → (cells : List Cell) → All P cells → Q (signal_values_at cells id index)
 found_as P Q id index each none [] all = none
@@ -90,7 +87,7 @@ found_as P Q id index each none (c ∷ cells) all =
     (λ isnt. found_as P Q id index each none cells (All-tail P c cells all))
 
 pub all_fit : (system : System) (cells : List Cell) (id : ℕ) (signals : List ℕ) → All (IsHeld system) cells → All HaveRoom (map (signal_values_at cells id) signals)
-all_fit system cells id signals all = All-map HaveRoom (signal_values_at cells id) signals (λ k d less. found_as (IsHeld system) HaveRoom id (get_or signals k d) (held_fit system) none_fit cells all)
+all_fit system cells id signals all = All-map HaveRoom (signal_values_at cells id) signals (λ k d less. found_as (IsHeld system) HaveRoom id (get_or signals k d) (λ c h. record { c = if_fits c.c h.c; l = if_fits c.l h.l; d = if_fits c.d h.d; s = if_fits c.s h.s; lli = h.lli }) none_fit cells all)
 
 -- ---- signals without a value
 

@@ -31,13 +31,10 @@ times k [] = omega arith
 times k (b ∷ bs) = ap (λ n. k * (b / 16 % 2) + 256 * n) (times k bs) ∙ omega arith
 
 -- the columns that are digits
-marks : (bs : List ℕ) → length bs ≡ 8 → AreBelow 256 bs → bit_and (word bs) 0x1010_1010_1010_1010 ≡ 16 * word (map (λ b. b / 16 % 2) bs)
-marks bs l h = ap (bit_and (word bs)) (sym (mask_word 16 bs l)) ∙ masked (λ b. 16) (λ b. 16 * (b / 16 % 2)) (λ b. omega arith) refl bs h ∙ times 16 bs
-
 digits_are : (bs : List ℕ) (m : ℕ) → length bs ≡ 8 → AreBelow 256 bs → m ≡ bit_and (word bs) 0x1010_1010_1010_1010 → bit_and (word bs) (m - m / 16) ≡ word (map digit_in bs)
 digits_are bs m l h is =
     let t : ℕ = word (map (λ b. b / 16 % 2) bs) in
-    let sixteen : m ≡ 16 * t = is ∙ marks bs l h in
+    let sixteen : m ≡ 16 * t = is ∙ ap (bit_and (word bs)) (sym (mask_word 16 bs l)) ∙ masked (λ b. 16) (λ b. 16 * (b / 16 % 2)) (λ b. omega arith) refl bs h ∙ times 16 bs in
     let mask : m - m / 16 ≡ 15 * t = omega (arith, sixteen) in
     ap (bit_and (word bs)) (mask ∙ sym (times 15 bs)) ∙ masked (λ b. 15 * (b / 16 % 2)) digit_in (λ b. omega arith) refl bs h
 

@@ -34,9 +34,6 @@ pub eight : (P : List ℕ → Type 0) → ((a b c d e f g h : ℕ) → P (a ∷ 
 eight P all (a ∷ b ∷ c ∷ d ∷ e ∷ f ∷ g ∷ h ∷ []) l = all a b c d e f g h
 eight P all bs l = absurd (omega (arith, l))
 
-eight_bytes : (bs : List ℕ) → length bs ≡ 8 → AreBelow 256 bs → to_le_bytes w64 (word bs) ≡ bs
-eight_bytes bs l are = eight (λ xs. AreBelow 256 xs → to_le_bytes w64 (word xs) ≡ xs) bytes_of bs l are
-
 -- ---- pairs of digits
 
 pub pair_at : (i : ℕ) → i < 100 → get_or PAIRS (2 * i) 0 + get_or PAIRS (2 * i + 1) 0 * 256 ≡ (48 + i / 10) + (48 + i % 10) * 256
@@ -146,9 +143,6 @@ eight_spaced n some small =
     let is : map (λ x. 48 + x) (eight_digits n) ≡ replicate (8 - length (decimal n)) 48 ++ decimal n = sym (padded_digits 7 n [] small (omega (arith, small))) ∙ append-nil (padded 8 n) in
     spaced_is (eight_digits n) (8 - length (decimal n)) (decimal n) is (first_decimal n some (omega (arith, small)))
 
-pub are_digits : (n : ℕ) → n < 10 ^ 8 → AreBelow 10 (eight_digits n)
-are_digits n small = (omega (arith, small), (omega arith, (omega arith, (omega arith, (omega arith, (omega arith, (omega arith, (omega arith, tt))))))))
-
 -- a whole number ends in its two last digits
 pub last_two : (n : ℕ) → 100 ≤ n → n < 2 ^ 64 → decimal n ≡ decimal (n / 100) ++ (48 + n / 10 % 10) ∷ (48 + n % 10) ∷ []
 last_two n big fits = grind (arith, decimal_step, append_assoc)
@@ -170,10 +164,10 @@ AreFirst n columns zeros = (to_le_bytes w64 columns ≡ spaced (eight_digits n))
 
 pub first_columns : (n d f z : ℕ) → n < 10 ^ 8 → d ≡ word (eight_digits n) → z ≡ trailing_zeros w64 d / 8 → f ≡ front_word 8 z → AreFirst n (d + f) z
 first_columns n d f z small is_d is_z is_f =
-    let digits = are_digits n small in
+    let digits : AreBelow 10 (eight_digits n) = (omega (arith, small), (omega arith, (omega arith, (omega arith, (omega arith, (omega arith, (omega arith, (omega arith, tt)))))))) in
     let zeros : z ≡ leading (eight_digits n) = is_z ∙ ap (λ k. count_trailing_zeros 64 k / 8) is_d ∙ low_zeros (eight_digits n) digits in
     let sum : d + f ≡ word (spaced (eight_digits n)) = ap₂ (λ a b. a + b) is_d (is_f ∙ ap (front_word 8) zeros) ∙ sym (spaced_word (eight_digits n)) in
-    (ap (to_le_bytes w64) sum ∙ eight_bytes (spaced (eight_digits n)) (length-spaced (eight_digits n)) (spaced_bytes (eight_digits n) digits), zeros)
+    (ap (to_le_bytes w64) sum ∙ eight (λ xs. AreBelow 256 xs → to_le_bytes w64 (word xs) ≡ xs) bytes_of (spaced (eight_digits n)) (length-spaced (eight_digits n)) (spaced_bytes (eight_digits n) digits), zeros)
 
 -- all columns of a whole part and thousandths
 abbrev pub AreColumns : ℕ → ℕ → ℕ → ℕ → ℕ → ℕ → ℕ → Type 0

@@ -66,10 +66,6 @@ rise-tail x xs rise k h =
     let next : suc k + 1 ≡ suc (k + 1) = omega arith in
     subst (λ (n : ℕ). slice_index xs k < slice_index (x ∷ xs) n) next (rise (suc k) (omega (arith, h)))
 
-next_first : (x : ℕ) (xs : List ℕ) → IsStrictlyIncreasing (x ∷ xs) → FromFirst (x + 1) xs
-unfolding FromFirst
-next_first x xs rise h = let less : x < slice_index xs 0 = rise 0 (omega (arith, h)) in omega (arith, less)
-
 few_from : (gps galileo k : ℕ) (rows : List SatelliteRow) → All (IsSatelliteRow gps galileo) rows → IsStrictlyIncreasing (map rank_of rows) → FromFirst k (map rank_of rows)
     → length rows ≤ room (nat_lt 0 gps) (nat_lt 0 galileo) k
 unfolding FromFirst
@@ -77,7 +73,7 @@ few_from gps galileo k [] each rise low = omega arith
 few_from gps galileo k (s ∷ rows) each rise low =
     let is = All-head (IsSatelliteRow gps galileo) s rows each in
     let others = few_from gps galileo (rank_of s + 1) rows (All-tail (IsSatelliteRow gps galileo) s rows each) (rise-tail (rank_of s) (map rank_of rows) rise)
-    (next_first (rank_of s) (map rank_of rows) rise) in
+    (λ h. let less : rank_of s < slice_index (map rank_of rows) 0 = rise 0 (omega (arith, h)) in omega (arith, less)) in
     one_less gps galileo k s.row.satellite (length rows) s.system is.planned is.row.satellite (low (omega arith)) others
 
 from_one : (gps galileo : Bool) → room gps galileo 1 ≡ (if gps then 32 else 0) + (if galileo then 36 else 0)

@@ -88,9 +88,6 @@ plain_entry e h =
     (plain-append 16 32 l (d ++ s) (plain_field e.l (lli_byte e.lli) (strength_byte e.s) h.l (mark_other e.lli h.lli) (strength_other e.s))
     (plain-append 16 16 d s (plain_field e.d 32 32 h.d blank_other blank_other) (plain_field e.s 32 32 (strength_fits e.s h.s) blank_other blank_other)))
 
-plain_entries : (es : List SignalValues) → All AreSignalValues es → IsPlain (length es * 64) (flat_map signal_text es)
-plain_entries es all = plain-flat_map 64 signal_text es (λ k d h. plain_entry (get_or es k d) (all k d h))
-
 plain_trimmed : (n : ℕ) (text : List ℕ) → IsPlain n text → IsPlain n (trimmed text)
 plain_trimmed n text is = grind (arith, filled, has-append, length-trimmed, or_parts, (filled text), (sym (has-append 10 (trimmed text) (replicate (filled text).0 32)) ∙ ap (has 10) (filled text).1 ∙ is.clean), (length-trimmed text))
 
@@ -102,7 +99,7 @@ line_of_row letter signals most r is other few less =
     let count = is.whole in
     let number = is.satellite.1 in
     let small : r.satellite < 100 = omega (arith, number, few) in
-    let columns = plain-append 2 (length r.signal_values * 64) (padded 2 r.satellite) (flat_map signal_text r.signal_values) (plain_number r.satellite small) (plain_entries r.signal_values is.signal_values) in
+    let columns = plain-append 2 (length r.signal_values * 64) (padded 2 r.satellite) (flat_map signal_text r.signal_values) (plain_number r.satellite small) (plain-flat_map 64 signal_text r.signal_values (λ k d h. plain_entry (get_or r.signal_values k d) (is.signal_values k d h))) in
     let all = plain-append 1 (2 + length r.signal_values * 64) (letter ∷ []) (padded 2 r.satellite ++ flat_map signal_text r.signal_values)
     (record { clean = ap (λ c. c || false) other; short = lit≤ tt }) columns in
     as_line (1 + (2 + length r.signal_values * 64)) (trimmed (row_text letter r)) (plain_trimmed (1 + (2 + length r.signal_values * 64)) (row_text letter r) all) (omega (arith, count, less))
@@ -114,25 +111,19 @@ line_of_seen gps galileo s is few less =
 
 -- ---- the whole
 
-at_most_68 : (gps galileo : ℕ) → most_rows gps galileo ≤ 68
-at_most_68 gps galileo = grind arith
-
 -- the lines of an event
-event_is_line : IsFileLine event_line
-unfolding event_line
-event_is_line = as_line 35 (codes ">" ++ (replicate 30 32 ++ codes "4  2")) (record { clean = refl; short = lit≤ tt }) (lit≤ tt)
-
 lines_of_change : (v : StationValues) (c : Option StationValues) → IsChange v c → All IsFileLine (change_lines c)
+unfolding event_line
 lines_of_change v None is = All-nil IsFileLine
 lines_of_change v (Some w) is =
-    All-cons IsFileLine event_line (position_line w ∷ delta_line w ∷ []) event_is_line
+    All-cons IsFileLine event_line (position_line w ∷ delta_line w ∷ []) (as_line 35 (codes ">" ++ (replicate 30 32 ++ codes "4  2")) (plain 35 _ refl (lit≤ tt)) (lit≤ tt))
     (All-cons IsFileLine (position_line w) (delta_line w ∷ []) (line_of_position w is.0)
     (All-cons IsFileLine (delta_line w) [] (line_of_delta w is.0) (All-nil IsFileLine)))
 
 lines_of_stamped : (gps galileo : ℕ) (v : StationValues) (e : Stamped) → IsStamped gps galileo e → IsChange v e.change → gps ≤ 19 → galileo ≤ 19 → All IsFileLine (stamped_lines e)
 lines_of_stamped gps galileo v e is change few less =
     let rows = few_rows gps galileo e.rows is.rows in
-    let top = at_most_68 gps galileo in
+    let top : most_rows gps galileo ≤ 68 = grind arith in
     let count : length e.rows < 2 ^ 64 = omega (arith, rows, top) in
     All-append IsFileLine (change_lines e.change) (epoch_line (civil_of e.time) (length e.rows) ∷ map satellite_line e.rows) (lines_of_change v e.change change)
     (All-cons IsFileLine (epoch_line (civil_of e.time) (length e.rows)) (map satellite_line e.rows) (line_of_epoch (civil_of e.time) (length e.rows) (short_time e.time is.time) count)

@@ -61,9 +61,6 @@ numbers_rise (suc n) =
 cell_entry : (system : System) (signals : List ℕ) (c : Cell) → IsGathered system signals c → AreSignalValues (signal_values_of c)
 cell_entry system signals c h = grind (arith, if_fits)
 
-none_entry : AreSignalValues no_signal_values
-none_entry = record { c = tt; l = tt; d = tt; s = tt; lli = omega arith; without_phase = λ e. refl }
-
 -- ---- a cell with a value is the one that its entry is made of
 
 record IsFoundIn (P : Cell → Type 0) (cells : List Cell) (id : ℕ) : Type 0 where
@@ -116,11 +113,12 @@ row_is : (system : System) (signals : List ℕ) (cells : List Cell) (id : ℕ) �
     → (0 < length signals) × IsRow (satellites_in system) (length signals) (row_of signals cells id)
 row_is system signals cells id h n =
     let each = All-from_recursion (IsGathered system signals) cells h.each in
-    let s = speaker (IsGathered system signals) cells id each h.apart n.1 in (
+    let s = speaker (IsGathered system signals) cells id each h.apart n.1 in
+    let none : AreSignalValues no_signal_values = record { c = tt; l = tt; d = tt; s = tt; lli = omega arith; without_phase = λ e. refl } in (
       some_planned signals s.cell s.is.planned,
       record {
         satellite = n.0;
-        signal_values = All-map AreSignalValues (signal_values_at cells id) signals (λ k d less. found_as (IsGathered system signals) AreSignalValues id (get_or signals k d) (cell_entry system signals) none_entry cells each);
+        signal_values = All-map AreSignalValues (signal_values_at cells id) signals (λ k d less. found_as (IsGathered system signals) AreSignalValues id (get_or signals k d) (cell_entry system signals) none cells each);
         whole = length-map signals (signal_values_at cells id);
         some = one_says signals cells id s.cell s.is.planned s.says s.found;
       },

@@ -122,14 +122,12 @@ shape l body x e = ap (λ t. t ++ x) e ∙ append_assoc body (10 ∷ []) x
 pub first_line : (l m x y : List ℕ) → IsLine l → IsLine m → l ++ x ≡ m ++ y → SameFront l m x y
 first_line l m x y (a, la, na) (b, lb, nb) e = grind (arith, same_body, shape, (same_body a b x y na nb (sym (shape l a x la) ∙ e ∙ shape m b y lb)))
 
--- the lines that are left, and the bytes that are left
-abbrev Splits : List (List ℕ) → List (List ℕ) → List ℕ → Type 0
-Splits all done rest = (more : List (List ℕ)) × (all ≡ done ++ more) × (rest ≡ joined more)
-
 not_nil : (m x : List ℕ) → IsLine m → [] ≡ m ++ x → ⊥
 not_nil m x (body, e, n) h = grind (arith, length-append, (ap length h), (ap length e))
 
-pub splits : (all done : List (List ℕ)) (rest : List ℕ) → All IsLine all → All IsLine done → joined all ≡ joined done ++ rest → Splits all done rest
+-- the lines that are left, and the bytes that are left
+pub splits : (all done : List (List ℕ)) (rest : List ℕ) → All IsLine all → All IsLine done → joined all ≡ joined done ++ rest
+    → (more : List (List ℕ)) × (all ≡ done ++ more) × (rest ≡ joined more)
 splits all [] rest h k e = (all, refl, sym e)
 splits [] (d ∷ ds) rest h k e = absurd (not_nil d (joined ds ++ rest) (All-head IsLine d ds k) (e ∙ append_assoc d (joined ds) rest))
 splits (l ∷ ls) (d ∷ ds) rest h k e =
@@ -142,9 +140,6 @@ pub has-line : (line x : List ℕ) → IsLine line → has 10 (line ++ x) ≡ tr
 has-line line x (body, e, n) = ap (has 10) (shape line body x e) ∙ has-append 10 body (10 ∷ x) ∙ or_right (has 10 body) true refl
 
 -- ---- lists of lines
-
-joined-more : (taken : List (List ℕ)) (line : List ℕ) → joined (taken ++ line ∷ []) ≡ joined taken ++ line
-joined-more taken line = joined-append taken (line ∷ []) ∙ ap (λ l. joined taken ++ l) (append-nil line)
 
 are_more : (taken : List (List ℕ)) (line : List ℕ) → All IsLine taken → IsLine line → All IsLine (taken ++ line ∷ [])
 are_more taken line are is = All-push IsLine taken line are is
@@ -194,7 +189,7 @@ consumed_all : (a b : Option (List ℕ)) (bytes : List ℕ) (P : List ℕ → Ty
 consumed_all v0 b bytes v3 took end h = grind (arith, append-nil)
 
 taken_more : (a b c : Option (List ℕ)) (taken : List (List ℕ)) (line : List ℕ) → Consumes a b (joined taken) → Consumes b c line → Consumes a c (joined (taken ++ line ∷ []))
-taken_more a b c taken line first next = subst (Consumes a c) (sym (joined-more taken line)) (Consumes-trans a b c (joined taken) line first next)
+taken_more a b c taken line first next = subst (Consumes a c) (sym (joined-append taken (line ∷ []) ∙ ap (λ l. joined taken ++ l) (append-nil line))) (Consumes-trans a b c (joined taken) line first next)
 
 -- ---- what was read
 

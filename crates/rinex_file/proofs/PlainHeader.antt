@@ -1,5 +1,5 @@
 -- The lines of a header are lines, and none is longer than the largest line that is read.
-use Rattle.std.proofs.Common.{arith, lit≤, lit<, ◌≡◌, ap, refl, subst, ℕ, zero, suc, ◌+◌, ◌-◌, ◌*◌, ◌/◌, ◌%◌, ◌^◌, ◌<◌, ◌≤◌, ℤ, pos, negsuc, unsigned_abs, Bool, true, false, List, [], ◌∷◌, ◌++◌, length, replicate, take, drop, decimal, get_or, append_assoc, length-append}
+use Rattle.std.proofs.Common.{arith, lit≤, lit<, ◌≡◌, ap, refl, subst, ℕ, zero, suc, ◌+◌, ◌-◌, ◌*◌, ◌/◌, ◌%◌, ◌^◌, ◌<◌, ◌≤◌, ℤ, pos, unsigned_abs, Bool, true, false, List, [], ◌∷◌, ◌++◌, length, replicate, take, drop, decimal, get_or, append_assoc, length-append}
 use Rattle.std.specs.Prelude.{◌==◌, ◌||◌, ◌&&◌, not, if◌then◌else◌, nat_lt, nat_le, flat_map, All, codes, slice_get}
 use Rattle.std.specs.List.{AllByRecursion, list_all}
 use Rattle.std.specs.Option.{option_map_or}
@@ -20,8 +20,8 @@ use Rattle.rinex_file.specs.declared.header.fields.TextRow.{TextRow}
 use Rattle.rinex_file.specs.declared.header.rows.HeaderRow.{HeaderRow}
 use Rattle.rinex_file.specs.declared.header.rows.HeaderRow.TheVariants.{Version, Texts, Position, Delta, Types, StrengthUnit, First, Shift, End}
 use Rattle.rinex_file.specs.Exact.{IsLine}
-use Rattle.rinex_file.specs.FileValues.{AreTexts, IsPlan, AreValues, IsTime, IsFrom, IsCoordinate}
-use Rattle.rinex_file.specs.Header.{header_line, version_line, lengths, file_system, first_line, text_columns, texts_line, types_of, type_front, type_columns, type_line, shift_line, codes_of, row_line, row_lines, has_line, all_rows, header_lines, position_line, delta_line}
+use Rattle.rinex_file.specs.FileValues.{AreTexts, IsPlan, AreValues, IsTime, IsCoordinate}
+use Rattle.rinex_file.specs.Header.{header_line, version_line, lengths, file_system, first_line, text_columns, texts_line, types_of, type_front, type_columns, type_line, codes_of, row_line, row_lines, has_line, all_rows, header_lines, position_line, delta_line}
 use Rattle.rinex_file.specs.Lines.{letter_of}
 use Rattle.rinex_file.specs.Numbers.{joined, left, right, fixed}
 use Rattle.rinex_file.specs.Read.Fields.{has}
@@ -65,21 +65,12 @@ plain_texts x are fs = plain-flat_map 120 (text_columns x) fs (λ k d h.
     let few = few_columns f in
     plain-wider (60 + width_of f) 120 (text_columns x f) (omega (arith, few)) (plain-left (width_of f) 60 (text_of x f) (plain-text (width_of f) (text_of x f) (are.each f) few)))
 
-plain_front : (r : TextRow) → IsPlain 20 (front_of r)
-plain_front r = grind arith
-
-plain_row_label : (r : TextRow) → IsPlain 20 (label_of r)
-plain_row_label r = grind arith
-
-few_texts : (r : TextRow) → length (fields_of r) ≤ 3
-few_texts r = grind arith
-
 line_of_texts : (x : HeaderLists) → AreTexts x → (r : TextRow) → IsFileLine (texts_line x r)
 line_of_texts x are r =
-    let few = few_texts r in
+    let few : length (fields_of r) ≤ 3 = grind arith in
     header (20 + length (fields_of r) * 120) (front_of r ++ flat_map (text_columns x) (fields_of r)) (label_of r)
-    (plain-append 20 (length (fields_of r) * 120) (front_of r) (flat_map (text_columns x) (fields_of r)) (plain_front r) (plain_texts x are (fields_of r)))
-    (plain_row_label r) (omega (arith, few))
+    (plain-append 20 (length (fields_of r) * 120) (front_of r) (flat_map (text_columns x) (fields_of r)) (grind arith) (plain_texts x are (fields_of r)))
+    (grind arith) (omega (arith, few))
 
 -- ---- numbers
 
@@ -89,16 +80,13 @@ whole_field width n few fits = of_80 (width + 20) (right width (decimal n)) (pla
 length_field : (z : ℤ) → unsigned_abs z < 2 ^ 64 → IsPlain 80 (right 14 (fixed 4 z))
 length_field z fits = of_80 (14 + 46) (right 14 (fixed 4 z)) (plain-right 14 46 (fixed 4 z) (plain-fixed 4 z fits)) (lit≤ tt)
 
-small_number : (low high : ℕ) (z : ℤ) → IsFrom (negsuc low) (pos high) z → low < 2 ^ 60 → high < 2 ^ 60 → unsigned_abs z < 2 ^ 64
-small_number low high v2 h a b = grind (arith, ints, negsuc, pos)
-
 three_lengths : (a b c : ℤ) (label : List ℕ) → unsigned_abs a < 2 ^ 64 → unsigned_abs b < 2 ^ 64 → unsigned_abs c < 2 ^ 64 → IsPlain 20 label
     → IsFileLine (header_line (lengths a b c) label)
 three_lengths a b c label p q r is =
     header_fields (right 14 (fixed 4 a) ∷ right 14 (fixed 4 b) ∷ right 14 (fixed 4 c) ∷ []) label (length_field a p, (length_field b q, (length_field c r, tt))) (lit≤ tt) is
 
 coordinate : (z : ℤ) → IsCoordinate z → unsigned_abs z < 2 ^ 64
-coordinate z is = small_number 137_438_953_471 137_438_953_471 z is (lit< tt) (lit< tt)
+coordinate z is = grind (arith, ints)
 
 -- ---- types
 
@@ -117,9 +105,6 @@ code_at (e ∷ es) h (suc i) = code_at es (both (plain_code e) (list_all plain_c
 code_of_signal : (system : System) (i : ℕ) → IsPlain 2 (code_of (record { system = system; index = i }))
 unfolding plain_code
 code_of_signal v0 i = grind (arith, code_at)
-
-codes_are_plain : (system : System) (signals : List ℕ) → All (IsPlain 2) (codes_of system signals)
-codes_are_plain system signals = All-map (IsPlain 2) (λ index. code_of (record { system = system; index = index })) signals (λ k d h. code_of_signal system (get_or signals k d))
 
 plain_type : (b : ℕ) (code : List ℕ) → IsPlain 2 code → (b == 10) ≡ false → IsPlain 3 (b ∷ code)
 plain_type b code is other = plain-append 1 2 (b ∷ []) code (record { clean = ap (λ c. c || false) other; short = lit≤ tt }) is
@@ -153,10 +138,8 @@ one_of_types : (system : System) (signals : List ℕ) (row : ℕ) → length sig
 one_of_types system signals row few =
     let types = types_of (codes_of system signals) in
     let count : length types ≡ 4 * length signals = length-system_types system signals in
-    line_of_types (letter_of system) types row (no_letter system) (omega (arith, count, few)) (types_are_plain (codes_of system signals) (codes_are_plain system signals))
-
-one_shift : (system : System) → IsFileLine (shift_line system)
-one_shift system = header 1 (letter_of system ∷ []) (codes "SYS / PHASE SHIFT") (plain 1 _ (ap (λ c. c || false) (no_letter system)) (lit≤ tt)) (plain 20 _ refl (lit≤ tt)) (lit≤ tt)
+    line_of_types (letter_of system) types row (no_letter system) (omega (arith, count, few)) (types_are_plain (codes_of system signals)
+    (All-map (IsPlain 2) (λ index. code_of (record { system = system; index = index })) signals (λ k d h. code_of_signal system (get_or signals k d))))
 
 -- ---- times
 
@@ -213,14 +196,11 @@ line_of_first t is =
 
 -- ---- the other lines of the header
 
-system_byte : (p : PlanValue) → IsPlain 80 (file_system p ∷ [])
-system_byte p = grind arith
-
 version : (p : PlanValue) → IsFileLine (version_line p)
 version p =
     header_fields (right 9 (fixed 2 (pos 305)) ∷ replicate 11 32 ∷ left 20 (codes "OBSERVATION DATA") ∷ (file_system p ∷ []) ∷ []) (codes "RINEX VERSION / TYPE") (
       of_80 (9 + 44) (right 9 (fixed 2 (pos 305))) (plain-right 9 44 (fixed 2 (pos 305)) (plain-fixed 2 (pos 305) (lit< tt))) (lit≤ tt),
-      (record { clean = refl; short = lit≤ tt }, (record { clean = refl; short = lit≤ tt }, (system_byte p, tt))),
+      (record { clean = refl; short = lit≤ tt }, (record { clean = refl; short = lit≤ tt }, (grind arith, tt))),
     )
     (lit≤ tt) (plain 20 (codes "RINEX VERSION / TYPE") refl (lit≤ tt))
 
@@ -248,7 +228,7 @@ line_in x p v t texts plan values time Delta = line_of_delta v values
 line_in x p v t texts plan values time (Types s row) = one_of_types s (planned_of s p) row (few_signals_of p plan s)
 line_in x p v t texts plan values time StrengthUnit = header 4 (codes "DBHZ") (codes "SIGNAL STRENGTH UNIT") (record { clean = refl; short = lit≤ tt }) (plain 20 _ refl (lit≤ tt)) (lit≤ tt)
 line_in x p v t texts plan values time First = line_of_first t time
-line_in x p v t texts plan values time (Shift s) = one_shift s
+line_in x p v t texts plan values time (Shift s) = header 1 (letter_of s ∷ []) (codes "SYS / PHASE SHIFT") (plain 1 _ (ap (λ c. c || false) (no_letter s)) (lit≤ tt)) (plain 20 _ refl (lit≤ tt)) (lit≤ tt)
 line_in x p v t texts plan values time End = header 0 [] (codes "END OF HEADER") (record { clean = refl; short = lit≤ tt }) (plain 20 _ refl (lit≤ tt)) (lit≤ tt)
 
 lines_of_rows : (x : HeaderLists) (p : PlanValue) (v : StationValues) (t : Civil) → ((r : HeaderRow) → IsFileLine (row_line x p v t r)) → (rows : List HeaderRow) → All IsFileLine (flat_map (row_lines x p v t) rows)

@@ -64,9 +64,6 @@ abbrev AreParts : ℤ → List ℕ → Type 0
 AreParts v front = (right 14 (fixed 3 v) ≡ front ++ (46 ∷ padded 3 (unsigned_abs v % 1000))) × (length front ≡ 10)
     × (size_from 0 front ≡ unsigned_abs v / 1000) × ((has_sign (take 8 front) || get_or front 8 0 == 45) ≡ is_negative v)
 
-cut_parts : (front digits : List ℕ) → length (front ++ 46 ∷ digits) ≡ 14 → length digits ≡ 3 → length front ≡ 10
-cut_parts front digits l k = let sum = length-append front (46 ∷ digits) in omega (arith, sum, l, k)
-
 size_signed : (b : Bool) (w : ℕ) → w < 2 ^ 64 → size_from 0 (sign_text b ++ decimal w) ≡ w
 size_signed true w big = size_decimal w big
 size_signed false w big = size_decimal w big
@@ -85,7 +82,8 @@ parts v h =
     let whole = sign_text (is_negative v) ++ decimal w in
     let front = replicate z 32 ++ whole in
     let is : right 14 (fixed 3 v) ≡ front ++ (46 ∷ p) = sym (append_assoc (replicate z 32) whole (46 ∷ p)) in
-    let ten = cut_parts front p (ap length (sym is) ∙ length-right 14 (fixed 3 v) (length-value v h)) (length-three (unsigned_abs v % 1000) (omega arith)) in
+    let size = ap length (sym is) ∙ length-right 14 (fixed 3 v) (length-value v h) in
+    let ten : length front ≡ 10 = omega (arith, size, length-append front (46 ∷ p), length-three (unsigned_abs v % 1000) (omega arith)) in
     let blanks : length front ≡ z + length whole = length-append (replicate z 32) whole ∙ ap (λ k. k + length whole) (length-replicate z 32) in (
       front,
       (
@@ -129,10 +127,7 @@ shown None b = 32
 shown (Some v) b = b
 
 -- a field is F14.3 plus the LLI and SSI columns
-abbrev InParts : Option ℤ → ℕ → ℕ → Type 0
-InParts v lost strength = (t : List ℕ) × (length t ≡ 14) × (field v lost strength ≡ t ++ shown v lost ∷ shown v strength ∷ [])
-
-in_parts : (v : Option ℤ) (lost strength : ℕ) → IfSome v FitsColumns → InParts v lost strength
+in_parts : (v : Option ℤ) (lost strength : ℕ) → IfSome v FitsColumns → (t : List ℕ) × (length t ≡ 14) × (field v lost strength ≡ t ++ shown v lost ∷ shown v strength ∷ [])
 unfolding field
 in_parts None lost strength h = (replicate 14 32, refl, refl)
 in_parts (Some v) lost strength h = (right 14 (fixed 3 v), length-right 14 (fixed 3 v) (length-value v h), refl)
@@ -198,9 +193,6 @@ entry_in-text e rest h =
     (ap value_in (at_field x (c ++ (l ++ d)) (s ++ rest) 48 (simp append_assoc) (simp length-append (omega (arith, lc, ll, ld)))) ∙ value_in-field e.s 32 32 rest (strength_fits e.s h.s))
     (ap digits_in (first_of_rest x c t ((d ++ s) ++ rest) (shown e.l (lli_byte e.lli)) (shown e.l (strength_byte e.s)) with_lli lc lt) ∙ lli_shown e.l e.lli h.lli h.without_phase)
 
-entry_alone : (e : SignalValues) → AreSignalValues e → signal_values_in (signal_text e) ≡ e
-entry_alone e h = ap signal_values_in (sym (append-nil (signal_text e))) ∙ entry_in-text e [] h
-
 pub entries_in-text : (es : List SignalValues) → All AreSignalValues es → signals_in (length es) (flat_map signal_text es) ≡ es
 entries_in-text [] all = refl
 entries_in-text (e ∷ es) all =
@@ -208,14 +200,11 @@ entries_in-text (e ∷ es) all =
     let more = All-tail AreSignalValues e es all in
     let l = length-room e (values_fit e one) in
     ap (λ t. signal_values_in t ∷ signals_in (length es) (drop 64 (signal_text e ++ flat_map signal_text es))) (take_at (signal_text e) (flat_map signal_text es) 64 l)
-    ∙ ap (λ x. x ∷ signals_in (length es) (drop 64 (signal_text e ++ flat_map signal_text es))) (entry_alone e one)
+    ∙ ap (λ x. x ∷ signals_in (length es) (drop 64 (signal_text e ++ flat_map signal_text es))) (ap signal_values_in (sym (append-nil (signal_text e))) ∙ entry_in-text e [] one)
     ∙ ap (λ t. e ∷ signals_in (length es) t) (drop_at (signal_text e) (flat_map signal_text es) 64 l)
     ∙ ap (λ xs. e ∷ xs) (entries_in-text es more)
 
 -- ---- the line
-
-row_lengths : (letter : ℕ) (p f : List ℕ) (n : ℕ) → length p ≡ 2 → length f ≡ 64 * n → length (letter ∷ (p ++ f)) ≡ 3 + 64 * n
-row_lengths letter p f n k l = ap suc (length-append p f) ∙ omega (arith, k, l)
 
 module _ (letter signals : ℕ) (r : Row) (most : ℕ) (is : IsRow most signals r) (few : most < 100) where
   small : r.satellite < 10 ^ 2
@@ -225,7 +214,7 @@ module _ (letter signals : ℕ) (r : Row) (most : ℕ) (is : IsRow most signals 
   two = length-padded 2 r.satellite (omega arith) small (omega (arith, small))
 
   pub length-row : length (row_text letter r) ≡ 3 + 64 * signals
-  length-row = row_lengths letter (padded 2 r.satellite) (flat_map signal_text r.signal_values) signals two (length-signals r.signal_values (all_values_fit r.signal_values is.signal_values) ∙ ap (λ n. 64 * n) is.whole)
+  length-row = ap suc (length-append (padded 2 r.satellite) (flat_map signal_text r.signal_values)) ∙ omega (arith, two, is.whole, length-signals r.signal_values (all_values_fit r.signal_values is.signal_values))
 
   pub row_in-text : row_in signals (row_text letter r) ≡ r
   row_in-text =

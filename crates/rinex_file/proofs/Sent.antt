@@ -84,10 +84,7 @@ pub grown_lines : (a b c : Option (List ℕ)) (p : PlanValue) (e : EpochValue) (
 grown_lines a b c p e s n m is out more = grind (arith, lines_more, Appends-trans)
 
 -- what follows the lines up to a number
-abbrev Rest : List ℕ → List ℕ → Type 0
-Rest text done = (rest : List ℕ) × (text ≡ done ++ rest)
-
-lines_rest : (p : PlanValue) (e : EpochValue) (s : System) (n k m : ℕ) → m ≡ n + k → Rest (lines_up_to p e s m) (lines_up_to p e s n)
+lines_rest : (p : PlanValue) (e : EpochValue) (s : System) (n k m : ℕ) → m ≡ n + k → (rest : List ℕ) × (lines_up_to p e s m ≡ lines_up_to p e s n ++ rest)
 lines_rest p e s n zero m is = grind (arith, append-nil)
 lines_rest p e s n (suc k) m is =
     let same : m ≡ suc (n + k) = omega (arith, is) in
