@@ -1,7 +1,7 @@
 -- Some plan has what was read of it; and from a row of a header to the next.
 use Rattle.std.specs.Prelude.{◌||◌, if◌then◌else◌, nat_lt, ⊤}
 use Rattle.std.specs.List.{list_any, IsDistinct, AllByRecursion}
-use Rattle.std.proofs.Common.{arith, ◌≡◌, ◌∙◌, sym, ap, refl, subst, ℕ, zero, suc, ◌+◌, ◌-◌, ◌<◌, ◌≤◌, Bool, true, false, eqb, nat_eq, List, [], ◌∷◌, ◌++◌, length, take, append_assoc, append-nil, length-append, All, ◌≢◌, ap₂, lit≤, ◌==◌, ◌&&◌, min, Option, Some, None, ◌↔◌}
+use Rattle.std.proofs.Common.{arith, ◌≡◌, ◌∙◌, sym, ap, refl, subst, ℕ, zero, suc, ◌+◌, ◌-◌, ◌<◌, ◌≤◌, Bool, true, false, eqb, nat_eq, List, [], ◌∷◌, ◌++◌, length, take, append_assoc, append-nil, length-append, All, ◌≢◌, ap₂, lit≤, ◌==◌, ◌&&◌, min, ◌↔◌}
 use Rattle.std.proofs.Math.Seq.{take-append_seam}
 use Rattle.std.proofs.lemmas.Bool.{eqb-true}
 use Rattle.std.proofs.lemmas.Bool.Decides.{nat_tests}
@@ -15,6 +15,8 @@ use Rattle.obs_epoch.specs.Dates.{civil_of}
 use Rattle.rinex_file.specs.Read.Progress.{Known, MayBeAll, announced, IsShown, AreValid, MayPlan, HasReadRows, is_some_planned, shown_with, Announced, Shown, AreTypesRead, IsReadTo, IsHeadAt, IsOnlyTime, shown_rows, shown_line, lines_before, lines_after, signals_begun}
 use Rattle.rinex_file.specs.declared.header.rows.HeaderRow.{HeaderRow}
 use Rattle.rinex_file.specs.declared.header.rows.HeaderRow.TheVariants.{Version, Texts, Position, Delta, Types, StrengthUnit, First, Shift, End}
+use Rattle.rinex_file.specs.declared.read.expected.Expected.{Expected}
+use Rattle.rinex_file.specs.declared.read.expected.Expected.TheVariants.{Header, Epoch, EventPosition, EventHeight, EventEpoch, Satellite}
 use Rattle.rinex_file.specs.Begun.{lines_of_header}
 use Rattle.rinex_file.specs.FileValues.{of_system}
 use Rattle.rinex_file.specs.Header.{has_line, row_at, row_count, row_place, first_types, type_rows}
@@ -380,13 +382,17 @@ skipped n k at lacks = record {
   };
 }
 
-pub steps_from : (k new : Known) (a b : ℕ) (line : List ℕ) (next : Option ℕ) → SameFrom k a b → StepsTo k b line new next → StepsTo k a line new next
-steps_from k new a b line None same step = record { is = step.is; only = step.only; lines = λ p may. step.lines p may ∙ sym (ap (λ l. l ++ line ∷ []) (same.lines p may)) }
-steps_from k new a b line (Some next) same step = record {
+pub steps_from : (k new : Known) (a b : ℕ) (line : List ℕ) (next : Expected) → SameFrom k a b → StepsTo k b line new next → StepsTo k a line new next
+steps_from k new a b line Epoch same step = record { is = step.is; only = step.only; lines = λ p may. step.lines p may ∙ sym (ap (λ l. l ++ line ∷ []) (same.lines p may)) }
+steps_from k new a b line (Header next) same step = record {
   plans = step.plans;
   lines = λ p may. step.lines p may ∙ sym (ap (λ l. l ++ line ∷ []) (same.lines p (step.plans p may)));
   at = step.at;
 }
+steps_from k new a b line EventPosition same step = absurd step
+steps_from k new a b line (EventHeight p) same step = absurd step
+steps_from k new a b line (EventEpoch p) same step = absurd step
+steps_from k new a b line (Satellite n) same step = absurd step
 
 pub same_on : (k : Known) (a b c : ℕ) → SameFrom k a b → SameFrom k b c → SameFrom k a c
 same_on k a b c s t = record { lines = λ p may. s.lines p may ∙ t.lines p may; at = t.at }

@@ -1,6 +1,6 @@
 -- From one line of a header to the next while its lines are read.
 use Rattle.std.specs.Prelude.{◌≡◌, ℕ, suc, ◌+◌, ◌<◌, ◌≤◌, ◌==◌, ◌||◌, ◌&&◌, nat_lt, Bool, true, List, [], ◌∷◌, ◌++◌, length}
-use Rattle.std.specs.Prelude.{set, take, drop, min, Option, Some, None, ⊤, ◌↔◌, MatchBool}
+use Rattle.std.specs.Prelude.{set, take, drop, min, Option, Some, None, ⊤, ◌↔◌, MatchOption}
 use Rattle.obs_epoch.specs.declared.cell.StationValues.{StationValues}
 use Rattle.gnss_obs.specs.Signals.{SignalAt, IsSignal, code_of, table}
 use Rattle.gnss_obs.specs.declared.system.System.{System}
@@ -11,6 +11,8 @@ use Rattle.rinex_file.specs.declared.header.fields.HeaderField.{HeaderField}
 use Rattle.rinex_file.specs.declared.header.fields.TextRow.{TextRow}
 use Rattle.rinex_file.specs.declared.header.rows.HeaderRow.{HeaderRow}
 use Rattle.rinex_file.specs.declared.header.rows.HeaderRow.TheVariants.{Types, Shift, End}
+use Rattle.rinex_file.specs.declared.read.expected.Expected.{Expected}
+use Rattle.rinex_file.specs.declared.read.expected.Expected.TheVariants.{Header, Epoch}
 use Rattle.rinex_file.specs.Begun.{lines_of_header}
 use Rattle.rinex_file.specs.Blanks.{trimmed}
 use Rattle.rinex_file.specs.Texts.{HeaderLists, place_of, width_of, fault_of, fields_of, front_of}
@@ -53,8 +55,9 @@ abbrev pub RefusesHeaderLine : HeaderRow → List ℕ → Type 0
 RefusesHeaderLine row line = (h : Shown) → IsShown h → shown_line h row ≡ line → ⊥
 
 -- the line was accepted, and this is known after it; or no header has it in this row
-abbrev pub ReadsOrRefuses : HeaderRow → List ℕ → Known → Known → Bool → Type 0
-ReadsOrRefuses row line old new taken = MatchBool taken (ReadsHeaderLine row line old new) (RefusesHeaderLine row line)
+abbrev pub ReadsOrRefuses : {A : Type 0} → HeaderRow → List ℕ → Known → Known → Option A → Type 0
+ReadsOrRefuses {A} row line old new taken =
+    MatchOption taken (RefusesHeaderLine row line) (λ _. ReadsHeaderLine row line old new)
 
 -- the line follows those before a row, and the row at `next` follows it
 pub record GoesTo (old : Known) (place : ℕ) (line : List ℕ) (new : Known) (next : ℕ) : Type 0 where
@@ -70,9 +73,10 @@ pub record EndsHeader (old : Known) (place : ℕ) (line : List ℕ) (new : Known
   pub lines : (p : PlanValue) → MayPlan old p
       → lines_of_header new.shown ≡ lines_before (shown_with old p) place ++ line ∷ []
 
-abbrev pub StepsTo : Known → ℕ → List ℕ → Known → Option ℕ → Type 0
-StepsTo old place line new None = EndsHeader old place line new
-StepsTo old place line new (Some next) = GoesTo old place line new next
+abbrev pub StepsTo : Known → ℕ → List ℕ → Known → Expected → Type 0
+StepsTo old place line new (Header next) = GoesTo old place line new next
+StepsTo old place line new Epoch = EndsHeader old place line new
+StepsTo old place line new other = ⊥
 
 -- no header continues with this line
 abbrev pub NoneGoesOn : Known → ℕ → List ℕ → Type 0

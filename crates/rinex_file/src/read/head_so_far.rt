@@ -13,7 +13,7 @@ use crate::header::rows::{HeaderRow, row_at};
 use crate::header::texts::HeaderTexts;
 use crate::header::types::type_rows;
 use crate::read::epoch::read_first;
-use crate::read::expected::Refusal;
+use crate::read::expected::{Expected, Refusal, accept};
 use crate::read::station::{is_header_line, read_delta, read_position, read_version};
 use crate::read::texts::read_texts;
 use crate::read::types::TypesSoFar;
@@ -127,23 +127,15 @@ impl HeadSoFar {
         self.texts.are_texts();
     }
 
-    /// Returns whether a system has a line of types with this number, by the lines before.
-    fn has_types(&self, system: System, row: usize) -> bool
-        ensures { result ≡ known_line self.now (HeaderRow.Types system row) }
-    {
-        let types = self.of(system);
-        if !types.is_planned {
-            return false;
-        }
-        row == 0 || row < type_rows(types.count)
-    }
-
     /// Returns whether a row has a line, by the lines before.
     fn has_line(&self, row: HeaderRow) -> bool
         ensures { result ≡ known_line self.now row }
     {
         match row {
-            HeaderRow::Types(system, row) => self.has_types(system, row),
+            HeaderRow::Types(system, row) => {
+                let types = self.of(system);
+                types.is_planned && (row == 0 || row < type_rows(types.count))
+            }
             HeaderRow::Shift(system) => self.of(system).is_planned,
             _ => true,
         }
@@ -180,73 +172,43 @@ impl HeadSoFar {
         }
     }
 
-    /// Reads the line with version and systems.
-    fn read_systems(&mut self, line: &[u8]) -> bool
-        ensures { ReadsOrRefuses HeaderRow.Version line.now self.old self.new result }
-    {
-        let Some((gps, galileo)) = read_version(line) else {
-            return false;
-        };
-        self.gps.is_planned = gps;
-        self.galileo.is_planned = galileo;
-        true
-    }
-
-    /// Reads the line with the position of the antenna.
-    fn read_position(&mut self, line: &[u8]) -> bool
-        ensures { ReadsOrRefuses HeaderRow.Position line.now self.old self.new result }
-    {
-        let Some(position) = read_position(line) else {
-            return false;
-        };
-        let height = self.values.height;
-        self.values = position;
-        self.values.height = height;
-        true
-    }
-
-    /// Reads the line with the height of the antenna above the marker.
-    fn read_height(&mut self, line: &[u8]) -> bool
-        ensures { ReadsOrRefuses HeaderRow.Delta line.now self.old self.new result }
-    {
-        let Some(height) = read_delta(line) else {
-            return false;
-        };
-        self.values.height = height;
-        true
-    }
-
-    /// Reads the line with the time of the first epoch.
-    fn read_first_time(&mut self, line: &[u8]) -> bool
-        ensures { ReadsOrRefuses HeaderRow.First line.now self.old self.new result }
-    {
-        let Some(time) = read_first(line) else {
-            return false;
-        };
-        self.first = time;
-        true
-    }
-
-    /// Reads the line of a row, and returns whether some header has it.
-    fn read_header_line(&mut self, row: HeaderRow, line: &[u8]) -> bool
+    /// Reads the line of a row. Returns None if no header has it.
+    fn read_header_line(&mut self, row: HeaderRow, line: &[u8]) -> Option<()>
         requires { IsOnly row }
         ensures { ReadsOrRefuses row line.now self.old self.new result }
     {
         match row {
-            HeaderRow::Version => self.read_systems(line),
+            HeaderRow::Version => {
+                let (gps, galileo) = read_version(line)?;
+                self.gps.is_planned = gps;
+                self.galileo.is_planned = galileo;
+                Some(())
+            }
             HeaderRow::Texts(row) => read_texts(&mut self.texts, row, line),
-            HeaderRow::Position => self.read_position(line),
-            HeaderRow::Delta => self.read_height(line),
-            HeaderRow::StrengthUnit => is_header_line(line, UNIT, STRENGTH_UNIT),
-            HeaderRow::First => self.read_first_time(line),
-            HeaderRow::Shift(system) => is_header_line(line, &[letter_of(system)], SHIFT),
-            HeaderRow::Types(_, _) => false,
-            HeaderRow::End => false,
+            HeaderRow::Position => {
+                let height = self.values.height;
+                self.values = read_position(line)?;
+                self.values.height = height;
+                Some(())
+            }
+            HeaderRow::Delta => {
+                self.values.height = read_delta(line)?;
+                Some(())
+            }
+            HeaderRow::StrengthUnit => is_header_line(line, UNIT, STRENGTH_UNIT).then_some(()),
+            HeaderRow::First => {
+                self.first = read_first(line)?;
+                Some(())
+            }
+            HeaderRow::Shift(system) => {
+                is_header_line(line, &[letter_of(system)], SHIFT).then_some(())
+            }
+            HeaderRow::Types(_, _) | HeaderRow::End => None,
         }
     }
 
     /// Processes the line of the row at an index.
-    fn take_at(&mut self, place: usize, line: &[u8]) -> Result<Option<usize>, Refusal>
+    fn take_at(&mut self, place: usize, line: &[u8]) -> Result<Expected, Refusal>
         requires at { IsHeadAt self.old place }
         requires here { known_line self.old (row_at place) ≡ true }
         ensures taken { IfOk result (λ next. StepsTo self.old place line.now self.new next) }
@@ -256,27 +218,23 @@ impl HeadSoFar {
             HeaderRow::Types(system, row) => {
                 self.take_types(system, row, line)?;
                 self.are_valid();
-                Ok(Some(place + 1))
+                Ok(Expected::Header(place + 1))
             }
             HeaderRow::End => {
-                if !is_header_line(line, b"", END) {
-                    return Err(Refusal::Bad);
-                }
-                Ok(None)
+                accept(is_header_line(line, b"", END))?;
+                Ok(Expected::Epoch)
             }
             row => {
-                if !self.read_header_line(row, line) {
-                    return Err(Refusal::Bad);
-                }
+                self.read_header_line(row, line).ok_or(Refusal::Bad)?;
                 self.are_valid();
-                Ok(Some(place + 1))
+                Ok(Expected::Header(place + 1))
             }
         }
     }
 
-    /// Processes a line, which is expected to be that of row `from` or of a later one. Returns the
-    /// index of the next row, or None at the end of the header.
-    pub(crate) fn take(&mut self, from: usize, line: &[u8]) -> Result<Option<usize>, Refusal>
+    /// Processes a line, which is expected to be that of row `from` or of a later one. Returns what
+    /// is expected after it.
+    pub(crate) fn take(&mut self, from: usize, line: &[u8]) -> Result<Expected, Refusal>
         requires { IsHeadAt self.old from }
         ensures taken { IfOk result (λ next. StepsTo self.old from line.now self.new next) }
         ensures bad { result ≡ Err Refusal.Bad → NoneGoesOn self.old from line.now }

@@ -91,8 +91,7 @@ impl ParserState {
     {
         match self.expected {
             Expected::Header(place) => {
-                let next = self.head.take(place, line)?;
-                self.expected = next.map_or(Expected::Epoch, Expected::Header);
+                self.expected = self.head.take(place, line)?;
                 Ok(Added::NoRow)
             }
             Expected::Epoch if self.begins_event(line) => {

@@ -1,5 +1,5 @@
 //! The texts of a header's lines, read back.
-ghost use Rattle.std.specs.Prelude.{◌≡◌, ◌≤◌, length, take, drop, MatchBool};
+ghost use Rattle.std.specs.Prelude.{◌≡◌, ◌≤◌, length, take, drop, MatchOption};
 ghost use Rattle.rinex_file.specs.Read.HeaderSteps.{ReadsTexts, RefusesTexts};
 
 use crate::header::fields::TextRow;
@@ -16,20 +16,17 @@ pub(crate) fn columns(line: &[u8], from: usize, width: usize) -> &[u8]
     &rest[..width.min(rest.len())]
 }
 
-/// Reads the texts of a row, and returns whether the line is that of these texts.
-pub(crate) fn read_texts(texts: &mut HeaderTexts, row: TextRow, line: &[u8]) -> bool
-    ensures { MatchBool result (ReadsTexts row line.now texts.old texts.new) (RefusesTexts row line.now) }
+/// Reads the texts of a row. Returns None if the line isn't that of these texts.
+pub(crate) fn read_texts(texts: &mut HeaderTexts, row: TextRow, line: &[u8]) -> Option<()>
+    ensures { MatchOption result (RefusesTexts row line.now) (λ _. ReadsTexts row line.now texts.old texts.new) }
 {
     texts.are_texts();
     let mut column = row.front().len();
     for field in row.fields() {
-        if texts
+        texts
             .set(*field, columns(line, column, field.width()))
-            .is_err()
-        {
-            return false;
-        }
+            .ok()?;
         column += field.width();
     }
-    is_same(line, texts_line(texts, row).as_slice())
+    is_same(line, texts_line(texts, row).as_slice()).then_some(())
 }

@@ -1,12 +1,13 @@
-use Rattle.std.proofs.Common.{◌∙◌, ◌++◌, ◌∷◌, ap, ℕ, List, Option}
+use Rattle.std.proofs.Common.{◌∙◌, ◌++◌, ◌∷◌, ap, ℕ, List}
 use Rattle.std.specs.Prelude.{Result, Ok, Err, IfOk}
+use Rattle.rinex_file.specs.declared.read.expected.Expected.{Expected}
 use Rattle.rinex_file.specs.declared.read.expected.Refusal.{Refusal}
 use Rattle.rinex_file.specs.Read.Progress.{Known}
 use Rattle.rinex_file.specs.Read.HeaderSteps.{StepsTo, SameFrom}
 use Rattle.rinex_file.proofs.HeaderSteps.{steps_from}
 use Rattle.rinex_file.proofs.read.head_so_far.HeadSoFar.take.Goals as goal
 
-steps : (k new : Known) (a b : ℕ) (line : List ℕ) (r : Result (Option ℕ) Refusal) → SameFrom k a b → IfOk r (λ next. StepsTo k b line new next) → IfOk r (λ next. StepsTo k a line new next)
+steps : (k new : Known) (a b : ℕ) (line : List ℕ) (r : Result Expected Refusal) → SameFrom k a b → IfOk r (λ next. StepsTo k b line new next) → IfOk r (λ next. StepsTo k a line new next)
 steps k new a b line (Ok next) same step = steps_from k new a b line next same step
 steps k new a b line (Err e) same step = tt
 

@@ -1,5 +1,5 @@
-use Rattle.std.proofs.Common.{◌≡◌, ◌∙◌, ◌+◌, ◌<◌, sym, ap, subst, refl, true, false, ℕ, List, Bool}
-use Rattle.std.specs.Prelude.{MatchBool, Err}
+use Rattle.std.proofs.Common.{◌≡◌, ◌∙◌, ◌+◌, ◌<◌, sym, ap, subst, refl, ℕ, List, Option, Some, None}
+use Rattle.std.specs.Prelude.{⊤, Err}
 use Rattle.std.proofs.lemmas.Result.{err_from_is_err_and}
 use Rattle.gnss_obs.specs.declared.system.System.{System}
 use Rattle.rinex_file.specs.declared.header.rows.HeaderRow.{HeaderRow}
@@ -7,7 +7,7 @@ use Rattle.rinex_file.specs.declared.header.rows.HeaderRow.TheVariants.{Version,
 use Rattle.obs_epoch.specs.Values.{planned_of}
 use Rattle.rinex_file.specs.Header.{end_line, first_types, row_at}
 use Rattle.rinex_file.specs.Read.Progress.{Known, IsHeadAt, announced}
-use Rattle.rinex_file.specs.Read.HeaderSteps.{IsOnly, known_line, EndsHeader, NoneGoesOn, ReadsHeaderLine}
+use Rattle.rinex_file.specs.Read.HeaderSteps.{IsOnly, known_line, EndsHeader, NoneGoesOn, ReadsHeaderLine, ReadsOrRefuses, RefusesHeaderLine}
 use Rattle.rinex_file.proofs.HeaderEnd.{ends, no_end_line, ok_bad}
 use Rattle.rinex_file.proofs.HeaderRead.{begun_here, line_types, none_taken, rows_there, same_refusal}
 use Rattle.rinex_file.proofs.HeaderSteps.{step_at, none_at, last_at, types_few, types_place}
@@ -34,14 +34,6 @@ take_types-requires-clause-begun c =
 not_end : (s : System) (row : ℕ) → Types s row ≡ End → ⊥
 not_end s row e = cc
 
-when_true : (P Q : Type 0) (b : Bool) → MatchBool b P Q → b ≡ true → P
-when_true P Q true m e = m
-when_true P Q false m e = cc
-
-when_false : (P Q : Type 0) (b : Bool) → MatchBool b P Q → b ≡ false → Q
-when_false P Q true m e = cc
-when_false P Q false m e = m
-
 pub returns-in_ok-take_types-in-Types-clause-taken : goal.returns-in_ok-take_types-in-Types-clause-taken
 returns-in_ok-take_types-in-Types-clause-taken c =
     step_at c.args.place c.args.line.now c.args.self.now c.take_types.new.self (Types c.in-Types.system c.in-Types.row) c.requires.at c.requires.here (sym c.row_at.ensures ∙ c.in-Types.is)
@@ -64,38 +56,43 @@ returns-in_err-take_types-in-Types-clause-bad c bad =
     (none_taken k s row c.args.line.now (types_few c.args.place s row c.requires.at.expected is) (at_types k c.args.place s row c.requires.at is) (sym (ap (known_line k) is) ∙ c.requires.here)
     (c.in_err-take_types-in-Types.ensures.bad (ap Err (same_refusal _ _ _ (p.1 ∙ ap Err p.2) bad))))
 
-pub returns-then-not-is_header_line-clause-bad : goal.returns-then-not-is_header_line-clause-bad
-returns-then-not-is_header_line-clause-bad c e =
+pub returns-in_err-accept-in-End-clause-bad : goal.returns-in_err-accept-in-End-clause-bad
+returns-in_err-accept-in-End-clause-bad c e =
     none_at c.args.place c.args.line.now c.args.self.now End c.requires.at c.requires.here (sym c.row_at.ensures ∙ c.in-End.is)
-    (no_end_line c.args.line.now (refused c.is_header_line.result (c.args.line.now ≡ end_line) c.is_header_line.ensures c.if-not-is_header_line.true))
+    (no_end_line c.args.line.now (refused c.is_header_line.result (c.args.line.now ≡ end_line) c.is_header_line.ensures c.in_err-accept-in-End.ensures.bad))
 
 at_end : (k : Known) (n : ℕ) (line : List ℕ) → n ≡ 25 → IsHeadAt k n → line ≡ end_line → EndsHeader k n line k
 at_end k n line e at same = subst (λ m. EndsHeader k m line k) (sym e) (ends k (subst (IsHeadAt k) e at) line same)
 
-pub returns-else-not-is_header_line-clause-taken : goal.returns-else-not-is_header_line-clause-taken
-returns-else-not-is_header_line-clause-taken c =
+pub returns-in_ok-accept-in-End-clause-taken : goal.returns-in_ok-accept-in-End-clause-taken
+returns-in_ok-accept-in-End-clause-taken c =
     at_end c.args.self.now c.args.place c.args.line.now (last_at c.args.place c.requires.at.expected (sym c.row_at.ensures ∙ c.in-End.is)) c.requires.at
-    (c.is_header_line.ensures.0 c.if-not-is_header_line.false)
+    (c.is_header_line.ensures.0 c.in_ok-accept-in-End.ensures.taken)
 
-pub returns-then-not-read_header_line : goal.returns-then-not-read_header_line
-returns-then-not-read_header_line c = record {
-  taken = tt;
-  bad = λ e. none_at c.args.place c.args.line.now c.args.self.now c.row_at.result c.requires.at c.requires.here (sym c.row_at.ensures)
-      (when_false _ _ c.read_header_line.result c.read_header_line.ensures c.if-not-read_header_line.true);
-}
-
-pub returns-else-not-read_header_line : goal.returns-else-not-read_header_line
-returns-else-not-read_header_line c = record {
-  taken = step_at c.args.place c.args.line.now c.args.self.now c.read_header_line.new.self c.row_at.result c.requires.at c.requires.here (sym c.row_at.ensures)
-      c.in_default.not-End (when_true _ _ c.read_header_line.result c.read_header_line.ensures c.if-not-read_header_line.false) c.are_valid-in_default.ensures;
-  bad = λ e. absurd (ok_bad _ _ _ refl e);
-}
+pub returns-in_ok-accept-in-End-clause-bad : goal.returns-in_ok-accept-in-End-clause-bad
+returns-in_ok-accept-in-End-clause-bad c e = absurd (ok_bad _ _ _ refl e)
 
 pub returns-in_ok-take_types-in-Types-clause-bad : goal.returns-in_ok-take_types-in-Types-clause-bad
 returns-in_ok-take_types-in-Types-clause-bad c e = absurd (ok_bad _ _ _ refl e)
 
-pub returns-else-not-is_header_line-clause-bad : goal.returns-else-not-is_header_line-clause-bad
-returns-else-not-is_header_line-clause-bad c e = absurd (ok_bad _ _ _ refl e)
+-- what is known of a line that was read, or of one that no header has
+was_read : (r : HeaderRow) (line : List ℕ) (old new : Known) (o : Option ⊤) (x : ⊤) → o ≡ Some x → ReadsOrRefuses r line old new o → ReadsHeaderLine r line old new
+was_read r line old new o x e read = subst (ReadsOrRefuses r line old new) e read
+
+was_refused : (r : HeaderRow) (line : List ℕ) (old new : Known) (o : Option ⊤) → o ≡ None → ReadsOrRefuses r line old new o → RefusesHeaderLine r line
+was_refused r line old new o e read = subst (ReadsOrRefuses r line old new) e read
+
+pub returns-in_err-ok_or-in_default-clause-bad : goal.returns-in_err-ok_or-in_default-clause-bad
+returns-in_err-ok_or-in_default-clause-bad c e =
+    none_at c.args.place c.args.line.now c.args.self.now c.row_at.result c.requires.at c.requires.here (sym c.row_at.ensures)
+    (was_refused c.row_at.result c.args.line.now c.args.self.now c.read_header_line.new.self _ c.in_err-ok_or-in_default.ensures.ok_part c.read_header_line.ensures)
+
+pub returns-in_ok-ok_or-in_default : goal.returns-in_ok-ok_or-in_default
+returns-in_ok-ok_or-in_default c = record {
+  taken = step_at c.args.place c.args.line.now c.args.self.now c.read_header_line.new.self c.row_at.result c.requires.at c.requires.here (sym c.row_at.ensures) c.in_default.not-End
+      (was_read c.row_at.result c.args.line.now c.args.self.now c.read_header_line.new.self _ _ c.in_ok-ok_or-in_default.ensures.ok_part c.read_header_line.ensures) c.are_valid-in_default.ensures;
+  bad = λ e. absurd (ok_bad _ _ _ refl e);
+}
 
 sole : (r : HeaderRow) → ((s : System) (i : ℕ) → r ≡ Types s i → ⊥) → (r ≡ End → ⊥) → IsOnly r
 sole Version other far = tt

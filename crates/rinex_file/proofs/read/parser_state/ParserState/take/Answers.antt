@@ -1,11 +1,10 @@
-use Rattle.std.proofs.Common.{◌≡◌, ◌<◌, ℕ, List, ap, subst, refl, sym, ◌∙◌, Option, Some, None, Result, Err}
-use Rattle.std.specs.Prelude.{MatchOption}
+use Rattle.std.proofs.Common.{◌≡◌, ◌<◌, ℕ, List, ap, subst, refl, sym, ◌∙◌, Result, Err}
 use Rattle.std.proofs.lemmas.Result.{err_from_is_err_and}
 use Rattle.rinex_file.specs.declared.read.parser_state.ParserState.{ParserState}
 use Rattle.rinex_file.specs.declared.read.expected.Added.{Added}
 use Rattle.rinex_file.specs.declared.read.expected.Added.TheVariants.{NoRow}
 use Rattle.rinex_file.specs.declared.read.expected.Expected.{Expected}
-use Rattle.rinex_file.specs.declared.read.expected.Expected.TheVariants.{Header, Epoch}
+use Rattle.rinex_file.specs.declared.read.expected.Expected.TheVariants.{Header, Epoch, EventPosition, EventHeight, EventEpoch, Satellite}
 use Rattle.rinex_file.specs.declared.read.expected.Refusal.{Refusal}
 use Rattle.rinex_file.specs.declared.read.expected.Refusal.TheVariants.{Memory, Bad}
 use Rattle.rinex_file.specs.ParserState.{History, FollowsHistory, IsNext, RefusesLine, TakesLine, progress_at}
@@ -20,39 +19,42 @@ stopped : (old new : ParserState) (line : List ℕ) (e : Refusal) (r : Result Ad
 stopped old new line Bad r is bad = subst (TakesLine old new line) (sym is) (bad refl)
 stopped old new line Memory r is bad = subst (TakesLine old new line) (sym is) tt
 
-pub returns-in_err-next-in-Header-clause-takes : goal.returns-in_err-next-in-Header-clause-takes
-returns-in_err-next-in-Header-clause-takes c =
+pub returns-in_err-self-in-Header-clause-takes : goal.returns-in_err-self-in-Header-clause-takes
+returns-in_err-self-in-Header-clause-takes c =
     let (e, is, same) = err_from_is_err_and c.from_residual.result c.from_residual.ensures.1 in
     stopped c.args.self.now _ c.args.line.now e c.from_residual.result is (λ bad h history.
     let s = progress_at c.args.self.now h in
-    no_header s c.in-Header.place c.args.line.now c.in-Header.is (sound_header s c.in-Header.place c.in-Header.is history.sound).2 (c.in_err-next-in-Header.ensures.bad (ap Err (sym same ∙ bad))))
+    no_header s c.in-Header.place c.args.line.now c.in-Header.is (sound_header s c.in-Header.place c.in-Header.is history.sound).2 (c.in_err-self-in-Header.ensures.bad (ap Err (sym same ∙ bad))))
 
 abbrev at_head : ParserState → Known → Expected → ParserState
 at_head c k expected = record c { expected = expected; head = k }
 
 -- the header continues, or it ends
-headed : (c : ParserState) (h : History) (place : ℕ) (line : List ℕ) (k : Known) (e : Expected) (next : Option ℕ) → c.expected ≡ Header place → FollowsHistory c h → StepsTo c.head place line k next
-    → MatchOption next (e ≡ Epoch) (λ n. e ≡ Header n) → IsNext c (at_head c k e) NoRow line h
-headed c h place line k e (Some next) expected history goes is =
+headed : (c : ParserState) (h : History) (place : ℕ) (line : List ℕ) (k : Known) (next : Expected) → c.expected ≡ Header place → FollowsHistory c h → StepsTo c.head place line k next
+    → IsNext c (at_head c k next) NoRow line h
+headed c h place line k (Header next) expected history goes =
     let s = progress_at c h in
     let (epochs, rows, here) = sound_header s place expected history.sound in
-    subst (λ (d : Expected). IsNext c (at_head c k d) NoRow line h) (sym is) (record {
+    record {
       history = record { sound = (epochs, rows, goes.at); counted = history.counted };
       follows = header_taken s place line expected k next goes;
       shows = header_shows s place line expected k next goes;
-    })
-headed c h place line k e None expected history end is =
+    }
+headed c h place line k Epoch expected history end =
     let s = progress_at c h in
     let (epochs, rows, here) = sound_header s place expected history.sound in
-    subst (λ (d : Expected). IsNext c (at_head c k d) NoRow line h) (sym is) (record {
+    record {
       history = record { sound = (sound_start s k end.is epochs, rows); counted = history.counted };
       follows = header_ended s place line expected k epochs here end;
       shows = ended_shows s place line expected k epochs here end;
-    })
+    }
+headed c h place line k EventPosition expected history goes = absurd goes
+headed c h place line k (EventHeight p) expected history goes = absurd goes
+headed c h place line k (EventEpoch v) expected history goes = absurd goes
+headed c h place line k (Satellite n) expected history goes = absurd goes
 
-pub returns-in_ok-next-in-Header-clause-takes : goal.returns-in_ok-next-in-Header-clause-takes
-returns-in_ok-next-in-Header-clause-takes c = λ h history.
-    headed c.args.self.now h c.in-Header.place c.args.line.now c.take.new.self c.map_or-self.result c.in_ok-next-in-Header.next c.in-Header.is history c.in_ok-next-in-Header.ensures.taken c.map_or-self.ensures
+pub returns-in_ok-self-in-Header-clause-takes : goal.returns-in_ok-self-in-Header-clause-takes
+returns-in_ok-self-in-Header-clause-takes c = λ h history. headed c.args.self.now h c.in-Header.place c.args.line.now c.take.new.self _ c.in-Header.is history c.in_ok-self-in-Header.ensures.taken
 
 pub returns-in-Epoch-clause-takes : goal.returns-in-Epoch-clause-takes
 returns-in-Epoch-clause-takes c = λ h history.
