@@ -1,17 +1,15 @@
 //! Reading a file line by line: the fields of each line are read leniently, written again, and
 //! compared.
-pub(crate) mod block;
 pub(crate) mod columns;
 pub(crate) mod epoch;
 pub(crate) mod expected;
 pub(crate) mod fault;
 pub(crate) mod file;
 pub(crate) mod head_so_far;
+pub(crate) mod header_lines;
 pub(crate) mod lines;
 pub(crate) mod numbers;
 pub(crate) mod parser_state;
 pub(crate) mod reading;
 pub(crate) mod row;
-pub(crate) mod station;
-pub(crate) mod texts;
 pub(crate) mod types;

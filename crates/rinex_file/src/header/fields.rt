@@ -119,20 +119,4 @@ impl TextRow {
             TextRow::Antenna => (b"ANT # / TYPE", b"", &[AntNumber, AntType]),
         }
     }
-
-    /// Returns the texts of the row, in the order of [`HeaderField::ALL`].
-    pub(crate) fn fields(self) -> &'static [HeaderField]
-        ensures value { result.now ≡ fields_of self }
-        ensures size { length result.now ≤ 3 }
-    {
-        self.parts().2
-    }
-
-    /// Returns the columns before the texts: the name of the program in 20 columns, or nothing.
-    pub(crate) fn front(self) -> &'static [u8]
-        ensures text { result.now ≡ front_of self }
-        ensures size { length result.now ≤ 20 }
-    {
-        self.parts().1
-    }
 }

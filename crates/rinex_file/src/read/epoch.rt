@@ -8,8 +8,8 @@ ghost use Rattle.rinex_file.specs.Lines.{epoch_line};
 ghost use Rattle.rinex_file.specs.Read.Fields.{ReadsExactly};
 
 use crate::header::lines::first_line;
+use crate::read::header_lines::columns;
 use crate::read::numbers::{digits_in, is_same};
-use crate::read::texts::columns;
 use crate::write::epoch::epoch_line;
 use crate::write::numbers::Line;
 use obs_epoch::laws::calendar;

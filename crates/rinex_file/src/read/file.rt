@@ -100,11 +100,9 @@ impl FileBuilder {
         ensures { IfOk result (λ f. f ≡ file_at parser_state (history_of self)) }
     {
         let head = parser_state.head;
-        match Plan::from_signals(
-            self.alloc,
-            head.gps.signals.as_slice(),
-            head.galileo.signals.as_slice(),
-        ) {
+        let gps = head.gps.signals.as_slice();
+        let galileo = head.galileo.signals.as_slice();
+        match Plan::from_signals(self.alloc, gps, galileo) {
             Ok(plan) => Ok(ObsFile {
                 texts: head.texts,
                 plan,

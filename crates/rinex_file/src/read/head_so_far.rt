@@ -14,8 +14,9 @@ use crate::header::texts::HeaderTexts;
 use crate::header::types::type_rows;
 use crate::read::epoch::read_first;
 use crate::read::expected::{Expected, Refusal, accept};
-use crate::read::station::{is_header_line, read_delta, read_position, read_version};
-use crate::read::texts::read_texts;
+use crate::read::header_lines::{
+    is_header_line, read_delta, read_position, read_texts, read_version,
+};
 use crate::read::types::TypesSoFar;
 use crate::write::satellite::letter_of;
 use gnss_obs::System;

@@ -1,12 +1,113 @@
-//! The lines of a reader.
-ghost use Rattle.std.specs.Io.KnownBytes.{Consumes, prepend_known};
+//! The lines of a reader, of which blocks are read ahead.
+ghost use Rattle.std.specs.Prelude.{◌≡◌, ◌<◌, ◌≤◌, [], ◌∷◌, take, drop, length, false};
+ghost use Rattle.std.specs.Io.KnownBytes.{Consumes, IsAtEnd, prepend_known};
+ghost use Rattle.arrayvec.specs.ArrayVec.{array_vec_len};
+ghost use Rattle.rtcm_bits.specs.Device.{HasFailed};
+ghost use Rattle.rinex_file.specs.Read.Fields.{has};
+ghost use Rattle.rinex_file.specs.Blocks.{MovesBytes, LeavesRest};
 ghost use Rattle.rinex_file.specs.Exact.{IsFound};
-ghost use Rattle.rinex_file.specs.Blocks.{LeavesRest};
+ghost use Rattle.rinex_file.specs.Limits.{most_line};
 
-use crate::read::block::{Block, Filled};
-use crate::write::numbers::Line;
+use crate::write::numbers::{Line, MOST_LINE, put};
+use memchr::memchr;
 use rtcm_bits::Counted;
 use std::io::Read;
+use std::marker::Model;
+
+/// Size of a block, in bytes.
+const BLOCK_BYTES: usize = 65_536;
+
+/// Bytes that were read and are not yet part of a line.
+#[derive(Drop)]
+pub(crate) struct Block {
+    bytes: [u8; BLOCK_BYTES],
+    at: usize,
+    end: usize,
+}
+
+impl Model for Block {
+    ghost use Rattle.std.specs.Prelude.{◌≤◌, ◌-◌, List, ℕ, take, drop};
+
+    ghost Value = { List ℕ };
+
+    ghost view = { λ b. take (b.end - b.at) (drop b.at b.bytes) };
+
+    ghost invariant = { λ b. (b.at ≤ b.end) × (b.end ≤ 65536) };
+}
+
+/// The contents of a block after it was filled.
+#[derive(Clone, Copy)]
+pub(crate) enum Filled {
+    /// At least one byte.
+    Some,
+    /// Nothing: the input is at its end.
+    End,
+    /// Nothing: the reader failed.
+    Failed,
+}
+
+/// Returns the index of the first line feed, or the number of bytes if there is none.
+fn line_feed(bytes: &[u8]) -> usize
+    ensures bound { result ≤ length bytes.now }
+    ensures none { has 10 (take result bytes.now) ≡ false }
+    ensures found { result < length bytes.now → take 1 (drop result bytes.now) ≡ 10 ∷ [] }
+{
+    memchr(b'\n', bytes).unwrap_or(bytes.len())
+}
+
+impl Block {
+    /// Returns a block without bytes.
+    pub(crate) fn new() -> Block
+        ensures { result ≡ [] }
+    {
+        Block {
+            bytes: [0; BLOCK_BYTES],
+            at: 0,
+            end: 0,
+        }
+    }
+
+    /// Reads bytes ahead if none is left.
+    pub(crate) fn fill<R: Read>(&mut self, reader: &mut Counted<R>) -> Filled
+        ensures same { Consumes (prepend_known self.old (R.remaining reader.old.inner))
+            (prepend_known self.new (R.remaining reader.new.inner)) [] }
+        ensures left { LeavesRest (R.remaining reader.old.inner) (R.remaining reader.new.inner) }
+        ensures some { result ≡ Filled.Some → 0 < length self.new }
+        ensures end { result ≡ Filled.End → (self.new ≡ []) × IsAtEnd (R.remaining reader.new.inner) }
+        ensures failed { result ≡ Filled.Failed → HasFailed reader.old.failures reader.new.failures }
+        ensures fine { (result ≡ Filled.Failed → ⊥) → reader.new.failures ≡ reader.old.failures }
+    {
+        if self.at < self.end {
+            return Filled::Some;
+        }
+        self.at = 0;
+        self.end = 0;
+        match reader.read(&mut self.bytes) {
+            Ok(0) => Filled::End,
+            Ok(count) => {
+                self.end = count;
+                Filled::Some
+            }
+            Err(_) => Filled::Failed,
+        }
+    }
+
+    /// Moves bytes to the end of a line, up to its line feed or as many as are available and fit.
+    /// Returns whether the line feed is among them.
+    pub(crate) fn move_to(&mut self, line: &mut Line) -> bool
+        requires { array_vec_len line.old ≤ most_line }
+        ensures { MovesBytes result self.old self.new line.old.items line.new.items }
+    {
+        let held = &self.bytes[self.at..self.end];
+        let room = held.len().min(MOST_LINE - line.len());
+        let near = &held[..room];
+        let feed = line_feed(near);
+        let count = (feed + 1).min(room);
+        put(line, &near[..count]);
+        self.at += count;
+        feed < room
+    }
+}
 
 /// What was found when the next line was read.
 #[derive(Clone, Copy)]

@@ -6,10 +6,9 @@ ghost use Rattle.rinex_file.specs.Blocks.{LeavesRest};
 ghost use Rattle.rinex_file.specs.ParserState.{History, FollowsHistory, nothing};
 ghost use Rattle.rinex_file.specs.Read.Steps.{GoesOnReading, HasRead, CountsLine, MayBeCounted};
 
-use crate::read::block::Block;
 use crate::read::expected::{Added, Expected, Refusal};
 use crate::read::fault::ReadFault;
-use crate::read::lines::{Found, next_line};
+use crate::read::lines::{Block, Found, next_line};
 use crate::read::parser_state::ParserState;
 use crate::write::numbers::Line;
 use rtcm_bits::Counted;

@@ -35,22 +35,22 @@ loop-before-preserved g c =
     let b = contents c.loop-before.writer.inner in
     let d = contents c.if-is_written.writer.inner in
     elim c.if-is_written.branch [
-      then-is_written+in_ok-write_whole w ↦
-        let shown = is_shown c.args.plan.now c.args.system own (n + 1) (grind (arith, w)) in
-        record {
-          out = grown_lines (contents c.args.writer.now.inner) b d c.args.plan.now c.args.epoch.now.epoch c.args.system n (n + 1) next inv.out (subst (λ l. Appends b d l) line (subst (λ l. Appends b d l) (sym shown) (grind (arith, w))));
-          fine = grind (arith, w, inv.fine);
-          left = part.left;
-          widest = grind (arith, w, inv.widest);
-        }
-    | else-is_written w ↦
-        let none = not_written c.args.plan.now c.args.system own (n + 1) (grind (arith, w)) in
-        record {
-          out = grown_lines (contents c.args.writer.now.inner) b d c.args.plan.now c.args.epoch.now.epoch c.args.system n (n + 1) next inv.out (subst (λ l. Appends b d l) line (subst (λ l. Appends b d l) (sym none) (grind (arith, w, Appends-nil))));
-          fine = grind (arith, w, inv.fine);
-          left = part.left;
-          widest = grind (arith, w, inv.widest);
-        }
+      | then-is_written+in_ok-write_whole w ↦
+          let shown = is_shown c.args.plan.now c.args.system own (n + 1) (grind (arith, w)) in
+          record {
+            out = grown_lines (contents c.args.writer.now.inner) b d c.args.plan.now c.args.epoch.now.epoch c.args.system n (n + 1) next inv.out (subst (λ l. Appends b d l) line (subst (λ l. Appends b d l) (sym shown) (grind (arith, w))));
+            fine = grind (arith, w, inv.fine);
+            left = part.left;
+            widest = grind (arith, w, inv.widest);
+          }
+      | else-is_written w ↦
+          let none = not_written c.args.plan.now c.args.system own (n + 1) (grind (arith, w)) in
+          record {
+            out = grown_lines (contents c.args.writer.now.inner) b d c.args.plan.now c.args.epoch.now.epoch c.args.system n (n + 1) next inv.out (subst (λ l. Appends b d l) line (subst (λ l. Appends b d l) (sym none) (grind (arith, w, Appends-nil))));
+            fine = grind (arith, w, inv.fine);
+            left = part.left;
+            widest = grind (arith, w, inv.widest);
+          }
     ]
 
 pub returns-in_err-write_whole-clause-part : goal.returns-in_err-write_whole-clause-part

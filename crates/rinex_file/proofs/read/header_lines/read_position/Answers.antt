@@ -8,7 +8,7 @@ use Rattle.rinex_file.specs.Header.{position_line}
 use Rattle.rinex_file.specs.Read.Progress.{IsPosition}
 use Rattle.rinex_file.proofs.Judged.{exactly}
 use Rattle.rinex_file.proofs.HeaderAgree.{lengths-back, coordinate-fits, number_at}
-use Rattle.rinex_file.proofs.read.station.read_position.Goals as goal
+use Rattle.rinex_file.proofs.read.header_lines.read_position.Goals as goal
 
 abbrev at : ℤ → ℤ → ℤ → StationValues
 at x y z = record { x = x; y = y; z = z; height = 0 }

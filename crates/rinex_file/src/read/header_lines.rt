@@ -1,15 +1,28 @@
-//! Version, position and height in a header, read back; and lines that are always the same.
+//! The lines of a header, read back.
 ghost use Rattle.std.specs.Prelude.{◌≡◌, ◌↔◌, ◌+◌, ◌≤◌, ◌<◌, ◌^◌, ◌||◌, IsTrue, pos, Bool, true, IfSome, IfNone};
-ghost use Rattle.std.specs.Prelude.{length, take, drop, codes};
+ghost use Rattle.std.specs.Prelude.{length, take, drop, codes, MatchOption};
 ghost use Rattle.rinex_file.specs.FileValues.{IsCoordinate};
 ghost use Rattle.rinex_file.specs.Header.{header_line, lengths, position_line};
 ghost use Rattle.rinex_file.specs.Read.Fields.{number_in, ReadsExactly};
+ghost use Rattle.rinex_file.specs.Read.HeaderSteps.{ReadsTexts, RefusesTexts};
 ghost use Rattle.rinex_file.specs.Read.Progress.{IsPosition, version_with};
 
-use crate::header::lines::{DELTA, labelled, position_line, three_lengths, version_with};
+use crate::header::fields::TextRow;
+use crate::header::lines::{
+    DELTA, labelled, position_line, texts_line, three_lengths, version_with,
+};
+use crate::header::texts::HeaderTexts;
 use crate::read::numbers::{digits_in, is_same, number_in};
-use crate::read::texts::columns;
 use obs_epoch::StationValues;
+
+/// Returns up to `width` columns of a line, from column `from` on, counted from 0.
+pub(crate) fn columns(line: &[u8], from: usize, width: usize) -> &[u8]
+    ensures value { result.now ≡ take width (drop from line.now) }
+    ensures bound { length result.now ≤ width }
+{
+    let rest = &line[from.min(line.len())..];
+    &rest[..width.min(rest.len())]
+}
 
 /// Returns whether signals of GPS and of Galileo are planned, by the first line, or None for any
 /// other line.
@@ -65,4 +78,20 @@ pub(crate) fn is_header_line(line: &[u8], content: &[u8], label: &[u8]) -> bool
     ensures { IsTrue result ↔ (line.now ≡ header_line content.now label.now) }
 {
     is_same(line, labelled(content, label).as_slice())
+}
+
+/// Reads the texts of a row. Returns None if the line isn't that of these texts.
+pub(crate) fn read_texts(texts: &mut HeaderTexts, row: TextRow, line: &[u8]) -> Option<()>
+    ensures { MatchOption result (RefusesTexts row line.now) (λ _. ReadsTexts row line.now texts.old texts.new) }
+{
+    texts.are_texts();
+    let (_, front, fields) = row.parts();
+    let mut column = front.len();
+    for field in fields {
+        texts
+            .set(*field, columns(line, column, field.width()))
+            .ok()?;
+        column += field.width();
+    }
+    is_same(line, texts_line(texts, row).as_slice()).then_some(())
 }

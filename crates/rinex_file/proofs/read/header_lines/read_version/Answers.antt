@@ -1,7 +1,7 @@
 use Rattle.std.proofs.Common.{◌∙◌}
 use Rattle.rinex_file.proofs.Judged.{exactly}
 use Rattle.rinex_file.proofs.HeaderAgree.{version_read, letters_differ}
-use Rattle.rinex_file.proofs.read.station.read_version.Goals as goal
+use Rattle.rinex_file.proofs.read.header_lines.read_version.Goals as goal
 
 pub returns : goal.returns
 returns c =

@@ -6,7 +6,7 @@ use Rattle.rinex_file.specs.Header.{header_line, lengths}
 use Rattle.rinex_file.specs.Read.Fields.{digits_in}
 use Rattle.rinex_file.proofs.Judged.{exactly}
 use Rattle.rinex_file.proofs.HeaderAgree.{height-back}
-use Rattle.rinex_file.proofs.read.station.read_delta.Goals as goal
+use Rattle.rinex_file.proofs.read.header_lines.read_delta.Goals as goal
 
 abbrev text : ℕ → List ℕ
 text h = header_line (lengths (pos h) (pos 0) (pos 0)) (codes "ANTENNA: DELTA H/E/N")

@@ -1,6 +1,6 @@
 use Rattle.std.proofs.Common.{arith}
 use Rattle.rinex_file.proofs.LineByLine.{moved, moved_of, left_ahead}
-use Rattle.rinex_file.proofs.read.block.Block.move_to.Goals as goal
+use Rattle.rinex_file.proofs.read.lines.Block.move_to.Goals as goal
 
 pub returns : goal.returns
 returns c = grind (arith, moved_of, moved, left_ahead)
