@@ -1,3 +1,4 @@
+//! Lock times, as given by the indicators DF402 and DF407 of RTCM 10403.3.
 ghost use Rattle.std.specs.Prelude.{◌≡◌, ◌+◌, ◌^◌, ◌<◌, ◌≤◌, ◌↔◌, IsTrue, None};
 ghost use Rattle.gnss_obs.specs.LockTimes.{LockTime, IsLost, last4, last7, times4, times7, lost, time_of, word_of};
 ghost use Rattle.gnss_obs.specs.LockTimes as LockTimes;

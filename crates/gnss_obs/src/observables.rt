@@ -1,3 +1,4 @@
+//! Pseudorange, carrier phase, Doppler shift and signal strength, rounded to thousandths.
 ghost use Rattle.std.specs.Prelude.{◌≡◌, ◌*◌, ◌^◌, ◌<◌, ◌≤◌, ◌*ℤ◌, ◌-ℤ◌, ◌≤ℤ◌, ◌<ℤ◌, unsigned_abs, pos, IfSome};
 ghost use Rattle.std.specs.Option.{option_map, ForSome};
 ghost use Rattle.gnss_obs.specs.Rounding.{IsRounded};

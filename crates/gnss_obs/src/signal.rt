@@ -1,3 +1,4 @@
+//! Signals of a system, found by signal ID, by RINEX code or by index.
 ghost use Rattle.std.specs.Prelude.{◌≡◌, ◌-◌, ◌<◌, ◌≤◌, ◌==◌, length, position, IfSome};
 ghost use Rattle.std.specs.Str.{bytes_eq};
 ghost use Rattle.gnss_obs.specs.Signals.{SignalAt, IsSignal, table, signal_at, signal_of_id, signal_of_code, code_of};

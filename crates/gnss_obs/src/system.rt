@@ -1,3 +1,4 @@
+//! The satellite systems GPS and Galileo.
 ghost use Rattle.std.specs.Prelude.{◌≡◌, ◌≤◌, length};
 
 use crate::tables::{GALILEO_SIGNAL_COUNT, GPS_SIGNAL_COUNT};

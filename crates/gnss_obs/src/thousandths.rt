@@ -1,3 +1,4 @@
+//! Values in thousandths of their unit, as a RINEX file has them.
 ghost use Rattle.std.specs.Prelude.{◌≡◌, ℤ};
 
 use std::marker::Model;

@@ -1,3 +1,5 @@
+//! What no clause states: encoded messages from outside, and that each call can succeed.
+
 mod texts;
 mod values;
 

@@ -1,3 +1,4 @@
+//! The faults of a converter: setups, limits, writers and readers that fail.
 use super::script::{Call, Good, IDLE, OPTIONS, Options, Script, Way, first_broken};
 use super::{FED, POINT};
 use rtcm_bits::devices::{ReadEnd, WriteEnd};

@@ -1,3 +1,4 @@
+//! The texts of the faults of messages.
 use rtcm_msg::{Field, MsgFault, ValueFault};
 use std::alloc::{AllocError, Global};
 use std::test::*;

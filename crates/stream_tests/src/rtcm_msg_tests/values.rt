@@ -1,3 +1,4 @@
+//! Parts of messages: their faults, the largest message, and the cells of a view in order.
 use super::{CELL, FINE, HEADER, SATELLITE, STATION_PARTS, is_written_back};
 use arrayvec::ArrayVec;
 use rtcm_msg::{
