@@ -34,6 +34,7 @@ fn check_line(counts: Counts) -> OutputLine
 /// # Errors
 ///
 /// `Check` with the fault of `check_file`, and `Write` if the writer failed.
+// Not inlined, so that the parser's block of bytes isn't in the stack frame of every command.
 #[inline(never)]
 pub fn run_check<R: Read, W: Write>(
     alloc: Global,

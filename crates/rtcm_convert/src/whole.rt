@@ -69,6 +69,7 @@ pub fn convert_stream<R: Read, W: Write>(
 ///
 /// Those of [`convert_stream`], and `BadSetup` for coordinates that don't fit 38 bits (DF025 to
 /// DF027).
+// Not inlined, so that the converter isn't in the stack frame of every command.
 #[inline(never)]
 pub fn convert_stream_at<R: Read, W: Write>(
     alloc: Global,
