@@ -1,12 +1,25 @@
 //! Epoch and event lines: RINEX 3.05, table A3, "EPOCH record" and event flag 4. An event precedes
 //! each epoch whose station values differ from those before.
-ghost use Rattle.std.specs.Prelude.{◌≡◌};
+ghost use Rattle.std.specs.Prelude.{◌≡◌, ◌+◌, ◌≤◌, ◌++◌, ◌∷◌};
+ghost use Rattle.arrayvec.specs.ArrayVec.{array_vec_len};
 ghost use Rattle.obs_epoch.specs.Dates.{civil_of};
 ghost use Rattle.rinex_file.specs.File.{event_line};
+ghost use Rattle.rinex_file.specs.Limits.{most_line};
 ghost use Rattle.rinex_file.specs.Lines.{epoch_line};
+ghost use Rattle.rinex_file.specs.Numbers.{padded};
 
 use crate::write::numbers::{Line, put, put_padded, put_seconds, put_whole};
 use obs_epoch::GpsTime;
+
+/// Appends a blank and a number with two digits.
+fn put_two(line: &mut Line, number: u8)
+    requires { array_vec_len line.old + 23 ≤ most_line }
+    ensures text { line.new.items ≡ line.old.items ++ 32 ∷ padded 2 number }
+    ensures size { array_vec_len line.new ≤ array_vec_len line.old + 23 }
+{
+    put(line, b" ");
+    put_padded(line, 2, number as u64);
+}
 
 /// Writes the first line of an epoch, replacing the contents of the buffer: date and time of day,
 /// the flag 0 and the number of its satellites, which fits its three columns up to 999.
@@ -17,14 +30,10 @@ pub fn epoch_line(time: GpsTime, satellites: usize, line: &mut Line)
     line.clear();
     put(line, b"> ");
     put_whole(line, 4, civil.year as u64);
-    put(line, b" ");
-    put_padded(line, 2, civil.month as u64);
-    put(line, b" ");
-    put_padded(line, 2, civil.day as u64);
-    put(line, b" ");
-    put_padded(line, 2, civil.hour as u64);
-    put(line, b" ");
-    put_padded(line, 2, civil.minute as u64);
+    put_two(line, civil.month);
+    put_two(line, civil.day);
+    put_two(line, civil.hour);
+    put_two(line, civil.minute);
     put_seconds(line, 11, civil.millisecond);
     put(line, b"  0");
     put_whole(line, 3, satellites as u64);

@@ -8,28 +8,11 @@ use Rattle.rinex_file.proofs.header.lines.first_line.Goals as goal
 pub returns : goal.returns
 returns c =
     let t = c.civil-civil.result in
+    let year = c.put_whole.ensures.text in let month = c.put_whole-2.ensures.text in let day = c.put_whole-3.ensures.text in
+    let hour = c.put_whole-4.ensures.text in let minute = c.put_whole-5.ensures.text in let second = c.put_seconds.ensures.text in let system = c.put.ensures.text in
     let content = grown_whole c.new-content.result.items
     (right 6 (decimal t.year) ∷ right 6 (decimal t.month) ∷ right 6 (decimal t.day) ∷ right 6 (decimal t.hour) ∷ right 6 (decimal t.minute)
-    ∷ right 13 (fixed 7 (pos (t.millisecond * 10_000))) ∷ codes "     GPS" ∷ []) c.put.new.line.items c.new-content.ensures (
-      _,
-      c.put_whole.ensures.text,
-      (
-        _,
-        c.put_whole-2.ensures.text,
-        (
-          _,
-          c.put_whole-3.ensures.text,
-          (
-            _,
-            c.put_whole-4.ensures.text,
-            (
-              _,
-              c.put_whole-5.ensures.text,
-              (_, c.put_seconds.ensures.text, (_, c.put.ensures.text, refl)),
-            ),
-          ),
-        ),
-      ),
-    ) in
+    ∷ right 13 (fixed 7 (pos (t.millisecond * 10_000))) ∷ codes "     GPS" ∷ []) c.put.new.line.items c.new-content.ensures
+    (_, year, (_, month, (_, day, (_, hour, (_, minute, (_, second, (_, system, refl))))))) in
     c.labelled.ensures ∙ ap (λ l. header_line l (codes "TIME OF FIRST OBS")) (c.as_slice.ensures.value ∙ content)
     ∙ ap first_line c.civil-civil.ensures.walk

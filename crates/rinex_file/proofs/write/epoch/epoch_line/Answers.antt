@@ -1,11 +1,19 @@
-use Rattle.std.proofs.Common.{◌∙◌, ap, append_assoc}
+use Rattle.std.proofs.Common.{◌∙◌, ◌∷◌, ◌*◌, [], ap, refl, decimal}
+use Rattle.std.specs.Prelude.{codes, pos}
 use Rattle.rinex_file.specs.Lines.{epoch_line}
+use Rattle.rinex_file.specs.Numbers.{right, fixed, padded}
+use Rattle.rinex_file.proofs.Grown.{grown_whole}
 use Rattle.rinex_file.proofs.write.epoch.epoch_line.Goals as goal
 
 pub returns : goal.returns
 unfolding epoch_line
 returns c =
-    simp (c.put-7.ensures.text, c.put_whole-2.ensures.text, c.put-6.ensures.text, c.put_seconds.ensures.text, c.put_padded-4.ensures.text, c.put-5.ensures.text, c.put_padded-3.ensures.text)
-    (simp (c.put-4.ensures.text, c.put_padded-2.ensures.text, c.put-3.ensures.text, c.put_padded.ensures.text, c.put-2.ensures.text, c.put_whole.ensures.text, c.put.ensures.text, c.clear.ensures)
-    (simp append_assoc))
+    let t = c.civil-civil.result in
+    let begin = c.put.ensures.text in let year = c.put_whole.ensures.text in let month = c.put_two.ensures.text in let day = c.put_two-2.ensures.text in
+    let hour = c.put_two-3.ensures.text in let minute = c.put_two-4.ensures.text in let second = c.put_seconds.ensures.text in
+    let flag = c.put-2.ensures.text in let count = c.put_whole-2.ensures.text in let end = c.put-3.ensures.text in
+    grown_whole c.clear.new.self.items
+    (codes "> " ∷ right 4 (decimal t.year) ∷ (32 ∷ padded 2 t.month) ∷ (32 ∷ padded 2 t.day) ∷ (32 ∷ padded 2 t.hour) ∷ (32 ∷ padded 2 t.minute)
+    ∷ right 11 (fixed 7 (pos (t.millisecond * 10_000))) ∷ codes "  0" ∷ right 3 (decimal c.args.satellites) ∷ (10 ∷ []) ∷ []) c.put-3.new.line.items c.clear.ensures
+    (_, begin, (_, year, (_, month, (_, day, (_, hour, (_, minute, (_, second, (_, flag, (_, count, (_, end, refl))))))))))
     ∙ ap (λ t. epoch_line t c.args.satellites) c.civil-civil.ensures.walk
