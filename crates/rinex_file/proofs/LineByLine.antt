@@ -122,7 +122,7 @@ shape l body x e = ap (λ t. t ++ x) e ∙ append_assoc body (10 ∷ []) x
 pub first_line : (l m x y : List ℕ) → IsLine l → IsLine m → l ++ x ≡ m ++ y → SameFront l m x y
 first_line l m x y (a, la, na) (b, lb, nb) e = grind (arith, same_body, shape, (same_body a b x y na nb (sym (shape l a x la) ∙ e ∙ shape m b y lb)))
 
-not_nil : (m x : List ℕ) → IsLine m → [] ≡ m ++ x → ⊥
+pub not_nil : (m x : List ℕ) → IsLine m → [] ≡ m ++ x → ⊥
 not_nil m x (body, e, n) h = grind (arith, length-append, (ap length h), (ap length e))
 
 -- the lines that are left, and the bytes that are left

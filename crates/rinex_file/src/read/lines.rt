@@ -1,8 +1,7 @@
 //! The lines of a reader, of which blocks are read ahead.
-ghost use Rattle.std.specs.Prelude.{◌≡◌, ◌<◌, ◌≤◌, [], ◌∷◌, take, drop, length, false};
-ghost use Rattle.std.specs.Io.KnownBytes.{Consumes, IsAtEnd, prepend_known};
+ghost use Rattle.std.specs.Prelude.{◌≡◌, ◌<◌, ◌≤◌, [], ◌∷◌, take, drop, length, false, IfNone, IfSome};
+ghost use Rattle.std.specs.Io.KnownBytes.{Consumes, prepend_known};
 ghost use Rattle.arrayvec.specs.ArrayVec.{array_vec_len};
-ghost use Rattle.rtcm_bits.specs.Device.{HasFailed};
 ghost use Rattle.rinex_file.specs.Read.Fields.{has};
 ghost use Rattle.rinex_file.specs.Blocks.{MovesBytes, LeavesRest};
 ghost use Rattle.rinex_file.specs.Exact.{IsFound};
@@ -35,14 +34,16 @@ impl Model for Block {
     ghost invariant = { λ b. (b.at ≤ b.end) × (b.end ≤ 65536) };
 }
 
-/// The contents of a block after it was filled.
+/// What was found when the next line was read.
 #[derive(Clone, Copy)]
-pub(crate) enum Filled {
-    /// At least one byte.
-    Some,
-    /// Nothing: the input is at its end.
+pub(crate) enum Found {
+    /// A line with its line feed.
+    Line,
+    /// The end of the input, after some bytes of a line or none.
     End,
-    /// Nothing: the reader failed.
+    /// No line feed in 1,220 bytes.
+    Long,
+    /// The reader failed.
     Failed,
 }
 
@@ -67,28 +68,28 @@ impl Block {
         }
     }
 
-    /// Reads bytes ahead if none is left.
-    pub(crate) fn fill<R: Read>(&mut self, reader: &mut Counted<R>) -> Filled
+    /// Reads bytes ahead if none is left. Returns what was found in their place, or None if there
+    /// are some.
+    pub(crate) fn fill<R: Read>(&mut self, reader: &mut Counted<R>) -> Option<Found>
         ensures same { Consumes (prepend_known self.old (R.remaining reader.old.inner))
             (prepend_known self.new (R.remaining reader.new.inner)) [] }
         ensures left { LeavesRest (R.remaining reader.old.inner) (R.remaining reader.new.inner) }
-        ensures some { result ≡ Filled.Some → 0 < length self.new }
-        ensures end { result ≡ Filled.End → (self.new ≡ []) × IsAtEnd (R.remaining reader.new.inner) }
-        ensures failed { result ≡ Filled.Failed → HasFailed reader.old.failures reader.new.failures }
-        ensures fine { (result ≡ Filled.Failed → ⊥) → reader.new.failures ≡ reader.old.failures }
+        ensures some { IfNone result ((0 < length self.new) × (reader.new.failures ≡ reader.old.failures)) }
+        ensures none { IfSome result (λ found. IsFound found [] (prepend_known self.new (R.remaining reader.new.inner))
+            reader.old.failures reader.new.failures) }
     {
         if self.at < self.end {
-            return Filled::Some;
+            return None;
         }
         self.at = 0;
         self.end = 0;
         match reader.read(&mut self.bytes) {
-            Ok(0) => Filled::End,
+            Ok(0) => Some(Found::End),
             Ok(count) => {
                 self.end = count;
-                Filled::Some
+                None
             }
-            Err(_) => Filled::Failed,
+            Err(_) => Some(Found::Failed),
         }
     }
 
@@ -109,19 +110,6 @@ impl Block {
     }
 }
 
-/// What was found when the next line was read.
-#[derive(Clone, Copy)]
-pub(crate) enum Found {
-    /// A line with its line feed.
-    Line,
-    /// The end of the input, after some bytes of a line or none.
-    End,
-    /// No line feed in 1,220 bytes.
-    Long,
-    /// The reader failed.
-    Failed,
-}
-
 /// Reads the bytes of the next line into the buffer, replacing its contents.
 pub(crate) fn next_line<R: Read>(
     reader: &mut Counted<R>,
@@ -136,10 +124,8 @@ pub(crate) fn next_line<R: Read>(
 {
     line.clear();
     while !line.is_full() {
-        match block.fill(reader) {
-            Filled::Some => {}
-            Filled::End => return Found::End,
-            Filled::Failed => return Found::Failed,
+        if let Some(found) = block.fill(reader) {
+            return found;
         }
         if block.move_to(line) {
             return Found::Line;
