@@ -1,6 +1,7 @@
 -- The steps of a reading from one line of an epoch to the next.
 use Rattle.std.specs.List.Sorted.{IsStrictlyIncreasing}
-use Rattle.std.specs.Prelude.{All, map, flat_map, if◌then◌else◌, nat_lt}
+use Rattle.std.specs.Prelude.{All, map, flat_map, if◌then◌else◌, nat_lt, Result, Ok, Err}
+use Rattle.std.specs.Result.{IsErrAnd}
 use Rattle.std.proofs.Common.{arith, ◌≡◌, refl, ℕ, ◌<◌, List, [], ◌∷◌, ◌++◌, length, length-append, suc, ◌+◌, ◌≤◌, sym, ap, ap₂, subst, ◌∙◌, append_assoc, append-nil, zero-add, drop, get_or, Option, Some, None, Bool}
 use Rattle.std.proofs.lemmas.List.{get_or_append_left, map-append}
 use Rattle.std.proofs.lemmas.Grind.{common_steps}
@@ -17,9 +18,20 @@ use Rattle.rinex_file.specs.File.{stamped_lines, change_lines, event_line}
 use Rattle.rinex_file.specs.Read.Progress.{Progress, file_with, stamped, StartsAt, IsAt, IsBetween, IsInEvent, IsInEpoch, HasLinesLeft, epoch_after, begun_at, with_row, with_epoch}
 use Rattle.rinex_file.specs.Read.Sound.{AreRead, IsBegun, IsEventExpected, IsSoundAt, IsSound, MayBegin, values_now, AreLinesAt}
 use Rattle.rinex_file.specs.Begun.{lines_of_header, whole_lines, part_lines}
-use Rattle.rinex_file.specs.ParserState.{GoesOnWithLine, ShowsLine}
+use Rattle.rinex_file.specs.declared.read.expected.Added.{Added}
+use Rattle.rinex_file.specs.declared.read.expected.Refusal.{Refusal}
+use Rattle.rinex_file.specs.declared.read.expected.Refusal.TheVariants.{Memory, Bad}
+use Rattle.rinex_file.specs.declared.read.parser_state.ParserState.{ParserState}
+use Rattle.rinex_file.specs.ParserState.{History, FollowsHistory, GoesOnWithLine, ShowsLine, RefusesLine, TakesLine, progress_at}
 use Rattle.rinex_file.proofs.FewRows.{few_rows, few_planned}
 use Rattle.rinex_file.proofs.Entries.{few_signals}
+
+-- a line was refused: memory ran out, or no file continues with it
+pub stopped : {Q : Refusal → Type 0} (old new : ParserState) (line : List ℕ) (r : Result Added Refusal) → IsErrAnd r Q → ((e : Refusal) → Q e → e ≡ Bad → (h : History) → FollowsHistory old h → RefusesLine (progress_at old h) line)
+    → TakesLine old new line r
+stopped {Q} old new line (Ok added) is bad = absurd is
+stopped {Q} old new line (Err Bad) is bad = bad Bad is refl
+stopped {Q} old new line (Err Memory) is bad = tt
 
 -- the first of ascending numbers are ascending
 pub rise_front : (xs ys : List ℕ) → IsStrictlyIncreasing (xs ++ ys) → IsStrictlyIncreasing xs

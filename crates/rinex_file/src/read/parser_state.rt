@@ -12,7 +12,7 @@ ghost use Rattle.rinex_file.specs.Read.Sound.{AreLinesOf, AreRead, MayBegin};
 ghost use Rattle.rinex_file.specs.Limits.{most_line};
 
 use crate::read::epoch::read_epoch_line;
-use crate::read::expected::{Added, Expected, Refusal};
+use crate::read::expected::{Added, Expected, Refusal, accept};
 use crate::read::file::Counts;
 use crate::read::head_so_far::HeadSoFar;
 use crate::read::header_lines::{read_delta, read_position};
@@ -63,7 +63,7 @@ impl ParserState {
         ensures none { HasRoom result 0 }
     {
         let head = HeadSoFar::new(alloc);
-        let time = head.first();
+        let time = head.first;
         ParserState {
             expected: Expected::Header(0),
             head,
@@ -100,9 +100,7 @@ impl ParserState {
             }
             Expected::Epoch => self.take_epoch(None, line, again),
             Expected::EventPosition => {
-                let Some(position) = read_position(line) else {
-                    return Err(Refusal::Bad);
-                };
+                let position = read_position(line).ok_or(Refusal::Bad)?;
                 self.expected = Expected::EventHeight(position);
                 Ok(Added::NoRow)
             }
@@ -125,7 +123,7 @@ impl ParserState {
             return false;
         }
         match self.last {
-            None => self.head.first().milliseconds() == time.milliseconds(),
+            None => self.head.first.milliseconds() == time.milliseconds(),
             Some(last) => last < time.milliseconds(),
         }
     }
@@ -149,12 +147,8 @@ impl ParserState {
         ensures takes { TakesLine self.old self.new line.now result }
         ensures room { (n : ℕ) → HasRoom self.old n → OnOk result (HasRoom self.new (n + 1)) }
     {
-        let Some(begun) = read_epoch_line(line, again) else {
-            return Err(Refusal::Bad);
-        };
-        if !self.may_begin(begun.0, begun.1) {
-            return Err(Refusal::Bad);
-        }
+        let begun = read_epoch_line(line, again).ok_or(Refusal::Bad)?;
+        accept(self.may_begin(begun.0, begun.1))?;
         self.change = change;
         self.time = begun.0;
         self.expected = Expected::Satellite(begun.1);
@@ -168,14 +162,10 @@ impl ParserState {
         ensures takes { TakesLine self.old self.new line.now result }
         ensures room { (n : ℕ) → HasRoom self.old n → OnOk result (HasRoom self.new (n + 1)) }
     {
-        let Some(height) = read_delta(line) else {
-            return Err(Refusal::Bad);
-        };
+        let height = read_delta(line).ok_or(Refusal::Bad)?;
         let mut values = position;
         values.height = height;
-        if values.is_same(self.values.unwrap_or(self.head.values())) {
-            return Err(Refusal::Bad);
-        }
+        accept(!values.is_same(self.values.unwrap_or(self.head.values)))?;
         self.expected = Expected::EventEpoch(values);
         Ok(Added::NoRow)
     }
@@ -196,13 +186,9 @@ impl ParserState {
     {
         let gps = self.head.planned(System::Gps);
         let galileo = self.head.planned(System::Galileo);
-        if !read_seen(line, again, gps, galileo, &mut self.seen) {
-            return Err(Refusal::Bad);
-        }
+        accept(read_seen(line, again, gps, galileo, &mut self.seen))?;
         let rank = rank_of(&self.seen);
-        if rank <= self.rank {
-            return Err(Refusal::Bad);
-        }
+        accept(rank > self.rank)?;
         self.counts.satellites += 1;
         if left > 1 {
             self.rank = rank;

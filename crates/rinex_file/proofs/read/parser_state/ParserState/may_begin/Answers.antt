@@ -1,10 +1,11 @@
-use Rattle.std.proofs.Common.{arith, ◌≡◌, ap, sym, subst, map, ℕ, zero, suc, ◌+◌, ◌*◌, ◌<◌, ◌≤◌}
+use Rattle.std.proofs.Common.{arith, ◌≡◌, ◌∙◌, ap, sym, subst, map, ℕ, zero, suc, ◌+◌, ◌*◌, ◌<◌, ◌≤◌}
 use Rattle.std.specs.Prelude.{min, nat_lt, if◌then◌else◌}
 use Rattle.std.proofs.Math.Nat.{min-eq_right}
 use Rattle.gnss_obs.specs.Satellites.{satellites}
 use Rattle.gnss_obs.specs.declared.system.System.TheVariants.{Gps, Galileo}
 use Rattle.std.proofs.lemmas.Bool.{lt-ltb, ltb-true}
 use Rattle.rinex_file.specs.FileValues.{most_rows, time_stamped}
+use Rattle.rinex_file.specs.declared.read.parser_state.ParserState.{ParserState}
 use Rattle.rinex_file.specs.ParserState.{EndsIn}
 use Rattle.rinex_file.proofs.BodySteps.{rise_after, rise_last, not_none}
 use Rattle.rinex_file.proofs.read.parser_state.ParserState.may_begin.Goals as goal
@@ -22,7 +23,7 @@ some_one n some = omega (arith, some)
 
 pub returns-in-Some : goal.returns-in-Some
 returns-in-Some c = λ h history.
-    let (front, last) = subst (EndsIn (map time_stamped h.epochs)) c.in-Some.is history.counted.last in
+    let (front, last) = subst (EndsIn (map time_stamped h.epochs)) (ap (λ (s : ParserState). s.last) (sym c.self.view_is) ∙ c.in-Some.is) history.counted.last in
     let time = c.milliseconds-in-Some.ensures.value in
     let x = c.in-Some.last in (
       λ less. record {

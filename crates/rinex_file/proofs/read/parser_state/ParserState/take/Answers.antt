@@ -1,28 +1,18 @@
-use Rattle.std.proofs.Common.{◌≡◌, ◌<◌, ℕ, List, ap, subst, refl, sym, ◌∙◌, Result, Err}
-use Rattle.std.proofs.lemmas.Result.{err_from_is_err_and}
+use Rattle.std.proofs.Common.{◌≡◌, ◌<◌, ℕ, List, ap, subst, sym, ◌∙◌, Err}
 use Rattle.rinex_file.specs.declared.read.parser_state.ParserState.{ParserState}
-use Rattle.rinex_file.specs.declared.read.expected.Added.{Added}
 use Rattle.rinex_file.specs.declared.read.expected.Added.TheVariants.{NoRow}
 use Rattle.rinex_file.specs.declared.read.expected.Expected.{Expected}
 use Rattle.rinex_file.specs.declared.read.expected.Expected.TheVariants.{Header, Epoch, EventPosition, EventHeight, EventEpoch, Satellite}
-use Rattle.rinex_file.specs.declared.read.expected.Refusal.{Refusal}
-use Rattle.rinex_file.specs.declared.read.expected.Refusal.TheVariants.{Memory, Bad}
-use Rattle.rinex_file.specs.ParserState.{History, FollowsHistory, IsNext, RefusesLine, TakesLine, progress_at}
+use Rattle.rinex_file.specs.ParserState.{History, FollowsHistory, IsNext, progress_at}
 use Rattle.rinex_file.specs.Read.Progress.{Known}
 use Rattle.rinex_file.specs.Read.HeaderSteps.{StepsTo}
+use Rattle.rinex_file.proofs.BodySteps.{stopped}
 use Rattle.rinex_file.proofs.EventSteps.{event_taken, event_shows, sound_event, position_taken, position_shows, no_position, sound_position}
 use Rattle.rinex_file.proofs.HeaderBody.{no_header, header_taken, header_shows, header_ended, ended_shows, sound_start, sound_header}
 use Rattle.rinex_file.proofs.read.parser_state.ParserState.take.Goals as goal
 
--- memory ran out, or no file continues with the line
-stopped : (old new : ParserState) (line : List ℕ) (e : Refusal) (r : Result Added Refusal) → r ≡ Err e → (e ≡ Bad → (h : History) → FollowsHistory old h → RefusesLine (progress_at old h) line) → TakesLine old new line r
-stopped old new line Bad r is bad = subst (TakesLine old new line) (sym is) (bad refl)
-stopped old new line Memory r is bad = subst (TakesLine old new line) (sym is) tt
-
 pub returns-in_err-self-in-Header-clause-takes : goal.returns-in_err-self-in-Header-clause-takes
-returns-in_err-self-in-Header-clause-takes c =
-    let (e, is, same) = err_from_is_err_and c.from_residual.result c.from_residual.ensures.1 in
-    stopped c.args.self.now _ c.args.line.now e c.from_residual.result is (λ bad h history.
+returns-in_err-self-in-Header-clause-takes c = stopped c.args.self.now _ c.args.line.now _ c.from_residual.ensures.1 (λ e same bad h history.
     let s = progress_at c.args.self.now h in
     no_header s c.in-Header.place c.args.line.now c.in-Header.is (sound_header s c.in-Header.place c.in-Header.is history.sound).2 (c.in_err-self-in-Header.ensures.bad (ap Err (sym same ∙ bad))))
 
@@ -66,15 +56,17 @@ returns-in-Epoch-clause-takes c = λ h history.
       shows = event_shows s c.args.line.now c.in-Epoch.is shown;
     }
 
-pub returns-in_default-clause-takes : goal.returns-in_default-clause-takes
-returns-in_default-clause-takes c = λ h history. no_position (progress_at c.args.self.now h) c.args.line.now c.in-EventPosition.is c.in_default.ensures
+pub returns-in_err-position-in-EventPosition-clause-takes : goal.returns-in_err-position-in-EventPosition-clause-takes
+returns-in_err-position-in-EventPosition-clause-takes c = stopped c.args.self.now _ c.args.line.now _ c.from_residual-in_err-position-in-EventPosition.ensures.1 (λ e same bad h history.
+    no_position (progress_at c.args.self.now h) c.args.line.now c.in-EventPosition.is (rw c.in_err-position-in-EventPosition.ensures.ok_part at c.read_position.ensures))
 
-pub returns-in-Some-clause-takes : goal.returns-in-Some-clause-takes
-returns-in-Some-clause-takes c = λ h history.
+pub returns-in_ok-position-in-EventPosition-clause-takes : goal.returns-in_ok-position-in-EventPosition-clause-takes
+returns-in_ok-position-in-EventPosition-clause-takes c = λ h history.
     let s = progress_at c.args.self.now h in
-    let p = c.in-Some.position in
+    let p = c.in_ok-position-in-EventPosition.position in
+    let (is, shown, only) = rw c.in_ok-position-in-EventPosition.ensures.ok_part at c.read_position.ensures in
     record {
-      history = record { sound = sound_position s p c.in-EventPosition.is history.sound c.in-Some.ensures.0; counted = history.counted };
-      follows = position_taken s p c.args.line.now c.in-EventPosition.is c.in-Some.ensures.2;
-      shows = position_shows s p c.args.line.now c.in-EventPosition.is c.in-Some.ensures.1;
+      history = record { sound = sound_position s p c.in-EventPosition.is history.sound is; counted = history.counted };
+      follows = position_taken s p c.args.line.now c.in-EventPosition.is only;
+      shows = position_shows s p c.args.line.now c.in-EventPosition.is shown;
     }

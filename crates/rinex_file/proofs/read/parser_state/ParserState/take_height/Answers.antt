@@ -1,36 +1,55 @@
-use Rattle.std.proofs.Common.{◌≡◌, ◌∙◌, sym, Option, Some, None}
+use Rattle.std.proofs.Common.{◌≡◌, ◌∙◌, sym, ap, subst, refl, ℕ, List, Option, Some, None}
 use Rattle.std.specs.Prelude.{unwrap_or}
+use Rattle.std.proofs.lemmas.Bool.{not-false, not-true}
 use Rattle.obs_epoch.specs.declared.cell.StationValues.{StationValues}
 use Rattle.rinex_file.specs.FileValues.{changed_by}
-use Rattle.rinex_file.specs.ParserState.{progress_at}
+use Rattle.rinex_file.specs.declared.read.parser_state.ParserState.{ParserState}
+use Rattle.rinex_file.specs.declared.read.expected.Added.TheVariants.{NoRow}
+use Rattle.rinex_file.specs.declared.read.expected.Expected.{Expected}
+use Rattle.rinex_file.specs.declared.read.expected.Expected.TheVariants.{EventEpoch}
+use Rattle.rinex_file.specs.ParserState.{History, IsNext, progress_at}
 use Rattle.rinex_file.proofs.Judged.{refused}
+use Rattle.rinex_file.proofs.BodySteps.{stopped}
 use Rattle.rinex_file.proofs.EventSteps.{height_taken, height_shows, no_height, same_height, sound_height}
 use Rattle.rinex_file.proofs.read.parser_state.ParserState.take_height.Goals as goal
 
+unwrapped : (o : Option StationValues) (v : StationValues) → unwrap_or o v ≡ changed_by v o
+unwrapped None v = refl
+unwrapped (Some w) v = refl
+
 -- the current station values, by those that changed last
-current : (o : Option StationValues) (result first v : StationValues) → result ≡ unwrap_or o first → first ≡ v → result ≡ changed_by v o
-current None result first v e same = e ∙ same
-current (Some w) result first v e same = e
+current : (k s : ParserState) (result : StationValues) → k ≡ s → result ≡ unwrap_or k.values k.head.shown.values → result ≡ changed_by s.head.shown.values s.values
+current k s result same is = is ∙ unwrapped k.values k.head.shown.values ∙ ap (λ (t : ParserState). changed_by t.head.shown.values t.values) same
 
-pub returns-in_default-clause-takes : goal.returns-in_default-clause-takes
-returns-in_default-clause-takes c = λ h history. no_height (progress_at c.args.self.now h) c.args.position c.args.line.now c.requires.expected c.in_default.ensures
+abbrev then : ParserState → Expected → ParserState
+then k expected = record k { expected = expected }
 
-pub returns-then-is_same-clause-takes : goal.returns-then-is_same-clause-takes
-returns-then-is_same-clause-takes c = λ h history.
-    same_height (progress_at c.args.self.now h) c.args.position c.args.line.now c.requires.expected c.in-Some.height c.in-Some.ensures.2
-    (c.is_same.ensures.exact.0 c.if-is_same.true ∙ current c.args.self.now.values _ _ _ c.unwrap_or.ensures c.values.ensures ∙ history.counted.values c.args.self.now.head.shown.values)
+next_of : (k s : ParserState) (expected : Expected) (line : List ℕ) (h : History) → k ≡ s → IsNext s (then s expected) NoRow line h → IsNext s (then k expected) NoRow line h
+next_of k s expected line h same is = subst (λ (t : ParserState). IsNext s (then t expected) NoRow line h) (sym same) is
+
+pub returns-in_err-height-clause-takes : goal.returns-in_err-height-clause-takes
+returns-in_err-height-clause-takes c = stopped c.args.self.now _ c.args.line.now _ c.from_residual.ensures.1 (λ e same bad h history.
+    no_height (progress_at c.args.self.now h) c.args.position c.args.line.now c.requires.expected (rw c.in_err-height.ensures.ok_part at c.read_delta.ensures))
+
+pub returns-in_err-accept-clause-takes : goal.returns-in_err-accept-clause-takes
+returns-in_err-accept-clause-takes c = stopped c.args.self.now _ c.args.line.now _ c.from_residual-in_err-accept.ensures.1 (λ e same bad h history.
+    let height = c.in_ok-height.height in
+    same_height (progress_at c.args.self.now h) c.args.position c.args.line.now c.requires.expected height (rw c.in_ok-height.ensures.ok_part at c.read_delta.ensures).2
+    (c.is_same.ensures.exact.0 (not-false _ c.in_err-accept.ensures.bad) ∙ current _ c.args.self.now c.unwrap_or.result c.self.view_is c.unwrap_or.ensures ∙ history.counted.values c.args.self.now.head.shown.values))
 
 pub returns-clause-takes : goal.returns-clause-takes
 returns-clause-takes c = λ h history.
     let s = progress_at c.args.self.now h in
     let p = c.args.position in
-    let height = c.in-Some.height in
-    let now = current c.args.self.now.values _ _ _ c.unwrap_or.ensures c.values.ensures ∙ history.counted.values c.args.self.now.head.shown.values in
-    record {
+    let height = c.in_ok-height.height in
+    let (small, shown, only) = rw c.in_ok-height.ensures.ok_part at c.read_delta.ensures in
+    let now = current _ c.args.self.now c.unwrap_or.result c.self.view_is c.unwrap_or.ensures ∙ history.counted.values c.args.self.now.head.shown.values in
+    next_of _ c.args.self.now (EventEpoch (record p { height = height })) c.args.line.now h c.self.view_is
+    (record {
       history = record {
-        sound = sound_height s p height c.requires.expected history.sound c.in-Some.ensures.0 (λ other. refused c.is_same.result _ c.is_same.ensures.exact c.if-is_same.false (other ∙ sym now));
+        sound = sound_height s p height c.requires.expected history.sound small (λ other. refused c.is_same.result _ c.is_same.ensures.exact (not-true _ c.in_ok-accept.ensures.taken) (other ∙ sym now));
         counted = history.counted;
       };
-      follows = height_taken s p c.args.line.now c.requires.expected height c.in-Some.ensures.2;
-      shows = height_shows s p height c.args.line.now c.requires.expected c.in-Some.ensures.1;
-    }
+      follows = height_taken s p c.args.line.now c.requires.expected height only;
+      shows = height_shows s p height c.args.line.now c.requires.expected shown;
+    })
