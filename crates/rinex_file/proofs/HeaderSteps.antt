@@ -394,6 +394,9 @@ steps_from k new a b line (EventHeight p) same step = absurd step
 steps_from k new a b line (EventEpoch p) same step = absurd step
 steps_from k new a b line (Satellite n) same step = absurd step
 
+pub none_from : (k : Known) (a b : ℕ) (line : List ℕ) → SameFrom k a b → NoneGoesOn k b line → NoneGoesOn k a line
+none_from k a b line same none p h others left may is e = none p h others left may is (e ∙ ap (λ l. l ++ line ∷ left) (same.lines p may))
+
 pub same_on : (k : Known) (a b c : ℕ) → SameFrom k a b → SameFrom k b c → SameFrom k a c
 same_on k a b c s t = record { lines = λ p may. s.lines p may ∙ t.lines p may; at = t.at }
 

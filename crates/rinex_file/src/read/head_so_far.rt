@@ -66,10 +66,6 @@ impl HeadSoFar {
     pub(crate) fn new(alloc: Global) -> HeadSoFar
         ensures { IsHeadAt result 0 }
     {
-        let zero = match GpsTime::new(0) {
-            Some(time) => time,
-            None => unreachable!(),
-        };
         let head = HeadSoFar {
             texts: HeaderTexts::blank(),
             gps: TypesSoFar::new(alloc),
@@ -80,7 +76,7 @@ impl HeadSoFar {
                 z: 0,
                 height: 0,
             },
-            first: zero,
+            first: GpsTime::new(0).unwrap(),
         };
         head.are_valid();
         head
@@ -104,20 +100,6 @@ impl HeadSoFar {
         ensures { result ≡ length (planned_of system self.now.shown.plan) }
     {
         self.of(system).signals.len()
-    }
-
-    /// Returns the station values, as they were read.
-    pub(crate) fn values(&self) -> StationValues
-        ensures { result ≡ self.now.shown.values }
-    {
-        self.values
-    }
-
-    /// Returns the time of the first epoch, as it was read.
-    pub(crate) fn first(&self) -> GpsTime
-        ensures { result ≡ self.now.shown.first }
-    {
-        self.first
     }
 
     /// Shows that each part that was read is one of a header.
@@ -208,13 +190,14 @@ impl HeadSoFar {
         }
     }
 
-    /// Processes the line of the row at an index.
-    fn take_at(&mut self, place: usize, line: &[u8]) -> Result<Expected, Refusal>
-        requires at { IsHeadAt self.old place }
-        requires here { known_line self.old (row_at place) ≡ true }
-        ensures taken { IfOk result (λ next. StepsTo self.old place line.now self.new next) }
-        ensures bad { result ≡ Err Refusal.Bad → NoneGoesOn self.old place line.now }
+    /// Processes a line, which is expected to be that of row `from` or of a later one. Returns what
+    /// is expected after it.
+    pub(crate) fn take(&mut self, from: usize, line: &[u8]) -> Result<Expected, Refusal>
+        requires { IsHeadAt self.old from }
+        ensures taken { IfOk result (λ next. StepsTo self.old from line.now self.new next) }
+        ensures bad { result ≡ Err Refusal.Bad → NoneGoesOn self.old from line.now }
     {
+        let place = self.place_from(from);
         match row_at(place) {
             HeaderRow::Types(system, row) => {
                 self.take_types(system, row, line)?;
@@ -231,15 +214,5 @@ impl HeadSoFar {
                 Ok(Expected::Header(place + 1))
             }
         }
-    }
-
-    /// Processes a line, which is expected to be that of row `from` or of a later one. Returns what
-    /// is expected after it.
-    pub(crate) fn take(&mut self, from: usize, line: &[u8]) -> Result<Expected, Refusal>
-        requires { IsHeadAt self.old from }
-        ensures taken { IfOk result (λ next. StepsTo self.old from line.now self.new next) }
-        ensures bad { result ≡ Err Refusal.Bad → NoneGoesOn self.old from line.now }
-    {
-        self.take_at(self.place_from(from), line)
     }
 }

@@ -1,23 +1,24 @@
-use Rattle.std.proofs.Common.{arith, ap}
+use Rattle.std.proofs.Common.{arith, ◌≡◌, ap}
 use Rattle.gnss_obs.specs.declared.system.System.TheVariants.{Gps, Galileo}
 use Rattle.obs_epoch.specs.Signals.{indices}
+use Rattle.rinex_file.proofs.Judged.{at_some}
 use Rattle.rinex_file.proofs.HeaderEnd.{begins, none_read, zero_time, zero_values}
 use Rattle.rinex_file.proofs.read.head_so_far.HeadSoFar.new.Goals as goal
 
 pub returns : goal.returns
 returns c =
-    let g = c.new-2.ensures in
-    let e = c.new-3.ensures in
+    let g = c.new.ensures in
+    let e = c.new-2.ensures in
     begins _ c.are_valid.ensures g.planned e.planned g.count e.count (ap indices g.signals) (ap indices e.signals)
 
 pub invariant_of-head : goal.invariant_of-head
 invariant_of-head c =
-    let g = c.new-2.ensures in
-    let e = c.new-3.ensures in (
-      none_read Gps c.new-2.result.signals g.signals,
-      none_read Galileo c.new-3.result.signals e.signals,
+    let g = c.new.ensures in
+    let e = c.new-2.ensures in (
+      none_read Gps c.new.result.signals g.signals,
+      none_read Galileo c.new-2.result.signals e.signals,
       zero_values,
-      zero_time c.in-Some.time c.in-Some.ensures.value,
+      zero_time c.unwrap.result (at_some _ _ (λ t. t ≡ 0) c.unwrap.ensures c.new-3.ensures.value),
       omega (arith, g.count),
       omega (arith, e.count),
     )

@@ -1,22 +1,113 @@
-use Rattle.std.proofs.Common.{◌∙◌, ◌++◌, ◌∷◌, ap, ℕ, List}
-use Rattle.std.specs.Prelude.{Result, Ok, Err, IfOk}
-use Rattle.rinex_file.specs.declared.read.expected.Expected.{Expected}
-use Rattle.rinex_file.specs.declared.read.expected.Refusal.{Refusal}
-use Rattle.rinex_file.specs.Read.Progress.{Known}
-use Rattle.rinex_file.specs.Read.HeaderSteps.{StepsTo, SameFrom}
-use Rattle.rinex_file.proofs.HeaderSteps.{steps_from}
+use Rattle.std.proofs.Common.{◌≡◌, ◌∙◌, ◌+◌, ◌<◌, sym, ap, subst, refl, ℕ, List, Option, Some, None}
+use Rattle.std.specs.Prelude.{⊤, Err}
+use Rattle.std.proofs.lemmas.Result.{err_from_is_err_and}
+use Rattle.gnss_obs.specs.declared.system.System.{System}
+use Rattle.rinex_file.specs.declared.header.rows.HeaderRow.{HeaderRow}
+use Rattle.rinex_file.specs.declared.read.expected.Expected.TheVariants.{Header, Epoch}
+use Rattle.rinex_file.specs.declared.header.rows.HeaderRow.TheVariants.{Version, Texts, Position, Delta, Types, StrengthUnit, First, Shift, End}
+use Rattle.obs_epoch.specs.Values.{planned_of}
+use Rattle.rinex_file.specs.Header.{end_line, first_types, row_at}
+use Rattle.rinex_file.specs.Read.Progress.{Known, IsHeadAt, announced}
+use Rattle.rinex_file.specs.Read.HeaderSteps.{IsOnly, known_line, EndsHeader, NoneGoesOn, ReadsHeaderLine, ReadsOrRefuses, RefusesHeaderLine}
+use Rattle.rinex_file.proofs.HeaderEnd.{ends, no_end_line, ok_bad}
+use Rattle.rinex_file.proofs.HeaderRead.{begun_here, line_types, none_taken, rows_there, same_refusal}
+use Rattle.rinex_file.proofs.HeaderSteps.{step_at, steps_from, none_at, none_from, last_at, types_few, types_place}
+use Rattle.rinex_file.proofs.Judged.{refused}
 use Rattle.rinex_file.proofs.read.head_so_far.HeadSoFar.take.Goals as goal
 
-steps : (k new : Known) (a b : ℕ) (line : List ℕ) (r : Result Expected Refusal) → SameFrom k a b → IfOk r (λ next. StepsTo k b line new next) → IfOk r (λ next. StepsTo k a line new next)
-steps k new a b line (Ok next) same step = steps_from k new a b line next same step
-steps k new a b line (Err e) same step = tt
+-- what is known at a line of types
+abbrev at_types : (k : Known) (place : ℕ) (s : System) (row : ℕ) → IsHeadAt k place → row_at place ≡ Types s row → IsHeadAt k (first_types s + row)
+at_types k place s row at is = subst (IsHeadAt k) (types_place place s row at.expected is) at
 
-pub take_at-requires-clause-at : goal.take_at-requires-clause-at
-take_at-requires-clause-at c = c.place_from.ensures.same.at
+pub take_types-requires-clause-rows : goal.take_types-requires-clause-rows
+take_types-requires-clause-rows c =
+    let is = sym c.row_at.ensures ∙ c.in-Types.is in
+    rows_there (announced c.args.self.now c.in-Types.system) c.in-Types.row (sym (ap (known_line c.args.self.now) is) ∙ c.place_from-place.ensures.here)
 
-pub returns-clause-taken : goal.returns-clause-taken
-returns-clause-taken c = steps c.args.self.now c.take_at.new.self c.args.from c.place_from.result c.args.line.now c.take_at.result c.place_from.ensures.same c.take_at.ensures.taken
+pub take_types-requires-clause-begun : goal.take_types-requires-clause-begun
+take_types-requires-clause-begun c =
+    let k = c.args.self.now in
+    let is = sym c.row_at.ensures ∙ c.in-Types.is in
+    let s = c.in-Types.system in
+    begun_here s c.in-Types.row (announced k s) (planned_of s k.shown.plan) (rows_there (announced k s) c.in-Types.row (sym (ap (known_line k) is) ∙ c.place_from-place.ensures.here))
+    ((at_types k c.place_from-place.result s c.in-Types.row c.place_from-place.ensures.same.at is).read.each s)
 
-pub returns-clause-bad : goal.returns-clause-bad
-returns-clause-bad c bad p h others left may is e =
-    c.take_at.ensures.bad bad p h others left may is (e ∙ ap (λ l. l ++ c.args.line.now ∷ left) (c.place_from.ensures.same.lines p may))
+not_end : (s : System) (row : ℕ) → Types s row ≡ End → ⊥
+not_end s row e = cc
+
+pub returns-in_ok-take_types-in-Types-clause-taken : goal.returns-in_ok-take_types-in-Types-clause-taken
+returns-in_ok-take_types-in-Types-clause-taken c =
+    steps_from c.args.self.now c.take_types.new.self c.args.from c.place_from-place.result c.args.line.now (Header (c.place_from-place.result + 1)) c.place_from-place.ensures.same
+    (step_at c.place_from-place.result c.args.line.now c.args.self.now c.take_types.new.self (Types c.in-Types.system c.in-Types.row) c.place_from-place.ensures.same.at c.place_from-place.ensures.here (sym c.row_at.ensures ∙ c.in-Types.is)
+    (not_end c.in-Types.system c.in-Types.row) (read (types_few c.place_from-place.result c.in-Types.system c.in-Types.row c.place_from-place.ensures.same.at.expected (sym c.row_at.ensures ∙ c.in-Types.is))) c.are_valid.ensures) where
+      read : c.in-Types.row < 6 → ReadsHeaderLine (Types c.in-Types.system c.in-Types.row) c.args.line.now c.args.self.now c.take_types.new.self
+      read few =
+          let s = c.in-Types.system in
+          let new = c.take_types.new.self in
+          subst (ReadsHeaderLine (Types s c.in-Types.row) c.args.line.now c.args.self.now) (sym c.in_ok-take_types-in-Types.ensures.kept)
+          (line_types c.args.self.now s c.in-Types.row c.args.line.now few (announced new s).count (planned_of s new.shown.plan) c.in_ok-take_types-in-Types.ensures.taken)
+
+pub returns-in_err-take_types-in-Types-clause-bad : goal.returns-in_err-take_types-in-Types-clause-bad
+returns-in_err-take_types-in-Types-clause-bad c bad =
+    let p = err_from_is_err_and c.from_residual.result c.from_residual.ensures.1 in
+    let is = sym c.row_at.ensures ∙ c.in-Types.is in
+    let s = c.in-Types.system in
+    let row = c.in-Types.row in
+    let k = c.args.self.now in
+    none_from k _ _ c.args.line.now c.place_from-place.ensures.same (subst (λ n. NoneGoesOn k n c.args.line.now) (sym (types_place c.place_from-place.result s row c.place_from-place.ensures.same.at.expected is))
+    (none_taken k s row c.args.line.now (types_few c.place_from-place.result s row c.place_from-place.ensures.same.at.expected is) (at_types k c.place_from-place.result s row c.place_from-place.ensures.same.at is) (sym (ap (known_line k) is) ∙ c.place_from-place.ensures.here)
+    (c.in_err-take_types-in-Types.ensures.bad (ap Err (same_refusal _ _ _ (p.1 ∙ ap Err p.2) bad)))))
+
+pub returns-in_err-accept-in-End-clause-bad : goal.returns-in_err-accept-in-End-clause-bad
+returns-in_err-accept-in-End-clause-bad c e =
+    none_from c.args.self.now _ _ c.args.line.now c.place_from-place.ensures.same (none_at c.place_from-place.result c.args.line.now c.args.self.now End c.place_from-place.ensures.same.at c.place_from-place.ensures.here (sym c.row_at.ensures ∙ c.in-End.is)
+    (no_end_line c.args.line.now (refused c.is_header_line.result (c.args.line.now ≡ end_line) c.is_header_line.ensures c.in_err-accept-in-End.ensures.bad)))
+
+at_end : (k : Known) (n : ℕ) (line : List ℕ) → n ≡ 25 → IsHeadAt k n → line ≡ end_line → EndsHeader k n line k
+at_end k n line e at same = subst (λ m. EndsHeader k m line k) (sym e) (ends k (subst (IsHeadAt k) e at) line same)
+
+pub returns-in_ok-accept-in-End-clause-taken : goal.returns-in_ok-accept-in-End-clause-taken
+returns-in_ok-accept-in-End-clause-taken c =
+    steps_from c.args.self.now c.args.self.now c.args.from c.place_from-place.result c.args.line.now Epoch c.place_from-place.ensures.same
+    (at_end c.args.self.now c.place_from-place.result c.args.line.now (last_at c.place_from-place.result c.place_from-place.ensures.same.at.expected (sym c.row_at.ensures ∙ c.in-End.is)) c.place_from-place.ensures.same.at
+    (c.is_header_line.ensures.0 c.in_ok-accept-in-End.ensures.taken))
+
+pub returns-in_ok-accept-in-End-clause-bad : goal.returns-in_ok-accept-in-End-clause-bad
+returns-in_ok-accept-in-End-clause-bad c e = absurd (ok_bad _ _ _ refl e)
+
+pub returns-in_ok-take_types-in-Types-clause-bad : goal.returns-in_ok-take_types-in-Types-clause-bad
+returns-in_ok-take_types-in-Types-clause-bad c e = absurd (ok_bad _ _ _ refl e)
+
+-- what is known of a line that was read, or of one that no header has
+was_read : (r : HeaderRow) (line : List ℕ) (old new : Known) (o : Option ⊤) (x : ⊤) → o ≡ Some x → ReadsOrRefuses r line old new o → ReadsHeaderLine r line old new
+was_read r line old new o x e read = subst (ReadsOrRefuses r line old new) e read
+
+was_refused : (r : HeaderRow) (line : List ℕ) (old new : Known) (o : Option ⊤) → o ≡ None → ReadsOrRefuses r line old new o → RefusesHeaderLine r line
+was_refused r line old new o e read = subst (ReadsOrRefuses r line old new) e read
+
+pub returns-in_err-ok_or-in_default-clause-bad : goal.returns-in_err-ok_or-in_default-clause-bad
+returns-in_err-ok_or-in_default-clause-bad c e =
+    none_from c.args.self.now _ _ c.args.line.now c.place_from-place.ensures.same (none_at c.place_from-place.result c.args.line.now c.args.self.now c.row_at.result c.place_from-place.ensures.same.at c.place_from-place.ensures.here (sym c.row_at.ensures)
+    (was_refused c.row_at.result c.args.line.now c.args.self.now c.read_header_line.new.self _ c.in_err-ok_or-in_default.ensures.ok_part c.read_header_line.ensures))
+
+pub returns-in_ok-ok_or-in_default : goal.returns-in_ok-ok_or-in_default
+returns-in_ok-ok_or-in_default c = record {
+  taken = steps_from c.args.self.now c.read_header_line.new.self c.args.from c.place_from-place.result c.args.line.now (Header (c.place_from-place.result + 1)) c.place_from-place.ensures.same
+      (step_at c.place_from-place.result c.args.line.now c.args.self.now c.read_header_line.new.self c.row_at.result c.place_from-place.ensures.same.at c.place_from-place.ensures.here (sym c.row_at.ensures) c.in_default.not-End
+      (was_read c.row_at.result c.args.line.now c.args.self.now c.read_header_line.new.self _ _ c.in_ok-ok_or-in_default.ensures.ok_part c.read_header_line.ensures) c.are_valid-in_default.ensures);
+  bad = λ e. absurd (ok_bad _ _ _ refl e);
+}
+
+sole : (r : HeaderRow) → ((s : System) (i : ℕ) → r ≡ Types s i → ⊥) → (r ≡ End → ⊥) → IsOnly r
+sole Version other far = tt
+sole (Texts r) other far = tt
+sole Position other far = tt
+sole Delta other far = tt
+sole (Types s i) other far = other s i refl
+sole StrengthUnit other far = tt
+sole First other far = tt
+sole (Shift s) other far = tt
+sole End other far = far refl
+
+pub read_header_line-requires : goal.read_header_line-requires
+read_header_line-requires c = sole c.row_at.result c.in_default.not-Types c.in_default.not-End
