@@ -65,61 +65,30 @@ fn last(two: u32, part: u32, lost: u8, strength: u8) -> u64
         + 0x302E_0000
 }
 
-/// The columns of a value without its sign.
-#[derive(Clone, Copy)]
-pub(crate) struct Columns {
-    pub(crate) first: u64,
-    pub(crate) last: u64,
-    /// The index of the first digit.
-    pub(crate) start: usize,
-}
-
-/// Returns the columns of a size in thousandths below 100.000, such as a strength: its first eight
-/// columns are blanks.
+/// Returns the columns of a size in thousandths as two words: blanks, its whole part up to the
+/// tenth column, a point, thousandths, and the LLI and SSI columns. The last number is the index of
+/// the first digit.
 #[inline(always)]
-fn short_columns(size: u32, lost: u8, strength: u8) -> Columns
-    requires { size < 100_000 }
-    ensures start { result.start + length (decimal (size / 1000)) ≡ 10 }
-    ensures text { to_le_bytes w64 result.first ++ to_le_bytes w64 result.last
-        ≡ replicate result.start 32
-        ++ (decimal (size / 1000) ++ (46 ∷ padded 3 (size % 1000) ++ lost ∷ strength ∷ [])) }
-{
-    let first = 0x2020_2020_2020_2020;
-    let last = last(size / 1000, size % 1000, lost, strength);
-    // A zero before the last digit of the whole part is a blank, too.
-    if size < 10_000 {
-        return Columns {
-            first,
-            last: last - 16,
-            start: 9,
-        };
-    }
-    Columns {
-        first,
-        last,
-        start: 8,
-    }
-}
-
-/// Returns the columns of a size in thousandths: blanks, its whole part up to the tenth column, a
-/// point, thousandths, and the LLI and SSI columns.
-#[inline(always)]
-pub(crate) fn columns_of(size: u64, lost: u8, strength: u8) -> Columns
+pub(crate) fn columns_of(size: u64, lost: u8, strength: u8) -> (u64, u64, usize)
     requires { size < 10 ^ 13 }
-    ensures start { result.start + length (decimal (size / 1000)) ≡ 10 }
-    ensures text { to_le_bytes w64 result.first ++ to_le_bytes w64 result.last
-        ≡ replicate result.start 32
+    ensures start { result.2 + length (decimal (size / 1000)) ≡ 10 }
+    ensures text { to_le_bytes w64 result.0 ++ to_le_bytes w64 result.1
+        ≡ replicate result.2 32
         ++ (decimal (size / 1000) ++ (46 ∷ padded 3 (size % 1000) ++ lost ∷ strength ∷ [])) }
 {
     if size < 100_000 {
-        return short_columns(size as u32, lost, strength);
+        let size = size as u32;
+        let blanks = 0x2020_2020_2020_2020;
+        let last = last(size / 1000, size % 1000, lost, strength);
+        // A zero before the last digit of the whole part is a blank, too.
+        if size < 10_000 {
+            return (blanks, last - 16, 9);
+        }
+        return (blanks, last, 8);
     }
     let digits = eight((size / 100_000) as u32);
     let zeros = digits.trailing_zeros() as usize / 8;
     let low = (size % 100_000) as u32;
-    Columns {
-        first: digits + front(zeros),
-        last: last(low / 1000, low % 1000, lost, strength),
-        start: zeros,
-    }
+    let last = last(low / 1000, low % 1000, lost, strength);
+    (digits + front(zeros), last, zeros)
 }

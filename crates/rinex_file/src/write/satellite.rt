@@ -36,12 +36,12 @@ fn put_value(columns: &mut [u8], value: &Option<Thousandths>, lost: u8, strength
         return;
     };
     let value = value.value();
-    let words = columns_of(value.unsigned_abs(), lost, strength);
-    let (first, last) = columns.split_at_mut(8);
-    first.copy_from_slice(&words.first.to_le_bytes());
-    last.copy_from_slice(&words.last.to_le_bytes());
+    let (first, last, start) = columns_of(value.unsigned_abs(), lost, strength);
+    let (front, back) = columns.split_at_mut(8);
+    front.copy_from_slice(&first.to_le_bytes());
+    back.copy_from_slice(&last.to_le_bytes());
     if value < 0 {
-        columns[words.start - 1] = b'-';
+        columns[start - 1] = b'-';
     }
 }
 

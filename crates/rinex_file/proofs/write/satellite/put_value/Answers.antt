@@ -9,23 +9,23 @@ use Rattle.rinex_file.proofs.write.satellite.put_value.Goals as goal
 
 pub overflow_sub-columns : goal.overflow_sub-columns
 overflow_sub-columns c =
-    let w = c.columns_of-words in
+    let w = c.columns_of-first in
     let v = c.value-value.result in
     let same : to_z w64 (of_z w64 v) ≡ v = grind (arith, to_z-of_z) in
     let fits : FitsColumns v = grind arith in
-    let some = some_blank v c.unsigned_abs.result w.result.first w.result.last w.result.start c.args.lost c.args.strength fits
+    let some = some_blank v c.unsigned_abs.result w.result.0 w.result.1 w.result.2 c.args.lost c.args.strength fits
     (c.unsigned_abs.ensures.value ∙ ap unsigned_abs same) (sym (ap is_negative same) ∙ c.if-value-lt0.true) (w.ensures.start, w.ensures.text) in
     omega (arith, some)
 
 pub returns-then-value-lt0-clause-text : goal.returns-then-value-lt0-clause-text
 returns-then-value-lt0-clause-text c =
-    let w = c.columns_of-words in
+    let w = c.columns_of-first in
     let v = c.value-value.result in
     let same : to_z w64 (of_z w64 v) ≡ v = grind (arith, to_z-of_z) in
     let fits : FitsColumns v = grind arith in
     let is : Some v ≡ c.args.value.now = grind arith in
-    ap₂ (λ a b. set (a ++ b) (w.result.start - 1) 45) (c.copy_from_slice.ensures.after ∙ c.to_le_bytes.ensures) (c.copy_from_slice-2.ensures.after ∙ c.to_le_bytes-2.ensures)
-    ∙ signed v c.unsigned_abs.result w.result.first w.result.last w.result.start c.args.lost c.args.strength fits
+    ap₂ (λ a b. set (a ++ b) (w.result.2 - 1) 45) (c.copy_from_slice.ensures.after ∙ c.to_le_bytes.ensures) (c.copy_from_slice-2.ensures.after ∙ c.to_le_bytes-2.ensures)
+    ∙ signed v c.unsigned_abs.result w.result.0 w.result.1 w.result.2 c.args.lost c.args.strength fits
     (c.unsigned_abs.ensures.value ∙ ap unsigned_abs same) (sym (ap is_negative same) ∙ c.if-value-lt0.true) (w.ensures.start, w.ensures.text)
     ∙ ap (λ o. field o c.args.lost c.args.strength) is
 
