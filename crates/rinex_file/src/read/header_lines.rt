@@ -43,10 +43,8 @@ fn coordinate_in(line: &[u8], from: usize) -> Option<i64>
     ensures none { IfNone result (IsCoordinate (number_in (take 14 (drop from line.now))) → ⊥) }
 {
     let length = number_in(columns(line, from, 14));
-    if length < -137_438_953_472 || length > 137_438_953_471 {
-        return None;
-    }
-    Some(length)
+    let fits = -137_438_953_472 <= length && length <= 137_438_953_471;
+    fits.then_some(length)
 }
 
 /// Returns the position of the antenna in 0.0001 m, with height zero, by its line, or None for any
@@ -88,9 +86,8 @@ pub(crate) fn read_texts(texts: &mut HeaderTexts, row: TextRow, line: &[u8]) -> 
     let (_, front, fields) = row.parts();
     let mut column = front.len();
     for field in fields {
-        texts
-            .set(*field, columns(line, column, field.width()))
-            .ok()?;
+        let text = columns(line, column, field.width());
+        texts.set(*field, text).ok()?;
         column += field.width();
     }
     is_same(line, texts_line(texts, row).as_slice()).then_some(())

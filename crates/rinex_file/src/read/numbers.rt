@@ -40,9 +40,5 @@ pub(crate) fn number_in(text: &[u8]) -> i64
     requires { length text.now ≤ 18 }
     ensures { result ≡ number_in text.now }
 {
-    let mut has_minus = false;
-    for b in text {
-        has_minus = has_minus | (*b == b'-');
-    }
-    signed(digits_in(text), has_minus)
+    signed(digits_in(text), text.contains(&b'-'))
 }

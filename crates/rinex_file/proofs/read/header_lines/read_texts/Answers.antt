@@ -30,8 +30,8 @@ some_err (Err x) e n = no_err x n
 pub returns-in_err-ok : goal.returns-in_err-ok
 returns-in_err-ok c =
     rw c.from_residual.ensures (not_printable c.args.row c.args.line.now c.args.texts.now c.are_texts.ensures.count (sym c.loop-field.invariant.read
-    ∙ refused_text c.parts.result.2.now (fields_of c.args.row) c.loop-field.field-index _ c.loop-field.column c.width.result c.args.line.now c.columns.result.now c.loop-field.texts _
-    c.parts.ensures.fields.0 c.loop-field-test.true c.width.ensures c.columns.ensures.value c.set.ensures.fault
+    ∙ refused_text c.parts.result.2.now (fields_of c.args.row) c.loop-field.field-index _ c.loop-field.column c.width.result c.args.line.now c.columns-text.result.now c.loop-field.texts _
+    c.parts.ensures.fields.0 c.loop-field-test.true c.width.ensures c.columns-text.ensures.value c.set.ensures.fault
     (some_err c.set.result c.in_err-ok.ensures.value)))
 
 pub returns : goal.returns
