@@ -14,7 +14,7 @@ use crate::read::fault::ReadFault;
 use crate::read::parser_state::ParserState;
 use crate::read::reading::Reading;
 use crate::values::{KeptEpoch, KeptRow, KeptSatellite, ObsFile};
-use obs_epoch::{GpsTime, Plan, StationValues};
+use obs_epoch::{GpsTime, StationValues};
 use rtcm_bits::Counted;
 use std::alloc::{AllocError, Global};
 use std::io::Read;
@@ -92,26 +92,22 @@ impl FileBuilder {
         Ok(())
     }
 
-    /// Returns the file that was read, or an error if memory for its plan runs out.
-    pub(crate) fn finish(self, parser_state: ParserState) -> Result<ObsFile, AllocError>
+    /// Returns the file that was read, or None if memory for its plan runs out.
+    pub(crate) fn finish(self, parser_state: ParserState) -> Option<ObsFile>
         requires none { (history_of self).rows ≡ [] }
         requires value { IsFileValue (file_at parser_state (history_of self)) }
         requires history { FollowsHistory parser_state (history_of self) }
-        ensures { IfOk result (λ f. f ≡ file_at parser_state (history_of self)) }
+        ensures { IfSome result (λ f. f ≡ file_at parser_state (history_of self)) }
     {
         let head = parser_state.head;
-        let gps = head.gps.signals.as_slice();
-        let galileo = head.galileo.signals.as_slice();
-        match Plan::from_signals(self.alloc, gps, galileo) {
-            Ok(plan) => Ok(ObsFile {
-                texts: head.texts,
-                plan,
-                values: head.values,
-                epochs: self.epochs,
-                counts: parser_state.counts,
-            }),
-            Err(_) => Err(AllocError),
-        }
+        let plan = head.plan(self.alloc)?;
+        Some(ObsFile {
+            texts: head.texts,
+            plan,
+            values: head.values,
+            epochs: self.epochs,
+            counts: parser_state.counts,
+        })
     }
 }
 
@@ -171,8 +167,6 @@ pub fn read_file<R: Read>(alloc: Global, reader: &mut Counted<R>) -> Result<ObsF
             return Err(ReadFault::Memory);
         };
     }
-    match file_builder.finish(reading.parser_state) {
-        Ok(file) => Ok(file),
-        Err(_) => Err(ReadFault::Memory),
-    }
+    let file = file_builder.finish(reading.parser_state);
+    file.ok_or(ReadFault::Memory)
 }
