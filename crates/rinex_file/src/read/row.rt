@@ -79,11 +79,10 @@ fn is_row(seen: &KeptSatellite, most: u8, signals: usize) -> bool
     ensures { IsTrue result ↔ IsRow most signals seen.now.row }
 {
     let values = seen.signal_values.as_slice();
-    1 <= seen.satellite
-        && seen.satellite <= most
-        && values.len() == signals
-        && values.iter().all(|e| is_signal_values(e))
-        && values.iter().any(|e| e.has_value())
+    let each = values.iter().all(|e| is_signal_values(e));
+    let some = values.iter().any(|e| e.has_value());
+    let satellite = 1 <= seen.satellite && seen.satellite <= most;
+    satellite && values.len() == signals && each && some
 }
 
 /// Writes the line without its line feed, padded with blanks, to the buffer.
