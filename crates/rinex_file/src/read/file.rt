@@ -134,7 +134,7 @@ pub fn check_file<R: Read>(alloc: Global, reader: &mut Counted<R>) -> Result<Cou
     ensures left { LeavesRest (R.remaining reader.old.inner) (R.remaining reader.new.inner) }
 {
     let mut reading = Reading::new(alloc);
-    while reading.next(reader)?.is_some() {}
+    while let Some(_) = reading.next(reader)? {}
     Ok(reading.parser_state.counts)
 }
 

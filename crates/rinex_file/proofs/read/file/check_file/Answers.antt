@@ -1,4 +1,5 @@
-use Rattle.std.proofs.Common.{refl, sym, ◌∙◌}
+use Rattle.std.proofs.Common.{refl, ap, ◌∙◌}
+use Rattle.std.specs.Prelude.{is_some}
 use Rattle.std.proofs.lemmas.Result.{err_from_is_err_and}
 use Rattle.rinex_file.specs.ParserState.{nothing}
 use Rattle.rinex_file.proofs.FileLines.{lines_are_lines, lines_are_short}
@@ -18,7 +19,7 @@ loop-reading-preserved g c =
     let inv = c.loop-reading.invariant in
     let (h, read) = inv.read in
     record {
-      read = one_added c.next.new.self h _ _ c.in_ok-next.field-0 (sym c.is_some.ensures ∙ c.if-is_some.true) (c.in_ok-next.ensures.goes h _ read);
+      read = one_added c.next.new.self h _ _ c.in_ok-next.field-0 (ap is_some c.in-Some.is) (c.in_ok-next.ensures.goes h _ read);
       within = c.in_ok-next.ensures.within;
       left = leaves_more _ _ _ inv.left c.in_ok-next.ensures.left;
       same = c.in_ok-next.ensures.same (λ e. cc) ∙ inv.same;
@@ -27,12 +28,12 @@ loop-reading-preserved g c =
 pub returns-clause-found : goal.returns-clause-found
 returns-clause-found g c =
     let (h, read) = c.loop-reading.invariant.read in
-    counts_found c.next.new.self.parser_state h _ (the_end c.next.new.self h _ _ c.in_ok-next.field-0 (sym c.is_some.ensures ∙ c.if-is_some.false) (c.in_ok-next.ensures.goes h _ read))
+    counts_found c.next.new.self.parser_state h _ (the_end c.next.new.self h _ _ c.in_ok-next.field-0 (ap is_some c.in_default.is) (c.in_ok-next.ensures.goes h _ read))
 
 pub returns-clause-only : goal.returns-clause-only
 returns-clause-only g c = λ v is few.
     let (h, read) = c.loop-reading.invariant.read in
-    counts_only c.next.new.self.parser_state h _ v (the_end c.next.new.self h _ _ c.in_ok-next.field-0 (sym c.is_some.ensures ∙ c.if-is_some.false) (c.in_ok-next.ensures.goes h _ read)) is
+    counts_only c.next.new.self.parser_state h _ v (the_end c.next.new.self h _ _ c.in_ok-next.field-0 (ap is_some c.in_default.is) (c.in_ok-next.ensures.goes h _ read)) is
 
 pub returns-clause-left : goal.returns-clause-left
 returns-clause-left g c = leaves_more _ _ _ c.loop-reading.invariant.left c.in_ok-next.ensures.left
