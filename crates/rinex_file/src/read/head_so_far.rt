@@ -70,12 +70,7 @@ impl HeadSoFar {
             texts: HeaderTexts::blank(),
             gps: TypesSoFar::new(alloc),
             galileo: TypesSoFar::new(alloc),
-            values: StationValues {
-                x: 0,
-                y: 0,
-                z: 0,
-                height: 0,
-            },
+            values: StationValues::zero(),
             first: GpsTime::new(0).unwrap(),
         };
         head.are_valid();

@@ -1,6 +1,7 @@
-use Rattle.std.proofs.Common.{arith, ◌≡◌, ap}
+use Rattle.std.proofs.Common.{arith, ◌≡◌, ap, subst, sym}
 use Rattle.gnss_obs.specs.declared.system.System.TheVariants.{Gps, Galileo}
 use Rattle.obs_epoch.specs.Signals.{indices}
+use Rattle.rinex_file.specs.FileValues.{AreValues}
 use Rattle.rinex_file.proofs.Judged.{at_some}
 use Rattle.rinex_file.proofs.HeaderEnd.{begins, none_read, zero_time, zero_values}
 use Rattle.rinex_file.proofs.read.head_so_far.HeadSoFar.new.Goals as goal
@@ -17,7 +18,7 @@ invariant_of-head c =
     let e = c.new-2.ensures in (
       none_read Gps c.new.result.signals g.signals,
       none_read Galileo c.new-2.result.signals e.signals,
-      zero_values,
+      subst AreValues (sym c.zero.ensures) zero_values,
       zero_time c.unwrap.result (at_some _ _ (λ t. t ≡ 0) c.unwrap.ensures c.new-3.ensures.value),
       omega (arith, g.count),
       omega (arith, e.count),
