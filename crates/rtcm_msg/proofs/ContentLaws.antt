@@ -1,8 +1,7 @@
 -- The data of one satellite or cell, read field by field.
-use Rattle.std.proofs.Common.{ℕ, ℤ, w16, w32, w64, to_z, of_z, FitsSigned, ◌≡◌, ◌+◌, ◌*◌, ◌-◌, ◌/◌, ◌%◌, ◌^◌, ◌<◌, ◌≤◌, Bool, List, [], ◌∷◌, length, take, drop, refl, ap, ap₂, ◌∙◌, arith, lit<}
+use Rattle.std.proofs.Common.{ℕ, ◌≡◌, ◌+◌, ◌*◌, ◌-◌, ◌/◌, ◌%◌, ◌^◌, ◌<◌, ◌≤◌, Bool, List, [], ◌∷◌, length, take, drop, refl, ap, ap₂, ◌∙◌, arith, lit<}
 use Rattle.std.proofs.lemmas.Nat.{mod_low, shr_high, pow-add}
 use Rattle.std.proofs.lemmas.List.{length-take}
-use Rattle.std.proofs.lemmas.Int.{ints, to_z-of_z}
 use Rattle.rtcm_bits.specs.BitLaws.{number-fits, pow_mono}
 use Rattle.rtcm_msg.specs.Layout.{Table, FieldKind, width, widths, Contents, content}
 use Rattle.rtcm_msg.specs.Packed.{total_width, unpacked}
@@ -74,10 +73,3 @@ field_to bits last at w e = ap (λ (p : ℕ). field_at bits p w) (begins last at
   where
     begins : (last at w : ℕ) → last + 1 ≡ at + w → last + 1 - w ≡ at
     begins last at w e = omega (arith, e)
-
--- A number in two's complement that was narrowed.
-pub narrow_16 : (z : ℤ) → FitsSigned w16 z → to_z w16 (of_z w16 (to_z w64 (of_z w64 z))) ≡ z
-narrow_16 z f = rw (to_z-of_z w64 z (omega (arith, ints, f))) (to_z-of_z w16 z f)
-
-pub narrow_32 : (z : ℤ) → FitsSigned w32 z → to_z w32 (of_z w32 (to_z w64 (of_z w64 z))) ≡ z
-narrow_32 z f = rw (to_z-of_z w64 z (omega (arith, ints, f))) (to_z-of_z w32 z f)

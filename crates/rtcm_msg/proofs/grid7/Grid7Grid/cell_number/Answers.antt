@@ -1,18 +1,12 @@
 use Rattle.std.proofs.Common.{ℕ, ℤ, ◌≡◌, ◌+◌, ◌*◌, ap, ◌∙◌, arith, rules, w16, w32, w64, to_z, of_z, FitsSigned}
-use Rattle.std.proofs.lemmas.Int.{ints, to_z-of_z}
 use Rattle.rtcm_bits.specs.Bits.{raw}
 use Rattle.rtcm_bits.specs.BitLaws.{byte-bit}
+use Rattle.rtcm_msg.proofs.SignedLaws.{wide_16_64, wide_32_64}
 use Rattle.rtcm_msg.proofs.grid7.Grid7Grid.cell_number.Goals as goal
 
 -- The positions of the fields in the number.
 are_within : (a b l h s r : ℕ) → ((((a * 16777216 + b) * 1024 + l) * 2 + h) * 1024 + s) * 32768 + r ≡ a * 1152921504606846976 + (b * 68719476736 + (l * 67108864 + (h * 33554432 + (s * 32768 + (r * 1 + 0)))))
 are_within a b l h s r = omega arith
-
-from_32 : (z : ℤ) → FitsSigned w32 z → to_z w64 (of_z w64 (to_z w32 (of_z w32 z))) ≡ z
-from_32 z f = rw (to_z-of_z w32 z f) (to_z-of_z w64 z (omega (arith, ints, f)))
-
-from_16 : (z : ℤ) → FitsSigned w16 z → to_z w64 (of_z w64 (to_z w16 (of_z w16 z))) ≡ z
-from_16 z f = rw (to_z-of_z w16 z f) (to_z-of_z w64 z (omega (arith, ints, f)))
 
 pub returns : goal.returns
 returns c =
@@ -20,7 +14,7 @@ returns c =
     let fx : FitsSigned w32 v.range = search rules in
     let fy : FitsSigned w32 v.phase = search rules in
     let fz : FitsSigned w16 v.rate = search rules in
-    let x : c.raw_of-range.result ≡ raw 20 v.range = c.raw_of-range.ensures.value ∙ ap (raw 20) (from_32 v.range fx) in
-    let y : c.raw_of-phase.result ≡ raw 24 v.phase = c.raw_of-phase.ensures.value ∙ ap (raw 24) (from_32 v.phase fy) in
-    let z : c.raw_of-rate.result ≡ raw 15 v.rate = c.raw_of-rate.ensures.value ∙ ap (raw 15) (from_16 v.rate fz) in
+    let x : c.raw_of-range.result ≡ raw 20 v.range = c.raw_of-range.ensures.value ∙ ap (raw 20) (wide_32_64 v.range fx) in
+    let y : c.raw_of-phase.result ≡ raw 24 v.phase = c.raw_of-phase.ensures.value ∙ ap (raw 24) (wide_32_64 v.phase fy) in
+    let z : c.raw_of-rate.result ≡ raw 15 v.rate = c.raw_of-rate.ensures.value ∙ ap (raw 15) (wide_16_64 v.rate fz) in
     rw (x, y, z, byte-bit v.half_cycle) (are_within (raw 20 v.range) (raw 24 v.phase) v.lock _ v.strength (raw 15 v.rate))

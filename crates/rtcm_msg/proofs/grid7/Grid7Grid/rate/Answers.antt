@@ -5,15 +5,12 @@ use Rattle.std.specs.Bool.{Decides}
 use Rattle.std.specs.Ordering.{int_eq}
 use Rattle.rtcm_bits.specs.Bits.{FitsInt}
 use Rattle.rtcm_msg.specs.Fractions.{rate_joined}
+use Rattle.rtcm_msg.proofs.SignedLaws.{wide_16_32}
 use Rattle.rtcm_msg.proofs.grid7.Grid7Grid.rate.Goals as goal
 
 not_that : {P : Type 0} (b : Bool) → Decides b P → (P → ⊥) → b ≡ false
 not_that true d other = absurd (other (d.0 refl))
 not_that false d other = refl
-
--- A number of 16 bits with a sign, converted to 32 bits.
-wide : (z : ℤ) → FitsSigned w16 z → to_z w32 (of_z w32 (to_z w16 (of_z w16 z))) ≡ z
-wide z f = rw (to_z-of_z w16 z f) (to_z-of_z w32 z (omega (arith, ints, f)))
 
 product_fits : (s : ℤ) → FitsSigned w16 s → FitsSigned w32 (s *ℤ pos 10000)
 product_fits s f = omega (arith, ints, f)
@@ -23,7 +20,7 @@ sum_fits s c f g = omega (arith, ints, f, g)
 
 sum_is : (s c : ℤ) → FitsSigned w16 s → FitsSigned w16 c
     → to_z w32 (of_z w32 (to_z w32 (of_z w32 (to_z w32 (of_z w32 (to_z w16 (of_z w16 s))) *ℤ pos 10000)) +ℤ to_z w32 (of_z w32 (to_z w16 (of_z w16 c))))) ≡ (s *ℤ pos 10000) +ℤ c
-sum_is s c f g = rw (wide s f, wide c g, to_z-of_z w32 (s *ℤ pos 10000) (product_fits s f)) (to_z-of_z w32 ((s *ℤ pos 10000) +ℤ c) (sum_fits s c f g))
+sum_is s c f g = rw (wide_16_32 s f, wide_16_32 c g, to_z-of_z w32 (s *ℤ pos 10000) (product_fits s f)) (to_z-of_z w32 ((s *ℤ pos 10000) +ℤ c) (sum_fits s c f g))
 
 joined : (s c r : ℤ) → (of_z w16 s ≡ 57344 → ⊥) → (of_z w16 c ≡ 49152 → ⊥) → r ≡ (s *ℤ pos 10000) +ℤ c → Some r ≡ rate_joined s c
 joined s c r a b e =

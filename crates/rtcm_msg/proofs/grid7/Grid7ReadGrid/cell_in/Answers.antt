@@ -2,7 +2,8 @@ use Rattle.std.proofs.Common.{ℕ, ℤ, ◌≡◌, ◌+◌, ◌*◌, ◌==◌, �
 use Rattle.rtcm_bits.specs.Bits.{bits_of, signed}
 use Rattle.rtcm_msg.specs.declared.grid7.Cell7.{Cell7}
 use Rattle.rtcm_msg.specs.Grid7.{cell_of, cell_table}
-use Rattle.rtcm_msg.proofs.ContentLaws.{field_to, unpacked_row, narrow_16, narrow_32}
+use Rattle.rtcm_msg.proofs.ContentLaws.{field_to, unpacked_row}
+use Rattle.rtcm_msg.proofs.SignedLaws.{narrow_16, narrow_32}
 use Rattle.rtcm_msg.proofs.grid7.Grid7ReadGrid.cell_in.Goals as goal
 
 abbrev cell : ℤ → ℤ → ℕ → ℕ → ℕ → ℤ → Cell7

@@ -1,0 +1,52 @@
+use Rattle.std.proofs.Common.{ℕ, ℤ, pos, ◌≡◌, ◌*◌, ◌≤◌, ◌^◌, ◌*ℤ◌, ◌==◌, ◌∙◌, unsigned_abs, Bool, true, false, not, if◌then◌else◌, IfSome, Some, None, refl, sym, arith, lit<, w32, w64, to_z, of_z, FitsSigned}
+use Rattle.std.proofs.lemmas.Bool.Decides.{Decides-eqb, Decides-int_eq}
+use Rattle.std.proofs.lemmas.Int.{to_z-of_z, to_z_pos, fits_signed_mul, unsigned_abs-mul}
+use Rattle.std.specs.Bool.{Decides, then_some}
+use Rattle.std.specs.Ordering.{int_eq}
+use Rattle.rtcm_msg.specs.Fractions.{scaled}
+use Rattle.rtcm_msg.proofs.SignedLaws.{wide_32_64, size_32}
+use Rattle.rtcm_msg.proofs.grid.scaled.Goals as goal
+
+same_test : {P Q : Type 0} (a b : Bool) → Decides a P → Decides b Q → (P → Q) → (Q → P) → a ≡ b
+same_test true true d e f g = refl
+same_test true false d e f g = sym (e.1 (f (d.0 refl)))
+same_test false true d e f g = d.1 (g (e.0 refl))
+same_test false false d e f g = refl
+
+same_number : (z i : ℤ) → FitsSigned w32 z → FitsSigned w32 i → of_z w32 z ≡ of_z w32 i → z ≡ i
+same_number z i f g e = sym (to_z-of_z w32 z f) ∙ rw e (to_z-of_z w32 i g)
+
+product_fits : (z : ℤ) (k : ℕ) → FitsSigned w32 z → k ≤ 128 → FitsSigned w64 (z *ℤ pos k)
+product_fits z k f h = fits_signed_mul w64 z (pos k) 2147483648 128 (size_32 z f) h (lit< tt)
+
+branch : (b : Bool) (r : ℤ) → then_some (not b) r ≡ (if b then None else Some r)
+branch true r = refl
+branch false r = refl
+
+within : (b : Bool) (r : ℤ) (m : ℕ) → unsigned_abs r ≤ m → IfSome (if b then None else Some r) (λ z. unsigned_abs z ≤ m)
+within true r m h = tt
+within false r m h = h
+
+bounded : (z i : ℤ) (k m : ℕ) → unsigned_abs z * k ≤ m → IfSome (scaled i k z) (λ r. unsigned_abs r ≤ m)
+bounded z i k m h = within (int_eq z i) (z *ℤ pos k) m (rw (unsigned_abs-mul z (pos k)) h)
+
+pub overflow_mul-number : goal.overflow_mul-number
+overflow_mul-number c =
+    let z = c.args.number in
+    let unit = to_z_pos w64 c.args.unit (omega (arith, c.requires.few)) in
+    rw (wide_32_64 z c.ranges.number, unit) (product_fits z c.args.unit c.ranges.number c.requires.few)
+
+pub returns-clause-value : goal.returns-clause-value
+returns-clause-value c =
+    let z = c.args.number in
+    let i = c.args.invalid in
+    let test = same_test (of_z w32 z == of_z w32 i) (int_eq z i) (Decides-eqb (of_z w32 z) (of_z w32 i)) (Decides-int_eq z i) (same_number z i c.ranges.number c.ranges.invalid) (λ e. rw e refl) in
+    let unit = to_z_pos w64 c.args.unit (omega (arith, c.requires.few)) in
+    let product = to_z-of_z w64 (z *ℤ pos c.args.unit) (product_fits z c.args.unit c.ranges.number c.requires.few) in
+    c.then_some.ensures ∙ rw (test, wide_32_64 z c.ranges.number, unit, product) (branch (int_eq z i) (z *ℤ pos c.args.unit))
+
+pub returns-clause-fits : goal.returns-clause-fits
+returns-clause-fits c = λ h. rw (returns-clause-value c) (bounded c.args.number c.args.invalid c.args.unit (2 ^ 33) h)
+
+pub returns-clause-small : goal.returns-clause-small
+returns-clause-small c = λ h. rw (returns-clause-value c) (bounded c.args.number c.args.invalid c.args.unit (2 ^ 26) h)
