@@ -1,3 +1,4 @@
+//! The cells of MSM4 and MSM7 as exact fractions.
 ghost use Rattle.std.specs.Prelude.{◌≡◌, ◌<◌, ◌≤◌, ◌^◌, IfSome, unsigned_abs};
 
 use crate::grid::Grid;

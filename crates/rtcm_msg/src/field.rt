@@ -1,3 +1,4 @@
+//! Single fields of a message: the next one of a reader, or one at a known place.
 ghost use Rattle.std.specs.Prelude.{◌≡◌, ◌+◌, ◌-◌, ◌*◌, ◌^◌, ◌<◌, ◌≤◌, IfOk, length, take, drop};
 ghost use Rattle.rtcm_bits.specs.Bits.{bits_of, uint, signed, FitsInt};
 ghost use Rattle.rtcm_msg.specs.Fields.{GivesViewed, field_at, number_at};

@@ -1,3 +1,4 @@
+//! The precisions of MSMs: the fields of a satellite and of a cell, and their meaning.
 ghost use Rattle.std.specs.Prelude.{◌≡◌, ◌+◌, ◌*◌, ◌^◌, ◌<◌, ◌≤◌, ℕ, ℤ, Bool, List, Option, length};
 ghost use Rattle.std.specs.Prelude.{All, IfNone, IfSome, unsigned_abs};
 ghost use Rattle.std.specs.Option.{ForSome};

@@ -1,3 +1,4 @@
+//! The precision of MSM4.
 ghost use Rattle.std.specs.Prelude.{◌≡◌};
 ghost use Rattle.std.specs.List.{list_any};
 ghost use Rattle.rtcm_msg.specs.Grid4 as grid4;

@@ -1,3 +1,4 @@
+//! The precision of MSM7.
 ghost use Rattle.std.specs.Prelude.{◌≡◌};
 ghost use Rattle.std.specs.List.{list_any};
 ghost use Rattle.rtcm_msg.specs.Grid7 as grid7;

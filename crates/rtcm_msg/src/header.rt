@@ -1,3 +1,4 @@
+//! The header of an MSM.
 ghost use Rattle.std.specs.Prelude.{◌≡◌, ◌^◌, ◌<◌, IfOk, IfNone};
 ghost use Rattle.rtcm_msg.specs.Fields.{GivesViewed};
 ghost use Rattle.rtcm_msg.specs.Refusals.{header_fault};

@@ -1,3 +1,4 @@
+//! The masks of an MSM: its satellites, its signals and its cells.
 ghost use Rattle.std.specs.Prelude.{◌≡◌};
 ghost use Rattle.rtcm_msg.specs.Fields.{GivesViewed};
 ghost use Rattle.rtcm_msg.specs.Msm.{masks_at, AreMasks};

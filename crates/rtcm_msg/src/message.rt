@@ -1,3 +1,4 @@
+//! Messages, decoded and encoded.
 ghost use Rattle.std.specs.Prelude.{◌≡◌, ◌++◌, ◌<◌, ◌≤◌, IfOk, IfErr, length, false, Ok, Err};
 ghost use Rattle.rtcm_msg.specs.Fields.{GivesViewed};
 ghost use Rattle.rtcm_bits.specs.Bits.{bits_of};

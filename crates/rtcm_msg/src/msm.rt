@@ -1,3 +1,4 @@
+//! Values of MSMs, with the fields of each satellite and of each cell packed in one number.
 ghost use Rattle.std.specs.Prelude.{◌≡◌, ◌<◌, ◌^◌, ◌++◌, ◌≤◌, All, map, length, slice_index, count_ones};
 ghost use Rattle.std.specs.Prelude.{Some, None, IfOk, IfErr};
 ghost use Rattle.rtcm_msg.specs.Msm.{IsHeader, msm_bits, msm_of_parts, IsValue, satellite_mask_bits, most_pairs};

@@ -1,3 +1,4 @@
+//! The pairs of a satellite and a signal that have a cell, one by one.
 ghost use Rattle.std.specs.Prelude.{[], ◌≡◌, ◌<◌, ◌≤◌, ◌^◌, length, IfSome, IfNone, ◌∷◌, ℕ};
 ghost use Rattle.rtcm_bits.specs.Bits.{uint};
 ghost use Rattle.rtcm_msg.specs.Msm.{most_pairs};

@@ -1,3 +1,4 @@
+//! The station messages 1005 and 1006.
 ghost use Rattle.std.specs.Prelude.{◌≡◌, ◌^◌, ◌<◌, IfOk, IfSome, IsTrue, ◌↔◌};
 ghost use Rattle.rtcm_msg.specs.Fields.{GivesViewed};
 ghost use Rattle.rtcm_bits.specs.Bits.{FitsInt};

@@ -1,3 +1,4 @@
+//! The contents of a message other than its satellites and cells.
 ghost use Rattle.std.specs.Prelude.{◌≡◌, ◌<◌};
 ghost use Rattle.std.specs.Option.{ForSome};
 ghost use Rattle.rtcm_msg.specs.Msm.{week};

@@ -1,3 +1,4 @@
+//! Views of messages, which read the cells of an MSM one by one.
 ghost use Rattle.std.specs.Prelude.{[], ◌≡◌, ◌*◌, ◌<◌, ◌≤◌, ◌^◌, ◌∷◌, length, slice_index, count_ones};
 ghost use Rattle.std.specs.Prelude.{All, IfOk, IfSome, IfNone};
 ghost use Rattle.rtcm_bits.specs.Bits.{bits_of};

@@ -1,3 +1,4 @@
+//! The fields of a message, written in order.
 ghost use Rattle.std.specs.Prelude.{◌≡◌, ◌+◌, ◌*◌, ◌/◌, ◌^◌, ◌<◌, ◌≤◌, ◌++◌, length, IsTrue, nat_le, All};
 ghost use Rattle.std.specs.List.{list_all, flat_map};
 ghost use Rattle.rtcm_bits.specs.Bits.{uint};
