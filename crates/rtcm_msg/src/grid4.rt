@@ -1,8 +1,5 @@
 //! The precision of MSM4.
-ghost use Rattle.std.specs.Prelude.{◌≡◌};
-ghost use Rattle.std.specs.List.{list_any};
-ghost use Rattle.rtcm_msg.specs.Grid4 as grid4;
-
+use crate::bad_fields::{HasFields, has_bad};
 use crate::fault::Field;
 use crate::field::{short_at, short_to, signed_to};
 use crate::grid::{Grid, ReadGrid, range_joined, scaled};
@@ -36,27 +33,33 @@ pub struct Cell4 {
 /// The precision of MSM4: messages 1074 and 1094.
 pub struct Grid4;
 
-/// Returns whether a field does not fit its bits in some satellite.
-// The type bounds the first; from the test the prover knows the bound of each element.
-fn has_bad_satellite(satellites: &[Satellite4], field: Field) -> bool
-    ensures { result ≡ list_any (grid4.is_bad_satellite field) satellites.now }
-{
-    satellites.iter().any(|x| match field {
-        Field::RangeWhole => x.whole as u16 >= 256,
-        _ => x.fraction >= 1024,
-    })
+impl HasFields for Satellite4 {
+    ghost use Rattle.rtcm_msg.specs.Grid4 as grid4;
+
+    ghost is_bad = { grid4.is_bad_satellite };
+
+    // The type bounds the first; from the test the prover knows the bound of each element.
+    fn is_bad(&self, field: Field) -> bool {
+        match field {
+            Field::RangeWhole => self.whole as u16 >= 256,
+            _ => self.fraction >= 1024,
+        }
+    }
 }
 
-/// Returns whether a field does not fit its bits in some cell.
-fn has_bad_cell(cells: &[Cell4], field: Field) -> bool
-    ensures { result ≡ list_any (grid4.is_bad_cell field) cells.now }
-{
-    cells.iter().any(|x| match field {
-        Field::FineRange => x.range < -16384 || x.range >= 16384,
-        Field::FinePhase => x.phase < -2097152 || x.phase >= 2097152,
-        Field::Lock => x.lock >= 16,
-        _ => x.strength >= 64,
-    })
+impl HasFields for Cell4 {
+    ghost use Rattle.rtcm_msg.specs.Grid4 as grid4;
+
+    ghost is_bad = { grid4.is_bad_cell };
+
+    fn is_bad(&self, field: Field) -> bool {
+        match field {
+            Field::FineRange => self.range < -16384 || self.range >= 16384,
+            Field::FinePhase => self.phase < -2097152 || self.phase >= 2097152,
+            Field::Lock => self.lock >= 16,
+            _ => self.strength >= 64,
+        }
+    }
 }
 
 impl Grid for Grid4 {
@@ -95,9 +98,9 @@ impl Grid for Grid4 {
     ghost cell_fault_of = { grid4.cell_fault };
 
     fn satellite_fault(satellites: &[Satellite4]) -> Option<Field> {
-        if has_bad_satellite(satellites, Field::RangeWhole) {
+        if has_bad(satellites, Field::RangeWhole) {
             Some(Field::RangeWhole)
-        } else if has_bad_satellite(satellites, Field::RangeFraction) {
+        } else if has_bad(satellites, Field::RangeFraction) {
             Some(Field::RangeFraction)
         } else {
             None
@@ -105,13 +108,13 @@ impl Grid for Grid4 {
     }
 
     fn cell_fault(cells: &[Cell4]) -> Option<Field> {
-        if has_bad_cell(cells, Field::FineRange) {
+        if has_bad(cells, Field::FineRange) {
             Some(Field::FineRange)
-        } else if has_bad_cell(cells, Field::FinePhase) {
+        } else if has_bad(cells, Field::FinePhase) {
             Some(Field::FinePhase)
-        } else if has_bad_cell(cells, Field::Lock) {
+        } else if has_bad(cells, Field::Lock) {
             Some(Field::Lock)
-        } else if has_bad_cell(cells, Field::Strength) {
+        } else if has_bad(cells, Field::Strength) {
             Some(Field::Strength)
         } else {
             None

@@ -1,8 +1,5 @@
 //! The precision of MSM7.
-ghost use Rattle.std.specs.Prelude.{◌≡◌};
-ghost use Rattle.std.specs.List.{list_any};
-ghost use Rattle.rtcm_msg.specs.Grid7 as grid7;
-
+use crate::bad_fields::{HasFields, has_bad};
 use crate::fault::Field;
 use crate::field::{short_at, short_to, signed_at, signed_to};
 use crate::grid::{Grid, ReadGrid, range_joined, scaled};
@@ -42,37 +39,36 @@ pub struct Cell7 {
 /// The precision of MSM7: messages 1077 and 1097.
 pub struct Grid7;
 
-/// Returns whether a field does not fit its bits in some satellite.
-// The type bounds the first; from the test the prover knows the bound of each element.
-fn has_bad_satellite(satellites: &[Satellite7], field: Field) -> bool
-    ensures { result ≡ list_any (grid7.is_bad_satellite field) satellites.now }
-{
-    satellites.iter().any(|x| match field {
-        Field::RangeWhole => x.whole as u16 >= 256,
-        Field::Extended => x.extended >= 16,
-        Field::RangeFraction => x.fraction >= 1024,
-        _ => x.rate < -8192 || x.rate >= 8192,
-    })
-}
+impl HasFields for Satellite7 {
+    ghost use Rattle.rtcm_msg.specs.Grid7 as grid7;
 
-/// Returns whether a field of a cell does not fit its bits.
-fn is_bad_cell(x: &Cell7, field: Field) -> bool
-    ensures { result ≡ grid7.is_bad_cell field x.now }
-{
-    match field {
-        Field::FineRange => x.range < -524288 || x.range >= 524288,
-        Field::FinePhase => x.phase < -8388608 || x.phase >= 8388608,
-        Field::Lock => x.lock >= 1024,
-        Field::Strength => x.strength >= 1024,
-        _ => x.rate < -16384 || x.rate >= 16384,
+    ghost is_bad = { grid7.is_bad_satellite };
+
+    // The type bounds the first; from the test the prover knows the bound of each element.
+    fn is_bad(&self, field: Field) -> bool {
+        match field {
+            Field::RangeWhole => self.whole as u16 >= 256,
+            Field::Extended => self.extended >= 16,
+            Field::RangeFraction => self.fraction >= 1024,
+            _ => self.rate < -8192 || self.rate >= 8192,
+        }
     }
 }
 
-/// Returns whether a field does not fit its bits in some cell.
-fn has_bad_cell(cells: &[Cell7], field: Field) -> bool
-    ensures { result ≡ list_any (grid7.is_bad_cell field) cells.now }
-{
-    cells.iter().any(|x| is_bad_cell(x, field))
+impl HasFields for Cell7 {
+    ghost use Rattle.rtcm_msg.specs.Grid7 as grid7;
+
+    ghost is_bad = { grid7.is_bad_cell };
+
+    fn is_bad(&self, field: Field) -> bool {
+        match field {
+            Field::FineRange => self.range < -524288 || self.range >= 524288,
+            Field::FinePhase => self.phase < -8388608 || self.phase >= 8388608,
+            Field::Lock => self.lock >= 1024,
+            Field::Strength => self.strength >= 1024,
+            _ => self.rate < -16384 || self.rate >= 16384,
+        }
+    }
 }
 
 impl Grid for Grid7 {
@@ -111,13 +107,13 @@ impl Grid for Grid7 {
     ghost cell_fault_of = { grid7.cell_fault };
 
     fn satellite_fault(satellites: &[Satellite7]) -> Option<Field> {
-        if has_bad_satellite(satellites, Field::RangeWhole) {
+        if has_bad(satellites, Field::RangeWhole) {
             Some(Field::RangeWhole)
-        } else if has_bad_satellite(satellites, Field::Extended) {
+        } else if has_bad(satellites, Field::Extended) {
             Some(Field::Extended)
-        } else if has_bad_satellite(satellites, Field::RangeFraction) {
+        } else if has_bad(satellites, Field::RangeFraction) {
             Some(Field::RangeFraction)
-        } else if has_bad_satellite(satellites, Field::RoughRate) {
+        } else if has_bad(satellites, Field::RoughRate) {
             Some(Field::RoughRate)
         } else {
             None
@@ -125,15 +121,15 @@ impl Grid for Grid7 {
     }
 
     fn cell_fault(cells: &[Cell7]) -> Option<Field> {
-        if has_bad_cell(cells, Field::FineRange) {
+        if has_bad(cells, Field::FineRange) {
             Some(Field::FineRange)
-        } else if has_bad_cell(cells, Field::FinePhase) {
+        } else if has_bad(cells, Field::FinePhase) {
             Some(Field::FinePhase)
-        } else if has_bad_cell(cells, Field::Lock) {
+        } else if has_bad(cells, Field::Lock) {
             Some(Field::Lock)
-        } else if has_bad_cell(cells, Field::Strength) {
+        } else if has_bad(cells, Field::Strength) {
             Some(Field::Strength)
-        } else if has_bad_cell(cells, Field::FineRate) {
+        } else if has_bad(cells, Field::FineRate) {
             Some(Field::FineRate)
         } else {
             None

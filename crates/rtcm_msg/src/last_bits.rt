@@ -1,4 +1,5 @@
 //! Where the fields of a message's cells are.
+
 /// Where the data of a message's cells are. Its fields are found by their last bits: the field of
 /// cell `i` ends `i` times its width after the one of the first cell.
 #[derive(Clone, Copy)]

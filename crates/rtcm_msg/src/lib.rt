@@ -5,6 +5,7 @@
 //! cells of an MSM one by one from its bytes, each as an [`Entry`].
 #![tactic(auto)]
 
+mod bad_fields;
 mod entry;
 mod fault;
 mod field;
