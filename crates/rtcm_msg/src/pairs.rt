@@ -8,7 +8,7 @@ ghost use Rattle.rtcm_msg.specs.Pairs.{pairs_left, ArePairs, IndicesAreBelow, Sp
 use crate::masks::{SATELLITE_MASK_BITS, SIGNAL_MASK_BITS};
 
 /// The satellite and the signal of a cell.
-#[derive(Clone, Copy, Debug, PartialEq, Eq, Default)]
+#[derive(Clone, Copy)]
 pub(crate) struct Pair {
     /// The index of the satellite among the message's satellites.
     pub index: usize,

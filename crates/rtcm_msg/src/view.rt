@@ -442,12 +442,9 @@ fn view_body<'a>(number: u16, bytes: &'a [u8], reader: &mut BitReader) -> Result
     ensures { GivesViewed viewed_message result (body_at number reader.old) }
 {
     match number {
-        1005 => Ok(View::Station(read_station(reader, false)?)),
-        1006 => Ok(View::Station(read_station(reader, true)?)),
-        1074 => view_msm(bytes, reader, Form::Msm4, false),
-        1077 => view_msm(bytes, reader, Form::Msm7, false),
-        1094 => view_msm(bytes, reader, Form::Msm4, true),
-        1097 => view_msm(bytes, reader, Form::Msm7, true),
+        1005 | 1006 => Ok(View::Station(read_station(reader, number == 1006)?)),
+        1074 | 1094 => view_msm(bytes, reader, Form::Msm4, number == 1094),
+        1077 | 1097 => view_msm(bytes, reader, Form::Msm7, number == 1097),
         _ => Ok(View::Other {
             number,
             set: read_set(number, reader),
