@@ -1,5 +1,5 @@
 -- Numbers with a sign whose width is changed.
-use Rattle.std.proofs.Common.{ℕ, ℤ, pos, negsuc, ◌≡◌, ◌^◌, ◌<◌, ◌≤◌, arith, unsigned_abs, w16, w32, w64, to_z, of_z, FitsSigned, lit≤}
+use Rattle.std.proofs.Common.{ℕ, ℤ, pos, negsuc, ◌≡◌, ◌<◌, ◌≤◌, arith, unsigned_abs, w16, w32, w64, to_z, of_z, FitsSigned, lit≤}
 use Rattle.std.proofs.lemmas.Int.{to_z-of_z}
 
 abbrev raised : (n a b : ℕ) → n < a → a ≤ b → n < b

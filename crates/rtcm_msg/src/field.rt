@@ -32,7 +32,6 @@ pub(crate) fn short_to(bytes: &[u8], last: usize, width: u32) -> u64
     requires some { 0 < width }
     requires few { width ≤ 57 }
     requires there { last < 8 * length bytes.now }
-    requires small { 8 * length bytes.now < 2 ^ 63 }
     requires after { 63 ≤ last }
     ensures value { result ≡ field_at (bits_of bytes.now) (last + 1 - width) width }
     ensures fits { result < 2 ^ width }
@@ -52,7 +51,6 @@ pub(crate) fn signed_to(bytes: &[u8], last: usize, width: u32) -> i64
     requires some { 0 < width }
     requires few { width ≤ 57 }
     requires there { last < 8 * length bytes.now }
-    requires small { 8 * length bytes.now < 2 ^ 63 }
     requires after { 63 ≤ last }
     ensures value { result ≡ signed width (field_at (bits_of bytes.now) (last + 1 - width) width) }
     ensures fits { FitsInt width result }

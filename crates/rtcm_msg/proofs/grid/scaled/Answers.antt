@@ -1,4 +1,4 @@
-use Rattle.std.proofs.Common.{ℕ, ℤ, pos, ◌≡◌, ◌*◌, ◌≤◌, ◌^◌, ◌*ℤ◌, ◌==◌, ◌∙◌, unsigned_abs, Bool, true, false, not, if◌then◌else◌, IfSome, Some, None, refl, sym, arith, lit<, w32, w64, to_z, of_z, FitsSigned}
+use Rattle.std.proofs.Common.{ℕ, ℤ, pos, ◌≡◌, ◌*◌, ◌≤◌, ◌^◌, ◌*ℤ◌, ◌==◌, ◌∙◌, unsigned_abs, Bool, true, false, not, if◌then◌else◌, IfSome, Some, None, refl, sym, arith, lit<, w32, w64, of_z, FitsSigned}
 use Rattle.std.proofs.lemmas.Bool.Decides.{Decides-eqb, Decides-int_eq}
 use Rattle.std.proofs.lemmas.Int.{to_z-of_z, to_z_pos, fits_signed_mul, unsigned_abs-mul}
 use Rattle.std.specs.Bool.{Decides, then_some}

@@ -1,4 +1,4 @@
-use Rattle.std.proofs.Common.{ℕ, ℤ, ◌≡◌, ◌+◌, ◌*◌, ap, ◌∙◌, arith, rules, w16, w32, w64, to_z, of_z, FitsSigned}
+use Rattle.std.proofs.Common.{ℕ, ◌≡◌, ◌+◌, ◌*◌, ap, ◌∙◌, arith, rules, w16, w32, FitsSigned, lit<, lit≤}
 use Rattle.rtcm_bits.specs.Bits.{raw}
 use Rattle.rtcm_bits.specs.BitLaws.{byte-bit}
 use Rattle.rtcm_msg.proofs.SignedLaws.{wide_16_64, wide_32_64}
@@ -18,3 +18,18 @@ returns c =
     let y : c.raw_of-phase.result ≡ raw 24 v.phase = c.raw_of-phase.ensures.value ∙ ap (raw 24) (wide_32_64 v.phase fy) in
     let z : c.raw_of-rate.result ≡ raw 15 v.rate = c.raw_of-rate.ensures.value ∙ ap (raw 15) (wide_16_64 v.rate fz) in
     rw (x, y, z, byte-bit v.half_cycle) (are_within (raw 20 v.range) (raw 24 v.phase) v.lock _ v.strength (raw 15 v.rate))
+
+pub raw_of-range-requires : goal.raw_of-range-requires
+raw_of-range-requires c =
+    let f : FitsSigned w32 c.args.cell.now.range = search rules in
+    record { some = lit< tt; few = lit≤ tt; fits = rw (wide_32_64 c.args.cell.now.range f) c.requires.range }
+
+pub raw_of-phase-requires : goal.raw_of-phase-requires
+raw_of-phase-requires c =
+    let f : FitsSigned w32 c.args.cell.now.phase = search rules in
+    record { some = lit< tt; few = lit≤ tt; fits = rw (wide_32_64 c.args.cell.now.phase f) c.requires.phase }
+
+pub raw_of-rate-requires : goal.raw_of-rate-requires
+raw_of-rate-requires c =
+    let f : FitsSigned w16 c.args.cell.now.rate = search rules in
+    record { some = lit< tt; few = lit≤ tt; fits = rw (wide_16_64 c.args.cell.now.rate f) c.requires.rate }

@@ -46,3 +46,17 @@ returns-in-Bits-clause-same g c =
     let widths = c.requires.widths ∙ sym (ap (λ (v : FormedMsm). cell_widths v.form) c.self.view_is) in
     let small = fits _ (slice_index c.args.self.now.msm.cells c.args.i) g.G.Grid.cell_widths (cell_widths c.self.inside.form) (ap (λ (v : FormedMsm). slice_index v.msm.cells c.args.i) c.self.view_is) widths (c.self.invariant.0.cells c.args.i) in
     ap g.G.Grid.cell_packed (returns-in-Bits-clause-value g c) ∙ g.met.G.Grid.cell_same _ small
+
+pub cell_of-requires : goal.cell_of-requires
+cell_of-requires g c =
+    let item = ap (λ (d : Data). slice_index (cell_rows c.self.inside.form c.self.inside.cells d) c.args.i) (sym c.in-Packed.is) ∙ ap (λ (v : FormedMsm). slice_index v.msm.cells c.args.i) c.self.view_is in
+    let widths = c.requires.widths ∙ sym (ap (λ (v : FormedMsm). cell_widths v.form) c.self.view_is) in
+    rw item (fits _ (slice_index c.args.self.now.msm.cells c.args.i) g.G.Grid.cell_widths (cell_widths c.self.inside.form) (ap (λ (v : FormedMsm). slice_index v.msm.cells c.args.i) c.self.view_is) widths (c.self.invariant.0.cells c.args.i))
+
+pub returns-in-Packed : goal.returns-in-Packed
+returns-in-Packed g c =
+    let item = ap (λ (d : Data). slice_index (cell_rows c.self.inside.form c.self.inside.cells d) c.args.i) (sym c.in-Packed.is) ∙ ap (λ (v : FormedMsm). slice_index v.msm.cells c.args.i) c.self.view_is in
+    let widths = c.requires.widths ∙ sym (ap (λ (v : FormedMsm). cell_widths v.form) c.self.view_is) in
+    let small = fits _ (slice_index c.args.self.now.msm.cells c.args.i) g.G.Grid.cell_widths (cell_widths c.self.inside.form) (ap (λ (v : FormedMsm). slice_index v.msm.cells c.args.i) c.self.view_is) widths (c.self.invariant.0.cells c.args.i) in
+    let value = c.cell_of.ensures ∙ ap g.G.Grid.cell_at item in
+    record { value = value; in_range = subst g.G.Grid.is_cell (sym value) (g.met.G.Grid.cell_in_range _ small); same = ap g.G.Grid.cell_packed value ∙ g.met.G.Grid.cell_same _ small }

@@ -1,0 +1,10 @@
+use Rattle.std.proofs.Common.{refl, rules, w16, w32, FitsSigned}
+use Rattle.std.proofs.Math.Nat.{div-one}
+use Rattle.rtcm_msg.proofs.SignedLaws.{narrow_16, narrow_32}
+use Rattle.rtcm_msg.proofs.grid4.Grid4Grid.cell_of.Goals as goal
+
+pub returns : goal.returns
+returns c =
+    let f : FitsSigned w16 c.signed_of.result = search rules in
+    let g : FitsSigned w32 c.signed_of-2.result = search rules in
+    rw (narrow_16 c.signed_of.result f, narrow_32 c.signed_of-2.result g, c.signed_of.ensures.value, c.signed_of-2.ensures.value, div-one c.args.number) refl
