@@ -1,10 +1,14 @@
 -- Frames that are passed to a sink, piece by piece.
-use Rattle.std.proofs.Common.{◌≡◌, ℕ, ◌+◌, ◌-◌, ◌<◌, ◌≤◌, Bool, true, false, List, [], ◌∷◌, ◌++◌, ◌∙◌, ap, sym, refl, arith, length, take, drop, append_assoc, append-nil, subst, take-append-drop, length-drop, slice_range, ⊎_elim}
+use Rattle.std.proofs.Common.{◌≡◌, ℕ, ◌+◌, ◌-◌, ◌<◌, ◌≤◌, Bool, true, false, List, [], ◌∷◌, ◌++◌, ◌∙◌, ap, sym, refl, arith, length, take, drop, append_assoc, append-nil, subst, take-append-drop, length-drop, slice_range, length-take, ⊎_elim}
 use Rattle.std.proofs.lemmas.Bool.{cases_lt}
 use Rattle.std.proofs.Math.Seq.{take-add}
 use Rattle.rtcm_bits.specs.Prefix.{IsPrefix}
 use Rattle.rtcm_scan.specs.Frames.{Framed, frames_of}
 use Rattle.rtcm_scan.specs.Known.{known_frames}
+use Rattle.rtcm_scan.specs.Drained.{IsDrained}
+use Rattle.rtcm_scan.specs.Scan.{FramerValue, HasFramed, with_bytes}
+use Rattle.rtcm_scan.specs.Examined.{HasExamined, CountsFrame, CountsKnown}
+use Rattle.rtcm_scan.specs.Passing.{Coming, Breaking, HasPassed, HasPassedAll, PassesKnown, BreaksKnown, Passes, PassesToLimit, Breaks, TakesPiece, Continues, IsSameStream}
 use Rattle.rtcm_scan.proofs.PrefixLemmas.{stays_decided}
 
 pub prefix_self : {A : Type 0} (xs : List A) → IsPrefix xs xs
@@ -41,3 +45,130 @@ prefix_later e u b piece n fs same going q =
     let whole : (b ++ take n piece) ++ drop n piece ≡ b ++ piece = append_assoc b (take n piece) (drop n piece) ∙ ap (λ (l : List ℕ). b ++ l) (take-append-drop n piece) in
     let later : IsPrefix (known_frames e (b ++ take n piece)) (known_frames e (b ++ piece)) = subst (λ (l : List ℕ). IsPrefix (known_frames e (b ++ take n piece)) (known_frames e l)) whole (known_later e (b ++ take n piece) (drop n piece) none) in
     prefix_trans fs (known_frames e (b ++ take n piece)) (known_frames e (b ++ piece)) p later
+
+-- the same stream goes on
+pub same_continues : (v v' : FramerValue) (n : ℕ) → v.taken ≤ v.limit → v'.has_ended ≡ v.has_ended → IsSameStream v v' → Continues v v' n
+same_continues v v' n within ended same =
+    record { least = omega (arith, same.taken); most = omega (arith, same.taken); within = omega (arith, same.taken, within); limit = same.limit; ended = ended; some = same.some }
+
+-- the stream was ended before
+pub same_ended : (v v1 v2 : FramerValue) → v1 ≡ record v { has_ended = true } → ((b : List ℕ) (fs : List Framed) → HasExamined v b fs → HasExamined v1 b fs) → IsSameStream v1 v2 → IsSameStream v v2
+same_ended v v1 v2 end counts same = record {
+  limit = same.limit ∙ ap (λ (w : FramerValue). w.limit) end;
+  taken = same.taken ∙ ap (λ (w : FramerValue). w.taken) end;
+  some = λ h. same.some (h.0, h.1, counts h.0 h.1 h.2);
+}
+
+pub continues_most : (v v' : FramerValue) (n m : ℕ) → n ≤ m → Continues v v' n → Continues v v' m
+continues_most v v' n m le k = record { least = k.least; most = omega (arith, k.most, le); within = k.within; limit = k.limit; ended = k.ended; some = k.some }
+
+-- a block was accepted, and its frames passed on
+pub continues_block : (v v1 v2 v3 : FramerValue) (n m : ℕ) (xs : List ℕ) → length xs ≡ m → Continues v v1 n → v2 ≡ with_bytes v1 xs → v2.taken ≤ v2.limit
+    → ((b : List ℕ) (fs : List Framed) → HasExamined v1 b fs → HasExamined v2 (b ++ xs) fs) → v3.has_ended ≡ v2.has_ended → IsSameStream v2 v3 → Continues v v3 (n + m)
+continues_block v v1 v2 v3 n m xs size k push within counts ended same =
+    let taken : v2.taken ≡ v1.taken + length xs = ap (λ (w : FramerValue). w.taken) push in
+    let limit : v2.limit ≡ v1.limit = ap (λ (w : FramerValue). w.limit) push in
+    let least : v.taken ≤ v1.taken = k.least in
+    let most : v1.taken ≤ v.taken + n = k.most in
+    record {
+      least = omega (arith, least, taken, same.taken);
+      most = omega (arith, most, taken, same.taken, size);
+      within = omega (arith, within, limit, k.limit, same.taken);
+      limit = same.limit ∙ limit ∙ k.limit;
+      ended = ended ∙ ap (λ (w : FramerValue). w.has_ended) push ∙ k.ended;
+      some = λ h. (let x = k.some h in same.some (x.0 ++ xs, x.1, counts x.0 x.1 x.2));
+    }
+
+module _ {S O : Type 0} (took : Coming S O) where
+  -- some frames were passed on
+  abbrev pub PassesSome : FramerValue → S → O → FramerValue → S → O → Type 0
+  PassesSome v s o v' s' o' = (s0 : S) (o0 : O) (ps : List Framed) (b : List ℕ) (fs : List Framed) → HasPassed took v s0 o0 ps s o b fs
+      → (gs : List Framed) × IsPrefix fs gs × HasPassed took v' s0 o0 ps s' o' b gs
+
+  -- a block after the first n bytes of a piece was accepted
+  pub pushed : (v v1 v2 : FramerValue) (s s1 : S) (o o1 : O) (piece : List ℕ) (n m : ℕ) → Passes took v s o v1 s1 o1 (take n piece)
+      → ((b : List ℕ) (fs : List Framed) → HasExamined v1 b fs → HasExamined v2 (b ++ slice_range piece n (n + m)) fs)
+      → (s0 : S) (o0 : O) (ps : List Framed) (b : List ℕ) → HasPassedAll took v s0 o0 ps s o b → HasPassed took v2 s0 o0 ps s1 o1 (b ++ take (n + m) piece) (known_frames v1.has_ended (b ++ take n piece))
+  pushed v v1 v2 s s1 o o1 piece n m p counts s0 o0 ps b x =
+      let k = p s0 o0 ps b x in
+      let fs : List Framed = known_frames v1.has_ended (b ++ take n piece) in
+      record { framer = subst (λ (l : List ℕ). HasExamined v2 l fs) (take_block b piece n m) (counts (b ++ take n piece) fs k.passed.framer); taken = k.passed.taken }
+
+  -- the sink failed at a frame of this block
+  pub breaks_block : (broke : Breaking S O) (v v1 v2 : FramerValue) (s s1 s2 : S) (o o1 o2 : O) (piece : List ℕ) (n m : ℕ) → (v.has_ended ≡ true → length piece ≡ 0)
+      → v1.has_ended ≡ v.has_ended → v2.has_ended ≡ v1.has_ended → Passes took v s o v1 s1 o1 (take n piece)
+      → ((b : List ℕ) (fs : List Framed) → HasExamined v1 b fs → HasExamined v2 (b ++ slice_range piece n (n + m)) fs)
+      → BreaksKnown took broke v2.has_ended v2 s1 o1 s2 o2 → Breaks took broke v s o s2 o2 piece
+  breaks_block broke v v1 v2 s s1 s2 o o1 o2 piece n m going same1 same2 p counts q s0 o0 ps b x =
+      let e : Bool = v.has_ended in
+      let fs : List Framed = known_frames v1.has_ended (b ++ take n piece) in
+      let k = q s0 o0 ps (b ++ take (n + m) piece) fs (pushed v v1 v2 s s1 o o1 piece n m p counts s0 o0 ps b x) in
+      let first : IsPrefix (known_frames e b) fs =
+      subst (λ (h : Bool). IsPrefix (known_frames e b) (known_frames h (b ++ take n piece))) (sym same1) (known_later e b (take n piece) (λ h. omega (arith, going h, length-take n piece))) in
+      record {
+        taken = k.taken;
+        reached = k.reached;
+        first = prefix_trans (known_frames e b) fs k.taken first k.first;
+        known = prefix_later e v2.has_ended b piece (n + m) k.reached (same2 ∙ same1) going k.known;
+        broken = k.broken;
+      }
+
+  -- the output was flushed
+  pub passes_sent : (v v' : FramerValue) (s s' : S) (o o1 o2 : O) (next : List ℕ) → ((s0 : S) (o0 : O) (ps fs : List Framed) → took s0 o0 ps s' o1 fs → took s0 o0 ps s' o2 fs)
+      → Passes took v s o v' s' o1 next → Passes took v s o v' s' o2 next
+  passes_sent v v' s s' o o1 o2 next send p s0 o0 ps b x =
+      let d = p s0 o0 ps b x in
+      record { passed = record { framer = d.passed.framer; taken = send s0 o0 ps (known_frames v'.has_ended (b ++ next)) d.passed.taken }; drained = d.drained; counted = d.counted }
+
+  pub limit_sent : (v v' : FramerValue) (s s' : S) (o o1 o2 : O) (piece : List ℕ) (n : ℕ) → ((s0 : S) (o0 : O) (ps fs : List Framed) → took s0 o0 ps s' o1 fs → took s0 o0 ps s' o2 fs)
+      → TakesPiece took v s o v' s' o1 piece n → n < length piece → PassesToLimit took v s o v' s' o2 piece
+  limit_sent v v' s s' o o1 o2 piece n send t l =
+      let full : v'.taken ≡ v.limit = t.full l in
+      let size : n ≡ v.limit - v.taken = omega (arith, full, t.taken) in
+      record {
+        passes = subst (λ (m : ℕ). Passes took v s o v' s' o2 (take m piece)) size (passes_sent v v' s s' o o1 o2 (take n piece) send t.passes);
+        full = full;
+        over = omega (arith, full, t.taken, l);
+      }
+
+  -- the sink failed at the flush after the first n bytes of a piece
+  pub breaks_sent : (broke : Breaking S O) (v v' : FramerValue) (s s' : S) (o o1 o2 : O) (piece : List ℕ) (n : ℕ) → (v.has_ended ≡ true → length piece ≡ 0) → v'.has_ended ≡ v.has_ended
+      → Passes took v s o v' s' o1 (take n piece) → ((s0 : S) (o0 : O) (ps fs : List Framed) → took s0 o0 ps s' o1 fs → broke s0 o0 ps s' o2 fs fs) → Breaks took broke v s o s' o2 piece
+  breaks_sent broke v v' s s' o o1 o2 piece n going same p send s0 o0 ps b x =
+      let e : Bool = v.has_ended in
+      let fs : List Framed = known_frames v'.has_ended (b ++ take n piece) in
+      record {
+        taken = fs;
+        reached = fs;
+        first = subst (λ (h : Bool). IsPrefix (known_frames e b) (known_frames h (b ++ take n piece))) (sym same) (known_later e b (take n piece) (λ h. omega (arith, going h, length-take n piece)));
+        known = prefix_later e v'.has_ended b piece n fs same going (prefix_self fs);
+        broken = send s0 o0 ps fs (p s0 o0 ps b x).passed.taken;
+      }
+
+  -- no more are decided
+  pub passes_known : (v v' v2 : FramerValue) (s s' : S) (o o' : O) → PassesSome v s o v' s' o'
+      → ((b : List ℕ) (fs : List Framed) → HasFramed v' b fs → HasFramed v2 b fs × IsDrained v2 b fs) → CountsKnown v' v2
+      → PassesKnown took v s o v2 s' o'
+  passes_known v v' v2 s s' o o' p none counts s0 o0 ps b fs x =
+      let k = p s0 o0 ps b fs x in
+      let d : IsDrained v2 b k.0 = (none b k.0 k.2.framer.history).1 in
+      let e : HasExamined v2 b k.0 × _ = counts b k.0 k.2.framer in
+      record {
+        passed = subst (λ (l : List Framed). HasPassed took v2 s0 o0 ps s' o' b l) d.frames (record { framer = e.0; taken = k.2.taken });
+        drained = subst (λ (l : List Framed). IsDrained v2 b l) d.frames d;
+        counted = e.1;
+      }
+
+  -- the sink failed at the next frame
+  pub breaks_at : (broke : Breaking S O) (v v' v2 : FramerValue) (s s' s2 : S) (o o' o2 : O) (f : Framed) → PassesSome v s o v' s' o' → v2.has_ended ≡ v.has_ended
+      → CountsFrame v' v2 f → ((s0 : S) (o0 : O) (ps fs : List Framed) → took s0 o0 ps s' o' fs → broke s0 o0 ps s2 o2 fs (fs ++ f ∷ []))
+      → BreaksKnown took broke v.has_ended v s o s2 o2
+  breaks_at broke v v' v2 s s' s2 o o' o2 f p same counts broken s0 o0 ps b fs x =
+      let k = p s0 o0 ps b fs x in
+      record {
+        taken = k.0;
+        reached = k.0 ++ f ∷ [];
+        first = k.1;
+        known = subst (λ (h : Bool). IsPrefix (k.0 ++ f ∷ []) (known_frames h b)) same (counts b k.0 k.2.framer).0.history.first;
+        broken = broken s0 o0 ps k.0 k.2.taken;
+      }

@@ -80,6 +80,16 @@ pub record PassesToLimit {S O : Type 0} (took : Coming S O) (v : FramerValue) (s
   pub full : v'.taken ≡ v.limit
   pub over : v.limit < v.taken + length next
 
+-- the first n bytes of a piece were accepted, all of them or those up to the limit, and the sink processed all known
+-- frames
+pub record TakesPiece {S O : Type 0} (took : Coming S O) (v : FramerValue) (s : S) (o : O) (v' : FramerValue) (s' : S)
+    (o' : O) (piece : List ℕ) (n : ℕ) : Type 0 where
+  pub passes : Passes took v s o v' s' o' (take n piece)
+  pub bound : n ≤ length piece
+  pub taken : v'.taken ≡ v.taken + n
+  pub full : n < length piece → v'.taken ≡ v.limit
+  pub ready : v'.is_ready ≡ true
+
 -- at most n more bytes were accepted, within the same limit, and the framer still has examined some stream
 pub record Continues (v v' : FramerValue) (n : ℕ) : Type 0 where
   pub least : v.taken ≤ v'.taken

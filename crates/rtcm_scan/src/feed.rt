@@ -1,7 +1,7 @@
 //! Passing the frames of pieces of a stream to a consumer.
-ghost use Rattle.std.specs.Prelude.{◌≡◌, ◌+◌, ◌≤◌, ◌<◌, true, [], length, take, OnOk, OnErr, IfOk, IfErr};
+ghost use Rattle.std.specs.Prelude.{◌≡◌, ◌+◌, ◌≤◌, true, [], length, OnOk, OnErr, IfOk, IfErr};
 ghost use Rattle.rtcm_scan.specs.Passing.{PassesKnown, BreaksKnown, Passes, Breaks, PassesToLimit};
-ghost use Rattle.rtcm_scan.specs.Passing.{Continues, IsSameStream, AtFault, UnlessBroken};
+ghost use Rattle.rtcm_scan.specs.Passing.{TakesPiece, Continues, IsSameStream, AtFault, UnlessBroken};
 
 use crate::framer::{Frame, Framer};
 use crate::sink::FrameSink;
@@ -61,10 +61,7 @@ impl Framer {
         if self.ready() {
             return Ok(());
         }
-        match self.drain_into(frame, sink, out) {
-            Ok(()) => Ok(()),
-            Err(fault) => Err(fault),
-        }
+        self.drain_into(frame, sink, out)
     }
 
     /// Accepts these bytes up to the limit, passes each frame to the sink as soon as it is decided,
@@ -80,12 +77,8 @@ impl Framer {
         requires going { self.old.has_ended ≡ true → length piece.now ≡ 0 }
         ensures goes { S.can_take sink.new }
         ensures whole { IfOk result
-            (λ n. Passes S.took self.old sink.old out.old self.new sink.new out.new (take n piece.now)) }
+            (TakesPiece S.took self.old sink.old out.old self.new sink.new out.new piece.now) }
         ensures part { OnErr result (Breaks S.took S.broke self.old sink.old out.old sink.new out.new piece.now) }
-        ensures most { IfOk result (λ n. n ≤ length piece.now) }
-        ensures taken { IfOk result (λ n. self.new.taken ≡ self.old.taken + n) }
-        ensures full { IfOk result (λ n. n < length piece.now → self.new.taken ≡ self.old.limit) }
-        ensures ready { OnOk result (self.new.is_ready ≡ true) }
         ensures same { Continues self.old self.new (length piece.now) }
     {
         // Brings the bound on the number of accepted bytes into the proof.

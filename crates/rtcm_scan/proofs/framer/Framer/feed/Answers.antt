@@ -1,35 +1,26 @@
-use Rattle.std.proofs.Common.{◌≤◌, ◌++◌, sym, subst, take_all, arith, Bool, List, ℕ, length, take, length-take}
-use Rattle.rtcm_bits.specs.Prefix.{IsPrefix}
-use Rattle.rtcm_scan.specs.Known.{known_frames}
-use Rattle.rtcm_scan.specs.Passing.{HasPassedAll}
-use Rattle.rtcm_scan.proofs.PassingLemmas.{prefix_self, prefix_later, known_later}
+use Rattle.std.proofs.Common.{subst, take_all, arith, List, ℕ, take}
+use Rattle.rtcm_scan.specs.Passing.{Passes}
+use Rattle.rtcm_scan.proofs.PassingLemmas.{passes_sent, limit_sent, breaks_sent}
 use Rattle.rtcm_scan.proofs.framer.Framer.feed.Goals as goal
 
+pub returns-in-Err-clause-fault : goal.returns-in-Err-clause-fault
+returns-in-Err-clause-fault g c = c.in-Err.ensures.part
+
 pub returns-in-Err-send-clause-fault : goal.returns-in-Err-send-clause-fault
-returns-in-Err-send-clause-fault g c = λ s o ps b x.
-    let piece : List ℕ = c.args.piece.now in
-    let n : ℕ = c.in-Ok.taken in
-    let e : Bool = c.args.self.now.has_ended in
-    let u : Bool = c.take_piece.new.self.has_ended in
-    let d = c.in-Ok.ensures.whole s o ps b x in
-    record {
-      taken = known_frames u (b ++ take n piece);
-      reached = known_frames u (b ++ take n piece);
-      first = subst (λ (h : Bool). IsPrefix (known_frames e b) (known_frames h (b ++ take n piece))) (sym c.take_piece.ensures.same.ended)
-          (known_later e b (take n piece) (λ h. omega (arith, c.requires.going h, length-take n piece)));
-      known = prefix_later e u b piece n (known_frames u (b ++ take n piece)) c.take_piece.ensures.same.ended c.requires.going (prefix_self (known_frames u (b ++ take n piece)));
-      broken = c.in-Err-send.ensures.part s o ps (known_frames u (b ++ take n piece)) d.passed.taken;
-    }
+returns-in-Err-send-clause-fault g c =
+    breaks_sent g.S.FrameSink.took g.S.FrameSink.broke c.args.self.now c.take_piece.new.self c.args.sink.now c.take_piece.new.sink c.args.out.now c.take_piece.new.out c.send.new.out c.args.piece.now c.in-Ok.taken
+    c.requires.going c.take_piece.ensures.same.ended c.in-Ok.ensures.whole.passes c.in-Err-send.ensures.part
+
+pub returns-then-taken-piece-clause-fault : goal.returns-then-taken-piece-clause-fault
+returns-then-taken-piece-clause-fault g c =
+    limit_sent g.S.FrameSink.took c.args.self.now c.take_piece.new.self c.args.sink.now c.take_piece.new.sink c.args.out.now c.take_piece.new.out c.send.new.out c.args.piece.now c.in-Ok.taken
+    c.in_default.ensures.whole c.in-Ok.ensures.whole c.if-taken-piece.true
 
 pub returns-clause-whole : goal.returns-clause-whole
-returns-clause-whole g c = λ s o ps b x.
-    let piece : List ℕ = c.args.piece.now in
-    let n : ℕ = c.in-Ok.taken in
-    let d = c.in-Ok.ensures.whole s o ps b x in
-    let all : length piece ≤ n = omega (arith, c.if-taken-piece.false) in
-    subst (λ (l : List ℕ). HasPassedAll g.S.FrameSink.took c.take_piece.new.self s o ps c.take_piece.new.sink c.send.new.out (b ++ l)) (take_all n piece all)
-    (record {
-      passed = record { framer = d.passed.framer; taken = c.in_default.ensures.whole s o ps (known_frames c.take_piece.new.self.has_ended (b ++ take n piece)) d.passed.taken };
-      drained = d.drained;
-      counted = d.counted;
-    })
+returns-clause-whole g c =
+    subst (λ (l : List ℕ). Passes g.S.FrameSink.took c.args.self.now c.args.sink.now c.args.out.now c.take_piece.new.self c.take_piece.new.sink c.send.new.out l) (take_all c.in-Ok.taken c.args.piece.now c.if-taken-piece.false)
+    (passes_sent g.S.FrameSink.took c.args.self.now c.take_piece.new.self c.args.sink.now c.take_piece.new.sink c.args.out.now c.take_piece.new.out c.send.new.out (take c.in-Ok.taken c.args.piece.now) c.in_default.ensures.whole
+    c.in-Ok.ensures.whole.passes)
+
+pub returns-clause-taken : goal.returns-clause-taken
+returns-clause-taken g c = omega (arith, c.in-Ok.ensures.whole.taken, c.in-Ok.ensures.whole.bound, c.if-taken-piece.false)
