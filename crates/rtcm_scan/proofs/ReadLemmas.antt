@@ -1,32 +1,35 @@
 -- A stream that is read piece by piece.
 use Rattle.std.specs.Prelude.{⊤}
-use Rattle.std.proofs.Common.{◌≡◌, ℕ, ◌+◌, ◌-◌, ◌<◌, ◌≤◌, Bool, true, false, List, [], ◌∷◌, ◌++◌, ◌∙◌, ap, sym, refl, arith, length, suc, take, drop, max, append_assoc, append-nil, subst, length-append, Option, true≢false}
+use Rattle.std.proofs.Common.{◌≡◌, ℕ, ◌+◌, ◌-◌, ◌<◌, ◌≤◌, Bool, true, false, List, [], ◌∷◌, ◌++◌, ◌∙◌, ap, sym, refl, arith, length, suc, take, drop, max, append_assoc, append-nil, subst, length-append, Option, true≢false, add-zero}
 use Rattle.std.specs.Io.KnownBytes.{Consumes, Keeps, IsAtEnd}
 use Rattle.std.proofs.KnownBytes.{Consumes-trans, Consumes-nil, Consumes-kept}
 use Rattle.rtcm_scan.specs.Frames.{Framed}
 use Rattle.std.proofs.lemmas.List.{length-drop}
+use Rattle.rtcm_bits.specs.Device.{HasFailed}
 use Rattle.rtcm_bits.specs.FrameOf.{longest_frame}
 use Rattle.rtcm_scan.specs.Decided.{decided}
 use Rattle.rtcm_scan.specs.Drained.{IsDrained}
 use Rattle.rtcm_scan.specs.Known.{known_frames, known_place}
 use Rattle.rtcm_scan.specs.Scan.{FramerValue}
-use Rattle.rtcm_scan.specs.Passing.{Coming, Breaking, HasPassedAll, HasBroken, Passes, BreaksKnown, PassesKnown, PassesToLimit, PassesAll, BreaksAt, BreaksAfter, BreaksReading, Reads, ReadsOn, AtFault}
-use Rattle.rtcm_scan.proofs.PassingLemmas.{prefix_self}
+use Rattle.rtcm_scan.specs.Passing.{Coming, Breaking, HasPassedAll, HasBroken, Passes, Breaks, Continues, BreaksKnown, PassesKnown, PassesToLimit, PassesAll, BreaksAt, BreaksAfter, BreaksReading, Reads, ReadsOn, IsReadingOn, AtFault}
+use Rattle.rtcm_scan.proofs.PassingLemmas.{prefix_self, passes_sent}
 use Rattle.rtcm_scan.proofs.PrefixLemmas.{decided_near}
 use Rattle.rtcm_scan.specs.declared.feed.StreamFault.{StreamFault}
 use Rattle.rtcm_scan.specs.declared.feed.StreamFault.TheVariants.{Read, TooLong, Sink}
-
--- a fault of `feed` is one of the piece that was read
-pub fault_of_piece : {F : Type 0} (f : StreamFault F) (K L B Sent L' B' : Type 0) → (L → Sent → L') → (B → B') → AtFault f ⊥ L B → AtFault f Sent Sent ⊤ → AtFault f K L' B'
-fault_of_piece Read K L B Sent L' B' long sink a s = absurd a
-fault_of_piece TooLong K L B Sent L' B' long sink a s = long a s
-fault_of_piece (Sink x) K L B Sent L' B' long sink a s = sink a
 
 -- at each fault, one proposition implies another
 pub at_each : {F : Type 0} (f : StreamFault F) (P Q R P' Q' R' : Type 0) → (P → P') → (Q → Q') → (R → R') → AtFault f P Q R → AtFault f P' Q' R'
 at_each Read P Q R P' Q' R' p q r a = p a
 at_each TooLong P Q R P' Q' R' p q r a = q a
 at_each (Sink x) P Q R P' Q' R' p q r a = r a
+
+-- a fault of a read after others without failures
+pub fails_after : {F : Type 0} (f : StreamFault F) (n n' m : ℕ) → n' ≡ n → AtFault f (HasFailed n' m) (m ≡ n') (m ≡ n') → AtFault f (HasFailed n m) (m ≡ n) (m ≡ n)
+fails_after f n n' m e = subst (λ (k : ℕ). AtFault f (HasFailed k m) (m ≡ k) (m ≡ k)) e
+
+-- one piece after others
+pub reading_more : {S : Type 0} (can : S → Type 0) (s s' : S) (v v' v2 : FramerValue) (n m k : ℕ) → IsReadingOn can s v v' n m → IsReadingOn can s' v' v2 m k → IsReadingOn can s' v v2 n k
+reading_more can s s' v v' v2 n m k i j = record { can = j.can; limit = j.limit ∙ i.limit; ended = j.ended ∙ i.ended; some = λ h. j.some (i.some h); size = j.size ∙ i.size }
 
 take_over : (front piece : List ℕ) (k n : ℕ) → n ≡ length front + k → take n (front ++ piece) ≡ front ++ take k piece
 take_over [] piece k n e = let z : n ≡ k = omega (arith, e) in ap (λ (m : ℕ). take m piece) z
@@ -46,27 +49,30 @@ near_held v b n most going d fits =
     omega (arith, e, u, fits)
 
 module _ {S O : Type 0} (took : Coming S O) (broke : Breaking S O) where
-  -- no byte
-  pub passes_none : (v : FramerValue) (s : S) (o o' : O) → ((s0 : S) (o0 : O) (ps fs : List Framed) → took s0 o0 ps s o fs → took s0 o0 ps s o' fs) → Passes took v s o v s o' []
-  passes_none v s o o' send s0 o0 ps b x = subst (λ (l : List ℕ). HasPassedAll took v s0 o0 ps s o' l) (sym (append-nil b)) (record {
-    passed = record { framer = x.passed.framer; taken = send s0 o0 ps (known_frames v.has_ended b) x.passed.taken };
-    drained = x.drained;
-    counted = x.counted;
-  })
+  -- a fault of `feed` is one of the piece that was read
+  pub fault_of_piece : {F : Type 0} (f : StreamFault F) (v v' : FramerValue) (s s' : S) (o o' : O) (r r' : Option (List ℕ)) (piece : List ℕ) (most : ℕ) (none sent : Type 0)
+      → Consumes r r' piece → Continues v v' (length piece) → length piece ≤ most → length v.held + length piece ≤ max most (length v.held + 1)
+      → AtFault f ⊥ (PassesToLimit took v s o v' s' o' piece) (Breaks took broke v s o s' o' piece) → AtFault f sent sent ⊤
+      → AtFault f none (Reads r r' (PassesToLimit took v s o v' s' o') × sent) (Reads r r' (BreaksAt took broke v s o v' s' o' most))
+  fault_of_piece Read v v' s s' o o' r r' piece most none sent read goes few near a k = absurd a
+  fault_of_piece TooLong v v' s s' o o' r r' piece most none sent read goes few near a k = ((piece, read, a), k)
+  fault_of_piece (Sink x) v v' s s' o o' r r' piece most none sent read goes few near a k = (piece, read, record { breaks = a; goes = goes; few = few; near = near })
+
+  -- no byte was read, and the output was flushed
+  pub reads_none : (v : FramerValue) (s : S) (o o' : O) (r : Option (List ℕ)) → ((s0 : S) (o0 : O) (ps fs : List Framed) → took s0 o0 ps s o fs → took s0 o0 ps s o' fs) → ReadsOn took v s o v s o' r r
+  reads_none v s o o' r send = ([], Consumes-nil r, (passes_sent took v v s s o o o' [] send (λ s0 o0 ps b x. subst (λ (l : List ℕ). HasPassedAll took v s0 o0 ps s o l) (sym (append-nil b)) x), sym (add-zero v.taken)))
 
   -- one piece after others
   pub passes_more : (v v' v2 : FramerValue) (s s' s2 : S) (o o' o2 : O) (front piece : List ℕ) → Passes took v s o v' s' o' front → Passes took v' s' o' v2 s2 o2 piece → Passes took v s o v2 s2 o2 (front ++ piece)
   passes_more v v' v2 s s' s2 o o' o2 front piece p q s0 o0 ps b x =
       subst (λ (l : List ℕ). HasPassedAll took v2 s0 o0 ps s2 o2 l) (append_assoc b front piece) (q s0 o0 ps (b ++ front) (p s0 o0 ps b x))
 
-  pub reads_more : (v v' v2 : FramerValue) (s s' s2 : S) (o o' o2 : O) (r r' r2 : Option (List ℕ)) (n : ℕ)
-      → ReadsOn took v s o v' s' o' r r' → Reads r' r2 (λ piece. Passes took v' s' o' v2 s2 o2 piece × (n ≡ length piece)) → v2.taken ≡ v'.taken + n
-      → ReadsOn took v s o v2 s2 o2 r r2
-  reads_more v v' v2 s s' s2 o o' o2 r r' r2 n p q t =
+  pub reads_more : (v v' v2 : FramerValue) (s s' s2 : S) (o o' o2 : O) (r r' r2 : Option (List ℕ)) → ReadsOn took v s o v' s' o' r r' → ReadsOn took v' s' o' v2 s2 o2 r' r2 → ReadsOn took v s o v2 s2 o2 r r2
+  reads_more v v' v2 s s' s2 o o' o2 r r' r2 p q =
       let l : length (p.0 ++ q.0) ≡ length p.0 + length q.0 = length-append p.0 q.0 in
       let a : v'.taken ≡ v.taken + length p.0 = p.2.1 in
-      let e : n ≡ length q.0 = q.2.1 in
-      (p.0 ++ q.0, Consumes-trans r r' r2 p.0 q.0 p.1 q.1, (passes_more v v' v2 s s' s2 o o' o2 p.0 q.0 p.2.0 q.2.0, omega (arith, l, a, e, t)))
+      let t : v2.taken ≡ v'.taken + length q.0 = q.2.1 in
+      (p.0 ++ q.0, Consumes-trans r r' r2 p.0 q.0 p.1 q.1, (passes_more v v' v2 s s' s2 o o' o2 p.0 q.0 p.2.0 q.2.0, omega (arith, l, a, t)))
 
   -- nothing was read after others
   pub read_on : (v v' v2 : FramerValue) (s s' s2 : S) (o o' o2 : O) (r r' r2 : Option (List ℕ)) → Keeps r' r2 × (v2 ≡ v') × (s2 ≡ s') × (o2 ≡ o') → ReadsOn took v s o v' s' o' r r' → ReadsOn took v s o v2 s2 o2 r r2

@@ -23,8 +23,8 @@ impl Framer {
         requires can { S.can_take sink.old }
         requires room { 0 < length buffer.old }
         requires going { self.old.has_ended ≡ false }
-        ensures whole { IfOk result (λ n. Reads (R.remaining reader.old.inner) (R.remaining reader.new.inner)
-            (λ piece. Passes S.took self.old sink.old out.old self.new sink.new out.new piece × (n ≡ length piece))) }
+        ensures whole { OnOk result (ReadsOn S.took self.old sink.old out.old self.new sink.new out.new
+            (R.remaining reader.old.inner) (R.remaining reader.new.inner)) }
         ensures end { IfOk result (λ n. (n ≡ 0 → IsAtEnd (R.remaining reader.new.inner)) × (self.new.is_ready ≡ true)) }
         ensures taken { IfOk result (λ n. (self.new.taken ≡ self.old.taken + n) × (self.new.taken ≤ self.old.limit)) }
         ensures fault { IfErr result (λ fault. AtFault fault

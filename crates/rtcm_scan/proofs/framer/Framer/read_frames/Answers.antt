@@ -22,3 +22,12 @@ pub returns-in-Err-clause-going : goal.returns-in-Err-clause-going
 returns-in-Err-clause-going g c =
     let still = c.in-Err.ensures.same.ended ∙ c.requires.going in
     at_each c.in-Err.fault _ _ _ _ _ _ (λ e. still) (λ q. still) (λ q. tt) c.in-Err.ensures.fault
+
+pub returns-in-Ok-finish-clause-reader : goal.returns-in-Ok-finish-clause-reader
+returns-in-Ok-finish-clause-reader g c = c.in-Ok.ensures.reader
+
+pub returns-in-Err-finish-clause-reader : goal.returns-in-Err-finish-clause-reader
+returns-in-Err-finish-clause-reader g c = (c.in-Ok.ensures.reader.1, tt, c.in-Ok.ensures.reader.2)
+
+pub returns-in-Err-clause-reader : goal.returns-in-Err-clause-reader
+returns-in-Err-clause-reader g c = c.in-Err.ensures.reader

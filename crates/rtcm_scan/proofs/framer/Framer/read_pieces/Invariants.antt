@@ -1,6 +1,5 @@
-use Rattle.std.proofs.Common.{◌≡◌, ◌+◌, ◌-◌, ◌≤◌, false, length, max}
-use Rattle.rtcm_scan.specs.Examined.{HasExaminedSome}
-use Rattle.rtcm_scan.specs.Passing.{ReadsOn}
+use Rattle.std.proofs.Common.{◌≡◌, ◌+◌, ◌-◌, ◌≤◌, length, max}
+use Rattle.rtcm_scan.specs.Passing.{ReadsOn, IsReadingOn}
 use Rattle.rtcm_scan.proofs.framer.Framer.read_pieces.Given as goal
 
 abbrev pub invariant-loop-fault : goal.invariant-loop-fault
@@ -8,13 +7,9 @@ invariant-loop-fault g l =
     let remaining = g.R.Read.remaining in
     record {
       came : ReadsOn g.S.FrameSink.took l.fn.self l.fn.sink l.fn.out l.self l.sink l.out (remaining l.fn.reader.inner) (remaining l.reader.inner);
-      can : g.S.FrameSink.can_take l.sink;
+      same : IsReadingOn g.S.FrameSink.can_take l.sink l.fn.self l.self (length l.fn.buffer) (length l.buffer);
       sent : g.S.FrameSink.is_sent l.out;
-      going : l.self.has_ended ≡ false;
-      limit : l.self.limit ≡ l.fn.self.limit;
-      some : HasExaminedSome l.fn.self → HasExaminedSome l.self;
       within : l.self.taken ≤ l.fn.self.limit;
-      size : length l.buffer ≡ length l.fn.buffer;
       reader : l.reader.failures ≡ l.fn.reader.failures;
       widest : l.reader.widest ≤ max l.fn.reader.widest (length l.fn.buffer);
     }
