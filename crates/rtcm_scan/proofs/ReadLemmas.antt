@@ -1,17 +1,17 @@
 -- A stream that is read piece by piece.
-use Rattle.std.specs.Prelude.{⊤}
+use Rattle.std.specs.Prelude.{Result, Ok, Err, MatchResult}
 use Rattle.std.proofs.Common.{◌≡◌, ℕ, ◌+◌, ◌-◌, ◌<◌, ◌≤◌, Bool, true, false, List, [], ◌∷◌, ◌++◌, ◌∙◌, ap, sym, refl, arith, length, suc, take, drop, max, append_assoc, append-nil, subst, length-append, Option, true≢false, add-zero}
-use Rattle.std.specs.Io.KnownBytes.{Consumes, Keeps, IsAtEnd}
-use Rattle.std.proofs.KnownBytes.{Consumes-trans, Consumes-nil, Consumes-kept}
+use Rattle.std.specs.Io.KnownBytes.{Consumes, Keeps, IsAtEnd, ReadConsumes}
+use Rattle.std.specs.Io.{ReadsAtMost}
+use Rattle.std.proofs.KnownBytes.{Consumes-trans, Consumes-nil}
 use Rattle.rtcm_scan.specs.Frames.{Framed}
-use Rattle.std.proofs.lemmas.List.{length-drop}
-use Rattle.rtcm_bits.specs.Device.{HasFailed}
+use Rattle.std.proofs.lemmas.List.{length-drop, take-append-le, length-take-le}
 use Rattle.rtcm_bits.specs.FrameOf.{longest_frame}
 use Rattle.rtcm_scan.specs.Decided.{decided}
 use Rattle.rtcm_scan.specs.Drained.{IsDrained}
 use Rattle.rtcm_scan.specs.Known.{known_frames, known_place}
 use Rattle.rtcm_scan.specs.Scan.{FramerValue}
-use Rattle.rtcm_scan.specs.Passing.{Coming, Breaking, HasPassedAll, HasBroken, Passes, Breaks, Continues, BreaksKnown, PassesKnown, PassesToLimit, PassesAll, BreaksAt, BreaksAfter, BreaksReading, Reads, ReadsOn, IsReadingOn, AtFault}
+use Rattle.rtcm_scan.specs.Passing.{HasReadPiece, Coming, Breaking, HasPassedAll, HasBroken, Passes, Breaks, Continues, BreaksKnown, PassesKnown, PassesToLimit, PassesAll, BreaksAfter, BreaksReading, Reads, ReadsOn, IsReadingOn, AtFault}
 use Rattle.rtcm_scan.proofs.PassingLemmas.{prefix_self, passes_sent}
 use Rattle.rtcm_scan.proofs.PrefixLemmas.{decided_near}
 use Rattle.rtcm_scan.specs.declared.feed.StreamFault.{StreamFault}
@@ -23,13 +23,15 @@ at_each Read P Q R P' Q' R' p q r a = p a
 at_each TooLong P Q R P' Q' R' p q r a = q a
 at_each (Sink x) P Q R P' Q' R' p q r a = r a
 
--- a fault of a read after others without failures
-pub fails_after : {F : Type 0} (f : StreamFault F) (n n' m : ℕ) → n' ≡ n → AtFault f (HasFailed n' m) (m ≡ n') (m ≡ n') → AtFault f (HasFailed n m) (m ≡ n) (m ≡ n)
-fails_after f n n' m e = subst (λ (k : ℕ). AtFault f (HasFailed k m) (m ≡ k) (m ≡ k)) e
+-- a fault that is not that of the reader
+pub not_read : {F : Type 0} (f : StreamFault F) (L B P Q : Type 0) → AtFault f ⊥ L B → Q → AtFault f P Q Q
+not_read Read L B P Q a q = absurd a
+not_read TooLong L B P Q a q = q
+not_read (Sink x) L B P Q a q = q
 
 -- one piece after others
-pub reading_more : {S : Type 0} (can : S → Type 0) (s s' : S) (v v' v2 : FramerValue) (n m k : ℕ) → IsReadingOn can s v v' n m → IsReadingOn can s' v' v2 m k → IsReadingOn can s' v v2 n k
-reading_more can s s' v v' v2 n m k i j = record { can = j.can; limit = j.limit ∙ i.limit; ended = j.ended ∙ i.ended; some = λ h. j.some (i.some h); size = j.size ∙ i.size }
+pub reading_more : {S : Type 0} (can : S → Type 0) (s s' : S) (v v' v2 : FramerValue) (n m k l : ℕ) → IsReadingOn can s v v' n m → can s' → Continues v' v2 l → k ≡ m → IsReadingOn can s' v v2 n k
+reading_more can s s' v v' v2 n m k l i c j e = record { can = c; limit = j.limit ∙ i.limit; ended = j.ended ∙ i.ended; some = λ h. j.some (i.some h); size = e ∙ i.size }
 
 take_over : (front piece : List ℕ) (k n : ℕ) → n ≡ length front + k → take n (front ++ piece) ≡ front ++ take k piece
 take_over [] piece k n e = let z : n ≡ k = omega (arith, e) in ap (λ (m : ℕ). take m piece) z
@@ -40,6 +42,20 @@ take_over (x ∷ front) piece k n e =
 limit_after : (limit taken w : ℕ) (front piece : List ℕ) → w ≡ taken + length front → w ≤ limit → front ++ take (limit - w) piece ≡ take (limit - taken) (front ++ piece)
 limit_after limit taken w front piece e le = sym (take_over front piece (limit - w) (limit - taken) (omega (arith, e, le)))
 
+-- what a read of at most `room` bytes to the front of a buffer of `size` bytes gives
+pub read_room : {E : Type 0} (res : Result ℕ E) (v : FramerValue) (r r' : Option (List ℕ)) (size room : ℕ) (buf rest : List ℕ) → ReadConsumes r r' res buf → ReadsAtMost res buf
+    → length buf ≡ room → 0 < room → length v.held + room ≤ max size (length v.held + 1) → MatchResult res (HasReadPiece v r r' size (buf ++ rest)) (λ _. Keeps r r')
+read_room (Ok n) v r r' size room buf rest read most len some near =
+    let few : n ≤ length buf = omega (arith, most) in
+    let all : length (buf ++ rest) ≡ length buf + length rest = length-append buf rest in
+    record {
+      consumes = subst (λ (l : List ℕ). Consumes r r' l) (sym (take-append-le n buf rest few)) read.0;
+      at_end = λ z. read.1 z (omega (arith, len, some));
+      within = omega (arith, few, all);
+      near = omega (arith, few, len, near);
+    }
+read_room (Err e) v r r' size room buf rest read most len some near = read
+
 -- a piece that fits into the buffer beside the held bytes
 near_held : (v : FramerValue) (b : List ℕ) (n most : ℕ) → v.has_ended ≡ false → IsDrained v b (known_frames v.has_ended b) → length v.held + n ≤ max most (length v.held + 1)
     → (length b - decided b) + n ≤ max most longest_frame
@@ -49,15 +65,6 @@ near_held v b n most going d fits =
     omega (arith, e, u, fits)
 
 module _ {S O : Type 0} (took : Coming S O) (broke : Breaking S O) where
-  -- a fault of `feed` is one of the piece that was read
-  pub fault_of_piece : {F : Type 0} (f : StreamFault F) (v v' : FramerValue) (s s' : S) (o o' : O) (r r' : Option (List ℕ)) (piece : List ℕ) (most : ℕ) (none sent : Type 0)
-      → Consumes r r' piece → Continues v v' (length piece) → length piece ≤ most → length v.held + length piece ≤ max most (length v.held + 1)
-      → AtFault f ⊥ (PassesToLimit took v s o v' s' o' piece) (Breaks took broke v s o s' o' piece) → AtFault f sent sent ⊤
-      → AtFault f none (Reads r r' (PassesToLimit took v s o v' s' o') × sent) (Reads r r' (BreaksAt took broke v s o v' s' o' most))
-  fault_of_piece Read v v' s s' o o' r r' piece most none sent read goes few near a k = absurd a
-  fault_of_piece TooLong v v' s s' o o' r r' piece most none sent read goes few near a k = ((piece, read, a), k)
-  fault_of_piece (Sink x) v v' s s' o o' r r' piece most none sent read goes few near a k = (piece, read, record { breaks = a; goes = goes; few = few; near = near })
-
   -- no byte was read, and the output was flushed
   pub reads_none : (v : FramerValue) (s : S) (o o' : O) (r : Option (List ℕ)) → ((s0 : S) (o0 : O) (ps fs : List Framed) → took s0 o0 ps s o fs → took s0 o0 ps s o' fs) → ReadsOn took v s o v s o' r r
   reads_none v s o o' r send = ([], Consumes-nil r, (passes_sent took v v s s o o o' [] send (λ s0 o0 ps b x. subst (λ (l : List ℕ). HasPassedAll took v s0 o0 ps s o l) (sym (append-nil b)) x), sym (add-zero v.taken)))
@@ -74,57 +81,52 @@ module _ {S O : Type 0} (took : Coming S O) (broke : Breaking S O) where
       let t : v2.taken ≡ v'.taken + length q.0 = q.2.1 in
       (p.0 ++ q.0, Consumes-trans r r' r2 p.0 q.0 p.1 q.1, (passes_more v v' v2 s s' s2 o o' o2 p.0 q.0 p.2.0 q.2.0, omega (arith, l, a, t)))
 
-  -- nothing was read after others
-  pub read_on : (v v' v2 : FramerValue) (s s' s2 : S) (o o' o2 : O) (r r' r2 : Option (List ℕ)) → Keeps r' r2 × (v2 ≡ v') × (s2 ≡ s') × (o2 ≡ o') → ReadsOn took v s o v' s' o' r r' → ReadsOn took v s o v2 s2 o2 r r2
-  read_on v v' v2 s s' s2 o o' o2 r r' r2 e p = (
-    p.0,
-    Consumes-kept r r' r2 p.0 p.1 e.0,
-    (
-      λ s0 o0 ps b x. (subst (λ (y : O). HasPassedAll took v2 s0 o0 ps s2 y (b ++ p.0)) (sym e.3) (subst (λ (y : S). HasPassedAll took v2 s0 o0 ps y o' (b ++ p.0)) (sym e.2)
-          (subst (λ (y : FramerValue). HasPassedAll took y s0 o0 ps s' o' (b ++ p.0)) (sym e.1) (p.2.0 s0 o0 ps b x)))),
-      ap (λ (y : FramerValue). y.taken) e.1 ∙ p.2.1,
-    ),
-  )
-
   -- a piece that goes over the limit, after others
-  pub limit_more : (v v' v2 : FramerValue) (s s' s2 : S) (o o' o2 : O) (r r' r2 : Option (List ℕ)) → v'.limit ≡ v.limit → v'.taken ≤ v.limit
-      → ReadsOn took v s o v' s' o' r r' → Reads r' r2 (PassesToLimit took v' s' o' v2 s2 o2) → Reads r r2 (PassesToLimit took v s o v2 s2 o2)
-  limit_more v v' v2 s s' s2 o o' o2 r r' r2 same within p q =
+  limit_more : (v v' v2 : FramerValue) (s s' s2 : S) (o o' o2 : O) (r r' r2 : Option (List ℕ)) → v'.limit ≡ v.limit → v'.taken ≤ v.limit
+      → ReadsOn took v s o v' s' o' r r' → (piece : List ℕ) → Consumes r' r2 piece → PassesToLimit took v' s' o' v2 s2 o2 piece → Reads r r2 (PassesToLimit took v s o v2 s2 o2)
+  limit_more v v' v2 s s' s2 o o' o2 r r' r2 same within p piece read q =
       let front : List ℕ = p.0 in
-      let piece : List ℕ = q.0 in
       let a : v'.taken ≡ v.taken + length front = p.2.1 in
       let l : length (front ++ piece) ≡ length front + length piece = length-append front piece in
-      let over : v'.limit < v'.taken + length piece = q.2.over in
+      let over : v'.limit < v'.taken + length piece = q.over in
       let cut : front ++ take (v'.limit - v'.taken) piece ≡ take (v.limit - v.taken) (front ++ piece) = ap (λ (n : ℕ). front ++ take (n - v'.taken) piece) same ∙ limit_after v.limit v.taken v'.taken front piece a within in (
         front ++ piece,
-        Consumes-trans r r' r2 front piece p.1 q.1,
+        Consumes-trans r r' r2 front piece p.1 read,
         record {
-          passes = subst (λ (l : List ℕ). Passes took v s o v2 s2 o2 l) cut (passes_more v v' v2 s s' s2 o o' o2 front (take (v'.limit - v'.taken) piece) p.2.0 q.2.passes);
-          full = q.2.full ∙ same;
+          passes = subst (λ (l : List ℕ). Passes took v s o v2 s2 o2 l) cut (passes_more v v' v2 s s' s2 o o' o2 front (take (v'.limit - v'.taken) piece) p.2.0 q.passes);
+          full = q.full ∙ same;
           over = omega (arith, l, a, over, same);
         },
       )
 
   -- the sink failed at a piece after others
-  pub breaks_more : (v v' v2 : FramerValue) (s s' s2 : S) (o o' o2 : O) (r r' r2 : Option (List ℕ)) (most size : ℕ) → size ≡ most → v'.has_ended ≡ false → v.has_ended ≡ false
-      → ReadsOn took v s o v' s' o' r r' → Reads r' r2 (BreaksAt took broke v' s' o' v2 s2 o2 size) → BreaksAfter took broke v s o v2 s2 o2 most r r2
-  breaks_more v v' v2 s s' s2 o o' o2 r r' r2 most size same_size after before p q =
-      let few : length q.0 ≤ most = subst (λ (n : ℕ). length q.0 ≤ n) same_size q.2.few in
-      let fits : length v'.held + length q.0 ≤ max most (length v'.held + 1) = subst (λ (n : ℕ). length v'.held + length q.0 ≤ max n (length v'.held + 1)) same_size q.2.near in
-      let least : v'.taken ≤ v2.taken = q.2.goes.least in
-      let greatest : v2.taken ≤ v'.taken + length q.0 = q.2.goes.most in
+  breaks_more : (v v' v2 : FramerValue) (s s' s2 : S) (o o' o2 : O) (r r' r2 : Option (List ℕ)) (most : ℕ) → v'.has_ended ≡ false → v.has_ended ≡ false
+      → ReadsOn took v s o v' s' o' r r' → (piece : List ℕ) → Consumes r' r2 piece → Continues v' v2 (length piece) → length piece ≤ most → length v'.held + length piece ≤ max most (length v'.held + 1)
+      → Breaks took broke v' s' o' s2 o2 piece → BreaksAfter took broke v s o v2 s2 o2 most r r2
+  breaks_more v v' v2 s s' s2 o o' o2 r r' r2 most after before p piece read goes few fits q =
       let taken : v'.taken ≡ v.taken + length p.0 = p.2.1 in
       record {
         front = p.0;
-        piece = q.0;
-        consumes = Consumes-trans r r' r2 p.0 q.0 p.1 q.1;
-        breaks = λ s0 o0 ps b x. (subst (λ (l : List ℕ). HasBroken broke v.has_ended s0 o0 ps s2 o2 (known_frames v.has_ended (b ++ p.0)) l) (append_assoc b p.0 q.0)
-            (subst (λ (e : Bool). HasBroken broke e s0 o0 ps s2 o2 (known_frames e (b ++ p.0)) ((b ++ p.0) ++ q.0)) (after ∙ sym before) (q.2.breaks s0 o0 ps (b ++ p.0) (p.2.0 s0 o0 ps b x))));
-        near = λ s0 o0 ps b x. near_held v' (b ++ p.0) (length q.0) most after (p.2.0 s0 o0 ps b x).drained fits;
+        piece = piece;
+        consumes = Consumes-trans r r' r2 p.0 piece p.1 read;
+        breaks = λ s0 o0 ps b x. (subst (λ (l : List ℕ). HasBroken broke v.has_ended s0 o0 ps s2 o2 (known_frames v.has_ended (b ++ p.0)) l) (append_assoc b p.0 piece)
+            (subst (λ (e : Bool). HasBroken broke e s0 o0 ps s2 o2 (known_frames e (b ++ p.0)) ((b ++ p.0) ++ piece)) (after ∙ sym before) (q s0 o0 ps (b ++ p.0) (p.2.0 s0 o0 ps b x))));
+        near = λ s0 o0 ps b x. near_held v' (b ++ p.0) (length piece) most after (p.2.0 s0 o0 ps b x).drained fits;
         few = few;
-        least = omega (arith, taken, least);
-        greatest = omega (arith, taken, greatest);
+        least = omega (arith, taken, goes.least);
+        greatest = omega (arith, taken, goes.most);
       }
+
+  -- a fault of `feed` at a piece after others
+  pub fault_after : {F : Type 0} (f : StreamFault F) (v v' v2 : FramerValue) (s s' s2 : S) (o o' o2 : O) (r r' r2 : Option (List ℕ)) (most size n : ℕ) (buffer : List ℕ) → v'.limit ≡ v.limit
+      → v'.has_ended ≡ v.has_ended → v.has_ended ≡ false → v'.taken ≤ v.limit → length buffer ≡ size → size ≡ most → ReadsOn took v s o v' s' o' r r' → HasReadPiece v' r' r2 size buffer n
+      → Continues v' v2 (length (take n buffer)) → AtFault f ⊥ (PassesToLimit took v' s' o' v2 s2 o2 (take n buffer)) (Breaks took broke v' s' o' s2 o2 (take n buffer))
+      → AtFault f (ReadsOn took v s o v2 s2 o2 r r2) (Reads r r2 (PassesToLimit took v s o v2 s2 o2)) (BreaksAfter took broke v s o v2 s2 o2 most r r2)
+  fault_after Read v v' v2 s s' s2 o o' o2 r r' r2 most size n buffer limit ended going within len same came read goes a = absurd a
+  fault_after TooLong v v' v2 s s' s2 o o' o2 r r' r2 most size n buffer limit ended going within len same came read goes a = limit_more v v' v2 s s' s2 o o' o2 r r' r2 limit within came (take n buffer) read.consumes a
+  fault_after (Sink x) v v' v2 s s' s2 o o' o2 r r' r2 most size n buffer limit ended going within len same came read goes a =
+      let l : length (take n buffer) ≡ n = length-take-le n buffer read.within in
+      breaks_more v v' v2 s s' s2 o o' o2 r r' r2 most (ended ∙ going) going came (take n buffer) read.consumes goes (omega (arith, l, read.within, len, same)) (omega (arith, l, read.near, same)) a
 
   -- the sink failed before any byte was read
   pub breaks_first : (v : FramerValue) (s : S) (o o' : O) (r : Option (List ℕ)) (most : ℕ) → ((s0 : S) (o0 : O) (ps fs : List Framed) → took s0 o0 ps s o fs → broke s0 o0 ps s o' fs fs)

@@ -122,14 +122,13 @@ abbrev pub PassesAll : {S O : Type 0} → Coming S O → FramerValue → S → O
     → Option (List ℕ) → Type 0
 PassesAll took v s o v' s' o' r r' = Reads r r' (Passes took v s o v' s' o') × IsAtEnd r'
 
--- The sink failed at a piece, which is no longer than a buffer of `most` bytes and fits into it beside the held bytes,
--- if there is room for one.
-pub record BreaksAt {S O : Type 0} (took : Coming S O) (broke : Breaking S O) (v : FramerValue) (s : S) (o : O)
-    (v' : FramerValue) (s' : S) (o' : O) (most : ℕ) (piece : List ℕ) : Type 0 where
-  pub breaks : Breaks took broke v s o s' o' piece
-  pub goes : Continues v v' (length piece)
-  pub few : length piece ≤ most
-  pub near : length v.held + length piece ≤ max most (length v.held + 1)
+-- a piece of n bytes was read to the front of a buffer of `size` bytes, and fits into it beside the held bytes, if there
+-- is room for one
+pub record HasReadPiece (v : FramerValue) (r r' : Option (List ℕ)) (size : ℕ) (buffer : List ℕ) (n : ℕ) : Type 0 where
+  pub consumes : Consumes r r' (take n buffer)
+  pub at_end : n ≡ 0 → IsAtEnd r'
+  pub within : n ≤ length buffer
+  pub near : length v.held + n ≤ max size (length v.held + 1)
 
 -- The bytes read split into some whose frames were passed on and a last piece at which the sink failed. The piece is
 -- no longer than the buffer, and fits into it beside the undecided bytes, if a longest frame fits.

@@ -1,54 +1,31 @@
 //! A stream that is read to its end.
-ghost use Rattle.std.specs.Prelude.{◌≡◌, ◌+◌, ◌≤◌, ◌<◌, ⊤, true, false, length, OnOk, IfOk, IfErr};
+ghost use Rattle.std.specs.Prelude.{◌≡◌, ◌≤◌, ◌<◌, ⊤, true, false, max, length, OnOk, IfErr, MatchResult};
 ghost use Rattle.std.specs.Io.KnownBytes.{Keeps, IsAtEnd};
-ghost use Rattle.rtcm_scan.specs.Passing.{Passes, PassesToLimit, PassesAll, BreaksAt, BreaksAfter, BreaksReading};
-ghost use Rattle.rtcm_scan.specs.Passing.{Reads, ReadsOn, CountsReads, IsReadingOn, AtFault, UnlessBroken};
+ghost use Rattle.rtcm_bits.specs.Device.{failures_after_read, moved};
+ghost use Rattle.rtcm_scan.specs.Passing.{Passes, PassesToLimit, PassesAll, BreaksAfter, BreaksReading};
+ghost use Rattle.rtcm_scan.specs.Passing.{HasReadPiece, Reads, ReadsOn, CountsReads, IsReadingOn, AtFault, UnlessBroken};
 
 use crate::feed::StreamFault;
 use crate::framer::{Frame, Framer};
 use crate::sink::FrameSink;
 use rtcm_bits::Counted;
-use std::io::Read;
+use std::io::{self, Read};
 
 impl Framer {
-    /// Reads a piece of the stream, processes it, and returns its length in bytes, 0 at the end.
-    fn read_piece<R: Read, O, S: FrameSink<O>>(
-        &mut self,
-        reader: &mut Counted<R>,
-        buffer: &mut [u8],
-        frame: &mut Frame,
-        sink: &mut S,
-        out: &mut O,
-    ) -> Result<usize, StreamFault<S::Fault>>
-        requires can { S.can_take sink.old }
-        requires room { 0 < length buffer.old }
-        requires going { self.old.has_ended ≡ false }
-        ensures whole { OnOk result (ReadsOn S.took self.old sink.old out.old self.new sink.new out.new
-            (R.remaining reader.old.inner) (R.remaining reader.new.inner)) }
-        ensures end { IfOk result (λ n. (n ≡ 0 → IsAtEnd (R.remaining reader.new.inner)) × (self.new.is_ready ≡ true)) }
-        ensures taken { IfOk result (λ n. (self.new.taken ≡ self.old.taken + n) × (self.new.taken ≤ self.old.limit)) }
-        ensures fault { IfErr result (λ fault. AtFault fault
-            (Keeps (R.remaining reader.old.inner) (R.remaining reader.new.inner)
-            × (self.new ≡ self.old) × (sink.new ≡ sink.old) × (out.new ≡ out.old))
-            (Reads (R.remaining reader.old.inner) (R.remaining reader.new.inner)
-            (PassesToLimit S.took self.old sink.old out.old self.new sink.new out.new) × S.is_sent out.new)
-            (Reads (R.remaining reader.old.inner) (R.remaining reader.new.inner)
-            (BreaksAt S.took S.broke self.old sink.old out.old self.new sink.new out.new (length buffer.old)))) }
-        ensures sent { OnOk result (S.is_sent out.new) }
-        ensures reader { CountsReads result reader.old reader.new (length buffer.old) }
-        ensures same { IsReadingOn S.can_take sink.new self.old self.new (length buffer.old) (length buffer.new) }
+    /// Reads a piece of the stream that fits into the buffer beside the held bytes, and returns its
+    /// length in bytes, 0 at the end.
+    fn read_piece<R: Read>(&self, reader: &mut Counted<R>, buffer: &mut [u8]) -> io::Result<usize>
+        requires { 0 < length buffer.old }
+        ensures piece { MatchResult result
+            (HasReadPiece self.now (R.remaining reader.old.inner) (R.remaining reader.new.inner)
+            (length buffer.old) buffer.new)
+            (λ _. Keeps (R.remaining reader.old.inner) (R.remaining reader.new.inner)) }
+        ensures failures { reader.new.failures ≡ failures_after_read reader.old.failures (moved result) }
+        ensures widest { reader.new.widest ≤ max reader.old.widest (length buffer.old) }
+        ensures size { length buffer.new ≡ length buffer.old }
     {
-        // The piece fits into the buffer beside the held bytes.
         let room = buffer.len().saturating_sub(self.held()).max(1);
-        let piece = &mut buffer[..room];
-        let n = match reader.read(piece) {
-            Ok(n) => n,
-            Err(_) => return Err(StreamFault::Read),
-        };
-        match self.feed(&piece[..n], frame, sink, out) {
-            Ok(()) => Ok(n),
-            Err(fault) => Err(fault),
-        }
+        reader.read(&mut buffer[..room])
     }
 
     /// Reads to the end of the stream, passes each frame to the sink as soon as it is decided, and
@@ -90,10 +67,15 @@ impl Framer {
             return Err(StreamFault::Sink(fault));
         }
         loop {
-            match self.read_piece(reader, buffer, frame, sink, out) {
-                Ok(0) => return Ok(()),
-                Ok(_) => {}
-                Err(fault) => return Err(fault),
+            let n = match self.read_piece(reader, buffer) {
+                Ok(n) => n,
+                Err(_) => return Err(StreamFault::Read),
+            };
+            if let Err(fault) = self.feed(&buffer[..n], frame, sink, out) {
+                return Err(fault);
+            }
+            if n == 0 {
+                return Ok(());
             }
         }
     }

@@ -2,8 +2,8 @@ use Rattle.std.proofs.Common.{◌≡◌, ◌+◌, ◌-◌, ◌≤◌, length, ma
 use Rattle.rtcm_scan.specs.Passing.{ReadsOn, IsReadingOn}
 use Rattle.rtcm_scan.proofs.framer.Framer.read_pieces.Given as goal
 
-abbrev pub invariant-loop-fault : goal.invariant-loop-fault
-invariant-loop-fault g l =
+abbrev pub invariant-loop-n : goal.invariant-loop-n
+invariant-loop-n g l =
     let remaining = g.R.Read.remaining in
     record {
       came : ReadsOn g.S.FrameSink.took l.fn.self l.fn.sink l.fn.out l.self l.sink l.out (remaining l.fn.reader.inner) (remaining l.reader.inner);
@@ -14,5 +14,5 @@ invariant-loop-fault g l =
       widest : l.reader.widest ≤ max l.fn.reader.widest (length l.fn.buffer);
     }
 
-abbrev pub decreases-loop-fault : goal.decreases-loop-fault
-decreases-loop-fault g l = (l.self.limit + 1) - l.self.taken
+abbrev pub decreases-loop-n : goal.decreases-loop-n
+decreases-loop-n g l = (l.self.limit + 1) - l.self.taken
