@@ -119,12 +119,12 @@ module _ {S O : Type 0} (took : Coming S O) (broke : Breaking S O) where
 
   -- a fault of `feed` at a piece after others
   pub fault_after : {F : Type 0} (f : StreamFault F) (v v' v2 : FramerValue) (s s' s2 : S) (o o' o2 : O) (r r' r2 : Option (List ℕ)) (most size n : ℕ) (buffer : List ℕ) → v'.limit ≡ v.limit
-      → v'.has_ended ≡ v.has_ended → v.has_ended ≡ false → v'.taken ≤ v.limit → length buffer ≡ size → size ≡ most → ReadsOn took v s o v' s' o' r r' → HasReadPiece v' r' r2 size buffer n
+      → v'.has_ended ≡ v.has_ended → v.has_ended ≡ false → length buffer ≡ size → size ≡ most → ReadsOn took v s o v' s' o' r r' → HasReadPiece v' r' r2 size buffer n
       → Continues v' v2 (length (take n buffer)) → AtFault f ⊥ (PassesToLimit took v' s' o' v2 s2 o2 (take n buffer)) (Breaks took broke v' s' o' s2 o2 (take n buffer))
       → AtFault f (ReadsOn took v s o v2 s2 o2 r r2) (Reads r r2 (PassesToLimit took v s o v2 s2 o2)) (BreaksAfter took broke v s o v2 s2 o2 most r r2)
-  fault_after Read v v' v2 s s' s2 o o' o2 r r' r2 most size n buffer limit ended going within len same came read goes a = absurd a
-  fault_after TooLong v v' v2 s s' s2 o o' o2 r r' r2 most size n buffer limit ended going within len same came read goes a = limit_more v v' v2 s s' s2 o o' o2 r r' r2 limit within came (take n buffer) read.consumes a
-  fault_after (Sink x) v v' v2 s s' s2 o o' o2 r r' r2 most size n buffer limit ended going within len same came read goes a =
+  fault_after Read v v' v2 s s' s2 o o' o2 r r' r2 most size n buffer limit ended going len same came read goes a = absurd a
+  fault_after TooLong v v' v2 s s' s2 o o' o2 r r' r2 most size n buffer limit ended going len same came read goes a = limit_more v v' v2 s s' s2 o o' o2 r r' r2 limit (omega (arith, goes.least, goes.within, limit)) came (take n buffer) read.consumes a
+  fault_after (Sink x) v v' v2 s s' s2 o o' o2 r r' r2 most size n buffer limit ended going len same came read goes a =
       let l : length (take n buffer) ≡ n = length-take-le n buffer read.within in
       breaks_more v v' v2 s s' s2 o o' o2 r r' r2 most (ended ∙ going) going came (take n buffer) read.consumes goes (omega (arith, l, read.within, len, same)) (omega (arith, l, read.near, same)) a
 

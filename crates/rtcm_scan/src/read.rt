@@ -61,8 +61,6 @@ impl Framer {
         ensures reader { CountsReads result reader.old reader.new (length buffer.old) }
         ensures same { IsReadingOn S.can_take sink.new self.old self.new (length buffer.old) (length buffer.new) }
     {
-        // Brings the bound on the number of accepted bytes into the proof.
-        let _ = self.taken();
         if let Err(fault) = sink.send(out) {
             return Err(StreamFault::Sink(fault));
         }

@@ -1,4 +1,4 @@
-use Rattle.std.proofs.Common.{◌≡◌, ◌≤◌, ◌∙◌, ap, arith, refl, sym, true≢false, subst, length, take, ℕ}
+use Rattle.std.proofs.Common.{◌≡◌, ◌∙◌, ap, arith, refl, sym, true≢false, length, take}
 use Rattle.std.proofs.lemmas.List.{length-take-le}
 use Rattle.std.proofs.KnownBytes.{Consumes-kept}
 use Rattle.rtcm_bits.specs.Device.{one_more}
@@ -17,7 +17,6 @@ loop-n-init g c = record {
   came = reads_none g.S.FrameSink.took g.S.FrameSink.broke c.args.self.now c.args.sink.now c.args.out.now c.send.new.out (g.R.Read.remaining c.args.reader.now.inner) c.in_default.ensures.whole;
   same = record { can = c.requires.can; limit = refl; ended = refl; some = λ h. h; size = refl };
   sent = c.in_default.ensures.sent;
-  within = subst (λ (n : ℕ). n ≤ c.args.self.now.limit) c.taken.ensures.value c.taken.ensures.within.0;
   reader = refl;
   widest = omega arith;
 }
@@ -42,7 +41,7 @@ pub returns-in-Err-feed-clause-fault : goal.returns-in-Err-feed-clause-fault
 returns-in-Err-feed-clause-fault g c =
     let i = c.loop-n.invariant in
     fault_after g.S.FrameSink.took g.S.FrameSink.broke c.in-Err-feed.fault c.args.self.now c.loop-n.self c.feed.new.self c.args.sink.now c.loop-n.sink c.feed.new.sink c.args.out.now c.loop-n.out c.feed.new.out
-    _ _ _ (length c.args.buffer.now) (length c.loop-n.buffer) c.in-Ok.n c.read_piece.new.buffer i.same.limit i.same.ended c.requires.going i.within c.read_piece.ensures.size i.same.size i.came
+    _ _ _ (length c.args.buffer.now) (length c.loop-n.buffer) c.in-Ok.n c.read_piece.new.buffer i.same.limit i.same.ended c.requires.going c.read_piece.ensures.size i.same.size i.came
     c.in-Ok.ensures.piece c.feed.ensures.same c.in-Err-feed.ensures.fault
 
 pub returns-in-Err-feed-clause-reader : goal.returns-in-Err-feed-clause-reader
@@ -59,7 +58,7 @@ returns-then-n-eq0-clause-whole g c =
     _ _ _ c.loop-n.invariant.came (take c.in-Ok.n c.read_piece.new.buffer, c.in-Ok.ensures.piece.consumes, (c.in_default-feed.ensures.whole, c.in_default-feed.ensures.taken))
 
 pub returns-then-n-eq0-clause-end : goal.returns-then-n-eq0-clause-end
-returns-then-n-eq0-clause-end g c = (c.in-Ok.ensures.piece.at_end c.if-n-eq0.true, c.in_default-feed.ensures.ready)
+returns-then-n-eq0-clause-end g c = (c.in-Ok.ensures.piece.at_end (omega (arith, c.if-n-eq0.true)), c.in_default-feed.ensures.ready)
 
 pub returns-then-n-eq0-clause-reader : goal.returns-then-n-eq0-clause-reader
 returns-then-n-eq0-clause-reader g c =
@@ -82,7 +81,6 @@ loop-n-preserved g c =
           _ _ _ i.came (take c.in-Ok.n c.read_piece.new.buffer, c.in-Ok.ensures.piece.consumes, (c.in_default-feed.ensures.whole, c.in_default-feed.ensures.taken));
       same = reading_more _ _ _ _ _ _ _ _ _ _ i.same c.feed.ensures.goes c.feed.ensures.same c.read_piece.ensures.size;
       sent = c.in_default-feed.ensures.sent;
-      within = omega (arith, c.feed.ensures.same.within, i.same.limit);
       reader = c.in-Ok.ensures.failures ∙ i.reader;
       widest = omega (arith, c.read_piece.ensures.widest, i.widest, i.same.size);
     }

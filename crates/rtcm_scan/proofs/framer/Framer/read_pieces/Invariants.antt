@@ -9,7 +9,6 @@ invariant-loop-n g l =
       came : ReadsOn g.S.FrameSink.took l.fn.self l.fn.sink l.fn.out l.self l.sink l.out (remaining l.fn.reader.inner) (remaining l.reader.inner);
       same : IsReadingOn g.S.FrameSink.can_take l.sink l.fn.self l.self (length l.fn.buffer) (length l.buffer);
       sent : g.S.FrameSink.is_sent l.out;
-      within : l.self.taken ≤ l.fn.self.limit;
       reader : l.reader.failures ≡ l.fn.reader.failures;
       widest : l.reader.widest ≤ max l.fn.reader.widest (length l.fn.buffer);
     }
