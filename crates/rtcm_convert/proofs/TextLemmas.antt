@@ -132,6 +132,19 @@ so_far-all stay s fs more =
     text-more s (closed_epochs s.gather (messages_of fs)) (all_epochs s.gather (messages_of (fs ++ more)))
     (rw filter_map-append (stay s.gather (messages_of fs) (messages_of more)))
 
+-- the text before an epoch: the header
+pub opening_first : (P : List ℕ → Type 0) (t : HeaderLists) (p q : PlanValue) (n : Option StationValues) (e : EpochValue) (v w : StationValues) (k : ℕ)
+    → n ≡ None → q ≡ p → w ≡ v → k ≡ e.time → P (header_text t q w k) → P (opening t p n e v)
+opening_first P t p q n e v w k none plan values time x =
+    subst (λ (o : Option StationValues). P (opening t p o e v)) (sym none) (rw (← plan, ← values, ← time) x)
+
+-- the same: an event, or nothing
+pub opening_later : (P : List ℕ → Type 0) (t : HeaderLists) (p : PlanValue) (n : Option StationValues) (e : EpochValue) (v before w : StationValues) (b : Bool)
+    → n ≡ Some before → w ≡ v → same_values before w ≡ b → P (if b then [] else event_text w) → P (opening t p n e v)
+opening_later P t p n e v before w b last values same x =
+    subst (λ (o : Option StationValues). P (opening t p o e v)) (sym last) (subst (λ (u : StationValues). P (change_text before u)) values
+    (subst (λ (s : Bool). P (if s then [] else event_text w)) (sym same) x))
+
 -- what an epoch with a satellite adds
 added_is : (t : HeaderLists) (p : PlanValue) (n : Option StationValues) (o : Option EpochValue) (e : EpochValue) (v : StationValues) → Some e ≡ o → nat_lt 0 (satellites_written e) ≡ true
     → added t p n o v ≡ opening t p n e v ++ epoch_text p e

@@ -1,7 +1,7 @@
 //! From frames to the bytes of a file.
 ghost use Rattle.std.specs.Prelude.{◌≡◌, ◌↔◌, [], false, true, Err, OnOk, OnErr, IfOk, IfErr};
 ghost use Rattle.std.specs.Io.KnownBytes.{Appends};
-ghost use Rattle.rtcm_bits.specs.Device.{AppendsPrefix};
+ghost use Rattle.rtcm_bits.specs.Device.{AppendsPrefix, FailsWith};
 ghost use Rattle.rtcm_scan.specs.Results.{framed};
 ghost use Rattle.rtcm_msg.specs.Viewed.{viewed_message};
 ghost use Rattle.obs_epoch.specs.Heard.{heard};
@@ -16,7 +16,7 @@ use crate::fault::Fault;
 use crate::setup::Setup;
 use crate::tally::Tally;
 use obs_epoch::{Epoch, Gatherer, Kind, PlanFault, StationValues};
-use rinex_file::{Head, HeaderTexts, write_epoch, write_event, write_header};
+use rinex_file::{Head, HeadFault, HeaderTexts, write_epoch, write_event, write_header};
 use rtcm_bits::Counted;
 use rtcm_msg::{View, look};
 use rtcm_scan::Frame;
@@ -71,38 +71,43 @@ impl FileWriter {
 
     /// Writes the header if the file has no epoch, or else an event if the epoch's station values
     /// differ from those written last.
-    fn open<W: Write>(&self, epoch: &Epoch, writer: &mut Counted<W>) -> Result<(), Fault>
+    fn open<W: Write>(&self, epoch: &Epoch, writer: &mut Counted<W>) -> Result<(), HeadFault>
         ensures whole { OnOk result
             (Appends (W.contents writer.old.inner) (W.contents writer.new.inner) (opening_of self.now epoch.now)) }
         ensures part { OnErr result
             (AppendsPrefix (W.contents writer.old.inner) (W.contents writer.new.inner)
             (opening_of self.now epoch.now)) }
-        ensures device { FailsToWrite result writer.old writer.new }
+        ensures device { FailsWith result writer.old writer.new }
     {
         let values = epoch.station_values();
-        if let Some(before) = self.values {
-            if before.is_same(values) {
-                return Ok(());
+        match self.values {
+            None => {
+                let head = Head {
+                    texts: &self.texts,
+                    plan: self.gatherer.plan(),
+                    values,
+                    first: epoch.time(),
+                };
+                write_header(&head, writer)
             }
-            return Ok(write_event(values, writer)?);
+            Some(before) => {
+                if before.is_same(values) {
+                    Ok(())
+                } else {
+                    write_event(values, writer)
+                }
+            }
         }
-        let head = Head {
-            texts: &self.texts,
-            plan: self.gatherer.plan(),
-            values,
-            first: epoch.time(),
-        };
-        Ok(write_header(&head, writer)?)
     }
 
     /// Writes the epoch that the gatherer closed last, if a satellite in it has a value, after the
     /// header or the event that it needs.
-    fn write_closed<W: Write>(&mut self, writer: &mut Counted<W>) -> Result<(), Fault>
+    fn write_closed<W: Write>(&mut self, writer: &mut Counted<W>) -> Result<(), HeadFault>
         ensures whole { OnOk result
             (Appends (W.contents writer.old.inner) (W.contents writer.new.inner) (added_by self.old)) }
         ensures part { OnErr result
             (AppendsPrefix (W.contents writer.old.inner) (W.contents writer.new.inner) (added_by self.old)) }
-        ensures device { FailsToWrite result writer.old writer.new }
+        ensures device { FailsWith result writer.old writer.new }
         ensures now { OnOk result (HasCountedClosed self.old self.new) }
         ensures same { (self.new.gatherer ≡ self.old.gatherer) × (self.new.texts ≡ self.old.texts)
             × (self.new.tally ≡ self.old.tally) }

@@ -1,23 +1,32 @@
-use Rattle.std.proofs.Common.{rules, sym, subst, Option, Some}
+use Rattle.std.proofs.Common.{◌∙◌, List, ℕ, sym}
+use Rattle.std.specs.Prelude.{OnErr, OnOk}
+use Rattle.std.specs.Io.KnownBytes.{Appends}
+use Rattle.std.proofs.KnownBytes.{Appends-nil}
 use Rattle.rtcm_bits.specs.Device.{AppendsPrefix}
-use Rattle.obs_epoch.specs.declared.cell.StationValues.{StationValues}
-use Rattle.obs_epoch.specs.Gathering.{plan_in}
-use Rattle.rtcm_convert.specs.Filed.{opening}
-use Rattle.rtcm_convert.proofs.PartLemmas.{on_err}
+use Rattle.rtcm_convert.proofs.TextLemmas.{opening_first, opening_later}
 use Rattle.rtcm_convert.proofs.file_writer.FileWriter.open.Goals as goal
 
-pub returns-in_err-write_event-clause-part : goal.returns-in_err-write_event-clause-part
-returns-in_err-write_event-clause-part g c =
-    let a = g.W.Write.contents c.args.writer.now.inner in
-    let b = g.W.Write.contents c.write_event.new.writer.inner in
-    let f = c.args.self.now in
-    let e = c.args.epoch.now in
-    on_err _ _ (subst (λ (o : Option StationValues). AppendsPrefix a b (opening f.texts (plan_in f.gatherer) o e.epoch e.values)) (sym c.in-Some.is)
-    (subst (λ (w : StationValues). AppendsPrefix a b (opening f.texts (plan_in f.gatherer) (Some c.in-Some.before) e.epoch w)) c.station_values-values.ensures (search rules)))
+pub returns-in-None-clause-whole : goal.returns-in-None-clause-whole
+returns-in-None-clause-whole g c =
+    opening_first (λ (l : List ℕ). OnOk c.write_header.result (Appends (g.W.Write.contents c.args.writer.now.inner) (g.W.Write.contents c.write_header.new.writer.inner) l))
+    _ _ _ _ c.args.epoch.now.epoch _ _ _ c.in-None.is c.plan.ensures c.station_values-values.ensures c.time.ensures c.write_header.ensures.whole
 
-pub returns-in_err-write_header-clause-part : goal.returns-in_err-write_header-clause-part
-returns-in_err-write_header-clause-part g c =
-    let contents = g.W.Write.contents in
-    let f = c.args.self.now in
-    let e = c.args.epoch.now in
-    on_err c.from_residual-in_err-write_header.result (AppendsPrefix (contents c.args.writer.now.inner) (contents c.write_header.new.writer.inner) (opening f.texts (plan_in f.gatherer) f.values e.epoch e.values)) (search rules)
+pub returns-in-None-clause-part : goal.returns-in-None-clause-part
+returns-in-None-clause-part g c =
+    opening_first (λ (l : List ℕ). OnErr c.write_header.result (AppendsPrefix (g.W.Write.contents c.args.writer.now.inner) (g.W.Write.contents c.write_header.new.writer.inner) l))
+    _ _ _ _ c.args.epoch.now.epoch _ _ _ c.in-None.is c.plan.ensures c.station_values-values.ensures c.time.ensures c.write_header.ensures.part
+
+pub returns-then-is_same-clause-whole : goal.returns-then-is_same-clause-whole
+returns-then-is_same-clause-whole g c =
+    let a = g.W.Write.contents c.args.writer.now.inner in
+    opening_later (Appends a a) _ _ _ c.args.epoch.now.epoch _ _ _ _ c.in-Some.is c.station_values-values.ensures (sym c.is_same.ensures.value ∙ c.if-is_same.true) (Appends-nil a)
+
+pub returns-else-is_same-clause-whole : goal.returns-else-is_same-clause-whole
+returns-else-is_same-clause-whole g c =
+    opening_later (λ (l : List ℕ). OnOk c.write_event.result (Appends (g.W.Write.contents c.args.writer.now.inner) (g.W.Write.contents c.write_event.new.writer.inner) l))
+    _ _ _ c.args.epoch.now.epoch _ _ _ _ c.in-Some.is c.station_values-values.ensures (sym c.is_same.ensures.value ∙ c.if-is_same.false) c.write_event.ensures.whole
+
+pub returns-else-is_same-clause-part : goal.returns-else-is_same-clause-part
+returns-else-is_same-clause-part g c =
+    opening_later (λ (l : List ℕ). OnErr c.write_event.result (AppendsPrefix (g.W.Write.contents c.args.writer.now.inner) (g.W.Write.contents c.write_event.new.writer.inner) l))
+    _ _ _ c.args.epoch.now.epoch _ _ _ _ c.in-Some.is c.station_values-values.ensures (sym c.is_same.ensures.value ∙ c.if-is_same.false) c.write_event.ensures.part
