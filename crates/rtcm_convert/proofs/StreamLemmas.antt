@@ -1,5 +1,5 @@
 -- The file writer as a sink of frames, and a piece of a stream.
-use Rattle.std.proofs.Common.{◌≡◌, ℕ, List, [], ◌∷◌, ◌++◌, ◌+◌, ◌-◌, ◌≤◌, Bool, false, refl, sym, ap, subst, suc, arith, length, take, ◌∙◌, Option, Result, Ok, Err, OnOk}
+use Rattle.std.proofs.Common.{◌≡◌, ℕ, List, [], ◌∷◌, ◌++◌, ◌+◌, ◌-◌, ◌≤◌, Bool, false, refl, sym, ap, subst, suc, arith, length, take, ◌∙◌, Option}
 use Rattle.std.specs.Io.KnownBytes.{Keeps}
 use Rattle.rtcm_bits.specs.Device.{Device, HasFailed}
 use Rattle.rtcm_bits.specs.Prefix.{IsPrefix}
@@ -16,10 +16,6 @@ use Rattle.rtcm_convert.specs.Stream.{Drained, HasDrained, HasDrainedSome, Files
 use Rattle.rtcm_convert.specs.declared.file_writer.FileWriter.{FileWriter}
 use Rattle.rtcm_convert.proofs.PartLemmas.{goes_on-refl, goes_on-trans, goes_on-kept, goes_on-front, breaks_off-before, up_to_whole}
 
-pub ok_both : {T E : Type 0} (r : Result T E) (A B P : Type 0) → (A → B → P) → OnOk r A → OnOk r B → OnOk r P
-ok_both (Ok k) A B P f a b = f a b
-ok_both (Err e) A B P f a b = tt
-
 pub so_far-front : FiledGrows → (s : SetupValue) (fs gs : List Framed) → IsPrefix fs gs → IsPrefix (so_far s fs) (so_far s gs)
 so_far-front grows s fs gs p = subst (λ (l : List Framed). IsPrefix (so_far s fs) (so_far s l)) (sym p.1) (grows s fs p.0)
 
@@ -28,17 +24,17 @@ module _ {W : Type 0} (c : W → Option (List ℕ)) where
   files_self w o ps = record { fine = refl; widest = refl; files = λ s x. (x, goes_on-refl (c o.inner) (so_far s ps)) }
 
   -- one more frame
-  pub files_more : (v0 v v' : FileWriter) (o0 o o' : Device W) (ps fs : List Framed) (f : Framed) → TakesFrame v v' f (c o.inner) (c o'.inner) → o'.failures ≡ o.failures → o'.widest ≡ o.widest
-      → Files c v0 o0 ps v o fs → Files c v0 o0 ps v' o' (fs ++ f ∷ [])
-  files_more v0 v v' o0 o o' ps fs f t fine widest x = record {
+  pub files_more : (v v' : FileWriter) (o o' : Device W) (f : Framed) → TakesFrame v v' f (c o.inner) (c o'.inner) → o'.failures ≡ o.failures → o'.widest ≡ o.widest
+      → (v0 : FileWriter) (o0 : Device W) (ps fs : List Framed) → Files c v0 o0 ps v o fs → Files c v0 o0 ps v' o' (fs ++ f ∷ [])
+  files_more v v' o o' f t fine widest v0 o0 ps fs x = record {
     fine = fine ∙ x.fine;
     widest = widest ∙ x.widest;
     files = λ s y. (let p = x.files s y in let q = t s fs p.0 in (q.0, goes_on-trans (c o0.inner) (c o.inner) (c o'.inner) _ _ _ p.1 q.1));
   }
 
-  pub files_part : (v0 v v' : FileWriter) (o0 o o' : Device W) (ps fs : List Framed) (f : Framed) → BreaksInFrame v f (c o.inner) (c o'.inner) → HasFailed o.failures o'.failures → o'.widest ≡ o.widest
-      → Files c v0 o0 ps v o fs → BreaksFiling c v0 o0 ps v' o' fs (fs ++ f ∷ [])
-  files_part v0 v v' o0 o o' ps fs f t failed widest x = record {
+  pub files_part : (v v' : FileWriter) (o o' : Device W) (f : Framed) → BreaksInFrame v f (c o.inner) (c o'.inner) → HasFailed o.failures o'.failures → o'.widest ≡ o.widest
+      → (v0 : FileWriter) (o0 : Device W) (ps fs : List Framed) → Files c v0 o0 ps v o fs → BreaksFiling c v0 o0 ps v' o' fs (fs ++ f ∷ [])
+  files_part v v' o o' f t failed widest v0 o0 ps fs x = record {
     failed = subst (λ (n : ℕ). HasFailed n o'.failures) x.fine failed;
     widest = widest ∙ x.widest;
     part = λ s y. (let p = x.files s y in record { mid = c o.inner; before = p.1; last = t s fs p.0 });

@@ -2,7 +2,6 @@
 ghost use Rattle.std.specs.Prelude.{◌≡◌, ◌↔◌, [], false, true, Err, OnOk, OnErr, IfOk, IfErr};
 ghost use Rattle.std.specs.Io.KnownBytes.{Appends};
 ghost use Rattle.rtcm_bits.specs.Device.{AppendsPrefix, FailsWith};
-ghost use Rattle.rtcm_scan.specs.Results.{framed};
 ghost use Rattle.rtcm_msg.specs.Viewed.{viewed_message};
 ghost use Rattle.obs_epoch.specs.Heard.{heard};
 ghost use Rattle.rtcm_convert.specs.Faults.{FailsToWrite, IsSetupFault};
@@ -10,7 +9,7 @@ ghost use Rattle.rtcm_convert.specs.SetupValues.{setup_value_at, IsBadStart};
 ghost use Rattle.rtcm_convert.specs.Filed.{HasFiledFrames, opening_of, added_by, HasCountedClosed};
 ghost use Rattle.rtcm_convert.specs.Steps.{IsCloseFirst, IsFinalKind, WritesFirst, TakesMessage, IsTakenAgain};
 ghost use Rattle.rtcm_convert.specs.Steps.{IsKindOf, BreaksInMessage, TakesNext, IsKindOfNext, BreaksInNext};
-ghost use Rattle.rtcm_convert.specs.Steps.{TakesFrame, BreaksInFrame, EndsFile, BreaksInRest};
+ghost use Rattle.rtcm_convert.specs.Steps.{EndsFile, BreaksInRest};
 
 use crate::fault::Fault;
 use crate::setup::Setup;
@@ -18,8 +17,7 @@ use crate::tally::Tally;
 use obs_epoch::{Epoch, Gatherer, Kind, PlanFault, StationValues};
 use rinex_file::{Head, HeadFault, HeaderTexts, write_epoch, write_event, write_header};
 use rtcm_bits::Counted;
-use rtcm_msg::{View, look};
-use rtcm_scan::Frame;
+use rtcm_msg::View;
 use std::alloc::Global;
 use std::io::Write;
 
@@ -153,7 +151,11 @@ impl FileWriter {
     }
 
     /// Gathers a message: if the gatherer closes an epoch first, it is passed again.
-    fn take<W: Write>(&mut self, message: &View<'_>, writer: &mut Counted<W>) -> Result<Kind, Fault>
+    pub(crate) fn take_message<W: Write>(
+        &mut self,
+        message: &View<'_>,
+        writer: &mut Counted<W>,
+    ) -> Result<Kind, Fault>
         requires { self.old.gatherer.has_ended ≡ false }
         ensures whole { OnOk result
             (TakesNext self.old self.new (heard (viewed_message message.now)) (W.contents writer.old.inner)
@@ -171,34 +173,6 @@ impl FileWriter {
             return Ok(kind);
         }
         self.step(message, writer)
-    }
-
-    /// Processes a frame.
-    pub(crate) fn take_frame<W: Write>(
-        &mut self,
-        frame: &Frame,
-        writer: &mut Counted<W>,
-    ) -> Result<(), Fault>
-        requires { self.old.gatherer.has_ended ≡ false }
-        ensures whole { OnOk result
-            (TakesFrame self.old self.new (framed frame.now) (W.contents writer.old.inner)
-            (W.contents writer.new.inner)) }
-        ensures part { OnErr result
-            (BreaksInFrame self.old (framed frame.now) (W.contents writer.old.inner) (W.contents writer.new.inner)) }
-        ensures device { FailsToWrite result writer.old writer.new }
-        ensures ended { self.new.gatherer.has_ended ≡ false }
-    {
-        match look(&frame.message) {
-            Err(_) => {
-                self.tally.count(None);
-                Ok(())
-            }
-            Ok(message) => {
-                let kind = self.take(&message, writer)?;
-                self.tally.count(Some(kind));
-                Ok(())
-            }
-        }
     }
 
     /// Writes the rest of the file, and flushes it.

@@ -8,6 +8,7 @@ use crate::fault::Fault;
 use crate::file_writer::FileWriter;
 use crate::laws;
 use rtcm_bits::Counted;
+use rtcm_msg::look;
 use rtcm_scan::{Frame, FrameSink, Framer};
 use std::io::Write;
 
@@ -23,7 +24,17 @@ impl<W: Write> FrameSink<Counted<W>> for FileWriter {
     ghost broke = { BreaksFiling W.contents };
 
     fn take(&mut self, frame: &Frame, out: &mut Counted<W>) -> Result<(), Fault> {
-        self.take_frame(frame, out)
+        match look(&frame.message) {
+            Err(_) => {
+                self.tally.count(None);
+                Ok(())
+            }
+            Ok(message) => {
+                let kind = self.take_message(&message, out)?;
+                self.tally.count(Some(kind));
+                Ok(())
+            }
+        }
     }
 
     fn send(&self, out: &mut Counted<W>) -> Result<(), Fault> {

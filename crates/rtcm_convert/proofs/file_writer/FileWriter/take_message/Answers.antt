@@ -5,7 +5,7 @@ use Rattle.rtcm_msg.specs.Viewed.{viewed_message}
 use Rattle.obs_epoch.specs.Gathering.{closed_epochs}
 use Rattle.rtcm_convert.proofs.PartLemmas.{on_err}
 use Rattle.rtcm_convert.proofs.TakeLemmas.{settle, taken_again, kind_again, part_alone, part_again}
-use Rattle.rtcm_convert.proofs.file_writer.FileWriter.take.Goals as goal
+use Rattle.rtcm_convert.proofs.file_writer.FileWriter.take_message.Goals as goal
 
 pub returns-in_err-kind-clause-part : goal.returns-in_err-kind-clause-part
 returns-in_err-kind-clause-part g c = on_err _ _ (part_alone c.args.self.now (heard (viewed_message c.args.message.now)) _ _ c.in_err-kind.ensures.part)
