@@ -98,22 +98,12 @@ plain a (r ∷ rs) = plain (with_rule a r) rs
 pub plain_given : (row : CommandRow) → (command_set row).top.is_plain ≡ true
 plain_given row = plain (new_app row.name.now) (map option_set row.options.now)
 
--- one more command with these properties
-pub with_command : {E : Type 0} (old sub new : Result Command E) (P Q R : App → Type 0) → AddsCommand old sub new → IfOk old (λ c. P (app_of c)) → IfOk sub (λ c. Q (app_of c))
-    → ((a below : App) → P a → Q below → (below.top.is_plain ≡ true) × R (with_subcommand a below.top)) → IfOk new (λ c. R (app_of c))
-with_command old sub (Err e) P Q R added was is so = tt
-with_command old sub (Ok new) P Q R (command, below, same, so_below, added) was is so =
-    let p : P (app_of command) = subst (λ c. IfOk c (λ c. P (app_of c))) same was in
-    let q : Q (app_of below) = subst (λ c. IfOk c (λ c. Q (app_of c))) so_below is in
-    let both = so (app_of command) (app_of below) p q in
-    subst R (sym (added.shape (has_local below (app_of below) refl both.0))) both.1
-
--- one more command whose definition is known
-pub with_known : {E : Type 0} (old sub new : Result Command E) (app below : App) → AddsCommand old sub new → Reads old app → Reads sub below → below.top.is_plain ≡ true
+-- one more command
+pub with_command : {E : Type 0} (old new : Result Command E) (app below : App) → AddsCommand old below new → Reads old app → below.top.is_plain ≡ true
     → Reads new (with_subcommand app below.top)
-with_known old sub new app below added was is plain =
-    with_command old sub new (λ a. a ≡ app) (λ b. b ≡ below) (λ c. c ≡ with_subcommand app below.top) added was is
-    (λ a b p q. (ap (λ (x : App). x.top.is_plain) q ∙ plain, ap₂ with_subcommand p (ap (λ (x : App). x.top) q)))
+with_command old (Err e) app below added was plain = tt
+with_command old (Ok new) app below (command, sub, same, is, added) was plain =
+    added.shape (has_local sub below is plain) ∙ ap₂ with_subcommand (subst (λ c. Reads c app) same was) (ap (λ (x : App). x.top) is)
 
 -- clap's definitions read the words by these commands and options
 pub is_read : (names : Bor (List (Bor Text))) → is_simple_and_free (program names) ≡ true

@@ -3,7 +3,7 @@
 use Rattle.std.specs.Prelude.{◌≡◌, ◌⊎◌, pos, true, List, [], ◌∷◌, map, fold, codes, Some, Result, Ok, IfOk}
 use Rattle.std.specs.Borrow.{Bor}
 use Rattle.clap.specs.Walk.{Row, Rule, Text, rule_of}
-use Rattle.clap.specs.Simple.{App, new_app, new_rule, on_top, subcommand_of, subcommand_rows_of, with_rule}
+use Rattle.clap.specs.Simple.{App, app_of, new_app, new_rule, on_top, subcommand_of, subcommand_rows_of, with_rule}
 use Rattle.clap.specs.Simple.{with_subcommand}
 use Rattle.clap.specs.Built.{AddsArg, AddsSubcommand}
 use Rattle.clap.specs.Faults.{fault_of}
@@ -142,9 +142,10 @@ AddsOption old rule new =
     (λ made. (command : Command) × (option : Arg) × (old ≡ Ok command) × (rule_of option ≡ rule)
     × AddsArg command option made)
 
-abbrev pub AddsCommand : {E : Type 0} → (old below new : Result Command E) → Type 0
+abbrev pub AddsCommand : {E : Type 0} → Result Command E → App → Result Command E → Type 0
 AddsCommand old below new =
-    IfOk new (λ made. (command sub : Command) × (old ≡ Ok command) × (below ≡ Ok sub) × AddsSubcommand command sub made)
+    IfOk new
+    (λ made. (command sub : Command) × (old ≡ Ok command) × (app_of sub ≡ below) × AddsSubcommand command sub made)
 
 -- the names of the program's commands
 abbrev pub IsCommand : Text → Type 0

@@ -46,7 +46,7 @@ fn with_commands<'a>(
 {
     let mut program = Ok(program);
     for row in rows {
-        program = with_command(program, command(alloc, row));
+        program = with_command(alloc, program, row);
     }
     program
 }
@@ -82,24 +82,13 @@ fn with_options<'a>(
 
 /// Returns the program with one more command.
 fn with_command<'a>(
+    alloc: Global,
     program: Result<Command<'a>, AllocError>,
-    command: Result<Command<'a>, AllocError>,
+    row: &CommandRow<'a>,
 ) -> Result<Command<'a>, AllocError>
-    ensures { line.AddsCommand program.entry command.entry result }
+    ensures { line.AddsCommand program.entry (command_set row.now) result }
 {
-    match command {
-        Ok(command) => match program {
-            Ok(program) => program.subcommand(command),
-            Err(failed) => {
-                drop(command);
-                Err(failed)
-            }
-        },
-        Err(failed) => {
-            drop(program);
-            Err(failed)
-        }
-    }
+    program?.subcommand(command(alloc, row)?)
 }
 
 /// Returns a command with one more option.
