@@ -1,5 +1,5 @@
 -- A command after an option or a command is added.
-use Rattle.std.proofs.Common.{◌≡◌, ◌+◌, ◌<◌, ◌&&◌, ◌∷◌, [], ℕ, Bool, Result, Ok, Err, IfOk, IfErr, List, Option, Some, true, false, not, is_some, length, map, take, get_or, inl, inr, refl, sym, subst, ap, ap₂, ◌∙◌}
+use Rattle.std.proofs.Common.{◌≡◌, ◌+◌, ◌<◌, ◌&&◌, ◌∷◌, [], ℕ, Bool, Result, Ok, Err, IfOk, IfErr, List, Option, Some, None, true, false, not, is_some, length, map, take, get_or, inl, inr, refl, sym, subst, ap, ap₂, ◌∙◌}
 use Rattle.std.proofs.lemmas.List.{map_more}
 use Rattle.std.proofs.lemmas.List.Sums.{fold-append}
 use Rattle.clap.specs.Walk.{Rule, Text, is_empty, rule_of}
@@ -11,9 +11,7 @@ use Rattle.clap.specs.declared.error.Error.{Error}
 use Rattle.std.specs.Borrow.{Bor}
 use Rattle.rtcm2rinex.specs.declared.commands.CommandRow.{CommandRow}
 use Rattle.rtcm2rinex.specs.declared.commands.OptionRow.{OptionRow}
-use Rattle.rtcm2rinex.specs.declared.commands.ValueKind.{ValueKind}
-use Rattle.rtcm2rinex.specs.declared.commands.ValueKind.TheVariants.{Given, Or, Among, Week, Station, Bytes}
-use Rattle.rtcm2rinex.specs.CommandLine.{AddsCommand, AddsOption, FailsParsing, RefusesWords, command_set, option, option_set, program, of_kind, with_commands, with_options}
+use Rattle.rtcm2rinex.specs.CommandLine.{AddsCommand, AddsOption, FailsParsing, RefusesWords, command_set, option_set, program, with_commands, with_options}
 use Rattle.clap.specs.Values.{kind_of}
 use Rattle.clap.specs.declared.error.kind.ErrorKind.TheVariants as kind
 use Rattle.clap.specs.declared.builder.arg.Arg.{Arg}
@@ -72,22 +70,9 @@ with_option old (Err e) app r added was simple = tt
 with_option old (Ok new) app r (command, a, same, is, added) was simple =
     added.shape (local a r is simple) ∙ ap₂ with_rule (subst (λ c. Reads c app) same was) is
 
-simple : (name : Text) (kind : ValueKind) → (of_kind kind (option name)).is_simple ≡ true
-unfolding of_kind
-simple name Given = refl
-simple name (Or default) = refl
-simple name (Among words default) = refl
-simple name Week = refl
-simple name Station = refl
-simple name Bytes = refl
-
--- an option whose kind is known
-pub kind_given : (kind known : ValueKind) (a b : Rule) → kind ≡ known → b ≡ of_kind known a → b ≡ of_kind kind a
-kind_given kind known a b is so = so ∙ ap (λ (k : ValueKind). of_kind k a) (sym is)
-
 -- an option of a row is read by clap's definitions
 pub simple_given : (row : OptionRow) → (option_set row).is_simple ≡ true
-simple_given row = simple row.name.now row.kind
+simple_given row = refl
 
 -- the options of a command don't change the command itself
 pub plain : (a : App) (rs : List Rule) → (with_options a rs).top.is_plain ≡ a.top.is_plain
@@ -123,7 +108,7 @@ nothing = record { ref_ptr = (0, 0); now = [] }
 
 -- the row after the last one
 abbrev pub no_option : OptionRow
-no_option = record { name = nothing; value = nothing; help = nothing; kind = Given }
+no_option = record { name = nothing; value = nothing; required = false; defaults = record { ref_ptr = (0, 0); now = [] }; parser = None; help = nothing }
 
 abbrev pub no_command : CommandRow
 no_command = record { name = nothing; about = nothing; examples = nothing; options = record { ref_ptr = (0, 0); now = [] } }

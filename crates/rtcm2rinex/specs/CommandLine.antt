@@ -20,8 +20,6 @@ use Rattle.clap.specs.declared.builder.value_parser.ValueParser.{ValueParser}
 use Rattle.clap.specs.declared.builder.value_parser.ValueParser.TheVariants as value
 use Rattle.rtcm2rinex.specs.declared.commands.CommandRow.{CommandRow}
 use Rattle.rtcm2rinex.specs.declared.commands.OptionRow.{OptionRow}
-use Rattle.rtcm2rinex.specs.declared.commands.ValueKind.{ValueKind}
-use Rattle.rtcm2rinex.specs.declared.commands.ValueKind.TheVariants.{Given, Or, Among, Week, Station, Bytes}
 
 -- ---- options
 
@@ -79,18 +77,13 @@ texts =
     ∷ text (codes "observer") ∷ text (codes "agency") ∷ text (codes "rec-number") ∷ text (codes "rec-type")
     ∷ text (codes "rec-version") ∷ text (codes "ant-number") ∷ text (codes "ant-type") ∷ []
 
--- the option with this parser and default of its value
-unfoldable pub of_kind : ValueKind → Rule → Rule
-of_kind Given a = required a
-of_kind (Or default) a = or_else default.now a
-of_kind (Among words default) a = read_by (value.Names words) (or_else default.now a)
-of_kind Week a = read_by (value.Signed (pos 0) (pos 99999)) (required a)
-of_kind Station a = read_by (value.Signed (pos 0) (pos 4095)) a
-of_kind Bytes a = read_by (value.Unsigned 0 281474976710656) (or_else (codes "281474976710656") a)
-
 -- the option of a row
 abbrev pub option_set : OptionRow → Rule
-option_set row = of_kind row.kind (option row.name.now)
+option_set row = record (option row.name.now) {
+  required = row.required;
+  defaults = map (λ s. s.now) row.defaults.now;
+  parser = row.parser;
+}
 
 -- ---- commands
 

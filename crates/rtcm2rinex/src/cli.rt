@@ -5,8 +5,8 @@ ghost use Rattle.clap.specs.Simple.{app_of, new_app};
 ghost use Rattle.rtcm2rinex.specs.CommandLine.{IsFoundIn, IsProgram, RefusesWords, command_set, option_set};
 ghost use Rattle.rtcm2rinex.specs.CommandLine as line;
 
-use crate::commands::{ABOUT, COMMANDS, CommandRow, EXAMPLES, OptionRow, ValueKind};
-use clap::{Arg, ArgAction, ArgMatches, Command, Error, value_parser};
+use crate::commands::{ABOUT, COMMANDS, CommandRow, EXAMPLES, OptionRow};
+use clap::{Arg, ArgAction, ArgMatches, Command, Error};
 use std::alloc::{AllocError, Global};
 
 /// The name, the version, and the kit that it is proved and built with, as `rt version` prints it.
@@ -109,31 +109,23 @@ fn described<'a>(alloc: Global, name: &'a str, about: &'a str, examples: &'a str
     Command::new(alloc, name).about(about).after_help(examples)
 }
 
-/// Returns an option with its help and the parser of its value.
+/// Returns an option with its default and the parser of its value.
 fn option<'a>(alloc: Global, row: &OptionRow<'a>) -> Arg<'a>
     ensures { rule_of result ≡ option_set row.now }
 {
-    let option = Arg::new(alloc, row.name).long(row.name).help(row.help);
-    of_kind(
-        option.action(ArgAction::Set).value_name(row.value),
-        row.kind,
-    )
+    let option = named(alloc, row)
+        .required(row.required)
+        .default_values(row.defaults);
+    match row.parser {
+        Some(parser) => option.value_parser(parser),
+        None => option,
+    }
 }
 
-/// Returns the option with the parser and the default of its value.
-fn of_kind<'a>(option: Arg<'a>, kind: ValueKind<'a>) -> Arg<'a>
-    ensures { rule_of result ≡ line.of_kind kind.entry (rule_of option.entry) }
+/// Returns an option of this name with its help.
+fn named<'a>(alloc: Global, row: &OptionRow<'a>) -> Arg<'a>
+    ensures { rule_of result ≡ line.option row.now.name.now }
 {
-    match kind {
-        ValueKind::Given => option.required(true),
-        ValueKind::Or(without) => option.default_value(without),
-        ValueKind::Among(words, without) => option.default_value(without).value_parser(words),
-        ValueKind::Week => option
-            .required(true)
-            .value_parser(value_parser!(u32).range(0..100_000)),
-        ValueKind::Station => option.value_parser(value_parser!(u16).range(0..4_096)),
-        ValueKind::Bytes => option
-            .default_value("281474976710656")
-            .value_parser(value_parser!(u64).range(0..281_474_976_710_657)),
-    }
+    let option = Arg::new(alloc, row.name).long(row.name).help(row.help);
+    option.action(ArgAction::Set).value_name(row.value)
 }

@@ -1,5 +1,7 @@
 //! The commands and their options, one row each, as listed in the manual page.
 
+use clap::builder::ValueParser;
+
 /// A command.
 #[derive(Clone, Copy)]
 pub struct CommandRow<'a> {
@@ -17,32 +19,25 @@ pub struct OptionRow<'a> {
     pub name: &'a str,
     /// The name of its value in the help text.
     pub value: &'a str,
+    pub required: bool,
+    /// Its value if it isn't given, if there is one.
+    pub defaults: &'a [&'a str],
+    /// What its value has to be; `None` accepts every text.
+    pub parser: Option<ValueParser<'a>>,
     pub help: &'a str,
-    pub kind: ValueKind<'a>,
 }
 
-/// How the value of an option is read, and its default.
-#[derive(Clone, Copy)]
-pub enum ValueKind<'a> {
-    /// A required text.
-    Given,
-    /// A text, with this default.
-    Or(&'a str),
-    /// One of these words, with this default.
-    Among(&'a [&'a str], &'a str),
-    /// A required GPS week, 0 to 99,999.
-    Week,
-    /// An optional reference station (DF003), 0 to 4,095.
-    Station,
-    /// A number of bytes, 0 to 2^48, with the default 2^48.
-    Bytes,
-}
-
-/// An array of options: for each its name, the name of its value in the help text, how the value is
-/// read, and its help.
+/// An array of options: the fields of each in their order.
 macro_rules! option_rows {
-    ($($name:expr, $value:expr, $kind:expr, $help:expr;)*) => {
-        [$(OptionRow { name: $name, value: $value, help: $help, kind: $kind }),*]
+    ($($name:expr, $value:expr, $required:expr, $defaults:expr, $parser:expr, $help:expr;)*) => {
+        [$(OptionRow {
+            name: $name,
+            value: $value,
+            required: $required,
+            defaults: $defaults,
+            parser: $parser,
+            help: $help,
+        }),*]
     };
 }
 
@@ -117,36 +112,41 @@ pub const COMMANDS: [CommandRow<'static>; 6] = [
     },
 ];
 
+/// A reference station (DF003).
+const STATIONS: Option<ValueParser<'static>> = Some(ValueParser::Signed(0, 4_095));
+
 const STATION: [OptionRow<'static>; 1] = option_rows! {
-    "station", "NUMBER", ValueKind::Station,
+    "station", "NUMBER", false, &[], STATIONS,
         "Reference station (DF003) whose messages count; without it those of every station";
 };
 
 const CONVERT: [OptionRow<'static>; 19] = option_rows! {
-    "week", "WEEK", ValueKind::Week,
+    "week", "WEEK", true, &[], Some(ValueParser::Signed(0, 99_999)),
         "GPS week of the first observations, 0 to 99,999, counted on from 1980 without wrapping";
-    "date", "TEXT", ValueKind::Given, "Date of the run, in RINEX's form 'yyyymmdd hhmmss UTC'";
-    "gps", "SIGNALS", ValueKind::Or("all"),
+    "date", "TEXT", true, &[], None, "Date of the run, in RINEX's form 'yyyymmdd hhmmss UTC'";
+    "gps", "SIGNALS", false, &["all"], None,
         "GPS signals in the file's order: all, none, or codes as 1C,2W";
-    "galileo", "SIGNALS", ValueKind::Or("all"),
+    "galileo", "SIGNALS", false, &["all"], None,
         "Galileo signals in the file's order: all, none, or codes as 1C,5Q";
-    "station", "NUMBER", ValueKind::Station,
+    "station", "NUMBER", false, &[], STATIONS,
         "Reference station (DF003) whose messages count; without it those of every station";
-    "position", "X,Y,Z", ValueKind::Or("0,0,0"),
+    "position", "X,Y,Z", false, &["0,0,0"], None,
         "Position in metres until a message 1005 or 1006; write --position=X,Y,Z if X is negative";
-    "antenna-height", "HEIGHT", ValueKind::Or("0"),
+    "antenna-height", "HEIGHT", false, &["0"], None,
         "Antenna height in metres until a message 1006, 0 to 6.5535";
-    "gather", "RULE", ValueKind::Among(&["bit", "time"], "bit"),
+    "gather", "RULE", false, &["bit"], Some(ValueParser::Names(&["bit", "time"])),
         "What closes an epoch: the last message of a set (DF393) or a later time; or time alone";
-    "limit", "BYTES", ValueKind::Bytes, "Most bytes of the stream; a longer one is a fault";
-    "run-by", "TEXT", ValueKind::Or(""), "Who runs the program";
-    "marker", "TEXT", ValueKind::Or(""), "Name of the antenna marker";
-    "marker-type", "TEXT", ValueKind::Or("GEODETIC"), "Type of the marker";
-    "observer", "TEXT", ValueKind::Or(""), "Name of the observer";
-    "agency", "TEXT", ValueKind::Or(""), "Name of the observer's agency";
-    "rec-number", "TEXT", ValueKind::Or(""), "Serial number of the receiver";
-    "rec-type", "TEXT", ValueKind::Or(""), "Type of the receiver";
-    "rec-version", "TEXT", ValueKind::Or(""), "Version of the receiver's firmware";
-    "ant-number", "TEXT", ValueKind::Or(""), "Serial number of the antenna";
-    "ant-type", "TEXT", ValueKind::Or(""), "Type of the antenna";
+    "limit", "BYTES", false, &["281474976710656"],
+        Some(ValueParser::Unsigned(0, 281_474_976_710_656)),
+        "Most bytes of the stream; a longer one is a fault";
+    "run-by", "TEXT", false, &[""], None, "Who runs the program";
+    "marker", "TEXT", false, &[""], None, "Name of the antenna marker";
+    "marker-type", "TEXT", false, &["GEODETIC"], None, "Type of the marker";
+    "observer", "TEXT", false, &[""], None, "Name of the observer";
+    "agency", "TEXT", false, &[""], None, "Name of the observer's agency";
+    "rec-number", "TEXT", false, &[""], None, "Serial number of the receiver";
+    "rec-type", "TEXT", false, &[""], None, "Type of the receiver";
+    "rec-version", "TEXT", false, &[""], None, "Version of the receiver's firmware";
+    "ant-number", "TEXT", false, &[""], None, "Serial number of the antenna";
+    "ant-type", "TEXT", false, &[""], None, "Type of the antenna";
 };

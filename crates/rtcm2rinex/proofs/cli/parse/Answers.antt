@@ -3,13 +3,11 @@ use Rattle.std.proofs.lemmas.Result.{IfErr-weaker}
 use Rattle.clap.specs.Simple.{app_of}
 use Rattle.clap.specs.Walk.{texts}
 use Rattle.clap.specs.Faults.{is_simple_and_free}
-use Rattle.rtcm2rinex.specs.CommandLine as line
 use Rattle.rtcm2rinex.proofs.CommandLineLemmas.{is_read, why}
 use Rattle.rtcm2rinex.proofs.AcceptedLemmas.{found_command}
 use Rattle.rtcm2rinex.proofs.cli.parse.Goals as goal
 
 pub program-requires : goal.program-requires
-unfolding line.of_kind
 program-requires c = (_, refl, refl)
 
 pub returns : goal.returns
