@@ -1,4 +1,6 @@
-use Rattle.std.proofs.Common.{codes, rules}
+use Rattle.std.proofs.Common.{◌∙◌, ℕ, List, ap, codes, rules}
+use Rattle.std.specs.Prelude.{not}
+use Rattle.std.specs.Str.{bytes_eq}
 use Rattle.std.specs.Str.Parse.{HasUnsignedDigitsIfOk, ExplainsUnsignedError}
 use Rattle.clap.specs.Matches.{found_of}
 use Rattle.rtcm2rinex.proofs.OptionLemmas.{number_given}
@@ -13,13 +15,13 @@ returns c =
       week = (
         c.get_one.result,
         number_given (ExplainsUnsignedError 10) HasUnsignedDigitsIfOk 32 f (codes "week") _ c.get_one.ensures.none c.get_one.ensures.value,
-        search rules,
+        c.unwrap_or.ensures,
       );
       station = c.station_of.ensures;
-      gather = search rules;
+      gather = c.gather_of.ensures ∙ ap (λ (t : List ℕ). not (bytes_eq t (codes "time"))) c.text-3.ensures;
       limit = (
         c.get_one-2.result,
         number_given (ExplainsUnsignedError 10) HasUnsignedDigitsIfOk 64 f (codes "limit") _ c.get_one-2.ensures.none c.get_one-2.ensures.value,
-        search rules,
+        c.unwrap_or-2.ensures,
       );
     }
