@@ -19,7 +19,7 @@ ghost use Rattle.obs_epoch.specs.Gathering.{HasGatheredEpochs, closed_by, closed
 ghost use Rattle.obs_epoch.specs.Calls.{TakesMessage, EndsPendingEpoch, StaysEnded, HoldsCells, HoldsLockedKeys};
 ghost use Rattle.obs_epoch.specs.declared.fault.PlanFault.{PlanFault};
 ghost use Rattle.obs_epoch.specs.Gather.{take_step, end_step, loaded_if, load_entry, load_entries, epoch_begun};
-ghost use Rattle.obs_epoch.specs.Gather.{load, rested, outcome_in, hold, no_epoch, with_time};
+ghost use Rattle.obs_epoch.specs.Gather.{load, rested, outcome_in, hold, no_epoch, with_time, AreInOrder};
 ghost use Rattle.obs_epoch.specs.Cells.{cells_counted, no_counts};
 
 use crate::cell::{Cell, StationValues};
@@ -33,7 +33,7 @@ use crate::taken::{CellCounts, Gather, Kind, Taken, no_counts};
 use crate::time::{GpsTime, WEEKS};
 use gnss_obs::System;
 use rtcm_msg::{Entries, Entry, LockField, Message, Summary, View};
-use std::alloc::Global;
+use std::alloc::{AllocError, Global};
 use std::marker::Model;
 
 /// Messages of a station, gathered into epochs.
@@ -118,24 +118,22 @@ impl Gatherer {
         ensures only { IfErr result
             (λ e. (e ≡ PlanFault.BadWeek) ⊎ ((e ≡ PlanFault.BadStation) ⊎ (e ≡ PlanFault.Memory))) }
     {
-        match new_locks(alloc, start_week, station) {
-            Ok(locks) => match Epoch::new(alloc, initial) {
-                Ok(epoch) => {
-                    let clock = Clock::new(plan, start_week, station, gather, initial);
-                    Ok(Gatherer {
-                        clock,
-                        epoch,
-                        locks,
-                        just_closed: false,
-                        has_ended: false,
-                    })
-                }
-                Err(_) => {
-                    drop(locks);
-                    Err(PlanFault::Memory)
-                }
-            },
-            Err(fault) => Err(fault),
+        match new_parts(alloc, start_week, station, initial) {
+            Ok((epoch, locks)) => {
+                let clock = Clock::new(plan, start_week, station, gather, initial);
+                Ok(Gatherer {
+                    clock,
+                    epoch,
+                    locks,
+                    just_closed: false,
+                    has_ended: false,
+                })
+            }
+            Err(fault) => {
+                // A call drops it with less proof than the end of its scope.
+                drop(plan);
+                Err(fault)
+            }
         }
     }
 
@@ -380,9 +378,15 @@ impl Gatherer {
     }
 }
 
-// Returns empty lock records, if the start week and the station are valid.
-fn new_locks(alloc: Global, start_week: u32, station: Option<u16>) -> Result<Locks, PlanFault>
-    ensures none { IfOk result (λ l. l ≡ no_locks) }
+// Returns an epoch without cells and empty lock records, if the start week and the station are
+// valid.
+fn new_parts(
+    alloc: Global,
+    start_week: u32,
+    station: Option<u16>,
+    initial: StationValues,
+) -> Result<(Epoch, Locks), PlanFault>
+    ensures empty { IfOk result (λ r. (r.0 ≡ record { epoch = no_epoch; values = initial }) × (r.1 ≡ no_locks)) }
     ensures accepted { IsOk result → (start_week < weeks) × (is_no_station station ≡ false) }
     ensures week { (result ≡ Err PlanFault.BadWeek) ↔ (weeks ≤ start_week) }
     ensures station { (result ≡ Err PlanFault.BadStation)
@@ -393,8 +397,20 @@ fn new_locks(alloc: Global, start_week: u32, station: Option<u16>) -> Result<Loc
     if start_week as u64 >= WEEKS {
         return Err(PlanFault::BadWeek);
     }
-    if station.is_some_and(|number| number > 4_095) {
+    if station.unwrap_or(0) > 4_095 {
         return Err(PlanFault::BadStation);
     }
-    Locks::new(alloc).map_err(|_| PlanFault::Memory)
+    match empty_parts(alloc, initial) {
+        Ok(parts) => Ok(parts),
+        Err(_) => Err(PlanFault::Memory),
+    }
+}
+
+// Returns an epoch without cells, and empty lock records.
+fn empty_parts(alloc: Global, initial: StationValues) -> Result<(Epoch, Locks), AllocError>
+    ensures { IfOk result (λ r. (r.0 ≡ record { epoch = no_epoch; values = initial }) × (r.1 ≡ no_locks)) }
+{
+    let locks = Locks::new(alloc)?;
+    let epoch = Epoch::new(alloc, initial)?;
+    Ok((epoch, locks))
 }

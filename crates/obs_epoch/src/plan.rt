@@ -86,7 +86,12 @@ impl Plan {
     {
         match added {
             Ok(()) => Ok(Plan { gps, galileo }),
-            Err(fault) => Err(fault),
+            Err(fault) => {
+                // A call drops a list with less proof than the end of its scope.
+                drop(gps);
+                drop(galileo);
+                Err(fault)
+            }
         }
     }
 

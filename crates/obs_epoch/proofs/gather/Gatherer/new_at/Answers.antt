@@ -5,14 +5,14 @@ use Rattle.obs_epoch.specs.Values.{Closed}
 use Rattle.obs_epoch.proofs.StandingLemmas.{none_locked}
 use Rattle.obs_epoch.proofs.gather.Gatherer.new_at.Goals as goal
 
-pub returns-in-Ok-new-clause-history : goal.returns-in-Ok-new-clause-history
-returns-in-Ok-new-clause-history c =
+pub returns-in-Ok-clause-history : goal.returns-in-Ok-clause-history
+returns-in-Ok-clause-history c =
     record {
       standing = record {
         clock = subst (λ (s : GatherSetup). HasHeardMessages c.new-clock.result s [] false) c.new-clock.ensures.setup c.new-clock.ensures.history;
-        epoch = ap (λ (e : Closed). e.epoch) c.in-Ok-new.ensures;
-        locks = none_locked _ _ c.in-Ok.ensures.none;
-        values = ap (λ (e : Closed). e.values) c.in-Ok-new.ensures;
+        epoch = ap (λ (e : Closed). e.epoch) c.in-Ok.ensures.empty.0;
+        locks = none_locked _ _ c.in-Ok.ensures.empty.1;
+        values = ap (λ (e : Closed). e.values) c.in-Ok.ensures.empty.0;
       };
       returned = refl;
       epochs = λ e. refl;
