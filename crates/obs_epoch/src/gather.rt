@@ -18,7 +18,7 @@ ghost use Rattle.obs_epoch.specs.Kinds.{is_no_station, setup_at, setup_of, with_
 ghost use Rattle.obs_epoch.specs.Gathering.{HasGatheredEpochs, closed_by, closed_in, plan_in};
 ghost use Rattle.obs_epoch.specs.Calls.{TakesMessage, EndsPendingEpoch, StaysEnded, HoldsCells, HoldsLockedKeys};
 ghost use Rattle.obs_epoch.specs.declared.fault.PlanFault.{PlanFault};
-ghost use Rattle.obs_epoch.specs.Gather.{take_step, end_step, loaded_if, load_entry, load_entries, epoch_begun};
+ghost use Rattle.obs_epoch.specs.Gather.{end_step, loaded_if, load_entry, load_entries, epoch_begun};
 ghost use Rattle.obs_epoch.specs.Gather.{load, rested, outcome_in, hold, no_epoch, with_time, AreInOrder};
 ghost use Rattle.obs_epoch.specs.Cells.{cells_counted, no_counts};
 
@@ -152,7 +152,16 @@ impl Gatherer {
         requires { self.old.has_ended ≡ false }
         ensures { TakesMessage self.old self.new (heard (viewed_message view.now)) result }
     {
-        self.step(view)
+        let before = self.clock.latest();
+        let (kind, closed) = self.hear(&view.summary());
+        let counts = self.load(kind.is_kept(), before, view);
+        if closed {
+            self.epoch.note_locks(&mut self.locks);
+        }
+        Taken {
+            kind: kind.with_counts(counts),
+            closed,
+        }
     }
 
     /// Closes the pending epoch after the last message, and returns whether there was one. After
@@ -228,26 +237,6 @@ impl Gatherer {
         ensures { result.now ≡ plan_in self.now }
     {
         self.clock.plan()
-    }
-
-    #[tactic(auto, using(crate::proofs::ViewLemmas::summary_heard))]
-    fn step(&mut self, view: &View<'_>) -> Taken
-        ensures kind { result.kind
-            ≡ with_counts (take_step self.old (heard (viewed_message view.now))).counts
-            (kind_by self.old.clock no_counts (heard (viewed_message view.now))) }
-        ensures closed { result.closed ≡ is_some (closes self.old.clock (heard (viewed_message view.now))) }
-        ensures step { self.new ≡ (take_step self.old (heard (viewed_message view.now))).state }
-    {
-        let before = self.clock.latest();
-        let (kind, closed) = self.hear(&view.summary());
-        let counts = self.load(kind.is_kept(), before, view);
-        if closed {
-            self.epoch.note_locks(&mut self.locks);
-        }
-        Taken {
-            kind: kind.with_counts(counts),
-            closed,
-        }
     }
 
     // Processes the time and the station values of a message. Returns its outcome, with counts of
