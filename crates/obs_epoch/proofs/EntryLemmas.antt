@@ -1,15 +1,17 @@
 -- The cells of a message, one by one: those that are listed, and the number of others.
 use Rattle.rtcm_msg.specs.declared.entry.LockField.{LockField}
-use Rattle.std.proofs.Common.{◌≡◌, ℕ, ◌+◌, List, [], ◌∷◌, refl, ap, ◌∙◌, arith, Option, Some, None, is_some}
-use Rattle.std.specs.Prelude.{filter_map, cond}
+use Rattle.std.proofs.Common.{◌≡◌, ℕ, ◌+◌, Bool, true, false, ◌&&◌, List, [], ◌∷◌, refl, ap, ◌∙◌, arith, Option, Some, None, is_some}
+use Rattle.std.specs.Prelude.{filter_map, cond, option_and_then, if◌then◌else◌}
 use Rattle.std.specs.Option.{option_map_or}
 use Rattle.std.specs.List.{cons_option}
 use Rattle.gnss_obs.specs.declared.system.System.{System}
 use Rattle.rtcm_msg.specs.declared.entry.Entry.{Entry}
 use Rattle.obs_epoch.specs.Held.{CellOutcome, Crowded, Kept, Repeated, Skipped, count_in}
-use Rattle.obs_epoch.specs.Heard.{seen_in, unlisted_in, HeardCell}
-use Rattle.obs_epoch.specs.Cells.{with_skipped}
-use Rattle.obs_epoch.specs.Gather.{Loaded, load, load_one, load_entries, with_unlisted, outcome_in, hold}
+use Rattle.obs_epoch.specs.Heard.{seen_in, unlisted_in, HeardCell, kept_cell}
+use Rattle.obs_epoch.specs.Cells.{has_listed_key, with_skipped}
+use Rattle.obs_epoch.specs.Plans.{place_in}
+use Rattle.obs_epoch.specs.Values.{planned_of}
+use Rattle.obs_epoch.specs.Gather.{Loaded, load, load_one, load_entries, with_unlisted, outcome_in, hold, hold_by, planned_cell}
 use Rattle.obs_epoch.specs.declared.taken.CellCounts.{CellCounts}
 use Rattle.std.proofs.lemmas.Grind.{common_steps}
 
@@ -51,3 +53,15 @@ load_entries_is field system l (e ∷ es) = by (seen_in field system e) (λ v. l
   by (Some x) more = more (load_one l x) ∙ ap (λ n. with_unlisted n (load (load_one l x) (listed field system es))) (zero-plus (others field system es)) where
     zero-plus : (n : ℕ) → n ≡ 0 + n
     zero-plus n = omega arith
+
+one_skipped : (a b : Bool) (l : Loaded) (h : HeardCell) (k : CellOutcome) → (if b then Some (kept_cell h 0) else None) ≡ None
+    → with_unlisted 1 l ≡ record { state = hold_by (if a && b then k else Skipped) l.state h; counts = count_in (if a && b then k else Skipped) l.counts }
+one_skipped a true l h k e = cc
+one_skipped true false l h k e = refl
+one_skipped false false l h k e = refl
+
+-- An entry of no planned signal is skipped.
+pub unplanned_entry : (o : Option HeardCell) (l : Loaded) → option_and_then (planned_cell l.state.clock.setup.plan) o ≡ None
+    → with_unlisted 1 l ≡ option_map_or (load_one l) o (with_unlisted 1 l)
+unplanned_entry None l e = refl
+unplanned_entry (Some h) l e = one_skipped (has_listed_key h) (is_some (place_in h.signal (planned_of h.satellite.system l.state.clock.setup.plan))) l h _ e

@@ -4,13 +4,11 @@ use Rattle.obs_epoch.specs.declared.cell.StationValues.{StationValues}
 use Rattle.obs_epoch.specs.Values.{most_cells, Closed, cells_of, planned_of}
 use Rattle.obs_epoch.specs.Order.{AreSorted}
 use Rattle.obs_epoch.specs.Heard.{heard_cell, kept_cell}
-use Rattle.obs_epoch.specs.Gather.{Gathered, insertion_index_in, hold}
+use Rattle.obs_epoch.specs.Gather.{AreInOrder, Gathered, insertion_index_in, hold, more_at}
 use Rattle.obs_epoch.specs.Plans.{place_in}
 use Rattle.obs_epoch.specs.Loss.{lli_with}
 use Rattle.obs_epoch.proofs.StandLemmas.{order_more, sorted_more, more_is, kept_is, not_full, planned_is, outcome_by}
 use Rattle.obs_epoch.proofs.gather.Gatherer.take_cell.Goals as goal
-use Rattle.std.proofs.Common.{arith}
-use Rattle.std.proofs.lemmas.Grind.{common_steps}
 
 pub insert-requires-clause-order : goal.insert-requires-clause-order
 insert-requires-clause-order c =
@@ -23,7 +21,14 @@ insert-requires-clause-order c =
     (sorted_more p e m (order_more p e m planned c.self.invariant (sym c.place_of-at.ensures.kept ∙ c.if-is_kept.false)))
 
 pub invariant_of-self : goal.invariant_of-self
-invariant_of-self c = grind (arith, common_steps, more_is, order_more, c.place_of-at.ensures.at, c.plan.ensures, c.requires.planned, c.insert.ensures, c.self.invariant, c.place_of-at.ensures.kept, c.if-is_kept.false)
+invariant_of-self c =
+    let p = c.self.inside.clock.setup.plan in
+    let e = c.self.inside.epoch.epoch in
+    let m : Cell = kept_cell (heard_cell c.args.x) c.lli.result in
+    let at = c.place_of-at.ensures.at ∙ ap (λ q. insertion_index_in q e (heard_cell c.args.x)) c.plan.ensures in
+    let planned = subst (λ (v : Gathered). is_some (place_in c.args.x.signal (planned_of c.args.x.satellite.system v.clock.setup.plan)) ≡ true) (sym c.self.view_is) c.requires.planned in
+    subst (AreInOrder p) (sym (ap (λ (h : Closed). h.epoch) c.insert.ensures ∙ ap (λ i. more_at c.args.x.satellite.system i e m) at ∙ more_is p e m))
+    (order_more p e m planned c.self.invariant (sym c.place_of-at.ensures.kept ∙ c.if-is_kept.false))
 
 -- The same with other station values.
 abbrev with_values : Gathered → StationValues → Gathered
