@@ -35,13 +35,12 @@ own Galileo x e = grind (arith, e)
 
 -- If there is room, all first cells are kept.
 all_kept : (system : System) (xs : List HeardCell) → nat_le most_cells (length (kept system xs)) ≡ false → kept system xs ≡ mine system xs
-all_kept system xs h = take_all most_cells (mine system xs) (by (nat_le most_cells (length (mine system xs))) refl) where
-  by : (b : Bool) → nat_le most_cells (length (mine system xs)) ≡ b → length (mine system xs) ≤ most_cells
-  by true e =
-      let le : most_cells ≤ length (mine system xs) = grind (arith, e) in
-      let count = length-take-le most_cells (mine system xs) le in
-      absurd (grind (arith, h, count))
-  by false e = grind (arith, e)
+all_kept system xs h = take_all most_cells (mine system xs) (fits most_cells (length (mine system xs)) (length (kept system xs)) (length-take-le most_cells (mine system xs)) h) where
+  fits : (most all few : ℕ) → (most ≤ all → few ≡ most) → nat_le most few ≡ false → all ≤ most
+  fits most all few is h = by (nat_le all most) refl where
+    by : (b : Bool) → nat_le all most ≡ b → all ≤ most
+    by true e = grind (arith, e)
+    by false e = grind (arith, e, h, is)
 
 -- For every next cell, an earlier cell is kept as before.
 known-push : (system : System) (xs : List HeardCell) (y p : HeardCell) → is_of_system system p ≡ true → is_among xs p ≡ true → is_among (kept system (xs ++ y ∷ [])) p ≡ is_among (kept system xs) p
@@ -64,10 +63,27 @@ not_own here other y e f a n = ap (λ b. b && not (a || n)) f
 not_galileo : (y : HeardCell) → y.satellite.system ≡ Gps → is_of_system Galileo y ≡ false
 not_galileo y e = grind (arith, e)
 
+not_gps : (y : HeardCell) → y.satellite.system ≡ Galileo → is_of_system Gps y ≡ false
+not_gps y e = grind (arith, e)
+
 -- The number of kept cells after one more cell.
 both-length : (xs : List HeardCell) (y : HeardCell) (a n : Bool) → is_among (kept y.satellite.system xs) y ≡ a → nat_le most_cells (length (kept y.satellite.system xs)) ≡ n
     → length (kept_of_both (xs ++ y ∷ [])) ≡ length (kept_of_both xs) + (if not (a || n) then 1 else 0)
-both-length xs y a n e f = grind (arith, common_steps, length-append, length-add, own, not_own, not_galileo)
+both-length xs y a n e f =
+    length-append (kept Gps (xs ++ y ∷ [])) (kept Galileo (xs ++ y ∷ [])) ∙ by y.satellite.system refl
+    ∙ ap (λ k. k + (if not (a || n) then 1 else 0)) (sym (length-append (kept Gps xs) (kept Galileo xs))) where
+      -- The kept cells of its system, and those of the other one.
+      own_length : (system : System) → y.satellite.system ≡ system → length (kept system (xs ++ y ∷ [])) ≡ length (kept system xs) + (if not (a || n) then 1 else 0)
+      own_length system s = length-add system xs y (not (a || n)) (ap₂ (λ b c. b && c) (own system y s)
+          (ap not (ap₂ (λ b c. b || c) (ap (λ c. is_among (kept c xs) y) (sym s) ∙ e) (ap (λ c. nat_le most_cells (length (kept c xs))) (sym s) ∙ f))))
+
+      other_length : (here system : System) → y.satellite.system ≡ here → is_of_system system y ≡ false → length (kept system (xs ++ y ∷ [])) ≡ length (kept system xs) + 0
+      other_length here system s other = length-add system xs y false (not_own here system y s other (is_among (kept system xs) y) (nat_le most_cells (length (kept system xs))))
+
+      by : (system : System) → y.satellite.system ≡ system
+          → length (kept Gps (xs ++ y ∷ [])) + length (kept Galileo (xs ++ y ∷ [])) ≡ (length (kept Gps xs) + length (kept Galileo xs)) + (if not (a || n) then 1 else 0)
+      by Gps s = let p = own_length Gps s in let q = other_length Gps Galileo s (not_galileo y s) in omega (arith, p, q)
+      by Galileo s = let p = own_length Galileo s in let q = other_length Galileo Gps s (not_gps y s) in omega (arith, p, q)
 
 self_system : (y : HeardCell) → is_of_system y.satellite.system y ≡ true
 self_system y = grind (arith, common_steps)

@@ -1,5 +1,5 @@
 -- Signals that fit a plan, and those that don't.
-use Rattle.std.proofs.Common.{◌≡◌, ℕ, suc, zero, ◌+◌, ◌<◌, ◌==◌, ◌||◌, Bool, true, false, List, [], ◌∷◌, ◌++◌, length, take, drop, get_or, All, nat_eq, refl, sym, ap, ap₂, ◌∙◌, subst, arith, ◌⊎◌, inl, inr}
+use Rattle.std.proofs.Common.{◌≡◌, ℕ, suc, zero, ◌<◌, ◌==◌, ◌||◌, Bool, true, false, List, [], ◌∷◌, ◌++◌, length, take, drop, get_or, All, nat_eq, refl, sym, ap, ap₂, ◌∙◌, subst, arith, ◌⊎◌, inl, inr}
 use Rattle.std.proofs.lemmas.Map.Keys.{apart_from_distinct, IsDistinct-tail}
 use Rattle.std.proofs.lemmas.List.Elements.{All-head, All-tail}
 use Rattle.std.specs.List.{list_any, IsDistinct}
@@ -8,13 +8,12 @@ use Rattle.gnss_obs.specs.Signals.{SignalAt, IsSignal}
 use Rattle.obs_epoch.specs.declared.fault.PlanFault.{PlanFault}
 use Rattle.obs_epoch.specs.declared.fault.PlanFault.TheVariants.{UnknownCode, RepeatedCode, NothingPlanned, BadWeek, BadStation, Memory}
 use Rattle.obs_epoch.specs.Signals.{indices, IsOf, IsUnfitAfter, IsUnfit}
-use Rattle.std.proofs.lemmas.Grind.{common_steps}
 
 -- An index splits a list of signals.
-pub parted : (ss : List SignalAt) (k : ℕ) (s : SignalAt) → k < length ss → s ≡ get_or ss k s → ss ≡ take k ss ++ s ∷ drop (k + 1) ss
+pub parted : (ss : List SignalAt) (k : ℕ) (s : SignalAt) → k < length ss → s ≡ get_or ss k s → ss ≡ take k ss ++ s ∷ drop (suc k) ss
 parted [] k s less is = absurd (omega (arith, less))
 parted (x ∷ ss) zero s less is = ap (λ y. y ∷ ss) (sym is)
-parted (x ∷ ss) (suc k) s less is = grind (arith, common_steps, parted ss k s (omega (arith, less)) is)
+parted (x ∷ ss) (suc k) s less is = ap (λ l. x ∷ l) (parted ss k s (omega (arith, less)) is)
 
 -- The first signal that doesn't fit.
 pub unfit_at : (system : System) (ss before : List SignalAt) (k : ℕ) (s : SignalAt) (fault : PlanFault) → k < length ss → s ≡ get_or ss k s → before ≡ take k ss
@@ -23,7 +22,7 @@ unfit_at system ss before k s fault less is taken fits (inl e) = inl e
 unfit_at system ss before k s fault less is taken fits (inr u) = inr (record {
   before = take k ss;
   signal = s;
-  rest = drop (k + 1) ss;
+  rest = drop (suc k) ss;
   split = parted ss k s less is;
   fits = fits;
   unfit = subst (λ (l : List SignalAt). IsUnfitAfter system l s fault) taken u;

@@ -1,7 +1,7 @@
 -- The lock records: their values after a closing, and their number.
-use Rattle.std.proofs.Common.{[], ◌≡◌, ℕ, zero, suc, ◌+◌, Bool, true, false, ◌||◌, List, ◌∷◌, ◌++◌, map, filter, refl, sym, ap, ◌∙◌, subst, arith, length, append_assoc, append-nil, length-append, Option, Some, None, is_some, get_or, replicate}
+use Rattle.std.proofs.Common.{[], ◌≡◌, ℕ, zero, suc, ◌+◌, Bool, true, false, ◌||◌, ap₂, List, ◌∷◌, ◌++◌, map, filter, refl, sym, ap, ◌∙◌, subst, arith, length, append_assoc, append-nil, length-append, Option, Some, None, is_some, get_or, replicate}
 use Rattle.std.specs.Prelude.{if◌then◌else◌, cond, find, option_and_then}
-use Rattle.std.specs.Option.{option_or}
+use Rattle.std.specs.Option.{option_map_or, option_or}
 use Rattle.std.specs.List.{IsDistinct, AllByRecursion}
 use Rattle.std.proofs.lemmas.Map.Keys.{IsDistinct-head, IsDistinct-tail}
 use Rattle.std.proofs.lemmas.Map.Steps.{list_any_congr}
@@ -32,7 +32,19 @@ lock_for key t x = if has_same_key key x then lock_of t x else None
 -- The records after a cell is recorded.
 pub lookup-note : (t : ℕ) (ts : List (Option KnownLock)) (x key : HeardCell) → has_listed_key x ≡ true → length ts ≡ most_locks
     → lookup (note t ts x) key ≡ option_or (lock_for key t x) (lookup ts key)
-lookup-note t ts x key k size = grind (arith, common_steps)
+lookup-note t ts x key k size = by (is_locked x) where
+  set_at : (s : Bool) (l : KnownLock) (o : Option KnownLock) → answer s l o ≡ option_or (if s then Some l else None) o
+  set_at true l o = refl
+  set_at false l o = refl
+
+  none_at : (s : Bool) (o : Option KnownLock) → o ≡ option_or (if s then None else None) o
+  none_at true o = refl
+  none_at false o = refl
+
+  by : (b : Bool) → lookup (option_map_or (put ts x) (if b then Some (record { time = t; lock = x.lock }) else None) ts) key
+      ≡ option_or (if has_same_key key x then (if b then Some (record { time = t; lock = x.lock }) else None) else None) (lookup ts key)
+  by true = lookup-put ts x key (record { time = t; lock = x.lock }) k size ∙ set_at (has_same_key key x) _ _
+  by false = none_at (has_same_key key x) (lookup ts key)
 
 pub note_size : (t : ℕ) (ts : List (Option KnownLock)) (x : HeardCell) → length (note t ts x) ≡ length ts
 note_size t ts x = grind (arith, common_steps)
@@ -90,17 +102,30 @@ recorded-put : (ts : List (Option KnownLock)) (x : HeardCell) (l : KnownLock) �
 recorded-put ts x l k size = grind (arith, common_steps)
 
 pub tracks_put : (ts : List (Option KnownLock)) (noted : List HeardCell) (x : HeardCell) (l : KnownLock) → has_listed_key x ≡ true → TracksLocks ts noted → TracksLocks (put ts x l) (noted ++ x ∷ [])
-tracks_put ts noted x l k h = grind (arith, common_steps, lookup-put, among-push, recorded-put, length_firsts-push, length-set)
+tracks_put ts noted x l k h = record {
+  has = λ key. ap is_some (lookup-put ts x key l k h.size) ∙ by (has_same_key key x) (lookup ts key) (is_among noted key) (h.has key) ∙ sym (among-push noted x key);
+  count = recorded-put ts x l k h.size ∙ ap₂ (λ n b. n + (if b then 0 else 1)) h.count (h.has x) ∙ sym (length_firsts-push noted x);
+  size = length-set ts (lock_place x) (Some l) ∙ h.size;
+} where
+  by : (s : Bool) (o : Option KnownLock) (b : Bool) → is_some o ≡ b → is_some (answer s l o) ≡ (b || s)
+  by true o b e = or_true b where
+    or_true : (b : Bool) → true ≡ (b || true)
+    or_true true = refl
+    or_true false = refl
+  by false o b e = e ∙ or_false b where
+    or_false : (b : Bool) → b ≡ (b || false)
+    or_false true = refl
+    or_false false = refl
 
 -- The locked ones of these cells.
 abbrev pub locked : List HeardCell → List HeardCell
 locked xs = filter is_locked xs
 
-is_some_lock : (t : ℕ) (x : HeardCell) → is_some (lock_of t x) ≡ is_locked x
-is_some_lock t x = grind (arith, common_steps)
-
 pub tracks_note : (t : ℕ) (rs : List (Option KnownLock)) (noted : List HeardCell) (x : HeardCell) → has_listed_key x ≡ true → TracksLocks rs noted → TracksLocks (note t rs x) (noted ++ locked (x ∷ []))
-tracks_note t rs noted x k h = grind (arith, common_steps, is_some_lock, append-nil, tracks_put)
+tracks_note t rs noted x k h = by (is_locked x) where
+  by : (b : Bool) → TracksLocks (option_map_or (put rs x) (if b then Some (record { time = t; lock = x.lock }) else None) rs) (noted ++ cond b (x ∷ []) [])
+  by true = tracks_put rs noted x (record { time = t; lock = x.lock }) k h
+  by false = subst (TracksLocks rs) (sym (append-nil noted)) h
 
 pub tracks_all : (t : ℕ) (rs : List (Option KnownLock)) (noted : List HeardCell) (ms : List Cell) → AllListed (seens ms) → TracksLocks rs noted → TracksLocks (note_all t rs ms) (noted ++ locked (seens ms))
 tracks_all t rs noted [] k h = subst (TracksLocks rs) (sym (append-nil noted)) h

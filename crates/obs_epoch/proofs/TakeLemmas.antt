@@ -16,7 +16,8 @@ use Rattle.obs_epoch.specs.Epochs.{epoch_at, closed_so_far, closed_times, values
 use Rattle.obs_epoch.specs.Clock.{State, HasHeardMessages, is_pending, closes_first}
 use Rattle.obs_epoch.specs.Kinds.{is_close_first, is_kept, kind_after}
 use Rattle.obs_epoch.specs.Step.{kind_by, step_by, closed_by, closed_of}
-use Rattle.obs_epoch.specs.Gather.{with_unlisted, Gathered, Loaded, no_epoch, noted, load, loaded_if, outcome_in, load_one, with_time, closed_if, take_step, end_step}
+use Rattle.obs_epoch.specs.Gather.{with_unlisted, Gathered, Loaded, no_epoch, noted, load, loaded_if, outcome_in, load_one, with_time, closed_if, take_step, end_step, is_same}
+use Rattle.obs_epoch.specs.declared.locks.KnownLock.{KnownLock}
 use Rattle.obs_epoch.specs.GathererHistory.{held_at, Locked, HasTakenMessages, closed_list, closed_epoch}
 use Rattle.obs_epoch.proofs.TimesLemmas.{next, timed-push}
 use Rattle.obs_epoch.proofs.ClockLemmas.{standing, same_state, takes, closes, new_time}
@@ -154,6 +155,24 @@ epoch_stays : (b : Bool) (g : Gathered) → (if b then noted g else g).epoch ≡
 epoch_stays true g = refl
 epoch_stays false g = refl
 
+-- The times of the closed epochs grow by that of the epoch that the step closes.
+pub times_taken : (g : Gathered) (s : GatherSetup) (ms : List Heard) (m : Heard) (shut : Bool) → HasTakenMessages g s ms shut → closes_first s (timed s ms) m ≡ shut
+    → closed_so_far s (timed s (ms ++ m ∷ [])) false ≡ closed_so_far s (timed s ms) shut ++ option_to_list (closed_by g.clock m)
+times_taken g s ms m shut h early =
+    ap (λ l. closed_so_far s l false) (timed-push s ms m) ∙ closing s (timed s ms) m shut early
+    ∙ ap (λ c. closed_so_far s (timed s ms) shut ++ option_to_list (closed_by c m)) (sym (clock_is g.clock s ms shut h.clock))
+
+-- That time is the greatest then.
+pub time_taken : (g : Gathered) (s : GatherSetup) (ms : List Heard) (m : Heard) (shut : Bool) → HasTakenMessages g s ms shut → closes_first s (timed s ms) m ≡ shut
+    → (t : ℕ) → closed_by g.clock m ≡ Some t → greatest_time (timed s (ms ++ m ∷ [])) ≡ Some t
+time_taken g s ms m shut h early t e =
+    let xs = timed s ms in
+    let was = clock_is g.clock s ms shut h.clock in
+    let kind : (n : CellCounts) → kind_by g.clock n m ≡ kind_after s xs n m = λ n. ap (λ c. kind_by c n m) was ∙ (takes s xs n m shut early).0 in
+    let now : step_by g.clock m ≡ standing s (xs ++ next s xs m ∷ []) false = ap (λ c. step_by c m) was ∙ (takes s xs no_counts m shut early).1 in
+    ap greatest_time (timed-push s ms m) ∙ ap (λ (c : State). c.latest) (sym now)
+    ∙ after_closed (kind_by g.clock no_counts m) _ _ _ _ t (ap is_close_first (kind no_counts) ∙ not_first s xs no_counts m) e
+
 pub record Taken (g : Gathered) (s : GatherSetup) (ms : List Heard) (m : Heard) (shut : Bool) : Type 0 where
   pub kind : (n : CellCounts) → kind_by g.clock n m ≡ kind_after s (timed s ms) n m
   pub counts : (take_step g m).counts ≡ counts_of_message s (timed s ms) m
@@ -167,36 +186,14 @@ taken g s ms m shut h early =
     let o = closed_by g.clock m in
     let was = clock_is g.clock s ms shut h.clock in
     let kind : (n : CellCounts) → kind_by g.clock n m ≡ kind_after s xs n m = λ n. ap (λ c. kind_by c n m) was ∙ (takes s xs n m shut early).0 in
-    let now : step_by g.clock m ≡ standing s (xs ++ next s xs m ∷ []) false = ap (λ c. step_by c m) was ∙ (takes s xs no_counts m shut early).1 in
-    let closed : closed_so_far s (timed s (ms ++ m ∷ [])) false ≡ closed_so_far s xs shut ++ option_to_list o =
-    ap (λ l. closed_so_far s l false) (timed-push s ms m) ∙ closing s xs m shut early ∙ ap (λ c. closed_so_far s xs shut ++ option_to_list (closed_by c m)) (sym was) in
-    let at : (t : ℕ) → o ≡ Some t → greatest_time (timed s (ms ++ m ∷ [])) ≡ Some t =
-    λ t e. ap greatest_time (timed-push s ms m) ∙ ap (λ (c : State). c.latest) (sym now)
-    ∙ after_closed (kind_by g.clock no_counts m) _ _ _ _ t (ap is_close_first (kind no_counts) ∙ not_first s xs no_counts m) e in
     let r = reached g s ms m shut h early in
     let l = loaded_if (is_kept (kind_by g.clock no_counts m)) g.clock.latest (with_time g m) m in
     record {
       kind = kind;
       counts = r.counts;
-      after = assemble l.state s (ms ++ m ∷ []) false (closed_so_far s xs shut) o r.mid at closed;
-      closed = grown s ms m shut o (take_step g m).state.epoch early closed (epoch_stays (is_some o) l.state ∙ r.mid.epoch) at;
+      after = assemble l.state s (ms ++ m ∷ []) false (closed_so_far s xs shut) o r.mid (time_taken g s ms m shut h early) (times_taken g s ms m shut h early);
+      closed = grown s ms m shut o (take_step g m).state.epoch early (times_taken g s ms m shut h early) (epoch_stays (is_some o) l.state ∙ r.mid.epoch) (time_taken g s ms m shut h early);
     }
-
--- The times of the closed epochs grow by that of the epoch that the step closes.
-pub times_taken : (g : Gathered) (s : GatherSetup) (ms : List Heard) (m : Heard) (shut : Bool) → HasTakenMessages g s ms shut → closes_first s (timed s ms) m ≡ shut
-    → closed_so_far s (timed s (ms ++ m ∷ [])) false ≡ closed_so_far s (timed s ms) shut ++ option_to_list (closed_by g.clock m)
-times_taken g s ms m shut h early = grind (arith, common_steps, clock_is, timed-push, closing)
-
--- That time is the greatest then.
-pub time_taken : (g : Gathered) (s : GatherSetup) (ms : List Heard) (m : Heard) (shut : Bool) → HasTakenMessages g s ms shut → closes_first s (timed s ms) m ≡ shut
-    → (t : ℕ) → closed_by g.clock m ≡ Some t → greatest_time (timed s (ms ++ m ∷ [])) ≡ Some t
-time_taken g s ms m shut h early t e =
-    let xs = timed s ms in
-    let was = clock_is g.clock s ms shut h.clock in
-    let kind : (n : CellCounts) → kind_by g.clock n m ≡ kind_after s xs n m = λ n. ap (λ c. kind_by c n m) was ∙ (takes s xs n m shut early).0 in
-    let now : step_by g.clock m ≡ standing s (xs ++ next s xs m ∷ []) false = ap (λ c. step_by c m) was ∙ (takes s xs no_counts m shut early).1 in
-    ap greatest_time (timed-push s ms m) ∙ ap (λ (c : State). c.latest) (sym now)
-    ∙ after_closed (kind_by g.clock no_counts m) _ _ _ _ t (ap is_close_first (kind no_counts) ∙ not_first s xs no_counts m) e
 
 -- An epoch that a message closes that isn't accepted was pending.
 was_pending : (k : Kind) (b p : Bool) (before after : Option ℕ) (t : ℕ) → is_close_first k ≡ false → is_kept k ≡ false → closed_of k b p before after ≡ Some t → p ≡ true
@@ -351,48 +348,34 @@ no_point s xs (message.Msm4 m) h = refl
 no_point s xs (message.Msm7 m) h = refl
 no_point s xs (message.Other number set) h = refl
 
--- ---- the epochs that were returned
+-- ---- what neither the kept epoch nor the lock records change
 
-load_handed : (l : Loaded) (xs : List HeardCell) → (load l xs).state.just_closed ≡ l.state.just_closed
-load_handed l [] = refl
-load_handed l (x ∷ xs) = load_handed (load_one l x) xs ∙ ap (λ (g : Gathered). g.just_closed) (hold_is (outcome_in l.state x) l.state x)
+-- A field that doesn't depend on them.
+abbrev IsApart : (Gathered → Bool) → Type 0
+IsApart f = (g : Gathered) (e : EpochValue) (locks : List (Option KnownLock)) → f (record g { epoch = e; locks = locks }) ≡ f g
 
-begun_handed : (b : Bool) (g e : Gathered) → e.just_closed ≡ g.just_closed → (if b then g else e).just_closed ≡ g.just_closed
-begun_handed true g e h = refl
-begun_handed false g e h = h
+load_apart : (f : Gathered → Bool) → IsApart f → (l : Loaded) (xs : List HeardCell) → f (load l xs).state ≡ f l.state
+load_apart f apart l [] = refl
+load_apart f apart l (x ∷ xs) = load_apart f apart (load_one l x) xs ∙ ap f (hold_is (outcome_in l.state x) l.state x) ∙ apart l.state _ l.state.locks
 
-loaded_handed : (accepted : Bool) (before : Option ℕ) (g : Gathered) (m : Heard) → (loaded_if accepted before g m).state.just_closed ≡ g.just_closed
-loaded_handed true before g m = grind (arith, common_steps, load_handed, begun_handed)
-loaded_handed false before g m = refl
+loaded_apart : (f : Gathered → Bool) → IsApart f → (accepted : Bool) (before : Option ℕ) (g : Gathered) (m : Heard) → f (loaded_if accepted before g m).state ≡ f g
+loaded_apart f apart true before g m = load_apart f apart _ m.cells ∙ begun (is_same before g.clock.latest) where
+  begun : (b : Bool) → f (if b then g else record g { epoch = record { time = option_map_or (λ t. t) g.clock.latest 0; gps = []; galileo = [] } }) ≡ f g
+  begun true = refl
+  begun false = apart g _ g.locks
+loaded_apart f apart false before g m = refl
 
-closed_handed : (b : Bool) (l : Loaded) → (closed_if b l).state.just_closed ≡ l.state.just_closed
-closed_handed true l = refl
-closed_handed false l = refl
+step_apart : (f : Gathered → Bool) → IsApart f → (g : Gathered) (m : Heard) → f (take_step g m).state ≡ f (with_time g m)
+step_apart f apart g m = closed (is_some (closed_by g.clock m)) (loaded_if kept g.clock.latest (with_time g m) m) ∙ loaded_apart f apart kept g.clock.latest (with_time g m) m where
+  kept : Bool
+  kept = is_kept (kind_by g.clock no_counts m)
+
+  closed : (b : Bool) (l : Loaded) → f (closed_if b l).state ≡ f l.state
+  closed true l = apart l.state l.state.epoch _
+  closed false l = refl
 
 pub handed_is : (g : Gathered) (m : Heard) → (take_step g m).state.just_closed ≡ is_some (closed_by g.clock m)
-handed_is g m =
-    let is_kept_kind = is_kept (kind_by g.clock no_counts m) in
-    closed_handed (is_some (closed_by g.clock m)) (loaded_if is_kept_kind g.clock.latest (with_time g m) m) ∙ loaded_handed is_kept_kind g.clock.latest (with_time g m) m
-
--- ---- whether it has ended
-
-load_ended : (l : Loaded) (xs : List HeardCell) → (load l xs).state.has_ended ≡ l.state.has_ended
-load_ended l [] = refl
-load_ended l (x ∷ xs) = load_ended (load_one l x) xs ∙ ap (λ (g : Gathered). g.has_ended) (hold_is (outcome_in l.state x) l.state x)
-
-begun_ended : (b : Bool) (g e : Gathered) → e.has_ended ≡ g.has_ended → (if b then g else e).has_ended ≡ g.has_ended
-begun_ended true g e h = refl
-begun_ended false g e h = h
-
-loaded_ended : (accepted : Bool) (before : Option ℕ) (g : Gathered) (m : Heard) → (loaded_if accepted before g m).state.has_ended ≡ g.has_ended
-loaded_ended true before g m = grind (arith, common_steps, load_ended, begun_ended)
-loaded_ended false before g m = refl
-
-closed_ended : (b : Bool) (l : Loaded) → (closed_if b l).state.has_ended ≡ l.state.has_ended
-closed_ended true l = refl
-closed_ended false l = refl
+handed_is g m = step_apart (λ v. v.just_closed) (λ v e locks. refl) g m
 
 pub ended_is : (g : Gathered) (m : Heard) → (take_step g m).state.has_ended ≡ g.has_ended
-ended_is g m =
-    let is_kept_kind = is_kept (kind_by g.clock no_counts m) in
-    closed_ended (is_some (closed_by g.clock m)) (loaded_if is_kept_kind g.clock.latest (with_time g m) m) ∙ loaded_ended is_kept_kind g.clock.latest (with_time g m) m
+ended_is g m = step_apart (λ v. v.has_ended) (λ v e locks. refl) g m
