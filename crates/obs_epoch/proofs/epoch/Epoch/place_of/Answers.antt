@@ -33,6 +33,17 @@ returns-then-is_after_last-clause-kept c =
     ∙ ap (λ k. is_before (cell_sort_key planned (get_or found (length found - 1) d)) k) own)).1
     ∙ ap (λ (l : List Cell). is_held l x) cells
 
+pub returns-clause-at : goal.returns-clause-at
+returns-clause-at c =
+    let x = heard_cell c.args.x.now in
+    let planned = planned_of x.satellite.system c.args.plan.now in
+    let found = c.cells-cells.result.now in
+    let cells = c.cells-cells.ensures.cells ∙ ap (λ s. cells_of s c.args.self.now.epoch) c.system-system.ensures in
+    let own = c.sort_key-key.ensures ∙ ap (λ s. sort_key (planned_of s c.args.plan.now) x.satellite x.signal) c.system-system.ensures in
+    c.insertion_index-at.ensures.index ∙ ap (λ s. insertion_index c.sort_key-key.result (map (cell_sort_key (planned_of s c.args.plan.now)) found)) c.system-system.ensures
+    ∙ ap (λ s. insertion_index s (map (cell_sort_key planned) found)) own
+    ∙ ap (λ (l : List Cell). insertion_index (sort_key_of planned x) (map (cell_sort_key planned) l)) cells
+
 pub returns-clause-kept : goal.returns-clause-kept
 returns-clause-kept c =
     let x = heard_cell c.args.x.now in
