@@ -164,18 +164,9 @@ impl Epoch {
         ensures held { AreHeld system result.now }
         ensures order { AreSorted result.now }
     {
-        self.list(system).as_slice()
-    }
-
-    // Returns the list of the kept cells of a system.
-    fn list(&self, system: System) -> &ArrayVec<Cell, MOST_CELLS>
-        ensures cells { result.now.items ≡ cells_of system self.now.epoch }
-        ensures held { AreHeld system result.now.items }
-        ensures order { AreSorted result.now.items }
-    {
         match system {
-            System::Gps => &self.gps,
-            System::Galileo => &self.galileo,
+            System::Gps => self.gps.as_slice(),
+            System::Galileo => self.galileo.as_slice(),
         }
     }
 
