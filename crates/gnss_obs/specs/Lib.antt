@@ -5,3 +5,12 @@ pub mod SignalRows
 pub mod Rounding
 pub mod Observables
 pub mod LockTimes
+pub mod Weeks
+pub mod Dates
+pub mod Values
+pub mod Plans
+pub mod SignalLists
+pub mod HeardCells
+pub mod Order
+pub mod Kept
+pub mod GatheredEpochs

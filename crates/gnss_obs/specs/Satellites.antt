@@ -1,5 +1,5 @@
 -- Satellites.
-use Rattle.std.specs.Prelude.{ℕ, ◌≤◌, ◌&&◌, nat_le, if◌then◌else◌, Option, Some, None}
+use Rattle.std.specs.Prelude.{ℕ, ◌≤◌, ◌&&◌, Bool, true, false, not, nat_le, if◌then◌else◌, Option, Some, None}
 use Rattle.gnss_obs.specs.declared.system.System.{System}
 use Rattle.gnss_obs.specs.declared.system.System.TheVariants.{Gps, Galileo}
 
@@ -38,3 +38,11 @@ satellite_of_id system id =
 abbrev pub letter : System → ℕ
 letter Gps = 71
 letter Galileo = 69
+
+abbrev pub is_gps : System → Bool
+is_gps Gps = true
+is_gps Galileo = false
+
+abbrev pub is_system : System → System → Bool
+is_system Gps s = is_gps s
+is_system Galileo s = not (is_gps s)

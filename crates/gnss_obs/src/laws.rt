@@ -5,6 +5,9 @@ ghost use Rattle.gnss_obs.specs.Rounding.{IsNearest, nearest};
 ghost use Rattle.gnss_obs.specs.Observables.{nearest_pseudorange, nearest_phase, nearest_doppler, nearest_strength};
 ghost use Rattle.gnss_obs.specs.Signals.{SignalAt, IsSignal, greatest_signal_id, after, id_of, code_of, hertz_of};
 ghost use Rattle.gnss_obs.specs.Signals.{signal_of_id, signal_of_code};
+ghost use Rattle.gnss_obs.specs.Weeks.{week, weeks};
+ghost use Rattle.gnss_obs.specs.Dates.{IsCivilOf, civil_of};
+ghost use Rattle.gnss_obs.specs.Plans.{CodesNameTheirSignals};
 
 /// Exactly one whole number is nearest to a fraction, and `nearest` computes it.
 pub fn one_nearest()
@@ -41,4 +44,16 @@ pub fn sizes()
         → unsigned_abs (nearest_doppler (hertz_of s) v) < 10 ^ 12 }
     ensures decibels { (s : ℕ) → 0 < s → s < 2 ^ 10
         → (pos 1 ≤ℤ nearest_strength s) × (nearest_strength s ≤ℤ pos 99_999) }
+{}
+
+/// A list of codes gives the signals of these codes, one by one, and no two are the same.
+pub fn plans()
+    ensures { CodesNameTheirSignals }
+{}
+
+/// Each time has a date and a time of day.
+pub fn calendar()
+    ensures civil { (t : ℕ) → t < weeks * week → IsCivilOf t (civil_of t) }
+    ensures small { (t : ℕ) → t < weeks * week
+        → ((civil_of t).year ≤ 9999) × ((civil_of t).month ≤ 12) × ((civil_of t).day ≤ 31) }
 {}

@@ -7,9 +7,11 @@ use Rattle.std.proofs.lemmas.List.{length-take-le, take_all}
 use Rattle.gnss_obs.specs.declared.system.System.{System}
 use Rattle.gnss_obs.specs.declared.system.System.TheVariants.{Gps, Galileo}
 use Rattle.obs_epoch.specs.Held.{Crowded, Kept, Repeated, Skipped, count_in}
-use Rattle.obs_epoch.specs.Heard.{GatherSetup, HeardCell}
-use Rattle.obs_epoch.specs.Cells.{no_counts, counts_of, is_of_system, is_among, has_same_key, kept, kept_of_both, is_planned}
-use Rattle.obs_epoch.specs.Values.{most_cells}
+use Rattle.obs_epoch.specs.Heard.{GatherSetup}
+use Rattle.gnss_obs.specs.HeardCells.{HeardCell}
+use Rattle.obs_epoch.specs.Cells.{no_counts, counts_of, is_of_system, is_among, kept, kept_of_both, is_planned}
+use Rattle.gnss_obs.specs.HeardCells.{has_same_key}
+use Rattle.gnss_obs.specs.Values.{most_cells}
 use Rattle.obs_epoch.proofs.CellsLemmas.{kept-add, mine, mine-among, among-push, same_key_laws, key_system}
 use Rattle.obs_epoch.proofs.NotingLemmas.{kept_apart}
 use Rattle.obs_epoch.proofs.LoadLemmas.{counts_after, outcome_after, planned_one}

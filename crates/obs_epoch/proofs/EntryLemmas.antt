@@ -7,10 +7,11 @@ use Rattle.std.specs.List.{cons_option}
 use Rattle.gnss_obs.specs.declared.system.System.{System}
 use Rattle.rtcm_msg.specs.declared.entry.Entry.{Entry}
 use Rattle.obs_epoch.specs.Held.{CellOutcome, Crowded, Kept, Repeated, Skipped, count_in}
-use Rattle.obs_epoch.specs.Heard.{seen_in, unlisted_in, HeardCell, kept_cell}
+use Rattle.obs_epoch.specs.Heard.{seen_in, unlisted_in}
+use Rattle.gnss_obs.specs.HeardCells.{HeardCell, kept_cell}
 use Rattle.obs_epoch.specs.Cells.{has_listed_key, with_skipped}
-use Rattle.obs_epoch.specs.Plans.{place_in}
-use Rattle.obs_epoch.specs.Values.{planned_of}
+use Rattle.gnss_obs.specs.Plans.{place_in}
+use Rattle.gnss_obs.specs.Values.{planned_of}
 use Rattle.obs_epoch.specs.Gather.{Loaded, load, load_one, load_entries, with_unlisted, outcome_in, hold, hold_by, planned_cell}
 use Rattle.obs_epoch.specs.declared.taken.CellCounts.{CellCounts}
 use Rattle.std.proofs.lemmas.Grind.{common_steps}

@@ -3,11 +3,12 @@ use Rattle.std.proofs.Common.{◌≡◌, ℕ, ◌<◌, Bool, true, false, List, 
 use Rattle.std.specs.Prelude.{cond, filter_map}
 use Rattle.std.proofs.lemmas.List.Elements.{filter-append}
 use Rattle.gnss_obs.specs.declared.system.System.{System}
-use Rattle.obs_epoch.specs.Heard.{GatherSetup, HeardCell}
+use Rattle.obs_epoch.specs.Heard.{GatherSetup}
+use Rattle.gnss_obs.specs.HeardCells.{HeardCell}
 use Rattle.obs_epoch.specs.Times.{Timed, greatest_time}
 use Rattle.obs_epoch.specs.Cells.{offered, kept, kept_at}
-use Rattle.obs_epoch.specs.Order.{sorted}
-use Rattle.obs_epoch.specs.Values.{planned_of}
+use Rattle.gnss_obs.specs.Order.{sorted}
+use Rattle.gnss_obs.specs.Values.{planned_of}
 use Rattle.obs_epoch.specs.Loss.{times, locked_at, previous, lli_of}
 use Rattle.obs_epoch.specs.Epochs.{cells_with_lli, epoch_at, closed_times}
 use Rattle.obs_epoch.specs.Times.{is_closed}

@@ -14,7 +14,7 @@ use Rattle.obs_epoch.specs.Gathering.{open_after, before_closing, closed_at, clo
 use Rattle.obs_epoch.proofs.TimesLemmas.{next, timed-push, greatest-push}
 use Rattle.obs_epoch.proofs.ClosedLemmas.{ends, no_times, closed_is, when, taken_follows, grows_by}
 use Rattle.obs_epoch.proofs.EpochLemmas.{AllLater, IsLater, epoch_at-push, times_before, all_later}
-use Rattle.obs_epoch.specs.Values.{EpochValue}
+use Rattle.gnss_obs.specs.Values.{EpochValue}
 use Rattle.std.proofs.lemmas.Grind.{common_steps}
 
 -- ---- a closed epoch stays closed

@@ -5,7 +5,7 @@ use Rattle.std.specs.Option.{option_map_or}
 use Rattle.std.specs.List.{list_any}
 use Rattle.std.proofs.lemmas.List.{map-append}
 use Rattle.obs_epoch.specs.Heard.{GatherSetup, Heard, ends_epoch}
-use Rattle.obs_epoch.specs.Values.{Closed, EpochValue}
+use Rattle.gnss_obs.specs.Values.{Closed, EpochValue}
 use Rattle.obs_epoch.specs.Times.{Timed, is_at, greatest_time, from_first, is_closed, taken_at, timed}
 use Rattle.obs_epoch.specs.Loss.{times}
 use Rattle.obs_epoch.specs.Epochs.{is_shut, closed_times, closed_so_far, epoch_at, values_of}

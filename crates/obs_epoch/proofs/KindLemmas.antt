@@ -1,7 +1,7 @@
 -- The outcome of a message: whether it is expected again.
 use Rattle.std.proofs.Common.{◌≡◌, Bool, true, false, List, refl, sym, ap, ◌∙◌, subst, arith, Option, Some, None, is_some}
 use Rattle.obs_epoch.specs.Heard.{GatherSetup, Heard}
-use Rattle.obs_epoch.specs.Values.{Closed}
+use Rattle.gnss_obs.specs.Values.{Closed}
 use Rattle.obs_epoch.specs.Times.{timed}
 use Rattle.obs_epoch.specs.Clock.{State, closes_first}
 use Rattle.obs_epoch.specs.Step.{kind_by}

@@ -1,6 +1,3 @@
-pub mod Days
-pub mod WalkLemmas
-pub mod CivilLemmas
 pub mod ClosingLemmas
 pub mod LoadLemmas
 pub mod EpochLemmas
@@ -15,15 +12,11 @@ pub mod StandingLemmas
 pub mod ClockLemmas
 pub mod Rows
 pub mod EntryLemmas
-pub mod SignalLemmas
-pub mod PlanLemmas
-pub mod FitLemmas
 pub mod GatheringLemmas
 pub mod HandingLemmas
 pub mod KindLemmas
 mod OrderLemmas
 mod StandLemmas
-pub mod GroupLemmas
 mod ReachLemmas
 mod SignalCountsLemmas
 pub mod ViewLemmas

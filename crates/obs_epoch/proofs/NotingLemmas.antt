@@ -8,10 +8,12 @@ use Rattle.std.proofs.lemmas.Grind.{flat_map-append}
 use Rattle.std.proofs.lemmas.Map.Keys.{IsDistinct-push}
 use Rattle.gnss_obs.specs.declared.system.System.{System}
 use Rattle.gnss_obs.specs.declared.system.System.TheVariants.{Gps, Galileo}
-use Rattle.obs_epoch.specs.Heard.{GatherSetup, HeardCell}
+use Rattle.obs_epoch.specs.Heard.{GatherSetup}
+use Rattle.gnss_obs.specs.HeardCells.{HeardCell}
 use Rattle.obs_epoch.specs.Times.{Timed, is_at}
-use Rattle.obs_epoch.specs.Cells.{is_of_system, has_listed_key, is_planned, has_same_key, is_among, kept, kept_at, add, offered}
-use Rattle.obs_epoch.specs.Values.{planned_of, EpochValue}
+use Rattle.obs_epoch.specs.Cells.{is_of_system, has_listed_key, is_planned, is_among, kept, kept_at, add, offered}
+use Rattle.gnss_obs.specs.HeardCells.{has_same_key}
+use Rattle.gnss_obs.specs.Values.{planned_of, EpochValue}
 use Rattle.obs_epoch.proofs.OrderLemmas.{among-sorted, all-sorted, distinct-sorted}
 use Rattle.obs_epoch.specs.Loss.{lock_of, locked_at, latest_in, last_of, is_locked}
 use Rattle.obs_epoch.specs.Epochs.{cells_with_lli, epoch_at}
@@ -20,7 +22,7 @@ use Rattle.obs_epoch.specs.Gather.{Gathered, noted}
 use Rattle.obs_epoch.specs.GathererHistory.{locked_in, Locked}
 use Rattle.obs_epoch.proofs.CellsLemmas.{kept-add, same_key_laws}
 use Rattle.obs_epoch.proofs.LockLemmas.{seens, lookup-note_all, note_all_size, tracks_all, locked, find_none, AllListed}
-use Rattle.obs_epoch.specs.declared.cell.Cell.{Cell}
+use Rattle.gnss_obs.specs.declared.cell.Cell.{Cell}
 use Rattle.obs_epoch.specs.declared.locks.KnownLock.{KnownLock}
 use Rattle.std.proofs.lemmas.Grind.{common_steps}
 

@@ -1,14 +1,14 @@
 -- Cells in order, and one more cell.
-use Rattle.std.proofs.Common.{◌≡◌, ℕ, zero, suc, ◌+◌, ◌<◌, ◌≤◌, Bool, true, false, ◌||◌, List, [], ◌∷◌, ◌++◌, map, refl, sym, ap, ◌∙◌, subst, arith, length, get_or, insert}
+use Rattle.std.proofs.Common.{◌≡◌, ℕ, suc, ◌+◌, Bool, true, false, ◌||◌, List, [], ◌∷◌, ◌++◌, map, refl, sym, ap, ◌∙◌, subst, arith, length, insert}
 use Rattle.std.specs.Prelude.{if◌then◌else◌, fold}
-use Rattle.std.proofs.lemmas.List.{get_or-map, length-map}
 use Rattle.std.specs.List.{list_any, AllByRecursion, IsDistinct}
 use Rattle.std.proofs.lemmas.Map.Keys.{IsDistinct-head, IsDistinct-tail, IsDistinct-cons}
-use Rattle.obs_epoch.specs.declared.epoch.SortKey.{SortKey}
-use Rattle.obs_epoch.specs.Cells.{has_same_key, is_among}
+use Rattle.gnss_obs.specs.declared.epoch.SortKey.{SortKey}
+use Rattle.obs_epoch.specs.Cells.{is_among}
+use Rattle.gnss_obs.specs.HeardCells.{has_same_key}
 use Rattle.obs_epoch.proofs.CellsLemmas.{same_key_laws}
-use Rattle.obs_epoch.specs.Order.{is_before, SortKeysRise, insert_by, insertion_index, sort_key_of, sorted}
-use Rattle.obs_epoch.specs.Heard.{HeardCell}
+use Rattle.gnss_obs.specs.Order.{is_before, SortKeysRise, insert_by, insertion_index, sort_key_of, sorted}
+use Rattle.gnss_obs.specs.HeardCells.{HeardCell}
 use Rattle.std.proofs.lemmas.Grind.{common_steps}
 
 -- ---- sort keys
@@ -62,51 +62,6 @@ rise-insert_by at x (y ∷ ys) r other = by (is_before (at x) (at y)) refl (rise
       let first = before_other (at x) (at y) e other.0 in
       let all : Before (at y) (insert_by (λ (s : SortKey). s) (at x) (map at ys)) = all-insert_by (λ t. is_before (at y) t ≡ true) (λ (s : SortKey). s) (at x) (map at ys) first r.0 in
       (subst (Before (at y)) (sym (map-insert_by at at (λ (s : SortKey). s) (λ z. refl) x ys)) all, h)
-
--- ---- the search for the index
-
-not_before : (s a b : SortKey) → is_before a b ≡ true → is_before s b ≡ false → is_before s a ≡ false
-not_before s a b h k = grind (arith, common_steps)
-
-pub get_before : (a : SortKey) (ts : List SortKey) (k : ℕ) (d : SortKey) → k < length ts → Before a ts → is_before a (get_or ts k d) ≡ true
-get_before a [] k d h all = absurd (omega (arith, h))
-get_before a (t ∷ ts) zero d h all = all.0
-get_before a (t ∷ ts) (suc k) d h all = get_before a ts k d (omega (arith, h)) all.1
-
-pub index_most : (s : SortKey) (ts : List SortKey) → insertion_index s ts ≤ length ts
-index_most s [] = omega arith
-index_most s (t ∷ ts) = grind (arith, common_steps, index_most s ts)
-
-index_upper : (s : SortKey) (ts : List SortKey) (k : ℕ) (d : SortKey) → k < length ts → is_before s (get_or ts k d) ≡ true → insertion_index s ts ≤ k
-index_upper s [] k d h after = absurd (omega (arith, h))
-index_upper s (t ∷ ts) zero d h after = let e : insertion_index s (t ∷ ts) ≡ 0 = ap (λ b. if b then 0 else suc (insertion_index s ts)) after in omega (arith, e)
-index_upper s (t ∷ ts) (suc k) d h after = grind (arith, common_steps, index_upper s ts k d (omega (arith, h)) after)
-
-index_lower : (s : SortKey) (ts : List SortKey) (k : ℕ) (d : SortKey) → SortKeysRise ts → k < length ts → is_before s (get_or ts k d) ≡ false → suc k ≤ insertion_index s ts
-index_lower s [] k d r h front = absurd (omega (arith, h))
-index_lower s (t ∷ ts) zero d r h front = let e : insertion_index s (t ∷ ts) ≡ suc (insertion_index s ts) = ap (λ b. if b then 0 else suc (insertion_index s ts)) front in omega (arith, e)
-index_lower s (t ∷ ts) (suc k) d r h front =
-    let less : k < length ts = omega (arith, h) in
-    let e : insertion_index s (t ∷ ts) ≡ suc (insertion_index s ts) = ap (λ b. if b then 0 else suc (insertion_index s ts)) (not_before s t (get_or ts k d) (get_before t ts k d less r.0) front) in
-    let more = index_lower s ts k d r.1 less front in
-    omega (arith, e, more)
-
-module _ {X : Type 0} (s : SortKey) (f : X → SortKey) (xs : List X) (k : ℕ) (x : X) (less : k < length xs) (is : x ≡ get_or xs k x) where
-  here : get_or (map f xs) k (f x) ≡ f x
-  here = get_or-map f xs k x (f x) less ∙ ap f (sym is)
-
-  within : k < length (map f xs)
-  within = subst (λ n. k < n) (sym (length-map xs f)) less
-
-  -- An item with a greater sort key, and one without.
-  pub index_before : is_before s (f x) ≡ true → insertion_index s (map f xs) ≤ k
-  index_before after = index_upper s (map f xs) k (f x) within (ap (is_before s) here ∙ after)
-
-  pub index_after : SortKeysRise (map f xs) → is_before s (f x) ≡ false → k + 1 ≤ insertion_index s (map f xs)
-  index_after r front = let h = index_lower s (map f xs) k (f x) r within (ap (is_before s) here ∙ front) in omega (arith, h)
-
-pub index_within : {X : Type 0} (s : SortKey) (f : X → SortKey) (xs : List X) → insertion_index s (map f xs) ≤ length xs
-index_within s f xs = let h = index_most s (map f xs) in let n = length-map xs f in omega (arith, h, n)
 
 -- ---- the same cells
 

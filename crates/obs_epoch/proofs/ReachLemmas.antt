@@ -16,17 +16,20 @@ use Rattle.rtcm_msg.specs.declared.message.Message.TheVariants.{Station, Msm4, M
 use Rattle.rtcm_msg.specs.Encoding.{IsMessage}
 use Rattle.rtcm_msg.specs.Bounds.{IsMeasured, EntriesAreMeasured, PointsAreInRange}
 use Rattle.rtcm_msg.specs.Entries.{entries}
-use Rattle.obs_epoch.specs.declared.cell.StationValues.{StationValues}
+use Rattle.gnss_obs.specs.declared.cell.StationValues.{StationValues}
 use Rattle.rtcm_msg.specs.Msm.{week}
-use Rattle.obs_epoch.specs.Weeks.{weeks}
-use Rattle.obs_epoch.specs.Values.{Closed, HasTwelveDigits, cells_of, planned_of, most_cells}
-use Rattle.obs_epoch.specs.Heard.{GatherSetup, Heard, heard, observed, seen_in, lock_by, HeardCell, kept_cell}
+use Rattle.gnss_obs.specs.Weeks.{weeks}
+use Rattle.gnss_obs.specs.Values.{Closed, HasTwelveDigits, cells_of, planned_of, most_cells}
+use Rattle.obs_epoch.specs.Heard.{GatherSetup, Heard, heard, observed, seen_in, lock_by}
+use Rattle.gnss_obs.specs.HeardCells.{HeardCell, kept_cell}
 use Rattle.obs_epoch.specs.Times.{Timed, is_at, timed, timed_after, taken_at}
-use Rattle.obs_epoch.specs.Cells.{is_of_system, is_planned, has_same_key, offered, firsts_after, firsts, kept, kept_at}
+use Rattle.obs_epoch.specs.Cells.{is_of_system, is_planned, offered, firsts_after, firsts, kept, kept_at}
+use Rattle.gnss_obs.specs.HeardCells.{has_same_key}
 use Rattle.obs_epoch.specs.Loss.{times, lli_with, lli_of, has_lost}
 use Rattle.obs_epoch.specs.Epochs.{cells_with_lli, epoch_at, values_by_message, is_shut}
 use Rattle.obs_epoch.specs.Gathering.{open_after, before_closing, closed_list_at, all_epochs}
-use Rattle.obs_epoch.specs.Reach.{IsStrength, IsHeardCell, IsHeard, IsGathered, same_place, AreGathered, AreStationValues, IsGatheredEpoch, TimesRise, AreGatheredEpochs}
+use Rattle.obs_epoch.specs.Reach.{IsHeardCell, IsHeard}
+use Rattle.gnss_obs.specs.GatheredEpochs.{IsStrength, IsGathered, same_place, AreGathered, AreStationValues, IsGatheredEpoch, TimesRise, AreGatheredEpochs}
 use Rattle.obs_epoch.proofs.OrderLemmas.{all-sorted, distinct-sorted}
 use Rattle.obs_epoch.proofs.NotingLemmas.{kept_distinct}
 use Rattle.obs_epoch.specs.declared.locks.KnownLock.{KnownLock}

@@ -11,8 +11,9 @@ use Rattle.gnss_obs.specs.Satellites.{Satellite, satellite_of_id}
 use Rattle.gnss_obs.specs.Signals.{SignalAt, IsSignal, signal_of_id}
 use Rattle.gnss_obs.specs.LockTimes.{LockTime}
 use Rattle.rtcm_msg.specs.declared.entry.Entry.{Entry}
-use Rattle.obs_epoch.specs.Heard.{Heard, seen_in, lock_by, observed, HeardCell}
-use Rattle.obs_epoch.specs.Cells.{is_system}
+use Rattle.obs_epoch.specs.Heard.{Heard, seen_in, lock_by, observed}
+use Rattle.gnss_obs.specs.HeardCells.{HeardCell}
+use Rattle.gnss_obs.specs.Satellites.{is_system}
 use Rattle.obs_epoch.specs.SignalCounts.{SignalCountsValue, brings_value, valued, is_of_signal, count_of, AreSignalCounts, counted_of, CountsEntries, one_up, entry_signal, entry_value}
 use Rattle.std.proofs.lemmas.Grind.{common_steps}
 

@@ -5,7 +5,8 @@ use Rattle.std.specs.Option.{option_map_or}
 use Rattle.std.specs.List.{list_any}
 use Rattle.std.proofs.lemmas.List.Elements.{filter-append}
 use Rattle.gnss_obs.specs.declared.system.System.TheVariants.{Gps, Galileo}
-use Rattle.obs_epoch.specs.Heard.{GatherSetup, Heard, is_own, ends_epoch, HeardCell, kept_cell}
+use Rattle.obs_epoch.specs.Heard.{GatherSetup, Heard, is_own, ends_epoch}
+use Rattle.gnss_obs.specs.HeardCells.{HeardCell, kept_cell}
 use Rattle.obs_epoch.specs.Times.{Timed, is_at, greatest_time, is_closed, taken_at}
 use Rattle.obs_epoch.specs.Cells.{no_counts, kept_at, offered, is_planned}
 use Rattle.obs_epoch.specs.Loss.{locked_at, latest_in, previous, times, lli_with}

@@ -9,7 +9,8 @@ use Rattle.rtcm_msg.specs.declared.message.Message.TheVariants as message
 use Rattle.obs_epoch.specs.declared.taken.Kind.{Kind}
 use Rattle.obs_epoch.specs.declared.taken.Kind.TheVariants.{CloseFirst}
 use Rattle.obs_epoch.specs.declared.taken.CellCounts.{CellCounts}
-use Rattle.obs_epoch.specs.Heard.{GatherSetup, Heard, heard, is_own, ends_epoch, HeardCell}
+use Rattle.obs_epoch.specs.Heard.{GatherSetup, Heard, heard, is_own, ends_epoch}
+use Rattle.gnss_obs.specs.HeardCells.{HeardCell}
 use Rattle.obs_epoch.specs.Times.{Timed, greatest_time, taken_at, timed}
 use Rattle.obs_epoch.specs.Cells.{no_counts, with_skipped, offered, counts_of, counts_of_message}
 use Rattle.obs_epoch.specs.Epochs.{epoch_at, closed_so_far, closed_times, values_of, values_by_message}
@@ -28,7 +29,7 @@ use Rattle.obs_epoch.proofs.CountsLemmas.{counts_are}
 use Rattle.obs_epoch.proofs.LoadLemmas.{hold_is}
 use Rattle.obs_epoch.proofs.NotingLemmas.{noted_locked}
 use Rattle.obs_epoch.proofs.StandingLemmas.{locked-push, closed_later, loaded_taken, held_same}
-use Rattle.obs_epoch.specs.Values.{EpochValue}
+use Rattle.gnss_obs.specs.Values.{EpochValue}
 use Rattle.std.proofs.lemmas.Grind.{common_steps}
 
 pub clock_is : (g : State) (s : GatherSetup) (ms : List Heard) (shut : Bool) → HasHeardMessages g s ms shut → g ≡ standing s (timed s ms) shut

@@ -1,38 +1,24 @@
 -- The cells of an epoch: the first of each key, and of these the first ones of each system, up to the largest number.
-use Rattle.std.specs.Prelude.{ℕ, ◌+◌, ◌-◌, ◌==◌, ◌&&◌, ◌||◌, Bool, true, false, not, nat_le, nat_lt, List, [], ◌∷◌}
+use Rattle.std.specs.Prelude.{ℕ, ◌+◌, ◌-◌, ◌&&◌, ◌||◌, Bool, not, nat_le, nat_lt, List, [], ◌∷◌}
 use Rattle.std.specs.Prelude.{◌++◌, filter, flat_map, take, length, count_by, is_some, if◌then◌else◌}
 use Rattle.std.specs.Option.{option_map_or}
 use Rattle.std.specs.List.{list_any}
 use Rattle.gnss_obs.specs.declared.system.System.{System}
 use Rattle.gnss_obs.specs.declared.system.System.TheVariants.{Gps, Galileo}
-use Rattle.gnss_obs.specs.Satellites.{Satellite, satellites}
-use Rattle.gnss_obs.specs.Signals.{SignalAt, table}
-use Rattle.obs_epoch.specs.Values.{planned_of, most_cells}
-use Rattle.obs_epoch.specs.Plans.{place_in}
-use Rattle.obs_epoch.specs.Order.{sorted}
-use Rattle.obs_epoch.specs.Heard.{GatherSetup, Heard, HeardCell}
+use Rattle.gnss_obs.specs.Satellites.{satellites}
+use Rattle.gnss_obs.specs.Signals.{table}
+use Rattle.gnss_obs.specs.Values.{planned_of, most_cells}
+use Rattle.gnss_obs.specs.Plans.{place_in}
+use Rattle.gnss_obs.specs.Order.{sorted}
+use Rattle.obs_epoch.specs.Heard.{GatherSetup, Heard}
+use Rattle.gnss_obs.specs.HeardCells.{HeardCell}
 use Rattle.obs_epoch.specs.Times.{Timed, is_at, taken_at}
 use Rattle.obs_epoch.specs.declared.taken.CellCounts.{CellCounts}
-
-abbrev pub is_gps : System → Bool
-is_gps Gps = true
-is_gps Galileo = false
-
-abbrev pub is_system : System → System → Bool
-is_system Gps s = is_gps s
-is_system Galileo s = not (is_gps s)
+use Rattle.gnss_obs.specs.HeardCells.{has_same_key}
+use Rattle.gnss_obs.specs.Satellites.{is_system}
 
 abbrev pub is_of_system : System → HeardCell → Bool
 is_of_system system x = is_system system x.satellite.system
-
--- The same system, satellite and signal.
-abbrev pub same_key : Satellite → SignalAt → Satellite → SignalAt → Bool
-same_key satellite signal other_satellite other_signal =
-    is_system satellite.system other_satellite.system && (satellite.id == other_satellite.id)
-    && (signal.index == other_signal.index)
-
-abbrev pub has_same_key : HeardCell → HeardCell → Bool
-has_same_key a b = same_key a.satellite a.signal b.satellite b.signal
 
 -- The satellite is one of its system, and the signal is in that system's table.
 abbrev pub has_listed_key : HeardCell → Bool

@@ -3,7 +3,7 @@ use Rattle.std.specs.Prelude.{ℕ, ◌≡◌, ◌*◌, ◌<◌, ◌&&◌, Bool, 
 use Rattle.std.specs.Option.{option_map_or, ForSome}
 use Rattle.obs_epoch.specs.Heard.{GatherSetup, Heard, is_own}
 use Rattle.rtcm_msg.specs.Msm.{week}
-use Rattle.obs_epoch.specs.Weeks.{weeks}
+use Rattle.gnss_obs.specs.Weeks.{weeks}
 use Rattle.obs_epoch.specs.Times.{Timed, greatest_time, is_closed, is_late, is_past, time_of, timed}
 
 -- The value of a clock: its setup, the greatest time, and whether the epoch of that time is pending.

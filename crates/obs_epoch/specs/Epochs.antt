@@ -1,16 +1,17 @@
 -- The epochs of a list of messages.
 use Rattle.std.specs.Prelude.{ℕ, ◌||◌, Bool, false, nat_lt, List, [], ◌∷◌, ◌++◌, filter, fold, map, if◌then◌else◌}
-use Rattle.std.specs.Prelude.{option_to_list, pos}
+use Rattle.std.specs.Prelude.{option_to_list}
 use Rattle.std.specs.Option.{option_map_or}
 use Rattle.gnss_obs.specs.declared.system.System.TheVariants.{Gps, Galileo}
 use Rattle.rtcm_msg.specs.declared.station.StationParts.{StationParts}
-use Rattle.obs_epoch.specs.declared.cell.StationValues.{StationValues}
-use Rattle.obs_epoch.specs.Heard.{GatherSetup, Heard, is_own, HeardCell, kept_cell}
+use Rattle.gnss_obs.specs.declared.cell.StationValues.{StationValues}
+use Rattle.obs_epoch.specs.Heard.{GatherSetup, Heard, is_own}
+use Rattle.gnss_obs.specs.HeardCells.{HeardCell, kept_cell}
 use Rattle.obs_epoch.specs.Times.{Timed, greatest_time, is_closed}
 use Rattle.obs_epoch.specs.Cells.{kept_at}
 use Rattle.obs_epoch.specs.Loss.{times, lli_of}
-use Rattle.obs_epoch.specs.declared.cell.Cell.{Cell}
-use Rattle.obs_epoch.specs.Values.{EpochValue}
+use Rattle.gnss_obs.specs.declared.cell.Cell.{Cell}
+use Rattle.gnss_obs.specs.Values.{EpochValue}
 
 abbrev pub cells_with_lli : GatherSetup → List Timed → ℕ → List HeardCell → List Cell
 cells_with_lli s xs t [] = []
@@ -42,9 +43,6 @@ values_by p height = record { x = p.x; y = p.y; z = p.z; height = option_map_or 
 
 abbrev pub values_by_message : GatherSetup → StationValues → Heard → StationValues
 values_by_message s v m = if is_own s m then option_map_or (λ p. values_by p v.height) m.point v else v
-
-abbrev pub no_values : StationValues
-no_values = record { x = pos 0; y = pos 0; z = pos 0; height = 0 }
 
 -- The point of the last own message that has one, and the last height; the initial values before.
 abbrev pub values_of : GatherSetup → List Heard → StationValues

@@ -1,25 +1,25 @@
 -- The value of a gatherer, and its steps in parts.
-use Rattle.std.specs.Prelude.{ℕ, ◌≡◌, ◌==◌, Bool, true, false, List, [], ◌∷◌, map, insert, if◌then◌else◌, Option, Some}
+use Rattle.std.specs.Prelude.{ℕ, ◌==◌, Bool, true, false, List, [], ◌∷◌, if◌then◌else◌, Option, Some}
 use Rattle.std.specs.Prelude.{None, is_some}
 use Rattle.std.specs.Option.{option_map_or}
 use Rattle.gnss_obs.specs.declared.system.System.{System}
 use Rattle.gnss_obs.specs.declared.system.System.TheVariants.{Gps, Galileo}
-use Rattle.obs_epoch.specs.declared.cell.StationValues.{StationValues}
+use Rattle.gnss_obs.specs.declared.cell.StationValues.{StationValues}
 use Rattle.obs_epoch.specs.Held.{CellOutcome, Kept, count_in, lookup, note_all, outcome_of}
 use Rattle.rtcm_msg.specs.declared.entry.Entry.{Entry}
 use Rattle.rtcm_msg.specs.declared.entry.LockField.{LockField}
-use Rattle.obs_epoch.specs.Heard.{Heard, seen_in, HeardCell, kept_cell}
+use Rattle.obs_epoch.specs.Heard.{Heard, seen_in}
+use Rattle.gnss_obs.specs.HeardCells.{HeardCell, kept_cell}
 use Rattle.obs_epoch.specs.Cells.{no_counts, with_skipped}
 use Rattle.obs_epoch.specs.Kinds.{is_kept}
-use Rattle.std.specs.List.{AllByRecursion}
-use Rattle.obs_epoch.specs.Values.{PlanValue, planned_of, EpochValue, cells_of}
-use Rattle.obs_epoch.specs.Plans.{place_in}
-use Rattle.obs_epoch.specs.Order.{SortKeysRise, insert_by, insertion_index, sort_key_of, cell_sort_key}
+use Rattle.gnss_obs.specs.Values.{PlanValue, planned_of, EpochValue, cells_of}
+use Rattle.gnss_obs.specs.Plans.{place_in}
+use Rattle.gnss_obs.specs.Order.{insert_by, cell_sort_key}
 use Rattle.obs_epoch.specs.Loss.{lli_with}
 use Rattle.obs_epoch.specs.Epochs.{values_by_message}
 use Rattle.obs_epoch.specs.Clock.{State}
 use Rattle.obs_epoch.specs.Step.{kind_by, step_by, closed_by}
-use Rattle.obs_epoch.specs.declared.cell.Cell.{Cell}
+use Rattle.gnss_obs.specs.declared.cell.Cell.{Cell}
 use Rattle.obs_epoch.specs.declared.locks.KnownLock.{KnownLock}
 use Rattle.obs_epoch.specs.declared.taken.CellCounts.{CellCounts}
 
@@ -35,26 +35,6 @@ with_more_in Galileo p e m = record e { galileo = insert_by (cell_sort_key p.gal
 
 abbrev pub with_more : PlanValue → EpochValue → Cell → EpochValue
 with_more p e m = with_more_in m.satellite.system p e m
-
--- One more cell, inserted at this index among those of its system.
-abbrev pub more_at : System → ℕ → EpochValue → Cell → EpochValue
-more_at Gps at e m = record e { gps = insert e.gps at m }
-more_at Galileo at e m = record e { galileo = insert e.galileo at m }
-
--- The number of cells that are not after a cell of that key.
-abbrev pub insertion_index_in : PlanValue → EpochValue → HeardCell → ℕ
-insertion_index_in p e x =
-    let planned = planned_of x.satellite.system p in
-    insertion_index (sort_key_of planned x) (map (cell_sort_key planned) (cells_of x.satellite.system e))
-
--- Planned cells of a system in the order of a plan.
-pub record AreInPlanOrder (system : System) (planned : List ℕ) (ms : List Cell) : Type 0 where
-  pub each : AllByRecursion (λ m. (m.satellite.system ≡ system) × (is_some (place_in m.signal planned) ≡ true)) ms
-  pub rise : SortKeysRise (map (cell_sort_key planned) ms)
-
-pub record AreInOrder (p : PlanValue) (e : EpochValue) : Type 0 where
-  pub gps : AreInPlanOrder Gps p.gps e.gps
-  pub galileo : AreInPlanOrder Galileo p.galileo e.galileo
 
 -- ---- the gatherer
 

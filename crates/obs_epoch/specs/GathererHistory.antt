@@ -2,7 +2,8 @@
 use Rattle.std.specs.Prelude.{ℕ, ◌≡◌, Bool, List, [], ◌∷◌, ◌++◌, filter, flat_map, map, if◌then◌else◌}
 use Rattle.std.specs.Option.{option_map_or}
 use Rattle.gnss_obs.specs.declared.system.System.TheVariants.{Gps, Galileo}
-use Rattle.obs_epoch.specs.Heard.{GatherSetup, Heard, HeardCell}
+use Rattle.obs_epoch.specs.Heard.{GatherSetup, Heard}
+use Rattle.gnss_obs.specs.HeardCells.{HeardCell}
 use Rattle.obs_epoch.specs.Times.{Timed, greatest_time, timed}
 use Rattle.obs_epoch.specs.Cells.{kept_at}
 use Rattle.obs_epoch.specs.Loss.{is_locked, latest_in}
@@ -10,7 +11,7 @@ use Rattle.obs_epoch.specs.Epochs.{epoch_at, closed_so_far, values_of}
 use Rattle.obs_epoch.specs.Held.{lookup, TracksLocks}
 use Rattle.obs_epoch.specs.Clock.{HasHeardMessages}
 use Rattle.obs_epoch.specs.Gather.{Gathered, no_epoch}
-use Rattle.obs_epoch.specs.Values.{EpochValue}
+use Rattle.gnss_obs.specs.Values.{EpochValue}
 
 -- The locked cells of the epochs of these times.
 abbrev pub locked_in : GatherSetup → List Timed → List ℕ → List HeardCell

@@ -3,9 +3,9 @@ use Rattle.std.specs.Prelude.{ℕ, ◌≡◌, ◌&&◌, ◌||◌, Bool, true, Li
 use Rattle.std.specs.Prelude.{None, is_some, option_to_list}
 use Rattle.std.specs.Option.{IfSome, option_map_or}
 use Rattle.rtcm_bits.specs.Prefix.{IsPrefix}
-use Rattle.obs_epoch.specs.declared.cell.StationValues.{StationValues}
+use Rattle.gnss_obs.specs.declared.cell.StationValues.{StationValues}
 use Rattle.obs_epoch.specs.Heard.{GatherSetup, Heard}
-use Rattle.obs_epoch.specs.Values.{EpochValue, PlanValue, Closed}
+use Rattle.gnss_obs.specs.Values.{EpochValue, PlanValue, Closed}
 use Rattle.obs_epoch.specs.Times.{timed}
 use Rattle.obs_epoch.specs.Loss.{times}
 use Rattle.obs_epoch.specs.Epochs.{epoch_at, is_shut, closed_times, closed_so_far, values_of}

@@ -1,11 +1,11 @@
 -- The setup of a gatherer, and the parts of a message that it uses.
-use Rattle.std.specs.Prelude.{ℕ, ℤ, ◌≡◌, IfSome, ◌==◌, ◌&&◌, Bool, true, false, not, List, [], ◌∷◌, if◌then◌else◌}
+use Rattle.std.specs.Prelude.{ℕ, ◌==◌, ◌&&◌, Bool, true, false, not, List, [], ◌∷◌, if◌then◌else◌}
 use Rattle.std.specs.Prelude.{Option, Some, None, option_map, option_and_then, filter_map, ◌+◌, is_some}
 use Rattle.std.specs.Option.{option_map_or}
 use Rattle.gnss_obs.specs.declared.system.System.{System}
 use Rattle.gnss_obs.specs.declared.system.System.TheVariants.{Gps, Galileo}
-use Rattle.gnss_obs.specs.Satellites.{Satellite, satellite_of_id, IsSatellite}
-use Rattle.gnss_obs.specs.Signals.{SignalAt, signal_of_id, hertz_of, IsSignal}
+use Rattle.gnss_obs.specs.Satellites.{Satellite, satellite_of_id}
+use Rattle.gnss_obs.specs.Signals.{SignalAt, signal_of_id, hertz_of}
 use Rattle.gnss_obs.specs.Observables.{nearest_pseudorange, nearest_phase, nearest_doppler, nearest_strength}
 use Rattle.gnss_obs.specs.LockTimes.{LockTime, times4, times7}
 use Rattle.rtcm_msg.specs.declared.station.StationParts.{StationParts}
@@ -17,9 +17,9 @@ use Rattle.rtcm_msg.specs.declared.entry.LockField.{LockField}
 use Rattle.rtcm_msg.specs.declared.entry.LockField.TheVariants.{Df402, Df407}
 use Rattle.rtcm_msg.specs.declared.summary.Summary.{Summary}
 use Rattle.rtcm_msg.specs.Entries.{entries}
-use Rattle.obs_epoch.specs.Values.{PlanValue, HasTwelveDigits}
-use Rattle.obs_epoch.specs.declared.cell.Cell.{Cell}
-use Rattle.obs_epoch.specs.declared.cell.StationValues.{StationValues}
+use Rattle.gnss_obs.specs.Values.{PlanValue}
+use Rattle.gnss_obs.specs.declared.cell.StationValues.{StationValues}
+use Rattle.gnss_obs.specs.HeardCells.{HeardCell}
 
 -- The setup of a gatherer: the planned signals, the week of the first time, the station (none: the messages of all
 -- stations as if they were one), whether a message may close an epoch, and the station values before any message.
@@ -29,59 +29,6 @@ pub record GatherSetup : Type 0 where
   pub station : Option ℕ
   pub by_bit : Bool
   pub initial : StationValues
-
--- A cell of a message, of a listed satellite and signal: its values in thousandths, the lock of its phase, and whether
--- the phase may be off by half a cycle (DF420).
-pub record HeardCell : Type 0 where
-  pub satellite : Satellite
-  pub signal : SignalAt
-  pub c : Option ℤ
-  pub l : Option ℤ
-  pub d : Option ℤ
-  pub s : Option ℤ
-  pub lock : LockTime
-  pub half_cycle : Bool
-
--- A listed satellite and a listed signal of one system.
-pub record IsKey (x : HeardCell) : Type 0 where
-  pub satellite : IsSatellite x.satellite
-  pub signal : IsSignal x.signal
-  pub same : x.signal.system ≡ x.satellite.system
-
--- A cell of a listed satellite and signal of one system, with bounded values.
-pub record IsObserved (x : HeardCell) : Type 0 where
-  pub key : IsKey x
-  pub c : IfSome x.c HasTwelveDigits
-  pub l : IfSome x.l HasTwelveDigits
-  pub d : IfSome x.d HasTwelveDigits
-  pub s : IfSome x.s HasTwelveDigits
-
--- The kept cell of an epoch with this loss of lock indicator.
-abbrev pub kept_cell : HeardCell → ℕ → Cell
-kept_cell x lli = record {
-  satellite = x.satellite;
-  signal = x.signal;
-  c = x.c;
-  l = x.l;
-  d = x.d;
-  s = x.s;
-  lli = lli;
-  lock = x.lock;
-  half_cycle = x.half_cycle;
-}
-
--- The cell of a message of which this is the kept cell.
-abbrev pub heard_cell : Cell → HeardCell
-heard_cell c = record {
-  satellite = c.satellite;
-  signal = c.signal;
-  c = c.c;
-  l = c.l;
-  d = c.d;
-  s = c.s;
-  lock = c.lock;
-  half_cycle = c.half_cycle;
-}
 
 -- The parts of a message that a gatherer uses: the station, if the message has one; the time of week, if it has
 -- observations; whether more messages of the same time follow, if it contains DF393; its cells of listed satellites and

@@ -1,19 +1,20 @@
 -- The kept cells and the lock records, and one step of each.
-use Rattle.std.specs.Prelude.{[], ℕ, ◌+◌, ◌-◌, ◌*◌, ◌≡◌, Bool, nat_le, List, ◌∷◌, length, get_or, set, replicate}
+use Rattle.std.specs.Prelude.{[], ℕ, ◌+◌, ◌-◌, ◌*◌, ◌≡◌, nat_le, List, ◌∷◌, length, get_or, set, replicate}
 use Rattle.std.specs.Prelude.{count_by, if◌then◌else◌, Option, Some, None, is_some}
 use Rattle.std.specs.Option.{option_map_or}
-use Rattle.std.specs.List.{list_any}
 use Rattle.gnss_obs.specs.declared.system.System.{System}
 use Rattle.gnss_obs.specs.declared.system.System.TheVariants.{Gps, Galileo}
 use Rattle.gnss_obs.specs.Satellites.{satellites}
 use Rattle.gnss_obs.specs.Signals.{table}
-use Rattle.obs_epoch.specs.declared.cell.Cell.{Cell}
-use Rattle.obs_epoch.specs.Heard.{GatherSetup, HeardCell, heard_cell}
-use Rattle.obs_epoch.specs.Cells.{is_among, firsts, has_same_key, is_planned, has_listed_key}
-use Rattle.obs_epoch.specs.Values.{most_cells}
+use Rattle.gnss_obs.specs.declared.cell.Cell.{Cell}
+use Rattle.obs_epoch.specs.Heard.{GatherSetup}
+use Rattle.gnss_obs.specs.HeardCells.{HeardCell, heard_cell}
+use Rattle.obs_epoch.specs.Cells.{is_among, firsts, is_planned, has_listed_key}
+use Rattle.gnss_obs.specs.Values.{most_cells}
 use Rattle.obs_epoch.specs.Loss.{lock_of}
 use Rattle.obs_epoch.specs.declared.locks.KnownLock.{KnownLock}
 use Rattle.obs_epoch.specs.declared.taken.CellCounts.{CellCounts}
+use Rattle.gnss_obs.specs.Kept.{is_held}
 
 -- ---- lock records: an entry for each key, those of GPS first
 
@@ -62,9 +63,6 @@ pub record TracksLocks (locks : List (Option KnownLock)) (noted : List HeardCell
   pub size : length locks ≡ most_locks
 
 -- ---- cells: the first of each key, up to the largest number of kept cells
-
-abbrev pub is_held : List Cell → HeardCell → Bool
-is_held ms x = list_any (λ m. has_same_key x (heard_cell m)) ms
 
 -- The outcome of a cell.
 pub data CellOutcome : Type 0 where

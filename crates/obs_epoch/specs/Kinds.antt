@@ -6,10 +6,10 @@ use Rattle.std.specs.Prelude.{nat_lt}
 use Rattle.std.specs.Option.{option_map_or}
 use Rattle.obs_epoch.specs.declared.taken.Gather.{Gather}
 use Rattle.obs_epoch.specs.declared.taken.Gather.TheVariants as gathers
-use Rattle.obs_epoch.specs.Values.{PlanValue}
+use Rattle.gnss_obs.specs.Values.{PlanValue}
 use Rattle.obs_epoch.specs.Heard.{GatherSetup, Heard, is_own}
-use Rattle.obs_epoch.specs.declared.cell.StationValues.{StationValues}
-use Rattle.obs_epoch.specs.Epochs.{no_values}
+use Rattle.gnss_obs.specs.declared.cell.StationValues.{StationValues}
+use Rattle.gnss_obs.specs.Values.{no_values}
 use Rattle.obs_epoch.specs.Times.{Timed, is_late, is_past, time_of, timed}
 use Rattle.obs_epoch.specs.Cells.{counts_of_message}
 use Rattle.obs_epoch.specs.declared.taken.CellCounts.{CellCounts}

@@ -1,9 +1,5 @@
 -- Laws of the epochs of a list.
-use Rattle.std.specs.Prelude.{◌≡◌, ℕ, false, List, [], ◌∷◌, ◌++◌, nat_eq, Ok, Some}
-use Rattle.std.specs.List.{IsDistinct}
-use Rattle.gnss_obs.specs.declared.system.System.{System}
-use Rattle.gnss_obs.specs.Signals.{signal_of_code}
-use Rattle.obs_epoch.specs.Plans.{signals_after}
+use Rattle.std.specs.Prelude.{◌≡◌, false, List, [], ◌++◌}
 use Rattle.obs_epoch.specs.Heard.{GatherSetup, Heard}
 use Rattle.obs_epoch.specs.Kinds.{is_close_first, kind_of}
 use Rattle.rtcm_bits.specs.Prefix.{IsPrefix}
@@ -24,17 +20,3 @@ NoneClosed = (s : GatherSetup) → closed_epochs s [] ≡ []
 -- No message of a list is expected again.
 abbrev pub NeverFirst : Type 0
 NeverFirst = (s : GatherSetup) (ms : List Heard) (m : Heard) → is_close_first (kind_of s ms m) ≡ false
-
--- These are the signals of the codes of a system, one by one.
-abbrev pub CodesNameSignals : System → List (List ℕ) → List ℕ → Type 0
-CodesNameSignals system [] [] = Unit {0}
-CodesNameSignals system [] (i ∷ signals) = ⊥
-CodesNameSignals system (code ∷ codes) [] = ⊥
-CodesNameSignals system (code ∷ codes) (i ∷ signals) =
-    (signal_of_code system code ≡ Some (record { system = system; index = i })) × CodesNameSignals system codes signals
-
--- If codes have no fault, the signals are those of the codes, and no two are the same.
-abbrev pub CodesNameTheirSignals : Type 0
-CodesNameTheirSignals =
-    (system : System) (codes : List (List ℕ)) (signals : List ℕ) → signals_after system [] codes ≡ Ok signals
-    → CodesNameSignals system codes signals × IsDistinct nat_eq signals

@@ -1,10 +1,4 @@
-pub mod Weeks
-pub mod Dates
-pub mod Values
-pub mod Plans
-pub mod Signals
 pub mod Heard
-pub mod Order
 pub mod Times
 pub mod Cells
 pub mod Loss

@@ -3,9 +3,11 @@ use Rattle.std.specs.Prelude.{ℕ, ◌+◌, ◌-◌, ◌&&◌, Bool, false, nat_
 use Rattle.std.specs.Prelude.{unwrap_or, if◌then◌else◌, Option, Some, None, is_some, option_and_then}
 use Rattle.std.specs.Option.{option_map_or}
 use Rattle.gnss_obs.specs.LockTimes.{lost}
-use Rattle.obs_epoch.specs.Heard.{GatherSetup, HeardCell}
+use Rattle.obs_epoch.specs.Heard.{GatherSetup}
+use Rattle.gnss_obs.specs.HeardCells.{HeardCell}
 use Rattle.obs_epoch.specs.Times.{Timed}
-use Rattle.obs_epoch.specs.Cells.{has_same_key, kept_at}
+use Rattle.obs_epoch.specs.Cells.{kept_at}
+use Rattle.gnss_obs.specs.HeardCells.{has_same_key}
 use Rattle.obs_epoch.specs.declared.locks.KnownLock.{KnownLock}
 
 -- The cell has a valid phase and a known lock.

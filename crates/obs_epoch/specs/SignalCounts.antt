@@ -9,8 +9,9 @@ use Rattle.gnss_obs.specs.Satellites.{satellite_of_id}
 use Rattle.gnss_obs.specs.Signals.{SignalAt, table, signal_of_id}
 use Rattle.rtcm_msg.specs.declared.entry.Entry.{Entry}
 use Rattle.rtcm_msg.specs.declared.entry.LockField.{LockField}
-use Rattle.obs_epoch.specs.Heard.{Heard, seen_in, HeardCell}
-use Rattle.obs_epoch.specs.Cells.{is_system}
+use Rattle.obs_epoch.specs.Heard.{Heard, seen_in}
+use Rattle.gnss_obs.specs.HeardCells.{HeardCell}
+use Rattle.gnss_obs.specs.Satellites.{is_system}
 
 -- ---- the cells that are counted
 

@@ -4,7 +4,7 @@ use Rattle.std.specs.Prelude.{◌++◌, if◌then◌else◌, Option, Some, None,
 use Rattle.std.specs.Option.{option_map_or}
 use Rattle.std.specs.List.{list_any}
 use Rattle.rtcm_msg.specs.Msm.{week}
-use Rattle.obs_epoch.specs.Weeks.{weeks}
+use Rattle.gnss_obs.specs.Weeks.{weeks}
 use Rattle.obs_epoch.specs.Heard.{GatherSetup, Heard, is_own, ends_epoch}
 
 -- A message, with its time if it was accepted.

@@ -4,12 +4,10 @@ ghost use Rattle.std.specs.Option.{ForSome};
 ghost use Rattle.rtcm_msg.specs.Msm.{week};
 ghost use Rattle.obs_epoch.specs.Heard.{heard_summary, is_own};
 ghost use Rattle.obs_epoch.specs.Kinds.{setup_at};
-ghost use Rattle.obs_epoch.specs.Weeks.{weeks};
+ghost use Rattle.gnss_obs.specs.Weeks.{weeks};
 
-use crate::cell::StationValues;
-use crate::plan::Plan;
 use crate::taken::{Gather, Kind, no_counts};
-use crate::time::{WEEK, WEEKS};
+use gnss_obs::{Plan, StationValues, WEEK, WEEKS};
 use rtcm_msg::Summary;
 use std::marker::Model;
 

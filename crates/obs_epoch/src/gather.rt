@@ -5,33 +5,29 @@ ghost use Rattle.std.specs.Option.{ForSome};
 ghost use Rattle.rtcm_msg.specs.Entries.{IsEntry};
 ghost use Rattle.rtcm_msg.specs.Msm.{codes_of, most_pairs, week};
 ghost use Rattle.rtcm_msg.specs.Viewed.{viewed_message, lock_field};
-ghost use Rattle.obs_epoch.specs.Weeks.{weeks};
+ghost use Rattle.gnss_obs.specs.Weeks.{weeks};
 ghost use Rattle.obs_epoch.specs.Heard.{GatherSetup, Heard, heard, heard_summary, system_of};
-ghost use Rattle.obs_epoch.specs.Order.{AreSortedByPlan};
-ghost use Rattle.obs_epoch.specs.Plans.{place_in};
-ghost use Rattle.obs_epoch.specs.Heard.{heard_cell, IsObserved};
+ghost use Rattle.gnss_obs.specs.Order.{AreSortedByPlan};
+ghost use Rattle.gnss_obs.specs.Plans.{place_in};
+ghost use Rattle.gnss_obs.specs.HeardCells.{heard_cell, IsObserved};
 ghost use Rattle.obs_epoch.specs.Epochs.{values_by_message, values_of};
 ghost use Rattle.obs_epoch.specs.Held.{count_in, most_locks, no_locks, recorded};
 ghost use Rattle.obs_epoch.specs.Step.{kind_by, closed_by as closes};
-ghost use Rattle.obs_epoch.specs.Values.{Closed, cells_of, most_cells, planned_of};
+ghost use Rattle.gnss_obs.specs.Values.{Closed, cells_of, most_cells, planned_of};
 ghost use Rattle.obs_epoch.specs.Kinds.{is_no_station, setup_at, setup_of, with_counts};
 ghost use Rattle.obs_epoch.specs.Gathering.{HasGatheredEpochs, closed_by, closed_in, plan_in};
 ghost use Rattle.obs_epoch.specs.Calls.{TakesMessage, EndsPendingEpoch, StaysEnded, HoldsCells, HoldsLockedKeys};
-ghost use Rattle.obs_epoch.specs.declared.fault.PlanFault.{PlanFault};
+ghost use Rattle.gnss_obs.specs.declared.fault.PlanFault.{PlanFault};
 ghost use Rattle.obs_epoch.specs.Gather.{end_step, loaded_if, load_entry, load_entries, epoch_begun};
-ghost use Rattle.obs_epoch.specs.Gather.{load, rested, outcome_in, hold, no_epoch, with_time, AreInOrder};
+ghost use Rattle.obs_epoch.specs.Gather.{load, rested, outcome_in, hold, no_epoch, with_time};
+ghost use Rattle.gnss_obs.specs.Kept.{AreInOrder};
 ghost use Rattle.obs_epoch.specs.Cells.{cells_counted, no_counts};
 
-use crate::cell::{Cell, StationValues};
 use crate::clock::Clock;
-use crate::epoch::{Epoch, MOST_CELLS};
-use crate::fault::PlanFault;
-use crate::locks::{Locks, lli};
+use crate::locks::{Locks, lli, note_epoch};
 use crate::observe::{observe, system_of};
-use crate::plan::Plan;
 use crate::taken::{CellCounts, Gather, Kind, Taken, no_counts};
-use crate::time::{GpsTime, WEEKS};
-use gnss_obs::System;
+use gnss_obs::{Cell, Epoch, GpsTime, MOST_CELLS, Plan, PlanFault, StationValues, System, WEEKS};
 use rtcm_msg::{Entries, Entry, LockField, Message, Summary, View};
 use std::alloc::{AllocError, Global};
 use std::marker::Model;
@@ -48,7 +44,7 @@ pub struct Gatherer {
 
 impl Model for Gatherer {
     ghost use Rattle.obs_epoch.specs.Gather.{Gathered};
-    ghost use Rattle.obs_epoch.specs.Gather.{AreInOrder};
+    ghost use Rattle.gnss_obs.specs.Kept.{AreInOrder};
 
     ghost Value = { Gathered };
 
@@ -156,7 +152,7 @@ impl Gatherer {
         let (kind, closed) = self.hear(&view.summary());
         let counts = self.load(kind.is_kept(), before, view);
         if closed {
-            self.epoch.note_locks(&mut self.locks);
+            note_epoch(&mut self.locks, &self.epoch);
         }
         Taken {
             kind: kind.with_counts(counts),
@@ -263,7 +259,7 @@ impl Gatherer {
         self.has_ended = true;
         self.just_closed = was;
         if was {
-            self.epoch.note_locks(&mut self.locks);
+            note_epoch(&mut self.locks, &self.epoch);
         }
         was
     }

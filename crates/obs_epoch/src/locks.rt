@@ -1,14 +1,13 @@
 //! Lock records: for each satellite and signal, the latest known lock in a closed epoch. The loss
 //! of lock indicators of the next epoch are computed from them.
-ghost use Rattle.std.specs.Prelude.{IsTrue, ◌↔◌, ◌≡◌, ◌+◌, ◌<◌, ◌≤◌, length, IfOk};
-ghost use Rattle.obs_epoch.specs.Held.{lock_place, lookup, most_locks, no_locks, note, recorded};
-ghost use Rattle.obs_epoch.specs.Cells.{is_system};
-ghost use Rattle.obs_epoch.specs.Heard.{IsKey, heard_cell};
+ghost use Rattle.std.specs.Prelude.{◌≡◌, ◌+◌, ◌<◌, ◌≤◌, length, IfOk};
+ghost use Rattle.obs_epoch.specs.Held.{lock_place, lookup, most_locks, no_locks, note, note_all, recorded};
+ghost use Rattle.gnss_obs.specs.HeardCells.{IsKey, heard_cell};
 ghost use Rattle.obs_epoch.specs.Loss.{lli_with};
+ghost use Rattle.gnss_obs.specs.Values.{AreHeld};
 
-use crate::cell::Cell;
 use gnss_obs::{
-    GALILEO_SATELLITES, GALILEO_SIGNAL_COUNT, GPS_SATELLITES, GPS_SIGNAL_COUNT, Lock, Sat, Signal,
+    Cell, Epoch, GALILEO_SATELLITES, GALILEO_SIGNAL_COUNT, GPS_SATELLITES, GPS_SIGNAL_COUNT, Lock,
     System, is_lost,
 };
 use std::alloc::{AllocError, Global};
@@ -94,6 +93,27 @@ impl Locks {
     }
 }
 
+/// Records the locks of the cells of an epoch when it is closed.
+pub fn note_epoch(locks: &mut Locks, epoch: &Epoch)
+    ensures { locks.new
+        ≡ note_all epoch.now.epoch.time (note_all epoch.now.epoch.time locks.old epoch.now.epoch.gps)
+        epoch.now.epoch.galileo }
+{
+    let time = epoch.time().milliseconds();
+    note_cells(locks, time, System::Gps, epoch.cells(System::Gps));
+    note_cells(locks, time, System::Galileo, epoch.cells(System::Galileo));
+}
+
+// Records the locks of the cells of a system.
+fn note_cells(locks: &mut Locks, time: u64, system: System, cells: &[Cell])
+    requires held { AreHeld system cells.now }
+    ensures { locks.new ≡ note_all time locks.old cells.now }
+{
+    for i in 0..cells.len() {
+        locks.note(time, &cells[i]);
+    }
+}
+
 // Returns the index of the entry of the key of a cell.
 fn lock_place(x: &Cell) -> usize
     requires { IsKey (heard_cell x.now) }
@@ -124,15 +144,4 @@ pub fn lli(x: &Cell, time: u64, before: Option<KnownLock>) -> u8
     };
     let half = if x.half_cycle { 2 } else { 0 };
     if lost { 1 + half } else { half }
-}
-
-/// Returns whether two systems are the same.
-pub fn is_same_system(a: System, b: System) -> bool
-    ensures value { result ≡ is_system a b }
-    ensures exact { IsTrue result ↔ (a ≡ b) }
-{
-    matches!(
-        (a, b),
-        (System::Gps, System::Gps) | (System::Galileo, System::Galileo)
-    )
 }

@@ -2,12 +2,11 @@
 ghost use Rattle.std.specs.Prelude.{◌≡◌, IfSome, option_and_then};
 ghost use Rattle.rtcm_msg.specs.Entries.{IsEntry};
 ghost use Rattle.rtcm_msg.specs.Msm.{codes_of};
-ghost use Rattle.obs_epoch.specs.Heard.{seen_in, system_of, heard_cell, IsObserved};
+ghost use Rattle.obs_epoch.specs.Heard.{seen_in, system_of};
+ghost use Rattle.gnss_obs.specs.HeardCells.{heard_cell, IsObserved};
 ghost use Rattle.obs_epoch.specs.Gather.{planned_cell};
 
-use crate::cell::Cell;
-use crate::plan::Plan;
-use gnss_obs::{Lock, Sat, Signal, System, doppler, phase, pseudorange, strength};
+use gnss_obs::{Cell, Lock, Plan, Sat, Signal, System, doppler, phase, pseudorange, strength};
 use rtcm_msg::{Entry, LockField};
 
 /// Returns the cell of an entry if its satellite is listed and its signal is planned, else `None`.

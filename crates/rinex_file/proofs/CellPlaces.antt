@@ -10,8 +10,8 @@ use Rattle.std.proofs.lemmas.List.Quantifiers.{position-Some}
 use Rattle.std.proofs.lemmas.List.Elements.{All-from_recursion, All-head, All-tail, All-map, All-append, All-drop, All-replicate}
 use Rattle.std.proofs.lemmas.List.Sums.{fails_before_first}
 use Rattle.gnss_obs.specs.declared.system.System.{System}
-use Rattle.obs_epoch.specs.declared.cell.Cell.{Cell}
-use Rattle.obs_epoch.specs.Values.{IsHeld}
+use Rattle.gnss_obs.specs.declared.cell.Cell.{Cell}
+use Rattle.gnss_obs.specs.Values.{IsHeld}
 use Rattle.rinex_file.specs.Value.{SignalValues, signal_values_of, no_signal_values, signal_values_at, is_of_key}
 use Rattle.rinex_file.specs.FileValues.{HaveRoom, has_some_value}
 use Rattle.rinex_file.specs.Blanks.{trimmed}

@@ -7,9 +7,9 @@ use Rattle.std.proofs.lemmas.Fmt.{length-decimal-le}
 pub use Rattle.std.proofs.lemmas.Option.{none-some as none_some, same_Some}
 use Rattle.std.proofs.lemmas.List.{take_at, drop_at, drop-drop}
 use Rattle.std.proofs.lemmas.Nat.{div-add-mod'}
-use Rattle.obs_epoch.specs.declared.civil.Civil.{Civil}
-use Rattle.obs_epoch.specs.Weeks.{day as day_length}
-use Rattle.obs_epoch.specs.Dates.{IsCivilOf, civil_of}
+use Rattle.gnss_obs.specs.declared.civil.Civil.{Civil}
+use Rattle.gnss_obs.specs.Weeks.{day as day_length}
+use Rattle.gnss_obs.specs.Dates.{IsCivilOf, civil_of}
 use Rattle.rinex_file.specs.Numbers.{joined, left, right, padded, fixed}
 use Rattle.rinex_file.specs.Read.Fields.{digits_in}
 use Rattle.rinex_file.specs.Lines.{epoch_line}

@@ -3,9 +3,9 @@ use Rattle.std.proofs.Common.{arith, lit<, ◌≡◌, ◌≢◌, ℕ, zero, suc,
 use Rattle.std.specs.Prelude.{⊤, ◌||◌, flat_map, codes}
 use Rattle.std.specs.Int.{is_negative}
 use Rattle.std.specs.Fmt.{sign_text}
-use Rattle.obs_epoch.specs.Dates.{civil_of}
-use Rattle.obs_epoch.specs.declared.civil.Civil.{Civil}
-use Rattle.obs_epoch.specs.declared.cell.StationValues.{StationValues}
+use Rattle.gnss_obs.specs.Dates.{civil_of}
+use Rattle.gnss_obs.specs.declared.civil.Civil.{Civil}
+use Rattle.gnss_obs.specs.declared.cell.StationValues.{StationValues}
 use Rattle.rinex_file.specs.declared.read.expected.Expected.{Expected}
 use Rattle.rinex_file.specs.declared.read.expected.Expected.TheVariants.{Epoch, EventPosition, EventHeight, EventEpoch}
 use Rattle.rinex_file.specs.Value.{Stamped, FileValue}

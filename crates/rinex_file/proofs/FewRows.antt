@@ -9,7 +9,7 @@ use Rattle.std.proofs.lemmas.Map.Steps.{length-le_from_distinct_below}
 use Rattle.gnss_obs.specs.Signals.{table}
 use Rattle.gnss_obs.specs.declared.system.System.{System}
 use Rattle.gnss_obs.specs.declared.system.System.TheVariants.{Gps, Galileo}
-use Rattle.obs_epoch.specs.Values.{PlanValue, planned_of}
+use Rattle.gnss_obs.specs.Values.{PlanValue, planned_of}
 use Rattle.gnss_obs.specs.Satellites.{satellites}
 use Rattle.rinex_file.specs.Value.{SatelliteRow}
 use Rattle.rinex_file.specs.FileValues.{IsPlan, IsSatelliteRow, AreSatelliteRows, of_system, rank_of, most_rows}

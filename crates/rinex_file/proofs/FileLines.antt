@@ -6,10 +6,10 @@ use Rattle.std.proofs.lemmas.Bool.{or_parts}
 use Rattle.std.proofs.lemmas.List.Elements.{All-nil, All-head, All-tail, All-cons, All-append, All-map}
 use Rattle.gnss_obs.specs.Satellites.{satellites}
 use Rattle.gnss_obs.specs.declared.system.System.TheVariants.{Gps, Galileo}
-use Rattle.obs_epoch.specs.declared.cell.StationValues.{StationValues}
-use Rattle.obs_epoch.specs.declared.civil.Civil.{Civil}
-use Rattle.obs_epoch.specs.Dates.{civil_of}
-use Rattle.obs_epoch.specs.Values.{PlanValue}
+use Rattle.gnss_obs.specs.declared.cell.StationValues.{StationValues}
+use Rattle.gnss_obs.specs.declared.civil.Civil.{Civil}
+use Rattle.gnss_obs.specs.Dates.{civil_of}
+use Rattle.gnss_obs.specs.Values.{PlanValue}
 use Rattle.rinex_file.specs.Blanks.{trimmed}
 use Rattle.rinex_file.specs.Exact.{IsLine}
 use Rattle.rinex_file.specs.File.{event_line, stamped_lines, change_lines, lines_of_parts as lines_of_file, file_lines}

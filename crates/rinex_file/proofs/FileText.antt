@@ -1,9 +1,9 @@
 -- The text of a file is that of its header and its epochs, one after the other.
 use Rattle.std.proofs.Common.{◌≡◌, ◌≢◌, ◌∙◌, sym, ap, ap₂, refl, append_assoc, Bool, true, false, Some, None, ℕ, List, [], ◌∷◌, ◌++◌, drop}
 use Rattle.std.specs.Prelude.{flat_map, if◌then◌else◌}
-use Rattle.obs_epoch.specs.declared.cell.StationValues.{StationValues}
-use Rattle.obs_epoch.specs.Dates.{civil_of}
-use Rattle.obs_epoch.specs.Values.{PlanValue, Closed, same_values}
+use Rattle.gnss_obs.specs.declared.cell.StationValues.{StationValues}
+use Rattle.gnss_obs.specs.Dates.{civil_of}
+use Rattle.gnss_obs.specs.Values.{PlanValue, Closed, same_values}
 use Rattle.rinex_file.specs.Numbers.{joined, left}
 use Rattle.rinex_file.specs.Texts.{HeaderLists}
 use Rattle.rinex_file.specs.Value.{stamped_of, stamped_after, all_stamped}

@@ -13,12 +13,12 @@ use Rattle.std.proofs.lemmas.List.Quantifiers.{position-Some}
 use Rattle.gnss_obs.specs.declared.system.System.{System}
 use Rattle.gnss_obs.specs.declared.system.System.TheVariants.{Gps, Galileo}
 use Rattle.gnss_obs.specs.Satellites.{satellites as satellites_in}
-use Rattle.obs_epoch.specs.declared.cell.Cell.{Cell}
-use Rattle.obs_epoch.specs.Values.{PlanValue, EpochValue, Closed, same_values, cells_of, planned_of, has_value, is_written}
-use Rattle.obs_epoch.specs.Plans.{place_in}
-use Rattle.obs_epoch.specs.Reach.{IsGathered, AreGathered, IsGatheredEpoch, AreGatheredEpochs, TimesRise, AreStationValues, same_place}
+use Rattle.gnss_obs.specs.declared.cell.Cell.{Cell}
+use Rattle.gnss_obs.specs.Values.{PlanValue, EpochValue, Closed, same_values, cells_of, planned_of, has_value, is_written}
+use Rattle.gnss_obs.specs.Plans.{place_in}
+use Rattle.gnss_obs.specs.GatheredEpochs.{IsGathered, AreGathered, IsGatheredEpoch, AreGatheredEpochs, TimesRise, AreStationValues, same_place}
 use Rattle.std.proofs.lemmas.Bool.Decides.{Decides-int_eq}
-use Rattle.obs_epoch.specs.declared.cell.StationValues.{StationValues}
+use Rattle.gnss_obs.specs.declared.cell.StationValues.{StationValues}
 use Rattle.rinex_file.specs.Texts.{HeaderLists}
 use Rattle.rinex_file.specs.Value.{numbers, written_satellites, no_signal_values, signal_values_of, is_of_key, signal_values_at, row_of, row_among, row_in_epoch, rows_of, change_from, stamped_after, all_stamped}
 use Rattle.rinex_file.specs.FileValues.{AreTexts, AreValues, has_some_value, AreSignalValues, IsRow, of_system, rank_of, IsSatelliteRow, IsStamped, IsChange, AreChanges, changed_by, time_stamped, IsFileValue}

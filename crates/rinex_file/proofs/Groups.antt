@@ -3,8 +3,8 @@ use Rattle.std.proofs.Common.{arith, ◌≡◌, ℕ, List, [], ◌∷◌, map, f
 use Rattle.std.specs.Prelude.{find}
 use Rattle.std.specs.Option.{option_map_or}
 use Rattle.gnss_obs.specs.declared.system.System.{System}
-use Rattle.obs_epoch.specs.declared.cell.Cell.{Cell}
-use Rattle.obs_epoch.specs.Values.{PlanValue, is_of_satellite}
+use Rattle.gnss_obs.specs.declared.cell.Cell.{Cell}
+use Rattle.gnss_obs.specs.Values.{PlanValue, is_of_satellite}
 use Rattle.rinex_file.proofs.SatelliteGroups.{any_from}
 use Rattle.rinex_file.specs.Value.{is_of_key, signal_values_at, signal_values_of, no_signal_values}
 use Rattle.rinex_file.specs.File.{line_among}

@@ -8,10 +8,10 @@ use Rattle.std.specs.Prelude.{Result, Ok, Err, codes}
 use Rattle.gnss_obs.specs.Signals.{SignalAt, IsSignal, table}
 use Rattle.gnss_obs.specs.declared.system.System.{System}
 use Rattle.gnss_obs.specs.declared.system.System.TheVariants.{Gps, Galileo}
-use Rattle.obs_epoch.specs.Signals.{indices, IsOf}
-use Rattle.obs_epoch.specs.Values.{PlanValue, planned_of}
-use Rattle.obs_epoch.specs.declared.cell.StationValues.{StationValues}
-use Rattle.obs_epoch.specs.Dates.{civil_of}
+use Rattle.gnss_obs.specs.SignalLists.{indices, IsOf}
+use Rattle.gnss_obs.specs.Values.{PlanValue, planned_of}
+use Rattle.gnss_obs.specs.declared.cell.StationValues.{StationValues}
+use Rattle.gnss_obs.specs.Dates.{civil_of}
 use Rattle.rinex_file.specs.declared.header.fields.TextRow.{TextRow}
 use Rattle.rinex_file.specs.declared.header.fields.TextRow.TheVariants as row
 use Rattle.rinex_file.specs.declared.header.rows.HeaderRow.TheVariants.{End}
@@ -24,7 +24,7 @@ use Rattle.rinex_file.specs.Header.{row_line, end_line, first_line, first_types,
 use Rattle.rinex_file.specs.Read.Fields.{digits_in}
 use Rattle.rinex_file.specs.Read.Progress.{Announced, Known, Shown, AreTypesRead, IsShown, AreValid, MayPlan, IsHeadAt, IsOnlyTime, shown_with, lines_before, announced, signals_begun}
 use Rattle.rinex_file.specs.Read.HeaderSteps.{RefusesHeaderLine, EndsHeader}
-use Rattle.obs_epoch.proofs.PlanLemmas.{none_of}
+use Rattle.gnss_obs.proofs.PlanLemmas.{none_of}
 use Rattle.rinex_file.proofs.HeaderAgree.{Agree, single, few_shown, types_high, agree_types, agree_count, signals_same, none_planned, split_at, lengths-back, height-back, number_at, coordinate-fits}
 use Rattle.rinex_file.proofs.HeaderSteps.{some_plan, with_is}
 use Rattle.rinex_file.proofs.HeaderText.{place_back, same_at, same_rows, same_lists, texts_back, same_texts, same_some, SameTexts}

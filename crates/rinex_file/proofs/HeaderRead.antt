@@ -10,11 +10,11 @@ use Rattle.gnss_obs.specs.Signals.{SignalAt, table}
 use Rattle.gnss_obs.specs.declared.system.System.{System}
 use Rattle.gnss_obs.specs.declared.system.System.TheVariants.{Gps, Galileo}
 use Rattle.gnss_obs.proofs.Checked.{is_less}
-use Rattle.obs_epoch.specs.Signals.{indices}
-use Rattle.obs_epoch.specs.Values.{PlanValue, planned_of}
-use Rattle.obs_epoch.specs.Dates.{civil_of}
-use Rattle.obs_epoch.specs.declared.cell.StationValues.{StationValues}
-use Rattle.obs_epoch.proofs.PlanLemmas.{length_indices}
+use Rattle.gnss_obs.specs.SignalLists.{indices}
+use Rattle.gnss_obs.specs.Values.{PlanValue, planned_of}
+use Rattle.gnss_obs.specs.Dates.{civil_of}
+use Rattle.gnss_obs.specs.declared.cell.StationValues.{StationValues}
+use Rattle.gnss_obs.proofs.PlanLemmas.{length_indices}
 use Rattle.rinex_file.specs.declared.header.rows.HeaderRow.TheVariants.{Types, Version, Texts, Position, Delta, StrengthUnit, First, Shift}
 use Rattle.rinex_file.specs.Header.{row_line, has_line, first_types, type_rows, position_line, row_place, header_line, lengths, first_line, strength_line, shift_line, version_line, texts_line}
 use Rattle.rinex_file.specs.Read.Progress.{Announced, Known, MayBeAll, MayPlan, AreTypesRead, IsHeadAt, announced, shown_with, shown_line, AreTypes, types_line, signals_begun, IsPosition, position_of, Shown, IsReadTo, IsOnlyTime, HasReadRows, lines_before, version_with, is_some_planned}

@@ -14,7 +14,7 @@ use Rattle.rinex_file.specs.Read.Fields.{digits_in}
 use Rattle.rinex_file.proofs.Digits.{length-fixed, length-right, digits_in-padded, length-padded, not_negative}
 use Rattle.gnss_obs.specs.Satellites.{satellites}
 use Rattle.gnss_obs.specs.declared.system.System.{System}
-use Rattle.obs_epoch.specs.Values.{HasTwelveDigits}
+use Rattle.gnss_obs.specs.Values.{HasTwelveDigits}
 use Rattle.rinex_file.specs.Value.{SignalValues, Row, SatelliteRow}
 use Rattle.rinex_file.specs.FileValues.{FitsColumns, HaveRoom, AreSignalValues, IsFrom, IsRow}
 use Rattle.rinex_file.specs.Blanks.{trimmed}

@@ -3,9 +3,9 @@ use Rattle.std.proofs.Common.{◌≡◌, ℕ, zero, suc, ◌+◌, ◌-◌, ◌<�
 use Rattle.std.specs.Prelude.{if◌then◌else◌, cond}
 use Rattle.std.specs.List.{AllByRecursion}
 use Rattle.std.proofs.lemmas.List.{drop-drop}
-use Rattle.obs_epoch.specs.declared.cell.Cell.{Cell}
-use Rattle.obs_epoch.specs.Values.{is_written, is_of_satellite, run}
-use Rattle.obs_epoch.proofs.GroupLemmas.{Above, Climb, Left}
+use Rattle.gnss_obs.specs.declared.cell.Cell.{Cell}
+use Rattle.gnss_obs.specs.Values.{is_written, is_of_satellite, run}
+use Rattle.gnss_obs.proofs.GroupLemmas.{Above, Climb, Left}
 
 climb-drop : (n : ℕ) (cells : List Cell) → Climb cells → Climb (drop n cells)
 climb-drop zero cells h = h

@@ -9,13 +9,13 @@ use Rattle.rtcm_bits.specs.Device.{AppendsPrefix}
 use Rattle.gnss_obs.specs.declared.system.System.{System}
 use Rattle.gnss_obs.specs.declared.system.System.TheVariants.{Gps, Galileo}
 use Rattle.gnss_obs.specs.Satellites.{satellites as satellites_in}
-use Rattle.obs_epoch.specs.declared.cell.Cell.{Cell}
-use Rattle.obs_epoch.specs.Dates.{civil_of}
-use Rattle.obs_epoch.specs.Values.{PlanValue, EpochValue, is_written, written_among, satellites_written}
+use Rattle.gnss_obs.specs.declared.cell.Cell.{Cell}
+use Rattle.gnss_obs.specs.Dates.{civil_of}
+use Rattle.gnss_obs.specs.Values.{PlanValue, EpochValue, is_written, written_among, satellites_written}
 use Rattle.rinex_file.specs.Numbers.{joined}
 use Rattle.rinex_file.specs.Value.{written_satellites, row_among, row_in_epoch, rows_of}
 use Rattle.rinex_file.specs.Lines.{satellite_line, epoch_line}
-use Rattle.obs_epoch.specs.declared.cell.StationValues.{StationValues}
+use Rattle.gnss_obs.specs.declared.cell.StationValues.{StationValues}
 use Rattle.rinex_file.specs.Header.{position_line, delta_line}
 use Rattle.rinex_file.specs.File.{event_line, event_text, line_among, line_or_none, lines_up_to, epoch_text}
 use Rattle.rinex_file.proofs.Entries.{flat_map-append}

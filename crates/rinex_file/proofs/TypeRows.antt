@@ -14,8 +14,8 @@ use Rattle.gnss_obs.specs.declared.system.System.{System}
 use Rattle.gnss_obs.specs.declared.system.System.TheVariants.{Gps, Galileo}
 use Rattle.gnss_obs.specs.Signals.{SignalAt, IsSignal, table, code_of, signal_of_code}
 use Rattle.gnss_obs.proofs.Checked.{passes_at, is_less, is_equal}
-use Rattle.obs_epoch.specs.Signals.{indices, IsOf}
-use Rattle.obs_epoch.proofs.PlanLemmas.{any_index, indices-push}
+use Rattle.gnss_obs.specs.SignalLists.{indices, IsOf}
+use Rattle.gnss_obs.proofs.PlanLemmas.{any_index, indices-push}
 use Rattle.rinex_file.specs.Header.{type_of, types_of, codes_of, type_columns, header_line, type_front}
 use Rattle.rinex_file.specs.Numbers.{joined, left, right}
 use Rattle.rinex_file.specs.Lines.{letter_of}

@@ -8,9 +8,9 @@ use Rattle.gnss_obs.specs.declared.system.System.{System}
 use Rattle.gnss_obs.specs.declared.system.System.TheVariants.{Gps, Galileo}
 use Rattle.gnss_obs.specs.Satellites.{satellites}
 use Rattle.gnss_obs.specs.Signals.{table}
-use Rattle.obs_epoch.specs.declared.cell.StationValues.{StationValues}
-use Rattle.obs_epoch.specs.Values.{PlanValue, planned_of}
-use Rattle.obs_epoch.specs.Weeks.{week, weeks}
+use Rattle.gnss_obs.specs.declared.cell.StationValues.{StationValues}
+use Rattle.gnss_obs.specs.Values.{PlanValue, planned_of}
+use Rattle.gnss_obs.specs.Weeks.{week, weeks}
 use Rattle.rinex_file.specs.declared.header.fields.HeaderField.{HeaderField}
 use Rattle.rinex_file.specs.Blanks.{trimmed}
 use Rattle.rinex_file.specs.Texts.{HeaderLists, text_count, width_of, text_of, is_printable}

@@ -3,8 +3,8 @@ use Rattle.std.specs.Prelude.{◌<◌, List, ◌∷◌, length, All, nat_eq}
 use Rattle.std.specs.List.{AllByRecursion, IsDistinct}
 use Rattle.gnss_obs.specs.declared.system.System.{System}
 use Rattle.gnss_obs.specs.Signals.{table}
-use Rattle.obs_epoch.specs.Values.{PlanValue, Closed, planned_of, satellites_written}
-use Rattle.obs_epoch.specs.Reach.{AreGatheredEpochs}
+use Rattle.gnss_obs.specs.Values.{PlanValue, Closed, planned_of, satellites_written}
+use Rattle.gnss_obs.specs.GatheredEpochs.{AreGatheredEpochs}
 use Rattle.rinex_file.specs.Texts.{HeaderLists}
 use Rattle.rinex_file.specs.FileValues.{AreTexts, IsFileValue}
 use Rattle.rinex_file.specs.File.{gathered}

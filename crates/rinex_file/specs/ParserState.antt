@@ -10,7 +10,7 @@ use Rattle.rinex_file.specs.declared.read.expected.Added.TheVariants.{NoRow, One
 use Rattle.rinex_file.specs.declared.read.expected.Refusal.{Refusal}
 use Rattle.rinex_file.specs.declared.read.expected.Refusal.TheVariants.{Memory, Bad}
 use Rattle.rinex_file.specs.Value.{SatelliteRow, Stamped, FileValue}
-use Rattle.obs_epoch.specs.declared.cell.StationValues.{StationValues}
+use Rattle.gnss_obs.specs.declared.cell.StationValues.{StationValues}
 use Rattle.rinex_file.specs.FileValues.{time_stamped, rank_of, changed_by, values_following}
 use Rattle.rinex_file.specs.Read.Progress.{Progress, HasLinesLeft}
 use Rattle.rinex_file.specs.Read.Sound.{IsSound, AreLinesOf}

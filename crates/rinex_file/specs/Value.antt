@@ -5,9 +5,9 @@ use Rattle.std.specs.Option.{option_map_or}
 use Rattle.gnss_obs.specs.declared.system.System.{System}
 use Rattle.gnss_obs.specs.declared.system.System.TheVariants.{Gps, Galileo}
 use Rattle.gnss_obs.specs.Satellites.{satellites}
-use Rattle.obs_epoch.specs.declared.cell.Cell.{Cell}
-use Rattle.obs_epoch.specs.declared.cell.StationValues.{StationValues}
-use Rattle.obs_epoch.specs.Values.{EpochValue, PlanValue, Closed, same_values, cells_of, planned_of, is_written}
+use Rattle.gnss_obs.specs.declared.cell.Cell.{Cell}
+use Rattle.gnss_obs.specs.declared.cell.StationValues.{StationValues}
+use Rattle.gnss_obs.specs.Values.{EpochValue, PlanValue, Closed, same_values, cells_of, planned_of, is_written}
 use Rattle.rinex_file.specs.Texts.{HeaderLists}
 
 -- the observations of a planned signal: values in thousandths, all absent if nothing was observed

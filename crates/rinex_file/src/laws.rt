@@ -1,15 +1,14 @@
 //! Laws of the text of a file.
 ghost use Rattle.std.specs.Prelude.{◌≡◌, ◌≢◌, ℕ, List, []};
-ghost use Rattle.obs_epoch.specs.declared.cell.StationValues.{StationValues};
-ghost use Rattle.obs_epoch.specs.Values.{PlanValue, Closed};
+ghost use Rattle.gnss_obs.specs.declared.cell.StationValues.{StationValues};
+ghost use Rattle.gnss_obs.specs.Values.{PlanValue, Closed};
 ghost use Rattle.rinex_file.specs.Texts.{HeaderLists};
 ghost use Rattle.rinex_file.specs.FileValues.{AreTexts};
 ghost use Rattle.rinex_file.specs.Gathered.{AreSignals, IsGatheredFile};
 ghost use Rattle.rinex_file.specs.File.{header_text, file_text, gathered, IsTextInParts};
 
 use crate::header::texts::HeaderTexts;
-use gnss_obs::System;
-use obs_epoch::Plan;
+use gnss_obs::{Plan, System};
 
 /// The output of the writers is the text of a file value: the header of the first epoch, and then
 /// each epoch in turn, after an event if its station values differ from those before.

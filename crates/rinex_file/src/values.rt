@@ -8,8 +8,7 @@ use crate::header::texts::HeaderTexts;
 use crate::read::file::Counts;
 use crate::write::numbers::MOST_SIGNALS;
 use arrayvec::ArrayVec;
-use gnss_obs::{System, Thousandths};
-use obs_epoch::{GpsTime, Plan, StationValues};
+use gnss_obs::{GpsTime, Plan, StationValues, System, Thousandths};
 use std::marker::Model;
 
 /// The values of a signal in a line: pseudorange (m), phase (cycles), Doppler (Hz) and strength

@@ -18,8 +18,7 @@ use crate::header::lines::{delta_line, position_line};
 use crate::write::epoch::{epoch_line, event_line};
 use crate::write::numbers::Line;
 use crate::write::satellite::put_seen;
-use gnss_obs::System;
-use obs_epoch::{Epoch, Plan, StationValues, end_of, is_written};
+use gnss_obs::{Epoch, Plan, StationValues, System, end_of, is_written};
 use rtcm_bits::{Counted, DeviceFailed};
 use std::io::Write;
 

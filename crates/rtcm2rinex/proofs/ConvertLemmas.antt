@@ -6,15 +6,15 @@ use Rattle.rtcm_convert.specs.Faults.{FailsWithReader, FailsWithWriter, IsSentAf
 use Rattle.rtcm_convert.specs.Made.{IsMadeEmpty, IsMadeSoFar, IsMadeInPart, IsMadeToLimit}
 use Rattle.rtcm_convert.specs.SetupValues.{IsBad, IsBadAt, Start, start_zero}
 use Rattle.rtcm_convert.specs.declared.setup.Setup.{Setup}
-use Rattle.obs_epoch.specs.Epochs.{no_values}
-use Rattle.obs_epoch.specs.Reach.{AreStationValues}
+use Rattle.gnss_obs.specs.Values.{no_values}
+use Rattle.gnss_obs.specs.GatheredEpochs.{AreStationValues}
 use Rattle.rtcm_convert.specs.declared.fault.Fault.{Fault}
 use Rattle.rtcm_convert.specs.declared.fault.Fault.TheVariants.{Memory, BadSetup, TooLong, Read, Write, Failed, Finished, NoEpoch}
 use Rattle.rtcm_convert.specs.declared.report.Report.{Report}
 use Rattle.rtcm2rinex.specs.declared.fault.ToolFault.{ToolFault}
 use Rattle.rtcm2rinex.specs.declared.fault.ToolFault.TheVariants as faults
 use Rattle.clap.specs.Walk.{Row}
-use Rattle.obs_epoch.specs.declared.cell.StationValues.{StationValues}
+use Rattle.gnss_obs.specs.declared.cell.StationValues.{StationValues}
 use Rattle.rtcm2rinex.specs.Lengths.{values_by}
 use Rattle.rtcm2rinex.specs.SetupOptions.{values_by_message}
 use Rattle.rtcm2rinex.specs.Converting.{StopsConversion, StopsConverting}

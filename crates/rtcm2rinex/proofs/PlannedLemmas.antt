@@ -9,12 +9,13 @@ use Rattle.gnss_obs.specs.declared.system.System.{System}
 use Rattle.gnss_obs.specs.declared.system.System.TheVariants.{Gps, Galileo}
 use Rattle.gnss_obs.specs.Satellites.{satellites}
 use Rattle.gnss_obs.specs.Signals.{SignalAt, IsSignal, table, code_of, signal_of_code}
-use Rattle.obs_epoch.specs.declared.fault.PlanFault.{PlanFault}
-use Rattle.obs_epoch.specs.declared.fault.PlanFault.TheVariants.{RepeatedCode}
+use Rattle.gnss_obs.specs.declared.fault.PlanFault.{PlanFault}
+use Rattle.gnss_obs.specs.declared.fault.PlanFault.TheVariants.{RepeatedCode}
 use Rattle.obs_epoch.specs.Cells.{is_planned, has_listed_key}
-use Rattle.obs_epoch.specs.Heard.{GatherSetup, HeardCell, IsKey}
-use Rattle.obs_epoch.specs.Plans.{below, place_in, between_commas, onto_first, one_signal_more, signals_after, signals_of, plan_of}
-use Rattle.obs_epoch.specs.Values.{planned_of}
+use Rattle.obs_epoch.specs.Heard.{GatherSetup}
+use Rattle.gnss_obs.specs.HeardCells.{HeardCell, IsKey}
+use Rattle.gnss_obs.specs.Plans.{below, place_in, between_commas, onto_first, one_signal_more, signals_after, signals_of, plan_of}
+use Rattle.gnss_obs.specs.Values.{planned_of}
 use Rattle.obs_epoch.specs.SignalCounts.{is_of_signal, count_of, signal_in}
 use Rattle.rtcm2rinex.specs.Signals.{had, plan_had, code_list, codes_word}
 use Rattle.rtcm2rinex.proofs.SignalLemmas.{own_signal}

@@ -6,15 +6,15 @@ use Rattle.std.specs.Prelude.{cond, nat_lt, codes}
 use Rattle.std.specs.List.{list_any}
 use Rattle.std.proofs.lemmas.List.Elements.{All-head, filter-append}
 use Rattle.std.proofs.lemmas.List.Sums.{length-filter, count_by-le-length}
-use Rattle.obs_epoch.specs.Cells.{is_system}
+use Rattle.gnss_obs.specs.Satellites.{is_system}
 use Rattle.gnss_obs.specs.declared.system.System.TheVariants.{Gps, Galileo}
 use Rattle.std.specs.List.{flat_map, join_with_byte}
 use Rattle.gnss_obs.specs.declared.system.System.{System}
 use Rattle.gnss_obs.specs.Signals.{table, code_of}
-use Rattle.obs_epoch.specs.Plans.{below}
+use Rattle.gnss_obs.specs.Plans.{below}
 use Rattle.obs_epoch.specs.SignalCounts.{SignalCountsValue, AreSignalCounts, counted, has_any, signal_in, count_of, is_of_signal}
 use Rattle.rtcm2rinex.specs.Signals.{had_below, had, code_list, codes_word, count_line, lines_below}
-use Rattle.obs_epoch.specs.Heard.{IsKey, HeardCell}
+use Rattle.gnss_obs.specs.HeardCells.{IsKey, HeardCell}
 
 below-more : (i : ℕ) → below (i + 1) ≡ below i ++ i ∷ []
 below-more i = let e : i + 1 ≡ suc i = omega arith in rw e refl

@@ -8,7 +8,8 @@ use Rattle.std.proofs.lemmas.List.Sums.{sum_by-cons}
 use Rattle.rtcm_scan.specs.Frames.{Framed}
 use Rattle.obs_epoch.specs.Cells.{counts_of, counts_of_message, is_planned, no_counts, offered, with_skipped}
 use Rattle.obs_epoch.specs.SignalCounts.{brings_value, is_of_station, valued}
-use Rattle.obs_epoch.specs.Heard.{GatherSetup, Heard, HeardCell, is_own}
+use Rattle.obs_epoch.specs.Heard.{GatherSetup, Heard, is_own}
+use Rattle.gnss_obs.specs.HeardCells.{HeardCell}
 use Rattle.obs_epoch.specs.Times.{Timed}
 use Rattle.rtcm2rinex.specs.SignalLaws.{SkipsOnly}
 use Rattle.rtcm2rinex.specs.Signals.{valued_in, valued_of}

@@ -17,7 +17,8 @@ use Rattle.rtcm_msg.specs.Entries.{entries}
 use Rattle.rtcm_msg.specs.declared.fault.MsgFault.{MsgFault}
 use Rattle.rtcm_msg.specs.Decoding.{message_at}
 use Rattle.rtcm_scan.specs.Frames.{Framed}
-use Rattle.obs_epoch.specs.Heard.{Heard, heard, seen_in, lock_by, observed, system_of, HeardCell, IsKey}
+use Rattle.obs_epoch.specs.Heard.{Heard, heard, seen_in, lock_by, observed, system_of}
+use Rattle.gnss_obs.specs.HeardCells.{HeardCell, IsKey}
 use Rattle.rtcm_convert.specs.Converted.{heard_of}
 use Rattle.obs_epoch.specs.SignalCounts.{brings_value, is_of_station, valued, signal_in}
 use Rattle.rtcm2rinex.specs.Signals.{valued_of, valued_in}

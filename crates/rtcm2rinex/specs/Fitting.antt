@@ -7,7 +7,7 @@ use Rattle.rtcm_msg.specs.declared.station.StationParts.{StationParts}
 use Rattle.rtcm_scan.specs.Frames.{Framed}
 use Rattle.obs_epoch.specs.SignalCounts.{is_of_station}
 use Rattle.obs_epoch.specs.Heard.{Heard}
-use Rattle.obs_epoch.specs.Values.{PlanValue}
+use Rattle.gnss_obs.specs.Values.{PlanValue}
 use Rattle.rtcm_convert.specs.Converted.{heard_in}
 use Rattle.rtcm2rinex.specs.Lines.{line}
 use Rattle.rtcm2rinex.specs.Metres.{metres}

@@ -7,10 +7,10 @@ use Rattle.clap.specs.Walk.{Row, first_of, one_of, rows_of}
 use Rattle.clap.specs.Matches.{found_of}
 use Rattle.clap.specs.declared.parser.matches.ArgMatches.{ArgMatches}
 use Rattle.obs_epoch.specs.Kinds.{is_by_bit}
-use Rattle.obs_epoch.specs.Plans.{plan_of}
-use Rattle.obs_epoch.specs.declared.fault.PlanFault.TheVariants as plans
+use Rattle.gnss_obs.specs.Plans.{plan_of}
+use Rattle.gnss_obs.specs.declared.fault.PlanFault.TheVariants as plans
 use Rattle.rinex_file.specs.Texts.{HeaderLists, trimmed_texts, first_fault, fields}
-use Rattle.obs_epoch.specs.declared.cell.StationValues.{StationValues}
+use Rattle.gnss_obs.specs.declared.cell.StationValues.{StationValues}
 use Rattle.rtcm_convert.specs.SetupValues.{Start}
 use Rattle.rtcm_convert.specs.declared.setup.Setup.{Setup}
 use Rattle.rtcm2rinex.specs.Lengths.{values_in}

@@ -8,7 +8,7 @@ use Rattle.obs_epoch.specs.SignalCounts.{brings_value}
 use Rattle.obs_epoch.specs.Heard.{GatherSetup, Heard}
 use Rattle.obs_epoch.specs.Times.{Timed}
 use Rattle.rtcm_convert.specs.Converted.{heard_in}
-use Rattle.obs_epoch.specs.Plans.{plan_of}
+use Rattle.gnss_obs.specs.Plans.{plan_of}
 use Rattle.rtcm2rinex.specs.Signals.{valued_in, had, plan_had, codes_word}
 
 -- the cells counted as skipped of the message of a frame after these are no more than those without a value and those

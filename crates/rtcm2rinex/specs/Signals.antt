@@ -7,11 +7,11 @@ use Rattle.gnss_obs.specs.declared.system.System.{System}
 use Rattle.gnss_obs.specs.declared.system.System.TheVariants.{Gps, Galileo}
 use Rattle.gnss_obs.specs.Signals.{SignalAt, table, code_of}
 use Rattle.obs_epoch.specs.SignalCounts.{valued, count_of, signal_in}
-use Rattle.obs_epoch.specs.Plans.{below}
-use Rattle.obs_epoch.specs.Values.{PlanValue}
+use Rattle.gnss_obs.specs.Plans.{below}
+use Rattle.gnss_obs.specs.Values.{PlanValue}
 use Rattle.rtcm_convert.specs.Converted.{heard_in}
 use Rattle.rtcm2rinex.specs.Lines.{line}
-use Rattle.obs_epoch.specs.Heard.{HeardCell}
+use Rattle.gnss_obs.specs.HeardCells.{HeardCell}
 
 -- ---- the cells that count
 

@@ -19,13 +19,14 @@ use Rattle.rtcm_msg.specs.Encoding.{IsMessage}
 use Rattle.rtcm_msg.specs.Entries.{chosen, cell_pairs, all_pairs, entries, entry4, entry7}
 use Rattle.obs_epoch.specs.declared.taken.Kind.{Kind}
 use Rattle.obs_epoch.specs.declared.taken.Kind.TheVariants as kind
-use Rattle.obs_epoch.specs.Heard.{GatherSetup, Heard, heard, heard_msm, is_own, seen_in, system_of, unlisted_in, HeardCell}
+use Rattle.obs_epoch.specs.Heard.{GatherSetup, Heard, heard, heard_msm, is_own, seen_in, system_of, unlisted_in}
+use Rattle.gnss_obs.specs.HeardCells.{HeardCell}
 use Rattle.obs_epoch.specs.Times.{Timed, timed, timed_after, taken_at, is_late, is_past, time_of}
 use Rattle.obs_epoch.specs.Loss.{times}
 use Rattle.obs_epoch.specs.Cells.{counts_of, counts_of_message, no_counts, with_skipped, is_planned, is_among, kept_of_both as kept_both, offered}
 use Rattle.obs_epoch.specs.Kinds.{kind_of, kind_at, kept_kind}
 use Rattle.obs_epoch.specs.Gathering.{all_epochs, closed_at}
-use Rattle.obs_epoch.specs.Values.{satellites_written}
+use Rattle.gnss_obs.specs.Values.{satellites_written}
 use Rattle.rtcm_convert.specs.Converted.{SetupValue, messages_of, heard_in, epochs_in}
 use Rattle.rtcm_convert.specs.Outcomes.{outcomes_after, capped, capped_tally, sum_of_counts, tally_of, tally_of_one, IsFew, AreFew}
 use Rattle.rtcm_convert.specs.declared.tally.Tally.{Tally}

@@ -7,12 +7,13 @@ use Rattle.rtcm_msg.specs.declared.message.Message.{Message}
 use Rattle.rtcm_msg.specs.declared.fault.MsgFault.{MsgFault}
 use Rattle.rtcm_msg.specs.Encoding.{IsMessage}
 use Rattle.rtcm_msg.specs.Decoding.{message_at}
-use Rattle.obs_epoch.specs.Values.{PlanValue, Closed, satellites_written}
+use Rattle.gnss_obs.specs.Values.{PlanValue, Closed, satellites_written}
 use Rattle.obs_epoch.specs.Heard.{Heard}
 use Rattle.rtcm_bits.specs.Prefix.{IsPrefix}
 use Rattle.obs_epoch.specs.Gathering.{all_epochs, closed_epochs}
 use Rattle.obs_epoch.specs.Laws.{ClosedComeFirst}
-use Rattle.obs_epoch.specs.Reach.{IsHeard, IsGatheredEpoch, TimesRise, AreGatheredEpochs, MessagesAreHeard, EpochsAreGathered}
+use Rattle.obs_epoch.specs.Reach.{IsHeard, MessagesAreHeard, EpochsAreGathered}
+use Rattle.gnss_obs.specs.GatheredEpochs.{IsGatheredEpoch, TimesRise, AreGatheredEpochs}
 use Rattle.rinex_file.specs.Texts.{HeaderLists}
 use Rattle.rinex_file.specs.FileValues.{AreTexts}
 use Rattle.rinex_file.specs.File.{gathered}

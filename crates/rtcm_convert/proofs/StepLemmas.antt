@@ -6,7 +6,7 @@ use Rattle.std.proofs.lemmas.Bool.{cases_Bool}
 use Rattle.rtcm_bits.specs.Device.{AppendsPrefix}
 use Rattle.rtcm_bits.specs.Prefix.{IsPrefix}
 use Rattle.obs_epoch.specs.declared.taken.Kind.{Kind}
-use Rattle.obs_epoch.specs.Values.{Closed}
+use Rattle.gnss_obs.specs.Values.{Closed}
 use Rattle.obs_epoch.specs.Heard.{GatherSetup, Heard}
 use Rattle.obs_epoch.specs.Kinds.{is_close_first}
 use Rattle.obs_epoch.specs.Gather.{Gathered}

@@ -7,8 +7,8 @@ use Rattle.std.specs.Io.KnownBytes.{Appends}
 use Rattle.rtcm_bits.specs.Device.{AppendsPrefix}
 use Rattle.rtcm_scan.specs.Frames.{Framed}
 use Rattle.rtcm_bits.specs.Prefix.{IsPrefix}
-use Rattle.obs_epoch.specs.Values.{PlanValue, EpochValue, Closed, same_values, satellites_written}
-use Rattle.obs_epoch.specs.declared.cell.StationValues.{StationValues}
+use Rattle.gnss_obs.specs.Values.{PlanValue, EpochValue, Closed, same_values, satellites_written}
+use Rattle.gnss_obs.specs.declared.cell.StationValues.{StationValues}
 use Rattle.obs_epoch.specs.Heard.{GatherSetup, Heard}
 use Rattle.obs_epoch.specs.Gathering.{closed_epochs, all_epochs, closed_by}
 use Rattle.rinex_file.specs.Texts.{HeaderLists}

@@ -1,8 +1,8 @@
 -- The content of the file after the epochs of some messages were written.
 use Rattle.std.specs.Prelude.{◌≡◌, ℕ, ◌+◌, nat_lt, true, List, [], ◌∷◌, ◌++◌, length, Option, Some, None, if◌then◌else◌}
 use Rattle.rtcm_scan.specs.Frames.{Framed}
-use Rattle.obs_epoch.specs.Values.{PlanValue, EpochValue, Closed, satellites_written}
-use Rattle.obs_epoch.specs.declared.cell.StationValues.{StationValues}
+use Rattle.gnss_obs.specs.Values.{PlanValue, EpochValue, Closed, satellites_written}
+use Rattle.gnss_obs.specs.declared.cell.StationValues.{StationValues}
 use Rattle.obs_epoch.specs.Heard.{Heard}
 use Rattle.obs_epoch.specs.Gathering.{HasGatheredEpochs, closed_epochs, closed_in, plan_in}
 use Rattle.rinex_file.specs.Texts.{HeaderLists}

@@ -3,7 +3,7 @@ use Rattle.std.specs.Prelude.{◌≡◌, ◌+◌, ℕ, List, [], ◌∷◌, ◌+
 use Rattle.rtcm_scan.specs.Frames.{Framed, frames_of}
 use Rattle.rtcm_scan.specs.Decided.{decided_frames}
 use Rattle.rtcm_bits.specs.Prefix.{IsPrefix}
-use Rattle.obs_epoch.specs.Values.{PlanValue, Closed}
+use Rattle.gnss_obs.specs.Values.{PlanValue, Closed}
 use Rattle.rinex_file.specs.Texts.{HeaderLists}
 use Rattle.rinex_file.specs.File.{file_text, gathered}
 use Rattle.rtcm_convert.specs.Converted.{SetupValue, text_of_epochs, so_far, file}

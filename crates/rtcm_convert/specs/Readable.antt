@@ -1,7 +1,7 @@
 -- The file written can be read back: it is the text of a file value, which `rinex_file::read_file` accepts.
 use Rattle.std.specs.Prelude.{◌≡◌, ℕ, ◌<◌, ◌⊎◌, List, []}
 use Rattle.rtcm_scan.specs.Frames.{Framed}
-use Rattle.obs_epoch.specs.Reach.{AreStationValues}
+use Rattle.gnss_obs.specs.GatheredEpochs.{AreStationValues}
 use Rattle.rinex_file.specs.Value.{FileValue}
 use Rattle.rinex_file.specs.FileValues.{AreTexts, IsFileValue}
 use Rattle.rinex_file.specs.Gathered.{AreSignals}

@@ -1,10 +1,10 @@
 -- The settings of a conversion that its definitions cite.
 use Rattle.std.specs.Prelude.{◌≡◌, ◌^◌, ◌<◌, ◌≤◌, ◌⊎◌, true}
-use Rattle.obs_epoch.specs.Weeks.{weeks}
-use Rattle.obs_epoch.specs.Epochs.{no_values}
+use Rattle.gnss_obs.specs.Weeks.{weeks}
+use Rattle.gnss_obs.specs.Values.{no_values}
 use Rattle.obs_epoch.specs.Kinds.{setup_at, is_no_station}
-use Rattle.obs_epoch.specs.Reach.{AreStationValues}
-use Rattle.obs_epoch.specs.declared.cell.StationValues.{StationValues}
+use Rattle.gnss_obs.specs.GatheredEpochs.{AreStationValues}
+use Rattle.gnss_obs.specs.declared.cell.StationValues.{StationValues}
 use Rattle.rtcm_convert.specs.declared.setup.Setup.{Setup}
 use Rattle.rtcm_convert.specs.Converted.{SetupValue}
 

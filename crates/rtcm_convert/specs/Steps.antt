@@ -1,7 +1,7 @@
 -- What the calls of the file writer do, for all messages and frames before.
 use Rattle.std.specs.Prelude.{◌≡◌, ℕ, true, false, List, [], ◌∷◌, ◌++◌, Option, Some, None}
 use Rattle.rtcm_scan.specs.Frames.{Framed}
-use Rattle.obs_epoch.specs.Values.{Closed}
+use Rattle.gnss_obs.specs.Values.{Closed}
 use Rattle.obs_epoch.specs.Heard.{Heard}
 use Rattle.obs_epoch.specs.Kinds.{is_close_first, kind_of}
 use Rattle.obs_epoch.specs.declared.taken.Kind.{Kind}

@@ -1,15 +1,15 @@
 //! The converter: it accepts a stream piece by piece, and writes its observation file.
 ghost use Rattle.std.specs.Prelude.{◌≡◌, ◌<◌, ◌≤◌, ◌+◌, ◌*◌, ◌↔◌, [], List, ℕ, true, false, length, drop};
 ghost use Rattle.std.specs.Prelude.{Err, OnOk, IfOk, IfErr, IfSome, IsErrOf};
-ghost use Rattle.obs_epoch.specs.Reach.{AreStationValues};
+ghost use Rattle.gnss_obs.specs.GatheredEpochs.{AreStationValues};
 ghost use Rattle.std.specs.Io.KnownBytes.{Keeps};
 ghost use Rattle.rtcm_scan.specs.Frames.{frames_of};
 ghost use Rattle.rtcm_scan.specs.Decided.{decided, decided_frames, most_undecided};
 ghost use Rattle.rtcm_bits.specs.FrameOf.{longest_frame};
 ghost use Rattle.rtcm_scan.specs.Looks.{examined, examined_now, most, most_looks, most_now};
-ghost use Rattle.obs_epoch.specs.Values.{cells_of};
+ghost use Rattle.gnss_obs.specs.Values.{cells_of};
 ghost use Rattle.obs_epoch.specs.Held.{recorded};
-ghost use Rattle.obs_epoch.specs.Values.{most_cells};
+ghost use Rattle.gnss_obs.specs.Values.{most_cells};
 ghost use Rattle.rtcm_convert.specs.Kept.{cells_kept, locks_kept, locks_in_all, IsWithinBounds, IsKeptNow, IsKeptAtEnd};
 ghost use Rattle.rtcm_convert.specs.Moves.{Moves};
 ghost use Rattle.rtcm_convert.specs.Faults.{FailsWithReader, FailsWithWriter, IsSentAfter, IsUntouched, IsSetupFault};

@@ -6,9 +6,9 @@ ghost use Rattle.rtcm_scan.specs.Frames.{frames_of};
 ghost use Rattle.rtcm_scan.specs.Decided.{decided_frames};
 ghost use Rattle.rtcm_convert.specs.Converted.{so_far, file, epochs_in};
 ghost use Rattle.rtcm_convert.specs.SetupValues.{setup_value_at};
-ghost use Rattle.obs_epoch.specs.Epochs.{no_values};
-ghost use Rattle.obs_epoch.specs.Reach.{AreStationValues};
-ghost use Rattle.obs_epoch.specs.declared.cell.StationValues.{StationValues};
+ghost use Rattle.gnss_obs.specs.Values.{no_values};
+ghost use Rattle.gnss_obs.specs.GatheredEpochs.{AreStationValues};
+ghost use Rattle.gnss_obs.specs.declared.cell.StationValues.{StationValues};
 ghost use Rattle.rtcm_convert.specs.Readable.{FilesAreReadable, FilesHaveValues, SoFarIsReadable, IsReadable, HasValue};
 
 use crate::setup::Setup;

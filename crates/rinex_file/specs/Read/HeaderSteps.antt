@@ -1,11 +1,11 @@
 -- From one line of a header to the next while its lines are read.
 use Rattle.std.specs.Prelude.{◌≡◌, ℕ, suc, ◌+◌, ◌<◌, ◌≤◌, ◌==◌, ◌||◌, ◌&&◌, nat_lt, Bool, true, List, [], ◌∷◌, ◌++◌, length}
 use Rattle.std.specs.Prelude.{set, take, drop, min, Option, Some, None, ⊤, ◌↔◌, MatchOption}
-use Rattle.obs_epoch.specs.declared.cell.StationValues.{StationValues}
+use Rattle.gnss_obs.specs.declared.cell.StationValues.{StationValues}
 use Rattle.gnss_obs.specs.Signals.{SignalAt, IsSignal, code_of, table}
 use Rattle.gnss_obs.specs.declared.system.System.{System}
 use Rattle.gnss_obs.specs.declared.system.System.TheVariants.{Gps, Galileo}
-use Rattle.obs_epoch.specs.Values.{PlanValue}
+use Rattle.gnss_obs.specs.Values.{PlanValue}
 use Rattle.rinex_file.specs.declared.header.fault.HeadFault.{HeadFault}
 use Rattle.rinex_file.specs.declared.header.fields.HeaderField.{HeaderField}
 use Rattle.rinex_file.specs.declared.header.fields.TextRow.{TextRow}

@@ -1,9 +1,9 @@
 //! A header, line by line.
 ghost use Rattle.std.specs.Prelude.{◌≡◌, ◌<◌, [], true, IfNone, IfSome};
 ghost use Rattle.std.specs.Iterator.{YieldsFirstBy, item_count};
-ghost use Rattle.obs_epoch.specs.Dates.{civil_of};
-ghost use Rattle.obs_epoch.specs.declared.cell.StationValues.{StationValues};
-ghost use Rattle.obs_epoch.specs.declared.civil.Civil.{Civil};
+ghost use Rattle.gnss_obs.specs.Dates.{civil_of};
+ghost use Rattle.gnss_obs.specs.declared.cell.StationValues.{StationValues};
+ghost use Rattle.gnss_obs.specs.declared.civil.Civil.{Civil};
 ghost use Rattle.rinex_file.specs.Texts.{HeaderLists};
 ghost use Rattle.rinex_file.specs.Header.{row_line, has_line, row_at, row_count, lines_from, header_lines};
 
@@ -16,7 +16,7 @@ use crate::header::texts::HeaderTexts;
 use crate::header::types::{type_line, type_rows};
 use crate::write::numbers::Line;
 use crate::write::satellite::letter_of;
-use obs_epoch::{GpsTime, Plan, StationValues};
+use gnss_obs::{GpsTime, Plan, StationValues};
 use std::marker::Model;
 
 /// The contents of a header.
@@ -89,7 +89,7 @@ pub struct HeaderLines<'a> {
 
 impl<'a> Model for HeaderLines<'a> {
     ghost use Rattle.std.specs.Prelude.{ℕ, List};
-    ghost use Rattle.obs_epoch.specs.Dates.{civil_of};
+    ghost use Rattle.gnss_obs.specs.Dates.{civil_of};
     ghost use Rattle.rinex_file.specs.Header.{lines_from};
 
     ghost Value = { List (List ℕ) };

@@ -1,6 +1,6 @@
 //! The lines of a header: RINEX 3.05, table A2.
 ghost use Rattle.std.specs.Prelude.{◌≡◌, ◌+◌, ◌≤◌, length, if◌then◌else◌};
-ghost use Rattle.obs_epoch.specs.Dates.{civil_of};
+ghost use Rattle.gnss_obs.specs.Dates.{civil_of};
 ghost use Rattle.rinex_file.specs.Header.{header_line, version_line, lengths, texts_line, position_line, delta_line};
 ghost use Rattle.rinex_file.specs.Header.{first_line};
 ghost use Rattle.rinex_file.specs.Read.Progress.{version_with};
@@ -8,8 +8,7 @@ ghost use Rattle.rinex_file.specs.Read.Progress.{version_with};
 use crate::header::fields::TextRow;
 use crate::header::texts::HeaderTexts;
 use crate::write::numbers::{Line, put, put_fixed, put_left, put_seconds, put_whole};
-use gnss_obs::System;
-use obs_epoch::{GpsTime, Plan, StationValues};
+use gnss_obs::{GpsTime, Plan, StationValues, System};
 
 // The labels, in columns 61 to 80, of the rows that are read and written by `labelled`.
 

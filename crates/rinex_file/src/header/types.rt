@@ -2,8 +2,8 @@
 ghost use Rattle.std.specs.Prelude.{◌≡◌, ◌+◌, ◌*◌, ◌≤◌, ◌<◌, ◌++◌, ◌∷◌, length, codes};
 ghost use Rattle.arrayvec.specs.ArrayVec.{array_vec_len};
 ghost use Rattle.gnss_obs.specs.Signals.{table, code_of};
-ghost use Rattle.obs_epoch.specs.Signals.{indices, IsOf};
-ghost use Rattle.obs_epoch.specs.Values.{planned_of};
+ghost use Rattle.gnss_obs.specs.SignalLists.{indices, IsOf};
+ghost use Rattle.gnss_obs.specs.Values.{planned_of};
 ghost use Rattle.rinex_file.specs.Lines.{letter_of};
 ghost use Rattle.rinex_file.specs.Header.{header_line, type_line, type_front, type_columns, type_rows, types_of};
 ghost use Rattle.rinex_file.specs.Header.{codes_of, type_of};
@@ -12,8 +12,7 @@ ghost use Rattle.rinex_file.specs.Limits.{most_line};
 use crate::header::lines::labelled;
 use crate::write::numbers::{Line, put, put_whole};
 use crate::write::satellite::letter_of;
-use gnss_obs::{Signal, System};
-use obs_epoch::Plan;
+use gnss_obs::{Plan, Signal, System};
 
 /// Largest number of types in a line.
 pub(crate) const TYPES_IN_LINE: usize = 13;

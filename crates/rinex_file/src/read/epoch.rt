@@ -1,7 +1,7 @@
 //! The lines with a date and time of day, read back: their fields are validated, written again and
 //! compared.
 ghost use Rattle.std.specs.Prelude.{◌≡◌, ◌≤◌, ℕ};
-ghost use Rattle.obs_epoch.specs.Dates.{civil_of};
+ghost use Rattle.gnss_obs.specs.Dates.{civil_of};
 ghost use Rattle.rinex_file.specs.FileValues.{IsTime};
 ghost use Rattle.rinex_file.specs.Header.{first_line};
 ghost use Rattle.rinex_file.specs.Lines.{epoch_line};
@@ -12,8 +12,8 @@ use crate::read::header_lines::columns;
 use crate::read::numbers::{digits_in, is_same};
 use crate::write::epoch::epoch_line;
 use crate::write::numbers::Line;
-use obs_epoch::laws::calendar;
-use obs_epoch::{Civil, GpsTime};
+use gnss_obs::laws::calendar;
+use gnss_obs::{Civil, GpsTime};
 
 /// Returns the date and time of day in a line: the year ends at column 6, and `width` columns for
 /// each other number and `second` columns follow. Each number is limited to the largest value of

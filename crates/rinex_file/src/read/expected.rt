@@ -1,7 +1,7 @@
 //! The line that is expected when a file is read line by line.
 ghost use Rattle.std.specs.Prelude.{◌≡◌, true, false, OnOk, OnErr};
 
-use obs_epoch::StationValues;
+use gnss_obs::StationValues;
 
 /// The kind of line that is expected next.
 #[derive(Clone, Copy)]

@@ -14,7 +14,7 @@ use crate::read::fault::ReadFault;
 use crate::read::parser_state::ParserState;
 use crate::read::reading::Reading;
 use crate::values::{KeptEpoch, KeptRow, KeptSatellite, ObsFile};
-use obs_epoch::{GpsTime, StationValues};
+use gnss_obs::{GpsTime, StationValues};
 use rtcm_bits::Counted;
 use std::alloc::{AllocError, Global};
 use std::io::Read;

@@ -1,8 +1,8 @@
 //! What was read of a header.
 ghost use Rattle.std.specs.Prelude.{◌≡◌, ◌<◌, ◌≤◌, ◌+◌, true, length, Err, IfOk, IfSome, OnOk};
 ghost use Rattle.gnss_obs.specs.Signals.{table};
-ghost use Rattle.obs_epoch.specs.Signals.{indices};
-ghost use Rattle.obs_epoch.specs.Values.{planned_of};
+ghost use Rattle.gnss_obs.specs.SignalLists.{indices};
+ghost use Rattle.gnss_obs.specs.Values.{planned_of};
 ghost use Rattle.rinex_file.specs.Header.{type_rows, row_at};
 ghost use Rattle.rinex_file.specs.Read.Progress.{AreValid, IsHeadAt, announced, signals_begun};
 ghost use Rattle.rinex_file.specs.Read.HeaderSteps.{known_line, NoneGoesOn, SameFrom, StepsTo};
@@ -19,8 +19,7 @@ use crate::read::header_lines::{
 };
 use crate::read::types::TypesSoFar;
 use crate::write::satellite::letter_of;
-use gnss_obs::System;
-use obs_epoch::{GpsTime, Plan, StationValues};
+use gnss_obs::{GpsTime, Plan, StationValues, System};
 use std::alloc::Global;
 use std::marker::Model;
 
@@ -37,7 +36,7 @@ pub(crate) struct HeadSoFar {
 impl Model for HeadSoFar {
     ghost use Rattle.std.specs.Prelude.{◌≤◌, length};
     ghost use Rattle.gnss_obs.specs.Signals.{table};
-    ghost use Rattle.obs_epoch.specs.Signals.{indices, IsOf};
+    ghost use Rattle.gnss_obs.specs.SignalLists.{indices, IsOf};
     ghost use Rattle.gnss_obs.specs.declared.system.System.TheVariants.{Gps, Galileo};
     ghost use Rattle.rinex_file.specs.Read.Progress.{Known};
     ghost use Rattle.rinex_file.specs.FileValues.{AreValues, IsTime};

@@ -13,7 +13,7 @@ use crate::header::lines::{
 };
 use crate::header::texts::HeaderTexts;
 use crate::read::numbers::{digits_in, is_same, number_in};
-use obs_epoch::StationValues;
+use gnss_obs::StationValues;
 
 /// Returns up to `width` columns of a line, from column `from` on, counted from 0.
 pub(crate) fn columns(line: &[u8], from: usize, width: usize) -> &[u8]

@@ -2,7 +2,7 @@
 //! with the file.
 ghost use Rattle.std.specs.Prelude.{◌≡◌, ◌<◌, ◌≤◌, ◌+◌, ◌^◌, ◌∷◌, ◌++◌, ◌↔◌, ℕ, [], List, None, OnOk, IsTrue, map, length};
 ghost use Rattle.rinex_file.specs.Value.{FileValue};
-ghost use Rattle.obs_epoch.specs.declared.cell.StationValues.{StationValues};
+ghost use Rattle.gnss_obs.specs.declared.cell.StationValues.{StationValues};
 ghost use Rattle.rinex_file.specs.FileValues.{IsFileValue, rank_of};
 ghost use Rattle.rinex_file.specs.File.{event_line, file_lines};
 ghost use Rattle.rinex_file.specs.Read.Progress.{HasLinesLeft, epoch_after};
@@ -22,8 +22,7 @@ use crate::values::KeptSatellite;
 use crate::write::epoch::event_line;
 use crate::write::numbers::Line;
 use arrayvec::ArrayVec;
-use gnss_obs::System;
-use obs_epoch::{GpsTime, StationValues};
+use gnss_obs::{GpsTime, StationValues, System};
 use std::alloc::Global;
 
 /// The state of the parser of a file.

@@ -3,7 +3,7 @@ ghost use Rattle.std.specs.Prelude.{◌≡◌, ◌≤◌, ◌<◌, ◌+◌, ◌+
 ghost use Rattle.std.specs.Prelude.{OnOk, Err, Some};
 ghost use Rattle.std.specs.List.{list_any};
 ghost use Rattle.gnss_obs.specs.Signals.{SignalAt, IsSignal, table};
-ghost use Rattle.obs_epoch.specs.Signals.{indices, IsOf};
+ghost use Rattle.gnss_obs.specs.SignalLists.{indices, IsOf};
 ghost use Rattle.rinex_file.specs.Header.{type_rows};
 ghost use Rattle.rinex_file.specs.Read.Progress.{AreTypes, types_line, signals_begun};
 ghost use Rattle.rinex_file.specs.Read.HeaderSteps.{ReadsRow, RefusesRow, TakesTypes, RefusesTypes, HasSignalAt};
@@ -11,8 +11,7 @@ ghost use Rattle.rinex_file.specs.Read.HeaderSteps.{ReadsRow, RefusesRow, TakesT
 use crate::header::types::{TYPES_IN_LINE, type_rows, types_with};
 use crate::read::expected::{Refusal, accept};
 use crate::read::numbers::{digits_in, is_same};
-use gnss_obs::{Signal, System};
-use obs_epoch::Signals;
+use gnss_obs::{Signal, Signals, System};
 use std::alloc::Global;
 
 /// What was read of the types of a system.

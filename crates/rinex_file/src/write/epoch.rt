@@ -2,14 +2,14 @@
 //! each epoch whose station values differ from those before.
 ghost use Rattle.std.specs.Prelude.{◌≡◌, ◌+◌, ◌≤◌, ◌++◌, ◌∷◌};
 ghost use Rattle.arrayvec.specs.ArrayVec.{array_vec_len};
-ghost use Rattle.obs_epoch.specs.Dates.{civil_of};
+ghost use Rattle.gnss_obs.specs.Dates.{civil_of};
 ghost use Rattle.rinex_file.specs.File.{event_line};
 ghost use Rattle.rinex_file.specs.Limits.{most_line};
 ghost use Rattle.rinex_file.specs.Lines.{epoch_line};
 ghost use Rattle.rinex_file.specs.Numbers.{padded};
 
 use crate::write::numbers::{Line, put, put_padded, put_seconds, put_whole};
-use obs_epoch::GpsTime;
+use gnss_obs::GpsTime;
 
 /// Appends a blank and a number with two digits.
 fn put_two(line: &mut Line, number: u8)

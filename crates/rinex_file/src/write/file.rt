@@ -11,7 +11,7 @@ use crate::write::epoch::epoch_line;
 use crate::write::numbers::Line;
 use crate::write::satellite::satellite_text;
 use crate::write::{write_event, write_header};
-use obs_epoch::StationValues;
+use gnss_obs::StationValues;
 use rtcm_bits::Counted;
 use std::alloc::{AllocError, Global};
 

@@ -3,8 +3,8 @@ ghost use Rattle.std.specs.Prelude.{◌≡◌, ◌≤◌, ◌<◌, ◌++◌, ℕ
 ghost use Rattle.std.specs.Prelude.{nat_eq, slice_set};
 ghost use Rattle.std.specs.List.{IsDistinct};
 ghost use Rattle.arrayvec.specs.ArrayVec.{array_vec_len};
-ghost use Rattle.obs_epoch.specs.declared.cell.Cell.{Cell};
-ghost use Rattle.obs_epoch.specs.Values.{IsHeld, AreHeld, planned_of};
+ghost use Rattle.gnss_obs.specs.declared.cell.Cell.{Cell};
+ghost use Rattle.gnss_obs.specs.Values.{IsHeld, AreHeld, planned_of};
 ghost use Rattle.rinex_file.specs.FileValues.{FitsColumns, HaveRoom};
 ghost use Rattle.rinex_file.specs.Value.{no_signal_values, signal_values_of, satellite_row, entries_of, row_among};
 ghost use Rattle.rinex_file.specs.Value.{row_in_epoch};
@@ -17,8 +17,7 @@ ghost use Rattle.rinex_file.specs.Limits.{most_line, signal_columns, value_colum
 use crate::values::SignalValues;
 use crate::write::digits::columns_of;
 use crate::write::numbers::{Line, SIGNAL_COLUMNS, VALUE_COLUMNS, put_blanks};
-use gnss_obs::{Sat, System, Thousandths, strength_digit};
-use obs_epoch::{Cell, Epoch, Plan};
+use gnss_obs::{Cell, Epoch, Plan, Sat, System, Thousandths, strength_digit};
 use std::marker::Model;
 
 /// Writes a value as F14.3 and the LLI and SSI columns after it, or 16 blanks if it is absent. Its

@@ -4,8 +4,8 @@ use Rattle.std.specs.List.{IsDistinct}
 use Rattle.gnss_obs.specs.declared.system.System.{System}
 use Rattle.gnss_obs.specs.declared.system.System.TheVariants.{Gps, Galileo}
 use Rattle.gnss_obs.specs.Signals.{SignalAt, table}
-use Rattle.obs_epoch.specs.Signals.{indices, IsOf}
-use Rattle.obs_epoch.specs.Values.{planned_of}
+use Rattle.gnss_obs.specs.SignalLists.{indices, IsOf}
+use Rattle.gnss_obs.specs.Values.{planned_of}
 use Rattle.rinex_file.proofs.HeaderEnd.{listed_by}
 use Rattle.rinex_file.proofs.laws.head.Goals as goal
 

@@ -1,5 +1,5 @@
 use Rattle.std.proofs.Common.{◌≡◌, ◌∙◌, ap₂, ℕ, List}
-use Rattle.obs_epoch.specs.Dates.{civil_of}
+use Rattle.gnss_obs.specs.Dates.{civil_of}
 use Rattle.rinex_file.specs.Lines.{epoch_line}
 use Rattle.rinex_file.proofs.Sent.{failed, where_failed, epoch_first, epoch_second, epoch_third, epoch_whole}
 use Rattle.rinex_file.proofs.write.write_epoch.Goals as goal

@@ -4,8 +4,8 @@ use Rattle.std.specs.Io.KnownBytes.{Appends}
 use Rattle.std.proofs.KnownBytes.{Appends-nil}
 use Rattle.gnss_obs.specs.Satellites.{satellites}
 use Rattle.rtcm_bits.specs.Device.{AppendsPrefix}
-use Rattle.obs_epoch.specs.Values.{cells_of}
-use Rattle.obs_epoch.proofs.GroupLemmas.{left_all, sorted_climbs}
+use Rattle.gnss_obs.specs.Values.{cells_of}
+use Rattle.gnss_obs.proofs.GroupLemmas.{left_all, sorted_climbs}
 use Rattle.rinex_file.proofs.SatelliteGroups.{further}
 use Rattle.rinex_file.proofs.Groups.{same_line}
 use Rattle.rinex_file.proofs.Sent.{no_lines, grown_lines, part_lines, where_failed, not_written, is_shown}

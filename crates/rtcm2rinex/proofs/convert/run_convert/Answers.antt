@@ -1,6 +1,6 @@
 use Rattle.std.proofs.Common.{inr, subst}
 use Rattle.std.specs.Prelude.{◌≡◌, ◌↔◌, Err}
-use Rattle.obs_epoch.specs.declared.cell.StationValues.{StationValues}
+use Rattle.gnss_obs.specs.declared.cell.StationValues.{StationValues}
 use Rattle.rtcm_convert.specs.SetupValues.{IsBadAt, start_at}
 use Rattle.rtcm_convert.specs.declared.fault.Fault.TheVariants.{BadSetup}
 use Rattle.rtcm2rinex.specs.Converting.{EndsConversion}

@@ -3,7 +3,7 @@ use Rattle.rtcm2rinex.specs.Signals.{had_below}
 use Rattle.obs_epoch.specs.SignalCounts.{AreSignalCounts}
 use Rattle.rtcm2rinex.proofs.SignalLemmas.{IsPartly}
 use Rattle.rtcm2rinex.proofs.signals.add_codes.Given as goal
-use Rattle.obs_epoch.specs.Heard.{HeardCell}
+use Rattle.gnss_obs.specs.HeardCells.{HeardCell}
 
 abbrev pub invariant-loop-index : goal.invariant-loop-index
 invariant-loop-index l =

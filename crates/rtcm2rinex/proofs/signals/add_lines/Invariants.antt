@@ -2,7 +2,7 @@ use Rattle.std.proofs.Common.{◌≡◌, ◌+◌, ◌*◌, ◌≤◌, ◌++◌, 
 use Rattle.rtcm2rinex.specs.Signals.{lines_below}
 use Rattle.obs_epoch.specs.SignalCounts.{AreSignalCounts}
 use Rattle.rtcm2rinex.proofs.signals.add_lines.Given as goal
-use Rattle.obs_epoch.specs.Heard.{HeardCell}
+use Rattle.gnss_obs.specs.HeardCells.{HeardCell}
 
 abbrev pub invariant-loop-index : goal.invariant-loop-index
 invariant-loop-index l =

@@ -1,4 +1,4 @@
-use Rattle.obs_epoch.specs.Epochs.{no_values}
+use Rattle.gnss_obs.specs.Values.{no_values}
 use Rattle.std.proofs.Common.{Some, refl}
 use Rattle.rtcm_convert.specs.Conversion.{LeftBy}
 use Rattle.rtcm_convert.specs.Faults.{IsPiecesFault}

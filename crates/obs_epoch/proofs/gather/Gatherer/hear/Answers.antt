@@ -1,10 +1,10 @@
 use Rattle.std.proofs.Common.{◌∙◌, sym, ap, subst}
-use Rattle.obs_epoch.specs.Gather.{AreInOrder}
+use Rattle.gnss_obs.specs.Kept.{AreInOrder}
 use Rattle.obs_epoch.specs.Clock.{State}
 use Rattle.obs_epoch.specs.Heard.{heard_summary}
 use Rattle.obs_epoch.proofs.StandLemmas.{step_setup}
 use Rattle.obs_epoch.proofs.gather.Gatherer.hear.Goals as goal
-use Rattle.obs_epoch.specs.Values.{Closed}
+use Rattle.gnss_obs.specs.Values.{Closed}
 
 pub invariant_of-self : goal.invariant_of-self
 invariant_of-self c =

@@ -1,7 +1,7 @@
 use Rattle.std.proofs.Common.{[], refl, ap, subst, rules, false}
 use Rattle.obs_epoch.specs.Clock.{HasHeardMessages}
 use Rattle.obs_epoch.specs.Heard.{GatherSetup}
-use Rattle.obs_epoch.specs.Values.{Closed}
+use Rattle.gnss_obs.specs.Values.{Closed}
 use Rattle.obs_epoch.proofs.StandingLemmas.{none_locked}
 use Rattle.obs_epoch.proofs.gather.Gatherer.new_at.Goals as goal
 

@@ -1,11 +1,12 @@
 use Rattle.std.proofs.Common.{◌≡◌, ◌∙◌, sym, ap, ap₂, subst, length, nat_le, true, insert, is_some, List}
-use Rattle.obs_epoch.specs.declared.cell.Cell.{Cell}
-use Rattle.obs_epoch.specs.declared.cell.StationValues.{StationValues}
-use Rattle.obs_epoch.specs.Values.{most_cells, Closed, cells_of, planned_of}
-use Rattle.obs_epoch.specs.Order.{AreSorted}
-use Rattle.obs_epoch.specs.Heard.{heard_cell, kept_cell}
-use Rattle.obs_epoch.specs.Gather.{AreInOrder, Gathered, insertion_index_in, hold, more_at}
-use Rattle.obs_epoch.specs.Plans.{place_in}
+use Rattle.gnss_obs.specs.declared.cell.Cell.{Cell}
+use Rattle.gnss_obs.specs.declared.cell.StationValues.{StationValues}
+use Rattle.gnss_obs.specs.Values.{most_cells, Closed, cells_of, planned_of}
+use Rattle.gnss_obs.specs.Order.{AreSorted}
+use Rattle.gnss_obs.specs.HeardCells.{heard_cell, kept_cell}
+use Rattle.obs_epoch.specs.Gather.{Gathered, hold}
+use Rattle.gnss_obs.specs.Kept.{AreInOrder, insertion_index_in, more_at}
+use Rattle.gnss_obs.specs.Plans.{place_in}
 use Rattle.obs_epoch.specs.Loss.{lli_with}
 use Rattle.obs_epoch.proofs.StandLemmas.{order_more, sorted_more, more_is, kept_is, not_full, planned_is, outcome_by}
 use Rattle.obs_epoch.proofs.gather.Gatherer.take_cell.Goals as goal

@@ -45,7 +45,7 @@ step_is c =
     let state = ap (λ (l : Loaded). l.state) (loaded_is c) in
     let by = λ (b : Bool) (is : c.hear-kind.result.1 ≡ b). ap (λ d. if d then noted (loaded c).state else (loaded c).state) (sym is ∙ closed_is c) in
     elim c.if-closed.branch [
-      | then-closed w ↦ w.self-is ∙ ap (λ locks. record (the_self c) { locks = locks }) w.note_locks.ensures ∙ ap noted (c.self-2.view_is ∙ state) ∙ by _ w.if-closed.true
+      | then-closed w ↦ w.self-is ∙ ap (λ locks. record (the_self c) { locks = locks }) w.note_epoch.ensures ∙ ap noted (c.self-2.view_is ∙ state) ∙ by _ w.if-closed.true
       | else-closed w ↦ w.self-is ∙ state ∙ by _ w.if-closed.false
     ] where
       the_self : goal.After-with_counts → Gathered

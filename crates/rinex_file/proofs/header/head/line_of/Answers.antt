@@ -1,6 +1,6 @@
 use Rattle.std.proofs.Common.{◌∙◌, sym, ap, [], ◌∷◌}
 use Rattle.std.specs.Prelude.{codes}
-use Rattle.obs_epoch.specs.Dates.{civil_of}
+use Rattle.gnss_obs.specs.Dates.{civil_of}
 use Rattle.rinex_file.specs.Header.{row_line, header_line}
 use Rattle.rinex_file.proofs.header.head.line_of.Goals as goal
 

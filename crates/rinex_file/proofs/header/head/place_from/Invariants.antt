@@ -1,6 +1,6 @@
 use Rattle.std.proofs.Common.{◌≡◌}
-use Rattle.obs_epoch.specs.declared.cell.StationValues.{StationValues}
-use Rattle.obs_epoch.specs.declared.civil.Civil.{Civil}
+use Rattle.gnss_obs.specs.declared.cell.StationValues.{StationValues}
+use Rattle.gnss_obs.specs.declared.civil.Civil.{Civil}
 use Rattle.rinex_file.specs.Texts.{HeaderLists}
 use Rattle.rinex_file.specs.Header.{lines_from}
 use Rattle.rinex_file.proofs.header.head.place_from.Given as goal

@@ -1,7 +1,7 @@
 use Rattle.std.proofs.Common.{◌∙◌, sym, ap, ◌++◌, ◌*◌, ℕ}
 use Rattle.std.specs.Prelude.{codes}
-use Rattle.obs_epoch.specs.Signals.{indices}
-use Rattle.obs_epoch.proofs.PlanLemmas.{length_indices, few_signals}
+use Rattle.gnss_obs.specs.SignalLists.{indices}
+use Rattle.gnss_obs.proofs.PlanLemmas.{length_indices, few_signals}
 use Rattle.rinex_file.specs.Lines.{letter_of}
 use Rattle.rinex_file.specs.Header.{header_line, type_front, type_columns, type_line, types_of, codes_of}
 use Rattle.rinex_file.proofs.TypeRows.{length-system_types}

@@ -1,5 +1,5 @@
 use Rattle.std.proofs.Common.{arith, ◌≡◌, ◌∙◌, ap, subst, sym, ℕ}
-use Rattle.obs_epoch.specs.Dates.{civil_of}
+use Rattle.gnss_obs.specs.Dates.{civil_of}
 use Rattle.rinex_file.specs.FileValues.{IsTime}
 use Rattle.rinex_file.specs.Read.Fields.{digits_in}
 use Rattle.rinex_file.proofs.EpochText.{ShowDate, HasColumns, epoch_shown, first_shown, has_columns, are_read, of_numbers}

@@ -1,5 +1,5 @@
 use Rattle.std.proofs.Common.{rules, ◌∙◌, refl}
-use Rattle.obs_epoch.specs.Dates.{civil_of}
+use Rattle.gnss_obs.specs.Dates.{civil_of}
 use Rattle.rinex_file.specs.FileValues.{IsTime}
 use Rattle.rinex_file.specs.Header.{first_line}
 use Rattle.rinex_file.proofs.Judged.{exactly}

@@ -2,7 +2,7 @@ use Rattle.std.proofs.Common.{arith, refl, ◌≡◌, ◌∙◌, sym, ap, subst,
 use Rattle.std.proofs.lemmas.Int.{fits_signed_from_abs, to_z-of_z}
 use Rattle.std.specs.Prelude.{codes}
 use Rattle.std.specs.Bool.{then_some}
-use Rattle.obs_epoch.specs.declared.cell.StationValues.{StationValues}
+use Rattle.gnss_obs.specs.declared.cell.StationValues.{StationValues}
 use Rattle.rinex_file.specs.FileValues.{IsCoordinate}
 use Rattle.rinex_file.specs.Header.{position_line}
 use Rattle.rinex_file.specs.Read.Progress.{IsPosition}

@@ -3,7 +3,7 @@ use Rattle.std.specs.Prelude.{Ok}
 use Rattle.std.proofs.lemmas.List.{take_at, take_min}
 use Rattle.gnss_obs.specs.declared.system.System.{System}
 use Rattle.gnss_obs.specs.Signals.{SignalAt, IsSignal, table}
-use Rattle.obs_epoch.specs.Signals.{indices, IsAdded, IsOf}
+use Rattle.gnss_obs.specs.SignalLists.{indices, IsAdded, IsOf}
 use Rattle.rinex_file.proofs.Entries.{few_signals}
 use Rattle.rinex_file.proofs.Judged.{at_some}
 use Rattle.rinex_file.proofs.TypeRows.{still_grows, not_read, taken_more, taken_before}

@@ -1,5 +1,5 @@
 use Rattle.std.proofs.Common.{ℕ, List, ◌≡◌, ◌≤◌, length, take}
-use Rattle.obs_epoch.specs.Signals.{indices, IsOf}
+use Rattle.gnss_obs.specs.SignalLists.{indices, IsOf}
 use Rattle.rinex_file.specs.Read.Progress.{AreTypes, types_line, signals_begun}
 use Rattle.rinex_file.specs.Read.HeaderSteps.{AreBegun}
 use Rattle.rinex_file.proofs.read.types.take_signals.Given as goal

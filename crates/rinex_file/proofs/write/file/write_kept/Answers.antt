@@ -2,7 +2,7 @@ use Rattle.std.proofs.Common.{◌≡◌, ◌∙◌, ◌+◌, ◌<◌, ◌++◌, 
 use Rattle.std.specs.Prelude.{flat_map}
 use Rattle.std.proofs.lemmas.List.{take_more, take_all}
 use Rattle.std.proofs.lemmas.List.Concat.{flat_map-append}
-use Rattle.obs_epoch.specs.Dates.{civil_of}
+use Rattle.gnss_obs.specs.Dates.{civil_of}
 use Rattle.rinex_file.specs.Numbers.{joined}
 use Rattle.rinex_file.specs.File.{change_lines}
 use Rattle.rinex_file.specs.FileValues.{AreSignalValues}

@@ -1,6 +1,6 @@
 use Rattle.std.proofs.Common.{◌≡◌, ◌++◌, take, length}
 use Rattle.std.specs.Prelude.{flat_map}
-use Rattle.obs_epoch.specs.Dates.{civil_of}
+use Rattle.gnss_obs.specs.Dates.{civil_of}
 use Rattle.rinex_file.specs.Numbers.{joined}
 use Rattle.rinex_file.specs.File.{change_lines}
 use Rattle.rinex_file.specs.Lines.{epoch_line, satellite_line}

@@ -4,8 +4,8 @@ use Rattle.std.specs.List.{IsDistinct}
 use Rattle.std.proofs.lemmas.List.{drop_more, drop_all, length-map}
 use Rattle.std.proofs.lemmas.List.Elements.{All-drop}
 use Rattle.std.proofs.lemmas.List.Quantifiers.{position-Some}
-use Rattle.obs_epoch.specs.declared.cell.Cell.{Cell}
-use Rattle.obs_epoch.specs.Values.{IsHeld, planned_of}
+use Rattle.gnss_obs.specs.declared.cell.Cell.{Cell}
+use Rattle.gnss_obs.specs.Values.{IsHeld, planned_of}
 use Rattle.rinex_file.specs.Value.{SignalValues, signal_values_at, entries_of}
 use Rattle.rinex_file.specs.Rows.{HasSignals}
 use Rattle.rinex_file.proofs.CellPlaces.{none_put, no_place, others_stay, other_stays, cell_put, all_fit}

@@ -1,5 +1,5 @@
 use Rattle.std.proofs.Common.{◌≡◌, ◌≤◌, ℕ, List, length, drop, replicate}
-use Rattle.obs_epoch.specs.Values.{planned_of}
+use Rattle.gnss_obs.specs.Values.{planned_of}
 use Rattle.rinex_file.specs.Value.{entries_of, no_signal_values}
 use Rattle.rinex_file.specs.Rows.{HasSignals}
 use Rattle.rinex_file.proofs.write.satellite.put_cells.Given as goal

@@ -1,7 +1,7 @@
 use Rattle.std.proofs.Common.{arith, ◌∙◌, ap, subst, ◌≤◌, ◌++◌, ◌∷◌, [], List, ℕ, length, replicate}
 use Rattle.std.proofs.lemmas.List.{length-map}
 use Rattle.gnss_obs.specs.Signals.{table}
-use Rattle.obs_epoch.specs.Values.{planned_of}
+use Rattle.gnss_obs.specs.Values.{planned_of}
 use Rattle.rinex_file.specs.Numbers.{padded}
 use Rattle.rinex_file.specs.Value.{no_signal_values, entries_of, signal_values_at}
 use Rattle.rinex_file.specs.Lines.{letter_of, satellite_line}

@@ -6,7 +6,7 @@ use Rattle.rtcm_scan.specs.Frames.{Framed, frames_of, frames_from}
 use Rattle.rtcm_scan.specs.Known.{known_frames}
 use Rattle.rtcm_scan.specs.Results.{new_scan}
 use Rattle.rtcm_scan.specs.Scan.{FramerValue}
-use Rattle.obs_epoch.specs.Reach.{AreStationValues}
+use Rattle.gnss_obs.specs.GatheredEpochs.{AreStationValues}
 use Rattle.rtcm_convert.specs.Filed.{HasFiledFrames}
 use Rattle.rtcm_convert.specs.SetupValues.{Start, start_at, start_value, IsBadAt, IsBadStart}
 use Rattle.rtcm_convert.specs.Stream.{HasDrained}

@@ -1,5 +1,5 @@
 use Rattle.std.proofs.Common.{arith, ◌≡◌, ◌∙◌, sym, ap, ◌∷◌, ◌+◌, ◌<◌, ℕ, suc, List, length}
-use Rattle.obs_epoch.specs.Dates.{civil_of}
+use Rattle.gnss_obs.specs.Dates.{civil_of}
 use Rattle.rinex_file.specs.Header.{lines_from, row_line, row_at}
 use Rattle.rinex_file.proofs.HeaderAgree.{line_next}
 use Rattle.rinex_file.proofs.header.head.HeaderLinesIterator.next.Goals as goal

@@ -5,7 +5,7 @@ use Rattle.gnss_obs.specs.declared.system.System.{System}
 use Rattle.rinex_file.specs.declared.header.rows.HeaderRow.{HeaderRow}
 use Rattle.rinex_file.specs.declared.read.expected.Expected.TheVariants.{Header, Epoch}
 use Rattle.rinex_file.specs.declared.header.rows.HeaderRow.TheVariants.{Version, Texts, Position, Delta, Types, StrengthUnit, First, Shift, End}
-use Rattle.obs_epoch.specs.Values.{planned_of}
+use Rattle.gnss_obs.specs.Values.{planned_of}
 use Rattle.rinex_file.specs.Header.{end_line, first_types, row_at}
 use Rattle.rinex_file.specs.Read.Progress.{Known, IsHeadAt, announced}
 use Rattle.rinex_file.specs.Read.HeaderSteps.{IsOnly, known_line, EndsHeader, NoneGoesOn, ReadsHeaderLine, ReadsOrRefuses, RefusesHeaderLine}

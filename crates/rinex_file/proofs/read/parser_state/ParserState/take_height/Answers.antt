@@ -1,7 +1,7 @@
 use Rattle.std.proofs.Common.{◌≡◌, ◌∙◌, sym, ap, subst, refl, ℕ, List, Option, Some, None}
 use Rattle.std.specs.Prelude.{unwrap_or}
 use Rattle.std.proofs.lemmas.Bool.{not-false, not-true}
-use Rattle.obs_epoch.specs.declared.cell.StationValues.{StationValues}
+use Rattle.gnss_obs.specs.declared.cell.StationValues.{StationValues}
 use Rattle.rinex_file.specs.FileValues.{changed_by}
 use Rattle.rinex_file.specs.declared.read.parser_state.ParserState.{ParserState}
 use Rattle.rinex_file.specs.declared.read.expected.Added.TheVariants.{NoRow}

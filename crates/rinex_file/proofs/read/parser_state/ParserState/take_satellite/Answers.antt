@@ -7,7 +7,7 @@ use Rattle.std.proofs.lemmas.List.{map-append}
 use Rattle.std.proofs.lemmas.List.Sums.{sum_by-append}
 use Rattle.rinex_file.specs.declared.read.expected.Expected.TheVariants.{Satellite}
 use Rattle.rinex_file.specs.Value.{SatelliteRow, Stamped}
-use Rattle.obs_epoch.specs.declared.cell.StationValues.{StationValues}
+use Rattle.gnss_obs.specs.declared.cell.StationValues.{StationValues}
 use Rattle.rinex_file.specs.FileValues.{IsSatelliteRow, changed_by, rank_of, time_stamped}
 use Rattle.rinex_file.specs.Lines.{satellite_line}
 use Rattle.rinex_file.specs.Read.Progress.{Progress}

@@ -1,7 +1,7 @@
 use Rattle.std.proofs.Common.{◌≡◌, ◌∙◌, sym, ap, ℕ, true, None, Some}
 use Rattle.std.specs.Prelude.{Err}
 use Rattle.std.proofs.lemmas.Result.{err_from_is_err_and}
-use Rattle.obs_epoch.specs.Signals.{indices}
+use Rattle.gnss_obs.specs.SignalLists.{indices}
 use Rattle.rinex_file.proofs.HeaderRead.{row_taken, same_refusal}
 use Rattle.rinex_file.proofs.Judged.{at_some, on_bad, on_ok, refused}
 use Rattle.rinex_file.proofs.TypeRows.{shown_line}

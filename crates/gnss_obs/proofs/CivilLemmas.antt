@@ -1,0 +1,206 @@
+-- Dates and times of day in the calendar of the library.
+use Rattle.std.proofs.Common.{true≢false, ◌≡◌, ◌<◌, ◌≤◌, ◌+◌, ◌*◌, ◌/◌, ◌%◌, ◌∙◌, ℕ, ℤ, pos, negsuc, ◌+ℤ◌, ◌-ℤ◌, ◌*ℤ◌, neg_ℤ, ◌≤ℤ◌, refl, sym, subst, arith, nat_abs, to_z, of_z, to_z-of_z, FitsSigned, w8, w16, w32, w64, ap, ap₂, T, Fits, true, false, Result, Err, IsOk}
+use lib.Signed.{non_neg}
+use Rattle.std.specs.Int.{w128}
+use Rattle.std.specs.Prelude.{int_div, int_lt}
+use Rattle.jiff_core.specs.declared.civil.date.Date.{Date}
+use Rattle.jiff_core.specs.declared.civil.time.Time.{Time}
+use Rattle.jiff_core.specs.declared.civil.datetime.DateTime.{DateTime}
+use Rattle.jiff_core.specs.Calendar.{days_from_civil, IsCivilDate, IsDate}
+use Rattle.jiff_core.specs.Date.{epoch_day, IsYmd}
+use Rattle.jiff_core.specs.DateTime.{civil_nanos}
+use Rattle.jiff_core.specs.Time.{time_nanos, IsHms, IsTime}
+use Rattle.jiff_core.proofs.SignedLemmas.{signed_arith}
+use Rattle.jiff_core.proofs.DateLemmas.{civil as valid_date, epoch_day_range}
+use Rattle.gnss_obs.specs.Dates.{IsCivil, IsCivilOf, clock_of}
+use Rattle.gnss_obs.specs.declared.civil.Civil.{Civil}
+use Rattle.gnss_obs.proofs.Days.{first_day}
+use Rattle.std.proofs.lemmas.Grind.{common_steps}
+
+abbrev pub day_nanos : ℕ
+day_nanos = 86_400_000_000_000
+
+-- ---- the first time
+
+pub begins : (b : DateTime) → IsYmd (pos 1980) (pos 1) (pos 6) b.date → IsHms (pos 0) (pos 0) (pos 0) (pos 0) b.time → civil_nanos b ≡ pos 3657 *ℤ pos day_nanos
+unfolding civil_nanos
+begins b date time =
+    let month : b.date.month ≡ 1 = omega (arith, signed_arith, date.1) in
+    let day : b.date.day ≡ 6 = omega (arith, signed_arith, date.2) in
+    let first : epoch_day b.date ≡ pos 3657 = rw (date.0, month, day) first_day in
+    let none : time_nanos b.time ≡ 0 = omega (arith, signed_arith, time.0, time.1, time.2, time.3) in
+    rw (first, none) refl
+
+-- ---- days and nanoseconds
+
+days_by : (z : ℤ) (n t : ℕ) → n < day_nanos → z *ℤ pos day_nanos +ℤ pos n ≡ pos 3657 *ℤ pos day_nanos +ℤ pos t *ℤ pos 1_000_000
+    → (z -ℤ pos 3657 ≡ pos (t / 86_400_000)) × (n ≡ t % 86_400_000 * 1_000_000)
+days_by z n t less e = (omega (arith, signed_arith, less, e), omega (arith, signed_arith, less, e))
+
+time_below : (t : Time) → time_nanos t < day_nanos
+time_below t = omega (arith, t.hour_in, t.minute_in, t.second_in, t.subsec_in)
+
+pub parts_of : (at : DateTime) (t : ℕ) → civil_nanos at ≡ pos 3657 *ℤ pos day_nanos +ℤ pos t *ℤ pos 1_000_000
+    → (epoch_day at.date -ℤ pos 3657 ≡ pos (t / 86_400_000)) × (time_nanos at.time ≡ t % 86_400_000 * 1_000_000)
+unfolding civil_nanos
+parts_of at t e = days_by (epoch_day at.date) (time_nanos at.time) t (time_below at.time) e
+
+days_same : (a b : ℤ) (m n d e : ℕ) → b ≡ a → n ≡ m → e ≡ d → days_from_civil b n e ≡ days_from_civil a m d
+days_same a b m n d e y k l = rw (y, k, l) refl
+
+-- ---- the parts of a time
+
+-- A small number, cast to a signed number and back.
+pub back : (z : ℤ) (n : ℕ) → z ≡ pos n → n < 128 → nat_abs (to_z w8 (of_z w8 z)) ≡ n
+back z n e small = let fits : FitsSigned w8 (pos n) = omega (arith, signed_arith, small) in rw (e, to_z-of_z fits) refl
+
+pub back_thousands : (z : ℤ) (n : ℕ) → z ≡ pos n → n < 1000 → nat_abs (to_z w16 (of_z w16 z)) ≡ n
+back_thousands z n e small = let fits : FitsSigned w16 (pos n) = omega (arith, signed_arith, small) in rw (e, to_z-of_z fits) refl
+
+clock_is : (h m s f r : ℕ) → ((h * 3600 + m * 60 + s) * 1_000_000_000 + f) ≡ r * 1_000_000 → h * 3_600_000 + m * 60_000 + (s * 1_000 + f / 1_000_000) ≡ r
+clock_is h m s f r e = omega (arith, e)
+
+pub made_of : (at : DateTime) (t year month day hour minute second milli : ℕ) → civil_nanos at ≡ pos 3657 *ℤ pos day_nanos +ℤ pos t *ℤ pos 1_000_000
+    → pos year ≡ at.date.year → month ≡ at.date.month → day ≡ at.date.day → hour ≡ at.time.hour → minute ≡ at.time.minute → second ≡ at.time.second
+    → milli ≡ at.time.subsec_nanosecond / 1_000_000
+    → IsCivilOf t (record { year = year; month = month; day = day; hour = hour; minute = minute; millisecond = second * 1_000 + milli })
+made_of at t year month day hour minute second milli e y m d h i s f =
+    let parts = parts_of at t e in
+    let hours = at.time.hour_in in
+    let minutes = at.time.minute_in in
+    let seconds = at.time.second_in in
+    let nanos = at.time.subsec_in in
+    record {
+      valid = record {
+        date = subst (λ (v : ℤ). IsCivilDate v month day) (sym y)
+            (subst (λ (n : ℕ). IsCivilDate at.date.year n day) (sym m) (subst (λ (n : ℕ). IsCivilDate at.date.year at.date.month n) (sym d) (valid_date at.date)));
+        hour = omega (arith, h, hours);
+        minute = omega (arith, i, minutes);
+        millisecond = omega (arith, s, f, seconds, nanos);
+      };
+      days = same_days year month day at.date y m d t parts.0;
+      clock = rw (h, i, s, f) (clock_is at.time.hour at.time.minute at.time.second at.time.subsec_nanosecond (t % 86_400_000) parts.1);
+    } where
+      same_days : (year month day : ℕ) (date : Date) → pos year ≡ date.year → month ≡ date.month → day ≡ date.day → (t : ℕ) → epoch_day date -ℤ pos 3657 ≡ pos (t / 86_400_000)
+          → days_from_civil (pos year) month day -ℤ days_from_civil (pos 1980) 1 6 ≡ pos (t / 86_400_000)
+      same_days year month day date y m d t e =
+          let same : days_from_civil (pos year) month day ≡ epoch_day date = days_same date.year (pos year) date.month month date.day day y m d in
+          subst (λ z. days_from_civil (pos year) month day -ℤ z ≡ pos (t / 86_400_000)) (sym first_day) (ap (λ z. z -ℤ pos 3657) same ∙ e)
+
+pub day_below : (d : Date) → d.day < 128
+day_below d = grind (arith, common_steps)
+
+-- ---- the time of these parts
+
+-- The milliseconds of a number of days and a time of day.
+pub since_of : (w since z : ℤ) (clock : ℕ) → w ≡ (z *ℤ pos day_nanos +ℤ pos (clock * 1_000_000)) -ℤ pos 3657 *ℤ pos day_nanos → since ≡ int_div w (pos 1_000_000)
+    → since ≡ (z -ℤ pos 3657) *ℤ pos 86_400_000 +ℤ pos clock
+since_of w since z clock e is = omega (arith, signed_arith, e, is)
+
+clock_below : (c : Civil) → IsCivil c → clock_of c < 86_400_000
+clock_below c is = omega (arith, is.hour, is.minute, is.millisecond)
+
+pub is_of : (c : Civil) (t : ℕ) (since : ℤ) → IsCivil c → since ≡ (days_from_civil (pos c.year) c.month c.day -ℤ pos 3657) *ℤ pos 86_400_000 +ℤ pos (clock_of c) → since ≡ pos t → IsCivilOf t c
+is_of c t since valid e is = grind (arith, common_steps, clock_below, signed_arith, first_day)
+
+pub only_one : (c : Civil) (t : ℕ) (since : ℤ) → since ≡ (days_from_civil (pos c.year) c.month c.day -ℤ pos 3657) *ℤ pos 86_400_000 +ℤ pos (clock_of c) → IsCivilOf t c → since ≡ pos t
+only_one c t since e is = grind (arith, common_steps, first_day, signed_arith)
+
+-- ---- numbers of milliseconds
+
+-- The milliseconds from the first time to a date and time of day of the calendar.
+pub since_range : (at : DateTime) (w since : ℤ) → w ≡ civil_nanos at -ℤ pos 3657 *ℤ pos day_nanos → since ≡ int_div w (pos 1_000_000)
+    → (neg_ℤ (pos 1_000_000_000_000_000) ≤ℤ since) × (since ≤ℤ pos 1_000_000_000_000_000)
+unfolding civil_nanos
+since_range at w since e is =
+    let days = epoch_day_range at.date in
+    let time = time_below at.time in
+    omega (arith, signed_arith, days.0, days.1, time, e, is)
+
+pub back_wide : (z : ℤ) (n : ℕ) → z ≡ pos n → n ≤ 1_000_000_000_000_000 → to_z w128 (of_z w128 z) ≡ pos n
+back_wide z n e small = let fits : FitsSigned w128 (pos n) = omega (arith, signed_arith, small) in rw (e, to_z-of_z fits) refl
+
+-- A number of milliseconds that isn't negative.
+pub record IsSince (z : ℤ) (n : ℕ) : Type 0 where
+  pub is : z ≡ pos n
+  pub back : to_z w128 (of_z w128 z) ≡ pos n
+  pub small : n ≤ 1_000_000_000_000_000
+
+pub not_below : (z : ℤ) → (neg_ℤ (pos 1_000_000_000_000_000) ≤ℤ z) × (z ≤ℤ pos 1_000_000_000_000_000) → int_lt (to_z w128 (of_z w128 z)) (pos 0) ≡ false → (n : ℕ) × IsSince z n
+not_below (pos n) range h = grind (arith, common_steps, signed_arith, back, back_wide)
+not_below (negsuc n) range h = grind (arith, common_steps, signed_arith)
+
+pub below_none : (z : ℤ) (t : ℕ) → z ≡ pos t → t < 60_480_000_000_000 → int_lt (to_z w128 (of_z w128 z)) (pos 0) ≡ true → ⊥
+below_none z t e small h = grind (arith, common_steps)
+
+pub cast_fits : (z : ℤ) (n : ℕ) → to_z w128 (of_z w128 z) ≡ pos n → n ≤ 1_000_000_000_000_000 → (T (non_neg (to_z w128 (of_z w128 z)))) × Fits w64 (nat_abs (to_z w128 (of_z w128 z)))
+cast_fits z n e small = grind (arith, common_steps)
+
+pub cast_is : (z : ℤ) (n : ℕ) → to_z w128 (of_z w128 z) ≡ pos n → nat_abs (to_z w128 (of_z w128 z)) ≡ n
+cast_is z n e = rw e refl
+
+pub small_time : (n : ℕ) → n < 60_480_000_000_000 → to_z w64 n ≡ pos n
+small_time n h = grind arith
+
+-- The date and time of day ms milliseconds after the first time.
+pub moment_of : (v b s : ℤ) (ms t : ℕ) → v ≡ b +ℤ s → b ≡ pos 3657 *ℤ pos day_nanos → s ≡ to_z w64 ms *ℤ pos 1_000_000 → ms < 60_480_000_000_000 → ms ≡ t
+    → v ≡ pos 3657 *ℤ pos day_nanos +ℤ pos t *ℤ pos 1_000_000
+moment_of v b s ms t e first more small is = e ∙ ap₂ (λ x y. x +ℤ y) first (more ∙ ap (λ z. z *ℤ pos 1_000_000) (small_time ms small ∙ ap pos is))
+
+-- ---- the parts of a date and time of day, passed to the calendar
+
+-- The parts are within the bounds that are checked first.
+pub record IsSmall (c : Civil) : Type 0 where
+  pub year : c.year ≤ 9999
+  pub month : c.month ≤ 12
+  pub day : c.day ≤ 31
+  pub hour : c.hour ≤ 23
+  pub minute : c.minute ≤ 59
+  pub millisecond : c.millisecond ≤ 59_999
+
+small_to_z : (n : ℕ) → n ≤ 60 → to_z w8 n ≡ pos n
+small_to_z n h = grind arith
+
+year_to_z : (n : ℕ) → n ≤ 9999 → to_z w16 n ≡ pos n
+year_to_z n h = grind arith
+
+nanos_to_z : (n : ℕ) → n < 1000 → to_z w32 (of_z w32 (to_z w32 n *ℤ pos 1_000_000)) ≡ pos (n * 1_000_000)
+nanos_to_z n h = grind (arith, common_steps)
+
+positive : (a b : ℕ) → pos a ≡ pos b → a ≡ b
+positive a b e = omega (arith, signed_arith, e)
+
+millis_of : (h m s f hour minute milli : ℕ) → h ≡ hour → m ≡ minute → s ≡ milli / 1_000 → f ≡ milli % 1_000 * 1_000_000
+    → (h * 3600 + m * 60 + s) * 1_000_000_000 + f ≡ (hour * 3_600_000 + minute * 60_000 + milli) * 1_000_000
+millis_of h m s f hour minute milli a b c d = omega (arith, a, b, c, d)
+
+pub is_at : (c : Civil) (at : DateTime) → IsSmall c → IsYmd (to_z w16 c.year) (to_z w8 c.month) (to_z w8 c.day) at.date
+    → IsHms (to_z w8 c.hour) (to_z w8 c.minute) (to_z w8 (c.millisecond / 1_000)) (to_z w32 (of_z w32 (to_z w32 (c.millisecond % 1_000) *ℤ pos 1_000_000))) at.time
+    → IsCivil c × (civil_nanos at ≡ days_from_civil (pos c.year) c.month c.day *ℤ pos day_nanos +ℤ pos (clock_of c * 1_000_000))
+unfolding civil_nanos
+is_at c at small date time =
+    let y : at.date.year ≡ pos c.year = date.0 ∙ year_to_z c.year small.year in
+    let m : at.date.month ≡ c.month = positive _ _ (date.1 ∙ small_to_z c.month (omega (arith, small.month))) in
+    let d : at.date.day ≡ c.day = positive _ _ (date.2 ∙ small_to_z c.day (omega (arith, small.day))) in
+    let h : at.time.hour ≡ c.hour = positive _ _ (time.0 ∙ small_to_z c.hour (omega (arith, small.hour))) in
+    let i : at.time.minute ≡ c.minute = positive _ _ (time.1 ∙ small_to_z c.minute (omega (arith, small.minute))) in
+    let s : at.time.second ≡ c.millisecond / 1_000 = positive _ _ (time.2 ∙ small_to_z (c.millisecond / 1_000) (omega (arith, small.millisecond))) in
+    let f : at.time.subsec_nanosecond ≡ c.millisecond % 1_000 * 1_000_000 = positive _ _ (time.3 ∙ nanos_to_z (c.millisecond % 1_000) (omega arith)) in
+    let nanos : time_nanos at.time ≡ clock_of c * 1_000_000 = millis_of at.time.hour at.time.minute at.time.second at.time.subsec_nanosecond c.hour c.minute c.millisecond h i s f in
+    let day : epoch_day at.date ≡ days_from_civil (pos c.year) c.month c.day = days_same (pos c.year) at.date.year c.month at.date.month c.day at.date.day y m d in (
+      record {
+        date = subst (λ (n : ℕ). IsCivilDate (pos c.year) c.month n) d (subst (λ (n : ℕ). IsCivilDate (pos c.year) n at.date.day) m (subst (λ (z : ℤ). IsCivilDate z at.date.month at.date.day) y (valid_date at.date)));
+        hour = omega (arith, small.hour);
+        minute = omega (arith, small.minute);
+        millisecond = omega (arith, small.millisecond);
+      },
+      ap₂ (λ (z : ℤ) (n : ℕ). z *ℤ pos day_nanos +ℤ pos n) day nanos,
+    )
+
+-- A valid date is accepted by the library.
+pub is_taken : (c : Civil) → IsSmall c → IsCivil c → IsDate (to_z w16 c.year) (to_z w8 c.month) (to_z w8 c.day)
+    × IsTime (to_z w8 c.hour) (to_z w8 c.minute) (to_z w8 (c.millisecond / 1_000)) (to_z w32 (of_z w32 (to_z w32 (c.millisecond % 1_000) *ℤ pos 1_000_000)))
+is_taken c small valid = grind (arith, common_steps)
+
+pub no_ok : {A E : Type 0} (r : Result A E) (e : E) → r ≡ Err e → IsOk r → ⊥
+no_ok r e is ok = absurd (true≢false (sym (subst IsOk is ok)))

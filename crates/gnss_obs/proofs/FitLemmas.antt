@@ -1,0 +1,74 @@
+-- Signals that fit a plan, and those that don't.
+use Rattle.std.proofs.Common.{◌≡◌, ℕ, suc, zero, ◌<◌, ◌==◌, ◌||◌, Bool, true, false, List, [], ◌∷◌, ◌++◌, length, take, drop, get_or, All, nat_eq, refl, sym, ap, ap₂, ◌∙◌, subst, arith, ◌⊎◌, inl, inr}
+use Rattle.std.proofs.lemmas.Map.Keys.{apart_from_distinct, IsDistinct-tail}
+use Rattle.std.proofs.lemmas.List.Elements.{All-head, All-tail}
+use Rattle.std.specs.List.{list_any, IsDistinct}
+use Rattle.gnss_obs.specs.declared.system.System.{System}
+use Rattle.gnss_obs.specs.Signals.{SignalAt, IsSignal}
+use Rattle.gnss_obs.specs.declared.fault.PlanFault.{PlanFault}
+use Rattle.gnss_obs.specs.declared.fault.PlanFault.TheVariants.{UnknownCode, RepeatedCode, NothingPlanned, BadWeek, BadStation, Memory}
+use Rattle.gnss_obs.specs.SignalLists.{indices, IsOf, IsUnfitAfter, IsUnfit}
+
+-- An index splits a list of signals.
+pub parted : (ss : List SignalAt) (k : ℕ) (s : SignalAt) → k < length ss → s ≡ get_or ss k s → ss ≡ take k ss ++ s ∷ drop (suc k) ss
+parted [] k s less is = absurd (omega (arith, less))
+parted (x ∷ ss) zero s less is = ap (λ y. y ∷ ss) (sym is)
+parted (x ∷ ss) (suc k) s less is = ap (λ l. x ∷ l) (parted ss k s (omega (arith, less)) is)
+
+-- The first signal that doesn't fit.
+pub unfit_at : (system : System) (ss before : List SignalAt) (k : ℕ) (s : SignalAt) (fault : PlanFault) → k < length ss → s ≡ get_or ss k s → before ≡ take k ss
+    → IsOf system (take k ss) → (fault ≡ Memory) ⊎ IsUnfitAfter system before s fault → (fault ≡ Memory) ⊎ IsUnfit system ss fault
+unfit_at system ss before k s fault less is taken fits (inl e) = inl e
+unfit_at system ss before k s fault less is taken fits (inr u) = inr (record {
+  before = take k ss;
+  signal = s;
+  rest = drop (suc k) ss;
+  split = parted ss k s less is;
+  fits = fits;
+  unfit = subst (λ (l : List SignalAt). IsUnfitAfter system l s fault) taken u;
+})
+
+middle : (before rest : List SignalAt) (s : SignalAt) → get_or (indices (before ++ s ∷ rest)) (length before) 0 ≡ s.index
+middle [] rest s = refl
+middle (x ∷ before) rest s = middle before rest s
+
+within : (before rest : List SignalAt) (s : SignalAt) → length before < length (indices (before ++ s ∷ rest))
+within [] rest s = omega arith
+within (x ∷ before) rest s = let h = within before rest s in omega (arith, h)
+
+flip_false : (a b : ℕ) → nat_eq a b ≡ false → nat_eq b a ≡ false
+flip_false a b h = grind (arith, h)
+
+unlike_first : (x : ℕ) (before rest : List SignalAt) (s : SignalAt) → IsDistinct nat_eq (x ∷ indices (before ++ s ∷ rest)) → nat_eq s.index x ≡ false
+unlike_first x before rest s h =
+    let apart = apart_from_distinct nat_eq (x ∷ indices (before ++ s ∷ rest)) 0 (suc (length before)) 0 h (omega arith) (let w = within before rest s in omega (arith, w)) in
+    flip_false x s.index (ap (nat_eq x) (sym (middle before rest s)) ∙ apart)
+
+pub not_before : (before rest : List SignalAt) (s : SignalAt) → IsDistinct nat_eq (indices (before ++ s ∷ rest)) → list_any (λ (r : SignalAt). s.index == r.index) before ≡ false
+not_before [] rest s h = refl
+not_before (x ∷ before) rest s h =
+    ap₂ (λ a b. a || b) (unlike_first x.index before rest s h) (not_before before rest s (IsDistinct-tail nat_eq x.index (indices (before ++ s ∷ rest)) h))
+
+of_system : (system : System) (before rest : List SignalAt) (s : SignalAt) → All (λ (r : SignalAt). (r.system ≡ system) × IsSignal r) (before ++ s ∷ rest) → s.system ≡ system
+of_system system [] rest s h = (All-head (λ (r : SignalAt). (r.system ≡ system) × IsSignal r) s rest h).0
+of_system system (x ∷ before) rest s h = of_system system before rest s (All-tail (λ (r : SignalAt). (r.system ≡ system) × IsSignal r) x (before ++ s ∷ rest) h)
+
+not_both : (b : Bool) → b ≡ true → b ≡ false → ⊥
+not_both b h k = grind (arith, h, k)
+
+by_fault : (system : System) (before rest : List SignalAt) (s : SignalAt) (fault : PlanFault) → IsUnfitAfter system before s fault → IsOf system (before ++ s ∷ rest) → ⊥
+by_fault system before rest s (UnknownCode named place) u is = u.2 (of_system system before rest s is.each)
+by_fault system before rest s (RepeatedCode named place) u is = not_both _ u.3 (not_before before rest s is.apart)
+by_fault system before rest s NothingPlanned u is = u
+by_fault system before rest s BadWeek u is = u
+by_fault system before rest s BadStation u is = u
+by_fault system before rest s Memory u is = u
+
+-- A list with a signal that doesn't fit is no list of the system's signals.
+pub unfit_not_of : (system : System) (ss : List SignalAt) (fault : PlanFault) → IsUnfit system ss fault → IsOf system ss → ⊥
+unfit_not_of system ss fault u is = by_fault system u.before u.rest u.signal fault u.unfit (subst (IsOf system) u.split is)
+
+-- If signals are those of a system, the only fault is `Memory`.
+pub memory_alone : (system : System) (ss : List SignalAt) (fault : PlanFault) → (fault ≡ Memory) ⊎ IsUnfit system ss fault → IsOf system ss → fault ≡ Memory
+memory_alone system ss fault (inl e) is = e
+memory_alone system ss fault (inr u) is = absurd (unfit_not_of system ss fault u is)

@@ -1,0 +1,194 @@
+-- The cells of one satellite, in a list in the order of satellites.
+use Rattle.std.proofs.Common.{◌≡◌, ℕ, zero, suc, ◌+◌, ◌<◌, ◌≤◌, ◌==◌, Bool, true, false, ◌||◌, ◌&&◌, List, [], ◌∷◌, map, filter, drop, refl, sym, ap, ap₂, ◌∙◌, subst, arith, length, not, All}
+use Rattle.std.specs.Prelude.{if◌then◌else◌, nat_lt}
+use Rattle.std.specs.List.{AllByRecursion, list_any}
+use Rattle.std.proofs.lemmas.List.Elements.{All-head, All-tail}
+use Rattle.gnss_obs.specs.declared.system.System.{System}
+use Rattle.gnss_obs.specs.Satellites.{satellites as satellites_in}
+use Rattle.gnss_obs.specs.declared.cell.Cell.{Cell}
+use Rattle.gnss_obs.specs.Values.{IsHeld, AreHeld, has_value, is_written, written_among, is_of_satellite}
+use Rattle.gnss_obs.specs.Order.{is_before, SortKeysRise, cell_sort_key, AreSorted}
+use Rattle.std.proofs.lemmas.Grind.{common_steps}
+
+-- ---- cells in the order of satellites
+
+-- No cell is before one of a lower number.
+abbrev pub Climb : List Cell → Type 0
+Climb [] = Unit {0}
+Climb (c ∷ cells) = AllByRecursion (λ (d : Cell). c.satellite.id ≤ d.satellite.id) cells × Climb cells
+
+before_climbs : (planned : List ℕ) (c : Cell) (cells : List Cell) → AllByRecursion (λ t. is_before (cell_sort_key planned c) t ≡ true) (map (cell_sort_key planned) cells)
+    → AllByRecursion (λ (d : Cell). c.satellite.id ≤ d.satellite.id) cells
+before_climbs planned c [] h = tt
+before_climbs planned c (d ∷ cells) h = grind (arith, common_steps, before_climbs planned c cells h.1)
+
+rise_climbs : (planned : List ℕ) (cells : List Cell) → SortKeysRise (map (cell_sort_key planned) cells) → Climb cells
+rise_climbs planned [] h = tt
+rise_climbs planned (c ∷ cells) h = (before_climbs planned c cells h.0, rise_climbs planned cells h.1)
+
+pub sorted_climbs : (cells : List Cell) → AreSorted cells → Climb cells
+sorted_climbs cells h = rise_climbs h.0 cells h.1
+
+-- ---- the first group of cells
+
+abbrev pub Above : ℕ → List Cell → Type 0
+Above n cells = AllByRecursion (λ (c : Cell). n < c.satellite.id) cells
+
+all_above : (n m : ℕ) (cells : List Cell) → n < m → AllByRecursion (λ (d : Cell). m ≤ d.satellite.id) cells → Above n cells
+all_above n m [] lt h = tt
+all_above n m (c ∷ cells) lt h = (omega (arith, lt, h.0), all_above n m cells lt h.1)
+
+-- ---- the terms of the code
+
+-- The cells of later satellites that are left are all cells of these satellites.
+pub record Left (n from : ℕ) (cells : List Cell) : Type 0 where
+  pub within : from ≤ length cells
+  pub above : Above n (drop from cells)
+  pub rest : (later : ℕ) → n < later → filter (is_of_satellite later) cells ≡ filter (is_of_satellite later) (drop from cells)
+
+pub left_all : (system : System) (cells : List Cell) → AreHeld system cells → Left 0 0 cells
+left_all system cells h = record {
+  within = omega arith;
+  above = listed cells h.each;
+  rest = λ later l. refl;
+} where
+  listed : (cells : List Cell) → All (IsHeld system) cells → Above 0 cells
+  listed [] h = tt
+  listed (c ∷ cells) h = (let one = All-head (IsHeld system) c cells h in omega (arith, one.number.0), listed cells (All-tail (IsHeld system) c cells h))
+
+-- ---- the number of satellites to write
+
+-- The number of satellites to write, each counted at its first cell with a value that follows a cell of `last`.
+abbrev pub counted_after : ℕ → List Cell → ℕ
+counted_after last [] = 0
+counted_after last (c ∷ cells) = if has_value c && not (c.satellite.id == last) then suc (counted_after c.satellite.id cells) else counted_after last cells
+
+abbrev one_if : Bool → ℕ
+one_if b = if b then 1 else 0
+
+-- No cell is of a satellite above n.
+abbrev Within : ℕ → List Cell → Type 0
+Within n cells = AllByRecursion (λ (c : Cell). c.satellite.id ≤ n) cells
+
+none_written : (n : ℕ) (cells : List Cell) → Above n cells → is_written cells n ≡ false
+none_written n [] h = refl
+none_written n (c ∷ cells) h = grind (arith, common_steps, none_written n cells h.1)
+
+-- One more cell changes nothing if it has no value, or among lower numbers.
+no_value : (c : Cell) (cells : List Cell) (n : ℕ) → has_value c ≡ false → written_among (c ∷ cells) n ≡ written_among cells n
+unfolding written_among
+no_value c cells zero h = refl
+no_value c cells (suc n) h = ap₂ (λ k b. k + one_if b) (no_value c cells n h) (by (c.satellite.id == suc n) (has_value c) h) where
+  by : (a v : Bool) → v ≡ false → ((a && v) || is_written cells (suc n)) ≡ is_written cells (suc n)
+  by true false h = refl
+  by false v h = refl
+  by true true h = absurd (grind (arith, h))
+
+lower : (c : Cell) (cells : List Cell) (n : ℕ) → n < c.satellite.id → written_among (c ∷ cells) n ≡ written_among cells n
+unfolding written_among
+lower c cells zero lt = refl
+lower c cells (suc n) lt = ap₂ (λ k b. k + one_if ((b && has_value c) || is_written cells (suc n))) (lower c cells n (omega (arith, lt))) (unlike c.satellite.id (suc n) lt) where
+  unlike : (a n : ℕ) → n < a → (a == n) ≡ false
+  unlike a n lt = grind (arith, lt)
+
+one_more : (c : Cell) (cells : List Cell) (n : ℕ) → 1 ≤ c.satellite.id → c.satellite.id ≤ n → has_value c ≡ true
+    → written_among (c ∷ cells) n ≡ written_among cells n + one_if (not (is_written cells c.satellite.id))
+unfolding written_among
+one_more c cells zero low high h = absurd (omega (arith, low, high))
+one_more c cells (suc n) low high h = by (c.satellite.id == suc n) refl (λ less. one_more c cells n low less h) where
+  sum : (k : ℕ) (a : Bool) → k + 1 ≡ k + one_if a + one_if (not a)
+  sum k true = omega arith
+  sum k false = omega arith
+
+  swap : (k a b : ℕ) → k + a + b ≡ k + b + a
+  swap k a b = omega arith
+
+  by : (b : Bool) → (c.satellite.id == suc n) ≡ b
+      → (c.satellite.id ≤ n → written_among (c ∷ cells) n ≡ written_among cells n + one_if (not (is_written cells c.satellite.id)))
+      → written_among (c ∷ cells) (suc n) ≡ written_among cells (suc n) + one_if (not (is_written cells c.satellite.id))
+  by true e more =
+      let is : c.satellite.id ≡ suc n = grind (arith, e) in
+      ap₂ (λ k v. k + one_if v) (lower c cells n (omega (arith, is))) (ap₂ (λ a v. (a && v) || is_written cells (suc n)) e h)
+      ∙ sum (written_among cells n) (is_written cells (suc n)) ∙ ap (λ m. written_among cells n + one_if (is_written cells (suc n)) + one_if (not (is_written cells m))) (sym is)
+  by false e more =
+      let less : c.satellite.id ≤ n = grind (arith, e, high) in
+      ap₂ (λ k a. k + one_if ((a && has_value c) || is_written cells (suc n))) (more less) e
+      ∙ swap (written_among cells n) (one_if (not (is_written cells c.satellite.id))) (one_if (is_written cells (suc n)))
+
+none_among : (n : ℕ) → written_among [] n ≡ 0
+unfolding written_among
+none_among zero = refl
+none_among (suc n) = ap (λ k. k + 0) (none_among n)
+
+-- Cells in the order of satellites, none of one below `last`.
+counted_is : (n last : ℕ) (cells : List Cell) → Climb cells → Within n cells → Above 0 cells → AllByRecursion (λ (c : Cell). last ≤ c.satellite.id) cells
+    → written_among cells n ≡ counted_after last cells + one_if (is_written cells last)
+counted_is n last [] up within above from = none_among n
+counted_is n last (c ∷ cells) up within above from = by (has_value c) (c.satellite.id == last) refl refl (λ m from. counted_is n m cells up.1 within.1 above.1 from) where
+  by : (v s : Bool) → has_value c ≡ v → (c.satellite.id == last) ≡ s
+      → ((m : ℕ) → AllByRecursion (λ (d : Cell). m ≤ d.satellite.id) cells → written_among cells n ≡ counted_after m cells + one_if (is_written cells m))
+      → written_among (c ∷ cells) n ≡ (if v && not s then suc (counted_after c.satellite.id cells) else counted_after last cells) + one_if ((s && v) || is_written cells last)
+  by false true e f more = no_value c cells n e ∙ more last from.1
+  by false false e f more = no_value c cells n e ∙ more last from.1
+  by true true e f more =
+      one_more c cells n above.0 within.0 e ∙ ap₂ (λ k m. k + one_if (not (is_written cells m))) (more last from.1) (same c.satellite.id last f)
+      ∙ sum (counted_after last cells) (is_written cells last) where
+        same : (a b : ℕ) → (a == b) ≡ true → a ≡ b
+        same a b h = grind (arith, h)
+
+        sum : (k : ℕ) (a : Bool) → k + one_if a + one_if (not a) ≡ k + 1
+        sum k true = omega arith
+        sum k false = omega arith
+  by true false e f more =
+      let later : last < c.satellite.id = grind (arith, f, from.0) in
+      one_more c cells n above.0 within.0 e ∙ ap (λ k. k + one_if (not (is_written cells c.satellite.id))) (more c.satellite.id up.0)
+      ∙ sum (counted_after c.satellite.id cells) (is_written cells c.satellite.id)
+      ∙ ap (λ b. suc (counted_after c.satellite.id cells) + one_if b) (sym (none_written last cells (all_above last c.satellite.id cells later up.0))) where
+        sum : (k : ℕ) (a : Bool) → k + one_if a + one_if (not a) ≡ suc k + 0
+        sum k true = omega arith
+        sum k false = omega arith
+
+few_written : (cells : List Cell) (n : ℕ) → written_among cells n ≤ n
+unfolding written_among
+few_written cells zero = omega arith
+few_written cells (suc n) = by (is_written cells (suc n)) (few_written cells n) where
+  by : (b : Bool) → written_among cells n ≤ n → written_among cells n + one_if b ≤ suc n
+  by true h = omega (arith, h)
+  by false h = omega (arith, h)
+
+pub all_counted : (count last i : ℕ) (cells : List Cell) → length cells ≤ i → count + counted_after last (drop i cells) ≡ counted_after 0 cells → count ≡ counted_after 0 cells
+all_counted count last i cells end h = grind (arith, common_steps)
+
+-- The satellites of kept cells in order are counted one by one.
+pub counted_all : (system : System) (cells : List Cell) → AreHeld system cells → AreSorted cells
+    → (counted_after 0 cells ≡ written_among cells (satellites_in system)) × (counted_after 0 cells ≤ satellites_in system)
+counted_all system cells held sorted = (is, subst (λ k. k ≤ satellites_in system) (sym is) (few_written cells (satellites_in system))) where
+  within : (cells : List Cell) → All (IsHeld system) cells → Within (satellites_in system) cells
+  within [] h = tt
+  within (c ∷ cells) h =
+      let one = All-head (IsHeld system) c cells h in
+      (subst (λ s. c.satellite.id ≤ satellites_in s) one.satellite one.number.1, within cells (All-tail (IsHeld system) c cells h))
+
+  above : (cells : List Cell) → Above 0 cells → AllByRecursion (λ (c : Cell). 0 ≤ c.satellite.id) cells
+  above [] h = tt
+  above (c ∷ cells) h = (omega arith, above cells h.1)
+
+  all : Above 0 cells
+  all = (left_all system cells held).above
+
+  is : counted_after 0 cells ≡ written_among cells (satellites_in system)
+  is =
+      let sum = counted_is (satellites_in system) 0 cells (sorted_climbs cells sorted) (within cells held.each) all (above cells all) in
+      let none = none_written 0 cells all in
+      sym (sum ∙ ap (λ b. counted_after 0 cells + one_if b) none ∙ plus (counted_after 0 cells)) where
+        plus : (k : ℕ) → k + 0 ≡ k
+        plus k = omega arith
+
+-- A satellite of kept cells is written if one of the cells has a value.
+pub some_counted : (system : System) (cells kept : List Cell) → cells ≡ kept → AreHeld system cells → AreSorted cells
+    → list_any has_value cells ≡ nat_lt 0 (written_among kept (satellites_in system))
+some_counted system cells kept is held sorted =
+    by cells (left_all system cells held).above ∙ ap (nat_lt 0) ((counted_all system cells held sorted).0 ∙ ap (λ (xs : List Cell). written_among xs (satellites_in system)) is) where
+      by : (cells : List Cell) → Above 0 cells → list_any has_value cells ≡ nat_lt 0 (counted_after 0 cells)
+      by [] above = refl
+      by (c ∷ cells) above = grind (arith, common_steps, (by cells above.1))

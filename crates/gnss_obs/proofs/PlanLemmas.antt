@@ -1,0 +1,161 @@
+-- Codes separated by commas, and the signals of a plan.
+use Rattle.std.proofs.Common.{◌≡◌, ℕ, suc, zero, ◌+◌, ◌<◌, ◌≤◌, ◌==◌, ◌||◌, Bool, true, false, not, List, [], ◌∷◌, ◌++◌, length, take, drop, All, nat_eq, refl, sym, ap, ap₂, ◌∙◌, subst, arith, Option, Some, None, Result, Ok, Err, rules, true≢false}
+use Rattle.std.specs.Prelude.{cond, if◌then◌else◌, codes, is_err}
+use Rattle.std.specs.Str.{bytes_eq}
+use Rattle.std.proofs.Common.{Bor}
+use Rattle.std.proofs.lemmas.Cmp.{nat_eq_equiv}
+use Rattle.std.proofs.lemmas.Map.Keys.{IsDistinct-push}
+use Rattle.std.proofs.lemmas.Map.Steps.{length-le_from_distinct_below}
+use Rattle.std.proofs.lemmas.List.Elements.{All-push, All-head, All-tail}
+use Rattle.std.proofs.lemmas.Str.Pattern.{IsSplitOnceResult, split_once_first}
+use Rattle.gnss_obs.specs.declared.tables.ListedSignal.{ListedSignal}
+use Rattle.gnss_obs.specs.declared.fault.PlanFault.TheVariants.{RepeatedCode}
+use Rattle.std.specs.List.{list_any, position_or_len, before_first, after_first, IsDistinct}
+use Rattle.gnss_obs.specs.declared.system.System.{System}
+use Rattle.gnss_obs.specs.Signals.{SignalAt, IsSignal, table, signal_where, signal_at}
+use Rattle.gnss_obs.specs.declared.fault.PlanFault.{PlanFault}
+use Rattle.gnss_obs.specs.Plans.{between_commas, onto_first, one_signal_more, below, signals_of, signals_after}
+use Rattle.gnss_obs.specs.SignalLists.{indices, IsOf}
+use Rattle.std.proofs.lemmas.Grind.{common_steps}
+
+abbrev comma : ℕ → Bool
+comma b = b == 44
+
+-- ---- the first code
+
+pub no_comma : (text : List ℕ) → position_or_len comma text ≡ length text → between_commas text ≡ text ∷ []
+no_comma [] h = refl
+no_comma (b ∷ bs) h = by (comma b) h (no_comma bs) where
+  by : (c : Bool) → cond (not c) (1 + position_or_len comma bs) 0 ≡ length (b ∷ bs) → (position_or_len comma bs ≡ length bs → between_commas bs ≡ bs ∷ [])
+      → cond c ([] ∷ between_commas bs) (onto_first b (between_commas bs)) ≡ (b ∷ bs) ∷ []
+  by true h more = absurd (omega (arith, h))
+  by false h more = ap (onto_first b) (more (omega (arith, h)))
+
+pub at_comma : (text : List ℕ) → position_or_len comma text < length text → between_commas text ≡ before_first comma text ∷ between_commas (after_first comma text)
+at_comma [] h = absurd (omega (arith, h))
+at_comma (b ∷ bs) h = by (comma b) h (at_comma bs) where
+  by : (c : Bool) → cond (not c) (1 + position_or_len comma bs) 0 < length (b ∷ bs)
+      → (position_or_len comma bs < length bs → between_commas bs ≡ before_first comma bs ∷ between_commas (after_first comma bs))
+      → cond c ([] ∷ between_commas bs) (onto_first b (between_commas bs))
+      ≡ take (cond (not c) (1 + position_or_len comma bs) 0) (b ∷ bs) ∷ between_commas (drop (cond (not c) (1 + position_or_len comma bs) 0 + 1) (b ∷ bs))
+  by true h more = refl
+  by false h more =
+      let n = position_or_len comma bs in
+      let one : 1 + n ≡ suc n = omega arith in
+      let two : 1 + n + 1 ≡ suc (n + 1) = omega arith in
+      ap (onto_first b) (more (omega (arith, h)))
+      ∙ ap₂ (λ (u v : ℕ). take u (b ∷ bs) ∷ between_commas (drop v (b ∷ bs))) (sym one) (sym two)
+
+pub first_none : (text : List ℕ) (r : Option (Bor (List ℕ) × Bor (List ℕ))) → IsSplitOnceResult 44 text r → r ≡ None → between_commas text ≡ text ∷ []
+first_none text r split is = no_comma text (rw is at (split_once_first 44 text r split (omega arith)))
+
+pub first_some : (text : List ℕ) (r : Option (Bor (List ℕ) × Bor (List ℕ))) (x : Bor (List ℕ) × Bor (List ℕ)) → IsSplitOnceResult 44 text r → r ≡ Some x
+    → between_commas text ≡ x.0.now ∷ between_commas x.1.now
+first_some text r x split is =
+    let m = rw is at (split_once_first 44 text r split (omega arith)) in
+    at_comma text m.0 ∙ ap₂ (λ a b. a ∷ between_commas b) (sym m.1) (sym m.2)
+
+-- ---- the signals of a plan
+
+pub any_index : (n : ℕ) (ss : List SignalAt) → list_any (λ (s : SignalAt). n == s.index) ss ≡ list_any (nat_eq n) (indices ss)
+any_index n [] = refl
+any_index n (s ∷ ss) = ap (λ b. (n == s.index) || b) (any_index n ss)
+
+pub length_indices : (ss : List SignalAt) → length (indices ss) ≡ length ss
+length_indices [] = refl
+length_indices (s ∷ ss) = ap suc (length_indices ss)
+
+pub indices-push : (ss : List SignalAt) (s : SignalAt) → indices (ss ++ s ∷ []) ≡ indices ss ++ s.index ∷ []
+indices-push [] s = refl
+indices-push (r ∷ ss) s = ap (λ l. r.index ∷ l) (indices-push ss s)
+
+abbrev OfSystem : System → SignalAt → Type 0
+OfSystem system s = (s.system ≡ system) × IsSignal s
+
+among_below : (system : System) (ss : List SignalAt) → All (λ (s : SignalAt). (s.system ≡ system) × IsSignal s) ss → (q : ℕ) → list_any (nat_eq q) (indices ss) ≡ true → q < length (table system)
+among_below system [] h q e = grind (arith, e)
+among_below system (s ∷ ss) h q e = by (nat_eq q s.index) refl e (among_below system ss (All-tail (OfSystem system) s ss h) q) where
+  by : (b : Bool) → nat_eq q s.index ≡ b → (b || list_any (nat_eq q) (indices ss)) ≡ true → (list_any (nat_eq q) (indices ss) ≡ true → q < length (table system)) → q < length (table system)
+  by true same e more =
+      let is : s.index ≡ q = grind (arith, same) in
+      subst (λ n. n < length (table system)) is (let here = All-head (OfSystem system) s ss h in subst (λ (c : System). s.index < length (table c)) here.0 here.1)
+  by false same e more = more e
+
+pub few_signals : (system : System) (ss : List SignalAt) → IsOf system ss → length ss ≤ length (table system)
+few_signals system ss h =
+    let few = length-le_from_distinct_below (indices ss) (length (table system)) h.apart (among_below system ss h.each) in
+    subst (λ n. n ≤ length (table system)) (length_indices ss) few
+
+pub none_of : (system : System) → IsOf system []
+unfolding IsDistinct
+none_of system = record { each = search rules; apart = tt }
+
+pub is_of-push : (system : System) (ss : List SignalAt) (s : SignalAt) → IsOf system ss → s.system ≡ system → IsSignal s → list_any (λ (r : SignalAt). s.index == r.index) ss ≡ false → IsOf system (ss ++ s ∷ [])
+is_of-push system ss s h same listed new = record {
+  each = All-push (OfSystem system) ss s h.each (same, listed);
+  apart = subst (IsDistinct nat_eq) (sym (indices-push ss s)) (IsDistinct-push nat_eq_equiv (indices ss) s.index h.apart (sym (any_index s.index ss) ∙ new));
+}
+
+-- ---- one more code
+
+pub repeated : (system : System) (ss : List SignalAt) (o : Option SignalAt) (s : SignalAt) (rest : List ℕ → Result (List ℕ) PlanFault) → o ≡ Some s
+    → list_any (λ (r : SignalAt). s.index == r.index) ss ≡ true → one_signal_more system (indices ss) o rest ≡ Err (RepeatedCode system (length ss))
+repeated system ss o s rest is has =
+    ap (λ o. one_signal_more system (indices ss) o rest) is
+    ∙ ap (λ b. if b then Err (RepeatedCode system (length (indices ss))) else rest (indices ss ++ s.index ∷ [])) (sym (any_index s.index ss) ∙ has)
+    ∙ ap (λ n. Err (RepeatedCode system n)) (length_indices ss)
+
+pub accepted : (system : System) (ss : List SignalAt) (o : Option SignalAt) (s : SignalAt) (rest : List ℕ → Result (List ℕ) PlanFault) → o ≡ Some s
+    → list_any (λ (r : SignalAt). s.index == r.index) ss ≡ false → one_signal_more system (indices ss) o rest ≡ rest (indices (ss ++ s ∷ []))
+accepted system ss o s rest is has =
+    ap (λ o. one_signal_more system (indices ss) o rest) is
+    ∙ ap (λ b. if b then Err (RepeatedCode system (length (indices ss))) else rest (indices ss ++ s.index ∷ [])) (sym (any_index s.index ss) ∙ has)
+    ∙ ap rest (sym (indices-push ss s))
+
+-- The signal of a code is one of the system's table.
+pub of_where : (system : System) (test : ListedSignal → Bool) (s : SignalAt) → signal_where system test ≡ Some s → (s.system ≡ system) × IsSignal s
+of_where system test s h = grind (arith, common_steps)
+
+-- ---- all signals of a table
+
+pub at_index : (system : System) (i : ℕ) (s : SignalAt) → signal_at system i ≡ Some s → (s.system ≡ system) × IsSignal s × (s.index ≡ i)
+at_index system i s h = grind (arith, common_steps)
+
+any-append : (q : ℕ) (xs ys : List ℕ) → list_any (nat_eq q) (xs ++ ys) ≡ (list_any (nat_eq q) xs || list_any (nat_eq q) ys)
+any-append q [] ys = refl
+any-append q (x ∷ xs) ys = grind (arith, common_steps, any-append q xs ys)
+
+none_below : (m n : ℕ) → m ≤ n → list_any (nat_eq n) (below m) ≡ false
+none_below zero n le = refl
+none_below (suc m) n le = grind (arith, common_steps, any-append, none_below m n (omega (arith, le)))
+
+below-more : (i : ℕ) → below (i + 1) ≡ below i ++ i ∷ []
+below-more i = let e : i + 1 ≡ suc i = omega arith in rw e refl
+
+pub one_index : (system : System) (i : ℕ) (s : SignalAt) (ss new : List SignalAt) → below i ≡ indices ss → IsOf system ss → signal_at system i ≡ Some s → new ≡ ss ++ s ∷ []
+    → (below (i + 1) ≡ indices new) × IsOf system new
+one_index system i s ss new so of is e =
+    let at = at_index system i s is in (
+      below-more i ∙ ap₂ (λ l n. l ++ n ∷ []) so (sym at.2) ∙ sym (indices-push ss s) ∙ ap indices (sym e),
+      subst (IsOf system) (sym e) (is_of-push system ss s of at.0 at.1
+          (any_index s.index ss ∙ ap₂ (λ n l. list_any (nat_eq n) l) at.2 (sym so) ∙ none_below i i (omega arith))),
+    )
+
+-- The next signal of a table is not among the earlier ones.
+pub index_added : {E : Type 0} (system : System) (i : ℕ) (s : SignalAt) (ss new : List SignalAt) (r : Result Bool E) → is_err r ≡ false → below i ≡ indices ss → IsOf system ss
+    → signal_at system i ≡ Some s → (r ≡ Ok true → (new ≡ ss ++ s ∷ []) × (list_any (λ (q : SignalAt). s.index == q.index) ss ≡ false) × IsOf s.system new)
+    → (r ≡ Ok false → (new ≡ ss) × (list_any (λ (q : SignalAt). s.index == q.index) ss ≡ true)) → (below (i + 1) ≡ indices new) × IsOf system new
+index_added system i s ss new (Ok true) is so of at added there = one_index system i s ss new so of at (added refl).0
+index_added system i s ss new (Ok false) is so of at added there =
+    let here = at_index system i s at in
+    let none = any_index s.index ss ∙ ap₂ (λ n l. list_any (nat_eq n) l) here.2 (sym so) ∙ none_below i i (omega arith) in
+    absurd (true≢false (sym (there refl).1 ∙ none))
+index_added system i s ss new (Err e) is so of at added there = absurd (true≢false is)
+
+pub when_none : (system : System) (text : List ℕ) (r : List SignalAt) → bytes_eq text (codes "all") ≡ false → bytes_eq text (codes "none") ≡ true → r ≡ []
+    → (signals_of system text ≡ Ok (indices r)) × IsOf system r
+when_none system text r all none e = (
+  ap₂ (λ a b. if a then Ok (below (length (table system))) else (if b then Ok [] else signals_after system [] (between_commas text))) all none
+      ∙ ap (λ l. Ok (indices l)) (sym e),
+  subst (IsOf system) (sym e) (none_of system),
+)

@@ -1,0 +1,128 @@
+-- The walk from 1980 on reaches the date of the calendar.
+use Rattle.std.proofs.Common.{◌≡◌, ℕ, zero, suc, ◌+◌, ◌-◌, ◌*◌, ◌/◌, ◌%◌, ◌<◌, ◌≤◌, Bool, true, false, nat_lt, refl, arith, ℤ, pos, ◌+ℤ◌, ◌-ℤ◌, if◌then◌else◌}
+use Rattle.jiff_core.specs.Calendar.{IsCivilDate, days_from_civil, day_count, days_in_year}
+use Rattle.jiff_core.specs.declared.civil.date.Date.{Date}
+use Rattle.jiff_core.proofs.SignedLemmas.{signed_arith}
+use Rattle.jiff_core.proofs.DateLemmas.{epoch_day_injective}
+use Rattle.jiff_core.proofs.CalendarLemmas.{days_from_civil-day_count, day_count-next_year, day_count-next_month, day_count-day, day_count-last_of_year}
+use Rattle.gnss_obs.specs.declared.civil.Civil.{Civil}
+use Rattle.gnss_obs.specs.Weeks.{week}
+use Rattle.gnss_obs.specs.Weeks.{weeks}
+use Rattle.gnss_obs.specs.Dates.{YearMonthDay, month_on, year_on, month_length, year_length, date_of, civil_of, IsCivil, IsCivilOf, clock_of}
+use Rattle.std.proofs.lemmas.Grind.{common_steps}
+
+-- A date of the calendar, a number of days after 1 January of the year -10000.
+record IsOn (d : YearMonthDay) (count : ℕ) : Type 0 where
+  pub valid : IsCivilDate (pos d.year) d.month d.day
+  pub here : day_count (pos d.year) d.month d.day ≡ count
+
+here_in : (y m days count : ℕ) → y ≤ 9999 → 1 ≤ m → m ≤ 12 → day_count (pos y) m 1 + days ≡ count → days < month_length y m
+    → IsOn (record { year = y; month = m; day = days + 1 }) count
+here_in y m days count year low high e lt = grind (arith, common_steps, signed_arith, day_count-day)
+
+below : (a b : ℕ) → nat_lt a b ≡ true → a < b
+below a b e = grind (arith, e)
+
+above : (a b : ℕ) → nat_lt a b ≡ false → b ≤ a
+above a b e = grind (arith, e)
+
+by_month : (b : Bool) (months y m days count : ℕ) → nat_lt days (month_length y m) ≡ b → y ≤ 9999 → 1 ≤ m → m ≤ 12 → day_count (pos y) m 1 + days ≡ count
+    → (month_length y m ≤ days → IsOn (month_on months y (m + 1) (days - month_length y m)) count)
+    → IsOn (if b then record { year = y; month = m; day = days + 1 } else month_on months y (m + 1) (days - month_length y m)) count
+by_month true months y m days count test year low high e later = here_in y m days count year low high e (below days (month_length y m) test)
+by_month false months y m days count test year low high e later = later (above days (month_length y m) test)
+
+-- December has 31 days
+last_month : (y m days count : ℕ) → m ≡ 12 → day_count (pos y) m 1 + days ≡ count
+    → count < day_count (pos y) 1 1 + days_in_year (pos y) → days < month_length y m
+last_month y m days count twelve e bound =
+    let e12 : day_count (pos y) 12 1 + days ≡ count = rw twelve at e in
+    let lt : days < 31 = omega (arith, e12, bound, day_count-last_of_year (pos y), day_count-day (pos y) 12 1 31 (omega arith) (omega arith)) in
+    rw twelve lt
+
+-- The date is in the months of the year that are left.
+month_on_is : (months y m days count : ℕ) → y ≤ 9999 → 1 ≤ m → m + months ≡ 12 → day_count (pos y) m 1 + days ≡ count
+    → count < day_count (pos y) 1 1 + days_in_year (pos y) → IsOn (month_on months y m days) count
+month_on_is zero y m days count year low whole e bound =
+    let twelve : m ≡ 12 = omega (arith, whole) in
+    here_in y m days count year low (omega (arith, twelve)) e
+    (last_month y m days count twelve e bound)
+month_on_is (suc months) y m days count year low whole e bound =
+    by_month (nat_lt days (month_length y m)) months y m days count refl year low (omega (arith, whole)) e
+    (λ le. month_on_is months y (m + 1) (days - month_length y m) count year (omega arith) (omega (arith, whole))
+    (omega (arith, e, le, day_count-next_month (pos y) m low)) bound)
+
+by_year : (b : Bool) (years y days count : ℕ) → nat_lt days (year_length y) ≡ b → y ≤ 9999 → day_count (pos y) 1 1 + days ≡ count
+    → (year_length y ≤ days → IsOn (year_on years (y + 1) (days - year_length y)) count)
+    → IsOn (if b then month_on 11 y 1 days else year_on years (y + 1) (days - year_length y)) count
+by_year true years y days count test year e later =
+    let lt : days < year_length y = below days (year_length y) test in
+    month_on_is 11 y 1 days count year (omega arith) refl e (omega (arith, e, lt))
+by_year false years y days count test year e later = later (above days (year_length y) test)
+
+year_long : (y : ℕ) → 365 ≤ year_length y
+year_long y = grind arith
+
+next_year : (y : ℕ) → day_count (pos (y + 1)) 1 1 ≡ day_count (pos y) 1 1 + year_length y
+next_year y = day_count-next_year (pos y) (pos (y + 1)) (omega (arith, signed_arith)) (omega (arith, signed_arith))
+
+year_on_is : (years y days count : ℕ) → y + years ≤ 9999 → days < 365 * (years + 1) → day_count (pos y) 1 1 + days ≡ count → IsOn (year_on years y days) count
+year_on_is zero y days count year lt e =
+    month_on_is 11 y 1 days count (omega (arith, year)) (omega arith) refl e (omega (arith, e, lt, year_long y))
+year_on_is (suc years) y days count year lt e =
+    by_year (nat_lt days (year_length y)) years y days count refl (omega (arith, year)) e
+    (λ le. year_on_is years (y + 1) (days - year_length y) count (omega (arith, year)) (omega (arith, lt, le, year_long y))
+    (omega (arith, e, le, next_year y)))
+
+abbrev date : (y : ℤ) (m d : ℕ) → IsCivilDate y m d → Date
+date y m d v = record { year = y; month = m; day = d; year_in = v.0; month_in = v.1; day_in = v.2 }
+
+-- Two dates with the same number of days are the same.
+same_date : (y z : ℤ) (m n d e : ℕ) → IsCivilDate y m d → IsCivilDate z n e → days_from_civil y m d ≡ days_from_civil z n e → (y ≡ z) × (m ≡ n) × (d ≡ e)
+same_date y z m n d e a b same = epoch_day_injective (date y m d a) (date z n e b) same
+
+-- The date a number of days after 1980-01-06.
+pub date_of_is : (days : ℕ) → days < 700_000
+    → IsCivilDate (pos (date_of days).year) (date_of days).month (date_of days).day
+    × (days_from_civil (pos (date_of days).year) (date_of days).month (date_of days).day -ℤ days_from_civil (pos 1980) 1 6 ≡ pos days)
+date_of_is days lt =
+    let on = year_on_is 1920 1980 (days + 5) _ (omega arith) (omega (arith, lt)) refl in
+    let d = date_of days in (
+      on.valid,
+      since_first (days_from_civil (pos d.year) d.month d.day) (days_from_civil (pos 1980) 1 6) (day_count (pos d.year) d.month d.day) (day_count (pos 1980) 1 1) (day_count (pos 1980) 1 6) days
+          (counted d) (counted (record { year = 1980; month = 1; day = 6 })) on.here (day_count-day (pos 1980) 1 1 6 (omega arith) (omega arith)),
+    )
+  where
+    counted : (d : YearMonthDay) → days_from_civil (pos d.year) d.month d.day +ℤ pos 4_371_953 ≡ pos (day_count (pos d.year) d.month d.day)
+    counted d = omega (arith, signed_arith, days_from_civil-day_count (pos d.year) d.month d.day)
+
+    since_first : (z w : ℤ) (here january sixth days : ℕ) → z +ℤ pos 4_371_953 ≡ pos here → w +ℤ pos 4_371_953 ≡ pos sixth
+        → here ≡ january + (days + 5) → january + 6 ≡ sixth + 1 → z -ℤ w ≡ pos days
+    since_first z w here january sixth days a b e f = omega (arith, signed_arith, a, b, e, f)
+
+same_civil : (c d : Civil) → c.year ≡ d.year → c.month ≡ d.month → c.day ≡ d.day → c.hour ≡ d.hour → c.minute ≡ d.minute → c.millisecond ≡ d.millisecond → c ≡ d
+same_civil c d year month day hour minute millisecond = rw (year, month, day, hour, minute, millisecond)
+
+-- The date and time of day of the calendar are those of the walk.
+pub walk_is : (t : ℕ) (c : Civil) → t < weeks * week → IsCivilOf t c → c ≡ civil_of t
+walk_is t c lt is =
+    let there = date_of_is (t / 86_400_000) (omega (arith, lt)) in
+    let same = same_date (pos c.year) (pos (date_of (t / 86_400_000)).year) c.month (date_of (t / 86_400_000)).month c.day (date_of (t / 86_400_000)).day
+    is.valid.date there.0 (same_days _ _ _ _ is.days there.1) in
+    same_civil c (civil_of t) (plain _ _ same.0) same.1 same.2
+    (hour_of c (t % 86_400_000) is.valid is.clock) (minute_of c (t % 86_400_000) is.valid is.clock) (millisecond_of c (t % 86_400_000) is.valid is.clock)
+  where
+    same_days : (a b first : ℤ) (n : ℕ) → a -ℤ first ≡ pos n → b -ℤ first ≡ pos n → a ≡ b
+    same_days a b first n e f = omega (arith, signed_arith, e, f)
+
+    plain : (a b : ℕ) → pos a ≡ pos b → a ≡ b
+    plain a b e = omega (arith, signed_arith, e)
+
+    hour_of : (c : Civil) (clock : ℕ) → IsCivil c → clock_of c ≡ clock → c.hour ≡ clock / 3_600_000
+    hour_of c clock valid e = omega (arith, e, valid.minute, valid.millisecond)
+
+    minute_of : (c : Civil) (clock : ℕ) → IsCivil c → clock_of c ≡ clock → c.minute ≡ clock / 60_000 % 60
+    minute_of c clock valid e = omega (arith, e, valid.minute, valid.millisecond)
+
+    millisecond_of : (c : Civil) (clock : ℕ) → IsCivil c → clock_of c ≡ clock → c.millisecond ≡ clock % 60_000
+    millisecond_of c clock valid e = omega (arith, e, valid.minute, valid.millisecond)

@@ -1,0 +1,32 @@
+use Rattle.std.proofs.Common.{◌≡◌, ◌++◌, ◌∷◌, [], ℕ, List, inl, inr, sym, ◌∙◌, Result, Ok, Err, Some}
+use Rattle.std.specs.Prelude.{MatchResult}
+use Rattle.gnss_obs.specs.declared.system.System.{System}
+use Rattle.gnss_obs.specs.Signals.{SignalAt, signal_of_code}
+use Rattle.gnss_obs.specs.declared.fault.PlanFault.{PlanFault}
+use Rattle.gnss_obs.specs.declared.fault.PlanFault.TheVariants.{UnknownCode, RepeatedCode, NothingPlanned, BadWeek, BadStation, Memory}
+use Rattle.gnss_obs.specs.SignalLists.{IsOf, TakesCode, RefusesCode, IsMemoryFaultOr, IsUnfitAfter}
+use Rattle.gnss_obs.proofs.FitLemmas.{not_before}
+use Rattle.gnss_obs.proofs.PlanLemmas.{repeated, accepted, of_where}
+use Rattle.gnss_obs.proofs.plan.add_code.Goals as goal
+use Rattle.std.proofs.Common.{arith}
+use Rattle.std.proofs.lemmas.Grind.{common_steps}
+
+-- The fault of a code's signal is that of the code.
+refused : (system : System) (code : List ℕ) (ss : List SignalAt) (s : SignalAt) (e : PlanFault) → signal_of_code system code ≡ Some s → IsUnfitAfter system ss s e
+    → RefusesCode system code ss e
+refused system code ss s (RepeatedCode named place) is u = grind (arith, common_steps, repeated)
+refused system code ss s (UnknownCode named place) is u = absurd (u.2 (of_where system _ s is).0)
+refused system code ss s NothingPlanned is u = absurd u
+refused system code ss s BadWeek is u = absurd u
+refused system code ss s BadStation is u = absurd u
+refused system code ss s Memory is u = absurd u
+
+added : (A : Type 0) (system : System) (code : List ℕ) (ss new : List SignalAt) (s : SignalAt) (r : Result A PlanFault) → signal_of_code system code ≡ Some s
+    → MatchResult r (λ _. (new ≡ ss ++ s ∷ []) × IsOf system new) (IsMemoryFaultOr (IsUnfitAfter system ss s))
+    → MatchResult r (λ _. TakesCode system code ss new) (IsMemoryFaultOr (RefusesCode system code ss))
+added A system code ss new s (Ok u) is h = grind (arith, common_steps, accepted, not_before)
+added A system code ss new s (Err e) is (inl m) = inl m
+added A system code ss new s (Err e) is (inr u) = inr (refused system code ss s e is u)
+
+pub returns-in-Some : goal.returns-in-Some
+returns-in-Some c = added _ c.args.system c.args.code.now c.args.signals.now _ c.in-Some.signal c.add_signal.result (sym c.from_code.ensures ∙ c.in-Some.is) c.add_signal.ensures

@@ -1,0 +1,7 @@
+use Rattle.std.proofs.Common.{◌≡◌}
+use Rattle.gnss_obs.specs.SignalLists.{indices, IsOf}
+use Rattle.gnss_obs.specs.Plans.{below}
+use Rattle.gnss_obs.proofs.plan.add_every.Given as goal
+
+abbrev pub invariant-loop-index : goal.invariant-loop-index
+invariant-loop-index l = (below l.index ≡ indices l.signals) × IsOf l.system l.signals

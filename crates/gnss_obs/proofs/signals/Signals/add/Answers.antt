@@ -1,0 +1,34 @@
+use Rattle.std.proofs.Common.{◌≡◌, ℕ, nat_eq, ◌==◌, ◌++◌, ◌∷◌, [], ◌≤◌, true, false, List, length, sym, ap, ◌∙◌, subst, arith, rules}
+use Rattle.gnss_obs.specs.Signals.{SignalAt}
+use Rattle.gnss_obs.specs.SignalLists.{indices, IsOf}
+use Rattle.std.specs.List.{list_any}
+use Rattle.gnss_obs.proofs.PlanLemmas.{any_index, indices-push, length_indices}
+use Rattle.gnss_obs.proofs.SignalLemmas.{was_new, was_there, found_more}
+use Rattle.gnss_obs.proofs.signals.Signals.add.Goals as goal
+
+pub invariant_of-self : goal.invariant_of-self
+invariant_of-self c =
+    let keys = c.self.inside.order.keys in
+    let s = c.args.signal in
+    let of = subst (IsOf s.system) (sym c.self.view_is) c.requires in
+    let a = was_new _ (λ a b e. grind arith) s keys _ _ c.in-Ok.place c.in-Ok.ensures.unique of c.index-index.ensures.listed c.in-Ok.ensures.keys c.in-Ok.ensures.added c.in-Ok.ensures.index c.if-is_new.true in
+    let room : 19 ≤ length c.self.inside.places = omega arith in
+    found_more c.self.inside.places (indices keys) _ c.index-index.result c.in-Ok.place c.self.invariant (search rules) room
+    (ap (λ (n : ℕ). list_any (nat_eq n) (indices keys)) c.index-index.ensures.value ∙ sym (any_index s.index keys) ∙ a.1) (a.3 ∙ sym (length_indices keys))
+    (ap indices a.0 ∙ indices-push keys s ∙ ap (λ (n : ℕ). indices keys ++ n ∷ []) (sym c.index-index.ensures.value))
+
+pub returns-then-is_new-clause-new : goal.returns-then-is_new-clause-new
+returns-then-is_new-clause-new c = λ e.
+    let keys = c.self.inside.order.keys in
+    let s = c.args.signal in
+    let of = subst (IsOf s.system) (sym c.self.view_is) c.requires in
+    let a = was_new _ (λ a b e. grind arith) s keys _ _ c.in-Ok.place c.in-Ok.ensures.unique of c.index-index.ensures.listed c.in-Ok.ensures.keys c.in-Ok.ensures.added c.in-Ok.ensures.index c.if-is_new.true in
+    subst (λ (l : List SignalAt). (c.insert_full.new.self.keys ≡ l ++ s ∷ []) × (list_any (λ (r : SignalAt). s.index == r.index) l ≡ false) × IsOf s.system c.insert_full.new.self.keys) c.self.view_is (a.0, a.1, a.2)
+
+pub returns-else-is_new-clause-old : goal.returns-else-is_new-clause-old
+returns-else-is_new-clause-old c = λ e.
+    let keys = c.self.inside.order.keys in
+    let s = c.args.signal in
+    let of = subst (IsOf s.system) (sym c.self.view_is) c.requires in
+    subst (λ (l : List SignalAt). (c.insert_full.new.self.keys ≡ l) × (list_any (λ (r : SignalAt). s.index == r.index) l ≡ true)) c.self.view_is
+    (was_there _ (λ a b e. grind arith) s keys _ _ c.in-Ok.ensures.unique of c.in-Ok.ensures.keys c.in-Ok.ensures.added c.if-is_new.false)

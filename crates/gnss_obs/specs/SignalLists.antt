@@ -1,0 +1,117 @@
+-- The signals of a plan.
+use Rattle.std.specs.Prelude.{◌≡◌, ℕ, ◌+◌, ◌<◌, List, [], ◌∷◌, ◌++◌, map, length, All, Option, Some, None, true, false}
+use Rattle.std.specs.Prelude.{◌==◌, ◌⊎◌, get_or, position, Result, Ok, Err, MatchResult}
+use Rattle.gnss_obs.specs.declared.system.System.{System}
+use Rattle.gnss_obs.specs.Signals.{SignalAt, IsSignal, table, signal_of_code}
+use Rattle.gnss_obs.specs.declared.system.System.TheVariants.{Gps, Galileo}
+use Rattle.std.specs.List.{IsDistinct, list_any}
+use Rattle.std.specs.Prelude.{nat_eq}
+use Rattle.gnss_obs.specs.Plans.{between_commas, below, IsTaken, IsRefused}
+use Rattle.gnss_obs.specs.declared.fault.PlanFault.{PlanFault}
+use Rattle.gnss_obs.specs.declared.fault.PlanFault.TheVariants.{UnknownCode, RepeatedCode, NothingPlanned, Memory}
+use Rattle.gnss_obs.specs.Values.{PlanValue}
+
+-- The indices of signals in the table of their system.
+abbrev pub indices : List SignalAt → List ℕ
+indices ss = map (λ s. s.index) ss
+
+-- Distinct listed signals of one system.
+pub record IsOf (system : System) (ss : List SignalAt) : Type 0 where
+  pub each : All (λ s. (s.system ≡ system) × IsSignal s) ss
+  pub apart : IsDistinct nat_eq (indices ss)
+
+-- The list after one more signal, which isn't among those before it.
+abbrev pub IsAdded : List SignalAt → SignalAt → List SignalAt → Type 0
+IsAdded before s after =
+    (after ≡ before ++ s ∷ []) × (list_any (λ r. s.index == r.index) before ≡ false) × IsOf s.system after
+
+-- For each index in the longest table, that of Galileo: the index of that signal among the planned ones.
+pub record AreFound (places : List (Option ℕ)) (planned : List ℕ) : Type 0 where
+  pub each : (n : ℕ) → n < length (table Galileo) → get_or places n None ≡ position (λ i. i == n) planned
+
+-- The codes of the rest of a text.
+abbrev pub codes_in : Option (List ℕ) → List (List ℕ)
+codes_in None = []
+codes_in (Some text) = between_commas text
+
+-- The signals of a system are those of a text.
+abbrev pub ArePlanned : System → Result (List ℕ) PlanFault → List SignalAt → Type 0
+ArePlanned system planned ss = (planned ≡ Ok (indices ss)) × IsOf system ss
+
+-- These are the signals of a plan.
+abbrev pub AreOfPlan : Result PlanValue PlanFault → List SignalAt → List SignalAt → Type 0
+AreOfPlan plan ss ts = (plan ≡ Ok (record { gps = indices ss; galileo = indices ts })) × IsOf Gps ss × IsOf Galileo ts
+
+-- A code's signal is accepted after signals of its system.
+abbrev pub TakesCode : System → List ℕ → List SignalAt → List SignalAt → Type 0
+TakesCode system code before after =
+    IsTaken system (indices before) (signal_of_code system code) (indices after) × IsOf system after
+
+-- A code's signal is refused after signals of its system.
+abbrev pub RefusesCode : System → List ℕ → List SignalAt → PlanFault → Type 0
+RefusesCode system code before fault = IsRefused system (indices before) (signal_of_code system code) fault
+
+-- The fault is `Memory`, or one of these.
+abbrev pub IsMemoryFaultOr : (PlanFault → Type 0) → PlanFault → Type 0
+IsMemoryFaultOr P fault = (fault ≡ Memory) ⊎ P fault
+
+-- The list after one more signal is of that system.
+abbrev pub IsPushed : System → List SignalAt → SignalAt → List SignalAt → Type 0
+IsPushed system before s after = (after ≡ before ++ s ∷ []) × IsOf system after
+
+-- The signals are all those of the system's table; or the fault is `Memory`.
+abbrev pub HasEvery : {A : Type 0} → System → List SignalAt → Result A PlanFault → Type 0
+HasEvery system ss result =
+    MatchResult result (λ _. (below (length (table system)) ≡ indices ss) × IsOf system ss) (λ e. e ≡ Memory)
+
+-- The result is the defined one, or `Memory`.
+abbrev pub IsDefined : {A : Type 0} → Result A PlanFault → Result A PlanFault → Type 0
+IsDefined defined result = MatchResult result (λ x. defined ≡ Ok x) (IsMemoryFaultOr (λ e. defined ≡ Err e))
+
+-- After Ok this holds; a fault is `Memory` or one of these.
+abbrev pub DoneOr : {A : Type 0} → (PlanFault → Type 0) → Type 0 → Result A PlanFault → Type 0
+DoneOr refused done result = MatchResult result (λ _. done) (IsMemoryFaultOr refused)
+
+-- A signal of another system, or a repeated one, after signals of a system.
+abbrev pub IsUnfitAfter : System → List SignalAt → SignalAt → PlanFault → Type 0
+IsUnfitAfter system before s (UnknownCode named place) =
+    (named ≡ system) × (place ≡ length before) × (s.system ≡ system → ⊥)
+IsUnfitAfter system before s (RepeatedCode named place) =
+    (named ≡ system) × (place ≡ length before) × (s.system ≡ system)
+    × (list_any (λ r. s.index == r.index) before ≡ true)
+IsUnfitAfter system before s other = ⊥
+
+-- The first signal of the list that a plan can't have.
+pub record IsUnfit (system : System) (ss : List SignalAt) (fault : PlanFault) : Type 0 where
+  pub before : List SignalAt
+  pub signal : SignalAt
+  pub rest : List SignalAt
+  pub split : ss ≡ before ++ signal ∷ rest
+  pub fits : IsOf system before
+  pub unfit : IsUnfitAfter system before signal fault
+
+-- The fault for which signals are refused: GPS comes first.
+abbrev pub IsUnplanned : List SignalAt → List SignalAt → PlanFault → Type 0
+IsUnplanned gps galileo (UnknownCode Gps place) = IsUnfit Gps gps (UnknownCode Gps place)
+IsUnplanned gps galileo (UnknownCode Galileo place) = IsOf Gps gps × IsUnfit Galileo galileo (UnknownCode Galileo place)
+IsUnplanned gps galileo (RepeatedCode Gps place) = IsUnfit Gps gps (RepeatedCode Gps place)
+IsUnplanned gps galileo (RepeatedCode Galileo place) =
+    IsOf Gps gps × IsUnfit Galileo galileo (RepeatedCode Galileo place)
+IsUnplanned gps galileo NothingPlanned = (gps ≡ []) × (galileo ≡ [])
+IsUnplanned gps galileo other = ⊥
+
+-- The plan of signals in their order.
+pub record IsPlanOf (gps galileo : List SignalAt) (p : PlanValue) : Type 0 where
+  pub first : IsOf Gps gps
+  pub second : IsOf Galileo galileo
+  pub some : 0 < length gps + length galileo
+  pub value : p ≡ record { gps = indices gps; galileo = indices galileo }
+
+-- The result for these signals is their plan, or a fault.
+abbrev pub IsPlanResult : List SignalAt → List SignalAt → Result PlanValue PlanFault → Type 0
+IsPlanResult gps galileo result = MatchResult result (IsPlanOf gps galileo) (IsMemoryFaultOr (IsUnplanned gps galileo))
+
+-- These are the signals of the plan of those signals.
+abbrev pub ArePlanOf : List SignalAt → List SignalAt → List SignalAt → List SignalAt → Type 0
+ArePlanOf gps galileo ss ts =
+    IsPlanOf gps galileo (record { gps = indices ss; galileo = indices ts }) × IsOf Gps ss × IsOf Galileo ts

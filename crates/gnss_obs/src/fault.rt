@@ -1,0 +1,27 @@
+//! The reasons why a plan or a gatherer is refused.
+use crate::system::System;
+use thiserror::Error;
+
+/// The reason why a plan or a gatherer is refused. It is displayed by its name and values, the
+/// system by its letter in RINEX.
+#[derive(Clone, Copy, Debug, PartialEq, Eq, Error)]
+pub enum PlanFault {
+    /// The code or signal of this system at this index, from 0 on, isn't in the system's table.
+    #[error("UnknownCode {} {}", char::from(.0.letter()), .1)]
+    UnknownCode(System, usize),
+    /// The code or signal of this system at this index, from 0 on, is repeated.
+    #[error("RepeatedCode {} {}", char::from(.0.letter()), .1)]
+    RepeatedCode(System, usize),
+    /// No signal of either system is wanted.
+    #[error("NothingPlanned")]
+    NothingPlanned,
+    /// The start week is greater than 99,999.
+    #[error("BadWeek")]
+    BadWeek,
+    /// The station's number is greater than 4,095.
+    #[error("BadStation")]
+    BadStation,
+    /// Memory allocation failed.
+    #[error("Memory")]
+    Memory,
+}

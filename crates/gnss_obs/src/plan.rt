@@ -1,0 +1,277 @@
+//! Plans: the wanted signals of each system.
+ghost use Rattle.std.specs.Prelude.{◌≡◌, ◌<◌, ◌≤◌, ◌+◌, ◌∷◌, [], length, slice_index, IfErr, IfSome, Err, option_map};
+ghost use Rattle.std.specs.Prelude.{IsOk, MatchResult};
+ghost use Rattle.gnss_obs.specs.declared.system.System.TheVariants.{Gps, Galileo};
+ghost use Rattle.gnss_obs.specs.Signals.{table};
+ghost use Rattle.gnss_obs.specs.Values.{planned_of};
+ghost use Rattle.gnss_obs.specs.Plans.{plan_of, signals_of, signals_coded, between_commas, place_in};
+ghost use Rattle.gnss_obs.specs.SignalLists.{indices, IsOf, codes_in, ArePlanned, AreOfPlan, HasEvery, IsPushed};
+ghost use Rattle.gnss_obs.specs.SignalLists.{TakesCode, RefusesCode, IsDefined, DoneOr, IsUnfitAfter, IsUnfit};
+ghost use Rattle.gnss_obs.specs.SignalLists.{IsUnplanned, IsPlanResult, ArePlanOf};
+
+use crate::fault::PlanFault;
+use crate::signal::Signal;
+use crate::signals::Signals;
+use crate::system::{System, is_same_system};
+use std::alloc::Global;
+use std::marker::Model;
+
+/// The wanted signals of each system, in the order in which they are written: at least one signal
+/// in all.
+#[derive(Drop)]
+pub struct Plan {
+    gps: Signals,
+    galileo: Signals,
+}
+
+impl Model for Plan {
+    ghost use Rattle.gnss_obs.specs.declared.system.System.TheVariants.{Gps, Galileo};
+    ghost use Rattle.gnss_obs.specs.Values.{PlanValue};
+    ghost use Rattle.gnss_obs.specs.SignalLists.{indices, IsOf};
+
+    ghost Value = { PlanValue };
+
+    ghost view = { λ p. record { gps = indices p.gps; galileo = indices p.galileo } };
+
+    ghost invariant = { λ p. IsOf Gps p.gps × IsOf Galileo p.galileo };
+}
+
+impl Plan {
+    /// Parses a plan from one text for each system. A text is `all` for all signals in the order of
+    /// the system's table, `none`, or a list of signal codes separated by single commas, such as
+    /// `1C,2W`. An empty text is a list of one unknown code. The GPS text is parsed first, each
+    /// text from the left.
+    ///
+    /// # Errors
+    ///
+    /// The first fault: `UnknownCode` for a code that isn't in the system's table, `RepeatedCode`
+    /// for a repeated code, `NothingPlanned` if both texts are `none`, `Memory` if an allocation
+    /// failed.
+    pub fn parse(alloc: Global, gps: &str, galileo: &str) -> Result<Plan, PlanFault>
+        ensures { IsDefined (plan_of gps.now galileo.now) result }
+    {
+        let mut first = Signals::new(alloc);
+        let mut second = Signals::new(alloc);
+        let added = read_both(&mut first, &mut second, gps, galileo);
+        Plan::with(added, first, second)
+    }
+
+    /// Returns the plan of these signals in this order.
+    ///
+    /// # Errors
+    ///
+    /// `NothingPlanned` if there is no signal, else the first fault, GPS before Galileo and from
+    /// the left: `UnknownCode` for a signal of the other system, `RepeatedCode` for a repeated
+    /// signal, `Memory` if an allocation failed.
+    pub fn from_signals(
+        alloc: Global,
+        gps: &[Signal],
+        galileo: &[Signal],
+    ) -> Result<Plan, PlanFault>
+        ensures cases { IsPlanResult gps.now galileo.now result }
+        ensures planned { IsOf Gps gps.now → IsOf Galileo galileo.now → 0 < length gps.now + length galileo.now
+            → IfErr result (λ e. e ≡ PlanFault.Memory) }
+    {
+        let mut first = Signals::new(alloc);
+        let mut second = Signals::new(alloc);
+        let added = add_both(&mut first, &mut second, gps, galileo);
+        Plan::with(added, first, second)
+    }
+
+    // Returns the plan of these signals, if they were added without a fault.
+    fn with(added: Added, gps: Signals, galileo: Signals) -> Result<Plan, PlanFault>
+        requires { IsOk added → IsOf Gps gps × IsOf Galileo galileo }
+        ensures { MatchResult result
+            (λ p. IsOk added × (p ≡ record { gps = indices gps; galileo = indices galileo })) (λ e. added ≡ Err e) }
+    {
+        match added {
+            Ok(()) => Ok(Plan { gps, galileo }),
+            Err(fault) => {
+                // A call drops a list with less proof than the end of its scope.
+                drop(gps);
+                drop(galileo);
+                Err(fault)
+            }
+        }
+    }
+
+    /// Returns the number of wanted signals of a system.
+    pub fn signals(&self, system: System) -> usize
+        ensures count { result ≡ length (planned_of system self.now) }
+        ensures bound { result ≤ length (table system) }
+    {
+        self.of(system).len()
+    }
+
+    /// Returns the wanted signals of a system, in the order of the plan.
+    pub fn of(&self, system: System) -> &[Signal]
+        ensures indices { indices result.now ≡ planned_of system self.now }
+        ensures system { IsOf system result.now }
+    {
+        self.list(system).as_slice()
+    }
+
+    /// Returns the wanted signal of a system at this index.
+    pub fn signal(&self, system: System, place: usize) -> Signal
+        requires { place < length (planned_of system self.now) }
+        ensures index { result.index ≡ slice_index (planned_of system self.now) place }
+        ensures system { result.system ≡ system }
+    {
+        self.of(system)[place]
+    }
+
+    /// Returns the index of a signal among the wanted signals of its system. `None` if it isn't
+    /// wanted.
+    pub fn place(&self, signal: Signal) -> Option<usize>
+        ensures place { result ≡ place_in signal (planned_of signal.system self.now) }
+    {
+        self.place_among(signal.system(), signal)
+    }
+
+    /// Returns the result of `place` for a signal of this system. This is faster if the system is
+    /// the same for many signals.
+    pub fn place_among(&self, system: System, signal: Signal) -> Option<usize>
+        ensures { result ≡ place_in signal (planned_of system self.now) }
+    {
+        self.list(system).place(signal)
+    }
+
+    // Returns the list of the wanted signals of a system.
+    fn list(&self, system: System) -> &Signals
+        ensures indices { indices result.now ≡ planned_of system self.now }
+        ensures system { IsOf system result.now }
+    {
+        match system {
+            System::Gps => &self.gps,
+            System::Galileo => &self.galileo,
+        }
+    }
+}
+
+// The functions that can fail append to lists of the caller, so none of them has to free a list.
+type Added = Result<(), PlanFault>;
+
+// Appends the signals of both systems, at least one in all.
+fn add_both(first: &mut Signals, second: &mut Signals, gps: &[Signal], galileo: &[Signal]) -> Added
+    requires { (first.old ≡ []) × (second.old ≡ []) }
+    ensures cases { DoneOr (IsUnplanned gps.now galileo.now) (ArePlanOf gps.now galileo.now first.new second.new)
+        result }
+    ensures planned { IsOf Gps gps.now → IsOf Galileo galileo.now → 0 < length gps.now + length galileo.now
+        → IfErr result (λ e. e ≡ PlanFault.Memory) }
+{
+    if gps.is_empty() && galileo.is_empty() {
+        return Err(PlanFault::NothingPlanned);
+    }
+    add_signals(first, System::Gps, gps)?;
+    add_signals(second, System::Galileo, galileo)
+}
+
+// Appends these signals of a system: none of the other system, none twice.
+fn add_signals(added: &mut Signals, system: System, signals: &[Signal]) -> Added
+    requires { added.old ≡ [] }
+    ensures { DoneOr (IsUnfit system signals.now) ((added.new ≡ signals.now) × IsOf system signals.now) result }
+{
+    for i in 0..signals.len() {
+        add_signal(added, system, signals[i])?;
+    }
+    Ok(())
+}
+
+// Appends a signal.
+fn add_signal(signals: &mut Signals, system: System, signal: Signal) -> Added
+    requires { IsOf system signals.old }
+    ensures { DoneOr (IsUnfitAfter system signals.old signal) (IsPushed system signals.old signal signals.new) result }
+{
+    let place = signals.len();
+    if !is_same_system(signal.system(), system) {
+        return Err(PlanFault::UnknownCode(system, place));
+    }
+    match signals.add(signal) {
+        Ok(true) => Ok(()),
+        Ok(false) => Err(PlanFault::RepeatedCode(system, place)),
+        Err(_) => Err(PlanFault::Memory),
+    }
+}
+
+// Appends the signals of two texts, at least one in all.
+fn read_both(first: &mut Signals, second: &mut Signals, gps: &str, galileo: &str) -> Added
+    requires { (first.old ≡ []) × (second.old ≡ []) }
+    ensures { DoneOr (λ e. plan_of gps.now galileo.now ≡ Err e)
+        (AreOfPlan (plan_of gps.now galileo.now) first.new second.new) result }
+{
+    read_signals(first, System::Gps, gps)?;
+    read_signals(second, System::Galileo, galileo)?;
+    if first.is_empty() && second.is_empty() {
+        return Err(PlanFault::NothingPlanned);
+    }
+    Ok(())
+}
+
+// Appends the signals of a text.
+fn read_signals(signals: &mut Signals, system: System, text: &str) -> Added
+    requires { signals.old ≡ [] }
+    ensures { DoneOr (λ e. signals_of system text.now ≡ Err e)
+        (ArePlanned system (signals_of system text.now) signals.new) result }
+{
+    if text == "all" {
+        return add_every(signals, system);
+    }
+    if text == "none" {
+        return Ok(());
+    }
+    read_codes(signals, system, text)
+}
+
+// Appends all signals of a table in its order.
+fn add_every(signals: &mut Signals, system: System) -> Added
+    requires { signals.old ≡ [] }
+    ensures { HasEvery system signals.new result }
+{
+    for index in 0..system.signals() {
+        let Some(signal) = Signal::from_index(system, index) else {
+            unreachable!()
+        };
+        if signals.add(signal).is_err() {
+            return Err(PlanFault::Memory);
+        }
+    }
+    Ok(())
+}
+
+// Appends the signals of codes separated by commas.
+fn read_codes(signals: &mut Signals, system: System, text: &str) -> Added
+    requires { signals.old ≡ [] }
+    ensures { DoneOr (λ e. signals_coded system text.now ≡ Err e)
+        (ArePlanned system (signals_coded system text.now) signals.new) result }
+{
+    let mut rest = Some(text);
+    while let Some(codes) = rest {
+        let (code, after) = first_code(codes);
+        add_code(signals, system, code)?;
+        rest = after;
+    }
+    Ok(())
+}
+
+// Returns the first code, and the text after its comma.
+fn first_code(codes: &str) -> (&str, Option<&str>)
+    ensures first { between_commas codes.now ≡ result.0.now ∷ codes_in (option_map (λ r. r.now) result.1) }
+    ensures fewer { IfSome result.1 (λ r. length r.now < length codes.now) }
+{
+    match codes.split_once(',') {
+        Some((code, after)) => (code, Some(after)),
+        None => (codes, None),
+    }
+}
+
+// Appends the signal of a code.
+fn add_code(signals: &mut Signals, system: System, code: &str) -> Added
+    requires { IsOf system signals.old }
+    ensures { DoneOr (RefusesCode system code.now signals.old) (TakesCode system code.now signals.old signals.new)
+        result }
+{
+    match Signal::from_code(system, code) {
+        Some(signal) => add_signal(signals, system, signal),
+        None => Err(PlanFault::UnknownCode(system, signals.len())),
+    }
+}

@@ -1,0 +1,98 @@
+//! Lists of distinct signals of one system.
+ghost use Rattle.std.specs.Prelude.{◌≡◌, ◌↔◌, ◌==◌, [], IsTrue, length, true, false, Ok, OnErr};
+ghost use Rattle.std.specs.List.{list_any};
+ghost use Rattle.gnss_obs.specs.Signals.{SignalAt, table};
+ghost use Rattle.gnss_obs.specs.Plans.{place_in};
+ghost use Rattle.gnss_obs.specs.SignalLists.{indices, IsAdded, IsOf};
+
+use crate::signal::Signal;
+use crate::tables::GALILEO_SIGNAL_COUNT;
+use indexmap::IndexSet;
+use std::alloc::{AllocError, Global};
+use std::marker::Model;
+
+/// Distinct signals of one system, in the order in which they were added.
+#[derive(Drop)]
+pub struct Signals {
+    order: IndexSet<Signal>,
+    // The index of each signal in `order`, by its index in the table of its system. The table of
+    // Galileo is the longest.
+    places: [Option<usize>; GALILEO_SIGNAL_COUNT],
+}
+
+impl Model for Signals {
+    ghost use Rattle.std.specs.Prelude.{List};
+    ghost use Rattle.gnss_obs.specs.Signals.{SignalAt};
+    ghost use Rattle.gnss_obs.specs.SignalLists.{indices, AreFound};
+
+    ghost Value = { List SignalAt };
+
+    ghost view = { λ s. s.order.keys };
+
+    ghost invariant = { λ s. AreFound s.places (indices s.order.keys) };
+}
+
+impl Signals {
+    /// Returns an empty list.
+    pub fn new(alloc: Global) -> Signals
+        ensures { result ≡ [] }
+    {
+        Signals {
+            order: IndexSet::new(alloc),
+            places: [None; GALILEO_SIGNAL_COUNT],
+        }
+    }
+
+    /// Appends a signal of the same system as the others, and returns whether it is new. A signal
+    /// that is in the list already leaves the list unchanged, and so does an error.
+    ///
+    /// # Errors
+    ///
+    /// `AllocError` if an allocation failed.
+    pub fn add(&mut self, signal: Signal) -> Result<bool, AllocError>
+        requires { IsOf signal.system self.old }
+        ensures new { result ≡ Ok true → IsAdded self.old signal self.new }
+        ensures old { result ≡ Ok false
+            → (self.new ≡ self.old) × (list_any (λ s. signal.index == s.index) self.old ≡ true) }
+        ensures failed { OnErr result (self.new ≡ self.old) }
+    {
+        let index = signal.index();
+        match self.order.insert_full(signal) {
+            Ok((place, is_new)) => {
+                if is_new {
+                    self.places[index] = Some(place);
+                }
+                Ok(is_new)
+            }
+            Err(_) => Err(AllocError),
+        }
+    }
+
+    /// Returns the number of signals.
+    pub fn len(&self) -> usize
+        ensures { result ≡ length self.now }
+    {
+        self.as_slice().len()
+    }
+
+    /// Returns whether there is no signal.
+    pub fn is_empty(&self) -> bool
+        ensures { IsTrue result ↔ (self.now ≡ []) }
+    {
+        self.as_slice().is_empty()
+    }
+
+    /// Returns the signals in the order in which they were added.
+    pub fn as_slice(&self) -> &[Signal]
+        ensures { result.now ≡ self.now }
+    {
+        self.order.as_slice()
+    }
+
+    /// Returns the index of a signal of the same system, or `None` if the list does not contain it.
+    pub fn place(&self, signal: Signal) -> Option<usize>
+        ensures { result ≡ place_in signal (indices self.now) }
+    {
+        self.places[signal.index()]
+    }
+}

@@ -1,7 +1,0 @@
-use Rattle.std.proofs.Common.{◌≡◌, ◌+◌, ◌≤◌, drop, length}
-use Rattle.obs_epoch.specs.Values.{run}
-use Rattle.obs_epoch.proofs.epoch.end_of.Given as goal
-
--- The cells so far are of that satellite.
-abbrev pub invariant-loop-at : goal.invariant-loop-at
-invariant-loop-at l = (l.at + run l.id (drop l.at l.cells) ≡ l.from + run l.id (drop l.from l.cells)) × (l.at ≤ length l.cells)

@@ -1,6 +1,0 @@
-use Rattle.std.proofs.Common.{arith}
-use Rattle.obs_epoch.proofs.PlanLemmas.{few_signals}
-use Rattle.obs_epoch.proofs.plan.Plan.signals.Goals as goal
-
-pub returns-clause-bound : goal.returns-clause-bound
-returns-clause-bound c = let few = few_signals c.args.system _ c.of.ensures.system in omega (arith, few)
