@@ -33,18 +33,15 @@ pub const MOST_BYTES: u64 = 1 << 48;
 
 /// Why a call of a framer failed. The framer is then unchanged. It is displayed by its name.
 #[derive(Clone, Copy, Debug, PartialEq, Eq, Error)]
+#[error("{:?}", self)]
 pub enum ScanFault {
     /// Out of memory: the held bytes can't be allocated.
-    #[error("Memory")]
     Memory,
     /// The limit is above 2^48 bytes.
-    #[error("BadLimit")]
     BadLimit,
     /// The stream is longer than the framer's limit.
-    #[error("TooLong")]
     TooLong,
     /// The stream has ended.
-    #[error("Ended")]
     Ended,
 }
 
