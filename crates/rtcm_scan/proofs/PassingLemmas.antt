@@ -46,11 +46,6 @@ prefix_later e u b piece n fs same going q =
     let later : IsPrefix (known_frames e (b ++ take n piece)) (known_frames e (b ++ piece)) = subst (λ (l : List ℕ). IsPrefix (known_frames e (b ++ take n piece)) (known_frames e l)) whole (known_later e (b ++ take n piece) (drop n piece) none) in
     prefix_trans fs (known_frames e (b ++ take n piece)) (known_frames e (b ++ piece)) p later
 
--- the same stream goes on
-pub same_continues : (v v' : FramerValue) (n : ℕ) → v.taken ≤ v.limit → v'.has_ended ≡ v.has_ended → IsSameStream v v' → Continues v v' n
-same_continues v v' n within ended same =
-    record { least = omega (arith, same.taken); most = omega (arith, same.taken); within = omega (arith, same.taken, within); limit = same.limit; ended = ended; some = same.some }
-
 -- the stream was ended before
 pub same_ended : (v v1 v2 : FramerValue) → v1 ≡ record v { has_ended = true } → ((b : List ℕ) (fs : List Framed) → HasExamined v b fs → HasExamined v1 b fs) → IsSameStream v1 v2 → IsSameStream v v2
 same_ended v v1 v2 end counts same = record {
@@ -62,21 +57,33 @@ same_ended v v1 v2 end counts same = record {
 pub continues_most : (v v' : FramerValue) (n m : ℕ) → n ≤ m → Continues v v' n → Continues v v' m
 continues_most v v' n m le k = record { least = k.least; most = omega (arith, k.most, le); within = k.within; limit = k.limit; ended = k.ended; some = k.some }
 
--- a block was accepted, and its frames passed on
-pub continues_block : (v v1 v2 v3 : FramerValue) (n m : ℕ) (xs : List ℕ) → length xs ≡ m → Continues v v1 n → v2 ≡ with_bytes v1 xs → v2.taken ≤ v2.limit
-    → ((b : List ℕ) (fs : List Framed) → HasExamined v1 b fs → HasExamined v2 (b ++ xs) fs) → v3.has_ended ≡ v2.has_ended → IsSameStream v2 v3 → Continues v v3 (n + m)
-continues_block v v1 v2 v3 n m xs size k push within counts ended same =
+-- no further byte was accepted
+pub continues_same : (v v1 v2 : FramerValue) (n : ℕ) → Continues v v1 n → v2.has_ended ≡ v1.has_ended → IsSameStream v1 v2 → Continues v v2 n
+continues_same v v1 v2 n k ended same =
+    record {
+      least = omega (arith, k.least, same.taken);
+      most = omega (arith, k.most, same.taken);
+      within = omega (arith, k.within, same.taken);
+      limit = same.limit ∙ k.limit;
+      ended = ended ∙ k.ended;
+      some = λ h. same.some (k.some h);
+    }
+
+-- a block was accepted
+pub continues_block : (v v1 v2 : FramerValue) (n m : ℕ) (xs : List ℕ) → length xs ≡ m → Continues v v1 n → v2 ≡ with_bytes v1 xs → v2.taken ≤ v2.limit
+    → ((b : List ℕ) (fs : List Framed) → HasExamined v1 b fs → HasExamined v2 (b ++ xs) fs) → Continues v v2 (n + m)
+continues_block v v1 v2 n m xs size k push within counts =
     let taken : v2.taken ≡ v1.taken + length xs = ap (λ (w : FramerValue). w.taken) push in
     let limit : v2.limit ≡ v1.limit = ap (λ (w : FramerValue). w.limit) push in
     let least : v.taken ≤ v1.taken = k.least in
     let most : v1.taken ≤ v.taken + n = k.most in
     record {
-      least = omega (arith, least, taken, same.taken);
-      most = omega (arith, most, taken, same.taken, size);
-      within = omega (arith, within, limit, k.limit, same.taken);
-      limit = same.limit ∙ limit ∙ k.limit;
-      ended = ended ∙ ap (λ (w : FramerValue). w.has_ended) push ∙ k.ended;
-      some = λ h. (let x = k.some h in same.some (x.0 ++ xs, x.1, counts x.0 x.1 x.2));
+      least = omega (arith, least, taken);
+      most = omega (arith, most, taken, size);
+      within = omega (arith, within, limit, k.limit);
+      limit = limit ∙ k.limit;
+      ended = ap (λ (w : FramerValue). w.has_ended) push ∙ k.ended;
+      some = λ h. (let x = k.some h in (x.0 ++ xs, x.1, counts x.0 x.1 x.2));
     }
 
 module _ {S O : Type 0} (took : Coming S O) where
@@ -85,31 +92,45 @@ module _ {S O : Type 0} (took : Coming S O) where
   PassesSome v s o v' s' o' = (s0 : S) (o0 : O) (ps : List Framed) (b : List ℕ) (fs : List Framed) → HasPassed took v s0 o0 ps s o b fs
       → (gs : List Framed) × IsPrefix fs gs × HasPassed took v' s0 o0 ps s' o' b gs
 
+  -- bytes were accepted, and at least the frames known before them were passed on
+  abbrev pub PassesPart : FramerValue → S → O → FramerValue → S → O → List ℕ → Type 0
+  PassesPart v s o v' s' o' next = (s0 : S) (o0 : O) (ps : List Framed) (b : List ℕ) → HasPassedAll took v s0 o0 ps s o b
+      → (fs : List Framed) × IsPrefix (known_frames v.has_ended b) fs × HasPassed took v' s0 o0 ps s' o' (b ++ next) fs
+
+  pub part_none : (v : FramerValue) (s : S) (o : O) → PassesPart v s o v s o []
+  part_none v s o s0 o0 ps b x =
+      let fs : List Framed = known_frames v.has_ended b in
+      (fs, prefix_self fs, subst (λ (l : List ℕ). HasPassed took v s0 o0 ps s o l fs) (sym (append-nil b)) x.passed)
+
+  -- their frames were passed on
+  pub part_drained : (v v' v2 : FramerValue) (s s' s2 : S) (o o' o2 : O) (next : List ℕ) → PassesPart v s o v' s' o' next → PassesKnown took v' s' o' v2 s2 o2
+      → Passes took v s o v2 s2 o2 next
+  part_drained v v' v2 s s' s2 o o' o2 next p k s0 o0 ps b x = let q = p s0 o0 ps b x in k s0 o0 ps (b ++ next) q.0 q.2
+
   -- a block after the first n bytes of a piece was accepted
-  pub pushed : (v v1 v2 : FramerValue) (s s1 : S) (o o1 : O) (piece : List ℕ) (n m : ℕ) → Passes took v s o v1 s1 o1 (take n piece)
-      → ((b : List ℕ) (fs : List Framed) → HasExamined v1 b fs → HasExamined v2 (b ++ slice_range piece n (n + m)) fs)
-      → (s0 : S) (o0 : O) (ps : List Framed) (b : List ℕ) → HasPassedAll took v s0 o0 ps s o b → HasPassed took v2 s0 o0 ps s1 o1 (b ++ take (n + m) piece) (known_frames v1.has_ended (b ++ take n piece))
-  pushed v v1 v2 s s1 o o1 piece n m p counts s0 o0 ps b x =
+  pub part_pushed : (v v1 v2 : FramerValue) (s s1 : S) (o o1 : O) (piece : List ℕ) (n m : ℕ) → (v.has_ended ≡ true → length piece ≡ 0) → v1.has_ended ≡ v.has_ended
+      → Passes took v s o v1 s1 o1 (take n piece) → ((b : List ℕ) (fs : List Framed) → HasExamined v1 b fs → HasExamined v2 (b ++ slice_range piece n (n + m)) fs)
+      → PassesPart v s o v2 s1 o1 (take (n + m) piece)
+  part_pushed v v1 v2 s s1 o o1 piece n m going same p counts s0 o0 ps b x =
+      let e : Bool = v.has_ended in
       let k = p s0 o0 ps b x in
       let fs : List Framed = known_frames v1.has_ended (b ++ take n piece) in
-      record { framer = subst (λ (l : List ℕ). HasExamined v2 l fs) (take_block b piece n m) (counts (b ++ take n piece) fs k.passed.framer); taken = k.passed.taken }
-
-  -- the sink failed at a frame of this block
-  pub breaks_block : (broke : Breaking S O) (v v1 v2 : FramerValue) (s s1 s2 : S) (o o1 o2 : O) (piece : List ℕ) (n m : ℕ) → (v.has_ended ≡ true → length piece ≡ 0)
-      → v1.has_ended ≡ v.has_ended → v2.has_ended ≡ v1.has_ended → Passes took v s o v1 s1 o1 (take n piece)
-      → ((b : List ℕ) (fs : List Framed) → HasExamined v1 b fs → HasExamined v2 (b ++ slice_range piece n (n + m)) fs)
-      → BreaksKnown took broke v2.has_ended v2 s1 o1 s2 o2 → Breaks took broke v s o s2 o2 piece
-  breaks_block broke v v1 v2 s s1 s2 o o1 o2 piece n m going same1 same2 p counts q s0 o0 ps b x =
-      let e : Bool = v.has_ended in
-      let fs : List Framed = known_frames v1.has_ended (b ++ take n piece) in
-      let k = q s0 o0 ps (b ++ take (n + m) piece) fs (pushed v v1 v2 s s1 o o1 piece n m p counts s0 o0 ps b x) in
       let first : IsPrefix (known_frames e b) fs =
-      subst (λ (h : Bool). IsPrefix (known_frames e b) (known_frames h (b ++ take n piece))) (sym same1) (known_later e b (take n piece) (λ h. omega (arith, going h, length-take n piece))) in
+      subst (λ (h : Bool). IsPrefix (known_frames e b) (known_frames h (b ++ take n piece))) (sym same) (known_later e b (take n piece) (λ h. omega (arith, going h, length-take n piece))) in
+      (fs, first, record { framer = subst (λ (l : List ℕ). HasExamined v2 l fs) (take_block b piece n m) (counts (b ++ take n piece) fs k.passed.framer); taken = k.passed.taken })
+
+  -- the sink failed at a frame of the first n bytes of a piece
+  pub part_breaks : (broke : Breaking S O) (v v1 : FramerValue) (s s1 s2 : S) (o o1 o2 : O) (piece : List ℕ) (n : ℕ) → (v.has_ended ≡ true → length piece ≡ 0)
+      → v1.has_ended ≡ v.has_ended → PassesPart v s o v1 s1 o1 (take n piece) → BreaksKnown took broke v1.has_ended v1 s1 o1 s2 o2 → Breaks took broke v s o s2 o2 piece
+  part_breaks broke v v1 s s1 s2 o o1 o2 piece n going same p q s0 o0 ps b x =
+      let e : Bool = v.has_ended in
+      let y = p s0 o0 ps b x in
+      let k = q s0 o0 ps (b ++ take n piece) y.0 y.2 in
       record {
         taken = k.taken;
         reached = k.reached;
-        first = prefix_trans (known_frames e b) fs k.taken first k.first;
-        known = prefix_later e v2.has_ended b piece (n + m) k.reached (same2 ∙ same1) going k.known;
+        first = prefix_trans (known_frames e b) y.0 k.taken y.1 k.first;
+        known = prefix_later e v1.has_ended b piece n k.reached same going k.known;
         broken = k.broken;
       }
 

@@ -43,27 +43,6 @@ impl Framer {
         Ok(())
     }
 
-    /// Passes the frames of the held bytes to the sink, unless it is known that they decide none.
-    fn drain_held<O, S: FrameSink<O>>(
-        &mut self,
-        frame: &mut Frame,
-        sink: &mut S,
-        out: &mut O,
-    ) -> Result<(), S::Fault>
-        requires { S.can_take sink.old }
-        ensures goes { S.can_take sink.new }
-        ensures whole { OnOk result (Passes S.took self.old sink.old out.old self.new sink.new out.new []) }
-        ensures part { OnErr result (Breaks S.took S.broke self.old sink.old out.old sink.new out.new []) }
-        ensures ready { OnOk result (self.new.is_ready ≡ true) }
-        ensures ended { self.new.has_ended ≡ self.old.has_ended }
-        ensures same { IsSameStream self.old self.new }
-    {
-        if self.ready() {
-            return Ok(());
-        }
-        self.drain_into(frame, sink, out)
-    }
-
     /// Accepts these bytes up to the limit, passes each frame to the sink as soon as it is decided,
     /// and returns the number of bytes accepted.
     fn take_piece<O, S: FrameSink<O>>(
@@ -83,11 +62,11 @@ impl Framer {
     {
         // Brings the bound on the number of accepted bytes into the proof.
         let _ = self.taken();
-        if let Err(fault) = self.drain_held(frame, sink, out) {
-            return Err(fault);
-        }
         let mut taken = 0;
-        while taken < piece.len() {
+        loop {
+            if let Err(fault) = self.drain_into(frame, sink, out) {
+                return Err(fault);
+            }
             let next = taken + self.room().min(piece.len() - taken);
             if next == taken {
                 return Ok(taken);
@@ -96,11 +75,7 @@ impl Framer {
                 unreachable!()
             };
             taken = next;
-            if let Err(fault) = self.drain_into(frame, sink, out) {
-                return Err(fault);
-            }
         }
-        Ok(taken)
     }
 
     /// Accepts these bytes up to the limit, passes each frame to the sink as soon as it is decided,

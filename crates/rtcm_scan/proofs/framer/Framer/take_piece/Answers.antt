@@ -1,83 +1,90 @@
-use Rattle.std.proofs.Common.{◌≡◌, ◌≤◌, ◌+◌, ◌∙◌, ap, sym, subst, refl, add-zero, arith, ℕ, length, slice_range}
+use Rattle.std.proofs.Common.{◌≡◌, ◌≤◌, ◌+◌, ◌∙◌, ap, sym, subst, refl, add-zero, arith, ℕ, length, slice_range, take}
 use Rattle.rtcm_scan.specs.Scan.{FramerValue}
-use Rattle.rtcm_scan.proofs.PassingLemmas.{prefix_later, at_limit, same_continues, continues_most, continues_block, pushed, breaks_block}
+use Rattle.rtcm_scan.proofs.PassingLemmas.{at_limit, continues_most, continues_same, continues_block, part_none, part_drained, part_pushed, part_breaks}
 use Rattle.rtcm_scan.proofs.framer.Framer.take_piece.Goals as goal
 
+pub loop-fault-init : goal.loop-fault-init
+loop-fault-init g c = record {
+  passes = part_none g.S.FrameSink.took c.args.self.now c.args.sink.now c.args.out.now;
+  can = c.requires.can;
+  bound = omega arith;
+  taken = sym (add-zero c.args.self.now.taken);
+  same = record {
+    least = omega arith;
+    most = omega arith;
+    within = subst (λ (n : ℕ). n ≤ c.args.self.now.limit) c.taken.ensures.value c.taken.ensures.within.0;
+    limit = refl;
+    ended = refl;
+    some = λ h. h;
+  };
+}
+
+pub drain_into-requires : goal.drain_into-requires
+drain_into-requires g c = c.loop-fault.invariant.can
+
+pub returns-in-Err-clause-goes : goal.returns-in-Err-clause-goes
+returns-in-Err-clause-goes g c = c.drain_into.ensures.goes
+
+pub returns-in-Err-clause-whole : goal.returns-in-Err-clause-whole
+returns-in-Err-clause-whole g c = tt
+
 pub returns-in-Err-clause-part : goal.returns-in-Err-clause-part
-returns-in-Err-clause-part g c = λ s o ps b x.
-    let e = c.args.self.now.has_ended in
-    let p = c.in-Err.ensures.part s o ps b x in
-    record {
-      taken = p.taken;
-      reached = p.reached;
-      first = p.first;
-      known = prefix_later e e b c.args.piece.now 0 p.reached refl c.requires.going p.known;
-      broken = p.broken;
-    }
+returns-in-Err-clause-part g c =
+    let i = c.loop-fault.invariant in
+    part_breaks g.S.FrameSink.took g.S.FrameSink.broke c.args.self.now c.loop-fault.self c.args.sink.now c.loop-fault.sink c.drain_into.new.sink c.args.out.now c.loop-fault.out c.drain_into.new.out
+    c.args.piece.now c.loop-fault.taken c.requires.going i.same.ended i.passes c.in-Err.ensures.part
 
 pub returns-in-Err-clause-same : goal.returns-in-Err-clause-same
-returns-in-Err-clause-same g c = same_continues _ _ _ (subst (λ (n : ℕ). n ≤ c.args.self.now.limit) c.taken.ensures.value c.taken.ensures.within.0) c.drain_held.ensures.ended c.drain_held.ensures.same
+returns-in-Err-clause-same g c =
+    let i = c.loop-fault.invariant in
+    continues_most _ _ _ _ i.bound (continues_same _ _ _ _ i.same c.drain_into.ensures.ended c.drain_into.ensures.same)
 
-pub loop-taken-init : goal.loop-taken-init
-loop-taken-init g c = record {
-  passes = c.in_default.ensures.whole;
-  can = c.drain_held.ensures.goes;
-  bound = omega arith;
-  taken = c.drain_held.ensures.same.taken ∙ sym (add-zero c.args.self.now.taken);
-  ready = c.in_default.ensures.ready;
-  same = same_continues _ _ _ (subst (λ (n : ℕ). n ≤ c.args.self.now.limit) c.taken.ensures.value c.taken.ensures.within.0) c.drain_held.ensures.ended c.drain_held.ensures.same;
-}
+pub overflow_sub-piece : goal.overflow_sub-piece
+overflow_sub-piece g c = c.loop-fault.invariant.bound
+
+pub returns-then-next-taken-clause-goes : goal.returns-then-next-taken-clause-goes
+returns-then-next-taken-clause-goes g c = c.drain_into.ensures.goes
 
 pub returns-then-next-taken-clause-whole : goal.returns-then-next-taken-clause-whole
 returns-then-next-taken-clause-whole g c =
-    let i = c.loop-taken.invariant in
-    let none : c.room.result ≡ 0 = omega (arith, c.if-next-taken.true, c.min.ensures, c.loop-taken-test.true) in
+    let i = c.loop-fault.invariant in
+    let d = c.in_default.ensures in
     record {
-      passes = i.passes;
+      passes = part_drained g.S.FrameSink.took c.args.self.now c.loop-fault.self c.drain_into.new.self c.args.sink.now c.loop-fault.sink c.drain_into.new.sink c.args.out.now c.loop-fault.out c.drain_into.new.out
+          (take c.loop-fault.taken c.args.piece.now) i.passes d.whole;
       bound = i.bound;
-      taken = i.taken;
-      full = λ _. at_limit _ _ c.room.result (c.room.ensures.some i.ready) none c.room.ensures.within ∙ i.same.limit;
-      ready = i.ready;
+      taken = c.drain_into.ensures.same.taken ∙ i.taken;
+      full = λ l. (let none : c.room.result ≡ 0 = omega (arith, c.if-next-taken.true, c.min.ensures, l) in
+          at_limit _ _ c.room.result (c.room.ensures.some d.ready) none c.room.ensures.within ∙ c.drain_into.ensures.same.limit ∙ i.same.limit);
+      ready = d.ready;
     }
 
+pub returns-then-next-taken-clause-part : goal.returns-then-next-taken-clause-part
+returns-then-next-taken-clause-part g c = tt
+
 pub returns-then-next-taken-clause-same : goal.returns-then-next-taken-clause-same
-returns-then-next-taken-clause-same g c = continues_most _ _ _ _ c.loop-taken.invariant.bound c.loop-taken.invariant.same
+returns-then-next-taken-clause-same g c =
+    let i = c.loop-fault.invariant in
+    continues_most _ _ _ _ i.bound (continues_same _ _ _ _ i.same c.drain_into.ensures.ended c.drain_into.ensures.same)
 
-pub returns-in-Err-drain_into-clause-part : goal.returns-in-Err-drain_into-clause-part
-returns-in-Err-drain_into-clause-part g c =
-    let i = c.loop-taken.invariant in
-    let push = c.in-Ok.ensures in
-    breaks_block g.S.FrameSink.took g.S.FrameSink.broke c.args.self.now c.loop-taken.self c.push_all.new.self c.args.sink.now c.loop-taken.sink c.drain_into.new.sink c.args.out.now c.loop-taken.out c.drain_into.new.out
-    c.args.piece.now c.loop-taken.taken c.min.result c.requires.going i.same.ended push.same.1 i.passes push.counts c.in-Err-drain_into.ensures.part
+pub loop-fault-smaller : goal.loop-fault-smaller
+loop-fault-smaller g c = omega (arith, c.if-next-taken.false, c.min.ensures, c.loop-fault.invariant.bound)
 
-pub returns-in-Err-drain_into-clause-same : goal.returns-in-Err-drain_into-clause-same
-returns-in-Err-drain_into-clause-same g c =
-    let i = c.loop-taken.invariant in
+pub loop-fault-preserved : goal.loop-fault-preserved
+loop-fault-preserved g c =
+    let i = c.loop-fault.invariant in
+    let d = c.in_default.ensures in
     let push = c.in-Ok.ensures in
-    let size : length (slice_range c.args.piece.now c.loop-taken.taken (c.loop-taken.taken + c.min.result)) ≡ c.min.result = omega (arith, c.min.ensures, i.bound) in
-    let within : c.loop-taken.taken + c.min.result ≤ length c.args.piece.now = omega (arith, c.min.ensures, i.bound) in
-    continues_most _ _ _ _ within (continues_block c.args.self.now c.loop-taken.self c.push_all.new.self c.drain_into.new.self c.loop-taken.taken c.min.result _ size i.same push.ok push.within push.counts c.drain_into.ensures.ended c.drain_into.ensures.same)
-
-pub loop-taken-preserved : goal.loop-taken-preserved
-loop-taken-preserved g c =
-    let i = c.loop-taken.invariant in
-    let push = c.in-Ok.ensures in
-    let size : length (slice_range c.args.piece.now c.loop-taken.taken (c.loop-taken.taken + c.min.result)) ≡ c.min.result = omega (arith, c.min.ensures, i.bound) in
-    let taken : c.push_all.new.self.taken ≡ c.loop-taken.self.taken + length (slice_range c.args.piece.now c.loop-taken.taken (c.loop-taken.taken + c.min.result)) = ap (λ (v : FramerValue). v.taken) push.ok in
+    let same = continues_same _ _ _ _ i.same c.drain_into.ensures.ended c.drain_into.ensures.same in
+    let size : length (slice_range c.args.piece.now c.loop-fault.taken (c.loop-fault.taken + c.min.result)) ≡ c.min.result = omega (arith, c.min.ensures, i.bound) in
+    let taken : c.push_all.new.self.taken ≡ c.drain_into.new.self.taken + length (slice_range c.args.piece.now c.loop-fault.taken (c.loop-fault.taken + c.min.result)) = ap (λ (v : FramerValue). v.taken) push.ok in
     record {
-      passes = λ s o ps b x. c.in_default-drain_into.ensures.whole s o ps _ _
-          (pushed g.S.FrameSink.took c.args.self.now c.loop-taken.self c.push_all.new.self c.args.sink.now c.loop-taken.sink c.args.out.now c.loop-taken.out c.args.piece.now c.loop-taken.taken c.min.result i.passes push.counts s o ps b x);
+      passes = part_pushed g.S.FrameSink.took c.args.self.now c.drain_into.new.self c.push_all.new.self c.args.sink.now c.drain_into.new.sink c.args.out.now c.drain_into.new.out
+          c.args.piece.now c.loop-fault.taken c.min.result c.requires.going same.ended
+          (part_drained g.S.FrameSink.took c.args.self.now c.loop-fault.self c.drain_into.new.self c.args.sink.now c.loop-fault.sink c.drain_into.new.sink c.args.out.now c.loop-fault.out c.drain_into.new.out
+          (take c.loop-fault.taken c.args.piece.now) i.passes d.whole) push.counts;
       can = c.drain_into.ensures.goes;
       bound = omega (arith, c.min.ensures, i.bound);
       taken = omega (arith, taken, size, c.drain_into.ensures.same.taken, i.taken);
-      ready = c.in_default-drain_into.ensures.ready;
-      same = continues_block c.args.self.now c.loop-taken.self c.push_all.new.self c.drain_into.new.self c.loop-taken.taken c.min.result _ size i.same push.ok push.within push.counts c.drain_into.ensures.ended c.drain_into.ensures.same;
+      same = continues_block c.args.self.now c.drain_into.new.self c.push_all.new.self c.loop-fault.taken c.min.result _ size same push.ok push.within push.counts;
     }
-
-pub returns-clause-whole : goal.returns-clause-whole
-returns-clause-whole g c =
-    let i = c.loop-taken.invariant in
-    record { passes = i.passes; bound = i.bound; taken = i.taken; full = λ l. absurd (omega (arith, l, c.loop-taken-test.false)); ready = i.ready }
-
-pub returns-clause-same : goal.returns-clause-same
-returns-clause-same g c = continues_most _ _ _ _ c.loop-taken.invariant.bound c.loop-taken.invariant.same
