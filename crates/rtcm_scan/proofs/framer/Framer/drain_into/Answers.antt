@@ -14,6 +14,12 @@ loop-offset-init g c = record {
   some = λ h. h;
 }
 
+pub take-requires : goal.take-requires
+take-requires g c = c.loop-offset.invariant.can
+
+pub loop-offset-smaller : goal.loop-offset-smaller
+loop-offset-smaller g c = c.in-Some.ensures.less
+
 pub loop-offset-preserved : goal.loop-offset-preserved
 loop-offset-preserved g c =
     let i = c.loop-offset.invariant in
@@ -29,32 +35,30 @@ loop-offset-preserved g c =
       some = λ h. (let m = i.some h in (m.0, m.1 ++ f ∷ [], (n.some_counts m.0 m.1 m.2).0));
     }
 
-pub returns-in-Err-clause-part : goal.returns-in-Err-clause-part
-returns-in-Err-clause-part g c =
-    breaks_at g.S.FrameSink.took g.S.FrameSink.broke c.args.self.now c.loop-offset.self c.next_into.new.self c.args.sink.now c.loop-offset.sink c.take.new.self c.args.out.now c.loop-offset.out c.take.new.out _
-    c.loop-offset.invariant.passed (c.in-Some.ensures.same.ended ∙ c.loop-offset.invariant.ended) c.in-Some.ensures.some_counts c.in-Err.ensures.part
-
-pub returns-clause-whole : goal.returns-clause-whole
-returns-clause-whole g c =
-    passes_known g.S.FrameSink.took c.args.self.now c.loop-offset.self c.next_into.new.self c.args.sink.now c.loop-offset.sink c.args.out.now c.loop-offset.out
-    c.loop-offset.invariant.passed c.in_default.ensures.none c.in_default.ensures.none_counts
-
-pub returns-in-Err-clause-same : goal.returns-in-Err-clause-same
-returns-in-Err-clause-same g c =
+pub returns-in-Err : goal.returns-in-Err
+returns-in-Err g c =
     let i = c.loop-offset.invariant in
     let n = c.in-Some.ensures in
     record {
-      limit = n.same.limit ∙ i.limit;
-      taken = n.same.taken ∙ i.taken;
-      some = λ h. (let m = i.some h in (m.0, _, (n.some_counts m.0 m.1 m.2).0));
+      goes = c.take.ensures.goes;
+      whole = tt;
+      part = (breaks_at g.S.FrameSink.took g.S.FrameSink.broke c.args.self.now c.loop-offset.self c.next_into.new.self c.args.sink.now c.loop-offset.sink c.take.new.self c.args.out.now c.loop-offset.out c.take.new.out _
+          c.loop-offset.invariant.passed (c.in-Some.ensures.same.ended ∙ c.loop-offset.invariant.ended) c.in-Some.ensures.some_counts c.in-Err.ensures.part);
+      ready = tt;
+      ended = n.same.ended ∙ i.ended;
+      same = record { limit = n.same.limit ∙ i.limit; taken = n.same.taken ∙ i.taken; some = λ h. (let m = i.some h in (m.0, _, (n.some_counts m.0 m.1 m.2).0)) };
     }
 
-pub returns-clause-same : goal.returns-clause-same
-returns-clause-same g c =
+pub returns : goal.returns
+returns g c =
     let i = c.loop-offset.invariant in
     let n = c.in_default.ensures in
     record {
-      limit = n.same.limit ∙ i.limit;
-      taken = n.same.taken ∙ i.taken;
-      some = λ h. (let m = i.some h in (m.0, m.1, (n.none_counts m.0 m.1 m.2).0));
+      goes = i.can;
+      whole = (passes_known g.S.FrameSink.took c.args.self.now c.loop-offset.self c.next_into.new.self c.args.sink.now c.loop-offset.sink c.args.out.now c.loop-offset.out
+          c.loop-offset.invariant.passed c.in_default.ensures.none c.in_default.ensures.none_counts);
+      part = tt;
+      ready = n.ready;
+      ended = n.same.ended ∙ i.ended;
+      same = record { limit = n.same.limit ∙ i.limit; taken = n.same.taken ∙ i.taken; some = λ h. (let m = i.some h in (m.0, m.1, (n.none_counts m.0 m.1 m.2).0)) };
     }
