@@ -1,7 +1,31 @@
-use Rattle.std.proofs.Common.{sym, ap, ◌∙◌, ◌≡◌, ◌+◌, ◌≤◌, length, arith, false}
+use Rattle.std.proofs.Common.{sym, ap, ◌∙◌, ◌≡◌, ◌+◌, ◌≤◌, length, arith, false, refl, rules, true≢false}
 use Rattle.rtcm_scan.specs.Scan.{FramerValue}
 use Rattle.rtcm_scan.proofs.PushLemmas.{stands_push_all, step_push_all, view_pushed_all}
 use Rattle.rtcm_scan.proofs.framer.Framer.push_all.Goals as goal
+
+pub returns-then-self : goal.returns-then-self
+returns-then-self c = record {
+  answer = rw (← c.self.view_is, c.if-self.true) refl;
+  history = tt;
+  counts = tt;
+  ok = tt;
+  long = λ e. absurd (true≢false (sym c.if-self.true ∙ ap (λ (v : FramerValue). v.has_ended) c.self.view_is ∙ e));
+  err = refl;
+  within = rw (← c.self.view_is) c.self.invariant.0;
+  same = (refl, refl);
+}
+
+pub returns-then-self-taken : goal.returns-then-self-taken
+returns-then-self-taken c = record {
+  answer = search rules;
+  history = tt;
+  counts = tt;
+  ok = tt;
+  long = λ _. search rules;
+  err = refl;
+  within = rw (← c.self.view_is) c.self.invariant.0;
+  same = (refl, refl);
+}
 
 pub returns-else-self-taken-clause-history : goal.returns-else-self-taken-clause-history
 returns-else-self-taken-clause-history c = λ b fs s.
@@ -22,3 +46,9 @@ returns-else-self-taken-clause-counts c = λ b fs s.
     let w : c.args.self.now.taken + length c.args.bytes.now ≤ c.args.self.now.limit = omega (arith, t, l, i, c.taken.ensures.value, c.if-self-taken.false) in
     rw (view_pushed_all c.args.self.now c.self.inside.limit c.self.inside.place c.self.inside.given_up c.self.inside.candidate.count c.self.inside.window c.push_all.new.self c.self.inside.ended c.self.inside.drained c.args.bytes.now c.self.view_is c.push_all.ensures)
     (step_push_all c.args.self.now b c.args.bytes.now fs n w s)
+
+pub returns-else-self-taken-clause-long : goal.returns-else-self-taken-clause-long
+returns-else-self-taken-clause-long c = tt
+
+pub returns-else-self-taken-clause-err : goal.returns-else-self-taken-clause-err
+returns-else-self-taken-clause-err c = tt
