@@ -1,3 +1,4 @@
+use Rattle.std.proofs.Common.{rules, refl, inl, inr}
 use Rattle.rtcm_scan.proofs.MomentLemmas.{counts_new, drained_new, counted_new}
 use Rattle.rtcm_scan.proofs.framer.Framer.new.Goals as goal
 
@@ -9,3 +10,17 @@ returns-in-Ok-clause-drained c = drained_new c.args.limit c.new-in-Ok.result.cou
 
 pub returns-in-Ok-clause-counted : goal.returns-in-Ok-clause-counted
 returns-in-Ok-clause-counted c = counted_new c.args.limit c.new-in-Ok.result.count c.in-Ok.window c.in-Ok.ensures
+
+pub returns-then-limit-gt-MOST_BYTES : goal.returns-then-limit-gt-MOST_BYTES
+returns-then-limit-gt-MOST_BYTES c = record {
+  new = tt;
+  history = tt;
+  counts = tt;
+  drained = tt;
+  counted = tt;
+  bad_limit = (λ _. c.if-limit-gt-MOST_BYTES.true, λ _. refl);
+  only = inl refl;
+}
+
+pub returns-in-Err : goal.returns-in-Err
+returns-in-Err c = record { new = tt; history = tt; counts = tt; drained = tt; counted = tt; bad_limit = search rules; only = inr refl }

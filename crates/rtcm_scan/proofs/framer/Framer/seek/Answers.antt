@@ -78,3 +78,21 @@ returns-clause-none_counts c = λ b fs s. elim c.loop-self-test.branch [
       (counts_open c.loop-self.self w.decide.new.self c.loop-self-test.self c.set_drained.new.self b fs w.in-Open.ensures.examined w.self-is c.set_drained.ensures.drained o.2
       (omega (arith, c.held.ensures.value, w.loop-self-test.true)) o.1 w.in-Open.ensures.tried (c.loop-self.invariant.counts b fs s)).1)
 ]
+
+pub returns-in-Found-clause-none : goal.returns-in-Found-clause-none
+returns-in-Found-clause-none c = tt
+
+pub returns-in-Found-clause-none_counts : goal.returns-in-Found-clause-none_counts
+returns-in-Found-clause-none_counts c = tt
+
+pub returns-in-Found-clause-ready : goal.returns-in-Found-clause-ready
+returns-in-Found-clause-ready c = tt
+
+pub returns-in-Found-clause-room : goal.returns-in-Found-clause-room
+returns-in-Found-clause-room c = tt
+
+pub returns-clause-begins : goal.returns-clause-begins
+returns-clause-begins c = tt
+
+pub returns-clause-waits : goal.returns-clause-waits
+returns-clause-waits c = tt
