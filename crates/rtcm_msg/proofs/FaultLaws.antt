@@ -1,5 +1,5 @@
 -- The result of reading bits: the value, or the fault.
-use Rattle.std.proofs.Common.{ℕ, zero, suc, ◌≡◌, ◌+◌, ◌*◌, ◌^◌, ◌<◌, ◌≤◌, Bool, List, [], ◌∷◌, ◌++◌, length, Result, Ok, Err, None, refl, sym, ap, ◌∙◌, arith, ◌⊎◌, inl, inr, replicate, count_ones}
+use Rattle.std.proofs.Common.{ℕ, zero, suc, ◌≡◌, ◌+◌, ◌*◌, ◌^◌, ◌<◌, ◌≤◌, Bool, List, [], ◌∷◌, ◌++◌, length, Result, Ok, Err, None, refl, ap, ◌∙◌, arith, ◌⊎◌, inl, inr, replicate, count_ones}
 use Rattle.std.proofs.lemmas.Bool.{cases_lt}
 use Rattle.std.proofs.lemmas.List.{length-replicate, length-drop}
 use Rattle.rtcm_bits.specs.Cursors.{Cursor}
@@ -10,10 +10,10 @@ use Rattle.rtcm_msg.specs.Fields.{number_at, ◌>>=◌, first_past}
 use Rattle.rtcm_msg.specs.Packed.{total_width}
 use Rattle.rtcm_msg.specs.Columns.{column_at, columns_at}
 use Rattle.rtcm_msg.specs.Encoding.{repeated}
-use Rattle.rtcm_msg.specs.Msm.{time_table, header_table, mask_table, header_of, header_at, masks_at, msm_at, week, MsmValue, MasksValue, pair_count}
+use Rattle.rtcm_msg.specs.Msm.{time_table, header_table, mask_table, header_of, header_at, masks_at, msm_at, week, MsmValue, pair_count}
 use Rattle.rtcm_msg.proofs.FieldLaws.{contents_at, fields_at, cursor_at, field_at, number_there_at, ShortAt, short_at_more, short_at_after, fields_read, past_none, past_through}
-use Rattle.rtcm_msg.proofs.Binds.{number_short, ok_inj}
-use Rattle.rtcm_msg.proofs.Combine.{past_here, past_next, ok_err}
+use Rattle.rtcm_msg.proofs.Binds.{number_short}
+use Rattle.rtcm_msg.proofs.Combine.{past_here, past_next}
 use Rattle.rtcm_msg.proofs.MsmLaws.{head_widths, tail_widths, mask_widths, header_chain, header_rest_is, in_time, too_late, sets_chain, few_rest, many_rest}
 
 -- ---- columns
@@ -138,40 +138,6 @@ sets_end bits h = elim (fields_read mask_table bits 73 h) [
             ]
       ]
 ]
-
--- The position of the reader after the header and after the masks.
-pub record AfterHeader (bits : List Bool) (c : Cursor) : Type 0 where
-  pub is : c ≡ cursor_at bits c.place
-  pub there : c.place ≤ length bits
-  pub after : 64 ≤ c.place
-
-after_header_at : (bits : List Bool) (c : Cursor) (place : ℕ) → c ≡ cursor_at bits place → place ≤ length bits → 64 ≤ place → AfterHeader bits c
-after_header_at bits c place e h after =
-    let same : c.place ≡ place = ap (λ (x : Cursor). x.place) e in
-    record { is = e ∙ ap (cursor_at bits) (sym same); there = rw same h; after = rw same after }
-
-cursor_after_header : (bits : List Bool) (h : MsmHeader) (c : Cursor) → 12 ≤ length bits → header_at (cursor_at bits 12) ≡ Ok (h, c) → (c ≡ cursor_at bits 73) × (73 ≤ length bits)
-cursor_after_header bits h c room e = by_end (header_end bits room)
-  where
-    by_end : HeaderEnd bits → (c ≡ cursor_at bits 73) × (73 ≤ length bits)
-    by_end (no_time f few s is) = absurd (ok_err (h, c) f (header_at (cursor_at bits 12)) e is)
-    by_end (late there over is) = absurd (ok_err (h, c) BadTime (header_at (cursor_at bits 12)) e is)
-    by_end (short f early few s is) = absurd (ok_err (h, c) f (header_at (cursor_at bits 12)) e is)
-    by_end (good v early all is) = (ap (λ (x : MsmHeader × Cursor). x.1) (ok_inj (h, c) (v, cursor_at bits 73) (header_at (cursor_at bits 12)) e is), all)
-
-cursor_after_sets : (bits : List Bool) (s : MasksValue) (c : Cursor) → 73 ≤ length bits → masks_at (cursor_at bits 73) ≡ Ok (s, c) → AfterHeader bits c
-cursor_after_sets bits s c room e = by_end (sets_end bits room)
-  where
-    by_end : SetsEnd bits → AfterHeader bits c
-    by_end (no_masks f few t is) = absurd (ok_err (s, c) f (masks_at (cursor_at bits 73)) e is)
-    by_end (many there over is) = absurd (ok_err (s, c) TooManyCells (masks_at (cursor_at bits 73)) e is)
-    by_end (short f few t is) = absurd (ok_err (s, c) f (masks_at (cursor_at bits 73)) e is)
-    by_end (good few there is) = after_header_at bits c (169 + pair_count_of bits) (ap (λ (x : MasksValue × Cursor). x.1) (ok_inj (s, c) _ (masks_at (cursor_at bits 73)) e is)) there (omega arith)
-
-pub cursor_after_masks : (bits : List Bool) (h : MsmHeader) (s : MasksValue) (c d : Cursor) → 12 ≤ length bits → header_at (cursor_at bits 12) ≡ Ok (h, c) → masks_at c ≡ Ok (s, d) → AfterHeader bits d
-cursor_after_masks bits h s c d room e f =
-    let head = cursor_after_header bits h c room e in
-    cursor_after_sets bits s d head.1 (sym (ap masks_at head.0) ∙ f)
 
 -- The cases of the data.
 data DataEnd (sw cw : List ℕ) (satellites cells : ℕ) (bits : List Bool) (place : ℕ) : Type 0 where

@@ -83,17 +83,17 @@ unfolding body_at
 body_msm7 true c = refl
 body_msm7 false c = refl
 
-message_there : (bits : List Bool) → 12 ≤ length bits → message_of bits ≡ body_at (number_of bits) (cursor_at bits 12)
+pub message_there : (bits : List Bool) → 12 ≤ length bits → message_of bits ≡ body_at (number_of bits) (cursor_at bits 12)
 unfolding message_of
 message_there bits h = rw (number_there_at 12 bits 0 h) refl
 
-message_none : (bits : List Bool) → length bits < 12 → message_of bits ≡ Err (Short 0)
+pub message_none : (bits : List Bool) → length bits < 12 → message_of bits ≡ Err (Short 0)
 unfolding message_of
 message_none bits h = rw (number_short 12 (start bits) h) refl
 
 -- ---- other messages
 
-other_set : (bits : List Bool) → 12 ≤ length bits → set_at (cursor_at bits 12) ≡ (if nat_le 55 (length bits) then Some (field_at bits 12 12, field_at bits 54 1 == 1) else None)
+pub other_set : (bits : List Bool) → 12 ≤ length bits → set_at (cursor_at bits 12) ≡ (if nat_le 55 (length bits) then Some (field_at bits 12 12, field_at bits 54 1 == 1) else None)
 other_set bits h = elim (cases_lt (length bits) 55) [ inl few ↦ none bits few | inr lots ↦ some bits lots ]
   where
     none : (bits : List Bool) → length bits < 55 → set_at (cursor_at bits 12) ≡ (if nat_le 55 (length bits) then Some (field_at bits 12 12, field_at bits 54 1 == 1) else None)
@@ -287,7 +287,7 @@ short_fault bits ws e h clean is s = subst (IsFault bits) (sym s.is) (clean.time
 past_all : (bits : List Bool) (ws : List ℕ) → 12 ≤ length bits → layout bits ≡ 12 ∷ ws → first_past (length bits) 12 ws ≡ None → first_past (length bits) 0 (layout bits) ≡ None
 past_all bits ws h is none = ap (first_past (length bits) 0) is ∙ (past_next 12 ws (length bits) 0 h ∙ none)
 
-station_end : (bits : List Bool) (has : Bool) → 12 ≤ length bits
+pub station_end : (bits : List Bool) (has : Bool) → 12 ≤ length bits
     → ((e : MsgFault) × (station_at has (cursor_at bits 12) ≡ Err e) × ShortAt bits 12 (station_widths ++ height_widths has) e) ⊎ ((v : StationParts × Cursor) × (station_at has (cursor_at bits 12) ≡ Ok v) × (first_past (length bits) 12 (station_widths ++ height_widths has) ≡ None))
 station_end bits has h = elim (fields_read station_table bits 12 h) [
   | inl few ↦ inl (few.1.0, station_chain has (cursor_at bits 12) ∙ rw few.1.1 refl, short_at_more station_widths (height_widths has) bits 12 few.1.0 few.1.2)

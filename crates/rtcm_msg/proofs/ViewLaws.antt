@@ -1,12 +1,12 @@
 -- The message of a view is the one that `decode` returns.
 use Rattle.std.proofs.Common.{ℕ, ◌≡◌, ◌+◌, ◌*◌, ◌^◌, ◌<◌, ◌≤◌, Bool, List, length, slice_index, Result, Ok, Err, refl, sym, ap, subst, ◌∙◌, arith, replicate, count_ones}
 use Rattle.rtcm_bits.specs.Bits.{bits_of}
-use Rattle.rtcm_bits.specs.Cursors.{Cursor, advanced, unsigned_at}
+use Rattle.rtcm_bits.specs.Cursors.{Cursor}
 use Rattle.rtcm_bits.specs.BitLaws.{length-bits_of}
 use Rattle.rtcm_msg.specs.declared.fault.MsgFault.{MsgFault}
 use Rattle.rtcm_msg.specs.declared.header.MsmHeader.{MsmHeader}
 use Rattle.rtcm_msg.specs.declared.view.Form.{Form}
-use Rattle.rtcm_msg.specs.Fields.{cursor_at, number_at}
+use Rattle.rtcm_msg.specs.Fields.{cursor_at}
 use Rattle.rtcm_msg.specs.Packed.{total_width}
 use Rattle.rtcm_msg.specs.Columns.{columns_at, EachBelow}
 use Rattle.rtcm_msg.specs.Msm.{MasksValue, IsHeader, AreMasks, IsValue, header_at, masks_at, msm_at}
@@ -16,8 +16,6 @@ use Rattle.rtcm_msg.specs.Rows.{rows_at, row_at, end_of_rows}
 use Rattle.rtcm_msg.specs.declared.view.Data.{Data}
 use Rattle.rtcm_msg.specs.declared.view.Data.TheVariants as datas
 use Rattle.rtcm_msg.specs.Views.{satellite_widths, cell_widths, satellite_rows, cell_rows, message_in, formed_at, AreWithin, AreDataOf}
-use Rattle.rtcm_msg.proofs.Binds.{ok_inj, number_consumed, number_there}
-use Rattle.rtcm_msg.proofs.FaultLaws.{AfterHeader, cursor_after_masks}
 use Rattle.rtcm_msg.proofs.ColumnSteps.{columns_fit}
 use Rattle.rtcm_msg.proofs.RowLaws.{Ends, rows_end, rows_count, end_is, row_is}
 
@@ -28,6 +26,14 @@ pub msm_good : (sw cw : List ℕ) (g : Bool) (c0 c1 c2 c3 c4 : Cursor) (h : MsmH
     → msm_at sw cw g c0 ≡ Ok (record { is_galileo = g; header = h; sets = s; satellites = xs; cells = ys }, c4)
 unfolding msm_at
 msm_good sw cw g c0 c1 c2 c3 c4 h s xs ys e f i j = rw (e, f, i, j) refl
+
+pub no_header : (form : Form) (g : Bool) (c : Cursor) (x : MsgFault) → header_at c ≡ Err x → formed_at form g c ≡ Err x
+unfolding msm_at
+no_header form g c x e = rw e refl
+
+pub no_masks : (form : Form) (g : Bool) (c d : Cursor) (h : MsmHeader) (x : MsgFault) → header_at c ≡ Ok (h, d) → masks_at d ≡ Err x → formed_at form g c ≡ Err x
+unfolding msm_at
+no_masks form g c d h x e f = rw (e, f) refl
 
 pub msm_first : (sw cw : List ℕ) (g : Bool) (c0 c1 c2 : Cursor) (h : MsmHeader) (s : MasksValue) (x : MsgFault) → header_at c0 ≡ Ok (h, c1) → masks_at c1 ≡ Ok (s, c2)
     → columns_at sw (replicate (count_ones s.satellites) 0) c2 ≡ Err x → msm_at sw cw g c0 ≡ Err x
@@ -51,34 +57,40 @@ data_read ws bits n m place x same h e = ends bits (end_of_rows ws m (length bit
 pub formed_short : (form : Form) (g : Bool) (c0 : Cursor) (x : MsgFault) → msm_at (satellite_widths form) (cell_widths form) g c0 ≡ Err x → formed_at form g c0 ≡ Err x
 formed_short form g c0 x e = rw e refl
 
-pub first_short : (form : Form) (g : Bool) (bits : List Bool) (c0 c1 c2 : Cursor) (h : MsmHeader) (s : MasksValue) (n : ℕ) (x : MsgFault) → header_at c0 ≡ Ok (h, c1) → masks_at c1 ≡ Ok (s, c2)
-    → c2 ≡ cursor_at bits c2.place → c2.place ≤ length bits → n ≡ count_ones s.satellites → Err x ≡ end_of_rows (satellite_widths form) n (length bits) c2.place → formed_at form g c0 ≡ Err x
-first_short form g bits c0 c1 c2 h s n x e f at_masks there same short =
-    let read = data_read (satellite_widths form) bits n (count_ones s.satellites) c2.place (Err x) same there short in
-    formed_short form g c0 x (msm_first (satellite_widths form) (cell_widths form) g c0 c1 c2 h s x e f (ap (columns_at (satellite_widths form) (replicate (count_ones s.satellites) 0)) at_masks ∙ read))
-
-pub second_short : (form : Form) (g : Bool) (bits : List Bool) (c0 c1 c2 : Cursor) (h : MsmHeader) (s : MasksValue) (n m at : ℕ) (x : MsgFault) → header_at c0 ≡ Ok (h, c1) → masks_at c1 ≡ Ok (s, c2)
-    → c2 ≡ cursor_at bits c2.place → c2.place ≤ length bits → n ≡ count_ones s.satellites → m ≡ count_ones s.cells → Ok at ≡ end_of_rows (satellite_widths form) n (length bits) c2.place → at ≤ length bits
-    → Err x ≡ end_of_rows (cell_widths form) m (length bits) at → formed_at form g c0 ≡ Err x
-second_short form g bits c0 c1 c2 h s n m at x e f at_masks there same same2 first room short =
-    let one = data_read (satellite_widths form) bits n (count_ones s.satellites) c2.place (Ok at) same there first in
-    let two = data_read (cell_widths form) bits m (count_ones s.cells) at (Err x) same2 room short in
-    formed_short form g c0 x (msm_second (satellite_widths form) (cell_widths form) g c0 c1 c2 (cursor_at bits at) h s _ x e f (ap (columns_at (satellite_widths form) (replicate (count_ones s.satellites) 0)) at_masks ∙ one) two)
+-- The position of the data of satellites, after the header and the masks.
+pub record AfterMasks (bytes : List ℕ) (h : MsmHeader) (s : MasksValue) (place : ℕ) : Type 0 where
+  pub header : header_at (cursor_at (bits_of bytes) 12) ≡ Ok (h, cursor_at (bits_of bytes) 73)
+  pub masks : masks_at (cursor_at (bits_of bytes) 73) ≡ Ok (s, cursor_at (bits_of bytes) place)
+  pub there : place ≤ 8 * length bytes
 
 -- The same with the terms of the code.
 pub moved : (r : Result ℕ MsgFault) (vs ws : List ℕ) (n a b p q : ℕ) → r ≡ end_of_rows vs n a p → vs ≡ ws → a ≡ b → p ≡ q → r ≡ end_of_rows ws n b q
 moved r vs ws n a b p q e f g h = e ∙ rw (f, g, h) refl
 
--- The position of the reader after the message number, and after the masks.
-pub cursor_after_number : (bytes : List ℕ) (r c : Cursor) (n : ℕ) → r ≡ record { place = 0; rest = bits_of bytes } → number_at 12 r ≡ Ok (n, c) → (12 ≤ 8 * length bytes) × (c ≡ cursor_at (bits_of bytes) 12)
-cursor_after_number bytes r c n is e =
-    let read : number_at 12 (record { place = 0; rest = bits_of bytes }) ≡ Ok (n, c) = ap (number_at 12) (sym is) ∙ e in
-    let consumed = number_consumed 12 (record { place = 0; rest = bits_of bytes }) (n, c) read in
-    let there : 12 ≤ length (bits_of bytes) = consumed.room in
-    (rw (← length-bits_of bytes) there, ap (λ (x : ℕ × Cursor). x.1) (ok_inj (n, c) (unsigned_at 12 (record { place = 0; rest = bits_of bytes }), advanced (record { place = 0; rest = bits_of bytes }) 12) _ read (number_there 12 (record { place = 0; rest = bits_of bytes }) there)))
+-- The end of data with these widths, counted in bits.
+counted : (x : Result ℕ MsgFault) (vs ws bytes : List ℕ) (n place : ℕ) → x ≡ end_of_rows vs n (8 * length bytes) place → vs ≡ ws → x ≡ end_of_rows ws n (length (bits_of bytes)) place
+counted x vs ws bytes n place e same = moved x vs ws n _ _ place place e same (sym (length-bits_of bytes)) refl
 
-pub masks_end : (bytes : List ℕ) (r c d : Cursor) (h : MsmHeader) (s : MasksValue) → 12 ≤ 8 * length bytes → r ≡ cursor_at (bits_of bytes) 12 → header_at r ≡ Ok (h, c) → masks_at c ≡ Ok (s, d) → AfterHeader (bits_of bytes) d
-masks_end bytes r c d h s room is e f = cursor_after_masks (bits_of bytes) h s c d (rw (length-bits_of bytes) room) (ap header_at (sym is) ∙ e) f
+pub first_short : (form : Form) (g : Bool) (bytes sw : List ℕ) (h : MsmHeader) (s : MasksValue) (n p : ℕ) (x : MsgFault) → AfterMasks bytes h s p → sw ≡ satellite_widths form → n ≡ s.satellites
+    → Err x ≡ end_of_rows sw (count_ones n) (8 * length bytes) p → formed_at form g (cursor_at (bits_of bytes) 12) ≡ Err x
+first_short form g bytes sw h s n p x head sws ns short =
+    let bits = bits_of bytes in
+    let ws = satellite_widths form in
+    let there : p ≤ length bits = rw (length-bits_of bytes) head.there in
+    formed_short form g (cursor_at bits 12) x (msm_first ws (cell_widths form) g (cursor_at bits 12) (cursor_at bits 73) (cursor_at bits p) h s x head.header head.masks
+    (data_read ws bits (count_ones n) (count_ones s.satellites) p (Err x) (ap count_ones ns) there (counted (Err x) sw ws bytes (count_ones n) p short sws)))
+
+pub second_short : (form : Form) (g : Bool) (bytes sw cw : List ℕ) (h : MsmHeader) (s : MasksValue) (n m p at : ℕ) (x : MsgFault) → AfterMasks bytes h s p → sw ≡ satellite_widths form → cw ≡ cell_widths form → n ≡ s.satellites → m ≡ s.cells
+    → Ok at ≡ end_of_rows sw (count_ones n) (8 * length bytes) p → at ≤ 8 * length bytes → Err x ≡ end_of_rows cw (count_ones m) (8 * length bytes) at → formed_at form g (cursor_at (bits_of bytes) 12) ≡ Err x
+second_short form g bytes sw cw h s n m p at x head sws cws ns ms first room short =
+    let bits = bits_of bytes in
+    let ws = satellite_widths form in
+    let vs = cell_widths form in
+    let there : p ≤ length bits = rw (length-bits_of bytes) head.there in
+    let there2 : at ≤ length bits = rw (length-bits_of bytes) room in
+    formed_short form g (cursor_at bits 12) x (msm_second ws vs g (cursor_at bits 12) (cursor_at bits 73) (cursor_at bits p) (cursor_at bits at) h s _ x head.header head.masks
+    (data_read ws bits (count_ones n) (count_ones s.satellites) p (Ok at) (ap count_ones ns) there (counted (Ok at) sw ws bytes (count_ones n) p first sws))
+    (data_read vs bits (count_ones m) (count_ones s.cells) at (Err x) (ap count_ones ms) there2 (counted (Err x) cw vs bytes (count_ones m) at short cws)))
 
 pub rows_counted : (ws bytes : List ℕ) (n place : ℕ) → place + n * total_width ws ≤ 8 * length bytes → length (rows_at ws n (bits_of bytes) place) ≡ n
 rows_counted ws bytes n place h = rows_count ws (bits_of bytes) n place (rw (length-bits_of bytes) h)
@@ -94,46 +106,42 @@ pub record Found (form : Form) (g : Bool) (bits : List Bool) (c0 : Cursor) (h : 
   pub satellites_there : place + n * total_width (satellite_widths form) ≤ length bits
   pub cells_there : at + m * total_width (cell_widths form) ≤ length bits
 
-pub found : (form : Form) (g : Bool) (bits : List Bool) (c0 c1 c2 : Cursor) (h : MsmHeader) (s : MasksValue) (n m at end : ℕ) → header_at c0 ≡ Ok (h, c1) → masks_at c1 ≡ Ok (s, c2)
-    → c2 ≡ cursor_at bits c2.place → c2.place ≤ length bits → n ≡ count_ones s.satellites → m ≡ count_ones s.cells → Ok at ≡ end_of_rows (satellite_widths form) n (length bits) c2.place → at ≤ length bits
-    → Ok end ≡ end_of_rows (cell_widths form) m (length bits) at → end ≤ length bits → IsHeader h → AreMasks s → Found form g bits c0 h s n c2.place m at
-found form g bits c0 c1 c2 h s n m at end e f at_masks there same same2 first room second last is_header are_sets =
+-- The message whose data end within the bits.
+pub whole : (form : Form) (g : Bool) (bytes sw cw : List ℕ) (h : MsmHeader) (s : MasksValue) (n m p at end : ℕ) → AfterMasks bytes h s p → sw ≡ satellite_widths form → cw ≡ cell_widths form → n ≡ s.satellites → m ≡ s.cells
+    → Ok at ≡ end_of_rows sw (count_ones n) (8 * length bytes) p → at ≤ 8 * length bytes → Ok end ≡ end_of_rows cw (count_ones m) (8 * length bytes) at → end ≤ 8 * length bytes
+    → IsHeader h → AreMasks s → Found form g (bits_of bytes) (cursor_at (bits_of bytes) 12) h s (count_ones n) p (count_ones m) at
+whole form g bytes vs us h s n m p at end head sws cws ns ms first room second last is_header are_sets =
+    let bits = bits_of bytes in
     let sw = satellite_widths form in
     let cw = cell_widths form in
-    let one = data_read sw bits n (count_ones s.satellites) c2.place (Ok at) same there first in
-    let two = data_read cw bits m (count_ones s.cells) at (Ok end) same2 room second in
-    let first_end : c2.place + n * total_width sw ≤ length bits = rw (← end_is sw n (length bits) c2.place at (sym first)) room in
-    let second_end : at + m * total_width cw ≤ length bits = rw (← end_is cw m (length bits) at end (sym second)) last in
-    let xs : rows_at sw n bits c2.place ≡ rows_at sw (count_ones s.satellites) bits c2.place = ap (λ (k : ℕ). rows_at sw k bits c2.place) same in
-    let ys : rows_at cw m bits at ≡ rows_at cw (count_ones s.cells) bits at = ap (λ (k : ℕ). rows_at cw k bits at) same2 in
-    let good = msm_good sw cw g c0 c1 c2 (cursor_at bits at) (cursor_at bits end) h s (rows_at sw (count_ones s.satellites) bits c2.place) (rows_at cw (count_ones s.cells) bits at) e f (ap (columns_at sw (replicate (count_ones s.satellites) 0)) at_masks ∙ one) two in
+    let there : p ≤ length bits = rw (length-bits_of bytes) head.there in
+    let there2 : at ≤ length bits = rw (length-bits_of bytes) room in
+    let there3 : end ≤ length bits = rw (length-bits_of bytes) last in
+    let e = counted (Ok at) vs sw bytes (count_ones n) p first sws in
+    let f = counted (Ok end) us cw bytes (count_ones m) at second cws in
+    let same = ap count_ones ns in
+    let same2 = ap count_ones ms in
+    let one = data_read sw bits (count_ones n) (count_ones s.satellites) p (Ok at) same there e in
+    let two = data_read cw bits (count_ones m) (count_ones s.cells) at (Ok end) same2 there2 f in
+    let first_end : p + count_ones n * total_width sw ≤ length bits = rw (← end_is sw (count_ones n) (length bits) p at (sym e)) there2 in
+    let second_end : at + count_ones m * total_width cw ≤ length bits = rw (← end_is cw (count_ones m) (length bits) at end (sym f)) there3 in
+    let xs : rows_at sw (count_ones n) bits p ≡ rows_at sw (count_ones s.satellites) bits p = ap (λ (k : ℕ). rows_at sw k bits p) same in
+    let ys : rows_at cw (count_ones m) bits at ≡ rows_at cw (count_ones s.cells) bits at = ap (λ (k : ℕ). rows_at cw k bits at) same2 in
+    let good = msm_good sw cw g (cursor_at bits 12) (cursor_at bits 73) (cursor_at bits p) (cursor_at bits at) (cursor_at bits end) h s (rows_at sw (count_ones s.satellites) bits p) (rows_at cw (count_ones s.cells) bits at) head.header head.masks one two in
     record {
       read = rw (good, xs, ys) refl;
       value = record {
         header = is_header;
         sets = are_sets;
-        satellite_count = rows_count sw bits n c2.place first_end ∙ same;
-        cell_count = rows_count cw bits m at second_end ∙ same2;
-        satellites = subst (EachBelow (total_width sw)) (sym xs) (columns_fit sw (count_ones s.satellites) (cursor_at bits c2.place) (rows_at sw (count_ones s.satellites) bits c2.place, cursor_at bits at) one);
+        satellite_count = rows_count sw bits (count_ones n) p first_end ∙ same;
+        cell_count = rows_count cw bits (count_ones m) at second_end ∙ same2;
+        satellites = subst (EachBelow (total_width sw)) (sym xs) (columns_fit sw (count_ones s.satellites) (cursor_at bits p) (rows_at sw (count_ones s.satellites) bits p, cursor_at bits at) one);
         cells = subst (EachBelow (total_width cw)) (sym ys) (columns_fit cw (count_ones s.cells) (cursor_at bits at) (rows_at cw (count_ones s.cells) bits at, cursor_at bits end) two);
       };
-      order = omega (arith, end_is sw n (length bits) c2.place at (sym first));
+      order = omega (arith, end_is sw (count_ones n) (length bits) p at (sym e));
       satellites_there = first_end;
       cells_there = second_end;
     }
-
--- The message whose data end within the bits, in the terms of the code.
-pub whole : (form : Form) (g : Bool) (bytes sw cw : List ℕ) (c0 c1 c2 : Cursor) (h : MsmHeader) (s : MasksValue) (n m p at end : ℕ) → 12 ≤ 8 * length bytes → c0 ≡ cursor_at (bits_of bytes) 12 → header_at c0 ≡ Ok (h, c1) → masks_at c1 ≡ Ok (s, c2)
-    → p ≡ c2.place → sw ≡ satellite_widths form → cw ≡ cell_widths form → n ≡ s.satellites → m ≡ s.cells → Ok at ≡ end_of_rows sw (count_ones n) (8 * length bytes) p → at ≤ 8 * length bytes → Ok end ≡ end_of_rows cw (count_ones m) (8 * length bytes) at
-    → end ≤ 8 * length bytes → IsHeader h → AreMasks s → Found form g (bits_of bytes) c0 h s (count_ones n) p (count_ones m) at
-whole form g bytes sw cw c0 c1 c2 h s n m p at end number at_masks e f place sws cws ns ms first room second last is_header are_sets =
-    let bits = bits_of bytes in
-    let there = masks_end bytes c0 c1 c2 h s number at_masks e f in
-    let len : 8 * length bytes ≡ length bits = sym (length-bits_of bytes) in
-    let one = moved (Ok at) sw (satellite_widths form) (count_ones n) _ (length bits) p c2.place first sws len place in
-    let two = moved (Ok end) cw (cell_widths form) (count_ones m) _ (length bits) at at second cws len refl in
-    let all = found form g bits c0 c1 c2 h s (count_ones n) (count_ones m) at end e f there.is there.there (ap count_ones ns) (ap count_ones ms) one (rw (← len) room) two (rw (← len) last) is_header are_sets in
-    subst (λ (q : ℕ). Found form g bits c0 h s (count_ones n) q (count_ones m) at) (sym place) all
 
 -- The bounds of the data, counted in bytes.
 pub are_within : (form : Form) (bytes : List ℕ) (n place m : ℕ) (b : LastBits) → length bytes ≤ 1023 → 64 ≤ place → place ≤ b.place → place + n * total_width (satellite_widths form) ≤ length (bits_of bytes) → b.place + m * total_width (cell_widths form) ≤ length (bits_of bytes)

@@ -5,8 +5,8 @@ use Rattle.rtcm_bits.specs.Bits.{FitsInt}
 use Rattle.rtcm_bits.specs.Cursors.{Cursor}
 use Rattle.rtcm_msg.specs.declared.fault.MsgFault.{MsgFault}
 use Rattle.rtcm_msg.specs.declared.station.StationParts.{StationParts}
-use Rattle.rtcm_msg.specs.Layout.{Table, Uint, Int, Flag, Reserved, Contents, fields_of, ◌▸◌, number_table}
-use Rattle.rtcm_msg.specs.Fields.{reading, ◌>>=◌}
+use Rattle.rtcm_msg.specs.Layout.{Table, Uint, Int, Flag, Reserved, Contents, widths, fields_of, ◌▸◌, number_table}
+use Rattle.rtcm_msg.specs.Fields.{field_at, reading, ◌>>=◌}
 
 -- The fields of message 1005 after the message number.
 abbrev pub station_table : Table
@@ -30,6 +30,16 @@ abbrev pub height_table : Table
 height_table =
     (28, Uint 16)  -- antenna height, 0.0001 m
     ∷ []
+
+-- The widths of the fields after the message number.
+abbrev pub field_widths : Bool → List ℕ
+field_widths false = widths station_table
+field_widths true = widths (station_table ++ height_table)
+
+-- The height in the bits of a message.
+abbrev pub height_in : Bool → List Bool → Option ℕ
+height_in false bits = None
+height_in true bits = Some (field_at bits 152 16)
 
 -- The contents of the fields of a value, with the reserved bit.
 abbrev pub station_contents : StationParts → ℕ → Contents station_table

@@ -1,28 +1,44 @@
-//! Single fields of a message: the next one of a reader, or one at a known place.
-ghost use Rattle.std.specs.Prelude.{◌≡◌, ◌+◌, ◌-◌, ◌*◌, ◌^◌, ◌<◌, ◌≤◌, IfOk, length, take, drop};
-ghost use Rattle.rtcm_bits.specs.Bits.{bits_of, uint, signed, FitsInt};
-ghost use Rattle.rtcm_msg.specs.Fields.{GivesViewed, field_at, number_at};
+//! Fields of a message at known places, and the check that they are within the message.
+ghost use Rattle.std.specs.Prelude.{◌≡◌, ◌+◌, ◌-◌, ◌*◌, ◌^◌, ◌<◌, ◌≤◌, All, IfOk, length};
+ghost use Rattle.rtcm_bits.specs.Bits.{bits_of, signed, FitsInt};
+ghost use Rattle.rtcm_bits.specs.FrameOf.{longest_message};
+ghost use Rattle.rtcm_msg.specs.Fields.{field_at};
+ghost use Rattle.rtcm_msg.specs.Packed.{total_width};
+ghost use Rattle.rtcm_msg.specs.Rows as rows;
 
 use crate::fault::MsgFault;
-use rtcm_bits::{BitReader, signed_of};
+use rtcm_bits::signed_of;
 
-/// Reads the next field, of `width` bits.
+/// Returns the bit after fields of these widths that begin at bit `place`, each of them `count`
+/// times before the next one: those of `count` satellites or cells, or of a header if it is 1.
 ///
 /// # Errors
 ///
-/// `Short` if the field does not end within the message.
-#[tactic(auto, unfolding(crate::specs::Fields::number_at))]
-#[inline(always)]
-pub(crate) fn field(reader: &mut BitReader, width: u32) -> Result<u64, MsgFault>
-    requires few { width ≤ 64 }
-    ensures read { GivesViewed (λ n. (n, reader.new)) result (number_at width reader.old) }
-    ensures fits { IfOk result (λ n. n < 2 ^ width) }
+/// `Short` if a field does not end within the message.
+pub(crate) fn end_of_fields(
+    bytes: &[u8],
+    widths: &[u32],
+    count: usize,
+    place: usize,
+) -> Result<usize, MsgFault>
+    requires narrow { All (λ w. w ≤ 64) widths.now }
+    requires few { count ≤ 64 }
+    requires within { place ≤ 8 * length bytes.now }
+    requires small { length bytes.now ≤ longest_message }
+    ensures exact { result ≡ rows.end_of_rows widths.now count (8 * length bytes.now) place }
+    ensures end { IfOk result (λ end. end ≡ place + count * total_width widths.now) }
+    ensures within { IfOk result (λ end. end ≤ 8 * length bytes.now) }
 {
-    let place = reader.place();
-    match reader.unsigned(width) {
-        Some(number) => Ok(number),
-        None => Err(MsgFault::Short(place)),
+    let bits = 8 * bytes.len();
+    let mut place = place;
+    for width in widths {
+        let end = place + count * *width as usize;
+        if bits < end {
+            return Err(MsgFault::Short(bits - (bits - place) % *width as usize));
+        }
+        place = end;
     }
+    Ok(place)
 }
 
 /// Returns the number in the `width` bits, 1 to 57, that end with bit `last`, which is not in the

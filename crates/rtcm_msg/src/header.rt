@@ -1,12 +1,14 @@
 //! The header of an MSM.
-ghost use Rattle.std.specs.Prelude.{◌≡◌, ◌^◌, ◌<◌, IfOk, IfNone};
-ghost use Rattle.rtcm_msg.specs.Fields.{GivesViewed};
+ghost use Rattle.std.specs.Prelude.{◌≡◌, ◌*◌, ◌<◌, ◌≤◌, IfOk, IfNone, length};
+ghost use Rattle.rtcm_bits.specs.Bits.{bits_of};
+ghost use Rattle.rtcm_bits.specs.FrameOf.{longest_message};
+ghost use Rattle.rtcm_msg.specs.Fields.{GivesViewed, cursor_at};
 ghost use Rattle.rtcm_msg.specs.Refusals.{header_fault};
-ghost use Rattle.rtcm_msg.specs.Msm.{after_time_at, header_at, IsHeader, week};
+ghost use Rattle.rtcm_msg.specs.Msm.{header_at, IsHeader};
 
 use crate::fault::{Field, MsgFault};
-use crate::field::field;
-use rtcm_bits::BitReader;
+use crate::field::end_of_fields;
+use rtcm_bits::number_at;
 
 /// Number of milliseconds of a week.
 pub const WEEK: u32 = 604_800_000;
@@ -32,34 +34,42 @@ pub struct MsmHeader {
     pub interval: u8,
 }
 
+/// Widths in bits of the first fields after the message number: DF003, and DF004 or DF248.
+const TIME_WIDTHS: &[u32] = &[12, 30];
+
+/// Widths of the fields after the epoch time: DF393, DF409, 7 reserved bits, DF411, DF412, DF417 and
+/// DF418.
+const HEADER_WIDTHS: &[u32] = &[1, 3, 7, 2, 2, 1, 3];
+
 /// Reads the header of an MSM after its message number. An epoch time of a week or more is refused
-/// as soon as it is read.
+/// before the fields after it are read.
 ///
 /// # Errors
 ///
 /// `Short` if a field does not end within the message, `BadTime` for a time of a week or more.
-#[tactic(auto, unfolding(crate::specs::Msm::header_at, crate::specs::Msm::after_time_at))]
-pub(crate) fn read_header(reader: &mut BitReader) -> Result<MsmHeader, MsgFault>
-    ensures read { GivesViewed (λ h. (h, reader.new)) result (header_at reader.old) }
+pub(crate) fn read_header(bytes: &[u8]) -> Result<MsmHeader, MsgFault>
+    requires number { 12 ≤ 8 * length bytes.now }
+    requires small { length bytes.now ≤ longest_message }
+    ensures read { GivesViewed (λ h. (h, cursor_at (bits_of bytes.now) 73)) result
+        (header_at (cursor_at (bits_of bytes.now) 12)) }
     ensures is_header { IfOk result IsHeader }
+    ensures there { IfOk result (λ _. 73 ≤ 8 * length bytes.now) }
 {
-    let station = field(reader, 12)? as u16;
-    let time = field(reader, 30)? as u32;
+    end_of_fields(bytes, TIME_WIDTHS, 1, 12)?;
+    let time = number_at(bytes, 24, 30) as u32;
     if time >= WEEK {
         return Err(MsgFault::BadTime);
     }
-    let more = field(reader, 1)? == 1;
-    let iods = field(reader, 3)? as u8;
-    let _reserved = field(reader, 7)?;
+    end_of_fields(bytes, HEADER_WIDTHS, 1, 54)?;
     Ok(MsmHeader {
-        station,
+        station: number_at(bytes, 12, 12) as u16,
         time,
-        more,
-        iods,
-        steering: field(reader, 2)? as u8,
-        clock: field(reader, 2)? as u8,
-        smoothing: field(reader, 1)? == 1,
-        interval: field(reader, 3)? as u8,
+        more: number_at(bytes, 54, 1) == 1,
+        iods: number_at(bytes, 55, 3) as u8,
+        steering: number_at(bytes, 65, 2) as u8,
+        clock: number_at(bytes, 67, 2) as u8,
+        smoothing: number_at(bytes, 69, 1) == 1,
+        interval: number_at(bytes, 70, 3) as u8,
     })
 }
 

@@ -1,12 +1,14 @@
 //! The masks of an MSM: its satellites, its signals and its cells.
-ghost use Rattle.std.specs.Prelude.{◌≡◌};
-ghost use Rattle.rtcm_msg.specs.Fields.{GivesViewed};
+ghost use Rattle.std.specs.Prelude.{◌≡◌, ◌*◌, ◌≤◌, IfOk, length};
+ghost use Rattle.rtcm_bits.specs.Bits.{bits_of};
+ghost use Rattle.rtcm_bits.specs.FrameOf.{longest_message};
+ghost use Rattle.rtcm_msg.specs.Fields.{GivesViewed, cursor_at};
 ghost use Rattle.rtcm_msg.specs.Msm.{masks_at, AreMasks};
 ghost use Rattle.rtcm_msg.specs.Refusals.{masks_of};
 
 use crate::fault::{Field, MsgFault, ValueFault};
-use crate::field::field;
-use rtcm_bits::BitReader;
+use crate::field::end_of_fields;
+use rtcm_bits::number_at;
 use std::marker::Model;
 
 /// Number of bits of the satellite mask, DF394.
@@ -92,24 +94,34 @@ impl Masks {
     }
 }
 
-/// Reads the masks. More than 64 pairs are refused as soon as the first two masks are read.
+/// Widths in bits of the first two masks: DF394 and DF395.
+const MASK_WIDTHS: &[u32] = &[SATELLITE_MASK_BITS, SIGNAL_MASK_BITS];
+
+/// Reads the masks, and returns them with the bit after them. More than 64 pairs are refused before
+/// the third mask is read.
 ///
 /// # Errors
 ///
 /// `Short` if a mask does not end within the message, `TooManyCells` for more than 64 pairs.
-#[tactic(auto, unfolding(crate::specs::Msm::masks_at))]
-pub(crate) fn read_masks(reader: &mut BitReader) -> Result<Masks, MsgFault>
-    ensures { GivesViewed (λ m. (m, reader.new)) result (masks_at reader.old) }
+pub(crate) fn read_masks(bytes: &[u8]) -> Result<(Masks, usize), MsgFault>
+    requires header { 73 ≤ 8 * length bytes.now }
+    requires small { length bytes.now ≤ longest_message }
+    ensures read { GivesViewed (λ m. (m.0, cursor_at (bits_of bytes.now) m.1)) result
+        (masks_at (cursor_at (bits_of bytes.now) 73)) }
+    ensures within { IfOk result (λ m. (169 ≤ m.1) × (m.1 ≤ 8 * length bytes.now)) }
 {
-    let satellites = field(reader, SATELLITE_MASK_BITS)?;
-    let signals = field(reader, SIGNAL_MASK_BITS)? as u32;
-    let count = satellites.count_ones() * signals.count_ones();
-    if count > MOST_CELL_MASK_BITS {
+    end_of_fields(bytes, MASK_WIDTHS, 1, 73)?;
+    let satellites = number_at(bytes, 73, SATELLITE_MASK_BITS);
+    let signals = number_at(bytes, 137, SIGNAL_MASK_BITS) as u32;
+    let pairs = satellites.count_ones() * signals.count_ones();
+    if pairs > MOST_CELL_MASK_BITS {
         return Err(MsgFault::TooManyCells);
     }
-    Ok(Masks {
+    let end = end_of_fields(bytes, &[pairs], 1, 169)?;
+    let masks = Masks {
         satellites,
         signals,
-        cells: field(reader, count)?,
-    })
+        cells: number_at(bytes, 169, pairs),
+    };
+    Ok((masks, end))
 }

@@ -1,6 +1,6 @@
 //! Messages, decoded and encoded.
-ghost use Rattle.std.specs.Prelude.{◌≡◌, ◌++◌, ◌<◌, ◌≤◌, IfOk, IfErr, length, false, Ok, Err};
-ghost use Rattle.rtcm_msg.specs.Fields.{GivesViewed};
+ghost use Rattle.std.specs.Prelude.{◌≡◌, ◌*◌, ◌++◌, ◌≤◌, IfOk, IfErr, length, false, Ok, Err};
+ghost use Rattle.rtcm_msg.specs.Fields.{GivesViewed, cursor_at};
 ghost use Rattle.rtcm_bits.specs.Bits.{bits_of};
 ghost use Rattle.rtcm_bits.specs.FrameOf.{longest_message};
 ghost use Rattle.rtcm_msg.specs.Encoding.{message_bits, is_other, ReadsMessage, IsFault, IsMessage, IsEncoding};
@@ -18,7 +18,7 @@ use crate::station::Station;
 use crate::view::{Form, View, look};
 use crate::writing::write_station;
 use arrayvec::ArrayVec;
-use rtcm_bits::{BitReader, BitWriter, LONGEST_MESSAGE};
+use rtcm_bits::{BitWriter, LONGEST_MESSAGE, number_at};
 
 /// A message of RTCM 10403.3.
 #[derive(Drop)]
@@ -40,15 +40,19 @@ pub enum Message {
 /// Reads the station, DF003, and the multiple message bit, DF393, of an MSM of any type, 1071 to
 /// 1127, after its message number. `None` for another number, or if the message does not contain
 /// them.
-pub(crate) fn read_set(number: u16, reader: &mut BitReader) -> Option<(u16, bool)>
-    ensures { result ≡ set_in number reader.old }
+pub(crate) fn read_set(number: u16, bytes: &[u8]) -> Option<(u16, bool)>
+    requires number { 12 ≤ 8 * length bytes.now }
+    requires small { length bytes.now ≤ longest_message }
+    ensures { result ≡ set_in number (cursor_at (bits_of bytes.now) 12) }
 {
     if number < 1071 || number > 1127 || number % 10 < 1 || number % 10 > 7 {
         return None;
     }
-    let station = reader.unsigned(12)? as u16;
-    reader.unsigned(30)?;
-    Some((station, reader.unsigned(1)? == 1))
+    if bytes.len() < 7 {
+        return None;
+    }
+    let station = number_at(bytes, 12, 12) as u16;
+    Some((station, number_at(bytes, 54, 1) == 1))
 }
 
 /// Decodes a message. Reserved bits and bits after the last field are ignored. Each number other

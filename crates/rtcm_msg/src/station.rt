@@ -1,14 +1,15 @@
 //! The station messages 1005 and 1006.
-ghost use Rattle.std.specs.Prelude.{◌≡◌, ◌^◌, ◌<◌, IfOk, IfSome, IsTrue, ◌↔◌};
-ghost use Rattle.rtcm_msg.specs.Fields.{GivesViewed};
-ghost use Rattle.rtcm_bits.specs.Bits.{FitsInt};
-ghost use Rattle.rtcm_msg.specs.Ranges.{fits_int};
-ghost use Rattle.rtcm_msg.specs.Station.{InRange, height_at, station_at};
+ghost use Rattle.std.specs.Prelude.{◌≡◌, ◌+◌, ◌*◌, ◌≤◌, Ok, length};
+ghost use Rattle.rtcm_bits.specs.Bits.{bits_of};
+ghost use Rattle.rtcm_bits.specs.FrameOf.{longest_message};
+ghost use Rattle.rtcm_msg.specs.Fields.{GivesViewed, cursor_at};
+ghost use Rattle.rtcm_msg.specs.Packed.{total_width};
+ghost use Rattle.rtcm_msg.specs.Station.{InRange, height_in, station_at, field_widths};
 ghost use Rattle.rtcm_msg.specs.Refusals.{station_made, station_fault};
 
 use crate::fault::{Field, MsgFault, ValueFault};
-use crate::field::field;
-use rtcm_bits::{BitReader, signed_of};
+use crate::field::end_of_fields;
+use rtcm_bits::{number_at, signed_of};
 use std::marker::Model;
 
 /// The fields of a station message: message 1006 with a height, message 1005 without one.
@@ -96,35 +97,61 @@ impl Station {
     }
 }
 
-/// Reads a station message after its message number, field by field.
+/// Widths in bits of the fields of message 1006 after the message number: DF003, DF021 to DF024,
+/// DF141, DF025, DF142, a reserved bit, DF026, DF364, DF027 and DF028.
+const STATION_WIDTHS: &[u32] = &[12, 6, 1, 1, 1, 1, 38, 1, 1, 38, 2, 38, 16];
+
+/// Returns the widths of the fields after the message number. Message 1005 has all but the last.
+fn field_widths(has_height: bool) -> &'static [u32]
+    ensures { result.now ≡ field_widths has_height }
+{
+    if has_height {
+        STATION_WIDTHS
+    } else {
+        &STATION_WIDTHS[..12]
+    }
+}
+
+/// Returns the antenna height, DF028, if the message has it.
+fn height_in(bytes: &[u8], has_height: bool) -> Option<u16>
+    requires there { 12 + total_width (field_widths has_height) ≤ 8 * length bytes.now }
+    requires small { length bytes.now ≤ longest_message }
+    ensures { result ≡ height_in has_height (bits_of bytes.now) }
+{
+    if has_height {
+        Some(number_at(bytes, 152, 16) as u16)
+    } else {
+        None
+    }
+}
+
+/// Reads a station message after its message number.
 ///
 /// # Errors
 ///
 /// `Short` if a field does not end within the message.
-#[tactic(auto, unfolding(crate::specs::Station::station_at))]
-pub(crate) fn read_station(reader: &mut BitReader, has_height: bool) -> Result<Station, MsgFault>
-    ensures { GivesViewed (λ s. (s, reader.new)) result (station_at has_height reader.old) }
+pub(crate) fn read_station(bytes: &[u8], has_height: bool) -> Result<Station, MsgFault>
+    requires number { 12 ≤ 8 * length bytes.now }
+    requires small { length bytes.now ≤ longest_message }
+    ensures { GivesViewed
+        (λ s. (s, cursor_at (bits_of bytes.now) (12 + total_width (field_widths has_height)))) result
+        (station_at has_height (cursor_at (bits_of bytes.now) 12)) }
 {
-    let parts = StationParts {
-        station: field(reader, 12)? as u16,
-        realization: field(reader, 6)? as u8,
-        gps: field(reader, 1)? == 1,
-        glonass: field(reader, 1)? == 1,
-        galileo: field(reader, 1)? == 1,
-        reference: field(reader, 1)? == 1,
-        x: signed_of(field(reader, 38)?, 38),
-        oscillator: field(reader, 1)? == 1,
-        y: {
-            let _reserved = field(reader, 1)?;
-            signed_of(field(reader, 38)?, 38)
+    end_of_fields(bytes, field_widths(has_height), 1, 12)?;
+    Ok(Station {
+        parts: StationParts {
+            station: number_at(bytes, 12, 12) as u16,
+            realization: number_at(bytes, 24, 6) as u8,
+            gps: number_at(bytes, 30, 1) == 1,
+            glonass: number_at(bytes, 31, 1) == 1,
+            galileo: number_at(bytes, 32, 1) == 1,
+            reference: number_at(bytes, 33, 1) == 1,
+            x: signed_of(number_at(bytes, 34, 38), 38),
+            oscillator: number_at(bytes, 72, 1) == 1,
+            y: signed_of(number_at(bytes, 74, 38), 38),
+            quarter: number_at(bytes, 112, 2) as u8,
+            z: signed_of(number_at(bytes, 114, 38), 38),
+            height: height_in(bytes, has_height),
         },
-        quarter: field(reader, 2)? as u8,
-        z: signed_of(field(reader, 38)?, 38),
-        height: if has_height {
-            Some(field(reader, 16)? as u16)
-        } else {
-            None
-        },
-    };
-    Ok(Station { parts })
+    })
 }

@@ -10,12 +10,11 @@ ghost use Rattle.rtcm_msg.specs.Viewed.{viewed_message, entry_in, lock_field, ro
 ghost use Rattle.rtcm_msg.specs.Entries.{IsEntry, entries};
 ghost use Rattle.rtcm_msg.specs.Encoding.{IsMessage};
 ghost use Rattle.rtcm_msg.specs.LastBits.{AreLast};
-ghost use Rattle.rtcm_msg.specs.Rows as rows;
 ghost use Rattle.rtcm_msg.specs.Views as views;
 
 use crate::entry::{Entry, LockField, entry_of};
 use crate::fault::MsgFault;
-use crate::field::field;
+use crate::field::end_of_fields;
 use crate::grid::{Grid, ReadGrid};
 use crate::grid4::{Grid4, Satellite4};
 use crate::grid7::{Grid7, Satellite7};
@@ -26,7 +25,7 @@ use crate::message::{Message, read_set};
 use crate::msm::msm_of;
 use crate::pairs::{Pair, Pairs, split_cells};
 use crate::station::{Station, read_station};
-use rtcm_bits::{BitReader, LONGEST_MESSAGE};
+use rtcm_bits::{LONGEST_MESSAGE, number_at};
 use std::marker::Model;
 
 /// The layout and precision of an MSM.
@@ -377,51 +376,19 @@ impl<'a> View<'a> {
     }
 }
 
-/// Returns the bit after the data of `count` satellites or cells whose fields have these widths.
-///
-/// # Errors
-///
-/// `Short` if a field does not end within the message.
-fn end_of_rows(bits: usize, widths: &[u32], count: usize, place: usize) -> Result<usize, MsgFault>
-    requires narrow { All (λ w. w ≤ 64) widths.now }
-    requires few { count ≤ 64 }
-    requires within { place ≤ bits }
-    requires small { bits < 2 ^ 62 }
-    ensures exact { result ≡ rows.end_of_rows widths.now count bits place }
-    ensures within { IfOk result (λ end. end ≤ bits) }
-{
-    let mut place = place;
-    for width in widths {
-        let end = place + count * *width as usize;
-        if bits < end {
-            return Err(MsgFault::Short(bits - (bits - place) % *width as usize));
-        }
-        place = end;
-    }
-    Ok(place)
-}
-
 /// Reads the header and masks of an MSM after its message number.
-#[tactic(auto, unfolding(crate::specs::Msm::msm_at))]
-fn view_msm<'a>(
-    bytes: &'a [u8],
-    reader: &mut BitReader,
-    form: Form,
-    is_galileo: bool,
-) -> Result<View<'a>, MsgFault>
+fn view_msm<'a>(bytes: &'a [u8], form: Form, is_galileo: bool) -> Result<View<'a>, MsgFault>
     requires small { length bytes.now ≤ longest_message }
     requires number { 12 ≤ 8 * length bytes.now }
-    requires cursor { reader.old ≡ cursor_at (bits_of bytes.now) 12 }
-    ensures { GivesViewed viewed_message result (views.formed_at form is_galileo reader.old) }
+    ensures { GivesViewed viewed_message result (views.formed_at form is_galileo (cursor_at (bits_of bytes.now) 12)) }
 {
-    let header = read_header(reader)?;
-    let masks = read_masks(reader)?;
+    let header = read_header(bytes)?;
+    let (masks, satellites_at) = read_masks(bytes)?;
     let satellites = masks.satellites().count_ones() as usize;
     let cells = masks.cells().count_ones() as usize;
-    let satellites_at = reader.place();
     let (satellite_widths, cell_widths) = form.widths();
-    let cells_at = end_of_rows(8 * bytes.len(), satellite_widths, satellites, satellites_at)?;
-    end_of_rows(8 * bytes.len(), cell_widths, cells, cells_at)?;
+    let cells_at = end_of_fields(bytes, satellite_widths, satellites, satellites_at)?;
+    end_of_fields(bytes, cell_widths, cells, cells_at)?;
     Ok(View::Msm(MsmView {
         form,
         is_galileo,
@@ -435,19 +402,18 @@ fn view_msm<'a>(
 
 /// Reads a message after its message number.
 #[tactic(auto, unfolding(crate::specs::Decoding::body_at))]
-fn view_body<'a>(number: u16, bytes: &'a [u8], reader: &mut BitReader) -> Result<View<'a>, MsgFault>
+fn view_body(number: u16, bytes: &[u8]) -> Result<View<'_>, MsgFault>
     requires small { length bytes.now ≤ longest_message }
     requires number { 12 ≤ 8 * length bytes.now }
-    requires cursor { reader.old ≡ cursor_at (bits_of bytes.now) 12 }
-    ensures { GivesViewed viewed_message result (body_at number reader.old) }
+    ensures { GivesViewed viewed_message result (body_at number (cursor_at (bits_of bytes.now) 12)) }
 {
     match number {
-        1005 | 1006 => Ok(View::Station(read_station(reader, number == 1006)?)),
-        1074 | 1094 => view_msm(bytes, reader, Form::Msm4, number == 1094),
-        1077 | 1097 => view_msm(bytes, reader, Form::Msm7, number == 1097),
+        1005 | 1006 => Ok(View::Station(read_station(bytes, number == 1006)?)),
+        1074 | 1094 => view_msm(bytes, Form::Msm4, number == 1094),
+        1077 | 1097 => view_msm(bytes, Form::Msm7, number == 1097),
         _ => Ok(View::Other {
             number,
-            set: read_set(number, reader),
+            set: read_set(number, bytes),
         }),
     }
 }
@@ -458,14 +424,14 @@ fn view_body<'a>(number: u16, bytes: &'a [u8], reader: &mut BitReader) -> Result
 /// # Errors
 ///
 /// Those of `decode`.
-#[tactic(auto, unfolding(crate::specs::Decoding::message_of))]
 pub fn look(bytes: &[u8]) -> Result<View<'_>, MsgFault>
     ensures exact { GivesViewed viewed_message result (message_at bytes.now) }
     ensures message { IfOk result (λ v. IsMessage (viewed_message v)) }
 {
     // no field ends after the longest message
     let bytes = bytes.get(..LONGEST_MESSAGE).unwrap_or(bytes);
-    let mut reader = BitReader::new(bytes);
-    let number = field(&mut reader, 12)? as u16;
-    view_body(number, bytes, &mut reader)
+    if bytes.len() < 2 {
+        return Err(MsgFault::Short(0));
+    }
+    view_body(number_at(bytes, 0, 12) as u16, bytes)
 }

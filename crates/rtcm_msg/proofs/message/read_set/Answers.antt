@@ -1,29 +1,30 @@
-use Rattle.std.proofs.Common.{ℕ, ◌%◌, true, refl, ◌≡◌, ◌<◌, ◌≤◌, ◌==◌, length, arith, drop, ap, ◌∙◌, sym, Some, None}
-use Rattle.std.proofs.lemmas.List.{length-drop}
-use Rattle.rtcm_bits.specs.Cursors.{Cursor, advanced, unsigned_at}
+use Rattle.std.proofs.Common.{ℕ, ◌%◌, true, false, nat_le, ◌≡◌, ◌*◌, ◌<◌, ◌≤◌, ◌==◌, length, List, arith, refl, ◌∙◌, sym, Some, None}
+use Rattle.rtcm_bits.specs.Bits.{bits_of}
+use Rattle.rtcm_bits.specs.BitLaws.{length-bits_of}
+use Rattle.rtcm_bits.specs.Cursors.{Cursor}
+use Rattle.rtcm_msg.specs.Fields.{cursor_at, field_at}
 use Rattle.rtcm_msg.specs.Decoding.{set_at, set_in, is_any_msm}
+use Rattle.rtcm_msg.proofs.MessageLaws.{other_set}
 use Rattle.rtcm_msg.proofs.message.read_set.Goals as goal
 
-set_short : (c : Cursor) → length (advanced (advanced c 12) 30).rest < 1 → set_at c ≡ None
-set_short c h = let few : length c.rest < 43 = omega (arith, length-drop 30 (drop 12 c.rest), length-drop 12 c.rest, h) in grind arith
+set_short : (bytes : List ℕ) → 12 ≤ 8 * length bytes → length bytes < 7 → set_at (cursor_at (bits_of bytes) 12) ≡ None
+set_short bytes h few =
+    let less : nat_le 55 (length (bits_of bytes)) ≡ false = grind (arith, length-bits_of bytes, few) in
+    other_set (bits_of bytes) (rw (length-bits_of bytes) h) ∙ rw less refl
 
-set_there : (c : Cursor) → 1 ≤ length (advanced (advanced c 12) 30).rest → set_at c ≡ Some (unsigned_at 12 c, unsigned_at 1 (advanced (advanced c 12) 30) == 1)
-set_there c h = let many : 43 ≤ length c.rest = omega (arith, length-drop 30 (drop 12 c.rest), length-drop 12 c.rest, h) in grind arith
+set_there : (bytes : List ℕ) → 12 ≤ 8 * length bytes → 7 ≤ length bytes → set_at (cursor_at (bits_of bytes) 12) ≡ Some (field_at (bits_of bytes) 12 12, field_at (bits_of bytes) 54 1 == 1)
+set_there bytes h many =
+    let more : nat_le 55 (length (bits_of bytes)) ≡ true = grind (arith, length-bits_of bytes, many) in
+    other_set (bits_of bytes) (rw (length-bits_of bytes) h) ∙ rw more refl
 
 is_set : (n : ℕ) (c : Cursor) → 1071 ≤ n → n ≤ 1127 → 1 ≤ n % 10 → n % 10 ≤ 7 → set_at c ≡ set_in n c
 is_set n c a b d e = let any : is_any_msm n ≡ true = grind (arith, a, b, d, e) in rw any refl
 
-pub returns-in_err-unsigned-2 : goal.returns-in_err-unsigned-2
-returns-in_err-unsigned-2 c =
-    let one = c.in_ok-station.ensures.some in
-    let two = c.in_ok-unsigned.ensures.some in
-    let place : c.unsigned-2.new.self ≡ advanced (advanced c.args.reader.now 12) 30 = two.3 ∙ ap (λ x. advanced x 30) one.3 in
-    c.from_residual-in_err-unsigned-2.ensures ∙ sym (set_short c.args.reader.now (rw place at c.in_err-unsigned-2.ensures.none.0)) ∙ is_set c.args.number c.args.reader.now (omega arith) (omega arith) (omega arith) (omega arith)
+pub returns-then-bytes-lt7 : goal.returns-then-bytes-lt7
+returns-then-bytes-lt7 c =
+    sym (set_short c.args.bytes.now c.requires.number c.if-bytes-lt7.true) ∙ is_set c.args.number (cursor_at (bits_of c.args.bytes.now) 12) c.if-number-lt1071.false c.if-number-gt1127.false c.if-number-lt1.false c.if-number-gt7.false
 
 pub returns : goal.returns
 returns c =
-    let one = c.in_ok-station.ensures.some in
-    let two = c.in_ok-unsigned.ensures.some in
-    let three = c.in_ok-unsigned-2.ensures.some in
-    let place : c.unsigned-2.new.self ≡ advanced (advanced c.args.reader.now 12) 30 = two.3 ∙ ap (λ x. advanced x 30) one.3 in
-    rw (one.1, three.1, place) (sym (set_there c.args.reader.now (rw place at three.0)) ∙ is_set c.args.number c.args.reader.now (omega arith) (omega arith) (omega arith) (omega arith))
+    rw (c.number_at-station.ensures.value, c.number_at.ensures.value)
+    (sym (set_there c.args.bytes.now c.requires.number c.if-bytes-lt7.false) ∙ is_set c.args.number (cursor_at (bits_of c.args.bytes.now) 12) c.if-number-lt1071.false c.if-number-gt1127.false c.if-number-lt1.false c.if-number-gt7.false)

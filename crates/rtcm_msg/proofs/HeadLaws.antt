@@ -1,0 +1,136 @@
+-- Fields at known positions: the check that they are within the bits, and the result of reading them.
+use Rattle.std.proofs.Common.{ℕ, ◌≡◌, ◌+◌, ◌-◌, ◌*◌, ◌%◌, ◌<◌, ◌≤◌, nat_lt, Bool, true, false, List, [], ◌∷◌, ◌++◌, length, Result, Ok, Err, Option, Some, None, refl, sym, ap, ◌∙◌, arith, inl, inr}
+use Rattle.std.proofs.Math.Nat.{mod-eq_of_lt}
+use Rattle.std.proofs.lemmas.Bool.{cases_lt}
+use Rattle.std.proofs.lemmas.List.{length-drop}
+use Rattle.rtcm_bits.specs.Bits.{bits_of}
+use Rattle.rtcm_bits.specs.BitLaws.{length-bits_of}
+use Rattle.rtcm_msg.specs.declared.fault.MsgFault.{MsgFault}
+use Rattle.rtcm_msg.specs.declared.fault.MsgFault.TheVariants.{BadTime, TooManyCells, Short}
+use Rattle.rtcm_msg.specs.Layout.{Table, widths}
+use Rattle.rtcm_msg.specs.Fields.{◌>>=◌, first_past, number_at}
+use Rattle.rtcm_msg.specs.Packed.{total_width}
+use Rattle.rtcm_msg.specs.Rows.{end_of_rows}
+use Rattle.rtcm_msg.specs.Msm.{time_table, header_table, mask_table, header_of, header_at, masks_at, week, pair_count}
+use Rattle.rtcm_msg.specs.Station.{field_widths, height_in, station_at, station_parts, station_table}
+use Rattle.rtcm_msg.proofs.Binds.{number_short}
+use Rattle.rtcm_msg.proofs.Combine.{ok_err, past_here}
+use Rattle.rtcm_msg.proofs.FieldLaws.{contents_at, fields_at, cursor_at, field_at, number_there_at, ShortAt, fields_read, past_none}
+use Rattle.rtcm_msg.proofs.StationLaws.{station_chain, station_widths, height_widths}
+use Rattle.rtcm_msg.proofs.MsmLaws.{header_chain, header_rest_is, in_time, too_late, sets_chain, few_rest, many_rest}
+use Rattle.rtcm_msg.proofs.MessageLaws.{station_end}
+
+-- ---- the check
+
+abbrev short_or_end : ℕ → Option ℕ → Result ℕ MsgFault
+short_or_end end None = Ok end
+short_or_end end (Some k) = Err (Short k)
+
+end_once : (ws : List ℕ) (len place : ℕ) → place ≤ len → end_of_rows ws 1 len place ≡ short_or_end (place + total_width ws) (first_past len place ws)
+unfolding end_of_rows first_past
+end_once [] len place h = ap Ok (omega arith)
+end_once (w ∷ ws) len place h = elim (cases_lt len (place + w)) [
+  | inl short ↦
+      let less : nat_lt len (place + w) ≡ true = grind (arith, short) in
+      let rest : (len - place) % w ≡ len - place = mod-eq_of_lt (omega (arith, h, short)) in
+      let here : len - (len - place) ≡ place = omega (arith, h) in
+      rw (one w, less, rest, here) refl
+  | inr there ↦
+      let more : nat_lt len (place + w) ≡ false = grind (arith, there) in
+      rw (one w, more) (end_once ws len (place + w) there ∙ ap (λ (k : ℕ). short_or_end k (first_past len (place + w) ws)) (omega arith))
+]
+  where
+    one : (w : ℕ) → 1 * w ≡ w
+    one w = omega arith
+
+err_inj : (e f : MsgFault) (r : Result ℕ MsgFault) → Err e ≡ r → r ≡ Err f → e ≡ f
+err_inj e f r a b = cc
+
+-- A failed check is the fault of the first field that does not end within the bits.
+same_short : (ws : List ℕ) (bits : List Bool) (place : ℕ) (e f : MsgFault) → place ≤ length bits → Err e ≡ end_of_rows ws 1 (length bits) place → ShortAt bits place ws f → f ≡ e
+same_short ws bits place e f h check s = sym (err_inj e f _ check (end_once ws (length bits) place h ∙ (ap (short_or_end (place + total_width ws)) s.past ∙ ap Err (sym s.is))))
+
+no_short : (ws : List ℕ) (bits : List Bool) (place : ℕ) (e : MsgFault) → place ≤ length bits → Err e ≡ end_of_rows ws 1 (length bits) place → first_past (length bits) place ws ≡ None → ⊥
+no_short ws bits place e h check none = ok_err (place + total_width ws) e _ (ap (short_or_end (place + total_width ws)) none) (sym (end_once ws (length bits) place h) ∙ sym check)
+
+fields_missing : (t : Table) (bits : List Bool) (place : ℕ) (e : MsgFault) → place ≤ length bits → Err e ≡ end_of_rows (widths t) 1 (length bits) place → fields_at t (cursor_at bits place) ≡ Err e
+fields_missing t bits place e h check = elim (fields_read t bits place h) [
+  | inl few ↦ few.1.1 ∙ ap Err (same_short (widths t) bits place e few.1.0 h check few.1.2)
+  | inr there ↦ absurd (no_short (widths t) bits place e h check (past_none (widths t) (length bits) place there.0))
+]
+
+fields_whole : (t : Table) (bits : List Bool) (place : ℕ) → place + total_width (widths t) ≤ length bits → fields_at t (cursor_at bits place) ≡ Ok (contents_at t bits place, cursor_at bits (place + total_width (widths t)))
+fields_whole t bits place h = elim (fields_read t bits place (omega arith)) [
+  | inl few ↦ absurd (omega (arith, few.0, h))
+  | inr there ↦ there.1
+]
+
+number_missing : (w : ℕ) (bits : List Bool) (place : ℕ) (e : MsgFault) → place ≤ length bits → Err e ≡ end_of_rows (w ∷ []) 1 (length bits) place → number_at w (cursor_at bits place) ≡ Err e
+number_missing w bits place e h check = elim (cases_lt (length bits) (place + w)) [
+  | inl few ↦
+      let first : ShortAt bits place (w ∷ []) (Short place) = record { first = place; is = refl; past = past_here w [] (length bits) place few } in
+      number_short w (cursor_at bits place) (omega (arith, few, length-drop place bits)) ∙ ap Err (same_short (w ∷ []) bits place e (Short place) h check first)
+  | inr there ↦ absurd (no_short (w ∷ []) bits place e h check (past_none (w ∷ []) (length bits) place (omega (arith, there))))
+]
+
+-- ---- messages
+
+field_widths_are : (has : Bool) → field_widths has ≡ station_widths ++ height_widths has
+field_widths_are true = refl
+field_widths_are false = refl
+
+module _ (bytes : List ℕ) where
+  abbrev bits : List Bool
+  bits = bits_of bytes
+
+  -- The same check, counted in bits.
+  checked : (ws : List ℕ) (place : ℕ) (e : MsgFault) → Err e ≡ end_of_rows ws 1 (8 * length bytes) place → Err e ≡ end_of_rows ws 1 (length bits) place
+  checked ws place e check = check ∙ ap (λ (n : ℕ). end_of_rows ws 1 n place) (sym (length-bits_of bytes))
+
+  within : (n : ℕ) → n ≤ 8 * length bytes → n ≤ length bits
+  within n h = rw (length-bits_of bytes) h
+
+  pub time_missing : (e : MsgFault) → 12 ≤ 8 * length bytes → Err e ≡ end_of_rows (widths time_table) 1 (8 * length bytes) 12 → header_at (cursor_at bits 12) ≡ Err e
+  time_missing e h check = header_chain (cursor_at bits 12) ∙ rw (fields_missing time_table bits 12 e (within 12 h) (checked (widths time_table) 12 e check)) refl
+
+  pub time_late : 54 ≤ 8 * length bytes → week ≤ field_at bits 24 30 → header_at (cursor_at bits 12) ≡ Err BadTime
+  time_late h late = header_chain (cursor_at bits 12) ∙ rw (fields_whole time_table bits 12 (within 54 h), too_late (field_at bits 24 30) (cursor_at bits 54) late) refl
+
+  after_time : 54 ≤ 8 * length bytes → field_at bits 24 30 < week → header_at (cursor_at bits 12) ≡ (fields_at header_table (cursor_at bits 54) >>= λ m. Ok (header_of (field_at bits 12 12) (field_at bits 24 30) m.0, m.1))
+  after_time h early = header_chain (cursor_at bits 12) ∙ rw (fields_whole time_table bits 12 (within 54 h), in_time (field_at bits 24 30) (cursor_at bits 54) early, header_rest_is (field_at bits 12 12) (field_at bits 24 30) (cursor_at bits 54)) refl
+
+  pub header_missing : (e : MsgFault) → 54 ≤ 8 * length bytes → field_at bits 24 30 < week → Err e ≡ end_of_rows (widths header_table) 1 (8 * length bytes) 54 → header_at (cursor_at bits 12) ≡ Err e
+  header_missing e h early check = after_time h early ∙ rw (fields_missing header_table bits 54 e (within 54 h) (checked (widths header_table) 54 e check)) refl
+
+  pub header_whole : 73 ≤ 8 * length bytes → field_at bits 24 30 < week → header_at (cursor_at bits 12) ≡ Ok (header_of (field_at bits 12 12) (field_at bits 24 30) (contents_at header_table bits 54), cursor_at bits 73)
+  header_whole h early = after_time (omega (arith, h)) early ∙ rw (fields_whole header_table bits 54 (within 73 h)) refl
+
+  pub masks_missing : (e : MsgFault) → 73 ≤ 8 * length bytes → Err e ≡ end_of_rows (widths mask_table) 1 (8 * length bytes) 73 → masks_at (cursor_at bits 73) ≡ Err e
+  masks_missing e h check = sets_chain (cursor_at bits 73) ∙ rw (fields_missing mask_table bits 73 e (within 73 h) (checked (widths mask_table) 73 e check)) refl
+
+  abbrev pairs : ℕ
+  pairs = pair_count (field_at bits 73 64) (field_at bits 137 32)
+
+  pub masks_many : 169 ≤ 8 * length bytes → 64 < pairs → masks_at (cursor_at bits 73) ≡ Err TooManyCells
+  masks_many h many = sets_chain (cursor_at bits 73) ∙ rw (fields_whole mask_table bits 73 (within 169 h), many_rest (field_at bits 73 64) (field_at bits 137 32) (cursor_at bits 169) many) refl
+
+  after_masks : 169 ≤ 8 * length bytes → pairs ≤ 64 → masks_at (cursor_at bits 73) ≡ (number_at pairs (cursor_at bits 169) >>= λ cells. Ok (record { satellites = field_at bits 73 64; signals = field_at bits 137 32; cells = cells.0 }, cells.1))
+  after_masks h few = sets_chain (cursor_at bits 73) ∙ rw (fields_whole mask_table bits 73 (within 169 h), few_rest (field_at bits 73 64) (field_at bits 137 32) (cursor_at bits 169) few) refl
+
+  pub cells_missing : (e : MsgFault) → 169 ≤ 8 * length bytes → pairs ≤ 64 → Err e ≡ end_of_rows (pairs ∷ []) 1 (8 * length bytes) 169 → masks_at (cursor_at bits 73) ≡ Err e
+  cells_missing e h few check = after_masks h few ∙ rw (number_missing pairs bits 169 e (within 169 h) (checked (pairs ∷ []) 169 e check)) refl
+
+  pub masks_whole : pairs ≤ 64 → 169 + pairs ≤ 8 * length bytes → masks_at (cursor_at bits 73) ≡ Ok (record { satellites = field_at bits 73 64; signals = field_at bits 137 32; cells = field_at bits 169 pairs }, cursor_at bits (169 + pairs))
+  masks_whole few h = after_masks (omega (arith, h)) few ∙ rw (number_there_at pairs bits 169 (within (169 + pairs) h)) refl
+
+  pub station_missing : (has : Bool) (e : MsgFault) → 12 ≤ 8 * length bytes → Err e ≡ end_of_rows (field_widths has) 1 (8 * length bytes) 12 → station_at has (cursor_at bits 12) ≡ Err e
+  station_missing has e h check =
+      let c : Err e ≡ end_of_rows (station_widths ++ height_widths has) 1 (length bits) 12 = checked (field_widths has) 12 e check ∙ ap (λ (ws : List ℕ). end_of_rows ws 1 (length bits) 12) (field_widths_are has) in
+      elim (station_end bits has (within 12 h)) [
+        | inl short ↦ short.1 ∙ ap Err (same_short (station_widths ++ height_widths has) bits 12 e short.0 (within 12 h) c short.2)
+        | inr there ↦ absurd (no_short (station_widths ++ height_widths has) bits 12 e (within 12 h) c there.2)
+      ]
+
+  pub station_whole : (has : Bool) → 12 + total_width (field_widths has) ≤ 8 * length bytes → station_at has (cursor_at bits 12) ≡ Ok (station_parts (contents_at station_table bits 12) (height_in has bits), cursor_at bits (12 + total_width (field_widths has)))
+  station_whole false h = station_chain false (cursor_at bits 12) ∙ rw (fields_whole station_table bits 12 (within 152 h)) refl
+  station_whole true h = station_chain true (cursor_at bits 12) ∙ rw (fields_whole station_table bits 12 (within 152 (omega (arith, h))), number_there_at 16 bits 152 (within 168 h)) refl
