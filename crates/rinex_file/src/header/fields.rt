@@ -31,6 +31,24 @@ pub enum HeaderField {
     AntType,
 }
 
+/// The widths of the fields, in columns, in their order.
+const WIDTHS: &[usize] = &[20, 20, 60, 20, 20, 40, 20, 20, 20, 20, 20];
+
+/// The names of the fields, in their order.
+const NAMES: &[&str] = &[
+    "run_by",
+    "date",
+    "marker",
+    "marker_type",
+    "observer",
+    "agency",
+    "rec_number",
+    "rec_type",
+    "rec_version",
+    "ant_number",
+    "ant_type",
+];
+
 /// A row of texts.
 #[derive(Clone, Copy)]
 pub enum TextRow {
@@ -55,35 +73,16 @@ impl HeaderField {
         AntNumber, AntType,
     ];
 
-    /// Returns the width of the text, in columns, and the name of the field.
-    fn width_and_name(self) -> (usize, &'static str)
-        ensures { result.0 ≡ width_of self }
-    {
-        match self {
-            RunBy => (20, "run_by"),
-            Date => (20, "date"),
-            Marker => (60, "marker"),
-            MarkerType => (20, "marker_type"),
-            Observer => (20, "observer"),
-            Agency => (40, "agency"),
-            RecNumber => (20, "rec_number"),
-            RecType => (20, "rec_type"),
-            RecVersion => (20, "rec_version"),
-            AntNumber => (20, "ant_number"),
-            AntType => (20, "ant_type"),
-        }
-    }
-
     /// Returns the width of the text, in columns: 20, 40 or 60.
     pub fn width(self) -> usize
         ensures { result ≡ width_of self }
     {
-        self.width_and_name().0
+        WIDTHS[self.place()]
     }
 
     /// Returns the name of the field in [`Texts`](crate::Texts).
     pub fn name(self) -> &'static str {
-        self.width_and_name().1
+        NAMES[self.place()]
     }
 
     /// Returns the index among all fields, counted from 0.
