@@ -1,4 +1,5 @@
 use Rattle.std.proofs.Common.{arith}
+use Rattle.std.proofs.lemmas.Grind.{common_steps}
 use Rattle.rinex_file.proofs.Digits.{ten_pow}
 use Rattle.rinex_file.proofs.write.numbers.fixed_text.Goals as goal
 
@@ -7,3 +8,15 @@ nonzero_div-size c = let h = ten_pow c.args.places in omega (arith, h, c.require
 
 pub nonzero_rem-size : goal.nonzero_rem-size
 nonzero_rem-size c = let h = ten_pow c.args.places in omega (arith, h, c.requires.scale)
+
+pub put-requires : goal.put-requires
+put-requires c = grind (arith, common_steps)
+
+pub push-requires-2 : goal.push-requires-2
+push-requires-2 c = grind (arith, common_steps)
+
+pub put_padded-requires : goal.put_padded-requires
+put_padded-requires c = grind (arith, common_steps)
+
+pub returns : goal.returns
+returns c = grind (arith, common_steps)
