@@ -19,6 +19,8 @@ use Rattle.rinex_file.specs.File.{file_text, file_lines}
 use Rattle.rinex_file.specs.ParserState.{History, with_line, GoesOnWithLine, ShowsLine, RefusesLine}
 use Rattle.rinex_file.specs.Counting.{AreCounts, IsTextWith}
 use Rattle.rinex_file.specs.Read.Steps.{ReadsNextLine, HasRead, IsWhole, IsTextOfOnly, file_at, IsTaken}
+use Rattle.rinex_file.specs.declared.read.file.FileBuilder.{FileBuilder}
+use Rattle.rinex_file.specs.Read.Keeping.{history_of, HasReadWhole}
 use Rattle.rinex_file.specs.Numbers.{joined}
 use Rattle.rinex_file.specs.declared.read.fault.ReadFault.{ReadFault}
 use Rattle.rinex_file.specs.declared.read.fault.ReadFault.TheVariants.{Memory, Read, BadHeader, BadEpoch, BadEvent, BadSatellite, CutShort, TooLong}
@@ -314,6 +316,10 @@ both_said v0 v1 v2 v3 h p q = grind arith
 pub said_of : (a : Option (List ℕ)) (P Q : List ℕ → Type 0) → ((input : List ℕ) → P input → Q input) → IfSome a P → IfSome a Q
 said_of v0 v1 v2 h p = grind arith
 
+pub explains_memory : (a : Option (List ℕ)) → IfSome a (λ input. ExplainsFault input Memory)
+explains_memory None = tt
+explains_memory (Some input) = tt
+
 -- a memory fault has nothing to explain
 pub no_reason : (a : Option (List ℕ)) (v : FileValue) → IfSome a (λ input. input ≡ file_text v → ⊤)
 no_reason v0 v = grind arith
@@ -342,10 +348,6 @@ pub added_more : (new : Reading) (h : History) (input left : Option (List ℕ)) 
     → HasRead new (with_line added new.parser_state h) input left
 added_more new h input left o added e goes = subst (λ (x : Option Added). ReadsNextLine new h input left (Ok x)) e goes
 
-pub one_added : (new : Reading) (h : History) (input left : Option (List ℕ)) (o : Option Added) → is_some o ≡ true → ReadsNextLine new h input left (Ok o) → (k : History) × HasRead new k input left
-one_added new h input left (Some added) some goes = (with_line added new.parser_state h, goes)
-one_added new h input left None some goes = cc
-
 pub the_end : (new : Reading) (h : History) (input left : Option (List ℕ)) (o : Option Added) → is_some o ≡ false → ReadsNextLine new h input left (Ok o) → IsWhole new.parser_state h input
 the_end new h input left v4 none goes = grind arith
 
@@ -356,6 +358,6 @@ pub file_only : (c : ParserState) (h : History) (input : Option (List ℕ)) (f v
     → IfSome input (λ bytes. bytes ≡ file_text v → f ≡ v)
 file_only c h input f v whole same is = said_of input (IsTextOfOnly (file_at c h)) _ (λ bytes text e. same ∙ sym (text.only v is e)) whole.text
 
--- what is stored is a history that was read
-pub kept_read : (r : Reading) (h k : History) (input left : Option (List ℕ)) → k ≡ h → HasRead r h input left → HasRead r k input left
-kept_read r h k input left same read = subst (λ (x : History). HasRead r x input left) (sym same) read
+-- what is stored of a file that was read whole is its history
+pub stored_whole : (c : ParserState) (k : FileBuilder) (input : Option (List ℕ)) → HasReadWhole true c k input → IsWhole c (history_of k) input
+stored_whole c k input (h, whole, stores) = subst (λ (x : History). IsWhole c x input) (sym (stores refl)) whole

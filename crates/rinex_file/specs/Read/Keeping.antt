@@ -1,16 +1,26 @@
 -- The epochs of a file that are stored while it is read.
-use Rattle.std.specs.Prelude.{ℕ, ◌<◌, ◌≤◌, List, length, All}
+use Rattle.std.specs.Prelude.{◌≡◌, ℕ, ◌<◌, ◌≤◌, Bool, true, List, length, All, Option}
 use Rattle.rinex_file.specs.declared.read.file.FileBuilder.{FileBuilder}
 use Rattle.rinex_file.specs.Value.{SatelliteRow, Stamped}
 use Rattle.rinex_file.specs.FileValues.{AreSignalValues}
+use Rattle.rinex_file.specs.declared.read.parser_state.ParserState.{ParserState}
 use Rattle.rinex_file.specs.ParserState.{History}
 use Rattle.rinex_file.specs.Numbers.{joined}
 use Rattle.rinex_file.specs.File.{stamped_lines}
 use Rattle.rinex_file.specs.Limits.{most_signals}
+use Rattle.rinex_file.specs.Read.Steps.{IsWhole}
 
 -- the history that is stored
 abbrev pub history_of : FileBuilder → History
 history_of k = record { epochs = k.epochs.items; rows = k.rows.items }
+
+-- the history is stored, if one is
+abbrev pub Stores : Bool → FileBuilder → History → Type 0
+Stores is_stored k h = is_stored ≡ true → history_of k ≡ h
+
+-- a file was read whole, and its history is stored, if one is
+abbrev pub HasReadWhole : Bool → ParserState → FileBuilder → Option (List ℕ) → Type 0
+HasReadWhole is_stored c k input = (h : History) × IsWhole c h input × Stores is_stored k h
 
 -- a line has room for a satellite
 abbrev pub HasRoom : SatelliteRow → Type 0

@@ -6,8 +6,8 @@ ghost use Rattle.rinex_file.specs.Blocks.{LeavesRest};
 ghost use Rattle.rinex_file.specs.Counting.{IsTextWith, IsCountedOr};
 ghost use Rattle.rinex_file.specs.FileValues.{IsFileValue};
 ghost use Rattle.rinex_file.specs.ParserState.{History, FollowsHistory, nothing, with_epoch, with_line, with_satellite};
-ghost use Rattle.rinex_file.specs.Read.Steps.{file_at};
-ghost use Rattle.rinex_file.specs.Read.Keeping.{history_of};
+ghost use Rattle.rinex_file.specs.Read.Steps.{file_at, HasRead, MayBeCounted};
+ghost use Rattle.rinex_file.specs.Read.Keeping.{history_of, HasReadWhole};
 
 use crate::read::expected::Added;
 use crate::read::fault::ReadFault;
@@ -111,6 +111,31 @@ impl FileBuilder {
     }
 }
 
+/// Reads the lines of a file to its end, and stores what each adds if `is_stored`.
+fn read_lines<R: Read>(
+    reader: &mut Counted<R>,
+    reading: &mut Reading,
+    builder: &mut FileBuilder,
+    is_stored: bool,
+) -> Result<(), ReadFault>
+    requires read { HasRead reading.old nothing (R.remaining reader.old.inner) (R.remaining reader.old.inner) }
+    requires within { MayBeCounted reading.old }
+    requires none { history_of builder.old ≡ nothing }
+    ensures found { OnOk result
+        (HasReadWhole is_stored reading.new.parser_state builder.new (R.remaining reader.old.inner)) }
+    ensures fault { IfErr result (λ e. IfSome (R.remaining reader.old.inner) (λ input. ExplainsFault input e)) }
+    ensures failed { result ≡ Err ReadFault.Read → HasFailed reader.old.failures reader.new.failures }
+    ensures same { (result ≡ Err ReadFault.Read → ⊥) → reader.new.failures ≡ reader.old.failures }
+    ensures left { LeavesRest (R.remaining reader.old.inner) (R.remaining reader.new.inner) }
+{
+    while let Some(added) = reading.next(reader)? {
+        if is_stored && builder.keep(added, &reading.parser_state).is_err() {
+            return Err(ReadFault::Memory);
+        }
+    }
+    Ok(())
+}
+
 /// Reads a file to its end and returns its counts. A file is accepted if and only if it is exactly
 /// what [`write_header`](crate::write_header), [`write_event`](crate::write_event) and
 /// [`write_epoch`](crate::write_epoch) write. Memory doesn't grow with the file.
@@ -134,8 +159,15 @@ pub fn check_file<R: Read>(alloc: Global, reader: &mut Counted<R>) -> Result<Cou
     ensures left { LeavesRest (R.remaining reader.old.inner) (R.remaining reader.new.inner) }
 {
     let mut reading = Reading::new(alloc);
-    while let Some(_) = reading.next(reader)? {}
-    Ok(reading.parser_state.counts)
+    let mut builder = FileBuilder::new(alloc);
+    let read = read_lines(reader, &mut reading, &mut builder, false);
+    let counts = reading.parser_state.counts;
+    drop(builder);
+    drop(reading);
+    match read {
+        Ok(()) => Ok(counts),
+        Err(fault) => Err(fault),
+    }
 }
 
 /// Reads a file to its end and returns it. A file is accepted if and only if it is exactly what
@@ -161,12 +193,15 @@ pub fn read_file<R: Read>(alloc: Global, reader: &mut Counted<R>) -> Result<ObsF
     ensures left { LeavesRest (R.remaining reader.old.inner) (R.remaining reader.new.inner) }
 {
     let mut reading = Reading::new(alloc);
-    let mut file_builder = FileBuilder::new(alloc);
-    while let Some(added) = reading.next(reader)? {
-        let Ok(()) = file_builder.keep(added, &reading.parser_state) else {
-            return Err(ReadFault::Memory);
-        };
+    let mut builder = FileBuilder::new(alloc);
+    match read_lines(reader, &mut reading, &mut builder, true) {
+        Ok(()) => builder
+            .finish(reading.parser_state)
+            .ok_or(ReadFault::Memory),
+        Err(fault) => {
+            drop(builder);
+            drop(reading.parser_state);
+            Err(fault)
+        }
     }
-    let file = file_builder.finish(reading.parser_state);
-    file.ok_or(ReadFault::Memory)
 }

@@ -1,0 +1,61 @@
+use Rattle.std.proofs.Common.{◌≡◌, ◌∙◌, sym, ap, refl, true, false}
+use Rattle.std.specs.Prelude.{is_some, Result, Ok, Err, OnOk}
+use Rattle.std.specs.Result.{is_err}
+use Rattle.rinex_file.specs.Read.Keeping.{history_of}
+use Rattle.std.proofs.lemmas.Result.{err_from_is_err_and}
+use Rattle.rinex_file.specs.ParserState.{nothing, with_line}
+use Rattle.rinex_file.proofs.LineByLine.{added_more, the_end, leaves_all, leaves_more}
+use Rattle.rinex_file.proofs.read.file.read_lines.Goals as goal
+use Rattle.rinex_file.proofs.read.file.read_lines.Goals.{else-is_stored-via-then-is_stored+else-is_err, else-is_stored-via-else-is_stored}
+
+-- a fact that holds if there was no error
+kept : {A E : Type 0} (r : Result A E) (P : Type 0) → is_err r ≡ false → OnOk r P → P
+kept (Ok x) P fine p = p
+kept (Err x) P fine p = cc
+
+not_on : true ≡ false → ⊥
+not_on e = cc
+
+pub loop-added-init : goal.loop-added-init
+loop-added-init g c = record {
+  read = (nothing, c.requires.read, λ stored. c.requires.none);
+  within = c.requires.within;
+  left = leaves_all _;
+  same = refl;
+}
+
+pub loop-added-preserved : goal.loop-added-preserved
+loop-added-preserved g c =
+    let inv = c.loop-added.invariant in
+    let (h, read, stores) = inv.read in
+    let k = with_line c.in-Some.added c.next.new.self.parser_state h in
+    let stored : c.args.is_stored ≡ true → history_of c.else-is_stored.builder ≡ k = λ on. elim c.else-is_stored.branch [
+      | else-is_stored-via-then-is_stored+else-is_err w ↦ ap history_of w.builder-is ∙ kept w.keep.result _ (sym w.is_err.ensures.value ∙ w.if-is_err.false) w.keep.ensures ∙ ap (with_line c.in-Some.added c.next.new.self.parser_state) (stores on)
+      | else-is_stored-via-else-is_stored w ↦ absurd (not_on (sym on ∙ w.if-is_stored.false))
+    ] in
+    record {
+      read = (k, added_more c.next.new.self h _ _ c.in_ok-added.field-0 c.in-Some.added c.in-Some.is (c.in_ok-added.ensures.goes h _ read), stored);
+      within = c.in_ok-added.ensures.within;
+      left = leaves_more _ _ _ inv.left c.in_ok-added.ensures.left;
+      same = c.in_ok-added.ensures.same (λ e. cc) ∙ inv.same;
+    }
+
+pub returns-clause-found : goal.returns-clause-found
+returns-clause-found g c =
+    let (h, read, stores) = c.loop-added.invariant.read in
+    (h, the_end c.next.new.self h _ _ c.in_ok-added.field-0 (ap is_some c.in_default.is) (c.in_ok-added.ensures.goes h _ read), stores)
+
+pub returns-clause-left : goal.returns-clause-left
+returns-clause-left g c = leaves_more _ _ _ c.loop-added.invariant.left c.in_ok-added.ensures.left
+
+pub returns-then-is_err-clause-left : goal.returns-then-is_err-clause-left
+returns-then-is_err-clause-left g c = leaves_more _ _ _ c.loop-added.invariant.left c.in_ok-added.ensures.left
+
+pub returns-in_err-added-clause-fault : goal.returns-in_err-added-clause-fault
+returns-in_err-added-clause-fault g c =
+    let (h, read, stores) = c.loop-added.invariant.read in
+    let (e, at, same) = err_from_is_err_and c.from_residual.result c.from_residual.ensures.1 in
+    rw (at, same) (c.in_err-added.ensures.goes h _ read)
+
+pub returns-in_err-added-clause-left : goal.returns-in_err-added-clause-left
+returns-in_err-added-clause-left g c = leaves_more _ _ _ c.loop-added.invariant.left c.in_err-added.ensures.left

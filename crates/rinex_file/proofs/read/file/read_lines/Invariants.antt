@@ -1,0 +1,21 @@
+use Rattle.std.proofs.Common.{◌≡◌, ◌-◌, ◌+◌}
+use Rattle.rinex_file.specs.Blocks.{LeavesRest}
+use Rattle.rinex_file.specs.ParserState.{History}
+use Rattle.rinex_file.specs.Exact.{most_lines}
+use Rattle.rinex_file.specs.Read.Keeping.{Stores}
+use Rattle.rinex_file.specs.Read.Steps.{HasRead, MayBeCounted}
+use Rattle.rinex_file.proofs.read.file.read_lines.Given as goal
+
+-- a history was read of the input, and it is stored, if one is
+abbrev pub invariant-loop-added : goal.invariant-loop-added
+invariant-loop-added g l =
+    let remaining = g.R.Read.remaining in
+    record {
+      read : (h : History) × HasRead l.reading h (remaining l.fn.reader.inner) (remaining l.reader.inner) × Stores l.is_stored l.builder h;
+      within : MayBeCounted l.reading;
+      left : LeavesRest (remaining l.fn.reader.inner) (remaining l.reader.inner);
+      same : l.reader.failures ≡ l.fn.reader.failures;
+    }
+
+abbrev pub decreases-loop-added : goal.decreases-loop-added
+decreases-loop-added g l = most_lines + 1 - l.reading.count
