@@ -24,13 +24,19 @@ fn is_numbered(system: System, id: u8, is_listed: bool) -> bool {
     }
 }
 
+fn are_numbered() -> bool {
+    for (system, id, is_listed) in &NUMBERS {
+        if !is_numbered(*system, *id, *is_listed) {
+            return false;
+        }
+    }
+    true
+}
+
 #[test]
 fn numbers_satellites(rt: HostRuntime) {
-    for (system, id, is_listed) in &NUMBERS {
-        assert!(rt; is_numbered(*system, *id, *is_listed), "{id}");
-    }
-    let counts = (System::Gps.satellites(), System::Galileo.satellites());
-    assert!(rt; counts == (32, 36));
+    assert!(rt; are_numbered());
+    assert!(rt; System::Gps.satellites() == 32 && System::Galileo.satellites() == 36);
 }
 
 /// The ID of a signal, its code, its index and its carrier frequency.
@@ -50,33 +56,41 @@ static SIGNALS: [Listed; 9] = [
 
 /// Whether the signal has this row.
 fn gives(signal: Signal, listed: &Listed) -> bool {
-    let (system, _, code, index, hertz) = *listed;
-    signal.system() == system
-        && signal.index() == index
-        && signal.hertz() == hertz
-        && signal.code().as_slice() == code.as_bytes()
+    signal.system() == listed.0
+        && signal.index() == listed.3
+        && signal.hertz() == listed.4
+        && has_code_of(signal, listed.2)
+}
+
+fn has_code_of(signal: Signal, code: &str) -> bool {
+    signal.code().as_slice() == code.as_bytes()
 }
 
 /// Whether the ID, the index and the code of a row are those of its signal.
 fn is_listed(listed: &Listed) -> bool {
-    let (system, id, code, index, _) = *listed;
-    match Signal::from_id(system, id) {
+    match Signal::from_id(listed.0, listed.1) {
         Some(signal) => {
             gives(signal, listed)
-                && Signal::from_index(system, index) == Some(signal)
-                && Signal::from_code(system, code) == Some(signal)
+                && Signal::from_index(listed.0, listed.3) == Some(signal)
+                && Signal::from_code(listed.0, listed.2) == Some(signal)
         }
         None => false,
     }
 }
 
+fn are_listed() -> bool {
+    for listed in &SIGNALS {
+        if !is_listed(listed) {
+            return false;
+        }
+    }
+    true
+}
+
 #[test]
 fn lists_signals(rt: HostRuntime) {
-    for listed in &SIGNALS {
-        assert!(rt; is_listed(listed), "{}", listed.2);
-    }
-    let counts = (System::Gps.signals(), System::Galileo.signals());
-    assert!(rt; counts == (15, 19));
+    assert!(rt; are_listed());
+    assert!(rt; System::Gps.signals() == 15 && System::Galileo.signals() == 19);
 }
 
 /// Whether an ID has the signal of this code, or no signal if the code is `--`.
@@ -85,33 +99,33 @@ fn is_code_of_id(system: System, id: u8, code: &str) -> bool {
     listed == Signal::from_code(system, code) && listed.is_none() == (code == "--")
 }
 
-/// The number of codes that are those of the IDs from 1 on.
-fn right_codes(system: System, codes: &str) -> usize {
-    let mut right = 0;
-    for code in codes.split(' ') {
-        if right > 32 || !is_code_of_id(system, right as u8 + 1, code) {
-            return right;
+/// The codes of the 32 positions of the signal mask DF395 of GPS, in order, `--` if no signal has
+/// the position.
+static GPS_MASK: [&str; 32] = [
+    "--", "1C", "1P", "1W", "--", "--", "--", "2C", "2P", "2W", "--", "--", "--", "--", "2S", "2L",
+    "2X", "--", "--", "--", "--", "5I", "5Q", "5X", "--", "--", "--", "--", "--", "1S", "1L", "1X",
+];
+
+/// Those of Galileo.
+static GALILEO_MASK: [&str; 32] = [
+    "--", "1C", "1A", "1B", "1X", "1Z", "--", "6C", "6A", "6B", "6X", "6Z", "--", "7I", "7Q", "7X",
+    "--", "8I", "8Q", "8X", "--", "5I", "5Q", "5X", "--", "--", "--", "--", "--", "--", "--", "--",
+];
+
+/// Whether these are the codes of the IDs from 1 on.
+fn is_mask(system: System, codes: &[&str; 32]) -> bool {
+    for id in 1..33u8 {
+        if !is_code_of_id(system, id, codes[usize::from(id) - 1]) {
+            return false;
         }
-        right += 1;
     }
-    right
+    true
 }
 
-/// The codes of the 32 positions of the signal mask DF395, in order, `--` if no signal has the
-/// position.
 #[test]
 fn fills_the_signal_masks(rt: HostRuntime) {
-    let gps = right_codes(
-        System::Gps,
-        "-- 1C 1P 1W -- -- -- 2C 2P 2W -- -- -- -- 2S 2L \
-         2X -- -- -- -- 5I 5Q 5X -- -- -- -- -- 1S 1L 1X",
-    );
-    let galileo = right_codes(
-        System::Galileo,
-        "-- 1C 1A 1B 1X 1Z -- 6C 6A 6B 6X 6Z -- 7I 7Q 7X \
-         -- 8I 8Q 8X -- 5I 5Q 5X -- -- -- -- -- -- -- --",
-    );
-    assert_eq!(rt; (gps, galileo), (32, 32));
+    assert!(rt; is_mask(System::Gps, &GPS_MASK));
+    assert!(rt; is_mask(System::Galileo, &GALILEO_MASK));
 }
 
 static OTHER_IDS: [(System, u8); 6] = [
@@ -147,119 +161,159 @@ fn has_place(system: System, index: usize) -> bool {
     Signal::from_index(system, index).is_some()
 }
 
+fn has_other_id() -> bool {
+    for (system, id) in &OTHER_IDS {
+        if has_id(*system, *id) {
+            return true;
+        }
+    }
+    false
+}
+
+fn has_other_code() -> bool {
+    for (system, code) in &OTHER_CODES {
+        if has_code(*system, code) {
+            return true;
+        }
+    }
+    false
+}
+
 #[test]
 fn knows_no_other_signal(rt: HostRuntime) {
-    for (system, id) in &OTHER_IDS {
-        assert!(rt; !has_id(*system, *id), "{id}");
-    }
-    for (system, code) in &OTHER_CODES {
-        assert!(rt; !has_code(*system, code), "{code}");
-    }
+    assert!(rt; !has_other_id());
+    assert!(rt; !has_other_code());
     assert!(rt; !has_place(System::Gps, 15) && !has_place(System::Galileo, 19));
 }
 
-/// 70 ms and the fractions next to it.
-static RANGES: [(i64, i64); 3] = [
-    (150_323_855_360, 20_985_472_060),
-    (150_323_855_364, 20_985_472_061),
-    (150_323_855_356, 20_985_472_059),
-];
-
-/// The last is a tie below zero, which is rounded away from it.
-static PHASES: [(i64, i64); 3] = [
-    (150_323_855_360, 110_279_400_000),
-    (150_323_855_361, 110_279_400_001),
-    (-33_554_432, -24_615_938),
-];
-
-fn metres(range: i64) -> Option<i64> {
-    if range.unsigned_abs() > 1 << 40 {
-        return None;
-    }
-    Some(pseudorange(Some(range))?.value())
+/// A value of a message that is rounded.
+enum Observed {
+    Range(i64),
+    /// Of the signal 1C of GPS.
+    Phase(i64),
+    /// Of a signal of GPS.
+    Rate(i32, &'static str),
+    Strength(u16),
+    /// The digit of a strength.
+    Digit(i64),
 }
 
-fn cycles(range: i64) -> Option<i64> {
+/// 70 ms and the fractions next to it. The last phase is a tie below zero, which is rounded away
+/// from it.
+static RANGES_AND_PHASES: [(Observed, i64); 6] = [
+    (Observed::Range(150_323_855_360), 20_985_472_060),
+    (Observed::Range(150_323_855_364), 20_985_472_061),
+    (Observed::Range(150_323_855_356), 20_985_472_059),
+    (Observed::Phase(150_323_855_360), 110_279_400_000),
+    (Observed::Phase(150_323_855_361), 110_279_400_001),
+    (Observed::Phase(-33_554_432), -24_615_938),
+];
+
+/// The two strengths, 45.0625 dB-Hz and 0.0625 dB-Hz, are ties.
+static RATES_AND_STRENGTHS: [(Observed, i64); 12] = [
+    (Observed::Rate(1_000_000, "1C"), -525_504),
+    (Observed::Rate(1, "1C"), -1),
+    (Observed::Rate(1, "5X"), 0),
+    (Observed::Strength(721), 45_063),
+    (Observed::Strength(1), 63),
+    (Observed::Digit(63), 1),
+    (Observed::Digit(6_000), 1),
+    (Observed::Digit(11_999), 1),
+    (Observed::Digit(12_000), 2),
+    (Observed::Digit(45_063), 7),
+    (Observed::Digit(54_000), 9),
+    (Observed::Digit(63_000), 9),
+];
+
+fn metres(range: i64) -> Option<Thousandths> {
     if range.unsigned_abs() > 1 << 40 {
         return None;
     }
-    let l1 = Signal::from_code(System::Gps, "1C")?;
-    Some(phase(Some(range), l1)?.value())
+    pseudorange(Some(range))
+}
+
+fn cycles(range: i64) -> Option<Thousandths> {
+    if range.unsigned_abs() > 1 << 40 {
+        return None;
+    }
+    phase(Some(range), Signal::from_code(System::Gps, "1C")?)
+}
+
+fn hertz(rate: i32, code: &str) -> Option<Thousandths> {
+    if rate.unsigned_abs() > 100_000_000 {
+        return None;
+    }
+    doppler(Some(rate), Signal::from_code(System::Gps, code)?)
+}
+
+fn decibels(ratio: u16) -> Option<Thousandths> {
+    if ratio >= 1024 {
+        return None;
+    }
+    strength(Some(ratio))
+}
+
+fn digit(strength: i64) -> Option<Thousandths> {
+    let digit = strength_digit(Thousandths::new(strength));
+    Some(Thousandths::new(i64::from(digit)))
+}
+
+fn rounded(observed: &Observed) -> Option<Thousandths> {
+    match observed {
+        Observed::Range(range) => metres(*range),
+        Observed::Phase(range) => cycles(*range),
+        Observed::Rate(rate, code) => hertz(*rate, code),
+        Observed::Strength(ratio) => decibels(*ratio),
+        Observed::Digit(strength) => digit(*strength),
+    }
+}
+
+fn is_rounded(observed: &Observed, want: i64) -> bool {
+    match rounded(observed) {
+        Some(value) => value.value() == want,
+        None => false,
+    }
+}
+
+fn are_rounded(rows: &[(Observed, i64)]) -> bool {
+    for (observed, want) in rows {
+        if !is_rounded(observed, *want) {
+            return false;
+        }
+    }
+    true
 }
 
 #[test]
 fn rounds_ranges_and_phases(rt: HostRuntime) {
-    for (range, want) in &RANGES {
-        assert!(rt; metres(*range) == Some(*want), "{range}");
-    }
-    for (range, want) in &PHASES {
-        assert!(rt; cycles(*range) == Some(*want), "{range}");
-    }
-}
-
-static RATES: [(i32, &str, i64); 3] = [(1_000_000, "1C", -525_504), (1, "1C", -1), (1, "5X", 0)];
-
-/// 45.0625 dB-Hz and 0.0625 dB-Hz: ties.
-static STRENGTHS: [(u16, i64); 2] = [(721, 45_063), (1, 63)];
-
-static DIGITS: [(i64, u8); 7] = [
-    (63, 1),
-    (6_000, 1),
-    (11_999, 1),
-    (12_000, 2),
-    (45_063, 7),
-    (54_000, 9),
-    (63_000, 9),
-];
-
-fn hertz(rate: i32, code: &str) -> Option<i64> {
-    if rate.unsigned_abs() > 100_000_000 {
-        return None;
-    }
-    let signal = Signal::from_code(System::Gps, code)?;
-    Some(doppler(Some(rate), signal)?.value())
-}
-
-fn decibels(ratio: u16) -> Option<i64> {
-    if ratio >= 1024 {
-        return None;
-    }
-    Some(strength(Some(ratio))?.value())
-}
-
-fn digit(strength: i64) -> u8 {
-    strength_digit(Thousandths::new(strength))
+    assert!(rt; are_rounded(&RANGES_AND_PHASES));
 }
 
 #[test]
 fn rounds_rates_and_strengths(rt: HostRuntime) {
-    for (rate, code, want) in &RATES {
-        assert!(rt; hertz(*rate, code) == Some(*want), "{rate}");
-    }
-    for (ratio, want) in &STRENGTHS {
-        assert!(rt; decibels(*ratio) == Some(*want), "{ratio}");
-    }
-    for (strength, want) in &DIGITS {
-        assert!(rt; digit(*strength) == *want, "{strength}");
-    }
+    assert!(rt; are_rounded(&RATES_AND_STRENGTHS));
     assert!(rt; Thousandths::new(-1) < Thousandths::new(0));
     assert!(rt; Thousandths::new(-1).value() == -1);
 }
 
 /// Whether absent values remain absent: a range, its phase, a rate and a strength.
-fn are_absent(signal: Signal) -> [bool; 4] {
-    [
-        pseudorange(None).is_none(),
-        phase(None, signal).is_none(),
-        doppler(None, signal).is_none(),
-        strength(None).is_none(),
-    ]
+fn are_absent(signal: Signal) -> bool {
+    pseudorange(None).is_none()
+        && phase(None, signal).is_none()
+        && doppler(None, signal).is_none()
+        && strength(None).is_none()
+}
+
+fn are_absent_of(code: &str) -> bool {
+    match Signal::from_code(System::Gps, code) {
+        Some(signal) => are_absent(signal),
+        None => false,
+    }
 }
 
 #[test]
 fn keeps_absent_observables(rt: HostRuntime) {
-    let absent = Signal::from_code(System::Gps, "1C").map(are_absent);
-    assert!(rt; absent == Some([true; 4]));
+    assert!(rt; are_absent_of("1C"));
 }
 
 enum Indicator {
@@ -290,16 +344,23 @@ static TIMES: [(Indicator, Option<u32>, Option<u32>); 11] = [
     (Indicator::Df407(1023), None, None),
 ];
 
-fn times(indicator: &Indicator) -> (Option<u32>, Option<u32>) {
+fn has_times(indicator: &Indicator, least: Option<u32>, upper: Option<u32>) -> bool {
     let lock = indicator.lock();
-    (lock.least(), lock.upper())
+    lock.least() == least && lock.upper() == upper
+}
+
+fn are_lock_times() -> bool {
+    for (indicator, least, upper) in &TIMES {
+        if !has_times(indicator, *least, *upper) {
+            return false;
+        }
+    }
+    true
 }
 
 #[test]
 fn reads_lock_times(rt: HostRuntime) {
-    for (indicator, least, upper) in &TIMES {
-        assert!(rt; times(indicator) == (*least, *upper));
-    }
+    assert!(rt; are_lock_times());
 }
 
 static LOSSES: [(Indicator, Indicator, u64, bool); 8] = [
@@ -322,12 +383,16 @@ static LOSSES: [(Indicator, Indicator, u64, bool); 8] = [
     (Indicator::Df402(15), Indicator::Df407(705), 1_000, false),
 ];
 
+fn are_losses() -> bool {
+    for (then, now, elapsed, want) in &LOSSES {
+        if is_lost(then.lock(), now.lock(), *elapsed) != *want {
+            return false;
+        }
+    }
+    true
+}
+
 #[test]
 fn finds_lost_locks(rt: HostRuntime) {
-    for (then, now, elapsed, want) in &LOSSES {
-        assert!(rt;
-            is_lost(then.lock(), now.lock(), *elapsed) == *want,
-            "{elapsed}"
-        );
-    }
+    assert!(rt; are_losses());
 }
