@@ -1,4 +1,7 @@
 //! What no clause states: published vectors, that a call can succeed, and failures of devices.
+//!
+//! A test is a table of steps, each a call and its expected outcome: one function owns the window,
+//! the writer or the reader, and one makes each call.
 
 mod buffered;
 
@@ -9,14 +12,20 @@ use rtcm_bits::{
     BitReader, BitWriter, CheckRegister, Counted, LONGEST_FRAME, LONGEST_MESSAGE, Window, crc24q,
     frame_of,
 };
+use std::alloc::Global;
 use std::io;
 use std::io::{ErrorKind, Read, Write};
-use std::test::Fail;
 
 /// The frame of a message 1005 of station 2003.
-const STATION_FRAME: [u8; 25] = [
+const STATION_FRAME: &[u8; 25] = &[
     0xD3, 0x00, 0x13, 0x3E, 0xD7, 0xD3, 0x02, 0x02, 0x98, 0x0E, 0xDE, 0xEF, 0x34, 0xB4, 0xBD, 0x62,
     0xAC, 0x09, 0x41, 0x98, 0x6F, 0x33, 0x36, 0x0B, 0x98,
+];
+
+/// Its message.
+const MESSAGE: &[u8; 19] = &[
+    0x3E, 0xD7, 0xD3, 0x02, 0x02, 0x98, 0x0E, 0xDE, 0xEF, 0x34, 0xB4, 0xBD, 0x62, 0xAC, 0x09, 0x41,
+    0x98, 0x6F, 0x33,
 ];
 
 // Each call with clauses has a function without one, so that no test carries the clauses. It
@@ -88,91 +97,144 @@ fn drop_others(window: &mut Window, byte: u8) -> usize {
     window.drop_others(byte)
 }
 
-/// The numbers of bytes of the window, of all looks, and of those at one byte.
-fn counts(window: &Window) -> (usize, u64, u16) {
-    (window.held(), window.examined(), window.most())
+/// A call of a window, and its expected outcome.
+enum Step {
+    /// Bytes are pushed one by one.
+    Pushes(&'static [u8]),
+    /// Bytes are pushed into an empty window.
+    Fills(&'static [u8]),
+    /// The number of bytes, of all looks, and of those at one byte.
+    Counts(usize, u64, u16),
+    /// A look at the byte at an index.
+    Looks(usize, u8),
+    /// The number of looks at the byte at an index.
+    Looked(usize, u16),
+    /// The CRC of the bytes from an index on, and their number.
+    Checks(usize, usize, u32),
+    /// The bytes from an index on are passed on.
+    Passes(usize, &'static [u8]),
+    /// This number of bytes is dropped.
+    Drops(usize),
+    /// Bytes other than one are dropped, and their number.
+    DropsOthers(u8, usize),
 }
 
-/// Whether five bytes are pushed, some looked at, and the first one dropped, each with its looks.
-fn counts_looks(window: &mut Window) -> bool {
-    push_each(window, &[10, 11, 12, 13, 14])
-        && counts(window) == (5, 0, 0)
-        && look(window, 0) == Some(10)
-        && look(window, 0) == Some(10)
-        && counts(window) == (5, 2, 2)
-        && hands_over(window, 1, &[11, 12])
-        && drop_front(window, 1)
-        && (looks(window, 0), counts(window)) == (Some(1), (4, 4, 2))
+/// Whether a step has its expected outcome.
+fn goes(window: &mut Window, step: &Step) -> bool {
+    match step {
+        Step::Pushes(bytes) => push_each(window, bytes),
+        Step::Fills(bytes) => window.held() == 0 && push_all(window, bytes),
+        Step::Counts(held, examined, most) => {
+            window.held() == *held && window.examined() == *examined && window.most() == *most
+        }
+        Step::Looks(place, byte) => look(window, *place) == Some(*byte),
+        Step::Looked(place, times) => looks(window, *place) == Some(*times),
+        Step::Checks(start, size, crc) => check_range(window, *start, *size) == Some(*crc),
+        Step::Passes(start, bytes) => hands_over(window, *start, bytes),
+        Step::Drops(size) => drop_front(window, *size),
+        Step::DropsOthers(byte, size) => drop_others(window, *byte) == *size,
+    }
 }
 
-#[test]
-fn window_counts_looks(rt: HostRuntime) -> Result<(), Fail> {
-    let mut window = Window::new(rt.alloc())?;
-    assert!(rt; counts_looks(&mut window));
-    Ok(())
-}
-
-/// Whether a frame is pushed, checked, passed on and dropped, each byte with its looks.
-fn passes_on(window: &mut Window) -> bool {
-    window.held() == 0
-        && push_all(window, &STATION_FRAME)
-        && check_range(window, 0, 22) == Some(0x36_0B98)
-        && (looks(window, 21), looks(window, 22)) == (Some(1), Some(0))
-        && hands_over(window, 3, &STATION_FRAME[3..22])
-        && drop_front(window, 25)
-}
-
-/// The number of frames of a hundred that are passed on. Their bytes wrap round at times.
-fn passed_on(window: &mut Window) -> usize {
-    for round in 0..100 {
-        if !passes_on(window) {
-            return round;
+fn go_through(window: &mut Window, steps: &[Step]) -> bool {
+    for step in steps {
+        if !goes(window, step) {
+            return false;
         }
     }
-    100
+    true
 }
 
-#[test]
-fn ranges_of_a_window(rt: HostRuntime) -> Result<(), Fail> {
-    let mut window = Window::new(rt.alloc())?;
-    let given = (passed_on(&mut window), counts(&window));
-    assert_eq!(rt; given, (100, (0, 4_100, 2)));
-    Ok(())
-}
-
-/// Whether bytes other than one are dropped, up to it and up to the end, with a look at each and at
-/// the byte where it stops.
-fn drops_others(window: &mut Window) -> bool {
-    window.held() == 0
-        && push_all(window, &[7, 8, 0xD3, 9, 0xD3])
-        && (drop_others(window, 0xD3), counts(window)) == (2, (3, 3, 1))
-        && (looks(window, 0), looks(window, 1)) == (Some(1), Some(0))
-        && (drop_others(window, 0xD3), counts(window)) == (0, (3, 4, 2))
-        && (drop_others(window, 0xD4), counts(window)) == (3, (0, 7, 3))
-        && (drop_others(window, 0xD4), counts(window)) == (0, (0, 7, 3))
-}
-
-/// The first of many rounds in which other bytes aren't dropped with a look at each. The bytes
-/// begin at another position of the memory in each round, and reach its end.
-fn first_wrong_round(window: &mut Window) -> Option<usize> {
-    for round in 0..3 * LONGEST_FRAME {
-        let dropped = push_all(window, &[1, 2, 3, 0xD3])
-            && drop_others(window, 0xD3) == 3
-            && looks(window, 0) == Some(1)
-            && drop_front(window, 1);
-        if !dropped {
-            return Some(round);
+/// Whether the steps have their expected outcomes in each of this number of rounds.
+fn go_round(window: &mut Window, rounds: usize, steps: &[Step]) -> bool {
+    for _ in 0..rounds {
+        if !go_through(window, steps) {
+            return false;
         }
     }
-    None
+    true
 }
 
+/// Whether a new window goes through the first steps in each of this number of rounds, and then
+/// through the others.
+fn goes_as_given(alloc: Global, rounds: usize, first: &[Step], last: &[Step]) -> bool {
+    match Window::new(alloc) {
+        Ok(mut window) => {
+            let goes = go_round(&mut window, rounds, first) && go_through(&mut window, last);
+            drop(window);
+            goes
+        }
+        Err(_) => false,
+    }
+}
+
+/// Five bytes are pushed, some looked at, and the first one dropped, each with its looks.
+static LOOKS: [Step; 8] = [
+    Step::Pushes(&[10, 11, 12, 13, 14]),
+    Step::Counts(5, 0, 0),
+    Step::Looks(0, 10),
+    Step::Looks(0, 10),
+    Step::Counts(5, 2, 2),
+    Step::Passes(1, &[11, 12]),
+    Step::Drops(1),
+    Step::Looked(0, 1),
+];
+
+static AFTER_LOOKS: [Step; 1] = [Step::Counts(4, 4, 2)];
+
 #[test]
-fn others_are_dropped(rt: HostRuntime) -> Result<(), Fail> {
-    let mut window = Window::new(rt.alloc())?;
-    assert!(rt; drops_others(&mut window));
-    assert_eq!(rt; first_wrong_round(&mut window), None);
-    Ok(())
+fn window_counts_looks(rt: HostRuntime) {
+    assert!(rt; goes_as_given(rt.alloc(), 1, &LOOKS, &AFTER_LOOKS));
+}
+
+/// A frame is pushed, checked, passed on and dropped, each byte with its looks.
+static PASSED_ON: [Step; 6] = [
+    Step::Fills(STATION_FRAME),
+    Step::Checks(0, 22, 0x36_0B98),
+    Step::Looked(21, 1),
+    Step::Looked(22, 0),
+    Step::Passes(3, MESSAGE),
+    Step::Drops(25),
+];
+
+static AFTER_FRAMES: [Step; 1] = [Step::Counts(0, 4_100, 2)];
+
+/// The bytes of a hundred frames wrap round at times.
+#[test]
+fn ranges_of_a_window(rt: HostRuntime) {
+    assert!(rt; goes_as_given(rt.alloc(), 100, &PASSED_ON, &AFTER_FRAMES));
+}
+
+/// Bytes other than one are dropped, up to it and up to the end, with a look at each and at the
+/// byte where it stops.
+static OTHERS: [Step; 10] = [
+    Step::Fills(&[7, 8, 0xD3, 9, 0xD3]),
+    Step::DropsOthers(0xD3, 2),
+    Step::Counts(3, 3, 1),
+    Step::Looked(0, 1),
+    Step::Looked(1, 0),
+    Step::DropsOthers(0xD3, 0),
+    Step::Counts(3, 4, 2),
+    Step::DropsOthers(0xD4, 3),
+    Step::Counts(0, 7, 3),
+    Step::DropsOthers(0xD4, 0),
+];
+
+static AFTER_OTHERS: [Step; 1] = [Step::Counts(0, 7, 3)];
+
+/// The same of three bytes.
+static THREE_OTHERS: [Step; 4] = [
+    Step::Fills(&[1, 2, 3, 0xD3]),
+    Step::DropsOthers(0xD3, 3),
+    Step::Looked(0, 1),
+    Step::Drops(1),
+];
+
+/// In the many rounds the bytes begin at another position of the memory in each, and reach its end.
+#[test]
+fn others_are_dropped(rt: HostRuntime) {
+    assert!(rt; goes_as_given(rt.alloc(), 1, &OTHERS, &AFTER_OTHERS));
+    assert!(rt; goes_as_given(rt.alloc(), 3 * LONGEST_FRAME, &THREE_OTHERS, &[]));
 }
 
 /// The CRC of bytes processed one by one.
@@ -192,18 +254,34 @@ fn check_of_two(front: &[u8], back: &[u8]) -> u32 {
     register.value()
 }
 
+/// Whether the CRC of all but the last three bytes of a frame is the known one, and that of all is
+/// 0.
+fn has_check(frame: &[u8]) -> bool {
+    crc24q(frame.get(..22).unwrap_or(&[])) == 0x36_0B98 && crc24q(frame) == 0
+}
+
+fn is_check_cut(frame: &[u8], cut: usize) -> bool {
+    match (frame.get(..cut), frame.get(cut..22)) {
+        (Some(front), Some(back)) => check_of_two(front, back) == 0x36_0B98,
+        _ => false,
+    }
+}
+
+/// Whether the CRC of the message is that of its frame, in two pieces, however it is cut.
+fn is_check_of_two() -> bool {
+    for cut in 0..23usize {
+        if !is_check_cut(STATION_FRAME, cut) {
+            return false;
+        }
+    }
+    true
+}
+
 #[test]
 fn check_of_a_frame(rt: HostRuntime) {
-    let checks = (
-        crc24q(&STATION_FRAME[..22]),
-        crc24q(&STATION_FRAME),
-        check_of_each(&[0xD3, 0, 0]),
-    );
-    assert_eq!(rt; checks, (0x36_0B98, 0, 0x47_EA4B));
-    for cut in 0..=22 {
-        let check = check_of_two(&STATION_FRAME[..cut], &STATION_FRAME[cut..22]);
-        assert!(rt; check == 0x36_0B98, "{cut}");
-    }
+    assert!(rt; has_check(STATION_FRAME));
+    assert!(rt; check_of_each(&[0xD3, 0, 0]) == 0x47_EA4B);
+    assert!(rt; is_check_of_two());
 }
 
 /// Whether this is the frame of the message, in a buffer that had another byte.
@@ -217,18 +295,20 @@ fn is_framed_as(message: &[u8], want: &[u8]) -> bool {
     frame.as_slice() == want
 }
 
-/// The size of the frame of a message, and the CRC of all its bytes.
-fn size_and_check(message: &[u8; LONGEST_MESSAGE]) -> (usize, u32) {
+static LONGEST: [u8; LONGEST_MESSAGE] = [0x55; LONGEST_MESSAGE];
+
+/// Whether the frame of the longest message has its size and the CRC 0 of all its bytes.
+fn is_longest_framed() -> bool {
     let mut frame = ArrayVec::new();
-    frame_of(message, &mut frame);
-    (frame.len(), crc24q(frame.as_slice()))
+    frame_of(&LONGEST, &mut frame);
+    frame.len() == 1029 && crc24q(frame.as_slice()) == 0
 }
 
 #[test]
 fn frames_of_messages(rt: HostRuntime) {
-    assert!(rt; is_framed_as(&STATION_FRAME[3..22], &STATION_FRAME));
+    assert!(rt; is_framed_as(MESSAGE, STATION_FRAME));
     assert!(rt; is_framed_as(&[], &[0xD3, 0x00, 0x00, 0x47, 0xEA, 0x4B]));
-    assert_eq!(rt; size_and_check(&[0x55; 1023]), (1029, 0));
+    assert!(rt; is_longest_framed());
 }
 
 fn unsigned(reader: &mut BitReader, width: u32) -> Option<u64> {
@@ -245,67 +325,96 @@ fn signed(reader: &mut BitReader, width: u32) -> Option<i64> {
     reader.signed(width)
 }
 
-/// Writes 5 in three bits and -11 in five. Returns the room before and after it, in bits.
-fn put_eight_bits(bytes: &mut ArrayVec<u8, 1023>) -> (usize, usize) {
+/// A field of some bits, and its value if they are not missing.
+enum Bits {
+    Unsigned(u32, Option<u64>),
+    Signed(u32, Option<i64>),
+}
+
+fn is_field(reader: &mut BitReader, field: &Bits) -> bool {
+    match field {
+        Bits::Unsigned(width, value) => unsigned(reader, *width) == *value,
+        Bits::Signed(width, value) => signed(reader, *width) == *value,
+    }
+}
+
+/// Whether the bytes have these fields, and this number of bits is read then.
+fn has_fields(bytes: &[u8], fields: &[Bits], place: usize) -> bool {
+    if bytes.len() > LONGEST_MESSAGE {
+        return false;
+    }
+    let mut reader = BitReader::new(bytes);
+    are_fields(&mut reader, fields) && reader.place() == place
+}
+
+fn are_fields(reader: &mut BitReader, fields: &[Bits]) -> bool {
+    for field in fields {
+        if !is_field(reader, field) {
+            return false;
+        }
+    }
+    true
+}
+
+/// The fields of a byte of three bits, five with a sign, and one more.
+static EIGHT_BITS: [Bits; 3] = [
+    Bits::Unsigned(3, Some(5)),
+    Bits::Signed(5, Some(-11)),
+    Bits::Unsigned(1, None),
+];
+
+/// Whether 5 in three bits and -11 in five are written as a byte, with the room before and after
+/// it, in bits.
+fn eight_bits_are_put() -> bool {
+    let mut bytes = ArrayVec::<u8, 1023>::new();
     let mut writer = BitWriter::new();
     let before = writer.bits_left();
     writer.put(5, 3);
     writer.put_signed(-11, 5);
     let after = writer.bits_left();
-    writer.finish(bytes);
-    (before, after)
-}
-
-/// The fields of a byte of three bits, five with a sign, and one more, and the bits read.
-fn eight_bits() -> (Option<u64>, Option<i64>, Option<u64>, usize) {
-    let mut reader = BitReader::new(&[0xB5]);
-    (
-        unsigned(&mut reader, 3),
-        signed(&mut reader, 5),
-        unsigned(&mut reader, 1),
-        reader.place(),
-    )
+    writer.finish(&mut bytes);
+    before == 8184 && after == 8176 && bytes.as_slice() == [0xB5].as_slice()
 }
 
 #[test]
 fn bits_of_a_byte(rt: HostRuntime) {
-    assert!(rt; eight_bits() == (Some(5), Some(-11), None, 8));
-    let mut bytes = ArrayVec::new();
-    assert!(rt;
-        put_eight_bits(&mut bytes) == (8184, 8176) && bytes.as_slice() == [0xB5].as_slice()
-    );
+    assert!(rt; has_fields(&[0xB5], &EIGHT_BITS, 8));
+    assert!(rt; eight_bits_are_put());
 }
 
-/// Writes 1 in four bits, the least number in 64, and 3 in two.
-fn put_seventy_bits(bytes: &mut ArrayVec<u8, 1023>) {
+/// Whether 1 in four bits, the least number in 64, and 3 in two are written as these bytes.
+fn seventy_bits_are_put() -> bool {
+    let mut bytes = ArrayVec::<u8, 1023>::new();
     let mut writer = BitWriter::new();
     writer.put(0x1, 4);
     writer.put_signed(i64::MIN, 64);
     writer.put(3, 2);
-    writer.finish(bytes);
+    writer.finish(&mut bytes);
+    bytes.as_slice() == [0x18, 0, 0, 0, 0, 0, 0, 0, 0x0C].as_slice()
 }
 
 static SEVENTY_TWO_BITS: [u8; 9] = [0x12, 0x34, 0x56, 0x78, 0x9A, 0xBC, 0xDE, 0xF0, 0x0F];
 
-/// Its fields of 4 and 64 bits, one of 5 for which bits are missing, the bits read then, and one of
-/// 4.
-fn seventy_two_bits() -> ([Option<u64>; 2], Option<i64>, usize, Option<i64>) {
-    let mut reader = BitReader::new(&SEVENTY_TWO_BITS);
-    (
-        [unsigned(&mut reader, 4), unsigned(&mut reader, 64)],
-        signed(&mut reader, 5),
-        reader.place(),
-        signed(&mut reader, 4),
-    )
-}
+/// Its fields of 4 and 64 bits, and one of 5 for which bits are missing.
+static SEVENTY_TWO: [Bits; 3] = [
+    Bits::Unsigned(4, Some(0x1)),
+    Bits::Unsigned(64, Some(0x2345_6789_ABCD_EF00)),
+    Bits::Signed(5, None),
+];
+
+/// The same with a last one of 4.
+static WITH_THE_LAST: [Bits; 4] = [
+    Bits::Unsigned(4, Some(0x1)),
+    Bits::Unsigned(64, Some(0x2345_6789_ABCD_EF00)),
+    Bits::Signed(5, None),
+    Bits::Signed(4, Some(-1)),
+];
 
 #[test]
 fn bits_across_bytes(rt: HostRuntime) {
-    let fields = [Some(0x1), Some(0x2345_6789_ABCD_EF00)];
-    assert!(rt; seventy_two_bits() == (fields, None, 68, Some(-1)));
-    let mut written = ArrayVec::new();
-    put_seventy_bits(&mut written);
-    assert!(rt; written.as_slice() == [0x18, 0, 0, 0, 0, 0, 0, 0, 0x0C].as_slice());
+    assert!(rt; has_fields(&SEVENTY_TWO_BITS, &SEVENTY_TWO, 68));
+    assert!(rt; has_fields(&SEVENTY_TWO_BITS, &WITH_THE_LAST, 72));
+    assert!(rt; seventy_bits_are_put());
 }
 
 /// The result of a call, with the number of failures counted by then.
@@ -334,34 +443,36 @@ static READS: [(usize, Answer); 7] = [
     (7, (Err(ErrorKind::Interrupted), 2)),
 ];
 
-/// The number of these reads with their results, and the start of the last bytes.
-fn answered(reader: &mut Counted<PieceReader>) -> (usize, [u8; 2]) {
+/// Whether these reads have their results, and the buffer begins with the last bytes.
+fn are_answered(reader: &mut Counted<PieceReader>) -> bool {
     let mut buf = [0u8; 10];
-    let mut right = 0usize;
     for (room, want) in &READS {
-        let read = read(reader, &mut buf[..(*room).min(10)]);
-        if read != *want {
-            break;
+        if read(reader, &mut buf[..(*room).min(10)]) != *want {
+            return false;
         }
-        right = right.saturating_add(1);
     }
-    (right, [buf[0], buf[1]])
+    buf[0] == 0x0B && buf[1] == 0x98
 }
 
-/// The number of reads of the frame in pieces with their results and its last bytes, the sizes of
-/// the largest buffer before and after them, and that of the last buffer of the device.
-fn counted_reads() -> ((usize, [u8; 2]), [usize; 2], usize) {
+/// Whether the reads of a reader are answered, with the sizes of the largest buffer before and
+/// after them.
+fn widens(reader: &mut Counted<PieceReader>) -> bool {
+    reader.widest() == 0 && are_answered(reader) && reader.widest() == 10
+}
+
+static PIECES: [usize; 3] = [4, 0, 25];
+
+/// Whether the reads of the frame in pieces are answered, and the size of the last buffer of the
+/// device.
+fn are_counted() -> bool {
     let end = ReadEnd::Fails(ErrorKind::Interrupted);
-    let mut reader = Counted::new(PieceReader::new(&STATION_FRAME, &[4, 0, 25], end));
-    let before = reader.widest();
-    let right = answered(&mut reader);
-    let widest = [before, reader.widest()];
-    (right, widest, reader.into_inner().asked())
+    let mut reader = Counted::new(PieceReader::new(STATION_FRAME, &PIECES, end));
+    widens(&mut reader) && reader.into_inner().asked() == 7
 }
 
 #[test]
 fn reads_are_counted(rt: HostRuntime) {
-    assert!(rt; counted_reads() == ((7, [0x0B, 0x98]), [0, 10], 7));
+    assert!(rt; are_counted());
 }
 
 /// A reader that fails in its first call, and then has one byte in each.
@@ -410,65 +521,83 @@ fn write(writer: &mut Pairs, bytes: &[u8]) -> Answer {
     answer(outcome, writer.failures())
 }
 
-/// Whether all bytes are written, with the number of failures counted by then.
-fn write_whole(writer: &mut Pairs, bytes: &[u8]) -> (bool, u64) {
-    let is_whole = writer.write_whole(bytes).is_ok();
-    (is_whole, writer.failures())
+/// Whether all bytes are written.
+fn write_whole(writer: &mut Pairs, bytes: &[u8]) -> bool {
+    writer.write_whole(bytes).is_ok()
 }
 
-/// Whether the writer has accepted these bytes.
-fn has_taken(writer: Pairs, want: &[u8]) -> bool {
-    writer.into_inner().into_inner().as_slice() == want
+/// Bytes that are written, with the outcome.
+enum Sent {
+    /// By one write.
+    Once(&'static [u8], Answer),
+    /// Whether all are written, and the number of failures counted by then.
+    Whole(&'static [u8], bool, u64),
 }
 
-/// Whether a device that fails once after three bytes is counted as failed from then on.
-fn fails_on(writer: &mut Pairs) -> bool {
-    write_whole(writer, &[1, 2, 3]) == (true, 0)
-        && write(writer, &[4, 5, 6]) == (Err(ErrorKind::Other), 1)
-        && write(writer, &[4, 5, 6]) == (Ok(0), 2)
-        && write(writer, &[]) == (Ok(0), 2)
-        && write_whole(writer, &[4, 5]) == (false, 3)
+fn is_sent(writer: &mut Pairs, sent: &Sent) -> bool {
+    match sent {
+        Sent::Once(bytes, want) => write(writer, bytes) == *want,
+        Sent::Whole(bytes, is_whole, failures) => {
+            write_whole(writer, bytes) == *is_whole && writer.failures() == *failures
+        }
+    }
 }
 
-fn three_are_taken() -> bool {
-    let mut writer = pairs(3, WriteEnd::FailsOnce(ErrorKind::Other));
-    fails_on(&mut writer) && has_taken(writer, &[1, 2, 3])
+fn are_sent(writer: &mut Pairs, sends: &[Sent]) -> bool {
+    for sent in sends {
+        if !is_sent(writer, sent) {
+            return false;
+        }
+    }
+    true
 }
+
+/// Whether the writes to a device have their outcomes, and it has accepted the first of these
+/// bytes, their number being all that it accepts.
+fn are_taken(total: usize, end: WriteEnd, sends: &[Sent]) -> bool {
+    let mut writer = pairs(total, end);
+    let are_sent = are_sent(&mut writer, sends);
+    let taken = writer.into_inner().into_inner();
+    are_sent && taken.as_slice() == &[1, 2, 3, 4, 5][..total.min(5)]
+}
+
+/// A device that fails once after three bytes is counted as failed from then on.
+static THREE: [Sent; 5] = [
+    Sent::Whole(&[1, 2, 3], true, 0),
+    Sent::Once(&[4, 5, 6], (Err(ErrorKind::Other), 1)),
+    Sent::Once(&[4, 5, 6], (Ok(0), 2)),
+    Sent::Once(&[], (Ok(0), 2)),
+    Sent::Whole(&[4, 5], false, 3),
+];
 
 #[test]
 fn writes_are_counted(rt: HostRuntime) {
-    assert!(rt; three_are_taken());
+    assert!(rt; are_taken(3, WriteEnd::FailsOnce(ErrorKind::Other), &THREE));
 }
 
-/// Whether five bytes of seven are accepted, and one failure is counted.
-fn five_are_taken(end: WriteEnd) -> bool {
-    let mut writer = pairs(5, end);
-    write_whole(&mut writer, &[1, 2, 3, 4, 5, 6, 7]) == (false, 1)
-        && has_taken(writer, &[1, 2, 3, 4, 5])
-}
+/// Five bytes of seven are accepted, and one failure is counted.
+static FIVE: [Sent; 1] = [Sent::Whole(&[1, 2, 3, 4, 5, 6, 7], false, 1)];
 
 #[test]
 fn whole_writes_stop_at_a_failure(rt: HostRuntime) {
-    assert!(rt; five_are_taken(WriteEnd::TakesNone));
-    assert!(rt; five_are_taken(WriteEnd::Fails(ErrorKind::Interrupted)));
+    assert!(rt; are_taken(5, WriteEnd::TakesNone, &FIVE));
+    assert!(rt; are_taken(5, WriteEnd::Fails(ErrorKind::Interrupted), &FIVE));
 }
 
-/// Whether two bytes are written, whether they are flushed, and the numbers of failures and of
-/// calls of the device.
-fn write_and_flush(device: Stumbles) -> (bool, bool, u64, usize) {
+/// Whether two bytes are written and not flushed, with one failure.
+fn writes_and_stops(writer: &mut Counted<ShortWriter<Stumbles>>) -> bool {
+    writer.write_whole(&[1, 2]).is_ok() && writer.flush().is_err() && writer.failures() == 1
+}
+
+/// Whether a device that fails in its second call is flushed once.
+fn is_flushed_once() -> bool {
+    let device = Stumbles::new(2);
     let mut writer = Counted::new(ShortWriter::new(device, 9, 9, WriteEnd::TakesNone));
-    let is_written = writer.write_whole(&[1, 2]).is_ok();
-    let is_flushed = writer.flush().is_ok();
-    let failures = writer.failures();
-    (
-        is_written,
-        is_flushed,
-        failures,
-        writer.into_inner().into_inner().calls,
-    )
+    let stops = writes_and_stops(&mut writer);
+    stops && writer.into_inner().into_inner().calls == 2
 }
 
 #[test]
 fn flushes_are_handed_on(rt: HostRuntime) {
-    assert!(rt; write_and_flush(Stumbles::new(2)) == (true, false, 1, 2));
+    assert!(rt; is_flushed_once());
 }

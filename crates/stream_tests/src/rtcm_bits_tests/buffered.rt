@@ -1,6 +1,6 @@
 //! The calls that a buffer makes of its device.
 use rtcm_bits::Buffered;
-use std::alloc::{AllocError, Global};
+use std::alloc::Global;
 use std::io;
 use std::io::{ErrorKind, Write};
 
@@ -57,19 +57,23 @@ fn write_lines(buffer: &mut Buffered<Stumbles>) -> io::Result<()> {
     buffer.flush()
 }
 
-/// Whether the lines are written and flushed, and the numbers of calls and of bytes of the device.
-fn after_lines(alloc: Global) -> Result<(bool, usize, usize), AllocError> {
-    let mut buffer = Buffered::new(alloc, Stumbles::new(0))?;
-    let are_written = write_lines(&mut buffer).is_ok();
-    let device = buffer.into_inner();
-    Ok((are_written, device.calls, device.taken))
+/// Whether the lines are written and flushed, by this number of calls of the device.
+fn are_written(alloc: Global, calls: usize) -> bool {
+    match Buffered::new(alloc, Stumbles::new(0)) {
+        Ok(mut buffer) => {
+            let are_written = write_lines(&mut buffer).is_ok();
+            let device = buffer.into_inner();
+            are_written && device.calls == calls && device.taken == 100_000
+        }
+        Err(_) => false,
+    }
 }
 
 /// Bytes are written when the buffer is full, and at a flush.
 #[test]
 fn bytes_go_out_many_at_a_time(rt: HostRuntime) {
     // One write of 65,536 bytes, one of the rest, and a flush.
-    assert_eq!(rt; after_lines(rt.alloc()), Ok((true, 3, 100_000)));
+    assert!(rt; are_written(rt.alloc(), 3));
 }
 
 static BLOCK: [u8; 65_536] = [b'x'; 65_536];
@@ -82,48 +86,76 @@ fn flush(buffer: &mut Buffered<&mut Stumbles>) -> bool {
     buffer.flush().is_ok()
 }
 
-/// Whether each call succeeds: a write that fills the buffer, one after it, a flush, and both once
-/// more.
-fn are_good(buffer: &mut Buffered<&mut Stumbles>) -> [bool; 5] {
-    [
-        write(buffer, &BLOCK),
-        write(buffer, b"y"),
-        flush(buffer),
-        write(buffer, b"z"),
-        flush(buffer),
-    ]
+/// The call in which a device fails, whether each call of its buffer succeeds, and after the drop
+/// of the buffer the numbers of calls and of bytes of the device.
+struct Outcome {
+    fails_at: usize,
+    good: [bool; 5],
+    calls: usize,
+    taken: usize,
 }
 
-/// The calls of a buffer that succeed, and after its drop the numbers of calls and of bytes of the
-/// device.
-type Outcome = ([bool; 5], usize, usize);
-
-/// The outcome of a buffer whose device fails in this call.
-fn after_failure(alloc: Global, fails_at: usize) -> Result<Outcome, AllocError> {
-    let mut device = Stumbles::new(fails_at);
-    let good = {
-        let mut buffer = Buffered::new(alloc, &mut device)?;
-        are_good(&mut buffer)
-    };
-    Ok((good, device.calls, device.taken))
+/// Whether the calls succeed as given: a write that fills the buffer, one after it, a flush, and
+/// both once more.
+fn are_good(buffer: &mut Buffered<&mut Stumbles>, good: &[bool; 5]) -> bool {
+    write(buffer, &BLOCK) == good[0]
+        && write(buffer, b"y") == good[1]
+        && flush(buffer) == good[2]
+        && write(buffer, b"z") == good[3]
+        && flush(buffer) == good[4]
 }
 
-fn after_each_failure(alloc: Global) -> Result<[Outcome; 3], AllocError> {
-    Ok([
-        after_failure(alloc, 1)?,
-        after_failure(alloc, 2)?,
-        after_failure(alloc, 3)?,
-    ])
+/// The same of a buffer that is dropped then.
+fn are_good_of(alloc: Global, device: &mut Stumbles, good: &[bool; 5]) -> bool {
+    match Buffered::new(alloc, device) {
+        Ok(mut buffer) => {
+            let are_good = are_good(&mut buffer, good);
+            drop(buffer);
+            are_good
+        }
+        Err(_) => false,
+    }
+}
+
+fn comes_of(alloc: Global, outcome: &Outcome) -> bool {
+    let mut device = Stumbles::new(outcome.fails_at);
+    are_good_of(alloc, &mut device, &outcome.good)
+        && device.calls == outcome.calls
+        && device.taken == outcome.taken
 }
 
 static OUTCOMES: [Outcome; 3] = [
-    ([true, false, false, false, false], 1, 0),
-    ([true, true, false, false, false], 2, 65_536),
-    ([true, true, false, false, false], 3, 65_537),
+    Outcome {
+        fails_at: 1,
+        good: [true, false, false, false, false],
+        calls: 1,
+        taken: 0,
+    },
+    Outcome {
+        fails_at: 2,
+        good: [true, true, false, false, false],
+        calls: 2,
+        taken: 65_536,
+    },
+    Outcome {
+        fails_at: 3,
+        good: [true, true, false, false, false],
+        calls: 3,
+        taken: 65_537,
+    },
 ];
+
+fn all_come(alloc: Global) -> bool {
+    for outcome in &OUTCOMES {
+        if !comes_of(alloc, outcome) {
+            return false;
+        }
+    }
+    true
+}
 
 /// After a failure nothing more is written: not by a write, not by a flush, and not by the drop.
 #[test]
 fn nothing_is_tried_again(rt: HostRuntime) {
-    assert_eq!(rt; after_each_failure(rt.alloc()), Ok(OUTCOMES));
+    assert!(rt; all_come(rt.alloc()));
 }
