@@ -6,11 +6,10 @@ ghost use Rattle.std.specs.Prelude.{◌<◌};
 use arrayvec::ArrayVec;
 use rtcm_bits::{LONGEST_FRAME, frame_of};
 use rtcm_scan::{Framer, Frames, MOST_BYTES, ScanFault};
-use std::alloc::{AllocError, Global};
-use std::test::Fail;
+use std::alloc::Global;
 
 /// The frames of a message 1005, 1006, 1077 and 1074 of station 2003, one after the other.
-const FOUR_FRAMES: [u8; 130] = [
+const FOUR_FRAMES: &[u8; 130] = &[
     0xD3, 0x00, 0x13, 0x3E, 0xD7, 0xD3, 0x02, 0x02, 0x98, 0x0E, 0xDE, 0xEF, 0x34, 0xB4, 0xBD, 0x62,
     0xAC, 0x09, 0x41, 0x98, 0x6F, 0x33, 0x36, 0x0B, 0x98, 0xD3, 0x00, 0x15, 0x3E, 0xE7, 0xD3, 0x02,
     0x02, 0x98, 0x0E, 0xDE, 0xEF, 0x34, 0xB4, 0xBD, 0x62, 0xAC, 0x09, 0x41, 0x98, 0x6F, 0x33, 0x3A,
@@ -23,30 +22,30 @@ const FOUR_FRAMES: [u8; 130] = [
 ];
 
 /// The frame of the message 1005 after three bytes that claim a longest message.
-const BEHIND_A_CLAIM: [u8; 28] = [
+const BEHIND_A_CLAIM: &[u8; 28] = &[
     0xD3, 0xFF, 0xFF, 0xD3, 0x00, 0x13, 0x3E, 0xD7, 0xD3, 0x02, 0x02, 0x98, 0x0E, 0xDE, 0xEF, 0x34,
     0xB4, 0xBD, 0x62, 0xAC, 0x09, 0x41, 0x98, 0x6F, 0x33, 0x36, 0x0B, 0x98,
 ];
 
 /// The frame of the message 1005 with the six reserved bits of the header set.
-const RESERVED_SET: [u8; 25] = [
+const RESERVED_SET: &[u8; 25] = &[
     0xD3, 0xFC, 0x13, 0x3E, 0xD7, 0xD3, 0x02, 0x02, 0x98, 0x0E, 0xDE, 0xEF, 0x34, 0xB4, 0xBD, 0x62,
     0xAC, 0x09, 0x41, 0x98, 0x6F, 0x33, 0xB4, 0x38, 0xF2,
 ];
 
 /// The frame of the empty message.
-const EMPTY_MESSAGE: [u8; 6] = [0xD3, 0x00, 0x00, 0x47, 0xEA, 0x4B];
+const EMPTY_MESSAGE: &[u8; 6] = &[0xD3, 0x00, 0x00, 0x47, 0xEA, 0x4B];
 
 /// That of the empty message after another preamble, which claims 768 bytes of message.
-const LATE_FRAME: [u8; 7] = [0xD3, 0xD3, 0x00, 0x00, 0x47, 0xEA, 0x4B];
+const LATE_FRAME: &[u8; 7] = &[0xD3, 0xD3, 0x00, 0x00, 0x47, 0xEA, 0x4B];
 
 /// That frame inside a candidate with an invalid CRC.
-const INNER_FRAME: [u8; 12] = [
+const INNER_FRAME: &[u8; 12] = &[
     0xD3, 0x00, 0x06, 0xD3, 0x00, 0x00, 0x47, 0xEA, 0x4B, 0x00, 0x00, 0x00,
 ];
 
 /// The longest claim at every byte.
-const PREAMBLES: [u8; 2_000] = [0xD3; 2_000];
+const PREAMBLES: &[u8; 2_000] = &[0xD3; 2_000];
 
 /// The number of bytes in no frame, of all looks, and of those at one byte.
 type Counts = (u64, u64, u16);
@@ -65,91 +64,91 @@ struct Stream<'a> {
 
 static STREAMS: [Stream<'static>; 13] = [
     Stream {
-        bytes: &FOUR_FRAMES,
+        bytes: FOUR_FRAMES,
         size: 25,
         frames: &[(0, 19)],
         before: (1, 0, (0, 44, 2)),
         after: (0, 44, 2),
     },
     Stream {
-        bytes: &FOUR_FRAMES,
+        bytes: FOUR_FRAMES,
         size: 0,
         frames: &[],
         before: (0, 0, (0, 0, 0)),
         after: (0, 0, 0),
     },
     Stream {
-        bytes: &EMPTY_MESSAGE,
+        bytes: EMPTY_MESSAGE,
         size: 6,
         frames: &[(0, 0)],
         before: (1, 0, (0, 6, 1)),
         after: (0, 6, 1),
     },
     Stream {
-        bytes: &LATE_FRAME,
+        bytes: LATE_FRAME,
         size: 7,
         frames: &[(1, 0)],
         before: (0, 7, (0, 7, 1)),
         after: (1, 13, 2),
     },
     Stream {
-        bytes: &PREAMBLES,
+        bytes: PREAMBLES,
         size: 10,
         frames: &[],
         before: (0, 10, (0, 10, 1)),
         after: (10, 55, 10),
     },
     Stream {
-        bytes: &FOUR_FRAMES,
+        bytes: FOUR_FRAMES,
         size: 24,
         frames: &[],
         before: (0, 24, (0, 24, 1)),
         after: (24, 65, 3),
     },
     Stream {
-        bytes: &INNER_FRAME,
+        bytes: INNER_FRAME,
         size: 12,
         frames: &[(3, 0)],
         before: (1, 0, (6, 23, 2)),
         after: (6, 23, 2),
     },
     Stream {
-        bytes: &BEHIND_A_CLAIM,
+        bytes: BEHIND_A_CLAIM,
         size: 28,
         frames: &[(3, 19)],
         before: (0, 28, (0, 28, 1)),
         after: (3, 74, 3),
     },
     Stream {
-        bytes: &FOUR_FRAMES,
+        bytes: FOUR_FRAMES,
         size: 91,
         frames: &[(0, 19), (25, 21)],
         before: (2, 39, (0, 131, 2)),
         after: (39, 174, 3),
     },
     Stream {
-        bytes: &RESERVED_SET,
+        bytes: RESERVED_SET,
         size: 25,
         frames: &[(0, 19)],
         before: (1, 0, (0, 44, 2)),
         after: (0, 44, 2),
     },
     Stream {
-        bytes: &FOUR_FRAMES,
+        bytes: FOUR_FRAMES,
         size: 52,
         frames: &[(0, 19), (25, 21)],
         before: (2, 0, (0, 92, 2)),
         after: (0, 92, 2),
     },
     Stream {
-        bytes: &FOUR_FRAMES,
+        bytes: FOUR_FRAMES,
         size: 94,
         frames: &[(0, 19), (25, 21), (52, 36)],
         before: (3, 0, (0, 170, 2)),
         after: (0, 170, 2),
     },
     Stream {
-        bytes: &FOUR_FRAMES,
+        bytes: FOUR_FRAMES,
         size: 130,
         frames: &[(0, 19), (25, 21), (52, 36), (94, 30)],
         before: (4, 0, (0, 236, 2)),
@@ -160,7 +159,7 @@ static STREAMS: [Stream<'static>; 13] = [
 /// Each candidate before 1,016 is examined to the end of its claim, and each other one to the end
 /// of the stream.
 static CLAIMS: Stream<'static> = Stream {
-    bytes: &PREAMBLES,
+    bytes: PREAMBLES,
     size: 2_000,
     frames: &[],
     before: (0, 984, (1_016, 1_001_744, 985)),
@@ -172,16 +171,17 @@ impl<'a> Stream<'a> {
         &self.bytes[..self.size.min(self.bytes.len())]
     }
 
+    /// The message of a frame.
+    fn message(&self, place: usize, size: usize) -> Option<&[u8]> {
+        let start = place.saturating_add(3);
+        self.bytes.get(start..start.saturating_add(size))
+    }
+
     /// Whether this is its frame with that number.
     fn has(&self, number: usize, offset: u64, message: &[u8]) -> bool {
         match self.frames.get(number) {
             Some((place, size)) => {
-                let start = place.saturating_add(3);
-                let end = start.saturating_add(*size);
-                *place as u64 == offset
-                    && end <= self.bytes.len()
-                    && start <= end
-                    && &self.bytes[start..end] == message
+                *place as u64 == offset && self.message(*place, *size) == Some(message)
             }
             None => false,
         }
@@ -311,24 +311,24 @@ fn is_set(alloc: Global, stream: &Stream, cut: usize, size: usize) -> bool
     given_by(alloc, stream, cut, size) == Some((stream.before, stream.after))
 }
 
-/// The first size of blocks in which the stream doesn't have its frames and counts.
-fn first_wrong_size(alloc: Global, stream: &Stream) -> Option<usize> {
+/// Whether the stream has its frames and counts in blocks of each size.
+fn is_set_in_blocks(alloc: Global, stream: &Stream) -> bool {
     for size in 1..=stream.size.max(1) {
         if !is_set(alloc, stream, 0, size) {
-            return Some(size);
+            return false;
         }
     }
-    None
+    true
 }
 
-/// The first cut with which the stream doesn't have its frames and counts.
-fn first_wrong_cut(alloc: Global, stream: &Stream) -> Option<usize> {
+/// Whether the stream has its frames and counts with each cut.
+fn is_set_cut(alloc: Global, stream: &Stream) -> bool {
     for cut in 0..=stream.size {
         if !is_set(alloc, stream, cut, stream.size.max(1)) {
-            return Some(cut);
+            return false;
         }
     }
-    None
+    true
 }
 
 /// Whether the stream has its frames as a slice too.
@@ -343,22 +343,19 @@ fn is_listed(stream: &Stream) -> bool {
     listed == stream.frames.len()
 }
 
+fn are_worked(alloc: Global) -> bool {
+    for stream in &STREAMS {
+        if !(is_listed(stream) && is_set_in_blocks(alloc, stream) && is_set_cut(alloc, stream)) {
+            return false;
+        }
+    }
+    true
+}
+
 #[test]
 fn worked_streams(rt: HostRuntime) {
-    for stream in &STREAMS {
-        let wrong = (
-            first_wrong_size(rt.alloc(), stream),
-            first_wrong_cut(rt.alloc(), stream),
-        );
-        assert_eq!(rt;
-            (wrong, is_listed(stream)),
-            ((None, None), true),
-            "{:?}",
-            stream.after
-        );
-    }
-    assert!(rt; is_set(rt.alloc(), &CLAIMS, 0, 1));
-    assert!(rt; is_listed(&CLAIMS));
+    assert!(rt; are_worked(rt.alloc()));
+    assert!(rt; is_set(rt.alloc(), &CLAIMS, 0, 1) && is_listed(&CLAIMS));
 }
 
 /// A byte 0, the frame of a longest message, of 1,023 bytes, and that of a message of 958 bytes,
@@ -374,94 +371,113 @@ fn longest_frames() -> ArrayVec<u8, 2_048> {
     frames
 }
 
-/// Blocks of two end with the first frame if a byte precedes it, the longest block if none does.
-#[test]
-fn longest_messages(rt: HostRuntime) {
-    let frames = longest_frames();
-    let with_byte = Stream {
-        bytes: frames.as_slice(),
+/// The frames of the longest messages after a byte.
+fn follow_a_byte(alloc: Global, bytes: &[u8]) -> bool {
+    let stream = Stream {
+        bytes,
         size: 1_994,
         frames: &[(1, 1_023), (1_030, 958)],
         before: (2, 0, (1, 3_975, 2)),
         after: (1, 3_975, 2),
     };
-    let frames_alone = Stream {
-        bytes: frames.as_slice().get(1..).unwrap_or(&[]),
+    is_set(alloc, &stream, 0, 1) && is_set(alloc, &stream, 0, 2) && is_listed(&stream)
+}
+
+/// The frames of the longest messages alone.
+fn are_alone(alloc: Global, bytes: &[u8]) -> bool {
+    let stream = Stream {
+        bytes,
         size: 1_993,
         frames: &[(0, 1_023), (1_029, 958)],
         before: (2, 0, (0, 3_974, 2)),
         after: (0, 3_974, 2),
     };
-    let by_size = (
-        is_set(rt.alloc(), &with_byte, 0, 1),
-        is_set(rt.alloc(), &with_byte, 0, 2),
-        is_set(rt.alloc(), &frames_alone, 0, LONGEST_FRAME),
-    );
-    let as_slices = (is_listed(&with_byte), is_listed(&frames_alone));
-    assert_eq!(rt; (by_size, as_slices), ((true, true, true), (true, true)));
+    is_set(alloc, &stream, 0, LONGEST_FRAME) && is_listed(&stream)
 }
 
-/// A framer at its limit: its room, the results of pushing a byte and a block, the number of bytes
-/// held, and the result of pushing a byte after its end.
-type Answers = (
-    usize,
-    Option<Result<(), ScanFault>>,
-    Option<Result<(), ScanFault>>,
-    usize,
-    Option<Result<(), ScanFault>>,
-);
+/// Blocks of two end with the first frame if a byte precedes it, the longest block if none does.
+#[test]
+fn longest_messages(rt: HostRuntime) {
+    let frames = longest_frames();
+    assert!(rt; follow_a_byte(rt.alloc(), frames.as_slice()));
+    assert!(rt; are_alone(rt.alloc(), frames.as_slice().get(1..).unwrap_or(&[])));
+}
 
-fn answers(framer: &mut Framer) -> Answers {
-    let room = framer.room();
-    let byte = push(framer, 0xD3);
-    let block = push_all(framer, &[0xD3]);
-    let held = framer.held();
+/// Whether pushing a byte is refused so.
+fn is_refused(framer: &mut Framer, fault: ScanFault) -> bool {
+    push(framer, 0xD3) == Some(Err(fault))
+}
+
+/// Whether a framer at its limit has no room, refuses a byte and a block, holds this number of
+/// bytes, and refuses a byte after its end.
+fn refuses(framer: &mut Framer, held: usize) -> bool {
+    framer.room() == 0
+        && is_refused(framer, ScanFault::TooLong)
+        && push_all(framer, &[0xD3]) == Some(Err(ScanFault::TooLong))
+        && framer.held() == held
+        && is_refused_after_end(framer)
+}
+
+fn is_refused_after_end(framer: &mut Framer) -> bool {
     framer.end();
-    (room, byte, block, held, push(framer, 0xD3))
+    is_refused(framer, ScanFault::Ended)
 }
 
-/// The results of a framer with this limit after as many preambles; None if one is refused.
-fn at_limit(framer: &mut Framer, limit: usize) -> Option<Answers> {
+/// Whether a preamble is accepted and is no frame.
+fn takes_preamble(framer: &mut Framer) -> bool {
+    push(framer, 0xD3) == Some(Ok(())) && framer.next().is_none()
+}
+
+/// Whether a framer with this limit accepts as many preambles, and no more.
+fn stops_at(framer: &mut Framer, limit: usize) -> bool {
     for _ in 0..limit {
-        if push(framer, 0xD3) != Some(Ok(())) || framer.next().is_some() {
-            return None;
+        if !takes_preamble(framer) {
+            return false;
         }
     }
-    Some(answers(framer))
+    refuses(framer, limit)
 }
 
-fn limited(alloc: Global, limit: usize) -> Option<Answers> {
+fn is_limited(alloc: Global, limit: usize) -> bool {
     match Framer::new(alloc, limit as u64) {
-        Ok(mut framer) => at_limit(&mut framer, limit),
-        Err(_) => None,
+        Ok(mut framer) => {
+            let stops = stops_at(&mut framer, limit);
+            drop(framer);
+            stops
+        }
+        Err(_) => false,
     }
 }
 
-/// The result of pushing a byte to a framer with room after its end.
-fn after_end(alloc: Global) -> Option<Result<(), ScanFault>> {
+/// Whether a framer with room refuses a byte after its end.
+fn has_end(alloc: Global) -> bool {
     match Framer::new(alloc, MOST_BYTES) {
         Ok(mut framer) => {
-            framer.end();
-            push(&mut framer, 0xD3)
+            let is_refused = is_refused_after_end(&mut framer);
+            drop(framer);
+            is_refused
         }
-        Err(_) => None,
+        Err(_) => false,
     }
 }
 
 #[test]
 fn limits(rt: HostRuntime) {
-    assert!(rt; after_end(rt.alloc()) == Some(Err(ScanFault::Ended)));
+    assert!(rt; has_end(rt.alloc()));
     assert!(rt; refused(rt.alloc(), MOST_BYTES + 1) == Some(ScanFault::BadLimit));
-    let long = Some(Err(ScanFault::TooLong));
-    for limit in [0, 10] {
-        let want = (0, long, long, limit, Some(Err(ScanFault::Ended)));
-        assert!(rt; limited(rt.alloc(), limit) == Some(want), "{limit}");
-    }
+    assert!(rt; is_limited(rt.alloc(), 0) && is_limited(rt.alloc(), 10));
 }
 
 /// Whether a fault has this text.
-fn says(alloc: Global, fault: ScanFault, text: &str) -> Result<bool, AllocError> {
-    Ok(fault.to_string(alloc)?.as_str() == text)
+fn says(alloc: Global, fault: ScanFault, text: &str) -> bool {
+    match fault.to_string(alloc) {
+        Ok(said) => {
+            let is_text = said.as_str() == text;
+            drop(said);
+            is_text
+        }
+        Err(_) => false,
+    }
 }
 
 static TEXTS: [(ScanFault, &str); 4] = [
@@ -471,10 +487,16 @@ static TEXTS: [(ScanFault, &str); 4] = [
     (ScanFault::Ended, "Ended"),
 ];
 
-#[test]
-fn texts_of_faults(rt: HostRuntime) -> Result<(), Fail> {
+fn have_texts(alloc: Global) -> bool {
     for (fault, text) in &TEXTS {
-        assert!(rt; says(rt.alloc(), *fault, text)?, "{text}");
+        if !says(alloc, *fault, text) {
+            return false;
+        }
     }
-    Ok(())
+    true
+}
+
+#[test]
+fn texts_of_faults(rt: HostRuntime) {
+    assert!(rt; have_texts(rt.alloc()));
 }
