@@ -7,56 +7,56 @@ ghost use Rattle.std.specs.Prelude.{◌≤◌};
 
 use arrayvec::ArrayVec;
 use rtcm_msg::{
-    Cell7, Entry, Field, Form, Grid7, Message, MsgFault, Msm, MsmHeader, Satellite7, StationParts,
-    View, decode, encode, look,
+    Cell7, Entry, Form, Grid7, Masks, Message, MsgFault, Msm, MsmHeader, MsmView, Satellite7,
+    StationParts, View, decode, encode, look,
 };
 use std::test::*;
 
 /// Message 1005 of station 2003, from a public example of the standard's frames.
-const STATION: [u8; 19] = [
+const STATION: &[u8; 19] = &[
     0x3E, 0xD7, 0xD3, 0x02, 0x02, 0x98, 0x0E, 0xDE, 0xEF, 0x34, 0xB4, 0xBD, 0x62, 0xAC, 0x09, 0x41,
     0x98, 0x6F, 0x33,
 ];
 
 /// Message 1006 with the same values and an antenna height of 1.5 m.
-const HEIGHT: [u8; 21] = [
+const HEIGHT: &[u8; 21] = &[
     0x3E, 0xE7, 0xD3, 0x02, 0x02, 0x98, 0x0E, 0xDE, 0xEF, 0x34, 0xB4, 0xBD, 0x62, 0xAC, 0x09, 0x41,
     0x98, 0x6F, 0x33, 0x3A, 0x98,
 ];
 
 /// Message 1077 with one cell, of satellite 5 and signal 2.
-pub const FINE: [u8; 36] = [
+pub const FINE: &[u8; 36] = &[
     0x43, 0x57, 0xD3, 0x00, 0x00, 0x0F, 0xA0, 0x00, 0x00, 0x04, 0x00, 0x00, 0x00, 0x00, 0x00, 0x00,
     0x00, 0x20, 0x00, 0x00, 0x00, 0x51, 0x80, 0x00, 0x01, 0x90, 0x00, 0x00, 0x00, 0x00, 0x00, 0x00,
     0x05, 0xA2, 0x00, 0x00,
 ];
 
 /// Message 1074 with the same cell.
-const COARSE: [u8; 30] = [
+const COARSE: &[u8; 30] = &[
     0x43, 0x27, 0xD3, 0x00, 0x00, 0x0F, 0xA0, 0x00, 0x00, 0x04, 0x00, 0x00, 0x00, 0x00, 0x00, 0x00,
     0x00, 0x20, 0x00, 0x00, 0x00, 0x51, 0x80, 0x0F, 0xFF, 0xE0, 0x00, 0x00, 0xFE, 0xD0,
 ];
 
 /// Message 1094 with the same cell.
-const GALILEO: [u8; 30] = [
+const GALILEO: &[u8; 30] = &[
     0x44, 0x67, 0xD3, 0x00, 0x00, 0x0F, 0xA0, 0x00, 0x00, 0x04, 0x00, 0x00, 0x00, 0x00, 0x00, 0x00,
     0x00, 0x20, 0x00, 0x00, 0x00, 0x51, 0x80, 0x0F, 0xFF, 0xE0, 0x00, 0x00, 0xFE, 0xD0,
 ];
 
 /// Message 1077 with no satellite and no signal.
-const EMPTY: [u8; 22] = [
+const EMPTY: &[u8; 22] = &[
     0x43, 0x57, 0xD3, 0x00, 0x00, 0x0F, 0xA0, 0x00, 0x00, 0x00, 0x00, 0x00, 0x00, 0x00, 0x00, 0x00,
     0x00, 0x00, 0x00, 0x00, 0x00, 0x00,
 ];
 
 /// Message 1077 with 9 satellites and 8 signals, truncated after these masks.
-const MANY: [u8; 22] = [
+const MANY: &[u8; 22] = &[
     0x43, 0x57, 0xD3, 0x00, 0x00, 0x0F, 0xA0, 0x00, 0x00, 0x7F, 0xC0, 0x00, 0x00, 0x00, 0x00, 0x00,
     0x00, 0x7F, 0x80, 0x00, 0x00, 0x51,
 ];
 
 /// The head of message 1077 with an epoch time of 604,800,000 ms.
-const LATE: [u8; 7] = [0x43, 0x57, 0xD3, 0x90, 0x32, 0x10, 0x00];
+const LATE: &[u8; 7] = &[0x43, 0x57, 0xD3, 0x90, 0x32, 0x10, 0x00];
 
 /// The values of the message 1005.
 pub const STATION_PARTS: StationParts = StationParts {
@@ -86,6 +86,8 @@ pub const HEADER: MsmHeader = MsmHeader {
     interval: 0,
 };
 
+static HEAD: MsmHeader = HEADER;
+
 pub const SATELLITE: Satellite7 = Satellite7 {
     whole: 70,
     extended: 0,
@@ -108,25 +110,19 @@ struct Sent(&'static [u8], usize, &'static [(usize, u8)]);
 const ALL: usize = 36;
 
 impl Sent {
-    fn bytes(&self) -> [u8; ALL] {
-        let mut bytes = [0; ALL];
-        for (i, byte) in self.0.iter().enumerate() {
-            if i < ALL {
-                bytes[i] = *byte;
-            }
-        }
-        for (place, byte) in self.2 {
-            if *place < ALL {
-                bytes[*place] = *byte;
-            }
-        }
+    fn bytes(&self) -> ArrayVec<u8, ALL> {
+        let mut bytes = ArrayVec::new();
+        let _ = bytes.try_extend_from_slice(self.0.get(..self.1).unwrap_or(&[]));
+        replace(bytes.as_mut_slice(), self.2);
         bytes
     }
+}
 
-    fn size(&self) -> usize
-        ensures { result ≤ 36 }
-    {
-        self.1.min(ALL)
+fn replace(bytes: &mut [u8], others: &[(usize, u8)]) {
+    for (place, byte) in others {
+        if *place < bytes.len() {
+            bytes[*place] = *byte;
+        }
     }
 }
 
@@ -151,125 +147,164 @@ pub fn is_written_back(bytes: &[u8]) -> bool {
     is_written_as(bytes, bytes)
 }
 
-static MESSAGES: [&[u8]; 6] = [&STATION, &HEIGHT, &FINE, &COARSE, &GALILEO, &EMPTY];
+static MESSAGES: [&[u8]; 6] = [STATION, HEIGHT, FINE, COARSE, GALILEO, EMPTY];
+
+fn are_written_back() -> bool {
+    for message in &MESSAGES {
+        if !is_written_back(message) {
+            return false;
+        }
+    }
+    true
+}
 
 #[test]
 fn messages_are_written_back(rt: HostRuntime) {
-    for message in &MESSAGES {
-        assert!(rt; is_written_back(message));
+    assert!(rt; are_written_back());
+}
+
+/// Whether a station message has these parts.
+fn has_parts(bytes: &[u8], parts: &StationParts) -> bool {
+    match &look(bytes) {
+        Ok(View::Station(station)) => station.parts() == *parts,
+        _ => false,
     }
 }
 
-/// The parts of a station message.
-fn parts_of(sent: &Sent) -> Option<StationParts> {
-    match &look(&sent.bytes()[..sent.size()]) {
-        Ok(View::Station(station)) => Some(station.parts()),
-        _ => None,
-    }
-}
-
-static STATIONS: [(Sent, Option<u16>); 3] = [
-    (Sent(&STATION, 19, &[]), None),
-    (Sent(&HEIGHT, 21, &[]), Some(15_000)),
-    // the reserved bit set
-    (Sent(&STATION, 19, &[(9, 0x74)]), None),
+static STATIONS: [(Sent, StationParts); 3] = [
+    (Sent(STATION, 19, &[]), STATION_PARTS),
+    (
+        Sent(HEIGHT, 21, &[]),
+        StationParts {
+            height: Some(15_000),
+            ..STATION_PARTS
+        },
+    ),
+    (Sent(STATION, 19, RESERVED), STATION_PARTS),
 ];
+
+/// The reserved bit of message 1005 set.
+const RESERVED: &[(usize, u8)] = &[(9, 0x74)];
+
+fn have_parts() -> bool {
+    for (sent, parts) in &STATIONS {
+        if !has_parts(sent.bytes().as_slice(), parts) {
+            return false;
+        }
+    }
+    true
+}
 
 #[test]
 fn stations_are_read(rt: HostRuntime) {
-    for (sent, height) in &STATIONS {
-        let parts = StationParts {
-            height: *height,
-            ..STATION_PARTS
-        };
-        assert!(rt; parts_of(sent) == Some(parts));
-    }
-    assert!(rt; is_written_as(&STATIONS[2].0.bytes()[..19], &STATION));
+    assert!(rt; have_parts());
+    assert!(rt; is_written_as(Sent(STATION, 19, RESERVED).bytes().as_slice(), STATION));
 }
 
-/// The head of a multiple signal message: its number, whether it is of Galileo, its header, the
-/// three masks, and the numbers of satellites and cells.
-type Head = (u16, bool, MsmHeader, (u64, u32, u64), (usize, usize));
+/// Whether the header and the masks are those of the known messages: satellite 5 and signal 2.
+fn has_known_head(msm: &MsmView<'_>) -> bool {
+    msm.header() == HEAD && are_known(&msm.masks()) && msm.satellites() == 1 && msm.cells() == 1
+}
 
-/// The form and the head of a multiple signal message.
-fn head_of(sent: &Sent) -> Option<(Form, Head)> {
-    match look(&sent.bytes()[..sent.size()]) {
+fn are_known(masks: &Masks) -> bool {
+    masks.satellites() == 1 << 59 && masks.signals() == 1 << 30 && masks.cells() == 1
+}
+
+/// Whether a multiple signal message has this form, this number and a known head, and is of
+/// Galileo.
+fn has_head(bytes: &[u8], form: Form, number: u16, is_galileo: bool) -> bool {
+    match look(bytes) {
         Ok(View::Msm(msm)) => {
-            let masks = msm.masks();
-            let head = (
-                msm.number(),
-                msm.is_galileo(),
-                msm.header(),
-                (masks.satellites(), masks.signals(), masks.cells()),
-                (msm.satellites(), msm.cells()),
-            );
-            Some((msm.form(), head))
+            msm.form() == form
+                && msm.number() == number
+                && msm.is_galileo() == is_galileo
+                && has_known_head(&msm)
         }
-        _ => None,
+        _ => false,
     }
 }
 
 static HEADS: [(Sent, Form, u16, bool); 3] = [
-    (Sent(&FINE, 36, &[]), Form::Msm7, 1077, false),
+    (Sent(FINE, 36, &[]), Form::Msm7, 1077, false),
     (
-        Sent(&FINE, 36, &[(0, 0x44), (1, 0x97)]),
+        Sent(FINE, 36, &[(0, 0x44), (1, 0x97)]),
         Form::Msm7,
         1097,
         true,
     ),
-    (Sent(&GALILEO, 30, &[]), Form::Msm4, 1094, true),
+    (Sent(GALILEO, 30, &[]), Form::Msm4, 1094, true),
 ];
 
-/// A message of a fine grid: its number, whether it is of Galileo, its header, and the data of its
-/// first satellite and cell.
-type Data = (u16, bool, MsmHeader, Satellite7, Cell7);
-
-fn data_of(msm: &Msm<Grid7>) -> Option<Data> {
-    if msm.satellites() == 0 || msm.cells() == 0 {
+fn first_satellite(msm: &Msm<Grid7>) -> Option<Satellite7> {
+    if msm.satellites() == 0 {
         return None;
     }
-    Some((
-        msm.number(),
-        msm.is_galileo(),
-        msm.header(),
-        msm.satellite(0),
-        msm.cell(0),
-    ))
+    Some(msm.satellite(0))
 }
 
-fn data_read(sent: &Sent) -> Option<Data> {
-    match decode(&sent.bytes()[..sent.size()]) {
-        Ok(Message::Msm7(msm)) => data_of(&msm),
-        _ => None,
+fn first_cell(msm: &Msm<Grid7>) -> Option<Cell7> {
+    if msm.cells() == 0 {
+        return None;
     }
+    Some(msm.cell(0))
+}
+
+/// Whether a message of a fine grid has this number, the known header, and the known data of its
+/// first satellite and cell, and is of Galileo.
+fn is_known(msm: &Msm<Grid7>, number: u16, is_galileo: bool) -> bool {
+    msm.number() == number
+        && msm.is_galileo() == is_galileo
+        && msm.header() == HEAD
+        && first_satellite(msm) == Some(SATELLITE)
+        && first_cell(msm) == Some(CELL)
+}
+
+fn has_data(bytes: &[u8], number: u16, is_galileo: bool) -> bool {
+    match decode(bytes) {
+        Ok(Message::Msm7(msm)) => is_known(&msm, number, is_galileo),
+        _ => false,
+    }
+}
+
+fn have_data() -> bool {
+    for (sent, _, number, is_galileo) in &HEADS[..2] {
+        if !has_data(sent.bytes().as_slice(), *number, *is_galileo) {
+            return false;
+        }
+    }
+    true
 }
 
 #[test]
 fn data_are_read(rt: HostRuntime) {
-    for (sent, _, number, is_galileo) in &HEADS[..2] {
-        let data = (*number, *is_galileo, HEADER, SATELLITE, CELL);
-        assert!(rt; data_read(sent) == Some(data));
+    assert!(rt; have_data());
+}
+
+fn have_heads() -> bool {
+    for (sent, form, number, is_galileo) in &HEADS {
+        if !has_head(sent.bytes().as_slice(), *form, *number, *is_galileo) {
+            return false;
+        }
     }
+    true
+}
+
+/// Whether the field at bit 271 doesn't end within these bytes.
+fn is_cut_short(bytes: &[u8]) -> bool {
+    matches!(look(bytes), Err(MsgFault::Short(271)))
 }
 
 #[test]
 fn heads_are_read(rt: HostRuntime) {
-    for (sent, form, number, is_galileo) in &HEADS {
-        // satellite 5 and signal 2
-        let head = (*number, *is_galileo, HEADER, (1 << 59, 1 << 30, 1), (1, 1));
-        assert!(rt; head_of(sent) == Some((*form, head)));
-    }
-    assert!(rt; matches!(look(&FINE[..35]), Err(MsgFault::Short(271))));
+    assert!(rt; have_heads());
+    assert!(rt; is_cut_short(Sent(FINE, 35, &[]).bytes().as_slice()));
 }
 
-/// The number of a multiple signal message, and its first cell.
-fn first_entry(sent: &Sent) -> Option<(u16, Entry)> {
-    match look(&sent.bytes()[..sent.size()]) {
-        Ok(View::Msm(msm)) => match msm.entries().next() {
-            Some(entry) => Some((msm.number(), entry)),
-            None => None,
-        },
-        _ => None,
+/// Whether a multiple signal message has this number, and this is its first cell.
+fn has_first(bytes: &[u8], number: u16, entry: &Entry) -> bool {
+    match look(bytes) {
+        Ok(View::Msm(msm)) => msm.number() == number && msm.entries().next() == Some(*entry),
+        _ => false,
     }
 }
 
@@ -295,61 +330,67 @@ const COARSE_ENTRY: Entry = Entry {
     half_cycle: true,
 };
 
-static COARSE_CELLS: [(Sent, u16); 2] = [
-    (Sent(&COARSE, 30, &[]), 1074),
-    (Sent(&GALILEO, 30, &[]), 1094),
-];
-
-/// Ranges and phases of message 1077.
-static FINE_CELLS: [(Sent, Option<i64>, Option<i64>); 4] = [
-    (
-        Sent(&FINE, 36, &[]),
-        Some(150_323_855_360),
-        Some(150_323_855_360),
-    ),
+/// Messages with their numbers and cells.
+static ENTRIES: [(Sent, u16, Entry); 6] = [
+    (Sent(COARSE, 30, &[]), 1074, COARSE_ENTRY),
+    (Sent(GALILEO, 30, &[]), 1094, COARSE_ENTRY),
+    (Sent(FINE, 36, &[]), 1077, FINE_ENTRY),
     // DF405 = 1
     (
-        Sent(&FINE, 36, &[(28, 0x40)]),
-        Some(150_323_855_364),
-        Some(150_323_855_360),
+        Sent(FINE, 36, &[(28, 0x40)]),
+        1077,
+        Entry {
+            range: Some(150_323_855_364),
+            ..FINE_ENTRY
+        },
     ),
     // DF406 = 1
     (
-        Sent(&FINE, 36, &[(31, 0x40)]),
-        Some(150_323_855_360),
-        Some(150_323_855_361),
+        Sent(FINE, 36, &[(31, 0x40)]),
+        1077,
+        Entry {
+            phase: Some(150_323_855_361),
+            ..FINE_ENTRY
+        },
     ),
     // DF397 = 255
-    (Sent(&FINE, 36, &[(21, 0x7F), (22, 0xC0)]), None, None),
+    (
+        Sent(FINE, 36, &[(21, 0x7F), (22, 0xC0)]),
+        1077,
+        Entry {
+            range: None,
+            phase: None,
+            ..FINE_ENTRY
+        },
+    ),
 ];
+
+fn have_first() -> bool {
+    for (sent, number, entry) in &ENTRIES {
+        if !has_first(sent.bytes().as_slice(), *number, entry) {
+            return false;
+        }
+    }
+    true
+}
 
 #[test]
 fn cells_are_read(rt: HostRuntime) {
-    for (sent, number) in &COARSE_CELLS {
-        assert!(rt; first_entry(sent) == Some((*number, COARSE_ENTRY)));
-    }
-    for (sent, range, phase) in &FINE_CELLS {
-        let entry = Entry {
-            range: *range,
-            phase: *phase,
-            ..FINE_ENTRY
-        };
-        assert!(rt; first_entry(sent) == Some((1077, entry)));
-    }
+    assert!(rt; have_first());
 }
 
 /// A message, and the widths of its fields.
 static FIELDS: [(&[u8], &[usize]); 4] = [
-    (&STATION, &[12, 12, 6, 1, 1, 1, 1, 38, 1, 1, 38, 2, 38]),
-    (&HEIGHT, &[12, 12, 6, 1, 1, 1, 1, 38, 1, 1, 38, 2, 38, 16]),
+    (STATION, &[12, 12, 6, 1, 1, 1, 1, 38, 1, 1, 38, 2, 38]),
+    (HEIGHT, &[12, 12, 6, 1, 1, 1, 1, 38, 1, 1, 38, 2, 38, 16]),
     (
-        &FINE,
+        FINE,
         &[
             12, 12, 30, 1, 3, 7, 2, 2, 1, 3, 64, 32, 1, 8, 4, 10, 14, 20, 24, 10, 1, 10, 15,
         ],
     ),
     (
-        &COARSE,
+        COARSE,
         &[
             12, 12, 30, 1, 3, 7, 2, 2, 1, 3, 64, 32, 1, 8, 10, 15, 22, 4, 1, 6,
         ],
@@ -376,67 +417,88 @@ fn missing_bit(bytes: &[u8]) -> Option<usize> {
     }
 }
 
-/// The size of the first prefix that is not refused at the first field that does not end within it.
-fn first_wrong_prefix(message: &[u8], widths: &[usize]) -> Option<usize> {
+/// Whether a prefix of this size is refused at the first field that does not end within it.
+fn is_short(message: &[u8], widths: &[usize], size: usize) -> bool {
+    match first_unended(widths, size.saturating_mul(8)) {
+        Some(place) => missing_bit(message.get(..size).unwrap_or(&[])) == Some(place),
+        None => false,
+    }
+}
+
+/// Whether each prefix of a message is short.
+fn has_short_prefixes(message: &[u8], widths: &[usize]) -> bool {
     for size in 0..message.len() {
-        let place = first_unended(widths, size.saturating_mul(8));
-        if place.is_none() || missing_bit(&message[..size]) != place {
-            return Some(size);
+        if !is_short(message, widths, size) {
+            return false;
         }
     }
-    None
+    true
+}
+
+fn have_short_prefixes() -> bool {
+    for (message, widths) in &FIELDS {
+        if !has_short_prefixes(message, widths) {
+            return false;
+        }
+    }
+    true
 }
 
 #[test]
 fn each_proper_prefix_is_short(rt: HostRuntime) {
-    for (message, widths) in &FIELDS {
-        assert_eq!(rt; first_wrong_prefix(message, widths), None);
-    }
+    assert!(rt; have_short_prefixes());
 }
 
-fn fault_of(sent: &Sent) -> Option<MsgFault> {
-    decode(&sent.bytes()[..sent.size()]).err()
+fn fault_of(bytes: &[u8]) -> Option<MsgFault> {
+    decode(bytes).err()
 }
 
 static FAULTS: [(Sent, Option<MsgFault>); 11] = [
-    (Sent(&STATION, 18, &[]), Some(MsgFault::Short(114))),
-    (Sent(&FINE, 35, &[]), Some(MsgFault::Short(271))),
-    (Sent(&STATION, 1, &[]), Some(MsgFault::Short(0))),
+    (Sent(STATION, 18, &[]), Some(MsgFault::Short(114))),
+    (Sent(FINE, 35, &[]), Some(MsgFault::Short(271))),
+    (Sent(STATION, 1, &[]), Some(MsgFault::Short(0))),
     // The time is validated when its field is complete, and not before.
-    (Sent(&LATE, 7, &[]), Some(MsgFault::BadTime)),
-    (Sent(&LATE, 6, &[]), Some(MsgFault::Short(24))),
+    (Sent(LATE, 7, &[]), Some(MsgFault::BadTime)),
+    (Sent(LATE, 6, &[]), Some(MsgFault::Short(24))),
     // 604,800,000 ms, and the last millisecond of the week
     (
-        Sent(&FINE, 36, &[(3, 0x90), (4, 0x32), (5, 0x10), (6, 0x00)]),
+        Sent(FINE, 36, &[(3, 0x90), (4, 0x32), (5, 0x10), (6, 0x00)]),
         Some(MsgFault::BadTime),
     ),
     (
-        Sent(&FINE, 36, &[(3, 0x90), (4, 0x32), (5, 0x0F), (6, 0xFC)]),
+        Sent(FINE, 36, &[(3, 0x90), (4, 0x32), (5, 0x0F), (6, 0xFC)]),
         None,
     ),
     // So are the pairs.
-    (Sent(&MANY, 22, &[]), Some(MsgFault::TooManyCells)),
-    (Sent(&MANY, 21, &[]), Some(MsgFault::Short(137))),
+    (Sent(MANY, 22, &[]), Some(MsgFault::TooManyCells)),
+    (Sent(MANY, 21, &[]), Some(MsgFault::Short(137))),
     (
-        Sent(&MANY, 22, &[(3, 0x90), (4, 0x32), (5, 0x10), (6, 0x00)]),
+        Sent(MANY, 22, &[(3, 0x90), (4, 0x32), (5, 0x10), (6, 0x00)]),
         Some(MsgFault::BadTime),
     ),
     // 8 satellites and 8 signals, with a truncated cell mask
-    (Sent(&MANY, 22, &[(10, 0x80)]), Some(MsgFault::Short(169))),
+    (Sent(MANY, 22, &[(10, 0x80)]), Some(MsgFault::Short(169))),
 ];
+
+fn have_faults() -> bool {
+    for (sent, fault) in &FAULTS {
+        if fault_of(sent.bytes().as_slice()) != *fault {
+            return false;
+        }
+    }
+    true
+}
 
 #[test]
 fn the_first_fault_counts(rt: HostRuntime) {
-    for (sent, fault) in &FAULTS {
-        assert!(rt; fault_of(sent) == *fault);
-    }
+    assert!(rt; have_faults());
 }
 
-/// The number, the station and DF393 of a message that is not read.
-fn other_of(bytes: &[u8]) -> Option<(u16, Option<(u16, bool)>)> {
+/// Whether this is a message that is not read, with this number, station and DF393.
+fn is_other(bytes: &[u8], wanted: u16, of: Option<(u16, bool)>) -> bool {
     match decode(bytes) {
-        Ok(Message::Other { number, set }) => Some((number, set)),
-        _ => None,
+        Ok(Message::Other { number, set }) => number == wanted && set == of,
+        _ => false,
     }
 }
 
@@ -460,9 +522,16 @@ static OTHERS: [(&[u8], u16, Option<(u16, bool)>); 7] = [
     (&[0x4C, 0xE7, 0xD3, 0x00, 0x00, 0x0F, 0xA0], 1230, None),
 ];
 
+fn are_others() -> bool {
+    for (message, number, set) in &OTHERS {
+        if !is_other(message, *number, *set) {
+            return false;
+        }
+    }
+    true
+}
+
 #[test]
 fn other_messages_are_given(rt: HostRuntime) {
-    for (message, number, set) in &OTHERS {
-        assert!(rt; other_of(message) == Some((*number, *set)));
-    }
+    assert!(rt; are_others());
 }

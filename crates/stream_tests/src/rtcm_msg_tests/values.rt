@@ -9,53 +9,80 @@ use std::test::*;
 
 // Each call with large clauses has a function without one, so that no test carries the clauses.
 
-/// The fault of the parts of a station with this number and this X.
-fn station_fault(station: u16, x: i64) -> Option<ValueFault> {
-    Station::new(StationParts {
-        station,
-        x,
-        ..STATION_PARTS
-    })
-    .err()
+/// The fault of the parts of a station.
+fn station_fault(parts: &StationParts) -> Option<ValueFault> {
+    Station::new(*parts).err()
+}
+
+static PARTS: [(StationParts, Option<ValueFault>); 4] = [
+    (STATION_PARTS, None),
+    (
+        StationParts {
+            station: 4096,
+            x: 1 << 37,
+            ..STATION_PARTS
+        },
+        Some(ValueFault::OutOfRange(Field::Station)),
+    ),
+    (
+        StationParts {
+            x: 1 << 37,
+            ..STATION_PARTS
+        },
+        Some(ValueFault::OutOfRange(Field::X)),
+    ),
+    (
+        StationParts {
+            x: -(1 << 37),
+            ..STATION_PARTS
+        },
+        None,
+    ),
+];
+
+fn are_stations_judged() -> bool {
+    for (parts, fault) in &PARTS {
+        if station_fault(parts) != *fault {
+            return false;
+        }
+    }
+    true
 }
 
 #[test]
 fn stations_are_judged(rt: HostRuntime) {
-    let faults = [
-        station_fault(2003, STATION_PARTS.x),
-        station_fault(4096, 1 << 37),
-        station_fault(2003, 1 << 37),
-        station_fault(2003, -(1 << 37)),
-    ];
-    let want = [
-        None,
-        Some(ValueFault::OutOfRange(Field::Station)),
-        Some(ValueFault::OutOfRange(Field::X)),
-        None,
-    ];
-    assert!(rt; faults == want);
+    assert!(rt; are_stations_judged());
 }
 
 fn masks_fault(satellites: u64, signals: u32, cells: u64) -> Option<ValueFault> {
     Masks::new(satellites, signals, cells).err()
 }
 
+static MASKS: [(u64, u32, u64, Option<ValueFault>); 4] = [
+    // satellite 5 and signal 2
+    (
+        1 << 59,
+        1 << 30,
+        2,
+        Some(ValueFault::OutOfRange(Field::Cells)),
+    ),
+    (0x1FF, 0xFF, 0, Some(ValueFault::TooManyCells)),
+    (0xFF, 0xFF, u64::MAX, None),
+    (1 << 59, 1 << 30, 1, None),
+];
+
+fn are_masks_judged() -> bool {
+    for (satellites, signals, cells, fault) in &MASKS {
+        if masks_fault(*satellites, *signals, *cells) != *fault {
+            return false;
+        }
+    }
+    true
+}
+
 #[test]
 fn masks_are_judged(rt: HostRuntime) {
-    let faults = [
-        // satellite 5 and signal 2
-        masks_fault(1 << 59, 1 << 30, 2),
-        masks_fault(0x1FF, 0xFF, 0),
-        masks_fault(0xFF, 0xFF, u64::MAX),
-        masks_fault(1 << 59, 1 << 30, 1),
-    ];
-    let want = [
-        Some(ValueFault::OutOfRange(Field::Cells)),
-        Some(ValueFault::TooManyCells),
-        None,
-        None,
-    ];
-    assert!(rt; faults == want);
+    assert!(rt; are_masks_judged());
 }
 
 /// The fault of these parts of a message whose masks have one satellite and one cell.
@@ -94,21 +121,21 @@ static COARSE_CELL: Cell4 = Cell4 {
     strength: 45,
 };
 
+/// Whether the fault is this one, of a message of a fine grid with the data of one satellite.
+fn has_fault(time: u32, cells: &[Cell7], fault: ValueFault) -> bool {
+    msm_fault::<Grid7>(time, &[SATELLITE], cells) == Some(fault)
+}
+
+fn has_coarse_fault(fault: ValueFault) -> bool {
+    msm_fault::<Grid4>(1000, &[COARSE_SATELLITE], &[COARSE_CELL]) == Some(fault)
+}
+
 #[test]
 fn parts_are_judged(rt: HostRuntime) {
-    let faults = [
-        msm_fault::<Grid7>(604_800_000, &[SATELLITE], &[]),
-        msm_fault::<Grid7>(1000, &[SATELLITE], &[]),
-        msm_fault::<Grid7>(1000, &[SATELLITE], &[WIDE]),
-        msm_fault::<Grid4>(1000, &[COARSE_SATELLITE], &[COARSE_CELL]),
-    ];
-    let want = [
-        Some(ValueFault::BadTime),
-        Some(ValueFault::CellCount),
-        Some(ValueFault::OutOfRange(Field::FinePhase)),
-        Some(ValueFault::OutOfRange(Field::RangeFraction)),
-    ];
-    assert!(rt; faults == want);
+    assert!(rt; has_fault(604_800_000, &[], ValueFault::BadTime));
+    assert!(rt; has_fault(1000, &[], ValueFault::CellCount));
+    assert!(rt; has_fault(1000, &[WIDE], ValueFault::OutOfRange(Field::FinePhase)));
+    assert!(rt; has_coarse_fault(ValueFault::OutOfRange(Field::RangeFraction)));
 }
 
 /// Writes the message 1077 of these masks and data.
@@ -125,28 +152,30 @@ fn write(
     }
 }
 
-/// The size of the message of 64 satellites with one signal, and whether it is written back.
-fn largest() -> (usize, bool) {
+static SATELLITES: [Satellite7; 64] = [SATELLITE; 64];
+
+static CELL_DATA: [Cell7; 64] = [CELL; 64];
+
+/// Whether the message of 64 satellites with one signal has its size, and is written back.
+fn is_largest() -> bool {
     let mut bytes = ArrayVec::new();
-    write(
-        (u64::MAX, 1 << 30, u64::MAX),
-        &[SATELLITE; 64],
-        &[CELL; 64],
-        &mut bytes,
-    );
-    (bytes.len(), is_written_back(bytes.as_slice()))
+    let masks = (u64::MAX, 1 << 30, u64::MAX);
+    write(masks, &SATELLITES, &CELL_DATA, &mut bytes);
+    bytes.len() == 958 && is_written_back(bytes.as_slice())
 }
 
 /// Whether the message of satellite 5 and signal 2 is written as known.
 fn is_known() -> bool {
     let mut bytes = ArrayVec::new();
-    write((1 << 59, 1 << 30, 1), &[SATELLITE], &[CELL], &mut bytes);
+    let masks = (1 << 59, 1 << 30, 1);
+    write(masks, &SATELLITES[..1], &CELL_DATA[..1], &mut bytes);
     bytes.as_slice() == FINE.as_slice()
 }
 
 #[test]
 fn values_are_written(rt: HostRuntime) {
-    assert!(rt; is_known() && largest() == (958, true));
+    assert!(rt; is_known());
+    assert!(rt; is_largest());
 }
 
 /// Whether the cells of a message 1077 that is read are of these satellites and signals.
@@ -158,17 +187,20 @@ fn has_cells(bytes: &[u8], cells: &[(u8, u8)]) -> bool {
 }
 
 fn are_of(entries: &mut Entries<'_>, cells: &[(u8, u8)]) -> bool {
-    for cell in cells {
-        match entries.next() {
-            Some(entry) => {
-                if (entry.satellite, entry.signal) != *cell {
-                    return false;
-                }
-            }
-            None => return false,
+    for (satellite, signal) in cells {
+        if !is_next(entries, *satellite, *signal) {
+            return false;
         }
     }
     entries.next().is_none()
+}
+
+/// Whether the next cell is of this satellite and signal.
+fn is_next(entries: &mut Entries<'_>, satellite: u8, signal: u8) -> bool {
+    match entries.next() {
+        Some(entry) => entry.satellite == satellite && entry.signal == signal,
+        None => false,
+    }
 }
 
 /// Satellites 1 and 64, signals 2 and 32: the first with 32, the second with both.
@@ -176,12 +208,8 @@ static CELLS: [(u8, u8); 3] = [(1, 32), (64, 2), (64, 32)];
 
 fn are_in_order() -> bool {
     let mut bytes = ArrayVec::new();
-    write(
-        (1 << 63 | 1, 1 << 30 | 1, 0b0111),
-        &[SATELLITE; 2],
-        &[CELL; 3],
-        &mut bytes,
-    );
+    let masks = (1 << 63 | 1, 1 << 30 | 1, 0b0111);
+    write(masks, &SATELLITES[..2], &CELL_DATA[..3], &mut bytes);
     has_cells(bytes.as_slice(), &CELLS)
 }
 
