@@ -12,10 +12,9 @@ mod signal_counts;
 
 use gnss_obs::System;
 use messages::{Heard, message};
-use obs_epoch::{Cell, Gather, Gatherer, Kind, Plan, PlanFault, StationValues, Taken};
+use obs_epoch::{Cell, Epoch, Gather, Gatherer, Kind, Plan, PlanFault, StationValues, Taken};
 use rtcm_msg::Message;
 use std::alloc::Global;
-use std::process::Abort;
 use std::test::*;
 
 const WEEK: u64 = 604_800_000;
@@ -46,8 +45,10 @@ enum Step {
     Locks(usize),
     /// The station values, and those of the epoch that was closed.
     Values(StationValues),
+    /// No epoch was closed.
+    ClosedNone,
     /// The time of the epoch that was closed, in milliseconds, its satellites and its GPS cells.
-    Closed(Option<(u64, usize, usize)>),
+    Closed(u64, usize, usize),
     /// The satellite and the code of its GPS cell at this index.
     Of(usize, u8, [u8; 2]),
     /// Its first GPS cell has a pseudorange and no Doppler shift.
@@ -59,8 +60,8 @@ enum Step {
 }
 
 use Step::{
-    Closed, Ends, HasEnded, HasNoDoppler, Holds, Keeps, LastLli, Lli, Locks, Of, Plans, Takes,
-    Values,
+    Closed, ClosedNone, Ends, HasEnded, HasNoDoppler, Holds, Keeps, LastLli, Lli, Locks, Of, Plans,
+    Takes, Values,
 };
 
 // Each call with large clauses has a function without one, so that no test carries the clauses.
@@ -69,49 +70,47 @@ fn parse(alloc: Global, gps: &str, galileo: &str) -> Result<Plan, PlanFault> {
     Plan::parse(alloc, gps, galileo)
 }
 
-fn gatherer(
-    alloc: Global,
-    plan: (&str, &str),
-    week: u32,
-    station: Option<u16>,
-    gather: Gather,
-) -> Result<Gatherer, PlanFault> {
-    Gatherer::new(alloc, parse(alloc, plan.0, plan.1)?, week, station, gather)
-}
-
 /// The outcome of a message for a gatherer that hasn't ended.
-fn take(g: &mut Gatherer, message: &Message) -> Taken {
+fn take(g: &mut Gatherer, message: &Message) -> Option<Taken> {
     if g.ended() {
-        return Taken {
-            kind: Kind::Ignored,
-            closed: false,
-        };
+        return None;
     }
-    g.take(message)
+    Some(g.take(message))
 }
 
-fn closed(g: &Gatherer) -> Option<(u64, usize, usize)> {
+/// Whether a message has this outcome.
+fn takes(g: &mut Gatherer, heard: Heard, kind: Kind, closed: bool) -> bool {
+    take(g, &message(heard)) == Some(Taken { kind, closed })
+}
+
+/// Whether an epoch was closed, of this time and with these numbers of satellites and GPS cells.
+fn has_closed(g: &Gatherer, time: u64, satellites: usize, cells: usize) -> bool {
     match g.closed() {
-        None => None,
+        None => false,
         Some(e) => {
-            let cells = e.cells(System::Gps).len();
-            Some((e.time().milliseconds(), e.satellites(), cells))
+            e.time().milliseconds() == time
+                && e.satellites() == satellites
+                && gps_cells(e).len() == cells
         }
     }
 }
 
-fn are_values(g: &Gatherer, values: StationValues) -> bool {
+fn are_values(g: &Gatherer, values: &StationValues) -> bool {
     match g.closed() {
         None => false,
-        Some(epoch) => g.station_values() == values && epoch.station_values() == values,
+        Some(epoch) => g.station_values() == *values && epoch.station_values() == *values,
     }
+}
+
+fn gps_cells(epoch: &Epoch) -> &[Cell] {
+    epoch.cells(System::Gps)
 }
 
 /// A GPS cell of the epoch that was closed.
 fn cell_at(g: &Gatherer, place: usize) -> Option<&Cell> {
     match g.closed() {
         None => None,
-        Some(epoch) => epoch.cells(System::Gps).get(place),
+        Some(epoch) => gps_cells(epoch).get(place),
     }
 }
 
@@ -119,13 +118,6 @@ fn last_galileo(g: &Gatherer) -> Option<&Cell> {
     match g.closed() {
         None => None,
         Some(epoch) => epoch.cells(System::Galileo).last(),
-    }
-}
-
-fn is_of_satellite(cell: Option<&Cell>, id: u8) -> bool {
-    match cell {
-        None => false,
-        Some(cell) => cell.satellite.id() == id,
     }
 }
 
@@ -150,72 +142,95 @@ fn has_lli(cell: Option<&Cell>, lli: u8) -> bool {
     }
 }
 
+fn is_last(cell: Option<&Cell>, id: u8, lli: u8) -> bool {
+    match cell {
+        None => false,
+        Some(cell) => cell.satellite.id() == id && cell.lli == lli,
+    }
+}
+
 /// Whether a step has its expected outcome.
-fn goes(g: &mut Gatherer, step: Step) -> bool {
+fn goes(g: &mut Gatherer, step: &Step) -> bool {
     match step {
-        Takes(heard, kind, closed) => take(g, &message(heard)) == Taken { kind, closed },
+        Takes(heard, kind, closed) => takes(g, *heard, *kind, *closed),
         Keeps(heard, (kept, repeated, crowded), closed) => {
-            let kind = counts(kept, repeated, crowded);
-            take(g, &message(heard)) == Taken { kind, closed }
+            takes(g, *heard, counts(*kept, *repeated, *crowded), *closed)
         }
-        Ends(closed) => g.end() == closed,
+        Ends(closed) => g.end() == *closed,
+        step => shows(g, step),
+    }
+}
+
+/// Whether a gatherer shows what a step expects, which calls nothing else.
+fn shows(g: &Gatherer, step: &Step) -> bool {
+    match step {
         HasEnded => g.ended(),
-        Plans(signals) => g.plan().signals(System::Gps) == signals,
-        Holds(cells) => g.cells(System::Gps) == cells,
-        Locks(locks) => g.locks() == locks,
+        Plans(signals) => g.plan().signals(System::Gps) == *signals,
+        Holds(cells) => g.cells(System::Gps) == *cells,
+        Locks(locks) => g.locks() == *locks,
         Values(values) => are_values(g, values),
-        Closed(epoch) => closed(g) == epoch,
-        Of(place, id, code) => is_of(cell_at(g, place), id, code),
-        HasNoDoppler => has_no_doppler(cell_at(g, 0)),
-        Lli(lli) => has_lli(cell_at(g, 0), lli),
-        LastLli(id, lli) => is_of_satellite(last_galileo(g), id) && has_lli(last_galileo(g), lli),
+        ClosedNone => g.closed().is_none(),
+        Closed(time, satellites, cells) => has_closed(g, *time, *satellites, *cells),
+        step => has_cell(g, step),
     }
 }
 
-/// The number of steps with their expected outcomes, up to the first with another one.
-fn go_through(g: &mut Gatherer, steps: &[Step]) -> usize {
-    for place in 0..steps.len() {
-        if !goes(g, steps[place]) {
-            return place;
+/// Whether the closed epoch has the cell that a step expects.
+fn has_cell(g: &Gatherer, step: &Step) -> bool {
+    match step {
+        Of(place, id, code) => is_of(cell_at(g, *place), *id, *code),
+        HasNoDoppler => has_no_doppler(cell_at(g, 0)),
+        Lli(lli) => has_lli(cell_at(g, 0), *lli),
+        LastLli(id, lli) => is_last(last_galileo(g), *id, *lli),
+        _ => false,
+    }
+}
+
+fn go_through(g: &mut Gatherer, steps: &[Step]) -> bool {
+    for step in steps {
+        if !goes(g, step) {
+            return false;
         }
     }
-    steps.len()
+    true
 }
 
-/// The number of steps of a gatherer with their expected outcomes.
+/// Whether the steps of a gatherer with this plan have their expected outcomes.
 fn run(
     alloc: Global,
-    plan: (&str, &str),
+    plan: Plan,
     week: u32,
     station: Option<u16>,
     gather: Gather,
     steps: &[Step],
-) -> Result<usize, PlanFault> {
-    match gatherer(alloc, plan, week, station, gather) {
-        Ok(mut g) => Ok(go_through(&mut g, steps)),
+) -> Result<bool, PlanFault> {
+    match Gatherer::new(alloc, plan, week, station, gather) {
+        Ok(mut g) => {
+            let goes = go_through(&mut g, steps);
+            drop(g);
+            Ok(goes)
+        }
         Err(fault) => Err(fault),
     }
 }
 
-/// Asserts the expected outcomes of all steps of a gatherer of station 7. Their number is printed
-/// only here, since each place that prints takes long to prove.
+/// Whether all steps of a gatherer of station 7 have their expected outcomes.
 fn goes_as_given(
-    rt: &impl Abort,
     alloc: Global,
     plan: (&str, &str),
     week: u32,
     gather: Gather,
     steps: &[Step],
-) {
-    assert_eq!(rt;
-        run(alloc, plan, week, Some(7), gather, steps),
-        Ok(steps.len())
-    );
+) -> bool {
+    match parse(alloc, plan.0, plan.1) {
+        Ok(plan) => run(alloc, plan, week, Some(7), gather, steps) == Ok(true),
+        Err(_) => false,
+    }
 }
 
 /// The same with every signal planned, from week 2,300 on and by the bit.
-fn goes_by_bit(rt: &impl Abort, alloc: Global, steps: &[Step]) {
-    goes_as_given(rt, alloc, ALL, 2_300, Gather::Bit, steps);
+fn goes_by_bit(alloc: Global, steps: &[Step]) -> bool {
+    goes_as_given(alloc, ALL, 2_300, Gather::Bit, steps)
 }
 
 fn counts(kept: usize, repeated: usize, crowded: usize) -> Kind {
@@ -239,14 +254,14 @@ const KEPT: Kind = Kind::Kept {
 fn times_pass_the_week_and_half_a_week(rt: HostRuntime) {
     static STEPS: [Step; 7] = [
         Takes(Heard::Long(604_799_000, false, 64), KEPT, true),
-        Closed(Some((2_300 * WEEK + 604_799_000, 1, 1))),
+        Closed(2_300 * WEEK + 604_799_000, 1, 1),
         Takes(Heard::Long(0, false, 64), KEPT, true),
-        Closed(Some((2_301 * WEEK, 1, 1))),
+        Closed(2_301 * WEEK, 1, 1),
         Takes(Heard::Long(302_400_000, false, 64), KEPT, true),
         Takes(Heard::Long(1, false, 64), Kind::Late, false),
         Takes(Heard::Long(302_401_000, false, 64), KEPT, true),
     ];
-    goes_by_bit(&rt, rt.alloc(), &STEPS);
+    assert!(rt; goes_by_bit(rt.alloc(), &STEPS));
 }
 
 #[test]
@@ -257,7 +272,7 @@ fn a_late_message_closes_by_its_bit(rt: HostRuntime) {
         Takes(Heard::Long(5_000, true, 64), Kind::Late, false),
         Holds(1),
     ];
-    goes_by_bit(&rt, rt.alloc(), &STEPS);
+    assert!(rt; goes_by_bit(rt.alloc(), &STEPS));
 }
 
 #[test]
@@ -265,13 +280,13 @@ fn a_later_time_closes_first(rt: HostRuntime) {
     static STEPS: [Step; 7] = [
         Takes(Heard::Long(1_000, true, 64), KEPT, false),
         Takes(Heard::Long(2_000, true, 64), Kind::CloseFirst, true),
-        Closed(Some((FIRST, 1, 1))),
+        Closed(FIRST, 1, 1),
         Takes(Heard::Long(2_000, true, 64), KEPT, false),
-        Closed(None),
+        ClosedNone,
         Ends(true),
         HasEnded,
     ];
-    goes_by_bit(&rt, rt.alloc(), &STEPS);
+    assert!(rt; goes_by_bit(rt.alloc(), &STEPS));
 }
 
 #[test]
@@ -283,7 +298,7 @@ fn an_unread_message_of_the_station_closes(rt: HostRuntime) {
         Takes(Heard::Unread(7, false), Kind::Ignored, true),
         Takes(Heard::Galileo(1_000, true, 64), Kind::Late, false),
     ];
-    goes_by_bit(&rt, rt.alloc(), &STEPS);
+    assert!(rt; goes_by_bit(rt.alloc(), &STEPS));
 }
 
 #[test]
@@ -295,7 +310,7 @@ fn by_time_alone_no_bit_closes(rt: HostRuntime) {
         Keeps(Heard::Galileo(1_000, true, 64), (0, 1, 0), false),
         Ends(true),
     ];
-    goes_as_given(&rt, rt.alloc(), ALL, 2_300, Gather::Time, &STEPS);
+    assert!(rt; goes_as_given(rt.alloc(), ALL, 2_300, Gather::Time, &STEPS));
 }
 
 #[test]
@@ -303,16 +318,16 @@ fn galileo_may_come_first(rt: HostRuntime) {
     static BY_BIT: [Step; 3] = [
         Takes(Heard::Galileo(1_000, true, 64), KEPT, false),
         Takes(Heard::Long(1_000, false, 64), KEPT, true),
-        Closed(Some((FIRST, 2, 1))),
+        Closed(FIRST, 2, 1),
     ];
-    goes_by_bit(&rt, rt.alloc(), &BY_BIT);
+    assert!(rt; goes_by_bit(rt.alloc(), &BY_BIT));
     static BY_TIME: [Step; 4] = [
         Takes(Heard::Galileo(1_000, false, 64), KEPT, false),
         Takes(Heard::Long(1_000, false, 64), KEPT, false),
         Ends(true),
-        Closed(Some((FIRST, 2, 1))),
+        Closed(FIRST, 2, 1),
     ];
-    goes_as_given(&rt, rt.alloc(), ALL, 2_300, Gather::Time, &BY_TIME);
+    assert!(rt; goes_as_given(rt.alloc(), ALL, 2_300, Gather::Time, &BY_TIME));
 }
 
 #[test]
@@ -323,7 +338,7 @@ fn a_shorter_lock_was_lost(rt: HostRuntime) {
         Takes(Heard::Short(2_000, false, true, 14), KEPT, true),
         Lli(1),
     ];
-    goes_by_bit(&rt, rt.alloc(), &STEPS);
+    assert!(rt; goes_by_bit(rt.alloc(), &STEPS));
 }
 
 #[test]
@@ -336,7 +351,7 @@ fn a_lock_below_the_elapsed_time_was_lost(rt: HostRuntime) {
         Takes(Heard::Long(18_003_000, false, 704), KEPT, true),
         Lli(0),
     ];
-    goes_by_bit(&rt, rt.alloc(), &STEPS);
+    assert!(rt; goes_by_bit(rt.alloc(), &STEPS));
 }
 
 #[test]
@@ -352,7 +367,7 @@ fn a_lock_without_a_phase_is_passed_over(rt: HostRuntime) {
         Locks(1),
         Ends(false),
     ];
-    goes_by_bit(&rt, rt.alloc(), &STEPS);
+    assert!(rt; goes_by_bit(rt.alloc(), &STEPS));
 }
 
 /// The values of the station message.
@@ -372,14 +387,27 @@ fn a_message_past_the_weeks_closes_nothing(rt: HostRuntime) {
         Ends(true),
         Values(TOLD),
     ];
-    goes_as_given(&rt, rt.alloc(), ALL, 99_999, Gather::Bit, &STEPS);
+    assert!(rt; goes_as_given(rt.alloc(), ALL, 99_999, Gather::Bit, &STEPS));
 }
 
 /// The fault of a setup with 1C alone.
 fn set_up(alloc: Global, week: u32, station: Option<u16>, gather: Gather) -> Option<PlanFault> {
-    match run(alloc, ("1C", "none"), week, station, gather, &[Plans(1)]) {
-        Ok(1) => None,
-        Ok(_) => Some(PlanFault::NothingPlanned),
+    match parse(alloc, "1C", "none") {
+        Ok(plan) => set_up_with(alloc, plan, week, station, gather),
+        Err(fault) => Some(fault),
+    }
+}
+
+fn set_up_with(
+    alloc: Global,
+    plan: Plan,
+    week: u32,
+    station: Option<u16>,
+    gather: Gather,
+) -> Option<PlanFault> {
+    match run(alloc, plan, week, station, gather, &[Plans(1)]) {
+        Ok(true) => None,
+        Ok(false) => Some(PlanFault::NothingPlanned),
         Err(fault) => Some(fault),
     }
 }

@@ -13,10 +13,10 @@ fn the_first_cell_of_a_key_is_kept(rt: HostRuntime) {
         Takes(Heard::Short(1_000, true, true, 15), KEPT, false),
         Keeps(Heard::Long(1_000, true, 64), (0, 1, 0), false),
         Ends(true),
-        Closed(Some((FIRST, 1, 1))),
+        Closed(FIRST, 1, 1),
         HasNoDoppler,
     ];
-    goes_by_bit(&rt, rt.alloc(), &STEPS);
+    assert!(rt; goes_by_bit(rt.alloc(), &STEPS));
 }
 
 const ALL_GPS: u64 = 0xFFFF_FFFF << 32;
@@ -30,10 +30,10 @@ fn a_set_split_over_messages_is_kept(rt: HostRuntime) {
             false,
         ),
         Takes(Heard::Wide(false, 1 << 63, 1 << 8), KEPT, true),
-        Closed(Some((FIRST, 32, 65))),
+        Closed(FIRST, 32, 65),
         Locks(65),
     ];
-    goes_by_bit(&rt, rt.alloc(), &STEPS);
+    assert!(rt; goes_by_bit(rt.alloc(), &STEPS));
 }
 
 #[test]
@@ -62,10 +62,10 @@ fn cells_past_the_bound_are_crowded(rt: HostRuntime) {
         ),
         Keeps(Heard::Wide(false, 1 << 63, 1 << 15), (0, 0, 1), true),
         Holds(256),
-        Closed(Some((FIRST, 32, 256))),
+        Closed(FIRST, 32, 256),
         Locks(256),
     ];
-    goes_by_bit(&rt, rt.alloc(), &STEPS);
+    assert!(rt; goes_by_bit(rt.alloc(), &STEPS));
 }
 
 #[test]
@@ -81,7 +81,7 @@ fn cells_stand_by_satellite_and_plan(rt: HostRuntime) {
             (2, 0, 0),
             true,
         ),
-        Closed(Some((FIRST, 3, 6))),
+        Closed(FIRST, 3, 6),
         Of(0, 1, *b"5X"),
         Of(1, 1, *b"2W"),
         Of(2, 1, *b"1C"),
@@ -89,14 +89,8 @@ fn cells_stand_by_satellite_and_plan(rt: HostRuntime) {
         Of(4, 3, *b"2W"),
         Of(5, 3, *b"1C"),
     ];
-    goes_as_given(
-        &rt,
-        rt.alloc(),
-        ("5X,2W,1C", "none"),
-        2_300,
-        Gather::Bit,
-        &STEPS,
-    );
+    let plan = ("5X,2W,1C", "none");
+    assert!(rt; goes_as_given(rt.alloc(), plan, 2_300, Gather::Bit, &STEPS));
 }
 
 #[test]
@@ -104,9 +98,9 @@ fn a_second_satellite_comes_first_in_order(rt: HostRuntime) {
     static STEPS: [Step; 5] = [
         Takes(Heard::Wide(true, 1 << 59, 1 << 30), KEPT, false),
         Takes(Heard::Wide(false, 1 << 61, 1 << 30), KEPT, true),
-        Closed(Some((FIRST, 2, 2))),
+        Closed(FIRST, 2, 2),
         Of(0, 3, *b"1C"),
         Of(1, 5, *b"1C"),
     ];
-    goes_by_bit(&rt, rt.alloc(), &STEPS);
+    assert!(rt; goes_by_bit(rt.alloc(), &STEPS));
 }

@@ -3,40 +3,66 @@ use super::WEEK;
 use obs_epoch::{Civil, GpsTime};
 use std::test::*;
 
-/// The date of a time.
-fn date_of(milliseconds: u64) -> Option<Civil> {
+/// Whether a time is the beginning of a day.
+fn is_date(milliseconds: u64, midnight: &Civil) -> bool {
     match GpsTime::new(milliseconds) {
-        None => None,
-        Some(time) => Some(time.civil()),
+        None => false,
+        Some(time) => time.civil() == *midnight,
     }
 }
 
-/// The beginning of a day.
-fn midnight(year: u16, month: u8, day: u8) -> Civil {
-    Civil {
-        year,
-        month,
-        day,
-        hour: 0,
-        minute: 0,
-        millisecond: 0,
-    }
-}
+/// The beginning of the leap day of 2024.
+const LEAP_DAY: Civil = Civil {
+    year: 2024,
+    month: 2,
+    day: 29,
+    hour: 0,
+    minute: 0,
+    millisecond: 0,
+};
 
-/// The time of the beginning of a day.
-fn milliseconds_of(year: u16, month: u8, day: u8) -> Option<u64> {
-    match GpsTime::from_civil(&midnight(year, month, day)) {
+/// The time of a date, in milliseconds.
+fn milliseconds_of(civil: &Civil) -> Option<u64> {
+    match GpsTime::from_civil(civil) {
         None => None,
         Some(time) => Some(time.milliseconds()),
     }
 }
 
+const TIME: u64 = 2_303 * WEEK + 345_600_000;
+
+/// Dates, and their times if they have one.
+static DATES: [(Civil, Option<u64>); 3] = [
+    (LEAP_DAY, Some(TIME)),
+    (
+        Civil {
+            year: 2023,
+            ..LEAP_DAY
+        },
+        None,
+    ),
+    (
+        Civil {
+            year: 1980,
+            month: 1,
+            day: 5,
+            ..LEAP_DAY
+        },
+        None,
+    ),
+];
+
+fn have_times() -> bool {
+    for (civil, time) in &DATES {
+        if milliseconds_of(civil) != *time {
+            return false;
+        }
+    }
+    true
+}
+
 #[test]
 fn dates_go_both_ways(rt: HostRuntime) {
-    let time = 2_303 * WEEK + 345_600_000;
-    assert!(rt; date_of(time) == Some(midnight(2024, 2, 29)));
-    assert!(rt; date_of(100_000 * WEEK).is_none());
-    assert!(rt; milliseconds_of(2024, 2, 29) == Some(time));
-    assert!(rt; milliseconds_of(2023, 2, 29).is_none());
-    assert!(rt; milliseconds_of(1980, 1, 5).is_none());
+    assert!(rt; is_date(TIME, &DATES[0].0) && GpsTime::new(100_000 * WEEK).is_none());
+    assert!(rt; have_times());
 }

@@ -70,5 +70,5 @@ static EACH_KEY: [Step; 32] = [
 
 #[test]
 fn each_satellite_and_signal_has_a_record(rt: HostRuntime) {
-    goes_by_bit(&rt, rt.alloc(), &EACH_KEY);
+    assert!(rt; goes_by_bit(rt.alloc(), &EACH_KEY));
 }

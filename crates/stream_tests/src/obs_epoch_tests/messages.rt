@@ -74,75 +74,91 @@ fn long(is_galileo: bool, header: MsmHeader, satellites: u64, signals: u32, lock
     if count > 36 || cells > 64 || cells == 0 {
         return nothing();
     }
-    let masks = match Masks::new(satellites, signals, u64::MAX >> (64 - cells)) {
-        Ok(masks) => masks,
-        Err(_) => return nothing(),
-    };
-    let satellite = Satellite7 {
-        whole: 70,
-        extended: 0,
-        fraction: 0,
-        rate: 100,
-    };
-    let cell = Cell7 {
+    match Masks::new(satellites, signals, u64::MAX >> (64 - cells)) {
+        Ok(masks) => filled(is_galileo, header, masks, count, cells, lock),
+        Err(_) => nothing(),
+    }
+}
+
+static SATELLITES: [Satellite7; 36] = [Satellite7 {
+    whole: 70,
+    extended: 0,
+    fraction: 0,
+    rate: 100,
+}; 36];
+
+/// A message of the long form with this number of equal satellites and cells.
+fn filled(
+    is_galileo: bool,
+    header: MsmHeader,
+    masks: Masks,
+    count: usize,
+    cells: usize,
+    lock: u16,
+) -> Message {
+    let satellites = SATELLITES.get(..count).unwrap_or(&[]);
+    let cells = &cells_with(lock)[..cells.min(64)];
+    match Msm::new(is_galileo, header, masks, satellites, cells) {
+        Ok(msm) => Message::Msm7(msm),
+        Err(_) => nothing(),
+    }
+}
+
+fn cells_with(lock: u16) -> [Cell7; 64] {
+    [Cell7 {
         range: 0,
         phase: 0,
         lock,
         half_cycle: false,
         strength: 721,
         rate: 0,
-    };
-    match Msm::new(
-        is_galileo,
-        header,
-        masks,
-        &[satellite; 36][..count],
-        &[cell; 64][..cells],
-    ) {
-        Ok(msm) => Message::Msm7(msm),
-        Err(_) => nothing(),
-    }
+    }; 64]
 }
 
 /// A message of the short form: GPS 5 with the signal 1C.
 fn short(header: MsmHeader, has_phase: bool, lock: u8) -> Message {
-    let masks = match Masks::new(1 << 59, 1 << 30, 1) {
-        Ok(masks) => masks,
-        Err(_) => return nothing(),
-    };
-    let satellite = Satellite4 {
-        whole: 70,
-        fraction: 0,
-    };
+    match Masks::new(1 << 59, 1 << 30, 1) {
+        Ok(masks) => single(header, masks, if has_phase { 0 } else { -2_097_152 }, lock),
+        Err(_) => nothing(),
+    }
+}
+
+static COARSE: [Satellite4; 1] = [Satellite4 {
+    whole: 70,
+    fraction: 0,
+}];
+
+fn single(header: MsmHeader, masks: Masks, phase: i32, lock: u8) -> Message {
     let cell = Cell4 {
         range: 0,
-        phase: if has_phase { 0 } else { -2_097_152 },
+        phase,
         lock,
         half_cycle: false,
         strength: 45,
     };
-    match Msm::new(false, header, masks, &[satellite], &[cell]) {
+    match Msm::new(false, header, masks, &COARSE, &[cell]) {
         Ok(msm) => Message::Msm4(msm),
         Err(_) => nothing(),
     }
 }
 
+static PARTS: StationParts = StationParts {
+    station: 7,
+    realization: 0,
+    gps: true,
+    glonass: false,
+    galileo: true,
+    reference: false,
+    x: 1,
+    oscillator: false,
+    y: -2,
+    quarter: 0,
+    z: 3,
+    height: Some(15_000),
+};
+
 fn station() -> Message {
-    let parts = StationParts {
-        station: 7,
-        realization: 0,
-        gps: true,
-        glonass: false,
-        galileo: true,
-        reference: false,
-        x: 1,
-        oscillator: false,
-        y: -2,
-        quarter: 0,
-        z: 3,
-        height: Some(15_000),
-    };
-    match Station::new(parts) {
+    match Station::new(PARTS) {
         Ok(station) => Message::Station(station),
         Err(_) => nothing(),
     }

@@ -8,22 +8,34 @@ use std::test::*;
 /// The numbers of planned signals of GPS and of Galileo, and the index of the GPS signal 1C.
 type Planned = Result<(usize, usize, Option<usize>), PlanFault>;
 
-fn look(plan: &Plan) -> (usize, usize, Option<usize>) {
-    let place = match Signal::from_code(System::Gps, "1C") {
+fn place_of_1c(plan: &Plan) -> Option<usize> {
+    match Signal::from_code(System::Gps, "1C") {
         Some(signal) => plan.place(signal),
         None => None,
-    };
-    (
-        plan.signals(System::Gps),
-        plan.signals(System::Galileo),
-        place,
-    )
+    }
 }
 
-fn planned(plan: Result<Plan, PlanFault>) -> Planned {
+fn has_signals(plan: &Plan, want: &(usize, usize, Option<usize>)) -> bool {
+    plan.signals(System::Gps) == want.0
+        && plan.signals(System::Galileo) == want.1
+        && place_of_1c(plan) == want.2
+}
+
+fn is_planned(plan: Result<Plan, PlanFault>, want: &Planned) -> bool {
     match plan {
-        Ok(plan) => Ok(look(&plan)),
-        Err(fault) => Err(fault),
+        Ok(plan) => {
+            let is_planned = has_planned(&plan, want);
+            drop(plan);
+            is_planned
+        }
+        Err(fault) => *want == Err(fault),
+    }
+}
+
+fn has_planned(plan: &Plan, want: &Planned) -> bool {
+    match want {
+        Ok(want) => has_signals(plan, want),
+        Err(_) => false,
     }
 }
 
@@ -53,50 +65,71 @@ static TEXTS: [(&str, &str, Planned); 10] = [
     ("1C,", "none", Err(PlanFault::UnknownCode(System::Gps, 1))),
 ];
 
-/// The number of texts with their expected plans, up to the first with another one.
-fn read(alloc: Global) -> usize {
-    for i in 0..TEXTS.len() {
-        if planned(parse(alloc, TEXTS[i].0, TEXTS[i].1)) != TEXTS[i].2 {
-            return i;
+fn are_read(alloc: Global) -> bool {
+    for (gps, galileo, want) in &TEXTS {
+        if !is_planned(parse(alloc, gps, galileo), want) {
+            return false;
         }
     }
-    TEXTS.len()
+    true
 }
 
 #[test]
 fn texts_are_read(rt: HostRuntime) {
-    assert_eq!(rt; read(rt.alloc()), TEXTS.len());
+    assert!(rt; are_read(rt.alloc()));
 }
 
 fn from_signals(alloc: Global, gps: &[Signal], galileo: &[Signal]) -> Result<Plan, PlanFault> {
     Plan::from_signals(alloc, gps, galileo)
 }
 
-/// The plan of the two GPS signals of these codes, the first `gps` of them passed as those of GPS,
-/// and the first `galileo` as those of Galileo.
-fn made(alloc: Global, codes: (&str, &str), gps: usize, galileo: usize) -> Planned {
-    if gps > 2 || galileo > 2 {
-        return Err(PlanFault::Memory);
+/// The codes of two GPS signals, the number of them passed as those of GPS, and as those of
+/// Galileo, and what they plan.
+static SIGNALS: [(&str, &str, usize, usize, Planned); 4] = [
+    ("2W", "1C", 2, 0, Ok((2, 0, Some(1)))),
+    (
+        "2W",
+        "1C",
+        0,
+        1,
+        Err(PlanFault::UnknownCode(System::Galileo, 0)),
+    ),
+    ("2W", "1C", 0, 0, Err(PlanFault::NothingPlanned)),
+    (
+        "1C",
+        "1C",
+        2,
+        0,
+        Err(PlanFault::RepeatedCode(System::Gps, 1)),
+    ),
+];
+
+fn is_made(alloc: Global, signals: &[Signal], gps: usize, galileo: usize, want: &Planned) -> bool {
+    match (signals.get(..gps), signals.get(..galileo)) {
+        (Some(gps), Some(galileo)) => is_planned(from_signals(alloc, gps, galileo), want),
+        _ => false,
     }
-    let first = Signal::from_code(System::Gps, codes.0);
-    match (first, Signal::from_code(System::Gps, codes.1)) {
-        (Some(a), Some(b)) => {
-            let signals = [a, b];
-            planned(from_signals(alloc, &signals[..gps], &signals[..galileo]))
+}
+
+fn signals_of(first: &str, second: &str) -> Option<[Signal; 2]> {
+    let first = Signal::from_code(System::Gps, first)?;
+    let second = Signal::from_code(System::Gps, second)?;
+    Some([first, second])
+}
+
+fn are_made(alloc: Global) -> bool {
+    for (first, second, gps, galileo, want) in &SIGNALS {
+        let Some(signals) = signals_of(first, second) else {
+            return false;
+        };
+        if !is_made(alloc, &signals, *gps, *galileo, want) {
+            return false;
         }
-        _ => Err(PlanFault::Memory),
     }
+    true
 }
 
 #[test]
 fn plans_are_made_of_signals(rt: HostRuntime) {
-    let alloc = rt.alloc();
-    let codes = ("2W", "1C");
-    let other = Err(PlanFault::UnknownCode(System::Galileo, 0));
-    let again = Err(PlanFault::RepeatedCode(System::Gps, 1));
-    let nothing = Err(PlanFault::NothingPlanned);
-    assert!(rt; made(alloc, codes, 2, 0) == Ok((2, 0, Some(1))));
-    assert!(rt; made(alloc, codes, 0, 1) == other);
-    assert!(rt; made(alloc, codes, 0, 0) == nothing);
-    assert!(rt; made(alloc, ("1C", "1C"), 2, 0) == again);
+    assert!(rt; are_made(rt.alloc()));
 }

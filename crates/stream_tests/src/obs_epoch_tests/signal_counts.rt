@@ -4,17 +4,15 @@ use gnss_obs::System;
 use obs_epoch::SignalCounts;
 use std::test::*;
 
-/// The number of GPS cells of 1C that a message of station 7 with one of them adds, and whether
-/// there is a cell of any signal, if this station is wanted.
-fn counted(wanted: Option<u16>) -> (u64, bool) {
+/// Whether a message of station 7 with a GPS cell of 1C adds this number of them, and any cell, if
+/// this station is wanted.
+fn is_counted(wanted: Option<u16>, count: u64) -> bool {
     let mut signal_counts = SignalCounts::new();
     signal_counts.count_message(wanted, &message(Heard::Long(1_000, false, 64)));
-    (signal_counts.count(System::Gps, 0), signal_counts.has_any())
+    signal_counts.count(System::Gps, 0) == count && signal_counts.has_any() == (count == 1)
 }
 
 #[test]
 fn cells_of_the_wanted_station_are_counted(rt: HostRuntime) {
-    assert!(rt; counted(Some(7)) == (1, true));
-    assert!(rt; counted(Some(8)) == (0, false));
-    assert!(rt; counted(None) == (1, true));
+    assert!(rt; is_counted(Some(7), 1) && is_counted(Some(8), 0) && is_counted(None, 1));
 }
