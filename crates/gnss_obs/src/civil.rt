@@ -11,7 +11,7 @@ use jiff::civil::DateTime;
 
 /// A date of the Gregorian calendar and a time of day. GPS time has no leap seconds, so each minute
 /// has 60,000 milliseconds.
-#[derive(Clone, Copy, Debug, PartialEq, Eq)]
+#[derive(Clone, Copy, PartialEq)]
 pub struct Civil {
     /// The year: 1980 to 3896 for the date of a `GpsTime`.
     pub year: u16,

@@ -16,7 +16,7 @@ const NO_TIME: u32 = u32::MAX;
 
 /// The time for which a receiver has tracked a phase without a break, in milliseconds, as given by
 /// a lock time indicator: a range with its least value included and its upper value excluded.
-#[derive(Clone, Copy, Debug, PartialEq, Eq)]
+#[derive(Clone, Copy)]
 pub struct Lock {
     // Milliseconds, or `NO_TIME`.
     least: u32,

@@ -6,7 +6,7 @@ use crate::System;
 use std::marker::Model;
 
 /// A satellite: GPS 1 to 32 or Galileo 1 to 36.
-#[derive(Clone, Copy, Debug, PartialEq, Eq)]
+#[derive(Clone, Copy)]
 pub struct Sat {
     system: System,
     id: u8,

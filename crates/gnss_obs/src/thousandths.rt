@@ -4,7 +4,7 @@ ghost use Rattle.std.specs.Prelude.{◌≡◌, ℤ};
 use std::marker::Model;
 
 /// A value in thousandths of its unit, which is the metre, the cycle, the hertz or the dB-Hz.
-#[derive(Clone, Copy, Debug, PartialEq, Eq, PartialOrd, Ord)]
+#[derive(Clone, Copy, PartialEq, PartialOrd)]
 pub struct Thousandths {
     value: i64,
 }

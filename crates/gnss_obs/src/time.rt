@@ -13,7 +13,7 @@ pub const WEEKS: u64 = 100_000;
 
 /// A time in milliseconds since 1980-01-06 00:00:00 GPS time, in the weeks 0 to 99,999. GPS time
 /// has no leap seconds.
-#[derive(Clone, Copy, Debug, PartialEq, Eq, PartialOrd, Ord)]
+#[derive(Clone, Copy)]
 pub struct GpsTime {
     milliseconds: u64,
 }

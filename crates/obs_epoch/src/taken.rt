@@ -4,7 +4,7 @@ ghost use Rattle.obs_epoch.specs.Cells.{no_counts};
 ghost use Rattle.obs_epoch.specs.Kinds.{is_close_first, is_kept, kept_kind, with_counts};
 
 /// How the epochs of a station are closed.
-#[derive(Clone, Copy, Debug, PartialEq, Eq)]
+#[derive(Clone, Copy)]
 pub enum Gather {
     /// By observations of a later time, and by the multiple message bit: a message of the station
     /// with DF393 = 0.
@@ -14,7 +14,7 @@ pub enum Gather {
 }
 
 /// The outcome of a message.
-#[derive(Clone, Copy, Debug, PartialEq, Eq)]
+#[derive(Clone, Copy, PartialEq)]
 pub enum Kind {
     /// A message of a number other than 1005, 1006, 1074, 1077, 1094 and 1097, of any station.
     Ignored,
@@ -51,7 +51,7 @@ pub struct CellCounts {
 }
 
 /// The outcome of a message, and whether the call closed an epoch.
-#[derive(Clone, Copy, Debug, PartialEq, Eq)]
+#[derive(Clone, Copy, PartialEq)]
 pub struct Taken {
     /// The outcome of the message.
     pub kind: Kind,

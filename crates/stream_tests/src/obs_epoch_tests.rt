@@ -98,7 +98,7 @@ fn has_closed(g: &Gatherer, time: u64, satellites: usize, cells: usize) -> bool 
 fn are_values(g: &Gatherer, values: &StationValues) -> bool {
     match g.closed() {
         None => false,
-        Some(epoch) => g.station_values() == *values && epoch.station_values() == *values,
+        Some(e) => g.station_values().is_same(*values) && e.station_values().is_same(*values),
     }
 }
 
