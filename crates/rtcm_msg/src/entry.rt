@@ -5,7 +5,7 @@ use crate::grid::Grid;
 use crate::pairs::Pair;
 
 /// The data of a cell of MSM4 or MSM7, as exact fractions.
-#[derive(Clone, Copy, Debug, PartialEq, Eq, Default)]
+#[derive(Clone, Copy, PartialEq)]
 pub struct Entry {
     /// Satellite ID, 1 to 64: the index of its bit in DF394, counted from 1.
     pub satellite: u8,
@@ -29,7 +29,7 @@ pub struct Entry {
 }
 
 /// The field of the lock time indicators of an MSM.
-#[derive(Clone, Copy, Debug, PartialEq, Eq)]
+#[derive(Clone, Copy)]
 pub enum LockField {
     /// DF402, lock time indicator: 4 bits.
     Df402,

@@ -7,7 +7,7 @@ use crate::last_bits::LastBits;
 use rtcm_bits::{raw_of, signed_of};
 
 /// Data of a satellite in MSM4.
-#[derive(Clone, Copy, Debug, PartialEq, Eq, Drop)]
+#[derive(Clone, Copy, Drop)]
 pub struct Satellite4 {
     /// Rough range in whole milliseconds, DF397: 8 bits, 255 if invalid.
     pub whole: u8,
@@ -16,7 +16,7 @@ pub struct Satellite4 {
 }
 
 /// Data of a cell in MSM4.
-#[derive(Clone, Copy, Debug, PartialEq, Eq, Drop)]
+#[derive(Clone, Copy, Drop)]
 pub struct Cell4 {
     /// Fine pseudorange in 2^-24 ms, DF400: 15 bits with a sign, -2^14 if invalid.
     pub range: i16,

@@ -7,7 +7,7 @@ use crate::last_bits::LastBits;
 use rtcm_bits::{raw_of, signed_of};
 
 /// Data of a satellite in MSM7.
-#[derive(Clone, Copy, Debug, Default, PartialEq, Eq, Drop)]
+#[derive(Clone, Copy, Default, PartialEq, Drop)]
 pub struct Satellite7 {
     /// Rough range in whole milliseconds, DF397: 8 bits, 255 if invalid.
     pub whole: u8,
@@ -20,7 +20,7 @@ pub struct Satellite7 {
 }
 
 /// Data of a cell in MSM7.
-#[derive(Clone, Copy, Debug, PartialEq, Eq, Drop)]
+#[derive(Clone, Copy, PartialEq, Drop)]
 pub struct Cell7 {
     /// Fine pseudorange in 2^-29 ms, DF405: 20 bits with a sign, -2^19 if invalid.
     pub range: i32,

@@ -14,7 +14,7 @@ use rtcm_bits::number_at;
 pub const WEEK: u32 = 604_800_000;
 
 /// The header fields of a multiple signal message (MSM) after its message number.
-#[derive(Clone, Copy, Debug, PartialEq, Eq)]
+#[derive(Clone, Copy, PartialEq)]
 pub struct MsmHeader {
     /// Reference station ID, DF003: 12 bits.
     pub station: u16,

@@ -25,7 +25,7 @@ pub(crate) const MOST_PAIRS: usize = MOST_CELL_MASK_BITS as usize;
 
 /// The masks of an MSM: its satellites, its signals, and the pairs of both that have a cell. There
 /// are at most 64 pairs.
-#[derive(Clone, Copy, Debug, PartialEq, Eq)]
+#[derive(Clone, Copy)]
 pub struct Masks {
     satellites: u64,
     signals: u32,

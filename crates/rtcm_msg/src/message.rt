@@ -72,7 +72,7 @@ pub fn decode(bytes: &[u8]) -> Result<Message, MsgFault>
     ensures fault { IfErr result (IsFault (bits_of bytes.now)) }
     ensures only_fault { (f : MsgFault) → IsFault (bits_of bytes.now) f → result ≡ Err f }
 {
-    look(bytes).map(View::message)
+    Ok(look(bytes)?.message())
 }
 
 impl Message {

@@ -13,7 +13,7 @@ use rtcm_bits::{number_at, signed_of};
 use std::marker::Model;
 
 /// The fields of a station message: message 1006 with a height, message 1005 without one.
-#[derive(Clone, Copy, Debug, PartialEq, Eq)]
+#[derive(Clone, Copy, PartialEq)]
 pub struct StationParts {
     /// Reference station ID, DF003: 12 bits.
     pub station: u16,

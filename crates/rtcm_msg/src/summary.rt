@@ -10,7 +10,7 @@ use crate::view::View;
 
 /// The contents of a message other than the data of satellites and cells. A field is `None` if the
 /// message does not contain it or it isn't decoded.
-#[derive(Clone, Copy, Debug, PartialEq, Eq)]
+#[derive(Clone, Copy)]
 pub struct Summary {
     /// Reference station ID, DF003.
     pub station: Option<u16>,
@@ -29,19 +29,37 @@ impl<'a> View<'a> {
         ensures value { result ≡ summary (viewed_message self.now) }
         ensures time { ForSome result.time (λ time. time < week) }
     {
-        let (station, time, more, point) = match self {
-            View::Station(s) => (Some(s.parts().station), None, None, Some(s.parts())),
+        match self {
+            View::Station(station) => {
+                let parts = station.parts();
+                Summary {
+                    station: Some(parts.station),
+                    time: None,
+                    more: None,
+                    point: Some(parts),
+                }
+            },
             View::Msm(msm) => {
                 let h = msm.header();
-                (Some(h.station), Some(h.time), Some(h.more), None)
+                Summary {
+                    station: Some(h.station),
+                    time: Some(h.time),
+                    more: Some(h.more),
+                    point: None,
+                }
             }
-            View::Other { set, .. } => (set.map(|set| set.0), None, set.map(|set| set.1), None),
-        };
-        Summary {
-            station,
-            time,
-            more,
-            point,
+            View::Other { set, .. } => {
+                let (station, more) = match set {
+                    Some((station, more)) => (Some(*station), Some(*more)),
+                    None => (None, None),
+                };
+                Summary {
+                    station,
+                    time: None,
+                    more,
+                    point: None,
+                }
+            }
         }
     }
 }

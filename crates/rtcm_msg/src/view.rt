@@ -29,7 +29,7 @@ use rtcm_bits::{LONGEST_MESSAGE, number_at};
 use std::marker::Model;
 
 /// The layout and precision of an MSM.
-#[derive(Clone, Copy, Debug, PartialEq, Eq)]
+#[derive(Clone, Copy, PartialEq)]
 pub enum Form {
     /// Messages 1074 and 1094.
     Msm4,
