@@ -1,13 +1,13 @@
 //! Values of MSMs, with the fields of each satellite and of each cell packed in one number.
 ghost use Rattle.std.specs.Prelude.{◌≡◌, ◌<◌, ◌^◌, ◌++◌, ◌≤◌, All, map, length, slice_index, count_ones};
-ghost use Rattle.std.specs.Prelude.{Some, None, IfOk, IfErr};
+ghost use Rattle.std.specs.Prelude.{Some, None, IfNone, IfOk, IfErr};
 ghost use Rattle.rtcm_msg.specs.Msm.{IsHeader, msm_bits, msm_of_parts, IsValue, satellite_mask_bits, most_pairs};
 ghost use Rattle.rtcm_msg.specs.Packed.{total_width};
-ghost use Rattle.rtcm_msg.specs.Refusals.{data_refusal};
+ghost use Rattle.rtcm_msg.specs.Refusals.{data_refusal, msm_refusal};
 ghost use Rattle.rtcm_msg.specs.Columns.{EachBelow};
 ghost use Rattle.rtcm_msg.specs.Views as views;
 
-use crate::fault::ValueFault;
+use crate::fault::{Field, ValueFault};
 use crate::grid::{Grid, ReadGrid};
 use crate::header::{MsmHeader, WEEK, header_fault};
 use crate::masks::{MOST_PAIRS, Masks};
@@ -64,26 +64,18 @@ impl<G: Grid> Msm<G> {
         ensures made { IfOk result (λ m. m ≡ msm_of_parts is_galileo header masks
             (map G.satellite_packed satellites.now) (map G.cell_packed cells.now)) }
     {
-        if header.time >= WEEK {
-            return Err(ValueFault::BadTime);
+        let faults = (G::satellite_fault(satellites), G::cell_fault(cells));
+        match msm_fault(&header, &masks, satellites.len(), cells.len(), faults) {
+            Some(fault) => Err(fault),
+            None => Ok(Msm {
+                is_galileo,
+                header,
+                masks,
+                satellites: pack_satellites::<G>(satellites),
+                cells: pack_cells::<G>(cells),
+                grid: PhantomData,
+            }),
         }
-        if satellites.len() != masks.satellites().count_ones() as usize
-            || cells.len() != masks.cells().count_ones() as usize
-        {
-            return Err(ValueFault::CellCount);
-        }
-        let fault = G::satellite_fault(satellites).or(G::cell_fault(cells));
-        if let Some(field) = header_fault(&header).or(fault) {
-            return Err(ValueFault::OutOfRange(field));
-        }
-        Ok(Msm {
-            is_galileo,
-            header,
-            masks,
-            satellites: pack_satellites::<G>(satellites),
-            cells: pack_cells::<G>(cells),
-            grid: PhantomData,
-        })
     }
 
     /// Returns whether the satellites are of Galileo; otherwise they are of GPS.
@@ -148,6 +140,35 @@ impl<G: Grid> Msm<G> {
         ensures in_range { G.is_cell result }
     {
         G::cell_of(self.cells[i])
+    }
+}
+
+/// Returns the fault of a header, of numbers of satellites and cells that aren't those in the masks,
+/// or of the first field out of range. The last argument has the first such field of the satellites
+/// and of the cells.
+fn msm_fault(
+    header: &MsmHeader,
+    masks: &Masks,
+    satellites: usize,
+    cells: usize,
+    faults: (Option<Field>, Option<Field>),
+) -> Option<ValueFault>
+    ensures value { result ≡ msm_refusal header.now masks.now satellites cells faults.0 faults.1 }
+    ensures none { IfNone result (IsHeader header.now × (faults.0 ≡ None) × (faults.1 ≡ None)
+        × (satellites ≡ count_ones masks.now.satellites) × (cells ≡ count_ones masks.now.cells)) }
+{
+    if header.time >= WEEK {
+        return Some(ValueFault::BadTime);
+    }
+    if satellites != masks.satellites().count_ones() as usize {
+        return Some(ValueFault::CellCount);
+    }
+    if cells != masks.cells().count_ones() as usize {
+        return Some(ValueFault::CellCount);
+    }
+    match header_fault(header).or(faults.0).or(faults.1) {
+        Some(field) => Some(ValueFault::OutOfRange(field)),
+        None => None,
     }
 }
 
