@@ -11,8 +11,8 @@ use Rattle.rtcm_msg.specs.Layout.{Table, widths}
 use Rattle.rtcm_msg.specs.Fields.{◌>>=◌, first_past, number_at}
 use Rattle.rtcm_msg.specs.Packed.{total_width}
 use Rattle.rtcm_msg.specs.Rows.{end_of_rows}
-use Rattle.rtcm_msg.specs.Msm.{time_table, header_table, mask_table, header_of, header_at, masks_at, week, pair_count}
-use Rattle.rtcm_msg.specs.Station.{field_widths, height_in, station_at, station_parts, station_table}
+use Rattle.rtcm_msg.specs.Msm.{time_table, header_table, mask_table, header_of, header_in, header_at, masks_at, week, pair_count}
+use Rattle.rtcm_msg.specs.Station.{field_widths, parts_in, station_at, station_table}
 use Rattle.rtcm_msg.proofs.Binds.{number_short}
 use Rattle.rtcm_msg.proofs.Combine.{ok_err, past_here}
 use Rattle.rtcm_msg.proofs.FieldLaws.{contents_at, fields_at, cursor_at, field_at, number_there_at, ShortAt, fields_read, past_none}
@@ -102,7 +102,7 @@ module _ (bytes : List ℕ) where
   pub header_missing : (e : MsgFault) → 54 ≤ 8 * length bytes → field_at bits 24 30 < week → Err e ≡ end_of_rows (widths header_table) 1 (8 * length bytes) 54 → header_at (cursor_at bits 12) ≡ Err e
   header_missing e h early check = after_time h early ∙ rw (fields_missing header_table bits 54 e (within 54 h) (checked (widths header_table) 54 e check)) refl
 
-  pub header_whole : 73 ≤ 8 * length bytes → field_at bits 24 30 < week → header_at (cursor_at bits 12) ≡ Ok (header_of (field_at bits 12 12) (field_at bits 24 30) (contents_at header_table bits 54), cursor_at bits 73)
+  pub header_whole : 73 ≤ 8 * length bytes → field_at bits 24 30 < week → header_at (cursor_at bits 12) ≡ Ok (header_in bits (field_at bits 24 30), cursor_at bits 73)
   header_whole h early = after_time (omega (arith, h)) early ∙ rw (fields_whole header_table bits 54 (within 73 h)) refl
 
   pub masks_missing : (e : MsgFault) → 73 ≤ 8 * length bytes → Err e ≡ end_of_rows (widths mask_table) 1 (8 * length bytes) 73 → masks_at (cursor_at bits 73) ≡ Err e
@@ -131,6 +131,6 @@ module _ (bytes : List ℕ) where
         | inr there ↦ absurd (no_short (station_widths ++ height_widths has) bits 12 e (within 12 h) c there.2)
       ]
 
-  pub station_whole : (has : Bool) → 12 + total_width (field_widths has) ≤ 8 * length bytes → station_at has (cursor_at bits 12) ≡ Ok (station_parts (contents_at station_table bits 12) (height_in has bits), cursor_at bits (12 + total_width (field_widths has)))
+  pub station_whole : (has : Bool) → 12 + total_width (field_widths has) ≤ 8 * length bytes → station_at has (cursor_at bits 12) ≡ Ok (parts_in has bits, cursor_at bits (12 + total_width (field_widths has)))
   station_whole false h = station_chain false (cursor_at bits 12) ∙ rw (fields_whole station_table bits 12 (within 152 h)) refl
   station_whole true h = station_chain true (cursor_at bits 12) ∙ rw (fields_whole station_table bits 12 (within 152 (omega (arith, h))), number_there_at 16 bits 152 (within 168 h)) refl

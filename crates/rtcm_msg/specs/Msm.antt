@@ -1,5 +1,5 @@
 -- The values of multiple signal messages.
-use Rattle.std.specs.Prelude.{[], ◌≡◌, ℕ, ◌*◌, ◌^◌, ◌<◌, ◌≤◌, nat_lt, nat_le, if◌then◌else◌, Bool, List, ◌∷◌, ◌++◌}
+use Rattle.std.specs.Prelude.{[], ◌≡◌, ℕ, ◌==◌, ◌*◌, ◌^◌, ◌<◌, ◌≤◌, nat_lt, nat_le, if◌then◌else◌, Bool, List, ◌∷◌, ◌++◌}
 use Rattle.std.specs.Prelude.{length, Result, Ok, Err, replicate, count_ones}
 use Rattle.rtcm_bits.specs.Cursors.{Cursor}
 use Rattle.rtcm_msg.specs.declared.fault.MsgFault.{MsgFault}
@@ -7,7 +7,7 @@ use Rattle.rtcm_msg.specs.declared.fault.MsgFault.TheVariants.{TooManyCells, Bad
 use Rattle.rtcm_msg.specs.declared.header.MsmHeader.{MsmHeader}
 use Rattle.rtcm_msg.specs.declared.entry.LockField.{LockField}
 use Rattle.rtcm_msg.specs.declared.entry.LockField.TheVariants.{Df402, Df407}
-use Rattle.rtcm_msg.specs.Fields.{field_bits, reading, ◌>>=◌}
+use Rattle.rtcm_msg.specs.Fields.{field_at, field_bits, reading, ◌>>=◌}
 use Rattle.rtcm_msg.specs.Layout.{Table, Uint, Flag, Reserved, Contents, fields_of, ◌▸◌, number_table}
 use Rattle.rtcm_msg.specs.Packed.{total_width, columns}
 use Rattle.rtcm_msg.specs.Columns.{columns_at, EachBelow}
@@ -100,6 +100,19 @@ header_table =
     ∷ (417, Flag)  -- divergence-free smoothing indicator
     ∷ (418, Uint 3)  -- smoothing interval
     ∷ []
+
+-- The header in the bits of a message, with this epoch time.
+abbrev pub header_in : List Bool → ℕ → MsmHeader
+header_in bits time = record {
+  station = field_at bits 12 12;
+  time = time;
+  more = field_at bits 54 1 == 1;
+  iods = field_at bits 55 3;
+  steering = field_at bits 65 2;
+  clock = field_at bits 67 2;
+  smoothing = field_at bits 69 1 == 1;
+  interval = field_at bits 70 3;
+}
 
 -- The masks; the third has a bit for each pair of a satellite and a signal.
 abbrev pub mask_table : Table

@@ -1,7 +1,7 @@
 -- Messages 1005 and 1006.
-use Rattle.std.specs.Prelude.{ℕ, ◌^◌, ◌<◌, if◌then◌else◌, Bool, true, false, List, [], ◌∷◌, ◌++◌, Option, Some, None}
+use Rattle.std.specs.Prelude.{ℕ, ◌==◌, ◌^◌, ◌<◌, if◌then◌else◌, Bool, true, false, List, [], ◌∷◌, ◌++◌, Option, Some, None}
 use Rattle.std.specs.Prelude.{Result, Ok, is_some, IfSome}
-use Rattle.rtcm_bits.specs.Bits.{FitsInt}
+use Rattle.rtcm_bits.specs.Bits.{signed, FitsInt}
 use Rattle.rtcm_bits.specs.Cursors.{Cursor}
 use Rattle.rtcm_msg.specs.declared.fault.MsgFault.{MsgFault}
 use Rattle.rtcm_msg.specs.declared.station.StationParts.{StationParts}
@@ -40,6 +40,23 @@ field_widths true = widths (station_table ++ height_table)
 abbrev pub height_in : Bool → List Bool → Option ℕ
 height_in false bits = None
 height_in true bits = Some (field_at bits 152 16)
+
+-- The fields in the bits of a message.
+abbrev pub parts_in : Bool → List Bool → StationParts
+parts_in has_height bits = record {
+  station = field_at bits 12 12;
+  realization = field_at bits 24 6;
+  gps = field_at bits 30 1 == 1;
+  glonass = field_at bits 31 1 == 1;
+  galileo = field_at bits 32 1 == 1;
+  reference = field_at bits 33 1 == 1;
+  x = signed 38 (field_at bits 34 38);
+  oscillator = field_at bits 72 1 == 1;
+  y = signed 38 (field_at bits 74 38);
+  quarter = field_at bits 112 2;
+  z = signed 38 (field_at bits 114 38);
+  height = height_in has_height bits;
+}
 
 -- The contents of the fields of a value, with the reserved bit.
 abbrev pub station_contents : StationParts → ℕ → Contents station_table

@@ -1,5 +1,5 @@
 //! Fields of a message at known places, and the check that they are within the message.
-ghost use Rattle.std.specs.Prelude.{◌≡◌, ◌+◌, ◌-◌, ◌*◌, ◌^◌, ◌<◌, ◌≤◌, All, IfOk, length};
+ghost use Rattle.std.specs.Prelude.{◌≡◌, ◌==◌, ◌+◌, ◌-◌, ◌*◌, ◌^◌, ◌<◌, ◌≤◌, All, IfOk, length};
 ghost use Rattle.rtcm_bits.specs.Bits.{bits_of, signed, FitsInt};
 ghost use Rattle.rtcm_bits.specs.FrameOf.{longest_message};
 ghost use Rattle.rtcm_msg.specs.Fields.{field_at};
@@ -7,7 +7,7 @@ ghost use Rattle.rtcm_msg.specs.Packed.{total_width};
 ghost use Rattle.rtcm_msg.specs.Rows as rows;
 
 use crate::fault::MsgFault;
-use rtcm_bits::signed_of;
+use rtcm_bits::{number_at, signed_of};
 
 /// Returns the bit after fields of these widths that begin at bit `place`, each of them `count`
 /// times before the next one: those of `count` satellites or cells, or of a header if it is 1.
@@ -39,6 +39,26 @@ pub(crate) fn end_of_fields(
         place = end;
     }
     Ok(place)
+}
+
+/// Returns whether the bit at `place` is 1.
+pub(crate) fn flag_at(bytes: &[u8], place: usize) -> bool
+    requires there { place < 8 * length bytes.now }
+    requires small { length bytes.now ≤ longest_message }
+    ensures { result ≡ (field_at (bits_of bytes.now) place 1 == 1) }
+{
+    number_at(bytes, place, 1) == 1
+}
+
+/// Returns the number in the `width` bits, at most 8, from bit `place` on.
+pub(crate) fn byte_at(bytes: &[u8], place: usize, width: u32) -> u8
+    requires few { width ≤ 8 }
+    requires there { place + width ≤ 8 * length bytes.now }
+    requires small { length bytes.now ≤ longest_message }
+    ensures value { result ≡ field_at (bits_of bytes.now) place width }
+    ensures fits { result < 2 ^ width }
+{
+    number_at(bytes, place, width) as u8
 }
 
 /// Returns the number in the `width` bits, 1 to 57, that end with bit `last`, which is not in the

@@ -4,10 +4,10 @@ ghost use Rattle.rtcm_bits.specs.Bits.{bits_of};
 ghost use Rattle.rtcm_bits.specs.FrameOf.{longest_message};
 ghost use Rattle.rtcm_msg.specs.Fields.{GivesViewed, cursor_at};
 ghost use Rattle.rtcm_msg.specs.Refusals.{header_fault};
-ghost use Rattle.rtcm_msg.specs.Msm.{header_at, IsHeader};
+ghost use Rattle.rtcm_msg.specs.Msm.{header_at, header_in, week, IsHeader};
 
 use crate::fault::{Field, MsgFault};
-use crate::field::end_of_fields;
+use crate::field::{byte_at, end_of_fields, flag_at};
 use rtcm_bits::number_at;
 
 /// Number of milliseconds of a week.
@@ -41,6 +41,25 @@ const TIME_WIDTHS: &[u32] = &[12, 30];
 /// DF418.
 const HEADER_WIDTHS: &[u32] = &[1, 3, 7, 2, 2, 1, 3];
 
+/// Returns the header of an MSM with this epoch time.
+fn header_in(bytes: &[u8], time: u32) -> MsmHeader
+    requires there { 73 ≤ 8 * length bytes.now }
+    requires small { length bytes.now ≤ longest_message }
+    ensures value { result ≡ header_in (bits_of bytes.now) time }
+    ensures is_header { time < week → IsHeader result }
+{
+    MsmHeader {
+        station: number_at(bytes, 12, 12) as u16,
+        time,
+        more: flag_at(bytes, 54),
+        iods: byte_at(bytes, 55, 3),
+        steering: byte_at(bytes, 65, 2),
+        clock: byte_at(bytes, 67, 2),
+        smoothing: flag_at(bytes, 69),
+        interval: byte_at(bytes, 70, 3),
+    }
+}
+
 /// Reads the header of an MSM after its message number. An epoch time of a week or more is refused
 /// before the fields after it are read.
 ///
@@ -61,16 +80,7 @@ pub(crate) fn read_header(bytes: &[u8]) -> Result<MsmHeader, MsgFault>
         return Err(MsgFault::BadTime);
     }
     end_of_fields(bytes, HEADER_WIDTHS, 1, 54)?;
-    Ok(MsmHeader {
-        station: number_at(bytes, 12, 12) as u16,
-        time,
-        more: number_at(bytes, 54, 1) == 1,
-        iods: number_at(bytes, 55, 3) as u8,
-        steering: number_at(bytes, 65, 2) as u8,
-        clock: number_at(bytes, 67, 2) as u8,
-        smoothing: number_at(bytes, 69, 1) == 1,
-        interval: number_at(bytes, 70, 3) as u8,
-    })
+    Ok(header_in(bytes, time))
 }
 
 /// Returns the first field, in the order of the layout, that does not fit its bits. The epoch time

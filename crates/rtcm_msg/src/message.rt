@@ -11,6 +11,7 @@ ghost use Rattle.rtcm_msg.specs.Decoding.{message_at, set_in};
 ghost use Rattle.rtcm_msg.specs.declared.message.Message.TheVariants as messages;
 
 use crate::fault::MsgFault;
+use crate::field::flag_at;
 use crate::grid4::Grid4;
 use crate::grid7::Grid7;
 use crate::msm::{Msm, view_of, write_msm};
@@ -51,8 +52,7 @@ pub(crate) fn read_set(number: u16, bytes: &[u8]) -> Option<(u16, bool)>
     if bytes.len() < 7 {
         return None;
     }
-    let station = number_at(bytes, 12, 12) as u16;
-    Some((station, number_at(bytes, 54, 1) == 1))
+    Some((number_at(bytes, 12, 12) as u16, flag_at(bytes, 54)))
 }
 
 /// Decodes a message. Reserved bits and bits after the last field are ignored. Each number other

@@ -1,14 +1,15 @@
 //! The station messages 1005 and 1006.
-ghost use Rattle.std.specs.Prelude.{◌≡◌, ◌+◌, ◌*◌, ◌≤◌, Ok, length};
-ghost use Rattle.rtcm_bits.specs.Bits.{bits_of};
+ghost use Rattle.std.specs.Prelude.{◌≡◌, ◌+◌, ◌*◌, ◌≤◌, IfNone, Ok, length};
+ghost use Rattle.rtcm_bits.specs.Bits.{bits_of, signed, FitsInt};
 ghost use Rattle.rtcm_bits.specs.FrameOf.{longest_message};
-ghost use Rattle.rtcm_msg.specs.Fields.{GivesViewed, cursor_at};
+ghost use Rattle.rtcm_msg.specs.Ranges.{fits_int};
+ghost use Rattle.rtcm_msg.specs.Fields.{GivesViewed, cursor_at, field_at};
 ghost use Rattle.rtcm_msg.specs.Packed.{total_width};
-ghost use Rattle.rtcm_msg.specs.Station.{InRange, height_in, station_at, field_widths};
+ghost use Rattle.rtcm_msg.specs.Station.{InRange, height_in, parts_in, station_at, field_widths};
 ghost use Rattle.rtcm_msg.specs.Refusals.{station_made, station_fault};
 
 use crate::fault::{Field, MsgFault, ValueFault};
-use crate::field::end_of_fields;
+use crate::field::{byte_at, end_of_fields, flag_at};
 use rtcm_bits::{number_at, signed_of};
 use std::marker::Model;
 
@@ -71,20 +72,9 @@ impl Station {
         ensures exact { result ≡ station_made (station_fault parts) parts }
         ensures accepted { InRange parts → result ≡ Ok parts }
     {
-        if parts.station >= 1 << 12 {
-            Err(ValueFault::OutOfRange(Field::Station))
-        } else if parts.realization >= 1 << 6 {
-            Err(ValueFault::OutOfRange(Field::Realization))
-        } else if parts.x < -(1 << 37) || parts.x >= 1 << 37 {
-            Err(ValueFault::OutOfRange(Field::X))
-        } else if parts.y < -(1 << 37) || parts.y >= 1 << 37 {
-            Err(ValueFault::OutOfRange(Field::Y))
-        } else if parts.quarter >= 1 << 2 {
-            Err(ValueFault::OutOfRange(Field::Quarter))
-        } else if parts.z < -(1 << 37) || parts.z >= 1 << 37 {
-            Err(ValueFault::OutOfRange(Field::Z))
-        } else {
-            Ok(Station { parts })
+        match station_fault(parts) {
+            Some(field) => Err(ValueFault::OutOfRange(field)),
+            None => Ok(Station { parts }),
         }
     }
 
@@ -94,6 +84,35 @@ impl Station {
         ensures in_range { InRange result }
     {
         self.parts
+    }
+}
+
+/// Returns whether a coordinate fits its 38 bits.
+fn is_coordinate(number: i64) -> bool
+    ensures { result ≡ fits_int 38 number }
+{
+    -(1 << 37) <= number && number < 1 << 37
+}
+
+/// Returns the first field, in the order of the message, that does not fit its bits.
+fn station_fault(parts: StationParts) -> Option<Field>
+    ensures first { result ≡ station_fault parts }
+    ensures none { IfNone result (InRange parts) }
+{
+    if parts.station >= 1 << 12 {
+        Some(Field::Station)
+    } else if parts.realization >= 1 << 6 {
+        Some(Field::Realization)
+    } else if !is_coordinate(parts.x) {
+        Some(Field::X)
+    } else if !is_coordinate(parts.y) {
+        Some(Field::Y)
+    } else if parts.quarter >= 1 << 2 {
+        Some(Field::Quarter)
+    } else if !is_coordinate(parts.z) {
+        Some(Field::Z)
+    } else {
+        None
     }
 }
 
@@ -125,6 +144,40 @@ fn height_in(bytes: &[u8], has_height: bool) -> Option<u16>
     }
 }
 
+/// Returns a coordinate of the antenna reference point, DF025 to DF027: 38 bits with a sign.
+fn coordinate_at(bytes: &[u8], place: usize) -> i64
+    requires there { place + 38 ≤ 8 * length bytes.now }
+    requires small { length bytes.now ≤ longest_message }
+    ensures value { result ≡ signed 38 (field_at (bits_of bytes.now) place 38) }
+    ensures fits { FitsInt 38 result }
+{
+    signed_of(number_at(bytes, place, 38), 38)
+}
+
+/// Returns the fields of a station message.
+fn parts_in(bytes: &[u8], has_height: bool) -> StationParts
+    requires there { 12 + total_width (field_widths has_height) ≤ 8 * length bytes.now }
+    requires common { 152 ≤ 8 * length bytes.now }
+    requires small { length bytes.now ≤ longest_message }
+    ensures value { result ≡ parts_in has_height (bits_of bytes.now) }
+    ensures in_range { InRange result }
+{
+    StationParts {
+        station: number_at(bytes, 12, 12) as u16,
+        realization: byte_at(bytes, 24, 6),
+        gps: flag_at(bytes, 30),
+        glonass: flag_at(bytes, 31),
+        galileo: flag_at(bytes, 32),
+        reference: flag_at(bytes, 33),
+        x: coordinate_at(bytes, 34),
+        oscillator: flag_at(bytes, 72),
+        y: coordinate_at(bytes, 74),
+        quarter: byte_at(bytes, 112, 2),
+        z: coordinate_at(bytes, 114),
+        height: height_in(bytes, has_height),
+    }
+}
+
 /// Reads a station message after its message number.
 ///
 /// # Errors
@@ -139,19 +192,6 @@ pub(crate) fn read_station(bytes: &[u8], has_height: bool) -> Result<Station, Ms
 {
     end_of_fields(bytes, field_widths(has_height), 1, 12)?;
     Ok(Station {
-        parts: StationParts {
-            station: number_at(bytes, 12, 12) as u16,
-            realization: number_at(bytes, 24, 6) as u8,
-            gps: number_at(bytes, 30, 1) == 1,
-            glonass: number_at(bytes, 31, 1) == 1,
-            galileo: number_at(bytes, 32, 1) == 1,
-            reference: number_at(bytes, 33, 1) == 1,
-            x: signed_of(number_at(bytes, 34, 38), 38),
-            oscillator: number_at(bytes, 72, 1) == 1,
-            y: signed_of(number_at(bytes, 74, 38), 38),
-            quarter: number_at(bytes, 112, 2) as u8,
-            z: signed_of(number_at(bytes, 114, 38), 38),
-            height: height_in(bytes, has_height),
-        },
+        parts: parts_in(bytes, has_height),
     })
 }

@@ -19,13 +19,5 @@ returns-in_err-end_of_fields-2-clause-read c =
 
 pub returns-clause-read : goal.returns-clause-read
 returns-clause-read c =
-    rw (
-      c.number_at.ensures.value,
-      c.number_at-time.ensures.value,
-      c.number_at-2.ensures.value,
-      c.number_at-3.ensures.value,
-      c.number_at-4.ensures.value,
-      c.number_at-5.ensures.value,
-      c.number_at-6.ensures.value,
-      c.number_at-7.ensures.value,
-    ) (header_whole c.args.bytes.now (omega (arith, c.in_ok-end_of_fields-2.ensures.end, c.in_ok-end_of_fields-2.ensures.within)) (rw c.number_at-time.ensures.value at c.if-time-ge-WEEK.false))
+    rw (c.header_in.ensures.value, c.number_at-time.ensures.value)
+    (header_whole c.args.bytes.now (omega (arith, c.in_ok-end_of_fields-2.ensures.end, c.in_ok-end_of_fields-2.ensures.within)) (rw c.number_at-time.ensures.value at c.if-time-ge-WEEK.false))

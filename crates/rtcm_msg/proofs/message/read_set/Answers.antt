@@ -26,5 +26,5 @@ returns-then-bytes-lt7 c =
 
 pub returns : goal.returns
 returns c =
-    rw (c.number_at-station.ensures.value, c.number_at.ensures.value)
+    rw (c.number_at.ensures.value, c.flag_at.ensures)
     (sym (set_there c.args.bytes.now c.requires.number c.if-bytes-lt7.false) ∙ is_set c.args.number (cursor_at (bits_of c.args.bytes.now) 12) c.if-number-lt1071.false c.if-number-gt1127.false c.if-number-lt1.false c.if-number-gt7.false)

@@ -1,0 +1,24 @@
+use Rattle.std.proofs.Common.{ℕ, ℤ, pos, negsuc, Option, Some, None, true, false, nat_le, ◌≡◌, ◌<◌, arith, refl, sym}
+use Rattle.rtcm_bits.specs.Bits.{FitsInt}
+use Rattle.rtcm_msg.specs.declared.fault.Field.{Field}
+use Rattle.rtcm_msg.specs.declared.station.StationParts.{StationParts}
+use Rattle.rtcm_msg.specs.Ranges.{fits_int}
+use Rattle.rtcm_msg.specs.Refusals.{station_fault}
+use Rattle.rtcm_msg.specs.Station.{InRange}
+use Rattle.rtcm_msg.proofs.station.Station.new.Goals as goal
+
+below : (a b : ℕ) → b < a → nat_le a b ≡ false
+below a b h = grind arith
+
+fits : (z : ℤ) → FitsInt 38 z → fits_int 38 z ≡ true
+fits (pos n) h = grind arith
+fits (negsuc n) h = grind arith
+
+no_fault : (s : StationParts) → InRange s → station_fault s ≡ None
+no_fault s h = rw (below _ s.station h.station, below _ s.realization h.realization, fits s.x h.x, fits s.y h.y, below _ s.quarter h.quarter, fits s.z h.z) refl
+
+not_both : (r : Option Field) (f : Field) → r ≡ Some f → r ≡ None → ⊥
+not_both r f e g = cc
+
+pub returns-in-Some-clause-accepted : goal.returns-in-Some-clause-accepted
+returns-in-Some-clause-accepted c = λ h. absurd (not_both (station_fault c.args.parts) c.in-Some.field (sym c.in-Some.ensures.first) (no_fault c.args.parts h))
