@@ -6,7 +6,7 @@ use std::io;
 use std::io::{ErrorKind, Read, Write};
 
 /// What a reader does after its last byte.
-#[derive(Clone, Copy, Debug)]
+#[derive(Clone, Copy)]
 pub enum ReadEnd {
     /// Each further read returns 0 bytes.
     Ends,
@@ -83,7 +83,7 @@ impl<'a> Read for PieceReader<'a> {
 }
 
 /// What a writer does after the last byte that it accepts.
-#[derive(Clone, Copy, Debug)]
+#[derive(Clone, Copy)]
 pub enum WriteEnd {
     /// Each further write fails with this error.
     Fails(ErrorKind),

@@ -20,6 +20,6 @@ pub use complement::{raw_of, signed_of};
 pub use counted::{Counted, DeviceFailed};
 pub use crc::{CheckRegister, crc24q};
 pub use framing::{LONGEST_FRAME, LONGEST_MESSAGE, frame_of};
-pub use reader::{BitReader, number_at};
+pub use reader::{BitReader, bits_in_word, number_at, word_at};
 pub use window::Window;
 pub use writer::BitWriter;

@@ -7,7 +7,7 @@ ghost use Rattle.rtcm_msg.specs.Packed.{total_width};
 ghost use Rattle.rtcm_msg.specs.Rows as rows;
 
 use crate::fault::MsgFault;
-use rtcm_bits::{number_at, signed_of};
+use rtcm_bits::{bits_in_word, number_at, signed_of, word_at};
 
 /// Returns the bit after fields of these widths that begin at bit `place`, each of them `count`
 /// times before the next one: those of `count` satellites or cells, or of a header if it is 1.
@@ -74,11 +74,7 @@ pub(crate) fn short_to(bytes: &[u8], last: usize, width: u32) -> u64
 {
     let end = last / 8 + 1;
     let skip = 57 - width as usize + last % 8;
-    let word = &bytes[end - 8..end];
-    let word = u64::from_be_bytes([
-        word[0], word[1], word[2], word[3], word[4], word[5], word[6], word[7],
-    ]);
-    (word << skip) >> (64 - width)
+    bits_in_word(word_at(bytes, end - 8), skip, width as usize)
 }
 
 /// Returns the two's complement number of `width` bits, at most 57, that ends with bit `last`.

@@ -13,7 +13,7 @@ fitting z f e = fits z (rw (to_z-of_z w64 z f) at e)
 
 pub returns-else-not-is_coordinate-3-clause-none : goal.returns-else-not-is_coordinate-3-clause-none
 returns-else-not-is_coordinate-3-clause-none c = record {
-  station = c.if-parts.false;
+  station = omega (arith, c.if-parts.false);
   realization = c.if-parts-2.false;
   x = fitting c.args.parts.x (search rules) c.if-not-is_coordinate.ensures;
   y = fitting c.args.parts.y (search rules) c.if-not-is_coordinate-2.ensures;

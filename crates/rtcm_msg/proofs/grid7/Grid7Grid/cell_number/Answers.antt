@@ -1,4 +1,5 @@
-use Rattle.std.proofs.Common.{ℕ, ◌≡◌, ◌+◌, ◌*◌, ap, ◌∙◌, arith, rules, w16, w32, FitsSigned, lit<, lit≤}
+use Rattle.std.proofs.Common.{ℕ, suc, Bool, true, false, ◌≡◌, ◌+◌, ◌*◌, ◌<◌, ap, ◌∙◌, arith, rules, w16, w32, FitsSigned, lit<, lit≤}
+use mir.Val.{bool_byte}
 use Rattle.rtcm_bits.specs.Bits.{raw}
 use Rattle.rtcm_bits.specs.BitLaws.{byte-bit}
 use Rattle.rtcm_msg.proofs.SignedLaws.{wide_16_64, wide_32_64}
@@ -7,6 +8,29 @@ use Rattle.rtcm_msg.proofs.grid7.Grid7Grid.cell_number.Goals as goal
 -- The positions of the fields in the number.
 are_within : (a b l h s r : ℕ) → ((((a * 16777216 + b) * 1024 + l) * 2 + h) * 1024 + s) * 32768 + r ≡ a * 1152921504606846976 + (b * 68719476736 + (l * 67108864 + (h * 33554432 + (s * 32768 + (r * 1 + 0)))))
 are_within a b l h s r = omega arith
+
+-- No step of the sum exceeds its type.
+fit : (a b l h s r : ℕ) → a < 1048576 → b < 16777216 → l < 1024 → h < 2 → s < 1024 → r < 32768 → ((((a * 16777216 + b) * 1024 + l) * 2 + h) * 1024 + s) * 32768 + r < 340282366920938463463374607431768211456
+fit a b l h s r i j k m n o = omega arith
+
+first : (m n p : ℕ) → m + n < p → m < p
+first m n p h = omega arith
+
+times : (m n p : ℕ) → m * suc n < p → m < p
+times m n p h = omega arith
+
+flag : (b : Bool) → bool_byte b < 2
+flag true = lit< tt
+flag false = lit< tt
+
+pub overflow_add-result : goal.overflow_add-result
+overflow_add-result c = record { fits = fit _ _ _ _ _ _ c.raw_of-range.ensures.range c.raw_of-phase.ensures.range c.requires.lock (flag c.args.cell.now.half_cycle) c.requires.strength c.raw_of-rate.ensures.range }
+
+pub overflow_mul-result : goal.overflow_mul-result
+overflow_mul-result c = record { fits = first _ _ _ (fit _ _ _ _ _ _ c.raw_of-range.ensures.range c.raw_of-phase.ensures.range c.requires.lock (flag c.args.cell.now.half_cycle) c.requires.strength c.raw_of-rate.ensures.range) }
+
+pub overflow_add-number-4 : goal.overflow_add-number-4
+overflow_add-number-4 c = record { fits = times _ _ _ (first _ _ _ (fit _ _ _ _ _ _ c.raw_of-range.ensures.range c.raw_of-phase.ensures.range c.requires.lock (flag c.args.cell.now.half_cycle) c.requires.strength c.raw_of-rate.ensures.range)) }
 
 pub returns : goal.returns
 returns c =
