@@ -73,7 +73,7 @@ impl Reading {
         ensures same { (result ≡ Err ReadFault.Read → ⊥) → reader.new.failures ≡ reader.old.failures }
     {
         let number = self.count + 1;
-        let expected = self.parser_state.expected;
+        let fault = fault_at(self.parser_state.expected, number);
         match next_line(reader, &mut self.block, &mut self.line) {
             Found::Failed => return Err(ReadFault::Read),
             _ if self.count == MOST_LINES && !self.line.is_empty() => {
@@ -82,7 +82,7 @@ impl Reading {
             Found::Line => {}
             Found::End if self.line.is_empty() && self.parser_state.may_end() => return Ok(None),
             Found::End => return Err(ReadFault::CutShort(number)),
-            Found::Long => return Err(fault_at(expected, number)),
+            Found::Long => return Err(fault),
         }
         let line = self.line.as_slice();
         match self.parser_state.take(line, &mut self.again) {
@@ -91,7 +91,7 @@ impl Reading {
                 Ok(Some(added))
             }
             Err(Refusal::Memory) => Err(ReadFault::Memory),
-            Err(Refusal::Bad) => Err(fault_at(expected, number)),
+            Err(Refusal::Bad) => Err(fault),
         }
     }
 }

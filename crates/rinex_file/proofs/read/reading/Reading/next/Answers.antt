@@ -49,7 +49,7 @@ pub returns-in-Long-clause-goes : goal.returns-in-Long-clause-goes
 returns-in-Long-clause-goes g c = λ h input read.
     let s = progress_at c.args.self.now.parser_state h in
     let long = c.in-Long.ensures in
-    both_said input _ _ _ c.fault_at.ensures.faulty (over_long s c.args.self.now.count input _ _ c.next_line.new.line.items read.taken long.found.0 long.found.1 long.taken.0)
+    both_said input _ _ _ c.fault_at-fault.ensures.faulty (over_long s c.args.self.now.count input _ _ c.next_line.new.line.items read.taken long.found.0 long.found.1 long.taken.0)
     (expected_at c.args.self.now.parser_state h c.args.self.now.parser_state.expected c.args.self.now.count input _ read.taken refl read.history)
 
 pub returns-in-Ok-clause-goes : goal.returns-in-Ok-clause-goes
@@ -79,6 +79,6 @@ returns-in-Err-Bad-clause-goes g c = λ h input read.
     let n = c.args.self.now.count in
     let line = c.next_line.new.line.items in
     let takes = subst (λ (r : Refusal). TakesLine c.args.self.now.parser_state c.take.new.self c.as_slice-line.result.now (Err r)) c.in-Err-Bad.field-0-is c.in-Err-Bad.ensures.takes in
-    both_said input _ _ _ c.fault_at-in-Err-Bad.ensures.faulty
+    both_said input _ _ _ c.fault_at-fault.ensures.faulty
     (refused lines_are_lines s n input _ _ line read.taken c.in-Line.ensures.found.0 c.in-Line.ensures.taken.0 (subst (RefusesLine s) c.as_slice-line.ensures.value (takes h read.history)))
     (expected_at c.args.self.now.parser_state h c.args.self.now.parser_state.expected n input _ read.taken refl read.history)
