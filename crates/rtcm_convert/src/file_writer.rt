@@ -46,6 +46,7 @@ impl FileWriter {
         ensures bad { result ≡ Err Fault.BadSetup ↔ IsBadStart setup }
         ensures only { IfErr result IsSetupFault }
     {
+        let texts = setup.texts;
         match Gatherer::new_at(
             alloc,
             setup.plan,
@@ -56,14 +57,19 @@ impl FileWriter {
         ) {
             Ok(gatherer) => Ok(FileWriter {
                 gatherer,
-                texts: setup.texts,
+                texts,
                 values: None,
                 epochs: 0,
                 tally: Tally::new(),
             }),
-            Err(PlanFault::BadWeek) => Err(Fault::BadSetup),
-            Err(PlanFault::BadStation) => Err(Fault::BadSetup),
-            Err(_) => Err(Fault::Memory),
+            Err(fault) => {
+                drop(texts);
+                match fault {
+                    PlanFault::BadWeek => Err(Fault::BadSetup),
+                    PlanFault::BadStation => Err(Fault::BadSetup),
+                    _ => Err(Fault::Memory),
+                }
+            }
         }
     }
 
@@ -116,9 +122,13 @@ impl FileWriter {
         if !epoch.has_satellites() {
             return Ok(());
         }
-        self.open(epoch, writer)?;
+        if let Err(fault) = self.open(epoch, writer) {
+            return Err(fault);
+        }
         let values = epoch.station_values();
-        write_epoch(epoch, self.gatherer.plan(), writer)?;
+        if let Err(fault) = write_epoch(epoch, self.gatherer.plan(), writer) {
+            return Err(fault);
+        }
         self.values = Some(values);
         self.epochs = self.epochs.saturating_add(1);
         Ok(())
@@ -146,8 +156,10 @@ impl FileWriter {
         ensures ended { self.new.gatherer.has_ended ≡ false }
     {
         let taken = self.gatherer.take_view(message);
-        self.write_closed(writer)?;
-        Ok(taken.kind)
+        match self.write_closed(writer) {
+            Ok(()) => Ok(taken.kind),
+            Err(_) => Err(Fault::Write),
+        }
     }
 
     /// Gathers a message: if the gatherer closes an epoch first, it is passed again.
@@ -168,7 +180,10 @@ impl FileWriter {
         ensures device { FailsToWrite result writer.old writer.new }
         ensures ended { self.new.gatherer.has_ended ≡ false }
     {
-        let kind = self.step(message, writer)?;
+        let kind = match self.step(message, writer) {
+            Ok(kind) => kind,
+            Err(fault) => return Err(fault),
+        };
         if !kind.is_close_first() {
             return Ok(kind);
         }
@@ -188,7 +203,12 @@ impl FileWriter {
         ensures ended { self.new.gatherer.has_ended ≡ true }
     {
         self.gatherer.end();
-        self.write_closed(writer)?;
-        Ok(writer.flush_whole()?)
+        if let Err(_) = self.write_closed(writer) {
+            return Err(Fault::Write);
+        }
+        if let Err(_) = writer.flush_whole() {
+            return Err(Fault::Write);
+        }
+        Ok(())
     }
 }

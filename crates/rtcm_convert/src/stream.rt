@@ -29,11 +29,13 @@ impl<W: Write> FrameSink<Counted<W>> for FileWriter {
                 self.tally.count(None);
                 Ok(())
             }
-            Ok(message) => {
-                let kind = self.take_message(&message, out)?;
-                self.tally.count(Some(kind));
-                Ok(())
-            }
+            Ok(message) => match self.take_message(&message, out) {
+                Ok(kind) => {
+                    self.tally.count(Some(kind));
+                    Ok(())
+                }
+                Err(fault) => Err(fault),
+            },
         }
     }
 

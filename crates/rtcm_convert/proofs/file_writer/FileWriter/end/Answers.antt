@@ -1,21 +1,35 @@
-use Rattle.rtcm_convert.specs.Steps.{BreaksInRest}
-use Rattle.rtcm_convert.proofs.PartLemmas.{on_err, goes_on-kept, goes_on-front}
+use Rattle.rtcm_convert.proofs.PartLemmas.{goes_on-kept, goes_on-front}
 use Rattle.rtcm_convert.proofs.TakeLemmas.{file_whole, file_part}
 use Rattle.rtcm_convert.proofs.file_writer.FileWriter.end.Goals as goal
 
-pub returns-in_err-write_closed-clause-part : goal.returns-in_err-write_closed-clause-part
-returns-in_err-write_closed-clause-part g c =
-    on_err _ _ (file_part c.args.self.now c.end.new.self _ _ c.in_err-write_closed.ensures.part c.end.ensures.ended (λ s ms es x. (c.end.ensures.closes s ms es x c.requires).1))
+pub returns-in-Err-clause-part : goal.returns-in-Err-clause-part
+returns-in-Err-clause-part g c =
+    file_part c.args.self.now c.end.new.self _ _ c.in-Err.ensures.part c.end.ensures.ended (λ s ms es x. (c.end.ensures.closes s ms es x c.requires).1)
 
-pub returns-in_err-flush_whole-clause-part : goal.returns-in_err-flush_whole-clause-part
-returns-in_err-flush_whole-clause-part g c = on_err c.from_residual-in_err-flush_whole.result (BreaksInRest c.args.self.now _ _) (λ s fs x.
-    let e = c.in_ok-write_closed.ensures in
+pub returns-in-Err-flush_whole-clause-part : goal.returns-in-Err-flush_whole-clause-part
+returns-in-Err-flush_whole-clause-part g c = λ s fs x.
+    let e = c.in_default.ensures in
     goes_on-front _ _ _ _ (goes_on-kept _ _ _ _ _ (file_whole c.args.self.now c.write_closed.new.self c.end.new.self _ _ (record { gatherer = e.same.0; texts = e.same.1; epochs = e.now.0; values = e.now.1; out = e.whole })
-    c.end.ensures.ended (λ s ms es x. (c.end.ensures.closes s ms es x c.requires).1) s fs x).0 c.flush_whole.ensures.kept))
+    c.end.ensures.ended (λ s ms es x. (c.end.ensures.closes s ms es x c.requires).1) s fs x).0 c.flush_whole.ensures.kept)
 
 pub returns-clause-whole : goal.returns-clause-whole
 returns-clause-whole g c = λ s fs x.
-    let e = c.in_ok-write_closed.ensures in
+    let e = c.in_default.ensures in
     let p = file_whole c.args.self.now c.write_closed.new.self c.end.new.self _ _ (record { gatherer = e.same.0; texts = e.same.1; epochs = e.now.0; values = e.now.1; out = e.whole })
     c.end.ensures.ended (λ s ms es x. (c.end.ensures.closes s ms es x c.requires).1) s fs x in
     (goes_on-kept _ _ _ _ _ p.0 c.flush_whole.ensures.kept, p.1, p.2)
+
+pub returns-in-Err-clause-whole : goal.returns-in-Err-clause-whole
+returns-in-Err-clause-whole g c = tt
+
+pub returns-in-Err-clause-sent : goal.returns-in-Err-clause-sent
+returns-in-Err-clause-sent g c = tt
+
+pub returns-in-Err-flush_whole-clause-whole : goal.returns-in-Err-flush_whole-clause-whole
+returns-in-Err-flush_whole-clause-whole g c = tt
+
+pub returns-in-Err-flush_whole-clause-sent : goal.returns-in-Err-flush_whole-clause-sent
+returns-in-Err-flush_whole-clause-sent g c = tt
+
+pub returns-clause-part : goal.returns-clause-part
+returns-clause-part g c = tt

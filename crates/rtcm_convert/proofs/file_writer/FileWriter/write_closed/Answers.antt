@@ -1,17 +1,33 @@
-use Rattle.std.proofs.Common.{◌∙◌, sym}
+use Rattle.std.proofs.Common.{ℕ, ◌∙◌, refl, sym, subst}
+use Rattle.rtcm_bits.specs.Device.{HasFailed}
 use Rattle.obs_epoch.specs.Gathering.{closed_in}
-use Rattle.rtcm_convert.proofs.PartLemmas.{on_err}
 use Rattle.rtcm_convert.proofs.TextLemmas.{open_lent, part_lent}
 use Rattle.rtcm_convert.proofs.file_writer.FileWriter.write_closed.Goals as goal
 
-pub returns-in_err-open-clause-part : goal.returns-in_err-open-clause-part
-returns-in_err-open-clause-part g c =
+pub returns-in-Err : goal.returns-in-Err
+returns-in-Err g c =
     let f = c.args.self.now in
-    on_err _ _ (open_lent f.texts _ f.values (closed_in f.gatherer) c.in-Some.epoch.now f.gatherer.values c.in-Some.ensures.closed (sym c.has_satellites.ensures ∙ c.if-not-has_satellites.false) _ _
-    c.in_err-open.ensures.part)
+    record {
+      whole = tt;
+      part = open_lent f.texts _ f.values (closed_in f.gatherer) c.in-Some.epoch.now f.gatherer.values c.in-Some.ensures.closed (sym c.has_satellites.ensures ∙ c.if-not-has_satellites.false) _ _ c.in-Err.ensures.part;
+      device = c.in-Err.ensures.device;
+      now = tt;
+      same = (refl, refl, refl);
+    }
 
-pub returns-in_err-write_epoch-clause-part : goal.returns-in_err-write_epoch-clause-part
-returns-in_err-write_epoch-clause-part g c =
+pub returns-in-Err-write_epoch : goal.returns-in-Err-write_epoch
+returns-in-Err-write_epoch g c =
     let f = c.args.self.now in
-    on_err _ _ (part_lent f.texts _ f.values (closed_in f.gatherer) c.in-Some.epoch.now f.gatherer.values c.in-Some.ensures.closed (sym c.has_satellites.ensures ∙ c.if-not-has_satellites.false) _ _ _ _
-    c.plan.ensures c.in_ok-open.ensures.whole c.in_err-write_epoch.ensures.part)
+    let o = c.in_default-open.ensures in
+    let n = c.in-Err-write_epoch.ensures in
+    record {
+      whole = tt;
+      part = part_lent f.texts _ f.values (closed_in f.gatherer) c.in-Some.epoch.now f.gatherer.values c.in-Some.ensures.closed (sym c.has_satellites.ensures ∙ c.if-not-has_satellites.false) _ _ _ _
+          c.plan.ensures o.whole n.part;
+      device = (subst (λ (k : ℕ). HasFailed k c.write_epoch.new.writer.failures) o.device.1 n.device.0, tt, n.device.2 ∙ o.device.2);
+      now = tt;
+      same = (refl, refl, refl);
+    }
+
+pub returns-clause-part : goal.returns-clause-part
+returns-clause-part g c = tt
