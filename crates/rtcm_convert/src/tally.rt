@@ -78,17 +78,19 @@ impl Tally {
         ensures { self.new ≡ tallies_added self.old (tally_of_one outcome) }
     {
         let one = Tally::of(outcome);
-        self.frames = self.frames.saturating_add(one.frames);
-        self.faulty = self.faulty.saturating_add(one.faulty);
-        self.station = self.station.saturating_add(one.station);
-        self.other = self.other.saturating_add(one.other);
-        self.ignored = self.ignored.saturating_add(one.ignored);
-        self.late = self.late.saturating_add(one.late);
-        self.past = self.past.saturating_add(one.past);
-        self.taken = self.taken.saturating_add(one.taken);
-        self.skipped = self.skipped.saturating_add(one.skipped);
-        self.repeated = self.repeated.saturating_add(one.repeated);
-        self.crowded = self.crowded.saturating_add(one.crowded);
+        *self = Tally {
+            frames: self.frames.saturating_add(one.frames),
+            faulty: self.faulty.saturating_add(one.faulty),
+            station: self.station.saturating_add(one.station),
+            other: self.other.saturating_add(one.other),
+            ignored: self.ignored.saturating_add(one.ignored),
+            late: self.late.saturating_add(one.late),
+            past: self.past.saturating_add(one.past),
+            taken: self.taken.saturating_add(one.taken),
+            skipped: self.skipped.saturating_add(one.skipped),
+            repeated: self.repeated.saturating_add(one.repeated),
+            crowded: self.crowded.saturating_add(one.crowded),
+        };
     }
 
     /// Returns the report with these counts, and those of all bytes, of the bytes in no frame, and
