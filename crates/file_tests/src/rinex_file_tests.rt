@@ -1,44 +1,21 @@
 //! What no clause states: published lines, that a call can succeed, and failures of writers.
 //!
-//! A test passes its input and gets a few numbers back: only one function owns a gatherer, one a
+//! A test is a table of inputs and expected outcomes: only one function owns a gatherer, one a
 //! writer and one a file, since owners of these take long to prove.
 mod events;
 mod faults;
 mod long;
+mod parts;
 mod reading;
 mod writing;
 
 use arrayvec::ArrayVec;
 use obs_epoch::{GpsTime, Plan, StationValues};
+use parts::{Part, text_of};
 use rinex_file::{Head, HeadFault, HeaderField, HeaderTexts, Texts, header_lines};
 use rtcm_bits::Counted;
 use rtcm_bits::devices::{ShortWriter, WriteEnd};
 use std::alloc::Global;
-use std::test::*;
-
-/// The header of a file of GPS 1C alone.
-static HEADER: [&str; 14] = [
-    "     3.05           OBSERVATION DATA    G                   RINEX VERSION / TYPE",
-    "rtcm2rinex                              20240204 000001 UTC PGM / RUN BY / DATE ",
-    "                                                            MARKER NAME         ",
-    "GEODETIC                                                    MARKER TYPE         ",
-    "                                                            OBSERVER / AGENCY   ",
-    "                                                            REC # / TYPE / VERS ",
-    "                                                            ANT # / TYPE        ",
-    "        0.0000        0.0000        0.0000                  APPROX POSITION XYZ ",
-    "        0.0000        0.0000        0.0000                  ANTENNA: DELTA H/E/N",
-    "G    4 C1C L1C D1C S1C                                      SYS / # / OBS TYPES ",
-    "DBHZ                                                        SIGNAL STRENGTH UNIT",
-    "  2024     2     4     0     0    1.0000000     GPS         TIME OF FIRST OBS   ",
-    "G                                                           SYS / PHASE SHIFT   ",
-    "                                                            END OF HEADER       ",
-];
-
-/// The epoch of that file.
-static EPOCH: [&str; 2] = [
-    "> 2024 02 04 00 00  1.0000000  0  1",
-    "G05  20985472.060 7 110279400.000 7      -525.504          45.063",
-];
 
 /// The values of a station.
 const VALUES: StationValues = StationValues {
@@ -48,54 +25,48 @@ const VALUES: StationValues = StationValues {
     height: 15_000,
 };
 
-fn texts() -> Texts<'static> {
-    Texts {
-        run_by: "",
-        date: "20240204 000001 UTC",
-        marker: "",
-        marker_type: "GEODETIC",
-        observer: "",
-        agency: "",
-        rec_number: "",
-        rec_type: "",
-        rec_version: "",
-        ant_number: "",
-        ant_type: "",
-    }
-}
+const TEXTS: Texts<'static> = Texts {
+    run_by: "",
+    date: "20240204 000001 UTC",
+    marker: "",
+    marker_type: "GEODETIC",
+    observer: "",
+    agency: "",
+    rec_number: "",
+    rec_type: "",
+    rec_version: "",
+    ant_number: "",
+    ant_type: "",
+};
+
+static OWN_TEXTS: Texts<'static> = TEXTS;
 
 /// The text of a small file, or of a part of it.
 type Text = ArrayVec<u8, 4096>;
 
-/// The lines of these parts, one after the other.
-fn joined(parts: &[&[&str]]) -> Text {
-    let mut text = ArrayVec::new();
+fn put(text: &mut Text, bytes: &[u8]) {
+    let _ = text.try_extend_from_slice(bytes);
+}
+
+fn put_part(text: &mut Text, part: Part) {
+    put(text, text_of(part).as_bytes());
+}
+
+/// These parts, one after the other.
+fn joined(parts: &[Part]) -> Text {
+    let mut text = Text::new();
     for part in parts {
-        put_lines(&mut text, part);
+        put_part(&mut text, *part);
     }
     text
 }
 
-fn put_lines(text: &mut Text, lines: &[&str]) {
-    for line in lines {
-        let _ = text.try_extend_from_slice(line.as_bytes());
-        let _ = text.try_extend_from_slice(b"\n");
-    }
-}
-
-/// The first offset at which the bytes differ from the first `most` bytes of these lines.
-fn difference(bytes: &[u8], lines: &[&[&str]], most: usize) -> Option<usize> {
-    let text = joined(lines);
-    place_of_difference(bytes, &text.as_slice()[..most.min(text.len())])
-}
-
-fn place_of_difference(a: &[u8], b: &[u8]) -> Option<usize> {
-    for place in 0..a.len().max(b.len()) {
-        if a.get(place) != b.get(place) {
-            return Some(place);
-        }
-    }
-    None
+/// The number of bytes of these parts.
+fn length(parts: &[Part]) -> usize {
+    let text = joined(parts);
+    let length = text.len();
+    drop(text);
+    length
 }
 
 /// The largest numbers of bytes that a writer accepts in a write and in all, and what it does then.
@@ -115,65 +86,73 @@ const ALL: Takes = Takes {
 
 type Writer = Counted<ShortWriter<Text>>;
 
-fn writer(takes: Takes) -> Writer {
+fn writer(takes: &Takes) -> Writer {
     Counted::new(ShortWriter::new(Text::new(), takes.each, takes.all, takes.end))
 }
 
-/// The first offset at which the bytes of a writer differ from those expected of these lines.
-fn written_otherwise(writer: Writer, takes: Takes, lines: &[&[&str]]) -> Option<usize> {
-    difference(
-        writer.into_inner().into_inner().as_slice(),
-        lines,
-        takes.all,
-    )
+/// Whether these are the first bytes of the parts, as many as a writer accepts.
+fn is_start(bytes: &[u8], parts: &[Part], takes: &Takes) -> bool {
+    let text = joined(parts);
+    let is_start = text.as_slice().get(..takes.all.min(text.len())) == Some(bytes);
+    drop(text);
+    is_start
 }
 
-/// The outcome of writing: the result, and the first offset at which the bytes differ.
-type Outcome = (Result<(), HeadFault>, Option<usize>);
+/// Whether a writer has accepted these parts, up to the bytes that it accepts.
+fn has_written(writer: Writer, parts: &[Part], takes: &Takes) -> bool {
+    let text = writer.into_inner().into_inner();
+    let is_start = is_start(text.as_slice(), parts, takes);
+    drop(text);
+    is_start
+}
 
-/// The lines of a header, one after the other, if each has 81 bytes.
-fn header_of(head: &Head) -> Option<Text> {
-    let mut lines = ArrayVec::new();
-    for line in header_lines(head) {
-        if line.len() != 81 {
-            return None;
-        }
-        let _ = lines.try_extend_from_slice(line.as_slice());
+/// Whether this is the outcome of writing: a success, or the fault of a writer.
+fn is_outcome(outcome: Result<(), HeadFault>, is_good: bool) -> bool {
+    match outcome {
+        Ok(()) => is_good,
+        Err(fault) => !is_good && fault == HeadFault::Write,
     }
-    Some(lines)
+}
+
+/// Puts the lines of a header one after the other. Returns whether each has 81 bytes.
+fn put_header(head: &Head, text: &mut Text) -> bool {
+    let mut are_whole = true;
+    for line in header_lines(head) {
+        are_whole = are_whole && line.len() == 81;
+        put(text, line.as_slice());
+        drop(line);
+    }
+    are_whole
 }
 
 /// Whether the line of this number, of 81 bytes as all are, has this text.
 fn has_line(text: &[u8], number: usize, line: &str) -> bool {
     let from = number.saturating_mul(81);
-    match text.get(from..from.saturating_add(81)) {
-        Some(here) => difference(here, &[&[line]], 4096).is_none(),
-        None => false,
-    }
+    let to = from.saturating_add(80);
+    text.get(from..to) == Some(line.as_bytes()) && text.get(to) == Some(&b'\n')
 }
 
-/// The number of the first of these lines that is missing.
-fn missing(text: &[u8], wanted: &[(usize, &str)]) -> Option<usize> {
-    for (number, line) in wanted {
+fn has_lines(text: &[u8], lines: &[(usize, &str)]) -> bool {
+    for (number, line) in lines {
         if !has_line(text, *number, line) {
-            return Some(*number);
+            return false;
         }
     }
-    None
+    true
 }
 
-/// The length of a header, and the number of the first of these lines that it doesn't have.
-fn header_otherwise(head: &Head, wanted: &[(usize, &str)]) -> Option<(usize, Option<usize>)> {
-    match header_of(head) {
-        Some(lines) => Some((lines.len(), missing(lines.as_slice(), wanted))),
-        None => None,
-    }
+/// Whether a header has 25 lines, and these among them.
+fn is_header(head: &Head, lines: &[(usize, &str)]) -> bool {
+    let mut text = Text::new();
+    let are_whole = put_header(head, &mut text);
+    let are_lines = text.len() == 25 * 81 && has_lines(text.as_slice(), lines);
+    drop(text);
+    are_whole && are_lines
 }
 
 /// The same of the header with this plan and the station values.
-fn header_under(plan: &Plan, wanted: &[(usize, &str)]) -> Option<(usize, Option<usize>)> {
-    let first = GpsTime::new(2303 * 604_800_000 + 345_600_000)?;
-    match HeaderTexts::new(&texts()) {
+fn is_header_under(plan: &Plan, first: GpsTime, lines: &[(usize, &str)]) -> bool {
+    match HeaderTexts::new(&OWN_TEXTS) {
         Ok(texts) => {
             let head = Head {
                 texts: &texts,
@@ -181,17 +160,30 @@ fn header_under(plan: &Plan, wanted: &[(usize, &str)]) -> Option<(usize, Option<
                 values: VALUES,
                 first,
             };
-            header_otherwise(&head, wanted)
+            let is_header = is_header(&head, lines);
+            drop(texts);
+            is_header
         }
-        Err(_) => None,
+        Err(_) => false,
+    }
+}
+
+fn is_header_of(plan: &Plan, lines: &[(usize, &str)]) -> bool {
+    match GpsTime::new(2303 * 604_800_000 + 345_600_000) {
+        Some(first) => is_header_under(plan, first, lines),
+        None => false,
     }
 }
 
 /// The same of the header with every signal.
-fn full_header(alloc: Global, wanted: &[(usize, &str)]) -> Option<(usize, Option<usize>)> {
+fn is_full_header(alloc: Global, lines: &[(usize, &str)]) -> bool {
     match Plan::parse(alloc, "all", "all") {
-        Ok(plan) => header_under(&plan, wanted),
-        Err(_) => None,
+        Ok(plan) => {
+            let is_header = is_header_of(&plan, lines);
+            drop(plan);
+            is_header
+        }
+        Err(_) => false,
     }
 }
 
@@ -233,45 +225,72 @@ static FULL_HEADER: [(usize, &str); 8] = [
 
 #[test]
 fn a_header_shows_plan_and_station(rt: HostRuntime) {
-    assert_eq!(rt;
-        full_header(rt.alloc(), &FULL_HEADER),
-        Some((25 * 81, None))
-    );
+    assert!(rt; is_full_header(rt.alloc(), &FULL_HEADER));
 }
 
-/// The fault of the texts with this date and this marker.
-fn refused(date: &str, marker: &str) -> Option<HeadFault> {
-    let texts = Texts {
-        date,
-        marker,
-        ..texts()
-    };
-    HeaderTexts::new(&texts).err()
+const SIXTY: &str = "aaaaaaaaaaaaaaaaaaaaaaaaaaaaaaaaaaaaaaaaaaaaaaaaaaaaaaaaaaaa";
+
+const LONG: &str = "aaaaaaaaaaaaaaaaaaaaaaaaaaaaaaaaaaaaaaaaaaaaaaaaaaaaaaaaaaaaa";
+
+const BLANKS: &str = "aaaaaaaaaaaaaaaaaaaaaaaaaaaaaaaaaaaaaaaaaaaaaaaaaaaaaaaaaaaa  ";
+
+const ODD: &str = "aaaaaaaaaaaaaaaaaaaaaaaaaaaaaa\x7Faaaaaaaaaaaaaaaaaaaaaaaaaaaaaa";
+
+/// Texts, and their fault if they have one.
+static JUDGED: [(Texts<'static>, Option<HeadFault>); 5] = [
+    (
+        Texts {
+            marker: SIXTY,
+            ..TEXTS
+        },
+        None,
+    ),
+    (
+        Texts {
+            marker: BLANKS,
+            ..TEXTS
+        },
+        None,
+    ),
+    (
+        Texts {
+            marker: LONG,
+            ..TEXTS
+        },
+        Some(HeadFault::TooLong(HeaderField::Marker)),
+    ),
+    (
+        Texts {
+            marker: ODD,
+            ..TEXTS
+        },
+        Some(HeadFault::NotPrintable(HeaderField::Marker)),
+    ),
+    (
+        Texts {
+            date: "\n",
+            marker: LONG,
+            ..TEXTS
+        },
+        Some(HeadFault::NotPrintable(HeaderField::Date)),
+    ),
+];
+
+fn fault_of(texts: &Texts) -> Option<HeadFault> {
+    HeaderTexts::new(texts).err()
+}
+
+fn are_judged() -> bool {
+    for (texts, fault) in &JUDGED {
+        if fault_of(texts) != *fault {
+            return false;
+        }
+    }
+    true
 }
 
 #[test]
 fn texts_are_judged(rt: HostRuntime) {
-    let sixty = "aaaaaaaaaaaaaaaaaaaaaaaaaaaaaaaaaaaaaaaaaaaaaaaaaaaaaaaaaaaa";
-    let long = "aaaaaaaaaaaaaaaaaaaaaaaaaaaaaaaaaaaaaaaaaaaaaaaaaaaaaaaaaaaaa";
-    let blanks = "aaaaaaaaaaaaaaaaaaaaaaaaaaaaaaaaaaaaaaaaaaaaaaaaaaaaaaaaaaaa  ";
-    let odd = "aaaaaaaaaaaaaaaaaaaaaaaaaaaaaa\x7Faaaaaaaaaaaaaaaaaaaaaaaaaaaaaa";
-    let marker = HeaderField::Marker;
-    assert_eq!(rt; marker.width(), 60);
-    let date = texts().date;
-    assert_eq!(rt;
-        [
-            refused(date, sixty),
-            refused(date, blanks),
-            refused(date, long),
-            refused(date, odd),
-            refused("\n", long),
-        ],
-        [
-            None,
-            None,
-            Some(HeadFault::TooLong(marker)),
-            Some(HeadFault::NotPrintable(marker)),
-            Some(HeadFault::NotPrintable(HeaderField::Date)),
-        ]
-    );
+    assert!(rt; HeaderField::Marker.width() == 60);
+    assert!(rt; are_judged());
 }

@@ -1,5 +1,6 @@
 //! The output of a gathered message, and the end of writing at a failure.
-use super::{ALL, EPOCH, HEADER, Outcome, Takes, Writer, joined, texts, writer, written_otherwise};
+use super::parts::Part;
+use super::{ALL, OWN_TEXTS, Takes, Writer, has_written, is_outcome, length, writer};
 use gnss_obs::{Sat, System};
 use obs_epoch::{Epoch, Gather, Gatherer, GpsTime, Plan};
 use rinex_file::{
@@ -10,123 +11,9 @@ use rtcm_msg::{Message, decode};
 use std::alloc::Global;
 use std::io::ErrorKind;
 
-/// A message 1077 of GPS 5, 1C: 70 ms, 100 m/s, 45.0625 dB-Hz.
-static OBSERVED: Row = Row {
-    what: "observed",
-    message: &[
-        0x43, 0x57, 0xD3, 0x00, 0x00, 0x0F, 0xA0, 0x00, 0x00, 0x04, 0x00, 0x00, 0x00, 0x00, 0x00,
-        0x00, 0x00, 0x20, 0x00, 0x00, 0x00, 0x51, 0x80, 0x00, 0x01, 0x90, 0x00, 0x00, 0x00, 0x00,
-        0x00, 0x00, 0x05, 0xA2, 0x00, 0x00,
-    ],
-    gps: "1C",
-    galileo: "none",
-    line: "G05  20985472.060 7 110279400.000 7      -525.504          45.063",
-};
-
-/// The values of a message, with the line of its satellite.
-struct Row {
-    what: &'static str,
-    message: &'static [u8],
-    gps: &'static str,
-    galileo: &'static str,
-    line: &'static str,
-}
-
-static ROWS: [Row; 8] = [
-    Row {
-        what: "finer range",
-        message: &[
-            0x43, 0x57, 0xD3, 0x00, 0x00, 0x0F, 0xA0, 0x00, 0x00, 0x04, 0x00, 0x00, 0x00, 0x00,
-            0x00, 0x00, 0x00, 0x20, 0x00, 0x00, 0x00, 0x51, 0x80, 0x00, 0x01, 0x90, 0x00, 0x00,
-            0x40, 0x00, 0x00, 0x00, 0x05, 0xA2, 0x00, 0x00,
-        ],
-        gps: "1C",
-        galileo: "none",
-        line: "G05  20985472.061 7 110279400.000 7      -525.504          45.063",
-    },
-    Row {
-        what: "finer range below",
-        message: &[
-            0x43, 0x57, 0xD3, 0x00, 0x00, 0x0F, 0xA0, 0x00, 0x00, 0x04, 0x00, 0x00, 0x00, 0x00,
-            0x00, 0x00, 0x00, 0x20, 0x00, 0x00, 0x00, 0x51, 0x80, 0x00, 0x01, 0x93, 0xFF, 0xFF,
-            0xC0, 0x00, 0x00, 0x00, 0x05, 0xA2, 0x00, 0x00,
-        ],
-        gps: "1C",
-        galileo: "none",
-        line: "G05  20985472.059 7 110279400.000 7      -525.504          45.063",
-    },
-    Row {
-        what: "no range",
-        message: &[
-            0x43, 0x57, 0xD3, 0x00, 0x00, 0x0F, 0xA0, 0x00, 0x00, 0x04, 0x00, 0x00, 0x00, 0x00,
-            0x00, 0x00, 0x00, 0x20, 0x00, 0x00, 0x00, 0x51, 0x80, 0x00, 0x01, 0x92, 0x00, 0x00,
-            0x00, 0x00, 0x00, 0x00, 0x05, 0xA2, 0x00, 0x00,
-        ],
-        gps: "1C",
-        galileo: "none",
-        line: "G05                 110279400.000 7      -525.504          45.063",
-    },
-    Row {
-        what: "finer phase",
-        message: &[
-            0x43, 0x57, 0xD3, 0x00, 0x00, 0x0F, 0xA0, 0x00, 0x00, 0x04, 0x00, 0x00, 0x00, 0x00,
-            0x00, 0x00, 0x00, 0x20, 0x00, 0x00, 0x00, 0x51, 0x80, 0x00, 0x01, 0x90, 0x00, 0x00,
-            0x00, 0x00, 0x00, 0x40, 0x05, 0xA2, 0x00, 0x00,
-        ],
-        gps: "1C",
-        galileo: "none",
-        line: "G05  20985472.060 7 110279400.001 7      -525.504          45.063",
-    },
-    Row {
-        what: "slow",
-        message: &[
-            0x43, 0x57, 0xD3, 0x00, 0x00, 0x0F, 0xA0, 0x00, 0x00, 0x04, 0x00, 0x00, 0x00, 0x00,
-            0x00, 0x00, 0x00, 0x20, 0x00, 0x00, 0x00, 0x51, 0x80, 0x00, 0x00, 0x00, 0x00, 0x00,
-            0x00, 0x00, 0x00, 0x00, 0x05, 0xA2, 0x00, 0x04,
-        ],
-        gps: "1C",
-        galileo: "none",
-        line: "G05  20985472.060 7 110279400.000 7        -0.001          45.063",
-    },
-    Row {
-        what: "slow on 5X",
-        message: &[
-            0x43, 0x57, 0xD3, 0x00, 0x00, 0x0F, 0xA0, 0x00, 0x00, 0x04, 0x00, 0x00, 0x00, 0x00,
-            0x00, 0x00, 0x00, 0x00, 0x00, 0x00, 0x80, 0x51, 0x80, 0x00, 0x00, 0x00, 0x00, 0x00,
-            0x00, 0x00, 0x00, 0x00, 0x05, 0xA2, 0x00, 0x04,
-        ],
-        gps: "1C,5X",
-        galileo: "none",
-        line: "G05                                                                  20985472.060 \
-         7  82351500.000 7         0.000          45.063",
-    },
-    Row {
-        what: "short form",
-        message: &[
-            0x43, 0x27, 0xD3, 0x00, 0x00, 0x0F, 0xA0, 0x00, 0x00, 0x04, 0x00, 0x00, 0x00, 0x00,
-            0x00, 0x00, 0x00, 0x20, 0x00, 0x00, 0x00, 0x51, 0x80, 0x0F, 0xFF, 0xE0, 0x00, 0x00,
-            0xFE, 0xD0,
-        ],
-        gps: "1C",
-        galileo: "none",
-        line: "G05  20985472.042 7 110279400.00327                        45.000",
-    },
-    Row {
-        what: "Galileo",
-        message: &[
-            0x44, 0x97, 0xD3, 0x00, 0x00, 0x0F, 0xA0, 0x00, 0x00, 0x00, 0x00, 0x00, 0x00, 0x08,
-            0x00, 0x00, 0x00, 0x20, 0x00, 0x00, 0x00, 0x51, 0x80, 0x00, 0x01, 0x90, 0x00, 0x00,
-            0x00, 0x00, 0x00, 0x00, 0x05, 0xA2, 0x00, 0x00,
-        ],
-        gps: "none",
-        galileo: "1C",
-        line: "E36  20985472.060 7 110279400.000 7      -525.504          45.063",
-    },
-];
-
 /// A part of a file that is written.
 #[derive(Clone, Copy)]
-enum Part {
+enum Sent {
     Header,
     Epoch,
     Both,
@@ -134,153 +21,346 @@ enum Part {
     Lines,
 }
 
-fn send_header(gatherer: &Gatherer, first: GpsTime, writer: &mut Writer) -> Result<(), HeadFault> {
-    let texts = HeaderTexts::new(&texts())?;
-    let head = Head {
-        texts: &texts,
-        plan: gatherer.plan(),
-        values: gatherer.station_values(),
-        first,
-    };
-    write_header(&head, writer)
+/// A message of week 2300, the last of its epoch, the codes of the planned signals, a part of their
+/// file, a writer, and the part's text and whether it is written.
+struct Row {
+    message: &'static [u8],
+    gps: &'static str,
+    galileo: &'static str,
+    part: Sent,
+    takes: Takes,
+    lines: &'static [Part],
+    is_good: bool,
+}
+
+/// A message 1077 of GPS 5, 1C: 70 ms, 100 m/s, 45.0625 dB-Hz.
+const OBSERVED: Row = Row {
+    message: &[
+        0x43, 0x57, 0xD3, 0x00, 0x00, 0x0F, 0xA0, 0x00, 0x00, 0x04, 0x00, 0x00, 0x00, 0x00, 0x00,
+        0x00, 0x00, 0x20, 0x00, 0x00, 0x00, 0x51, 0x80, 0x00, 0x01, 0x90, 0x00, 0x00, 0x00, 0x00,
+        0x00, 0x00, 0x05, 0xA2, 0x00, 0x00,
+    ],
+    gps: "1C",
+    galileo: "none",
+    part: Sent::Epoch,
+    takes: ALL,
+    lines: &[Part::Epoch],
+    is_good: true,
+};
+
+/// Messages with the line of their satellite.
+static ROWS: [Row; 8] = [
+    // finer range
+    Row {
+        message: &[
+            0x43, 0x57, 0xD3, 0x00, 0x00, 0x0F, 0xA0, 0x00, 0x00, 0x04, 0x00, 0x00, 0x00, 0x00,
+            0x00, 0x00, 0x00, 0x20, 0x00, 0x00, 0x00, 0x51, 0x80, 0x00, 0x01, 0x90, 0x00, 0x00,
+            0x40, 0x00, 0x00, 0x00, 0x05, 0xA2, 0x00, 0x00,
+        ],
+        lines: &[
+            Part::EpochLine,
+            Part::Own("G05  20985472.061 7 110279400.000 7      -525.504          45.063\n"),
+        ],
+        ..OBSERVED
+    },
+    // finer range below
+    Row {
+        message: &[
+            0x43, 0x57, 0xD3, 0x00, 0x00, 0x0F, 0xA0, 0x00, 0x00, 0x04, 0x00, 0x00, 0x00, 0x00,
+            0x00, 0x00, 0x00, 0x20, 0x00, 0x00, 0x00, 0x51, 0x80, 0x00, 0x01, 0x93, 0xFF, 0xFF,
+            0xC0, 0x00, 0x00, 0x00, 0x05, 0xA2, 0x00, 0x00,
+        ],
+        lines: &[
+            Part::EpochLine,
+            Part::Own("G05  20985472.059 7 110279400.000 7      -525.504          45.063\n"),
+        ],
+        ..OBSERVED
+    },
+    // no range
+    Row {
+        message: &[
+            0x43, 0x57, 0xD3, 0x00, 0x00, 0x0F, 0xA0, 0x00, 0x00, 0x04, 0x00, 0x00, 0x00, 0x00,
+            0x00, 0x00, 0x00, 0x20, 0x00, 0x00, 0x00, 0x51, 0x80, 0x00, 0x01, 0x92, 0x00, 0x00,
+            0x00, 0x00, 0x00, 0x00, 0x05, 0xA2, 0x00, 0x00,
+        ],
+        lines: &[
+            Part::EpochLine,
+            Part::Own("G05                 110279400.000 7      -525.504          45.063\n"),
+        ],
+        ..OBSERVED
+    },
+    // finer phase
+    Row {
+        message: &[
+            0x43, 0x57, 0xD3, 0x00, 0x00, 0x0F, 0xA0, 0x00, 0x00, 0x04, 0x00, 0x00, 0x00, 0x00,
+            0x00, 0x00, 0x00, 0x20, 0x00, 0x00, 0x00, 0x51, 0x80, 0x00, 0x01, 0x90, 0x00, 0x00,
+            0x00, 0x00, 0x00, 0x40, 0x05, 0xA2, 0x00, 0x00,
+        ],
+        lines: &[
+            Part::EpochLine,
+            Part::Own("G05  20985472.060 7 110279400.001 7      -525.504          45.063\n"),
+        ],
+        ..OBSERVED
+    },
+    // slow
+    Row {
+        message: &[
+            0x43, 0x57, 0xD3, 0x00, 0x00, 0x0F, 0xA0, 0x00, 0x00, 0x04, 0x00, 0x00, 0x00, 0x00,
+            0x00, 0x00, 0x00, 0x20, 0x00, 0x00, 0x00, 0x51, 0x80, 0x00, 0x00, 0x00, 0x00, 0x00,
+            0x00, 0x00, 0x00, 0x00, 0x05, 0xA2, 0x00, 0x04,
+        ],
+        lines: &[
+            Part::EpochLine,
+            Part::Own("G05  20985472.060 7 110279400.000 7        -0.001          45.063\n"),
+        ],
+        ..OBSERVED
+    },
+    // slow on 5X
+    Row {
+        message: &[
+            0x43, 0x57, 0xD3, 0x00, 0x00, 0x0F, 0xA0, 0x00, 0x00, 0x04, 0x00, 0x00, 0x00, 0x00,
+            0x00, 0x00, 0x00, 0x00, 0x00, 0x00, 0x80, 0x51, 0x80, 0x00, 0x00, 0x00, 0x00, 0x00,
+            0x00, 0x00, 0x00, 0x00, 0x05, 0xA2, 0x00, 0x04,
+        ],
+        gps: "1C,5X",
+        lines: &[
+            Part::EpochLine,
+            Part::Own(
+                "G05                                                                  20985472.060 \
+         7  82351500.000 7         0.000          45.063\n",
+            ),
+        ],
+        ..OBSERVED
+    },
+    // short form
+    Row {
+        message: &[
+            0x43, 0x27, 0xD3, 0x00, 0x00, 0x0F, 0xA0, 0x00, 0x00, 0x04, 0x00, 0x00, 0x00, 0x00,
+            0x00, 0x00, 0x00, 0x20, 0x00, 0x00, 0x00, 0x51, 0x80, 0x0F, 0xFF, 0xE0, 0x00, 0x00,
+            0xFE, 0xD0,
+        ],
+        lines: &[
+            Part::EpochLine,
+            Part::Own("G05  20985472.042 7 110279400.00327                        45.000\n"),
+        ],
+        ..OBSERVED
+    },
+    // Galileo
+    Row {
+        message: &[
+            0x44, 0x97, 0xD3, 0x00, 0x00, 0x0F, 0xA0, 0x00, 0x00, 0x00, 0x00, 0x00, 0x00, 0x08,
+            0x00, 0x00, 0x00, 0x20, 0x00, 0x00, 0x00, 0x51, 0x80, 0x00, 0x01, 0x90, 0x00, 0x00,
+            0x00, 0x00, 0x00, 0x00, 0x05, 0xA2, 0x00, 0x00,
+        ],
+        gps: "none",
+        galileo: "1C",
+        lines: &[
+            Part::EpochLine,
+            Part::Own("E36  20985472.060 7 110279400.000 7      -525.504          45.063\n"),
+        ],
+        ..OBSERVED
+    },
+];
+
+// Each call with large clauses has a function without one, so that no test carries the clauses.
+
+fn send_head(head: &Head, writer: &mut Writer) -> Result<(), HeadFault> {
+    write_header(head, writer)
 }
 
 fn send_epoch(gatherer: &Gatherer, epoch: &Epoch, writer: &mut Writer) -> Result<(), HeadFault> {
     write_epoch(epoch, gatherer.plan(), writer)
 }
 
-fn send_lines(gatherer: &Gatherer, epoch: &Epoch, writer: &mut Writer) -> Result<(), HeadFault> {
-    let Some(satellite) = Sat::new(System::Gps, 5) else {
-        return Ok(());
-    };
-    let mut line = Line::new();
-    for _ in 0..2u8 {
-        epoch_line(epoch.time(), 1, &mut line);
-        writer.write_whole(line.as_slice())?;
-        satellite_line(epoch, gatherer.plan(), satellite, &mut line);
-        writer.write_whole(line.as_slice())?;
+fn send_header(gatherer: &Gatherer, first: GpsTime, writer: &mut Writer) -> Result<(), HeadFault> {
+    match HeaderTexts::new(&OWN_TEXTS) {
+        Ok(texts) => {
+            let head = Head {
+                texts: &texts,
+                plan: gatherer.plan(),
+                values: gatherer.station_values(),
+                first,
+            };
+            let sent = send_head(&head, writer);
+            drop(texts);
+            sent
+        }
+        Err(fault) => Err(fault),
     }
+}
+
+fn send_line(line: &Line, writer: &mut Writer) -> Result<(), HeadFault> {
+    writer.write_whole(line.as_slice())?;
     Ok(())
 }
 
-fn send(gatherer: &Gatherer, part: Part, writer: &mut Writer) -> Result<(), HeadFault> {
-    let Some(epoch) = gatherer.closed() else {
-        return Ok(());
-    };
+fn put_epoch_line(epoch: &Epoch, line: &mut Line) {
+    epoch_line(epoch.time(), 1, line);
+}
+
+fn put_satellite(gatherer: &Gatherer, epoch: &Epoch, line: &mut Line) {
+    if let Some(satellite) = Sat::new(System::Gps, 5) {
+        satellite_line(epoch, gatherer.plan(), satellite, line);
+    }
+}
+
+fn send_pair(
+    gatherer: &Gatherer,
+    epoch: &Epoch,
+    line: &mut Line,
+    writer: &mut Writer,
+) -> Result<(), HeadFault> {
+    put_epoch_line(epoch, line);
+    send_line(line, writer)?;
+    put_satellite(gatherer, epoch, line);
+    send_line(line, writer)
+}
+
+fn send_lines(gatherer: &Gatherer, epoch: &Epoch, writer: &mut Writer) -> Result<(), HeadFault> {
+    let mut line = Line::new();
+    let first = send_pair(gatherer, epoch, &mut line, writer);
+    let second = send_pair(gatherer, epoch, &mut line, writer);
+    drop(line);
+    first.and(second)
+}
+
+fn send(
+    gatherer: &Gatherer,
+    epoch: &Epoch,
+    part: Sent,
+    writer: &mut Writer,
+) -> Result<(), HeadFault> {
     match part {
-        Part::Header => send_header(gatherer, epoch.time(), writer),
-        Part::Epoch => send_epoch(gatherer, epoch, writer),
-        Part::Both => {
+        Sent::Header => send_header(gatherer, epoch.time(), writer),
+        Sent::Epoch => send_epoch(gatherer, epoch, writer),
+        Sent::Both => {
             send_header(gatherer, epoch.time(), writer)?;
             send_epoch(gatherer, epoch, writer)
         }
-        Part::Lines => send_lines(gatherer, epoch, writer),
+        Sent::Lines => send_lines(gatherer, epoch, writer),
     }
 }
 
-/// The outcome of writing a part of the file of a gatherer.
-fn sent(gatherer: &Gatherer, part: Part, takes: Takes, wanted: &[&[&str]]) -> Outcome {
-    let mut writer = writer(takes);
-    let answer = send(gatherer, part, &mut writer);
-    (answer, written_otherwise(writer, takes, wanted))
+/// Whether writing the part of a row has its outcome.
+fn is_sent(gatherer: &Gatherer, epoch: &Epoch, row: &Row) -> bool {
+    let mut writer = writer(&row.takes);
+    let is_outcome = is_outcome(send(gatherer, epoch, row.part, &mut writer), row.is_good);
+    let is_written = has_written(writer, row.lines, &row.takes);
+    is_outcome && is_written
 }
 
-/// The same of a gatherer that is dropped.
-fn sent_of(gatherer: Gatherer, part: Part, takes: Takes, wanted: &[&[&str]]) -> Outcome {
-    sent(&gatherer, part, takes, wanted)
+/// The same of the closed epoch.
+fn is_sent_of(gatherer: &Gatherer, row: &Row) -> bool {
+    match gatherer.closed() {
+        Some(epoch) => is_sent(gatherer, epoch, row),
+        None => false,
+    }
 }
 
-/// The outcome of writing a part of the file of a message of week 2300, the last of its epoch.
-fn outcome_under(
-    alloc: Global,
-    plan: Plan,
-    message: &Message,
-    part: Part,
-    takes: Takes,
-    wanted: &[&[&str]],
-) -> Option<Outcome> {
+fn take(gatherer: &mut Gatherer, message: &Message) {
+    if !gatherer.ended() {
+        gatherer.take(message);
+    }
+}
+
+fn is_sent_under(alloc: Global, plan: Plan, message: &Message, row: &Row) -> bool {
     match Gatherer::new(alloc, plan, 2300, None, Gather::Bit) {
         Ok(mut gatherer) => {
-            gatherer.take(message);
-            Some(sent_of(gatherer, part, takes, wanted))
+            take(&mut gatherer, message);
+            let is_sent = is_sent_of(&gatherer, row);
+            drop(gatherer);
+            is_sent
         }
-        Err(_) => None,
+        Err(_) => false,
     }
 }
 
-/// The outcome of writing a part of the file of the message of a row.
-fn outcome(
-    alloc: Global,
-    row: &Row,
-    part: Part,
-    takes: Takes,
-    wanted: &[&[&str]],
-) -> Option<Outcome> {
-    let message = decode(row.message).ok()?;
+fn is_sent_with(alloc: Global, message: &Message, row: &Row) -> bool {
     match Plan::parse(alloc, row.gps, row.galileo) {
-        Ok(plan) => outcome_under(alloc, plan, &message, part, takes, wanted),
-        Err(_) => None,
+        Ok(plan) => is_sent_under(alloc, plan, message, row),
+        Err(_) => false,
     }
 }
+
+fn is_written(alloc: Global, row: &Row) -> bool {
+    match decode(row.message) {
+        Ok(message) => is_sent_with(alloc, &message, row),
+        Err(_) => false,
+    }
+}
+
+fn are_written(alloc: Global, rows: &[Row]) -> bool {
+    for row in rows {
+        if !is_written(alloc, row) {
+            return false;
+        }
+    }
+    true
+}
+
+static WHOLE: Row = Row {
+    part: Sent::Both,
+    lines: &[Part::Header, Part::Epoch],
+    ..OBSERVED
+};
 
 #[test]
 fn a_file_is_written(rt: HostRuntime) {
-    assert_eq!(rt;
-        (
-            joined(&[&HEADER, &EPOCH]).len(),
-            outcome(rt.alloc(), &OBSERVED, Part::Both, ALL, &[&HEADER, &EPOCH])
-        ),
-        (1236, Some((Ok(()), None)))
-    );
-}
-
-/// The first row whose satellite has another line.
-fn row_otherwise(alloc: Global) -> Option<&'static str> {
-    for row in ROWS.iter() {
-        let came = outcome(alloc, row, Part::Epoch, ALL, &[&[EPOCH[0], row.line]]);
-        if came != Some((Ok(()), None)) {
-            return Some(row.what);
-        }
-    }
-    None
+    assert!(rt; length(WHOLE.lines) == 1236);
+    assert!(rt; is_written(rt.alloc(), &WHOLE));
 }
 
 #[test]
 fn satellites_have_lines(rt: HostRuntime) {
-    assert_eq!(rt; row_otherwise(rt.alloc()), None);
+    assert!(rt; are_written(rt.alloc(), &ROWS));
 }
+
+static LINES: Row = Row {
+    part: Sent::Lines,
+    lines: &[Part::Epoch, Part::Epoch],
+    ..OBSERVED
+};
 
 #[test]
 fn lines_take_the_place_of_others(rt: HostRuntime) {
-    assert_eq!(rt;
-        outcome(rt.alloc(), &OBSERVED, Part::Lines, ALL, &[&EPOCH, &EPOCH]),
-        Some((Ok(()), None))
-    );
+    assert!(rt; is_written(rt.alloc(), &LINES));
 }
 
-/// The outcome of writing to a writer that accepts these numbers of bytes in a write and in all.
-fn stopped(
-    alloc: Global,
-    part: Part,
-    each: usize,
-    all: usize,
-    end: WriteEnd,
-    wanted: &[&[&str]],
-) -> Option<Outcome> {
-    outcome(alloc, &OBSERVED, part, Takes { each, all, end }, wanted)
-}
+static STOPPED: [Row; 3] = [
+    Row {
+        part: Sent::Header,
+        takes: Takes {
+            each: 81,
+            all: 100,
+            end: WriteEnd::Fails(ErrorKind::Other),
+        },
+        lines: &[Part::Header],
+        is_good: false,
+        ..OBSERVED
+    },
+    Row {
+        part: Sent::Header,
+        takes: Takes {
+            each: 81,
+            all: 0,
+            end: WriteEnd::TakesNone,
+        },
+        lines: &[Part::Header],
+        is_good: false,
+        ..OBSERVED
+    },
+    Row {
+        takes: Takes {
+            each: 7,
+            all: 50,
+            end: WriteEnd::Fails(ErrorKind::Other),
+        },
+        is_good: false,
+        ..OBSERVED
+    },
+];
 
 #[test]
 fn writing_stops_at_a_failure(rt: HostRuntime) {
-    let fails = WriteEnd::Fails(ErrorKind::Other);
-    let none = WriteEnd::TakesNone;
-    let failed: Option<Outcome> = Some((Err(HeadFault::Write), None));
-    assert_eq!(rt;
-        [
-            stopped(rt.alloc(), Part::Header, 81, 100, fails, &[&HEADER]),
-            stopped(rt.alloc(), Part::Header, 81, 0, none, &[&HEADER]),
-            stopped(rt.alloc(), Part::Epoch, 7, 50, fails, &[&EPOCH]),
-        ],
-        [failed, failed, failed]
-    );
+    assert!(rt; are_written(rt.alloc(), &STOPPED));
 }
