@@ -412,10 +412,13 @@ fn set_up_with(
     }
 }
 
+fn are_refused_in_order(alloc: Global) -> bool {
+    set_up(alloc, 2_300, Some(4_096), Gather::Bit) == Some(PlanFault::BadStation)
+        && set_up(alloc, 100_000, Some(4_096), Gather::Bit) == Some(PlanFault::BadWeek)
+        && set_up(alloc, 99_999, None, Gather::Time).is_none()
+}
+
 #[test]
 fn setups_are_refused_in_order(rt: HostRuntime) {
-    let alloc = rt.alloc();
-    assert!(rt; set_up(alloc, 2_300, Some(4_096), Gather::Bit) == Some(PlanFault::BadStation));
-    assert!(rt; set_up(alloc, 100_000, Some(4_096), Gather::Bit) == Some(PlanFault::BadWeek));
-    assert!(rt; set_up(alloc, 99_999, None, Gather::Time).is_none());
+    assert!(rt; are_refused_in_order(rt.alloc()));
 }

@@ -1,8 +1,6 @@
 //! What no clause states: worked streams, and that each call can succeed.
 mod by_definition;
 
-ghost use Rattle.std.specs.Prelude.{◌<◌};
-
 use arrayvec::ArrayVec;
 use rtcm_bits::{LONGEST_FRAME, frame_of};
 use rtcm_scan::{Framer, Frames, MOST_BYTES, ScanFault};
@@ -45,7 +43,7 @@ const INNER_FRAME: &[u8; 12] = &[
 ];
 
 /// The longest claim at every byte.
-const PREAMBLES: &[u8; 2_000] = &[0xD3; 2_000];
+static PREAMBLES: [u8; 2_000] = [0xD3; 2_000];
 
 /// The number of bytes in no frame, of all looks, and of those at one byte.
 type Counts = (u64, u64, u16);
@@ -57,8 +55,8 @@ struct Stream<'a> {
     size: usize,
     /// The offset of each frame, and the size of its message.
     frames: &'a [(usize, usize)],
-    /// Before the end: the numbers of frames and of held bytes.
-    before: (usize, usize, Counts),
+    /// Before the end, if they are compared: the numbers of frames and of held bytes.
+    before: Option<(usize, usize, Counts)>,
     after: Counts,
 }
 
@@ -67,104 +65,107 @@ static STREAMS: [Stream<'static>; 13] = [
         bytes: FOUR_FRAMES,
         size: 25,
         frames: &[(0, 19)],
-        before: (1, 0, (0, 44, 2)),
+        before: Some((1, 0, (0, 44, 2))),
         after: (0, 44, 2),
     },
     Stream {
         bytes: FOUR_FRAMES,
         size: 0,
         frames: &[],
-        before: (0, 0, (0, 0, 0)),
+        before: Some((0, 0, (0, 0, 0))),
         after: (0, 0, 0),
     },
     Stream {
         bytes: EMPTY_MESSAGE,
         size: 6,
         frames: &[(0, 0)],
-        before: (1, 0, (0, 6, 1)),
+        before: Some((1, 0, (0, 6, 1))),
         after: (0, 6, 1),
     },
     Stream {
         bytes: LATE_FRAME,
         size: 7,
         frames: &[(1, 0)],
-        before: (0, 7, (0, 7, 1)),
+        before: Some((0, 7, (0, 7, 1))),
         after: (1, 13, 2),
     },
     Stream {
-        bytes: PREAMBLES,
+        bytes: &[0xD3; 10],
         size: 10,
         frames: &[],
-        before: (0, 10, (0, 10, 1)),
+        before: Some((0, 10, (0, 10, 1))),
         after: (10, 55, 10),
     },
     Stream {
         bytes: FOUR_FRAMES,
         size: 24,
         frames: &[],
-        before: (0, 24, (0, 24, 1)),
+        before: Some((0, 24, (0, 24, 1))),
         after: (24, 65, 3),
     },
     Stream {
         bytes: INNER_FRAME,
         size: 12,
         frames: &[(3, 0)],
-        before: (1, 0, (6, 23, 2)),
+        before: Some((1, 0, (6, 23, 2))),
         after: (6, 23, 2),
     },
     Stream {
         bytes: BEHIND_A_CLAIM,
         size: 28,
         frames: &[(3, 19)],
-        before: (0, 28, (0, 28, 1)),
+        before: Some((0, 28, (0, 28, 1))),
         after: (3, 74, 3),
     },
     Stream {
         bytes: FOUR_FRAMES,
         size: 91,
         frames: &[(0, 19), (25, 21)],
-        before: (2, 39, (0, 131, 2)),
+        before: Some((2, 39, (0, 131, 2))),
         after: (39, 174, 3),
     },
     Stream {
         bytes: RESERVED_SET,
         size: 25,
         frames: &[(0, 19)],
-        before: (1, 0, (0, 44, 2)),
+        before: Some((1, 0, (0, 44, 2))),
         after: (0, 44, 2),
     },
     Stream {
         bytes: FOUR_FRAMES,
         size: 52,
         frames: &[(0, 19), (25, 21)],
-        before: (2, 0, (0, 92, 2)),
+        before: Some((2, 0, (0, 92, 2))),
         after: (0, 92, 2),
     },
     Stream {
         bytes: FOUR_FRAMES,
         size: 94,
         frames: &[(0, 19), (25, 21), (52, 36)],
-        before: (3, 0, (0, 170, 2)),
+        before: Some((3, 0, (0, 170, 2))),
         after: (0, 170, 2),
     },
     Stream {
         bytes: FOUR_FRAMES,
         size: 130,
         frames: &[(0, 19), (25, 21), (52, 36), (94, 30)],
-        before: (4, 0, (0, 236, 2)),
+        before: Some((4, 0, (0, 236, 2))),
         after: (0, 236, 2),
     },
 ];
 
-/// Each candidate before 1,016 is examined to the end of its claim, and each other one to the end
-/// of the stream.
-static CLAIMS: Stream<'static> = Stream {
-    bytes: PREAMBLES,
-    size: 2_000,
-    frames: &[],
-    before: (0, 984, (1_016, 1_001_744, 985)),
-    after: (2_000, 1_485_380, 985),
-};
+/// Whether each candidate before 1,016 is examined to the end of its claim, and each other one to
+/// the end of the stream.
+fn are_claims(alloc: Global) -> bool {
+    let stream = Stream {
+        bytes: &PREAMBLES,
+        size: 2_000,
+        frames: &[],
+        before: Some((0, 984, (1_016, 1_001_744, 985))),
+        after: (2_000, 1_485_380, 985),
+    };
+    is_set(alloc, &stream, 0, 1) && is_listed(&stream)
+}
 
 impl<'a> Stream<'a> {
     fn taken(&self) -> &[u8] {
@@ -245,11 +246,8 @@ fn drain(framer: &mut Framer, stream: &Stream, before: usize) -> Option<usize> {
     None
 }
 
-/// The counts of a framer before the end of a stream and after it.
-type Given = ((usize, usize, Counts), Counts);
-
-fn counts(framer: &Framer) -> Counts {
-    (framer.skipped(), framer.examined(), framer.most())
+fn has_counts(framer: &Framer, counts: Counts) -> bool {
+    framer.skipped() == counts.0 && framer.examined() == counts.1 && framer.most() == counts.2
 }
 
 /// Pushes these bytes of the stream in blocks of a size. Returns the number of frames, including
@@ -260,55 +258,65 @@ fn hand_on(
     bytes: &[u8],
     size: usize,
     before: usize,
-) -> Option<usize>
-    requires { 0 < size }
-{
+) -> Option<usize> {
     let mut frames = before;
-    for block in bytes.chunks(size) {
-        if !takes(framer, block) {
-            return None;
-        }
-        frames = drain(framer, stream, frames)?;
+    for block in bytes.chunks(size.max(1)) {
+        frames = hand_block(framer, stream, block, frames)?;
     }
     Some(frames)
 }
 
-/// The counts of the framer if the bytes of the stream up to a cut, and those after it, are pushed
-/// in blocks of a size.
-fn given(framer: &mut Framer, stream: &Stream, cut: usize, size: usize) -> Option<Given>
-    requires { 0 < size }
-{
-    let bytes = stream.taken();
-    let cut = cut.min(bytes.len());
-    let frames = hand_on(framer, stream, &bytes[..cut], size, 0)?;
-    let frames = hand_on(framer, stream, &bytes[cut..], size, frames)?;
-    let before = (frames, framer.held(), counts(framer));
-    framer.end();
-    let frames = drain(framer, stream, frames)?;
-    if frames < stream.frames.len() || framer.taken() != bytes.len() as u64 {
-        return None;
+fn hand_block(framer: &mut Framer, stream: &Stream, block: &[u8], before: usize) -> Option<usize> {
+    if takes(framer, block) {
+        drain(framer, stream, before)
+    } else {
+        None
     }
-    Some((before, counts(framer)))
 }
 
-/// The counts of a new framer for the stream, cut there and in blocks of a size.
-fn given_by(alloc: Global, stream: &Stream, cut: usize, size: usize) -> Option<Given>
-    requires { 0 < size }
-{
+/// Pushes the bytes of the stream up to a cut, and those after it. Returns the number of frames.
+fn hand_both(framer: &mut Framer, stream: &Stream, cut: usize, size: usize) -> Option<usize> {
+    let bytes = stream.taken();
+    let (front, back) = bytes.split_at(cut.min(bytes.len()));
+    let frames = hand_on(framer, stream, front, size, 0)?;
+    hand_on(framer, stream, back, size, frames)
+}
+
+fn is_before(framer: &Framer, stream: &Stream, frames: usize) -> bool {
+    match stream.before {
+        Some((number, held, counts)) => {
+            frames == number && framer.held() == held && has_counts(framer, counts)
+        }
+        None => true,
+    }
+}
+
+/// Ends the stream after this number of frames.
+fn is_after(framer: &mut Framer, stream: &Stream, frames: usize) -> bool {
+    framer.end();
+    drain(framer, stream, frames) == Some(stream.frames.len())
+        && framer.taken() == stream.taken().len() as u64
+        && has_counts(framer, stream.after)
+}
+
+fn is_given(framer: &mut Framer, stream: &Stream, cut: usize, size: usize) -> bool {
+    match hand_both(framer, stream, cut, size) {
+        Some(frames) => is_before(framer, stream, frames) && is_after(framer, stream, frames),
+        None => false,
+    }
+}
+
+/// Whether a new framer has the frames and the counts of the stream, cut there and in blocks of a
+/// size.
+fn is_set(alloc: Global, stream: &Stream, cut: usize, size: usize) -> bool {
     match Framer::new(alloc, MOST_BYTES) {
         Ok(mut framer) => {
-            let given = given(&mut framer, stream, cut, size);
+            let is_given = is_given(&mut framer, stream, cut, size);
             drop(framer);
-            given
+            is_given
         }
-        Err(_) => None,
+        Err(_) => false,
     }
-}
-
-fn is_set(alloc: Global, stream: &Stream, cut: usize, size: usize) -> bool
-    requires { 0 < size }
-{
-    given_by(alloc, stream, cut, size) == Some((stream.before, stream.after))
 }
 
 /// Whether the stream has its frames and counts in blocks of each size.
@@ -324,7 +332,7 @@ fn is_set_in_blocks(alloc: Global, stream: &Stream) -> bool {
 /// Whether the stream has its frames and counts with each cut.
 fn is_set_cut(alloc: Global, stream: &Stream) -> bool {
     for cut in 0..=stream.size {
-        if !is_set(alloc, stream, cut, stream.size.max(1)) {
+        if !is_set(alloc, stream, cut, stream.size) {
             return false;
         }
     }
@@ -355,7 +363,7 @@ fn are_worked(alloc: Global) -> bool {
 #[test]
 fn worked_streams(rt: HostRuntime) {
     assert!(rt; are_worked(rt.alloc()));
-    assert!(rt; is_set(rt.alloc(), &CLAIMS, 0, 1) && is_listed(&CLAIMS));
+    assert!(rt; are_claims(rt.alloc()));
 }
 
 /// A byte 0, the frame of a longest message, of 1,023 bytes, and that of a message of 958 bytes,
@@ -377,7 +385,7 @@ fn follow_a_byte(alloc: Global, bytes: &[u8]) -> bool {
         bytes,
         size: 1_994,
         frames: &[(1, 1_023), (1_030, 958)],
-        before: (2, 0, (1, 3_975, 2)),
+        before: Some((2, 0, (1, 3_975, 2))),
         after: (1, 3_975, 2),
     };
     is_set(alloc, &stream, 0, 1) && is_set(alloc, &stream, 0, 2) && is_listed(&stream)
@@ -389,7 +397,7 @@ fn are_alone(alloc: Global, bytes: &[u8]) -> bool {
         bytes,
         size: 1_993,
         frames: &[(0, 1_023), (1_029, 958)],
-        before: (2, 0, (0, 3_974, 2)),
+        before: Some((2, 0, (0, 3_974, 2))),
         after: (0, 3_974, 2),
     };
     is_set(alloc, &stream, 0, LONGEST_FRAME) && is_listed(&stream)
@@ -461,11 +469,16 @@ fn has_end(alloc: Global) -> bool {
     }
 }
 
+fn are_limited(alloc: Global) -> bool {
+    has_end(alloc)
+        && refused(alloc, MOST_BYTES + 1) == Some(ScanFault::BadLimit)
+        && is_limited(alloc, 0)
+        && is_limited(alloc, 10)
+}
+
 #[test]
 fn limits(rt: HostRuntime) {
-    assert!(rt; has_end(rt.alloc()));
-    assert!(rt; refused(rt.alloc(), MOST_BYTES + 1) == Some(ScanFault::BadLimit));
-    assert!(rt; is_limited(rt.alloc(), 0) && is_limited(rt.alloc(), 10));
+    assert!(rt; are_limited(rt.alloc()));
 }
 
 /// Whether a fault has this text.

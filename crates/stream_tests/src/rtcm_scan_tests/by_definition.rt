@@ -1,9 +1,14 @@
 //! Streams truncated and damaged at each byte, framed by the definitions over whole lists.
-use super::{Counts, FOUR_FRAMES, Stream, given_by, is_listed};
+use super::{Counts, FOUR_FRAMES, Stream, is_listed, is_set};
 use rtcm_bits::crc24q;
 use std::alloc::Global;
 
-const SIZE: usize = FOUR_FRAMES.len();
+const SIZE: usize = 130;
+
+// Bytes are named in one place, since each that names them carries them.
+fn four_frames() -> &'static [u8; SIZE] {
+    FOUR_FRAMES
+}
 
 /// More frames than fit in `SIZE` bytes.
 const MOST_FRAMES: usize = 24;
@@ -117,24 +122,16 @@ fn agrees(alloc: Global, bytes: &[u8]) -> bool {
         bytes,
         size: bytes.len(),
         frames: &defined.frames[..defined.count.min(MOST_FRAMES)],
-        before: (0, 0, (0, 0, 0)),
+        before: None,
         after: defined.counts(bytes.len()),
     };
-    is_listed(&stream) && is_counted(alloc, &stream, 1) && is_counted(alloc, &stream, 2)
-}
-
-/// Whether a framer with blocks of `size` bytes has these frames and counts.
-fn is_counted(alloc: Global, stream: &Stream, size: usize) -> bool {
-    match given_by(alloc, stream, 0, size.max(1)) {
-        Some((_, after)) => after == stream.after,
-        None => false,
-    }
+    is_listed(&stream) && is_set(alloc, &stream, 0, 1) && is_set(alloc, &stream, 0, 2)
 }
 
 /// Whether the streams that begin there agree, with each end.
 fn agree_from(alloc: Global, from: usize) -> bool {
     for end in from..=SIZE {
-        if !agrees(alloc, FOUR_FRAMES.get(from..end).unwrap_or(&[])) {
+        if !agrees(alloc, four_frames().get(from..end).unwrap_or(&[])) {
             return false;
         }
     }
@@ -143,7 +140,7 @@ fn agree_from(alloc: Global, from: usize) -> bool {
 
 /// Whether the stream with this byte damaged agrees, and its third frame alone.
 fn agrees_damaged(alloc: Global, place: usize) -> bool {
-    let mut damaged = *FOUR_FRAMES;
+    let mut damaged = *four_frames();
     if place < SIZE {
         damaged[place] = !damaged[place];
     }
