@@ -25,7 +25,7 @@ const HEIGHT: &[u8; 21] = &[
 ];
 
 /// Message 1077 with one cell, of satellite 5 and signal 2.
-pub const FINE: &[u8; 36] = &[
+const FINE: &[u8; 36] = &[
     0x43, 0x57, 0xD3, 0x00, 0x00, 0x0F, 0xA0, 0x00, 0x00, 0x04, 0x00, 0x00, 0x00, 0x00, 0x00, 0x00,
     0x00, 0x20, 0x00, 0x00, 0x00, 0x51, 0x80, 0x00, 0x01, 0x90, 0x00, 0x00, 0x00, 0x00, 0x00, 0x00,
     0x05, 0xA2, 0x00, 0x00,
@@ -104,15 +104,43 @@ pub const CELL: Cell7 = Cell7 {
     rate: 0,
 };
 
+/// One of these messages.
+#[derive(Clone, Copy)]
+pub enum Known {
+    Station,
+    Height,
+    Fine,
+    Coarse,
+    Galileo,
+    Empty,
+    Many,
+    Late,
+}
+
+// Bytes are named in one place, since each that names them carries them.
+
+pub fn bytes_of(message: Known) -> &'static [u8] {
+    match message {
+        Known::Station => STATION,
+        Known::Height => HEIGHT,
+        Known::Fine => FINE,
+        Known::Coarse => COARSE,
+        Known::Galileo => GALILEO,
+        Known::Empty => EMPTY,
+        Known::Many => MANY,
+        Known::Late => LATE,
+    }
+}
+
 /// The first bytes of a message, with some of them replaced.
-struct Sent(&'static [u8], usize, &'static [(usize, u8)]);
+struct Sent(Known, usize, &'static [(usize, u8)]);
 
 const ALL: usize = 36;
 
 impl Sent {
     fn bytes(&self) -> ArrayVec<u8, ALL> {
         let mut bytes = ArrayVec::new();
-        let _ = bytes.try_extend_from_slice(self.0.get(..self.1).unwrap_or(&[]));
+        let _ = bytes.try_extend_from_slice(bytes_of(self.0).get(..self.1).unwrap_or(&[]));
         replace(bytes.as_mut_slice(), self.2);
         bytes
     }
@@ -147,11 +175,18 @@ pub fn is_written_back(bytes: &[u8]) -> bool {
     is_written_as(bytes, bytes)
 }
 
-static MESSAGES: [&[u8]; 6] = [STATION, HEIGHT, FINE, COARSE, GALILEO, EMPTY];
+static MESSAGES: [Known; 6] = [
+    Known::Station,
+    Known::Height,
+    Known::Fine,
+    Known::Coarse,
+    Known::Galileo,
+    Known::Empty,
+];
 
 fn are_written_back() -> bool {
     for message in &MESSAGES {
-        if !is_written_back(message) {
+        if !is_written_back(bytes_of(*message)) {
             return false;
         }
     }
@@ -172,15 +207,15 @@ fn has_parts(bytes: &[u8], parts: &StationParts) -> bool {
 }
 
 static STATIONS: [(Sent, StationParts); 3] = [
-    (Sent(STATION, 19, &[]), STATION_PARTS),
+    (Sent(Known::Station, 19, &[]), STATION_PARTS),
     (
-        Sent(HEIGHT, 21, &[]),
+        Sent(Known::Height, 21, &[]),
         StationParts {
             height: Some(15_000),
             ..STATION_PARTS
         },
     ),
-    (Sent(STATION, 19, RESERVED), STATION_PARTS),
+    (Sent(Known::Station, 19, RESERVED), STATION_PARTS),
 ];
 
 /// The reserved bit of message 1005 set.
@@ -195,10 +230,16 @@ fn have_parts() -> bool {
     true
 }
 
+/// Whether the reserved bit is not written back.
+fn is_written_without_reserved() -> bool {
+    let sent = Sent(Known::Station, 19, RESERVED).bytes();
+    is_written_as(sent.as_slice(), bytes_of(Known::Station))
+}
+
 #[test]
 fn stations_are_read(rt: HostRuntime) {
     assert!(rt; have_parts());
-    assert!(rt; is_written_as(Sent(STATION, 19, RESERVED).bytes().as_slice(), STATION));
+    assert!(rt; is_written_without_reserved());
 }
 
 /// Whether the header and the masks are those of the known messages: satellite 5 and signal 2.
@@ -225,14 +266,14 @@ fn has_head(bytes: &[u8], form: Form, number: u16, is_galileo: bool) -> bool {
 }
 
 static HEADS: [(Sent, Form, u16, bool); 3] = [
-    (Sent(FINE, 36, &[]), Form::Msm7, 1077, false),
+    (Sent(Known::Fine, 36, &[]), Form::Msm7, 1077, false),
     (
-        Sent(FINE, 36, &[(0, 0x44), (1, 0x97)]),
+        Sent(Known::Fine, 36, &[(0, 0x44), (1, 0x97)]),
         Form::Msm7,
         1097,
         true,
     ),
-    (Sent(GALILEO, 30, &[]), Form::Msm4, 1094, true),
+    (Sent(Known::Galileo, 30, &[]), Form::Msm4, 1094, true),
 ];
 
 fn first_satellite(msm: &Msm<Grid7>) -> Option<Satellite7> {
@@ -297,7 +338,7 @@ fn is_cut_short(bytes: &[u8]) -> bool {
 #[test]
 fn heads_are_read(rt: HostRuntime) {
     assert!(rt; have_heads());
-    assert!(rt; is_cut_short(Sent(FINE, 35, &[]).bytes().as_slice()));
+    assert!(rt; is_cut_short(Sent(Known::Fine, 35, &[]).bytes().as_slice()));
 }
 
 /// Whether a multiple signal message has this number, and this is its first cell.
@@ -332,12 +373,12 @@ const COARSE_ENTRY: Entry = Entry {
 
 /// Messages with their numbers and cells.
 static ENTRIES: [(Sent, u16, Entry); 6] = [
-    (Sent(COARSE, 30, &[]), 1074, COARSE_ENTRY),
-    (Sent(GALILEO, 30, &[]), 1094, COARSE_ENTRY),
-    (Sent(FINE, 36, &[]), 1077, FINE_ENTRY),
+    (Sent(Known::Coarse, 30, &[]), 1074, COARSE_ENTRY),
+    (Sent(Known::Galileo, 30, &[]), 1094, COARSE_ENTRY),
+    (Sent(Known::Fine, 36, &[]), 1077, FINE_ENTRY),
     // DF405 = 1
     (
-        Sent(FINE, 36, &[(28, 0x40)]),
+        Sent(Known::Fine, 36, &[(28, 0x40)]),
         1077,
         Entry {
             range: Some(150_323_855_364),
@@ -346,7 +387,7 @@ static ENTRIES: [(Sent, u16, Entry); 6] = [
     ),
     // DF406 = 1
     (
-        Sent(FINE, 36, &[(31, 0x40)]),
+        Sent(Known::Fine, 36, &[(31, 0x40)]),
         1077,
         Entry {
             phase: Some(150_323_855_361),
@@ -355,7 +396,7 @@ static ENTRIES: [(Sent, u16, Entry); 6] = [
     ),
     // DF397 = 255
     (
-        Sent(FINE, 36, &[(21, 0x7F), (22, 0xC0)]),
+        Sent(Known::Fine, 36, &[(21, 0x7F), (22, 0xC0)]),
         1077,
         Entry {
             range: None,
@@ -380,17 +421,23 @@ fn cells_are_read(rt: HostRuntime) {
 }
 
 /// A message, and the widths of its fields.
-static FIELDS: [(&[u8], &[usize]); 4] = [
-    (STATION, &[12, 12, 6, 1, 1, 1, 1, 38, 1, 1, 38, 2, 38]),
-    (HEIGHT, &[12, 12, 6, 1, 1, 1, 1, 38, 1, 1, 38, 2, 38, 16]),
+static FIELDS: [(Known, &[usize]); 4] = [
     (
-        FINE,
+        Known::Station,
+        &[12, 12, 6, 1, 1, 1, 1, 38, 1, 1, 38, 2, 38],
+    ),
+    (
+        Known::Height,
+        &[12, 12, 6, 1, 1, 1, 1, 38, 1, 1, 38, 2, 38, 16],
+    ),
+    (
+        Known::Fine,
         &[
             12, 12, 30, 1, 3, 7, 2, 2, 1, 3, 64, 32, 1, 8, 4, 10, 14, 20, 24, 10, 1, 10, 15,
         ],
     ),
     (
-        COARSE,
+        Known::Coarse,
         &[
             12, 12, 30, 1, 3, 7, 2, 2, 1, 3, 64, 32, 1, 8, 10, 15, 22, 4, 1, 6,
         ],
@@ -437,7 +484,7 @@ fn has_short_prefixes(message: &[u8], widths: &[usize]) -> bool {
 
 fn have_short_prefixes() -> bool {
     for (message, widths) in &FIELDS {
-        if !has_short_prefixes(message, widths) {
+        if !has_short_prefixes(bytes_of(*message), widths) {
             return false;
         }
     }
@@ -454,30 +501,45 @@ fn fault_of(bytes: &[u8]) -> Option<MsgFault> {
 }
 
 static FAULTS: [(Sent, Option<MsgFault>); 11] = [
-    (Sent(STATION, 18, &[]), Some(MsgFault::Short(114))),
-    (Sent(FINE, 35, &[]), Some(MsgFault::Short(271))),
-    (Sent(STATION, 1, &[]), Some(MsgFault::Short(0))),
+    (Sent(Known::Station, 18, &[]), Some(MsgFault::Short(114))),
+    (Sent(Known::Fine, 35, &[]), Some(MsgFault::Short(271))),
+    (Sent(Known::Station, 1, &[]), Some(MsgFault::Short(0))),
     // The time is validated when its field is complete, and not before.
-    (Sent(LATE, 7, &[]), Some(MsgFault::BadTime)),
-    (Sent(LATE, 6, &[]), Some(MsgFault::Short(24))),
+    (Sent(Known::Late, 7, &[]), Some(MsgFault::BadTime)),
+    (Sent(Known::Late, 6, &[]), Some(MsgFault::Short(24))),
     // 604,800,000 ms, and the last millisecond of the week
     (
-        Sent(FINE, 36, &[(3, 0x90), (4, 0x32), (5, 0x10), (6, 0x00)]),
+        Sent(
+            Known::Fine,
+            36,
+            &[(3, 0x90), (4, 0x32), (5, 0x10), (6, 0x00)],
+        ),
         Some(MsgFault::BadTime),
     ),
     (
-        Sent(FINE, 36, &[(3, 0x90), (4, 0x32), (5, 0x0F), (6, 0xFC)]),
+        Sent(
+            Known::Fine,
+            36,
+            &[(3, 0x90), (4, 0x32), (5, 0x0F), (6, 0xFC)],
+        ),
         None,
     ),
     // So are the pairs.
-    (Sent(MANY, 22, &[]), Some(MsgFault::TooManyCells)),
-    (Sent(MANY, 21, &[]), Some(MsgFault::Short(137))),
+    (Sent(Known::Many, 22, &[]), Some(MsgFault::TooManyCells)),
+    (Sent(Known::Many, 21, &[]), Some(MsgFault::Short(137))),
     (
-        Sent(MANY, 22, &[(3, 0x90), (4, 0x32), (5, 0x10), (6, 0x00)]),
+        Sent(
+            Known::Many,
+            22,
+            &[(3, 0x90), (4, 0x32), (5, 0x10), (6, 0x00)],
+        ),
         Some(MsgFault::BadTime),
     ),
     // 8 satellites and 8 signals, with a truncated cell mask
-    (Sent(MANY, 22, &[(10, 0x80)]), Some(MsgFault::Short(169))),
+    (
+        Sent(Known::Many, 22, &[(10, 0x80)]),
+        Some(MsgFault::Short(169)),
+    ),
 ];
 
 fn have_faults() -> bool {

@@ -1,5 +1,5 @@
 //! Parts of messages: their faults, the largest message, and the cells of a view in order.
-use super::{CELL, FINE, HEADER, SATELLITE, STATION_PARTS, is_written_back};
+use super::{CELL, HEADER, Known, SATELLITE, STATION_PARTS, bytes_of, is_written_back};
 use arrayvec::ArrayVec;
 use rtcm_msg::{
     Cell4, Cell7, Entries, Field, Grid, Grid4, Grid7, Masks, Message, Msm, MsmHeader, Satellite4,
@@ -169,7 +169,7 @@ fn is_known() -> bool {
     let mut bytes = ArrayVec::new();
     let masks = (1 << 59, 1 << 30, 1);
     write(masks, &SATELLITES[..1], &CELL_DATA[..1], &mut bytes);
-    bytes.as_slice() == FINE.as_slice()
+    bytes.as_slice() == bytes_of(Known::Fine)
 }
 
 #[test]
