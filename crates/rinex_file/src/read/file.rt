@@ -11,10 +11,10 @@ ghost use Rattle.rinex_file.specs.Read.Keeping.{history_of, HasReadWhole};
 
 use crate::read::expected::Added;
 use crate::read::fault::ReadFault;
+use crate::read::head_so_far::HeadSoFar;
 use crate::read::parser_state::ParserState;
 use crate::read::reading::Reading;
 use crate::values::{KeptEpoch, KeptRow, KeptSatellite, ObsFile};
-use gnss_obs::{GpsTime, StationValues};
 use rtcm_bits::Counted;
 use std::alloc::{AllocError, Global};
 use std::io::Read;
@@ -64,7 +64,7 @@ impl FileBuilder {
             Added::OneRow => self.keep_row(&parser_state.seen),
             Added::LastRow => {
                 self.keep_row(&parser_state.seen)?;
-                self.close(parser_state.change, parser_state.time)
+                self.close(parser_state)
             }
         }
     }
@@ -83,12 +83,17 @@ impl FileBuilder {
         Ok(())
     }
 
-    /// Stores the epoch that was begun, after this change of station values and at this time.
-    fn close(&mut self, change: Option<StationValues>, time: GpsTime) -> Result<(), AllocError>
-        ensures { OnOk result (history_of self.new ≡ with_epoch (history_of self.old) change time) }
+    /// Stores the epoch that was begun.
+    fn close(&mut self, parser_state: &ParserState) -> Result<(), AllocError>
+        ensures { OnOk result
+            (history_of self.new ≡ with_epoch (history_of self.old) parser_state.now.change parser_state.now.time) }
     {
         let rows = mem::replace(&mut self.rows, Vec::new(self.alloc));
-        self.epochs.push(KeptEpoch { change, time, rows })?;
+        self.epochs.push(KeptEpoch {
+            change: parser_state.change,
+            time: parser_state.time,
+            rows,
+        })?;
         Ok(())
     }
 
@@ -99,14 +104,33 @@ impl FileBuilder {
         requires history { FollowsHistory parser_state (history_of self) }
         ensures { IfSome result (λ f. f ≡ file_at parser_state (history_of self)) }
     {
-        let head = parser_state.head;
-        let plan = head.plan(self.alloc)?;
+        let ParserState { head, counts, .. } = parser_state;
+        let FileBuilder {
+            alloc,
+            epochs,
+            rows,
+        } = self;
+        drop(rows);
+        let Some(plan) = head.plan(alloc) else {
+            drop(epochs);
+            drop(head);
+            return None;
+        };
+        let HeadSoFar {
+            texts,
+            gps,
+            galileo,
+            values,
+            ..
+        } = head;
+        drop(gps);
+        drop(galileo);
         Some(ObsFile {
-            texts: head.texts,
+            texts,
             plan,
-            values: head.values,
-            epochs: self.epochs,
-            counts: parser_state.counts,
+            values,
+            epochs,
+            counts,
         })
     }
 }
