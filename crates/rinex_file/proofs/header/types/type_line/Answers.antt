@@ -1,5 +1,6 @@
-use Rattle.std.proofs.Common.{◌∙◌, sym, ap, ◌++◌, ◌*◌, ℕ}
+use Rattle.std.proofs.Common.{◌∙◌, sym, ap, ◌++◌, ◌*◌, ℕ, arith}
 use Rattle.std.specs.Prelude.{codes}
+use Rattle.std.proofs.lemmas.Grind.{common_steps}
 use Rattle.gnss_obs.specs.SignalLists.{indices}
 use Rattle.gnss_obs.proofs.PlanLemmas.{length_indices, few_signals}
 use Rattle.rinex_file.specs.Lines.{letter_of}
@@ -19,3 +20,6 @@ returns c =
     let count = ap (λ (n : ℕ). 4 * n) (sym (length_indices signals)) ∙ sym (length-system_types system (indices signals)) in
     c.types_with.ensures ∙ ap (λ (n : ℕ). header_line (type_front (letter_of system) n row ++ type_columns types row) (codes "SYS / # / OBS TYPES")) count
     ∙ ap (λ l. type_line (letter_of system) (types_of (codes_of system l)) row) c.of-signals.ensures.indices
+
+pub types_with-requires-clause-row : goal.types_with-requires-clause-row
+types_with-requires-clause-row c = grind (arith, common_steps)

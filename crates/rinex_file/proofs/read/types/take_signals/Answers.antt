@@ -1,6 +1,7 @@
 use Rattle.std.proofs.Common.{arith, ◌≡◌, ◌∙◌, ap, refl, subst, ℕ, List, [], ◌∷◌, ◌++◌, length-append, length, take, min, ◌+◌, ◌*◌, ◌<◌, ◌≤◌}
 use Rattle.std.specs.Prelude.{Ok}
 use Rattle.std.proofs.lemmas.List.{take_at, take_min}
+use Rattle.std.proofs.lemmas.Grind.{common_steps}
 use Rattle.gnss_obs.specs.declared.system.System.{System}
 use Rattle.gnss_obs.specs.Signals.{SignalAt, IsSignal, table}
 use Rattle.gnss_obs.specs.SignalLists.{indices, IsAdded, IsOf}
@@ -81,3 +82,6 @@ overflow_add-column-in-loop-place c = grind (arith, few, within, few_signals)
 
 pub signal_in-requires : goal.signal_in-requires
 signal_in-requires c = grind (arith, few, within, few_signals)
+
+pub loop-place-init : goal.loop-place-init
+loop-place-init c = grind (arith, common_steps)

@@ -2,6 +2,7 @@ use Rattle.std.proofs.Common.{arith, ◌≡◌, ◌∙◌, sym, ap, ap₂, ◌-�
 use Rattle.std.specs.Prelude.{set}
 use Rattle.std.specs.Int.{is_negative}
 use Rattle.std.proofs.lemmas.Int.{to_z-of_z}
+use Rattle.std.proofs.lemmas.Grind.{common_steps}
 use Rattle.rinex_file.specs.FileValues.{FitsColumns}
 use Rattle.rinex_file.specs.Lines.{field}
 use Rattle.rinex_file.proofs.Columns.{plain, signed, some_blank}
@@ -31,3 +32,7 @@ returns-then-value-lt0-clause-text c =
 
 pub returns-else-value-lt0-clause-text : goal.returns-else-value-lt0-clause-text
 returns-else-value-lt0-clause-text c = grind (arith, to_z-of_z, plain)
+
+pub returns-in_default-clause-text : goal.returns-in_default-clause-text
+unfolding field
+returns-in_default-clause-text c = grind (arith, common_steps)

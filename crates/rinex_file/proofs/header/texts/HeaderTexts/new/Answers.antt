@@ -2,6 +2,7 @@ use Rattle.std.proofs.Common.{arith, ◌∙◌, sym, ap, refl}
 use Rattle.std.specs.Prelude.{Err}
 use Rattle.std.specs.Result.{result_err}
 use Rattle.std.proofs.lemmas.Result.{err_from_is_err_and}
+use Rattle.std.proofs.lemmas.Grind.{common_steps}
 use Rattle.rinex_file.specs.Texts.{fault_of}
 use Rattle.rinex_file.specs.TextsOf.{lists_of}
 use Rattle.rinex_file.proofs.HeaderText.{fault_here, fine_here, one_stored, all_cut}
@@ -30,3 +31,6 @@ pub returns-clause-texts : goal.returns-clause-texts
 returns-clause-texts c =
     let far = c.loop-field-test.false in
     all_cut (lists_of c.args.texts.now) c.loop-field.taken refl c.are_texts.ensures.count (λ j less. c.loop-field.invariant.cut j (omega (arith, less, far)))
+
+pub returns-clause-fault : goal.returns-clause-fault
+returns-clause-fault c = grind (arith, common_steps)

@@ -1,6 +1,7 @@
 use Rattle.std.proofs.Common.{arith, ◌≡◌, ◌∙◌, ap, sym, subst, map, ℕ, zero, suc, ◌+◌, ◌*◌, ◌<◌, ◌≤◌}
 use Rattle.std.specs.Prelude.{min, nat_lt, if◌then◌else◌}
 use Rattle.std.proofs.Math.Nat.{min-eq_right}
+use Rattle.std.proofs.lemmas.Grind.{common_steps}
 use Rattle.gnss_obs.specs.Satellites.{satellites}
 use Rattle.gnss_obs.specs.declared.system.System.TheVariants.{Gps, Galileo}
 use Rattle.std.proofs.lemmas.Bool.{lt-ltb, ltb-true}
@@ -34,3 +35,9 @@ returns-in-Some c = λ h history.
       },
       λ may. lt-ltb _ _ (subst (λ t. x < t) (sym time) (rise_last _ front x c.args.time last may.later)),
     )
+
+pub returns-then-satellites-eq0 : goal.returns-then-satellites-eq0
+returns-then-satellites-eq0 c = grind (arith, common_steps)
+
+pub returns-in-None : goal.returns-in-None
+returns-in-None c = grind (arith, common_steps)
