@@ -1,5 +1,6 @@
 use Rattle.std.proofs.Common.{arith, ◌^◌, ◌≤◌, ◌<◌, ℕ}
 use Rattle.std.proofs.Math.Nat.{pow-le-pow_right}
+use Rattle.std.proofs.lemmas.Grind.{common_steps}
 use Rattle.rinex_file.proofs.read.numbers.digits_in.Goals as goal
 
 below : (n i : ℕ) → n < 10 ^ i → i ≤ 18 → n < 10 ^ 18
@@ -13,3 +14,9 @@ overflow_add-number c = let h = below c.loop-b.number c.loop-b.b-index c.loop-b.
 
 pub returns-clause-bound : goal.returns-clause-bound
 returns-clause-bound c = below c.loop-b.number c.loop-b.b-index c.loop-b.invariant.bound (omega arith)
+
+pub loop-b-preserved : goal.loop-b-preserved
+loop-b-preserved c = grind (arith, common_steps)
+
+pub returns-clause-value : goal.returns-clause-value
+returns-clause-value c = grind (arith, common_steps)

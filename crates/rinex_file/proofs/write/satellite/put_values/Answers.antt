@@ -1,6 +1,7 @@
 use Rattle.std.proofs.Common.{arith, ◌≡◌, ◌∙◌, ap, subst, ℕ, ◌+◌, ◌-◌, ◌<◌, List, ◌++◌, length, drop, replicate, length-append}
 use Rattle.std.proofs.lemmas.List.{length-replicate}
 use Rattle.std.specs.Prelude.{slice_set}
+use Rattle.std.proofs.lemmas.Grind.{common_steps}
 use Rattle.rinex_file.specs.Value.{SignalValues, no_signal_values}
 use Rattle.rinex_file.specs.Rows.{HasSignals}
 use Rattle.rinex_file.proofs.CellPlaces.{value_put, value_passed, front_fit}
@@ -27,3 +28,6 @@ loop-place-preserved-then-has_value c =
 
 pub loop-place-preserved : goal.loop-place-preserved
 loop-place-preserved c = grind (arith, within, value_passed)
+
+pub loop-place-init : goal.loop-place-init
+loop-place-init c = grind (arith, common_steps)

@@ -1,4 +1,5 @@
 use Rattle.std.proofs.Common.{arith}
+use Rattle.std.proofs.lemmas.Grind.{common_steps}
 use Rattle.rinex_file.specs.Blanks.{trimmed}
 use Rattle.rinex_file.proofs.Cuts.{cut_more, cut_enough}
 use Rattle.rinex_file.proofs.write.satellite.trimmed_len.Goals as goal
@@ -12,3 +13,6 @@ returns-else-text-end-eq32-clause-text c = grind (arith, cut_enough)
 pub returns-after-loop-end-clause-text : goal.returns-after-loop-end-clause-text
 unfolding trimmed
 returns-after-loop-end-clause-text c = grind arith
+
+pub loop-end-init : goal.loop-end-init
+loop-end-init c = grind (arith, common_steps)
