@@ -52,6 +52,36 @@ fn lli_column(lli: u8) -> u8
     if lli == 0 { b' ' } else { b'0' + lli }
 }
 
+/// Returns the strength (SSI) column of a pseudorange and of a phase.
+fn strength_column(strength: &Option<Thousandths>) -> u8
+    ensures { result ≡ strength_byte strength.now }
+{
+    match strength {
+        Some(strength) => b'0' + strength_digit(*strength),
+        None => b' ',
+    }
+}
+
+/// Writes two values, of which the second may have a loss-of-lock indicator.
+#[inline(always)]
+fn put_pair(
+    columns: &mut [u8],
+    first: &Option<Thousandths>,
+    second: &Option<Thousandths>,
+    lost: u8,
+    strength: u8,
+)
+    requires first { IfSome first.now FitsColumns }
+    requires second { IfSome second.now FitsColumns }
+    requires room { length columns.old ≡ 32 }
+    ensures text { columns.new ≡ field first.now 32 strength ++ field second.now lost strength }
+    ensures size { length columns.new ≡ 32 }
+{
+    let (front, back) = columns.split_at_mut(VALUE_COLUMNS);
+    put_value(front, first, b' ', strength);
+    put_value(back, second, lost, strength);
+}
+
 /// The values of a signal, borrowed, so that each is read when its columns are written.
 #[derive(Drop)]
 struct Shown<'a> {
@@ -102,14 +132,10 @@ fn put_signal(columns: &mut [u8], values: &Shown)
     ensures text { columns.new ≡ signal_text values.now }
     ensures size { length columns.new ≡ signal_columns }
 {
-    let strength = values.s.map_or(b' ', |s| b'0' + strength_digit(s));
-    let (c, rest) = columns.split_at_mut(VALUE_COLUMNS);
-    let (l, rest) = rest.split_at_mut(VALUE_COLUMNS);
-    let (d, s) = rest.split_at_mut(VALUE_COLUMNS);
-    put_value(c, values.c, b' ', strength);
-    put_value(l, values.l, lli_column(*values.lli), strength);
-    put_value(d, values.d, b' ', b' ');
-    put_value(s, values.s, b' ', b' ');
+    let strength = strength_column(values.s);
+    let (front, back) = columns.split_at_mut(2 * VALUE_COLUMNS);
+    put_pair(front, values.c, values.l, lli_column(*values.lli), strength);
+    put_pair(back, values.d, values.s, b' ', b' ');
 }
 
 /// Begins the line of a satellite with this number of planned signals: its letter and number,
