@@ -49,6 +49,16 @@ const NAMES: &[&str] = &[
     "ant_type",
 ];
 
+/// The labels of the rows of texts, in their order.
+const LABELS: &[&[u8]] = &[
+    b"PGM / RUN BY / DATE",
+    b"MARKER NAME",
+    b"MARKER TYPE",
+    b"OBSERVER / AGENCY",
+    b"REC # / TYPE / VERS",
+    b"ANT # / TYPE",
+];
+
 /// A row of texts.
 #[derive(Clone, Copy)]
 pub enum TextRow {
@@ -95,27 +105,37 @@ impl HeaderField {
 }
 
 impl TextRow {
-    /// Returns the label, in columns 61 to 80, the columns before the texts, and the texts.
-    pub(crate) fn parts(self) -> (&'static [u8], &'static [u8], &'static [HeaderField])
-        ensures label { (result.0.now ≡ label_of self) × (length result.0.now ≤ 20) }
-        ensures front { (result.1.now ≡ front_of self) × (length result.1.now ≤ 20) }
-        ensures fields { (result.2.now ≡ fields_of self) × (length result.2.now ≤ 3) }
+    /// Returns the label, in columns 61 to 80.
+    pub(crate) fn label(self) -> &'static [u8]
+        ensures value { result.now ≡ label_of self }
+        ensures bound { length result.now ≤ 20 }
+    {
+        LABELS[self as usize]
+    }
+
+    /// Returns the columns before the texts.
+    pub(crate) fn front(self) -> &'static [u8]
+        ensures value { result.now ≡ front_of self }
+        ensures bound { length result.now ≤ 20 }
     {
         match self {
-            TextRow::Program => (
-                b"PGM / RUN BY / DATE",
-                b"rtcm2rinex          ",
-                &[RunBy, Date],
-            ),
-            TextRow::Marker => (b"MARKER NAME", b"", &[Marker]),
-            TextRow::MarkerType => (b"MARKER TYPE", b"", &[MarkerType]),
-            TextRow::Observer => (b"OBSERVER / AGENCY", b"", &[Observer, Agency]),
-            TextRow::Receiver => (
-                b"REC # / TYPE / VERS",
-                b"",
-                &[RecNumber, RecType, RecVersion],
-            ),
-            TextRow::Antenna => (b"ANT # / TYPE", b"", &[AntNumber, AntType]),
+            TextRow::Program => b"rtcm2rinex          ",
+            _ => b"",
+        }
+    }
+
+    /// Returns the texts, in order.
+    pub(crate) fn fields(self) -> &'static [HeaderField]
+        ensures value { result.now ≡ fields_of self }
+        ensures bound { length result.now ≤ 3 }
+    {
+        match self {
+            TextRow::Program => &[RunBy, Date],
+            TextRow::Marker => &[Marker],
+            TextRow::MarkerType => &[MarkerType],
+            TextRow::Observer => &[Observer, Agency],
+            TextRow::Receiver => &[RecNumber, RecType, RecVersion],
+            TextRow::Antenna => &[AntNumber, AntType],
         }
     }
 }

@@ -79,13 +79,12 @@ pub(crate) fn version_line(plan: &Plan) -> Line
 pub(crate) fn texts_line(texts: &HeaderTexts, row: TextRow) -> Line
     ensures { result.items ≡ texts_line texts.now row }
 {
-    let (label, front, fields) = row.parts();
     let mut content = Line::new();
-    put(&mut content, front);
-    for field in fields {
+    put(&mut content, row.front());
+    for field in row.fields() {
         put_left(&mut content, field.width(), texts.text(*field));
     }
-    labelled(content.as_slice(), label)
+    labelled(content.as_slice(), row.label())
 }
 
 /// Returns the line with the position of the antenna.

@@ -83,9 +83,8 @@ pub(crate) fn read_texts(texts: &mut HeaderTexts, row: TextRow, line: &[u8]) -> 
     ensures { MatchOption result (RefusesTexts row line.now) (λ _. ReadsTexts row line.now texts.old texts.new) }
 {
     texts.are_texts();
-    let (_, front, fields) = row.parts();
-    let mut column = front.len();
-    for field in fields {
+    let mut column = row.front().len();
+    for field in row.fields() {
         let text = columns(line, column, field.width());
         texts.set(*field, text).ok()?;
         column += field.width();

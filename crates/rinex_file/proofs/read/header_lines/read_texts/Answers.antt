@@ -30,14 +30,14 @@ some_err (Err x) e n = no_err x n
 pub returns-in_err-ok : goal.returns-in_err-ok
 returns-in_err-ok c =
     rw c.from_residual.ensures (not_printable c.args.row c.args.line.now c.args.texts.now c.are_texts.ensures.count (sym c.loop-field.invariant.read
-    ∙ refused_text c.parts.result.2.now (fields_of c.args.row) c.loop-field.field-index _ c.loop-field.column c.width.result c.args.line.now c.columns-text.result.now c.loop-field.texts _
-    c.parts.ensures.fields.0 c.loop-field-test.true c.width.ensures c.columns-text.ensures.value c.set.ensures.fault
+    ∙ refused_text c.fields-field-items.result.now (fields_of c.args.row) c.loop-field.field-index _ c.loop-field.column c.width.result c.args.line.now c.columns-text.result.now c.loop-field.texts _
+    c.fields-field-items.ensures.value c.loop-field-test.true c.width.ensures c.columns-text.ensures.value c.set.ensures.fault
     (some_err c.set.result c.in_err-ok.ensures.value)))
 
 pub returns : goal.returns
 returns c =
     let row = c.args.row in
-    let far = subst (λ l. length l ≤ c.loop-field.field-index) c.parts.ensures.fields.0 c.loop-field-test.false in
+    let far = subst (λ l. length l ≤ c.loop-field.field-index) c.fields-field-items.ensures.value c.loop-field-test.false in
     compared row c.args.line.now _ c.args.texts.now c.loop-field.texts c.is_same.result c.are_texts.ensures.count
     (sym c.loop-field.invariant.read ∙ ap (λ l. texts_in l c.loop-field.column c.args.line.now c.loop-field.texts) (drop_all c.loop-field.field-index (fields_of row) far))
     (c.as_slice.ensures.value ∙ c.texts_line.ensures) c.is_same.ensures _ c.then_some.ensures
