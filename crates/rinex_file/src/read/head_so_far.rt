@@ -6,7 +6,7 @@ ghost use Rattle.gnss_obs.specs.Values.{planned_of};
 ghost use Rattle.rinex_file.specs.Header.{type_rows, row_at};
 ghost use Rattle.rinex_file.specs.Read.Progress.{AreValid, IsHeadAt, announced, signals_begun};
 ghost use Rattle.rinex_file.specs.Read.HeaderSteps.{known_line, NoneGoesOn, SameFrom, StepsTo};
-ghost use Rattle.rinex_file.specs.Read.HeaderSteps.{TakesTypes, RefusesTypes, with_types, IsOnly, ReadsOrRefuses};
+ghost use Rattle.rinex_file.specs.Read.HeaderSteps.{TakesTypes, RefusesTypes, with_types, HasValues, IsOnly, ReadsOrRefuses};
 
 use crate::header::lines::{END, SHIFT, STRENGTH_UNIT, UNIT};
 use crate::header::rows::{HeaderRow, row_at};
@@ -157,9 +157,9 @@ impl HeadSoFar {
         }
     }
 
-    /// Reads the line of a row. Returns None if no header has it.
-    fn read_header_line(&mut self, row: HeaderRow, line: &[u8]) -> Option<()>
-        requires { IsOnly row }
+    /// Reads the line of a row of values. Returns None if no header has it.
+    fn read_values(&mut self, row: HeaderRow, line: &[u8]) -> Option<()>
+        requires { HasValues row }
         ensures { ReadsOrRefuses row line.now self.old self.new result }
     {
         match row {
@@ -169,7 +169,6 @@ impl HeadSoFar {
                 self.galileo.is_planned = galileo;
                 Some(())
             }
-            HeaderRow::Texts(row) => read_texts(&mut self.texts, row, line),
             HeaderRow::Position => {
                 let height = self.values.height;
                 self.values = read_position(line)?;
@@ -180,15 +179,26 @@ impl HeadSoFar {
                 self.values.height = read_delta(line)?;
                 Some(())
             }
-            HeaderRow::StrengthUnit => is_header_line(line, UNIT, STRENGTH_UNIT).then_some(()),
-            HeaderRow::First => {
+            _ => {
                 self.first = read_first(line)?;
                 Some(())
             }
+        }
+    }
+
+    /// Reads the line of a row. Returns None if no header has it.
+    fn read_header_line(&mut self, row: HeaderRow, line: &[u8]) -> Option<()>
+        requires { IsOnly row }
+        ensures { ReadsOrRefuses row line.now self.old self.new result }
+    {
+        match row {
+            HeaderRow::Texts(row) => read_texts(&mut self.texts, row, line),
+            HeaderRow::StrengthUnit => is_header_line(line, UNIT, STRENGTH_UNIT).then_some(()),
             HeaderRow::Shift(system) => {
                 is_header_line(line, &[letter_of(system)], SHIFT).then_some(())
             }
             HeaderRow::Types(_, _) | HeaderRow::End => None,
+            row => self.read_values(row, line),
         }
     }
 
