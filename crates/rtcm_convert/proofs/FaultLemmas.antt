@@ -1,12 +1,13 @@
 -- The faults of a call, by the results that it never has.
-use Rattle.std.proofs.Common.{◌≡◌, Bool, true, false, refl, sym, ap, subst, ◌∙◌, arith, inl, inr, Result, Ok, Err, IfErr}
+use Rattle.std.proofs.Common.{◌≡◌, ◌≤◌, ℕ, max, Bool, true, false, refl, sym, ap, subst, ◌∙◌, arith, inl, inr, Result, Ok, Err, IfOk, IfErr}
 use Rattle.std.proofs.lemmas.Bool.{false≢true}
-use Rattle.std.specs.Prelude.{IsErrOf}
+use Rattle.std.specs.Prelude.{IsErrOf, OnOk}
 use Rattle.rtcm_bits.specs.Device.{Device}
-use Rattle.rtcm_convert.specs.Faults.{IsSentAtFault, WriterFailures, ReaderFailures, FailsWithReader, FailsWithWriter, IsSetupFault, IsReadFault, IsPiecesFault, IsRunFault}
+use Rattle.rtcm_bits.specs.FrameOf.{longest_frame}
+use Rattle.rtcm_convert.specs.Faults.{IsSentAtFault, WriterFailures, ReaderFailures, FailsWithReader, FailsWithWriter, IsSentAfter, IsSetupFault, IsFeedFault, IsFinishFault, IsPiecesFault, IsRunFault}
 use Rattle.rtcm_convert.specs.declared.report.Report.{Report}
 use Rattle.rtcm_convert.specs.declared.fault.Fault.{Fault}
-use Rattle.rtcm_convert.specs.declared.fault.Fault.TheVariants.{BadSetup, Memory, Read, TooLong, Write, NoEpoch}
+use Rattle.rtcm_convert.specs.declared.fault.Fault.TheVariants.{BadSetup, Memory, Read, TooLong, Write, Failed, Finished, NoEpoch}
 
 abbrev pub of_setup : Fault → Bool
 of_setup BadSetup = true
@@ -109,15 +110,93 @@ setup_writer f kind o = (by_setup (λ x. WriterFailures x o.failures o.failures)
 pub by_write : (P : Fault → Type 0) (f : Fault) → f ≡ Write → P Write → P f
 by_write P f e p = subst (λ (x : Fault). P x) (sym e) p
 
-pub read_run : (f : Fault) → IsReadFault f → IsRunFault f
-read_run f (inl e) = inl e
-read_run f (inr (inl e)) = inr (inl e)
-read_run f (inr (inr e)) = inr (inr (inr e))
+-- ---- a call after others that did not fail
 
-read_known : (f : Fault) → IsReadFault f → is_no_epoch f ≡ false
-read_known f (inl e) = ap is_no_epoch e
-read_known f (inr (inl e)) = ap is_no_epoch e
-read_known f (inr (inr e)) = ap is_no_epoch e
+abbrev pub of_finish : Fault → Bool
+of_finish NoEpoch = true
+of_finish Write = true
+of_finish _ = false
 
-pub read_not_empty : {A : Type 0} (f : Fault) → IsReadFault f → IsErrOf {T = A} (Err f) NoEpoch → ⊥
-read_not_empty f kind h = let e : NoEpoch ≡ f = cc in apart is_no_epoch NoEpoch f refl (read_known f kind) e
+pub finish_known : (f : Fault) → IsFinishFault f → of_finish f ≡ true
+finish_known f (inl e) = ap of_finish e
+finish_known f (inr e) = ap of_finish e
+
+pub sent_later : {A : Type 0} (r : Result A Fault) (before mid after : Bool) → (before ≡ true → mid ≡ true) → IsSentAfter r mid after → IsSentAfter r before after
+sent_later (Ok x) before mid after e s = s
+sent_later (Err Write) before mid after e s = s
+sent_later (Err TooLong) before mid after e s = s
+sent_later (Err NoEpoch) before mid after e s = s
+sent_later (Err Memory) before mid after e s = λ h. s (e h)
+sent_later (Err BadSetup) before mid after e s = λ h. s (e h)
+sent_later (Err Read) before mid after e s = λ h. s (e h)
+sent_later (Err Failed) before mid after e s = λ h. s (e h)
+sent_later (Err Finished) before mid after e s = λ h. s (e h)
+
+pub finish_reader : {T A : Type 0} (L : Fault → Type 0) (r : Result A Fault) (old new : Device T) → IfErr r (λ f. IsFinishFault f × L f) → new.failures ≡ old.failures → new.widest ≤ max old.widest longest_frame
+    → FailsWithReader r old new
+finish_reader L (Ok x) old new left e w = (tt, e, w)
+finish_reader L (Err f) old new (inl k, l) e w = (subst (λ (x : Fault). ReaderFailures x old.failures new.failures) (sym k) e, tt, w)
+finish_reader L (Err f) old new (inr k, l) e w = (subst (λ (x : Fault). ReaderFailures x old.failures new.failures) (sym k) e, tt, w)
+
+pub writer_after : {T A : Type 0} (r : Result A Fault) (old mid new : Device T) → mid.failures ≡ old.failures → mid.widest ≡ old.widest → FailsWithWriter r mid new → FailsWithWriter r old new
+writer_after r old mid new e w d = (
+  subst (λ (n : ℕ). IfErr r (λ fault. WriterFailures fault n new.failures)) e d.0,
+  subst (λ (n : ℕ). OnOk r (new.failures ≡ n)) e d.1,
+  d.2 ∙ w,
+)
+
+pub finish_left : {A : Type 0} (L : Fault → Type 0) (r : Result A Fault) → IfErr r (λ f. IsFinishFault f × L f) → IfErr r (λ f. IsRunFault f × L f)
+finish_left L (Ok x) left = tt
+finish_left L (Err f) left = (inr (inr left.0), left.1)
+
+pub pieces_left : {A : Type 0} (L : Fault → Type 0) (r : Result A Fault) → IfErr r (λ f. IsFinishFault f × L f) → IfErr r (λ f. IsPiecesFault f × L f)
+pieces_left L (Ok x) left = tt
+pieces_left L (Err f) left = (inr left.0, left.1)
+
+pub feed_pieces : (f : Fault) → IsFeedFault f → IsPiecesFault f
+feed_pieces f (inl e) = inl e
+feed_pieces f (inr e) = inr (inr e)
+
+-- ---- a call whose only fault is that there is no epoch
+
+module _ {A : Type 0} (E : Type 0) where
+  pub on_no_epoch : (P : Fault → Type 0) (r : Result A Fault) → IfErr r (λ f. (f ≡ NoEpoch) × E) → P NoEpoch → IfErr r P
+  on_no_epoch P (Ok x) none p = tt
+  on_no_epoch P (Err f) none p = subst (λ (x : Fault). P x) (sym none.0) p
+
+  pub no_epoch_of : (r : Result A Fault) → IfErr r (λ f. (f ≡ NoEpoch) × E) → IsErrOf r NoEpoch → E
+  no_epoch_of (Ok x) none h = absurd (not_err x NoEpoch h)
+  no_epoch_of (Err f) none h = none.1
+
+  pub no_epoch_only : (r : Result A Fault) → IfErr r (λ f. (f ≡ NoEpoch) × E) → IsErrOf r Write → ⊥
+  no_epoch_only r none h = never (λ f. f ≡ NoEpoch) (λ _. E) is_no_epoch (λ f e. ap is_no_epoch e) r none Write refl h
+
+  pub no_epoch_sent : (r : Result A Fault) (before after : Bool) → IfErr r (λ f. (f ≡ NoEpoch) × E) → after ≡ true → IsSentAfter r before after
+  no_epoch_sent (Ok x) before after none e = e
+  no_epoch_sent (Err f) before after none e = subst (λ (x : Fault). IsSentAtFault x before after) (sym none.0) e
+
+abbrev pub is_memory : Fault → Bool
+is_memory Memory = true
+is_memory _ = false
+
+-- ---- a call whose only fault is that memory can't be allocated
+
+pub memory_only : {A : Type 0} (r : Result A Fault) (g : Fault) → is_memory g ≡ false → IfErr r (λ f. f ≡ Memory) → IsErrOf r g → ⊥
+memory_only (Ok x) g fails k h = not_err x g h
+memory_only (Err f) g fails k h = apart_err is_memory f g (ap is_memory k) fails h
+
+pub memory_setup : {A : Type 0} (r : Result A Fault) → IfErr r (λ f. f ≡ Memory) → IfErr r IsSetupFault
+memory_setup (Ok x) k = tt
+memory_setup (Err f) k = inr k
+
+pub if_ok : {A B : Type 0} (P Q : A → Type 0) (r : Result A B) → ((x : A) → P x → Q x) → IfOk r P → IfOk r Q
+if_ok P Q (Ok x) f p = f x p
+if_ok P Q (Err e) f p = tt
+
+pub if_ok_always : {A B : Type 0} (P : Type 0) (r : Result A B) → P → IfOk r (λ _. P)
+if_ok_always P (Ok x) p = p
+if_ok_always P (Err e) p = tt
+
+pub ok_always : {A B : Type 0} (P : Type 0) (r : Result A B) → P → OnOk r P
+ok_always P (Ok x) p = p
+ok_always P (Err e) p = tt

@@ -1,5 +1,5 @@
 -- A piece that a converter accepts, and the end of its stream.
-use Rattle.std.proofs.Common.{◌≡◌, ℕ, ◌<◌, ◌++◌, List, length, Bool, true, false, sym, subst, ◌∙◌, Option, suc, zero, arith, refl, true≢false}
+use Rattle.std.proofs.Common.{◌≡◌, ◌≢◌, ℕ, ◌<◌, ◌++◌, List, length, Bool, true, false, sym, subst, ◌∙◌, Option, suc, zero, arith, refl, true≢false, Result, Ok, Err, IfOk}
 use Rattle.rtcm_bits.specs.Device.{Device}
 use Rattle.rtcm_scan.specs.Examined.{HasExaminedSome}
 use Rattle.rtcm_scan.specs.Passing.{Passes, Breaks, PassesToLimit, AtFault, up_to_limit}
@@ -127,3 +127,8 @@ module _ (failed over : Bool) (v v' : FramerValue) (w w' : FileWriter) (a b : Op
         kept = keeps s bytes f;
         bounds = subst (λ (n : ℕ). IsWithinBounds n (kept_of (with_flags failed true v' w'))) p.taken within;
       }
+
+  pub finishes_with : {E : Type 0} (r : Result Report E) → IfOk r (λ report. (w'.epochs ≢ 0) × (report ≡ report_with v'.taken v'.skipped w'.tally w'.epochs))
+      → IfOk r (λ report. FinishesNow (with_flags failed over v w) (with_flags failed true v' w') a b report)
+  finishes_with (Ok report) p = finishes report v'.taken v'.skipped p.1 refl refl p.0
+  finishes_with (Err e) p = tt

@@ -140,11 +140,6 @@ abbrev pub RanToFault : Conversion → Conversion → Option (List ℕ) → Opti
 RanToFault v w r r' a b =
     (front : List ℕ) × Consumes r r' front × (w.scan.taken ≡ v.scan.taken + length front) × WritesAdded v a b front
 
--- all further bytes were read and accepted, and what they add was written; the stream may go on
-abbrev pub TakesRest : Conversion → Conversion → Option (List ℕ) → Option (List ℕ) → Option (List ℕ) → Option (List ℕ)
-    → Type 0
-TakesRest v w r r' a b = TakesFromReader v w r r' a b × IsAtEnd r' × IsGoing w
-
 -- the stream is longer than the limit; some further bytes were read, and accepted up to it; what these add was written
 pub record RanToLimit (v w : Conversion) (r r' a b : Option (List ℕ)) : Type 0 where
   pub front : List ℕ

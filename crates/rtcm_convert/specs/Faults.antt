@@ -57,13 +57,9 @@ IsUntouched r r' w w' = (r' ≡ r) × (w' ≡ w)
 abbrev pub IsSetupFault : Fault → Type 0
 IsSetupFault fault = (fault ≡ BadSetup) ⊎ (fault ≡ Memory)
 
--- the faults of `feed`, of reading the rest of a stream, of `finish`, of `take_pieces`, and of `run`, if no call failed
--- before
+-- the faults of `feed`, of `finish`, of `take_pieces`, and of `run`, if no call failed before
 abbrev pub IsFeedFault : Fault → Type 0
 IsFeedFault fault = (fault ≡ TooLong) ⊎ (fault ≡ Write)
-
-abbrev pub IsReadFault : Fault → Type 0
-IsReadFault fault = (fault ≡ Read) ⊎ IsFeedFault fault
 
 abbrev pub IsFinishFault : Fault → Type 0
 IsFinishFault fault = (fault ≡ NoEpoch) ⊎ (fault ≡ Write)

@@ -1,5 +1,5 @@
 //! The converter: it accepts a stream piece by piece, and writes its observation file.
-ghost use Rattle.std.specs.Prelude.{◌≡◌, ◌<◌, ◌≤◌, ◌+◌, ◌*◌, ◌↔◌, [], List, ℕ, true, false, length, drop};
+ghost use Rattle.std.specs.Prelude.{◌≡◌, ◌≢◌, ◌<◌, ◌≤◌, ◌+◌, ◌*◌, ◌↔◌, [], List, ℕ, true, false, length, drop};
 ghost use Rattle.std.specs.Prelude.{Err, OnOk, IfOk, IfErr, IfSome, IsErrOf};
 ghost use Rattle.gnss_obs.specs.GatheredEpochs.{AreStationValues};
 ghost use Rattle.std.specs.Io.KnownBytes.{Keeps};
@@ -11,9 +11,11 @@ ghost use Rattle.gnss_obs.specs.Values.{cells_of};
 ghost use Rattle.obs_epoch.specs.Held.{recorded};
 ghost use Rattle.gnss_obs.specs.Values.{most_cells};
 ghost use Rattle.rtcm_convert.specs.Kept.{cells_kept, locks_kept, locks_in_all, IsWithinBounds, IsKeptNow, IsKeptAtEnd};
+ghost use Rattle.rtcm_convert.specs.Filed.{HasFiledFrames};
 ghost use Rattle.rtcm_convert.specs.Moves.{Moves};
+ghost use Rattle.rtcm_convert.specs.Outcomes.{report_with};
 ghost use Rattle.rtcm_convert.specs.Faults.{FailsWithReader, FailsWithWriter, IsSentAfter, IsUntouched, IsSetupFault};
-ghost use Rattle.rtcm_convert.specs.Faults.{IsFeedFault, IsReadFault, IsFinishFault, IsPiecesFault, IsRunFault};
+ghost use Rattle.rtcm_convert.specs.Faults.{IsFeedFault, IsFinishFault, IsPiecesFault, IsRunFault};
 ghost use Rattle.rtcm_convert.specs.SetupValues.{setup_value, setup_value_at, start_at, IsBad, IsBadAt};
 ghost use Rattle.rtcm_convert.specs.Converted.{SetupValue};
 ghost use Rattle.rtcm_convert.specs.Conversion.{kept_of, KeepsNow, HasConverted, HasFinished, IsGoing, GoesOnBy};
@@ -23,7 +25,7 @@ ghost use Rattle.rtcm_convert.specs.Conversion.{FinishesNow, FinishesEmptyNow, C
 ghost use Rattle.rtcm_convert.specs.Conversion.{CompletesFileOfAll, CompletesEmptyFileOfAll};
 ghost use Rattle.rtcm_convert.specs.Broken.{joined_pieces};
 ghost use Rattle.rtcm_convert.specs.Pieces.{StopsInPieces};
-ghost use Rattle.rtcm_convert.specs.Conversion.{TakesRest, RanToFault, RanToLimit, FailsFeeding, StopsRunning};
+ghost use Rattle.rtcm_convert.specs.Conversion.{RanToFault, RanToLimit, StopsRunning};
 
 use crate::fault::Fault;
 use crate::file_writer::FileWriter;
@@ -100,20 +102,31 @@ impl Converter {
         }
         let limit = setup.limit;
         match FileWriter::new(alloc, setup, initial) {
-            Ok(file_writer) => match Framer::new(alloc, limit) {
-                Ok(framer) => Ok(Converter {
-                    framer,
-                    frame: Frame::new(),
-                    file_writer,
-                    failed: false,
-                    finished: false,
-                }),
-                Err(_) => {
-                    drop(file_writer);
-                    Err(Fault::Memory)
-                }
-            },
+            Ok(file_writer) => Converter::with_writer(alloc, limit, file_writer),
             Err(fault) => Err(fault),
+        }
+    }
+
+    /// Returns a converter with this file writer, which has processed no frame, or `Memory`.
+    fn with_writer(alloc: Global, limit: u64, file_writer: FileWriter) -> Result<Converter, Fault>
+        requires { file_writer.gatherer.has_ended ≡ false }
+        ensures history { IfOk result
+            (λ c. (s : SetupValue) → HasFiledFrames file_writer s [] → HasConverted c s []) }
+        ensures fresh { IfOk result (λ c. (c.scan.limit ≡ limit) × (c.scan.taken ≡ 0)) }
+        ensures only { IfErr result (λ fault. fault ≡ Fault.Memory) }
+    {
+        match Framer::new(alloc, limit) {
+            Ok(framer) => Ok(Converter {
+                framer,
+                frame: Frame::new(),
+                file_writer,
+                failed: false,
+                finished: false,
+            }),
+            Err(_) => {
+                drop(file_writer);
+                Err(Fault::Memory)
+            }
         }
     }
 
@@ -206,19 +219,30 @@ impl Converter {
                 self.finished = true;
                 // Brings the values and bounds of what is held into the proof.
                 let _ = self.kept();
-                let epochs = self.file_writer.epochs;
-                if epochs == 0 {
-                    return Err(Fault::NoEpoch);
-                }
-                let bytes = self.framer.taken();
-                let skipped = self.framer.skipped();
-                Ok(self.file_writer.tally.report(bytes, skipped, epochs))
+                self.ended_report()
             }
-            Err(fault) => {
+            Err(_) => {
                 self.failed = true;
-                Err(fault)
+                Err(Fault::Write)
             }
         }
+    }
+
+    /// Returns the report of an ended stream, or `NoEpoch` if its file has no epoch.
+    fn ended_report(&self) -> Result<Report, Fault>
+        ensures some { IfOk result (λ report. (self.now.file_writer.epochs ≢ 0)
+            × (report
+            ≡ report_with self.now.scan.taken self.now.scan.skipped self.now.file_writer.tally
+            self.now.file_writer.epochs)) }
+        ensures none { IfErr result (λ fault. (fault ≡ Fault.NoEpoch) × (self.now.file_writer.epochs ≡ 0)) }
+    {
+        let epochs = self.file_writer.epochs;
+        if epochs == 0 {
+            return Err(Fault::NoEpoch);
+        }
+        let bytes = self.framer.taken();
+        let skipped = self.framer.skipped();
+        Ok(self.file_writer.tally.report(bytes, skipped, epochs))
     }
 
     /// Accepts the pieces of the rest of the stream in order, ends it, and returns the report: a
@@ -281,57 +305,6 @@ impl Converter {
         None
     }
 
-    /// Reads and accepts the rest of the stream, without ending it.
-    fn read_rest<R: Read, W: Write>(
-        &mut self,
-        reader: &mut Counted<R>,
-        writer: &mut Counted<W>,
-    ) -> Result<(), Fault>
-        requires { IsGoing self.old }
-        ensures whole { OnOk result (Moves R.remaining reader.old reader.new W.contents writer.old writer.new
-            (TakesRest self.old self.new)) }
-        ensures read { IsErrOf result Fault.Read
-            → Moves R.remaining reader.old reader.new W.contents writer.old writer.new
-            (RanToFault self.old self.new) }
-        ensures long { IsErrOf result Fault.TooLong
-            → Moves R.remaining reader.old reader.new W.contents writer.old writer.new
-            (RanToLimit self.old self.new) }
-        ensures write { IsErrOf result Fault.Write
-            → Moves R.remaining reader.old reader.new W.contents writer.old writer.new
-            (FailsFeeding self.old self.new) }
-        ensures sent { IsSentAfter result writer.old.is_sent writer.new.is_sent }
-        ensures reader { FailsWithReader result reader.old reader.new }
-        ensures writer { FailsWithWriter result writer.old writer.new }
-        ensures left { IsLeft IsReadFault self.old self.new result }
-    {
-        laws::filed();
-        rtcm_scan::laws::prefix();
-        let mut buffer = [0u8; LONGEST_FRAME];
-        let frame = &mut self.frame;
-        match self
-            .framer
-            .read_pieces(reader, &mut buffer, frame, &mut self.file_writer, writer)
-        {
-            Ok(()) => {
-                // Brings the values and bounds of what is held into the proof.
-                let _ = self.kept();
-                Ok(())
-            }
-            Err(StreamFault::Read) => {
-                self.failed = true;
-                Err(Fault::Read)
-            }
-            Err(StreamFault::TooLong) => {
-                self.failed = true;
-                Err(Fault::TooLong)
-            }
-            Err(StreamFault::Sink(_fault)) => {
-                self.failed = true;
-                Err(Fault::Write)
-            }
-        }
-    }
-
     /// Reads the rest of the stream, at most 1,029 bytes at a time less those held, and writes the
     /// rest of its file. The writer is flushed after each piece and at the end.
     ///
@@ -374,10 +347,32 @@ impl Converter {
         if let Some(fault) = self.refusal() {
             return Err(fault);
         }
-        if let Err(fault) = self.read_rest(reader, writer) {
-            return Err(fault);
+        laws::filed();
+        rtcm_scan::laws::prefix();
+        let mut buffer = [0u8; LONGEST_FRAME];
+        let frame = &mut self.frame;
+        match self
+            .framer
+            .read_pieces(reader, &mut buffer, frame, &mut self.file_writer, writer)
+        {
+            Ok(()) => {
+                // Brings the values and bounds of what is held into the proof.
+                let _ = self.kept();
+                self.finish(writer)
+            }
+            Err(StreamFault::Read) => {
+                self.failed = true;
+                Err(Fault::Read)
+            }
+            Err(StreamFault::TooLong) => {
+                self.failed = true;
+                Err(Fault::TooLong)
+            }
+            Err(StreamFault::Sink(_fault)) => {
+                self.failed = true;
+                Err(Fault::Write)
+            }
         }
-        self.finish(writer)
     }
 
     /// Returns what the converter holds and has examined: the values of [`held`](Converter::held),

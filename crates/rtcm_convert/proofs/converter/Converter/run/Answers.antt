@@ -1,19 +1,14 @@
-use Rattle.std.proofs.Common.{inl, inr, refl}
+use Rattle.std.proofs.Common.{◌≡◌, ◌∙◌, None, sym, subst, refl, inl, inr}
+use Rattle.rtcm_scan.specs.Passing.{up_to_limit}
+use Rattle.rtcm_convert.specs.Conversion.{Conversion, IsGoing, LeftBy, refusal}
+use Rattle.rtcm_convert.specs.Faults.{IsFinishFault}
 use Rattle.rtcm_convert.specs.declared.fault.Fault.TheVariants.{NoEpoch, TooLong, Read, Write}
+use Rattle.rtcm_convert.proofs.FaultLemmas.{never, of_finish, finish_known, sent_later, finish_reader, finish_left, writer_after, only_read, only_too_long, only_write}
+use Rattle.rtcm_convert.proofs.FeedLemmas.{with_flags, read_of, long_of, sink_of, fed_fit, failed_fit}
 use Rattle.rtcm_convert.proofs.RefusalLemmas.{refused_going, refused_is, refused_only, refused_sent, refused_writer, refused_reader, not_refused}
-use Rattle.rtcm_convert.proofs.RunLemmas.{going_on, ran_whole, ran_empty, run_finishing}
-use Rattle.rtcm_convert.proofs.FaultLemmas.{read_run, read_not_empty}
-use Rattle.rtcm_convert.proofs.PartLemmas.{same_fault}
+use Rattle.rtcm_convert.proofs.RunLemmas.{going_on, ran_whole, ran_empty, run_finishing, rest_taken, rest_faulty, rest_long, rest_part, rest_device}
+use Rattle.rtcm_convert.proofs.StreamLemmas.{piece_fine}
 use Rattle.rtcm_convert.proofs.converter.Converter.run.Goals as goal
-
-pub returns-clause-whole : goal.returns-clause-whole
-returns-clause-whole g c = let p = c.in_default-read_rest.ensures.whole in ran_whole c.args.self.now c.read_rest.new.self c.finish.new.self _ _ _ _ _ c.finish.result p.0 p.1 c.finish.ensures.whole
-
-pub returns-clause-no_epoch : goal.returns-clause-no_epoch
-returns-clause-no_epoch g c = λ e. let p = c.in_default-read_rest.ensures.whole in ran_empty c.args.self.now c.read_rest.new.self c.finish.new.self _ _ _ _ _ p.0 p.1 (c.finish.ensures.no_epoch e)
-
-pub returns-clause-write : goal.returns-clause-write
-returns-clause-write g c = λ e. let p = c.in_default-read_rest.ensures.whole in inr (run_finishing c.args.self.now c.read_rest.new.self c.finish.new.self _ _ _ _ _ p.0 p.1 c.finish.ensures.taken (c.finish.ensures.part e))
 
 pub returns-in-Some : goal.returns-in-Some
 returns-in-Some g c =
@@ -33,21 +28,103 @@ returns-in-Some g c =
       left = ((refl, λ go. absurd (refused_going v f e go)), tt);
     }
 
-pub returns-in-Err : goal.returns-in-Err
-returns-in-Err g c =
-    let n = c.in-Err.ensures in
+pub invariant_of-self : goal.invariant_of-self
+invariant_of-self g c =
+    let f = c.self.inside in
+    let go : IsGoing (with_flags f.failed f.finished f.framer f.file_writer) = subst (λ (x : Conversion). IsGoing x) (sym c.self.view_is) (going_on c.args.self.now c.in_default.ensures) in
+    fed_fit g.W.Write.contents f.failed f.finished f.framer c.read_pieces.new.self f.file_writer c.read_pieces.new.sink c.args.writer.now c.read_pieces.new.out c.in-Ok.ensures.whole.0 c.self.invariant go c.read_pieces.ensures.same.can c.in-Ok.ensures.end.1 c.read_pieces.ensures.same.ended c.read_pieces.ensures.same.some c.in-Ok.ensures.whole.2.0
+
+pub returns-in-Ok : goal.returns-in-Ok
+returns-in-Ok g c =
+    let f = c.self.inside in
+    let v = with_flags f.failed f.finished f.framer f.file_writer in
+    let w = with_flags f.failed f.finished c.read_pieces.new.self c.read_pieces.new.sink in
+    let go : IsGoing v = subst (λ (x : Conversion). IsGoing x) (sym c.self.view_is) (going_on c.args.self.now c.in_default.ensures) in
+    let on : IsGoing w = record { fine = go.fine; more = go.more } in
+    let listening = c.self.invariant.listening go in
+    let p = rest_taken g.W.Write.contents f.failed f.finished f.framer c.read_pieces.new.self f.file_writer c.read_pieces.new.sink c.args.writer.now c.read_pieces.new.out _ _ (record { bounds = c.kept.ensures.bounds; values = c.kept.ensures.now }) listening (c.read_pieces.ensures.same.ended ∙ listening) c.in-Ok.ensures.whole in
+    let d = piece_fine g.W.Write.contents f.framer c.read_pieces.new.self f.file_writer c.read_pieces.new.sink c.args.writer.now c.read_pieces.new.out c.in-Ok.ensures.whole.0 c.in-Ok.ensures.whole.2.0 (c.self.invariant.drained go) in
+    let e = c.in-Ok.ensures.end.0 in
+    let n = c.finish.ensures in
+    let l = n.left.0.1 on in
+    let r = c.finish.result in
+    rw (← c.self.view_is) (record {
+      refused = not_refused v _ (subst (λ (x : Conversion). None ≡ refusal x) (sym c.self.view_is) c.in_default.ensures);
+      whole = ran_whole v w c.finish.new.self _ _ _ _ _ r p e n.whole;
+      no_epoch = λ h. ran_empty v w c.finish.new.self _ _ _ _ _ p e (n.no_epoch h);
+      long = λ h. absurd (never IsFinishFault (λ x. LeftBy x c.finish.new.self) of_finish finish_known r l TooLong refl h);
+      read = λ h. absurd (never IsFinishFault (λ x. LeftBy x c.finish.new.self) of_finish finish_known r l Read refl h);
+      write = λ h. inr (run_finishing v w c.finish.new.self _ _ _ _ _ p e n.taken (n.part h));
+      sent = sent_later r _ _ _ (λ _. c.in-Ok.ensures.sent) n.sent;
+      reader = finish_reader _ r c.args.reader.now c.read_pieces.new.reader l c.in-Ok.ensures.reader.1 c.in-Ok.ensures.reader.2;
+      writer = writer_after r c.args.writer.now c.read_pieces.new.out c.finish.new.writer d.1 d.2 n.device;
+      left = ((n.left.0.0 ∙ c.read_pieces.ensures.same.limit, λ _. finish_left _ r l), n.left.1);
+    })
+
+pub invariant_of-self-in-Err-Read : goal.invariant_of-self-in-Err-Read
+invariant_of-self-in-Err-Read g c = failed_fit c.self.inside.finished c.read_pieces.new.self c.read_pieces.new.sink (c.read_pieces.ensures.same.some c.self.invariant.examined)
+
+pub returns-in-Err-Read : goal.returns-in-Err-Read
+returns-in-Err-Read g c =
+    let f = c.self.inside in
+    let go : IsGoing (with_flags f.failed f.finished f.framer f.file_writer) = subst (λ (x : Conversion). IsGoing x) (sym c.self.view_is) (going_on c.args.self.now c.in_default.ensures) in
+    let listening = c.self.invariant.listening go in
+    let k = read_of c.in-Err-Read.field-0 _ _ _ c.in-Err-Read.field-0-is c.in-Err-Read.ensures.fault in
+    let d = piece_fine g.W.Write.contents f.framer c.read_pieces.new.self f.file_writer c.read_pieces.new.sink c.args.writer.now c.read_pieces.new.out k.0 k.2.0 (c.self.invariant.drained go) in
     record {
       refused = not_refused c.args.self.now _ c.in_default.ensures;
       whole = tt;
-      no_epoch = λ e. absurd (read_not_empty c.in-Err.fault (n.left.1 (going_on c.args.self.now c.in_default.ensures)).0 e);
-      long = λ e. n.long (same_fault c.in-Err.fault TooLong e);
-      read = λ e. n.read (same_fault c.in-Err.fault Read e);
-      write = λ e. inl (n.write (same_fault c.in-Err.fault Write e));
-      sent = n.sent;
-      reader = n.reader;
-      writer = n.writer;
-      left = ((n.left.0, λ go. let l = n.left.1 go in (read_run c.in-Err.fault l.0, l.1)), tt);
+      no_epoch = λ h. absurd (only_read NoEpoch refl h);
+      long = λ h. absurd (only_read TooLong refl h);
+      read = λ _. rw (← c.self.view_is) (rest_faulty g.W.Write.contents f.failed f.finished f.framer c.read_pieces.new.self f.file_writer c.read_pieces.new.sink c.args.writer.now c.read_pieces.new.out _ _ listening (c.read_pieces.ensures.same.ended ∙ listening) k);
+      write = λ h. absurd (only_read Write refl h);
+      sent = λ _. read_of c.in-Err-Read.field-0 _ _ _ c.in-Err-Read.field-0-is c.in-Err-Read.ensures.sent;
+      reader = (read_of c.in-Err-Read.field-0 _ _ _ c.in-Err-Read.field-0-is c.in-Err-Read.ensures.reader.0, tt, c.in-Err-Read.ensures.reader.2);
+      writer = (d.1, tt, d.2);
+      left = (rw (← c.self.view_is) (c.read_pieces.ensures.same.limit, λ go. (inl refl, (refl, go.more))), tt);
     }
 
-pub returns-clause-refused : goal.returns-clause-refused
-returns-clause-refused g c = not_refused c.args.self.now _ c.in_default.ensures
+pub invariant_of-self-in-Err-TooLong : goal.invariant_of-self-in-Err-TooLong
+invariant_of-self-in-Err-TooLong g c = failed_fit c.self.inside.finished c.read_pieces.new.self c.read_pieces.new.sink (c.read_pieces.ensures.same.some c.self.invariant.examined)
+
+pub returns-in-Err-TooLong : goal.returns-in-Err-TooLong
+returns-in-Err-TooLong g c =
+    let f = c.self.inside in
+    let go : IsGoing (with_flags f.failed f.finished f.framer f.file_writer) = subst (λ (x : Conversion). IsGoing x) (sym c.self.view_is) (going_on c.args.self.now c.in_default.ensures) in
+    let listening = c.self.invariant.listening go in
+    let k = long_of c.in-Err-TooLong.field-0 _ _ _ c.in-Err-TooLong.field-0-is c.in-Err-TooLong.ensures.fault in
+    let d = piece_fine g.W.Write.contents f.framer c.read_pieces.new.self f.file_writer c.read_pieces.new.sink c.args.writer.now c.read_pieces.new.out (up_to_limit f.framer k.0) k.2.passes (c.self.invariant.drained go) in
+    record {
+      refused = not_refused c.args.self.now _ c.in_default.ensures;
+      whole = tt;
+      no_epoch = λ h. absurd (only_too_long NoEpoch refl h);
+      long = λ _. rw (← c.self.view_is) (rest_long g.W.Write.contents f.failed f.finished f.framer c.read_pieces.new.self f.file_writer c.read_pieces.new.sink c.args.writer.now c.read_pieces.new.out _ _ listening (c.read_pieces.ensures.same.ended ∙ listening) k);
+      read = λ h. absurd (only_too_long Read refl h);
+      write = λ h. absurd (only_too_long Write refl h);
+      sent = long_of c.in-Err-TooLong.field-0 _ _ _ c.in-Err-TooLong.field-0-is c.in-Err-TooLong.ensures.sent;
+      reader = (long_of c.in-Err-TooLong.field-0 _ _ _ c.in-Err-TooLong.field-0-is c.in-Err-TooLong.ensures.reader.0, tt, c.in-Err-TooLong.ensures.reader.2);
+      writer = (d.1, tt, d.2);
+      left = (rw (← c.self.view_is) (c.read_pieces.ensures.same.limit, λ go. (inr (inl refl), (refl, go.more))), tt);
+    }
+
+pub invariant_of-self-in-Err-Sink : goal.invariant_of-self-in-Err-Sink
+invariant_of-self-in-Err-Sink g c = failed_fit c.self.inside.finished c.read_pieces.new.self c.read_pieces.new.sink (c.read_pieces.ensures.same.some c.self.invariant.examined)
+
+pub returns-in-Err-Sink : goal.returns-in-Err-Sink
+returns-in-Err-Sink g c =
+    let f = c.self.inside in
+    let go : IsGoing (with_flags f.failed f.finished f.framer f.file_writer) = subst (λ (x : Conversion). IsGoing x) (sym c.self.view_is) (going_on c.args.self.now c.in_default.ensures) in
+    let k = sink_of c.in-Err-Sink.field-0 _ _ _ _ c.in-Err-Sink.field-0-is c.in-Err-Sink.ensures.fault in
+    let d = rest_device g.W.Write.contents f.failed f.finished f.framer c.read_pieces.new.self f.file_writer c.read_pieces.new.sink c.args.writer.now c.read_pieces.new.out _ _ k (c.self.invariant.drained go) in
+    record {
+      refused = not_refused c.args.self.now _ c.in_default.ensures;
+      whole = tt;
+      no_epoch = λ h. absurd (only_write NoEpoch refl h);
+      long = λ h. absurd (only_write TooLong refl h);
+      read = λ h. absurd (only_write Read refl h);
+      write = λ _. rw (← c.self.view_is) (inl (rest_part g.W.Write.contents f.failed f.finished f.framer c.read_pieces.new.self f.file_writer c.read_pieces.new.sink c.args.writer.now c.read_pieces.new.out _ _ c.filed.ensures.grows c.prefix.ensures.decided (c.self.invariant.listening go) k));
+      sent = tt;
+      reader = (sink_of c.in-Err-Sink.field-0 _ _ _ _ c.in-Err-Sink.field-0-is c.in-Err-Sink.ensures.reader.0, tt, c.in-Err-Sink.ensures.reader.2);
+      writer = (d.0, tt, d.1);
+      left = (rw (← c.self.view_is) (c.read_pieces.ensures.same.limit, λ go. (inr (inr (inr refl)), (refl, go.more))), tt);
+    }

@@ -1,51 +1,13 @@
-use Rattle.std.proofs.Common.{◌∙◌, ap, refl}
+use Rattle.std.proofs.Common.{◌∙◌, ap, refl, Err}
 use Rattle.rtcm_convert.specs.declared.fault.Fault.TheVariants.{NoEpoch, TooLong, Write}
 use Rattle.rtcm_convert.proofs.RefusalLemmas.{refused_going, refused_is, refused_only, refused_sent, refused_writer, not_refused}
+use Rattle.rtcm_convert.proofs.FaultLemmas.{never, of_finish, finish_known, sent_later, writer_after, pieces_left, feed_pieces}
+use Rattle.rtcm_convert.specs.Conversion.{LeftBy}
+use Rattle.rtcm_convert.specs.Faults.{IsFinishFault}
+use Rattle.rtcm_convert.specs.declared.report.Report.{Report}
 use Rattle.rtcm_convert.proofs.PartLemmas.{same_fault}
 use Rattle.rtcm_convert.proofs.PiecesLemmas.{not_empty, taken_then, longer_by, pieces_more, pieces_all, pieces_rest, pieces_whole, pieces_empty, pieces_long, pieces_broke, pieces_broke_at_end}
 use Rattle.rtcm_convert.proofs.converter.Converter.take_pieces.Goals as goal
-
-pub loop-piece-preserved : goal.loop-piece-preserved
-loop-piece-preserved g c =
-    let more = pieces_more (λ piece. piece.items) c.args.pieces.now c.loop-piece.piece-index c.piece-item.result c.deref.result.now (c.deref.ensures.value ∙ ap (λ v. v.items) c.piece-item.is) c.loop-piece-test.true in
-    let i = c.loop-piece.invariant in
-    let n = c.in_default-feed.ensures in
-    record {
-      came = taken_then c.args.self.now c.loop-piece.self c.feed.new.self _ _ _ _ c.deref.result.now _ more i.came n.whole;
-      taken = longer_by c.args.self.now.scan.taken c.loop-piece.self.scan.taken c.feed.new.self.scan.taken _ c.deref.result.now _ more i.taken n.going.2;
-      going = n.going.0;
-      limit = n.left.0 ∙ i.limit;
-      fine = n.device.1 ∙ i.fine;
-      unread = n.device.2 ∙ i.unread;
-      sent = λ _. n.sent;
-    }
-
-pub returns-in-Err-clause-long : goal.returns-in-Err-clause-long
-returns-in-Err-clause-long g c = λ e.
-    let more = pieces_more (λ piece. piece.items) c.args.pieces.now c.loop-piece.piece-index c.piece-item.result c.deref.result.now (c.deref.ensures.value ∙ ap (λ v. v.items) c.piece-item.is) c.loop-piece-test.true in
-    let i = c.loop-piece.invariant in
-    pieces_long c.args.self.now c.loop-piece.self c.feed.new.self _ _ _ _ i.came c.deref.result.now _ _ i.limit i.taken
-    (pieces_rest (λ piece. piece.items) c.args.pieces.now c.loop-piece.piece-index c.deref.result.now more) (c.in-Err.ensures.long (same_fault _ _ e))
-
-pub returns-in-Err-clause-write : goal.returns-in-Err-clause-write
-returns-in-Err-clause-write g c = λ e.
-    let more = pieces_more (λ piece. piece.items) c.args.pieces.now c.loop-piece.piece-index c.piece-item.result c.deref.result.now (c.deref.ensures.value ∙ ap (λ v. v.items) c.piece-item.is) c.loop-piece-test.true in
-    pieces_broke c.args.self.now c.loop-piece.self _ _ _ c.args.pieces.now c.loop-piece.piece-index c.deref.result.now c.loop-piece.invariant.came c.loop-piece-test.true more (c.in-Err.ensures.part (same_fault _ _ e))
-
-pub returns-in-Err-clause-no_epoch : goal.returns-in-Err-clause-no_epoch
-returns-in-Err-clause-no_epoch g c = λ e. absurd (not_empty c.in-Err.fault (c.in-Err.ensures.left.1 c.loop-piece.invariant.going).0 e)
-
-pub returns-clause-whole : goal.returns-clause-whole
-returns-clause-whole g c = pieces_whole c.args.self.now c.loop-piece.self c.finish.new.self _ _ _ _ c.loop-piece.invariant.came _ c.finish.result
-    (pieces_all (λ piece. piece.items) c.args.pieces.now c.loop-piece.piece-index c.loop-piece.auto.piece-index-end c.loop-piece-test.false) c.finish.ensures.whole
-
-pub returns-clause-no_epoch : goal.returns-clause-no_epoch
-returns-clause-no_epoch g c = λ e. pieces_empty c.args.self.now c.loop-piece.self c.finish.new.self _ _ _ _ c.loop-piece.invariant.came _
-    (pieces_all (λ piece. piece.items) c.args.pieces.now c.loop-piece.piece-index c.loop-piece.auto.piece-index-end c.loop-piece-test.false) (c.finish.ensures.no_epoch e)
-
-pub returns-clause-write : goal.returns-clause-write
-returns-clause-write g c = λ e. pieces_broke_at_end c.args.self.now c.loop-piece.self c.finish.new.self _ _ _ _ c.loop-piece.invariant.came c.args.pieces.now
-    (pieces_all (λ piece. piece.items) c.args.pieces.now c.loop-piece.piece-index c.loop-piece.auto.piece-index-end c.loop-piece-test.false) (c.finish.ensures.part e)
 
 pub returns-in-Some : goal.returns-in-Some
 returns-in-Some g c =
@@ -63,11 +25,51 @@ returns-in-Some g c =
       left = ((refl, λ go. absurd (refused_going v f e go)), tt);
     }
 
-pub returns-in-Err-clause-refused : goal.returns-in-Err-clause-refused
-returns-in-Err-clause-refused g c = not_refused c.args.self.now _ c.in_default.ensures
+pub loop-piece-preserved : goal.loop-piece-preserved
+loop-piece-preserved g c =
+    let more = pieces_more (λ piece. piece.items) c.args.pieces.now c.loop-piece.piece-index c.piece-item.result c.deref.result.now (c.deref.ensures.value ∙ ap (λ v. v.items) c.piece-item.is) c.loop-piece-test.true in
+    let i = c.loop-piece.invariant in
+    let n = c.in_default-feed.ensures in
+    record {
+      came = taken_then c.args.self.now c.loop-piece.self c.feed.new.self _ _ _ _ c.deref.result.now _ more i.came n.whole;
+      taken = longer_by c.args.self.now.scan.taken c.loop-piece.self.scan.taken c.feed.new.self.scan.taken _ c.deref.result.now _ more i.taken n.going.2;
+      going = n.going.0;
+      limit = n.left.0 ∙ i.limit;
+      fine = n.device.1 ∙ i.fine;
+      unread = n.device.2 ∙ i.unread;
+      sent = λ _. n.sent;
+    }
 
-pub returns-in-Err-clause-whole : goal.returns-in-Err-clause-whole
-returns-in-Err-clause-whole g c = tt
+pub returns-in-Err : goal.returns-in-Err
+returns-in-Err g c =
+    let i = c.loop-piece.invariant in
+    let n = c.in-Err.ensures in
+    let more = pieces_more (λ piece. piece.items) c.args.pieces.now c.loop-piece.piece-index c.piece-item.result c.deref.result.now (c.deref.ensures.value ∙ ap (λ v. v.items) c.piece-item.is) c.loop-piece-test.true in
+    record {
+      refused = not_refused c.args.self.now _ c.in_default.ensures;
+      whole = tt;
+      no_epoch = λ e. absurd (not_empty c.in-Err.fault (c.in-Err.ensures.left.1 c.loop-piece.invariant.going).0 e);
+      long = λ e. pieces_long c.args.self.now c.loop-piece.self c.feed.new.self _ _ _ _ i.came c.deref.result.now _ _ i.limit i.taken (pieces_rest (λ piece. piece.items) c.args.pieces.now c.loop-piece.piece-index c.deref.result.now more) (c.in-Err.ensures.long (same_fault _ _ e));
+      write = λ e. pieces_broke c.args.self.now c.loop-piece.self _ _ _ c.args.pieces.now c.loop-piece.piece-index c.deref.result.now c.loop-piece.invariant.came c.loop-piece-test.true more (c.in-Err.ensures.part (same_fault _ _ e));
+      sent = sent_later {A = Report} (Err c.in-Err.fault) _ _ _ i.sent n.sent;
+      device = writer_after {A = Report} (Err c.in-Err.fault) c.args.writer.now c.loop-piece.writer c.feed.new.writer i.fine i.unread n.device;
+      left = ((n.left.0 ∙ i.limit, λ _. (let l = n.left.1 i.going in (feed_pieces c.in-Err.fault l.0, l.1))), tt);
+    }
 
-pub returns-clause-refused : goal.returns-clause-refused
-returns-clause-refused g c = not_refused c.args.self.now _ c.in_default.ensures
+pub returns : goal.returns
+returns g c =
+    let i = c.loop-piece.invariant in
+    let n = c.finish.ensures in
+    let r = c.finish.result in
+    let l = n.left.0.1 i.going in
+    let all = pieces_all (λ piece. piece.items) c.args.pieces.now c.loop-piece.piece-index c.loop-piece.auto.piece-index-end c.loop-piece-test.false in
+    record {
+      refused = not_refused c.args.self.now _ c.in_default.ensures;
+      whole = pieces_whole c.args.self.now c.loop-piece.self c.finish.new.self _ _ _ _ c.loop-piece.invariant.came _ c.finish.result all c.finish.ensures.whole;
+      no_epoch = λ e. pieces_empty c.args.self.now c.loop-piece.self c.finish.new.self _ _ _ _ c.loop-piece.invariant.came _ all (c.finish.ensures.no_epoch e);
+      long = λ h. absurd (never IsFinishFault (λ x. LeftBy x c.finish.new.self) of_finish finish_known r l TooLong refl h);
+      write = λ e. pieces_broke_at_end c.args.self.now c.loop-piece.self c.finish.new.self _ _ _ _ c.loop-piece.invariant.came c.args.pieces.now all (c.finish.ensures.part e);
+      sent = sent_later r _ _ _ i.sent n.sent;
+      device = writer_after r c.args.writer.now c.loop-piece.writer c.finish.new.writer i.fine i.unread n.device;
+      left = ((n.left.0.0 ∙ i.limit, λ _. pieces_left _ r l), n.left.1);
+    }
