@@ -25,6 +25,7 @@ use crate::front::{Decision, examine, judge, pass_others};
 use arrayvec::ArrayVec;
 use rtcm_bits::{LONGEST_FRAME, LONGEST_MESSAGE, Window};
 use std::alloc::Global;
+use std::fmt;
 use std::marker::Model;
 use thiserror::Error;
 
@@ -33,7 +34,6 @@ pub const MOST_BYTES: u64 = 1 << 48;
 
 /// Why a call of a framer failed. The framer is then unchanged. It is displayed by its name.
 #[derive(Clone, Copy, Debug, PartialEq, Eq, Error)]
-#[error("{:?}", self)]
 pub enum ScanFault {
     /// Out of memory: the held bytes can't be allocated.
     Memory,
@@ -43,6 +43,12 @@ pub enum ScanFault {
     TooLong,
     /// The stream has ended.
     Ended,
+}
+
+impl fmt::Display for ScanFault {
+    fn fmt<W: fmt::Write>(&self, f: &mut fmt::Formatter<W>) -> fmt::Result {
+        fmt::Debug::fmt(self, f)
+    }
 }
 
 /// A frame of a stream.
