@@ -1,13 +1,12 @@
 //! A conversion by the definitions, over whole lists, for streams of four known messages: their
 //! frames, the looks at each byte, the report and the file.
-use super::FILE;
-use super::script::{CallResult, Good};
+use super::{ONE, file};
 use arrayvec::ArrayVec;
 use rtcm_bits::crc24q;
 use rtcm_convert::{Fault, Report};
 
 /// The frames of a message 1005, 1006, 1077 and 1074 of station 2003, one after the other.
-pub const FOUR_FRAMES: [u8; SIZE] = [
+const FOUR_FRAMES: &[u8; SIZE] = &[
     0xD3, 0x00, 0x13, 0x3E, 0xD7, 0xD3, 0x02, 0x02, 0x98, 0x0E, 0xDE, 0xEF, 0x34, 0xB4, 0xBD, 0x62,
     0xAC, 0x09, 0x41, 0x98, 0x6F, 0x33, 0x36, 0x0B, 0x98, 0xD3, 0x00, 0x15, 0x3E, 0xE7, 0xD3, 0x02,
     0x02, 0x98, 0x0E, 0xDE, 0xEF, 0x34, 0xB4, 0xBD, 0x62, 0xAC, 0x09, 0x41, 0x98, 0x6F, 0x33, 0x3A,
@@ -20,6 +19,11 @@ pub const FOUR_FRAMES: [u8; SIZE] = [
 ];
 
 pub const SIZE: usize = 130;
+
+// The bytes are named here alone, since each place that names them carries them.
+pub fn four_frames() -> &'static [u8; SIZE] {
+    FOUR_FRAMES
+}
 
 /// The offset of each of them, and the end.
 static PLACES: [usize; 5] = [0, 25, 52, 94, SIZE];
@@ -71,7 +75,7 @@ fn is_frame(rest: &[u8], size: usize) -> bool {
 /// Whether a frame is that of the four with this number.
 fn is_known(frame: &[u8], number: usize) -> bool {
     match (PLACES.get(number), PLACES.get(number.saturating_add(1))) {
-        (Some(from), Some(to)) => FOUR_FRAMES.get(*from..*to) == Some(frame),
+        (Some(from), Some(to)) => four_frames().get(*from..*to) == Some(frame),
         _ => false,
     }
 }
@@ -113,15 +117,25 @@ impl DefinedConversion {
     }
 
     /// The undecided bytes, the looks, and the most at one byte.
-    pub fn counts(&self, size: usize) -> Good {
+    pub fn counts(&self, size: usize) -> (usize, u64, u16) {
+        let held = size.saturating_sub(self.decided);
+        (held, self.examined(), self.most())
+    }
+
+    fn examined(&self) -> u64 {
         let mut examined = 0u64;
-        let mut most = 0;
         for looks in &self.looks {
             examined = examined.saturating_add(u64::from(*looks));
+        }
+        examined
+    }
+
+    fn most(&self) -> u16 {
+        let mut most = 0;
+        for looks in &self.looks {
             most = most.max(*looks);
         }
-        let held = size.saturating_sub(self.decided) as u64;
-        Good::Counts(held, examined, u64::from(most))
+        most
     }
 
     /// Whether it has an epoch. Messages 1077 and 1074 have the same time, and each ends its epoch:
@@ -131,58 +145,95 @@ impl DefinedConversion {
     }
 
     /// The result of the end of the stream.
-    pub fn result(&self, size: usize) -> CallResult {
-        if !self.has_epoch() {
-            return Err(Fault::NoEpoch);
+    pub fn result(&self, size: usize) -> Result<Report, Fault> {
+        if self.has_epoch() {
+            Ok(self.report(size as u64))
+        } else {
+            Err(Fault::NoEpoch)
         }
-        Ok(Good::Made(Report {
-            bytes: size as u64,
-            skipped_bytes: (size as u64).saturating_sub(self.framed),
-            frames: self.frames,
-            faulty: 0,
-            station: u64::from(self.has[0]) + u64::from(self.has[1]),
-            other: 0,
-            ignored: 0,
-            late: u64::from(self.has[2] && self.has[3]),
-            past: 0,
-            taken: 1,
-            skipped: 0,
-            repeated: 0,
-            crowded: 0,
-            epochs: 1,
-        }))
     }
 
-    /// The file, of GPS 1C alone.
-    pub fn file(&self) -> Text {
-        let mut text = Text::new();
-        if !self.has_epoch() {
-            return text;
+    fn report(&self, bytes: u64) -> Report {
+        Report {
+            bytes,
+            skipped_bytes: bytes.saturating_sub(self.framed),
+            frames: self.frames,
+            station: self.stations(),
+            late: u64::from(self.has[2] && self.has[3]),
+            ..ONE
         }
-        let file = FILE.as_bytes();
-        put(&mut text, file.get(..567));
+    }
+
+    fn stations(&self) -> u64 {
+        u64::from(self.has[0]) + u64::from(self.has[1])
+    }
+
+    /// The lines of the file with the position, the height and the cell.
+    fn position(&self) -> &'static [u8] {
         if self.has[0] || self.has[1] {
-            put(&mut text, Some(POSITION.as_bytes()));
+            POSITION.as_bytes()
         } else {
-            put(&mut text, file.get(567..648));
+            piece(567, 648)
         }
+    }
+
+    fn height(&self) -> &'static [u8] {
         if self.has[1] {
-            put(&mut text, Some(HEIGHT.as_bytes()));
+            HEIGHT.as_bytes()
         } else {
-            put(&mut text, file.get(648..729));
+            piece(648, 729)
         }
-        put(&mut text, file.get(729..1_170));
+    }
+
+    fn cell(&self) -> &'static [u8] {
         if self.has[2] {
-            put(&mut text, file.get(1_170..1_236));
+            piece(1_170, 1_236)
         } else {
-            put(&mut text, Some(COARSE.as_bytes()));
+            COARSE.as_bytes()
+        }
+    }
+
+    /// Puts the file, of GPS 1C alone.
+    fn put_file(&self, text: &mut Text) {
+        put(text, piece(0, 567));
+        put(text, self.position());
+        put(text, self.height());
+        put(text, piece(729, 1_170));
+        put(text, self.cell());
+    }
+
+    fn file(&self) -> Text {
+        let mut text = Text::new();
+        if self.has_epoch() {
+            self.put_file(&mut text);
         }
         text
     }
+
+    /// Whether this is the file.
+    pub fn is_file(&self, bytes: &[u8]) -> bool {
+        let text = self.file();
+        let is_file = text.as_slice() == bytes;
+        drop(text);
+        is_file
+    }
+
+    /// The length of the file.
+    pub fn length(&self) -> usize {
+        let text = self.file();
+        let length = text.len();
+        drop(text);
+        length
+    }
 }
 
-fn put(text: &mut Text, bytes: Option<&[u8]>) {
-    let _ = text.try_extend_from_slice(bytes.unwrap_or(&[]));
+/// A part of the known file.
+pub fn piece(from: usize, to: usize) -> &'static [u8] {
+    file().get(from..to).unwrap_or(&[])
+}
+
+fn put(text: &mut Text, bytes: &[u8]) {
+    let _ = text.try_extend_from_slice(bytes);
 }
 
 /// These bytes by the definitions, as a whole stream or as its start.

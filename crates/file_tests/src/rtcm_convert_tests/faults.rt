@@ -1,6 +1,6 @@
 //! The faults of a converter: setups, limits, writers and readers that fail.
-use super::script::{Call, Good, IDLE, OPTIONS, Options, Script, Way, first_broken};
-use super::{FED, POINT};
+use super::Frame;
+use super::script::{Call, IDLE, OPTIONS, Options, Script, Way, all_hold};
 use rtcm_bits::devices::{ReadEnd, WriteEnd};
 use rtcm_convert::Fault;
 use rtcm_scan::MOST_BYTES;
@@ -10,10 +10,10 @@ use std::io::ErrorKind;
 /// A stream without an epoch, here an empty one.
 const EMPTY: Script = Script {
     way: Way::Calls(&[
-        (Call::Feed(0, 0), FED),
-        (Call::Finish, Err(Fault::NoEpoch)),
-        (Call::Finish, Err(Fault::Finished)),
-        (Call::Feed(0, 0), Err(Fault::Finished)),
+        Call::Feed(0, 0, Ok(())),
+        Call::Finish(Err(Fault::NoEpoch)),
+        Call::Finish(Err(Fault::Finished)),
+        Call::Feed(0, 0, Err(Fault::Finished)),
     ]),
     ..IDLE
 };
@@ -21,9 +21,9 @@ const EMPTY: Script = Script {
 /// A limit, and at least one byte more.
 const LIMITED: Script = Script {
     way: Way::Calls(&[
-        (Call::Feed(0, 43), Err(Fault::TooLong)),
-        (Call::Feed(0, 0), Err(Fault::Failed)),
-        (Call::Finish, Err(Fault::Failed)),
+        Call::Feed(0, 43, Err(Fault::TooLong)),
+        Call::Feed(0, 0, Err(Fault::Failed)),
+        Call::Finish(Err(Fault::Failed)),
     ]),
     ..IDLE
 };
@@ -42,31 +42,31 @@ static STREAMS: [Script; 12] = [
     EMPTY,
     // Of a station message alone.
     Script {
-        frames: &[&POINT],
+        frames: &[Frame::Point],
         way: Way::Calls(&[
-            (Call::Feed(0, 25), FED),
-            (Call::Finish, Err(Fault::NoEpoch)),
-            (Call::Looks, Ok(Good::Counts(0, 44, 2))),
-            (Call::Finish, Err(Fault::Finished)),
-            (Call::Feed(0, 25), Err(Fault::Finished)),
+            Call::Feed(0, 25, Ok(())),
+            Call::Finish(Err(Fault::NoEpoch)),
+            Call::Looks(0, 44, 2),
+            Call::Finish(Err(Fault::Finished)),
+            Call::Feed(0, 25, Err(Fault::Finished)),
         ]),
         ..EMPTY
     },
     // Of a truncated frame.
     Script {
         way: Way::Calls(&[
-            (Call::Feed(0, 39), FED),
-            (Call::Finish, Err(Fault::NoEpoch)),
-            (Call::Looks, Ok(Good::Counts(0, 82, 3))),
+            Call::Feed(0, 39, Ok(())),
+            Call::Finish(Err(Fault::NoEpoch)),
+            Call::Looks(0, 82, 3),
         ]),
         ..EMPTY
     },
     Script {
         way: Way::Calls(&[
-            (Call::Feed(0, 41), FED),
-            (Call::Finish, Err(Fault::NoEpoch)),
-            (Call::Finish, Err(Fault::Finished)),
-            (Call::Run, Err(Fault::Finished)),
+            Call::Feed(0, 41, Ok(())),
+            Call::Finish(Err(Fault::NoEpoch)),
+            Call::Finish(Err(Fault::Finished)),
+            Call::Run(Err(Fault::Finished)),
         ]),
         ..IDLE
     },
@@ -77,9 +77,9 @@ static STREAMS: [Script; 12] = [
         },
         frames: &[],
         way: Way::Calls(&[
-            (Call::Feed(0, 11), Err(Fault::TooLong)),
-            (Call::Feed(0, 0), Err(Fault::Failed)),
-            (Call::Finish, Err(Fault::Failed)),
+            Call::Feed(0, 11, Err(Fault::TooLong)),
+            Call::Feed(0, 0, Err(Fault::Failed)),
+            Call::Finish(Err(Fault::Failed)),
         ]),
         ..LIMITED
     },
@@ -127,15 +127,15 @@ static STREAMS: [Script; 12] = [
 
 #[test]
 fn streams_and_setups_that_are_refused(rt: HostRuntime) {
-    assert_eq!(rt; first_broken(rt.alloc(), &STREAMS), None);
+    assert!(rt; all_hold(rt.alloc(), &STREAMS));
 }
 
 /// A writer that fails within the file of the first message.
 const WRITER: Script = Script {
     full: WriteEnd::Fails(ErrorKind::Interrupted),
     way: Way::Calls(&[
-        (Call::Feed(0, 42), Err(Fault::Write)),
-        (Call::Feed(0, 42), Err(Fault::Failed)),
+        Call::Feed(0, 42, Err(Fault::Write)),
+        Call::Feed(0, 42, Err(Fault::Failed)),
     ]),
     failures: (0, 1),
     room: 0,
@@ -146,9 +146,9 @@ const WRITER: Script = Script {
 const READER: Script = Script {
     then: ReadEnd::Fails(ErrorKind::Other),
     way: Way::Calls(&[
-        (Call::Run, Err(Fault::Read)),
-        (Call::Run, Err(Fault::Failed)),
-        (Call::Feed(0, 42), Err(Fault::Failed)),
+        Call::Run(Err(Fault::Read)),
+        Call::Run(Err(Fault::Failed)),
+        Call::Feed(0, 42, Err(Fault::Failed)),
     ]),
     failures: (1, 0),
     asked: (1_029, 1_029),
@@ -203,7 +203,7 @@ static DEVICES: [Script; 10] = [
 
 #[test]
 fn devices_that_fail(rt: HostRuntime) {
-    assert_eq!(rt; first_broken(rt.alloc(), &DEVICES), None);
+    assert!(rt; all_hold(rt.alloc(), &DEVICES));
 }
 
 static TEXTS: [(Fault, &str); 8] = [
@@ -217,20 +217,27 @@ static TEXTS: [(Fault, &str); 8] = [
     (Fault::NoEpoch, "NoEpoch"),
 ];
 
-#[test]
-fn texts_of_faults(rt: HostRuntime) {
-    for (fault, want) in &TEXTS {
-        assert!(rt; prints(rt.alloc(), *fault, want), "{want}");
-    }
-}
-
-fn prints(alloc: Global, fault: Fault, want: &str) -> bool {
-    match format!(in alloc; "{fault}") {
-        Ok(text) => {
-            let is = text.as_str() == want;
-            drop(text);
-            is
+fn has_text(alloc: Global, fault: Fault, text: &str) -> bool {
+    match fault.to_string(alloc) {
+        Ok(said) => {
+            let is_text = said.as_str() == text;
+            drop(said);
+            is_text
         }
         Err(_) => false,
     }
+}
+
+fn have_texts(alloc: Global) -> bool {
+    for (fault, text) in &TEXTS {
+        if !has_text(alloc, *fault, text) {
+            return false;
+        }
+    }
+    true
+}
+
+#[test]
+fn texts_of_faults(rt: HostRuntime) {
+    assert!(rt; have_texts(rt.alloc()));
 }

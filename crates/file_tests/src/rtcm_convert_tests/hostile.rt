@@ -1,108 +1,121 @@
 //! Streams truncated and damaged at each byte: file, report, held bytes and looks of a converter,
 //! before the end of a stream and after it, agree with the definitions.
-use super::by_definition::{DefinedConversion, FOUR_FRAMES, SIZE, Text, defined_conversion};
-use super::script::{CallResult, Good, OPTIONS, converter, feed, finish, looks};
-use super::{FED, FILE, ONE};
+use super::ONE;
+use super::by_definition::{DefinedConversion, SIZE, defined_conversion, four_frames, piece};
+use super::script::{OPTIONS, converter, feed, finish, looks, writer};
 use rtcm_bits::Counted;
-use rtcm_bits::devices::{ShortWriter, WriteEnd};
+use rtcm_bits::devices::WriteEnd;
 use rtcm_convert::{Converter, Fault, Report};
 use std::alloc::Global;
+use std::io::Write;
 
-/// The last result, the counts, and whether the file is the expected one.
-type Comes = (CallResult, Good, bool);
-
-/// Feeds the bytes in pieces of a size, and ends the stream or not.
-fn take<W: std::io::Write>(
-    converter: &mut Converter,
-    bytes: &[u8],
+/// A stream, the size of the pieces in which it is fed, and whether it is ended.
+#[derive(Clone, Copy)]
+struct Fed<'a> {
+    bytes: &'a [u8],
     size: usize,
     ends: bool,
+}
+
+/// Feeds the bytes in their pieces, and ends the stream or not. Returns whether the results are
+/// those of the definitions.
+fn takes<W: Write>(
+    converter: &mut Converter,
+    fed: &Fed,
+    defined: &DefinedConversion,
     writer: &mut Counted<W>,
-) -> CallResult {
-    let fed = feed(converter, bytes, size, writer)?;
-    if !ends {
-        return Ok(fed);
+) -> bool {
+    if feed(converter, fed.bytes, fed.size, writer).is_err() {
+        return false;
     }
-    Ok(Good::Made(finish(converter, writer)?))
+    !fed.ends || finish(converter, writer) == defined.result(fed.bytes.len())
 }
 
-fn comes_of(
-    converter: &mut Converter,
-    bytes: &[u8],
-    size: usize,
-    ends: bool,
-    file: &Text,
-) -> Comes {
-    let mut writer = Counted::new(ShortWriter::new(Text::new(), 4096, 4096, WriteEnd::TakesNone));
-    let result = take(converter, bytes, size, ends, &mut writer);
+/// Whether the file, the results and the counts are those of the definitions.
+fn comes(converter: &mut Converter, fed: &Fed, defined: &DefinedConversion) -> bool {
+    let mut writer = writer(4096, 4096, WriteEnd::TakesNone);
+    let takes = takes(converter, fed, defined, &mut writer);
     let text = writer.into_inner().into_inner();
-    (result, looks(converter), text.as_slice() == file.as_slice())
+    let is_file = defined.is_file(text.as_slice());
+    drop(text);
+    takes && is_file && looks(converter) == defined.counts(fed.bytes.len())
 }
 
-fn by_converter(
+fn is_converted(alloc: Global, fed: &Fed, defined: &DefinedConversion) -> bool {
+    match converter(alloc, &OPTIONS) {
+        Ok(mut converter) => {
+            let comes = comes(&mut converter, fed, defined);
+            drop(converter);
+            comes
+        }
+        Err(_) => false,
+    }
+}
+
+fn is_converted_in(
     alloc: Global,
     bytes: &[u8],
     size: usize,
     ends: bool,
-    file: &Text,
-) -> Option<Comes> {
-    match converter(alloc, OPTIONS) {
-        Ok(mut converter) => {
-            let comes = comes_of(&mut converter, bytes, size, ends, file);
-            drop(converter);
-            Some(comes)
-        }
-        Err(_) => None,
-    }
+    defined: &DefinedConversion,
+) -> bool {
+    is_converted(alloc, &Fed { bytes, size, ends }, defined)
 }
 
-fn wanted(defined: &DefinedConversion, size: usize, ends: bool) -> Comes {
-    let result = if ends { defined.result(size) } else { FED };
-    (result, defined.counts(size), true)
+/// Whether a stream agrees in pieces of one byte and of two, before its end or after it.
+fn agrees_at(alloc: Global, bytes: &[u8], ends: bool) -> bool {
+    let defined = defined_conversion(bytes, ends);
+    is_converted_in(alloc, bytes, 1, ends, &defined)
+        && is_converted_in(alloc, bytes, 2, ends, &defined)
 }
 
-/// Whether a stream agrees in pieces of one byte and of two, before its end and after it.
 fn agrees(alloc: Global, bytes: &[u8]) -> bool {
-    for ends in [false, true] {
-        let defined = defined_conversion(bytes, ends);
-        let want = Some(wanted(&defined, bytes.len(), ends));
-        let file = defined.file();
-        for size in [1, 2] {
-            if by_converter(alloc, bytes, size, ends, &file) != want {
-                return false;
-            }
+    agrees_at(alloc, bytes, false) && agrees_at(alloc, bytes, true)
+}
+
+/// Whether the truncated streams that begin there agree, with each end.
+fn agree_from(alloc: Global, from: usize) -> bool {
+    for end in from..=SIZE {
+        if !agrees(alloc, four_frames().get(from..end).unwrap_or(&[])) {
+            return false;
         }
     }
     true
 }
 
-/// The end of the first truncated stream that doesn't agree.
-fn first_wrong_end(alloc: Global, from: usize) -> Option<usize> {
-    for end in from..=SIZE {
-        if !agrees(alloc, FOUR_FRAMES.get(from..end).unwrap_or(&[])) {
-            return Some(end);
-        }
-    }
-    None
-}
-
 /// Whether the stream with this byte damaged agrees, and its third frame alone.
 fn agrees_damaged(alloc: Global, place: usize) -> bool {
-    let mut damaged = FOUR_FRAMES;
-    if let Some(byte) = damaged.get_mut(place) {
-        *byte = !*byte;
+    let mut damaged = *four_frames();
+    if place < SIZE {
+        damaged[place] = !damaged[place];
     }
     agrees(alloc, &damaged) && agrees(alloc, &damaged[52..94])
 }
 
+fn agree_damaged(alloc: Global) -> bool {
+    for place in 0..SIZE {
+        if !agrees_damaged(alloc, place) {
+            return false;
+        }
+    }
+    true
+}
+
+static STARTS: [usize; 4] = [0, 25, 52, 94];
+
+fn agree_cut(alloc: Global) -> bool {
+    for from in &STARTS {
+        if !agree_from(alloc, *from) {
+            return false;
+        }
+    }
+    true
+}
+
 #[test]
 fn cut_and_damaged_streams_are_converted_by_the_definitions(rt: HostRuntime) {
-    for from in [0, 25, 52, 94] {
-        assert_eq!(rt; first_wrong_end(rt.alloc(), from), None, "from {from}");
-    }
-    for place in 0..SIZE {
-        assert!(rt; agrees_damaged(rt.alloc(), place), "damaged at {place}");
-    }
+    assert!(rt; agree_cut(rt.alloc()));
+    assert!(rt; agree_damaged(rt.alloc()));
 }
 
 /// The report of the four frames.
@@ -114,40 +127,94 @@ const FOUR: Report = Report {
     ..ONE
 };
 
-/// The counts, the result and the length of the file of a part of the four frames by the
-/// definitions.
-fn expected(from: usize, to: usize, has_ended: bool) -> (Good, CallResult, usize) {
-    let bytes = FOUR_FRAMES.get(from..to).unwrap_or(&[]);
-    let defined = defined_conversion(bytes, has_ended);
-    let file = defined.file();
-    (
-        defined.counts(bytes.len()),
-        defined.result(bytes.len()),
-        file.len(),
-    )
+/// A part of the four frames, whether it is the whole stream, and by the definitions its counts,
+/// its result and the length of its file.
+struct Part {
+    from: usize,
+    to: usize,
+    has_ended: bool,
+    counts: (usize, u64, u16),
+    result: Result<Report, Fault>,
+    length: usize,
+}
+
+static PARTS: [Part; 6] = [
+    Part {
+        from: 0,
+        to: 130,
+        has_ended: true,
+        counts: (0, 236, 2),
+        result: Ok(FOUR),
+        length: 1_236,
+    },
+    Part {
+        from: 52,
+        to: 94,
+        has_ended: true,
+        counts: (0, 78, 2),
+        result: Ok(ONE),
+        length: 1_236,
+    },
+    Part {
+        from: 0,
+        to: 25,
+        has_ended: true,
+        counts: (0, 44, 2),
+        result: Err(Fault::NoEpoch),
+        length: 0,
+    },
+    Part {
+        from: 0,
+        to: 24,
+        has_ended: false,
+        counts: (24, 24, 1),
+        result: Err(Fault::NoEpoch),
+        length: 0,
+    },
+    Part {
+        from: 0,
+        to: 24,
+        has_ended: true,
+        counts: (0, 65, 3),
+        result: Err(Fault::NoEpoch),
+        length: 0,
+    },
+    Part {
+        from: 52,
+        to: 91,
+        has_ended: true,
+        counts: (0, 82, 3),
+        result: Err(Fault::NoEpoch),
+        length: 0,
+    },
+];
+
+fn is_defined(part: &Part) -> bool {
+    let bytes = four_frames().get(part.from..part.to).unwrap_or(&[]);
+    let defined = defined_conversion(bytes, part.has_ended);
+    defined.counts(bytes.len()) == part.counts
+        && defined.result(bytes.len()) == part.result
+        && defined.length() == part.length
+}
+
+fn are_defined() -> bool {
+    for part in &PARTS {
+        if !is_defined(part) {
+            return false;
+        }
+    }
+    true
+}
+
+/// Whether the third frame alone has the known file.
+fn has_known_file() -> bool {
+    let frame = four_frames().get(52..94).unwrap_or(&[]);
+    defined_conversion(frame, true).is_file(piece(0, 1_236))
 }
 
 /// The definitions themselves, by numbers counted by hand.
 #[test]
 fn the_definitions_are_right(rt: HostRuntime) {
-    let none: CallResult = Err(Fault::NoEpoch);
-    let rows: [((usize, usize, bool), (Good, CallResult, usize)); 6] = [
-        (
-            (0, 130, true),
-            (Good::Counts(0, 236, 2), Ok(Good::Made(FOUR)), 1_236),
-        ),
-        (
-            (52, 94, true),
-            (Good::Counts(0, 78, 2), Ok(Good::Made(ONE)), 1_236),
-        ),
-        ((0, 25, true), (Good::Counts(0, 44, 2), none, 0)),
-        ((0, 24, false), (Good::Counts(24, 24, 1), none, 0)),
-        ((0, 24, true), (Good::Counts(0, 65, 3), none, 0)),
-        ((52, 91, true), (Good::Counts(0, 82, 3), none, 0)),
-    ];
-    for ((from, to, has_ended), want) in rows {
-        assert_eq!(rt; expected(from, to, has_ended), want, "{from} to {to}");
-    }
-    let third = defined_conversion(&FOUR_FRAMES[52..94], true);
-    assert!(rt; FILE.as_bytes().get(..1_236) == Some(third.file().as_slice()));
+    assert!(rt; are_defined());
+    assert!(rt; has_known_file());
 }

@@ -2,8 +2,8 @@
 //!
 //! Values with a destructor, such as a converter or a device, make proofs slow. So one function
 //! makes and drops each of them, and a test is a table of scripts.
-use super::{FILE, FULL};
-use arrayvec::ArrayVec;
+use super::by_definition::Text;
+use super::{Frame, bytes_of, file};
 use gnss_obs::System;
 use obs_epoch::{Gather, Plan};
 use rinex_file::{HeaderTexts, Texts};
@@ -29,7 +29,7 @@ pub const OPTIONS: Options = Options {
     station: None,
 };
 
-const TEXTS: Texts<'static> = Texts {
+static TEXTS: Texts<'static> = Texts {
     run_by: "",
     date: "20240204 000001 UTC",
     marker: "",
@@ -43,46 +43,33 @@ const TEXTS: Texts<'static> = Texts {
     ant_type: "",
 };
 
-/// A call of a converter.
-#[derive(Clone, Copy)]
+/// A call of a converter, with its result.
 pub enum Call {
     /// Feeds the bytes of the stream from one offset to another.
-    Feed(usize, usize),
+    Feed(usize, usize, Result<(), Fault>),
     /// Reads to the end.
-    Run,
-    Finish,
+    Run(Result<Report, Fault>),
+    Finish(Result<Report, Fault>),
     /// The numbers of bytes held, of all looks, and of those at one byte.
-    Looks,
+    Looks(usize, u64, u16),
     /// The numbers of cells of GPS and of Galileo that are held, and of lock records.
-    Kept,
+    Kept(usize, usize, usize),
 }
-
-/// The result of a successful call.
-#[derive(Clone, Copy, Debug, PartialEq, Eq)]
-pub enum Good {
-    Fed,
-    Made(Report),
-    Counts(u64, u64, u64),
-}
-
-pub type CallResult = Result<Good, Fault>;
 
 /// The calls that make a file.
-#[derive(Clone, Copy)]
 pub enum Way {
-    /// A converter, by these calls with these results.
-    Calls(&'static [(Call, CallResult)]),
-    Stream(CallResult),
+    /// A converter, by these calls.
+    Calls(&'static [Call]),
+    Stream(Result<Report, Fault>),
     /// In pieces, of the bytes of the stream that the reader has.
-    Pieces(CallResult),
+    Pieces(Result<Report, Fault>),
 }
 
 /// The calls, the devices, and the expected outcome.
-#[derive(Clone, Copy)]
 pub struct Script {
     pub options: Options,
     /// The start of the stream, which zeros follow.
-    pub frames: &'static [&'static [u8]],
+    pub frames: &'static [Frame],
     /// The number of bytes of the stream that the reader has, and what it does then.
     pub given: usize,
     pub then: ReadEnd,
@@ -103,7 +90,7 @@ pub struct Script {
 /// No call, and no failure of a device.
 pub const IDLE: Script = Script {
     options: OPTIONS,
-    frames: &[&FULL],
+    frames: &[Frame::Full],
     given: 0,
     then: ReadEnd::Ends,
     room: 1_500,
@@ -115,159 +102,146 @@ pub const IDLE: Script = Script {
     sent: 0,
 };
 
-/// The index of the first call with another result, and that result.
-type Broken = Option<(usize, CallResult)>;
+type Reader<'a> = Counted<PieceReader<'a>>;
 
-/// The failures of reader and writer, the sizes of the last and the largest buffer of a read, the
-/// number of bytes written, and whether they are a prefix of the file.
-type Left = ((u64, u64), (usize, usize), usize, bool);
+type Writer = Counted<ShortWriter<Text>>;
 
-/// The index of the first script with another outcome, in pieces of one byte, of two, or whole,
-/// with the size of the pieces and the outcome.
-pub fn first_broken(alloc: Global, scripts: &[Script]) -> Option<(usize, usize, (Broken, Left))> {
-    for (place, script) in scripts.iter().enumerate() {
-        for size in [1, 2, 1_000] {
-            let comes = comes_of(alloc, script, size);
-            if comes != wanted(script) {
-                return Some((place, size, comes));
-            }
-        }
-    }
-    None
+/// A writer that accepts a number of bytes in a write and in all.
+pub fn writer(each: usize, all: usize, full: WriteEnd) -> Writer {
+    Counted::new(ShortWriter::new(Text::new(), each, all, full))
 }
 
-fn wanted(script: &Script) -> (Broken, Left) {
-    let broken = match script.fault {
-        Some(fault) => Some((0, Err(fault))),
-        None => None,
-    };
-    (broken, (script.failures, script.asked, script.sent, true))
+/// Whether each script has its outcome, in pieces of one byte, of two, and whole.
+pub fn all_hold(alloc: Global, scripts: &[Script]) -> bool {
+    for script in scripts {
+        if !(holds(alloc, script, 1) && holds(alloc, script, 2) && holds(alloc, script, 1_000)) {
+            return false;
+        }
+    }
+    true
 }
 
 /// Makes the devices, runs the script over them, and drops them.
-fn comes_of(alloc: Global, script: &Script, size: usize) -> (Broken, Left) {
+fn holds(alloc: Global, script: &Script, size: usize) -> bool {
     let stream = stream_of(script.frames);
-    let bytes = stream.get(..script.given).unwrap_or(&[]);
     let sizes = [size];
+    let bytes = stream.get(..script.given).unwrap_or(&[]);
     let mut reader = Counted::new(PieceReader::new(bytes, &sizes, script.then));
-    let text = ArrayVec::<u8, 1_500>::new();
-    let mut writer = Counted::new(ShortWriter::new(text, 7, script.room, script.full));
-    let broken = take(alloc, script, &stream, size, &mut reader, &mut writer);
-    let failures = (reader.failures(), writer.failures());
-    let widest = reader.widest();
-    let asked = (asked_last(reader), widest);
-    let sent = writer.into_inner().into_inner();
-    let length = sent.as_slice().len();
-    let begins = FILE.as_bytes().starts_with(sent.as_slice());
-    drop(sent);
-    (broken, (failures, asked, length, begins))
+    let mut writer = writer(7, script.room, script.full);
+    let goes = goes(alloc, script, &stream, size, &mut reader, &mut writer);
+    let has_read = has_read(reader, script);
+    let has_written = has_written(writer, script);
+    goes && has_read && has_written
 }
 
 /// These bytes, one after the other, followed by zeros.
-fn stream_of(frames: &[&[u8]]) -> [u8; 1_000] {
+fn stream_of(frames: &[Frame]) -> [u8; 1_000] {
     let mut stream = [0; 1_000];
-    let mut from: usize = 0;
+    let mut from = 0;
     for frame in frames {
-        for (place, byte) in stream.iter_mut().skip(from).zip(frame.iter()) {
-            *place = *byte;
-        }
-        from = from.saturating_add(frame.len());
+        from = copy(&mut stream, from, bytes_of(*frame));
     }
     stream
 }
 
-fn asked_last(reader: Counted<PieceReader>) -> usize {
-    let device = reader.into_inner();
-    let asked = device.asked();
-    drop(device);
-    asked
+/// Copies bytes to an offset of the stream, and returns the offset after them.
+fn copy(stream: &mut [u8; 1_000], from: usize, frame: &[u8]) -> usize {
+    for (place, byte) in stream.iter_mut().skip(from).zip(frame.iter()) {
+        *place = *byte;
+    }
+    from.saturating_add(frame.len())
 }
 
-fn take<R: Read, W: Write>(
+/// Whether a reader has the failures and the sizes of buffers of a script.
+fn has_read(reader: Reader<'_>, script: &Script) -> bool {
+    let has_failed = reader.failures() == script.failures.0;
+    let is_widest = reader.widest() == script.asked.1;
+    let device = reader.into_inner();
+    has_failed && is_widest && device.asked() == script.asked.0
+}
+
+/// Whether a writer has the failures of a script, and its bytes are as many of the file.
+fn has_written(writer: Writer, script: &Script) -> bool {
+    let has_failed = writer.failures() == script.failures.1;
+    let text = writer.into_inner().into_inner();
+    let is_sent = file().get(..script.sent) == Some(text.as_slice());
+    drop(text);
+    has_failed && is_sent
+}
+
+fn goes(
     alloc: Global,
     script: &Script,
     stream: &[u8],
     size: usize,
-    reader: &mut Counted<R>,
-    writer: &mut Counted<W>,
-) -> Broken {
-    match script.way {
-        Way::Calls(calls) => follow(alloc, script.options, calls, stream, size, reader, writer),
-        Way::Stream(want) => differs(convert(alloc, script.options, reader, writer), want),
+    reader: &mut Reader<'_>,
+    writer: &mut Writer,
+) -> bool {
+    match &script.way {
+        Way::Calls(calls) => follows(alloc, script, calls, stream, size, reader, writer),
+        Way::Stream(want) => convert(alloc, &script.options, reader, writer) == *want,
         Way::Pieces(want) => {
             let bytes = stream.get(..script.given).unwrap_or(&[]);
-            differs(pieces(alloc, script.options, bytes, size, writer), want)
+            pieces(alloc, &script.options, bytes, size, writer) == *want
         }
     }
-}
-
-fn differs(made: Result<Report, Fault>, want: CallResult) -> Broken {
-    let got = as_result(made);
-    if got == want {
-        return None;
-    }
-    Some((0, got))
 }
 
 /// Makes a converter, and runs the calls.
-fn follow<R: Read, W: Write>(
+fn follows(
     alloc: Global,
-    options: Options,
-    calls: &[(Call, CallResult)],
+    script: &Script,
+    calls: &[Call],
     stream: &[u8],
     size: usize,
-    reader: &mut Counted<R>,
-    writer: &mut Counted<W>,
-) -> Broken {
-    match converter(alloc, options) {
+    reader: &mut Reader<'_>,
+    writer: &mut Writer,
+) -> bool {
+    match converter(alloc, &script.options) {
         Ok(mut converter) => {
-            let broken = take_all(&mut converter, calls, stream, size, reader, writer);
+            let takes = takes_all(&mut converter, calls, stream, size, reader, writer);
             drop(converter);
-            broken
+            takes
         }
-        Err(fault) => Some((0, Err(fault))),
+        Err(fault) => script.fault == Some(fault),
     }
 }
 
-fn take_all<R: Read, W: Write>(
+fn takes_all<R: Read, W: Write>(
     converter: &mut Converter,
-    calls: &[(Call, CallResult)],
+    calls: &[Call],
     stream: &[u8],
     size: usize,
     reader: &mut Counted<R>,
     writer: &mut Counted<W>,
-) -> Broken {
-    for (place, (call, want)) in calls.iter().enumerate() {
-        let got = result(converter, *call, stream, size, reader, writer);
-        if got != *want {
-            return Some((place, got));
+) -> bool {
+    for call in calls {
+        if !takes(converter, call, stream, size, reader, writer) {
+            return false;
         }
     }
-    None
+    true
 }
 
-fn result<R: Read, W: Write>(
+/// Whether a call has its result.
+fn takes<R: Read, W: Write>(
     converter: &mut Converter,
-    call: Call,
+    call: &Call,
     stream: &[u8],
     size: usize,
     reader: &mut Counted<R>,
     writer: &mut Counted<W>,
-) -> CallResult {
+) -> bool {
     match call {
-        Call::Feed(from, to) => {
-            let bytes = stream.get(from..to).unwrap_or(&[]);
-            feed(converter, bytes, size, writer)
+        Call::Feed(from, to, want) => {
+            let bytes = stream.get(*from..*to).unwrap_or(&[]);
+            feed(converter, bytes, size, writer) == *want
         }
-        Call::Run => as_result(run(converter, reader, writer)),
-        Call::Finish => as_result(finish(converter, writer)),
-        Call::Looks => Ok(looks(converter)),
-        Call::Kept => Ok(kept(converter)),
+        Call::Run(want) => run(converter, reader, writer) == *want,
+        Call::Finish(want) => finish(converter, writer) == *want,
+        Call::Looks(held, examined, most) => looks(converter) == (*held, *examined, *most),
+        Call::Kept(gps, galileo, locks) => kept(converter) == (*gps, *galileo, *locks),
     }
-}
-
-fn as_result(made: Result<Report, Fault>) -> CallResult {
-    Ok(Good::Made(made?))
 }
 
 /// Feeds at least one piece.
@@ -276,14 +250,24 @@ pub fn feed<W: Write>(
     bytes: &[u8],
     size: usize,
     writer: &mut Counted<W>,
-) -> CallResult {
+) -> Result<(), Fault> {
     if bytes.is_empty() {
-        converter.feed(bytes, writer)?;
+        return feed_piece(converter, bytes, writer);
     }
     for piece in bytes.chunks(size.max(1)) {
-        converter.feed(piece, writer)?;
+        feed_piece(converter, piece, writer)?;
     }
-    Ok(Good::Fed)
+    Ok(())
+}
+
+// Each call with large clauses has a function without one, so that no test carries the clauses.
+
+fn feed_piece<W: Write>(
+    converter: &mut Converter,
+    piece: &[u8],
+    writer: &mut Counted<W>,
+) -> Result<(), Fault> {
+    converter.feed(piece, writer)
 }
 
 fn run<R: Read, W: Write>(
@@ -303,71 +287,99 @@ pub fn finish<W: Write>(
 }
 
 /// The bytes held, and the looks in all and at one byte.
-pub fn looks(converter: &Converter) -> Good {
-    Good::Counts(
-        converter.held() as u64,
-        converter.examined(),
-        u64::from(converter.most()),
+pub fn looks(converter: &Converter) -> (usize, u64, u16) {
+    (converter.held(), converter.examined(), converter.most())
+}
+
+fn kept(converter: &Converter) -> (usize, usize, usize) {
+    (
+        converter.cells(System::Gps),
+        converter.cells(System::Galileo),
+        converter.locks(),
     )
 }
 
-fn kept(converter: &Converter) -> Good {
-    Good::Counts(
-        converter.cells(System::Gps) as u64,
-        converter.cells(System::Galileo) as u64,
-        converter.locks() as u64,
-    )
+fn converter_of(alloc: Global, setup: Setup) -> Result<Converter, Fault> {
+    Converter::new(alloc, setup)
 }
 
 /// A converter of this setup.
-pub fn converter(alloc: Global, options: Options) -> Result<Converter, Fault> {
-    Converter::new(alloc, setup(alloc, options)?)
+pub fn converter(alloc: Global, options: &Options) -> Result<Converter, Fault> {
+    match setup(alloc, options) {
+        Ok(setup) => converter_of(alloc, setup),
+        Err(fault) => Err(fault),
+    }
+}
+
+fn stream_with<R: Read, W: Write>(
+    alloc: Global,
+    setup: Setup,
+    reader: &mut Counted<R>,
+    writer: &mut Counted<W>,
+) -> Result<Report, Fault> {
+    convert_stream(alloc, setup, reader, writer)
 }
 
 fn convert<R: Read, W: Write>(
     alloc: Global,
-    options: Options,
+    options: &Options,
     reader: &mut Counted<R>,
     writer: &mut Counted<W>,
 ) -> Result<Report, Fault> {
-    convert_stream(alloc, setup(alloc, options)?, reader, writer)
+    match setup(alloc, options) {
+        Ok(setup) => stream_with(alloc, setup, reader, writer),
+        Err(fault) => Err(fault),
+    }
 }
 
 fn pieces<W: Write>(
     alloc: Global,
-    options: Options,
+    options: &Options,
     bytes: &[u8],
     size: usize,
     writer: &mut Counted<W>,
 ) -> Result<Report, Fault> {
-    match cut(alloc, bytes, size) {
-        Ok(pieces) => {
-            let made = join(alloc, options, &pieces, writer);
-            drop(pieces);
-            made
-        }
-        Err(_) => Err(Fault::Memory),
-    }
+    let mut pieces = Vec::new(alloc);
+    let made = if cut(alloc, bytes, size, &mut pieces).is_ok() {
+        join(alloc, options, pieces.as_slice(), writer)
+    } else {
+        Err(Fault::Memory)
+    };
+    drop(pieces);
+    made
+}
+
+fn pieces_with<W: Write>(
+    alloc: Global,
+    setup: Setup,
+    pieces: &[Vec<u8>],
+    writer: &mut Counted<W>,
+) -> Result<Report, Fault> {
+    convert_pieces(alloc, setup, pieces, writer)
 }
 
 fn join<W: Write>(
     alloc: Global,
-    options: Options,
+    options: &Options,
     pieces: &[Vec<u8>],
     writer: &mut Counted<W>,
 ) -> Result<Report, Fault> {
-    convert_pieces(alloc, setup(alloc, options)?, pieces, writer)
+    match setup(alloc, options) {
+        Ok(setup) => pieces_with(alloc, setup, pieces, writer),
+        Err(fault) => Err(fault),
+    }
 }
 
-fn cut(alloc: Global, bytes: &[u8], size: usize) -> Result<Vec<Vec<u8>>, AllocError> {
-    let mut pieces = Vec::new(alloc);
+fn cut(
+    alloc: Global,
+    bytes: &[u8],
+    size: usize,
+    pieces: &mut Vec<Vec<u8>>,
+) -> Result<(), AllocError> {
     for piece in bytes.chunks(size.max(1)) {
-        if add_piece(alloc, piece, &mut pieces).is_err() {
-            drop(pieces);
-            return Err(AllocError);
-        }
+        add_piece(alloc, piece, pieces)?;
     }
-    Ok(pieces)
+    Ok(())
 }
 
 fn add_piece(alloc: Global, piece: &[u8], pieces: &mut Vec<Vec<u8>>) -> Result<(), AllocError> {
@@ -376,14 +388,14 @@ fn add_piece(alloc: Global, piece: &[u8], pieces: &mut Vec<Vec<u8>>) -> Result<(
 }
 
 /// Signal 1C of GPS. If there is no memory for the plan, the fault is `Memory`.
-fn setup(alloc: Global, options: Options) -> Result<Setup, Fault> {
+fn setup(alloc: Global, options: &Options) -> Result<Setup, Fault> {
     match Plan::parse(alloc, "1C", "none") {
         Ok(plan) => setup_of(plan, options),
         Err(_) => Err(Fault::Memory),
     }
 }
 
-fn setup_of(plan: Plan, options: Options) -> Result<Setup, Fault> {
+fn setup_of(plan: Plan, options: &Options) -> Result<Setup, Fault> {
     match HeaderTexts::new(&TEXTS) {
         Ok(texts) => Ok(Setup {
             plan,
