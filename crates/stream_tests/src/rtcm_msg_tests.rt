@@ -1,62 +1,17 @@
 //! What no clause states: encoded messages from outside, and that each call can succeed.
 
+mod known;
+mod prefixes;
 mod texts;
 mod values;
 
-ghost use Rattle.std.specs.Prelude.{◌≤◌};
-
 use arrayvec::ArrayVec;
+use known::{Known, bytes_of};
 use rtcm_msg::{
     Cell7, Entry, Form, Grid7, Masks, Message, MsgFault, Msm, MsmHeader, MsmView, Satellite7,
     StationParts, View, decode, encode, look,
 };
 use std::test::*;
-
-/// Message 1005 of station 2003, from a public example of the standard's frames.
-const STATION: &[u8; 19] = &[
-    0x3E, 0xD7, 0xD3, 0x02, 0x02, 0x98, 0x0E, 0xDE, 0xEF, 0x34, 0xB4, 0xBD, 0x62, 0xAC, 0x09, 0x41,
-    0x98, 0x6F, 0x33,
-];
-
-/// Message 1006 with the same values and an antenna height of 1.5 m.
-const HEIGHT: &[u8; 21] = &[
-    0x3E, 0xE7, 0xD3, 0x02, 0x02, 0x98, 0x0E, 0xDE, 0xEF, 0x34, 0xB4, 0xBD, 0x62, 0xAC, 0x09, 0x41,
-    0x98, 0x6F, 0x33, 0x3A, 0x98,
-];
-
-/// Message 1077 with one cell, of satellite 5 and signal 2.
-const FINE: &[u8; 36] = &[
-    0x43, 0x57, 0xD3, 0x00, 0x00, 0x0F, 0xA0, 0x00, 0x00, 0x04, 0x00, 0x00, 0x00, 0x00, 0x00, 0x00,
-    0x00, 0x20, 0x00, 0x00, 0x00, 0x51, 0x80, 0x00, 0x01, 0x90, 0x00, 0x00, 0x00, 0x00, 0x00, 0x00,
-    0x05, 0xA2, 0x00, 0x00,
-];
-
-/// Message 1074 with the same cell.
-const COARSE: &[u8; 30] = &[
-    0x43, 0x27, 0xD3, 0x00, 0x00, 0x0F, 0xA0, 0x00, 0x00, 0x04, 0x00, 0x00, 0x00, 0x00, 0x00, 0x00,
-    0x00, 0x20, 0x00, 0x00, 0x00, 0x51, 0x80, 0x0F, 0xFF, 0xE0, 0x00, 0x00, 0xFE, 0xD0,
-];
-
-/// Message 1094 with the same cell.
-const GALILEO: &[u8; 30] = &[
-    0x44, 0x67, 0xD3, 0x00, 0x00, 0x0F, 0xA0, 0x00, 0x00, 0x04, 0x00, 0x00, 0x00, 0x00, 0x00, 0x00,
-    0x00, 0x20, 0x00, 0x00, 0x00, 0x51, 0x80, 0x0F, 0xFF, 0xE0, 0x00, 0x00, 0xFE, 0xD0,
-];
-
-/// Message 1077 with no satellite and no signal.
-const EMPTY: &[u8; 22] = &[
-    0x43, 0x57, 0xD3, 0x00, 0x00, 0x0F, 0xA0, 0x00, 0x00, 0x00, 0x00, 0x00, 0x00, 0x00, 0x00, 0x00,
-    0x00, 0x00, 0x00, 0x00, 0x00, 0x00,
-];
-
-/// Message 1077 with 9 satellites and 8 signals, truncated after these masks.
-const MANY: &[u8; 22] = &[
-    0x43, 0x57, 0xD3, 0x00, 0x00, 0x0F, 0xA0, 0x00, 0x00, 0x7F, 0xC0, 0x00, 0x00, 0x00, 0x00, 0x00,
-    0x00, 0x7F, 0x80, 0x00, 0x00, 0x51,
-];
-
-/// The head of message 1077 with an epoch time of 604,800,000 ms.
-const LATE: &[u8; 7] = &[0x43, 0x57, 0xD3, 0x90, 0x32, 0x10, 0x00];
 
 /// The values of the message 1005.
 pub const STATION_PARTS: StationParts = StationParts {
@@ -103,34 +58,6 @@ pub const CELL: Cell7 = Cell7 {
     strength: 721,
     rate: 0,
 };
-
-/// One of these messages.
-#[derive(Clone, Copy)]
-pub enum Known {
-    Station,
-    Height,
-    Fine,
-    Coarse,
-    Galileo,
-    Empty,
-    Many,
-    Late,
-}
-
-// Bytes are named in one place, since each that names them carries them.
-
-pub fn bytes_of(message: Known) -> &'static [u8] {
-    match message {
-        Known::Station => STATION,
-        Known::Height => HEIGHT,
-        Known::Fine => FINE,
-        Known::Coarse => COARSE,
-        Known::Galileo => GALILEO,
-        Known::Empty => EMPTY,
-        Known::Many => MANY,
-        Known::Late => LATE,
-    }
-}
 
 /// The first bytes of a message, with some of them replaced.
 struct Sent(Known, usize, &'static [(usize, u8)]);
@@ -418,82 +345,6 @@ fn have_first() -> bool {
 #[test]
 fn cells_are_read(rt: HostRuntime) {
     assert!(rt; have_first());
-}
-
-/// A message, and the widths of its fields.
-static FIELDS: [(Known, &[usize]); 4] = [
-    (
-        Known::Station,
-        &[12, 12, 6, 1, 1, 1, 1, 38, 1, 1, 38, 2, 38],
-    ),
-    (
-        Known::Height,
-        &[12, 12, 6, 1, 1, 1, 1, 38, 1, 1, 38, 2, 38, 16],
-    ),
-    (
-        Known::Fine,
-        &[
-            12, 12, 30, 1, 3, 7, 2, 2, 1, 3, 64, 32, 1, 8, 4, 10, 14, 20, 24, 10, 1, 10, 15,
-        ],
-    ),
-    (
-        Known::Coarse,
-        &[
-            12, 12, 30, 1, 3, 7, 2, 2, 1, 3, 64, 32, 1, 8, 10, 15, 22, 4, 1, 6,
-        ],
-    ),
-];
-
-/// The number of bits before the first field that does not end within `bits` bits.
-fn first_unended(widths: &[usize], bits: usize) -> Option<usize> {
-    let mut place = 0usize;
-    for width in widths {
-        let end = place.saturating_add(*width);
-        if bits < end {
-            return Some(place);
-        }
-        place = end;
-    }
-    None
-}
-
-fn missing_bit(bytes: &[u8]) -> Option<usize> {
-    match decode(bytes) {
-        Err(MsgFault::Short(place)) => Some(place),
-        _ => None,
-    }
-}
-
-/// Whether a prefix of this size is refused at the first field that does not end within it.
-fn is_short(message: &[u8], widths: &[usize], size: usize) -> bool {
-    match first_unended(widths, size.saturating_mul(8)) {
-        Some(place) => missing_bit(message.get(..size).unwrap_or(&[])) == Some(place),
-        None => false,
-    }
-}
-
-/// Whether each prefix of a message is short.
-fn has_short_prefixes(message: &[u8], widths: &[usize]) -> bool {
-    for size in 0..message.len() {
-        if !is_short(message, widths, size) {
-            return false;
-        }
-    }
-    true
-}
-
-fn have_short_prefixes() -> bool {
-    for (message, widths) in &FIELDS {
-        if !has_short_prefixes(bytes_of(*message), widths) {
-            return false;
-        }
-    }
-    true
-}
-
-#[test]
-fn each_proper_prefix_is_short(rt: HostRuntime) {
-    assert!(rt; have_short_prefixes());
 }
 
 fn fault_of(bytes: &[u8]) -> Option<MsgFault> {

@@ -1,5 +1,6 @@
 //! What no clause states: worked streams, and that each call can succeed.
 mod by_definition;
+mod limits;
 
 use arrayvec::ArrayVec;
 use rtcm_bits::{LONGEST_FRAME, frame_of};
@@ -190,10 +191,6 @@ impl<'a> Stream<'a> {
 }
 
 // Each call with large clauses has a function without one, so that no test carries the clauses.
-
-fn refused(alloc: Global, limit: u64) -> Option<ScanFault> {
-    Framer::new(alloc, limit).err()
-}
 
 /// Pushes a byte. None if the framer isn't ready for it.
 fn push(framer: &mut Framer, byte: u8) -> Option<Result<(), ScanFault>> {
@@ -409,107 +406,4 @@ fn longest_messages(rt: HostRuntime) {
     let frames = longest_frames();
     assert!(rt; follow_a_byte(rt.alloc(), frames.as_slice()));
     assert!(rt; are_alone(rt.alloc(), frames.as_slice().get(1..).unwrap_or(&[])));
-}
-
-/// Whether pushing a byte is refused so.
-fn is_refused(framer: &mut Framer, fault: ScanFault) -> bool {
-    push(framer, 0xD3) == Some(Err(fault))
-}
-
-/// Whether a framer at its limit has no room, refuses a byte and a block, holds this number of
-/// bytes, and refuses a byte after its end.
-fn refuses(framer: &mut Framer, held: usize) -> bool {
-    framer.room() == 0
-        && is_refused(framer, ScanFault::TooLong)
-        && push_all(framer, &[0xD3]) == Some(Err(ScanFault::TooLong))
-        && framer.held() == held
-        && is_refused_after_end(framer)
-}
-
-fn is_refused_after_end(framer: &mut Framer) -> bool {
-    framer.end();
-    is_refused(framer, ScanFault::Ended)
-}
-
-/// Whether a preamble is accepted and is no frame.
-fn takes_preamble(framer: &mut Framer) -> bool {
-    push(framer, 0xD3) == Some(Ok(())) && framer.next().is_none()
-}
-
-/// Whether a framer with this limit accepts as many preambles, and no more.
-fn stops_at(framer: &mut Framer, limit: usize) -> bool {
-    for _ in 0..limit {
-        if !takes_preamble(framer) {
-            return false;
-        }
-    }
-    refuses(framer, limit)
-}
-
-fn is_limited(alloc: Global, limit: usize) -> bool {
-    match Framer::new(alloc, limit as u64) {
-        Ok(mut framer) => {
-            let stops = stops_at(&mut framer, limit);
-            drop(framer);
-            stops
-        }
-        Err(_) => false,
-    }
-}
-
-/// Whether a framer with room refuses a byte after its end.
-fn has_end(alloc: Global) -> bool {
-    match Framer::new(alloc, MOST_BYTES) {
-        Ok(mut framer) => {
-            let is_refused = is_refused_after_end(&mut framer);
-            drop(framer);
-            is_refused
-        }
-        Err(_) => false,
-    }
-}
-
-fn are_limited(alloc: Global) -> bool {
-    has_end(alloc)
-        && refused(alloc, MOST_BYTES + 1) == Some(ScanFault::BadLimit)
-        && is_limited(alloc, 0)
-        && is_limited(alloc, 10)
-}
-
-#[test]
-fn limits(rt: HostRuntime) {
-    assert!(rt; are_limited(rt.alloc()));
-}
-
-/// Whether a fault has this text.
-fn says(alloc: Global, fault: ScanFault, text: &str) -> bool {
-    match fault.to_string(alloc) {
-        Ok(said) => {
-            let is_text = said.as_str() == text;
-            drop(said);
-            is_text
-        }
-        Err(_) => false,
-    }
-}
-
-static TEXTS: [(ScanFault, &str); 4] = [
-    (ScanFault::Memory, "Memory"),
-    (ScanFault::BadLimit, "BadLimit"),
-    (ScanFault::TooLong, "TooLong"),
-    (ScanFault::Ended, "Ended"),
-];
-
-fn have_texts(alloc: Global) -> bool {
-    for (fault, text) in &TEXTS {
-        if !says(alloc, *fault, text) {
-            return false;
-        }
-    }
-    true
-}
-
-#[test]
-fn texts_of_faults(rt: HostRuntime) {
-    assert!(rt; have_texts(rt.alloc()));
 }

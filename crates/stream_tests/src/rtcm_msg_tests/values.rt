@@ -1,5 +1,6 @@
 //! Parts of messages: their faults, the largest message, and the cells of a view in order.
-use super::{CELL, HEADER, Known, SATELLITE, STATION_PARTS, bytes_of, is_written_back};
+use super::known::{Known, bytes_of};
+use super::{CELL, HEADER, SATELLITE, STATION_PARTS, is_written_back};
 use arrayvec::ArrayVec;
 use rtcm_msg::{
     Cell4, Cell7, Entries, Field, Grid, Grid4, Grid7, Masks, Message, Msm, MsmHeader, Satellite4,
