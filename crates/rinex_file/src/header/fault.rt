@@ -4,11 +4,12 @@ ghost use Rattle.rinex_file.specs.declared.header.fault.HeadFault.TheVariants as
 
 use crate::header::fields::HeaderField;
 use rtcm_bits::DeviceFailed;
+use std::fmt::{self, Debug, Display, Formatter, Write};
 use thiserror::Error;
 
-/// Why a header or an epoch was refused or not written. It is displayed by its name and the name of
-/// the field.
-#[derive(Clone, Copy, Debug, PartialEq, Eq, Error)]
+/// Why a header or an epoch was refused or not written. It is displayed, and printed by `Debug`, by
+/// its name and the name of the field.
+#[derive(Clone, Copy, PartialEq, Eq, Error)]
 pub enum HeadFault {
     /// The text has more bytes than columns, not counting trailing blanks.
     #[error("TooLong {}", .0.name())]
@@ -19,6 +20,12 @@ pub enum HeadFault {
     /// The writer failed.
     #[error("Write")]
     Write,
+}
+
+impl Debug for HeadFault {
+    fn fmt<W: Write>(&self, f: &mut Formatter<W>) -> fmt::Result {
+        Display::fmt(self, f)
+    }
 }
 
 impl From<DeviceFailed> for HeadFault {

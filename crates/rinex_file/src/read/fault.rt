@@ -1,9 +1,10 @@
 //! Why a file wasn't read.
 use std::error::Error;
-use std::fmt::{self, Display, Formatter, Write};
+use std::fmt::{self, Debug, Display, Formatter, Write};
 
-/// Why a file wasn't read. Lines count from 1. It is displayed by its name and the line.
-#[derive(Clone, Copy, Debug, PartialEq, Eq)]
+/// Why a file wasn't read. Lines count from 1. It is displayed, and printed by `Debug`, by its name
+/// and the line.
+#[derive(Clone, Copy, PartialEq, Eq)]
 pub enum ReadFault {
     /// Out of memory.
     Memory,
@@ -46,6 +47,12 @@ impl Display for ReadFault {
             (name, None) => f.write_str(name),
             (name, Some(line)) => write!(f, "{name} {line}"),
         }
+    }
+}
+
+impl Debug for ReadFault {
+    fn fmt<W: Write>(&self, f: &mut Formatter<W>) -> fmt::Result {
+        Display::fmt(self, f)
     }
 }
 
