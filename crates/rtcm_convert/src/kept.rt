@@ -1,7 +1,7 @@
 //! What a converter holds and has examined.
 
 /// What a converter holds, and the number of times it has read its input.
-#[derive(Clone, Copy, Debug, PartialEq, Eq)]
+#[derive(Clone, Copy)]
 pub struct Kept {
     /// Number of undecided bytes held, 0 to 1,029.
     pub held: usize,
