@@ -2,7 +2,7 @@
 
 /// The counts of a whole stream. Each frame is counted once among `faulty`, `station`, `other`,
 /// `ignored`, `late`, `past` and `taken`.
-#[derive(Clone, Copy, Debug, PartialEq, Eq)]
+#[derive(Clone, Copy, PartialEq)]
 pub struct Report {
     /// Number of bytes of the stream.
     pub bytes: u64,
