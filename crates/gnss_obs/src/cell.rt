@@ -34,7 +34,7 @@ pub struct Cell {
 
 /// The antenna reference point and the antenna height in the last messages that contain them; 0
 /// before the first.
-#[derive(Clone, Copy, Debug, PartialEq)]
+#[derive(Clone, Copy)]
 pub struct StationValues {
     /// Antenna reference point ECEF-X of the last message 1005 or 1006, in 0.0001 m (DF025).
     pub x: i64,

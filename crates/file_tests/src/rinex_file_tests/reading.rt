@@ -85,7 +85,7 @@ fn is_roof(file: &ObsFile) -> bool {
 
 fn has(file: &ObsFile, content: &Content) -> bool {
     has_counts(file, content)
-        && file.station_values() == content.values
+        && file.station_values().is_same(content.values)
         && has_plan(file.plan(), content)
         && is_roof(file) == content.is_roof
 }
