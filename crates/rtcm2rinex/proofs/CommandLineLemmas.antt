@@ -1,5 +1,5 @@
 -- A command after an option or a command is added.
-use Rattle.std.proofs.Common.{◌≡◌, ◌+◌, ◌<◌, ◌&&◌, ◌∷◌, [], ℕ, Bool, Result, Ok, Err, IfOk, IfErr, List, Option, Some, None, true, false, not, is_some, length, map, take, get_or, inl, inr, refl, sym, subst, ap, ap₂, ◌∙◌}
+use Rattle.std.proofs.Common.{◌≡◌, ◌+◌, ◌<◌, ◌&&◌, ◌∷◌, [], ℕ, Bool, Result, Ok, Err, IfErr, List, Option, Some, true, false, not, is_some, length, map, take, get_or, inl, inr, refl, sym, subst, ap, ap₂, ◌∙◌}
 use Rattle.std.proofs.lemmas.List.{map_more}
 use Rattle.std.proofs.lemmas.List.Sums.{fold-append}
 use Rattle.clap.specs.Walk.{Rule, Text, is_empty, rule_of}
@@ -11,16 +11,15 @@ use Rattle.clap.specs.declared.error.Error.{Error}
 use Rattle.std.specs.Borrow.{Bor}
 use Rattle.rtcm2rinex.specs.declared.commands.CommandRow.{CommandRow}
 use Rattle.rtcm2rinex.specs.declared.commands.OptionRow.{OptionRow}
-use Rattle.rtcm2rinex.specs.CommandLine.{AddsCommand, AddsOption, FailsParsing, RefusesWords, command_set, option_set, program, with_commands, with_options}
+use Rattle.rtcm2rinex.specs.declared.commands.Options.TheVariants as options
+use Rattle.rtcm2rinex.specs.declared.commands.Tables.{Tables}
+use Rattle.clap.specs.declared.builder.value_parser.ValueParser.TheVariants as value
+use Rattle.rtcm2rinex.specs.CommandLine.{AddsCommand, AddsOption, FailsParsing, Makes, RefusesWords, command_set, more_of, option_set, program, rows_of, with_commands, with_options}
 use Rattle.clap.specs.Values.{kind_of}
 use Rattle.clap.specs.declared.error.kind.ErrorKind.TheVariants as kind
 use Rattle.clap.specs.declared.builder.arg.Arg.{Arg}
 use Rattle.clap.specs.declared.builder.command.Command.{Command}
 use Rattle.clap.specs.declared.builder.command.Command.TheViews.{out-Command}
-
--- if the command was made, its definition is this one
-abbrev pub Reads : {E : Type 0} → Result Command E → App → Type 0
-Reads command app = IfOk command (λ c. app_of c ≡ app)
 
 second : (a b : Bool) → (a && b) ≡ true → b ≡ true
 second true b e = e
@@ -64,11 +63,11 @@ versioned c d e a t version wants was =
     ∙ ap (on_top (λ s. record s { subcommand_required = true; has_version = true })) was
 
 -- one more option
-pub with_option : {E : Type 0} (old new : Result Command E) (app : App) (r : Rule) → AddsOption old r new → Reads old app → r.is_simple ≡ true
-    → Reads new (with_rule app r)
+pub with_option : {E : Type 0} (old new : Result Command E) (app : App) (r : Rule) → AddsOption old r new → Makes old app → r.is_simple ≡ true
+    → Makes new (with_rule app r)
 with_option old (Err e) app r added was simple = tt
 with_option old (Ok new) app r (command, a, same, is, added) was simple =
-    added.shape (local a r is simple) ∙ ap₂ with_rule (subst (λ c. Reads c app) same was) is
+    added.shape (local a r is simple) ∙ ap₂ with_rule (subst (λ c. Makes c app) same was) is
 
 -- an option of a row is read by clap's definitions
 pub simple_given : (row : OptionRow) → (option_set row).is_simple ≡ true
@@ -80,15 +79,18 @@ plain a [] = refl
 plain a (r ∷ rs) = plain (with_rule a r) rs
 
 -- the command of a row has only a name
-pub plain_given : (row : CommandRow) → (command_set row).top.is_plain ≡ true
-plain_given row = plain (new_app row.name.now) (map option_set row.options.now)
+pub plain_given : (tables : Tables) (row : CommandRow) → (command_set tables row).top.is_plain ≡ true
+plain_given tables row =
+    let first = with_options (new_app row.name.now) (map option_set (rows_of tables row.options)) in
+    plain first (map option_set (more_of tables row.options)) ∙ plain (new_app row.name.now) (map option_set (rows_of tables row.options))
 
 -- one more command
-pub with_command : {E : Type 0} (old new : Result Command E) (app below : App) → AddsCommand old below new → Reads old app → below.top.is_plain ≡ true
-    → Reads new (with_subcommand app below.top)
-with_command old (Err e) app below added was plain = tt
-with_command old (Ok new) app below (command, sub, same, is, added) was plain =
-    added.shape (has_local sub below is plain) ∙ ap₂ with_subcommand (subst (λ c. Reads c app) same was) (ap (λ (x : App). x.top) is)
+pub with_command : {E : Type 0} (old sub new : Result Command E) (app below : App) → AddsCommand old sub new → Makes old app → Makes sub below
+    → below.top.is_plain ≡ true → Makes new (with_subcommand app below.top)
+with_command old sub (Err e) app below added was is plain = tt
+with_command old sub (Ok new) app below (command, made, same, same_sub, added) was is plain =
+    let below_is = subst (λ c. Makes c below) same_sub is in
+    added.shape (has_local made below below_is plain) ∙ ap₂ with_subcommand (subst (λ c. Makes c app) same was) (ap (λ (x : App). x.top) below_is)
 
 -- clap's definitions read the words by these commands and options
 pub is_read : (names : Bor (List (Bor Text))) → is_simple_and_free (program names) ≡ true
@@ -108,10 +110,10 @@ nothing = record { ref_ptr = (0, 0); now = [] }
 
 -- the row after the last one
 abbrev pub no_option : OptionRow
-no_option = record { name = nothing; value = nothing; required = false; defaults = record { ref_ptr = (0, 0); now = [] }; parser = None; help = nothing }
+no_option = record { name = nothing; value = nothing; required = false; defaults = record { ref_ptr = (0, 0); now = [] }; parser = value.String; help = nothing }
 
 abbrev pub no_command : CommandRow
-no_command = record { name = nothing; about = nothing; examples = nothing; options = record { ref_ptr = (0, 0); now = [] } }
+no_command = record { name = nothing; about = nothing; examples = nothing; options = options.None }
 
 -- one more option of the rows
 pub one_option_more : (a : App) (rows : List OptionRow) (n : ℕ) (d : OptionRow) → n < length rows
@@ -120,11 +122,11 @@ one_option_more a rows n d lt =
     sym (ap (with_options a) (map_more option_set rows n d lt) ∙ fold-append with_rule a (map option_set (take n rows)) (option_set (get_or rows n d) ∷ []))
 
 -- one more command of the rows
-pub one_command_more : (a : App) (rows : List CommandRow) (n : ℕ) (d : CommandRow) → n < length rows
-    → with_subcommand (with_commands a (map command_set (take n rows))) (command_set (get_or rows n d)).top
-    ≡ with_commands a (map command_set (take (n + 1) rows))
-one_command_more a rows n d lt =
-    sym (ap (with_commands a) (map_more command_set rows n d lt) ∙ fold-append _ a (map command_set (take n rows)) (command_set (get_or rows n d) ∷ []))
+pub one_command_more : (tables : Tables) (a : App) (rows : List CommandRow) (n : ℕ) (d : CommandRow) → n < length rows
+    → with_subcommand (with_commands a (map (command_set tables) (take n rows))) (command_set tables (get_or rows n d)).top
+    ≡ with_commands a (map (command_set tables) (take (n + 1) rows))
+one_command_more tables a rows n d lt =
+    sym (ap (with_commands a) (map_more (command_set tables) rows n d lt) ∙ fold-append _ a (map (command_set tables) (take n rows)) (command_set tables (get_or rows n d) ∷ []))
 
 -- if the error is the version's text, the words ask for the version
 pub is_version : (words : List Text) (e : Error) → RefusesWords words e → kind_of e ≡ kind.DisplayVersion → FailsParsing words kind.DisplayVersion

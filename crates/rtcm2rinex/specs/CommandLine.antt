@@ -15,23 +15,29 @@ use Rattle.clap.specs.declared.error.kind.ErrorKind.TheVariants as kind
 use Rattle.clap.specs.declared.parser.matches.ArgMatches.{ArgMatches}
 use Rattle.clap.specs.declared.builder.arg.Arg.{Arg}
 use Rattle.clap.specs.declared.builder.command.Command.{Command}
-use Rattle.clap.specs.declared.builder.action.ArgAction.TheVariants.{Set}
 use Rattle.clap.specs.declared.builder.value_parser.ValueParser.{ValueParser}
 use Rattle.clap.specs.declared.builder.value_parser.ValueParser.TheVariants as value
 use Rattle.rtcm2rinex.specs.declared.commands.CommandRow.{CommandRow}
 use Rattle.rtcm2rinex.specs.declared.commands.OptionRow.{OptionRow}
+use Rattle.rtcm2rinex.specs.declared.commands.Options.{Options}
+use Rattle.rtcm2rinex.specs.declared.commands.Options.TheVariants as options
+use Rattle.rtcm2rinex.specs.declared.commands.Tables.{Tables}
 
 -- ---- options
 
 -- `--name VALUE` or `--name=VALUE`; it isn't given twice
-abbrev pub option : Text → Rule
-option name = record (new_rule name) { long = Some name; action = Some Set; value_names = 1 }
+abbrev pub named : Text → Rule
+named name = record (new_rule name) { long = Some name; value_names = 1 }
 
 abbrev pub or_else : Text → Rule → Rule
 or_else default a = record a { defaults = default ∷ [] }
 
 abbrev pub read_by : ValueParser → Rule → Rule
 read_by parser a = record a { parser = Some parser }
+
+-- the value is any text
+abbrev pub option : Text → Rule
+option name = read_by value.String (named name)
 
 abbrev pub required : Rule → Rule
 required a = record a { required = true }
@@ -79,10 +85,10 @@ texts =
 
 -- the option of a row
 abbrev pub option_set : OptionRow → Rule
-option_set row = record (option row.name.now) {
+option_set row = record (named row.name.now) {
   required = row.required;
   defaults = map (λ s. s.now) row.defaults.now;
-  parser = row.parser;
+  parser = Some row.parser;
 }
 
 -- ---- commands
@@ -90,9 +96,21 @@ option_set row = record (option row.name.now) {
 abbrev pub with_options : App → List Rule → App
 with_options a rules = fold with_rule a rules
 
+-- the rows of the first options of a command, and those that follow
+abbrev pub rows_of : Tables → Options → List OptionRow
+rows_of tables options.None = []
+rows_of tables options.Station = tables.station.now
+rows_of tables options.Convert = tables.convert.now
+
+abbrev pub more_of : Tables → Options → List OptionRow
+more_of tables options.Convert = tables.texts.now
+more_of tables other = []
+
 -- the command of a row
-abbrev pub command_set : CommandRow → App
-command_set row = with_options (new_app row.name.now) (map option_set row.options.now)
+abbrev pub command_set : Tables → CommandRow → App
+command_set tables row =
+    with_options (with_options (new_app row.name.now) (map option_set (rows_of tables row.options)))
+    (map option_set (more_of tables row.options))
 
 abbrev pub with_commands : App → List App → App
 with_commands a commands = fold (λ (program : App) (command : App). with_subcommand program command.top) a commands
@@ -107,8 +125,11 @@ convert names = with_options (with_options (new_app (codes "convert"))
     texts
 
 -- a command is required, and `--version` is accepted
+abbrev pub start_of : Text → App
+start_of name = on_top (λ s. record s { subcommand_required = true; has_version = true }) (new_app name)
+
 abbrev pub start : App
-start = on_top (λ s. record s { subcommand_required = true; has_version = true }) (new_app (codes "rtcm2rinex"))
+start = start_of (codes "rtcm2rinex")
 
 abbrev pub listings : App
 listings = with_subcommand (with_subcommand start (new_app (codes "frames")).top) (new_app (codes "show")).top
@@ -124,9 +145,14 @@ program names = with_subcommand (with_subcommand signal_commands (convert names)
 abbrev pub IsProgram : App → Type 0
 IsProgram a = (names : Bor (List (Bor Text))) × AreRules names × (a ≡ program names)
 
--- the rows of the program's commands
-abbrev pub AreCommands : List CommandRow → Type 0
-AreCommands rows = IsProgram (with_commands start (map command_set rows))
+-- the tables of the program's commands and options
+abbrev pub AreTables : Tables → Type 0
+AreTables tables =
+    IsProgram (with_commands (start_of tables.program.name.now) (map (command_set tables) tables.commands.now))
+
+-- if the command was made, its definition is this one
+abbrev pub Makes : {E : Type 0} → Result Command E → App → Type 0
+Makes command a = IfOk command (λ c. app_of c ≡ a)
 
 -- The result is the given command with one more option or one more command, unless memory ran out.
 abbrev pub AddsOption : {E : Type 0} → Result Command E → Rule → Result Command E → Type 0
@@ -135,10 +161,10 @@ AddsOption old rule new =
     (λ made. (command : Command) × (option : Arg) × (old ≡ Ok command) × (rule_of option ≡ rule)
     × AddsArg command option made)
 
-abbrev pub AddsCommand : {E : Type 0} → Result Command E → App → Result Command E → Type 0
+abbrev pub AddsCommand : {E : Type 0} → (old below new : Result Command E) → Type 0
 AddsCommand old below new =
     IfOk new
-    (λ made. (command sub : Command) × (old ≡ Ok command) × (app_of sub ≡ below) × AddsSubcommand command sub made)
+    (λ made. (command sub : Command) × (old ≡ Ok command) × (below ≡ Ok sub) × AddsSubcommand command sub made)
 
 -- the names of the program's commands
 abbrev pub IsCommand : Text → Type 0

@@ -1,12 +1,12 @@
 //! The command line.
 ghost use Rattle.std.specs.Prelude.{◌≡◌, IfOk, IfErr, map};
 ghost use Rattle.clap.specs.Walk.{rule_of, texts};
-ghost use Rattle.clap.specs.Simple.{app_of, new_app};
+ghost use Rattle.clap.specs.Simple.{App, app_of, new_app};
 ghost use Rattle.rtcm2rinex.specs.CommandLine.{IsFoundIn, IsProgram, RefusesWords, command_set, option_set};
 ghost use Rattle.rtcm2rinex.specs.CommandLine as line;
 
-use crate::commands::{ABOUT, COMMANDS, CommandRow, EXAMPLES, OptionRow};
-use clap::{Arg, ArgAction, ArgMatches, Command, Error};
+use crate::commands::{CommandRow, OptionRow, Tables, program_tables};
+use clap::{Arg, ArgMatches, Command, Error};
 use std::alloc::{AllocError, Global};
 
 /// The name, the version, and the kit that it is proved and built with, as `rt version` prints it.
@@ -21,74 +21,87 @@ pub fn parse<'a>(alloc: Global, words: &'a [&'a str]) -> Result<ArgMatches<'a>, 
     ensures asked { IfOk result (IsFoundIn (texts words.now)) }
     ensures refused { IfErr result (RefusesWords (texts words.now)) }
 {
-    let program = program(alloc, &COMMANDS)?;
+    let program = program(alloc, &program_tables())?;
     program.try_get_matches_from(words)
 }
 
 /// Returns the program with its commands.
-fn program<'a>(alloc: Global, commands: &[CommandRow<'a>]) -> Result<Command<'a>, AllocError>
-    requires { line.AreCommands commands.now }
+fn program<'a>(alloc: Global, tables: &Tables<'a>) -> Result<Command<'a>, AllocError>
+    requires { line.AreTables tables.now }
     ensures { IfOk result (λ c. IsProgram (app_of c)) }
 {
-    let program = described(alloc, "rtcm2rinex", ABOUT, EXAMPLES)
-        .version(VERSION)
+    let program = described(alloc, &tables.program)
+        .version(tables.version)
         .subcommand_required(true);
-    with_commands(alloc, program, commands)
+    with_commands(alloc, Ok(program), tables)
 }
 
-/// Returns the program with a command for each of these rows.
+// The functions that follow accept and return the result of an allocation, so that the loops have
+// no early exit at which they would have to drop the commands made before.
+
+/// Returns the program with a command for each row.
 fn with_commands<'a>(
     alloc: Global,
-    program: Command<'a>,
-    rows: &[CommandRow<'a>],
+    program: Result<Command<'a>, AllocError>,
+    tables: &Tables<'a>,
 ) -> Result<Command<'a>, AllocError>
-    ensures { IfOk result (λ c. app_of c ≡ line.with_commands (app_of program.entry) (map command_set rows.now)) }
+    ensures { (a : App) → line.Makes program.entry a
+        → line.Makes result (line.with_commands a (map (command_set tables.now) tables.now.commands.now)) }
 {
-    let mut program = Ok(program);
-    for row in rows {
-        program = with_command(alloc, program, row);
+    let mut program = program;
+    for row in tables.commands {
+        program = with_command(program, command(alloc, tables, row));
     }
     program
 }
 
-/// Returns a command with its help and its options.
-fn command<'a>(alloc: Global, row: &CommandRow<'a>) -> Result<Command<'a>, AllocError>
-    ensures { IfOk result (λ c. app_of c ≡ command_set row.now) }
+/// Returns the program with one more command.
+fn with_command<'a>(
+    program: Result<Command<'a>, AllocError>,
+    command: Result<Command<'a>, AllocError>,
+) -> Result<Command<'a>, AllocError>
+    ensures { line.AddsCommand program.entry command.entry result }
 {
-    with_options(
-        alloc,
-        described(alloc, row.name, row.about, row.examples),
-        row.options,
-    )
+    match program {
+        Ok(program) => match command {
+            Ok(command) => program.subcommand(command),
+            Err(error) => {
+                drop(program);
+                Err(error)
+            }
+        },
+        Err(error) => {
+            drop(command);
+            Err(error)
+        }
+    }
+}
+
+/// Returns a command with its help and its options.
+fn command<'a>(
+    alloc: Global,
+    tables: &Tables<'a>,
+    row: &CommandRow<'a>,
+) -> Result<Command<'a>, AllocError>
+    ensures { line.Makes result (command_set tables.now row.now) }
+{
+    let command = with_options(alloc, Ok(described(alloc, row)), tables.first(row.options));
+    with_options(alloc, command, tables.more(row.options))
 }
 
 /// Returns the command with an option for each of these rows.
 fn with_options<'a>(
     alloc: Global,
-    command: Command<'a>,
+    command: Result<Command<'a>, AllocError>,
     rows: &[OptionRow<'a>],
 ) -> Result<Command<'a>, AllocError>
-    ensures { IfOk result (λ c. app_of c ≡ line.with_options (app_of command.entry) (map option_set rows.now)) }
+    ensures { (a : App) → line.Makes command.entry a → line.Makes result (line.with_options a (map option_set rows.now)) }
 {
-    let mut command = Ok(command);
+    let mut command = command;
     for row in rows {
         command = with_option(alloc, command, row);
     }
     command
-}
-
-// The two functions that follow accept and return the result of an allocation, so that the loops
-// above have no early exit at which they would have to drop the commands made before.
-
-/// Returns the program with one more command.
-fn with_command<'a>(
-    alloc: Global,
-    program: Result<Command<'a>, AllocError>,
-    row: &CommandRow<'a>,
-) -> Result<Command<'a>, AllocError>
-    ensures { line.AddsCommand program.entry (command_set row.now) result }
-{
-    program?.subcommand(command(alloc, row)?)
 }
 
 /// Returns a command with one more option.
@@ -99,33 +112,37 @@ fn with_option<'a>(
 ) -> Result<Command<'a>, AllocError>
     ensures { line.AddsOption command.entry (option_set row.now) result }
 {
-    command?.arg(option(alloc, row))
+    match command {
+        Ok(command) => command.arg(option(alloc, row)),
+        Err(error) => Err(error),
+    }
 }
 
-/// Returns a command of this name with its help texts.
-fn described<'a>(alloc: Global, name: &'a str, about: &'a str, examples: &'a str) -> Command<'a>
-    ensures { app_of result ≡ new_app name.entry.now }
+/// Returns a command with its help texts.
+fn described<'a>(alloc: Global, row: &CommandRow<'a>) -> Command<'a>
+    ensures { app_of result ≡ new_app row.now.name.now }
 {
-    Command::new(alloc, name).about(about).after_help(examples)
+    Command::new(alloc, row.name)
+        .about(row.about)
+        .after_help(row.examples)
 }
 
 /// Returns an option with its default and the parser of its value.
 fn option<'a>(alloc: Global, row: &OptionRow<'a>) -> Arg<'a>
     ensures { rule_of result ≡ option_set row.now }
 {
-    let option = named(alloc, row)
+    named(alloc, row)
         .required(row.required)
-        .default_values(row.defaults);
-    match row.parser {
-        Some(parser) => option.value_parser(parser),
-        None => option,
-    }
+        .default_values(row.defaults)
+        .value_parser(row.parser)
 }
 
 /// Returns an option of this name with its help.
 fn named<'a>(alloc: Global, row: &OptionRow<'a>) -> Arg<'a>
-    ensures { rule_of result ≡ line.option row.now.name.now }
+    ensures { rule_of result ≡ line.named row.now.name.now }
 {
-    let option = Arg::new(alloc, row.name).long(row.name).help(row.help);
-    option.action(ArgAction::Set).value_name(row.value)
+    Arg::new(alloc, row.name)
+        .long(row.name)
+        .help(row.help)
+        .value_name(row.value)
 }

@@ -1,5 +1,8 @@
 //! The commands and their options, one row each, as listed in the manual page.
+ghost use Rattle.std.specs.Prelude.{◌≡◌};
+ghost use Rattle.rtcm2rinex.specs.CommandLine.{AreTables, more_of, rows_of};
 
+use crate::cli::VERSION;
 use clap::builder::ValueParser;
 
 /// A command.
@@ -7,10 +10,20 @@ use clap::builder::ValueParser;
 pub struct CommandRow<'a> {
     pub name: &'a str,
     /// What it does.
-    pub about: &'static str,
+    pub about: &'a str,
     /// How it is called, and the meaning of the lines that it prints.
-    pub examples: &'static str,
-    pub options: &'a [OptionRow<'a>],
+    pub examples: &'a str,
+    pub options: Options,
+}
+
+/// The options of a command.
+#[derive(Clone, Copy)]
+pub enum Options {
+    None,
+    /// The station.
+    Station,
+    /// Those of a conversion, and then the texts of the header.
+    Convert,
 }
 
 /// An option of a command.
@@ -22,15 +35,29 @@ pub struct OptionRow<'a> {
     pub required: bool,
     /// Its value if it isn't given, if there is one.
     pub defaults: &'a [&'a str],
-    /// What its value has to be; `None` accepts every text.
-    pub parser: Option<ValueParser<'a>>,
+    /// What its value has to be.
+    pub parser: ValueParser<'a>,
     pub help: &'a str,
 }
 
-/// An array of options: the fields of each in their order.
+/// The commands of a program, and the options that they have. No table is in a row of another, which
+/// would make proofs slow.
+#[derive(Clone, Copy)]
+pub struct Tables<'a> {
+    /// The name and the help of the program itself.
+    pub program: CommandRow<'a>,
+    pub version: &'a str,
+    pub commands: &'a [CommandRow<'a>],
+    pub station: &'a [OptionRow<'a>],
+    pub convert: &'a [OptionRow<'a>],
+    /// The texts of the header.
+    pub texts: &'a [OptionRow<'a>],
+}
+
+/// A table of options: the fields of each in their order.
 macro_rules! option_rows {
     ($($name:expr, $value:expr, $required:expr, $defaults:expr, $parser:expr, $help:expr;)*) => {
-        [$(OptionRow {
+        &[$(OptionRow {
             name: $name,
             value: $value,
             required: $required,
@@ -41,16 +68,17 @@ macro_rules! option_rows {
     };
 }
 
-/// What the program does.
-pub const ABOUT: &str = "Reads an RTCM 3 stream from standard input and writes its content to \
-                         standard output";
-
-/// How the program is called.
-pub const EXAMPLES: &str = "Example: rtcm2rinex convert --week 2300 --date \"20240204 000001 UTC\" \
-                            < stream.rtcm3 > station.obs";
+/// The program itself.
+const PROGRAM: CommandRow<'static> = CommandRow {
+    name: "rtcm2rinex",
+    about: "Reads an RTCM 3 stream from standard input and writes its content to standard output",
+    examples: "Example: rtcm2rinex convert --week 2300 --date \"20240204 000001 UTC\" < stream.rtcm3 \
+               > station.obs",
+    options: Options::None,
+};
 
 /// The commands, in the order of the help text.
-pub const COMMANDS: [CommandRow<'static>; 6] = [
+const COMMANDS: &[CommandRow<'static>] = &[
     CommandRow {
         name: "frames",
         about: "Lists the frames: the place of each, the length of its message and the message's \
@@ -58,7 +86,7 @@ pub const COMMANDS: [CommandRow<'static>; 6] = [
         examples: "Example: rtcm2rinex frames < stream.rtcm3\n\
                    A line as '0 19 1005' is a frame at byte 0 with a message of 19 bytes, which is \
                    message 1005.",
-        options: &[],
+        options: Options::None,
     },
     CommandRow {
         name: "show",
@@ -71,7 +99,7 @@ pub const COMMANDS: [CommandRow<'static>; 6] = [
                    A line as '52 1077 2003 1000 0 1 1 1' is an MSM: place, number, station, time \
                    in milliseconds of the week, DF393, and how many satellites, signals and cells \
                    it has.",
-        options: &[],
+        options: Options::None,
     },
     CommandRow {
         name: "signals",
@@ -79,7 +107,7 @@ pub const COMMANDS: [CommandRow<'static>; 6] = [
         examples: "Example: rtcm2rinex signals < stream.rtcm3\n\
                    A line as 'G 1C 3042' is a signal: its system, its code, and the number of its \
                    cells with a pseudorange, a phase, a Doppler shift or a strength.",
-        options: &STATION,
+        options: Options::Station,
     },
     CommandRow {
         name: "options",
@@ -89,7 +117,7 @@ pub const COMMANDS: [CommandRow<'static>; 6] = [
                    A line as '--gps 1C,2W --galileo none --position=1.0000,-2.0000,3.0000' has \
                    every signal with a pseudorange, a phase, a Doppler shift or a strength, and \
                    the position of the first message 1005 or 1006.",
-        options: &STATION,
+        options: Options::Station,
     },
     CommandRow {
         name: "convert",
@@ -98,7 +126,7 @@ pub const COMMANDS: [CommandRow<'static>; 6] = [
                    1C,2W --galileo none < stream.rtcm3 > station.obs\n\
                    At the end one line on standard error counts the bytes, frames, messages, cells \
                    and epochs.",
-        options: &CONVERT,
+        options: Options::Convert,
     },
     CommandRow {
         name: "check",
@@ -108,45 +136,90 @@ pub const COMMANDS: [CommandRow<'static>; 6] = [
                    satellites, and the events with other station values. Of any other file the \
                    first line that is wrong is given on standard error, as 'rtcm2rinex: BadHeader \
                    2'.",
-        options: &[],
+        options: Options::None,
     },
 ];
 
 /// A reference station (DF003).
-const STATIONS: Option<ValueParser<'static>> = Some(ValueParser::Signed(0, 4_095));
+const STATIONS: ValueParser<'static> = ValueParser::Signed(0, 4_095);
 
-const STATION: [OptionRow<'static>; 1] = option_rows! {
+const STATION: &[OptionRow<'static>] = option_rows! {
     "station", "NUMBER", false, &[], STATIONS,
         "Reference station (DF003) whose messages count; without it those of every station";
 };
 
-const CONVERT: [OptionRow<'static>; 19] = option_rows! {
-    "week", "WEEK", true, &[], Some(ValueParser::Signed(0, 99_999)),
+/// Any text.
+const TEXT: ValueParser<'static> = ValueParser::String;
+
+/// The options of a conversion.
+const CONVERT: &[OptionRow<'static>] = option_rows! {
+    "week", "WEEK", true, &[], ValueParser::Signed(0, 99_999),
         "GPS week of the first observations, 0 to 99,999, counted on from 1980 without wrapping";
-    "date", "TEXT", true, &[], None, "Date of the run, in RINEX's form 'yyyymmdd hhmmss UTC'";
-    "gps", "SIGNALS", false, &["all"], None,
+    "date", "TEXT", true, &[], TEXT, "Date of the run, in RINEX's form 'yyyymmdd hhmmss UTC'";
+    "gps", "SIGNALS", false, &["all"], TEXT,
         "GPS signals in the file's order: all, none, or codes as 1C,2W";
-    "galileo", "SIGNALS", false, &["all"], None,
+    "galileo", "SIGNALS", false, &["all"], TEXT,
         "Galileo signals in the file's order: all, none, or codes as 1C,5Q";
     "station", "NUMBER", false, &[], STATIONS,
         "Reference station (DF003) whose messages count; without it those of every station";
-    "position", "X,Y,Z", false, &["0,0,0"], None,
+    "position", "X,Y,Z", false, &["0,0,0"], TEXT,
         "Position in metres until a message 1005 or 1006; write --position=X,Y,Z if X is negative";
-    "antenna-height", "HEIGHT", false, &["0"], None,
+    "antenna-height", "HEIGHT", false, &["0"], TEXT,
         "Antenna height in metres until a message 1006, 0 to 6.5535";
-    "gather", "RULE", false, &["bit"], Some(ValueParser::Names(&["bit", "time"])),
+    "gather", "RULE", false, &["bit"], ValueParser::Names(&["bit", "time"]),
         "What closes an epoch: the last message of a set (DF393) or a later time; or time alone";
     "limit", "BYTES", false, &["281474976710656"],
-        Some(ValueParser::Unsigned(0, 281_474_976_710_656)),
+        ValueParser::Unsigned(0, 281_474_976_710_656),
         "Most bytes of the stream; a longer one is a fault";
-    "run-by", "TEXT", false, &[""], None, "Who runs the program";
-    "marker", "TEXT", false, &[""], None, "Name of the antenna marker";
-    "marker-type", "TEXT", false, &["GEODETIC"], None, "Type of the marker";
-    "observer", "TEXT", false, &[""], None, "Name of the observer";
-    "agency", "TEXT", false, &[""], None, "Name of the observer's agency";
-    "rec-number", "TEXT", false, &[""], None, "Serial number of the receiver";
-    "rec-type", "TEXT", false, &[""], None, "Type of the receiver";
-    "rec-version", "TEXT", false, &[""], None, "Version of the receiver's firmware";
-    "ant-number", "TEXT", false, &[""], None, "Serial number of the antenna";
-    "ant-type", "TEXT", false, &[""], None, "Type of the antenna";
 };
+
+/// The texts of the header, other than the date.
+const TEXTS: &[OptionRow<'static>] = option_rows! {
+    "run-by", "TEXT", false, &[""], TEXT, "Who runs the program";
+    "marker", "TEXT", false, &[""], TEXT, "Name of the antenna marker";
+    "marker-type", "TEXT", false, &["GEODETIC"], TEXT, "Type of the marker";
+    "observer", "TEXT", false, &[""], TEXT, "Name of the observer";
+    "agency", "TEXT", false, &[""], TEXT, "Name of the observer's agency";
+    "rec-number", "TEXT", false, &[""], TEXT, "Serial number of the receiver";
+    "rec-type", "TEXT", false, &[""], TEXT, "Type of the receiver";
+    "rec-version", "TEXT", false, &[""], TEXT, "Version of the receiver's firmware";
+    "ant-number", "TEXT", false, &[""], TEXT, "Serial number of the antenna";
+    "ant-type", "TEXT", false, &[""], TEXT, "Type of the antenna";
+};
+
+/// Returns the tables of the program.
+pub fn program_tables() -> Tables<'static>
+    ensures { AreTables result }
+{
+    Tables {
+        program: PROGRAM,
+        version: VERSION,
+        commands: COMMANDS,
+        station: STATION,
+        convert: CONVERT,
+        texts: TEXTS,
+    }
+}
+
+impl<'a> Tables<'a> {
+    /// Returns the first options of a command.
+    pub fn first(&self, options: Options) -> &'a [OptionRow<'a>]
+        ensures { result.now ≡ rows_of self.now options }
+    {
+        match options {
+            Options::None => &[],
+            Options::Station => self.station,
+            Options::Convert => self.convert,
+        }
+    }
+
+    /// Returns the options of a command that follow those.
+    pub fn more(&self, options: Options) -> &'a [OptionRow<'a>]
+        ensures { result.now ≡ more_of self.now options }
+    {
+        match options {
+            Options::Convert => self.texts,
+            _ => &[],
+        }
+    }
+}

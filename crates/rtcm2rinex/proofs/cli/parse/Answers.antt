@@ -1,4 +1,4 @@
-use Rattle.std.proofs.Common.{◌≡◌, ◌∙◌, true, inl, inr, ap, refl}
+use Rattle.std.proofs.Common.{◌≡◌, ◌∙◌, true, inl, inr, ap}
 use Rattle.std.proofs.lemmas.Result.{IfErr-weaker}
 use Rattle.clap.specs.Simple.{app_of}
 use Rattle.clap.specs.Walk.{texts}
@@ -8,7 +8,7 @@ use Rattle.rtcm2rinex.proofs.AcceptedLemmas.{found_command}
 use Rattle.rtcm2rinex.proofs.cli.parse.Goals as goal
 
 pub program-requires : goal.program-requires
-program-requires c = (_, refl, refl)
+program-requires c = c.program_tables.ensures
 
 pub returns : goal.returns
 returns c =

@@ -1,13 +1,15 @@
 use Rattle.std.proofs.Common.{◌∙◌, get_or, map, take}
 use Rattle.std.proofs.lemmas.Result.{IfOk-weaker}
-use Rattle.clap.specs.Simple.{app_of}
 use Rattle.rtcm2rinex.specs.CommandLine.{command_set, with_commands}
 use Rattle.rtcm2rinex.proofs.CommandLineLemmas.{no_command, one_command_more, plain_given, with_command}
 use Rattle.rtcm2rinex.proofs.cli.with_commands.Goals as goal
 
 pub loop-row-preserved : goal.loop-row-preserved
-loop-row-preserved c =
-    let before = with_commands (app_of c.args.program) (map command_set (take c.loop-row.row-index c.args.rows.now)) in
+loop-row-preserved c = λ a made.
+    let tables = c.args.tables.now in
+    let rows = tables.commands.now in
+    let before = with_commands a (map (command_set tables) (take c.loop-row.row-index rows)) in
     IfOk-weaker c.with_command-program.result _ _
-    (λ x made. made ∙ one_command_more (app_of c.args.program) c.args.rows.now c.loop-row.row-index no_command c.loop-row-test.true)
-    (with_command _ _ before _ c.with_command-program.ensures c.loop-row.invariant (plain_given (get_or c.args.rows.now c.loop-row.row-index no_command)))
+    (λ x is. is ∙ one_command_more tables a rows c.loop-row.row-index no_command c.loop-row-test.true)
+    (with_command c.loop-row.program c.command.result c.with_command-program.result before _ c.with_command-program.ensures (c.loop-row.invariant a made) c.command.ensures
+    (plain_given tables (get_or rows c.loop-row.row-index no_command)))

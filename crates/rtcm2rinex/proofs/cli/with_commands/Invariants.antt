@@ -1,8 +1,8 @@
 use Rattle.std.proofs.Common.{map, take}
-use Rattle.clap.specs.Simple.{app_of}
-use Rattle.rtcm2rinex.specs.CommandLine.{command_set, with_commands}
-use Rattle.rtcm2rinex.proofs.CommandLineLemmas.{Reads}
+use Rattle.clap.specs.Simple.{App}
+use Rattle.rtcm2rinex.specs.CommandLine.{Makes, command_set, with_commands}
 use Rattle.rtcm2rinex.proofs.cli.with_commands.Given as goal
 
 abbrev pub invariant-loop-row : goal.invariant-loop-row
-invariant-loop-row l = Reads l.program (with_commands (app_of l.fn.program) (map command_set (take l.row-index l.fn.rows)))
+invariant-loop-row l = (a : App) → Makes l.fn.program a
+    → Makes l.program (with_commands a (map (command_set l.fn.tables) (take l.row-index l.fn.tables.commands.now)))

@@ -1,8 +1,7 @@
 use Rattle.std.proofs.Common.{map, take}
-use Rattle.clap.specs.Simple.{app_of}
-use Rattle.rtcm2rinex.specs.CommandLine.{option_set, with_options}
-use Rattle.rtcm2rinex.proofs.CommandLineLemmas.{Reads}
+use Rattle.clap.specs.Simple.{App}
+use Rattle.rtcm2rinex.specs.CommandLine.{Makes, option_set, with_options}
 use Rattle.rtcm2rinex.proofs.cli.with_options.Given as goal
 
 abbrev pub invariant-loop-row : goal.invariant-loop-row
-invariant-loop-row l = Reads l.command (with_options (app_of l.fn.command) (map option_set (take l.row-index l.fn.rows)))
+invariant-loop-row l = (a : App) → Makes l.fn.command a → Makes l.command (with_options a (map option_set (take l.row-index l.fn.rows)))

@@ -1,0 +1,5 @@
+use Rattle.std.proofs.Common.{refl}
+use Rattle.rtcm2rinex.proofs.commands.program_tables.Goals as goal
+
+pub returns : goal.returns
+returns c = (_, refl, refl)
