@@ -8,46 +8,65 @@ use rinex_file::{HeadFault, ReadFault};
 use rtcm_bits::DeviceFailed;
 use rtcm_convert::Fault;
 use rtcm_scan::{ScanFault, StreamFault};
-use thiserror::Error;
+use std::fmt;
+use std::fmt::Display;
 
-/// Why a command stopped. It is displayed as the fault's name, followed by the values that the
-/// fault carries.
-#[derive(Clone, Copy, Debug, Drop, Error)]
+/// Why a command stopped.
+#[derive(Clone, Copy)]
 pub enum ToolFault {
     /// Out of memory while reading the words.
-    #[error("Memory")]
     Memory,
     /// The reader failed.
-    #[error("Read")]
     Read,
     /// The writer failed, or accepted none of the bytes of a write.
-    #[error("Write")]
     Write,
     /// The framer refused.
-    #[error(transparent)]
     Scan(ScanFault),
     /// The text of `--position` isn't a position.
-    #[error("BadPosition --position X,Y,Z: metres, up to 8 digits and 4 decimals each, \
-         -13743895.3472 to 13743895.3471")]
     BadPosition,
     /// The text of `--antenna-height` isn't a height.
-    #[error("BadHeight --antenna-height HEIGHT: metres, up to 4 decimals, 0 to 6.5535")]
     BadHeight,
     /// A text of the header was refused.
-    #[error(transparent)]
     Header(HeadFault),
     /// The plan of signals was refused.
-    #[error(transparent)]
     Plan(PlanFault),
     /// The converter refused.
-    #[error(transparent)]
     Convert(Fault),
     /// The file checked was refused.
-    #[error(transparent)]
     Check(ReadFault),
     /// No cell of the stream has a value.
-    #[error("NoSignal")]
     NoSignal,
+}
+
+/// The fault's name, followed by the values that the fault carries.
+impl Display for ToolFault {
+    fn fmt<W: fmt::Write>(&self, f: &mut fmt::Formatter<W>) -> fmt::Result {
+        match self {
+            ToolFault::Scan(fault) => Display::fmt(fault, f),
+            ToolFault::Header(fault) => Display::fmt(fault, f),
+            ToolFault::Plan(fault) => Display::fmt(fault, f),
+            ToolFault::Convert(fault) => Display::fmt(fault, f),
+            ToolFault::Check(fault) => Display::fmt(fault, f),
+            other => f.write_str(text_of(*other)),
+        }
+    }
+}
+
+/// Returns the text of a fault that has no fault of a lower layer.
+fn text_of(fault: ToolFault) -> &'static str {
+    match fault {
+        ToolFault::Memory => "Memory",
+        ToolFault::Read => "Read",
+        ToolFault::Write => "Write",
+        ToolFault::BadPosition => {
+            "BadPosition --position X,Y,Z: metres, up to 8 digits and 4 decimals each, \
+             -13743895.3472 to 13743895.3471"
+        }
+        ToolFault::BadHeight => {
+            "BadHeight --antenna-height HEIGHT: metres, up to 4 decimals, 0 to 6.5535"
+        }
+        _ => "NoSignal",
+    }
 }
 
 impl From<DeviceFailed> for ToolFault {
