@@ -1,5 +1,5 @@
 -- Signal counts as a consumer of frames.
-use Rattle.std.proofs.Common.{◌≡◌, ◌∙◌, ap, ◌+◌, ◌*◌, ◌<◌, ◌≤◌, ◌^◌, sym, subst, arith, Bool, true, ℕ, List, [], ◌∷◌, ◌++◌, Option, Some, None, IfSome, Result, Ok, Err, length, length-append, refl}
+use Rattle.std.proofs.Common.{◌≡◌, ◌∙◌, ap, ◌+◌, ◌*◌, ◌<◌, ◌≤◌, ◌^◌, sym, subst, arith, Bool, true, ℕ, List, [], ◌∷◌, ◌++◌, Option, Some, None, IfSome, Result, Ok, Err, length, length-append, append-nil, refl}
 use Rattle.rtcm_scan.specs.Frames.{Framed, frames_of}
 use Rattle.rtcm_scan.specs.Known.{known_frames}
 use Rattle.rtcm_bits.specs.Device.{Device, HasFailed}
@@ -14,13 +14,21 @@ use Rattle.rtcm2rinex.specs.Printing.{EndsPrinting}
 use Rattle.rtcm2rinex.specs.Devices.{HaveFailedBy, ReadFailures, stream_fault}
 use Rattle.rtcm_scan.specs.Passing.{AtFault, Passes, BreaksReading, HasPassedAll, PassesAll, PassesToLimit, Reads}
 use Rattle.rtcm_scan.specs.Scan.{FramerValue}
-use Rattle.obs_epoch.specs.SignalCounts.{AreSignalCounts}
+use Rattle.obs_epoch.specs.SignalCounts.{AreSignalCounts, CountsMessage, SignalCountsValue, valued}
+use Rattle.obs_epoch.specs.Heard.{heard}
+use Rattle.gnss_obs.specs.HeardCells.{HeardCell}
+use Rattle.rtcm_convert.specs.Converted.{heard_of}
+use Rattle.rtcm_msg.specs.Decoding.{message_at}
+use Rattle.rtcm_msg.specs.declared.fault.MsgFault.{MsgFault}
+use Rattle.rtcm_msg.specs.declared.message.Message.{Message}
+use Rattle.rtcm2rinex.specs.Signals.{valued_in, valued_of}
+use Rattle.std.proofs.lemmas.Grind.{flat_map-append}
 use Rattle.rtcm2rinex.specs.SignalOutput.{EndsSignals, ReadsTooMuch, SignalText, StopsSignals}
 use Rattle.rtcm2rinex.specs.Counting.{Counts, StopsCounting, HasCounted, IsCounted, AreSignals, NeverFails}
-use Rattle.rtcm2rinex.specs.Fitting.{first_station, station_of}
+use Rattle.rtcm2rinex.specs.Fitting.{first_station, point_of, station_of}
 use Rattle.rtcm_msg.specs.Station.{InRange}
 use Rattle.rtcm_msg.specs.declared.station.StationParts.{StationParts}
-use Rattle.std.specs.Option.{option_or}
+use Rattle.std.specs.Option.{option_map_or, option_or}
 use Rattle.rtcm2rinex.specs.declared.signals.StreamSignals.{StreamSignals}
 
 -- the first station message of one more frame
@@ -36,6 +44,55 @@ first_more : (wanted : Option ℕ) (fs : List Framed) (f : Framed) → first_sta
 first_more wanted [] f = or_none (station_of wanted f)
 first_more wanted (g ∷ fs) f =
     ap (option_or (station_of wanted g)) (first_more wanted fs f) ∙ or_more (station_of wanted g) (first_station wanted fs) (station_of wanted f)
+
+valued_more : (wanted : Option ℕ) (fs : List Framed) (f : Framed) (cells : List HeardCell) → valued_of wanted f ≡ cells → valued_in wanted (fs ++ f ∷ []) ≡ valued_in wanted fs ++ cells
+valued_more wanted fs f cells is =
+    flat_map-append (valued_of wanted) fs (f ∷ []) ∙ ap (λ (l : List HeardCell). valued_in wanted fs ++ l) (append-nil (valued_of wanted f) ∙ is)
+
+-- at most 64 cells more in one frame more
+still_few : (cells more fs fs2 all : ℕ) → cells ≤ 64 * fs → more ≤ 64 → fs2 ≡ fs + 1 → all ≡ cells + more → all ≤ 64 * fs2
+still_few cells more fs fs2 all few small e sum = omega (arith, few, small, e, sum)
+
+fewer_cells : (cells fs : ℕ) → cells ≤ 64 * fs → fs < 2 ^ 56 → cells < 2 ^ 62
+fewer_cells cells fs few small = omega (arith, few, small)
+
+-- the cells of one more message that was read
+pub read_counted : (c c2 : SignalCountsValue) (wanted : Option ℕ) (fs : List Framed) (f : Framed) (m : Message) → message_at f.message ≡ Ok m → CountsMessage c c2 wanted (heard m)
+    → length fs < 2 ^ 56 → IsCounted c wanted fs → IsCounted c2 wanted (fs ++ f ∷ [])
+read_counted c c2 wanted fs f m is step small h =
+    let cells : List HeardCell = valued_in wanted fs in
+    let more : List HeardCell = valued wanted (heard m) in
+    let own : valued_of wanted f ≡ more = ap (λ (r : Result Message MsgFault). option_map_or (valued wanted) (heard_of r) []) is in
+    let all = valued_more wanted fs f more own in
+    record {
+      signal_counts = subst (AreSignalCounts c2) (sym all) (step.counts cells (fewer_cells (length cells) (length fs) h.few small) h.signal_counts);
+      few = still_few (length cells) (length more) (length fs) (length (fs ++ f ∷ [])) (length (valued_in wanted (fs ++ f ∷ []))) h.few step.few (length-append fs (f ∷ []))
+          (ap length all ∙ length-append cells more);
+    }
+
+-- the first station message after one more message that was read
+pub first_as_read : (first : Option StationParts) (wanted : Option ℕ) (f : Framed) (m : Message) → message_at f.message ≡ Ok m
+    → option_or first (point_of wanted (heard m)) ≡ option_or first (station_of wanted f)
+first_as_read first wanted f m is = ap (λ (r : Result Message MsgFault). option_or first (option_map_or (point_of wanted) (heard_of r) None)) (sym is)
+
+-- a message that was refused has no cells
+pub refused_counted : (c : SignalCountsValue) (wanted : Option ℕ) (fs : List Framed) (f : Framed) (e : MsgFault) → message_at f.message ≡ Err e → IsCounted c wanted fs → IsCounted c wanted (fs ++ f ∷ [])
+refused_counted c wanted fs f e is h =
+    let cells : List HeardCell = valued_in wanted fs in
+    let own : valued_of wanted f ≡ [] = ap (λ (r : Result Message MsgFault). option_map_or (valued wanted) (heard_of r) []) is in
+    let all = valued_more wanted fs f [] own ∙ append-nil cells in
+    record {
+      signal_counts = subst (AreSignalCounts c) (sym all) h.signal_counts;
+      few = longer (length cells) (length fs) (length (fs ++ f ∷ [])) (length (valued_in wanted (fs ++ f ∷ []))) h.few (length-append fs (f ∷ [])) (ap length all);
+    }
+  where
+    longer : (cells fs fs2 all : ℕ) → cells ≤ 64 * fs → fs2 ≡ fs + 1 → all ≡ cells → all ≤ 64 * fs2
+    longer cells fs fs2 all few e same = omega (arith, few, e, same)
+
+-- nor a station
+pub first_kept : (first : Option StationParts) (wanted : Option ℕ) (f : Framed) (e : MsgFault) → message_at f.message ≡ Err e → first ≡ option_or first (station_of wanted f)
+first_kept first wanted f e is =
+    sym (or_none first) ∙ ap (λ (r : Result Message MsgFault). option_or first (option_map_or (point_of wanted) (heard_of r) None)) (sym is)
 
 -- no frame was counted
 pub none_counted : (c : StreamSignals) (wanted : Option ℕ) → AreSignalCounts c.signal_counts [] → c.first ≡ None → AreSignals c wanted []

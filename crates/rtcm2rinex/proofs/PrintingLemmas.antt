@@ -1,5 +1,5 @@
 -- Texts written in one call, and failed calls.
-use Rattle.std.proofs.Common.{◌≡◌, sym, subst, append-nil, ℕ, List, [], Option, Result, Ok, Err, OnErr}
+use Rattle.std.proofs.Common.{◌≡◌, sym, subst, append-nil, ℕ, List, [], Option, Result, Ok, Err, OnErr, OnOk}
 use Rattle.std.specs.Io.KnownBytes.{Appends, Keeps}
 use Rattle.std.proofs.KnownBytes.{Appends-kept}
 use Rattle.rtcm_bits.specs.Device.{AppendsPrefix, Device}
@@ -13,6 +13,14 @@ use Rattle.rtcm2rinex.specs.declared.fault.ToolFault.{ToolFault}
 pub on_err : {A E : Type 0} (r : Result A E) (P Q : Type 0) → (P → Q) → OnErr r P → OnErr r Q
 on_err (Ok x) P Q f p = p
 on_err (Err e) P Q f p = f p
+
+pub on_ok : {A E : Type 0} (r : Result A E) (P Q : Type 0) → (P → Q) → OnOk r P → OnOk r Q
+on_ok (Ok x) P Q f p = f p
+on_ok (Err e) P Q f p = p
+
+pub both_ok : {A E : Type 0} (r : Result A E) (P Q : Type 0) → OnOk r P → OnOk r Q → OnOk r (P × Q)
+both_ok (Ok x) P Q p q = (p, q)
+both_ok (Err e) P Q p q = tt
 
 pub both_err : {A E : Type 0} (r : Result A E) (P Q : Type 0) → OnErr r P → OnErr r Q → OnErr r (P × Q)
 both_err (Ok x) P Q p q = tt

@@ -180,7 +180,7 @@ fn add_station(line: &mut OutputLine, offset: u64, station: StationParts)
 {
     line.put_number(offset);
     line.add_number(if station.height.is_some() { 1006 } else { 1005 });
-    line.add_number(u64::from(station.station));
+    line.add_number(station.station as u64);
     line.add_metres(b' ', station.x);
     line.add_metres(b' ', station.y);
     line.add_metres(b' ', station.z);
@@ -208,12 +208,12 @@ fn add_msm(line: &mut OutputLine, offset: u64, msm: &MsmView<'_>)
 {
     let header = msm.header();
     line.put_number(offset);
-    line.add_number(u64::from(msm.number()));
-    line.add_number(u64::from(header.station));
-    line.add_number(u64::from(header.time));
+    line.add_number(msm.number() as u64);
+    line.add_number(header.station as u64);
+    line.add_number(header.time as u64);
     line.add_number(u64::from(header.more));
     line.add_number(msm.satellites() as u64);
-    line.add_number(u64::from(msm.masks().signals().count_ones()));
+    line.add_number(msm.masks().signals().count_ones() as u64);
     line.add_number(msm.cells() as u64);
     line.finish();
 }

@@ -1,4 +1,4 @@
-use Rattle.std.proofs.Common.{◌≡◌, ◌∙◌, ◌∷◌, ap, rules, ℕ, List, decimal, is_some, if◌then◌else◌}
+use Rattle.std.proofs.Common.{◌≡◌, ◌∙◌, ◌∷◌, ap, refl, rules, ℕ, List, decimal, is_some, if◌then◌else◌}
 use Rattle.rtcm2rinex.specs.Lines.{with_words}
 use Rattle.rtcm2rinex.specs.Metres.{metres}
 use Rattle.rtcm2rinex.specs.ShowLines.{station_line, height_words}
@@ -12,7 +12,7 @@ returns c =
     let s = c.args.station in
     let kind : c.if-is_some.add_number ≡ (if is_some s.height then 1006 else 1005) = search rules in
     let number = add_word c.add_number.ensures.text c.put_number.ensures.text (ap decimal kind) in
-    let station = add_word c.add_number-2.ensures.text number (ap decimal c.from.ensures) in
+    let station = add_word c.add_number-2.ensures.text number refl in
     let x = add_word c.add_metres.ensures.text station (ap metres (as_passed s.x c.requires.in_range.x)) in
     let y = add_word c.add_metres-2.ensures.text x (ap metres (as_passed s.y c.requires.in_range.y)) in
     let z = add_word c.add_metres-3.ensures.text y (ap metres (as_passed s.z c.requires.in_range.z)) in

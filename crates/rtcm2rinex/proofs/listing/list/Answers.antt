@@ -33,3 +33,6 @@ returns-in_err-read g c =
     (listing_stopped remaining contents v c.read_frames-read.new.self c.args.listing c.read_frames-read.new.sink c.args.writer.now c.read_frames-read.new.out
     c.args.reader.now c.read_frames-read.new.reader _ c.args.limit fault refl (ap (λ (f : FramerValue). f.limit) c.in-Ok.ensures.new) (ap (λ (f : FramerValue). f.taken) c.in-Ok.ensures.new)
     going new end.fault end.going end.sent end.reader.0)
+
+pub returns-in_default : goal.returns-in_default
+returns-in_default g c = ((refl, refl), (refl, refl))
