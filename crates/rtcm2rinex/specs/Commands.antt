@@ -23,6 +23,8 @@ use Rattle.rtcm2rinex.specs.SetupOptions.{IsSetupRefused}
 use Rattle.rtcm2rinex.specs.declared.fault.ToolFault.{ToolFault}
 use Rattle.rtcm2rinex.specs.declared.fault.ToolFault.TheVariants as faults
 use Rattle.rtcm2rinex.specs.declared.cli.TheConstants.{VERSION}
+use Rattle.rtcm2rinex.specs.declared.command.Asked.{Asked}
+use Rattle.rtcm2rinex.specs.declared.command.Asked.TheVariants as asked
 
 -- The command of this name completed with these options: the stream was read to its end and listed, its signals or
 -- options were printed, or its file was written and has an epoch; or a file was read back.
@@ -52,6 +54,15 @@ abbrev pub EndsCommand : {A R W : Type 0} → Result A ToolFault → (R → Opti
     → (W → Option (List ℕ)) → (w w' : Device W) → Text → List Row → Type 0
 EndsCommand result left r r' held w w' name options =
     Ends result r r' w w' (λ _. HasDone left r r' held w w' name options) (HasStopped left r r' held w w' name options)
+
+-- the name of a command
+abbrev pub name_of : Asked → Text
+name_of asked.Frames = codes "frames"
+name_of asked.Show = codes "show"
+name_of asked.Signals = codes "signals"
+name_of asked.Options = codes "options"
+name_of asked.Convert = codes "convert"
+name_of asked.Check = codes "check"
 
 -- a command of the program was found in words
 abbrev pub HasCommand : ArgMatches → Type 0

@@ -5,7 +5,8 @@ ghost use Rattle.clap.specs.Walk.{texts};
 ghost use Rattle.rtcm_convert.specs.Faults.{IsUntouched};
 ghost use Rattle.clap.specs.Values.{kind_of};
 ghost use Rattle.clap.specs.declared.error.kind.ErrorKind.TheVariants.{DisplayVersion, OutOfMemory};
-ghost use Rattle.rtcm2rinex.specs.Commands.{AreRefused, EndsFound, HasCommand};
+ghost use Rattle.rtcm2rinex.specs.CommandLine.{IsCommand};
+ghost use Rattle.rtcm2rinex.specs.Commands.{AreRefused, EndsFound, HasCommand, name_of};
 ghost use Rattle.rtcm2rinex.specs.Commands.{HasStoppedEarly, HasCompleted, StopsPrinting, status_of};
 ghost use Rattle.rtcm2rinex.specs.Printing.{PrintsText};
 ghost use Rattle.rtcm2rinex.specs.declared.cli.TheConstants.{VERSION};
@@ -23,6 +24,7 @@ use crate::signals::{run_options, run_signals};
 use clap::ArgMatches;
 use clap::error::ErrorKind;
 use rtcm_bits::Counted;
+use rtcm_convert::Report;
 use std::alloc::Global;
 use std::io;
 use std::io::{Read, Write};
@@ -59,7 +61,37 @@ pub fn command<R: Read, W: Write, E: Write>(
             drop(matches);
             exit_status(ended, faults)
         }
-        Err(error) => answer(&error, writer, faults),
+        Err(error) => {
+            let status = answer(&error, writer, faults);
+            drop(error);
+            status
+        }
+    }
+}
+
+/// A command of the program.
+#[derive(Clone, Copy)]
+enum Asked {
+    Frames,
+    Show,
+    Signals,
+    Options,
+    Convert,
+    Check,
+}
+
+/// Returns the command of this name.
+fn command_of(name: &str) -> Asked
+    requires { IsCommand name.now }
+    ensures { name.now ≡ name_of result }
+{
+    match name {
+        "frames" => Asked::Frames,
+        "show" => Asked::Show,
+        "signals" => Asked::Signals,
+        "options" => Asked::Options,
+        "convert" => Asked::Convert,
+        _ => Asked::Check,
     }
 }
 
@@ -78,14 +110,13 @@ fn run<R: Read, W: Write, E: Write>(
     let Some((name, options)) = matches.subcommand() else {
         unreachable!()
     };
-    match name {
-        "frames" => run_frames(alloc, reader, writer),
-        "show" => run_show(alloc, reader, writer),
-        "signals" => run_signals(alloc, station_of(options), reader, writer),
-        "options" => run_options(alloc, station_of(options), reader, writer),
-        "convert" => convert(alloc, options, reader, writer, faults),
-        "check" => run_check(alloc, reader, writer),
-        _ => unreachable!(),
+    match command_of(name) {
+        Asked::Frames => run_frames(alloc, reader, writer),
+        Asked::Show => run_show(alloc, reader, writer),
+        Asked::Signals => run_signals(alloc, station_of(options), reader, writer),
+        Asked::Options => run_options(alloc, station_of(options), reader, writer),
+        Asked::Convert => convert(alloc, options, reader, writer, faults),
+        Asked::Check => run_check(alloc, reader, writer),
     }
 }
 
@@ -104,8 +135,12 @@ fn convert<R: Read, W: Write, E: Write>(
     let initial = values_of(options)?;
     let setup = setup_of(alloc, options)?;
     let report = run_convert_at(alloc, setup, initial, reader, writer)?;
-    let _ = faults.write_all(report_line(&report).as_bytes());
+    print_report(&report, faults);
     Ok(())
+}
+
+fn print_report<E: Write>(report: &Report, faults: &mut E) {
+    let _ = faults.write_all(report_line(report).as_bytes());
 }
 
 /// Prints the version if the words ask for it, else clap's error. Returns the exit status.
