@@ -1,5 +1,5 @@
 //! Devices that fail after each byte.
-use super::scenario::{Expected, FAULTLESS, Outcome, READ, Room, Setting, WRITE, run};
+use super::scenario::{FAULTLESS, READ, Room, Setting, WRITE, ends, run};
 use super::texts::{Text, front};
 use crate::command::command;
 use rtcm_bits::devices::{PieceReader, ReadEnd, ShortWriter, WriteEnd};
@@ -9,62 +9,94 @@ use std::io;
 use std::io::{ErrorKind, Read};
 use std::process::Abort;
 
-/// Asserts, for each byte of the output, that a writer that fails after it is reported, with the
-/// bytes before written.
-pub fn assert_write_faults(
-    rt: &impl Abort,
-    alloc: Global,
-    words: &[&str],
-    input: Text<'_>,
-    most: usize,
-    output: Text<'_>,
-) {
-    assert_eq!(*rt;
-        unprinted_write_fault(alloc, words, input, most, output),
-        Ok(None)
+/// What fails while a command runs, and what is reported.
+#[derive(Clone, Copy)]
+pub enum Failing<'a> {
+    /// For each byte of the output a writer fails after it, which accepts at most this number of
+    /// bytes at once. It is reported, with the bytes before written.
+    Writer(usize),
+    /// For each byte of the input a reader fails after it. It is reported. Nothing is written
+    /// before the last byte, and the output after it.
+    Reader,
+    /// A buffer's device accepts two bytes, which are the output, and then fails once. The writer
+    /// is reported.
+    Device,
+    /// A read fails after all of the input. Then the device of a buffer has the output.
+    Sent,
+    /// A reader has the input twice, and once between them a read returns this. The status and what
+    /// is reported follow; nothing is read after the failure or the end.
+    Stop(ReadEnd, u8, &'a str),
+    /// The writer for faults fails. The stream ends so; the status follows. The output isn't
+    /// compared.
+    Faults(ReadEnd, u8),
+}
+
+/// The words, the input, the output, and what fails.
+pub type Failure<'a> = (&'a [&'a str], Text<'a>, Text<'a>, Failing<'a>);
+
+/// Asserts that each failure is reported as it should be.
+pub fn assert_reported(rt: &impl Abort, alloc: Global, failures: &[Failure<'_>]) {
+    for failure in failures {
+        assert!(*rt; is_reported(alloc, failure));
+    }
+}
+
+fn is_reported(alloc: Global, failure: &Failure<'_>) -> bool {
+    match is_reported_of(alloc, failure) {
+        Ok(is) => is,
+        Err(_) => false,
+    }
+}
+
+fn is_reported_of(alloc: Global, failure: &Failure<'_>) -> Result<bool, AllocError> {
+    let input = failure.1.bytes(alloc)?;
+    let output = failure.2.bytes(alloc)?;
+    let is = reports(
+        alloc,
+        failure.0,
+        input.as_slice(),
+        output.as_slice(),
+        &failure.3,
     );
+    drop(output);
+    drop(input);
+    is
 }
 
-/// Asserts, for each byte of the input, that a reader that fails after it is reported. Nothing is
-/// written before the last byte, and this output after it.
-pub fn assert_read_faults(
-    rt: &impl Abort,
-    alloc: Global,
-    words: &[&str],
-    input: Text<'_>,
-    output: Text<'_>,
-) {
-    assert_eq!(*rt; unprinted_read_fault(alloc, words, input, output), Ok(None));
-}
-
-/// The first number of bytes after which a failing writer has another outcome.
-fn unprinted_write_fault(
-    alloc: Global,
-    words: &[&str],
-    input: Text<'_>,
-    most: usize,
-    output: Text<'_>,
-) -> Result<Option<usize>, AllocError> {
-    let input = input.bytes(alloc)?;
-    let output = output.bytes(alloc)?;
-    Ok(unprinted_write(alloc, words, input.as_slice(), most, output.as_slice()))
-}
-
-fn unprinted_write(
+fn reports(
     alloc: Global,
     words: &[&str],
     input: &[u8],
-    most: usize,
     output: &[u8],
-) -> Option<usize> {
+    failing: &Failing<'_>,
+) -> Result<bool, AllocError> {
+    match failing {
+        Failing::Writer(most) => Ok(reports_writes(alloc, words, input, *most, output)),
+        Failing::Reader => Ok(reports_reads(alloc, words, input, output)),
+        Failing::Device => reports_device(alloc, words, input, output),
+        Failing::Sent => has_sent(alloc, words, input, output),
+        Failing::Stop(stop, status, faults) => {
+            Ok(stops(
+                alloc,
+                words,
+                input,
+                *stop,
+                (*status, output, faults.as_bytes()),
+            ))
+        }
+        Failing::Faults(end, status) => Ok(ends_unprinted(alloc, words, input, *end, *status)),
+    }
+}
+
+fn reports_writes(alloc: Global, words: &[&str], input: &[u8], most: usize, output: &[u8]) -> bool {
     for total in 0..output.len() {
         let end = WriteEnd::Fails(ErrorKind::Other);
         let room = Room { most, total, end };
         if !is_write_given(alloc, words, input, room, front(output, total)) {
-            return Some(total);
+            return false;
         }
     }
-    None
+    true
 }
 
 /// Whether a writer with this room is reported as failed, and has these bytes.
@@ -77,26 +109,14 @@ fn is_write_given(alloc: Global, words: &[&str], input: &[u8], room: Room, taken
     run(alloc, &setting, input, &[]).is(1, taken, WRITE.as_bytes())
 }
 
-/// The first number of bytes after which a failing reader has another outcome.
-fn unprinted_read_fault(
-    alloc: Global,
-    words: &[&str],
-    input: Text<'_>,
-    output: Text<'_>,
-) -> Result<Option<usize>, AllocError> {
-    let input = input.bytes(alloc)?;
-    let output = output.bytes(alloc)?;
-    Ok(unprinted_read(alloc, words, input.as_slice(), output.as_slice()))
-}
-
-fn unprinted_read(alloc: Global, words: &[&str], input: &[u8], output: &[u8]) -> Option<usize> {
+fn reports_reads(alloc: Global, words: &[&str], input: &[u8], output: &[u8]) -> bool {
     for given in 0..=input.len() {
         let written = if given == input.len() { output } else { &[] };
         if !is_read_given(alloc, words, front(input, given), written) {
-            return Some(given);
+            return false;
         }
     }
-    None
+    true
 }
 
 /// Whether a reader that fails after these bytes is reported, and this was written.
@@ -109,44 +129,21 @@ fn is_read_given(alloc: Global, words: &[&str], given: &[u8], written: &[u8]) ->
     run(alloc, &setting, given, &[5]).is(1, written, READ.as_bytes())
 }
 
-/// Whether a buffer whose device accepts two bytes, which are these, and then fails once is
-/// reported as a failed writer.
-pub fn is_given_after_buffer(
-    alloc: Global,
-    words: &[&str],
-    input: Text<'_>,
-    output: Text<'_>,
-) -> Result<bool, AllocError> {
-    let input = input.bytes(alloc)?;
-    let output = output.bytes(alloc)?;
-    is_given_after(alloc, words, input.as_slice(), output.as_slice())
-}
-
-fn is_given_after(
+fn reports_device(
     alloc: Global,
     words: &[&str],
     input: &[u8],
     output: &[u8],
 ) -> Result<bool, AllocError> {
+    let mut reader = Counted::new(PieceReader::new(input, &[], ReadEnd::Ends));
     let device = ShortWriter::new(Vec::new(alloc), 1, 2, WriteEnd::FailsOnce(ErrorKind::Other));
-    let mut reader = Counted::new(input);
-    let mut writer = Counted::new(Buffered::new(alloc, device)?);
-    let mut faults = Vec::new(alloc);
-    let status = command(alloc, words, &mut reader, &mut writer, &mut faults);
-    let taken = writer.into_inner().into_inner().into_inner();
-    Ok(status == 1 && taken.as_slice() == output && faults.as_slice() == WRITE.as_bytes())
-}
-
-/// Whether the device of a buffer has this output when a read fails after all of the input.
-pub fn is_sent_before_fault(
-    alloc: Global,
-    words: &[&str],
-    input: Text<'_>,
-    output: Text<'_>,
-) -> Result<bool, AllocError> {
-    let input = input.bytes(alloc)?;
-    let output = output.bytes(alloc)?;
-    has_sent(alloc, words, input.as_slice(), output.as_slice())
+    ends_buffered(
+        alloc,
+        words,
+        &mut reader,
+        device,
+        (1, output, WRITE.as_bytes()),
+    )
 }
 
 fn has_sent(
@@ -157,11 +154,33 @@ fn has_sent(
 ) -> Result<bool, AllocError> {
     let end = ReadEnd::Fails(ErrorKind::Other);
     let mut reader = Counted::new(PieceReader::new(input, &[5], end));
-    let mut writer = Counted::new(Buffered::new(alloc, Vec::new(alloc))?);
+    let most = usize::MAX;
+    let device = ShortWriter::new(Vec::new(alloc), most, most, WriteEnd::TakesNone);
+    ends_buffered(
+        alloc,
+        words,
+        &mut reader,
+        device,
+        (1, output, READ.as_bytes()),
+    )
+}
+
+/// Whether a command that writes to the buffer of a device has this status, output and faults.
+fn ends_buffered(
+    alloc: Global,
+    words: &[&str],
+    reader: &mut Counted<PieceReader<'_>>,
+    device: ShortWriter<Vec<u8>>,
+    wanted: (u8, &[u8], &[u8]),
+) -> Result<bool, AllocError> {
+    let mut writer = Counted::new(Buffered::new(alloc, device)?);
     let mut faults = Vec::new(alloc);
-    let status = command(alloc, words, &mut reader, &mut writer, &mut faults);
-    let taken: Vec<u8> = writer.into_inner().into_inner();
-    Ok(status == 1 && taken.as_slice() == output && faults.as_slice() == READ.as_bytes())
+    let status = command(alloc, words, reader, &mut writer, &mut faults);
+    let taken = writer.into_inner().into_inner().into_inner();
+    let is = ends((status, taken.as_slice(), faults.as_slice()), wanted);
+    drop(taken);
+    drop(faults);
+    Ok(is)
 }
 
 /// A reader that has the same piece twice, and fails or ends once between them.
@@ -187,49 +206,35 @@ impl<'a> Read for Resumes<'a> {
     }
 }
 
-/// Whether a command over such a reader has this outcome, with at most one failure.
-pub fn is_stopped(
+fn stops(
     alloc: Global,
     words: &[&str],
-    piece: Text<'_>,
+    piece: &[u8],
     stop: ReadEnd,
-    expected: &Expected<'_>,
-) -> Result<bool, AllocError> {
-    let piece = piece.bytes(alloc)?;
-    let output = expected.output().bytes(alloc)?;
+    wanted: (u8, &[u8], &[u8]),
+) -> bool {
     let mut reader = Counted::new(Resumes {
-        piece: piece.as_slice(),
+        piece,
         stop,
         reads: 0,
     });
     let mut writer = Counted::new(Vec::new(alloc));
     let mut faults = Vec::new(alloc);
     let status = command(alloc, words, &mut reader, &mut writer, &mut faults);
-    let outcome = Outcome {
-        status,
-        output: writer.into_inner(),
-        faults,
-        has_read: true,
-    };
-    Ok(expected.is(&outcome, output.as_slice()) && reader.into_inner().reads == 2)
+    let reads = reader.into_inner().reads;
+    let taken = writer.into_inner();
+    let is = ends((status, taken.as_slice(), faults.as_slice()), wanted);
+    drop(taken);
+    drop(faults);
+    is && reads == 2
 }
 
-/// The status of a command whose writer for faults fails, and whether that accepted nothing.
-pub fn unprinted(
-    alloc: Global,
-    words: &[&str],
-    input: Text<'_>,
-    end: ReadEnd,
-) -> Result<(u8, bool), AllocError> {
-    let input = input.bytes(alloc)?;
-    Ok(status_without_error(alloc, words, input.as_slice(), end))
-}
-
-fn status_without_error(alloc: Global, words: &[&str], input: &[u8], end: ReadEnd) -> (u8, bool) {
+fn ends_unprinted(alloc: Global, words: &[&str], input: &[u8], end: ReadEnd, wanted: u8) -> bool {
     let mut reader = Counted::new(PieceReader::new(input, &[], end));
     let mut writer = Counted::new(Vec::new(alloc));
     let end = WriteEnd::Fails(ErrorKind::Other);
     let mut faults = ShortWriter::new(Vec::new(alloc), 1, 0, end);
     let status = command(alloc, words, &mut reader, &mut writer, &mut faults);
-    (status, faults.into_inner().is_empty())
+    let is_empty = faults.into_inner().is_empty();
+    status == wanted && is_empty
 }

@@ -1,14 +1,12 @@
 //! Devices that fail.
-use super::broken::{
-    assert_read_faults, assert_write_faults, is_given_after_buffer, is_sent_before_fault,
-    is_stopped, unprinted,
-};
+use super::broken::Failing::{Device, Faults, Reader, Sent, Stop, Writer};
+use super::broken::{Failure, assert_reported};
 use super::check::CHECK;
 use super::convert::OPTIONS;
 use super::frames::{FRAMES, SHOW, SHOWN};
 use super::messages::{FINE, FRAMED_STATION, HEIGHT, LATE_FRAME};
 use super::scenario::Expected::{Fault, Good};
-use super::scenario::{Case, Expected, FAULTLESS, READ, Room, Setting, WRITE, assert_come};
+use super::scenario::{Case, FAULTLESS, READ, Room, Setting, WRITE, assert_come};
 use super::signals::SIGNALS;
 use super::texts::ExpectedLine::{Above, NextTime, NextValues, Position, Time, TwoLines, Values};
 use super::texts::Piece::{Fine, Framed, Front};
@@ -16,7 +14,6 @@ use super::texts::Text::{Bytes, File, Lines, Stream};
 use super::texts::{FINE_FILE, REPORT, Text};
 use rtcm_bits::devices::{ReadEnd, WriteEnd};
 use std::io::ErrorKind;
-use std::test::Fail;
 
 /// The frame of `FINE`.
 const ONE_FRAME: Text = Stream(&[Fine(&[])]);
@@ -79,27 +76,20 @@ const EVENT_FILE: Text = File(
     ],
 );
 
-/// The words, the stream, the largest number of bytes of a write, and the whole output.
-type Written<'a> = (&'a [&'a str], Text<'a>, usize, Text<'a>);
-
-static WRITTEN: [Written; 4] = [
-    (&OPTIONS, ONE_FRAME, 50, FINE_FILE),
-    (&OPTIONS, WITH_EVENT, 1000, EVENT_FILE),
-    (&SIGNALS, ONE_FRAME, 3, Lines("G 1C 1\n")),
-    (
-        &CHECK,
-        FINE_FILE,
-        4,
-        Lines("epochs 1 satellites 1 events 0\n"),
-    ),
+static WRITTEN: [Failure; 4] = [
+    (&OPTIONS, ONE_FRAME, FINE_FILE, Writer(50)),
+    (&OPTIONS, WITH_EVENT, EVENT_FILE, Writer(1000)),
+    (&SIGNALS, ONE_FRAME, Lines("G 1C 1\n"), Writer(3)),
+    (&CHECK, FINE_FILE, COUNTS, Writer(4)),
 ];
+
+/// The line of `FINE_FILE`.
+const COUNTS: Text = Lines("epochs 1 satellites 1 events 0\n");
 
 // The bytes that a device accepted before it failed are a prefix of the whole output.
 #[test]
 fn a_writer_may_fail_after_each_byte(rt: HostRuntime) {
-    for (words, input, most, output) in &WRITTEN {
-        assert_write_faults(&rt, rt.alloc(), words, *input, *most, *output);
-    }
+    assert_reported(&rt, rt.alloc(), &WRITTEN);
 }
 
 /// The largest numbers of bytes of a write and of all writes, and a case with such an output.
@@ -124,105 +114,99 @@ fn a_writer_may_take_few_bytes(rt: HostRuntime) {
     }
 }
 
-/// The words, the stream, and the whole output.
-type Read<'a> = (&'a [&'a str], Text<'a>, Text<'a>);
-
-static READS: [Read; 3] = [
-    (&OPTIONS, ONE_FRAME, FINE_FILE),
-    (&SIGNALS, ONE_FRAME, Lines("")),
-    (&CHECK, FINE_FILE, Lines("")),
+static READS: [Failure; 3] = [
+    (&OPTIONS, ONE_FRAME, FINE_FILE, Reader),
+    (&SIGNALS, ONE_FRAME, Lines(""), Reader),
+    (&CHECK, FINE_FILE, Lines(""), Reader),
 ];
 
 // The file of the epochs that the bytes before close is written: of one message after its last
 // byte.
 #[test]
 fn a_reader_may_fail_after_each_byte(rt: HostRuntime) {
-    for (words, input, output) in &READS {
-        assert_read_faults(&rt, rt.alloc(), words, *input, *output);
-    }
+    assert_reported(&rt, rt.alloc(), &READS);
 }
 
-static FLUSHED: [Read; 5] = [
-    (&FRAMES, ONE_FRAME, Lines("0 ")),
-    (&SHOW, ONE_FRAME, Lines("0 ")),
-    (&OPTIONS, ONE_FRAME, Lines("  ")),
-    (&SIGNALS, ONE_FRAME, Lines("G ")),
-    (&CHECK, FINE_FILE, Lines("ep")),
+static FLUSHED: [Failure; 5] = [
+    (&FRAMES, ONE_FRAME, Lines("0 "), Device),
+    (&SHOW, ONE_FRAME, Lines("0 "), Device),
+    (&OPTIONS, ONE_FRAME, Lines("  "), Device),
+    (&SIGNALS, ONE_FRAME, Lines("G "), Device),
+    (&CHECK, FINE_FILE, Lines("ep"), Device),
 ];
 
 // A buffer accepts every line, and its device fails when they are written.
 #[test]
-fn a_flush_that_fails_is_given(rt: HostRuntime) -> Result<(), Fail> {
-    for (words, input, output) in &FLUSHED {
-        assert!(rt; is_given_after_buffer(rt.alloc(), words, *input, *output)?);
-    }
-    Ok(())
+fn a_flush_that_fails_is_given(rt: HostRuntime) {
+    assert_reported(&rt, rt.alloc(), &FLUSHED);
 }
 
-static SENT: [Read; 3] = [
-    (&FRAMES, Bytes(&FRAMED_STATION), Lines("0 19 1005\n")),
-    (&SHOW, Bytes(&FRAMED_STATION), SHOWN),
-    (&OPTIONS, ONE_FRAME, FINE_FILE),
+static SENT: [Failure; 3] = [
+    (&FRAMES, Bytes(&FRAMED_STATION), Lines("0 19 1005\n"), Sent),
+    (&SHOW, Bytes(&FRAMED_STATION), SHOWN, Sent),
+    (&OPTIONS, ONE_FRAME, FINE_FILE, Sent),
 ];
 
 // Decided output is flushed before the next read.
 #[test]
-fn decided_output_is_flushed(rt: HostRuntime) -> Result<(), Fail> {
-    for (words, input, output) in &SENT {
-        assert!(rt; is_sent_before_fault(rt.alloc(), words, *input, *output)?);
-    }
-    Ok(())
+fn decided_output_is_flushed(rt: HostRuntime) {
+    assert_reported(&rt, rt.alloc(), &SENT);
 }
-
-/// The words, what a read returns after the first piece, and the outcome.
-type Stopped<'a> = (&'a [&'a str], ReadEnd, Expected<'a>);
 
 const FAILS: ReadEnd = ReadEnd::Fails(ErrorKind::Interrupted);
 
-static STOPPED: [Stopped; 8] = [
-    (&FRAMES, FAILS, Fault(Lines("0 36 1077\n"), READ)),
-    (&FRAMES, ReadEnd::Ends, Good(Lines("0 36 1077\n"), "")),
-    (&SHOW, FAILS, Fault(SHOWN_FINE, READ)),
-    (&SHOW, ReadEnd::Ends, Good(SHOWN_FINE, "")),
-    (&SIGNALS, FAILS, Fault(Lines(""), READ)),
-    (&SIGNALS, ReadEnd::Ends, Good(Lines("G 1C 1\n"), "")),
-    (&OPTIONS, FAILS, Fault(FINE_FILE, READ)),
-    (&OPTIONS, ReadEnd::Ends, Good(FINE_FILE, REPORT)),
+static STOPPED: [Failure; 10] = [
+    (&FRAMES, ONE_FRAME, LISTED_FINE, Stop(FAILS, 1, READ)),
+    (&FRAMES, ONE_FRAME, LISTED_FINE, Stop(ReadEnd::Ends, 0, "")),
+    (&SHOW, ONE_FRAME, SHOWN_FINE, Stop(FAILS, 1, READ)),
+    (&SHOW, ONE_FRAME, SHOWN_FINE, Stop(ReadEnd::Ends, 0, "")),
+    (&SIGNALS, ONE_FRAME, Lines(""), Stop(FAILS, 1, READ)),
+    (
+        &SIGNALS,
+        ONE_FRAME,
+        Lines("G 1C 1\n"),
+        Stop(ReadEnd::Ends, 0, ""),
+    ),
+    (&OPTIONS, ONE_FRAME, FINE_FILE, Stop(FAILS, 1, READ)),
+    (
+        &OPTIONS,
+        ONE_FRAME,
+        FINE_FILE,
+        Stop(ReadEnd::Ends, 0, REPORT),
+    ),
+    (&CHECK, FINE_FILE, Lines(""), Stop(FAILS, 1, READ)),
+    (&CHECK, FINE_FILE, COUNTS, Stop(ReadEnd::Ends, 0, "")),
 ];
 
-/// The line of `FINE`.
+/// The lines of `FINE`.
+const LISTED_FINE: Text = Lines("0 36 1077\n");
+
 const SHOWN_FINE: Text = Lines("0 1077 2003 1000 0 1 1 1\n");
 
 // The reader has the same piece again after it failed once, and after it ended.
 #[test]
-fn nothing_is_read_after_a_failure_or_the_end(rt: HostRuntime) -> Result<(), Fail> {
-    for (words, stop, expected) in &STOPPED {
-        assert!(rt; is_stopped(rt.alloc(), words, ONE_FRAME, *stop, expected)?);
-    }
-    let counts = Lines("epochs 1 satellites 1 events 0\n");
-    for (stop, expected) in [
-        (FAILS, Fault(Lines(""), READ)),
-        (ReadEnd::Ends, Good(counts, "")),
-    ] {
-        assert!(rt; is_stopped(rt.alloc(), &CHECK, FINE_FILE, stop, &expected)?);
-    }
-    Ok(())
+fn nothing_is_read_after_a_failure_or_the_end(rt: HostRuntime) {
+    assert_reported(&rt, rt.alloc(), &STOPPED);
 }
 
-static UNTOLD: [(&[&str], Text, ReadEnd, u8); 3] = [
-    (&FRAMES, Bytes(&[]), ReadEnd::Fails(ErrorKind::Other), 1),
-    (&["rtcm2rinex", "fames"], Bytes(&[]), ReadEnd::Ends, 2),
-    (&OPTIONS, ONE_FRAME, ReadEnd::Ends, 0),
+static UNTOLD: [Failure; 3] = [
+    (
+        &FRAMES,
+        Bytes(&[]),
+        Lines(""),
+        Faults(ReadEnd::Fails(ErrorKind::Other), 1),
+    ),
+    (
+        &["rtcm2rinex", "fames"],
+        Bytes(&[]),
+        Lines(""),
+        Faults(ReadEnd::Ends, 2),
+    ),
+    (&OPTIONS, ONE_FRAME, FINE_FILE, Faults(ReadEnd::Ends, 0)),
 ];
 
 // A failure of the writer for faults changes no status.
 #[test]
-fn a_fault_writer_may_fail(rt: HostRuntime) -> Result<(), Fail> {
-    for (words, input, end, status) in &UNTOLD {
-        assert_eq!(rt;
-            unprinted(rt.alloc(), words, *input, *end)?,
-            (*status, true)
-        );
-    }
-    Ok(())
+fn a_fault_writer_may_fail(rt: HostRuntime) {
+    assert_reported(&rt, rt.alloc(), &UNTOLD);
 }

@@ -81,26 +81,46 @@ fn lists(alloc: Global, stream: &[u8], limit: u16, is_refused: bool, lines: &[u8
         &mut reader,
         &mut writer,
     );
-    let found = match answer {
-        Ok(()) => Some(false),
-        Err(ToolFault::Scan(ScanFault::TooLong)) => Some(true),
-        Err(_) => None,
-    };
-    found == Some(is_refused) && writer.into_inner().as_slice() == lines
+    let written = writer.into_inner();
+    let has_lines = written.as_slice() == lines;
+    drop(written);
+    has_lines && is_refusal(answer, is_refused)
+}
+
+/// Whether a result is that of a stream that is too long, or of one that is listed.
+fn is_refusal(listed: Result<(), ToolFault>, is_refused: bool) -> bool {
+    match listed {
+        Ok(()) => !is_refused,
+        Err(ToolFault::Scan(ScanFault::TooLong)) => is_refused,
+        Err(_) => false,
+    }
+}
+
+/// A limit, whether the stream is refused, and the lines.
+type Limit<'a> = (u16, bool, &'a [u8]);
+
+static LIMITS: [Limit; 4] = [
+    (24, true, b""),
+    (25, true, b"0 19 1005\n"),
+    (49, true, b"0 19 1005\n"),
+    (50, false, b"0 19 1005\n25 19 1005\n"),
+];
+
+fn list_all(alloc: Global, stream: &[u8], limits: &[Limit<'_>]) -> bool {
+    for (limit, is_refused, lines) in limits {
+        if !lists(alloc, stream, *limit, *is_refused, lines) {
+            return false;
+        }
+    }
+    true
 }
 
 // The output that the bytes up to the limit decide is written.
 #[test]
 fn a_long_stream_is_given(rt: HostRuntime) -> Result<(), Fail> {
     let stream = Stream(&[Framed(&STATION), Framed(&STATION)]).bytes(rt.alloc())?;
-    let rows: [(u16, bool, &[u8]); 4] = [
-        (24, true, b""),
-        (25, true, b"0 19 1005\n"),
-        (49, true, b"0 19 1005\n"),
-        (50, false, b"0 19 1005\n25 19 1005\n"),
-    ];
-    for (limit, is_refused, lines) in rows {
-        assert!(rt; lists(rt.alloc(), stream.as_slice(), limit, is_refused, lines));
-    }
+    let are_listed = list_all(rt.alloc(), stream.as_slice(), &LIMITS);
+    drop(stream);
+    assert!(rt; are_listed);
     Ok(())
 }

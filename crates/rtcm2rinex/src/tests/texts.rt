@@ -99,26 +99,34 @@ impl<'a> ExpectedLine<'a> {
 impl<'a> Text<'a> {
     pub fn bytes(&self, alloc: Global) -> Result<Vec<u8>, AllocError> {
         let mut bytes = Vec::new(alloc);
-        match self {
-            Text::Bytes(these) => bytes.extend_from_slice(these)?,
-            Text::Lines(lines) => bytes.extend_from_slice(lines.as_bytes())?,
-            Text::Stream(pieces) => add_pieces(&mut bytes, pieces)?,
-            Text::File(replaced, lines) => add_file(&mut bytes, replaced, lines)?,
-        }
+        self.add_to(&mut bytes)?;
         Ok(bytes)
+    }
+
+    fn add_to(&self, bytes: &mut Vec<u8>) -> Result<(), AllocError> {
+        match self {
+            Text::Bytes(these) => bytes.extend_from_slice(these),
+            Text::Lines(lines) => bytes.extend_from_slice(lines.as_bytes()),
+            Text::Stream(pieces) => add_pieces(bytes, pieces),
+            Text::File(replaced, lines) => add_file(bytes, replaced, lines),
+        }
     }
 }
 
 fn add_pieces(stream: &mut Vec<u8>, pieces: &[Piece<'_>]) -> Result<(), AllocError> {
     for piece in pieces {
-        match piece {
-            Piece::Framed(message) => add_frame(stream, message)?,
-            Piece::Fine(changes) => add_frame(stream, &fine(changes))?,
-            Piece::Repeated(byte, count) => add_repeated(stream, *byte, *count)?,
-            Piece::Front(bytes, length) => stream.extend_from_slice(front(bytes, *length))?,
-        }
+        add_piece(stream, piece)?;
     }
     Ok(())
+}
+
+fn add_piece(stream: &mut Vec<u8>, piece: &Piece<'_>) -> Result<(), AllocError> {
+    match piece {
+        Piece::Framed(message) => add_frame(stream, message),
+        Piece::Fine(changes) => add_frame(stream, &fine(changes)),
+        Piece::Repeated(byte, count) => add_repeated(stream, *byte, *count),
+        Piece::Front(bytes, length) => stream.extend_from_slice(front(bytes, *length)),
+    }
 }
 
 /// The first `length` bytes, or all.

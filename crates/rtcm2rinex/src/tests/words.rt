@@ -35,11 +35,13 @@ fn are_refused(alloc: Global, kind: ErrorKind, status: u8, text: &[u8]) -> bool 
 #[test]
 fn words_that_cannot_be_had_are_given(rt: HostRuntime) {
     let invalid_text = b"error: a word of the command line isn't UTF-8\n";
-    let rows: [(ErrorKind, u8, &[u8]); 2] = [
-        (ErrorKind::OutOfMemory, 1, b"rtcm2rinex: Memory\n"),
-        (ErrorKind::InvalidData, 2, invalid_text),
-    ];
-    for (kind, status, text) in rows {
-        assert!(rt; are_refused(rt.alloc(), kind, status, text));
-    }
+    assert!(rt;
+        are_refused(
+            rt.alloc(),
+            ErrorKind::OutOfMemory,
+            1,
+            b"rtcm2rinex: Memory\n"
+        )
+    );
+    assert!(rt; are_refused(rt.alloc(), ErrorKind::InvalidData, 2, invalid_text));
 }
