@@ -302,11 +302,11 @@ far_other s row less more few = grind arith
 
 -- a row of types has a number
 abbrev pub IsRow : HeaderRow → Type 0
-IsRow (Types s row) = row < 6
+IsRow (Types s part) = part < 6
 IsRow other = ⊤
 
 row_numbers : HeaderRow → Bool
-row_numbers (Types s row) = nat_lt row 6
+row_numbers (Types s part) = nat_lt part 6
 row_numbers other = true
 
 pub is_row : (n : ℕ) → n < row_count → IsRow (row_at n)
@@ -317,7 +317,7 @@ is_row n less = by (row_at n) (passes_at (λ i. row_numbers (row_at i)) 26 n ref
   by (Texts r) e = tt
   by Position e = tt
   by Delta e = tt
-  by (Types s row) e = is_less row 6 e
+  by (Types s part) e = is_less part 6 e
   by StrengthUnit e = tt
   by First e = tt
   by (Shift s) e = tt
