@@ -4,6 +4,7 @@ use Rattle.std.specs.Prelude.{if◌then◌else◌, fold}
 use Rattle.std.specs.List.{list_any, AllByRecursion, IsDistinct}
 use Rattle.std.proofs.lemmas.Map.Keys.{IsDistinct-head, IsDistinct-tail, IsDistinct-cons}
 use Rattle.gnss_obs.specs.declared.epoch.SortKey.{SortKey}
+use Rattle.gnss_obs.proofs.OrderLemmas.{Before, before_all}
 use Rattle.obs_epoch.specs.Cells.{is_among}
 use Rattle.gnss_obs.specs.HeardCells.{has_same_key}
 use Rattle.obs_epoch.proofs.CellsLemmas.{same_key_laws}
@@ -13,21 +14,8 @@ use Rattle.std.proofs.lemmas.Grind.{common_steps}
 
 -- ---- sort keys
 
-pub before_self : (a : SortKey) → is_before a a ≡ false
-before_self a = grind arith
-
-pub before_trans : (a b c : SortKey) → is_before a b ≡ true → is_before b c ≡ true → is_before a c ≡ true
-before_trans a b c h k = grind (arith, h, k)
-
 pub before_other : (a b : SortKey) → is_before a b ≡ false → (a ≡ b → ⊥) → is_before b a ≡ true
 before_other a b h other = grind (arith, common_steps)
-
-abbrev pub Before : SortKey → List SortKey → Type 0
-Before s ts = AllByRecursion (λ t. is_before s t ≡ true) ts
-
-pub before_all : (a b : SortKey) (ts : List SortKey) → is_before a b ≡ true → Before b ts → Before a ts
-before_all a b [] h k = tt
-before_all a b (t ∷ ts) h k = (before_trans a b t h k.0, before_all a b ts h k.1)
 
 -- ---- one more item
 
