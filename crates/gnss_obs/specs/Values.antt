@@ -55,10 +55,6 @@ pub record AreHeld (system : System) (cells : List Cell) : Type 0 where
   pub each : All (IsHeld system) cells
   pub few : length cells ≤ most_cells
 
--- Cells of any system that may be kept.
-abbrev pub MayBeHeld : List Cell → Type 0
-MayBeHeld cells = All (λ c. IsHeld c.satellite.system c) cells
-
 -- The cell has a value.
 abbrev pub has_value : Cell → Bool
 has_value c = is_some c.c || is_some c.l || is_some c.d || is_some c.s

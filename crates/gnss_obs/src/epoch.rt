@@ -4,7 +4,7 @@ ghost use Rattle.std.specs.Prelude.{slice_index_or, if◌then◌else◌, nat_lt,
 ghost use Rattle.std.specs.List.{list_any};
 ghost use Rattle.arrayvec.specs.ArrayVec.{array_vec_len};
 ghost use Rattle.gnss_obs.specs.declared.cell.Cell.{Cell};
-ghost use Rattle.gnss_obs.specs.Values.{AreHeld, MayBeHeld, cells_of, has_value, satellites_written, is_written, written_among};
+ghost use Rattle.gnss_obs.specs.Values.{AreHeld, cells_of, has_value, satellites_written, is_written, written_among};
 ghost use Rattle.gnss_obs.specs.Values.{most_cells, most_written, planned_of, run};
 ghost use Rattle.gnss_obs.specs.HeardCells.{heard_cell, IsKey, IsObserved};
 ghost use Rattle.gnss_obs.specs.Kept.{is_held};
