@@ -2,7 +2,6 @@
 ghost use Rattle.std.specs.Prelude.{◌≡◌, ◌≢◌, ◌<◌, ◌≤◌, ◌+◌, ◌*◌, ◌↔◌, [], List, ℕ, true, false, length, drop};
 ghost use Rattle.std.specs.Prelude.{Err, OnOk, IfOk, IfErr, IfSome, IsErrOf};
 ghost use Rattle.gnss_obs.specs.GatheredEpochs.{AreStationValues};
-ghost use Rattle.std.specs.Io.KnownBytes.{Keeps};
 ghost use Rattle.rtcm_scan.specs.Frames.{frames_of};
 ghost use Rattle.rtcm_scan.specs.Decided.{decided, decided_frames, most_undecided};
 ghost use Rattle.rtcm_bits.specs.FrameOf.{longest_frame};

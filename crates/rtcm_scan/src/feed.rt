@@ -1,5 +1,5 @@
 //! Passing the frames of pieces of a stream to a consumer.
-ghost use Rattle.std.specs.Prelude.{◌≡◌, ◌+◌, ◌≤◌, true, [], length, OnOk, OnErr, IfOk, IfErr};
+ghost use Rattle.std.specs.Prelude.{◌≡◌, ◌+◌, true, length, OnOk, OnErr, IfOk, IfErr};
 ghost use Rattle.rtcm_scan.specs.Passing.{PassesKnown, BreaksKnown, Passes, Breaks, PassesToLimit};
 ghost use Rattle.rtcm_scan.specs.Passing.{TakesPiece, Continues, IsSameStream, AtFault, UnlessBroken};
 
