@@ -1,10 +1,11 @@
 //! The reasons why a plan or a gatherer is refused.
 use crate::system::System;
+use std::fmt::{self, Debug, Display, Formatter, Write};
 use thiserror::Error;
 
-/// The reason why a plan or a gatherer is refused. It is displayed by its name and values, the
-/// system by its letter in RINEX.
-#[derive(Clone, Copy, Debug, PartialEq, Eq, Error)]
+/// The reason why a plan or a gatherer is refused. It is displayed, and printed by `Debug`, by its
+/// name and values, the system by its letter in RINEX.
+#[derive(Clone, Copy, PartialEq, Eq, Error)]
 pub enum PlanFault {
     /// The code or signal of this system at this index, from 0 on, isn't in the system's table.
     #[error("UnknownCode {} {}", char::from(.0.letter()), .1)]
@@ -24,4 +25,10 @@ pub enum PlanFault {
     /// Memory allocation failed.
     #[error("Memory")]
     Memory,
+}
+
+impl Debug for PlanFault {
+    fn fmt<W: Write>(&self, f: &mut Formatter<W>) -> fmt::Result {
+        Display::fmt(self, f)
+    }
 }
