@@ -56,15 +56,6 @@ fn rows(system: System) -> &'static [u8]
     }
 }
 
-/// Returns the row of a signal ID, or `None` if no signal has it.
-fn row_of_id(system: System, id: u8) -> Option<u8>
-    ensures value { result ≡ position (λ e. e.0 == id) (table system) }
-    ensures below { IfSome result (λ i. i < length (table system)) }
-{
-    let row = rows(system).get(id as usize).copied().unwrap_or(NO_ROW);
-    if row == NO_ROW { None } else { Some(row) }
-}
-
 /// Returns the row of a code, or `None` if no signal has it.
 fn row_of_code(entries: &[ListedSignal], code: &[u8]) -> Option<usize>
     ensures value { result ≡ position (λ e. bytes_eq e.1 code.now) entries.now }
@@ -79,8 +70,8 @@ impl Signal {
     pub fn from_id(system: System, id: u8) -> Option<Signal>
         ensures { result ≡ signal_of_id system id }
     {
-        let index = row_of_id(system, id)?;
-        Some(Signal { system, index })
+        let index = rows(system).get(id as usize).copied().unwrap_or(NO_ROW);
+        if index == NO_ROW { None } else { Some(Signal { system, index }) }
     }
 
     /// Returns the signal with this RINEX code, such as `1C`, or `None` if the system has none.
