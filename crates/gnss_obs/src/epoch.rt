@@ -187,7 +187,12 @@ impl Epoch {
 fn has_value(cells: &[Cell]) -> bool
     ensures { result ≡ list_any has_value cells.now }
 {
-    cells.iter().any(|cell| cell.has_value())
+    for i in 0..cells.len() {
+        if cells[i].has_value() {
+            return true;
+        }
+    }
+    false
 }
 
 // Returns an empty list of cells. It isn't inlined, so that the stack has room for one at most.
@@ -269,9 +274,12 @@ pub fn end_of(cells: &[Cell], from: usize, id: u8) -> usize
 pub fn is_written(cells: &[Cell], id: u8) -> bool
     ensures { result ≡ is_written cells.now id }
 {
-    cells
-        .iter()
-        .any(|cell| cell.satellite.id() == id && cell.has_value())
+    for i in 0..cells.len() {
+        if cells[i].satellite.id() == id && cells[i].has_value() {
+            return true;
+        }
+    }
+    false
 }
 
 // Returns the number of satellites of a system that have a cell with a value.
