@@ -11,10 +11,9 @@ pub const GPS_SATELLITES: u8 = 32;
 pub const GALILEO_SATELLITES: u8 = 36;
 
 /// A satellite system.
-#[derive(Clone, Copy, Debug, Default, PartialEq, Eq, Hash)]
+#[derive(Clone, Copy, Debug, PartialEq, Eq, Hash)]
 pub enum System {
     /// GPS, `G` in RINEX.
-    #[default]
     Gps,
     /// Galileo, `E` in RINEX.
     Galileo,
