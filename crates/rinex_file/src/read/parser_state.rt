@@ -195,7 +195,7 @@ impl ParserState {
             return Ok(Added::OneRow);
         }
         self.counts.epochs += 1;
-        self.counts.events += self.change.map_or(0, |_| 1);
+        self.counts.events += self.change.is_some() as u64;
         self.values = self.change.or(self.values);
         self.last = Some(self.time.milliseconds());
         self.rank = 0;

@@ -57,7 +57,10 @@ fn put_seen_in(system: System, text: &[u8], signals: usize, seen: &mut KeptSatel
 fn is_from(value: Option<Thousandths>, low: i64, high: i64) -> bool
     ensures { IsTrue result ↔ IfSome value (IsFrom low high) }
 {
-    value.is_none_or(|v| low <= v.value() && v.value() <= high)
+    match value {
+        None => true,
+        Some(v) => low <= v.value() && v.value() <= high,
+    }
 }
 
 /// Returns whether values and indicator may be those of a signal: only a phase has a loss-of-lock
@@ -79,8 +82,8 @@ fn is_row(seen: &KeptSatellite, most: u8, signals: usize) -> bool
     ensures { IsTrue result ↔ IsRow most signals seen.now.row }
 {
     let values = seen.signal_values.as_slice();
-    let each = values.iter().all(|e| is_signal_values(e));
-    let some = values.iter().any(|e| e.has_value());
+    let each = values.iter().all(is_signal_values);
+    let some = values.iter().any(SignalValues::has_value);
     let satellite = 1 <= seen.satellite && seen.satellite <= most;
     satellite && values.len() == signals && each && some
 }

@@ -1,6 +1,7 @@
 use Rattle.std.proofs.Common.{arith, ◌≡◌, ◌∙◌, ◌+◌, ◌-◌, ◌<◌, ◌∷◌, ◌++◌, [], ℕ, suc, List, sym, ap, subst, refl, length, length-append, Bool, true, false, Option, Some, None}
-use Rattle.std.specs.Option.{option_or}
-use Rattle.std.specs.Prelude.{map, MatchOption, nat_lt, ◌↔◌}
+use mir.Val.{bool_byte}
+use Rattle.std.specs.Option.{option_or, is_some}
+use Rattle.std.specs.Prelude.{map, nat_lt, ◌↔◌}
 use Rattle.std.specs.List.Sorted.{IsStrictlyIncreasing}
 use Rattle.std.proofs.lemmas.Bool.{lt-ltb, ltb-true}
 use Rattle.std.proofs.lemmas.List.{map-append}
@@ -118,9 +119,9 @@ changed_or : (result change before : Option StationValues) (v : StationValues) �
 changed_or result None before v e = ap (changed_by v) e
 changed_or result (Some w) before v e = ap (changed_by v) e
 
-changed : (o : Option StationValues) (n : ℕ) → MatchOption o (n ≡ 0) (λ v. n ≡ 1) → n ≡ changes_of o
-changed None n is = is
-changed (Some v) n is = is
+changed : (o : Option StationValues) (b : Bool) → b ≡ is_some o → bool_byte b ≡ changes_of o
+changed None b is = ap bool_byte is
+changed (Some v) b is = ap bool_byte is
 
 pub returns-clause-takes : goal.returns-clause-takes
 returns-clause-takes c = λ h history.
@@ -142,7 +143,7 @@ returns-clause-takes c = λ h history.
               values = λ v. changed_or c.or-self.result c.args.self.now.change c.args.self.now.values v c.or-self.ensures ∙ ap (λ (w : StationValues). changed_by w c.args.self.now.change) (old.values v) ∙ sym (values_more v h.epochs epoch);
               epochs = one_longer h.epochs epoch c.args.self.now.counts.epochs old.epochs;
               satellites = epoch_counted h.epochs epoch h.rows seen c.args.self.now.counts.satellites refl old.satellites;
-              events = event_counted h.epochs epoch c.args.self.now.counts.events c.map_or.result (changed c.args.self.now.change c.map_or.result (grind (arith, c.map_or.ensures))) old.events;
+              events = event_counted h.epochs epoch c.args.self.now.counts.events _ (changed c.args.self.now.change c.is_some.result c.is_some.ensures) old.events;
             };
       };
       follows = last_taken s c.args.line.now (c.requires.expected ∙ ap Satellite last) seen shown.1 shown.2;
