@@ -64,7 +64,12 @@ impl Model for HeaderTexts {
 fn is_printable(text: &[u8]) -> bool
     ensures { result ≡ list_all is_printable text.now }
 {
-    text.iter().all(|b| *b >= 0x20 && *b <= 0x7E)
+    for b in text {
+        if *b < 0x20 || *b > 0x7E {
+            return false;
+        }
+    }
+    true
 }
 
 impl<'a> Texts<'a> {
