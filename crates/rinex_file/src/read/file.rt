@@ -73,8 +73,7 @@ impl FileBuilder {
     fn keep_row(&mut self, seen: &KeptSatellite) -> Result<(), AllocError>
         ensures { OnOk result (history_of self.new ≡ with_satellite (history_of self.old) seen.now) }
     {
-        let mut signal_values = Vec::new(self.alloc);
-        signal_values.extend_from_slice(seen.signal_values.as_slice())?;
+        let signal_values = Vec::from_slice(self.alloc, seen.signal_values.as_slice())?;
         self.rows.push(KeptRow {
             system: seen.system,
             satellite: seen.satellite,
