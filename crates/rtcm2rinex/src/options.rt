@@ -29,10 +29,14 @@ use std::alloc::Global;
 pub fn setup_of(alloc: Global, options: &ArgMatches) -> Result<Setup, ToolFault>
     ensures { MatchResult result (IsSetupOf (options_of options.now)) (IsSetupRefused (options_of options.now)) }
 {
-    let texts = HeaderTexts::new(&texts_of(options)).map_err(ToolFault::Header)?;
-    let plan = Plan::parse(alloc, text(options, "gps"), text(options, "galileo")).map_err(
-        ToolFault::Plan,
-    )?;
+    let texts = match HeaderTexts::new(&texts_of(options)) {
+        Ok(texts) => texts,
+        Err(fault) => return Err(ToolFault::Header(fault)),
+    };
+    let plan = match Plan::parse(alloc, text(options, "gps"), text(options, "galileo")) {
+        Ok(plan) => plan,
+        Err(fault) => return Err(ToolFault::Plan(fault)),
+    };
     Ok(Setup {
         plan,
         texts,
@@ -94,10 +98,18 @@ pub fn station_of(options: &ArgMatches) -> Option<u16>
 pub fn values_of(options: &ArgMatches) -> Result<StationValues, ToolFault>
     ensures { result ≡ values_by_message (options_of options.now) }
 {
-    let (x, y, z) = position_of(text(options, "position")).ok_or(ToolFault::BadPosition)?;
-    let height = length_below(text(options, "antenna-height"), 1 << 16);
-    let height = height.ok_or(ToolFault::BadHeight)? as u16;
-    Ok(StationValues { x, y, z, height })
+    let Some((x, y, z)) = position_of(text(options, "position")) else {
+        return Err(ToolFault::BadPosition);
+    };
+    match length_below(text(options, "antenna-height"), 1 << 16) {
+        Some(height) => Ok(StationValues {
+            x,
+            y,
+            z,
+            height: height as u16,
+        }),
+        None => Err(ToolFault::BadHeight),
+    }
 }
 
 // ---- lengths in metres, read from text in units of 0.0001 m
