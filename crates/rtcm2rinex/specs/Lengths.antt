@@ -9,10 +9,13 @@ use Rattle.gnss_obs.specs.declared.cell.StationValues.{StationValues}
 use Rattle.rtcm2rinex.specs.declared.fault.ToolFault.{ToolFault}
 use Rattle.rtcm2rinex.specs.declared.fault.ToolFault.TheVariants.{BadPosition, BadHeight}
 
+-- the number of a text that has only digits
+abbrev pub only_digits_in : List ℕ → Option ℕ
+only_digits_in text = if list_all is_digit text then Some (digits_in text) else None
+
 -- the number of one to `most` digits
 abbrev pub number_of : ℕ → List ℕ → Option ℕ
-number_of most text = if nat_le 1 (length text) && nat_le (length text) most && list_all is_digit text
-    then Some (digits_in text) else None
+number_of most text = if nat_le 1 (length text) && nat_le (length text) most then only_digits_in text else None
 
 -- the texts before and after the first separator, if there is one
 abbrev pub cut : ℕ → List ℕ → Option (List ℕ × List ℕ)

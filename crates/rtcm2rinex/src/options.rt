@@ -1,15 +1,12 @@
 //! The values of the options of the commands.
 ghost use Rattle.std.specs.Prelude.{◌≡◌, ◌≤◌, ◌<◌, ◌^◌, IfSome, MatchOption};
 ghost use Rattle.std.specs.Prelude.{MatchResult, None, Some, codes, length, not};
-ghost use Rattle.std.specs.List.{list_all};
-ghost use Rattle.clap.specs.Lexer.{is_digit};
-ghost use Rattle.rinex_file.specs.Read.Fields.{digits_in};
 ghost use Rattle.clap.specs.Walk.{one_of};
 ghost use Rattle.std.specs.Str.{bytes_eq};
 ghost use Rattle.obs_epoch.specs.Kinds.{is_by_bit};
 ghost use Rattle.rinex_file.specs.TextsOf.{lists_of};
 ghost use Rattle.rtcm2rinex.specs.Lengths.{coordinate_of, cut, decimals_of};
-ghost use Rattle.rtcm2rinex.specs.Lengths.{length_below, length_of, number_of, position_of};
+ghost use Rattle.rtcm2rinex.specs.Lengths.{length_below, length_of, number_of, only_digits_in, position_of};
 ghost use Rattle.rtcm2rinex.specs.SetupOptions.{IsNumberOf, IsSetupOf, IsSetupRefused};
 ghost use Rattle.rtcm2rinex.specs.SetupOptions.{options_of, text_set, texts_set, values_by_message};
 
@@ -185,30 +182,25 @@ fn number_of(text: &str, most: usize) -> Option<u64>
     ensures value { result ≡ number_of most text.now }
     ensures small { IfSome result (λ n. n < 10 ^ 8) }
 {
-    if text.is_empty() || text.len() > most || !are_digits(text.as_bytes()) {
+    if text.is_empty() || text.len() > most {
         None
     } else {
-        Some(digits_in(text.as_bytes()))
+        digits_in(text.as_bytes())
     }
 }
 
-fn are_digits(text: &[u8]) -> bool
-    ensures { result ≡ list_all is_digit text.now }
-{
-    text.iter().all(|b| b.is_ascii_digit())
-}
-
-/// Returns the digits of a text as one number; other bytes are ignored.
-fn digits_in(text: &[u8]) -> u64
+/// Returns the digits of a text as one number, or `None` if it has another byte.
+fn digits_in(text: &[u8]) -> Option<u64>
     requires { length text.now ≤ 8 }
-    ensures value { result ≡ digits_in text.now }
-    ensures bound { result < 10 ^ 8 }
+    ensures value { result ≡ only_digits_in text.now }
+    ensures bound { IfSome result (λ n. n < 10 ^ 8) }
 {
     let mut number = 0;
     for b in text {
-        if b.is_ascii_digit() {
-            number = number * 10 + (*b - b'0') as u64;
+        if !b.is_ascii_digit() {
+            return None;
         }
+        number = number * 10 + (*b - b'0') as u64;
     }
-    number
+    Some(number)
 }
