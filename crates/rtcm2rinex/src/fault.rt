@@ -1,7 +1,6 @@
 //! Why a command stopped.
 ghost use Rattle.std.specs.Prelude.{◌≡◌};
 ghost use Rattle.rtcm2rinex.specs.Devices.{tool_fault_of, stream_fault};
-ghost use Rattle.rtcm2rinex.specs.declared.fault.ToolFault.TheVariants.{Write};
 
 use obs_epoch::PlanFault;
 use rinex_file::{HeadFault, ReadFault};
@@ -66,14 +65,6 @@ fn text_of(fault: ToolFault) -> &'static str {
             "BadHeight --antenna-height HEIGHT: metres, up to 4 decimals, 0 to 6.5535"
         }
         _ => "NoSignal",
-    }
-}
-
-impl From<DeviceFailed> for ToolFault {
-    ghost from_gives = { λ _ fault. fault ≡ Write };
-
-    fn from(_failed: DeviceFailed) -> ToolFault {
-        ToolFault::Write
     }
 }
 

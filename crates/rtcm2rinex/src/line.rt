@@ -149,8 +149,13 @@ impl OutputLine {
 pub fn print_text<W: Write>(text: &[u8], writer: &mut Counted<W>) -> Result<(), ToolFault>
     ensures { EndsPrinting result W.contents writer.old writer.new text.now }
 {
-    writer.write_whole(text)?;
-    Ok(writer.flush_whole()?)
+    match writer.write_whole(text) {
+        Ok(()) => match writer.flush_whole() {
+            Ok(()) => Ok(()),
+            Err(_) => Err(ToolFault::Write),
+        },
+        Err(_) => Err(ToolFault::Write),
+    }
 }
 
 /// Returns the last decimal digit of a number, in ASCII.
