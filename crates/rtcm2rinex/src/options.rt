@@ -117,7 +117,10 @@ fn position_of(text: &str) -> Option<(i64, i64, i64)>
 {
     let (x, rest) = cut(text, ',')?;
     let (y, z) = cut(rest, ',')?;
-    Some((coordinate_of(x)?, coordinate_of(y)?, coordinate_of(z)?))
+    match (coordinate_of(x), coordinate_of(y), coordinate_of(z)) {
+        (Some(x), Some(y), Some(z)) => Some((x, y, z)),
+        _ => None,
+    }
 }
 
 /// Parses a length that fits 38 bits, with or without a minus sign, in units of 0.0001 m.
@@ -125,8 +128,14 @@ fn coordinate_of(text: &str) -> Option<i64>
     ensures { result ≡ coordinate_of text.now }
 {
     match text.strip_prefix('-') {
-        Some(size) => Some(-(length_below(size, (1 << 37) + 1)? as i64)),
-        None => Some(length_below(text, 1 << 37)? as i64),
+        Some(size) => match length_below(size, (1 << 37) + 1) {
+            Some(length) => Some(-(length as i64)),
+            None => None,
+        },
+        None => match length_below(text, 1 << 37) {
+            Some(length) => Some(length as i64),
+            None => None,
+        },
     }
 }
 
@@ -143,12 +152,13 @@ fn length_below(text: &str, bound: u64) -> Option<u64>
 fn length_of(text: &str) -> Option<u64>
     ensures { result ≡ length_of text.now }
 {
-    match cut(text, '.') {
-        Some((whole, decimals)) => {
-            let whole = number_of(whole, 8)?;
-            Some(whole * 10_000 + decimals_of(decimals)?)
-        }
-        None => Some(number_of(text, 8)? * 10_000),
+    let (whole, decimals) = match cut(text, '.') {
+        Some(parts) => parts,
+        None => (text, "0"),
+    };
+    match (number_of(whole, 8), decimals_of(decimals)) {
+        (Some(whole), Some(decimals)) => Some(whole * 10_000 + decimals),
+        _ => None,
     }
 }
 
