@@ -53,7 +53,10 @@ pub fn run_convert_at<R: Read, W: Write>(
     ensures bad_setup { result ≡ Err (ToolFault.Convert Fault.BadSetup) ↔ IsBadAt (start_at setup initial) }
     ensures widest { reader.new.widest ≤ max reader.old.widest longest_frame }
 {
-    Ok(convert_stream_at(alloc, setup, initial, reader, writer)?)
+    match convert_stream_at(alloc, setup, initial, reader, writer) {
+        Ok(report) => Ok(report),
+        Err(fault) => Err(ToolFault::from(fault)),
+    }
 }
 
 /// Returns the line of a report: each count after its name.
