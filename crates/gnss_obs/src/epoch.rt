@@ -1,6 +1,6 @@
 //! Epochs: the observations of one time.
 ghost use Rattle.std.specs.Prelude.{◌≡◌, ◌+◌, ◌-◌, ◌<◌, ◌≤◌, [], false, length, drop, insert, map};
-ghost use Rattle.std.specs.Prelude.{slice_index_or, if◌then◌else◌, nat_lt, IfOk};
+ghost use Rattle.std.specs.Prelude.{slice_index_or, nat_lt, IfOk};
 ghost use Rattle.std.specs.List.{list_any};
 ghost use Rattle.arrayvec.specs.ArrayVec.{array_vec_len};
 ghost use Rattle.gnss_obs.specs.declared.cell.Cell.{Cell};

@@ -1,5 +1,5 @@
 //! The lines of a header: RINEX 3.05, table A2.
-ghost use Rattle.std.specs.Prelude.{◌≡◌, ◌+◌, ◌≤◌, length, if◌then◌else◌};
+ghost use Rattle.std.specs.Prelude.{◌≡◌, ◌+◌, ◌≤◌, length};
 ghost use Rattle.gnss_obs.specs.Dates.{civil_of};
 ghost use Rattle.rinex_file.specs.Header.{header_line, version_line, lengths, texts_line, position_line, delta_line};
 ghost use Rattle.rinex_file.specs.Header.{first_line};

@@ -5,7 +5,7 @@ ghost use Rattle.rinex_file.specs.Exact.{ExplainsFault, IfTextOfFile, IsReadOr, 
 ghost use Rattle.rinex_file.specs.Blocks.{LeavesRest};
 ghost use Rattle.rinex_file.specs.Counting.{IsTextWith, IsCountedOr};
 ghost use Rattle.rinex_file.specs.FileValues.{IsFileValue};
-ghost use Rattle.rinex_file.specs.ParserState.{History, FollowsHistory, nothing, with_epoch, with_line, with_satellite};
+ghost use Rattle.rinex_file.specs.ParserState.{FollowsHistory, nothing, with_epoch, with_line, with_satellite};
 ghost use Rattle.rinex_file.specs.Read.Steps.{file_at, HasRead, MayBeCounted};
 ghost use Rattle.rinex_file.specs.Read.Keeping.{history_of, HasReadWhole};
 

@@ -1,7 +1,7 @@
 //! The reading of a file, line by line.
-ghost use Rattle.std.specs.Prelude.{◌≡◌, ◌==◌, ℕ, List, Option, Err, OnOk, if◌then◌else◌};
+ghost use Rattle.std.specs.Prelude.{◌≡◌, ◌==◌, ℕ, List, Option, Err, OnOk};
 ghost use Rattle.rtcm_bits.specs.Device.{HasFailed};
-ghost use Rattle.rinex_file.specs.Exact.{ExplainsFault, IsFaulty, IsExpectedAt, most_lines};
+ghost use Rattle.rinex_file.specs.Exact.{ExplainsFault, IsFaulty, IsExpectedAt};
 ghost use Rattle.rinex_file.specs.Blocks.{LeavesRest};
 ghost use Rattle.rinex_file.specs.ParserState.{History, FollowsHistory, nothing};
 ghost use Rattle.rinex_file.specs.Read.Steps.{GoesOnReading, HasRead, CountsLine, MayBeCounted};

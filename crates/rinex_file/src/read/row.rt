@@ -1,13 +1,13 @@
 //! The line of a satellite, read back: its fields are validated, written again and compared.
-ghost use Rattle.std.specs.Prelude.{◌≡◌, ◌↔◌, ℕ, ◌+◌, ◌-◌, ◌*◌, ◌≤◌, ◌<◌, List, [], ◌∷◌, drop, ◌++◌, replicate};
-ghost use Rattle.std.specs.Prelude.{length, slice_index, Some, IfSome, IsTrue};
+ghost use Rattle.std.specs.Prelude.{◌≡◌, ◌↔◌, ℕ, ◌+◌, ◌-◌, ◌*◌, ◌≤◌, ◌<◌, List, [], ◌∷◌, ◌++◌, replicate};
+ghost use Rattle.std.specs.Prelude.{length, Some, IfSome, IsTrue};
 ghost use Rattle.arrayvec.specs.ArrayVec.{array_vec_len};
 ghost use Rattle.gnss_obs.specs.declared.system.System.{System};
 ghost use Rattle.gnss_obs.specs.Satellites.{satellites};
 ghost use Rattle.rinex_file.specs.FileValues.{IsFrom, AreSignalValues, IsRow, IsSatelliteRow};
 ghost use Rattle.rinex_file.specs.Lines.{satellite_line};
 ghost use Rattle.rinex_file.specs.Read.Fields.{ReadsExactly, some_if};
-ghost use Rattle.rinex_file.specs.Read.Row.{signal_values_in, signals_in, satellite_row_in};
+ghost use Rattle.rinex_file.specs.Read.Row.{signal_values_in, satellite_row_in};
 ghost use Rattle.rinex_file.specs.Limits.{most_line, signal_columns, most_signals};
 
 use crate::read::columns::value_in;

@@ -1,7 +1,6 @@
 //! The observation types in a header, read back.
-ghost use Rattle.std.specs.Prelude.{◌≡◌, ◌≤◌, ◌<◌, ◌+◌, ◌++◌, ◌∷◌, [], ◌==◌, ℕ, List, take, length, min, true, false, IfSome};
+ghost use Rattle.std.specs.Prelude.{◌≡◌, ◌≤◌, ◌<◌, ◌+◌, [], ◌==◌, ℕ, List, take, length, min, true, false, IfSome};
 ghost use Rattle.std.specs.Prelude.{OnOk, Err, Some};
-ghost use Rattle.std.specs.List.{list_any};
 ghost use Rattle.gnss_obs.specs.Signals.{SignalAt, IsSignal, table};
 ghost use Rattle.gnss_obs.specs.SignalLists.{indices, IsOf};
 ghost use Rattle.rinex_file.specs.Header.{type_rows};

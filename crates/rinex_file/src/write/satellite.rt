@@ -1,10 +1,9 @@
 //! Observation lines: RINEX 3.05, table A3, "OBSERVATION DATA RECORD".
 ghost use Rattle.std.specs.Prelude.{◌≡◌, ◌≤◌, ◌<◌, ◌++◌, ℕ, [], ◌∷◌, length, take, replicate, All, List, IfSome, Some};
-ghost use Rattle.std.specs.Prelude.{nat_eq, slice_set};
-ghost use Rattle.std.specs.List.{IsDistinct};
+ghost use Rattle.std.specs.Prelude.{slice_set};
 ghost use Rattle.arrayvec.specs.ArrayVec.{array_vec_len};
 ghost use Rattle.gnss_obs.specs.declared.cell.Cell.{Cell};
-ghost use Rattle.gnss_obs.specs.Values.{IsHeld, AreHeld, planned_of};
+ghost use Rattle.gnss_obs.specs.Values.{AreHeld, planned_of};
 ghost use Rattle.rinex_file.specs.FileValues.{FitsColumns, HaveRoom};
 ghost use Rattle.rinex_file.specs.Value.{no_signal_values, signal_values_of, satellite_row, entries_of, row_among};
 ghost use Rattle.rinex_file.specs.Value.{row_in_epoch};
