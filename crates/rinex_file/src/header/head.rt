@@ -9,14 +9,14 @@ ghost use Rattle.rinex_file.specs.Header.{row_line, has_line, row_at, row_count,
 
 use crate::header::lines::{
     END, SHIFT, STRENGTH_UNIT, UNIT, delta_line, first_line, labelled, position_line, texts_line,
-    version_line,
+    version_with,
 };
 use crate::header::rows::{HeaderRow, ROW_COUNT, row_at};
 use crate::header::texts::HeaderTexts;
 use crate::header::types::{type_line, type_rows};
 use crate::write::numbers::Line;
 use crate::write::satellite::letter_of;
-use gnss_obs::{GpsTime, Plan, StationValues};
+use gnss_obs::{GpsTime, Plan, StationValues, System};
 use std::marker::Model;
 
 /// The contents of a header.
@@ -68,7 +68,10 @@ fn line_of(head: &Head, row: HeaderRow) -> Line
         ≡ row_line head.now.texts.now head.now.plan.now head.now.values (civil_of head.now.first) row }
 {
     match row {
-        HeaderRow::Version => version_line(head.plan),
+        HeaderRow::Version => version_with(
+            head.plan.signals(System::Gps) > 0,
+            head.plan.signals(System::Galileo) > 0,
+        ),
         HeaderRow::Texts(row) => texts_line(head.texts, row),
         HeaderRow::Position => position_line(&head.values),
         HeaderRow::Delta => delta_line(&head.values),

@@ -1,14 +1,14 @@
 //! The lines of a header: RINEX 3.05, table A2.
 ghost use Rattle.std.specs.Prelude.{◌≡◌, ◌+◌, ◌≤◌, length};
 ghost use Rattle.gnss_obs.specs.Dates.{civil_of};
-ghost use Rattle.rinex_file.specs.Header.{header_line, version_line, lengths, texts_line, position_line, delta_line};
+ghost use Rattle.rinex_file.specs.Header.{header_line, lengths, texts_line, position_line, delta_line};
 ghost use Rattle.rinex_file.specs.Header.{first_line};
 ghost use Rattle.rinex_file.specs.Read.Progress.{version_with};
 
 use crate::header::fields::TextRow;
 use crate::header::texts::HeaderTexts;
 use crate::write::numbers::{Line, put, put_fixed, put_left, put_seconds, put_whole};
-use gnss_obs::{GpsTime, Plan, StationValues, System};
+use gnss_obs::{GpsTime, StationValues};
 
 // The labels, in columns 61 to 80, of the rows that are read and written by `labelled`.
 
@@ -63,16 +63,6 @@ pub(crate) fn version_with(gps: bool, galileo: bool) -> Line
     put(&mut content, b"     3.05           OBSERVATION DATA    ");
     content.push(letter);
     labelled(content.as_slice(), b"RINEX VERSION / TYPE")
-}
-
-/// Returns the line with version 3.05, the file's type and the planned systems.
-pub(crate) fn version_line(plan: &Plan) -> Line
-    ensures { result.items ≡ version_line plan.now }
-{
-    version_with(
-        plan.signals(System::Gps) > 0,
-        plan.signals(System::Galileo) > 0,
-    )
 }
 
 /// Returns the line of a row of texts.

@@ -1,12 +1,24 @@
-use Rattle.std.proofs.Common.{◌∙◌, sym, ap, [], ◌∷◌}
-use Rattle.std.specs.Prelude.{codes}
+use Rattle.std.proofs.Common.{arith, ◌≡◌, ◌∙◌, sym, ap, ℕ, [], ◌∷◌, length}
+use Rattle.std.specs.Prelude.{codes, nat_lt, not, ◌==◌}
+use Rattle.gnss_obs.specs.Values.{PlanValue}
 use Rattle.gnss_obs.specs.Dates.{civil_of}
-use Rattle.rinex_file.specs.Header.{row_line, header_line}
+use Rattle.rinex_file.specs.Header.{row_line, header_line, version_line}
+use Rattle.rinex_file.specs.Read.Progress.{version_with}
+use Rattle.rinex_file.proofs.HeaderAgree.{version_same}
 use Rattle.rinex_file.proofs.header.head.line_of.Goals as goal
+
+some_test : (n : ℕ) → nat_lt 0 n ≡ not (n == 0)
+some_test n = grind arith
+
+version_of : (p : PlanValue) (gps galileo : ℕ) → gps ≡ length p.gps → galileo ≡ length p.galileo → version_with (nat_lt 0 gps) (nat_lt 0 galileo) ≡ version_line p
+version_of p gps galileo g e = rw (g, e, some_test (length p.gps), some_test (length p.galileo)) (sym (version_same p))
 
 pub returns-in-Version : goal.returns-in-Version
 unfolding row_line
-returns-in-Version c = let h = c.args.head.now in c.version_line.ensures ∙ ap (row_line h.texts.now h.plan.now h.values (civil_of h.first)) (sym c.in-Version.is)
+returns-in-Version c =
+    let h = c.args.head.now in
+    c.version_with.ensures ∙ version_of h.plan.now c.signals.result c.signals-in-Version.result c.signals.ensures.count c.signals-in-Version.ensures.count
+    ∙ ap (row_line h.texts.now h.plan.now h.values (civil_of h.first)) (sym c.in-Version.is)
 
 pub returns-in-Texts : goal.returns-in-Texts
 unfolding row_line
