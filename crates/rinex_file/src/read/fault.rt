@@ -25,28 +25,19 @@ pub enum ReadFault {
     TooLong,
 }
 
-impl ReadFault {
-    /// Returns the name, and the line of a fault that has one.
-    fn name_and_line(self) -> (&'static str, Option<u64>) {
-        match self {
-            ReadFault::Memory => ("Memory", None),
-            ReadFault::Read => ("Read", None),
-            ReadFault::BadHeader(line) => ("BadHeader", Some(line)),
-            ReadFault::BadEpoch(line) => ("BadEpoch", Some(line)),
-            ReadFault::BadEvent(line) => ("BadEvent", Some(line)),
-            ReadFault::BadSatellite(line) => ("BadSatellite", Some(line)),
-            ReadFault::CutShort(line) => ("CutShort", Some(line)),
-            ReadFault::TooLong => ("TooLong", None),
-        }
-    }
-}
-
 impl Display for ReadFault {
     fn fmt<W: Write>(&self, f: &mut Formatter<W>) -> fmt::Result {
-        match self.name_and_line() {
-            (name, None) => f.write_str(name),
-            (name, Some(line)) => write!(f, "{name} {line}"),
-        }
+        let (name, line) = match self {
+            ReadFault::Memory => return f.write_str("Memory"),
+            ReadFault::Read => return f.write_str("Read"),
+            ReadFault::BadHeader(line) => ("BadHeader", line),
+            ReadFault::BadEpoch(line) => ("BadEpoch", line),
+            ReadFault::BadEvent(line) => ("BadEvent", line),
+            ReadFault::BadSatellite(line) => ("BadSatellite", line),
+            ReadFault::CutShort(line) => ("CutShort", line),
+            ReadFault::TooLong => return f.write_str("TooLong"),
+        };
+        write!(f, "{name} {line}")
     }
 }
 
