@@ -61,7 +61,12 @@ fn row_of_code(entries: &[ListedSignal], code: &[u8]) -> Option<usize>
     ensures value { result ≡ position (λ e. bytes_eq e.1 code.now) entries.now }
     ensures below { IfSome result (λ i. i < length entries.now) }
 {
-    entries.iter().position(|e| e.1.as_slice() == code)
+    for i in 0..entries.len() {
+        if entries[i].1.as_slice() == code {
+            return Some(i);
+        }
+    }
+    None
 }
 
 impl Signal {
