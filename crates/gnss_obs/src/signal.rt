@@ -76,7 +76,11 @@ impl Signal {
         ensures { result ≡ signal_of_id system id }
     {
         let index = rows(system).get(id as usize).copied().unwrap_or(NO_ROW);
-        if index == NO_ROW { None } else { Some(Signal { system, index }) }
+        if index == NO_ROW {
+            None
+        } else {
+            Some(Signal { system, index })
+        }
     }
 
     /// Returns the signal with this RINEX code, such as `1C`, or `None` if the system has none.
