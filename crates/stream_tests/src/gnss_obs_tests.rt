@@ -35,8 +35,8 @@ fn are_numbered() -> bool {
 
 #[test]
 fn numbers_satellites(rt: HostRuntime) {
-    assert!(rt; are_numbered());
-    assert!(rt; System::Gps.satellites() == 32 && System::Galileo.satellites() == 36);
+    let satellites = (System::Gps.satellites(), System::Galileo.satellites());
+    assert!(rt; are_numbered() && satellites == (32, 36));
 }
 
 /// The ID of a signal, its code, its index and its carrier frequency.
@@ -59,11 +59,7 @@ fn gives(signal: Signal, listed: &Listed) -> bool {
     signal.system() == listed.0
         && signal.index() == listed.3
         && signal.hertz() == listed.4
-        && has_code_of(signal, listed.2)
-}
-
-fn has_code_of(signal: Signal, code: &str) -> bool {
-    signal.code().as_slice() == code.as_bytes()
+        && signal.code().as_slice() == listed.2.as_bytes()
 }
 
 /// Whether the ID, the index and the code of a row are those of its signal.
@@ -89,8 +85,7 @@ fn are_listed() -> bool {
 
 #[test]
 fn lists_signals(rt: HostRuntime) {
-    assert!(rt; are_listed());
-    assert!(rt; System::Gps.signals() == 15 && System::Galileo.signals() == 19);
+    assert!(rt; are_listed() && System::Gps.signals() == 15 && System::Galileo.signals() == 19);
 }
 
 /// Whether an ID has the signal of this code, or no signal if the code is `--`.
@@ -124,8 +119,7 @@ fn is_mask(system: System, codes: &[&str; 32]) -> bool {
 
 #[test]
 fn fills_the_signal_masks(rt: HostRuntime) {
-    assert!(rt; is_mask(System::Gps, &GPS_MASK));
-    assert!(rt; is_mask(System::Galileo, &GALILEO_MASK));
+    assert!(rt; is_mask(System::Gps, &GPS_MASK) && is_mask(System::Galileo, &GALILEO_MASK));
 }
 
 static OTHER_IDS: [(System, u8); 6] = [
@@ -149,21 +143,13 @@ static OTHER_CODES: [(System, &str); 9] = [
     (System::Galileo, "2W"),
 ];
 
-fn has_id(system: System, id: u8) -> bool {
-    Signal::from_id(system, id).is_some()
-}
-
-fn has_code(system: System, code: &str) -> bool {
-    Signal::from_code(system, code).is_some()
-}
-
 fn has_place(system: System, index: usize) -> bool {
     Signal::from_index(system, index).is_some()
 }
 
 fn has_other_id() -> bool {
     for (system, id) in &OTHER_IDS {
-        if has_id(*system, *id) {
+        if Signal::from_id(*system, *id).is_some() {
             return true;
         }
     }
@@ -172,7 +158,7 @@ fn has_other_id() -> bool {
 
 fn has_other_code() -> bool {
     for (system, code) in &OTHER_CODES {
-        if has_code(*system, code) {
+        if Signal::from_code(*system, code).is_some() {
             return true;
         }
     }
@@ -181,8 +167,7 @@ fn has_other_code() -> bool {
 
 #[test]
 fn knows_no_other_signal(rt: HostRuntime) {
-    assert!(rt; !has_other_id());
-    assert!(rt; !has_other_code());
+    assert!(rt; !has_other_id() && !has_other_code());
     assert!(rt; !has_place(System::Gps, 15) && !has_place(System::Galileo, 19));
 }
 
@@ -225,59 +210,27 @@ static RATES_AND_STRENGTHS: [(Observed, i64); 12] = [
     (Observed::Digit(63_000), 9),
 ];
 
-fn metres(range: i64) -> Option<Thousandths> {
-    if range.unsigned_abs() > 1 << 40 {
-        return None;
-    }
-    pseudorange(Some(range))
-}
-
-fn cycles(range: i64) -> Option<Thousandths> {
-    if range.unsigned_abs() > 1 << 40 {
-        return None;
-    }
-    phase(Some(range), Signal::from_code(System::Gps, "1C")?)
-}
-
-fn hertz(rate: i32, code: &str) -> Option<Thousandths> {
-    if rate.unsigned_abs() > 100_000_000 {
-        return None;
-    }
-    doppler(Some(rate), Signal::from_code(System::Gps, code)?)
-}
-
-fn decibels(ratio: u16) -> Option<Thousandths> {
-    if ratio >= 1024 {
-        return None;
-    }
-    strength(Some(ratio))
-}
-
-fn digit(strength: i64) -> Option<Thousandths> {
-    let digit = strength_digit(Thousandths::new(strength));
-    Some(Thousandths::new(i64::from(digit)))
-}
-
 fn rounded(observed: &Observed) -> Option<Thousandths> {
     match observed {
-        Observed::Range(range) => metres(*range),
-        Observed::Phase(range) => cycles(*range),
-        Observed::Rate(rate, code) => hertz(*rate, code),
-        Observed::Strength(ratio) => decibels(*ratio),
-        Observed::Digit(strength) => digit(*strength),
-    }
-}
-
-fn is_rounded(observed: &Observed, want: i64) -> bool {
-    match rounded(observed) {
-        Some(value) => value.value() == want,
-        None => false,
+        Observed::Range(range) if range.unsigned_abs() <= 1 << 40 => pseudorange(Some(*range)),
+        Observed::Phase(range) if range.unsigned_abs() <= 1 << 40 => {
+            phase(Some(*range), Signal::from_code(System::Gps, "1C")?)
+        }
+        Observed::Rate(rate, code) if rate.unsigned_abs() <= 100_000_000 => {
+            doppler(Some(*rate), Signal::from_code(System::Gps, code)?)
+        }
+        Observed::Strength(ratio) if *ratio < 1024 => strength(Some(*ratio)),
+        Observed::Digit(strength) => {
+            let digit = strength_digit(Thousandths::new(*strength));
+            Some(Thousandths::new(i64::from(digit)))
+        }
+        _ => None,
     }
 }
 
 fn are_rounded(rows: &[(Observed, i64)]) -> bool {
     for (observed, want) in rows {
-        if !is_rounded(observed, *want) {
+        if rounded(observed) != Some(Thousandths::new(*want)) {
             return false;
         }
     }
@@ -291,29 +244,27 @@ fn rounds_ranges_and_phases(rt: HostRuntime) {
 
 #[test]
 fn rounds_rates_and_strengths(rt: HostRuntime) {
+    let negative = Thousandths::new(-1);
     assert!(rt; are_rounded(&RATES_AND_STRENGTHS));
-    assert!(rt; Thousandths::new(-1) < Thousandths::new(0));
-    assert!(rt; Thousandths::new(-1).value() == -1);
+    assert!(rt; negative < Thousandths::new(0) && negative.value() == -1);
 }
 
-/// Whether absent values remain absent: a range, its phase, a rate and a strength.
-fn are_absent(signal: Signal) -> bool {
-    pseudorange(None).is_none()
-        && phase(None, signal).is_none()
-        && doppler(None, signal).is_none()
-        && strength(None).is_none()
-}
-
-fn are_absent_of(code: &str) -> bool {
+/// Whether absent values of this signal remain absent: a range, its phase, a rate and a strength.
+fn are_absent(code: &str) -> bool {
     match Signal::from_code(System::Gps, code) {
-        Some(signal) => are_absent(signal),
+        Some(signal) => {
+            pseudorange(None).is_none()
+                && phase(None, signal).is_none()
+                && doppler(None, signal).is_none()
+                && strength(None).is_none()
+        }
         None => false,
     }
 }
 
 #[test]
 fn keeps_absent_observables(rt: HostRuntime) {
-    assert!(rt; are_absent_of("1C"));
+    assert!(rt; are_absent("1C"));
 }
 
 enum Indicator {
@@ -344,14 +295,10 @@ static TIMES: [(Indicator, Option<u32>, Option<u32>); 11] = [
     (Indicator::Df407(1023), None, None),
 ];
 
-fn has_times(indicator: &Indicator, least: Option<u32>, upper: Option<u32>) -> bool {
-    let lock = indicator.lock();
-    lock.least() == least && lock.upper() == upper
-}
-
 fn are_lock_times() -> bool {
     for (indicator, least, upper) in &TIMES {
-        if !has_times(indicator, *least, *upper) {
+        let lock = indicator.lock();
+        if lock.least() != *least || lock.upper() != *upper {
             return false;
         }
     }

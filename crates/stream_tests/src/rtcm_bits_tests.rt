@@ -34,31 +34,19 @@ fn check_of_each(bytes: &[u8]) -> u32 {
     register.value()
 }
 
-/// The CRC of bytes processed in two pieces.
-fn check_of_two(front: &[u8], back: &[u8]) -> u32 {
-    let mut register = CheckRegister::new();
-    register.take_all(front);
-    register.take_all(back);
-    register.value()
-}
-
 /// Whether the CRC of all but the last three bytes of a frame is the known one, and that of all is
 /// 0.
 fn has_check(frame: &[u8]) -> bool {
     crc24q(frame.get(..22).unwrap_or(&[])) == 0x36_0B98 && crc24q(frame) == 0
 }
 
-fn is_check_cut(frame: &[u8], cut: usize) -> bool {
-    match (frame.get(..cut), frame.get(cut..22)) {
-        (Some(front), Some(back)) => check_of_two(front, back) == 0x36_0B98,
-        _ => false,
-    }
-}
-
 /// Whether the CRC of the message is that of its frame, in two pieces, however it is cut.
 fn is_check_of_two() -> bool {
     for cut in 0..23usize {
-        if !is_check_cut(STATION_FRAME, cut) {
+        let mut register = CheckRegister::new();
+        register.take_all(STATION_FRAME.get(..cut).unwrap_or(&[]));
+        register.take_all(STATION_FRAME.get(cut..22).unwrap_or(&[]));
+        if register.value() != 0x36_0B98 {
             return false;
         }
     }
@@ -67,9 +55,8 @@ fn is_check_of_two() -> bool {
 
 #[test]
 fn check_of_a_frame(rt: HostRuntime) {
-    assert!(rt; has_check(STATION_FRAME));
+    assert!(rt; has_check(STATION_FRAME) && is_check_of_two());
     assert!(rt; check_of_each(&[0xD3, 0, 0]) == 0x47_EA4B);
-    assert!(rt; is_check_of_two());
 }
 
 /// Whether this is the frame of the message, in a buffer that had another byte.
@@ -94,23 +81,8 @@ fn is_longest_framed() -> bool {
 
 #[test]
 fn frames_of_messages(rt: HostRuntime) {
-    assert!(rt; is_framed_as(MESSAGE, STATION_FRAME));
+    assert!(rt; is_framed_as(MESSAGE, STATION_FRAME) && is_longest_framed());
     assert!(rt; is_framed_as(&[], &[0xD3, 0x00, 0x00, 0x47, 0xEA, 0x4B]));
-    assert!(rt; is_longest_framed());
-}
-
-fn unsigned(reader: &mut BitReader, width: u32) -> Option<u64> {
-    if width > 64 {
-        return None;
-    }
-    reader.unsigned(width)
-}
-
-fn signed(reader: &mut BitReader, width: u32) -> Option<i64> {
-    if width == 0 || width > 64 {
-        return None;
-    }
-    reader.signed(width)
 }
 
 /// A field of some bits, and its value if they are not missing.
@@ -121,8 +93,10 @@ enum Bits {
 
 fn is_field(reader: &mut BitReader, field: &Bits) -> bool {
     match field {
-        Bits::Unsigned(width, value) => unsigned(reader, *width) == *value,
-        Bits::Signed(width, value) => signed(reader, *width) == *value,
+        Bits::Unsigned(width, value) => *width <= 64 && reader.unsigned(*width) == *value,
+        Bits::Signed(width, value) => {
+            *width > 0 && *width <= 64 && reader.signed(*width) == *value
+        }
     }
 }
 
@@ -132,16 +106,12 @@ fn has_fields(bytes: &[u8], fields: &[Bits], place: usize) -> bool {
         return false;
     }
     let mut reader = BitReader::new(bytes);
-    are_fields(&mut reader, fields) && reader.place() == place
-}
-
-fn are_fields(reader: &mut BitReader, fields: &[Bits]) -> bool {
     for field in fields {
-        if !is_field(reader, field) {
+        if !is_field(&mut reader, field) {
             return false;
         }
     }
-    true
+    reader.place() == place
 }
 
 /// The fields of a byte of three bits, five with a sign, and one more.
@@ -166,8 +136,7 @@ fn eight_bits_are_put() -> bool {
 
 #[test]
 fn bits_of_a_byte(rt: HostRuntime) {
-    assert!(rt; has_fields(&[0xB5], &EIGHT_BITS, 8));
-    assert!(rt; eight_bits_are_put());
+    assert!(rt; has_fields(&[0xB5], &EIGHT_BITS, 8) && eight_bits_are_put());
 }
 
 /// Whether 1 in four bits, the least number in 64, and 3 in two are written as these bytes.
@@ -201,8 +170,7 @@ static WITH_THE_LAST: [Bits; 4] = [
 #[test]
 fn bits_across_bytes(rt: HostRuntime) {
     assert!(rt; has_fields(&SEVENTY_TWO_BITS, &SEVENTY_TWO, 68));
-    assert!(rt; has_fields(&SEVENTY_TWO_BITS, &WITH_THE_LAST, 72));
-    assert!(rt; seventy_bits_are_put());
+    assert!(rt; has_fields(&SEVENTY_TWO_BITS, &WITH_THE_LAST, 72) && seventy_bits_are_put());
 }
 
 /// The result of a call, with the number of failures counted by then.
@@ -231,7 +199,8 @@ static READS: [(usize, Answer); 7] = [
     (7, (Err(ErrorKind::Interrupted), 2)),
 ];
 
-/// Whether these reads have their results, and the buffer begins with the last bytes.
+/// Whether these reads have their results, the buffer begins with the last bytes, and its size is
+/// that of the largest one.
 fn are_answered(reader: &mut Counted<PieceReader>) -> bool {
     let mut buf = [0u8; 10];
     for (room, want) in &READS {
@@ -239,13 +208,7 @@ fn are_answered(reader: &mut Counted<PieceReader>) -> bool {
             return false;
         }
     }
-    buf[0] == 0x0B && buf[1] == 0x98
-}
-
-/// Whether the reads of a reader are answered, with the sizes of the largest buffer before and
-/// after them.
-fn widens(reader: &mut Counted<PieceReader>) -> bool {
-    reader.widest() == 0 && are_answered(reader) && reader.widest() == 10
+    buf[0] == 0x0B && buf[1] == 0x98 && reader.widest() == 10
 }
 
 static PIECES: [usize; 3] = [4, 0, 25];
@@ -255,7 +218,7 @@ static PIECES: [usize; 3] = [4, 0, 25];
 fn are_counted() -> bool {
     let end = ReadEnd::Fails(ErrorKind::Interrupted);
     let mut reader = Counted::new(PieceReader::new(STATION_FRAME, &PIECES, end));
-    widens(&mut reader) && reader.into_inner().asked() == 7
+    reader.widest() == 0 && are_answered(&mut reader) && reader.into_inner().asked() == 7
 }
 
 #[test]
@@ -299,19 +262,9 @@ fn a_failed_read_is_not_repeated(rt: HostRuntime) {
 /// A writer of at most eight bytes that accepts two of them at a time.
 type Pairs = Counted<ShortWriter<ArrayVec<u8, 8>>>;
 
-/// A writer that accepts this number of bytes, and then does this.
-fn pairs(total: usize, end: WriteEnd) -> Pairs {
-    Counted::new(ShortWriter::new(ArrayVec::new(), 2, total, end))
-}
-
 fn write(writer: &mut Pairs, bytes: &[u8]) -> Answer {
     let outcome = writer.write(bytes);
     answer(outcome, writer.failures())
-}
-
-/// Whether all bytes are written.
-fn write_whole(writer: &mut Pairs, bytes: &[u8]) -> bool {
-    writer.write_whole(bytes).is_ok()
 }
 
 /// Bytes that are written, with the outcome.
@@ -326,7 +279,7 @@ fn is_sent(writer: &mut Pairs, sent: &Sent) -> bool {
     match sent {
         Sent::Once(bytes, want) => write(writer, bytes) == *want,
         Sent::Whole(bytes, is_whole, failures) => {
-            write_whole(writer, bytes) == *is_whole && writer.failures() == *failures
+            writer.write_whole(bytes).is_ok() == *is_whole && writer.failures() == *failures
         }
     }
 }
@@ -343,7 +296,7 @@ fn are_sent(writer: &mut Pairs, sends: &[Sent]) -> bool {
 /// Whether the writes to a device have their outcomes, and it has accepted the first of these
 /// bytes, their number being all that it accepts.
 fn are_taken(total: usize, end: WriteEnd, sends: &[Sent]) -> bool {
-    let mut writer = pairs(total, end);
+    let mut writer = Counted::new(ShortWriter::new(ArrayVec::new(), 2, total, end));
     let are_sent = are_sent(&mut writer, sends);
     let taken = writer.into_inner().into_inner();
     are_sent && taken.as_slice() == &[1, 2, 3, 4, 5][..total.min(5)]

@@ -8,7 +8,7 @@ mod values;
 use arrayvec::ArrayVec;
 use known::{Known, bytes_of};
 use rtcm_msg::{
-    Cell7, Entry, Form, Grid7, Masks, Message, MsgFault, Msm, MsmHeader, MsmView, Satellite7,
+    Cell7, Entry, Form, Grid7, Message, MsgFault, Msm, MsmHeader, MsmView, Satellite7,
     StationParts, View, decode, encode, look,
 };
 use std::test::*;
@@ -165,17 +165,18 @@ fn is_written_without_reserved() -> bool {
 
 #[test]
 fn stations_are_read(rt: HostRuntime) {
-    assert!(rt; have_parts());
-    assert!(rt; is_written_without_reserved());
+    assert!(rt; have_parts() && is_written_without_reserved());
 }
 
 /// Whether the header and the masks are those of the known messages: satellite 5 and signal 2.
 fn has_known_head(msm: &MsmView<'_>) -> bool {
-    msm.header() == HEAD && are_known(&msm.masks()) && msm.satellites() == 1 && msm.cells() == 1
-}
-
-fn are_known(masks: &Masks) -> bool {
-    masks.satellites() == 1 << 59 && masks.signals() == 1 << 30 && masks.cells() == 1
+    let masks = msm.masks();
+    msm.header() == HEAD
+        && masks.satellites() == 1 << 59
+        && masks.signals() == 1 << 30
+        && masks.cells() == 1
+        && msm.satellites() == 1
+        && msm.cells() == 1
 }
 
 /// Whether a multiple signal message has this form, this number and a known head, and is of
@@ -203,28 +204,16 @@ static HEADS: [(Sent, Form, u16, bool); 3] = [
     (Sent(Known::Galileo, 30, &[]), Form::Msm4, 1094, true),
 ];
 
-fn first_satellite(msm: &Msm<Grid7>) -> Option<Satellite7> {
-    if msm.satellites() == 0 {
-        return None;
-    }
-    Some(msm.satellite(0))
-}
-
-fn first_cell(msm: &Msm<Grid7>) -> Option<Cell7> {
-    if msm.cells() == 0 {
-        return None;
-    }
-    Some(msm.cell(0))
-}
-
 /// Whether a message of a fine grid has this number, the known header, and the known data of its
 /// first satellite and cell, and is of Galileo.
 fn is_known(msm: &Msm<Grid7>, number: u16, is_galileo: bool) -> bool {
     msm.number() == number
         && msm.is_galileo() == is_galileo
         && msm.header() == HEAD
-        && first_satellite(msm) == Some(SATELLITE)
-        && first_cell(msm) == Some(CELL)
+        && msm.satellites() > 0
+        && msm.satellite(0) == SATELLITE
+        && msm.cells() > 0
+        && msm.cell(0) == CELL
 }
 
 fn has_data(bytes: &[u8], number: u16, is_galileo: bool) -> bool {
@@ -258,14 +247,13 @@ fn have_heads() -> bool {
 }
 
 /// Whether the field at bit 271 doesn't end within these bytes.
-fn is_cut_short(bytes: &[u8]) -> bool {
-    matches!(look(bytes), Err(MsgFault::Short(271)))
+fn is_cut_short(sent: &Sent) -> bool {
+    matches!(look(sent.bytes().as_slice()), Err(MsgFault::Short(271)))
 }
 
 #[test]
 fn heads_are_read(rt: HostRuntime) {
-    assert!(rt; have_heads());
-    assert!(rt; is_cut_short(Sent(Known::Fine, 35, &[]).bytes().as_slice()));
+    assert!(rt; have_heads() && is_cut_short(&Sent(Known::Fine, 35, &[])));
 }
 
 /// Whether a multiple signal message has this number, and this is its first cell.
@@ -347,10 +335,6 @@ fn cells_are_read(rt: HostRuntime) {
     assert!(rt; have_first());
 }
 
-fn fault_of(bytes: &[u8]) -> Option<MsgFault> {
-    decode(bytes).err()
-}
-
 static FAULTS: [(Sent, Option<MsgFault>); 11] = [
     (Sent(Known::Station, 18, &[]), Some(MsgFault::Short(114))),
     (Sent(Known::Fine, 35, &[]), Some(MsgFault::Short(271))),
@@ -395,7 +379,7 @@ static FAULTS: [(Sent, Option<MsgFault>); 11] = [
 
 fn have_faults() -> bool {
     for (sent, fault) in &FAULTS {
-        if fault_of(sent.bytes().as_slice()) != *fault {
+        if decode(sent.bytes().as_slice()).err() != *fault {
             return false;
         }
     }

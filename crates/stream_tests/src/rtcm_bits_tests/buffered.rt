@@ -117,13 +117,6 @@ fn are_good_of(alloc: Global, device: &mut Stumbles, good: &[bool; 5]) -> bool {
     }
 }
 
-fn comes_of(alloc: Global, outcome: &Outcome) -> bool {
-    let mut device = Stumbles::new(outcome.fails_at);
-    are_good_of(alloc, &mut device, &outcome.good)
-        && device.calls == outcome.calls
-        && device.taken == outcome.taken
-}
-
 static OUTCOMES: [Outcome; 3] = [
     Outcome {
         fails_at: 1,
@@ -147,7 +140,9 @@ static OUTCOMES: [Outcome; 3] = [
 
 fn all_come(alloc: Global) -> bool {
     for outcome in &OUTCOMES {
-        if !comes_of(alloc, outcome) {
+        let mut device = Stumbles::new(outcome.fails_at);
+        let are_good = are_good_of(alloc, &mut device, &outcome.good);
+        if !(are_good && device.calls == outcome.calls && device.taken == outcome.taken) {
             return false;
         }
     }

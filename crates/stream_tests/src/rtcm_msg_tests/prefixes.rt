@@ -39,17 +39,13 @@ fn first_unended(widths: &[usize], bits: usize) -> Option<usize> {
     None
 }
 
-fn missing_bit(bytes: &[u8]) -> Option<usize> {
-    match decode(bytes) {
-        Err(MsgFault::Short(place)) => Some(place),
-        _ => None,
-    }
-}
-
 /// Whether a prefix of this size is refused at the first field that does not end within it.
 fn is_short(message: &[u8], widths: &[usize], size: usize) -> bool {
     match first_unended(widths, size.saturating_mul(8)) {
-        Some(place) => missing_bit(message.get(..size).unwrap_or(&[])) == Some(place),
+        Some(place) => {
+            let prefix = message.get(..size).unwrap_or(&[]);
+            decode(prefix).err() == Some(MsgFault::Short(place))
+        }
         None => false,
     }
 }

@@ -1,26 +1,7 @@
 //! The texts of the faults of messages.
+use crate::texts::have_texts;
 use rtcm_msg::{Field, MsgFault, ValueFault};
-use std::alloc::{AllocError, Global};
 use std::test::*;
-
-fn message_fault_has_text(alloc: Global, fault: MsgFault, text: &str) -> bool {
-    is_text(fault.to_string(alloc), text)
-}
-
-fn value_fault_has_text(alloc: Global, fault: ValueFault, text: &str) -> bool {
-    is_text(fault.to_string(alloc), text)
-}
-
-fn is_text(said: Result<String, AllocError>, text: &str) -> bool {
-    match said {
-        Ok(said) => {
-            let is_text = said.as_str() == text;
-            drop(said);
-            is_text
-        }
-        Err(_) => false,
-    }
-}
 
 static MESSAGE_TEXTS: [(MsgFault, &str); 3] = [
     (
@@ -50,26 +31,8 @@ static VALUE_TEXTS: [(ValueFault, &str); 4] = [
     (ValueFault::BadTime, "an epoch time of a week or more"),
 ];
 
-fn message_faults_have_texts(alloc: Global) -> bool {
-    for (fault, text) in &MESSAGE_TEXTS {
-        if !message_fault_has_text(alloc, *fault, text) {
-            return false;
-        }
-    }
-    true
-}
-
-fn value_faults_have_texts(alloc: Global) -> bool {
-    for (fault, text) in &VALUE_TEXTS {
-        if !value_fault_has_text(alloc, *fault, text) {
-            return false;
-        }
-    }
-    true
-}
-
 #[test]
 fn faults_have_texts(rt: HostRuntime) {
-    assert!(rt; message_faults_have_texts(rt.alloc()));
-    assert!(rt; value_faults_have_texts(rt.alloc()));
+    let alloc = rt.alloc();
+    assert!(rt; have_texts(alloc, &MESSAGE_TEXTS) && have_texts(alloc, &VALUE_TEXTS));
 }

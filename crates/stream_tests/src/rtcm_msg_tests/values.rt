@@ -10,11 +10,6 @@ use std::test::*;
 
 // Each call with large clauses has a function without one, so that no test carries the clauses.
 
-/// The fault of the parts of a station.
-fn station_fault(parts: &StationParts) -> Option<ValueFault> {
-    Station::new(*parts).err()
-}
-
 static PARTS: [(StationParts, Option<ValueFault>); 4] = [
     (STATION_PARTS, None),
     (
@@ -43,7 +38,7 @@ static PARTS: [(StationParts, Option<ValueFault>); 4] = [
 
 fn are_stations_judged() -> bool {
     for (parts, fault) in &PARTS {
-        if station_fault(parts) != *fault {
+        if Station::new(*parts).err() != *fault {
             return false;
         }
     }
@@ -53,10 +48,6 @@ fn are_stations_judged() -> bool {
 #[test]
 fn stations_are_judged(rt: HostRuntime) {
     assert!(rt; are_stations_judged());
-}
-
-fn masks_fault(satellites: u64, signals: u32, cells: u64) -> Option<ValueFault> {
-    Masks::new(satellites, signals, cells).err()
 }
 
 static MASKS: [(u64, u32, u64, Option<ValueFault>); 4] = [
@@ -74,7 +65,7 @@ static MASKS: [(u64, u32, u64, Option<ValueFault>); 4] = [
 
 fn are_masks_judged() -> bool {
     for (satellites, signals, cells, fault) in &MASKS {
-        if masks_fault(*satellites, *signals, *cells) != *fault {
+        if Masks::new(*satellites, *signals, *cells).err() != *fault {
             return false;
         }
     }
@@ -133,10 +124,12 @@ fn has_coarse_fault(fault: ValueFault) -> bool {
 
 #[test]
 fn parts_are_judged(rt: HostRuntime) {
-    assert!(rt; has_fault(604_800_000, &[], ValueFault::BadTime));
-    assert!(rt; has_fault(1000, &[], ValueFault::CellCount));
-    assert!(rt; has_fault(1000, &[WIDE], ValueFault::OutOfRange(Field::FinePhase)));
-    assert!(rt; has_coarse_fault(ValueFault::OutOfRange(Field::RangeFraction)));
+    assert!(rt;
+        has_fault(604_800_000, &[], ValueFault::BadTime)
+            && has_fault(1000, &[], ValueFault::CellCount)
+            && has_fault(1000, &[WIDE], ValueFault::OutOfRange(Field::FinePhase))
+            && has_coarse_fault(ValueFault::OutOfRange(Field::RangeFraction))
+    );
 }
 
 /// Writes the message 1077 of these masks and data.
@@ -175,8 +168,7 @@ fn is_known() -> bool {
 
 #[test]
 fn values_are_written(rt: HostRuntime) {
-    assert!(rt; is_known());
-    assert!(rt; is_largest());
+    assert!(rt; is_known() && is_largest());
 }
 
 /// Whether the cells of a message 1077 that is read are of these satellites and signals.
@@ -189,19 +181,12 @@ fn has_cells(bytes: &[u8], cells: &[(u8, u8)]) -> bool {
 
 fn are_of(entries: &mut Entries<'_>, cells: &[(u8, u8)]) -> bool {
     for (satellite, signal) in cells {
-        if !is_next(entries, *satellite, *signal) {
-            return false;
+        match entries.next() {
+            Some(entry) if entry.satellite == *satellite && entry.signal == *signal => {}
+            _ => return false,
         }
     }
     entries.next().is_none()
-}
-
-/// Whether the next cell is of this satellite and signal.
-fn is_next(entries: &mut Entries<'_>, satellite: u8, signal: u8) -> bool {
-    match entries.next() {
-        Some(entry) => entry.satellite == satellite && entry.signal == signal,
-        None => false,
-    }
 }
 
 /// Satellites 1 and 64, signals 2 and 32: the first with 32, the second with both.

@@ -1,5 +1,6 @@
 //! The limits of a framer, and the texts of its faults.
 use super::{push, push_all};
+use crate::texts::have_texts;
 use rtcm_scan::{Framer, MOST_BYTES, ScanFault};
 use std::alloc::Global;
 
@@ -79,18 +80,6 @@ fn limits(rt: HostRuntime) {
     assert!(rt; are_limited(rt.alloc()));
 }
 
-/// Whether a fault has this text.
-fn says(alloc: Global, fault: ScanFault, text: &str) -> bool {
-    match fault.to_string(alloc) {
-        Ok(said) => {
-            let is_text = said.as_str() == text;
-            drop(said);
-            is_text
-        }
-        Err(_) => false,
-    }
-}
-
 static TEXTS: [(ScanFault, &str); 4] = [
     (ScanFault::Memory, "Memory"),
     (ScanFault::BadLimit, "BadLimit"),
@@ -98,16 +87,7 @@ static TEXTS: [(ScanFault, &str); 4] = [
     (ScanFault::Ended, "Ended"),
 ];
 
-fn have_texts(alloc: Global) -> bool {
-    for (fault, text) in &TEXTS {
-        if !says(alloc, *fault, text) {
-            return false;
-        }
-    }
-    true
-}
-
 #[test]
 fn texts_of_faults(rt: HostRuntime) {
-    assert!(rt; have_texts(rt.alloc()));
+    assert!(rt; have_texts(rt.alloc(), &TEXTS));
 }
