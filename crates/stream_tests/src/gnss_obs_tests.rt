@@ -295,19 +295,12 @@ static TIMES: [(Indicator, Option<u32>, Option<u32>); 11] = [
     (Indicator::Df407(1023), None, None),
 ];
 
-fn are_lock_times() -> bool {
-    for (indicator, least, upper) in &TIMES {
-        let lock = indicator.lock();
-        if lock.least() != *least || lock.upper() != *upper {
-            return false;
-        }
-    }
-    true
-}
-
 #[test]
 fn reads_lock_times(rt: HostRuntime) {
-    assert!(rt; are_lock_times());
+    for (indicator, least, upper) in &TIMES {
+        let lock = indicator.lock();
+        assert!(rt; lock.least() == *least && lock.upper() == *upper);
+    }
 }
 
 static LOSSES: [(Indicator, Indicator, u64, bool); 8] = [
@@ -330,16 +323,9 @@ static LOSSES: [(Indicator, Indicator, u64, bool); 8] = [
     (Indicator::Df402(15), Indicator::Df407(705), 1_000, false),
 ];
 
-fn are_losses() -> bool {
-    for (then, now, elapsed, want) in &LOSSES {
-        if is_lost(then.lock(), now.lock(), *elapsed) != *want {
-            return false;
-        }
-    }
-    true
-}
-
 #[test]
 fn finds_lost_locks(rt: HostRuntime) {
-    assert!(rt; are_losses());
+    for (then, now, elapsed, want) in &LOSSES {
+        assert!(rt; is_lost(then.lock(), now.lock(), *elapsed) == *want);
+    }
 }

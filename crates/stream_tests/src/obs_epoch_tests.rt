@@ -13,7 +13,6 @@ mod signal_counts;
 use gnss_obs::System;
 use messages::{Heard, message};
 use obs_epoch::{Cell, Epoch, Gather, Gatherer, Kind, Plan, PlanFault, StationValues, Taken};
-use rtcm_msg::Message;
 use std::alloc::Global;
 use std::test::*;
 
@@ -70,17 +69,9 @@ fn parse(alloc: Global, gps: &str, galileo: &str) -> Result<Plan, PlanFault> {
     Plan::parse(alloc, gps, galileo)
 }
 
-/// The outcome of a message for a gatherer that hasn't ended.
-fn take(g: &mut Gatherer, message: &Message) -> Option<Taken> {
-    if g.ended() {
-        return None;
-    }
-    Some(g.take(message))
-}
-
 /// Whether a message has this outcome.
 fn takes(g: &mut Gatherer, heard: Heard, kind: Kind, closed: bool) -> bool {
-    take(g, &message(heard)) == Some(Taken { kind, closed })
+    !g.ended() && g.take(&message(heard)) == Taken { kind, closed }
 }
 
 /// Whether an epoch was closed, of this time and with these numbers of satellites and GPS cells.
@@ -90,7 +81,7 @@ fn has_closed(g: &Gatherer, time: u64, satellites: usize, cells: usize) -> bool 
         Some(e) => {
             e.time().milliseconds() == time
                 && e.satellites() == satellites
-                && gps_cells(e).len() == cells
+                && e.cells(System::Gps).len() == cells
         }
     }
 }
@@ -102,50 +93,13 @@ fn are_values(g: &Gatherer, values: &StationValues) -> bool {
     }
 }
 
-fn gps_cells(epoch: &Epoch) -> &[Cell] {
-    epoch.cells(System::Gps)
-}
-
-/// A GPS cell of the epoch that was closed.
-fn cell_at(g: &Gatherer, place: usize) -> Option<&Cell> {
-    match g.closed() {
-        None => None,
-        Some(epoch) => gps_cells(epoch).get(place),
-    }
-}
-
-fn last_galileo(g: &Gatherer) -> Option<&Cell> {
-    match g.closed() {
-        None => None,
-        Some(epoch) => epoch.cells(System::Galileo).last(),
-    }
-}
-
-fn is_of(cell: Option<&Cell>, id: u8, code: [u8; 2]) -> bool {
-    match cell {
-        None => false,
-        Some(cell) => cell.satellite.id() == id && cell.signal.code() == code,
-    }
-}
-
-fn has_no_doppler(cell: Option<&Cell>) -> bool {
-    match cell {
-        None => false,
-        Some(cell) => cell.c.is_some() && cell.d.is_none(),
-    }
-}
-
-fn has_lli(cell: Option<&Cell>, lli: u8) -> bool {
-    match cell {
-        None => false,
-        Some(cell) => cell.lli == lli,
-    }
-}
-
-fn is_last(cell: Option<&Cell>, id: u8, lli: u8) -> bool {
-    match cell {
-        None => false,
-        Some(cell) => cell.satellite.id() == id && cell.lli == lli,
+/// The cell of the closed epoch of which a step is.
+fn cell_of<'a>(g: &'a Gatherer, step: &Step) -> Option<&'a Cell> {
+    let epoch = g.closed()?;
+    match step {
+        Of(place, ..) => epoch.cells(System::Gps).get(*place),
+        LastLli(..) => epoch.cells(System::Galileo).last(),
+        _ => epoch.cells(System::Gps).first(),
     }
 }
 
@@ -177,11 +131,18 @@ fn shows(g: &Gatherer, step: &Step) -> bool {
 
 /// Whether the closed epoch has the cell that a step expects.
 fn has_cell(g: &Gatherer, step: &Step) -> bool {
+    match cell_of(g, step) {
+        Some(cell) => is_as_in(cell, step),
+        None => false,
+    }
+}
+
+fn is_as_in(cell: &Cell, step: &Step) -> bool {
     match step {
-        Of(place, id, code) => is_of(cell_at(g, *place), *id, *code),
-        HasNoDoppler => has_no_doppler(cell_at(g, 0)),
-        Lli(lli) => has_lli(cell_at(g, 0), *lli),
-        LastLli(id, lli) => is_last(last_galileo(g), *id, *lli),
+        Of(_, id, code) => cell.satellite.id() == *id && cell.signal.code() == *code,
+        HasNoDoppler => cell.c.is_some() && cell.d.is_none(),
+        Lli(lli) => cell.lli == *lli,
+        LastLli(id, lli) => cell.satellite.id() == *id && cell.lli == *lli,
         _ => false,
     }
 }
@@ -198,20 +159,17 @@ fn go_through(g: &mut Gatherer, steps: &[Step]) -> bool {
 /// Whether the steps of a gatherer with this plan have their expected outcomes.
 fn run(
     alloc: Global,
-    plan: Plan,
+    plan: (&str, &str),
     week: u32,
     station: Option<u16>,
     gather: Gather,
     steps: &[Step],
 ) -> Result<bool, PlanFault> {
-    match Gatherer::new(alloc, plan, week, station, gather) {
-        Ok(mut g) => {
-            let goes = go_through(&mut g, steps);
-            drop(g);
-            Ok(goes)
-        }
-        Err(fault) => Err(fault),
-    }
+    let plan = parse(alloc, plan.0, plan.1)?;
+    let mut g = Gatherer::new(alloc, plan, week, station, gather)?;
+    let goes = go_through(&mut g, steps);
+    drop(g);
+    Ok(goes)
 }
 
 /// Whether all steps of a gatherer of station 7 have their expected outcomes.
@@ -222,10 +180,7 @@ fn goes_as_given(
     gather: Gather,
     steps: &[Step],
 ) -> bool {
-    match parse(alloc, plan.0, plan.1) {
-        Ok(plan) => run(alloc, plan, week, Some(7), gather, steps) == Ok(true),
-        Err(_) => false,
-    }
+    run(alloc, plan, week, Some(7), gather, steps) == Ok(true)
 }
 
 /// The same with every signal planned, from week 2,300 on and by the bit.
@@ -320,14 +275,15 @@ fn galileo_may_come_first(rt: HostRuntime) {
         Takes(Heard::Long(1_000, false, 64), KEPT, true),
         Closed(FIRST, 2, 1),
     ];
-    assert!(rt; goes_by_bit(rt.alloc(), &BY_BIT));
     static BY_TIME: [Step; 4] = [
         Takes(Heard::Galileo(1_000, false, 64), KEPT, false),
         Takes(Heard::Long(1_000, false, 64), KEPT, false),
         Ends(true),
         Closed(FIRST, 2, 1),
     ];
-    assert!(rt; goes_as_given(rt.alloc(), ALL, 2_300, Gather::Time, &BY_TIME));
+    let alloc = rt.alloc();
+    let goes = goes_by_bit(alloc, &BY_BIT);
+    assert!(rt; goes && goes_as_given(alloc, ALL, 2_300, Gather::Time, &BY_TIME));
 }
 
 #[test]
@@ -390,32 +346,20 @@ fn a_message_past_the_weeks_closes_nothing(rt: HostRuntime) {
     assert!(rt; goes_as_given(rt.alloc(), ALL, 99_999, Gather::Bit, &STEPS));
 }
 
-/// The fault of a setup with 1C alone.
-fn set_up(alloc: Global, week: u32, station: Option<u16>, gather: Gather) -> Option<PlanFault> {
-    match parse(alloc, "1C", "none") {
-        Ok(plan) => set_up_with(alloc, plan, week, station, gather),
-        Err(fault) => Some(fault),
-    }
-}
-
-fn set_up_with(
+/// Whether a setup with 1C alone plans one signal.
+fn set_up(
     alloc: Global,
-    plan: Plan,
     week: u32,
     station: Option<u16>,
     gather: Gather,
-) -> Option<PlanFault> {
-    match run(alloc, plan, week, station, gather, &[Plans(1)]) {
-        Ok(true) => None,
-        Ok(false) => Some(PlanFault::NothingPlanned),
-        Err(fault) => Some(fault),
-    }
+) -> Result<bool, PlanFault> {
+    run(alloc, ("1C", "none"), week, station, gather, &[Plans(1)])
 }
 
 fn are_refused_in_order(alloc: Global) -> bool {
-    set_up(alloc, 2_300, Some(4_096), Gather::Bit) == Some(PlanFault::BadStation)
-        && set_up(alloc, 100_000, Some(4_096), Gather::Bit) == Some(PlanFault::BadWeek)
-        && set_up(alloc, 99_999, None, Gather::Time).is_none()
+    set_up(alloc, 2_300, Some(4_096), Gather::Bit) == Err(PlanFault::BadStation)
+        && set_up(alloc, 100_000, Some(4_096), Gather::Bit) == Err(PlanFault::BadWeek)
+        && set_up(alloc, 99_999, None, Gather::Time) == Ok(true)
 }
 
 #[test]

@@ -111,18 +111,11 @@ static MESSAGES: [Known; 6] = [
     Known::Empty,
 ];
 
-fn are_written_back() -> bool {
-    for message in &MESSAGES {
-        if !is_written_back(bytes_of(*message)) {
-            return false;
-        }
-    }
-    true
-}
-
 #[test]
 fn messages_are_written_back(rt: HostRuntime) {
-    assert!(rt; are_written_back());
+    for message in &MESSAGES {
+        assert!(rt; is_written_back(bytes_of(*message)));
+    }
 }
 
 /// Whether a station message has these parts.
@@ -419,16 +412,9 @@ static OTHERS: [(&[u8], u16, Option<(u16, bool)>); 7] = [
     (&[0x4C, 0xE7, 0xD3, 0x00, 0x00, 0x0F, 0xA0], 1230, None),
 ];
 
-fn are_others() -> bool {
-    for (message, number, set) in &OTHERS {
-        if !is_other(message, *number, *set) {
-            return false;
-        }
-    }
-    true
-}
-
 #[test]
 fn other_messages_are_given(rt: HostRuntime) {
-    assert!(rt; are_others());
+    for (message, number, set) in &OTHERS {
+        assert!(rt; is_other(message, *number, *set));
+    }
 }

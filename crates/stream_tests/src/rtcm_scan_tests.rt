@@ -221,13 +221,8 @@ fn takes(framer: &mut Framer, block: &[u8]) -> bool {
 /// Whether there is a frame; None if it isn't that of the stream with this number.
 fn is_next(framer: &mut Framer, stream: &Stream, number: usize) -> Option<bool> {
     match framer.next() {
-        Some(frame) => {
-            if stream.has(number, frame.offset, frame.message.as_slice()) {
-                Some(true)
-            } else {
-                None
-            }
-        }
+        Some(frame) if stream.has(number, frame.offset, frame.message.as_slice()) => Some(true),
+        Some(_) => None,
         None => Some(false),
     }
 }
@@ -258,17 +253,12 @@ fn hand_on(
 ) -> Option<usize> {
     let mut frames = before;
     for block in bytes.chunks(size.max(1)) {
-        frames = hand_block(framer, stream, block, frames)?;
+        if !takes(framer, block) {
+            return None;
+        }
+        frames = drain(framer, stream, frames)?;
     }
     Some(frames)
-}
-
-fn hand_block(framer: &mut Framer, stream: &Stream, block: &[u8], before: usize) -> Option<usize> {
-    if takes(framer, block) {
-        drain(framer, stream, before)
-    } else {
-        None
-    }
 }
 
 /// Pushes the bytes of the stream up to a cut, and those after it. Returns the number of frames.
@@ -359,8 +349,8 @@ fn are_worked(alloc: Global) -> bool {
 
 #[test]
 fn worked_streams(rt: HostRuntime) {
-    assert!(rt; are_worked(rt.alloc()));
-    assert!(rt; are_claims(rt.alloc()));
+    let alloc = rt.alloc();
+    assert!(rt; are_worked(alloc) && are_claims(alloc));
 }
 
 /// A byte 0, the frame of a longest message, of 1,023 bytes, and that of a message of 958 bytes,
@@ -376,34 +366,32 @@ fn longest_frames() -> ArrayVec<u8, 2_048> {
     frames
 }
 
-/// The frames of the longest messages after a byte.
-fn follow_a_byte(alloc: Global, bytes: &[u8]) -> bool {
-    let stream = Stream {
-        bytes,
+/// Whether the frames of the longest messages are framed after a byte, and alone.
+fn are_longest(alloc: Global) -> bool {
+    let frames = longest_frames();
+    let behind = Stream {
+        bytes: frames.as_slice(),
         size: 1_994,
         frames: &[(1, 1_023), (1_030, 958)],
         before: Some((2, 0, (1, 3_975, 2))),
         after: (1, 3_975, 2),
     };
-    is_set(alloc, &stream, 0, 1) && is_set(alloc, &stream, 0, 2) && is_listed(&stream)
-}
-
-/// The frames of the longest messages alone.
-fn are_alone(alloc: Global, bytes: &[u8]) -> bool {
-    let stream = Stream {
-        bytes,
+    let alone = Stream {
+        bytes: frames.as_slice().get(1..).unwrap_or(&[]),
         size: 1_993,
         frames: &[(0, 1_023), (1_029, 958)],
         before: Some((2, 0, (0, 3_974, 2))),
         after: (0, 3_974, 2),
     };
-    is_set(alloc, &stream, 0, LONGEST_FRAME) && is_listed(&stream)
+    is_set(alloc, &behind, 0, 1)
+        && is_set(alloc, &behind, 0, 2)
+        && is_listed(&behind)
+        && is_set(alloc, &alone, 0, LONGEST_FRAME)
+        && is_listed(&alone)
 }
 
 /// Blocks of two end with the first frame if a byte precedes it, the longest block if none does.
 #[test]
 fn longest_messages(rt: HostRuntime) {
-    let frames = longest_frames();
-    assert!(rt; follow_a_byte(rt.alloc(), frames.as_slice()));
-    assert!(rt; are_alone(rt.alloc(), frames.as_slice().get(1..).unwrap_or(&[])));
+    assert!(rt; are_longest(rt.alloc()));
 }

@@ -15,28 +15,14 @@ fn place_of_1c(plan: &Plan) -> Option<usize> {
     }
 }
 
-fn has_signals(plan: &Plan, want: &(usize, usize, Option<usize>)) -> bool {
-    plan.signals(System::Gps) == want.0
-        && plan.signals(System::Galileo) == want.1
-        && place_of_1c(plan) == want.2
-}
-
-fn is_planned(plan: Result<Plan, PlanFault>, want: &Planned) -> bool {
-    match plan {
-        Ok(plan) => {
-            let is_planned = has_planned(&plan, want);
-            drop(plan);
-            is_planned
-        }
-        Err(fault) => *want == Err(fault),
-    }
-}
-
-fn has_planned(plan: &Plan, want: &Planned) -> bool {
-    match want {
-        Ok(want) => has_signals(plan, want),
-        Err(_) => false,
-    }
+/// What a plan, or the fault in place of it, plans.
+fn planned(plan: Result<Plan, PlanFault>) -> Planned {
+    let plan = plan?;
+    let gps = plan.signals(System::Gps);
+    let galileo = plan.signals(System::Galileo);
+    let place = place_of_1c(&plan);
+    drop(plan);
+    Ok((gps, galileo, place))
 }
 
 /// The texts for GPS and for Galileo, and what they plan.
@@ -67,7 +53,7 @@ static TEXTS: [(&str, &str, Planned); 10] = [
 
 fn are_read(alloc: Global) -> bool {
     for (gps, galileo, want) in &TEXTS {
-        if !is_planned(parse(alloc, gps, galileo), want) {
+        if planned(parse(alloc, gps, galileo)) != *want {
             return false;
         }
     }
@@ -77,10 +63,6 @@ fn are_read(alloc: Global) -> bool {
 #[test]
 fn texts_are_read(rt: HostRuntime) {
     assert!(rt; are_read(rt.alloc()));
-}
-
-fn from_signals(alloc: Global, gps: &[Signal], galileo: &[Signal]) -> Result<Plan, PlanFault> {
-    Plan::from_signals(alloc, gps, galileo)
 }
 
 /// The codes of two GPS signals, the number of them passed as those of GPS, and as those of
@@ -106,7 +88,7 @@ static SIGNALS: [(&str, &str, usize, usize, Planned); 4] = [
 
 fn is_made(alloc: Global, signals: &[Signal], gps: usize, galileo: usize, want: &Planned) -> bool {
     match (signals.get(..gps), signals.get(..galileo)) {
-        (Some(gps), Some(galileo)) => is_planned(from_signals(alloc, gps, galileo), want),
+        (Some(gps), Some(galileo)) => planned(Plan::from_signals(alloc, gps, galileo)) == *want,
         _ => false,
     }
 }

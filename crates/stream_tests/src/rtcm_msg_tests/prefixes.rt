@@ -60,16 +60,9 @@ fn has_short_prefixes(message: &[u8], widths: &[usize]) -> bool {
     true
 }
 
-fn have_short_prefixes() -> bool {
-    for (message, widths) in &FIELDS {
-        if !has_short_prefixes(bytes_of(*message), widths) {
-            return false;
-        }
-    }
-    true
-}
-
 #[test]
 fn each_proper_prefix_is_short(rt: HostRuntime) {
-    assert!(rt; have_short_prefixes());
+    for (message, widths) in &FIELDS {
+        assert!(rt; has_short_prefixes(bytes_of(*message), widths));
+    }
 }

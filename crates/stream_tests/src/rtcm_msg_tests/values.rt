@@ -8,8 +8,6 @@ use rtcm_msg::{
 };
 use std::test::*;
 
-// Each call with large clauses has a function without one, so that no test carries the clauses.
-
 static PARTS: [(StationParts, Option<ValueFault>); 4] = [
     (STATION_PARTS, None),
     (
@@ -36,18 +34,11 @@ static PARTS: [(StationParts, Option<ValueFault>); 4] = [
     ),
 ];
 
-fn are_stations_judged() -> bool {
-    for (parts, fault) in &PARTS {
-        if Station::new(*parts).err() != *fault {
-            return false;
-        }
-    }
-    true
-}
-
 #[test]
 fn stations_are_judged(rt: HostRuntime) {
-    assert!(rt; are_stations_judged());
+    for (parts, fault) in &PARTS {
+        assert!(rt; Station::new(*parts).err() == *fault);
+    }
 }
 
 static MASKS: [(u64, u32, u64, Option<ValueFault>); 4] = [
@@ -63,18 +54,11 @@ static MASKS: [(u64, u32, u64, Option<ValueFault>); 4] = [
     (1 << 59, 1 << 30, 1, None),
 ];
 
-fn are_masks_judged() -> bool {
-    for (satellites, signals, cells, fault) in &MASKS {
-        if Masks::new(*satellites, *signals, *cells).err() != *fault {
-            return false;
-        }
-    }
-    true
-}
-
 #[test]
 fn masks_are_judged(rt: HostRuntime) {
-    assert!(rt; are_masks_judged());
+    for (satellites, signals, cells, fault) in &MASKS {
+        assert!(rt; Masks::new(*satellites, *signals, *cells).err() == *fault);
+    }
 }
 
 /// The fault of these parts of a message whose masks have one satellite and one cell.

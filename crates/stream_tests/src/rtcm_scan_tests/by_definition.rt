@@ -18,6 +18,8 @@ const MOST_FRAMES: usize = 24;
 struct DefinedScan {
     frames: [(usize, usize); MOST_FRAMES],
     count: usize,
+    /// The number of their bytes.
+    framed: usize,
     looks: [u16; SIZE],
 }
 
@@ -50,6 +52,7 @@ impl DefinedScan {
     }
 
     fn add(&mut self, place: usize, message: usize) {
+        self.framed = self.framed.saturating_add(message.saturating_add(6));
         if self.count < MOST_FRAMES {
             self.frames[self.count] = (place, message);
             self.count += 1;
@@ -74,27 +77,13 @@ impl DefinedScan {
 
     /// The counts of a stream of `size` bytes.
     fn counts(&self, size: usize) -> Counts {
-        let mut skipped = size as u64;
-        for (_, message) in self.frames.iter().take(self.count) {
-            skipped = skipped.saturating_sub((*message as u64).saturating_add(6));
-        }
-        (skipped, self.examined(), self.most())
-    }
-
-    fn examined(&self) -> u64 {
         let mut examined = 0u64;
-        for looks in &self.looks {
-            examined = examined.saturating_add(u64::from(*looks));
-        }
-        examined
-    }
-
-    fn most(&self) -> u16 {
         let mut most = 0;
         for looks in &self.looks {
+            examined = examined.saturating_add(u64::from(*looks));
             most = most.max(*looks);
         }
-        most
+        (size.saturating_sub(self.framed) as u64, examined, most)
     }
 }
 
@@ -103,6 +92,7 @@ fn defined_scan(bytes: &[u8]) -> DefinedScan {
     let mut defined = DefinedScan {
         frames: [(0, 0); MOST_FRAMES],
         count: 0,
+        framed: 0,
         looks: [0; SIZE],
     };
     let mut next = 0;
@@ -171,6 +161,6 @@ fn agree_cut(alloc: Global) -> bool {
 
 #[test]
 fn cut_and_damaged_streams(rt: HostRuntime) {
-    assert!(rt; agree_cut(rt.alloc()));
-    assert!(rt; agree_damaged(rt.alloc()));
+    let alloc = rt.alloc();
+    assert!(rt; agree_cut(alloc) && agree_damaged(alloc));
 }
