@@ -6,3 +6,5 @@
 mod rinex_file_tests;
 #[cfg(test)]
 mod rtcm_convert_tests;
+#[cfg(test)]
+mod texts;

@@ -48,15 +48,11 @@ fn put(text: &mut Text, bytes: &[u8]) {
     let _ = text.try_extend_from_slice(bytes);
 }
 
-fn put_part(text: &mut Text, part: Part) {
-    put(text, text_of(part).as_bytes());
-}
-
 /// These parts, one after the other.
 fn joined(parts: &[Part]) -> Text {
     let mut text = Text::new();
     for part in parts {
-        put_part(&mut text, *part);
+        put(&mut text, text_of(*part).as_bytes());
     }
     text
 }
@@ -90,18 +86,12 @@ fn writer(takes: &Takes) -> Writer {
     Counted::new(ShortWriter::new(Text::new(), takes.each, takes.all, takes.end))
 }
 
-/// Whether these are the first bytes of the parts, as many as a writer accepts.
-fn is_start(bytes: &[u8], parts: &[Part], takes: &Takes) -> bool {
-    let text = joined(parts);
-    let is_start = text.as_slice().get(..takes.all.min(text.len())) == Some(bytes);
-    drop(text);
-    is_start
-}
-
 /// Whether a writer has accepted these parts, up to the bytes that it accepts.
 fn has_written(writer: Writer, parts: &[Part], takes: &Takes) -> bool {
     let text = writer.into_inner().into_inner();
-    let is_start = is_start(text.as_slice(), parts, takes);
+    let whole = joined(parts);
+    let is_start = whole.as_slice().get(..takes.all.min(whole.len())) == Some(text.as_slice());
+    drop(whole);
     drop(text);
     is_start
 }
@@ -168,18 +158,14 @@ fn is_header_under(plan: &Plan, first: GpsTime, lines: &[(usize, &str)]) -> bool
     }
 }
 
-fn is_header_of(plan: &Plan, lines: &[(usize, &str)]) -> bool {
-    match GpsTime::new(2303 * 604_800_000 + 345_600_000) {
-        Some(first) => is_header_under(plan, first, lines),
-        None => false,
-    }
-}
-
 /// The same of the header with every signal.
 fn is_full_header(alloc: Global, lines: &[(usize, &str)]) -> bool {
+    let Some(first) = GpsTime::new(2303 * 604_800_000 + 345_600_000) else {
+        return false;
+    };
     match Plan::parse(alloc, "all", "all") {
         Ok(plan) => {
-            let is_header = is_header_of(&plan, lines);
+            let is_header = is_header_under(&plan, first, lines);
             drop(plan);
             is_header
         }
@@ -276,13 +262,9 @@ static JUDGED: [(Texts<'static>, Option<HeadFault>); 5] = [
     ),
 ];
 
-fn fault_of(texts: &Texts) -> Option<HeadFault> {
-    HeaderTexts::new(texts).err()
-}
-
 fn are_judged() -> bool {
     for (texts, fault) in &JUDGED {
-        if fault_of(texts) != *fault {
+        if HeaderTexts::new(texts).err() != *fault {
             return false;
         }
     }
@@ -291,6 +273,5 @@ fn are_judged() -> bool {
 
 #[test]
 fn texts_are_judged(rt: HostRuntime) {
-    assert!(rt; HeaderField::Marker.width() == 60);
-    assert!(rt; are_judged());
+    assert!(rt; HeaderField::Marker.width() == 60 && are_judged());
 }

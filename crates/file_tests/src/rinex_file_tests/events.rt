@@ -1,8 +1,8 @@
 //! Events: written, read back, and refused in another place or with other values.
 use super::parts::Part;
 use super::reading::{Content, SMALL, have_faults, is_counted, is_read_back};
-use super::{ALL, Takes, VALUES, Writer, has_written, is_outcome, length, writer};
-use rinex_file::{HeadFault, ReadFault, write_event};
+use super::{ALL, Takes, VALUES, has_written, is_outcome, length, writer};
+use rinex_file::{ReadFault, write_event};
 use rtcm_bits::devices::WriteEnd;
 use std::alloc::Global;
 use std::io::ErrorKind;
@@ -78,11 +78,6 @@ fn an_event_in_the_wrong_place_or_of_the_same_values_is_refused(rt: HostRuntime)
     assert!(rt; have_faults(rt.alloc(), &CASES));
 }
 
-// The call with large clauses has a function without one, so that no test carries the clauses.
-fn send(writer: &mut Writer) -> Result<(), HeadFault> {
-    write_event(VALUES, writer)
-}
-
 /// Writers that accept a line in a write, and whether the event is written.
 static SENDS: [(Takes, bool); 4] = [
     (ALL, true),
@@ -115,21 +110,14 @@ static SENDS: [(Takes, bool); 4] = [
 /// Whether writing the event has this outcome, and the bytes are its first ones.
 fn is_sent(takes: &Takes, is_good: bool) -> bool {
     let mut writer = writer(takes);
-    let is_outcome = is_outcome(send(&mut writer), is_good);
+    let is_outcome = is_outcome(write_event(VALUES, &mut writer), is_good);
     let is_written = has_written(writer, &[Part::Event], takes);
     is_outcome && is_written
 }
 
-fn are_sent() -> bool {
-    for (takes, is_good) in &SENDS {
-        if !is_sent(takes, *is_good) {
-            return false;
-        }
-    }
-    true
-}
-
 #[test]
 fn an_event_is_written(rt: HostRuntime) {
-    assert!(rt; are_sent());
+    for (takes, is_good) in &SENDS {
+        assert!(rt; is_sent(takes, *is_good));
+    }
 }

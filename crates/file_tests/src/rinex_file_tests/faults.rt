@@ -1,6 +1,6 @@
 //! The texts of faults.
+use crate::texts::have_texts;
 use rinex_file::{HeadFault, HeaderField, ReadFault};
-use std::alloc::{AllocError, Global};
 
 static HEAD_FAULTS: [(HeadFault, &str); 3] = [
     (HeadFault::TooLong(HeaderField::Agency), "TooLong agency"),
@@ -36,60 +36,15 @@ static FIELD_NAMES: [(HeaderField, &str); 11] = [
     (HeaderField::AntType, "ant_type"),
 ];
 
-/// Whether this is the text.
-fn is_text(said: Result<String, AllocError>, text: &str) -> bool {
-    match said {
-        Ok(said) => {
-            let is_text = said.as_str() == text;
-            drop(said);
-            is_text
-        }
-        Err(_) => false,
-    }
-}
-
-fn says_of_head(alloc: Global, fault: HeadFault, text: &str) -> bool {
-    is_text(fault.to_string(alloc), text)
-}
-
-fn says_of_read(alloc: Global, fault: ReadFault, text: &str) -> bool {
-    is_text(fault.to_string(alloc), text)
-}
-
-fn head_faults_have_texts(alloc: Global) -> bool {
-    for (fault, text) in &HEAD_FAULTS {
-        if !says_of_head(alloc, *fault, text) {
-            return false;
-        }
-    }
-    true
-}
-
-fn read_faults_have_texts(alloc: Global) -> bool {
-    for (fault, text) in &READ_FAULTS {
-        if !says_of_read(alloc, *fault, text) {
-            return false;
-        }
-    }
-    true
-}
-
 #[test]
 fn faults_have_texts(rt: HostRuntime) {
-    assert!(rt; head_faults_have_texts(rt.alloc()));
-    assert!(rt; read_faults_have_texts(rt.alloc()));
-}
-
-fn are_named() -> bool {
-    for (field, name) in &FIELD_NAMES {
-        if field.name() != *name {
-            return false;
-        }
-    }
-    true
+    let alloc = rt.alloc();
+    assert!(rt; have_texts(alloc, &HEAD_FAULTS) && have_texts(alloc, &READ_FAULTS));
 }
 
 #[test]
 fn fields_have_names(rt: HostRuntime) {
-    assert!(rt; are_named());
+    for (field, name) in &FIELD_NAMES {
+        assert!(rt; field.name() == *name);
+    }
 }

@@ -35,13 +35,6 @@ fn put_epoch(text: &mut Long, second: usize) {
     );
 }
 
-fn put_file(text: &mut Long) {
-    put(text, text_of(Part::Header).as_bytes());
-    for epoch in 0..EPOCHS {
-        put_epoch(text, epoch + 1);
-    }
-}
-
 static CONTENT: Content = Content {
     epochs: 300,
     satellites: 300,
@@ -50,7 +43,10 @@ static CONTENT: Content = Content {
 
 fn is_long_read(alloc: Global) -> bool {
     let mut text = Long::new();
-    put_file(&mut text);
+    put(&mut text, text_of(Part::Header).as_bytes());
+    for epoch in 0..EPOCHS {
+        put_epoch(&mut text, epoch + 1);
+    }
     let is_read = is_read(alloc, text.as_slice(), &CONTENT);
     drop(text);
     is_read

@@ -2,7 +2,7 @@
 use super::parts::{Part, text_of};
 use super::{Text, VALUES, joined, put};
 use gnss_obs::System;
-use obs_epoch::{Plan, StationValues};
+use obs_epoch::StationValues;
 use rinex_file::{Counts, HeaderField, ObsFile, ReadFault, check_file, file_bytes, read_file};
 use rtcm_bits::Counted;
 use rtcm_bits::devices::{PieceReader, ReadEnd};
@@ -47,13 +47,7 @@ fn check(alloc: Global, text: &[u8]) -> Result<Counts, ReadFault> {
 
 /// The fault of a file of bytes.
 fn fault_of(alloc: Global, text: &[u8]) -> Option<ReadFault> {
-    match read(alloc, text) {
-        Ok(file) => {
-            drop(file);
-            None
-        }
-        Err(fault) => Some(fault),
-    }
+    read(alloc, text).err()
 }
 
 /// Whether the bytes of a file are these.
@@ -68,26 +62,17 @@ fn is_written_as(alloc: Global, file: &ObsFile, text: &[u8]) -> bool {
     }
 }
 
-fn has_counts(file: &ObsFile, content: &Content) -> bool {
+/// Whether a file has this content.
+fn has(file: &ObsFile, content: &Content) -> bool {
+    let plan = file.plan();
+    let is_roof = file.texts().text(HeaderField::Marker) == b"ROOF".as_slice();
     file.epochs() == content.epochs
         && file.satellites() == content.satellites
         && file.events() == content.events
-}
-
-fn has_plan(plan: &Plan, content: &Content) -> bool {
-    plan.signals(System::Gps) == content.signals.0
-        && plan.signals(System::Galileo) == content.signals.1
-}
-
-fn is_roof(file: &ObsFile) -> bool {
-    file.texts().text(HeaderField::Marker) == b"ROOF".as_slice()
-}
-
-fn has(file: &ObsFile, content: &Content) -> bool {
-    has_counts(file, content)
         && file.station_values().is_same(content.values)
-        && has_plan(file.plan(), content)
-        && is_roof(file) == content.is_roof
+        && plan.signals(System::Gps) == content.signals.0
+        && plan.signals(System::Galileo) == content.signals.1
+        && is_roof == content.is_roof
 }
 
 /// Whether a file with this content is read from the bytes and written back.
@@ -102,18 +87,6 @@ pub fn is_read(alloc: Global, text: &[u8], content: &Content) -> bool {
     }
 }
 
-/// Whether a file with the counts of this content is read from the bytes.
-fn is_checked(alloc: Global, text: &[u8], content: &Content) -> bool {
-    match check(alloc, text) {
-        Ok(counts) => {
-            counts.epochs == content.epochs as u64
-                && counts.satellites == content.satellites as u64
-                && counts.events == content.events as u64
-        }
-        Err(_) => false,
-    }
-}
-
 /// Whether a file of these parts is read and written back.
 pub fn is_read_back(alloc: Global, parts: &[Part], content: &Content) -> bool {
     let text = joined(parts);
@@ -122,12 +95,19 @@ pub fn is_read_back(alloc: Global, parts: &[Part], content: &Content) -> bool {
     is_read
 }
 
-/// Whether a file of these parts is counted.
+/// Whether a file of these parts has the counts of this content.
 pub fn is_counted(alloc: Global, parts: &[Part], content: &Content) -> bool {
     let text = joined(parts);
-    let is_checked = is_checked(alloc, text.as_slice(), content);
+    let counts = check(alloc, text.as_slice());
     drop(text);
-    is_checked
+    match counts {
+        Ok(counts) => {
+            counts.epochs == content.epochs as u64
+                && counts.satellites == content.satellites as u64
+                && counts.events == content.events as u64
+        }
+        Err(_) => false,
+    }
 }
 
 /// Whether a file of these parts has this fault, or none.
@@ -228,18 +208,15 @@ fn are_read_back(alloc: Global, files: &[(&[Part], Content)]) -> bool {
 
 #[test]
 fn a_file_is_read_and_written_back(rt: HostRuntime) {
-    assert!(rt; are_read_back(rt.alloc(), &FILES));
-    assert!(rt; is_read_with_station(rt.alloc()));
-}
-
-fn are_counted(alloc: Global) -> bool {
-    is_counted(alloc, &[Part::Header, Part::Epoch], &SMALL_CONTENT)
-        && is_counted(alloc, &[Part::TwoSystems], &OF_TWO_SYSTEMS)
+    let alloc = rt.alloc();
+    assert!(rt; are_read_back(alloc, &FILES) && is_read_with_station(alloc));
 }
 
 #[test]
 fn a_file_is_counted(rt: HostRuntime) {
-    assert!(rt; are_counted(rt.alloc()));
+    let alloc = rt.alloc();
+    let is_small = is_counted(alloc, &[Part::Header, Part::Epoch], &SMALL_CONTENT);
+    assert!(rt; is_small && is_counted(alloc, &[Part::TwoSystems], &OF_TWO_SYSTEMS));
 }
 
 #[test]
@@ -373,8 +350,8 @@ fn is_long_refused(alloc: Global) -> bool {
 
 #[test]
 fn a_file_that_ends_too_soon_is_refused(rt: HostRuntime) {
-    assert!(rt; have_faults(rt.alloc(), &TOO_SHORT));
-    assert!(rt; is_long_refused(rt.alloc()));
+    let alloc = rt.alloc();
+    assert!(rt; have_faults(alloc, &TOO_SHORT) && is_long_refused(alloc));
 }
 
 static SEVEN: [usize; 1] = [7];
@@ -384,25 +361,16 @@ fn failing(text: &[u8]) -> Counted<PieceReader<'_>> {
     Counted::new(PieceReader::new(text, &SEVEN, ReadEnd::Fails(ErrorKind::Other)))
 }
 
-/// Whether reading fails if the reader does, which is counted once.
-fn is_read_failing(alloc: Global, text: &[u8]) -> bool {
+/// Whether reading and checking fail if the reader does, which is counted once.
+fn are_failing(alloc: Global, text: &[u8]) -> bool {
     let mut reader = failing(text);
     let fault = file_of(alloc, &mut reader).err();
     let failures = reader.failures();
     drop(reader);
-    fault == Some(ReadFault::Read) && failures == 1
-}
-
-/// Whether checking fails with such a reader.
-fn is_check_failing(alloc: Global, text: &[u8]) -> bool {
-    let mut reader = failing(text);
-    let fault = counts_of(alloc, &mut reader).err();
-    drop(reader);
-    fault == Some(ReadFault::Read)
-}
-
-fn are_failing(alloc: Global, text: &[u8]) -> bool {
-    is_read_failing(alloc, text) && is_check_failing(alloc, text)
+    let mut checked = failing(text);
+    let check_fault = counts_of(alloc, &mut checked).err();
+    drop(checked);
+    fault == Some(ReadFault::Read) && failures == 1 && check_fault == Some(ReadFault::Read)
 }
 
 #[test]

@@ -164,10 +164,6 @@ static ROWS: [Row; 8] = [
 
 // Each call with large clauses has a function without one, so that no test carries the clauses.
 
-fn send_head(head: &Head, writer: &mut Writer) -> Result<(), HeadFault> {
-    write_header(head, writer)
-}
-
 fn send_epoch(gatherer: &Gatherer, epoch: &Epoch, writer: &mut Writer) -> Result<(), HeadFault> {
     write_epoch(epoch, gatherer.plan(), writer)
 }
@@ -181,7 +177,7 @@ fn send_header(gatherer: &Gatherer, first: GpsTime, writer: &mut Writer) -> Resu
                 values: gatherer.station_values(),
                 first,
             };
-            let sent = send_head(&head, writer);
+            let sent = write_header(&head, writer);
             drop(texts);
             sent
         }
@@ -192,10 +188,6 @@ fn send_header(gatherer: &Gatherer, first: GpsTime, writer: &mut Writer) -> Resu
 fn send_line(line: &Line, writer: &mut Writer) -> Result<(), HeadFault> {
     writer.write_whole(line.as_slice())?;
     Ok(())
-}
-
-fn put_epoch_line(epoch: &Epoch, line: &mut Line) {
-    epoch_line(epoch.time(), 1, line);
 }
 
 fn put_satellite(gatherer: &Gatherer, epoch: &Epoch, line: &mut Line) {
@@ -210,7 +202,7 @@ fn send_pair(
     line: &mut Line,
     writer: &mut Writer,
 ) -> Result<(), HeadFault> {
-    put_epoch_line(epoch, line);
+    epoch_line(epoch.time(), 1, line);
     send_line(line, writer)?;
     put_satellite(gatherer, epoch, line);
     send_line(line, writer)
@@ -257,16 +249,12 @@ fn is_sent_of(gatherer: &Gatherer, row: &Row) -> bool {
     }
 }
 
-fn take(gatherer: &mut Gatherer, message: &Message) {
-    if !gatherer.ended() {
-        gatherer.take(message);
-    }
-}
-
 fn is_sent_under(alloc: Global, plan: Plan, message: &Message, row: &Row) -> bool {
     match Gatherer::new(alloc, plan, 2300, None, Gather::Bit) {
         Ok(mut gatherer) => {
-            take(&mut gatherer, message);
+            if !gatherer.ended() {
+                gatherer.take(message);
+            }
             let is_sent = is_sent_of(&gatherer, row);
             drop(gatherer);
             is_sent
@@ -275,16 +263,12 @@ fn is_sent_under(alloc: Global, plan: Plan, message: &Message, row: &Row) -> boo
     }
 }
 
-fn is_sent_with(alloc: Global, message: &Message, row: &Row) -> bool {
-    match Plan::parse(alloc, row.gps, row.galileo) {
-        Ok(plan) => is_sent_under(alloc, plan, message, row),
-        Err(_) => false,
-    }
-}
-
 fn is_written(alloc: Global, row: &Row) -> bool {
-    match decode(row.message) {
-        Ok(message) => is_sent_with(alloc, &message, row),
+    let Ok(message) = decode(row.message) else {
+        return false;
+    };
+    match Plan::parse(alloc, row.gps, row.galileo) {
+        Ok(plan) => is_sent_under(alloc, plan, &message, row),
         Err(_) => false,
     }
 }
@@ -306,8 +290,7 @@ static WHOLE: Row = Row {
 
 #[test]
 fn a_file_is_written(rt: HostRuntime) {
-    assert!(rt; length(WHOLE.lines) == 1236);
-    assert!(rt; is_written(rt.alloc(), &WHOLE));
+    assert!(rt; length(WHOLE.lines) == 1236 && is_written(rt.alloc(), &WHOLE));
 }
 
 #[test]

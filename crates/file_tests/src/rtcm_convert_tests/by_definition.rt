@@ -25,8 +25,8 @@ pub fn four_frames() -> &'static [u8; SIZE] {
     FOUR_FRAMES
 }
 
-/// The offset of each of them, and the end.
-static PLACES: [usize; 5] = [0, 25, 52, 94, SIZE];
+/// Where each of them begins and ends.
+static PLACES: [(usize, usize); 4] = [(0, 25), (25, 52), (52, 94), (94, SIZE)];
 
 /// The lines of the file with the position, and with the height of 1.5 m.
 const POSITION: &str =
@@ -74,9 +74,9 @@ fn is_frame(rest: &[u8], size: usize) -> bool {
 
 /// Whether a frame is that of the four with this number.
 fn is_known(frame: &[u8], number: usize) -> bool {
-    match (PLACES.get(number), PLACES.get(number.saturating_add(1))) {
-        (Some(from), Some(to)) => four_frames().get(*from..*to) == Some(frame),
-        _ => false,
+    match PLACES.get(number) {
+        Some((from, to)) => four_frames().get(*from..*to) == Some(frame),
+        None => false,
     }
 }
 
@@ -118,24 +118,13 @@ impl DefinedConversion {
 
     /// The undecided bytes, the looks, and the most at one byte.
     pub fn counts(&self, size: usize) -> (usize, u64, u16) {
-        let held = size.saturating_sub(self.decided);
-        (held, self.examined(), self.most())
-    }
-
-    fn examined(&self) -> u64 {
         let mut examined = 0u64;
-        for looks in &self.looks {
-            examined = examined.saturating_add(u64::from(*looks));
-        }
-        examined
-    }
-
-    fn most(&self) -> u16 {
         let mut most = 0;
         for looks in &self.looks {
+            examined = examined.saturating_add(u64::from(*looks));
             most = most.max(*looks);
         }
-        most
+        (size.saturating_sub(self.decided), examined, most)
     }
 
     /// Whether it has an epoch. Messages 1077 and 1074 have the same time, and each ends its epoch:
@@ -158,14 +147,10 @@ impl DefinedConversion {
             bytes,
             skipped_bytes: bytes.saturating_sub(self.framed),
             frames: self.frames,
-            station: self.stations(),
+            station: u64::from(self.has[0]) + u64::from(self.has[1]),
             late: u64::from(self.has[2] && self.has[3]),
             ..ONE
         }
-    }
-
-    fn stations(&self) -> u64 {
-        u64::from(self.has[0]) + u64::from(self.has[1])
     }
 
     /// The lines of the file with the position, the height and the cell.
@@ -193,19 +178,15 @@ impl DefinedConversion {
         }
     }
 
-    /// Puts the file, of GPS 1C alone.
-    fn put_file(&self, text: &mut Text) {
-        put(text, piece(0, 567));
-        put(text, self.position());
-        put(text, self.height());
-        put(text, piece(729, 1_170));
-        put(text, self.cell());
-    }
-
-    fn file(&self) -> Text {
+    /// The file, of GPS 1C alone; empty if there is no epoch.
+    pub fn file(&self) -> Text {
         let mut text = Text::new();
         if self.has_epoch() {
-            self.put_file(&mut text);
+            put(&mut text, piece(0, 567));
+            put(&mut text, self.position());
+            put(&mut text, self.height());
+            put(&mut text, piece(729, 1_170));
+            put(&mut text, self.cell());
         }
         text
     }
@@ -216,14 +197,6 @@ impl DefinedConversion {
         let is_file = text.as_slice() == bytes;
         drop(text);
         is_file
-    }
-
-    /// The length of the file.
-    pub fn length(&self) -> usize {
-        let text = self.file();
-        let length = text.len();
-        drop(text);
-        length
     }
 }
 

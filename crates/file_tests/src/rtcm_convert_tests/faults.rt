@@ -1,10 +1,10 @@
 //! The faults of a converter: setups, limits, writers and readers that fail.
 use super::Frame;
 use super::script::{Call, IDLE, OPTIONS, Options, Script, Way, all_hold};
+use crate::texts::have_texts;
 use rtcm_bits::devices::{ReadEnd, WriteEnd};
 use rtcm_convert::Fault;
 use rtcm_scan::MOST_BYTES;
-use std::alloc::Global;
 use std::io::ErrorKind;
 
 /// A stream without an epoch, here an empty one.
@@ -217,27 +217,7 @@ static TEXTS: [(Fault, &str); 8] = [
     (Fault::NoEpoch, "NoEpoch"),
 ];
 
-fn has_text(alloc: Global, fault: Fault, text: &str) -> bool {
-    match fault.to_string(alloc) {
-        Ok(said) => {
-            let is_text = said.as_str() == text;
-            drop(said);
-            is_text
-        }
-        Err(_) => false,
-    }
-}
-
-fn have_texts(alloc: Global) -> bool {
-    for (fault, text) in &TEXTS {
-        if !has_text(alloc, *fault, text) {
-            return false;
-        }
-    }
-    true
-}
-
 #[test]
 fn texts_of_faults(rt: HostRuntime) {
-    assert!(rt; have_texts(rt.alloc()));
+    assert!(rt; have_texts(rt.alloc(), &TEXTS));
 }

@@ -52,21 +52,26 @@ fn is_converted(alloc: Global, fed: &Fed, defined: &DefinedConversion) -> bool {
     }
 }
 
-fn is_converted_in(
-    alloc: Global,
-    bytes: &[u8],
-    size: usize,
-    ends: bool,
-    defined: &DefinedConversion,
-) -> bool {
-    is_converted(alloc, &Fed { bytes, size, ends }, defined)
-}
-
 /// Whether a stream agrees in pieces of one byte and of two, before its end or after it.
 fn agrees_at(alloc: Global, bytes: &[u8], ends: bool) -> bool {
     let defined = defined_conversion(bytes, ends);
-    is_converted_in(alloc, bytes, 1, ends, &defined)
-        && is_converted_in(alloc, bytes, 2, ends, &defined)
+    is_converted(
+        alloc,
+        &Fed {
+            bytes,
+            size: 1,
+            ends,
+        },
+        &defined,
+    ) && is_converted(
+        alloc,
+        &Fed {
+            bytes,
+            size: 2,
+            ends,
+        },
+        &defined,
+    )
 }
 
 fn agrees(alloc: Global, bytes: &[u8]) -> bool {
@@ -114,8 +119,8 @@ fn agree_cut(alloc: Global) -> bool {
 
 #[test]
 fn cut_and_damaged_streams_are_converted_by_the_definitions(rt: HostRuntime) {
-    assert!(rt; agree_cut(rt.alloc()));
-    assert!(rt; agree_damaged(rt.alloc()));
+    let alloc = rt.alloc();
+    assert!(rt; agree_cut(alloc) && agree_damaged(alloc));
 }
 
 /// The report of the four frames.
@@ -194,7 +199,7 @@ fn is_defined(part: &Part) -> bool {
     let defined = defined_conversion(bytes, part.has_ended);
     defined.counts(bytes.len()) == part.counts
         && defined.result(bytes.len()) == part.result
-        && defined.length() == part.length
+        && defined.file().len() == part.length
 }
 
 fn are_defined() -> bool {
@@ -215,6 +220,5 @@ fn has_known_file() -> bool {
 /// The definitions themselves, by numbers counted by hand.
 #[test]
 fn the_definitions_are_right(rt: HostRuntime) {
-    assert!(rt; are_defined());
-    assert!(rt; has_known_file());
+    assert!(rt; are_defined() && has_known_file());
 }

@@ -146,10 +146,11 @@ fn stream_of(frames: &[Frame]) -> [u8; 1_000] {
 
 /// Copies bytes to an offset of the stream, and returns the offset after them.
 fn copy(stream: &mut [u8; 1_000], from: usize, frame: &[u8]) -> usize {
-    for (place, byte) in stream.iter_mut().skip(from).zip(frame.iter()) {
-        *place = *byte;
+    let to = from.saturating_add(frame.len());
+    if let Some(room) = stream.get_mut(from..to) {
+        room.copy_from_slice(frame);
     }
-    from.saturating_add(frame.len())
+    to
 }
 
 /// Whether a reader has the failures and the sizes of buffers of a script.
@@ -299,25 +300,9 @@ fn kept(converter: &Converter) -> (usize, usize, usize) {
     )
 }
 
-fn converter_of(alloc: Global, setup: Setup) -> Result<Converter, Fault> {
-    Converter::new(alloc, setup)
-}
-
 /// A converter of this setup.
 pub fn converter(alloc: Global, options: &Options) -> Result<Converter, Fault> {
-    match setup(alloc, options) {
-        Ok(setup) => converter_of(alloc, setup),
-        Err(fault) => Err(fault),
-    }
-}
-
-fn stream_with<R: Read, W: Write>(
-    alloc: Global,
-    setup: Setup,
-    reader: &mut Counted<R>,
-    writer: &mut Counted<W>,
-) -> Result<Report, Fault> {
-    convert_stream(alloc, setup, reader, writer)
+    Converter::new(alloc, setup(alloc, options)?)
 }
 
 fn convert<R: Read, W: Write>(
@@ -326,10 +311,7 @@ fn convert<R: Read, W: Write>(
     reader: &mut Counted<R>,
     writer: &mut Counted<W>,
 ) -> Result<Report, Fault> {
-    match setup(alloc, options) {
-        Ok(setup) => stream_with(alloc, setup, reader, writer),
-        Err(fault) => Err(fault),
-    }
+    convert_stream(alloc, setup(alloc, options)?, reader, writer)
 }
 
 fn pieces<W: Write>(
@@ -349,25 +331,13 @@ fn pieces<W: Write>(
     made
 }
 
-fn pieces_with<W: Write>(
-    alloc: Global,
-    setup: Setup,
-    pieces: &[Vec<u8>],
-    writer: &mut Counted<W>,
-) -> Result<Report, Fault> {
-    convert_pieces(alloc, setup, pieces, writer)
-}
-
 fn join<W: Write>(
     alloc: Global,
     options: &Options,
     pieces: &[Vec<u8>],
     writer: &mut Counted<W>,
 ) -> Result<Report, Fault> {
-    match setup(alloc, options) {
-        Ok(setup) => pieces_with(alloc, setup, pieces, writer),
-        Err(fault) => Err(fault),
-    }
+    convert_pieces(alloc, setup(alloc, options)?, pieces, writer)
 }
 
 fn cut(
