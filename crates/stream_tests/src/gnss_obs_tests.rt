@@ -4,8 +4,6 @@ use gnss_obs::{
     strength_digit,
 };
 
-// Each call with clauses has a function without one, so that no test carries the clauses.
-
 static NUMBERS: [(System, u8, bool); 7] = [
     (System::Gps, 0, false),
     (System::Gps, 1, true),
@@ -16,17 +14,14 @@ static NUMBERS: [(System, u8, bool); 7] = [
     (System::Galileo, 37, false),
 ];
 
-/// Whether the system has a satellite of this number, or has none.
-fn is_numbered(system: System, id: u8, is_listed: bool) -> bool {
-    match Sat::new(system, id) {
-        Some(made) => is_listed && made.system() == system && made.id() == id,
-        None => !is_listed,
-    }
-}
-
+/// Whether each system has a satellite of its number, or has none.
 fn are_numbered() -> bool {
     for (system, id, is_listed) in &NUMBERS {
-        if !is_numbered(*system, *id, *is_listed) {
+        let is_right = match Sat::new(*system, *id) {
+            Some(made) => *is_listed && made.system() == *system && made.id() == *id,
+            None => !*is_listed,
+        };
+        if !is_right {
             return false;
         }
     }
@@ -62,21 +57,16 @@ fn gives(signal: Signal, listed: &Listed) -> bool {
         && signal.code().as_slice() == listed.2.as_bytes()
 }
 
-/// Whether the ID, the index and the code of a row are those of its signal.
-fn is_listed(listed: &Listed) -> bool {
-    match Signal::from_id(listed.0, listed.1) {
-        Some(signal) => {
-            gives(signal, listed)
-                && Signal::from_index(listed.0, listed.3) == Some(signal)
-                && Signal::from_code(listed.0, listed.2) == Some(signal)
-        }
-        None => false,
-    }
-}
-
+/// Whether the ID, the index and the code of each row are those of its signal.
 fn are_listed() -> bool {
     for listed in &SIGNALS {
-        if !is_listed(listed) {
+        let Some(signal) = Signal::from_id(listed.0, listed.1) else {
+            return false;
+        };
+        if !gives(signal, listed)
+            || Signal::from_index(listed.0, listed.3) != Some(signal)
+            || Signal::from_code(listed.0, listed.2) != Some(signal)
+        {
             return false;
         }
     }
@@ -86,12 +76,6 @@ fn are_listed() -> bool {
 #[test]
 fn lists_signals(rt: HostRuntime) {
     assert!(rt; are_listed() && System::Gps.signals() == 15 && System::Galileo.signals() == 19);
-}
-
-/// Whether an ID has the signal of this code, or no signal if the code is `--`.
-fn is_code_of_id(system: System, id: u8, code: &str) -> bool {
-    let listed = Signal::from_id(system, id);
-    listed == Signal::from_code(system, code) && listed.is_none() == (code == "--")
 }
 
 /// The codes of the 32 positions of the signal mask DF395 of GPS, in order, `--` if no signal has
@@ -107,10 +91,12 @@ static GALILEO_MASK: [&str; 32] = [
     "--", "8I", "8Q", "8X", "--", "5I", "5Q", "5X", "--", "--", "--", "--", "--", "--", "--", "--",
 ];
 
-/// Whether these are the codes of the IDs from 1 on.
+/// Whether these are the codes of the IDs from 1 on, `--` that of an ID without a signal.
 fn is_mask(system: System, codes: &[&str; 32]) -> bool {
     for id in 1..33u8 {
-        if !is_code_of_id(system, id, codes[usize::from(id) - 1]) {
+        let code = codes[usize::from(id) - 1];
+        let signal = Signal::from_id(system, id);
+        if signal != Signal::from_code(system, code) || signal.is_none() != (code == "--") {
             return false;
         }
     }

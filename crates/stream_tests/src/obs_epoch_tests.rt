@@ -63,34 +63,9 @@ use Step::{
     Takes, Values,
 };
 
-// Each call with large clauses has a function without one, so that no test carries the clauses.
-
-fn parse(alloc: Global, gps: &str, galileo: &str) -> Result<Plan, PlanFault> {
-    Plan::parse(alloc, gps, galileo)
-}
-
 /// Whether a message has this outcome.
 fn takes(g: &mut Gatherer, heard: Heard, kind: Kind, closed: bool) -> bool {
     !g.ended() && g.take(&message(heard)) == Taken { kind, closed }
-}
-
-/// Whether an epoch was closed, of this time and with these numbers of satellites and GPS cells.
-fn has_closed(g: &Gatherer, time: u64, satellites: usize, cells: usize) -> bool {
-    match g.closed() {
-        None => false,
-        Some(e) => {
-            e.time().milliseconds() == time
-                && e.satellites() == satellites
-                && e.cells(System::Gps).len() == cells
-        }
-    }
-}
-
-fn are_values(g: &Gatherer, values: &StationValues) -> bool {
-    match g.closed() {
-        None => false,
-        Some(e) => g.station_values().is_same(*values) && e.station_values().is_same(*values),
-    }
 }
 
 /// The cell of the closed epoch of which a step is.
@@ -122,22 +97,28 @@ fn shows(g: &Gatherer, step: &Step) -> bool {
         Plans(signals) => g.plan().signals(System::Gps) == *signals,
         Holds(cells) => g.cells(System::Gps) == *cells,
         Locks(locks) => g.locks() == *locks,
-        Values(values) => are_values(g, values),
+        Values(values) => match g.closed() {
+            Some(e) => g.station_values().is_same(*values) && e.station_values().is_same(*values),
+            None => false,
+        },
         ClosedNone => g.closed().is_none(),
-        Closed(time, satellites, cells) => has_closed(g, *time, *satellites, *cells),
-        step => has_cell(g, step),
+        Closed(time, satellites, cells) => match g.closed() {
+            Some(e) => {
+                e.time().milliseconds() == *time
+                    && e.satellites() == *satellites
+                    && e.cells(System::Gps).len() == *cells
+            }
+            None => false,
+        },
+        step => match cell_of(g, step) {
+            Some(cell) => is_expected(cell, step),
+            None => false,
+        },
     }
 }
 
-/// Whether the closed epoch has the cell that a step expects.
-fn has_cell(g: &Gatherer, step: &Step) -> bool {
-    match cell_of(g, step) {
-        Some(cell) => is_as_in(cell, step),
-        None => false,
-    }
-}
-
-fn is_as_in(cell: &Cell, step: &Step) -> bool {
+/// Whether a cell is as a step expects.
+fn is_expected(cell: &Cell, step: &Step) -> bool {
     match step {
         Of(_, id, code) => cell.satellite.id() == *id && cell.signal.code() == *code,
         HasNoDoppler => cell.c.is_some() && cell.d.is_none(),
@@ -165,7 +146,7 @@ fn run(
     gather: Gather,
     steps: &[Step],
 ) -> Result<bool, PlanFault> {
-    let plan = parse(alloc, plan.0, plan.1)?;
+    let plan = Plan::parse(alloc, plan.0, plan.1)?;
     let mut g = Gatherer::new(alloc, plan, week, station, gather)?;
     let goes = go_through(&mut g, steps);
     drop(g);

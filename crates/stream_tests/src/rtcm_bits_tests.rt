@@ -183,11 +183,6 @@ fn answer(outcome: io::Result<usize>, failures: u64) -> Answer {
     }
 }
 
-fn read(reader: &mut Counted<PieceReader>, buf: &mut [u8]) -> Answer {
-    let outcome = reader.read(buf);
-    answer(outcome, reader.failures())
-}
-
 /// The size of a buffer for a read, and its result.
 static READS: [(usize, Answer); 7] = [
     (10, (Ok(4), 0)),
@@ -204,7 +199,8 @@ static READS: [(usize, Answer); 7] = [
 fn are_answered(reader: &mut Counted<PieceReader>) -> bool {
     let mut buf = [0u8; 10];
     for (room, want) in &READS {
-        if read(reader, &mut buf[..(*room).min(10)]) != *want {
+        let outcome = reader.read(&mut buf[..(*room).min(10)]);
+        if answer(outcome, reader.failures()) != *want {
             return false;
         }
     }
@@ -262,11 +258,6 @@ fn a_failed_read_is_not_repeated(rt: HostRuntime) {
 /// A writer of at most eight bytes that accepts two of them at a time.
 type Pairs = Counted<ShortWriter<ArrayVec<u8, 8>>>;
 
-fn write(writer: &mut Pairs, bytes: &[u8]) -> Answer {
-    let outcome = writer.write(bytes);
-    answer(outcome, writer.failures())
-}
-
 /// Bytes that are written, with the outcome.
 enum Sent {
     /// By one write.
@@ -277,27 +268,24 @@ enum Sent {
 
 fn is_sent(writer: &mut Pairs, sent: &Sent) -> bool {
     match sent {
-        Sent::Once(bytes, want) => write(writer, bytes) == *want,
+        Sent::Once(bytes, want) => {
+            let outcome = writer.write(bytes);
+            answer(outcome, writer.failures()) == *want
+        }
         Sent::Whole(bytes, is_whole, failures) => {
             writer.write_whole(bytes).is_ok() == *is_whole && writer.failures() == *failures
         }
     }
 }
 
-fn are_sent(writer: &mut Pairs, sends: &[Sent]) -> bool {
-    for sent in sends {
-        if !is_sent(writer, sent) {
-            return false;
-        }
-    }
-    true
-}
-
 /// Whether the writes to a device have their outcomes, and it has accepted the first of these
 /// bytes, their number being all that it accepts.
 fn are_taken(total: usize, end: WriteEnd, sends: &[Sent]) -> bool {
     let mut writer = Counted::new(ShortWriter::new(ArrayVec::new(), 2, total, end));
-    let are_sent = are_sent(&mut writer, sends);
+    let mut are_sent = true;
+    for sent in sends {
+        are_sent = are_sent && is_sent(&mut writer, sent);
+    }
     let taken = writer.into_inner().into_inner();
     are_sent && taken.as_slice() == &[1, 2, 3, 4, 5][..total.min(5)]
 }
@@ -325,17 +313,13 @@ fn whole_writes_stop_at_a_failure(rt: HostRuntime) {
     assert!(rt; are_taken(5, WriteEnd::Fails(ErrorKind::Interrupted), &FIVE));
 }
 
-/// Whether two bytes are written and not flushed, with one failure.
-fn writes_and_stops(writer: &mut Counted<ShortWriter<Stumbles>>) -> bool {
-    writer.write_whole(&[1, 2]).is_ok() && writer.flush().is_err() && writer.failures() == 1
-}
-
-/// Whether a device that fails in its second call is flushed once.
+/// Whether a device that fails in its second call has its bytes and is flushed once.
 fn is_flushed_once() -> bool {
     let device = Stumbles::new(2);
     let mut writer = Counted::new(ShortWriter::new(device, 9, 9, WriteEnd::TakesNone));
-    let stops = writes_and_stops(&mut writer);
-    stops && writer.into_inner().into_inner().calls == 2
+    let is_written = writer.write_whole(&[1, 2]).is_ok();
+    let stops = writer.flush().is_err() && writer.failures() == 1;
+    is_written && stops && writer.into_inner().into_inner().calls == 2
 }
 
 #[test]

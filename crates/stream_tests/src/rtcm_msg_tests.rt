@@ -68,32 +68,24 @@ impl Sent {
     fn bytes(&self) -> ArrayVec<u8, ALL> {
         let mut bytes = ArrayVec::new();
         let _ = bytes.try_extend_from_slice(bytes_of(self.0).get(..self.1).unwrap_or(&[]));
-        replace(bytes.as_mut_slice(), self.2);
+        for (place, byte) in self.2 {
+            if let Some(room) = bytes.as_mut_slice().get_mut(*place) {
+                *room = *byte;
+            }
+        }
         bytes
     }
 }
 
-fn replace(bytes: &mut [u8], others: &[(usize, u8)]) {
-    for (place, byte) in others {
-        if *place < bytes.len() {
-            bytes[*place] = *byte;
-        }
-    }
-}
-
-/// Whether the message decoded from bytes is encoded as these bytes.
+/// Whether the message decoded from bytes is encoded as these bytes; false if it is of a number that
+/// is not read.
 fn is_written_as(bytes: &[u8], want: &[u8]) -> bool {
-    match decode(bytes) {
-        Ok(message) => writes(&message, want),
-        Err(_) => false,
-    }
-}
-
-/// Whether the message is encoded as these bytes; false if it is of a number that is not read.
-fn writes(message: &Message, want: &[u8]) -> bool {
+    let Ok(message) = decode(bytes) else {
+        return false;
+    };
     let mut out = ArrayVec::new();
     if !message.is_other() {
-        encode(message, &mut out);
+        encode(&message, &mut out);
     }
     out.as_slice() == want
 }
@@ -209,17 +201,11 @@ fn is_known(msm: &Msm<Grid7>, number: u16, is_galileo: bool) -> bool {
         && msm.cell(0) == CELL
 }
 
-fn has_data(bytes: &[u8], number: u16, is_galileo: bool) -> bool {
-    match decode(bytes) {
-        Ok(Message::Msm7(msm)) => is_known(&msm, number, is_galileo),
-        _ => false,
-    }
-}
-
 fn have_data() -> bool {
     for (sent, _, number, is_galileo) in &HEADS[..2] {
-        if !has_data(sent.bytes().as_slice(), *number, *is_galileo) {
-            return false;
+        match &decode(sent.bytes().as_slice()) {
+            Ok(Message::Msm7(msm)) if is_known(msm, *number, *is_galileo) => {}
+            _ => return false,
         }
     }
     true

@@ -173,17 +173,13 @@ impl<'a> Stream<'a> {
         &self.bytes[..self.size.min(self.bytes.len())]
     }
 
-    /// The message of a frame.
-    fn message(&self, place: usize, size: usize) -> Option<&[u8]> {
-        let start = place.saturating_add(3);
-        self.bytes.get(start..start.saturating_add(size))
-    }
-
     /// Whether this is its frame with that number.
     fn has(&self, number: usize, offset: u64, message: &[u8]) -> bool {
         match self.frames.get(number) {
             Some((place, size)) => {
-                *place as u64 == offset && self.message(*place, *size) == Some(message)
+                let start = place.saturating_add(3);
+                let own = self.bytes.get(start..start.saturating_add(*size));
+                *place as u64 == offset && own == Some(message)
             }
             None => false,
         }
@@ -286,19 +282,17 @@ fn is_after(framer: &mut Framer, stream: &Stream, frames: usize) -> bool {
         && has_counts(framer, stream.after)
 }
 
-fn is_given(framer: &mut Framer, stream: &Stream, cut: usize, size: usize) -> bool {
-    match hand_both(framer, stream, cut, size) {
-        Some(frames) => is_before(framer, stream, frames) && is_after(framer, stream, frames),
-        None => false,
-    }
-}
-
 /// Whether a new framer has the frames and the counts of the stream, cut there and in blocks of a
 /// size.
 fn is_set(alloc: Global, stream: &Stream, cut: usize, size: usize) -> bool {
     match Framer::new(alloc, MOST_BYTES) {
         Ok(mut framer) => {
-            let is_given = is_given(&mut framer, stream, cut, size);
+            let is_given = match hand_both(&mut framer, stream, cut, size) {
+                Some(frames) => {
+                    is_before(&framer, stream, frames) && is_after(&mut framer, stream, frames)
+                }
+                None => false,
+            };
             drop(framer);
             is_given
         }

@@ -21,14 +21,6 @@ const LEAP_DAY: Civil = Civil {
     millisecond: 0,
 };
 
-/// The time of a date, in milliseconds.
-fn milliseconds_of(civil: &Civil) -> Option<u64> {
-    match GpsTime::from_civil(civil) {
-        None => None,
-        Some(time) => Some(time.milliseconds()),
-    }
-}
-
 const TIME: u64 = 2_303 * WEEK + 345_600_000;
 
 /// Dates, and their times if they have one.
@@ -53,8 +45,12 @@ static DATES: [(Civil, Option<u64>); 3] = [
 ];
 
 fn have_times() -> bool {
-    for (civil, time) in &DATES {
-        if milliseconds_of(civil) != *time {
+    for (civil, want) in &DATES {
+        let time = match GpsTime::from_civil(civil) {
+            None => None,
+            Some(time) => Some(time.milliseconds()),
+        };
+        if time != *want {
             return false;
         }
     }

@@ -97,28 +97,40 @@ fn filled(
     lock: u16,
 ) -> Message {
     let satellites = SATELLITES.get(..count).unwrap_or(&[]);
-    let cells = &cells_with(lock)[..cells.min(64)];
-    match Msm::new(is_galileo, header, masks, satellites, cells) {
-        Ok(msm) => Message::Msm7(msm),
-        Err(_) => nothing(),
-    }
-}
-
-fn cells_with(lock: u16) -> [Cell7; 64] {
-    [Cell7 {
+    let data = [Cell7 {
         range: 0,
         phase: 0,
         lock,
         half_cycle: false,
         strength: 721,
         rate: 0,
-    }; 64]
+    }; 64];
+    match Msm::new(
+        is_galileo,
+        header,
+        masks,
+        satellites,
+        &data[..cells.min(64)],
+    ) {
+        Ok(msm) => Message::Msm7(msm),
+        Err(_) => nothing(),
+    }
 }
 
 /// A message of the short form: GPS 5 with the signal 1C.
 fn short(header: MsmHeader, has_phase: bool, lock: u8) -> Message {
-    match Masks::new(1 << 59, 1 << 30, 1) {
-        Ok(masks) => single(header, masks, if has_phase { 0 } else { -2_097_152 }, lock),
+    let cell = Cell4 {
+        range: 0,
+        phase: if has_phase { 0 } else { -2_097_152 },
+        lock,
+        half_cycle: false,
+        strength: 45,
+    };
+    let Ok(masks) = Masks::new(1 << 59, 1 << 30, 1) else {
+        return nothing();
+    };
+    match Msm::new(false, header, masks, &COARSE, &[cell]) {
+        Ok(msm) => Message::Msm4(msm),
         Err(_) => nothing(),
     }
 }
@@ -127,20 +139,6 @@ static COARSE: [Satellite4; 1] = [Satellite4 {
     whole: 70,
     fraction: 0,
 }];
-
-fn single(header: MsmHeader, masks: Masks, phase: i32, lock: u8) -> Message {
-    let cell = Cell4 {
-        range: 0,
-        phase,
-        lock,
-        half_cycle: false,
-        strength: 45,
-    };
-    match Msm::new(false, header, masks, &COARSE, &[cell]) {
-        Ok(msm) => Message::Msm4(msm),
-        Err(_) => nothing(),
-    }
-}
 
 static PARTS: StationParts = StationParts {
     station: 7,

@@ -1,5 +1,4 @@
 //! Plans of texts and of signals.
-use super::parse;
 use gnss_obs::{Signal, System};
 use obs_epoch::{Plan, PlanFault};
 use std::alloc::Global;
@@ -53,7 +52,7 @@ static TEXTS: [(&str, &str, Planned); 10] = [
 
 fn are_read(alloc: Global) -> bool {
     for (gps, galileo, want) in &TEXTS {
-        if planned(parse(alloc, gps, galileo)) != *want {
+        if planned(Plan::parse(alloc, gps, galileo)) != *want {
             return false;
         }
     }

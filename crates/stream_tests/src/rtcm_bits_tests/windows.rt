@@ -7,14 +7,6 @@ use std::alloc::Global;
 // Each call with clauses has a function without one, so that no test carries the clauses. It
 // returns None or false if the condition of the call isn't met.
 
-fn push_all(window: &mut Window, bytes: &[u8]) -> bool {
-    let has_room = bytes.len() <= LONGEST_FRAME - window.held();
-    if has_room {
-        window.push_all(bytes);
-    }
-    has_room
-}
-
 fn push_each(window: &mut Window, bytes: &[u8]) -> bool {
     for byte in bytes {
         if window.held() == LONGEST_FRAME {
@@ -45,14 +37,6 @@ fn hands_over(window: &mut Window, start: usize, want: &[u8]) -> bool {
     bytes.as_slice() == want
 }
 
-fn drop_front(window: &mut Window, size: usize) -> bool {
-    let is_held = size <= window.held();
-    if is_held {
-        window.drop_front(size);
-    }
-    is_held
-}
-
 /// A call of a window, and its expected outcome.
 enum Step {
     /// Bytes are pushed one by one.
@@ -79,7 +63,10 @@ enum Step {
 fn goes(window: &mut Window, step: &Step) -> bool {
     match step {
         Step::Pushes(bytes) => push_each(window, bytes),
-        Step::Fills(bytes) => window.held() == 0 && push_all(window, bytes),
+        Step::Fills(bytes) if window.held() == 0 && bytes.len() <= LONGEST_FRAME => {
+            window.push_all(bytes);
+            true
+        }
         Step::Counts(held, examined, most) => {
             window.held() == *held && window.examined() == *examined && window.most() == *most
         }
@@ -87,8 +74,12 @@ fn goes(window: &mut Window, step: &Step) -> bool {
         Step::Looked(place, times) => { *place < window.held() && window.looks(*place) == *times }
         Step::Checks(start, size, crc) => check_range(window, *start, *size) == Some(*crc),
         Step::Passes(start, bytes) => hands_over(window, *start, bytes),
-        Step::Drops(size) => drop_front(window, *size),
+        Step::Drops(size) if *size <= window.held() => {
+            window.drop_front(*size);
+            true
+        }
         Step::DropsOthers(byte, size) => window.drop_others(*byte) == *size,
+        Step::Fills(_) | Step::Drops(_) => false,
     }
 }
 

@@ -39,21 +39,14 @@ fn first_unended(widths: &[usize], bits: usize) -> Option<usize> {
     None
 }
 
-/// Whether a prefix of this size is refused at the first field that does not end within it.
-fn is_short(message: &[u8], widths: &[usize], size: usize) -> bool {
-    match first_unended(widths, size.saturating_mul(8)) {
-        Some(place) => {
-            let prefix = message.get(..size).unwrap_or(&[]);
-            decode(prefix).err() == Some(MsgFault::Short(place))
-        }
-        None => false,
-    }
-}
-
-/// Whether each prefix of a message is short.
+/// Whether each prefix of a message is refused at the first field that does not end within it.
 fn has_short_prefixes(message: &[u8], widths: &[usize]) -> bool {
     for size in 0..message.len() {
-        if !is_short(message, widths, size) {
+        let Some(place) = first_unended(widths, size.saturating_mul(8)) else {
+            return false;
+        };
+        let prefix = message.get(..size).unwrap_or(&[]);
+        if decode(prefix).err() != Some(MsgFault::Short(place)) {
             return false;
         }
     }

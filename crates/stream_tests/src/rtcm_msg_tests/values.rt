@@ -3,7 +3,7 @@ use super::known::{Known, bytes_of};
 use super::{CELL, HEADER, SATELLITE, STATION_PARTS, is_written_back};
 use arrayvec::ArrayVec;
 use rtcm_msg::{
-    Cell4, Cell7, Entries, Field, Grid, Grid4, Grid7, Masks, Message, Msm, MsmHeader, Satellite4,
+    Cell4, Cell7, Field, Grid, Grid4, Grid7, Masks, Message, Msm, MsmHeader, Satellite4,
     Satellite7, Station, StationParts, ValueFault, View, encode, look,
 };
 use std::test::*;
@@ -157,20 +157,17 @@ fn values_are_written(rt: HostRuntime) {
 
 /// Whether the cells of a message 1077 that is read are of these satellites and signals.
 fn has_cells(bytes: &[u8], cells: &[(u8, u8)]) -> bool {
-    match look(bytes) {
-        Ok(View::Msm(msm)) => msm.number() == 1077 && are_of(&mut msm.entries(), cells),
-        _ => false,
-    }
-}
-
-fn are_of(entries: &mut Entries<'_>, cells: &[(u8, u8)]) -> bool {
+    let Ok(View::Msm(msm)) = look(bytes) else {
+        return false;
+    };
+    let mut entries = msm.entries();
     for (satellite, signal) in cells {
         match entries.next() {
             Some(entry) if entry.satellite == *satellite && entry.signal == *signal => {}
             _ => return false,
         }
     }
-    entries.next().is_none()
+    msm.number() == 1077 && entries.next().is_none()
 }
 
 /// Satellites 1 and 64, signals 2 and 32: the first with 32, the second with both.

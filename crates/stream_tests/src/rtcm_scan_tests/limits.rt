@@ -4,12 +4,6 @@ use crate::texts::have_texts;
 use rtcm_scan::{Framer, MOST_BYTES, ScanFault};
 use std::alloc::Global;
 
-// The call with large clauses has a function without one, so that no test carries the clauses.
-
-fn refused(alloc: Global, limit: u64) -> Option<ScanFault> {
-    Framer::new(alloc, limit).err()
-}
-
 /// Whether pushing a byte is refused so.
 fn is_refused(framer: &mut Framer, fault: ScanFault) -> bool {
     push(framer, 0xD3) == Some(Err(fault))
@@ -70,7 +64,7 @@ fn has_end(alloc: Global) -> bool {
 
 fn are_limited(alloc: Global) -> bool {
     has_end(alloc)
-        && refused(alloc, MOST_BYTES + 1) == Some(ScanFault::BadLimit)
+        && Framer::new(alloc, MOST_BYTES + 1).err() == Some(ScanFault::BadLimit)
         && is_limited(alloc, 0)
         && is_limited(alloc, 10)
 }
