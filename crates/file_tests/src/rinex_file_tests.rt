@@ -115,16 +115,12 @@ fn put_header(head: &Head, text: &mut Text) -> bool {
     are_whole
 }
 
-/// Whether the line of this number, of 81 bytes as all are, has this text.
-fn has_line(text: &[u8], number: usize, line: &str) -> bool {
-    let from = number.saturating_mul(81);
-    let to = from.saturating_add(80);
-    text.get(from..to) == Some(line.as_bytes()) && text.get(to) == Some(&b'\n')
-}
-
+/// Whether these lines, of 81 bytes as all are, have their texts.
 fn has_lines(text: &[u8], lines: &[(usize, &str)]) -> bool {
     for (number, line) in lines {
-        if !has_line(text, *number, line) {
+        let from = number.saturating_mul(81);
+        let to = from.saturating_add(80);
+        if text.get(from..to) != Some(line.as_bytes()) || text.get(to) != Some(&b'\n') {
             return false;
         }
     }

@@ -4,7 +4,6 @@ use super::reading::{Content, SMALL, have_faults, is_counted, is_read_back};
 use super::{ALL, Takes, VALUES, has_written, is_outcome, length, writer};
 use rinex_file::{ReadFault, write_event};
 use rtcm_bits::devices::WriteEnd;
-use std::alloc::Global;
 use std::io::ErrorKind;
 
 static FILE: [Part; 4] = [Part::Header, Part::Epoch, Part::Event, Part::Second];
@@ -16,15 +15,11 @@ static CONTENT: Content = Content {
     ..SMALL
 };
 
-fn is_file(alloc: Global, parts: &[Part], content: &Content) -> bool {
-    length(parts) == 1536
-        && is_read_back(alloc, parts, content)
-        && is_counted(alloc, parts, content)
-}
-
 #[test]
 fn a_file_with_an_event_is_read_and_written_back(rt: HostRuntime) {
-    assert!(rt; is_file(rt.alloc(), &FILE, &CONTENT));
+    let alloc = rt.alloc();
+    let is_read_back = is_read_back(alloc, &FILE, &CONTENT);
+    assert!(rt; length(&FILE) == 1536 && is_read_back && is_counted(alloc, &FILE, &CONTENT));
 }
 
 /// The parts of files, and the fault of each file.

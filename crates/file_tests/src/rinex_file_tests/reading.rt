@@ -7,7 +7,7 @@ use rinex_file::{Counts, HeaderField, ObsFile, ReadFault, check_file, file_bytes
 use rtcm_bits::Counted;
 use rtcm_bits::devices::{PieceReader, ReadEnd};
 use std::alloc::Global;
-use std::io::{ErrorKind, Read};
+use std::io::ErrorKind;
 
 /// The content of a file that is read.
 pub struct Content {
@@ -21,28 +21,18 @@ pub struct Content {
     pub is_roof: bool,
 }
 
-// Each call with large clauses has a function without one, so that no test carries the clauses.
-
-fn file_of<R: Read>(alloc: Global, reader: &mut Counted<R>) -> Result<ObsFile, ReadFault> {
-    read_file(alloc, reader)
-}
-
-fn counts_of<R: Read>(alloc: Global, reader: &mut Counted<R>) -> Result<Counts, ReadFault> {
-    check_file(alloc, reader)
-}
-
 static THREE: [usize; 1] = [3];
 
 /// Reads a file from bytes, three at a time.
 fn read(alloc: Global, text: &[u8]) -> Result<ObsFile, ReadFault> {
     let mut reader = Counted::new(PieceReader::new(text, &THREE, ReadEnd::Ends));
-    file_of(alloc, &mut reader)
+    read_file(alloc, &mut reader)
 }
 
 /// Checks a file of bytes, three at a time.
 fn check(alloc: Global, text: &[u8]) -> Result<Counts, ReadFault> {
     let mut reader = Counted::new(PieceReader::new(text, &THREE, ReadEnd::Ends));
-    counts_of(alloc, &mut reader)
+    check_file(alloc, &mut reader)
 }
 
 /// The fault of a file of bytes.
@@ -298,18 +288,12 @@ static SPELLED_OTHERWISE: [(usize, usize, &str, ReadFault); 11] = [
     (1_170, 1_236, "G05", ReadFault::BadSatellite(16)),
 ];
 
-fn are_refused(alloc: Global) -> bool {
-    for (from, to, line, fault) in &SPELLED_OTHERWISE {
-        if fault_with(alloc, *from, *to, line) != Some(*fault) {
-            return false;
-        }
-    }
-    true
-}
-
 #[test]
 fn a_line_spelled_otherwise_is_refused(rt: HostRuntime) {
-    assert!(rt; are_refused(rt.alloc()));
+    let alloc = rt.alloc();
+    for (from, to, line, fault) in &SPELLED_OTHERWISE {
+        assert!(rt; fault_with(alloc, *from, *to, line) == Some(*fault));
+    }
 }
 
 static IN_THE_WRONG_PLACE: [(&[Part], Option<ReadFault>); 2] = [
@@ -364,11 +348,11 @@ fn failing(text: &[u8]) -> Counted<PieceReader<'_>> {
 /// Whether reading and checking fail if the reader does, which is counted once.
 fn are_failing(alloc: Global, text: &[u8]) -> bool {
     let mut reader = failing(text);
-    let fault = file_of(alloc, &mut reader).err();
+    let fault = read_file(alloc, &mut reader).err();
     let failures = reader.failures();
     drop(reader);
     let mut checked = failing(text);
-    let check_fault = counts_of(alloc, &mut checked).err();
+    let check_fault = check_file(alloc, &mut checked).err();
     drop(checked);
     fault == Some(ReadFault::Read) && failures == 1 && check_fault == Some(ReadFault::Read)
 }

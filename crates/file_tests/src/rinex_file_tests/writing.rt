@@ -162,12 +162,6 @@ static ROWS: [Row; 8] = [
     },
 ];
 
-// Each call with large clauses has a function without one, so that no test carries the clauses.
-
-fn send_epoch(gatherer: &Gatherer, epoch: &Epoch, writer: &mut Writer) -> Result<(), HeadFault> {
-    write_epoch(epoch, gatherer.plan(), writer)
-}
-
 fn send_header(gatherer: &Gatherer, first: GpsTime, writer: &mut Writer) -> Result<(), HeadFault> {
     match HeaderTexts::new(&OWN_TEXTS) {
         Ok(texts) => {
@@ -190,12 +184,6 @@ fn send_line(line: &Line, writer: &mut Writer) -> Result<(), HeadFault> {
     Ok(())
 }
 
-fn put_satellite(gatherer: &Gatherer, epoch: &Epoch, line: &mut Line) {
-    if let Some(satellite) = Sat::new(System::Gps, 5) {
-        satellite_line(epoch, gatherer.plan(), satellite, line);
-    }
-}
-
 fn send_pair(
     gatherer: &Gatherer,
     epoch: &Epoch,
@@ -204,7 +192,9 @@ fn send_pair(
 ) -> Result<(), HeadFault> {
     epoch_line(epoch.time(), 1, line);
     send_line(line, writer)?;
-    put_satellite(gatherer, epoch, line);
+    if let Some(satellite) = Sat::new(System::Gps, 5) {
+        satellite_line(epoch, gatherer.plan(), satellite, line);
+    }
     send_line(line, writer)
 }
 
@@ -224,29 +214,24 @@ fn send(
 ) -> Result<(), HeadFault> {
     match part {
         Sent::Header => send_header(gatherer, epoch.time(), writer),
-        Sent::Epoch => send_epoch(gatherer, epoch, writer),
+        Sent::Epoch => write_epoch(epoch, gatherer.plan(), writer),
         Sent::Both => {
             send_header(gatherer, epoch.time(), writer)?;
-            send_epoch(gatherer, epoch, writer)
+            write_epoch(epoch, gatherer.plan(), writer)
         }
         Sent::Lines => send_lines(gatherer, epoch, writer),
     }
 }
 
-/// Whether writing the part of a row has its outcome.
-fn is_sent(gatherer: &Gatherer, epoch: &Epoch, row: &Row) -> bool {
+/// Whether writing the part of a row, of the closed epoch, has its outcome.
+fn is_sent(gatherer: &Gatherer, row: &Row) -> bool {
+    let Some(epoch) = gatherer.closed() else {
+        return false;
+    };
     let mut writer = writer(&row.takes);
     let is_outcome = is_outcome(send(gatherer, epoch, row.part, &mut writer), row.is_good);
     let is_written = has_written(writer, row.lines, &row.takes);
     is_outcome && is_written
-}
-
-/// The same of the closed epoch.
-fn is_sent_of(gatherer: &Gatherer, row: &Row) -> bool {
-    match gatherer.closed() {
-        Some(epoch) => is_sent(gatherer, epoch, row),
-        None => false,
-    }
 }
 
 fn is_sent_under(alloc: Global, plan: Plan, message: &Message, row: &Row) -> bool {
@@ -255,7 +240,7 @@ fn is_sent_under(alloc: Global, plan: Plan, message: &Message, row: &Row) -> boo
             if !gatherer.ended() {
                 gatherer.take(message);
             }
-            let is_sent = is_sent_of(&gatherer, row);
+            let is_sent = is_sent(&gatherer, row);
             drop(gatherer);
             is_sent
         }

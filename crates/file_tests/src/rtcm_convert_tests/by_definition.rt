@@ -136,20 +136,17 @@ impl DefinedConversion {
     /// The result of the end of the stream.
     pub fn result(&self, size: usize) -> Result<Report, Fault> {
         if self.has_epoch() {
-            Ok(self.report(size as u64))
+            let bytes = size as u64;
+            Ok(Report {
+                bytes,
+                skipped_bytes: bytes.saturating_sub(self.framed),
+                frames: self.frames,
+                station: u64::from(self.has[0]) + u64::from(self.has[1]),
+                late: u64::from(self.has[2] && self.has[3]),
+                ..ONE
+            })
         } else {
             Err(Fault::NoEpoch)
-        }
-    }
-
-    fn report(&self, bytes: u64) -> Report {
-        Report {
-            bytes,
-            skipped_bytes: bytes.saturating_sub(self.framed),
-            frames: self.frames,
-            station: u64::from(self.has[0]) + u64::from(self.has[1]),
-            late: u64::from(self.has[2] && self.has[3]),
-            ..ONE
         }
     }
 

@@ -2,12 +2,10 @@
 //! before the end of a stream and after it, agree with the definitions.
 use super::ONE;
 use super::by_definition::{DefinedConversion, SIZE, defined_conversion, four_frames, piece};
-use super::script::{OPTIONS, converter, feed, finish, looks, writer};
-use rtcm_bits::Counted;
+use super::script::{OPTIONS, converter, feed, looks, writer};
 use rtcm_bits::devices::WriteEnd;
 use rtcm_convert::{Converter, Fault, Report};
 use std::alloc::Global;
-use std::io::Write;
 
 /// A stream, the size of the pieces in which it is fed, and whether it is ended.
 #[derive(Clone, Copy)]
@@ -17,28 +15,17 @@ struct Fed<'a> {
     ends: bool,
 }
 
-/// Feeds the bytes in their pieces, and ends the stream or not. Returns whether the results are
-/// those of the definitions.
-fn takes<W: Write>(
-    converter: &mut Converter,
-    fed: &Fed,
-    defined: &DefinedConversion,
-    writer: &mut Counted<W>,
-) -> bool {
-    if feed(converter, fed.bytes, fed.size, writer).is_err() {
-        return false;
-    }
-    !fed.ends || finish(converter, writer) == defined.result(fed.bytes.len())
-}
-
-/// Whether the file, the results and the counts are those of the definitions.
+/// Feeds the bytes in their pieces, and ends the stream or not. Returns whether the file, the
+/// results and the counts are those of the definitions.
 fn comes(converter: &mut Converter, fed: &Fed, defined: &DefinedConversion) -> bool {
     let mut writer = writer(4096, 4096, WriteEnd::TakesNone);
-    let takes = takes(converter, fed, defined, &mut writer);
+    let size = fed.bytes.len();
+    let takes = feed(converter, fed.bytes, fed.size, &mut writer).is_ok()
+        && (!fed.ends || converter.finish(&mut writer) == defined.result(size));
     let text = writer.into_inner().into_inner();
     let is_file = defined.is_file(text.as_slice());
     drop(text);
-    takes && is_file && looks(converter) == defined.counts(fed.bytes.len())
+    takes && is_file && looks(converter) == defined.counts(size)
 }
 
 fn is_converted(alloc: Global, fed: &Fed, defined: &DefinedConversion) -> bool {

@@ -137,20 +137,16 @@ fn holds(alloc: Global, script: &Script, size: usize) -> bool {
 /// These bytes, one after the other, followed by zeros.
 fn stream_of(frames: &[Frame]) -> [u8; 1_000] {
     let mut stream = [0; 1_000];
-    let mut from = 0;
+    let mut from = 0usize;
     for frame in frames {
-        from = copy(&mut stream, from, bytes_of(*frame));
+        let bytes = bytes_of(*frame);
+        let to = from.saturating_add(bytes.len());
+        if let Some(room) = stream.get_mut(from..to) {
+            room.copy_from_slice(bytes);
+        }
+        from = to;
     }
     stream
-}
-
-/// Copies bytes to an offset of the stream, and returns the offset after them.
-fn copy(stream: &mut [u8; 1_000], from: usize, frame: &[u8]) -> usize {
-    let to = from.saturating_add(frame.len());
-    if let Some(room) = stream.get_mut(from..to) {
-        room.copy_from_slice(frame);
-    }
-    to
 }
 
 /// Whether a reader has the failures and the sizes of buffers of a script.
@@ -238,10 +234,14 @@ fn takes<R: Read, W: Write>(
             let bytes = stream.get(*from..*to).unwrap_or(&[]);
             feed(converter, bytes, size, writer) == *want
         }
-        Call::Run(want) => run(converter, reader, writer) == *want,
-        Call::Finish(want) => finish(converter, writer) == *want,
+        Call::Run(want) => converter.run(reader, writer) == *want,
+        Call::Finish(want) => converter.finish(writer) == *want,
         Call::Looks(held, examined, most) => looks(converter) == (*held, *examined, *most),
-        Call::Kept(gps, galileo, locks) => kept(converter) == (*gps, *galileo, *locks),
+        Call::Kept(gps, galileo, locks) => {
+            converter.cells(System::Gps) == *gps
+                && converter.cells(System::Galileo) == *galileo
+                && converter.locks() == *locks
+        }
     }
 }
 
@@ -253,51 +253,17 @@ pub fn feed<W: Write>(
     writer: &mut Counted<W>,
 ) -> Result<(), Fault> {
     if bytes.is_empty() {
-        return feed_piece(converter, bytes, writer);
+        return converter.feed(bytes, writer);
     }
     for piece in bytes.chunks(size.max(1)) {
-        feed_piece(converter, piece, writer)?;
+        converter.feed(piece, writer)?;
     }
     Ok(())
-}
-
-// Each call with large clauses has a function without one, so that no test carries the clauses.
-
-fn feed_piece<W: Write>(
-    converter: &mut Converter,
-    piece: &[u8],
-    writer: &mut Counted<W>,
-) -> Result<(), Fault> {
-    converter.feed(piece, writer)
-}
-
-fn run<R: Read, W: Write>(
-    converter: &mut Converter,
-    reader: &mut Counted<R>,
-    writer: &mut Counted<W>,
-) -> Result<Report, Fault> {
-    converter.run(reader, writer)
-}
-
-/// Ends the stream.
-pub fn finish<W: Write>(
-    converter: &mut Converter,
-    writer: &mut Counted<W>,
-) -> Result<Report, Fault> {
-    converter.finish(writer)
 }
 
 /// The bytes held, and the looks in all and at one byte.
 pub fn looks(converter: &Converter) -> (usize, u64, u16) {
     (converter.held(), converter.examined(), converter.most())
-}
-
-fn kept(converter: &Converter) -> (usize, usize, usize) {
-    (
-        converter.cells(System::Gps),
-        converter.cells(System::Galileo),
-        converter.locks(),
-    )
 }
 
 /// A converter of this setup.
@@ -347,27 +313,18 @@ fn cut(
     pieces: &mut Vec<Vec<u8>>,
 ) -> Result<(), AllocError> {
     for piece in bytes.chunks(size.max(1)) {
-        add_piece(alloc, piece, pieces)?;
+        pieces.push(piece.to_vec(alloc)?)?;
     }
-    Ok(())
-}
-
-fn add_piece(alloc: Global, piece: &[u8], pieces: &mut Vec<Vec<u8>>) -> Result<(), AllocError> {
-    pieces.push(piece.to_vec(alloc)?)?;
     Ok(())
 }
 
 /// Signal 1C of GPS. If there is no memory for the plan, the fault is `Memory`.
 fn setup(alloc: Global, options: &Options) -> Result<Setup, Fault> {
+    let Ok(texts) = HeaderTexts::new(&TEXTS) else {
+        return Err(Fault::Memory);
+    };
     match Plan::parse(alloc, "1C", "none") {
-        Ok(plan) => setup_of(plan, options),
-        Err(_) => Err(Fault::Memory),
-    }
-}
-
-fn setup_of(plan: Plan, options: &Options) -> Result<Setup, Fault> {
-    match HeaderTexts::new(&TEXTS) {
-        Ok(texts) => Ok(Setup {
+        Ok(plan) => Ok(Setup {
             plan,
             texts,
             start_week: options.week,
@@ -375,9 +332,6 @@ fn setup_of(plan: Plan, options: &Options) -> Result<Setup, Fault> {
             gather: Gather::Bit,
             limit: options.limit,
         }),
-        Err(_) => {
-            drop(plan);
-            Err(Fault::Memory)
-        }
+        Err(_) => Err(Fault::Memory),
     }
 }
