@@ -74,8 +74,20 @@ fn long(is_galileo: bool, header: MsmHeader, satellites: u64, signals: u32, lock
     if count > 36 || cells > 64 || cells == 0 {
         return nothing();
     }
-    match Masks::new(satellites, signals, u64::MAX >> (64 - cells)) {
-        Ok(masks) => filled(is_galileo, header, masks, count, cells, lock),
+    let Ok(masks) = Masks::new(satellites, signals, u64::MAX >> (64 - cells)) else {
+        return nothing();
+    };
+    let satellites = SATELLITES.get(..count).unwrap_or(&[]);
+    let data = [Cell7 {
+        range: 0,
+        phase: 0,
+        lock,
+        half_cycle: false,
+        strength: 721,
+        rate: 0,
+    }; 64];
+    match Msm::new(is_galileo, header, masks, satellites, &data[..cells]) {
+        Ok(msm) => Message::Msm7(msm),
         Err(_) => nothing(),
     }
 }
@@ -86,36 +98,6 @@ static SATELLITES: [Satellite7; 36] = [Satellite7 {
     fraction: 0,
     rate: 100,
 }; 36];
-
-/// A message of the long form with this number of equal satellites and cells.
-fn filled(
-    is_galileo: bool,
-    header: MsmHeader,
-    masks: Masks,
-    count: usize,
-    cells: usize,
-    lock: u16,
-) -> Message {
-    let satellites = SATELLITES.get(..count).unwrap_or(&[]);
-    let data = [Cell7 {
-        range: 0,
-        phase: 0,
-        lock,
-        half_cycle: false,
-        strength: 721,
-        rate: 0,
-    }; 64];
-    match Msm::new(
-        is_galileo,
-        header,
-        masks,
-        satellites,
-        &data[..cells.min(64)],
-    ) {
-        Ok(msm) => Message::Msm7(msm),
-        Err(_) => nothing(),
-    }
-}
 
 /// A message of the short form: GPS 5 with the signal 1C.
 fn short(header: MsmHeader, has_phase: bool, lock: u8) -> Message {

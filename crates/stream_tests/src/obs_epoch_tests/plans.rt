@@ -50,18 +50,12 @@ static TEXTS: [(&str, &str, Planned); 10] = [
     ("1C,", "none", Err(PlanFault::UnknownCode(System::Gps, 1))),
 ];
 
-fn are_read(alloc: Global) -> bool {
-    for (gps, galileo, want) in &TEXTS {
-        if planned(Plan::parse(alloc, gps, galileo)) != *want {
-            return false;
-        }
-    }
-    true
-}
-
 #[test]
 fn texts_are_read(rt: HostRuntime) {
-    assert!(rt; are_read(rt.alloc()));
+    let alloc = rt.alloc();
+    for (gps, galileo, want) in &TEXTS {
+        assert!(rt; planned(Plan::parse(alloc, gps, galileo)) == *want);
+    }
 }
 
 /// The codes of two GPS signals, the number of them passed as those of GPS, and as those of
@@ -85,13 +79,6 @@ static SIGNALS: [(&str, &str, usize, usize, Planned); 4] = [
     ),
 ];
 
-fn is_made(alloc: Global, signals: &[Signal], gps: usize, galileo: usize, want: &Planned) -> bool {
-    match (signals.get(..gps), signals.get(..galileo)) {
-        (Some(gps), Some(galileo)) => planned(Plan::from_signals(alloc, gps, galileo)) == *want,
-        _ => false,
-    }
-}
-
 fn signals_of(first: &str, second: &str) -> Option<[Signal; 2]> {
     let first = Signal::from_code(System::Gps, first)?;
     let second = Signal::from_code(System::Gps, second)?;
@@ -103,7 +90,9 @@ fn are_made(alloc: Global) -> bool {
         let Some(signals) = signals_of(first, second) else {
             return false;
         };
-        if !is_made(alloc, &signals, *gps, *galileo, want) {
+        let gps = &signals[..(*gps).min(2)];
+        let galileo = &signals[..(*galileo).min(2)];
+        if planned(Plan::from_signals(alloc, gps, galileo)) != *want {
             return false;
         }
     }

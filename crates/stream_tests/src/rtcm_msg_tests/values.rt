@@ -102,17 +102,14 @@ fn has_fault(time: u32, cells: &[Cell7], fault: ValueFault) -> bool {
     msm_fault::<Grid7>(time, &[SATELLITE], cells) == Some(fault)
 }
 
-fn has_coarse_fault(fault: ValueFault) -> bool {
-    msm_fault::<Grid4>(1000, &[COARSE_SATELLITE], &[COARSE_CELL]) == Some(fault)
-}
-
 #[test]
 fn parts_are_judged(rt: HostRuntime) {
+    let coarse = msm_fault::<Grid4>(1000, &[COARSE_SATELLITE], &[COARSE_CELL]);
     assert!(rt;
         has_fault(604_800_000, &[], ValueFault::BadTime)
             && has_fault(1000, &[], ValueFault::CellCount)
             && has_fault(1000, &[WIDE], ValueFault::OutOfRange(Field::FinePhase))
-            && has_coarse_fault(ValueFault::OutOfRange(Field::RangeFraction))
+            && coarse == Some(ValueFault::OutOfRange(Field::RangeFraction))
     );
 }
 

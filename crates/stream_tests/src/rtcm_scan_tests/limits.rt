@@ -24,15 +24,10 @@ fn is_refused_after_end(framer: &mut Framer) -> bool {
     is_refused(framer, ScanFault::Ended)
 }
 
-/// Whether a preamble is accepted and is no frame.
-fn takes_preamble(framer: &mut Framer) -> bool {
-    push(framer, 0xD3) == Some(Ok(())) && framer.next().is_none()
-}
-
-/// Whether a framer with this limit accepts as many preambles, and no more.
+/// Whether a framer with this limit accepts as many preambles, which are no frame, and no more.
 fn stops_at(framer: &mut Framer, limit: usize) -> bool {
     for _ in 0..limit {
-        if !takes_preamble(framer) {
+        if push(framer, 0xD3) != Some(Ok(())) || framer.next().is_some() {
             return false;
         }
     }
