@@ -54,12 +54,10 @@ pub struct DefinedConversion {
 
 /// The number of bytes claimed: those of the frame that the first three bytes begin, or one.
 fn claimed(rest: &[u8]) -> usize {
-    if rest.first() != Some(&0xD3) {
-        return 1;
-    }
-    match (rest.get(1), rest.get(2)) {
-        (Some(high), Some(low)) => usize::from(*high % 4) * 256 + usize::from(*low) + 6,
-        _ => SIZE,
+    match rest {
+        [0xD3, high, low, ..] => usize::from(*high % 4) * 256 + usize::from(*low) + 6,
+        [0xD3, ..] => SIZE,
+        _ => 1,
     }
 }
 

@@ -196,28 +196,15 @@ fn follows(
 ) -> bool {
     match converter(alloc, &script.options) {
         Ok(mut converter) => {
-            let takes = takes_all(&mut converter, calls, stream, size, reader, writer);
+            let mut are_right = true;
+            for call in calls {
+                are_right = are_right && takes(&mut converter, call, stream, size, reader, writer);
+            }
             drop(converter);
-            takes
+            are_right
         }
         Err(fault) => script.fault == Some(fault),
     }
-}
-
-fn takes_all<R: Read, W: Write>(
-    converter: &mut Converter,
-    calls: &[Call],
-    stream: &[u8],
-    size: usize,
-    reader: &mut Counted<R>,
-    writer: &mut Counted<W>,
-) -> bool {
-    for call in calls {
-        if !takes(converter, call, stream, size, reader, writer) {
-            return false;
-        }
-    }
-    true
 }
 
 /// Whether a call has its result.
@@ -288,22 +275,16 @@ fn pieces<W: Write>(
     writer: &mut Counted<W>,
 ) -> Result<Report, Fault> {
     let mut pieces = Vec::new(alloc);
-    let made = if cut(alloc, bytes, size, &mut pieces).is_ok() {
-        join(alloc, options, pieces.as_slice(), writer)
-    } else {
+    let made = if cut(alloc, bytes, size, &mut pieces).is_err() {
         Err(Fault::Memory)
+    } else {
+        match setup(alloc, options) {
+            Ok(setup) => convert_pieces(alloc, setup, pieces.as_slice(), writer),
+            Err(fault) => Err(fault),
+        }
     };
     drop(pieces);
     made
-}
-
-fn join<W: Write>(
-    alloc: Global,
-    options: &Options,
-    pieces: &[Vec<u8>],
-    writer: &mut Counted<W>,
-) -> Result<Report, Fault> {
-    convert_pieces(alloc, setup(alloc, options)?, pieces, writer)
 }
 
 fn cut(
