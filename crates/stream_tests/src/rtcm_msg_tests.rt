@@ -77,8 +77,8 @@ impl Sent {
     }
 }
 
-/// Whether the message decoded from bytes is encoded as these bytes; false if it is of a number that
-/// is not read.
+/// Whether the message decoded from bytes is encoded as these bytes; false if it is of a number
+/// that is not read.
 fn is_written_as(bytes: &[u8], want: &[u8]) -> bool {
     let Ok(message) = decode(bytes) else {
         return false;
