@@ -2,7 +2,7 @@
 ghost use Rattle.std.specs.Prelude.{◌≡◌, IfOk, IfErr, map};
 ghost use Rattle.clap.specs.Walk.{rule_of, texts};
 ghost use Rattle.clap.specs.Simple.{App, app_of, new_app};
-ghost use Rattle.rtcm2rinex.specs.CommandLine.{IsFoundIn, IsProgram, RefusesWords, command_set, option_set};
+ghost use Rattle.rtcm2rinex.specs.CommandLine.{IsFoundIn, RefusesWords, command_set, option_set};
 ghost use Rattle.rtcm2rinex.specs.CommandLine as line;
 
 use crate::commands::{CommandRow, OptionRow, Tables, program_tables};
@@ -21,19 +21,12 @@ pub fn parse<'a>(alloc: Global, words: &'a [&'a str]) -> Result<ArgMatches<'a>, 
     ensures asked { IfOk result (IsFoundIn (texts words.now)) }
     ensures refused { IfErr result (RefusesWords (texts words.now)) }
 {
-    let program = program(alloc, &program_tables())?;
-    program.try_get_matches_from(words)
-}
-
-/// Returns the program with its commands.
-fn program<'a>(alloc: Global, tables: &Tables<'a>) -> Result<Command<'a>, AllocError>
-    requires { line.AreTables tables.now }
-    ensures { IfOk result (λ c. IsProgram (app_of c)) }
-{
-    let program = described(alloc, &tables.program)
+    let tables = program_tables();
+    let start = described(alloc, &tables.program)
         .version(tables.version)
         .subcommand_required(true);
-    with_commands(alloc, Ok(program), tables)
+    let program = with_commands(alloc, Ok(start), &tables)?;
+    program.try_get_matches_from(words)
 }
 
 // The functions that follow accept and return the result of an allocation, so that the loops have
@@ -127,22 +120,15 @@ fn described<'a>(alloc: Global, row: &CommandRow<'a>) -> Command<'a>
         .after_help(row.examples)
 }
 
-/// Returns an option with its default and the parser of its value.
+/// Returns an option with its help, its default and the parser of its value.
 fn option<'a>(alloc: Global, row: &OptionRow<'a>) -> Arg<'a>
     ensures { rule_of result ≡ option_set row.now }
-{
-    named(alloc, row)
-        .required(row.required)
-        .default_values(row.defaults)
-        .value_parser(row.parser)
-}
-
-/// Returns an option of this name with its help.
-fn named<'a>(alloc: Global, row: &OptionRow<'a>) -> Arg<'a>
-    ensures { rule_of result ≡ line.named row.now.name.now }
 {
     Arg::new(alloc, row.name)
         .long(row.name)
         .help(row.help)
         .value_name(row.value)
+        .required(row.required)
+        .default_values(row.defaults)
+        .value_parser(row.parser)
 }

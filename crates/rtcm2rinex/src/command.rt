@@ -24,7 +24,6 @@ use crate::signals::{run_options, run_signals};
 use clap::ArgMatches;
 use clap::error::ErrorKind;
 use rtcm_bits::Counted;
-use rtcm_convert::Report;
 use std::alloc::Global;
 use std::io;
 use std::io::{Read, Write};
@@ -134,13 +133,13 @@ fn convert<R: Read, W: Write, E: Write>(
 {
     let initial = values_of(options)?;
     let setup = setup_of(alloc, options)?;
-    let report = run_convert_at(alloc, setup, initial, reader, writer)?;
-    print_report(&report, faults);
-    Ok(())
-}
-
-fn print_report<E: Write>(report: &Report, faults: &mut E) {
-    let _ = faults.write_all(report_line(report).as_bytes());
+    match run_convert_at(alloc, setup, initial, reader, writer) {
+        Ok(report) => {
+            let _ = faults.write_all(report_line(&report).as_bytes());
+            Ok(())
+        }
+        Err(fault) => Err(fault),
+    }
 }
 
 /// Prints the version if the words ask for it, else clap's error. Returns the exit status.

@@ -40,31 +40,25 @@ pub enum ToolFault {
 /// The fault's name, followed by the values that the fault carries.
 impl Display for ToolFault {
     fn fmt<W: fmt::Write>(&self, f: &mut fmt::Formatter<W>) -> fmt::Result {
-        match self {
-            ToolFault::Scan(fault) => Display::fmt(fault, f),
-            ToolFault::Header(fault) => Display::fmt(fault, f),
-            ToolFault::Plan(fault) => Display::fmt(fault, f),
-            ToolFault::Convert(fault) => Display::fmt(fault, f),
-            ToolFault::Check(fault) => Display::fmt(fault, f),
-            other => f.write_str(text_of(*other)),
-        }
-    }
-}
-
-/// Returns the text of a fault that has no fault of a lower layer.
-fn text_of(fault: ToolFault) -> &'static str {
-    match fault {
-        ToolFault::Memory => "Memory",
-        ToolFault::Read => "Read",
-        ToolFault::Write => "Write",
-        ToolFault::BadPosition => {
-            "BadPosition --position X,Y,Z: metres, up to 8 digits and 4 decimals each, \
-             -13743895.3472 to 13743895.3471"
-        }
-        ToolFault::BadHeight => {
-            "BadHeight --antenna-height HEIGHT: metres, up to 4 decimals, 0 to 6.5535"
-        }
-        _ => "NoSignal",
+        let text = match self {
+            ToolFault::Scan(fault) => return Display::fmt(fault, f),
+            ToolFault::Header(fault) => return Display::fmt(fault, f),
+            ToolFault::Plan(fault) => return Display::fmt(fault, f),
+            ToolFault::Convert(fault) => return Display::fmt(fault, f),
+            ToolFault::Check(fault) => return Display::fmt(fault, f),
+            ToolFault::Memory => "Memory",
+            ToolFault::Read => "Read",
+            ToolFault::Write => "Write",
+            ToolFault::BadPosition => {
+                "BadPosition --position X,Y,Z: metres, up to 8 digits and 4 decimals each, \
+                 -13743895.3472 to 13743895.3471"
+            }
+            ToolFault::BadHeight => {
+                "BadHeight --antenna-height HEIGHT: metres, up to 4 decimals, 0 to 6.5535"
+            }
+            ToolFault::NoSignal => "NoSignal",
+        };
+        f.write_str(text)
     }
 }
 

@@ -125,7 +125,10 @@ pub fn list<R: Read, W: Write>(
     laws::prefix();
     let read = framer.read_frames(reader, &mut buffer, &mut listing, writer);
     drop(framer);
-    Ok(read?)
+    match read {
+        Ok(()) => Ok(()),
+        Err(fault) => Err(ToolFault::from(fault)),
+    }
 }
 
 /// Adds the line of a frame: its offset and the length of its message in bytes, and the message

@@ -144,8 +144,10 @@ fn length_below(text: &str, bound: u64) -> Option<u64>
     ensures value { result ≡ length_below bound text.now }
     ensures below { IfSome result (λ n. n < bound) }
 {
-    let length = length_of(text)?;
-    if length < bound { Some(length) } else { None }
+    match length_of(text) {
+        Some(length) if length < bound => Some(length),
+        _ => None,
+    }
 }
 
 /// Parses a length of at most eight digits, a point and four decimals, in units of 0.0001 m.

@@ -174,11 +174,10 @@ fn read_signals<R: Read>(
     // At most the limit's number of bytes was read, so no count reaches its largest number.
     let _ = framer.taken();
     drop(framer);
-    read?;
-    if signals.signal_counts.has_any() {
-        Ok(signals)
-    } else {
-        Err(ToolFault::NoSignal)
+    match read {
+        Ok(()) if signals.signal_counts.has_any() => Ok(signals),
+        Ok(()) => Err(ToolFault::NoSignal),
+        Err(fault) => Err(ToolFault::from(fault)),
     }
 }
 

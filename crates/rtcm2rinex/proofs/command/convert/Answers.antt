@@ -1,4 +1,4 @@
-use Rattle.std.proofs.Common.{◌≡◌, ◌∙◌, sym, Result, Ok, Err}
+use Rattle.std.proofs.Common.{◌≡◌, ◌∙◌, sym, inr, Result, Ok, Err}
 use Rattle.rtcm_convert.specs.SetupValues.{start_at}
 use Rattle.rtcm_convert.specs.declared.fault.Fault.TheVariants.{BadSetup}
 use Rattle.rtcm_convert.specs.declared.report.Report.{Report}
@@ -16,14 +16,19 @@ returns-in_err-initial g c =
     (λ r. EndsConverting r (options_of c.args.options.now) g.R.Read.remaining c.args.reader.now c.args.reader.now g.W.Write.contents c.args.writer.now c.args.writer.now) c.from_residual.ensures.1
     (values_refused g.R.Read.remaining g.W.Write.contents (options_of c.args.options.now) c.args.reader.now c.args.writer.now c.in_err-initial.field-0.0 (sym c.values_of.ensures ∙ c.in_err-initial.was))
 
-pub returns : goal.returns
-returns g c =
-    let end = c.in_ok-report.ensures in (
+pub returns-in-Ok : goal.returns-in-Ok
+returns-in-Ok g c =
+    let end = c.in-Ok.ensures in (
       end.ends.0,
       (
         start_at c.in_ok-setup.setup c.in_ok-initial.initial,
         (c.in_ok-setup.ensures, sym c.values_of.ensures ∙ c.in_ok-initial.was),
-        (λ bad. let no : ◌≡◌ {A = Result Report ToolFault} (Ok c.in_ok-report.report) (Err (faults.Convert BadSetup)) = end.bad_setup.1 bad in cc),
+        (λ bad. let no : ◌≡◌ {A = Result Report ToolFault} (Ok c.in-Ok.report) (Err (faults.Convert BadSetup)) = end.bad_setup.1 bad in cc),
         file_made _ _ (g.R.Read.remaining c.args.reader.now.inner) end.ends.1,
       ),
     )
+
+pub returns-in-Err : goal.returns-in-Err
+returns-in-Err g c =
+    let end = c.in-Err.ensures.ends in
+    (end.0, inr (start_at c.in_ok-setup.setup c.in_ok-initial.initial, (c.in_ok-setup.ensures, sym c.values_of.ensures ∙ c.in_ok-initial.was), end.1))

@@ -1,35 +1,34 @@
-use Rattle.std.proofs.Common.{ap, refl}
+use Rattle.std.proofs.Common.{Err, ap, refl, subst, sym}
+use Rattle.std.specs.Prelude.{⊤}
 use Rattle.rtcm_scan.specs.Scan.{FramerValue}
-use Rattle.rtcm2rinex.specs.Devices.{stream_fault}
+use Rattle.rtcm2rinex.specs.declared.fault.ToolFault.{ToolFault}
 use Rattle.rtcm2rinex.specs.Listing.{EndsListing, Lists, listing_lines}
 use Rattle.rtcm2rinex.proofs.StreamLemmas.{started}
 use Rattle.rtcm2rinex.proofs.ListingLemmas.{listed_all, listing_stopped, new_listing}
-use Rattle.rtcm2rinex.proofs.PrintingLemmas.{passed}
 use Rattle.rtcm2rinex.proofs.listing.list.Goals as goal
 
-pub returns : goal.returns
-returns g c =
+pub returns-in-Ok-read : goal.returns-in-Ok-read
+returns-in-Ok-read g c =
     let contents = g.W.Write.contents in
     let v = c.in-Ok.framer in
     let going = ap (λ (f : FramerValue). f.has_ended) c.in-Ok.ensures.new in
     let new = started (Lists contents) v c.args.listing c.args.writer.now going c.prefix.ensures.empty c.in-Ok.ensures.counts c.in-Ok.ensures.drained c.in-Ok.ensures.counted
     (new_listing contents c.args.listing c.args.writer.now) in
-    let end = c.in_ok-read.ensures in
+    let end = c.in-Ok-read.ensures in
     let all = listed_all contents v c.read_frames-read.new.self c.args.listing c.read_frames-read.new.sink c.args.writer.now c.read_frames-read.new.out _ _ new end.ended end.whole in
     ((end.reader.1, all.1, end.sent), all.0)
 
-pub returns-in_err-read : goal.returns-in_err-read
-returns-in_err-read g c =
+pub returns-in-Err : goal.returns-in-Err
+returns-in-Err g c =
     let contents = g.W.Write.contents in
     let remaining = g.R.Read.remaining in
     let v = c.in-Ok.framer in
-    let fault = c.in_err-read.field-0.0 in
+    let fault = c.in-Err.fault in
     let going = ap (λ (f : FramerValue). f.has_ended) c.in-Ok.ensures.new in
     let new = started (Lists contents) v c.args.listing c.args.writer.now going c.prefix.ensures.empty c.in-Ok.ensures.counts c.in-Ok.ensures.drained c.in-Ok.ensures.counted
     (new_listing contents c.args.listing c.args.writer.now) in
-    let end = c.in_err-read.ensures in
-    passed c.from_residual.result (stream_fault fault)
-    (λ r. EndsListing r c.args.limit (listing_lines c.args.listing) remaining c.args.reader.now c.read_frames-read.new.reader contents c.args.writer.now c.read_frames-read.new.out) c.from_residual.ensures.1
+    let end = c.in-Err.ensures in
+    subst (λ (f : ToolFault). EndsListing {A = ⊤} (Err f) c.args.limit (listing_lines c.args.listing) remaining c.args.reader.now c.read_frames-read.new.reader contents c.args.writer.now c.read_frames-read.new.out) (sym c.from.ensures)
     (listing_stopped remaining contents v c.read_frames-read.new.self c.args.listing c.read_frames-read.new.sink c.args.writer.now c.read_frames-read.new.out
     c.args.reader.now c.read_frames-read.new.reader _ c.args.limit fault refl (ap (λ (f : FramerValue). f.limit) c.in-Ok.ensures.new) (ap (λ (f : FramerValue). f.taken) c.in-Ok.ensures.new)
     going new end.fault end.going end.sent end.reader.0)
