@@ -4,7 +4,7 @@ use super::texts::{Text, front};
 use crate::command::command;
 use rtcm_bits::devices::{PieceReader, ReadEnd, ShortWriter, WriteEnd};
 use rtcm_bits::{Buffered, Counted};
-use std::alloc::{AllocError, Global};
+use std::alloc::Global;
 use std::io;
 use std::io::{ErrorKind, Read};
 use std::process::Abort;
@@ -42,25 +42,17 @@ pub fn assert_reported(rt: &impl Abort, alloc: Global, failures: &[Failure<'_>])
 }
 
 fn is_reported(alloc: Global, failure: &Failure<'_>) -> bool {
-    match is_reported_of(alloc, failure) {
-        Ok(is) => is,
-        Err(_) => false,
-    }
-}
-
-fn is_reported_of(alloc: Global, failure: &Failure<'_>) -> Result<bool, AllocError> {
-    let input = failure.1.bytes(alloc)?;
-    let output = failure.2.bytes(alloc)?;
-    let is = reports(
-        alloc,
-        failure.0,
-        input.as_slice(),
-        output.as_slice(),
-        &failure.3,
-    );
-    drop(output);
-    drop(input);
-    is
+    let mut input = Vec::new(alloc);
+    let mut output = Vec::new(alloc);
+    failure.1.add_to(&mut input).is_ok()
+        && failure.2.add_to(&mut output).is_ok()
+        && reports(
+            alloc,
+            failure.0,
+            input.as_slice(),
+            output.as_slice(),
+            &failure.3,
+        )
 }
 
 fn reports(
@@ -69,118 +61,74 @@ fn reports(
     input: &[u8],
     output: &[u8],
     failing: &Failing<'_>,
-) -> Result<bool, AllocError> {
+) -> bool {
     match failing {
-        Failing::Writer(most) => Ok(reports_writes(alloc, words, input, *most, output)),
-        Failing::Reader => Ok(reports_reads(alloc, words, input, output)),
-        Failing::Device => reports_device(alloc, words, input, output),
-        Failing::Sent => has_sent(alloc, words, input, output),
-        Failing::Stop(stop, status, faults) => {
-            Ok(stops(
-                alloc,
-                words,
-                input,
-                *stop,
-                (*status, output, faults.as_bytes()),
-            ))
+        Failing::Writer(most) => reports_writes(alloc, words, input, *most, output),
+        Failing::Reader => reports_reads(alloc, words, input, output),
+        Failing::Device => {
+            let reader = PieceReader::new(input, &[], ReadEnd::Ends);
+            let end = WriteEnd::FailsOnce(ErrorKind::Other);
+            let device = ShortWriter::new(Vec::new(alloc), 1, 2, end);
+            ends_buffered(alloc, words, reader, device, (1, output, WRITE.as_bytes()))
         }
-        Failing::Faults(end, status) => Ok(ends_unprinted(alloc, words, input, *end, *status)),
+        Failing::Sent => {
+            let reader = PieceReader::new(input, &[5], ReadEnd::Fails(ErrorKind::Other));
+            let most = usize::MAX;
+            let device = ShortWriter::new(Vec::new(alloc), most, most, WriteEnd::TakesNone);
+            ends_buffered(alloc, words, reader, device, (1, output, READ.as_bytes()))
+        }
+        Failing::Stop(stop, status, faults) => {
+            let wanted = (*status, output, faults.as_bytes());
+            stops(alloc, words, input, *stop, wanted)
+        }
+        Failing::Faults(end, status) => ends_unprinted(alloc, words, input, *end, *status),
     }
 }
 
 fn reports_writes(alloc: Global, words: &[&str], input: &[u8], most: usize, output: &[u8]) -> bool {
+    let end = WriteEnd::Fails(ErrorKind::Other);
+    let mut setting = Setting { words, ..FAULTLESS };
     for total in 0..output.len() {
-        let end = WriteEnd::Fails(ErrorKind::Other);
-        let room = Room { most, total, end };
-        if !is_write_given(alloc, words, input, room, front(output, total)) {
+        setting.room = Room { most, total, end };
+        if !run(alloc, &setting, input, &[]).is(1, front(output, total), WRITE.as_bytes()) {
             return false;
         }
     }
     true
-}
-
-/// Whether a writer with this room is reported as failed, and has these bytes.
-fn is_write_given(alloc: Global, words: &[&str], input: &[u8], room: Room, taken: &[u8]) -> bool {
-    let setting = Setting {
-        words,
-        room,
-        ..FAULTLESS
-    };
-    run(alloc, &setting, input, &[]).is(1, taken, WRITE.as_bytes())
 }
 
 fn reports_reads(alloc: Global, words: &[&str], input: &[u8], output: &[u8]) -> bool {
-    for given in 0..=input.len() {
-        let written = if given == input.len() { output } else { &[] };
-        if !is_read_given(alloc, words, front(input, given), written) {
-            return false;
-        }
-    }
-    true
-}
-
-/// Whether a reader that fails after these bytes is reported, and this was written.
-fn is_read_given(alloc: Global, words: &[&str], given: &[u8], written: &[u8]) -> bool {
     let setting = Setting {
         words,
         end: ReadEnd::Fails(ErrorKind::Other),
         ..FAULTLESS
     };
-    run(alloc, &setting, given, &[5]).is(1, written, READ.as_bytes())
-}
-
-fn reports_device(
-    alloc: Global,
-    words: &[&str],
-    input: &[u8],
-    output: &[u8],
-) -> Result<bool, AllocError> {
-    let mut reader = Counted::new(PieceReader::new(input, &[], ReadEnd::Ends));
-    let device = ShortWriter::new(Vec::new(alloc), 1, 2, WriteEnd::FailsOnce(ErrorKind::Other));
-    ends_buffered(
-        alloc,
-        words,
-        &mut reader,
-        device,
-        (1, output, WRITE.as_bytes()),
-    )
-}
-
-fn has_sent(
-    alloc: Global,
-    words: &[&str],
-    input: &[u8],
-    output: &[u8],
-) -> Result<bool, AllocError> {
-    let end = ReadEnd::Fails(ErrorKind::Other);
-    let mut reader = Counted::new(PieceReader::new(input, &[5], end));
-    let most = usize::MAX;
-    let device = ShortWriter::new(Vec::new(alloc), most, most, WriteEnd::TakesNone);
-    ends_buffered(
-        alloc,
-        words,
-        &mut reader,
-        device,
-        (1, output, READ.as_bytes()),
-    )
+    for given in 0..=input.len() {
+        let written = if given == input.len() { output } else { &[] };
+        if !run(alloc, &setting, front(input, given), &[5]).is(1, written, READ.as_bytes()) {
+            return false;
+        }
+    }
+    true
 }
 
 /// Whether a command that writes to the buffer of a device has this status, output and faults.
 fn ends_buffered(
     alloc: Global,
     words: &[&str],
-    reader: &mut Counted<PieceReader<'_>>,
+    reader: PieceReader<'_>,
     device: ShortWriter<Vec<u8>>,
     wanted: (u8, &[u8], &[u8]),
-) -> Result<bool, AllocError> {
-    let mut writer = Counted::new(Buffered::new(alloc, device)?);
+) -> bool {
+    let Ok(buffer) = Buffered::new(alloc, device) else {
+        return false;
+    };
+    let mut reader = Counted::new(reader);
+    let mut writer = Counted::new(buffer);
     let mut faults = Vec::new(alloc);
-    let status = command(alloc, words, reader, &mut writer, &mut faults);
+    let status = command(alloc, words, &mut reader, &mut writer, &mut faults);
     let taken = writer.into_inner().into_inner().into_inner();
-    let is = ends((status, taken.as_slice(), faults.as_slice()), wanted);
-    drop(taken);
-    drop(faults);
-    Ok(is)
+    ends((status, taken.as_slice(), faults.as_slice()), wanted)
 }
 
 /// A reader that has the same piece twice, and fails or ends once between them.

@@ -29,14 +29,16 @@ static GOOD: [Case; 3] = [
     ),
 ];
 
+/// A file in pieces of one byte, of 100 and seven in turn, and in one.
+static OF_GOOD: Setting = Setting {
+    words: &CHECK,
+    sizes: &[&[1], &[100, 7], &[]],
+    ..FAULTLESS
+};
+
 #[test]
 fn a_file_that_was_made_is_good(rt: HostRuntime) {
-    let setting = Setting {
-        words: &CHECK,
-        sizes: &[&[1], &[100, 7], &[]],
-        ..FAULTLESS
-    };
-    assert_come(&rt, rt.alloc(), &setting, &GOOD);
+    assert_come(&rt, rt.alloc(), &OF_GOOD, &GOOD);
 }
 
 /// A file with another second line.
@@ -46,12 +48,14 @@ static SPOILT: [Case; 1] = [(
     Fault(Lines(""), "rtcm2rinex: BadHeader 2\n"),
 )];
 
+/// A file in pieces of one byte, and in one.
+static OF_SPOILT: Setting = Setting {
+    words: &CHECK,
+    sizes: &[&[1], &[]],
+    ..FAULTLESS
+};
+
 #[test]
 fn a_damaged_file_is_refused(rt: HostRuntime) {
-    let setting = Setting {
-        words: &CHECK,
-        sizes: &[&[1], &[]],
-        ..FAULTLESS
-    };
-    assert_come(&rt, rt.alloc(), &setting, &SPOILT);
+    assert_come(&rt, rt.alloc(), &OF_SPOILT, &SPOILT);
 }

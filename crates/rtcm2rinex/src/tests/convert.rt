@@ -41,14 +41,16 @@ static IN_PIECES: [Case; 2] = [
     ),
 ];
 
+/// A conversion in pieces of one byte, of two, and in one.
+static CONVERTING: Setting = Setting {
+    words: &OPTIONS,
+    sizes: &[&[1], &[2], &[]],
+    ..FAULTLESS
+};
+
 #[test]
 fn a_stream_becomes_a_file(rt: HostRuntime) {
-    let setting = Setting {
-        words: &OPTIONS,
-        sizes: &[&[1], &[2], &[]],
-        ..FAULTLESS
-    };
-    assert_come(&rt, rt.alloc(), &setting, &IN_PIECES);
+    assert_come(&rt, rt.alloc(), &CONVERTING, &IN_PIECES);
 }
 
 const DATED: [&str; 6] = [
@@ -108,14 +110,16 @@ static PLACED: [Case; 2] = [
     ),
 ];
 
+/// A conversion in pieces of seven bytes, and in one.
+static PLACING: Setting = Setting {
+    words: &OPTIONS,
+    sizes: &[&[7], &[]],
+    ..FAULTLESS
+};
+
 #[test]
 fn given_station_values_are_in_the_header(rt: HostRuntime) {
-    let setting = Setting {
-        words: &OPTIONS,
-        sizes: &[&[7], &[]],
-        ..FAULTLESS
-    };
-    assert_come(&rt, rt.alloc(), &setting, &PLACED);
+    assert_come(&rt, rt.alloc(), &PLACING, &PLACED);
 }
 
 /// A missing coordinate, five decimals, a letter, 38 bits exceeded, and a height of 17 bits.
@@ -127,20 +131,24 @@ static NOT_LENGTHS: [Case; 5] = [
     (&["--antenna-height=6.5536"], IN_ONE, Refused),
 ];
 
+/// A conversion whose lengths follow.
+static MEASURING: Setting = Setting {
+    words: &OPTIONS,
+    ..FAULTLESS
+};
+
 #[test]
 fn texts_that_are_no_lengths_read_nothing(rt: HostRuntime) {
-    let setting = Setting {
-        words: &OPTIONS,
-        ..FAULTLESS
-    };
-    assert_come(&rt, rt.alloc(), &setting, &NOT_LENGTHS);
+    assert_come(&rt, rt.alloc(), &MEASURING, &NOT_LENGTHS);
 }
+
+/// A conversion whose other options follow.
+static FITTING: Setting = Setting {
+    words: &DATED,
+    ..FAULTLESS
+};
 
 #[test]
 fn refused_options_read_nothing(rt: HostRuntime) {
-    let setting = Setting {
-        words: &DATED,
-        ..FAULTLESS
-    };
-    assert_come(&rt, rt.alloc(), &setting, &UNFIT);
+    assert_come(&rt, rt.alloc(), &FITTING, &UNFIT);
 }

@@ -32,14 +32,16 @@ static CUT_OFF: [Case; 2] = [
     ),
 ];
 
+/// A stream in pieces of five bytes, after which the reader fails.
+static CUT: Setting = Setting {
+    sizes: &[&[5]],
+    end: ReadEnd::Fails(ErrorKind::Other),
+    ..FAULTLESS
+};
+
 #[test]
 fn a_reader_that_fails_is_given(rt: HostRuntime) {
-    let setting = Setting {
-        sizes: &[&[5]],
-        end: ReadEnd::Fails(ErrorKind::Other),
-        ..FAULTLESS
-    };
-    assert_come(&rt, rt.alloc(), &setting, &CUT_OFF);
+    assert_come(&rt, rt.alloc(), &CUT, &CUT_OFF);
 }
 
 static TWO_BYTES_WRITTEN: [Case; 2] = [

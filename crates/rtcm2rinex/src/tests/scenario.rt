@@ -80,10 +80,6 @@ impl Outcome {
         let found = (self.status, self.output.as_slice(), self.faults.as_slice());
         ends(found, (status, output, faults))
     }
-
-    fn is_refused(&self) -> bool {
-        self.status == 2 && !self.has_read && self.output.is_empty() && !self.faults.is_empty()
-    }
 }
 
 /// Whether a command has this status, this output and these faults.
@@ -106,60 +102,47 @@ impl<'a> Expected<'a> {
             Expected::Good(_, given) => outcome.is(0, output, given.as_bytes()),
             Expected::Fault(_, given) => outcome.is(1, output, given.as_bytes()),
             Expected::Unread(given) => outcome.is(1, &[], given.as_bytes()) && !outcome.has_read,
-            Expected::Refused => outcome.is_refused(),
+            Expected::Refused => {
+                outcome.status == 2
+                    && !outcome.has_read
+                    && outcome.output.is_empty()
+                    && !outcome.faults.is_empty()
+            }
         }
     }
-}
-
-/// Whether each case has its expected outcome.
-pub fn are_right(alloc: Global, setting: &Setting<'_>, cases: &[Case<'_>]) -> bool {
-    for case in cases {
-        if !is_right(alloc, setting, case) {
-            return false;
-        }
-    }
-    true
 }
 
 /// Whether a case has its expected outcome for all sizes of pieces.
-pub fn is_right(alloc: Global, setting: &Setting<'_>, case: &Case<'_>) -> bool {
-    match is_right_of(alloc, setting, case) {
-        Ok(is) => is,
-        Err(_) => false,
-    }
+fn is_right(alloc: Global, setting: &Setting<'_>, case: &Case<'_>) -> bool {
+    let mut words = Vec::new(alloc);
+    let mut input = Vec::new(alloc);
+    let mut output = Vec::new(alloc);
+    add_case(&mut words, &mut input, &mut output, setting.words, case).is_ok()
+        && is_right_in_pieces(
+            alloc,
+            &Setting {
+                words: words.as_slice(),
+                ..*setting
+            },
+            input.as_slice(),
+            &case.2,
+            output.as_slice(),
+        )
 }
 
-fn is_right_of(alloc: Global, setting: &Setting<'_>, case: &Case<'_>) -> Result<bool, AllocError> {
-    let words = joined(alloc, setting.words, case.0)?;
-    let input = case.1.bytes(alloc)?;
-    let output = case.2.output().bytes(alloc)?;
-    let setting = Setting {
-        words: words.as_slice(),
-        ..*setting
-    };
-    let is = is_right_in_pieces(
-        alloc,
-        &setting,
-        input.as_slice(),
-        &case.2,
-        output.as_slice(),
-    );
-    drop(output);
-    drop(input);
-    drop(words);
-    Ok(is)
-}
-
-/// The words of both lists.
-fn joined<'a>(
-    alloc: Global,
-    words: &[&'a str],
-    more: &[&'a str],
-) -> Result<Vec<&'a str>, AllocError> {
-    let mut all = Vec::new(alloc);
-    all.extend_from_slice(words)?;
-    all.extend_from_slice(more)?;
-    Ok(all)
+/// Adds the words, the stream and the expected output of a case. It has none of the lists, so that
+/// no list is dropped where memory runs out.
+fn add_case<'a>(
+    words: &mut Vec<&'a str>,
+    input: &mut Vec<u8>,
+    output: &mut Vec<u8>,
+    first: &[&'a str],
+    case: &Case<'a>,
+) -> Result<(), AllocError> {
+    words.extend_from_slice(first)?;
+    words.extend_from_slice(case.0)?;
+    case.1.add_to(input)?;
+    case.2.output().add_to(output)
 }
 
 /// Whether a command has its expected outcome in pieces of each of the sizes.
@@ -200,5 +183,7 @@ pub fn run(alloc: Global, setting: &Setting<'_>, input: &[u8], sizes: &[usize]) 
 
 /// Asserts that each case has its expected outcome in this setting.
 pub fn assert_come(rt: &impl Abort, alloc: Global, setting: &Setting<'_>, cases: &[Case<'_>]) {
-    assert!(*rt; are_right(alloc, setting, cases));
+    for case in cases {
+        assert!(*rt; is_right(alloc, setting, case));
+    }
 }

@@ -21,14 +21,16 @@ static TABLES: [Case; 2] = [
     ),
 ];
 
+/// The signals of a stream in pieces of one byte, of seven, and in one.
+static LISTING: Setting = Setting {
+    words: &SIGNALS,
+    sizes: &[&[1], &[7], &[]],
+    ..FAULTLESS
+};
+
 #[test]
 fn signals_are_listed_with_their_cells(rt: HostRuntime) {
-    let setting = Setting {
-        words: &SIGNALS,
-        sizes: &[&[1], &[7], &[]],
-        ..FAULTLESS
-    };
-    assert_come(&rt, rt.alloc(), &setting, &TABLES);
+    assert_come(&rt, rt.alloc(), &LISTING, &TABLES);
 }
 
 pub const PLAN: [&str; 2] = ["rtcm2rinex", "options"];
@@ -52,12 +54,14 @@ static PLANS: [Case; 2] = [
     ),
 ];
 
+/// The options of a stream in pieces of seven bytes, and in one.
+static PLANNING: Setting = Setting {
+    words: &PLAN,
+    sizes: &[&[7], &[]],
+    ..FAULTLESS
+};
+
 #[test]
 fn options_fit_a_stream(rt: HostRuntime) {
-    let setting = Setting {
-        words: &PLAN,
-        sizes: &[&[7], &[]],
-        ..FAULTLESS
-    };
-    assert_come(&rt, rt.alloc(), &setting, &PLANS);
+    assert_come(&rt, rt.alloc(), &PLANNING, &PLANS);
 }

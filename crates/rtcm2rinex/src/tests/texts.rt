@@ -1,8 +1,9 @@
 //! Streams, files and lines of the tests.
 use super::messages::FINE;
+use super::texts::ExpectedLine::Valid;
 use arrayvec::ArrayVec;
 use rtcm_bits::frame_of;
-use std::alloc::{AllocError, Global};
+use std::alloc::AllocError;
 
 /// Bytes of a stream or of an output.
 #[derive(Clone, Copy)]
@@ -49,21 +50,21 @@ pub enum ExpectedLine<'a> {
 }
 
 /// The header lines of a file of the GPS signal 1C, without trailing blanks.
-pub const HEADER: [&str; 14] = [
-    "     3.05           OBSERVATION DATA    G                   RINEX VERSION / TYPE",
-    "rtcm2rinex                              20240204 000001 UTC PGM / RUN BY / DATE",
-    "                                                            MARKER NAME",
-    "GEODETIC                                                    MARKER TYPE",
-    "                                                            OBSERVER / AGENCY",
-    "                                                            REC # / TYPE / VERS",
-    "                                                            ANT # / TYPE",
-    "        0.0000        0.0000        0.0000                  APPROX POSITION XYZ",
-    "        0.0000        0.0000        0.0000                  ANTENNA: DELTA H/E/N",
-    "G    4 C1C L1C D1C S1C                                      SYS / # / OBS TYPES",
-    "DBHZ                                                        SIGNAL STRENGTH UNIT",
-    "  2024     2     4     0     0    1.0000000     GPS         TIME OF FIRST OBS",
-    "G                                                           SYS / PHASE SHIFT",
-    "                                                            END OF HEADER",
+static HEADER: [[ExpectedLine; 1]; 14] = [
+    [Valid("     3.05           OBSERVATION DATA    G                   RINEX VERSION / TYPE")],
+    [Valid("rtcm2rinex                              20240204 000001 UTC PGM / RUN BY / DATE")],
+    [Valid("                                                            MARKER NAME")],
+    [Valid("GEODETIC                                                    MARKER TYPE")],
+    [Valid("                                                            OBSERVER / AGENCY")],
+    [Valid("                                                            REC # / TYPE / VERS")],
+    [Valid("                                                            ANT # / TYPE")],
+    [Valid("        0.0000        0.0000        0.0000                  APPROX POSITION XYZ")],
+    [Valid("        0.0000        0.0000        0.0000                  ANTENNA: DELTA H/E/N")],
+    [Valid("G    4 C1C L1C D1C S1C                                      SYS / # / OBS TYPES")],
+    [Valid("DBHZ                                                        SIGNAL STRENGTH UNIT")],
+    [Valid("  2024     2     4     0     0    1.0000000     GPS         TIME OF FIRST OBS")],
+    [Valid("G                                                           SYS / PHASE SHIFT")],
+    [Valid("                                                            END OF HEADER")],
 ];
 
 /// The file of `FINE` alone.
@@ -77,7 +78,7 @@ pub const REPORT: &str =
 impl<'a> ExpectedLine<'a> {
     fn text(&self) -> &'a str {
         match self {
-            ExpectedLine::Valid(text) => text,
+            Valid(text) => text,
             ExpectedLine::Time => "> 2024 02 04 00 00  1.0000000  0  1",
             ExpectedLine::Values =>
                 "G05  20985472.060 7 110279400.000 7      -525.504          45.063",
@@ -97,13 +98,7 @@ impl<'a> ExpectedLine<'a> {
 }
 
 impl<'a> Text<'a> {
-    pub fn bytes(&self, alloc: Global) -> Result<Vec<u8>, AllocError> {
-        let mut bytes = Vec::new(alloc);
-        self.add_to(&mut bytes)?;
-        Ok(bytes)
-    }
-
-    fn add_to(&self, bytes: &mut Vec<u8>) -> Result<(), AllocError> {
+    pub fn add_to(&self, bytes: &mut Vec<u8>) -> Result<(), AllocError> {
         match self {
             Text::Bytes(these) => bytes.extend_from_slice(these),
             Text::Lines(lines) => bytes.extend_from_slice(lines.as_bytes()),
@@ -115,18 +110,14 @@ impl<'a> Text<'a> {
 
 fn add_pieces(stream: &mut Vec<u8>, pieces: &[Piece<'_>]) -> Result<(), AllocError> {
     for piece in pieces {
-        add_piece(stream, piece)?;
+        match piece {
+            Piece::Framed(message) => add_frame(stream, message)?,
+            Piece::Fine(changes) => add_frame(stream, &fine(changes))?,
+            Piece::Repeated(byte, count) => add_repeated(stream, *byte, *count)?,
+            Piece::Front(bytes, length) => stream.extend_from_slice(front(bytes, *length))?,
+        }
     }
     Ok(())
-}
-
-fn add_piece(stream: &mut Vec<u8>, piece: &Piece<'_>) -> Result<(), AllocError> {
-    match piece {
-        Piece::Framed(message) => add_frame(stream, message),
-        Piece::Fine(changes) => add_frame(stream, &fine(changes)),
-        Piece::Repeated(byte, count) => add_repeated(stream, *byte, *count),
-        Piece::Front(bytes, length) => stream.extend_from_slice(front(bytes, *length)),
-    }
 }
 
 /// The first `length` bytes, or all.
@@ -161,22 +152,23 @@ fn add_file(
     lines: &[ExpectedLine<'_>],
 ) -> Result<(), AllocError> {
     for (place, line) in HEADER.iter().enumerate() {
-        match replacement(replaced, place) {
-            Some(others) => add_lines(text, others, 80)?,
-            None => add_lines(text, &[ExpectedLine::Valid(*line)], 80)?,
-        }
+        add_lines(text, replacement(replaced, place, line), 80)?;
     }
     add_lines(text, lines, 0)
 }
 
-/// The lines that replace one of the header.
-fn replacement<'a>(replaced: &[Replaced<'a>], place: usize) -> Option<&'a [ExpectedLine<'a>]> {
+/// The lines that replace one of the header, or else that line.
+fn replacement<'a>(
+    replaced: &[Replaced<'a>],
+    place: usize,
+    line: &'a [ExpectedLine<'a>],
+) -> &'a [ExpectedLine<'a>] {
     for (other, lines) in replaced {
         if *other == place {
-            return Some(*lines);
+            return *lines;
         }
     }
-    None
+    line
 }
 
 /// Lines that are padded to a number of columns, each with its line feed.

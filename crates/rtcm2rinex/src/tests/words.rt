@@ -1,7 +1,7 @@
 //! Words of a command line that are not accepted.
 use super::messages::FRAMED_STATION;
 use super::scenario::Expected::Refused;
-use super::scenario::{Case, FAULTLESS, assert_come};
+use super::scenario::{Case, FAULTLESS, Setting, assert_come};
 use super::texts::Text::Bytes;
 use crate::command::refuse_words;
 use std::alloc::Global;
@@ -20,9 +20,12 @@ static NOT_ACCEPTED: [Case; 4] = [
     ),
 ];
 
+/// All of the words are those of the case.
+static ANY_WORDS: Setting = FAULTLESS;
+
 #[test]
 fn words_that_are_not_accepted_do_nothing(rt: HostRuntime) {
-    assert_come(&rt, rt.alloc(), &FAULTLESS, &NOT_ACCEPTED);
+    assert_come(&rt, rt.alloc(), &ANY_WORDS, &NOT_ACCEPTED);
 }
 
 /// Whether words that are refused for this reason have this status and text.
