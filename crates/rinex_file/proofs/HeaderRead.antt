@@ -1,8 +1,6 @@
 -- What is known after each line of a header.
 use Rattle.std.specs.Prelude.{Result, Err, nat_lt, codes, ◌||◌, nat_le}
 use Rattle.std.specs.List.{list_all}
-use Rattle.std.specs.Bool.{then_some}
-use Rattle.std.specs.Prelude.{⊤}
 use Rattle.std.proofs.Common.{arith, ◌≡◌, ◌∙◌, sym, ap, ap₂, refl, subst, ℕ, suc, ◌+◌, ◌-◌, ◌<◌, ◌≤◌, ◌==◌, ◌&&◌, Bool, true, false, List, [], ◌∷◌, length, take, min, ◌↔◌, ◌≢◌, pos, lit≤, ◌^◌, map, get_or, Option, Some, None, IsTrue}
 use Rattle.std.proofs.lemmas.Bool.Decides.{nat_tests}
 use Rattle.std.proofs.lemmas.List.{take-take, take-map, take_min, length-take}
@@ -291,27 +289,27 @@ refuse_first line r h is e = r h.first is.first (sym e)
 
 -- ---- lines that are always the same
 
-line_fixed : (r : HeaderRow) (text line : List ℕ) (k : Known) (b : Bool) (o : Option ⊤) → ((h : Shown) → shown_line h r ≡ text) → 20 < row_place r → row_place r ≢ 22
-    → (IsTrue b ↔ (line ≡ text)) → o ≡ then_some b tt → ReadsOrRefuses r line k k o
-line_fixed r text line k true o shows far other is e = subst (ReadsOrRefuses r line k k) (sym e) (λ rows known. record {
+line_fixed : (r : HeaderRow) (text line : List ℕ) (k : Known) (b : Bool) → ((h : Shown) → shown_line h r ≡ text) → 20 < row_place r → row_place r ≢ 22
+    → (IsTrue b ↔ (line ≡ text)) → ReadsOrRefuses r line k k b
+line_fixed r text line k true shows far other is = λ rows known. record {
   plans = λ p may. may;
   before = λ p. refl;
   shows = λ p may. rows_when (shown_with k p) r true (present r k p may rows ∙ known) ∙ ap (λ l. l ∷ []) (shows (shown_with k p) ∙ sym (is.0 refl));
   reads = next k k.shown.first (row_place r) (outside_high (row_place r) far) (omega (arith, far)) (λ l read. read.only (omega (arith, l, other))) rows;
-})
-line_fixed r text line k false o shows far other is e = subst (ReadsOrRefuses r line k k) (sym e) (λ h shown l. false_true (is.1 (sym l ∙ shows h)))
+}
+line_fixed r text line k false shows far other is = λ h shown l. false_true (is.1 (sym l ∙ shows h))
 
-pub line_unit : (k : Known) (line : List ℕ) (b : Bool) (o : Option ⊤) → (IsTrue b ↔ (line ≡ strength_line)) → o ≡ then_some b tt → ReadsOrRefuses StrengthUnit line k k o
+pub line_unit : (k : Known) (line : List ℕ) (b : Bool) → (IsTrue b ↔ (line ≡ strength_line)) → ReadsOrRefuses StrengthUnit line k k b
 unfolding row_line
-line_unit k line b o is = line_fixed StrengthUnit strength_line line k b o (λ h. refl) (lit≤ tt) (λ e. absurd (omega (arith, e))) is
+line_unit k line b is = line_fixed StrengthUnit strength_line line k b (λ h. refl) (lit≤ tt) (λ e. absurd (omega (arith, e))) is
 
-pub line_shift : (system : System) (letter : ℕ) (k : Known) (line : List ℕ) (b : Bool) (o : Option ⊤) → letter ≡ letter_of system
-    → (IsTrue b ↔ (line ≡ header_line (letter ∷ []) (codes "SYS / PHASE SHIFT"))) → o ≡ then_some b tt → ReadsOrRefuses (Shift system) line k k o
+pub line_shift : (system : System) (letter : ℕ) (k : Known) (line : List ℕ) (b : Bool) → letter ≡ letter_of system
+    → (IsTrue b ↔ (line ≡ header_line (letter ∷ []) (codes "SYS / PHASE SHIFT"))) → ReadsOrRefuses (Shift system) line k k b
 unfolding row_line
-line_shift system letter k line b o e is = by system (subst (λ l. IsTrue b ↔ (line ≡ header_line (l ∷ []) (codes "SYS / PHASE SHIFT"))) e is) where
-  by : (s : System) → (IsTrue b ↔ (line ≡ shift_line s)) → o ≡ then_some b tt → ReadsOrRefuses (Shift s) line k k o
-  by Gps is = line_fixed (Shift Gps) (shift_line Gps) line k b o (λ h. refl) (lit≤ tt) (λ e. absurd (omega (arith, e))) is
-  by Galileo is = line_fixed (Shift Galileo) (shift_line Galileo) line k b o (λ h. refl) (lit≤ tt) (λ e. absurd (omega (arith, e))) is
+line_shift system letter k line b e is = by system (subst (λ l. IsTrue b ↔ (line ≡ header_line (l ∷ []) (codes "SYS / PHASE SHIFT"))) e is) where
+  by : (s : System) → (IsTrue b ↔ (line ≡ shift_line s)) → ReadsOrRefuses (Shift s) line k k b
+  by Gps is = line_fixed (Shift Gps) (shift_line Gps) line k b (λ h. refl) (lit≤ tt) (λ e. absurd (omega (arith, e))) is
+  by Galileo is = line_fixed (Shift Galileo) (shift_line Galileo) line k b (λ h. refl) (lit≤ tt) (λ e. absurd (omega (arith, e))) is
 
 -- ---- version and systems
 

@@ -63,15 +63,6 @@ code_reads_back s h = search rules
 pub code_of_one : (system : System) (s : SignalAt) (code : List ℕ) → IsSignal s → s.system ≡ system → code ≡ code_of s → signal_of_code system code ≡ Some s
 code_of_one system s code listed same is = grind (arith, code_reads_back)
 
--- the line is at least as long as the end of a code in it
-pub code_within : (line : List ℕ) (column : ℕ) (s : SignalAt) → IsSignal s → take 2 (drop column line) ≡ code_of s → column + 2 ≤ length line
-code_within line column s listed is =
-    let two : length (code_of s) ≡ 2 = length-code s.system s.index listed in
-    let l : length (take 2 (drop column line)) ≡ length (code_of s) = ap length is in
-    reach (length line) column (simp (length-take, length-drop) at (l ∙ two)) where
-      reach : (n c : ℕ) → min 2 (n - c) ≡ 2 → c + 2 ≤ n
-      reach n c h = omega (arith, h)
-
 at_code : (f : ℕ → List ℕ) (xs : List ℕ) (k : ℕ) (d : List ℕ) → k < length xs → get_or (map f xs) k d ≡ f (slice_index xs k)
 at_code f [] k d h = absurd (omega (arith, h))
 at_code f (x ∷ xs) zero d h = refl
@@ -392,16 +383,6 @@ count_read system all line are bound is =
     ap (λ t. digits_in t / 4) (count_shown system all line are bound is) ∙ ap (λ (n : ℕ). n / 4) (digits_in-whole 3 (4 * length all) fits) ∙ fourth (length all) where
       fourth : (k : ℕ) → 4 * k / 4 ≡ k
       fourth k = omega arith
-
-pub count_within : (system : System) (all line : List ℕ) → AreTypes system all → length (table system) ≤ 19 → line ≡ types_line system all 0 → 6 ≤ length line
-count_within system all line are bound is =
-    let few = few_types system all are in
-    let small : 4 * length all < 1000 = omega (arith, few, bound) in
-    let digits : length (decimal (4 * length all)) ≤ 3 = length-decimal-le 3 (4 * length all) (omega arith) small (omega (arith, small)) in
-    let l : length (take 3 (drop 3 line)) ≡ 3 = ap length (count_shown system all line are bound is) ∙ length-right 3 (decimal (4 * length all)) digits in
-    reach (length line) (sym (length-take 3 (drop 3 line) ∙ ap (min 3) (length-drop 3 line)) ∙ l) where
-      reach : (n : ℕ) → min 3 (n - 3) ≡ 3 → 6 ≤ n
-      reach n h = omega (arith, h)
 
 shorter_still : {X : Type 0} (n : ℕ) (xs : List X) → length (take n xs) ≤ length xs
 shorter_still n xs = simp length-take (omega arith)

@@ -1,6 +1,6 @@
 -- From one line of a header to the next while its lines are read.
-use Rattle.std.specs.Prelude.{◌≡◌, ℕ, suc, ◌+◌, ◌<◌, ◌≤◌, ◌==◌, ◌||◌, ◌&&◌, nat_lt, Bool, true, List, [], ◌∷◌, ◌++◌, length}
-use Rattle.std.specs.Prelude.{set, take, drop, min, Option, Some, None, ⊤, ◌↔◌, MatchOption}
+use Rattle.std.specs.Prelude.{◌≡◌, ℕ, suc, ◌+◌, ◌<◌, ◌≤◌, ◌==◌, ◌||◌, ◌&&◌, nat_lt, Bool, true, false, List, [], ◌∷◌, ◌++◌, length}
+use Rattle.std.specs.Prelude.{set, take, drop, min, Option, Some, None, ⊤, ◌↔◌}
 use Rattle.gnss_obs.specs.declared.cell.StationValues.{StationValues}
 use Rattle.gnss_obs.specs.Signals.{SignalAt, IsSignal, code_of, table}
 use Rattle.gnss_obs.specs.declared.system.System.{System}
@@ -63,9 +63,9 @@ abbrev pub RefusesHeaderLine : HeaderRow → List ℕ → Type 0
 RefusesHeaderLine row line = (h : Shown) → IsShown h → shown_line h row ≡ line → ⊥
 
 -- the line was accepted, and this is known after it; or no header has it in this row
-abbrev pub ReadsOrRefuses : {A : Type 0} → HeaderRow → List ℕ → Known → Known → Option A → Type 0
-ReadsOrRefuses {A} row line old new taken =
-    MatchOption taken (RefusesHeaderLine row line) (λ _. ReadsHeaderLine row line old new)
+abbrev pub ReadsOrRefuses : HeaderRow → List ℕ → Known → Known → Bool → Type 0
+ReadsOrRefuses row line old new true = ReadsHeaderLine row line old new
+ReadsOrRefuses row line old new false = RefusesHeaderLine row line
 
 -- the line follows those before a row, and the row at `next` follows it
 pub record GoesTo (old : Known) (place : ℕ) (line : List ℕ) (new : Known) (next : ℕ) : Type 0 where
@@ -117,6 +117,11 @@ RefusesTexts row line = (x : HeaderLists) → AreTexts x → texts_line x row �
 pub record ReadsTexts (row : TextRow) (line : List ℕ) (old new : HeaderLists) : Type 0 where
   pub read : texts_in (fields_of row) (length (front_of row)) line old ≡ Some new
   pub shown : texts_line new row ≡ line
+
+-- the texts were read, or no header has them
+abbrev pub ReadsOrRefusesTexts : TextRow → List ℕ → HeaderLists → HeaderLists → Bool → Type 0
+ReadsOrRefusesTexts row line old new true = ReadsTexts row line old new
+ReadsOrRefusesTexts row line old new false = RefusesTexts row line
 
 -- ---- what was read, with one part replaced
 

@@ -1,6 +1,4 @@
 //! The line that is expected when a file is read line by line.
-ghost use Rattle.std.specs.Prelude.{◌≡◌, true, false, OnOk, OnErr};
-
 use gnss_obs::StationValues;
 
 /// The kind of line that is expected next.
@@ -27,14 +25,6 @@ pub(crate) enum Refusal {
     Memory,
     /// No file continues with this line.
     Bad,
-}
-
-/// Refuses a line if it isn't as expected.
-pub(crate) fn accept(is_expected: bool) -> Result<(), Refusal>
-    ensures taken { OnOk result (is_expected ≡ true) }
-    ensures bad { OnErr result (is_expected ≡ false) }
-{
-    is_expected.then_some(()).ok_or(Refusal::Bad)
 }
 
 /// What an accepted line adds to the epochs of a file.

@@ -13,7 +13,7 @@ use crate::header::rows::{HeaderRow, row_at};
 use crate::header::texts::HeaderTexts;
 use crate::header::types::type_rows;
 use crate::read::epoch::read_first;
-use crate::read::expected::{Expected, Refusal, accept};
+use crate::read::expected::{Expected, Refusal};
 use crate::read::header_lines::{
     is_header_line, read_delta, read_position, read_texts, read_version,
 };
@@ -157,47 +157,55 @@ impl HeadSoFar {
         }
     }
 
-    /// Reads the line of a row of values. Returns None if no header has it.
-    fn read_values(&mut self, row: HeaderRow, line: &[u8]) -> Option<()>
+    /// Reads the line of a row of values. Returns whether some header has it.
+    fn read_values(&mut self, row: HeaderRow, line: &[u8]) -> bool
         requires { HasValues row }
         ensures { ReadsOrRefuses row line.now self.old self.new result }
     {
         match row {
             HeaderRow::Version => {
-                let (gps, galileo) = read_version(line)?;
+                let Some((gps, galileo)) = read_version(line) else {
+                    return false;
+                };
                 self.gps.is_planned = gps;
                 self.galileo.is_planned = galileo;
-                Some(())
+                true
             }
             HeaderRow::Position => {
-                let height = self.values.height;
-                self.values = read_position(line)?;
-                self.values.height = height;
-                Some(())
+                let Some(mut values) = read_position(line) else {
+                    return false;
+                };
+                values.height = self.values.height;
+                self.values = values;
+                true
             }
             HeaderRow::Delta => {
-                self.values.height = read_delta(line)?;
-                Some(())
+                let Some(height) = read_delta(line) else {
+                    return false;
+                };
+                self.values.height = height;
+                true
             }
             _ => {
-                self.first = read_first(line)?;
-                Some(())
+                let Some(first) = read_first(line) else {
+                    return false;
+                };
+                self.first = first;
+                true
             }
         }
     }
 
-    /// Reads the line of a row. Returns None if no header has it.
-    fn read_header_line(&mut self, row: HeaderRow, line: &[u8]) -> Option<()>
+    /// Reads the line of a row. Returns whether some header has it.
+    fn read_header_line(&mut self, row: HeaderRow, line: &[u8]) -> bool
         requires { IsOnly row }
         ensures { ReadsOrRefuses row line.now self.old self.new result }
     {
         match row {
             HeaderRow::Texts(row) => read_texts(&mut self.texts, row, line),
-            HeaderRow::StrengthUnit => is_header_line(line, UNIT, STRENGTH_UNIT).then_some(()),
-            HeaderRow::Shift(system) => {
-                is_header_line(line, &[letter_of(system)], SHIFT).then_some(())
-            }
-            HeaderRow::Types(_, _) | HeaderRow::End => None,
+            HeaderRow::StrengthUnit => is_header_line(line, UNIT, STRENGTH_UNIT),
+            HeaderRow::Shift(system) => is_header_line(line, &[letter_of(system)], SHIFT),
+            HeaderRow::Types(_, _) | HeaderRow::End => false,
             row => self.read_values(row, line),
         }
     }
@@ -216,12 +224,12 @@ impl HeadSoFar {
                 self.are_valid();
                 Ok(Expected::Header(place + 1))
             }
-            HeaderRow::End => {
-                accept(is_header_line(line, b"", END))?;
-                Ok(Expected::Epoch)
-            }
+            HeaderRow::End if is_header_line(line, b"", END) => Ok(Expected::Epoch),
+            HeaderRow::End => Err(Refusal::Bad),
             row => {
-                self.read_header_line(row, line).ok_or(Refusal::Bad)?;
+                if !self.read_header_line(row, line) {
+                    return Err(Refusal::Bad);
+                }
                 self.are_valid();
                 Ok(Expected::Header(place + 1))
             }

@@ -1,10 +1,10 @@
 //! The lines of a header, read back.
 ghost use Rattle.std.specs.Prelude.{◌≡◌, ◌↔◌, ◌+◌, ◌≤◌, ◌<◌, ◌^◌, ◌||◌, IsTrue, pos, Bool, true, IfSome, IfNone};
-ghost use Rattle.std.specs.Prelude.{length, take, drop, codes, MatchOption};
+ghost use Rattle.std.specs.Prelude.{length, take, drop, codes};
 ghost use Rattle.rinex_file.specs.FileValues.{IsCoordinate};
 ghost use Rattle.rinex_file.specs.Header.{header_line, lengths, position_line};
 ghost use Rattle.rinex_file.specs.Read.Fields.{number_in, ReadsExactly};
-ghost use Rattle.rinex_file.specs.Read.HeaderSteps.{ReadsTexts, RefusesTexts};
+ghost use Rattle.rinex_file.specs.Read.HeaderSteps.{ReadsOrRefusesTexts};
 ghost use Rattle.rinex_file.specs.Read.Progress.{IsPosition, version_with};
 
 use crate::header::fields::TextRow;
@@ -36,15 +36,14 @@ pub(crate) fn read_version(line: &[u8]) -> Option<(bool, bool)>
     is_same(line, version_with(gps, galileo).as_slice()).then_some((gps, galileo))
 }
 
-/// Returns the number in the 14 columns of a line that begin at `from`, in 0.0001 m, or None if it
-/// doesn't fit 38 bits.
-fn coordinate_in(line: &[u8], from: usize) -> Option<i64>
-    ensures some { IfSome result (λ z. IsCoordinate z × (z ≡ number_in (take 14 (drop from line.now)))) }
-    ensures none { IfNone result (IsCoordinate (number_in (take 14 (drop from line.now))) → ⊥) }
+/// Returns the number in the 14 columns of a line that begin at `from`, in 0.0001 m, limited to
+/// 38 bits.
+fn coordinate_in(line: &[u8], from: usize) -> i64
+    ensures fits { IsCoordinate result }
+    ensures value { IsCoordinate (number_in (take 14 (drop from line.now)))
+        → result ≡ number_in (take 14 (drop from line.now)) }
 {
-    let length = number_in(columns(line, from, 14));
-    let fits = -137_438_953_472 <= length && length <= 137_438_953_471;
-    fits.then_some(length)
+    number_in(columns(line, from, 14)).clamp(-137_438_953_472, 137_438_953_471)
 }
 
 /// Returns the position of the antenna in 0.0001 m, with height zero, by its line, or None for any
@@ -52,10 +51,12 @@ fn coordinate_in(line: &[u8], from: usize) -> Option<i64>
 pub(crate) fn read_position(line: &[u8]) -> Option<StationValues>
     ensures { ReadsExactly IsPosition position_line line.now result }
 {
-    let x = coordinate_in(line, 0)?;
-    let y = coordinate_in(line, 14)?;
-    let z = coordinate_in(line, 28)?;
-    let position = StationValues { x, y, z, height: 0 };
+    let position = StationValues {
+        x: coordinate_in(line, 0),
+        y: coordinate_in(line, 14),
+        z: coordinate_in(line, 28),
+        height: 0,
+    };
     is_same(line, position_line(&position).as_slice()).then_some(position)
 }
 
@@ -65,7 +66,8 @@ pub(crate) fn read_delta(line: &[u8]) -> Option<u16>
     ensures { ReadsExactly (λ h. h < 2 ^ 16)
         (λ h. header_line (lengths (pos h) (pos 0) (pos 0)) (codes "ANTENNA: DELTA H/E/N")) line.now result }
 {
-    let height = u16::try_from(digits_in(columns(line, 0, 14))).ok()?;
+    // A number that doesn't fit differs from the limit, which is written again.
+    let height = digits_in(columns(line, 0, 14)).min(65_535) as u16;
     let again = three_lengths(height as i64, 0, 0, DELTA);
     is_same(line, again.as_slice()).then_some(height)
 }
@@ -78,16 +80,18 @@ pub(crate) fn is_header_line(line: &[u8], content: &[u8], label: &[u8]) -> bool
     is_same(line, labelled(content, label).as_slice())
 }
 
-/// Reads the texts of a row. Returns None if the line isn't that of these texts.
-pub(crate) fn read_texts(texts: &mut HeaderTexts, row: TextRow, line: &[u8]) -> Option<()>
-    ensures { MatchOption result (RefusesTexts row line.now) (λ _. ReadsTexts row line.now texts.old texts.new) }
+/// Reads the texts of a row. Returns whether the line is that of these texts.
+pub(crate) fn read_texts(texts: &mut HeaderTexts, row: TextRow, line: &[u8]) -> bool
+    ensures { ReadsOrRefusesTexts row line.now texts.old texts.new result }
 {
     texts.are_texts();
     let mut column = row.front().len();
     for field in row.fields() {
         let text = columns(line, column, field.width());
-        texts.set(*field, text).ok()?;
+        if texts.set(*field, text).is_err() {
+            return false;
+        }
         column += field.width();
     }
-    is_same(line, texts_line(texts, row).as_slice()).then_some(())
+    is_same(line, texts_line(texts, row).as_slice())
 }

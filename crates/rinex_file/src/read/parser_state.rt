@@ -12,7 +12,7 @@ ghost use Rattle.rinex_file.specs.Read.Sound.{AreLinesOf, AreRead, MayBegin};
 ghost use Rattle.rinex_file.specs.Limits.{most_line};
 
 use crate::read::epoch::read_epoch_line;
-use crate::read::expected::{Added, Expected, Refusal, accept};
+use crate::read::expected::{Added, Expected, Refusal};
 use crate::read::file::Counts;
 use crate::read::head_so_far::HeadSoFar;
 use crate::read::header_lines::{read_delta, read_position};
@@ -98,11 +98,13 @@ impl ParserState {
                 Ok(Added::NoRow)
             }
             Expected::Epoch => self.take_epoch(None, line, again),
-            Expected::EventPosition => {
-                let position = read_position(line).ok_or(Refusal::Bad)?;
-                self.expected = Expected::EventHeight(position);
-                Ok(Added::NoRow)
-            }
+            Expected::EventPosition => match read_position(line) {
+                Some(position) => {
+                    self.expected = Expected::EventHeight(position);
+                    Ok(Added::NoRow)
+                }
+                None => Err(Refusal::Bad),
+            },
             Expected::EventHeight(position) => self.take_height(position, line),
             Expected::EventEpoch(values) => self.take_epoch(Some(values), line, again),
             Expected::Satellite(left) => self.take_satellite(left, line, again),
@@ -146,12 +148,15 @@ impl ParserState {
         ensures takes { TakesLine self.old self.new line.now result }
         ensures room { (n : ℕ) → HasRoom self.old n → OnOk result (HasRoom self.new (n + 1)) }
     {
-        let begun = read_epoch_line(line, again).ok_or(Refusal::Bad)?;
-        accept(self.may_begin(begun.0, begun.1))?;
-        self.change = change;
-        self.time = begun.0;
-        self.expected = Expected::Satellite(begun.1);
-        Ok(Added::NoRow)
+        match read_epoch_line(line, again) {
+            Some(begun) if self.may_begin(begun.0, begun.1) => {
+                self.change = change;
+                self.time = begun.0;
+                self.expected = Expected::Satellite(begun.1);
+                Ok(Added::NoRow)
+            }
+            _ => Err(Refusal::Bad),
+        }
     }
 
     /// Processes the height in an event, after this position. Refuses the line if neither differs
@@ -161,10 +166,14 @@ impl ParserState {
         ensures takes { TakesLine self.old self.new line.now result }
         ensures room { (n : ℕ) → HasRoom self.old n → OnOk result (HasRoom self.new (n + 1)) }
     {
-        let height = read_delta(line).ok_or(Refusal::Bad)?;
+        let Some(height) = read_delta(line) else {
+            return Err(Refusal::Bad);
+        };
         let mut values = position;
         values.height = height;
-        accept(!values.is_same(self.values.unwrap_or(self.head.values)))?;
+        if values.is_same(self.values.unwrap_or(self.head.values)) {
+            return Err(Refusal::Bad);
+        }
         self.expected = Expected::EventEpoch(values);
         Ok(Added::NoRow)
     }
@@ -185,9 +194,11 @@ impl ParserState {
     {
         let gps = self.head.planned(System::Gps);
         let galileo = self.head.planned(System::Galileo);
-        accept(read_seen(line, again, gps, galileo, &mut self.seen))?;
+        let is_read = read_seen(line, again, gps, galileo, &mut self.seen);
         let rank = rank_of(&self.seen);
-        accept(rank > self.rank)?;
+        if !is_read || rank <= self.rank {
+            return Err(Refusal::Bad);
+        }
         self.counts.satellites += 1;
         if left > 1 {
             self.rank = rank;

@@ -8,7 +8,8 @@ ghost use Rattle.rinex_file.specs.Read.Progress.{AreTypes, types_line, signals_b
 ghost use Rattle.rinex_file.specs.Read.HeaderSteps.{ReadsRow, RefusesRow, TakesTypes, RefusesTypes, HasSignalAt};
 
 use crate::header::types::{TYPES_IN_LINE, type_rows, types_with};
-use crate::read::expected::{Refusal, accept};
+use crate::read::expected::Refusal;
+use crate::read::header_lines::columns;
 use crate::read::numbers::{digits_in, is_same};
 use gnss_obs::{Signal, Signals, System};
 use std::alloc::Global;
@@ -51,7 +52,7 @@ impl TypesSoFar {
         if row > 0 {
             return Some(self.count);
         }
-        let types = digits_in(line.get(3..6)?);
+        let types = digits_in(columns(line, 3, 3));
         let count = types as usize / 4;
         if count == 0 || count > system.signals() {
             return None;
@@ -73,11 +74,17 @@ impl TypesSoFar {
         ensures bad { result ≡ Err Refusal.Bad
             → RefusesTypes system row line.now self.old.count (indices self.old.signals) }
     {
-        let count = self.read_count(system, row, line).ok_or(Refusal::Bad)?;
+        let Some(count) = self.read_count(system, row, line) else {
+            return Err(Refusal::Bad);
+        };
         take_signals(&mut self.signals, system, count, row, line)?;
         self.count = count;
         let again = types_with(system, count, self.signals.as_slice(), row);
-        accept(is_same(line, again.as_slice()))
+        if is_same(line, again.as_slice()) {
+            Ok(())
+        } else {
+            Err(Refusal::Bad)
+        }
     }
 }
 
@@ -104,7 +111,9 @@ fn take_signals(
     let end = signals_begun(row + 1).min(count);
     for place in signals_begun(row)..end {
         let column = 6 + 4 * (4 * place - TYPES_IN_LINE * row) + 2;
-        let signal = signal_in(line, system, column).ok_or(Refusal::Bad)?;
+        let Some(signal) = signal_in(line, system, column) else {
+            return Err(Refusal::Bad);
+        };
         match signals.add(signal) {
             Ok(true) => {}
             Ok(false) => return Err(Refusal::Bad),
@@ -128,8 +137,7 @@ fn signal_in(line: &[u8], system: System, column: usize) -> Option<Signal>
     ensures system { IfSome result (λ s. (s.system ≡ system) × IsSignal s) }
     ensures read { (s : SignalAt) → HasSignalAt system line.now column s → result ≡ Some s }
 {
-    let code = line.get(column..column + 2)?;
-    match str::from_utf8(code) {
+    match str::from_utf8(columns(line, column, 2)) {
         Ok(code) => Signal::from_code(system, code),
         Err(_) => None,
     }

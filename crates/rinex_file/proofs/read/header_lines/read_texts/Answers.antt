@@ -1,38 +1,30 @@
-use Rattle.std.proofs.Common.{◌≡◌, ◌∙◌, sym, ap, subst, refl, ◌≤◌, ℕ, List, Bool, true, false, IsTrue, ◌↔◌, Option, Some, None, length}
-use Rattle.std.specs.Prelude.{MatchOption, ⊤, Result, Ok, Err}
-use Rattle.std.specs.Bool.{then_some}
-use Rattle.std.specs.Result.{result_ok, result_err}
+use Rattle.std.proofs.Common.{◌≡◌, ◌∙◌, sym, ap, subst, refl, ◌≤◌, ℕ, List, Bool, true, false, IsTrue, ◌↔◌, Some, None, length}
+use Rattle.std.specs.Prelude.{is_err, Result, Ok, Err}
+use Rattle.std.specs.Result.{result_err}
 use Rattle.std.proofs.lemmas.List.{drop_all}
 use Rattle.rinex_file.specs.declared.header.fields.TextRow.{TextRow}
 use Rattle.rinex_file.specs.Texts.{HeaderLists, fields_of, front_of, text_count}
 use Rattle.rinex_file.specs.Header.{texts_line}
-use Rattle.rinex_file.specs.Read.HeaderSteps.{ReadsTexts, RefusesTexts, texts_in}
+use Rattle.rinex_file.specs.Read.HeaderSteps.{ReadsOrRefusesTexts, texts_in}
 use Rattle.rinex_file.proofs.HeaderText.{not_same, not_printable, refused_text}
 use Rattle.rinex_file.proofs.Judged.{refused}
 use Rattle.rinex_file.proofs.read.header_lines.read_texts.Goals as goal
 
 compared : (r : TextRow) (line again : List ℕ) (old new : HeaderLists) (b : Bool) → length old ≡ text_count → texts_in (fields_of r) (length (front_of r)) line old ≡ Some new
-    → again ≡ texts_line new r → (IsTrue b ↔ (line ≡ again)) → (o : Option ⊤) → o ≡ then_some b tt
-    → MatchOption o (RefusesTexts r line) (λ _. ReadsTexts r line old new)
-compared r line again old new true size read is says o e = rw e (record { read = read; shown = sym is ∙ sym (says.0 refl) })
-compared r line again old new false size read is says o e = rw e (not_same r line old new size read (λ h. refused false (line ≡ again) says refl (h ∙ sym is)))
+    → again ≡ texts_line new r → (IsTrue b ↔ (line ≡ again)) → ReadsOrRefusesTexts r line old new b
+compared r line again old new true size read is says = record { read = read; shown = sym is ∙ sym (says.0 refl) }
+compared r line again old new false size read is says = not_same r line old new size read (λ h. refused false (line ≡ again) says refl (h ∙ sym is))
 
-no_ok : {A : Type 0} (x : A) → None ≡ Some x → ⊥
-no_ok x e = cc
+no_fault : {A E : Type 0} (r : Result A E) → true ≡ is_err r → result_err r ≡ None → ⊥
+no_fault (Ok x) e n = cc
+no_fault (Err x) e n = cc
 
-no_err : {E : Type 0} (x : E) → Some x ≡ None → ⊥
-no_err x e = cc
-
-some_err : {A E : Type 0} (r : Result A E) → None ≡ result_ok r → result_err r ≡ None → ⊥
-some_err (Ok x) e n = no_ok x e
-some_err (Err x) e n = no_err x n
-
-pub returns-in_err-ok : goal.returns-in_err-ok
-returns-in_err-ok c =
-    rw c.from_residual.ensures (not_printable c.args.row c.args.line.now c.args.texts.now c.are_texts.ensures.count (sym c.loop-field.invariant.read
+pub returns-then-is_err : goal.returns-then-is_err
+returns-then-is_err c =
+    not_printable c.args.row c.args.line.now c.args.texts.now c.are_texts.ensures.count (sym c.loop-field.invariant.read
     ∙ refused_text c.fields-field-items.result.now (fields_of c.args.row) c.loop-field.field-index _ c.loop-field.column c.width.result c.args.line.now c.columns-text.result.now c.loop-field.texts _
     c.fields-field-items.ensures.value c.loop-field-test.true c.width.ensures c.columns-text.ensures.value c.set.ensures.fault
-    (some_err c.set.result c.in_err-ok.ensures.value)))
+    (no_fault c.set.result (sym c.if-is_err.true ∙ c.is_err.ensures.value)))
 
 pub returns : goal.returns
 returns c =
@@ -40,4 +32,4 @@ returns c =
     let far = subst (λ l. length l ≤ c.loop-field.field-index) c.fields-field-items.ensures.value c.loop-field-test.false in
     compared row c.args.line.now _ c.args.texts.now c.loop-field.texts c.is_same.result c.are_texts.ensures.count
     (sym c.loop-field.invariant.read ∙ ap (λ l. texts_in l c.loop-field.column c.args.line.now c.loop-field.texts) (drop_all c.loop-field.field-index (fields_of row) far))
-    (c.as_slice.ensures.value ∙ c.texts_line.ensures) c.is_same.ensures _ c.then_some.ensures
+    (c.as_slice.ensures.value ∙ c.texts_line.ensures) c.is_same.ensures

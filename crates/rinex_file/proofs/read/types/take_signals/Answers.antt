@@ -21,15 +21,15 @@ there : (system : System) (all : List ℕ) (end a begun_next count place : ℕ) 
     → (4 * length all < 1000) × (place < begun_next) × (place < length all)
 there system all end a begun_next count place less least next is bound = let most = few_signals system in (omega (arith, is, bound, most), omega (arith, less, least, next), omega (arith, less, least, is))
 
-pub returns-in_err-signal-clause-bad : goal.returns-in_err-signal-clause-bad
-returns-in_err-signal-clause-bad c = λ refused all are begun is.
+pub returns-in_default-clause-bad : goal.returns-in_default-clause-bad
+returns-in_default-clause-bad c = λ refused all are begun is.
     let b = there c.args.system all _ _ _ _ _ c.loop-place-test.true c.min-end.ensures c.signals_begun.ensures begun.0 c.requires.count in
-    not_read c.args.system all c.args.line.now c.args.row c.loop-place.place are b.0 is c.loop-place.invariant.from b.1 b.2 _ c.signal_in.ensures.read c.in_err-signal.ensures.ok_part
+    not_read c.args.system all c.args.line.now c.args.row c.loop-place.place are b.0 is c.loop-place.invariant.from b.1 b.2 _ c.signal_in.ensures.read c.in_default.is
 
 pub returns-in-Ok-false-clause-bad : goal.returns-in-Ok-false-clause-bad
 returns-in-Ok-false-clause-bad c = λ refused all are begun is.
     let b = there c.args.system all _ _ _ _ _ c.loop-place-test.true c.min-end.ensures c.signals_begun.ensures begun.0 c.requires.count in
-    taken_before c.args.system all c.args.line.now c.args.row c.loop-place.place are b.0 is c.loop-place.invariant.from b.1 b.2 _ c.signal_in.ensures.read c.in_ok-signal.signal c.loop-place.signals c.in_ok-signal.ensures.ok_part
+    taken_before c.args.system all c.args.line.now c.args.row c.loop-place.place are b.0 is c.loop-place.invariant.from b.1 b.2 _ c.signal_in.ensures.read c.in-Some.signal c.loop-place.signals c.in-Some.is
     (c.add.ensures.old (c.in-Ok-false.is ∙ ap Ok c.in-Ok-false.field-0-test)).1 (c.loop-place.invariant.read all are begun is)
 
 one_more : (old : List SignalAt) (s : SignalAt) (new : List SignalAt) → new ≡ old ++ s ∷ [] → length new ≡ length old + 1
@@ -41,17 +41,17 @@ one_grows old s new e = ap (take (length old)) e ∙ take_at old (s ∷ []) (len
 pub loop-place-preserved : goal.loop-place-preserved
 loop-place-preserved c =
     let inv = c.loop-place.invariant in
-    let s = c.in_ok-signal.signal in
+    let s = c.in-Some.signal in
     let added : IsAdded c.loop-place.signals s c.add.new.self = c.add.ensures.new (c.in-Ok-true.is ∙ ap Ok c.in-Ok-true.field-0-test) in
     record {
-      of = subst (λ (t : System). IsOf t c.add.new.self) (at_some _ s (λ (t : SignalAt). (t.system ≡ c.args.system) × IsSignal t) c.in_ok-signal.ensures.ok_part c.signal_in.ensures.system).0 added.2;
+      of = subst (λ (t : System). IsOf t c.add.new.self) (at_some _ s (λ (t : SignalAt). (t.system ≡ c.args.system) × IsSignal t) c.in-Some.is c.signal_in.ensures.system).0 added.2;
       grows = still_grows c.args.signals.now c.loop-place.signals c.add.new.self inv.grows (one_grows _ s _ added.0);
       size = one_more _ s _ added.0 ∙ ap (λ n. n + 1) inv.size;
       from = omega (arith, inv.from);
       to = omega arith;
       read = λ all are begun is.
           let b = there c.args.system all _ _ _ _ _ c.loop-place-test.true c.min-end.ensures c.signals_begun.ensures begun.0 c.requires.count in
-          ap indices added.0 ∙ taken_more c.args.system all c.args.line.now c.args.row c.loop-place.place are b.0 is inv.from b.1 b.2 _ c.signal_in.ensures.read s c.loop-place.signals c.in_ok-signal.ensures.ok_part
+          ap indices added.0 ∙ taken_more c.args.system all c.args.line.now c.args.row c.loop-place.place are b.0 is inv.from b.1 b.2 _ c.signal_in.ensures.read s c.loop-place.signals c.in-Some.is
           (inv.read all are begun is);
     }
 

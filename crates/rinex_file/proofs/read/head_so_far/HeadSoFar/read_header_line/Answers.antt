@@ -1,21 +1,20 @@
-use Rattle.std.proofs.Common.{◌≡◌, refl, sym, subst, inl, inr, ℕ, List, Option, Some, None}
-use Rattle.std.specs.Prelude.{MatchOption, ⊤}
+use Rattle.std.proofs.Common.{◌≡◌, refl, sym, subst, inl, inr, ℕ, List, Bool, true, false}
 use Rattle.gnss_obs.specs.declared.system.System.{System}
 use Rattle.rinex_file.specs.declared.header.fields.TextRow.{TextRow}
 use Rattle.rinex_file.specs.declared.header.rows.HeaderRow.TheVariants.{Version, Texts, Position, Delta, Types, StrengthUnit, First, Shift, End}
 use Rattle.rinex_file.specs.Texts.{HeaderLists}
 use Rattle.rinex_file.specs.declared.header.rows.HeaderRow.{HeaderRow}
 use Rattle.rinex_file.specs.Read.Progress.{Known}
-use Rattle.rinex_file.specs.Read.HeaderSteps.{HasValues, IsOnly, ReadsOrRefuses, ReadsTexts, RefusesTexts, with_texts}
+use Rattle.rinex_file.specs.Read.HeaderSteps.{HasValues, IsOnly, ReadsOrRefuses, ReadsOrRefusesTexts, with_texts}
 use Rattle.rinex_file.proofs.HeaderRead.{put, line_texts, refuse_texts, line_unit, line_shift}
 use Rattle.rinex_file.proofs.read.head_so_far.HeadSoFar.read_header_line.Goals as goal
 
-of_row : (r t : HeaderRow) (line : List ℕ) (old new : Known) (taken : Option ⊤) → r ≡ t → ReadsOrRefuses t line old new taken → ReadsOrRefuses r line old new taken
+of_row : (r t : HeaderRow) (line : List ℕ) (old new : Known) (taken : Bool) → r ≡ t → ReadsOrRefuses t line old new taken → ReadsOrRefuses r line old new taken
 of_row r t line old new taken e l = subst (λ u. ReadsOrRefuses u line old new taken) (sym e) l
 
-of_texts : (r : TextRow) (line : List ℕ) (old k : Known) (x : HeaderLists) (o : Option ⊤) → k ≡ old → MatchOption o (RefusesTexts r line) (λ _. ReadsTexts r line k.shown.texts x) → ReadsOrRefuses (Texts r) line old (with_texts k x) o
-of_texts r line old k x (Some v) e read = put (Texts r) line old k (with_texts k x) e (line_texts r line k x read)
-of_texts r line old k x None e refuses = refuse_texts r line refuses
+of_texts : (r : TextRow) (line : List ℕ) (old k : Known) (x : HeaderLists) (b : Bool) → k ≡ old → ReadsOrRefusesTexts r line k.shown.texts x b → ReadsOrRefuses (Texts r) line old (with_texts k x) b
+of_texts r line old k x true e read = put (Texts r) line old k (with_texts k x) e (line_texts r line k x read)
+of_texts r line old k x false e refuses = refuse_texts r line refuses
 
 pub returns-in-Texts : goal.returns-in-Texts
 returns-in-Texts c =
@@ -25,13 +24,13 @@ returns-in-Texts c =
 pub returns-in-StrengthUnit : goal.returns-in-StrengthUnit
 returns-in-StrengthUnit c =
     of_row c.args.row _ c.args.line.now c.args.self.now c.args.self.now _ c.in-StrengthUnit.is
-    (line_unit c.args.self.now c.args.line.now c.is_header_line.result _ c.is_header_line.ensures c.then_some.ensures)
+    (line_unit c.args.self.now c.args.line.now c.is_header_line.result c.is_header_line.ensures)
 
 pub returns-in-Shift : goal.returns-in-Shift
 returns-in-Shift c =
     let same = c.is_header_line-in-Shift in
     of_row c.args.row _ c.args.line.now c.args.self.now c.args.self.now _ c.in-Shift.is
-    (line_shift c.in-Shift.system c.letter_of.result c.args.self.now c.args.line.now same.result _ c.letter_of.ensures same.ensures c.then_some-in-Shift.ensures)
+    (line_shift c.in-Shift.system c.letter_of.result c.args.self.now c.args.line.now same.result c.letter_of.ensures same.ensures)
 
 pub returns-in-Types : goal.returns-in-Types
 returns-in-Types c = elim c.in-Types.is [

@@ -1,5 +1,5 @@
-use Rattle.std.proofs.Common.{◌≡◌, ◌∙◌, ◌+◌, ◌<◌, sym, ap, subst, refl, ℕ, List, Option, Some, None}
-use Rattle.std.specs.Prelude.{⊤, Err}
+use Rattle.std.proofs.Common.{◌≡◌, ◌∙◌, ◌+◌, ◌<◌, sym, ap, subst, refl, ℕ, List}
+use Rattle.std.specs.Prelude.{Err}
 use Rattle.std.proofs.lemmas.Result.{err_from_is_err_and}
 use Rattle.gnss_obs.specs.declared.system.System.{System}
 use Rattle.rinex_file.specs.declared.header.rows.HeaderRow.{HeaderRow}
@@ -8,7 +8,7 @@ use Rattle.rinex_file.specs.declared.header.rows.HeaderRow.TheVariants.{Version,
 use Rattle.gnss_obs.specs.Values.{planned_of}
 use Rattle.rinex_file.specs.Header.{end_line, first_types, row_at}
 use Rattle.rinex_file.specs.Read.Progress.{Known, IsHeadAt, announced}
-use Rattle.rinex_file.specs.Read.HeaderSteps.{IsOnly, known_line, EndsHeader, NoneGoesOn, ReadsHeaderLine, ReadsOrRefuses, RefusesHeaderLine}
+use Rattle.rinex_file.specs.Read.HeaderSteps.{IsOnly, known_line, EndsHeader, NoneGoesOn, ReadsHeaderLine}
 use Rattle.rinex_file.proofs.HeaderEnd.{ends, no_end_line, ok_bad}
 use Rattle.rinex_file.proofs.HeaderRead.{begun_here, line_types, none_taken, rows_there, same_refusal}
 use Rattle.rinex_file.proofs.HeaderSteps.{step_at, steps_from, none_at, none_from, last_at, types_few, types_place}
@@ -58,43 +58,38 @@ returns-in_err-take_types-in-Types-clause-bad c bad =
     (none_taken k s row c.args.line.now (types_few c.place_from-place.result s row c.place_from-place.ensures.same.at.expected is) (at_types k c.place_from-place.result s row c.place_from-place.ensures.same.at is) (sym (ap (known_line k) is) ∙ c.place_from-place.ensures.here)
     (c.in_err-take_types-in-Types.ensures.bad (ap Err (same_refusal _ _ _ (p.1 ∙ ap Err p.2) bad)))))
 
-pub returns-in_err-accept-in-End-clause-bad : goal.returns-in_err-accept-in-End-clause-bad
-returns-in_err-accept-in-End-clause-bad c e =
+pub returns-in-End-2-clause-bad : goal.returns-in-End-2-clause-bad
+returns-in-End-2-clause-bad c e =
     none_from c.args.self.now _ _ c.args.line.now c.place_from-place.ensures.same (none_at c.place_from-place.result c.args.line.now c.args.self.now End c.place_from-place.ensures.same.at c.place_from-place.ensures.here (sym c.row_at.ensures ∙ c.in-End.is)
-    (no_end_line c.args.line.now (refused c.is_header_line.result (c.args.line.now ≡ end_line) c.is_header_line.ensures c.in_err-accept-in-End.ensures.bad)))
+    (no_end_line c.args.line.now (refused c.is_header_line.result (c.args.line.now ≡ end_line) c.is_header_line.ensures c.if-is_header_line.false)))
 
 at_end : (k : Known) (n : ℕ) (line : List ℕ) → n ≡ 25 → IsHeadAt k n → line ≡ end_line → EndsHeader k n line k
 at_end k n line e at same = subst (λ m. EndsHeader k m line k) (sym e) (ends k (subst (IsHeadAt k) e at) line same)
 
-pub returns-in_ok-accept-in-End-clause-taken : goal.returns-in_ok-accept-in-End-clause-taken
-returns-in_ok-accept-in-End-clause-taken c =
+pub returns-in-End-clause-taken : goal.returns-in-End-clause-taken
+returns-in-End-clause-taken c =
     steps_from c.args.self.now c.args.self.now c.args.from c.place_from-place.result c.args.line.now Epoch c.place_from-place.ensures.same
     (at_end c.args.self.now c.place_from-place.result c.args.line.now (last_at c.place_from-place.result c.place_from-place.ensures.same.at.expected (sym c.row_at.ensures ∙ c.in-End.is)) c.place_from-place.ensures.same.at
-    (c.is_header_line.ensures.0 c.in_ok-accept-in-End.ensures.taken))
+    (c.is_header_line.ensures.0 c.if-is_header_line.true))
 
-pub returns-in_ok-accept-in-End-clause-bad : goal.returns-in_ok-accept-in-End-clause-bad
-returns-in_ok-accept-in-End-clause-bad c e = absurd (ok_bad _ _ _ refl e)
+pub returns-in-End-clause-bad : goal.returns-in-End-clause-bad
+returns-in-End-clause-bad c e = absurd (ok_bad _ _ _ refl e)
 
 pub returns-in_ok-take_types-in-Types-clause-bad : goal.returns-in_ok-take_types-in-Types-clause-bad
 returns-in_ok-take_types-in-Types-clause-bad c e = absurd (ok_bad _ _ _ refl e)
 
--- what is known of a line that was read, or of one that no header has
-was_read : (r : HeaderRow) (line : List ℕ) (old new : Known) (o : Option ⊤) (x : ⊤) → o ≡ Some x → ReadsOrRefuses r line old new o → ReadsHeaderLine r line old new
-was_read r line old new o x e read = subst (ReadsOrRefuses r line old new) e read
+pub returns-then-not-read_header_line : goal.returns-then-not-read_header_line
+returns-then-not-read_header_line c = record {
+  taken = tt;
+  bad = λ e. none_from c.args.self.now _ _ c.args.line.now c.place_from-place.ensures.same (none_at c.place_from-place.result c.args.line.now c.args.self.now c.row_at.result c.place_from-place.ensures.same.at c.place_from-place.ensures.here (sym c.row_at.ensures)
+      (rw c.if-not-read_header_line.true at c.read_header_line.ensures));
+}
 
-was_refused : (r : HeaderRow) (line : List ℕ) (old new : Known) (o : Option ⊤) → o ≡ None → ReadsOrRefuses r line old new o → RefusesHeaderLine r line
-was_refused r line old new o e read = subst (ReadsOrRefuses r line old new) e read
-
-pub returns-in_err-ok_or-in_default-clause-bad : goal.returns-in_err-ok_or-in_default-clause-bad
-returns-in_err-ok_or-in_default-clause-bad c e =
-    none_from c.args.self.now _ _ c.args.line.now c.place_from-place.ensures.same (none_at c.place_from-place.result c.args.line.now c.args.self.now c.row_at.result c.place_from-place.ensures.same.at c.place_from-place.ensures.here (sym c.row_at.ensures)
-    (was_refused c.row_at.result c.args.line.now c.args.self.now c.read_header_line.new.self _ c.in_err-ok_or-in_default.ensures.ok_part c.read_header_line.ensures))
-
-pub returns-in_ok-ok_or-in_default : goal.returns-in_ok-ok_or-in_default
-returns-in_ok-ok_or-in_default c = record {
+pub returns-else-not-read_header_line : goal.returns-else-not-read_header_line
+returns-else-not-read_header_line c = record {
   taken = steps_from c.args.self.now c.read_header_line.new.self c.args.from c.place_from-place.result c.args.line.now (Header (c.place_from-place.result + 1)) c.place_from-place.ensures.same
       (step_at c.place_from-place.result c.args.line.now c.args.self.now c.read_header_line.new.self c.row_at.result c.place_from-place.ensures.same.at c.place_from-place.ensures.here (sym c.row_at.ensures) c.in_default.not-End
-      (was_read c.row_at.result c.args.line.now c.args.self.now c.read_header_line.new.self _ _ c.in_ok-ok_or-in_default.ensures.ok_part c.read_header_line.ensures) c.are_valid-in_default.ensures);
+      (rw c.if-not-read_header_line.false at c.read_header_line.ensures) c.are_valid-in_default.ensures);
   bad = λ e. absurd (ok_bad _ _ _ refl e);
 }
 

@@ -56,15 +56,14 @@ returns-in-Epoch-clause-takes c = λ h history.
       shows = event_shows s c.args.line.now c.in-Epoch.is shown;
     }
 
-pub returns-in_err-position-in-EventPosition-clause-takes : goal.returns-in_err-position-in-EventPosition-clause-takes
-returns-in_err-position-in-EventPosition-clause-takes c = stopped c.args.self.now _ c.args.line.now _ c.from_residual-in_err-position-in-EventPosition.ensures.1 (λ e same bad h history.
-    no_position (progress_at c.args.self.now h) c.args.line.now c.in-EventPosition.is (rw c.in_err-position-in-EventPosition.ensures.ok_part at c.read_position.ensures))
+pub returns-in-None-clause-takes : goal.returns-in-None-clause-takes
+returns-in-None-clause-takes c = λ h history. no_position (progress_at c.args.self.now h) c.args.line.now c.in-EventPosition.is c.in-None.ensures
 
-pub returns-in_ok-position-in-EventPosition-clause-takes : goal.returns-in_ok-position-in-EventPosition-clause-takes
-returns-in_ok-position-in-EventPosition-clause-takes c = λ h history.
+pub returns-in-Some-clause-takes : goal.returns-in-Some-clause-takes
+returns-in-Some-clause-takes c = λ h history.
     let s = progress_at c.args.self.now h in
-    let p = c.in_ok-position-in-EventPosition.position in
-    let (is, shown, only) = rw c.in_ok-position-in-EventPosition.ensures.ok_part at c.read_position.ensures in
+    let p = c.in-Some.position in
+    let (is, shown, only) = c.in-Some.ensures in
     record {
       history = record { sound = sound_position s p c.in-EventPosition.is history.sound is; counted = history.counted };
       follows = position_taken s p c.args.line.now c.in-EventPosition.is only;

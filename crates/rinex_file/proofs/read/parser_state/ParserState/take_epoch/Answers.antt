@@ -3,7 +3,7 @@ use Rattle.rinex_file.specs.FileValues.{IsTime}
 use Rattle.rinex_file.specs.ParserState.{progress_at}
 use Rattle.rinex_file.specs.Read.Progress.{Progress}
 use Rattle.rinex_file.specs.Read.Sound.{MayBegin}
-use Rattle.rinex_file.proofs.BodySteps.{Begins, epoch_taken, epoch_shows, few_satellites, no_epoch, sound_begun, sound_epoch, stopped}
+use Rattle.rinex_file.proofs.BodySteps.{Begins, epoch_taken, epoch_shows, few_satellites, no_epoch, sound_begun, sound_epoch}
 use Rattle.rinex_file.proofs.Judged.{refused}
 use Rattle.rinex_file.proofs.read.parser_state.ParserState.take_epoch.Goals as goal
 
@@ -14,27 +14,27 @@ may_begin-requires c = record { between = λ h history. (sound_epoch (progress_a
 fits : (s : Progress) (w : ℕ × ℕ) → Begins s w → IsTime w.0 × w.1 ≤ 999
 fits s w (time, may) = (time, few_satellites _ _ w.1 may.room)
 
-pub returns-in_err-begun-clause-takes : goal.returns-in_err-begun-clause-takes
-returns-in_err-begun-clause-takes c = stopped c.args.self.now _ c.args.line.now _ c.from_residual.ensures.1 (λ e same bad h history.
+pub returns-in_default-2-clause-takes : goal.returns-in_default-2-clause-takes
+returns-in_default-2-clause-takes c = λ h history.
     let s = progress_at c.args.self.now h in
     no_epoch s c.args.change c.args.line.now c.requires.expected (λ none both. c.requires.event none (subst (λ (n : ℕ). 0 < n) (sym history.counted.epochs) both.0, both.1))
-    (λ w is. (rw c.in_err-begun.ensures.ok_part at c.read_epoch_line.ensures) w (fits s w is)))
+    (λ w is. (rw c.in_default.is at c.read_epoch_line.ensures) w (fits s w is))
 
-pub returns-in_err-accept-clause-takes : goal.returns-in_err-accept-clause-takes
-returns-in_err-accept-clause-takes c = stopped c.args.self.now _ c.args.line.now _ c.from_residual-in_err-accept.ensures.1 (λ e same bad h history.
+pub returns-in_default-clause-takes : goal.returns-in_default-clause-takes
+returns-in_default-clause-takes c = λ h history.
     let s = progress_at c.args.self.now h in
     no_epoch s c.args.change c.args.line.now c.requires.expected (λ none both. c.requires.event none (subst (λ (n : ℕ). 0 < n) (sym history.counted.epochs) both.0, both.1))
-    (λ w is line. refused c.may_begin.result _ (c.may_begin.ensures h history) c.in_err-accept.ensures.bad
-    (subst (λ (p : ℕ × ℕ). MayBegin s p.0 p.1) ((rw c.in_ok-begun.ensures.ok_part at c.read_epoch_line.ensures).2 w (fits s w is) line) is.1)))
+    (λ w is line. refused c.may_begin.result _ (c.may_begin.ensures h history) c.if-may_begin.false
+    (subst (λ (p : ℕ × ℕ). MayBegin s p.0 p.1) (c.in-Some.ensures.2 w (fits s w is) line) is.1))
 
-pub returns-clause-takes : goal.returns-clause-takes
-returns-clause-takes c = λ h history.
+pub returns-in-Some-clause-takes : goal.returns-in-Some-clause-takes
+returns-in-Some-clause-takes c = λ h history.
     let s = progress_at c.args.self.now h in
     let (read, rows, change, same) = sound_epoch s c.args.change c.requires.expected history.sound in
-    let (is, shown, only) = rw c.in_ok-begun.ensures.ok_part at c.read_epoch_line.ensures in
-    let time = c.in_ok-begun.begun.0 in
-    let n = c.in_ok-begun.begun.1 in
-    let may = (c.may_begin.ensures h history).0 c.in_ok-accept.ensures.taken in
+    let (is, shown, only) = c.in-Some.ensures in
+    let time = c.in-Some.begun.0 in
+    let n = c.in-Some.begun.1 in
+    let may = (c.may_begin.ensures h history).0 c.if-may_begin.true in
     record {
       history = record { sound = sound_begun s c.args.change time n read rows may is.0 change same; counted = history.counted };
       follows = epoch_taken s c.args.change time n c.args.line.now rows shown (λ w begins. only w (fits s w begins)) c.requires.expected

@@ -1,6 +1,5 @@
 use Rattle.std.proofs.Common.{◌≡◌, ◌∙◌, sym, ap, subst, refl, ℕ, List, Option, Some, None}
 use Rattle.std.specs.Prelude.{unwrap_or}
-use Rattle.std.proofs.lemmas.Bool.{not-false, not-true}
 use Rattle.gnss_obs.specs.declared.cell.StationValues.{StationValues}
 use Rattle.rinex_file.specs.FileValues.{changed_by}
 use Rattle.rinex_file.specs.declared.read.parser_state.ParserState.{ParserState}
@@ -9,7 +8,6 @@ use Rattle.rinex_file.specs.declared.read.expected.Expected.{Expected}
 use Rattle.rinex_file.specs.declared.read.expected.Expected.TheVariants.{EventEpoch}
 use Rattle.rinex_file.specs.ParserState.{History, IsNext, progress_at}
 use Rattle.rinex_file.proofs.Judged.{refused}
-use Rattle.rinex_file.proofs.BodySteps.{stopped}
 use Rattle.rinex_file.proofs.EventSteps.{height_taken, height_shows, no_height, same_height, sound_height}
 use Rattle.rinex_file.proofs.read.parser_state.ParserState.take_height.Goals as goal
 
@@ -27,27 +25,26 @@ then k expected = record k { expected = expected }
 next_of : (k s : ParserState) (expected : Expected) (line : List ℕ) (h : History) → k ≡ s → IsNext s (then s expected) NoRow line h → IsNext s (then k expected) NoRow line h
 next_of k s expected line h same is = subst (λ (t : ParserState). IsNext s (then t expected) NoRow line h) (sym same) is
 
-pub returns-in_err-height-clause-takes : goal.returns-in_err-height-clause-takes
-returns-in_err-height-clause-takes c = stopped c.args.self.now _ c.args.line.now _ c.from_residual.ensures.1 (λ e same bad h history.
-    no_height (progress_at c.args.self.now h) c.args.position c.args.line.now c.requires.expected (rw c.in_err-height.ensures.ok_part at c.read_delta.ensures))
+pub returns-in_default-clause-takes : goal.returns-in_default-clause-takes
+returns-in_default-clause-takes c = λ h history.
+    no_height (progress_at c.args.self.now h) c.args.position c.args.line.now c.requires.expected c.in_default.ensures
 
-pub returns-in_err-accept-clause-takes : goal.returns-in_err-accept-clause-takes
-returns-in_err-accept-clause-takes c = stopped c.args.self.now _ c.args.line.now _ c.from_residual-in_err-accept.ensures.1 (λ e same bad h history.
-    let height = c.in_ok-height.height in
-    same_height (progress_at c.args.self.now h) c.args.position c.args.line.now c.requires.expected height (rw c.in_ok-height.ensures.ok_part at c.read_delta.ensures).2
-    (c.is_same.ensures.exact.0 (not-false _ c.in_err-accept.ensures.bad) ∙ current _ c.args.self.now c.unwrap_or.result c.self.view_is c.unwrap_or.ensures ∙ history.counted.values c.args.self.now.head.shown.values))
+pub returns-then-is_same-clause-takes : goal.returns-then-is_same-clause-takes
+returns-then-is_same-clause-takes c = λ h history.
+    same_height (progress_at c.args.self.now h) c.args.position c.args.line.now c.requires.expected c.in-Some.height c.in-Some.ensures.2
+    (c.is_same.ensures.exact.0 c.if-is_same.true ∙ current _ c.args.self.now c.unwrap_or.result c.self.view_is c.unwrap_or.ensures ∙ history.counted.values c.args.self.now.head.shown.values)
 
 pub returns-clause-takes : goal.returns-clause-takes
 returns-clause-takes c = λ h history.
     let s = progress_at c.args.self.now h in
     let p = c.args.position in
-    let height = c.in_ok-height.height in
-    let (small, shown, only) = rw c.in_ok-height.ensures.ok_part at c.read_delta.ensures in
+    let height = c.in-Some.height in
+    let (small, shown, only) = c.in-Some.ensures in
     let now = current _ c.args.self.now c.unwrap_or.result c.self.view_is c.unwrap_or.ensures ∙ history.counted.values c.args.self.now.head.shown.values in
     next_of _ c.args.self.now (EventEpoch (record p { height = height })) c.args.line.now h c.self.view_is
     (record {
       history = record {
-        sound = sound_height s p height c.requires.expected history.sound small (λ other. refused c.is_same.result _ c.is_same.ensures.exact (not-true _ c.in_ok-accept.ensures.taken) (other ∙ sym now));
+        sound = sound_height s p height c.requires.expected history.sound small (λ other. refused c.is_same.result _ c.is_same.ensures.exact c.if-is_same.false (other ∙ sym now));
         counted = history.counted;
       };
       follows = height_taken s p c.args.line.now c.requires.expected height only;

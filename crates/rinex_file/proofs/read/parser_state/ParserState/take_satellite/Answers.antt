@@ -1,9 +1,8 @@
 use Rattle.std.proofs.Common.{arith, ◌≡◌, ◌∙◌, ◌+◌, ◌-◌, ◌<◌, ◌∷◌, ◌++◌, [], ℕ, suc, List, sym, ap, subst, refl, length, length-append, Bool, true, false, Option, Some, None}
 use mir.Val.{bool_byte}
 use Rattle.std.specs.Option.{option_or, is_some}
-use Rattle.std.specs.Prelude.{map, nat_lt, ◌↔◌}
+use Rattle.std.specs.Prelude.{map, ◌≤◌, ◌↔◌}
 use Rattle.std.specs.List.Sorted.{IsStrictlyIncreasing}
-use Rattle.std.proofs.lemmas.Bool.{lt-ltb, ltb-true}
 use Rattle.std.proofs.lemmas.List.{map-append}
 use Rattle.std.proofs.lemmas.List.Sums.{sum_by-append}
 use Rattle.rinex_file.specs.declared.read.expected.Expected.TheVariants.{Satellite}
@@ -14,11 +13,12 @@ use Rattle.rinex_file.specs.Lines.{satellite_line}
 use Rattle.rinex_file.specs.Read.Progress.{Progress}
 use Rattle.rinex_file.specs.Read.Fields.{ReadsExactly, some_if}
 use Rattle.rinex_file.specs.ParserState.{EndsIn, IsLast, changes_of, stamped_at, events_in, progress_at, rows_in}
-use Rattle.rinex_file.proofs.BodySteps.{rise_after, rise_last, values_more, row_taken, row_shows, last_shows, no_row, bad_row, last_taken, sound_open, few_at, sound_row, sound_closed, stopped}
+use Rattle.rinex_file.proofs.BodySteps.{rise_after, rise_last, values_more, row_taken, row_shows, last_shows, no_row, bad_row, last_taken, sound_open, few_at, sound_row, sound_closed}
 use Rattle.rinex_file.proofs.read.parser_state.ParserState.take_satellite.Goals as goal
+use Rattle.rinex_file.proofs.read.parser_state.ParserState.take_satellite.Goals.{then-not-is_read-via-then-not-is_read, then-not-is_read-via-else-not-is_read+then-rank-self}
 
-pub read_seen-requires-clause-few : goal.read_seen-requires-clause-few
-read_seen-requires-clause-few c =
+pub read_seen-is_read-requires-clause-few : goal.read_seen-is_read-requires-clause-few
+read_seen-is_read-requires-clause-few c =
     let (h, history) = c.requires.history in
     let (gps, galileo) = few_at (progress_at c.args.self.now h) c.args.left c.requires.expected history.sound in
     let g = c.planned-gps.ensures in
@@ -39,13 +39,6 @@ Shows gps galileo line b seen = ReadsExactly (IsSatelliteRow gps galileo) satell
 shows : (g e gps galileo : ℕ) (line : List ℕ) (r b : Bool) (seen : SatelliteRow) → g ≡ gps → e ≡ galileo → r ≡ b → Shows g e line r seen → Shows gps galileo line b seen
 shows g e gps galileo line r b seen x y z h = grind arith
 
-pub returns-in_err-accept-clause-takes : goal.returns-in_err-accept-clause-takes
-returns-in_err-accept-clause-takes c = stopped c.args.self.now _ c.args.line.now _ c.from_residual.ensures.1 (λ e same bad h history.
-    let s = progress_at c.args.self.now h in
-    let some = (sound_open s c.args.left c.requires.expected history.sound).2 in
-    no_row s (c.args.left - 1) c.args.line.now (one_expected c.args.left s c.requires.expected some)
-    (shows c.planned-gps.result c.planned-galileo.result _ _ c.args.line.now c.read_seen.result false c.read_seen.new.seen c.planned-gps.ensures c.planned-galileo.ensures c.in_err-accept.ensures.bad c.read_seen.ensures))
-
 -- the last number of a list with one more item
 ends : {X : Type 0} (f : X → ℕ) (xs : List X) (x : X) (n : ℕ) → n ≡ f x → EndsIn (map f (xs ++ x ∷ [])) (Some n)
 ends f xs x n same = (map f xs, map-append f xs (x ∷ []) ∙ ap (λ m. map f xs ++ m ∷ []) (sym same))
@@ -65,16 +58,24 @@ last_rank rows seen n same rise m some =
     let all = subst IsStrictlyIncreasing (sym (map-append rank_of rows (seen ∷ []))) rise in
     (rise_after _ front n m ends_in all, rise_last _ front n m ends_in)
 
-not_above : (last rank : ℕ) → nat_lt last rank ≡ false → last < rank → ⊥
-not_above last rank bad less = let above : nat_lt last rank ≡ true = lt-ltb last rank less in cc
+not_above : (last rank : ℕ) → rank ≤ last → last < rank → ⊥
+not_above last rank least less = omega (arith, least, less)
 
-pub returns-in_err-accept-2-clause-takes : goal.returns-in_err-accept-2-clause-takes
-returns-in_err-accept-2-clause-takes c = stopped c.args.self.now _ c.args.line.now _ c.from_residual-in_err-accept-2.ensures.1 (λ e same bad h history.
+pub returns-then-not-is_read-clause-takes : goal.returns-then-not-is_read-clause-takes
+returns-then-not-is_read-clause-takes c = λ h history.
     let s = progress_at c.args.self.now h in
+    let seen = c.read_seen-is_read.new.seen in
     let (read, begun, some, room) = sound_open s c.args.left c.requires.expected history.sound in
-    let shown = shows _ _ _ _ c.args.line.now _ true c.read_seen.new.seen c.planned-gps.ensures c.planned-galileo.ensures c.in_ok-accept.ensures.taken c.read_seen.ensures in
-    bad_row s (c.args.left - 1) c.args.line.now (one_expected c.args.left s c.requires.expected some) c.read_seen.new.seen shown.2
-    (λ rise. not_above _ _ c.in_err-accept-2.ensures.bad ((increasing _ _ h.rows c.read_seen.new.seen _ _ history.counted.rank shown.0 c.rank_of-rank.ensures).1 rise)))
+    let one = one_expected c.args.left s c.requires.expected some in
+    elim c.then-not-is_read.branch [
+      | then-not-is_read-via-then-not-is_read w ↦
+          no_row s (c.args.left - 1) c.args.line.now one
+          (shows _ _ _ _ c.args.line.now _ false seen c.planned-gps.ensures c.planned-galileo.ensures w.if-not-is_read.true c.read_seen-is_read.ensures)
+      | then-not-is_read-via-else-not-is_read+then-rank-self w ↦
+          let shown = shows _ _ _ _ c.args.line.now _ true seen c.planned-gps.ensures c.planned-galileo.ensures w.if-not-is_read.false c.read_seen-is_read.ensures in
+          bad_row s (c.args.left - 1) c.args.line.now one seen shown.2
+          (λ rise. not_above _ _ w.if-rank-self.true ((increasing _ _ h.rows seen _ _ history.counted.rank shown.0 c.rank_of-rank.ensures).1 rise))
+    ]
 
 row_counted : (es : List Stamped) (rows : List SatelliteRow) (seen : SatelliteRow) (n : ℕ) → n ≡ rows_in es + length rows → n + 1 ≡ rows_in es + length (rows ++ seen ∷ [])
 row_counted es rows seen n e = let size : length (rows ++ seen ∷ []) ≡ length rows + 1 = length-append rows (seen ∷ []) in omega (arith, e, size)
@@ -91,10 +92,10 @@ event_counted es e n k one all = grind (arith, sum_by-append)
 pub returns-then-left-gt1-clause-takes : goal.returns-then-left-gt1-clause-takes
 returns-then-left-gt1-clause-takes c = λ h history.
     let s = progress_at c.args.self.now h in
-    let seen = c.read_seen.new.seen in
+    let seen = c.read_seen-is_read.new.seen in
     let (read, begun, some, room) = sound_open s c.args.left c.requires.expected history.sound in
-    let shown = shows _ _ _ _ c.args.line.now _ true seen c.planned-gps.ensures c.planned-galileo.ensures c.in_ok-accept.ensures.taken c.read_seen.ensures in
-    let rise = (increasing _ _ h.rows seen _ _ history.counted.rank shown.0 c.rank_of-rank.ensures).0 (ltb-true _ _ c.in_ok-accept-2.ensures.taken) in
+    let shown = shows _ _ _ _ c.args.line.now _ true seen c.planned-gps.ensures c.planned-galileo.ensures c.if-not-is_read.false c.read_seen-is_read.ensures in
+    let rise = (increasing _ _ h.rows seen _ _ history.counted.rank shown.0 c.rank_of-rank.ensures).0 c.if-rank-self.false in
     let more : 0 < c.args.left - 1 = let n = c.if-left-gt1.true in omega (arith, n) in
     record {
       history = record {
@@ -126,10 +127,10 @@ changed (Some v) b is = ap bool_byte is
 pub returns-clause-takes : goal.returns-clause-takes
 returns-clause-takes c = λ h history.
     let s = progress_at c.args.self.now h in
-    let seen = c.read_seen.new.seen in
+    let seen = c.read_seen-is_read.new.seen in
     let (read, begun, some, room) = sound_open s c.args.left c.requires.expected history.sound in
-    let shown = shows _ _ _ _ c.args.line.now _ true seen c.planned-gps.ensures c.planned-galileo.ensures c.in_ok-accept.ensures.taken c.read_seen.ensures in
-    let rise = (increasing _ _ h.rows seen _ _ history.counted.rank shown.0 c.rank_of-rank.ensures).0 (ltb-true _ _ c.in_ok-accept-2.ensures.taken) in
+    let shown = shows _ _ _ _ c.args.line.now _ true seen c.planned-gps.ensures c.planned-galileo.ensures c.if-not-is_read.false c.read_seen-is_read.ensures in
+    let rise = (increasing _ _ h.rows seen _ _ history.counted.rank shown.0 c.rank_of-rank.ensures).0 c.if-rank-self.false in
     let last : c.args.left ≡ suc 0 = let n = c.if-left-gt1.false in omega (arith, n, some) in
     let epoch = stamped_at c.args.self.now.change c.args.self.now.time (h.rows ++ seen ∷ []) in
     record {

@@ -1,9 +1,9 @@
-use Rattle.std.proofs.Common.{◌≡◌, ◌∙◌, sym, ap, ℕ, true, None, Some}
+use Rattle.std.proofs.Common.{◌≡◌, ◌∙◌, sym, ap, ℕ, None, Some}
 use Rattle.std.specs.Prelude.{Err}
 use Rattle.std.proofs.lemmas.Result.{err_from_is_err_and}
 use Rattle.gnss_obs.specs.SignalLists.{indices}
 use Rattle.rinex_file.proofs.HeaderRead.{row_taken, same_refusal}
-use Rattle.rinex_file.proofs.Judged.{at_some, on_bad, on_ok, refused}
+use Rattle.rinex_file.proofs.Judged.{at_some, refused}
 use Rattle.rinex_file.proofs.TypeRows.{shown_line}
 use Rattle.rinex_file.proofs.read.types.TypesSoFar.take.Goals as goal
 
@@ -13,29 +13,28 @@ not_some n e = cc
 same_some : (m n : ℕ) → Some m ≡ Some n → n ≡ m
 same_some m n e = cc
 
-pub returns-in_err-count-clause-bad : goal.returns-in_err-count-clause-bad
-returns-in_err-count-clause-bad c = λ _ all are later begun is. not_some _ (sym c.in_err-count.ensures.ok_part ∙ c.read_count.ensures.count all are later is)
+pub returns-in_default-clause-bad : goal.returns-in_default-clause-bad
+returns-in_default-clause-bad c = λ _ all are later begun is. not_some _ (sym c.in_default.is ∙ c.read_count.ensures.count all are later is)
 
 pub returns-in_err-take_signals-clause-bad : goal.returns-in_err-take_signals-clause-bad
 returns-in_err-take_signals-clause-bad c = λ refused all are later begun is.
-    let p = err_from_is_err_and c.from_residual-in_err-take_signals.result c.from_residual-in_err-take_signals.ensures.1 in
+    let p = err_from_is_err_and c.from_residual.result c.from_residual.ensures.1 in
     c.in_err-take_signals.ensures.bad (ap Err (same_refusal _ _ _ (p.1 ∙ ap Err p.2) refused)) all are
-    (same_some _ _ (sym c.in_ok-count.ensures.ok_part ∙ c.read_count.ensures.count all are later is), begun) is
+    (same_some _ _ (sym c.in-Some.is ∙ c.read_count.ensures.count all are later is), begun) is
 
-pub returns-clause-bad : goal.returns-clause-bad
-returns-clause-bad c = λ bad all are later begun is.
-    let size = same_some _ _ (sym c.in_ok-count.ensures.ok_part ∙ c.read_count.ensures.count all are later is) in
-    let again = c.as_slice-2.ensures.value ∙ c.types_with-again.ensures ∙ shown_line c.args.system all _ c.args.row c.in_ok-count.count size (ap indices c.as_slice.ensures ∙ c.in_ok-take_signals.ensures.taken all are (size, begun) is) in
-    refused c.is_same.result _ c.is_same.ensures (on_bad c.accept.result _ _ c.accept.ensures.bad bad) (is ∙ sym again)
+pub returns-else-is_same-clause-bad : goal.returns-else-is_same-clause-bad
+returns-else-is_same-clause-bad c = λ bad all are later begun is.
+    let size = same_some _ _ (sym c.in-Some.is ∙ c.read_count.ensures.count all are later is) in
+    let again = c.as_slice-2.ensures.value ∙ c.types_with-again.ensures ∙ shown_line c.args.system all _ c.args.row c.in-Some.count size (ap indices c.as_slice.ensures ∙ c.in_ok-take_signals.ensures.taken all are (size, begun) is) in
+    refused c.is_same.result _ c.is_same.ensures c.if-is_same.false (is ∙ sym again)
 
-pub returns-clause-taken : goal.returns-clause-taken
-returns-clause-taken c =
-    let count = c.in_ok-count.count in
-    let read = c.in_ok-count.ensures.ok_part in
-    on_ok c.accept.result (c.is_same.result ≡ true) _ c.accept.ensures.taken (λ held.
-    row_taken c.args.system c.in_ok-count.count c.args.self.now.count c.args.row c.args.line.now c.args.self.now.signals c.take_signals.new.signals
+pub returns-then-is_same-clause-taken : goal.returns-then-is_same-clause-taken
+returns-then-is_same-clause-taken c =
+    let count = c.in-Some.count in
+    let read = c.in-Some.is in
+    row_taken c.args.system count c.args.self.now.count c.args.row c.args.line.now c.args.self.now.signals c.take_signals.new.signals
     (at_some _ count _ read c.read_count.ensures.few) (at_some _ count _ read c.read_count.ensures.rows) (at_some _ count _ read c.read_count.ensures.later) c.in_ok-take_signals.ensures.grows c.requires.begun c.in_ok-take_signals.ensures.size
     (λ all are begun. (
       λ is. c.in_ok-take_signals.ensures.taken all are begun is,
-      λ is. c.is_same.ensures.0 held ∙ c.as_slice-2.ensures.value ∙ c.types_with-again.ensures ∙ shown_line c.args.system all _ c.args.row c.in_ok-count.count begun.0 (ap indices c.as_slice.ensures ∙ is),
-    )))
+      λ is. c.is_same.ensures.0 c.if-is_same.true ∙ c.as_slice-2.ensures.value ∙ c.types_with-again.ensures ∙ shown_line c.args.system all _ c.args.row count begun.0 (ap indices c.as_slice.ensures ∙ is),
+    ))
