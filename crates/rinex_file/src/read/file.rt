@@ -5,7 +5,7 @@ ghost use Rattle.rinex_file.specs.Exact.{ExplainsFault, IfTextOfFile, IsReadOr, 
 ghost use Rattle.rinex_file.specs.Blocks.{LeavesRest};
 ghost use Rattle.rinex_file.specs.Counting.{IsTextWith, IsCountedOr};
 ghost use Rattle.rinex_file.specs.FileValues.{IsFileValue};
-ghost use Rattle.rinex_file.specs.ParserState.{FollowsHistory, nothing, with_epoch, with_line, with_satellite};
+ghost use Rattle.rinex_file.specs.ParserState.{FollowsHistory, nothing, with_line};
 ghost use Rattle.rinex_file.specs.Read.Steps.{file_at, HasRead, MayBeCounted};
 ghost use Rattle.rinex_file.specs.Read.Keeping.{history_of, HasReadWhole};
 
@@ -14,7 +14,7 @@ use crate::read::fault::ReadFault;
 use crate::read::head_so_far::HeadSoFar;
 use crate::read::parser_state::ParserState;
 use crate::read::reading::Reading;
-use crate::values::{KeptEpoch, KeptRow, KeptSatellite, ObsFile};
+use crate::values::{KeptEpoch, KeptRow, ObsFile};
 use rtcm_bits::Counted;
 use std::alloc::{AllocError, Global};
 use std::io::Read;
@@ -59,40 +59,24 @@ impl FileBuilder {
     ) -> Result<(), AllocError>
         ensures { OnOk result (history_of self.new ≡ with_line added parser_state.now (history_of self.old)) }
     {
-        match added {
-            Added::NoRow => Ok(()),
-            Added::OneRow => self.keep_row(&parser_state.seen),
-            Added::LastRow => {
-                self.keep_row(&parser_state.seen)?;
-                self.close(parser_state)
-            }
+        if let Added::NoRow = added {
+            return Ok(());
         }
-    }
-
-    /// Stores a satellite of the epoch that was begun.
-    fn keep_row(&mut self, seen: &KeptSatellite) -> Result<(), AllocError>
-        ensures { OnOk result (history_of self.new ≡ with_satellite (history_of self.old) seen.now) }
-    {
+        let seen = &parser_state.seen;
         let signal_values = Vec::from_slice(self.alloc, seen.signal_values.as_slice())?;
         self.rows.push(KeptRow {
             system: seen.system,
             satellite: seen.satellite,
             signal_values,
         })?;
-        Ok(())
-    }
-
-    /// Stores the epoch that was begun.
-    fn close(&mut self, parser_state: &ParserState) -> Result<(), AllocError>
-        ensures { OnOk result
-            (history_of self.new ≡ with_epoch (history_of self.old) parser_state.now.change parser_state.now.time) }
-    {
-        let rows = mem::replace(&mut self.rows, Vec::new(self.alloc));
-        self.epochs.push(KeptEpoch {
-            change: parser_state.change,
-            time: parser_state.time,
-            rows,
-        })?;
+        if let Added::LastRow = added {
+            let rows = mem::replace(&mut self.rows, Vec::new(self.alloc));
+            self.epochs.push(KeptEpoch {
+                change: parser_state.change,
+                time: parser_state.time,
+                rows,
+            })?;
+        }
         Ok(())
     }
 

@@ -81,11 +81,15 @@ fn is_signal_values(entry: &SignalValues) -> bool
 fn is_row(seen: &KeptSatellite, most: u8, signals: usize) -> bool
     ensures { IsTrue result ↔ IsRow most signals seen.now.row }
 {
-    let values = seen.signal_values.as_slice();
-    let each = values.iter().all(is_signal_values);
-    let some = values.iter().any(SignalValues::has_value);
-    let satellite = 1 <= seen.satellite && seen.satellite <= most;
-    satellite && values.len() == signals && each && some
+    let entries = seen.signal_values.as_slice();
+    let mut some = false;
+    for entry in entries {
+        if !is_signal_values(entry) {
+            return false;
+        }
+        some |= entry.has_value();
+    }
+    1 <= seen.satellite && seen.satellite <= most && entries.len() == signals && some
 }
 
 /// Writes the line without its line feed, padded with blanks, to the buffer.
