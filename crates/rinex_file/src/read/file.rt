@@ -15,6 +15,7 @@ use crate::read::head_so_far::HeadSoFar;
 use crate::read::parser_state::ParserState;
 use crate::read::reading::Reading;
 use crate::values::{KeptEpoch, KeptRow, ObsFile};
+use gnss_obs::Plan;
 use rtcm_bits::Counted;
 use std::alloc::{AllocError, Global};
 use std::io::Read;
@@ -94,7 +95,8 @@ impl FileBuilder {
             rows,
         } = self;
         drop(rows);
-        let Some(plan) = head.plan(alloc) else {
+        let gps = head.gps.signals.as_slice();
+        let Ok(plan) = Plan::from_signals(alloc, gps, head.galileo.signals.as_slice()) else {
             drop(epochs);
             drop(head);
             return None;

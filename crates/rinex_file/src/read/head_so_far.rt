@@ -1,5 +1,5 @@
 //! What was read of a header.
-ghost use Rattle.std.specs.Prelude.{◌≡◌, ◌<◌, ◌≤◌, ◌+◌, true, length, Err, IfOk, IfSome, OnOk};
+ghost use Rattle.std.specs.Prelude.{◌≡◌, ◌<◌, ◌≤◌, ◌+◌, true, length, Err, IfOk, OnOk};
 ghost use Rattle.gnss_obs.specs.Signals.{table};
 ghost use Rattle.gnss_obs.specs.SignalLists.{indices};
 ghost use Rattle.gnss_obs.specs.Values.{planned_of};
@@ -19,7 +19,7 @@ use crate::read::header_lines::{
 };
 use crate::read::types::TypesSoFar;
 use crate::write::satellite::letter_of;
-use gnss_obs::{GpsTime, Plan, StationValues, System};
+use gnss_obs::{GpsTime, StationValues, System};
 use std::alloc::Global;
 use std::marker::Model;
 
@@ -94,14 +94,6 @@ impl HeadSoFar {
         ensures { result ≡ length (planned_of system self.now.shown.plan) }
     {
         self.of(system).signals.len()
-    }
-
-    /// Returns the plan with the signals that were read, or None if memory runs out or it has none.
-    pub(crate) fn plan(&self, alloc: Global) -> Option<Plan>
-        ensures { IfSome result (λ plan. plan ≡ self.now.shown.plan) }
-    {
-        let gps = self.gps.signals.as_slice();
-        Plan::from_signals(alloc, gps, self.galileo.signals.as_slice()).ok()
     }
 
     /// Shows that each part that was read is one of a header.
