@@ -1,5 +1,5 @@
 //! The lines of a header, read back.
-ghost use Rattle.std.specs.Prelude.{◌≡◌, ◌↔◌, ◌+◌, ◌≤◌, ◌<◌, ◌^◌, ◌||◌, IsTrue, pos, Bool, true, IfSome, IfNone};
+ghost use Rattle.std.specs.Prelude.{◌≡◌, ◌↔◌, ◌+◌, ◌≤◌, ◌<◌, ◌^◌, ◌||◌, IsTrue, pos, Bool, true};
 ghost use Rattle.std.specs.Prelude.{length, take, drop, codes};
 ghost use Rattle.rinex_file.specs.FileValues.{IsCoordinate};
 ghost use Rattle.rinex_file.specs.Header.{header_line, lengths, position_line};
