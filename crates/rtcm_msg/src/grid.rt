@@ -199,14 +199,6 @@ pub(crate) trait ReadGrid: Grid {
         requires after { 64 ≤ place }
         ensures { result ≡ Self.satellite_at (row_at Self.satellite_widths count (bits_of bytes.now) place i 0) };
 
-    /// Returns the last bits of the fields of `count` cells whose data begin at bit `place`.
-    fn last_bits(count: usize, place: usize) -> LastBits
-        requires few { count ≤ most_pairs }
-        requires small { place ≤ 8 * longest_message }
-        ensures count { result.count ≡ count }
-        ensures place { result.place ≡ place }
-        ensures last { AreLast Self.cell_widths result };
-
     /// Reads cell `i`.
     fn cell_in(bytes: &[u8], cells: &LastBits, i: usize) -> Self::Cell
         requires there { i < cells.now.count }

@@ -237,19 +237,6 @@ impl ReadGrid for Grid4 {
         }
     }
 
-    fn last_bits(count: usize, place: usize) -> LastBits {
-        LastBits {
-            count,
-            place,
-            range: place + 14,
-            phase: place + count * 15 + 21,
-            lock: place + count * (15 + 22) + 3,
-            half_cycle: place + count * (15 + 22 + 4),
-            strength: place + count * (15 + 22 + 4 + 1) + 5,
-            rate: 0,
-        }
-    }
-
     #[inline(always)]
     fn cell_in(bytes: &[u8], cells: &LastBits, i: usize) -> Cell4 {
         Cell4 {

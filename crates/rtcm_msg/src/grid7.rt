@@ -264,19 +264,6 @@ impl ReadGrid for Grid7 {
         }
     }
 
-    fn last_bits(count: usize, place: usize) -> LastBits {
-        LastBits {
-            count,
-            place,
-            range: place + 19,
-            phase: place + count * 20 + 23,
-            lock: place + count * (20 + 24) + 9,
-            half_cycle: place + count * (20 + 24 + 10),
-            strength: place + count * (20 + 24 + 10 + 1) + 9,
-            rate: place + count * (20 + 24 + 10 + 1 + 10) + 14,
-        }
-    }
-
     #[inline(always)]
     fn cell_in(bytes: &[u8], cells: &LastBits, i: usize) -> Cell7 {
         Cell7 {

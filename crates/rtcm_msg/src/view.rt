@@ -71,8 +71,26 @@ impl Form {
         ensures last { AreLast (views.cell_widths self) result }
     {
         match self {
-            Form::Msm4 => Grid4::last_bits(count, place),
-            Form::Msm7 => Grid7::last_bits(count, place),
+            Form::Msm4 => LastBits {
+                count,
+                place,
+                range: place + 14,
+                phase: place + count * 15 + 21,
+                lock: place + count * (15 + 22) + 3,
+                half_cycle: place + count * (15 + 22 + 4),
+                strength: place + count * (15 + 22 + 4 + 1) + 5,
+                rate: 0,
+            },
+            Form::Msm7 => LastBits {
+                count,
+                place,
+                range: place + 19,
+                phase: place + count * 20 + 23,
+                lock: place + count * (20 + 24) + 9,
+                half_cycle: place + count * (20 + 24 + 10),
+                strength: place + count * (20 + 24 + 10 + 1) + 9,
+                rate: place + count * (20 + 24 + 10 + 1 + 10) + 14,
+            },
         }
     }
 }
