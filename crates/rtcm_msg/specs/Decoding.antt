@@ -27,6 +27,10 @@ set_in n c = if is_any_msm n then set_at c else None
 abbrev pub other_at : ℕ → Cursor → Message
 other_at n c = messages.Other n (set_in n c)
 
+-- The value of a station message, 1006 if it has a height, after its message number.
+abbrev pub station_message_at : Bool → Cursor → Result Message MsgFault
+station_message_at has_height c = station_at has_height c >>= λ s. Ok (messages.Station s.0)
+
 abbrev pub start : List Bool → Cursor
 start bits = record { place = 0; rest = bits }
 

@@ -5,11 +5,14 @@ ghost use Rattle.rtcm_bits.specs.FrameOf.{longest_message};
 ghost use Rattle.rtcm_msg.specs.Ranges.{fits_int};
 ghost use Rattle.rtcm_msg.specs.Fields.{GivesViewed, cursor_at, field_at};
 ghost use Rattle.rtcm_msg.specs.Packed.{total_width};
-ghost use Rattle.rtcm_msg.specs.Station.{InRange, height_in, parts_in, station_at, field_widths};
+ghost use Rattle.rtcm_msg.specs.Station.{InRange, height_in, parts_in, field_widths};
 ghost use Rattle.rtcm_msg.specs.Refusals.{station_made, station_fault};
+ghost use Rattle.rtcm_msg.specs.Viewed.{viewed_message};
+ghost use Rattle.rtcm_msg.specs.Decoding.{station_message_at};
 
 use crate::fault::{Field, MsgFault, ValueFault};
 use crate::field::{byte_at, end_of_fields, flag_at};
+use crate::view::View;
 use rtcm_bits::{number_at, signed_of};
 use std::marker::Model;
 
@@ -183,15 +186,14 @@ fn parts_in(bytes: &[u8], has_height: bool) -> StationParts
 /// # Errors
 ///
 /// `Short` if a field does not end within the message.
-pub(crate) fn read_station(bytes: &[u8], has_height: bool) -> Result<Station, MsgFault>
+pub(crate) fn view_station(bytes: &[u8], has_height: bool) -> Result<View<'_>, MsgFault>
     requires number { 12 ≤ 8 * length bytes.now }
     requires small { length bytes.now ≤ longest_message }
-    ensures { GivesViewed
-        (λ s. (s, cursor_at (bits_of bytes.now) (12 + total_width (field_widths has_height)))) result
-        (station_at has_height (cursor_at (bits_of bytes.now) 12)) }
+    ensures { GivesViewed viewed_message result
+        (station_message_at has_height (cursor_at (bits_of bytes.now) 12)) }
 {
     end_of_fields(bytes, field_widths(has_height), 1, 12)?;
-    Ok(Station {
+    Ok(View::Station(Station {
         parts: parts_in(bytes, has_height),
-    })
+    }))
 }

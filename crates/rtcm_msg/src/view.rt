@@ -24,7 +24,7 @@ use crate::masks::{Masks, read_masks};
 use crate::message::{Message, read_set};
 use crate::msm::msm_of;
 use crate::pairs::{Pair, Pairs, split_cells};
-use crate::station::{Station, read_station};
+use crate::station::{Station, view_station};
 use rtcm_bits::{LONGEST_MESSAGE, number_at};
 use std::marker::Model;
 
@@ -426,7 +426,7 @@ fn view_body(number: u16, bytes: &[u8]) -> Result<View<'_>, MsgFault>
     ensures { GivesViewed viewed_message result (body_at number (cursor_at (bits_of bytes.now) 12)) }
 {
     match number {
-        1005 | 1006 => Ok(View::Station(read_station(bytes, number == 1006)?)),
+        1005 | 1006 => view_station(bytes, number == 1006),
         1074 | 1094 => view_msm(bytes, Form::Msm4, number == 1094),
         1077 | 1097 => view_msm(bytes, Form::Msm7, number == 1097),
         _ => Ok(View::Other {
