@@ -12,7 +12,7 @@ use crate::grid::{Grid, ReadGrid};
 use crate::header::{MsmHeader, WEEK, header_fault};
 use crate::masks::{MOST_PAIRS, Masks};
 use crate::view::{Data, Form, MsmView};
-use crate::writing::{write_columns, write_header, write_masks};
+use crate::writing::{write_columns, write_head};
 use arrayvec::ArrayVec;
 use rtcm_bits::BitWriter;
 use std::marker::{Model, PhantomData};
@@ -237,8 +237,12 @@ pub(crate) fn write_msm<G: Grid>(writer: &mut BitWriter, msm: &Msm<G>)
     ensures bits { writer.new ≡ writer.old
         ++ msm_bits G.satellite_widths G.cell_widths (G.number_of msm.now.is_galileo) msm.now 0 }
 {
-    write_header(writer, G::number_of(msm.is_galileo), &msm.header);
-    write_masks(writer, &msm.masks);
+    write_head(
+        writer,
+        G::number_of(msm.is_galileo),
+        &msm.header,
+        &msm.masks,
+    );
     write_columns(writer, G::satellite_widths(), msm.satellites.as_slice());
     write_columns(writer, G::cell_widths(), msm.cells.as_slice());
 }

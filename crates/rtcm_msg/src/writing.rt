@@ -52,12 +52,15 @@ pub(crate) fn write_station(writer: &mut BitWriter, parts: &StationParts)
     }
 }
 
-/// Writes the header of an MSM with its message number.
-pub(crate) fn write_header(writer: &mut BitWriter, number: u16, header: &MsmHeader)
-    requires { length writer.old + 73 ≤ longest_message_bits }
-    ensures bits { writer.new ≡ writer.old ++ field_bits (header_fields number header.now 0) }
-    ensures len { length writer.new ≡ length writer.old + 73 }
+/// Writes the header of an MSM with its message number, and the masks, DF394 to DF396.
+pub(crate) fn write_head(writer: &mut BitWriter, number: u16, header: &MsmHeader, masks: &Masks)
+    requires { length writer.old + 233 ≤ longest_message_bits }
+    ensures bits { writer.new ≡ writer.old
+        ++ field_bits (header_fields number header.now 0 ++ mask_fields masks.now) }
+    ensures len { length writer.new ≤ length writer.old + 233 }
 {
+    let _ = masks.cells();
+    let pairs = masks.satellites().count_ones() * masks.signals().count_ones();
     let fields = [
         (12, number as u64),
         (12, header.station as u64),
@@ -69,19 +72,6 @@ pub(crate) fn write_header(writer: &mut BitWriter, number: u16, header: &MsmHead
         (2, header.clock as u64),
         (1, header.smoothing as u64),
         (3, header.interval as u64),
-    ];
-    write_fields(writer, &fields);
-}
-
-/// Writes the masks, DF394 to DF396.
-pub(crate) fn write_masks(writer: &mut BitWriter, masks: &Masks)
-    requires { length writer.old + 160 ≤ longest_message_bits }
-    ensures bits { writer.new ≡ writer.old ++ field_bits (mask_fields masks.now) }
-    ensures len { length writer.new ≤ length writer.old + 160 }
-{
-    let _ = masks.cells();
-    let pairs = masks.satellites().count_ones() * masks.signals().count_ones();
-    let fields = [
         (SATELLITE_MASK_BITS, masks.satellites()),
         (SIGNAL_MASK_BITS, masks.signals() as u64),
         (pairs, masks.cells()),

@@ -1,35 +1,38 @@
-use Rattle.std.proofs.Common.{ℕ, List, Bool, ◌≡◌, ◌+◌, ◌*◌, ◌≤◌, ◌++◌, ◌∙◌, append_assoc, length, arith}
+use Rattle.std.proofs.Common.{ℕ, List, Bool, ◌≡◌, ◌+◌, ◌*◌, ◌≤◌, ◌++◌, ◌∙◌, append_assoc, ap, length, arith}
 use Rattle.std.proofs.Math.Nat.{mul-le-mul_left}
+use Rattle.rtcm_msg.specs.Fields.{field_bits}
 use Rattle.rtcm_msg.specs.Packed.{total_width}
+use Rattle.rtcm_msg.proofs.WritingSteps.{field_bits-append}
 use Rattle.rtcm_msg.proofs.msm.write_msm.Goals as goal
 
-appended : (old a b d e h m s t : List Bool) → h ≡ old ++ a → m ≡ h ++ b → s ≡ m ++ d → t ≡ s ++ e → t ≡ old ++ (a ++ (b ++ (d ++ e)))
-appended old a b d e h m s t x y z w =
-    rw (w, z, y, x) (append_assoc ((old ++ a) ++ b) d e ∙ (append_assoc (old ++ a) b (d ++ e) ∙ append_assoc old a (b ++ (d ++ e))))
+appended : (old d e m s t : List Bool) (a b : List (ℕ × ℕ)) → m ≡ old ++ field_bits (a ++ b) → s ≡ m ++ d → t ≡ s ++ e → t ≡ old ++ (field_bits a ++ (field_bits b ++ (d ++ e)))
+appended old d e m s t a b x y z =
+    rw (z, y, x, field_bits-append a b)
+    (append_assoc (old ++ (field_bits a ++ field_bits b)) d e ∙ (append_assoc old (field_bits a ++ field_bits b) (d ++ e) ∙ ap (λ n. old ++ n) (append_assoc (field_bits a) (field_bits b) (d ++ e))))
 
 pub returns-clause-bits : goal.returns-clause-bits
 returns-clause-bits g c =
-    let h = rw c.number_of.ensures.value at c.write_header.ensures.bits in
+    let h = rw c.number_of.ensures.value at c.write_head.ensures.bits in
     let s = rw (c.satellite_widths.ensures, c.as_slice.ensures.value) at c.write_columns.ensures.bits in
     let t = rw (c.cell_widths.ensures, c.as_slice-2.ensures.value) at c.write_columns-2.ensures.bits in
-    rw (← c.msm.view_is) (appended c.args.writer.now _ _ _ _ c.write_header.new.writer c.write_masks.new.writer c.write_columns.new.writer c.write_columns-2.new.writer h c.write_masks.ensures.bits s t)
+    rw (← c.msm.view_is) (appended c.args.writer.now _ _ c.write_head.new.writer c.write_columns.new.writer c.write_columns-2.new.writer _ _ h s t)
 
 -- The header and the masks have at most 233 bits.
-room : (old head len t u n : ℕ) → old ≡ 0 → head ≡ old + 73 → len ≤ head + 160 → t + u ≤ 124 → n ≤ 64 → len + t * n ≤ 8184
-room old head len t u n a b c few h = let most = mul-le-mul_left t h in omega (arith, a, b, c, few, most)
+room : (old len t u n : ℕ) → old ≡ 0 → len ≤ old + 233 → t + u ≤ 124 → n ≤ 64 → len + t * n ≤ 8184
+room old len t u n a b few h = let most = mul-le-mul_left t h in omega (arith, a, b, few, most)
 
-room_after : (old head len t u n m end : ℕ) → old ≡ 0 → head ≡ old + 73 → len ≤ head + 160 → t + u ≤ 124 → n ≤ 64 → m ≤ 64 → end ≡ len + t * n → end + u * m ≤ 8184
-room_after old head len t u n m end a b c few h k e =
+room_after : (old len t u n m end : ℕ) → old ≡ 0 → len ≤ old + 233 → t + u ≤ 124 → n ≤ 64 → m ≤ 64 → end ≡ len + t * n → end + u * m ≤ 8184
+room_after old len t u n m end a b few h k e =
     let most = mul-le-mul_left t h in
     let others = mul-le-mul_left u k in
-    omega (arith, a, b, c, few, most, others, e)
+    omega (arith, a, b, few, most, others, e)
 
 pub write_columns-requires-clause-room : goal.write_columns-requires-clause-room
 write_columns-requires-clause-room g c =
-    rw c.satellite_widths.ensures (room _ _ _ (total_width g.G.Grid.satellite_widths) (total_width g.G.Grid.cell_widths) (length c.as_slice.result.now) c.requires c.write_header.ensures.len c.write_masks.ensures.len g.met.G.Grid.room c.as_slice.ensures.fits)
+    rw c.satellite_widths.ensures (room _ _ (total_width g.G.Grid.satellite_widths) (total_width g.G.Grid.cell_widths) (length c.as_slice.result.now) c.requires c.write_head.ensures.len g.met.G.Grid.room c.as_slice.ensures.fits)
 
 pub write_columns-requires-2-clause-room : goal.write_columns-requires-2-clause-room
 write_columns-requires-2-clause-room g c =
     let end = rw c.satellite_widths.ensures at c.write_columns.ensures.len in
     rw c.cell_widths.ensures
-    (room_after _ _ _ (total_width g.G.Grid.satellite_widths) (total_width g.G.Grid.cell_widths) (length c.as_slice.result.now) (length c.as_slice-2.result.now) _ c.requires c.write_header.ensures.len c.write_masks.ensures.len g.met.G.Grid.room c.as_slice.ensures.fits c.as_slice-2.ensures.fits end)
+    (room_after _ _ (total_width g.G.Grid.satellite_widths) (total_width g.G.Grid.cell_widths) (length c.as_slice.result.now) (length c.as_slice-2.result.now) _ c.requires c.write_head.ensures.len g.met.G.Grid.room c.as_slice.ensures.fits c.as_slice-2.ensures.fits end)
