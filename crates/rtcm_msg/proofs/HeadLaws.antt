@@ -1,5 +1,5 @@
 -- Fields at known positions: the check that they are within the bits, and the result of reading them.
-use Rattle.std.proofs.Common.{ℕ, ◌≡◌, ◌+◌, ◌-◌, ◌*◌, ◌%◌, ◌<◌, ◌≤◌, nat_lt, Bool, true, false, List, [], ◌∷◌, ◌++◌, length, Result, Ok, Err, Option, Some, None, refl, sym, ap, ◌∙◌, arith, inl, inr}
+use Rattle.std.proofs.Common.{ℕ, ◌≡◌, ◌+◌, ◌-◌, ◌*◌, ◌%◌, ◌<◌, ◌≤◌, nat_lt, Bool, true, false, List, [], ◌∷◌, ◌++◌, length, Result, Ok, Err, Option, Some, None, refl, sym, ap, ◌∙◌, arith, inl, inr, ◌⊎◌}
 use Rattle.std.proofs.Math.Nat.{mod-eq_of_lt}
 use Rattle.std.proofs.lemmas.Bool.{cases_lt}
 use Rattle.std.proofs.lemmas.List.{length-drop}
@@ -73,6 +73,23 @@ number_missing w bits place e h check = elim (cases_lt (length bits) (place + w)
   | inr there ↦ absurd (no_short (w ∷ []) bits place e h check (past_none (w ∷ []) (length bits) place (omega (arith, there))))
 ]
 
+-- The fault of a check of some fields and the ones after them is that of the first ones, or of the others.
+check_split : (vs ws : List ℕ) (len place : ℕ) (e : MsgFault) → place ≤ len → Err e ≡ end_of_rows (vs ++ ws) 1 len place
+    → (Err e ≡ end_of_rows vs 1 len place) ⊎ ((place + total_width vs ≤ len) × (Err e ≡ end_of_rows ws 1 len (place + total_width vs)))
+unfolding end_of_rows
+check_split [] ws len place e h check = inr (omega (arith, h), check ∙ ap (λ (k : ℕ). end_of_rows ws 1 len k) (omega arith))
+check_split (w ∷ vs) ws len place e h check = elim (cases_lt len (place + 1 * w)) [
+  | inl short ↦
+      let less : nat_lt len (place + 1 * w) ≡ true = grind (arith, short) in
+      inl (rw less at check ∙ sym (rw less refl))
+  | inr there ↦
+      let more : nat_lt len (place + 1 * w) ≡ false = grind (arith, there) in
+      elim (check_split vs ws len (place + 1 * w) e there (rw more at check)) [
+        | inl first ↦ inl (rw more first)
+        | inr second ↦ inr (omega (arith, second.0), second.1 ∙ ap (λ (k : ℕ). end_of_rows ws 1 len k) (omega arith))
+      ]
+]
+
 -- ---- messages
 
 field_widths_are : (has : Bool) → field_widths has ≡ station_widths ++ height_widths has
@@ -99,14 +116,22 @@ module _ (bytes : List ℕ) where
   after_time : 54 ≤ 8 * length bytes → field_at bits 24 30 < week → header_at (cursor_at bits 12) ≡ (fields_at header_table (cursor_at bits 54) >>= λ m. Ok (header_of (field_at bits 12 12) (field_at bits 24 30) m.0, m.1))
   after_time h early = header_chain (cursor_at bits 12) ∙ rw (fields_whole time_table bits 12 (within 54 h), in_time (field_at bits 24 30) (cursor_at bits 54) early, header_rest_is (field_at bits 12 12) (field_at bits 24 30) (cursor_at bits 54)) refl
 
-  pub header_missing : (e : MsgFault) → 54 ≤ 8 * length bytes → field_at bits 24 30 < week → Err e ≡ end_of_rows (widths header_table) 1 (8 * length bytes) 54 → header_at (cursor_at bits 12) ≡ Err e
+  header_missing : (e : MsgFault) → 54 ≤ 8 * length bytes → field_at bits 24 30 < week → Err e ≡ end_of_rows (widths header_table) 1 (8 * length bytes) 54 → header_at (cursor_at bits 12) ≡ Err e
   header_missing e h early check = after_time h early ∙ rw (fields_missing header_table bits 54 e (within 54 h) (checked (widths header_table) 54 e check)) refl
 
   pub header_whole : 73 ≤ 8 * length bytes → field_at bits 24 30 < week → header_at (cursor_at bits 12) ≡ Ok (header_in bits (field_at bits 24 30), cursor_at bits 73)
   header_whole h early = after_time (omega (arith, h)) early ∙ rw (fields_whole header_table bits 54 (within 73 h)) refl
 
-  pub masks_missing : (e : MsgFault) → 73 ≤ 8 * length bytes → Err e ≡ end_of_rows (widths mask_table) 1 (8 * length bytes) 73 → masks_at (cursor_at bits 73) ≡ Err e
+  masks_missing : (e : MsgFault) → 73 ≤ 8 * length bytes → Err e ≡ end_of_rows (widths mask_table) 1 (8 * length bytes) 73 → masks_at (cursor_at bits 73) ≡ Err e
   masks_missing e h check = sets_chain (cursor_at bits 73) ∙ rw (fields_missing mask_table bits 73 e (within 73 h) (checked (widths mask_table) 73 e check)) refl
+
+  -- The header and the first two masks are checked at once.
+  pub head_missing : (e : MsgFault) → 54 ≤ 8 * length bytes → field_at bits 24 30 < week → Err e ≡ end_of_rows (widths header_table ++ widths mask_table) 1 (8 * length bytes) 54
+      → (header_at (cursor_at bits 12) ≡ Err e) ⊎ ((header_at (cursor_at bits 12) ≡ Ok (header_in bits (field_at bits 24 30), cursor_at bits 73)) × (masks_at (cursor_at bits 73) ≡ Err e))
+  head_missing e h early check = elim (check_split (widths header_table) (widths mask_table) (8 * length bytes) 54 e h check) [
+    | inl first ↦ inl (header_missing e h early first)
+    | inr second ↦ inr (header_whole second.0 early, masks_missing e second.0 second.1)
+  ]
 
   abbrev pairs : ℕ
   pairs = pair_count (field_at bits 73 64) (field_at bits 137 32)

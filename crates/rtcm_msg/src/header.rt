@@ -1,13 +1,12 @@
 //! The header of an MSM.
-ghost use Rattle.std.specs.Prelude.{◌≡◌, ◌*◌, ◌<◌, ◌≤◌, IfOk, IfNone, length};
+ghost use Rattle.std.specs.Prelude.{◌≡◌, ◌*◌, ◌<◌, ◌≤◌, IfNone, length};
 ghost use Rattle.rtcm_bits.specs.Bits.{bits_of};
 ghost use Rattle.rtcm_bits.specs.FrameOf.{longest_message};
-ghost use Rattle.rtcm_msg.specs.Fields.{GivesViewed, cursor_at};
 ghost use Rattle.rtcm_msg.specs.Refusals.{header_fault};
-ghost use Rattle.rtcm_msg.specs.Msm.{header_at, header_in, week, IsHeader};
+ghost use Rattle.rtcm_msg.specs.Msm.{header_in, week, IsHeader};
 
-use crate::fault::{Field, MsgFault};
-use crate::field::{byte_at, end_of_fields, flag_at};
+use crate::fault::Field;
+use crate::field::{byte_at, flag_at};
 use rtcm_bits::number_at;
 
 /// Number of milliseconds of a week.
@@ -34,15 +33,8 @@ pub struct MsmHeader {
     pub interval: u8,
 }
 
-/// Widths in bits of the first fields after the message number: DF003, and DF004 or DF248.
-const TIME_WIDTHS: &[u32] = &[12, 30];
-
-/// Widths of the fields after the epoch time: DF393, DF409, 7 reserved bits, DF411, DF412, DF417 and
-/// DF418.
-const HEADER_WIDTHS: &[u32] = &[1, 3, 7, 2, 2, 1, 3];
-
 /// Returns the header of an MSM with this epoch time.
-fn header_in(bytes: &[u8], time: u32) -> MsmHeader
+pub(crate) fn header_in(bytes: &[u8], time: u32) -> MsmHeader
     requires there { 73 ≤ 8 * length bytes.now }
     requires small { length bytes.now ≤ longest_message }
     ensures value { result ≡ header_in (bits_of bytes.now) time }
@@ -58,29 +50,6 @@ fn header_in(bytes: &[u8], time: u32) -> MsmHeader
         smoothing: flag_at(bytes, 69),
         interval: byte_at(bytes, 70, 3),
     }
-}
-
-/// Reads the header of an MSM after its message number. An epoch time of a week or more is refused
-/// before the fields after it are read.
-///
-/// # Errors
-///
-/// `Short` if a field does not end within the message, `BadTime` for a time of a week or more.
-pub(crate) fn read_header(bytes: &[u8]) -> Result<MsmHeader, MsgFault>
-    requires number { 12 ≤ 8 * length bytes.now }
-    requires small { length bytes.now ≤ longest_message }
-    ensures read { GivesViewed (λ h. (h, cursor_at (bits_of bytes.now) 73)) result
-        (header_at (cursor_at (bits_of bytes.now) 12)) }
-    ensures is_header { IfOk result IsHeader }
-    ensures there { IfOk result (λ _. 73 ≤ 8 * length bytes.now) }
-{
-    end_of_fields(bytes, TIME_WIDTHS, 1, 12)?;
-    let time = number_at(bytes, 24, 30) as u32;
-    if time >= WEEK {
-        return Err(MsgFault::BadTime);
-    }
-    end_of_fields(bytes, HEADER_WIDTHS, 1, 54)?;
-    Ok(header_in(bytes, time))
 }
 
 /// Returns the first field, in the order of the layout, that does not fit its bits. The epoch time

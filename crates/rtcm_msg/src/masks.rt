@@ -1,13 +1,16 @@
 //! The masks of an MSM: its satellites, its signals and its cells.
-ghost use Rattle.std.specs.Prelude.{◌≡◌, ◌*◌, ◌≤◌, IfOk, length};
+ghost use Rattle.std.specs.Prelude.{◌≡◌, ◌*◌, ◌≤◌, Bool, Ok, Err, IfOk, IfErr, length};
 ghost use Rattle.rtcm_bits.specs.Bits.{bits_of};
 ghost use Rattle.rtcm_bits.specs.FrameOf.{longest_message};
-ghost use Rattle.rtcm_msg.specs.Fields.{GivesViewed, cursor_at};
-ghost use Rattle.rtcm_msg.specs.Msm.{masks_at, AreMasks};
+ghost use Rattle.rtcm_msg.specs.Fields.{cursor_at};
+ghost use Rattle.rtcm_msg.specs.Msm.{header_at, masks_at, AreMasks, IsHeader};
+ghost use Rattle.rtcm_msg.specs.Views.{formed_at};
+ghost use Rattle.rtcm_msg.specs.declared.view.Form.{Form};
 ghost use Rattle.rtcm_msg.specs.Refusals.{masks_of};
 
 use crate::fault::{Field, MsgFault, ValueFault};
 use crate::field::end_of_fields;
+use crate::header::{MsmHeader, WEEK, header_in};
 use rtcm_bits::number_at;
 use std::marker::Model;
 
@@ -94,23 +97,38 @@ impl Masks {
     }
 }
 
-/// Widths in bits of the first two masks: DF394 and DF395.
-const MASK_WIDTHS: &[u32] = &[SATELLITE_MASK_BITS, SIGNAL_MASK_BITS];
+/// Widths in bits of the first fields after the message number: DF003, and DF004 or DF248.
+const TIME_WIDTHS: &[u32] = &[12, 30];
 
-/// Reads the masks, and returns them with the bit after them. More than 64 pairs are refused before
-/// the third mask is read.
+/// Widths of the fields after the epoch time: DF393, DF409, 7 reserved bits, DF411, DF412, DF417 and
+/// DF418 of the header, and the first two masks, DF394 and DF395.
+const HEAD_WIDTHS: &[u32] = &[1, 3, 7, 2, 2, 1, 3, SATELLITE_MASK_BITS, SIGNAL_MASK_BITS];
+
+/// Reads the header and the masks of an MSM after its message number, and returns them with the bit
+/// after them. An epoch time of a week or more is refused before the fields after it are read, and
+/// more than 64 pairs before the third mask is read.
 ///
 /// # Errors
 ///
-/// `Short` if a mask does not end within the message, `TooManyCells` for more than 64 pairs.
-pub(crate) fn read_masks(bytes: &[u8]) -> Result<(Masks, usize), MsgFault>
-    requires header { 73 ≤ 8 * length bytes.now }
+/// `Short` if a field does not end within the message, `BadTime` for a time of a week or more,
+/// `TooManyCells` for more than 64 pairs.
+pub(crate) fn read_head(bytes: &[u8]) -> Result<(MsmHeader, Masks, usize), MsgFault>
+    requires number { 12 ≤ 8 * length bytes.now }
     requires small { length bytes.now ≤ longest_message }
-    ensures read { GivesViewed (λ m. (m.0, cursor_at (bits_of bytes.now) m.1)) result
-        (masks_at (cursor_at (bits_of bytes.now) 73)) }
-    ensures within { IfOk result (λ m. (169 ≤ m.1) × (m.1 ≤ 8 * length bytes.now)) }
+    ensures read { IfOk result (λ x.
+        (header_at (cursor_at (bits_of bytes.now) 12) ≡ Ok (x.0, cursor_at (bits_of bytes.now) 73))
+        × (masks_at (cursor_at (bits_of bytes.now) 73) ≡ Ok (x.1, cursor_at (bits_of bytes.now) x.2))) }
+    ensures is_header { IfOk result (λ x. IsHeader x.0) }
+    ensures within { IfOk result (λ x. (169 ≤ x.2) × (x.2 ≤ 8 * length bytes.now)) }
+    ensures fault { IfErr result (λ e. (form : Form) → (g : Bool)
+        → formed_at form g (cursor_at (bits_of bytes.now) 12) ≡ Err e) }
 {
-    end_of_fields(bytes, MASK_WIDTHS, 1, 73)?;
+    end_of_fields(bytes, TIME_WIDTHS, 1, 12)?;
+    let time = number_at(bytes, 24, 30) as u32;
+    if time >= WEEK {
+        return Err(MsgFault::BadTime);
+    }
+    end_of_fields(bytes, HEAD_WIDTHS, 1, 54)?;
     let satellites = number_at(bytes, 73, SATELLITE_MASK_BITS);
     let signals = number_at(bytes, 137, SIGNAL_MASK_BITS) as u32;
     let pairs = satellites.count_ones() * signals.count_ones();
@@ -123,5 +141,5 @@ pub(crate) fn read_masks(bytes: &[u8]) -> Result<(Masks, usize), MsgFault>
         signals,
         cells: number_at(bytes, 169, pairs),
     };
-    Ok((masks, end))
+    Ok((header_in(bytes, time), masks, end))
 }

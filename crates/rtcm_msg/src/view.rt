@@ -18,9 +18,9 @@ use crate::field::end_of_fields;
 use crate::grid::{Grid, ReadGrid};
 use crate::grid4::{Grid4, Satellite4};
 use crate::grid7::{Grid7, Satellite7};
-use crate::header::{MsmHeader, read_header};
+use crate::header::MsmHeader;
 use crate::last_bits::LastBits;
-use crate::masks::{Masks, read_masks};
+use crate::masks::{Masks, read_head};
 use crate::message::{Message, read_set};
 use crate::msm::msm_of;
 use crate::pairs::{Pair, Pairs, split_cells};
@@ -400,8 +400,7 @@ fn view_msm<'a>(bytes: &'a [u8], form: Form, is_galileo: bool) -> Result<View<'a
     requires number { 12 ≤ 8 * length bytes.now }
     ensures { GivesViewed viewed_message result (views.formed_at form is_galileo (cursor_at (bits_of bytes.now) 12)) }
 {
-    let header = read_header(bytes)?;
-    let (masks, satellites_at) = read_masks(bytes)?;
+    let (header, masks, satellites_at) = read_head(bytes)?;
     let satellites = masks.satellites().count_ones() as usize;
     let cells = masks.cells().count_ones() as usize;
     let (satellite_widths, cell_widths) = form.widths();

@@ -6,7 +6,7 @@ use Rattle.rtcm_msg.specs.Fields.{cursor_at}
 use Rattle.rtcm_msg.specs.declared.header.MsmHeader.{MsmHeader}
 use Rattle.rtcm_msg.specs.declared.view.Form.{Form}
 use Rattle.rtcm_msg.specs.Msm.{MasksValue, AreMasks, pair_count}
-use Rattle.rtcm_msg.proofs.ViewLaws.{AfterMasks, Found, no_header, no_masks, first_short, second_short, whole, are_within}
+use Rattle.rtcm_msg.proofs.ViewLaws.{AfterMasks, Found, first_short, second_short, whole, are_within}
 use Rattle.rtcm_msg.proofs.view.view_msm.Goals as goal
 
 -- The message, by the place of its cells in the view.
@@ -22,44 +22,39 @@ few_cells n s h e = rw e (let few = ones-le (pair_count s.satellites s.signals) 
 pub returns-in_err-header : goal.returns-in_err-header
 returns-in_err-header c =
     let p = err_from_is_err_and c.from_residual.result c.from_residual.ensures.1 in
-    rw (p.1, p.2) (no_header c.args.form c.args.is_galileo _ _ c.in_err-header.ensures.read)
-
-pub returns-in_err-masks : goal.returns-in_err-masks
-returns-in_err-masks c =
-    let p = err_from_is_err_and c.from_residual-in_err-masks.result c.from_residual-in_err-masks.ensures.1 in
-    rw (p.1, p.2) (no_masks c.args.form c.args.is_galileo _ _ c.in_ok-header.header _ c.in_ok-header.ensures.read c.in_err-masks.ensures.read)
+    rw (p.1, p.2) (c.in_err-header.ensures.fault c.args.form c.args.is_galileo)
 
 pub returns-in_err-cells_at : goal.returns-in_err-cells_at
 returns-in_err-cells_at c =
     let p = err_from_is_err_and c.from_residual-in_err-cells_at.result c.from_residual-in_err-cells_at.ensures.1 in
-    let head : AfterMasks c.args.bytes.now c.in_ok-header.header c.in_ok-masks.masks c.in_ok-masks.satellites_at = record { header = c.in_ok-header.ensures.read; masks = c.in_ok-masks.ensures.read; there = c.in_ok-masks.ensures.within.1 } in
-    rw (p.1, p.2) (first_short c.args.form c.args.is_galileo c.args.bytes.now c.widths.result.0.now c.in_ok-header.header c.in_ok-masks.masks c.satellites.result c.in_ok-masks.satellites_at _ head c.widths.ensures.satellites c.satellites.ensures c.in_err-cells_at.ensures.exact)
+    let head : AfterMasks c.args.bytes.now c.in_ok-header.header c.in_ok-header.masks c.in_ok-header.satellites_at = record { header = c.in_ok-header.ensures.read.0; masks = c.in_ok-header.ensures.read.1; there = c.in_ok-header.ensures.within.1 } in
+    rw (p.1, p.2) (first_short c.args.form c.args.is_galileo c.args.bytes.now c.widths.result.0.now c.in_ok-header.header c.in_ok-header.masks c.satellites.result c.in_ok-header.satellites_at _ head c.widths.ensures.satellites c.satellites.ensures c.in_err-cells_at.ensures.exact)
 
 pub returns-in_err-end_of_fields : goal.returns-in_err-end_of_fields
 returns-in_err-end_of_fields c =
     let p = err_from_is_err_and c.from_residual-in_err-end_of_fields.result c.from_residual-in_err-end_of_fields.ensures.1 in
-    let head : AfterMasks c.args.bytes.now c.in_ok-header.header c.in_ok-masks.masks c.in_ok-masks.satellites_at = record { header = c.in_ok-header.ensures.read; masks = c.in_ok-masks.ensures.read; there = c.in_ok-masks.ensures.within.1 } in
-    rw (p.1, p.2) (second_short c.args.form c.args.is_galileo c.args.bytes.now c.widths.result.0.now c.widths.result.1.now c.in_ok-header.header c.in_ok-masks.masks c.satellites.result c.cells.result c.in_ok-masks.satellites_at c.in_ok-cells_at.cells_at _ head c.widths.ensures.satellites c.widths.ensures.cells c.satellites.ensures c.cells.ensures.value
+    let head : AfterMasks c.args.bytes.now c.in_ok-header.header c.in_ok-header.masks c.in_ok-header.satellites_at = record { header = c.in_ok-header.ensures.read.0; masks = c.in_ok-header.ensures.read.1; there = c.in_ok-header.ensures.within.1 } in
+    rw (p.1, p.2) (second_short c.args.form c.args.is_galileo c.args.bytes.now c.widths.result.0.now c.widths.result.1.now c.in_ok-header.header c.in_ok-header.masks c.satellites.result c.cells.result c.in_ok-header.satellites_at c.in_ok-cells_at.cells_at _ head c.widths.ensures.satellites c.widths.ensures.cells c.satellites.ensures c.cells.ensures.value
     c.in_ok-cells_at.ensures.exact c.in_ok-cells_at.ensures.within c.in_err-end_of_fields.ensures.exact)
 
 pub invariant_of-result : goal.invariant_of-result
 invariant_of-result c =
-    let head : AfterMasks c.args.bytes.now c.in_ok-header.header c.in_ok-masks.masks c.in_ok-masks.satellites_at = record { header = c.in_ok-header.ensures.read; masks = c.in_ok-masks.ensures.read; there = c.in_ok-masks.ensures.within.1 } in
+    let head : AfterMasks c.args.bytes.now c.in_ok-header.header c.in_ok-header.masks c.in_ok-header.satellites_at = record { header = c.in_ok-header.ensures.read.0; masks = c.in_ok-header.ensures.read.1; there = c.in_ok-header.ensures.within.1 } in
     let here = placed _ _ _ _ _ _ _ _ c.in_ok-cells_at.cells_at c.last_bits.result.place c.last_bits.ensures.place
-    (whole c.args.form c.args.is_galileo c.args.bytes.now c.widths.result.0.now c.widths.result.1.now c.in_ok-header.header c.in_ok-masks.masks c.satellites.result c.cells.result c.in_ok-masks.satellites_at c.in_ok-cells_at.cells_at c.in_ok-end_of_fields.field-0 head c.widths.ensures.satellites c.widths.ensures.cells c.satellites.ensures c.cells.ensures.value
+    (whole c.args.form c.args.is_galileo c.args.bytes.now c.widths.result.0.now c.widths.result.1.now c.in_ok-header.header c.in_ok-header.masks c.satellites.result c.cells.result c.in_ok-header.satellites_at c.in_ok-cells_at.cells_at c.in_ok-end_of_fields.field-0 head c.widths.ensures.satellites c.widths.ensures.cells c.satellites.ensures c.cells.ensures.value
     c.in_ok-cells_at.ensures.exact c.in_ok-cells_at.ensures.within c.in_ok-end_of_fields.ensures.exact c.in_ok-end_of_fields.ensures.within c.in_ok-header.ensures.is_header c.cells.ensures.sets) in (
       here.value,
       record {
-        satellites_few = few_satellites c.satellites.result c.in_ok-masks.masks c.cells.ensures.sets c.satellites.ensures;
-        cells_few = few_cells c.cells.result c.in_ok-masks.masks c.cells.ensures.sets c.cells.ensures.value;
-        there = are_within c.args.form c.args.bytes.now (count_ones c.satellites.result) c.in_ok-masks.satellites_at (count_ones c.cells.result) c.last_bits.result c.requires.small (omega (arith, c.in_ok-masks.ensures.within.0)) here.order here.satellites_there here.cells_there
+        satellites_few = few_satellites c.satellites.result c.in_ok-header.masks c.cells.ensures.sets c.satellites.ensures;
+        cells_few = few_cells c.cells.result c.in_ok-header.masks c.cells.ensures.sets c.cells.ensures.value;
+        there = are_within c.args.form c.args.bytes.now (count_ones c.satellites.result) c.in_ok-header.satellites_at (count_ones c.cells.result) c.last_bits.result c.requires.small (omega (arith, c.in_ok-header.ensures.within.0)) here.order here.satellites_there here.cells_there
             c.last_bits.ensures.count c.last_bits.ensures.last;
       },
     )
 
 pub returns : goal.returns
 returns c =
-    let head : AfterMasks c.args.bytes.now c.in_ok-header.header c.in_ok-masks.masks c.in_ok-masks.satellites_at = record { header = c.in_ok-header.ensures.read; masks = c.in_ok-masks.ensures.read; there = c.in_ok-masks.ensures.within.1 } in
+    let head : AfterMasks c.args.bytes.now c.in_ok-header.header c.in_ok-header.masks c.in_ok-header.satellites_at = record { header = c.in_ok-header.ensures.read.0; masks = c.in_ok-header.ensures.read.1; there = c.in_ok-header.ensures.within.1 } in
     (placed _ _ _ _ _ _ _ _ c.in_ok-cells_at.cells_at c.last_bits.result.place c.last_bits.ensures.place
-    (whole c.args.form c.args.is_galileo c.args.bytes.now c.widths.result.0.now c.widths.result.1.now c.in_ok-header.header c.in_ok-masks.masks c.satellites.result c.cells.result c.in_ok-masks.satellites_at c.in_ok-cells_at.cells_at c.in_ok-end_of_fields.field-0 head c.widths.ensures.satellites c.widths.ensures.cells c.satellites.ensures c.cells.ensures.value
+    (whole c.args.form c.args.is_galileo c.args.bytes.now c.widths.result.0.now c.widths.result.1.now c.in_ok-header.header c.in_ok-header.masks c.satellites.result c.cells.result c.in_ok-header.satellites_at c.in_ok-cells_at.cells_at c.in_ok-end_of_fields.field-0 head c.widths.ensures.satellites c.widths.ensures.cells c.satellites.ensures c.cells.ensures.value
     c.in_ok-cells_at.ensures.exact c.in_ok-cells_at.ensures.within c.in_ok-end_of_fields.ensures.exact c.in_ok-end_of_fields.ensures.within c.in_ok-header.ensures.is_header c.cells.ensures.sets)).read
