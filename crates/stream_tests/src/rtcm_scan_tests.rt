@@ -363,7 +363,7 @@ fn longest_frames() -> ArrayVec<u8, 2_048> {
 /// Whether the frames of the longest messages are framed after a byte, and alone.
 fn are_longest(alloc: Global) -> bool {
     let frames = longest_frames();
-    let behind = Stream {
+    let shifted = Stream {
         bytes: frames.as_slice(),
         size: 1_994,
         frames: &[(1, 1_023), (1_030, 958)],
@@ -377,9 +377,9 @@ fn are_longest(alloc: Global) -> bool {
         before: Some((2, 0, (0, 3_974, 2))),
         after: (0, 3_974, 2),
     };
-    is_set(alloc, &behind, 0, 1)
-        && is_set(alloc, &behind, 0, 2)
-        && is_listed(&behind)
+    is_set(alloc, &shifted, 0, 1)
+        && is_set(alloc, &shifted, 0, 2)
+        && is_listed(&shifted)
         && is_set(alloc, &alone, 0, LONGEST_FRAME)
         && is_listed(&alone)
 }
