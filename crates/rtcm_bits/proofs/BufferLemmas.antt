@@ -1,13 +1,14 @@
 -- The content of a buffer before and after it is written.
-use Rattle.std.proofs.Common.{◌≡◌, ℕ, List, [], ◌++◌, length, take, drop, sym, take_all, take-append-drop, append-nil, le_refl}
+use Rattle.std.proofs.Common.{◌≡◌, ℕ, ◌+◌, ◌-◌, ◌≤◌, List, [], ◌++◌, length, take, drop, sym, take-append-drop}
+use Rattle.std.proofs.lemmas.List.{take_rest, drop-drop, drop_all}
+
+-- n more bytes were written
+pub more_out : (items slice : List ℕ) (sent n : ℕ) → slice ≡ items → drop sent items ≡ take n (take (length slice - sent) (drop sent slice)) ++ drop (sent + n) items
+more_out items slice sent n e = rw (e, take_rest items sent, ← drop-drop n sent items) (sym (take-append-drop n (drop sent items)))
 
 -- all bytes were written
-pub all_out : (items slice left : List ℕ) (sent n : ℕ) → slice ≡ items → sent ≡ 0 → n ≡ length slice → left ≡ [] → drop sent items ≡ take n slice ++ drop sent left
-all_out items slice left sent n s z e l = rw (z, l, e, take_all (length slice) slice (le_refl _), append-nil slice) (sym s)
-
--- some bytes were written, and the rest is in the buffer
-pub some_out : (items slice : List ℕ) (sent n : ℕ) → slice ≡ items → sent ≡ 0 → drop sent items ≡ take n slice ++ drop n items
-some_out items slice sent n s z = rw (z, s) (sym (take-append-drop n items))
+pub all_out : (items left : List ℕ) (sent : ℕ) → length items ≤ sent → left ≡ [] → drop sent items ≡ left
+all_out items left sent h e = rw e (drop_all sent items h)
 
 -- bytes were appended to those in the buffer
 pub one_more : (waiting items new bytes : List ℕ) (sent : ℕ) → sent ≡ 0 → waiting ≡ drop sent items → new ≡ items ++ bytes → drop sent new ≡ waiting ++ bytes

@@ -51,13 +51,15 @@ impl<W> Buffered<W> {
         ensures empty { IfOk result (λ b. b.waiting ≡ []) }
         ensures fine { IfOk result (λ b. b.has_failed ≡ false) }
     {
-        let bytes = Vec::with_capacity(alloc, BUFFER_BYTES)?;
-        Ok(Buffered {
-            device,
-            bytes,
-            sent: 0,
-            failed: false,
-        })
+        match Vec::with_capacity(alloc, BUFFER_BYTES) {
+            Ok(bytes) => Ok(Buffered {
+                device,
+                bytes,
+                sent: 0,
+                failed: false,
+            }),
+            Err(error) => Err(error),
+        }
     }
 
     /// Returns the device. Bytes in the buffer are lost.
@@ -69,25 +71,28 @@ impl<W> Buffered<W> {
 }
 
 impl<W: Write> Buffered<W> {
-    /// Writes the bytes in the buffer, up to a failure.
+    /// Writes the bytes in the buffer, up to a failure. Fails if the device has failed before.
     fn send(&mut self) -> io::Result<()>
-        requires { self.old.has_failed ≡ false }
         ensures bytes { Keeps (contents_of W.contents self.old) (contents_of W.contents self.new) }
         ensures all { OnOk result ((self.new.waiting ≡ []) × (self.new.has_failed ≡ false)) }
         ensures failed { OnErr result (self.new.has_failed ≡ true) }
+        ensures over { self.old.has_failed ≡ true → IsErr result × (self.new ≡ self.old) }
     {
-        let (sent, result) = write_out(self.bytes.as_slice(), &mut self.device);
-        match result {
-            Ok(()) => {
-                self.bytes.clear();
-                Ok(())
-            }
-            Err(error) => {
-                self.sent = sent;
-                self.failed = true;
-                Err(error)
+        if self.failed {
+            return Err(io::Error::from(ErrorKind::Other));
+        }
+        self.failed = true;
+        while self.sent < self.bytes.len() {
+            match self.device.write(&self.bytes[self.sent..]) {
+                Ok(0) => return Err(io::Error::from(ErrorKind::WriteZero)),
+                Ok(n) => self.sent += n,
+                Err(error) => return Err(error),
             }
         }
+        self.bytes.clear();
+        self.sent = 0;
+        self.failed = false;
+        Ok(())
     }
 }
 
@@ -103,14 +108,13 @@ impl<W: Write> Write for Buffered<W> {
         ensures room { self.old.has_failed ≡ false → length self.old.waiting < 65536
             → result ≡ Ok (min (length buf.now) (65536 - length self.old.waiting)) }
     {
-        if self.failed {
-            return Err(io::Error::from(ErrorKind::Other));
-        }
-        if self.bytes.as_slice().len() == BUFFER_BYTES {
+        if self.failed || self.bytes.as_slice().len() == BUFFER_BYTES {
             self.send()?;
         }
         let n = buf.len().min(BUFFER_BYTES - self.bytes.as_slice().len());
-        append(&mut self.bytes, &buf[..n]);
+        let Ok(()) = self.bytes.extend_from_slice(&buf[..n]) else {
+            unreachable!()
+        };
         Ok(n)
     }
 
@@ -120,40 +124,9 @@ impl<W: Write> Write for Buffered<W> {
         ensures failed { OnErr result (self.new.has_failed ≡ true) }
         ensures over { self.old.has_failed ≡ true → IsErr result × (self.new ≡ self.old) }
     {
-        if self.failed {
-            return Err(io::Error::from(ErrorKind::Other));
-        }
         self.send()?;
         let result = self.device.flush();
         self.failed = result.is_err();
         result
     }
-}
-
-/// Writes bytes up to a failure, and returns the number written and the failure.
-fn write_out<W: Write>(bytes: &[u8], device: &mut W) -> (usize, io::Result<()>)
-    ensures bound { result.0 ≤ length bytes.now }
-    ensures all { OnOk result.1 (result.0 ≡ length bytes.now) }
-    ensures bytes { Appends (W.contents device.old) (W.contents device.new) (take result.0 bytes.now) }
-{
-    let mut sent = 0;
-    while sent < bytes.len() {
-        match device.write(&bytes[sent..]) {
-            Ok(0) => return (sent, Err(io::Error::from(ErrorKind::WriteZero))),
-            Ok(n) => sent += n,
-            Err(error) => return (sent, Err(error)),
-        }
-    }
-    (sent, Ok(()))
-}
-
-/// Appends bytes to those in the buffer, for which there is room.
-fn append(waiting: &mut Vec<u8>, bytes: &[u8])
-    requires { vec_len waiting.old + length bytes.now ≤ vec_capacity waiting.old }
-    ensures items { waiting.new.items ≡ waiting.old.items ++ bytes.now }
-    ensures capacity { vec_capacity waiting.old ≤ vec_capacity waiting.new }
-{
-    let Ok(()) = waiting.extend_from_slice(bytes) else {
-        unreachable!()
-    };
 }

@@ -50,13 +50,15 @@ impl<'a> PieceReader<'a> {
         ensures rest { self.new.rest ≡ self.old.rest }
     {
         if self.left == 0 {
-            self.left = match self.sizes.first() {
-                Some(size) => (*size).max(1),
-                None => usize::MAX,
+            let size = match self.sizes {
+                [] => usize::MAX,
+                [size] => *size,
+                [size, rest @ ..] => {
+                    self.sizes = rest;
+                    *size
+                }
             };
-            if self.sizes.len() > 1 {
-                self.sizes = &self.sizes[1..];
-            }
+            self.left = size.max(1);
         }
         self.left
     }
@@ -143,9 +145,11 @@ impl<W: Write> Write for ShortWriter<W> {
             return self.refuse();
         }
         let n = buf.len().min(self.most).min(self.left);
-        let taken = self.inner.write(&buf[..n])?;
-        self.left -= taken;
-        Ok(taken)
+        let result = self.inner.write(&buf[..n]);
+        if let Ok(taken) = &result {
+            self.left -= *taken;
+        }
+        result
     }
 
     fn flush(&mut self) -> io::Result<()> {

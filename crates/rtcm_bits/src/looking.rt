@@ -44,25 +44,13 @@ pub(crate) fn make_room(bytes: &mut Vec<u8>, counts: &mut Vec<u16>, first: usize
     if n <= CAPACITY - bytes.len() {
         return first;
     }
-    move_to_front(bytes, counts, first);
+    remove_front(bytes, first);
+    remove_front(counts, first);
     0
 }
 
-/// Removes the items before index `first`.
-#[inline(never)]
-fn move_to_front(bytes: &mut Vec<u8>, counts: &mut Vec<u16>, first: usize)
-    requires within { first ≤ length bytes.old.items }
-    requires counts { length counts.old.items ≡ length bytes.old.items }
-    ensures bytes { bytes.new.items ≡ drop first bytes.old.items }
-    ensures counts { counts.new.items ≡ drop first counts.old.items }
-    ensures capacity { (vec_capacity bytes.new ≡ vec_capacity bytes.old)
-        × (vec_capacity counts.new ≡ vec_capacity counts.old) }
-{
-    remove_front(bytes, first);
-    remove_front(counts, first);
-}
-
 /// Removes the first `n` items.
+#[inline(never)]
 fn remove_front<T: Copy + Drop>(items: &mut Vec<T>, n: usize)
     requires { n ≤ length items.old.items }
     ensures items { items.new.items ≡ drop n items.old.items }

@@ -1,17 +1,23 @@
-use Rattle.std.proofs.Common.{◌≡◌, length, rules}
-use Rattle.std.proofs.KnownBytes.{append_known-moved}
-use Rattle.rtcm_bits.proofs.BufferLemmas.{all_out, some_out}
+use Rattle.std.proofs.Common.{◌-◌, length, drop, arith, length-take}
+use Rattle.std.proofs.KnownBytes.{append_known-moved, Keeps-trans}
+use Rattle.rtcm_bits.proofs.BufferLemmas.{more_out, all_out}
 use Rattle.rtcm_bits.proofs.buffered.Buffered.send.Goals as goal
 
-pub returns-in-Ok-clause-bytes : goal.returns-in-Ok-clause-bytes
-returns-in-Ok-clause-bytes g c =
-    let none : c.self.inside.sent ≡ 0 = search rules in
-    let whole : c.write_out-sent.result.0 ≡ length c.as_slice.result.now = search rules in
-    rw (← c.self.view_is) (append_known-moved _ _ _ _ _ c.write_out-sent.ensures.bytes
-    (all_out c.self.inside.bytes.items c.as_slice.result.now _ c.self.inside.sent c.write_out-sent.result.0 c.as_slice.ensures.value none whole c.clear.ensures.items))
+pub loop-self-preserved : goal.loop-self-preserved
+loop-self-preserved g c =
+    let s = c.loop-self.self-inside in
+    let xs = c.deref.result.now in
+    let fits = c.in-Ok.ensures.bound in
+    let most = length-take (length xs - s.sent) (drop s.sent xs) in
+    record {
+      within = omega arith;
+      held = c.loop-self.invariant.held;
+      room = c.loop-self.invariant.room;
+      failed = c.loop-self.invariant.failed;
+      bytes = Keeps-trans _ _ _ c.loop-self.invariant.bytes (append_known-moved _ _ _ _ _ c.in-Ok.ensures.bytes (more_out s.bytes.items c.deref.result.now s.sent c.in-Ok.n c.deref.ensures.value));
+    }
 
-pub returns-in-Err-clause-bytes : goal.returns-in-Err-clause-bytes
-returns-in-Err-clause-bytes g c =
-    let none : c.self.inside.sent ≡ 0 = search rules in
-    rw (← c.self.view_is) (append_known-moved _ _ _ _ _ c.write_out-sent.ensures.bytes
-    (some_out c.self.inside.bytes.items c.as_slice.result.now c.self.inside.sent c.write_out-sent.result.0 c.as_slice.ensures.value none))
+pub returns-clause-bytes : goal.returns-clause-bytes
+returns-clause-bytes g c =
+    let s = c.loop-self.self-inside in
+    rw (← all_out s.bytes.items c.clear.new.self.items s.sent (omega arith) c.clear.ensures.items) c.loop-self.invariant.bytes

@@ -1,0 +1,16 @@
+use Rattle.std.proofs.Common.{◌≡◌, ◌≤◌, ◌-◌, length, drop, true, vec_capacity}
+use Rattle.std.specs.Io.KnownBytes.{Keeps, append_known}
+use Rattle.rtcm_bits.specs.Buffering.{contents_of}
+use Rattle.rtcm_bits.proofs.buffered.Buffered.send.Given as goal
+
+abbrev pub invariant-loop-self : goal.invariant-loop-self
+invariant-loop-self g l = record {
+  within : l.self-inside.sent ≤ length l.self-inside.bytes.items;
+  held : length l.self-inside.bytes.items ≤ 65536;
+  room : 65536 ≤ vec_capacity l.self-inside.bytes;
+  failed : l.self-inside.failed ≡ true;
+  bytes : Keeps (contents_of g.W.Write.contents l.fn.self) (append_known (g.W.Write.contents l.self-inside.device) (drop l.self-inside.sent l.self-inside.bytes.items));
+}
+
+abbrev pub decreases-loop-self : goal.decreases-loop-self
+decreases-loop-self g l = length l.self-inside.bytes.items - l.self-inside.sent
