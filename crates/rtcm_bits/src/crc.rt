@@ -58,9 +58,7 @@ pub fn crc24q(bytes: &[u8]) -> u32
     ensures value { result ≡ crc bytes.now }
     ensures bound { result < 2 ^ 24 }
 {
-    let mut register = CheckRegister::new();
-    register.take_all(bytes);
-    register.value()
+    after_all(0, bytes)
 }
 
 /// Returns the register after these bytes, processed eight at a time and the rest one by one.
