@@ -342,7 +342,7 @@ impl Framer {
                 Decision::Found(size) => return Some(size),
             }
         }
-        self.set_drained();
+        self.drained = true;
         None
     }
 
@@ -401,14 +401,5 @@ impl Framer {
         self.candidate = Candidate::new();
         self.place += size as u64;
         offset
-    }
-
-    /// Marks that the held bytes decide no further frame.
-    fn set_drained(&mut self)
-        requires { length self.old.held < longest_frame }
-        ensures drained { self.new ≡ record self.old { is_ready = true } }
-        ensures room { length self.new.held < longest_frame }
-    {
-        self.drained = true;
     }
 }

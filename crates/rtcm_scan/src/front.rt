@@ -1,9 +1,8 @@
 //! The candidate at the front of the held bytes: its held bytes are read, and then it is decided.
 ghost use Rattle.std.specs.Prelude.{◌≡◌, ◌≢◌, ◌+◌, ◌-◌, ◌<◌, ◌≤◌, ℕ, [], min, length, slice_index, take};
 ghost use Rattle.rtcm_scan.specs.Candidate.{HasTaken, wanted_by};
-ghost use Rattle.rtcm_scan.specs.Pending.{asked};
 ghost use Rattle.rtcm_bits.specs.Window.{looked_through, without_front};
-ghost use Rattle.rtcm_scan.specs.Results.{ComesTo, if_missing};
+ghost use Rattle.rtcm_scan.specs.Results.{ComesTo};
 
 use crate::candidate::{Candidate, PREAMBLE};
 use rtcm_bits::{Window, laws};
@@ -33,7 +32,13 @@ pub(crate) fn examine(window: &mut Window, candidate: &mut Candidate)
     ensures numbers { (i : ℕ) → slice_index window.old.bytes i < 256 }
 {
     examine_header(window, candidate);
-    examine_rest(window, candidate);
+    // The bytes after the header are read all at once.
+    let end = candidate.wanted.min(window.held());
+    if candidate.count < end {
+        let more = end - candidate.count;
+        window.check_range(candidate.count, more, &mut candidate.register);
+        candidate.count = end;
+    }
 }
 
 /// Reads the candidate's header byte by byte, since each of its bytes may change the frame's size,
@@ -49,42 +54,15 @@ fn examine_header(window: &mut Window, candidate: &mut Candidate)
         ≡ looked_through window.old candidate.old.count (candidate.new.count - candidate.old.count) }
     ensures bytes { window.new.bytes ≡ window.old.bytes }
 {
-    let end = read_singly(window.held(), candidate.count);
+    let held = window.held();
+    let end = if held - candidate.count == 1 {
+        held
+    } else {
+        held.min(3)
+    };
     while candidate.count < candidate.wanted && candidate.count < end {
         let byte = window.look(candidate.count);
         candidate.take(byte);
-    }
-}
-
-/// Returns the number of held bytes up to which a candidate is read byte by byte, if `count` of
-/// them are read.
-fn read_singly(held: usize, count: usize) -> usize
-    requires { count ≤ held }
-    ensures within { result ≤ held }
-    ensures header { min held 3 ≤ result }
-{
-    if held - count == 1 { held } else { held.min(3) }
-}
-
-/// Reads the held bytes after the candidate's header, all at once.
-fn examine_rest(window: &mut Window, candidate: &mut Candidate)
-    requires taken { HasTaken candidate.old (take candidate.old.count window.old.bytes) }
-    requires within { candidate.old.count ≤ length window.old.bytes }
-    requires header { candidate.old.count < candidate.old.wanted
-        → min (length window.old.bytes) 3 ≤ candidate.old.count }
-    ensures taken { HasTaken candidate.new (take candidate.new.count window.old.bytes) }
-    ensures all { candidate.new.count ≡ asked window.old.bytes }
-    ensures more { candidate.old.count ≤ candidate.new.count }
-    ensures window { window.new
-        ≡ looked_through window.old candidate.old.count (candidate.new.count - candidate.old.count) }
-    ensures bytes { window.new.bytes ≡ window.old.bytes }
-    ensures numbers { (i : ℕ) → slice_index window.old.bytes i < 256 }
-{
-    let end = candidate.wanted.min(window.held());
-    if candidate.count < end {
-        let more = end - candidate.count;
-        window.check_range(candidate.count, more, &mut candidate.register);
-        candidate.count = end;
     }
 }
 
@@ -110,23 +88,16 @@ pub(crate) fn judge(candidate: &Candidate, has_ended: bool) -> Decision
     ensures { ComesTo candidate.now has_ended result }
 {
     if candidate.count < candidate.wanted {
-        return missing(has_ended);
+        return if has_ended {
+            Decision::Passed
+        } else {
+            Decision::Open
+        };
     }
     laws::residue();
     if candidate.wanted > 1 && candidate.register.value() == 0 {
         Decision::Found(candidate.count)
     } else {
         Decision::Passed
-    }
-}
-
-/// Returns the decision if bytes are missing.
-fn missing(has_ended: bool) -> Decision
-    ensures { result ≡ if_missing has_ended }
-{
-    if has_ended {
-        Decision::Passed
-    } else {
-        Decision::Open
     }
 }

@@ -1,12 +1,17 @@
-use Rattle.std.proofs.Common.{ap, ◌∙◌, ◌<◌, arith, length, take, slice_index}
+use Rattle.std.proofs.Common.{ap, ◌∙◌, ◌<◌, ◌≤◌, arith, length, take, slice_index}
 use Rattle.rtcm_scan.proofs.CandidateLemmas.{taken_more, looked_more}
 use Rattle.rtcm_scan.proofs.front.examine_header.Goals as goal
+use Rattle.rtcm_scan.proofs.front.examine_header.Goals.{then-held-candidate-eq1, else-held-candidate-eq1}
 
 pub loop-candidate-preserved : goal.loop-candidate-preserved
 loop-candidate-preserved c =
     let s = c.args.window.now.bytes in
     let k = c.loop-candidate.candidate.count in
-    let l : c.loop-candidate.candidate.count < length c.args.window.now.bytes = omega (arith, c.if-candidate-end.true, c.read_singly-end.ensures.within, c.held.ensures.value) in
+    let e : c.if-held-candidate-eq1.end ≤ c.held-held.result = elim c.if-held-candidate-eq1.branch [
+      | then-held-candidate-eq1 w ↦ omega (arith, w.end-is)
+      | else-held-candidate-eq1 w ↦ omega (arith, w.end-is, w.min-end.ensures)
+    ] in
+    let l : c.loop-candidate.candidate.count < length c.args.window.now.bytes = omega (arith, e, c.if-candidate-end.true, c.held-held.ensures.value) in
     let n = c.take.ensures.count in
     record {
       taken = taken_more c.take.new.self s k c.look-byte.result (c.take.ensures.taken (take k s) c.loop-candidate.invariant.taken) n l

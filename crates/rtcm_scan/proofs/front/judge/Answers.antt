@@ -1,10 +1,14 @@
-use Rattle.std.proofs.Common.{arith, ◌∙◌, sym}
+use Rattle.std.proofs.Common.{arith, ◌∙◌, ap, sym}
+use Rattle.rtcm_scan.specs.Results.{if_missing}
 use Rattle.rtcm_scan.proofs.JudgeLemmas.{judge_missing, judge_found, judge_wrong, judge_none}
 use Rattle.rtcm_scan.proofs.front.judge.Goals as goal
 use Rattle.rtcm_scan.proofs.front.judge.Goals.{else-candidate-gt1-via-then-candidate-gt1+else-value-eq0, else-candidate-gt1-via-else-candidate-gt1}
 
-pub returns-then-candidate : goal.returns-then-candidate
-returns-then-candidate c = λ s l b t a. c.missing.ensures ∙ judge_missing c.args.candidate.now c.args.has_ended s l t a c.if-candidate.true
+pub returns-then-has_ended : goal.returns-then-has_ended
+returns-then-has_ended c = λ s l b t a. sym (ap if_missing c.if-has_ended.true) ∙ judge_missing c.args.candidate.now c.args.has_ended s l t a c.if-candidate.true
+
+pub returns-else-has_ended : goal.returns-else-has_ended
+returns-else-has_ended c = λ s l b t a. sym (ap if_missing c.if-has_ended.false) ∙ judge_missing c.args.candidate.now c.args.has_ended s l t a c.if-candidate.true
 
 pub returns-then-value-eq0 : goal.returns-then-value-eq0
 returns-then-value-eq0 c = λ s l b t a. judge_found c.residue.ensures c.args.candidate.now c.args.has_ended s b t a (λ h. omega (arith, h, c.if-candidate.false)) c.if-candidate-gt1.true (sym c.value.ensures.value ∙ c.if-value-eq0.true)

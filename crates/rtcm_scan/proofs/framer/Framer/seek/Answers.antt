@@ -1,4 +1,4 @@
-use Rattle.std.proofs.Common.{◌≡◌, ◌-◌, ◌<◌, ap, ◌∙◌, length, arith, length-drop}
+use Rattle.std.proofs.Common.{true, ◌≡◌, ◌-◌, ◌<◌, ap, ◌∙◌, length, arith, length-drop}
 use Rattle.rtcm_scan.specs.Scan.{FramerValue}
 use Rattle.rtcm_scan.proofs.DecisionLemmas.{from_found, from_passed, from_open, open_bound}
 use Rattle.rtcm_scan.proofs.NextLemmas.{step_passed, counts_passed, found_begins, found_stands, found_counts, finish_empty, finish_open, counts_empty, counts_open}
@@ -36,8 +36,13 @@ returns-in-Found-clause-history c = λ b fs s. found_stands c.loop-self.self c.d
 pub returns-in-Found-clause-counts : goal.returns-in-Found-clause-counts
 returns-in-Found-clause-counts c = λ b fs s. found_counts c.loop-self.self c.decide.new.self b fs c.in-Found.ensures.examined c.in-Found.ensures.tried (c.loop-self.invariant.counts b fs s)
 
-pub set_drained-requires : goal.set_drained-requires
-set_drained-requires c = elim c.loop-self-test.branch [
+-- a framer that is marked as drained
+abbrev with_ready : FramerValue → FramerValue
+with_ready v = record v { is_ready = true }
+
+-- the bytes that are held when the loop is left
+room : (c : goal.After-self-1) → length c.loop-self-test.self.held < 1029
+room c = elim c.loop-self-test.branch [
   | else-loop-self-test w ↦ (let e : length c.loop-self-test.self.held ≡ length c.loop-self.self.held = ap (λ (y : FramerValue). length y.held) w.self-is in
       omega (arith, e, c.held.ensures.value, w.loop-self-test.false))
   | then-loop-self-test+in-Open w ↦ (let e : length c.loop-self-test.self.held ≡ length c.loop-self.self.held = ap (λ (y : FramerValue). length y.held) (w.self-is ∙ w.in-Open.ensures.examined) in
@@ -45,37 +50,48 @@ set_drained-requires c = elim c.loop-self-test.branch [
       let l : length c.loop-self.self.held < 1029 = open_bound c.loop-self.self.held o.1 in omega (arith, e, l))
 ]
 
+pub invariant_of-self : goal.invariant_of-self
+invariant_of-self c =
+    let l : length c.self-2.inside.window.bytes ≡ length c.loop-self-test.self.held = ap (λ (y : FramerValue). length y.held) c.self-2.view_is in
+    let i = c.self-2.invariant in
+    (i.0, i.1, i.2, i.3, λ e. omega (arith, l, room c), i.5, i.6)
+
+pub returns-clause-room : goal.returns-clause-room
+returns-clause-room c =
+    let l : length c.self-2.inside.window.bytes ≡ length c.loop-self-test.self.held = ap (λ (y : FramerValue). length y.held) c.self-2.view_is in
+    omega (arith, l, room c)
+
 pub returns-clause-history : goal.returns-clause-history
 returns-clause-history c = λ b fs s. elim c.loop-self-test.branch [
-  | else-loop-self-test w ↦ (finish_empty c.loop-self.self c.loop-self-test.self c.set_drained.new.self b fs w.self-is c.set_drained.ensures.drained
+  | else-loop-self-test w ↦ (finish_empty c.loop-self.self c.loop-self-test.self _ b fs w.self-is (ap with_ready c.self-2.view_is)
       (omega (arith, c.held.ensures.value, w.loop-self-test.false)) (c.loop-self.invariant.history b fs s)).0
   | then-loop-self-test+in-Open w ↦ (let o = from_open c.loop-self.self.has_ended c.loop-self.self.held w.in-Open.ensures.decision in
-      (finish_open c.loop-self.self w.decide.new.self c.loop-self-test.self c.set_drained.new.self b fs w.in-Open.ensures.examined w.self-is c.set_drained.ensures.drained o.2 o.1 (c.loop-self.invariant.history b fs s)).0)
+      (finish_open c.loop-self.self w.decide.new.self c.loop-self-test.self _ b fs w.in-Open.ensures.examined w.self-is (ap with_ready c.self-2.view_is) o.2 o.1 (c.loop-self.invariant.history b fs s)).0)
 ]
 
 pub returns-clause-none : goal.returns-clause-none
 returns-clause-none c = λ b fs s. elim c.loop-self-test.branch [
-  | else-loop-self-test w ↦ (finish_empty c.loop-self.self c.loop-self-test.self c.set_drained.new.self b fs w.self-is c.set_drained.ensures.drained
+  | else-loop-self-test w ↦ (finish_empty c.loop-self.self c.loop-self-test.self _ b fs w.self-is (ap with_ready c.self-2.view_is)
       (omega (arith, c.held.ensures.value, w.loop-self-test.false)) (c.loop-self.invariant.history b fs s)).1
   | then-loop-self-test+in-Open w ↦ (let o = from_open c.loop-self.self.has_ended c.loop-self.self.held w.in-Open.ensures.decision in
-      (finish_open c.loop-self.self w.decide.new.self c.loop-self-test.self c.set_drained.new.self b fs w.in-Open.ensures.examined w.self-is c.set_drained.ensures.drained o.2 o.1 (c.loop-self.invariant.history b fs s)).1)
+      (finish_open c.loop-self.self w.decide.new.self c.loop-self-test.self _ b fs w.in-Open.ensures.examined w.self-is (ap with_ready c.self-2.view_is) o.2 o.1 (c.loop-self.invariant.history b fs s)).1)
 ]
 
 pub returns-clause-counts : goal.returns-clause-counts
 returns-clause-counts c = λ b fs s. elim c.loop-self-test.branch [
-  | else-loop-self-test w ↦ (counts_empty c.loop-self.self c.loop-self-test.self c.set_drained.new.self b fs w.self-is c.set_drained.ensures.drained
+  | else-loop-self-test w ↦ (counts_empty c.loop-self.self c.loop-self-test.self _ b fs w.self-is (ap with_ready c.self-2.view_is)
       (omega (arith, c.held.ensures.value, w.loop-self-test.false)) (c.loop-self.invariant.counts b fs s)).0
   | then-loop-self-test+in-Open w ↦ (let o = from_open c.loop-self.self.has_ended c.loop-self.self.held w.in-Open.ensures.decision in
-      (counts_open c.loop-self.self w.decide.new.self c.loop-self-test.self c.set_drained.new.self b fs w.in-Open.ensures.examined w.self-is c.set_drained.ensures.drained o.2
+      (counts_open c.loop-self.self w.decide.new.self c.loop-self-test.self _ b fs w.in-Open.ensures.examined w.self-is (ap with_ready c.self-2.view_is) o.2
       (omega (arith, c.held.ensures.value, w.loop-self-test.true)) o.1 w.in-Open.ensures.tried (c.loop-self.invariant.counts b fs s)).0)
 ]
 
 pub returns-clause-none_counts : goal.returns-clause-none_counts
 returns-clause-none_counts c = λ b fs s. elim c.loop-self-test.branch [
-  | else-loop-self-test w ↦ (counts_empty c.loop-self.self c.loop-self-test.self c.set_drained.new.self b fs w.self-is c.set_drained.ensures.drained
+  | else-loop-self-test w ↦ (counts_empty c.loop-self.self c.loop-self-test.self _ b fs w.self-is (ap with_ready c.self-2.view_is)
       (omega (arith, c.held.ensures.value, w.loop-self-test.false)) (c.loop-self.invariant.counts b fs s)).1
   | then-loop-self-test+in-Open w ↦ (let o = from_open c.loop-self.self.has_ended c.loop-self.self.held w.in-Open.ensures.decision in
-      (counts_open c.loop-self.self w.decide.new.self c.loop-self-test.self c.set_drained.new.self b fs w.in-Open.ensures.examined w.self-is c.set_drained.ensures.drained o.2
+      (counts_open c.loop-self.self w.decide.new.self c.loop-self-test.self _ b fs w.in-Open.ensures.examined w.self-is (ap with_ready c.self-2.view_is) o.2
       (omega (arith, c.held.ensures.value, w.loop-self-test.true)) o.1 w.in-Open.ensures.tried (c.loop-self.invariant.counts b fs s)).1)
 ]
 
