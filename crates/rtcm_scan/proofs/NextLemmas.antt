@@ -6,7 +6,7 @@ use Rattle.rtcm_scan.specs.Frame.{begins_frame, is_open, frame_length, framed_me
 use Rattle.rtcm_scan.specs.Frames.{Framed}
 use Rattle.rtcm_bits.specs.Window.{WindowValue, looked_through, without_front}
 use Rattle.rtcm_scan.specs.Scan.{FramerValue, HasFramed, first_held, IsPassed, window_of, with_window, with_looks}
-use Rattle.rtcm_scan.specs.Pending.{asked, with_candidate_examined}
+use Rattle.rtcm_scan.specs.Pending.{asked, with_candidate_examined, passed}
 use Rattle.rtcm_scan.specs.Examined.{HasExamined, IsCountedExactly, IsCountedTo}
 use Rattle.rtcm_scan.proofs.StepLemmas.{step_examined, step_give_up, step_take, looked_bytes}
 use Rattle.rtcm_scan.proofs.KnownLemmas.{counted_empty, counted_open, counted_frame}
@@ -22,10 +22,7 @@ use Rattle.rtcm_scan.proofs.DrainedLemmas.{drained_ended, drained_waiting}
 pub stands_looks : (v : FramerValue) (w : WindowValue) (t : ℕ) (b : List ℕ) (fs : List Framed) → HasFramed v b fs → HasFramed (with_looks v w t) b fs
 stands_looks v w t b fs s = record { taken = s.taken; held = s.held; fits = s.fits; scanned = s.scanned; first = s.first; skipped = s.skipped }
 
--- the state after give_up and after take_frame
-abbrev pub passed : FramerValue → FramerValue
-passed u = record (with_window u (without_front (window_of u) 1) 0) { skipped = u.skipped + 1 }
-
+-- the state after take_frame
 abbrev frame_taken : FramerValue → ℕ → FramerValue
 frame_taken u size = with_window u (without_front (looked_through (window_of u) 3 (size - 6)) size) 0
 

@@ -9,10 +9,10 @@ use Rattle.rtcm_scan.specs.declared.candidate.Candidate.{Candidate}
 use Rattle.rtcm_scan.specs.Candidate.{HasTaken}
 use Rattle.rtcm_scan.specs.Frames.{Framed}
 use Rattle.rtcm_scan.specs.Scan.{FramerValue, HasFramed, IsPassed, scan_of, window_of, with_window, with_looks}
-use Rattle.rtcm_scan.specs.Pending.{asked, with_candidate_examined}
+use Rattle.rtcm_scan.specs.Pending.{asked, with_candidate_examined, passed}
 use Rattle.rtcm_scan.specs.Examined.{HasExamined}
 use Rattle.rtcm_scan.proofs.CandidateLemmas.{looked_twice, taken_more}
-use Rattle.rtcm_scan.proofs.NextLemmas.{passed, step_passed, counts_passed, stands_looks}
+use Rattle.rtcm_scan.proofs.NextLemmas.{step_passed, counts_passed, stands_looks}
 use Rattle.rtcm_scan.proofs.HistoryLemmas.{view_dropped}
 use Rattle.rtcm_scan.proofs.StepLemmas.{looked_bytes, step_examined_to}
 
@@ -136,6 +136,19 @@ view_passed v limit place skipped tried n k w w' ended ready e f h =
     ap (λ (y : WindowValue). scan_of limit (place + n) y ended ready (skipped + n) k) (f ∙ sym (through_others w n k))
     ∙ ap (λ (bs : List ℕ). let r : FramerValue = record (scan_of limit (place + n) (looked_through u 0 k) ended ready (skipped + n) k) { taken = place + n + length bs; held = bs } in r) (looked_bytes u 0 k)
     ∙ ap (λ (y : FramerValue). with_looks y (looked_through (window_of y) 0 k) k) (view_over v limit place skipped tried n w ended ready e h)
+
+-- the same after the byte at the front, which is in no frame
+pub view_passed_on : (v : FramerValue) (limit place skipped tried n k : ℕ) (w u w' : WindowValue) (ended ready : Bool) → scan_of limit place w ended ready skipped tried ≡ v → 0 < length w.bytes
+    → u ≡ without_front w 1 → w' ≡ without_front (looked_through u 0 (n + k)) n → n ≤ length u.bytes
+    → scan_of limit (place + (1 + n)) w' ended ready (skipped + (1 + n)) k ≡ passed_to (passed v) n k
+view_passed_on v limit place skipped tried n k w u w' ended ready e h g f l =
+    let a : place + (1 + n) ≡ place + 1 + n = omega arith in
+    let b : skipped + (1 + n) ≡ skipped + 1 + n = omega arith in
+    let d = view_dropped v limit place skipped tried 1 w w u ended ready e refl g h in
+    let s : scan_of limit (place + 1) u ended ready (skipped + 1) 0 ≡ passed v =
+    ap (λ (y : FramerValue). let r : FramerValue = record y { skipped = skipped + 1 } in r) d
+    ∙ ap (λ (y : FramerValue). let r : FramerValue = record (with_window v (without_front (window_of y) 1) 0) { skipped = y.skipped + 1 } in r) e in
+    rw (a, b) (view_passed (passed v) limit (place + 1) (skipped + 1) 0 n k u w' ended ready s f l)
 
 -- the content of the window is what the framer holds
 pub others_held : (v : FramerValue) (bytes : List ℕ) (n : ℕ) → bytes ≡ v.held → n ≤ length bytes → ((i : ℕ) → i < n → slice_index bytes i ≢ 0xD3) → (n ≤ length v.held) × ((i : ℕ) → i < n → slice_index v.held i ≢ 0xD3)

@@ -12,7 +12,7 @@ ghost use Rattle.rtcm_scan.specs.Scan.{HasFramed, ReturnsFrame, IsScannedOn, mos
 ghost use Rattle.rtcm_scan.specs.Scan.{with_window, with_byte, with_bytes};
 ghost use Rattle.rtcm_scan.specs.Candidate.{HasTaken};
 ghost use Rattle.rtcm_scan.specs.Examined.{HasExamined, IsCountedExactly, CountsFrame, CountsKnown};
-ghost use Rattle.rtcm_scan.specs.Pending.{asked, HasFrame, with_candidate_examined};
+ghost use Rattle.rtcm_scan.specs.Pending.{asked, HasFrame, with_candidate_examined, passed};
 ghost use Rattle.rtcm_bits.specs.FrameOf.{longest_frame};
 ghost use Rattle.rtcm_bits.specs.Window.{looked_through, without_front};
 ghost use Rattle.rtcm_scan.specs.Decided.{most_undecided};
@@ -335,10 +335,7 @@ impl Framer {
         while self.held() > 0 {
             match self.decide() {
                 Decision::Open => break,
-                Decision::Passed => {
-                    self.give_up();
-                    self.pass_over();
-                }
+                Decision::Passed => self.pass_over(),
                 Decision::Found(size) => return Some(size),
             }
         }
@@ -357,32 +354,19 @@ impl Framer {
         judge(&self.candidate, self.ended)
     }
 
-    /// Drops the byte at the front, which is in no frame.
-    fn give_up(&mut self)
+    /// Drops the byte at the front, which is in no frame, and those before the next preamble.
+    fn pass_over(&mut self)
         requires { 0 < length self.old.held }
-        ensures { self.new
-            ≡ record (with_window self.old (without_front (window_of self.old) 1) 0) {
-              skipped = self.old.skipped
-                  + 1;
-            } }
+        ensures history { (b : List ℕ) (fs : List Framed) → HasFramed (passed self.old) b fs → HasFramed self.new b fs }
+        ensures counts { (b : List ℕ) (fs : List Framed) → HasExamined (passed self.old) b fs → HasExamined self.new b fs }
+        ensures ready { self.new.is_ready ≡ self.old.is_ready }
+        ensures same { IsScannedOn (passed self.old) self.new }
     {
         self.window.drop_front(1);
         self.candidate = Candidate::new();
-        self.place += 1;
-        self.given_up += 1;
-    }
-
-    /// Drops the bytes before the next preamble, all at once.
-    fn pass_over(&mut self)
-        requires { self.old.tried ≡ 0 }
-        ensures history { (b : List ℕ) (fs : List Framed) → HasFramed self.old b fs → HasFramed self.new b fs }
-        ensures counts { (b : List ℕ) (fs : List Framed) → HasExamined self.old b fs → HasExamined self.new b fs }
-        ensures ready { self.new.is_ready ≡ self.old.is_ready }
-        ensures same { IsScannedOn self.old self.new }
-    {
-        let n = pass_others(&mut self.window, &mut self.candidate);
-        self.place += n as u64;
-        self.given_up += n as u64;
+        let n = 1 + pass_others(&mut self.window, &mut self.candidate) as u64;
+        self.place += n;
+        self.given_up += n;
     }
 
     /// Writes the message of the frame at the front to the buffer, drops the frame, and returns its

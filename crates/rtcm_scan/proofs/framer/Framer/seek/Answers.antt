@@ -1,29 +1,32 @@
-use Rattle.std.proofs.Common.{true, ◌≡◌, ◌-◌, ◌<◌, ap, ◌∙◌, length, arith, length-drop}
+use Rattle.std.proofs.Common.{true, ◌≡◌, ◌-◌, ◌<◌, ap, ◌∙◌, length, refl, arith, length-drop}
 use Rattle.rtcm_scan.specs.Scan.{FramerValue}
+use Rattle.rtcm_scan.specs.Pending.{passed}
 use Rattle.rtcm_scan.proofs.DecisionLemmas.{from_found, from_passed, from_open, open_bound}
 use Rattle.rtcm_scan.proofs.NextLemmas.{step_passed, counts_passed, found_begins, found_stands, found_counts, finish_empty, finish_open, counts_empty, counts_open}
 use Rattle.rtcm_scan.proofs.framer.Framer.seek.Goals as goal
 use Rattle.rtcm_scan.proofs.framer.Framer.seek.Goals.{else-loop-self-test, then-loop-self-test+in-Open}
 
 pub pass_over-requires : goal.pass_over-requires
-pass_over-requires c = ap (λ (y : FramerValue). y.tried) c.give_up.ensures
+pass_over-requires c =
+    let e : length c.decide.new.self.held ≡ length c.loop-self.self.held = ap (λ (y : FramerValue). length y.held) c.in-Passed.ensures.examined in
+    omega (arith, e, c.held.ensures.value, c.loop-self-test.true)
 
 pub loop-self-preserved : goal.loop-self-preserved
 loop-self-preserved c =
     let h : 0 < length c.loop-self.self.held = omega (arith, c.held.ensures.value, c.loop-self-test.true) in
     let o = c.pass_over.ensures in
     record {
-      history = λ b fs s. o.history b fs (step_passed c.loop-self.self c.decide.new.self c.give_up.new.self b fs c.in-Passed.ensures.examined c.give_up.ensures h
+      history = λ b fs s. o.history b fs (step_passed c.loop-self.self c.decide.new.self (passed c.decide.new.self) b fs c.in-Passed.ensures.examined refl h
           (from_passed c.loop-self.self.has_ended c.loop-self.self.held c.in-Passed.ensures.decision) (c.loop-self.invariant.history b fs s));
-      counts = λ b fs s. o.counts b fs (counts_passed c.loop-self.self c.decide.new.self c.give_up.new.self b fs c.in-Passed.ensures.examined c.give_up.ensures h
+      counts = λ b fs s. o.counts b fs (counts_passed c.loop-self.self c.decide.new.self (passed c.decide.new.self) b fs c.in-Passed.ensures.examined refl h
           (from_passed c.loop-self.self.has_ended c.loop-self.self.held c.in-Passed.ensures.decision) c.in-Passed.ensures.tried (c.loop-self.invariant.counts b fs s));
       same = record {
-        held = (let d : length c.give_up.new.self.held ≡ length c.loop-self.self.held - 1 = ap (λ (y : FramerValue). length y.held) c.give_up.ensures ∙ length-drop 1 c.decide.new.self.held ∙ ap (λ (y : FramerValue). length y.held - 1) c.in-Passed.ensures.examined in omega (arith, d, o.same.held, c.loop-self.invariant.same.held));
-        limit = o.same.limit ∙ ap (λ (y : FramerValue). y.limit) c.give_up.ensures ∙ ap (λ (y : FramerValue). y.limit) c.in-Passed.ensures.examined ∙ c.loop-self.invariant.same.limit;
-        taken = o.same.taken ∙ ap (λ (y : FramerValue). y.taken) c.give_up.ensures ∙ ap (λ (y : FramerValue). y.taken) c.in-Passed.ensures.examined ∙ c.loop-self.invariant.same.taken;
-        ended = o.same.ended ∙ ap (λ (y : FramerValue). y.has_ended) c.give_up.ensures ∙ ap (λ (y : FramerValue). y.has_ended) c.in-Passed.ensures.examined ∙ c.loop-self.invariant.same.ended;
+        held = (let d : length (passed c.decide.new.self).held ≡ length c.loop-self.self.held - 1 = length-drop 1 c.decide.new.self.held ∙ ap (λ (y : FramerValue). length y.held - 1) c.in-Passed.ensures.examined in omega (arith, d, o.same.held, c.loop-self.invariant.same.held));
+        limit = o.same.limit ∙ ap (λ (y : FramerValue). y.limit) c.in-Passed.ensures.examined ∙ c.loop-self.invariant.same.limit;
+        taken = o.same.taken ∙ ap (λ (y : FramerValue). y.taken) c.in-Passed.ensures.examined ∙ c.loop-self.invariant.same.taken;
+        ended = o.same.ended ∙ ap (λ (y : FramerValue). y.has_ended) c.in-Passed.ensures.examined ∙ c.loop-self.invariant.same.ended;
       };
-      ready = o.ready ∙ ap (λ (y : FramerValue). y.is_ready) c.give_up.ensures ∙ ap (λ (y : FramerValue). y.is_ready) c.in-Passed.ensures.examined ∙ c.loop-self.invariant.ready;
+      ready = o.ready ∙ ap (λ (y : FramerValue). y.is_ready) c.in-Passed.ensures.examined ∙ c.loop-self.invariant.ready;
     }
 
 pub returns-in-Found-clause-begins : goal.returns-in-Found-clause-begins
