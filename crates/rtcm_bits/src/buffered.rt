@@ -108,10 +108,12 @@ impl<W: Write> Write for Buffered<W> {
         ensures room { self.old.has_failed ≡ false → length self.old.waiting < 65536
             → result ≡ Ok (min (length buf.now) (65536 - length self.old.waiting)) }
     {
-        if self.failed || self.bytes.as_slice().len() == BUFFER_BYTES {
-            self.send()?;
+        if self.failed || self.bytes.len() == BUFFER_BYTES {
+            if let Err(error) = self.send() {
+                return Err(error);
+            }
         }
-        let n = buf.len().min(BUFFER_BYTES - self.bytes.as_slice().len());
+        let n = buf.len().min(BUFFER_BYTES - self.bytes.len());
         let Ok(()) = self.bytes.extend_from_slice(&buf[..n]) else {
             unreachable!()
         };
@@ -124,7 +126,9 @@ impl<W: Write> Write for Buffered<W> {
         ensures failed { OnErr result (self.new.has_failed ≡ true) }
         ensures over { self.old.has_failed ≡ true → IsErr result × (self.new ≡ self.old) }
     {
-        self.send()?;
+        if let Err(error) = self.send() {
+            return Err(error);
+        }
         let result = self.device.flush();
         self.failed = result.is_err();
         result
