@@ -7,14 +7,13 @@ ghost use Rattle.gnss_obs.specs.SignalLists.{indices, IsAdded, IsOf};
 
 use crate::signal::Signal;
 use crate::tables::GALILEO_SIGNAL_COUNT;
-use indexmap::IndexSet;
 use std::alloc::{AllocError, Global};
 use std::marker::Model;
 
 /// Distinct signals of one system, in the order in which they were added.
 #[derive(Drop)]
 pub struct Signals {
-    order: IndexSet<Signal>,
+    order: Vec<Signal>,
     // The index of each signal in `order`, by its index in the table of its system. The table of
     // Galileo is the longest.
     places: [Option<usize>; GALILEO_SIGNAL_COUNT],
@@ -27,9 +26,9 @@ impl Model for Signals {
 
     ghost Value = { List SignalAt };
 
-    ghost view = { λ s. s.order.keys };
+    ghost view = { λ s. s.order.items };
 
-    ghost invariant = { λ s. AreFound s.places (indices s.order.keys) };
+    ghost invariant = { λ s. AreFound s.places (indices s.order.items) };
 }
 
 impl Signals {
@@ -38,7 +37,7 @@ impl Signals {
         ensures { result ≡ [] }
     {
         Signals {
-            order: IndexSet::new(alloc),
+            order: Vec::new(alloc),
             places: [None; GALILEO_SIGNAL_COUNT],
         }
     }
@@ -57,12 +56,14 @@ impl Signals {
         ensures failed { OnErr result (self.new ≡ self.old) }
     {
         let index = signal.index();
-        match self.order.insert_full(signal) {
-            Ok((place, is_new)) => {
-                if is_new {
-                    self.places[index] = Some(place);
-                }
-                Ok(is_new)
+        if self.places[index].is_some() {
+            return Ok(false);
+        }
+        let place = self.order.len();
+        match self.order.push(signal) {
+            Ok(()) => {
+                self.places[index] = Some(place);
+                Ok(true)
             }
             Err(_) => Err(AllocError),
         }
