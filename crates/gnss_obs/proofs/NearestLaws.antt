@@ -1,5 +1,5 @@
 -- Rounding a product.
-use Rattle.std.proofs.Common.{ℕ, zero, suc, ℤ, pos, negsuc, ◌≡◌, ◌+◌, ◌*◌, ◌/◌, ◌^◌, ◌<◌, ◌≤◌, ◌-ℤ◌, ◌*ℤ◌, ◌<ℤ◌, ◌≤ℤ◌, unsigned_abs, refl, ap, sym, subst, ◌∙◌, arith, w64, to_z, of_z, add-one}
+use Rattle.std.proofs.Common.{ℕ, zero, suc, ℤ, pos, negsuc, ◌≡◌, ◌+◌, ◌*◌, ◌/◌, ◌^◌, ◌<◌, ◌≤◌, ◌-ℤ◌, ◌*ℤ◌, ◌<ℤ◌, ◌≤ℤ◌, unsigned_abs, refl, ap, sym, ◌∙◌, arith, w64, to_z, of_z, add-one}
 use Rattle.std.proofs.Math.IntN.{neg_ℤ, negsuc-*ℤ-pos}
 use Rattle.std.proofs.Math.Nat.{div-div-eq-div-mul, mul-div_cancel_left}
 use Rattle.std.proofs.lemmas.Int.{ints, unsigned_abs-mul}
@@ -97,10 +97,6 @@ turned (negsuc t) q =
   where
     back : (k : ℕ) → pos k ≡ pos 0 -ℤ neg_ℤ (pos k)
     back k = omega (arith, ints)
-
--- a nearest number in other terms
-pub nearest_named : (a b : ℤ) (q : ℕ) (t u : ℤ) → a ≡ b → t ≡ u → IsNearest a q t → IsNearest b q u
-nearest_named a b q t u same_fraction same_number near = subst (λ x. IsNearest x q u) same_fraction (subst (IsNearest a q) same_number near)
 
 -- a nearest number is not much larger than the fraction
 pub nearest_bound : (a : ℤ) (q : ℕ) (t : ℤ) → IsNearest a q t → unsigned_abs t * q ≤ unsigned_abs a + q

@@ -1,8 +1,9 @@
 -- The range of the values of a message.
-use Rattle.std.proofs.Common.{ℕ, ℤ, pos, ◌≡◌, ◌+◌, ◌*◌, ◌^◌, ◌<◌, ◌≤◌, ◌==◌, ◌*ℤ◌, ◌-ℤ◌, ◌≤ℤ◌, Bool, true, false, List, [], ◌∷◌, unsigned_abs, arith, lit<, lit≤}
+use Rattle.std.proofs.Common.{ℕ, ℤ, pos, ◌≡◌, ◌+◌, ◌*◌, ◌^◌, ◌<◌, ◌≤◌, ◌==◌, ◌*ℤ◌, ◌-ℤ◌, ◌≤ℤ◌, ◌<ℤ◌, Bool, true, false, List, [], ◌∷◌, unsigned_abs, arith, le_trans, lit<, lit≤, w64, to_z, of_z}
 use Rattle.std.specs.Prelude.{if◌then◌else◌}
 use Rattle.std.specs.List.{AllByRecursion}
 use Rattle.std.proofs.lemmas.Int.{ints}
+use Rattle.std.proofs.lemmas.Nat.{mul-le}
 use Rattle.gnss_obs.specs.declared.system.System.{System}
 use Rattle.gnss_obs.specs.declared.system.System.TheVariants.{Gps, Galileo}
 use Rattle.gnss_obs.specs.SignalTables.{carrier_of, band_of}
@@ -27,7 +28,7 @@ carriers_within : (system : System) → AllByRecursion (λ c. c.1 ≤ most_hertz
 carriers_within Gps = (lit≤ tt, (lit≤ tt, (lit≤ tt, tt)))
 carriers_within Galileo = (lit≤ tt, (lit≤ tt, (lit≤ tt, (lit≤ tt, (lit≤ tt, tt)))))
 
-hertz_within : (s : SignalAt) → hertz_of s ≤ most_hertz
+pub hertz_within : (s : SignalAt) → hertz_of s ≤ most_hertz
 hertz_within s = carrier_within (band_of (code_of s)) (carriers s.system) (carriers_within s.system)
 
 -- ---- values
@@ -64,3 +65,21 @@ shift_small s v h =
 
 pub decibels_between : (s : ℕ) → 0 < s → s < 1024 → (pos 1 ≤ℤ nearest_strength s) × (nearest_strength s ≤ℤ pos 99_999)
 decibels_between s some few = (omega (arith, ints, some), omega (arith, ints, few))
+
+pub strength_within : (s : ℕ) → s < 1024 → (pos 0 ≤ℤ nearest_strength s) × (nearest_strength s <ℤ pos 100_000)
+strength_within s few = (omega (arith, ints), omega (arith, ints, few))
+
+pub strength_small : (s : ℕ) → s < 1024 → unsigned_abs (nearest_strength s) < 10 ^ 12
+strength_small s few = omega (arith, ints, few)
+
+pub strength_positive : (s : ℕ) → 0 < s → pos 0 <ℤ nearest_strength s
+strength_positive s some = omega (arith, ints, some)
+
+-- ---- the arguments of a rounding
+
+-- A range or a phase range is unchanged by a cast.
+pub kept : (x : ℤ) → unsigned_abs x ≤ 2 ^ 40 → to_z w64 (of_z w64 x) ≡ x
+kept x h = omega (arith, ints, h)
+
+pub product_fits : (x : ℤ) (h : ℕ) → unsigned_abs x ≤ 2 ^ 40 → h ≤ most_hertz → unsigned_abs (to_z w64 (of_z w64 x)) * h ≤ 2 ^ 30 * 2 ^ 62
+product_fits x h size small = rw (kept x size) (le_trans (mul-le (unsigned_abs x) h (2 ^ 40) most_hertz size small) (lit≤ tt))

@@ -1,13 +1,16 @@
--- The signal tables: their IDs rise row by row, and each ID has the row that is listed for it.
-use Rattle.std.proofs.Common.{ℕ, ◌≡◌, ◌+◌, ◌<◌, ◌==◌, ◌&&◌, Bool, true, false, nat_lt, length, position, List, Option, Some, None, Bor, slice_index_or, refl, sym, ap, arith}
+-- The signal tables: their IDs rise row by row, each ID and each code has one row, and each ID the row that is listed
+-- for it.
+use Rattle.std.proofs.Common.{ℕ, ◌≡◌, ◌+◌, ◌<◌, ◌≤◌, ◌==◌, ◌&&◌, true≢false, [], get_or, Bool, true, false, nat_lt, length, position, List, Option, Some, None, Bor, slice_index_or, refl, sym, ap, ◌∙◌, arith}
 use Rattle.std.specs.Prelude.{slice_get}
-use Rattle.std.specs.Option.{unwrap_or, option_copied, is_some, IfSome}
+use Rattle.std.specs.Option.{unwrap_or, option_copied, option_map, is_some, IfSome}
+use Rattle.std.specs.Str.{bytes_eq}
 use Rattle.std.proofs.lemmas.Option.{slice_get_past, slice_get_read}
 use Rattle.gnss_obs.specs.declared.system.System.{System}
+use Rattle.gnss_obs.specs.declared.tables.ListedSignal.{ListedSignal}
 use Rattle.gnss_obs.specs.declared.system.System.TheVariants.{Gps, Galileo}
-use Rattle.gnss_obs.specs.Signals.{SignalAt, IsSignal, after, id_of, table}
+use Rattle.gnss_obs.specs.Signals.{SignalAt, IsSignal, after, code_of, greatest_signal_id, hertz_of, id_of, signal_of_code, signal_of_id, table}
 use Rattle.gnss_obs.specs.SignalRows.{rows}
-use Rattle.gnss_obs.proofs.Checked.{passes_at, is_less, is_equal, both_first, both_second}
+use Rattle.gnss_obs.proofs.Checked.{passes_at, passes_below, is_less, is_equal, both_first, both_second}
 
 -- the ID of a row is below the next one
 abbrev rises_at : System → ℕ → Bool
@@ -19,6 +22,64 @@ ids_rise s listed = is_less _ _ (line s.system s.index listed)
     line : (system : System) (i : ℕ) → i + 1 < length (table system) → rises_at system i ≡ true
     line Gps i listed = passes_at (rises_at Gps) 14 i refl (omega (arith, listed))
     line Galileo i listed = passes_at (rises_at Galileo) 18 i refl (omega (arith, listed))
+
+-- a test passes at each row
+at_each : (test : System → ℕ → Bool) → passes_below (test Gps) 15 ≡ true → passes_below (test Galileo) 19 ≡ true → (system : System) (i : ℕ) → i < length (table system)
+    → test system i ≡ true
+at_each test gps galileo Gps i listed = passes_at (test Gps) 15 i gps listed
+at_each test gps galileo Galileo i listed = passes_at (test Galileo) 19 i galileo listed
+
+abbrev signal : System → ℕ → SignalAt
+signal system i = record { system = system; index = i }
+
+abbrev id_at : System → ℕ → Bool
+id_at system i = nat_lt 0 (id_of (signal system i)) && nat_lt (id_of (signal system i)) 33
+
+pub ids_within : (s : SignalAt) → IsSignal s → (1 ≤ id_of s) × (id_of s ≤ greatest_signal_id)
+ids_within s listed =
+    let within = at_each id_at refl refl s.system s.index listed in
+    let low = is_less 0 (id_of s) (both_first _ _ within) in
+    let high = is_less (id_of s) 33 (both_second (nat_lt 0 (id_of s)) _ within) in
+    (omega (arith, low), omega (arith, high))
+
+-- the first row that passes a test
+is_at : Option ℕ → ℕ → Bool
+is_at None i = false
+is_at (Some j) i = j == i
+
+from_at : (o : Option ℕ) (i : ℕ) → is_at o i ≡ true → o ≡ Some i
+unfolding is_at
+from_at None i h = absurd (true≢false (sym h))
+from_at (Some j) i h = ap Some (is_equal j i h)
+
+abbrev has_first_id : System → ℕ → Bool
+has_first_id system i = is_at (position (λ e. e.0 == id_of (signal system i)) (table system)) i
+
+pub id_back : (s : SignalAt) → IsSignal s → signal_of_id s.system (id_of s) ≡ Some s
+unfolding is_at
+id_back s listed = ap (option_map (signal s.system)) (from_at _ s.index (at_each has_first_id refl refl s.system s.index listed))
+
+abbrev has_first_code : System → ℕ → Bool
+has_first_code system i = is_at (position (λ e. bytes_eq e.1 (code_of (signal system i))) (table system)) i
+
+pub code_back : (s : SignalAt) → IsSignal s → signal_of_code s.system (code_of s) ≡ Some s
+unfolding is_at
+code_back s listed = ap (option_map (signal s.system)) (from_at _ s.index (at_each has_first_code refl refl s.system s.index listed))
+
+-- the carrier of a row
+abbrev listed_hertz : System → ℕ → ℕ
+listed_hertz system i = (get_or (table system) i (record { 0 = 0; 1 = []; 2 = 0 })).2
+
+abbrev has_hertz : System → ℕ → Bool
+has_hertz system i = (listed_hertz system i == hertz_of (signal system i)) && nat_lt 0 (hertz_of (signal system i))
+
+pub hertz_listed : (rows : List ListedSignal) (s : SignalAt) → rows ≡ table s.system → IsSignal s
+    → ((get_or rows s.index (record { 0 = 0; 1 = []; 2 = 0 })).2 ≡ hertz_of s) × (0 < hertz_of s)
+hertz_listed rows s same listed =
+    let has = at_each has_hertz refl refl s.system s.index listed in (
+      ap (λ (l : List ListedSignal). (get_or l s.index (record { 0 = 0; 1 = []; 2 = 0 })).2) same ∙ is_equal _ _ (both_first _ _ has),
+      is_less 0 (hertz_of s) (both_second (listed_hertz s.system s.index == hertz_of s) _ has),
+    )
 
 -- a listed row is the first one with the ID
 is_row : ℕ → Option ℕ → ℕ → Bool
