@@ -67,8 +67,3 @@ by_fault system before rest s Memory u is = u
 -- A list with a signal that doesn't fit is no list of the system's signals.
 pub unfit_not_of : (system : System) (ss : List SignalAt) (fault : PlanFault) → IsUnfit system ss fault → IsOf system ss → ⊥
 unfit_not_of system ss fault u is = by_fault system u.before u.rest u.signal fault u.unfit (subst (IsOf system) u.split is)
-
--- If signals are those of a system, the only fault is `Memory`.
-pub memory_alone : (system : System) (ss : List SignalAt) (fault : PlanFault) → (fault ≡ Memory) ⊎ IsUnfit system ss fault → IsOf system ss → fault ≡ Memory
-memory_alone system ss fault (inl e) is = e
-memory_alone system ss fault (inr u) is = absurd (unfit_not_of system ss fault u is)

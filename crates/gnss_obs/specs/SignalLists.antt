@@ -1,6 +1,6 @@
 -- The signals of a plan.
 use Rattle.std.specs.Prelude.{◌≡◌, ℕ, ◌+◌, ◌<◌, List, [], ◌∷◌, ◌++◌, map, length, All, Option, Some, None, true, false}
-use Rattle.std.specs.Prelude.{◌==◌, ◌⊎◌, get_or, position, Result, Ok, Err, MatchResult}
+use Rattle.std.specs.Prelude.{◌==◌, ◌⊎◌, get_or, position, Result, Ok, Err, IsOk, MatchResult}
 use Rattle.gnss_obs.specs.declared.system.System.{System}
 use Rattle.gnss_obs.specs.Signals.{SignalAt, IsSignal, table, signal_of_code}
 use Rattle.gnss_obs.specs.declared.system.System.TheVariants.{Gps, Galileo}
@@ -37,10 +37,6 @@ codes_in (Some text) = between_commas text
 -- The signals of a system are those of a text.
 abbrev pub ArePlanned : System → Result (List ℕ) PlanFault → List SignalAt → Type 0
 ArePlanned system planned ss = (planned ≡ Ok (indices ss)) × IsOf system ss
-
--- These are the signals of a plan.
-abbrev pub AreOfPlan : Result PlanValue PlanFault → List SignalAt → List SignalAt → Type 0
-AreOfPlan plan ss ts = (plan ≡ Ok (record { gps = indices ss; galileo = indices ts })) × IsOf Gps ss × IsOf Galileo ts
 
 -- A code's signal is accepted after signals of its system.
 abbrev pub TakesCode : System → List ℕ → List SignalAt → List SignalAt → Type 0
@@ -111,7 +107,9 @@ pub record IsPlanOf (gps galileo : List SignalAt) (p : PlanValue) : Type 0 where
 abbrev pub IsPlanResult : List SignalAt → List SignalAt → Result PlanValue PlanFault → Type 0
 IsPlanResult gps galileo result = MatchResult result (IsPlanOf gps galileo) (IsMemoryFaultOr (IsUnplanned gps galileo))
 
--- These are the signals of the plan of those signals.
-abbrev pub ArePlanOf : List SignalAt → List SignalAt → List SignalAt → List SignalAt → Type 0
-ArePlanOf gps galileo ss ts =
-    IsPlanOf gps galileo (record { gps = indices ss; galileo = indices ts }) × IsOf Gps ss × IsOf Galileo ts
+-- The plan of these signals, if they were added without a fault and there is one.
+abbrev pub IsMade : {A : Type 0} → Result A PlanFault → List SignalAt → List SignalAt → Result PlanValue PlanFault → Type 0
+IsMade added gps galileo result =
+    MatchResult result
+    (λ p. IsOk added × (gps ≡ [] → galileo ≡ [] → ⊥) × (p ≡ record { gps = indices gps; galileo = indices galileo }))
+    (λ e. (added ≡ Err e) ⊎ (IsOk added × (gps ≡ []) × (galileo ≡ []) × (e ≡ NothingPlanned)))

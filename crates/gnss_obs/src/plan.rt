@@ -1,13 +1,13 @@
 //! Plans: the wanted signals of each system.
 ghost use Rattle.std.specs.Prelude.{◌≡◌, ◌<◌, ◌≤◌, ◌+◌, ◌∷◌, [], length, slice_index, IfErr, IfSome, Err, option_map};
-ghost use Rattle.std.specs.Prelude.{IsOk, MatchResult};
+ghost use Rattle.std.specs.Prelude.{IsOk};
 ghost use Rattle.gnss_obs.specs.declared.system.System.TheVariants.{Gps, Galileo};
 ghost use Rattle.gnss_obs.specs.Signals.{table};
 ghost use Rattle.gnss_obs.specs.Values.{planned_of};
 ghost use Rattle.gnss_obs.specs.Plans.{plan_of, signals_of, signals_coded, between_commas, place_in};
-ghost use Rattle.gnss_obs.specs.SignalLists.{indices, IsOf, codes_in, ArePlanned, AreOfPlan, HasEvery, IsPushed};
+ghost use Rattle.gnss_obs.specs.SignalLists.{indices, IsOf, codes_in, ArePlanned, HasEvery, IsPushed};
 ghost use Rattle.gnss_obs.specs.SignalLists.{TakesCode, RefusesCode, IsDefined, DoneOr, IsUnfitAfter, IsUnfit};
-ghost use Rattle.gnss_obs.specs.SignalLists.{IsUnplanned, IsPlanResult, ArePlanOf};
+ghost use Rattle.gnss_obs.specs.SignalLists.{IsMade, IsPlanResult};
 
 use crate::fault::PlanFault;
 use crate::signal::Signal;
@@ -52,8 +52,9 @@ impl Plan {
     {
         let mut first = Signals::new(alloc);
         let mut second = Signals::new(alloc);
-        let added = read_both(&mut first, &mut second, gps, galileo);
-        Plan::with(added, first, second)
+        let read = read_signals(&mut first, System::Gps, gps);
+        let also_read = read_signals(&mut second, System::Galileo, galileo);
+        Plan::with(read.and(also_read), first, second)
     }
 
     /// Returns the plan of these signals in this order.
@@ -74,25 +75,25 @@ impl Plan {
     {
         let mut first = Signals::new(alloc);
         let mut second = Signals::new(alloc);
-        let added = add_both(&mut first, &mut second, gps, galileo);
-        Plan::with(added, first, second)
+        let added = add_signals(&mut first, System::Gps, gps);
+        let also_added = add_signals(&mut second, System::Galileo, galileo);
+        Plan::with(added.and(also_added), first, second)
     }
 
-    // Returns the plan of these signals, if they were added without a fault.
+    // Returns the plan of these signals, if they were added without a fault and there is one.
     fn with(added: Added, gps: Signals, galileo: Signals) -> Result<Plan, PlanFault>
         requires { IsOk added → IsOf Gps gps × IsOf Galileo galileo }
-        ensures { MatchResult result
-            (λ p. IsOk added × (p ≡ record { gps = indices gps; galileo = indices galileo })) (λ e. added ≡ Err e) }
+        ensures { IsMade added gps galileo result }
     {
-        match added {
-            Ok(()) => Ok(Plan { gps, galileo }),
-            Err(fault) => {
-                // A call drops a list with less proof than the end of its scope.
-                drop(gps);
-                drop(galileo);
-                Err(fault)
-            }
-        }
+        let fault = match added {
+            Err(fault) => fault,
+            Ok(()) if gps.is_empty() && galileo.is_empty() => PlanFault::NothingPlanned,
+            Ok(()) => return Ok(Plan { gps, galileo }),
+        };
+        // A call drops a list with less proof than the end of its scope.
+        drop(gps);
+        drop(galileo);
+        Err(fault)
     }
 
     /// Returns the number of wanted signals of a system.
@@ -151,21 +152,6 @@ impl Plan {
 // The functions that can fail append to lists of the caller, so none of them has to free a list.
 type Added = Result<(), PlanFault>;
 
-// Appends the signals of both systems, at least one in all.
-fn add_both(first: &mut Signals, second: &mut Signals, gps: &[Signal], galileo: &[Signal]) -> Added
-    requires { (first.old ≡ []) × (second.old ≡ []) }
-    ensures cases { DoneOr (IsUnplanned gps.now galileo.now) (ArePlanOf gps.now galileo.now first.new second.new)
-        result }
-    ensures planned { IsOf Gps gps.now → IsOf Galileo galileo.now → 0 < length gps.now + length galileo.now
-        → IfErr result (λ e. e ≡ PlanFault.Memory) }
-{
-    if gps.is_empty() && galileo.is_empty() {
-        return Err(PlanFault::NothingPlanned);
-    }
-    add_signals(first, System::Gps, gps)?;
-    add_signals(second, System::Galileo, galileo)
-}
-
 // Appends these signals of a system: none of the other system, none twice.
 fn add_signals(added: &mut Signals, system: System, signals: &[Signal]) -> Added
     requires { added.old ≡ [] }
@@ -191,20 +177,6 @@ fn add_signal(signals: &mut Signals, system: System, signal: Signal) -> Added
         Ok(false) => Err(PlanFault::RepeatedCode(system, place)),
         Err(_) => Err(PlanFault::Memory),
     }
-}
-
-// Appends the signals of two texts, at least one in all.
-fn read_both(first: &mut Signals, second: &mut Signals, gps: &str, galileo: &str) -> Added
-    requires { (first.old ≡ []) × (second.old ≡ []) }
-    ensures { DoneOr (λ e. plan_of gps.now galileo.now ≡ Err e)
-        (AreOfPlan (plan_of gps.now galileo.now) first.new second.new) result }
-{
-    read_signals(first, System::Gps, gps)?;
-    read_signals(second, System::Galileo, galileo)?;
-    if first.is_empty() && second.is_empty() {
-        return Err(PlanFault::NothingPlanned);
-    }
-    Ok(())
 }
 
 // Appends the signals of a text.
