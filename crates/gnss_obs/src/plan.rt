@@ -1,11 +1,11 @@
 //! Plans: the wanted signals of each system.
-ghost use Rattle.std.specs.Prelude.{◌≡◌, ◌<◌, ◌≤◌, ◌+◌, ◌∷◌, [], length, slice_index, IfErr, IfSome, Err, option_map};
+ghost use Rattle.std.specs.Prelude.{◌≡◌, ◌<◌, ◌≤◌, ◌+◌, [], length, slice_index, IfErr, Err};
 ghost use Rattle.std.specs.Prelude.{IsOk};
 ghost use Rattle.gnss_obs.specs.declared.system.System.TheVariants.{Gps, Galileo};
 ghost use Rattle.gnss_obs.specs.Signals.{table};
 ghost use Rattle.gnss_obs.specs.Values.{planned_of};
-ghost use Rattle.gnss_obs.specs.Plans.{plan_of, signals_of, signals_coded, between_commas, place_in};
-ghost use Rattle.gnss_obs.specs.SignalLists.{indices, IsOf, codes_in, ArePlanned, HasEvery, IsPushed};
+ghost use Rattle.gnss_obs.specs.Plans.{plan_of, signals_of, signals_coded, place_in};
+ghost use Rattle.gnss_obs.specs.SignalLists.{indices, IsOf, ArePlanned, HasEvery, IsPushed};
 ghost use Rattle.gnss_obs.specs.SignalLists.{TakesCode, RefusesCode, IsDefined, DoneOr, IsUnfitAfter, IsUnfit};
 ghost use Rattle.gnss_obs.specs.SignalLists.{IsMade, IsPlanResult};
 
@@ -216,24 +216,12 @@ fn read_codes(signals: &mut Signals, system: System, text: &str) -> Added
     ensures { DoneOr (λ e. signals_coded system text.now ≡ Err e)
         (ArePlanned system (signals_coded system text.now) signals.new) result }
 {
-    let mut rest = Some(text);
-    while let Some(codes) = rest {
-        let (code, after) = first_code(codes);
+    let mut rest = text;
+    while let Some((code, after)) = rest.split_once(',') {
         add_code(signals, system, code)?;
         rest = after;
     }
-    Ok(())
-}
-
-// Returns the first code, and the text after its comma.
-fn first_code(codes: &str) -> (&str, Option<&str>)
-    ensures first { between_commas codes.now ≡ result.0.now ∷ codes_in (option_map (λ r. r.now) result.1) }
-    ensures fewer { IfSome result.1 (λ r. length r.now < length codes.now) }
-{
-    match codes.split_once(',') {
-        Some((code, after)) => (code, Some(after)),
-        None => (codes, None),
-    }
+    add_code(signals, system, rest)
 }
 
 // Appends the signal of a code.

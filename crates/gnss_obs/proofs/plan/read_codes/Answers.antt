@@ -1,11 +1,32 @@
-use Rattle.std.proofs.Common.{sym, ap, subst}
+use Rattle.std.proofs.Common.{sym, ap, subst, arith, rules, ◌∙◌}
+use Rattle.std.proofs.lemmas.Grind.{common_steps}
+use Rattle.std.proofs.lemmas.Result.{err_from_is_err_and}
 use Rattle.gnss_obs.specs.SignalLists.{indices, IsOf}
 use Rattle.gnss_obs.specs.Plans.{signals_after, between_commas}
-use Rattle.gnss_obs.proofs.PlanLemmas.{none_of}
+use Rattle.gnss_obs.proofs.PlanLemmas.{first_some, first_none, next_code, code_refused, last_code, none_of}
 use Rattle.gnss_obs.proofs.plan.read_codes.Goals as goal
 
-pub loop-rest-init : goal.loop-rest-init
-loop-rest-init c = (
+pub loop-code-init : goal.loop-code-init
+loop-code-init c = (
+  search rules,
   ap (λ l. signals_after c.args.system (indices l) (between_commas c.args.text.now)) c.requires,
   subst (IsOf c.args.system) (sym c.requires) (none_of c.args.system),
 )
+
+pub loop-code-preserved : goal.loop-code-preserved
+loop-code-preserved c =
+    let split = first_some c.loop-code.rest.now c.split_once.result _ c.split_once.ensures.cases c.in-Some.is in (
+      search rules,
+      next_code c.args.system c.loop-code.signals c.add_code.new.signals c.loop-code.rest.now c.in-Some.code.now c.in-Some.after.now split c.in_ok-add_code.ensures.0 ∙ c.loop-code.invariant.1,
+      c.in_ok-add_code.ensures.1,
+    )
+
+pub returns-in_err-add_code : goal.returns-in_err-add_code
+returns-in_err-add_code c =
+    let split = first_some c.loop-code.rest.now c.split_once.result _ c.split_once.ensures.cases c.in-Some.is in
+    grind (arith, common_steps, err_from_is_err_and, code_refused, c.from_residual.ensures.1, split, c.loop-code.invariant.1, c.in_err-add_code.ensures)
+
+pub returns : goal.returns
+returns c =
+    let alone = first_none c.loop-code.rest.now c.split_once.result c.split_once.ensures.cases c.in_default.is in
+    last_code c.args.system c.loop-code.signals c.add_code-2.new.signals c.loop-code.rest.now _ c.add_code-2.result alone c.loop-code.invariant.1 c.add_code-2.ensures
