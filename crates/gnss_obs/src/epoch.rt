@@ -171,8 +171,8 @@ impl Epoch {
         ensures count { result ≡ satellites_written self.now.epoch }
         ensures bound { result ≤ most_written }
     {
-        written(self.gps.as_slice(), System::Gps)
-            + written(self.galileo.as_slice(), System::Galileo)
+        written(self.cells(System::Gps), System::Gps)
+            + written(self.cells(System::Galileo), System::Galileo)
     }
 
     /// Returns whether there is a satellite to write.
@@ -200,7 +200,10 @@ fn has_value(cells: &[Cell]) -> bool
 fn no_cells(alloc: Global) -> Result<Box<Cells>, AllocError>
     ensures { IfOk result (λ cells. cells.value.items ≡ []) }
 {
-    Ok(Box::new(alloc, ArrayVec::new())?)
+    match Box::new(alloc, ArrayVec::new()) {
+        Ok(cells) => Ok(cells),
+        Err(_) => Err(AllocError),
+    }
 }
 
 // Returns the sort key of a satellite and signal of a system.
