@@ -14,8 +14,8 @@ use Rattle.std.specs.List.{list_any, position_or_len, before_first, after_first,
 use Rattle.gnss_obs.specs.declared.system.System.{System}
 use Rattle.gnss_obs.specs.Signals.{SignalAt, IsSignal, table, signal_of_code, signal_where, signal_at}
 use Rattle.gnss_obs.specs.declared.fault.PlanFault.{PlanFault}
-use Rattle.gnss_obs.specs.Plans.{between_commas, onto_first, one_signal_more, below, signals_of, signals_after, IsRefused, IsTaken}
-use Rattle.gnss_obs.specs.SignalLists.{indices, IsOf, ArePlanned, DoneOr, RefusesCode, TakesCode}
+use Rattle.gnss_obs.specs.Plans.{between_commas, onto_first, one_signal_more, below, signals_of, signals_after, IsTaken}
+use Rattle.gnss_obs.specs.SignalLists.{indices, IsMemoryFaultOr, IsOf, ArePlanned, DoneOr, RefusesCode, TakesCode}
 use Rattle.std.proofs.lemmas.Grind.{common_steps}
 
 abbrev comma : ℕ → Bool
@@ -118,18 +118,19 @@ pub next_code : (system : System) (before after : List SignalAt) (text code rest
 next_code system before after text code rest split taken =
     sym (taken (λ l. signals_after system l (between_commas rest))) ∙ ap (λ l. signals_after system (indices before) l) (sym split)
 
-pub code_refused : (system : System) (before : List SignalAt) (text code : List ℕ) (codes : List (List ℕ)) (fault : PlanFault) → between_commas text ≡ code ∷ codes
-    → IsRefused system (indices before) (signal_of_code system code) fault → signals_after system (indices before) (between_commas text) ≡ Err fault
-code_refused system before text code codes fault split refused =
-    ap (λ l. signals_after system (indices before) l) split ∙ refused (λ l. signals_after system l codes)
+pub code_fault : (system : System) (before : List SignalAt) (text code : List ℕ) (codes : List (List ℕ)) (all : Result (List ℕ) PlanFault) (fault : PlanFault)
+    → between_commas text ≡ code ∷ codes → signals_after system (indices before) (between_commas text) ≡ all → IsMemoryFaultOr (RefusesCode system code before) fault
+    → IsMemoryFaultOr (λ e. all ≡ Err e) fault
+code_fault system before text code codes all fault split same (inl m) = inl m
+code_fault system before text code codes all fault split same (inr bad) =
+    inr (sym same ∙ ap (λ l. signals_after system (indices before) l) split ∙ bad (λ l. signals_after system l codes))
 
 pub last_code : {A : Type 0} (system : System) (before after : List SignalAt) (text : List ℕ) (all : Result (List ℕ) PlanFault) (result : Result A PlanFault)
     → between_commas text ≡ text ∷ [] → signals_after system (indices before) (between_commas text) ≡ all
     → DoneOr (RefusesCode system text before) (TakesCode system text before after) result → DoneOr (λ e. all ≡ Err e) (ArePlanned system all after) result
 last_code system before after text all (Ok u) split same h =
     (sym same ∙ ap (λ l. signals_after system (indices before) l) split ∙ h.0 (λ l. signals_after system l []), h.1)
-last_code system before after text all (Err e) split same (inl m) = inl m
-last_code system before after text all (Err e) split same (inr bad) = inr (sym same ∙ code_refused system before text text [] e split bad)
+last_code system before after text all (Err e) split same h = code_fault system before text text [] all e split same h
 
 -- The signal of a code is one of the system's table.
 pub of_where : (system : System) (test : ListedSignal → Bool) (s : SignalAt) → signal_where system test ≡ Some s → (s.system ≡ system) × IsSignal s

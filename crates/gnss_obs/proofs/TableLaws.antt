@@ -1,6 +1,6 @@
 -- The signal tables: their IDs rise row by row, each ID and each code has one row, and each ID the row that is listed
 -- for it.
-use Rattle.std.proofs.Common.{ℕ, ◌≡◌, ◌+◌, ◌<◌, ◌≤◌, ◌==◌, ◌&&◌, true≢false, [], get_or, Bool, true, false, nat_lt, length, position, List, Option, Some, None, Bor, slice_index_or, refl, sym, ap, ◌∙◌, arith}
+use Rattle.std.proofs.Common.{ℕ, ◌≡◌, ◌+◌, ◌<◌, ◌≤◌, ◌==◌, ◌&&◌, true≢false, [], get_or, Bool, true, false, nat_lt, length, position, List, Option, Some, None, Bor, slice_index_or, refl, sym, ap, ◌∙◌, arith, lit≤}
 use Rattle.std.specs.Prelude.{slice_get}
 use Rattle.std.specs.Option.{unwrap_or, option_copied, option_map, is_some, IfSome}
 use Rattle.std.specs.Str.{bytes_eq}
@@ -99,6 +99,14 @@ unfolding is_row
 same_row n None row h other = absurd (grind (arith, h, other))
 same_row n (Some i) row h other = (ap Some (is_equal row i (both_second (nat_lt i n) (row == i) h)), rw (is_equal row i (both_second (nat_lt i n) (row == i) h)) (is_less i n (both_first (nat_lt i n) (row == i) h)))
 
+no_row : (n : ℕ) (o : Option ℕ) (row : ℕ) → is_row n o row ≡ true → row ≡ 255 → n ≤ 255 → o ≡ None
+unfolding is_row
+no_row n None row h none few = refl
+no_row n (Some i) row h none few =
+    let less = is_less i n (both_first (nat_lt i n) (row == i) h) in
+    let same = is_equal row i (both_second (nat_lt i n) (row == i) h) in
+    absurd (omega (arith, less, same, none, few))
+
 -- the row at an ID
 read_at : (xs : List ℕ) (id : ℕ) (o : Option (Bor ℕ)) → is_some o ≡ nat_lt id (length xs) → IfSome o (λ x. x.now ≡ slice_index_or xs id x.now)
     → unwrap_or (option_copied o) 255 ≡ unwrap_or (slice_get xs id) 255
@@ -115,3 +123,14 @@ row_is system id o below some here other =
   where
     unlike : (n : ℕ) → (n ≡ 255 → ⊥) → (n == 255) ≡ false
     unlike n other = grind (arith, other)
+
+pub none_is : (system : System) (id : ℕ) (o : Option (Bor ℕ)) → id < 256 → is_some o ≡ nat_lt id (length (rows system)) → IfSome o (λ x. x.now ≡ slice_index_or (rows system) id x.now)
+    → unwrap_or (option_copied o) 255 ≡ 255 → position (λ e. e.0 == id) (table system) ≡ None
+unfolding row_at
+none_is system id o below some here none =
+    let is = read_at (rows system) id o some here in
+    no_row (length (table system)) (position (λ e. e.0 == id) (table system)) (unwrap_or (option_copied o) 255) (rw (← is) at (rows_fit system id below)) none (few_rows system)
+  where
+    few_rows : (system : System) → length (table system) ≤ 255
+    few_rows Gps = lit≤ tt
+    few_rows Galileo = lit≤ tt

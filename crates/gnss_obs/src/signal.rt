@@ -1,6 +1,5 @@
 //! Signals of a system, found by signal ID, by RINEX code or by index.
-ghost use Rattle.std.specs.Prelude.{◌≡◌, ◌-◌, ◌<◌, ◌≤◌, ◌==◌, length, position, IfSome};
-ghost use Rattle.std.specs.Str.{bytes_eq};
+ghost use Rattle.std.specs.Prelude.{◌≡◌, ◌<◌, ◌≤◌};
 ghost use Rattle.gnss_obs.specs.Signals.{SignalAt, IsSignal, table, signal_at, signal_of_id, signal_of_code, code_of};
 ghost use Rattle.gnss_obs.specs.Signals.{hertz_of};
 ghost use Rattle.gnss_obs.specs.SignalRows.{rows};
@@ -56,19 +55,6 @@ fn rows(system: System) -> &'static [u8]
     }
 }
 
-/// Returns the row of a code, or `None` if no signal has it.
-fn row_of_code(entries: &[ListedSignal], code: &[u8]) -> Option<usize>
-    ensures value { result ≡ position (λ e. bytes_eq e.1 code.now) entries.now }
-    ensures below { IfSome result (λ i. i < length entries.now) }
-{
-    for i in 0..entries.len() {
-        if entries[i].1.as_slice() == code {
-            return Some(i);
-        }
-    }
-    None
-}
-
 impl Signal {
     /// Returns the signal with this signal ID, the position in the signal mask DF395 of RTCM
     /// 10403.3 counted from 1, or `None` if the system has none.
@@ -87,8 +73,14 @@ impl Signal {
     pub fn from_code(system: System, code: &str) -> Option<Signal>
         ensures { result ≡ signal_of_code system code.now }
     {
-        let index = row_of_code(listed(system), code.as_bytes())?;
-        Signal::from_index(system, index)
+        let entries = listed(system);
+        let wanted = code.as_bytes();
+        for index in 0..entries.len() {
+            if entries[index].1.as_slice() == wanted {
+                return Signal::from_index(system, index);
+            }
+        }
+        None
     }
 
     /// Returns the signal at an index of the system's table, counted from 0, or `None` if the table

@@ -1,9 +1,8 @@
-use Rattle.std.proofs.Common.{sym, ap, subst, arith, rules, ◌∙◌}
-use Rattle.std.proofs.lemmas.Grind.{common_steps}
+use Rattle.std.proofs.Common.{sym, ap, subst, rules, ◌∙◌}
 use Rattle.std.proofs.lemmas.Result.{err_from_is_err_and}
 use Rattle.gnss_obs.specs.SignalLists.{indices, IsOf}
 use Rattle.gnss_obs.specs.Plans.{signals_after, between_commas}
-use Rattle.gnss_obs.proofs.PlanLemmas.{first_some, first_none, next_code, code_refused, last_code, none_of}
+use Rattle.gnss_obs.proofs.PlanLemmas.{first_some, first_none, next_code, code_fault, last_code, none_of}
 use Rattle.gnss_obs.proofs.plan.read_codes.Goals as goal
 
 pub loop-code-init : goal.loop-code-init
@@ -24,7 +23,8 @@ loop-code-preserved c =
 pub returns-in_err-add_code : goal.returns-in_err-add_code
 returns-in_err-add_code c =
     let split = first_some c.loop-code.rest.now c.split_once.result _ c.split_once.ensures.cases c.in-Some.is in
-    grind (arith, common_steps, err_from_is_err_and, code_refused, c.from_residual.ensures.1, split, c.loop-code.invariant.1, c.in_err-add_code.ensures)
+    let error = err_from_is_err_and c.from_residual.result c.from_residual.ensures.1 in
+    rw (error.1, error.2) (code_fault c.args.system c.loop-code.signals c.loop-code.rest.now _ _ _ _ split c.loop-code.invariant.1 c.in_err-add_code.ensures)
 
 pub returns : goal.returns
 returns c =
