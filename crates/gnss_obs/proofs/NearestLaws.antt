@@ -23,10 +23,6 @@ pub nearest_neg : (a : ℤ) (q : ℕ) → a <ℤ pos 0 → nearest a q ≡ pos 0
 nearest_neg (pos n) q h = absurd (omega (arith, ints))
 nearest_neg (negsuc n) q h = ap (λ k. pos 0 -ℤ pos (nearest_size k q)) (add-one n)
 
-pub nearest_pos : (a : ℤ) (q : ℕ) → pos 0 ≤ℤ a → nearest a q ≡ pos (nearest_size (unsigned_abs a) q)
-nearest_pos (pos n) q h = refl
-nearest_pos (negsuc n) q h = absurd (omega (arith, ints))
-
 -- the difference of two numbers, by its size
 apart : (s n q : ℕ) → 2 * s ≤ 2 * n + q → 2 * n + q < 2 * s + 2 * q → 2 * unsigned_abs (pos s -ℤ pos n) ≤ q
 apart s n q a b = omega (arith, ints)
