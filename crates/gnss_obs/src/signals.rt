@@ -1,7 +1,7 @@
 //! Lists of distinct signals of one system.
 ghost use Rattle.std.specs.Prelude.{◌≡◌, ◌↔◌, ◌==◌, [], IsTrue, length, true, false, Ok, OnErr};
 ghost use Rattle.std.specs.List.{list_any};
-ghost use Rattle.gnss_obs.specs.Signals.{SignalAt, table};
+ghost use Rattle.gnss_obs.specs.Signals.{SignalAt};
 ghost use Rattle.gnss_obs.specs.Plans.{place_in};
 ghost use Rattle.gnss_obs.specs.SignalLists.{indices, IsAdded, IsOf};
 
