@@ -66,10 +66,3 @@ pub unpacked_row : (t : Table) (n : ℕ) (bits : List Bool) (p i m : ℕ) → un
 unfolding row_at
 unpacked_row [] n bits p i m = refl
 unpacked_row (f ∷ fs) n bits p i m = first_unpacked f fs n bits p i m (contents_after fs n bits p (width f.1) i) (unpacked_after fs n bits p (width f.1) i _)
-
--- A field that is found by its last bit.
-pub field_to : (bits : List Bool) (last at w : ℕ) → last + 1 ≡ at + w → field_at bits (last + 1 - w) w ≡ field_at bits at w
-field_to bits last at w e = ap (λ (p : ℕ). field_at bits p w) (begins last at w e)
-  where
-    begins : (last at w : ℕ) → last + 1 ≡ at + w → last + 1 - w ≡ at
-    begins last at w e = omega (arith, e)

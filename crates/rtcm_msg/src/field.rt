@@ -1,5 +1,5 @@
 //! Fields of a message at known places, and the check that they are within the message.
-ghost use Rattle.std.specs.Prelude.{◌≡◌, ◌==◌, ◌+◌, ◌-◌, ◌*◌, ◌^◌, ◌<◌, ◌≤◌, All, IfOk, length};
+ghost use Rattle.std.specs.Prelude.{◌≡◌, ◌==◌, ◌+◌, ◌*◌, ◌^◌, ◌<◌, ◌≤◌, ℕ, All, IfOk, length};
 ghost use Rattle.rtcm_bits.specs.Bits.{bits_of, signed, FitsInt};
 ghost use Rattle.rtcm_bits.specs.FrameOf.{longest_message};
 ghost use Rattle.rtcm_msg.specs.Fields.{field_at};
@@ -61,60 +61,36 @@ pub(crate) fn byte_at(bytes: &[u8], place: usize, width: u32) -> u8
     number_at(bytes, place, width) as u8
 }
 
-/// Returns the number in the `width` bits, 1 to 57, that end with bit `last`, which is not in the
-/// first seven bytes. The eight bytes that end with this bit's byte contain them all.
+/// Returns the number in the `width` bits, 1 to 57, that end `i` times this width after bit `last`,
+/// which is not in the first seven bytes: the field of item `i` if that of item 0 ends with `last`.
+/// The eight bytes that end with the last bit's byte contain them all.
 #[inline(always)]
-pub(crate) fn short_to(bytes: &[u8], last: usize, width: u32) -> u64
+pub(crate) fn short_to(bytes: &[u8], last: usize, i: usize, width: u32) -> u64
     requires some { 0 < width }
     requires few { width ≤ 57 }
-    requires there { last < 8 * length bytes.now }
+    requires there { last + i * width < 8 * length bytes.now }
+    requires small { length bytes.now ≤ longest_message }
     requires after { 63 ≤ last }
-    ensures value { result ≡ field_at (bits_of bytes.now) (last + 1 - width) width }
+    ensures value { (at : ℕ) → last + 1 ≡ at + width → result ≡ field_at (bits_of bytes.now) (at + i * width) width }
     ensures fits { result < 2 ^ width }
 {
+    let last = last + i * width as usize;
     let end = last / 8 + 1;
     let skip = 57 - width as usize + last % 8;
     bits_in_word(word_at(bytes, end - 8), skip, width as usize)
 }
 
-/// Returns the two's complement number of `width` bits, at most 57, that ends with bit `last`.
+/// Returns the two's complement number in the bits that `short_to` reads.
 #[inline(always)]
-pub(crate) fn signed_to(bytes: &[u8], last: usize, width: u32) -> i64
+pub(crate) fn signed_to(bytes: &[u8], last: usize, i: usize, width: u32) -> i64
     requires some { 0 < width }
     requires few { width ≤ 57 }
-    requires there { last < 8 * length bytes.now }
+    requires there { last + i * width < 8 * length bytes.now }
+    requires small { length bytes.now ≤ longest_message }
     requires after { 63 ≤ last }
-    ensures value { result ≡ signed width (field_at (bits_of bytes.now) (last + 1 - width) width) }
+    ensures value { (at : ℕ) → last + 1 ≡ at + width
+        → result ≡ signed width (field_at (bits_of bytes.now) (at + i * width) width) }
     ensures fits { FitsInt width result }
 {
-    signed_of(short_to(bytes, last, width), width)
-}
-
-/// Returns the number in the `width` bits, 1 to 57, from bit `place` on, which is not in the first
-/// eight bytes.
-#[inline(always)]
-pub(crate) fn short_at(bytes: &[u8], place: usize, width: u32) -> u64
-    requires some { 0 < width }
-    requires few { width ≤ 57 }
-    requires there { place + width ≤ 8 * length bytes.now }
-    requires small { 8 * length bytes.now < 2 ^ 63 }
-    requires after { 64 ≤ place }
-    ensures value { result ≡ field_at (bits_of bytes.now) place width }
-    ensures fits { result < 2 ^ width }
-{
-    short_to(bytes, place + width as usize - 1, width)
-}
-
-/// Returns the two's complement number of `width` bits, at most 57, that begins at bit `place`.
-#[inline(always)]
-pub(crate) fn signed_at(bytes: &[u8], place: usize, width: u32) -> i64
-    requires some { 0 < width }
-    requires few { width ≤ 57 }
-    requires there { place + width ≤ 8 * length bytes.now }
-    requires small { 8 * length bytes.now < 2 ^ 63 }
-    requires after { 64 ≤ place }
-    ensures value { result ≡ signed width (field_at (bits_of bytes.now) place width) }
-    ensures fits { FitsInt width result }
-{
-    signed_of(short_at(bytes, place, width), width)
+    signed_of(short_to(bytes, last, i, width), width)
 }

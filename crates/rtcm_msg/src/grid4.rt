@@ -1,7 +1,7 @@
 //! The precision of MSM4.
 use crate::bad_fields::{HasFields, has_bad};
 use crate::fault::Field;
-use crate::field::{short_at, short_to, signed_to};
+use crate::field::{short_to, signed_to};
 use crate::grid::{Grid, ReadGrid, range_joined, scaled};
 use crate::last_bits::LastBits;
 use rtcm_bits::{raw_of, signed_of};
@@ -232,19 +232,19 @@ impl ReadGrid for Grid4 {
     #[inline(always)]
     fn satellite_in(bytes: &[u8], count: usize, place: usize, i: usize) -> Satellite4 {
         Satellite4 {
-            whole: short_at(bytes, place + i * 8, 8) as u8,
-            fraction: short_at(bytes, place + count * 8 + i * 10, 10) as u16,
+            whole: short_to(bytes, place + 7, i, 8) as u8,
+            fraction: short_to(bytes, place + count * 8 + 9, i, 10) as u16,
         }
     }
 
     #[inline(always)]
     fn cell_in(bytes: &[u8], cells: &LastBits, i: usize) -> Cell4 {
         Cell4 {
-            range: signed_to(bytes, cells.range + i * 15, 15) as i16,
-            phase: signed_to(bytes, cells.phase + i * 22, 22) as i32,
-            lock: short_to(bytes, cells.lock + i * 4, 4) as u8,
-            half_cycle: short_to(bytes, cells.half_cycle + i, 1) == 1,
-            strength: short_to(bytes, cells.strength + i * 6, 6) as u8,
+            range: signed_to(bytes, cells.range, i, 15) as i16,
+            phase: signed_to(bytes, cells.phase, i, 22) as i32,
+            lock: short_to(bytes, cells.lock, i, 4) as u8,
+            half_cycle: short_to(bytes, cells.half_cycle, i, 1) == 1,
+            strength: short_to(bytes, cells.strength, i, 6) as u8,
         }
     }
 }

@@ -1,7 +1,7 @@
 //! The precision of MSM7.
 use crate::bad_fields::{HasFields, has_bad};
 use crate::fault::Field;
-use crate::field::{short_at, short_to, signed_at, signed_to};
+use crate::field::{short_to, signed_to};
 use crate::grid::{Grid, ReadGrid, range_joined, scaled};
 use crate::last_bits::LastBits;
 use rtcm_bits::{raw_of, signed_of};
@@ -257,22 +257,22 @@ impl ReadGrid for Grid7 {
     #[inline(always)]
     fn satellite_in(bytes: &[u8], count: usize, place: usize, i: usize) -> Satellite7 {
         Satellite7 {
-            whole: short_at(bytes, place + i * 8, 8) as u8,
-            extended: short_at(bytes, place + count * 8 + i * 4, 4) as u8,
-            fraction: short_at(bytes, place + count * (8 + 4) + i * 10, 10) as u16,
-            rate: signed_at(bytes, place + count * (8 + 4 + 10) + i * 14, 14) as i16,
+            whole: short_to(bytes, place + 7, i, 8) as u8,
+            extended: short_to(bytes, place + count * 8 + 3, i, 4) as u8,
+            fraction: short_to(bytes, place + count * (8 + 4) + 9, i, 10) as u16,
+            rate: signed_to(bytes, place + count * (8 + 4 + 10) + 13, i, 14) as i16,
         }
     }
 
     #[inline(always)]
     fn cell_in(bytes: &[u8], cells: &LastBits, i: usize) -> Cell7 {
         Cell7 {
-            range: signed_to(bytes, cells.range + i * 20, 20) as i32,
-            phase: signed_to(bytes, cells.phase + i * 24, 24) as i32,
-            lock: short_to(bytes, cells.lock + i * 10, 10) as u16,
-            half_cycle: short_to(bytes, cells.half_cycle + i, 1) == 1,
-            strength: short_to(bytes, cells.strength + i * 10, 10) as u16,
-            rate: signed_to(bytes, cells.rate + i * 15, 15) as i16,
+            range: signed_to(bytes, cells.range, i, 20) as i32,
+            phase: signed_to(bytes, cells.phase, i, 24) as i32,
+            lock: short_to(bytes, cells.lock, i, 10) as u16,
+            half_cycle: short_to(bytes, cells.half_cycle, i, 1) == 1,
+            strength: short_to(bytes, cells.strength, i, 10) as u16,
+            rate: signed_to(bytes, cells.rate, i, 15) as i16,
         }
     }
 }

@@ -6,11 +6,14 @@ use Rattle.rtcm_msg.proofs.field.short_to.Goals as goal
 
 pub returns-clause-value : goal.returns-clause-value
 returns-clause-value c =
-    let end = c.args.last / 8 + 1 in
-    let skip = 57 - c.args.width + c.args.last % 8 in
-    c.bits_in_word.ensures
+    let last = c.args.last + c.args.i * c.args.width in
+    let end = last / 8 + 1 in
+    let skip = 57 - c.args.width + last % 8 in
+    λ at e. c.bits_in_word.ensures
     ∙ ap (λ t. number (take c.args.width (drop skip t))) c.word_at.ensures
-    ∙ ap number (within_word (bits_of c.args.bytes.now) (8 * (end - 8)) skip c.args.width (c.args.last + 1 - c.args.width) (omega arith) (omega arith))
+    ∙ ap number (within_word (bits_of c.args.bytes.now) (8 * (end - 8)) skip c.args.width (at + c.args.i * c.args.width) (omega arith) (omega (arith, e)))
 
 pub returns-clause-fits : goal.returns-clause-fits
-returns-clause-fits c = rw (returns-clause-value c) (field_fits (bits_of c.args.bytes.now) (c.args.last + 1 - c.args.width) c.args.width)
+returns-clause-fits c =
+    let at = c.args.last + 1 - c.args.width in
+    rw (returns-clause-value c at (omega arith)) (field_fits (bits_of c.args.bytes.now) (at + c.args.i * c.args.width) c.args.width)

@@ -1,8 +1,8 @@
 use Rattle.std.proofs.Common.{ℕ, ℤ, ◌≡◌, ◌+◌, ◌*◌, ◌==◌, ◌∙◌, arith, ap, sym, refl, rules, w16, w32, FitsSigned}
-use Rattle.rtcm_bits.specs.Bits.{bits_of, signed}
+use Rattle.rtcm_bits.specs.Bits.{bits_of}
 use Rattle.rtcm_msg.specs.declared.grid7.Cell7.{Cell7}
 use Rattle.rtcm_msg.specs.Grid7.{cell_of, cell_table}
-use Rattle.rtcm_msg.proofs.ContentLaws.{field_to, unpacked_row}
+use Rattle.rtcm_msg.proofs.ContentLaws.{unpacked_row}
 use Rattle.rtcm_msg.proofs.SignedLaws.{narrow_16, narrow_32}
 use Rattle.rtcm_msg.proofs.grid7.Grid7ReadGrid.cell_in.Goals as goal
 
@@ -15,22 +15,15 @@ same range range2 phase phase2 lock lock2 half_cycle half_cycle2 strength streng
 pub returns : goal.returns
 returns c =
     let b = c.args.cells.now in
-    let bits = bits_of c.args.bytes.now in
     let ends = c.requires.last in
-    let p0 : b.range + c.args.i * 20 + 1 ≡ b.place + c.args.i * 20 + 20 = omega (arith, ends.0) in
     let f0 : FitsSigned w32 c.signed_to.result = search rules in
-    let p1 : b.phase + c.args.i * 24 + 1 ≡ b.place + b.count * 20 + c.args.i * 24 + 24 = omega (arith, ends.1.0) in
     let f1 : FitsSigned w32 c.signed_to-2.result = search rules in
-    let p2 : b.lock + c.args.i * 10 + 1 ≡ b.place + b.count * 44 + c.args.i * 10 + 10 = omega (arith, ends.1.1.0) in
-    let p3 : b.half_cycle + c.args.i + 1 ≡ b.place + b.count * 54 + c.args.i * 1 + 1 = omega (arith, ends.1.1.1.0) in
-    let p4 : b.strength + c.args.i * 10 + 1 ≡ b.place + b.count * 55 + c.args.i * 10 + 10 = omega (arith, ends.1.1.1.1.0) in
-    let p5 : b.rate + c.args.i * 15 + 1 ≡ b.place + b.count * 65 + c.args.i * 15 + 15 = omega (arith, ends.1.1.1.1.1.0) in
     let f5 : FitsSigned w16 c.signed_to-3.result = search rules in
     same _ _ _ _ _ _ _ _ _ _ _ _
-    (narrow_32 c.signed_to.result f0 ∙ (c.signed_to.ensures.value ∙ ap (signed 20) (field_to bits _ _ 20 p0)))
-    (narrow_32 c.signed_to-2.result f1 ∙ (c.signed_to-2.ensures.value ∙ ap (signed 24) (field_to bits _ _ 24 p1)))
-    (c.short_to.ensures.value ∙ field_to bits _ _ 10 p2)
-    (c.short_to-2.ensures.value ∙ field_to bits _ _ 1 p3)
-    (c.short_to-3.ensures.value ∙ field_to bits _ _ 10 p4)
-    (narrow_16 c.signed_to-3.result f5 ∙ (c.signed_to-3.ensures.value ∙ ap (signed 15) (field_to bits _ _ 15 p5)))
-    ∙ sym (ap cell_of (unpacked_row cell_table b.count bits b.place c.args.i 0))
+    (narrow_32 c.signed_to.result f0 ∙ c.signed_to.ensures.value b.place ends.0)
+    (narrow_32 c.signed_to-2.result f1 ∙ c.signed_to-2.ensures.value (b.place + b.count * 20) ends.1.0)
+    (c.short_to.ensures.value (b.place + b.count * 44) (omega (arith, ends.1.1.0)))
+    (c.short_to-2.ensures.value (b.place + b.count * 54) (omega (arith, ends.1.1.1.0)))
+    (c.short_to-3.ensures.value (b.place + b.count * 55) (omega (arith, ends.1.1.1.1.0)))
+    (narrow_16 c.signed_to-3.result f5 ∙ c.signed_to-3.ensures.value (b.place + b.count * 65) (omega (arith, ends.1.1.1.1.1.0)))
+    ∙ sym (ap cell_of (unpacked_row cell_table b.count (bits_of c.args.bytes.now) b.place c.args.i 0))
