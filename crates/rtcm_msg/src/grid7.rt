@@ -256,11 +256,14 @@ impl Grid for Grid7 {
 impl ReadGrid for Grid7 {
     #[inline(always)]
     fn satellite_in(bytes: &[u8], count: usize, place: usize, i: usize) -> Satellite7 {
+        let extended = place + count * 8;
+        let fraction = extended + count * 4;
+        let rate = fraction + count * 10;
         Satellite7 {
             whole: short_to(bytes, place + 7, i, 8) as u8,
-            extended: short_to(bytes, place + count * 8 + 3, i, 4) as u8,
-            fraction: short_to(bytes, place + count * (8 + 4) + 9, i, 10) as u16,
-            rate: signed_to(bytes, place + count * (8 + 4 + 10) + 13, i, 14) as i16,
+            extended: short_to(bytes, extended + 3, i, 4) as u8,
+            fraction: short_to(bytes, fraction + 9, i, 10) as u16,
+            rate: signed_to(bytes, rate + 13, i, 14) as i16,
         }
     }
 

@@ -71,26 +71,37 @@ impl Form {
         ensures last { AreLast (views.cell_widths self) result }
     {
         match self {
-            Form::Msm4 => LastBits {
-                count,
-                place,
-                range: place + 14,
-                phase: place + count * 15 + 21,
-                lock: place + count * (15 + 22) + 3,
-                half_cycle: place + count * (15 + 22 + 4),
-                strength: place + count * (15 + 22 + 4 + 1) + 5,
-                rate: 0,
-            },
-            Form::Msm7 => LastBits {
-                count,
-                place,
-                range: place + 19,
-                phase: place + count * 20 + 23,
-                lock: place + count * (20 + 24) + 9,
-                half_cycle: place + count * (20 + 24 + 10),
-                strength: place + count * (20 + 24 + 10 + 1) + 9,
-                rate: place + count * (20 + 24 + 10 + 1 + 10) + 14,
-            },
+            Form::Msm4 => {
+                let phase = place + count * 15;
+                let lock = phase + count * 22;
+                let half_cycle = lock + count * 4;
+                LastBits {
+                    count,
+                    place,
+                    range: place + 14,
+                    phase: phase + 21,
+                    lock: lock + 3,
+                    half_cycle,
+                    strength: half_cycle + count + 5,
+                    rate: 0,
+                }
+            }
+            Form::Msm7 => {
+                let phase = place + count * 20;
+                let lock = phase + count * 24;
+                let half_cycle = lock + count * 10;
+                let strength = half_cycle + count;
+                LastBits {
+                    count,
+                    place,
+                    range: place + 19,
+                    phase: phase + 23,
+                    lock: lock + 9,
+                    half_cycle,
+                    strength: strength + 9,
+                    rate: strength + count * 10 + 14,
+                }
+            }
         }
     }
 }
