@@ -1,5 +1,6 @@
 //! The cells of MSM4 and MSM7 as exact fractions.
-ghost use Rattle.std.specs.Prelude.{◌≡◌, ◌<◌, ◌≤◌, ◌^◌, IfSome, unsigned_abs};
+ghost use Rattle.std.specs.Prelude.{◌≡◌};
+ghost use Rattle.rtcm_msg.specs.Entries.{IsEntry};
 
 use crate::grid::Grid;
 use crate::pairs::Pair;
@@ -51,11 +52,7 @@ pub(crate) fn entry_of<G: Grid>(pair: Pair, satellite: &G::Satellite, cell: &G::
       lock = G.lock_code_of cell.now;
       half_cycle = G.half_cycle_of cell.now;
     } }
-    ensures range { IfSome result.range (λ r. unsigned_abs r ≤ 2 ^ 40) }
-    ensures phase { IfSome result.phase (λ r. unsigned_abs r ≤ 2 ^ 40) }
-    ensures rate { IfSome result.rate (λ r. unsigned_abs r ≤ 10 ^ 8) }
-    ensures strength { IfSome result.strength (λ s. s < 2 ^ 10) }
-    ensures lock { result.lock < G.lock_codes }
+    ensures bounds { IsEntry G.lock_codes result }
 {
     Entry {
         satellite: pair.satellite,
