@@ -9,28 +9,75 @@ use Rattle.rtcm_msg.proofs.grid7.Grid7Grid.cell_number.Goals as goal
 are_within : (a b l h s r : ℕ) → ((((a * 16777216 + b) * 1024 + l) * 2 + h) * 1024 + s) * 32768 + r ≡ a * 1152921504606846976 + (b * 68719476736 + (l * 67108864 + (h * 33554432 + (s * 32768 + (r * 1 + 0)))))
 are_within a b l h s r = omega arith
 
--- No step of the sum exceeds its type.
-fit : (a b l h s r : ℕ) → a < 1048576 → b < 16777216 → l < 1024 → h < 2 → s < 1024 → r < 32768 → ((((a * 16777216 + b) * 1024 + l) * 2 + h) * 1024 + s) * 32768 + r < 340282366920938463463374607431768211456
-fit a b l h s r i j k m n o = omega arith
+-- The numbers fit 128 bits.
+abbrev Fit : ℕ → Type 0
+Fit n = n < 340282366920938463463374607431768211456
 
-first : (m n p : ℕ) → m + n < p → m < p
-first m n p h = omega arith
+first : (m n : ℕ) → Fit (m + n) → Fit m
+first m n h = omega (arith, h)
 
-times : (m n p : ℕ) → m * suc n < p → m < p
-times m n p h = omega arith
+times : (m n : ℕ) → Fit (m * suc n) → Fit m
+times m n h = omega (arith, h)
 
 flag : (b : Bool) → bool_byte b < 2
 flag true = lit< tt
 flag false = lit< tt
 
+-- No step of the sum exceeds its type, from the last one to the first.
+abbrev Steps : ℕ → ℕ → ℕ → ℕ → ℕ → ℕ → Type 0
+Steps a b l h s r =
+    let n = a * 16777216 + b in
+    let m = (n * 1024 + l) * 2 + h in
+    Fit ((m * 1024 + s) * 32768 + r) × Fit ((m * 1024 + s) * 32768) × Fit (m * 1024 + s) × Fit (m * 1024) × Fit m × Fit ((n * 1024 + l) * 2) × Fit (n * 1024 + l) × Fit (n * 1024) × Fit n × Fit (a * 16777216)
+
+steps : (a b l s r : ℕ) (half : Bool) → a < 1048576 → b < 16777216 → l < 1024 → s < 1024 → r < 32768 → Steps a b l (bool_byte half) s r
+steps a b l s r half i j k o p =
+    let h = bool_byte half in
+    let n = a * 16777216 + b in
+    let m = (n * 1024 + l) * 2 + h in
+    let e0 : Fit ((m * 1024 + s) * 32768 + r) = fit a b l h s r i j k (flag half) o p in
+    let e1 = first ((m * 1024 + s) * 32768) r e0 in
+    let e2 = times (m * 1024 + s) 32767 e1 in
+    let e3 = first (m * 1024) s e2 in
+    let e4 = times m 1023 e3 in
+    let e5 = first ((n * 1024 + l) * 2) h e4 in
+    let e6 = times (n * 1024 + l) 1 e5 in
+    let e7 = first (n * 1024) l e6 in
+    let e8 = times n 1023 e7 in
+    (e0, e1, e2, e3, e4, e5, e6, e7, e8, first (a * 16777216) b e8)
+  where
+    fit : (a b l h s r : ℕ) → a < 1048576 → b < 16777216 → l < 1024 → h < 2 → s < 1024 → r < 32768 → Fit (((((a * 16777216 + b) * 1024 + l) * 2 + h) * 1024 + s) * 32768 + r)
+    fit a b l h s r i j k m n o = omega (arith, i, j, k, m, n, o)
+
 pub overflow_add-result : goal.overflow_add-result
-overflow_add-result c = record { fits = fit _ _ _ _ _ _ c.raw_of-range.ensures.range c.raw_of-phase.ensures.range c.requires.lock (flag c.args.cell.now.half_cycle) c.requires.strength c.raw_of-rate.ensures.range }
+overflow_add-result c = record { fits = (steps c.raw_of-range.result c.raw_of-phase.result c.args.cell.now.lock c.args.cell.now.strength c.raw_of-rate.result c.args.cell.now.half_cycle c.raw_of-range.ensures.range c.raw_of-phase.ensures.range c.requires.lock c.requires.strength c.raw_of-rate.ensures.range).0 }
 
 pub overflow_mul-result : goal.overflow_mul-result
-overflow_mul-result c = record { fits = first _ _ _ (fit _ _ _ _ _ _ c.raw_of-range.ensures.range c.raw_of-phase.ensures.range c.requires.lock (flag c.args.cell.now.half_cycle) c.requires.strength c.raw_of-rate.ensures.range) }
+overflow_mul-result c = record { fits = (steps c.raw_of-range.result c.raw_of-phase.result c.args.cell.now.lock c.args.cell.now.strength c.raw_of-rate.result c.args.cell.now.half_cycle c.raw_of-range.ensures.range c.raw_of-phase.ensures.range c.requires.lock c.requires.strength c.raw_of-rate.ensures.range).1 }
 
 pub overflow_add-number-4 : goal.overflow_add-number-4
-overflow_add-number-4 c = record { fits = times _ _ _ (first _ _ _ (fit _ _ _ _ _ _ c.raw_of-range.ensures.range c.raw_of-phase.ensures.range c.requires.lock (flag c.args.cell.now.half_cycle) c.requires.strength c.raw_of-rate.ensures.range)) }
+overflow_add-number-4 c = record { fits = (steps c.raw_of-range.result c.raw_of-phase.result c.args.cell.now.lock c.args.cell.now.strength c.raw_of-rate.result c.args.cell.now.half_cycle c.raw_of-range.ensures.range c.raw_of-phase.ensures.range c.requires.lock c.requires.strength c.raw_of-rate.ensures.range).2 }
+
+pub overflow_mul-number-4 : goal.overflow_mul-number-4
+overflow_mul-number-4 c = record { fits = (steps c.raw_of-range.result c.raw_of-phase.result c.args.cell.now.lock c.args.cell.now.strength c.raw_of-rate.result c.args.cell.now.half_cycle c.raw_of-range.ensures.range c.raw_of-phase.ensures.range c.requires.lock c.requires.strength c.raw_of-rate.ensures.range).3 }
+
+pub overflow_add-number-3 : goal.overflow_add-number-3
+overflow_add-number-3 c = record { fits = (steps c.raw_of-range.result c.raw_of-phase.result c.args.cell.now.lock c.args.cell.now.strength c.raw_of-rate.result c.args.cell.now.half_cycle c.raw_of-range.ensures.range c.raw_of-phase.ensures.range c.requires.lock c.requires.strength c.raw_of-rate.ensures.range).4 }
+
+pub overflow_mul-number-3 : goal.overflow_mul-number-3
+overflow_mul-number-3 c = record { fits = (steps c.raw_of-range.result c.raw_of-phase.result c.args.cell.now.lock c.args.cell.now.strength c.raw_of-rate.result c.args.cell.now.half_cycle c.raw_of-range.ensures.range c.raw_of-phase.ensures.range c.requires.lock c.requires.strength c.raw_of-rate.ensures.range).5 }
+
+pub overflow_add-number-2 : goal.overflow_add-number-2
+overflow_add-number-2 c = record { fits = (steps c.raw_of-range.result c.raw_of-phase.result c.args.cell.now.lock c.args.cell.now.strength c.raw_of-rate.result c.args.cell.now.half_cycle c.raw_of-range.ensures.range c.raw_of-phase.ensures.range c.requires.lock c.requires.strength c.raw_of-rate.ensures.range).6 }
+
+pub overflow_mul-number-2 : goal.overflow_mul-number-2
+overflow_mul-number-2 c = record { fits = (steps c.raw_of-range.result c.raw_of-phase.result c.args.cell.now.lock c.args.cell.now.strength c.raw_of-rate.result c.args.cell.now.half_cycle c.raw_of-range.ensures.range c.raw_of-phase.ensures.range c.requires.lock c.requires.strength c.raw_of-rate.ensures.range).7 }
+
+pub overflow_add-number : goal.overflow_add-number
+overflow_add-number c = record { fits = (steps c.raw_of-range.result c.raw_of-phase.result c.args.cell.now.lock c.args.cell.now.strength c.raw_of-rate.result c.args.cell.now.half_cycle c.raw_of-range.ensures.range c.raw_of-phase.ensures.range c.requires.lock c.requires.strength c.raw_of-rate.ensures.range).8 }
+
+pub overflow_mul-number : goal.overflow_mul-number
+overflow_mul-number c = record { fits = (steps c.raw_of-range.result c.raw_of-phase.result c.args.cell.now.lock c.args.cell.now.strength c.raw_of-rate.result c.args.cell.now.half_cycle c.raw_of-range.ensures.range c.raw_of-phase.ensures.range c.requires.lock c.requires.strength c.raw_of-rate.ensures.range).9 }
 
 pub returns : goal.returns
 returns c =

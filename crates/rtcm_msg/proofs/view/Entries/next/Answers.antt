@@ -1,10 +1,14 @@
-use Rattle.std.proofs.Common.{ℕ, ◌≡◌, ◌+◌, ◌<◌, ◌∷◌, ◌∙◌, length, count_ones, ap, arith}
+use Rattle.std.proofs.Common.{ℕ, ◌≡◌, ◌+◌, ◌<◌, ◌≤◌, List, ◌∷◌, ◌∙◌, length, map, drop, slice_index, count_ones, refl, sym, ap, subst, arith}
+use Rattle.std.proofs.lemmas.List.{drop_more}
+use Rattle.std.specs.List.{zip}
 use Rattle.rtcm_bits.specs.Bits.{uint}
+use Rattle.rtcm_msg.specs.declared.entry.Entry.{Entry}
 use Rattle.rtcm_msg.specs.declared.pairs.Pair.{Pair}
 use Rattle.rtcm_msg.specs.declared.pairs.Pairs.{Pairs}
-use Rattle.rtcm_msg.specs.Msm.{MasksValue}
-use Rattle.rtcm_msg.specs.Entries.{chosen}
+use Rattle.rtcm_msg.specs.Msm.{MasksValue, codes_of}
+use Rattle.rtcm_msg.specs.Entries.{IsEntry, chosen}
 use Rattle.rtcm_msg.specs.Pairs.{pairs_left, cell_pairs_left}
+use Rattle.rtcm_msg.specs.Viewed.{Unread, entry_in, lock_field}
 use Rattle.rtcm_msg.proofs.view.Entries.next.Goals as goal
 
 below : (i n m k : ℕ) → i < n → k ≡ m → k ≡ n → i < m
@@ -13,6 +17,40 @@ below i n m k h e f = omega (arith, h, e, f)
 one_less : (s : MasksValue) (n l r : ℕ) (p q : Pairs) (x : Pair) (next cells : ℕ) → n ≡ s.cells → chosen (uint l n) (pairs_left p) ≡ x ∷ chosen (uint r n) (pairs_left q)
     → length (cell_pairs_left l s p) + next ≡ cells → length (cell_pairs_left r s q) + (next + 1) ≡ cells
 one_less s n l r p q x next cells e split count = let step = ap length (rw e at split) in omega (arith, count, step)
+
+one_there : (ps qs : List Pair) (p : Pair) (next cells : ℕ) → ps ≡ p ∷ qs → length ps + next ≡ cells → next < cells
+one_there ps qs p next cells split count = let more = ap length split in omega (arith, more, count)
+
+next_fits : (next cells n : ℕ) → next < cells → n ≡ cells → n ≤ 64 → next + 1 < 18446744073709551616
+next_fits next cells n h same few = omega (arith, h, same, few)
+
+pub split_cells-requires-clause-few : goal.split_cells-requires-clause-few
+split_cells-requires-clause-few c = c.self.invariant.0.1
+
+pub split_cells-requires-clause-count : goal.split_cells-requires-clause-count
+split_cells-requires-clause-count c = c.self.invariant.0.0
+
+pub split_cells-requires-clause-in_range : goal.split_cells-requires-clause-in_range
+split_cells-requires-clause-in_range c = c.self.invariant.0.2
+
+pub rough-satellite-requires-clause-keeps : goal.rough-satellite-requires-clause-keeps
+rough-satellite-requires-clause-keeps c = c.self.invariant.2
+
+pub entry-entry-requires-clause-rough : goal.entry-entry-requires-clause-rough
+entry-entry-requires-clause-rough c = c.rough-satellite.ensures
+
+pub entry-entry-requires-clause-cell : goal.entry-entry-requires-clause-cell
+entry-entry-requires-clause-cell c =
+    let v = c.self.inside.view.now in
+    let split = rw (c.cells.ensures.value ∙ ap (λ (s : MasksValue). s.cells) c.masks.ensures) at c.in_ok-pair.ensures.some.0 in
+    one_there (cell_pairs_left c.self.inside.left v.msm.sets c.self.inside.pairs) (cell_pairs_left c.in_ok-pair.left v.msm.sets c.in_ok-pair.pairs) c.in_ok-pair.pair c.self.inside.next (length v.msm.cells) split c.self.invariant.1
+
+pub overflow_add-self : goal.overflow_add-self
+overflow_add-self c =
+    let v = c.self.inside.view.now in
+    let split = rw (c.cells.ensures.value ∙ ap (λ (s : MasksValue). s.cells) c.masks.ensures) at c.in_ok-pair.ensures.some.0 in
+    let there = one_there (cell_pairs_left c.self.inside.left v.msm.sets c.self.inside.pairs) (cell_pairs_left c.in_ok-pair.left v.msm.sets c.in_ok-pair.pairs) c.in_ok-pair.pair c.self.inside.next (length v.msm.cells) split c.self.invariant.1 in
+    record { fits = next_fits c.self.inside.next (length v.msm.cells) c.cells-2.result there c.cells-2.ensures.count c.cells-2.ensures.few }
 
 pub rough-satellite-requires-clause-there : goal.rough-satellite-requires-clause-there
 rough-satellite-requires-clause-there c =
@@ -26,3 +64,17 @@ invariant_of-self c =
       one_less sets c.cells.result c.self.inside.left c.in_ok-pair.left c.self.inside.pairs c.in_ok-pair.pairs c.in_ok-pair.pair c.self.inside.next _ (c.cells.ensures.value ∙ ap (λ (s : MasksValue). s.cells) c.masks.ensures) some.0 c.self.invariant.1,
       λ h. c.rough-satellite.ensures,
     )
+
+-- The entries that are left begin with the one of the first pair and the first cell.
+taken : (f : Pair × ℕ → Entry) (ps qs : List Pair) (p : Pair) (cells : List ℕ) (next : ℕ) (e : Entry) → ps ≡ p ∷ qs → length ps + next ≡ length cells → e ≡ f (p, slice_index cells next)
+    → map f (zip ps (drop next cells)) ≡ e ∷ map f (zip qs (drop (next + 1) cells))
+taken f ps qs p cells next e split count value =
+    let more = ap length split in
+    rw (split, drop_more cells next 0 (omega (arith, more, count)), value) refl
+
+pub returns-clause-some : goal.returns-clause-some
+returns-clause-some c =
+    let v = c.self.inside.view.now in
+    let split = rw (c.cells.ensures.value ∙ ap (λ (s : MasksValue). s.cells) c.masks.ensures) at c.in_ok-pair.ensures.some.0 in
+    let first = taken (entry_in v.form v.msm) (cell_pairs_left c.self.inside.left v.msm.sets c.self.inside.pairs) (cell_pairs_left c.in_ok-pair.left v.msm.sets c.in_ok-pair.pairs) c.in_ok-pair.pair v.msm.cells c.self.inside.next c.entry-entry.result split c.self.invariant.1 c.entry-entry.ensures.value in
+    (sym (ap (λ (u : Unread). u.left) c.self.view_is) ∙ first, subst (λ (u : Unread). IsEntry (codes_of (lock_field u.form)) c.entry-entry.result) c.self.view_is c.entry-entry.ensures.bounds)
