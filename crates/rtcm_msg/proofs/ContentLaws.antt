@@ -1,5 +1,5 @@
 -- The data of one satellite or cell, read field by field.
-use Rattle.std.proofs.Common.{ℕ, ◌≡◌, ◌+◌, ◌*◌, ◌-◌, ◌/◌, ◌%◌, ◌^◌, ◌<◌, ◌≤◌, Bool, List, [], ◌∷◌, length, take, drop, refl, ap, ap₂, ◌∙◌, arith, lit<}
+use Rattle.std.proofs.Common.{ℕ, ◌≡◌, ◌+◌, ◌*◌, ◌/◌, ◌%◌, ◌^◌, ◌<◌, ◌≤◌, Bool, List, [], ◌∷◌, length, take, drop, refl, ap, ap₂, ◌∙◌, arith, lit<}
 use Rattle.std.proofs.lemmas.Nat.{mod_low, shr_high, pow-add}
 use Rattle.std.proofs.lemmas.List.{length-take}
 use Rattle.rtcm_bits.specs.BitLaws.{number-fits, pow_mono}

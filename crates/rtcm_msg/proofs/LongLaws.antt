@@ -1,6 +1,6 @@
 -- No field that is read ends after the first 8,184 bits.
 use Rattle.std.proofs.Common.{ℕ, ◌≡◌, ◌+◌, ◌*◌, ◌≤◌, Bool, true, false, List, ◌∷◌, ◌++◌, length, take, drop, Result, Ok, Err, Option, refl, sym, ap, ◌∙◌, arith, lit≤, inl, inr, append_assoc, nat_lt, nat_le, count_ones, length-append}
-use Rattle.std.proofs.lemmas.Bool.{cases_lt}
+use Rattle.std.proofs.lemmas.Bool.{cases_lt, le-leb, lt-ltb}
 use Rattle.std.proofs.lemmas.Nat.{ones-le, mul-le}
 use Rattle.std.proofs.lemmas.List.{length-drop, take-append-le, drop-append-le, take-append-drop, length-take-le}
 use Rattle.rtcm_bits.specs.Bits.{bits_of, number}
@@ -14,7 +14,7 @@ use Rattle.rtcm_msg.specs.Decoding.{message_of, message_at}
 use Rattle.rtcm_msg.specs.Encoding.{ReadsMessage, IsFault, is_read_msm, is_read, number_of, set_of, layout, layout_of, has_bad_time, has_too_many, repeated}
 use Rattle.rtcm_msg.proofs.FieldLaws.{past_none, field_at}
 use Rattle.rtcm_msg.proofs.FaultLaws.{total-append, total-repeated, pair_count_of}
-use Rattle.rtcm_msg.proofs.MessageLaws.{Kind, station, msm4, msm7, other, kind_of, read_again, message_found, message_fault, message_only_fault, layout_station, layout_msm4, layout_msm7, msm4_is_msm, msm7_is_msm, and_all, le_true, lt_true, not_true, some_none}
+use Rattle.rtcm_msg.proofs.MessageLaws.{Kind, station, msm4, msm7, other, kind_of, read_again, message_found, message_fault, message_only_fault, layout_station, layout_msm4, layout_msm7, msm4_is_msm, msm7_is_msm, and_all, not_true, some_none}
 use Rattle.rtcm_msg.proofs.StationLaws.{station_widths, height_widths}
 use Rattle.rtcm_msg.specs.declared.message.Message.TheVariants as messages
 use Rattle.rtcm_msg.specs.Grid4 as grid4
@@ -25,7 +25,7 @@ field_more : (a b : List Bool) (place w : ℕ) → place + w ≤ length a → fi
 field_more a b place w h = ap number (ap (take w) (drop-append-le place a b (omega arith)) ∙ take-append-le w (drop place a) b (omega (arith, length-drop place a)))
 
 le_more : (k : ℕ) (a b : List Bool) → k ≤ length a → nat_le k (length (a ++ b)) ≡ nat_le k (length a)
-le_more k a b h = le_true k (length (a ++ b)) (omega (arith, length-append a b, h)) ∙ sym (le_true k (length a) h)
+le_more k a b h = le-leb k (length (a ++ b)) (omega (arith, length-append a b, h)) ∙ sym (le-leb k (length a) h)
 
 module _ (a b : List Bool) (long : 8184 ≤ length a) where
   number_more : number_of (a ++ b) ≡ number_of a
@@ -59,7 +59,7 @@ ones_few bits place w few h =
 
 pairs_are : (bits : List Bool) → is_read_msm (number_of bits) ≡ true → 8184 ≤ length bits → has_too_many bits ≡ false → pair_count_of bits ≤ 64
 pairs_are bits msm long few = elim (cases_lt 64 (pair_count_of bits)) [
-  | inl over ↦ absurd (not_true (has_too_many bits) few (and_all (is_read_msm (number_of bits)) (nat_le 169 (length bits)) (nat_lt 64 (pair_count_of bits)) msm (le_true 169 (length bits) (omega (arith, long))) (lt_true 64 (pair_count_of bits) over)))
+  | inl over ↦ absurd (not_true (has_too_many bits) few (and_all (is_read_msm (number_of bits)) (nat_le 169 (length bits)) (nat_lt 64 (pair_count_of bits)) msm (le-leb 169 (length bits) (omega (arith, long))) (lt-ltb 64 (pair_count_of bits) over)))
   | inr fine ↦ fine
 ]
 

@@ -1,6 +1,6 @@
 -- Reading a message: the bits that were read, reading an encoding, and the fault.
 use Rattle.std.proofs.Common.{ℕ, ◌≡◌, ◌+◌, ◌==◌, ◌^◌, ◌<◌, ◌≤◌, ◌&&◌, Bool, true, false, List, [], ◌∷◌, ◌++◌, length, drop, Result, Ok, Err, Option, Some, None, refl, sym, ap, subst, ◌∙◌, arith, lit<, ◌⊎◌, inl, inr, append_assoc, nat_lt, nat_le, if◌then◌else◌, is_some, IsTrue, replicate}
-use Rattle.std.proofs.lemmas.Bool.{cases_lt, cases_eq}
+use Rattle.std.proofs.lemmas.Bool.{cases_lt, cases_eq, lt-leb, le-leb, lt-ltb, le-ltb}
 use Rattle.std.proofs.lemmas.Nat.{pow_pos}
 use Rattle.std.proofs.lemmas.List.{length-drop, drop-drop}
 use Rattle.rtcm_bits.specs.Bits.{uint, filled, missing}
@@ -97,13 +97,13 @@ pub other_set : (bits : List Bool) → 12 ≤ length bits → set_at (cursor_at 
 other_set bits h = elim (cases_lt (length bits) 55) [ inl few ↦ none bits few | inr lots ↦ some bits lots ]
   where
     none : (bits : List Bool) → length bits < 55 → set_at (cursor_at bits 12) ≡ (if nat_le 55 (length bits) then Some (field_at bits 12 12, field_at bits 54 1 == 1) else None)
-    none bits few = let less : length (drop 12 bits) < 43 = omega (arith, length-drop 12 bits) in grind arith
+    none bits few = let less : length (drop 12 bits) < 43 = omega (arith, length-drop 12 bits) in rw (lt-ltb (length (drop 12 bits)) 43 less, lt-leb 55 (length bits) few) refl
 
     some : (bits : List Bool) → 55 ≤ length bits → set_at (cursor_at bits 12) ≡ (if nat_le 55 (length bits) then Some (field_at bits 12 12, field_at bits 54 1 == 1) else None)
     some bits lots =
         let more : 43 ≤ length (drop 12 bits) = omega (arith, length-drop 12 bits) in
         let one : drop 30 (drop 12 (drop 12 bits)) ≡ drop 54 bits = ap (drop 30) (drop-drop 12 12 bits) ∙ drop-drop 30 24 bits in
-        rw one (grind arith)
+        rw (one, le-ltb (length (drop 12 bits)) 43 more, le-leb 55 (length bits) lots) refl
 
 other_is : (bits : List Bool) → 12 ≤ length bits → other_at (number_of bits) (cursor_at bits 12) ≡ messages.Other (number_of bits) (set_of bits)
 other_is bits h = rw (other_set bits h) refl
@@ -249,18 +249,6 @@ and_third false b c h = refl
 pub and_all : (a b c : Bool) → a ≡ true → b ≡ true → c ≡ true → IsTrue (a && b && c)
 and_all a b c e f g = rw (e, f, g) refl
 
-le_false : (a b : ℕ) → b < a → nat_le a b ≡ false
-le_false a b h = grind arith
-
-pub le_true : (a b : ℕ) → a ≤ b → nat_le a b ≡ true
-le_true a b h = grind arith
-
-lt_false : (a b : ℕ) → b ≤ a → nat_lt a b ≡ false
-lt_false a b h = grind arith
-
-pub lt_true : (a b : ℕ) → a < b → nat_lt a b ≡ true
-lt_true a b h = grind arith
-
 pub not_true : (b : Bool) → b ≡ false → IsTrue b → ⊥
 not_true b e h = cc
 
@@ -335,16 +323,16 @@ msm_message_end bits sw cw g wrap h msm lay read end = go end
     m = is_read_msm (number_of bits)
 
     early_is : field_at bits 24 30 < week → has_bad_time bits ≡ false
-    early_is early = and_third m (nat_le 54 (length bits)) (nat_le week (field_at bits 24 30)) (le_false week (field_at bits 24 30) early)
+    early_is early = and_third m (nat_le 54 (length bits)) (nat_le week (field_at bits 24 30)) (lt-leb week (field_at bits 24 30) early)
 
     few_is : pair_count_of bits ≤ 64 → has_too_many bits ≡ false
-    few_is few = and_third m (nat_le 169 (length bits)) (nat_lt 64 (pair_count_of bits)) (lt_false 64 (pair_count_of bits) few)
+    few_is few = and_third m (nat_le 169 (length bits)) (nat_lt 64 (pair_count_of bits)) (le-ltb 64 (pair_count_of bits) few)
 
     go : MsmEnd sw cw g bits → MessageEnd bits
-    go (no_time e few s is) = faulty e (short_fault bits (msm_widths sw cw bits) e h (record { time = and_second m (nat_le 54 (length bits)) (nat_le week (field_at bits 24 30)) (le_false 54 (length bits) few); few = and_second m (nat_le 169 (length bits)) (nat_lt 64 (pair_count_of bits)) (le_false 169 (length bits) (omega (arith, few))) }) lay s) (read ∙ rw is refl)
-    go (late there over is) = faulty BadTime (and_all m (nat_le 54 (length bits)) (nat_le week (field_at bits 24 30)) msm (le_true 54 (length bits) there) (le_true week (field_at bits 24 30) over)) (read ∙ rw is refl)
-    go (no_masks e early few s is) = faulty e (short_fault bits (msm_widths sw cw bits) e h (record { time = early_is early; few = and_second m (nat_le 169 (length bits)) (nat_lt 64 (pair_count_of bits)) (le_false 169 (length bits) few) }) lay s) (read ∙ rw is refl)
-    go (many early there over is) = faulty TooManyCells (early_is early, and_all m (nat_le 169 (length bits)) (nat_lt 64 (pair_count_of bits)) msm (le_true 169 (length bits) there) (lt_true 64 (pair_count_of bits) over)) (read ∙ rw is refl)
+    go (no_time e few s is) = faulty e (short_fault bits (msm_widths sw cw bits) e h (record { time = and_second m (nat_le 54 (length bits)) (nat_le week (field_at bits 24 30)) (lt-leb 54 (length bits) few); few = and_second m (nat_le 169 (length bits)) (nat_lt 64 (pair_count_of bits)) (lt-leb 169 (length bits) (omega (arith, few))) }) lay s) (read ∙ rw is refl)
+    go (late there over is) = faulty BadTime (and_all m (nat_le 54 (length bits)) (nat_le week (field_at bits 24 30)) msm (le-leb 54 (length bits) there) (le-leb week (field_at bits 24 30) over)) (read ∙ rw is refl)
+    go (no_masks e early few s is) = faulty e (short_fault bits (msm_widths sw cw bits) e h (record { time = early_is early; few = and_second m (nat_le 169 (length bits)) (nat_lt 64 (pair_count_of bits)) (lt-leb 169 (length bits) few) }) lay s) (read ∙ rw is refl)
+    go (many early there over is) = faulty TooManyCells (early_is early, and_all m (nat_le 169 (length bits)) (nat_lt 64 (pair_count_of bits)) msm (le-leb 169 (length bits) there) (lt-ltb 64 (pair_count_of bits) over)) (read ∙ rw is refl)
     go (short e early few s is) = faulty e (short_fault bits (msm_widths sw cw bits) e h (record { time = early_is early; few = few_is few }) lay s) (read ∙ rw is refl)
     go (good v early few none is) = sound (wrap v.0) (no_fault bits h (record { time = early_is early; few = few_is few }) (past_all bits (msm_widths sw cw bits) h lay none)) (read ∙ rw is refl)
 
@@ -352,8 +340,8 @@ message_end : (bits : List Bool) → MessageEnd bits
 unfolding first_past
 message_end bits = elim (cases_lt (length bits) 12) [
   | inl few ↦ faulty (Short 0) (
-    and_second (is_read_msm (number_of bits)) (nat_le 54 (length bits)) (nat_le week (field_at bits 24 30)) (le_false 54 (length bits) (omega (arith, few))),
-    and_second (is_read_msm (number_of bits)) (nat_le 169 (length bits)) (nat_lt 64 (pair_count_of bits)) (le_false 169 (length bits) (omega (arith, few))),
+    and_second (is_read_msm (number_of bits)) (nat_le 54 (length bits)) (nat_le week (field_at bits 24 30)) (lt-leb 54 (length bits) (omega (arith, few))),
+    and_second (is_read_msm (number_of bits)) (nat_le 169 (length bits)) (nat_lt 64 (pair_count_of bits)) (lt-leb 169 (length bits) (omega (arith, few))),
     inl (few, refl),
   ) (message_none bits few)
   | inr there ↦ go (number_of bits) refl there (kind_of (number_of bits))

@@ -48,7 +48,7 @@ pub(crate) fn write_station(writer: &mut BitWriter, parts: &StationParts)
     ];
     write_fields(writer, &fields);
     if let Some(height) = parts.height {
-        write_fields(writer, &[(16, height as u64)]);
+        writer.put(height as u64, 16);
     }
 }
 
