@@ -1,7 +1,8 @@
-use Rattle.std.proofs.Common.{ℕ, List, Bool, ◌≡◌, ◌+◌, ◌*◌, ◌≤◌, ◌++◌, ◌∙◌, append_assoc, ap, length, arith}
+use Rattle.std.proofs.Common.{ℕ, List, Bool, ◌≡◌, ◌+◌, ◌*◌, ◌≤◌, ◌++◌, ◌∙◌, All, append_assoc, sym, ap, subst, length, arith}
 use Rattle.std.proofs.Math.Nat.{mul-le-mul_left}
 use Rattle.rtcm_msg.specs.Fields.{field_bits}
 use Rattle.rtcm_msg.specs.Packed.{total_width}
+use Rattle.rtcm_msg.specs.Msm.{IsValue}
 use Rattle.rtcm_msg.proofs.WritingSteps.{field_bits-append}
 use Rattle.rtcm_msg.proofs.msm.write_msm.Goals as goal
 
@@ -36,3 +37,18 @@ write_columns-requires-2-clause-room g c =
     let end = rw c.satellite_widths.ensures at c.write_columns.ensures.len in
     rw c.cell_widths.ensures
     (room_after _ _ (total_width g.G.Grid.satellite_widths) (total_width g.G.Grid.cell_widths) (length c.as_slice.result.now) (length c.as_slice-2.result.now) _ c.requires c.write_head.ensures.len g.met.G.Grid.room c.as_slice.ensures.fits c.as_slice-2.ensures.fits end)
+
+pub returns-clause-value : goal.returns-clause-value
+returns-clause-value g c = subst (IsValue g.G.Grid.satellite_widths g.G.Grid.cell_widths) c.msm.view_is c.msm.invariant
+
+pub write_columns-requires-clause-few : goal.write_columns-requires-clause-few
+write_columns-requires-clause-few g c = subst (All (λ (w : ℕ). w ≤ 64)) (sym c.satellite_widths.ensures) g.met.G.Grid.satellite_widths_few
+
+pub write_columns-requires-clause-wide : goal.write_columns-requires-clause-wide
+write_columns-requires-clause-wide g c = let room = g.met.G.Grid.room in rw c.satellite_widths.ensures (omega (arith, room))
+
+pub write_columns-requires-2-clause-few : goal.write_columns-requires-2-clause-few
+write_columns-requires-2-clause-few g c = subst (All (λ (w : ℕ). w ≤ 64)) (sym c.cell_widths.ensures) g.met.G.Grid.cell_widths_few
+
+pub write_columns-requires-2-clause-wide : goal.write_columns-requires-2-clause-wide
+write_columns-requires-2-clause-wide g c = let room = g.met.G.Grid.room in rw c.cell_widths.ensures (omega (arith, room))
