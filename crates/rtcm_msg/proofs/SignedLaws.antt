@@ -20,10 +20,6 @@ narrow_16 z f = rw (to_z-of_z w64 z (record { sfits = raised _ _ _ f.sfits (lit�
 pub narrow_32 : (z : ℤ) → FitsSigned w32 z → to_z w32 (of_z w32 (to_z w64 (of_z w64 z))) ≡ z
 narrow_32 z f = rw (to_z-of_z w64 z (record { sfits = raised _ _ _ f.sfits (lit≤ tt) })) (to_z-of_z w32 z f)
 
-pub size_16 : (z : ℤ) → FitsSigned w16 z → unsigned_abs z ≤ 32768
-size_16 (pos n) f = omega (arith, f.sfits)
-size_16 (negsuc n) f = f.sfits
-
 pub size_32 : (z : ℤ) → FitsSigned w32 z → unsigned_abs z ≤ 2147483648
 size_32 (pos n) f = omega (arith, f.sfits)
 size_32 (negsuc n) f = f.sfits

@@ -1,5 +1,5 @@
 //! Fields of a message at known places, and the check that they are within the message.
-ghost use Rattle.std.specs.Prelude.{◌≡◌, ◌==◌, ◌+◌, ◌*◌, ◌^◌, ◌<◌, ◌≤◌, ℕ, All, IfOk, length};
+ghost use Rattle.std.specs.Prelude.{◌≡◌, ◌==◌, ◌+◌, ◌*◌, ◌^◌, ◌<◌, ◌≤◌, ℕ, IfOk, length};
 ghost use Rattle.rtcm_bits.specs.Bits.{bits_of, signed, FitsInt};
 ghost use Rattle.rtcm_bits.specs.FrameOf.{longest_message};
 ghost use Rattle.rtcm_msg.specs.Fields.{field_at};
@@ -21,7 +21,6 @@ pub(crate) fn end_of_fields(
     count: usize,
     place: usize,
 ) -> Result<usize, MsgFault>
-    requires narrow { All (λ w. w ≤ 64) widths.now }
     requires few { count ≤ 64 }
     requires within { place ≤ 8 * length bytes.now }
     requires small { length bytes.now ≤ longest_message }

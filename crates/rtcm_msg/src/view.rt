@@ -1,6 +1,6 @@
 //! Views of messages, which read the cells of an MSM one by one.
 ghost use Rattle.std.specs.Prelude.{[], ◌≡◌, ◌*◌, ◌<◌, ◌≤◌, ◌^◌, ◌∷◌, length, slice_index, count_ones};
-ghost use Rattle.std.specs.Prelude.{All, IfOk, IfSome, IfNone};
+ghost use Rattle.std.specs.Prelude.{IfOk, IfSome, IfNone};
 ghost use Rattle.rtcm_bits.specs.Bits.{bits_of};
 ghost use Rattle.rtcm_bits.specs.FrameOf.{longest_message};
 ghost use Rattle.rtcm_msg.specs.Fields.{GivesViewed, cursor_at};
@@ -53,8 +53,6 @@ impl Form {
     fn widths(self) -> (&'static [u32], &'static [u32])
         ensures satellites { result.0.now ≡ views.satellite_widths self }
         ensures cells { result.1.now ≡ views.cell_widths self }
-        ensures satellites_narrow { All (λ w. w ≤ 64) result.0.now }
-        ensures cells_narrow { All (λ w. w ≤ 64) result.1.now }
     {
         match self {
             Form::Msm4 => (Grid4::satellite_widths(), Grid4::cell_widths()),
