@@ -201,7 +201,7 @@ pub end_ended : (b : Bool) (h : Gathered) → h.has_ended ≡ true → (if b the
 end_ended true h e = e
 end_ended false h e = e
 
-end_handed : (b : Bool) (h : Gathered) → (if b then noted h else h).just_closed ≡ h.just_closed
+pub end_handed : (b : Bool) (h : Gathered) → (if b then noted h else h).just_closed ≡ h.just_closed
 end_handed true h = refl
 end_handed false h = refl
 

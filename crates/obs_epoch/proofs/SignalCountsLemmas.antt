@@ -1,8 +1,9 @@
 -- Cells are counted one by one.
 use Rattle.rtcm_msg.specs.declared.entry.LockField.{LockField}
-use Rattle.std.proofs.Common.{◌≡◌, ℕ, suc, ◌+◌, ◌-◌, ◌<◌, ◌≤◌, ◌^◌, ◌==◌, ◌&&◌, Bool, true, false, List, [], ◌∷◌, ◌++◌, length, get_or, refl, sym, ap, ◌∙◌, subst, arith, Option, Some, None, filter, append-nil, append_assoc, length-append, is_some}
+use Rattle.std.proofs.Common.{◌≡◌, ℕ, zero, suc, nat_lt, nat_eq, not, replicate, ◌+◌, ◌-◌, ◌<◌, ◌≤◌, ◌^◌, ◌==◌, ◌&&◌, Bool, true, false, List, [], ◌∷◌, ◌++◌, length, get_or, refl, sym, ap, ◌∙◌, subst, arith, Option, Some, None, filter, append-nil, append_assoc, length-append, is_some}
 use Rattle.std.specs.Prelude.{filter_map, cond, if◌then◌else◌, unwrap_or}
-use Rattle.std.specs.List.{cons_option}
+use Rattle.std.specs.List.{cons_option, list_any}
+use lib.Pointwise.{pointwise}
 use Rattle.std.specs.Option.{option_map, option_and_then, option_map_or}
 use Rattle.std.proofs.lemmas.List.Sums.{length-filter, count_by-le-length}
 use Rattle.std.proofs.lemmas.List.{length-set}
@@ -25,6 +26,15 @@ few_passed p xs = omega (arith, length-filter p xs, count_by-le-length p xs)
 length-filter_map : {X Y : Type 0} (f : X → Option Y) (xs : List X) → length (filter_map f xs) ≤ length xs
 length-filter_map f [] = omega arith
 length-filter_map f (x ∷ xs) = grind (arith, common_steps, length-filter_map f xs)
+
+-- ---- counts that are not all 0
+
+pub any_not_zero : (n : ℕ) (xs : List ℕ) → length xs ≡ n → list_any (λ x. nat_lt 0 x) xs ≡ not (pointwise nat_eq xs (replicate n 0))
+any_not_zero zero [] h = refl
+any_not_zero zero (x ∷ xs) h = grind arith
+any_not_zero (suc n) [] h = grind arith
+any_not_zero (suc n) (zero ∷ xs) h = any_not_zero n xs (omega (arith, h))
+any_not_zero (suc n) (suc x ∷ xs) h = grind (arith, common_steps)
 
 -- ---- one more cell
 

@@ -17,7 +17,7 @@ use Rattle.obs_epoch.specs.Epochs.{epoch_at, closed_so_far, closed_times, values
 use Rattle.obs_epoch.specs.Clock.{State, HasHeardMessages, is_pending, closes_first}
 use Rattle.obs_epoch.specs.Kinds.{is_close_first, is_kept, kind_after}
 use Rattle.obs_epoch.specs.Step.{kind_by, step_by, closed_by, closed_of}
-use Rattle.obs_epoch.specs.Gather.{with_unlisted, Gathered, Loaded, no_epoch, noted, load, loaded_if, outcome_in, load_one, with_time, closed_if, take_step, end_step, is_same}
+use Rattle.obs_epoch.specs.Gather.{with_unlisted, Gathered, Loaded, no_epoch, noted, load, loaded_if, outcome_in, load_one, with_time, closed_if, closed_noted, take_step, end_step, is_same}
 use Rattle.obs_epoch.specs.declared.locks.KnownLock.{KnownLock}
 use Rattle.obs_epoch.specs.GathererHistory.{held_at, Locked, HasTakenMessages, closed_list, closed_epoch}
 use Rattle.obs_epoch.proofs.TimesLemmas.{next, timed-push}
@@ -366,6 +366,9 @@ loaded_apart f apart true before g m = load_apart f apart _ m.cells ∙ begun (i
   begun false = apart g _ g.locks
 loaded_apart f apart false before g m = refl
 
+closed_loaded : (accepted : Bool) (before : Option ℕ) (g : Gathered) (m : Heard) → (loaded_if accepted before (with_time g m) m).state.just_closed ≡ is_some (closed_by g.clock m)
+closed_loaded accepted before g m = loaded_apart (λ v. v.just_closed) (λ v e locks. refl) accepted before (with_time g m) m
+
 step_apart : (f : Gathered → Bool) → IsApart f → (g : Gathered) (m : Heard) → f (take_step g m).state ≡ f (with_time g m)
 step_apart f apart g m = closed (is_some (closed_by g.clock m)) (loaded_if kept g.clock.latest (with_time g m) m) ∙ loaded_apart f apart kept g.clock.latest (with_time g m) m where
   kept : Bool
@@ -374,6 +377,10 @@ step_apart f apart g m = closed (is_some (closed_by g.clock m)) (loaded_if kept 
   closed : (b : Bool) (l : Loaded) → f (closed_if b l).state ≡ f l.state
   closed true l = apart l.state l.state.epoch _
   closed false l = refl
+
+-- The step of the gatherer, from what its message loads.
+pub noted_is : (g : Gathered) (m : Heard) → closed_noted (loaded_if (is_kept (kind_by g.clock no_counts m)) g.clock.latest (with_time g m) m).state ≡ (take_step g m).state
+noted_is g m = let v = (loaded_if (is_kept (kind_by g.clock no_counts m)) g.clock.latest (with_time g m) m).state in ap (λ b. if b then noted v else v) (closed_loaded _ _ g m)
 
 pub handed_is : (g : Gathered) (m : Heard) → (take_step g m).state.just_closed ≡ is_some (closed_by g.clock m)
 handed_is g m = step_apart (λ v. v.just_closed) (λ v e locks. refl) g m

@@ -94,6 +94,10 @@ load_heard l m = with_unlisted m.unlisted (load l m.cells)
 abbrev pub noted : Gathered → Gathered
 noted g = record g { locks = note_all g.epoch.time (note_all g.epoch.time g.locks g.epoch.gps) g.epoch.galileo }
 
+-- The same if the epoch was just closed.
+abbrev pub closed_noted : Gathered → Gathered
+closed_noted g = if g.just_closed then noted g else g
+
 -- ---- a whole message
 
 abbrev pub is_same : Option ℕ → Option ℕ → Bool

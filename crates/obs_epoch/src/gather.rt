@@ -12,19 +12,19 @@ ghost use Rattle.gnss_obs.specs.Plans.{place_in};
 ghost use Rattle.gnss_obs.specs.HeardCells.{heard_cell, IsObserved};
 ghost use Rattle.obs_epoch.specs.Epochs.{values_by_message, values_of};
 ghost use Rattle.obs_epoch.specs.Held.{count_in, most_locks, no_locks, recorded};
-ghost use Rattle.obs_epoch.specs.Step.{kind_by, closed_by as closes};
+ghost use Rattle.obs_epoch.specs.Step.{kind_by};
 ghost use Rattle.gnss_obs.specs.Values.{Closed, cells_of, most_cells, planned_of};
 ghost use Rattle.obs_epoch.specs.Kinds.{is_no_station, setup_at, setup_of, with_counts};
 ghost use Rattle.obs_epoch.specs.Gathering.{HasGatheredEpochs, closed_by, closed_in, plan_in};
 ghost use Rattle.obs_epoch.specs.Calls.{TakesMessage, EndsPendingEpoch, StaysEnded, HoldsCells, HoldsLockedKeys};
 ghost use Rattle.gnss_obs.specs.declared.fault.PlanFault.{PlanFault};
-ghost use Rattle.obs_epoch.specs.Gather.{end_step, loaded_if, load_entry, load_entries, epoch_begun};
+ghost use Rattle.obs_epoch.specs.Gather.{closed_noted, loaded_if, load_entry, load_entries, epoch_begun};
 ghost use Rattle.obs_epoch.specs.Gather.{load, rested, outcome_in, hold, no_epoch, with_time};
 ghost use Rattle.gnss_obs.specs.Kept.{AreInOrder};
 ghost use Rattle.obs_epoch.specs.Cells.{cells_counted, no_counts};
 
 use crate::clock::Clock;
-use crate::locks::{Locks, lli, note_epoch};
+use crate::locks::{Locks, lli, note_cells};
 use crate::observe::{observe, system_of};
 use crate::taken::{CellCounts, Gather, Kind, Taken, no_counts};
 use gnss_obs::{Cell, Epoch, GpsTime, MOST_CELLS, Plan, PlanFault, StationValues, System, WEEKS};
@@ -149,14 +149,12 @@ impl Gatherer {
         ensures { TakesMessage self.old self.new (heard (viewed_message view.now)) result }
     {
         let before = self.clock.latest();
-        let (kind, closed) = self.hear(&view.summary());
+        let kind = self.hear(&view.summary());
         let counts = self.load(kind.is_kept(), before, view);
-        if closed {
-            note_epoch(&mut self.locks, &self.epoch);
-        }
+        self.note_closed();
         Taken {
             kind: kind.with_counts(counts),
-            closed,
+            closed: self.just_closed,
         }
     }
 
@@ -173,7 +171,10 @@ impl Gatherer {
             self.just_closed = false;
             return false;
         }
-        self.finish()
+        self.just_closed = self.clock.end();
+        self.has_ended = true;
+        self.note_closed();
+        self.just_closed
     }
 
     /// Returns the epoch that the last call of `take` or `end` closed. `None` if that call closed
@@ -235,33 +236,39 @@ impl Gatherer {
         self.clock.plan()
     }
 
-    // Processes the time and the station values of a message. Returns its outcome, with counts of
-    // 0, and whether it closes an epoch.
-    fn hear(&mut self, said: &Summary) -> (Kind, bool)
+    // Processes the time and the station values of a message, and returns its outcome, with counts
+    // of 0.
+    fn hear(&mut self, said: &Summary) -> Kind
         requires { ForSome said.now.time (λ tow. tow < week) }
-        ensures kind { result.0 ≡ kind_by self.old.clock no_counts (heard_summary said.now) }
-        ensures closed { result.1 ≡ is_some (closes self.old.clock (heard_summary said.now)) }
+        ensures kind { result ≡ kind_by self.old.clock no_counts (heard_summary said.now) }
         ensures step { self.new ≡ with_time self.old (heard_summary said.now) }
     {
         let values = self.values_after(said);
         self.epoch.set_values(values);
         let (kind, closed) = self.clock.step(said);
         self.just_closed = closed.is_some();
-        (kind, self.just_closed)
+        kind
     }
 
-    fn finish(&mut self) -> bool
-        ensures was { result ≡ self.old.clock.pending }
-        ensures step { self.new ≡ end_step self.old }
-        ensures just_closed { self.new.just_closed ≡ result }
+    // Records the locks of the epoch's cells if the epoch was just closed.
+    fn note_closed(&mut self)
+        ensures { self.new ≡ closed_noted self.old }
     {
-        let was = self.clock.end();
-        self.has_ended = true;
-        self.just_closed = was;
-        if was {
-            note_epoch(&mut self.locks, &self.epoch);
+        if self.just_closed {
+            let time = self.epoch.time().milliseconds();
+            note_cells(
+                &mut self.locks,
+                time,
+                System::Gps,
+                self.epoch.cells(System::Gps),
+            );
+            note_cells(
+                &mut self.locks,
+                time,
+                System::Galileo,
+                self.epoch.cells(System::Galileo),
+            );
         }
-        was
     }
 
     // Returns the station values after a message.

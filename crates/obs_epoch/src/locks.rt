@@ -7,8 +7,8 @@ ghost use Rattle.obs_epoch.specs.Loss.{lli_with};
 ghost use Rattle.gnss_obs.specs.Values.{AreHeld};
 
 use gnss_obs::{
-    Cell, Epoch, GALILEO_SATELLITES, GALILEO_SIGNAL_COUNT, GPS_SATELLITES, GPS_SIGNAL_COUNT, Lock,
-    System, is_lost,
+    Cell, GALILEO_SATELLITES, GALILEO_SIGNAL_COUNT, GPS_SATELLITES, GPS_SIGNAL_COUNT, Lock, System,
+    is_lost,
 };
 use std::alloc::{AllocError, Global};
 use std::marker::Model;
@@ -84,28 +84,14 @@ impl Locks {
     {
         if x.l.is_some() && x.lock.least().is_some() {
             let entry = lock_place(x);
-            let is_new = self.records[entry].is_none();
+            self.count += self.records[entry].is_none() as usize;
             self.records[entry] = Some(KnownLock { time, lock: x.lock });
-            if is_new {
-                self.count += 1;
-            }
         }
     }
 }
 
-/// Records the locks of the cells of an epoch when it is closed.
-pub fn note_epoch(locks: &mut Locks, epoch: &Epoch)
-    ensures { locks.new
-        ≡ note_all epoch.now.epoch.time (note_all epoch.now.epoch.time locks.old epoch.now.epoch.gps)
-        epoch.now.epoch.galileo }
-{
-    let time = epoch.time().milliseconds();
-    note_cells(locks, time, System::Gps, epoch.cells(System::Gps));
-    note_cells(locks, time, System::Galileo, epoch.cells(System::Galileo));
-}
-
-// Records the locks of the cells of a system.
-fn note_cells(locks: &mut Locks, time: u64, system: System, cells: &[Cell])
+/// Records the locks of the cells of a system when their epoch of this time is closed.
+pub fn note_cells(locks: &mut Locks, time: u64, system: System, cells: &[Cell])
     requires held { AreHeld system cells.now }
     ensures { locks.new ≡ note_all time locks.old cells.now }
 {

@@ -1,9 +1,8 @@
 //! The number of cells with a value, by signal.
-ghost use Rattle.std.specs.Prelude.{◌≡◌, ◌<◌, [], length, nat_lt};
-ghost use Rattle.std.specs.List.{list_any};
+ghost use Rattle.std.specs.Prelude.{◌≡◌, ◌<◌, [], length};
 ghost use Rattle.gnss_obs.specs.Signals.{table};
 ghost use Rattle.obs_epoch.specs.Heard.{heard};
-ghost use Rattle.obs_epoch.specs.SignalCounts.{counted, has_any, counted_of, entry_value, entry_signal, CountsEntries};
+ghost use Rattle.obs_epoch.specs.SignalCounts.{counted, has_any, counted_of, entry_signal, CountsEntries};
 ghost use Rattle.obs_epoch.specs.SignalCounts.{CountsMessage, AreSignalCounts};
 ghost use Rattle.rtcm_msg.specs.Viewed.{viewed_message};
 
@@ -53,7 +52,7 @@ impl SignalCounts {
     pub fn has_any(&self) -> bool
         ensures { result ≡ has_any self.now }
     {
-        is_any_positive(self.gps.as_slice()) || is_any_positive(self.galileo.as_slice())
+        self.gps != [0; GPS_SIGNAL_COUNT] || self.galileo != [0; GALILEO_SIGNAL_COUNT]
     }
 
     /// Counts the cells of a message of this station; with `None`, of any station.
@@ -98,30 +97,18 @@ impl SignalCounts {
     }
 }
 
-fn is_any_positive(counts: &[u64]) -> bool
-    ensures { result ≡ list_any (λ n. nat_lt 0 n) counts.now }
-{
-    counts.iter().any(|n| *n > 0)
-}
-
-// Returns the signal of a cell, if its satellite and signal are listed and it has a value.
+// Returns the signal of a cell, if its satellite and signal are listed and it has a value: a
+// pseudorange, a phase, a Doppler shift or a strength.
 fn signal_of(system: System, entry: &Entry) -> Option<Signal>
     ensures value { result ≡ entry_signal system entry.now }
 {
-    Sat::new(system, entry.satellite)?;
-    if has_value(entry) {
+    let has_value = entry.range.is_some()
+        || entry.phase.is_some()
+        || entry.rate.is_some()
+        || entry.strength.is_some();
+    if has_value && Sat::new(system, entry.satellite).is_some() {
         Signal::from_id(system, entry.signal)
     } else {
         None
     }
-}
-
-// Returns whether a cell has a pseudorange, a phase, a Doppler shift or a strength.
-fn has_value(entry: &Entry) -> bool
-    ensures { result ≡ entry_value entry.now }
-{
-    entry.range.is_some()
-        || entry.phase.is_some()
-        || entry.rate.is_some()
-        || entry.strength.is_some()
 }

@@ -1,62 +1,43 @@
-use Rattle.std.proofs.Common.{◌++◌, ◌∷◌, [], sym, ap, ◌∙◌, subst, Some, None, ◌≡◌, ℕ, Bool, ap₂, Option, is_some}
+use Rattle.std.proofs.Common.{◌++◌, ◌∷◌, [], sym, ap, ◌∙◌, subst, Some, None, ◌≡◌, ℕ, Bool, ap₂, Option}
 use Rattle.rtcm_msg.specs.Viewed.{viewed_message}
 use Rattle.obs_epoch.specs.Heard.{heard, Heard, heard_summary, without_cells}
 use Rattle.obs_epoch.specs.Times.{timed}
-use Rattle.obs_epoch.specs.Gather.{Gathered, take_step, Loaded, loaded_if, noted, with_time}
+use Rattle.obs_epoch.specs.Gather.{Gathered, take_step, Loaded, loaded_if, closed_noted, with_time}
 use Rattle.obs_epoch.specs.Kinds.{is_close_first, is_kept, with_counts}
 use Rattle.obs_epoch.specs.Calls.{IsCloseFirstExactly}
 use Rattle.obs_epoch.specs.Gathering.{HasGatheredEpochs, returned_epoch}
-use Rattle.obs_epoch.proofs.TakeLemmas.{no_point, given_alone, handed_is, ended_is}
+use Rattle.obs_epoch.proofs.TakeLemmas.{no_point, given_alone, noted_is, ended_is}
 use Rattle.obs_epoch.proofs.HandingLemmas.{gathers_first, gathers_taken, has_closed}
 use Rattle.obs_epoch.proofs.KindLemmas.{counted_kind, exactly_first, again_taken, fits_now, kind_taken}
-use Rattle.std.specs.Prelude.{if◌then◌else◌}
 use Rattle.obs_epoch.specs.Cells.{no_counts}
-use Rattle.obs_epoch.specs.Step.{closed_by, kind_by}
+use Rattle.obs_epoch.specs.Step.{kind_by}
 use Rattle.obs_epoch.proofs.ViewLemmas.{summary_heard}
-use Rattle.obs_epoch.proofs.gather.Gatherer.take_view.Goals.{After-with_counts, then-closed, else-closed}
 use Rattle.obs_epoch.proofs.gather.Gatherer.take_view.Goals as goal
 
-abbrev message : goal.After-with_counts → Heard
+abbrev message : goal.After-self-2 → Heard
 message c = heard (viewed_message c.args.view.now)
 
-said_is : (c : goal.After-with_counts) → heard_summary c.summary.result ≡ without_cells (message c)
+said_is : (c : goal.After-self-2) → heard_summary c.summary.result ≡ without_cells (message c)
 said_is c = ap heard_summary c.summary.ensures.value ∙ summary_heard (viewed_message c.args.view.now)
 
-kind_is : (c : goal.After-with_counts) → c.hear-kind.result.0 ≡ kind_by c.args.self.now.clock no_counts (message c)
+kind_is : (c : goal.After-self-2) → c.hear-kind.result ≡ kind_by c.args.self.now.clock no_counts (message c)
 kind_is c = c.hear-kind.ensures.kind ∙ ap (kind_by c.args.self.now.clock no_counts) (said_is c)
 
 same_loaded : (a b : Bool) (o p : Option ℕ) (g h : Gathered) (m : Heard) → a ≡ b → o ≡ p → g ≡ h → loaded_if a o g m ≡ loaded_if b p h m
 same_loaded a b o p g h m d e f = ap (λ k. loaded_if k o g m) d ∙ ap₂ (λ k i. loaded_if b k i m) e f
 
-abbrev loaded : goal.After-with_counts → Loaded
+abbrev loaded : goal.After-self-2 → Loaded
 loaded c = loaded_if (is_kept (kind_by c.args.self.now.clock no_counts (message c))) c.args.self.now.clock.latest (with_time c.args.self.now (message c)) (message c)
 
-loaded_is : (c : goal.After-with_counts) → record { state = c.load-counts.new.self; counts = c.load-counts.result } ≡ loaded c
+loaded_is : (c : goal.After-self-2) → record { state = c.load-counts.new.self; counts = c.load-counts.result } ≡ loaded c
 loaded_is c =
     c.load-counts.ensures
     ∙ same_loaded _ _ _ _ _ _ (message c) (c.is_kept.ensures ∙ ap is_kept (kind_is c)) (c.latest-before.ensures.value ∙ ap (λ (g : Gathered). g.clock.latest) c.self.view_is)
     (c.hear-kind.ensures.step ∙ ap (with_time c.args.self.now) (said_is c))
 
-closed_is : (c : goal.After-with_counts) → c.hear-kind.result.1 ≡ is_some (closed_by c.args.self.now.clock (message c))
-closed_is c = c.hear-kind.ensures.closed ∙ ap (λ m. is_some (closed_by c.args.self.now.clock m)) (said_is c)
-
-step_is : (c : goal.After-with_counts) → c.if-closed.self ≡ (take_step c.args.self.now (message c)).state
+step_is : (c : goal.After-self-2) → c.note_closed.new.self ≡ (take_step c.args.self.now (message c)).state
 step_is c =
-    let state = ap (λ (l : Loaded). l.state) (loaded_is c) in
-    let by = λ (b : Bool) (is : c.hear-kind.result.1 ≡ b). ap (λ d. if d then noted (loaded c).state else (loaded c).state) (sym is ∙ closed_is c) in
-    elim c.if-closed.branch [
-      | then-closed w ↦ w.self-is ∙ ap (λ locks. record (the_self c) { locks = locks }) w.note_epoch.ensures ∙ ap noted (c.self-2.view_is ∙ state) ∙ by _ w.if-closed.true
-      | else-closed w ↦ w.self-is ∙ state ∙ by _ w.if-closed.false
-    ] where
-      the_self : goal.After-with_counts → Gathered
-      the_self c = record {
-        clock = c.self-2.inside.clock;
-        epoch = c.self-2.inside.epoch.epoch;
-        locks = c.self-2.inside.locks;
-        values = c.self-2.inside.epoch.values;
-        just_closed = c.self-2.inside.just_closed;
-        has_ended = c.self-2.inside.has_ended;
-      }
+    c.note_closed.ensures ∙ ap (λ (l : Loaded). closed_noted l.state) (loaded_is c) ∙ noted_is c.args.self.now (message c)
 
 pub returns : goal.returns
 returns c =
@@ -82,6 +63,6 @@ returns c =
       kind = λ s ms es again h fit other.
           let early = fits_now now s ms es again m (take_step now m).counts h c.requires (no_point s (timed s ms) read) fit (sym same ∙ other) in
           kind ∙ kind_taken now s ms es again m h c.requires early;
-      closed = closed_is c ∙ sym (handed_is now m) ∙ ap (λ (g : Gathered). g.just_closed) (sym step) ∙ has_closed c.if-closed.self;
+      closed = ap (λ (g : Gathered). g.just_closed) c.self-2.view_is ∙ has_closed c.note_closed.new.self;
       going = ap (λ (g : Gathered). g.has_ended) step ∙ ended_is now m ∙ c.requires;
     }
