@@ -1,17 +1,18 @@
 -- The cells of a message, one by one: those that are listed, and the number of others.
 use Rattle.rtcm_msg.specs.declared.entry.LockField.{LockField}
-use Rattle.std.proofs.Common.{◌≡◌, ℕ, ◌+◌, Bool, true, false, ◌&&◌, List, [], ◌∷◌, refl, ap, ◌∙◌, arith, Option, Some, None, is_some}
+use Rattle.std.proofs.Common.{◌≡◌, ℕ, ◌+◌, Bool, true, false, ◌&&◌, List, [], ◌∷◌, refl, ap, sym, subst, ◌∙◌, arith, Option, Some, None, is_some}
 use Rattle.std.specs.Prelude.{filter_map, cond, option_and_then, if◌then◌else◌}
 use Rattle.std.specs.Option.{option_map_or}
 use Rattle.std.specs.List.{cons_option}
+use Rattle.gnss_obs.specs.declared.cell.Cell.{Cell}
 use Rattle.gnss_obs.specs.declared.system.System.{System}
 use Rattle.rtcm_msg.specs.declared.entry.Entry.{Entry}
 use Rattle.obs_epoch.specs.Held.{CellOutcome, Crowded, Kept, Repeated, Skipped, count_in}
 use Rattle.obs_epoch.specs.Heard.{seen_in, unlisted_in}
-use Rattle.gnss_obs.specs.HeardCells.{HeardCell, kept_cell}
+use Rattle.gnss_obs.specs.HeardCells.{HeardCell, kept_cell, heard_cell}
 use Rattle.obs_epoch.specs.Cells.{has_listed_key, with_skipped}
 use Rattle.gnss_obs.specs.Plans.{place_in}
-use Rattle.gnss_obs.specs.Values.{planned_of}
+use Rattle.gnss_obs.specs.Values.{planned_of, PlanValue}
 use Rattle.obs_epoch.specs.Gather.{Loaded, load, load_one, load_entries, with_unlisted, outcome_in, hold, hold_by, planned_cell}
 use Rattle.obs_epoch.specs.declared.taken.CellCounts.{CellCounts}
 use Rattle.std.proofs.lemmas.Grind.{common_steps}
@@ -66,3 +67,20 @@ pub unplanned_entry : (o : Option HeardCell) (l : Loaded) → option_and_then (p
     → with_unlisted 1 l ≡ option_map_or (load_one l) o (with_unlisted 1 l)
 unplanned_entry None l e = refl
 unplanned_entry (Some h) l e = one_skipped (has_listed_key h) (is_some (place_in h.signal (planned_of h.satellite.system l.state.clock.setup.plan))) l h _ e
+
+-- A cell of a planned signal.
+planned_as : (b : Bool) (h : HeardCell) (x : Cell) → (if b then Some (kept_cell h 0) else None) ≡ Some x → (b ≡ true) × (kept_cell h 0 ≡ x)
+planned_as true h x e = (refl, cc)
+planned_as false h x e = cc
+
+pub planned_place : (p : PlanValue) (o : Option HeardCell) (x : Cell) → option_and_then (planned_cell p) o ≡ Some x → is_some (place_in x.signal (planned_of x.satellite.system p)) ≡ true
+planned_place p None x e = cc
+planned_place p (Some h) x e =
+    let is = planned_as (is_some (place_in h.signal (planned_of h.satellite.system p))) h x e in
+    subst (λ (m : Cell). is_some (place_in m.signal (planned_of m.satellite.system p)) ≡ true) is.1 is.0
+
+-- An entry of a planned signal is loaded as its cell.
+pub planned_entry : (o : Option HeardCell) (l : Loaded) (x : Cell) → option_and_then (planned_cell l.state.clock.setup.plan) o ≡ Some x
+    → load_one l (heard_cell x) ≡ option_map_or (load_one l) o (with_unlisted 1 l)
+planned_entry None l x e = cc
+planned_entry (Some h) l x e = ap (λ m. load_one l (heard_cell m)) (sym (planned_as _ h x e).1)

@@ -17,23 +17,26 @@ pub fn observe(plan: &Plan, field: LockField, system: System, entry: &Entry) -> 
     ensures value { result ≡ option_and_then (planned_cell plan.now) (seen_in field system entry.now) }
     ensures observed { IfSome result (λ x. IsObserved (heard_cell x)) }
 {
-    let satellite = Sat::new(system, entry.satellite)?;
-    let signal = Signal::from_id(system, entry.signal)?;
-    plan.place(signal)?;
-    Some(Cell {
-        satellite,
-        signal,
-        c: pseudorange(entry.range),
-        l: phase(entry.phase, signal),
-        d: doppler(entry.rate, signal),
-        s: strength(entry.strength),
-        lli: 0,
-        lock: match field {
-            LockField::Df402 => Lock::from_df402(entry.lock as u8),
-            LockField::Df407 => Lock::from_df407(entry.lock),
-        },
-        half_cycle: entry.half_cycle,
-    })
+    match (
+        Sat::new(system, entry.satellite),
+        Signal::from_id(system, entry.signal),
+    ) {
+        (Some(satellite), Some(signal)) if plan.place(signal).is_some() => Some(Cell {
+            satellite,
+            signal,
+            c: pseudorange(entry.range),
+            l: phase(entry.phase, signal),
+            d: doppler(entry.rate, signal),
+            s: strength(entry.strength),
+            lli: 0,
+            lock: match field {
+                LockField::Df402 => Lock::from_df402(entry.lock as u8),
+                LockField::Df407 => Lock::from_df407(entry.lock),
+            },
+            half_cycle: entry.half_cycle,
+        }),
+        _ => None,
+    }
 }
 
 /// Returns the system of a message with observations.
