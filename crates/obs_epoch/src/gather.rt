@@ -29,7 +29,7 @@ use crate::observe::{observe, system_of};
 use crate::taken::{CellCounts, Gather, Kind, Taken, no_counts};
 use gnss_obs::{Cell, Epoch, GpsTime, MOST_CELLS, Plan, PlanFault, StationValues, System, WEEKS};
 use rtcm_msg::{Entries, Entry, LockField, Message, Summary, View};
-use std::alloc::{AllocError, Global};
+use std::alloc::Global;
 use std::marker::Model;
 
 /// Messages of a station, gathered into epochs.
@@ -392,17 +392,11 @@ fn new_parts(
     if station.unwrap_or(0) > 4_095 {
         return Err(PlanFault::BadStation);
     }
-    match empty_parts(alloc, initial) {
-        Ok(parts) => Ok(parts),
+    let Ok(locks) = Locks::new(alloc) else {
+        return Err(PlanFault::Memory);
+    };
+    match Epoch::new(alloc, initial) {
+        Ok(epoch) => Ok((epoch, locks)),
         Err(_) => Err(PlanFault::Memory),
     }
-}
-
-// Returns an epoch without cells, and empty lock records.
-fn empty_parts(alloc: Global, initial: StationValues) -> Result<(Epoch, Locks), AllocError>
-    ensures { IfOk result (λ r. (r.0 ≡ record { epoch = no_epoch; values = initial }) × (r.1 ≡ no_locks)) }
-{
-    let locks = Locks::new(alloc)?;
-    let epoch = Epoch::new(alloc, initial)?;
-    Ok((epoch, locks))
 }
