@@ -1,5 +1,5 @@
 -- The faults of a call, by the results that it never has.
-use Rattle.std.proofs.Common.{◌≡◌, ◌≤◌, ℕ, max, Bool, true, false, refl, sym, ap, subst, ◌∙◌, arith, inl, inr, Result, Ok, Err, IfOk, IfErr}
+use Rattle.std.proofs.Common.{◌≡◌, ◌≤◌, ℕ, max, Bool, true, false, refl, sym, ap, subst, ◌∙◌, arith, inl, inr, Result, Ok, Err, IfErr}
 use Rattle.std.proofs.lemmas.Bool.{false≢true}
 use Rattle.std.specs.Prelude.{IsErrOf, OnOk}
 use Rattle.rtcm_bits.specs.Device.{Device}
@@ -67,9 +67,6 @@ is_read _ = false
 pub only_read : {A : Type 0} (g : Fault) → is_read g ≡ false → IsErrOf {T = A} (Err Read) g → ⊥
 only_read g fails e = apart_err is_read Read g refl fails e
 
-pub only_no_epoch : {A : Type 0} (g : Fault) → is_no_epoch g ≡ false → IsErrOf {T = A} (Err NoEpoch) g → ⊥
-only_no_epoch g fails e = apart_err is_no_epoch NoEpoch g refl fails e
-
 pub only_too_long : {A : Type 0} (g : Fault) → is_too_long g ≡ false → IsErrOf {T = A} (Err TooLong) g → ⊥
 only_too_long g fails e = apart_err is_too_long TooLong g refl fails e
 
@@ -106,9 +103,6 @@ setup_reader f kind o = (by_setup (λ x. ReaderFailures x o.failures o.failures)
 
 pub setup_writer : {T : Type 0} (f : Fault) → IsSetupFault f → (o : Device T) → FailsWithWriter {T = T} {A = Report} (Err f) o o
 setup_writer f kind o = (by_setup (λ x. WriterFailures x o.failures o.failures) refl refl f kind, tt, refl)
-
-pub by_write : (P : Fault → Type 0) (f : Fault) → f ≡ Write → P Write → P f
-by_write P f e p = subst (λ (x : Fault). P x) (sym e) p
 
 -- ---- a call after others that did not fail
 
@@ -174,28 +168,6 @@ module _ {A : Type 0} (E : Type 0) where
   pub no_epoch_sent : (r : Result A Fault) (before after : Bool) → IfErr r (λ f. (f ≡ NoEpoch) × E) → after ≡ true → IsSentAfter r before after
   no_epoch_sent (Ok x) before after none e = e
   no_epoch_sent (Err f) before after none e = subst (λ (x : Fault). IsSentAtFault x before after) (sym none.0) e
-
-abbrev pub is_memory : Fault → Bool
-is_memory Memory = true
-is_memory _ = false
-
--- ---- a call whose only fault is that memory can't be allocated
-
-pub memory_only : {A : Type 0} (r : Result A Fault) (g : Fault) → is_memory g ≡ false → IfErr r (λ f. f ≡ Memory) → IsErrOf r g → ⊥
-memory_only (Ok x) g fails k h = not_err x g h
-memory_only (Err f) g fails k h = apart_err is_memory f g (ap is_memory k) fails h
-
-pub memory_setup : {A : Type 0} (r : Result A Fault) → IfErr r (λ f. f ≡ Memory) → IfErr r IsSetupFault
-memory_setup (Ok x) k = tt
-memory_setup (Err f) k = inr k
-
-pub if_ok : {A B : Type 0} (P Q : A → Type 0) (r : Result A B) → ((x : A) → P x → Q x) → IfOk r P → IfOk r Q
-if_ok P Q (Ok x) f p = f x p
-if_ok P Q (Err e) f p = tt
-
-pub if_ok_always : {A B : Type 0} (P : Type 0) (r : Result A B) → P → IfOk r (λ _. P)
-if_ok_always P (Ok x) p = p
-if_ok_always P (Err e) p = tt
 
 pub ok_always : {A B : Type 0} (P : Type 0) (r : Result A B) → P → OnOk r P
 ok_always P (Ok x) p = p

@@ -10,7 +10,6 @@ ghost use Rattle.gnss_obs.specs.Values.{cells_of};
 ghost use Rattle.obs_epoch.specs.Held.{recorded};
 ghost use Rattle.gnss_obs.specs.Values.{most_cells};
 ghost use Rattle.rtcm_convert.specs.Kept.{cells_kept, locks_kept, locks_in_all, IsWithinBounds, IsKeptNow, IsKeptAtEnd};
-ghost use Rattle.rtcm_convert.specs.Filed.{HasFiledFrames};
 ghost use Rattle.rtcm_convert.specs.Moves.{Moves};
 ghost use Rattle.rtcm_convert.specs.Outcomes.{report_with};
 ghost use Rattle.rtcm_convert.specs.Faults.{FailsWithReader, FailsWithWriter, IsSentAfter, IsUntouched, IsSetupFault};
@@ -100,20 +99,10 @@ impl Converter {
             return Err(Fault::BadSetup);
         }
         let limit = setup.limit;
-        match FileWriter::new(alloc, setup, initial) {
-            Ok(file_writer) => Converter::with_writer(alloc, limit, file_writer),
-            Err(fault) => Err(fault),
-        }
-    }
-
-    /// Returns a converter with this file writer, which has processed no frame, or `Memory`.
-    fn with_writer(alloc: Global, limit: u64, file_writer: FileWriter) -> Result<Converter, Fault>
-        requires { file_writer.gatherer.has_ended ≡ false }
-        ensures history { IfOk result
-            (λ c. (s : SetupValue) → HasFiledFrames file_writer s [] → HasConverted c s []) }
-        ensures fresh { IfOk result (λ c. (c.scan.limit ≡ limit) × (c.scan.taken ≡ 0)) }
-        ensures only { IfErr result (λ fault. fault ≡ Fault.Memory) }
-    {
+        let file_writer = match FileWriter::new(alloc, setup, initial) {
+            Ok(file_writer) => file_writer,
+            Err(fault) => return Err(fault),
+        };
         match Framer::new(alloc, limit) {
             Ok(framer) => Ok(Converter {
                 framer,

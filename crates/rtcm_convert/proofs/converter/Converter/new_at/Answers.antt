@@ -1,9 +1,16 @@
-use Rattle.std.proofs.Common.{◌≡◌, ◌≤◌, ◌^◌, refl, sym, inl, inr, arith, true≢false, ap, Result, Ok, Err}
+use Rattle.std.proofs.Common.{◌≡◌, ◌≤◌, ◌^◌, ℕ, List, [], subst, refl, sym, inl, inr, arith, true≢false, ap, Result, Ok, Err}
 use Rattle.gnss_obs.specs.GatheredEpochs.{AreStationValues}
 use Rattle.rtcm_convert.specs.SetupValues.{Start, start_at, start_value, IsBadAt, IsBadStart}
-use Rattle.rtcm_convert.specs.declared.fault.Fault.TheVariants.{BadSetup}
-use Rattle.rtcm_convert.proofs.FaultLemmas.{memory_only, memory_setup, if_ok, if_ok_always}
 use Rattle.rtcm_convert.proofs.converter.Converter.new_at.Goals.{then-setup-gt-MOST_BYTES-via-then-setup-gt-MOST_BYTES, then-setup-gt-MOST_BYTES-via-else-setup-gt-MOST_BYTES+then-not-fits_message}
+use Rattle.rtcm_scan.specs.Decided.{decided_frames, frames_before}
+use Rattle.rtcm_scan.specs.Drained.{IsDrained}
+use Rattle.rtcm_scan.specs.Examined.{HasExamined, IsCountedExactly}
+use Rattle.rtcm_scan.specs.Frames.{Framed, frames_of, frames_from}
+use Rattle.rtcm_scan.specs.Known.{known_frames}
+use Rattle.rtcm_scan.specs.Results.{new_scan}
+use Rattle.rtcm_scan.specs.Scan.{FramerValue}
+use Rattle.rtcm_convert.specs.Filed.{HasFiledFrames}
+use Rattle.rtcm_convert.specs.Stream.{HasDrained}
 use Rattle.rtcm_convert.proofs.converter.Converter.new_at.Goals as goal
 
 bad_start : (x : Start) → AreStationValues x.initial → x.setup.limit ≤ 2 ^ 48 → IsBadAt x → IsBadStart x.setup
@@ -16,6 +23,17 @@ not_err x e h = absurd cc
 
 same_err : {A B E : Type 0} (e f : E) → ◌≡◌ {A = Result A E} (Err e) (Err f) → ◌≡◌ {A = Result B E} (Err e) (Err f)
 same_err e f h = let k : e ≡ f = cc in ap Err k
+
+none_known : (v : FramerValue) (limit : ℕ) → v ≡ new_scan limit → [] ≡ known_frames v.has_ended []
+unfolding decided_frames frames_before frames_of frames_from
+none_known v limit e = sym (ap (λ (x : FramerValue). known_frames x.has_ended []) e)
+
+new_drained : (v : FramerValue) (limit : ℕ) → v ≡ new_scan limit → HasExamined v [] [] → IsDrained v [] [] → IsCountedExactly v [] → HasDrained v []
+new_drained v limit e framer drained counted = record {
+  framer = subst (λ (l : List Framed). HasExamined v [] l) (none_known v limit e) framer;
+  drained = subst (λ (l : List Framed). IsDrained v [] l) (none_known v limit e) drained;
+  counted = counted;
+}
 
 pub returns-then-setup-gt-MOST_BYTES : goal.returns-then-setup-gt-MOST_BYTES
 returns-then-setup-gt-MOST_BYTES c = record {
@@ -32,21 +50,15 @@ returns-then-setup-gt-MOST_BYTES c = record {
   only = inl refl;
 }
 
-pub with_writer-requires : goal.with_writer-requires
-with_writer-requires c = c.in-Ok.ensures.going
-
-pub returns-in-Ok : goal.returns-in-Ok
-returns-in-Ok c =
+pub returns-in-Err-new : goal.returns-in-Err-new
+returns-in-Err-new c =
     let x = start_at c.args.setup c.args.initial in
-    let n = c.with_writer.ensures in
-    let r = c.with_writer.result in
-    let fits = c.if-not-fits_message.ensures.0 refl in
     record {
-      history = if_ok _ _ r (λ v h. h (start_value x) c.in-Ok.ensures.history) n.history;
-      fresh = n.fresh;
-      bad = (λ e. absurd (memory_only r BadSetup refl n.only e), λ b. not_err _ _ (c.in-Ok.ensures.bad.1 (bad_start x fits c.if-setup-gt-MOST_BYTES.false b)));
-      fits = if_ok_always _ r fits;
-      only = memory_setup r n.only;
+      history = tt;
+      fresh = tt;
+      bad = (λ e. cc, λ b. not_err _ _ (c.in-Ok.ensures.bad.1 (bad_start x (c.if-not-fits_message.ensures.0 refl) c.if-setup-gt-MOST_BYTES.false b)));
+      fits = tt;
+      only = inr refl;
     }
 
 pub returns-in-Err : goal.returns-in-Err
@@ -61,4 +73,37 @@ returns-in-Err c =
       );
       fits = tt;
       only = c.in-Err.ensures.only;
+    }
+
+pub returns-in-Ok-new : goal.returns-in-Ok-new
+returns-in-Ok-new c =
+    let x = start_at c.args.setup c.args.initial in
+    let n = c.in-Ok-new.ensures in
+    let d = new_drained c.in-Ok-new.framer _ n.new n.counts n.drained n.counted in
+    let fits = c.if-not-fits_message.ensures.0 refl in
+    record {
+      history = record {
+        going = record { fine = refl; more = refl };
+        drained = record {
+          framer = d.framer;
+          drained = d.drained;
+          counted = d.counted;
+          file_writer = subst (λ (l : List Framed). HasFiledFrames c.in-Ok.file_writer (start_value x) l) (none_known _ _ n.new) c.in-Ok.ensures.history;
+        };
+      };
+      fresh = (ap (λ (v : FramerValue). v.limit) n.new, ap (λ (v : FramerValue). v.taken) n.new);
+      bad = (λ e. not_err _ _ e, λ b. not_err _ _ (c.in-Ok.ensures.bad.1 (bad_start x fits c.if-setup-gt-MOST_BYTES.false b)));
+      fits = fits;
+      only = tt;
+    }
+
+pub invariant_of-result : goal.invariant_of-result
+invariant_of-result c =
+    let n = c.in-Ok-new.ensures in
+    record {
+      going = λ _. c.in-Ok.ensures.going;
+      listening = λ _. ap (λ (v : FramerValue). v.has_ended) n.new;
+      ready = λ _. ap (λ (v : FramerValue). v.is_ready) n.new;
+      drained = λ _. ([], new_drained c.in-Ok-new.framer _ n.new n.counts n.drained n.counted);
+      examined = ([], [], n.counts);
     }
