@@ -1,9 +1,9 @@
 -- A satellite's cells, each stored at its signal's index in the plan.
-use Rattle.std.proofs.Common.{arith, ◌≡◌, ◌∙◌, sym, ap, ap₂, refl, ℕ, ℤ, zero, suc, ◌+◌, ◌*◌, ◌-◌, ◌/◌, ◌%◌, ◌<◌, ◌≤◌, List, [], ◌∷◌, ◌++◌, map, take, drop, length, replicate, get_or, append_assoc, append-nil, length-append, Bool, false, ◌==◌, Option, Some, None, slice_set}
+use Rattle.std.proofs.Common.{arith, ◌≡◌, ◌∙◌, sym, ap, ap₂, refl, ℕ, ℤ, zero, suc, ◌+◌, ◌*◌, ◌-◌, ◌<◌, ◌≤◌, List, [], ◌∷◌, ◌++◌, map, take, drop, length, replicate, get_or, append_assoc, append-nil, length-append, Bool, false, ◌==◌, Option, Some, None, slice_set}
 use Rattle.std.specs.Prelude.{◌&&◌, ◌≢◌, ◌||◌, nat_eq, find, flat_map, position, All, is_some, if◌then◌else◌}
 use Rattle.std.specs.Option.{option_map_or}
 use Rattle.std.specs.List.{IsDistinct, position_or_len, refill}
-use Rattle.std.proofs.lemmas.List.{drop_at, drop_all, take_all, length-drop, drop_more, set_at, length-take, length-take-le, length-replicate, length-set, take-append-le, drop-append-le, replicate-append-replicate}
+use Rattle.std.proofs.lemmas.List.{drop_at, drop_all, take_all, length-drop, drop_more, set_at, length-take-le, length-replicate, length-set, take-append-le, drop-append-le, replicate-append-replicate}
 use Rattle.std.proofs.lemmas.Bool.{cond_both, and_from, and_right, eq-eqb, ne_eqb, eqb-true, eqb-false}
 use Rattle.std.proofs.lemmas.List.Concat.{flat_map-append}
 use Rattle.std.proofs.lemmas.List.Quantifiers.{position-Some}
@@ -177,16 +177,20 @@ none_text (suc n) =
     let size : 64 + 64 * n ≡ 64 * suc n = omega arith in
     ap₂ (λ a b. a ++ b) (no_value no_signal_values refl) (none_text n) ∙ replicate-append-replicate {A = ℕ} 64 (64 * n) 32 ∙ ap (λ k. replicate {A = ℕ} k 32) size
 
--- letter and number in a line of blanks
-pub begun : (w letter id signals : ℕ) → id < 100 → 3 ≤ w → w ≤ 3 + 64 * signals
-    → HasSignals (slice_set (slice_set (slice_set (replicate w 32) 0 letter) 1 (48 + id / 10)) 2 (48 + id % 10)) (letter ∷ padded 2 id) (replicate signals no_signal_values)
-begun (suc (suc (suc w))) letter id signals h low high = grind (arith, length-replicate, replicate-append-replicate, none_text, two_digits)
-begun w letter id signals h low high = absurd (omega (arith, low))
+-- letter and number, before any value
+begun : (front : List ℕ) (n : ℕ) → length front ≡ 3 → HasSignals front front (replicate n no_signal_values)
+begun front n l =
+    let count = length-replicate n no_signal_values in
+    let size : 3 + 64 * length (replicate n no_signal_values) - length front ≡ 64 * n = omega (arith, l, count) in
+    ap (λ k. front ++ replicate k 32) size ∙ ap (λ t. front ++ t) (sym (none_text n))
 
-pub begun_row : (old t u f y x : List ℕ) (n m q letter letter' id signals : ℕ) → id < 100 → t ≡ take (3 + 64 * signals) old → u ≡ t → f ≡ replicate (length u) 32 → n ≡ length t
-    → m ≡ 3 - length (refill n t f) → y ≡ refill n t f ++ replicate m 32 → x ≡ y → q ≡ length y → letter' ≡ letter
-    → HasSignals (refill q y (slice_set (slice_set (slice_set x 0 letter') 1 (48 + id / 10)) 2 (48 + id % 10))) (letter ∷ padded 2 id) (replicate signals no_signal_values)
-begun_row old t u f y x n m q letter letter' id signals h is_t is_u is_f is_n is_m is_y is_x is_q same = grind (arith, length-take, length-replicate, refilled, replicate-append-replicate, length-set, begun)
+pub begun_values : (line front : List ℕ) (values : List SignalValues) (n : ℕ) → line ≡ front → length front ≡ 3 → n ≡ length values → HasSignals line front (replicate n no_signal_values ++ drop n values)
+begun_values line front values n is l size =
+    let none : replicate n no_signal_values ++ drop n values ≡ replicate n no_signal_values = ap (λ vs. replicate n no_signal_values ++ vs) (drop_all n values (omega (arith, size))) ∙ append-nil _ in
+    rw (is, none) (begun front n l)
+
+pub begun_entries : (line front : List ℕ) (cells : List Cell) (id n : ℕ) (signals : List ℕ) → line ≡ front → length front ≡ 3 → n ≡ length cells → HasSignals line front (map (signal_values_at (drop n cells) id) signals)
+begun_entries line front cells id n signals is l size = rw (is, drop_all n cells (omega (arith, size)), none_put id signals) (begun front (length signals) l)
 
 -- ---- the loops
 

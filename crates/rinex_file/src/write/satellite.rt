@@ -1,12 +1,11 @@
 //! Observation lines: RINEX 3.05, table A3, "OBSERVATION DATA RECORD".
-ghost use Rattle.std.specs.Prelude.{◌≡◌, ◌≤◌, ◌<◌, ◌++◌, ℕ, [], ◌∷◌, length, take, replicate, All, List, IfSome, Some};
+ghost use Rattle.std.specs.Prelude.{◌≡◌, ◌≤◌, ◌<◌, ◌++◌, ℕ, [], ◌∷◌, length, take, All, List, IfSome, Some};
 ghost use Rattle.std.specs.Prelude.{slice_set};
 ghost use Rattle.arrayvec.specs.ArrayVec.{array_vec_len};
 ghost use Rattle.gnss_obs.specs.declared.cell.Cell.{Cell};
-ghost use Rattle.gnss_obs.specs.Values.{AreHeld, planned_of};
+ghost use Rattle.gnss_obs.specs.Values.{AreHeld};
 ghost use Rattle.rinex_file.specs.FileValues.{FitsColumns, HaveRoom};
-ghost use Rattle.rinex_file.specs.Value.{no_signal_values, signal_values_of, satellite_row, entries_of, row_among};
-ghost use Rattle.rinex_file.specs.Value.{row_in_epoch};
+ghost use Rattle.rinex_file.specs.Value.{signal_values_of, satellite_row, row_among, row_in_epoch};
 ghost use Rattle.rinex_file.specs.Numbers.{padded};
 ghost use Rattle.rinex_file.specs.Blanks.{trimmed};
 ghost use Rattle.rinex_file.specs.Lines.{field, lli_byte, strength_byte, signal_text, letter_of, satellite_line};
@@ -137,21 +136,15 @@ fn put_signal(columns: &mut [u8], values: &Shown)
     put_pair(back, values.d, values.s, b' ', b' ');
 }
 
-/// Begins the line of a satellite with this number of planned signals: its letter and number,
-/// replacing the contents of the buffer. Blanks may follow.
-fn begin_row(line: &mut Line, system: System, id: u8, signals: usize)
-    requires id { id < 100 }
-    requires few { signals ≤ most_signals }
-    ensures { HasSignals line.new.items (letter_of system ∷ padded 2 id) (replicate signals no_signal_values) }
+/// Begins the line of a satellite: its letter and number, replacing the contents of the buffer.
+fn begin_row(line: &mut Line, system: System, id: u8)
+    requires { id < 100 }
+    ensures { line.new.items ≡ letter_of system ∷ padded 2 id }
 {
-    line.truncate(3 + SIGNAL_COLUMNS * signals);
-    line.as_mut_slice().fill(b' ');
-    let missing = 3usize.saturating_sub(line.len());
-    put_blanks(line, missing);
-    let columns = line.as_mut_slice();
-    columns[0] = letter_of(system);
-    columns[1] = b'0' + id / 10;
-    columns[2] = b'0' + id % 10;
+    line.clear();
+    line.push(letter_of(system));
+    line.push(b'0' + id / 10);
+    line.push(b'0' + id % 10);
 }
 
 /// Writes the columns of the signal at this index, after blanks if the line ends before them.
@@ -168,25 +161,6 @@ fn put_at(line: &mut Line, place: usize, values: &Shown)
     let missing = end.saturating_sub(line.len());
     put_blanks(line, missing);
     put_signal(&mut line.as_mut_slice()[start..end], values);
-}
-
-/// Writes the columns of these signals into a line without values.
-fn put_values(line: &mut Line, values: &[SignalValues])
-    requires fits { All HaveRoom values.now }
-    requires few { length values.now ≤ most_signals }
-    ensures { (front : List ℕ) → length front ≡ 3
-        → HasSignals line.old.items front (replicate (length values.now) no_signal_values)
-        → HasSignals line.new.items front values.now }
-{
-    // From the last to the first, so that blanks are appended once.
-    let mut place = values.len();
-    while place > 0 {
-        place -= 1;
-        let value = &values[place];
-        if value.has_value() {
-            put_at(line, place, &Shown::in_line(value));
-        }
-    }
 }
 
 /// Returns the length of the text without trailing blanks, in bytes.
@@ -233,19 +207,26 @@ pub(crate) fn satellite_text(line: &mut Line, system: System, id: u8, values: &[
     requires few { length values.now ≤ most_signals }
     ensures { line.new.items ≡ satellite_line (satellite_row system id values.now) }
 {
-    begin_row(line, system, id, values.len());
-    put_values(line, values);
+    begin_row(line, system, id);
+    // From the last to the first, so that blanks are appended once.
+    let mut place = values.len();
+    while place > 0 {
+        place -= 1;
+        let value = &values[place];
+        if value.has_value() {
+            put_at(line, place, &Shown::in_line(value));
+        }
+    }
     end_row(line);
 }
 
-/// Writes the values of a satellite's cells into a line without values.
-fn put_cells(line: &mut Line, cells: &[Cell], plan: &Plan, system: System, id: u8)
+/// Writes the line of a satellite with these cells, replacing the contents of the buffer.
+pub(crate) fn put_seen(line: &mut Line, cells: &[Cell], plan: &Plan, system: System, id: u8)
     requires held { AreHeld system cells.now }
-    requires few { length (planned_of system plan.now) ≤ most_signals }
-    ensures { (front : List ℕ) → length front ≡ 3
-        → HasSignals line.old.items front (replicate (length (planned_of system plan.now)) no_signal_values)
-        → HasSignals line.new.items front (entries_of plan.now system id cells.now) }
+    requires id { id < 100 }
+    ensures { line.new.items ≡ satellite_line (row_among plan.now system cells.now id) }
 {
+    begin_row(line, system, id);
     // By the contract of `of` no signal is planned twice, so each has one index.
     let _ = plan.of(system);
     // The first cell of a signal is the one that is written, so it is written last.
@@ -259,16 +240,6 @@ fn put_cells(line: &mut Line, cells: &[Cell], plan: &Plan, system: System, id: u
             put_at(line, place, &Shown::of(cell));
         }
     }
-}
-
-/// Writes the line of a satellite with these cells, replacing the contents of the buffer.
-pub(crate) fn put_seen(line: &mut Line, cells: &[Cell], plan: &Plan, system: System, id: u8)
-    requires held { AreHeld system cells.now }
-    requires id { id < 100 }
-    ensures { line.new.items ≡ satellite_line (row_among plan.now system cells.now id) }
-{
-    begin_row(line, system, id, plan.signals(system));
-    put_cells(line, cells, plan, system, id);
     end_row(line);
 }
 

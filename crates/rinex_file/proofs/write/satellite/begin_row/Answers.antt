@@ -1,6 +1,6 @@
 use Rattle.std.proofs.Common.{arith}
-use Rattle.rinex_file.proofs.CellPlaces.{begun_row}
+use Rattle.rinex_file.proofs.DigitWords.{two_digits}
 use Rattle.rinex_file.proofs.write.satellite.begin_row.Goals as goal
 
 pub returns : goal.returns
-returns c = grind (arith, begun_row)
+returns c = grind (arith, two_digits)

@@ -1,37 +1,117 @@
-use Rattle.std.proofs.Common.{arith, ◌∙◌, ap, subst, ◌≤◌, ◌++◌, ◌∷◌, [], List, ℕ, length, replicate}
-use Rattle.std.proofs.lemmas.List.{length-map}
-use Rattle.gnss_obs.specs.Signals.{table}
-use Rattle.gnss_obs.specs.Values.{planned_of}
+use Rattle.std.proofs.Common.{arith, ◌≡◌, ◌∙◌, refl, sym, ap, ap₂, subst, ◌+◌, ◌-◌, ◌<◌, ◌≤◌, [], ◌∷◌, ◌++◌, ℕ, List, length, drop, false, slice_index_or}
+use Rattle.std.specs.Prelude.{◌==◌, slice_set, nat_eq}
+use Rattle.std.specs.List.{IsDistinct}
+use Rattle.std.proofs.lemmas.List.{drop_more, length-map}
+use Rattle.std.proofs.lemmas.List.Elements.{All-drop}
+use Rattle.std.proofs.lemmas.List.Quantifiers.{position-Some}
+use Rattle.gnss_obs.specs.declared.cell.Cell.{Cell}
+use Rattle.gnss_obs.specs.Signals.{SignalAt}
+use Rattle.gnss_obs.specs.Values.{IsHeld, planned_of}
+use Rattle.gnss_obs.proofs.PlanLemmas.{few_signals}
 use Rattle.rinex_file.specs.Numbers.{padded}
-use Rattle.rinex_file.specs.Value.{no_signal_values, entries_of, signal_values_at}
 use Rattle.rinex_file.specs.Lines.{letter_of, satellite_line}
+use Rattle.rinex_file.specs.Value.{SignalValues, signal_values_at, entries_of}
 use Rattle.rinex_file.specs.Rows.{HasSignals}
-use Rattle.rinex_file.proofs.Entries.{few_signals}
-use Rattle.rinex_file.proofs.CellPlaces.{short_line, trimmed_line, front_length, all_fit}
+use Rattle.rinex_file.proofs.Entries.{few_signals as short_table}
+use Rattle.rinex_file.proofs.CellPlaces.{begun_entries, no_place, others_stay, other_stays, cell_put, all_fit, short_line, trimmed_line, front_length}
 use Rattle.rinex_file.proofs.write.satellite.put_seen.Goals as goal
+use Rattle.rinex_file.proofs.write.satellite.put_seen.Goals.{After-of, After-loop-at, else-id-via-else-id, else-id-via-then-id+in-None-1}
 
-few : (n m : ℕ) → n ≤ m → m ≤ 19 → n ≤ 19
-few n m a b = omega (arith, a, b)
+more : (cells : List Cell) (at : ℕ) (cell : Cell) → 0 < at → at ≤ length cells → cell ≡ slice_index_or cells (at - 1) cell → drop (at - 1) cells ≡ cell ∷ drop at cells
+more cells at cell some within is =
+    let back : at - 1 + 1 ≡ at = omega (arith, some) in
+    drop_more cells (at - 1) cell (omega (arith, within, some)) ∙ ap₂ (λ x n. x ∷ drop n cells) (sym is) back
 
-pub put_cells-requires-clause-few : goal.put_cells-requires-clause-few
-put_cells-requires-clause-few c = grind (arith, few, few_signals)
+few : (c : After-of) → length (planned_of c.args.system c.args.plan.now) ≤ 19
+few c =
+    let size = ap length c.of.ensures.indices in
+    let own = length-map c.of.result.now (λ (s : SignalAt). s.index) in
+    let most = few_signals c.args.system _ c.of.ensures.system in
+    let table = short_table c.args.system in
+    omega (arith, size, own, most, table)
+
+pub loop-at-init : goal.loop-at-init
+loop-at-init c = record {
+  shown = begun_entries _ _ c.args.cells.now c.args.id _ (planned_of c.args.system c.args.plan.now) c.begin_row.ensures (front_length (letter_of c.args.system) c.args.id c.requires.id) refl;
+  within = omega arith;
+}
+
+pub put_at-requires-clause-few : goal.put_at-requires-clause-few
+put_at-requires-clause-few c =
+    let (within, here, none) = position-Some (λ i. i == c.index-cells-at.result.signal.index) (planned_of c.args.system c.args.plan.now) c.in-Some.place 0 (sym c.place_among.ensures ∙ c.in-Some.is) in
+    let most = few ((goal.at.put_at-requires-clause-few c).After-of) in
+    omega (arith, within, most)
+
+pub loop-at-preserved-in-loop-at : goal.loop-at-preserved-in-loop-at
+loop-at-preserved-in-loop-at c =
+    let cells = c.args.cells.now in
+    let front : List ℕ = letter_of c.args.system ∷ padded 2 c.args.id in
+    let at = c.loop-at.at in
+    let id = c.args.id in
+    let cell = c.index-cells-at.result in
+    let inv = c.loop-at.invariant in
+    let rest = drop at cells in
+    let signals = planned_of c.args.system c.args.plan.now in
+    let held = All-drop (IsHeld c.args.system) at cells c.requires.held.each in
+    let own : cell.satellite.id ≡ id = grind (arith, c.if-id.true, c.id.ensures.value) in
+    let apart = subst (IsDistinct nat_eq) c.of.ensures.indices c.of.ensures.system.apart in
+    let place = sym c.place_among.ensures ∙ c.in-Some.is in
+    let (within, here, none) = position-Some (λ i. i == cell.signal.index) signals c.in-Some.place 0 place in
+    let size = length-map signals (signal_values_at rest id) in
+    record {
+      shown = subst (λ (xs : List Cell). HasSignals c.put_at.new.line.items front (entries_of c.args.plan.now c.args.system id xs))
+          (sym (more cells at cell c.loop-at-test.true inv.within c.index-cells-at.is))
+          (subst (λ (xs : List SignalValues). HasSignals c.put_at.new.line.items front xs)
+          (ap (λ (v : SignalValues). slice_set (entries_of c.args.plan.now c.args.system id rest) c.in-Some.place v) c.of-in-loop-at.ensures
+          ∙ cell_put signals id c.in-Some.place cell rest apart place own)
+          (c.put_at.ensures front (entries_of c.args.plan.now c.args.system id rest) (front_length (letter_of c.args.system) id c.requires.id) (all_fit c.args.system rest id signals held)
+          (subst (λ (n : ℕ). c.in-Some.place < n) (sym size) within) inv.shown));
+      within = omega (arith, inv.within);
+    }
+
+pub loop-at-preserved : goal.loop-at-preserved
+loop-at-preserved c =
+    let cells = c.args.cells.now in
+    let at = c.loop-at.at in
+    let id = c.args.id in
+    let cell = c.index-cells-at.result in
+    let inv = c.loop-at.invariant in
+    let rest = drop at cells in
+    let signals = planned_of c.args.system c.args.plan.now in
+    let same : entries_of c.args.plan.now c.args.system id (cell ∷ rest) ≡ entries_of c.args.plan.now c.args.system id rest = elim c.else-id.branch [
+      | else-id-via-else-id w ↦
+          let other : (cell.satellite.id == id) ≡ false = grind (arith, w, c.id.ensures.value) in
+          other_stays cell rest id signals other
+      | else-id-via-then-id+in-None-1 w ↦
+          no_place cell.signal.index signals (signal_values_at (cell ∷ rest) id) (signal_values_at rest id) (grind (arith, w)) (others_stay cell rest id)
+    ] in
+    record {
+      shown = subst (λ (xs : List SignalValues). HasSignals c.loop-at.line.items (letter_of c.args.system ∷ padded 2 id) xs)
+          (sym (ap (entries_of c.args.plan.now c.args.system id) (more cells at cell c.loop-at-test.true inv.within c.index-cells-at.is) ∙ same)) inv.shown;
+      within = omega (arith, inv.within);
+    }
+
+-- the line has the values of all cells
+whole : (c : After-loop-at) → HasSignals c.loop-at.line.items (letter_of c.args.system ∷ padded 2 c.args.id) (entries_of c.args.plan.now c.args.system c.args.id c.args.cells.now)
+whole c =
+    let none : c.loop-at.at ≡ 0 = omega (arith, c.loop-at-test.false) in
+    subst (λ (k : ℕ). HasSignals c.loop-at.line.items (letter_of c.args.system ∷ padded 2 c.args.id) (entries_of c.args.plan.now c.args.system c.args.id (drop k c.args.cells.now))) none
+    c.loop-at.invariant.shown
 
 pub end_row-requires : goal.end_row-requires
 end_row-requires c =
     let l = front_length (letter_of c.args.system) c.args.id c.requires.id in
-    let front : List ℕ = letter_of c.args.system ∷ padded 2 c.args.id in
-    let begun = subst (λ (n : ℕ). HasSignals c.begin_row.new.line.items front (replicate n no_signal_values)) c.signals.ensures.count c.begin_row.ensures in
-    let fit = all_fit c.args.system c.args.cells.now c.args.id (planned_of c.args.system c.args.plan.now) c.requires.held.each in
-    let most = short_line c.put_cells.new.line.items front (entries_of c.args.plan.now c.args.system c.args.id c.args.cells.now) l fit (c.put_cells.ensures front l begun) in
-    let size = length-map (planned_of c.args.system c.args.plan.now) (signal_values_at c.args.cells.now c.args.id) in
-    let short = few c.signals.result (length (table c.args.system)) c.signals.ensures.bound (few_signals c.args.system) in
-    omega (arith, most, size, short, c.signals.ensures.count)
+    let signals = planned_of c.args.system c.args.plan.now in
+    let fit = all_fit c.args.system c.args.cells.now c.args.id signals c.requires.held.each in
+    let most = short_line c.loop-at.line.items (letter_of c.args.system ∷ padded 2 c.args.id) (entries_of c.args.plan.now c.args.system c.args.id c.args.cells.now) l fit
+    (whole ((goal.at.end_row-requires c).After-loop-at)) in
+    let size = length-map signals (signal_values_at c.args.cells.now c.args.id) in
+    let short = few ((goal.at.end_row-requires c).After-of) in
+    omega (arith, most, size, short)
 
 pub returns : goal.returns
 unfolding satellite_line
 returns c =
-    let l = front_length (letter_of c.args.system) c.args.id c.requires.id in
-    let front : List ℕ = letter_of c.args.system ∷ padded 2 c.args.id in
-    let begun = subst (λ (n : ℕ). HasSignals c.begin_row.new.line.items front (replicate n no_signal_values)) c.signals.ensures.count c.begin_row.ensures in
     c.end_row.ensures
-    ∙ ap (λ t. t ++ 10 ∷ []) (trimmed_line c.put_cells.new.line.items front (entries_of c.args.plan.now c.args.system c.args.id c.args.cells.now) (c.put_cells.ensures front l begun))
+    ∙ ap (λ t. t ++ 10 ∷ []) (trimmed_line c.loop-at.line.items (letter_of c.args.system ∷ padded 2 c.args.id) (entries_of c.args.plan.now c.args.system c.args.id c.args.cells.now)
+    (whole ((goal.at.returns c).After-loop-at)))

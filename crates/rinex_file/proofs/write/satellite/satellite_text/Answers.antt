@@ -1,19 +1,66 @@
-use Rattle.std.proofs.Common.{arith, ◌∙◌, ap, ◌++◌, ◌∷◌, [], List, ℕ}
+use Rattle.std.proofs.Common.{arith, ◌≡◌, ◌∙◌, refl, sym, ap, subst, ℕ, ◌+◌, ◌-◌, ◌<◌, List, [], ◌∷◌, ◌++◌, length, drop, replicate, length-append}
+use Rattle.std.proofs.lemmas.List.{length-replicate}
+use Rattle.std.specs.Prelude.{slice_set}
 use Rattle.rinex_file.specs.Numbers.{padded}
 use Rattle.rinex_file.specs.Lines.{letter_of, satellite_line}
-use Rattle.rinex_file.proofs.CellPlaces.{short_line, trimmed_line, front_length}
+use Rattle.rinex_file.specs.Value.{SignalValues, no_signal_values}
+use Rattle.rinex_file.specs.Rows.{HasSignals}
+use Rattle.rinex_file.proofs.CellPlaces.{begun_values, value_put, value_passed, front_fit, short_line, trimmed_line, front_length}
 use Rattle.rinex_file.proofs.write.satellite.satellite_text.Goals as goal
+use Rattle.rinex_file.proofs.write.satellite.satellite_text.Goals.{After-loop-place}
+
+within : (values : List SignalValues) (n : ℕ) → n < length values → n < length (replicate (n + 1) no_signal_values ++ drop (n + 1) values)
+within values n h = rw (length-append (replicate (n + 1) no_signal_values) (drop (n + 1) values), length-replicate (n + 1) no_signal_values) (omega arith)
+
+pub loop-place-init : goal.loop-place-init
+loop-place-init c = record {
+  shown = begun_values _ _ c.args.values.now _ c.begin_row.ensures (front_length (letter_of c.args.system) c.args.id c.requires.id) refl;
+  within = omega arith;
+}
+
+pub loop-place-preserved-then-has_value : goal.loop-place-preserved-then-has_value
+loop-place-preserved-then-has_value c =
+    let values = c.args.values.now in
+    let front : List ℕ = letter_of c.args.system ∷ padded 2 c.args.id in
+    let n = c.loop-place.place - 1 in
+    let back : c.loop-place.place ≡ n + 1 = omega (arith, c.loop-place-test.true) in
+    let few : n < length values = omega (arith, c.loop-place-test.true, c.loop-place.invariant.within) in
+    let before = subst (λ (k : ℕ). HasSignals c.loop-place.line.items front (replicate k no_signal_values ++ drop k values)) back c.loop-place.invariant.shown in
+    record {
+      shown = subst (λ (xs : List SignalValues). HasSignals c.put_at.new.line.items front xs)
+          (ap (λ v. slice_set (replicate (n + 1) no_signal_values ++ drop (n + 1) values) n v) c.in_line.ensures
+          ∙ value_put values n c.index-values-place.result few c.index-values-place.is)
+          (c.put_at.ensures front (replicate (n + 1) no_signal_values ++ drop (n + 1) values) (front_length (letter_of c.args.system) c.args.id c.requires.id) (front_fit values (n + 1) c.requires.room) (within values n few) before);
+      within = omega (arith, few);
+    }
+
+pub loop-place-preserved : goal.loop-place-preserved
+loop-place-preserved c =
+    let values = c.args.values.now in
+    let front : List ℕ = letter_of c.args.system ∷ padded 2 c.args.id in
+    let n = c.loop-place.place - 1 in
+    let back : c.loop-place.place ≡ n + 1 = omega (arith, c.loop-place-test.true) in
+    let few : n < length values = omega (arith, c.loop-place-test.true, c.loop-place.invariant.within) in
+    let before = subst (λ (k : ℕ). HasSignals c.loop-place.line.items front (replicate k no_signal_values ++ drop k values)) back c.loop-place.invariant.shown in
+    record {
+      shown = value_passed c.loop-place.line.items front values n c.index-values-place.result few c.index-values-place.is (sym c.has_value.ensures ∙ c.if-has_value.false) before;
+      within = omega (arith, few);
+    }
+
+-- the line has all signals
+whole : (c : After-loop-place) → HasSignals c.loop-place.line.items (letter_of c.args.system ∷ padded 2 c.args.id) c.args.values.now
+whole c =
+    let none : c.loop-place.place ≡ 0 = omega (arith, c.loop-place-test.false) in
+    subst (λ (k : ℕ). HasSignals c.loop-place.line.items (letter_of c.args.system ∷ padded 2 c.args.id) (replicate k no_signal_values ++ drop k c.args.values.now)) none c.loop-place.invariant.shown
 
 pub end_row-requires : goal.end_row-requires
 end_row-requires c =
     let l = front_length (letter_of c.args.system) c.args.id c.requires.id in
-    let front : List ℕ = letter_of c.args.system ∷ padded 2 c.args.id in
-    let few = short_line c.put_values.new.line.items front c.args.values.now l c.requires.room (c.put_values.ensures front l c.begin_row.ensures) in
+    let few = short_line c.loop-place.line.items (letter_of c.args.system ∷ padded 2 c.args.id) c.args.values.now l c.requires.room (whole ((goal.at.end_row-requires c).After-loop-place)) in
     omega (arith, few, c.requires.few)
 
 pub returns : goal.returns
 unfolding satellite_line
 returns c =
-    let l = front_length (letter_of c.args.system) c.args.id c.requires.id in
-    let front : List ℕ = letter_of c.args.system ∷ padded 2 c.args.id in
-    c.end_row.ensures ∙ ap (λ t. t ++ 10 ∷ []) (trimmed_line c.put_values.new.line.items front c.args.values.now (c.put_values.ensures front l c.begin_row.ensures))
+    c.end_row.ensures
+    ∙ ap (λ t. t ++ 10 ∷ []) (trimmed_line c.loop-place.line.items (letter_of c.args.system ∷ padded 2 c.args.id) c.args.values.now (whole ((goal.at.returns c).After-loop-place)))
