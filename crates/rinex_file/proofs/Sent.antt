@@ -1,11 +1,11 @@
 -- Lines that were written, and a part of them.
-use Rattle.std.proofs.Common.{arith, ◌≡◌, ◌∙◌, sym, ap, ap₂, refl, subst, ℕ, zero, suc, ◌+◌, ◌-◌, ◌≤◌, List, [], ◌∷◌, ◌++◌, length, append_assoc, append-nil, length-append, Option, Bool, true, false, Result, OnOk, OnErr}
-use Rattle.std.specs.Prelude.{map, if◌then◌else◌, IsErrAnd}
+use Rattle.std.proofs.Common.{arith, ◌≡◌, ◌∙◌, sym, ap, ap₂, refl, subst, ℕ, zero, suc, ◌+◌, ◌-◌, ◌≤◌, List, [], ◌∷◌, ◌++◌, length, append_assoc, append-nil, length-append, Option, Bool, true, false, Result, Ok, Err, OnOk, OnErr}
+use Rattle.std.specs.Prelude.{map, if◌then◌else◌, IsErrAnd, IfErr}
 use Rattle.std.specs.Io.KnownBytes.{Appends}
 use Rattle.std.proofs.KnownBytes.{Appends-trans, Appends-nil}
 use Rattle.std.proofs.lemmas.List.{map-append, length-map}
 use Rattle.std.proofs.lemmas.List.Elements.{filter-append}
-use Rattle.rtcm_bits.specs.Device.{AppendsPrefix}
+use Rattle.rtcm_bits.specs.Device.{AppendsPrefix, Device, FailsWith, HasFailed}
 use Rattle.gnss_obs.specs.declared.system.System.{System}
 use Rattle.gnss_obs.specs.declared.system.System.TheVariants.{Gps, Galileo}
 use Rattle.gnss_obs.specs.Satellites.{satellites as satellites_in}
@@ -154,8 +154,19 @@ module _ (p : PlanValue) (e : EpochValue) (a b c d : Option (List ℕ)) (line : 
 -- ---- what holds of a call that failed
 
 pub where_failed : {A E : Type 0} (r : Result A E) (P : Type 0) → P → OnErr r P
-where_failed r P p = grind arith
+where_failed (Ok x) P p = tt
+where_failed (Err e) P p = p
 
 -- nothing is promised of it
 pub failed : {A E : Type 0} (Q : E → Type 0) (r : Result A E) (P : Type 0) → IsErrAnd r Q → OnOk r P
-failed Q r P h = grind arith
+failed Q (Ok x) P h = absurd h
+failed Q (Err e) P h = tt
+
+pub only_fault : {A E : Type 0} (Q : E → Type 0) (r : Result A E) → IsErrAnd r Q → IfErr r Q
+only_fault Q (Ok x) h = absurd h
+only_fault Q (Err e) h = h
+
+-- the device failed after calls that didn't
+pub fails_after : {A E T : Type 0} (Q : E → Type 0) (r : Result A E) (a b c : Device T) → IsErrAnd r Q → b.failures ≡ a.failures → b.widest ≡ a.widest
+    → HasFailed b.failures c.failures → c.widest ≡ b.widest → FailsWith r a c
+fails_after Q r a b c h fine wide more wider = (where_failed r _ (subst (λ n. HasFailed n c.failures) fine more), failed Q r _ h, wider ∙ wide)

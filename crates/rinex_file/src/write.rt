@@ -82,10 +82,11 @@ fn write_system<W: Write>(
     let cells = epoch.cells(system);
     let mut from = 0;
     for before in 0..system.satellites() {
-        let to = end_of(cells, from, before + 1);
+        let id = before + 1;
+        let to = end_of(cells, from, id);
         let own = &cells[from..to];
-        if is_written(own, before + 1) {
-            put_seen(line, own, plan, system, before + 1);
+        if is_written(own, id) {
+            put_seen(line, own, plan, system, id);
             writer.write_whole(line.as_slice())?;
         }
         from = to;

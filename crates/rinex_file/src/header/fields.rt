@@ -59,6 +59,16 @@ const LABELS: &[&[u8]] = &[
     b"ANT # / TYPE",
 ];
 
+/// The texts of the rows, in order.
+const FIELDS: &[&[HeaderField]] = &[
+    &[RunBy, Date],
+    &[Marker],
+    &[MarkerType],
+    &[Observer, Agency],
+    &[RecNumber, RecType, RecVersion],
+    &[AntNumber, AntType],
+];
+
 /// A row of texts.
 #[derive(Clone, Copy)]
 pub enum TextRow {
@@ -129,13 +139,6 @@ impl TextRow {
         ensures value { result.now ≡ fields_of self }
         ensures bound { length result.now ≤ 3 }
     {
-        match self {
-            TextRow::Program => &[RunBy, Date],
-            TextRow::Marker => &[Marker],
-            TextRow::MarkerType => &[MarkerType],
-            TextRow::Observer => &[Observer, Agency],
-            TextRow::Receiver => &[RecNumber, RecType, RecVersion],
-            TextRow::Antenna => &[AntNumber, AntType],
-        }
+        FIELDS[self as usize]
     }
 }
