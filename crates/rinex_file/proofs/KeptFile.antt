@@ -1,7 +1,8 @@
 -- The text of a file that is stored in memory.
-use Rattle.std.proofs.Common.{arith, ◌≡◌, ◌∙◌, sym, ap, ap₂, refl, ℕ, ◌<◌, ◌≤◌, List, [], ◌∷◌, ◌++◌, length, take, get_or, append_assoc}
+use Rattle.std.proofs.Common.{arith, ◌≡◌, ◌∙◌, sym, ap, ap₂, refl, ℕ, ◌+◌, ◌<◌, ◌≤◌, List, [], ◌∷◌, ◌++◌, length, take, get_or, append_assoc, append-nil}
 use Rattle.std.specs.Prelude.{All, map, flat_map}
-use Rattle.std.proofs.lemmas.List.{take_all}
+use Rattle.std.proofs.lemmas.List.{take_all, take_more}
+use Rattle.std.proofs.lemmas.List.Concat.{flat_map-append}
 use Rattle.std.proofs.lemmas.List.Folds.{flat_map-map}
 use Rattle.gnss_obs.specs.declared.system.System.{System}
 use Rattle.gnss_obs.specs.declared.system.System.TheVariants.{Gps, Galileo}
@@ -34,6 +35,15 @@ joined_parts : (es : List Stamped) → joined (flat_map stamped_lines es) ≡ fl
 unfolding stamped_text
 joined_parts [] = refl
 joined_parts (e ∷ es) = joined-append (stamped_lines e) (flat_map stamped_lines es) ∙ ap (λ l. joined (stamped_lines e) ++ l) (joined_parts es)
+
+-- the text of one more was appended
+pub one_more : {A : Type 0} (f : A → List ℕ) (xs : List A) (i : ℕ) (x : A) (front old new : List ℕ) → i < length xs → x ≡ get_or xs i x
+    → old ≡ front ++ flat_map f (take i xs) → new ≡ old ++ f x → new ≡ front ++ flat_map f (take (i + 1) xs)
+one_more f xs i x front old new less at before after =
+    let so_far = flat_map f (take i xs) in
+    let all : flat_map f (take (i + 1) xs) ≡ so_far ++ f x =
+    ap (flat_map f) (take_more xs i x less) ∙ flat_map-append f (take i xs) (get_or xs i x ∷ []) ∙ ap (λ t. so_far ++ t) (append-nil (f (get_or xs i x)) ∙ ap f (sym at)) in
+    after ∙ ap (λ l. l ++ f x) before ∙ append_assoc front so_far (f x) ∙ ap (λ t. front ++ t) (sym all)
 
 -- change, epoch line and satellites were appended
 pub epoch_whole : (v e : Stamped) (rows : List SatelliteRow) (old mid line text new : List ℕ) → v ≡ e → rows ≡ v.rows → mid ≡ old ++ joined (change_lines v.change) → line ≡ epoch_line (civil_of v.time) (length rows)

@@ -1,6 +1,9 @@
-use Rattle.std.proofs.Common.{sym, subst, All}
-use Rattle.rinex_file.specs.Read.Keeping.{HaveRowsRoom}
-use Rattle.rinex_file.proofs.KeptFile.{lines_have_room, all_written}
+use Rattle.std.proofs.Common.{◌∙◌, sym, ap, ◌++◌, append-nil, subst, All}
+use Rattle.rinex_file.specs.Value.{Stamped, FileValue}
+use Rattle.rinex_file.specs.File.{header_text}
+use Rattle.rinex_file.specs.Read.Keeping.{HaveRowsRoom, stamped_text}
+use Rattle.rinex_file.proofs.KeptFile.{lines_have_room, all_written, one_more}
+use Rattle.rinex_file.proofs.Sent.{failed}
 use Rattle.rinex_file.proofs.write.file.write_file.Goals as goal
 
 pub write_kept-requires : goal.write_kept-requires
@@ -13,3 +16,22 @@ returns c =
     let (first, at, written) = c.loop-epoch.invariant in
     all_written _ c.args.file.now first c.as_slice-epochs.result.now c.args.text.now.inner.items _ c.loop-epoch.epoch-index c.file.view_is c.file.invariant.0 c.as_slice-epochs.ensures.value at
     c.loop-epoch-test.false written
+
+pub returns-in_err-write_header : goal.returns-in_err-write_header
+returns-in_err-write_header c = failed _ c.from_residual.result _ c.from_residual.ensures.1
+
+pub returns-in_err-write_kept : goal.returns-in_err-write_kept
+returns-in_err-write_kept c = failed _ c.from_residual-in_err-write_kept.result _ c.from_residual-in_err-write_kept.ensures.1
+
+pub loop-epoch-init : goal.loop-epoch-init
+loop-epoch-init c =
+    let file = c.args.file.now in
+    let time = ap (λ (e : Stamped). header_text file.texts file.plan file.values e.time) c.first.view_is in
+    let head = ap (λ (v : FileValue). header_text v.texts v.plan v.values c.first.inside.time) c.file.view_is ∙ time in
+    (c.index-epochs-0.result, c.index-epochs-0.is, c.in_ok-write_header.ensures.whole ∙ ap (λ t. c.args.text.now.inner.items ++ t) head ∙ sym (append-nil _))
+
+pub loop-epoch-preserved : goal.loop-epoch-preserved
+loop-epoch-preserved c =
+    let (first, at, written) = c.loop-epoch.invariant in
+    let epochs = c.as_slice-epochs.result.now in
+    (first, at, one_more stamped_text epochs c.loop-epoch.epoch-index c.epoch-item.result _ _ _ c.loop-epoch-test.true c.epoch-item.is written c.in_ok-write_kept.ensures)
