@@ -44,6 +44,11 @@ pub within_signed : (v : ℤ) → FitsColumns v → is_negative v ≡ true → u
 within_signed (pos n) h negative = absurd (grind (arith, negative))
 within_signed (negsuc n) h negative = let low = h.0 in omega (arith, ints, low)
 
+-- ten digits before the point, or nine and a minus
+pub within_columns : (v : ℤ) → FitsColumns v → unsigned_abs v < 10 ^ 13
+within_columns (pos n) h = let high = h.1 in omega (arith, ints, high)
+within_columns (negsuc n) h = let low = h.0 in omega (arith, ints, low)
+
 -- the index of a first digit after a minus
 pub some_blank : (v : ℤ) (n first last start lost strength : ℕ) → FitsColumns v → n ≡ unsigned_abs v → is_negative v ≡ true
     → AreColumns first last start (n / 1000) (n % 1000) lost strength → 1 ≤ start

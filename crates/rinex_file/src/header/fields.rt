@@ -2,10 +2,12 @@
 ghost use Rattle.std.specs.Prelude.{◌≡◌, ◌<◌, ◌≤◌, length};
 ghost use Rattle.rinex_file.specs.Texts.{place_of, width_of, fields_of, text_count, front_of, label_of};
 
+use std::fmt::{self, Debug, Formatter, Write};
+
 use HeaderField::*;
 
-/// A text of the header that the caller passes.
-#[derive(Clone, Copy, Debug, PartialEq, Eq)]
+/// A text of the header that the caller passes. `Debug` prints its name.
+#[derive(Clone, Copy, PartialEq, Eq)]
 pub enum HeaderField {
     /// Who ran the program, 20 columns of `PGM / RUN BY / DATE`.
     RunBy,
@@ -111,6 +113,12 @@ impl HeaderField {
         ensures bound { result < text_count }
     {
         self as usize
+    }
+}
+
+impl Debug for HeaderField {
+    fn fmt<W: Write>(&self, f: &mut Formatter<W>) -> fmt::Result {
+        f.write_str(self.name())
     }
 }
 
