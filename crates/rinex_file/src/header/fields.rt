@@ -2,9 +2,8 @@
 ghost use Rattle.std.specs.Prelude.{◌≡◌, ◌<◌, ◌≤◌, length};
 ghost use Rattle.rinex_file.specs.Texts.{place_of, width_of, fields_of, text_count, front_of, label_of};
 
-use std::fmt::{self, Debug, Formatter, Write};
-
 use HeaderField::*;
+use std::fmt::{self, Debug, Formatter, Write};
 
 /// A text of the header that the caller passes. `Debug` prints its name.
 #[derive(Clone, Copy, PartialEq, Eq)]
