@@ -27,7 +27,6 @@ use std::io::Write;
 /// # Errors
 ///
 /// [`HeadFault::Write`] if the writer fails; the bytes written are then a prefix of the header.
-#[tactic(auto, unfolding(crate::specs::File::header_text))]
 pub fn write_header<W: Write>(head: &Head, writer: &mut Counted<W>) -> Result<(), HeadFault>
     ensures whole { OnOk result
         (Appends (W.contents writer.old.inner) (W.contents writer.new.inner) (head_text head.now)) }
@@ -47,7 +46,6 @@ pub fn write_header<W: Write>(head: &Head, writer: &mut Counted<W>) -> Result<()
 /// # Errors
 ///
 /// [`HeadFault::Write`] if the writer fails; the bytes written are then a prefix of these lines.
-#[tactic(auto, unfolding(crate::specs::File::event_text))]
 pub fn write_event<W: Write>(
     values: StationValues,
     writer: &mut Counted<W>,
@@ -100,7 +98,6 @@ fn write_system<W: Write>(
 /// # Errors
 ///
 /// [`HeadFault::Write`] if the writer fails; the bytes written are then a prefix of these lines.
-#[tactic(auto, unfolding(crate::specs::File::epoch_text))]
 pub fn write_epoch<W: Write>(
     epoch: &Epoch,
     plan: &Plan,
