@@ -71,3 +71,6 @@ pub returns-in_err-write_system-2-clause-device : goal.returns-in_err-write_syst
 returns-in_err-write_system-2-clause-device g c =
     let device = c.in_err-write_system-2.ensures.device in
     fails_after _ c.from_residual-in_err-write_system-2.result c.args.writer.now c.write_system.new.writer c.write_system-2.new.writer c.from_residual-in_err-write_system-2.ensures.1 (c.in_ok-write_system.ensures.device.1 ∙ c.in_ok-write_whole.ensures.device.1) (c.in_ok-write_system.ensures.device.2 ∙ c.in_ok-write_whole.ensures.device.2) device.0 device.2
+
+pub returns-clause-device : goal.returns-clause-device
+returns-clause-device g c = (tt, c.in_ok-write_system-2.ensures.device.1 ∙ c.in_ok-write_system.ensures.device.1 ∙ c.in_ok-write_whole.ensures.device.1, c.in_ok-write_system-2.ensures.device.2 ∙ c.in_ok-write_system.ensures.device.2 ∙ c.in_ok-write_whole.ensures.device.2)

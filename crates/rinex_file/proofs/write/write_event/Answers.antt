@@ -76,3 +76,6 @@ pub returns-in_err-write_whole-3-clause-device : goal.returns-in_err-write_whole
 returns-in_err-write_whole-3-clause-device g c =
     let device = c.in_err-write_whole-3.ensures.device in
     fails_after _ c.from_residual-in_err-write_whole-3.result c.args.writer.now c.write_whole-2.new.self c.write_whole-3.new.self c.from_residual-in_err-write_whole-3.ensures.1 (c.in_ok-write_whole-2.ensures.device.1 ∙ c.in_ok-write_whole.ensures.device.1) (c.in_ok-write_whole-2.ensures.device.2 ∙ c.in_ok-write_whole.ensures.device.2) device.0 device.2
+
+pub returns-clause-device : goal.returns-clause-device
+returns-clause-device g c = (tt, c.in_ok-write_whole-3.ensures.device.1 ∙ c.in_ok-write_whole-2.ensures.device.1 ∙ c.in_ok-write_whole.ensures.device.1, c.in_ok-write_whole-3.ensures.device.2 ∙ c.in_ok-write_whole-2.ensures.device.2 ∙ c.in_ok-write_whole.ensures.device.2)
