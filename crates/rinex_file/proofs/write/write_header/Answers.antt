@@ -57,3 +57,8 @@ returns-in_err-write_whole-clause-whole g c = failed _ c.from_residual.result _ 
 
 pub returns-in_err-write_whole-clause-only : goal.returns-in_err-write_whole-clause-only
 returns-in_err-write_whole-clause-only g c = only_fault _ c.from_residual.result c.from_residual.ensures.1
+
+pub returns-clause-device : goal.returns-clause-device
+returns-clause-device g c =
+    let (can, ends, done, fine, widest) = c.loop-line.invariant in
+    (tt, fine, widest)

@@ -78,3 +78,6 @@ returns-in_err-write_whole-clause-device g c =
     let inv = c.loop-before.invariant in
     let device = c.in_err-write_whole.ensures.device in
     fails_after _ c.from_residual.result c.args.writer.now c.loop-before.writer c.write_whole.new.self c.from_residual.ensures.1 inv.fine inv.widest device.0 device.2
+
+pub returns-clause-device : goal.returns-clause-device
+returns-clause-device g c = (tt, c.loop-before.invariant.fine, c.loop-before.invariant.widest)
