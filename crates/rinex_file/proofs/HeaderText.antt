@@ -1,7 +1,7 @@
 -- The texts of a header: set one by one, read back from the columns of a line, and without a fault.
 use Rattle.std.specs.Prelude.{if◌then◌else◌, nat_le, ◌==◌, map, flat_map, ⊤}
 use Rattle.std.specs.List.{list_all}
-use Rattle.std.proofs.Common.{arith, ◌≡◌, ◌∙◌, refl, sym, ap, ap₂, subst, ℕ, Option, suc, ◌+◌, ◌<◌, ◌≤◌, ◌≢◌, List, [], ◌∷◌, length, drop, get_or, true, Some, None, zero, ◌-◌, ◌++◌, take, replicate, append_assoc, append-nil, length-append}
+use Rattle.std.proofs.Common.{arith, ◌≡◌, ◌∙◌, refl, sym, ap, ap₂, subst, ℕ, Option, suc, ◌+◌, ◌<◌, ◌≤◌, ◌≢◌, List, [], ◌∷◌, length, drop, get_or, add-one, true, Some, None, zero, ◌-◌, ◌++◌, take, replicate, append_assoc, append-nil, length-append}
 use Rattle.std.proofs.Math.Seq.{drop-cons}
 use Rattle.std.proofs.Math.ListN.{get_or-map, set, length-set}
 use Rattle.std.proofs.lemmas.List.{length-map, length-replicate, take_at, drop_at, get_or-set_same, get_or-set_other}
@@ -176,6 +176,22 @@ refused_text items fs i d column width line columns x fault same less w at is so
     let f = get_or items i d in
     ap (λ l. texts_in l column line x) (ap (drop i) (sym same) ∙ drop-cons items i d less)
     ∙ not_fine _ _ (λ e. some (is ∙ ap (fault_of f) (at ∙ ap (λ n. take n (drop column line)) w) ∙ e))
+
+fine : (fault : Option HeadFault) (r : Option HeaderLists) → fault ≡ None → if_fine fault r ≡ r
+fine None r none = refl
+fine (Some fault) r none = cc
+
+-- the texts from one without a fault on are it and those after it
+pub added_text : (items fs : List HeaderField) (i : ℕ) (d : HeaderField) (column width : ℕ) (line columns : List ℕ) (x new : HeaderLists) → items ≡ fs → i < length items
+    → width ≡ width_of (get_or items i d) → columns ≡ take width (drop column line) → None ≡ fault_of (get_or items i d) columns → new ≡ set x (place_of (get_or items i d)) (trimmed columns)
+    → texts_in (drop (i + 1) fs) (column + width) line new ≡ texts_in (drop i fs) column line x
+added_text items fs i d column width line columns x new same less w at is set_is =
+    let f = get_or items i d in
+    let cut : drop i items ≡ f ∷ drop (i + 1) items = rw (add-one i) (drop-cons items i d less) in
+    let text : columns ≡ take (width_of f) (drop column line) = at ∙ ap (λ n. take n (drop column line)) w in
+    let all : texts_in (drop i items) column line x ≡ texts_in (drop (i + 1) items) (column + width_of f) line (set x (place_of f) (trimmed (take (width_of f) (drop column line)))) =
+    ap (λ l. texts_in l column line x) cut ∙ fine _ _ (ap (fault_of f) (sym text) ∙ sym is) in
+    cc
 
 fine_read : (fault : Option HeadFault) (r : Option HeaderLists) (new : HeaderLists) → if_fine fault r ≡ Some new → r ≡ Some new
 fine_read None r new e = e

@@ -87,11 +87,11 @@ pub(crate) fn read_texts(texts: &mut HeaderTexts, row: TextRow, line: &[u8]) -> 
     texts.are_texts();
     let mut column = row.front().len();
     for field in row.fields() {
-        let text = columns(line, column, field.width());
-        if texts.set(*field, text).is_err() {
-            return false;
+        let width = field.width();
+        match texts.set(*field, columns(line, column, width)) {
+            Ok(()) => column += width,
+            Err(_) => return false,
         }
-        column += field.width();
     }
     is_same(line, texts_line(texts, row).as_slice())
 }
