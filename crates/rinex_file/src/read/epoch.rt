@@ -1,6 +1,6 @@
 //! The lines with a date and time of day, read back: their fields are validated, written again and
 //! compared.
-ghost use Rattle.std.specs.Prelude.{◌≡◌, ◌≤◌, ℕ};
+ghost use Rattle.std.specs.Prelude.{◌≡◌, ◌≤◌, ℕ, Some};
 ghost use Rattle.gnss_obs.specs.Dates.{civil_of};
 ghost use Rattle.rinex_file.specs.FileValues.{IsTime};
 ghost use Rattle.rinex_file.specs.Header.{first_line};
@@ -15,34 +15,36 @@ use crate::write::numbers::Line;
 use gnss_obs::laws::calendar;
 use gnss_obs::{Civil, GpsTime};
 
-/// Returns the date and time of day in a line: the year ends at column 6, and `width` columns for
-/// each other number and `second` columns follow. Each number is limited to the largest value of
-/// its type, which no field of a date has.
-fn civil_in(line: &[u8], width: usize, second: usize) -> Civil
+/// Returns the time in a line, or None if there is none: the year ends at column 6, and `width`
+/// columns for each other number of date and time of day and `second` columns follow. Each number
+/// is limited to the largest value of its type, which no field of a date has.
+fn time_in(line: &[u8], width: usize, second: usize) -> Option<GpsTime>
     requires width { width ≤ 6 }
     requires second { second ≤ 13 }
     ensures first { (t : ℕ) → IsTime t → width ≡ 6 → second ≡ 13 → line.now ≡ first_line (civil_of t)
-        → result ≡ civil_of t }
+        → result ≡ Some t }
     ensures epoch { (t n : ℕ) → IsTime t → n ≤ 999 → width ≡ 3 → second ≡ 11 → line.now ≡ epoch_line (civil_of t) n
-        → result ≡ civil_of t }
+        → result ≡ Some t }
 {
     calendar();
-    Civil {
+    let civil = Civil {
         year: digits_in(columns(line, 0, 6)).min(65_535) as u16,
         month: digits_in(columns(line, 6, width)).min(255) as u8,
         day: digits_in(columns(line, 6 + width, width)).min(255) as u8,
         hour: digits_in(columns(line, 6 + 2 * width, width)).min(255) as u8,
         minute: digits_in(columns(line, 6 + 3 * width, width)).min(255) as u8,
         millisecond: (digits_in(columns(line, 6 + 4 * width, second)) / 10_000).min(65_535) as u16,
-    }
+    };
+    GpsTime::from_civil(&civil)
 }
 
 /// Returns the time of the first epoch by its line in the header, or None for any other line.
 pub(crate) fn read_first(line: &[u8]) -> Option<GpsTime>
     ensures { ReadsExactly IsTime (λ t. first_line (civil_of t)) line.now result }
 {
-    calendar();
-    let time = GpsTime::from_civil(&civil_in(line, 6, 13))?;
+    let Some(time) = time_in(line, 6, 13) else {
+        return None;
+    };
     is_same(line, first_line(time).as_slice()).then_some(time)
 }
 
@@ -53,7 +55,9 @@ pub(crate) fn read_epoch_line(line: &[u8], again: &mut Line) -> Option<(GpsTime,
         line.now result }
 {
     calendar();
-    let time = GpsTime::from_civil(&civil_in(line, 3, 11))?;
+    let Some(time) = time_in(line, 3, 11) else {
+        return None;
+    };
     let count = digits_in(columns(line, 32, 3)) as usize;
     epoch_line(time, count, again);
     is_same(line, again.as_slice()).then_some((time, count))

@@ -137,12 +137,16 @@ fn read_lines<R: Read>(
     ensures same { (result ≡ Err ReadFault.Read → ⊥) → reader.new.failures ≡ reader.old.failures }
     ensures left { LeavesRest (R.remaining reader.old.inner) (R.remaining reader.new.inner) }
 {
-    while let Some(added) = reading.next(reader)? {
+    loop {
+        let added = match reading.next(reader) {
+            Ok(Some(added)) => added,
+            Ok(None) => return Ok(()),
+            Err(fault) => return Err(fault),
+        };
         if is_stored && builder.keep(added, &reading.parser_state).is_err() {
             return Err(ReadFault::Memory);
         }
     }
-    Ok(())
 }
 
 /// Reads a file to its end and returns its counts. A file is accepted if and only if it is exactly

@@ -47,15 +47,6 @@ pub(crate) enum Found {
     Failed,
 }
 
-/// Returns the index of the first line feed, or the number of bytes if there is none.
-fn line_feed(bytes: &[u8]) -> usize
-    ensures bound { result ≤ length bytes.now }
-    ensures none { has 10 (take result bytes.now) ≡ false }
-    ensures found { result < length bytes.now → take 1 (drop result bytes.now) ≡ 10 ∷ [] }
-{
-    memchr(b'\n', bytes).unwrap_or(bytes.len())
-}
-
 impl Block {
     /// Returns a block without bytes.
     pub(crate) fn new() -> Block
@@ -102,7 +93,7 @@ impl Block {
         let held = &self.bytes[self.at..self.end];
         let room = held.len().min(MOST_LINE - line.len());
         let near = &held[..room];
-        let feed = line_feed(near);
+        let feed = memchr(b'\n', near).unwrap_or(room);
         let count = (feed + 1).min(room);
         put(line, &near[..count]);
         self.at += count;

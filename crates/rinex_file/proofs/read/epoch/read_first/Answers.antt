@@ -1,17 +1,16 @@
-use Rattle.std.proofs.Common.{rules, ◌∙◌, refl}
+use Rattle.std.proofs.Common.{rules, ◌∙◌, sym, refl}
+use Rattle.std.proofs.lemmas.Option.{none-some, same_Some}
 use Rattle.gnss_obs.specs.Dates.{civil_of}
 use Rattle.rinex_file.specs.FileValues.{IsTime}
 use Rattle.rinex_file.specs.Header.{first_line}
 use Rattle.rinex_file.proofs.Judged.{exactly}
-use Rattle.rinex_file.proofs.EpochText.{found, one_time}
 use Rattle.rinex_file.proofs.read.epoch.read_first.Goals as goal
 
-pub returns-in_err-time : goal.returns-in_err-time
-returns-in_err-time c = rw c.from_residual.ensures
-    (λ v is e. c.in_err-time.ensures.none v is (found c.civil_in.result v (c.civil_in.ensures.first v is refl refl e) (c.calendar.ensures.civil v is)))
+pub returns-in_default : goal.returns-in_default
+returns-in_default c = λ v is e. none-some v (sym c.in_default.is ∙ c.time_in.ensures.first v is refl refl e)
 
 pub returns : goal.returns
 returns c =
-    exactly IsTime (λ t. first_line (civil_of t)) c.args.line.now _ c.in_ok-time.time c.is_same.result _ c.then_some.ensures (search rules)
-    (λ w is e. one_time w c.in_ok-time.time c.civil_in.result (found c.civil_in.result w (c.civil_in.ensures.first w is refl refl e) (c.calendar.ensures.civil w is)) c.in_ok-time.ensures.some)
+    exactly IsTime (λ t. first_line (civil_of t)) c.args.line.now _ c.in-Some.time c.is_same.result _ c.then_some.ensures (search rules)
+    (λ w is e. same_Some w c.in-Some.time (sym (c.time_in.ensures.first w is refl refl e) ∙ c.in-Some.is))
     (c.as_slice.ensures.value ∙ c.first_line.ensures) c.is_same.ensures

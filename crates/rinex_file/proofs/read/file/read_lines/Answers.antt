@@ -2,7 +2,6 @@ use Rattle.std.proofs.Common.{◌≡◌, ◌∙◌, sym, ap, refl, true, false}
 use Rattle.std.specs.Prelude.{is_some, Result, Ok, Err, OnOk}
 use Rattle.std.specs.Result.{is_err}
 use Rattle.rinex_file.specs.Read.Keeping.{history_of}
-use Rattle.std.proofs.lemmas.Result.{err_from_is_err_and}
 use Rattle.rinex_file.specs.ParserState.{nothing, with_line}
 use Rattle.rinex_file.proofs.LineByLine.{added_more, the_end, leaves_all, leaves_more}
 use Rattle.rinex_file.proofs.read.file.read_lines.Goals as goal
@@ -28,34 +27,31 @@ pub loop-added-preserved : goal.loop-added-preserved
 loop-added-preserved g c =
     let inv = c.loop-added.invariant in
     let (h, read, stores) = inv.read in
-    let k = with_line c.in-Some.added c.next.new.self.parser_state h in
+    let k = with_line c.in-Ok-Some.added c.next.new.self.parser_state h in
     let stored : c.args.is_stored ≡ true → history_of c.else-is_stored.builder ≡ k = λ on. elim c.else-is_stored.branch [
-      | else-is_stored-via-then-is_stored+else-is_err w ↦ ap history_of w.builder-is ∙ kept w.keep.result _ (sym w.is_err.ensures.value ∙ w.if-is_err.false) w.keep.ensures ∙ ap (with_line c.in-Some.added c.next.new.self.parser_state) (stores on)
+      | else-is_stored-via-then-is_stored+else-is_err w ↦ ap history_of w.builder-is ∙ kept w.keep.result _ (sym w.is_err.ensures.value ∙ w.if-is_err.false) w.keep.ensures ∙ ap (with_line c.in-Ok-Some.added c.next.new.self.parser_state) (stores on)
       | else-is_stored-via-else-is_stored w ↦ absurd (not_on (sym on ∙ w.if-is_stored.false))
     ] in
     record {
-      read = (k, added_more c.next.new.self h _ _ c.in_ok-added.field-0 c.in-Some.added c.in-Some.is (c.in_ok-added.ensures.goes h _ read), stored);
-      within = c.in_ok-added.ensures.within;
-      left = leaves_more _ _ _ inv.left c.in_ok-added.ensures.left;
-      same = c.in_ok-added.ensures.same (λ e. cc) ∙ inv.same;
+      read = (k, added_more c.next.new.self h _ _ c.in-Ok-Some.field-0 c.in-Ok-Some.added c.in-Ok-Some.field-0-is (c.in-Ok-Some.ensures.goes h _ read), stored);
+      within = c.in-Ok-Some.ensures.within;
+      left = leaves_more _ _ _ inv.left c.in-Ok-Some.ensures.left;
+      same = c.in-Ok-Some.ensures.same (λ e. cc) ∙ inv.same;
     }
 
-pub returns-clause-found : goal.returns-clause-found
-returns-clause-found g c =
+pub returns-in-Ok-None-clause-found : goal.returns-in-Ok-None-clause-found
+returns-in-Ok-None-clause-found g c =
     let (h, read, stores) = c.loop-added.invariant.read in
-    (h, the_end c.next.new.self h _ _ c.in_ok-added.field-0 (ap is_some c.in_default.is) (c.in_ok-added.ensures.goes h _ read), stores)
+    (h, the_end c.next.new.self h _ _ c.in-Ok-None.field-0 (ap is_some c.in-Ok-None.field-0-is) (c.in-Ok-None.ensures.goes h _ read), stores)
 
-pub returns-clause-left : goal.returns-clause-left
-returns-clause-left g c = leaves_more _ _ _ c.loop-added.invariant.left c.in_ok-added.ensures.left
+pub returns-in-Ok-None-clause-left : goal.returns-in-Ok-None-clause-left
+returns-in-Ok-None-clause-left g c = leaves_more _ _ _ c.loop-added.invariant.left c.in-Ok-None.ensures.left
 
 pub returns-then-is_err-clause-left : goal.returns-then-is_err-clause-left
-returns-then-is_err-clause-left g c = leaves_more _ _ _ c.loop-added.invariant.left c.in_ok-added.ensures.left
+returns-then-is_err-clause-left g c = leaves_more _ _ _ c.loop-added.invariant.left c.in-Ok-Some.ensures.left
 
-pub returns-in_err-added-clause-fault : goal.returns-in_err-added-clause-fault
-returns-in_err-added-clause-fault g c =
-    let (h, read, stores) = c.loop-added.invariant.read in
-    let (e, at, same) = err_from_is_err_and c.from_residual.result c.from_residual.ensures.1 in
-    rw (at, same) (c.in_err-added.ensures.goes h _ read)
+pub returns-in-Err-clause-fault : goal.returns-in-Err-clause-fault
+returns-in-Err-clause-fault g c = let (h, read, stores) = c.loop-added.invariant.read in c.in-Err.ensures.goes h _ read
 
-pub returns-in_err-added-clause-left : goal.returns-in_err-added-clause-left
-returns-in_err-added-clause-left g c = leaves_more _ _ _ c.loop-added.invariant.left c.in_err-added.ensures.left
+pub returns-in-Err-clause-left : goal.returns-in-Err-clause-left
+returns-in-Err-clause-left g c = leaves_more _ _ _ c.loop-added.invariant.left c.in-Err.ensures.left
