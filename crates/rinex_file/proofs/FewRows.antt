@@ -1,5 +1,5 @@
 -- A plan has no more signals than the tables, and an epoch no more satellites than the planned systems.
-use Rattle.std.proofs.Common.{arith, ◌≡◌, sym, subst, ℕ, suc, ◌+◌, ◌-◌, ◌<◌, ◌≤◌, Bool, true, false, eqb, List, [], ◌∷◌, length}
+use Rattle.std.proofs.Common.{arith, ◌≡◌, refl, sym, subst, ℕ, suc, ◌+◌, ◌-◌, ◌<◌, ◌≤◌, Bool, true, false, eqb, List, [], ◌∷◌, length}
 use Rattle.std.specs.Prelude.{◌||◌, if◌then◌else◌, All, map, nat_lt, slice_index}
 use Rattle.std.specs.List.{list_any}
 use Rattle.std.specs.List.Sorted.{IsStrictlyIncreasing}
@@ -39,11 +39,13 @@ room false false k = 0
 
 after_gps : (galileo : Bool) (k r n : ℕ) → k ≤ r → r ≤ 32 → n ≤ room true galileo (r + 1) → suc n ≤ room true galileo k
 unfolding room
-after_gps galileo k r n low high h = grind arith
+after_gps true k r n low high h = omega (arith, low, high, h)
+after_gps false k r n low high h = omega (arith, low, high, h)
 
 after_galileo : (gps : Bool) (k r n : ℕ) → k ≤ 100 + r → 1 ≤ r → r ≤ 36 → n ≤ room gps true ((100 + r) + 1) → suc n ≤ room gps true k
 unfolding room
-after_galileo gps k r n low some high h = grind arith
+after_galileo true k r n low some high h = omega (arith, low, some, high, h)
+after_galileo false k r n low some high h = omega (arith, low, some, high, h)
 
 -- a satellite has one of the ranks that are left
 one_less : (gps galileo k r n : ℕ) (system : System) → 0 < of_system system gps galileo → (1 ≤ r) × (r ≤ satellites system) → k ≤ of_system system r (100 + r)
@@ -78,12 +80,19 @@ few_from gps galileo k (s ∷ rows) each rise low =
 
 from_one : (gps galileo : Bool) → room gps galileo 1 ≡ (if gps then 32 else 0) + (if galileo then 36 else 0)
 unfolding room
-from_one gps galileo = grind arith
+from_one true true = refl
+from_one true false = refl
+from_one false true = refl
+from_one false false = refl
+
+some_rank : (gps galileo : ℕ) (s : SatelliteRow) → IsSatelliteRow gps galileo s → 1 ≤ rank_of s
+some_rank gps galileo s is = grind arith
 
 low_first : (gps galileo : ℕ) (rows : List SatelliteRow) → All (IsSatelliteRow gps galileo) rows → FromFirst 1 (map rank_of rows)
 unfolding FromFirst
 low_first gps galileo [] each h = absurd (omega (arith, h))
-low_first gps galileo (s ∷ rows) each h = grind (arith, All-head)
+low_first gps galileo (s ∷ rows) each h = some_rank gps galileo s (All-head (IsSatelliteRow gps galileo) s rows each)
 
 pub few_rows : (gps galileo : ℕ) (rows : List SatelliteRow) → AreSatelliteRows gps galileo rows → length rows ≤ most_rows gps galileo
-few_rows gps galileo rows are = grind (arith, few_from, low_first, from_one, (few_from gps galileo 1 rows are.each are.rise (low_first gps galileo rows are.each)))
+few_rows gps galileo rows are =
+    subst (λ n. length rows ≤ n) (from_one (nat_lt 0 gps) (nat_lt 0 galileo)) (few_from gps galileo 1 rows are.each are.rise (low_first gps galileo rows are.each))

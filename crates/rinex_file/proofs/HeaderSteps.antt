@@ -101,19 +101,22 @@ record Completed (n d : ℕ) (xs : List ℕ) : Type 0 where
   below : AreBelow n (xs ++ more)
   apart : IsDistinct nat_eq (xs ++ more)
 
+one_completed : (n d : ℕ) (xs : List ℕ) (i : ℕ) → Completed n d (xs ++ i ∷ []) → Completed n (suc d) xs
+one_completed n d xs i rest =
+    let same : (xs ++ i ∷ []) ++ rest.more ≡ xs ++ i ∷ rest.more = append_assoc xs (i ∷ []) rest.more in
+    record {
+      more = i ∷ rest.more;
+      size = ap suc rest.size;
+      below = subst (AreBelow n) same rest.below;
+      apart = subst (λ (l : List ℕ). IsDistinct nat_eq l) same rest.apart;
+    }
+
 complete : (d n : ℕ) (xs : List ℕ) → AreBelow n xs → IsDistinct nat_eq xs → length xs + d ≤ n → Completed n d xs
 complete zero n xs below apart room = grind (arith, append-nil)
 complete (suc d) n xs below apart room =
     let one = fresh n xs (omega (arith, room)) in
     let longer : length (xs ++ one.i ∷ []) ≡ length xs + 1 = length-append xs (one.i ∷ []) in
-    let rest = complete d n (xs ++ one.i ∷ []) (All-push (λ i. i < n) xs one.i below one.below) (apart_more xs one.i apart one.isnt) (omega (arith, room, longer)) in
-    let same : (xs ++ one.i ∷ []) ++ rest.more ≡ xs ++ one.i ∷ rest.more = append_assoc xs (one.i ∷ []) rest.more in
-    record {
-      more = one.i ∷ rest.more;
-      size = ap suc rest.size;
-      below = subst (AreBelow n) same rest.below;
-      apart = subst (λ (l : List ℕ). IsDistinct nat_eq l) same rest.apart;
-    }
+    one_completed n d xs one.i (complete d n (xs ++ one.i ∷ []) (All-push (λ i. i < n) xs one.i below one.below) (apart_more xs one.i apart one.isnt) (omega (arith, room, longer)))
 
 -- ---- all signals of a system, by those that were read
 
@@ -129,6 +132,21 @@ record Choice (n : ℕ) (planned : Bool) (count : ℕ) (read : List ℕ) : Type 
   size : 0 < count → count ≡ length all
   begins : read ≡ take (length read) all
 
+-- the signals that were read and those that complete them
+by_rest : (n c : ℕ) (planned : Bool) (read : List ℕ) → length read ≤ suc c → planned ≡ true → Completed n (suc c - length read) read → Choice n planned (suc c) read
+by_rest n c planned read fits is rest =
+    let more = rest.size in
+    let both = length-append read rest.more in
+    let whole : length (read ++ rest.more) ≡ suc c = omega (arith, both, more, fits) in
+    record {
+      all = read ++ rest.more;
+      below = rest.below;
+      apart = rest.apart;
+      some = is ∙ more_planned (read ++ rest.more) (omega (arith, whole));
+      size = λ l. sym whole;
+      begins = sym (take-append_seam read rest.more);
+    }
+
 choose : (n : ℕ) (planned : Bool) (count : ℕ) (read : List ℕ) → 0 < n → AreBelow n read → IsDistinct nat_eq read → length read ≤ count → count ≤ n → (0 < count → planned ≡ true)
     → Choice n planned count read
 unfolding IsDistinct
@@ -137,18 +155,7 @@ choose n true zero [] some below apart fits few is =
     record { all = 0 ∷ []; below = All-cons (λ i. i < n) 0 [] some (All-nil (λ i. i < n)); apart = (tt, tt); some = refl; size = λ l. absurd (omega (arith, l)); begins = refl }
 choose n planned zero (x ∷ xs) some below apart fits few is = absurd (omega (arith, fits))
 choose n planned (suc c) read some below apart fits few is =
-    let rest = complete (suc c - length read) n read below apart (omega (arith, fits, few)) in
-    let more = rest.size in
-    let both = length-append read rest.more in
-    let whole : length (read ++ rest.more) ≡ suc c = omega (arith, both, more, fits) in
-    record {
-      all = read ++ rest.more;
-      below = rest.below;
-      apart = rest.apart;
-      some = is (omega arith) ∙ more_planned (read ++ rest.more) (omega (arith, whole));
-      size = λ l. sym whole;
-      begins = sym (take-append_seam read rest.more);
-    }
+    by_rest n c planned read fits (is (omega arith)) (complete (suc c - length read) n read below apart (omega (arith, fits, few)))
 
 -- ---- a plan
 
@@ -295,10 +302,14 @@ other Galileo = Gps
 
 -- what holds of a system and of the other holds of every system
 pub either_system : (P : System → Type 0) (s : System) → P s → P (other s) → (t : System) → P t
-either_system P s a b t = grind arith
+either_system P Gps a b Gps = a
+either_system P Gps a b Galileo = b
+either_system P Galileo a b Gps = b
+either_system P Galileo a b Galileo = a
 
 pub far_other : (s : System) (row : ℕ) → row < 6 → first_types (other s) ≤ first_types s + row → first_types s + row < first_types (other s) + 6 → ⊥
-far_other s row less more few = grind arith
+far_other Gps row less more few = omega (arith, less, more)
+far_other Galileo row less more few = omega (arith, few)
 
 -- a row of types has a number
 abbrev pub IsRow : HeaderRow → Type 0

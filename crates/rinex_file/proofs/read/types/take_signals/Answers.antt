@@ -10,12 +10,6 @@ use Rattle.rinex_file.proofs.Judged.{at_some}
 use Rattle.rinex_file.proofs.TypeRows.{still_grows, not_read, taken_more, taken_before}
 use Rattle.rinex_file.proofs.read.types.take_signals.Goals as goal
 
-few : (n count most : ℕ) → n ≡ count → count ≤ most → most ≤ 19 → 4 * n < 1000
-few n count most is less bound = omega (arith, is, less, bound)
-
-below : (end a begun_next count place n : ℕ) → place < end → end ≡ min a count → a ≡ begun_next → n ≡ count → (place < begun_next) × (place < n)
-below end a begun_next count place n less least next is = (omega (arith, less, least, next), omega (arith, less, least, is))
-
 -- the index of the signal is below that of the first one of the next line, and there are that many
 there : (system : System) (all : List ℕ) (end a begun_next count place : ℕ) → place < end → end ≡ min a count → a ≡ begun_next → length all ≡ count → count ≤ length (table system)
     → (4 * length all < 1000) × (place < begun_next) × (place < length all)
@@ -66,22 +60,22 @@ within : (place end a count most : ℕ) → place < end → end ≡ min a count 
 within place end a count most less least few bound = omega (arith, less, least, few, bound)
 
 pub overflow_mul-column : goal.overflow_mul-column
-overflow_mul-column c = grind (arith, few, within, few_signals)
+overflow_mul-column c = let n = within _ _ _ _ _ c.loop-place-test.true c.min-end.ensures c.requires.count (few_signals c.args.system) in omega (arith, n)
 
 pub overflow_mul-column-in-loop-place : goal.overflow_mul-column-in-loop-place
-overflow_mul-column-in-loop-place c = grind (arith, few, within, few_signals)
+overflow_mul-column-in-loop-place c = let n = within _ _ _ _ _ c.loop-place-test.true c.min-end.ensures c.requires.count (few_signals c.args.system) in omega (arith, n)
 
 pub overflow_mul-column-in-loop-place-2 : goal.overflow_mul-column-in-loop-place-2
-overflow_mul-column-in-loop-place-2 c = grind (arith, few, within, few_signals)
+overflow_mul-column-in-loop-place-2 c = let n = within _ _ _ _ _ c.loop-place-test.true c.min-end.ensures c.requires.count (few_signals c.args.system) in omega (arith, n)
 
 pub overflow_add-column : goal.overflow_add-column
-overflow_add-column c = grind (arith, few, within, few_signals)
+overflow_add-column c = let n = within _ _ _ _ _ c.loop-place-test.true c.min-end.ensures c.requires.count (few_signals c.args.system) in omega (arith, n)
 
 pub overflow_add-column-in-loop-place : goal.overflow_add-column-in-loop-place
-overflow_add-column-in-loop-place c = grind (arith, few, within, few_signals)
+overflow_add-column-in-loop-place c = let n = within _ _ _ _ _ c.loop-place-test.true c.min-end.ensures c.requires.count (few_signals c.args.system) in omega (arith, n)
 
 pub signal_in-requires : goal.signal_in-requires
-signal_in-requires c = grind (arith, few, within, few_signals)
+signal_in-requires c = let n = within _ _ _ _ _ c.loop-place-test.true c.min-end.ensures c.requires.count (few_signals c.args.system) in omega (arith, n)
 
 pub loop-place-init : goal.loop-place-init
 loop-place-init c = grind (arith, common_steps)
