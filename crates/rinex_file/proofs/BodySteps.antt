@@ -22,7 +22,7 @@ use Rattle.rinex_file.specs.declared.read.expected.Added.{Added}
 use Rattle.rinex_file.specs.declared.read.expected.Refusal.{Refusal}
 use Rattle.rinex_file.specs.declared.read.expected.Refusal.TheVariants.{Memory, Bad}
 use Rattle.rinex_file.specs.declared.read.parser_state.ParserState.{ParserState}
-use Rattle.rinex_file.specs.ParserState.{History, FollowsHistory, GoesOnWithLine, ShowsLine, RefusesLine, TakesLine, progress_at}
+use Rattle.rinex_file.specs.ParserState.{History, FollowsHistory, GoesOnWithLine, ShowsLine, RefusesLine, TakesLine, HasRoom, progress_at}
 use Rattle.rinex_file.proofs.FewRows.{few_rows, few_planned}
 use Rattle.rinex_file.proofs.Entries.{few_signals}
 
@@ -430,3 +430,8 @@ unfolding HasLinesLeft
 last_taken s line expected seen shown only v left on =
     let here : IsInEpoch (with_row s seen 0) 0 v left = (row_taken s 0 line expected seen shown only v left on).1 in
     (on.0, from_none (with_row s seen 0) v left here.more here.others here.count here.value here.starts here.rest)
+
+-- ---- the counts
+
+pub still_room : (c : ParserState) (n : ℕ) → HasRoom c n → HasRoom c (n + 1)
+still_room c n (epochs, rows, events) = (omega (arith, epochs), omega (arith, rows), omega (arith, events))

@@ -310,11 +310,13 @@ module _ (are_lines : (v : FileValue) → IsFileValue v → All IsLine (file_lin
 
 -- a property of the input that follows from two others
 pub both_said : (a : Option (List ℕ)) (P Q R : List ℕ → Type 0) → ((input : List ℕ) → P input → Q input → R input) → IfSome a P → IfSome a Q → IfSome a R
-both_said v0 v1 v2 v3 h p q = grind arith
+both_said None P Q R h p q = tt
+both_said (Some input) P Q R h p q = h input p q
 
 -- a property of the input that follows from another
 pub said_of : (a : Option (List ℕ)) (P Q : List ℕ → Type 0) → ((input : List ℕ) → P input → Q input) → IfSome a P → IfSome a Q
-said_of v0 v1 v2 h p = grind arith
+said_of None P Q h p = tt
+said_of (Some input) P Q h p = h input p
 
 pub explains_memory : (a : Option (List ℕ)) → IfSome a (λ input. ExplainsFault input Memory)
 explains_memory None = tt
@@ -322,7 +324,8 @@ explains_memory (Some input) = tt
 
 -- a memory fault has nothing to explain
 pub no_reason : (a : Option (List ℕ)) (v : FileValue) → IfSome a (λ input. input ≡ file_text v → ⊤)
-no_reason v0 v = grind arith
+no_reason None v = tt
+no_reason (Some input) v = λ e. tt
 
 -- a line has its line feed
 pub line_some : (bytes : List ℕ) → IsLine bytes → 0 < length bytes
@@ -349,7 +352,8 @@ pub added_more : (new : Reading) (h : History) (input left : Option (List ℕ)) 
 added_more new h input left o added e goes = subst (λ (x : Option Added). ReadsNextLine new h input left (Ok x)) e goes
 
 pub the_end : (new : Reading) (h : History) (input left : Option (List ℕ)) (o : Option Added) → is_some o ≡ false → ReadsNextLine new h input left (Ok o) → IsWhole new.parser_state h input
-the_end new h input left v4 none goes = grind arith
+the_end new h input left None none goes = goes
+the_end new h input left (Some added) none goes = cc
 
 pub file_found : (c : ParserState) (h : History) (input : Option (List ℕ)) (f : FileValue) → IsWhole c h input → f ≡ file_at c h → IsTextOf f input
 file_found c h input f whole same = grind (arith, said_of)

@@ -95,18 +95,20 @@ ShowsLine old new line = (taken : List (List ℕ)) → AreLinesOf old taken → 
 abbrev pub RefusesLine : Progress → List ℕ → Type 0
 RefusesLine s line = (v : FileValue) (left : List (List ℕ)) → HasLinesLeft s v (line ∷ left) → ⊥
 
--- a line was accepted: it may follow what was read, and the state has the history with what the line adds
+-- no count is greater than this number of lines
+abbrev pub HasRoom : ParserState → ℕ → Type 0
+HasRoom c lines = (c.counts.epochs ≤ lines) × (c.counts.satellites ≤ lines) × (c.counts.events ≤ lines)
+
+-- a line was accepted: it may follow what was read, the state has the history with what the line adds, and no count grows
+-- by more than one
 pub record IsNext (old new : ParserState) (added : Added) (line : List ℕ) (h : History) : Type 0 where
   pub history : FollowsHistory new (with_line added new h)
   pub follows : GoesOnWithLine (progress_at old h) (progress_at new (with_line added new h)) line
   pub shows : ShowsLine (progress_at old h) (progress_at new (with_line added new h)) line
+  pub room : (n : ℕ) → HasRoom old n → HasRoom new (n + 1)
 
 -- the result of a line
 abbrev pub TakesLine : ParserState → ParserState → List ℕ → Result Added Refusal → Type 0
 TakesLine old new line (Ok added) = (h : History) → FollowsHistory old h → IsNext old new added line h
 TakesLine old new line (Err Bad) = (h : History) → FollowsHistory old h → RefusesLine (progress_at old h) line
 TakesLine old new line (Err Memory) = ⊤
-
--- no count is greater than this number of lines
-abbrev pub HasRoom : ParserState → ℕ → Type 0
-HasRoom c lines = (c.counts.epochs ≤ lines) × (c.counts.satellites ≤ lines) × (c.counts.events ≤ lines)

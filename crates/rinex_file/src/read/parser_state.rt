@@ -1,6 +1,6 @@
 //! The state of the parser of a file: what the next line has to fit, and counts. It doesn't grow
 //! with the file.
-ghost use Rattle.std.specs.Prelude.{◌≡◌, ◌<◌, ◌≤◌, ◌+◌, ◌^◌, ◌↔◌, ℕ, [], None, OnOk, IsTrue, length};
+ghost use Rattle.std.specs.Prelude.{◌≡◌, ◌<◌, ◌≤◌, ◌^◌, ◌↔◌, [], None, IsTrue, length};
 ghost use Rattle.rinex_file.specs.Value.{FileValue};
 ghost use Rattle.gnss_obs.specs.declared.cell.StationValues.{StationValues};
 ghost use Rattle.rinex_file.specs.FileValues.{IsFileValue, rank_of};
@@ -85,8 +85,7 @@ impl ParserState {
         requires history { (h : History) × FollowsHistory self.old h }
         requires room { HasRoom self.old (2 ^ 40) }
         requires short { length line.now ≤ most_line }
-        ensures takes { TakesLine self.old self.new line.now result }
-        ensures room { (n : ℕ) → HasRoom self.old n → OnOk result (HasRoom self.new (n + 1)) }
+        ensures { TakesLine self.old self.new line.now result }
     {
         match self.expected {
             Expected::Header(place) => {
@@ -145,8 +144,7 @@ impl ParserState {
     ) -> Result<Added, Refusal>
         requires expected { self.old.expected ≡ epoch_after change }
         requires event { change ≡ None → (0 < self.old.counts.epochs) × (line.now ≡ event_line) → ⊥ }
-        ensures takes { TakesLine self.old self.new line.now result }
-        ensures room { (n : ℕ) → HasRoom self.old n → OnOk result (HasRoom self.new (n + 1)) }
+        ensures { TakesLine self.old self.new line.now result }
     {
         match read_epoch_line(line, again) {
             Some(begun) if self.may_begin(begun.0, begun.1) => {
@@ -163,8 +161,7 @@ impl ParserState {
     /// from the current station values.
     fn take_height(&mut self, position: StationValues, line: &[u8]) -> Result<Added, Refusal>
         requires expected { self.old.expected ≡ Expected.EventHeight position }
-        ensures takes { TakesLine self.old self.new line.now result }
-        ensures room { (n : ℕ) → HasRoom self.old n → OnOk result (HasRoom self.new (n + 1)) }
+        ensures { TakesLine self.old self.new line.now result }
     {
         let Some(height) = read_delta(line) else {
             return Err(Refusal::Bad);
@@ -189,8 +186,7 @@ impl ParserState {
         requires room { HasRoom self.old (2 ^ 40) }
         requires expected { self.old.expected ≡ Expected.Satellite left }
         requires short { length line.now ≤ most_line }
-        ensures takes { TakesLine self.old self.new line.now result }
-        ensures room { (n : ℕ) → HasRoom self.old n → OnOk result (HasRoom self.new (n + 1)) }
+        ensures { TakesLine self.old self.new line.now result }
     {
         let gps = self.head.planned(System::Gps);
         let galileo = self.head.planned(System::Galileo);

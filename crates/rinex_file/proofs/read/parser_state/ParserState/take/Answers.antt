@@ -6,13 +6,13 @@ use Rattle.rinex_file.specs.declared.read.expected.Expected.TheVariants.{Header,
 use Rattle.rinex_file.specs.ParserState.{History, FollowsHistory, IsNext, progress_at}
 use Rattle.rinex_file.specs.Read.Progress.{Known}
 use Rattle.rinex_file.specs.Read.HeaderSteps.{StepsTo}
-use Rattle.rinex_file.proofs.BodySteps.{stopped}
+use Rattle.rinex_file.proofs.BodySteps.{still_room, stopped}
 use Rattle.rinex_file.proofs.EventSteps.{event_taken, event_shows, sound_event, position_taken, position_shows, no_position, sound_position}
 use Rattle.rinex_file.proofs.HeaderBody.{no_header, header_taken, header_shows, header_ended, ended_shows, sound_start, sound_header}
 use Rattle.rinex_file.proofs.read.parser_state.ParserState.take.Goals as goal
 
-pub returns-in_err-self-in-Header-clause-takes : goal.returns-in_err-self-in-Header-clause-takes
-returns-in_err-self-in-Header-clause-takes c = stopped c.args.self.now _ c.args.line.now _ c.from_residual.ensures.1 (λ e same bad h history.
+pub returns-in_err-self-in-Header : goal.returns-in_err-self-in-Header
+returns-in_err-self-in-Header c = stopped c.args.self.now _ c.args.line.now _ c.from_residual.ensures.1 (λ e same bad h history.
     let s = progress_at c.args.self.now h in
     no_header s c.in-Header.place c.args.line.now c.in-Header.is (sound_header s c.in-Header.place c.in-Header.is history.sound).2 (c.in_err-self-in-Header.ensures.bad (ap Err (sym same ∙ bad))))
 
@@ -29,6 +29,7 @@ headed c h place line k (Header next) expected history goes =
       history = record { sound = (epochs, rows, goes.at); counted = history.counted };
       follows = header_taken s place line expected k next goes;
       shows = header_shows s place line expected k next goes;
+      room = still_room c;
     }
 headed c h place line k Epoch expected history end =
     let s = progress_at c h in
@@ -37,30 +38,32 @@ headed c h place line k Epoch expected history end =
       history = record { sound = (sound_start s k end.is epochs, rows); counted = history.counted };
       follows = header_ended s place line expected k epochs here end;
       shows = ended_shows s place line expected k epochs here end;
+      room = still_room c;
     }
 headed c h place line k EventPosition expected history goes = absurd goes
 headed c h place line k (EventHeight p) expected history goes = absurd goes
 headed c h place line k (EventEpoch v) expected history goes = absurd goes
 headed c h place line k (Satellite n) expected history goes = absurd goes
 
-pub returns-in_ok-self-in-Header-clause-takes : goal.returns-in_ok-self-in-Header-clause-takes
-returns-in_ok-self-in-Header-clause-takes c = λ h history. headed c.args.self.now h c.in-Header.place c.args.line.now c.take.new.self _ c.in-Header.is history c.in_ok-self-in-Header.ensures.taken
+pub returns-in_ok-self-in-Header : goal.returns-in_ok-self-in-Header
+returns-in_ok-self-in-Header c = λ h history. headed c.args.self.now h c.in-Header.place c.args.line.now c.take.new.self _ c.in-Header.is history c.in_ok-self-in-Header.ensures.taken
 
-pub returns-in-Epoch-clause-takes : goal.returns-in-Epoch-clause-takes
-returns-in-Epoch-clause-takes c = λ h history.
+pub returns-in-Epoch : goal.returns-in-Epoch
+returns-in-Epoch c = λ h history.
     let s = progress_at c.args.self.now h in
     let (some, shown) = c.begins_event.ensures.0 c.if-begins_event.true in
     record {
       history = record { sound = sound_event s c.in-Epoch.is history.sound (subst (λ (n : ℕ). 0 < n) history.counted.epochs some); counted = history.counted };
       follows = event_taken s c.args.line.now c.in-Epoch.is shown;
       shows = event_shows s c.args.line.now c.in-Epoch.is shown;
+      room = still_room c.args.self.now;
     }
 
-pub returns-in-None-clause-takes : goal.returns-in-None-clause-takes
-returns-in-None-clause-takes c = λ h history. no_position (progress_at c.args.self.now h) c.args.line.now c.in-EventPosition.is c.in-None.ensures
+pub returns-in-None : goal.returns-in-None
+returns-in-None c = λ h history. no_position (progress_at c.args.self.now h) c.args.line.now c.in-EventPosition.is c.in-None.ensures
 
-pub returns-in-Some-clause-takes : goal.returns-in-Some-clause-takes
-returns-in-Some-clause-takes c = λ h history.
+pub returns-in-Some : goal.returns-in-Some
+returns-in-Some c = λ h history.
     let s = progress_at c.args.self.now h in
     let p = c.in-Some.position in
     let (is, shown, only) = c.in-Some.ensures in
@@ -68,4 +71,5 @@ returns-in-Some-clause-takes c = λ h history.
       history = record { sound = sound_position s p c.in-EventPosition.is history.sound is; counted = history.counted };
       follows = position_taken s p c.args.line.now c.in-EventPosition.is only;
       shows = position_shows s p c.args.line.now c.in-EventPosition.is shown;
+      room = still_room c.args.self.now;
     }

@@ -3,7 +3,7 @@ use Rattle.rinex_file.specs.FileValues.{IsTime}
 use Rattle.rinex_file.specs.ParserState.{progress_at}
 use Rattle.rinex_file.specs.Read.Progress.{Progress}
 use Rattle.rinex_file.specs.Read.Sound.{MayBegin}
-use Rattle.rinex_file.proofs.BodySteps.{Begins, epoch_taken, epoch_shows, few_satellites, no_epoch, sound_begun, sound_epoch}
+use Rattle.rinex_file.proofs.BodySteps.{Begins, still_room, epoch_taken, epoch_shows, few_satellites, no_epoch, sound_begun, sound_epoch}
 use Rattle.rinex_file.proofs.Judged.{refused}
 use Rattle.rinex_file.proofs.read.parser_state.ParserState.take_epoch.Goals as goal
 
@@ -14,21 +14,21 @@ may_begin-requires c = record { between = λ h history. (sound_epoch (progress_a
 fits : (s : Progress) (w : ℕ × ℕ) → Begins s w → IsTime w.0 × w.1 ≤ 999
 fits s w (time, may) = (time, few_satellites _ _ w.1 may.room)
 
-pub returns-in_default-2-clause-takes : goal.returns-in_default-2-clause-takes
-returns-in_default-2-clause-takes c = λ h history.
+pub returns-in_default-2 : goal.returns-in_default-2
+returns-in_default-2 c = λ h history.
     let s = progress_at c.args.self.now h in
     no_epoch s c.args.change c.args.line.now c.requires.expected (λ none both. c.requires.event none (subst (λ (n : ℕ). 0 < n) (sym history.counted.epochs) both.0, both.1))
     (λ w is. (rw c.in_default.is at c.read_epoch_line.ensures) w (fits s w is))
 
-pub returns-in_default-clause-takes : goal.returns-in_default-clause-takes
-returns-in_default-clause-takes c = λ h history.
+pub returns-in_default : goal.returns-in_default
+returns-in_default c = λ h history.
     let s = progress_at c.args.self.now h in
     no_epoch s c.args.change c.args.line.now c.requires.expected (λ none both. c.requires.event none (subst (λ (n : ℕ). 0 < n) (sym history.counted.epochs) both.0, both.1))
     (λ w is line. refused c.may_begin.result _ (c.may_begin.ensures h history) c.if-may_begin.false
     (subst (λ (p : ℕ × ℕ). MayBegin s p.0 p.1) (c.in-Some.ensures.2 w (fits s w is) line) is.1))
 
-pub returns-in-Some-clause-takes : goal.returns-in-Some-clause-takes
-returns-in-Some-clause-takes c = λ h history.
+pub returns-in-Some : goal.returns-in-Some
+returns-in-Some c = λ h history.
     let s = progress_at c.args.self.now h in
     let (read, rows, change, same) = sound_epoch s c.args.change c.requires.expected history.sound in
     let (is, shown, only) = c.in-Some.ensures in
@@ -40,4 +40,5 @@ returns-in-Some-clause-takes c = λ h history.
       follows = epoch_taken s c.args.change time n c.args.line.now rows shown (λ w begins. only w (fits s w begins)) c.requires.expected
           (λ none both. c.requires.event none (subst (λ (k : ℕ). 0 < k) (sym history.counted.epochs) both.0, both.1));
       shows = epoch_shows s c.args.change time n c.args.line.now c.requires.expected rows shown;
+      room = still_room c.args.self.now;
     }

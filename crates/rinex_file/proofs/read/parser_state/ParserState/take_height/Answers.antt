@@ -8,6 +8,7 @@ use Rattle.rinex_file.specs.declared.read.expected.Expected.{Expected}
 use Rattle.rinex_file.specs.declared.read.expected.Expected.TheVariants.{EventEpoch}
 use Rattle.rinex_file.specs.ParserState.{History, IsNext, progress_at}
 use Rattle.rinex_file.proofs.Judged.{refused}
+use Rattle.rinex_file.proofs.BodySteps.{still_room}
 use Rattle.rinex_file.proofs.EventSteps.{height_taken, height_shows, no_height, same_height, sound_height}
 use Rattle.rinex_file.proofs.read.parser_state.ParserState.take_height.Goals as goal
 
@@ -25,17 +26,17 @@ then k expected = record k { expected = expected }
 next_of : (k s : ParserState) (expected : Expected) (line : List ℕ) (h : History) → k ≡ s → IsNext s (then s expected) NoRow line h → IsNext s (then k expected) NoRow line h
 next_of k s expected line h same is = subst (λ (t : ParserState). IsNext s (then t expected) NoRow line h) (sym same) is
 
-pub returns-in_default-clause-takes : goal.returns-in_default-clause-takes
-returns-in_default-clause-takes c = λ h history.
+pub returns-in_default : goal.returns-in_default
+returns-in_default c = λ h history.
     no_height (progress_at c.args.self.now h) c.args.position c.args.line.now c.requires.expected c.in_default.ensures
 
-pub returns-then-is_same-clause-takes : goal.returns-then-is_same-clause-takes
-returns-then-is_same-clause-takes c = λ h history.
+pub returns-then-is_same : goal.returns-then-is_same
+returns-then-is_same c = λ h history.
     same_height (progress_at c.args.self.now h) c.args.position c.args.line.now c.requires.expected c.in-Some.height c.in-Some.ensures.2
     (c.is_same.ensures.exact.0 c.if-is_same.true ∙ current _ c.args.self.now c.unwrap_or.result c.self.view_is c.unwrap_or.ensures ∙ history.counted.values c.args.self.now.head.shown.values)
 
-pub returns-clause-takes : goal.returns-clause-takes
-returns-clause-takes c = λ h history.
+pub returns : goal.returns
+returns c = λ h history.
     let s = progress_at c.args.self.now h in
     let p = c.args.position in
     let height = c.in-Some.height in
@@ -49,4 +50,5 @@ returns-clause-takes c = λ h history.
       };
       follows = height_taken s p c.args.line.now c.requires.expected height only;
       shows = height_shows s p height c.args.line.now c.requires.expected shown;
+      room = still_room c.args.self.now;
     })

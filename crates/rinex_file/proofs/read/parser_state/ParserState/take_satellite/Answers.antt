@@ -61,8 +61,8 @@ last_rank rows seen n same rise m some =
 not_above : (last rank : ℕ) → rank ≤ last → last < rank → ⊥
 not_above last rank least less = omega (arith, least, less)
 
-pub returns-then-not-is_read-clause-takes : goal.returns-then-not-is_read-clause-takes
-returns-then-not-is_read-clause-takes c = λ h history.
+pub returns-then-not-is_read : goal.returns-then-not-is_read
+returns-then-not-is_read c = λ h history.
     let s = progress_at c.args.self.now h in
     let seen = c.read_seen-is_read.new.seen in
     let (read, begun, some, room) = sound_open s c.args.left c.requires.expected history.sound in
@@ -89,8 +89,8 @@ one_longer es e n all = let size : length (es ++ e ∷ []) ≡ length es + 1 = l
 event_counted : (es : List Stamped) (e : Stamped) (n k : ℕ) → k ≡ changes_of e.change → n ≡ events_in es → n + k ≡ events_in (es ++ e ∷ [])
 event_counted es e n k one all = grind (arith, sum_by-append)
 
-pub returns-then-left-gt1-clause-takes : goal.returns-then-left-gt1-clause-takes
-returns-then-left-gt1-clause-takes c = λ h history.
+pub returns-then-left-gt1 : goal.returns-then-left-gt1
+returns-then-left-gt1 c = λ h history.
     let s = progress_at c.args.self.now h in
     let seen = c.read_seen-is_read.new.seen in
     let (read, begun, some, room) = sound_open s c.args.left c.requires.expected history.sound in
@@ -113,6 +113,7 @@ returns-then-left-gt1-clause-takes c = λ h history.
       };
       follows = row_taken s (c.args.left - 1) c.args.line.now (one_expected c.args.left s c.requires.expected some) seen shown.1 shown.2;
       shows = row_shows s (c.args.left - 1) c.args.line.now (one_expected c.args.left s c.requires.expected some) seen shown.1;
+      room = λ n few. let (epochs, rows, events) = few in (omega (arith, epochs), omega (arith, rows), omega (arith, events));
     }
 
 -- the station values that changed last, after a change or none
@@ -120,12 +121,17 @@ changed_or : (result change before : Option StationValues) (v : StationValues) �
 changed_or result None before v e = ap (changed_by v) e
 changed_or result (Some w) before v e = ap (changed_by v) e
 
+-- at most one event is counted
+event_room : (k : ℕ) (b : Bool) (n : ℕ) → k ≤ n → k + bool_byte b ≤ n + 1
+event_room k true n few = omega (arith, few)
+event_room k false n few = omega (arith, few)
+
 changed : (o : Option StationValues) (b : Bool) → b ≡ is_some o → bool_byte b ≡ changes_of o
 changed None b is = ap bool_byte is
 changed (Some v) b is = ap bool_byte is
 
-pub returns-clause-takes : goal.returns-clause-takes
-returns-clause-takes c = λ h history.
+pub returns : goal.returns
+returns c = λ h history.
     let s = progress_at c.args.self.now h in
     let seen = c.read_seen-is_read.new.seen in
     let (read, begun, some, room) = sound_open s c.args.left c.requires.expected history.sound in
@@ -149,4 +155,5 @@ returns-clause-takes c = λ h history.
       };
       follows = last_taken s c.args.line.now (c.requires.expected ∙ ap Satellite last) seen shown.1 shown.2;
       shows = last_shows s c.args.line.now (c.requires.expected ∙ ap Satellite last) seen shown.1;
+      room = λ n few. let (epochs, rows, events) = few in (omega (arith, epochs), omega (arith, rows), event_room _ _ n events);
     }

@@ -57,7 +57,7 @@ returns-in-Ok-clause-goes g c = λ h input read.
     let old = progress_at c.args.self.now.parser_state h in
     let new = progress_at c.take.new.self (with_line c.in-Ok.added c.take.new.self h) in
     let line = c.next_line.new.line.items in
-    let next = c.in-Ok.ensures.takes h read.history in
+    let next = c.in-Ok.ensures h read.history in
     record {
       taken = one_more old new c.args.self.now.count input _ _ line read.taken c.in-Line.ensures.found.0 c.in-Line.ensures.taken.0 (subst (GoesOnWithLine old new) c.as_slice-line.ensures.value next.follows)
           (subst (ShowsLine old new) c.as_slice-line.ensures.value next.shows);
@@ -70,7 +70,7 @@ returns-in-Ok-clause-within g c = elim c.if-self-eq-MOST_LINES.branch [
       let empty = ap length (is_empty _ (sym w.if-not-is_empty.false ∙ w.is_empty.ensures)) in
       let some = line_some _ c.in-Line.ensures.found.0 in
       absurd (omega (arith, empty, some))
-  | else-self-eq-MOST_LINES w ↦ (c.in-Ok.ensures.room _ c.requires.within.0, let few = c.requires.within.1 in omega (arith, few, w.if-self-eq-MOST_LINES.false))
+  | else-self-eq-MOST_LINES w ↦ let (h, history) = c.requires.history in ((c.in-Ok.ensures h history).room _ c.requires.within.0, let few = c.requires.within.1 in omega (arith, few, w.if-self-eq-MOST_LINES.false))
 ]
 
 pub returns-in-Err-Bad-clause-goes : goal.returns-in-Err-Bad-clause-goes
@@ -78,7 +78,7 @@ returns-in-Err-Bad-clause-goes g c = λ h input read.
     let s = progress_at c.args.self.now.parser_state h in
     let n = c.args.self.now.count in
     let line = c.next_line.new.line.items in
-    let takes = subst (λ (r : Refusal). TakesLine c.args.self.now.parser_state c.take.new.self c.as_slice-line.result.now (Err r)) c.in-Err-Bad.field-0-is c.in-Err-Bad.ensures.takes in
+    let takes = subst (λ (r : Refusal). TakesLine c.args.self.now.parser_state c.take.new.self c.as_slice-line.result.now (Err r)) c.in-Err-Bad.field-0-is c.in-Err-Bad.ensures in
     both_said input _ _ _ c.fault_at-fault.ensures.faulty
     (refused lines_are_lines s n input _ _ line read.taken c.in-Line.ensures.found.0 c.in-Line.ensures.taken.0 (subst (RefusesLine s) c.as_slice-line.ensures.value (takes h read.history)))
     (expected_at c.args.self.now.parser_state h c.args.self.now.parser_state.expected n input _ read.taken refl read.history)
