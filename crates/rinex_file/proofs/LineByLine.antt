@@ -347,13 +347,13 @@ counts_only c h input v whole is = grind (arith, said_of, counted_at)
 
 -- ---- a step, by its result
 
-pub added_more : (new : Reading) (h : History) (input left : Option (List ℕ)) (o : Option Added) (added : Added) → o ≡ Some added → ReadsNextLine new h input left (Ok o)
-    → HasRead new (with_line added new.parser_state h) input left
-added_more new h input left o added e goes = subst (λ (x : Option Added). ReadsNextLine new h input left (Ok x)) e goes
+pub added_more : (old new : Reading) (h : History) (input left : Option (List ℕ)) (o : Option Added) (added : Added) → o ≡ Some added → ReadsNextLine old new h input left (Ok o)
+    → HasRead new (with_line added new.parser_state h) input left × (new.count ≡ old.count + 1)
+added_more old new h input left o added e goes = subst (λ (x : Option Added). ReadsNextLine old new h input left (Ok x)) e goes
 
-pub the_end : (new : Reading) (h : History) (input left : Option (List ℕ)) (o : Option Added) → is_some o ≡ false → ReadsNextLine new h input left (Ok o) → IsWhole new.parser_state h input
-the_end new h input left None none goes = goes
-the_end new h input left (Some added) none goes = cc
+pub the_end : (old new : Reading) (h : History) (input left : Option (List ℕ)) (o : Option Added) → is_some o ≡ false → ReadsNextLine old new h input left (Ok o) → IsWhole new.parser_state h input
+the_end old new h input left None none goes = goes
+the_end old new h input left (Some added) none goes = cc
 
 pub file_found : (c : ParserState) (h : History) (input : Option (List ℕ)) (f : FileValue) → IsWhole c h input → f ≡ file_at c h → IsTextOf f input
 file_found c h input f whole same = grind (arith, said_of)

@@ -26,10 +26,11 @@ pub record IsTaken (s : Progress) (count : ℕ) (input left : Option (List ℕ))
 abbrev pub MayBeCounted : Reading → Type 0
 MayBeCounted r = HasRoom r.parser_state r.count × (r.count ≤ most_lines)
 
--- a history was read of the input, and this is left of it after what was read ahead
+-- a history was read of the input, this is left of it after what was read ahead, and no count is too great
 pub record HasRead (r : Reading) (h : History) (input left : Option (List ℕ)) : Type 0 where
   pub taken : IsTaken (progress_at r.parser_state h) r.count input (prepend_known r.block left)
   pub history : FollowsHistory r.parser_state h
+  pub within : MayBeCounted r
 
 -- the file of a history
 abbrev pub file_at : ParserState → History → FileValue
@@ -48,21 +49,16 @@ pub record IsWhole (c : ParserState) (h : History) (input : Option (List ℕ)) :
   pub history : FollowsHistory c h
   pub none : h.rows ≡ []
 
--- the result of the next line: a history with what the line adds, the end, or a fault
-abbrev pub ReadsNextLine : Reading → History → Option (List ℕ) → Option (List ℕ) → Result (Option Added) ReadFault
+-- the result of the next line: a history with what the line adds, and one line more; the end; or a fault
+abbrev pub ReadsNextLine : Reading → Reading → History → Option (List ℕ) → Option (List ℕ) → Result (Option Added) ReadFault
     → Type 0
-ReadsNextLine new h input left (Ok (Some added)) = HasRead new (with_line added new.parser_state h) input left
-ReadsNextLine new h input left (Ok None) = IsWhole new.parser_state h input
-ReadsNextLine new h input left (Err fault) = IfSome input (λ bytes. ExplainsFault bytes fault)
+ReadsNextLine old new h input left (Ok (Some added)) =
+    HasRead new (with_line added new.parser_state h) input left × (new.count ≡ old.count + 1)
+ReadsNextLine old new h input left (Ok None) = IsWhole new.parser_state h input
+ReadsNextLine old new h input left (Err fault) = IfSome input (λ bytes. ExplainsFault bytes fault)
 
 -- for every history that was read, the reading continues with the next line
 abbrev pub GoesOnReading : Reading → Option (List ℕ) → Reading → Option (List ℕ) → Result (Option Added) ReadFault
     → Type 0
 GoesOnReading old before new after result =
-    (h : History) (input : Option (List ℕ)) → HasRead old h input before → ReadsNextLine new h input after result
-
--- one more line was accepted
-abbrev pub CountsLine : Reading → Reading → Result (Option Added) ReadFault → Type 0
-CountsLine old new (Ok (Some added)) = new.count ≡ old.count + 1
-CountsLine old new (Ok None) = new.parser_state ≡ old.parser_state
-CountsLine old new (Err fault) = old.count ≡ old.count
+    (h : History) (input : Option (List ℕ)) → HasRead old h input before → ReadsNextLine old new h input after result

@@ -6,7 +6,7 @@ ghost use Rattle.rinex_file.specs.Blocks.{LeavesRest};
 ghost use Rattle.rinex_file.specs.Counting.{IsTextWith, IsCountedOr};
 ghost use Rattle.rinex_file.specs.FileValues.{IsFileValue};
 ghost use Rattle.rinex_file.specs.ParserState.{FollowsHistory, nothing, with_line};
-ghost use Rattle.rinex_file.specs.Read.Steps.{file_at, HasRead, MayBeCounted};
+ghost use Rattle.rinex_file.specs.Read.Steps.{file_at, HasRead};
 ghost use Rattle.rinex_file.specs.Read.Keeping.{history_of, HasReadWhole};
 
 use crate::read::expected::Added;
@@ -128,7 +128,6 @@ fn read_lines<R: Read>(
     is_stored: bool,
 ) -> Result<(), ReadFault>
     requires read { HasRead reading.old nothing (R.remaining reader.old.inner) (R.remaining reader.old.inner) }
-    requires within { MayBeCounted reading.old }
     requires none { history_of builder.old ≡ nothing }
     ensures found { OnOk result
         (HasReadWhole is_stored reading.new.parser_state builder.new (R.remaining reader.old.inner)) }

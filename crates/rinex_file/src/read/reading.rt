@@ -1,10 +1,10 @@
 //! The reading of a file, line by line.
-ghost use Rattle.std.specs.Prelude.{◌≡◌, ◌==◌, ℕ, List, Option, Err, OnOk};
+ghost use Rattle.std.specs.Prelude.{◌≡◌, ◌==◌, ℕ, List, Option, Err};
 ghost use Rattle.rtcm_bits.specs.Device.{HasFailed};
 ghost use Rattle.rinex_file.specs.Exact.{ExplainsFault, IsFaulty, IsExpectedAt};
 ghost use Rattle.rinex_file.specs.Blocks.{LeavesRest};
-ghost use Rattle.rinex_file.specs.ParserState.{History, FollowsHistory, nothing};
-ghost use Rattle.rinex_file.specs.Read.Steps.{GoesOnReading, HasRead, CountsLine, MayBeCounted};
+ghost use Rattle.rinex_file.specs.ParserState.{History, nothing};
+ghost use Rattle.rinex_file.specs.Read.Steps.{GoesOnReading, HasRead};
 
 use crate::read::expected::{Added, Expected, Refusal};
 use crate::read::fault::ReadFault;
@@ -45,8 +45,7 @@ fn fault_at(expected: Expected, number: u64) -> ReadFault
 impl Reading {
     /// Returns the reading of a file of which nothing was read.
     pub(crate) fn new(alloc: Global) -> Reading
-        ensures read { (input : Option (List ℕ)) → HasRead result nothing input input }
-        ensures within { MayBeCounted result }
+        ensures { (input : Option (List ℕ)) → HasRead result nothing input input }
     {
         Reading {
             parser_state: ParserState::new(alloc),
@@ -62,12 +61,9 @@ impl Reading {
         &mut self,
         reader: &mut Counted<R>,
     ) -> Result<Option<Added>, ReadFault>
-        requires history { (h : History) × FollowsHistory self.old.parser_state h }
-        requires within { MayBeCounted self.old }
+        requires { (h : History) × (input : Option (List ℕ)) × HasRead self.old h input (R.remaining reader.old.inner) }
         ensures goes { GoesOnReading self.old (R.remaining reader.old.inner) self.new (R.remaining reader.new.inner)
             result }
-        ensures within { OnOk result (MayBeCounted self.new) }
-        ensures counted { CountsLine self.old self.new result }
         ensures left { LeavesRest (R.remaining reader.old.inner) (R.remaining reader.new.inner) }
         ensures failed { result ≡ Err ReadFault.Read → HasFailed reader.old.failures reader.new.failures }
         ensures same { (result ≡ Err ReadFault.Read → ⊥) → reader.new.failures ≡ reader.old.failures }

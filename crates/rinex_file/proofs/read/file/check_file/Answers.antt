@@ -3,7 +3,7 @@ use Rattle.rinex_file.proofs.LineByLine.{only_faults, counts_found, counts_only}
 use Rattle.rinex_file.proofs.read.file.check_file.Goals as goal
 
 pub read_lines-read-requires-clause-read : goal.read_lines-read-requires-clause-read
-read_lines-read-requires-clause-read g c = c.new-reading.ensures.read _
+read_lines-read-requires-clause-read g c = c.new-reading.ensures _
 
 pub returns-in-Ok-clause-found : goal.returns-in-Ok-clause-found
 returns-in-Ok-clause-found g c = let (h, whole, stores) = c.in-Ok.ensures.found in counts_found _ h _ whole

@@ -11,7 +11,7 @@ use Rattle.rinex_file.proofs.LineByLine.{only_faults, no_reason, file_found, fil
 use Rattle.rinex_file.proofs.read.file.read_file.Goals as goal
 
 pub read_lines-requires-clause-read : goal.read_lines-requires-clause-read
-read_lines-requires-clause-read g c = c.new-reading.ensures.read _
+read_lines-requires-clause-read g c = c.new-reading.ensures _
 
 pub finish-requires : goal.finish-requires
 finish-requires g c =

@@ -1,4 +1,4 @@
-use Rattle.std.proofs.Common.{◌≡◌, ◌∙◌, sym, ap, refl, true, false}
+use Rattle.std.proofs.Common.{arith, ◌≡◌, ◌∙◌, sym, ap, refl, true, false}
 use Rattle.std.specs.Prelude.{is_some, Result, Ok, Err, OnOk}
 use Rattle.std.specs.Result.{is_err}
 use Rattle.rinex_file.specs.Read.Keeping.{history_of}
@@ -18,7 +18,6 @@ not_on e = cc
 pub loop-added-init : goal.loop-added-init
 loop-added-init g c = record {
   read = (nothing, c.requires.read, λ stored. c.requires.none);
-  within = c.requires.within;
   left = leaves_all _;
   same = refl;
 }
@@ -33,16 +32,25 @@ loop-added-preserved g c =
       | else-is_stored-via-else-is_stored w ↦ absurd (not_on (sym on ∙ w.if-is_stored.false))
     ] in
     record {
-      read = (k, added_more c.next.new.self h _ _ c.in-Ok-Some.field-0 c.in-Ok-Some.added c.in-Ok-Some.field-0-is (c.in-Ok-Some.ensures.goes h _ read), stored);
-      within = c.in-Ok-Some.ensures.within;
+      read = (k, (added_more c.loop-added.reading c.next.new.self h _ _ c.in-Ok-Some.field-0 c.in-Ok-Some.added c.in-Ok-Some.field-0-is (c.in-Ok-Some.ensures.goes h _ read)).0, stored);
       left = leaves_more _ _ _ inv.left c.in-Ok-Some.ensures.left;
       same = c.in-Ok-Some.ensures.same (λ e. cc) ∙ inv.same;
     }
 
+pub loop-added-smaller : goal.loop-added-smaller
+loop-added-smaller g c =
+    let (h, read, stores) = c.loop-added.invariant.read in
+    let counted = (added_more c.loop-added.reading c.next.new.self h _ _ c.in-Ok-Some.field-0 c.in-Ok-Some.added c.in-Ok-Some.field-0-is (c.in-Ok-Some.ensures.goes h _ read)).1 in
+    let few = read.within.1 in
+    omega (arith, counted, few)
+
+pub next-requires : goal.next-requires
+next-requires g c = let (h, read, stores) = c.loop-added.invariant.read in (h, _, read)
+
 pub returns-in-Ok-None-clause-found : goal.returns-in-Ok-None-clause-found
 returns-in-Ok-None-clause-found g c =
     let (h, read, stores) = c.loop-added.invariant.read in
-    (h, the_end c.next.new.self h _ _ c.in-Ok-None.field-0 (ap is_some c.in-Ok-None.field-0-is) (c.in-Ok-None.ensures.goes h _ read), stores)
+    (h, the_end c.loop-added.reading c.next.new.self h _ _ c.in-Ok-None.field-0 (ap is_some c.in-Ok-None.field-0-is) (c.in-Ok-None.ensures.goes h _ read), stores)
 
 pub returns-in-Ok-None-clause-left : goal.returns-in-Ok-None-clause-left
 returns-in-Ok-None-clause-left g c = leaves_more _ _ _ c.loop-added.invariant.left c.in-Ok-None.ensures.left

@@ -3,7 +3,7 @@ use Rattle.rinex_file.specs.Blocks.{LeavesRest}
 use Rattle.rinex_file.specs.ParserState.{History}
 use Rattle.rinex_file.specs.Exact.{most_lines}
 use Rattle.rinex_file.specs.Read.Keeping.{Stores}
-use Rattle.rinex_file.specs.Read.Steps.{HasRead, MayBeCounted}
+use Rattle.rinex_file.specs.Read.Steps.{HasRead}
 use Rattle.rinex_file.proofs.read.file.read_lines.Given as goal
 
 -- a history was read of the input, and it is stored, if one is
@@ -12,7 +12,6 @@ invariant-loop-added g l =
     let remaining = g.R.Read.remaining in
     record {
       read : (h : History) × HasRead l.reading h (remaining l.fn.reader.inner) (remaining l.reader.inner) × Stores l.is_stored l.builder h;
-      within : MayBeCounted l.reading;
       left : LeavesRest (remaining l.fn.reader.inner) (remaining l.reader.inner);
       same : l.reader.failures ≡ l.fn.reader.failures;
     }

@@ -8,5 +8,5 @@ none_ahead : (r : Option (List ℕ)) (block : List ℕ) → block ≡ [] → pre
 none_ahead None block e = refl
 none_ahead (Some x) block e = ap (λ b. Some (b ++ x)) e
 
-pub returns-clause-read : goal.returns-clause-read
-returns-clause-read c = grind (arith, none_ahead, start)
+pub returns : goal.returns
+returns c = grind (arith, none_ahead, start)

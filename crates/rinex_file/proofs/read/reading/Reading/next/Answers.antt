@@ -1,4 +1,4 @@
-use Rattle.std.proofs.Common.{refl, ◌≡◌, ◌∙◌, sym, ap, subst, ℕ, List, ◌^◌, ◌<◌, ◌≤◌, length, Err, arith}
+use Rattle.std.proofs.Common.{refl, ◌≡◌, ◌∙◌, sym, ap, subst, ℕ, List, ◌^◌, ◌+◌, ◌<◌, ◌≤◌, length, Err, arith}
 use Rattle.rinex_file.specs.declared.read.expected.Refusal.{Refusal}
 use Rattle.rinex_file.specs.ParserState.{GoesOnWithLine, ShowsLine, RefusesLine, TakesLine, progress_at, with_line}
 use Rattle.rinex_file.proofs.FileLines.{lines_are_lines}
@@ -26,7 +26,7 @@ returns-in-End-clause-goes g c = λ h input read.
     let lines = file_shown s read.taken.lines expected read.history.sound some read.taken.history.are in
     record {
       is = file_read s expected read.history.sound some;
-      few = few_lines _ read.taken.lines _ lines read.taken.many c.requires.within.1;
+      few = few_lines _ read.taken.lines _ lines read.taken.many read.within.1;
       text = whole lines_are_lines s c.args.self.now.count input _ _ c.next_line.new.line.items _ read.taken lines (is_empty _ c.if-is_empty.ensures) end.found.1 end.taken.0 (only_file s expected);
       history = read.history;
       none = sound_rows s expected read.history.sound;
@@ -52,26 +52,40 @@ returns-in-Long-clause-goes g c = λ h input read.
     both_said input _ _ _ c.fault_at-fault.ensures.faulty (over_long s c.args.self.now.count input _ _ c.next_line.new.line.items read.taken long.found.0 long.found.1 long.taken.0)
     (expected_at c.args.self.now.parser_state h c.args.self.now.parser_state.expected c.args.self.now.count input _ read.taken refl read.history)
 
+pub overflow_add-number : goal.overflow_add-number
+overflow_add-number g c = let (h, input, read) = c.requires in let few = read.within.1 in omega (arith, few)
+
+pub take-requires-clause-history : goal.take-requires-clause-history
+take-requires-clause-history g c = let (h, input, read) = c.requires in (h, read.history)
+
+pub take-requires-clause-room : goal.take-requires-clause-room
+take-requires-clause-room g c =
+    let (h, input, read) = c.requires in
+    let ((epochs, rows, events), few) = read.within in
+    (omega (arith, epochs, few), omega (arith, rows, few), omega (arith, events, few))
+
 pub returns-in-Ok-clause-goes : goal.returns-in-Ok-clause-goes
 returns-in-Ok-clause-goes g c = λ h input read.
     let old = progress_at c.args.self.now.parser_state h in
     let new = progress_at c.take.new.self (with_line c.in-Ok.added c.take.new.self h) in
     let line = c.next_line.new.line.items in
     let next = c.in-Ok.ensures h read.history in
-    record {
-      taken = one_more old new c.args.self.now.count input _ _ line read.taken c.in-Line.ensures.found.0 c.in-Line.ensures.taken.0 (subst (GoesOnWithLine old new) c.as_slice-line.ensures.value next.follows)
-          (subst (ShowsLine old new) c.as_slice-line.ensures.value next.shows);
-      history = next.history;
-    }
-
-pub returns-in-Ok-clause-within : goal.returns-in-Ok-clause-within
-returns-in-Ok-clause-within g c = elim c.if-self-eq-MOST_LINES.branch [
-  | then-self-eq-MOST_LINES+else-not-is_empty w ↦
-      let empty = ap length (is_empty _ (sym w.if-not-is_empty.false ∙ w.is_empty.ensures)) in
-      let some = line_some _ c.in-Line.ensures.found.0 in
-      absurd (omega (arith, empty, some))
-  | else-self-eq-MOST_LINES w ↦ let (h, history) = c.requires.history in ((c.in-Ok.ensures h history).room _ c.requires.within.0, let few = c.requires.within.1 in omega (arith, few, w.if-self-eq-MOST_LINES.false))
-]
+    let (room, few) = read.within in
+    let less : c.args.self.now.count + 1 ≤ 2 ^ 32 = elim c.if-self-eq-MOST_LINES.branch [
+      | then-self-eq-MOST_LINES+else-not-is_empty w ↦
+          let empty = ap length (is_empty _ (sym w.if-not-is_empty.false ∙ w.is_empty.ensures)) in
+          let some = line_some _ c.in-Line.ensures.found.0 in
+          absurd (omega (arith, empty, some))
+      | else-self-eq-MOST_LINES w ↦ omega (arith, few, w.if-self-eq-MOST_LINES.false)
+    ] in (
+      record {
+        taken = one_more old new c.args.self.now.count input _ _ line read.taken c.in-Line.ensures.found.0 c.in-Line.ensures.taken.0 (subst (GoesOnWithLine old new) c.as_slice-line.ensures.value next.follows)
+            (subst (ShowsLine old new) c.as_slice-line.ensures.value next.shows);
+        history = next.history;
+        within = (next.room _ room, less);
+      },
+      refl,
+    )
 
 pub returns-in-Err-Bad-clause-goes : goal.returns-in-Err-Bad-clause-goes
 returns-in-Err-Bad-clause-goes g c = λ h input read.
