@@ -85,7 +85,7 @@ from_one true false = refl
 from_one false true = refl
 from_one false false = refl
 
-some_rank : (gps galileo : ℕ) (s : SatelliteRow) → IsSatelliteRow gps galileo s → 1 ≤ rank_of s
+pub some_rank : (gps galileo : ℕ) (s : SatelliteRow) → IsSatelliteRow gps galileo s → 0 < rank_of s
 some_rank gps galileo s is = grind arith
 
 low_first : (gps galileo : ℕ) (rows : List SatelliteRow) → All (IsSatelliteRow gps galileo) rows → FromFirst 1 (map rank_of rows)

@@ -14,6 +14,7 @@ use Rattle.rinex_file.specs.Read.Progress.{Progress}
 use Rattle.rinex_file.specs.Read.Fields.{ReadsExactly, some_if}
 use Rattle.rinex_file.specs.ParserState.{EndsIn, IsLast, changes_of, stamped_at, events_in, progress_at, rows_in}
 use Rattle.rinex_file.proofs.BodySteps.{rise_after, rise_last, values_more, row_taken, row_shows, last_shows, no_row, bad_row, last_taken, sound_open, few_at, sound_row, sound_closed}
+use Rattle.rinex_file.proofs.FewRows.{some_rank}
 use Rattle.rinex_file.proofs.read.parser_state.ParserState.take_satellite.Goals as goal
 use Rattle.rinex_file.proofs.read.parser_state.ParserState.take_satellite.Goals.{then-not-is_read-via-then-not-is_read, then-not-is_read-via-else-not-is_read+then-rank-self}
 
@@ -42,9 +43,6 @@ shows g e gps galileo line r b seen x y z h = grind arith
 -- the last number of a list with one more item
 ends : {X : Type 0} (f : X → ℕ) (xs : List X) (x : X) (n : ℕ) → n ≡ f x → EndsIn (map f (xs ++ x ∷ [])) (Some n)
 ends f xs x n same = (map f xs, map-append f xs (x ∷ []) ∙ ap (λ m. map f xs ++ m ∷ []) (sym same))
-
-some_rank : (gps galileo : ℕ) (s : SatelliteRow) → IsSatelliteRow gps galileo s → 0 < rank_of s
-some_rank gps galileo s is = grind arith
 
 -- the ranks and a greater one are increasing, and those alone
 increasing : (gps galileo : ℕ) (rows : List SatelliteRow) (seen : SatelliteRow) (last rank : ℕ) → IsLast (map rank_of rows) last → IsSatelliteRow gps galileo seen → rank ≡ rank_of seen
