@@ -4,7 +4,7 @@ use Rattle.std.proofs.Common.{arith, ◌≡◌, ◌∙◌, sym, ap, ap₂, map, 
 use Rattle.std.specs.List.{IsDistinct}
 use Rattle.std.proofs.lemmas.List.{take_all}
 use Rattle.std.proofs.lemmas.List.Elements.{All-map, All-weaker}
-use Rattle.std.specs.Prelude.{Result, Ok, Err, codes}
+use Rattle.std.specs.Prelude.{codes}
 use Rattle.gnss_obs.specs.Signals.{SignalAt, IsSignal, table}
 use Rattle.gnss_obs.specs.declared.system.System.{System}
 use Rattle.gnss_obs.specs.declared.system.System.TheVariants.{Gps, Galileo}
@@ -192,6 +192,3 @@ zero_time t e = subst IsTime (sym e) (lit≤ tt)
 
 pub zero_values : AreValues (made_values (pos 0) (pos 0) (pos 0) 0)
 zero_values = grind arith
-
-pub ok_bad : {A E : Type 0} (r : Result A E) (a : A) (e : E) → r ≡ Ok a → r ≡ Err e → ⊥
-ok_bad r a e good bad = cc

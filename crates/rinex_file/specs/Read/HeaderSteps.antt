@@ -1,6 +1,6 @@
 -- From one line of a header to the next while its lines are read.
 use Rattle.std.specs.Prelude.{◌≡◌, ℕ, suc, ◌+◌, ◌<◌, ◌≤◌, ◌==◌, ◌||◌, ◌&&◌, nat_lt, Bool, true, false, List, [], ◌∷◌, ◌++◌, length}
-use Rattle.std.specs.Prelude.{set, take, drop, min, Option, Some, None, ⊤, ◌↔◌}
+use Rattle.std.specs.Prelude.{set, take, drop, min, Option, Some, None, Result, Ok, Err, ⊤, ◌↔◌}
 use Rattle.gnss_obs.specs.declared.cell.StationValues.{StationValues}
 use Rattle.gnss_obs.specs.Signals.{SignalAt, IsSignal, code_of, table}
 use Rattle.gnss_obs.specs.declared.system.System.{System}
@@ -13,6 +13,8 @@ use Rattle.rinex_file.specs.declared.header.rows.HeaderRow.{HeaderRow}
 use Rattle.rinex_file.specs.declared.header.rows.HeaderRow.TheVariants.{Version, Position, Delta, First, Types, Shift, End}
 use Rattle.rinex_file.specs.declared.read.expected.Expected.{Expected}
 use Rattle.rinex_file.specs.declared.read.expected.Expected.TheVariants.{Header, Epoch}
+use Rattle.rinex_file.specs.declared.read.expected.Refusal.{Refusal}
+use Rattle.rinex_file.specs.declared.read.expected.Refusal.TheVariants.{Memory, Bad}
 use Rattle.rinex_file.specs.Begun.{lines_of_header}
 use Rattle.rinex_file.specs.Blanks.{trimmed}
 use Rattle.rinex_file.specs.Texts.{HeaderLists, place_of, width_of, fault_of, fields_of, front_of}
@@ -90,6 +92,12 @@ StepsTo old place line new other = ⊥
 abbrev pub NoneGoesOn : Known → ℕ → List ℕ → Type 0
 NoneGoesOn k place line = (p : PlanValue) (h : Shown) (others left : List (List ℕ)) → MayPlan k p → IsShown h
     → lines_of_header h ++ others ≡ lines_before (shown_with k p) place ++ line ∷ left → ⊥
+
+-- the result of a line: what is expected after it, or no header continues with it
+abbrev pub TakesHeaderLine : Known → ℕ → List ℕ → Known → Result Expected Refusal → Type 0
+TakesHeaderLine old place line new (Ok next) = StepsTo old place line new next
+TakesHeaderLine old place line new (Err Bad) = NoneGoesOn old place line
+TakesHeaderLine old place line new (Err Memory) = ⊤
 
 -- no row from an index up to another has a line
 pub record SameFrom (k : Known) (place next : ℕ) : Type 0 where

@@ -1,11 +1,11 @@
 //! What was read of a header.
-ghost use Rattle.std.specs.Prelude.{◌≡◌, ◌<◌, ◌≤◌, ◌+◌, true, length, Err, IfOk, OnOk};
+ghost use Rattle.std.specs.Prelude.{◌≡◌, ◌<◌, ◌≤◌, ◌+◌, true, length, Err, OnOk};
 ghost use Rattle.gnss_obs.specs.Signals.{table};
 ghost use Rattle.gnss_obs.specs.SignalLists.{indices};
 ghost use Rattle.gnss_obs.specs.Values.{planned_of};
 ghost use Rattle.rinex_file.specs.Header.{type_rows, row_at};
 ghost use Rattle.rinex_file.specs.Read.Progress.{AreValid, IsHeadAt, announced, signals_begun};
-ghost use Rattle.rinex_file.specs.Read.HeaderSteps.{known_line, NoneGoesOn, SameFrom, StepsTo};
+ghost use Rattle.rinex_file.specs.Read.HeaderSteps.{known_line, SameFrom, TakesHeaderLine};
 ghost use Rattle.rinex_file.specs.Read.HeaderSteps.{TakesTypes, RefusesTypes, with_types, HasValues, IsOnly, ReadsOrRefuses};
 
 use crate::header::lines::{END, SHIFT, STRENGTH_UNIT, UNIT};
@@ -206,8 +206,7 @@ impl HeadSoFar {
     /// is expected after it.
     pub(crate) fn take(&mut self, from: usize, line: &[u8]) -> Result<Expected, Refusal>
         requires { IsHeadAt self.old from }
-        ensures taken { IfOk result (λ next. StepsTo self.old from line.now self.new next) }
-        ensures bad { result ≡ Err Refusal.Bad → NoneGoesOn self.old from line.now }
+        ensures { TakesHeaderLine self.old from line.now self.new result }
     {
         let place = self.place_from(from);
         match row_at(place) {

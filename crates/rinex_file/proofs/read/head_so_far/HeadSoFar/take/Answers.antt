@@ -1,19 +1,29 @@
 use Rattle.std.proofs.Common.{◌≡◌, ◌∙◌, ◌+◌, ◌<◌, sym, ap, subst, refl, ℕ, List}
-use Rattle.std.specs.Prelude.{Err}
-use Rattle.std.proofs.lemmas.Result.{err_from_is_err_and}
+use Rattle.std.specs.Prelude.{Result, Ok, Err}
+use Rattle.std.specs.Result.{IsErrAnd}
 use Rattle.gnss_obs.specs.declared.system.System.{System}
 use Rattle.rinex_file.specs.declared.header.rows.HeaderRow.{HeaderRow}
+use Rattle.rinex_file.specs.declared.read.expected.Expected.{Expected}
 use Rattle.rinex_file.specs.declared.read.expected.Expected.TheVariants.{Header, Epoch}
+use Rattle.rinex_file.specs.declared.read.expected.Refusal.{Refusal}
+use Rattle.rinex_file.specs.declared.read.expected.Refusal.TheVariants.{Memory, Bad}
 use Rattle.rinex_file.specs.declared.header.rows.HeaderRow.TheVariants.{Version, Texts, Position, Delta, Types, StrengthUnit, First, Shift, End}
 use Rattle.gnss_obs.specs.Values.{planned_of}
 use Rattle.rinex_file.specs.Header.{end_line, first_types, row_at}
 use Rattle.rinex_file.specs.Read.Progress.{Known, IsHeadAt, announced}
-use Rattle.rinex_file.specs.Read.HeaderSteps.{IsOnly, known_line, EndsHeader, NoneGoesOn, ReadsHeaderLine}
-use Rattle.rinex_file.proofs.HeaderEnd.{ends, no_end_line, ok_bad}
-use Rattle.rinex_file.proofs.HeaderRead.{begun_here, line_types, none_taken, rows_there, same_refusal}
+use Rattle.rinex_file.specs.Read.HeaderSteps.{IsOnly, known_line, EndsHeader, NoneGoesOn, ReadsHeaderLine, TakesHeaderLine}
+use Rattle.rinex_file.proofs.HeaderEnd.{ends, no_end_line}
+use Rattle.rinex_file.proofs.HeaderRead.{begun_here, line_types, none_taken, rows_there}
 use Rattle.rinex_file.proofs.HeaderSteps.{step_at, steps_from, none_at, none_from, last_at, types_few, types_place}
 use Rattle.rinex_file.proofs.Judged.{refused}
 use Rattle.rinex_file.proofs.read.head_so_far.HeadSoFar.take.Goals as goal
+
+-- a refusal that was passed on
+stopped : {Q : Refusal → Type 0} (old new : Known) (from : ℕ) (line : List ℕ) (r : Result Expected Refusal) → IsErrAnd r Q → ((e : Refusal) → Q e → e ≡ Bad → NoneGoesOn old from line)
+    → TakesHeaderLine old from line new r
+stopped {Q} old new from line (Ok next) is bad = absurd is
+stopped {Q} old new from line (Err Bad) is bad = bad Bad is refl
+stopped {Q} old new from line (Err Memory) is bad = tt
 
 -- what is known at a line of types
 abbrev at_types : (k : Known) (place : ℕ) (s : System) (row : ℕ) → IsHeadAt k place → row_at place ≡ Types s row → IsHeadAt k (first_types s + row)
@@ -35,8 +45,8 @@ take_types-requires-clause-begun c =
 not_end : (s : System) (row : ℕ) → Types s row ≡ End → ⊥
 not_end s row e = cc
 
-pub returns-in_ok-take_types-in-Types-clause-taken : goal.returns-in_ok-take_types-in-Types-clause-taken
-returns-in_ok-take_types-in-Types-clause-taken c =
+pub returns-in_ok-take_types-in-Types : goal.returns-in_ok-take_types-in-Types
+returns-in_ok-take_types-in-Types c =
     steps_from c.args.self.now c.take_types.new.self c.args.from c.place_from-place.result c.args.line.now (Header (c.place_from-place.result + 1)) c.place_from-place.ensures.same
     (step_at c.place_from-place.result c.args.line.now c.args.self.now c.take_types.new.self (Types c.in-Types.system c.in-Types.row) c.place_from-place.ensures.same.at c.place_from-place.ensures.here (sym c.row_at.ensures ∙ c.in-Types.is)
     (not_end c.in-Types.system c.in-Types.row) (read (types_few c.place_from-place.result c.in-Types.system c.in-Types.row c.place_from-place.ensures.same.at.expected (sym c.row_at.ensures ∙ c.in-Types.is))) c.are_valid.ensures) where
@@ -47,51 +57,40 @@ returns-in_ok-take_types-in-Types-clause-taken c =
           subst (ReadsHeaderLine (Types s c.in-Types.row) c.args.line.now c.args.self.now) (sym c.in_ok-take_types-in-Types.ensures.kept)
           (line_types c.args.self.now s c.in-Types.row c.args.line.now few (announced new s).count (planned_of s new.shown.plan) c.in_ok-take_types-in-Types.ensures.taken)
 
-pub returns-in_err-take_types-in-Types-clause-bad : goal.returns-in_err-take_types-in-Types-clause-bad
-returns-in_err-take_types-in-Types-clause-bad c bad =
-    let p = err_from_is_err_and c.from_residual.result c.from_residual.ensures.1 in
+pub returns-in_err-take_types-in-Types : goal.returns-in_err-take_types-in-Types
+returns-in_err-take_types-in-Types c = stopped c.args.self.now _ c.args.from c.args.line.now _ c.from_residual.ensures.1 (λ e same bad.
     let is = sym c.row_at.ensures ∙ c.in-Types.is in
     let s = c.in-Types.system in
     let row = c.in-Types.row in
     let k = c.args.self.now in
     none_from k _ _ c.args.line.now c.place_from-place.ensures.same (subst (λ n. NoneGoesOn k n c.args.line.now) (sym (types_place c.place_from-place.result s row c.place_from-place.ensures.same.at.expected is))
     (none_taken k s row c.args.line.now (types_few c.place_from-place.result s row c.place_from-place.ensures.same.at.expected is) (at_types k c.place_from-place.result s row c.place_from-place.ensures.same.at is) (sym (ap (known_line k) is) ∙ c.place_from-place.ensures.here)
-    (c.in_err-take_types-in-Types.ensures.bad (ap Err (same_refusal _ _ _ (p.1 ∙ ap Err p.2) bad)))))
+    (c.in_err-take_types-in-Types.ensures.bad (ap Err (sym same ∙ bad))))))
 
-pub returns-in-End-2-clause-bad : goal.returns-in-End-2-clause-bad
-returns-in-End-2-clause-bad c e =
+pub returns-in-End-2 : goal.returns-in-End-2
+returns-in-End-2 c =
     none_from c.args.self.now _ _ c.args.line.now c.place_from-place.ensures.same (none_at c.place_from-place.result c.args.line.now c.args.self.now End c.place_from-place.ensures.same.at c.place_from-place.ensures.here (sym c.row_at.ensures ∙ c.in-End.is)
     (no_end_line c.args.line.now (refused c.is_header_line.result (c.args.line.now ≡ end_line) c.is_header_line.ensures c.if-is_header_line.false)))
 
 at_end : (k : Known) (n : ℕ) (line : List ℕ) → n ≡ 25 → IsHeadAt k n → line ≡ end_line → EndsHeader k n line k
 at_end k n line e at same = subst (λ m. EndsHeader k m line k) (sym e) (ends k (subst (IsHeadAt k) e at) line same)
 
-pub returns-in-End-clause-taken : goal.returns-in-End-clause-taken
-returns-in-End-clause-taken c =
+pub returns-in-End : goal.returns-in-End
+returns-in-End c =
     steps_from c.args.self.now c.args.self.now c.args.from c.place_from-place.result c.args.line.now Epoch c.place_from-place.ensures.same
     (at_end c.args.self.now c.place_from-place.result c.args.line.now (last_at c.place_from-place.result c.place_from-place.ensures.same.at.expected (sym c.row_at.ensures ∙ c.in-End.is)) c.place_from-place.ensures.same.at
     (c.is_header_line.ensures.0 c.if-is_header_line.true))
 
-pub returns-in-End-clause-bad : goal.returns-in-End-clause-bad
-returns-in-End-clause-bad c e = absurd (ok_bad _ _ _ refl e)
-
-pub returns-in_ok-take_types-in-Types-clause-bad : goal.returns-in_ok-take_types-in-Types-clause-bad
-returns-in_ok-take_types-in-Types-clause-bad c e = absurd (ok_bad _ _ _ refl e)
-
 pub returns-then-not-read_header_line : goal.returns-then-not-read_header_line
-returns-then-not-read_header_line c = record {
-  taken = tt;
-  bad = λ e. none_from c.args.self.now _ _ c.args.line.now c.place_from-place.ensures.same (none_at c.place_from-place.result c.args.line.now c.args.self.now c.row_at.result c.place_from-place.ensures.same.at c.place_from-place.ensures.here (sym c.row_at.ensures)
-      (rw c.if-not-read_header_line.true at c.read_header_line.ensures));
-}
+returns-then-not-read_header_line c =
+    none_from c.args.self.now _ _ c.args.line.now c.place_from-place.ensures.same (none_at c.place_from-place.result c.args.line.now c.args.self.now c.row_at.result c.place_from-place.ensures.same.at c.place_from-place.ensures.here (sym c.row_at.ensures)
+    (rw c.if-not-read_header_line.true at c.read_header_line.ensures))
 
 pub returns-else-not-read_header_line : goal.returns-else-not-read_header_line
-returns-else-not-read_header_line c = record {
-  taken = steps_from c.args.self.now c.read_header_line.new.self c.args.from c.place_from-place.result c.args.line.now (Header (c.place_from-place.result + 1)) c.place_from-place.ensures.same
-      (step_at c.place_from-place.result c.args.line.now c.args.self.now c.read_header_line.new.self c.row_at.result c.place_from-place.ensures.same.at c.place_from-place.ensures.here (sym c.row_at.ensures) c.in_default.not-End
-      (rw c.if-not-read_header_line.false at c.read_header_line.ensures) c.are_valid-in_default.ensures);
-  bad = λ e. absurd (ok_bad _ _ _ refl e);
-}
+returns-else-not-read_header_line c =
+    steps_from c.args.self.now c.read_header_line.new.self c.args.from c.place_from-place.result c.args.line.now (Header (c.place_from-place.result + 1)) c.place_from-place.ensures.same
+    (step_at c.place_from-place.result c.args.line.now c.args.self.now c.read_header_line.new.self c.row_at.result c.place_from-place.ensures.same.at c.place_from-place.ensures.here (sym c.row_at.ensures) c.in_default.not-End
+    (rw c.if-not-read_header_line.false at c.read_header_line.ensures) c.are_valid-in_default.ensures)
 
 sole : (r : HeaderRow) → ((s : System) (i : ℕ) → r ≡ Types s i → ⊥) → (r ≡ End → ⊥) → IsOnly r
 sole Version other far = tt

@@ -1,11 +1,12 @@
-use Rattle.std.proofs.Common.{◌≡◌, ◌<◌, ℕ, List, ap, subst, sym, ◌∙◌, Err}
+use Rattle.std.proofs.Common.{◌≡◌, ◌<◌, ℕ, List, subst, sym, ◌∙◌, Err}
 use Rattle.rinex_file.specs.declared.read.parser_state.ParserState.{ParserState}
 use Rattle.rinex_file.specs.declared.read.expected.Added.TheVariants.{NoRow}
 use Rattle.rinex_file.specs.declared.read.expected.Expected.{Expected}
 use Rattle.rinex_file.specs.declared.read.expected.Expected.TheVariants.{Header, Epoch, EventPosition, EventHeight, EventEpoch, Satellite}
+use Rattle.rinex_file.specs.declared.read.expected.Refusal.{Refusal}
 use Rattle.rinex_file.specs.ParserState.{History, FollowsHistory, IsNext, progress_at}
 use Rattle.rinex_file.specs.Read.Progress.{Known}
-use Rattle.rinex_file.specs.Read.HeaderSteps.{StepsTo}
+use Rattle.rinex_file.specs.Read.HeaderSteps.{StepsTo, TakesHeaderLine}
 use Rattle.rinex_file.proofs.BodySteps.{still_room, stopped}
 use Rattle.rinex_file.proofs.EventSteps.{event_taken, event_shows, sound_event, position_taken, position_shows, no_position, sound_position}
 use Rattle.rinex_file.proofs.HeaderBody.{no_header, header_taken, header_shows, header_ended, ended_shows, sound_start, sound_header}
@@ -14,7 +15,7 @@ use Rattle.rinex_file.proofs.read.parser_state.ParserState.take.Goals as goal
 pub returns-in_err-self-in-Header : goal.returns-in_err-self-in-Header
 returns-in_err-self-in-Header c = stopped c.args.self.now _ c.args.line.now _ c.from_residual.ensures.1 (λ e same bad h history.
     let s = progress_at c.args.self.now h in
-    no_header s c.in-Header.place c.args.line.now c.in-Header.is (sound_header s c.in-Header.place c.in-Header.is history.sound).2 (c.in_err-self-in-Header.ensures.bad (ap Err (sym same ∙ bad))))
+    no_header s c.in-Header.place c.args.line.now c.in-Header.is (sound_header s c.in-Header.place c.in-Header.is history.sound).2 (subst (λ (r : Refusal). TakesHeaderLine c.args.self.now.head c.in-Header.place c.args.line.now c.take.new.self (Err r)) (sym same ∙ bad) c.in_err-self-in-Header.ensures))
 
 abbrev at_head : ParserState → Known → Expected → ParserState
 at_head c k expected = record c { expected = expected; head = k }
@@ -46,7 +47,7 @@ headed c h place line k (EventEpoch v) expected history goes = absurd goes
 headed c h place line k (Satellite n) expected history goes = absurd goes
 
 pub returns-in_ok-self-in-Header : goal.returns-in_ok-self-in-Header
-returns-in_ok-self-in-Header c = λ h history. headed c.args.self.now h c.in-Header.place c.args.line.now c.take.new.self _ c.in-Header.is history c.in_ok-self-in-Header.ensures.taken
+returns-in_ok-self-in-Header c = λ h history. headed c.args.self.now h c.in-Header.place c.args.line.now c.take.new.self _ c.in-Header.is history c.in_ok-self-in-Header.ensures
 
 pub returns-in-Epoch : goal.returns-in-Epoch
 returns-in-Epoch c = λ h history.
