@@ -4,6 +4,7 @@ use Rattle.std.proofs.lemmas.List.{map_more}
 use Rattle.std.proofs.lemmas.List.Sums.{fold-append}
 use Rattle.clap.specs.Walk.{Rule, Text, is_empty, rule_of}
 use Rattle.clap.specs.Simple.{App, app_of, built, app_of_fields, is_simple, new_app, on_top, with_rule, with_subcommand}
+use Rattle.clap.specs.Built.{AddsArg}
 use Rattle.clap.specs.Faults.{is_free_app, is_simple_and_free}
 use Rattle.clap.proofs.OnLiterals.{clap_on_literals}
 use Rattle.clap.specs.Kinds.{FailsBy, HasKind, Kinds}
@@ -14,7 +15,7 @@ use Rattle.rtcm2rinex.specs.declared.commands.OptionRow.{OptionRow}
 use Rattle.rtcm2rinex.specs.declared.commands.Options.TheVariants as options
 use Rattle.rtcm2rinex.specs.declared.commands.Tables.{Tables}
 use Rattle.clap.specs.declared.builder.value_parser.ValueParser.TheVariants as value
-use Rattle.rtcm2rinex.specs.CommandLine.{AddsCommand, AddsOption, FailsParsing, Makes, RefusesWords, command_set, more_of, option_set, program, rows_of, with_commands, with_options}
+use Rattle.rtcm2rinex.specs.CommandLine.{AddsCommand, FailsParsing, Makes, RefusesWords, command_set, more_of, option_set, program, rows_of, with_commands, with_options}
 use Rattle.clap.specs.Values.{kind_of}
 use Rattle.clap.specs.declared.error.kind.ErrorKind.TheVariants as kind
 use Rattle.clap.specs.declared.builder.arg.Arg.{Arg}
@@ -63,11 +64,9 @@ versioned c d e a t version wants was =
     ∙ ap (on_top (λ s. record s { subcommand_required = true; has_version = true })) was
 
 -- one more option
-pub with_option : {E : Type 0} (old new : Result Command E) (app : App) (r : Rule) → AddsOption old r new → Makes old app → r.is_simple ≡ true
-    → Makes new (with_rule app r)
-with_option old (Err e) app r added was simple = tt
-with_option old (Ok new) app r (command, a, same, is, added) was simple =
-    added.shape (local a r is simple) ∙ ap₂ with_rule (subst (λ c. Makes c app) same was) is
+pub with_option : (old new : Command) (a : Arg) (app : App) (r : Rule) → AddsArg old a new → app_of old ≡ app → rule_of a ≡ r → r.is_simple ≡ true
+    → app_of new ≡ with_rule app r
+with_option old new a app r added was is simple = added.shape (local a r is simple) ∙ ap₂ with_rule was is
 
 -- an option of a row is read by clap's definitions
 pub simple_given : (row : OptionRow) → (option_set row).is_simple ≡ true
@@ -85,12 +84,11 @@ plain_given tables row =
     plain first (map option_set (more_of tables row.options)) ∙ plain (new_app row.name.now) (map option_set (rows_of tables row.options))
 
 -- one more command
-pub with_command : {E : Type 0} (old sub new : Result Command E) (app below : App) → AddsCommand old sub new → Makes old app → Makes sub below
+pub with_command : {E : Type 0} (old new : Result Command E) (app below : App) → AddsCommand old below new → Makes old app
     → below.top.is_plain ≡ true → Makes new (with_subcommand app below.top)
-with_command old sub (Err e) app below added was is plain = tt
-with_command old sub (Ok new) app below (command, made, same, same_sub, added) was is plain =
-    let below_is = subst (λ c. Makes c below) same_sub is in
-    added.shape (has_local made below below_is plain) ∙ ap₂ with_subcommand (subst (λ c. Makes c app) same was) (ap (λ (x : App). x.top) below_is)
+with_command old (Err e) app below added was plain = tt
+with_command old (Ok new) app below (command, sub, same, is, added) was plain =
+    added.shape (has_local sub below is plain) ∙ ap₂ with_subcommand (subst (λ c. Makes c app) same was) (ap (λ (x : App). x.top) is)
 
 -- clap's definitions read the words by these commands and options
 pub is_read : (names : Bor (List (Bor Text))) → is_simple_and_free (program names) ≡ true

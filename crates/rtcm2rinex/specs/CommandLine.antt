@@ -2,10 +2,10 @@
 -- the manual page.
 use Rattle.std.specs.Prelude.{◌≡◌, ◌⊎◌, pos, true, List, [], ◌∷◌, map, fold, codes, Some, Result, Ok, IfOk}
 use Rattle.std.specs.Borrow.{Bor}
-use Rattle.clap.specs.Walk.{Row, Rule, Text, rule_of}
+use Rattle.clap.specs.Walk.{Row, Rule, Text}
 use Rattle.clap.specs.Simple.{App, app_of, new_app, new_rule, on_top, subcommand_of, subcommand_rows_of, with_rule}
 use Rattle.clap.specs.Simple.{with_subcommand}
-use Rattle.clap.specs.Built.{AddsArg, AddsSubcommand}
+use Rattle.clap.specs.Built.{AddsSubcommand}
 use Rattle.clap.specs.Faults.{fault_of}
 use Rattle.clap.specs.Kinds.{IsAmong}
 use Rattle.clap.specs.Values.{kind_of}
@@ -13,7 +13,6 @@ use Rattle.clap.specs.declared.error.Error.{Error}
 use Rattle.clap.specs.declared.error.kind.ErrorKind.{ErrorKind}
 use Rattle.clap.specs.declared.error.kind.ErrorKind.TheVariants as kind
 use Rattle.clap.specs.declared.parser.matches.ArgMatches.{ArgMatches}
-use Rattle.clap.specs.declared.builder.arg.Arg.{Arg}
 use Rattle.clap.specs.declared.builder.command.Command.{Command}
 use Rattle.clap.specs.declared.builder.value_parser.ValueParser.{ValueParser}
 use Rattle.clap.specs.declared.builder.value_parser.ValueParser.TheVariants as value
@@ -154,17 +153,11 @@ AreTables tables =
 abbrev pub Makes : {E : Type 0} → Result Command E → App → Type 0
 Makes command a = IfOk command (λ c. app_of c ≡ a)
 
--- The result is the given command with one more option or one more command, unless memory ran out.
-abbrev pub AddsOption : {E : Type 0} → Result Command E → Rule → Result Command E → Type 0
-AddsOption old rule new =
-    IfOk new
-    (λ made. (command : Command) × (option : Arg) × (old ≡ Ok command) × (rule_of option ≡ rule)
-    × AddsArg command option made)
-
-abbrev pub AddsCommand : {E : Type 0} → (old below new : Result Command E) → Type 0
+-- The result is the given command with one more command, which has this definition, unless memory ran out.
+abbrev pub AddsCommand : {E : Type 0} → (old : Result Command E) → App → (new : Result Command E) → Type 0
 AddsCommand old below new =
     IfOk new
-    (λ made. (command sub : Command) × (old ≡ Ok command) × (below ≡ Ok sub) × AddsSubcommand command sub made)
+    (λ made. (command sub : Command) × (old ≡ Ok command) × (app_of sub ≡ below) × AddsSubcommand command sub made)
 
 -- the names of the program's commands
 abbrev pub IsCommand : Text → Type 0

@@ -25,12 +25,14 @@ pub fn parse<'a>(alloc: Global, words: &'a [&'a str]) -> Result<ArgMatches<'a>, 
     let start = described(alloc, &tables.program)
         .version(tables.version)
         .subcommand_required(true);
-    let program = with_commands(alloc, Ok(start), &tables)?;
-    program.try_get_matches_from(words)
+    match with_commands(alloc, Ok(start), &tables) {
+        Ok(program) => program.try_get_matches_from(words),
+        Err(error) => Err(Error::from(error)),
+    }
 }
 
-// The functions that follow accept and return the result of an allocation, so that the loops have
-// no early exit at which they would have to drop the commands made before.
+// The functions that follow accept and return the result of an allocation, so that no loop has an
+// early exit at which it would have to drop the commands made before.
 
 /// Returns the program with a command for each row.
 fn with_commands<'a>(
@@ -43,30 +45,29 @@ fn with_commands<'a>(
 {
     let mut program = program;
     for row in tables.commands {
-        program = with_command(program, command(alloc, tables, row));
+        program = with_command(alloc, program, tables, row);
     }
     program
 }
 
 /// Returns the program with one more command.
 fn with_command<'a>(
+    alloc: Global,
     program: Result<Command<'a>, AllocError>,
-    command: Result<Command<'a>, AllocError>,
+    tables: &Tables<'a>,
+    row: &CommandRow<'a>,
 ) -> Result<Command<'a>, AllocError>
-    ensures { line.AddsCommand program.entry command.entry result }
+    ensures { line.AddsCommand program.entry (command_set tables.now row.now) result }
 {
     match program {
-        Ok(program) => match command {
+        Ok(program) => match command(alloc, tables, row) {
             Ok(command) => program.subcommand(command),
             Err(error) => {
                 drop(program);
                 Err(error)
             }
         },
-        Err(error) => {
-            drop(command);
-            Err(error)
-        }
+        Err(error) => Err(error),
     }
 }
 
@@ -92,23 +93,12 @@ fn with_options<'a>(
 {
     let mut command = command;
     for row in rows {
-        command = with_option(alloc, command, row);
+        command = match command {
+            Ok(command) => command.arg(option(alloc, row)),
+            Err(error) => Err(error),
+        };
     }
     command
-}
-
-/// Returns a command with one more option.
-fn with_option<'a>(
-    alloc: Global,
-    command: Result<Command<'a>, AllocError>,
-    row: &OptionRow<'a>,
-) -> Result<Command<'a>, AllocError>
-    ensures { line.AddsOption command.entry (option_set row.now) result }
-{
-    match command {
-        Ok(command) => command.arg(option(alloc, row)),
-        Err(error) => Err(error),
-    }
 }
 
 /// Returns a command with its help texts.

@@ -11,5 +11,5 @@ loop-row-preserved c = λ a made.
     let before = with_commands a (map (command_set tables) (take c.loop-row.row-index rows)) in
     IfOk-weaker c.with_command-program.result _ _
     (λ x is. is ∙ one_command_more tables a rows c.loop-row.row-index no_command c.loop-row-test.true)
-    (with_command c.loop-row.program c.command.result c.with_command-program.result before _ c.with_command-program.ensures (c.loop-row.invariant a made) c.command.ensures
+    (with_command c.loop-row.program c.with_command-program.result before _ c.with_command-program.ensures (c.loop-row.invariant a made)
     (plain_given tables (get_or rows c.loop-row.row-index no_command)))
