@@ -1,5 +1,5 @@
 -- The end of a check of a file.
-use Rattle.std.proofs.Common.{◌≡◌, refl, sym, subst, ℕ, List, Option, Some, None, Result, Ok, Err, IfSome}
+use Rattle.std.proofs.Common.{◌≡◌, ◌∙◌, ◌∷◌, ◌++◌, [], ap, codes, decimal, length, refl, sym, subst, ℕ, List, Option, Some, None, Result, Ok, Err, IfSome}
 use Rattle.rtcm_bits.specs.Device.{Device, HasFailed}
 use Rattle.rinex_file.specs.Exact.{IsNoFault}
 use Rattle.rinex_file.specs.Value.{FileValue}
@@ -14,6 +14,9 @@ use Rattle.rtcm2rinex.specs.declared.fault.ToolFault.{ToolFault}
 use Rattle.rtcm2rinex.specs.declared.fault.ToolFault.TheVariants as faults
 use Rattle.rtcm2rinex.specs.Devices.{Ends, ReadFailures}
 use Rattle.rtcm2rinex.specs.Printing.{EndsPrinting}
+use Rattle.rinex_file.specs.ParserState.{rows_in}
+use Rattle.rtcm2rinex.specs.Lines.{line}
+use Rattle.rtcm2rinex.proofs.LineLemmas.{add_count, add_text, add_word, end_line}
 use Rattle.rtcm2rinex.specs.Checking.{check_line, ChecksFile, IsCheckedOr, StopsChecking}
 
 -- a property of known bytes
@@ -43,9 +46,22 @@ read_failures (BadSatellite k) before after failed same = same (λ e. cc)
 read_failures (CutShort k) before after failed same = same (λ e. cc)
 read_failures TooLong before after failed same = same (λ e. cc)
 
--- the line built is that of the file
-pub line_of : (line : List ℕ) (counts : Counts) (v : FileValue) → ((f : FileValue) → AreCounts counts f → line ≡ check_line f) → AreCounts counts v → line ≡ check_line v
-line_of line counts v shows are = shows v are
+abbrev count_words : (epochs satellites events : ℕ) → List (List ℕ)
+count_words epochs satellites events = decimal epochs ∷ codes "satellites" ∷ decimal satellites ∷ codes "events" ∷ decimal events ∷ []
+
+-- the line of the counts is that of the file
+pub line_built : (counts : Counts) (v : FileValue) {none start epochs satellites events text : List ℕ} → none ≡ [] → start ≡ none ++ codes "epochs" → epochs ≡ start ++ 0x20 ∷ decimal counts.epochs
+    → satellites ≡ (epochs ++ 0x20 ∷ codes "satellites") ++ 0x20 ∷ decimal counts.satellites → events ≡ (satellites ++ 0x20 ∷ codes "events") ++ 0x20 ∷ decimal counts.events
+    → text ≡ events ++ 0x0A ∷ [] → AreCounts counts v → text ≡ check_line v
+unfolding check_line
+line_built counts v none start epochs satellites events text are =
+    let first = add_word epochs (add_text start none refl) refl in
+    let second = add_count (codes "satellites") (decimal counts.satellites) satellites first in
+    let third = add_count (codes "events") (decimal counts.events) events second in
+    end_line [] (codes "epochs") (count_words counts.epochs counts.satellites counts.events) text third
+    ∙ ap (λ (n : ℕ). line (codes "epochs" ∷ count_words n counts.satellites counts.events)) are.epochs
+    ∙ ap (λ (n : ℕ). line (codes "epochs" ∷ count_words (length v.epochs) n counts.events)) are.satellites
+    ∙ ap (λ (n : ℕ). line (codes "epochs" ∷ count_words (length v.epochs) (rows_in v.epochs) n)) are.events
 
 -- the counts of a file were printed, or a part of them
 pub checked : {R W : Type 0} (left : R → Option (List ℕ)) (held : W → Option (List ℕ)) (r r2 : Device R) (w w2 : Device W) (ended : Result ⊤ ToolFault) (v : FileValue)

@@ -1,32 +1,15 @@
 //! The command `check`: whether the input is a file as `convert` writes it, and its counts.
-ghost use Rattle.std.specs.Prelude.{◌≡◌};
-ghost use Rattle.rinex_file.specs.Value.{FileValue};
 ghost use Rattle.rinex_file.specs.Blocks.{LeavesRest};
-ghost use Rattle.rinex_file.specs.Counting.{AreCounts};
 ghost use Rattle.rtcm_convert.specs.Moves.{Moves};
 ghost use Rattle.rtcm2rinex.specs.Devices.{Ends};
-ghost use Rattle.rtcm2rinex.specs.Checking.{check_line, AcceptsFiles, ChecksFile, StopsChecking};
+ghost use Rattle.rtcm2rinex.specs.Checking.{AcceptsFiles, ChecksFile, StopsChecking};
 
 use crate::fault::ToolFault;
 use crate::line::{OutputLine, print_text};
-use rinex_file::{Counts, check_file};
+use rinex_file::check_file;
 use rtcm_bits::Counted;
 use std::alloc::Global;
 use std::io::{Read, Write};
-
-/// Returns the line of a file: its numbers of epochs, satellite lines and events.
-#[tactic(auto, unfolding(crate::specs::Checking::check_line))]
-fn check_line(counts: Counts) -> OutputLine
-    ensures { (v : FileValue) → AreCounts counts v → result ≡ check_line v }
-{
-    let mut line = OutputLine::new();
-    line.put(b"epochs");
-    line.add_number(counts.epochs);
-    line.add_count("satellites", counts.satellites);
-    line.add_count("events", counts.events);
-    line.finish();
-    line
-}
 
 /// Reads a file to its end and writes its numbers of epochs, satellite lines and events. It is
 /// accepted exactly if it is encoded as `convert` encodes files.
@@ -52,7 +35,15 @@ pub fn run_check<R: Read, W: Write>(
     ensures only { Moves R.remaining reader.old reader.new W.contents writer.old writer.new (AcceptsFiles result) }
 {
     match check_file(alloc, reader) {
-        Ok(counts) => print_text(check_line(counts).as_bytes(), writer),
+        Ok(counts) => {
+            let mut line = OutputLine::new();
+            line.put(b"epochs");
+            line.add_number(counts.epochs);
+            line.add_count("satellites", counts.satellites);
+            line.add_count("events", counts.events);
+            line.finish();
+            print_text(line.as_bytes(), writer)
+        }
         Err(fault) => Err(ToolFault::Check(fault)),
     }
 }

@@ -6,7 +6,7 @@ ghost use Rattle.rtcm_msg.specs.Station.{InRange};
 ghost use Rattle.rtcm_msg.specs.Views.{message_number};
 ghost use Rattle.rtcm2rinex.specs.FrameLines.{frame_line, frame_lines, number_word};
 ghost use Rattle.rtcm2rinex.specs.Lines.{with_words};
-ghost use Rattle.rtcm2rinex.specs.ShowLines.{fault_line, fault_words, height_words};
+ghost use Rattle.rtcm2rinex.specs.ShowLines.{fault_words, height_words};
 ghost use Rattle.rtcm2rinex.specs.ShowLines.{msm_line, show_line, show_lines, station_line};
 ghost use Rattle.rtcm2rinex.specs.Listing.{EndsListing, listing_line, listing_lines};
 
@@ -143,7 +143,8 @@ fn add_frame(line: &mut OutputLine, frame: &Frame)
     line.finish();
 }
 
-/// Adds the line of a frame's message, if it is read or refused.
+/// Adds the line of a frame's message, if it is read or refused. That of a refused message is its
+/// offset, number and fault.
 // Inlined into the loop of `frames`, its buffers would be cleared for every frame.
 #[inline(never)]
 fn add_message(line: &mut OutputLine, frame: &Frame)
@@ -157,7 +158,12 @@ fn add_message(line: &mut OutputLine, frame: &Frame)
             View::Msm(msm) => add_msm(line, frame.offset, msm),
             View::Other { .. } => {}
         },
-        Err(fault) => add_refused(line, frame.offset, message, fault),
+        Err(fault) => {
+            line.put_number(frame.offset);
+            add_message_number(line, message);
+            add_fault(line, fault);
+            line.finish();
+        }
     }
 }
 
@@ -218,18 +224,6 @@ fn add_msm(line: &mut OutputLine, offset: u64, msm: &MsmView<'_>)
     line.add_number(msm.satellites() as u64);
     line.add_number(msm.masks().signals().count_ones() as u64);
     line.add_number(msm.cells() as u64);
-    line.finish();
-}
-
-/// Adds the line of a refused message: offset, number and fault.
-fn add_refused(line: &mut OutputLine, offset: u64, message: &[u8], fault: MsgFault)
-    requires room { length line.old ≤ 80 }
-    requires short { length message.now ≤ longest_message }
-    ensures { line.new ≡ line.old ++ fault_line offset message.now fault }
-{
-    line.put_number(offset);
-    add_message_number(line, message);
-    add_fault(line, fault);
     line.finish();
 }
 

@@ -1,12 +1,12 @@
 //! The values of the options of the commands.
 ghost use Rattle.std.specs.Prelude.{◌≡◌, ◌≤◌, ◌<◌, ◌^◌, IfSome, MatchOption};
-ghost use Rattle.std.specs.Prelude.{MatchResult, None, Some, codes, length, not};
+ghost use Rattle.std.specs.Prelude.{MatchResult, None, Some, codes, not};
 ghost use Rattle.clap.specs.Walk.{one_of};
 ghost use Rattle.std.specs.Str.{bytes_eq};
 ghost use Rattle.obs_epoch.specs.Kinds.{is_by_bit};
 ghost use Rattle.rinex_file.specs.TextsOf.{lists_of};
 ghost use Rattle.rtcm2rinex.specs.Lengths.{coordinate_of, cut, decimals_of};
-ghost use Rattle.rtcm2rinex.specs.Lengths.{length_below, length_of, number_of, only_digits_in, position_of};
+ghost use Rattle.rtcm2rinex.specs.Lengths.{length_below, length_of, number_of, position_of};
 ghost use Rattle.rtcm2rinex.specs.SetupOptions.{IsNumberOf, IsSetupOf, IsSetupRefused};
 ghost use Rattle.rtcm2rinex.specs.SetupOptions.{options_of, text_set, texts_set, values_by_message};
 
@@ -194,21 +194,12 @@ fn number_of(text: &str, most: usize) -> Option<u64>
     ensures value { result ≡ number_of most text.now }
     ensures small { IfSome result (λ n. n < 10 ^ 8) }
 {
-    if text.is_empty() || text.len() > most {
-        None
-    } else {
-        digits_in(text.as_bytes())
+    let digits = text.as_bytes();
+    if digits.is_empty() || digits.len() > most {
+        return None;
     }
-}
-
-/// Returns the digits of a text as one number, or `None` if it has another byte.
-fn digits_in(text: &[u8]) -> Option<u64>
-    requires { length text.now ≤ 8 }
-    ensures value { result ≡ only_digits_in text.now }
-    ensures bound { IfSome result (λ n. n < 10 ^ 8) }
-{
     let mut number = 0;
-    for b in text {
+    for b in digits {
         if !b.is_ascii_digit() {
             return None;
         }

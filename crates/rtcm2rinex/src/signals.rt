@@ -16,7 +16,7 @@ ghost use Rattle.rtcm2rinex.specs.Fitting.{antenna_words, options_line, options_
 ghost use Rattle.rtcm2rinex.specs.Fitting.{point_of, station_of, station_words};
 ghost use Rattle.rtcm2rinex.specs.Lines.{with_words};
 ghost use Rattle.rtcm2rinex.specs.SignalOutput.{EndsSignals};
-ghost use Rattle.rtcm2rinex.specs.Signals.{codes_word, count_line, count_lines, had, letter, plan_had, signals_text};
+ghost use Rattle.rtcm2rinex.specs.Signals.{codes_word, count_line, count_lines, had, signals_text};
 
 use crate::fault::ToolFault;
 use crate::line::{OutputLine, print_text};
@@ -49,7 +49,10 @@ pub fn run_signals<R: Read, W: Write>(
         R.remaining reader.old reader.new W.contents writer.old writer.new }
 {
     let signals = read_signals(alloc, station, reader)?;
-    print_text(count_lines(&signals.signal_counts).as_slice(), writer)
+    let mut text = ArrayVec::new();
+    add_lines(&mut text, &signals.signal_counts, System::Gps);
+    add_lines(&mut text, &signals.signal_counts, System::Galileo);
+    print_text(text.as_slice(), writer)
 }
 
 /// Writes a line of the options of `convert` that fit the stream: the signals of the cells that
@@ -68,7 +71,14 @@ pub fn run_options<R: Read, W: Write>(
         R.remaining reader.old reader.new W.contents writer.old writer.new }
 {
     let signals = read_signals(alloc, station, reader)?;
-    print_text(options_line(&signals).as_bytes(), writer)
+    let mut line = OutputLine::new();
+    line.put(b"--gps");
+    add_codes(&mut line, &signals.signal_counts, System::Gps);
+    line.add_word("--galileo");
+    add_codes(&mut line, &signals.signal_counts, System::Galileo);
+    add_station(&mut line, signals.first);
+    line.finish();
+    print_text(line.as_bytes(), writer)
 }
 
 // ---- the signals of a stream
@@ -93,30 +103,21 @@ impl FrameSink<()> for StreamSignals {
 
     ghost broke = { NeverFails };
 
+    /// Counts the cells of the frame's message, and keeps the first station message.
     fn take(&mut self, frame: &Frame, _out: &mut ()) -> Result<(), DeviceFailed> {
-        count_frame(self, frame);
-        Ok(())
+        match look(frame.message.as_slice()) {
+            Ok(view) => {
+                self.signal_counts.count_view(self.station, &view);
+                self.first = first_of(self.first, self.station, &view);
+                Ok(())
+            }
+            // A refused message has no cells.
+            Err(_) => Ok(()),
+        }
     }
 
     fn send(&self, _out: &mut ()) -> Result<(), DeviceFailed> {
         Ok(())
-    }
-}
-
-/// Counts the cells of a frame's message, and keeps the first station message. A refused message
-/// has no cells.
-fn count_frame(signals: &mut StreamSignals, frame: &Frame)
-    ensures same { signals.new.station ≡ signals.old.station }
-    ensures counts { (fs : List Framed) → length fs < 2 ^ 56
-        → IsCounted signals.old.signal_counts signals.old.station fs
-        → IsCounted signals.new.signal_counts signals.old.station (fs ++ framed frame.now ∷ []) }
-    ensures first { signals.new.first
-        ≡ option_or signals.old.first (station_of signals.old.station (framed frame.now)) }
-    ensures in_range { IfSome signals.old.first InRange → IfSome signals.new.first InRange }
-{
-    if let Ok(view) = look(frame.message.as_slice()) {
-        signals.signal_counts.count_view(signals.station, &view);
-        signals.first = first_of(signals.first, signals.station, &view);
     }
 }
 
@@ -183,17 +184,6 @@ fn read_signals<R: Read>(
 
 // ---- the table of `signals`
 
-/// Returns a line for each signal that has a cell.
-fn count_lines(signal_counts: &SignalCounts) -> ArrayVec<u8, TEXT_BYTES>
-    ensures { (cells : List HeardCell) → AreSignalCounts signal_counts.now cells
-        → result.items ≡ count_lines cells Gps ++ count_lines cells Galileo }
-{
-    let mut text = ArrayVec::new();
-    add_lines(&mut text, signal_counts, System::Gps);
-    add_lines(&mut text, signal_counts, System::Galileo);
-    text
-}
-
 /// Adds a line for each signal of a system that has a cell.
 fn add_lines(text: &mut ArrayVec<u8, TEXT_BYTES>, signal_counts: &SignalCounts, system: System)
     requires { length text.old.items ≤ 512 }
@@ -217,21 +207,11 @@ fn count_line(system: System, index: usize, count: u64) -> OutputLine
     ensures short { length result ≤ 26 }
 {
     let mut line = OutputLine::new();
-    line.put(letter(system).as_bytes());
+    line.put(&[system.letter()]);
     line.add_part(b' ', code_at(system, index).as_slice());
     line.add_number(count);
     line.finish();
     line
-}
-
-/// Returns the letter of a system in RINEX.
-fn letter(system: System) -> &'static str
-    ensures { result.now ≡ letter system }
-{
-    match system {
-        System::Gps => "G",
-        System::Galileo => "E",
-    }
 }
 
 /// Returns the RINEX code of the signal at an index of a system's table, in ASCII.
@@ -244,23 +224,6 @@ fn code_at(system: System, index: usize) -> [u8; 2]
 }
 
 // ---- the line of `options`
-
-/// Returns the line of the options that plan the counted signals, and of those of the station
-/// message.
-fn options_line(signals: &StreamSignals) -> OutputLine
-    requires { IfSome signals.now.first InRange }
-    ensures { (cells : List HeardCell) → AreSignalCounts signals.now.signal_counts cells
-        → result ≡ options_line (plan_had cells) signals.now.first }
-{
-    let mut line = OutputLine::new();
-    line.put(b"--gps");
-    add_codes(&mut line, &signals.signal_counts, System::Gps);
-    line.add_word("--galileo");
-    add_codes(&mut line, &signals.signal_counts, System::Galileo);
-    add_station(&mut line, signals.first);
-    line.finish();
-    line
-}
 
 /// Adds a word, the codes of the signals of a system that have a cell, separated by commas, or
 /// `none`.

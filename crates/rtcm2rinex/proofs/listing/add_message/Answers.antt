@@ -1,9 +1,12 @@
-use Rattle.std.proofs.Common.{◌∙◌, ◌++◌, ap, sym, append-nil, ℕ, List, Err}
+use Rattle.std.proofs.Common.{◌∙◌, ◌∷◌, ◌++◌, ap, sym, refl, append-nil, decimal, ℕ, List, Err}
 use Rattle.rtcm_scan.specs.Results.{framed}
 use Rattle.rtcm_msg.specs.Viewed.{viewed_message}
 use Rattle.rtcm_msg.specs.Views.{formed}
 use Rattle.rtcm_msg.specs.declared.message.Message.TheVariants.{Station, Other}
-use Rattle.rtcm2rinex.specs.ShowLines.{station_line, fault_line}
+use Rattle.rtcm2rinex.specs.FrameLines.{number_word}
+use Rattle.rtcm2rinex.specs.Lines.{with_words}
+use Rattle.rtcm2rinex.specs.ShowLines.{station_line, fault_line, fault_words}
+use Rattle.rtcm2rinex.proofs.LineLemmas.{add_word, end_line}
 use Rattle.rtcm2rinex.proofs.ShowLemmas.{shown, shown_value, shown_msm}
 use Rattle.rtcm2rinex.proofs.listing.add_message.Goals as goal
 
@@ -28,8 +31,13 @@ returns-in-Other c =
     sym (ap (λ (l : List ℕ). c.args.line.now ++ l) none ∙ append-nil c.args.line.now)
 
 pub returns-in-Err : goal.returns-in-Err
+unfolding fault_line
 returns-in-Err c =
     let f = framed c.args.frame.now in
-    c.add_refused.ensures
+    let message = c.as_slice-message.result.now in
+    let words = fault_words c.in-Err.fault in
+    let number = add_word c.add_message_number.ensures.text c.put_number.ensures.text refl in
+    let fault = c.add_fault.ensures.text ∙ ap (λ (t : List ℕ). with_words t words) number in
+    end_line c.args.line.now (decimal f.offset) (number_word message ∷ words) c.finish.ensures fault
     ∙ ap (λ (l : List ℕ). c.args.line.now ++ l)
     (ap (λ m. fault_line f.offset m c.in-Err.fault) c.as_slice-message.ensures.value ∙ sym (shown f (Err c.in-Err.fault) c.as_slice-message.ensures.value c.in-Err.ensures.exact))
