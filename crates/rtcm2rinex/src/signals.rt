@@ -12,7 +12,7 @@ ghost use Rattle.gnss_obs.specs.HeardCells.{HeardCell};
 ghost use Rattle.obs_epoch.specs.SignalCounts.{AreSignalCounts, signal_in};
 ghost use Rattle.rtcm2rinex.specs.Counting.{HasCounted, IsCounted, StopsCounting};
 ghost use Rattle.rtcm2rinex.specs.Devices.{CountsReader};
-ghost use Rattle.rtcm2rinex.specs.Fitting.{antenna_words, options_line, options_text};
+ghost use Rattle.rtcm2rinex.specs.Fitting.{options_line, options_text};
 ghost use Rattle.rtcm2rinex.specs.Fitting.{point_of, station_of, station_words};
 ghost use Rattle.rtcm2rinex.specs.Lines.{with_words};
 ghost use Rattle.rtcm2rinex.specs.SignalOutput.{EndsSignals};
@@ -245,7 +245,8 @@ fn add_codes(line: &mut OutputLine, signal_counts: &SignalCounts, system: System
     }
 }
 
-/// Adds the options of a station message, if there is one.
+/// Adds the options of a station message, if there is one: the position, and the antenna height of
+/// a 1006.
 fn add_station(line: &mut OutputLine, station: Option<StationParts>)
     requires room { length line.old ≤ 150 }
     requires in_range { IfSome station InRange }
@@ -257,18 +258,9 @@ fn add_station(line: &mut OutputLine, station: Option<StationParts>)
         line.add_metres(b'=', station.x);
         line.add_metres(b',', station.y);
         line.add_metres(b',', station.z);
-        add_height(line, station.height);
-    }
-}
-
-/// Adds the option of the antenna height of a 1006.
-fn add_height(line: &mut OutputLine, height: Option<u16>)
-    requires { length line.old ≤ 260 }
-    ensures text { line.new ≡ with_words line.old (antenna_words height) }
-    ensures short { length line.new ≤ length line.old + 44 }
-{
-    if let Some(height) = height {
-        line.add_word("--antenna-height");
-        line.add_metres(b' ', i64::from(height));
+        if let Some(height) = station.height {
+            line.add_word("--antenna-height");
+            line.add_metres(b' ', i64::from(height));
+        }
     }
 }

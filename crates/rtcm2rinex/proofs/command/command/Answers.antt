@@ -24,13 +24,13 @@ returns-in-Ok-clause-refused g c =
 
 pub returns-in-Err-clause-good : goal.returns-in-Err-clause-good
 returns-in-Err-clause-good g c = λ e. (let good = c.answer-status.ensures.good e in
-    inr (is_version (texts c.args.words.now) c.in-Err.error c.in-Err.ensures.refused good.0, refl, good.1))
+    inr (is_version (texts c.args.words.now) c.in-Err.error c.in-Err.ensures.refused good.0, refl {a = c.args.reader.now}, good.1))
 
 pub returns-in-Err-clause-stopped : goal.returns-in-Err-clause-stopped
 returns-in-Err-clause-stopped g c = λ e.
     answered_in_part g.R.Read.remaining g.W.Write.contents c.args.reader.now c.args.reader.now c.args.writer.now c.answer-status.new.writer (texts c.args.words.now)
-    c.in-Err.error c.in-Err.ensures.refused (c.answer-status.ensures.stopped e) refl
+    c.in-Err.error c.in-Err.ensures.refused (c.answer-status.ensures.stopped e) (refl {a = c.args.reader.now})
 
 pub returns-in-Err-clause-refused : goal.returns-in-Err-clause-refused
 returns-in-Err-clause-refused g c = λ e. (let refused = c.answer-status.ensures.refused e in
-    (refused_words (texts c.args.words.now) c.in-Err.error c.in-Err.ensures.refused refused.0 refused.1, (refl, refused.2)))
+    (refused_words (texts c.args.words.now) c.in-Err.error c.in-Err.ensures.refused refused.0 refused.1, (refl {a = c.args.reader.now}, refused.2)))

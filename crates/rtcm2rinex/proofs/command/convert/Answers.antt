@@ -1,4 +1,5 @@
 use Rattle.std.proofs.Common.{◌≡◌, ◌∙◌, sym, inr, Result, Ok, Err}
+use Rattle.rtcm_convert.specs.Made.{IsMade, IsReportOf}
 use Rattle.rtcm_convert.specs.SetupValues.{start_at}
 use Rattle.rtcm_convert.specs.declared.fault.Fault.TheVariants.{BadSetup}
 use Rattle.rtcm_convert.specs.declared.report.Report.{Report}
@@ -24,7 +25,8 @@ returns-in-Ok g c =
         start_at c.in_ok-setup.setup c.in_ok-initial.initial,
         (c.in_ok-setup.ensures, sym c.values_of.ensures ∙ c.in_ok-initial.was),
         (λ bad. let no : ◌≡◌ {A = Result Report ToolFault} (Ok c.in-Ok.report) (Err (faults.Convert BadSetup)) = end.bad_setup.1 bad in cc),
-        file_made _ _ (g.R.Read.remaining c.args.reader.now.inner) end.ends.1,
+        file_made (IsMade (start_at c.in_ok-setup.setup c.in_ok-initial.initial) (g.W.Write.contents c.args.writer.now.inner) (g.W.Write.contents c.run_convert_at.new.writer.inner))
+            (IsReportOf (start_at c.in_ok-setup.setup c.in_ok-initial.initial) c.in-Ok.report) (g.R.Read.remaining c.args.reader.now.inner) end.ends.1,
       ),
     )
 
