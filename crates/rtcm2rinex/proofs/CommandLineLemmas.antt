@@ -4,7 +4,7 @@ use Rattle.std.proofs.lemmas.List.{map_more}
 use Rattle.std.proofs.lemmas.List.Sums.{fold-append}
 use Rattle.clap.specs.Walk.{Rule, Text, is_empty, rule_of}
 use Rattle.clap.specs.Simple.{App, app_of, built, app_of_fields, is_simple, new_app, on_top, with_rule, with_subcommand}
-use Rattle.clap.specs.Built.{AddsArg}
+use Rattle.clap.specs.Built.{AddsArg, AddsSubcommand}
 use Rattle.clap.specs.Faults.{is_free_app, is_simple_and_free}
 use Rattle.clap.proofs.OnLiterals.{clap_on_literals}
 use Rattle.clap.specs.Kinds.{FailsBy, HasKind, Kinds}
@@ -15,7 +15,7 @@ use Rattle.rtcm2rinex.specs.declared.commands.OptionRow.{OptionRow}
 use Rattle.rtcm2rinex.specs.declared.commands.Options.TheVariants as options
 use Rattle.rtcm2rinex.specs.declared.commands.Tables.{Tables}
 use Rattle.clap.specs.declared.builder.value_parser.ValueParser.TheVariants as value
-use Rattle.rtcm2rinex.specs.CommandLine.{AddsCommand, FailsParsing, Makes, RefusesWords, command_set, more_of, option_set, program, rows_of, with_commands, with_options}
+use Rattle.rtcm2rinex.specs.CommandLine.{FailsParsing, RefusesWords, command_set, more_of, option_set, program, rows_of, with_commands, with_options}
 use Rattle.clap.specs.Values.{kind_of}
 use Rattle.clap.specs.declared.error.kind.ErrorKind.TheVariants as kind
 use Rattle.clap.specs.declared.builder.arg.Arg.{Arg}
@@ -84,11 +84,10 @@ plain_given tables row =
     plain first (map option_set (more_of tables row.options)) ∙ plain (new_app row.name.now) (map option_set (rows_of tables row.options))
 
 -- one more command
-pub with_command : {E : Type 0} (old new : Result Command E) (app below : App) → AddsCommand old below new → Makes old app
-    → below.top.is_plain ≡ true → Makes new (with_subcommand app below.top)
-with_command old (Err e) app below added was plain = tt
-with_command old (Ok new) app below (command, sub, same, is, added) was plain =
-    added.shape (has_local sub below is plain) ∙ ap₂ with_subcommand (subst (λ c. Makes c app) same was) (ap (λ (x : App). x.top) is)
+pub with_command : (old sub new : Command) (app below : App) → AddsSubcommand old sub new → app_of old ≡ app → app_of sub ≡ below → below.top.is_plain ≡ true
+    → app_of new ≡ with_subcommand app below.top
+with_command old sub new app below added was is plain =
+    added.shape (has_local sub below is plain) ∙ ap₂ with_subcommand was (ap (λ (x : App). x.top) is)
 
 -- clap's definitions read the words by these commands and options
 pub is_read : (names : Bor (List (Bor Text))) → is_simple_and_free (program names) ≡ true

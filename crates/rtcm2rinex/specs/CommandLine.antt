@@ -1,11 +1,10 @@
 -- The program's command line: its commands and their options, by which clap's definitions read words. They agree with
 -- the manual page.
-use Rattle.std.specs.Prelude.{◌≡◌, ◌⊎◌, pos, true, List, [], ◌∷◌, map, fold, codes, Some, Result, Ok, IfOk}
+use Rattle.std.specs.Prelude.{◌≡◌, ◌⊎◌, pos, true, List, [], ◌∷◌, map, fold, codes, Some, Result, IfOk}
 use Rattle.std.specs.Borrow.{Bor}
 use Rattle.clap.specs.Walk.{Row, Rule, Text}
 use Rattle.clap.specs.Simple.{App, app_of, new_app, new_rule, on_top, subcommand_of, subcommand_rows_of, with_rule}
 use Rattle.clap.specs.Simple.{with_subcommand}
-use Rattle.clap.specs.Built.{AddsSubcommand}
 use Rattle.clap.specs.Faults.{fault_of}
 use Rattle.clap.specs.Kinds.{IsAmong}
 use Rattle.clap.specs.Values.{kind_of}
@@ -152,12 +151,6 @@ AreTables tables =
 -- if the command was made, its definition is this one
 abbrev pub Makes : {E : Type 0} → Result Command E → App → Type 0
 Makes command a = IfOk command (λ c. app_of c ≡ a)
-
--- The result is the given command with one more command, which has this definition, unless memory ran out.
-abbrev pub AddsCommand : {E : Type 0} → (old : Result Command E) → App → (new : Result Command E) → Type 0
-AddsCommand old below new =
-    IfOk new
-    (λ made. (command sub : Command) × (old ≡ Ok command) × (app_of sub ≡ below) × AddsSubcommand command sub made)
 
 -- the names of the program's commands
 abbrev pub IsCommand : Text → Type 0

@@ -45,30 +45,18 @@ fn with_commands<'a>(
 {
     let mut program = program;
     for row in tables.commands {
-        program = with_command(alloc, program, tables, row);
+        program = match program {
+            Ok(program) => match command(alloc, tables, row) {
+                Ok(command) => program.subcommand(command),
+                Err(error) => {
+                    drop(program);
+                    Err(error)
+                }
+            },
+            Err(error) => Err(error),
+        };
     }
     program
-}
-
-/// Returns the program with one more command.
-fn with_command<'a>(
-    alloc: Global,
-    program: Result<Command<'a>, AllocError>,
-    tables: &Tables<'a>,
-    row: &CommandRow<'a>,
-) -> Result<Command<'a>, AllocError>
-    ensures { line.AddsCommand program.entry (command_set tables.now row.now) result }
-{
-    match program {
-        Ok(program) => match command(alloc, tables, row) {
-            Ok(command) => program.subcommand(command),
-            Err(error) => {
-                drop(program);
-                Err(error)
-            }
-        },
-        Err(error) => Err(error),
-    }
 }
 
 /// Returns a command with its help and its options.
