@@ -1,19 +1,16 @@
 //! The commands `signals` and `options`: the signals of a stream, as a table and as options.
-ghost use Rattle.std.specs.Prelude.{◌≡◌, ◌+◌, ◌*◌, ◌<◌, ◌≤◌, ◌^◌, [], ◌∷◌, ◌++◌, List, IfOk, IfErr, IfSome, length};
+ghost use Rattle.std.specs.Prelude.{◌≡◌, ◌+◌, ◌*◌, ◌<◌, ◌≤◌, ◌^◌, ◌∷◌, ◌++◌, List, IfOk, IfErr, IfSome, length};
 ghost use Rattle.std.specs.Option.{option_or};
 ghost use Rattle.gnss_obs.specs.Signals.{table, code_of};
 ghost use Rattle.gnss_obs.specs.declared.system.System.TheVariants.{Gps, Galileo};
 ghost use Rattle.rtcm_msg.specs.Station.{InRange};
 ghost use Rattle.rtcm_msg.specs.Viewed.{viewed_message};
-ghost use Rattle.rtcm_scan.specs.Results.{framed};
-ghost use Rattle.rtcm_scan.specs.Frames.{Framed};
 ghost use Rattle.obs_epoch.specs.Heard.{heard};
 ghost use Rattle.gnss_obs.specs.HeardCells.{HeardCell};
 ghost use Rattle.obs_epoch.specs.SignalCounts.{AreSignalCounts, signal_in};
-ghost use Rattle.rtcm2rinex.specs.Counting.{HasCounted, IsCounted, StopsCounting};
+ghost use Rattle.rtcm2rinex.specs.Counting.{HasCounted, StopsCounting};
 ghost use Rattle.rtcm2rinex.specs.Devices.{CountsReader};
-ghost use Rattle.rtcm2rinex.specs.Fitting.{options_line, options_text};
-ghost use Rattle.rtcm2rinex.specs.Fitting.{point_of, station_of, station_words};
+ghost use Rattle.rtcm2rinex.specs.Fitting.{options_text, point_of, station_words};
 ghost use Rattle.rtcm2rinex.specs.Lines.{with_words};
 ghost use Rattle.rtcm2rinex.specs.SignalOutput.{EndsSignals};
 ghost use Rattle.rtcm2rinex.specs.Signals.{codes_word, count_line, count_lines, had, signals_text};
