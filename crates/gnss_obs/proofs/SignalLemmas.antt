@@ -45,7 +45,7 @@ test_of : (b : Bool) (i : ℕ) → is_some (cond b (Some i) None) ≡ b
 test_of true i = refl
 test_of false i = refl
 
--- The place of a signal tells whether it is in the list.
+-- A signal is in the list if and only if it has a place.
 pub is_held : (places : List (Option ℕ)) (ss : List SignalAt) (n i : ℕ) (b : Bool) → AreFound places (indices ss) → n ≡ i → i < 19 → b ≡ is_some (get_or places n None)
     → list_any (λ (r : SignalAt). i == r.index) ss ≡ b
 is_held places ss n i b found same less is =
