@@ -1,12 +1,12 @@
 -- The lock records: their values after a closing, and their number.
-use Rattle.std.proofs.Common.{[], ◌≡◌, ℕ, zero, suc, ◌+◌, ◌<◌, set, Bool, true, false, ◌||◌, ap₂, List, ◌∷◌, ◌++◌, map, filter, refl, sym, ap, ◌∙◌, subst, arith, length, append_assoc, append-nil, length-append, Option, Some, None, is_some, get_or, replicate}
+use Rattle.std.proofs.Common.{[], ◌≡◌, ℕ, zero, suc, ◌+◌, Bool, true, false, ◌||◌, ap₂, List, ◌∷◌, ◌++◌, map, filter, refl, sym, ap, ◌∙◌, subst, arith, length, append_assoc, append-nil, length-append, Option, Some, None, is_some, get_or, replicate}
 use Rattle.std.specs.Prelude.{if◌then◌else◌, cond, find, option_and_then}
 use Rattle.std.specs.Option.{option_map_or, option_or}
 use Rattle.std.specs.List.{IsDistinct, AllByRecursion}
 use Rattle.std.proofs.lemmas.Map.Keys.{IsDistinct-head, IsDistinct-tail}
 use Rattle.std.proofs.lemmas.Map.Steps.{list_any_congr}
 use Rattle.std.proofs.lemmas.List.{length-set}
-use Rattle.std.proofs.lemmas.List.Sums.{sum_by-cons, sum_by-set}
+use Rattle.std.proofs.lemmas.List.Sums.{sum_by-cons}
 use Rattle.std.proofs.lemmas.List.Elements.{filter-append}
 use Rattle.obs_epoch.specs.Cells.{is_among, has_listed_key, firsts}
 use Rattle.gnss_obs.specs.HeardCells.{has_same_key}
@@ -98,14 +98,6 @@ is_new xs y = if is_among xs y then 0 else 1
 
 length_firsts-push : (xs : List HeardCell) (y : HeardCell) → length (firsts (xs ++ y ∷ [])) ≡ length (firsts xs) + is_new xs y
 length_firsts-push xs y = grind (arith, common_steps, firsts-push, length-append, new_key)
-
--- The number of records after one is set.
-pub recorded-set : (ts : List (Option KnownLock)) (i : ℕ) (d : Option KnownLock) (l : KnownLock) → i < length ts
-    → recorded (set ts i (Some l)) ≡ recorded ts + (if is_some (get_or ts i d) then 0 else 1)
-recorded-set ts i d l h = by (is_some (get_or ts i d)) (recorded (set ts i (Some l))) (recorded ts) (sum_by-set (λ o. cond (is_some {T = KnownLock} o) 1 0) ts i (Some l) d h) where
-  by : (b : Bool) (n m : ℕ) → n + cond b 1 0 ≡ m + 1 → n ≡ m + (if b then 0 else 1)
-  by true n m e = omega (arith, e)
-  by false n m e = omega (arith, e)
 
 recorded-put : (ts : List (Option KnownLock)) (x : HeardCell) (l : KnownLock) → has_listed_key x ≡ true → length ts ≡ most_locks → recorded (put ts x l) ≡ recorded ts + (if is_some (lookup ts x) then 0 else 1)
 recorded-put ts x l k size = grind (arith, common_steps)

@@ -84,8 +84,11 @@ impl Locks {
     {
         if x.l.is_some() && x.lock.least().is_some() {
             let entry = lock_place(x);
-            self.count += self.records[entry].is_none() as usize;
+            let is_new = self.records[entry].is_none();
             self.records[entry] = Some(KnownLock { time, lock: x.lock });
+            if is_new {
+                self.count += 1;
+            }
         }
     }
 }
