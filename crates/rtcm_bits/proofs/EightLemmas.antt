@@ -105,13 +105,13 @@ into_bytes x h m l a b c rest e j k =
 abbrev next_entry : ℕ → ℕ
 next_entry x = bit_xor (bit_and x 65535 * 256) (get_or TABLES (x / 65536) 0)
 
-tables_go_on : drop 256 TABLES ≡ map next_entry (take 1792 TABLES)
+tables_go_on : drop 256 TABLES ≡ map next_entry (take 3840 TABLES)
 tables_go_on = refl
 
-entry_after : (j : ℕ) → j < 1792 → get_or TABLES (256 + j) 0 ≡ next_entry (get_or TABLES j 0)
+entry_after : (j : ℕ) → j < 3840 → get_or TABLES (256 + j) 0 ≡ next_entry (get_or TABLES j 0)
 entry_after j h =
-    sym (get_or-drop 256 TABLES j 0) ∙ ap (λ (t : List ℕ). get_or t j 0) tables_go_on ∙ get_or-map next_entry (take 1792 TABLES) j 0 0 (omega (arith, h, length-take-le 1792 TABLES (lit≤ tt)))
-    ∙ ap next_entry (get_or-take 1792 TABLES j 0 h)
+    sym (get_or-drop 256 TABLES j 0) ∙ ap (λ (t : List ℕ). get_or t j 0) tables_go_on ∙ get_or-map next_entry (take 3840 TABLES) j 0 0 (omega (arith, h, length-take-le 3840 TABLES (lit≤ tt)))
+    ∙ ap next_entry (get_or-take 3840 TABLES j 0 h)
 
 zero_after : (m : List ℕ) → next_entry (crc m) ≡ crc (m ++ 0 ∷ [])
 zero_after m =
@@ -126,7 +126,7 @@ zero_after m =
     check_push m (crc m) (next_entry (crc m)) 0 refl (xor_lt 24 (bit_and (crc m) 65535 * 256) (get_or TABLES (crc m / 65536) 0) l r)
     (table_step (crc m) (next_entry (crc m)) 0 (get_or TABLES (crc m / 65536) 0) b (lit< tt) e refl)
 
-pub entry_right : (k i : ℕ) → i < 256 → k < 8 → get_or TABLES (k * 256 + i) 0 ≡ crc (i ∷ replicate k 0)
+pub entry_right : (k i : ℕ) → i < 256 → k < 16 → get_or TABLES (k * 256 + i) 0 ≡ crc (i ∷ replicate k 0)
 entry_right zero i h l = let z : 0 * 256 + i ≡ i = omega arith in ap (λ (n : ℕ). get_or TABLES n 0) z ∙ table_right i h
 entry_right (suc k) i h l =
     let z : suc k * 256 + i ≡ 256 + (k * 256 + i) = omega arith in
@@ -144,11 +144,15 @@ entries_check : (c : ℕ) (rest : List ℕ) → crc (c ∷ rest) ≡ entries (c 
 entries_check c [] = refl
 entries_check c (d ∷ rest) = check_front c (d ∷ rest) ∙ ap (λ (n : ℕ). bit_xor n (crc (c ∷ replicate (length (d ∷ rest)) 0))) (entries_check d rest)
 
-eight_steps_sum : (x h m l a b c d e f g i y : ℕ) → x ≡ h * 65536 + (m * 256 + l) → m < 256 → l < 256
-    → y ≡ entries (bit_xor h a ∷ bit_xor m b ∷ bit_xor l c ∷ d ∷ e ∷ f ∷ g ∷ i ∷ []) → uint 24 y ≡ after_bits (uint 24 x) (bits_of (a ∷ b ∷ c ∷ d ∷ e ∷ f ∷ g ∷ i ∷ []))
-eight_steps_sum x h m l a b c d e f g i y p j k q =
-    let rest : List ℕ = d ∷ e ∷ f ∷ g ∷ i ∷ [] in
-    ap (uint 24) (q ∙ sym (entries_check (bit_xor h a) (bit_xor m b ∷ bit_xor l c ∷ rest))) ∙ sym (into_bytes x h m l a b c rest p j k)
+pub steps_sum : (x a b c : ℕ) (rest : List ℕ) (y : ℕ) → x < 2 ^ 24 → y ≡ entries (bit_xor (x / 65536) a ∷ bit_xor (x / 256 % 256) b ∷ bit_xor (x % 256) c ∷ rest)
+    → (y < 2 ^ 24) × (uint 24 y ≡ after_bits (uint 24 x) (bits_of (a ∷ b ∷ c ∷ rest)))
+steps_sum x a b c rest y h q =
+    let first : ℕ = bit_xor (x / 65536) a in
+    let others : List ℕ = bit_xor (x / 256 % 256) b ∷ bit_xor (x % 256) c ∷ rest in
+    let e : y ≡ crc (bit_xor (x / 65536) a ∷ bit_xor (x / 256 % 256) b ∷ bit_xor (x % 256) c ∷ rest) = q ∙ sym (entries_check first others) in (
+      rw e (check_below (first ∷ others)),
+      ap (uint 24) e ∙ sym (into_bytes x (x / 65536) (x / 256 % 256) (x % 256) a b c rest (omega arith) (omega arith) (omega arith)),
+    )
 
 pub eight_right : (x : ℕ) (xs : List ℕ) (e0 e1 e2 e3 e4 e5 e6 e7 : ℕ) → x < 2 ^ 24 → length xs ≡ 8
     → e0 ≡ crc (get_or xs 7 0 ∷ []) → e1 ≡ crc (get_or xs 6 0 ∷ replicate 1 0) → e2 ≡ crc (get_or xs 5 0 ∷ replicate 2 0) → e3 ≡ crc (get_or xs 4 0 ∷ replicate 3 0)
@@ -158,11 +162,9 @@ pub eight_right : (x : ℕ) (xs : List ℕ) (e0 e1 e2 e3 e4 e5 e6 e7 : ℕ) → 
     × (uint 24 (bit_xor (bit_xor (bit_xor (bit_xor (bit_xor (bit_xor (bit_xor e0 e1) e2) e3) e4) e5) e6) e7) ≡ after_bits (uint 24 x) (bits_of xs))
 eight_right x xs e0 e1 e2 e3 e4 e5 e6 e7 h n p0 p1 p2 p3 p4 p5 p6 p7 =
     let y : ℕ = bit_xor (bit_xor (bit_xor (bit_xor (bit_xor (bit_xor (bit_xor e0 e1) e2) e3) e4) e5) e6) e7 in
-    let first : ℕ = bit_xor (x / 65536) (get_or xs 0 0) in
-    let rest : List ℕ = bit_xor (x / 256 % 256) (get_or xs 1 0) ∷ bit_xor (x % 256) (get_or xs 2 0) ∷ get_or xs 3 0 ∷ get_or xs 4 0 ∷ get_or xs 5 0 ∷ get_or xs 6 0 ∷ get_or xs 7 0 ∷ [] in
-    let q : y ≡ entries (first ∷ rest) = rw (p0, p1, p2, p3, p4, p5, p6, p7) refl in
-    let b : entries (first ∷ rest) < 2 ^ 24 = rw (← entries_check first rest) (check_below (first ∷ rest)) in (
-      rw q b,
-      eight_steps_sum x (x / 65536) (x / 256 % 256) (x % 256) (get_or xs 0 0) (get_or xs 1 0) (get_or xs 2 0) (get_or xs 3 0) (get_or xs 4 0) (get_or xs 5 0) (get_or xs 6 0) (get_or xs 7 0) y
-          (omega arith) (omega arith) (omega arith) q ∙ ap (λ (t : List ℕ). after_bits (uint 24 x) (bits_of t)) (sym (eight_of xs n)),
+    let rest : List ℕ = get_or xs 3 0 ∷ get_or xs 4 0 ∷ get_or xs 5 0 ∷ get_or xs 6 0 ∷ get_or xs 7 0 ∷ [] in
+    let q : y ≡ entries (bit_xor (x / 65536) (get_or xs 0 0) ∷ bit_xor (x / 256 % 256) (get_or xs 1 0) ∷ bit_xor (x % 256) (get_or xs 2 0) ∷ rest) = rw (p0, p1, p2, p3, p4, p5, p6, p7) refl in
+    let s = steps_sum x (get_or xs 0 0) (get_or xs 1 0) (get_or xs 2 0) rest y h q in (
+      s.0,
+      s.1 ∙ ap (λ (t : List ℕ). after_bits (uint 24 x) (bits_of t)) (sym (eight_of xs n)),
     )

@@ -9,6 +9,7 @@ pub mod RegisterLemmas
 pub mod ResidueLemmas
 pub mod TableLemmas
 pub mod EightLemmas
+pub mod SixteenLemmas
 pub mod WordLemmas
 pub mod WindowLemmas
 pub mod DeviceLemmas

@@ -61,7 +61,8 @@ pub fn crc24q(bytes: &[u8]) -> u32
     after_all(0, bytes)
 }
 
-/// Returns the register after these bytes, processed eight at a time and the rest one by one.
+/// Returns the register after these bytes, processed sixteen at a time, then eight, and the rest one
+/// by one.
 fn after_all(register: u32, bytes: &[u8]) -> u32
     requires { register < 2 ^ 24 }
     ensures bound { result < 2 ^ 24 }
@@ -69,11 +70,24 @@ fn after_all(register: u32, bytes: &[u8]) -> u32
 {
     let mut after = register;
     let mut taken = 0;
-    while bytes.len() - taken >= 8 {
-        after = after_eight(after, &bytes[taken..taken + 8]);
-        taken += 8;
+    while bytes.len() - taken >= 16 {
+        after = after_sixteen(after, &bytes[taken..taken + 16]);
+        taken += 16;
     }
-    after_each(after, &bytes[taken..])
+    after_fewer(after, &bytes[taken..])
+}
+
+/// Returns the register after these few bytes, processed eight at once if there are as many, and the
+/// rest one by one.
+fn after_fewer(register: u32, bytes: &[u8]) -> u32
+    requires { register < 2 ^ 24 }
+    ensures bound { result < 2 ^ 24 }
+    ensures steps { uint 24 result ≡ after_bits (uint 24 register) (bits_of bytes.now) }
+{
+    if bytes.len() < 8 {
+        return after_each(register, bytes);
+    }
+    after_each(after_eight(register, &bytes[..8]), &bytes[8..])
 }
 
 /// Returns the register after these bytes, processed one by one.
@@ -108,6 +122,34 @@ fn after_eight(register: u32, bytes: &[u8]) -> u32
         ^ entry(5, third)
         ^ entry(6, second)
         ^ entry(7, first)
+}
+
+/// Returns the register after sixteen bytes, in the way of `after_eight`.
+fn after_sixteen(register: u32, bytes: &[u8]) -> u32
+    requires below { register < 2 ^ 24 }
+    requires sixteen { length bytes.now ≡ 16 }
+    ensures bound { result < 2 ^ 24 }
+    ensures steps { uint 24 result ≡ after_bits (uint 24 register) (bits_of bytes.now) }
+{
+    let first = (register / 65536) as u8 ^ bytes[0];
+    let second = (register / 256 % 256) as u8 ^ bytes[1];
+    let third = (register % 256) as u8 ^ bytes[2];
+    entry(0, bytes[15])
+        ^ entry(1, bytes[14])
+        ^ entry(2, bytes[13])
+        ^ entry(3, bytes[12])
+        ^ entry(4, bytes[11])
+        ^ entry(5, bytes[10])
+        ^ entry(6, bytes[9])
+        ^ entry(7, bytes[8])
+        ^ entry(8, bytes[7])
+        ^ entry(9, bytes[6])
+        ^ entry(10, bytes[5])
+        ^ entry(11, bytes[4])
+        ^ entry(12, bytes[3])
+        ^ entry(13, third)
+        ^ entry(14, second)
+        ^ entry(15, first)
 }
 
 /// Returns the register after the eight bits of a byte, by the first table.

@@ -11,18 +11,18 @@ loop-taken-init c = record { within = omega arith; bound = c.requires; steps = n
 pub loop-taken-preserved : goal.loop-taken-preserved
 loop-taken-preserved c =
     let t : ℕ = c.loop-taken.taken in
-    let z : t + 8 - t ≡ 8 = omega arith in
+    let z : t + 16 - t ≡ 16 = omega arith in
     record {
       within = omega (arith, c.loop-taken-test.true, c.loop-taken.invariant.within);
-      bound = c.after_eight-after.ensures.bound;
-      steps = steps_more (uint 24 c.args.register) (take t c.args.bytes.now) _ (take (t + 8) c.args.bytes.now) c.loop-taken.after c.after_eight-after.result
-          (take-add t 8 c.args.bytes.now ∙ ap (λ (n : ℕ). take t c.args.bytes.now ++ take n (drop t c.args.bytes.now)) (sym z))
-          c.loop-taken.invariant.steps c.after_eight-after.ensures.steps;
+      bound = c.after_sixteen-after.ensures.bound;
+      steps = steps_more (uint 24 c.args.register) (take t c.args.bytes.now) _ (take (t + 16) c.args.bytes.now) c.loop-taken.after c.after_sixteen-after.result
+          (take-add t 16 c.args.bytes.now ∙ ap (λ (n : ℕ). take t c.args.bytes.now ++ take n (drop t c.args.bytes.now)) (sym z))
+          c.loop-taken.invariant.steps c.after_sixteen-after.ensures.steps;
     }
 
 pub returns-clause-steps : goal.returns-clause-steps
 returns-clause-steps c =
     let t : ℕ = c.loop-taken.taken in
-    steps_more (uint 24 c.args.register) (take t c.args.bytes.now) _ c.args.bytes.now c.loop-taken.after c.after_each.result
+    steps_more (uint 24 c.args.register) (take t c.args.bytes.now) _ c.args.bytes.now c.loop-taken.after c.after_fewer.result
     (sym (take-append-drop t c.args.bytes.now) ∙ ap (λ l. take t c.args.bytes.now ++ l) (sym (take_rest c.args.bytes.now t)))
-    c.loop-taken.invariant.steps c.after_each.ensures.steps
+    c.loop-taken.invariant.steps c.after_fewer.ensures.steps
