@@ -234,29 +234,37 @@ fn is_after_last(cells: &[Cell], plan: &Plan, system: System, x: SortKey) -> boo
     plan.place_among(system, cell.signal).unwrap_or(0) < x.place
 }
 
-// Returns whether a sort key is less than another: by satellite, then by index in the plan.
-fn is_before(a: SortKey, b: SortKey) -> bool
-    ensures { result ≡ is_before a b }
-{
-    a.satellite < b.satellite || a.satellite == b.satellite && a.place < b.place
-}
-
-// Returns the number of cells whose sort key isn't greater.
+// Returns the number of cells whose sort key isn't greater, by bisection.
 #[inline(never)]
 fn insertion_index(cells: &[Cell], plan: &Plan, x: SortKey, system: System) -> usize
     requires { AreOrderedBy (planned_of system plan.now) cells.now }
     ensures index { result ≡ insertion_index x (map (cell_sort_key (planned_of system plan.now)) cells.now) }
     ensures bound { result ≤ length cells.now }
 {
-    let mut at = cells.len();
-    while at > 0 {
-        let cell = &cells[at - 1];
-        if !is_before(x, sort_key(plan, system, cell.satellite, cell.signal)) {
-            return at;
+    let mut low = 0;
+    let mut high = cells.len();
+    while low < high {
+        let middle = low + (high - low) / 2;
+        if is_before_cell(x, &cells[middle], plan, system) {
+            high = middle;
+        } else {
+            low = middle + 1;
         }
-        at -= 1;
     }
-    at
+    low
+}
+
+// Returns whether a sort key is less than that of a cell. Most cells are of another satellite, and
+// the plan isn't read for those.
+#[inline(always)]
+fn is_before_cell(x: SortKey, cell: &Cell, plan: &Plan, system: System) -> bool
+    ensures { result ≡ is_before x (cell_sort_key (planned_of system plan.now) cell.now) }
+{
+    let id = cell.satellite.id();
+    if id != x.satellite {
+        return x.satellite < id;
+    }
+    x.place < plan.place_among(system, cell.signal).unwrap_or(0)
 }
 
 /// Returns the end of the run of cells of a satellite that begins at this index.
