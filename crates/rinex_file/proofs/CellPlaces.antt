@@ -1,9 +1,9 @@
 -- A satellite's cells, each stored at its signal's index in the plan.
-use Rattle.std.proofs.Common.{arith, ◌≡◌, ◌∙◌, sym, ap, ap₂, refl, ℕ, ℤ, zero, suc, ◌+◌, ◌*◌, ◌-◌, ◌<◌, ◌≤◌, List, [], ◌∷◌, ◌++◌, map, take, drop, length, replicate, get_or, append_assoc, append-nil, length-append, Bool, false, ◌==◌, Option, Some, None, slice_set}
+use Rattle.std.proofs.Common.{arith, ◌≡◌, ◌∙◌, sym, ap, ap₂, refl, subst, ℕ, ℤ, zero, suc, ◌+◌, ◌*◌, ◌-◌, ◌<◌, ◌≤◌, List, [], ◌∷◌, ◌++◌, map, take, drop, length, replicate, get_or, append_assoc, append-nil, length-append, Bool, false, ◌==◌, Option, Some, None, slice_set}
 use Rattle.std.specs.Prelude.{◌&&◌, ◌≢◌, ◌||◌, nat_eq, find, flat_map, position, All, is_some, if◌then◌else◌}
 use Rattle.std.specs.Option.{option_map_or}
 use Rattle.std.specs.List.{IsDistinct, position_or_len, refill}
-use Rattle.std.proofs.lemmas.List.{drop_at, drop_all, take_all, length-drop, drop_more, set_at, length-take-le, length-replicate, length-set, take-append-le, drop-append-le, replicate-append-replicate}
+use Rattle.std.proofs.lemmas.List.{drop_at, drop_all, take_all, length-drop, drop_more, set_at, length-take-le, length-replicate, length-set, take-append-le, drop-append-le, drop-take, replicate-append-replicate}
 use Rattle.std.proofs.lemmas.Bool.{cond_both, and_from, and_right, eq-eqb, ne_eqb, eqb-true, eqb-false}
 use Rattle.std.proofs.lemmas.List.Concat.{flat_map-append}
 use Rattle.std.proofs.lemmas.List.Quantifiers.{position-Some}
@@ -165,6 +165,32 @@ pub put_row : (old x y text front : List ℕ) (others : List SignalValues) (p m 
     → HasSignals (refill n y (take (3 + 64 * p) x ++ (text ++ drop k (drop (3 + 64 * p) x)))) front (slice_set others p v)
 put_row old x y text front others p m k n v l all h is room is_m same is_y is_text is_k is_n = grind (arith, short_line, length-append, length-replicate, length-room, length-columns_put, refilled, more_blanks, length-set, put_signal)
 
+-- the first n columns of a row of which 64 are replaced
+first_columns : (row text : List ℕ) (s n : ℕ) → length text ≡ 64 → s + 64 ≤ n → n ≤ length row
+    → take n (take s row ++ (text ++ drop 64 (drop s row))) ≡ take s (take n row) ++ (text ++ drop 64 (drop s (take n row)))
+first_columns row text zero n l h within =
+    let size : n ≡ 64 + (n - 64) = omega (arith, h) in
+    let text_size : n ≡ length text + (n - 64) = omega (arith, h, l) in
+    ap (λ k. take k (text ++ drop 64 row)) text_size ∙ take-append-add text (drop 64 row) (n - 64)
+    ∙ ap (λ t. text ++ t) (sym (ap (λ k. drop 64 (take k row)) size ∙ drop-take 64 (n - 64) row))
+first_columns [] text (suc s) n l h within = absurd (omega (arith, h, within))
+first_columns (x ∷ row) text (suc s) zero l h within = absurd (omega (arith, h))
+first_columns (x ∷ row) text (suc s) (suc n) l h within = ap (λ t. x ∷ t) (first_columns row text s n l (omega (arith, h)) (omega (arith, within)))
+
+-- the columns of a signal are written into a row
+pub put_first : (old row text front : List ℕ) (others : List SignalValues) (p m k n : ℕ) (v : SignalValues) → length front ≡ 3 → All HaveRoom others → p < length others
+    → HasSignals old front others → HaveRoom v → m ≡ 3 + 64 * p + 64 - length old → take n row ≡ old ++ replicate m 32 → text ≡ signal_text v → k ≡ 64 → 3 + 64 * p + 64 ≤ n → n ≤ length row
+    → HasSignals (take n (take (3 + 64 * p) row ++ (text ++ drop k (drop (3 + 64 * p) row)))) front (slice_set others p v)
+put_first old row text front others p m k n v l all h is room is_m is_row is_text is_k far within =
+    let y : List ℕ = take n row in
+    let ws : List ℕ = take (3 + 64 * p) y ++ (text ++ drop 64 (drop (3 + 64 * p) y)) in
+    let text_size : length text ≡ 64 = ap length is_text ∙ length-room v room in
+    let size : length y ≡ n = length-take-le n row within in
+    let same : length ws ≡ length y = length-columns_put y text (3 + 64 * p) (omega (arith, size, far)) text_size in
+    subst (λ (j : ℕ). HasSignals (take n (take (3 + 64 * p) row ++ (text ++ drop j (drop (3 + 64 * p) row)))) front (slice_set others p v)) (sym is_k)
+    (subst (λ (t : List ℕ). HasSignals t front (slice_set others p v)) (refilled n y ws (omega (arith, size, same)) (sym same) ∙ sym (first_columns row text (3 + 64 * p) n text_size far within))
+    (put_row old y y text front others p m 64 n v l all h is room is_m refl is_row is_text refl (sym size)))
+
 -- a line and the blanks at its end
 pub trimmed_line : (line front : List ℕ) (values : List SignalValues) → HasSignals line front values → trimmed line ≡ trimmed (front ++ flat_map signal_text values)
 trimmed_line line front values is = sym (trimmed-blanks (3 + 64 * length values - length line) line) ∙ ap trimmed is
@@ -205,6 +231,11 @@ value_passed line front values n v h is none before = grind (arith, replicate_ne
 
 pub front_fit : (values : List SignalValues) (n : ℕ) → All HaveRoom values → All HaveRoom (replicate n no_signal_values ++ drop n values)
 front_fit values n all = All-append HaveRoom (replicate n no_signal_values) (drop n values) (All-replicate HaveRoom n no_signal_values none_fit) (All-drop HaveRoom n values all)
+
+-- the first three columns are written
+pub three_set : (row : List ℕ) (a b c : ℕ) → 3 ≤ length row → take 3 (slice_set (slice_set (slice_set row 0 a) 1 b) 2 c) ≡ a ∷ b ∷ c ∷ []
+three_set (x ∷ y ∷ z ∷ row) a b c h = refl
+three_set row a b c h = absurd (omega (arith, h))
 
 pub front_length : (letter id : ℕ) → id < 100 → length (letter ∷ padded 2 id) ≡ 3
 front_length letter id h = ap (λ t. suc (length t)) (two_digits id h)

@@ -16,7 +16,7 @@ use crate::header::fault::HeadFault;
 use crate::header::head::{Head, header_lines};
 use crate::header::lines::{delta_line, position_line};
 use crate::write::epoch::{epoch_line, event_line};
-use crate::write::numbers::Line;
+use crate::write::numbers::{Line, MOST_LINE};
 use crate::write::satellite::put_seen;
 use gnss_obs::{Epoch, Plan, StationValues, System, end_of, is_written};
 use rtcm_bits::{Counted, DeviceFailed};
@@ -68,7 +68,7 @@ fn write_system<W: Write>(
     epoch: &Epoch,
     plan: &Plan,
     system: System,
-    line: &mut Line,
+    row: &mut [u8; MOST_LINE],
     writer: &mut Counted<W>,
 ) -> Result<(), DeviceFailed>
     ensures whole { OnOk result (Appends (W.contents writer.old.inner) (W.contents writer.new.inner)
@@ -84,8 +84,8 @@ fn write_system<W: Write>(
         let to = end_of(cells, from, id);
         let own = &cells[from..to];
         if is_written(own, id) {
-            put_seen(line, own, plan, system, id);
-            writer.write_whole(line.as_slice())?;
+            let size = put_seen(row, own, plan, system, id);
+            writer.write_whole(&row[..size])?;
         }
         from = to;
     }
@@ -114,7 +114,8 @@ pub fn write_epoch<W: Write>(
     let mut line = Line::new();
     epoch_line(epoch.time(), epoch.satellites(), &mut line);
     writer.write_whole(line.as_slice())?;
-    write_system(epoch, plan, System::Gps, &mut line, writer)?;
-    write_system(epoch, plan, System::Galileo, &mut line, writer)?;
+    let mut row = [b' '; MOST_LINE];
+    write_system(epoch, plan, System::Gps, &mut row, writer)?;
+    write_system(epoch, plan, System::Galileo, &mut row, writer)?;
     Ok(())
 }

@@ -1,6 +1,6 @@
 //! Observation lines: RINEX 3.05, table A3, "OBSERVATION DATA RECORD".
 ghost use Rattle.std.specs.Prelude.{◌≡◌, ◌≤◌, ◌<◌, ◌++◌, ℕ, [], ◌∷◌, length, take, All, List, IfSome, Some};
-ghost use Rattle.std.specs.Prelude.{slice_set};
+ghost use Rattle.std.specs.Prelude.{◌-◌, replicate, slice_set};
 ghost use Rattle.arrayvec.specs.ArrayVec.{array_vec_len};
 ghost use Rattle.gnss_obs.specs.declared.cell.Cell.{Cell};
 ghost use Rattle.gnss_obs.specs.Values.{AreHeld};
@@ -14,7 +14,7 @@ ghost use Rattle.rinex_file.specs.Limits.{most_line, signal_columns, value_colum
 
 use crate::values::SignalValues;
 use crate::write::digits::columns_of;
-use crate::write::numbers::{Line, SIGNAL_COLUMNS, VALUE_COLUMNS, put_blanks};
+use crate::write::numbers::{Line, MOST_LINE, SIGNAL_COLUMNS, VALUE_COLUMNS, put, put_blanks};
 use gnss_obs::{Cell, Epoch, Plan, Sat, System, Thousandths, strength_digit};
 use std::marker::Model;
 
@@ -220,15 +220,83 @@ pub(crate) fn satellite_text(line: &mut Line, system: System, id: u8, values: &[
     end_row(line);
 }
 
-/// Writes the line of a satellite with these cells, replacing the contents of the buffer.
-pub(crate) fn put_seen(line: &mut Line, cells: &[Cell], plan: &Plan, system: System, id: u8)
+/// Writes the letter and number of a satellite into the first columns of a row.
+#[inline(always)]
+fn begin_columns(row: &mut [u8; MOST_LINE], system: System, id: u8)
+    requires { id < 100 }
+    ensures { take 3 row.new ≡ letter_of system ∷ padded 2 id }
+{
+    row[0] = letter_of(system);
+    row[1] = b'0' + id / 10;
+    row[2] = b'0' + id % 10;
+}
+
+/// Appends blanks to the first `size` columns of a row if they end before column `end`. Returns
+/// their number then.
+#[inline(always)]
+fn reach(row: &mut [u8; MOST_LINE], size: usize, end: usize) -> usize
+    requires room { end < most_line }
+    requires within { size < most_line }
+    ensures text { take result row.new ≡ take size row.old ++ replicate (end - size) 32 }
+    ensures end { end ≤ result }
+    ensures bound { result < most_line }
+{
+    if size >= end {
+        return size;
+    }
+    row[size..end].fill(b' ');
+    end
+}
+
+/// Writes the columns of the signal at this index into a row that has `size` columns. Returns their
+/// number then.
+#[inline(always)]
+fn put_columns(row: &mut [u8; MOST_LINE], size: usize, place: usize, values: &Shown) -> usize
+    requires fits { HaveRoom values.now }
+    requires few { place < most_signals }
+    requires within { size < most_line }
+    ensures text { (front : List ℕ) (others : List SignalValues) → length front ≡ 3 → All HaveRoom others
+        → place < length others → HasSignals (take size row.old) front others
+        → HasSignals (take result row.new) front (slice_set others place values.now) }
+    ensures bound { result < most_line }
+{
+    let start = 3 + SIGNAL_COLUMNS * place;
+    let end = start + SIGNAL_COLUMNS;
+    let size = reach(row, size, end);
+    put_signal(&mut row[start..end], values);
+    size
+}
+
+/// Ends the first `size` columns of a row: a line feed follows the last that is not blank. Returns
+/// the length of the line.
+fn end_columns(row: &mut [u8; MOST_LINE], size: usize) -> usize
+    requires { size < most_line }
+    ensures text { take result row.new ≡ trimmed (take size row.old) ++ 10 ∷ [] }
+    ensures bound { result ≤ most_line }
+{
+    let end = trimmed_len(&row[..size]);
+    row[end] = b'\n';
+    end + 1
+}
+
+/// Writes the line of a satellite with these cells over the first bytes of a row, and returns its
+/// length. The row is not cleared before, as each column up to the end of the line is written.
+pub(crate) fn put_seen(
+    row: &mut [u8; MOST_LINE],
+    cells: &[Cell],
+    plan: &Plan,
+    system: System,
+    id: u8,
+) -> usize
     requires held { AreHeld system cells.now }
     requires id { id < 100 }
-    ensures { line.new.items ≡ satellite_line (row_among plan.now system cells.now id) }
+    ensures text { take result row.new ≡ satellite_line (row_among plan.now system cells.now id) }
+    ensures bound { result ≤ most_line }
 {
-    begin_row(line, system, id);
+    begin_columns(row, system, id);
     // By the contract of `of` no signal is planned twice, so each has one index.
     let _ = plan.of(system);
+    let mut size = 3;
     // The first cell of a signal is the one that is written, so it is written last.
     let mut at = cells.len();
     while at > 0 {
@@ -237,10 +305,10 @@ pub(crate) fn put_seen(line: &mut Line, cells: &[Cell], plan: &Plan, system: Sys
         if cell.satellite.id() == id
             && let Some(place) = plan.place_among(system, cell.signal)
         {
-            put_at(line, place, &Shown::of(cell));
+            size = put_columns(row, size, place, &Shown::of(cell));
         }
     }
-    end_row(line);
+    end_columns(row, size)
 }
 
 /// Writes the line of a satellite of the epoch, replacing the contents of the buffer: its system's
@@ -252,5 +320,8 @@ pub fn satellite_line(epoch: &Epoch, plan: &Plan, satellite: Sat, line: &mut Lin
     ensures { line.new.items ≡ satellite_line (row_in_epoch plan.now epoch.now.epoch satellite.system satellite.id) }
 {
     let cells = epoch.cells(satellite.system());
-    put_seen(line, cells, plan, satellite.system(), satellite.id());
+    let mut row = [b' '; MOST_LINE];
+    let size = put_seen(&mut row, cells, plan, satellite.system(), satellite.id());
+    line.clear();
+    put(line, &row[..size]);
 }

@@ -1,4 +1,4 @@
-use Rattle.std.proofs.Common.{arith, ◌≡◌, ◌∙◌, refl, sym, ap, ap₂, subst, ◌+◌, ◌-◌, ◌<◌, ◌≤◌, [], ◌∷◌, ◌++◌, ℕ, List, length, drop, false, slice_index_or}
+use Rattle.std.proofs.Common.{arith, ◌≡◌, ◌∙◌, refl, sym, ap, ap₂, subst, ◌+◌, ◌-◌, ◌<◌, ◌≤◌, [], ◌∷◌, ◌++◌, ℕ, List, length, take, drop, false, slice_index_or}
 use Rattle.std.specs.Prelude.{◌==◌, slice_set, nat_eq}
 use Rattle.std.specs.List.{IsDistinct}
 use Rattle.std.proofs.lemmas.List.{drop_more, length-map}
@@ -13,7 +13,7 @@ use Rattle.rinex_file.specs.Lines.{letter_of, satellite_line}
 use Rattle.rinex_file.specs.Value.{SignalValues, signal_values_at, entries_of}
 use Rattle.rinex_file.specs.Rows.{HasSignals}
 use Rattle.rinex_file.proofs.Entries.{few_signals as short_table}
-use Rattle.rinex_file.proofs.CellPlaces.{begun_entries, no_place, others_stay, other_stays, cell_put, all_fit, short_line, trimmed_line, front_length}
+use Rattle.rinex_file.proofs.CellPlaces.{begun_entries, no_place, others_stay, other_stays, cell_put, all_fit, trimmed_line, front_length}
 use Rattle.rinex_file.proofs.write.satellite.put_seen.Goals as goal
 use Rattle.rinex_file.proofs.write.satellite.put_seen.Goals.{After-of, After-loop-at, else-id-via-else-id, else-id-via-then-id+in-None-1}
 
@@ -32,14 +32,15 @@ few c =
 
 pub loop-at-init : goal.loop-at-init
 loop-at-init c = record {
-  shown = begun_entries _ _ c.args.cells.now c.args.id _ (planned_of c.args.system c.args.plan.now) c.begin_row.ensures (front_length (letter_of c.args.system) c.args.id c.requires.id) refl;
+  shown = begun_entries _ _ c.args.cells.now c.args.id _ (planned_of c.args.system c.args.plan.now) c.begin_columns.ensures (front_length (letter_of c.args.system) c.args.id c.requires.id) refl;
   within = omega arith;
+  bound = omega arith;
 }
 
-pub put_at-requires-clause-few : goal.put_at-requires-clause-few
-put_at-requires-clause-few c =
+pub put_columns-size-requires-clause-few : goal.put_columns-size-requires-clause-few
+put_columns-size-requires-clause-few c =
     let (within, here, none) = position-Some (λ i. i == c.index-cells-at.result.signal.index) (planned_of c.args.system c.args.plan.now) c.in-Some.place 0 (sym c.place_among.ensures ∙ c.in-Some.is) in
-    let most = few ((goal.at.put_at-requires-clause-few c).After-of) in
+    let most = few ((goal.at.put_columns-size-requires-clause-few c).After-of) in
     omega (arith, within, most)
 
 pub loop-at-preserved-in-loop-at : goal.loop-at-preserved-in-loop-at
@@ -59,14 +60,15 @@ loop-at-preserved-in-loop-at c =
     let (within, here, none) = position-Some (λ i. i == cell.signal.index) signals c.in-Some.place 0 place in
     let size = length-map signals (signal_values_at rest id) in
     record {
-      shown = subst (λ (xs : List Cell). HasSignals c.put_at.new.line.items front (entries_of c.args.plan.now c.args.system id xs))
+      shown = subst (λ (xs : List Cell). HasSignals (take c.put_columns-size.result c.put_columns-size.new.row) front (entries_of c.args.plan.now c.args.system id xs))
           (sym (more cells at cell c.loop-at-test.true inv.within c.index-cells-at.is))
-          (subst (λ (xs : List SignalValues). HasSignals c.put_at.new.line.items front xs)
+          (subst (λ (xs : List SignalValues). HasSignals (take c.put_columns-size.result c.put_columns-size.new.row) front xs)
           (ap (λ (v : SignalValues). slice_set (entries_of c.args.plan.now c.args.system id rest) c.in-Some.place v) c.of-in-loop-at.ensures
           ∙ cell_put signals id c.in-Some.place cell rest apart place own)
-          (c.put_at.ensures front (entries_of c.args.plan.now c.args.system id rest) (front_length (letter_of c.args.system) id c.requires.id) (all_fit c.args.system rest id signals held)
+          (c.put_columns-size.ensures.text front (entries_of c.args.plan.now c.args.system id rest) (front_length (letter_of c.args.system) id c.requires.id) (all_fit c.args.system rest id signals held)
           (subst (λ (n : ℕ). c.in-Some.place < n) (sym size) within) inv.shown));
       within = omega (arith, inv.within);
+      bound = c.put_columns-size.ensures.bound;
     }
 
 pub loop-at-preserved : goal.loop-at-preserved
@@ -86,32 +88,22 @@ loop-at-preserved c =
           no_place cell.signal.index signals (signal_values_at (cell ∷ rest) id) (signal_values_at rest id) (grind (arith, w)) (others_stay cell rest id)
     ] in
     record {
-      shown = subst (λ (xs : List SignalValues). HasSignals c.loop-at.line.items (letter_of c.args.system ∷ padded 2 id) xs)
+      shown = subst (λ (xs : List SignalValues). HasSignals (take c.loop-at.size c.loop-at.row) (letter_of c.args.system ∷ padded 2 id) xs)
           (sym (ap (entries_of c.args.plan.now c.args.system id) (more cells at cell c.loop-at-test.true inv.within c.index-cells-at.is) ∙ same)) inv.shown;
       within = omega (arith, inv.within);
+      bound = inv.bound;
     }
 
 -- the line has the values of all cells
-whole : (c : After-loop-at) → HasSignals c.loop-at.line.items (letter_of c.args.system ∷ padded 2 c.args.id) (entries_of c.args.plan.now c.args.system c.args.id c.args.cells.now)
+whole : (c : After-loop-at) → HasSignals (take c.loop-at.size c.loop-at.row) (letter_of c.args.system ∷ padded 2 c.args.id) (entries_of c.args.plan.now c.args.system c.args.id c.args.cells.now)
 whole c =
     let none : c.loop-at.at ≡ 0 = omega (arith, c.loop-at-test.false) in
-    subst (λ (k : ℕ). HasSignals c.loop-at.line.items (letter_of c.args.system ∷ padded 2 c.args.id) (entries_of c.args.plan.now c.args.system c.args.id (drop k c.args.cells.now))) none
+    subst (λ (k : ℕ). HasSignals (take c.loop-at.size c.loop-at.row) (letter_of c.args.system ∷ padded 2 c.args.id) (entries_of c.args.plan.now c.args.system c.args.id (drop k c.args.cells.now))) none
     c.loop-at.invariant.shown
 
-pub end_row-requires : goal.end_row-requires
-end_row-requires c =
-    let l = front_length (letter_of c.args.system) c.args.id c.requires.id in
-    let signals = planned_of c.args.system c.args.plan.now in
-    let fit = all_fit c.args.system c.args.cells.now c.args.id signals c.requires.held.each in
-    let most = short_line c.loop-at.line.items (letter_of c.args.system ∷ padded 2 c.args.id) (entries_of c.args.plan.now c.args.system c.args.id c.args.cells.now) l fit
-    (whole ((goal.at.end_row-requires c).After-loop-at)) in
-    let size = length-map signals (signal_values_at c.args.cells.now c.args.id) in
-    let short = few ((goal.at.end_row-requires c).After-of) in
-    omega (arith, most, size, short)
-
-pub returns : goal.returns
+pub returns-clause-text : goal.returns-clause-text
 unfolding satellite_line
-returns c =
-    c.end_row.ensures
-    ∙ ap (λ t. t ++ 10 ∷ []) (trimmed_line c.loop-at.line.items (letter_of c.args.system ∷ padded 2 c.args.id) (entries_of c.args.plan.now c.args.system c.args.id c.args.cells.now)
-    (whole ((goal.at.returns c).After-loop-at)))
+returns-clause-text c =
+    c.end_columns.ensures.text
+    ∙ ap (λ t. t ++ 10 ∷ []) (trimmed_line (take c.loop-at.size c.loop-at.row) (letter_of c.args.system ∷ padded 2 c.args.id) (entries_of c.args.plan.now c.args.system c.args.id c.args.cells.now)
+    (whole ((goal.at.returns-clause-text c).After-loop-at)))
