@@ -1,6 +1,6 @@
 -- Cells are counted one by one.
 use Rattle.rtcm_msg.specs.declared.entry.LockField.{LockField}
-use Rattle.std.proofs.Common.{◌≡◌, ℕ, zero, suc, nat_lt, nat_eq, not, replicate, ◌+◌, ◌-◌, ◌<◌, ◌≤◌, ◌^◌, ◌==◌, ◌&&◌, Bool, true, false, List, [], ◌∷◌, ◌++◌, length, get_or, refl, sym, ap, ◌∙◌, subst, arith, Option, Some, None, filter, append-nil, append_assoc, length-append, is_some}
+use Rattle.std.proofs.Common.{◌≡◌, ℕ, zero, suc, nat_lt, nat_eq, not, replicate, ◌+◌, ◌-◌, ◌<◌, ◌≤◌, ◌^◌, ◌==◌, ◌&&◌, ◌||◌, Bool, true, false, List, [], ◌∷◌, ◌++◌, length, get_or, refl, sym, ap, ◌∙◌, subst, arith, Option, Some, None, filter, append-nil, append_assoc, length-append, is_some}
 use Rattle.std.specs.Prelude.{filter_map, cond, if◌then◌else◌, unwrap_or}
 use Rattle.std.specs.List.{cons_option, list_any}
 use lib.Pointwise.{pointwise}
@@ -12,10 +12,12 @@ use Rattle.gnss_obs.specs.Satellites.{Satellite, satellite_of_id}
 use Rattle.gnss_obs.specs.Signals.{SignalAt, IsSignal, signal_of_id}
 use Rattle.gnss_obs.specs.LockTimes.{LockTime}
 use Rattle.rtcm_msg.specs.declared.entry.Entry.{Entry}
+use Rattle.rtcm_msg.specs.declared.presence.Presence.{Presence}
+use Rattle.rtcm_msg.specs.Presences.{SplitsFirst, presence_of}
 use Rattle.obs_epoch.specs.Heard.{Heard, seen_in, lock_by, observed}
 use Rattle.gnss_obs.specs.HeardCells.{HeardCell}
 use Rattle.gnss_obs.specs.Satellites.{is_system}
-use Rattle.obs_epoch.specs.SignalCounts.{SignalCountsValue, brings_value, valued, is_of_signal, count_of, AreSignalCounts, counted_of, CountsEntries, one_up, entry_signal, entry_value}
+use Rattle.obs_epoch.specs.SignalCounts.{SignalCountsValue, brings_value, valued, is_of_signal, count_of, AreSignalCounts, counted_of, CountsEntries, one_up, entry_signal, entry_value, presence_signal}
 use Rattle.std.proofs.lemmas.Grind.{common_steps}
 
 -- ---- a filtered list is not longer
@@ -110,7 +112,7 @@ one_most None = omega arith
 one_most (Some x) = grind (arith, common_steps)
 
 -- One entry is counted, then the entries after it.
-pub entry_more : (system : System) (e : Entry) (es : List Entry) (o : Option SignalAt) (c next last : SignalCountsValue) → o ≡ entry_signal system e → next ≡ option_map_or (counted_of c) o c
+entry_more : (system : System) (e : Entry) (es : List Entry) (o : Option SignalAt) (c next last : SignalCountsValue) → o ≡ entry_signal system e → next ≡ option_map_or (counted_of c) o c
     → CountsEntries next last system es → CountsEntries c last system (e ∷ es)
 entry_more system e es o c next last is made more = λ field cells few h.
     let one : List HeardCell = filter brings_value (cons_option (seen_in field system e) []) in
@@ -123,6 +125,22 @@ entry_more system e es o c next last is made more = λ field cells few h.
 
     still : (t a b n : ℕ) → t ≡ a + b → b ≤ 1 → a + suc n < 2 ^ 63 → t + n < 2 ^ 63
     still t a b n x y z = omega (arith, x, y, z)
+
+either : (a b c d : Bool) → (a || (b || c || d)) ≡ (a || b || c || d)
+either true b c d = refl
+either false b c d = refl
+
+same_signal : (system : System) (e : Entry) → presence_signal system (presence_of e) ≡ entry_signal system e
+same_signal system e =
+    ap (λ (v : Bool). if is_some (satellite_of_id system e.satellite) && v then signal_of_id system e.signal else None)
+    (either (is_some e.range) (is_some e.phase) (is_some e.rate) (is_some e.strength))
+
+-- The first entry is counted by its presence, then the entries after it.
+pub presence_more : (system : System) (p : Presence) (es left : List Entry) (o : Option SignalAt) (c next last : SignalCountsValue) → SplitsFirst p es left → o ≡ presence_signal system p → next ≡ option_map_or (counted_of c) o c
+    → CountsEntries next last system left → CountsEntries c last system es
+presence_more system p [] left o c next last first is made more = elim first [ ]
+presence_more system p (e ∷ es) left o c next last first is made more =
+    entry_more system e es o c next last (is ∙ (ap (presence_signal system) first.0 ∙ same_signal system e)) made (subst (CountsEntries next last system) (sym first.1) more)
 
 pub none_more : (c : SignalCountsValue) (system : System) → CountsEntries c c system []
 none_more c system = λ field cells few h. subst (AreSignalCounts c) (sym (append-nil cells)) h

@@ -8,6 +8,7 @@ use Rattle.gnss_obs.specs.declared.system.System.TheVariants.{Gps, Galileo}
 use Rattle.gnss_obs.specs.Satellites.{satellite_of_id}
 use Rattle.gnss_obs.specs.Signals.{SignalAt, table, signal_of_id}
 use Rattle.rtcm_msg.specs.declared.entry.Entry.{Entry}
+use Rattle.rtcm_msg.specs.declared.presence.Presence.{Presence}
 use Rattle.rtcm_msg.specs.declared.entry.LockField.{LockField}
 use Rattle.obs_epoch.specs.Heard.{Heard, seen_in}
 use Rattle.gnss_obs.specs.HeardCells.{HeardCell}
@@ -76,6 +77,11 @@ entry_value e = is_some e.range || is_some e.phase || is_some e.rate || is_some 
 abbrev pub entry_signal : System → Entry → Option SignalAt
 entry_signal system e =
     if is_some (satellite_of_id system e.satellite) && entry_value e then signal_of_id system e.signal else None
+
+-- The same, from the presence of the cell.
+abbrev pub presence_signal : System → Presence → Option SignalAt
+presence_signal system p =
+    if is_some (satellite_of_id system p.satellite) && p.has_value then signal_of_id system p.signal else None
 
 -- ---- all cells so far
 

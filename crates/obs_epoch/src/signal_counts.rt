@@ -2,13 +2,13 @@
 ghost use Rattle.std.specs.Prelude.{◌≡◌, ◌<◌, [], length};
 ghost use Rattle.gnss_obs.specs.Signals.{table};
 ghost use Rattle.obs_epoch.specs.Heard.{heard};
-ghost use Rattle.obs_epoch.specs.SignalCounts.{counted, has_any, counted_of, entry_signal, CountsEntries};
+ghost use Rattle.obs_epoch.specs.SignalCounts.{counted, has_any, counted_of, presence_signal, CountsEntries};
 ghost use Rattle.obs_epoch.specs.SignalCounts.{CountsMessage, AreSignalCounts};
 ghost use Rattle.rtcm_msg.specs.Viewed.{viewed_message};
 
 use crate::observe::system_of;
 use gnss_obs::{GALILEO_SIGNAL_COUNT, GPS_SIGNAL_COUNT, Sat, Signal, System};
-use rtcm_msg::{Entries, Entry, Message, View};
+use rtcm_msg::{Message, Presence, Presences, View};
 use std::marker::Model;
 
 /// The number of cells with a value, for each signal of the tables.
@@ -69,17 +69,17 @@ impl SignalCounts {
         if let View::Msm(m) = view {
             let own = m.header().station;
             if station.unwrap_or(own) == own {
-                self.count_entries(system_of(m.is_galileo()), &mut m.entries());
+                self.count_cells(system_of(m.is_galileo()), &mut m.presences());
             }
         }
     }
 
     // Counts the cells of listed satellites and signals that have a value.
-    fn count_entries(&mut self, system: System, entries: &mut Entries<'_>)
-        ensures { CountsEntries self.old self.new system entries.old.left }
+    fn count_cells(&mut self, system: System, cells: &mut Presences<'_>)
+        ensures { CountsEntries self.old self.new system cells.old.left }
     {
-        while let Some(entry) = entries.next() {
-            if let Some(signal) = signal_of(system, &entry) {
+        while let Some(presence) = cells.next() {
+            if let Some(signal) = signal_of(system, presence) {
                 self.add(signal);
             }
         }
@@ -97,17 +97,12 @@ impl SignalCounts {
     }
 }
 
-// Returns the signal of a cell, if its satellite and signal are listed and it has a value: a
-// pseudorange, a phase, a Doppler shift or a strength.
-fn signal_of(system: System, entry: &Entry) -> Option<Signal>
-    ensures value { result ≡ entry_signal system entry.now }
+// Returns the signal of a cell, if its satellite and signal are listed and it has a value.
+fn signal_of(system: System, presence: Presence) -> Option<Signal>
+    ensures value { result ≡ presence_signal system presence }
 {
-    let has_value = entry.range.is_some()
-        || entry.phase.is_some()
-        || entry.rate.is_some()
-        || entry.strength.is_some();
-    if has_value && Sat::new(system, entry.satellite).is_some() {
-        Signal::from_id(system, entry.signal)
+    if presence.has_value && Sat::new(system, presence.satellite).is_some() {
+        Signal::from_id(system, presence.signal)
     } else {
         None
     }

@@ -222,7 +222,7 @@ pub(crate) fn scaled(number: i32, invalid: i32, unit: u32) -> Option<i64>
 }
 
 /// The value of DF397 for an invalid rough range.
-const INVALID_RANGE: u8 = 255;
+pub(crate) const INVALID_RANGE: u8 = 255;
 
 /// Returns the sum of the rough range and a fine part in 2^-31 ms: `whole` milliseconds (DF397) and
 /// `fraction` / 1024 ms (DF398). `None` if either is invalid.

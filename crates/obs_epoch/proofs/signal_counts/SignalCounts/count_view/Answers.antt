@@ -20,15 +20,15 @@ returns-then-unwrap_or-own c =
     let field = lock_field m.form in
     let wanted = c.args.station in
     let system = c.system_of.result in
-    let es : List Entry = c.entries.result.left in
+    let es : List Entry = c.presences.result.left in
     let same : valued wanted (heard (viewed_message c.args.view.now)) ≡ filter brings_value (filter_map (seen_in field system) es) =
     ap (λ v. valued wanted (heard (viewed_message v))) c.in-Msm.is ∙ ap (valued wanted) (heard_formed m)
     ∙ wanted_cells wanted m.msm.header.station (heard_msm field m.msm (entries (formed m))) refl
     (subst (λ (x : MsmHeader). unwrap_or wanted x.station ≡ x.station) c.header-own.ensures.value (sym c.unwrap_or.ensures ∙ c.if-unwrap_or-own.true))
-    ∙ ap (filter brings_value) (ap₂ (λ s l. filter_map (seen_in field s) l) (sym (c.system_of.ensures ∙ ap system_of c.is_galileo.ensures)) (sym (ap (λ (u : Unread). u.left) c.entries.ensures.all))) in
+    ∙ ap (filter brings_value) (ap₂ (λ s l. filter_map (seen_in field s) l) (sym (c.system_of.ensures ∙ ap system_of c.is_galileo.ensures)) (sym (ap (λ (u : Unread). u.left) c.presences.ensures.all))) in
     record {
       counts = λ cells few h.
-          message_counted c.count_entries.new.self cells (filter brings_value (filter_map (seen_in field system) es)) wanted (heard (viewed_message c.args.view.now)) same
-          (c.count_entries.ensures field cells (room (length cells) (length es) few c.entries.ensures.few) h);
-      few = few_valued field system es (valued wanted (heard (viewed_message c.args.view.now))) same c.entries.ensures.few;
+          message_counted c.count_cells.new.self cells (filter brings_value (filter_map (seen_in field system) es)) wanted (heard (viewed_message c.args.view.now)) same
+          (c.count_cells.ensures field cells (room (length cells) (length es) few c.presences.ensures.few) h);
+      few = few_valued field system es (valued wanted (heard (viewed_message c.args.view.now))) same c.presences.ensures.few;
     }

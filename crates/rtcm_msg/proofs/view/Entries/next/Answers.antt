@@ -9,14 +9,8 @@ use Rattle.rtcm_msg.specs.Msm.{MasksValue, codes_of}
 use Rattle.rtcm_msg.specs.Entries.{IsEntry, chosen}
 use Rattle.rtcm_msg.specs.Pairs.{pairs_left, cell_pairs_left}
 use Rattle.rtcm_msg.specs.Viewed.{Unread, entry_in, lock_field}
+use Rattle.rtcm_msg.proofs.NextLaws.{index_below, one_less}
 use Rattle.rtcm_msg.proofs.view.Entries.next.Goals as goal
-
-below : (i n m k : ℕ) → i < n → k ≡ m → k ≡ n → i < m
-below i n m k h e f = omega (arith, h, e, f)
-
-one_less : (s : MasksValue) (n l r : ℕ) (p q : Pairs) (x : Pair) (next cells : ℕ) → n ≡ s.cells → chosen (uint l n) (pairs_left p) ≡ x ∷ chosen (uint r n) (pairs_left q)
-    → length (cell_pairs_left l s p) + next ≡ cells → length (cell_pairs_left r s q) + (next + 1) ≡ cells
-one_less s n l r p q x next cells e split count = let step = ap length (rw e at split) in omega (arith, count, step)
 
 one_there : (ps qs : List Pair) (p : Pair) (next cells : ℕ) → ps ≡ p ∷ qs → length ps + next ≡ cells → next < cells
 one_there ps qs p next cells split count = let more = ap length split in omega (arith, more, count)
@@ -54,7 +48,7 @@ overflow_add-self c =
 
 pub rough-satellite-requires-clause-there : goal.rough-satellite-requires-clause-there
 rough-satellite-requires-clause-there c =
-    below c.in_ok-pair.pair.index _ _ _ (c.in_ok-pair.ensures.indices (count_ones c.self.inside.view.now.msm.sets.satellites) c.self.invariant.0.3).0 c.satellites.ensures.count c.satellites.ensures.set
+    index_below c.in_ok-pair.pair.index _ _ _ (c.in_ok-pair.ensures.indices (count_ones c.self.inside.view.now.msm.sets.satellites) c.self.invariant.0.3).0 c.satellites.ensures.count c.satellites.ensures.set
 
 pub invariant_of-self : goal.invariant_of-self
 invariant_of-self c =

@@ -1,17 +1,9 @@
-use Rattle.std.proofs.Common.{ℕ, ◌≡◌, ◌≤◌, ◌∙◌, List, [], ◌∷◌, length, map, ap, arith}
-use Rattle.std.specs.List.{zip}
+use Rattle.std.proofs.Common.{◌∙◌, ap, arith}
 use Rattle.rtcm_msg.specs.Msm.{MasksValue}
 use Rattle.rtcm_msg.specs.Viewed.{entry_in}
 use Rattle.rtcm_msg.proofs.PairLaws.{all_left}
+use Rattle.rtcm_msg.proofs.NextLaws.{no_more, few}
 use Rattle.rtcm_msg.proofs.view.MsmView.entries.Goals as goal
-
-no_more : {X Y Z : Type 0} (f : X × Y → Z) (xs : List X) (ys : List Y) → length (map f (zip xs ys)) ≤ length ys
-no_more f [] ys = omega arith
-no_more f (x ∷ xs) [] = omega arith
-no_more f (x ∷ xs) (y ∷ ys) = omega (arith, no_more f xs ys)
-
-few : (n m k : ℕ) → n ≤ m → k ≡ m → k ≤ 64 → n ≤ 64
-few n m k h same most = omega (arith, h, same, most)
 
 pub invariant_of-result : goal.invariant_of-result
 invariant_of-result c =
