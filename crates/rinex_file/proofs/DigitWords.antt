@@ -1,6 +1,5 @@
 -- The digits of a value as columns in words of eight bytes.
 use Rattle.std.proofs.Common.{arith, ◌≡◌, ◌∙◌, sym, ap, ap₂, refl, ℕ, zero, suc, ◌+◌, ◌-◌, ◌*◌, ◌/◌, ◌%◌, ◌^◌, ◌<◌, ◌≤◌, List, [], ◌∷◌, ◌++◌, map, length, drop, replicate, get_or, decimal, append_assoc, append-nil, length-append, w64, inl, inr, eqb, true}
-use Rattle.std.specs.Prelude.{⊤}
 use Rattle.std.specs.Int.{to_le_bytes, trailing_zeros}
 use Rattle.std.specs.Int.Count.{count_trailing_zeros, under}
 use Rattle.std.proofs.lemmas.Bool.{cases_lt, agree_below_at, eqb-true}
@@ -11,14 +10,9 @@ use Rattle.std.proofs.lemmas.Grind.{replicate_next}
 use Rattle.std.proofs.lemmas.List.{length-map}
 use Rattle.rinex_file.specs.declared.write.digits.TheConstants.{PAIRS}
 use Rattle.rinex_file.specs.Numbers.{padded}
-use Rattle.rinex_file.specs.Words.{word, digits_onto, eight_digits, leading, spaced, front_word, last_columns}
+use Rattle.rinex_file.specs.Words.{word, AreBelow, digits_onto, eight_digits, leading, spaced, front_word, last_columns}
 
 -- ---- the bytes of a word
-
--- each is less than n
-abbrev pub AreBelow : ℕ → List ℕ → Type 0
-AreBelow n [] = ⊤
-AreBelow n (b ∷ bs) = (b < n) × AreBelow n bs
 
 byte_at : (bs : List ℕ) → AreBelow 256 bs → (i : ℕ) → get_or bs i 0 < 256
 byte_at [] h i = omega arith

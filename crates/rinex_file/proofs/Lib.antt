@@ -2,6 +2,7 @@ mod Digits
 mod DigitWords
 mod EightDigits
 mod ColumnDigits
+mod FieldWords
 mod Cuts
 mod Grown
 mod Columns
@@ -22,6 +23,7 @@ mod PlainHeader
 mod FileLines
 mod HeaderText
 mod RowText
+mod WrittenRow
 mod EpochText
 mod HeaderRead
 mod HeaderEnd

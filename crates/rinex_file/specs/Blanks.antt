@@ -1,5 +1,5 @@
 -- Texts without trailing blanks.
-use Rattle.std.specs.Prelude.{ℕ, List, [], ◌∷◌, ◌==◌, if◌then◌else◌}
+use Rattle.std.specs.Prelude.{◌≡◌, ℕ, List, [], ◌∷◌, ◌++◌, ◌==◌, if◌then◌else◌}
 
 -- a byte before a text; a blank is left out if nothing follows it
 abbrev pub before_cut : ℕ → List ℕ → List ℕ
@@ -10,3 +10,7 @@ before_cut b (c ∷ cs) = b ∷ c ∷ cs
 unfoldable pub trimmed : List ℕ → List ℕ
 trimmed [] = []
 trimmed (b ∷ bs) = before_cut b (trimmed bs)
+
+-- a line feed after a text without trailing blanks
+abbrev pub IsEnded : List ℕ → Type 0
+IsEnded line = (text : List ℕ) × (line ≡ text ++ 10 ∷ []) × (trimmed text ≡ text)

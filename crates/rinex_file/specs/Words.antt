@@ -1,5 +1,5 @@
 -- Eight columns as a number, the first in its lowest byte.
-use Rattle.std.specs.Prelude.{ℕ, zero, suc, ◌+◌, ◌*◌, ◌/◌, ◌%◌, List, [], ◌∷◌, map}
+use Rattle.std.specs.Prelude.{◌≡◌, ⊤, ℕ, zero, suc, ◌+◌, ◌*◌, ◌/◌, ◌%◌, ◌<◌, List, [], ◌∷◌, map, length}
 
 -- bytes as a number
 abbrev pub word : List ℕ → ℕ
@@ -37,3 +37,12 @@ front_word (suc n) (suc empty) = 32 + 256 * front_word n empty
 abbrev pub last_columns : ℕ → ℕ → ℕ → ℕ → ℕ → List ℕ
 last_columns tens ones part lost strength =
     tens ∷ (48 + ones) ∷ 46 ∷ (48 + part / 100) ∷ (48 + part / 10 % 10) ∷ (48 + part % 10) ∷ lost ∷ strength ∷ []
+
+-- each is less than n
+abbrev pub AreBelow : ℕ → List ℕ → Type 0
+AreBelow n [] = ⊤
+AreBelow n (b ∷ bs) = (b < n) × AreBelow n bs
+
+-- the number has eight bytes, each less than n
+abbrev pub IsWordBelow : ℕ → ℕ → Type 0
+IsWordBelow n w = (bs : List ℕ) × (length bs ≡ 8) × AreBelow n bs × (w ≡ word bs)

@@ -4,6 +4,7 @@ pub(crate) mod columns;
 pub(crate) mod epoch;
 pub(crate) mod expected;
 pub(crate) mod fault;
+pub(crate) mod fields;
 pub(crate) mod file;
 pub(crate) mod head_so_far;
 pub(crate) mod header_lines;

@@ -1,10 +1,12 @@
 -- The content of the line of a satellite, read without validation.
 use Rattle.std.specs.Prelude.{◌≡◌, ◌≤◌, ℕ, length, zero, suc, ◌+◌, ◌*◌, ◌/◌, ◌%◌, ◌==◌, ◌||◌, ℤ, pos, neg_ℤ, Bool, not}
-use Rattle.std.specs.Prelude.{List, [], ◌∷◌, take, drop, map, slice_index, if◌then◌else◌, Option, Some, None}
+use Rattle.std.specs.Prelude.{List, [], ◌∷◌, take, drop, map, slice_index, if◌then◌else◌, Option, Some, None, All, Any, IsTrue, flat_map}
 use Rattle.gnss_obs.specs.declared.system.System.{System}
 use Rattle.rinex_file.specs.Read.Fields.{digits_in}
 use Rattle.rinex_file.specs.Words.{word}
 use Rattle.rinex_file.specs.Value.{SignalValues, Row, SatelliteRow}
+use Rattle.rinex_file.specs.FileValues.{AreSignalValues, has_some_value}
+use Rattle.rinex_file.specs.Lines.{signal_text}
 use Rattle.rinex_file.specs.Limits.{signal_columns}
 
 -- the digit in a column; 0 for any other byte
@@ -27,6 +29,13 @@ first_in (d ∷ ds) = d
 abbrev pub pairs_in : List ℕ → List ℕ
 pairs_in [] = []
 pairs_in (d ∷ ds) = (d * 10 + first_in ds) ∷ pairs_in ds
+
+-- the numbers of the first eight and of the last columns, from pairs of digits
+abbrev pub high_of : ℕ → ℕ
+high_of p = p % 256 * 1_000_000 + p / 65_536 % 256 * 10_000 + p / 0x1_0000_0000 % 256 * 100 + p / 0x1_0000_0000_0000 % 256
+
+abbrev pub low_of : ℕ → ℕ
+low_of p = p % 256 * 1000 + p / 65_536 % 256 * 100 + p / 0x1_0000_0000 % 256
 
 -- the digits in columns after a number
 abbrev pub size_from : ℕ → List ℕ → ℕ
@@ -71,3 +80,10 @@ row_in signals text =
 -- the same for a satellite of a system
 abbrev pub satellite_row_in : System → ℕ → List ℕ → SatelliteRow
 satellite_row_in system signals text = record { system = system; row = row_in signals text }
+
+-- entries of this number of signals, some of which has a value, in the columns in which they are written
+pub record AreWritten (signals : ℕ) (text : List ℕ) (entries : List SignalValues) : Type 0 where
+  pub each : All AreSignalValues entries
+  pub whole : length entries ≡ signals
+  pub some : Any (λ e. IsTrue (has_some_value e)) entries
+  pub text_is : text ≡ flat_map signal_text entries

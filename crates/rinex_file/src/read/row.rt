@@ -1,20 +1,24 @@
 //! The line of a satellite, read back: its fields are validated, written again and compared.
 ghost use Rattle.std.specs.Prelude.{◌≡◌, ◌↔◌, ℕ, ◌+◌, ◌-◌, ◌*◌, ◌≤◌, ◌<◌, List, [], ◌∷◌, ◌++◌, replicate};
-ghost use Rattle.std.specs.Prelude.{length, Some, IfSome, IsTrue};
+ghost use Rattle.std.specs.Prelude.{length, pos, None, Some, IfSome, IsTrue};
 ghost use Rattle.arrayvec.specs.ArrayVec.{array_vec_len};
 ghost use Rattle.gnss_obs.specs.declared.system.System.{System};
 ghost use Rattle.gnss_obs.specs.Satellites.{satellites};
 ghost use Rattle.rinex_file.specs.FileValues.{IsFrom, AreSignalValues, IsRow, IsSatelliteRow};
-ghost use Rattle.rinex_file.specs.Lines.{satellite_line};
+ghost use Rattle.rinex_file.specs.Blanks.{IsEnded};
+ghost use Rattle.rinex_file.specs.Lines.{satellite_line, signal_text, lli_byte};
+ghost use Rattle.rinex_file.specs.Numbers.{padded};
 ghost use Rattle.rinex_file.specs.Read.Fields.{ReadsExactly, some_if};
-ghost use Rattle.rinex_file.specs.Read.Row.{signal_values_in, satellite_row_in};
+ghost use Rattle.rinex_file.specs.Read.Row.{signal_values_in, satellite_row_in, AreWritten};
 ghost use Rattle.rinex_file.specs.Limits.{most_line, signal_columns, most_signals};
 
 use crate::read::columns::value_in;
+use crate::read::fields::field_in;
 use crate::read::numbers::{digits_in, is_same};
 use crate::values::{KeptSatellite, SignalValues};
-use crate::write::numbers::{Line, SIGNAL_COLUMNS, put, put_blanks};
-use crate::write::satellite::satellite_text;
+use crate::write::numbers::{Line, MOST_SIGNALS, SIGNAL_COLUMNS, put, put_blanks};
+use crate::write::satellite::{letter_of, satellite_text, strength_column};
+use arrayvec::ArrayVec;
 use gnss_obs::{System, Thousandths};
 
 /// The smallest and the largest value that fit 14 columns, in thousandths.
@@ -106,6 +110,127 @@ fn fill(text: &[u8], signals: usize, filled: &mut Line)
     put_blanks(filled, blanks);
 }
 
+/// Returns the loss-of-lock indicator in the LLI column of a phase, or None if it is no such
+/// column.
+fn lli_in(column: u8) -> Option<u8>
+    ensures { IfSome result (λ n. (n < 4) × (lli_byte n ≡ column)) }
+{
+    match column {
+        b' ' => Some(0),
+        b'1'..=b'3' => Some(column - b'0'),
+        _ => None,
+    }
+}
+
+/// Returns whether strength and indicator may be those of a signal.
+fn is_plausible(entry: &SignalValues) -> bool
+    ensures { IsTrue result
+        → IfSome entry.now.s (IsFrom (pos 1) (pos 99_999)) × (entry.now.l ≡ None → entry.now.lli ≡ 0) }
+{
+    let s = is_from(entry.s, 1, 99_999);
+    s && (entry.lli == 0 || entry.l.is_some())
+}
+
+/// Returns the values of a signal, or None if the columns are not as these values are written.
+#[inline(always)]
+fn written_in(text: &[u8]) -> Option<SignalValues>
+    requires { length text.now ≡ signal_columns }
+    ensures { IfSome result (λ e. AreSignalValues e × (text.now ≡ signal_text e)) }
+{
+    let s = field_in(text, 48, b' ', b' ')?;
+    let strength = strength_column(&s);
+    let c = field_in(text, 0, b' ', strength)?;
+    let l = field_in(text, 16, text[30], strength)?;
+    let d = field_in(text, 32, b' ', b' ')?;
+    let lli = lli_in(text[30])?;
+    let entry = SignalValues { c, l, d, s, lli };
+    if is_plausible(&entry) {
+        Some(entry)
+    } else {
+        None
+    }
+}
+
+/// Reads the signals of a line that was padded with blanks. Returns whether the columns are as the
+/// values are written, of which there are some.
+fn put_written_in(
+    text: &[u8],
+    signals: usize,
+    values: &mut ArrayVec<SignalValues, MOST_SIGNALS>,
+) -> bool
+    requires few { signals ≤ most_signals }
+    requires room { length text.now ≡ signal_columns * signals }
+    ensures { IsTrue result → AreWritten signals text.now values.new.items }
+{
+    values.clear();
+    let mut some = false;
+    for i in 0..signals {
+        let at = SIGNAL_COLUMNS * i;
+        match written_in(&text[at..at + SIGNAL_COLUMNS]) {
+            Some(entry) => {
+                some |= entry.has_value();
+                values.push(entry);
+            }
+            None => return false,
+        }
+    }
+    some
+}
+
+/// Returns the number in two columns, or None if they are not two digits.
+fn two_digits_in(tens: u8, ones: u8) -> Option<u8>
+    ensures { IfSome result (λ n. (n < 100) × (padded 2 n ≡ tens ∷ ones ∷ [])) }
+{
+    if tens < b'0' || tens > b'9' {
+        return None;
+    }
+    if ones < b'0' || ones > b'9' {
+        return None;
+    }
+    Some((tens - b'0') * 10 + (ones - b'0'))
+}
+
+/// Returns whether a line ends in a line feed that doesn't follow a blank.
+fn is_ended(line: &[u8]) -> bool
+    ensures { IsTrue result → IsEnded line.now }
+{
+    let end = line.len();
+    end >= 2 && line[end - 1] == b'\n' && line[end - 2] != b' '
+}
+
+/// Reads the satellite of this system in a line, of which `text` is padded with blanks. Returns
+/// whether the line was seen to be that of the satellite: if not, it may still be.
+fn put_judged(
+    line: &[u8],
+    text: &[u8],
+    system: System,
+    signals: usize,
+    seen: &mut KeptSatellite,
+) -> bool
+    requires filled { (t : List ℕ) → line.now ≡ t ++ 10 ∷ []
+        → text.now ≡ t ++ replicate (3 + signal_columns * signals - length t) 32 }
+    requires few { signals ≤ most_signals }
+    requires room { 3 + signal_columns * signals ≤ length text.now }
+    ensures { IsTrue result → (seen.new.system ≡ system) × IsRow (satellites system) signals seen.new.row
+        × (line.now ≡ satellite_line seen.new) }
+{
+    if text.len() != 3 + SIGNAL_COLUMNS * signals || text[0] != letter_of(system) {
+        return false;
+    }
+    if !is_ended(line) {
+        return false;
+    }
+    let Some(id) = two_digits_in(text[1], text[2]) else {
+        return false;
+    };
+    if id == 0 || id > system.satellites() {
+        return false;
+    }
+    seen.system = system;
+    seen.satellite = id;
+    put_written_in(&text[3..], signals, &mut seen.signal_values)
+}
+
 /// Reads the satellite of this system in a line. Returns whether the line is that of one.
 fn read_of(
     line: &[u8],
@@ -120,7 +245,12 @@ fn read_of(
         (some_if result seen.new) }
 {
     fill(line, signals, again);
-    put_seen_in(system, again.as_slice(), signals, seen);
+    let padded = again.as_slice();
+    if put_judged(line, padded, system, signals, seen) {
+        return true;
+    }
+    // No line that was written comes here.
+    put_seen_in(system, padded, signals, seen);
     if !is_row(seen, system.satellites(), signals) {
         return false;
     }

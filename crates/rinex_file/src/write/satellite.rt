@@ -51,7 +51,7 @@ fn lli_column(lli: u8) -> u8
 }
 
 /// Returns the strength (SSI) column of a pseudorange and of a phase.
-fn strength_column(strength: &Option<Thousandths>) -> u8
+pub(crate) fn strength_column(strength: &Option<Thousandths>) -> u8
     ensures { result ≡ strength_byte strength.now }
 {
     match strength {

@@ -1,0 +1,103 @@
+-- A line whose columns are those in which its values are written.
+use Rattle.std.proofs.Common.{arith, ◌≡◌, ◌≢◌, ◌∙◌, sym, ap, ap₂, refl, subst, ℕ, suc, ◌+◌, ◌-◌, ◌*◌, ◌/◌, ◌%◌, ◌<◌, ◌≤◌, List, [], ◌∷◌, ◌++◌, length, take, drop, replicate, get_or, append_assoc, append-nil, take-append-drop, length-append}
+use Rattle.std.specs.Prelude.{All, Any, IsTrue, Bool, true, false, flat_map, ◌||◌}
+use Rattle.std.specs.List.{list_any}
+use Rattle.std.proofs.Math.Seq.{take-add}
+use Rattle.std.proofs.lemmas.List.{drop-drop, take_all, take_more, length-drop, length-take-le, get_or-take}
+use Rattle.std.proofs.lemmas.List.Concat.{flat_map-append}
+use Rattle.std.proofs.lemmas.List.Folds.{Any-from_list_any, list_any-append}
+use Rattle.rinex_file.specs.Value.{SignalValues, Row, SatelliteRow}
+use Rattle.rinex_file.specs.FileValues.{AreSignalValues, has_some_value}
+use Rattle.rinex_file.specs.Read.Row.{AreWritten}
+use Rattle.rinex_file.specs.Blanks.{trimmed, IsEnded}
+use Rattle.rinex_file.specs.Numbers.{padded}
+use Rattle.rinex_file.specs.Lines.{field, signal_text, lli_byte, strength_byte, row_text, satellite_line, letter_of}
+use Rattle.rinex_file.proofs.Cuts.{uncut}
+use Rattle.rinex_file.proofs.DigitWords.{two_digits}
+use Rattle.rinex_file.proofs.HeaderText.{trimmed-blanks}
+
+-- ---- the columns of a signal
+
+cut : (n : ℕ) (text : List ℕ) → text ≡ take n text ++ drop n text
+cut n text = sym (take-append-drop n text)
+
+four_parts : (text : List ℕ) → length text ≡ 64 → text ≡ take 16 text ++ (take 16 (drop 16 text) ++ (take 16 (drop 32 text) ++ take 16 (drop 48 text)))
+four_parts text l =
+    let last : length (drop 48 text) ≡ 16 = length-drop 48 text ∙ omega (arith, l) in
+    cut 16 text
+    ∙ ap (λ t. take 16 text ++ t) (cut 16 (drop 16 text) ∙ ap (λ t. take 16 (drop 16 text) ++ t) (drop-drop 16 16 text ∙ cut 16 (drop 32 text)
+    ∙ ap (λ t. take 16 (drop 32 text) ++ t) (drop-drop 16 32 text ∙ sym (take_all 16 (drop 48 text) (omega (arith, last))))))
+
+pub signal_is : (text : List ℕ) (e : SignalValues) → length text ≡ 64
+    → take 16 text ≡ field e.c 32 (strength_byte e.s) → take 16 (drop 16 text) ≡ field e.l (lli_byte e.lli) (strength_byte e.s)
+    → take 16 (drop 32 text) ≡ field e.d 32 32 → take 16 (drop 48 text) ≡ field e.s 32 32 → text ≡ signal_text e
+unfolding signal_text
+signal_is text e size c l d s = four_parts text size ∙ ap₂ (λ a b. a ++ b) c (ap₂ (λ a b. a ++ b) l (ap₂ (λ a b. a ++ b) d s))
+
+-- one more signal
+pub signals_more : (text : List ℕ) (i k at : ℕ) (es new : List SignalValues) (e : SignalValues) → k ≡ 64 → at ≡ 64 * i → new ≡ es ++ e ∷ []
+    → flat_map signal_text es ≡ take (64 * i) text → take k (drop at text) ≡ signal_text e → flat_map signal_text new ≡ take (64 * (i + 1)) text
+signals_more text i k at es new e size place pushed before here =
+    let next : 64 * i + 64 ≡ 64 * (i + 1) = omega arith in
+    ap (flat_map signal_text) pushed ∙ flat_map-append signal_text es (e ∷ [])
+    ∙ ap₂ (λ a b. a ++ b) before (append-nil (signal_text e) ∙ sym here ∙ ap₂ (λ m n. take m (drop n text)) size place)
+    ∙ sym (take-add (64 * i) 64 text) ∙ ap (λ n. take n text) next
+
+or_none : (b : Bool) → (b || false) ≡ b
+or_none true = refl
+or_none false = refl
+
+pub some_more : (es new : List SignalValues) (e : SignalValues) (a b : Bool) → new ≡ es ++ e ∷ [] → a ≡ list_any has_some_value es → b ≡ has_some_value e
+    → (a || b) ≡ list_any has_some_value new
+some_more es new e a b pushed is here = ap₂ (λ s t. s || t) is here ∙ sym (ap (list_any has_some_value) pushed ∙ list_any-append has_some_value es (e ∷ []) ∙ ap (λ t. list_any has_some_value es || t) (or_none (has_some_value e)))
+
+pub all_written : (signals i : ℕ) (text : List ℕ) (es : List SignalValues) (some : Bool) → i ≡ signals → length text ≡ 64 * signals → All AreSignalValues es → length es ≡ i
+    → some ≡ list_any has_some_value es → flat_map signal_text es ≡ take (64 * i) text → IsTrue some → AreWritten signals text es
+all_written signals i text es some end size each whole is shown held =
+    record {
+      each = each;
+      whole = whole ∙ end;
+      some = Any-from_list_any has_some_value es (sym is ∙ held);
+      text_is = sym (shown ∙ take_all (64 * i) text (omega (arith, size, end)));
+    }
+
+-- ---- the number of a satellite
+
+pub number_shown : (t o : ℕ) → 48 ≤ t → t ≤ 57 → 48 ≤ o → o ≤ 57 → padded 2 ((t - 48) * 10 + (o - 48)) ≡ t ∷ o ∷ []
+number_shown t o a b c d =
+    let n = (t - 48) * 10 + (o - 48) in
+    let tens : 48 + n / 10 ≡ t = omega (arith, a, b, c, d) in
+    let ones : 48 + n % 10 ≡ o = omega (arith, a, b, c, d) in
+    two_digits n (omega (arith, b, d)) ∙ ap₂ (λ x y. x ∷ y ∷ []) tens ones
+
+-- ---- the end of a line
+
+pub ended : (line : List ℕ) → 2 ≤ length line → get_or line (length line - 1) 0 ≡ 10 → get_or line (length line - 2) 0 ≢ 32 → IsEnded line
+ended line long feed other =
+    let n = length line - 1 in
+    let t = take n line in
+    let size : length t ≡ n = length-take-le n line (omega arith) in
+    let all : line ≡ take (n + 1) line = sym (take_all (n + 1) line (omega (arith, long))) in
+    let last : get_or t (length t - 1) 0 ≡ get_or line (length line - 2) 0 =
+    ap (λ k. get_or t (k - 1) 0) size ∙ get_or-take n line (n - 1) 0 (omega (arith, long)) ∙ ap (λ k. get_or line k 0) (omega (arith, long)) in (
+      t,
+      all ∙ take_more line n 0 (omega (arith, long)) ∙ ap (λ b. t ++ b ∷ []) feed,
+      sym (uncut t (length t) refl (omega (arith, size, long)) (λ blank. other (sym last ∙ blank))),
+    )
+
+-- ---- the line of a satellite
+
+pub line_is : (v : SatelliteRow) (line text : List ℕ) (width : ℕ) → IsEnded line
+    → ((t : List ℕ) → line ≡ t ++ 10 ∷ [] → text ≡ t ++ replicate (width - length t) 32) → text ≡ row_text (letter_of v.system) v.row → line ≡ satellite_line v
+unfolding satellite_line
+line_is v line text width (t, is, whole) filled shown =
+    is ∙ ap (λ l. l ++ 10 ∷ []) (sym whole ∙ sym (trimmed-blanks (width - length t) t) ∙ ap trimmed (sym (filled t is) ∙ shown))
+
+-- letter, number and signals
+pub text_is : (text : List ℕ) (letter tens ones id : ℕ) (es : List SignalValues) → 3 ≤ length text → get_or text 0 0 ≡ letter → get_or text 1 0 ≡ tens → get_or text 2 0 ≡ ones
+    → padded 2 id ≡ tens ∷ ones ∷ [] → drop 3 text ≡ flat_map signal_text es → text ≡ row_text letter (record { satellite = id; signal_values = es })
+text_is (a ∷ b ∷ c ∷ rest) letter tens ones id es long first second third number signals =
+    ap₂ (λ x y. x ∷ b ∷ c ∷ y) first signals ∙ ap₂ (λ x y. letter ∷ x ∷ y ∷ flat_map signal_text es) second third ∙ ap (λ l. letter ∷ (l ++ flat_map signal_text es)) (sym number)
+text_is (a ∷ b ∷ []) letter tens ones id es long first second third number signals = absurd (omega (arith, long))
+text_is (a ∷ []) letter tens ones id es long first second third number signals = absurd (omega (arith, long))
+text_is [] letter tens ones id es long first second third number signals = absurd (omega (arith, long))
