@@ -1,10 +1,10 @@
 -- The columns of a value: blanks, a sign, digits, a point and three digits.
-use Rattle.std.proofs.Common.{arith, ◌≡◌, ◌∙◌, sym, ap, ℕ, ◌+◌, ◌-◌, ◌/◌, ◌%◌, ◌^◌, ◌<◌, ◌≤◌, List, [], ◌∷◌, ◌++◌, length, replicate, append_assoc, length-append, decimal, ℤ, pos, negsuc, unsigned_abs, true, false, w64}
+use Rattle.std.proofs.Common.{arith, ◌≡◌, ◌∙◌, sym, ap, refl, ℕ, zero, suc, ◌+◌, ◌-◌, ◌/◌, ◌%◌, ◌^◌, ◌<◌, ◌≤◌, List, [], ◌∷◌, ◌++◌, length, replicate, append_assoc, length-append, decimal, ℤ, pos, negsuc, unsigned_abs, true, false, w64}
 use Rattle.std.specs.Prelude.{set, Some}
 use Rattle.std.specs.Int.{is_negative, to_le_bytes}
 use Rattle.std.specs.Fmt.{sign_text}
 use Rattle.std.proofs.lemmas.Fmt.{length-decimal-le}
-use Rattle.std.proofs.lemmas.List.{length-replicate, replicate-append-replicate, set_at}
+use Rattle.std.proofs.lemmas.List.{length-replicate, length-set, replicate-append-replicate, set_at}
 use Rattle.std.proofs.lemmas.Int.{ints}
 use Rattle.rinex_file.specs.FileValues.{FitsColumns}
 use Rattle.rinex_file.specs.Numbers.{padded, right, fixed}
@@ -71,3 +71,70 @@ signed v n first last start lost strength fits size sign are =
     ∙ ap (λ k. (45 ∷ decimal (k / 1000)) ++ 46 ∷ padded 3 (k % 1000)) (sym size) in
     ap (λ t. set t (start - 1) 45) are.1 ∙ columns-signed (decimal (n / 1000)) (padded 3 (n % 1000)) lost strength start are.0 some (length-three (n % 1000) (omega arith))
     ∙ ap (λ t. right 14 t ++ lost ∷ strength ∷ []) (sym text)
+
+-- ---- a field of which the two last columns are written after the others
+
+set_before : (xs ys : List ℕ) (k b : ℕ) → k < length xs → set (xs ++ ys) k b ≡ set xs k b ++ ys
+set_before [] ys k b h = absurd (omega (arith, h))
+set_before (x ∷ xs) ys zero b h = refl
+set_before (x ∷ xs) ys (suc k) b h = ap (λ l. x ∷ l) (set_before xs ys k b (omega (arith, h)))
+
+ends_set : (xs : List ℕ) (a b : ℕ) → length xs ≡ 14 → set (set (xs ++ 32 ∷ 32 ∷ []) 14 a) 15 b ≡ xs ++ a ∷ b ∷ []
+ends_set xs a b l =
+    let size : length (xs ++ a ∷ []) ≡ 15 = length-append xs (a ∷ []) ∙ omega (arith, l) in
+    ap (λ t. set t 15 b) (set_at xs 32 (32 ∷ []) a 14 l ∙ sym (append_assoc xs (a ∷ []) (32 ∷ []))) ∙ set_at (xs ++ a ∷ []) 32 [] b 15 size ∙ append_assoc xs (a ∷ []) (b ∷ [])
+
+-- the first 14 columns, and the others
+abbrev before_ends : ℕ → List ℕ → List ℕ → List ℕ
+before_ends r d p = replicate r 32 ++ (d ++ 46 ∷ p)
+
+shape : (r : ℕ) (d p : List ℕ) (a b : ℕ) → replicate r 32 ++ (d ++ (46 ∷ p ++ a ∷ b ∷ [])) ≡ before_ends r d p ++ a ∷ b ∷ []
+shape r d p a b = sym (append_assoc (replicate r 32) (d ++ 46 ∷ p) (a ∷ b ∷ []) ∙ ap (λ t. replicate r 32 ++ t) (append_assoc d (46 ∷ p) (a ∷ b ∷ [])))
+
+length-before : (r : ℕ) (d p : List ℕ) → r + length d ≡ 10 → length p ≡ 3 → length (before_ends r d p) ≡ 14
+length-before r d p e k =
+    let l = length-append (replicate r 32) (d ++ 46 ∷ p) in
+    let m = length-append d (46 ∷ p) in
+    let n = length-replicate {A = ℕ} r 32 in
+    omega (arith, l, m, n, e, k)
+
+pub plain_lanes : (v : ℤ) (n lost strength : ℕ) (text : List ℕ) → FitsColumns v → n ≡ unsigned_abs v → is_negative v ≡ false
+    → text ≡ replicate (10 - length (decimal (n / 1000))) 32 ++ (decimal (n / 1000) ++ (46 ∷ padded 3 (n % 1000) ++ 32 ∷ 32 ∷ []))
+    → set (set text 14 lost) 15 strength ≡ field (Some v) lost strength
+unfolding field
+plain_lanes v n lost strength text fits size sign is =
+    let d : List ℕ = decimal (n / 1000) in
+    let p : List ℕ = padded 3 (n % 1000) in
+    let r : ℕ = 10 - length d in
+    let most = within_columns v fits in
+    let short = length-decimal-le 10 (n / 1000) (omega arith) (omega (arith, size, most)) (omega (arith, size, most)) in
+    let e : r + length d ≡ 10 = omega (arith, short) in
+    let k = length-three (n % 1000) (omega arith) in
+    let whole : fixed 3 v ≡ d ++ 46 ∷ p =
+    ap (λ b. (sign_text b ++ decimal (unsigned_abs v / 1000)) ++ 46 ∷ padded 3 (unsigned_abs v % 1000)) sign
+    ∙ ap (λ m. decimal (m / 1000) ++ 46 ∷ padded 3 (m % 1000)) (sym size) in
+    ap (λ t. set (set t 14 lost) 15 strength) (is ∙ shape r d p 32 32) ∙ ends_set (before_ends r d p) lost strength (length-before r d p e k) ∙ sym (shape r d p lost strength)
+    ∙ columns-plain d p lost strength r e k ∙ ap (λ t. right 14 t ++ lost ∷ strength ∷ []) (sym whole)
+
+pub signed_lanes : (v : ℤ) (n lost strength : ℕ) (text : List ℕ) → FitsColumns v → n ≡ unsigned_abs v → is_negative v ≡ true
+    → text ≡ set (replicate (10 - length (decimal (n / 1000))) 32 ++ (decimal (n / 1000) ++ (46 ∷ padded 3 (n % 1000) ++ 32 ∷ 32 ∷ []))) (10 - length (decimal (n / 1000)) - 1) 45
+    → set (set text 14 lost) 15 strength ≡ field (Some v) lost strength
+unfolding field
+signed_lanes v n lost strength text fits size sign is =
+    let d : List ℕ = decimal (n / 1000) in
+    let p : List ℕ = padded 3 (n % 1000) in
+    let r : ℕ = 10 - length d in
+    let most = within_signed v fits sign in
+    let short = nine_digits n (omega (arith, size, most)) in
+    let e : r + length d ≡ 10 = omega (arith, short) in
+    let some : 1 ≤ r = omega (arith, short) in
+    let k = length-three (n % 1000) (omega arith) in
+    let pre : List ℕ = before_ends r d p in
+    let l = length-before r d p e k in
+    let early : r - 1 < length pre = omega (arith, l) in
+    let whole : fixed 3 v ≡ (45 ∷ d) ++ 46 ∷ p =
+    ap (λ b. (sign_text b ++ decimal (unsigned_abs v / 1000)) ++ 46 ∷ padded 3 (unsigned_abs v % 1000)) sign
+    ∙ ap (λ m. (45 ∷ decimal (m / 1000)) ++ 46 ∷ padded 3 (m % 1000)) (sym size) in
+    ap (λ t. set (set t 14 lost) 15 strength) (is ∙ ap (λ t. set t (r - 1) 45) (shape r d p 32 32) ∙ set_before pre (32 ∷ 32 ∷ []) (r - 1) 45 early)
+    ∙ ends_set (set pre (r - 1) 45) lost strength (length-set pre (r - 1) 45 ∙ l) ∙ sym (set_before pre (lost ∷ strength ∷ []) (r - 1) 45 early)
+    ∙ ap (λ t. set t (r - 1) 45) (sym (shape r d p lost strength)) ∙ columns-signed d p lost strength r e some k ∙ ap (λ t. right 14 t ++ lost ∷ strength ∷ []) (sym whole)

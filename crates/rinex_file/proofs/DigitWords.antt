@@ -37,11 +37,11 @@ pair_at i h =
 
 -- ---- trailing zeros
 
-even : (k n : ℕ) → n % 2 ≡ 0 → count_trailing_zeros (suc k) n ≡ suc (count_trailing_zeros k (n / 2))
+pub even : (k n : ℕ) → n % 2 ≡ 0 → count_trailing_zeros (suc k) n ≡ suc (count_trailing_zeros k (n / 2))
 unfolding count_trailing_zeros
 even k n e = ap (λ d. under d (count_trailing_zeros k (n / 2))) e
 
-odd : (k n : ℕ) → n % 2 ≡ 1 → count_trailing_zeros (suc k) n ≡ 0
+pub odd : (k n : ℕ) → n % 2 ≡ 1 → count_trailing_zeros (suc k) n ≡ 0
 unfolding count_trailing_zeros
 odd k n e = ap (λ d. under d (count_trailing_zeros k (n / 2))) e
 

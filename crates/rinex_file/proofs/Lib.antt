@@ -1,6 +1,8 @@
 mod Digits
 mod DigitWords
 mod EightDigits
+mod LaneDigits
+mod LaneColumns
 mod ColumnDigits
 mod FieldWords
 mod Cuts

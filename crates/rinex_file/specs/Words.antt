@@ -46,3 +46,10 @@ AreBelow n (b ∷ bs) = (b < n) × AreBelow n bs
 -- the number has eight bytes, each less than n
 abbrev pub IsWordBelow : ℕ → ℕ → Type 0
 IsWordBelow n w = (bs : List ℕ) × (length bs ≡ 8) × AreBelow n bs × (w ≡ word bs)
+
+-- a field without its digits: the first `empty` of n columns are blank, then those of the last digit, of a point and of
+-- thousandths, LLI and SSI
+abbrev pub template : ℕ → ℕ → List ℕ
+template zero empty = 48 ∷ 46 ∷ 48 ∷ 48 ∷ 48 ∷ 32 ∷ 32 ∷ []
+template (suc n) zero = 48 ∷ template n zero
+template (suc n) (suc empty) = 32 ∷ template n empty

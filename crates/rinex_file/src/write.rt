@@ -9,6 +9,7 @@ ghost use Rattle.rinex_file.specs.Heads.{head_text};
 pub(crate) mod digits;
 pub(crate) mod epoch;
 pub(crate) mod file;
+pub(crate) mod lanes;
 pub(crate) mod numbers;
 pub(crate) mod satellite;
 

@@ -14,15 +14,36 @@ ghost use Rattle.rinex_file.specs.Limits.{most_line, signal_columns, value_colum
 
 use crate::values::SignalValues;
 use crate::write::digits::columns_of;
+use crate::write::lanes::columns_in;
 use crate::write::numbers::{Line, MOST_LINE, SIGNAL_COLUMNS, VALUE_COLUMNS, put, put_blanks};
 use gnss_obs::{Cell, Epoch, Plan, Sat, System, Thousandths, strength_digit};
 use std::marker::Model;
+use std::simd::prelude::*;
 
 /// Writes a value as F14.3 and the LLI and SSI columns after it, or 16 blanks if it is absent. Its
 /// whole part may have ten digits, or nine and a minus.
 #[inline(always)]
 #[tactic(auto, unfolding(crate::specs::Lines::field))]
 fn put_value(columns: &mut [u8], value: &Option<Thousandths>, lost: u8, strength: u8)
+    requires fits { IfSome value.now FitsColumns }
+    requires room { length columns.old ≡ value_columns }
+    ensures text { columns.new ≡ field value.now lost strength }
+    ensures size { length columns.new ≡ value_columns }
+{
+    let Some(value) = value else {
+        columns.fill(b' ');
+        return;
+    };
+    let value = value.value();
+    columns_in(value.unsigned_abs(), value < 0).copy_to_slice(columns);
+    columns[14] = lost;
+    columns[15] = strength;
+}
+
+/// Writes a value as [`put_value`] does, in fewer steps if the value is below 100.
+#[inline(always)]
+#[tactic(auto, unfolding(crate::specs::Lines::field))]
+fn put_short(columns: &mut [u8], value: &Option<Thousandths>, lost: u8, strength: u8)
     requires fits { IfSome value.now FitsColumns }
     requires room { length columns.old ≡ value_columns }
     ensures text { columns.new ≡ field value.now lost strength }
@@ -133,7 +154,9 @@ fn put_signal(columns: &mut [u8], values: &Shown)
     let strength = strength_column(values.s);
     let (front, back) = columns.split_at_mut(2 * VALUE_COLUMNS);
     put_pair(front, values.c, values.l, lli_column(*values.lli), strength);
-    put_pair(back, values.d, values.s, b' ', b' ');
+    let (shift, density) = back.split_at_mut(VALUE_COLUMNS);
+    put_value(shift, values.d, b' ', b' ');
+    put_short(density, values.s, b' ', b' ');
 }
 
 /// Begins the line of a satellite: its letter and number, replacing the contents of the buffer.

@@ -1,4 +1,4 @@
-use Rattle.std.proofs.Common.{arith, ◌≡◌, ◌*◌, ◌-◌, ◌+◌, ap, length, take}
+use Rattle.std.proofs.Common.{arith, ◌≡◌, ◌*◌, ◌-◌, ◌+◌, length, take}
 use Rattle.std.proofs.lemmas.List.{length-take-le}
 use Rattle.rinex_file.proofs.CellPlaces.{put_first}
 use Rattle.rinex_file.proofs.write.satellite.put_columns.Goals as goal

@@ -1,0 +1,104 @@
+-- Numbers of two digits, in lanes of two bytes.
+use Rattle.std.proofs.Common.{arith, ◌≡◌, ◌∙◌, ap, refl, eqb, false, not, cond, ℕ, zero, suc, ◌+◌, ◌*◌, ◌/◌, ◌%◌, ◌^◌, ◌<◌, ◌≤◌, List, [], ◌∷◌, map, length, take, get_or}
+use Rattle.std.specs.Prelude.{⊤}
+use lib.Count.{count_trailing_zeros}
+use lib.Lanes.{number_l, digits_l, mask_l, top, zip2}
+use Rattle.std.proofs.lemmas.Bool.{ne_eqb}
+use Rattle.std.proofs.lemmas.List.{length-map}
+use Rattle.std.proofs.lemmas.Simd.{mask_l-mod, length-zip2}
+use Rattle.rinex_file.specs.Words.{leading}
+use Rattle.rinex_file.proofs.DigitWords.{even, odd}
+
+-- a lane with its tens in the upper byte and its ones in the lower
+abbrev pub lane : ℕ → ℕ
+lane z = (z + (z / 10 * 246 % 65536)) % 65536
+
+abbrev pub lanes : List ℕ → List ℕ
+lanes [] = []
+lanes (z ∷ zs) = lane z ∷ lanes zs
+
+abbrev pub pairs : List ℕ → List ℕ
+pairs [] = []
+pairs (z ∷ zs) = z % 10 ∷ z / 10 ∷ pairs zs
+
+abbrev pub twice : List ℕ → ℕ
+twice [] = 0
+twice (z ∷ zs) = suc (suc (twice zs))
+
+abbrev pub Below : List ℕ → Type 0
+Below [] = ⊤
+Below (z ∷ zs) = (z < 100) × Below zs
+
+pub bytes_of : (zs : List ℕ) → Below zs → digits_l 256 (twice zs) (number_l 65536 (lanes zs)) ≡ pairs zs
+bytes_of [] h = refl
+bytes_of (z ∷ zs) h =
+    let rest = number_l 65536 (lanes zs) in
+    let is : lane z ≡ z % 10 + 256 * (z / 10) = omega (arith, h.0) in
+    let ones : (lane z + 65536 * rest) % 256 ≡ z % 10 = omega (arith, h.0, is) in
+    let tens : (lane z + 65536 * rest) / 256 % 256 ≡ z / 10 = omega (arith, h.0, is) in
+    let on : (lane z + 65536 * rest) / 256 / 256 ≡ rest = omega (arith, h.0, is) in
+    (λ i. ones i ∷ tens i ∷ digits_l 256 (twice zs) (on i)) ∙ ap (λ l. z % 10 ∷ z / 10 ∷ l) (bytes_of zs h.1)
+
+-- the digits of a number, two in each lane, the last ones first
+abbrev pub two : ℕ → List ℕ
+two n = n % 100 ∷ n / 100 % 100 ∷ n / 10_000 % 100 ∷ n / 1_000_000 % 100 ∷ n / 100_000_000 % 100 ∷ n / 10_000_000_000 % 100 ∷ n / 1_000_000_000_000 ∷ 0 ∷ []
+
+pub ones_and_tens : (n : ℕ) → n < 10 ^ 13
+    → pairs (two n) ≡ n % 10 ∷ n / 10 % 10 ∷ n / 100 % 10 ∷ n / 1000 % 10 ∷ n / 10_000 % 10 ∷ n / 100_000 % 10 ∷ n / 1_000_000 % 10 ∷ n / 10_000_000 % 10 ∷ n / 100_000_000 % 10 ∷ n / 1_000_000_000 % 10
+    ∷ n / 10_000_000_000 % 10 ∷ n / 100_000_000_000 % 10 ∷ n / 1_000_000_000_000 ∷ 0 ∷ 0 ∷ 0 ∷ []
+ones_and_tens n h =
+    let o0 : n % 100 % 10 ≡ n % 10 = omega arith in
+    let t0 : n % 100 / 10 ≡ n / 10 % 10 = omega arith in
+    let o1 : n / 100 % 100 % 10 ≡ n / 100 % 10 = omega arith in
+    let t1 : n / 100 % 100 / 10 ≡ n / 1_000 % 10 = omega arith in
+    let o2 : n / 10_000 % 100 % 10 ≡ n / 10_000 % 10 = omega arith in
+    let t2 : n / 10_000 % 100 / 10 ≡ n / 100_000 % 10 = omega arith in
+    let o3 : n / 1_000_000 % 100 % 10 ≡ n / 1_000_000 % 10 = omega arith in
+    let t3 : n / 1_000_000 % 100 / 10 ≡ n / 10_000_000 % 10 = omega arith in
+    let o4 : n / 100_000_000 % 100 % 10 ≡ n / 100_000_000 % 10 = omega arith in
+    let t4 : n / 100_000_000 % 100 / 10 ≡ n / 1_000_000_000 % 10 = omega arith in
+    let o5 : n / 10_000_000_000 % 100 % 10 ≡ n / 10_000_000_000 % 10 = omega arith in
+    let t5 : n / 10_000_000_000 % 100 / 10 ≡ n / 100_000_000_000 % 10 = omega arith in
+    let o6 : n / 1_000_000_000_000 % 10 ≡ n / 1_000_000_000_000 = omega (arith, h) in
+    let t6 : n / 1_000_000_000_000 / 10 ≡ 0 = omega (arith, h) in
+    λ i. o0 i ∷ t0 i ∷ o1 i ∷ t1 i ∷ o2 i ∷ t2 i ∷ o3 i ∷ t3 i ∷ o4 i ∷ t4 i ∷ o5 i ∷ t5 i ∷ o6 i ∷ t6 i ∷ 0 ∷ 0 ∷ []
+
+-- ---- leading zeros
+
+-- n times 0, and then 255
+abbrev pub ends : ℕ → List ℕ → List ℕ
+ends zero rest = 255 ∷ rest
+ends (suc n) rest = 0 ∷ ends n rest
+
+-- where the lanes differ
+abbrev pub flags : List ℕ → List ℕ → ℕ
+flags xs ys = mask_l (map (top 7) (zip2 (λ a b. cond (not (eqb a b)) 255 0) xs ys))
+
+-- a number of bits after n others
+abbrev pub more_bits : ℕ → ℕ → ℕ
+more_bits zero k = suc k
+more_bits (suc n) k = suc (more_bits n k)
+
+-- the first lane that differs is that of the first digit other than zero
+pub first_flag : (n k : ℕ) (xs rest : List ℕ) → n < length xs → get_or xs n 0 < 255 → count_trailing_zeros (more_bits n k) (flags xs (ends n rest)) ≡ leading (take n xs)
+first_flag n k [] rest h small = absurd (omega (arith, h))
+first_flag zero k (x ∷ xs) rest h small =
+    let apart : eqb x 255 ≡ false = ne_eqb x 255 (λ e. omega (arith, e, small)) in
+    let m : ℕ = flags xs rest in
+    ap (λ b. count_trailing_zeros (suc k) (cond (top 7 (cond (not b) 255 0)) 1 0 + 2 * m)) apart ∙ odd k (1 + 2 * m) (omega arith)
+first_flag (suc n) k (zero ∷ xs) rest h small =
+    let m : ℕ = flags xs (ends n rest) in
+    let half : (0 + 2 * m) / 2 ≡ m = omega arith in
+    even (more_bits n k) (0 + 2 * m) (omega arith) ∙ ap suc (ap (count_trailing_zeros (more_bits n k)) half ∙ first_flag n k xs rest (omega (arith, h)) small)
+first_flag (suc n) k (suc d ∷ xs) rest h small =
+    let apart : eqb (suc d) 0 ≡ false = ne_eqb (suc d) 0 (λ e. omega (arith, e)) in
+    let m : ℕ = flags xs (ends n rest) in
+    ap (λ b. count_trailing_zeros (suc (more_bits n k)) (cond (top 7 (cond (not b) 255 0)) 1 0 + 2 * m)) apart ∙ odd (more_bits n k) (1 + 2 * m) (omega arith)
+
+-- a mask of at most 64 lanes
+pub few_flags : (xs ys : List ℕ) → length xs ≡ length ys → length xs ≤ 64 → flags xs ys % 2 ^ 64 ≡ flags xs ys
+few_flags xs ys same few =
+    let differ = λ (a b : ℕ). cond (not (eqb a b)) 255 0 in
+    let lanes_are = length-map (zip2 differ xs ys) (top 7) in
+    let size = length-zip2 differ xs ys same in
+    mask_l-mod (map (top 7) (zip2 differ xs ys)) 64 (omega (arith, lanes_are, size, few))
