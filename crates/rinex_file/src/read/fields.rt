@@ -129,6 +129,7 @@ fn value_of(first: u64, last: u64, lost: u8, strength: u8) -> Option<Thousandths
 
 /// Returns the value of the field in these columns, with these LLI and SSI columns if there is a
 /// value, or None if they are not as they are written.
+#[inline(always)]
 pub(crate) fn field_in(
     text: &[u8],
     at: usize,
