@@ -24,7 +24,7 @@ into_front r m h k =
     ∙ ap (λ (n : ℕ). remainder n (add_front r m ++ replicate 24 false)) (sym (length-add_front r m))
 
 -- the remainder of a sum
-sum_remainder : (p q : List Bool) → length p ≡ length q → bits_remainder (add_front p q) ≡ add_front (bits_remainder p) (bits_remainder q)
+pub sum_remainder : (p q : List Bool) → length p ≡ length q → bits_remainder (add_front p q) ≡ add_front (bits_remainder p) (bits_remainder q)
 unfolding bits_remainder
 sum_remainder p q h =
     let z : List Bool = replicate 24 false in
@@ -59,10 +59,10 @@ front_sizes c rest =
     let z : length (bits_of (replicate (length rest) 0)) ≡ length (bits_of rest) = ap length (zero_bits rest) ∙ length-replicate (length (bits_of rest)) false in
     omega (arith, z, length-uint 8 c, length-append (uint 8 c) (bits_of (replicate (length rest) 0)), length-append (replicate 8 false) (bits_of rest))
 
-number_is : (x y : ℕ) → x < 2 ^ 24 → y < 2 ^ 24 → uint 24 x ≡ uint 24 y → x ≡ y
+pub number_is : (x y : ℕ) → x < 2 ^ 24 → y < 2 ^ 24 → uint 24 x ≡ uint 24 y → x ≡ y
 number_is x y h k e = sym (number_of-uint 24 x h) ∙ ap number e ∙ number_of-uint 24 y k
 
-check_front : (c : ℕ) (rest : List ℕ) → crc (c ∷ rest) ≡ bit_xor (crc rest) (crc (c ∷ replicate (length rest) 0))
+pub check_front : (c : ℕ) (rest : List ℕ) → crc (c ∷ rest) ≡ bit_xor (crc rest) (crc (c ∷ replicate (length rest) 0))
 unfolding bits_of
 check_front c rest =
     let zeros : List ℕ = replicate (length rest) 0 in
@@ -90,7 +90,7 @@ taken_in h m l a b c rest =
     ∙ ap (λ (t : List Bool). uint 8 (bit_xor m b) ++ t)
     (add_front-append (uint 8 l) (uint 8 c) rest (omega (arith, length-uint 8 l, length-uint 8 c)) ∙ ap (λ (t : List Bool). t ++ rest) (sym (uint-xor 8 l c))))
 
-into_bytes : (x h m l a b c : ℕ) (rest : List ℕ) → x ≡ h * 65536 + (m * 256 + l) → m < 256 → l < 256
+pub into_bytes : (x h m l a b c : ℕ) (rest : List ℕ) → x ≡ h * 65536 + (m * 256 + l) → m < 256 → l < 256
     → after_bits (uint 24 x) (bits_of (a ∷ b ∷ c ∷ rest)) ≡ uint 24 (crc (bit_xor h a ∷ bit_xor m b ∷ bit_xor l c ∷ rest))
 unfolding bits_of
 into_bytes x h m l a b c rest e j k =
@@ -102,7 +102,7 @@ into_bytes x h m l a b c rest e j k =
     ∙ ap bits_remainder (taken_in h m l a b c (bits_of rest)) ∙ sym (check_is (bit_xor h a ∷ bit_xor m b ∷ bit_xor l c ∷ rest))
 
 -- each table is the one before it, with eight bits of 0 more
-abbrev next_entry : ℕ → ℕ
+abbrev pub next_entry : ℕ → ℕ
 next_entry x = bit_xor (bit_and x 65535 * 256) (get_or TABLES (x / 65536) 0)
 
 tables_go_on : drop 256 TABLES ≡ map next_entry (take 3840 TABLES)
@@ -113,18 +113,19 @@ entry_after j h =
     sym (get_or-drop 256 TABLES j 0) ∙ ap (λ (t : List ℕ). get_or t j 0) tables_go_on ∙ get_or-map next_entry (take 3840 TABLES) j 0 0 (omega (arith, h, length-take-le 3840 TABLES (lit≤ tt)))
     ∙ ap next_entry (get_or-take 3840 TABLES j 0 h)
 
-zero_after : (m : List ℕ) → next_entry (crc m) ≡ crc (m ++ 0 ∷ [])
-zero_after m =
-    let x : ℕ = crc m in
-    let t : ℕ = get_or TABLES (crc m / 65536) 0 in
-    let b : crc m < 2 ^ 24 = check_below m in
-    let i : crc m / 65536 < 256 = omega (arith, b) in
-    let e : get_or TABLES (crc m / 65536) 0 ≡ crc (bit_xor (crc m / 65536) 0 ∷ []) = table_right (crc m / 65536) i ∙ ap (λ (n : ℕ). crc (n ∷ [])) (sym (xor_zero_r (crc m / 65536))) in
-    let a : bit_and (crc m) 65535 ≡ crc m % 65536 = and_mask (crc m) 16 in
-    let l : bit_and (crc m) 65535 * 256 < 2 ^ 24 = omega (arith, a) in
-    let r : get_or TABLES (crc m / 65536) 0 < 2 ^ 24 = rw e (check_below (bit_xor (crc m / 65536) 0 ∷ [])) in
-    check_push m (crc m) (next_entry (crc m)) 0 refl (xor_lt 24 (bit_and (crc m) 65535 * 256) (get_or TABLES (crc m / 65536) 0) l r)
-    (table_step (crc m) (next_entry (crc m)) 0 (get_or TABLES (crc m / 65536) 0) b (lit< tt) e refl)
+pub next_right : (x : ℕ) → x < 2 ^ 24 → (next_entry x < 2 ^ 24) × (uint 24 (next_entry x) ≡ after_bits (uint 24 x) (uint 8 0))
+next_right x b =
+    let i : x / 65536 < 256 = omega (arith, b) in
+    let e : get_or TABLES (x / 65536) 0 ≡ crc (bit_xor (x / 65536) 0 ∷ []) = table_right (x / 65536) i ∙ ap (λ (n : ℕ). crc (n ∷ [])) (sym (xor_zero_r (x / 65536))) in
+    let a : bit_and x 65535 ≡ x % 65536 = and_mask x 16 in
+    let l : bit_and x 65535 * 256 < 2 ^ 24 = omega (arith, a) in
+    let r : get_or TABLES (x / 65536) 0 < 2 ^ 24 = rw e (check_below (bit_xor (x / 65536) 0 ∷ [])) in (
+      xor_lt 24 (bit_and x 65535 * 256) (get_or TABLES (x / 65536) 0) l r,
+      table_step x (next_entry x) 0 (get_or TABLES (x / 65536) 0) b (lit< tt) e refl,
+    )
+
+pub zero_after : (m : List ℕ) → next_entry (crc m) ≡ crc (m ++ 0 ∷ [])
+zero_after m = let r = next_right (crc m) (check_below m) in check_push m (crc m) (next_entry (crc m)) 0 refl r.0 r.1
 
 pub entry_right : (k i : ℕ) → i < 256 → k < 16 → get_or TABLES (k * 256 + i) 0 ≡ crc (i ∷ replicate k 0)
 entry_right zero i h l = let z : 0 * 256 + i ≡ i = omega arith in ap (λ (n : ℕ). get_or TABLES n 0) z ∙ table_right i h

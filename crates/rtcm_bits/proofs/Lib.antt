@@ -15,3 +15,5 @@ pub mod WindowLemmas
 pub mod DeviceLemmas
 pub mod BufferLemmas
 pub mod Examples
+pub mod FoldLemmas
+pub mod LongLemmas

@@ -82,7 +82,7 @@ add_split [] (d ∷ b) x y h = absurd (omega arith)
 add_split (c ∷ a) [] x y h = absurd (omega arith)
 add_split (c ∷ a) (d ∷ b) x y h = ap (λ q. plus c d ∷ q) (add_split a b x y (omega (arith, h)))
 
-add_to_zeros : (r : List Bool) (k : ℕ) → add_front r (replicate (length r) false ++ replicate k false) ≡ r ++ replicate k false
+pub add_to_zeros : (r : List Bool) (k : ℕ) → add_front r (replicate (length r) false ++ replicate k false) ≡ r ++ replicate k false
 add_to_zeros r k = add_front-append r (replicate (length r) false) (replicate k false) (omega (arith, length-replicate (length r) false)) ∙ ap (λ q. q ++ replicate k false) (add_front_to_zeros r)
 
 -- eight bits at once

@@ -8,3 +8,4 @@ pub mod FrameOf
 pub mod Window
 pub mod Device
 pub mod Buffering
+pub mod Folding

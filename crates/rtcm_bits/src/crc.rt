@@ -1,12 +1,18 @@
 //! The CRC of a frame, CRC-24Q (RTCM 10403.3, transport layer): generator 0x1864CFB, initial value
 //! 0, most significant bit first, no final exclusive or.
-ghost use Rattle.std.specs.Prelude.{◌≡◌, ◌^◌, ◌<◌, List, ℕ, [], ◌∷◌, ◌++◌, length};
+ghost use Rattle.std.specs.Prelude.{◌≡◌, ◌^◌, ◌<◌, ◌≤◌, List, ℕ, [], ◌∷◌, ◌++◌, length};
 ghost use Rattle.rtcm_bits.specs.Bits.{uint, bits_of};
 ghost use Rattle.rtcm_bits.specs.Crc.{crc};
+ghost use Rattle.rtcm_bits.specs.Folding.{fold_into};
 ghost use Rattle.rtcm_bits.specs.Register.{after_bits};
 
+use crate::folding::Folded;
 use crate::tables::entry;
 use std::marker::Model;
+use std::simd::prelude::*;
+
+/// Shorter messages gain nothing from folding.
+const SHORTEST_FOLDED: usize = 160;
 
 /// The CRC-24Q of the bytes processed.
 #[derive(Drop)]
@@ -61,9 +67,21 @@ pub fn crc24q(bytes: &[u8]) -> u32
     after_all(0, bytes)
 }
 
-/// Returns the register after these bytes, processed sixteen at a time, then eight, and the rest one
-/// by one.
+/// Returns the register after these bytes. A long message is folded first.
 fn after_all(register: u32, bytes: &[u8]) -> u32
+    requires { register < 2 ^ 24 }
+    ensures bound { result < 2 ^ 24 }
+    ensures steps { uint 24 result ≡ after_bits (uint 24 register) (bits_of bytes.now) }
+{
+    if bytes.len() < SHORTEST_FOLDED {
+        return after_short(register, bytes);
+    }
+    after_long(register, bytes)
+}
+
+/// Returns the register after these bytes, processed sixteen at a time, then eight, and the rest
+/// one by one.
+fn after_short(register: u32, bytes: &[u8]) -> u32
     requires { register < 2 ^ 24 }
     ensures bound { result < 2 ^ 24 }
     ensures steps { uint 24 result ≡ after_bits (uint 24 register) (bits_of bytes.now) }
@@ -77,8 +95,44 @@ fn after_all(register: u32, bytes: &[u8]) -> u32
     after_fewer(after, &bytes[taken..])
 }
 
-/// Returns the register after these few bytes, processed eight at once if there are as many, and the
-/// rest one by one.
+/// Returns the register after these bytes, of which all but the last 96 to 111 are folded.
+fn after_long(register: u32, bytes: &[u8]) -> u32
+    requires below { register < 2 ^ 24 }
+    requires long { 96 ≤ length bytes.now }
+    ensures bound { result < 2 ^ 24 }
+    ensures steps { uint 24 result ≡ after_bits (uint 24 register) (bits_of bytes.now) }
+{
+    let mut folded = Folded::new(register);
+    let mut taken = 0;
+    while bytes.len() - taken >= 112 {
+        let next = folded.next(&bytes[taken..taken + 16]);
+        folded = folded.moved(next);
+        taken += 16;
+    }
+    after_folded(folded, &bytes[taken..])
+}
+
+/// Returns the CRC of these bytes with all that was folded to them.
+fn after_folded(start: Folded, bytes: &[u8]) -> u32
+    requires whole { length start ≡ 96 }
+    requires long { 96 ≤ length bytes.now }
+    ensures bound { result < 2 ^ 24 }
+    ensures value { result ≡ crc (fold_into start bytes.now) }
+{
+    let mut folded = start;
+    let mut after = 0;
+    let mut taken = 0;
+    while taken < 96 {
+        let next = folded.next(&bytes[taken..taken + 16]);
+        after = after_sixteen(after, &next.to_array());
+        folded = folded.moved(u8x16::splat(0));
+        taken += 16;
+    }
+    after_fewer(after, &bytes[96..])
+}
+
+/// Returns the register after these few bytes, processed eight at once if there are as many, and
+/// the rest one by one.
 fn after_fewer(register: u32, bytes: &[u8]) -> u32
     requires { register < 2 ^ 24 }
     ensures bound { result < 2 ^ 24 }

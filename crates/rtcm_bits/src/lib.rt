@@ -7,6 +7,7 @@ mod complement;
 mod counted;
 mod crc;
 pub mod devices;
+mod folding;
 mod framing;
 pub mod laws;
 mod looking;

@@ -3,7 +3,7 @@ use Rattle.std.proofs.Math.Seq.{take-add}
 use Rattle.std.proofs.lemmas.List.{take_rest}
 use Rattle.rtcm_bits.specs.Bits.{uint}
 use Rattle.rtcm_bits.proofs.RegisterLemmas.{steps_more, no_steps}
-use Rattle.rtcm_bits.proofs.crc.after_all.Goals as goal
+use Rattle.rtcm_bits.proofs.crc.after_short.Goals as goal
 
 pub loop-taken-init : goal.loop-taken-init
 loop-taken-init c = record { within = omega arith; bound = c.requires; steps = no_steps (uint 24 c.args.register) }

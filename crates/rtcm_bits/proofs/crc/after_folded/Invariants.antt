@@ -1,0 +1,18 @@
+use Rattle.std.proofs.Common.{◌≡◌, ◌-◌, ◌%◌, ◌^◌, ◌<◌, ◌≤◌, ◌++◌, drop, replicate}
+use Rattle.rtcm_bits.specs.Bits.{uint, bits_of}
+use Rattle.rtcm_bits.specs.Crc.{crc}
+use Rattle.rtcm_bits.specs.Folding.{fold_into}
+use Rattle.rtcm_bits.specs.Register.{after_bits}
+use Rattle.rtcm_bits.proofs.crc.after_folded.Given as goal
+
+abbrev pub invariant-loop-taken : goal.invariant-loop-taken
+invariant-loop-taken l = record {
+  within : l.taken ≤ 96;
+  parts : l.taken % 16 ≡ 0;
+  bound : l.after < 2 ^ 24;
+  window : l.folded ≡ drop l.taken l.fn.start ++ replicate l.taken 0;
+  steps : uint 24 (crc (fold_into l.fn.start l.bytes)) ≡ after_bits (uint 24 l.after) (bits_of (fold_into l.folded (drop l.taken l.bytes)));
+}
+
+abbrev pub decreases-loop-taken : goal.decreases-loop-taken
+decreases-loop-taken l = 96 - l.taken

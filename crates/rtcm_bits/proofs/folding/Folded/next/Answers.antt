@@ -1,0 +1,17 @@
+use Rattle.std.proofs.Common.{◌++◌, ℕ, List, length, take, ap, ◌∙◌, arith}
+use Rattle.std.proofs.lemmas.List.{length-take-le}
+use Rattle.rtcm_bits.specs.Folding.{fold_into}
+use Rattle.rtcm_bits.proofs.FoldLemmas.{vector_next, length-fold}
+use Rattle.rtcm_bits.proofs.folding.Folded.next.Goals as goal
+
+abbrev whole : goal.returns-clause-added
+whole c =
+    vector_next c.self.inside.first c.self.inside.second c.self.inside.third (c.self.inside.fourth ++ (c.self.inside.fifth ++ c.self.inside.sixth)) c.args.bytes.now
+    c.at_eleven.result c.at_nine.result c.at_one.result c.at_eleven-2.result c.self.invariant.first c.self.invariant.second c.self.invariant.third c.requires
+    c.at_eleven.ensures c.at_nine.ensures c.at_one.ensures c.at_eleven-2.ensures ∙ ap (λ (l : List ℕ). take 16 (fold_into l c.args.bytes.now)) c.self.view_is
+
+pub returns-clause-long : goal.returns-clause-long
+returns-clause-long c = ap length (whole c) ∙ length-take-le 16 (fold_into c.args.self.now c.args.bytes.now) (omega (arith, length-fold c.args.self.now c.args.bytes.now, c.requires))
+
+pub returns-clause-added : goal.returns-clause-added
+returns-clause-added c = whole c
