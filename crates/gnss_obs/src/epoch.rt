@@ -2,7 +2,6 @@
 ghost use Rattle.std.specs.Prelude.{◌≡◌, ◌+◌, ◌-◌, ◌<◌, ◌≤◌, [], false, length, drop, insert, map};
 ghost use Rattle.std.specs.Prelude.{slice_index_or, nat_lt, IfOk};
 ghost use Rattle.std.specs.List.{list_any};
-ghost use Rattle.arrayvec.specs.ArrayVec.{array_vec_len};
 ghost use Rattle.gnss_obs.specs.declared.cell.Cell.{Cell};
 ghost use Rattle.gnss_obs.specs.Values.{AreHeld, cells_of, has_value, satellites_written, is_written, written_among};
 ghost use Rattle.gnss_obs.specs.Values.{most_cells, most_written, planned_of, run};
@@ -14,12 +13,12 @@ ghost use Rattle.gnss_obs.specs.Order.{AreSorted, AreOrderedBy, sort_key, is_bef
 ghost use Rattle.gnss_obs.specs.Satellites.{satellites as satellites_in};
 
 use crate::cell::{Cell, StationValues};
+use crate::cells::Cells;
 use crate::plan::Plan;
 use crate::satellite::Sat;
 use crate::signal::Signal;
 use crate::system::{System, is_same_system};
 use crate::time::GpsTime;
-use arrayvec::ArrayVec;
 use std::alloc::{AllocError, Global};
 use std::boxed::Box;
 use std::marker::Model;
@@ -45,8 +44,6 @@ pub struct Epoch {
     values: StationValues,
 }
 
-type Cells = ArrayVec<Cell, MOST_CELLS>;
-
 impl Model for Epoch {
     ghost use Rattle.gnss_obs.specs.declared.system.System.TheVariants.{Gps, Galileo};
     ghost use Rattle.gnss_obs.specs.Values.{Closed};
@@ -56,11 +53,11 @@ impl Model for Epoch {
 
     ghost view = { λ e.
         record {
-          epoch = record { time = e.time; gps = e.gps.value.items; galileo = e.galileo.value.items };
+          epoch = record { time = e.time; gps = e.gps.value; galileo = e.galileo.value };
           values = e.values;
         } };
 
-    ghost invariant = { λ e. AreKept Gps e.gps.value.items × AreKept Galileo e.galileo.value.items };
+    ghost invariant = { λ e. AreKept Gps e.gps.value × AreKept Galileo e.galileo.value };
 }
 
 impl Epoch {
@@ -120,6 +117,19 @@ impl Epoch {
         (at, is_last(cells, at, x.satellite, x.signal))
     }
 
+    // Returns the list of the kept cells of a system.
+    #[inline(always)]
+    fn kept(&self, system: System) -> &Cells
+        ensures cells { result.now ≡ cells_of system self.now.epoch }
+        ensures held { AreHeld system result.now }
+        ensures order { AreSorted result.now }
+    {
+        match system {
+            System::Gps => &self.gps,
+            System::Galileo => &self.galileo,
+        }
+    }
+
     /// Inserts a cell at an index among those of its system.
     #[inline(always)]
     pub fn insert(&mut self, at: usize, x: Cell)
@@ -132,8 +142,8 @@ impl Epoch {
             ≡ record { epoch = more_at x.satellite.system at self.old.epoch x; values = self.old.values } }
     {
         match x.satellite.system() {
-            System::Gps => insert_cell(&mut self.gps, at, x),
-            System::Galileo => insert_cell(&mut self.galileo, at, x),
+            System::Gps => self.gps.insert(at, x),
+            System::Galileo => self.galileo.insert(at, x),
         }
     }
 
@@ -159,10 +169,7 @@ impl Epoch {
         ensures held { AreHeld system result.now }
         ensures order { AreSorted result.now }
     {
-        match system {
-            System::Gps => self.gps.as_slice(),
-            System::Galileo => self.galileo.as_slice(),
-        }
+        self.kept(system).as_slice()
     }
 
     /// Returns the number of satellites to write: those with a cell that has a pseudorange, a
@@ -198,9 +205,9 @@ fn has_value(cells: &[Cell]) -> bool
 // Returns an empty list of cells. It isn't inlined, so that the stack has room for one at most.
 #[inline(never)]
 fn no_cells(alloc: Global) -> Result<Box<Cells>, AllocError>
-    ensures { IfOk result (λ cells. cells.value.items ≡ []) }
+    ensures { IfOk result (λ cells. cells.value ≡ []) }
 {
-    match Box::new(alloc, ArrayVec::new()) {
+    match Box::new(alloc, Cells::new()) {
         Ok(cells) => Ok(cells),
         Err(_) => Err(AllocError),
     }
@@ -310,22 +317,6 @@ fn written(cells: &[Cell], system: System) -> usize
         }
     }
     count
-}
-
-// Inserts a cell at an index. Most cells are appended, so only `push` is inlined.
-#[inline(always)]
-fn insert_cell(cells: &mut ArrayVec<Cell, MOST_CELLS>, at: usize, x: Cell)
-    requires within { at ≤ array_vec_len cells.old }
-    requires room { array_vec_len cells.old < most_cells }
-    ensures { cells.new.items ≡ insert cells.old.items at x }
-{
-    // The prover finds the types of the fields of a cell only where they are read.
-    let _value = x.c;
-    if at == cells.len() {
-        cells.push(x);
-    } else {
-        cells.insert(at, x);
-    }
 }
 
 // Returns whether the cell before an index is of the same satellite and signal.

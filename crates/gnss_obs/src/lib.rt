@@ -6,6 +6,7 @@
 #![tactic(auto)]
 
 mod cell;
+mod cells;
 mod civil;
 mod epoch;
 mod fault;

@@ -18,7 +18,7 @@ pub invariant_of-self : goal.invariant_of-self
 invariant_of-self c =
     let of = sym c.system.ensures ∙ c.in-Gps.is in
     let same = ap (λ s. cells_of s c.args.self.now.epoch) of ∙ sym (ap (λ (e : Closed). e.epoch.gps) c.self.view_is) in (
-      kept_more Gps _ _ _ c.args.at c.args.x same (c.insert_cell.ensures ∙ ap (λ l. insert l.items c.args.at c.args.x) c.deref_mut.ensures.value) c.self.invariant.0.0 of c.requires.observed c.requires.indicator c.requires.room c.requires.within c.requires.order,
+      kept_more Gps _ _ _ c.args.at c.args.x same (c.insert.ensures ∙ ap (λ l. insert l c.args.at c.args.x) c.deref_mut.ensures.value) c.self.invariant.0.0 of c.requires.observed c.requires.indicator c.requires.room c.requires.within c.requires.order,
       c.self.invariant.1,
     )
 
@@ -27,5 +27,5 @@ invariant_of-self-in-Galileo c =
     let of = sym c.system.ensures ∙ c.in-Galileo.is in
     let same = ap (λ s. cells_of s c.args.self.now.epoch) of ∙ sym (ap (λ (e : Closed). e.epoch.galileo) c.self.view_is) in (
       c.self.invariant.0,
-      kept_more Galileo _ _ _ c.args.at c.args.x same (c.insert_cell-in-Galileo.ensures ∙ ap (λ l. insert l.items c.args.at c.args.x) c.deref_mut-in-Galileo.ensures.value) c.self.invariant.1.0 of c.requires.observed c.requires.indicator c.requires.room c.requires.within c.requires.order,
+      kept_more Galileo _ _ _ c.args.at c.args.x same (c.insert-in-Galileo.ensures ∙ ap (λ l. insert l c.args.at c.args.x) c.deref_mut-in-Galileo.ensures.value) c.self.invariant.1.0 of c.requires.observed c.requires.indicator c.requires.room c.requires.within c.requires.order,
     )
