@@ -17,6 +17,9 @@ pub struct Cells {
     buffer: [Cell; BUFFER_CELLS],
     begin: usize,
     end: usize,
+    // The index after that of the last cell that was inserted before another one. Cells usually
+    // arrive in runs, so the next one often goes there.
+    next: usize,
 }
 
 impl Model for Cells {
@@ -41,6 +44,7 @@ impl Cells {
             buffer: [Cell::default(); BUFFER_CELLS],
             begin: MOST_CELLS,
             end: MOST_CELLS,
+            next: 0,
         }
     }
 
@@ -60,6 +64,12 @@ impl Cells {
     {
         let buffer = &self.buffer[..];
         &buffer[self.begin..self.end]
+    }
+
+    /// Returns an index at which the next cell is likely to be inserted.
+    #[inline(always)]
+    pub fn next(&self) -> usize {
+        self.next
     }
 
     /// Inserts a cell at an index.
@@ -82,6 +92,7 @@ impl Cells {
         let first = move_last(buffer, begin, end, at);
         self.begin = first;
         self.end = first + (end - begin) + 1;
+        self.next = at + 1;
     }
 }
 

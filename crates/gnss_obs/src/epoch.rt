@@ -113,7 +113,7 @@ impl Epoch {
         if is_after_last(cells, plan, system, key) {
             return (cells.len(), false);
         }
-        let at = insertion_index(cells, plan, key, system);
+        let at = insertion_index(cells, plan, key, system, self.kept(system).next());
         (at, is_last(cells, at, x.satellite, x.signal))
     }
 
@@ -241,15 +241,15 @@ fn is_after_last(cells: &[Cell], plan: &Plan, system: System, x: SortKey) -> boo
     plan.place_among(system, cell.signal).unwrap_or(0) < x.place
 }
 
-// Returns the number of cells whose sort key isn't greater, by bisection.
+// Returns the number of cells whose sort key isn't greater, by bisection. The likely index is tried
+// first.
 #[inline(never)]
-fn insertion_index(cells: &[Cell], plan: &Plan, x: SortKey, system: System) -> usize
+fn insertion_index(cells: &[Cell], plan: &Plan, x: SortKey, system: System, likely: usize) -> usize
     requires { AreOrderedBy (planned_of system plan.now) cells.now }
     ensures index { result ≡ insertion_index x (map (cell_sort_key (planned_of system plan.now)) cells.now) }
     ensures bound { result ≤ length cells.now }
 {
-    let mut low = 0;
-    let mut high = cells.len();
+    let (mut low, mut high) = bounds(cells, plan, x, system, likely);
     while low < high {
         let middle = low + (high - low) / 2;
         if is_before_cell(x, &cells[middle], plan, system) {
@@ -259,6 +259,27 @@ fn insertion_index(cells: &[Cell], plan: &Plan, x: SortKey, system: System) -> u
         }
     }
     low
+}
+
+// Returns a least and a largest number of cells whose sort key isn't greater. They are equal if
+// the cell goes to the likely index.
+#[inline(always)]
+fn bounds(cells: &[Cell], plan: &Plan, x: SortKey, system: System, likely: usize) -> (usize, usize)
+    requires { AreOrderedBy (planned_of system plan.now) cells.now }
+    ensures least { result.0 ≤ insertion_index x (map (cell_sort_key (planned_of system plan.now)) cells.now) }
+    ensures most { insertion_index x (map (cell_sort_key (planned_of system plan.now)) cells.now) ≤ result.1 }
+    ensures bound { result.1 ≤ length cells.now }
+{
+    if likely == 0 || likely >= cells.len() {
+        return (0, cells.len());
+    }
+    if is_before_cell(x, &cells[likely - 1], plan, system) {
+        return (0, likely - 1);
+    }
+    if is_before_cell(x, &cells[likely], plan, system) {
+        return (likely, likely);
+    }
+    (likely + 1, cells.len())
 }
 
 // Returns whether a sort key is less than that of a cell. Most cells are of another satellite, and
