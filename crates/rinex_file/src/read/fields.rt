@@ -127,6 +127,15 @@ fn value_of(first: u64, last: u64, lost: u8, strength: u8) -> Option<Thousandths
     None
 }
 
+/// Returns whether the sixteen columns from this one are blank.
+#[inline(always)]
+pub(crate) fn is_blank_at(text: &[u8], at: usize) -> bool
+    requires { at + 16 ≤ length text.now }
+    ensures { IsTrue result → take 16 (drop at text.now) ≡ replicate 16 32 }
+{
+    word_at(text, at) == BLANKS && word_at(text, at + 8) == BLANKS
+}
+
 /// Returns the value of the field in these columns, with these LLI and SSI columns if there is a
 /// value, or None if they are not as they are written.
 #[inline(always)]

@@ -8,12 +8,13 @@ ghost use Rattle.rinex_file.specs.FileValues.{IsFrom, AreSignalValues, IsRow, Is
 ghost use Rattle.rinex_file.specs.Blanks.{IsEnded};
 ghost use Rattle.rinex_file.specs.Lines.{satellite_line, signal_text, lli_byte};
 ghost use Rattle.rinex_file.specs.Numbers.{padded};
+ghost use Rattle.rinex_file.specs.Value.{no_signal_values};
 ghost use Rattle.rinex_file.specs.Read.Fields.{ReadsExactly, some_if};
 ghost use Rattle.rinex_file.specs.Read.Row.{signal_values_in, satellite_row_in, AreWritten};
 ghost use Rattle.rinex_file.specs.Limits.{most_line, signal_columns, most_signals};
 
 use crate::read::columns::value_in;
-use crate::read::fields::field_in;
+use crate::read::fields::{field_in, is_blank_at};
 use crate::read::numbers::{digits_in, is_same};
 use crate::values::{KeptSatellite, SignalValues};
 use crate::write::numbers::{Line, MOST_SIGNALS, SIGNAL_COLUMNS, put, put_blanks};
@@ -131,12 +132,34 @@ fn is_plausible(entry: &SignalValues) -> bool
     s && (entry.lli == 0 || entry.l.is_some())
 }
 
+/// Returns whether the columns of a signal are blank.
+#[inline(always)]
+fn is_blank(text: &[u8]) -> bool
+    requires { length text.now ≡ signal_columns }
+    ensures { IsTrue result → text.now ≡ signal_text no_signal_values }
+{
+    if !is_blank_at(text, 0) {
+        return false;
+    }
+    if !is_blank_at(text, 16) {
+        return false;
+    }
+    if !is_blank_at(text, 32) {
+        return false;
+    }
+    is_blank_at(text, 48)
+}
+
 /// Returns the values of a signal, or None if the columns are not as these values are written.
 #[inline(always)]
 fn written_in(text: &[u8]) -> Option<SignalValues>
     requires { length text.now ≡ signal_columns }
     ensures { IfSome result (λ e. AreSignalValues e × (text.now ≡ signal_text e)) }
 {
+    // Most signals of a plan of many are blank.
+    if is_blank(text) {
+        return Some(SignalValues::default());
+    }
     let s = field_in(text, 48, b' ', b' ')?;
     let strength = strength_column(&s);
     let c = field_in(text, 0, b' ', strength)?;
