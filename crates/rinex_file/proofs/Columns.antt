@@ -1,8 +1,9 @@
 -- The columns of a value: blanks, a sign, digits, a point and three digits.
-use Rattle.std.proofs.Common.{arith, ◌≡◌, ◌∙◌, sym, ap, refl, ℕ, zero, suc, ◌+◌, ◌-◌, ◌/◌, ◌%◌, ◌^◌, ◌<◌, ◌≤◌, List, [], ◌∷◌, ◌++◌, length, replicate, append_assoc, length-append, decimal, ℤ, pos, negsuc, unsigned_abs, true, false, w64}
+use Rattle.std.proofs.Common.{arith, ◌≡◌, ◌∙◌, inl, inr, sym, ap, refl, ℕ, zero, suc, ◌+◌, ◌-◌, ◌/◌, ◌%◌, ◌^◌, ◌<◌, ◌≤◌, List, [], ◌∷◌, ◌++◌, length, replicate, append_assoc, length-append, decimal, ℤ, pos, negsuc, unsigned_abs, true, false, w64}
 use Rattle.std.specs.Prelude.{set, Some}
 use Rattle.std.specs.Int.{is_negative, to_le_bytes}
 use Rattle.std.specs.Fmt.{sign_text}
+use Rattle.std.proofs.lemmas.Bool.{cases_Bool}
 use Rattle.std.proofs.lemmas.Fmt.{length-decimal-le}
 use Rattle.std.proofs.lemmas.List.{length-replicate, length-set, replicate-append-replicate, set_at}
 use Rattle.std.proofs.lemmas.Int.{ints}
@@ -98,6 +99,13 @@ length-before r d p e k =
     let n = length-replicate {A = ℕ} r 32 in
     omega (arith, l, m, n, e, k)
 
+-- the columns of a value in lanes, with blanks in the two last
+abbrev pub lanes_of : ℕ → List ℕ
+lanes_of n = replicate (10 - length (decimal (n / 1000))) 32 ++ (decimal (n / 1000) ++ (46 ∷ padded 3 (n % 1000) ++ 32 ∷ 32 ∷ []))
+
+abbrev pub signed_lanes_of : ℕ → List ℕ
+signed_lanes_of n = set (lanes_of n) (10 - length (decimal (n / 1000)) - 1) 45
+
 pub plain_lanes : (v : ℤ) (n lost strength : ℕ) (text : List ℕ) → FitsColumns v → n ≡ unsigned_abs v → is_negative v ≡ false
     → text ≡ replicate (10 - length (decimal (n / 1000))) 32 ++ (decimal (n / 1000) ++ (46 ∷ padded 3 (n % 1000) ++ 32 ∷ 32 ∷ []))
     → set (set text 14 lost) 15 strength ≡ field (Some v) lost strength
@@ -138,3 +146,33 @@ signed_lanes v n lost strength text fits size sign is =
     ap (λ t. set (set t 14 lost) 15 strength) (is ∙ ap (λ t. set t (r - 1) 45) (shape r d p 32 32) ∙ set_before pre (32 ∷ 32 ∷ []) (r - 1) 45 early)
     ∙ ends_set (set pre (r - 1) 45) lost strength (length-set pre (r - 1) 45 ∙ l) ∙ sym (set_before pre (lost ∷ strength ∷ []) (r - 1) 45 early)
     ∙ ap (λ t. set t (r - 1) 45) (sym (shape r d p lost strength)) ∙ columns-signed d p lost strength r e some k ∙ ap (λ t. right 14 t ++ lost ∷ strength ∷ []) (sym whole)
+
+-- the lanes are the field
+pub plain_field : (v : ℤ) → FitsColumns v → is_negative v ≡ false → lanes_of (unsigned_abs v) ≡ field (Some v) 32 32
+unfolding field
+plain_field v fits sign =
+    let n : ℕ = unsigned_abs v in
+    let d : List ℕ = decimal (n / 1000) in
+    let p : List ℕ = padded 3 (n % 1000) in
+    let most = within_columns v fits in
+    let short = length-decimal-le 10 (n / 1000) (omega arith) (omega (arith, most)) (omega (arith, most)) in
+    columns-plain d p 32 32 (10 - length d) (omega (arith, short)) (length-three (n % 1000) (omega arith))
+    ∙ ap (λ b. right 14 ((sign_text b ++ d) ++ 46 ∷ p) ++ 32 ∷ 32 ∷ []) (sym sign)
+
+pub signed_field : (v : ℤ) → FitsColumns v → is_negative v ≡ true → signed_lanes_of (unsigned_abs v) ≡ field (Some v) 32 32
+unfolding field
+signed_field v fits sign =
+    let n : ℕ = unsigned_abs v in
+    let d : List ℕ = decimal (n / 1000) in
+    let p : List ℕ = padded 3 (n % 1000) in
+    let short = nine_digits n (within_signed v fits sign) in
+    columns-signed d p 32 32 (10 - length d) (omega (arith, short)) (omega (arith, short)) (length-three (n % 1000) (omega arith))
+    ∙ ap (λ b. right 14 ((sign_text b ++ d) ++ 46 ∷ p) ++ 32 ∷ 32 ∷ []) (sym sign)
+
+-- LLI and SSI, written over the blanks
+pub with_ends : (v : ℤ) (lost strength : ℕ) → FitsColumns v → set (set (field (Some v) 32 32) 14 lost) 15 strength ≡ field (Some v) lost strength
+with_ends v lost strength fits =
+    elim (cases_Bool (is_negative v)) [
+      | inl minus ↦ ap (λ t. set (set t 14 lost) 15 strength) (sym (signed_field v fits minus)) ∙ signed_lanes v (unsigned_abs v) lost strength (signed_lanes_of (unsigned_abs v)) fits refl minus refl
+      | inr plus ↦ ap (λ t. set (set t 14 lost) 15 strength) (sym (plain_field v fits plus)) ∙ plain_lanes v (unsigned_abs v) lost strength (lanes_of (unsigned_abs v)) fits refl plus refl
+    ]

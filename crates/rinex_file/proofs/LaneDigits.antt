@@ -39,29 +39,23 @@ bytes_of (z ∷ zs) h =
     let on : (lane z + 65536 * rest) / 256 / 256 ≡ rest = omega (arith, h.0, is) in
     (λ i. ones i ∷ tens i ∷ digits_l 256 (twice zs) (on i)) ∙ ap (λ l. z % 10 ∷ z / 10 ∷ l) (bytes_of zs h.1)
 
--- the digits of a number, two in each lane, the last ones first
-abbrev pub two : ℕ → List ℕ
-two n = n % 100 ∷ n / 100 % 100 ∷ n / 10_000 % 100 ∷ n / 1_000_000 % 100 ∷ n / 100_000_000 % 100 ∷ n / 10_000_000_000 % 100 ∷ n / 1_000_000_000_000 ∷ 0 ∷ []
+-- the digits of two numbers, two in each lane, the last ones of the first number first
+abbrev pub four : ℕ → List ℕ → List ℕ
+four n rest = n % 100 ∷ n / 100 % 100 ∷ n / 10_000 % 100 ∷ n / 1_000_000 ∷ rest
 
-pub ones_and_tens : (n : ℕ) → n < 10 ^ 13
-    → pairs (two n) ≡ n % 10 ∷ n / 10 % 10 ∷ n / 100 % 10 ∷ n / 1000 % 10 ∷ n / 10_000 % 10 ∷ n / 100_000 % 10 ∷ n / 1_000_000 % 10 ∷ n / 10_000_000 % 10 ∷ n / 100_000_000 % 10 ∷ n / 1_000_000_000 % 10
-    ∷ n / 10_000_000_000 % 10 ∷ n / 100_000_000_000 % 10 ∷ n / 1_000_000_000_000 ∷ 0 ∷ 0 ∷ 0 ∷ []
-ones_and_tens n h =
+abbrev pub eight : ℕ → List ℕ → List ℕ
+eight n rest = n % 10 ∷ n / 10 % 10 ∷ n / 100 % 10 ∷ n / 1000 % 10 ∷ n / 10_000 % 10 ∷ n / 100_000 % 10 ∷ n / 1_000_000 % 10 ∷ n / 10_000_000 ∷ rest
+
+pub ones_and_tens : (n : ℕ) (rest : List ℕ) → pairs (four n rest) ≡ eight n (pairs rest)
+ones_and_tens n rest =
     let o0 : n % 100 % 10 ≡ n % 10 = omega arith in
     let t0 : n % 100 / 10 ≡ n / 10 % 10 = omega arith in
     let o1 : n / 100 % 100 % 10 ≡ n / 100 % 10 = omega arith in
     let t1 : n / 100 % 100 / 10 ≡ n / 1_000 % 10 = omega arith in
     let o2 : n / 10_000 % 100 % 10 ≡ n / 10_000 % 10 = omega arith in
     let t2 : n / 10_000 % 100 / 10 ≡ n / 100_000 % 10 = omega arith in
-    let o3 : n / 1_000_000 % 100 % 10 ≡ n / 1_000_000 % 10 = omega arith in
-    let t3 : n / 1_000_000 % 100 / 10 ≡ n / 10_000_000 % 10 = omega arith in
-    let o4 : n / 100_000_000 % 100 % 10 ≡ n / 100_000_000 % 10 = omega arith in
-    let t4 : n / 100_000_000 % 100 / 10 ≡ n / 1_000_000_000 % 10 = omega arith in
-    let o5 : n / 10_000_000_000 % 100 % 10 ≡ n / 10_000_000_000 % 10 = omega arith in
-    let t5 : n / 10_000_000_000 % 100 / 10 ≡ n / 100_000_000_000 % 10 = omega arith in
-    let o6 : n / 1_000_000_000_000 % 10 ≡ n / 1_000_000_000_000 = omega (arith, h) in
-    let t6 : n / 1_000_000_000_000 / 10 ≡ 0 = omega (arith, h) in
-    λ i. o0 i ∷ t0 i ∷ o1 i ∷ t1 i ∷ o2 i ∷ t2 i ∷ o3 i ∷ t3 i ∷ o4 i ∷ t4 i ∷ o5 i ∷ t5 i ∷ o6 i ∷ t6 i ∷ 0 ∷ 0 ∷ []
+    let t3 : n / 1_000_000 / 10 ≡ n / 10_000_000 = omega arith in
+    λ i. o0 i ∷ t0 i ∷ o1 i ∷ t1 i ∷ o2 i ∷ t2 i ∷ n / 1_000_000 % 10 ∷ t3 i ∷ pairs rest
 
 -- ---- leading zeros
 

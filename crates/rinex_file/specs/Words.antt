@@ -53,3 +53,11 @@ abbrev pub template : ℕ → ℕ → List ℕ
 template zero empty = 48 ∷ 46 ∷ 48 ∷ 48 ∷ 48 ∷ 32 ∷ 32 ∷ []
 template (suc n) zero = 48 ∷ template n zero
 template (suc n) (suc empty) = 32 ∷ template n empty
+
+-- the digits of a size in thousandths in the columns of its field, the first in the column of a leading digit of ten
+-- before the point, and 0 in the other columns
+abbrev pub digit_columns : ℕ → List ℕ
+digit_columns s =
+    s / 1_000_000_000_000 ∷ s / 100_000_000_000 % 10 ∷ s / 10_000_000_000 % 10 ∷ s / 1_000_000_000 % 10
+    ∷ s / 100_000_000 % 10 ∷ s / 10_000_000 % 10 ∷ s / 1_000_000 % 10 ∷ s / 100_000 % 10 ∷ s / 10_000 % 10 ∷ s / 1000 % 10
+    ∷ 0 ∷ s / 100 % 10 ∷ s / 10 % 10 ∷ s % 10 ∷ 0 ∷ 0 ∷ []

@@ -214,6 +214,31 @@ fn a_file_gives_its_parts(rt: HostRuntime) {
     assert!(rt; is_read_back(rt.alloc(), &[Part::TwoSystems], &OF_TWO_SYSTEMS));
 }
 
+/// Lines of the satellite of the small file: the sizes of Doppler shift and strength sum to less
+/// than 100,000, to 100,000 and to more.
+static LINES: [&str; 9] = [
+    "G05  20985472.060 1 110279400.000 1     99999.998           0.001",
+    "G05  20985472.060 1 110279400.000 1     99999.999           0.001",
+    "G05  20985472.060 7 110279400.000 7    -99954.936          45.063",
+    "G05  20985472.060 7 110279400.000 7    -99954.937          45.063",
+    "G05  20985472.060 9 110279400.000 9         0.000          99.999",
+    "G05  20985472.060 1 110279400.000 1        -0.001           6.000",
+    "G05  20985472.060 7 110279400.000 7   -100000.000          45.063",
+    "G05  20985472.060 9 110279400.000 99999999999.999          99.999",
+    "G05  20985472.060 1 110279400.000 1-999999999.999           0.001",
+];
+
+#[test]
+fn lines_are_read_and_written_back(rt: HostRuntime) {
+    let alloc = rt.alloc();
+    for line in &LINES {
+        let mut text = Text::new();
+        put_with(&mut text, 1_170, 1_236, line);
+        assert!(rt; is_read(alloc, text.as_slice(), &SMALL_CONTENT));
+        drop(text);
+    }
+}
+
 /// The fault of the small file with a line in place of what is between two offsets.
 fn fault_with(alloc: Global, from: usize, to: usize, line: &str) -> Option<ReadFault> {
     let mut text = Text::new();

@@ -1,8 +1,10 @@
 //! The columns of a value, all at once: a lane for each column of its field.
 ghost use Rattle.std.specs.Prelude.{◌≡◌, ◌+◌, ◌*◌, ◌/◌, ◌%◌, ◌^◌, ◌≤◌, ◌<◌, ◌++◌, [], ◌∷◌, ◌-◌, length, take, set};
-ghost use Rattle.std.specs.Prelude.{slice_index, true, false, replicate, decimal};
+ghost use Rattle.std.specs.Prelude.{slice_index, true, false, replicate, decimal, unsigned_abs, Some, ℕ};
+ghost use Rattle.rinex_file.specs.FileValues.{FitsColumns};
+ghost use Rattle.rinex_file.specs.Lines.{field};
 ghost use Rattle.rinex_file.specs.Numbers.{padded};
-ghost use Rattle.rinex_file.specs.Words.{leading, template};
+ghost use Rattle.rinex_file.specs.Words.{digit_columns, leading, template};
 
 use std::simd::prelude::*;
 
@@ -34,44 +36,46 @@ static TEMPLATES: [[u8; 16]; 20] = [
 /// Zero for each digit that may be a leading zero. No digit is equal to the others.
 const LEADING: [u8; 16] = [0, 0, 0, 0, 0, 0, 0, 0, 0, 255, 255, 255, 255, 255, 255, 255];
 
-/// Returns the digits of a size, four in each two lanes, the last ones first.
+/// Returns the digits of two numbers, four in each two lanes, the last ones of the first number
+/// first.
 #[inline(always)]
-fn fours(size: u64) -> u16x8
-    requires { size < 10 ^ 13 }
-    ensures { result ≡ size % 10_000 ∷ 0 ∷ size / 10_000 % 10_000 ∷ 0
-        ∷ size / 100_000_000 % 10_000 ∷ 0 ∷ size / 1_000_000_000_000 ∷ 0 ∷ [] }
+fn fours(low: u32, high: u32) -> u16x8
+    requires low { low < 10 ^ 8 }
+    requires high { high < 10 ^ 8 }
+    ensures { result ≡ low % 10_000 ∷ 0 ∷ low / 10_000 ∷ 0 ∷ high % 10_000 ∷ 0 ∷ high / 10_000 ∷ 0 ∷ [] }
 {
     // The upper halves are known to be zero, so each product is one of 32 bits.
-    let high = (size / 100_000_000) as u32;
-    let eights = u64x2::from_array([size % 100_000_000, high as u64]);
+    let eights = u64x2::from_array([low as u64, high as u64]);
     // 3,518,437,209 is 2^45 / 10,000, rounded up.
     let upper = (eights * u64x2::splat(3_518_437_209)) >> u64x2::splat(45);
     u16x8::from_le_bytes((eights + upper * u64x2::splat(0xFFFF_D8F0)).to_le_bytes())
 }
 
-/// Returns the digits of a size, two in each lane, the last ones first.
+/// Returns the digits of two numbers, two in each lane, the last ones of the first number first.
 #[inline(always)]
-fn twos(size: u64) -> u16x8
-    requires { size < 10 ^ 13 }
-    ensures { result ≡ size % 100 ∷ size / 100 % 100 ∷ size / 10_000 % 100 ∷ size / 1_000_000 % 100
-        ∷ size / 100_000_000 % 100 ∷ size / 10_000_000_000 % 100 ∷ size / 1_000_000_000_000 ∷ 0 ∷ [] }
+fn twos(low: u32, high: u32) -> u16x8
+    requires low { low < 10 ^ 8 }
+    requires high { high < 10 ^ 8 }
+    ensures { result ≡ low % 100 ∷ low / 100 % 100 ∷ low / 10_000 % 100 ∷ low / 1_000_000
+        ∷ high % 100 ∷ high / 100 % 100 ∷ high / 10_000 % 100 ∷ high / 1_000_000 ∷ [] }
 {
-    let fours = fours(size);
+    let fours = fours(low, high);
     let hundreds = fours / u16x8::splat(100);
     let rests = fours - hundreds * u16x8::splat(100);
     rests + hundreds.rotate_elements_right::<1>()
 }
 
-/// Returns the digits of a size, one in each lane, the last one first.
+/// Returns the digits of two numbers, one in each lane, the last one of the first number first.
 #[inline(always)]
-fn ones(size: u64) -> u8x16
-    requires { size < 10 ^ 13 }
-    ensures { result ≡ size % 10 ∷ size / 10 % 10 ∷ size / 100 % 10 ∷ size / 1000 % 10
-        ∷ size / 10_000 % 10 ∷ size / 100_000 % 10 ∷ size / 1_000_000 % 10 ∷ size / 10_000_000 % 10
-        ∷ size / 100_000_000 % 10 ∷ size / 1_000_000_000 % 10 ∷ size / 10_000_000_000 % 10
-        ∷ size / 100_000_000_000 % 10 ∷ size / 1_000_000_000_000 ∷ 0 ∷ 0 ∷ 0 ∷ [] }
+fn ones(low: u32, high: u32) -> u8x16
+    requires low { low < 10 ^ 8 }
+    requires high { high < 10 ^ 8 }
+    ensures { result ≡ low % 10 ∷ low / 10 % 10 ∷ low / 100 % 10 ∷ low / 1000 % 10
+        ∷ low / 10_000 % 10 ∷ low / 100_000 % 10 ∷ low / 1_000_000 % 10 ∷ low / 10_000_000
+        ∷ high % 10 ∷ high / 10 % 10 ∷ high / 100 % 10 ∷ high / 1000 % 10
+        ∷ high / 10_000 % 10 ∷ high / 100_000 % 10 ∷ high / 1_000_000 % 10 ∷ high / 10_000_000 ∷ [] }
 {
-    let twos = twos(size);
+    let twos = twos(low, high);
     let tens = twos / u16x8::splat(10);
     (twos + tens * u16x8::splat(246)).to_le_bytes()
 }
@@ -80,14 +84,34 @@ fn ones(size: u64) -> u8x16
 #[inline(always)]
 fn digits(size: u64) -> u8x16
     requires { size < 10 ^ 13 }
-    ensures { result ≡ size / 1_000_000_000_000 ∷ size / 100_000_000_000 % 10 ∷ size / 10_000_000_000 % 10
-        ∷ size / 1_000_000_000 % 10 ∷ size / 100_000_000 % 10 ∷ size / 10_000_000 % 10
-        ∷ size / 1_000_000 % 10 ∷ size / 100_000 % 10 ∷ size / 10_000 % 10 ∷ size / 1000 % 10
-        ∷ 0 ∷ size / 100 % 10 ∷ size / 10 % 10 ∷ size % 10 ∷ 0 ∷ 0 ∷ [] }
+    ensures { result ≡ digit_columns size }
 {
-    ones(size).shuffle(
+    let low = (size % 100_000_000) as u32;
+    ones(low, (size / 100_000_000) as u32).shuffle(
         u8x16::splat(0),
         [12, 11, 10, 9, 8, 7, 6, 5, 4, 3, 16, 2, 1, 0, 16, 16],
+    )
+}
+
+/// Returns the digits of two sizes as [`digits`] does.
+#[inline(always)]
+fn digits_of_two(first: u32, second: u32) -> (u8x16, u8x16)
+    requires first { first < 10 ^ 8 }
+    requires second { second < 10 ^ 8 }
+    ensures first { result.0 ≡ digit_columns first }
+    ensures second { result.1 ≡ digit_columns second }
+{
+    let ones = ones(first, second);
+    let none = u8x16::splat(0);
+    (
+        ones.shuffle(
+            none,
+            [16, 16, 16, 16, 16, 7, 6, 5, 4, 3, 16, 2, 1, 0, 16, 16],
+        ),
+        ones.shuffle(
+            none,
+            [16, 16, 16, 16, 16, 15, 14, 13, 12, 11, 16, 10, 9, 8, 16, 16],
+        ),
     )
 }
 
@@ -107,6 +131,7 @@ fn zeros(digits: u8x16) -> usize
 #[inline(always)]
 fn template(start: usize, negative: bool) -> u8x16
     requires { start ≤ 9 }
+    ensures lanes { length result ≡ 16 }
     ensures plain { negative ≡ false → result ≡ template 9 start }
     ensures signed { negative ≡ true → 1 ≤ start → result ≡ set (template 9 start) (start - 1) 45 }
 {
@@ -114,20 +139,42 @@ fn template(start: usize, negative: bool) -> u8x16
     u8x16::from_array(TEMPLATES[row])
 }
 
-/// Returns the columns of a value with this size in thousandths: blanks, a minus if it is negative,
-/// its whole part up to the tenth column, a point, thousandths, and two blanks.
+/// Returns the columns of a value with these digits: blanks, a minus if it is negative, its whole
+/// part up to the tenth column, a point, thousandths, and two blanks.
 #[inline(always)]
-pub(crate) fn columns_in(size: u64, negative: bool) -> u8x16
-    requires size { size < 10 ^ 13 }
-    requires room { negative ≡ true → size < 10 ^ 12 }
+fn columns_with(digits: u8x16, negative: bool) -> u8x16
+    requires { slice_index digits 9 < 10 }
     ensures lanes { length result ≡ 16 }
-    ensures plain { negative ≡ false → result ≡ replicate (10 - length (decimal (size / 1000))) 32
+    ensures plain { negative ≡ false → (size : ℕ) → size < 10 ^ 13 → digits ≡ digit_columns size
+        → result ≡ replicate (10 - length (decimal (size / 1000))) 32
         ++ (decimal (size / 1000) ++ (46 ∷ padded 3 (size % 1000) ++ 32 ∷ 32 ∷ [])) }
-    ensures signed { negative ≡ true → result ≡ set (replicate (10 - length (decimal (size / 1000))) 32
+    ensures signed { negative ≡ true → (size : ℕ) → size < 10 ^ 12 → digits ≡ digit_columns size
+        → result ≡ set (replicate (10 - length (decimal (size / 1000))) 32
         ++ (decimal (size / 1000) ++ (46 ∷ padded 3 (size % 1000) ++ 32 ∷ 32 ∷ [])))
         (10 - length (decimal (size / 1000)) - 1) 45 }
 {
-    let digits = digits(size);
-    let start = zeros(digits);
-    digits + template(start, negative)
+    digits + template(zeros(digits), negative)
+}
+
+/// Returns the columns of a value in thousandths, with blanks in the LLI and SSI columns.
+#[inline(always)]
+pub(crate) fn columns_in(value: i64) -> u8x16
+    requires { FitsColumns value }
+    ensures lanes { length result ≡ 16 }
+    ensures text { result ≡ field (Some value) 32 32 }
+{
+    columns_with(digits(value.unsigned_abs()), value < 0)
+}
+
+/// Returns the columns of two values below 100,000 in size, as [`columns_in`] does.
+#[inline(always)]
+pub(crate) fn columns_in_two(first: i64, second: i64) -> (u8x16, u8x16)
+    requires first { unsigned_abs first < 10 ^ 8 }
+    requires second { unsigned_abs second < 10 ^ 8 }
+    ensures first { result.0 ≡ field (Some first) 32 32 }
+    ensures second { result.1 ≡ field (Some second) 32 32 }
+    ensures lanes { (length result.0 ≡ 16) × (length result.1 ≡ 16) }
+{
+    let (low, high) = digits_of_two(first.unsigned_abs() as u32, second.unsigned_abs() as u32);
+    (columns_with(low, first < 0), columns_with(high, second < 0))
 }

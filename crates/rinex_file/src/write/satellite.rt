@@ -14,7 +14,7 @@ ghost use Rattle.rinex_file.specs.Limits.{most_line, signal_columns, value_colum
 
 use crate::values::SignalValues;
 use crate::write::digits::columns_of;
-use crate::write::lanes::columns_in;
+use crate::write::lanes::{columns_in, columns_in_two};
 use crate::write::numbers::{Line, MOST_LINE, SIGNAL_COLUMNS, VALUE_COLUMNS, put, put_blanks};
 use gnss_obs::{Cell, Epoch, Plan, Sat, System, Thousandths, strength_digit};
 use std::marker::Model;
@@ -34,8 +34,7 @@ fn put_value(columns: &mut [u8], value: &Option<Thousandths>, lost: u8, strength
         columns.fill(b' ');
         return;
     };
-    let value = value.value();
-    columns_in(value.unsigned_abs(), value < 0).copy_to_slice(columns);
+    columns_in(value.value()).copy_to_slice(columns);
     columns[14] = lost;
     columns[15] = strength;
 }
@@ -101,6 +100,30 @@ fn put_pair(
     put_value(back, second, lost, strength);
 }
 
+/// Writes two values without LLI and SSI columns, the digits of both in the same steps if the sum
+/// of their sizes is below 100,000, as that of most Doppler shifts and strengths.
+#[inline(always)]
+fn put_both(columns: &mut [u8], first: &Option<Thousandths>, second: &Option<Thousandths>)
+    requires first { IfSome first.now FitsColumns }
+    requires second { IfSome second.now FitsColumns }
+    requires room { length columns.old ≡ 32 }
+    ensures text { columns.new ≡ field first.now 32 32 ++ field second.now 32 32 }
+    ensures size { length columns.new ≡ 32 }
+{
+    let (front, back) = columns.split_at_mut(VALUE_COLUMNS);
+    if let (Some(shift), Some(density)) = (first, second) {
+        let (shift, density) = (shift.value(), density.value());
+        if shift.unsigned_abs() + density.unsigned_abs() < 100_000_000 {
+            let (shift, density) = columns_in_two(shift, density);
+            shift.copy_to_slice(front);
+            density.copy_to_slice(back);
+            return;
+        }
+    }
+    put_value(front, first, b' ', b' ');
+    put_short(back, second, b' ', b' ');
+}
+
 /// The values of a signal, borrowed, so that each is read when its columns are written.
 #[derive(Drop)]
 struct Shown<'a> {
@@ -154,9 +177,7 @@ fn put_signal(columns: &mut [u8], values: &Shown)
     let strength = strength_column(values.s);
     let (front, back) = columns.split_at_mut(2 * VALUE_COLUMNS);
     put_pair(front, values.c, values.l, lli_column(*values.lli), strength);
-    let (shift, density) = back.split_at_mut(VALUE_COLUMNS);
-    put_value(shift, values.d, b' ', b' ');
-    put_short(density, values.s, b' ', b' ');
+    put_both(back, values.d, values.s);
 }
 
 /// Begins the line of a satellite: its letter and number, replacing the contents of the buffer.

@@ -1,31 +1,19 @@
-use Rattle.std.proofs.Common.{arith, ◌≡◌, ◌∙◌, ap, ap₂, ◌-◌, ◌/◌, ◌≤◌, ◌<◌, ◌^◌, ◌++◌, length, take, replicate, decimal}
-use Rattle.std.specs.Prelude.{set}
-use Rattle.std.proofs.lemmas.Fmt.{length-decimal-le}
-use lib.Lanes.{zip2}
-use Rattle.rinex_file.specs.Words.{leading, template}
-use Rattle.rinex_file.proofs.LaneColumns.{added, front, rest, start_is, plain_columns, signed_columns}
+use Rattle.std.proofs.Common.{arith, ◌≡◌, ◌∙◌, ap, inl, inr, unsigned_abs, to_z, of_z, w64}
+use Rattle.std.specs.Int.{is_negative}
+use Rattle.std.proofs.lemmas.Bool.{cases_Bool}
+use Rattle.std.proofs.lemmas.Int.{to_z-of_z}
+use Rattle.rinex_file.proofs.Columns.{lanes_of, signed_lanes_of, plain_field, signed_field, within_columns, within_signed}
 use Rattle.rinex_file.proofs.write.lanes.columns_in.Goals as goal
-use Rattle.rinex_file.proofs.write.lanes.columns_in.Goals.{After-zeros-start}
 
-first : (c : After-zeros-start) → c.zeros-start.result ≡ leading (front c.args.size)
-first c = c.zeros-start.ensures ∙ ap (λ l. leading (take 9 l)) c.digits-digits.ensures
-
-pub returns-clause-plain : goal.returns-clause-plain
-returns-clause-plain c plain =
-    let s = c.args.size in
-    let is = first ((goal.at.returns-clause-plain c).After-zeros-start) in
-    let size = start_is s c.requires.size in
-    let start : leading (front s) ≡ 10 - length (decimal (s / 1000)) = omega (arith, size) in
-    ap₂ (zip2 added) c.digits-digits.ensures (c.template.ensures.plain plain ∙ ap (template 9) is) ∙ plain_columns s c.requires.size ∙ ap (λ k. replicate k 32 ++ rest s) start
-
-pub returns-clause-signed : goal.returns-clause-signed
-returns-clause-signed c signed =
-    let s = c.args.size in
-    let small : s < 10 ^ 12 = c.requires.room signed in
-    let is = first ((goal.at.returns-clause-signed c).After-zeros-start) in
-    let size = start_is s c.requires.size in
-    let start : leading (front s) ≡ 10 - length (decimal (s / 1000)) = omega (arith, size) in
-    let short = length-decimal-le 9 (s / 1000) (omega arith) (omega (arith, small)) (omega (arith, small)) in
-    let some : 1 ≤ leading (front s) = omega (arith, size, short) in
-    ap₂ (zip2 added) c.digits-digits.ensures (c.template.ensures.signed signed (omega (arith, is, some)) ∙ ap (λ k. set (template 9 k) (k - 1) 45) is) ∙ signed_columns s c.requires.size some
-    ∙ ap (λ k. set (replicate k 32 ++ rest s) (k - 1) 45) start
+pub returns-clause-text : goal.returns-clause-text
+returns-clause-text c =
+    let v = c.args.value in
+    let n = c.unsigned_abs.result in
+    let is : to_z w64 (of_z w64 v) ≡ v = grind (arith, to_z-of_z) in
+    let size : n ≡ unsigned_abs v = c.unsigned_abs.ensures.value ∙ ap unsigned_abs is in
+    let most = within_columns v c.requires in
+    elim (cases_Bool (is_negative v)) [
+      | inl minus ↦ let less = within_signed v c.requires minus in
+          c.columns_with.ensures.signed (ap is_negative is ∙ minus) n (omega (arith, size, less)) c.digits.ensures ∙ ap signed_lanes_of size ∙ signed_field v c.requires minus
+      | inr plus ↦ c.columns_with.ensures.plain (ap is_negative is ∙ plus) n (omega (arith, size, most)) c.digits.ensures ∙ ap lanes_of size ∙ plain_field v c.requires plus
+    ]

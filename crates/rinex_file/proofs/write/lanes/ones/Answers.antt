@@ -1,6 +1,8 @@
-use Rattle.std.proofs.Common.{arith, ◌∙◌}
-use Rattle.rinex_file.proofs.LaneDigits.{two, bytes_of, ones_and_tens}
+use Rattle.std.proofs.Common.{arith, ◌∙◌, ap, []}
+use Rattle.rinex_file.proofs.LaneDigits.{four, eight, bytes_of, ones_and_tens}
 use Rattle.rinex_file.proofs.write.lanes.ones.Goals as goal
 
 pub returns : goal.returns
-returns c = rw c.twos-twos.ensures (bytes_of (two c.args.size) (omega (arith, c.requires)) ∙ ones_and_tens c.args.size c.requires)
+returns c =
+    let all = bytes_of (four c.args.low (four c.args.high [])) (omega (arith, c.requires.low, c.requires.high)) in
+    rw c.twos-twos.ensures (all ∙ ones_and_tens c.args.low (four c.args.high []) ∙ ap (eight c.args.low) (ones_and_tens c.args.high []))
