@@ -4,6 +4,7 @@
 //! writer and one a file, since owners of these take long to prove.
 mod events;
 mod faults;
+mod fields;
 mod long;
 mod parts;
 mod reading;

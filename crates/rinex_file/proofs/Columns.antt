@@ -73,6 +73,22 @@ signed v n first last start lost strength fits size sign are =
     ap (λ t. set t (start - 1) 45) are.1 ∙ columns-signed (decimal (n / 1000)) (padded 3 (n % 1000)) lost strength start are.0 some (length-three (n % 1000) (omega arith))
     ∙ ap (λ t. right 14 t ++ lost ∷ strength ∷ []) (sym text)
 
+-- the same, of columns as a text
+pub plain_text : (v : ℤ) (n start lost strength : ℕ) (text : List ℕ) → n ≡ unsigned_abs v → is_negative v ≡ false → start + length (decimal (n / 1000)) ≡ 10
+    → text ≡ replicate start 32 ++ (decimal (n / 1000) ++ (46 ∷ padded 3 (n % 1000) ++ lost ∷ strength ∷ [])) → text ≡ field (Some v) lost strength
+unfolding field
+plain_text v n start lost strength text size sign columns is = grind (arith, columns-plain, length-three)
+
+pub signed_text : (v : ℤ) (n start lost strength : ℕ) (text : List ℕ) → n ≡ unsigned_abs v → is_negative v ≡ true → start + length (decimal (n / 1000)) ≡ 10 → 1 ≤ start
+    → text ≡ set (replicate start 32 ++ (decimal (n / 1000) ++ (46 ∷ padded 3 (n % 1000) ++ lost ∷ strength ∷ []))) (start - 1) 45 → text ≡ field (Some v) lost strength
+unfolding field
+signed_text v n start lost strength text size sign columns some is =
+    let whole : fixed 3 v ≡ (45 ∷ decimal (n / 1000)) ++ 46 ∷ padded 3 (n % 1000) =
+    ap (λ b. (sign_text b ++ decimal (unsigned_abs v / 1000)) ++ 46 ∷ padded 3 (unsigned_abs v % 1000)) sign
+    ∙ ap (λ k. (45 ∷ decimal (k / 1000)) ++ 46 ∷ padded 3 (k % 1000)) (sym size) in
+    is ∙ columns-signed (decimal (n / 1000)) (padded 3 (n % 1000)) lost strength start columns some (length-three (n % 1000) (omega arith))
+    ∙ ap (λ t. right 14 t ++ lost ∷ strength ∷ []) (sym whole)
+
 -- ---- a field of which the two last columns are written after the others
 
 set_before : (xs ys : List ℕ) (k b : ℕ) → k < length xs → set (xs ++ ys) k b ≡ set xs k b ++ ys

@@ -40,7 +40,7 @@ leading-le [] = omega arith
 leading-le (zero ∷ ds) = let more = leading-le ds in omega (arith, more)
 leading-le (suc d ∷ ds) = omega arith
 
-length-template : (n z : ℕ) → length (template n z) ≡ n + 7
+pub length-template : (n z : ℕ) → length (template n z) ≡ n + 7
 length-template zero z = refl
 length-template (suc n) zero = let more = length-template n 0 in omega (arith, more)
 length-template (suc n) (suc z) = let more = length-template n z in omega (arith, more)
@@ -95,8 +95,11 @@ whole w small =
 abbrev pub front : ℕ → List ℕ
 front s = s / 1_000_000_000_000 ∷ s / 100_000_000_000 % 10 ∷ s / 10_000_000_000 % 10 ∷ s / 1_000_000_000 % 10 ∷ s / 100_000_000 % 10 ∷ s / 10_000_000 % 10 ∷ s / 1_000_000 % 10 ∷ s / 100_000 % 10 ∷ s / 10_000 % 10 ∷ []
 
+abbrev pub back_with : ℕ → ℕ → ℕ → List ℕ
+back_with s y z = s / 1000 % 10 ∷ 0 ∷ s / 100 % 10 ∷ s / 10 % 10 ∷ s % 10 ∷ y ∷ z ∷ []
+
 abbrev pub back : ℕ → List ℕ
-back s = s / 1000 % 10 ∷ 0 ∷ s / 100 % 10 ∷ s / 10 % 10 ∷ s % 10 ∷ 0 ∷ 0 ∷ []
+back s = back_with s 0 0
 
 front_is : (s : ℕ) → digits_onto 8 (s / 1000 / 10) [] ≡ front s
 front_is s =
@@ -115,29 +118,40 @@ front_below : (s : ℕ) → s < 10 ^ 13 → AreBelow 10 (front s)
 front_below s h = omega (arith, h)
 
 -- what follows the blanks
-abbrev pub rest : ℕ → List ℕ
-rest s = decimal (s / 1000) ++ (46 ∷ padded 3 (s % 1000) ++ 32 ∷ 32 ∷ [])
+abbrev pub rest_with : ℕ → ℕ → ℕ → List ℕ
+rest_with s lost strength = decimal (s / 1000) ++ (46 ∷ padded 3 (s % 1000) ++ lost ∷ strength ∷ [])
 
-last_columns : (s : ℕ) → zip2 added (back s) (template 0 0) ≡ (48 + s / 1000 % 10) ∷ (46 ∷ padded 3 (s % 1000) ++ 32 ∷ 32 ∷ [])
-last_columns s =
+abbrev pub rest : ℕ → List ℕ
+rest s = rest_with s 32 32
+
+last_columns : (s y z : ℕ) → zip2 added (back_with s y z) (template 0 0) ≡ (48 + s / 1000 % 10) ∷ (46 ∷ padded 3 (s % 1000) ++ added y 32 ∷ added z 32 ∷ [])
+last_columns s y z =
     let a : (s / 1000 % 10 + 48) % 2 ^ 8 ≡ 48 + s / 1000 % 10 = omega arith in
     let b : (s / 100 % 10 + 48) % 2 ^ 8 ≡ 48 + s % 1000 / 100 = omega arith in
     let d : (s / 10 % 10 + 48) % 2 ^ 8 ≡ 48 + s % 1000 / 10 % 10 = omega arith in
     let e : (s % 10 + 48) % 2 ^ 8 ≡ 48 + s % 1000 % 10 = omega arith in
-    (λ i. a i ∷ 46 ∷ b i ∷ d i ∷ e i ∷ 32 ∷ 32 ∷ []) ∙ ap (λ t. (48 + s / 1000 % 10) ∷ (46 ∷ t ++ 32 ∷ 32 ∷ [])) (sym (three_digits (s % 1000) (omega arith)))
+    (λ i. a i ∷ 46 ∷ b i ∷ d i ∷ e i ∷ added y 32 ∷ added z 32 ∷ []) ∙ ap (λ t. (48 + s / 1000 % 10) ∷ (46 ∷ t ++ added y 32 ∷ added z 32 ∷ [])) (sym (three_digits (s % 1000) (omega arith)))
 
 pub start_is : (s : ℕ) → s < 10 ^ 13 → leading (front s) + length (decimal (s / 1000)) ≡ 10
 start_is s h = subst (λ (ds : List ℕ). leading ds + length (decimal (s / 1000)) ≡ 10) (front_is s) (whole (s / 1000) (omega (arith, h))).0
 
-columns_are : (s : ℕ) → s < 10 ^ 13 → spaced (front s) ++ zip2 added (back s) (template 0 0) ≡ replicate (leading (front s)) 32 ++ rest s
-columns_are s h =
-    let t : List ℕ = 46 ∷ padded 3 (s % 1000) ++ 32 ∷ 32 ∷ [] in
+columns_are : (s y z : ℕ) → s < 10 ^ 13 → spaced (front s) ++ zip2 added (back_with s y z) (template 0 0) ≡ replicate (leading (front s)) 32 ++ rest_with s (added y 32) (added z 32)
+columns_are s y z h =
+    let t : List ℕ = 46 ∷ padded 3 (s % 1000) ++ added y 32 ∷ added z 32 ∷ [] in
     let w = subst (λ (ds : List ℕ). spaced ds ++ (48 + s / 1000 % 10) ∷ [] ≡ replicate (leading ds) 32 ++ decimal (s / 1000)) (front_is s) (whole (s / 1000) (omega (arith, h))).1 in
-    ap (λ l. spaced (front s) ++ l) (last_columns s) ∙ sym (append_assoc (spaced (front s)) ((48 + s / 1000 % 10) ∷ []) t) ∙ ap (λ l. l ++ t) w ∙ append_assoc (replicate (leading (front s)) 32) (decimal (s / 1000)) t
+    ap (λ l. spaced (front s) ++ l) (last_columns s y z) ∙ sym (append_assoc (spaced (front s)) ((48 + s / 1000 % 10) ∷ []) t) ∙ ap (λ l. l ++ t) w ∙ append_assoc (replicate (leading (front s)) 32) (decimal (s / 1000)) t
+
+-- with any numbers in the two last lanes
+pub plain_columns_with : (s y z : ℕ) → s < 10 ^ 13 → zip2 added (front s ++ back_with s y z) (template 9 (leading (front s))) ≡ replicate (leading (front s)) 32 ++ rest_with s (added y 32) (added z 32)
+plain_columns_with s y z h = digits_added (front s) (back_with s y z) (front_below s h) ∙ columns_are s y z h
+
+pub signed_columns_with : (s y z : ℕ) → s < 10 ^ 13 → 1 ≤ leading (front s)
+    → zip2 added (front s ++ back_with s y z) (set (template 9 (leading (front s))) (leading (front s) - 1) 45) ≡ set (replicate (leading (front s)) 32 ++ rest_with s (added y 32) (added z 32)) (leading (front s) - 1) 45
+signed_columns_with s y z h some = sign_added (front s) (back_with s y z) (front_below s h) some ∙ ap (λ l. set l (leading (front s) - 1) 45) (columns_are s y z h)
 
 pub plain_columns : (s : ℕ) → s < 10 ^ 13 → zip2 added (front s ++ back s) (template 9 (leading (front s))) ≡ replicate (leading (front s)) 32 ++ rest s
-plain_columns s h = digits_added (front s) (back s) (front_below s h) ∙ columns_are s h
+plain_columns s h = plain_columns_with s 0 0 h
 
 pub signed_columns : (s : ℕ) → s < 10 ^ 13 → 1 ≤ leading (front s)
     → zip2 added (front s ++ back s) (set (template 9 (leading (front s))) (leading (front s) - 1) 45) ≡ set (replicate (leading (front s)) 32 ++ rest s) (leading (front s) - 1) 45
-signed_columns s h some = sign_added (front s) (back s) (front_below s h) some ∙ ap (λ l. set l (leading (front s) - 1) 45) (columns_are s h)
+signed_columns s h some = signed_columns_with s 0 0 h some

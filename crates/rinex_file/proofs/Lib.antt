@@ -8,6 +8,7 @@ mod FieldWords
 mod Cuts
 mod Grown
 mod Columns
+mod FieldLanes
 mod Entries
 mod SatelliteGroups
 mod TypeRows

@@ -1,12 +1,12 @@
 -- A line whose columns are those in which its values are written.
-use Rattle.std.proofs.Common.{arith, ◌≡◌, ◌≢◌, ◌∙◌, sym, ap, ap₂, refl, subst, ℕ, suc, ◌+◌, ◌-◌, ◌*◌, ◌/◌, ◌%◌, ◌<◌, ◌≤◌, List, [], ◌∷◌, ◌++◌, length, take, drop, replicate, get_or, append_assoc, append-nil, take-append-drop, length-append}
-use Rattle.std.specs.Prelude.{All, Any, IsTrue, Bool, true, false, flat_map, ◌||◌}
+use Rattle.std.proofs.Common.{arith, ◌≡◌, ◌≢◌, ◌∙◌, sym, ap, ap₂, refl, ℕ, ◌+◌, ◌-◌, ◌*◌, ◌/◌, ◌%◌, ◌≤◌, List, [], ◌∷◌, ◌++◌, length, take, drop, replicate, get_or, append-nil, take-append-drop}
+use Rattle.std.specs.Prelude.{All, IsTrue, Bool, true, false, flat_map, ◌||◌}
 use Rattle.std.specs.List.{list_any}
 use Rattle.std.proofs.Math.Seq.{take-add}
 use Rattle.std.proofs.lemmas.List.{drop-drop, take_all, take_more, length-drop, length-take-le, get_or-take}
 use Rattle.std.proofs.lemmas.List.Concat.{flat_map-append}
 use Rattle.std.proofs.lemmas.List.Folds.{Any-from_list_any, list_any-append}
-use Rattle.rinex_file.specs.Value.{SignalValues, Row, SatelliteRow}
+use Rattle.rinex_file.specs.Value.{SignalValues, SatelliteRow}
 use Rattle.rinex_file.specs.FileValues.{AreSignalValues, has_some_value}
 use Rattle.rinex_file.specs.Read.Row.{AreWritten}
 use Rattle.rinex_file.specs.Blanks.{trimmed, IsEnded}

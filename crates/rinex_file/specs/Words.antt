@@ -1,5 +1,5 @@
 -- Eight columns as a number, the first in its lowest byte.
-use Rattle.std.specs.Prelude.{◌≡◌, ⊤, ℕ, zero, suc, ◌+◌, ◌*◌, ◌/◌, ◌%◌, ◌<◌, List, [], ◌∷◌, map, length}
+use Rattle.std.specs.Prelude.{⊤, ℕ, zero, suc, ◌+◌, ◌*◌, ◌/◌, ◌%◌, ◌<◌, ◌≤◌, List, [], ◌∷◌, map}
 
 -- bytes as a number
 abbrev pub word : List ℕ → ℕ
@@ -43,10 +43,6 @@ abbrev pub AreBelow : ℕ → List ℕ → Type 0
 AreBelow n [] = ⊤
 AreBelow n (b ∷ bs) = (b < n) × AreBelow n bs
 
--- the number has eight bytes, each less than n
-abbrev pub IsWordBelow : ℕ → ℕ → Type 0
-IsWordBelow n w = (bs : List ℕ) × (length bs ≡ 8) × AreBelow n bs × (w ≡ word bs)
-
 -- a field without its digits: the first `empty` of n columns are blank, then those of the last digit, of a point and of
 -- thousandths, LLI and SSI
 abbrev pub template : ℕ → ℕ → List ℕ
@@ -54,10 +50,19 @@ template zero empty = 48 ∷ 46 ∷ 48 ∷ 48 ∷ 48 ∷ 32 ∷ 32 ∷ []
 template (suc n) zero = 48 ∷ template n zero
 template (suc n) (suc empty) = 32 ∷ template n empty
 
--- the digits of a size in thousandths in the columns of its field, the first in the column of a leading digit of ten
--- before the point, and 0 in the other columns
-abbrev pub digit_columns : ℕ → List ℕ
-digit_columns s =
+-- no number is more than the limit at its place
+abbrev pub AreWithin : List ℕ → List ℕ → Type 0
+AreWithin (l ∷ ls) (d ∷ ds) = (d ≤ l) × AreWithin ls ds
+AreWithin ls ds = ⊤
+
+-- the digits of a size in thousandths in their columns, a zero in that of the point, and two more columns
+abbrev pub digit_columns : ℕ → ℕ → ℕ → List ℕ
+digit_columns s y z =
     s / 1_000_000_000_000 ∷ s / 100_000_000_000 % 10 ∷ s / 10_000_000_000 % 10 ∷ s / 1_000_000_000 % 10
-    ∷ s / 100_000_000 % 10 ∷ s / 10_000_000 % 10 ∷ s / 1_000_000 % 10 ∷ s / 100_000 % 10 ∷ s / 10_000 % 10 ∷ s / 1000 % 10
-    ∷ 0 ∷ s / 100 % 10 ∷ s / 10 % 10 ∷ s % 10 ∷ 0 ∷ 0 ∷ []
+    ∷ s / 100_000_000 % 10 ∷ s / 10_000_000 % 10 ∷ s / 1_000_000 % 10 ∷ s / 100_000 % 10 ∷ s / 10_000 % 10
+    ∷ s / 1000 % 10 ∷ 0 ∷ s / 100 % 10 ∷ s / 10 % 10 ∷ s % 10 ∷ y ∷ z ∷ []
+
+-- the numbers of each two digits to this base
+abbrev pub twos_of : ℕ → List ℕ → List ℕ
+twos_of base (a ∷ b ∷ ds) = (a * base + b) ∷ twos_of base ds
+twos_of base ds = []

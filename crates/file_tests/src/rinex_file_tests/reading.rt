@@ -35,6 +35,11 @@ fn check(alloc: Global, text: &[u8]) -> Result<Counts, ReadFault> {
     check_file(alloc, &mut reader)
 }
 
+/// Whether a file of bytes is valid.
+pub fn is_valid(alloc: Global, text: &[u8]) -> bool {
+    check(alloc, text).is_ok()
+}
+
 /// The fault of a file of bytes.
 fn fault_of(alloc: Global, text: &[u8]) -> Option<ReadFault> {
     read(alloc, text).err()

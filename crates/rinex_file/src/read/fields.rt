@@ -1,130 +1,193 @@
-//! The value in the columns of a field, judged by words: the columns are those in which it is
+//! The value in the columns of a field, judged by lanes: the columns are those in which it is
 //! written, or nothing is read.
-ghost use Rattle.std.specs.Prelude.{◌≡◌, ◌+◌, ◌-◌, ◌*◌, ◌/◌, ◌%◌, ◌^◌, ◌≤◌, ◌<◌, ◌++◌, [], ◌∷◌, List, ℕ};
-ghost use Rattle.std.specs.Prelude.{length, take, drop, replicate, decimal, IfSome, IsTrue, Some, slice_set};
-ghost use Rattle.std.specs.Int.{to_le_bytes, w64};
+ghost use Rattle.std.specs.Prelude.{◌≡◌, ◌+◌, ◌-◌, ◌*◌, ◌/◌, ◌%◌, ◌^◌, ◌≤◌, ◌<◌};
+ghost use Rattle.std.specs.Prelude.{length, take, drop, replicate, set, slice_index, IfSome, IsTrue, Some};
 ghost use Rattle.rinex_file.specs.FileValues.{FitsColumns};
 ghost use Rattle.rinex_file.specs.Lines.{field};
-ghost use Rattle.rinex_file.specs.Numbers.{padded};
-ghost use Rattle.rinex_file.specs.Words.{word, eight_digits, last_columns, IsWordBelow};
+ghost use Rattle.rinex_file.specs.Words.{template, AreBelow, AreWithin, digit_columns, twos_of};
 
-use crate::read::columns::{size_in, word_at};
+use crate::read::columns::word_at;
 use crate::read::numbers::signed;
-use crate::write::digits::front;
 use gnss_obs::Thousandths;
+use std::simd::prelude::*;
 
 /// Eight blanks.
 const BLANKS: u64 = 0x2020_2020_2020_2020;
 
-/// Returns the digits in eight columns; any other column counts as 0.
-fn digits_of(columns: u64) -> u64
-    ensures { IsWordBelow 16 result }
-{
-    // Of the bytes of a field only digits, 0x30 to 0x39, have this bit.
-    let marks = columns & 0x1010_1010_1010_1010;
-    columns & (marks - marks / 16)
-}
+/// The columns to which the digits of a value are added, for each number of blanks before it: those
+/// of a value that isn't negative, then, from row 16 on, those of one that is. No value has the
+/// other rows.
+static TEMPLATES: [[u8; 16]; 32] = [
+    *b"0000000000.000  ",
+    *b" 000000000.000  ",
+    *b"  00000000.000  ",
+    *b"   0000000.000  ",
+    *b"    000000.000  ",
+    *b"     00000.000  ",
+    *b"      0000.000  ",
+    *b"       000.000  ",
+    *b"        00.000  ",
+    *b"         0.000  ",
+    *b"0000000000.000  ",
+    *b"0000000000.000  ",
+    *b"0000000000.000  ",
+    *b"0000000000.000  ",
+    *b"0000000000.000  ",
+    *b"0000000000.000  ",
+    *b"-000000000.000  ",
+    *b" -00000000.000  ",
+    *b"  -0000000.000  ",
+    *b"   -000000.000  ",
+    *b"    -00000.000  ",
+    *b"     -0000.000  ",
+    *b"      -000.000  ",
+    *b"       -00.000  ",
+    *b"        -0.000  ",
+    *b"0000000000.000  ",
+    *b"0000000000.000  ",
+    *b"0000000000.000  ",
+    *b"0000000000.000  ",
+    *b"0000000000.000  ",
+    *b"0000000000.000  ",
+    *b"0000000000.000  ",
+];
 
-/// Returns whether each of eight numbers below 16 is a digit.
-fn are_decimal(digits: u64) -> bool
-    requires { IsWordBelow 16 digits }
-    ensures { IsTrue result → IsWordBelow 10 digits }
-{
-    (digits + 0x0606_0606_0606_0606) & 0xF0F0_F0F0_F0F0_F0F0 == 0
-}
+/// The least size in thousandths of a value in each row, and the one after the largest.
+static SIZES: [[u64; 2]; 32] = [
+    [1_000_000_000_000, 10_000_000_000_000],
+    [100_000_000_000, 1_000_000_000_000],
+    [10_000_000_000, 100_000_000_000],
+    [1_000_000_000, 10_000_000_000],
+    [100_000_000, 1_000_000_000],
+    [10_000_000, 100_000_000],
+    [1_000_000, 10_000_000],
+    [100_000, 1_000_000],
+    [10_000, 100_000],
+    [0, 10_000],
+    [0, 0],
+    [0, 0],
+    [0, 0],
+    [0, 0],
+    [0, 0],
+    [0, 0],
+    [100_000_000_000, 1_000_000_000_000],
+    [10_000_000_000, 100_000_000_000],
+    [1_000_000_000, 10_000_000_000],
+    [100_000_000, 1_000_000_000],
+    [10_000_000, 100_000_000],
+    [1_000_000, 10_000_000],
+    [100_000, 1_000_000],
+    [10_000, 100_000],
+    [1, 10_000],
+    [0, 0],
+    [0, 0],
+    [0, 0],
+    [0, 0],
+    [0, 0],
+    [0, 0],
+    [0, 0],
+];
 
-/// Returns the size in thousandths with the digits of two words of columns, and its last columns
-/// without LLI and SSI.
-fn number_of(high: u64, low: u64) -> (u64, u64)
-    requires high { IsWordBelow 10 high }
-    requires low { IsWordBelow 10 low }
-    ensures first { high ≡ word (eight_digits (result.0 / 100_000)) }
-    ensures last { result.1 ≡ word (last_columns (48 + result.0 % 100_000 / 1000 / 10) (result.0 % 100_000 / 1000 % 10)
-        (result.0 % 100_000 % 1000) 0 0) }
-    ensures bound { result.0 < 10 ^ 13 }
-{
-    // Without the columns of the point, LLI and SSI.
-    let low = low % 0x1_0000 + low / 0x100_0000 % 0x100_0000 * 0x100_0000;
-    let size = size_in(high * 10 + high / 256, low * 10 + low / 256);
-    (size, low + 0x3030_302E_3030)
-}
+/// The largest digit in each column of a value. The last two columns have none.
+const LIMITS: [u8; 16] = [9, 9, 9, 9, 9, 9, 9, 9, 9, 9, 0, 9, 9, 9, 255, 255];
 
-/// Returns the columns of a size in thousandths as two words, from the digits of the first and the
-/// last eight. The last number is the index of the first digit.
+/// Returns the columns of this row.
 #[inline(always)]
-fn columns_with(high: u64, size: u64, shown: u64) -> (u64, u64, usize)
-    requires size { size < 10 ^ 13 }
-    requires first { high ≡ word (eight_digits (size / 100_000)) }
-    requires last { 48 ≤ shown }
-    ensures { (lost strength : ℕ) → lost < 256 → strength < 256
-        → shown ≡ word (last_columns (48 + size % 100_000 / 1000 / 10)
-        (size % 100_000 / 1000 % 10) (size % 100_000 % 1000) lost strength)
-        → (result.2 + length (decimal (size / 1000)) ≡ 10)
-        × (to_le_bytes w64 result.0 ++ to_le_bytes w64 result.1
-        ≡ replicate result.2 32 ++ (decimal (size / 1000) ++ (46 ∷ padded 3 (size % 1000) ++ lost ∷ strength ∷ []))) }
+fn template_in(row: usize) -> u8x16
+    requires { row < 32 }
+    ensures plain { row ≤ 9 → result ≡ template 9 row }
+    ensures signed { 16 ≤ row → row ≤ 24 → result ≡ set (template 9 (row - 15)) (row - 16) 45 }
 {
-    if size < 10_000 {
-        // A zero before the last digit of the whole part is a blank, too.
-        return (BLANKS, shown - 16, 9);
-    }
-    if size < 100_000 {
-        return (BLANKS, shown, 8);
-    }
-    let zeros = high.trailing_zeros() as usize / 8;
-    (high + front(zeros), shown, zeros)
+    u8x16::from_array(TEMPLATES[row])
 }
 
-/// Returns what is added to eight columns to get a minus in place of the blank before this column.
-fn minus(start: usize) -> u64
-    requires { (1 ≤ start) × (start ≤ 8) }
-    ensures { result ≡ 13 * 256 ^ (start - 1) }
-{
-    word_at(b"\0\0\0\0\0\0\0\r\0\0\0\0\0\0\0\0", 8 - start)
-}
-
-/// Returns columns with a minus in place of the blank before this column.
+/// Returns the least size in thousandths of this row, and the one after the largest.
 #[inline(always)]
-fn with_minus(first: u64, last: u64, start: usize) -> (u64, u64)
-    requires start { (1 ≤ start) × (start ≤ 9) }
-    requires blank { (text : List ℕ) × (to_le_bytes w64 first ++ to_le_bytes w64 last ≡ replicate start 32 ++ text) }
-    ensures { to_le_bytes w64 result.0 ++ to_le_bytes w64 result.1
-        ≡ slice_set (to_le_bytes w64 first ++ to_le_bytes w64 last) (start - 1) 45 }
+fn sizes_in(row: usize) -> [u64; 2]
+    requires { row < 32 }
+    ensures least { row ≤ 8 → slice_index result 0 ≡ 10 ^ (12 - row) }
+    ensures end { row ≤ 9 → slice_index result 1 ≡ 10 ^ (13 - row) }
+    ensures none { 10 ≤ row → row < 16 → slice_index result 1 ≡ 0 }
+    ensures signed_least { 16 ≤ row → row ≤ 23 → slice_index result 0 ≡ 10 ^ (27 - row) }
+    ensures signed_end { 16 ≤ row → row ≤ 24 → slice_index result 1 ≡ 10 ^ (28 - row) }
+    ensures some { row ≡ 24 → slice_index result 0 ≡ 1 }
+    ensures signed_none { 25 ≤ row → row ≤ 31 → slice_index result 1 ≡ 0 }
 {
-    if start == 9 {
-        return (first, last + 13);
-    }
-    (first + minus(start), last)
+    SIZES[row]
 }
 
-/// Returns the value whose columns these are, with these LLI and SSI columns, if there is one.
+/// Returns whether no number is more than the largest digit of its column.
 #[inline(always)]
-fn value_of(first: u64, last: u64, lost: u8, strength: u8) -> Option<Thousandths>
+fn are_digits(digits: u8x16) -> bool
+    ensures { IsTrue result → AreWithin LIMITS digits }
+{
+    digits.simd_gt(u8x16::from_array(LIMITS)).to_bitmask() == 0
+}
+
+/// Returns the numbers of each two digits.
+#[inline(always)]
+fn twos(digits: u8x16) -> u16x8
+    requires { AreBelow 10 digits }
+    ensures { result ≡ twos_of 10 digits }
+{
+    (u16x8::from_le_bytes(digits) * u16x8::splat(2561)) >> u16x8::splat(8)
+}
+
+/// Returns the numbers of each two numbers below 100.
+#[inline(always)]
+fn fours(twos: u16x8) -> u32x4
+    requires { AreBelow 100 twos }
+    ensures { result ≡ twos_of 100 twos }
+{
+    (u32x4::from_le_bytes(twos.to_le_bytes()) * u32x4::splat(6_553_601)) >> u32x4::splat(16)
+}
+
+/// Returns the numbers of each two numbers below 10,000.
+#[inline(always)]
+fn eights(fours: u32x4) -> u64x2
+    requires { AreBelow 10_000 fours }
+    ensures { result ≡ twos_of 10_000 fours }
+{
+    let both = u64x2::from_le_bytes(fours.to_le_bytes());
+    (both & u64x2::splat(0xFFFF_FFFF)) * u64x2::splat(10_000) + (both >> u64x2::splat(32))
+}
+
+/// Returns the size in thousandths that has these digits in its columns.
+#[inline(always)]
+fn size_of(digits: u8x16) -> u64
+    requires { AreWithin LIMITS digits }
+    ensures digits { digits ≡ digit_columns result (slice_index digits 14) (slice_index digits 15) }
+    ensures bound { result < 10 ^ 13 }
+{
+    let ordered = digits.shuffle(
+        u8x16::splat(0),
+        [16, 16, 16, 0, 1, 2, 3, 4, 5, 6, 7, 8, 9, 11, 12, 13],
+    );
+    let [high, low] = eights(fours(twos(ordered))).to_array();
+    high * 100_000_000 + low
+}
+
+/// Returns the value whose columns these are, with the LLI and SSI columns that they have, if there
+/// is one of this row.
+#[inline(always)]
+fn value_in_row(columns: u8x16, row: usize) -> Option<Thousandths>
+    requires { row < 32 }
     ensures { IfSome result (λ v. FitsColumns v
-        × (to_le_bytes w64 first ++ to_le_bytes w64 last ≡ field (Some v) lost strength)) }
+        × (columns ≡ field (Some v) (slice_index columns 14) (slice_index columns 15))) }
 {
-    let high = digits_of(first);
-    let low = digits_of(last);
-    if !are_decimal(high) {
+    let digits = columns - template_in(row);
+    if !are_digits(digits) {
         return None;
     }
-    if !are_decimal(low) {
+    let size = size_of(digits);
+    let [least, end] = sizes_in(row);
+    if size < least {
         return None;
     }
-    let (size, part) = number_of(high, low);
-    let shown = part + lost as u64 * 0x1_0000_0000_0000 + strength as u64 * 0x100_0000_0000_0000;
-    let (front, back, start) = columns_with(high, size, shown);
-    if first == front && last == back {
-        return Some(Thousandths::new(signed(size, false)));
-    }
-    // With a minus there are at most nine digits before the point.
-    if size == 0 || size >= 1_000_000_000_000 {
+    if size >= end {
         return None;
     }
-    let (front, back) = with_minus(front, back, start);
-    if first == front && last == back {
-        return Some(Thousandths::new(signed(size, true)));
-    }
-    None
+    Some(Thousandths::new(signed(size, row >= 16)))
 }
 
 /// Returns whether the sixteen columns from this one are blank.
@@ -148,12 +211,22 @@ pub(crate) fn field_in(
     requires { at + 16 ≤ length text.now }
     ensures { IfSome result (λ v. IfSome v FitsColumns × (take 16 (drop at text.now) ≡ field v lost strength)) }
 {
-    let first = word_at(text, at);
-    let last = word_at(text, at + 8);
-    if first == BLANKS && last == BLANKS {
+    let columns = u8x16::from_slice(&text[at..at + 16]);
+    let blanks = columns.simd_eq(u8x16::splat(b' ')).to_bitmask();
+    if blanks == 0xFFFF {
         return Some(None);
     }
-    match value_of(first, last, lost, strength) {
+    // A row that isn't that of the columns only makes it seem that there is no value.
+    let empty = blanks.trailing_ones() as usize % 16;
+    let row = if text[at + empty] == b'-' {
+        empty + 16
+    } else {
+        empty
+    };
+    if text[at + 14] != lost || text[at + 15] != strength {
+        return None;
+    }
+    match value_in_row(columns, row) {
         Some(value) => Some(Some(value)),
         None => None,
     }

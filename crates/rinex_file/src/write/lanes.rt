@@ -84,7 +84,7 @@ fn ones(low: u32, high: u32) -> u8x16
 #[inline(always)]
 fn digits(size: u64) -> u8x16
     requires { size < 10 ^ 13 }
-    ensures { result ≡ digit_columns size }
+    ensures { result ≡ digit_columns size 0 0 }
 {
     let low = (size % 100_000_000) as u32;
     ones(low, (size / 100_000_000) as u32).shuffle(
@@ -98,8 +98,8 @@ fn digits(size: u64) -> u8x16
 fn digits_of_two(first: u32, second: u32) -> (u8x16, u8x16)
     requires first { first < 10 ^ 8 }
     requires second { second < 10 ^ 8 }
-    ensures first { result.0 ≡ digit_columns first }
-    ensures second { result.1 ≡ digit_columns second }
+    ensures first { result.0 ≡ digit_columns first 0 0 }
+    ensures second { result.1 ≡ digit_columns second 0 0 }
 {
     let ones = ones(first, second);
     let none = u8x16::splat(0);
@@ -145,10 +145,10 @@ fn template(start: usize, negative: bool) -> u8x16
 fn columns_with(digits: u8x16, negative: bool) -> u8x16
     requires { slice_index digits 9 < 10 }
     ensures lanes { length result ≡ 16 }
-    ensures plain { negative ≡ false → (size : ℕ) → size < 10 ^ 13 → digits ≡ digit_columns size
+    ensures plain { negative ≡ false → (size : ℕ) → size < 10 ^ 13 → digits ≡ digit_columns size 0 0
         → result ≡ replicate (10 - length (decimal (size / 1000))) 32
         ++ (decimal (size / 1000) ++ (46 ∷ padded 3 (size % 1000) ++ 32 ∷ 32 ∷ [])) }
-    ensures signed { negative ≡ true → (size : ℕ) → size < 10 ^ 12 → digits ≡ digit_columns size
+    ensures signed { negative ≡ true → (size : ℕ) → size < 10 ^ 12 → digits ≡ digit_columns size 0 0
         → result ≡ set (replicate (10 - length (decimal (size / 1000))) 32
         ++ (decimal (size / 1000) ++ (46 ∷ padded 3 (size % 1000) ++ 32 ∷ 32 ∷ [])))
         (10 - length (decimal (size / 1000)) - 1) 45 }

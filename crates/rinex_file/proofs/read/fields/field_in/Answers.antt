@@ -1,17 +1,15 @@
-use Rattle.std.proofs.Common.{rules, ◌∙◌, ap₂, w64, ◌++◌}
-use Rattle.std.specs.Int.{to_le_bytes}
+use Rattle.std.proofs.Common.{arith, ◌∙◌, ap, ap₂, sym, Some, length, get_or}
 use Rattle.rinex_file.specs.Lines.{field}
-use Rattle.rinex_file.proofs.FieldWords.{sixteen_are}
+use Rattle.rinex_file.proofs.FieldLanes.{lanes_are, lane_is, sixteen_long, blank_lanes}
 use Rattle.rinex_file.proofs.read.fields.field_in.Goals as goal
 
-pub returns-then-last-eq-BLANKS : goal.returns-then-last-eq-BLANKS
+pub returns-then-blanks-eq65535 : goal.returns-then-blanks-eq65535
 unfolding field
-returns-then-last-eq-BLANKS c = (
-  tt,
-  sixteen_are c.args.text.now c.args.at c.word_at-first.result c.word_at-last.result (λ i. search rules) c.requires c.word_at-first.ensures c.word_at-last.ensures
-      ∙ ap₂ (λ a b. to_le_bytes w64 a ++ to_le_bytes w64 b) c.if-first-eq-BLANKS.true c.if-last-eq-BLANKS.true,
-)
+returns-then-blanks-eq65535 c = (tt, sym (lanes_are c.args.text.now c.args.at) ∙ blank_lanes _ (ap length (lanes_are c.args.text.now c.args.at) ∙ sixteen_long c.args.text.now c.args.at c.requires) c.if-blanks-eq65535.true)
 
 pub returns-in-Some : goal.returns-in-Some
 returns-in-Some c =
-    (c.in-Some.ensures.0, sixteen_are c.args.text.now c.args.at c.word_at-first.result c.word_at-last.result (λ i. search rules) c.requires c.word_at-first.ensures c.word_at-last.ensures ∙ c.in-Some.ensures.1)
+    let is = lanes_are c.args.text.now c.args.at in
+    let lost = ap (λ r. get_or r 14 0) is ∙ lane_is c.args.text.now c.args.at 14 (omega arith) ∙ c.if-text-at.false in
+    let strength = ap (λ r. get_or r 15 0) is ∙ lane_is c.args.text.now c.args.at 15 (omega arith) ∙ c.if-text-at-2.false in
+    (c.in-Some.ensures.0, sym is ∙ c.in-Some.ensures.1 ∙ ap₂ (λ a b. field (Some c.in-Some.value) a b) lost strength)

@@ -8,7 +8,7 @@ use Rattle.rinex_file.proofs.LaneColumns.{added, front, rest, start_is, plain_co
 use Rattle.rinex_file.proofs.write.lanes.columns_with.Goals as goal
 use Rattle.rinex_file.proofs.write.lanes.columns_with.Goals.{After-zeros}
 
-first : (c : After-zeros) (s : ℕ) → c.args.digits ≡ digit_columns s → c.zeros.result ≡ leading (front s)
+first : (c : After-zeros) (s : ℕ) → c.args.digits ≡ digit_columns s 0 0 → c.zeros.result ≡ leading (front s)
 first c s are = c.zeros.ensures ∙ ap (λ l. leading (take 9 l)) are
 
 pub returns-clause-lanes : goal.returns-clause-lanes
