@@ -56,7 +56,7 @@ left_ahead bytes at end count few =
 pub consumed_none : (a b c : Option (List ℕ)) (bytes : List ℕ) → Consumes a b bytes → Consumes b c [] → Consumes a c bytes
 consumed_none a b c bytes first next = subst (Consumes a c) (append-nil bytes) (Consumes-trans a b c bytes [] first next)
 
-ahead_moved : (r : Option (List ℕ)) (old new bytes : List ℕ) → old ≡ bytes ++ new → Consumes (prepend_known old r) (prepend_known new r) bytes
+pub ahead_moved : (r : Option (List ℕ)) (old new bytes : List ℕ) → old ≡ bytes ++ new → Consumes (prepend_known old r) (prepend_known new r) bytes
 ahead_moved v0 old new bytes e = grind (arith, append_assoc)
 
 pub moved_taken : (a b r : Option (List ℕ)) (whole : Bool) (old new line line' : List ℕ) → Consumes a b line → Consumes b (prepend_known old r) [] → MovesBytes whole old new line line'

@@ -1,5 +1,5 @@
 -- Bytes that were read ahead.
-use Rattle.std.specs.Prelude.{◌≡◌, ℕ, ◌<◌, ◌≤◌, Bool, true, false, List, [], ◌∷◌, ◌++◌, length, Option}
+use Rattle.std.specs.Prelude.{◌≡◌, ℕ, zero, suc, ◌<◌, ◌≤◌, Bool, true, false, List, [], ◌∷◌, ◌++◌, length, take, Option}
 use Rattle.std.specs.Io.KnownBytes.{Consumes}
 use Rattle.rinex_file.specs.Read.Fields.{has}
 use Rattle.rinex_file.specs.Limits.{most_line}
@@ -21,3 +21,13 @@ pub record MovesBytes (whole : Bool) (old new line line' : List ℕ) : Type 0 wh
   pub are : AreMoved whole bytes
   pub some : 0 < length old → length line < most_line → 0 < length bytes
   pub short : length line' ≤ most_line
+
+-- the line that was read last, and the bytes that were read after it
+pub record LinesRead : Type 0 where
+  pub line : List ℕ
+  pub ahead : List ℕ
+
+-- the line of this size is the front of the block, or if it has none it is in the buffer
+abbrev pub last_line : ℕ → List ℕ → List ℕ → List ℕ
+last_line zero block buffer = buffer
+last_line (suc n) block buffer = take (suc n) block

@@ -28,7 +28,7 @@ MayBeCounted r = HasRoom r.parser_state r.count × (r.count ≤ most_lines)
 
 -- a history was read of the input, this is left of it after what was read ahead, and no count is too great
 pub record HasRead (r : Reading) (h : History) (input left : Option (List ℕ)) : Type 0 where
-  pub taken : IsTaken (progress_at r.parser_state h) r.count input (prepend_known r.block left)
+  pub taken : IsTaken (progress_at r.parser_state h) r.count input (prepend_known r.lines.ahead left)
   pub history : FollowsHistory r.parser_state h
   pub within : MayBeCounted r
 

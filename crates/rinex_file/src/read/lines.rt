@@ -1,10 +1,10 @@
 //! The lines of a reader, of which blocks are read ahead.
-ghost use Rattle.std.specs.Prelude.{◌≡◌, ◌<◌, ◌≤◌, [], ◌∷◌, take, drop, length, false, IfNone, IfSome};
+ghost use Rattle.std.specs.Prelude.{◌≡◌, ◌==◌, ◌<◌, ◌≤◌, [], ◌∷◌, take, drop, length, false, IfNone, IfSome};
 ghost use Rattle.std.specs.Io.KnownBytes.{Consumes, prepend_known};
 ghost use Rattle.arrayvec.specs.ArrayVec.{array_vec_len};
 ghost use Rattle.rinex_file.specs.Read.Fields.{has};
 ghost use Rattle.rinex_file.specs.Blocks.{MovesBytes, LeavesRest};
-ghost use Rattle.rinex_file.specs.Exact.{IsFound};
+ghost use Rattle.rinex_file.specs.Exact.{IsFound, IsLine};
 ghost use Rattle.rinex_file.specs.Limits.{most_line};
 
 use crate::write::numbers::{Line, MOST_LINE, put};
@@ -18,7 +18,7 @@ const BLOCK_BYTES: usize = 65_536;
 
 /// Bytes that were read and are not yet part of a line.
 #[derive(Drop)]
-pub(crate) struct Block {
+struct Block {
     bytes: [u8; BLOCK_BYTES],
     at: usize,
     end: usize,
@@ -49,7 +49,7 @@ pub(crate) enum Found {
 
 impl Block {
     /// Returns a block without bytes.
-    pub(crate) fn new() -> Block
+    fn new() -> Block
         ensures { result ≡ [] }
     {
         Block {
@@ -61,7 +61,7 @@ impl Block {
 
     /// Reads bytes ahead if none is left. Returns what was found in their place, or None if there
     /// are some.
-    pub(crate) fn fill<R: Read>(&mut self, reader: &mut Counted<R>) -> Option<Found>
+    fn fill<R: Read>(&mut self, reader: &mut Counted<R>) -> Option<Found>
         ensures same { Consumes (prepend_known self.old (R.remaining reader.old.inner))
             (prepend_known self.new (R.remaining reader.new.inner)) [] }
         ensures left { LeavesRest (R.remaining reader.old.inner) (R.remaining reader.new.inner) }
@@ -84,9 +84,38 @@ impl Block {
         }
     }
 
+    /// Returns the size of the first line if it is whole in the block, or 0.
+    fn line_size(&self) -> usize
+        ensures whole { 0 < result → IsLine (take result self.now) }
+        ensures fits { (result ≤ length self.now) × (result ≤ most_line) }
+    {
+        let held = &self.bytes[self.at..self.end];
+        let near = &held[..held.len().min(MOST_LINE)];
+        match memchr(b'\n', near) {
+            Some(feed) => feed + 1,
+            None => 0,
+        }
+    }
+
+    /// Returns the first bytes.
+    fn front(&self, count: usize) -> &[u8]
+        requires { count ≤ length self.now }
+        ensures { result.now ≡ take count self.now }
+    {
+        &self.bytes[self.at..self.at + count]
+    }
+
+    /// Skips bytes.
+    fn skip(&mut self, count: usize)
+        requires { count ≤ length self.old }
+        ensures { self.new ≡ drop count self.old }
+    {
+        self.at += count;
+    }
+
     /// Moves bytes to the end of a line, up to its line feed or as many as are available and fit.
     /// Returns whether the line feed is among them.
-    pub(crate) fn move_to(&mut self, line: &mut Line) -> bool
+    fn move_to(&mut self, line: &mut Line) -> bool
         requires { array_vec_len line.old ≤ most_line }
         ensures { MovesBytes result self.old self.new line.old.items line.new.items }
     {
@@ -102,11 +131,7 @@ impl Block {
 }
 
 /// Reads the bytes of the next line into the buffer, replacing its contents.
-pub(crate) fn next_line<R: Read>(
-    reader: &mut Counted<R>,
-    block: &mut Block,
-    line: &mut Line,
-) -> Found
+fn next_line<R: Read>(reader: &mut Counted<R>, block: &mut Block, line: &mut Line) -> Found
     ensures taken { (Consumes (prepend_known block.old (R.remaining reader.old.inner))
         (prepend_known block.new (R.remaining reader.new.inner)) line.new.items)
         × LeavesRest (R.remaining reader.old.inner) (R.remaining reader.new.inner) }
@@ -123,4 +148,75 @@ pub(crate) fn next_line<R: Read>(
         }
     }
     Found::Long
+}
+
+/// The lines of a reader, and the line that was read last.
+#[derive(Drop)]
+pub(crate) struct Lines {
+    block: Block,
+    // The size of the line, which is the front of the block, or 0 if it was copied to the buffer.
+    size: usize,
+    buffer: Line,
+}
+
+impl Model for Lines {
+    ghost use Rattle.std.specs.Prelude.{◌≤◌, drop, length};
+    ghost use Rattle.rinex_file.specs.Blocks.{LinesRead, last_line};
+    ghost use Rattle.rinex_file.specs.Limits.{most_line};
+
+    ghost Value = { LinesRead };
+
+    ghost view = { λ l. record { line = last_line l.size l.block l.buffer.items; ahead = drop l.size l.block } };
+
+    ghost invariant = { λ l. (l.size ≤ length l.block) × (l.size ≤ most_line) };
+}
+
+impl Lines {
+    /// Returns the lines of a reader of which nothing was read.
+    pub(crate) fn new() -> Lines
+        ensures { result.ahead ≡ [] }
+    {
+        Lines {
+            block: Block::new(),
+            size: 0,
+            buffer: Line::new(),
+        }
+    }
+
+    /// Returns the line that was read last.
+    pub(crate) fn line(&self) -> &[u8]
+        ensures line { result.now ≡ self.now.line }
+        ensures short { length result.now ≤ most_line }
+    {
+        if self.size == 0 {
+            return self.buffer.as_slice();
+        }
+        self.block.front(self.size)
+    }
+
+    /// Returns whether no byte of the line was read.
+    pub(crate) fn is_empty(&self) -> bool
+        ensures { result ≡ (length self.now.line == 0) }
+    {
+        self.line().is_empty()
+    }
+
+    /// Reads the bytes of the next line. They are copied only if they are not in one block.
+    pub(crate) fn next<R: Read>(&mut self, reader: &mut Counted<R>) -> Found
+        ensures taken { (Consumes (prepend_known self.old.ahead (R.remaining reader.old.inner))
+            (prepend_known self.new.ahead (R.remaining reader.new.inner)) self.new.line)
+            × LeavesRest (R.remaining reader.old.inner) (R.remaining reader.new.inner) }
+        ensures found { IsFound result self.new.line (prepend_known self.new.ahead (R.remaining reader.new.inner))
+            reader.old.failures reader.new.failures }
+    {
+        let done = self.size;
+        self.size = 0;
+        self.block.skip(done);
+        let size = self.block.line_size();
+        if size > 0 {
+            self.size = size;
+            return Found::Line;
+        }
+        next_line(reader, &mut self.block, &mut self.buffer)
+    }
 }

@@ -8,7 +8,7 @@ ghost use Rattle.rinex_file.specs.Read.Steps.{GoesOnReading, HasRead};
 
 use crate::read::expected::{Added, Expected, Refusal};
 use crate::read::fault::ReadFault;
-use crate::read::lines::{Block, Found, next_line};
+use crate::read::lines::{Found, Lines};
 use crate::read::parser_state::ParserState;
 use crate::write::numbers::Line;
 use rtcm_bits::Counted;
@@ -23,8 +23,7 @@ const MOST_LINES: u64 = 1 << 32;
 pub(crate) struct Reading {
     pub(crate) parser_state: ParserState,
     pub(crate) count: u64,
-    pub(crate) block: Block,
-    line: Line,
+    pub(crate) lines: Lines,
     again: Line,
 }
 
@@ -50,8 +49,7 @@ impl Reading {
         Reading {
             parser_state: ParserState::new(alloc),
             count: 0,
-            block: Block::new(),
-            line: Line::new(),
+            lines: Lines::new(),
             again: Line::new(),
         }
     }
@@ -70,18 +68,17 @@ impl Reading {
     {
         let number = self.count + 1;
         let fault = fault_at(self.parser_state.expected, number);
-        match next_line(reader, &mut self.block, &mut self.line) {
+        match self.lines.next(reader) {
             Found::Failed => return Err(ReadFault::Read),
-            _ if self.count == MOST_LINES && !self.line.is_empty() => {
+            _ if self.count == MOST_LINES && !self.lines.is_empty() => {
                 return Err(ReadFault::TooLong);
             }
             Found::Line => {}
-            Found::End if self.line.is_empty() && self.parser_state.may_end() => return Ok(None),
+            Found::End if self.lines.is_empty() && self.parser_state.may_end() => return Ok(None),
             Found::End => return Err(ReadFault::CutShort(number)),
             Found::Long => return Err(fault),
         }
-        let line = self.line.as_slice();
-        match self.parser_state.take(line, &mut self.again) {
+        match self.parser_state.take(self.lines.line(), &mut self.again) {
             Ok(added) => {
                 self.count = number;
                 Ok(Some(added))

@@ -1,0 +1,28 @@
+use Rattle.std.proofs.Common.{arith, ◌≡◌, ◌∙◌, sym, ap, ℕ, ◌+◌, ◌≤◌, take, length, subst, List, [], ◌∷◌, ◌++◌, Option, Some}
+use Rattle.std.specs.Prelude.{min}
+use Rattle.std.proofs.Math.Nat.{min-le_left}
+use Rattle.std.proofs.lemmas.Bool.{eqb-true}
+use Rattle.std.proofs.lemmas.List.{take_more, take-take, length-take-le}
+use Rattle.memchr.specs.Find.{IsFirstByte, is_byte}
+use Rattle.rinex_file.specs.Exact.{IsLine}
+use Rattle.rinex_file.proofs.LineByLine.{no_feed}
+use Rattle.rinex_file.proofs.read.lines.Block.line_size.Goals as goal
+
+-- the bytes up to the first line feed
+line_at : (held : List ℕ) (room n : ℕ) → room ≤ length held → IsFirstByte (is_byte 10) (take room held) (Some n) → IsLine (take (n + 1) held)
+line_at held room n within (none, feed) =
+    let near = take room held in
+    let size = length-take-le room held within in (
+      take n near,
+      sym (take-take (n + 1) room held (omega (arith, none.high, size))) ∙ take_more near n 0 none.high ∙ ap (λ (b : ℕ). take n near ++ b ∷ []) (eqb-true _ _ feed),
+      no_feed near n (λ k less. none.before k (omega arith) less) (omega (arith, none.high)),
+    )
+
+line_of : (held : List ℕ) (r : Option ℕ) (most room n : ℕ) → room ≡ min (length held) most → IsFirstByte (is_byte 10) (take room held) r → r ≡ Some n → IsLine (take (n + 1) held)
+line_of held r most room n least first is =
+    let low = min-le_left (length held) most in
+    line_at held room n (omega (arith, least, low)) (subst (IsFirstByte (is_byte 10) (take room held)) is first)
+
+pub returns-in-Some-clause-whole : goal.returns-in-Some-clause-whole
+returns-in-Some-clause-whole c = λ some.
+    subst (λ (l : List ℕ). IsLine (take (c.in-Some.feed + 1) l)) c.self.view_is (line_of _ c.memchr.result 1220 c.min.result c.in-Some.feed c.min.ensures c.memchr.ensures c.in-Some.is)
