@@ -35,3 +35,4 @@ mod HeaderSteps
 mod Groups
 mod GatheredFile
 mod CellPlaces
+mod CutColumns

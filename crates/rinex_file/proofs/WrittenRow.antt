@@ -1,14 +1,13 @@
 -- A line whose columns are those in which its values are written.
 use Rattle.std.proofs.Common.{arith, ◌≡◌, ◌≢◌, ◌∙◌, sym, ap, ap₂, refl, ℕ, ◌+◌, ◌-◌, ◌*◌, ◌/◌, ◌%◌, ◌≤◌, List, [], ◌∷◌, ◌++◌, length, take, drop, replicate, get_or, append-nil, take-append-drop}
-use Rattle.std.specs.Prelude.{All, IsTrue, Bool, true, false, flat_map, ◌||◌}
+use Rattle.std.specs.Prelude.{Bool, true, false, flat_map, ◌||◌}
 use Rattle.std.specs.List.{list_any}
 use Rattle.std.proofs.Math.Seq.{take-add}
 use Rattle.std.proofs.lemmas.List.{drop-drop, take_all, take_more, length-drop, length-take-le, get_or-take}
 use Rattle.std.proofs.lemmas.List.Concat.{flat_map-append}
-use Rattle.std.proofs.lemmas.List.Folds.{Any-from_list_any, list_any-append}
+use Rattle.std.proofs.lemmas.List.Folds.{list_any-append}
 use Rattle.rinex_file.specs.Value.{SignalValues, SatelliteRow}
-use Rattle.rinex_file.specs.FileValues.{AreSignalValues, has_some_value}
-use Rattle.rinex_file.specs.Read.Row.{AreWritten}
+use Rattle.rinex_file.specs.FileValues.{has_some_value}
 use Rattle.rinex_file.specs.Blanks.{trimmed, IsEnded}
 use Rattle.rinex_file.specs.Numbers.{padded}
 use Rattle.rinex_file.specs.Lines.{field, signal_text, lli_byte, strength_byte, row_text, satellite_line, letter_of}
@@ -50,16 +49,6 @@ or_none false = refl
 pub some_more : (es new : List SignalValues) (e : SignalValues) (a b : Bool) → new ≡ es ++ e ∷ [] → a ≡ list_any has_some_value es → b ≡ has_some_value e
     → (a || b) ≡ list_any has_some_value new
 some_more es new e a b pushed is here = ap₂ (λ s t. s || t) is here ∙ sym (ap (list_any has_some_value) pushed ∙ list_any-append has_some_value es (e ∷ []) ∙ ap (λ t. list_any has_some_value es || t) (or_none (has_some_value e)))
-
-pub all_written : (signals i : ℕ) (text : List ℕ) (es : List SignalValues) (some : Bool) → i ≡ signals → length text ≡ 64 * signals → All AreSignalValues es → length es ≡ i
-    → some ≡ list_any has_some_value es → flat_map signal_text es ≡ take (64 * i) text → IsTrue some → AreWritten signals text es
-all_written signals i text es some end size each whole is shown held =
-    record {
-      each = each;
-      whole = whole ∙ end;
-      some = Any-from_list_any has_some_value es (sym is ∙ held);
-      text_is = sym (shown ∙ take_all (64 * i) text (omega (arith, size, end)));
-    }
 
 -- ---- the number of a satellite
 

@@ -7,6 +7,7 @@ use Rattle.rinex_file.specs.Words.{word}
 use Rattle.rinex_file.specs.Value.{SignalValues, Row, SatelliteRow}
 use Rattle.rinex_file.specs.FileValues.{AreSignalValues, has_some_value}
 use Rattle.rinex_file.specs.Lines.{signal_text}
+use Rattle.rinex_file.specs.Blanks.{filled_to}
 use Rattle.rinex_file.specs.Limits.{signal_columns}
 
 -- the digit in a column; 0 for any other byte
@@ -87,3 +88,13 @@ pub record AreWritten (signals : ℕ) (text : List ℕ) (entries : List SignalVa
   pub whole : length entries ≡ signals
   pub some : Any (λ e. IsTrue (has_some_value e)) entries
   pub text_is : text ≡ flat_map signal_text entries
+
+-- ---- the columns of signals in a text whose blanks at the end were cut
+
+-- those of the signal that begins here
+abbrev pub signal_from : ℕ → List ℕ → List ℕ
+signal_from at text = filled_to signal_columns (take signal_columns (drop at text))
+
+-- those of the signal in which the text ends, or blanks
+abbrev pub last_signal : List ℕ → List ℕ
+last_signal text = filled_to signal_columns (drop (signal_columns * (length text / signal_columns)) text)

@@ -1,16 +1,16 @@
 //! The line of a satellite, read back: its fields are validated, written again and compared.
-ghost use Rattle.std.specs.Prelude.{◌≡◌, ◌↔◌, ℕ, ◌+◌, ◌-◌, ◌*◌, ◌≤◌, ◌<◌, List, [], ◌∷◌, ◌++◌, replicate};
-ghost use Rattle.std.specs.Prelude.{length, pos, None, Some, IfSome, IsTrue};
+ghost use Rattle.std.specs.Prelude.{◌≡◌, ◌↔◌, ℕ, ◌+◌, ◌-◌, ◌*◌, ◌%◌, ◌≤◌, ◌<◌, List, [], ◌∷◌, ◌++◌, replicate};
+ghost use Rattle.std.specs.Prelude.{length, drop, pos, None, Some, IfSome, IsTrue};
 ghost use Rattle.arrayvec.specs.ArrayVec.{array_vec_len};
 ghost use Rattle.gnss_obs.specs.declared.system.System.{System};
 ghost use Rattle.gnss_obs.specs.Satellites.{satellites};
 ghost use Rattle.rinex_file.specs.FileValues.{IsFrom, AreSignalValues, IsRow, IsSatelliteRow};
-ghost use Rattle.rinex_file.specs.Blanks.{IsEnded};
+ghost use Rattle.rinex_file.specs.Blanks.{IsEnded, filled_to};
 ghost use Rattle.rinex_file.specs.Lines.{satellite_line, signal_text, lli_byte};
 ghost use Rattle.rinex_file.specs.Numbers.{padded};
 ghost use Rattle.rinex_file.specs.Value.{no_signal_values};
 ghost use Rattle.rinex_file.specs.Read.Fields.{ReadsExactly, some_if};
-ghost use Rattle.rinex_file.specs.Read.Row.{signal_values_in, satellite_row_in, AreWritten};
+ghost use Rattle.rinex_file.specs.Read.Row.{signal_values_in, satellite_row_in, AreWritten, signal_from, last_signal};
 ghost use Rattle.rinex_file.specs.Limits.{most_line, signal_columns, most_signals};
 
 use crate::read::columns::value_in;
@@ -174,30 +174,106 @@ fn written_in(text: &[u8]) -> Option<SignalValues>
     }
 }
 
-/// Reads the signals of a line that was padded with blanks. Returns whether the columns are as the
-/// values are written, of which there are some.
+/// Writes a text over the first columns.
+#[inline(always)]
+fn put_over(columns: &mut [u8], text: &[u8])
+    requires { length text.now ≤ length columns.old }
+    ensures { columns.new ≡ text.now ++ drop (length text.now) columns.old }
+{
+    columns[..text.len()].copy_from_slice(text);
+}
+
+/// Returns the last columns of a text, which are those of a signal that is not whole in it, padded
+/// with blanks.
+#[inline(always)]
+fn last_columns(text: &[u8]) -> [u8; SIGNAL_COLUMNS]
+    ensures { result ≡ last_signal text.now }
+{
+    let mut columns = [b' '; SIGNAL_COLUMNS];
+    let whole = SIGNAL_COLUMNS * (text.len() / SIGNAL_COLUMNS);
+    put_over(&mut columns, &text[whole..]);
+    columns
+}
+
+/// Returns the columns of a signal that begins in a text with these last columns.
+#[inline(always)]
+fn columns_at<'a>(text: &'a [u8], last: &'a [u8; SIGNAL_COLUMNS], at: usize) -> &'a [u8]
+    requires last { last.now ≡ last_signal text.now }
+    requires at { at % signal_columns ≡ 0 }
+    requires within { at < length text.now }
+    ensures { result.now ≡ signal_from at text.now }
+{
+    if text.len() - at >= SIGNAL_COLUMNS {
+        return &text[at..at + SIGNAL_COLUMNS];
+    }
+    last
+}
+
+/// Returns the values of a signal in a text with these last columns, or None if the columns are not
+/// as these values are written.
+#[inline(always)]
+fn written_at(text: &[u8], last: &[u8; SIGNAL_COLUMNS], at: usize) -> Option<SignalValues>
+    requires last { last.now ≡ last_signal text.now }
+    requires at { at % signal_columns ≡ 0 }
+    ensures { IfSome result (λ e. AreSignalValues e × (signal_from at text.now ≡ signal_text e)) }
+{
+    // The blanks at the end of a line were cut.
+    if at >= text.len() {
+        return Some(SignalValues::default());
+    }
+    written_in(columns_at(text, last, at))
+}
+
+/// Reads the signals in a text with these last columns, one for each of the values. Returns whether
+/// the columns are as the values are written, of which there are some.
+#[inline(never)]
+fn put_each_in(text: &[u8], last: &[u8; SIGNAL_COLUMNS], values: &mut [SignalValues]) -> bool
+    requires last { last.now ≡ last_signal text.now }
+    requires few { length values.old ≤ most_signals }
+    requires room { length text.now ≤ signal_columns * length values.old }
+    ensures size { length values.new ≡ length values.old }
+    ensures written { IsTrue result → AreWritten (length values.old)
+        (filled_to (signal_columns * length values.old) text.now) values.new }
+{
+    let mut some = false;
+    for i in 0..values.len() {
+        match written_at(text, last, SIGNAL_COLUMNS * i) {
+            Some(entry) => {
+                some |= entry.has_value();
+                values[i] = entry;
+            }
+            None => return false,
+        }
+    }
+    some
+}
+
+/// Gives the list this length. What is kept isn't cleared.
+fn resize(values: &mut ArrayVec<SignalValues, MOST_SIGNALS>, signals: usize)
+    requires { signals ≤ most_signals }
+    ensures { array_vec_len values.new ≡ signals }
+{
+    values.truncate(signals);
+    for _ in values.len()..signals {
+        values.push(SignalValues::default());
+    }
+}
+
+/// Reads the signals in a text whose blanks at the end were cut. Returns whether the columns are as
+/// the values are written, of which there are some.
+#[inline(always)]
 fn put_written_in(
     text: &[u8],
     signals: usize,
     values: &mut ArrayVec<SignalValues, MOST_SIGNALS>,
 ) -> bool
     requires few { signals ≤ most_signals }
-    requires room { length text.now ≡ signal_columns * signals }
-    ensures { IsTrue result → AreWritten signals text.now values.new.items }
+    requires room { length text.now ≤ signal_columns * signals }
+    ensures { IsTrue result → AreWritten signals (filled_to (signal_columns * signals) text.now) values.new.items }
 {
-    values.clear();
-    let mut some = false;
-    for i in 0..signals {
-        let at = SIGNAL_COLUMNS * i;
-        match written_in(&text[at..at + SIGNAL_COLUMNS]) {
-            Some(entry) => {
-                some |= entry.has_value();
-                values.push(entry);
-            }
-            None => return false,
-        }
-    }
-    some
+    resize(values, signals);
+    let last = last_columns(text);
+    put_each_in(text, &last, values.as_mut_slice())
 }
 
 /// Returns the number in two columns, or None if they are not two digits.
@@ -221,32 +297,24 @@ fn is_ended(line: &[u8]) -> bool
     end >= 2 && line[end - 1] == b'\n' && line[end - 2] != b' '
 }
 
-/// Reads the satellite of this system in a line, of which `text` is padded with blanks. Returns
-/// whether the line was seen to be that of the satellite: if not, it may still be.
-fn put_judged(
-    line: &[u8],
-    text: &[u8],
-    system: System,
-    signals: usize,
-    seen: &mut KeptSatellite,
-) -> bool
-    requires filled { (t : List ℕ) → line.now ≡ t ++ 10 ∷ []
-        → text.now ≡ t ++ replicate (3 + signal_columns * signals - length t) 32 }
+/// Reads the satellite of this system in a line. Returns whether the line was seen to be that of the
+/// satellite: if not, it may still be.
+fn put_judged(line: &[u8], system: System, signals: usize, seen: &mut KeptSatellite) -> bool
     requires few { signals ≤ most_signals }
-    requires room { 3 + signal_columns * signals ≤ length text.now }
     ensures { IsTrue result → (seen.new.system ≡ system) × IsRow (satellites system) signals seen.new.row
         × (line.now ≡ satellite_line seen.new) }
 {
-    if text.len() != 3 + SIGNAL_COLUMNS * signals || text[0] != letter_of(system) {
+    if !is_ended(line) {
         return false;
     }
-    if !is_ended(line) {
+    let text = &line[..line.len().saturating_sub(1)];
+    if text.len() < 3 || text.len() > 3 + SIGNAL_COLUMNS * signals {
         return false;
     }
     let Some(id) = two_digits_in(text[1], text[2]) else {
         return false;
     };
-    if id == 0 || id > system.satellites() {
+    if text[0] != letter_of(system) || id == 0 || id > system.satellites() {
         return false;
     }
     seen.system = system;
@@ -267,12 +335,12 @@ fn read_of(
     ensures { ReadsExactly (λ s. (s.system ≡ system) × IsRow (satellites system) signals s.row) satellite_line line.now
         (some_if result seen.new) }
 {
-    fill(line, signals, again);
-    let padded = again.as_slice();
-    if put_judged(line, padded, system, signals, seen) {
+    if put_judged(line, system, signals, seen) {
         return true;
     }
     // No line that was written comes here.
+    fill(line, signals, again);
+    let padded = again.as_slice();
     put_seen_in(system, padded, signals, seen);
     if !is_row(seen, system.satellites(), signals) {
         return false;

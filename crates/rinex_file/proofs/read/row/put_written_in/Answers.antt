@@ -1,21 +1,21 @@
-use Rattle.std.proofs.Common.{arith, sym, subst, All}
-use Rattle.std.proofs.lemmas.List.Elements.{All-push}
-use Rattle.rinex_file.specs.FileValues.{AreSignalValues}
-use Rattle.rinex_file.proofs.WrittenRow.{signals_more, some_more, all_written}
+use Rattle.std.proofs.Common.{arith, ◌≡◌, ◌∙◌, sym, ap, subst, ℕ, ◌*◌, List, ◌++◌, length, take, drop, append-nil}
+use Rattle.std.proofs.lemmas.List.{take_all, drop_all}
+use Rattle.rinex_file.specs.Value.{SignalValues}
+use Rattle.rinex_file.specs.Blanks.{filled_to}
+use Rattle.rinex_file.specs.Read.Row.{AreWritten}
 use Rattle.rinex_file.proofs.read.row.put_written_in.Goals as goal
 
-pub loop-i-preserved : goal.loop-i-preserved
-loop-i-preserved c =
-    let old = c.loop-i.values.items in
-    let new = c.push.new.self.items in
-    record {
-      each = subst (All AreSignalValues) (sym c.push.ensures.items) (All-push AreSignalValues old _ c.loop-i.invariant.each c.in-Some.ensures.0);
-      size = omega (arith, c.push.ensures.len, c.loop-i.invariant.size);
-      some = some_more old new _ c.loop-i.some c.has_value-some.result c.push.ensures.items c.loop-i.invariant.some c.has_value-some.ensures;
-      text = signals_more c.args.text.now c.loop-i.i _ _ old new _ (omega arith) (omega arith) c.push.ensures.items c.loop-i.invariant.text c.in-Some.ensures.1;
-    }
+-- a list after all its elements were lent
+lent : (old new : List SignalValues) → length new ≡ length old → take (length old) (new ++ drop (length new) old) ≡ new
+lent old new size =
+    ap (λ l. take (length old) (new ++ l)) (drop_all (length new) old (omega (arith, size)))
+    ∙ ap (take (length old)) (append-nil new) ∙ take_all (length old) new (omega (arith, size))
 
 pub returns : goal.returns
 returns c = λ held.
-    all_written c.args.signals c.loop-i.i c.args.text.now c.loop-i.values.items c.loop-i.some (omega arith) c.requires.room c.loop-i.invariant.each c.loop-i.invariant.size
-    c.loop-i.invariant.some c.loop-i.invariant.text held
+    let text = c.args.text.now in
+    let old = c.resize.new.values.items in
+    let new = c.put_each_in.new.values in
+    let count : length c.as_mut_slice.result.now ≡ c.args.signals = ap length c.as_mut_slice.ensures.value ∙ c.resize.ensures in
+    subst (AreWritten c.args.signals (filled_to (64 * c.args.signals) text)) (sym (lent old new (c.put_each_in.ensures.size ∙ ap length c.as_mut_slice.ensures.value)))
+    (subst (λ (n : ℕ). AreWritten n (filled_to (64 * n) text) new) count (c.put_each_in.ensures.written held))

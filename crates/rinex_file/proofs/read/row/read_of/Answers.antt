@@ -1,4 +1,4 @@
-use Rattle.std.proofs.Common.{arith, ◌≡◌, ◌∙◌, ◌↔◌, sym, ap, subst, ℕ, ◌+◌, ◌-◌, ◌*◌, List, [], ◌∷◌, ◌++◌, length, replicate, Bool, true, false, IsTrue, refl}
+use Rattle.std.proofs.Common.{arith, ◌≡◌, ◌∙◌, ◌↔◌, sym, ap, subst, ℕ, ◌+◌, ◌-◌, ◌*◌, List, [], ◌∷◌, ◌++◌, length, take, replicate, Bool, true, false, IsTrue, refl}
 use Rattle.gnss_obs.specs.declared.system.System.{System}
 use Rattle.gnss_obs.specs.Satellites.{satellites}
 use Rattle.rinex_file.specs.FileValues.{IsRow}
@@ -6,7 +6,9 @@ use Rattle.rinex_file.specs.Lines.{satellite_line}
 use Rattle.rinex_file.specs.Read.Fields.{ReadsExactly, some_if}
 use Rattle.rinex_file.specs.Read.Row.{satellite_row_in}
 use Rattle.rinex_file.specs.Value.{SignalValues, SatelliteRow, satellite_row}
+use Rattle.rinex_file.specs.Blanks.{filled_to}
 use Rattle.rinex_file.proofs.Judged.{refused}
+use Rattle.rinex_file.proofs.CutColumns.{filled_line}
 use Rattle.rinex_file.proofs.RowText.{seen_in-line, all_values_fit}
 use Rattle.rinex_file.proofs.read.row.read_of.Goals as goal
 use Rattle.rinex_file.proofs.read.row.read_of.Goals.{After-put_seen_in}
@@ -48,7 +50,11 @@ judged system signals line filled seen fill (same, is, text) =
     ((same, is), text, λ w also e. sym (seen_in-line system signals w line filled also.0 also.1 e fill) ∙ seen_in-line system signals seen line filled same is text fill)
 
 pub returns-then-put_judged : goal.returns-then-put_judged
-returns-then-put_judged c = judged c.args.system c.args.signals c.args.line.now _ c.put_judged.new.seen c.fill.ensures.text (c.put_judged.ensures c.if-put_judged.true)
+returns-then-put_judged c =
+    let line = c.args.line.now in
+    let text = take (length line - 1) line in
+    let width = 3 + 64 * c.args.signals in
+    judged c.args.system c.args.signals line (filled_to width text) c.put_judged.new.seen (λ t is. filled_line line text width t refl is) (c.put_judged.ensures c.if-put_judged.true)
 
 pub satellite_text-requires-clause-room : goal.satellite_text-requires-clause-room
 satellite_text-requires-clause-room c = grind (arith, all_values_fit)

@@ -1,0 +1,144 @@
+-- Columns of a text whose blanks at the end were cut.
+use Rattle.std.proofs.Common.{arith, ◌≡◌, ◌∙◌, sym, ap, ap₂, refl, subst, ℕ, ◌+◌, ◌-◌, ◌*◌, ◌/◌, ◌%◌, ◌<◌, ◌≤◌, List, [], ◌∷◌, ◌++◌, length, take, drop, replicate, get_or, append-nil, length-append, inl, inr}
+use Rattle.std.specs.Prelude.{flat_map, All, IsTrue, Bool}
+use Rattle.std.specs.List.{list_any}
+use Rattle.std.proofs.lemmas.Bool.{cases_lt}
+use Rattle.std.proofs.lemmas.List.{length-drop, length-take, length-take-le, length_push, take_all, drop_all, take-append-le, drop-append-le, take-replicate, drop-replicate, length-replicate}
+use Rattle.std.proofs.lemmas.List.Folds.{Any-from_list_any}
+use Rattle.std.proofs.Math.Nat.{min-le_left}
+use Rattle.std.proofs.Math.Seq.{take-append-add, drop-append-add, take-append_seam}
+use Rattle.rinex_file.specs.Value.{SignalValues, SatelliteRow, no_signal_values}
+use Rattle.rinex_file.specs.FileValues.{AreSignalValues, has_some_value}
+use Rattle.rinex_file.specs.Read.Row.{AreWritten}
+use Rattle.rinex_file.specs.Blanks.{IsEnded, filled_to}
+use Rattle.rinex_file.specs.Numbers.{padded}
+use Rattle.rinex_file.specs.Lines.{field, signal_text, satellite_line, letter_of, row_text}
+use Rattle.rinex_file.proofs.WrittenRow.{line_is, text_is}
+
+-- a text of the whole width is not padded
+pub filled_whole : (n : ℕ) (text : List ℕ) → length text ≡ n → filled_to n text ≡ text
+filled_whole n text size = let none : n - length text ≡ 0 = omega (arith, size) in ap (λ (k : ℕ). text ++ replicate k 32) none ∙ append-nil text
+
+-- the blanks after a text that was written over the first ones
+pub filled_over : (n : ℕ) (text blanks : List ℕ) → blanks ≡ replicate n 32 → text ++ drop (length text) blanks ≡ filled_to n text
+filled_over n text blanks same = ap (λ l. text ++ l) (ap (drop (length text)) same ∙ drop-replicate (length text) n 32)
+
+-- ---- the columns of a signal
+
+-- after the end of the text
+pub filled_blank : (n at : ℕ) (text : List ℕ) → length text ≤ at → filled_to n (take n (drop at text)) ≡ replicate n 32
+filled_blank n at text end =
+    let none : take n (drop at text) ≡ [] = ap (take n) (drop_all at text end) ∙ take_all n [] (omega arith) in
+    let width : n - 0 ≡ n = omega arith in
+    ap (filled_to n) none ∙ ap (λ (k : ℕ). replicate k 32) width
+
+-- within the text
+pub filled_within : (n at : ℕ) (text : List ℕ) → at + n ≤ length text → filled_to n (take n (drop at text)) ≡ take n (drop at text)
+filled_within n at text less =
+    let size = length-drop at text in
+    filled_whole n (take n (drop at text)) (length-take-le n (drop at text) (omega (arith, size, less)))
+
+-- at its end
+pub filled_end : (n at : ℕ) (text : List ℕ) → length text ≤ at + n → filled_to n (take n (drop at text)) ≡ filled_to n (drop at text)
+filled_end n at text less = let size = length-drop at text in ap (filled_to n) (take_all n (drop at text) (omega (arith, size, less)))
+
+-- the columns of no values
+blank_signal : replicate 64 32 ≡ signal_text no_signal_values
+unfolding signal_text field
+blank_signal = refl
+
+pub blank_written : (at : ℕ) (text : List ℕ) → length text ≤ at → filled_to 64 (take 64 (drop at text)) ≡ signal_text no_signal_values
+blank_written at text end = filled_blank 64 at text end ∙ blank_signal
+
+-- the end begins at a multiple of the width of a signal
+pub last_place : (at size : ℕ) → at % 64 ≡ 0 → at < size → size < at + 64 → 64 * (size / 64) ≡ at
+last_place at size whole less more = omega (arith, whole, less, more)
+
+-- the columns of a signal in the padded text
+filled_part_in : (n at : ℕ) (text : List ℕ) → at + 64 ≤ n → at + 64 ≤ length text → take 64 (drop at (filled_to n text)) ≡ filled_to 64 (take 64 (drop at text))
+filled_part_in n at text fits less =
+    let size = length-drop at text in
+    let blanks : List ℕ = replicate (n - length text) 32 in
+    ap (take 64) (drop-append-le at text blanks (omega (arith, less)))
+    ∙ take-append-le 64 (drop at text) blanks (omega (arith, size, less)) ∙ sym (filled_within 64 at text less)
+
+filled_part_end : (n at k : ℕ) (text : List ℕ) → at + 64 ≤ n → length text ≤ n → at ≤ length text → length (drop at text) + k ≡ 64 → take 64 (drop at (filled_to n text)) ≡ filled_to 64 (take 64 (drop at text))
+filled_part_end n at k text fits short less size =
+    let all = length-drop at text in
+    let rest = drop at text in
+    let blanks : List ℕ = replicate (n - length text) 32 in
+    let missing : k ≡ 64 - length rest = omega (arith, size) in
+    ap (take 64) (drop-append-le at text blanks less)
+    ∙ ap (λ (m : ℕ). take m (rest ++ blanks)) (sym size)
+    ∙ take-append-add rest blanks k
+    ∙ ap (λ l. rest ++ l) (take-replicate k (n - length text) 32 (omega (arith, fits, less, size, all)))
+    ∙ ap (λ (m : ℕ). rest ++ replicate m 32) missing
+    ∙ sym (filled_end 64 at text (omega (arith, size, all)))
+
+filled_part_after : (n at k : ℕ) (text : List ℕ) → at + 64 ≤ n → length text + k ≡ at → take 64 (drop at (filled_to n text)) ≡ filled_to 64 (take 64 (drop at text))
+filled_part_after n at k text fits place =
+    let blanks : List ℕ = replicate (n - length text) 32 in
+    ap (λ (m : ℕ). take 64 (drop m (text ++ blanks))) (sym place)
+    ∙ ap (take 64) (drop-append-add text blanks k ∙ drop-replicate k (n - length text) 32)
+    ∙ take-replicate 64 (n - length text - k) 32 (omega (arith, fits, place))
+    ∙ sym (filled_blank 64 at text (omega (arith, place)))
+
+pub filled_part : (n at : ℕ) (text : List ℕ) → at + 64 ≤ n → length text ≤ n → take 64 (drop at (filled_to n text)) ≡ filled_to 64 (take 64 (drop at text))
+filled_part n at text fits short =
+    let all = length-drop at text in
+    elim (cases_lt (length text) at) [
+      | inl after ↦ filled_part_after n at (at - length text) text fits (omega (arith, after))
+      | inr before ↦ elim (cases_lt (length text) (at + 64)) [
+        | inl cut ↦ filled_part_end n at (64 - length (drop at text)) text fits short before (omega (arith, all, cut))
+        | inr within ↦ filled_part_in n at text fits within
+      ]
+    ]
+
+-- the padded text has the whole width
+length-filled : (n : ℕ) (text : List ℕ) → length text ≤ n → length (filled_to n text) ≡ n
+length-filled n text short = length-append text (replicate (n - length text) 32) ∙ ap (λ (k : ℕ). length text + k) (length-replicate (n - length text) 32) ∙ omega (arith, short)
+
+pub length-signal : (at : ℕ) (text : List ℕ) → length (filled_to 64 (take 64 (drop at text))) ≡ 64
+length-signal at text =
+    let size = length-take 64 (drop at text) in
+    let low = min-le_left 64 (length (drop at text)) in
+    length-filled 64 (take 64 (drop at text)) (omega (arith, size, low))
+
+-- all signals were read
+pub all_cut : (n i : ℕ) (text : List ℕ) (values : List SignalValues) (some : Bool) → length values ≡ n → n ≤ i → length text ≤ 64 * n → All AreSignalValues (take i values)
+    → some ≡ list_any has_some_value (take i values) → flat_map signal_text (take i values) ≡ take (64 * i) (filled_to (64 * n) text) → IsTrue some → AreWritten n (filled_to (64 * n) text) values
+all_cut n i text values some size end short each is shown held =
+    let all : take i values ≡ values = take_all i values (omega (arith, size, end)) in
+    let whole = length-filled (64 * n) text short in
+    record {
+      each = subst (All AreSignalValues) all each;
+      whole = size;
+      some = Any-from_list_any has_some_value values (sym (ap (list_any has_some_value) all) ∙ sym is ∙ held);
+      text_is = sym (sym (ap (flat_map signal_text) all) ∙ shown ∙ take_all (64 * i) (filled_to (64 * n) text) (omega (arith, whole, end)));
+    }
+
+-- ---- the line
+
+-- the padded text of a line without its line feed
+pub filled_line : (line text : List ℕ) (n : ℕ) (t : List ℕ) → text ≡ take (length line - 1) line → line ≡ t ++ 10 ∷ [] → filled_to n text ≡ t ++ replicate (n - length t) 32
+filled_line line text n t cut is =
+    let size : length line ≡ length t + 1 = ap length is ∙ length_push t 10 in
+    let same : text ≡ t = cut ∙ ap₂ (λ (k : ℕ) (l : List ℕ). take k l) (omega (arith, size)) is ∙ take-append_seam t (10 ∷ []) in
+    ap (filled_to n) same
+
+-- letter, number and signals
+row_is : (text : List ℕ) (letter tens ones id n : ℕ) (es : List SignalValues) → 3 ≤ length text → get_or text 0 0 ≡ letter → get_or text 1 0 ≡ tens → get_or text 2 0 ≡ ones
+    → padded 2 id ≡ tens ∷ ones ∷ [] → filled_to n (drop 3 text) ≡ flat_map signal_text es → filled_to (3 + n) text ≡ row_text letter (record { satellite = id; signal_values = es })
+row_is (a ∷ b ∷ c ∷ rest) letter tens ones id n es long first second third number signals =
+    let missing : 3 + n - length (a ∷ b ∷ c ∷ rest) ≡ n - length rest = omega arith in
+    ap (λ (k : ℕ). a ∷ b ∷ c ∷ (rest ++ replicate k 32)) missing ∙ text_is (a ∷ b ∷ c ∷ filled_to n rest) letter tens ones id es (omega arith) first second third number signals
+row_is (a ∷ b ∷ []) letter tens ones id n es long first second third number signals = absurd (omega (arith, long))
+row_is (a ∷ []) letter tens ones id n es long first second third number signals = absurd (omega (arith, long))
+row_is [] letter tens ones id n es long first second third number signals = absurd (omega (arith, long))
+
+pub cut_line_is : (v : SatelliteRow) (line text : List ℕ) (tens ones n : ℕ) → IsEnded line → text ≡ take (length line - 1) line → 3 ≤ length text
+    → get_or text 0 0 ≡ letter_of v.system → get_or text 1 0 ≡ tens → get_or text 2 0 ≡ ones → padded 2 v.row.satellite ≡ tens ∷ ones ∷ []
+    → filled_to n (drop 3 text) ≡ flat_map signal_text v.row.signal_values → line ≡ satellite_line v
+cut_line_is v line text tens ones n ended cut long first second third number signals =
+    line_is v line (filled_to (3 + n) text) (3 + n) ended (λ t is. filled_line line text (3 + n) t cut is)
+    (row_is text (letter_of v.system) tens ones v.row.satellite n v.row.signal_values long first second third number signals)

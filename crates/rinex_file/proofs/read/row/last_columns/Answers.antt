@@ -1,0 +1,10 @@
+use Rattle.std.proofs.Common.{◌∙◌, ap, refl, ◌*◌, ◌/◌, length}
+use Rattle.std.proofs.lemmas.List.{take_rest}
+use Rattle.rinex_file.specs.Blanks.{filled_to}
+use Rattle.rinex_file.proofs.CutColumns.{filled_over}
+use Rattle.rinex_file.proofs.read.row.last_columns.Goals as goal
+
+pub returns : goal.returns
+returns c =
+    let text = c.args.text.now in
+    c.put_over.ensures ∙ filled_over 64 _ _ refl ∙ ap (filled_to 64) (take_rest text (64 * (length text / 64)))

@@ -1,0 +1,30 @@
+use Rattle.std.proofs.Common.{arith, ◌≡◌, ◌∙◌, refl, sym, subst, ◌+◌, ◌*◌, ◌<◌, take, length, [], ◌∷◌, ◌++◌, All, slice_set}
+use Rattle.std.proofs.lemmas.List.{take_more_set}
+use Rattle.std.proofs.lemmas.List.Elements.{All-push}
+use Rattle.rinex_file.specs.FileValues.{AreSignalValues}
+use Rattle.rinex_file.specs.Blanks.{filled_to}
+use Rattle.rinex_file.proofs.WrittenRow.{signals_more, some_more}
+use Rattle.rinex_file.proofs.CutColumns.{filled_part, all_cut}
+use Rattle.rinex_file.proofs.read.row.put_each_in.Goals as goal
+
+pub loop-i-preserved : goal.loop-i-preserved
+loop-i-preserved c =
+    let i = c.loop-i.i in
+    let n = length c.args.values.now in
+    let text = c.args.text.now in
+    let old = c.loop-i.values in
+    let entry = c.in-Some.entry in
+    let new = take (i + 1) (slice_set old i entry) in
+    let less : i < length old = omega (arith, c.loop-i-test.true, c.loop-i.auto.values) in
+    let pushed : new ≡ take i old ++ entry ∷ [] = take_more_set old i entry less in
+    record {
+      each = subst (All AreSignalValues) (sym pushed) (All-push AreSignalValues (take i old) entry c.loop-i.invariant.each c.in-Some.ensures.0);
+      some = some_more (take i old) new entry c.loop-i.some c.has_value-some.result pushed c.loop-i.invariant.some c.has_value-some.ensures;
+      text = signals_more (filled_to (64 * n) text) i 64 (64 * i) (take i old) new entry refl refl pushed c.loop-i.invariant.text
+          (filled_part (64 * n) (64 * i) text (omega (arith, c.loop-i-test.true)) c.requires.room ∙ c.in-Some.ensures.1);
+    }
+
+pub returns-clause-written : goal.returns-clause-written
+returns-clause-written c = λ held.
+    all_cut (length c.args.values.now) c.loop-i.i c.args.text.now c.loop-i.values c.loop-i.some c.loop-i.auto.values c.loop-i-test.false c.requires.room c.loop-i.invariant.each
+    c.loop-i.invariant.some c.loop-i.invariant.text held
