@@ -7,6 +7,7 @@ mod faults;
 mod fields;
 mod long;
 mod parts;
+mod pieces;
 mod reading;
 mod writing;
 
