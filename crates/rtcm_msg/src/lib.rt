@@ -22,6 +22,7 @@ mod pairs;
 mod presence;
 mod station;
 mod summary;
+mod value_counts;
 mod view;
 mod writing;
 
@@ -37,4 +38,5 @@ pub use msm::Msm;
 pub use presence::{Presence, Presences};
 pub use station::{Station, StationParts};
 pub use summary::Summary;
+pub use value_counts::ValueCounts;
 pub use view::{Entries, Form, MsmView, View, look};

@@ -1,7 +1,7 @@
 //! The pairs of a satellite and a signal that have a cell, one by one.
 ghost use Rattle.std.specs.Prelude.{[], ◌≡◌, ◌<◌, ◌≤◌, ◌^◌, length, IfSome, IfNone, ◌∷◌, ℕ};
 ghost use Rattle.rtcm_bits.specs.Bits.{uint};
-ghost use Rattle.rtcm_msg.specs.Msm.{most_pairs};
+ghost use Rattle.rtcm_msg.specs.Msm.{most_pairs, satellite_mask_bits, signal_mask_bits};
 ghost use Rattle.rtcm_msg.specs.Entries.{ids, chosen};
 ghost use Rattle.rtcm_msg.specs.Pairs.{pairs_left, ArePairs, IndicesAreBelow, SplitsCells};
 
@@ -19,7 +19,7 @@ pub(crate) struct Pair {
 }
 
 /// Returns the first ID of a set of IDs from 1 to `width`, and the set without it.
-fn split_first(mask: u64, width: u32) -> (u8, u64)
+pub(crate) fn split_first(mask: u64, width: u32) -> (u8, u64)
     requires some { 0 < mask }
     requires within { mask < 2 ^ width }
     requires few { width ≤ 64 }
@@ -46,7 +46,7 @@ pub(crate) struct Pairs {
 }
 
 /// Returns the same pairs, beginning with a satellite that has a signal left.
-fn with_signals(mut pairs: Pairs) -> Pairs
+pub(crate) fn with_signals(mut pairs: Pairs) -> Pairs
     requires some { 0 < length (pairs_left pairs) }
     requires in_range { ArePairs pairs }
     ensures same { pairs_left result ≡ pairs_left pairs }
@@ -62,14 +62,19 @@ fn with_signals(mut pairs: Pairs) -> Pairs
     pairs
 }
 
-/// Returns the first pair, and the other pairs.
-fn split_pairs(pairs: Pairs) -> (Pair, Pairs)
-    requires some { 0 < length (pairs_left pairs) }
+/// Returns the first pair, whose satellite has a signal left, and the other pairs.
+#[inline(always)]
+pub(crate) fn split_signal(pairs: Pairs) -> (Pair, Pairs)
+    requires satellite { 0 < pairs.satellites }
+    requires signal { 0 < pairs.signals }
     requires in_range { ArePairs pairs }
     ensures first { pairs_left pairs ≡ result.0 ∷ pairs_left result.1 }
     ensures in_range { ArePairs result.1 }
+    ensures signal { (1 ≤ result.0.signal) × (result.0.signal ≤ signal_mask_bits) }
+    ensures satellite { (1 ≤ result.0.satellite) × (result.0.satellite ≤ satellite_mask_bits) }
+    ensures index { result.0.index ≡ pairs.index }
+    ensures same { (result.1.index ≡ pairs.index) × (result.1.satellites ≡ pairs.satellites) }
 {
-    let pairs = with_signals(pairs);
     let (signal, signals) = split_first(pairs.signals, SIGNAL_MASK_BITS);
     let pair = Pair {
         index: pairs.index,
@@ -77,6 +82,16 @@ fn split_pairs(pairs: Pairs) -> (Pair, Pairs)
         signal,
     };
     (pair, Pairs { signals, ..pairs })
+}
+
+/// Returns the first pair, and the other pairs.
+fn split_pairs(pairs: Pairs) -> (Pair, Pairs)
+    requires some { 0 < length (pairs_left pairs) }
+    requires in_range { ArePairs pairs }
+    ensures first { pairs_left pairs ≡ result.0 ∷ pairs_left result.1 }
+    ensures in_range { ArePairs result.1 }
+{
+    split_signal(with_signals(pairs))
 }
 
 /// Returns the first remaining pair with a cell, the pairs after it, and their number. `None` if no

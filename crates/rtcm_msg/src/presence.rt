@@ -40,7 +40,7 @@ fn has_rest_of<G: Grid>(satellite: &G::Satellite, cell: &G::Cell) -> bool
 impl<'a> MsmView<'a> {
     /// Returns the whole milliseconds of the rough range of satellite `i`, DF397.
     #[inline(always)]
-    fn read_whole(&self, i: usize) -> u8
+    pub(crate) fn read_whole(&self, i: usize) -> u8
         requires { i < length self.now.msm.satellites }
         ensures { result ≡ (rough self.now.form (slice_index self.now.msm.satellites i)).whole }
     {
@@ -96,7 +96,7 @@ impl<'a> MsmView<'a> {
     /// Returns whether cell `i`, which is of the satellite and the signal of `pair`, has a value.
     /// Most cells have a pseudorange, so that no other field is read.
     #[inline(always)]
-    fn has_value(&self, pair: Pair, whole: u8, i: usize) -> bool
+    pub(crate) fn has_value(&self, pair: Pair, whole: u8, i: usize) -> bool
         requires satellite { pair.index < length self.now.msm.satellites }
         requires whole { whole ≡ (rough self.now.form (slice_index self.now.msm.satellites pair.index)).whole }
         requires cell { i < length self.now.msm.cells }

@@ -1,0 +1,201 @@
+-- Cells with a value are counted by signal.
+use Rattle.std.proofs.Common.{ℕ, zero, suc, ◌≡◌, ◌≢◌, ◌+◌, ◌-◌, ◌*◌, ◌/◌, ◌%◌, ◌==◌, ◌&&◌, ◌||◌, ◌^◌, ◌<◌, ◌≤◌, Bool, true, false, List, [], ◌∷◌, length, get_or, set, map, drop, filter, drop-cons, replicate, refl, ap, ◌∙◌, subst, arith, count_ones, inl, inr}
+use Rattle.std.specs.Prelude.{cond}
+use Rattle.std.specs.List.{zip, flat_map, list_any}
+use Rattle.std.proofs.lemmas.Bool.{cases_eq}
+use Rattle.std.proofs.lemmas.List.Folds.{list_any-append}
+use Rattle.std.proofs.lemmas.Grind.{common_steps}
+use Rattle.rtcm_bits.specs.Bits.{uint}
+use Rattle.rtcm_msg.specs.declared.entry.Entry.{Entry}
+use Rattle.rtcm_msg.specs.declared.pairs.Pair.{Pair}
+use Rattle.rtcm_msg.specs.declared.pairs.Pairs.{Pairs}
+use Rattle.rtcm_msg.specs.declared.value_counts.Cells.{Cells}
+use Rattle.rtcm_msg.specs.declared.view.Form.{Form}
+use Rattle.rtcm_msg.specs.declared.view.Form.TheVariants as forms
+use Rattle.rtcm_msg.specs.Msm.{MasksValue, MsmValue}
+use Rattle.rtcm_msg.specs.Entries.{ids, chosen, Rising, entries, pair, all_pairs, cell_pairs}
+use Rattle.rtcm_msg.specs.Pairs.{pairs_from, pairs_left, cell_pairs_left, ArePairs, IndicesAreBelow}
+use Rattle.rtcm_msg.specs.Viewed.{entry_in}
+use Rattle.rtcm_msg.specs.Views.{FormedMsm, formed, message_in}
+use Rattle.rtcm_msg.specs.ValueCounts.{has_listed_value, value_count, has_id, entries_left, AreCells}
+use Rattle.rtcm_msg.proofs.NextLaws.{no_more}
+use Rattle.rtcm_msg.proofs.IdLaws.{ids_rising}
+use Rattle.rtcm_msg.proofs.PairLaws.{found, passed, one_less, first_index, top_of, ids_split, all_pairs_from_is}
+
+-- ---- pairs
+
+pub id_within : (w m n x : ℕ) → ids w m ≡ x ∷ ids w n → (1 ≤ x) × (x ≤ w)
+id_within w m n x e = let r : Rising 1 w (x ∷ ids w n) = subst (Rising 1 w) e (ids_rising w m) in (r.0, r.1)
+
+pairs_some : (l : ℕ) (xs ys : List Pair) (x : Pair) → length xs ≡ l → xs ≡ x ∷ ys → 0 < l
+pairs_some l xs ys x count e = omega (arith, count, ap length e)
+
+-- The first pair has a cell.
+pub cell_there : (s : MasksValue) (n l : ℕ) (p q : Pairs) (x : Pair) → n ≡ s.cells → pairs_left p ≡ x ∷ pairs_left q → length (pairs_left p) ≡ l → n / 2 ^ (l - 1) % 2 ≡ 1
+    → cell_pairs_left l s p ≡ x ∷ cell_pairs_left (l - 1) s q
+cell_there s n l p q x is first count bit =
+    subst (λ (m : ℕ). chosen (uint l m) (pairs_left p) ≡ x ∷ chosen (uint (l - 1) m) (pairs_left q)) is
+    (found l (l - 1) n (chosen (uint l n) (pairs_left p)) (pairs_left p) (pairs_left q) x (pairs_some l (pairs_left p) (pairs_left q) x count first) refl refl first bit)
+
+-- The first pair has no cell.
+pub cell_none : (s : MasksValue) (n l : ℕ) (p q : Pairs) (x : Pair) → n ≡ s.cells → pairs_left p ≡ x ∷ pairs_left q → length (pairs_left p) ≡ l → n / 2 ^ (l - 1) % 2 ≢ 1
+    → cell_pairs_left l s p ≡ cell_pairs_left (l - 1) s q
+cell_none s n l p q x is first count bit =
+    subst (λ (m : ℕ). chosen (uint l m) (pairs_left p) ≡ chosen (uint (l - 1) m) (pairs_left q)) is
+    (passed l (l - 1) n (chosen (uint l n) (pairs_left p)) (pairs_left p) (pairs_left q) x (pairs_some l (pairs_left p) (pairs_left q) x count first) refl refl first bit)
+
+-- ---- the cells that are left
+
+pub next_there : (next n : ℕ) (ps qs : List Pair) (x : Pair) → ps ≡ x ∷ qs → length ps + next ≡ n → next < n
+next_there next n ps qs x e h = omega (arith, h, ap length e)
+
+pub after_cell : (v : FormedMsm) (c : Cells) (q : Pairs) (x : Pair) → AreCells v c → pairs_left c.pairs ≡ x ∷ pairs_left q → ArePairs q → cell_pairs_left c.left v.msm.sets c.pairs ≡ x ∷ cell_pairs_left (c.left - 1) v.msm.sets q
+    → AreCells v (record { pairs = q; left = c.left - 1; next = c.next + 1 })
+after_cell v c q x cells first in_range there = record {
+  left = (
+    one_less c.left (pairs_left c.pairs) (pairs_left q) x cells.left.0 first,
+    omega (arith, cells.left.1),
+    in_range,
+    (first_index (count_ones v.msm.sets.satellites) (pairs_left c.pairs) (pairs_left q) x first cells.left.3).1,
+  );
+  next = omega (arith, cells.next, ap length there);
+}
+
+pub after_none : (v : FormedMsm) (c : Cells) (q : Pairs) (x : Pair) → AreCells v c → pairs_left c.pairs ≡ x ∷ pairs_left q → ArePairs q → cell_pairs_left c.left v.msm.sets c.pairs ≡ cell_pairs_left (c.left - 1) v.msm.sets q
+    → AreCells v (record { pairs = q; left = c.left - 1; next = c.next })
+after_none v c q x cells first in_range there = record {
+  left = (
+    one_less c.left (pairs_left c.pairs) (pairs_left q) x cells.left.0 first,
+    omega (arith, cells.left.1),
+    in_range,
+    (first_index (count_ones v.msm.sets.satellites) (pairs_left c.pairs) (pairs_left q) x first cells.left.3).1,
+  );
+  next = omega (arith, cells.next, ap length there);
+}
+
+row_index : (n k : ℕ) (xs gs all : List ℕ) (x y : ℕ) (ys hs : List ℕ) → xs ≡ x ∷ ys → gs ≡ y ∷ hs → IndicesAreBelow n (pairs_from k xs gs all) → k < n
+row_index n k xs gs all x y ys hs e f h =
+    (subst (λ (l : List ℕ). IndicesAreBelow n (pairs_from k (x ∷ ys) l all)) f (subst (λ (l : List ℕ). IndicesAreBelow n (pairs_from k l gs all)) e h)).0
+
+-- The first satellite of the pairs that are left is one of the message's.
+pub first_below : (n m : ℕ) (p : Pairs) → 0 < p.satellites → 0 < p.signals → ArePairs p → IndicesAreBelow n (pairs_left p) → n ≡ m → p.index < m
+first_below n m p s g fits h same =
+    let t = top_of 64 p.satellites s fits.satellites (omega arith) in
+    let u = top_of 32 p.signals g fits.signals (omega arith) in
+    rw (← same) (row_index n p.index (ids 64 p.satellites) (ids 32 p.signals) (ids 32 p.all) _ _ _ _ (ids_split 64 p.satellites _ t) (ids_split 32 p.signals _ u) h)
+
+-- ---- entries
+
+pub none_left : (v : FormedMsm) (c : Cells) → c.left ≡ 0 → entries_left v c ≡ []
+unfolding chosen uint
+none_left v c e = rw e refl
+
+pub few_entries : (v : FormedMsm) (n : ℕ) → n ≡ length v.msm.cells → n ≤ 64 → length (entries (formed v)) ≤ 64
+few_entries v n same few = by v.form v.msm (omega (arith, same, few))
+  where
+    by : (form : Form) (v : MsmValue) → length v.cells ≤ 64 → length (entries (message_in form v)) ≤ 64
+    by forms.Msm4 v h = omega (arith, h, no_more (entry_in forms.Msm4 v) (cell_pairs v.sets) v.cells)
+    by forms.Msm7 v h = omega (arith, h, no_more (entry_in forms.Msm7 v) (cell_pairs v.sets) v.cells)
+
+-- Before the first cell all cells are left.
+pub all_entries : (v : FormedMsm) (m n g : ℕ) → m ≡ v.msm.sets.satellites → n ≡ v.msm.sets.satellites → g ≡ v.msm.sets.signals
+    → entries (formed v) ≡ entries_left v (record { pairs = record { index = 0; satellites = m; signals = g; all = g }; left = count_ones n * count_ones g; next = 0 })
+all_entries v m n g e f h = rw (e, f, h) (same v.form v.msm)
+  where
+    same : (form : Form) (v : MsmValue) → entries (message_in form v)
+        ≡ map (entry_in form v) (zip (chosen (uint (count_ones v.sets.satellites * count_ones v.sets.signals) v.sets.cells) (pairs_from 0 (ids 64 v.sets.satellites) (ids 32 v.sets.signals) (ids 32 v.sets.signals))) v.cells)
+    same forms.Msm4 v = rw (← all_pairs_from_is (ids 32 v.sets.signals) 0 (ids 64 v.sets.satellites)) refl
+    same forms.Msm7 v = rw (← all_pairs_from_is (ids 32 v.sets.signals) 0 (ids 64 v.sets.satellites)) refl
+
+pub zeros : (n i : ℕ) → get_or (replicate n zero) i zero ≡ zero
+zeros zero i = refl
+zeros (suc n) zero = refl
+zeros (suc n) (suc i) = zeros n i
+
+pub entries_first : (f : Pair × ℕ → Entry) (ps qs : List Pair) (x : Pair) (cells : List ℕ) (next : ℕ) → ps ≡ x ∷ qs → next < length cells
+    → map f (zip ps (drop next cells)) ≡ f (x, get_or cells next 0) ∷ map f (zip qs (drop (next + 1) cells))
+entries_first f ps qs x cells next e h = let s : next + 1 ≡ suc next = omega arith in rw (e, drop-cons cells next 0 h, s) refl
+
+pub entry_signal : (form : Form) (v : MsmValue) (x : Pair) (n : ℕ) → (entry_in form v (x, n)).signal ≡ x.signal
+entry_signal forms.Msm4 v x n = refl
+entry_signal forms.Msm7 v x n = refl
+
+-- ---- counts
+
+pub count_first : (p : Entry → Bool) (e : Entry) (es : List Entry) → length (filter p (e ∷ es)) ≡ cond (p e) 1 0 + length (filter p es)
+count_first p e es = grind (arith, common_steps)
+
+pub counted : (listed sig i : ℕ) (old : List ℕ) (e : Entry) (all left : List Entry) → all ≡ e ∷ left → e.signal ≡ sig → 1 ≤ sig → sig ≤ length old → has_listed_value listed e ≡ true
+    → get_or old i 0 + value_count listed (i + 1) all ≡ get_or (set old (sig - 1) (get_or old (sig - 1) 0 + 1)) i 0 + value_count listed (i + 1) left
+counted listed sig i old e all left is signal low high value = rw (is, count_first (λ e. has_listed_value listed e && (e.signal == i + 1)) e left, value, signal) (elim (cases_eq i (sig - 1)) [
+  | inl here ↦ rw here (here_case (value_count listed (sig - 1 + 1) left))
+  | inr other ↦ other_case other (value_count listed (i + 1) left)
+])
+  where
+    here_case : (n : ℕ) → get_or old (sig - 1) 0 + (cond (sig == sig - 1 + 1) 1 0 + n) ≡ get_or (set old (sig - 1) (get_or old (sig - 1) 0 + 1)) (sig - 1) 0 + n
+    here_case n = grind (arith, common_steps)
+
+    other_case : i ≢ sig - 1 → (n : ℕ) → get_or old i 0 + (cond (sig == i + 1) 1 0 + n) ≡ get_or (set old (sig - 1) (get_or old (sig - 1) 0 + 1)) i 0 + n
+    other_case other n = grind (arith, common_steps)
+
+pub not_counted : (listed i : ℕ) (old : List ℕ) (e : Entry) (all left : List Entry) → all ≡ e ∷ left → has_listed_value listed e ≡ false
+    → get_or old i 0 + value_count listed (i + 1) all ≡ get_or old i 0 + value_count listed (i + 1) left
+not_counted listed i old e all left is value = rw (is, count_first (λ e. has_listed_value listed e && (e.signal == i + 1)) e left, value) (omega arith)
+
+pub entries_same : (listed i n : ℕ) (v : FormedMsm) (ps qs : List Pair) (next : ℕ) → ps ≡ qs
+    → n + value_count listed (i + 1) (map (entry_in v.form v.msm) (zip ps (drop next v.msm.cells))) ≡ n + value_count listed (i + 1) (map (entry_in v.form v.msm) (zip qs (drop next v.msm.cells)))
+entries_same listed i n v ps qs next e = rw e refl
+
+-- ---- signals without cells
+
+abbrev is_of : ℕ → Pair → Bool
+is_of g x = x.signal == g
+
+chosen_none : (q : Pair → Bool) (bits : List Bool) (xs : List Pair) → list_any q xs ≡ false → list_any q (chosen bits xs) ≡ false
+unfolding chosen
+chosen_none q [] xs h = refl
+chosen_none q (b ∷ bits) [] h = refl
+chosen_none q (true ∷ bits) (x ∷ xs) h = grind (arith, common_steps, chosen_none q bits xs)
+chosen_none q (false ∷ bits) (x ∷ xs) h = grind (arith, common_steps, chosen_none q bits xs)
+
+row_none : (g : ℕ) (x : ℕ × ℕ) (gs : List ℕ) → list_any (is_of g) (map (pair x) gs) ≡ has_id g gs
+row_none g x [] = refl
+row_none g x (h ∷ gs) = ap (λ (b : Bool). (h == g) || b) (row_none g x gs)
+
+rows_none : (g : ℕ) (gs : List ℕ) (xs : List (ℕ × ℕ)) → has_id g gs ≡ false → list_any (is_of g) (flat_map (λ x. map (pair x) gs) xs) ≡ false
+rows_none g gs [] h = refl
+rows_none g gs (x ∷ xs) h = list_any-append (is_of g) (map (pair x) gs) (flat_map (λ x. map (pair x) gs) xs) ∙ rw (row_none g x gs, h, rows_none g gs xs h) refl
+
+and_none : (a b : Bool) → b ≡ false → (a && b) ≡ false
+and_none true b h = h
+and_none false b h = refl
+
+none_of : (listed g : ℕ) (form : Form) (v : MsmValue) (xs : List Pair) (cells : List ℕ) → list_any (is_of g) xs ≡ false → value_count listed g (map (entry_in form v) (zip xs cells)) ≡ zero
+none_of listed g form v [] cells h = refl
+none_of listed g form v (x ∷ xs) [] h = refl
+none_of listed g form v (x ∷ xs) (n ∷ cells) h =
+    let here : (x.signal == g) ≡ false = grind (arith, common_steps) in
+    let later : list_any (is_of g) xs ≡ false = grind (arith, common_steps) in
+    count_first (λ e. has_listed_value listed e && (e.signal == g)) (entry_in form v (x, n)) (map (entry_in form v) (zip xs cells))
+    ∙ rw (and_none (has_listed_value listed (entry_in form v (x, n))) ((entry_in form v (x, n)).signal == g) (ap (λ (s : ℕ). s == g) (entry_signal form v x n) ∙ here), none_of listed g form v xs cells later) refl
+
+-- A signal that is not in the message has no cell.
+pub no_cells : (listed g : ℕ) (v : FormedMsm) → has_id g (ids 32 v.msm.sets.signals) ≡ false → value_count listed g (entries (formed v)) ≡ zero
+no_cells listed g v h = by v.form v.msm h
+  where
+    by : (form : Form) (v : MsmValue) → has_id g (ids 32 v.sets.signals) ≡ false → value_count listed g (entries (message_in form v)) ≡ zero
+    by forms.Msm4 v h = none_of listed g forms.Msm4 v _ v.cells (chosen_none (is_of g) _ (all_pairs v.sets) (rows_none g (ids 32 v.sets.signals) _ h))
+    by forms.Msm7 v h = none_of listed g forms.Msm7 v _ v.cells (chosen_none (is_of g) _ (all_pairs v.sets) (rows_none g (ids 32 v.sets.signals) _ h))
+
+-- ---- IDs
+
+above : (x low high : ℕ) (xs : List ℕ) → x < low → Rising low high xs → has_id x xs ≡ false
+above x low high [] h r = refl
+above x low high (y ∷ ys) h r = let n : (y == x) ≡ false = later y r.0 in rw n (above x (y + 1) high ys (omega (arith, h, r.0)) r.2)
+  where
+    later : (y : ℕ) → low ≤ y → (y == x) ≡ false
+    later y l = grind (arith, h)
+
+-- The first ID is not among the others.
+pub id_once : (w m n x : ℕ) → ids w m ≡ x ∷ ids w n → has_id x (ids w n) ≡ false
+id_once w m n x e = let r : Rising 1 w (x ∷ ids w n) = subst (Rising 1 w) e (ids_rising w m) in above x (x + 1) w (ids w n) (omega arith) r.2

@@ -1,0 +1,16 @@
+use Rattle.std.proofs.Common.{◌≡◌, ◌<◌, ℕ, ◌+◌}
+use Rattle.std.specs.Prelude.{slice_index}
+use Rattle.rtcm_msg.specs.Entries.{entries}
+use Rattle.rtcm_msg.specs.Views.{formed}
+use Rattle.rtcm_msg.specs.ValueCounts.{entries_left, value_count, AreCells, AreAtMost}
+use Rattle.rtcm_msg.proofs.view.MsmView.count_all.Given as goal
+
+abbrev pub invariant-loop-cells : goal.invariant-loop-cells
+invariant-loop-cells l = record {
+  counts : (i : ℕ) → i < 32 → value_count l.listed (i + 1) (entries (formed l.self)) ≡ slice_index l.counts i + value_count l.listed (i + 1) (entries_left l.self l.cells);
+  cells : AreCells l.self l.cells;
+  small : AreAtMost l.cells.next l.counts;
+}
+
+abbrev pub decreases-loop-cells : goal.decreases-loop-cells
+decreases-loop-cells l = l.cells.left

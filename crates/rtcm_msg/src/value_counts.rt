@@ -1,0 +1,188 @@
+//! The number of cells of an MSM that have a value, by signal.
+ghost use Rattle.std.specs.Prelude.{[], ◌∷◌, ◌≡◌, ℕ, ◌+◌, ◌-◌, ◌<◌, ◌≤◌, false, length, slice_index};
+ghost use Rattle.std.specs.Prelude.{IfSome, IfNone};
+ghost use Rattle.rtcm_msg.specs.Msm.{satellite_mask_bits, signal_mask_bits, most_pairs};
+ghost use Rattle.rtcm_msg.specs.Entries.{entries, ids};
+ghost use Rattle.rtcm_msg.specs.Viewed.{entry_in, rough};
+ghost use Rattle.rtcm_msg.specs.Views as views;
+ghost use Rattle.rtcm_msg.specs.ValueCounts.{has_listed_value, value_count, has_id};
+ghost use Rattle.rtcm_msg.specs.ValueCounts.{entries_left, AreCells, AreAtMost, AddsCounts};
+
+use crate::masks::SIGNAL_MASK_BITS;
+use crate::pairs::{Pair, Pairs, split_first, split_signal, with_signals};
+use crate::view::MsmView;
+use std::marker::Model;
+
+/// Number of signal IDs.
+const SIGNALS: usize = 32;
+
+/// The cells of a message that are left.
+#[derive(Clone, Copy)]
+pub(crate) struct Cells {
+    /// The satellites and signals of the pairs that are left.
+    pub pairs: Pairs,
+    /// The number of these pairs.
+    pub left: u32,
+    /// The number of cells before those that are left.
+    pub next: usize,
+}
+
+impl<'a> MsmView<'a> {
+    /// Returns whether cell `i`, which is of the satellite and the signal of `pair`, has a value
+    /// and its satellite is in a set.
+    #[inline(always)]
+    fn has_listed_value(&self, listed: u64, pair: Pair, whole: u8, i: usize) -> bool
+        requires satellite { pair.index < length self.now.msm.satellites }
+        requires whole { whole ≡ (rough self.now.form (slice_index self.now.msm.satellites pair.index)).whole }
+        requires cell { i < length self.now.msm.cells }
+        requires id { (1 ≤ pair.satellite) × (pair.satellite ≤ satellite_mask_bits) }
+        ensures { result ≡ has_listed_value listed
+            (entry_in self.now.form self.now.msm (pair, slice_index self.now.msm.cells i)) }
+    {
+        if (listed >> (64 - pair.satellite)) % 2 == 1 {
+            self.has_value(pair, whole, i)
+        } else {
+            false
+        }
+    }
+
+    /// Counts the cell of the first pair, if it has one, and returns the cells that are left.
+    #[inline(always)]
+    fn count_pair(&self, listed: u64, whole: u8, cells: Cells, counts: &mut [u8; SIGNALS]) -> Cells
+        requires cells { AreCells self.now cells }
+        requires satellite { 0 < cells.pairs.satellites }
+        requires signal { 0 < cells.pairs.signals }
+        requires whole { whole ≡ (rough self.now.form (slice_index self.now.msm.satellites cells.pairs.index)).whole }
+        requires small { AreAtMost cells.next counts.old }
+        ensures counts { AddsCounts listed counts.old counts.new (entries_left self.now cells)
+            (entries_left self.now result) }
+        ensures cells { AreCells self.now result }
+        ensures small { AreAtMost result.next counts.new }
+        ensures index { result.pairs.index ≡ cells.pairs.index }
+        ensures satellite { result.pairs.satellites ≡ cells.pairs.satellites }
+        ensures fewer { result.left < cells.left }
+    {
+        let (pair, pairs) = split_signal(cells.pairs);
+        let left = cells.left - 1;
+        let mut next = cells.next;
+        let _ = (self.satellites(), self.cells());
+        if (self.masks().cells() >> left) % 2 == 1 {
+            if self.has_listed_value(listed, pair, whole, next) {
+                counts[pair.signal as usize - 1] += 1;
+            }
+            next += 1;
+        }
+        Cells { pairs, left, next }
+    }
+
+    /// Counts the cells of the first satellite, and returns the cells that are left.
+    #[inline(always)]
+    fn count_row(&self, listed: u64, mut cells: Cells, counts: &mut [u8; SIGNALS]) -> Cells
+        requires cells { AreCells self.now cells }
+        requires satellite { 0 < cells.pairs.satellites }
+        requires signal { 0 < cells.pairs.signals }
+        requires small { AreAtMost cells.next counts.old }
+        ensures counts { AddsCounts listed counts.old counts.new (entries_left self.now cells)
+            (entries_left self.now result) }
+        ensures cells { AreCells self.now result }
+        ensures small { AreAtMost result.next counts.new }
+        ensures fewer { result.left < cells.left }
+    {
+        let _ = self.satellites();
+        let whole = self.read_whole(cells.pairs.index);
+        cells = self.count_pair(listed, whole, cells, counts);
+        while cells.pairs.signals > 0 {
+            cells = self.count_pair(listed, whole, cells, counts);
+        }
+        cells
+    }
+
+    /// Returns, for each signal ID from 1 on, the number of its cells that have a value and whose
+    /// satellite is in a set.
+    #[inline(always)]
+    fn count_all(&self, listed: u64) -> [u8; SIGNALS]
+        ensures counts { (i : ℕ) → i < signal_mask_bits
+            → slice_index result i ≡ value_count listed (i + 1) (entries (views.formed self.now)) }
+        ensures few { AreAtMost most_pairs result }
+    {
+        let _ = (self.form(), self.cells());
+        let masks = self.masks();
+        let signals = masks.signals() as u64;
+        let mut counts = [0; SIGNALS];
+        let mut cells = Cells {
+            pairs: Pairs {
+                index: 0,
+                satellites: masks.satellites(),
+                signals,
+                all: signals,
+            },
+            left: masks.satellites().count_ones() * signals.count_ones(),
+            next: 0,
+        };
+        while cells.left > 0 {
+            cells.pairs = with_signals(cells.pairs);
+            cells = self.count_row(listed, cells, &mut counts);
+        }
+        counts
+    }
+    /// Returns, for each signal of the message, the number of its cells that have a value and whose
+    /// satellite is in the set `listed`, in which the most significant bit is satellite ID 1.
+    #[inline(always)]
+    pub fn value_counts(&self, listed: u64) -> ValueCounts
+        ensures signals { result.left ≡ ids signal_mask_bits self.now.msm.sets.signals }
+        ensures counts { (i : ℕ) → i < signal_mask_bits
+            → slice_index result.counts i ≡ value_count listed (i + 1) (entries (views.formed self.now)) }
+        ensures few { AreAtMost most_pairs result.counts }
+        ensures others { (id : ℕ) → has_id id (ids signal_mask_bits self.now.msm.sets.signals) ≡ false
+            → value_count listed id (entries (views.formed self.now)) ≡ 0 }
+        ensures cells { length (entries (views.formed self.now)) ≤ most_pairs }
+    {
+        let _ = self.cells();
+        ValueCounts {
+            signals: self.masks().signals() as u64,
+            counts: self.count_all(listed),
+        }
+    }
+}
+
+/// The number of counted cells of each signal of a message, by rising signal ID.
+#[derive(Drop)]
+pub struct ValueCounts {
+    /// The signals that are left.
+    signals: u64,
+    /// For each signal ID from 1 on, the number of its cells.
+    counts: [u8; SIGNALS],
+}
+
+impl Model for ValueCounts {
+    ghost use Rattle.std.specs.Prelude.{◌<◌, ◌^◌};
+    ghost use Rattle.rtcm_msg.specs.Msm.{signal_mask_bits};
+    ghost use Rattle.rtcm_msg.specs.Entries.{ids};
+    ghost use Rattle.rtcm_msg.specs.ValueCounts.{SignalCounts};
+
+    ghost Value = { SignalCounts };
+
+    ghost view = { λ c. record { left = ids signal_mask_bits c.signals; counts = c.counts } };
+
+    ghost invariant = { λ c. c.signals < 2 ^ signal_mask_bits };
+}
+
+impl ValueCounts {
+    /// Returns the next signal ID and the number of its cells, or `None` after the last one.
+    #[inline(always)]
+    pub fn next(&mut self) -> Option<(u8, u8)>
+        ensures some { IfSome result (λ x. (self.old.left ≡ x.0 ∷ self.new.left)
+            × (x.1 ≡ slice_index self.old.counts (x.0 - 1))) }
+        ensures once { IfSome result (λ x. has_id x.0 self.new.left ≡ false) }
+        ensures none { IfNone result (self.old.left ≡ []) }
+        ensures same { self.new.counts ≡ self.old.counts }
+    {
+        if self.signals == 0 {
+            return None;
+        }
+        let (id, signals) = split_first(self.signals, SIGNAL_MASK_BITS);
+        let count = self.counts[id as usize - 1];
+        self.signals = signals;
+        Some((id, count))
+    }
+}
