@@ -19,4 +19,5 @@ mod OrderLemmas
 mod StandLemmas
 mod ReachLemmas
 mod SignalCountsLemmas
+pub mod SignalNumbers
 pub mod ViewLemmas

@@ -1,14 +1,12 @@
 -- The number of cells with a value in messages, by signal.
 use Rattle.std.specs.Prelude.{◌≡◌, ℕ, ◌+◌, ◌-◌, ◌<◌, ◌≤◌, ◌^◌, ◌==◌, ◌&&◌, ◌||◌, Bool, true, false, min, nat_lt, List}
-use Rattle.std.specs.Prelude.{[], ◌++◌, length, get_or, set, filter, filter_map, Option, None, is_some, if◌then◌else◌}
+use Rattle.std.specs.Prelude.{[], ◌++◌, length, get_or, set, filter, filter_map, Option, is_some, if◌then◌else◌}
 use Rattle.std.specs.Option.{option_map_or}
 use Rattle.std.specs.List.{list_any}
 use Rattle.gnss_obs.specs.declared.system.System.{System}
 use Rattle.gnss_obs.specs.declared.system.System.TheVariants.{Gps, Galileo}
-use Rattle.gnss_obs.specs.Satellites.{satellite_of_id}
-use Rattle.gnss_obs.specs.Signals.{SignalAt, table, signal_of_id}
+use Rattle.gnss_obs.specs.Signals.{SignalAt, table}
 use Rattle.rtcm_msg.specs.declared.entry.Entry.{Entry}
-use Rattle.rtcm_msg.specs.declared.presence.Presence.{Presence}
 use Rattle.rtcm_msg.specs.declared.entry.LockField.{LockField}
 use Rattle.obs_epoch.specs.Heard.{Heard, seen_in}
 use Rattle.gnss_obs.specs.HeardCells.{HeardCell}
@@ -57,31 +55,27 @@ counted c system i = get_or (signal_counts system c) i 0
 abbrev pub has_any : SignalCountsValue → Bool
 has_any c = list_any (λ n. nat_lt 0 n) c.gps || list_any (λ n. nat_lt 0 n) c.galileo
 
--- ---- one more cell
-
--- A count saturates at the largest 64-bit number, which no stream comes near.
-abbrev pub one_up : List ℕ → ℕ → List ℕ
-one_up counts i = set counts i (min (get_or counts i 0 + 1) (2 ^ 64 - 1))
-
-abbrev pub counted_in : System → ℕ → SignalCountsValue → SignalCountsValue
-counted_in Gps i c = record c { gps = one_up c.gps i }
-counted_in Galileo i c = record c { galileo = one_up c.galileo i }
-
-abbrev pub counted_of : SignalCountsValue → SignalAt → SignalCountsValue
-counted_of c g = counted_in g.system g.index c
-
--- The signal of a cell, if its satellite and signal are listed and it has a value.
+-- The cell has a value.
 abbrev pub entry_value : Entry → Bool
 entry_value e = is_some e.range || is_some e.phase || is_some e.rate || is_some e.strength
 
-abbrev pub entry_signal : System → Entry → Option SignalAt
-entry_signal system e =
-    if is_some (satellite_of_id system e.satellite) && entry_value e then signal_of_id system e.signal else None
+-- ---- more cells of a signal
 
--- The same, from the presence of the cell.
-abbrev pub presence_signal : System → Presence → Option SignalAt
-presence_signal system p =
-    if is_some (satellite_of_id system p.satellite) && p.has_value then signal_of_id system p.signal else None
+-- A count saturates at the largest 64-bit number, which no stream comes near.
+abbrev pub up_by : ℕ → List ℕ → ℕ → List ℕ
+up_by n counts i = set counts i (min (get_or counts i 0 + n) (2 ^ 64 - 1))
+
+abbrev pub counted_more_in : System → ℕ → ℕ → SignalCountsValue → SignalCountsValue
+counted_more_in Gps i n c = record c { gps = up_by n c.gps i }
+counted_more_in Galileo i n c = record c { galileo = up_by n c.galileo i }
+
+abbrev pub counted_more : SignalAt → ℕ → SignalCountsValue → SignalCountsValue
+counted_more g n c = counted_more_in g.system g.index n c
+
+-- The satellites of a system as a set, in which the most significant of 64 bits is ID 1.
+abbrev pub satellite_set : System → ℕ
+satellite_set Gps = 18446744069414584320
+satellite_set Galileo = 18446744073441116160
 
 -- ---- all cells so far
 

@@ -1,14 +1,17 @@
 //! The number of cells with a value, by signal.
-ghost use Rattle.std.specs.Prelude.{◌≡◌, ◌<◌, [], length};
-ghost use Rattle.gnss_obs.specs.Signals.{table};
+ghost use Rattle.std.specs.Prelude.{◌≡◌, ◌<◌, ◌≤◌, [], length, option_map};
+ghost use Rattle.gnss_obs.specs.Signals.{table, signal_of_id};
 ghost use Rattle.obs_epoch.specs.Heard.{heard};
-ghost use Rattle.obs_epoch.specs.SignalCounts.{counted, has_any, counted_of, presence_signal, CountsEntries};
+ghost use Rattle.obs_epoch.specs.SignalCounts.{counted, has_any, counted_more, satellite_set, CountsEntries};
 ghost use Rattle.obs_epoch.specs.SignalCounts.{CountsMessage, AreSignalCounts};
+ghost use Rattle.rtcm_msg.specs.Entries.{entries};
+ghost use Rattle.rtcm_msg.specs.Msm.{most_pairs};
 ghost use Rattle.rtcm_msg.specs.Viewed.{viewed_message};
+ghost use Rattle.rtcm_msg.specs.Views as views;
 
 use crate::observe::system_of;
-use gnss_obs::{GALILEO_SIGNAL_COUNT, GPS_SIGNAL_COUNT, Sat, Signal, System};
-use rtcm_msg::{Message, Presence, Presences, View};
+use gnss_obs::{GALILEO_SIGNAL_COUNT, GPS_SIGNAL_COUNT, Signal, System};
+use rtcm_msg::{Message, MsmView, View};
 use std::marker::Model;
 
 /// The number of cells with a value, for each signal of the tables.
@@ -69,41 +72,51 @@ impl SignalCounts {
         if let View::Msm(m) = view {
             let own = m.header().station;
             if station.unwrap_or(own) == own {
-                self.count_cells(system_of(m.is_galileo()), &mut m.presences());
+                self.count_cells(system_of(m.is_galileo()), m);
             }
         }
     }
 
     // Counts the cells of listed satellites and signals that have a value.
-    fn count_cells(&mut self, system: System, cells: &mut Presences<'_>)
-        ensures { CountsEntries self.old self.new system cells.old.left }
+    fn count_cells(&mut self, system: System, view: &MsmView<'_>)
+        ensures counts { CountsEntries self.old self.new system (entries (views.formed view.now)) }
+        ensures few { length (entries (views.formed view.now)) ≤ most_pairs }
     {
-        while let Some(presence) = cells.next() {
-            if let Some(signal) = signal_of(system, presence) {
-                self.add(signal);
+        let mut counts = view.value_counts(satellites_of(system));
+        while let Some((id, count)) = counts.next() {
+            if let Some(more) = signal_of(system, id, count) {
+                self.add(more);
             }
         }
     }
 
-    // Counts one cell of a signal.
-    fn add(&mut self, signal: Signal)
-        ensures { self.new ≡ counted_of self.old signal }
+    // Adds a number of cells to those of a signal.
+    fn add(&mut self, more: (Signal, u64))
+        ensures { self.new ≡ counted_more more.0 more.1 self.old }
     {
+        let (signal, count) = more;
         let place = signal.index();
         match signal.system() {
-            System::Gps => self.gps[place] = self.gps[place].saturating_add(1),
-            System::Galileo => self.galileo[place] = self.galileo[place].saturating_add(1),
+            System::Gps => self.gps[place] = self.gps[place].saturating_add(count),
+            System::Galileo => self.galileo[place] = self.galileo[place].saturating_add(count),
         }
     }
 }
 
-// Returns the signal of a cell, if its satellite and signal are listed and it has a value.
-fn signal_of(system: System, presence: Presence) -> Option<Signal>
-    ensures value { result ≡ presence_signal system presence }
+// Returns the set of the satellites of a system, in which the most significant bit is ID 1.
+fn satellites_of(system: System) -> u64
+    ensures { result ≡ satellite_set system }
 {
-    if presence.has_value && Sat::new(system, presence.satellite).is_some() {
-        Signal::from_id(system, presence.signal)
-    } else {
-        None
+    match system {
+        System::Gps => 0xFFFF_FFFF_0000_0000,
+        System::Galileo => 0xFFFF_FFFF_F000_0000,
     }
+}
+
+// Returns the signal with this ID, if it is listed, and the number of its cells with a value.
+fn signal_of(system: System, id: u8, count: u8) -> Option<(Signal, u64)>
+    ensures value { result ≡ option_map (λ s. (s, count)) (signal_of_id system id) }
+{
+    let signal = Signal::from_id(system, id)?;
+    Some((signal, count as u64))
 }

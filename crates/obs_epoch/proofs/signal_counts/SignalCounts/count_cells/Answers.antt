@@ -1,23 +1,30 @@
-use Rattle.std.proofs.Common.{◌∙◌, ap, sym, subst, List}
-use Rattle.std.specs.Option.{option_map_or}
-use Rattle.rtcm_msg.specs.declared.entry.Entry.{Entry}
-use Rattle.obs_epoch.specs.SignalCounts.{counted_of, CountsEntries}
-use Rattle.obs_epoch.proofs.SignalCountsLemmas.{presence_more, none_more}
+use Rattle.std.proofs.Common.{ℕ, ◌-◌, ◌∙◌, List, get_or, ap, sym, subst}
+use Rattle.obs_epoch.proofs.SignalNumbers.{Adds, adds_some, adds_none, finished, signal_found, signal_missing}
 use Rattle.obs_epoch.proofs.signal_counts.SignalCounts.count_cells.Goals as goal
 
-pub loop-presence-preserved-in-Some-signal_of : goal.loop-presence-preserved-in-Some-signal_of
-loop-presence-preserved-in-Some-signal_of c = λ last more.
-    let made = c.add.ensures ∙ sym (ap (λ o. option_map_or (counted_of c.loop-presence.self) o c.loop-presence.self) c.in-Some-signal_of.is) in
-    c.loop-presence.invariant last
-    (presence_more c.args.system c.in-Some.presence c.loop-presence.cells.left c.next.new.self.left c.signal_of.result c.loop-presence.self c.add.new.self last c.in-Some.ensures.some c.signal_of.ensures.value made more)
+pub loop-id-preserved-in-Some-signal_of : goal.loop-id-preserved-in-Some-signal_of
+loop-id-preserved-in-Some-signal_of c =
+    let same = c.in-Some.ensures.same in
+    let found = signal_found _ c.in-Some.count c.signal_of.result c.in-Some-signal_of.more.0 c.in-Some-signal_of.more.1 c.signal_of.ensures.value c.in-Some-signal_of.is in
+    let read = found.1 ∙ (c.in-Some.ensures.some.1 ∙ ap (λ (l : List ℕ). get_or l (c.in-Some.id - 1) 0) (sym same)) in
+    record {
+      adds = adds_some c.args.self.now c.loop-id.self c.add.new.self c.args.system c.loop-id.counts.left c.next.new.self.left c.next.new.self.counts c.in-Some.id c.in-Some-signal_of.more.1 c.in-Some-signal_of.more.0
+          (subst (λ (l : List ℕ). Adds c.args.self.now c.loop-id.self c.args.system c.loop-id.counts.left l) (sym same) c.loop-id.invariant.adds) c.in-Some.ensures.some.0 found.0 read (λ i. rw same (c.loop-id.invariant.few i)) c.in-Some.ensures.once c.add.ensures;
+      numbers = λ i h. rw same (c.loop-id.invariant.numbers i h);
+      few = λ i. rw same (c.loop-id.invariant.few i);
+    }
 
-pub loop-presence-preserved : goal.loop-presence-preserved
-loop-presence-preserved c = λ last more.
-    let made = sym (ap (λ o. option_map_or (counted_of c.loop-presence.self) o c.loop-presence.self) c.in_default-signal_of.is) in
-    c.loop-presence.invariant last
-    (presence_more c.args.system c.in-Some.presence c.loop-presence.cells.left c.next.new.self.left c.signal_of.result c.loop-presence.self c.loop-presence.self last c.in-Some.ensures.some c.signal_of.ensures.value made more)
+pub loop-id-preserved : goal.loop-id-preserved
+loop-id-preserved c =
+    let same = c.in-Some.ensures.same in
+    let missing = signal_missing _ c.in-Some.count c.signal_of.result c.signal_of.ensures.value c.in_default-signal_of.is in
+    let read = c.in-Some.ensures.some.1 ∙ ap (λ (l : List ℕ). get_or l (c.in-Some.id - 1) 0) (sym same) in
+    record {
+      adds = adds_none c.args.self.now c.loop-id.self c.args.system c.loop-id.counts.left c.next.new.self.left c.next.new.self.counts c.in-Some.id c.in-Some.count
+          (subst (λ (l : List ℕ). Adds c.args.self.now c.loop-id.self c.args.system c.loop-id.counts.left l) (sym same) c.loop-id.invariant.adds) c.in-Some.ensures.some.0 missing read c.in-Some.ensures.once;
+      numbers = λ i h. rw same (c.loop-id.invariant.numbers i h);
+      few = λ i. rw same (c.loop-id.invariant.few i);
+    }
 
-pub returns : goal.returns
-returns c =
-    c.loop-presence.invariant c.loop-presence.self
-    (subst (λ (l : List Entry). CountsEntries c.loop-presence.self c.loop-presence.self c.args.system l) (sym c.in_default.ensures.none.0) (none_more c.loop-presence.self c.args.system))
+pub returns-clause-counts : goal.returns-clause-counts
+returns-clause-counts c = finished c.args.self.now c.loop-id.self c.args.system c.loop-id.counts.left c.loop-id.counts.counts _ c.loop-id.invariant.adds c.in_default.ensures.none c.loop-id.invariant.numbers

@@ -1,9 +1,17 @@
-use Rattle.std.proofs.Common.{length}
-use Rattle.obs_epoch.specs.SignalCounts.{SignalCountsValue, CountsEntries}
+use Rattle.std.proofs.Common.{ℕ, ◌≡◌, ◌+◌, ◌<◌, ◌≤◌, length, get_or}
+use Rattle.rtcm_msg.specs.Entries.{entries}
+use Rattle.rtcm_msg.specs.Views.{formed}
+use Rattle.rtcm_msg.specs.ValueCounts.{value_count}
+use Rattle.obs_epoch.specs.SignalCounts.{satellite_set}
+use Rattle.obs_epoch.proofs.SignalNumbers.{Adds}
 use Rattle.obs_epoch.proofs.signal_counts.SignalCounts.count_cells.Given as goal
 
-abbrev pub invariant-loop-presence : goal.invariant-loop-presence
-invariant-loop-presence l = (last : SignalCountsValue) → CountsEntries l.self last l.system l.cells.left → CountsEntries l.fn.self last l.system l.fn.cells.left
+abbrev pub invariant-loop-id : goal.invariant-loop-id
+invariant-loop-id l = record {
+  adds : Adds l.fn.self l.self l.system l.counts.left l.counts.counts;
+  numbers : (i : ℕ) → i < 32 → get_or l.counts.counts i 0 ≡ value_count (satellite_set l.system) (i + 1) (entries (formed l.view));
+  few : (i : ℕ) → get_or l.counts.counts i 0 ≤ 64;
+}
 
-abbrev pub decreases-loop-presence : goal.decreases-loop-presence
-decreases-loop-presence l = length l.cells.left
+abbrev pub decreases-loop-id : goal.decreases-loop-id
+decreases-loop-id l = length l.counts.left

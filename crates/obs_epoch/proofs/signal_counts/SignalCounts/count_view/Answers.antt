@@ -1,10 +1,11 @@
-use Rattle.std.proofs.Common.{◌∙◌, ◌≡◌, ◌≤◌, ◌<◌, ◌+◌, ◌^◌, ap, ap₂, sym, refl, subst, ℕ, List, length, arith, filter}
+use Rattle.std.proofs.Common.{◌∙◌, ◌≡◌, ◌≤◌, ◌<◌, ◌+◌, ◌^◌, ap, sym, refl, subst, ℕ, List, length, arith, filter}
 use Rattle.std.specs.Prelude.{filter_map, unwrap_or}
 use Rattle.rtcm_msg.specs.declared.entry.Entry.{Entry}
 use Rattle.rtcm_msg.specs.declared.header.MsmHeader.{MsmHeader}
 use Rattle.rtcm_msg.specs.Entries.{entries}
 use Rattle.rtcm_msg.specs.Views.{FormedMsm, formed}
-use Rattle.rtcm_msg.specs.Viewed.{Unread, viewed_message, lock_field}
+use Rattle.gnss_obs.specs.declared.system.System.{System}
+use Rattle.rtcm_msg.specs.Viewed.{viewed_message, lock_field}
 use Rattle.obs_epoch.specs.Heard.{heard, heard_msm, seen_in, system_of}
 use Rattle.obs_epoch.specs.SignalCounts.{brings_value, valued}
 use Rattle.obs_epoch.proofs.SignalCountsLemmas.{wanted_cells, message_counted, few_valued}
@@ -20,15 +21,15 @@ returns-then-unwrap_or-own c =
     let field = lock_field m.form in
     let wanted = c.args.station in
     let system = c.system_of.result in
-    let es : List Entry = c.presences.result.left in
+    let es : List Entry = entries (formed m) in
     let same : valued wanted (heard (viewed_message c.args.view.now)) ≡ filter brings_value (filter_map (seen_in field system) es) =
     ap (λ v. valued wanted (heard (viewed_message v))) c.in-Msm.is ∙ ap (valued wanted) (heard_formed m)
     ∙ wanted_cells wanted m.msm.header.station (heard_msm field m.msm (entries (formed m))) refl
     (subst (λ (x : MsmHeader). unwrap_or wanted x.station ≡ x.station) c.header-own.ensures.value (sym c.unwrap_or.ensures ∙ c.if-unwrap_or-own.true))
-    ∙ ap (filter brings_value) (ap₂ (λ s l. filter_map (seen_in field s) l) (sym (c.system_of.ensures ∙ ap system_of c.is_galileo.ensures)) (sym (ap (λ (u : Unread). u.left) c.presences.ensures.all))) in
+    ∙ ap (λ (s : System). filter brings_value (filter_map (seen_in field s) es)) (sym (c.system_of.ensures ∙ ap system_of c.is_galileo.ensures)) in
     record {
       counts = λ cells few h.
           message_counted c.count_cells.new.self cells (filter brings_value (filter_map (seen_in field system) es)) wanted (heard (viewed_message c.args.view.now)) same
-          (c.count_cells.ensures field cells (room (length cells) (length es) few c.presences.ensures.few) h);
-      few = few_valued field system es (valued wanted (heard (viewed_message c.args.view.now))) same c.presences.ensures.few;
+          (c.count_cells.ensures.counts field cells (room (length cells) (length es) few c.count_cells.ensures.few) h);
+      few = few_valued field system es (valued wanted (heard (viewed_message c.args.view.now))) same c.count_cells.ensures.few;
     }

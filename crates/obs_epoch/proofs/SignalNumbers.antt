@@ -1,0 +1,316 @@
+-- Cells are counted signal by signal.
+use Rattle.std.proofs.Common.{◌≡◌, ℕ, zero, suc, ◌+◌, ◌-◌, ◌<◌, ◌≤◌, ◌^◌, ◌==◌, ◌&&◌, ◌||◌, not, nat_le, List, [], ◌∷◌, ◌++◌, length, get_or, filter, Bool, true, false, Option, Some, None, refl, sym, ap, ◌∙◌, subst, arith, is_some, inl, inr, position}
+use Rattle.std.specs.Prelude.{if◌then◌else◌, cond, filter_map, option_map, option_and_then, slice_get}
+use Rattle.std.specs.List.{cons_option}
+use Rattle.std.specs.Option.{option_map_or}
+use Rattle.std.proofs.lemmas.Bool.{cases_lt}
+use Rattle.std.proofs.lemmas.Grind.{common_steps}
+use Rattle.std.proofs.lemmas.List.{length-set}
+use Rattle.std.proofs.lemmas.List.Quantifiers.{position-Some}
+use Rattle.gnss_obs.specs.declared.system.System.{System}
+use Rattle.gnss_obs.specs.declared.system.System.TheVariants.{Gps, Galileo}
+use Rattle.gnss_obs.specs.declared.tables.ListedSignal.{ListedSignal}
+use Rattle.gnss_obs.specs.Satellites.{Satellite, is_system, satellite_of_id}
+use Rattle.gnss_obs.specs.Signals.{SignalAt, IsSignal, id_of, table, signal_of_id}
+use Rattle.gnss_obs.specs.HeardCells.{HeardCell}
+use Rattle.gnss_obs.proofs.Checked.{passes_at, is_equal}
+use Rattle.gnss_obs.proofs.TableLaws.{id_back, ids_within}
+use Rattle.rtcm_msg.specs.declared.entry.Entry.{Entry}
+use Rattle.rtcm_msg.specs.declared.entry.LockField.{LockField}
+use Rattle.rtcm_msg.specs.ValueCounts.{has_id, is_in, has_listed_value, value_count}
+use Rattle.rtcm_msg.proofs.ValueLaws.{count_first}
+use Rattle.obs_epoch.specs.Heard.{seen_in, lock_by, observed}
+use Rattle.obs_epoch.specs.SignalCounts.{SignalCountsValue, signal_counts, counted, signal_in, counted_more, counted_more_in, satellite_set, up_by, brings_value, is_of_signal, count_of, CountsEntries}
+use Rattle.obs_epoch.proofs.SignalCountsLemmas.{listed_of, value_same, one_first, few_of}
+
+-- ---- signals and their IDs
+
+not_both : (a b : Bool) → (a ≡ true → b ≡ true → ⊥) → (a && b) ≡ false
+not_both true true h = absurd (h refl refl)
+not_both true false h = refl
+not_both false b h = refl
+
+one_way : (a b : Bool) → (a ≡ true → b ≡ true) → (b ≡ true → a ≡ true) → a ≡ b
+one_way true b there back = sym (there refl)
+one_way false true there back = back refl
+one_way false false there back = refl
+
+both_of : (a b : Bool) → (a && b) ≡ true → (a ≡ true) × (b ≡ true)
+both_of true b h = (refl, h)
+both_of false b h = grind (arith, h)
+
+system_same : (a b : System) → is_system a b ≡ true → a ≡ b
+system_same Gps Gps h = refl
+system_same Gps Galileo h = grind (arith, h)
+system_same Galileo Gps h = grind (arith, h)
+system_same Galileo Galileo h = refl
+
+system_self : (a b : System) → a ≡ b → is_system a b ≡ true
+system_self Gps b h = rw (← h) refl
+system_self Galileo b h = rw (← h) refl
+
+equal_self : (a b : ℕ) → a ≡ b → (a == b) ≡ true
+equal_self a b h = grind (arith, h)
+
+none_some : {X : Type 0} (x : X) (o : Option X) → o ≡ None → o ≡ Some x → ⊥
+none_some x o e f = grind (arith, e, f)
+
+some_same : {X : Type 0} (x y : X) (o : Option X) → o ≡ Some x → o ≡ Some y → x ≡ y
+some_same x y o e f = cc
+
+get_is : (xs : List ListedSignal) (i id : ℕ) → i < length xs → ((get_or xs i (0, (0 ∷ 0 ∷ []), 0)).0 == id) ≡ true → option_map_or (λ (e : ListedSignal). e.0) (slice_get xs i) 0 ≡ id
+get_is [] i id below is = absurd (omega (arith, below))
+get_is (x ∷ xs) zero id below is = grind (arith, common_steps)
+get_is (x ∷ xs) (suc i) id below is = get_is xs i id (omega (arith, below)) is
+
+-- The ID of the signal with an ID.
+id_forth : (system : System) (id : ℕ) (g : SignalAt) → signal_of_id system id ≡ Some g → id_of g ≡ id
+id_forth system id g h = by (position (λ (e : ListedSignal). e.0 == id) (table system)) refl h
+  where
+    by : (o : Option ℕ) → o ≡ position (λ (e : ListedSignal). e.0 == id) (table system) → option_map (signal_in system) o ≡ Some g → id_of g ≡ id
+    by None e h = absurd (none_some g None refl h)
+    by (Some i) e h =
+        let p = position-Some (λ (e : ListedSignal). e.0 == id) (table system) i (0, (0 ∷ 0 ∷ []), 0) (sym e) in
+        subst (λ (x : SignalAt). id_of x ≡ id) (some_same (signal_in system i) g (Some (signal_in system i)) refl h) (get_is (table system) i id p.0 p.1)
+
+-- The signal with an ID is g, or not.
+no_signal : (system : System) (id : ℕ) (g : SignalAt) → IsSignal g → signal_of_id system id ≡ None → (is_system system g.system && (id == id_of g)) ≡ false
+no_signal system id g listed none = not_both (is_system system g.system) (id == id_of g) (λ a b.
+    let back : signal_of_id g.system (id_of g) ≡ Some g = id_back g listed in
+    let is : signal_of_id system id ≡ Some g = rw (system_same system g.system a, is_equal id (id_of g) b) back in
+    none_some g (signal_of_id system id) none is)
+
+the_signal : (system : System) (id : ℕ) (g s : SignalAt) → IsSignal g → signal_of_id system id ≡ Some s → (is_system system g.system && (id == id_of g)) ≡ (is_system g.system s.system && (s.index == g.index))
+the_signal system id g s listed some = one_way _ _ there back
+  where
+    there : (is_system system g.system && (id == id_of g)) ≡ true → (is_system g.system s.system && (s.index == g.index)) ≡ true
+    there h =
+        let both = both_of (is_system system g.system) (id == id_of g) h in
+        let is : signal_of_id system id ≡ Some g = rw (system_same system g.system both.0, is_equal id (id_of g) both.1) (id_back g listed) in
+        let e : s ≡ g = some_same s g (signal_of_id system id) some is in
+        rw (system_self g.system s.system (ap (λ (x : SignalAt). x.system) (sym e)), equal_self s.index g.index (ap (λ (x : SignalAt). x.index) e)) refl
+
+    back : (is_system g.system s.system && (s.index == g.index)) ≡ true → (is_system system g.system && (id == id_of g)) ≡ true
+    back h =
+        let both = both_of (is_system g.system s.system) (s.index == g.index) h in
+        let of : s.system ≡ system = (listed_of system id s some).0 in
+        let e : g.system ≡ s.system = system_same g.system s.system both.0 in
+        let i : s.index ≡ g.index = is_equal s.index g.index both.1 in
+        let same : id_of s ≡ id_of g = alike s g (sym e) i in
+        rw (system_self system g.system (sym of ∙ sym e), equal_self id (id_of g) (sym (id_forth system id s some) ∙ same)) refl
+      where
+        alike : (a b : SignalAt) → a.system ≡ b.system → a.index ≡ b.index → id_of a ≡ id_of b
+        alike a b e f = rw (e, f) refl
+
+-- ---- satellites
+
+same : Bool → Bool → Bool
+same true b = b
+same false b = not b
+
+from_same : (a b : Bool) → same a b ≡ true → a ≡ b
+unfolding same
+from_same true b h = sym h
+from_same false true h = h
+from_same false false h = refl
+
+abbrev is_right : System → ℕ → Bool
+is_right system id = same (is_in (satellite_set system) id) (is_some (satellite_of_id system id))
+
+in_set : (system : System) (id : ℕ) → is_in (satellite_set system) id ≡ is_some (satellite_of_id system id)
+unfolding same
+in_set Gps id = elim (cases_lt id 65) [
+  | inl below ↦ from_same _ _ (passes_at (is_right Gps) 65 id refl below)
+  | inr above ↦ let e : 64 - id ≡ 0 = omega (arith, above) in let f : nat_le id 32 ≡ false = grind (arith, above) in let g : nat_le 1 id ≡ true = grind (arith, above) in rw (e, f, g) refl
+]
+in_set Galileo id = elim (cases_lt id 65) [
+  | inl below ↦ from_same _ _ (passes_at (is_right Galileo) 65 id refl below)
+  | inr above ↦ let e : 64 - id ≡ 0 = omega (arith, above) in let f : nat_le id 36 ≡ false = grind (arith, above) in let g : nat_le 1 id ≡ true = grind (arith, above) in rw (e, f, g) refl
+]
+
+-- ---- the entries of a signal
+
+either : (a b c d : Bool) → (a || (b || c || d)) ≡ (a || b || c || d)
+either true b c d = refl
+either false b c d = refl
+
+in_middle : (a b c : Bool) → (a && (b && c)) ≡ (b && (a && c))
+in_middle true b c = refl
+in_middle false true c = refl
+in_middle false false c = refl
+
+abbrev is_for : System → SignalAt → Entry → Bool
+is_for system g e = is_system system g.system && (has_listed_value (satellite_set system) e && (e.signal == id_of g))
+
+zero_case : (b c : Bool) → c ≡ false → zero ≡ cond (b && c) 1 0
+zero_case true c h = rw h refl
+zero_case false c h = refl
+
+one_cell : (p q : HeardCell → Bool) (y : HeardCell) → length (filter p (filter q (y ∷ []))) ≡ cond (q y && p y) 1 0
+one_cell p q y = grind (arith, common_steps)
+
+one_entry : (field : LockField) (system : System) (e : Entry) (g : SignalAt) → IsSignal g → count_of g (filter brings_value (cons_option (seen_in field system e) [])) ≡ cond (is_for system g e) 1 0
+one_entry field system e g listed =
+    rw (in_set system e.satellite) (by (satellite_of_id system e.satellite) (signal_of_id system e.signal) (no_signal system e.signal g listed) (λ s. the_signal system e.signal g s listed))
+  where
+    by : (s : Option Satellite) (o : Option SignalAt) → (o ≡ None → (is_system system g.system && (e.signal == id_of g)) ≡ false)
+        → ((x : SignalAt) → o ≡ Some x → (is_system system g.system && (e.signal == id_of g)) ≡ (is_system g.system x.system && (x.index == g.index)))
+        → count_of g (filter brings_value (cons_option (option_and_then (λ s. option_map (observed (lock_by field e.lock) e s) o) s) [])) ≡ cond (is_system system g.system && ((is_some s && (is_some e.range || (is_some e.phase || is_some e.rate || is_some e.strength))) && (e.signal == id_of g))) 1 0
+    by None o none some = zero_case (is_system system g.system) false refl
+    by (Some s) None none some =
+        rw (in_middle (is_system system g.system) (is_some e.range || (is_some e.phase || is_some e.rate || is_some e.strength)) (e.signal == id_of g)) (zero_case (is_some e.range || (is_some e.phase || is_some e.rate || is_some e.strength)) _ (none refl))
+    by (Some s) (Some x) none some =
+        one_cell (is_of_signal g) brings_value (observed (lock_by field e.lock) e s x)
+        ∙ rw (value_same (lock_by field e.lock) e s x, ← either (is_some e.range) (is_some e.phase) (is_some e.rate) (is_some e.strength), in_middle (is_system system g.system) (is_some e.range || (is_some e.phase || is_some e.rate || is_some e.strength)) (e.signal == id_of g), some x refl) refl
+
+count_append : (g : SignalAt) (xs ys : List HeardCell) → count_of g (xs ++ ys) ≡ count_of g xs + count_of g ys
+count_append g xs ys = grind (arith, common_steps)
+
+pub all_entries : (field : LockField) (system : System) (es : List Entry) (g : SignalAt) → IsSignal g
+    → count_of g (filter brings_value (filter_map (seen_in field system) es)) ≡ (if is_system system g.system then value_count (satellite_set system) (id_of g) es else 0)
+all_entries field system [] g listed = none (is_system system g.system)
+  where
+    none : (b : Bool) → zero ≡ (if b then zero else zero)
+    none true = refl
+    none false = refl
+all_entries field system (e ∷ es) g listed =
+    ap (count_of g) (sym (one_first (seen_in field system e) (filter_map (seen_in field system) es)))
+    ∙ (count_append g (filter brings_value (cons_option (seen_in field system e) [])) (filter brings_value (filter_map (seen_in field system) es))
+    ∙ rw (one_entry field system e g listed, all_entries field system es g listed)
+    (joined (is_system system g.system) (has_listed_value (satellite_set system) e && (e.signal == id_of g)) (value_count (satellite_set system) (id_of g) es) (value_count (satellite_set system) (id_of g) (e ∷ es))
+    (count_first (λ e. has_listed_value (satellite_set system) e && (e.signal == id_of g)) e es)))
+  where
+    joined : (b p : Bool) (n m : ℕ) → m ≡ cond p 1 0 + n → cond (b && p) 1 0 + (if b then n else 0) ≡ (if b then m else 0)
+    joined true p n m h = sym h
+    joined false p n m h = refl
+
+-- ---- numbers
+
+-- The number of cells of a signal, if it is none of the signals that are left.
+abbrev pub number : System → List ℕ → List ℕ → SignalAt → ℕ
+number system left counts g =
+    if is_system system g.system && not (has_id (id_of g) left) then get_or counts (id_of g - 1) 0 else 0
+
+-- From c to c' the numbers of the signals were added that are not left, unless a count is very large.
+pub record Adds (c c' : SignalCountsValue) (system : System) (left counts : List ℕ) : Type 0 where
+  pub gps : length c'.gps ≡ length c.gps
+  pub galileo : length c'.galileo ≡ length c.galileo
+  pub each : (s : System) (i : ℕ) → i < length (table s) → length (signal_counts s c) ≡ length (table s)
+      → counted c s i < 2 ^ 63 → counted c' s i ≡ counted c s i + number system left counts (signal_in s i)
+
+-- ---- one number more
+
+up_by_at : (n g i : ℕ) (xs : List ℕ) → i < length xs → get_or xs i 0 + n ≤ 2 ^ 64 - 1 → get_or (up_by n xs g) i 0 ≡ get_or xs i 0 + (if g == i then n else 0)
+up_by_at n g i xs within few = grind (arith, common_steps)
+
+more_at : (g : SignalAt) (n : ℕ) (c : SignalCountsValue) (s : System) (i : ℕ) → i < length (signal_counts s c) → counted c s i + n ≤ 2 ^ 64 - 1
+    → counted (counted_more g n c) s i ≡ counted c s i + (if is_system s g.system && (g.index == i) then n else 0)
+more_at g n c s i within few = by g.system s within few
+  where
+    by : (t s : System) → i < length (signal_counts s c) → counted c s i + n ≤ 2 ^ 64 - 1 → counted (counted_more_in t g.index n c) s i ≡ counted c s i + (if is_system s t && (g.index == i) then n else 0)
+    by Gps Gps within few = up_by_at n g.index i c.gps within few
+    by Gps Galileo within few = omega arith
+    by Galileo Gps within few = omega arith
+    by Galileo Galileo within few = up_by_at n g.index i c.galileo within few
+
+more_gps : (t : System) (j n : ℕ) (c : SignalCountsValue) → length (counted_more_in t j n c).gps ≡ length c.gps
+more_gps Gps j n c = length-set c.gps j _
+more_gps Galileo j n c = refl
+
+more_galileo : (t : System) (j n : ℕ) (c : SignalCountsValue) → length (counted_more_in t j n c).galileo ≡ length c.galileo
+more_galileo Gps j n c = refl
+more_galileo Galileo j n c = length-set c.galileo j _
+
+number_step : (b w h : Bool) (m n : ℕ) → (w ≡ true → (h ≡ false) × (m ≡ n)) → (if b && not h then m else 0) ≡ (if b && not (w || h) then m else 0) + (if b && w then n else 0)
+number_step false w h m n f = omega arith
+number_step true true h m n f = let p = f refl in rw p.0 (omega (arith, p.1))
+number_step true false h m n f = omega arith
+
+number_few : (b : Bool) (m : ℕ) → m ≤ 64 → (if b then m else 0) ≤ 64
+number_few true m h = h
+number_few false m h = omega arith
+
+-- The first of the signals that are left is no longer left.
+first_number : (system : System) (left counts : List ℕ) (x n : ℕ) (g : SignalAt) → n ≡ get_or counts (x - 1) 0 → has_id x left ≡ false
+    → number system left counts g ≡ number system (x ∷ left) counts g + (if is_system system g.system && (x == id_of g) then n else 0)
+first_number system left counts x n g is once =
+    number_step (is_system system g.system) (x == id_of g) (has_id (id_of g) left) (get_or counts (id_of g - 1) 0) n (λ h.
+    let e : x ≡ id_of g = is_equal x (id_of g) h in
+    (subst (λ (y : ℕ). has_id y left ≡ false) e once, sym (is ∙ ap (λ (y : ℕ). get_or counts (y - 1) 0) e)))
+
+lengths : (c c' : SignalCountsValue) (s : System) → length c'.gps ≡ length c.gps → length c'.galileo ≡ length c.galileo → length (signal_counts s c') ≡ length (signal_counts s c)
+lengths c c' Gps e f = e
+lengths c c' Galileo e f = f
+
+join : (a b c d e f : ℕ) → a ≡ b + d → b ≡ c + e → f ≡ e + d → a ≡ c + f
+join a b c d e f x y z = omega (arith, x, y, z)
+
+room : (b c e n : ℕ) → b ≡ c + e → c < 2 ^ 63 → e ≤ 64 → n ≤ 64 → b + n ≤ 2 ^ 64 - 1
+room b c e n x y z w = omega (arith, x, y, z, w)
+
+pub adds_some : (c c' after : SignalCountsValue) (system : System) (all left counts : List ℕ) (x n : ℕ) (g : SignalAt) → Adds c c' system all counts → all ≡ x ∷ left → signal_of_id system x ≡ Some g → n ≡ get_or counts (x - 1) 0 → ((i : ℕ) → get_or counts i 0 ≤ 64)
+    → has_id x left ≡ false → after ≡ counted_more g n c' → Adds c after system left counts
+adds_some c c' after system all left counts x n g a split some is few once made = rw made (record {
+  gps = more_gps g.system g.index n c' ∙ a.gps;
+  galileo = more_galileo g.system g.index n c' ∙ a.galileo;
+  each = λ s i listed len small.
+      let r = signal_in s i in
+      let before : counted c' s i ≡ counted c s i + number system (x ∷ left) counts r = subst (λ (l : List ℕ). counted c' s i ≡ counted c s i + number system l counts r) split (a.each s i listed len small) in
+      let within : i < length (signal_counts s c') = omega (arith, listed, len, lengths c c' s a.gps a.galileo) in
+      let same = the_signal system x r g listed some in
+      let step : number system left counts r ≡ number system (x ∷ left) counts r + (if is_system s g.system && (g.index == i) then n else 0) = first_number system left counts x n r is once ∙ rw same refl in
+      join _ _ _ _ _ _ (more_at g n c' s i within (room _ _ _ n before small (number_few _ _ (few (id_of r - 1))) (omega (arith, is, few (x - 1))))) before step;
+})
+
+pub adds_none : (c c' : SignalCountsValue) (system : System) (all left counts : List ℕ) (x n : ℕ) → Adds c c' system all counts → all ≡ x ∷ left → signal_of_id system x ≡ None → n ≡ get_or counts (x - 1) 0 → has_id x left ≡ false → Adds c c' system left counts
+adds_none c c' system all left counts x n a split none is once = record {
+  gps = a.gps;
+  galileo = a.galileo;
+  each = λ s i listed len small.
+      let r = signal_in s i in
+      let before : counted c' s i ≡ counted c s i + number system (x ∷ left) counts r = subst (λ (l : List ℕ). counted c' s i ≡ counted c s i + number system l counts r) split (a.each s i listed len small) in
+      let step : number system left counts r ≡ number system (x ∷ left) counts r + 0 = first_number system left counts x n r is once ∙ rw (no_signal system x r listed none) refl in
+      omega (arith, before, step);
+}
+
+-- ---- all numbers
+
+pub finished : (c c' : SignalCountsValue) (system : System) (left counts : List ℕ) (es : List Entry) → Adds c c' system left counts → left ≡ [] → ((i : ℕ) → i < 32 → get_or counts i 0 ≡ value_count (satellite_set system) (i + 1) es) → CountsEntries c c' system es
+finished c c' system left counts es a none numbers = λ field cells few h. record {
+  gps = a.gps ∙ h.gps;
+  galileo = a.galileo ∙ h.galileo;
+  each = λ s i listed.
+      let r = signal_in s i in
+      let more : List HeardCell = filter brings_value (filter_map (seen_in field system) es) in
+      let start : counted c s i ≡ count_of r cells = h.each s i listed in
+      let small : counted c s i < 2 ^ 63 = below _ _ _ (length es) start (few_of r cells) few in
+      let before : counted c' s i ≡ counted c s i + number system [] counts r = subst (λ (l : List ℕ). counted c' s i ≡ counted c s i + number system l counts r) none (a.each s i listed (listed_lengths c s h.gps h.galileo) small) in
+      let total : count_of r more ≡ number system [] counts r = all_entries field system es r listed ∙ sym (last r listed (is_system system s)) in
+      ended _ _ _ _ _ _ before start (count_append r cells more) total;
+}
+  where
+    below : (a b l n : ℕ) → a ≡ b → b ≤ l → l + n < 2 ^ 63 → a < 2 ^ 63
+    below a b l n x y z = omega (arith, x, y, z)
+
+    ended : (a b c d e f : ℕ) → a ≡ b + c → b ≡ d → e ≡ d + f → f ≡ c → a ≡ e
+    ended a b c d e f x y z w = omega (arith, x, y, z, w)
+
+    listed_lengths : (c : SignalCountsValue) (s : System) → length c.gps ≡ length (table Gps) → length c.galileo ≡ length (table Galileo) → length (signal_counts s c) ≡ length (table s)
+    listed_lengths c Gps e f = e
+    listed_lengths c Galileo e f = f
+
+    last : (r : SignalAt) → IsSignal r → (b : Bool) → (if b && true then get_or counts (id_of r - 1) 0 else 0) ≡ (if b then value_count (satellite_set system) (id_of r) es else 0)
+    last r listed true =
+        let within = ids_within r listed in
+        numbers (id_of r - 1) (omega (arith, within.0, within.1)) ∙ ap (λ (k : ℕ). value_count (satellite_set system) k es) (omega (arith, within.0))
+    last r listed false = refl
+
+-- ---- the signal of a number
+
+pub signal_found : (o : Option SignalAt) (n : ℕ) (r : Option (SignalAt × ℕ)) (g : SignalAt) (m : ℕ) → r ≡ option_map (λ (s : SignalAt). (s, n)) o → r ≡ Some (g, m) → (o ≡ Some g) × (m ≡ n)
+signal_found None n r g m e f = absurd (none_some (g, m) r e f)
+signal_found (Some s) n r g m e f = let same : (s, n) ≡ (g, m) = some_same (s, n) (g, m) r e f in (ap (λ (p : SignalAt × ℕ). Some p.0) same, sym (ap (λ (p : SignalAt × ℕ). p.1) same))
+
+pub signal_missing : (o : Option SignalAt) (n : ℕ) (r : Option (SignalAt × ℕ)) → r ≡ option_map (λ (s : SignalAt). (s, n)) o → r ≡ None → o ≡ None
+signal_missing None n r e f = refl
+signal_missing (Some s) n r e f = absurd (none_some (s, n) r f e)
