@@ -1,6 +1,6 @@
--- Cells are counted one by one.
+-- The counts of the cells with a value, and of those of a message.
 use Rattle.rtcm_msg.specs.declared.entry.LockField.{LockField}
-use Rattle.std.proofs.Common.{◌≡◌, ℕ, zero, suc, nat_lt, nat_eq, not, replicate, ◌+◌, ◌-◌, ◌≤◌, Bool, List, [], ◌∷◌, ◌++◌, length, refl, sym, subst, arith, Option, Some, None, filter, is_some}
+use Rattle.std.proofs.Common.{◌≡◌, ℕ, zero, suc, nat_lt, nat_eq, not, replicate, ◌≤◌, Bool, List, [], ◌∷◌, ◌++◌, length, refl, sym, subst, arith, Option, Some, None, filter, is_some}
 use Rattle.std.specs.Prelude.{filter_map, unwrap_or}
 use Rattle.std.specs.List.{cons_option, list_any}
 use lib.Pointwise.{pointwise}

@@ -1,5 +1,6 @@
 //! The number of cells of an MSM that have a value, by signal.
-ghost use Rattle.std.specs.Prelude.{[], ◌∷◌, ◌≡◌, ℕ, ◌+◌, ◌-◌, ◌<◌, ◌≤◌, false, length, slice_index};
+ghost use Rattle.std.specs.Prelude.{[], ◌∷◌, ◌≡◌, ◌≢◌, ℕ, ◌+◌, ◌-◌, ◌/◌, ◌%◌, ◌^◌};
+ghost use Rattle.std.specs.Prelude.{◌<◌, ◌≤◌, false, length, slice_index};
 ghost use Rattle.std.specs.Prelude.{IfSome, IfNone};
 ghost use Rattle.rtcm_msg.specs.Msm.{satellite_mask_bits, signal_mask_bits, most_pairs};
 ghost use Rattle.rtcm_msg.specs.Entries.{entries, ids};
@@ -75,6 +76,27 @@ impl<'a> MsmView<'a> {
         Cells { pairs, left, next }
     }
 
+    /// Returns the cells that are left after the first pair, which has no cell.
+    #[inline(always)]
+    fn skip_pair(&self, mask: u64, cells: Cells) -> Cells
+        requires mask { mask ≡ self.now.msm.sets.cells }
+        requires none { mask / 2 ^ (cells.left - 1) % 2 ≢ 1 }
+        requires cells { AreCells self.now cells }
+        requires satellite { 0 < cells.pairs.satellites }
+        requires signal { 0 < cells.pairs.signals }
+        ensures left { entries_left self.now result ≡ entries_left self.now cells }
+        ensures cells { AreCells self.now result }
+        ensures next { result.next ≡ cells.next }
+        ensures fewer { result.left < cells.left }
+    {
+        let (_, pairs) = split_signal(cells.pairs);
+        Cells {
+            pairs,
+            left: cells.left - 1,
+            next: cells.next,
+        }
+    }
+
     /// Counts the cells of the first satellite, and returns the cells that are left.
     #[inline(always)]
     fn count_row(&self, listed: u64, mut cells: Cells, counts: &mut [u8; SIGNALS]) -> Cells
@@ -107,6 +129,7 @@ impl<'a> MsmView<'a> {
     {
         let _ = (self.form(), self.cells());
         let masks = self.masks();
+        let mask = masks.cells();
         let signals = masks.signals() as u64;
         let mut counts = [0; SIGNALS];
         let mut cells = Cells {
@@ -121,10 +144,15 @@ impl<'a> MsmView<'a> {
         };
         while cells.left > 0 {
             cells.pairs = with_signals(cells.pairs);
-            cells = self.count_row(listed, cells, &mut counts);
+            if (mask >> (cells.left - 1)) % 2 == 1 {
+                cells = self.count_row(listed, cells, &mut counts);
+            } else {
+                cells = self.skip_pair(mask, cells);
+            }
         }
         counts
     }
+
     /// Returns, for each signal of the message, the number of its cells that have a value and whose
     /// satellite is in the set `listed`, in which the most significant bit is satellite ID 1.
     #[inline(always)]

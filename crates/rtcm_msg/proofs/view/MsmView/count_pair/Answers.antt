@@ -1,4 +1,4 @@
-use Rattle.std.proofs.Common.{◌∙◌, ◌-◌, ap, sym, arith}
+use Rattle.std.proofs.Common.{◌∙◌, ap, sym, arith}
 use Rattle.std.specs.Prelude.{slice_index}
 use Rattle.rtcm_msg.specs.Msm.{MasksValue}
 use Rattle.rtcm_msg.specs.Viewed.{entry_in}
