@@ -93,3 +93,29 @@ insert_down_is l a b k e at x ys next count h within is =
     let all : at + (e - (b + at)) ≡ e - b = omega arith in
     ap₂ (λ n i. take n (drop a (put_mid a i l ys))) more count
     ∙ down l a at (e - (b + at)) x ys (omega arith) same ∙ ap₂ (λ n i. insert (take n (drop i l)) at x) all (sym next)
+
+-- ---- more items at the end
+
+extend : {X : Type 0} (l : List X) (b at k : ℕ) (ys : List X) → b + at ≤ length l
+    → take (at + length ys) (drop b (put_mid (b + at) k l ys)) ≡ take at (drop b l) ++ ys
+extend l b at k ys h =
+    let front : drop b (put_mid (b + at) k l ys) ≡ take at (drop b l) ++ (ys ++ post_of (b + at) k l) =
+    drop-append-le b (take (b + at) l) (ys ++ post_of (b + at) k l) (omega (arith, length-take-le (b + at) l (omega arith)))
+    ∙ ap (λ s. s ++ (ys ++ post_of (b + at) k l)) (drop-take b at l) in
+    let some : length (take at (drop b l)) ≡ at = length-take-le at (drop b l) (omega (arith, length-drop b l)) in
+    ap (λ s. take (at + length ys) s) front ∙ take_front (take at (drop b l)) ys (post_of (b + at) k l) (at + length ys) (omega (arith, some))
+
+-- `ys` is what the part of the buffer holds after `cells` were copied to it.
+pub part_more : {X : Type 0} (l cells ys : List X) (b e : ℕ) → b ≤ e → e + length cells ≤ length l → ys ≡ cells
+    → take (e + length cells - b) (drop b (put_mid e (e + length cells - e) l ys)) ≡ take (e - b) (drop b l) ++ cells
+part_more l cells ys b e h k is =
+    let n : e ≡ b + (e - b) = omega arith in
+    let more : e + length cells - b ≡ (e - b) + length cells = omega arith in
+    ap₂ (λ i s. take i (drop b (put_mid e (e + length cells - e) l s))) more is
+    ∙ ap (λ i. take ((e - b) + length cells) (drop b (put_mid i (e + length cells - e) l cells))) n
+    ∙ extend l b (e - b) (e + length cells - e) cells (omega arith)
+
+-- A list is cut in two parts before others.
+pub split_again : {X : Type 0} (a l same front back : List X) (at : ℕ) → same ≡ l → front ≡ take at a → back ≡ drop at a ++ same → front ++ back ≡ a ++ l
+split_again a l same front back at s f b =
+    ap₂ (λ p q. p ++ q) f (b ∙ ap (λ q. drop at a ++ q) s) ∙ sym (append_assoc (take at a) (drop at a) l) ∙ ap (λ p. p ++ l) (take-append-drop at a)

@@ -1,5 +1,5 @@
 -- The kept cells of an epoch, in the order of a plan.
-use Rattle.std.specs.Prelude.{ℕ, ◌≡◌, Bool, true, List, insert, is_some, map}
+use Rattle.std.specs.Prelude.{ℕ, ◌≡◌, ◌++◌, Bool, true, List, insert, is_some, map}
 use Rattle.std.specs.List.{AllByRecursion, list_any}
 use Rattle.gnss_obs.specs.declared.system.System.{System}
 use Rattle.gnss_obs.specs.declared.system.System.TheVariants.{Gps, Galileo}
@@ -17,6 +17,11 @@ is_held ms x = list_any (λ m. has_same_key x (heard_cell m)) ms
 abbrev pub more_at : System → ℕ → EpochValue → Cell → EpochValue
 more_at Gps at e m = record e { gps = insert e.gps at m }
 more_at Galileo at e m = record e { galileo = insert e.galileo at m }
+
+-- The epoch with cells of a system that were kept apart because they go after the others.
+abbrev pub with_later : System → EpochValue → List Cell → EpochValue
+with_later Gps e ms = record e { gps = e.gps ++ ms }
+with_later Galileo e ms = record e { galileo = e.galileo ++ ms }
 
 -- The number of cells that are not after a cell of that key.
 abbrev pub insertion_index_in : PlanValue → EpochValue → HeardCell → ℕ

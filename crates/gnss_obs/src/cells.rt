@@ -32,7 +32,7 @@ impl Model for Cells {
     ghost view = { λ c. take (c.end - c.begin) (drop c.begin c.buffer) };
 
     ghost invariant = { λ c.
-        (c.begin ≤ most_cells) × (most_cells ≤ c.end) × (c.end ≤ c.begin + most_cells) × (length c.buffer ≡ 512) };
+        (c.begin ≤ most_cells) × (c.begin ≤ c.end) × (c.end ≤ c.begin + most_cells) × (length c.buffer ≡ 512) };
 }
 
 impl Cells {
@@ -72,6 +72,28 @@ impl Cells {
         self.next
     }
 
+    /// Removes all cells from an index on.
+    #[inline(always)]
+    pub fn truncate(&mut self, at: usize)
+        requires { at ≤ length self.old }
+        ensures { self.new ≡ take at self.old }
+    {
+        self.end = self.begin + at;
+    }
+
+    /// Appends cells.
+    #[inline(always)]
+    pub fn append(&mut self, cells: &[Cell])
+        requires { length self.old + length cells.now ≤ most_cells }
+        ensures { self.new ≡ self.old ++ cells.now }
+    {
+        let end = self.end;
+        let more = end + cells.len();
+        let buffer = &mut self.buffer[..];
+        buffer[end..more].copy_from_slice(cells);
+        self.end = more;
+    }
+
     /// Inserts a cell at an index.
     #[inline(always)]
     pub fn insert(&mut self, at: usize, x: Cell)
@@ -100,7 +122,6 @@ impl Cells {
 // cells begin then.
 #[inline(never)]
 fn move_last(buffer: &mut [Cell], begin: usize, end: usize, at: usize) -> usize
-    requires room { 0 < begin }
     requires end { end < length buffer.old }
     requires within { begin + at ≤ end }
     ensures cells { (d : Cell) → take (end - begin + 1) (drop result buffer.new)
@@ -109,7 +130,7 @@ fn move_last(buffer: &mut [Cell], begin: usize, end: usize, at: usize) -> usize
     ensures most { result ≤ begin }
     ensures len { length buffer.new ≡ length buffer.old }
 {
-    if at < (end - begin) / 2 {
+    if begin > 0 && at < (end - begin) / 2 {
         move_down(buffer, begin, end, at);
         return begin - 1;
     }

@@ -1,5 +1,5 @@
 //! Epochs: the observations of one time.
-ghost use Rattle.std.specs.Prelude.{◌≡◌, ◌+◌, ◌-◌, ◌<◌, ◌≤◌, [], false, length, drop, insert, map};
+ghost use Rattle.std.specs.Prelude.{◌≡◌, ◌+◌, ◌-◌, ◌<◌, ◌≤◌, ◌++◌, [], false, length, drop, insert, map};
 ghost use Rattle.std.specs.Prelude.{slice_index_or, nat_lt, IfOk};
 ghost use Rattle.std.specs.List.{list_any};
 ghost use Rattle.gnss_obs.specs.declared.cell.Cell.{Cell};
@@ -8,12 +8,14 @@ ghost use Rattle.gnss_obs.specs.Values.{most_cells, most_written, planned_of, ru
 ghost use Rattle.gnss_obs.specs.HeardCells.{heard_cell, IsKey, IsObserved};
 ghost use Rattle.gnss_obs.specs.Kept.{is_held};
 ghost use Rattle.gnss_obs.specs.HeardCells.{same_key};
-ghost use Rattle.gnss_obs.specs.Kept.{more_at, insertion_index_in, AreInOrder};
+ghost use Rattle.gnss_obs.specs.Kept.{more_at, insertion_index_in, with_later, AreInOrder};
 ghost use Rattle.gnss_obs.specs.Order.{AreSorted, AreOrderedBy, sort_key, is_before, cell_sort_key, insertion_index};
 ghost use Rattle.gnss_obs.specs.Satellites.{satellites as satellites_in};
 
 use crate::cell::{Cell, StationValues};
 use crate::cells::Cells;
+use crate::gap::{insert_in_both, join};
+use crate::later::Later;
 use crate::plan::Plan;
 use crate::satellite::Sat;
 use crate::signal::Signal;
@@ -147,6 +149,60 @@ impl Epoch {
         }
     }
 
+    /// Returns what `place_of` does for the cells of the epoch followed by those of `later`.
+    #[inline(always)]
+    pub fn place_before(&self, plan: &Plan, x: &Cell, later: &Later) -> (usize, bool)
+        requires key { IsKey (heard_cell x.now) }
+        requires order { AreInOrder plan.now (with_later x.now.satellite.system self.now.epoch later.now) }
+        ensures at { result.0 ≡ insertion_index_in plan.now
+            (with_later x.now.satellite.system self.now.epoch later.now) (heard_cell x.now) }
+        ensures kept { result.1
+            ≡ is_held (cells_of x.now.satellite.system self.now.epoch ++ later.now) (heard_cell x.now) }
+        ensures within { result.0 ≤ length (cells_of x.now.satellite.system self.now.epoch ++ later.now) }
+    {
+        let system = x.satellite.system();
+        let key = sort_key(plan, system, x.satellite, x.signal);
+        let cells = self.cells(system);
+        let after = later.as_slice();
+        let at = index_in_both(cells, after, plan, key, system, later.passed());
+        (at, is_last_of_both(cells, after, at, x.satellite, x.signal))
+    }
+
+    /// Inserts a cell at an index among those of its system followed by those of `later`. Cells
+    /// move between the two, so that each moves seldom if the indices rise.
+    #[inline(always)]
+    pub fn insert_before(&mut self, at: usize, x: Cell, later: &mut Later)
+        requires observed { IsObserved (heard_cell x) }
+        requires indicator { x.lli < 4 }
+        requires held { AreHeld x.satellite.system (cells_of x.satellite.system self.old.epoch ++ later.old) }
+        requires room { length (cells_of x.satellite.system self.old.epoch ++ later.old) < most_cells }
+        requires within { at ≤ length (cells_of x.satellite.system self.old.epoch ++ later.old) }
+        requires order { AreSorted (insert (cells_of x.satellite.system self.old.epoch ++ later.old) at x) }
+        ensures epoch { with_later x.satellite.system self.new.epoch later.new
+            ≡ more_at x.satellite.system at (with_later x.satellite.system self.old.epoch later.old) x }
+        ensures held { AreHeld x.satellite.system (cells_of x.satellite.system self.new.epoch ++ later.new) }
+        ensures values { self.new.values ≡ self.old.values }
+    {
+        match x.satellite.system() {
+            System::Gps => insert_in_both(&mut self.gps, later, at, x),
+            System::Galileo => insert_in_both(&mut self.galileo, later, at, x),
+        }
+    }
+
+    /// Appends the cells of `later` to those of their system.
+    pub fn join(&mut self, system: System, later: &mut Later)
+        requires held { AreHeld system (cells_of system self.old.epoch ++ later.old) }
+        requires order { AreSorted (cells_of system self.old.epoch ++ later.old) }
+        ensures epoch { self.new
+            ≡ record { epoch = with_later system self.old.epoch later.old; values = self.old.values } }
+        ensures later { later.new ≡ [] }
+    {
+        match system {
+            System::Gps => join(&mut self.gps, later),
+            System::Galileo => join(&mut self.galileo, later),
+        }
+    }
+
     /// Returns the time of the epoch.
     pub fn time(&self) -> GpsTime
         ensures { result ≡ self.now.epoch.time }
@@ -261,6 +317,45 @@ fn insertion_index(cells: &[Cell], plan: &Plan, x: SortKey, system: System, like
     low
 }
 
+// Returns the number of cells in both lists whose sort key isn't greater. The likely index in the
+// second list is tried first.
+#[inline(always)]
+fn index_in_both(
+    cells: &[Cell],
+    later: &[Cell],
+    plan: &Plan,
+    x: SortKey,
+    system: System,
+    likely: usize,
+) -> usize
+    requires { AreOrderedBy (planned_of system plan.now) (cells.now ++ later.now) }
+    ensures index { result
+        ≡ insertion_index x (map (cell_sort_key (planned_of system plan.now)) (cells.now ++ later.now)) }
+    ensures bound { result ≤ length (cells.now ++ later.now) }
+{
+    let at = index_in(cells, plan, x, system);
+    if at < cells.len() {
+        return at;
+    }
+    if later.is_empty() {
+        return at;
+    }
+    at + insertion_index(later, plan, x, system, likely)
+}
+
+// Returns the number of cells whose sort key isn't greater. The last one is tried first.
+#[inline(always)]
+fn index_in(cells: &[Cell], plan: &Plan, x: SortKey, system: System) -> usize
+    requires { AreOrderedBy (planned_of system plan.now) cells.now }
+    ensures index { result ≡ insertion_index x (map (cell_sort_key (planned_of system plan.now)) cells.now) }
+    ensures bound { result ≤ length cells.now }
+{
+    if is_after_last(cells, plan, system, x) {
+        return cells.len();
+    }
+    insertion_index(cells, plan, x, system, 0)
+}
+
 // Returns a least and a largest number of cells whose sort key isn't greater. They are equal if
 // the cell goes to the likely index.
 #[inline(always)]
@@ -354,4 +449,26 @@ fn is_last(cells: &[Cell], at: usize, satellite: Sat, signal: Signal) -> bool
     is_same_system(satellite.system(), c.satellite.system())
         && satellite.id() == c.satellite.id()
         && signal.index() == c.signal.index()
+}
+
+// Returns whether the cell before an index in both lists is of the same satellite and signal.
+#[inline(always)]
+fn is_last_of_both(
+    cells: &[Cell],
+    later: &[Cell],
+    at: usize,
+    satellite: Sat,
+    signal: Signal,
+) -> bool
+    requires { at ≤ length (cells.now ++ later.now) }
+    ensures none { at ≡ 0 → result ≡ false }
+    ensures last { (d : Cell) → 0 < at → result ≡ same_key satellite signal
+        (slice_index_or (cells.now ++ later.now) (at - 1) d).satellite
+        (slice_index_or (cells.now ++ later.now) (at - 1) d).signal }
+{
+    let count = cells.len();
+    if at <= count {
+        return is_last(cells, at, satellite, signal);
+    }
+    is_last(later, at - count, satellite, signal)
 }

@@ -11,6 +11,7 @@ pub mod ClosedLemmas
 pub mod StandingLemmas
 pub mod ClockLemmas
 pub mod Rows
+pub mod BetweenLemmas
 pub mod EntryLemmas
 pub mod GatheringLemmas
 pub mod HandingLemmas

@@ -2,9 +2,10 @@
 ghost use Rattle.std.specs.Prelude.{[], ◌≡◌, ◌↔◌, ◌⊎◌, ◌+◌, ◌<◌, ◌≤◌, true, false, length, None, Some, is_some, IfOk};
 ghost use Rattle.std.specs.Prelude.{IfErr, IfSome, IsOk, Err, option_map, option_to_list, List, Option};
 ghost use Rattle.std.specs.Option.{ForSome};
-ghost use Rattle.rtcm_msg.specs.Entries.{IsEntry};
 ghost use Rattle.rtcm_msg.specs.Msm.{codes_of, most_pairs, week};
+ghost use Rattle.rtcm_msg.specs.Entries.{entries, IsEntry};
 ghost use Rattle.rtcm_msg.specs.Viewed.{viewed_message, lock_field};
+ghost use Rattle.rtcm_msg.specs.Views.{formed};
 ghost use Rattle.gnss_obs.specs.Weeks.{weeks};
 ghost use Rattle.obs_epoch.specs.Heard.{GatherSetup, Heard, heard, heard_summary, system_of};
 ghost use Rattle.gnss_obs.specs.Order.{AreSortedByPlan};
@@ -23,13 +24,17 @@ ghost use Rattle.obs_epoch.specs.Gather.{load, rested, outcome_in, hold, no_epoc
 ghost use Rattle.gnss_obs.specs.Kept.{AreInOrder};
 ghost use Rattle.obs_epoch.specs.Cells.{cells_counted, no_counts};
 
+use crate::between::take_between;
 use crate::clock::Clock;
 use crate::locks::{Locks, lli, note_cells};
 use crate::observe::{observe, system_of};
 use crate::taken::{CellCounts, Gather, Kind, Taken, no_counts};
-use gnss_obs::{Cell, Epoch, GpsTime, MOST_CELLS, Plan, PlanFault, StationValues, System, WEEKS};
-use rtcm_msg::{Entries, Entry, LockField, Message, Summary, View};
+use gnss_obs::{
+    Cell, Epoch, GpsTime, Later, MOST_CELLS, Plan, PlanFault, StationValues, System, WEEKS,
+};
+use rtcm_msg::{Entries, Entry, LockField, Message, MsmView, Summary, View};
 use std::alloc::Global;
+use std::boxed::Box;
 use std::marker::Model;
 
 /// Messages of a station, gathered into epochs.
@@ -40,6 +45,8 @@ pub struct Gatherer {
     locks: Locks,
     just_closed: bool,
     has_ended: bool,
+    // Only used while a message is processed.
+    later: Box<Later>,
 }
 
 impl Model for Gatherer {
@@ -115,7 +122,7 @@ impl Gatherer {
             (λ e. (e ≡ PlanFault.BadWeek) ⊎ ((e ≡ PlanFault.BadStation) ⊎ (e ≡ PlanFault.Memory))) }
     {
         match new_parts(alloc, start_week, station, initial) {
-            Ok((epoch, locks)) => {
+            Ok((epoch, locks, later)) => {
                 let clock = Clock::new(plan, start_week, station, gather, initial);
                 Ok(Gatherer {
                     clock,
@@ -123,6 +130,7 @@ impl Gatherer {
                     locks,
                     just_closed: false,
                     has_ended: false,
+                    later,
                 })
             }
             Err(fault) => {
@@ -287,7 +295,9 @@ impl Gatherer {
         }
     }
 
-    // Processes the cells of a message if it is accepted, and returns their outcomes.
+    // Processes the cells of a message if it is accepted, and returns their outcomes. It is not
+    // inlined, so that the loop over them is compiled by itself.
+    #[inline(never)]
     fn load(&mut self, is_kept: bool, before: Option<u64>, view: &View<'_>) -> CellCounts
         ensures { record { state = self.new; counts = result }
             ≡ loaded_if is_kept before self.old (heard (viewed_message view.now)) }
@@ -299,7 +309,11 @@ impl Gatherer {
         match view {
             View::Msm(m) => {
                 let system = system_of(m.is_galileo());
-                self.take_all(m.form().lock_field(), system, &mut m.entries())
+                if goes_after(self.epoch.cells(system), m) {
+                    self.take_all(m.form().lock_field(), system, &mut m.entries())
+                } else {
+                    self.take_more(m.form().lock_field(), system, m)
+                }
             }
             View::Station(_) | View::Other { number: _, set: _ } => no_counts(),
         }
@@ -354,6 +368,31 @@ impl Gatherer {
         counts
     }
 
+    // Processes the cells of a message that may go between the kept ones of its system.
+    #[inline(never)]
+    fn take_more(&mut self, field: LockField, system: System, m: &MsmView<'_>) -> CellCounts
+        requires form { field ≡ lock_field m.now.form }
+        ensures { record { state = self.new; counts = result }
+            ≡ load_entries field system (record { state = self.old; counts = no_counts }) (entries (formed m.now)) }
+    {
+        let mut n = no_counts();
+        // This call is for the proof: `take_between` requires what it ensures of the kept cells.
+        let _kept = self.epoch.cells(system);
+        self.later.clear();
+        take_between(
+            &self.clock,
+            &self.locks,
+            &mut self.epoch,
+            &mut self.later,
+            field,
+            system,
+            &mut m.entries(),
+            &mut n,
+        );
+        self.epoch.join(system, &mut self.later);
+        n
+    }
+
     // Processes a cell of a message, and counts its outcome.
     #[inline(always)]
     fn take_entry(&mut self, field: LockField, system: System, entry: &Entry, n: &mut CellCounts)
@@ -370,6 +409,17 @@ impl Gatherer {
     }
 }
 
+// Returns whether the satellites of a message come after those of these cells, so that its cells
+// are likely to go there.
+#[inline(always)]
+fn goes_after(cells: &[Cell], m: &MsmView<'_>) -> bool {
+    if cells.is_empty() {
+        return true;
+    }
+    let last = cells[cells.len() - 1].satellite.id();
+    last as u32 <= m.masks().satellites().leading_zeros()
+}
+
 // Returns an epoch without cells and empty lock records, if the start week and the station are
 // valid.
 fn new_parts(
@@ -377,7 +427,7 @@ fn new_parts(
     start_week: u32,
     station: Option<u16>,
     initial: StationValues,
-) -> Result<(Epoch, Locks), PlanFault>
+) -> Result<(Epoch, Locks, Box<Later>), PlanFault>
     ensures empty { IfOk result (λ r. (r.0 ≡ record { epoch = no_epoch; values = initial }) × (r.1 ≡ no_locks)) }
     ensures accepted { IsOk result → (start_week < weeks) × (is_no_station station ≡ false) }
     ensures week { (result ≡ Err PlanFault.BadWeek) ↔ (weeks ≤ start_week) }
@@ -395,8 +445,11 @@ fn new_parts(
     let Ok(locks) = Locks::new(alloc) else {
         return Err(PlanFault::Memory);
     };
+    let Ok(later) = Later::new(alloc) else {
+        return Err(PlanFault::Memory);
+    };
     match Epoch::new(alloc, initial) {
-        Ok(epoch) => Ok((epoch, locks)),
+        Ok(epoch) => Ok((epoch, locks, later)),
         Err(_) => Err(PlanFault::Memory),
     }
 }

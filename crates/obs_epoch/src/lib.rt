@@ -4,6 +4,7 @@
 //! is closed. [`SignalCounts`] count cells by signal.
 #![tactic(auto)]
 
+mod between;
 mod clock;
 mod gather;
 pub mod laws;
