@@ -7,11 +7,15 @@ use crate::cell::Cell;
 use crate::epoch::MOST_CELLS;
 use std::marker::Model;
 
-/// Length of the buffer: the first cell is put in the middle, so there is room at each end.
-const BUFFER_CELLS: usize = 512;
+/// Number of free places before the first cell.
+const FRONT_CELLS: usize = 64;
+
+/// Length of the buffer.
+const BUFFER_CELLS: usize = FRONT_CELLS + MOST_CELLS;
 
 /// A list of at most 256 cells, in a buffer with room at each end. A cell is inserted by moving
-/// those before it or those after it, whichever are fewer.
+/// those before it or those after it, whichever are fewer; those after it once there is no room
+/// before the first.
 #[derive(Drop)]
 pub struct Cells {
     buffer: [Cell; BUFFER_CELLS],
@@ -32,7 +36,7 @@ impl Model for Cells {
     ghost view = { λ c. take (c.end - c.begin) (drop c.begin c.buffer) };
 
     ghost invariant = { λ c.
-        (c.begin ≤ most_cells) × (c.begin ≤ c.end) × (c.end ≤ c.begin + most_cells) × (length c.buffer ≡ 512) };
+        (c.begin ≤ 64) × (c.begin ≤ c.end) × (c.end ≤ c.begin + most_cells) × (length c.buffer ≡ 320) };
 }
 
 impl Cells {
@@ -42,8 +46,8 @@ impl Cells {
     {
         Cells {
             buffer: [Cell::default(); BUFFER_CELLS],
-            begin: MOST_CELLS,
-            end: MOST_CELLS,
+            begin: FRONT_CELLS,
+            end: FRONT_CELLS,
             next: 0,
         }
     }
@@ -53,8 +57,8 @@ impl Cells {
     pub fn clear(&mut self)
         ensures { self.new ≡ [] }
     {
-        self.begin = MOST_CELLS;
-        self.end = MOST_CELLS;
+        self.begin = FRONT_CELLS;
+        self.end = FRONT_CELLS;
     }
 
     /// Returns the cells.
