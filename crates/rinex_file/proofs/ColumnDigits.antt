@@ -8,13 +8,13 @@ use Rattle.std.proofs.lemmas.List.{length-drop, length-take, length-take-le, len
 use Rattle.std.proofs.lemmas.List.Elements.{All-head, All-tail, All-append, All-push, All-take, All-replicate}
 use Rattle.rinex_file.specs.Words.{word, AreBelow}
 use Rattle.rinex_file.specs.Numbers.{padded}
-use Rattle.rinex_file.specs.Read.Row.{digit_in, low_in, has_sign, pairs_in, size_from, size_in, high_of, low_of, IsPoint}
+use Rattle.rinex_file.specs.Read.Row.{digit_in, low_in, has_sign, pairs_in, size_from, size_in, IsPoint}
 use Rattle.rinex_file.proofs.DigitWords.{eight, three_digits}
 
 -- ---- bits of each byte of a word
 
 -- a mask of each byte, and what it leaves of it
-pub masked : (f g : ℕ → ℕ) → ((b : ℕ) → f b < 256) → agree_below (λ b. eqb (bit_and b (f b)) (g b)) (λ b. true) 256 ≡ true → (bs : List ℕ) → AreBelow 256 bs
+masked : (f g : ℕ → ℕ) → ((b : ℕ) → f b < 256) → agree_below (λ b. eqb (bit_and b (f b)) (g b)) (λ b. true) 256 ≡ true → (bs : List ℕ) → AreBelow 256 bs
     → bit_and (word bs) (word (map f bs)) ≡ word (map g bs)
 masked f g small same [] h = refl
 masked f g small same (b ∷ bs) h =
@@ -23,7 +23,7 @@ masked f g small same (b ∷ bs) h =
     let here = eqb-true (bit_and b (f b)) (g b) (agree_below_at (λ k. eqb (bit_and k (f k)) (g k)) (λ k. true) 256 b same h.0) in
     ap₂ bit_and p q ∙ and_block 8 (word bs) (word (map f bs)) b (f b) h.0 (small b) ∙ ap₂ (λ m n. m * 256 + n) (masked f g small same bs h.1) here ∙ omega arith
 
-pub mask_word : (m : ℕ) (bs : List ℕ) → length bs ≡ 8 → word (map (λ b. m) bs) ≡ word (replicate 8 m)
+mask_word : (m : ℕ) (bs : List ℕ) → length bs ≡ 8 → word (map (λ b. m) bs) ≡ word (replicate 8 m)
 mask_word m bs l = eight (λ xs. word (map (λ b. m) xs) ≡ word (replicate 8 m)) (λ a b c d e f g h. refl) bs l
 
 times : (k : ℕ) (bs : List ℕ) → word (map (λ b. k * (b / 16 % 2)) bs) ≡ k * word (map (λ b. b / 16 % 2) bs)
@@ -31,7 +31,7 @@ times k [] = omega arith
 times k (b ∷ bs) = ap (λ n. k * (b / 16 % 2) + 256 * n) (times k bs) ∙ omega arith
 
 -- the columns that are digits
-pub digits_are : (bs : List ℕ) (m : ℕ) → length bs ≡ 8 → AreBelow 256 bs → m ≡ bit_and (word bs) 0x1010_1010_1010_1010 → bit_and (word bs) (m - m / 16) ≡ word (map digit_in bs)
+digits_are : (bs : List ℕ) (m : ℕ) → length bs ≡ 8 → AreBelow 256 bs → m ≡ bit_and (word bs) 0x1010_1010_1010_1010 → bit_and (word bs) (m - m / 16) ≡ word (map digit_in bs)
 digits_are bs m l h is =
     let t : ℕ = word (map (λ b. b / 16 % 2) bs) in
     let sixteen : m ≡ 16 * t = is ∙ ap (bit_and (word bs)) (sym (mask_word 16 bs l)) ∙ masked (λ b. 16) (λ b. 16 * (b / 16 % 2)) (λ b. omega arith) refl bs h ∙ times 16 bs in
@@ -46,7 +46,7 @@ lows_are bs l h = ap (bit_and (word bs)) (sym (mask_word 15 bs l)) ∙ masked (�
 pub digit_below : (b : ℕ) → digit_in b < 16
 digit_below b = elim (b / 16 % 2 == 1) as (λ t. (if t then b % 16 else 0) < 16) [ true ↦ omega arith | false ↦ omega arith ]
 
-pub pairs_word : (ds : List ℕ) → word ds * 10 + word (drop 1 ds) ≡ word (pairs_in ds)
+pairs_word : (ds : List ℕ) → word ds * 10 + word (drop 1 ds) ≡ word (pairs_in ds)
 pairs_word [] = refl
 pairs_word (d ∷ []) = omega arith
 pairs_word (d ∷ e ∷ ds) = let more = pairs_word (e ∷ ds) in omega (arith, more)
@@ -55,7 +55,14 @@ pub pairs_are : (bs : List ℕ) → length bs ≡ 8 → word (map digit_in bs) *
 pairs_are [] l = absurd (omega (arith, l))
 pairs_are (b ∷ bs) l = grind (arith, digit_below, pairs_word)
 
-pub high_eight : (a b c d e f g h : ℕ) → a < 16 → b < 16 → c < 16 → d < 16 → e < 16 → f < 16 → g < 16 → h < 16
+-- the numbers of the first eight and of the last columns
+abbrev pub high_of : ℕ → ℕ
+high_of p = p % 256 * 1_000_000 + p / 65_536 % 256 * 10_000 + p / 0x1_0000_0000 % 256 * 100 + p / 0x1_0000_0000_0000 % 256
+
+abbrev pub low_of : ℕ → ℕ
+low_of p = p % 256 * 1000 + p / 65_536 % 256 * 100 + p / 0x1_0000_0000 % 256
+
+high_eight : (a b c d e f g h : ℕ) → a < 16 → b < 16 → c < 16 → d < 16 → e < 16 → f < 16 → g < 16 → h < 16
     → high_of (word (pairs_in (a ∷ b ∷ c ∷ d ∷ e ∷ f ∷ g ∷ h ∷ []))) ≡ a * 10_000_000 + b * 1_000_000 + c * 100_000 + d * 10_000 + e * 1_000 + f * 100 + g * 10 + h
 high_eight a b c d e f g h sa sb sc sd se sf sg sh = grind arith
 
@@ -85,7 +92,7 @@ sign_at bs w l h is = grind (arith, digits_are, lows_are)
 
 -- ---- the size of a value
 
-pub low_eight : (a b d e f g h : ℕ) → a < 16 → b < 16 → d < 16 → e < 16 → f < 16 → g < 16 → h < 16
+low_eight : (a b d e f g h : ℕ) → a < 16 → b < 16 → d < 16 → e < 16 → f < 16 → g < 16 → h < 16
     → low_of (word (pairs_in (a ∷ b ∷ 0 ∷ d ∷ e ∷ f ∷ g ∷ h ∷ []))) ≡ a * 10_000 + b * 1_000 + d * 100 + e * 10 + f
 low_eight a b d e f g h sa sb sd se sf sg sh = grind arith
 

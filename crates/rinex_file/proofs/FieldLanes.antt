@@ -83,18 +83,6 @@ pub ordered_below : (ds : List ℕ) → length ds ≡ 16 → AreWithin LIMITS ds
 ordered_below ds size h =
     sixteen (λ xs. AreWithin LIMITS xs → AreBelow 10 (ordered xs)) (λ a b c d e f g h i j k l m n o p are. omega (arith, are)) ds size h
 
-pub twos_below : (k : ℕ) (xs : List ℕ) → length xs ≡ 2 * k → AreBelow 10 xs → AreBelow 100 (twos_of 10 xs)
-twos_below k [] l h = tt
-twos_below k (a ∷ []) l h = tt
-twos_below zero (a ∷ b ∷ xs) l h = absurd (omega (arith, l))
-twos_below (suc k) (a ∷ b ∷ xs) l h = (omega (arith, h.0, h.1.0), twos_below k xs (omega (arith, l)) h.1.1)
-
-pub fours_below : (k : ℕ) (xs : List ℕ) → length xs ≡ 2 * k → AreBelow 100 xs → AreBelow 10_000 (twos_of 100 xs)
-fours_below k [] l h = tt
-fours_below k (a ∷ []) l h = tt
-fours_below zero (a ∷ b ∷ xs) l h = absurd (omega (arith, l))
-fours_below (suc k) (a ∷ b ∷ xs) l h = (omega (arith, h.0, h.1.0), fours_below k xs (omega (arith, l)) h.1.1)
-
 -- the digits of a number
 digits_are : (s a b c d e f g h i j l m n y z : ℕ) → AreBelow 10 (a ∷ b ∷ c ∷ d ∷ e ∷ f ∷ g ∷ h ∷ i ∷ j ∷ l ∷ m ∷ n ∷ [])
     → s ≡ a * 1_000_000_000_000 + b * 100_000_000_000 + c * 10_000_000_000 + d * 1_000_000_000 + e * 100_000_000 + f * 10_000_000 + g * 1_000_000 + h * 100_000 + i * 10_000 + j * 1000 + l * 100 + m * 10 + n

@@ -31,13 +31,6 @@ abbrev pub pairs_in : List ℕ → List ℕ
 pairs_in [] = []
 pairs_in (d ∷ ds) = (d * 10 + first_in ds) ∷ pairs_in ds
 
--- the numbers of the first eight and of the last columns, from pairs of digits
-abbrev pub high_of : ℕ → ℕ
-high_of p = p % 256 * 1_000_000 + p / 65_536 % 256 * 10_000 + p / 0x1_0000_0000 % 256 * 100 + p / 0x1_0000_0000_0000 % 256
-
-abbrev pub low_of : ℕ → ℕ
-low_of p = p % 256 * 1000 + p / 65_536 % 256 * 100 + p / 0x1_0000_0000 % 256
-
 -- the digits in columns after a number
 abbrev pub size_from : ℕ → List ℕ → ℕ
 size_from n [] = n

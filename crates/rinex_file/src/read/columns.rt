@@ -1,8 +1,8 @@
 //! The value in the columns of a field, read by words of eight columns: the caller writes it again
 //! and compares.
-ghost use Rattle.std.specs.Prelude.{◌≡◌, ◌+◌, ◌*◌, ◌^◌, ◌≤◌, ◌<◌, List, ℕ, length, take, drop, map};
+ghost use Rattle.std.specs.Prelude.{◌≡◌, ◌+◌, ◌^◌, ◌≤◌, ◌<◌, List, ℕ, length, take, drop, map};
 ghost use Rattle.rinex_file.specs.Words.{word};
-ghost use Rattle.rinex_file.specs.Read.Row.{digit_in, has_sign, pairs_in, size_in, value_in, high_of, low_of, IsPoint};
+ghost use Rattle.rinex_file.specs.Read.Row.{digit_in, has_sign, pairs_in, size_in, value_in, IsPoint};
 
 use crate::read::numbers::signed;
 use gnss_obs::Thousandths;
@@ -33,8 +33,7 @@ fn digits_at(text: &[u8], first: usize) -> (u64, bool)
 }
 
 /// Returns the size of a value in thousandths, in columns with a point in the eleventh.
-pub(crate) fn size_in(first: u64, last: u64) -> u64
-    ensures number { result ≡ high_of first * 100_000 + low_of last }
+fn size_in(first: u64, last: u64) -> u64
     ensures size { (text : List ℕ) → IsPoint text → first ≡ word (pairs_in (map digit_in (take 8 text)))
         → last ≡ word (pairs_in (map digit_in (take 8 (drop 8 text)))) → result ≡ size_in text }
     ensures bound { result < 10 ^ 18 }

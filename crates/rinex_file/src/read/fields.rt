@@ -216,7 +216,7 @@ pub(crate) fn field_in(
     if blanks == 0xFFFF {
         return Some(None);
     }
-    // A row that isn't that of the columns only makes it seem that there is no value.
+    // With any other row than that of the columns no value is found.
     let empty = blanks.trailing_ones() as usize % 16;
     let row = if text[at + empty] == b'-' {
         empty + 16

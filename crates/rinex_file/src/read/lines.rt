@@ -16,7 +16,7 @@ use std::marker::Model;
 /// Size of a block, in bytes.
 const BLOCK_BYTES: usize = 65_536;
 
-/// Bytes that were read and are not yet part of a line.
+/// Bytes that were read ahead: the line that was read last, if it wasn't copied, and those after it.
 #[derive(Drop)]
 struct Block {
     bytes: [u8; BLOCK_BYTES],
@@ -97,7 +97,7 @@ impl Block {
         }
     }
 
-    /// Returns the first bytes.
+    /// Returns the first `count` bytes.
     fn front(&self, count: usize) -> &[u8]
         requires { count ≤ length self.now }
         ensures { result.now ≡ take count self.now }
@@ -105,7 +105,7 @@ impl Block {
         &self.bytes[self.at..self.at + count]
     }
 
-    /// Skips bytes.
+    /// Skips the first `count` bytes.
     fn skip(&mut self, count: usize)
         requires { count ≤ length self.old }
         ensures { self.new ≡ drop count self.old }
@@ -201,7 +201,8 @@ impl Lines {
         self.line().is_empty()
     }
 
-    /// Reads the bytes of the next line. They are copied only if they are not in one block.
+    /// Reads the bytes of the next line. They are copied only if they were not read
+    /// ahead whole.
     pub(crate) fn next<R: Read>(&mut self, reader: &mut Counted<R>) -> Found
         ensures taken { (Consumes (prepend_known self.old.ahead (R.remaining reader.old.inner))
             (prepend_known self.new.ahead (R.remaining reader.new.inner)) self.new.line)

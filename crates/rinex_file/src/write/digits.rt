@@ -23,7 +23,7 @@ fn pair(number: u32) -> u64
 
 /// Returns the number added to eight digits, of which `zeros` are leading zeros, to get their
 /// columns.
-pub(crate) fn front(zeros: usize) -> u64
+fn front(zeros: usize) -> u64
     requires { zeros ≤ 8 }
     ensures word { result ≡ front_word 8 zeros }
     ensures bound { result ≤ 0x3030_3030_3030_3030 }
