@@ -31,7 +31,7 @@ fn front(zeros: usize) -> u64
     word_at(b"        00000000", 8 - zeros)
 }
 
-/// Returns the eight digits of a number. Those of small values are below 100.
+/// Returns the eight digits of a number. Those below 100 take fewer steps.
 fn eight(number: u32) -> u64
     requires { number < 10 ^ 8 }
     ensures word { result ≡ word (eight_digits number) }

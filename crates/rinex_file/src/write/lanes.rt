@@ -44,7 +44,7 @@ fn fours(low: u32, high: u32) -> u16x8
     requires high { high < 10 ^ 8 }
     ensures { result ≡ low % 10_000 ∷ 0 ∷ low / 10_000 ∷ 0 ∷ high % 10_000 ∷ 0 ∷ high / 10_000 ∷ 0 ∷ [] }
 {
-    // The upper halves are known to be zero, so each product is one of 32 bits.
+    // The upper halves are known to be zero, so each product is one of 32 bits by 32 bits.
     let eights = u64x2::from_array([low as u64, high as u64]);
     // 3,518,437,209 is 2^45 / 10,000, rounded up.
     let upper = (eights * u64x2::splat(3_518_437_209)) >> u64x2::splat(45);
