@@ -1,6 +1,8 @@
 """Random streams with plausible observations, of any length: one epoch a second, with a message 1005 every ten."""
+import itertools
 import random
 from collections.abc import Iterator
+from dataclasses import dataclass, field
 
 from .messages import WEEK
 
@@ -12,6 +14,7 @@ SATELLITES = {"G": 12, "E": 10}
 SIGNALS = {"G": (2, 16, 23), "E": (2, 8, 15, 23)}
 PLAN = ["--gps", "1C,2L,5Q", "--galileo", "1C,6C,7Q,5Q"]
 IDS = {"G": 32, "E": 36}
+MOST_PAIRS = 64
 STATION = 2003
 POSITION = (40_278_817_000, 3_306_800_000, 49_199_122_000)
 CRC_TABLE = []
@@ -20,6 +23,25 @@ for _byte in range(256):
     for _ in range(8):
         _rest = _rest << 1 ^ (0x1864CFB if _rest & 0x800000 else 0)
     CRC_TABLE.append(_rest)
+
+
+@dataclass(frozen=True)
+class Form:
+    """What an epoch has of each system, and how it is split into messages.
+
+    A message has at most `per` satellites and `group` signals, and 64 pairs of them. The messages of a system rise by
+    groups, then by satellites, or fall, or are in a random order. Each is sent `times` times, with other values.
+    """
+
+    satellites: dict[str, int] = field(default_factory=lambda: SATELLITES)
+    signals: dict[str, tuple[int, ...]] = field(default_factory=lambda: SIGNALS)
+    per: int = 64
+    group: int = 32
+    order: str = "rise"
+    times: int = 1
+
+
+PLAIN = Form()
 
 
 def frame_of(message: bytes) -> bytes:
@@ -51,32 +73,53 @@ def lock_code(milliseconds: int) -> int:
     return min((milliseconds >> k) + 32 * k, 704)
 
 
+# The satellites and the signals of a message.
+Part = tuple[list[int], list[int]]
+
+
+def pieces(items: list[int], size: int) -> list[list[int]]:
+    return [items[n : n + size] for n in range(0, len(items), size)]
+
+
 class System:
     """The satellites of a system: each moves at its own speed, and loses a lock now and then."""
 
-    def __init__(self, system: str, draw: random.Random) -> None:
-        self.system, self.draw = system, draw
-        ids = sorted(draw.sample(range(1, IDS[system] + 1), SATELLITES[system]))
+    def __init__(self, system: str, form: Form, draw: random.Random) -> None:
+        self.system, self.form, self.draw = system, form, draw
+        ids = sorted(draw.sample(range(1, IDS[system] + 1), form.satellites[system]))
         low, high = RANGES[system]
         self.start = {satellite: draw.randrange(low, high) for satellite in ids}
         # m/s in units of 0.0001
         self.rate = {satellite: draw.randrange(-7_000_000, 7_000_000) for satellite in ids}
-        self.locked_at = {(satellite, signal): 0 for satellite in ids for signal in SIGNALS[system]}
+        self.locked_at = {(satellite, signal): 0 for satellite in ids for signal in form.signals[system]}
 
-    def message(self, time: int, more: int) -> bytes:
-        """Returns the MSM7 of a time in ms."""
+    def parts(self) -> list[Part]:
+        """Returns the satellites and signals of the messages of an epoch, in the order in which they are sent."""
+        form, ids, parts = self.form, list(self.start), []
+        for group in pieces(list(form.signals[self.system]), form.group):
+            parts += [(part, group) for part in pieces(ids, min(form.per, MOST_PAIRS // len(group)))]
+        parts *= form.times
+        if form.order == "fall":
+            parts.reverse()
+        elif form.order == "random":
+            self.draw.shuffle(parts)
+        return parts
+
+    def message(self, part: Part, time: int, more: int) -> bytes:
+        """Returns the MSM7 of these satellites and signals and a time in ms."""
+        satellites, signals = part
         draw, low, high = self.draw, *RANGES[self.system]
         ranges, rates = [], []
-        for satellite, start in self.start.items():
+        for satellite in satellites:
             moved = self.rate[satellite] * time * (1 << 31) // (10_000 * 299_792_458)
-            ranges.append(low + (start - low + moved) % (high - low))
+            ranges.append(low + (self.start[satellite] - low + moved) % (high - low))
             rates.append(self.rate[satellite])
         rough = [at + (1 << 20) >> 21 for at in ranges]
         speeds = [(rate + 5_000) // 10_000 for rate in rates]
         cells: list[list[tuple[int, int]]] = [[] for _ in range(6)]
-        for n, satellite in enumerate(self.start):
+        for n, satellite in enumerate(satellites):
             rest = ranges[n] - (rough[n] << 21)
-            for signal in SIGNALS[self.system]:
+            for signal in signals:
                 key, noise = (satellite, signal), draw.getrandbits(30)
                 if noise >> 13 == 77:
                     self.locked_at[key] = time
@@ -87,8 +130,8 @@ class System:
                 cells[4].append((10, 560 + (noise >> 13 & 255)))
                 cells[5].append((15, rates[n] - 10_000 * speeds[n] + (noise >> 21 & 7)))
         masks = [
-            (64, sum(1 << 64 - satellite for satellite in self.start)),
-            (32, sum(1 << 32 - signal for signal in SIGNALS[self.system])),
+            (64, sum(1 << 64 - satellite for satellite in satellites)),
+            (32, sum(1 << 32 - signal for signal in signals)),
             (len(cells[0]), -1),
         ]
         head = [(12, NUMBERS[self.system]), (12, STATION), (30, time % WEEK), (1, more), (18, 0), *masks]
@@ -97,23 +140,22 @@ class System:
         return packed([*head, *(field for row in (*rows, *cells) for field in row)])
 
 
-def frames(seed: int) -> Iterator[bytes]:
+def frames(seed: int, form: Form = PLAIN) -> Iterator[bytes]:
     """Returns the frames of an endless stream; the same seed gives the same frames."""
     draw = random.Random(seed)
-    systems = [System("G", draw), System("E", draw)]
-    epoch = 0
-    while True:
+    systems = [System("G", form, draw), System("E", form, draw)]
+    for epoch in itertools.count():
         if epoch % 10 == 0:
             yield frame_of(station_message())
-        yield frame_of(systems[0].message(1000 * epoch, 1))
-        yield frame_of(systems[1].message(1000 * epoch, 0))
-        epoch += 1
+        messages = [(system, part) for system in systems for part in system.parts()]
+        for place, (system, part) in enumerate(messages, 1):
+            yield frame_of(system.message(part, 1000 * epoch, place < len(messages)))
 
 
-def stream(size: int, seed: int = 1) -> bytes:
+def stream(size: int, seed: int = 1, form: Form = PLAIN) -> bytes:
     """Returns whole frames of at least this number of bytes."""
     made = bytearray()
-    for frame in frames(seed):
+    for frame in frames(seed, form):
         made += frame
         if len(made) >= size:
             return bytes(made)
