@@ -4,6 +4,7 @@
 # make install    builds it if it is missing, and installs program and manual page to PREFIX (/usr/local)
 # make read-back  builds it, and has RTKLIB read back the converted recordings
 # make test       runs the gate: documents, all proofs, must-fail mutants, tests, stored cases, fault injection (docs/GATE.md)
+# make bench      compares the instructions of the programs that make test left with stored ones; needs valgrind
 # make mutants    tries the mutants of crates/*/must-fail and crates/*/mutants over kept work, and their controls
 PROGRAM := crates/rtcm2rinex/out/rtcm2rinex
 SAMPLE := samples/zed-f9t-2019-10-17
@@ -15,7 +16,7 @@ PREFIX ?= /usr/local
 # The prover's allocator returns memory to the kernel that it soon needs again; keeping it makes checks faster.
 export MIMALLOC_PURGE_DELAY ?= -1
 
-.PHONY: build run install read-back test mutants
+.PHONY: build run install read-back test bench mutants
 
 build:
 	@tools/build
@@ -42,6 +43,9 @@ read-back: build
 
 test:
 	@tools/gate
+
+bench:
+	@bench/instructions
 
 # The crates first, lowest first, so that each edit is tried over what they kept.
 mutants:
