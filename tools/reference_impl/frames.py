@@ -1,5 +1,7 @@
 """The transport frame (RTCM 10403.3, section 4)."""
 
+from hashlib import shake_128
+
 GENERATOR = 0x1864CFB
 
 
@@ -17,6 +19,12 @@ def check_of(data: bytes) -> bytes:
 def frame_of(message: bytes) -> bytes:
     front = b"\xd3" + len(message).to_bytes(2, "big") + message
     return front + check_of(front)
+
+
+def frames_of_lengths(count: int) -> bytes:
+    """Returns that number of frames, of messages of 0, 1, 2 .. bytes, each the first of the same random bytes."""
+    random = shake_128(b"rtcm2rinex").digest(count)
+    return b"".join(frame_of(random[:length]) for length in range(count))
 
 
 def message_at(data: bytes, place: int) -> bytes | None:
