@@ -4,6 +4,7 @@
 //! the writer or the reader, and one makes each call.
 
 mod buffered;
+mod checks;
 mod windows;
 
 use arrayvec::ArrayVec;
