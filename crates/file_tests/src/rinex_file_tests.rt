@@ -2,6 +2,7 @@
 //!
 //! A test is a table of inputs and expected outcomes: only one function owns a gatherer, one a
 //! writer and one a file, since owners of these take long to prove.
+mod blocks;
 mod events;
 mod faults;
 mod fields;

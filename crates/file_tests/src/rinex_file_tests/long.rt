@@ -4,11 +4,8 @@ use super::reading::{Content, SMALL, is_read};
 use arrayvec::ArrayVec;
 use std::alloc::Global;
 
-/// The number of its epochs, one a second.
-const EPOCHS: usize = 300;
-
 /// The text of the file.
-type Long = ArrayVec<u8, 32_768>;
+pub type Long = ArrayVec<u8, 163_840>;
 
 fn put(text: &mut Long, part: &[u8]) {
     let _ = text.try_extend_from_slice(part);
@@ -41,12 +38,18 @@ static CONTENT: Content = Content {
     ..SMALL
 };
 
-fn is_long_read(alloc: Global) -> bool {
+/// The text of a file of this number of epochs, one a second.
+pub fn long_text(epochs: usize) -> Long {
     let mut text = Long::new();
     put(&mut text, text_of(Part::Header).as_bytes());
-    for epoch in 0..EPOCHS {
+    for epoch in 0..epochs {
         put_epoch(&mut text, epoch + 1);
     }
+    text
+}
+
+fn is_long_read(alloc: Global) -> bool {
+    let text = long_text(300);
     let is_read = is_read(alloc, text.as_slice(), &CONTENT);
     drop(text);
     is_read
