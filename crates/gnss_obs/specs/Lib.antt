@@ -13,4 +13,6 @@ pub mod SignalLists
 pub mod HeardCells
 pub mod Order
 pub mod Kept
+pub mod Arriving
+pub mod Stages
 pub mod GatheredEpochs

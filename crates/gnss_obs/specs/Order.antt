@@ -1,16 +1,19 @@
 -- The order of kept cells: by satellite, then by the order of the plan.
-use Rattle.std.specs.Prelude.{ℕ, suc, ◌≡◌, ◌==◌, ◌&&◌, ◌||◌, ⊤, Bool, true, nat_lt, List, [], ◌∷◌, fold, map}
+use Rattle.std.specs.Prelude.{ℕ, ◌≡◌, ◌==◌, ◌&&◌, ◌||◌, ⊤, Bool, true, nat_lt, List, [], ◌∷◌, fold, map}
 use Rattle.std.specs.Prelude.{if◌then◌else◌}
 use Rattle.std.specs.Option.{option_map_or}
 use Rattle.std.specs.List.{AllByRecursion}
-use Rattle.gnss_obs.specs.declared.system.System.{System}
 use Rattle.gnss_obs.specs.Satellites.{Satellite}
 use Rattle.gnss_obs.specs.Signals.{SignalAt}
 use Rattle.gnss_obs.specs.declared.cell.Cell.{Cell}
-use Rattle.gnss_obs.specs.declared.epoch.SortKey.{SortKey}
-use Rattle.gnss_obs.specs.Values.{PlanValue, EpochValue, AreHeld}
+use Rattle.gnss_obs.specs.Values.{PlanValue, EpochValue}
 use Rattle.gnss_obs.specs.Plans.{place_in}
 use Rattle.gnss_obs.specs.HeardCells.{HeardCell}
+
+-- A sort key: the number of a satellite, and the index of a signal in the plan.
+pub record SortKey : Type 0 where
+  pub satellite : ℕ
+  pub place : ℕ
 
 -- The sort key of a satellite and signal: the satellite's number, and the index of the signal among the planned ones.
 abbrev pub sort_key : List ℕ → Satellite → SignalAt → SortKey
@@ -30,11 +33,6 @@ SortKeysRise (s ∷ ss) = AllByRecursion (λ t. is_before s t ≡ true) ss × So
 abbrev pub insert_by : {X : Type 0} → (X → SortKey) → X → List X → List X
 insert_by at x [] = x ∷ []
 insert_by at x (y ∷ ys) = if is_before (at x) (at y) then x ∷ y ∷ ys else y ∷ insert_by at x ys
-
--- The number of sort keys before the first one that is greater.
-abbrev pub insertion_index : SortKey → List SortKey → ℕ
-insertion_index s [] = 0
-insertion_index s (t ∷ ts) = if is_before s t then 0 else suc (insertion_index s ts)
 
 -- ---- cells
 
@@ -59,7 +57,3 @@ AreSortedByPlan p e = AreOrderedBy p.gps e.gps × AreOrderedBy p.galileo e.galil
 -- Cells in the order of satellites, then in some order of signals.
 abbrev pub AreSorted : List Cell → Type 0
 AreSorted cells = (planned : List ℕ) × AreOrderedBy planned cells
-
--- The kept cells of a system in their order.
-abbrev pub AreKept : System → List Cell → Type 0
-AreKept system cells = AreHeld system cells × AreSorted cells

@@ -5,16 +5,17 @@
 //! to and from a [`Civil`] date. An [`Epoch`] has the [`Cell`]s of one time in order.
 #![tactic(auto)]
 
+mod arrivals;
 mod cell;
 mod cells;
 mod civil;
 mod epoch;
 mod fault;
-mod gap;
-mod later;
 pub mod laws;
 mod lock;
 mod observables;
+mod order;
+mod pending;
 mod plan;
 mod rounding;
 mod satellite;
@@ -25,13 +26,14 @@ mod tables;
 mod thousandths;
 mod time;
 
+pub use arrivals::Added;
 pub use cell::{Cell, StationValues};
 pub use civil::Civil;
 pub use epoch::{Epoch, MOST_CELLS, end_of, is_written};
 pub use fault::PlanFault;
-pub use later::Later;
 pub use lock::{Lock, is_lost};
 pub use observables::{doppler, phase, pseudorange, strength, strength_digit};
+pub use pending::Pending;
 pub use plan::Plan;
 pub use satellite::Sat;
 pub use signal::Signal;

@@ -11,7 +11,6 @@ pub mod ClosedLemmas
 pub mod StandingLemmas
 pub mod ClockLemmas
 pub mod Rows
-pub mod BetweenLemmas
 pub mod EntryLemmas
 pub mod GatheringLemmas
 pub mod HandingLemmas

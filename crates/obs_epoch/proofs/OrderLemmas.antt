@@ -1,14 +1,13 @@
 -- Cells in order, and one more cell.
-use Rattle.std.proofs.Common.{◌≡◌, ℕ, suc, ◌+◌, Bool, true, false, ◌||◌, List, [], ◌∷◌, ◌++◌, map, refl, sym, ap, ◌∙◌, subst, arith, length, insert}
+use Rattle.std.proofs.Common.{◌≡◌, ℕ, suc, ◌+◌, Bool, true, false, ◌||◌, List, [], ◌∷◌, ◌++◌, map, refl, sym, ap, ◌∙◌, subst, arith, length}
 use Rattle.std.specs.Prelude.{if◌then◌else◌, fold}
 use Rattle.std.specs.List.{list_any, AllByRecursion, IsDistinct}
 use Rattle.std.proofs.lemmas.Map.Keys.{IsDistinct-head, IsDistinct-tail, IsDistinct-cons}
-use Rattle.gnss_obs.specs.declared.epoch.SortKey.{SortKey}
 use Rattle.gnss_obs.proofs.OrderLemmas.{Before, before_all}
 use Rattle.obs_epoch.specs.Cells.{is_among}
 use Rattle.gnss_obs.specs.HeardCells.{has_same_key}
 use Rattle.obs_epoch.proofs.CellsLemmas.{same_key_laws}
-use Rattle.gnss_obs.specs.Order.{is_before, SortKeysRise, insert_by, insertion_index, sort_key_of, sorted}
+use Rattle.gnss_obs.specs.Order.{SortKey, is_before, SortKeysRise, insert_by, sort_key_of, sorted}
 use Rattle.gnss_obs.specs.HeardCells.{HeardCell}
 use Rattle.std.proofs.lemmas.Grind.{common_steps}
 
@@ -36,11 +35,6 @@ pub map-insert_by : {X Y : Type 0} (f : X → Y) (at : X → SortKey) (to : Y �
 map-insert_by f at to same x [] = refl
 map-insert_by f at to same x (y ∷ ys) = grind (arith, common_steps, map-insert_by f at to same x ys)
 
--- The item is inserted at its index.
-pub insert_at_index : {X : Type 0} (at : X → SortKey) (x : X) (ys : List X) → insert ys (insertion_index (at x) (map at ys)) x ≡ insert_by at x ys
-insert_at_index at x [] = refl
-insert_at_index at x (y ∷ ys) = grind (arith, common_steps, insert_at_index at x ys)
-
 pub rise-insert_by : {X : Type 0} (at : X → SortKey) (x : X) (ys : List X) → SortKeysRise (map at ys) → AllByRecursion (λ y. at x ≡ at y → ⊥) ys → SortKeysRise (map at (insert_by at x ys))
 rise-insert_by at x [] r other = (tt, tt)
 rise-insert_by at x (y ∷ ys) r other = by (is_before (at x) (at y)) refl (rise-insert_by at x ys r.1 other.1) where
@@ -59,12 +53,10 @@ sorted-push planned xs x = grind (arith, common_steps)
 abbrev onto : List ℕ → List HeardCell → List HeardCell → List HeardCell
 onto planned ys xs = fold (λ zs z. insert_by (sort_key_of planned) z zs) ys xs
 
-among-onto : (planned : List ℕ) (key : HeardCell) (ys xs : List HeardCell) → is_among (onto planned ys xs) key ≡ (is_among ys key || is_among xs key)
-among-onto planned key ys [] = grind (arith, common_steps)
-among-onto planned key ys (x ∷ xs) =
-    among-onto planned key (insert_by (sort_key_of planned) x ys) xs
-    ∙ ap (λ b. b || is_among xs key) (any-insert_by (has_same_key key) (sort_key_of planned) x ys)
-    ∙ by (has_same_key key x) (is_among ys key) (is_among xs key) where
+pub any-fold : {X : Type 0} (p : X → Bool) (at : X → SortKey) (ys xs : List X) → list_any p (fold (λ zs z. insert_by at z zs) ys xs) ≡ (list_any p ys || list_any p xs)
+any-fold p at ys [] = grind (arith, common_steps)
+any-fold p at ys (x ∷ xs) =
+    any-fold p at (insert_by at x ys) xs ∙ ap (λ b. b || list_any p xs) (any-insert_by p at x ys) ∙ by (p x) (list_any p ys) (list_any p xs) where
       by : (a b c : Bool) → ((a || b) || c) ≡ (b || (a || c))
       by true true c = refl
       by true false c = refl
@@ -72,14 +64,14 @@ among-onto planned key ys (x ∷ xs) =
       by false false c = refl
 
 pub among-sorted : (planned : List ℕ) (xs : List HeardCell) (key : HeardCell) → is_among (sorted planned xs) key ≡ is_among xs key
-among-sorted planned xs key = among-onto planned key [] xs
+among-sorted planned xs key = any-fold (has_same_key key) (sort_key_of planned) [] xs
 
-length-onto : (planned : List ℕ) (ys xs : List HeardCell) → length (onto planned ys xs) ≡ length ys + length xs
-length-onto planned ys [] = omega arith
-length-onto planned ys (x ∷ xs) = grind (arith, common_steps, length-insert_by, length-onto planned (insert_by (sort_key_of planned) x ys) xs)
+pub length-fold : {X : Type 0} (at : X → SortKey) (ys xs : List X) → length (fold (λ zs z. insert_by at z zs) ys xs) ≡ length ys + length xs
+length-fold at ys [] = omega arith
+length-fold at ys (x ∷ xs) = let a = length-fold at (insert_by at x ys) xs in let b = length-insert_by at x ys in omega (arith, a, b)
 
 pub length-sorted : (planned : List ℕ) (xs : List HeardCell) → length (sorted planned xs) ≡ length xs
-length-sorted planned xs = let is = length-onto planned [] xs in omega (arith, is)
+length-sorted planned xs = let is = length-fold (sort_key_of planned) [] xs in omega (arith, is)
 
 all-onto : (P : HeardCell → Type 0) (planned : List ℕ) (ys xs : List HeardCell) → AllByRecursion P ys → AllByRecursion P xs → AllByRecursion P (onto planned ys xs)
 all-onto P planned ys [] h k = h

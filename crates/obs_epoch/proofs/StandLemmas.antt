@@ -1,5 +1,5 @@
 -- The order of an epoch's cells, and one more cell.
-use Rattle.std.proofs.Common.{◌≡◌, ℕ, ◌<◌, ◌==◌, Bool, true, false, ◌||◌, List, [], ◌∷◌, map, refl, sym, ap, ap₂, ◌∙◌, subst, arith, length, get_or, insert, Option, Some, None, is_some, nat_le}
+use Rattle.std.proofs.Common.{◌≡◌, ℕ, ◌==◌, Bool, true, false, ◌||◌, List, [], ◌∷◌, ◌++◌, refl, sym, ap, ap₂, ◌∙◌, subst, arith, length, get_or, Option, Some, None, is_some}
 use Rattle.std.specs.Prelude.{if◌then◌else◌, position}
 use Rattle.std.specs.Option.{option_map_or}
 use Rattle.std.specs.List.{AllByRecursion}
@@ -7,22 +7,31 @@ use Rattle.std.proofs.lemmas.List.Quantifiers.{position-Some}
 use Rattle.gnss_obs.specs.declared.system.System.{System}
 use Rattle.gnss_obs.specs.declared.system.System.TheVariants.{Gps, Galileo}
 use Rattle.gnss_obs.specs.declared.cell.Cell.{Cell}
-use Rattle.gnss_obs.specs.declared.epoch.SortKey.{SortKey}
-use Rattle.gnss_obs.specs.Values.{EpochValue, PlanValue, planned_of, cells_of, most_cells}
+use Rattle.gnss_obs.specs.Values.{EpochValue, PlanValue, planned_of, cells_of}
+use Rattle.gnss_obs.specs.Stages.{PendingValue}
+use Rattle.gnss_obs.proofs.SortLemmas.{sorted_again}
+use Rattle.obs_epoch.specs.Held.{note_all}
+use Rattle.obs_epoch.specs.declared.locks.KnownLock.{KnownLock}
 use Rattle.gnss_obs.specs.Plans.{place_in}
 use Rattle.obs_epoch.specs.Cells.{is_planned}
 use Rattle.gnss_obs.specs.HeardCells.{has_same_key}
 use Rattle.obs_epoch.specs.Heard.{GatherSetup, Heard}
 use Rattle.gnss_obs.specs.HeardCells.{IsKey, HeardCell, kept_cell, heard_cell}
-use Rattle.gnss_obs.specs.Order.{insert_by, insertion_index, sort_key_of, cell_sort_key, AreOrderedBy, AreSorted}
-use Rattle.obs_epoch.specs.Held.{Crowded, Kept, Repeated, lookup}
+use Rattle.gnss_obs.specs.Order.{SortKey, insert_by, sort_key_of, cell_sort_key}
+use Rattle.obs_epoch.specs.Held.{Crowded, Kept, Repeated, lookup, outcome_of_added}
+use Rattle.obs_epoch.specs.Epochs.{values_by_message}
+use Rattle.gnss_obs.specs.declared.cell.StationValues.{StationValues}
 use Rattle.gnss_obs.specs.Kept.{is_held}
-use Rattle.obs_epoch.specs.Gather.{Gathered, with_more_in, with_more, outcome_in, hold, hold_by}
-use Rattle.gnss_obs.specs.Kept.{more_at, insertion_index_in, AreInPlanOrder, AreInOrder}
+use Rattle.obs_epoch.specs.Gather.{Gathered, with_more_in, with_more, outcome_in, hold, hold_by, just_closed_as, noted, rested, with_time, IsPending}
+use Rattle.gnss_obs.specs.Kept.{AreInPlanOrder, AreInOrder}
+use Rattle.gnss_obs.specs.declared.arrivals.Added.{Added}
+use Rattle.gnss_obs.specs.declared.arrivals.Added.TheVariants as added
+use Rattle.gnss_obs.specs.Arriving.{IsAdded, cells_after, epoch_with, outcome_by, sorted_cells, sorted_epoch}
+use Rattle.std.proofs.lemmas.List.Sums.{fold-append}
 use Rattle.obs_epoch.specs.Clock.{State}
 use Rattle.obs_epoch.specs.Step.{step_by}
 use Rattle.obs_epoch.specs.Loss.{lli_with}
-use Rattle.obs_epoch.proofs.OrderLemmas.{insert_at_index, rise-insert_by, all-insert_by}
+use Rattle.obs_epoch.proofs.OrderLemmas.{rise-insert_by, all-insert_by, any-fold, length-fold}
 use Rattle.std.proofs.lemmas.Grind.{common_steps}
 
 -- ---- one more cell
@@ -70,40 +79,151 @@ pub order_more : (p : PlanValue) (e : EpochValue) (m : Cell) → is_some (place_
     → is_held (cells_of m.satellite.system e) (heard_cell m) ≡ false → AreInOrder p (with_more p e m)
 order_more p e m h o none = grind (arith, common_steps, stand_more)
 
--- The cell is inserted at its index.
-pub more_is : (p : PlanValue) (e : EpochValue) (m : Cell) → more_at m.satellite.system (insertion_index_in p e (heard_cell m)) e m ≡ with_more p e m
-more_is p e m = by m.satellite.system where
-  by : (system : System) → more_at system (insertion_index (sort_key_of (planned_of system p) (heard_cell m)) (map (cell_sort_key (planned_of system p)) (cells_of system e))) e m ≡ with_more_in system p e m
-  by Gps = ap (λ l. record e { gps = l }) (insert_at_index (cell_sort_key p.gps) m e.gps)
-  by Galileo = ap (λ l. record e { galileo = l }) (insert_at_index (cell_sort_key p.galileo) m e.galileo)
-
-pub sorted_more : (p : PlanValue) (e : EpochValue) (m : Cell) → AreInOrder p (with_more p e m)
-    → AreSorted (insert (cells_of m.satellite.system e) (insertion_index_in p e (heard_cell m)) m)
-sorted_more p e m o = by m.satellite.system o where
-  by : (system : System) → AreInOrder p (with_more_in system p e m)
-      → AreSorted (insert (cells_of system e) (insertion_index (sort_key_of (planned_of system p) (heard_cell m)) (map (cell_sort_key (planned_of system p)) (cells_of system e))) m)
-  by Gps o = (p.gps, subst (AreOrderedBy p.gps) (sym (insert_at_index (cell_sort_key p.gps) m e.gps)) o.gps.rise)
-  by Galileo o = (p.galileo, subst (AreOrderedBy p.galileo) (sym (insert_at_index (cell_sort_key p.galileo) m e.galileo)) o.galileo.rise)
-
 -- A listed cell of a signal that has an index in the plan is planned.
 pub planned_is : (s : GatherSetup) (x : HeardCell) → IsKey x → is_some (place_in x.signal (planned_of x.satellite.system s.plan)) ≡ true → is_planned s x ≡ true
 planned_is s x key h = grind (arith, common_steps)
 
--- The outcome of a planned cell.
-pub outcome_by : (g : Gathered) (x : HeardCell) (held full : Bool) → is_planned g.clock.setup x ≡ true → is_held (cells_of x.satellite.system g.epoch) x ≡ held
-    → nat_le most_cells (length (cells_of x.satellite.system g.epoch)) ≡ full → outcome_in g x ≡ (if held then Repeated else (if full then Crowded else Kept))
-outcome_by g x held full planned h f = grind (arith, common_steps)
+-- ---- cells as they arrive
 
--- A cell that is kept is inserted in the kept epoch.
-pub kept_is : (g : Gathered) (x : HeardCell) (at lli : ℕ) (e : EpochValue) → outcome_in g x ≡ Kept → lli ≡ lli_with g.epoch.time x (lookup g.locks x)
-    → at ≡ insertion_index_in g.clock.setup.plan g.epoch x → e ≡ more_at x.satellite.system at g.epoch (kept_cell x lli) → record g { epoch = e } ≡ hold g x
-kept_is g x at lli e outcome mark_is at_is e_is =
-    let m : Cell = kept_cell x (lli_with g.epoch.time x (lookup g.locks x)) in
-    ap (λ v. record g { epoch = v }) (e_is ∙ ap₂ (λ i n. more_at x.satellite.system i g.epoch (kept_cell x n)) at_is mark_is ∙ more_is g.clock.setup.plan g.epoch m)
-    ∙ ap (λ k. hold_by k g x) (sym outcome)
+cells_sorted : (system : System) (p : PlanValue) (e : EpochValue) → cells_of system (sorted_epoch p e) ≡ sorted_cells (planned_of system p) (cells_of system e)
+cells_sorted Gps p e = refl
+cells_sorted Galileo p e = refl
+
+held_any : (system : System) (p : PlanValue) (e : EpochValue) (x : HeardCell) → is_held (cells_of system (sorted_epoch p e)) x ≡ is_held (cells_of system e) x
+held_any system p e x =
+    ap (λ (l : List Cell). is_held l x) (cells_sorted system p e)
+    ∙ any-fold (λ (m : Cell). has_same_key x (heard_cell m)) (cell_sort_key (planned_of system p)) [] (cells_of system e)
+
+pub count_same : (system : System) (p : PlanValue) (e : EpochValue) → length (cells_of system (sorted_epoch p e)) ≡ length (cells_of system e)
+count_same system p e =
+    let is = length-fold (cell_sort_key (planned_of system p)) [] (cells_of system e) in
+    ap (λ (l : List Cell). length l) (cells_sorted system p e) ∙ omega (arith, is)
+
+outcome_same : (a b : Bool) → (if a then Repeated else (if b then Crowded else Kept)) ≡ outcome_of_added (if a then added.Repeated else (if b then added.Crowded else added.Kept))
+outcome_same true b = refl
+outcome_same false true = refl
+outcome_same false false = refl
+
+-- The outcome of a planned cell.
+outcome_added : (g : Gathered) (p : PlanValue) (e : EpochValue) (x : HeardCell) → g.epoch ≡ sorted_epoch p e → is_planned g.clock.setup x ≡ true
+    → outcome_in g x ≡ outcome_of_added (outcome_by (is_held (cells_of x.satellite.system e) x) (length (cells_of x.satellite.system e)))
+outcome_added g p e x is planned =
+    let held = ap (λ (v : EpochValue). is_held (cells_of x.satellite.system v) x) is ∙ held_any x.satellite.system p e x in
+    let count = ap (λ (v : EpochValue). length (cells_of x.satellite.system v)) is ∙ count_same x.satellite.system p e in
+    by _ _ planned held count where
+      by : (a : Bool) (n : ℕ) → is_planned g.clock.setup x ≡ true → is_held (cells_of x.satellite.system g.epoch) x ≡ a → length (cells_of x.satellite.system g.epoch) ≡ n
+          → outcome_in g x ≡ outcome_of_added (outcome_by a n)
+      by a n h e f = grind (arith, common_steps, outcome_same, h, e, f)
+
+-- Sorting a list with one more cell is inserting it into the sorted one.
+sorted_push : (system : System) (p : PlanValue) (e : EpochValue) (m : Cell) → sorted_epoch p (epoch_with system e (cells_of system e ++ m ∷ [])) ≡ with_more_in system p (sorted_epoch p e) m
+sorted_push Gps p e m = ap (λ l. record { time = e.time; gps = l; galileo = sorted_cells p.galileo e.galileo }) (fold-append (λ ys c. insert_by (cell_sort_key p.gps) c ys) [] e.gps (m ∷ []))
+sorted_push Galileo p e m = ap (λ l. record { time = e.time; gps = sorted_cells p.gps e.gps; galileo = l }) (fold-append (λ ys c. insert_by (cell_sort_key p.galileo) c ys) [] e.galileo (m ∷ []))
+
+with_same : (system : System) (e : EpochValue) → epoch_with system e (cells_of system e) ≡ e
+with_same Gps e = refl
+with_same Galileo e = refl
+
+-- The value after a cell that arrives, by its outcome.
+abbrev epoch_after : Added → PlanValue → EpochValue → Cell → EpochValue
+epoch_after added.Kept p e m = with_more p e m
+epoch_after _ p e m = e
+
+pub sorted_after : (k : Added) (p : PlanValue) (e : EpochValue) (m : Cell)
+    → sorted_epoch p (epoch_with m.satellite.system e (cells_after k (cells_of m.satellite.system e) m)) ≡ epoch_after k p (sorted_epoch p e) m
+sorted_after added.Kept p e m = sorted_push m.satellite.system p e m
+sorted_after added.Repeated p e m = ap (sorted_epoch p) (with_same m.satellite.system e)
+sorted_after added.Crowded p e m = ap (sorted_epoch p) (with_same m.satellite.system e)
+
+hold_after : (k : Added) (g : Gathered) (x : HeardCell) (lli : ℕ) → lli ≡ lli_with g.epoch.time x (lookup g.locks x)
+    → record g { epoch = epoch_after k g.clock.setup.plan g.epoch (kept_cell x lli) } ≡ hold_by (outcome_of_added k) g x
+hold_after added.Kept g x lli e = ap (λ n. record g { epoch = with_more g.clock.setup.plan g.epoch (kept_cell x n) }) e
+hold_after added.Repeated g x lli e = refl
+hold_after added.Crowded g x lli e = refl
+
+-- A cell that arrives is held.
+pub held_is : (g : Gathered) (e new : EpochValue) (x : HeardCell) (lli : ℕ) (k : Added) → g.epoch ≡ sorted_epoch g.clock.setup.plan e → is_planned g.clock.setup x ≡ true
+    → lli ≡ lli_with g.epoch.time x (lookup g.locks x) → IsAdded e (kept_cell x lli) k new → record g { epoch = sorted_epoch g.clock.setup.plan new } ≡ hold g x
+held_is g e new x lli k is planned mark added =
+    let p = g.clock.setup.plan in
+    ap (λ v. record g { epoch = v }) (ap (sorted_epoch p) added.epoch ∙ sorted_after k p e (kept_cell x lli) ∙ ap (λ v. epoch_after k p v (kept_cell x lli)) (sym is))
+    ∙ hold_after k g x lli mark ∙ ap (λ o. hold_by o g x) (ap outcome_of_added added.outcome ∙ sym (outcome_added g p e x is planned))
+
+pub outcome_is : (g : Gathered) (e new : EpochValue) (x : HeardCell) (lli : ℕ) (k : Added) → g.epoch ≡ sorted_epoch g.clock.setup.plan e → is_planned g.clock.setup x ≡ true
+    → IsAdded e (kept_cell x lli) k new → outcome_of_added k ≡ outcome_in g x
+outcome_is g e new x lli k is planned added = ap outcome_of_added added.outcome ∙ sym (outcome_added g g.clock.setup.plan e x is planned)
+
+order_after : (k : Added) (p : PlanValue) (e : EpochValue) (m : Cell) → is_some (place_in m.signal (planned_of m.satellite.system p)) ≡ true → AreInOrder p e
+    → (k ≡ added.Kept → is_held (cells_of m.satellite.system e) (heard_cell m) ≡ false) → AreInOrder p (epoch_after k p e m)
+order_after added.Kept p e m h o none = order_more p e m h o (none refl)
+order_after added.Repeated p e m h o none = o
+order_after added.Crowded p e m h o none = o
+
+kept_new : (a : Bool) (n : ℕ) → outcome_by a n ≡ added.Kept → a ≡ false
+kept_new true n e = cc
+kept_new false n e = refl
+
+-- The cells are still in order, once sorted.
+pub order_added : (p : PlanValue) (e new : EpochValue) (m : Cell) (k : Added) → is_some (place_in m.signal (planned_of m.satellite.system p)) ≡ true → AreInOrder p (sorted_epoch p e)
+    → IsAdded e m k new → AreInOrder p (sorted_epoch p new)
+order_added p e new m k h o added =
+    subst (AreInOrder p) (sym (ap (sorted_epoch p) added.epoch ∙ sorted_after k p e m))
+    (order_after k p (sorted_epoch p e) m h o
+    (λ kept. held_any m.satellite.system p e (heard_cell m) ∙ kept_new (is_held (cells_of m.satellite.system e) (heard_cell m)) (length (cells_of m.satellite.system e)) (sym added.outcome ∙ kept)))
 
 pub step_setup : (g : State) (m : Heard) → (step_by g m).setup ≡ g.setup
 step_setup g m = grind (arith, common_steps)
 
-pub not_full : (n : ℕ) → n < most_cells → nat_le most_cells n ≡ false
-not_full n h = grind (arith, h)
+-- ---- the value of the gatherer
+
+pub never_both : (b : Bool) → b ≡ false → b ≡ true → ⊥
+never_both b e f = cc
+
+abbrev parts : Gathered → State → EpochValue → StationValues → Gathered
+parts g clock e values = record { clock = clock; epoch = e; locks = g.locks; values = values; just_closed = false; has_ended = g.has_ended }
+
+-- The value after the time and the station values of a message.
+pub heard_is : (g : Gathered) (e new : EpochValue) (clock : State) (v values : StationValues) (m : Heard) → g.epoch ≡ sorted_epoch g.clock.setup.plan e → clock ≡ step_by g.clock m → new ≡ e
+    → v ≡ values → values ≡ values_by_message g.clock.setup g.values m
+    → record { clock = clock; epoch = sorted_epoch clock.setup.plan new; locks = g.locks; values = v; just_closed = false; has_ended = g.has_ended } ≡ rested (with_time g m)
+heard_is g e new clock v values m is step same given by_m =
+    ap (λ (c : State). parts g c (sorted_epoch c.setup.plan new) v) step
+    ∙ ap₂ (λ f u. parts g (step_by g.clock m) f u)
+    (ap (λ s. sorted_epoch s.plan new) (step_setup g.clock m) ∙ ap (sorted_epoch g.clock.setup.plan) same ∙ sym is) (given ∙ by_m)
+
+-- ---- a closed epoch
+
+abbrev pub closed_value : PlanValue → PendingValue → PendingValue
+closed_value p q = record { epoch = sorted_epoch p q.epoch; values = q.values; is_open = false }
+
+-- A closed epoch is sorted.
+pub pending_closed : (p : PlanValue) (q r : PendingValue) (b : Bool) → AreInOrder p (sorted_epoch p q.epoch) → r ≡ closed_value p q → IsPending p r b
+pending_closed p q r b o is =
+    let again : sorted_epoch p r.epoch ≡ sorted_epoch p q.epoch = ap (λ (v : PendingValue). sorted_epoch p v.epoch) is ∙ sorted_again p q.epoch o in
+    record {
+      order = subst (AreInOrder p) (sym again) o;
+      closed = λ e. (ap (λ (v : PendingValue). v.is_open) is, again ∙ sym (ap (λ (v : PendingValue). v.epoch) is));
+    }
+
+abbrev closed_parts : Gathered → EpochValue → List (Option KnownLock) → StationValues → Gathered
+closed_parts g e l v = record { clock = g.clock; epoch = e; locks = l; values = v; just_closed = true; has_ended = g.has_ended }
+
+abbrev noted_both : List (Option KnownLock) → ℕ → List Cell → List Cell → List (Option KnownLock)
+noted_both l n a b = note_all n (note_all n l a) b
+
+-- The locks of a closed epoch are recorded.
+pub noted_closed : (g : Gathered) (q r : PendingValue) (t : ℕ) (gps galileo : List Cell) (first second : List (Option KnownLock)) → AreInOrder g.clock.setup.plan (sorted_epoch g.clock.setup.plan q.epoch)
+    → g.epoch ≡ sorted_epoch g.clock.setup.plan q.epoch → g.values ≡ q.values → r ≡ closed_value g.clock.setup.plan q → t ≡ r.epoch.time → gps ≡ r.epoch.gps → galileo ≡ r.epoch.galileo
+    → first ≡ note_all t g.locks gps → second ≡ note_all t first galileo
+    → record { clock = g.clock; epoch = sorted_epoch g.clock.setup.plan r.epoch; locks = second; values = r.values; just_closed = true; has_ended = g.has_ended } ≡ noted (just_closed_as true g)
+noted_closed g q r t gps galileo first second o epoch values is time in_gps in_galileo one two =
+    ap (λ v. closed_parts g v second r.values) (ap (λ (v : PendingValue). sorted_epoch g.clock.setup.plan v.epoch) is ∙ sorted_again g.clock.setup.plan q.epoch o ∙ sym epoch)
+    ∙ ap₂ (λ l v. closed_parts g g.epoch l v) locks (ap (λ (v : PendingValue). v.values) is ∙ sym values) where
+      same : r.epoch ≡ g.epoch
+      same = ap (λ (v : PendingValue). v.epoch) is ∙ sym epoch
+
+      locks : second ≡ noted_both g.locks g.epoch.time g.epoch.gps g.epoch.galileo
+      locks =
+          two ∙ ap (λ l. note_all t l galileo) one ∙ ap (λ n. noted_both g.locks n gps galileo) (time ∙ ap (λ (v : EpochValue). v.time) same)
+          ∙ ap (λ l. noted_both g.locks g.epoch.time l galileo) (in_gps ∙ ap (λ (v : EpochValue). v.gps) same)
+          ∙ ap (λ l. noted_both g.locks g.epoch.time g.epoch.gps l) (in_galileo ∙ ap (λ (v : EpochValue). v.galileo) same)

@@ -17,7 +17,8 @@ use Rattle.obs_epoch.specs.Epochs.{epoch_at, closed_so_far, closed_times, values
 use Rattle.obs_epoch.specs.Clock.{State, HasHeardMessages, is_pending, closes_first}
 use Rattle.obs_epoch.specs.Kinds.{is_close_first, is_kept, kind_after}
 use Rattle.obs_epoch.specs.Step.{kind_by, step_by, closed_by, closed_of}
-use Rattle.obs_epoch.specs.Gather.{with_unlisted, Gathered, Loaded, no_epoch, noted, load, loaded_if, outcome_in, load_one, with_time, closed_if, closed_noted, take_step, end_step, is_same}
+use Rattle.obs_epoch.specs.Gather.{with_unlisted, Gathered, Loaded, no_epoch, noted, load, loaded_if, outcome_in, load_one, with_time, closed_if, closed_noted, epoch_begun, just_closed_as, rested, take_step, end_step, is_same}
+use Rattle.obs_epoch.specs.Held.{count_in}
 use Rattle.obs_epoch.specs.declared.locks.KnownLock.{KnownLock}
 use Rattle.obs_epoch.specs.GathererHistory.{held_at, Locked, HasTakenMessages, closed_list, closed_epoch}
 use Rattle.obs_epoch.proofs.TimesLemmas.{next, timed-push}
@@ -387,3 +388,35 @@ handed_is g m = step_apart (λ v. v.just_closed) (λ v e locks. refl) g m
 
 pub ended_is : (g : Gathered) (m : Heard) → (take_step g m).state.has_ended ≡ g.has_ended
 ended_is g m = step_apart (λ v. v.has_ended) (λ v e locks. refl) g m
+
+-- ---- the messages of a call that may close the epoch at its end
+
+abbrev resting : Loaded → Loaded
+resting l = record { state = rested l.state; counts = l.counts }
+
+one_rested : (l : Loaded) (x : HeardCell) → load_one (resting l) x ≡ resting (load_one l x)
+one_rested l x =
+    let k = outcome_in l.state x in
+    ap (λ s. record { state = s; counts = count_in k l.counts }) (hold_is k (rested l.state) x ∙ sym (ap rested (hold_is k l.state x)))
+
+load_rested : (l : Loaded) (xs : List HeardCell) → load (resting l) xs ≡ resting (load l xs)
+load_rested l [] = refl
+load_rested l (x ∷ xs) = ap (λ v. load v xs) (one_rested l x) ∙ load_rested (load_one l x) xs
+
+pub loaded_rested : (accepted : Bool) (before : Option ℕ) (g : Gathered) (m : Heard) → loaded_if accepted before (rested g) m ≡ resting (loaded_if accepted before g m)
+loaded_rested true before g m =
+    ap (λ v. with_unlisted m.unlisted (load (record { state = v; counts = no_counts }) m.cells)) (begun (is_same before g.clock.latest))
+    ∙ ap (with_unlisted m.unlisted) (load_rested (record { state = epoch_begun before g; counts = no_counts }) m.cells) where
+      begun : (b : Bool) → (if b then rested g else record (rested g) { epoch = record { time = option_map_or (λ t. t) g.clock.latest 0; gps = []; galileo = [] } })
+          ≡ rested (if b then g else record g { epoch = record { time = option_map_or (λ t. t) g.clock.latest 0; gps = []; galileo = [] } })
+      begun true = refl
+      begun false = refl
+loaded_rested false before g m = refl
+
+-- The step of the gatherer, from what its message loads and whether the epoch is closed then.
+pub closed_is : (g : Gathered) (m : Heard) (l : Loaded) (closed : Bool) → l ≡ loaded_if (is_kept (kind_by g.clock no_counts m)) g.clock.latest (rested (with_time g m)) m
+    → closed ≡ is_some (closed_by g.clock m) → closed_noted (just_closed_as closed l.state) ≡ (take_step g m).state
+closed_is g m l closed e is =
+    let accepted = is_kept (kind_by g.clock no_counts m) in
+    ap (λ (v : Loaded). closed_noted (just_closed_as closed v.state)) (e ∙ loaded_rested accepted g.clock.latest (with_time g m) m)
+    ∙ ap (λ b. closed_noted (just_closed_as b (loaded_if accepted g.clock.latest (with_time g m) m).state)) (is ∙ sym (closed_loaded accepted g.clock.latest g m)) ∙ noted_is g m

@@ -1,5 +1,5 @@
 -- The value of a gatherer, and its steps in parts.
-use Rattle.std.specs.Prelude.{ℕ, ◌==◌, ◌++◌, Bool, true, false, List, [], ◌∷◌, if◌then◌else◌, Option, Some}
+use Rattle.std.specs.Prelude.{ℕ, ◌≡◌, ◌==◌, Bool, true, false, List, [], ◌∷◌, if◌then◌else◌, Option, Some}
 use Rattle.std.specs.Prelude.{None, is_some}
 use Rattle.std.specs.Option.{option_map_or}
 use Rattle.gnss_obs.specs.declared.system.System.{System}
@@ -12,8 +12,10 @@ use Rattle.obs_epoch.specs.Heard.{Heard, seen_in}
 use Rattle.gnss_obs.specs.HeardCells.{HeardCell, kept_cell}
 use Rattle.obs_epoch.specs.Cells.{no_counts, with_skipped}
 use Rattle.obs_epoch.specs.Kinds.{is_kept}
-use Rattle.gnss_obs.specs.Values.{AreHeld, Closed, PlanValue, planned_of, EpochValue, cells_of}
-use Rattle.gnss_obs.specs.Kept.{AreInOrder, with_later}
+use Rattle.gnss_obs.specs.Values.{PlanValue, planned_of, EpochValue, cells_of}
+use Rattle.gnss_obs.specs.Kept.{AreInOrder}
+use Rattle.gnss_obs.specs.Arriving.{sorted_epoch}
+use Rattle.gnss_obs.specs.Stages.{PendingValue}
 use Rattle.gnss_obs.specs.Plans.{place_in}
 use Rattle.gnss_obs.specs.Order.{insert_by, cell_sort_key}
 use Rattle.obs_epoch.specs.Loss.{lli_with}
@@ -28,6 +30,14 @@ use Rattle.obs_epoch.specs.declared.taken.CellCounts.{CellCounts}
 
 abbrev pub no_epoch : EpochValue
 no_epoch = record { time = 0; gps = []; galileo = [] }
+
+abbrev pub no_pending : StationValues → PendingValue
+no_pending values = record { epoch = no_epoch; values = values; is_open = true }
+
+-- Once sorted, the cells are in the order of the plan. An epoch that was just closed is sorted.
+pub record IsPending (p : PlanValue) (now : PendingValue) (just_closed : Bool) : Type 0 where
+  pub order : AreInOrder p (sorted_epoch p now.epoch)
+  pub closed : just_closed ≡ true → (now.is_open ≡ false) × (sorted_epoch p now.epoch ≡ now.epoch)
 
 -- One more cell, inserted in the order of a plan.
 abbrev pub with_more_in : System → PlanValue → EpochValue → Cell → EpochValue
@@ -62,16 +72,6 @@ hold_by _ g x = g
 -- One more cell.
 abbrev pub hold : Gathered → HeardCell → Gathered
 hold g x = hold_by (outcome_in g x) g x
-
--- The gatherer, with some cells of a system kept apart because they go after the others.
-abbrev pub apart : Gathered → State → List (Option KnownLock) → Closed → System → List Cell → Gathered
-apart g clock locks e system later =
-    record g { clock = clock; epoch = with_later system e.epoch later; locks = locks; values = e.values }
-
--- Together these cells are in order.
-pub record StandApart (p : PlanValue) (system : System) (e : EpochValue) (later : List Cell) : Type 0 where
-  pub order : AreInOrder p (with_later system e later)
-  pub held : AreHeld system (cells_of system e ++ later)
 
 pub record Loaded : Type 0 where
   pub state : Gathered
@@ -145,6 +145,9 @@ abbrev pub take_step : Gathered → Heard → Loaded
 take_step g m =
     closed_if (is_some (closed_by g.clock m))
     (loaded_if (is_kept (kind_by g.clock no_counts m)) g.clock.latest (with_time g m) m)
+
+abbrev pub just_closed_as : Bool → Gathered → Gathered
+just_closed_as closed g = record g { just_closed = closed }
 
 -- The last call closed no epoch.
 abbrev pub rested : Gathered → Gathered

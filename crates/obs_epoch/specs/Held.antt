@@ -15,6 +15,8 @@ use Rattle.obs_epoch.specs.Loss.{lock_of}
 use Rattle.obs_epoch.specs.declared.locks.KnownLock.{KnownLock}
 use Rattle.obs_epoch.specs.declared.taken.CellCounts.{CellCounts}
 use Rattle.gnss_obs.specs.Kept.{is_held}
+use Rattle.gnss_obs.specs.declared.arrivals.Added.{Added}
+use Rattle.gnss_obs.specs.declared.arrivals.Added.TheVariants as added
 
 -- ---- lock records: an entry for each key, those of GPS first
 
@@ -75,6 +77,12 @@ abbrev pub outcome_of : GatherSetup → List Cell → HeardCell → CellOutcome
 outcome_of s ms x =
     if is_planned s x
     then (if is_held ms x then Repeated else (if nat_le most_cells (length ms) then Crowded else Kept)) else Skipped
+
+-- The outcome of a planned cell that was added.
+abbrev pub outcome_of_added : Added → CellOutcome
+outcome_of_added added.Kept = Kept
+outcome_of_added added.Repeated = Repeated
+outcome_of_added added.Crowded = Crowded
 
 abbrev pub count_in : CellOutcome → CellCounts → CellCounts
 count_in Kept n = record n { kept = n.kept + 1 }

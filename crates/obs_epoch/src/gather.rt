@@ -3,68 +3,62 @@ ghost use Rattle.std.specs.Prelude.{[], ◌≡◌, ◌↔◌, ◌⊎◌, ◌+◌
 ghost use Rattle.std.specs.Prelude.{IfErr, IfSome, IsOk, Err, option_map, option_to_list, List, Option};
 ghost use Rattle.std.specs.Option.{ForSome};
 ghost use Rattle.rtcm_msg.specs.Msm.{codes_of, most_pairs, week};
-ghost use Rattle.rtcm_msg.specs.Entries.{entries, IsEntry};
+ghost use Rattle.rtcm_msg.specs.Entries.{IsEntry};
 ghost use Rattle.rtcm_msg.specs.Viewed.{viewed_message, lock_field};
-ghost use Rattle.rtcm_msg.specs.Views.{formed};
 ghost use Rattle.gnss_obs.specs.Weeks.{weeks};
 ghost use Rattle.obs_epoch.specs.Heard.{GatherSetup, Heard, heard, heard_summary, system_of};
 ghost use Rattle.gnss_obs.specs.Order.{AreSortedByPlan};
 ghost use Rattle.gnss_obs.specs.Plans.{place_in};
 ghost use Rattle.gnss_obs.specs.HeardCells.{heard_cell, IsObserved};
 ghost use Rattle.obs_epoch.specs.Epochs.{values_by_message, values_of};
-ghost use Rattle.obs_epoch.specs.Held.{count_in, most_locks, no_locks, recorded};
-ghost use Rattle.obs_epoch.specs.Step.{kind_by};
+ghost use Rattle.obs_epoch.specs.Held.{count_in, most_locks, no_locks, outcome_of_added, recorded};
+ghost use Rattle.obs_epoch.specs.Step.{kind_by, closed_by as closed_at};
 ghost use Rattle.gnss_obs.specs.Values.{Closed, cells_of, most_cells, planned_of};
 ghost use Rattle.obs_epoch.specs.Kinds.{is_no_station, setup_at, setup_of, with_counts};
 ghost use Rattle.obs_epoch.specs.Gathering.{HasGatheredEpochs, closed_by, closed_in, plan_in};
 ghost use Rattle.obs_epoch.specs.Calls.{TakesMessage, EndsPendingEpoch, StaysEnded, HoldsCells, HoldsLockedKeys};
 ghost use Rattle.gnss_obs.specs.declared.fault.PlanFault.{PlanFault};
 ghost use Rattle.obs_epoch.specs.Gather.{closed_noted, loaded_if, load_entry, load_entries, epoch_begun};
-ghost use Rattle.obs_epoch.specs.Gather.{load, rested, outcome_in, hold, no_epoch, with_time};
-ghost use Rattle.gnss_obs.specs.Kept.{AreInOrder};
+ghost use Rattle.obs_epoch.specs.Gather.{load, rested, outcome_in, hold, no_pending, just_closed_as, with_time};
 ghost use Rattle.obs_epoch.specs.Cells.{cells_counted, no_counts};
 
-use crate::between::take_between;
 use crate::clock::Clock;
 use crate::locks::{Locks, lli, note_cells};
 use crate::observe::{observe, system_of};
 use crate::taken::{CellCounts, Gather, Kind, Taken, no_counts};
 use gnss_obs::{
-    Cell, Epoch, GpsTime, Later, MOST_CELLS, Plan, PlanFault, StationValues, System, WEEKS,
+    Added, Cell, Epoch, GpsTime, Pending, Plan, PlanFault, StationValues, System, WEEKS,
 };
-use rtcm_msg::{Entries, Entry, LockField, Message, MsmView, Summary, View};
+use rtcm_msg::{Entries, Entry, LockField, Message, Summary, View};
 use std::alloc::Global;
-use std::boxed::Box;
 use std::marker::Model;
 
 /// Messages of a station, gathered into epochs.
 #[derive(Drop)]
 pub struct Gatherer {
     clock: Clock,
-    epoch: Epoch,
+    pending: Pending,
     locks: Locks,
     just_closed: bool,
     has_ended: bool,
-    // Only used while a message is processed.
-    later: Box<Later>,
 }
 
 impl Model for Gatherer {
-    ghost use Rattle.obs_epoch.specs.Gather.{Gathered};
-    ghost use Rattle.gnss_obs.specs.Kept.{AreInOrder};
+    ghost use Rattle.obs_epoch.specs.Gather.{Gathered, IsPending};
+    ghost use Rattle.gnss_obs.specs.Arriving.{sorted_epoch};
 
     ghost Value = { Gathered };
 
     ghost view = { λ a. record {
       clock = a.clock;
-      epoch = a.epoch.epoch;
+      epoch = sorted_epoch a.clock.setup.plan a.pending.epoch;
       locks = a.locks;
-      values = a.epoch.values;
+      values = a.pending.values;
       just_closed = a.just_closed;
       has_ended = a.has_ended;
     } };
 
-    ghost invariant = { λ a. AreInOrder a.clock.setup.plan a.epoch.epoch };
+    ghost invariant = { λ a. IsPending a.clock.setup.plan a.pending a.just_closed };
 }
 
 impl Gatherer {
@@ -122,15 +116,14 @@ impl Gatherer {
             (λ e. (e ≡ PlanFault.BadWeek) ⊎ ((e ≡ PlanFault.BadStation) ⊎ (e ≡ PlanFault.Memory))) }
     {
         match new_parts(alloc, start_week, station, initial) {
-            Ok((epoch, locks, later)) => {
+            Ok((pending, locks)) => {
                 let clock = Clock::new(plan, start_week, station, gather, initial);
                 Ok(Gatherer {
                     clock,
-                    epoch,
+                    pending,
                     locks,
                     just_closed: false,
                     has_ended: false,
-                    later,
                 })
             }
             Err(fault) => {
@@ -157,9 +150,9 @@ impl Gatherer {
         ensures { TakesMessage self.old self.new (heard (viewed_message view.now)) result }
     {
         let before = self.clock.latest();
-        let kind = self.hear(&view.summary());
+        let (kind, closed) = self.hear(&view.summary());
         let counts = self.load(kind.is_kept(), before, view);
-        self.note_closed();
+        self.note_closed(closed);
         Taken {
             kind: kind.with_counts(counts),
             closed: self.just_closed,
@@ -179,9 +172,9 @@ impl Gatherer {
             self.just_closed = false;
             return false;
         }
-        self.just_closed = self.clock.end();
+        let closed = self.clock.end();
         self.has_ended = true;
-        self.note_closed();
+        self.note_closed(closed);
         self.just_closed
     }
 
@@ -194,7 +187,7 @@ impl Gatherer {
             ≡ closed_by (closed_in self.now) self.now.values }
     {
         if self.just_closed {
-            Some(&self.epoch)
+            self.pending.closed()
         } else {
             None
         }
@@ -214,7 +207,7 @@ impl Gatherer {
         ensures held { HoldsCells self.now system result }
         ensures bound { result ≤ most_cells }
     {
-        self.epoch.cells(system).len()
+        self.pending.cells(system).len()
     }
 
     /// Returns the number of lock records: one for each satellite and signal of which a closed
@@ -234,7 +227,7 @@ impl Gatherer {
             → HasGatheredEpochs self.now s ms es again
             → result ≡ values_of s ms }
     {
-        self.epoch.station_values()
+        self.pending.station_values()
     }
 
     /// Returns the wanted signals.
@@ -245,45 +238,41 @@ impl Gatherer {
     }
 
     // Processes the time and the station values of a message, and returns its outcome, with counts
-    // of 0.
-    fn hear(&mut self, said: &Summary) -> Kind
+    // of 0, and whether the epoch is to be closed.
+    fn hear(&mut self, said: &Summary) -> (Kind, bool)
         requires { ForSome said.now.time (λ tow. tow < week) }
-        ensures kind { result ≡ kind_by self.old.clock no_counts (heard_summary said.now) }
-        ensures step { self.new ≡ with_time self.old (heard_summary said.now) }
+        ensures kind { result.0 ≡ kind_by self.old.clock no_counts (heard_summary said.now) }
+        ensures closed { result.1 ≡ is_some (closed_at self.old.clock (heard_summary said.now)) }
+        ensures step { self.new ≡ rested (with_time self.old (heard_summary said.now)) }
     {
         let values = self.values_after(said);
-        self.epoch.set_values(values);
+        self.pending.set_values(values);
         let (kind, closed) = self.clock.step(said);
-        self.just_closed = closed.is_some();
-        kind
+        self.just_closed = false;
+        (kind, closed.is_some())
     }
 
-    // Records the locks of the epoch's cells if the epoch was just closed.
-    fn note_closed(&mut self)
-        ensures { self.new ≡ closed_noted self.old }
+    // Closes the epoch if it is to be closed, and records the locks of its cells.
+    fn note_closed(&mut self, closed: bool)
+        ensures { self.new ≡ closed_noted (just_closed_as closed self.old) }
     {
-        if self.just_closed {
-            let time = self.epoch.time().milliseconds();
-            note_cells(
-                &mut self.locks,
-                time,
-                System::Gps,
-                self.epoch.cells(System::Gps),
-            );
-            note_cells(
-                &mut self.locks,
-                time,
-                System::Galileo,
-                self.epoch.cells(System::Galileo),
-            );
+        self.just_closed = closed;
+        if !closed {
+            return;
         }
+        self.pending.close(self.clock.plan());
+        let time = self.pending.time().milliseconds();
+        let gps = self.pending.cells(System::Gps);
+        note_cells(&mut self.locks, time, System::Gps, gps);
+        let galileo = self.pending.cells(System::Galileo);
+        note_cells(&mut self.locks, time, System::Galileo, galileo);
     }
 
     // Returns the station values after a message.
     fn values_after(&self, said: &Summary) -> StationValues
         ensures { result ≡ values_by_message self.now.clock.setup self.now.values (heard_summary said.now) }
     {
-        let values = self.epoch.station_values();
+        let values = self.pending.station_values();
         match said.point {
             Some(parts) if self.clock.is_own(said) => StationValues {
                 x: parts.x,
@@ -299,6 +288,7 @@ impl Gatherer {
     // inlined, so that the loop over them is compiled by itself.
     #[inline(never)]
     fn load(&mut self, is_kept: bool, before: Option<u64>, view: &View<'_>) -> CellCounts
+        requires { self.old.just_closed ≡ false }
         ensures { record { state = self.new; counts = result }
             ≡ loaded_if is_kept before self.old (heard (viewed_message view.now)) }
     {
@@ -309,22 +299,20 @@ impl Gatherer {
         match view {
             View::Msm(m) => {
                 let system = system_of(m.is_galileo());
-                if goes_after(self.epoch.cells(system), m) {
-                    self.take_all(m.form().lock_field(), system, &mut m.entries())
-                } else {
-                    self.take_more(m.form().lock_field(), system, m)
-                }
+                self.take_all(m.form().lock_field(), system, &mut m.entries())
             }
             View::Station(_) | View::Other { number: _, set: _ } => no_counts(),
         }
     }
 
     fn begin(&mut self, before: Option<u64>)
-        ensures { self.new ≡ epoch_begun before self.old }
+        requires { self.old.just_closed ≡ false }
+        ensures step { self.new ≡ epoch_begun before self.old }
+        ensures rested { self.new.just_closed ≡ false }
     {
         let latest = self.clock.latest();
         if before != latest {
-            self.epoch.begin(GpsTime::within(latest.unwrap_or(0)));
+            self.pending.begin(GpsTime::within(latest.unwrap_or(0)));
         }
     }
 
@@ -335,28 +323,26 @@ impl Gatherer {
         requires observed { IsObserved (heard_cell x) }
         requires planned { is_some (place_in x.signal (planned_of x.satellite.system self.old.clock.setup.plan))
             ≡ true }
+        requires rested { self.old.just_closed ≡ false }
         requires few { cells_counted n.old < usize.MAX }
         ensures counts { n.new ≡ count_in (outcome_in self.old (heard_cell x)) n.old }
         ensures step { self.new ≡ hold self.old (heard_cell x) }
+        ensures rested { self.new.just_closed ≡ false }
         ensures one { cells_counted n.new ≡ cells_counted n.old + 1 }
     {
-        let (at, is_kept) = self.epoch.place_of(self.clock.plan(), &x);
-        if is_kept {
-            n.repeated += 1;
-            return;
-        }
-        if self.epoch.cells(x.satellite.system()).len() >= MOST_CELLS {
-            n.crowded += 1;
-            return;
-        }
-        x.lli = lli(&x, self.epoch.time().milliseconds(), self.locks.latest(&x));
-        self.epoch.insert(at, x);
-        n.kept += 1;
+        x.lli = lli(
+            &x,
+            self.pending.time().milliseconds(),
+            self.locks.latest(&x),
+        );
+        let added = self.pending.add(x);
+        count(added, n);
     }
 
     // Processes the cells of a message, and returns their outcomes.
     fn take_all(&mut self, field: LockField, system: System, cells: &mut Entries<'_>) -> CellCounts
         requires form { field ≡ lock_field cells.old.form }
+        requires rested { self.old.just_closed ≡ false }
         requires few { length cells.old.left ≤ most_pairs }
         ensures { record { state = self.new; counts = result }
             ≡ load_entries field system (record { state = self.old; counts = no_counts }) cells.old.left }
@@ -368,38 +354,15 @@ impl Gatherer {
         counts
     }
 
-    // Processes the cells of a message that may go between the kept ones of its system.
-    #[inline(never)]
-    fn take_more(&mut self, field: LockField, system: System, m: &MsmView<'_>) -> CellCounts
-        requires form { field ≡ lock_field m.now.form }
-        ensures { record { state = self.new; counts = result }
-            ≡ load_entries field system (record { state = self.old; counts = no_counts }) (entries (formed m.now)) }
-    {
-        let mut n = no_counts();
-        // This call is for the proof: `take_between` requires what it ensures of the kept cells.
-        let _kept = self.epoch.cells(system);
-        self.later.clear();
-        take_between(
-            &self.clock,
-            &self.locks,
-            &mut self.epoch,
-            &mut self.later,
-            field,
-            system,
-            &mut m.entries(),
-            &mut n,
-        );
-        self.epoch.join(system, &mut self.later);
-        n
-    }
-
     // Processes a cell of a message, and counts its outcome.
     #[inline(always)]
     fn take_entry(&mut self, field: LockField, system: System, entry: &Entry, n: &mut CellCounts)
         requires entry { IsEntry (codes_of field) entry.now }
+        requires rested { self.old.just_closed ≡ false }
         requires few { cells_counted n.old < usize.MAX }
         ensures step { record { state = self.new; counts = n.new }
             ≡ load_entry field system (record { state = self.old; counts = n.old }) entry.now }
+        ensures rested { self.new.just_closed ≡ false }
         ensures one { cells_counted n.new ≡ cells_counted n.old + 1 }
     {
         match observe(self.clock.plan(), field, system, entry) {
@@ -409,15 +372,18 @@ impl Gatherer {
     }
 }
 
-// Returns whether the satellites of a message come after those of these cells, so that its cells
-// are likely to go there.
+// Counts the outcome of a cell of a planned signal.
 #[inline(always)]
-fn goes_after(cells: &[Cell], m: &MsmView<'_>) -> bool {
-    if cells.is_empty() {
-        return true;
+fn count(added: Added, n: &mut CellCounts)
+    requires few { cells_counted n.old < usize.MAX }
+    ensures counts { n.new ≡ count_in (outcome_of_added added) n.old }
+    ensures one { cells_counted n.new ≡ cells_counted n.old + 1 }
+{
+    match added {
+        Added::Kept => n.kept += 1,
+        Added::Repeated => n.repeated += 1,
+        Added::Crowded => n.crowded += 1,
     }
-    let last = cells[cells.len() - 1].satellite.id();
-    last as u32 <= m.masks().satellites().leading_zeros()
 }
 
 // Returns an epoch without cells and empty lock records, if the start week and the station are
@@ -427,8 +393,8 @@ fn new_parts(
     start_week: u32,
     station: Option<u16>,
     initial: StationValues,
-) -> Result<(Epoch, Locks, Box<Later>), PlanFault>
-    ensures empty { IfOk result (λ r. (r.0 ≡ record { epoch = no_epoch; values = initial }) × (r.1 ≡ no_locks)) }
+) -> Result<(Pending, Locks), PlanFault>
+    ensures empty { IfOk result (λ r. (r.0 ≡ no_pending initial) × (r.1 ≡ no_locks)) }
     ensures accepted { IsOk result → (start_week < weeks) × (is_no_station station ≡ false) }
     ensures week { (result ≡ Err PlanFault.BadWeek) ↔ (weeks ≤ start_week) }
     ensures station { (result ≡ Err PlanFault.BadStation)
@@ -445,11 +411,8 @@ fn new_parts(
     let Ok(locks) = Locks::new(alloc) else {
         return Err(PlanFault::Memory);
     };
-    let Ok(later) = Later::new(alloc) else {
-        return Err(PlanFault::Memory);
-    };
-    match Epoch::new(alloc, initial) {
-        Ok(epoch) => Ok((epoch, locks, later)),
+    match Pending::new(alloc, initial) {
+        Ok(pending) => Ok((pending, locks)),
         Err(_) => Err(PlanFault::Memory),
     }
 }

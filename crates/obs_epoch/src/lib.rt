@@ -4,7 +4,6 @@
 //! is closed. [`SignalCounts`] count cells by signal.
 #![tactic(auto)]
 
-mod between;
 mod clock;
 mod gather;
 pub mod laws;

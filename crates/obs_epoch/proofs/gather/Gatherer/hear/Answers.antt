@@ -1,12 +1,29 @@
-use Rattle.std.proofs.Common.{◌∙◌, sym, ap, subst}
+use Rattle.std.proofs.Common.{◌∙◌, sym, ap, subst, refl, false}
 use Rattle.gnss_obs.specs.Kept.{AreInOrder}
+use Rattle.gnss_obs.specs.Arriving.{sorted_epoch}
+use Rattle.gnss_obs.specs.Stages.{PendingValue}
 use Rattle.obs_epoch.specs.Clock.{State}
+use Rattle.obs_epoch.specs.Epochs.{values_by_message}
+use Rattle.obs_epoch.specs.Gather.{Gathered, rested, with_time}
 use Rattle.obs_epoch.specs.Heard.{heard_summary}
-use Rattle.obs_epoch.proofs.StandLemmas.{step_setup}
+use Rattle.obs_epoch.proofs.StandLemmas.{heard_is, never_both, step_setup}
 use Rattle.obs_epoch.proofs.gather.Gatherer.hear.Goals as goal
-use Rattle.gnss_obs.specs.Values.{Closed}
 
 pub invariant_of-self : goal.invariant_of-self
 invariant_of-self c =
     let same = ap (λ (g : State). g.setup.plan) c.step-kind.ensures.step ∙ ap (λ s. s.plan) (step_setup c.self.inside.clock (heard_summary c.args.said.now)) in
-    subst (λ e. AreInOrder c.step-kind.new.self.setup.plan e) (sym (ap (λ (h : Closed). h.epoch) c.set_values.ensures)) (subst (λ p. AreInOrder p c.self.inside.epoch.epoch) (sym same) c.self.invariant)
+    record {
+      order = subst (λ p. AreInOrder p (sorted_epoch p c.set_values.new.self.epoch)) (sym same)
+          (subst (λ e. AreInOrder c.self.inside.clock.setup.plan (sorted_epoch c.self.inside.clock.setup.plan e)) (sym (ap (λ (q : PendingValue). q.epoch) c.set_values.ensures)) c.self.invariant.order);
+      closed = λ e. absurd (never_both false refl e);
+    }
+
+pub returns-clause-step : goal.returns-clause-step
+returns-clause-step c =
+    let m = heard_summary c.args.said.now in
+    let i = c.self.inside in
+    let g : Gathered = record { clock = i.clock; epoch = sorted_epoch i.clock.setup.plan i.pending.epoch; locks = i.locks; values = i.pending.values; just_closed = i.just_closed; has_ended = i.has_ended } in
+    heard_is g i.pending.epoch c.set_values.new.self.epoch c.step-kind.new.self c.set_values.new.self.values c.values_after-values.result m refl c.step-kind.ensures.step
+    (ap (λ (q : PendingValue). q.epoch) c.set_values.ensures) (ap (λ (q : PendingValue). q.values) c.set_values.ensures)
+    (c.values_after-values.ensures ∙ ap (λ (v : Gathered). values_by_message v.clock.setup v.values m) (sym c.self.view_is))
+    ∙ ap (λ v. rested (with_time v m)) c.self.view_is

@@ -1,7 +1,8 @@
 use Rattle.std.proofs.Common.{[], refl, ap, subst, rules, false}
 use Rattle.obs_epoch.specs.Clock.{HasHeardMessages}
 use Rattle.obs_epoch.specs.Heard.{GatherSetup}
-use Rattle.gnss_obs.specs.Values.{Closed}
+use Rattle.gnss_obs.specs.Arriving.{sorted_epoch}
+use Rattle.gnss_obs.specs.Stages.{PendingValue}
 use Rattle.obs_epoch.proofs.StandingLemmas.{none_locked}
 use Rattle.obs_epoch.proofs.gather.Gatherer.new_at.Goals as goal
 
@@ -10,9 +11,9 @@ returns-in-Ok-clause-history c =
     record {
       standing = record {
         clock = subst (λ (s : GatherSetup). HasHeardMessages c.new-clock.result s [] false) c.new-clock.ensures.setup c.new-clock.ensures.history;
-        epoch = ap (λ (e : Closed). e.epoch) c.in-Ok.ensures.empty.0;
+        epoch = ap (λ (q : PendingValue). sorted_epoch c.new-clock.result.setup.plan q.epoch) c.in-Ok.ensures.empty.0;
         locks = none_locked _ _ c.in-Ok.ensures.empty.1;
-        values = ap (λ (e : Closed). e.values) c.in-Ok.ensures.empty.0;
+        values = ap (λ (q : PendingValue). q.values) c.in-Ok.ensures.empty.0;
       };
       returned = refl;
       epochs = λ e. refl;

@@ -1,4 +1,4 @@
-use Rattle.std.proofs.Common.{◌≡◌, ◌+◌, ◌≤◌, length}
+use Rattle.std.proofs.Common.{◌≡◌, ◌+◌, ◌≤◌, false, length}
 use Rattle.obs_epoch.specs.Cells.{cells_counted, no_counts}
 use Rattle.obs_epoch.specs.Gather.{load_entries}
 use Rattle.obs_epoch.proofs.gather.Gatherer.take_all.Given as goal
@@ -7,6 +7,7 @@ abbrev pub invariant-loop-entry : goal.invariant-loop-entry
 invariant-loop-entry l = record {
   same : load_entries l.field l.system (record { state = l.self; counts = l.counts }) l.cells.left
       ≡ load_entries l.field l.system (record { state = l.fn.self; counts = no_counts }) l.fn.cells.left;
+  rested : l.self.just_closed ≡ false;
   form : l.cells.form ≡ l.fn.cells.form;
   counted : cells_counted l.counts + length l.cells.left ≤ 64;
 }

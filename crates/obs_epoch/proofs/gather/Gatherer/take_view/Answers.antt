@@ -1,16 +1,16 @@
-use Rattle.std.proofs.Common.{◌++◌, ◌∷◌, [], sym, ap, ◌∙◌, subst, Some, None, ◌≡◌, ℕ, Bool, ap₂, Option}
+use Rattle.std.proofs.Common.{◌++◌, ◌∷◌, [], sym, ap, ◌∙◌, subst, Some, None, ◌≡◌, ℕ, Bool, ap₂, Option, is_some}
 use Rattle.rtcm_msg.specs.Viewed.{viewed_message}
 use Rattle.obs_epoch.specs.Heard.{heard, Heard, heard_summary, without_cells}
 use Rattle.obs_epoch.specs.Times.{timed}
-use Rattle.obs_epoch.specs.Gather.{Gathered, take_step, Loaded, loaded_if, closed_noted, with_time}
+use Rattle.obs_epoch.specs.Gather.{Gathered, take_step, Loaded, loaded_if, rested, with_time}
 use Rattle.obs_epoch.specs.Kinds.{is_close_first, is_kept, with_counts}
 use Rattle.obs_epoch.specs.Calls.{IsCloseFirstExactly}
 use Rattle.obs_epoch.specs.Gathering.{HasGatheredEpochs, returned_epoch}
-use Rattle.obs_epoch.proofs.TakeLemmas.{no_point, given_alone, noted_is, ended_is}
+use Rattle.obs_epoch.proofs.TakeLemmas.{no_point, given_alone, closed_is, ended_is, loaded_rested}
 use Rattle.obs_epoch.proofs.HandingLemmas.{gathers_first, gathers_taken, has_closed}
 use Rattle.obs_epoch.proofs.KindLemmas.{counted_kind, exactly_first, again_taken, fits_now, kind_taken}
 use Rattle.obs_epoch.specs.Cells.{no_counts}
-use Rattle.obs_epoch.specs.Step.{kind_by}
+use Rattle.obs_epoch.specs.Step.{kind_by, closed_by}
 use Rattle.obs_epoch.proofs.ViewLemmas.{summary_heard}
 use Rattle.obs_epoch.proofs.gather.Gatherer.take_view.Goals as goal
 
@@ -20,31 +20,37 @@ message c = heard (viewed_message c.args.view.now)
 said_is : (c : goal.After-self-2) → heard_summary c.summary.result ≡ without_cells (message c)
 said_is c = ap heard_summary c.summary.ensures.value ∙ summary_heard (viewed_message c.args.view.now)
 
-kind_is : (c : goal.After-self-2) → c.hear-kind.result ≡ kind_by c.args.self.now.clock no_counts (message c)
+kind_is : (c : goal.After-self-2) → c.hear-kind.result.0 ≡ kind_by c.args.self.now.clock no_counts (message c)
 kind_is c = c.hear-kind.ensures.kind ∙ ap (kind_by c.args.self.now.clock no_counts) (said_is c)
 
 same_loaded : (a b : Bool) (o p : Option ℕ) (g h : Gathered) (m : Heard) → a ≡ b → o ≡ p → g ≡ h → loaded_if a o g m ≡ loaded_if b p h m
 same_loaded a b o p g h m d e f = ap (λ k. loaded_if k o g m) d ∙ ap₂ (λ k i. loaded_if b k i m) e f
 
-abbrev loaded : goal.After-self-2 → Loaded
-loaded c = loaded_if (is_kept (kind_by c.args.self.now.clock no_counts (message c))) c.args.self.now.clock.latest (with_time c.args.self.now (message c)) (message c)
+abbrev accepted : goal.After-self-2 → Bool
+accepted c = is_kept (kind_by c.args.self.now.clock no_counts (message c))
 
-loaded_is : (c : goal.After-self-2) → record { state = c.load-counts.new.self; counts = c.load-counts.result } ≡ loaded c
+loaded_is : (c : goal.After-self-2)
+    → record { state = c.load-counts.new.self; counts = c.load-counts.result } ≡ loaded_if (accepted c) c.args.self.now.clock.latest (rested (with_time c.args.self.now (message c))) (message c)
 loaded_is c =
     c.load-counts.ensures
     ∙ same_loaded _ _ _ _ _ _ (message c) (c.is_kept.ensures ∙ ap is_kept (kind_is c)) (c.latest-before.ensures.value ∙ ap (λ (g : Gathered). g.clock.latest) c.self.view_is)
-    (c.hear-kind.ensures.step ∙ ap (with_time c.args.self.now) (said_is c))
+    (c.hear-kind.ensures.step ∙ ap (λ m. rested (with_time c.args.self.now m)) (said_is c))
+
+counts_are : (c : goal.After-self-2) → c.load-counts.result ≡ (loaded_if (accepted c) c.args.self.now.clock.latest (with_time c.args.self.now (message c)) (message c)).counts
+counts_are c = ap (λ (l : Loaded). l.counts) (loaded_is c ∙ loaded_rested (accepted c) c.args.self.now.clock.latest (with_time c.args.self.now (message c)) (message c))
 
 step_is : (c : goal.After-self-2) → c.note_closed.new.self ≡ (take_step c.args.self.now (message c)).state
 step_is c =
-    c.note_closed.ensures ∙ ap (λ (l : Loaded). closed_noted l.state) (loaded_is c) ∙ noted_is c.args.self.now (message c)
+    c.note_closed.ensures
+    ∙ closed_is c.args.self.now (message c) (record { state = c.load-counts.new.self; counts = c.load-counts.result }) c.hear-kind.result.1 (loaded_is c)
+    (c.hear-kind.ensures.closed ∙ ap (λ m. is_some (closed_by c.args.self.now.clock m)) (said_is c))
 
 pub returns : goal.returns
 returns c =
     let read = viewed_message c.args.view.now in
     let m = message c in
     let now = c.args.self.now in
-    let kind = c.with_counts.ensures ∙ ap₂ with_counts (ap (λ (l : Loaded). l.counts) (loaded_is c)) (kind_is c) ∙ counted_kind now.clock (take_step now m).counts m in
+    let kind = c.with_counts.ensures ∙ ap₂ with_counts (counts_are c) (kind_is c) ∙ counted_kind now.clock (take_step now m).counts m in
     let step = step_is c in
     let same = ap is_close_first kind in
     let exactly : IsCloseFirstExactly now m c.with_counts.result = λ s ms es h.

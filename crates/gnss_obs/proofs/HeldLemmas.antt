@@ -1,0 +1,76 @@
+-- Kept cells of a system as they arrive.
+use Rattle.std.proofs.Common.{◌≡◌, ℕ, suc, ◌+◌, ◌*◌, ◌<◌, ◌==◌, ◌&&◌, ◌||◌, Bool, true, false, List, [], ◌∷◌, map, refl, sym, ap, ap₂, ◌∙◌, subst, arith, length, All}
+use Rattle.std.specs.Prelude.{fold, if◌then◌else◌}
+use Rattle.std.proofs.lemmas.List.Elements.{All-cons, All-nil, All-head, All-tail}
+use Rattle.gnss_obs.specs.declared.system.System.{System}
+use Rattle.gnss_obs.specs.declared.system.System.TheVariants.{Gps, Galileo}
+use Rattle.gnss_obs.specs.declared.cell.Cell.{Cell}
+use Rattle.gnss_obs.specs.declared.arrivals.Added.{Added}
+use Rattle.gnss_obs.specs.Satellites.{Satellite}
+use Rattle.gnss_obs.specs.Signals.{SignalAt, IsSignal}
+use Rattle.gnss_obs.specs.Values.{AreHeld, EpochValue, IsHeld, cells_of}
+use Rattle.gnss_obs.specs.HeardCells.{IsObserved, heard_cell, same_key}
+use Rattle.gnss_obs.specs.Order.{insert_by, cell_sort_key}
+use Rattle.gnss_obs.specs.Kept.{is_held}
+use Rattle.gnss_obs.specs.Arriving.{AddsCell, IsAdded, slot, has_slot, sorted_cells, outcome_by, cells_after, epoch_with}
+use Rattle.std.proofs.lemmas.Grind.{common_steps}
+
+-- ---- sorted cells
+
+length-insert : (planned : List ℕ) (x : Cell) (ys : List Cell) → length (insert_by (cell_sort_key planned) x ys) ≡ suc (length ys)
+length-insert planned x [] = refl
+length-insert planned x (y ∷ ys) = grind (arith, common_steps, length-insert planned x ys)
+
+all-insert : (P : Cell → Type 0) (planned : List ℕ) (x : Cell) (ys : List Cell) → P x → All P ys → All P (insert_by (cell_sort_key planned) x ys)
+all-insert P planned x [] h all = All-cons P x [] h all
+all-insert P planned x (y ∷ ys) h all = by _ (all-insert P planned x ys h (All-tail P y ys all)) where
+  by : (b : Bool) → All P (insert_by (cell_sort_key planned) x ys) → All P (if b then x ∷ y ∷ ys else y ∷ insert_by (cell_sort_key planned) x ys)
+  by true more = All-cons P x (y ∷ ys) h all
+  by false more = All-cons P y (insert_by (cell_sort_key planned) x ys) (All-head P y ys all) more
+
+all-onto : (P : Cell → Type 0) (planned : List ℕ) (ys xs : List Cell) → All P ys → All P xs → All P (fold (λ zs z. insert_by (cell_sort_key planned) z zs) ys xs)
+all-onto P planned ys [] h all = h
+all-onto P planned ys (x ∷ xs) h all = all-onto P planned (insert_by (cell_sort_key planned) x ys) xs (all-insert P planned x ys (All-head P x xs all) h) (All-tail P x xs all)
+
+length-onto : (planned : List ℕ) (ys xs : List Cell) → length (fold (λ zs z. insert_by (cell_sort_key planned) z zs) ys xs) ≡ length ys + length xs
+length-onto planned ys [] = omega arith
+length-onto planned ys (x ∷ xs) =
+    let a = length-onto planned (insert_by (cell_sort_key planned) x ys) xs in let b = length-insert planned x ys in omega (arith, a, b)
+
+pub held_sorted : (system : System) (planned : List ℕ) (cells : List Cell) → AreHeld system cells → AreHeld system (sorted_cells planned cells)
+held_sorted system planned cells h = record {
+  each = all-onto (IsHeld system) planned [] cells (All-nil (IsHeld system)) h.each;
+  few = let n = length-onto planned [] cells in let m = h.few in omega (arith, n, m);
+}
+
+-- ---- one more cell
+
+low_index : (s : SignalAt) → IsSignal s → s.index < 32
+low_index s h = by s.system h where
+  by : (system : System) → IsSignal (record { system = system; index = s.index }) → s.index < 32
+  by Gps h = omega (arith, h)
+  by Galileo h = omega (arith, h)
+
+slots_same : (i j p q : ℕ) → p < 32 → q < 32 → ((i == j) && (p == q)) ≡ (32 * j + q == 32 * i + p)
+slots_same i j p q h k = grind (arith, common_steps, h, k)
+
+same_is : (system : System) (s t : Satellite) (a b : SignalAt) → s.system ≡ system → t.system ≡ system → same_key s a t b ≡ ((s.id == t.id) && (a.index == b.index))
+same_is Gps s t a b e f = grind (arith, common_steps, e, f)
+same_is Galileo s t a b e f = grind (arith, common_steps, e, f)
+
+pub held_slot : (system : System) (x : Cell) → x.satellite.system ≡ system → IsSignal x.signal → (cells : List Cell) → All (IsHeld system) cells
+    → has_slot (slot x) (map slot cells) ≡ is_held cells (heard_cell x)
+held_slot system x is listed [] all = refl
+held_slot system x is listed (c ∷ cells) all =
+    let one = All-head (IsHeld system) c cells all in
+    ap₂ (λ a b. a || b)
+    (sym (same_is system x.satellite c.satellite x.signal c.signal is one.satellite ∙ slots_same x.satellite.id c.satellite.id x.signal.index c.signal.index (low_index x.signal listed) (low_index c.signal one.place)))
+    (held_slot system x is listed cells (All-tail (IsHeld system) c cells all))
+
+pub is_added : (system : System) (e : EpochValue) (x : Cell) (k : Added) (new : List Cell) → x.satellite.system ≡ system → AreHeld system (cells_of system e) → IsObserved (heard_cell x)
+    → AddsCell (cells_of system e) x k new → IsAdded e x k (epoch_with system e new)
+is_added system e x k new is held observed a = record {
+  outcome = subst (λ s. k ≡ outcome_by (is_held (cells_of s e) (heard_cell x)) (length (cells_of s e))) (sym is)
+      (a.outcome ∙ ap (λ b. outcome_by b (length (cells_of system e))) (held_slot system x is observed.key.signal (cells_of system e) held.each));
+  epoch = subst (λ s. epoch_with system e new ≡ epoch_with s e (cells_after k (cells_of s e) x)) (sym is) (ap (epoch_with system e) a.cells);
+}

@@ -1,0 +1,85 @@
+-- The cells of a pending epoch, in the order in which they arrive.
+use Rattle.std.specs.Prelude.{ℕ, suc, ◌+◌, ◌*◌, ◌%◌, ◌≡◌, ◌<◌, ◌==◌, Bool, nat_le, List, [], ◌∷◌, ◌++◌, length, get_or}
+use Rattle.std.specs.Prelude.{map, fold, if◌then◌else◌}
+use Rattle.std.specs.Option.{option_map_or}
+use Rattle.std.specs.List.{AllByRecursion, list_any}
+use Rattle.gnss_obs.specs.declared.system.System.{System}
+use Rattle.gnss_obs.specs.declared.system.System.TheVariants.{Gps, Galileo}
+use Rattle.gnss_obs.specs.declared.cell.Cell.{Cell}
+use Rattle.gnss_obs.specs.declared.arrivals.Added.{Added}
+use Rattle.gnss_obs.specs.declared.arrivals.Added.TheVariants.{Kept, Repeated, Crowded}
+use Rattle.gnss_obs.specs.HeardCells.{heard_cell}
+use Rattle.gnss_obs.specs.Values.{PlanValue, EpochValue, cells_of, most_cells}
+use Rattle.gnss_obs.specs.Plans.{place_in}
+use Rattle.gnss_obs.specs.Order.{insert_by, cell_sort_key}
+use Rattle.gnss_obs.specs.Kept.{is_held}
+
+-- ---- one more cell
+
+-- The outcome of a cell, from whether its key is kept, and from the number of kept cells of its system.
+abbrev pub outcome_by : Bool → ℕ → Added
+outcome_by held count = if held then Repeated else (if nat_le most_cells count then Crowded else Kept)
+
+-- The cells after a cell of this outcome.
+abbrev pub cells_after : Added → List Cell → Cell → List Cell
+cells_after Kept cells x = cells ++ x ∷ []
+cells_after _ cells x = cells
+
+abbrev pub epoch_with : System → EpochValue → List Cell → EpochValue
+epoch_with Gps e cells = record e { gps = cells }
+epoch_with Galileo e cells = record e { galileo = cells }
+
+-- One more cell is kept, unless one of its key is kept, or there is no room.
+pub record IsAdded (old : EpochValue) (x : Cell) (added : Added) (new : EpochValue) : Type 0 where
+  pub outcome : added ≡ outcome_by (is_held (cells_of x.satellite.system old) (heard_cell x))
+      (length (cells_of x.satellite.system old))
+  pub epoch : new
+      ≡ epoch_with x.satellite.system old (cells_after added (cells_of x.satellite.system old) x)
+
+-- ---- the table that finds the cell of a key
+
+abbrev pub most_slots : ℕ
+most_slots = 1184
+
+-- The index of the entry of a cell's key.
+abbrev pub slot : Cell → ℕ
+slot c = 32 * c.satellite.id + c.signal.index
+
+-- A cell of this entry's key.
+abbrev pub has_slot : ℕ → List ℕ → Bool
+has_slot n slots = list_any (λ s. s == n) slots
+
+-- The entry is the index of a cell of its key.
+abbrev pub IsFound : List ℕ → List ℕ → ℕ → Type 0
+IsFound table slots s = (get_or table s 0 < length slots) × (get_or slots (get_or table s 0) 0 ≡ s)
+
+abbrev pub AreFound : List ℕ → List Cell → Type 0
+AreFound table cells = AllByRecursion (IsFound table (map slot cells)) (map slot cells)
+
+-- One more cell of a system is kept, unless one of its key is kept, or there is no room.
+pub record AddsCell (old : List Cell) (x : Cell) (added : Added) (new : List Cell) : Type 0 where
+  pub outcome : added ≡ outcome_by (has_slot (slot x) (map slot old)) (length old)
+  pub cells : new ≡ cells_after added old x
+
+-- ---- sorting
+
+-- The cells sorted by their sort keys; those with the same sort key in the order in which they arrived.
+abbrev pub sorted_cells : List ℕ → List Cell → List Cell
+sorted_cells planned cells = fold (λ ys c. insert_by (cell_sort_key planned) c ys) [] cells
+
+abbrev pub sorted_epoch : PlanValue → EpochValue → EpochValue
+sorted_epoch p e =
+    record { time = e.time; gps = sorted_cells p.gps e.gps; galileo = sorted_cells p.galileo e.galileo }
+
+-- A number that rises with the sort key.
+abbrev pub cell_number : List ℕ → Cell → ℕ
+cell_number planned c = 64 * c.satellite.id + option_map_or (λ p. p) (place_in c.signal planned) 0
+
+-- The numbers of cells, from index i on, each with its index as the last byte.
+abbrev pub numbers : List ℕ → ℕ → List Cell → List ℕ
+numbers planned i [] = []
+numbers planned i (c ∷ cells) = (256 * cell_number planned c + i) ∷ numbers planned (suc i) cells
+
+-- The cells whose indices are the last bytes of these numbers.
+abbrev pub picked : List Cell → Cell → List ℕ → List Cell
+picked cells d order = map (λ n. get_or cells (n % 256) d) order

@@ -1,0 +1,173 @@
+//! The cells of an epoch as they arrive.
+ghost use Rattle.std.specs.Prelude.{◌≡◌, ◌<◌, [], IfOk};
+ghost use Rattle.gnss_obs.specs.HeardCells.{heard_cell, IsObserved};
+ghost use Rattle.gnss_obs.specs.Arriving.{IsAdded, AddsCell, sorted_cells, sorted_epoch};
+ghost use Rattle.gnss_obs.specs.Values.{AreHeld, cells_of, planned_of};
+
+use crate::cell::{Cell, StationValues};
+use crate::cells::Cells;
+use crate::epoch::{Epoch, MOST_CELLS};
+use crate::order::{are_in_order, sort_into};
+use crate::plan::Plan;
+use crate::system::System;
+use crate::time::GpsTime;
+use std::alloc::{AllocError, Global};
+use std::boxed::Box;
+use std::marker::Model;
+use std::mem;
+
+/// The outcome of a cell.
+#[derive(Clone, Copy)]
+pub enum Added {
+    /// The cell was kept.
+    Kept,
+    /// A cell of its satellite and signal is kept.
+    Repeated,
+    /// 256 cells of its system are kept.
+    Crowded,
+}
+
+/// An epoch whose cells are kept in the order in which they arrive.
+#[derive(Drop)]
+pub struct Arrivals {
+    time: GpsTime,
+    // On the heap, so that a move is short.
+    gps: Box<Cells>,
+    galileo: Box<Cells>,
+    values: StationValues,
+}
+
+impl Model for Arrivals {
+    ghost use Rattle.gnss_obs.specs.declared.system.System.TheVariants.{Gps, Galileo};
+    ghost use Rattle.gnss_obs.specs.Values.{AreHeld, Closed};
+
+    ghost Value = { Closed };
+
+    ghost view = { λ e.
+        record {
+          epoch = record { time = e.time; gps = e.gps.value; galileo = e.galileo.value };
+          values = e.values;
+        } };
+
+    ghost invariant = { λ e. AreHeld Gps e.gps.value × AreHeld Galileo e.galileo.value };
+}
+
+impl Arrivals {
+    /// Returns an epoch of time 0 without cells.
+    ///
+    /// # Errors
+    ///
+    /// `AllocError` if an allocation failed.
+    pub fn new(alloc: Global, values: StationValues) -> Result<Arrivals, AllocError>
+        ensures { IfOk result
+            (λ e. e ≡ record { epoch = record { time = 0; gps = []; galileo = [] }; values = values }) }
+    {
+        let gps = no_cells(alloc)?;
+        let galileo = no_cells(alloc)?;
+        Ok(Arrivals {
+            time: GpsTime::within(0),
+            gps,
+            galileo,
+            values,
+        })
+    }
+
+    /// Begins the epoch of another time, without cells.
+    pub fn begin(&mut self, time: GpsTime)
+        ensures { self.new
+            ≡ record { epoch = record { time = time; gps = []; galileo = [] }; values = self.old.values } }
+    {
+        self.time = time;
+        self.gps.clear();
+        self.galileo.clear();
+    }
+
+    /// Sets the station values.
+    pub fn set_values(&mut self, values: StationValues)
+        ensures { self.new ≡ record { epoch = self.old.epoch; values = values } }
+    {
+        self.values = values;
+    }
+
+    /// Returns the cells of a system.
+    pub fn cells(&self, system: System) -> &[Cell]
+        ensures cells { result.now ≡ cells_of system self.now.epoch }
+        ensures held { AreHeld system result.now }
+    {
+        match system {
+            System::Gps => self.gps.as_slice(),
+            System::Galileo => self.galileo.as_slice(),
+        }
+    }
+
+    /// Returns the station values.
+    pub fn station_values(&self) -> StationValues
+        ensures { result ≡ self.now.values }
+    {
+        self.values
+    }
+
+    /// Returns the time of the epoch.
+    pub fn time(&self) -> GpsTime
+        ensures { result ≡ self.now.epoch.time }
+    {
+        self.time
+    }
+
+    /// Appends a cell, unless one of its satellite and signal is kept, or 256 of its system.
+    #[inline(always)]
+    pub fn add(&mut self, x: Cell) -> Added
+        requires observed { IsObserved (heard_cell x) }
+        requires indicator { x.lli < 4 }
+        ensures epoch { IsAdded self.old.epoch x result self.new.epoch }
+        ensures values { self.new.values ≡ self.old.values }
+    {
+        match x.satellite.system() {
+            System::Gps => add(&mut self.gps, x),
+            System::Galileo => add(&mut self.galileo, x),
+        }
+    }
+    /// Sorts the cells of each system by satellite and then by the order of a plan.
+    pub fn sort(&mut self, plan: &Plan, spare: &mut Box<Cells>)
+        ensures { self.new ≡ record { epoch = sorted_epoch plan.now self.old.epoch; values = self.old.values } }
+    {
+        sort(&mut self.gps, plan, System::Gps, spare);
+        sort(&mut self.galileo, plan, System::Galileo, spare);
+    }
+}
+
+// Returns an empty list of cells. It isn't inlined, so that the stack has room for one at most.
+#[inline(never)]
+pub(crate) fn no_cells(alloc: Global) -> Result<Box<Cells>, AllocError>
+    ensures { IfOk result (λ cells. cells.value ≡ []) }
+{
+    match Box::new(alloc, Cells::new()) {
+        Ok(cells) => Ok(cells),
+        Err(_) => Err(AllocError),
+    }
+}
+
+// Appends a cell, unless one of its key is kept or there is no room.
+#[inline(always)]
+fn add(cells: &mut Cells, x: Cell) -> Added
+    ensures { AddsCell cells.old x result cells.new }
+{
+    if cells.has_key_of(&x) {
+        return Added::Repeated;
+    }
+    if cells.as_slice().len() >= MOST_CELLS {
+        return Added::Crowded;
+    }
+    cells.push(x);
+    Added::Kept
+}
+
+// Sorts the cells of a system. They are copied only if they aren't in order.
+fn sort(cells: &mut Box<Cells>, plan: &Plan, system: System, spare: &mut Box<Cells>)
+    ensures { cells.new.value ≡ sorted_cells (planned_of system plan.now) cells.old.value }
+{
+    if !are_in_order(cells.as_slice(), plan, system) {
+        sort_into(spare, cells.as_slice(), plan, system);
+        mem::swap(cells, spare);
+    }
+}
