@@ -35,7 +35,6 @@ pub use header::{MsmHeader, WEEK};
 pub use masks::Masks;
 pub use message::{Message, decode, encode};
 pub use msm::Msm;
-pub use presence::{Presence, Presences};
 pub use station::{Station, StationParts};
 pub use summary::Summary;
 pub use value_counts::ValueCounts;
