@@ -249,15 +249,16 @@ module _ (are_lines : (v : FileValue) → IsFileValue v → All IsLine (file_lin
       lines ∙ ap (λ l. taken ++ l) none ∙ append-nil taken
 
   -- the input ends before the next line's line feed; if no byte of the line was read, more lines are expected
-  pub cut : (s : Progress) (n : ℕ) (a b c : Option (List ℕ)) (bytes : List ℕ) (t : IsTaken s n a b) → AreBegun t.lines → has 10 bytes ≡ false → IsAtEnd c → Consumes b c bytes
+  pub cut : (s : Progress) (n : ℕ) (a b c : Option (List ℕ)) (bytes : List ℕ) (t : IsTaken s n a b) → AreBegun t.lines → has 10 bytes ≡ false → length bytes < 1220 → IsAtEnd c → Consumes b c bytes
       → (bytes ≡ [] → (v : FileValue) → HasLinesLeft s v [] → ⊥) → IfSome a (λ input. IsCutShort input (n + 1))
-  cut s n a b c bytes t begun endless end next never =
+  cut s n a b c bytes t begun endless few end next never =
       consumed_all a c (joined t.lines ++ bytes) (λ input. IsCutShort input (n + 1)) (Consumes-trans a b c (joined t.lines) bytes t.taken next) end (record {
         lines = t.lines;
         rest = bytes;
         first = record { are = t.are; first = refl };
         count = ap (λ (k : ℕ). k + 1) t.many;
         endless = endless;
+        size = few;
         begun = begun;
         none = λ v is e.
             let same = after v t.lines bytes is t.are e endless in

@@ -26,7 +26,7 @@ IsLine line = (body : List ℕ) × (line ≡ body ++ 10 ∷ []) × (has 10 body 
 -- what the bytes are that were consumed for a line, if `left` is the rest of the input, and the reader's failures
 abbrev pub IsFound : Found → List ℕ → Option (List ℕ) → ℕ → ℕ → Type 0
 IsFound Line bytes left old new = IsLine bytes × (new ≡ old)
-IsFound End bytes left old new = (has 10 bytes ≡ false) × IsAtEnd left × (new ≡ old)
+IsFound End bytes left old new = (has 10 bytes ≡ false) × IsAtEnd left × (new ≡ old) × (length bytes < most_line)
 IsFound Long bytes left old new = (length bytes ≡ most_line) × (has 10 bytes ≡ false) × (new ≡ old)
 IsFound Failed bytes left old new = HasFailed old new
 
@@ -57,14 +57,15 @@ pub record IsOverLong (input : List ℕ) (k : ℕ) : Type 0 where
   pub size : length long ≡ most_line
   pub endless : has 10 long ≡ false
 
--- the input ends before the line feed of line k, some file may begin with the lines before it, and the input is no
--- file value's text
+-- the input ends before the line feed of line k, which has fewer than 1,220 bytes, some file may begin with the lines
+-- before it, and the input is no file value's text
 pub record IsCutShort (input : List ℕ) (k : ℕ) : Type 0 where
   pub lines : List (List ℕ)
   pub rest : List ℕ
   pub first : AreFirstLines input lines rest
   pub count : length lines + 1 ≡ k
   pub endless : has 10 rest ≡ false
+  pub size : length rest < most_line
   pub begun : AreBegun lines
   pub none : (v : FileValue) → IsFileValue v → input ≡ file_text v → ⊥
 

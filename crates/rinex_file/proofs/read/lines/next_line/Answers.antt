@@ -13,17 +13,21 @@ pub loop-block-init : goal.loop-block-init
 loop-block-init g c = grind (arith, Consumes-nil, leaves_all)
 
 -- what was found in the place of more bytes is found after those so far
-found_after : (f : Found) (bytes : List ℕ) (left : Option (List ℕ)) (first old new : ℕ) → has 10 bytes ≡ false → old ≡ first → IsFound f [] left old new → IsFound f bytes left first new
-found_after Line bytes left first old new endless same ((body, shape, none), fine) = absurd (not_nil _ [] (body, shape, none) refl)
-found_after End bytes left first old new endless same (none, end, fine) = (endless, end, fine ∙ same)
-found_after Long bytes left first old new endless same (size, none, fine) = absurd (omega (arith, size))
-found_after Failed bytes left first old new endless same failed = subst (λ (n : ℕ). HasFailed n new) same failed
+found_after : (f : Found) (bytes : List ℕ) (left : Option (List ℕ)) (first old new : ℕ) → has 10 bytes ≡ false → length bytes < 1220 → old ≡ first → IsFound f [] left old new → IsFound f bytes left first new
+found_after Line bytes left first old new endless few same ((body, shape, none), fine) = absurd (not_nil _ [] (body, shape, none) refl)
+found_after End bytes left first old new endless few same (none, end, fine, empty) = (endless, end, fine ∙ same, few)
+found_after Long bytes left first old new endless few same (size, none, fine) = absurd (omega (arith, size))
+found_after Failed bytes left first old new endless few same failed = subst (λ (n : ℕ). HasFailed n new) same failed
+
+not_full : (n m : ℕ) → false ≡ nat_eq n m → n ≤ m → n < m
+not_full n m h most = grind arith
 
 pub returns-in-Some-clause-taken : goal.returns-in-Some-clause-taken
 returns-in-Some-clause-taken g c = (consumed_none _ _ _ _ c.loop-block.invariant.taken c.fill.ensures.same, leaves_more _ _ _ c.loop-block.invariant.left c.fill.ensures.left)
 
 pub returns-in-Some-clause-found : goal.returns-in-Some-clause-found
-returns-in-Some-clause-found g c = found_after c.in-Some.found _ _ _ _ _ c.loop-block.invariant.endless c.loop-block.invariant.same c.in-Some.ensures.none
+returns-in-Some-clause-found g c = found_after c.in-Some.found _ _ _ _ _ c.loop-block.invariant.endless
+    (not_full _ _ (sym c.loop-block-test.true ∙ c.is_full.ensures.value) c.loop-block.invariant.within) c.loop-block.invariant.same c.in-Some.ensures.none
 
 pub returns-then-move_to-clause-taken : goal.returns-then-move_to-clause-taken
 returns-then-move_to-clause-taken g c =
@@ -34,9 +38,6 @@ returns-then-move_to-clause-found g c = (
   line_whole _ _ _ _ c.loop-block.invariant.endless (subst (λ (b : Bool). MovesBytes b c.fill.new.self c.move_to.new.self c.loop-block.line.items c.move_to.new.line.items) c.if-move_to.true c.move_to.ensures),
   c.in_default.ensures.some.1 ∙ c.loop-block.invariant.same,
 )
-
-not_full : (n m : ℕ) → false ≡ nat_eq n m → n ≤ m → n < m
-not_full n m h most = grind arith
 
 pub loop-block-preserved : goal.loop-block-preserved
 loop-block-preserved g c =
