@@ -38,6 +38,20 @@ place_and_width RecVersion = (8, 20)
 place_and_width AntNumber = (9, 20)
 place_and_width AntType = (10, 20)
 
+-- its name, as that of its option with underscores
+abbrev pub field_name : HeaderField → List ℕ
+field_name RunBy = codes "run_by"
+field_name Date = codes "date"
+field_name Marker = codes "marker"
+field_name MarkerType = codes "marker_type"
+field_name Observer = codes "observer"
+field_name Agency = codes "agency"
+field_name RecNumber = codes "rec_number"
+field_name RecType = codes "rec_type"
+field_name RecVersion = codes "rec_version"
+field_name AntNumber = codes "ant_number"
+field_name AntType = codes "ant_type"
+
 -- ---- their rows
 
 -- the rows of texts, in order

@@ -1,6 +1,7 @@
 //! The texts of a header: their rows, widths and names. RINEX 3.05, table A2.
 ghost use Rattle.std.specs.Prelude.{◌≡◌, ◌<◌, ◌≤◌, length};
-ghost use Rattle.rinex_file.specs.Texts.{place_of, width_of, fields_of, text_count, front_of, label_of};
+ghost use Rattle.rinex_file.specs.Texts.{field_name, fields_of, front_of, label_of, place_of, text_count};
+ghost use Rattle.rinex_file.specs.Texts.{width_of};
 
 use HeaderField::*;
 use std::fmt::{self, Debug, Formatter, Write};
@@ -102,7 +103,10 @@ impl HeaderField {
     }
 
     /// Returns the name of the field in [`Texts`](crate::Texts).
-    pub fn name(self) -> &'static str {
+    pub fn name(self) -> &'static str
+        ensures value { result.now ≡ field_name self }
+        ensures short { length result.now ≤ 11 }
+    {
         NAMES[self.place()]
     }
 
