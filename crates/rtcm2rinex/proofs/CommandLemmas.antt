@@ -15,7 +15,9 @@ use Rattle.clap.specs.declared.error.kind.ErrorKind.TheVariants as kind
 use Rattle.clap.specs.declared.parser.matches.ArgMatches.{ArgMatches}
 use Rattle.rtcm_bits.specs.Device.{Device}
 use Rattle.rtcm2rinex.specs.CommandLine.{SelectsCommand, IsFoundIn, RefusesWords}
-use Rattle.rtcm2rinex.specs.Commands.{AreRefused, EndsCommand, EndsFound, HasCommand, HasStoppedEarly, HasCompleted, HasStopped, StopsPrinting, fault_status, status_of}
+use Rattle.rtcm2rinex.specs.Commands.{AreRefused, EndsCommand, EndsFound, HasCommand, HasCompleted, HasDone, HasStopped, HasStoppedEarly, StopsPrinting, fault_status, status_of}
+use Rattle.rtcm2rinex.specs.ErrorLines.{error_line}
+use Rattle.rtcm2rinex.specs.Printing.{PrintsFault, PrintsLine}
 use Rattle.rtcm2rinex.specs.SetupOptions.{IsSetupRefused}
 use Rattle.rtcm_convert.specs.Faults.{IsUntouched}
 use Rattle.rtcm2rinex.specs.Devices.{Ends}
@@ -64,31 +66,51 @@ sub_found (Some b) n o e f =
     sym (ap₂ (λ (x : Text) (y : List Row). Some (x, y)) p q)
 
 -- how the command that was found ended
-pub ends_found : {A R W : Type 0} (ended : Result A ToolFault) (left : R → Option (List ℕ)) (held : W → Option (List ℕ)) (r r2 : Device R) (w w2 : Device W) (m : ArgMatches) (n : Text) (o : List Row)
-    → Some n ≡ subcommand_name_of m → Some o ≡ option_map (λ p. p.1) (subcommand_rows (out-ArgMatches m).subcommand) → EndsCommand ended left r r2 held w w2 n o
-    → EndsFound ended (subcommand_rows_of m) left r r2 held w w2
-ends_found ended left held r r2 w w2 m n o e f h = (n, o, sub_found (out-ArgMatches m).subcommand n o e f, h)
+pub ends_found : {A R W E : Type 0} (ended : Result A ToolFault) (left : R → Option (List ℕ)) (held : W → Option (List ℕ)) (told : E → Option (List ℕ)) (r r2 : Device R) (w w2 : Device W) (e e2 : Device E) (m : ArgMatches) (n : Text) (o : List Row)
+    → Some n ≡ subcommand_name_of m → Some o ≡ option_map (λ p. p.1) (subcommand_rows (out-ArgMatches m).subcommand) → EndsCommand ended left r r2 held w w2 told e e2 n o
+    → EndsFound ended (subcommand_rows_of m) left r r2 held w w2 told e e2
+ends_found ended left held told r r2 w w2 e e2 m n o is rows h = (n, o, sub_found (out-ArgMatches m).subcommand n o is rows, h)
 
 -- a command that was found twice is the same
 asked : (words : List Text) (found : Option (Text × List Row)) (n n2 : Text) (o o2 : List Row) → found ≡ Some (n, o) → found ≡ Some (n2, o2) → SelectsCommand words n o → SelectsCommand words n2 o2
 asked words found n n2 o o2 p q a = (a.0, a.1, a.2, a.3 ∙ sym p ∙ q)
 
-module _ {R W : Type 0} (left : R → Option (List ℕ)) (held : W → Option (List ℕ)) (r r2 : Device R) (w w2 : Device W) (words : List Text) where
-  pub served : (m : ArgMatches) (ended : Result ⊤ ToolFault) (status : ℕ) → status ≡ status_of ended → IsFoundIn words m
-      → EndsFound ended (subcommand_rows_of m) left r r2 held w w2 → status ≡ 0 → HasCompleted left r r2 held w w2 words
-  served m (Ok u) status is found end zero =
-      inl (end.0, end.1, asked words (subcommand_rows_of m) found.0 end.0 found.1 end.1 found.3 end.2 found.4, end.3.0, end.3.1)
-  served m (Err fault) status is found end zero = absurd (never_zero fault (sym is ∙ zero))
+-- a fault that was printed after the command, which prints none
+printed_after : {E : Type 0} (told : E → Option (List ℕ)) (e e1 e2 : Device E) (text : List ℕ) → e1 ≡ e → PrintsLine told e1 e2 text → PrintsLine told e e2 text
+printed_after {E = E} told e e1 e2 text same h = subst (λ (d : Device E). PrintsLine told d e2 text) same h
 
-  pub failed_to_serve : (m : ArgMatches) (ended : Result ⊤ ToolFault) (status : ℕ) → status ≡ status_of ended → IsFoundIn words m
-      → EndsFound ended (subcommand_rows_of m) left r r2 held w w2 → status ≡ 1 → HasStoppedEarly left r r2 held w w2 words
-  failed_to_serve m (Ok u) status is found end one = absurd (let bad : 0 ≡ 1 = sym is ∙ one in omega (arith, bad))
-  failed_to_serve m (Err fault) status is found end one =
-      inl (end.0, end.1, fault, asked words (subcommand_rows_of m) found.0 end.0 found.1 end.1 found.3 end.2 found.4, end.3.0, end.3.1)
+-- the words: the writer for faults was e, was e1 when the command ended, and is e2 at the end
+module _ {R W E : Type 0} (left : R → Option (List ℕ)) (held : W → Option (List ℕ)) (told : E → Option (List ℕ)) (r r2 : Device R) (w w2 : Device W) (e e1 e2 : Device E) (words : List Text) where
+  pub served : (m : ArgMatches) (ended : Result ⊤ ToolFault) (status : ℕ) → status ≡ status_of ended → PrintsFault ended told e1 e2 → IsFoundIn words m
+      → EndsFound ended (subcommand_rows_of m) left r r2 held w w2 told e e1 → status ≡ 0 → HasCompleted left r r2 held w w2 told e e2 words
+  served m (Ok u) status is line found end zero =
+      inl (
+        end.0,
+        end.1,
+        asked words (subcommand_rows_of m) found.0 end.0 found.1 end.1 found.3 end.2 found.4,
+        end.3.0,
+        subst (λ (d : Device E). HasDone left r r2 held w w2 told e d end.0 end.1) (sym line) end.3.1,
+      )
+  served m (Err fault) status is line found end zero = absurd (never_zero fault (sym is ∙ zero))
 
-  pub answered_in_part : (e : Error) → RefusesWords words e → StopsPrinting (kind_of e) held w w2 → r2 ≡ r → HasStoppedEarly left r r2 held w w2 words
-  answered_in_part e refused (inl same) unread = inr (inr (unread, same))
-  answered_in_part e refused (inr part) unread = inr (inl (is_version words e refused part.0, unread, part.1))
+  pub failed_to_serve : (m : ArgMatches) (ended : Result ⊤ ToolFault) (status : ℕ) → status ≡ status_of ended → PrintsFault ended told e1 e2 → IsFoundIn words m
+      → EndsFound ended (subcommand_rows_of m) left r r2 held w w2 told e e1 → status ≡ 1 → HasStoppedEarly left r r2 held w w2 told e e2 words
+  failed_to_serve m (Ok u) status is line found end one = absurd (let bad : 0 ≡ 1 = sym is ∙ one in omega (arith, bad))
+  failed_to_serve m (Err fault) status is line found end one =
+      inl (
+        end.0,
+        end.1,
+        fault,
+        asked words (subcommand_rows_of m) found.0 end.0 found.1 end.1 found.3 end.2 found.4,
+        sym is ∙ one,
+        end.3.0,
+        end.3.1.0,
+        printed_after told e e1 e2 (error_line fault) end.3.1.1 line,
+      )
+
+  pub answered_in_part : (error : Error) → RefusesWords words error → StopsPrinting (kind_of error) held w w2 told e e2 → r2 ≡ r → HasStoppedEarly left r r2 held w w2 told e e2 words
+  answered_in_part error refused (inl memory) unread = inr (inr ((unread, memory.1), memory.2))
+  answered_in_part error refused (inr part) unread = inr (inl (is_version words error refused part.0, unread, part.1, part.2))
 
 -- a command with status 2 is a conversion that is refused before anything is read
 abbrev IsRefusedBy : {R W : Type 0} → (r r2 : Device R) → (w w2 : Device W) → Text → List Row → ToolFault → Type 0
@@ -126,15 +148,17 @@ module _ {R W : Type 0} (left : R → Option (List ℕ)) (held : W → Option (L
   refused_by (faults.Check e) two stopped = absurd (one_two two)
   refused_by faults.NoSignal two stopped = absurd (one_two two)
 
-pub refused_at_two : {R W : Type 0} (left : R → Option (List ℕ)) (held : W → Option (List ℕ)) (r r2 : Device R) (w w2 : Device W) (words : List Text) (m : ArgMatches) (ended : Result ⊤ ToolFault) (status : ℕ)
-    → status ≡ status_of ended → IsFoundIn words m → EndsFound ended (subcommand_rows_of m) left r r2 held w w2 → status ≡ 2 → AreRefused words × IsUntouched r r2 w w2
-refused_at_two left held r r2 w w2 words m (Ok u) status is found end two = absurd (let bad : 0 ≡ 2 = sym is ∙ two in omega (arith, bad))
-refused_at_two left held r r2 w w2 words m (Err fault) status is found end two =
+pub refused_at_two : {R W E : Type 0} (left : R → Option (List ℕ)) (held : W → Option (List ℕ)) (told : E → Option (List ℕ)) (r r2 : Device R) (w w2 : Device W) (e e1 e2 : Device E) (words : List Text) (m : ArgMatches) (ended : Result ⊤ ToolFault) (status : ℕ)
+    → status ≡ status_of ended → PrintsFault ended told e1 e2 → IsFoundIn words m → EndsFound ended (subcommand_rows_of m) left r r2 held w w2 told e e1 → status ≡ 2
+    → AreRefused told e e2 words × IsUntouched r r2 w w2
+refused_at_two left held told r r2 w w2 e e1 e2 words m (Ok u) status is line found end two = absurd (let bad : 0 ≡ 2 = sym is ∙ two in omega (arith, bad))
+refused_at_two left held told r r2 w w2 e e1 e2 words m (Err fault) status is line found end two =
     let same : fault_status fault ≡ 2 = sym is ∙ two in
-    let refused = refused_by left held r r2 w w2 end.0 end.1 fault same end.3.1 in
+    let refused = refused_by left held r r2 w w2 end.0 end.1 fault same end.3.1.0 in
     let asks : SelectsCommand words end.0 end.1 = asked words (subcommand_rows_of m) found.0 end.0 found.1 end.1 found.3 end.2 found.4 in
-    (inr (end.1, fault, subst (λ (n : Text). SelectsCommand words n end.1) refused.0 asks, refused.1, same), refused.2)
+    (inr (end.1, fault, subst (λ (n : Text). SelectsCommand words n end.1) refused.0 asks, refused.1, same, printed_after told e e1 e2 (error_line fault) end.3.1.1 line), refused.2)
 
-pub refused_words : (words : List Text) (e : Error) → RefusesWords words e → (kind_of e ≢ kind.DisplayVersion) → (kind_of e ≢ kind.OutOfMemory) → AreRefused words
-refused_words words e (inl memory) version some = absurd (some memory)
-refused_words words e (inr answered) version some = inl (kind_of e, answered, version)
+pub refused_words : {E : Type 0} (told : E → Option (List ℕ)) (e e2 : Device E) (words : List Text) (error : Error) → RefusesWords words error → (kind_of error ≢ kind.DisplayVersion) → (kind_of error ≢ kind.OutOfMemory)
+    → AreRefused told e e2 words
+refused_words told e e2 words error (inl memory) version some = absurd (some memory)
+refused_words told e e2 words error (inr answered) version some = inl (kind_of error, answered, version)

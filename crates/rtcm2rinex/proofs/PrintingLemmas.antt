@@ -1,13 +1,13 @@
 -- Texts written in one call, and failed calls.
-use Rattle.std.proofs.Common.{◌≡◌, sym, subst, append-nil, ℕ, List, [], Option, Result, Ok, Err, OnErr, OnOk}
+use Rattle.std.proofs.Common.{◌≡◌, inl, inr, sym, subst, append-nil, ℕ, List, [], Option, Result, Ok, Err, OnErr, OnOk}
 use Rattle.std.specs.Io.KnownBytes.{Appends, Keeps}
 use Rattle.std.proofs.KnownBytes.{Appends-kept}
-use Rattle.rtcm_bits.specs.Device.{AppendsPrefix, Device}
+use Rattle.rtcm_bits.specs.Device.{AppendsPrefix, Device, FailsWith}
 use Rattle.rtcm_bits.specs.declared.counted.DeviceFailed.{DeviceFailed}
 use Rattle.std.specs.Prelude.{⊤}
 use Rattle.std.specs.Result.{IsErrAnd}
 use Rattle.rtcm2rinex.specs.Listing.{WritesLine}
-use Rattle.rtcm2rinex.specs.Printing.{EndsPrinting}
+use Rattle.rtcm2rinex.specs.Printing.{EndsPrinting, PrintsLine}
 use Rattle.rtcm2rinex.specs.declared.fault.ToolFault.{ToolFault}
 
 pub on_err : {A E : Type 0} (r : Result A E) (P Q : Type 0) → (P → Q) → OnErr r P → OnErr r Q
@@ -29,6 +29,12 @@ both_err (Err e) P Q p q = (p, q)
 -- a text that was written but couldn't be flushed
 pub kept_front : (a b c : Option (List ℕ)) (text : List ℕ) → Appends a b text → Keeps b c → AppendsPrefix a c text
 kept_front a b c text h k = ([], (text, sym (append-nil text), Appends-kept a b c text h k))
+
+-- a line that was written, in whole or in part
+pub line_printed : {E : Type 0} (r : Result ⊤ DeviceFailed) (told : E → Option (List ℕ)) (e e2 : Device E) (text : List ℕ) → OnOk r (Appends (told e.inner) (told e2.inner) text)
+    → OnErr r (AppendsPrefix (told e.inner) (told e2.inner) text) → FailsWith r e e2 → PrintsLine told e e2 text
+line_printed (Ok u) told e e2 text whole part device = inl (device.1, whole)
+line_printed (Err failed) told e e2 text whole part device = inr (device.0, part)
 
 -- the same text in other terms
 pub same_text : {A W : Type 0} (r : Result A ToolFault) (held : W → Option (List ℕ)) (w w2 : Device W) (x y : List ℕ) → x ≡ y → EndsPrinting r held w w2 x → EndsPrinting r held w w2 y

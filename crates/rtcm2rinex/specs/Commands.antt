@@ -1,8 +1,9 @@
--- What the program has read and written when it ends: the reader was r and is r', the writer was w and is w'.
+-- What the program has read and written when it ends: the reader was r and is r', the writer was w and is w', and the
+-- writer for faults was e and is e'.
 use Rattle.std.specs.Prelude.{◌≡◌, ◌⊎◌, ◌^◌, ℕ, List, Option, Some, Result, Ok, Err, codes}
 use Rattle.clap.specs.Simple.{subcommand_rows_of}
 use Rattle.clap.specs.Walk.{Row, Text}
-use Rattle.clap.specs.declared.error.kind.ErrorKind.TheVariants.{DisplayVersion}
+use Rattle.clap.specs.declared.error.kind.ErrorKind.TheVariants.{DisplayVersion, OutOfMemory}
 use Rattle.clap.specs.declared.error.kind.ErrorKind.{ErrorKind}
 use Rattle.clap.specs.declared.parser.matches.ArgMatches.{ArgMatches}
 use Rattle.rtcm_bits.specs.Device.{Device}
@@ -17,8 +18,9 @@ use Rattle.rtcm2rinex.specs.SignalOutput.{PrintsAsked, StopsAsked}
 use Rattle.rtcm2rinex.specs.Signals.{signals_text}
 use Rattle.rtcm2rinex.specs.Fitting.{options_text}
 use Rattle.rtcm2rinex.specs.CommandLine.{SelectsCommand, FailsParsing, IsCommand}
-use Rattle.rtcm2rinex.specs.Printing.{PrintsText, PrintsPart}
+use Rattle.rtcm2rinex.specs.Printing.{PrintsLine, PrintsPart, PrintsText}
 use Rattle.rtcm2rinex.specs.Devices.{AreFine, Ends, HaveFailedBy}
+use Rattle.rtcm2rinex.specs.ErrorLines.{error_line}
 use Rattle.rtcm2rinex.specs.SetupOptions.{IsSetupRefused}
 use Rattle.rtcm2rinex.specs.declared.fault.ToolFault.{ToolFault}
 use Rattle.rtcm2rinex.specs.declared.fault.ToolFault.TheVariants as faults
@@ -26,17 +28,24 @@ use Rattle.rtcm2rinex.specs.declared.cli.TheConstants.{VERSION}
 use Rattle.rtcm2rinex.specs.declared.command.Asked.{Asked}
 use Rattle.rtcm2rinex.specs.declared.command.Asked.TheVariants as asked
 
--- The command of this name completed with these options: the stream was read to its end and listed, its signals or
--- options were printed, or its file was written and has an epoch; or a file was read back.
-abbrev pub HasDone : {R W : Type 0} → (R → Option (List ℕ)) → (r r' : Device R) → (W → Option (List ℕ))
+-- A command other than `convert` completed with these options: the stream was read to its end and listed, its signals
+-- or options were printed, or a file was read back.
+abbrev pub HasPrinted : {R W : Type 0} → (R → Option (List ℕ)) → (r r' : Device R) → (W → Option (List ℕ))
     → (w w' : Device W) → Text → List Row → Type 0
-HasDone left r r' held w w' name options =
+HasPrinted left r r' held w w' name options =
     ((name ≡ codes "frames") × Moves left r r' held w w' (ListsAll frame_lines))
     ⊎ ((name ≡ codes "show") × Moves left r r' held w w' (ListsAll show_lines))
     ⊎ ((name ≡ codes "signals") × Moves left r r' held w w' (PrintsAsked signals_text options))
     ⊎ ((name ≡ codes "options") × Moves left r r' held w w' (PrintsAsked options_text options))
-    ⊎ ((name ≡ codes "convert") × IsConverted options (left r.inner) (held w.inner) (held w'.inner))
     ⊎ ((name ≡ codes "check") × ChecksFile (left r.inner) (held w.inner) (held w'.inner))
+
+-- The command of this name completed: the file of the stream was written, which has an epoch, and its report was
+-- printed; or any other command, and nothing was written to standard error.
+abbrev pub HasDone : {R W E : Type 0} → (R → Option (List ℕ)) → (r r' : Device R) → (W → Option (List ℕ))
+    → (w w' : Device W) → (E → Option (List ℕ)) → (e e' : Device E) → Text → List Row → Type 0
+HasDone left r r' held w w' told e e' name options =
+    ((name ≡ codes "convert") × IsConverted options (left r.inner) (held w.inner) (held w'.inner) told e e')
+    ⊎ (HasPrinted left r r' held w w' name options × (e' ≡ e))
 
 -- the command was stopped by a fault
 abbrev pub HasStopped : {R W : Type 0} → (R → Option (List ℕ)) → (r r' : Device R) → (W → Option (List ℕ))
@@ -49,11 +58,12 @@ HasStopped left r r' held w w' name options fault =
     ⊎ ((name ≡ codes "convert") × StopsConverting options left r r' held w w' fault)
     ⊎ ((name ≡ codes "check") × StopsChecking left r r' held w w' fault)
 
--- how the command ended
-abbrev pub EndsCommand : {A R W : Type 0} → Result A ToolFault → (R → Option (List ℕ)) → (r r' : Device R)
-    → (W → Option (List ℕ)) → (w w' : Device W) → Text → List Row → Type 0
-EndsCommand result left r r' held w w' name options =
-    Ends result r r' w w' (λ _. HasDone left r r' held w w' name options) (HasStopped left r r' held w w' name options)
+-- how the command ended; it prints no fault
+abbrev pub EndsCommand : {A R W E : Type 0} → Result A ToolFault → (R → Option (List ℕ)) → (r r' : Device R)
+    → (W → Option (List ℕ)) → (w w' : Device W) → (E → Option (List ℕ)) → (e e' : Device E) → Text → List Row → Type 0
+EndsCommand result left r r' held w w' told e e' name options =
+    Ends result r r' w w' (λ _. HasDone left r r' held w w' told e e' name options)
+    (λ fault. HasStopped left r r' held w w' name options fault × (e' ≡ e))
 
 -- the name of a command
 abbrev pub name_of : Asked → Text
@@ -69,36 +79,13 @@ abbrev pub HasCommand : ArgMatches → Type 0
 HasCommand m = (name : Text) × (options : List Row) × IsCommand name × (subcommand_rows_of m ≡ Some (name, options))
 
 -- how the command that was found ended
-abbrev pub EndsFound : {A R W : Type 0} → Result A ToolFault → Option (Text × List Row) → (R → Option (List ℕ))
-    → (r r' : Device R) → (W → Option (List ℕ)) → (w w' : Device W) → Type 0
-EndsFound result found left r r' held w w' =
+abbrev pub EndsFound : {A R W E : Type 0} → Result A ToolFault → Option (Text × List Row) → (R → Option (List ℕ))
+    → (r r' : Device R) → (W → Option (List ℕ)) → (w w' : Device W) → (E → Option (List ℕ)) → (e e' : Device E) → Type 0
+EndsFound result found left r r' held w w' told e e' =
     (name : Text) × (options : List Row) × (found ≡ Some (name, options))
-    × EndsCommand result left r r' held w w' name options
+    × EndsCommand result left r r' held w w' told e e' name options
 
 -- ---- the exit status
-
--- The command that the words ask for completed with the options that they give; or they ask for the version, and it was
--- written.
-abbrev pub HasCompleted : {R W : Type 0} → (R → Option (List ℕ)) → (r r' : Device R) → (W → Option (List ℕ))
-    → (w w' : Device W) → List Text → Type 0
-HasCompleted left r r' held w w' words =
-    ((name : Text) × (options : List Row) × SelectsCommand words name options × AreFine r r' w w'
-    × HasDone left r r' held w w' name options)
-    ⊎ (FailsParsing words DisplayVersion × (r' ≡ r) × PrintsText held w w' VERSION.now)
-
--- The command that the words ask for, or the output of the version, was stopped by a fault; or memory ran out before
--- anything was read or written.
-abbrev pub HasStoppedEarly : {R W : Type 0} → (R → Option (List ℕ)) → (r r' : Device R) → (W → Option (List ℕ))
-    → (w w' : Device W) → List Text → Type 0
-HasStoppedEarly left r r' held w w' words =
-    ((name : Text) × (options : List Row) × (fault : ToolFault) × SelectsCommand words name options
-    × HaveFailedBy fault r r' w w' × HasStopped left r r' held w w' name options fault)
-    ⊎ (FailsParsing words DisplayVersion × (r' ≡ r) × PrintsPart held w w' VERSION.now)
-    ⊎ IsUntouched r r' w w'
-
--- Nothing was written since memory ran out, or the version's text was written in part.
-abbrev pub StopsPrinting : {W : Type 0} → ErrorKind → (W → Option (List ℕ)) → (w w' : Device W) → Type 0
-StopsPrinting k held w w' = (w' ≡ w) ⊎ ((k ≡ DisplayVersion) × PrintsPart held w w' VERSION.now)
 
 -- the exit status of a fault: 2 for an invalid position or height
 abbrev pub fault_status : ToolFault → ℕ
@@ -111,10 +98,39 @@ abbrev pub status_of : {A : Type 0} → Result A ToolFault → ℕ
 status_of (Ok x) = 0
 status_of (Err fault) = fault_status fault
 
+-- The command that the words ask for completed with the options that they give; or they ask for the version, which was
+-- written, and nothing was written to standard error.
+abbrev pub HasCompleted : {R W E : Type 0} → (R → Option (List ℕ)) → (r r' : Device R) → (W → Option (List ℕ))
+    → (w w' : Device W) → (E → Option (List ℕ)) → (e e' : Device E) → List Text → Type 0
+HasCompleted left r r' held w w' told e e' words =
+    ((name : Text) × (options : List Row) × SelectsCommand words name options × AreFine r r' w w'
+    × HasDone left r r' held w w' told e e' name options)
+    ⊎ (FailsParsing words DisplayVersion × (r' ≡ r) × PrintsText held w w' VERSION.now × (e' ≡ e))
+
+-- The command that the words ask for was stopped by a fault, or the writer failed in the output of the version, and the
+-- line of that fault was printed; or memory ran out while the words were parsed. Then the line of `Memory` was printed,
+-- and nothing else was read or written.
+abbrev pub HasStoppedEarly : {R W E : Type 0} → (R → Option (List ℕ)) → (r r' : Device R) → (W → Option (List ℕ))
+    → (w w' : Device W) → (E → Option (List ℕ)) → (e e' : Device E) → List Text → Type 0
+HasStoppedEarly left r r' held w w' told e e' words =
+    ((name : Text) × (options : List Row) × (fault : ToolFault) × SelectsCommand words name options
+    × (fault_status fault ≡ 1) × HaveFailedBy fault r r' w w' × HasStopped left r r' held w w' name options fault
+    × PrintsLine told e e' (error_line fault))
+    ⊎ (FailsParsing words DisplayVersion × (r' ≡ r) × PrintsPart held w w' VERSION.now
+    × PrintsLine told e e' (error_line faults.Write))
+    ⊎ (IsUntouched r r' w w' × PrintsLine told e e' (error_line faults.Memory))
+
+-- Memory ran out and nothing was written, or the version's text was written in part. The line of that fault was printed.
+abbrev pub StopsPrinting : {W E : Type 0} → ErrorKind → (W → Option (List ℕ)) → (w w' : Device W)
+    → (E → Option (List ℕ)) → (e e' : Device E) → Type 0
+StopsPrinting k held w w' told e e' =
+    ((k ≡ OutOfMemory) × (w' ≡ w) × PrintsLine told e e' (error_line faults.Memory))
+    ⊎ ((k ≡ DisplayVersion) × PrintsPart held w w' VERSION.now × PrintsLine told e e' (error_line faults.Write))
+
 -- The words lead to an error other than the version's text; or they ask for a conversion whose position or antenna
--- height is invalid.
-abbrev pub AreRefused : List Text → Type 0
-AreRefused words =
+-- height is invalid, and the line of that fault was printed.
+abbrev pub AreRefused : {E : Type 0} → (E → Option (List ℕ)) → (e e' : Device E) → List Text → Type 0
+AreRefused told e e' words =
     ((k : ErrorKind) × FailsParsing words k × (k ≡ DisplayVersion → ⊥))
     ⊎ ((options : List Row) × (fault : ToolFault) × SelectsCommand words (codes "convert") options
-    × IsSetupRefused options fault × (fault_status fault ≡ 2))
+    × IsSetupRefused options fault × (fault_status fault ≡ 2) × PrintsLine told e e' (error_line fault))

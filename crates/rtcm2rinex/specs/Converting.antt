@@ -1,22 +1,27 @@
 -- What the command `convert` has read and written.
 use Rattle.std.specs.Prelude.{◌≡◌, ◌⊎◌, true, ℕ, List, Option, Result, IfSome}
 use Rattle.rtcm_convert.specs.SetupValues.{Start, IsBadAt}
-use Rattle.rtcm_convert.specs.Made.{IsMade, IsMadeEmpty, IsMadeWith, IsMadeToLimit, IsMadeSoFar, IsMadeInPart}
+use Rattle.rtcm_convert.specs.Made.{IsMadeEmpty, IsMadeWith, IsMadeToLimit, IsMadeSoFar, IsMadeInPart}
 use Rattle.rtcm_convert.specs.Faults.{IsUntouched}
 use Rattle.rtcm_convert.specs.Moves.{Moves}
 use Rattle.rtcm_bits.specs.Device.{Device}
 use Rattle.rtcm_convert.specs.declared.fault.Fault.TheVariants as convert
 use Rattle.rtcm_convert.specs.declared.report.Report.{Report}
 use Rattle.rtcm2rinex.specs.Devices.{Ends}
+use Rattle.rtcm2rinex.specs.Printing.{PrintsLine}
+use Rattle.rtcm2rinex.specs.Reports.{report_line}
 use Rattle.clap.specs.Walk.{Row}
 use Rattle.rtcm2rinex.specs.declared.fault.ToolFault.{ToolFault}
 use Rattle.rtcm2rinex.specs.declared.fault.ToolFault.TheVariants as faults
 use Rattle.rtcm2rinex.specs.SetupOptions.{IsStartOf, IsSetupRefused}
 
 -- A conversion with the start that these options give, which is in range, read everything that the reader had, and
--- wrote the file of its frames, which has an epoch.
-abbrev pub IsConverted : List Row → (r w w' : Option (List ℕ)) → Type 0
-IsConverted options r w w' = (x : Start) × IsStartOf options x × (IsBadAt x → ⊥) × IfSome r (IsMade x w w')
+-- wrote the file of its frames, which has an epoch. Its report was printed.
+abbrev pub IsConverted : {E : Type 0} → List Row → (r w w' : Option (List ℕ)) → (E → Option (List ℕ))
+    → (e e' : Device E) → Type 0
+IsConverted options r w w' told e e' =
+    (x : Start) × (report : Report) × IsStartOf options x × (IsBadAt x → ⊥) × IfSome r (IsMadeWith x report w w')
+    × PrintsLine told e e' (report_line report)
 
 -- the file of the bytes that the reader had left has no epoch and is empty
 abbrev pub MakesNoEpoch : Start → (r r' w w' : Option (List ℕ)) → Type 0
@@ -53,9 +58,9 @@ StopsConverting options left r r' held w w' fault =
     (IsSetupRefused options fault × IsUntouched r r' w w')
     ⊎ ((x : Start) × IsStartOf options x × StopsConversion x left r r' held w w' fault)
 
--- how such a command ended
-abbrev pub EndsConverting : {A R W : Type 0} → Result A ToolFault → List Row → (R → Option (List ℕ)) → (r r' : Device R)
-    → (W → Option (List ℕ)) → (w w' : Device W) → Type 0
-EndsConverting result options left r r' held w w' =
-    Ends result r r' w w' (λ _. IsConverted options (left r.inner) (held w.inner) (held w'.inner))
-    (StopsConverting options left r r' held w w')
+-- how such a command ended; it prints no fault
+abbrev pub EndsConverting : {A R W E : Type 0} → Result A ToolFault → List Row → (R → Option (List ℕ))
+    → (r r' : Device R) → (W → Option (List ℕ)) → (w w' : Device W) → (E → Option (List ℕ)) → (e e' : Device E) → Type 0
+EndsConverting result options left r r' held w w' told e e' =
+    Ends result r r' w w' (λ _. IsConverted options (left r.inner) (held w.inner) (held w'.inner) told e e')
+    (λ fault. StopsConverting options left r r' held w w' fault × (e' ≡ e))

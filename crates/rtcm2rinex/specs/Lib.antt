@@ -7,6 +7,7 @@ pub mod Lengths
 pub mod SetupOptions
 pub mod CommandLine
 pub mod Devices
+pub mod ErrorLines
 pub mod Converting
 pub mod Reports
 pub mod ReadBack

@@ -1,7 +1,8 @@
 -- Texts written in one call: `held w` are the bytes written before, and `held w'` those after.
-use Rattle.std.specs.Prelude.{◌≡◌, ℕ, true, List, Option, Result, Ok, Err}
+use Rattle.std.specs.Prelude.{◌≡◌, ◌⊎◌, ℕ, true, List, Option, Result, Ok, Err}
 use Rattle.std.specs.Io.KnownBytes.{Appends}
 use Rattle.rtcm_bits.specs.Device.{Device, HasFailed, AppendsPrefix}
+use Rattle.rtcm2rinex.specs.ErrorLines.{error_line}
 use Rattle.rtcm2rinex.specs.declared.fault.ToolFault.{ToolFault}
 use Rattle.rtcm2rinex.specs.declared.fault.ToolFault.TheVariants.{Write}
 
@@ -19,3 +20,15 @@ abbrev pub EndsPrinting : {A W : Type 0} → Result A ToolFault → (W → Optio
     → Type 0
 EndsPrinting (Ok x) held w w' text = PrintsText held w w' text
 EndsPrinting (Err fault) held w w' text = (fault ≡ Write) × PrintsPart held w w' text
+
+-- ---- standard error, whose failures are ignored: it was e, and is e'
+
+-- the line was written; or the writer failed once, and accepted a prefix of it
+abbrev pub PrintsLine : {E : Type 0} → (E → Option (List ℕ)) → (e e' : Device E) → List ℕ → Type 0
+PrintsLine told e e' text =
+    ((e'.failures ≡ e.failures) × Appends (told e.inner) (told e'.inner) text) ⊎ PrintsPart told e e' text
+
+-- nothing was written after success, and the line of the fault at a fault
+abbrev pub PrintsFault : {A E : Type 0} → Result A ToolFault → (E → Option (List ℕ)) → (e e' : Device E) → Type 0
+PrintsFault (Ok x) told e e' = e' ≡ e
+PrintsFault (Err fault) told e e' = PrintsLine told e e' (error_line fault)

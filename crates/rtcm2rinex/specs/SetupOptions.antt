@@ -64,12 +64,20 @@ values_by_message options = values_in (text_set options (codes "position")) (tex
 abbrev pub IsStartOf : List Row → Start → Type 0
 IsStartOf options x = IsSetupOf options x.setup × (values_by_message options ≡ Ok x.initial)
 
--- These options are refused with this fault: the position or the height is invalid; or a text of the header has this
--- fault; or the texts are valid and the plan has this fault, or memory ran out for it.
-abbrev pub IsSetupRefused : List Row → ToolFault → Type 0
-IsSetupRefused options faults.BadPosition = values_by_message options ≡ Err faults.BadPosition
-IsSetupRefused options faults.BadHeight = values_by_message options ≡ Err faults.BadHeight
-IsSetupRefused options (faults.Header e) = first_fault (texts_set options) None fields ≡ Some e
-IsSetupRefused options (faults.Plan e) = (first_fault (texts_set options) None fields ≡ None)
+-- Of these options a text of the header has this fault; or the texts are valid, and the plan has this fault, or memory
+-- ran out for it.
+abbrev pub HasSetupFault : List Row → ToolFault → Type 0
+HasSetupFault options (faults.Header e) = first_fault (texts_set options) None fields ≡ Some e
+HasSetupFault options (faults.Plan e) = (first_fault (texts_set options) None fields ≡ None)
     × ((e ≡ plans.Memory) ⊎ (plan_of (text_set options (codes "gps")) (text_set options (codes "galileo")) ≡ Err e))
-IsSetupRefused options other = ⊥
+HasSetupFault options other = ⊥
+
+-- the fault of the position or the height comes before that of another option
+abbrev pub IsFirstFault : Result StationValues ToolFault → List Row → ToolFault → Type 0
+IsFirstFault (Err e) options fault = fault ≡ e
+IsFirstFault (Ok values) options fault = HasSetupFault options fault
+
+-- These options are refused with this fault: that of the position, else that of the height, else that of a text of the
+-- header, else that of the plan.
+abbrev pub IsSetupRefused : List Row → ToolFault → Type 0
+IsSetupRefused options fault = IsFirstFault (values_by_message options) options fault

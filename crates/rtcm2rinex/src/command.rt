@@ -1,5 +1,7 @@
 //! The whole program, over a reader, a writer and a writer for faults.
 ghost use Rattle.std.specs.Prelude.{◌≡◌, ◌≢◌, ◌≤◌};
+ghost use Rattle.std.specs.IoError.{error_kind};
+ghost use Rattle.std.specs.declared.io.ErrorKind.TheVariants as kinds;
 ghost use Rattle.clap.specs.Simple.{subcommand_rows_of};
 ghost use Rattle.clap.specs.Walk.{texts};
 ghost use Rattle.rtcm_convert.specs.Faults.{IsUntouched};
@@ -8,7 +10,8 @@ ghost use Rattle.clap.specs.declared.error.kind.ErrorKind.TheVariants.{DisplayVe
 ghost use Rattle.rtcm2rinex.specs.CommandLine.{IsCommand};
 ghost use Rattle.rtcm2rinex.specs.Commands.{AreRefused, EndsFound, HasCommand, name_of};
 ghost use Rattle.rtcm2rinex.specs.Commands.{HasStoppedEarly, HasCompleted, StopsPrinting, status_of};
-ghost use Rattle.rtcm2rinex.specs.Printing.{PrintsText};
+ghost use Rattle.rtcm2rinex.specs.ErrorLines.{error_line, not_text_line};
+ghost use Rattle.rtcm2rinex.specs.Printing.{PrintsFault, PrintsLine, PrintsText};
 ghost use Rattle.rtcm2rinex.specs.declared.cli.TheConstants.{VERSION};
 ghost use Rattle.rtcm2rinex.specs.Converting.{EndsConverting};
 ghost use Rattle.rtcm2rinex.specs.SetupOptions.{options_of};
@@ -16,8 +19,9 @@ ghost use Rattle.rtcm2rinex.specs.SetupOptions.{options_of};
 use crate::check::run_check;
 use crate::cli::{VERSION, parse};
 use crate::convert::{report_line, run_convert_at};
+use crate::error_lines::error_line;
 use crate::fault::ToolFault;
-use crate::line::print_text;
+use crate::line::{print_line, print_text};
 use crate::listing::{run_frames, run_show};
 use crate::options::{setup_of, station_of, values_of};
 use crate::signals::{run_options, run_signals};
@@ -36,23 +40,25 @@ pub fn command<R: Read, W: Write, E: Write>(
     words: &[&str],
     reader: &mut Counted<R>,
     writer: &mut Counted<W>,
-    faults: &mut E,
+    faults: &mut Counted<E>,
 ) -> u8
     ensures status { result ≤ 2 }
 
     // By clap's definitions under the program's options, the words ask for a command, which
-    // completed with these options; or they ask for the version, which was written.
-    ensures good { result ≡ 0
-        → HasCompleted R.remaining reader.old reader.new W.contents writer.old writer.new (texts words.now) }
+    // completed with these options; or they ask for the version, which was written. Only the report
+    // of `convert` was written to `faults`.
+    ensures good { result ≡ 0 → HasCompleted R.remaining reader.old reader.new W.contents writer.old writer.new
+        E.contents faults.old faults.new (texts words.now) }
 
-    // They ask for a command that was stopped by a fault.
-    ensures stopped { result ≡ 1
-        → HasStoppedEarly R.remaining reader.old reader.new W.contents writer.old writer.new (texts words.now) }
+    // They ask for a command that was stopped by a fault, whose line was written to `faults`; or
+    // memory ran out before anything else was read or written.
+    ensures stopped { result ≡ 1 → HasStoppedEarly R.remaining reader.old reader.new W.contents writer.old writer.new
+        E.contents faults.old faults.new (texts words.now) }
 
     // They aren't accepted, ask for help, or ask to convert with an invalid position or height.
     // Nothing was read, and nothing was written to the output.
-    ensures refused { result ≡ 2
-        → AreRefused (texts words.now) × IsUntouched reader.old reader.new writer.old writer.new }
+    ensures refused { result ≡ 2 → AreRefused E.contents faults.old faults.new (texts words.now)
+        × IsUntouched reader.old reader.new writer.old writer.new }
 {
     match parse(alloc, words) {
         Ok(matches) => {
@@ -100,11 +106,11 @@ fn run<R: Read, W: Write, E: Write>(
     matches: &ArgMatches,
     reader: &mut Counted<R>,
     writer: &mut Counted<W>,
-    faults: &mut E,
+    faults: &mut Counted<E>,
 ) -> Result<(), ToolFault>
     requires { HasCommand matches.now }
-    ensures { EndsFound result (subcommand_rows_of matches.now)
-        R.remaining reader.old reader.new W.contents writer.old writer.new }
+    ensures { EndsFound result (subcommand_rows_of matches.now) R.remaining reader.old reader.new
+        W.contents writer.old writer.new E.contents faults.old faults.new }
 {
     let Some((name, options)) = matches.subcommand() else {
         unreachable!()
@@ -126,16 +132,16 @@ fn convert<R: Read, W: Write, E: Write>(
     options: &ArgMatches,
     reader: &mut Counted<R>,
     writer: &mut Counted<W>,
-    faults: &mut E,
+    faults: &mut Counted<E>,
 ) -> Result<(), ToolFault>
-    ensures { EndsConverting result (options_of options.now)
-        R.remaining reader.old reader.new W.contents writer.old writer.new }
+    ensures { EndsConverting result (options_of options.now) R.remaining reader.old reader.new
+        W.contents writer.old writer.new E.contents faults.old faults.new }
 {
     let initial = values_of(options)?;
     let setup = setup_of(alloc, options)?;
     match run_convert_at(alloc, setup, initial, reader, writer) {
         Ok(report) => {
-            let _ = faults.write_all(report_line(&report).as_bytes());
+            print_line(report_line(&report).as_bytes(), faults);
             Ok(())
         }
         Err(fault) => Err(fault),
@@ -143,11 +149,16 @@ fn convert<R: Read, W: Write, E: Write>(
 }
 
 /// Prints the version if the words ask for it, else clap's error. Returns the exit status.
-fn answer<W: Write, E: Write>(error: &clap::Error, writer: &mut Counted<W>, faults: &mut E) -> u8
+fn answer<W: Write, E: Write>(
+    error: &clap::Error,
+    writer: &mut Counted<W>,
+    faults: &mut Counted<E>,
+) -> u8
     ensures status { result ≤ 2 }
-    ensures good { result ≡ 0
-        → (kind_of error.now ≡ DisplayVersion) × PrintsText W.contents writer.old writer.new VERSION.now }
-    ensures stopped { result ≡ 1 → StopsPrinting (kind_of error.now) W.contents writer.old writer.new }
+    ensures good { result ≡ 0 → (kind_of error.now ≡ DisplayVersion)
+        × PrintsText W.contents writer.old writer.new VERSION.now × (faults.new ≡ faults.old) }
+    ensures stopped { result ≡ 1 → StopsPrinting (kind_of error.now) W.contents writer.old writer.new
+        E.contents faults.old faults.new }
     ensures refused { result ≡ 2
         → (kind_of error.now ≢ DisplayVersion) × (kind_of error.now ≢ OutOfMemory) × (writer.new ≡ writer.old) }
 {
@@ -163,25 +174,31 @@ fn answer<W: Write, E: Write>(error: &clap::Error, writer: &mut Counted<W>, faul
 
 /// Prints why the words of the command line can't be read, and returns the exit status: memory ran
 /// out, or a word isn't UTF-8.
-pub fn refuse_words<E: Write>(error: &io::Error, faults: &mut E) -> u8
-    ensures { (1 ≤ result) × (result ≤ 2) }
+pub fn refuse_words<E: Write>(error: &io::Error, faults: &mut Counted<E>) -> u8
+    ensures memory { error_kind error.now ≡ kinds.OutOfMemory
+        → (result ≡ 1) × PrintsLine E.contents faults.old faults.new (error_line ToolFault.Memory) }
+    ensures words { error_kind error.now ≢ kinds.OutOfMemory
+        → (result ≡ 2) × PrintsLine E.contents faults.old faults.new not_text_line }
 {
-    if error.kind() == io::ErrorKind::OutOfMemory {
-        return exit_status(Err(ToolFault::Memory), faults);
+    match error.kind() {
+        io::ErrorKind::OutOfMemory => exit_status(Err(ToolFault::Memory), faults),
+        _ => {
+            print_line(b"error: a word of the command line isn't UTF-8\n", faults);
+            2
+        }
     }
-    let _ = faults.write_all(b"error: a word of the command line isn't UTF-8\n");
-    2
 }
 
 /// Prints the fault of a command, if any, on one line, and returns the exit status: 0 after
 /// success, 2 if the position or the height is invalid, else 1. A failure of this writer is
 /// ignored.
-fn exit_status<E: Write>(ended: Result<(), ToolFault>, faults: &mut E) -> u8
+fn exit_status<E: Write>(ended: Result<(), ToolFault>, faults: &mut Counted<E>) -> u8
     ensures value { result ≡ status_of ended }
     ensures range { result ≤ 2 }
+    ensures line { PrintsFault ended E.contents faults.old faults.new }
 {
     let Err(fault) = ended else { return 0 };
-    let _ = writeln!(faults, "rtcm2rinex: {fault}");
+    print_line(error_line(fault).as_bytes(), faults);
     match fault {
         ToolFault::BadPosition | ToolFault::BadHeight => 2,
         _ => 1,

@@ -7,8 +7,6 @@ use rinex_file::{HeadFault, ReadFault};
 use rtcm_bits::DeviceFailed;
 use rtcm_convert::Fault;
 use rtcm_scan::{ScanFault, StreamFault};
-use std::fmt;
-use std::fmt::Display;
 
 /// Why a command stopped.
 #[derive(Clone, Copy)]
@@ -35,31 +33,6 @@ pub enum ToolFault {
     Check(ReadFault),
     /// No cell of the stream has a value.
     NoSignal,
-}
-
-/// The fault's name, followed by the values that the fault carries.
-impl Display for ToolFault {
-    fn fmt<W: fmt::Write>(&self, f: &mut fmt::Formatter<W>) -> fmt::Result {
-        let text = match self {
-            ToolFault::Scan(fault) => return Display::fmt(fault, f),
-            ToolFault::Header(fault) => return Display::fmt(fault, f),
-            ToolFault::Plan(fault) => return Display::fmt(fault, f),
-            ToolFault::Convert(fault) => return Display::fmt(fault, f),
-            ToolFault::Check(fault) => return Display::fmt(fault, f),
-            ToolFault::Memory => "Memory",
-            ToolFault::Read => "Read",
-            ToolFault::Write => "Write",
-            ToolFault::BadPosition => {
-                "BadPosition --position X,Y,Z: metres, up to 8 digits and 4 decimals each, \
-                 -13743895.3472 to 13743895.3471"
-            }
-            ToolFault::BadHeight => {
-                "BadHeight --antenna-height HEIGHT: metres, up to 4 decimals, 0 to 6.5535"
-            }
-            ToolFault::NoSignal => "NoSignal",
-        };
-        f.write_str(text)
-    }
 }
 
 impl From<StreamFault<DeviceFailed>> for ToolFault {

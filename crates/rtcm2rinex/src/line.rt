@@ -1,7 +1,7 @@
 //! A line of output.
 ghost use Rattle.std.specs.Prelude.{◌≡◌, ◌+◌, ◌<◌, ◌≤◌, [], ◌∷◌, ◌++◌, length, decimal};
 ghost use Rattle.rtcm2rinex.specs.Metres.{digit, size_text, metres};
-ghost use Rattle.rtcm2rinex.specs.Printing.{EndsPrinting};
+ghost use Rattle.rtcm2rinex.specs.Printing.{EndsPrinting, PrintsLine};
 
 use crate::fault::ToolFault;
 use arrayvec::ArrayVec;
@@ -156,6 +156,13 @@ pub fn print_text<W: Write>(text: &[u8], writer: &mut Counted<W>) -> Result<(), 
         },
         Err(_) => Err(ToolFault::Write),
     }
+}
+
+/// Writes a line to standard error. A failure of the writer is ignored.
+pub fn print_line<E: Write>(text: &[u8], faults: &mut Counted<E>)
+    ensures { PrintsLine E.contents faults.old faults.new text.now }
+{
+    let _ = faults.write_whole(text);
 }
 
 /// Returns the last decimal digit of a number, in ASCII.

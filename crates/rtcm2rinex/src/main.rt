@@ -8,6 +8,7 @@ mod cli;
 mod command;
 mod commands;
 mod convert;
+mod error_lines;
 mod fault;
 pub mod laws;
 mod line;
@@ -30,7 +31,7 @@ const INPUT_BYTES: usize = 65_536;
 fn main(rt: HostRuntime) -> ExitCode {
     let status = match run(&rt) {
         Ok(status) => status,
-        Err(error) => refuse_words(&error, &mut rt.stderr()),
+        Err(error) => refuse_words(&error, &mut Counted::new(rt.stderr())),
     };
     ExitCode::from(status)
 }
@@ -49,6 +50,7 @@ fn run(rt: &HostRuntime) -> io::Result<u8> {
     let input = BufReader::with_capacity(alloc, INPUT_BYTES, rt.stdin())?;
     let mut reader = Counted::new(input);
     let mut writer = Counted::new(Buffered::new(alloc, rt.stdout())?);
+    let mut faults = Counted::new(rt.stderr());
     let words = words.as_slice();
-    Ok(command(alloc, words, &mut reader, &mut writer, &mut rt.stderr()))
+    Ok(command(alloc, words, &mut reader, &mut writer, &mut faults))
 }

@@ -7,7 +7,7 @@ ghost use Rattle.obs_epoch.specs.Kinds.{is_by_bit};
 ghost use Rattle.rinex_file.specs.TextsOf.{lists_of};
 ghost use Rattle.rtcm2rinex.specs.Lengths.{coordinate_of, cut, decimals_of};
 ghost use Rattle.rtcm2rinex.specs.Lengths.{length_below, length_of, number_of, position_of};
-ghost use Rattle.rtcm2rinex.specs.SetupOptions.{IsNumberOf, IsSetupOf, IsSetupRefused};
+ghost use Rattle.rtcm2rinex.specs.SetupOptions.{HasSetupFault, IsNumberOf, IsSetupOf};
 ghost use Rattle.rtcm2rinex.specs.SetupOptions.{options_of, text_set, texts_set, values_by_message};
 
 use crate::fault::ToolFault;
@@ -24,7 +24,7 @@ use std::alloc::Global;
 ///
 /// `Header` if a text of the header is refused, and `Plan` if the plan is.
 pub fn setup_of(alloc: Global, options: &ArgMatches) -> Result<Setup, ToolFault>
-    ensures { MatchResult result (IsSetupOf (options_of options.now)) (IsSetupRefused (options_of options.now)) }
+    ensures { MatchResult result (IsSetupOf (options_of options.now)) (HasSetupFault (options_of options.now)) }
 {
     let texts = match HeaderTexts::new(&texts_of(options)) {
         Ok(texts) => texts,

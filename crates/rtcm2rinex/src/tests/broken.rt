@@ -125,9 +125,10 @@ fn ends_buffered(
     };
     let mut reader = Counted::new(reader);
     let mut writer = Counted::new(buffer);
-    let mut faults = Vec::new(alloc);
+    let mut faults = Counted::new(Vec::new(alloc));
     let status = command(alloc, words, &mut reader, &mut writer, &mut faults);
     let taken = writer.into_inner().into_inner().into_inner();
+    let faults = faults.into_inner();
     ends((status, taken.as_slice(), faults.as_slice()), wanted)
 }
 
@@ -167,10 +168,11 @@ fn stops(
         reads: 0,
     });
     let mut writer = Counted::new(Vec::new(alloc));
-    let mut faults = Vec::new(alloc);
+    let mut faults = Counted::new(Vec::new(alloc));
     let status = command(alloc, words, &mut reader, &mut writer, &mut faults);
     let reads = reader.into_inner().reads;
     let taken = writer.into_inner();
+    let faults = faults.into_inner();
     let is = ends((status, taken.as_slice(), faults.as_slice()), wanted);
     drop(taken);
     drop(faults);
@@ -181,8 +183,8 @@ fn ends_unprinted(alloc: Global, words: &[&str], input: &[u8], end: ReadEnd, wan
     let mut reader = Counted::new(PieceReader::new(input, &[], end));
     let mut writer = Counted::new(Vec::new(alloc));
     let end = WriteEnd::Fails(ErrorKind::Other);
-    let mut faults = ShortWriter::new(Vec::new(alloc), 1, 0, end);
+    let mut faults = Counted::new(ShortWriter::new(Vec::new(alloc), 1, 0, end));
     let status = command(alloc, words, &mut reader, &mut writer, &mut faults);
-    let is_empty = faults.into_inner().is_empty();
+    let is_empty = faults.into_inner().into_inner().is_empty();
     status == wanted && is_empty
 }

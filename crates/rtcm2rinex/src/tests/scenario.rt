@@ -171,12 +171,12 @@ pub fn run(alloc: Global, setting: &Setting<'_>, input: &[u8], sizes: &[usize]) 
         room.total,
         room.end,
     ));
-    let mut faults = Vec::new(alloc);
+    let mut faults = Counted::new(Vec::new(alloc));
     let status = command(alloc, setting.words, &mut reader, &mut writer, &mut faults);
     Outcome {
         status,
         output: writer.into_inner().into_inner(),
-        faults,
+        faults: faults.into_inner(),
         has_read: reader.widest() > 0,
     }
 }

@@ -4,6 +4,7 @@ use super::scenario::Expected::Refused;
 use super::scenario::{Case, FAULTLESS, Setting, assert_come};
 use super::texts::Text::Bytes;
 use crate::command::refuse_words;
+use rtcm_bits::Counted;
 use std::alloc::Global;
 use std::io;
 use std::io::ErrorKind;
@@ -30,9 +31,9 @@ fn words_that_are_not_accepted_do_nothing(rt: HostRuntime) {
 
 /// Whether words that are refused for this reason have this status and text.
 fn are_refused(alloc: Global, kind: ErrorKind, status: u8, text: &[u8]) -> bool {
-    let mut faults = Vec::new(alloc);
+    let mut faults = Counted::new(Vec::new(alloc));
     let found = refuse_words(&io::Error::from(kind), &mut faults);
-    found == status && faults.as_slice() == text
+    found == status && faults.into_inner().as_slice() == text
 }
 
 #[test]

@@ -1,0 +1,155 @@
+//! The lines of errors, on standard error.
+ghost use Rattle.std.specs.Prelude.{◌≡◌, ◌+◌, ◌≤◌, [], ◌∷◌, decimal, length};
+ghost use Rattle.gnss_obs.specs.Satellites.{letter};
+ghost use Rattle.rinex_file.specs.Texts.{field_name};
+ghost use Rattle.rtcm2rinex.specs.ErrorLines.{conversion_word, error_line, error_words, file_words, header_words};
+ghost use Rattle.rtcm2rinex.specs.ErrorLines.{plan_words, scan_word};
+ghost use Rattle.rtcm2rinex.specs.Lines.{with_words};
+
+use crate::fault::ToolFault;
+use crate::line::OutputLine;
+use gnss_obs::System;
+use obs_epoch::PlanFault;
+use rinex_file::{HeadFault, HeaderField, ReadFault};
+use rtcm_convert::Fault;
+use rtcm_scan::ScanFault;
+
+/// Returns the line of a fault: the program's name, the fault's name, and the values that it
+/// carries or the form that is accepted.
+pub fn error_line(fault: ToolFault) -> OutputLine
+    ensures { result ≡ error_line fault }
+{
+    let mut line = OutputLine::new();
+    line.put(b"rtcm2rinex:");
+    add_error(&mut line, fault);
+    line.finish();
+    line
+}
+
+/// Adds the name of a fault and what follows it.
+fn add_error(line: &mut OutputLine, fault: ToolFault)
+    requires { length line.old ≤ 100 }
+    ensures text { line.new ≡ with_words line.old (error_words fault) }
+    ensures short { length line.new ≤ length line.old + 120 }
+{
+    match fault {
+        ToolFault::Memory => line.add_word("Memory"),
+        ToolFault::Read => line.add_word("Read"),
+        ToolFault::Write => line.add_word("Write"),
+        ToolFault::Scan(fault) => line.add_word(scan_name(fault)),
+        ToolFault::BadPosition => {
+            line.add_word("BadPosition");
+            line.add_word("--position X,Y,Z: metres, up to 8 digits and 4 decimals each,");
+            line.add_word("-13743895.3472 to 13743895.3471");
+        }
+        ToolFault::BadHeight => {
+            line.add_word("BadHeight");
+            line.add_word("--antenna-height HEIGHT: metres, up to 4 decimals, 0 to 6.5535");
+        }
+        ToolFault::Header(fault) => add_header_error(line, fault),
+        ToolFault::Plan(fault) => add_plan_error(line, fault),
+        ToolFault::Convert(fault) => line.add_word(conversion_name(fault)),
+        ToolFault::Check(fault) => add_file_error(line, fault),
+        ToolFault::NoSignal => line.add_word("NoSignal"),
+    }
+}
+
+/// Returns the name of a fault of a framer.
+fn scan_name(fault: ScanFault) -> &'static str
+    ensures name { result.now ≡ scan_word fault }
+    ensures short { length result.now ≤ 20 }
+{
+    match fault {
+        ScanFault::Memory => "Memory",
+        ScanFault::BadLimit => "BadLimit",
+        ScanFault::TooLong => "TooLong",
+        ScanFault::Ended => "Ended",
+    }
+}
+
+/// Returns the name of a fault of a conversion.
+fn conversion_name(fault: Fault) -> &'static str
+    ensures name { result.now ≡ conversion_word fault }
+    ensures short { length result.now ≤ 20 }
+{
+    match fault {
+        Fault::Memory => "Memory",
+        Fault::BadSetup => "BadSetup",
+        Fault::TooLong => "TooLong",
+        Fault::Read => "Read",
+        Fault::Write => "Write",
+        Fault::Failed => "Failed",
+        Fault::Finished => "Finished",
+        Fault::NoEpoch => "NoEpoch",
+    }
+}
+
+/// Adds a fault of the texts of the header, with the name of the text.
+fn add_header_error(line: &mut OutputLine, fault: HeadFault)
+    requires { length line.old ≤ 100 }
+    ensures text { line.new ≡ with_words line.old (header_words fault) }
+    ensures short { length line.new ≤ length line.old + 120 }
+{
+    match fault {
+        HeadFault::TooLong(field) => add_field(line, "TooLong", field),
+        HeadFault::NotPrintable(field) => add_field(line, "NotPrintable", field),
+        HeadFault::Write => line.add_word("Write"),
+    }
+}
+
+/// Adds a fault of the plan, with the letter of the system and the place of the code.
+fn add_plan_error(line: &mut OutputLine, fault: PlanFault)
+    requires { length line.old ≤ 100 }
+    ensures text { line.new ≡ with_words line.old (plan_words fault) }
+    ensures short { length line.new ≤ length line.old + 120 }
+{
+    match fault {
+        PlanFault::UnknownCode(system, place) => add_code(line, "UnknownCode", system, place),
+        PlanFault::RepeatedCode(system, place) => add_code(line, "RepeatedCode", system, place),
+        PlanFault::NothingPlanned => line.add_word("NothingPlanned"),
+        PlanFault::BadWeek => line.add_word("BadWeek"),
+        PlanFault::BadStation => line.add_word("BadStation"),
+        PlanFault::Memory => line.add_word("Memory"),
+    }
+}
+
+/// Adds a fault of a file, with the number of the line.
+fn add_file_error(line: &mut OutputLine, fault: ReadFault)
+    requires { length line.old ≤ 100 }
+    ensures text { line.new ≡ with_words line.old (file_words fault) }
+    ensures short { length line.new ≤ length line.old + 120 }
+{
+    match fault {
+        ReadFault::Memory => line.add_word("Memory"),
+        ReadFault::Read => line.add_word("Read"),
+        ReadFault::BadHeader(k) => line.add_count("BadHeader", k),
+        ReadFault::BadEpoch(k) => line.add_count("BadEpoch", k),
+        ReadFault::BadEvent(k) => line.add_count("BadEvent", k),
+        ReadFault::BadSatellite(k) => line.add_count("BadSatellite", k),
+        ReadFault::CutShort(k) => line.add_count("CutShort", k),
+        ReadFault::TooLong => line.add_word("TooLong"),
+    }
+}
+
+/// Adds a name and that of a text of the header.
+fn add_field(line: &mut OutputLine, name: &str, field: HeaderField)
+    requires room { length line.old ≤ 100 }
+    requires short { length name.now ≤ 20 }
+    ensures text { line.new ≡ with_words line.old (name.now ∷ field_name field ∷ []) }
+    ensures short { length line.new ≤ length line.old + 60 }
+{
+    line.add_word(name);
+    line.add_word(field.name());
+}
+
+/// Adds a name, the letter of a system and a place.
+fn add_code(line: &mut OutputLine, name: &str, system: System, place: usize)
+    requires room { length line.old ≤ 100 }
+    requires short { length name.now ≤ 20 }
+    ensures text { line.new ≡ with_words line.old (name.now ∷ (letter system ∷ []) ∷ decimal place ∷ []) }
+    ensures short { length line.new ≤ length line.old + 60 }
+{
+    line.add_word(name);
+    line.add_part(b' ', &[system.letter()]);
+    line.add_number(place as u64);
+}
