@@ -15,4 +15,5 @@ mod ValuedLemmas
 mod PlannedLemmas
 mod SkipLemmas
 mod AcceptedLemmas
+mod StationLemmas
 mod CommandLemmas

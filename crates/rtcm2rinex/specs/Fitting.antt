@@ -26,9 +26,13 @@ abbrev pub first_station : Option ℕ → List Framed → Option StationParts
 first_station wanted [] = None
 first_station wanted (f ∷ fs) = option_or (station_of wanted f) (first_station wanted fs)
 
--- X, Y and Z in metres. The value follows a `=`, since it may begin with a minus sign.
+-- X, Y and Z in metres
+abbrev pub position_text : StationParts → List ℕ
+position_text s = join_with_byte 0x2C (metres s.x ∷ metres s.y ∷ metres s.z ∷ [])
+
+-- The value follows a `=`, since it may begin with a minus sign.
 abbrev pub position_word : StationParts → List ℕ
-position_word s = codes "--position=" ++ join_with_byte 0x2C (metres s.x ∷ metres s.y ∷ metres s.z ∷ [])
+position_word s = codes "--position=" ++ position_text s
 
 -- the antenna height (DF028), which message 1006 has
 abbrev pub antenna_words : Option ℕ → List (List ℕ)

@@ -19,3 +19,4 @@ pub mod SignalOutput
 pub mod Printing
 pub mod Commands
 pub mod SignalLaws
+pub mod StationLaws

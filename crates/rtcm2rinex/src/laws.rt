@@ -3,6 +3,7 @@ ghost use Rattle.std.specs.Prelude.{List, ℕ};
 ghost use Rattle.rtcm_msg.specs.declared.message.Message.{Message};
 ghost use Rattle.rtcm2rinex.specs.ReadBack.{AreKnown, AreEncoded, ReadsBack};
 ghost use Rattle.rtcm2rinex.specs.SignalLaws.{LeavesNoneOut, AreReadAsPlan, SkipsNoValue};
+ghost use Rattle.rtcm2rinex.specs.StationLaws.{AreReadAsStation, AreZeroByDefault};
 
 /// Every list of messages of known layouts has encodings. For every choice of these, their frames,
 /// joined, are a stream with exactly these frames, which is read back as that list.
@@ -28,3 +29,10 @@ pub fn signals()
 {
     gnss_obs::laws::signal_tables();
 }
+
+/// The position and the height that `options` prints for a station message are read as the station
+/// values of that message, for every message in range. Without them the values are 0.
+pub fn station()
+    ensures read { AreReadAsStation }
+    ensures zero { AreZeroByDefault }
+{}
