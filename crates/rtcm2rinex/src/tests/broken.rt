@@ -6,7 +6,7 @@ use rtcm_bits::devices::{PieceReader, ReadEnd, ShortWriter, WriteEnd};
 use rtcm_bits::{Buffered, Counted};
 use std::alloc::Global;
 use std::io;
-use std::io::{ErrorKind, Read};
+use std::io::{ErrorKind, Read, Write};
 use std::process::Abort;
 
 /// What fails while a command runs, and what is reported.
@@ -21,6 +21,8 @@ pub enum Failing<'a> {
     /// A buffer's device accepts two bytes, which are the output, and then fails once. The writer
     /// is reported.
     Device,
+    /// A writer accepts the output, and its flush fails. It is reported.
+    Flush,
     /// A read fails after all of the input. Then the device of a buffer has the output.
     Sent,
     /// A reader has the input twice, and once between them a read returns this. The status and what
@@ -71,6 +73,7 @@ fn reports(
             let device = ShortWriter::new(Vec::new(alloc), 1, 2, end);
             ends_buffered(alloc, words, reader, device, (1, output, WRITE.as_bytes()))
         }
+        Failing::Flush => ends_unflushed(alloc, words, input, output),
         Failing::Sent => {
             let reader = PieceReader::new(input, &[5], ReadEnd::Fails(ErrorKind::Other));
             let most = usize::MAX;
@@ -130,6 +133,35 @@ fn ends_buffered(
     let taken = writer.into_inner().into_inner().into_inner();
     let faults = faults.into_inner();
     ends((status, taken.as_slice(), faults.as_slice()), wanted)
+}
+
+/// A writer that accepts all bytes, and whose flushes fail.
+#[derive(Drop)]
+struct Unflushed {
+    bytes: Vec<u8>,
+}
+
+impl Write for Unflushed {
+    fn write(&mut self, buf: &[u8]) -> io::Result<usize> {
+        self.bytes.write(buf)
+    }
+
+    fn flush(&mut self) -> io::Result<()> {
+        Err(io::Error::from(ErrorKind::Other))
+    }
+}
+
+fn ends_unflushed(alloc: Global, words: &[&str], input: &[u8], output: &[u8]) -> bool {
+    let mut reader = Counted::new(PieceReader::new(input, &[], ReadEnd::Ends));
+    let mut writer = Counted::new(Unflushed {
+        bytes: Vec::new(alloc),
+    });
+    let mut faults = Counted::new(Vec::new(alloc));
+    let status = command(alloc, words, &mut reader, &mut writer, &mut faults);
+    let taken = writer.into_inner().bytes;
+    let faults = faults.into_inner();
+    let found = (status, taken.as_slice(), faults.as_slice());
+    ends(found, (1, output, WRITE.as_bytes()))
 }
 
 /// A reader that has the same piece twice, and fails or ends once between them.

@@ -1,5 +1,5 @@
 //! Devices that fail.
-use super::broken::Failing::{Device, Faults, Reader, Sent, Stop, Writer};
+use super::broken::Failing::{Device, Faults, Flush, Reader, Sent, Stop, Writer};
 use super::broken::{Failure, assert_reported};
 use super::check::CHECK;
 use super::convert::OPTIONS;
@@ -141,6 +141,20 @@ static FLUSHED: [Failure; 5] = [
 #[test]
 fn a_flush_that_fails_is_given(rt: HostRuntime) {
     assert_reported(&rt, rt.alloc(), &FLUSHED);
+}
+
+static UNFLUSHED: [Failure; 5] = [
+    (&FRAMES, ONE_FRAME, LISTED_FINE, Flush),
+    (&SHOW, ONE_FRAME, SHOWN_FINE, Flush),
+    (&OPTIONS, ONE_FRAME, FINE_FILE, Flush),
+    (&SIGNALS, ONE_FRAME, Lines("G 1C 1\n"), Flush),
+    (&CHECK, FINE_FILE, COUNTS, Flush),
+];
+
+// A writer accepts the output, and fails when it is flushed.
+#[test]
+fn a_flush_that_fails_after_the_output_is_given(rt: HostRuntime) {
+    assert_reported(&rt, rt.alloc(), &UNFLUSHED);
 }
 
 static SENT: [Failure; 3] = [
