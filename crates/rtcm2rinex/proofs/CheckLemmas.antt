@@ -64,16 +64,16 @@ line_built counts v none start epochs satellites events text are =
     ∙ ap (λ (n : ℕ). line (codes "epochs" ∷ count_words (length v.epochs) (rows_in v.epochs) n)) are.events
 
 -- the counts of a file were printed, or a part of them
-pub checked : {R W : Type 0} (left : R → Option (List ℕ)) (held : W → Option (List ℕ)) (r r2 : Device R) (w w2 : Device W) (ended : Result ⊤ ToolFault) (v : FileValue)
-    → IsFileValue v → IfSome (left r.inner) (λ input. input ≡ file_text v) → r2.failures ≡ r.failures → EndsPrinting ended held w w2 (check_line v)
-    → Ends ended r r2 w w2 (λ _. ChecksFile (left r.inner) (held w.inner) (held w2.inner)) (StopsChecking left r r2 held w w2)
-checked left held r r2 w w2 (Ok u) v is text same p = ((same, p.0, p.1), (v, is, text, p.2))
-checked left held r r2 w w2 (Err fault) v is text same p =
-    subst (λ (f : ToolFault). Ends (Err f) r r2 w w2 (λ (u : ⊤). ChecksFile (left r.inner) (held w.inner) (held w2.inner)) (StopsChecking left r r2 held w w2)) (sym p.0)
+pub checked : {R W : Type 0} (left : R → Option (List ℕ)) (held : W → Option (List ℕ)) (waits : W → List ℕ) (r r2 : Device R) (w w2 : Device W) (ended : Result ⊤ ToolFault) (v : FileValue)
+    → IsFileValue v → IfSome (left r.inner) (λ input. input ≡ file_text v) → r2.failures ≡ r.failures → EndsPrinting ended held waits w w2 (check_line v)
+    → Ends ended r r2 waits w w2 (λ _. ChecksFile (left r.inner) (held w.inner) (held w2.inner)) (StopsChecking left r r2 held w w2)
+checked left held waits r r2 w w2 (Ok u) v is text same p = ((same, p.0, p.1), (v, is, text, p.2))
+checked left held waits r r2 w w2 (Err fault) v is text same p =
+    subst (λ (f : ToolFault). Ends (Err f) r r2 waits w w2 (λ (u : ⊤). ChecksFile (left r.inner) (held w.inner) (held w2.inner)) (StopsChecking left r r2 held w w2)) (sym p.0)
     ((same, p.1.0), (v, is, text, p.1.1))
 
 -- the same for each file value that was read
-pub checked_or : {W : Type 0} (held : W → Option (List ℕ)) (w w2 : Device W) (ended : Result ⊤ ToolFault) (v : FileValue) → EndsPrinting ended held w w2 (check_line v)
+pub checked_or : {W : Type 0} (held : W → Option (List ℕ)) (waits : W → List ℕ) (w w2 : Device W) (ended : Result ⊤ ToolFault) (v : FileValue) → EndsPrinting ended held waits w w2 (check_line v)
     → IsCheckedOr v ended (held w.inner) (held w2.inner)
-checked_or held w w2 (Ok u) v p = p.2
-checked_or held w w2 (Err fault) v p = subst (λ (f : ToolFault). IsCheckedOr v (Err f) (held w.inner) (held w2.inner)) (sym p.0) p.1.1
+checked_or held waits w w2 (Ok u) v p = p.2
+checked_or held waits w w2 (Err fault) v p = subst (λ (f : ToolFault). IsCheckedOr v (Err f) (held w.inner) (held w2.inner)) (sym p.0) p.1.1

@@ -48,10 +48,10 @@ never_zero (faults.Check f) e = one_zero e
 never_zero faults.NoSignal e = one_zero e
 
 -- the end of a command in other terms
-pub ends_so : {A R W : Type 0} (ended : Result A ToolFault) (r r2 : Device R) (w w2 : Device W) (P Q : A → Type 0) (S T : ToolFault → Type 0)
-    → ((x : A) → P x → Q x) → ((fault : ToolFault) → S fault → T fault) → Ends ended r r2 w w2 P S → Ends ended r r2 w w2 Q T
-ends_so (Ok x) r r2 w w2 P Q S T done stopped h = (h.0, done x h.1)
-ends_so (Err fault) r r2 w w2 P Q S T done stopped h = (h.0, stopped fault h.1)
+pub ends_so : {A R W : Type 0} (ended : Result A ToolFault) (r r2 : Device R) (waits : W → List ℕ) (w w2 : Device W) (P Q : A → Type 0) (S T : ToolFault → Type 0)
+    → ((x : A) → P x → Q x) → ((fault : ToolFault) → S fault → T fault) → Ends ended r r2 waits w w2 P S → Ends ended r r2 waits w w2 Q T
+ends_so (Ok x) r r2 waits w w2 P Q S T done stopped h = (h.0, done x h.1)
+ends_so (Err fault) r r2 waits w w2 P Q S T done stopped h = (h.0, stopped fault h.1)
 
 pub has_command : (words : List Text) (m : ArgMatches) → IsFoundIn words m → HasCommand m
 has_command words m found = (found.0, found.1, found.2, found.3)
@@ -66,10 +66,10 @@ sub_found (Some b) n o e f =
     sym (ap₂ (λ (x : Text) (y : List Row). Some (x, y)) p q)
 
 -- how the command that was found ended
-pub ends_found : {A R W E : Type 0} (ended : Result A ToolFault) (left : R → Option (List ℕ)) (held : W → Option (List ℕ)) (told : E → Option (List ℕ)) (r r2 : Device R) (w w2 : Device W) (e e2 : Device E) (m : ArgMatches) (n : Text) (o : List Row)
-    → Some n ≡ subcommand_name_of m → Some o ≡ option_map (λ p. p.1) (subcommand_rows (out-ArgMatches m).subcommand) → EndsCommand ended left r r2 held w w2 told e e2 n o
-    → EndsFound ended (subcommand_rows_of m) left r r2 held w w2 told e e2
-ends_found ended left held told r r2 w w2 e e2 m n o is rows h = (n, o, sub_found (out-ArgMatches m).subcommand n o is rows, h)
+pub ends_found : {A R W E : Type 0} (ended : Result A ToolFault) (left : R → Option (List ℕ)) (held : W → Option (List ℕ)) (waits : W → List ℕ) (told : E → Option (List ℕ)) (r r2 : Device R) (w w2 : Device W) (e e2 : Device E) (m : ArgMatches) (n : Text) (o : List Row)
+    → Some n ≡ subcommand_name_of m → Some o ≡ option_map (λ p. p.1) (subcommand_rows (out-ArgMatches m).subcommand) → EndsCommand ended left r r2 held waits w w2 told e e2 n o
+    → EndsFound ended (subcommand_rows_of m) left r r2 held waits w w2 told e e2
+ends_found ended left held waits told r r2 w w2 e e2 m n o is rows h = (n, o, sub_found (out-ArgMatches m).subcommand n o is rows, h)
 
 -- a command that was found twice is the same
 asked : (words : List Text) (found : Option (Text × List Row)) (n n2 : Text) (o o2 : List Row) → found ≡ Some (n, o) → found ≡ Some (n2, o2) → SelectsCommand words n o → SelectsCommand words n2 o2
@@ -80,9 +80,9 @@ printed_after : {E : Type 0} (told : E → Option (List ℕ)) (e e1 e2 : Device 
 printed_after {E = E} told e e1 e2 text same h = subst (λ (d : Device E). PrintsLine told d e2 text) same h
 
 -- the words: the writer for faults was e, was e1 when the command ended, and is e2 at the end
-module _ {R W E : Type 0} (left : R → Option (List ℕ)) (held : W → Option (List ℕ)) (told : E → Option (List ℕ)) (r r2 : Device R) (w w2 : Device W) (e e1 e2 : Device E) (words : List Text) where
+module _ {R W E : Type 0} (left : R → Option (List ℕ)) (held : W → Option (List ℕ)) (waits : W → List ℕ) (told : E → Option (List ℕ)) (r r2 : Device R) (w w2 : Device W) (e e1 e2 : Device E) (words : List Text) where
   pub served : (m : ArgMatches) (ended : Result ⊤ ToolFault) (status : ℕ) → status ≡ status_of ended → PrintsFault ended told e1 e2 → IsFoundIn words m
-      → EndsFound ended (subcommand_rows_of m) left r r2 held w w2 told e e1 → status ≡ 0 → HasCompleted left r r2 held w w2 told e e2 words
+      → EndsFound ended (subcommand_rows_of m) left r r2 held waits w w2 told e e1 → status ≡ 0 → HasCompleted left r r2 held waits w w2 told e e2 words
   served m (Ok u) status is line found end zero =
       inl (
         end.0,
@@ -94,7 +94,7 @@ module _ {R W E : Type 0} (left : R → Option (List ℕ)) (held : W → Option 
   served m (Err fault) status is line found end zero = absurd (never_zero fault (sym is ∙ zero))
 
   pub failed_to_serve : (m : ArgMatches) (ended : Result ⊤ ToolFault) (status : ℕ) → status ≡ status_of ended → PrintsFault ended told e1 e2 → IsFoundIn words m
-      → EndsFound ended (subcommand_rows_of m) left r r2 held w w2 told e e1 → status ≡ 1 → HasStoppedEarly left r r2 held w w2 told e e2 words
+      → EndsFound ended (subcommand_rows_of m) left r r2 held waits w w2 told e e1 → status ≡ 1 → HasStoppedEarly left r r2 held waits w w2 told e e2 words
   failed_to_serve m (Ok u) status is line found end one = absurd (let bad : 0 ≡ 1 = sym is ∙ one in omega (arith, bad))
   failed_to_serve m (Err fault) status is line found end one =
       inl (
@@ -108,7 +108,7 @@ module _ {R W E : Type 0} (left : R → Option (List ℕ)) (held : W → Option 
         printed_after told e e1 e2 (error_line fault) end.3.1.1 line,
       )
 
-  pub answered_in_part : (error : Error) → RefusesWords words error → StopsPrinting (kind_of error) held w w2 told e e2 → r2 ≡ r → HasStoppedEarly left r r2 held w w2 told e e2 words
+  pub answered_in_part : (error : Error) → RefusesWords words error → StopsPrinting (kind_of error) held w w2 told e e2 → r2 ≡ r → HasStoppedEarly left r r2 held waits w w2 told e e2 words
   answered_in_part error refused (inl memory) unread = inr (inr ((unread, memory.1), memory.2))
   answered_in_part error refused (inr part) unread = inr (inl (is_version words error refused part.0, unread, part.1, part.2))
 
@@ -116,8 +116,8 @@ module _ {R W E : Type 0} (left : R → Option (List ℕ)) (held : W → Option 
 abbrev IsRefusedBy : {R W : Type 0} → (r r2 : Device R) → (w w2 : Device W) → Text → List Row → ToolFault → Type 0
 IsRefusedBy r r2 w w2 name options fault = (name ≡ codes "convert") × IsSetupRefused options fault × IsUntouched r r2 w w2
 
-module _ {R W : Type 0} (left : R → Option (List ℕ)) (held : W → Option (List ℕ)) (r r2 : Device R) (w w2 : Device W) (name : Text) (options : List Row) where
-  bad_position : HasStopped left r r2 held w w2 name options faults.BadPosition → IsRefusedBy r r2 w w2 name options faults.BadPosition
+module _ {R W : Type 0} (left : R → Option (List ℕ)) (held : W → Option (List ℕ)) (waits : W → List ℕ) (r r2 : Device R) (w w2 : Device W) (name : Text) (options : List Row) where
+  bad_position : HasStopped left r r2 held waits w w2 name options faults.BadPosition → IsRefusedBy r r2 w w2 name options faults.BadPosition
   bad_position (inl (n, stops)) = absurd stops
   bad_position (inr (inl (n, stops))) = absurd stops
   bad_position (inr (inr (inl (n, (wanted, number, stops))))) = absurd stops
@@ -126,7 +126,7 @@ module _ {R W : Type 0} (left : R → Option (List ℕ)) (held : W → Option (L
   bad_position (inr (inr (inr (inr (inl (n, inr (x, start, stops))))))) = absurd stops
   bad_position (inr (inr (inr (inr (inr (n, stops)))))) = absurd stops
 
-  bad_height : HasStopped left r r2 held w w2 name options faults.BadHeight → IsRefusedBy r r2 w w2 name options faults.BadHeight
+  bad_height : HasStopped left r r2 held waits w w2 name options faults.BadHeight → IsRefusedBy r r2 w w2 name options faults.BadHeight
   bad_height (inl (n, stops)) = absurd stops
   bad_height (inr (inl (n, stops))) = absurd stops
   bad_height (inr (inr (inl (n, (wanted, number, stops))))) = absurd stops
@@ -135,7 +135,7 @@ module _ {R W : Type 0} (left : R → Option (List ℕ)) (held : W → Option (L
   bad_height (inr (inr (inr (inr (inl (n, inr (x, start, stops))))))) = absurd stops
   bad_height (inr (inr (inr (inr (inr (n, stops)))))) = absurd stops
 
-  refused_by : (fault : ToolFault) → fault_status fault ≡ 2 → HasStopped left r r2 held w w2 name options fault → IsRefusedBy r r2 w w2 name options fault
+  refused_by : (fault : ToolFault) → fault_status fault ≡ 2 → HasStopped left r r2 held waits w w2 name options fault → IsRefusedBy r r2 w w2 name options fault
   refused_by faults.BadPosition two stopped = bad_position stopped
   refused_by faults.BadHeight two stopped = bad_height stopped
   refused_by faults.Memory two stopped = absurd (one_two two)
@@ -148,13 +148,13 @@ module _ {R W : Type 0} (left : R → Option (List ℕ)) (held : W → Option (L
   refused_by (faults.Check e) two stopped = absurd (one_two two)
   refused_by faults.NoSignal two stopped = absurd (one_two two)
 
-pub refused_at_two : {R W E : Type 0} (left : R → Option (List ℕ)) (held : W → Option (List ℕ)) (told : E → Option (List ℕ)) (r r2 : Device R) (w w2 : Device W) (e e1 e2 : Device E) (words : List Text) (m : ArgMatches) (ended : Result ⊤ ToolFault) (status : ℕ)
-    → status ≡ status_of ended → PrintsFault ended told e1 e2 → IsFoundIn words m → EndsFound ended (subcommand_rows_of m) left r r2 held w w2 told e e1 → status ≡ 2
+pub refused_at_two : {R W E : Type 0} (left : R → Option (List ℕ)) (held : W → Option (List ℕ)) (waits : W → List ℕ) (told : E → Option (List ℕ)) (r r2 : Device R) (w w2 : Device W) (e e1 e2 : Device E) (words : List Text) (m : ArgMatches) (ended : Result ⊤ ToolFault) (status : ℕ)
+    → status ≡ status_of ended → PrintsFault ended told e1 e2 → IsFoundIn words m → EndsFound ended (subcommand_rows_of m) left r r2 held waits w w2 told e e1 → status ≡ 2
     → AreRefused told e e2 words × IsUntouched r r2 w w2
-refused_at_two left held told r r2 w w2 e e1 e2 words m (Ok u) status is line found end two = absurd (let bad : 0 ≡ 2 = sym is ∙ two in omega (arith, bad))
-refused_at_two left held told r r2 w w2 e e1 e2 words m (Err fault) status is line found end two =
+refused_at_two left held waits told r r2 w w2 e e1 e2 words m (Ok u) status is line found end two = absurd (let bad : 0 ≡ 2 = sym is ∙ two in omega (arith, bad))
+refused_at_two left held waits told r r2 w w2 e e1 e2 words m (Err fault) status is line found end two =
     let same : fault_status fault ≡ 2 = sym is ∙ two in
-    let refused = refused_by left held r r2 w w2 end.0 end.1 fault same end.3.1.0 in
+    let refused = refused_by left held waits r r2 w w2 end.0 end.1 fault same end.3.1.0 in
     let asks : SelectsCommand words end.0 end.1 = asked words (subcommand_rows_of m) found.0 end.0 found.1 end.1 found.3 end.2 found.4 in
     (inr (end.1, fault, subst (λ (n : Text). SelectsCommand words n end.1) refused.0 asks, refused.1, same, printed_after told e e1 e2 (error_line fault) end.3.1.1 line), refused.2)
 

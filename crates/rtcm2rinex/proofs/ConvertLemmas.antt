@@ -20,17 +20,17 @@ use Rattle.rtcm2rinex.specs.SetupOptions.{HasSetupFault, IsFirstFault, IsSetupRe
 use Rattle.rtcm2rinex.specs.Converting.{StopsConversion, StopsConverting}
 use Rattle.rtcm2rinex.specs.Devices.{HaveFailedBy, tool_fault_of}
 
-module _ {R W : Type 0} (left : R → Option (List ℕ)) (held : W → Option (List ℕ)) (x : Start) (rd rd2 : Device R) (o o2 : Device W) where
+module _ {R W : Type 0} (left : R → Option (List ℕ)) (held : W → Option (List ℕ)) (waits : W → List ℕ) (x : Start) (rd rd2 : Device R) (o o2 : Device W) where
   abbrev Result-of : Fault → Result Report Fault
   Result-of fault = Err fault
 
-  pub conversion_stopped : (fault : Fault) → FailsWithReader (Result-of fault) rd rd2 → FailsWithWriter (Result-of fault) o o2 → IsSentAfter (Result-of fault) o.is_sent o2.is_sent
+  pub conversion_stopped : (fault : Fault) → FailsWithReader (Result-of fault) rd rd2 → FailsWithWriter (Result-of fault) o o2 → IsSentAfter (Result-of fault) (waits o.inner) (waits o2.inner)
       → (IsErrOf (Result-of fault) NoEpoch → IfSome (left rd.inner) (IsMadeEmpty x (held o.inner) (held o2.inner)))
       → (IsErrOf (Result-of fault) TooLong → IsMadeToLimit x (left rd.inner) (left rd2.inner) (held o.inner) (held o2.inner))
       → (IsErrOf (Result-of fault) Read → IsMadeSoFar x (left rd.inner) (left rd2.inner) (held o.inner) (held o2.inner))
       → (IsErrOf (Result-of fault) Write → IsMadeInPart x (left rd.inner) (left rd2.inner) (held o.inner) (held o2.inner))
       → (Result-of fault ≡ Err BadSetup ↔ IsBadAt x) → (IsSetupFault fault → IsUntouched rd rd2 o o2) → (Result-of fault ≢ Err Failed) × (Result-of fault ≢ Err Finished)
-      → HaveFailedBy (tool_fault_of fault) rd rd2 o o2 × StopsConversion x left rd rd2 held o o2 (tool_fault_of fault)
+      → HaveFailedBy (tool_fault_of fault) rd rd2 o o2 × StopsConversion x left rd rd2 held waits o o2 (tool_fault_of fault)
   conversion_stopped Memory reader writer sent none long read write bad untouched only = ((reader.0, writer.0), untouched (inr refl))
   conversion_stopped BadSetup reader writer sent none long read write bad untouched only = ((reader.0, writer.0), (bad.0 refl, untouched (inl refl)))
   conversion_stopped TooLong reader writer sent none long read write bad untouched only = ((reader.0, writer.0), (long refl, sent))
@@ -80,9 +80,9 @@ only_two None h e is = inl (sym (ap err_of is))
 only_two (Some (x, y, z)) None e is = inr (sym (ap err_of is))
 only_two (Some (x, y, z)) (Some h) e is = cc
 
-module _ {R W : Type 0} (left : R → Option (List ℕ)) (held : W → Option (List ℕ)) (options : List Row) (rd : Device R) (o : Device W) where
+module _ {R W : Type 0} (left : R → Option (List ℕ)) (held : W → Option (List ℕ)) (waits : W → List ℕ) (options : List Row) (rd : Device R) (o : Device W) where
   abbrev Refuses : ToolFault → Type 0
-  Refuses e = HaveFailedBy e rd rd o o × StopsConverting options left rd rd held o o e
+  Refuses e = HaveFailedBy e rd rd o o × StopsConverting options left rd rd held waits o o e
 
   -- of a result that is known
   refused_first : (values : Result StationValues ToolFault) (e : ToolFault) → values_by_message options ≡ values → IsFirstFault values options e → IsSetupRefused options e

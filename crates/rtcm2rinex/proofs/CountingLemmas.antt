@@ -187,9 +187,9 @@ signals_stopped left held text wanted r r2 w (faults.Check e) reads stops = absu
 signals_stopped left held text wanted r r2 w faults.NoSignal reads stops = ((reads, refl), (stops, refl))
 
 -- the signals of a stream were printed, or a part of their text
-pub signals_printed : {R W : Type 0} (left : R → Option (List ℕ)) (held : W → Option (List ℕ)) (text : SignalText) (wanted : Option ℕ) (r r2 : Device R) (w w2 : Device W) (ended : Result ⊤ ToolFault)
-    (s : StreamSignals) (h : HasCounted s wanted (left r.inner) (left r2.inner)) → r2.failures ≡ r.failures → EndsPrinting ended held w w2 (text wanted (frames_of h.0))
-    → EndsSignals ended text wanted left r r2 held w w2
-signals_printed left held text wanted r r2 w w2 (Ok u) s h same p = ((same, p.0, p.1), (h.0, h.1, h.2, h.4, p.2))
-signals_printed left held text wanted r r2 w w2 (Err fault) s h same p =
-    subst (λ (f : ToolFault). EndsSignals {A = ⊤} (Err f) text wanted left r r2 held w w2) (sym p.0) ((same, p.1.0), (h.0, h.1, h.2, h.4, p.1.1))
+pub signals_printed : {R W : Type 0} (left : R → Option (List ℕ)) (held : W → Option (List ℕ)) (waits : W → List ℕ) (text : SignalText) (wanted : Option ℕ) (r r2 : Device R) (w w2 : Device W) (ended : Result ⊤ ToolFault)
+    (s : StreamSignals) (h : HasCounted s wanted (left r.inner) (left r2.inner)) → r2.failures ≡ r.failures → EndsPrinting ended held waits w w2 (text wanted (frames_of h.0))
+    → EndsSignals ended text wanted left r r2 held waits w w2
+signals_printed left held waits text wanted r r2 w w2 (Ok u) s h same p = ((same, p.0, p.1), (h.0, h.1, h.2, h.4, p.2))
+signals_printed left held waits text wanted r r2 w w2 (Err fault) s h same p =
+    subst (λ (f : ToolFault). EndsSignals {A = ⊤} (Err f) text wanted left r r2 held waits w w2) (sym p.0) ((same, p.1.0), (h.0, h.1, h.2, h.4, p.1.1))

@@ -141,19 +141,19 @@ module _ {W : Type 0} (held : W → Option (List ℕ)) (v v2 : FramerValue) (k k
       )
 
 -- the listing was stopped by a fault
-pub listing_stopped : {R W F : Type 0} (left : R → Option (List ℕ)) (held : W → Option (List ℕ)) (v v2 : FramerValue) (k k2 : Listing) (o o2 : Device W) (rd rd2 : Device R)
+pub listing_stopped : {R W F : Type 0} (left : R → Option (List ℕ)) (held : W → Option (List ℕ)) (waits : W → List ℕ) (v v2 : FramerValue) (k k2 : Listing) (o o2 : Device W) (rd rd2 : Device R)
     (n limit : ℕ) (fault : StreamFault F) → n ≡ 65536 → v.limit ≡ limit → v.taken ≡ 0 → v.has_ended ≡ false → HasPassedAll (Lists held) v k o [] k o []
     → AtFault fault (Reads (left rd.inner) (left rd2.inner) (Passes (Lists held) v k o v2 k2 o2)) (Reads (left rd.inner) (left rd2.inner) (PassesToLimit (Lists held) v k o v2 k2 o2))
     (BreaksReading (Lists held) (ListsUpTo held) v k o k2 o2 n (left rd.inner) (left rd2.inner))
-    → AtFault fault (v2.has_ended ≡ false) (v2.has_ended ≡ false) ⊤ → AtFault fault (o2.is_sent ≡ true) (o2.is_sent ≡ true) ⊤
+    → AtFault fault (v2.has_ended ≡ false) (v2.has_ended ≡ false) ⊤ → AtFault fault (waits o2.inner ≡ []) (waits o2.inner ≡ []) ⊤
     → AtFault fault (HasFailed rd.failures rd2.failures) (rd2.failures ≡ rd.failures) (rd2.failures ≡ rd.failures)
-    → HaveFailedBy (stream_fault fault) rd rd2 o o2 × StopsListing limit (listing_lines k) left rd rd2 held o o2 (stream_fault fault)
-listing_stopped left held v v2 k k2 o o2 rd rd2 n limit stream.Read size is none going new passed still sent failed =
+    → HaveFailedBy (stream_fault fault) rd rd2 o o2 × StopsListing limit (listing_lines k) left rd rd2 held waits o o2 (stream_fault fault)
+listing_stopped left held waits v v2 k k2 o o2 rd rd2 n limit stream.Read size is none going new passed still sent failed =
     let listed = listed_some held v v2 k k2 o o2 (left rd.inner) (left rd2.inner) new still passed in
     ((failed, listed.1), (listed.0, sent))
-listing_stopped left held v v2 k k2 o o2 rd rd2 n limit stream.TooLong size is none going new passed still sent failed =
+listing_stopped left held waits v v2 k k2 o o2 rd rd2 n limit stream.TooLong size is none going new passed still sent failed =
     let listed = listed_to_limit held v v2 k k2 o o2 (left rd.inner) (left rd2.inner) new limit is none still passed in
     ((failed, listed.1), (listed.0, sent))
-listing_stopped left held v v2 k k2 o o2 rd rd2 n limit (stream.Sink fault) size is none going new broke still sent failed =
+listing_stopped left held waits v v2 k k2 o o2 rd rd2 n limit (stream.Sink fault) size is none going new broke still sent failed =
     let listed = listed_part held v v2 k k2 o o2 (left rd.inner) (left rd2.inner) new size going broke in
     ((failed, listed.1), listed.0)

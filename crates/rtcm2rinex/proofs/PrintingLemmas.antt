@@ -37,8 +37,8 @@ line_printed (Ok u) told e e2 text whole part device = inl (device.1, whole)
 line_printed (Err failed) told e e2 text whole part device = inr (device.0, part)
 
 -- the same text in other terms
-pub same_text : {A W : Type 0} (r : Result A ToolFault) (held : W → Option (List ℕ)) (w w2 : Device W) (x y : List ℕ) → x ≡ y → EndsPrinting r held w w2 x → EndsPrinting r held w w2 y
-same_text r held w w2 x y e h = subst (EndsPrinting r held w w2) e h
+pub same_text : {A W : Type 0} (r : Result A ToolFault) (held : W → Option (List ℕ)) (waits : W → List ℕ) (w w2 : Device W) (x y : List ℕ) → x ≡ y → EndsPrinting r held waits w w2 x → EndsPrinting r held waits w w2 y
+same_text r held waits w w2 x y e h = subst (EndsPrinting r held waits w w2) e h
 
 pub line_written : {W : Type 0} (r : Result ⊤ DeviceFailed) (held : W → Option (List ℕ)) (w w2 : Device W) (x y : List ℕ) → x ≡ y → WritesLine r held w w2 x → WritesLine r held w w2 y
 line_written r held w w2 x y e h = subst (WritesLine r held w w2) e h

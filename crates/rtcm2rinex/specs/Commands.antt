@@ -49,21 +49,22 @@ HasDone left r r' held w w' told e e' name options =
 
 -- the command was stopped by a fault
 abbrev pub HasStopped : {R W : Type 0} → (R → Option (List ℕ)) → (r r' : Device R) → (W → Option (List ℕ))
-    → (w w' : Device W) → Text → List Row → ToolFault → Type 0
-HasStopped left r r' held w w' name options fault =
-    ((name ≡ codes "frames") × StopsListing (2 ^ 48) frame_lines left r r' held w w' fault)
-    ⊎ ((name ≡ codes "show") × StopsListing (2 ^ 48) show_lines left r r' held w w' fault)
+    → (W → List ℕ) → (w w' : Device W) → Text → List Row → ToolFault → Type 0
+HasStopped left r r' held waits w w' name options fault =
+    ((name ≡ codes "frames") × StopsListing (2 ^ 48) frame_lines left r r' held waits w w' fault)
+    ⊎ ((name ≡ codes "show") × StopsListing (2 ^ 48) show_lines left r r' held waits w w' fault)
     ⊎ ((name ≡ codes "signals") × StopsAsked signals_text options left r r' held w w' fault)
     ⊎ ((name ≡ codes "options") × StopsAsked options_text options left r r' held w w' fault)
-    ⊎ ((name ≡ codes "convert") × StopsConverting options left r r' held w w' fault)
+    ⊎ ((name ≡ codes "convert") × StopsConverting options left r r' held waits w w' fault)
     ⊎ ((name ≡ codes "check") × StopsChecking left r r' held w w' fault)
 
 -- how the command ended; it prints no fault
 abbrev pub EndsCommand : {A R W E : Type 0} → Result A ToolFault → (R → Option (List ℕ)) → (r r' : Device R)
-    → (W → Option (List ℕ)) → (w w' : Device W) → (E → Option (List ℕ)) → (e e' : Device E) → Text → List Row → Type 0
-EndsCommand result left r r' held w w' told e e' name options =
-    Ends result r r' w w' (λ _. HasDone left r r' held w w' told e e' name options)
-    (λ fault. HasStopped left r r' held w w' name options fault × (e' ≡ e))
+    → (W → Option (List ℕ)) → (W → List ℕ) → (w w' : Device W) → (E → Option (List ℕ)) → (e e' : Device E) → Text
+    → List Row → Type 0
+EndsCommand result left r r' held waits w w' told e e' name options =
+    Ends result r r' waits w w' (λ _. HasDone left r r' held w w' told e e' name options)
+    (λ fault. HasStopped left r r' held waits w w' name options fault × (e' ≡ e))
 
 -- the name of a command
 abbrev pub name_of : Asked → Text
@@ -80,10 +81,11 @@ HasCommand m = (name : Text) × (options : List Row) × IsCommand name × (subco
 
 -- how the command that was found ended
 abbrev pub EndsFound : {A R W E : Type 0} → Result A ToolFault → Option (Text × List Row) → (R → Option (List ℕ))
-    → (r r' : Device R) → (W → Option (List ℕ)) → (w w' : Device W) → (E → Option (List ℕ)) → (e e' : Device E) → Type 0
-EndsFound result found left r r' held w w' told e e' =
+    → (r r' : Device R) → (W → Option (List ℕ)) → (W → List ℕ) → (w w' : Device W) → (E → Option (List ℕ))
+    → (e e' : Device E) → Type 0
+EndsFound result found left r r' held waits w w' told e e' =
     (name : Text) × (options : List Row) × (found ≡ Some (name, options))
-    × EndsCommand result left r r' held w w' told e e' name options
+    × EndsCommand result left r r' held waits w w' told e e' name options
 
 -- ---- the exit status
 
@@ -101,20 +103,20 @@ status_of (Err fault) = fault_status fault
 -- The command that the words ask for completed with the options that they give; or they ask for the version, which was
 -- written, and nothing was written to standard error.
 abbrev pub HasCompleted : {R W E : Type 0} → (R → Option (List ℕ)) → (r r' : Device R) → (W → Option (List ℕ))
-    → (w w' : Device W) → (E → Option (List ℕ)) → (e e' : Device E) → List Text → Type 0
-HasCompleted left r r' held w w' told e e' words =
-    ((name : Text) × (options : List Row) × SelectsCommand words name options × AreFine r r' w w'
+    → (W → List ℕ) → (w w' : Device W) → (E → Option (List ℕ)) → (e e' : Device E) → List Text → Type 0
+HasCompleted left r r' held waits w w' told e e' words =
+    ((name : Text) × (options : List Row) × SelectsCommand words name options × AreFine r r' waits w w'
     × HasDone left r r' held w w' told e e' name options)
-    ⊎ (FailsParsing words DisplayVersion × (r' ≡ r) × PrintsText held w w' VERSION.now × (e' ≡ e))
+    ⊎ (FailsParsing words DisplayVersion × (r' ≡ r) × PrintsText held waits w w' VERSION.now × (e' ≡ e))
 
 -- The command that the words ask for was stopped by a fault, or the writer failed in the output of the version, and the
 -- line of that fault was printed; or memory ran out while the words were parsed. Then the line of `Memory` was printed,
 -- and nothing else was read or written.
 abbrev pub HasStoppedEarly : {R W E : Type 0} → (R → Option (List ℕ)) → (r r' : Device R) → (W → Option (List ℕ))
-    → (w w' : Device W) → (E → Option (List ℕ)) → (e e' : Device E) → List Text → Type 0
-HasStoppedEarly left r r' held w w' told e e' words =
+    → (W → List ℕ) → (w w' : Device W) → (E → Option (List ℕ)) → (e e' : Device E) → List Text → Type 0
+HasStoppedEarly left r r' held waits w w' told e e' words =
     ((name : Text) × (options : List Row) × (fault : ToolFault) × SelectsCommand words name options
-    × (fault_status fault ≡ 1) × HaveFailedBy fault r r' w w' × HasStopped left r r' held w w' name options fault
+    × (fault_status fault ≡ 1) × HaveFailedBy fault r r' w w' × HasStopped left r r' held waits w w' name options fault
     × PrintsLine told e e' (error_line fault))
     ⊎ (FailsParsing words DisplayVersion × (r' ≡ r) × PrintsPart held w w' VERSION.now
     × PrintsLine told e e' (error_line faults.Write))

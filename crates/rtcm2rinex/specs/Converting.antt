@@ -1,5 +1,5 @@
 -- What the command `convert` has read and written.
-use Rattle.std.specs.Prelude.{◌≡◌, ◌⊎◌, true, ℕ, List, Option, Result, IfSome}
+use Rattle.std.specs.Prelude.{◌≡◌, ◌⊎◌, ℕ, List, Option, Result, IfSome, []}
 use Rattle.rtcm_convert.specs.SetupValues.{Start, IsBadAt}
 use Rattle.rtcm_convert.specs.Made.{IsMadeEmpty, IsMadeWith, IsMadeToLimit, IsMadeSoFar, IsMadeInPart}
 use Rattle.rtcm_convert.specs.Faults.{IsUntouched}
@@ -31,36 +31,37 @@ MakesNoEpoch x r r' w w' = IfSome r (IsMadeEmpty x w w')
 -- before close, at `Write` a part of the file, and at `TooLong` the file of the epochs that the bytes up to the limit
 -- close.
 abbrev pub StopsConversion : {R W : Type 0} → Start → (R → Option (List ℕ)) → (r r' : Device R) → (W → Option (List ℕ))
-    → (w w' : Device W) → ToolFault → Type 0
-StopsConversion x left r r' held w w' faults.Read =
-    Moves left r r' held w w' (IsMadeSoFar x) × (w.is_sent ≡ true → w'.is_sent ≡ true)
-StopsConversion x left r r' held w w' faults.Write = Moves left r r' held w w' (IsMadeInPart x)
-StopsConversion x left r r' held w w' (faults.Convert convert.TooLong) =
-    Moves left r r' held w w' (IsMadeToLimit x) × (w'.is_sent ≡ true)
-StopsConversion x left r r' held w w' (faults.Convert convert.NoEpoch) =
-    Moves left r r' held w w' (MakesNoEpoch x) × (w'.is_sent ≡ true)
-StopsConversion x left r r' held w w' (faults.Convert convert.BadSetup) = IsBadAt x × IsUntouched r r' w w'
-StopsConversion x left r r' held w w' (faults.Convert convert.Memory) = IsUntouched r r' w w'
-StopsConversion x left r r' held w w' other = ⊥
+    → (W → List ℕ) → (w w' : Device W) → ToolFault → Type 0
+StopsConversion x left r r' held waits w w' faults.Read =
+    Moves left r r' held w w' (IsMadeSoFar x) × (waits w'.inner ≡ [])
+StopsConversion x left r r' held waits w w' faults.Write = Moves left r r' held w w' (IsMadeInPart x)
+StopsConversion x left r r' held waits w w' (faults.Convert convert.TooLong) =
+    Moves left r r' held w w' (IsMadeToLimit x) × (waits w'.inner ≡ [])
+StopsConversion x left r r' held waits w w' (faults.Convert convert.NoEpoch) =
+    Moves left r r' held w w' (MakesNoEpoch x) × (waits w'.inner ≡ [])
+StopsConversion x left r r' held waits w w' (faults.Convert convert.BadSetup) = IsBadAt x × IsUntouched r r' w w'
+StopsConversion x left r r' held waits w w' (faults.Convert convert.Memory) = IsUntouched r r' w w'
+StopsConversion x left r r' held waits w w' other = ⊥
 
 -- how a conversion with this start ended
 abbrev pub EndsConversion : {R W : Type 0} → Result Report ToolFault → Start → (R → Option (List ℕ)) → (r r' : Device R)
-    → (W → Option (List ℕ)) → (w w' : Device W) → Type 0
-EndsConversion result x left r r' held w w' =
-    Ends result r r' w w' (λ report. IfSome (left r.inner) (IsMadeWith x report (held w.inner) (held w'.inner)))
-    (StopsConversion x left r r' held w w')
+    → (W → Option (List ℕ)) → (W → List ℕ) → (w w' : Device W) → Type 0
+EndsConversion result x left r r' held waits w w' =
+    Ends result r r' waits w w' (λ report. IfSome (left r.inner) (IsMadeWith x report (held w.inner) (held w'.inner)))
+    (StopsConversion x left r r' held waits w w')
 
 -- The setup of these options is refused, and nothing was read or written; or the conversion that they ask for was
 -- stopped.
 abbrev pub StopsConverting : {R W : Type 0} → List Row → (R → Option (List ℕ)) → (r r' : Device R)
-    → (W → Option (List ℕ)) → (w w' : Device W) → ToolFault → Type 0
-StopsConverting options left r r' held w w' fault =
+    → (W → Option (List ℕ)) → (W → List ℕ) → (w w' : Device W) → ToolFault → Type 0
+StopsConverting options left r r' held waits w w' fault =
     (IsSetupRefused options fault × IsUntouched r r' w w')
-    ⊎ ((x : Start) × IsStartOf options x × StopsConversion x left r r' held w w' fault)
+    ⊎ ((x : Start) × IsStartOf options x × StopsConversion x left r r' held waits w w' fault)
 
 -- how such a command ended; it prints no fault
 abbrev pub EndsConverting : {A R W E : Type 0} → Result A ToolFault → List Row → (R → Option (List ℕ))
-    → (r r' : Device R) → (W → Option (List ℕ)) → (w w' : Device W) → (E → Option (List ℕ)) → (e e' : Device E) → Type 0
-EndsConverting result options left r r' held w w' told e e' =
-    Ends result r r' w w' (λ _. IsConverted options (left r.inner) (held w.inner) (held w'.inner) told e e')
-    (λ fault. StopsConverting options left r r' held w w' fault × (e' ≡ e))
+    → (r r' : Device R) → (W → Option (List ℕ)) → (W → List ℕ) → (w w' : Device W) → (E → Option (List ℕ))
+    → (e e' : Device E) → Type 0
+EndsConverting result options left r r' held waits w w' told e e' =
+    Ends result r r' waits w w' (λ _. IsConverted options (left r.inner) (held w.inner) (held w'.inner) told e e')
+    (λ fault. StopsConverting options left r r' held waits w w' fault × (e' ≡ e))

@@ -1,5 +1,5 @@
 -- The state of the devices of a command by its result: they were r and w before, and are r' and w' after it.
-use Rattle.std.specs.Prelude.{◌≡◌, ℕ, true, Result, Ok, Err}
+use Rattle.std.specs.Prelude.{◌≡◌, ℕ, Result, Ok, Err, [], List}
 use Rattle.rtcm_bits.specs.Device.{Device, HasFailed}
 use Rattle.rtcm_scan.specs.declared.feed.StreamFault.{StreamFault}
 use Rattle.rtcm_scan.specs.declared.feed.StreamFault.TheVariants as stream
@@ -39,8 +39,8 @@ WriteFailures faults.Write before after = HasFailed before after
 WriteFailures _ before after = after ≡ before
 
 -- no device failed, and nothing waits in the writer
-abbrev pub AreFine : {R W : Type 0} → (r r' : Device R) → (w w' : Device W) → Type 0
-AreFine r r' w w' = (r'.failures ≡ r.failures) × (w'.failures ≡ w.failures) × (w'.is_sent ≡ true)
+abbrev pub AreFine : {R W : Type 0} → (r r' : Device R) → (W → List ℕ) → (w w' : Device W) → Type 0
+AreFine r r' waits w w' = (r'.failures ≡ r.failures) × (w'.failures ≡ w.failures) × (waits w'.inner ≡ [])
 
 -- the device that the fault names failed, and no other
 abbrev pub HaveFailedBy : {R W : Type 0} → ToolFault → (r r' : Device R) → (w w' : Device W) → Type 0
@@ -48,7 +48,8 @@ HaveFailedBy fault r r' w w' = ReadFailures fault r.failures r'.failures × Writ
 
 -- How a command ended: no device failed, nothing waits in the writer, and Done holds for its value; or Stopped holds
 -- for its fault.
-abbrev pub Ends : {A R W : Type 0} → Result A ToolFault → (r r' : Device R) → (w w' : Device W) → (A → Type 0)
+abbrev pub Ends : {A R W : Type 0} → Result A ToolFault → (r r' : Device R) → (W → List ℕ) → (w w' : Device W)
+    → (A → Type 0)
     → (ToolFault → Type 0) → Type 0
-Ends (Ok x) r r' w w' Done Stopped = AreFine r r' w w' × Done x
-Ends (Err fault) r r' w w' Done Stopped = HaveFailedBy fault r r' w w' × Stopped fault
+Ends (Ok x) r r' waits w w' Done Stopped = AreFine r r' waits w w' × Done x
+Ends (Err fault) r r' waits w w' Done Stopped = HaveFailedBy fault r r' w w' × Stopped fault

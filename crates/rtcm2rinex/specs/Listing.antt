@@ -1,5 +1,6 @@
 -- What a command that lists a stream's frames has read and written.
 use Rattle.std.specs.Prelude.{◌≡◌, ◌<◌, ◌≤◌, ℕ, Bool, true, List, ◌++◌, take, length, Option, Result, OnOk, OnErr, ⊤}
+use Rattle.std.specs.Prelude.{[]}
 use Rattle.std.specs.List.{flat_map}
 use Rattle.std.specs.Io.KnownBytes.{Appends, Consumes, IsAtEnd}
 use Rattle.rtcm_bits.specs.Device.{AppendsPrefix, Device, FailsWith, HasFailed}
@@ -58,21 +59,21 @@ pub record ListsPart (lines : List Framed → List ℕ) (r r' w w' : Option (Lis
 -- What a listing of at most `limit` bytes has read and written when it was stopped by a fault. Nothing waits in the
 -- writer except at `Write`.
 abbrev pub StopsListing : {R W : Type 0} → ℕ → (List Framed → List ℕ) → (R → Option (List ℕ)) → (r r' : Device R)
-    → (W → Option (List ℕ)) → (w w' : Device W) → ToolFault → Type 0
-StopsListing limit lines left r r' held w w' faults.Read =
-    Moves left r r' held w w' (ListsDecided lines) × (w'.is_sent ≡ true)
-StopsListing limit lines left r r' held w w' faults.Write = Moves left r r' held w w' (ListsPart lines)
-StopsListing limit lines left r r' held w w' (faults.Scan scan.TooLong) =
-    Moves left r r' held w w' (ListsToLimit limit lines) × (w'.is_sent ≡ true)
-StopsListing limit lines left r r' held w w' (faults.Scan scan.Memory) = IsUntouched r r' w w'
-StopsListing limit lines left r r' held w w' other = ⊥
+    → (W → Option (List ℕ)) → (W → List ℕ) → (w w' : Device W) → ToolFault → Type 0
+StopsListing limit lines left r r' held waits w w' faults.Read =
+    Moves left r r' held w w' (ListsDecided lines) × (waits w'.inner ≡ [])
+StopsListing limit lines left r r' held waits w w' faults.Write = Moves left r r' held w w' (ListsPart lines)
+StopsListing limit lines left r r' held waits w w' (faults.Scan scan.TooLong) =
+    Moves left r r' held w w' (ListsToLimit limit lines) × (waits w'.inner ≡ [])
+StopsListing limit lines left r r' held waits w w' (faults.Scan scan.Memory) = IsUntouched r r' w w'
+StopsListing limit lines left r r' held waits w w' other = ⊥
 
 -- how such a listing ended
 abbrev pub EndsListing : {A R W : Type 0} → Result A ToolFault → ℕ → (List Framed → List ℕ) → (R → Option (List ℕ))
-    → (r r' : Device R) → (W → Option (List ℕ)) → (w w' : Device W) → Type 0
-EndsListing result limit lines left r r' held w w' =
-    Ends result r r' w w' (λ _. Moves left r r' held w w' (ListsAll lines))
-    (StopsListing limit lines left r r' held w w')
+    → (r r' : Device R) → (W → Option (List ℕ)) → (W → List ℕ) → (w w' : Device W) → Type 0
+EndsListing result limit lines left r r' held waits w w' =
+    Ends result r r' waits w w' (λ _. Moves left r r' held w w' (ListsAll lines))
+    (StopsListing limit lines left r r' held waits w w')
 
 -- ---- a listing as a consumer of frames
 

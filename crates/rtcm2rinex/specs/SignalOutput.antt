@@ -52,9 +52,9 @@ StopsSignals text wanted left r r' held w w' other = ⊥
 
 -- how such a command ended
 abbrev pub EndsSignals : {A R W : Type 0} → Result A ToolFault → SignalText → Option ℕ → (R → Option (List ℕ))
-    → (r r' : Device R) → (W → Option (List ℕ)) → (w w' : Device W) → Type 0
-EndsSignals result text wanted left r r' held w w' =
-    Ends result r r' w w' (λ _. Moves left r r' held w w' (PrintsSignals text wanted))
+    → (r r' : Device R) → (W → Option (List ℕ)) → (W → List ℕ) → (w w' : Device W) → Type 0
+EndsSignals result text wanted left r r' held waits w w' =
+    Ends result r r' waits w w' (λ _. Moves left r r' held w w' (PrintsSignals text wanted))
     (StopsSignals text wanted left r r' held w w')
 
 -- ---- as options ask for it

@@ -7,9 +7,9 @@ ghost use Rattle.rtcm2rinex.specs.Checking.{AcceptsFiles, ChecksFile, StopsCheck
 use crate::fault::ToolFault;
 use crate::line::{OutputLine, print_text};
 use rinex_file::check_file;
-use rtcm_bits::Counted;
+use rtcm_bits::{Counted, Deliver};
 use std::alloc::Global;
-use std::io::{Read, Write};
+use std::io::Read;
 
 /// Reads a file to its end and writes its numbers of epochs, satellite lines and events. It is
 /// accepted exactly if it is encoded as `convert` encodes files.
@@ -19,12 +19,12 @@ use std::io::{Read, Write};
 /// `Check` with the fault of `check_file`, and `Write` if the writer failed.
 // Not inlined, so that the parser's block of bytes isn't in the stack frame of every command.
 #[inline(never)]
-pub fn run_check<R: Read, W: Write>(
+pub fn run_check<R: Read, W: Deliver>(
     alloc: Global,
     reader: &mut Counted<R>,
     writer: &mut Counted<W>,
 ) -> Result<(), ToolFault>
-    ensures ends { Ends result reader.old reader.new writer.old writer.new
+    ensures ends { Ends result reader.old reader.new W.waiting writer.old writer.new
         (λ _. ChecksFile (R.remaining reader.old.inner) (W.contents writer.old.inner) (W.contents writer.new.inner))
         (StopsChecking R.remaining reader.old reader.new W.contents writer.old writer.new) }
 

@@ -27,7 +27,7 @@ use crate::options::{setup_of, station_of, values_of};
 use crate::signals::{run_options, run_signals};
 use clap::ArgMatches;
 use clap::error::ErrorKind;
-use rtcm_bits::Counted;
+use rtcm_bits::{Counted, Deliver};
 use std::alloc::Global;
 use std::io;
 use std::io::{Read, Write};
@@ -35,7 +35,7 @@ use std::io::{Read, Write};
 /// Runs the command that the words ask for, the first of which is the program's name, and returns
 /// the exit status: 0 after success, 1 after a fault, and 2 if the words aren't accepted or ask for
 /// help.
-pub fn command<R: Read, W: Write, E: Write>(
+pub fn command<R: Read, W: Deliver, E: Deliver>(
     alloc: Global,
     words: &[&str],
     reader: &mut Counted<R>,
@@ -47,13 +47,13 @@ pub fn command<R: Read, W: Write, E: Write>(
     // By clap's definitions under the program's options, the words ask for a command, which
     // completed with these options; or they ask for the version, which was written. Only the report
     // of `convert` was written to `faults`.
-    ensures good { result ≡ 0 → HasCompleted R.remaining reader.old reader.new W.contents writer.old writer.new
-        E.contents faults.old faults.new (texts words.now) }
+    ensures good { result ≡ 0 → HasCompleted R.remaining reader.old reader.new W.contents W.waiting writer.old
+        writer.new E.contents faults.old faults.new (texts words.now) }
 
     // They ask for a command that was stopped by a fault, whose line was written to `faults`; or
     // memory ran out before anything else was read or written.
-    ensures stopped { result ≡ 1 → HasStoppedEarly R.remaining reader.old reader.new W.contents writer.old writer.new
-        E.contents faults.old faults.new (texts words.now) }
+    ensures stopped { result ≡ 1 → HasStoppedEarly R.remaining reader.old reader.new W.contents W.waiting writer.old
+        writer.new E.contents faults.old faults.new (texts words.now) }
 
     // They aren't accepted, ask for help, or ask to convert with an invalid position or height.
     // Nothing was read, and nothing was written to the output.
@@ -101,7 +101,7 @@ fn command_of(name: &str) -> Asked
 }
 
 /// Runs the command that was found in the words.
-fn run<R: Read, W: Write, E: Write>(
+fn run<R: Read, W: Deliver, E: Write>(
     alloc: Global,
     matches: &ArgMatches,
     reader: &mut Counted<R>,
@@ -110,7 +110,7 @@ fn run<R: Read, W: Write, E: Write>(
 ) -> Result<(), ToolFault>
     requires { HasCommand matches.now }
     ensures { EndsFound result (subcommand_rows_of matches.now) R.remaining reader.old reader.new
-        W.contents writer.old writer.new E.contents faults.old faults.new }
+        W.contents W.waiting writer.old writer.new E.contents faults.old faults.new }
 {
     let Some((name, options)) = matches.subcommand() else {
         unreachable!()
@@ -127,7 +127,7 @@ fn run<R: Read, W: Write, E: Write>(
 
 /// Converts the stream as the options ask, and prints the report. A failure of its writer is
 /// ignored, since the file is already written.
-fn convert<R: Read, W: Write, E: Write>(
+fn convert<R: Read, W: Deliver, E: Write>(
     alloc: Global,
     options: &ArgMatches,
     reader: &mut Counted<R>,
@@ -135,7 +135,7 @@ fn convert<R: Read, W: Write, E: Write>(
     faults: &mut Counted<E>,
 ) -> Result<(), ToolFault>
     ensures { EndsConverting result (options_of options.now) R.remaining reader.old reader.new
-        W.contents writer.old writer.new E.contents faults.old faults.new }
+        W.contents W.waiting writer.old writer.new E.contents faults.old faults.new }
 {
     let initial = values_of(options)?;
     let setup = setup_of(alloc, options)?;
@@ -149,14 +149,14 @@ fn convert<R: Read, W: Write, E: Write>(
 }
 
 /// Prints the version if the words ask for it, else clap's error. Returns the exit status.
-fn answer<W: Write, E: Write>(
+fn answer<W: Deliver, E: Deliver>(
     error: &clap::Error,
     writer: &mut Counted<W>,
     faults: &mut Counted<E>,
 ) -> u8
     ensures status { result ≤ 2 }
     ensures good { result ≡ 0 → (kind_of error.now ≡ DisplayVersion)
-        × PrintsText W.contents writer.old writer.new VERSION.now × (faults.new ≡ faults.old) }
+        × PrintsText W.contents W.waiting writer.old writer.new VERSION.now × (faults.new ≡ faults.old) }
     ensures stopped { result ≡ 1 → StopsPrinting (kind_of error.now) W.contents writer.old writer.new
         E.contents faults.old faults.new }
     ensures refused { result ≡ 2

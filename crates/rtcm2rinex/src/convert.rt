@@ -8,10 +8,10 @@ ghost use Rattle.rtcm2rinex.specs.Reports.{report_line};
 use crate::fault::ToolFault;
 use crate::line::OutputLine;
 use obs_epoch::StationValues;
-use rtcm_bits::Counted;
+use rtcm_bits::{Counted, Deliver};
 use rtcm_convert::{Fault, Report, Setup, convert_stream_at};
 use std::alloc::Global;
-use std::io::{Read, Write};
+use std::io::Read;
 
 /// Writes the observation file of a stream that is read to its end. For every stream, regardless of
 /// the sizes of the reads, and for every starting week and plan, the file written is exactly the
@@ -21,14 +21,14 @@ use std::io::{Read, Write};
 ///
 /// `Read`, `Write`, and `Convert` with the other faults of `convert_stream`, of which `NoEpoch`
 /// means that the file has no epoch.
-pub fn run_convert<R: Read, W: Write>(
+pub fn run_convert<R: Read, W: Deliver>(
     alloc: Global,
     setup: Setup,
     reader: &mut Counted<R>,
     writer: &mut Counted<W>,
 ) -> Result<Report, ToolFault>
     ensures ends { EndsConversion result (start_zero setup)
-        R.remaining reader.old reader.new W.contents writer.old writer.new }
+        R.remaining reader.old reader.new W.contents W.waiting writer.old writer.new }
     ensures bad_setup { result ≡ Err (ToolFault.Convert Fault.BadSetup) ↔ IsBad setup }
     ensures widest { reader.new.widest ≤ max reader.old.widest longest_frame }
 {
@@ -41,7 +41,7 @@ pub fn run_convert<R: Read, W: Write>(
 /// # Errors
 ///
 /// Those of `run_convert`.
-pub fn run_convert_at<R: Read, W: Write>(
+pub fn run_convert_at<R: Read, W: Deliver>(
     alloc: Global,
     setup: Setup,
     initial: StationValues,
@@ -49,7 +49,7 @@ pub fn run_convert_at<R: Read, W: Write>(
     writer: &mut Counted<W>,
 ) -> Result<Report, ToolFault>
     ensures ends { EndsConversion result (start_at setup initial)
-        R.remaining reader.old reader.new W.contents writer.old writer.new }
+        R.remaining reader.old reader.new W.contents W.waiting writer.old writer.new }
     ensures bad_setup { result ≡ Err (ToolFault.Convert Fault.BadSetup) ↔ IsBadAt (start_at setup initial) }
     ensures widest { reader.new.widest ≤ max reader.old.widest longest_frame }
 {

@@ -6,7 +6,7 @@ ghost use Rattle.rtcm2rinex.specs.Printing.{EndsPrinting, PrintsLine};
 use crate::fault::ToolFault;
 use arrayvec::ArrayVec;
 use itoa::Buffer;
-use rtcm_bits::Counted;
+use rtcm_bits::{Counted, Deliver};
 use std::io::Write;
 use std::marker::Model;
 
@@ -146,8 +146,8 @@ impl OutputLine {
 /// # Errors
 ///
 /// `Write` if the writer failed.
-pub fn print_text<W: Write>(text: &[u8], writer: &mut Counted<W>) -> Result<(), ToolFault>
-    ensures { EndsPrinting result W.contents writer.old writer.new text.now }
+pub fn print_text<W: Deliver>(text: &[u8], writer: &mut Counted<W>) -> Result<(), ToolFault>
+    ensures { EndsPrinting result W.contents W.waiting writer.old writer.new text.now }
 {
     match writer.write_whole(text) {
         Ok(()) => match writer.flush_whole() {

@@ -12,11 +12,11 @@ ghost use Rattle.rtcm2rinex.specs.Listing.{EndsListing, listing_line, listing_li
 
 use crate::fault::ToolFault;
 use crate::line::OutputLine;
-use rtcm_bits::{BitReader, Counted, DeviceFailed};
+use rtcm_bits::{BitReader, Counted, Deliver, DeviceFailed};
 use rtcm_msg::{MsgFault, MsmView, StationParts, View, look};
 use rtcm_scan::{Frame, FrameSink, Framer, MOST_BYTES, ScanFault, laws};
 use std::alloc::Global;
-use std::io::{Read, Write};
+use std::io::Read;
 
 /// Largest number of bytes read at a time.
 pub const PIECE_BYTES: usize = 65_536;
@@ -30,13 +30,13 @@ pub enum Listing {
     Messages,
 }
 
-impl<W: Write> FrameSink<Counted<W>> for Listing {
-    ghost use Rattle.std.specs.Prelude.{◌≡◌, true};
+impl<W: Deliver> FrameSink<Counted<W>> for Listing {
+    ghost use Rattle.std.specs.Prelude.{◌≡◌, []};
     ghost use Rattle.rtcm2rinex.specs.Listing.{Lists, ListsUpTo};
 
     type Fault = DeviceFailed;
 
-    ghost is_sent = { λ o. o.is_sent ≡ true };
+    ghost is_sent = { λ o. W.waiting o.inner ≡ [] };
 
     ghost took = { Lists W.contents };
 
@@ -70,13 +70,13 @@ fn add_line(line: &mut OutputLine, listing: Listing, frame: &Frame)
 /// # Errors
 ///
 /// Those of `list`.
-pub fn run_frames<R: Read, W: Write>(
+pub fn run_frames<R: Read, W: Deliver>(
     alloc: Global,
     reader: &mut Counted<R>,
     writer: &mut Counted<W>,
 ) -> Result<(), ToolFault>
     ensures { EndsListing result (2 ^ 48) frame_lines
-        R.remaining reader.old reader.new W.contents writer.old writer.new }
+        R.remaining reader.old reader.new W.contents W.waiting writer.old writer.new }
 {
     list(alloc, Listing::Frames, MOST_BYTES, reader, writer)
 }
@@ -87,13 +87,13 @@ pub fn run_frames<R: Read, W: Write>(
 /// # Errors
 ///
 /// Those of `list`.
-pub fn run_show<R: Read, W: Write>(
+pub fn run_show<R: Read, W: Deliver>(
     alloc: Global,
     reader: &mut Counted<R>,
     writer: &mut Counted<W>,
 ) -> Result<(), ToolFault>
     ensures { EndsListing result (2 ^ 48) show_lines
-        R.remaining reader.old reader.new W.contents writer.old writer.new }
+        R.remaining reader.old reader.new W.contents W.waiting writer.old writer.new }
 {
     list(alloc, Listing::Messages, MOST_BYTES, reader, writer)
 }
@@ -105,7 +105,7 @@ pub fn run_show<R: Read, W: Write>(
 ///
 /// `Read` if the reader failed, `Write` if the writer failed, and `Scan` if the stream is longer
 /// than the limit or memory ran out.
-pub fn list<R: Read, W: Write>(
+pub fn list<R: Read, W: Deliver>(
     alloc: Global,
     listing: Listing,
     limit: u64,
@@ -114,7 +114,7 @@ pub fn list<R: Read, W: Write>(
 ) -> Result<(), ToolFault>
     requires { limit ≤ 2 ^ 48 }
     ensures { EndsListing result limit (listing_lines listing)
-        R.remaining reader.old reader.new W.contents writer.old writer.new }
+        R.remaining reader.old reader.new W.contents W.waiting writer.old writer.new }
 {
     // The limit is valid, so a framer is refused only when out of memory.
     let Ok(mut framer) = Framer::new(alloc, limit) else {

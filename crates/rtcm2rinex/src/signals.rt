@@ -21,11 +21,11 @@ use crate::listing::PIECE_BYTES;
 use arrayvec::ArrayVec;
 use gnss_obs::{Signal, System};
 use obs_epoch::SignalCounts;
-use rtcm_bits::{Counted, DeviceFailed};
+use rtcm_bits::{Counted, Deliver, DeviceFailed};
 use rtcm_msg::{StationParts, View, look};
 use rtcm_scan::{Frame, FrameSink, Framer, MOST_BYTES, ScanFault, laws};
 use std::alloc::Global;
-use std::io::{Read, Write};
+use std::io::Read;
 
 /// Room for a line of each signal: 34 of at most 26 bytes.
 const TEXT_BYTES: usize = 1_024;
@@ -36,14 +36,14 @@ const TEXT_BYTES: usize = 1_024;
 /// # Errors
 ///
 /// `Write` if the writer failed, and those of `read_signals`.
-pub fn run_signals<R: Read, W: Write>(
+pub fn run_signals<R: Read, W: Deliver>(
     alloc: Global,
     station: Option<u16>,
     reader: &mut Counted<R>,
     writer: &mut Counted<W>,
 ) -> Result<(), ToolFault>
     ensures { EndsSignals result signals_text station
-        R.remaining reader.old reader.new W.contents writer.old writer.new }
+        R.remaining reader.old reader.new W.contents W.waiting writer.old writer.new }
 {
     let signals = read_signals(alloc, station, reader)?;
     let mut text = ArrayVec::new();
@@ -58,14 +58,14 @@ pub fn run_signals<R: Read, W: Write>(
 /// # Errors
 ///
 /// `Write` if the writer failed, and those of `read_signals`.
-pub fn run_options<R: Read, W: Write>(
+pub fn run_options<R: Read, W: Deliver>(
     alloc: Global,
     station: Option<u16>,
     reader: &mut Counted<R>,
     writer: &mut Counted<W>,
 ) -> Result<(), ToolFault>
     ensures { EndsSignals result options_text station
-        R.remaining reader.old reader.new W.contents writer.old writer.new }
+        R.remaining reader.old reader.new W.contents W.waiting writer.old writer.new }
 {
     let signals = read_signals(alloc, station, reader)?;
     let mut line = OutputLine::new();

@@ -1,5 +1,5 @@
 -- A writer with a buffer before it.
-use Rattle.std.specs.Prelude.{ℕ, Bool, List, Option}
+use Rattle.std.specs.Prelude.{ℕ, Bool, List, ◌++◌, Option}
 use Rattle.std.specs.Io.KnownBytes.{append_known}
 
 -- device: the writer; waiting: the bytes that weren't passed to it yet, or that it didn't accept; has_failed: a call of
@@ -12,3 +12,7 @@ pub record Buffering (W : Type 0) : Type 0 where
 -- the bytes that the device has, followed by those in the buffer
 abbrev pub contents_of : {W : Type 0} → (W → Option (List ℕ)) → Buffering W → Option (List ℕ)
 contents_of contents b = append_known (contents b.device) b.waiting
+
+-- the bytes that wait in the device, followed by those in the buffer
+abbrev pub waiting_of : {W : Type 0} → (W → List ℕ) → Buffering W → List ℕ
+waiting_of waiting b = waiting b.device ++ b.waiting

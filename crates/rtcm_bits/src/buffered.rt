@@ -3,8 +3,9 @@ ghost use Rattle.std.specs.Prelude.{◌≡◌, ◌+◌, ◌-◌, ◌<◌, ◌≤
 ghost use Rattle.std.specs.Prelude.{IfOk, IsErr, vec_len, vec_capacity};
 ghost use Rattle.std.specs.Io.{WritesAtMost};
 ghost use Rattle.std.specs.Io.KnownBytes.{Keeps, Appends, WriteAppends};
-ghost use Rattle.rtcm_bits.specs.Buffering.{contents_of};
+ghost use Rattle.rtcm_bits.specs.Buffering.{contents_of, waiting_of};
 
+use crate::deliver::Deliver;
 use std::alloc::{AllocError, Global};
 use std::io;
 use std::io::{ErrorKind, Write};
@@ -96,13 +97,14 @@ impl<W: Write> Buffered<W> {
     }
 }
 
-impl<W: Write> Write for Buffered<W> {
+impl<W: Deliver> Write for Buffered<W> {
     ghost contents = { contents_of W.contents };
 
     fn write(&mut self, buf: &[u8]) -> io::Result<usize>
         ensures bound { WritesAtMost result buf.now }
         ensures bytes { WriteAppends (contents_of W.contents self.old) (contents_of W.contents self.new) result
             buf.now }
+        ensures fine { OnOk result (self.new.has_failed ≡ false) }
         ensures failed { OnErr result (self.new.has_failed ≡ true) }
         ensures over { self.old.has_failed ≡ true → IsErr result × (self.new ≡ self.old) }
         ensures room { self.old.has_failed ≡ false → length self.old.waiting < 65536
@@ -123,14 +125,24 @@ impl<W: Write> Write for Buffered<W> {
     fn flush(&mut self) -> io::Result<()>
         ensures bytes { Keeps (contents_of W.contents self.old) (contents_of W.contents self.new) }
         ensures all { OnOk result (self.new.waiting ≡ []) }
+        ensures device { OnOk result (W.waiting self.new.device ≡ []) }
+        ensures fine { OnOk result (self.new.has_failed ≡ false) }
         ensures failed { OnErr result (self.new.has_failed ≡ true) }
         ensures over { self.old.has_failed ≡ true → IsErr result × (self.new ≡ self.old) }
     {
         if let Err(error) = self.send() {
             return Err(error);
         }
-        let result = self.device.flush();
+        let result = self.device.deliver();
         self.failed = result.is_err();
         result
+    }
+}
+
+impl<W: Deliver> Deliver for Buffered<W> {
+    ghost waiting = { waiting_of W.waiting };
+
+    fn deliver(&mut self) -> io::Result<()> {
+        self.flush()
     }
 }

@@ -1,7 +1,9 @@
 //! Readers and writers for tests: over memory, with short reads, short writes and failures at
 //! stated places.
-ghost use Rattle.std.specs.Prelude.{◌≡◌, ◌<◌, Some, IfOk};
+ghost use Rattle.std.specs.Prelude.{◌≡◌, ◌<◌, [], Some, IfOk, OnOk};
+ghost use Rattle.std.specs.Io.KnownBytes.{Keeps};
 
+use crate::deliver::Deliver;
 use std::io;
 use std::io::{ErrorKind, Read, Write};
 
@@ -137,7 +139,7 @@ impl<W> ShortWriter<W> {
     }
 }
 
-impl<W: Write> Write for ShortWriter<W> {
+impl<W: Deliver> Write for ShortWriter<W> {
     ghost contents = { λ w. W.contents w.inner };
 
     fn write(&mut self, buf: &[u8]) -> io::Result<usize> {
@@ -152,7 +154,18 @@ impl<W: Write> Write for ShortWriter<W> {
         result
     }
 
-    fn flush(&mut self) -> io::Result<()> {
-        self.inner.flush()
+    fn flush(&mut self) -> io::Result<()>
+        ensures bytes { Keeps (W.contents self.old.inner) (W.contents self.new.inner) }
+        ensures sent { OnOk result (W.waiting self.new.inner ≡ []) }
+    {
+        self.inner.deliver()
+    }
+}
+
+impl<W: Deliver> Deliver for ShortWriter<W> {
+    ghost waiting = { λ w. W.waiting w.inner };
+
+    fn deliver(&mut self) -> io::Result<()> {
+        self.flush()
     }
 }

@@ -1,8 +1,13 @@
 //! Laws of the definitions that contracts cite: bits and the numbers that they encode, two's
 //! complement, CRC-24Q. Each is the contract of a function without a body.
-ghost use Rattle.std.specs.Prelude.{◌≡◌, ◌+◌, ◌*◌, ◌%◌, ◌^◌, ◌<◌, ◌↔◌, ℕ, ℤ, Bool, List, [], ◌∷◌, ◌++◌, length};
+ghost use Rattle.std.specs.Prelude.{◌≡◌, ◌+◌, ◌*◌, ◌%◌, ◌^◌, ◌<◌, ◌↔◌, ℕ, ℤ, Bool, List, [], ◌∷◌, ◌++◌, length, Some};
 ghost use Rattle.rtcm_bits.specs.Bits.{uint, number, bits_of, signed, raw, FitsInt};
 ghost use Rattle.rtcm_bits.specs.Crc.{crc};
+ghost use Rattle.rtcm_bits.specs.Buffering.{Buffering};
+
+use crate::buffered::Buffered;
+use crate::deliver::Deliver;
+use std::io::Write;
 
 /// Bits, most significant first, and the number that they encode determine each other.
 pub fn numbers()
@@ -32,4 +37,11 @@ pub fn complement()
 pub fn residue()
     ensures { (bytes : List ℕ) (x y z : ℕ) → x < 256 → y < 256 → z < 256
         → ((crc (bytes ++ x ∷ y ∷ z ∷ []) ≡ 0) ↔ (x * 65536 + y * 256 + z ≡ crc bytes)) }
+{}
+
+/// The contents of a buffer are the bytes that its device has passed on, followed by those that
+/// wait.
+pub fn waiting<W: Deliver>()
+    ensures { (b : Buffering W) (passed : List ℕ) → W.contents b.device ≡ Some (passed ++ W.waiting b.device)
+        → ⟦<Buffered<W> as Write>⟧.contents b ≡ Some (passed ++ ⟦<Buffered<W> as Deliver>⟧.waiting b) }
 {}

@@ -1,5 +1,5 @@
 -- The faults of a call, by the results that it never has.
-use Rattle.std.proofs.Common.{◌≡◌, ◌≤◌, ℕ, max, Bool, true, false, refl, sym, ap, subst, ◌∙◌, arith, inl, inr, Result, Ok, Err, IfErr}
+use Rattle.std.proofs.Common.{◌≡◌, ◌≤◌, ℕ, max, Bool, true, false, List, [], refl, sym, ap, subst, ◌∙◌, arith, inl, inr, Result, Ok, Err, IfErr}
 use Rattle.std.proofs.lemmas.Bool.{false≢true}
 use Rattle.std.specs.Prelude.{IsErrOf, OnOk}
 use Rattle.rtcm_bits.specs.Device.{Device}
@@ -7,7 +7,7 @@ use Rattle.rtcm_bits.specs.FrameOf.{longest_frame}
 use Rattle.rtcm_convert.specs.Faults.{IsSentAtFault, WriterFailures, ReaderFailures, FailsWithReader, FailsWithWriter, IsSentAfter, IsSetupFault, IsFeedFault, IsFinishFault, IsPiecesFault, IsRunFault}
 use Rattle.rtcm_convert.specs.declared.report.Report.{Report}
 use Rattle.rtcm_convert.specs.declared.fault.Fault.{Fault}
-use Rattle.rtcm_convert.specs.declared.fault.Fault.TheVariants.{BadSetup, Memory, Read, TooLong, Write, Failed, Finished, NoEpoch}
+use Rattle.rtcm_convert.specs.declared.fault.Fault.TheVariants.{BadSetup, Memory, Read, TooLong, Write, NoEpoch}
 
 abbrev pub of_setup : Fault → Bool
 of_setup BadSetup = true
@@ -95,8 +95,8 @@ by_setup P bad memory f (inr e) = subst (λ (x : Fault). P x) (sym e) memory
 pub setup_only : {A : Type 0} (f : Fault) → IsSetupFault f → (g : Fault) → of_setup g ≡ false → IsErrOf {T = A} (Err f) g → ⊥
 setup_only f kind g fails e = apart_err of_setup f g (setup_known f kind) fails e
 
-pub setup_sent : (f : Fault) → IsSetupFault f → (before : Bool) → IsSentAtFault f before before
-setup_sent f kind before = by_setup (λ x. IsSentAtFault x before before) (λ e. e) (λ e. e) f kind
+pub setup_sent : (f : Fault) → IsSetupFault f → (before : List ℕ) → IsSentAtFault f before before
+setup_sent f kind before = by_setup (λ x. IsSentAtFault x before before) refl refl f kind
 
 pub setup_reader : {T : Type 0} (f : Fault) → IsSetupFault f → (o : Device T) → FailsWithReader {T = T} {A = Report} (Err f) o o
 setup_reader f kind o = (by_setup (λ x. ReaderFailures x o.failures o.failures) refl refl f kind, tt, omega arith)
@@ -115,16 +115,15 @@ pub finish_known : (f : Fault) → IsFinishFault f → of_finish f ≡ true
 finish_known f (inl e) = ap of_finish e
 finish_known f (inr e) = ap of_finish e
 
-pub sent_later : {A : Type 0} (r : Result A Fault) (before mid after : Bool) → (before ≡ true → mid ≡ true) → IsSentAfter r mid after → IsSentAfter r before after
-sent_later (Ok x) before mid after e s = s
-sent_later (Err Write) before mid after e s = s
-sent_later (Err TooLong) before mid after e s = s
-sent_later (Err NoEpoch) before mid after e s = s
-sent_later (Err Memory) before mid after e s = λ h. s (e h)
-sent_later (Err BadSetup) before mid after e s = λ h. s (e h)
-sent_later (Err Read) before mid after e s = λ h. s (e h)
-sent_later (Err Failed) before mid after e s = λ h. s (e h)
-sent_later (Err Finished) before mid after e s = λ h. s (e h)
+-- whether bytes wait after such a call doesn't depend on those that waited before it
+pub sent_fed : (f : Fault) (before mid after : List ℕ) → IsFeedFault f → IsSentAtFault f mid after → IsSentAtFault f before after
+sent_fed f before mid after (inl e) s = subst (λ (x : Fault). IsSentAtFault x before after) (sym e) (subst (λ (x : Fault). IsSentAtFault x mid after) e s)
+sent_fed f before mid after (inr e) s = subst (λ (x : Fault). IsSentAtFault x before after) (sym e) tt
+
+pub sent_finished : {A : Type 0} (L : Fault → Type 0) (r : Result A Fault) (before mid after : List ℕ) → IfErr r (λ f. IsFinishFault f × L f) → IsSentAfter r mid after → IsSentAfter r before after
+sent_finished L (Ok x) before mid after left s = s
+sent_finished L (Err f) before mid after (inl e, l) s = subst (λ (x : Fault). IsSentAtFault x before after) (sym e) (subst (λ (x : Fault). IsSentAtFault x mid after) e s)
+sent_finished L (Err f) before mid after (inr e, l) s = subst (λ (x : Fault). IsSentAtFault x before after) (sym e) tt
 
 pub finish_reader : {T A : Type 0} (L : Fault → Type 0) (r : Result A Fault) (old new : Device T) → IfErr r (λ f. IsFinishFault f × L f) → new.failures ≡ old.failures → new.widest ≤ max old.widest longest_frame
     → FailsWithReader r old new
@@ -165,7 +164,7 @@ module _ {A : Type 0} (E : Type 0) where
   pub no_epoch_only : (r : Result A Fault) → IfErr r (λ f. (f ≡ NoEpoch) × E) → IsErrOf r Write → ⊥
   no_epoch_only r none h = never (λ f. f ≡ NoEpoch) (λ _. E) is_no_epoch (λ f e. ap is_no_epoch e) r none Write refl h
 
-  pub no_epoch_sent : (r : Result A Fault) (before after : Bool) → IfErr r (λ f. (f ≡ NoEpoch) × E) → after ≡ true → IsSentAfter r before after
+  pub no_epoch_sent : (r : Result A Fault) (before after : List ℕ) → IfErr r (λ f. (f ≡ NoEpoch) × E) → after ≡ [] → IsSentAfter r before after
   no_epoch_sent (Ok x) before after none e = e
   no_epoch_sent (Err f) before after none e = subst (λ (x : Fault). IsSentAtFault x before after) (sym none.0) e
 

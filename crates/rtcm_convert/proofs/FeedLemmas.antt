@@ -1,5 +1,5 @@
 -- A piece that a converter accepts, and the end of its stream.
-use Rattle.std.proofs.Common.{◌≡◌, ◌≢◌, ℕ, ◌<◌, ◌++◌, List, length, Bool, true, false, sym, subst, ◌∙◌, Option, suc, zero, arith, refl, true≢false, Result, Ok, Err, IfOk}
+use Rattle.std.proofs.Common.{◌≡◌, ◌≢◌, ℕ, ◌<◌, ◌++◌, List, length, Bool, true, false, sym, subst, ◌∙◌, [], Option, suc, zero, arith, refl, true≢false, Result, Ok, Err, IfOk}
 use Rattle.rtcm_bits.specs.Device.{Device}
 use Rattle.rtcm_scan.specs.Examined.{HasExaminedSome}
 use Rattle.rtcm_scan.specs.Passing.{Passes, Breaks, PassesToLimit, AtFault, up_to_limit}
@@ -96,39 +96,42 @@ same_report : (m n k l : ℕ) (t u : Tally) (d e : ℕ) → m ≡ n → k ≡ l 
 same_report m n k l t u d e p q r s = rw (p, q, r, s) refl
 
 module _ (failed over : Bool) (v v' : FramerValue) (w w' : FileWriter) (a b : Option (List ℕ)) (ends : EndsBytes v w v' w' a b)
-    (keeps : KeepsAtEnd (with_flags failed true v' w')) (within : IsWithinBounds v'.taken (kept_of (with_flags failed true v' w'))) where
+    (keeps : KeepsAtEnd (with_flags failed true v' w')) (within : IsWithinBounds v'.taken (kept_of (with_flags failed true v' w')))
+    (n : List ℕ) (empty : n ≡ []) where
   finished : (s : SetupValue) (bytes : List ℕ) → HasConverted (with_flags failed over v w) s bytes → HasFinished (with_flags failed true v' w') s bytes
   finished s bytes h =
       let p = ends s bytes h.drained in
       record { ended = p.over; taken = p.taken; within = p.within; drained = p.drained; counted = p.counted; gathered = p.gathered }
 
-  pub finishes_empty : w'.epochs ≡ 0 → FinishesEmptyNow (with_flags failed over v w) (with_flags failed true v' w') a b
+  pub finishes_empty : w'.epochs ≡ 0 → FinishesEmptyNow (with_flags failed over v w) (with_flags failed true v' w') n a b
   finishes_empty none s bytes h =
       let p = ends s bytes h.drained in
       let f = finished s bytes h in
       record {
         none = sym p.epochs ∙ none;
         out = p.out;
+        sent = empty;
         finished = f;
         kept = keeps s bytes f;
-        bounds = subst (λ (n : ℕ). IsWithinBounds n (kept_of (with_flags failed true v' w'))) p.taken within;
+        bounds = subst (λ (k : ℕ). IsWithinBounds k (kept_of (with_flags failed true v' w'))) p.taken within;
       }
 
-  pub finishes : (report : Report) (m k : ℕ) → report ≡ report_with m k w'.tally w'.epochs → m ≡ v'.taken → k ≡ v'.skipped → (w'.epochs ≡ 0 → ⊥) → FinishesNow (with_flags failed over v w) (with_flags failed true v' w') a b report
+  pub finishes : (report : Report) (m k : ℕ) → report ≡ report_with m k w'.tally w'.epochs → m ≡ v'.taken → k ≡ v'.skipped → (w'.epochs ≡ 0 → ⊥) → FinishesNow (with_flags failed over v w) (with_flags failed true v' w') n a b report
   finishes report m k is taken passed_over not_empty s bytes h =
       let p = ends s bytes h.drained in
       let f = finished s bytes h in
       let skipped : v'.skipped ≡ skipped_before (length bytes) (frames_of bytes) = subst (λ (e : Bool). v'.skipped ≡ skipped_before (known_place e bytes) (frames_of bytes)) p.over p.drained.skipped in
       record {
         out = p.out;
+        sent = empty;
         some = some _ _ p.epochs not_empty;
         report_is = is ∙ same_report _ _ _ _ _ _ _ _ (taken ∙ p.taken) (passed_over ∙ skipped) p.tally p.epochs;
         finished = f;
         kept = keeps s bytes f;
-        bounds = subst (λ (n : ℕ). IsWithinBounds n (kept_of (with_flags failed true v' w'))) p.taken within;
+        bounds = subst (λ (k : ℕ). IsWithinBounds k (kept_of (with_flags failed true v' w'))) p.taken within;
       }
 
   pub finishes_with : {E : Type 0} (r : Result Report E) → IfOk r (λ report. (w'.epochs ≢ 0) × (report ≡ report_with v'.taken v'.skipped w'.tally w'.epochs))
-      → IfOk r (λ report. FinishesNow (with_flags failed over v w) (with_flags failed true v' w') a b report)
+      → IfOk r (λ report. FinishesNow (with_flags failed over v w) (with_flags failed true v' w') n a b report)
   finishes_with (Ok report) p = finishes report v'.taken v'.skipped p.1 refl refl p.0
   finishes_with (Err e) p = tt

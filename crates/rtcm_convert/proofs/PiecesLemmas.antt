@@ -48,12 +48,12 @@ longer_by u v w front piece all more d e = let l : length all ≡ length front +
 module _ (v w x : Conversion) (a b c : Option (List ℕ)) (front : List ℕ) (came : HasTaken v w a b front) where
   -- ---- the end
 
-  pub pieces_whole : {E : Type 0} (all : List ℕ) (result : Result Report E) → front ≡ all → IfOk result (λ report. FinishesNow w x b c report) → IfOk result (λ report. CompletesFile v x a c report all)
-  pieces_whole all (Ok report) e f = subst (CompletesFile v x a c report) e (λ s bytes y. (let i = came s bytes y in completed_after x a b c s bytes (bytes ++ front) report i.1 (f s (bytes ++ front) i.0)))
-  pieces_whole all (Err d) e f = tt
+  pub pieces_whole : {E : Type 0} (n all : List ℕ) (result : Result Report E) → front ≡ all → IfOk result (λ report. FinishesNow w x n b c report) → IfOk result (λ report. CompletesFile v x n a c report all)
+  pieces_whole n all (Ok report) e f = subst (CompletesFile v x n a c report) e (λ s bytes y. (let i = came s bytes y in completed_after x n a b c s bytes (bytes ++ front) report i.1 (f s (bytes ++ front) i.0)))
+  pieces_whole n all (Err d) e f = tt
 
-  pub pieces_empty : (all : List ℕ) → front ≡ all → FinishesEmptyNow w x b c → CompletesEmptyFile v x a c all
-  pieces_empty all e f = subst (CompletesEmptyFile v x a c) e (λ s bytes y. (let i = came s bytes y in empty_after x a b c s bytes (bytes ++ front) i.1 (f s (bytes ++ front) i.0)))
+  pub pieces_empty : (n all : List ℕ) → front ≡ all → FinishesEmptyNow w x n b c → CompletesEmptyFile v x n a c all
+  pieces_empty n all e f = subst (CompletesEmptyFile v x n a c) e (λ s bytes y. (let i = came s bytes y in empty_after x n a b c s bytes (bytes ++ front) i.1 (f s (bytes ++ front) i.0)))
 
   pub pieces_broke_at_end : {Z : Type 0} → (pieces : List (Vec ℕ Z)) → front ≡ joined_pieces pieces → StopsAtEnd w b c → StopsInPieces v a c pieces
   pieces_broke_at_end pieces e stop = inr (λ s bytes y.

@@ -1,5 +1,5 @@
 -- A call that is refused, and one that isn't.
-use Rattle.std.proofs.Common.{◌≡◌, ◌≤◌, ◌+◌, ℕ, max, Bool, true, false, refl, sym, ap, subst, ◌∙◌, arith, Option, Some, None, IfSome, Err}
+use Rattle.std.proofs.Common.{◌≡◌, ◌≤◌, ◌+◌, ℕ, max, Bool, true, false, List, refl, sym, ap, subst, ◌∙◌, arith, Option, Some, None, IfSome, Err}
 use Rattle.std.proofs.lemmas.Bool.{false≢true}
 use Rattle.std.specs.Prelude.{IsErrOf, ⊤, if◌then◌else◌}
 use Rattle.rtcm_bits.specs.Device.{Device}
@@ -39,8 +39,8 @@ module _ (v : Conversion) (f : Fault) (refused : Some f ≡ refusal v) where
       let e : g ≡ f = cc in
       false≢true (sym fails ∙ ap of_refusal e ∙ by_refusal (λ x. of_refusal x ≡ true) refl refl)
 
-  pub refused_sent : (before : Bool) → IsSentAtFault f before before
-  refused_sent before = by_refusal (λ x. IsSentAtFault x before before) (λ e. e) (λ e. e)
+  pub refused_sent : (before : List ℕ) → IsSentAtFault f before before
+  refused_sent before = by_refusal (λ x. IsSentAtFault x before before) refl refl
 
   pub refused_writer : {T : Type 0} (o : Device T) → WriterFailures f o.failures o.failures × ⊤ × (o.widest ≡ o.widest)
   refused_writer o = (by_refusal (λ x. WriterFailures x o.failures o.failures) refl refl, tt, refl)

@@ -31,28 +31,28 @@ flags false false e = (refl, refl)
 pub going_on : (v : Conversion) → None ≡ refusal v → IsGoing v
 going_on v e = let p = flags v.has_ended v.has_failed e in record { fine = p.0; more = p.1 }
 
-pub completed_after : (w : Conversion) (a b c : Option (List ℕ)) (s : SetupValue) (x y : List ℕ) (report : Report) → AppendsDecided a b s x y → Completed w b c s y y report → Completed w a c s x y report
-completed_after w a b c s x y report e f = record { out = goes_on-trans a b c _ _ _ e f.out; some = f.some; report_is = f.report_is; finished = f.finished; kept = f.kept; bounds = f.bounds }
+pub completed_after : (w : Conversion) (n : List ℕ) (a b c : Option (List ℕ)) (s : SetupValue) (x y : List ℕ) (report : Report) → AppendsDecided a b s x y → Completed w n b c s y y report → Completed w n a c s x y report
+completed_after w n a b c s x y report e f = record { out = goes_on-trans a b c _ _ _ e f.out; sent = f.sent; some = f.some; report_is = f.report_is; finished = f.finished; kept = f.kept; bounds = f.bounds }
 
-pub empty_after : (w : Conversion) (a b c : Option (List ℕ)) (s : SetupValue) (x y : List ℕ) → AppendsDecided a b s x y → CompletedEmpty w b c s y y → CompletedEmpty w a c s x y
-empty_after w a b c s x y e f = record { none = f.none; out = goes_on-trans a b c _ _ _ e f.out; finished = f.finished; kept = f.kept; bounds = f.bounds }
+pub empty_after : (w : Conversion) (n : List ℕ) (a b c : Option (List ℕ)) (s : SetupValue) (x y : List ℕ) → AppendsDecided a b s x y → CompletedEmpty w n b c s y y → CompletedEmpty w n a c s x y
+empty_after w n a b c s x y e f = record { none = f.none; out = goes_on-trans a b c _ _ _ e f.out; sent = f.sent; finished = f.finished; kept = f.kept; bounds = f.bounds }
 
-pub ran_whole : {E : Type 0} (v w x : Conversion) (r r' a b c : Option (List ℕ)) (result : Result Report E) → TakesFromReader v w r r' a b → IsAtEnd r' → IfOk result (λ report. FinishesNow w x b c report)
-    → IfOk result (λ report. IfSome r (CompletesFile v x a c report))
-ran_whole v w x r r' a b c (Ok report) p e f =
-    Consumes-whole r r' p.0 (CompletesFile v x a c report) p.1 e
-    (λ s bytes y. let i = p.3 s bytes y in completed_after x a b c s bytes (bytes ++ p.0) report i.out (f s (bytes ++ p.0) i.converted))
-ran_whole v w x r r' a b c (Err d) p e f = tt
+pub ran_whole : {E : Type 0} (v w x : Conversion) (n : List ℕ) (r r' a b c : Option (List ℕ)) (result : Result Report E) → TakesFromReader v w r r' a b → IsAtEnd r' → IfOk result (λ report. FinishesNow w x n b c report)
+    → IfOk result (λ report. IfSome r (CompletesFile v x n a c report))
+ran_whole v w x n r r' a b c (Ok report) p e f =
+    Consumes-whole r r' p.0 (CompletesFile v x n a c report) p.1 e
+    (λ s bytes y. let i = p.3 s bytes y in completed_after x n a b c s bytes (bytes ++ p.0) report i.out (f s (bytes ++ p.0) i.converted))
+ran_whole v w x n r r' a b c (Err d) p e f = tt
 
 pub run_finishing : (v w x : Conversion) (r r' a b c : Option (List ℕ)) → TakesFromReader v w r r' a b → IsAtEnd r' → x.scan.taken ≡ w.scan.taken
     → ((s : SetupValue) (bytes : List ℕ) → HasConverted w s bytes → AppendsPrefixOfRest b c s bytes bytes) → FailsFinishing v x r r' a c
 run_finishing v w x r r' a b c p e same f =
     (p.0, p.1, e, same ∙ p.2, λ s bytes y. let i = p.3 s bytes y in record { mid = b; before = i.out; last = f s (bytes ++ p.0) i.converted })
 
-pub ran_empty : (v w x : Conversion) (r r' a b c : Option (List ℕ)) → TakesFromReader v w r r' a b → IsAtEnd r' → FinishesEmptyNow w x b c → IfSome r (CompletesEmptyFile v x a c)
-ran_empty v w x r r' a b c p e f =
-    Consumes-whole r r' p.0 (CompletesEmptyFile v x a c) p.1 e
-    (λ s bytes y. let i = p.3 s bytes y in empty_after x a b c s bytes (bytes ++ p.0) i.out (f s (bytes ++ p.0) i.converted))
+pub ran_empty : (v w x : Conversion) (n : List ℕ) (r r' a b c : Option (List ℕ)) → TakesFromReader v w r r' a b → IsAtEnd r' → FinishesEmptyNow w x n b c → IfSome r (CompletesEmptyFile v x n a c)
+ran_empty v w x n r r' a b c p e f =
+    Consumes-whole r r' p.0 (CompletesEmptyFile v x n a c) p.1 e
+    (λ s bytes y. let i = p.3 s bytes y in empty_after x n a b c s bytes (bytes ++ p.0) i.out (f s (bytes ++ p.0) i.converted))
 
 longer : (n : ℕ) (bytes xs front ys : List ℕ) → n < length (bytes ++ front) → xs ≡ front ++ ys → n < length (bytes ++ xs)
 longer n bytes xs front ys lt e =

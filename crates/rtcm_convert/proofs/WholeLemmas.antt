@@ -34,33 +34,33 @@ same_limit v w n limit le same e = subst (λ (k : ℕ). n ≤ k) (same ∙ e) le
 abbrev pub IsValued : Start → Type 0
 IsValued x = (b : List ℕ) → 0 < epochs_in (start_value x) (frames_of b) → HasValue (file (start_value x) (frames_of b))
 
-pub made : (v w : Conversion) (x : Start) (a b : Option (List ℕ)) (bytes : List ℕ) (report : Report) → NothingYet → IsValued x → w.scan.limit ≡ v.scan.limit → v.scan.limit ≡ x.setup.limit
-    → Completed w a b (start_value x) [] bytes report → IsMade x a b bytes
-made v w x a b bytes report nothing valued same e p = record {
+pub made : (v w : Conversion) (n : List ℕ) (x : Start) (a b : Option (List ℕ)) (bytes : List ℕ) (report : Report) → NothingYet → IsValued x → w.scan.limit ≡ v.scan.limit → v.scan.limit ≡ x.setup.limit
+    → Completed w n a b (start_value x) [] bytes report → IsMade x a b bytes
+made v w n x a b bytes report nothing valued same e p = record {
   within = same_limit v w (length bytes) x.setup.limit p.finished.within same e;
   some = p.some;
   value = valued bytes p.some;
   out = from_nothing nothing a b (start_value x) (file (start_value x) (frames_of bytes)) p.out;
 }
 
-pub made_empty : (v w : Conversion) (x : Start) (a b : Option (List ℕ)) (bytes : List ℕ) → NothingYet → w.scan.limit ≡ v.scan.limit → v.scan.limit ≡ x.setup.limit
-    → CompletedEmpty w a b (start_value x) [] bytes → IsMadeEmpty x a b bytes
-made_empty v w x a b bytes nothing same e p = record {
+pub made_empty : (v w : Conversion) (n : List ℕ) (x : Start) (a b : Option (List ℕ)) (bytes : List ℕ) → NothingYet → w.scan.limit ≡ v.scan.limit → v.scan.limit ≡ x.setup.limit
+    → CompletedEmpty w n a b (start_value x) [] bytes → IsMadeEmpty x a b bytes
+made_empty v w n x a b bytes nothing same e p = record {
   within = same_limit v w (length bytes) x.setup.limit p.finished.within same e;
   none = p.none;
   out = from_nothing nothing a b (start_value x) (file (start_value x) (frames_of bytes)) p.out;
 }
 
-pub run_made : {E : Type 0} (v w : Conversion) (x : Start) (r a b : Option (List ℕ)) (result : Result Report E) → NothingYet → IsValued x → HasConverted v (start_value x) [] → w.scan.limit ≡ v.scan.limit → v.scan.limit ≡ x.setup.limit
-    → IfOk result (λ report. IfSome r (CompletesFile v w a b report)) → IfOk result (λ report. IfSome r (IsMadeWith x report a b))
-run_made v w x r a b (Ok report) nothing valued y same e h =
-    some_weaker r (CompletesFile v w a b report) (IsMadeWith x report a b) (λ l f. let p = f (start_value x) [] y in (made v w x a b l report nothing valued same e p, p.report_is)) h
-run_made v w x r a b (Err d) nothing valued y same e h = tt
+pub run_made : {E : Type 0} (v w : Conversion) (n : List ℕ) (x : Start) (r a b : Option (List ℕ)) (result : Result Report E) → NothingYet → IsValued x → HasConverted v (start_value x) [] → w.scan.limit ≡ v.scan.limit → v.scan.limit ≡ x.setup.limit
+    → IfOk result (λ report. IfSome r (CompletesFile v w n a b report)) → IfOk result (λ report. IfSome r (IsMadeWith x report a b))
+run_made v w n x r a b (Ok report) nothing valued y same e h =
+    some_weaker r (CompletesFile v w n a b report) (IsMadeWith x report a b) (λ l f. let p = f (start_value x) [] y in (made v w n x a b l report nothing valued same e p, p.report_is)) h
+run_made v w n x r a b (Err d) nothing valued y same e h = tt
 
-pub run_empty : (v w : Conversion) (x : Start) (r a b : Option (List ℕ)) → NothingYet → HasConverted v (start_value x) [] → w.scan.limit ≡ v.scan.limit → v.scan.limit ≡ x.setup.limit
-    → IfSome r (CompletesEmptyFile v w a b) → IfSome r (IsMadeEmpty x a b)
-run_empty v w x r a b nothing y same e h =
-    some_weaker r (CompletesEmptyFile v w a b) (IsMadeEmpty x a b) (λ l f. made_empty v w x a b l nothing same e (f (start_value x) [] y)) h
+pub run_empty : (v w : Conversion) (n : List ℕ) (x : Start) (r a b : Option (List ℕ)) → NothingYet → HasConverted v (start_value x) [] → w.scan.limit ≡ v.scan.limit → v.scan.limit ≡ x.setup.limit
+    → IfSome r (CompletesEmptyFile v w n a b) → IfSome r (IsMadeEmpty x a b)
+run_empty v w n x r a b nothing y same e h =
+    some_weaker r (CompletesEmptyFile v w n a b) (IsMadeEmpty x a b) (λ l f. made_empty v w n x a b l nothing same e (f (start_value x) [] y)) h
 
 pub run_read : (v w : Conversion) (s : SetupValue) (r r' a b : Option (List ℕ)) → NothingYet → HasConverted v s [] → ((front : List ℕ) × Consumes r r' front × (w.scan.taken ≡ v.scan.taken + length front) × WritesAdded v a b front)
     → (front : List ℕ) × Consumes r r' front × Appends a b (so_far s (decided_frames front))

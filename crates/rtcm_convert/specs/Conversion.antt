@@ -1,5 +1,5 @@
 -- The state of a converter that contracts cite, and the bytes that it may have accepted.
-use Rattle.std.specs.Prelude.{◌≡◌, ◌⊎◌, ℕ, ◌+◌, ◌-◌, ◌<◌, ◌≤◌, List, ◌++◌, take, length}
+use Rattle.std.specs.Prelude.{◌≡◌, ◌⊎◌, ℕ, ◌+◌, ◌-◌, ◌<◌, ◌≤◌, List, [], ◌++◌, take, length}
 use Rattle.std.specs.Prelude.{Bool, true, false, Option, Some, None, IfSome, if◌then◌else◌, Result, IfErr}
 use Rattle.std.specs.Io.KnownBytes.{Consumes, IsAtEnd}
 use Rattle.rtcm_bits.specs.FrameOf.{longest_frame}
@@ -186,55 +186,61 @@ abbrev pub StopsRunning : Conversion → Conversion → Option (List ℕ) → Op
     → Option (List ℕ) → Type 0
 StopsRunning v w r r' a b = FailsFeeding v w r r' a b ⊎ FailsFinishing v w r r' a b
 
--- The rest of the file of all these bytes, which has an epoch, was written; `report` is its report; all bytes were
--- decided and examined; and what the converter holds and has examined are the values for these bytes, within the
--- bounds.
-pub record Completed (w : Conversion) (a b : Option (List ℕ)) (s : SetupValue) (bytes all : List ℕ)
+-- The rest of the file of all these bytes, which has an epoch, was written, and none of it waits in the writer;
+-- `report` is its report; all bytes were decided and examined; and what the converter holds and has examined are the
+-- values for these bytes, within the bounds.
+pub record Completed (w : Conversion) (waiting : List ℕ) (a b : Option (List ℕ)) (s : SetupValue) (bytes all : List ℕ)
     (report : Report) : Type 0 where
   pub out : AppendsRest a b s bytes all
+  pub sent : waiting ≡ []
   pub some : 0 < epochs_in s (frames_of all)
   pub report_is : report ≡ report_of s all
   pub finished : HasFinished w s all
   pub kept : IsKeptAtEnd s all (kept_of w)
   pub bounds : IsWithinBounds (length all) (kept_of w)
 
--- The file of all these bytes has no epoch and is empty; all bytes were decided and examined.
-pub record CompletedEmpty (w : Conversion) (a b : Option (List ℕ)) (s : SetupValue) (bytes all : List ℕ) : Type 0 where
+-- The file of all these bytes has no epoch and is empty, and nothing waits in the writer; all bytes were decided and
+-- examined.
+pub record CompletedEmpty (w : Conversion) (waiting : List ℕ) (a b : Option (List ℕ)) (s : SetupValue)
+    (bytes all : List ℕ) : Type 0 where
   pub none : epochs_in s (frames_of all) ≡ 0
   pub out : AppendsRest a b s bytes all
+  pub sent : waiting ≡ []
   pub finished : HasFinished w s all
   pub kept : IsKeptAtEnd s all (kept_of w)
   pub bounds : IsWithinBounds (length all) (kept_of w)
 
 -- the stream ends here, and the file was completed
-abbrev pub FinishesNow : Conversion → Conversion → Option (List ℕ) → Option (List ℕ) → Report → Type 0
-FinishesNow v w a b report =
-    (s : SetupValue) (bytes : List ℕ) → HasConverted v s bytes → Completed w a b s bytes bytes report
+abbrev pub FinishesNow : Conversion → Conversion → List ℕ → Option (List ℕ) → Option (List ℕ) → Report → Type 0
+FinishesNow v w waiting a b report =
+    (s : SetupValue) (bytes : List ℕ) → HasConverted v s bytes → Completed w waiting a b s bytes bytes report
 
 -- the stream ends here, and the file was completed and is empty
-abbrev pub FinishesEmptyNow : Conversion → Conversion → Option (List ℕ) → Option (List ℕ) → Type 0
-FinishesEmptyNow v w a b =
-    (s : SetupValue) (bytes : List ℕ) → HasConverted v s bytes → CompletedEmpty w a b s bytes bytes
+abbrev pub FinishesEmptyNow : Conversion → Conversion → List ℕ → Option (List ℕ) → Option (List ℕ) → Type 0
+FinishesEmptyNow v w waiting a b =
+    (s : SetupValue) (bytes : List ℕ) → HasConverted v s bytes → CompletedEmpty w waiting a b s bytes bytes
 
 -- with these further bytes, the file was completed
-abbrev pub CompletesFile : Conversion → Conversion → Option (List ℕ) → Option (List ℕ) → Report → List ℕ → Type 0
-CompletesFile v w a b report rest =
-    (s : SetupValue) (bytes : List ℕ) → HasConverted v s bytes → Completed w a b s bytes (bytes ++ rest) report
+abbrev pub CompletesFile : Conversion → Conversion → List ℕ → Option (List ℕ) → Option (List ℕ) → Report → List ℕ
+    → Type 0
+CompletesFile v w waiting a b report rest =
+    (s : SetupValue) (bytes : List ℕ) → HasConverted v s bytes
+    → Completed w waiting a b s bytes (bytes ++ rest) report
 
 -- with these further bytes, the file was completed and is empty
-abbrev pub CompletesEmptyFile : Conversion → Conversion → Option (List ℕ) → Option (List ℕ) → List ℕ → Type 0
-CompletesEmptyFile v w a b rest =
-    (s : SetupValue) (bytes : List ℕ) → HasConverted v s bytes → CompletedEmpty w a b s bytes (bytes ++ rest)
+abbrev pub CompletesEmptyFile : Conversion → Conversion → List ℕ → Option (List ℕ) → Option (List ℕ) → List ℕ → Type 0
+CompletesEmptyFile v w waiting a b rest =
+    (s : SetupValue) (bytes : List ℕ) → HasConverted v s bytes → CompletedEmpty w waiting a b s bytes (bytes ++ rest)
 
 -- with the rest of the stream, the file was completed
-abbrev pub CompletesFileOfAll : Conversion → Conversion → Report → Option (List ℕ) → Option (List ℕ) → Option (List ℕ)
-    → Option (List ℕ) → Type 0
-CompletesFileOfAll v w report r r' a b = IfSome r (CompletesFile v w a b report)
+abbrev pub CompletesFileOfAll : Conversion → Conversion → List ℕ → Report → Option (List ℕ) → Option (List ℕ)
+    → Option (List ℕ) → Option (List ℕ) → Type 0
+CompletesFileOfAll v w waiting report r r' a b = IfSome r (CompletesFile v w waiting a b report)
 
 -- with the rest of the stream, the file was completed and is empty
-abbrev pub CompletesEmptyFileOfAll : Conversion → Conversion → Option (List ℕ) → Option (List ℕ) → Option (List ℕ)
-    → Option (List ℕ) → Type 0
-CompletesEmptyFileOfAll v w r r' a b = IfSome r (CompletesEmptyFile v w a b)
+abbrev pub CompletesEmptyFileOfAll : Conversion → Conversion → List ℕ → Option (List ℕ) → Option (List ℕ)
+    → Option (List ℕ) → Option (List ℕ) → Type 0
+CompletesEmptyFileOfAll v w waiting r r' a b = IfSome r (CompletesEmptyFile v w waiting a b)
 
 -- the state of a converter after a fault of a call, if it had neither failed nor ended before: finished after
 -- `NoEpoch`, else failed

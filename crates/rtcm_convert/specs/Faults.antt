@@ -1,20 +1,21 @@
 -- The state of the devices that a call reads and writes, by its result.
-use Rattle.std.specs.Prelude.{◌≡◌, ◌≤◌, ◌⊎◌, ℕ, max, ⊤, Bool, true, Result, Ok, Err, OnOk, IfErr}
+use Rattle.std.specs.Prelude.{◌≡◌, ◌≤◌, ◌⊎◌, ℕ, max, ⊤, List, [], Result, Ok, Err, OnOk, IfErr}
 use Rattle.rtcm_bits.specs.Device.{Device, HasFailed, FailsWith}
 use Rattle.rtcm_bits.specs.FrameOf.{longest_frame}
 use Rattle.rtcm_convert.specs.declared.fault.Fault.{Fault}
 use Rattle.rtcm_convert.specs.declared.fault.Fault.TheVariants.{BadSetup, Memory, Read, TooLong, NoEpoch, Write}
 
--- Nothing waits in the writer, unless the writer failed. After a call that was refused, or whose reader failed, nothing
--- waits if nothing waited before.
-abbrev pub IsSentAtFault : Fault → Bool → Bool → Type 0
+-- The bytes that wait in a writer before and after a call: after it none, unless the writer failed; after a call that
+-- was refused those that waited before.
+abbrev pub IsSentAtFault : Fault → (before after : List ℕ) → Type 0
 IsSentAtFault Write before after = ⊤
-IsSentAtFault TooLong before after = after ≡ true
-IsSentAtFault NoEpoch before after = after ≡ true
-IsSentAtFault fault before after = before ≡ true → after ≡ true
+IsSentAtFault Read before after = after ≡ []
+IsSentAtFault TooLong before after = after ≡ []
+IsSentAtFault NoEpoch before after = after ≡ []
+IsSentAtFault refusal before after = after ≡ before
 
-abbrev pub IsSentAfter : {A : Type 0} → Result A Fault → Bool → Bool → Type 0
-IsSentAfter (Ok x) before after = after ≡ true
+abbrev pub IsSentAfter : {A : Type 0} → Result A Fault → (before after : List ℕ) → Type 0
+IsSentAfter (Ok x) before after = after ≡ []
 IsSentAfter (Err fault) before after = IsSentAtFault fault before after
 
 -- `Write` is the only fault of the call, and is returned exactly if a failure of the writer was counted

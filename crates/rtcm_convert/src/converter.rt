@@ -34,10 +34,10 @@ use crate::setup::Setup;
 use crate::stream::end_stream;
 use gnss_obs::System;
 use obs_epoch::StationValues;
-use rtcm_bits::{Counted, LONGEST_FRAME};
+use rtcm_bits::{Counted, Deliver, LONGEST_FRAME};
 use rtcm_scan::{Frame, Framer, MOST_BYTES, StreamFault};
 use std::alloc::Global;
-use std::io::{Read, Write};
+use std::io::Read;
 use std::marker::Model;
 
 /// Converts a stream to an observation file. It holds at most 1,029 bytes of the stream, 256 cells
@@ -118,15 +118,15 @@ impl Converter {
         }
     }
 
-    /// Accepts a piece of the stream, of any length, writes every epoch that it closes, and flushes
-    /// the writer.
+    /// Accepts a piece of the stream, of any length, writes every epoch that it closes, and has the
+    /// writer deliver it.
     ///
     /// # Errors
     ///
     /// `TooLong` if the stream goes over its limit (the bytes up to it are accepted), `Write` if
     /// the writer failed; and, without any effect, `Finished` if the stream was ended, and `Failed`
     /// if an earlier call failed.
-    pub fn feed<W: Write>(&mut self, piece: &[u8], writer: &mut Counted<W>) -> Result<(), Fault>
+    pub fn feed<W: Deliver>(&mut self, piece: &[u8], writer: &mut Counted<W>) -> Result<(), Fault>
         ensures refused { IfSome (refusal self.old)
             (λ fault. (result ≡ Err fault) × (self.new ≡ self.old) × (writer.new ≡ writer.old)) }
         // All bytes were accepted, what they add was written, and the converter holds and has
@@ -145,8 +145,8 @@ impl Converter {
         // The bytes up to the limit were accepted, and what they add was written.
         ensures long { IsErrOf result Fault.TooLong
             → CutsAtLimit self.old self.new (W.contents writer.old.inner) (W.contents writer.new.inner) piece.now }
-        // Nothing waits in the writer.
-        ensures sent { IsSentAfter result writer.old.is_sent writer.new.is_sent }
+        // Nothing waits in the writer, unless it failed.
+        ensures sent { IsSentAfter result (W.waiting writer.old.inner) (W.waiting writer.new.inner) }
         ensures device { FailsWithWriter result writer.old writer.new }
         ensures left { IsLeft IsFeedFault self.old self.new result }
     {
@@ -174,27 +174,29 @@ impl Converter {
         }
     }
 
-    /// Ends the stream, writes the rest of the file, flushes the writer, and returns the report.
+    /// Ends the stream, writes the rest of the file, delivers it, and returns the report.
     ///
     /// # Errors
     ///
     /// `NoEpoch` if the file has no epoch, so that nothing was written; the converter is then
     /// finished, as after `Ok`. `Write` if the writer failed; and, without any effect, `Finished`
     /// if the stream was ended before, and `Failed` if an earlier call failed.
-    pub fn finish<W: Write>(&mut self, writer: &mut Counted<W>) -> Result<Report, Fault>
+    pub fn finish<W: Deliver>(&mut self, writer: &mut Counted<W>) -> Result<Report, Fault>
         ensures refused { IfSome (refusal self.old)
             (λ fault. (result ≡ Err fault) × (self.new ≡ self.old) × (writer.new ≡ writer.old)) }
         // The rest of the file was written, and that is the report.
         ensures whole { IfOk result
-            (FinishesNow self.old self.new (W.contents writer.old.inner) (W.contents writer.new.inner)) }
+            (FinishesNow self.old self.new (W.waiting writer.new.inner) (W.contents writer.old.inner)
+            (W.contents writer.new.inner)) }
         // No epoch of the whole stream was written, so nothing was.
         ensures no_epoch { IsErrOf result Fault.NoEpoch
-            → FinishesEmptyNow self.old self.new (W.contents writer.old.inner) (W.contents writer.new.inner) }
+            → FinishesEmptyNow self.old self.new (W.waiting writer.new.inner) (W.contents writer.old.inner)
+            (W.contents writer.new.inner) }
         // A prefix of the rest of the file was written.
         ensures part { IsErrOf result Fault.Write
             → StopsAtEnd self.old (W.contents writer.old.inner) (W.contents writer.new.inner) }
-        // Nothing waits in the writer.
-        ensures sent { IsSentAfter result writer.old.is_sent writer.new.is_sent }
+        // Nothing waits in the writer, unless it failed.
+        ensures sent { IsSentAfter result (W.waiting writer.old.inner) (W.waiting writer.new.inner) }
         ensures device { FailsWithWriter result writer.old writer.new }
         ensures taken { self.new.scan.taken ≡ self.old.scan.taken }
         ensures left { IsLeft IsFinishFault self.old self.new result × OnOk result (self.new.has_ended ≡ true) }
@@ -239,7 +241,7 @@ impl Converter {
     /// # Errors
     ///
     /// Those of `feed` and `finish`.
-    pub fn take_pieces<W: Write>(
+    pub fn take_pieces<W: Deliver>(
         &mut self,
         pieces: &[Vec<u8>],
         writer: &mut Counted<W>,
@@ -251,12 +253,12 @@ impl Converter {
         // within the bounds.
         ensures whole { IfOk result
             (λ report.
-            CompletesFile self.old self.new (W.contents writer.old.inner) (W.contents writer.new.inner) report
-            (joined_pieces pieces.now)) }
+            CompletesFile self.old self.new (W.waiting writer.new.inner) (W.contents writer.old.inner)
+            (W.contents writer.new.inner) report (joined_pieces pieces.now)) }
         // No epoch of the whole stream was written, so nothing was.
         ensures no_epoch { IsErrOf result Fault.NoEpoch
-            → CompletesEmptyFile self.old self.new (W.contents writer.old.inner) (W.contents writer.new.inner)
-            (joined_pieces pieces.now) }
+            → CompletesEmptyFile self.old self.new (W.waiting writer.new.inner) (W.contents writer.old.inner)
+            (W.contents writer.new.inner) (joined_pieces pieces.now) }
         // The bytes up to the limit were accepted, and what they add was written.
         ensures long { IsErrOf result Fault.TooLong
             → CutsAtLimit self.old self.new (W.contents writer.old.inner) (W.contents writer.new.inner)
@@ -264,8 +266,8 @@ impl Converter {
         // The writer failed at one of the pieces, or at the end.
         ensures write { IsErrOf result Fault.Write
             → StopsInPieces self.old (W.contents writer.old.inner) (W.contents writer.new.inner) pieces.now }
-        // Nothing waits in the writer.
-        ensures sent { IsSentAfter result writer.old.is_sent writer.new.is_sent }
+        // Nothing waits in the writer, unless it failed.
+        ensures sent { IsSentAfter result (W.waiting writer.old.inner) (W.waiting writer.new.inner) }
         ensures device { FailsWithWriter result writer.old writer.new }
         ensures left { IsLeft IsPiecesFault self.old self.new result × OnOk result (self.new.has_ended ≡ true) }
     {
@@ -294,12 +296,13 @@ impl Converter {
     }
 
     /// Reads the rest of the stream, at most 1,029 bytes at a time less those held, and writes the
-    /// rest of its file. The writer is flushed after each piece and at the end.
+    /// rest of its file. What was written is delivered before the first piece, after each, and at
+    /// the end; after `Read` too nothing waits in the writer.
     ///
     /// # Errors
     ///
     /// `Read` if the reader failed, and those of `feed` and `finish`.
-    pub fn run<R: Read, W: Write>(
+    pub fn run<R: Read, W: Deliver>(
         &mut self,
         reader: &mut Counted<R>,
         writer: &mut Counted<W>,
@@ -308,11 +311,11 @@ impl Converter {
             (result ≡ Err fault) × (self.new ≡ self.old) × IsUntouched reader.old reader.new writer.old writer.new) }
         // The rest of the file of all the bytes was written, and that is the report.
         ensures whole { IfOk result (λ report. Moves R.remaining reader.old reader.new W.contents writer.old writer.new
-            (CompletesFileOfAll self.old self.new report)) }
+            (CompletesFileOfAll self.old self.new (W.waiting writer.new.inner) report)) }
         // No epoch of the whole stream was written, so nothing was.
         ensures no_epoch { IsErrOf result Fault.NoEpoch
             → Moves R.remaining reader.old reader.new W.contents writer.old writer.new
-            (CompletesEmptyFileOfAll self.old self.new) }
+            (CompletesEmptyFileOfAll self.old self.new (W.waiting writer.new.inner)) }
         // The stream is longer than the limit; the bytes up to it were accepted, and what they add
         // was written.
         ensures long { IsErrOf result Fault.TooLong
@@ -326,8 +329,8 @@ impl Converter {
         ensures write { IsErrOf result Fault.Write
             → Moves R.remaining reader.old reader.new W.contents writer.old writer.new
             (StopsRunning self.old self.new) }
-        // Nothing waits in the writer.
-        ensures sent { IsSentAfter result writer.old.is_sent writer.new.is_sent }
+        // Nothing waits in the writer, unless it failed.
+        ensures sent { IsSentAfter result (W.waiting writer.old.inner) (W.waiting writer.new.inner) }
         ensures reader { FailsWithReader result reader.old reader.new }
         ensures writer { FailsWithWriter result writer.old writer.new }
         ensures left { IsLeft IsRunFault self.old self.new result × OnOk result (self.new.has_ended ≡ true) }

@@ -16,7 +16,7 @@ use crate::setup::Setup;
 use crate::tally::Tally;
 use obs_epoch::{Epoch, Gatherer, Kind, PlanFault, StationValues};
 use rinex_file::{Head, HeadFault, HeaderTexts, write_epoch, write_event, write_header};
-use rtcm_bits::Counted;
+use rtcm_bits::{Counted, Deliver};
 use rtcm_msg::View;
 use std::alloc::Global;
 use std::io::Write;
@@ -190,8 +190,8 @@ impl FileWriter {
         self.step(message, writer)
     }
 
-    /// Writes the rest of the file, and flushes it.
-    pub(crate) fn end<W: Write>(&mut self, writer: &mut Counted<W>) -> Result<(), Fault>
+    /// Writes the rest of the file, and delivers it.
+    pub(crate) fn end<W: Deliver>(&mut self, writer: &mut Counted<W>) -> Result<(), Fault>
         requires { self.old.gatherer.has_ended ≡ false }
         ensures whole { OnOk result
             (EndsFile self.old self.new (W.contents writer.old.inner) (W.contents writer.new.inner)) }
@@ -199,7 +199,7 @@ impl FileWriter {
         ensures part { OnErr result
             (BreaksInRest self.old (W.contents writer.old.inner) (W.contents writer.new.inner)) }
         ensures device { FailsToWrite result writer.old writer.new }
-        ensures sent { OnOk result (writer.new.is_sent ≡ true) }
+        ensures sent { OnOk result (W.waiting writer.new.inner ≡ []) }
         ensures ended { self.new.gatherer.has_ended ≡ true }
     {
         self.gatherer.end();

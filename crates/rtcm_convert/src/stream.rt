@@ -1,5 +1,5 @@
 //! From frames to the bytes of a file, and the end of a stream.
-ghost use Rattle.std.specs.Prelude.{◌≡◌, false, true, OnOk, OnErr};
+ghost use Rattle.std.specs.Prelude.{◌≡◌, [], false, OnOk, OnErr};
 ghost use Rattle.rtcm_scan.specs.Examined.{HasExaminedSome};
 ghost use Rattle.rtcm_convert.specs.Faults.{FailsToWrite};
 ghost use Rattle.rtcm_convert.specs.Stream.{Files, BreaksFiling, HasDrainedSome, EndsBytes, BreaksAtEndOf};
@@ -7,17 +7,16 @@ ghost use Rattle.rtcm_convert.specs.Stream.{Files, BreaksFiling, HasDrainedSome,
 use crate::fault::Fault;
 use crate::file_writer::FileWriter;
 use crate::laws;
-use rtcm_bits::Counted;
+use rtcm_bits::{Counted, Deliver};
 use rtcm_msg::look;
 use rtcm_scan::{Frame, FrameSink, Framer};
-use std::io::Write;
 
-impl<W: Write> FrameSink<Counted<W>> for FileWriter {
+impl<W: Deliver> FrameSink<Counted<W>> for FileWriter {
     type Fault = Fault;
 
     ghost can_take = { λ v. v.gatherer.has_ended ≡ false };
 
-    ghost is_sent = { λ o. o.is_sent ≡ true };
+    ghost is_sent = { λ o. W.waiting o.inner ≡ [] };
 
     ghost took = { Files W.contents };
 
@@ -47,8 +46,8 @@ impl<W: Write> FrameSink<Counted<W>> for FileWriter {
     }
 }
 
-/// Ends the stream: processes the remaining frames, writes the rest of the file, and flushes it.
-pub(crate) fn end_stream<W: Write>(
+/// Ends the stream: processes the remaining frames, writes the rest of the file, and delivers it.
+pub(crate) fn end_stream<W: Deliver>(
     framer: &mut Framer,
     file_writer: &mut FileWriter,
     writer: &mut Counted<W>,
@@ -62,7 +61,7 @@ pub(crate) fn end_stream<W: Write>(
     ensures part { OnErr result
         (BreaksAtEndOf framer.old file_writer.old (W.contents writer.old.inner) (W.contents writer.new.inner)) }
     ensures device { FailsToWrite result writer.old writer.new }
-    ensures sent { OnOk result (writer.new.is_sent ≡ true) }
+    ensures sent { OnOk result (W.waiting writer.new.inner ≡ []) }
     ensures some { HasExaminedSome framer.new }
     ensures same { (framer.new.limit ≡ framer.old.limit) × (framer.new.taken ≡ framer.old.taken) }
 {

@@ -13,9 +13,9 @@ use crate::laws;
 use crate::report::Report;
 use crate::setup::Setup;
 use obs_epoch::StationValues;
-use rtcm_bits::Counted;
+use rtcm_bits::{Counted, Deliver};
 use std::alloc::Global;
-use std::io::{Read, Write};
+use std::io::Read;
 
 /// Reads a stream to its end, and writes its observation file: [`Converter::run`] of a new
 /// converter.
@@ -24,7 +24,7 @@ use std::io::{Read, Write};
 ///
 /// `BadSetup` and `Memory` of [`Converter::new`], before anything is read or written; `Read`,
 /// `Write`, `TooLong` and `NoEpoch` of [`Converter::run`].
-pub fn convert_stream<R: Read, W: Write>(
+pub fn convert_stream<R: Read, W: Deliver>(
     alloc: Global,
     setup: Setup,
     reader: &mut Counted<R>,
@@ -51,8 +51,8 @@ pub fn convert_stream<R: Read, W: Write>(
     ensures write { IsErrOf result Fault.Write
         → Moves R.remaining reader.old reader.new W.contents writer.old writer.new
         (IsMadeInPart (start_zero setup)) }
-    // Nothing waits in the writer.
-    ensures sent { IsSentAfter result writer.old.is_sent writer.new.is_sent }
+    // Nothing waits in the writer, unless it failed.
+    ensures sent { IsSentAfter result (W.waiting writer.old.inner) (W.waiting writer.new.inner) }
     ensures devices { FailsWithDevices result reader.old reader.new writer.old writer.new }
     ensures bad_setup { result ≡ Err Fault.BadSetup ↔ IsBad setup }
     ensures untouched { IfErr result (λ fault. IsSetupFault fault
@@ -71,7 +71,7 @@ pub fn convert_stream<R: Read, W: Write>(
 /// DF027).
 // Not inlined, so that the converter isn't in the stack frame of every command.
 #[inline(never)]
-pub fn convert_stream_at<R: Read, W: Write>(
+pub fn convert_stream_at<R: Read, W: Deliver>(
     alloc: Global,
     setup: Setup,
     initial: StationValues,
@@ -99,8 +99,8 @@ pub fn convert_stream_at<R: Read, W: Write>(
     ensures write { IsErrOf result Fault.Write
         → Moves R.remaining reader.old reader.new W.contents writer.old writer.new
         (IsMadeInPart (start_at setup initial)) }
-    // Nothing waits in the writer.
-    ensures sent { IsSentAfter result writer.old.is_sent writer.new.is_sent }
+    // Nothing waits in the writer, unless it failed.
+    ensures sent { IsSentAfter result (W.waiting writer.old.inner) (W.waiting writer.new.inner) }
     ensures devices { FailsWithDevices result reader.old reader.new writer.old writer.new }
     ensures bad_setup { result ≡ Err Fault.BadSetup ↔ IsBadAt (start_at setup initial) }
     ensures untouched { IfErr result (λ fault. IsSetupFault fault
@@ -126,7 +126,7 @@ pub fn convert_stream_at<R: Read, W: Write>(
 ///
 /// `BadSetup` and `Memory` of [`Converter::new`], before anything is written; `Write`, `TooLong`
 /// and `NoEpoch` of [`Converter::take_pieces`].
-pub fn convert_pieces<W: Write>(
+pub fn convert_pieces<W: Deliver>(
     alloc: Global,
     setup: Setup,
     pieces: &[Vec<u8>],
@@ -148,8 +148,8 @@ pub fn convert_pieces<W: Write>(
     // The writer failed at one of the pieces, or at the end.
     ensures write { IsErrOf result Fault.Write
         → BrokeInPieces (W.contents writer.old.inner) (W.contents writer.new.inner) (setup_value setup) pieces.now }
-    // Nothing waits in the writer.
-    ensures sent { IsSentAfter result writer.old.is_sent writer.new.is_sent }
+    // Nothing waits in the writer, unless it failed.
+    ensures sent { IsSentAfter result (W.waiting writer.old.inner) (W.waiting writer.new.inner) }
     ensures writer { FailsWithWriter result writer.old writer.new }
     ensures bad_setup { result ≡ Err Fault.BadSetup ↔ IsBad setup }
     ensures untouched { IfErr result (λ fault. IsSetupFault fault → writer.new ≡ writer.old) }

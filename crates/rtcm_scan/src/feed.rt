@@ -79,7 +79,7 @@ impl Framer {
     }
 
     /// Accepts these bytes up to the limit, passes each frame to the sink as soon as it is decided,
-    /// and flushes the output. `frame` is the buffer of the frames.
+    /// and delivers the output. `frame` is the buffer of the frames.
     ///
     /// # Errors
     ///
@@ -117,7 +117,7 @@ impl Framer {
         Ok(())
     }
 
-    /// Ends the stream: passes the remaining frames to the sink, and flushes the output.
+    /// Ends the stream: passes the remaining frames to the sink, and delivers the output.
     ///
     /// # Errors
     ///

@@ -29,7 +29,7 @@ impl Framer {
     }
 
     /// Reads to the end of the stream, passes each frame to the sink as soon as it is decided, and
-    /// flushes the output before the first piece and after each. A piece fits into `buffer` beside
+    /// delivers the output before the first piece and after each. A piece fits into `buffer` beside
     /// the held bytes; `frame` is the buffer of the frames. The stream may go on: `finish` ends it.
     ///
     /// # Errors

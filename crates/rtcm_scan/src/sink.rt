@@ -37,11 +37,11 @@ pub trait FrameSink<O> {
         ensures part { OnErr result ((s : Self) (o : O) (ps fs : List Framed) → took s o ps self.old out.old fs
             → broke s o ps self.new out.new fs (fs ++ framed frame.now ∷ [])) };
 
-    /// Flushes the output, if anything waits in it.
+    /// Has the output pass on what waits in it.
     ///
     /// # Errors
     ///
-    /// `Self::Fault` if the output could not be flushed.
+    /// `Self::Fault` if the output could not be passed on.
     fn send(&self, out: &mut O) -> Result<(), Self::Fault>
         ensures sent { OnOk result (is_sent out.new) }
         ensures whole { OnOk result

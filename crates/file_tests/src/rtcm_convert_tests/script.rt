@@ -7,12 +7,12 @@ use super::{Frame, bytes_of, file};
 use gnss_obs::System;
 use obs_epoch::{Gather, Plan};
 use rinex_file::{HeaderTexts, Texts};
-use rtcm_bits::Counted;
 use rtcm_bits::devices::{PieceReader, ReadEnd, ShortWriter, WriteEnd};
+use rtcm_bits::{Counted, Deliver};
 use rtcm_convert::{Converter, Fault, Report, Setup, convert_pieces, convert_stream};
 use rtcm_scan::MOST_BYTES;
 use std::alloc::{AllocError, Global};
-use std::io::{Read, Write};
+use std::io::Read;
 
 /// The parts in which the setups of the tests differ.
 #[derive(Clone, Copy)]
@@ -208,7 +208,7 @@ fn follows(
 }
 
 /// Whether a call has its result.
-fn takes<R: Read, W: Write>(
+fn takes<R: Read, W: Deliver>(
     converter: &mut Converter,
     call: &Call,
     stream: &[u8],
@@ -233,7 +233,7 @@ fn takes<R: Read, W: Write>(
 }
 
 /// Feeds at least one piece.
-pub fn feed<W: Write>(
+pub fn feed<W: Deliver>(
     converter: &mut Converter,
     bytes: &[u8],
     size: usize,
@@ -258,7 +258,7 @@ pub fn converter(alloc: Global, options: &Options) -> Result<Converter, Fault> {
     Converter::new(alloc, setup(alloc, options)?)
 }
 
-fn convert<R: Read, W: Write>(
+fn convert<R: Read, W: Deliver>(
     alloc: Global,
     options: &Options,
     reader: &mut Counted<R>,
@@ -267,7 +267,7 @@ fn convert<R: Read, W: Write>(
     convert_stream(alloc, setup(alloc, options)?, reader, writer)
 }
 
-fn pieces<W: Write>(
+fn pieces<W: Deliver>(
     alloc: Global,
     options: &Options,
     bytes: &[u8],

@@ -3,7 +3,7 @@ use super::scenario::{FAULTLESS, READ, Room, Setting, WRITE, ends, run};
 use super::texts::{Text, front};
 use crate::command::command;
 use rtcm_bits::devices::{PieceReader, ReadEnd, ShortWriter, WriteEnd};
-use rtcm_bits::{Buffered, Counted};
+use rtcm_bits::{Buffered, Counted, Deliver};
 use std::alloc::Global;
 use std::io;
 use std::io::{ErrorKind, Read, Write};
@@ -135,7 +135,7 @@ fn ends_buffered(
     ends((status, taken.as_slice(), faults.as_slice()), wanted)
 }
 
-/// A writer that accepts all bytes, and whose flushes fail.
+/// A writer that accepts all bytes, and that fails to pass them on.
 #[derive(Drop)]
 struct Unflushed {
     bytes: Vec<u8>,
@@ -147,7 +147,19 @@ impl Write for Unflushed {
     }
 
     fn flush(&mut self) -> io::Result<()> {
-        Err(io::Error::from(ErrorKind::Other))
+        self.deliver()
+    }
+}
+
+impl Deliver for Unflushed {
+    ghost waiting = { λ w. w.bytes.items };
+
+    fn deliver(&mut self) -> io::Result<()> {
+        if self.bytes.is_empty() {
+            Ok(())
+        } else {
+            Err(io::Error::from(ErrorKind::Other))
+        }
     }
 }
 

@@ -1,5 +1,7 @@
 //! The calls that a buffer makes of its device.
-use rtcm_bits::Buffered;
+ghost use Rattle.std.specs.Prelude.{[]};
+
+use rtcm_bits::{Buffered, Deliver};
 use std::alloc::Global;
 use std::io;
 use std::io::{ErrorKind, Write};
@@ -44,6 +46,14 @@ impl Write for Stumbles {
         } else {
             Err(io::Error::from(ErrorKind::Interrupted))
         }
+    }
+}
+
+impl Deliver for Stumbles {
+    ghost waiting = { λ _. [] };
+
+    fn deliver(&mut self) -> io::Result<()> {
+        self.flush()
     }
 }
 

@@ -8,16 +8,16 @@ use Rattle.rtcm2rinex.proofs.check.run_check.Goals as goal
 pub returns-in-Ok-clause-ends : goal.returns-in-Ok-clause-ends
 returns-in-Ok-clause-ends g c =
     let found = c.in-Ok.ensures.found in
-    checked g.R.Read.remaining g.W.Write.contents c.args.reader.now c.check_file.new.reader c.args.writer.now c.print_text.new.writer c.print_text.result found.v found.is found.text
+    checked g.R.Read.remaining g.W.Write.contents g.W.Deliver.waiting c.args.reader.now c.check_file.new.reader c.args.writer.now c.print_text.new.writer c.print_text.result found.v found.is found.text
     (c.in-Ok.ensures.same (λ e. cc))
-    (same_text c.print_text.result g.W.Write.contents c.args.writer.now c.print_text.new.writer _ _
+    (same_text c.print_text.result g.W.Write.contents g.W.Deliver.waiting c.args.writer.now c.print_text.new.writer _ _
     (c.as_bytes.ensures.text ∙ line_built c.in-Ok.counts found.v c.new-line.ensures c.put.ensures c.add_number.ensures.text c.add_count.ensures.text c.add_count-in-Ok.ensures.text c.finish.ensures found.counted) c.print_text.ensures)
 
 pub returns-in-Ok-clause-only : goal.returns-in-Ok-clause-only
 returns-in-Ok-clause-only g c = λ v is few.
     where_known (λ input. input ≡ file_text v → AreCounts c.in-Ok.counts v) _ (g.R.Read.remaining c.args.reader.now.inner)
-    (λ input h same. checked_or g.W.Write.contents c.args.writer.now c.print_text.new.writer c.print_text.result v
-    (same_text c.print_text.result g.W.Write.contents c.args.writer.now c.print_text.new.writer _ _ (c.as_bytes.ensures.text ∙ line_built c.in-Ok.counts v c.new-line.ensures c.put.ensures c.add_number.ensures.text c.add_count.ensures.text c.add_count-in-Ok.ensures.text c.finish.ensures (h same)) c.print_text.ensures))
+    (λ input h same. checked_or g.W.Write.contents g.W.Deliver.waiting c.args.writer.now c.print_text.new.writer c.print_text.result v
+    (same_text c.print_text.result g.W.Write.contents g.W.Deliver.waiting c.args.writer.now c.print_text.new.writer _ _ (c.as_bytes.ensures.text ∙ line_built c.in-Ok.counts v c.new-line.ensures c.put.ensures c.add_number.ensures.text c.add_count.ensures.text c.add_count-in-Ok.ensures.text c.finish.ensures (h same)) c.print_text.ensures))
     (c.in-Ok.ensures.only v is few)
 
 pub returns-in-Err-clause-ends : goal.returns-in-Err-clause-ends

@@ -9,17 +9,17 @@ run-ended-requires g c = has_command (texts c.args.words.now) c.in-Ok.matches c.
 
 pub returns-in-Ok-clause-good : goal.returns-in-Ok-clause-good
 returns-in-Ok-clause-good g c =
-    served g.R.Read.remaining g.W.Write.contents g.E.Write.contents c.args.reader.now c.run-ended.new.reader c.args.writer.now c.run-ended.new.writer c.args.faults.now c.run-ended.new.faults c.exit_status.new.faults (texts c.args.words.now)
+    served g.R.Read.remaining g.W.Write.contents g.W.Deliver.waiting g.E.Write.contents c.args.reader.now c.run-ended.new.reader c.args.writer.now c.run-ended.new.writer c.args.faults.now c.run-ended.new.faults c.exit_status.new.faults (texts c.args.words.now)
     c.in-Ok.matches c.run-ended.result c.exit_status.result c.exit_status.ensures.value c.exit_status.ensures.line c.in-Ok.ensures.asked c.run-ended.ensures
 
 pub returns-in-Ok-clause-stopped : goal.returns-in-Ok-clause-stopped
 returns-in-Ok-clause-stopped g c =
-    failed_to_serve g.R.Read.remaining g.W.Write.contents g.E.Write.contents c.args.reader.now c.run-ended.new.reader c.args.writer.now c.run-ended.new.writer c.args.faults.now c.run-ended.new.faults c.exit_status.new.faults (texts c.args.words.now)
+    failed_to_serve g.R.Read.remaining g.W.Write.contents g.W.Deliver.waiting g.E.Write.contents c.args.reader.now c.run-ended.new.reader c.args.writer.now c.run-ended.new.writer c.args.faults.now c.run-ended.new.faults c.exit_status.new.faults (texts c.args.words.now)
     c.in-Ok.matches c.run-ended.result c.exit_status.result c.exit_status.ensures.value c.exit_status.ensures.line c.in-Ok.ensures.asked c.run-ended.ensures
 
 pub returns-in-Ok-clause-refused : goal.returns-in-Ok-clause-refused
 returns-in-Ok-clause-refused g c =
-    refused_at_two g.R.Read.remaining g.W.Write.contents g.E.Write.contents c.args.reader.now c.run-ended.new.reader c.args.writer.now c.run-ended.new.writer c.args.faults.now c.run-ended.new.faults c.exit_status.new.faults (texts c.args.words.now)
+    refused_at_two g.R.Read.remaining g.W.Write.contents g.W.Deliver.waiting g.E.Write.contents c.args.reader.now c.run-ended.new.reader c.args.writer.now c.run-ended.new.writer c.args.faults.now c.run-ended.new.faults c.exit_status.new.faults (texts c.args.words.now)
     c.in-Ok.matches c.run-ended.result c.exit_status.result c.exit_status.ensures.value c.exit_status.ensures.line c.in-Ok.ensures.asked c.run-ended.ensures
 
 pub returns-in-Err-clause-good : goal.returns-in-Err-clause-good
@@ -28,7 +28,7 @@ returns-in-Err-clause-good g c = λ e. (let good = c.answer-status.ensures.good 
 
 pub returns-in-Err-clause-stopped : goal.returns-in-Err-clause-stopped
 returns-in-Err-clause-stopped g c = λ e.
-    answered_in_part g.R.Read.remaining g.W.Write.contents g.E.Write.contents c.args.reader.now c.args.reader.now c.args.writer.now c.answer-status.new.writer c.args.faults.now c.args.faults.now c.answer-status.new.faults (texts c.args.words.now)
+    answered_in_part g.R.Read.remaining g.W.Write.contents g.W.Deliver.waiting g.E.Write.contents c.args.reader.now c.args.reader.now c.args.writer.now c.answer-status.new.writer c.args.faults.now c.args.faults.now c.answer-status.new.faults (texts c.args.words.now)
     c.in-Err.error c.in-Err.ensures.refused (c.answer-status.ensures.stopped e) (refl {a = c.args.reader.now})
 
 pub returns-in-Err-clause-refused : goal.returns-in-Err-clause-refused

@@ -11,7 +11,7 @@ use Rattle.rtcm2rinex.proofs.convert.run_convert.Goals as goal
 pub returns-clause-ends : goal.returns-clause-ends
 returns-clause-ends g c =
     subst (λ (v : StationValues). EndsConversion c.run_convert_at.result (start_at c.args.setup v) g.R.Read.remaining c.args.reader.now c.run_convert_at.new.reader
-    g.W.Write.contents c.args.writer.now c.run_convert_at.new.writer) c.zero.ensures c.run_convert_at.ensures.ends
+    g.W.Write.contents g.W.Deliver.waiting c.args.writer.now c.run_convert_at.new.writer) c.zero.ensures c.run_convert_at.ensures.ends
 
 pub returns-clause-bad_setup : goal.returns-clause-bad_setup
 returns-clause-bad_setup g c =

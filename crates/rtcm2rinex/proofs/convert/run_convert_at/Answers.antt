@@ -14,8 +14,8 @@ pub returns-in-Err-clause-ends : goal.returns-in-Err-clause-ends
 returns-in-Err-clause-ends g c =
     let end = c.in-Err.ensures in
     let start = start_at c.args.setup c.args.initial in
-    subst (λ (f : ToolFault). EndsConversion (Err f) start g.R.Read.remaining c.args.reader.now c.convert_stream_at.new.reader g.W.Write.contents c.args.writer.now c.convert_stream_at.new.writer) (sym c.from.ensures)
-    (conversion_stopped g.R.Read.remaining g.W.Write.contents start c.args.reader.now c.convert_stream_at.new.reader c.args.writer.now c.convert_stream_at.new.writer c.in-Err.fault
+    subst (λ (f : ToolFault). EndsConversion (Err f) start g.R.Read.remaining c.args.reader.now c.convert_stream_at.new.reader g.W.Write.contents g.W.Deliver.waiting c.args.writer.now c.convert_stream_at.new.writer) (sym c.from.ensures)
+    (conversion_stopped g.R.Read.remaining g.W.Write.contents g.W.Deliver.waiting start c.args.reader.now c.convert_stream_at.new.reader c.args.writer.now c.convert_stream_at.new.writer c.in-Err.fault
     end.devices.0 end.devices.1 end.sent end.no_epoch end.long end.read end.write end.bad_setup end.untouched end.only)
 
 pub returns-in-Err-clause-bad_setup : goal.returns-in-Err-clause-bad_setup

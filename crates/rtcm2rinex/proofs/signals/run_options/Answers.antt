@@ -25,6 +25,6 @@ returns g c =
     let galileo = add_word (c.add_codes-2.ensures.text cells counts) option refl in
     let station = c.add_station.ensures.text ∙ ap (λ (t : List ℕ). with_words t words) galileo in
     let line = end_line [] (codes "--gps") (codes_word Gps (had cells Gps) ∷ codes "--galileo" ∷ codes_word Galileo (had cells Galileo) ∷ words) c.finish.ensures station in
-    signals_printed g.R.Read.remaining g.W.Write.contents options_text c.args.station c.args.reader.now c.read_signals.new.reader c.args.writer.now c.print_text.new.writer c.print_text.result
-    c.in_ok-signals.signals s c.in_ok-signals.ensures.reader (same_text c.print_text.result g.W.Write.contents c.args.writer.now c.print_text.new.writer _ _
+    signals_printed g.R.Read.remaining g.W.Write.contents g.W.Deliver.waiting options_text c.args.station c.args.reader.now c.read_signals.new.reader c.args.writer.now c.print_text.new.writer c.print_text.result
+    c.in_ok-signals.signals s c.in_ok-signals.ensures.reader (same_text c.print_text.result g.W.Write.contents g.W.Deliver.waiting c.args.writer.now c.print_text.new.writer _ _
     (c.as_bytes.ensures.text ∙ line ∙ ap (options_line (plan_had cells)) s.3.first) c.print_text.ensures)

@@ -22,6 +22,6 @@ returns g c =
     let cells = valued_in c.args.station (frames_of s.0) in
     let gps = c.add_lines.ensures.text cells counts ∙ ap (λ (l : List ℕ). l ++ count_lines cells Gps) c.new-text.ensures in
     let both = c.add_lines-2.ensures.text cells counts ∙ ap (λ (l : List ℕ). l ++ count_lines cells Galileo) gps in
-    signals_printed g.R.Read.remaining g.W.Write.contents signals_text c.args.station c.args.reader.now c.read_signals.new.reader c.args.writer.now c.print_text.new.writer c.print_text.result
-    c.in_ok-signals.signals s c.in_ok-signals.ensures.reader (same_text c.print_text.result g.W.Write.contents c.args.writer.now c.print_text.new.writer _ _
+    signals_printed g.R.Read.remaining g.W.Write.contents g.W.Deliver.waiting signals_text c.args.station c.args.reader.now c.read_signals.new.reader c.args.writer.now c.print_text.new.writer c.print_text.result
+    c.in_ok-signals.signals s c.in_ok-signals.ensures.reader (same_text c.print_text.result g.W.Write.contents g.W.Deliver.waiting c.args.writer.now c.print_text.new.writer _ _
     (c.as_slice.ensures.value ∙ both) c.print_text.ensures)

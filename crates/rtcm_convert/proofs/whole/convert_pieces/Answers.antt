@@ -12,11 +12,11 @@ use Rattle.rtcm_convert.proofs.whole.convert_pieces.Goals as goal
 
 pub returns-in-Ok-clause-made : goal.returns-in-Ok-clause-made
 returns-in-Ok-clause-made g c =
-    run_made c.in-Ok.converter c.take_pieces-answer.new.self (start_zero c.args.setup) (Some (joined_pieces c.args.pieces.now)) _ _ c.take_pieces-answer.result c.prefix.ensures.nothing (c.read_back.ensures.some no_values c.read_back.ensures.zero) c.in-Ok.ensures.history c.take_pieces-answer.ensures.left.0.0 c.in-Ok.ensures.fresh.0 c.take_pieces-answer.ensures.whole
+    run_made c.in-Ok.converter c.take_pieces-answer.new.self _ (start_zero c.args.setup) (Some (joined_pieces c.args.pieces.now)) _ _ c.take_pieces-answer.result c.prefix.ensures.nothing (c.read_back.ensures.some no_values c.read_back.ensures.zero) c.in-Ok.ensures.history c.take_pieces-answer.ensures.left.0.0 c.in-Ok.ensures.fresh.0 c.take_pieces-answer.ensures.whole
 
 pub returns-in-Ok-clause-no_epoch : goal.returns-in-Ok-clause-no_epoch
 returns-in-Ok-clause-no_epoch g c = λ e.
-    run_empty c.in-Ok.converter c.take_pieces-answer.new.self (start_zero c.args.setup) (Some (joined_pieces c.args.pieces.now)) _ _ c.prefix.ensures.nothing c.in-Ok.ensures.history c.take_pieces-answer.ensures.left.0.0 c.in-Ok.ensures.fresh.0 (c.take_pieces-answer.ensures.no_epoch e)
+    run_empty c.in-Ok.converter c.take_pieces-answer.new.self _ (start_zero c.args.setup) (Some (joined_pieces c.args.pieces.now)) _ _ c.prefix.ensures.nothing c.in-Ok.ensures.history c.take_pieces-answer.ensures.left.0.0 c.in-Ok.ensures.fresh.0 (c.take_pieces-answer.ensures.no_epoch e)
 
 pub returns-in-Ok-clause-long : goal.returns-in-Ok-clause-long
 returns-in-Ok-clause-long g c = λ e. pieces_cut c.in-Ok.converter c.take_pieces-answer.new.self (start_zero c.args.setup) _ _ c.args.pieces.now c.prefix.ensures.nothing c.in-Ok.ensures.history c.in-Ok.ensures.fresh.0 c.in-Ok.ensures.fresh.1 (c.take_pieces-answer.ensures.long e)
@@ -52,7 +52,7 @@ returns-in-Err g c = record {
   no_epoch = λ e. absurd (setup_only c.in-Err.fault c.in-Err.ensures.only NoEpoch refl e);
   long = λ e. absurd (setup_only c.in-Err.fault c.in-Err.ensures.only TooLong refl e);
   write = λ e. absurd (setup_only c.in-Err.fault c.in-Err.ensures.only Write refl e);
-  sent = setup_sent c.in-Err.fault c.in-Err.ensures.only c.args.writer.now.is_sent;
+  sent = setup_sent c.in-Err.fault c.in-Err.ensures.only _;
   writer = setup_writer c.in-Err.fault c.in-Err.ensures.only c.args.writer.now;
   bad_setup = (λ e. c.in-Err.ensures.bad.0 (same_fault c.in-Err.fault BadSetup e), λ b. same_fault c.in-Err.fault BadSetup (c.in-Err.ensures.bad.1 b));
   untouched = λ _. refl;

@@ -9,10 +9,10 @@ use Rattle.rtcm_convert.proofs.WholeLemmas.{run_made, run_empty, run_read, run_l
 use Rattle.rtcm_convert.proofs.whole.convert_stream_at.Goals as goal
 
 pub returns-in-Ok-clause-made : goal.returns-in-Ok-clause-made
-returns-in-Ok-clause-made g c = run_made c.in-Ok.converter c.run-answer.new.self (start_at c.args.setup c.args.initial) _ _ _ c.run-answer.result c.prefix.ensures.nothing (c.read_back.ensures.some c.args.initial c.in-Ok.ensures.fits) c.in-Ok.ensures.history c.run-answer.ensures.left.0.0 c.in-Ok.ensures.fresh.0 c.run-answer.ensures.whole
+returns-in-Ok-clause-made g c = run_made c.in-Ok.converter c.run-answer.new.self _ (start_at c.args.setup c.args.initial) _ _ _ c.run-answer.result c.prefix.ensures.nothing (c.read_back.ensures.some c.args.initial c.in-Ok.ensures.fits) c.in-Ok.ensures.history c.run-answer.ensures.left.0.0 c.in-Ok.ensures.fresh.0 c.run-answer.ensures.whole
 
 pub returns-in-Ok-clause-no_epoch : goal.returns-in-Ok-clause-no_epoch
-returns-in-Ok-clause-no_epoch g c = λ e. run_empty c.in-Ok.converter c.run-answer.new.self (start_at c.args.setup c.args.initial) _ _ _ c.prefix.ensures.nothing c.in-Ok.ensures.history c.run-answer.ensures.left.0.0 c.in-Ok.ensures.fresh.0 (c.run-answer.ensures.no_epoch e)
+returns-in-Ok-clause-no_epoch g c = λ e. run_empty c.in-Ok.converter c.run-answer.new.self _ (start_at c.args.setup c.args.initial) _ _ _ c.prefix.ensures.nothing c.in-Ok.ensures.history c.run-answer.ensures.left.0.0 c.in-Ok.ensures.fresh.0 (c.run-answer.ensures.no_epoch e)
 
 pub returns-in-Ok-clause-read : goal.returns-in-Ok-clause-read
 returns-in-Ok-clause-read g c = λ e. run_read c.in-Ok.converter c.run-answer.new.self (start_value (start_at c.args.setup c.args.initial)) _ _ _ _ c.prefix.ensures.nothing c.in-Ok.ensures.history (c.run-answer.ensures.read e)
@@ -51,7 +51,7 @@ returns-in-Err g c = record {
   long = λ e. absurd (setup_only c.in-Err.fault c.in-Err.ensures.only TooLong refl e);
   read = λ e. absurd (setup_only c.in-Err.fault c.in-Err.ensures.only Read refl e);
   write = λ e. absurd (setup_only c.in-Err.fault c.in-Err.ensures.only Write refl e);
-  sent = setup_sent c.in-Err.fault c.in-Err.ensures.only c.args.writer.now.is_sent;
+  sent = setup_sent c.in-Err.fault c.in-Err.ensures.only _;
   devices = (setup_reader c.in-Err.fault c.in-Err.ensures.only c.args.reader.now, setup_writer c.in-Err.fault c.in-Err.ensures.only c.args.writer.now);
   bad_setup = (λ e. c.in-Err.ensures.bad.0 (same_fault c.in-Err.fault BadSetup e), λ b. same_fault c.in-Err.fault BadSetup (c.in-Err.ensures.bad.1 b));
   untouched = λ _. (refl, refl);

@@ -22,7 +22,7 @@ returns-in-Some g c =
       keeps = tt;
       part = λ h. absurd (refused_only v e s Write refl h);
       long = λ h. absurd (refused_only v e s TooLong refl h);
-      sent = refused_sent v e s c.args.writer.now.is_sent;
+      sent = refused_sent v e s _;
       device = refused_writer v e s c.args.writer.now;
       left = (refl, λ go. absurd (refused_going v e s go));
     }

@@ -3,7 +3,7 @@ use Rattle.rtcm_scan.specs.Passing.{up_to_limit}
 use Rattle.rtcm_convert.specs.Conversion.{Conversion, IsGoing, LeftBy, refusal}
 use Rattle.rtcm_convert.specs.Faults.{IsFinishFault}
 use Rattle.rtcm_convert.specs.declared.fault.Fault.TheVariants.{NoEpoch, TooLong, Read, Write}
-use Rattle.rtcm_convert.proofs.FaultLemmas.{never, of_finish, finish_known, sent_later, finish_reader, finish_left, writer_after, only_read, only_too_long, only_write}
+use Rattle.rtcm_convert.proofs.FaultLemmas.{never, of_finish, finish_known, sent_finished, finish_reader, finish_left, writer_after, only_read, only_too_long, only_write}
 use Rattle.rtcm_convert.proofs.FeedLemmas.{with_flags, read_of, long_of, sink_of, fed_fit, failed_fit}
 use Rattle.rtcm_convert.proofs.RefusalLemmas.{refused_going, refused_is, refused_only, refused_sent, refused_writer, refused_reader, not_refused}
 use Rattle.rtcm_convert.proofs.RunLemmas.{going_on, ran_whole, ran_empty, run_finishing, rest_taken, rest_faulty, rest_long, rest_part, rest_device}
@@ -22,7 +22,7 @@ returns-in-Some g c =
       long = λ h. absurd (refused_only v f e TooLong refl h);
       read = λ h. absurd (refused_only v f e Read refl h);
       write = λ h. absurd (refused_only v f e Write refl h);
-      sent = refused_sent v f e c.args.writer.now.is_sent;
+      sent = refused_sent v f e _;
       reader = refused_reader v f e c.args.reader.now;
       writer = refused_writer v f e c.args.writer.now;
       left = ((refl, λ go. absurd (refused_going v f e go)), tt);
@@ -50,12 +50,12 @@ returns-in-Ok g c =
     let r = c.finish.result in
     rw (← c.self.view_is) (record {
       refused = not_refused v _ (subst (λ (x : Conversion). None ≡ refusal x) (sym c.self.view_is) c.in_default.ensures);
-      whole = ran_whole v w c.finish.new.self _ _ _ _ _ r p e n.whole;
-      no_epoch = λ h. ran_empty v w c.finish.new.self _ _ _ _ _ p e (n.no_epoch h);
+      whole = ran_whole v w c.finish.new.self _ _ _ _ _ _ r p e n.whole;
+      no_epoch = λ h. ran_empty v w c.finish.new.self _ _ _ _ _ _ p e (n.no_epoch h);
       long = λ h. absurd (never IsFinishFault (λ x. LeftBy x c.finish.new.self) of_finish finish_known r l TooLong refl h);
       read = λ h. absurd (never IsFinishFault (λ x. LeftBy x c.finish.new.self) of_finish finish_known r l Read refl h);
       write = λ h. inr (run_finishing v w c.finish.new.self _ _ _ _ _ p e n.taken (n.part h));
-      sent = sent_later r _ _ _ (λ _. c.in-Ok.ensures.sent) n.sent;
+      sent = sent_finished _ r _ _ _ l n.sent;
       reader = finish_reader _ r c.args.reader.now c.read_pieces.new.reader l c.in-Ok.ensures.reader.1 c.in-Ok.ensures.reader.2;
       writer = writer_after r c.args.writer.now c.read_pieces.new.out c.finish.new.writer d.1 d.2 n.device;
       left = ((n.left.0.0 ∙ c.read_pieces.ensures.same.limit, λ _. finish_left _ r l), n.left.1);
@@ -78,7 +78,7 @@ returns-in-Err-Read g c =
       long = λ h. absurd (only_read TooLong refl h);
       read = λ _. rw (← c.self.view_is) (rest_faulty g.W.Write.contents f.failed f.finished f.framer c.read_pieces.new.self f.file_writer c.read_pieces.new.sink c.args.writer.now c.read_pieces.new.out _ _ listening (c.read_pieces.ensures.same.ended ∙ listening) k);
       write = λ h. absurd (only_read Write refl h);
-      sent = λ _. read_of c.in-Err-Read.field-0 _ _ _ c.in-Err-Read.field-0-is c.in-Err-Read.ensures.sent;
+      sent = read_of c.in-Err-Read.field-0 _ _ _ c.in-Err-Read.field-0-is c.in-Err-Read.ensures.sent;
       reader = (read_of c.in-Err-Read.field-0 _ _ _ c.in-Err-Read.field-0-is c.in-Err-Read.ensures.reader.0, tt, c.in-Err-Read.ensures.reader.2);
       writer = (d.1, tt, d.2);
       left = (rw (← c.self.view_is) (c.read_pieces.ensures.same.limit, λ go. (inl refl, (refl, go.more))), tt);

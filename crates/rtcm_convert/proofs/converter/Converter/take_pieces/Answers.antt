@@ -1,7 +1,7 @@
 use Rattle.std.proofs.Common.{◌∙◌, ap, refl, Err}
 use Rattle.rtcm_convert.specs.declared.fault.Fault.TheVariants.{NoEpoch, TooLong, Write}
 use Rattle.rtcm_convert.proofs.RefusalLemmas.{refused_going, refused_is, refused_only, refused_sent, refused_writer, not_refused}
-use Rattle.rtcm_convert.proofs.FaultLemmas.{never, of_finish, finish_known, sent_later, writer_after, pieces_left, feed_pieces}
+use Rattle.rtcm_convert.proofs.FaultLemmas.{never, of_finish, finish_known, sent_fed, sent_finished, writer_after, pieces_left, feed_pieces}
 use Rattle.rtcm_convert.specs.Conversion.{LeftBy}
 use Rattle.rtcm_convert.specs.Faults.{IsFinishFault}
 use Rattle.rtcm_convert.specs.declared.report.Report.{Report}
@@ -20,7 +20,7 @@ returns-in-Some g c =
       no_epoch = λ h. absurd (refused_only v f e NoEpoch refl h);
       long = λ h. absurd (refused_only v f e TooLong refl h);
       write = λ h. absurd (refused_only v f e Write refl h);
-      sent = refused_sent v f e c.args.writer.now.is_sent;
+      sent = refused_sent v f e _;
       device = refused_writer v f e c.args.writer.now;
       left = ((refl, λ go. absurd (refused_going v f e go)), tt);
     }
@@ -37,7 +37,6 @@ loop-piece-preserved g c =
       limit = n.left.0 ∙ i.limit;
       fine = n.device.1 ∙ i.fine;
       unread = n.device.2 ∙ i.unread;
-      sent = λ _. n.sent;
     }
 
 pub returns-in-Err : goal.returns-in-Err
@@ -51,7 +50,7 @@ returns-in-Err g c =
       no_epoch = λ e. absurd (not_empty c.in-Err.fault (c.in-Err.ensures.left.1 c.loop-piece.invariant.going).0 e);
       long = λ e. pieces_long c.args.self.now c.loop-piece.self c.feed.new.self _ _ _ _ i.came c.deref.result.now _ _ i.limit i.taken (pieces_rest (λ piece. piece.items) c.args.pieces.now c.loop-piece.piece-index c.deref.result.now more) (c.in-Err.ensures.long (same_fault _ _ e));
       write = λ e. pieces_broke c.args.self.now c.loop-piece.self _ _ _ c.args.pieces.now c.loop-piece.piece-index c.deref.result.now c.loop-piece.invariant.came c.loop-piece-test.true more (c.in-Err.ensures.part (same_fault _ _ e));
-      sent = sent_later {A = Report} (Err c.in-Err.fault) _ _ _ i.sent n.sent;
+      sent = sent_fed c.in-Err.fault _ _ _ (n.left.1 i.going).0 n.sent;
       device = writer_after {A = Report} (Err c.in-Err.fault) c.args.writer.now c.loop-piece.writer c.feed.new.writer i.fine i.unread n.device;
       left = ((n.left.0 ∙ i.limit, λ _. (let l = n.left.1 i.going in (feed_pieces c.in-Err.fault l.0, l.1))), tt);
     }
@@ -65,11 +64,11 @@ returns g c =
     let all = pieces_all (λ piece. piece.items) c.args.pieces.now c.loop-piece.piece-index c.loop-piece.auto.piece-index-end c.loop-piece-test.false in
     record {
       refused = not_refused c.args.self.now _ c.in_default.ensures;
-      whole = pieces_whole c.args.self.now c.loop-piece.self c.finish.new.self _ _ _ _ c.loop-piece.invariant.came _ c.finish.result all c.finish.ensures.whole;
-      no_epoch = λ e. pieces_empty c.args.self.now c.loop-piece.self c.finish.new.self _ _ _ _ c.loop-piece.invariant.came _ all (c.finish.ensures.no_epoch e);
+      whole = pieces_whole c.args.self.now c.loop-piece.self c.finish.new.self _ _ _ _ c.loop-piece.invariant.came _ _ c.finish.result all c.finish.ensures.whole;
+      no_epoch = λ e. pieces_empty c.args.self.now c.loop-piece.self c.finish.new.self _ _ _ _ c.loop-piece.invariant.came _ _ all (c.finish.ensures.no_epoch e);
       long = λ h. absurd (never IsFinishFault (λ x. LeftBy x c.finish.new.self) of_finish finish_known r l TooLong refl h);
       write = λ e. pieces_broke_at_end c.args.self.now c.loop-piece.self c.finish.new.self _ _ _ _ c.loop-piece.invariant.came c.args.pieces.now all (c.finish.ensures.part e);
-      sent = sent_later r _ _ _ i.sent n.sent;
+      sent = sent_finished _ r _ _ _ l n.sent;
       device = writer_after r c.args.writer.now c.loop-piece.writer c.finish.new.writer i.fine i.unread n.device;
       left = ((n.left.0.0 ∙ i.limit, λ _. pieces_left _ r l), n.left.1);
     }

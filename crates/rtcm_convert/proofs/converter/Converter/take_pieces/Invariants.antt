@@ -1,4 +1,4 @@
-use Rattle.std.proofs.Common.{◌≡◌, ◌+◌, true, take, length}
+use Rattle.std.proofs.Common.{◌≡◌, ◌+◌, take, length}
 use Rattle.std.specs.Prelude.{flat_map}
 use Rattle.rtcm_convert.specs.Conversion.{IsGoing}
 use Rattle.rtcm_convert.proofs.PiecesLemmas.{HasTaken}
@@ -14,5 +14,4 @@ invariant-loop-piece g l =
       limit : l.self.scan.limit ≡ l.fn.self.scan.limit;
       fine : l.writer.failures ≡ l.fn.writer.failures;
       unread : l.writer.widest ≡ l.fn.writer.widest;
-      sent : l.fn.writer.is_sent ≡ true → l.writer.is_sent ≡ true;
     }
