@@ -1,4 +1,7 @@
 //! A digest of all that a job computes.
+ghost use Rattle.std.specs.Prelude.{[]};
+
+use rtcm_bits::Deliver;
 use std::io;
 use std::io::Write;
 
@@ -58,6 +61,14 @@ impl Write for Digest {
 
     fn flush(&mut self) -> io::Result<()> {
         Ok(())
+    }
+}
+
+impl Deliver for Digest {
+    ghost waiting = { λ _. [] };
+
+    fn deliver(&mut self) -> io::Result<()> {
+        self.flush()
     }
 }
 

@@ -7,12 +7,12 @@ use crate::stream::{Kind, Stream};
 use crate::text::Text;
 use obs_epoch::{Gather, Plan};
 use rinex_file::{HeaderTexts, Texts, check_file};
-use rtcm_bits::{Buffered, Counted};
+use rtcm_bits::{Buffered, Counted, Deliver};
 use rtcm_convert::{Converter, Kept, Report, Setup};
 use rtcm_scan::{Framer, MOST_BYTES, StreamFault};
 use std::alloc::Global;
 use std::convert::Infallible;
-use std::io::{BufReader, Read, Write};
+use std::io::{BufReader, Read};
 
 /// Capacity of the buffer of the input, and the largest piece of a listing, in bytes.
 const INPUT_BYTES: usize = 65_536;
@@ -74,7 +74,7 @@ fn add_report(digest: &mut Digest, report: &Report, kept: Kept) {
 }
 
 /// Converts a stream as the command `convert` does, and returns the writer with its file.
-fn converted<R: Read + Drop, W: Write + Drop>(
+fn converted<R: Read + Drop, W: Deliver + Drop>(
     alloc: Global,
     setup: Setup,
     stream: R,
