@@ -1,11 +1,13 @@
 //! Readers and writers for tests: over memory, with short reads, short writes and failures at
 //! stated places.
-ghost use Rattle.std.specs.Prelude.{◌≡◌, ◌<◌, [], Some, IfOk, OnOk};
-ghost use Rattle.std.specs.Io.KnownBytes.{Keeps};
+ghost use Rattle.std.specs.Prelude.{◌≡◌, ◌<◌, [], length, Some, IfOk, OnOk, OnErr};
+ghost use Rattle.std.specs.Io.{ReadsAtMost};
+ghost use Rattle.std.specs.Io.KnownBytes.{Keeps, ReadConsumes};
 
 use crate::deliver::Deliver;
 use std::io;
 use std::io::{ErrorKind, Read, Write};
+use std::marker::Model;
 
 /// What a reader does after its last byte.
 #[derive(Clone, Copy)]
@@ -26,11 +28,22 @@ pub struct PieceReader<'a> {
     asked: usize,
 }
 
+impl<'a> Model for PieceReader<'a> {
+    ghost use Rattle.rtcm_bits.specs.Device.{PieceReading};
+
+    ghost Value = { PieceReading };
+
+    ghost view = { λ r. record { rest = r.rest.now; left = r.left; asked = r.asked } };
+}
+
 impl<'a> PieceReader<'a> {
     /// Returns a reader of these bytes in pieces of these sizes, of which the last is repeated.
     /// Without a size all bytes are one piece. A size of 0 counts as 1, since a read of 0 bytes is
     /// the end.
-    pub fn new(bytes: &'a [u8], sizes: &'a [usize], end: ReadEnd) -> PieceReader<'a> {
+    pub fn new(bytes: &'a [u8], sizes: &'a [usize], end: ReadEnd) -> PieceReader<'a>
+        ensures rest { result.rest ≡ bytes.now }
+        ensures asked { result.asked ≡ 0 }
+    {
         PieceReader {
             rest: bytes,
             sizes,
@@ -41,7 +54,9 @@ impl<'a> PieceReader<'a> {
     }
 
     /// Returns the size of the buffer of the last read, in bytes; 0 before the first.
-    pub fn asked(&self) -> usize {
+    pub fn asked(&self) -> usize
+        ensures { result ≡ self.now.asked }
+    {
         self.asked
     }
 
@@ -50,6 +65,7 @@ impl<'a> PieceReader<'a> {
         ensures some { 0 < result }
         ensures left { self.new.left ≡ result }
         ensures rest { self.new.rest ≡ self.old.rest }
+        ensures asked { self.new.asked ≡ self.old.asked }
     {
         if self.left == 0 {
             let size = match self.sizes {
@@ -67,9 +83,14 @@ impl<'a> PieceReader<'a> {
 }
 
 impl<'a> Read for PieceReader<'a> {
-    ghost remaining = { λ r. Some r.rest.now };
+    ghost remaining = { λ r. Some r.rest };
 
-    fn read(&mut self, buf: &mut [u8]) -> io::Result<usize> {
+    fn read(&mut self, buf: &mut [u8]) -> io::Result<usize>
+        ensures bound { ReadsAtMost result buf.new }
+        ensures bytes { ReadConsumes (Some self.old.rest) (Some self.new.rest) result buf.new }
+        ensures failed { OnErr result (self.old.rest ≡ []) }
+        ensures asked { self.new.asked ≡ length buf.old }
+    {
         self.asked = buf.len();
         if self.rest.is_empty() {
             return match self.end {
@@ -106,10 +127,18 @@ pub struct ShortWriter<W> {
     end: WriteEnd,
 }
 
+impl<W> Model for ShortWriter<W> {
+    ghost Value = { W };
+
+    ghost view = { λ w. w.inner };
+}
+
 impl<W> ShortWriter<W> {
     /// Returns a writer that passes at most `most` bytes of a write to `inner`, `total` in all, and
     /// then behaves as given by `end`.
-    pub fn new(inner: W, most: usize, total: usize, end: WriteEnd) -> ShortWriter<W> {
+    pub fn new(inner: W, most: usize, total: usize, end: WriteEnd) -> ShortWriter<W>
+        ensures { result ≡ inner }
+    {
         ShortWriter {
             inner,
             most,
@@ -119,14 +148,16 @@ impl<W> ShortWriter<W> {
     }
 
     /// Returns the writer with the accepted bytes.
-    pub fn into_inner(self) -> W {
+    pub fn into_inner(self) -> W
+        ensures { result ≡ self }
+    {
         self.inner
     }
 
     /// Returns the result of a write after the last accepted byte.
     fn refuse(&mut self) -> io::Result<usize>
         ensures none { IfOk result (λ n. n ≡ 0) }
-        ensures inner { self.new.inner ≡ self.old.inner }
+        ensures inner { self.new ≡ self.old }
     {
         match self.end {
             WriteEnd::TakesNone => Ok(0),
@@ -140,7 +171,7 @@ impl<W> ShortWriter<W> {
 }
 
 impl<W: Deliver> Write for ShortWriter<W> {
-    ghost contents = { λ w. W.contents w.inner };
+    ghost contents = { W.contents };
 
     fn write(&mut self, buf: &[u8]) -> io::Result<usize> {
         if self.left == 0 {
@@ -155,15 +186,15 @@ impl<W: Deliver> Write for ShortWriter<W> {
     }
 
     fn flush(&mut self) -> io::Result<()>
-        ensures bytes { Keeps (W.contents self.old.inner) (W.contents self.new.inner) }
-        ensures sent { OnOk result (W.waiting self.new.inner ≡ []) }
+        ensures bytes { Keeps (W.contents self.old) (W.contents self.new) }
+        ensures sent { OnOk result (W.waiting self.new ≡ []) }
     {
         self.inner.deliver()
     }
 }
 
 impl<W: Deliver> Deliver for ShortWriter<W> {
-    ghost waiting = { λ w. W.waiting w.inner };
+    ghost waiting = { W.waiting };
 
     fn deliver(&mut self) -> io::Result<()> {
         self.flush()
