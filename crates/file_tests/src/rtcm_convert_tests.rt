@@ -4,6 +4,7 @@ mod by_definition;
 mod faults;
 mod hostile;
 mod script;
+mod waiting;
 
 use rtcm_convert::{Fault, Report};
 use script::{Call, IDLE, Script, Way, all_hold};

@@ -135,7 +135,7 @@ fn holds(alloc: Global, script: &Script, size: usize) -> bool {
 }
 
 /// These bytes, one after the other, followed by zeros.
-fn stream_of(frames: &[Frame]) -> [u8; 1_000] {
+pub fn stream_of(frames: &[Frame]) -> [u8; 1_000] {
     let mut stream = [0; 1_000];
     let mut from = 0usize;
     for frame in frames {
@@ -258,7 +258,7 @@ pub fn converter(alloc: Global, options: &Options) -> Result<Converter, Fault> {
     Converter::new(alloc, setup(alloc, options)?)
 }
 
-fn convert<R: Read, W: Deliver>(
+pub fn convert<R: Read, W: Deliver>(
     alloc: Global,
     options: &Options,
     reader: &mut Counted<R>,
