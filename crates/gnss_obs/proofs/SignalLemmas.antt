@@ -1,23 +1,57 @@
--- The places of signals in a list.
-use Rattle.std.proofs.Common.{◌≡◌, ◌≢◌, ℕ, suc, ◌+◌, ◌<◌, ◌≤◌, ◌==◌, ◌||◌, Bool, true, false, not, List, [], ◌∷◌, ◌++◌, length, set, get_or, nat_eq, nat_lt, refl, sym, ap, ◌∙◌, subst, arith, Option, Some, None}
-use Rattle.std.specs.Prelude.{cond, is_some, position}
+-- Signals in a set, and the indices of a table's signals in it.
+use Rattle.std.proofs.Common.{◌≡◌, ◌≢◌, ℕ, suc, ◌+◌, ◌<◌, ◌≤◌, ◌==◌, ◌||◌, Bool, true, false, not, List, [], ◌∷◌, ◌++◌, length, All, set, get_or, nat_eq, nat_lt, refl, sym, ap, ap₂, ◌∙◌, subst, arith, Option, Some, None, if◌then◌else◌}
+use Rattle.std.specs.Prelude.{cond, position}
 use Rattle.std.proofs.lemmas.List.{get_or-set_other, length_push}
 use Rattle.std.proofs.lemmas.List.Folds.{position_or_len_push}
 use Rattle.std.proofs.lemmas.Grind.{get_or-set_at}
-use Rattle.std.specs.List.{list_any, position_or_len}
-use Rattle.gnss_obs.specs.declared.system.System.{System}
-use Rattle.gnss_obs.specs.declared.system.System.TheVariants.{Gps, Galileo}
-use Rattle.gnss_obs.specs.Signals.{SignalAt, table}
-use Rattle.gnss_obs.specs.SignalLists.{AreFound, indices}
-use Rattle.gnss_obs.proofs.PlanLemmas.{any_index}
+use Rattle.std.proofs.lemmas.List.Elements.{All-head, All-tail}
+use Rattle.std.specs.List.{list_any, position_or_len, IsDistinct}
+use Rattle.gnss_obs.specs.Signals.{SignalAt, IsSignal}
+use Rattle.gnss_obs.specs.SignalLists.{AreFound, IsOf}
+use Rattle.gnss_obs.proofs.PlanLemmas.{is_of-push}
 use Rattle.std.proofs.lemmas.Grind.{common_steps}
 
-none_before : {X : Type 0} (p : X → Bool) (xs : List X) → list_any p xs ≡ false → position_or_len p xs ≡ length xs
+pub none_before : {X : Type 0} (p : X → Bool) (xs : List X) → list_any p xs ≡ false → position_or_len p xs ≡ length xs
 none_before p [] h = refl
 none_before p (x ∷ xs) h = by (p x) h (none_before p xs) where
   by : (b : Bool) → (b || list_any p xs) ≡ false → (list_any p xs ≡ false → position_or_len p xs ≡ length xs) → cond (not b) (1 + position_or_len p xs) 0 ≡ suc (length xs)
   by true h more = absurd (grind (arith, h))
   by false h more = let e = more h in omega (arith, e)
+
+not_true : (b : Bool) → not b ≡ true → b ≡ false
+not_true true e = grind (arith, e)
+not_true false e = refl
+
+not_false : (b : Bool) → not b ≡ false → b ≡ true
+not_false true e = refl
+not_false false e = grind (arith, e)
+
+-- ---- signals of one system are the same if their indices in its table are
+
+-- The result of a set for a signal of the same system as the others.
+module _ (eq : SignalAt → SignalAt → Bool) (same : (a b : SignalAt) → a.system ≡ b.system → eq a b ≡ (a.index == b.index)) (s : SignalAt) where
+  any_same : (ss : List SignalAt) → All (λ (r : SignalAt). (r.system ≡ s.system) × IsSignal r) ss → list_any (eq s) ss ≡ list_any (λ (r : SignalAt). s.index == r.index) ss
+  any_same [] h = refl
+  any_same (r ∷ ss) h =
+      let here = All-head (λ (r : SignalAt). (r.system ≡ s.system) × IsSignal r) r ss h in
+      ap₂ (λ a b. a || b) (same s r (sym here.0)) (any_same ss (All-tail (λ (r : SignalAt). (r.system ≡ s.system) × IsSignal r) r ss h))
+
+  pub was_new : (ss new : List SignalAt) (is_new : Bool) (place : ℕ) → IsDistinct eq new → IsOf s.system ss → IsSignal s → new ≡ (if list_any (eq s) ss then ss else ss ++ s ∷ [])
+      → is_new ≡ not (list_any (eq s) ss) → place ≡ position_or_len (eq s) ss → is_new ≡ true
+      → (new ≡ ss ++ s ∷ []) × (list_any (λ (r : SignalAt). s.index == r.index) ss ≡ false) × IsOf s.system new × (place ≡ length ss)
+  was_new ss new is_new place unique of listed keys added at is =
+      let none : list_any (eq s) ss ≡ false = not_true (list_any (eq s) ss) (sym added ∙ is) in
+      let apart = sym (any_same ss of.each) ∙ none in
+      let all = keys ∙ ap (λ b. if b then ss else ss ++ s ∷ []) none in
+      (all, apart, subst (IsOf s.system) (sym all) (is_of-push s.system ss s of refl listed apart), at ∙ none_before (eq s) ss none)
+
+  pub was_there : (ss new : List SignalAt) (is_new : Bool) → IsDistinct eq new → IsOf s.system ss → new ≡ (if list_any (eq s) ss then ss else ss ++ s ∷ [])
+      → is_new ≡ not (list_any (eq s) ss) → is_new ≡ false → (new ≡ ss) × (list_any (λ (r : SignalAt). s.index == r.index) ss ≡ true)
+  was_there ss new is_new unique of keys added is =
+      let there : list_any (eq s) ss ≡ true = not_false (list_any (eq s) ss) (sym added ∙ is) in
+      (keys ∙ ap (λ b. if b then ss else ss ++ s ∷ []) there, sym (any_same ss of.each) ∙ there)
+
+-- ---- one more number
 
 first_skip : (p : ℕ → Bool) (xs : List ℕ) (x : ℕ) → p x ≡ false → position p (xs ++ x ∷ []) ≡ position p xs
 first_skip p xs x h = grind (arith, common_steps)
@@ -31,30 +65,6 @@ first_here p xs x h none = grind (arith, common_steps, here, none_before, positi
 any_flip : (i : ℕ) (xs : List ℕ) → list_any (λ j. j == i) xs ≡ list_any (nat_eq i) xs
 any_flip i [] = refl
 any_flip i (x ∷ xs) = grind (arith, common_steps, any_flip i xs)
-
--- Whether a number is found.
-found_any : (i : ℕ) (xs : List ℕ) → nat_lt (position_or_len (λ j. j == i) xs) (length xs) ≡ list_any (nat_eq i) xs
-found_any i [] = refl
-found_any i (x ∷ xs) = by (x == i) (any_flip i (x ∷ [])) (found_any i xs) where
-  by : (b : Bool) → (b || false) ≡ (nat_eq i x || false) → nat_lt (position_or_len (λ j. j == i) xs) (length xs) ≡ list_any (nat_eq i) xs
-      → nat_lt (cond (not b) (1 + position_or_len (λ j. j == i) xs) 0) (suc (length xs)) ≡ (nat_eq i x || list_any (nat_eq i) xs)
-  by true same more = grind (arith, same)
-  by false same more = grind (arith, same, more)
-
-test_of : (b : Bool) (i : ℕ) → is_some (cond b (Some i) None) ≡ b
-test_of true i = refl
-test_of false i = refl
-
--- A signal is in the list if and only if it has a place.
-pub is_held : (places : List (Option ℕ)) (ss : List SignalAt) (n i : ℕ) (b : Bool) → AreFound places (indices ss) → n ≡ i → i < 19 → b ≡ is_some (get_or places n None)
-    → list_any (λ (r : SignalAt). i == r.index) ss ≡ b
-is_held places ss n i b found same less is =
-    any_index i ss ∙ sym (found_any i (indices ss)) ∙ sym (test_of _ (position_or_len (λ j. j == i) (indices ss))) ∙ ap is_some (sym (found.each i less))
-    ∙ ap (λ k. is_some (get_or places k None)) (sym same) ∙ sym is
-
-pub below_most : (system : System) (i : ℕ) → i < length (table system) → i < 19
-below_most Gps i h = omega (arith, h)
-below_most Galileo i h = h
 
 pub found_more : (places : List (Option ℕ)) (xs new : List ℕ) (i place : ℕ) → AreFound places xs → i < 19 → 19 ≤ length places → list_any (nat_eq i) xs ≡ false
     → place ≡ length xs → new ≡ xs ++ i ∷ [] → AreFound (set places i (Some place)) new

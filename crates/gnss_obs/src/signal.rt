@@ -9,7 +9,7 @@ use crate::tables::{GALILEO_ROWS, GALILEO_SIGNALS, GPS_ROWS, GPS_SIGNALS, Listed
 use std::marker::Model;
 
 /// A signal of a system: a row of the table of its signals.
-#[derive(Clone, Copy, PartialEq, Eq)]
+#[derive(Clone, Copy, PartialEq, Eq, Hash)]
 pub struct Signal {
     system: System,
     index: u8,

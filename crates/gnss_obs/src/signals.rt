@@ -7,15 +7,16 @@ ghost use Rattle.gnss_obs.specs.SignalLists.{indices, IsAdded, IsOf};
 
 use crate::signal::Signal;
 use crate::tables::GALILEO_SIGNAL_COUNT;
+use indexmap::IndexSet;
 use std::alloc::{AllocError, Global};
 use std::marker::Model;
 
 /// Distinct signals of one system, in the order in which they were added.
 #[derive(Drop)]
 pub struct Signals {
-    order: Vec<Signal>,
-    // The index of each signal in `order`, by its index in the table of its system. The table of
-    // Galileo is the longest.
+    order: IndexSet<Signal>,
+    // The index of each signal in `order`, by its index in the table of its system, so that no
+    // search asks the set. The table of Galileo is the longest.
     places: [Option<usize>; GALILEO_SIGNAL_COUNT],
 }
 
@@ -26,9 +27,9 @@ impl Model for Signals {
 
     ghost Value = { List SignalAt };
 
-    ghost view = { λ s. s.order.items };
+    ghost view = { λ s. s.order.keys };
 
-    ghost invariant = { λ s. AreFound s.places (indices s.order.items) };
+    ghost invariant = { λ s. AreFound s.places (indices s.order.keys) };
 }
 
 impl Signals {
@@ -37,7 +38,7 @@ impl Signals {
         ensures { result ≡ [] }
     {
         Signals {
-            order: Vec::new(alloc),
+            order: IndexSet::new(alloc),
             places: [None; GALILEO_SIGNAL_COUNT],
         }
     }
@@ -56,14 +57,12 @@ impl Signals {
         ensures failed { OnErr result (self.new ≡ self.old) }
     {
         let index = signal.index();
-        if self.places[index].is_some() {
-            return Ok(false);
-        }
-        let place = self.order.len();
-        match self.order.push(signal) {
-            Ok(()) => {
-                self.places[index] = Some(place);
-                Ok(true)
+        match self.order.insert_full(signal) {
+            Ok((place, is_new)) => {
+                if is_new {
+                    self.places[index] = Some(place);
+                }
+                Ok(is_new)
             }
             Err(_) => Err(AllocError),
         }

@@ -11,7 +11,7 @@ pub const GPS_SATELLITES: u8 = 32;
 pub const GALILEO_SATELLITES: u8 = 36;
 
 /// A satellite system.
-#[derive(Clone, Copy, PartialEq, Eq)]
+#[derive(Clone, Copy, PartialEq, Eq, Hash)]
 pub enum System {
     /// GPS, `G` in RINEX.
     Gps,

@@ -1,35 +1,34 @@
-use Rattle.std.proofs.Common.{◌≡◌, ℕ, ◌==◌, ◌++◌, ◌∷◌, [], ◌<◌, ◌≤◌, nat_eq, true, false, List, length, refl, sym, ap, ◌∙◌, subst, arith}
+use Rattle.std.proofs.Common.{◌≡◌, ℕ, nat_eq, ◌==◌, ◌++◌, ◌∷◌, [], ◌≤◌, true, false, List, length, sym, ap, ◌∙◌, subst, arith, rules}
 use Rattle.gnss_obs.specs.Signals.{SignalAt}
 use Rattle.gnss_obs.specs.SignalLists.{indices, IsOf}
 use Rattle.std.specs.List.{list_any}
-use Rattle.gnss_obs.proofs.PlanLemmas.{any_index, indices-push, is_of-push, length_indices}
-use Rattle.gnss_obs.proofs.SignalLemmas.{below_most, found_more, is_held}
+use Rattle.gnss_obs.proofs.PlanLemmas.{any_index, indices-push, length_indices}
+use Rattle.gnss_obs.proofs.SignalLemmas.{was_new, was_there, found_more}
 use Rattle.gnss_obs.proofs.signals.Signals.add.Goals as goal
-
-pub returns-then-is_some-clause-old : goal.returns-then-is_some-clause-old
-returns-then-is_some-clause-old c = λ e.
-    let s = c.args.signal in
-    let held = is_held c.self.inside.places c.self.inside.order.items c.index-index.result s.index c.is_some.result c.self.invariant c.index-index.ensures.value (below_most s.system s.index c.index-index.ensures.listed) c.is_some.ensures in
-    (refl, subst (λ (l : List SignalAt). list_any (λ (r : SignalAt). s.index == r.index) l ≡ true) c.self.view_is (held ∙ c.if-is_some.true))
 
 pub invariant_of-self : goal.invariant_of-self
 invariant_of-self c =
+    let keys = c.self.inside.order.keys in
     let s = c.args.signal in
-    let before = c.self.inside.order.items in
-    let below = below_most s.system s.index c.index-index.ensures.listed in
-    let held = is_held c.self.inside.places before c.index-index.result s.index c.is_some.result c.self.invariant c.index-index.ensures.value below c.is_some.ensures in
+    let of = subst (IsOf s.system) (sym c.self.view_is) c.requires in
+    let a = was_new _ (λ a b e. grind arith) s keys _ _ c.in-Ok.place c.in-Ok.ensures.unique of c.index-index.ensures.listed c.in-Ok.ensures.keys c.in-Ok.ensures.added c.in-Ok.ensures.index c.if-is_new.true in
     let room : 19 ≤ length c.self.inside.places = omega arith in
-    let same = c.index-index.ensures.value in
-    let place = c.len-place.ensures ∙ c.self.inside.order.ok.0 in
-    found_more c.self.inside.places (indices before) _ c.index-index.result c.len-place.result c.self.invariant (subst (λ n. n < 19) (sym same) below) room
-    (ap (λ n. list_any (nat_eq n) (indices before)) same ∙ sym (any_index s.index before) ∙ held ∙ c.if-is_some.false) (place ∙ sym (length_indices before))
-    (ap indices c.in-Ok.ensures.items ∙ indices-push before s ∙ ap (λ (n : ℕ). indices before ++ n ∷ []) (sym same))
+    found_more c.self.inside.places (indices keys) _ c.index-index.result c.in-Ok.place c.self.invariant (search rules) room
+    (ap (λ (n : ℕ). list_any (nat_eq n) (indices keys)) c.index-index.ensures.value ∙ sym (any_index s.index keys) ∙ a.1) (a.3 ∙ sym (length_indices keys))
+    (ap indices a.0 ∙ indices-push keys s ∙ ap (λ (n : ℕ). indices keys ++ n ∷ []) (sym c.index-index.ensures.value))
 
-pub returns-in-Ok-clause-new : goal.returns-in-Ok-clause-new
-returns-in-Ok-clause-new c = λ e.
+pub returns-then-is_new-clause-new : goal.returns-then-is_new-clause-new
+returns-then-is_new-clause-new c = λ e.
+    let keys = c.self.inside.order.keys in
     let s = c.args.signal in
-    let before = c.self.inside.order.items in
-    let held = is_held c.self.inside.places before c.index-index.result s.index c.is_some.result c.self.invariant c.index-index.ensures.value (below_most s.system s.index c.index-index.ensures.listed) c.is_some.ensures in
-    let all = c.in-Ok.ensures.items ∙ ap (λ (l : List SignalAt). l ++ s ∷ []) c.self.view_is in
-    let apart = subst (λ (l : List SignalAt). list_any (λ (r : SignalAt). s.index == r.index) l ≡ false) c.self.view_is (held ∙ c.if-is_some.false) in
-    (all, apart, subst (IsOf s.system) (sym all) (is_of-push s.system c.args.self.now s c.requires refl c.index-index.ensures.listed apart))
+    let of = subst (IsOf s.system) (sym c.self.view_is) c.requires in
+    let a = was_new _ (λ a b e. grind arith) s keys _ _ c.in-Ok.place c.in-Ok.ensures.unique of c.index-index.ensures.listed c.in-Ok.ensures.keys c.in-Ok.ensures.added c.in-Ok.ensures.index c.if-is_new.true in
+    subst (λ (l : List SignalAt). (c.insert_full.new.self.keys ≡ l ++ s ∷ []) × (list_any (λ (r : SignalAt). s.index == r.index) l ≡ false) × IsOf s.system c.insert_full.new.self.keys) c.self.view_is (a.0, a.1, a.2)
+
+pub returns-else-is_new-clause-old : goal.returns-else-is_new-clause-old
+returns-else-is_new-clause-old c = λ e.
+    let keys = c.self.inside.order.keys in
+    let s = c.args.signal in
+    let of = subst (IsOf s.system) (sym c.self.view_is) c.requires in
+    subst (λ (l : List SignalAt). (c.insert_full.new.self.keys ≡ l) × (list_any (λ (r : SignalAt). s.index == r.index) l ≡ true)) c.self.view_is
+    (was_there _ (λ a b e. grind arith) s keys _ _ c.in-Ok.ensures.unique of c.in-Ok.ensures.keys c.in-Ok.ensures.added c.if-is_new.false)
