@@ -1,13 +1,13 @@
 //! Looks at the bytes of a window.
-ghost use Rattle.std.specs.Prelude.{◌≡◌, ◌≢◌, ◌+◌, ◌*◌, ◌<◌, ◌≤◌, ℕ, length, drop, slice_index, max};
+ghost use Rattle.std.specs.Prelude.{◌≡◌, ◌≢◌, ◌+◌, ◌*◌, ◌<◌, ◌≤◌, ◌++◌, ℕ, length, drop, slice_index, slice_range, max};
 ghost use Rattle.std.specs.Vec.{vec_capacity};
 ghost use Rattle.rtcm_bits.specs.FrameOf.{longest_frame};
 ghost use Rattle.rtcm_bits.specs.Window.{looked_through, counts_alone};
 
 use crate::framing::LONGEST_FRAME;
 
-/// Capacity of a window's memory. It is larger than the longest frame, so that the bytes in the
-/// window are seldom moved to the front.
+/// Capacity of a window's memory, in bytes and in counts. It is larger than the longest frame, so
+/// that the bytes seldom wrap round and the counts are seldom moved to the front.
 pub(crate) const CAPACITY: usize = 8 * LONGEST_FRAME;
 
 /// Adds one look, up to 65,535, to each of the `n` counts from index `start` on, and returns the
@@ -26,39 +26,34 @@ pub(crate) fn look_at_each(counts: &mut [u16], start: usize, n: usize, greatest:
     most
 }
 
-/// Makes room for `n` more items after those in the window, which are the ones from index `first`
-/// on, and returns their first index then.
+/// Makes room for `n` more counts after those of the bytes in the window, which are the ones from
+/// index `first` on, and returns their first index then.
 #[inline(always)]
-pub(crate) fn make_room(bytes: &mut Vec<u8>, counts: &mut Vec<u16>, first: usize, n: usize) -> usize
-    requires within { (first ≤ length bytes.old.items) × (length bytes.old.items ≤ 8 * longest_frame) }
-    requires few { length bytes.old.items + n ≤ first + longest_frame }
-    requires counts { length counts.old.items ≡ length bytes.old.items }
-    ensures bytes { drop result bytes.new.items ≡ drop first bytes.old.items }
+pub(crate) fn make_room(counts: &mut Vec<u16>, first: usize, n: usize) -> usize
+    requires within { (first ≤ length counts.old.items) × (length counts.old.items ≤ 8 * longest_frame) }
+    requires few { length counts.old.items + n ≤ first + longest_frame }
     ensures counts { drop result counts.new.items ≡ drop first counts.old.items }
-    ensures room { length bytes.new.items + n ≤ 8 * longest_frame }
-    ensures within { result ≤ length bytes.new.items }
-    ensures len { length counts.new.items ≡ length bytes.new.items }
-    ensures capacity { (vec_capacity bytes.new ≡ vec_capacity bytes.old)
-        × (vec_capacity counts.new ≡ vec_capacity counts.old) }
+    ensures room { length counts.new.items + n ≤ 8 * longest_frame }
+    ensures within { result ≤ length counts.new.items }
+    ensures capacity { vec_capacity counts.new ≡ vec_capacity counts.old }
 {
-    if n <= CAPACITY - bytes.len() {
+    if n <= CAPACITY - counts.len() {
         return first;
     }
-    remove_front(bytes, first);
     remove_front(counts, first);
     0
 }
 
-/// Removes the first `n` items.
+/// Removes the first `n` counts.
 #[inline(never)]
-fn remove_front<T: Copy + Drop>(items: &mut Vec<T>, n: usize)
-    requires { n ≤ length items.old.items }
-    ensures items { items.new.items ≡ drop n items.old.items }
-    ensures capacity { vec_capacity items.new ≡ vec_capacity items.old }
+fn remove_front(counts: &mut Vec<u16>, n: usize)
+    requires { n ≤ length counts.old.items }
+    ensures counts { counts.new.items ≡ drop n counts.old.items }
+    ensures capacity { vec_capacity counts.new ≡ vec_capacity counts.old }
 {
-    let len = items.len();
-    items.as_mut_slice().copy_within(n..len, 0);
-    items.truncate(len - n);
+    let len = counts.len();
+    counts.as_mut_slice().copy_within(n..len, 0);
+    counts.truncate(len - n);
 }
 
 /// Raises the greatest count if this one is above it. It stores nothing otherwise, so that a look
@@ -71,8 +66,41 @@ pub(crate) fn raise(greatest: &mut u16, looks: u16)
     }
 }
 
+/// Returns the `n` bytes from index `start` on of two consecutive slices.
+#[inline(always)]
+pub(crate) fn part_of<'a>(
+    front: &'a [u8],
+    back: &'a [u8],
+    start: usize,
+    n: usize,
+) -> (&'a [u8], &'a [u8])
+    requires { start + n ≤ length front.now + length back.now }
+    ensures bytes { result.0.now ++ result.1.now ≡ slice_range (front.now ++ back.now) start (start + n) }
+    ensures size { length result.0.now + length result.1.now ≡ n }
+{
+    if start + n <= front.len() {
+        return (&front[start..start + n], &[]);
+    }
+    let from = start.min(front.len());
+    (&front[from..], &back[start - from..start + n - front.len()])
+}
+
+/// Returns the number of bytes of two consecutive slices before the first one equal to `byte`.
+pub(crate) fn others_in(front: &[u8], back: &[u8], byte: u8) -> usize
+    ensures within { result ≤ length front.now + length back.now }
+    ensures others { (i : ℕ) → i < result → slice_index (front.now ++ back.now) i ≢ byte }
+    ensures stops { result < length front.now + length back.now → slice_index (front.now ++ back.now) result ≡ byte }
+{
+    let n = others_before(front, byte);
+    if n < front.len() {
+        n
+    } else {
+        n + others_before(back, byte)
+    }
+}
+
 /// Returns the number of bytes before the first one equal to `byte`.
-pub(crate) fn others_before(bytes: &[u8], byte: u8) -> usize
+fn others_before(bytes: &[u8], byte: u8) -> usize
     ensures within { result ≤ length bytes.now }
     ensures others { (i : ℕ) → i < result → slice_index bytes.now i ≢ byte }
     ensures stops { result < length bytes.now → slice_index bytes.now result ≡ byte }

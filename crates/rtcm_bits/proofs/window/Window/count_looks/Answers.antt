@@ -10,7 +10,7 @@ returns-clause-counted c =
     let ys = c.look_at_each-self-inside.new.counts in
     let e = c.saturating_add-self-inside.result in
     let g = c.look_at_each-self-inside.result in
-    ap (λ (t : List ℕ). held_of (drop i.first i.bytes.items) (drop i.first t) e g) (with_items_is i.counts ys (search (rules, places)))
+    ap (λ (t : List ℕ). held_of i.bytes.items (drop i.first t) e g) (with_items_is i.counts ys (search (rules, places)))
     ∙ view_looked i.bytes.items i.counts.items ys i.first i.looks e i.greatest g c.args.start c.args.n c.args.self.now c.self.view_is (search rules)
     (c.look_at_each-self-inside.ensures.counts ∙ ap (λ (t : List ℕ). (looked_through (counts_alone t i.greatest) (i.first + c.args.start) c.args.n).looks) c.as_mut_slice.ensures.value)
     (c.look_at_each-self-inside.ensures.greatest ∙ ap (λ (t : List ℕ). (looked_through (counts_alone t i.greatest) (i.first + c.args.start) c.args.n).most) c.as_mut_slice.ensures.value)
