@@ -78,7 +78,10 @@ pub(crate) fn pass_others(window: &mut Window, candidate: &mut Candidate) -> usi
 {
     let n = window.drop_others(PREAMBLE);
     if window.held() > 0 {
-        candidate.take(PREAMBLE);
+        // Made here, so that its register is computed when this is compiled.
+        let mut begun = Candidate::new();
+        begun.take(PREAMBLE);
+        *candidate = begun;
     }
     n
 }
