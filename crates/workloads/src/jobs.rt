@@ -1,4 +1,6 @@
 //! The jobs, each of which adds its results to a digest.
+ghost use Rattle.std.specs.Prelude.{◌≡◌, length};
+
 use crate::digest::Digest;
 use crate::hostile::Hostile;
 use crate::random::Random;
@@ -125,17 +127,29 @@ pub fn live(alloc: Global, seed: u64, amount: u64, digest: Digest) -> Option<Dig
     let mut converter = Converter::new(alloc, setup).ok()?;
     let mut buffer = [0u8; 1400];
     for _ in 0..u64::MAX {
-        let most = (random.below(1400) % 1400) as usize + 1;
-        let n = stream.read(&mut buffer[..most]).ok()?;
-        if n == 0 {
+        let piece = next_piece(&mut stream, &mut random, &mut buffer)?;
+        if piece.is_empty() {
             break;
         }
-        converter.feed(&buffer[..n], &mut writer).ok()?;
+        converter.feed(piece, &mut writer).ok()?;
     }
     let report = converter.finish(&mut writer).ok()?;
     let mut digest = writer.into_inner().into_inner();
     add_report(&mut digest, &report, converter.kept());
     Some(digest)
+}
+
+/// Reads a piece of 1 to 1,400 bytes, less at the end of the stream and none after it.
+fn next_piece<'a>(
+    stream: &mut Stream,
+    random: &mut Random,
+    buffer: &'a mut [u8],
+) -> Option<&'a [u8]>
+    requires { length buffer.old ≡ 1400 }
+{
+    let most = (random.below(1400) % 1400) as usize + 1;
+    let n = stream.read(&mut buffer[..most]).ok()?;
+    Some(&buffer[..n])
 }
 
 /// Reads a file back as the command `check` does.
