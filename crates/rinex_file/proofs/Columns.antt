@@ -20,7 +20,7 @@ pub columns-plain : (d p : List ℕ) (a b r : ℕ) → r + length d ≡ 10 → l
     → replicate r 32 ++ (d ++ (46 ∷ p ++ a ∷ b ∷ [])) ≡ right 14 (d ++ 46 ∷ p) ++ a ∷ b ∷ []
 columns-plain d p a b r e k = grind (arith, length-append, append_assoc)
 
-last_blank : (r : ℕ) (t : List ℕ) → 1 ≤ r → set (replicate r 32 ++ t) (r - 1) 45 ≡ replicate (r - 1) 32 ++ 45 ∷ t
+pub last_blank : (r : ℕ) (t : List ℕ) → 1 ≤ r → set (replicate r 32 ++ t) (r - 1) 45 ≡ replicate (r - 1) 32 ++ 45 ∷ t
 last_blank r t h =
     let e : r ≡ (r - 1) + 1 = omega arith in
     let shape : replicate r 32 ++ t ≡ replicate (r - 1) 32 ++ 32 ∷ t =

@@ -1,18 +1,20 @@
 -- Columns of a text whose blanks at the end were cut.
 use Rattle.std.proofs.Common.{arith, ◌≡◌, ◌∙◌, sym, ap, ap₂, refl, subst, ℕ, ◌+◌, ◌-◌, ◌*◌, ◌/◌, ◌%◌, ◌<◌, ◌≤◌, List, [], ◌∷◌, ◌++◌, length, take, drop, replicate, get_or, append-nil, length-append, inl, inr}
-use Rattle.std.specs.Prelude.{flat_map, All, IsTrue, Bool}
+use Rattle.std.specs.Prelude.{flat_map, All, Bool, true, false}
 use Rattle.std.specs.List.{list_any}
 use Rattle.std.proofs.lemmas.Bool.{cases_lt}
 use Rattle.std.proofs.lemmas.List.{length-drop, length-take, length-take-le, length_push, take_all, drop_all, take-append-le, drop-append-le, take-replicate, drop-replicate, length-replicate}
-use Rattle.std.proofs.lemmas.List.Folds.{Any-from_list_any}
+use Rattle.std.proofs.lemmas.List.Folds.{Any-from_list_any, list_any-from_Any}
 use Rattle.std.proofs.Math.Nat.{min-le_left}
 use Rattle.std.proofs.Math.Seq.{take-append-add, drop-append-add, take-append_seam}
 use Rattle.rinex_file.specs.Value.{SignalValues, SatelliteRow, no_signal_values}
 use Rattle.rinex_file.specs.FileValues.{AreSignalValues, has_some_value}
-use Rattle.rinex_file.specs.Read.Row.{AreWritten}
+use Rattle.rinex_file.specs.Read.Row.{AreEntries}
 use Rattle.rinex_file.specs.Blanks.{IsEnded, filled_to}
 use Rattle.rinex_file.specs.Numbers.{padded}
 use Rattle.rinex_file.specs.Lines.{field, signal_text, satellite_line, letter_of, row_text}
+use Rattle.rinex_file.specs.Read.Fields.{ReadsExactly, some_if}
+use Rattle.rinex_file.proofs.OneReading.{signals_once}
 use Rattle.rinex_file.proofs.WrittenRow.{line_is, text_is}
 
 -- a text of the whole width is not padded
@@ -104,18 +106,29 @@ length-signal at text =
     let low = min-le_left 64 (length (drop at text)) in
     length-filled 64 (take 64 (drop at text)) (omega (arith, size, low))
 
+-- entries in the columns in which they are written
+entries_read : (n : ℕ) (text : List ℕ) (values : List SignalValues) (some : Bool) → length values ≡ n → All AreSignalValues values → some ≡ list_any has_some_value values → text ≡ flat_map signal_text values
+    → ReadsExactly (AreEntries n) (flat_map signal_text) text (some_if some values)
+entries_read n text values true size each is shows = (
+  record { each = each; whole = size; some = Any-from_list_any has_some_value values (sym is) },
+  shows,
+  λ es are e. signals_once es values are.each each (are.whole ∙ sym size) (sym e ∙ shows),
+)
+entries_read n text values false size each is shows = λ es are e.
+    let same = signals_once es values are.each each (are.whole ∙ sym size) (sym e ∙ shows) in
+    no_value (is ∙ ap (list_any has_some_value) (sym same) ∙ list_any-from_Any has_some_value es are.some) where
+      no_value : false ≡ true → ⊥
+      no_value e = cc
+
 -- all signals were read
-pub all_cut : (n i : ℕ) (text : List ℕ) (values : List SignalValues) (some : Bool) → length values ≡ n → n ≤ i → length text ≤ 64 * n → All AreSignalValues (take i values)
-    → some ≡ list_any has_some_value (take i values) → flat_map signal_text (take i values) ≡ take (64 * i) (filled_to (64 * n) text) → IsTrue some → AreWritten n (filled_to (64 * n) text) values
-all_cut n i text values some size end short each is shown held =
+pub all_read : (n i : ℕ) (text : List ℕ) (values : List SignalValues) (some : Bool) → length values ≡ n → n ≤ i → length text ≤ 64 * n → All AreSignalValues (take i values)
+    → some ≡ list_any has_some_value (take i values) → flat_map signal_text (take i values) ≡ take (64 * i) (filled_to (64 * n) text)
+    → ReadsExactly (AreEntries n) (flat_map signal_text) (filled_to (64 * n) text) (some_if some values)
+all_read n i text values some size end short each is shown =
     let all : take i values ≡ values = take_all i values (omega (arith, size, end)) in
     let whole = length-filled (64 * n) text short in
-    record {
-      each = subst (All AreSignalValues) all each;
-      whole = size;
-      some = Any-from_list_any has_some_value values (sym (ap (list_any has_some_value) all) ∙ sym is ∙ held);
-      text_is = sym (sym (ap (flat_map signal_text) all) ∙ shown ∙ take_all (64 * i) (filled_to (64 * n) text) (omega (arith, whole, end)));
-    }
+    entries_read n (filled_to (64 * n) text) values some size (subst (All AreSignalValues) all each) (is ∙ ap (list_any has_some_value) all)
+    (sym (sym (ap (flat_map signal_text) all) ∙ shown ∙ take_all (64 * i) (filled_to (64 * n) text) (omega (arith, whole, end))))
 
 -- ---- the line
 

@@ -14,7 +14,7 @@ use Rattle.rinex_file.specs.Words.{word, AreBelow, digits_onto, eight_digits, le
 
 -- ---- the bytes of a word
 
-byte_at : (bs : List ℕ) → AreBelow 256 bs → (i : ℕ) → get_or bs i 0 < 256
+pub byte_at : (bs : List ℕ) → AreBelow 256 bs → (i : ℕ) → get_or bs i 0 < 256
 byte_at [] h i = omega arith
 byte_at (b ∷ bs) h zero = h.0
 byte_at (b ∷ bs) h (suc i) = byte_at bs h.1 i

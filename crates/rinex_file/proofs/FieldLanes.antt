@@ -1,12 +1,12 @@
 -- The columns of a field as lanes: their digits, and the size of which they are.
-use Rattle.std.proofs.Common.{arith, ◌≡◌, ◌∙◌, sym, ap, ap₂, refl, subst, cond, ℕ, zero, suc, ◌+◌, ◌-◌, ◌*◌, ◌/◌, ◌%◌, ◌^◌, ◌<◌, ◌≤◌, List, [], ◌∷◌, ◌++◌, map, length, get_or, replicate, take, drop, true, eqb, inl, inr, ℤ, pos, negsuc, Some, Fits, w8}
+use Rattle.std.proofs.Common.{arith, ◌≡◌, ◌∙◌, sym, ap, ap₂, refl, subst, ℕ, zero, suc, ◌+◌, ◌-◌, ◌*◌, ◌/◌, ◌%◌, ◌^◌, ◌<◌, ◌≤◌, List, [], ◌∷◌, ◌++◌, length, get_or, replicate, take, drop, true, eqb, inl, inr, ℤ, pos, negsuc, Some, Fits, w8}
 use Rattle.std.specs.Prelude.{⊤, Bool, set, neg_ℤ, if◌then◌else◌}
 use lib.Dec.{leb}
-use lib.Lanes.{number_l, digits_l, pick_l, zip2, Each1, chunk, mask_l, top}
+use lib.Lanes.{number_l, digits_l, pick_l, zip2, Each1, chunk}
 use Rattle.std.proofs.Math.Nat.{one-le-pow, pow-le-pow_right, pow-suc}
-use Rattle.std.proofs.lemmas.Bool.{agree_below_at, cases_Bool, cases_lt, eqb-true, le-leb, lt-leb}
+use Rattle.std.proofs.lemmas.Bool.{agree_below_at, cases_lt, eqb-true, le-leb, lt-leb}
 use Rattle.std.proofs.lemmas.List.{length-set, take-take, get_or-take, get_or-drop, length-drop, length-take-le}
-use Rattle.std.proofs.lemmas.Simd.{bitmask_splat, length-zip2, get_or-zip2}
+use Rattle.std.proofs.lemmas.Simd.{length-zip2, get_or-zip2}
 use Rattle.rinex_file.specs.FileValues.{FitsColumns}
 use Rattle.rinex_file.specs.Lines.{field}
 use Rattle.rinex_file.specs.Words.{AreBelow, AreWithin, digit_columns, leading, template, twos_of}
@@ -151,7 +151,7 @@ end_is xs ts i l k h g few blank =
     ap (added (get_or (zip2 taken xs ts) i 0)) (sym blank) ∙ sym (get_or-zip2 added (zip2 taken xs ts) ts i 0 0 0 (omega (arith, size, few)) (omega (arith, k, few)))
     ∙ ap (λ r. get_or r i 0) (added_back xs ts (l ∙ sym k) h g)
 
-template_below : (n z : ℕ) → AreBelow 256 (template n z)
+pub template_below : (n z : ℕ) → AreBelow 256 (template n z)
 template_below zero z = omega arith
 template_below (suc n) zero = (omega arith, template_below n 0)
 template_below (suc n) (suc z) = (omega arith, template_below n z)
@@ -182,7 +182,7 @@ leads_is (suc n) [] h = absurd (omega (arith, h))
 leads_is (suc n) (zero ∷ ds) h = ap suc (leads_is n ds h.1)
 leads_is (suc n) (suc d ∷ ds) h = absurd (let none = h.0 in omega (arith, none))
 
-leads_at : (t s : ℕ) → t ≤ 9 → (t ≤ 8 → 10 ^ (12 - t) ≤ s) → s < 10 ^ (13 - t) → leading (front s) ≡ t
+pub leads_at : (t s : ℕ) → t ≤ 9 → (t ≤ 8 → 10 ^ (12 - t) ≤ s) → s < 10 ^ (13 - t) → leading (front s) ≡ t
 leads_at zero s h low high = let l = low (omega arith) in leads_is 0 (front s) (omega (arith, l, high))
 leads_at (suc (zero)) s h low high = let l = low (omega arith) in leads_is 1 (front s) (omega (arith, l, high))
 leads_at (suc (suc (zero))) s h low high = let l = low (omega arith) in leads_is 2 (front s) (omega (arith, l, high))
@@ -250,21 +250,6 @@ lanes_are text at =
 pub lane_is : (text : List ℕ) (at k : ℕ) → k < 16 → get_or (take 16 (drop at text)) k 0 ≡ get_or text (at + k) 0
 lane_is text at k h = get_or-take 16 (drop at text) k 0 h ∙ get_or-drop at text k 0
 
--- a mask of which all bits are set
-all_blank : (xs : List ℕ) → mask_l (map (λ x. eqb x 32) xs) + 1 ≡ 2 ^ length xs → xs ≡ replicate (length xs) 32
-all_blank [] e = refl
-all_blank (x ∷ xs) e =
-    let p : 2 ^ suc (length xs) ≡ 2 ^ length xs * 2 = pow-suc 2 (length xs) in
-    let m : ℕ = mask_l (map (λ y. eqb y 32) xs) in
-    elim (cases_Bool (eqb x 32)) [
-      | inl blank ↦
-          let one : 1 + 2 * m + 1 ≡ 2 ^ suc (length xs) = ap (λ b. cond b 1 0 + 2 * m + 1) (sym blank) ∙ e in
-          ap₂ (λ a r. a ∷ r) (eqb-true x 32 blank) (all_blank xs (omega (arith, one, p)))
-      | inr other ↦
-          let none : 0 + 2 * m + 1 ≡ 2 ^ suc (length xs) = ap (λ b. cond b 1 0 + 2 * m + 1) (sym other) ∙ e in
-          absurd (omega (arith, none, p))
-    ]
-
 -- ---- the value of a row
 
 -- a row of which the sizes are from `least` to one less than `end`
@@ -331,8 +316,3 @@ judged columns ts row s least end l h rows is signed digits bound low high p_lea
 
 pub sixteen_long : (text : List ℕ) (at : ℕ) → at + 16 ≤ length text → length (take 16 (drop at text)) ≡ 16
 sixteen_long text at h = let rest = length-drop at text in length-take-le 16 (drop at text) (omega (arith, rest, h))
-
-pub blank_lanes : (xs : List ℕ) → length xs ≡ 16 → mask_l (map (top 7) (zip2 (λ a b. cond (eqb a b) 255 0) xs (replicate 16 32))) % 2 ^ 64 ≡ 65535 → xs ≡ replicate 16 32
-blank_lanes xs l e =
-    let mask : mask_l (map (λ x. eqb x 32) xs) ≡ 65535 = sym (bitmask_splat w8 eqb xs 16 32 l (omega arith)) ∙ e in
-    all_blank xs (ap (λ m. m + 1) mask ∙ ap (λ n. 2 ^ n) (sym l)) ∙ ap (λ n. replicate n 32) l

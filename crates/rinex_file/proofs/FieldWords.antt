@@ -1,15 +1,26 @@
 -- The columns of a field: as two words, and the values that fit them.
-use Rattle.std.proofs.Common.{arith, ◌≡◌, ◌∙◌, sym, ap, ap₂, refl, ℕ, zero, suc, ◌+◌, ◌^◌, ◌<◌, ◌≤◌, List, [], ◌∷◌, ◌++◌, length, get_or, take, drop, w64, pos, negsuc}
+use Rattle.std.proofs.Common.{arith, ◌≡◌, ◌∙◌, sym, ap, ap₂, refl, subst, ℕ, zero, suc, ◌+◌, ◌-◌, ◌^◌, ◌<◌, ◌≤◌, List, [], ◌∷◌, ◌++◌, length, get_or, take, drop, w64, pos, negsuc}
 use Rattle.std.specs.Prelude.{set}
 use Rattle.std.specs.Int.{to_le_bytes}
 use Rattle.std.proofs.lemmas.Int.{ints}
-use Rattle.std.proofs.lemmas.List.{drop-drop}
+use Rattle.std.proofs.lemmas.List.{drop-drop, length-drop, length-take, length-take-le, get_or-take, get_or-drop}
 use Rattle.rinex_file.specs.Words.{word, AreBelow}
 use Rattle.rinex_file.specs.FileValues.{FitsColumns}
 use Rattle.rinex_file.proofs.DigitWords.{eight, bytes_of}
-use Rattle.rinex_file.proofs.ColumnDigits.{columns_at, count_at}
 
--- ---- a column of a text
+-- ---- columns of a text
+
+all_bytes : (text : List ℕ) → ((i : ℕ) → i < length text → get_or text i 0 < 256) → AreBelow 256 text
+all_bytes [] h = tt
+all_bytes (b ∷ bs) h = (h 0 (omega arith), all_bytes bs (λ i less. h (suc i) (omega (arith, less))))
+
+columns_at : (text : List ℕ) (first : ℕ) → ((i : ℕ) → get_or text i 0 < 256) → AreBelow 256 (take 8 (drop first text))
+columns_at text first h = all_bytes (take 8 (drop first text)) (λ i less.
+    let few : i < 8 = omega (arith, less, length-take 8 (drop first text)) in
+    subst (λ n. n < 256) (sym (get_or-take 8 (drop first text) i 0 few ∙ get_or-drop first text i 0)) (h (first + i)))
+
+count_at : (text : List ℕ) (first : ℕ) → first + 8 ≤ length text → length (take 8 (drop first text)) ≡ 8
+count_at text first h = let l : length (drop first text) ≡ length text - first = length-drop first text in length-take-le 8 (drop first text) (omega (arith, l, h))
 
 pub set_below : (n : ℕ) (bs : List ℕ) (i v : ℕ) → v < n → AreBelow n bs → AreBelow n (set bs i v)
 set_below n [] i v h are = tt

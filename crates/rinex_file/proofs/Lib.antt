@@ -3,12 +3,12 @@ mod DigitWords
 mod EightDigits
 mod LaneDigits
 mod LaneColumns
-mod ColumnDigits
 mod FieldWords
 mod Cuts
 mod Grown
 mod Columns
 mod FieldLanes
+mod FieldRows
 mod Entries
 mod SatelliteGroups
 mod TypeRows
@@ -26,6 +26,7 @@ mod PlainHeader
 mod FileLines
 mod HeaderText
 mod RowText
+mod OneReading
 mod WrittenRow
 mod EpochText
 mod HeaderRead

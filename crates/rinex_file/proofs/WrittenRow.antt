@@ -1,9 +1,10 @@
 -- A line whose columns are those in which its values are written.
-use Rattle.std.proofs.Common.{arith, ◌≡◌, ◌≢◌, ◌∙◌, sym, ap, ap₂, refl, ℕ, ◌+◌, ◌-◌, ◌*◌, ◌/◌, ◌%◌, ◌≤◌, List, [], ◌∷◌, ◌++◌, length, take, drop, replicate, get_or, append-nil, take-append-drop}
-use Rattle.std.specs.Prelude.{Bool, true, false, flat_map, ◌||◌}
+use Rattle.std.proofs.Common.{arith, ◌≡◌, ◌≢◌, ◌∙◌, sym, ap, ap₂, refl, ℕ, ◌+◌, ◌-◌, ◌*◌, ◌/◌, ◌%◌, ◌≤◌, ◌<◌, List, [], ◌∷◌, ◌++◌, length, take, drop, replicate, get_or, append-nil, take-append-drop}
+use Rattle.std.specs.Prelude.{Bool, true, false, flat_map, ◌||◌, IsTrue, ◌↔◌, not, nat_eq}
 use Rattle.std.specs.List.{list_any}
 use Rattle.std.proofs.Math.Seq.{take-add}
-use Rattle.std.proofs.lemmas.List.{drop-drop, take_all, take_more, length-drop, length-take-le, get_or-take}
+use Rattle.std.proofs.lemmas.List.{drop-drop, take_all, take_more, length-drop, length-take-le, length_push, get_or-take, get_or_append_left}
+use Rattle.std.proofs.lemmas.Bool.{ne_eqb}
 use Rattle.std.proofs.lemmas.List.Concat.{flat_map-append}
 use Rattle.std.proofs.lemmas.List.Folds.{list_any-append}
 use Rattle.rinex_file.specs.Value.{SignalValues, SatelliteRow}
@@ -11,7 +12,7 @@ use Rattle.rinex_file.specs.FileValues.{has_some_value}
 use Rattle.rinex_file.specs.Blanks.{trimmed, IsEnded}
 use Rattle.rinex_file.specs.Numbers.{padded}
 use Rattle.rinex_file.specs.Lines.{field, signal_text, lli_byte, strength_byte, row_text, satellite_line, letter_of}
-use Rattle.rinex_file.proofs.Cuts.{uncut}
+use Rattle.rinex_file.proofs.Cuts.{uncut, cut_last, length-trimmed}
 use Rattle.rinex_file.proofs.DigitWords.{two_digits}
 use Rattle.rinex_file.proofs.HeaderText.{trimmed-blanks}
 
@@ -59,9 +60,15 @@ number_shown t o a b c d =
     let ones : 48 + n % 10 ≡ o = omega (arith, a, b, c, d) in
     two_digits n (omega (arith, b, d)) ∙ ap₂ (λ x y. x ∷ y ∷ []) tens ones
 
+pub digits_shown : (t o n : ℕ) → n < 100 → t ∷ o ∷ [] ≡ padded 2 n → (48 ≤ t) × (t ≤ 57) × (48 ≤ o) × (o ≤ 57)
+digits_shown t o n h e =
+    let tens : t ≡ 48 + n / 10 = ap (λ l. get_or l 0 0) (e ∙ two_digits n h) in
+    let ones : o ≡ 48 + n % 10 = ap (λ l. get_or l 1 0) (e ∙ two_digits n h) in
+    (omega (arith, tens), omega (arith, tens, h), omega (arith, ones), omega (arith, ones))
+
 -- ---- the end of a line
 
-pub ended : (line : List ℕ) → 2 ≤ length line → get_or line (length line - 1) 0 ≡ 10 → get_or line (length line - 2) 0 ≢ 32 → IsEnded line
+ended : (line : List ℕ) → 2 ≤ length line → get_or line (length line - 1) 0 ≡ 10 → get_or line (length line - 2) 0 ≢ 32 → IsEnded line
 ended line long feed other =
     let n = length line - 1 in
     let t = take n line in
@@ -71,15 +78,34 @@ ended line long feed other =
     ap (λ k. get_or t (k - 1) 0) size ∙ get_or-take n line (n - 1) 0 (omega (arith, long)) ∙ ap (λ k. get_or line k 0) (omega (arith, long)) in (
       t,
       all ∙ take_more line n 0 (omega (arith, long)) ∙ ap (λ b. t ++ b ∷ []) feed,
+      omega (arith, size, long),
       sym (uncut t (length t) refl (omega (arith, size, long)) (λ blank. other (sym last ∙ blank))),
     )
+
+-- a line that is ended has no blank before its line feed
+blank_end : (line : List ℕ) → IsEnded line → get_or line (length line - 2) 0 ≡ 32 → ⊥
+blank_end line (text, is, some, whole) blank =
+    let n = length text in
+    let size : length line ≡ n + 1 = ap length is ∙ length_push text 10 in
+    let at : get_or text (n - 1) 0 ≡ 32 =
+    sym (get_or_append_left text (10 ∷ []) 0 (n - 1) (omega (arith, some))) ∙ ap₂ (λ (l : List ℕ) (k : ℕ). get_or l k 0) (sym is) (omega (arith, size)) ∙ blank in
+    let shorter : length (trimmed (take (n - 1) text)) ≡ n = ap length (cut_last text (take (n - 1) text) n refl some at refl ∙ whole) in
+    let less = length-trimmed (take (n - 1) text) in
+    let part = length-take-le (n - 1) text (omega arith) in
+    omega (arith, shorter, less, part, some)
+
+other_byte : (b : ℕ) → IsTrue (not (nat_eq b 32)) → b ≡ 32 → ⊥
+other_byte b held e = grind arith
+
+pub ends : (line : List ℕ) → 2 ≤ length line → get_or line (length line - 1) 0 ≡ 10 → IsTrue (not (nat_eq (get_or line (length line - 2) 0) 32)) ↔ IsEnded line
+ends line long feed = (λ held. ended line long feed (other_byte _ held), λ is. ap not (ne_eqb (get_or line (length line - 2) 0) 32 (blank_end line is)))
 
 -- ---- the line of a satellite
 
 pub line_is : (v : SatelliteRow) (line text : List ℕ) (width : ℕ) → IsEnded line
     → ((t : List ℕ) → line ≡ t ++ 10 ∷ [] → text ≡ t ++ replicate (width - length t) 32) → text ≡ row_text (letter_of v.system) v.row → line ≡ satellite_line v
 unfolding satellite_line
-line_is v line text width (t, is, whole) filled shown =
+line_is v line text width (t, is, some, whole) filled shown =
     is ∙ ap (λ l. l ++ 10 ∷ []) (sym whole ∙ sym (trimmed-blanks (width - length t) t) ∙ ap trimmed (sym (filled t is) ∙ shown))
 
 -- letter, number and signals

@@ -1,5 +1,5 @@
 -- Texts without trailing blanks.
-use Rattle.std.specs.Prelude.{◌≡◌, ℕ, ◌-◌, List, [], ◌∷◌, ◌++◌, ◌==◌, if◌then◌else◌, length, replicate}
+use Rattle.std.specs.Prelude.{◌≡◌, ℕ, ◌-◌, ◌<◌, List, [], ◌∷◌, ◌++◌, ◌==◌, if◌then◌else◌, length, replicate}
 
 -- a byte before a text; a blank is left out if nothing follows it
 abbrev pub before_cut : ℕ → List ℕ → List ℕ
@@ -11,9 +11,9 @@ unfoldable pub trimmed : List ℕ → List ℕ
 trimmed [] = []
 trimmed (b ∷ bs) = before_cut b (trimmed bs)
 
--- a line feed after a text without trailing blanks
+-- a line feed after a text without trailing blanks, which isn't empty
 abbrev pub IsEnded : List ℕ → Type 0
-IsEnded line = (text : List ℕ) × (line ≡ text ++ 10 ∷ []) × (trimmed text ≡ text)
+IsEnded line = (text : List ℕ) × (line ≡ text ++ 10 ∷ []) × (0 < length text) × (trimmed text ≡ text)
 
 -- a text that is padded with blanks to a width
 abbrev pub filled_to : ℕ → List ℕ → List ℕ

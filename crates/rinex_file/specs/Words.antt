@@ -1,5 +1,7 @@
 -- Eight columns as a number, the first in its lowest byte.
-use Rattle.std.specs.Prelude.{⊤, ℕ, zero, suc, ◌+◌, ◌*◌, ◌/◌, ◌%◌, ◌<◌, ◌≤◌, List, [], ◌∷◌, map}
+use Rattle.std.specs.Prelude.{⊤, ℕ, zero, suc, ◌+◌, ◌*◌, ◌/◌, ◌%◌, ◌<◌, ◌≤◌, ◌==◌, List, [], ◌∷◌, map, slice_index}
+use Rattle.std.specs.Prelude.{if◌then◌else◌}
+use Rattle.std.specs.List.{prefix_len}
 
 -- bytes as a number
 abbrev pub word : List ℕ → ℕ
@@ -49,6 +51,15 @@ abbrev pub template : ℕ → ℕ → List ℕ
 template zero empty = 48 ∷ 46 ∷ 48 ∷ 48 ∷ 48 ∷ 32 ∷ 32 ∷ []
 template (suc n) zero = 48 ∷ template n zero
 template (suc n) (suc empty) = 32 ∷ template n empty
+
+-- the row of columns among the templates: the number of blanks before the first other column, and 16 more if that is
+-- a minus
+abbrev pub field_row_with : ℕ → ℕ → ℕ
+field_row_with empty first = if first == 45 then empty + 16 else empty
+
+abbrev pub field_row : List ℕ → ℕ
+field_row columns =
+    let empty = prefix_len (λ b. b == 32) columns in field_row_with empty (slice_index columns empty)
 
 -- no number is more than the limit at its place
 abbrev pub AreWithin : List ℕ → List ℕ → Type 0

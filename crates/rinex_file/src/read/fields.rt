@@ -1,12 +1,13 @@
 //! The value in the columns of a field, judged by lanes: the columns are those in which it is
 //! written, or nothing is read.
-ghost use Rattle.std.specs.Prelude.{◌≡◌, ◌+◌, ◌-◌, ◌*◌, ◌/◌, ◌%◌, ◌^◌, ◌≤◌, ◌<◌};
+ghost use Rattle.std.specs.Prelude.{◌≡◌, ◌↔◌, ◌+◌, ◌-◌, ◌*◌, ◌/◌, ◌%◌, ◌^◌, ◌≤◌, ◌<◌, ◌==◌};
+ghost use Rattle.std.specs.List.{prefix_len};
 ghost use Rattle.std.specs.Prelude.{length, take, drop, replicate, set, slice_index, IfSome, IsTrue, Some};
 ghost use Rattle.rinex_file.specs.FileValues.{FitsColumns};
 ghost use Rattle.rinex_file.specs.Lines.{field};
-ghost use Rattle.rinex_file.specs.Words.{template, AreBelow, AreWithin, digit_columns, twos_of};
+ghost use Rattle.rinex_file.specs.Read.Fields.{ReadsExactly};
+ghost use Rattle.rinex_file.specs.Words.{word, template, AreBelow, AreWithin, digit_columns, field_row, field_row_with, twos_of};
 
-use crate::read::columns::word_at;
 use crate::read::numbers::signed;
 use gnss_obs::Thousandths;
 use std::simd::prelude::*;
@@ -91,6 +92,16 @@ static SIZES: [[u64; 2]; 32] = [
 /// The largest digit in each column of a value. The last two columns have none.
 const LIMITS: [u8; 16] = [9, 9, 9, 9, 9, 9, 9, 9, 9, 9, 0, 9, 9, 9, 255, 255];
 
+/// Returns eight columns as a word.
+pub(crate) fn word_at(text: &[u8], first: usize) -> u64
+    requires { first + 8 ≤ length text.now }
+    ensures { result ≡ word (take 8 (drop first text.now)) }
+{
+    let mut columns = [0; 8];
+    columns.copy_from_slice(&text[first..first + 8]);
+    u64::from_le_bytes(columns)
+}
+
 /// Returns the columns of this row.
 #[inline(always)]
 fn template_in(row: usize) -> u8x16
@@ -107,6 +118,7 @@ fn sizes_in(row: usize) -> [u64; 2]
     requires { row < 32 }
     ensures least { row ≤ 8 → slice_index result 0 ≡ 10 ^ (12 - row) }
     ensures end { row ≤ 9 → slice_index result 1 ≡ 10 ^ (13 - row) }
+    ensures zero { row ≡ 9 → slice_index result 0 ≡ 0 }
     ensures none { 10 ≤ row → row < 16 → slice_index result 1 ≡ 0 }
     ensures signed_least { 16 ≤ row → row ≤ 23 → slice_index result 0 ≡ 10 ^ (27 - row) }
     ensures signed_end { 16 ≤ row → row ≤ 24 → slice_index result 1 ≡ 10 ^ (28 - row) }
@@ -119,7 +131,7 @@ fn sizes_in(row: usize) -> [u64; 2]
 /// Returns whether no number is more than the largest digit of its column.
 #[inline(always)]
 fn are_digits(digits: u8x16) -> bool
-    ensures { IsTrue result → AreWithin LIMITS digits }
+    ensures { IsTrue result ↔ AreWithin LIMITS digits }
 {
     digits.simd_gt(u8x16::from_array(LIMITS)).to_bitmask() == 0
 }
@@ -167,13 +179,14 @@ fn size_of(digits: u8x16) -> u64
     high * 100_000_000 + low
 }
 
-/// Returns the value whose columns these are, with the LLI and SSI columns that they have, if there
-/// is one of this row.
+/// Returns the value whose columns these are, with the LLI and SSI columns that they have, or None
+/// if they are those of no value. The row is that of the columns.
 #[inline(always)]
 fn value_in_row(columns: u8x16, row: usize) -> Option<Thousandths>
-    requires { row < 32 }
-    ensures { IfSome result (λ v. FitsColumns v
-        × (columns ≡ field (Some v) (slice_index columns 14) (slice_index columns 15))) }
+    requires few { row < 32 }
+    requires row { row ≡ field_row columns }
+    ensures { ReadsExactly FitsColumns (λ v. field (Some v) (slice_index columns 14) (slice_index columns 15))
+        columns result }
 {
     let digits = columns - template_in(row);
     if !are_digits(digits) {
@@ -199,6 +212,29 @@ pub(crate) fn is_blank_at(text: &[u8], at: usize) -> bool
     word_at(text, at) == BLANKS && word_at(text, at + 8) == BLANKS
 }
 
+/// Returns the number of blanks before the first other column.
+#[inline(always)]
+fn blanks_in(columns: u8x16) -> usize
+    ensures count { result ≡ prefix_len (λ b. b == 32) columns }
+    ensures most { result ≤ 16 }
+{
+    let written = columns.simd_ne(u8x16::splat(b' ')).to_bitmask();
+    if written == 0 {
+        16
+    } else {
+        written.trailing_zeros() as usize
+    }
+}
+
+/// Returns the row of columns with this number of blanks before the first other one.
+#[inline(always)]
+fn row_from(empty: usize, first: u8) -> usize
+    requires { empty < 16 }
+    ensures { result ≡ field_row_with empty first }
+{
+    if first == b'-' { empty + 16 } else { empty }
+}
+
 /// Returns the value of the field in these columns, with these LLI and SSI columns if there is a
 /// value, or None if they are not as they are written.
 #[inline(always)]
@@ -209,24 +245,21 @@ pub(crate) fn field_in(
     strength: u8,
 ) -> Option<Option<Thousandths>>
     requires { at + 16 ≤ length text.now }
-    ensures { IfSome result (λ v. IfSome v FitsColumns × (take 16 (drop at text.now) ≡ field v lost strength)) }
+    ensures { ReadsExactly (λ v. IfSome v FitsColumns) (λ v. field v lost strength)
+        (take 16 (drop at text.now)) result }
 {
     let columns = u8x16::from_slice(&text[at..at + 16]);
-    let blanks = columns.simd_eq(u8x16::splat(b' ')).to_bitmask();
-    if blanks == 0xFFFF {
+    let empty = blanks_in(columns);
+    if empty == 16 {
         return Some(None);
     }
-    // With any other row than that of the columns no value is found.
-    let empty = blanks.trailing_ones() as usize % 16;
-    let row = if text[at + empty] == b'-' {
-        empty + 16
-    } else {
-        empty
-    };
-    if text[at + 14] != lost || text[at + 15] != strength {
+    if text[at + 14] != lost {
         return None;
     }
-    match value_in_row(columns, row) {
+    if text[at + 15] != strength {
+        return None;
+    }
+    match value_in_row(columns, row_from(empty, text[at + empty])) {
         Some(value) => Some(Some(value)),
         None => None,
     }

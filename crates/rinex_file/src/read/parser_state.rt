@@ -1,6 +1,6 @@
 //! The state of the parser of a file: what the next line has to fit, and counts. It doesn't grow
 //! with the file.
-ghost use Rattle.std.specs.Prelude.{◌≡◌, ◌<◌, ◌≤◌, ◌^◌, ◌↔◌, [], None, IsTrue, length};
+ghost use Rattle.std.specs.Prelude.{◌≡◌, ◌<◌, ◌≤◌, ◌^◌, ◌↔◌, [], None, IsTrue};
 ghost use Rattle.rinex_file.specs.Value.{FileValue};
 ghost use Rattle.gnss_obs.specs.declared.cell.StationValues.{StationValues};
 ghost use Rattle.rinex_file.specs.FileValues.{IsFileValue, rank_of};
@@ -9,7 +9,6 @@ ghost use Rattle.rinex_file.specs.Read.Progress.{HasLinesLeft, epoch_after};
 ghost use Rattle.rinex_file.specs.ParserState.{History, HasRoom, FollowsHistory, TakesLine};
 ghost use Rattle.rinex_file.specs.ParserState.{nothing, progress_at};
 ghost use Rattle.rinex_file.specs.Read.Sound.{AreLinesOf, AreRead, MayBegin};
-ghost use Rattle.rinex_file.specs.Limits.{most_line};
 
 use crate::read::epoch::read_epoch_line;
 use crate::read::expected::{Added, Expected, Refusal};
@@ -84,7 +83,6 @@ impl ParserState {
     pub(crate) fn take(&mut self, line: &[u8], again: &mut Line) -> Result<Added, Refusal>
         requires history { (h : History) × FollowsHistory self.old h }
         requires room { HasRoom self.old (2 ^ 40) }
-        requires short { length line.now ≤ most_line }
         ensures { TakesLine self.old self.new line.now result }
     {
         match self.expected {
@@ -106,7 +104,7 @@ impl ParserState {
             },
             Expected::EventHeight(position) => self.take_height(position, line),
             Expected::EventEpoch(values) => self.take_epoch(Some(values), line, again),
-            Expected::Satellite(left) => self.take_satellite(left, line, again),
+            Expected::Satellite(left) => self.take_satellite(left, line),
         }
     }
 
@@ -176,21 +174,15 @@ impl ParserState {
     }
 
     /// Processes the line of a satellite, of which this number is left.
-    fn take_satellite(
-        &mut self,
-        left: usize,
-        line: &[u8],
-        again: &mut Line,
-    ) -> Result<Added, Refusal>
+    fn take_satellite(&mut self, left: usize, line: &[u8]) -> Result<Added, Refusal>
         requires history { (h : History) × FollowsHistory self.old h }
         requires room { HasRoom self.old (2 ^ 40) }
         requires expected { self.old.expected ≡ Expected.Satellite left }
-        requires short { length line.now ≤ most_line }
         ensures { TakesLine self.old self.new line.now result }
     {
         let gps = self.head.planned(System::Gps);
         let galileo = self.head.planned(System::Galileo);
-        let is_read = read_seen(line, again, gps, galileo, &mut self.seen);
+        let is_read = read_seen(line, gps, galileo, &mut self.seen);
         let rank = rank_of(&self.seen);
         if !is_read || rank <= self.rank {
             return Err(Refusal::Bad);

@@ -1,121 +1,28 @@
-//! The line of a satellite, read back: its fields are judged where they are. A line that isn't seen
-//! to be as it is written is read, written again and compared.
-ghost use Rattle.std.specs.Prelude.{◌≡◌, ◌↔◌, ℕ, ◌+◌, ◌-◌, ◌*◌, ◌%◌, ◌≤◌, ◌<◌, List, [], ◌∷◌, ◌++◌, replicate};
-ghost use Rattle.std.specs.Prelude.{length, drop, pos, None, Some, IfSome, IsTrue};
+//! The line of a satellite, read back: its columns are judged where they are.
+ghost use Rattle.std.specs.Prelude.{◌≡◌, ◌↔◌, ℕ, ◌+◌, ◌*◌, ◌%◌, ◌≤◌, ◌<◌, [], ◌∷◌, ◌++◌, flat_map};
+ghost use Rattle.std.specs.Prelude.{length, drop, pos, None, IfSome, IsTrue};
 ghost use Rattle.arrayvec.specs.ArrayVec.{array_vec_len};
 ghost use Rattle.gnss_obs.specs.declared.system.System.{System};
-ghost use Rattle.gnss_obs.specs.Satellites.{satellites};
-ghost use Rattle.rinex_file.specs.FileValues.{IsFrom, AreSignalValues, IsRow, IsSatelliteRow};
+ghost use Rattle.rinex_file.specs.FileValues.{IsFrom, AreSignalValues, IsSatelliteRow};
 ghost use Rattle.rinex_file.specs.Blanks.{IsEnded, filled_to};
 ghost use Rattle.rinex_file.specs.Lines.{satellite_line, signal_text, lli_byte};
 ghost use Rattle.rinex_file.specs.Numbers.{padded};
 ghost use Rattle.rinex_file.specs.Value.{no_signal_values};
 ghost use Rattle.rinex_file.specs.Read.Fields.{ReadsExactly, some_if};
-ghost use Rattle.rinex_file.specs.Read.Row.{signal_values_in, satellite_row_in, AreWritten, signal_from, last_signal};
-ghost use Rattle.rinex_file.specs.Limits.{most_line, signal_columns, most_signals};
+ghost use Rattle.rinex_file.specs.Read.Row.{AreEntries, IsRowOf, signal_from, last_signal};
+ghost use Rattle.rinex_file.specs.Limits.{signal_columns, most_signals};
 
-use crate::read::columns::value_in;
 use crate::read::fields::{field_in, is_blank_at};
-use crate::read::numbers::{digits_in, is_same};
 use crate::values::{KeptSatellite, SignalValues};
-use crate::write::numbers::{Line, MOST_SIGNALS, SIGNAL_COLUMNS, put, put_blanks};
-use crate::write::satellite::{letter_of, satellite_text, strength_column};
+use crate::write::numbers::{MOST_SIGNALS, SIGNAL_COLUMNS};
+use crate::write::satellite::{letter_of, strength_column};
 use arrayvec::ArrayVec;
 use gnss_obs::{System, Thousandths};
-
-/// The smallest and the largest value that fit 14 columns, in thousandths.
-const LEAST_VALUE: i64 = -999_999_999_999;
-
-const MOST_VALUE: i64 = 9_999_999_999_999;
-
-/// Returns the values in the 64 columns of a signal.
-#[tactic(auto, unfolding(crate::specs::Read::Row::signal_values_in))]
-fn signal_values_in(text: &[u8]) -> SignalValues
-    requires { signal_columns ≤ length text.now }
-    ensures { result ≡ signal_values_in text.now }
-{
-    SignalValues {
-        c: value_in(text),
-        l: value_in(&text[16..]),
-        d: value_in(&text[32..]),
-        s: value_in(&text[48..]),
-        lli: digits_in(&text[30..31]) as u8,
-    }
-}
-
-/// Reads the satellite in a line that was padded with blanks.
-fn put_seen_in(system: System, text: &[u8], signals: usize, seen: &mut KeptSatellite)
-    requires few { signals ≤ most_signals }
-    requires room { 3 + signal_columns * signals ≤ length text.now }
-    ensures { seen.new ≡ satellite_row_in system signals text.now }
-{
-    seen.signal_values.clear();
-    for i in 0..signals {
-        let at = 3 + SIGNAL_COLUMNS * i;
-        seen.signal_values
-            .push(signal_values_in(&text[at..at + SIGNAL_COLUMNS]));
-    }
-    seen.system = system;
-    seen.satellite = digits_in(&text[1..3]) as u8;
-}
-
-/// Returns whether a value is from `low` to `high` thousandths, or is absent.
-fn is_from(value: Option<Thousandths>, low: i64, high: i64) -> bool
-    ensures { IsTrue result ↔ IfSome value (IsFrom low high) }
-{
-    match value {
-        None => true,
-        Some(v) => low <= v.value() && v.value() <= high,
-    }
-}
-
-/// Returns whether values and indicator may be those of a signal: only a phase has a loss-of-lock
-/// indicator.
-fn is_signal_values(entry: &SignalValues) -> bool
-    ensures { IsTrue result ↔ AreSignalValues entry.now }
-{
-    let c = is_from(entry.c, LEAST_VALUE, MOST_VALUE);
-    let l = is_from(entry.l, LEAST_VALUE, MOST_VALUE);
-    let d = is_from(entry.d, LEAST_VALUE, MOST_VALUE);
-    let s = is_from(entry.s, 1, 99_999);
-    let lli = entry.lli == 0 || (entry.lli < 4 && entry.l.is_some());
-    c && l && d && s && lli
-}
-
-/// Returns whether a system with this number of satellites and of planned signals can have this
-/// row.
-fn is_row(seen: &KeptSatellite, most: u8, signals: usize) -> bool
-    ensures { IsTrue result ↔ IsRow most signals seen.now.row }
-{
-    let entries = seen.signal_values.as_slice();
-    let mut some = false;
-    for entry in entries {
-        if !is_signal_values(entry) {
-            return false;
-        }
-        some |= entry.has_value();
-    }
-    1 <= seen.satellite && seen.satellite <= most && entries.len() == signals && some
-}
-
-/// Writes the line without its line feed, padded with blanks, to the buffer.
-fn fill(text: &[u8], signals: usize, filled: &mut Line)
-    requires short { length text.now ≤ most_line }
-    requires few { signals ≤ most_signals }
-    ensures text { (t : List ℕ) → text.now ≡ t ++ 10 ∷ []
-        → filled.new.items ≡ t ++ replicate (3 + signal_columns * signals - length t) 32 }
-    ensures room { 3 + signal_columns * signals ≤ array_vec_len filled.new }
-{
-    filled.clear();
-    put(filled, &text[..text.len().saturating_sub(1)]);
-    let blanks = (3 + SIGNAL_COLUMNS * signals).saturating_sub(filled.len());
-    put_blanks(filled, blanks);
-}
 
 /// Returns the loss-of-lock indicator in the LLI column of a phase, or None if it is no such
 /// column.
 fn lli_in(column: u8) -> Option<u8>
-    ensures { IfSome result (λ n. (n < 4) × (lli_byte n ≡ column)) }
+    ensures { ReadsExactly (λ n. n < 4) (λ n. lli_byte n ∷ []) (column ∷ []) result }
 {
     match column {
         b' ' => Some(0),
@@ -124,13 +31,23 @@ fn lli_in(column: u8) -> Option<u8>
     }
 }
 
-/// Returns whether strength and indicator may be those of a signal.
+/// Returns whether this is a strength from 0.001 to 99.999 dB-Hz, or none.
+fn is_strength(value: Option<Thousandths>) -> bool
+    ensures { IsTrue result ↔ IfSome value (IsFrom (pos 1) (pos 99_999)) }
+{
+    match value {
+        None => true,
+        Some(v) => 1 <= v.value() && v.value() <= 99_999,
+    }
+}
+
+/// Returns whether strength and indicator may be those of a signal: only a phase has a loss-of-lock
+/// indicator.
 fn is_plausible(entry: &SignalValues) -> bool
     ensures { IsTrue result
-        → IfSome entry.now.s (IsFrom (pos 1) (pos 99_999)) × (entry.now.l ≡ None → entry.now.lli ≡ 0) }
+        ↔ (IfSome entry.now.s (IsFrom (pos 1) (pos 99_999)) × (entry.now.l ≡ None → entry.now.lli ≡ 0)) }
 {
-    let s = is_from(entry.s, 1, 99_999);
-    s && (entry.lli == 0 || entry.l.is_some())
+    is_strength(entry.s) && (entry.lli == 0 || entry.l.is_some())
 }
 
 /// Returns whether the columns of a signal are blank.
@@ -151,15 +68,22 @@ fn is_blank(text: &[u8]) -> bool
     is_blank_at(text, 48)
 }
 
+/// Returns the values of a signal that wasn't observed.
+fn no_values() -> SignalValues
+    ensures { result ≡ no_signal_values }
+{
+    SignalValues::default()
+}
+
 /// Returns the values of a signal, or None if the columns are not as these values are written.
 #[inline(always)]
 fn written_in(text: &[u8]) -> Option<SignalValues>
     requires { length text.now ≡ signal_columns }
-    ensures { IfSome result (λ e. AreSignalValues e × (text.now ≡ signal_text e)) }
+    ensures { ReadsExactly AreSignalValues signal_text text.now result }
 {
     // Most signals of a plan of many are blank.
     if is_blank(text) {
-        return Some(SignalValues::default());
+        return Some(no_values());
     }
     let s = field_in(text, 48, b' ', b' ')?;
     let strength = strength_column(&s);
@@ -216,17 +140,17 @@ fn columns_at<'a>(text: &'a [u8], last: &'a [u8; SIGNAL_COLUMNS], at: usize) -> 
 fn written_at(text: &[u8], last: &[u8; SIGNAL_COLUMNS], at: usize) -> Option<SignalValues>
     requires last { last.now ≡ last_signal text.now }
     requires at { at % signal_columns ≡ 0 }
-    ensures { IfSome result (λ e. AreSignalValues e × (signal_from at text.now ≡ signal_text e)) }
+    ensures { ReadsExactly AreSignalValues signal_text (signal_from at text.now) result }
 {
     // The blanks at the end of a line were cut.
     if at >= text.len() {
-        return Some(SignalValues::default());
+        return Some(no_values());
     }
     written_in(columns_at(text, last, at))
 }
 
 /// Reads the signals in a text with these last columns, one for each of the values. Returns whether
-/// the columns are as the values are written, of which there are some.
+/// the columns are as values are written, of which there are some.
 // Inlined, each load of columns would follow a test of where they are: 4 % more for `check_file`.
 #[inline(never)]
 fn put_each_in(text: &[u8], last: &[u8; SIGNAL_COLUMNS], values: &mut [SignalValues]) -> bool
@@ -234,8 +158,8 @@ fn put_each_in(text: &[u8], last: &[u8; SIGNAL_COLUMNS], values: &mut [SignalVal
     requires few { length values.old ≤ most_signals }
     requires room { length text.now ≤ signal_columns * length values.old }
     ensures size { length values.new ≡ length values.old }
-    ensures written { IsTrue result → AreWritten (length values.old)
-        (filled_to (signal_columns * length values.old) text.now) values.new }
+    ensures read { ReadsExactly (AreEntries (length values.old)) (flat_map signal_text)
+        (filled_to (signal_columns * length values.old) text.now) (some_if result values.new) }
 {
     let mut some = false;
     for i in 0..values.len() {
@@ -262,7 +186,7 @@ fn resize(values: &mut ArrayVec<SignalValues, MOST_SIGNALS>, signals: usize)
 }
 
 /// Reads the signals in a text whose blanks at the end were cut. Returns whether the columns are as
-/// the values are written, of which there are some.
+/// values are written, of which there are some.
 #[inline(always)]
 fn put_written_in(
     text: &[u8],
@@ -271,7 +195,8 @@ fn put_written_in(
 ) -> bool
     requires few { signals ≤ most_signals }
     requires room { length text.now ≤ signal_columns * signals }
-    ensures { IsTrue result → AreWritten signals (filled_to (signal_columns * signals) text.now) values.new.items }
+    ensures { ReadsExactly (AreEntries signals) (flat_map signal_text)
+        (filled_to (signal_columns * signals) text.now) (some_if result values.new.items) }
 {
     resize(values, signals);
     let last = last_columns(text);
@@ -280,7 +205,7 @@ fn put_written_in(
 
 /// Returns the number in two columns, or None if they are not two digits.
 fn two_digits_in(tens: u8, ones: u8) -> Option<u8>
-    ensures { IfSome result (λ n. (n < 100) × (padded 2 n ≡ tens ∷ ones ∷ [])) }
+    ensures { ReadsExactly (λ n. n < 100) (padded 2) (tens ∷ ones ∷ []) result }
 {
     if tens < b'0' || tens > b'9' {
         return None;
@@ -291,20 +216,18 @@ fn two_digits_in(tens: u8, ones: u8) -> Option<u8>
     Some((tens - b'0') * 10 + (ones - b'0'))
 }
 
-/// Returns whether a line ends in a line feed that doesn't follow a blank.
+/// Returns whether a line ends in a line feed that follows another byte than a blank.
 fn is_ended(line: &[u8]) -> bool
-    ensures { IsTrue result → IsEnded line.now }
+    ensures { IsTrue result ↔ IsEnded line.now }
 {
     let end = line.len();
     end >= 2 && line[end - 1] == b'\n' && line[end - 2] != b' '
 }
 
-/// Reads the satellite of this system in a line. Returns whether the line was seen to be that of
-/// the satellite: if not, it may still be.
-fn put_judged(line: &[u8], system: System, signals: usize, seen: &mut KeptSatellite) -> bool
+/// Reads the satellite of this system in a line. Returns whether the line is that of one.
+fn read_of(line: &[u8], system: System, signals: usize, seen: &mut KeptSatellite) -> bool
     requires few { signals ≤ most_signals }
-    ensures { IsTrue result → (seen.new.system ≡ system) × IsRow (satellites system) signals seen.new.row
-        × (line.now ≡ satellite_line seen.new) }
+    ensures { ReadsExactly (IsRowOf system signals) satellite_line line.now (some_if result seen.new) }
 {
     if !is_ended(line) {
         return false;
@@ -324,50 +247,15 @@ fn put_judged(line: &[u8], system: System, signals: usize, seen: &mut KeptSatell
     put_written_in(&text[3..], signals, &mut seen.signal_values)
 }
 
-/// Reads the satellite of this system in a line. Returns whether the line is that of one.
-fn read_of(
-    line: &[u8],
-    again: &mut Line,
-    system: System,
-    signals: usize,
-    seen: &mut KeptSatellite,
-) -> bool
-    requires short { length line.now ≤ most_line }
-    requires few { signals ≤ most_signals }
-    ensures { ReadsExactly (λ s. (s.system ≡ system) × IsRow (satellites system) signals s.row) satellite_line line.now
-        (some_if result seen.new) }
-{
-    if put_judged(line, system, signals, seen) {
-        return true;
-    }
-    // No line that was written comes here.
-    fill(line, signals, again);
-    let padded = again.as_slice();
-    put_seen_in(system, padded, signals, seen);
-    if !is_row(seen, system.satellites(), signals) {
-        return false;
-    }
-    let values = seen.signal_values.as_slice();
-    satellite_text(again, seen.system, seen.satellite, values);
-    is_same(again.as_slice(), line)
-}
-
 /// Reads the satellite in a line, given the number of planned signals of each system. Returns
 /// whether the line is that of a satellite.
-pub(crate) fn read_seen(
-    line: &[u8],
-    again: &mut Line,
-    gps: usize,
-    galileo: usize,
-    seen: &mut KeptSatellite,
-) -> bool
-    requires short { length line.now ≤ most_line }
+pub(crate) fn read_seen(line: &[u8], gps: usize, galileo: usize, seen: &mut KeptSatellite) -> bool
     requires few { (gps ≤ most_signals) × (galileo ≤ most_signals) }
     ensures { ReadsExactly (IsSatelliteRow gps galileo) satellite_line line.now (some_if result seen.new) }
 {
     match line.first() {
-        Some(b'G') => read_of(line, again, System::Gps, gps, seen),
-        Some(b'E') => read_of(line, again, System::Galileo, galileo, seen),
+        Some(b'G') => read_of(line, System::Gps, gps, seen),
+        Some(b'E') => read_of(line, System::Galileo, galileo, seen),
         _ => false,
     }
 }

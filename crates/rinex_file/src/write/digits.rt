@@ -5,7 +5,7 @@ ghost use Rattle.std.specs.Int.{to_le_bytes, w64};
 ghost use Rattle.rinex_file.specs.Numbers.{padded};
 ghost use Rattle.rinex_file.specs.Words.{word, eight_digits, front_word, last_columns};
 
-use crate::read::columns::word_at;
+use crate::read::fields::word_at;
 
 /// The two digits of each number below 100.
 const PAIRS: [u8; 200] = *b"000102030405060708091011121314151617181920212223242526272829\

@@ -1,7 +1,16 @@
-use Rattle.std.proofs.Common.{arith}
-use Rattle.std.proofs.lemmas.Grind.{common_steps}
-use Rattle.rinex_file.proofs.WrittenRow.{ended}
+use Rattle.std.proofs.Common.{arith, ◌≡◌, ◌∙◌, sym, ℕ, ◌<◌, true}
+use Rattle.std.specs.Prelude.{leb}
+use Rattle.std.proofs.lemmas.Bool.{eqb-true, leb-true}
+use Rattle.rinex_file.proofs.WrittenRow.{ends}
 use Rattle.rinex_file.proofs.read.row.is_ended.Goals as goal
+use Rattle.rinex_file.proofs.read.row.is_ended.Goals.{then-end-ge2, else-end-ge2}
+
+no_less : (n : ℕ) → n < 2 → leb 2 n ≡ true → ⊥
+no_less n less is = let low = leb-true 2 n is in omega (arith, less, low)
 
 pub returns-then-line-end-eq10 : goal.returns-then-line-end-eq10
-returns-then-line-end-eq10 c = grind (arith, common_steps, ended)
+returns-then-line-end-eq10 c =
+    elim c.if-end-ge2.branch [
+      | then-end-ge2 w ↦ ends c.args.line.now w.if-end-ge2.true (eqb-true _ _ (sym w.value-is ∙ c.if-line-end-eq10.true))
+      | else-end-ge2 w ↦ absurd (no_less _ w.if-end-ge2.false (sym w.value-is ∙ c.if-line-end-eq10.true))
+    ]

@@ -1,10 +1,12 @@
-use Rattle.std.proofs.Common.{arith, ◌≡◌, ◌∙◌, refl, sym, subst, ◌+◌, ◌*◌, ◌<◌, take, length, [], ◌∷◌, ◌++◌, All, slice_set}
+use Rattle.std.proofs.Common.{arith, ◌≡◌, ◌∙◌, refl, sym, subst, ◌+◌, ◌*◌, ◌<◌, take, length, [], ◌∷◌, ◌++◌, All, slice_set, ap, get_or, drop}
 use Rattle.std.proofs.lemmas.List.{take_more_set}
 use Rattle.std.proofs.lemmas.List.Elements.{All-push}
 use Rattle.rinex_file.specs.FileValues.{AreSignalValues}
 use Rattle.rinex_file.specs.Blanks.{filled_to}
 use Rattle.rinex_file.proofs.WrittenRow.{signals_more, some_more}
-use Rattle.rinex_file.proofs.CutColumns.{filled_part, all_cut}
+use Rattle.rinex_file.proofs.CutColumns.{filled_part, all_read}
+use Rattle.rinex_file.proofs.OneReading.{signal_at}
+use Rattle.rinex_file.specs.Value.{no_signal_values}
 use Rattle.rinex_file.proofs.read.row.put_each_in.Goals as goal
 
 pub loop-i-preserved : goal.loop-i-preserved
@@ -24,7 +26,16 @@ loop-i-preserved c =
           (filled_part (64 * n) (64 * i) text (omega (arith, c.loop-i-test.true)) c.requires.room ∙ c.in-Some.ensures.1);
     }
 
-pub returns-clause-written : goal.returns-clause-written
-returns-clause-written c = λ held.
-    all_cut (length c.args.values.now) c.loop-i.i c.args.text.now c.loop-i.values c.loop-i.some c.loop-i.auto.values c.loop-i-test.false c.requires.room c.loop-i.invariant.each
-    c.loop-i.invariant.some c.loop-i.invariant.text held
+pub returns-in-None-clause-read : goal.returns-in-None-clause-read
+returns-in-None-clause-read c = λ es are shows.
+    let n = length c.args.values.now in
+    let i = c.loop-i.i in
+    let text = c.args.text.now in
+    let (is, at) = signal_at es i are.each (omega (arith, c.loop-i-test.true, are.whole)) in
+    c.in-None.ensures (get_or es i no_signal_values) is
+    (sym (filled_part (64 * n) (64 * i) text (omega (arith, c.loop-i-test.true)) c.requires.room) ∙ ap (λ t. take 64 (drop (64 * i) t)) shows ∙ at)
+
+pub returns-clause-read : goal.returns-clause-read
+returns-clause-read c =
+    all_read (length c.args.values.now) c.loop-i.i c.args.text.now c.loop-i.values c.loop-i.some c.loop-i.auto.values c.loop-i-test.false c.requires.room c.loop-i.invariant.each
+    c.loop-i.invariant.some c.loop-i.invariant.text

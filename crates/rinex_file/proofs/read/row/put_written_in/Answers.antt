@@ -2,7 +2,10 @@ use Rattle.std.proofs.Common.{arith, ◌≡◌, ◌∙◌, sym, ap, subst, ℕ, 
 use Rattle.std.proofs.lemmas.List.{take_all, drop_all}
 use Rattle.rinex_file.specs.Value.{SignalValues}
 use Rattle.rinex_file.specs.Blanks.{filled_to}
-use Rattle.rinex_file.specs.Read.Row.{AreWritten}
+use Rattle.std.specs.Prelude.{flat_map}
+use Rattle.rinex_file.specs.Lines.{signal_text}
+use Rattle.rinex_file.specs.Read.Fields.{ReadsExactly, some_if}
+use Rattle.rinex_file.specs.Read.Row.{AreEntries}
 use Rattle.rinex_file.proofs.read.row.put_written_in.Goals as goal
 
 -- a list after all its elements were lent
@@ -12,10 +15,13 @@ lent old new size =
     ∙ ap (take (length old)) (append-nil new) ∙ take_all (length old) new (omega (arith, size))
 
 pub returns : goal.returns
-returns c = λ held.
+returns c =
+    let signals = c.args.signals in
     let text = c.args.text.now in
     let old = c.resize.new.values.items in
     let new = c.put_each_in.new.values in
-    let count : length c.as_mut_slice.result.now ≡ c.args.signals = ap length c.as_mut_slice.ensures.value ∙ c.resize.ensures in
-    subst (AreWritten c.args.signals (filled_to (64 * c.args.signals) text)) (sym (lent old new (c.put_each_in.ensures.size ∙ ap length c.as_mut_slice.ensures.value)))
-    (subst (λ (n : ℕ). AreWritten n (filled_to (64 * n) text) new) count (c.put_each_in.ensures.written held))
+    let all = c.put_each_in.result in
+    let count : length c.as_mut_slice.result.now ≡ signals = ap length c.as_mut_slice.ensures.value ∙ c.resize.ensures in
+    subst (λ (es : List SignalValues). ReadsExactly (AreEntries signals) (flat_map signal_text) (filled_to (64 * signals) text) (some_if all es))
+    (sym (lent old new (c.put_each_in.ensures.size ∙ ap length c.as_mut_slice.ensures.value)))
+    (subst (λ (n : ℕ). ReadsExactly (AreEntries n) (flat_map signal_text) (filled_to (64 * n) text) (some_if all new)) count c.put_each_in.ensures.read)

@@ -1,60 +1,75 @@
-use Rattle.std.proofs.Common.{arith, ◌≡◌, ◌∙◌, ◌↔◌, sym, ap, subst, ℕ, ◌+◌, ◌-◌, ◌*◌, List, [], ◌∷◌, ◌++◌, length, take, replicate, Bool, true, false, IsTrue, refl}
+use Rattle.std.proofs.Common.{arith, ◌≡◌, ◌∙◌, sym, ap, refl, subst, ℕ, ◌*◌, ◌≤◌, List, Bool, true, false, take}
+use Rattle.std.specs.Prelude.{flat_map}
+use Rattle.std.proofs.lemmas.List.{take_rest}
 use Rattle.gnss_obs.specs.declared.system.System.{System}
 use Rattle.gnss_obs.specs.Satellites.{satellites}
-use Rattle.rinex_file.specs.FileValues.{IsRow}
-use Rattle.rinex_file.specs.Lines.{satellite_line}
-use Rattle.rinex_file.specs.Read.Fields.{ReadsExactly, some_if}
-use Rattle.rinex_file.specs.Read.Row.{satellite_row_in}
-use Rattle.rinex_file.specs.Value.{SignalValues, SatelliteRow, satellite_row}
+use Rattle.rinex_file.specs.Value.{SatelliteRow}
+use Rattle.rinex_file.specs.Lines.{letter_of, satellite_line, signal_text}
 use Rattle.rinex_file.specs.Blanks.{filled_to}
+use Rattle.rinex_file.specs.Read.Fields.{ReadsExactly, some_if}
+use Rattle.rinex_file.specs.Read.Row.{AreEntries, IsRowOf}
 use Rattle.rinex_file.proofs.Judged.{refused}
-use Rattle.rinex_file.proofs.CutColumns.{filled_line}
-use Rattle.rinex_file.proofs.RowText.{seen_in-line, all_values_fit}
+use Rattle.rinex_file.proofs.CutColumns.{cut_line_is}
+use Rattle.rinex_file.proofs.OneReading.{IsTextOf, line_ended, line_once, text_of_line}
 use Rattle.rinex_file.proofs.read.row.read_of.Goals as goal
-use Rattle.rinex_file.proofs.read.row.read_of.Goals.{After-put_seen_in}
+use Rattle.rinex_file.proofs.read.row.read_of.Goals.{After-saturating_sub}
+use Rattle.rinex_file.proofs.read.row.read_of.Goals.{then-text-lt3-via-then-text-lt3, then-text-lt3-via-else-text-lt3+then-text-signals}
+use Rattle.rinex_file.proofs.read.row.read_of.Goals.{then-text-letter_of-via-then-text-letter_of, then-text-letter_of-via-else-text-letter_of+then-id-eq0, then-text-letter_of-via-else-text-letter_of+else-id-eq0+then-id-satellites}
 
--- what was read from the line of a satellite is this satellite
-found : (c : After-put_seen_in) (v : SatelliteRow) → v.system ≡ c.args.system → IsRow (satellites c.args.system) c.args.signals v.row → c.args.line.now ≡ satellite_line v → c.put_seen_in.new.seen ≡ v
-found c v same is e =
-    c.put_seen_in.ensures ∙ ap (satellite_row_in c.args.system c.args.signals) c.as_slice-padded.ensures.value
-    ∙ seen_in-line c.args.system c.args.signals v c.args.line.now _ same is e c.fill.ensures.text
+pub returns-then-not-is_ended : goal.returns-then-not-is_ended
+returns-then-not-is_ended c = λ v is e. refused c.is_ended.result _ c.is_ended.ensures c.if-not-is_ended.true (line_ended v c.args.line.now e)
 
-pub returns-then-not-is_row : goal.returns-then-not-is_row
-returns-then-not-is_row c = λ v is e.
-    let same = found ((goal.at.returns-then-not-is_row c).After-put_seen_in) v is.0 is.1 e in
-    let row = subst (λ (n : ℕ). IsRow n c.args.signals v.row) (sym c.satellites.ensures.value) is.1 in
-    refused c.is_row.result _ c.is_row.ensures c.if-not-is_row.true (subst (λ (s : SatelliteRow). IsRow c.satellites.result c.args.signals s.row) (sym same) row)
+-- the parts of the line of a satellite
+parts : (c : After-saturating_sub) (v : SatelliteRow) → IsRowOf c.args.system c.args.signals v → c.args.line.now ≡ satellite_line v → IsTextOf (take c.saturating_sub.result c.args.line.now) c.args.signals v
+parts c v is e =
+    subst (λ (t : List ℕ). IsTextOf t c.args.signals v) (sym (ap (λ (k : ℕ). take k c.args.line.now) c.saturating_sub.ensures)) (text_of_line c.args.system c.args.signals v c.args.line.now is e)
 
--- a satellite of this system
-abbrev IsOf : System → ℕ → SatelliteRow → Type 0
-IsOf system signals s = (s.system ≡ system) × IsRow (satellites system) signals s.row
+pub returns-then-text-lt3 : goal.returns-then-text-lt3
+returns-then-text-lt3 c = λ v is e.
+    let p = parts ((goal.at.returns-then-text-lt3 c).After-saturating_sub) v is e in
+    elim c.then-text-lt3.branch [
+      | then-text-lt3-via-then-text-lt3 w ↦ let less = w.if-text-lt3.true in omega (arith, less, p.long)
+      | then-text-lt3-via-else-text-lt3+then-text-signals w ↦ let more = w.if-text-signals.true in omega (arith, more, p.short)
+    ]
 
--- the line is that of a satellite if and only if it is the line of what was read
-compared : (b : Bool) (system : System) (signals : ℕ) (line again : List ℕ) (seen : SatelliteRow) → (IsTrue b ↔ (again ≡ line)) → again ≡ satellite_line seen → IsOf system signals seen
-    → ((v : SatelliteRow) → v.system ≡ system → IsRow (satellites system) signals v.row → line ≡ satellite_line v → seen ≡ v) → ReadsExactly (IsOf system signals) satellite_line line (some_if b seen)
-compared true system signals line again seen same text is found = (is, sym (same.0 refl) ∙ text, λ w also e. sym (found w also.0 also.1 e))
-compared false system signals line again seen same text is found = grind (arith, refused, found)
+pub returns-in_default : goal.returns-in_default
+returns-in_default c = λ v is e.
+    let p = parts ((goal.at.returns-in_default c).After-saturating_sub) v is e in
+    c.in_default.ensures v.row.satellite p.small p.number
+
+pub returns-then-text-letter_of : goal.returns-then-text-letter_of
+returns-then-text-letter_of c = λ v is e.
+    let p = parts ((goal.at.returns-then-text-letter_of c).After-saturating_sub) v is e in
+    let id = c.in-Some.ensures.2 v.row.satellite p.small p.number in
+    let (least, most) = is.1.satellite in
+    elim c.then-text-letter_of.branch [
+      | then-text-letter_of-via-then-text-letter_of w ↦ w.if-text-letter_of.true (p.letter ∙ ap letter_of is.0 ∙ sym c.letter_of.ensures)
+      | then-text-letter_of-via-else-text-letter_of+then-id-eq0 w ↦ let none = w.if-id-eq0.true in omega (arith, none, id, least)
+      | then-text-letter_of-via-else-text-letter_of+else-id-eq0+then-id-satellites w ↦
+          let more = w.if-id-satellites.true in
+          let count = w.satellites.ensures.value in
+          omega (arith, more, count, id, most)
+    ]
+
+-- the line of a satellite is read if its columns are
+row_read : (all : Bool) (system : System) (signals : ℕ) (line columns : List ℕ) (seen : SatelliteRow) → seen.system ≡ system → (1 ≤ seen.row.satellite) × (seen.row.satellite ≤ satellites system)
+    → (columns ≡ flat_map signal_text seen.row.signal_values → line ≡ satellite_line seen)
+    → ((v : SatelliteRow) → IsRowOf system signals v → line ≡ satellite_line v → columns ≡ flat_map signal_text v.row.signal_values)
+    → ReadsExactly (AreEntries signals) (flat_map signal_text) columns (some_if all seen.row.signal_values) → ReadsExactly (IsRowOf system signals) satellite_line line (some_if all seen)
+row_read true system signals line columns seen same number shown columns_of (are, is, only) =
+    let row : IsRowOf system signals seen = (same, record { satellite = number; signal_values = are.each; whole = are.whole; some = are.some }) in
+    (row, shown is, λ v also e. line_once system signals v seen line also row e (shown is))
+row_read false system signals line columns seen same number shown columns_of none = λ v is e.
+    none v.row.signal_values (record { each = is.1.signal_values; whole = is.1.whole; some = is.1.some }) (columns_of v is e)
 
 pub returns : goal.returns
 returns c =
-    let row = subst (λ (n : ℕ). IsRow n c.args.signals c.put_seen_in.new.seen.row) c.satellites.ensures.value (c.is_row.ensures.0 c.if-not-is_row.false) in
-    compared c.is_same.result c.args.system c.args.signals c.args.line.now c.as_slice.result.now c.put_seen_in.new.seen c.is_same.ensures
-    (c.as_slice.ensures.value ∙ c.satellite_text.ensures ∙ ap (λ (es : List SignalValues). satellite_line (satellite_row c.seen.inside.system c.seen.inside.satellite es)) c.as_slice-values.ensures.value ∙ ap satellite_line c.seen.view_is)
-    (ap (λ (s : SatelliteRow). s.system) c.put_seen_in.ensures, row)
-    (λ v same is e. found ((goal.at.returns c).After-put_seen_in) v same is e)
-
--- the line of a satellite that was judged is that of no other
-judged : (system : System) (signals : ℕ) (line filled : List ℕ) (seen : SatelliteRow) → ((t : List ℕ) → line ≡ t ++ 10 ∷ [] → filled ≡ t ++ replicate (3 + 64 * signals - length t) 32)
-    → (seen.system ≡ system) × IsRow (satellites system) signals seen.row × (line ≡ satellite_line seen) → ReadsExactly (IsOf system signals) satellite_line line (some_if true seen)
-judged system signals line filled seen fill (same, is, text) =
-    ((same, is), text, λ w also e. sym (seen_in-line system signals w line filled also.0 also.1 e fill) ∙ seen_in-line system signals seen line filled same is text fill)
-
-pub returns-then-put_judged : goal.returns-then-put_judged
-returns-then-put_judged c =
     let line = c.args.line.now in
-    let text = take (length line - 1) line in
-    let width = 3 + 64 * c.args.signals in
-    judged c.args.system c.args.signals line (filled_to width text) c.put_judged.new.seen (λ t is. filled_line line text width t refl is) (c.put_judged.ensures c.if-put_judged.true)
-
-pub satellite_text-requires-clause-room : goal.satellite_text-requires-clause-room
-satellite_text-requires-clause-room c = grind (arith, all_values_fit)
+    let n = 64 * c.args.signals in
+    let text = take c.saturating_sub.result line in
+    let rest = take_rest text 3 in
+    row_read c.put_written_in.result c.args.system c.args.signals line _ _ refl (omega arith, omega arith)
+    (λ is. cut_line_is _ line text _ _ n (c.is_ended.ensures.0 c.if-not-is_ended.false) (ap (λ (k : ℕ). take k line) c.saturating_sub.ensures) (omega arith)
+    (c.if-text-letter_of.false ∙ c.letter_of.ensures) refl refl (sym c.in-Some.ensures.1) (ap (filled_to n) (sym rest) ∙ is))
+    (λ v is e. ap (filled_to n) rest ∙ (parts ((goal.at.returns c).After-saturating_sub) v is e).columns)
+    c.put_written_in.ensures

@@ -2,25 +2,22 @@ use Rattle.std.proofs.Common.{arith, ◌≡◌, ◌≢◌, ◌∙◌, sym, ap, r
 use Rattle.std.specs.Prelude.{slice_get, option_copied}
 use Rattle.gnss_obs.specs.declared.system.System.{System}
 use Rattle.gnss_obs.specs.declared.system.System.TheVariants.{Gps, Galileo}
-use Rattle.gnss_obs.specs.Satellites.{satellites}
 use Rattle.rinex_file.specs.Value.{Row, SatelliteRow}
 use Rattle.rinex_file.specs.FileValues.{IsSatelliteRow, IsRow, of_system}
 use Rattle.rinex_file.specs.Lines.{satellite_line, letter_of}
 use Rattle.rinex_file.specs.Read.Fields.{ReadsExactly}
+use Rattle.rinex_file.specs.Read.Row.{IsRowOf}
 use Rattle.rinex_file.proofs.RowText.{front_line}
 use Rattle.rinex_file.proofs.read.row.read_seen.Goals as goal
-
-abbrev IsOf : System → ℕ → SatelliteRow → Type 0
-IsOf system signals s = (s.system ≡ system) × IsRow (satellites system) signals s.row
 
 -- a row with a value has a signal
 has_signal : (most signals : ℕ) (r : Row) → IsRow most signals r → 0 < signals
 has_signal most signals r is = let (k, d, less, at, value) = is.some in omega (arith, less, is.whole)
 
-is_seen : (gps galileo : ℕ) (system : System) (s : SatelliteRow) → IsOf system (of_system system gps galileo) s → IsSatelliteRow gps galileo s
+is_seen : (gps galileo : ℕ) (system : System) (s : SatelliteRow) → IsRowOf system (of_system system gps galileo) s → IsSatelliteRow gps galileo s
 is_seen gps galileo system s (same, is) = grind (arith, has_signal)
 
-is_of : (gps galileo : ℕ) (system : System) (s : SatelliteRow) → s.system ≡ system → IsSatelliteRow gps galileo s → IsOf system (of_system system gps galileo) s
+is_of : (gps galileo : ℕ) (system : System) (s : SatelliteRow) → s.system ≡ system → IsSatelliteRow gps galileo s → IsRowOf system (of_system system gps galileo) s
 is_of gps galileo system s same is = grind arith
 
 inside : (a b : ℕ) → Some a ≡ Some b → a ≡ b
@@ -38,7 +35,7 @@ first_is line v e = ap (λ l. slice_get l 0) (e ∙ front_line v)
 
 -- if the line begins with the letter of a system, each satellite is one of this system
 of_both : (gps galileo : ℕ) (system : System) (line : List ℕ) (r : Option SatelliteRow) → slice_get line 0 ≡ Some (letter_of system)
-    → ReadsExactly (IsOf system (of_system system gps galileo)) satellite_line line r → ReadsExactly (IsSatelliteRow gps galileo) satellite_line line r
+    → ReadsExactly (IsRowOf system (of_system system gps galileo)) satellite_line line r → ReadsExactly (IsSatelliteRow gps galileo) satellite_line line r
 of_both gps galileo system line None letter read =
     λ v is e. read v (is_of gps galileo system v (one_letter v.system system (inside _ _ (sym (first_is line v e) ∙ letter))) is) e
 of_both gps galileo system line (Some s) letter (is, text, only) =

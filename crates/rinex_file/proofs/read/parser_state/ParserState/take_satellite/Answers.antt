@@ -18,13 +18,13 @@ use Rattle.rinex_file.proofs.FewRows.{some_rank}
 use Rattle.rinex_file.proofs.read.parser_state.ParserState.take_satellite.Goals as goal
 use Rattle.rinex_file.proofs.read.parser_state.ParserState.take_satellite.Goals.{then-not-is_read-via-then-not-is_read, then-not-is_read-via-else-not-is_read+then-rank-self}
 
-pub read_seen-is_read-requires-clause-few : goal.read_seen-is_read-requires-clause-few
-read_seen-is_read-requires-clause-few c =
+pub read_seen-is_read-requires : goal.read_seen-is_read-requires
+read_seen-is_read-requires c =
     let (h, history) = c.requires.history in
     let (gps, galileo) = few_at (progress_at c.args.self.now h) c.args.left c.requires.expected history.sound in
     let g = c.planned-gps.ensures in
     let e = c.planned-galileo.ensures in
-    (omega (arith, gps, g), omega (arith, galileo, e))
+    record { few = (omega (arith, gps, g), omega (arith, galileo, e)) }
 
 -- at least one of the lines is expected
 one_expected : (left : ℕ) (s : Progress) → s.expected ≡ Satellite left → 0 < left → s.expected ≡ Satellite (suc (left - 1))
