@@ -2,8 +2,8 @@
 use Rattle.std.proofs.Common.{arith, ◌≡◌, ◌∙◌, sym, ap, ap₂, refl, subst, ℕ, ℤ, zero, suc, ◌+◌, ◌*◌, ◌-◌, ◌<◌, ◌≤◌, List, [], ◌∷◌, ◌++◌, map, take, drop, length, replicate, get_or, append_assoc, append-nil, length-append, Bool, false, ◌==◌, Option, Some, None, slice_set}
 use Rattle.std.specs.Prelude.{◌&&◌, ◌≢◌, ◌||◌, nat_eq, find, flat_map, position, All, is_some, if◌then◌else◌}
 use Rattle.std.specs.Option.{option_map_or}
-use Rattle.std.specs.List.{IsDistinct, position_or_len, refill}
-use Rattle.std.proofs.lemmas.List.{drop_at, drop_all, take_all, length-drop, drop_more, set_at, length-take-le, length-replicate, length-set, take-append-le, drop-append-le, drop-take, replicate-append-replicate}
+use Rattle.std.specs.List.{IsDistinct, position_or_len}
+use Rattle.std.proofs.lemmas.List.{drop_at, drop_all, length-drop, drop_more, set_at, length-take-le, length-replicate, length-set, take-append-le, drop-append-le, drop-take, replicate-append-replicate}
 use Rattle.std.proofs.lemmas.Bool.{cond_both, and_from, and_right, eq-eqb, ne_eqb, eqb-true, eqb-false}
 use Rattle.std.proofs.lemmas.List.Concat.{flat_map-append}
 use Rattle.std.proofs.lemmas.List.Quantifiers.{position-Some}
@@ -139,15 +139,11 @@ put_signal front line blank values p v l all h within is =
     ∙ ap₂ (λ x y. x ++ y) a (append_assoc (signal_text v) (drop 64 (drop n line)) blank ∙ ap (λ t. signal_text v ++ t) b)
     ∙ append_assoc front (take (64 * p) f) (signal_text v ++ drop 64 (drop (64 * p) f)) ∙ ap (λ t. front ++ t) (replaced values p v all h)
 
--- a buffer that was written through its slice
-pub refilled : (n : ℕ) (xs ws : List ℕ) → n ≡ length ws → length xs ≡ length ws → refill n xs ws ≡ ws
-refilled n xs ws e l = ap₂ (λ k t. take k (ws ++ t)) e (drop_all (length ws) xs (omega (arith, l))) ∙ ap (take (length ws)) (append-nil ws) ∙ take_all (length ws) ws (omega arith)
-
 length-columns_put : (x text : List ℕ) (n : ℕ) → n + 64 ≤ length x → length text ≡ 64 → length (take n x ++ (text ++ drop 64 (drop n x))) ≡ length x
 length-columns_put x text n h l = grind (arith, length-take-le, length-drop, length-append, (length-drop 64 (drop n x) ∙ ap (λ k. k - 64) (length-drop n x)))
 
 -- a line has no more columns than its signals
-pub short_line : (line front : List ℕ) (values : List SignalValues) → length front ≡ 3 → All HaveRoom values → HasSignals line front values → length line ≤ 3 + 64 * length values
+short_line : (line front : List ℕ) (values : List SignalValues) → length front ≡ 3 → All HaveRoom values → HasSignals line front values → length line ≤ 3 + 64 * length values
 short_line line front values l all is =
     let total : length (front ++ flat_map signal_text values) ≡ 3 + 64 * length values = length-append front (flat_map signal_text values) ∙ ap₂ (λ a b. a + b) l (length-signals values all) in
     let parts : length (line ++ replicate (3 + 64 * length values - length line) 32) ≡ length line + (3 + 64 * length values - length line) =
@@ -160,10 +156,21 @@ more_blanks : (line front : List ℕ) (values : List SignalValues) (m : ℕ) →
 more_blanks line front values m is few = grind (arith, length-append, length-replicate, append_assoc, replicate-append-replicate)
 
 -- the columns of a signal are written into a line
-pub put_row : (old x y text front : List ℕ) (others : List SignalValues) (p m k n : ℕ) (v : SignalValues) → length front ≡ 3 → All HaveRoom others → p < length others
-    → HasSignals old front others → HaveRoom v → m ≡ 3 + 64 * p + 64 - length old → x ≡ y → y ≡ old ++ replicate m 32 → text ≡ signal_text v → k ≡ 64 → n ≡ length y
-    → HasSignals (refill n y (take (3 + 64 * p) x ++ (text ++ drop k (drop (3 + 64 * p) x)))) front (slice_set others p v)
-put_row old x y text front others p m k n v l all h is room is_m same is_y is_text is_k is_n = grind (arith, short_line, length-append, length-replicate, length-room, length-columns_put, refilled, more_blanks, length-set, put_signal)
+put_row : (old y text front : List ℕ) (others : List SignalValues) (p m : ℕ) (v : SignalValues) → length front ≡ 3 → All HaveRoom others → p < length others
+    → HasSignals old front others → HaveRoom v → m ≡ 3 + 64 * p + 64 - length old → y ≡ old ++ replicate m 32 → text ≡ signal_text v → 3 + 64 * p + 64 ≤ length y
+    → HasSignals (take (3 + 64 * p) y ++ (text ++ drop 64 (drop (3 + 64 * p) y))) front (slice_set others p v)
+put_row old y text front others p m v l all h is room is_m is_y is_text far =
+    let width = 3 + 64 * length others in
+    let blanks : ℕ = width - length y in
+    let text_size : length text ≡ 64 = ap length is_text ∙ length-room v room in
+    let short = short_line old front others l all is in
+    let size : length y ≡ length old + m = ap length is_y ∙ length-append old (replicate m 32) ∙ ap (λ k. length old + k) (length-replicate m 32) in
+    let before : HasSignals y front others = subst (λ (t : List ℕ). HasSignals t front others) (sym is_y) (more_blanks old front others m is (omega (arith, is_m, short, h))) in
+    let same : length (take (3 + 64 * p) y ++ (text ++ drop 64 (drop (3 + 64 * p) y))) ≡ length y = length-columns_put y text (3 + 64 * p) far text_size in
+    let count : 3 + 64 * length (slice_set others p v) - length (take (3 + 64 * p) y ++ (text ++ drop 64 (drop (3 + 64 * p) y))) ≡ blanks = ap₂ (λ a b. 3 + 64 * a - b) (length-set others p v) same in
+    ap (λ k. (take (3 + 64 * p) y ++ (text ++ drop 64 (drop (3 + 64 * p) y))) ++ replicate k 32) count
+    ∙ ap (λ t. (take (3 + 64 * p) y ++ (t ++ drop 64 (drop (3 + 64 * p) y))) ++ replicate blanks 32) is_text
+    ∙ put_signal front y (replicate blanks 32) others p v l all h far before
 
 -- the first n columns of a row of which 64 are replaced
 first_columns : (row text : List ℕ) (s n : ℕ) → length text ≡ 64 → s + 64 ≤ n → n ≤ length row
@@ -182,14 +189,11 @@ pub put_first : (old row text front : List ℕ) (others : List SignalValues) (p 
     → HasSignals old front others → HaveRoom v → m ≡ 3 + 64 * p + 64 - length old → take n row ≡ old ++ replicate m 32 → text ≡ signal_text v → k ≡ 64 → 3 + 64 * p + 64 ≤ n → n ≤ length row
     → HasSignals (take n (take (3 + 64 * p) row ++ (text ++ drop k (drop (3 + 64 * p) row)))) front (slice_set others p v)
 put_first old row text front others p m k n v l all h is room is_m is_row is_text is_k far within =
-    let y : List ℕ = take n row in
-    let ws : List ℕ = take (3 + 64 * p) y ++ (text ++ drop 64 (drop (3 + 64 * p) y)) in
     let text_size : length text ≡ 64 = ap length is_text ∙ length-room v room in
-    let size : length y ≡ n = length-take-le n row within in
-    let same : length ws ≡ length y = length-columns_put y text (3 + 64 * p) (omega (arith, size, far)) text_size in
+    let size : length (take n row) ≡ n = length-take-le n row within in
     subst (λ (j : ℕ). HasSignals (take n (take (3 + 64 * p) row ++ (text ++ drop j (drop (3 + 64 * p) row)))) front (slice_set others p v)) (sym is_k)
-    (subst (λ (t : List ℕ). HasSignals t front (slice_set others p v)) (refilled n y ws (omega (arith, size, same)) (sym same) ∙ sym (first_columns row text (3 + 64 * p) n text_size far within))
-    (put_row old y y text front others p m 64 n v l all h is room is_m refl is_row is_text refl (sym size)))
+    (subst (λ (t : List ℕ). HasSignals t front (slice_set others p v)) (sym (first_columns row text (3 + 64 * p) n text_size far within))
+    (put_row old (take n row) text front others p m v l all h is room is_m is_row is_text (omega (arith, size, far))))
 
 -- a line and the blanks at its end
 pub trimmed_line : (line front : List ℕ) (values : List SignalValues) → HasSignals line front values → trimmed line ≡ trimmed (front ++ flat_map signal_text values)

@@ -1,7 +1,7 @@
 -- A text whose trailing blanks were cut is restored by padding it.
 use Rattle.std.proofs.Common.{arith, ◌≡◌, ℕ, suc, ◌+◌, ◌-◌, ◌<◌, ◌≤◌, List, [], ◌∷◌, ◌++◌, length, replicate, take, get_or, refl, sym, ap, ◌∙◌, true, false, length-append}
 use Rattle.std.specs.Prelude.{◌==◌, if◌then◌else◌}
-use Rattle.std.proofs.lemmas.List.{nil_from_length, length-replicate, take_all, take_more}
+use Rattle.std.proofs.lemmas.List.{length-replicate, take_all, take_more}
 use Rattle.std.proofs.lemmas.Bool.{eqb-true}
 use Rattle.rinex_file.specs.Blanks.{trimmed, before_cut}
 
@@ -72,10 +72,6 @@ uncut text n size some other =
     let whole : n - 1 + 1 ≡ length text = omega (arith, size, some) in
     let all : take (n - 1 + 1) text ≡ text = ap (λ k. take k text) whole ∙ take_all (length text) text (omega arith) in
     sym all ∙ cut_enough text (n - 1) (omega (arith, size, some)) other ∙ ap trimmed all
-
-pub uncut_none : (text : List ℕ) → length text ≡ 0 → text ≡ trimmed text
-unfolding trimmed
-uncut_none text none = let empty = nil_from_length text none in empty ∙ ap trimmed (sym empty)
 
 in_front : (b : ℕ) (l : List ℕ) → (b ≡ 32 → ⊥) → before_cut b l ≡ b ∷ l
 in_front b l other = grind (arith, before_cut-other)

@@ -6,7 +6,8 @@ ghost use Rattle.std.specs.Prelude.{length, take, drop, replicate, set, slice_in
 ghost use Rattle.rinex_file.specs.FileValues.{FitsColumns};
 ghost use Rattle.rinex_file.specs.Lines.{field};
 ghost use Rattle.rinex_file.specs.Read.Fields.{ReadsExactly};
-ghost use Rattle.rinex_file.specs.Words.{word, template, AreBelow, AreWithin, digit_columns, field_row, field_row_with, twos_of};
+ghost use Rattle.rinex_file.specs.Words.{word, template, AreBelow, AreWithin, digit_columns};
+ghost use Rattle.rinex_file.specs.Words.{field_row, field_row_with, twos_of};
 
 use crate::read::numbers::signed;
 use gnss_obs::Thousandths;

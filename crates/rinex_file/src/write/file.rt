@@ -8,8 +8,8 @@ use crate::header::fault::HeadFault;
 use crate::header::head::Head;
 use crate::values::{KeptEpoch, ObsFile};
 use crate::write::epoch::epoch_line;
-use crate::write::numbers::Line;
-use crate::write::satellite::satellite_text;
+use crate::write::numbers::{Line, MOST_LINE};
+use crate::write::satellite::put_values;
 use crate::write::{write_event, write_header};
 use gnss_obs::StationValues;
 use rtcm_bits::Counted;
@@ -29,8 +29,13 @@ fn write_change(change: Option<StationValues>, text: &mut Text) -> Result<(), He
     }
 }
 
-/// Writes the lines of an epoch.
-fn write_kept(epoch: &KeptEpoch, line: &mut Line, text: &mut Text) -> Result<(), HeadFault>
+/// Writes the lines of an epoch, each in the buffer or over the first bytes of the row before.
+fn write_kept(
+    epoch: &KeptEpoch,
+    line: &mut Line,
+    row: &mut [u8; MOST_LINE],
+    text: &mut Text,
+) -> Result<(), HeadFault>
     requires { HaveRowsRoom epoch.now }
     ensures { OnOk result (text.new.inner.items ≡ text.old.inner.items ++ stamped_text epoch.now) }
 {
@@ -38,10 +43,10 @@ fn write_kept(epoch: &KeptEpoch, line: &mut Line, text: &mut Text) -> Result<(),
     let rows = epoch.rows.as_slice();
     epoch_line(epoch.time, rows.len(), line);
     text.write_whole(line.as_slice())?;
-    for row in rows {
-        let values = row.signal_values.as_slice();
-        satellite_text(line, row.system, row.satellite, values);
-        text.write_whole(line.as_slice())?;
+    for kept in rows {
+        let values = kept.signal_values.as_slice();
+        let size = put_values(row, values, kept.system, kept.satellite);
+        text.write_whole(&row[..size])?;
     }
     Ok(())
 }
@@ -51,6 +56,7 @@ fn write_file(file: &ObsFile, text: &mut Text) -> Result<(), HeadFault>
     ensures { OnOk result (text.new.inner.items ≡ text.old.inner.items ++ file_text file.now) }
 {
     let mut line = Line::new();
+    let mut row = [b' '; MOST_LINE];
     let epochs = file.epochs.as_slice();
     let first = &epochs[0];
     let head = Head {
@@ -61,7 +67,7 @@ fn write_file(file: &ObsFile, text: &mut Text) -> Result<(), HeadFault>
     };
     write_header(&head, text)?;
     for epoch in epochs {
-        write_kept(epoch, &mut line, text)?;
+        write_kept(epoch, &mut line, &mut row, text)?;
     }
     Ok(())
 }

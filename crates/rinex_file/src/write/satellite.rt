@@ -1,7 +1,6 @@
 //! Observation lines: RINEX 3.05, table A3, "OBSERVATION DATA RECORD".
 ghost use Rattle.std.specs.Prelude.{◌≡◌, ◌≤◌, ◌<◌, ◌++◌, ℕ, [], ◌∷◌, length, take, All, List, IfSome, Some};
 ghost use Rattle.std.specs.Prelude.{◌-◌, replicate, slice_set};
-ghost use Rattle.arrayvec.specs.ArrayVec.{array_vec_len};
 ghost use Rattle.gnss_obs.specs.declared.cell.Cell.{Cell};
 ghost use Rattle.gnss_obs.specs.Values.{AreHeld};
 ghost use Rattle.rinex_file.specs.FileValues.{FitsColumns, HaveRoom};
@@ -15,7 +14,7 @@ ghost use Rattle.rinex_file.specs.Limits.{most_line, signal_columns, value_colum
 use crate::values::SignalValues;
 use crate::write::digits::columns_of;
 use crate::write::lanes::{columns_in, columns_in_two};
-use crate::write::numbers::{Line, MOST_LINE, SIGNAL_COLUMNS, VALUE_COLUMNS, put, put_blanks};
+use crate::write::numbers::{Line, MOST_LINE, SIGNAL_COLUMNS, VALUE_COLUMNS, put};
 use gnss_obs::{Cell, Epoch, Plan, Sat, System, Thousandths, strength_digit};
 use std::marker::Model;
 use std::simd::prelude::*;
@@ -180,33 +179,6 @@ fn put_signal(columns: &mut [u8], values: &Shown)
     put_both(back, values.d, values.s);
 }
 
-/// Begins the line of a satellite: its letter and number, replacing the contents of the buffer.
-fn begin_row(line: &mut Line, system: System, id: u8)
-    requires { id < 100 }
-    ensures { line.new.items ≡ letter_of system ∷ padded 2 id }
-{
-    line.clear();
-    line.push(letter_of(system));
-    line.push(b'0' + id / 10);
-    line.push(b'0' + id % 10);
-}
-
-/// Writes the columns of the signal at this index, after blanks if the line ends before them.
-#[inline(always)]
-fn put_at(line: &mut Line, place: usize, values: &Shown)
-    requires fits { HaveRoom values.now }
-    requires few { place < most_signals }
-    ensures { (front : List ℕ) (others : List SignalValues) → length front ≡ 3 → All HaveRoom others
-        → place < length others
-        → HasSignals line.old.items front others → HasSignals line.new.items front (slice_set others place values.now) }
-{
-    let start = 3 + SIGNAL_COLUMNS * place;
-    let end = start + SIGNAL_COLUMNS;
-    let missing = end.saturating_sub(line.len());
-    put_blanks(line, missing);
-    put_signal(&mut line.as_mut_slice()[start..end], values);
-}
-
 /// Returns the length of the text without trailing blanks, in bytes.
 pub(crate) fn trimmed_len(text: &[u8]) -> usize
     ensures text { take result text.now ≡ trimmed text.now }
@@ -227,41 +199,6 @@ pub(crate) fn letter_of(system: System) -> u8
         System::Gps => b'G',
         System::Galileo => b'E',
     }
-}
-
-/// Ends a line: removes trailing blanks and appends a line feed.
-fn end_row(line: &mut Line)
-    requires { array_vec_len line.old < most_line }
-    ensures { line.new.items ≡ trimmed line.old.items ++ 10 ∷ [] }
-{
-    // These are few, as no blanks are written after the last signal with a value.
-    let mut end = line.len();
-    while end > 0 && line[end - 1] == b' ' {
-        line.pop();
-        end -= 1;
-    }
-    line.push(b'\n');
-}
-
-/// Writes the line of a satellite with these values of the planned signals, replacing the contents
-/// of the buffer.
-pub(crate) fn satellite_text(line: &mut Line, system: System, id: u8, values: &[SignalValues])
-    requires id { id < 100 }
-    requires room { All HaveRoom values.now }
-    requires few { length values.now ≤ most_signals }
-    ensures { line.new.items ≡ satellite_line (satellite_row system id values.now) }
-{
-    begin_row(line, system, id);
-    // From the last to the first, so that blanks are appended once.
-    let mut place = values.len();
-    while place > 0 {
-        place -= 1;
-        let value = &values[place];
-        if value.has_value() {
-            put_at(line, place, &Shown::in_line(value));
-        }
-    }
-    end_row(line);
 }
 
 /// Writes the letter and number of a satellite into the first columns of a row.
@@ -350,6 +287,34 @@ pub(crate) fn put_seen(
             && let Some(place) = plan.place_among(system, cell.signal)
         {
             size = put_columns(row, size, place, &Shown::of(cell));
+        }
+    }
+    end_columns(row, size)
+}
+
+/// Writes the line of a satellite with these values of the planned signals over the first bytes of
+/// a row, and returns its length, as [`put_seen`] does.
+pub(crate) fn put_values(
+    row: &mut [u8; MOST_LINE],
+    values: &[SignalValues],
+    system: System,
+    id: u8,
+) -> usize
+    requires id { id < 100 }
+    requires room { All HaveRoom values.now }
+    requires few { length values.now ≤ most_signals }
+    ensures text { take result row.new ≡ satellite_line (satellite_row system id values.now) }
+    ensures bound { result ≤ most_line }
+{
+    begin_columns(row, system, id);
+    let mut size = 3;
+    // From the last to the first, so that blanks are appended once.
+    let mut place = values.len();
+    while place > 0 {
+        place -= 1;
+        let value = &values[place];
+        if value.has_value() {
+            size = put_columns(row, size, place, &Shown::in_line(value));
         }
     }
     end_columns(row, size)

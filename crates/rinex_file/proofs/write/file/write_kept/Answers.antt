@@ -14,44 +14,44 @@ use Rattle.rinex_file.proofs.Sent.{failed}
 use Rattle.rinex_file.proofs.write.file.write_kept.Goals as goal
 use Rattle.rinex_file.proofs.write.file.write_kept.Goals.{After-as_slice-values}
 
-pub loop-row-init : goal.loop-row-init
-loop-row-init c =
+pub loop-kept-init : goal.loop-kept-init
+loop-kept-init c =
     let old = c.args.text.now.inner.items in
     let rows = c.as_slice-rows.result.now in
     c.in_ok-write_whole.ensures.whole ∙ ap₂ (λ a b. a ++ b) c.in_ok-write_change.ensures (c.as_slice.ensures.value ∙ c.epoch_line.ensures)
     ∙ ap (λ (e : Stamped). (old ++ joined (change_lines e.change)) ++ epoch_line (civil_of e.time) (length rows)) c.epoch.view_is ∙ sym (append-nil _)
 
 -- the line has room for the satellite
-room : (c : After-as_slice-values) → HasRoom (satellite_row c.row.inside.system c.row.inside.satellite c.row.inside.signal_values.items)
+room : (c : After-as_slice-values) → HasRoom (satellite_row c.kept.inside.system c.kept.inside.satellite c.kept.inside.signal_values.items)
 room c =
     let rooms = subst (All HasRoom) (sym (c.as_slice-rows.ensures.value ∙ ap (λ (e : Stamped). e.rows) c.epoch.view_is)) c.requires in
-    subst HasRoom (sym (c.row.view_is ∙ c.row-item.is)) (rooms c.loop-row.row-index c.row-item.result c.loop-row-test.true)
+    subst HasRoom (sym (c.kept.view_is ∙ c.kept-item.is)) (rooms c.loop-kept.kept-index c.kept-item.result c.loop-kept-test.true)
 
-pub satellite_text-requires-clause-id : goal.satellite_text-requires-clause-id
-satellite_text-requires-clause-id c = let (id, values, few) = room ((goal.at.satellite_text-requires-clause-id c).After-as_slice-values) in id
+pub put_values-size-requires-clause-id : goal.put_values-size-requires-clause-id
+put_values-size-requires-clause-id c = let (id, values, few) = room ((goal.at.put_values-size-requires-clause-id c).After-as_slice-values) in id
 
-pub satellite_text-requires-clause-room : goal.satellite_text-requires-clause-room
-satellite_text-requires-clause-room c =
-    let (id, values, few) = room ((goal.at.satellite_text-requires-clause-room c).After-as_slice-values) in
+pub put_values-size-requires-clause-room : goal.put_values-size-requires-clause-room
+put_values-size-requires-clause-room c =
+    let (id, values, few) = room ((goal.at.put_values-size-requires-clause-room c).After-as_slice-values) in
     all_values_fit _ (subst (All AreSignalValues) (sym c.as_slice-values.ensures.value) values)
 
-pub satellite_text-requires-clause-few : goal.satellite_text-requires-clause-few
-satellite_text-requires-clause-few c =
-    let (id, values, few) = room ((goal.at.satellite_text-requires-clause-few c).After-as_slice-values) in
+pub put_values-size-requires-clause-few : goal.put_values-size-requires-clause-few
+put_values-size-requires-clause-few c =
+    let (id, values, few) = room ((goal.at.put_values-size-requires-clause-few c).After-as_slice-values) in
     subst (λ (es : List SignalValues). length es ≤ 19) (sym c.as_slice-values.ensures.value) few
 
-pub loop-row-preserved : goal.loop-row-preserved
-loop-row-preserved c =
-    let row = ap (λ (es : List SignalValues). satellite_line (satellite_row c.row.inside.system c.row.inside.satellite es)) c.as_slice-values.ensures.value ∙ ap satellite_line c.row.view_is in
-    one_more satellite_line c.as_slice-rows.result.now c.loop-row.row-index c.row-item.result _ _ _ c.loop-row-test.true c.row-item.is c.loop-row.invariant
-    (c.in_ok-write_whole-2.ensures.whole ∙ ap (λ l. c.loop-row.text.inner.items ++ l) (c.as_slice-in-loop-row.ensures.value ∙ c.satellite_text.ensures ∙ row))
+pub loop-kept-preserved : goal.loop-kept-preserved
+loop-kept-preserved c =
+    let row = ap (λ (es : List SignalValues). satellite_line (satellite_row c.kept.inside.system c.kept.inside.satellite es)) c.as_slice-values.ensures.value ∙ ap satellite_line c.kept.view_is in
+    one_more satellite_line c.as_slice-rows.result.now c.loop-kept.kept-index c.kept-item.result _ _ _ c.loop-kept-test.true c.kept-item.is c.loop-kept.invariant
+    (c.in_ok-write_whole-2.ensures.whole ∙ ap (λ l. c.loop-kept.text.inner.items ++ l) (c.put_values-size.ensures.text ∙ row))
 
 pub returns : goal.returns
 returns c =
     let rows = c.as_slice-rows.result.now in
     let e = c.args.epoch.now in
-    epoch_whole e e rows c.args.text.now.inner.items _ _ _ c.loop-row.text.inner.items refl (c.as_slice-rows.ensures.value ∙ ap (λ (e : Stamped). e.rows) c.epoch.view_is) refl refl refl
-    (c.loop-row.invariant ∙ ap (λ (r : List SatelliteRow). ((c.args.text.now.inner.items ++ joined (change_lines e.change)) ++ epoch_line (civil_of e.time) (length rows)) ++ flat_map satellite_line r) (take_all c.loop-row.row-index rows c.loop-row-test.false))
+    epoch_whole e e rows c.args.text.now.inner.items _ _ _ c.loop-kept.text.inner.items refl (c.as_slice-rows.ensures.value ∙ ap (λ (e : Stamped). e.rows) c.epoch.view_is) refl refl refl
+    (c.loop-kept.invariant ∙ ap (λ (r : List SatelliteRow). ((c.args.text.now.inner.items ++ joined (change_lines e.change)) ++ epoch_line (civil_of e.time) (length rows)) ++ flat_map satellite_line r) (take_all c.loop-kept.kept-index rows c.loop-kept-test.false))
 
 pub returns-in_err-write_change : goal.returns-in_err-write_change
 returns-in_err-write_change c = failed _ c.from_residual.result _ c.from_residual.ensures.1

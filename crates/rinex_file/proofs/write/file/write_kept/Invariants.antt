@@ -7,6 +7,6 @@ use Rattle.rinex_file.specs.Lines.{epoch_line, satellite_line}
 use Rattle.rinex_file.proofs.write.file.write_kept.Given as goal
 
 -- the change, the epoch line and the satellites so far were written
-abbrev pub invariant-loop-row : goal.invariant-loop-row
-invariant-loop-row l = l.text.inner.items
-    ≡ ((l.fn.text.inner.items ++ joined (change_lines l.epoch.change)) ++ epoch_line (civil_of l.epoch.time) (length l.rows)) ++ flat_map satellite_line (take l.row-index l.rows)
+abbrev pub invariant-loop-kept : goal.invariant-loop-kept
+invariant-loop-kept l = l.text.inner.items
+    ≡ ((l.fn.text.inner.items ++ joined (change_lines l.epoch.change)) ++ epoch_line (civil_of l.epoch.time) (length l.rows)) ++ flat_map satellite_line (take l.kept-index l.rows)

@@ -1,6 +1,0 @@
-use Rattle.std.proofs.Common.{arith}
-use Rattle.rinex_file.proofs.DigitWords.{two_digits}
-use Rattle.rinex_file.proofs.write.satellite.begin_row.Goals as goal
-
-pub returns : goal.returns
-returns c = grind (arith, two_digits)
