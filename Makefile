@@ -1,6 +1,9 @@
 # make build      proves and builds the program, crates/rtcm2rinex/out/rtcm2rinex
 # make run        builds it, converts a recording with the options that fit it, prints the start of the file and the
 #                 report, and checks the file
+# make try        converts the recording before any proof, by the toolchain's way to run unproved code, and prints the
+#                 start of the file: a first look within a minute. It proves nothing; `make run` does
+# make dist       packs the proved program with its documents, out/rtcm2rinex-VERSION-linux-x86_64.tar.gz
 # make install    builds it if it is missing, and installs program and manual page to PREFIX (/usr/local)
 # make read-back  builds it, and has RTKLIB read back the converted recordings
 # make test       runs the gate: documents, all proofs, must-fail mutants, tests, stored cases, fault injection (docs/GATE.md)
@@ -11,12 +14,15 @@ SAMPLE := samples/zed-f9t-2019-10-17
 MADE := out/zed-f9t-2019-10-17
 OPTIONS := --week 2075 --date "20240204 000001 UTC"
 
+# What `options` prints for the recording, so that one build is enough for `make try`.
+PLAN := --gps 1C,2L --galileo 1C,7Q --position=-2386072.7310,-3922192.5049,4414363.4131
+
 PREFIX ?= /usr/local
 
 # The prover's allocator returns memory to the kernel that it soon needs again; keeping it makes checks faster.
 export MIMALLOC_PURGE_DELAY ?= -1
 
-.PHONY: build run install read-back test bench mutants
+.PHONY: build run try dist install read-back test bench mutants
 
 build:
 	@tools/build
@@ -30,6 +36,19 @@ run: build
 	@cat $(MADE).report
 	@cmp $(MADE).obs $(SAMPLE).obs && cmp $(MADE).report $(SAMPLE).report && echo "both as stored in samples/"
 	@echo "read back: $$($(PROGRAM) check < $(MADE).obs)"
+
+try:
+	@mkdir -p out
+	@echo "nothing is proved here: the program is built without its proofs (make run proves it)"
+	@cd crates/rtcm2rinex && rt try -- convert $(OPTIONS) $(PLAN) < ../../$(SAMPLE).rtcm3 \
+	    > ../../out/try.obs 2> ../../out/try.report || { cat ../../out/try.report; exit 1; }
+	@head -n 20 out/try.obs
+	@echo ".. $$(wc -l < out/try.obs) lines in out/try.obs, and the report:"
+	@grep '^bytes ' out/try.report
+	@cmp out/try.obs $(SAMPLE).obs && echo "the file is as stored in samples/; nothing was proved"
+
+dist: build
+	@tools/dist $(PROGRAM)
 
 # An existing program is installed as it is, so that `sudo make install` proves nothing.
 install:
