@@ -1,7 +1,6 @@
 -- Values worked out by hand, which the definitions compute.
 use Rattle.std.proofs.Common.{pos, negsuc, ◌≡◌, refl, Some, None, true, false}
-use Rattle.gnss_obs.specs.Observables.{nearest_pseudorange, nearest_phase, nearest_doppler, nearest_strength, strength_digit}
-use Rattle.gnss_obs.specs.LockTimes.{times4, times7, lost}
+use Rattle.gnss_obs.specs.Names.{nearest_pseudorange, nearest_phase, nearest_doppler, nearest_strength, strength_digit, times4, times7, lost}
 
 -- 70 ms, and the next range that MSM7 encodes
 range : nearest_pseudorange (pos 150323855360) ≡ pos 20985472060

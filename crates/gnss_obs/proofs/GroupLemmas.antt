@@ -3,11 +3,9 @@ use Rattle.std.proofs.Common.{◌≡◌, ℕ, zero, suc, ◌+◌, ◌<◌, ◌�
 use Rattle.std.specs.Prelude.{if◌then◌else◌, nat_lt}
 use Rattle.std.specs.List.{AllByRecursion, list_any}
 use Rattle.std.proofs.lemmas.List.Elements.{All-head, All-tail}
-use Rattle.gnss_obs.specs.declared.system.System.{System}
+use Rattle.gnss_obs.specs.Names.{System, Cell, is_before, SortKeysRise, cell_sort_key, AreSorted}
 use Rattle.gnss_obs.specs.Satellites.{satellites as satellites_in}
-use Rattle.gnss_obs.specs.declared.cell.Cell.{Cell}
 use Rattle.gnss_obs.specs.Values.{IsHeld, AreHeld, has_value, is_written, written_among, is_of_satellite}
-use Rattle.gnss_obs.specs.Order.{is_before, SortKeysRise, cell_sort_key, AreSorted}
 use Rattle.std.proofs.lemmas.Grind.{common_steps}
 
 -- ---- cells in the order of satellites

@@ -2,17 +2,7 @@
 use Rattle.std.proofs.Common.{◌≡◌, ℕ, suc, ◌+◌, ◌*◌, ◌<◌, ◌==◌, ◌&&◌, ◌||◌, Bool, true, false, List, [], ◌∷◌, map, refl, sym, ap, ap₂, ◌∙◌, subst, arith, length, All}
 use Rattle.std.specs.Prelude.{fold, if◌then◌else◌}
 use Rattle.std.proofs.lemmas.List.Elements.{All-cons, All-nil, All-head, All-tail}
-use Rattle.gnss_obs.specs.declared.system.System.{System}
-use Rattle.gnss_obs.specs.declared.system.System.TheVariants.{Gps, Galileo}
-use Rattle.gnss_obs.specs.declared.cell.Cell.{Cell}
-use Rattle.gnss_obs.specs.declared.arrivals.Added.{Added}
-use Rattle.gnss_obs.specs.Satellites.{Satellite}
-use Rattle.gnss_obs.specs.Signals.{SignalAt, IsSignal}
-use Rattle.gnss_obs.specs.Values.{AreHeld, EpochValue, IsHeld, cells_of}
-use Rattle.gnss_obs.specs.HeardCells.{IsObserved, heard_cell, same_key}
-use Rattle.gnss_obs.specs.Order.{insert_by, cell_sort_key}
-use Rattle.gnss_obs.specs.Kept.{is_held}
-use Rattle.gnss_obs.specs.Arriving.{AddsCell, IsAdded, slot, has_slot, sorted_cells, outcome_by, cells_after, epoch_with}
+use Rattle.gnss_obs.specs.Names.{System, Gps, Galileo, Cell, Added, Satellite, SignalAt, IsSignal, AreHeld, EpochValue, IsHeld, cells_of, IsObserved, heard_cell, same_key, insert_by, cell_sort_key, is_held, AddsCell, IsAdded, slot, has_slot, sorted_cells, outcome_by, cells_after, epoch_with}
 use Rattle.std.proofs.lemmas.Grind.{common_steps}
 
 -- ---- sorted cells

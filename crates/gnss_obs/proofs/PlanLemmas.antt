@@ -8,14 +8,8 @@ use Rattle.std.proofs.lemmas.Map.Keys.{IsDistinct-push}
 use Rattle.std.proofs.lemmas.Map.Steps.{length-le_from_distinct_below}
 use Rattle.std.proofs.lemmas.List.Elements.{All-push, All-head, All-tail}
 use Rattle.std.proofs.lemmas.Str.Pattern.{IsSplitOnceResult, split_once_first}
-use Rattle.gnss_obs.specs.declared.tables.ListedSignal.{ListedSignal}
-use Rattle.gnss_obs.specs.declared.fault.PlanFault.TheVariants.{RepeatedCode}
+use Rattle.gnss_obs.specs.Names.{ListedSignal, RepeatedCode, System, SignalAt, IsSignal, table, signal_of_code, signal_where, signal_at, PlanFault, between_commas, onto_first, one_signal_more, below, signals_of, signals_after, IsTaken, indices, IsMemoryFaultOr, IsOf, ArePlanned, DoneOr, RefusesCode, TakesCode}
 use Rattle.std.specs.List.{list_any, position_or_len, before_first, after_first, IsDistinct}
-use Rattle.gnss_obs.specs.declared.system.System.{System}
-use Rattle.gnss_obs.specs.Signals.{SignalAt, IsSignal, table, signal_of_code, signal_where, signal_at}
-use Rattle.gnss_obs.specs.declared.fault.PlanFault.{PlanFault}
-use Rattle.gnss_obs.specs.Plans.{between_commas, onto_first, one_signal_more, below, signals_of, signals_after, IsTaken}
-use Rattle.gnss_obs.specs.SignalLists.{indices, IsMemoryFaultOr, IsOf, ArePlanned, DoneOr, RefusesCode, TakesCode}
 use Rattle.std.proofs.lemmas.Grind.{common_steps}
 
 abbrev comma : ℕ → Bool

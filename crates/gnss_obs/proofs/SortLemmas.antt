@@ -9,15 +9,7 @@ use Rattle.std.proofs.lemmas.List.Sums.{sum_by-cons}
 use Rattle.std.proofs.lemmas.List.Sorted.{sum_by-IsPermutation}
 use Rattle.std.proofs.lemmas.List.Elements.{All-cons, All-nil}
 use Rattle.std.proofs.lemmas.List.Quantifiers.{position-Some}
-use Rattle.gnss_obs.specs.declared.cell.Cell.{Cell}
-use Rattle.gnss_obs.specs.declared.system.System.{System}
-use Rattle.gnss_obs.specs.declared.system.System.TheVariants.{Gps, Galileo}
-use Rattle.gnss_obs.specs.Signals.{table}
-use Rattle.gnss_obs.specs.Plans.{place_in}
-use Rattle.gnss_obs.specs.Order.{SortKey, is_before, SortKeysRise, insert_by, cell_sort_key}
-use Rattle.gnss_obs.specs.Arriving.{sorted_cells, sorted_epoch, cell_number, numbers, picked}
-use Rattle.gnss_obs.specs.Values.{EpochValue, PlanValue}
-use Rattle.gnss_obs.specs.Kept.{AreInOrder}
+use Rattle.gnss_obs.specs.Names.{Cell, System, Gps, Galileo, table, place_in, SortKey, is_before, SortKeysRise, insert_by, cell_sort_key, sorted_cells, sorted_epoch, cell_number, numbers, picked, EpochValue, PlanValue, AreInOrder}
 use Rattle.std.proofs.lemmas.Grind.{common_steps}
 
 -- ---- sorted numbers

@@ -5,11 +5,7 @@ use Rattle.std.specs.Prelude.{slice_get}
 use Rattle.std.specs.Option.{unwrap_or, option_copied, option_map, is_some, IfSome}
 use Rattle.std.specs.Str.{bytes_eq}
 use Rattle.std.proofs.lemmas.Option.{slice_get_past, slice_get_read}
-use Rattle.gnss_obs.specs.declared.system.System.{System}
-use Rattle.gnss_obs.specs.declared.tables.ListedSignal.{ListedSignal}
-use Rattle.gnss_obs.specs.declared.system.System.TheVariants.{Gps, Galileo}
-use Rattle.gnss_obs.specs.Signals.{SignalAt, IsSignal, after, code_of, greatest_signal_id, hertz_of, id_of, signal_of_code, signal_of_id, table}
-use Rattle.gnss_obs.specs.SignalRows.{rows}
+use Rattle.gnss_obs.specs.Names.{System, ListedSignal, Gps, Galileo, SignalAt, IsSignal, after, code_of, greatest_signal_id, hertz_of, id_of, signal_of_code, signal_of_id, table, rows}
 use Rattle.gnss_obs.proofs.Checked.{passes_at, passes_below, is_less, is_equal, both_first, both_second}
 
 -- the ID of a row is below the next one

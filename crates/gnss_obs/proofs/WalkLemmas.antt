@@ -5,10 +5,8 @@ use Rattle.jiff_core.specs.declared.civil.date.Date.{Date}
 use Rattle.jiff_core.proofs.SignedLemmas.{signed_arith}
 use Rattle.jiff_core.proofs.DateLemmas.{epoch_day_injective}
 use Rattle.jiff_core.proofs.CalendarLemmas.{days_from_civil-day_count, day_count-next_year, day_count-next_month, day_count-day, day_count-last_of_year}
-use Rattle.gnss_obs.specs.declared.civil.Civil.{Civil}
+use Rattle.gnss_obs.specs.Names.{Civil, weeks, YearMonthDay, month_on, year_on, month_length, year_length, date_of, civil_of, IsCivil, IsCivilOf, clock_of}
 use Rattle.gnss_obs.specs.Weeks.{week}
-use Rattle.gnss_obs.specs.Weeks.{weeks}
-use Rattle.gnss_obs.specs.Dates.{YearMonthDay, month_on, year_on, month_length, year_length, date_of, civil_of, IsCivil, IsCivilOf, clock_of}
 use Rattle.std.proofs.lemmas.Grind.{common_steps}
 
 -- A date of the calendar, a number of days after 1 January of the year -10000.

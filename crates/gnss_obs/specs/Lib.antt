@@ -16,3 +16,4 @@ pub mod Kept
 pub mod Arriving
 pub mod Stages
 pub mod GatheredEpochs
+pub mod Names

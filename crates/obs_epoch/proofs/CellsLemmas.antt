@@ -4,11 +4,7 @@ use Rattle.std.specs.Prelude.{if◌then◌else◌}
 use Rattle.std.specs.Cmp.{IsEquivalence}
 use Rattle.std.proofs.lemmas.Map.Views.{any-filter_same}
 use Rattle.std.proofs.lemmas.List.Elements.{filter-append}
-use Rattle.gnss_obs.specs.declared.system.System.{System}
-use Rattle.obs_epoch.specs.Cells.{firsts, firsts_after, is_among, is_of_system, kept, add}
-use Rattle.gnss_obs.specs.HeardCells.{has_same_key}
-use Rattle.gnss_obs.specs.Values.{most_cells}
-use Rattle.gnss_obs.specs.HeardCells.{HeardCell}
+use Rattle.obs_epoch.specs.Names.{System, firsts, firsts_after, is_among, is_of_system, kept, add, has_same_key, most_cells, HeardCell}
 use Rattle.std.proofs.lemmas.Grind.{common_steps}
 
 abbrev pub new_key : List HeardCell → HeardCell → List HeardCell

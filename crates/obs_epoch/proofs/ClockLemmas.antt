@@ -2,14 +2,8 @@
 use Rattle.std.proofs.Common.{◌≡◌, ℕ, zero, suc, ◌+◌, ◌*◌, ◌<◌, Bool, true, false, not, ◌||◌, ◌&&◌, List, [], ◌∷◌, ◌++◌, refl, ap, ap₂, ◌∙◌, subst, arith, Option, Some, None, nat_lt}
 use Rattle.std.specs.Prelude.{◌==◌}
 use Rattle.std.specs.Option.{option_map_or}
-use Rattle.obs_epoch.specs.declared.taken.Kind.TheVariants.{CloseFirst}
-use Rattle.obs_epoch.specs.declared.taken.CellCounts.{CellCounts}
-use Rattle.obs_epoch.specs.Heard.{GatherSetup, Heard, ends_epoch, is_own}
-use Rattle.obs_epoch.specs.Times.{Timed, is_at, max_known, greatest_time, is_closed, taken_at, ahead, is_late, is_past, time_of}
+use Rattle.obs_epoch.specs.Names.{CloseFirst, CellCounts, GatherSetup, Heard, ends_epoch, is_own, Timed, is_at, max_known, greatest_time, is_closed, taken_at, ahead, is_late, is_past, time_of, State, is_pending, closes_first, kind_after, kind_by, step_by, is_late_at, is_first_at, ended_where}
 use Rattle.rtcm_msg.specs.Msm.{week}
-use Rattle.obs_epoch.specs.Clock.{State, is_pending, closes_first}
-use Rattle.obs_epoch.specs.Kinds.{kind_after}
-use Rattle.obs_epoch.specs.Step.{kind_by, step_by, is_late_at, is_first_at, ended_where}
 use Rattle.obs_epoch.proofs.TimesLemmas.{next, greatest-push, greatest-present, greater-absent, none-absent, closed-push, closed-new}
 use Rattle.std.proofs.lemmas.Grind.{common_steps}
 

@@ -4,10 +4,7 @@ use Rattle.std.specs.Prelude.{if◌then◌else◌, cond}
 use Rattle.std.specs.Option.{option_map_or}
 use Rattle.std.proofs.lemmas.List.Elements.{filter-append}
 use Rattle.std.proofs.lemmas.Bool.{cases_Bool}
-use Rattle.obs_epoch.specs.Heard.{GatherSetup, Heard, ends_epoch}
-use Rattle.obs_epoch.specs.Times.{Timed, max_known, greatest_time, is_closed, taken_at, timed, time_of, is_late}
-use Rattle.obs_epoch.specs.Loss.{times}
-use Rattle.obs_epoch.specs.Epochs.{is_shut, closed_times}
+use Rattle.obs_epoch.specs.Names.{GatherSetup, Heard, ends_epoch, Timed, max_known, greatest_time, is_closed, taken_at, timed, time_of, is_late, times, is_shut, closed_times}
 use Rattle.obs_epoch.proofs.TimesLemmas.{some_eq, greatest-push, max_known-none, greatest-present, greater-absent, none-absent, closed-push, closed-new, next, timed-push}
 use Rattle.obs_epoch.proofs.ClockLemmas.{at_self, Follows, follows, first, greater, equal}
 use Rattle.std.proofs.lemmas.Grind.{common_steps}

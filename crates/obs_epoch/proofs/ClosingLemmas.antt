@@ -2,15 +2,8 @@
 use Rattle.std.proofs.Common.{◌≡◌, ℕ, ◌<◌, Bool, true, false, not, ◌&&◌, List, [], ◌∷◌, ◌++◌, refl, sym, ap, ap₂, ◌∙◌, arith, Option, Some, None, nat_lt, append-nil}
 use Rattle.std.specs.Prelude.{if◌then◌else◌, option_to_list}
 use Rattle.std.specs.Option.{option_map_or}
-use Rattle.obs_epoch.specs.declared.taken.Kind.{Kind}
-use Rattle.obs_epoch.specs.declared.taken.CellCounts.{CellCounts}
-use Rattle.obs_epoch.specs.Heard.{GatherSetup, Heard, ends_epoch, is_own}
-use Rattle.obs_epoch.specs.Times.{Timed, greatest_time, is_closed, taken_at, is_late, is_past, time_of}
-use Rattle.obs_epoch.specs.Clock.{State, is_pending, closes_first}
-use Rattle.obs_epoch.specs.Cells.{no_counts}
-use Rattle.obs_epoch.specs.Kinds.{is_close_first, is_kept, kind_after}
+use Rattle.obs_epoch.specs.Names.{Kind, CellCounts, GatherSetup, Heard, ends_epoch, is_own, Timed, greatest_time, is_closed, taken_at, is_late, is_past, time_of, State, is_pending, closes_first, no_counts, is_close_first, is_kept, kind_after, closed_times, closed_so_far}
 use Rattle.obs_epoch.specs.Step.{closed_of, closed_by}
-use Rattle.obs_epoch.specs.Epochs.{closed_times, closed_so_far}
 use Rattle.obs_epoch.proofs.TimesLemmas.{next}
 use Rattle.obs_epoch.proofs.ClockLemmas.{standing, takes, same_time, Follows, first, greater, equal, new_time}
 use Rattle.obs_epoch.proofs.ClosedLemmas.{when, no_greatest, taken_follows, closed-push_none, closed-push_greater, closed-push_same, closed-push_first}

@@ -4,18 +4,10 @@ use Rattle.std.specs.Prelude.{if◌then◌else◌, cond, count_by}
 use Rattle.std.proofs.lemmas.List.Sums.{sum_by-cons}
 use Rattle.std.proofs.lemmas.List.Folds.{list_any-append}
 use Rattle.std.proofs.lemmas.List.{length-take-le, take_all}
-use Rattle.gnss_obs.specs.declared.system.System.{System}
-use Rattle.gnss_obs.specs.declared.system.System.TheVariants.{Gps, Galileo}
-use Rattle.obs_epoch.specs.Held.{Crowded, Kept, Repeated, Skipped, count_in}
-use Rattle.obs_epoch.specs.Heard.{GatherSetup}
-use Rattle.gnss_obs.specs.HeardCells.{HeardCell}
-use Rattle.obs_epoch.specs.Cells.{no_counts, counts_of, is_of_system, is_among, kept, kept_of_both, is_planned}
-use Rattle.gnss_obs.specs.HeardCells.{has_same_key}
-use Rattle.gnss_obs.specs.Values.{most_cells}
+use Rattle.obs_epoch.specs.Names.{System, Gps, Galileo, Crowded, Kept, Repeated, Skipped, count_in, GatherSetup, HeardCell, no_counts, counts_of, is_of_system, is_among, kept, kept_of_both, is_planned, has_same_key, most_cells, CellCounts}
 use Rattle.obs_epoch.proofs.CellsLemmas.{kept-add, mine, mine-among, among-push, same_key_laws, key_system}
 use Rattle.obs_epoch.proofs.NotingLemmas.{kept_apart}
 use Rattle.obs_epoch.proofs.LoadLemmas.{counts_after, outcome_after, planned_one}
-use Rattle.obs_epoch.specs.declared.taken.CellCounts.{CellCounts}
 use Rattle.std.proofs.lemmas.Grind.{common_steps}
 
 or_false : (a : Bool) → (a || false) ≡ a

@@ -2,17 +2,7 @@
 use Rattle.std.proofs.Common.{◌≡◌, ℕ, ◌<◌, Bool, true, false, List, [], ◌∷◌, ◌++◌, map, filter, refl, sym, ap, ap₂, ◌∙◌, subst, arith, Option, Some, None, nat_lt, append-nil}
 use Rattle.std.specs.Prelude.{cond, filter_map}
 use Rattle.std.proofs.lemmas.List.Elements.{filter-append}
-use Rattle.gnss_obs.specs.declared.system.System.{System}
-use Rattle.obs_epoch.specs.Heard.{GatherSetup}
-use Rattle.gnss_obs.specs.HeardCells.{HeardCell}
-use Rattle.obs_epoch.specs.Times.{Timed, greatest_time}
-use Rattle.obs_epoch.specs.Cells.{offered, kept, kept_at}
-use Rattle.gnss_obs.specs.Order.{sorted}
-use Rattle.gnss_obs.specs.Values.{planned_of}
-use Rattle.obs_epoch.specs.Loss.{times, locked_at, previous, lli_of}
-use Rattle.obs_epoch.specs.Epochs.{cells_with_lli, epoch_at, closed_times}
-use Rattle.obs_epoch.specs.Times.{is_closed}
-use Rattle.obs_epoch.specs.Epochs.{is_shut}
+use Rattle.obs_epoch.specs.Names.{System, GatherSetup, HeardCell, Timed, greatest_time, offered, kept, kept_at, sorted, planned_of, times, locked_at, previous, lli_of, cells_with_lli, epoch_at, closed_times, is_closed, is_shut}
 use Rattle.obs_epoch.proofs.ClockLemmas.{Follows, first, greater, equal}
 use Rattle.obs_epoch.proofs.ClosedLemmas.{Below, IsLess, when, one_fails, less_false, times-push_new, times-push_same, times-push_none, no_times, ends, closed_is}
 use Rattle.std.proofs.lemmas.Grind.{common_steps}

@@ -4,17 +4,12 @@ use Rattle.std.specs.Prelude.{if◌then◌else◌, cond, option_to_list}
 use Rattle.std.specs.Option.{option_map_or}
 use Rattle.std.specs.List.{list_any}
 use Rattle.std.proofs.lemmas.List.{map-append}
-use Rattle.obs_epoch.specs.Heard.{GatherSetup, Heard, ends_epoch}
-use Rattle.obs_epoch.specs.Times.{Timed, is_at, max_known, greatest_time, from_first, is_closed, taken_at, timed}
-use Rattle.obs_epoch.specs.Loss.{times}
-use Rattle.obs_epoch.specs.Epochs.{is_shut, closed_times, epoch_at, values_of}
-use Rattle.obs_epoch.specs.Clock.{is_pending}
+use Rattle.obs_epoch.specs.Names.{GatherSetup, Heard, ends_epoch, Timed, is_at, max_known, greatest_time, from_first, is_closed, taken_at, timed, times, is_shut, closed_times, epoch_at, values_of, is_pending, EpochValue}
 use Rattle.rtcm_bits.specs.Prefix.{IsPrefix}
 use Rattle.obs_epoch.specs.Gathering.{open_after, before_closing, closed_at, closed_list_at, closed_epochs, all_epochs}
 use Rattle.obs_epoch.proofs.TimesLemmas.{next, timed-push, greatest-push}
 use Rattle.obs_epoch.proofs.ClosedLemmas.{ends, no_times, closed_is, when, taken_follows, grows_by}
 use Rattle.obs_epoch.proofs.EpochLemmas.{AllLater, IsLater, epoch_at-push, times_before, all_later}
-use Rattle.gnss_obs.specs.Values.{EpochValue}
 use Rattle.std.proofs.lemmas.Grind.{common_steps}
 
 -- ---- a closed epoch stays closed

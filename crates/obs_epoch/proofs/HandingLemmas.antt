@@ -4,15 +4,8 @@ use Rattle.std.specs.Prelude.{if◌then◌else◌, option_to_list}
 use Rattle.std.specs.Option.{option_map_or}
 use Rattle.std.specs.List.{list_any}
 use Rattle.std.proofs.lemmas.List.{map-append}
-use Rattle.obs_epoch.specs.Heard.{GatherSetup, Heard, ends_epoch}
-use Rattle.gnss_obs.specs.Values.{Closed, EpochValue}
-use Rattle.obs_epoch.specs.Times.{Timed, is_at, greatest_time, from_first, is_closed, taken_at, timed}
-use Rattle.obs_epoch.specs.Loss.{times}
-use Rattle.obs_epoch.specs.Epochs.{is_shut, closed_times, closed_so_far, epoch_at, values_of}
-use Rattle.obs_epoch.specs.Clock.{is_pending, closes_first}
+use Rattle.obs_epoch.specs.Names.{GatherSetup, Heard, ends_epoch, Closed, EpochValue, Timed, is_at, greatest_time, from_first, is_closed, taken_at, timed, times, is_shut, closed_times, closed_so_far, epoch_at, values_of, is_pending, closes_first, Gathered, no_epoch, take_step, end_step, noted, HasTakenMessages, held_at}
 use Rattle.obs_epoch.specs.Step.{closed_by as closes}
-use Rattle.obs_epoch.specs.Gather.{Gathered, no_epoch, take_step, end_step, noted}
-use Rattle.obs_epoch.specs.GathererHistory.{HasTakenMessages, held_at}
 use Rattle.rtcm_bits.specs.Prefix.{IsPrefix}
 use Rattle.obs_epoch.specs.Gathering.{before_closing, closed_at, closed_list_at, known_epochs, closed_by, closed_in, returned_epoch, is_done, HasGatheredEpochs}
 use Rattle.obs_epoch.proofs.TimesLemmas.{next, timed-push, greater-absent, none-absent}

@@ -1,18 +1,8 @@
 -- The outcome of a message: whether it is expected again.
 use Rattle.std.proofs.Common.{◌≡◌, Bool, true, false, List, refl, sym, ap, ◌∙◌, subst, arith, Option, Some, None, is_some}
-use Rattle.obs_epoch.specs.Heard.{GatherSetup, Heard}
-use Rattle.gnss_obs.specs.Values.{Closed}
-use Rattle.obs_epoch.specs.Times.{timed}
-use Rattle.obs_epoch.specs.Clock.{State, closes_first}
-use Rattle.obs_epoch.specs.Step.{kind_by}
-use Rattle.obs_epoch.specs.Kinds.{is_close_first, kind_after, kind_of, with_counts}
-use Rattle.obs_epoch.specs.Cells.{no_counts}
-use Rattle.obs_epoch.specs.Gather.{Gathered, take_step}
-use Rattle.obs_epoch.specs.GathererHistory.{HasTakenMessages}
-use Rattle.obs_epoch.specs.Gathering.{HasGatheredEpochs, IsAwaited}
+use Rattle.obs_epoch.specs.Names.{GatherSetup, Heard, Closed, timed, State, closes_first, kind_by, is_close_first, kind_after, kind_of, with_counts, no_counts, Gathered, take_step, HasTakenMessages, HasGatheredEpochs, IsAwaited, CellCounts}
 use Rattle.obs_epoch.proofs.TakeLemmas.{taken, closes_it, not_first}
 use Rattle.obs_epoch.proofs.HandingLemmas.{not_done}
-use Rattle.obs_epoch.specs.declared.taken.CellCounts.{CellCounts}
 use Rattle.std.proofs.lemmas.Grind.{common_steps}
 
 -- The counts are only in the outcome of an accepted message.

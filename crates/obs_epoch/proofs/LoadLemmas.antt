@@ -1,23 +1,9 @@
 -- The cells of one more message, kept one by one, are the kept cells of the longer list.
 use Rattle.std.proofs.Common.{[], ◌≡◌, ℕ, suc, Bool, true, false, not, ◌||◌, ◌&&◌, List, ◌∷◌, ◌++◌, filter, refl, sym, ap, ap₂, ◌∙◌, arith, length, append_assoc, append-nil, Option, nat_le}
 use Rattle.std.specs.Prelude.{if◌then◌else◌, cond}
-use Rattle.gnss_obs.specs.declared.system.System.{System}
-use Rattle.gnss_obs.specs.declared.system.System.TheVariants.{Gps, Galileo}
-use Rattle.obs_epoch.specs.Held.{CellOutcome, Crowded, Kept, Repeated, Skipped, count_in, lookup, outcome_of}
-use Rattle.gnss_obs.specs.Kept.{is_held}
-use Rattle.obs_epoch.specs.Heard.{GatherSetup}
-use Rattle.gnss_obs.specs.HeardCells.{HeardCell, kept_cell}
-use Rattle.obs_epoch.specs.Cells.{is_of_system, is_among, kept, add, is_planned}
-use Rattle.gnss_obs.specs.HeardCells.{has_same_key}
-use Rattle.obs_epoch.specs.Loss.{lli_with}
-use Rattle.obs_epoch.specs.Gather.{Gathered, with_more, outcome_in, hold, hold_by, load}
-use Rattle.gnss_obs.specs.Values.{PlanValue, planned_of, most_cells, EpochValue, cells_of}
-use Rattle.gnss_obs.specs.Order.{insert_by, sort_key_of, sorted, cell_sort_key}
+use Rattle.obs_epoch.specs.Names.{System, Gps, Galileo, CellOutcome, Crowded, Kept, Repeated, Skipped, count_in, lookup, outcome_of, is_held, GatherSetup, HeardCell, kept_cell, is_of_system, is_among, kept, add, is_planned, has_same_key, lli_with, Gathered, with_more, outcome_in, hold, hold_by, load, PlanValue, planned_of, most_cells, EpochValue, cells_of, insert_by, sort_key_of, sorted, cell_sort_key, Cell, KnownLock, CellCounts}
 use Rattle.obs_epoch.proofs.CellsLemmas.{kept-add}
 use Rattle.obs_epoch.proofs.OrderLemmas.{sorted-push, among-sorted, length-sorted}
-use Rattle.gnss_obs.specs.declared.cell.Cell.{Cell}
-use Rattle.obs_epoch.specs.declared.locks.KnownLock.{KnownLock}
-use Rattle.obs_epoch.specs.declared.taken.CellCounts.{CellCounts}
 use Rattle.std.proofs.lemmas.Grind.{common_steps}
 
 -- Cells with their loss of lock indicators, from the earlier locks of their keys.

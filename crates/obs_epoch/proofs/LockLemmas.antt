@@ -8,14 +8,8 @@ use Rattle.std.proofs.lemmas.Map.Steps.{list_any_congr}
 use Rattle.std.proofs.lemmas.List.{length-set}
 use Rattle.std.proofs.lemmas.List.Sums.{sum_by-cons}
 use Rattle.std.proofs.lemmas.List.Elements.{filter-append}
-use Rattle.obs_epoch.specs.Cells.{is_among, has_listed_key, firsts}
-use Rattle.gnss_obs.specs.HeardCells.{has_same_key}
-use Rattle.obs_epoch.specs.Loss.{lock_of, is_locked}
-use Rattle.obs_epoch.specs.Held.{lookup, put, note, note_all, lock_place, most_locks, no_locks, recorded, TracksLocks}
+use Rattle.obs_epoch.specs.Names.{is_among, has_listed_key, firsts, has_same_key, lock_of, is_locked, lookup, put, note, note_all, lock_place, most_locks, no_locks, recorded, TracksLocks, HeardCell, heard_cell, KnownLock, Cell}
 use Rattle.obs_epoch.proofs.CellsLemmas.{same_key_laws, firsts-push, new_key, among-push}
-use Rattle.gnss_obs.specs.HeardCells.{HeardCell, heard_cell}
-use Rattle.obs_epoch.specs.declared.locks.KnownLock.{KnownLock}
-use Rattle.gnss_obs.specs.declared.cell.Cell.{Cell}
 use Rattle.std.proofs.lemmas.Grind.{common_steps}
 
 -- ---- the records after one is set

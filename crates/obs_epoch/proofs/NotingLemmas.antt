@@ -6,24 +6,10 @@ use Rattle.std.specs.List.{IsDistinct, cons_option}
 use Rattle.std.proofs.lemmas.List.Elements.{filter-append}
 use Rattle.std.proofs.lemmas.Grind.{flat_map-append}
 use Rattle.std.proofs.lemmas.Map.Keys.{IsDistinct-push}
-use Rattle.gnss_obs.specs.declared.system.System.{System}
-use Rattle.gnss_obs.specs.declared.system.System.TheVariants.{Gps, Galileo}
-use Rattle.obs_epoch.specs.Heard.{GatherSetup}
-use Rattle.gnss_obs.specs.HeardCells.{HeardCell}
-use Rattle.obs_epoch.specs.Times.{Timed, is_at}
-use Rattle.obs_epoch.specs.Cells.{is_of_system, has_listed_key, is_planned, is_among, kept, kept_at, add, offered}
-use Rattle.gnss_obs.specs.HeardCells.{has_same_key}
-use Rattle.gnss_obs.specs.Values.{planned_of, EpochValue}
+use Rattle.obs_epoch.specs.Names.{System, Gps, Galileo, GatherSetup, HeardCell, Timed, is_at, is_of_system, has_listed_key, is_planned, is_among, kept, kept_at, add, offered, has_same_key, planned_of, EpochValue, lock_of, locked_at, latest_in, last_of, is_locked, cells_with_lli, epoch_at, lookup, note_all, most_locks, TracksLocks, Gathered, noted, locked_in, Locked, Cell, KnownLock}
 use Rattle.obs_epoch.proofs.OrderLemmas.{among-sorted, all-sorted, distinct-sorted}
-use Rattle.obs_epoch.specs.Loss.{lock_of, locked_at, latest_in, last_of, is_locked}
-use Rattle.obs_epoch.specs.Epochs.{cells_with_lli, epoch_at}
-use Rattle.obs_epoch.specs.Held.{lookup, note_all, most_locks, TracksLocks}
-use Rattle.obs_epoch.specs.Gather.{Gathered, noted}
-use Rattle.obs_epoch.specs.GathererHistory.{locked_in, Locked}
 use Rattle.obs_epoch.proofs.CellsLemmas.{kept-add, same_key_laws}
 use Rattle.obs_epoch.proofs.LockLemmas.{seens, lookup-note_all, note_all_size, tracks_all, locked, find_none, AllListed}
-use Rattle.gnss_obs.specs.declared.cell.Cell.{Cell}
-use Rattle.obs_epoch.specs.declared.locks.KnownLock.{KnownLock}
 use Rattle.std.proofs.lemmas.Grind.{common_steps}
 
 -- ---- the kept cells have different keys, all of one system

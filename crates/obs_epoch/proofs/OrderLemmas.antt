@@ -4,11 +4,8 @@ use Rattle.std.specs.Prelude.{if◌then◌else◌, fold}
 use Rattle.std.specs.List.{list_any, AllByRecursion, IsDistinct}
 use Rattle.std.proofs.lemmas.Map.Keys.{IsDistinct-head, IsDistinct-tail, IsDistinct-cons}
 use Rattle.gnss_obs.proofs.OrderLemmas.{Before, before_all}
-use Rattle.obs_epoch.specs.Cells.{is_among}
-use Rattle.gnss_obs.specs.HeardCells.{has_same_key}
+use Rattle.obs_epoch.specs.Names.{is_among, has_same_key, SortKey, is_before, SortKeysRise, insert_by, sort_key_of, sorted, HeardCell}
 use Rattle.obs_epoch.proofs.CellsLemmas.{same_key_laws}
-use Rattle.gnss_obs.specs.Order.{SortKey, is_before, SortKeysRise, insert_by, sort_key_of, sorted}
-use Rattle.gnss_obs.specs.HeardCells.{HeardCell}
 use Rattle.std.proofs.lemmas.Grind.{common_steps}
 
 -- ---- sort keys

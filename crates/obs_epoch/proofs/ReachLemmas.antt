@@ -1,38 +1,11 @@
 -- Bounds of the values of epochs.
-use Rattle.rtcm_msg.specs.declared.entry.LockField.{LockField}
-use Rattle.rtcm_msg.specs.declared.entry.LockField.TheVariants.{Df402, Df407}
+use Rattle.obs_epoch.specs.Names.{LockField, Df402, Df407, System, Gps, Galileo, Satellite, satellite_of_id, SignalAt, signal_of_id, hertz_of, nearest_pseudorange, nearest_phase, nearest_doppler, nearest_strength, LockTime, Entry, Message, Station, Msm4, Msm7, Other, IsMessage, IsMeasured, EntriesAreMeasured, PointsAreInRange, entries, StationValues, weeks, Closed, HasTwelveDigits, cells_of, planned_of, most_cells, GatherSetup, Heard, heard, observed, seen_in, lock_by, HeardCell, kept_cell, Timed, is_at, timed, timed_after, taken_at, is_of_system, is_planned, offered, firsts_after, firsts, kept, kept_at, has_same_key, times, lli_with, lli_of, has_lost, cells_with_lli, epoch_at, values_by_message, is_shut, open_after, before_closing, closed_list_at, all_epochs, IsHeardCell, IsHeard, IsStrength, IsGathered, same_place, AreGathered, AreStationValues, IsGatheredEpoch, TimesRise, AreGatheredEpochs, KnownLock}
 use Rattle.std.proofs.Common.{◌≡◌, ℕ, zero, suc, ℤ, pos, ◌+◌, ◌*◌, ◌^◌, ◌<◌, ◌≤◌, ◌≤ℤ◌, Bool, true, false, List, [], ◌∷◌, ◌++◌, filter, take, ap, arith, Option, Some, None, nat_lt, is_some, unsigned_abs}
 use Rattle.std.specs.Prelude.{if◌then◌else◌, flat_map, filter_map, option_map, option_and_then, IfSome, fold}
 use Rattle.std.specs.List.{AllByRecursion, IsDistinct, cons_option}
-use Rattle.gnss_obs.specs.declared.system.System.{System}
-use Rattle.gnss_obs.specs.declared.system.System.TheVariants.{Gps, Galileo}
-use Rattle.gnss_obs.specs.Satellites.{Satellite, satellite_of_id}
-use Rattle.gnss_obs.specs.Signals.{SignalAt, signal_of_id, hertz_of}
-use Rattle.gnss_obs.specs.Observables.{nearest_pseudorange, nearest_phase, nearest_doppler, nearest_strength}
-use Rattle.gnss_obs.specs.LockTimes.{LockTime}
-use Rattle.rtcm_msg.specs.declared.entry.Entry.{Entry}
-use Rattle.rtcm_msg.specs.declared.message.Message.{Message}
-use Rattle.rtcm_msg.specs.declared.message.Message.TheVariants.{Station, Msm4, Msm7, Other}
-use Rattle.rtcm_msg.specs.Encoding.{IsMessage}
-use Rattle.rtcm_msg.specs.Bounds.{IsMeasured, EntriesAreMeasured, PointsAreInRange}
-use Rattle.rtcm_msg.specs.Entries.{entries}
-use Rattle.gnss_obs.specs.declared.cell.StationValues.{StationValues}
 use Rattle.rtcm_msg.specs.Msm.{week}
-use Rattle.gnss_obs.specs.Weeks.{weeks}
-use Rattle.gnss_obs.specs.Values.{Closed, HasTwelveDigits, cells_of, planned_of, most_cells}
-use Rattle.obs_epoch.specs.Heard.{GatherSetup, Heard, heard, observed, seen_in, lock_by}
-use Rattle.gnss_obs.specs.HeardCells.{HeardCell, kept_cell}
-use Rattle.obs_epoch.specs.Times.{Timed, is_at, timed, timed_after, taken_at}
-use Rattle.obs_epoch.specs.Cells.{is_of_system, is_planned, offered, firsts_after, firsts, kept, kept_at}
-use Rattle.gnss_obs.specs.HeardCells.{has_same_key}
-use Rattle.obs_epoch.specs.Loss.{times, lli_with, lli_of, has_lost}
-use Rattle.obs_epoch.specs.Epochs.{cells_with_lli, epoch_at, values_by_message, is_shut}
-use Rattle.obs_epoch.specs.Gathering.{open_after, before_closing, closed_list_at, all_epochs}
-use Rattle.obs_epoch.specs.Reach.{IsHeardCell, IsHeard}
-use Rattle.gnss_obs.specs.GatheredEpochs.{IsStrength, IsGathered, same_place, AreGathered, AreStationValues, IsGatheredEpoch, TimesRise, AreGatheredEpochs}
 use Rattle.obs_epoch.proofs.OrderLemmas.{all-sorted, distinct-sorted}
 use Rattle.obs_epoch.proofs.NotingLemmas.{kept_distinct}
-use Rattle.obs_epoch.specs.declared.locks.KnownLock.{KnownLock}
 use Rattle.std.proofs.lemmas.Grind.{common_steps}
 
 -- ---- properties of each item

@@ -1,16 +1,9 @@
 -- The definitions computed on small lists.
 use Rattle.std.proofs.Common.{◌≡◌, ℕ, ◌+◌, ◌*◌, Bool, true, false, List, [], ◌∷◌, map, refl, Option, Some, None}
 use Rattle.std.specs.Prelude.{pos, ℤ}
-use Rattle.gnss_obs.specs.declared.system.System.TheVariants.{Gps}
-use Rattle.obs_epoch.specs.Heard.{GatherSetup, Heard}
-use Rattle.gnss_obs.specs.HeardCells.{HeardCell}
-use Rattle.obs_epoch.specs.Times.{timed}
+use Rattle.obs_epoch.specs.Names.{Gps, GatherSetup, Heard, HeardCell, timed, counts_of, no_values, EpochValue, Cell}
 use Rattle.rtcm_msg.specs.Msm.{week}
-use Rattle.obs_epoch.specs.Cells.{counts_of}
 use Rattle.obs_epoch.specs.Epochs.{epochs, closed_epochs}
-use Rattle.gnss_obs.specs.Values.{no_values}
-use Rattle.gnss_obs.specs.Values.{EpochValue}
-use Rattle.gnss_obs.specs.declared.cell.Cell.{Cell}
 
 abbrev setup : GatherSetup
 setup = record { plan = record { gps = 2 ∷ []; galileo = 2 ∷ [] }; start_week = 2300; station = Some 7; by_bit = true; initial = no_values }

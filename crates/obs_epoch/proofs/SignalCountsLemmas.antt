@@ -1,19 +1,11 @@
 -- The counts of the cells with a value, and of those of a message.
-use Rattle.rtcm_msg.specs.declared.entry.LockField.{LockField}
+use Rattle.obs_epoch.specs.Names.{LockField, System, Satellite, SignalAt, IsSignal, signal_of_id, LockTime, Entry, Heard, seen_in, observed, HeardCell, SignalCountsValue, brings_value, valued, is_of_signal, count_of, AreSignalCounts, entry_value}
 use Rattle.std.proofs.Common.{◌≡◌, ℕ, zero, suc, nat_lt, nat_eq, not, replicate, ◌≤◌, Bool, List, [], ◌∷◌, ◌++◌, length, refl, sym, subst, arith, Option, Some, None, filter, is_some}
 use Rattle.std.specs.Prelude.{filter_map, unwrap_or}
 use Rattle.std.specs.List.{cons_option, list_any}
 use lib.Pointwise.{pointwise}
 use Rattle.std.specs.Option.{option_map}
 use Rattle.std.proofs.lemmas.List.Sums.{length-filter, count_by-le-length}
-use Rattle.gnss_obs.specs.declared.system.System.{System}
-use Rattle.gnss_obs.specs.Satellites.{Satellite}
-use Rattle.gnss_obs.specs.Signals.{SignalAt, IsSignal, signal_of_id}
-use Rattle.gnss_obs.specs.LockTimes.{LockTime}
-use Rattle.rtcm_msg.specs.declared.entry.Entry.{Entry}
-use Rattle.obs_epoch.specs.Heard.{Heard, seen_in, observed}
-use Rattle.gnss_obs.specs.HeardCells.{HeardCell}
-use Rattle.obs_epoch.specs.SignalCounts.{SignalCountsValue, brings_value, valued, is_of_signal, count_of, AreSignalCounts, entry_value}
 use Rattle.std.proofs.lemmas.Grind.{common_steps}
 
 -- ---- a filtered list is not longer

@@ -7,20 +7,10 @@ use Rattle.std.proofs.lemmas.Bool.{cases_lt}
 use Rattle.std.proofs.lemmas.Grind.{common_steps}
 use Rattle.std.proofs.lemmas.List.{length-set}
 use Rattle.std.proofs.lemmas.List.Quantifiers.{position-Some}
-use Rattle.gnss_obs.specs.declared.system.System.{System}
-use Rattle.gnss_obs.specs.declared.system.System.TheVariants.{Gps, Galileo}
-use Rattle.gnss_obs.specs.declared.tables.ListedSignal.{ListedSignal}
-use Rattle.gnss_obs.specs.Satellites.{Satellite, is_system, satellite_of_id}
-use Rattle.gnss_obs.specs.Signals.{SignalAt, IsSignal, id_of, table, signal_of_id}
-use Rattle.gnss_obs.specs.HeardCells.{HeardCell}
+use Rattle.obs_epoch.specs.Names.{System, Gps, Galileo, ListedSignal, Satellite, is_system, satellite_of_id, SignalAt, IsSignal, id_of, table, signal_of_id, HeardCell, Entry, LockField, has_id, is_in, has_listed_value, value_count, seen_in, lock_by, observed, SignalCountsValue, signal_counts, counted, signal_in, counted_more, counted_more_in, satellite_set, up_by, brings_value, is_of_signal, count_of, CountsEntries}
 use Rattle.gnss_obs.proofs.Checked.{passes_at, is_equal}
 use Rattle.gnss_obs.proofs.TableLaws.{id_back, ids_within}
-use Rattle.rtcm_msg.specs.declared.entry.Entry.{Entry}
-use Rattle.rtcm_msg.specs.declared.entry.LockField.{LockField}
-use Rattle.rtcm_msg.specs.ValueCounts.{has_id, is_in, has_listed_value, value_count}
 use Rattle.rtcm_msg.proofs.ValueLaws.{count_first}
-use Rattle.obs_epoch.specs.Heard.{seen_in, lock_by, observed}
-use Rattle.obs_epoch.specs.SignalCounts.{SignalCountsValue, signal_counts, counted, signal_in, counted_more, counted_more_in, satellite_set, up_by, brings_value, is_of_signal, count_of, CountsEntries}
 use Rattle.obs_epoch.proofs.SignalCountsLemmas.{listed_of, value_same, one_first, few_of}
 
 -- ---- signals and their IDs

@@ -4,33 +4,10 @@ use Rattle.std.specs.Prelude.{if◌then◌else◌, position}
 use Rattle.std.specs.Option.{option_map_or}
 use Rattle.std.specs.List.{AllByRecursion}
 use Rattle.std.proofs.lemmas.List.Quantifiers.{position-Some}
-use Rattle.gnss_obs.specs.declared.system.System.{System}
-use Rattle.gnss_obs.specs.declared.system.System.TheVariants.{Gps, Galileo}
-use Rattle.gnss_obs.specs.declared.cell.Cell.{Cell}
-use Rattle.gnss_obs.specs.Values.{EpochValue, PlanValue, planned_of, cells_of}
-use Rattle.gnss_obs.specs.Stages.{PendingValue}
+use Rattle.obs_epoch.specs.Names.{System, Gps, Galileo, Cell, EpochValue, PlanValue, planned_of, cells_of, PendingValue, note_all, KnownLock, place_in, is_planned, has_same_key, GatherSetup, Heard, IsKey, HeardCell, kept_cell, heard_cell, SortKey, insert_by, sort_key_of, cell_sort_key, Crowded, Kept, Repeated, lookup, outcome_of_added, values_by_message, StationValues, is_held, Gathered, with_more_in, with_more, outcome_in, hold, hold_by, just_closed_as, noted, rested, with_time, IsPending, AreInPlanOrder, AreInOrder, Added, IsAdded, cells_after, epoch_with, outcome_by, sorted_cells, sorted_epoch, State, step_by, lli_with}
 use Rattle.gnss_obs.proofs.SortLemmas.{sorted_again}
-use Rattle.obs_epoch.specs.Held.{note_all}
-use Rattle.obs_epoch.specs.declared.locks.KnownLock.{KnownLock}
-use Rattle.gnss_obs.specs.Plans.{place_in}
-use Rattle.obs_epoch.specs.Cells.{is_planned}
-use Rattle.gnss_obs.specs.HeardCells.{has_same_key}
-use Rattle.obs_epoch.specs.Heard.{GatherSetup, Heard}
-use Rattle.gnss_obs.specs.HeardCells.{IsKey, HeardCell, kept_cell, heard_cell}
-use Rattle.gnss_obs.specs.Order.{SortKey, insert_by, sort_key_of, cell_sort_key}
-use Rattle.obs_epoch.specs.Held.{Crowded, Kept, Repeated, lookup, outcome_of_added}
-use Rattle.obs_epoch.specs.Epochs.{values_by_message}
-use Rattle.gnss_obs.specs.declared.cell.StationValues.{StationValues}
-use Rattle.gnss_obs.specs.Kept.{is_held}
-use Rattle.obs_epoch.specs.Gather.{Gathered, with_more_in, with_more, outcome_in, hold, hold_by, just_closed_as, noted, rested, with_time, IsPending}
-use Rattle.gnss_obs.specs.Kept.{AreInPlanOrder, AreInOrder}
-use Rattle.gnss_obs.specs.declared.arrivals.Added.{Added}
 use Rattle.gnss_obs.specs.declared.arrivals.Added.TheVariants as added
-use Rattle.gnss_obs.specs.Arriving.{IsAdded, cells_after, epoch_with, outcome_by, sorted_cells, sorted_epoch}
 use Rattle.std.proofs.lemmas.List.Sums.{fold-append}
-use Rattle.obs_epoch.specs.Clock.{State}
-use Rattle.obs_epoch.specs.Step.{step_by}
-use Rattle.obs_epoch.specs.Loss.{lli_with}
 use Rattle.obs_epoch.proofs.OrderLemmas.{rise-insert_by, all-insert_by, any-fold, length-fold}
 use Rattle.std.proofs.lemmas.Grind.{common_steps}
 

@@ -4,17 +4,7 @@ use Rattle.std.specs.Prelude.{if◌then◌else◌, cond, filter_map, flat_map}
 use Rattle.std.specs.Option.{option_map_or}
 use Rattle.std.specs.List.{list_any}
 use Rattle.std.proofs.lemmas.List.Elements.{filter-append}
-use Rattle.gnss_obs.specs.declared.system.System.TheVariants.{Gps, Galileo}
-use Rattle.obs_epoch.specs.Heard.{GatherSetup, Heard, is_own, ends_epoch}
-use Rattle.gnss_obs.specs.HeardCells.{HeardCell, kept_cell}
-use Rattle.obs_epoch.specs.Times.{Timed, is_at, greatest_time, is_closed, taken_at}
-use Rattle.obs_epoch.specs.Cells.{no_counts, kept_at, offered, is_planned}
-use Rattle.obs_epoch.specs.Loss.{locked_at, latest_in, previous, times, lli_with}
-use Rattle.obs_epoch.specs.Epochs.{cells_with_lli, epoch_at, closed_so_far}
-use Rattle.obs_epoch.specs.Held.{lookup, no_locks}
-use Rattle.obs_epoch.specs.Clock.{State, closes_first}
-use Rattle.obs_epoch.specs.Gather.{Gathered, no_epoch, load, epoch_begun, is_same}
-use Rattle.obs_epoch.specs.GathererHistory.{locked_in, held_at, Locked}
+use Rattle.obs_epoch.specs.Names.{Gps, Galileo, GatherSetup, Heard, is_own, ends_epoch, HeardCell, kept_cell, Timed, is_at, greatest_time, is_closed, taken_at, no_counts, kept_at, offered, is_planned, locked_at, latest_in, previous, times, lli_with, cells_with_lli, epoch_at, closed_so_far, lookup, no_locks, State, closes_first, Gathered, no_epoch, load, epoch_begun, is_same, locked_in, held_at, Locked, KnownLock}
 use Rattle.obs_epoch.proofs.TimesLemmas.{next, greater-absent, none-absent}
 use Rattle.obs_epoch.proofs.ClockLemmas.{standing, same_time, Follows, first, greater, equal, new_time}
 use Rattle.obs_epoch.proofs.ClosedLemmas.{Below, when, ends, closed_is, passes_all, one_fails, less_true, less_false, taken_follows, times-push_same}
@@ -22,7 +12,6 @@ use Rattle.obs_epoch.proofs.ClosingLemmas.{taken_by}
 use Rattle.obs_epoch.proofs.EpochLemmas.{IsLater, AllLater, all_none, all_below, kept_at-push, times_before, epoch_at-push}
 use Rattle.obs_epoch.proofs.LockLemmas.{none_found, none_recorded}
 use Rattle.obs_epoch.proofs.LoadLemmas.{with_lli_by, epoch_of, load_is, counts_after}
-use Rattle.obs_epoch.specs.declared.locks.KnownLock.{KnownLock}
 use Rattle.std.proofs.lemmas.Grind.{common_steps}
 
 -- ---- after every message, a closed epoch is the same

@@ -4,23 +4,9 @@ use Rattle.std.specs.Prelude.{if◌then◌else◌, option_to_list}
 use Rattle.std.specs.Option.{option_map_or}
 use Rattle.std.proofs.lemmas.List.{map-append}
 use Rattle.std.proofs.lemmas.List.Sums.{fold-append}
-use Rattle.rtcm_msg.specs.declared.message.Message.{Message}
+use Rattle.obs_epoch.specs.Names.{Message, Kind, CloseFirst, CellCounts, GatherSetup, Heard, heard, is_own, ends_epoch, HeardCell, Timed, greatest_time, taken_at, timed, no_counts, with_skipped, offered, counts_of, counts_of_message, epoch_at, closed_so_far, closed_times, values_of, values_by_message, State, HasHeardMessages, is_pending, closes_first, is_close_first, is_kept, kind_after, with_unlisted, Gathered, Loaded, no_epoch, noted, load, loaded_if, outcome_in, load_one, with_time, closed_if, closed_noted, epoch_begun, just_closed_as, rested, take_step, end_step, is_same, count_in, KnownLock, held_at, Locked, HasTakenMessages, closed_list, closed_epoch, EpochValue}
 use Rattle.rtcm_msg.specs.declared.message.Message.TheVariants as message
-use Rattle.obs_epoch.specs.declared.taken.Kind.{Kind}
-use Rattle.obs_epoch.specs.declared.taken.Kind.TheVariants.{CloseFirst}
-use Rattle.obs_epoch.specs.declared.taken.CellCounts.{CellCounts}
-use Rattle.obs_epoch.specs.Heard.{GatherSetup, Heard, heard, is_own, ends_epoch}
-use Rattle.gnss_obs.specs.HeardCells.{HeardCell}
-use Rattle.obs_epoch.specs.Times.{Timed, greatest_time, taken_at, timed}
-use Rattle.obs_epoch.specs.Cells.{no_counts, with_skipped, offered, counts_of, counts_of_message}
-use Rattle.obs_epoch.specs.Epochs.{epoch_at, closed_so_far, closed_times, values_of, values_by_message}
-use Rattle.obs_epoch.specs.Clock.{State, HasHeardMessages, is_pending, closes_first}
-use Rattle.obs_epoch.specs.Kinds.{is_close_first, is_kept, kind_after}
 use Rattle.obs_epoch.specs.Step.{kind_by, step_by, closed_by, closed_of}
-use Rattle.obs_epoch.specs.Gather.{with_unlisted, Gathered, Loaded, no_epoch, noted, load, loaded_if, outcome_in, load_one, with_time, closed_if, closed_noted, epoch_begun, just_closed_as, rested, take_step, end_step, is_same}
-use Rattle.obs_epoch.specs.Held.{count_in}
-use Rattle.obs_epoch.specs.declared.locks.KnownLock.{KnownLock}
-use Rattle.obs_epoch.specs.GathererHistory.{held_at, Locked, HasTakenMessages, closed_list, closed_epoch}
 use Rattle.obs_epoch.proofs.TimesLemmas.{next, timed-push}
 use Rattle.obs_epoch.proofs.ClockLemmas.{standing, same_state, takes, closes, new_time}
 use Rattle.obs_epoch.proofs.ClosedLemmas.{taken_follows}
@@ -30,7 +16,6 @@ use Rattle.obs_epoch.proofs.CountsLemmas.{counts_are}
 use Rattle.obs_epoch.proofs.LoadLemmas.{hold_is}
 use Rattle.obs_epoch.proofs.NotingLemmas.{noted_locked}
 use Rattle.obs_epoch.proofs.StandingLemmas.{locked-push, closed_later, loaded_taken, held_same}
-use Rattle.gnss_obs.specs.Values.{EpochValue}
 use Rattle.std.proofs.lemmas.Grind.{common_steps}
 
 pub clock_is : (g : State) (s : GatherSetup) (ms : List Heard) (shut : Bool) → HasHeardMessages g s ms shut → g ≡ standing s (timed s ms) shut

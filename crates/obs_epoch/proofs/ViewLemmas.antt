@@ -1,15 +1,7 @@
 -- A view and its message.
 use Rattle.std.proofs.Common.{◌≡◌, refl}
-use Rattle.rtcm_msg.specs.declared.message.Message.{Message}
-use Rattle.rtcm_msg.specs.declared.message.Message.TheVariants.{Station, Msm4, Msm7, Other}
-use Rattle.rtcm_msg.specs.declared.view.Form.{Form}
+use Rattle.obs_epoch.specs.Names.{Message, Station, Msm4, Msm7, Other, Form, FormedMsm, formed, message_in, lock_field, summary, MsmValue, entries, heard, heard_msm, heard_summary, without_cells}
 use Rattle.rtcm_msg.specs.declared.view.Form.TheVariants as forms
-use Rattle.rtcm_msg.specs.Views.{FormedMsm, formed, message_in}
-use Rattle.rtcm_msg.specs.Viewed.{lock_field}
-use Rattle.rtcm_msg.specs.Summaries.{summary}
-use Rattle.rtcm_msg.specs.Msm.{MsmValue}
-use Rattle.rtcm_msg.specs.Entries.{entries}
-use Rattle.obs_epoch.specs.Heard.{heard, heard_msm, heard_summary, without_cells}
 
 pub summary_heard : (m : Message) → heard_summary (summary m) ≡ without_cells (heard m)
 summary_heard (Station p) = refl

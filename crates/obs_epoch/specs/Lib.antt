@@ -14,3 +14,4 @@ pub mod Calls
 pub mod Laws
 pub mod Reach
 pub mod SignalCounts
+pub mod Names

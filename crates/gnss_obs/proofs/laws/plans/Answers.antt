@@ -3,12 +3,7 @@ use Rattle.std.specs.Prelude.{if◌then◌else◌}
 use Rattle.std.specs.List.{list_any, IsDistinct}
 use Rattle.std.proofs.lemmas.Cmp.{nat_eq_equiv}
 use Rattle.std.proofs.lemmas.Map.Keys.{IsDistinct-push}
-use Rattle.gnss_obs.specs.declared.system.System.{System}
-use Rattle.gnss_obs.specs.Signals.{SignalAt, signal_of_code}
-use Rattle.gnss_obs.specs.declared.fault.PlanFault.{PlanFault}
-use Rattle.gnss_obs.specs.declared.fault.PlanFault.TheVariants.{RepeatedCode}
-use Rattle.gnss_obs.specs.Plans.{signals_after, one_signal_more}
-use Rattle.gnss_obs.specs.Plans.{CodesNameSignals}
+use Rattle.gnss_obs.specs.Names.{System, SignalAt, signal_of_code, PlanFault, RepeatedCode, signals_after, one_signal_more, CodesNameSignals}
 use Rattle.gnss_obs.proofs.PlanLemmas.{of_where}
 use Rattle.gnss_obs.proofs.laws.plans.Goals as goal
 use Rattle.std.proofs.lemmas.Grind.{common_steps}

@@ -1,8 +1,6 @@
 use Rattle.std.proofs.Common.{◌≡◌, ◌*◌, ◌^◌, ◌*ℤ◌, ◌-ℤ◌, ◌<◌, ◌≤◌, ℕ, ℤ, pos, unsigned_abs, arith, ◌∙◌, ap, sym, subst, refl, w32, w64, to_z, of_z, lit<}
 use Rattle.std.proofs.lemmas.Int.{ints}
-use Rattle.gnss_obs.specs.Observables.{nearest_doppler, light}
-use Rattle.gnss_obs.specs.Rounding.{IsNearest, nearest}
-use Rattle.gnss_obs.specs.Signals.{hertz_of}
+use Rattle.gnss_obs.specs.Names.{nearest_doppler, light, IsNearest, nearest, hertz_of}
 use Rattle.gnss_obs.proofs.NearestLaws.{nearest_is, turned}
 use Rattle.gnss_obs.proofs.SizeLaws.{shift_small}
 use Rattle.gnss_obs.proofs.observables.doppler.Goals as goal

@@ -1,8 +1,6 @@
 use Rattle.std.proofs.Common.{◌≡◌, ◌^◌, ◌*ℤ◌, ◌<◌, pos, unsigned_abs, arith, ◌∙◌, refl, sym, ap₂, subst, w64, to_z, of_z, lit<}
 use Rattle.std.proofs.lemmas.Int.{ints}
-use Rattle.gnss_obs.specs.Rounding.{IsNearest, nearest}
-use Rattle.gnss_obs.specs.Observables.{nearest_phase}
-use Rattle.gnss_obs.specs.Signals.{hertz_of}
+use Rattle.gnss_obs.specs.Names.{IsNearest, nearest, nearest_phase, hertz_of}
 use Rattle.gnss_obs.proofs.NearestLaws.{nearest_is}
 use Rattle.gnss_obs.proofs.SizeLaws.{cycles_small, kept, product_fits}
 use Rattle.gnss_obs.proofs.observables.phase.Goals as goal

@@ -1,7 +1,6 @@
 use Rattle.std.proofs.Common.{◌≡◌, ◌^◌, ◌*ℤ◌, ◌<◌, pos, unsigned_abs, arith, ◌∙◌, refl, sym, ap, subst, w64, to_z, of_z, lit<, lit≤}
 use Rattle.std.proofs.lemmas.Int.{ints}
-use Rattle.gnss_obs.specs.Rounding.{IsNearest, nearest}
-use Rattle.gnss_obs.specs.Observables.{light, nearest_pseudorange}
+use Rattle.gnss_obs.specs.Names.{IsNearest, nearest, light, nearest_pseudorange}
 use Rattle.gnss_obs.proofs.NearestLaws.{nearest_is}
 use Rattle.gnss_obs.proofs.SizeLaws.{kept, metres_small, product_fits}
 use Rattle.gnss_obs.proofs.observables.pseudorange.Goals as goal

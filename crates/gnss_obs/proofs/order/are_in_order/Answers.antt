@@ -1,7 +1,6 @@
 use Rattle.std.proofs.Common.{◌<◌, ◌≤◌, ◌+◌, ◌∙◌, sym, ap, arith, subst, length, map, drop}
 use Rattle.std.proofs.lemmas.List.{drop_all}
-use Rattle.gnss_obs.specs.Arriving.{cell_number}
-use Rattle.gnss_obs.specs.Values.{planned_of}
+use Rattle.gnss_obs.specs.Names.{cell_number, planned_of}
 use Rattle.gnss_obs.proofs.SortLemmas.{Rises, rises_more, rises_sorted, table_few}
 use Rattle.gnss_obs.proofs.order.are_in_order.Goals as goal
 

@@ -1,6 +1,5 @@
 use Rattle.std.proofs.Common.{◌≡◌, take, length}
-use Rattle.gnss_obs.specs.declared.cell.Cell.{Cell}
-use Rattle.gnss_obs.specs.Arriving.{picked}
+use Rattle.gnss_obs.specs.Names.{Cell, picked}
 use Rattle.gnss_obs.proofs.order.copy_in.Given as goal
 
 abbrev pub invariant-loop-i : goal.invariant-loop-i

@@ -1,6 +1,5 @@
 use Rattle.std.proofs.Common.{◌≡◌, take, length}
-use Rattle.gnss_obs.specs.Arriving.{numbers}
-use Rattle.gnss_obs.specs.Values.{planned_of}
+use Rattle.gnss_obs.specs.Names.{numbers, planned_of}
 use Rattle.gnss_obs.proofs.order.number_cells.Given as goal
 
 abbrev pub invariant-loop-i : goal.invariant-loop-i

@@ -1,10 +1,6 @@
 use Rattle.std.proofs.Common.{◌≡◌, ◌++◌, ◌∷◌, [], ℕ, List, inl, inr, sym, ◌∙◌, Result, Ok, Err, Some}
 use Rattle.std.specs.Prelude.{MatchResult}
-use Rattle.gnss_obs.specs.declared.system.System.{System}
-use Rattle.gnss_obs.specs.Signals.{SignalAt, signal_of_code}
-use Rattle.gnss_obs.specs.declared.fault.PlanFault.{PlanFault}
-use Rattle.gnss_obs.specs.declared.fault.PlanFault.TheVariants.{UnknownCode, RepeatedCode, NothingPlanned, BadWeek, BadStation, Memory}
-use Rattle.gnss_obs.specs.SignalLists.{IsOf, TakesCode, RefusesCode, IsMemoryFaultOr, IsUnfitAfter}
+use Rattle.gnss_obs.specs.Names.{System, SignalAt, signal_of_code, PlanFault, UnknownCode, RepeatedCode, NothingPlanned, BadWeek, BadStation, Memory, IsOf, TakesCode, RefusesCode, IsMemoryFaultOr, IsUnfitAfter}
 use Rattle.gnss_obs.proofs.FitLemmas.{not_before}
 use Rattle.gnss_obs.proofs.PlanLemmas.{repeated, accepted, of_where}
 use Rattle.gnss_obs.proofs.plan.add_code.Goals as goal

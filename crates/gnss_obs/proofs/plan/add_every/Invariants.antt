@@ -1,6 +1,5 @@
 use Rattle.std.proofs.Common.{◌≡◌}
-use Rattle.gnss_obs.specs.SignalLists.{indices, IsOf}
-use Rattle.gnss_obs.specs.Plans.{below}
+use Rattle.gnss_obs.specs.Names.{indices, IsOf, below}
 use Rattle.gnss_obs.proofs.plan.add_every.Given as goal
 
 abbrev pub invariant-loop-index : goal.invariant-loop-index

@@ -1,7 +1,5 @@
 use Rattle.std.proofs.Common.{◌∙◌, sym, ap, subst}
-use Rattle.gnss_obs.specs.declared.system.System.TheVariants.{Gps, Galileo}
-use Rattle.gnss_obs.specs.Values.{Closed, EpochValue}
-use Rattle.gnss_obs.specs.Arriving.{AddsCell, IsAdded}
+use Rattle.gnss_obs.specs.Names.{Gps, Galileo, Closed, EpochValue, AddsCell, IsAdded}
 use Rattle.gnss_obs.proofs.HeldLemmas.{is_added}
 use Rattle.gnss_obs.proofs.arrivals.Arrivals.add.Goals as goal
 

@@ -1,6 +1,5 @@
 use Rattle.std.proofs.Common.{sym, subst}
-use Rattle.gnss_obs.specs.declared.system.System.TheVariants.{Gps, Galileo}
-use Rattle.gnss_obs.specs.Values.{AreHeld}
+use Rattle.gnss_obs.specs.Names.{Gps, Galileo, AreHeld}
 use Rattle.gnss_obs.proofs.HeldLemmas.{held_sorted}
 use Rattle.gnss_obs.proofs.arrivals.Arrivals.sort.Goals as goal
 

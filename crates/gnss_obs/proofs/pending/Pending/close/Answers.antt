@@ -1,8 +1,5 @@
 use Rattle.std.proofs.Common.{◌≡◌, ◌∙◌, sym, ap, subst}
-use Rattle.gnss_obs.specs.Values.{Closed, EpochValue}
-use Rattle.gnss_obs.specs.Order.{AreOrderedBy}
-use Rattle.gnss_obs.specs.Arriving.{sorted_epoch}
-use Rattle.gnss_obs.specs.Stages.{PendingValue, stage_value}
+use Rattle.gnss_obs.specs.Names.{Closed, EpochValue, AreOrderedBy, sorted_epoch, PendingValue, stage_value}
 use Rattle.gnss_obs.proofs.pending.Pending.close.Goals as goal
 
 epoch_is : (c : goal.After-sort) → c.sort.new.self.epoch ≡ sorted_epoch c.args.plan.now c.args.self.now.epoch

@@ -1,6 +1,5 @@
 use Rattle.std.proofs.Common.{subst, sym}
-use Rattle.gnss_obs.specs.declared.system.System.TheVariants.{Gps, Galileo}
-use Rattle.gnss_obs.specs.SignalLists.{IsOf}
+use Rattle.gnss_obs.specs.Names.{Gps, Galileo, IsOf}
 use Rattle.gnss_obs.proofs.MadeLemmas.{both_added, done_if, memory_alone, plan_added}
 use Rattle.gnss_obs.proofs.plan.Plan.from_signals.Goals as goal
 

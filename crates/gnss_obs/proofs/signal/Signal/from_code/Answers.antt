@@ -5,9 +5,7 @@ use Rattle.std.specs.Option.{option_map}
 use Rattle.std.specs.Str.{bytes_eq}
 use Rattle.std.proofs.lemmas.Iterator.Adapters.{position_from-zero}
 use Rattle.std.proofs.lemmas.List.{drop_all}
-use Rattle.gnss_obs.specs.declared.system.System.{System}
-use Rattle.gnss_obs.specs.declared.tables.ListedSignal.{ListedSignal}
-use Rattle.gnss_obs.specs.Signals.{signal_at, signal_of_code, signal_where, table}
+use Rattle.gnss_obs.specs.Names.{System, ListedSignal, signal_at, signal_of_code, signal_where, table}
 use Rattle.gnss_obs.proofs.signal.Signal.from_code.Goals as goal
 
 -- The first row from an index on, by the row at that index.

@@ -1,7 +1,5 @@
 use Rattle.std.proofs.Common.{◌∙◌, sym, ap, length, List}
-use Rattle.gnss_obs.specs.declared.cell.Cell.{Cell}
-use Rattle.gnss_obs.specs.Values.{EpochValue, cells_of}
-use Rattle.obs_epoch.specs.Gather.{Gathered}
+use Rattle.obs_epoch.specs.Names.{Cell, EpochValue, cells_of, Gathered}
 use Rattle.obs_epoch.proofs.StandLemmas.{count_same}
 use Rattle.obs_epoch.proofs.gather.Gatherer.cells.Goals as goal
 

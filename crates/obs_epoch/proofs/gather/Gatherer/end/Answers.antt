@@ -1,9 +1,5 @@
 use Rattle.std.proofs.Common.{◌≡◌, ◌++◌, None, Bool, true, sym, ◌∙◌, subst, ap, ap₂, refl}
-use Rattle.gnss_obs.specs.Values.{EpochValue}
-use Rattle.gnss_obs.specs.Arriving.{sorted_epoch}
-use Rattle.obs_epoch.specs.Clock.{State}
-use Rattle.obs_epoch.specs.Gather.{Gathered, closed_noted, end_step}
-use Rattle.obs_epoch.specs.Gathering.{HasGatheredEpochs, returned_epoch}
+use Rattle.obs_epoch.specs.Names.{EpochValue, sorted_epoch, State, Gathered, closed_noted, end_step, HasGatheredEpochs, returned_epoch}
 use Rattle.obs_epoch.proofs.HandingLemmas.{gathers_ended, has_closed, end_handed, end_ended}
 use Rattle.obs_epoch.proofs.StandLemmas.{never_both}
 use Rattle.obs_epoch.proofs.gather.Gatherer.end.Goals as goal

@@ -1,11 +1,5 @@
 use Rattle.std.proofs.Common.{◌∙◌, sym, ap, subst, refl, false}
-use Rattle.gnss_obs.specs.Kept.{AreInOrder}
-use Rattle.gnss_obs.specs.Arriving.{sorted_epoch}
-use Rattle.gnss_obs.specs.Stages.{PendingValue}
-use Rattle.obs_epoch.specs.Clock.{State}
-use Rattle.obs_epoch.specs.Epochs.{values_by_message}
-use Rattle.obs_epoch.specs.Gather.{Gathered, rested, with_time}
-use Rattle.obs_epoch.specs.Heard.{heard_summary}
+use Rattle.obs_epoch.specs.Names.{AreInOrder, sorted_epoch, PendingValue, State, values_by_message, Gathered, rested, with_time, heard_summary}
 use Rattle.obs_epoch.proofs.StandLemmas.{heard_is, never_both, step_setup}
 use Rattle.obs_epoch.proofs.gather.Gatherer.hear.Goals as goal
 

@@ -1,8 +1,5 @@
 use Rattle.std.proofs.Common.{[], refl, ap, subst, rules, false}
-use Rattle.obs_epoch.specs.Clock.{HasHeardMessages}
-use Rattle.obs_epoch.specs.Heard.{GatherSetup}
-use Rattle.gnss_obs.specs.Arriving.{sorted_epoch}
-use Rattle.gnss_obs.specs.Stages.{PendingValue}
+use Rattle.obs_epoch.specs.Names.{HasHeardMessages, GatherSetup, sorted_epoch, PendingValue}
 use Rattle.obs_epoch.proofs.StandingLemmas.{none_locked}
 use Rattle.obs_epoch.proofs.gather.Gatherer.new_at.Goals as goal
 

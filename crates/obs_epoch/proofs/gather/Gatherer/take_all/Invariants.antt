@@ -1,6 +1,5 @@
 use Rattle.std.proofs.Common.{◌≡◌, ◌+◌, ◌≤◌, false, length}
-use Rattle.obs_epoch.specs.Cells.{cells_counted, no_counts}
-use Rattle.obs_epoch.specs.Gather.{load_entries}
+use Rattle.obs_epoch.specs.Names.{cells_counted, no_counts, load_entries}
 use Rattle.obs_epoch.proofs.gather.Gatherer.take_all.Given as goal
 
 abbrev pub invariant-loop-entry : goal.invariant-loop-entry

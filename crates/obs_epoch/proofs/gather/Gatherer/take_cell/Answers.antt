@@ -1,13 +1,5 @@
 use Rattle.std.proofs.Common.{◌≡◌, ◌∙◌, sym, ap, ap₂, subst, refl, true, is_some}
-use Rattle.gnss_obs.specs.declared.cell.Cell.{Cell}
-use Rattle.gnss_obs.specs.declared.cell.StationValues.{StationValues}
-use Rattle.gnss_obs.specs.Values.{planned_of}
-use Rattle.gnss_obs.specs.HeardCells.{heard_cell, kept_cell}
-use Rattle.gnss_obs.specs.Plans.{place_in}
-use Rattle.gnss_obs.specs.Arriving.{sorted_epoch}
-use Rattle.obs_epoch.specs.Gather.{Gathered, hold, outcome_in}
-use Rattle.obs_epoch.specs.Held.{count_in}
-use Rattle.obs_epoch.specs.Loss.{lli_with}
+use Rattle.obs_epoch.specs.Names.{Cell, StationValues, planned_of, heard_cell, kept_cell, place_in, sorted_epoch, Gathered, hold, outcome_in, count_in, lli_with}
 use Rattle.obs_epoch.proofs.StandLemmas.{held_is, never_both, order_added, outcome_is, planned_is}
 use Rattle.obs_epoch.proofs.gather.Gatherer.take_cell.Goals as goal
 

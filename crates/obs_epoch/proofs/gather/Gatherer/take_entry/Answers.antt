@@ -1,10 +1,6 @@
 use Rattle.std.proofs.Common.{◌≡◌, sym, ap, ap₂, ◌∙◌, Option}
 use Rattle.std.specs.Prelude.{option_and_then}
-use Rattle.gnss_obs.specs.declared.cell.Cell.{Cell}
-use Rattle.gnss_obs.specs.HeardCells.{HeardCell}
-use Rattle.gnss_obs.specs.Values.{PlanValue}
-use Rattle.obs_epoch.specs.Heard.{seen_in}
-use Rattle.obs_epoch.specs.Gather.{Gathered, planned_cell}
+use Rattle.obs_epoch.specs.Names.{Cell, HeardCell, PlanValue, seen_in, Gathered, planned_cell}
 use Rattle.obs_epoch.proofs.EntryLemmas.{unplanned_entry, planned_entry, planned_place}
 use Rattle.obs_epoch.proofs.gather.Gatherer.take_entry.Goals as goal
 

@@ -1,15 +1,8 @@
 use Rattle.std.proofs.Common.{◌++◌, ◌∷◌, [], sym, ap, ◌∙◌, subst, Some, None, ◌≡◌, ℕ, Bool, ap₂, Option, is_some}
-use Rattle.rtcm_msg.specs.Viewed.{viewed_message}
-use Rattle.obs_epoch.specs.Heard.{heard, Heard, heard_summary, without_cells}
-use Rattle.obs_epoch.specs.Times.{timed}
-use Rattle.obs_epoch.specs.Gather.{Gathered, take_step, Loaded, loaded_if, rested, with_time}
-use Rattle.obs_epoch.specs.Kinds.{is_close_first, is_kept, with_counts}
-use Rattle.obs_epoch.specs.Calls.{IsCloseFirstExactly}
-use Rattle.obs_epoch.specs.Gathering.{HasGatheredEpochs, returned_epoch}
+use Rattle.obs_epoch.specs.Names.{viewed_message, heard, Heard, heard_summary, without_cells, timed, Gathered, take_step, Loaded, loaded_if, rested, with_time, is_close_first, is_kept, with_counts, IsCloseFirstExactly, HasGatheredEpochs, returned_epoch, no_counts}
 use Rattle.obs_epoch.proofs.TakeLemmas.{no_point, given_alone, closed_is, ended_is, loaded_rested}
 use Rattle.obs_epoch.proofs.HandingLemmas.{gathers_first, gathers_taken, has_closed}
 use Rattle.obs_epoch.proofs.KindLemmas.{counted_kind, exactly_first, again_taken, fits_now, kind_taken}
-use Rattle.obs_epoch.specs.Cells.{no_counts}
 use Rattle.obs_epoch.specs.Step.{kind_by, closed_by}
 use Rattle.obs_epoch.proofs.ViewLemmas.{summary_heard}
 use Rattle.obs_epoch.proofs.gather.Gatherer.take_view.Goals as goal

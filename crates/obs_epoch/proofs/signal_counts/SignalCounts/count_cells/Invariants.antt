@@ -1,8 +1,5 @@
 use Rattle.std.proofs.Common.{ℕ, ◌≡◌, ◌+◌, ◌<◌, ◌≤◌, length, get_or}
-use Rattle.rtcm_msg.specs.Entries.{entries}
-use Rattle.rtcm_msg.specs.Views.{formed}
-use Rattle.rtcm_msg.specs.ValueCounts.{value_count}
-use Rattle.obs_epoch.specs.SignalCounts.{satellite_set}
+use Rattle.obs_epoch.specs.Names.{entries, formed, value_count, satellite_set}
 use Rattle.obs_epoch.proofs.SignalNumbers.{Adds}
 use Rattle.obs_epoch.proofs.signal_counts.SignalCounts.count_cells.Given as goal
 

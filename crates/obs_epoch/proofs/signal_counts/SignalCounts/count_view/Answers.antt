@@ -1,13 +1,6 @@
 use Rattle.std.proofs.Common.{◌∙◌, ◌≡◌, ◌≤◌, ◌<◌, ◌+◌, ◌^◌, ap, sym, refl, subst, ℕ, List, length, arith, filter}
 use Rattle.std.specs.Prelude.{filter_map, unwrap_or}
-use Rattle.rtcm_msg.specs.declared.entry.Entry.{Entry}
-use Rattle.rtcm_msg.specs.declared.header.MsmHeader.{MsmHeader}
-use Rattle.rtcm_msg.specs.Entries.{entries}
-use Rattle.rtcm_msg.specs.Views.{FormedMsm, formed}
-use Rattle.gnss_obs.specs.declared.system.System.{System}
-use Rattle.rtcm_msg.specs.Viewed.{viewed_message, lock_field}
-use Rattle.obs_epoch.specs.Heard.{heard, heard_msm, seen_in, system_of}
-use Rattle.obs_epoch.specs.SignalCounts.{brings_value, valued}
+use Rattle.obs_epoch.specs.Names.{Entry, MsmHeader, entries, FormedMsm, formed, System, viewed_message, lock_field, heard, heard_msm, seen_in, system_of, brings_value, valued}
 use Rattle.obs_epoch.proofs.SignalCountsLemmas.{wanted_cells, message_counted, few_valued}
 use Rattle.obs_epoch.proofs.ViewLemmas.{heard_formed}
 use Rattle.obs_epoch.proofs.signal_counts.SignalCounts.count_view.Goals as goal
