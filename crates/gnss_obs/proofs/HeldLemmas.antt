@@ -1,37 +1,20 @@
 -- Kept cells of a system as they arrive.
 use Rattle.std.proofs.Common.{◌≡◌, ℕ, suc, ◌+◌, ◌*◌, ◌<◌, ◌==◌, ◌&&◌, ◌||◌, Bool, true, false, List, [], ◌∷◌, map, refl, sym, ap, ap₂, ◌∙◌, subst, arith, length, All}
 use Rattle.std.specs.Prelude.{fold, if◌then◌else◌}
-use Rattle.std.proofs.lemmas.List.Elements.{All-cons, All-nil, All-head, All-tail}
+use Rattle.std.proofs.lemmas.List.Elements.{All-head, All-tail}
+use Rattle.std.proofs.lemmas.List.Sorted.{All-permutation, length_permutation}
+use Rattle.gnss_obs.proofs.OrderLemmas.{sort_moves}
 use Rattle.gnss_obs.specs.Names.{System, Gps, Galileo, Cell, Added, Satellite, SignalAt, IsSignal, AreHeld, EpochValue, IsHeld, cells_of, IsObserved, heard_cell, same_key, insert_by, cell_sort_key, is_held, AddsCell, IsAdded, slot, has_slot, sorted_cells, outcome_by, cells_after, epoch_with}
 use Rattle.std.proofs.lemmas.Grind.{common_steps}
 
 -- ---- sorted cells
 
-length-insert : (planned : List ℕ) (x : Cell) (ys : List Cell) → length (insert_by (cell_sort_key planned) x ys) ≡ suc (length ys)
-length-insert planned x [] = refl
-length-insert planned x (y ∷ ys) = grind (arith, common_steps, length-insert planned x ys)
-
-all-insert : (P : Cell → Type 0) (planned : List ℕ) (x : Cell) (ys : List Cell) → P x → All P ys → All P (insert_by (cell_sort_key planned) x ys)
-all-insert P planned x [] h all = All-cons P x [] h all
-all-insert P planned x (y ∷ ys) h all = by _ (all-insert P planned x ys h (All-tail P y ys all)) where
-  by : (b : Bool) → All P (insert_by (cell_sort_key planned) x ys) → All P (if b then x ∷ y ∷ ys else y ∷ insert_by (cell_sort_key planned) x ys)
-  by true more = All-cons P x (y ∷ ys) h all
-  by false more = All-cons P y (insert_by (cell_sort_key planned) x ys) (All-head P y ys all) more
-
-all-onto : (P : Cell → Type 0) (planned : List ℕ) (ys xs : List Cell) → All P ys → All P xs → All P (fold (λ zs z. insert_by (cell_sort_key planned) z zs) ys xs)
-all-onto P planned ys [] h all = h
-all-onto P planned ys (x ∷ xs) h all = all-onto P planned (insert_by (cell_sort_key planned) x ys) xs (all-insert P planned x ys (All-head P x xs all) h) (All-tail P x xs all)
-
-length-onto : (planned : List ℕ) (ys xs : List Cell) → length (fold (λ zs z. insert_by (cell_sort_key planned) z zs) ys xs) ≡ length ys + length xs
-length-onto planned ys [] = omega arith
-length-onto planned ys (x ∷ xs) =
-    let a = length-onto planned (insert_by (cell_sort_key planned) x ys) xs in let b = length-insert planned x ys in omega (arith, a, b)
-
 pub held_sorted : (system : System) (planned : List ℕ) (cells : List Cell) → AreHeld system cells → AreHeld system (sorted_cells planned cells)
-held_sorted system planned cells h = record {
-  each = all-onto (IsHeld system) planned [] cells (All-nil (IsHeld system)) h.each;
-  few = let n = length-onto planned [] cells in let m = h.few in omega (arith, n, m);
-}
+held_sorted system planned cells h =
+    let moved = sort_moves (cell_sort_key planned) cells in
+    let n = length_permutation cells (sorted_cells planned cells) moved in
+    let m = h.few in
+    record { each = All-permutation (IsHeld system) cells (sorted_cells planned cells) moved h.each; few = omega (arith, n, m) }
 
 -- ---- one more cell
 

@@ -10,6 +10,7 @@ use Rattle.std.proofs.lemmas.List.Sorted.{sum_by-IsPermutation}
 use Rattle.std.proofs.lemmas.List.Elements.{All-cons, All-nil}
 use Rattle.std.proofs.lemmas.List.Quantifiers.{position-Some}
 use Rattle.gnss_obs.specs.Names.{Cell, System, Gps, Galileo, table, place_in, SortKey, is_before, SortKeysRise, insert_by, cell_sort_key, sorted_cells, sorted_epoch, cell_number, numbers, picked, EpochValue, PlanValue, AreInOrder}
+use Rattle.gnss_obs.proofs.OrderLemmas.{all-insert_by, sort_moves}
 use Rattle.std.proofs.lemmas.Grind.{common_steps}
 
 -- ---- sorted numbers
@@ -65,35 +66,14 @@ sorted_once (x ∷ xs) (y ∷ ys) s t same =
 
 -- ---- one by one
 
+abbrev num : ℕ → SortKey
+num n = record { satellite = n; place = 0 }
+
+before_num : (n m : ℕ) → is_before (num n) (num m) ≡ nat_lt n m
+before_num n m = grind (arith, common_steps)
+
 abbrev ins : ℕ → List ℕ → List ℕ
-ins n [] = n ∷ []
-ins n (m ∷ ms) = if nat_lt n m then n ∷ m ∷ ms else m ∷ ins n ms
-
-abbrev isort : List ℕ → List ℕ → List ℕ
-isort acc [] = acc
-isort acc (n ∷ ns) = isort (ins n acc) ns
-
-plus_swap : (a b c : ℕ) → a + (b + c) ≡ b + (a + c)
-plus_swap a b c = omega arith
-
-count-ins : (k n : ℕ) (ms : List ℕ) → count k (ins n ms) ≡ one_if (n == k) + count k ms
-count-ins k n [] = refl
-count-ins k n (m ∷ ms) = by (nat_lt n m) (count-ins k n ms) where
-  by : (b : Bool) → count k (ins n ms) ≡ one_if (n == k) + count k ms → count k (if b then n ∷ m ∷ ms else m ∷ ins n ms) ≡ one_if (n == k) + count k (m ∷ ms)
-  by true e = refl
-  by false e = ap (λ c. one_if (m == k) + c) e ∙ plus_swap (one_if (m == k)) (one_if (n == k)) (count k ms)
-
-count-isort : (k : ℕ) (acc ns : List ℕ) → count k (isort acc ns) ≡ count k acc + count k ns
-count-isort k acc [] = omega arith
-count-isort k acc (n ∷ ns) =
-    let a = count-isort k (ins n acc) ns in let b = count-ins k n acc in omega (arith, a, b)
-
-all-ins : (P : ℕ → Type 0) (n : ℕ) (ms : List ℕ) → P n → AllByRecursion P ms → AllByRecursion P (ins n ms)
-all-ins P n [] h all = (h, tt)
-all-ins P n (m ∷ ms) h all = by (nat_lt n m) (all-ins P n ms h all.1) where
-  by : (b : Bool) → AllByRecursion P (ins n ms) → AllByRecursion P (if b then n ∷ m ∷ ms else m ∷ ins n ms)
-  by true more = (h, all)
-  by false more = (all.0, more)
+ins n ms = insert_by num n ms
 
 low_more : (n m : ℕ) (ms : List ℕ) → n ≤ m → Low m ms → Low n ms
 low_more n m [] h low = tt
@@ -101,10 +81,13 @@ low_more n m (k ∷ ms) h low = (let a : m ≤ k = low.0 in omega (arith, h, a),
 
 sorted-ins : (n : ℕ) (ms : List ℕ) → Sorted ms → Sorted (ins n ms)
 sorted-ins n [] s = (tt, tt)
-sorted-ins n (m ∷ ms) s = by (nat_lt n m) refl (sorted-ins n ms s.1) where
-  by : (b : Bool) → nat_lt n m ≡ b → Sorted (ins n ms) → Sorted (if b then n ∷ m ∷ ms else m ∷ ins n ms)
+sorted-ins n (m ∷ ms) s = by (is_before (num n) (num m)) (before_num n m) (sorted-ins n ms s.1) where
+  by : (b : Bool) → b ≡ nat_lt n m → Sorted (ins n ms) → Sorted (if b then n ∷ m ∷ ms else m ∷ ins n ms)
   by true e more = let h : n ≤ m = grind (arith, e) in ((h, low_more n m ms h s.0), s)
-  by false e more = let h : m ≤ n = grind (arith, e) in (all-ins (λ k. m ≤ k) n ms h s.0, more)
+  by false e more = let h : m ≤ n = grind (arith, e) in (all-insert_by (λ k. m ≤ k) num n ms h s.0, more)
+
+abbrev isort : List ℕ → List ℕ → List ℕ
+isort acc ns = fold (λ ms n. ins n ms) acc ns
 
 sorted-isort : (acc ns : List ℕ) → Sorted acc → Sorted (isort acc ns)
 sorted-isort acc [] s = s
@@ -126,9 +109,8 @@ sorted_at (n ∷ ns) h = (low_at n ns (λ j less. h 0 (suc j) (omega arith) (ome
 pub sorted_is : (ns order : List ℕ) → IsPermutation ns order → IsNonDecreasing order → order ≡ isort [] ns
 sorted_is ns order moved rise =
     sorted_once order (isort [] ns) (sorted_at order (λ i j le less. rise i j 0 le less)) (sorted-isort [] ns tt)
-    (λ k. count_is k order ∙ sum_by-IsPermutation (λ n. one_if (n == k)) ns order moved ∙ sym (count_is k ns) ∙ zero-plus (count k ns) ∙ sym (count-isort k [] ns)) where
-      zero-plus : (c : ℕ) → c ≡ 0 + c
-      zero-plus c = omega arith
+    (λ k. count_is k order ∙ sum_by-IsPermutation (λ n. one_if (n == k)) ns order moved
+    ∙ sym (count_is k (isort [] ns) ∙ sum_by-IsPermutation (λ n. one_if (n == k)) ns (isort [] ns) (sort_moves num ns)))
 
 -- ---- numbers of cells
 
@@ -170,7 +152,7 @@ picked-ins : (planned : List ℕ) (cells : List Cell) (d : Cell) (k : ℕ) (x : 
 picked-ins planned cells d k x few small at [] all =
     ap (λ j. get_or cells j d ∷ []) (last_byte (cell_number planned x) k small) ∙ ap (λ c. c ∷ []) at
 picked-ins planned cells d k x few small at (y ∷ ys) all =
-    by (nat_lt (code planned x k) y) (before_code planned cells d k y x few small all.0) (picked-ins planned cells d k x few small at ys all.1) where
+    by (is_before (num (code planned x k)) (num y)) (before_num (code planned x k) y ∙ before_code planned cells d k y x few small all.0) (picked-ins planned cells d k x few small at ys all.1) where
       first : get_or cells (code planned x k % 256) d ≡ x
       first = ap (λ j. get_or cells j d) (last_byte (cell_number planned x) k small) ∙ at
 
@@ -196,7 +178,7 @@ codes_more planned cells d k x small at ys all =
       below = subst (λ j. j < suc k) (sym byte) (omega arith);
       is = ap₂ (λ c j. code planned c j) (sym (ap (λ j. get_or cells j d) byte ∙ at)) (sym byte);
     } in
-    all-ins (IsCode planned cells d (suc k)) (code planned x k) ys one (codes_later planned cells d k ys all)
+    all-insert_by (IsCode planned cells d (suc k)) num (code planned x k) ys one (codes_later planned cells d k ys all)
 
 -- The rest of a list from an index on.
 rest_at : (cells : List Cell) (d : Cell) (k : ℕ) (x : Cell) (rest : List Cell) → drop k cells ≡ x ∷ rest → (k < length cells) × (get_or cells k d ≡ x) × (drop (suc k) cells ≡ rest)

@@ -8,7 +8,9 @@ use Rattle.obs_epoch.specs.Names.{System, Gps, Galileo, Cell, EpochValue, PlanVa
 use Rattle.gnss_obs.proofs.SortLemmas.{sorted_again}
 use Rattle.gnss_obs.specs.declared.arrivals.Added.TheVariants as added
 use Rattle.std.proofs.lemmas.List.Sums.{fold-append}
-use Rattle.obs_epoch.proofs.OrderLemmas.{rise-insert_by, all-insert_by, any-fold, length-fold}
+use Rattle.std.proofs.lemmas.List.Sorted.{list_any-IsPermutation, length_permutation}
+use Rattle.gnss_obs.proofs.OrderLemmas.{all-insert_by, sort_moves}
+use Rattle.obs_epoch.proofs.OrderLemmas.{rise-insert_by}
 use Rattle.std.proofs.lemmas.Grind.{common_steps}
 
 -- ---- one more cell
@@ -69,12 +71,12 @@ cells_sorted Galileo p e = refl
 held_any : (system : System) (p : PlanValue) (e : EpochValue) (x : HeardCell) → is_held (cells_of system (sorted_epoch p e)) x ≡ is_held (cells_of system e) x
 held_any system p e x =
     ap (λ (l : List Cell). is_held l x) (cells_sorted system p e)
-    ∙ any-fold (λ (m : Cell). has_same_key x (heard_cell m)) (cell_sort_key (planned_of system p)) [] (cells_of system e)
+    ∙ sym (list_any-IsPermutation (λ (m : Cell). has_same_key x (heard_cell m)) (cells_of system e) _ (sort_moves (cell_sort_key (planned_of system p)) (cells_of system e)))
 
 pub count_same : (system : System) (p : PlanValue) (e : EpochValue) → length (cells_of system (sorted_epoch p e)) ≡ length (cells_of system e)
 count_same system p e =
-    let is = length-fold (cell_sort_key (planned_of system p)) [] (cells_of system e) in
-    ap (λ (l : List Cell). length l) (cells_sorted system p e) ∙ omega (arith, is)
+    ap (λ (l : List Cell). length l) (cells_sorted system p e)
+    ∙ length_permutation (cells_of system e) _ (sort_moves (cell_sort_key (planned_of system p)) (cells_of system e))
 
 outcome_same : (a b : Bool) → (if a then Repeated else (if b then Crowded else Kept)) ≡ outcome_of_added (if a then added.Repeated else (if b then added.Crowded else added.Kept))
 outcome_same true b = refl
