@@ -1,8 +1,7 @@
 -- Dates and times of day in the calendar of the library.
-use Rattle.std.proofs.Common.{true≢false, ◌≡◌, ◌<◌, ◌≤◌, ◌+◌, ◌*◌, ◌/◌, ◌%◌, ◌∙◌, ℕ, ℤ, pos, negsuc, ◌+ℤ◌, ◌-ℤ◌, ◌*ℤ◌, neg_ℤ, ◌≤ℤ◌, refl, sym, subst, arith, nat_abs, to_z, of_z, to_z-of_z, FitsSigned, w8, w16, w32, w64, ap, ap₂, T, Fits, true, false, Result, Err, IsOk}
+use Rattle.std.proofs.Common.{true≢false, ◌≡◌, ◌<◌, ◌≤◌, ◌+◌, ◌*◌, ◌/◌, ◌%◌, ◌∙◌, ℕ, ℤ, pos, negsuc, ◌+ℤ◌, ◌-ℤ◌, ◌*ℤ◌, neg_ℤ, ◌≤ℤ◌, refl, sym, subst, arith, nat_abs, to_z, of_z, to_z-of_z, FitsSigned, w8, w16, w32, w64, ap, ap₂, T, Fits, true, false, Result, Err, IsOk, int_div, int_lt}
 use lib.Signed.{non_neg}
 use Rattle.std.specs.Int.{w128}
-use Rattle.std.specs.Prelude.{int_div, int_lt}
 use Rattle.jiff_core.specs.declared.civil.date.Date.{Date}
 use Rattle.jiff_core.specs.declared.civil.time.Time.{Time}
 use Rattle.jiff_core.specs.declared.civil.datetime.DateTime.{DateTime}
@@ -111,10 +110,7 @@ only_one c t since e is = grind (arith, common_steps, first_day, signed_arith)
 pub since_range : (at : DateTime) (w since : ℤ) → w ≡ civil_nanos at -ℤ pos 3657 *ℤ pos day_nanos → since ≡ int_div w (pos 1_000_000)
     → (neg_ℤ (pos 1_000_000_000_000_000) ≤ℤ since) × (since ≤ℤ pos 1_000_000_000_000_000)
 unfolding civil_nanos
-since_range at w since e is =
-    let days = epoch_day_range at.date in
-    let time = time_below at.time in
-    omega (arith, signed_arith, days.0, days.1, time, e, is)
+since_range at w since e is = let days = epoch_day_range at.date in let time = time_below at.time in omega (arith, signed_arith, days.0, days.1, time, e, is)
 
 pub back_wide : (z : ℤ) (n : ℕ) → z ≡ pos n → n ≤ 1_000_000_000_000_000 → to_z w128 (of_z w128 z) ≡ pos n
 back_wide z n e small = let fits : FitsSigned w128 (pos n) = omega (arith, signed_arith, small) in rw (e, to_z-of_z fits) refl

@@ -2,8 +2,7 @@
 use Rattle.std.proofs.Common.{◌≡◌, ℕ, suc, zero, ◌<◌, ◌==◌, ◌||◌, Bool, true, false, List, [], ◌∷◌, ◌++◌, length, take, drop, get_or, All, nat_eq, refl, sym, ap, ap₂, ◌∙◌, subst, arith, ◌⊎◌, inl, inr}
 use Rattle.std.proofs.lemmas.Map.Keys.{apart_from_distinct, IsDistinct-tail}
 use Rattle.std.proofs.lemmas.List.Elements.{All-head, All-tail}
-use Rattle.std.specs.List.{list_any, IsDistinct}
-use Rattle.gnss_obs.specs.Names.{System, SignalAt, IsSignal, PlanFault, UnknownCode, RepeatedCode, NothingPlanned, BadWeek, BadStation, Memory, indices, IsOf, IsUnfitAfter, IsUnfit}
+use Rattle.gnss_obs.specs.Names.{System, SignalAt, IsSignal, PlanFault, UnknownCode, RepeatedCode, NothingPlanned, BadWeek, BadStation, Memory, indices, IsOf, IsUnfitAfter, IsUnfit, list_any, IsDistinct}
 
 -- An index splits a list of signals.
 pub parted : (ss : List SignalAt) (k : ℕ) (s : SignalAt) → k < length ss → s ≡ get_or ss k s → ss ≡ take k ss ++ s ∷ drop (suc k) ss

@@ -1,6 +1,5 @@
 -- The table that finds the cell of a key.
-use Rattle.std.proofs.Common.{◌≡◌, ℕ, suc, zero, ◌+◌, ◌<◌, ◌≤◌, ◌==◌, Bool, true, false, List, [], ◌∷◌, ◌++◌, map, take, set, refl, sym, ap, ◌∙◌, subst, arith, length, get_or}
-use Rattle.std.specs.Prelude.{nat_eq, nat_lt}
+use Rattle.std.proofs.Common.{◌≡◌, ℕ, suc, zero, ◌+◌, ◌<◌, ◌≤◌, ◌==◌, Bool, true, false, List, [], ◌∷◌, ◌++◌, map, take, set, refl, sym, ap, ◌∙◌, subst, arith, length, get_or, nat_eq, nat_lt}
 use Rattle.std.specs.List.{AllByRecursion}
 use Rattle.std.proofs.lemmas.List.{get_or-set_same, get_or-set_other, get_or_append_left, get_or-append-add, get_or-map, get_or-take, length-map, length-take-le, length-append, map-append, take_more_set}
 use Rattle.gnss_obs.specs.declared.cell.Cell.{Cell}
@@ -24,8 +23,7 @@ found_any table slots s (r ∷ rs) all e = by (r == s) refl (found_any table slo
 -- The key of an entry is kept exactly if the entry is the index of a cell of that key.
 found_is : (table slots : List ℕ) (s : ℕ) → AllByRecursion (IsFound table slots) slots → (b : Bool) → has_slot s slots ≡ b
     → ((get_or table s 0 < length slots) × (get_or slots (get_or table s 0) 0 ≡ s) → b ≡ true) × (b ≡ true → (get_or table s 0 < length slots) × (get_or slots (get_or table s 0) 0 ≡ s))
-found_is table slots s all b e =
-    ((λ h. sym e ∙ any_get slots (get_or table s 0) s h.0 h.1), λ h. found_any table slots s slots all (e ∙ h))
+found_is table slots s all b e = ((λ h. sym e ∙ any_get slots (get_or table s 0) s h.0 h.1), λ h. found_any table slots s slots all (e ∙ h))
 
 same_at : (a b : ℕ) (held : Bool) → (a ≡ b → held ≡ true) → (held ≡ true → a ≡ b) → nat_eq a b ≡ held
 same_at a b true h k = let e : a ≡ b = k refl in grind (arith, e)

@@ -1,9 +1,7 @@
 -- The cells of one satellite, in a list in the order of satellites.
-use Rattle.std.proofs.Common.{◌≡◌, ℕ, zero, suc, ◌+◌, ◌<◌, ◌≤◌, ◌==◌, Bool, true, false, ◌||◌, ◌&&◌, List, [], ◌∷◌, map, filter, drop, refl, sym, ap, ap₂, ◌∙◌, subst, arith, length, not, All}
-use Rattle.std.specs.Prelude.{if◌then◌else◌, nat_lt}
-use Rattle.std.specs.List.{AllByRecursion, list_any}
+use Rattle.std.proofs.Common.{◌≡◌, ℕ, zero, suc, ◌+◌, ◌<◌, ◌≤◌, ◌==◌, Bool, true, false, ◌||◌, ◌&&◌, List, [], ◌∷◌, map, filter, drop, refl, sym, ap, ap₂, ◌∙◌, subst, arith, length, not, All, if◌then◌else◌, nat_lt}
 use Rattle.std.proofs.lemmas.List.Elements.{All-head, All-tail}
-use Rattle.gnss_obs.specs.Names.{System, Cell, is_before, SortKeysRise, cell_sort_key, AreSorted}
+use Rattle.gnss_obs.specs.Names.{System, Cell, is_before, SortKeysRise, cell_sort_key, AreSorted, AllByRecursion, list_any}
 use Rattle.gnss_obs.specs.Satellites.{satellites as satellites_in}
 use Rattle.gnss_obs.specs.Values.{IsHeld, AreHeld, has_value, is_written, written_among, is_of_satellite}
 use Rattle.std.proofs.lemmas.Grind.{common_steps}
@@ -45,11 +43,7 @@ pub record Left (n from : ℕ) (cells : List Cell) : Type 0 where
   pub rest : (later : ℕ) → n < later → filter (is_of_satellite later) cells ≡ filter (is_of_satellite later) (drop from cells)
 
 pub left_all : (system : System) (cells : List Cell) → AreHeld system cells → Left 0 0 cells
-left_all system cells h = record {
-  within = omega arith;
-  above = listed cells h.each;
-  rest = λ later l. refl;
-} where
+left_all system cells h = record { within = omega arith; above = listed cells h.each; rest = λ later l. refl } where
   listed : (cells : List Cell) → All (IsHeld system) cells → Above 0 cells
   listed [] h = tt
   listed (c ∷ cells) h = (let one = All-head (IsHeld system) c cells h in omega (arith, one.number.0), listed cells (All-tail (IsHeld system) c cells h))

@@ -1,6 +1,5 @@
 -- The plan of two lists of signals, or its fault.
-use Rattle.std.proofs.Common.{◌≡◌, ℕ, ◌+◌, ◌<◌, true≢false, List, [], ◌∷◌, length, refl, sym, ap, ap₂, ◌∙◌, subst, arith, ◌⊎◌, inl, inr, Result, Ok, Err}
-use Rattle.std.specs.Prelude.{IfErr, IsOk, MatchResult, is_ok}
+use Rattle.std.proofs.Common.{◌≡◌, ℕ, ◌+◌, ◌<◌, true≢false, List, [], ◌∷◌, length, refl, sym, ap, ap₂, ◌∙◌, subst, arith, ◌⊎◌, inl, inr, Result, Ok, Err, IfErr, IsOk, MatchResult, is_ok}
 use Rattle.std.specs.Result.{result_and}
 use Rattle.gnss_obs.specs.Names.{Gps, Galileo, PlanFault, UnknownCode, RepeatedCode, NothingPlanned, BadWeek, BadStation, Memory, SignalAt, PlanValue, plan_of, signals_of, indices, IsOf, ArePlanned, DoneOr, IsDefined, IsMade, IsMemoryFaultOr, IsPlanResult, IsUnfit, IsUnplanned}
 use Rattle.gnss_obs.proofs.FitLemmas.{unfit_not_of}
@@ -46,8 +45,7 @@ both_read first second added gps galileo ss ts is f s = subst (DoneOr (λ e. pla
 
 none_in : (ss : List SignalAt) → indices ss ≡ [] → ss ≡ []
 none_in [] h = refl
-none_in (s ∷ ss) h = absurd (no_item s.index (indices ss) h)
-  where
+none_in (s ∷ ss) h = absurd (no_item s.index (indices ss) h) where
     no_item : (i : ℕ) (is : List ℕ) → i ∷ is ≡ [] → ⊥
     no_item i is h = cc
 

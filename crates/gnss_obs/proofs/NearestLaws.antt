@@ -44,10 +44,7 @@ pub nearest_is : (a : ℤ) (q : ℕ) → 0 < q → IsNearest a q (nearest a q)
 nearest_is (pos n) q some =
     let b = size_bounds n q some in
     record { near = apart (nearest_size n q * q) n q b.0 b.1; tie = λ e. tied (nearest_size n q * q) n q b.1 e }
-nearest_is (negsuc n) q some =
-    let b = size_bounds (n + 1) q some in
-    mirror (nearest (negsuc n) q) (nearest_size (n + 1) q) n q refl b.0 b.1
-  where
+nearest_is (negsuc n) q some = let b = size_bounds (n + 1) q some in mirror (nearest (negsuc n) q) (nearest_size (n + 1) q) n q refl b.0 b.1 where
     mirror_apart : (s n q : ℕ) → 2 * s ≤ 2 * (n + 1) + q → 2 * (n + 1) + q < 2 * s + 2 * q → 2 * unsigned_abs ((pos 0 -ℤ pos s) -ℤ negsuc n) ≤ q
     mirror_apart s n q a b = omega (arith, ints)
 
@@ -96,8 +93,7 @@ turned (negsuc t) q =
 
 -- a nearest number is not much larger than the fraction
 pub nearest_bound : (a : ℤ) (q : ℕ) (t : ℤ) → IsNearest a q t → unsigned_abs t * q ≤ unsigned_abs a + q
-nearest_bound a q t near = rw at_size at (step (t *ℤ pos q) near.near)
-  where
+nearest_bound a q t near = rw at_size at (step (t *ℤ pos q) near.near) where
     at_size : unsigned_abs (t *ℤ pos q) ≡ unsigned_abs t * q
     at_size = unsigned_abs-mul t (pos q)
 

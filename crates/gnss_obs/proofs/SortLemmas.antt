@@ -1,15 +1,13 @@
 -- Cells sorted by numbers, and cells that are in order.
 use Rattle.std.proofs.Common.{◌≡◌, ℕ, suc, zero, ◌+◌, ◌*◌, ◌<◌, ◌≤◌, ◌==◌, ◌%◌, Bool, true, false, List, [], ◌∷◌, ◌++◌, map, take, drop, set, refl, sym, ap, ap₂, ◌∙◌, subst, arith, length, get_or, Option, Some, None, All}
 use Rattle.std.specs.Prelude.{⊤, fold, if◌then◌else◌, nat_lt, sum_by, position}
-use Rattle.std.specs.Option.{option_map_or}
-use Rattle.std.specs.List.{AllByRecursion}
 use Rattle.std.specs.List.Sorted.{IsPermutation, IsNonDecreasing}
 use Rattle.std.proofs.lemmas.List.{append_assoc, append-nil, drop_more, take_more, take_more_set, length-take-le}
 use Rattle.std.proofs.lemmas.List.Sums.{sum_by-cons}
 use Rattle.std.proofs.lemmas.List.Sorted.{sum_by-IsPermutation}
 use Rattle.std.proofs.lemmas.List.Elements.{All-cons, All-nil}
 use Rattle.std.proofs.lemmas.List.Quantifiers.{position-Some}
-use Rattle.gnss_obs.specs.Names.{Cell, System, Gps, Galileo, table, place_in, SortKey, is_before, SortKeysRise, insert_by, cell_sort_key, sorted_cells, sorted_epoch, cell_number, numbers, picked, EpochValue, PlanValue, AreInOrder}
+use Rattle.gnss_obs.specs.Names.{Cell, System, Gps, Galileo, table, place_in, SortKey, is_before, SortKeysRise, insert_by, cell_sort_key, sorted_cells, sorted_epoch, cell_number, numbers, picked, EpochValue, PlanValue, AreInOrder, option_map_or, AllByRecursion}
 use Rattle.gnss_obs.proofs.OrderLemmas.{all-insert_by, sort_moves}
 use Rattle.std.proofs.lemmas.Grind.{common_steps}
 
@@ -149,8 +147,7 @@ before_code planned cells d k n x few small is =
 picked-ins : (planned : List ℕ) (cells : List Cell) (d : Cell) (k : ℕ) (x : Cell) → length planned ≤ 64 → k < 256 → get_or cells k d ≡ x
     → (ys : List ℕ) → AllByRecursion (IsCode planned cells d k) ys
     → picked cells d (ins (code planned x k) ys) ≡ insert_by (cell_sort_key planned) x (picked cells d ys)
-picked-ins planned cells d k x few small at [] all =
-    ap (λ j. get_or cells j d ∷ []) (last_byte (cell_number planned x) k small) ∙ ap (λ c. c ∷ []) at
+picked-ins planned cells d k x few small at [] all = ap (λ j. get_or cells j d ∷ []) (last_byte (cell_number planned x) k small) ∙ ap (λ c. c ∷ []) at
 picked-ins planned cells d k x few small at (y ∷ ys) all =
     by (is_before (num (code planned x k)) (num y)) (before_num (code planned x k) y ∙ before_code planned cells d k y x few small all.0) (picked-ins planned cells d k x few small at ys all.1) where
       first : get_or cells (code planned x k % 256) d ≡ x

@@ -1,9 +1,6 @@
 -- The signal tables: their IDs rise row by row, each ID and each code has one row, and each ID the row that is listed
 -- for it.
-use Rattle.std.proofs.Common.{ℕ, ◌≡◌, ◌+◌, ◌<◌, ◌≤◌, ◌==◌, ◌&&◌, true≢false, [], get_or, Bool, true, false, nat_lt, length, position, List, Option, Some, None, Bor, slice_index_or, refl, sym, ap, ◌∙◌, arith, lit≤}
-use Rattle.std.specs.Prelude.{slice_get}
-use Rattle.std.specs.Option.{unwrap_or, option_copied, option_map, is_some, IfSome}
-use Rattle.std.specs.Str.{bytes_eq}
+use Rattle.std.proofs.Common.{ℕ, ◌≡◌, ◌+◌, ◌<◌, ◌≤◌, ◌==◌, ◌&&◌, true≢false, [], get_or, Bool, true, false, nat_lt, length, position, List, Option, Some, None, Bor, slice_index_or, refl, sym, ap, ◌∙◌, arith, lit≤, slice_get, unwrap_or, option_copied, option_map, is_some, IfSome, bytes_eq}
 use Rattle.std.proofs.lemmas.Option.{slice_get_past, slice_get_read}
 use Rattle.gnss_obs.specs.Names.{System, ListedSignal, Gps, Galileo, SignalAt, IsSignal, after, code_of, greatest_signal_id, hertz_of, id_of, signal_of_code, signal_of_id, table, rows}
 use Rattle.gnss_obs.proofs.Checked.{passes_at, passes_below, is_less, is_equal, both_first, both_second}
@@ -13,8 +10,7 @@ abbrev rises_at : System → ℕ → Bool
 rises_at system i = nat_lt (id_of (record { system = system; index = i })) (id_of (record { system = system; index = i + 1 }))
 
 pub ids_rise : (s : SignalAt) → IsSignal (after s) → id_of s < id_of (after s)
-ids_rise s listed = is_less _ _ (line s.system s.index listed)
-  where
+ids_rise s listed = is_less _ _ (line s.system s.index listed) where
     line : (system : System) (i : ℕ) → i + 1 < length (table system) → rises_at system i ≡ true
     line Gps i listed = passes_at (rises_at Gps) 14 i refl (omega (arith, listed))
     line Galileo i listed = passes_at (rises_at Galileo) 18 i refl (omega (arith, listed))

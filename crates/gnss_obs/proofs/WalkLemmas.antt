@@ -65,8 +65,7 @@ next_year : (y : ℕ) → day_count (pos (y + 1)) 1 1 ≡ day_count (pos y) 1 1 
 next_year y = day_count-next_year (pos y) (pos (y + 1)) (omega (arith, signed_arith)) (omega (arith, signed_arith))
 
 year_on_is : (years y days count : ℕ) → y + years ≤ 9999 → days < 365 * (years + 1) → day_count (pos y) 1 1 + days ≡ count → IsOn (year_on years y days) count
-year_on_is zero y days count year lt e =
-    month_on_is 11 y 1 days count (omega (arith, year)) (omega arith) refl e (omega (arith, e, lt, year_long y))
+year_on_is zero y days count year lt e = month_on_is 11 y 1 days count (omega (arith, year)) (omega arith) refl e (omega (arith, e, lt, year_long y))
 year_on_is (suc years) y days count year lt e =
     by_year (nat_lt days (year_length y)) years y days count refl (omega (arith, year)) e
     (λ le. year_on_is years (y + 1) (days - year_length y) count (omega (arith, year)) (omega (arith, lt, le, year_long y))

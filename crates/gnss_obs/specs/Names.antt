@@ -1,4 +1,6 @@
--- The names that proofs cite, from one place.
+-- The names that proofs cite, passed on from one place. Declares nothing.
+pub use Rattle.std.specs.List.{AllByRecursion, IsDistinct, list_any}
+pub use Rattle.std.specs.Option.{option_map_or}
 pub use Rattle.gnss_obs.specs.Arriving.{AddsCell, IsAdded, cell_number, cells_after, epoch_with, has_slot, numbers, outcome_by, picked, slot, sorted_cells, sorted_epoch}
 pub use Rattle.gnss_obs.specs.Dates.{IsCivil, IsCivilOf, YearMonthDay, civil_of, clock_of, date_of, month_length, month_on, year_length, year_on}
 pub use Rattle.gnss_obs.specs.HeardCells.{IsObserved, heard_cell, same_key}

@@ -1,6 +1,5 @@
 -- The kept cells of a list after one more cell.
-use Rattle.std.proofs.Common.{[], ◌≡◌, ℕ, Bool, true, false, not, ◌||◌, ◌&&◌, List, ◌∷◌, ◌++◌, refl, sym, ap, ◌∙◌, arith, take, length, filter, append_assoc, append-nil, nat_le}
-use Rattle.std.specs.Prelude.{if◌then◌else◌}
+use Rattle.std.proofs.Common.{[], ◌≡◌, ℕ, Bool, true, false, not, ◌||◌, ◌&&◌, List, ◌∷◌, ◌++◌, refl, sym, ap, ◌∙◌, arith, take, length, filter, append_assoc, append-nil, nat_le, if◌then◌else◌}
 use Rattle.std.specs.Cmp.{IsEquivalence}
 use Rattle.std.proofs.lemmas.Map.Views.{any-filter_same}
 use Rattle.std.proofs.lemmas.List.Elements.{filter-append}

@@ -1,8 +1,6 @@
 -- A step of the clock adds one message to the list.
-use Rattle.std.proofs.Common.{◌≡◌, ℕ, zero, suc, ◌+◌, ◌*◌, ◌<◌, Bool, true, false, not, ◌||◌, ◌&&◌, List, [], ◌∷◌, ◌++◌, refl, ap, ap₂, ◌∙◌, subst, arith, Option, Some, None, nat_lt}
-use Rattle.std.specs.Prelude.{◌==◌}
-use Rattle.std.specs.Option.{option_map_or}
-use Rattle.obs_epoch.specs.Names.{CloseFirst, CellCounts, GatherSetup, Heard, ends_epoch, is_own, Timed, is_at, max_known, greatest_time, is_closed, taken_at, ahead, is_late, is_past, time_of, State, is_pending, closes_first, kind_after, kind_by, step_by, is_late_at, is_first_at, ended_where}
+use Rattle.std.proofs.Common.{◌≡◌, ℕ, zero, suc, ◌+◌, ◌*◌, ◌<◌, Bool, true, false, not, ◌||◌, ◌&&◌, List, [], ◌∷◌, ◌++◌, refl, ap, ap₂, ◌∙◌, subst, arith, Option, Some, None, nat_lt, ◌==◌}
+use Rattle.obs_epoch.specs.Names.{CloseFirst, CellCounts, GatherSetup, Heard, ends_epoch, is_own, Timed, is_at, max_known, greatest_time, is_closed, taken_at, ahead, is_late, is_past, time_of, State, is_pending, closes_first, kind_after, kind_by, step_by, is_late_at, is_first_at, ended_where, option_map_or}
 use Rattle.rtcm_msg.specs.Msm.{week}
 use Rattle.obs_epoch.proofs.TimesLemmas.{next, greatest-push, greatest-present, greater-absent, none-absent, closed-push, closed-new}
 use Rattle.std.proofs.lemmas.Grind.{common_steps}
@@ -53,12 +51,10 @@ same_state g s latest pending a b c = grind (arith, common_steps)
 
 -- The message is one more of the list.
 abbrev pub Takes : GatherSetup → List Timed → CellCounts → Heard → Bool → Type 0
-Takes s xs n m shut =
-    (kind_by (standing s xs shut) n m ≡ kind_after s xs n m) × (step_by (standing s xs shut) m ≡ standing s (xs ++ next s xs m ∷ []) false)
+Takes s xs n m shut = (kind_by (standing s xs shut) n m ≡ kind_after s xs n m) × (step_by (standing s xs shut) m ≡ standing s (xs ++ next s xs m ∷ []) false)
 
 -- The message isn't of the station.
-not_own : (s : GatherSetup) (xs : List Timed) (n : CellCounts) (m : Heard) (shut : Bool) → is_own s m ≡ false → closes_first s xs m ≡ shut
-    → Takes s xs n m shut
+not_own : (s : GatherSetup) (xs : List Timed) (n : CellCounts) (m : Heard) (shut : Bool) → is_own s m ≡ false → closes_first s xs m ≡ shut → Takes s xs n m shut
 not_own s xs n m shut own closes = grind (arith, common_steps, same_time, next, same_state)
 
 pub and_true : (a : Bool) → a ≡ (a && true)
@@ -142,8 +138,7 @@ is_taken s xs n m tow shut own some closes early within =
     grind (arith, own, some, late, early, within, none_first) in
     (grind (arith, own, some, late, early, within, none_first), step ∙ ended_to s xs m (Some u) true new.0 new.1)
 
-pub takes : (s : GatherSetup) (xs : List Timed) (n : CellCounts) (m : Heard) (shut : Bool) → closes_first s xs m ≡ shut
-    → Takes s xs n m shut
+pub takes : (s : GatherSetup) (xs : List Timed) (n : CellCounts) (m : Heard) (shut : Bool) → closes_first s xs m ≡ shut → Takes s xs n m shut
 takes s xs n m shut closes = by_own (is_own s m) m.tow refl refl where
   by_bad : (tow : ℕ) (bad late past : Bool) → is_own s m ≡ true → m.tow ≡ Some tow → is_late s xs tow ≡ late → is_past (time_of s xs tow) ≡ past
       → Takes s xs n m shut
@@ -151,8 +146,7 @@ takes s xs n m shut closes = by_own (is_own s m) m.tow refl refl where
   by_bad tow bad false true own some late is_over = not_taken s xs n m tow shut own some closes (ap₂ (λ v w. v || w) late is_over)
   by_bad tow bad false false own some late is_over = is_taken s xs n m tow shut own some closes late is_over
 
-  by_own : (own : Bool) (tow : Option ℕ) → is_own s m ≡ own → m.tow ≡ tow
-      → Takes s xs n m shut
+  by_own : (own : Bool) (tow : Option ℕ) → is_own s m ≡ own → m.tow ≡ tow → Takes s xs n m shut
   by_own false tow own some = not_own s xs n m shut own closes
   by_own true None own some = no_time s xs n m shut own some closes
   by_own true (Some tow) own some = by_bad tow true _ _ own some refl refl

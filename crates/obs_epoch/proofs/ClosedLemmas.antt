@@ -1,10 +1,8 @@
 -- The closed epochs of a list after one more message.
-use Rattle.std.proofs.Common.{◌≡◌, ℕ, ◌<◌, ◌≤◌, ◌⊎◌, inl, inr, Bool, true, false, not, ◌||◌, ◌&&◌, List, [], ◌∷◌, ◌++◌, filter, refl, sym, ap, ap₂, ◌∙◌, subst, arith, Option, Some, None, nat_lt, append_assoc, append-nil}
-use Rattle.std.specs.Prelude.{if◌then◌else◌, cond}
-use Rattle.std.specs.Option.{option_map_or}
+use Rattle.std.proofs.Common.{◌≡◌, ℕ, ◌<◌, ◌≤◌, ◌⊎◌, inl, inr, Bool, true, false, not, ◌||◌, ◌&&◌, List, [], ◌∷◌, ◌++◌, filter, refl, sym, ap, ap₂, ◌∙◌, subst, arith, Option, Some, None, nat_lt, append_assoc, append-nil, if◌then◌else◌, cond}
 use Rattle.std.proofs.lemmas.List.Elements.{filter-append}
 use Rattle.std.proofs.lemmas.Bool.{cases_Bool}
-use Rattle.obs_epoch.specs.Names.{GatherSetup, Heard, ends_epoch, Timed, max_known, greatest_time, is_closed, taken_at, timed, time_of, is_late, times, is_shut, closed_times}
+use Rattle.obs_epoch.specs.Names.{GatherSetup, Heard, ends_epoch, Timed, max_known, greatest_time, is_closed, taken_at, timed, time_of, is_late, times, is_shut, closed_times, option_map_or}
 use Rattle.obs_epoch.proofs.TimesLemmas.{some_eq, greatest-push, max_known-none, greatest-present, greater-absent, none-absent, closed-push, closed-new, next, timed-push}
 use Rattle.obs_epoch.proofs.ClockLemmas.{at_self, Follows, follows, first, greater, equal}
 use Rattle.std.proofs.lemmas.Grind.{common_steps}
@@ -223,9 +221,7 @@ pub taken_follows : (s : GatherSetup) (xs : List Timed) (m : Heard) (u : ℕ) �
 taken_follows s xs m u e = by_tow m.tow refl where
   by_late : (tow : ℕ) (late : Bool) → m.tow ≡ Some tow → is_late s xs tow ≡ late → Follows s xs u
   by_late tow true some late = absurd (grind (arith, e, some, late))
-  by_late tow false some late =
-      let same : time_of s xs tow ≡ u = grind (arith, e, some, late) in
-      subst (Follows s xs) same (follows s xs tow late)
+  by_late tow false some late = let same : time_of s xs tow ≡ u = grind (arith, e, some, late) in subst (Follows s xs) same (follows s xs tow late)
 
   by_tow : (tow : Option ℕ) → m.tow ≡ tow → Follows s xs u
   by_tow None none = absurd (grind (arith, e, none))

@@ -1,9 +1,7 @@
 -- Counting cell by cell gives the counts of the whole message.
-use Rattle.std.proofs.Common.{◌≡◌, ℕ, ◌+◌, ◌≤◌, Bool, true, false, not, ◌||◌, ◌&&◌, List, [], ◌∷◌, ◌++◌, filter, refl, sym, ap, ap₂, ◌∙◌, subst, arith, length, append_assoc, append-nil, length-append, nat_le}
-use Rattle.std.specs.Prelude.{if◌then◌else◌, cond, count_by}
+use Rattle.std.proofs.Common.{◌≡◌, ℕ, ◌+◌, ◌≤◌, Bool, true, false, not, ◌||◌, ◌&&◌, List, [], ◌∷◌, ◌++◌, filter, refl, sym, ap, ap₂, ◌∙◌, subst, arith, length, append_assoc, append-nil, length-append, nat_le, if◌then◌else◌, cond, count_by, length-take-le, take_all}
 use Rattle.std.proofs.lemmas.List.Sums.{sum_by-cons}
 use Rattle.std.proofs.lemmas.List.Folds.{list_any-append}
-use Rattle.std.proofs.lemmas.List.{length-take-le, take_all}
 use Rattle.obs_epoch.specs.Names.{System, Gps, Galileo, Crowded, Kept, Repeated, Skipped, count_in, GatherSetup, HeardCell, no_counts, counts_of, is_of_system, is_among, kept, kept_of_both, is_planned, has_same_key, most_cells, CellCounts}
 use Rattle.obs_epoch.proofs.CellsLemmas.{kept-add, mine, mine-among, among-push, same_key_laws, key_system}
 use Rattle.obs_epoch.proofs.NotingLemmas.{kept_apart}
@@ -20,8 +18,7 @@ both-among xs p = list_any-append (has_same_key p) (kept Gps xs) (kept Galileo x
   by : (system : System) → p.satellite.system ≡ system → (is_among (kept Gps xs) p || is_among (kept Galileo xs) p) ≡ is_among (kept p.satellite.system xs) p
   by Gps e =
       ap (λ b. is_among (kept Gps xs) p || b) (kept_apart Galileo xs p (grind (arith, e))) ∙ or_false (is_among (kept Gps xs) p) ∙ ap (λ c. is_among (kept c xs) p) (sym e)
-  by Galileo e =
-      ap (λ b. b || is_among (kept Galileo xs) p) (kept_apart Gps xs p (grind (arith, e))) ∙ ap (λ c. is_among (kept c xs) p) (sym e)
+  by Galileo e = ap (λ b. b || is_among (kept Galileo xs) p) (kept_apart Gps xs p (grind (arith, e))) ∙ ap (λ c. is_among (kept c xs) p) (sym e)
 
 own : (system : System) (x : HeardCell) → x.satellite.system ≡ system → is_of_system system x ≡ true
 own Gps x e = grind (arith, e)

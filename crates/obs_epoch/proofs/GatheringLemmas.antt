@@ -1,10 +1,7 @@
 -- The epochs of a list after one more message, with their station values.
-use Rattle.std.proofs.Common.{◌≡◌, ℕ, Bool, true, false, not, List, [], ◌∷◌, ◌++◌, filter, refl, sym, ap, ap₂, ◌∙◌, subst, arith, Option, Some, None, nat_lt, append_assoc, append-nil}
-use Rattle.std.specs.Prelude.{if◌then◌else◌, cond, option_to_list}
-use Rattle.std.specs.Option.{option_map_or}
-use Rattle.std.specs.List.{list_any}
+use Rattle.std.proofs.Common.{◌≡◌, ℕ, Bool, true, false, not, List, [], ◌∷◌, ◌++◌, filter, refl, sym, ap, ap₂, ◌∙◌, subst, arith, Option, Some, None, nat_lt, append_assoc, append-nil, if◌then◌else◌, cond, option_to_list}
 use Rattle.std.proofs.lemmas.List.{map-append}
-use Rattle.obs_epoch.specs.Names.{GatherSetup, Heard, ends_epoch, Timed, is_at, max_known, greatest_time, from_first, is_closed, taken_at, timed, times, is_shut, closed_times, epoch_at, values_of, is_pending, EpochValue}
+use Rattle.obs_epoch.specs.Names.{GatherSetup, Heard, ends_epoch, Timed, is_at, max_known, greatest_time, from_first, is_closed, taken_at, timed, times, is_shut, closed_times, epoch_at, values_of, is_pending, EpochValue, option_map_or, list_any}
 use Rattle.rtcm_bits.specs.Prefix.{IsPrefix}
 use Rattle.obs_epoch.specs.Gathering.{open_after, before_closing, closed_at, closed_list_at, closed_epochs, all_epochs}
 use Rattle.obs_epoch.proofs.TimesLemmas.{next, timed-push, greatest-push}

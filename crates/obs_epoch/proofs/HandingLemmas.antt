@@ -1,10 +1,7 @@
 -- A call of the gatherer returns the epoch that the longer list closes.
-use Rattle.std.proofs.Common.{◌≡◌, ℕ, Bool, true, false, ◌||◌, ◌&&◌, List, [], ◌∷◌, ◌++◌, refl, sym, ap, ap₂, ◌∙◌, subst, arith, Option, Some, None, is_some, nat_lt, append-nil}
-use Rattle.std.specs.Prelude.{if◌then◌else◌, option_to_list}
-use Rattle.std.specs.Option.{option_map_or}
-use Rattle.std.specs.List.{list_any}
+use Rattle.std.proofs.Common.{◌≡◌, ℕ, Bool, true, false, ◌||◌, ◌&&◌, List, [], ◌∷◌, ◌++◌, refl, sym, ap, ap₂, ◌∙◌, subst, arith, Option, Some, None, is_some, nat_lt, append-nil, if◌then◌else◌, option_to_list}
 use Rattle.std.proofs.lemmas.List.{map-append}
-use Rattle.obs_epoch.specs.Names.{GatherSetup, Heard, ends_epoch, Closed, EpochValue, Timed, is_at, greatest_time, from_first, is_closed, taken_at, timed, times, is_shut, closed_times, closed_so_far, epoch_at, values_of, is_pending, closes_first, Gathered, no_epoch, take_step, end_step, noted, HasTakenMessages, held_at}
+use Rattle.obs_epoch.specs.Names.{GatherSetup, Heard, ends_epoch, Closed, EpochValue, Timed, is_at, greatest_time, from_first, is_closed, taken_at, timed, times, is_shut, closed_times, closed_so_far, epoch_at, values_of, is_pending, closes_first, Gathered, no_epoch, take_step, end_step, noted, HasTakenMessages, held_at, option_map_or, list_any}
 use Rattle.obs_epoch.specs.Step.{closed_by as closes}
 use Rattle.rtcm_bits.specs.Prefix.{IsPrefix}
 use Rattle.obs_epoch.specs.Gathering.{before_closing, closed_at, closed_list_at, known_epochs, closed_by, closed_in, returned_epoch, is_done, HasGatheredEpochs}

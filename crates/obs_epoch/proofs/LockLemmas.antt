@@ -1,14 +1,11 @@
 -- The lock records: their values after a closing, and their number.
-use Rattle.std.proofs.Common.{[], ◌≡◌, ℕ, zero, suc, ◌+◌, Bool, true, false, ◌||◌, ap₂, List, ◌∷◌, ◌++◌, map, filter, refl, sym, ap, ◌∙◌, subst, arith, length, append_assoc, append-nil, length-append, Option, Some, None, is_some, get_or, replicate}
-use Rattle.std.specs.Prelude.{if◌then◌else◌, cond, find, option_and_then}
+use Rattle.std.proofs.Common.{[], ◌≡◌, ℕ, zero, suc, ◌+◌, Bool, true, false, ◌||◌, ap₂, List, ◌∷◌, ◌++◌, map, filter, refl, sym, ap, ◌∙◌, subst, arith, length, append_assoc, append-nil, length-append, Option, Some, None, is_some, get_or, replicate, if◌then◌else◌, cond, find, option_and_then, length-set}
 use Rattle.std.specs.Option.{option_map_or, option_or}
-use Rattle.std.specs.List.{IsDistinct, AllByRecursion}
 use Rattle.std.proofs.lemmas.Map.Keys.{IsDistinct-head, IsDistinct-tail}
 use Rattle.std.proofs.lemmas.Map.Steps.{list_any_congr}
-use Rattle.std.proofs.lemmas.List.{length-set}
 use Rattle.std.proofs.lemmas.List.Sums.{sum_by-cons}
 use Rattle.std.proofs.lemmas.List.Elements.{filter-append}
-use Rattle.obs_epoch.specs.Names.{is_among, has_listed_key, firsts, has_same_key, lock_of, is_locked, lookup, put, note, note_all, lock_place, most_locks, no_locks, recorded, TracksLocks, HeardCell, heard_cell, KnownLock, Cell}
+use Rattle.obs_epoch.specs.Names.{is_among, has_listed_key, firsts, has_same_key, lock_of, is_locked, lookup, put, note, note_all, lock_place, most_locks, no_locks, recorded, TracksLocks, HeardCell, heard_cell, KnownLock, Cell, IsDistinct, AllByRecursion}
 use Rattle.obs_epoch.proofs.CellsLemmas.{same_key_laws, firsts-push, new_key, among-push}
 use Rattle.std.proofs.lemmas.Grind.{common_steps}
 

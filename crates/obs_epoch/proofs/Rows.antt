@@ -1,6 +1,5 @@
 -- The definitions computed on small lists.
-use Rattle.std.proofs.Common.{◌≡◌, ℕ, ◌+◌, ◌*◌, Bool, true, false, List, [], ◌∷◌, map, refl, Option, Some, None}
-use Rattle.std.specs.Prelude.{pos, ℤ}
+use Rattle.std.proofs.Common.{◌≡◌, ℕ, ◌+◌, ◌*◌, Bool, true, false, List, [], ◌∷◌, map, refl, Option, Some, None, pos, ℤ}
 use Rattle.obs_epoch.specs.Names.{Gps, GatherSetup, Heard, HeardCell, timed, counts_of, no_values, EpochValue, Cell}
 use Rattle.rtcm_msg.specs.Msm.{week}
 use Rattle.obs_epoch.specs.Epochs.{epochs, closed_epochs}
@@ -18,8 +17,7 @@ other more = record { station = Some 7; tow = None; more = Some more; cells = []
 abbrev four : List Heard
 four = observed 604_799_000 false [] ∷ observed 0 false [] ∷ observed 302_400_000 false [] ∷ observed 1 false [] ∷ []
 
-pub four_times : map (λ x. x.time) (timed setup four)
-    ≡ Some (2300 * week + 604_799_000) ∷ Some (2301 * week) ∷ Some (2301 * week + 302_400_000) ∷ None ∷ []
+pub four_times : map (λ x. x.time) (timed setup four) ≡ Some (2300 * week + 604_799_000) ∷ Some (2301 * week) ∷ Some (2301 * week + 302_400_000) ∷ None ∷ []
 four_times = refl
 
 -- An unsupported message closes the epoch, and the last message is late.
@@ -60,6 +58,5 @@ three_llis = refl
 pub two_closed : small_lli (closed_epochs setup (timed setup three)) ≡ (0 ∷ []) ∷ (0 ∷ []) ∷ []
 two_closed = refl
 
-pub one_repeated : counts_of setup [] (cell None None ∷ cell None (Some 1) ∷ [])
-    ≡ record { kept = 1; skipped = 0; repeated = 1; crowded = 0 }
+pub one_repeated : counts_of setup [] (cell None None ∷ cell None (Some 1) ∷ []) ≡ record { kept = 1; skipped = 0; repeated = 1; crowded = 0 }
 one_repeated = refl

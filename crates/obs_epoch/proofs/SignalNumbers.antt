@@ -1,13 +1,9 @@
 -- Cells are counted signal by signal.
-use Rattle.std.proofs.Common.{◌≡◌, ℕ, zero, suc, ◌+◌, ◌-◌, ◌<◌, ◌≤◌, ◌^◌, ◌==◌, ◌&&◌, ◌||◌, not, nat_le, List, [], ◌∷◌, ◌++◌, length, get_or, filter, Bool, true, false, Option, Some, None, refl, sym, ap, ◌∙◌, subst, arith, is_some, inl, inr, position}
-use Rattle.std.specs.Prelude.{if◌then◌else◌, cond, filter_map, option_map, option_and_then, slice_get}
-use Rattle.std.specs.List.{cons_option}
-use Rattle.std.specs.Option.{option_map_or}
+use Rattle.std.proofs.Common.{◌≡◌, ℕ, zero, suc, ◌+◌, ◌-◌, ◌<◌, ◌≤◌, ◌^◌, ◌==◌, ◌&&◌, ◌||◌, not, nat_le, List, [], ◌∷◌, ◌++◌, length, get_or, filter, Bool, true, false, Option, Some, None, refl, sym, ap, ◌∙◌, subst, arith, is_some, inl, inr, position, if◌then◌else◌, cond, filter_map, option_map, option_and_then, slice_get, length-set}
 use Rattle.std.proofs.lemmas.Bool.{cases_lt}
 use Rattle.std.proofs.lemmas.Grind.{common_steps}
-use Rattle.std.proofs.lemmas.List.{length-set}
 use Rattle.std.proofs.lemmas.List.Quantifiers.{position-Some}
-use Rattle.obs_epoch.specs.Names.{System, Gps, Galileo, ListedSignal, Satellite, is_system, satellite_of_id, SignalAt, IsSignal, id_of, table, signal_of_id, HeardCell, Entry, LockField, has_id, is_in, has_listed_value, value_count, seen_in, lock_by, observed, SignalCountsValue, signal_counts, counted, signal_in, counted_more, counted_more_in, satellite_set, up_by, brings_value, is_of_signal, count_of, CountsEntries}
+use Rattle.obs_epoch.specs.Names.{System, Gps, Galileo, ListedSignal, Satellite, is_system, satellite_of_id, SignalAt, IsSignal, id_of, table, signal_of_id, HeardCell, Entry, LockField, has_id, is_in, has_listed_value, value_count, seen_in, lock_by, observed, SignalCountsValue, signal_counts, counted, signal_in, counted_more, counted_more_in, satellite_set, up_by, brings_value, is_of_signal, count_of, CountsEntries, cons_option, option_map_or}
 use Rattle.gnss_obs.proofs.Checked.{passes_at, is_equal}
 use Rattle.gnss_obs.proofs.TableLaws.{id_back, ids_within}
 use Rattle.rtcm_msg.proofs.ValueLaws.{count_first}
@@ -55,8 +51,7 @@ get_is (x ∷ xs) (suc i) id below is = get_is xs i id (omega (arith, below)) is
 
 -- The ID of the signal with an ID.
 id_forth : (system : System) (id : ℕ) (g : SignalAt) → signal_of_id system id ≡ Some g → id_of g ≡ id
-id_forth system id g h = by (position (λ (e : ListedSignal). e.0 == id) (table system)) refl h
-  where
+id_forth system id g h = by (position (λ (e : ListedSignal). e.0 == id) (table system)) refl h where
     by : (o : Option ℕ) → o ≡ position (λ (e : ListedSignal). e.0 == id) (table system) → option_map (signal_in system) o ≡ Some g → id_of g ≡ id
     by None e h = absurd (none_some g None refl h)
     by (Some i) e h =
@@ -71,8 +66,7 @@ no_signal system id g listed none = not_both (is_system system g.system) (id == 
     none_some g (signal_of_id system id) none is)
 
 the_signal : (system : System) (id : ℕ) (g s : SignalAt) → IsSignal g → signal_of_id system id ≡ Some s → (is_system system g.system && (id == id_of g)) ≡ (is_system g.system s.system && (s.index == g.index))
-the_signal system id g s listed some = one_way _ _ there back
-  where
+the_signal system id g s listed some = one_way _ _ there back where
     there : (is_system system g.system && (id == id_of g)) ≡ true → (is_system g.system s.system && (s.index == g.index)) ≡ true
     there h =
         let both = both_of (is_system system g.system) (id == id_of g) h in
@@ -158,8 +152,7 @@ count_append g xs ys = grind (arith, common_steps)
 
 pub all_entries : (field : LockField) (system : System) (es : List Entry) (g : SignalAt) → IsSignal g
     → count_of g (filter brings_value (filter_map (seen_in field system) es)) ≡ (if is_system system g.system then value_count (satellite_set system) (id_of g) es else 0)
-all_entries field system [] g listed = none (is_system system g.system)
-  where
+all_entries field system [] g listed = none (is_system system g.system) where
     none : (b : Bool) → zero ≡ (if b then zero else zero)
     none true = refl
     none false = refl
@@ -178,8 +171,7 @@ all_entries field system (e ∷ es) g listed =
 
 -- The number of cells of a signal, if it is none of the signals that are left.
 abbrev pub number : System → List ℕ → List ℕ → SignalAt → ℕ
-number system left counts g =
-    if is_system system g.system && not (has_id (id_of g) left) then get_or counts (id_of g - 1) 0 else 0
+number system left counts g = if is_system system g.system && not (has_id (id_of g) left) then get_or counts (id_of g - 1) 0 else 0
 
 -- From c to c' the numbers of the signals were added that are not left, unless a count is very large.
 pub record Adds (c c' : SignalCountsValue) (system : System) (left counts : List ℕ) : Type 0 where
@@ -195,8 +187,7 @@ up_by_at n g i xs within few = grind (arith, common_steps)
 
 more_at : (g : SignalAt) (n : ℕ) (c : SignalCountsValue) (s : System) (i : ℕ) → i < length (signal_counts s c) → counted c s i + n ≤ 2 ^ 64 - 1
     → counted (counted_more g n c) s i ≡ counted c s i + (if is_system s g.system && (g.index == i) then n else 0)
-more_at g n c s i within few = by g.system s within few
-  where
+more_at g n c s i within few = by g.system s within few where
     by : (t s : System) → i < length (signal_counts s c) → counted c s i + n ≤ 2 ^ 64 - 1 → counted (counted_more_in t g.index n c) s i ≡ counted c s i + (if is_system s t && (g.index == i) then n else 0)
     by Gps Gps within few = up_by_at n g.index i c.gps within few
     by Gps Galileo within few = omega arith
@@ -277,8 +268,7 @@ finished c c' system left counts es a none numbers = λ field cells few h. recor
       let before : counted c' s i ≡ counted c s i + number system [] counts r = subst (λ (l : List ℕ). counted c' s i ≡ counted c s i + number system l counts r) none (a.each s i listed (listed_lengths c s h.gps h.galileo) small) in
       let total : count_of r more ≡ number system [] counts r = all_entries field system es r listed ∙ sym (last r listed (is_system system s)) in
       ended _ _ _ _ _ _ before start (count_append r cells more) total;
-}
-  where
+} where
     below : (a b l n : ℕ) → a ≡ b → b ≤ l → l + n < 2 ^ 63 → a < 2 ^ 63
     below a b l n x y z = omega (arith, x, y, z)
 

@@ -1,10 +1,7 @@
 -- The order of an epoch's cells, and one more cell.
-use Rattle.std.proofs.Common.{◌≡◌, ℕ, ◌==◌, Bool, true, false, ◌||◌, List, [], ◌∷◌, ◌++◌, refl, sym, ap, ap₂, ◌∙◌, subst, arith, length, get_or, Option, Some, None, is_some}
-use Rattle.std.specs.Prelude.{if◌then◌else◌, position}
-use Rattle.std.specs.Option.{option_map_or}
-use Rattle.std.specs.List.{AllByRecursion}
+use Rattle.std.proofs.Common.{◌≡◌, ℕ, ◌==◌, Bool, true, false, ◌||◌, List, [], ◌∷◌, ◌++◌, refl, sym, ap, ap₂, ◌∙◌, subst, arith, length, get_or, Option, Some, None, is_some, if◌then◌else◌, position}
 use Rattle.std.proofs.lemmas.List.Quantifiers.{position-Some}
-use Rattle.obs_epoch.specs.Names.{System, Gps, Galileo, Cell, EpochValue, PlanValue, planned_of, cells_of, PendingValue, note_all, KnownLock, place_in, is_planned, has_same_key, GatherSetup, Heard, IsKey, HeardCell, kept_cell, heard_cell, SortKey, insert_by, sort_key_of, cell_sort_key, Crowded, Kept, Repeated, lookup, outcome_of_added, values_by_message, StationValues, is_held, Gathered, with_more_in, with_more, outcome_in, hold, hold_by, just_closed_as, noted, rested, with_time, IsPending, AreInPlanOrder, AreInOrder, Added, IsAdded, cells_after, epoch_with, outcome_by, sorted_cells, sorted_epoch, State, step_by, lli_with}
+use Rattle.obs_epoch.specs.Names.{System, Gps, Galileo, Cell, EpochValue, PlanValue, planned_of, cells_of, PendingValue, note_all, KnownLock, place_in, is_planned, has_same_key, GatherSetup, Heard, IsKey, HeardCell, kept_cell, heard_cell, SortKey, insert_by, sort_key_of, cell_sort_key, Crowded, Kept, Repeated, lookup, outcome_of_added, values_by_message, StationValues, is_held, Gathered, with_more_in, with_more, outcome_in, hold, hold_by, just_closed_as, noted, rested, with_time, IsPending, AreInPlanOrder, AreInOrder, Added, IsAdded, cells_after, epoch_with, outcome_by, sorted_cells, sorted_epoch, State, step_by, lli_with, option_map_or, AllByRecursion}
 use Rattle.gnss_obs.proofs.SortLemmas.{sorted_again}
 use Rattle.gnss_obs.specs.declared.arrivals.Added.TheVariants as added
 use Rattle.std.proofs.lemmas.List.Sums.{fold-append}

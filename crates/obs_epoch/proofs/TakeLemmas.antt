@@ -1,10 +1,7 @@
 -- The whole step: a property of the list before holds for the list after one more message.
-use Rattle.std.proofs.Common.{◌≡◌, ℕ, Bool, true, false, not, ◌||◌, ◌&&◌, List, [], ◌∷◌, ◌++◌, map, refl, sym, ap, ap₂, ◌∙◌, subst, arith, append-nil, Option, Some, None, is_some, ◌⊎◌, inl, inr}
-use Rattle.std.specs.Prelude.{if◌then◌else◌, option_to_list}
-use Rattle.std.specs.Option.{option_map_or}
-use Rattle.std.proofs.lemmas.List.{map-append}
+use Rattle.std.proofs.Common.{◌≡◌, ℕ, Bool, true, false, not, ◌||◌, ◌&&◌, List, [], ◌∷◌, ◌++◌, map, refl, sym, ap, ap₂, ◌∙◌, subst, arith, append-nil, Option, Some, None, is_some, ◌⊎◌, inl, inr, if◌then◌else◌, option_to_list}
 use Rattle.std.proofs.lemmas.List.Sums.{fold-append}
-use Rattle.obs_epoch.specs.Names.{Message, Kind, CloseFirst, CellCounts, GatherSetup, Heard, heard, is_own, ends_epoch, HeardCell, Timed, greatest_time, taken_at, timed, no_counts, with_skipped, offered, counts_of, counts_of_message, epoch_at, closed_so_far, closed_times, values_of, values_by_message, State, HasHeardMessages, is_pending, closes_first, is_close_first, is_kept, kind_after, with_unlisted, Gathered, Loaded, no_epoch, noted, load, loaded_if, outcome_in, load_one, with_time, closed_if, closed_noted, epoch_begun, just_closed_as, rested, take_step, end_step, is_same, count_in, KnownLock, held_at, Locked, HasTakenMessages, closed_list, closed_epoch, EpochValue}
+use Rattle.obs_epoch.specs.Names.{Message, Kind, CloseFirst, CellCounts, GatherSetup, Heard, heard, is_own, ends_epoch, HeardCell, Timed, greatest_time, taken_at, timed, no_counts, with_skipped, offered, counts_of, counts_of_message, epoch_at, closed_so_far, closed_times, values_of, values_by_message, State, HasHeardMessages, is_pending, closes_first, is_close_first, is_kept, kind_after, with_unlisted, Gathered, Loaded, no_epoch, noted, load, loaded_if, outcome_in, load_one, with_time, closed_if, closed_noted, epoch_begun, just_closed_as, rested, take_step, end_step, is_same, count_in, KnownLock, held_at, Locked, HasTakenMessages, EpochValue, option_map_or}
 use Rattle.rtcm_msg.specs.declared.message.Message.TheVariants as message
 use Rattle.obs_epoch.specs.Step.{kind_by, step_by, closed_by, closed_of}
 use Rattle.obs_epoch.proofs.TimesLemmas.{next, timed-push}
@@ -115,33 +112,6 @@ reached g s ms m shut h early = by (taken_at s xs m) refl where
         counts = ap (with_skipped m.unlisted) (counts_are s (offered s u xs) m.cells) ∙ ap (λ o. option_map_or (λ v. with_skipped m.unlisted (counts_of s (offered s v xs) m.cells)) o no_counts) (sym some);
       })
 
--- The list of closed epochs grows by the epoch that is returned.
-grown : (s : GatherSetup) (ms : List Heard) (m : Heard) (shut : Bool) (o : Option ℕ) (e : EpochValue) → closes_first s (timed s ms) m ≡ shut
-    → closed_so_far s (timed s (ms ++ m ∷ [])) false ≡ closed_so_far s (timed s ms) shut ++ option_to_list o
-    → e ≡ held_at s (timed s (ms ++ m ∷ [])) → ((t : ℕ) → o ≡ Some t → greatest_time (timed s (ms ++ m ∷ [])) ≡ Some t)
-    → closed_list s (timed s (ms ++ m ∷ [])) false ≡ closed_list s (timed s ms) shut ++ closed_epoch (is_some o) e
-grown s ms m shut o e early closed held at =
-    ap (map (epoch_at s ys)) closed ∙ map-append (epoch_at s ys) (closed_so_far s xs shut) (option_to_list o)
-    ∙ ap₂ (λ a b. a ++ b) stay (by o at) where
-      xs : List Timed
-      xs = timed s ms
-
-      ys : List Timed
-      ys = timed s (ms ++ m ∷ [])
-
-      stay : map (epoch_at s ys) (closed_so_far s xs shut) ≡ map (epoch_at s xs) (closed_so_far s xs shut)
-      stay =
-          ap (λ l. map (epoch_at s l) (closed_so_far s xs shut)) (timed-push s ms m)
-          ∙ same_epochs s xs (next s xs m) (taken_follows s xs m) (closed_so_far s xs shut) (closed_later s xs m shut early)
-
-      by : (o : Option ℕ) → ((t : ℕ) → o ≡ Some t → greatest_time ys ≡ Some t) → map (epoch_at s ys) (option_to_list o) ≡ closed_epoch (is_some o) e
-      by None h = refl
-      by (Some t) h = ap (λ v. v ∷ []) (sym (held ∙ ap (λ o. option_map_or (epoch_at s ys) o no_epoch) (h t refl)))
-
-epoch_stays : (b : Bool) (g : Gathered) → (if b then noted g else g).epoch ≡ g.epoch
-epoch_stays true g = refl
-epoch_stays false g = refl
-
 -- The times of the closed epochs grow by that of the epoch that the step closes.
 pub times_taken : (g : Gathered) (s : GatherSetup) (ms : List Heard) (m : Heard) (shut : Bool) → HasTakenMessages g s ms shut → closes_first s (timed s ms) m ≡ shut
     → closed_so_far s (timed s (ms ++ m ∷ [])) false ≡ closed_so_far s (timed s ms) shut ++ option_to_list (closed_by g.clock m)
@@ -164,7 +134,6 @@ pub record Taken (g : Gathered) (s : GatherSetup) (ms : List Heard) (m : Heard) 
   pub kind : (n : CellCounts) → kind_by g.clock n m ≡ kind_after s (timed s ms) n m
   pub counts : (take_step g m).counts ≡ counts_of_message s (timed s ms) m
   pub after : HasTakenMessages (take_step g m).state s (ms ++ m ∷ []) false
-  pub closed : closed_list s (timed s (ms ++ m ∷ [])) false ≡ closed_list s (timed s ms) shut ++ closed_epoch (is_some (closed_by g.clock m)) (take_step g m).state.epoch
 
 -- A message is processed.
 pub taken : (g : Gathered) (s : GatherSetup) (ms : List Heard) (m : Heard) (shut : Bool) → HasTakenMessages g s ms shut → closes_first s (timed s ms) m ≡ shut → Taken g s ms m shut
@@ -179,7 +148,6 @@ taken g s ms m shut h early =
       kind = kind;
       counts = r.counts;
       after = assemble l.state s (ms ++ m ∷ []) false (closed_so_far s xs shut) o r.mid (time_taken g s ms m shut h early) (times_taken g s ms m shut h early);
-      closed = grown s ms m shut o (take_step g m).state.epoch early (times_taken g s ms m shut h early) (epoch_stays (is_some o) l.state ∙ r.mid.epoch) (time_taken g s ms m shut h early);
     }
 
 -- An epoch that a message closes that isn't accepted was pending.
@@ -223,7 +191,6 @@ pub record First (g : Gathered) (s : GatherSetup) (ms : List Heard) (m : Heard) 
   pub kind : (n : CellCounts) → kind_by g.clock n m ≡ CloseFirst
   pub has : is_some (closed_by g.clock m) ≡ true
   pub after : HasTakenMessages (take_step g m).state s ms true
-  pub closed : closed_list s (timed s ms) true ≡ closed_list s (timed s ms) false ++ (take_step g m).state.epoch ∷ []
 
 -- A message that closes first isn't processed.
 pub closes_it : (g : Gathered) (s : GatherSetup) (ms : List Heard) (m : Heard) → HasTakenMessages g s ms false → closes_first s (timed s ms) m ≡ true → m.point ≡ None → First g s ms m
@@ -266,29 +233,24 @@ closes_it g s ms m h early none = by (greatest_time (timed s ms)) refl where
       } in
       let more : closed_so_far s xs true ≡ closed_so_far s xs false ++ t ∷ [] =
       ap (λ o. closed_times s xs ++ option_to_list o) e ∙ ap (λ l. l ++ t ∷ []) (sym (append-nil (closed_times s xs))) in
-      let held : g.epoch ≡ epoch_at s xs t = h.epoch ∙ ap (λ o. option_map_or (epoch_at s xs) o no_epoch) e in
       record {
         kind = kind;
         has = ap is_some is;
         after = subst (λ (l : Loaded). HasTakenMessages l.state s ms true) (sym to)
             (assemble (with_time g m) s ms true (closed_so_far s xs false) (Some t) mid (λ u f. e ∙ f) more);
-        closed = ap (map (epoch_at s xs)) more ∙ map-append (epoch_at s xs) (closed_so_far s xs false) (t ∷ [])
-            ∙ ap (λ v. closed_list s xs false ++ v ∷ []) (sym held ∙ ap (λ (l : Loaded). l.state.epoch) (sym to));
       }
 
 pub record Ended (g : Gathered) (s : GatherSetup) (ms : List Heard) (shut : Bool) : Type 0 where
   pub was : g.clock.pending ≡ (is_pending s (timed s ms) && not shut)
   pub after : HasTakenMessages (end_step g) s ms (shut || g.clock.pending)
-  pub closed : closed_list s (timed s ms) (shut || g.clock.pending) ≡ closed_list s (timed s ms) shut ++ closed_epoch g.clock.pending (end_step g).epoch
 
 abbrev stopping : Gathered → Gathered
 stopping g = record g { clock = record g.clock { pending = false }; just_closed = g.clock.pending; has_ended = true }
 
 ended_by : (g : Gathered) (s : GatherSetup) (ms : List Heard) (shut : Bool) (b : Bool) → g.clock.pending ≡ b → g.clock.pending ≡ (is_pending s (timed s ms) && not shut)
     → HasTakenMessages (if b then noted (stopping g) else stopping g) s ms (shut || b)
-    → closed_list s (timed s ms) (shut || b) ≡ closed_list s (timed s ms) shut ++ closed_epoch b (if b then noted (stopping g) else stopping g).epoch
     → Ended g s ms shut
-ended_by g s ms shut b is was after closed = grind (arith, common_steps)
+ended_by g s ms shut b is was after = grind (arith, common_steps)
 
 -- No epoch was pending.
 ended_none : (g : Gathered) (s : GatherSetup) (ms : List Heard) (shut : Bool) → HasTakenMessages g s ms shut → g.clock.pending ≡ false → Ended g s ms shut
@@ -315,10 +277,8 @@ ended_some g s ms h f = by (greatest_time (timed s ms)) refl where
       } in
       let more : closed_so_far s xs true ≡ closed_so_far s xs false ++ t ∷ [] =
       ap (λ o. closed_times s xs ++ option_to_list o) e ∙ ap (λ l. l ++ t ∷ []) (sym (append-nil (closed_times s xs))) in
-      let held : g.epoch ≡ epoch_at s xs t = h.epoch ∙ ap (λ o. option_map_or (epoch_at s xs) o no_epoch) e in
       ended_by g s ms false true f h.clock.pending
       (assemble (stopping g) s ms true (closed_so_far s xs false) (Some t) mid (λ u q. e ∙ q) more)
-      (ap (map (epoch_at s xs)) more ∙ map-append (epoch_at s xs) (closed_so_far s xs false) (t ∷ []) ∙ ap (λ v. closed_list s xs false ++ v ∷ []) (sym held))
 
 -- No message follows.
 pub ended : (g : Gathered) (s : GatherSetup) (ms : List Heard) (shut : Bool) → HasTakenMessages g s ms shut → Ended g s ms shut

@@ -1,5 +1,5 @@
 -- The value of a gatherer after a list of messages.
-use Rattle.std.specs.Prelude.{ℕ, ◌≡◌, Bool, List, [], ◌∷◌, ◌++◌, filter, flat_map, map, if◌then◌else◌}
+use Rattle.std.specs.Prelude.{ℕ, ◌≡◌, Bool, List, ◌++◌, filter, flat_map}
 use Rattle.std.specs.Option.{option_map_or}
 use Rattle.gnss_obs.specs.declared.system.System.TheVariants.{Gps, Galileo}
 use Rattle.obs_epoch.specs.Heard.{GatherSetup, Heard}
@@ -32,11 +32,3 @@ pub record HasTakenMessages (g : Gathered) (s : GatherSetup) (ms : List Heard) (
   pub epoch : g.epoch ≡ held_at s (timed s ms)
   pub locks : Locked g s (timed s ms) (closed_so_far s (timed s ms) shut)
   pub values : g.values ≡ values_of s ms
-
--- The closed epochs; if `shut`, also the pending epoch, which was closed after the list.
-abbrev pub closed_list : GatherSetup → List Timed → Bool → List EpochValue
-closed_list s xs shut = map (epoch_at s xs) (closed_so_far s xs shut)
-
--- The epoch, if the call closed one.
-abbrev pub closed_epoch : Bool → EpochValue → List EpochValue
-closed_epoch closed e = if closed then e ∷ [] else []

@@ -1,4 +1,6 @@
--- The names that proofs cite, from one place.
+-- The names that proofs cite, passed on from one place. Declares nothing.
+pub use Rattle.std.specs.List.{AllByRecursion, IsDistinct, cons_option, list_any}
+pub use Rattle.std.specs.Option.{option_map_or}
 pub use Rattle.gnss_obs.specs.GatheredEpochs.{AreGathered, AreGatheredEpochs, AreStationValues, IsGathered, IsGatheredEpoch, IsStrength, TimesRise, same_place}
 pub use Rattle.gnss_obs.specs.HeardCells.{HeardCell, IsKey, has_same_key, kept_cell}
 pub use Rattle.gnss_obs.specs.Kept.{AreInPlanOrder}
@@ -18,7 +20,7 @@ pub use Rattle.obs_epoch.specs.Cells.{add, cells_counted, counts_of, counts_of_m
 pub use Rattle.obs_epoch.specs.Clock.{HasHeardMessages, State, closes_first, is_pending}
 pub use Rattle.obs_epoch.specs.Epochs.{cells_with_lli, closed_so_far, closed_times, epoch_at, is_shut, values_by_message, values_of}
 pub use Rattle.obs_epoch.specs.Gather.{Gathered, IsPending, Loaded, closed_if, closed_noted, end_step, epoch_begun, hold, hold_by, is_same, just_closed_as, load, load_entries, load_one, loaded_if, no_epoch, noted, outcome_in, planned_cell, rested, take_step, with_more, with_more_in, with_time, with_unlisted}
-pub use Rattle.obs_epoch.specs.GathererHistory.{HasTakenMessages, Locked, closed_epoch, closed_list, held_at, locked_in}
+pub use Rattle.obs_epoch.specs.GathererHistory.{HasTakenMessages, Locked, held_at, locked_in}
 pub use Rattle.obs_epoch.specs.Gathering.{HasGatheredEpochs, IsAwaited, all_epochs, before_closing, closed_list_at, open_after, returned_epoch}
 pub use Rattle.obs_epoch.specs.Heard.{GatherSetup, Heard, ends_epoch, heard, heard_msm, heard_summary, is_own, lock_by, observed, seen_in, system_of, unlisted_in, without_cells}
 pub use Rattle.obs_epoch.specs.Held.{CellOutcome, Crowded, Kept, Repeated, Skipped, TracksLocks, count_in, lock_place, lookup, most_locks, no_locks, note, note_all, outcome_of, outcome_of_added, put, recorded}

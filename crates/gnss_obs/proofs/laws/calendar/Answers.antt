@@ -15,9 +15,7 @@ small : (y m d : ℕ) → IsCivilDate (pos y) m d → (y ≤ 9999) × (m ≤ 12)
 small y m d is = grind (arith, common_steps)
 
 pub returns-clause-small : goal.returns-clause-small
-returns-clause-small c = λ t less.
-    let d = date_of (t / 86_400_000) in
-    small d.year d.month d.day (date_of_is (t / 86_400_000) (omega (arith, less))).0
+returns-clause-small c = λ t less. let d = date_of (t / 86_400_000) in small d.year d.month d.day (date_of_is (t / 86_400_000) (omega (arith, less))).0
 
 pub returns-clause-civil : goal.returns-clause-civil
 returns-clause-civil c = λ t less.

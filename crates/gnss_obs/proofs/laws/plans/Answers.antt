@@ -1,5 +1,4 @@
-use Rattle.std.proofs.Common.{◌≡◌, ℕ, length, Bool, true, false, List, [], ◌∷◌, ◌++◌, nat_eq, refl, sym, ap, ◌∙◌, subst, arith, append_assoc, append-nil, Option, Some, None, Result, Ok, Err}
-use Rattle.std.specs.Prelude.{if◌then◌else◌}
+use Rattle.std.proofs.Common.{◌≡◌, ℕ, length, Bool, true, false, List, [], ◌∷◌, ◌++◌, nat_eq, refl, sym, ap, ◌∙◌, subst, arith, append_assoc, append-nil, Option, Some, None, Result, Ok, Err, if◌then◌else◌}
 use Rattle.std.specs.List.{list_any, IsDistinct}
 use Rattle.std.proofs.lemmas.Cmp.{nat_eq_equiv}
 use Rattle.std.proofs.lemmas.Map.Keys.{IsDistinct-push}
@@ -59,6 +58,4 @@ unfolding IsDistinct
 none_apart = tt
 
 pub returns : goal.returns
-returns c = λ system codes signals h.
-    let r = read system codes [] signals none_apart h in
-    (subst (CodesNameSignals system codes) (sym r.is) r.spelled, r.apart)
+returns c = λ system codes signals h. let r = read system codes [] signals none_apart h in (subst (CodesNameSignals system codes) (sym r.is) r.spelled, r.apart)

@@ -1,6 +1,5 @@
-use Rattle.std.proofs.Common.{◌≡◌, ◌*◌, ◌^◌, ◌*ℤ◌, ◌<◌, pos, unsigned_abs, arith, ◌∙◌, refl, sym, ap, subst, w64, to_z, of_z, lit<}
+use Rattle.std.proofs.Common.{◌≡◌, ◌*◌, ◌^◌, ◌*ℤ◌, ◌<◌, pos, unsigned_abs, arith, ◌∙◌, refl, sym, ap, subst, w64, to_z, of_z, lit<, unwrap_or}
 use Rattle.std.proofs.lemmas.Int.{ints}
-use Rattle.std.specs.Option.{unwrap_or}
 use Rattle.gnss_obs.specs.Names.{IsNearest, nearest, nearest_strength}
 use Rattle.gnss_obs.proofs.NearestLaws.{nearest_is}
 use Rattle.gnss_obs.proofs.SizeLaws.{strength_within, strength_positive, strength_small}

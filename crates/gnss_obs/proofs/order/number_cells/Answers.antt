@@ -1,5 +1,4 @@
-use Rattle.std.proofs.Common.{◌∙◌}
-use Rattle.std.proofs.lemmas.List.{length-set}
+use Rattle.std.proofs.Common.{◌∙◌, length-set}
 use Rattle.gnss_obs.specs.Values.{planned_of}
 use Rattle.gnss_obs.proofs.SortLemmas.{number_step}
 use Rattle.gnss_obs.proofs.order.number_cells.Goals as goal

@@ -1,5 +1,4 @@
-use Rattle.std.proofs.Common.{◌≤◌, ◌<◌, ◌%◌, ◌∙◌, sym, arith, subst, length, All}
-use Rattle.std.specs.List.Sorted.{IsPermutation}
+use Rattle.std.proofs.Common.{◌≤◌, ◌<◌, ◌%◌, ◌∙◌, sym, arith, subst, length, All, IsPermutation}
 use Rattle.std.proofs.lemmas.List.Sorted.{All-permutation, IsNonDecreasingBy-from_sort}
 use Rattle.gnss_obs.specs.Values.{planned_of}
 use Rattle.gnss_obs.proofs.SortLemmas.{no_cell, numbers_within, picked_sorted, table_few}

@@ -1,5 +1,4 @@
-use Rattle.std.proofs.Common.{◌≡◌, ◌++◌, ◌∷◌, [], ℕ, List, inl, inr, sym, ◌∙◌, Result, Ok, Err, Some}
-use Rattle.std.specs.Prelude.{MatchResult}
+use Rattle.std.proofs.Common.{◌≡◌, ◌++◌, ◌∷◌, [], ℕ, List, inl, inr, sym, ◌∙◌, Result, Ok, Err, Some, MatchResult}
 use Rattle.gnss_obs.specs.Names.{System, SignalAt, signal_of_code, PlanFault, UnknownCode, RepeatedCode, NothingPlanned, BadWeek, BadStation, Memory, IsOf, TakesCode, RefusesCode, IsMemoryFaultOr, IsUnfitAfter}
 use Rattle.gnss_obs.proofs.FitLemmas.{not_before}
 use Rattle.gnss_obs.proofs.PlanLemmas.{repeated, accepted, of_where}

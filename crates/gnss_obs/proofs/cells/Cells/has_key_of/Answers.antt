@@ -1,5 +1,4 @@
-use Rattle.std.proofs.Common.{◌∙◌, sym, ap, ap₂, arith, map}
-use Rattle.std.specs.Prelude.{nat_eq}
+use Rattle.std.proofs.Common.{◌∙◌, sym, ap, ap₂, arith, map, nat_eq}
 use Rattle.gnss_obs.specs.Arriving.{slot, has_slot}
 use Rattle.gnss_obs.proofs.FoundLemmas.{found_here, found_none}
 use Rattle.gnss_obs.proofs.cells.Cells.has_key_of.Goals as goal

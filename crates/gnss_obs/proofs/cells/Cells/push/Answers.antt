@@ -1,5 +1,4 @@
-use Rattle.std.proofs.Common.{◌≡◌, ◌<◌, ◌∙◌, ap, arith, length, take}
-use Rattle.std.proofs.lemmas.List.{length-take-le, length-set}
+use Rattle.std.proofs.Common.{◌≡◌, ◌<◌, ◌∙◌, ap, arith, length, take, length-take-le, length-set}
 use Rattle.gnss_obs.proofs.FoundLemmas.{found_push}
 use Rattle.gnss_obs.proofs.cells.Cells.push.Goals as goal
 

@@ -1,8 +1,5 @@
-use Rattle.std.proofs.Common.{◌≡◌, ℕ, suc, ◌+◌, ◌<◌, ◌∙◌, Bool, true, false, List, [], nat_lt, length, drop, drop-cons, get_or, position, subst, sym, ap, arith, Some, None}
-use Rattle.std.specs.Prelude.{cond, if◌then◌else◌}
+use Rattle.std.proofs.Common.{◌≡◌, ℕ, suc, ◌+◌, ◌<◌, ◌∙◌, Bool, true, false, List, [], nat_lt, length, drop, drop-cons, get_or, position, subst, sym, ap, arith, Some, None, cond, if◌then◌else◌, option_map, bytes_eq}
 use Rattle.std.specs.List.{position_from}
-use Rattle.std.specs.Option.{option_map}
-use Rattle.std.specs.Str.{bytes_eq}
 use Rattle.std.proofs.lemmas.Iterator.Adapters.{position_from-zero}
 use Rattle.std.proofs.lemmas.List.{drop_all}
 use Rattle.gnss_obs.specs.Names.{System, ListedSignal, signal_at, signal_of_code, signal_where, table}

@@ -1,10 +1,8 @@
-use Rattle.std.proofs.Common.{◌≡◌, drop, position}
+use Rattle.std.proofs.Common.{◌≡◌, drop, position, bytes_eq}
 use Rattle.std.specs.List.{position_from}
-use Rattle.std.specs.Str.{bytes_eq}
 use Rattle.gnss_obs.specs.Signals.{table}
 use Rattle.gnss_obs.proofs.signal.Signal.from_code.Given as goal
 
 -- None of the rows so far has the code.
 abbrev pub invariant-loop-index : goal.invariant-loop-index
-invariant-loop-index l =
-    position_from (λ e. bytes_eq e.1 l.wanted) l.index (drop l.index l.entries) ≡ position (λ e. bytes_eq e.1 l.wanted) (table l.system)
+invariant-loop-index l = position_from (λ e. bytes_eq e.1 l.wanted) l.index (drop l.index l.entries) ≡ position (λ e. bytes_eq e.1 l.wanted) (table l.system)

@@ -1,5 +1,4 @@
-use Rattle.std.proofs.Common.{ap, sym, ◌∙◌}
-use Rattle.std.specs.Option.{unwrap_or, option_map}
+use Rattle.std.proofs.Common.{ap, sym, ◌∙◌, unwrap_or, option_map}
 use Rattle.gnss_obs.proofs.TableLaws.{none_is, row_is}
 use Rattle.gnss_obs.proofs.signal.Signal.from_id.Goals as goal
 

@@ -1,6 +1,5 @@
 use Rattle.std.proofs.Common.{◌≡◌, ℕ, nat_eq, ◌==◌, ◌++◌, ◌∷◌, [], ◌≤◌, true, false, List, length, sym, ap, ◌∙◌, subst, arith, rules}
-use Rattle.gnss_obs.specs.Names.{SignalAt, indices, IsOf}
-use Rattle.std.specs.List.{list_any}
+use Rattle.gnss_obs.specs.Names.{SignalAt, indices, IsOf, list_any}
 use Rattle.gnss_obs.proofs.PlanLemmas.{any_index, indices-push, length_indices}
 use Rattle.gnss_obs.proofs.SignalLemmas.{was_new, was_there, found_more}
 use Rattle.gnss_obs.proofs.signals.Signals.add.Goals as goal

@@ -1,5 +1,4 @@
-use Rattle.std.proofs.Common.{◌≡◌, ◌-ℤ◌, ◌<◌, ◌*◌, ◌↔◌, ℕ, pos, arith, ◌∙◌, sym, ap, ap₂, rules, Option, Some, None, IsSome}
-use Rattle.std.specs.Option.{IfSome, IfNone}
+use Rattle.std.proofs.Common.{◌≡◌, ◌-ℤ◌, ◌<◌, ◌*◌, ◌↔◌, ℕ, pos, arith, ◌∙◌, sym, ap, ap₂, rules, Option, Some, None, IsSome, IfSome, IfNone}
 use Rattle.std.proofs.lemmas.Option.{IfSome_then}
 use Rattle.jiff_core.specs.Calendar.{days_from_civil}
 use Rattle.jiff_core.specs.DateTime.{civil_nanos}

@@ -1,5 +1,4 @@
-use Rattle.std.proofs.Common.{◌≡◌, sym, ap, ap₂, ◌∙◌, Option}
-use Rattle.std.specs.Prelude.{option_and_then}
+use Rattle.std.proofs.Common.{◌≡◌, sym, ap, ap₂, ◌∙◌, Option, option_and_then}
 use Rattle.obs_epoch.specs.Names.{Cell, HeardCell, PlanValue, seen_in, Gathered, planned_cell}
 use Rattle.obs_epoch.proofs.EntryLemmas.{unplanned_entry, planned_entry, planned_place}
 use Rattle.obs_epoch.proofs.gather.Gatherer.take_entry.Goals as goal

@@ -1,5 +1,4 @@
-use Rattle.std.proofs.Common.{◌∙◌, ◌≡◌, ◌≤◌, ◌<◌, ◌+◌, ◌^◌, ap, sym, refl, subst, ℕ, List, length, arith, filter}
-use Rattle.std.specs.Prelude.{filter_map, unwrap_or}
+use Rattle.std.proofs.Common.{◌∙◌, ◌≡◌, ◌≤◌, ◌<◌, ◌+◌, ◌^◌, ap, sym, refl, subst, ℕ, List, length, arith, filter, filter_map, unwrap_or}
 use Rattle.obs_epoch.specs.Names.{Entry, MsmHeader, entries, FormedMsm, formed, System, viewed_message, lock_field, heard, heard_msm, seen_in, system_of, brings_value, valued}
 use Rattle.obs_epoch.proofs.SignalCountsLemmas.{wanted_cells, message_counted, few_valued}
 use Rattle.obs_epoch.proofs.ViewLemmas.{heard_formed}
