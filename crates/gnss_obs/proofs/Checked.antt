@@ -1,5 +1,6 @@
 -- Facts of numbers below a bound, computed one by one.
 use Rattle.std.proofs.Common.{ℕ, zero, suc, ◌≡◌, ◌<◌, ◌≤◌, ◌⊎◌, inl, inr, Bool, true, false, ◌==◌, ◌&&◌, ◌||◌, nat_lt, refl, sym, subst, arith, rules}
+use Rattle.std.proofs.lemmas.Grind.{common_steps}
 
 -- a test passes at each number below n
 abbrev pub passes_below : (ℕ → Bool) → ℕ → Bool
@@ -7,8 +8,7 @@ passes_below test zero = true
 passes_below test (suc n) = test n && passes_below test n
 
 pub both_first : (a b : Bool) → (a && b) ≡ true → a ≡ true
-both_first true b h = refl
-both_first false b h = h
+both_first a b h = grind (arith, common_steps, h)
 
 pub both_second : (a b : Bool) → (a && b) ≡ true → b ≡ true
 both_second true b h = h

@@ -72,9 +72,7 @@ unfolding written_among
 no_value c cells zero h = refl
 no_value c cells (suc n) h = ap₂ (λ k b. k + one_if b) (no_value c cells n h) (by (c.satellite.id == suc n) (has_value c) h) where
   by : (a v : Bool) → v ≡ false → ((a && v) || is_written cells (suc n)) ≡ is_written cells (suc n)
-  by true false h = refl
-  by false v h = refl
-  by true true h = absurd (grind (arith, h))
+  by a v h = grind (arith, common_steps, h)
 
 lower : (c : Cell) (cells : List Cell) (n : ℕ) → n < c.satellite.id → written_among (c ∷ cells) n ≡ written_among cells n
 unfolding written_among
@@ -89,8 +87,7 @@ unfolding written_among
 one_more c cells zero low high h = absurd (omega (arith, low, high))
 one_more c cells (suc n) low high h = by (c.satellite.id == suc n) refl (λ less. one_more c cells n low less h) where
   sum : (k : ℕ) (a : Bool) → k + 1 ≡ k + one_if a + one_if (not a)
-  sum k true = omega arith
-  sum k false = omega arith
+  sum k a = grind (arith, common_steps)
 
   swap : (k a b : ℕ) → k + a + b ≡ k + b + a
   swap k a b = omega arith
@@ -129,16 +126,14 @@ counted_is n last (c ∷ cells) up within above from = by (has_value c) (c.satel
         same a b h = grind (arith, h)
 
         sum : (k : ℕ) (a : Bool) → k + one_if a + one_if (not a) ≡ k + 1
-        sum k true = omega arith
-        sum k false = omega arith
+        sum k a = grind (arith, common_steps)
   by true false e f more =
       let later : last < c.satellite.id = grind (arith, f, from.0) in
       one_more c cells n above.0 within.0 e ∙ ap (λ k. k + one_if (not (is_written cells c.satellite.id))) (more c.satellite.id up.0)
       ∙ sum (counted_after c.satellite.id cells) (is_written cells c.satellite.id)
       ∙ ap (λ b. suc (counted_after c.satellite.id cells) + one_if b) (sym (none_written last cells (all_above last c.satellite.id cells later up.0))) where
         sum : (k : ℕ) (a : Bool) → k + one_if a + one_if (not a) ≡ suc k + 0
-        sum k true = omega arith
-        sum k false = omega arith
+        sum k a = grind (arith, common_steps)
 
 few_written : (cells : List Cell) (n : ℕ) → written_among cells n ≤ n
 unfolding written_among

@@ -27,8 +27,7 @@ slots_same : (i j p q : ℕ) → p < 32 → q < 32 → ((i == j) && (p == q)) �
 slots_same i j p q h k = grind (arith, common_steps, h, k)
 
 same_is : (system : System) (s t : Satellite) (a b : SignalAt) → s.system ≡ system → t.system ≡ system → same_key s a t b ≡ ((s.id == t.id) && (a.index == b.index))
-same_is Gps s t a b e f = grind (arith, common_steps, e, f)
-same_is Galileo s t a b e f = grind (arith, common_steps, e, f)
+same_is system s t a b e f = grind (arith, common_steps, e, f)
 
 pub held_slot : (system : System) (x : Cell) → x.satellite.system ≡ system → IsSignal x.signal → (cells : List Cell) → All (IsHeld system) cells
     → has_slot (slot x) (map slot cells) ≡ is_held cells (heard_cell x)

@@ -3,6 +3,7 @@ use Rattle.std.proofs.Common.{◌≡◌, ℕ, ◌+◌, ◌<◌, true≢false, Li
 use Rattle.std.specs.Result.{result_and}
 use Rattle.gnss_obs.specs.Names.{Gps, Galileo, PlanFault, UnknownCode, RepeatedCode, NothingPlanned, BadWeek, BadStation, Memory, SignalAt, PlanValue, plan_of, signals_of, indices, IsOf, ArePlanned, DoneOr, IsDefined, IsMade, IsMemoryFaultOr, IsPlanResult, IsUnfit, IsUnplanned}
 use Rattle.gnss_obs.proofs.FitLemmas.{unfit_not_of}
+use Rattle.std.proofs.lemmas.Grind.{common_steps}
 
 abbrev fault_of : {A : Type 0} → Result A PlanFault → PlanFault
 fault_of (Ok u) = Memory
@@ -112,9 +113,7 @@ both_added first second added gps galileo ss ts is f s = subst (DoneOr (IsUnplan
   both (Err d) r (inr bad) s = inr (unfit_first gps galileo d bad)
 
 some_of : (gps galileo : List SignalAt) → (gps ≡ [] → galileo ≡ [] → ⊥) → 0 < length gps + length galileo
-some_of [] [] none = absurd (none refl refl)
-some_of [] (s ∷ ss) none = omega arith
-some_of (s ∷ ss) ts none = omega arith
+some_of gps galileo none = grind (arith, common_steps, none)
 
 pub plan_added : {A : Type 0} (added : Result A PlanFault) (gps galileo ss ts : List SignalAt) (result : Result PlanValue PlanFault)
     → DoneOr (IsUnplanned gps galileo) (AreAdded gps galileo ss ts) added → IsMade added ss ts result → IsPlanResult gps galileo result

@@ -18,12 +18,10 @@ none_before p (x ∷ xs) h = by (p x) h (none_before p xs) where
   by false h more = let e = more h in omega (arith, e)
 
 not_true : (b : Bool) → not b ≡ true → b ≡ false
-not_true true e = grind (arith, e)
-not_true false e = refl
+not_true b e = grind (arith, common_steps, e)
 
 not_false : (b : Bool) → not b ≡ false → b ≡ true
-not_false true e = refl
-not_false false e = grind (arith, e)
+not_false b e = grind (arith, common_steps, e)
 
 -- ---- signals of one system are the same if their indices in its table are
 

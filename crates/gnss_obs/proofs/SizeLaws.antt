@@ -4,6 +4,7 @@ use Rattle.std.proofs.lemmas.Int.{ints}
 use Rattle.std.proofs.lemmas.Nat.{mul-le}
 use Rattle.gnss_obs.specs.Names.{System, Gps, Galileo, carrier_of, band_of, SignalAt, carriers, code_of, hertz_of, light, nearest_pseudorange, nearest_phase, nearest_doppler, nearest_strength, AllByRecursion}
 use Rattle.gnss_obs.proofs.NearestLaws.{nearest_is, nearest_bound, product_within}
+use Rattle.std.proofs.lemmas.Grind.{common_steps}
 
 -- ---- carriers
 
@@ -11,8 +12,7 @@ abbrev most_hertz : ℕ
 most_hertz = 1575420000
 
 this_or : (b : Bool) (h rest most : ℕ) → h ≤ most → rest ≤ most → (if b then h else rest) ≤ most
-this_or true h rest most a c = a
-this_or false h rest most a c = c
+this_or b h rest most a c = grind (arith, common_steps, a, c)
 
 carrier_within : (band : ℕ) (cs : List (ℕ × ℕ)) → AllByRecursion (λ c. c.1 ≤ most_hertz) cs → carrier_of cs band ≤ most_hertz
 carrier_within band [] h = lit≤ tt

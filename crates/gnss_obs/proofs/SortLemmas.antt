@@ -31,8 +31,7 @@ Sorted (n ∷ ns) = Low n ns × Sorted ns
 one_same : (n k : ℕ) → n ≡ k → one_if (n == k) ≡ 1
 one_same n k e = by (n == k) refl where
   by : (b : Bool) → (n == k) ≡ b → one_if b ≡ 1
-  by true f = refl
-  by false f = absurd (grind (arith, e, f))
+  by b f = grind (arith, common_steps, f)
 
 low_counted : (n k : ℕ) (ns : List ℕ) → Low n ns → 0 < count k ns → n ≤ k
 low_counted n k [] low some = absurd (omega (arith, some))
@@ -241,8 +240,7 @@ no_cell = record {
 }
 
 pub table_few : (system : System) → length (table system) ≤ 64
-table_few Gps = omega arith
-table_few Galileo = omega arith
+table_few system = grind (arith, common_steps)
 
 -- ---- cells in order
 

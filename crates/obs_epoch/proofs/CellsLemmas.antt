@@ -86,9 +86,7 @@ kept-add system xs y = ap (take most_cells) (mine-push system xs y) ∙ by (is_o
       ∙ added_to most_cells (mine system xs) y (is_among xs y) (mine-among system xs y e)
       ∙ turned (is_among (kept system xs) y || nat_le most_cells (length (kept system xs))) where
         turn : (b : Bool) → (if not b then y ∷ [] else []) ≡ (if b then [] else y ∷ [])
-        turn true = refl
-        turn false = refl
+        turn b = grind (arith, common_steps)
 
         turned : (b : Bool) → (if b then kept system xs else kept system xs ++ y ∷ []) ≡ (if not b then kept system xs ++ y ∷ [] else kept system xs)
-        turned true = refl
-        turned false = refl
+        turned b = grind (arith, common_steps)

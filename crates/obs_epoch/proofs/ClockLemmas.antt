@@ -7,8 +7,7 @@ use Rattle.std.proofs.lemmas.Grind.{common_steps}
 
 -- A message without a time doesn't change the greatest time.
 max_none : (a : Option ℕ) → max_known a None ≡ a
-max_none None = refl
-max_none (Some a) = refl
+max_none a = grind (arith, common_steps)
 
 -- A message that isn't accepted changes no time, and may close the pending epoch.
 pub same_time : (s : GatherSetup) (xs : List Timed) (x : Timed) → x.time ≡ None
@@ -22,8 +21,7 @@ pub data Follows (s : GatherSetup) (xs : List Timed) (u : ℕ) : Type 0 where
   equal : greatest_time xs ≡ Some u → is_closed s u xs ≡ false → Follows s xs u
 
 pub at_self : (u : ℕ) (time : Option ℕ) → time ≡ Some u → option_map_or (λ v. v == u) time false ≡ true
-at_self u None e = grind arith
-at_self u (Some v) e = grind arith
+at_self u time e = grind (arith, common_steps, e)
 
 pub new_time : (s : GatherSetup) (xs : List Timed) (x : Timed) (u : ℕ) → x.time ≡ Some u → Follows s xs u
     → (greatest_time (xs ++ x ∷ []) ≡ Some u) × (is_pending s (xs ++ x ∷ []) ≡ not (ends_epoch s x.message))
@@ -58,12 +56,10 @@ not_own : (s : GatherSetup) (xs : List Timed) (n : CellCounts) (m : Heard) (shut
 not_own s xs n m shut own closes = grind (arith, common_steps, same_time, next, same_state)
 
 pub and_true : (a : Bool) → a ≡ (a && true)
-and_true true = refl
-and_true false = refl
+and_true a = grind (arith, common_steps)
 
 and_false : (a : Bool) → false ≡ (a && false)
-and_false true = refl
-and_false false = refl
+and_false a = grind (arith, common_steps)
 
 -- A message that ends its epoch closes the pending epoch.
 ended-is : (b : Bool) (s : GatherSetup) (latest : Option ℕ) (pending : Bool)

@@ -122,12 +122,10 @@ times-push_same (y ∷ ys) x u e h =
 -- ---- which epochs are closed
 
 or_true : (a b : Bool) → b ≡ true → (a || b) ≡ true
-or_true true b h = refl
-or_true false b h = h
+or_true a b h = grind (arith, common_steps, h)
 
 or_false : (a b : Bool) → b ≡ false → (a || b) ≡ a
-or_false true b h = refl
-or_false false b h = h
+or_false a b h = grind (arith, common_steps, h)
 
 shut_below : (s : GatherSetup) (ys : List Timed) (g t : ℕ) → greatest_time ys ≡ Some g → t < g → is_shut s ys t ≡ true
 shut_below s ys g t e lt = or_true (is_closed s t ys) _ (ap (λ o. option_map_or (λ u. nat_lt t u) o false) e ∙ less_true t g lt)

@@ -8,14 +8,10 @@ use Rattle.obs_epoch.proofs.ClosedLemmas.{when, no_greatest, taken_follows, clos
 use Rattle.std.proofs.lemmas.Grind.{common_steps}
 
 either : (m c : Bool) (g : ℕ) → when (not c && m) g ≡ option_to_list (if m && not c then Some g else None)
-either true true g = refl
-either true false g = refl
-either false true g = refl
-either false false g = refl
+either m c g = grind (arith, common_steps)
 
 neither : (m : Bool) (g : Option ℕ) → [] ≡ option_to_list (if m && false then g else None)
-neither true g = refl
-neither false g = refl
+neither m g = grind (arith, common_steps)
 
 -- A message that isn't accepted closes the pending epoch exactly if it ends its epoch.
 pub untaken : (s : GatherSetup) (xs : List Timed) (x : Timed) → x.time ≡ None
@@ -28,17 +24,6 @@ untaken s xs x none = by (greatest_time xs) refl where
 
 plain : (s : GatherSetup) (ys : List Timed) → closed_so_far s ys false ≡ closed_times s ys
 plain s ys = append-nil (closed_times s ys)
-
--- Properties of an accepted message.
-pub record Parts (s : GatherSetup) (xs : List Timed) (m : Heard) (u : ℕ) : Type 0 where
-  pub tow : ℕ
-  pub some : m.tow ≡ Some tow
-  pub early : is_late s xs tow ≡ false
-  pub within : is_past (time_of s xs tow) ≡ false
-  pub time : time_of s xs tow ≡ u
-
-pub parts : (s : GatherSetup) (xs : List Timed) (m : Heard) (u : ℕ) → taken_at s xs m ≡ Some u → Parts s xs m u
-parts s xs m u e = grind (arith, common_steps)
 
 -- If a message is accepted, an epoch is closed first exactly if one is pending and its time is less.
 first_is : (s : GatherSetup) (xs : List Timed) (m : Heard) (u t : ℕ) → is_own s m ≡ true → taken_at s xs m ≡ Some u → greatest_time xs ≡ Some t
@@ -53,6 +38,9 @@ not_less c shut u h = grind (arith, h)
 
 less : (t u : ℕ) → t < u → nat_lt t u ≡ true
 less t u h = grind arith
+
+pub own_of : (s : GatherSetup) (xs : List Timed) (m : Heard) (u : ℕ) → taken_at s xs m ≡ Some u → is_own s m ≡ true
+own_of s xs m u some = grind (arith, common_steps)
 
 -- An accepted message: whether it closes the epoch before, and its own.
 pub taken_by : (s : GatherSetup) (xs : List Timed) (m : Heard) (u : ℕ) → is_own s m ≡ true → taken_at s xs m ≡ Some u → Follows s xs u
@@ -105,15 +93,11 @@ closing_none s xs m shut none h =
 closing_some : (s : GatherSetup) (xs : List Timed) (m : Heard) (u : ℕ) (shut : Bool) → taken_at s xs m ≡ Some u → closes_first s xs m ≡ shut
     → closed_so_far s (xs ++ next s xs m ∷ []) false ≡ closed_so_far s xs shut ++ option_to_list (closed_in s xs m shut)
 closing_some s xs m u shut some h =
-    let own : is_own s m ≡ true = own_of (is_own s m) refl in
+    let own = own_of s xs m u some in
     let new = new_time s xs (next s xs m) u some (taken_follows s xs m u some) in
     let kind = accepted s xs no_counts m u some in
     plain s (xs ++ next s xs m ∷ []) ∙ taken_by s xs m u own some (taken_follows s xs m u some) shut h
     ∙ ap (λ l. closed_so_far s xs shut ++ l) (kept_text (kind_after s xs no_counts m) (ends_epoch s m) (is_pending s xs && not shut) (greatest_time xs) _ u kind.0 kind.1 new.0) where
-      own_of : (own : Bool) → is_own s m ≡ own → is_own s m ≡ true
-      own_of true e = e
-      own_of false e = absurd (grind (arith, e, some))
-
       kept_text : (k : Kind) (ends was : Bool) (before after : Option ℕ) (v : ℕ) → is_close_first k ≡ false → is_kept k ≡ true → after ≡ Some v
           → when ends v ≡ option_to_list (closed_of k ends was before after)
       kept_text k ends was before after v other kept at = grind (arith, common_steps)

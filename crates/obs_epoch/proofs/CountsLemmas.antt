@@ -9,8 +9,7 @@ use Rattle.obs_epoch.proofs.LoadLemmas.{counts_after, outcome_after, planned_one
 use Rattle.std.proofs.lemmas.Grind.{common_steps}
 
 or_false : (a : Bool) → (a || false) ≡ a
-or_false true = refl
-or_false false = refl
+or_false a = grind (arith, common_steps)
 
 -- A key is among the kept cells of both systems exactly if it is among those of its system.
 both-among : (xs : List HeardCell) (p : HeardCell) → is_among (kept_of_both xs) p ≡ is_among (kept p.satellite.system xs) p
@@ -21,8 +20,7 @@ both-among xs p = list_any-append (has_same_key p) (kept Gps xs) (kept Galileo x
   by Galileo e = ap (λ b. b || is_among (kept Galileo xs) p) (kept_apart Gps xs p (grind (arith, e))) ∙ ap (λ c. is_among (kept c xs) p) (sym e)
 
 own : (system : System) (x : HeardCell) → x.satellite.system ≡ system → is_of_system system x ≡ true
-own Gps x e = grind (arith, e)
-own Galileo x e = grind (arith, e)
+own system x e = grind (arith, common_steps, e)
 
 -- If there is room, all first cells are kept.
 all_kept : (system : System) (xs : List HeardCell) → nat_le most_cells (length (kept system xs)) ≡ false → kept system xs ≡ mine system xs
@@ -30,8 +28,7 @@ all_kept system xs h = take_all most_cells (mine system xs) (fits most_cells (le
   fits : (most all few : ℕ) → (most ≤ all → few ≡ most) → nat_le most few ≡ false → all ≤ most
   fits most all few is h = by (nat_le all most) refl where
     by : (b : Bool) → nat_le all most ≡ b → all ≤ most
-    by true e = grind (arith, e)
-    by false e = grind (arith, e, h, is)
+    by b e = grind (arith, common_steps, e)
 
 -- For every next cell, an earlier cell is kept as before.
 known-push : (system : System) (xs : List HeardCell) (y p : HeardCell) → is_of_system system p ≡ true → is_among xs p ≡ true → is_among (kept system (xs ++ y ∷ [])) p ≡ is_among (kept system xs) p
@@ -88,8 +85,7 @@ now-among xs ys y a n e f =
     ∙ ap (λ b. is_among (if b && not (is_among (kept y.satellite.system xs) y || nat_le most_cells (length (kept y.satellite.system xs))) then kept y.satellite.system xs ++ y ∷ [] else kept y.satellite.system xs) y) (self_system y)
     ∙ ap₂ (λ b c. is_among (if not (b || c) then kept y.satellite.system xs ++ y ∷ [] else kept y.satellite.system xs) y) e f ∙ by a n e where
       or_true : (b : Bool) → (b || true) ≡ true
-      or_true true = refl
-      or_true false = refl
+      or_true b = grind (arith, common_steps)
 
       by : (b c : Bool) → is_among (kept y.satellite.system xs) y ≡ b → is_among (if not (b || c) then kept y.satellite.system xs ++ y ∷ [] else kept y.satellite.system xs) y ≡ (b || not c)
       by true c g = g

@@ -4,10 +4,7 @@ use Rattle.std.proofs.Common.{◌≡◌, ℕ, ◌+◌, Bool, true, false, ◌&&�
 use Rattle.std.proofs.lemmas.Grind.{common_steps}
 
 later_count : (k : CellOutcome) (n : ℕ) (c : CellCounts) → count_in k (with_skipped n c) ≡ with_skipped n (count_in k c)
-later_count Kept n c = refl
-later_count Repeated n c = refl
-later_count Crowded n c = refl
-later_count Skipped n c = grind (arith, common_steps)
+later_count k n c = grind (arith, common_steps)
 
 later_one : (n : ℕ) (l : Loaded) (x : HeardCell) → load_one (with_unlisted n l) x ≡ with_unlisted n (load_one l x)
 later_one n l x = ap (λ c. record { state = hold l.state x; counts = c }) (later_count (outcome_in l.state x) n l.counts)
@@ -44,9 +41,7 @@ load_entries_is field system l (e ∷ es) = by (seen_in field system e) (λ v. l
 
 one_skipped : (a b : Bool) (l : Loaded) (h : HeardCell) (k : CellOutcome) → (if b then Some (kept_cell h 0) else None) ≡ None
     → with_unlisted 1 l ≡ record { state = hold_by (if a && b then k else Skipped) l.state h; counts = count_in (if a && b then k else Skipped) l.counts }
-one_skipped a true l h k e = cc
-one_skipped true false l h k e = refl
-one_skipped false false l h k e = refl
+one_skipped a b l h k e = grind (arith, common_steps, e)
 
 -- An entry of no planned signal is skipped.
 pub unplanned_entry : (o : Option HeardCell) (l : Loaded) → option_and_then (planned_cell l.state.clock.setup.plan) o ≡ None

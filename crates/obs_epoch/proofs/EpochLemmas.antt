@@ -113,7 +113,3 @@ all_later s xs x follow = by x.time refl where
   by : (time : Option ℕ) → x.time ≡ time → AllLater x.time (closed_times s xs)
   by None none = subst (λ o. AllLater o (closed_times s xs)) (sym none) (all_none (closed_times s xs))
   by (Some u) some = subst (λ o. AllLater o (closed_times s xs)) (sym some) (all_below u (closed_times s xs) (closed_below s xs u (follow u some)))
-
-pub same_epochs : (s : GatherSetup) (xs : List Timed) (x : Timed) → Known s xs x → (ts : List ℕ) → AllLater x.time ts → map (epoch_at s (xs ++ x ∷ [])) ts ≡ map (epoch_at s xs) ts
-same_epochs s xs x follow [] h = refl
-same_epochs s xs x follow (t ∷ ts) h = ap₂ (λ a l. a ∷ l) (epoch_at-push s xs x t h.0 (times_before s xs x t follow h.0)) (same_epochs s xs x follow ts h.1)

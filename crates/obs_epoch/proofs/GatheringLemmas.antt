@@ -24,9 +24,7 @@ closed-more s t (y ∷ ys) x h = by (is_at t y) h (closed-more s t ys x) where
   by false h more = more h
 
 later_known : (t : ℕ) (a b : Option ℕ) → option_map_or (λ u. nat_lt t u) a false ≡ true → option_map_or (λ u. nat_lt t u) (max_known a b) false ≡ true
-later_known t None b h = absurd (grind (arith, h))
-later_known t (Some u) None h = h
-later_known t (Some u) (Some v) h = grind (arith, h)
+later_known t a b h = grind (arith, common_steps, h)
 
 pub shut-more : (s : GatherSetup) (t : ℕ) (xs : List Timed) (x : Timed) → is_shut s xs t ≡ true → is_shut s (xs ++ x ∷ []) t ≡ true
 shut-more s t xs x h = grind (arith, common_steps, closed-more, greatest-push, later_known)
@@ -42,8 +40,7 @@ shut-append s t ms (m ∷ more) h =
 -- ---- the messages before a closing
 
 not_both : (b : Bool) → b ≡ true → b ≡ false → ⊥
-not_both true e f = grind (arith, f)
-not_both false e f = grind (arith, e)
+not_both b e f = grind (arith, common_steps, e, f)
 
 still_open : (s : GatherSetup) (t : ℕ) (ms more : List Heard) → is_shut s (timed s (ms ++ more)) t ≡ false → is_shut s (timed s ms) t ≡ false
 still_open s t ms more h = grind (arith, common_steps, not_both, shut-append)

@@ -157,8 +157,7 @@ gathers_first g s ms es m h going early point = by (greatest_time (timed s ms)) 
   pending : is_pending s xs ≡ true
   pending = by_pending (is_pending s xs) refl where
     by_pending : (p : Bool) → is_pending s xs ≡ p → p ≡ true
-    by_pending true e = refl
-    by_pending false e = absurd (grind (arith, e, early))
+    by_pending p e = grind (arith, common_steps, e)
 
   by : (o : Option ℕ) → greatest_time xs ≡ o → HasGatheredEpochs v s ms (es ++ returned_epoch v) (Some m)
   by None e = absurd (grind (arith, e, pending))
@@ -188,16 +187,13 @@ pub has_closed : (v : Gathered) → v.just_closed ≡ is_some (closed_in v)
 has_closed v = grind (arith, common_steps)
 
 pub end_ended : (b : Bool) (h : Gathered) → h.has_ended ≡ true → (if b then noted h else h).has_ended ≡ true
-end_ended true h e = e
-end_ended false h e = e
+end_ended b h e = grind (arith, common_steps, e)
 
 pub end_handed : (b : Bool) (h : Gathered) → (if b then noted h else h).just_closed ≡ h.just_closed
-end_handed true h = refl
-end_handed false h = refl
+end_handed b h = grind (arith, common_steps)
 
 and_true : (a : Bool) → (a && true) ≡ a
-and_true true = refl
-and_true false = refl
+and_true a = grind (arith, common_steps)
 
 -- No message follows.
 pub gathers_ended : (g : Gathered) (s : GatherSetup) (ms : List Heard) (es : List Closed) → HasGatheredEpochs g s ms es None → g.has_ended ≡ false

@@ -41,8 +41,7 @@ abbrev pub planned_one : GatherSetup → HeardCell → List HeardCell
 planned_one s x = if is_planned s x then x ∷ [] else []
 
 cells_in_of : (system : System) (p : PlanValue) (f : HeardCell → Option KnownLock) (t : ℕ) (xs : List HeardCell) → cells_of system (epoch_of p f t xs) ≡ with_lli_by f t (sorted (planned_of system p) (kept system xs))
-cells_in_of Gps p f t xs = refl
-cells_in_of Galileo p f t xs = refl
+cells_in_of system p f t xs = grind (arith, common_steps)
 
 pub outcome_is : (s : GatherSetup) (f : HeardCell → Option KnownLock) (t : ℕ) (xs : List HeardCell) (x : HeardCell) → outcome_of s (cells_of x.satellite.system (epoch_of s.plan f t xs)) x ≡ outcome_after s xs x
 outcome_is s f t xs x = grind (arith, common_steps, cells_in_of, with_lli_by-held, among-sorted, with_lli_by-length, length-sorted)
@@ -92,10 +91,7 @@ counts_after s xs n [] = n
 counts_after s xs n (y ∷ ys) = counts_after s (xs ++ planned_one s y) (count_in (outcome_after s xs y) n) ys
 
 pub hold_is : (k : CellOutcome) (g : Gathered) (x : HeardCell) → hold_by k g x ≡ record g { epoch = epoch_by g.clock.setup.plan k (lookup g.locks) g.epoch x }
-hold_is Kept g x = refl
-hold_is Skipped g x = refl
-hold_is Repeated g x = refl
-hold_is Crowded g x = refl
+hold_is k g x = grind (arith, common_steps)
 
 -- The cells of a message, kept one by one.
 pub load_is : (g : Gathered) (n : CellCounts) (t : ℕ) (xs ys : List HeardCell) → g.epoch ≡ epoch_of g.clock.setup.plan (lookup g.locks) t xs
@@ -114,5 +110,4 @@ load_is g n t xs (y ∷ ys) h =
     ∙ ap (λ l. record { state = record g { epoch = epoch_of s.plan f t l }; counts = counts_after s (xs ++ planned_one s y) (count_in (outcome_after s xs y) n) ys })
     (append_assoc xs (planned_one s y) (filter (is_planned s) ys) ∙ ap (λ l. xs ++ l) (split (is_planned s y) y (filter (is_planned s) ys))) where
       split : (b : Bool) (y : HeardCell) (l : List HeardCell) → (if b then y ∷ [] else []) ++ l ≡ cond b (y ∷ l) l
-      split true y l = refl
-      split false y l = refl
+      split b y l = grind (arith, common_steps)

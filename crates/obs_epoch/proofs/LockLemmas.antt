@@ -26,12 +26,10 @@ pub lookup-note : (t : ℕ) (ts : List (Option KnownLock)) (x key : HeardCell) �
     → lookup (note t ts x) key ≡ option_or (lock_for key t x) (lookup ts key)
 lookup-note t ts x key k size = by (is_locked x) where
   set_at : (s : Bool) (l : KnownLock) (o : Option KnownLock) → answer s l o ≡ option_or (if s then Some l else None) o
-  set_at true l o = refl
-  set_at false l o = refl
+  set_at s l o = grind (arith, common_steps)
 
   none_at : (s : Bool) (o : Option KnownLock) → o ≡ option_or (if s then None else None) o
-  none_at true o = refl
-  none_at false o = refl
+  none_at s o = grind (arith, common_steps)
 
   by : (b : Bool) → lookup (option_map_or (put ts x) (if b then Some (record { time = t; lock = x.lock }) else None) ts) key
       ≡ option_or (if has_same_key key x then (if b then Some (record { time = t; lock = x.lock }) else None) else None) (lookup ts key)
@@ -102,12 +100,10 @@ tracks_put ts noted x l k h = record {
   by : (s : Bool) (o : Option KnownLock) (b : Bool) → is_some o ≡ b → is_some (answer s l o) ≡ (b || s)
   by true o b e = or_true b where
     or_true : (b : Bool) → true ≡ (b || true)
-    or_true true = refl
-    or_true false = refl
+    or_true b = grind (arith, common_steps)
   by false o b e = e ∙ or_false b where
     or_false : (b : Bool) → b ≡ (b || false)
-    or_false true = refl
-    or_false false = refl
+    or_false b = grind (arith, common_steps)
 
 -- The locked ones of these cells.
 abbrev pub locked : List HeardCell → List HeardCell

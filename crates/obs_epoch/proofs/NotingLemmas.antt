@@ -23,8 +23,7 @@ distinct_more system xs (y ∷ ys) d =
     (distinct_more system (xs ++ y ∷ []) ys (subst (IsDistinct has_same_key) (sym (kept-add system xs y)) (add_distinct system (kept system xs) y d)))
 
 kept_none : (system : System) → kept system [] ≡ []
-kept_none Gps = refl
-kept_none Galileo = refl
+kept_none system = grind (arith, common_steps)
 
 pub kept_distinct : (system : System) (xs : List HeardCell) → IsDistinct has_same_key (kept system xs)
 unfolding IsDistinct

@@ -189,8 +189,7 @@ open_heard s t earlier [] h k = h
 open_heard s t earlier (m ∷ ms) h k =
     by (is_shut s (timed s (earlier ++ m ∷ [])) t) (open_heard s t (earlier ++ m ∷ []) ms (all_append IsHeard earlier (m ∷ []) h (k.0, tt)) k.1) where
       by : (b : Bool) → AllByRecursion IsHeard (open_after s t (earlier ++ m ∷ []) ms) → AllByRecursion IsHeard (if b then earlier else open_after s t (earlier ++ m ∷ []) ms)
-      by true l = h
-      by false l = l
+      by b l = grind (arith, common_steps, l)
 
 -- ---- epochs
 

@@ -34,16 +34,14 @@ pub listed_of : (system : System) (id : ℕ) (g : SignalAt) → signal_of_id sys
 listed_of system id g h = grind (arith, common_steps)
 
 is_some-map : {X Y : Type 0} (f : X → Y) (o : Option X) → is_some (option_map f o) ≡ is_some o
-is_some-map f None = refl
-is_some-map f (Some x) = refl
+is_some-map f o = grind (arith, common_steps)
 
 pub value_same : (lock : LockTime) (e : Entry) (s : Satellite) (g : SignalAt) → brings_value (observed lock e s g) ≡ entry_value e
 value_same lock e s g = grind (arith, common_steps, is_some-map)
 
 -- The cells of one entry and of the entries after it.
 pub one_first : (o : Option HeardCell) (xs : List HeardCell) → filter brings_value (cons_option o []) ++ filter brings_value xs ≡ filter brings_value (cons_option o xs)
-one_first None xs = refl
-one_first (Some x) xs = grind (arith, common_steps)
+one_first o xs = grind (arith, common_steps)
 
 -- ---- the cells of a message
 

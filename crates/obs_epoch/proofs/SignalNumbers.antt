@@ -12,9 +12,7 @@ use Rattle.obs_epoch.proofs.SignalCountsLemmas.{listed_of, value_same, one_first
 -- ---- signals and their IDs
 
 not_both : (a b : Bool) → (a ≡ true → b ≡ true → ⊥) → (a && b) ≡ false
-not_both true true h = absurd (h refl refl)
-not_both true false h = refl
-not_both false b h = refl
+not_both a b h = grind (arith, common_steps, h)
 
 one_way : (a b : Bool) → (a ≡ true → b ≡ true) → (b ≡ true → a ≡ true) → a ≡ b
 one_way true b there back = sym (there refl)
@@ -26,14 +24,10 @@ both_of true b h = (refl, h)
 both_of false b h = grind (arith, h)
 
 system_same : (a b : System) → is_system a b ≡ true → a ≡ b
-system_same Gps Gps h = refl
-system_same Gps Galileo h = grind (arith, h)
-system_same Galileo Gps h = grind (arith, h)
-system_same Galileo Galileo h = refl
+system_same a b h = grind (arith, common_steps, h)
 
 system_self : (a b : System) → a ≡ b → is_system a b ≡ true
-system_self Gps b h = rw (← h) refl
-system_self Galileo b h = rw (← h) refl
+system_self a b h = grind (arith, common_steps, h)
 
 equal_self : (a b : ℕ) → a ≡ b → (a == b) ≡ true
 equal_self a b h = grind (arith, h)
@@ -115,20 +109,16 @@ in_set Galileo id = elim (cases_lt id 65) [
 -- ---- the entries of a signal
 
 either : (a b c d : Bool) → (a || (b || c || d)) ≡ (a || b || c || d)
-either true b c d = refl
-either false b c d = refl
+either a b c d = grind (arith, common_steps)
 
 in_middle : (a b c : Bool) → (a && (b && c)) ≡ (b && (a && c))
-in_middle true b c = refl
-in_middle false true c = refl
-in_middle false false c = refl
+in_middle a b c = grind (arith, common_steps)
 
 abbrev is_for : System → SignalAt → Entry → Bool
 is_for system g e = is_system system g.system && (has_listed_value (satellite_set system) e && (e.signal == id_of g))
 
 zero_case : (b c : Bool) → c ≡ false → zero ≡ cond (b && c) 1 0
-zero_case true c h = rw h refl
-zero_case false c h = refl
+zero_case b c h = grind (arith, common_steps, h)
 
 one_cell : (p q : HeardCell → Bool) (y : HeardCell) → length (filter p (filter q (y ∷ []))) ≡ cond (q y && p y) 1 0
 one_cell p q y = grind (arith, common_steps)
@@ -154,8 +144,7 @@ pub all_entries : (field : LockField) (system : System) (es : List Entry) (g : S
     → count_of g (filter brings_value (filter_map (seen_in field system) es)) ≡ (if is_system system g.system then value_count (satellite_set system) (id_of g) es else 0)
 all_entries field system [] g listed = none (is_system system g.system) where
     none : (b : Bool) → zero ≡ (if b then zero else zero)
-    none true = refl
-    none false = refl
+    none b = grind (arith, common_steps)
 all_entries field system (e ∷ es) g listed =
     ap (count_of g) (sym (one_first (seen_in field system e) (filter_map (seen_in field system) es)))
     ∙ (count_append g (filter brings_value (cons_option (seen_in field system e) [])) (filter brings_value (filter_map (seen_in field system) es))
@@ -164,8 +153,7 @@ all_entries field system (e ∷ es) g listed =
     (count_first (λ e. has_listed_value (satellite_set system) e && (e.signal == id_of g)) e es)))
   where
     joined : (b p : Bool) (n m : ℕ) → m ≡ cond p 1 0 + n → cond (b && p) 1 0 + (if b then n else 0) ≡ (if b then m else 0)
-    joined true p n m h = sym h
-    joined false p n m h = refl
+    joined b p n m h = grind (arith, common_steps, h)
 
 -- ---- numbers
 
@@ -208,8 +196,7 @@ number_step true true h m n f = let p = f refl in rw p.0 (omega (arith, p.1))
 number_step true false h m n f = omega arith
 
 number_few : (b : Bool) (m : ℕ) → m ≤ 64 → (if b then m else 0) ≤ 64
-number_few true m h = h
-number_few false m h = omega arith
+number_few b m h = grind (arith, common_steps, h)
 
 -- The first of the signals that are left is no longer left.
 first_number : (system : System) (left counts : List ℕ) (x n : ℕ) (g : SignalAt) → n ≡ get_or counts (x - 1) 0 → has_id x left ≡ false
@@ -220,8 +207,7 @@ first_number system left counts x n g is once =
     (subst (λ (y : ℕ). has_id y left ≡ false) e once, sym (is ∙ ap (λ (y : ℕ). get_or counts (y - 1) 0) e)))
 
 lengths : (c c' : SignalCountsValue) (s : System) → length c'.gps ≡ length c.gps → length c'.galileo ≡ length c.galileo → length (signal_counts s c') ≡ length (signal_counts s c)
-lengths c c' Gps e f = e
-lengths c c' Galileo e f = f
+lengths c c' s e f = grind (arith, common_steps, e, f)
 
 join : (a b c d e f : ℕ) → a ≡ b + d → b ≡ c + e → f ≡ e + d → a ≡ c + f
 join a b c d e f x y z = omega (arith, x, y, z)
@@ -276,8 +262,7 @@ finished c c' system left counts es a none numbers = λ field cells few h. recor
     ended a b c d e f x y z w = omega (arith, x, y, z, w)
 
     listed_lengths : (c : SignalCountsValue) (s : System) → length c.gps ≡ length (table Gps) → length c.galileo ≡ length (table Galileo) → length (signal_counts s c) ≡ length (table s)
-    listed_lengths c Gps e f = e
-    listed_lengths c Galileo e f = f
+    listed_lengths c s e f = grind (arith, common_steps, e, f)
 
     last : (r : SignalAt) → IsSignal r → (b : Bool) → (if b && true then get_or counts (id_of r - 1) 0 else 0) ≡ (if b then value_count (satellite_set system) (id_of r) es else 0)
     last r listed true =
@@ -292,5 +277,4 @@ signal_found None n r g m e f = absurd (none_some (g, m) r e f)
 signal_found (Some s) n r g m e f = let same : (s, n) ≡ (g, m) = some_same (s, n) (g, m) r e f in (ap (λ (p : SignalAt × ℕ). Some p.0) same, sym (ap (λ (p : SignalAt × ℕ). p.1) same))
 
 pub signal_missing : (o : Option SignalAt) (n : ℕ) (r : Option (SignalAt × ℕ)) → r ≡ option_map (λ (s : SignalAt). (s, n)) o → r ≡ None → o ≡ None
-signal_missing None n r e f = refl
-signal_missing (Some s) n r e f = absurd (none_some (s, n) r f e)
+signal_missing o n r e f = grind (arith, common_steps, e, f)

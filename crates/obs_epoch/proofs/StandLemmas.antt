@@ -30,8 +30,7 @@ other_sort_key system planned x y a b h k other same =
     let index : x.signal.index ≡ y.signal.index = of_place planned x.signal.index y.signal.index _ _ refl refl h k (ap (λ (s : SortKey). s.place) same) in
     by system a b id index other where
       by : (c : System) → x.satellite.system ≡ c → y.satellite.system ≡ c → x.satellite.id ≡ y.satellite.id → x.signal.index ≡ y.signal.index → has_same_key x y ≡ false → ⊥
-      by Gps p q i j o = grind (arith, p, q, i, j, o)
-      by Galileo p q i j o = grind (arith, p, q, i, j, o)
+      by c p q i j o = grind (arith, common_steps, p, q, i, j, o)
 
 others : (system : System) (planned : List ℕ) (x : HeardCell) (ms : List Cell) → x.satellite.system ≡ system → is_some (place_in x.signal planned) ≡ true
     → AllByRecursion (λ (m : Cell). (m.satellite.system ≡ system) × (is_some (place_in m.signal planned) ≡ true)) ms → is_held ms x ≡ false
@@ -62,8 +61,7 @@ planned_is s x key h = grind (arith, common_steps)
 -- ---- cells as they arrive
 
 cells_sorted : (system : System) (p : PlanValue) (e : EpochValue) → cells_of system (sorted_epoch p e) ≡ sorted_cells (planned_of system p) (cells_of system e)
-cells_sorted Gps p e = refl
-cells_sorted Galileo p e = refl
+cells_sorted system p e = grind (arith, common_steps)
 
 held_any : (system : System) (p : PlanValue) (e : EpochValue) (x : HeardCell) → is_held (cells_of system (sorted_epoch p e)) x ≡ is_held (cells_of system e) x
 held_any system p e x =
@@ -76,9 +74,7 @@ count_same system p e =
     ∙ length_permutation (cells_of system e) _ (sort_moves (cell_sort_key (planned_of system p)) (cells_of system e))
 
 outcome_same : (a b : Bool) → (if a then Repeated else (if b then Crowded else Kept)) ≡ outcome_of_added (if a then added.Repeated else (if b then added.Crowded else added.Kept))
-outcome_same true b = refl
-outcome_same false true = refl
-outcome_same false false = refl
+outcome_same a b = grind (arith, common_steps)
 
 -- The outcome of a planned cell.
 outcome_added : (g : Gathered) (p : PlanValue) (e : EpochValue) (x : HeardCell) → g.epoch ≡ sorted_epoch p e → is_planned g.clock.setup x ≡ true
@@ -97,8 +93,7 @@ sorted_push Gps p e m = ap (λ l. record { time = e.time; gps = l; galileo = sor
 sorted_push Galileo p e m = ap (λ l. record { time = e.time; gps = sorted_cells p.gps e.gps; galileo = l }) (fold-append (λ ys c. insert_by (cell_sort_key p.galileo) c ys) [] e.galileo (m ∷ []))
 
 with_same : (system : System) (e : EpochValue) → epoch_with system e (cells_of system e) ≡ e
-with_same Gps e = refl
-with_same Galileo e = refl
+with_same system e = grind (arith, common_steps)
 
 -- The value after a cell that arrives, by its outcome.
 abbrev epoch_after : Added → PlanValue → EpochValue → Cell → EpochValue
@@ -136,8 +131,7 @@ order_after added.Repeated p e m h o none = o
 order_after added.Crowded p e m h o none = o
 
 kept_new : (a : Bool) (n : ℕ) → outcome_by a n ≡ added.Kept → a ≡ false
-kept_new true n e = cc
-kept_new false n e = refl
+kept_new a n e = grind (arith, common_steps, e)
 
 -- The cells are still in order, once sorted.
 pub order_added : (p : PlanValue) (e new : EpochValue) (m : Cell) (k : Added) → is_some (place_in m.signal (planned_of m.satellite.system p)) ≡ true → AreInOrder p (sorted_epoch p e)

@@ -5,7 +5,7 @@ use Rattle.obs_epoch.specs.Names.{Gps, Galileo, GatherSetup, Heard, is_own, ends
 use Rattle.obs_epoch.proofs.TimesLemmas.{next, greater-absent, none-absent}
 use Rattle.obs_epoch.proofs.ClockLemmas.{standing, same_time, Follows, first, greater, equal, new_time}
 use Rattle.obs_epoch.proofs.ClosedLemmas.{Below, when, ends, closed_is, passes_all, one_fails, less_true, less_false, taken_follows, times-push_same}
-use Rattle.obs_epoch.proofs.ClosingLemmas.{taken_by}
+use Rattle.obs_epoch.proofs.ClosingLemmas.{taken_by, own_of}
 use Rattle.obs_epoch.proofs.EpochLemmas.{IsLater, AllLater, all_none, all_below, kept_at-push, times_before, epoch_at-push}
 use Rattle.obs_epoch.proofs.LockLemmas.{none_found, none_recorded}
 use Rattle.obs_epoch.proofs.LoadLemmas.{with_lli_by, epoch_of, load_is, counts_after}
@@ -34,13 +34,7 @@ cancel_when a b true u e = cancel a b u e
 cancel_when a b false u e = sym (append-nil a) ∙ e ∙ append-nil b
 
 not_same : (a b : Bool) → not a ≡ not b → a ≡ b
-not_same true true e = refl
-not_same false false e = refl
-not_same true false e = grind (arith, e)
-not_same false true e = grind (arith, e)
-
-pub own_of : (s : GatherSetup) (xs : List Timed) (m : Heard) (u : ℕ) → taken_at s xs m ≡ Some u → is_own s m ≡ true
-own_of s xs m u some = grind (arith, common_steps)
+not_same a b e = grind (arith, common_steps, e)
 
 -- The times before that of an accepted message are those of the closed epochs.
 pub before_taken : (s : GatherSetup) (xs : List Timed) (m : Heard) (u : ℕ) (shut : Bool) → taken_at s xs m ≡ Some u → closes_first s xs m ≡ shut

@@ -8,7 +8,6 @@ use Rattle.obs_epoch.proofs.TimesLemmas.{next, timed-push}
 use Rattle.obs_epoch.proofs.ClockLemmas.{standing, same_state, takes, closes, new_time}
 use Rattle.obs_epoch.proofs.ClosedLemmas.{taken_follows}
 use Rattle.obs_epoch.proofs.ClosingLemmas.{accepted, closing, refused}
-use Rattle.obs_epoch.proofs.EpochLemmas.{same_epochs}
 use Rattle.obs_epoch.proofs.CountsLemmas.{counts_are}
 use Rattle.obs_epoch.proofs.LoadLemmas.{hold_is}
 use Rattle.obs_epoch.proofs.NotingLemmas.{noted_locked}
@@ -163,8 +162,7 @@ pending_taken g s ms m shut h early none t e =
     let p : g.clock.pending ≡ true = was_pending (kind_by g.clock no_counts m) _ g.clock.pending _ _ t (ap is_close_first (kind no_counts) ∙ (refused s xs no_counts m none).0) (ap is_kept (kind no_counts) ∙ (refused s xs no_counts m none).1) e in
     left_true (is_pending s xs) (not shut) (sym h.clock.pending ∙ p) where
       left_true : (a b : Bool) → (a && b) ≡ true → a ≡ true
-      left_true true b e = refl
-      left_true false b e = grind (arith, e)
+      left_true a b e = grind (arith, common_steps, e)
 
 -- A message with a point has neither a time nor a multiple message bit.
 abbrev pub IsSet : Heard → Type 0
@@ -213,8 +211,7 @@ closes_it g s ms m h early none = by (greatest_time (timed s ms)) refl where
   unchanged : values_by_message g.clock.setup g.values m ≡ values_of s ms
   unchanged = by_own (is_own g.clock.setup m) ∙ h.values where
     by_own : (b : Bool) → (if b then option_map_or (λ p. record { x = p.x; y = p.y; z = p.z; height = option_map_or (λ h. h) p.height g.values.height }) m.point g.values else g.values) ≡ g.values
-    by_own true = grind (arith, none)
-    by_own false = refl
+    by_own b = grind (arith, common_steps)
 
   step : take_step g m ≡ closed_if (is_some (closed_by g.clock m)) (record { state = with_time g m; counts = no_counts })
   step = ap (λ k. closed_if (is_some (closed_by g.clock m)) (loaded_if (is_kept k) g.clock.latest (with_time g m) m)) (kind no_counts)
@@ -257,8 +254,7 @@ ended_none : (g : Gathered) (s : GatherSetup) (ms : List Heard) (shut : Bool) �
 ended_none g s ms shut h f = grind (arith, common_steps)
 
 and_not_true : (b : Bool) → false ≡ (b && not true)
-and_not_true true = refl
-and_not_true false = refl
+and_not_true b = grind (arith, common_steps)
 
 -- The pending epoch is closed.
 ended_some : (g : Gathered) (s : GatherSetup) (ms : List Heard) → HasTakenMessages g s ms false → g.clock.pending ≡ true → Ended g s ms false
@@ -290,10 +286,7 @@ ended g s ms false h = by g.clock.pending refl where
 
 -- A message with a time has no point.
 pub no_point : (s : GatherSetup) (xs : List Timed) (m : Message) → closes_first s xs (heard m) ≡ true → (heard m).point ≡ None
-no_point s xs (message.Station p) h = absurd (grind (arith, h))
-no_point s xs (message.Msm4 m) h = refl
-no_point s xs (message.Msm7 m) h = refl
-no_point s xs (message.Other number set) h = refl
+no_point s xs m h = grind (arith, common_steps, h)
 
 -- ---- what neither the kept epoch nor the lock records change
 
@@ -354,8 +347,7 @@ loaded_rested true before g m =
     ∙ ap (with_unlisted m.unlisted) (load_rested (record { state = epoch_begun before g; counts = no_counts }) m.cells) where
       begun : (b : Bool) → (if b then rested g else record (rested g) { epoch = record { time = option_map_or (λ t. t) g.clock.latest 0; gps = []; galileo = [] } })
           ≡ rested (if b then g else record g { epoch = record { time = option_map_or (λ t. t) g.clock.latest 0; gps = []; galileo = [] } })
-      begun true = refl
-      begun false = refl
+      begun b = grind (arith, common_steps)
 loaded_rested false before g m = refl
 
 -- The step of the gatherer, from what its message loads and whether the epoch is closed then.
