@@ -1,5 +1,5 @@
 -- Facts of numbers below a bound, computed one by one.
-use Rattle.std.proofs.Common.{ℕ, zero, suc, ◌≡◌, ◌<◌, ◌≤◌, ◌⊎◌, inl, inr, Bool, true, false, ◌==◌, ◌&&◌, ◌||◌, nat_lt, refl, sym, subst, arith, rules}
+use Rattle.std.proofs.Common.{ℕ, zero, suc, ◌≡◌, ◌<◌, ◌≤◌, ◌⊎◌, inl, inr, Bool, true, false, ◌==◌, ◌&&◌, ◌||◌, nat_lt, sym, subst, arith, rules}
 use Rattle.std.proofs.lemmas.Grind.{common_steps}
 
 -- a test passes at each number below n

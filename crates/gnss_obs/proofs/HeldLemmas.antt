@@ -1,9 +1,9 @@
 -- Kept cells of a system as they arrive.
-use Rattle.std.proofs.Common.{◌≡◌, ℕ, suc, ◌+◌, ◌*◌, ◌<◌, ◌==◌, ◌&&◌, ◌||◌, Bool, true, false, List, [], ◌∷◌, map, refl, sym, ap, ap₂, ◌∙◌, subst, arith, length, All, fold, if◌then◌else◌}
+use Rattle.std.proofs.Common.{◌≡◌, ℕ, ◌+◌, ◌*◌, ◌<◌, ◌==◌, ◌&&◌, ◌||◌, List, [], ◌∷◌, map, refl, sym, ap, ap₂, ◌∙◌, subst, arith, length, All}
 use Rattle.std.proofs.lemmas.List.Elements.{All-head, All-tail}
 use Rattle.std.proofs.lemmas.List.Sorted.{All-permutation, length_permutation}
 use Rattle.gnss_obs.proofs.OrderLemmas.{sort_moves}
-use Rattle.gnss_obs.specs.Names.{System, Gps, Galileo, Cell, Added, Satellite, SignalAt, IsSignal, AreHeld, EpochValue, IsHeld, cells_of, IsObserved, heard_cell, same_key, insert_by, cell_sort_key, is_held, AddsCell, IsAdded, slot, has_slot, sorted_cells, outcome_by, cells_after, epoch_with}
+use Rattle.gnss_obs.specs.Names.{System, Gps, Galileo, Cell, Added, Satellite, SignalAt, IsSignal, AreHeld, EpochValue, IsHeld, cells_of, IsObserved, heard_cell, same_key, cell_sort_key, is_held, AddsCell, IsAdded, slot, has_slot, sorted_cells, outcome_by, cells_after, epoch_with}
 use Rattle.std.proofs.lemmas.Grind.{common_steps}
 
 -- ---- sorted cells

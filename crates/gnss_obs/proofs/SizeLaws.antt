@@ -1,5 +1,5 @@
 -- The range of the values of a message.
-use Rattle.std.proofs.Common.{ℕ, ℤ, pos, ◌≡◌, ◌+◌, ◌*◌, ◌^◌, ◌<◌, ◌≤◌, ◌==◌, ◌*ℤ◌, ◌-ℤ◌, ◌≤ℤ◌, ◌<ℤ◌, Bool, true, false, List, [], ◌∷◌, unsigned_abs, arith, le_trans, lit<, lit≤, w64, to_z, of_z, if◌then◌else◌}
+use Rattle.std.proofs.Common.{ℕ, ℤ, pos, ◌≡◌, ◌+◌, ◌*◌, ◌^◌, ◌<◌, ◌≤◌, ◌==◌, ◌*ℤ◌, ◌-ℤ◌, ◌≤ℤ◌, ◌<ℤ◌, Bool, List, [], ◌∷◌, unsigned_abs, arith, le_trans, lit<, lit≤, w64, to_z, of_z, if◌then◌else◌}
 use Rattle.std.proofs.lemmas.Int.{ints}
 use Rattle.std.proofs.lemmas.Nat.{mul-le}
 use Rattle.gnss_obs.specs.Names.{System, Gps, Galileo, carrier_of, band_of, SignalAt, carriers, code_of, hertz_of, light, nearest_pseudorange, nearest_phase, nearest_doppler, nearest_strength, AllByRecursion}

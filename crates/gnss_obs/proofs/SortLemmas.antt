@@ -7,7 +7,7 @@ use Rattle.std.proofs.lemmas.List.Sums.{sum_by-cons}
 use Rattle.std.proofs.lemmas.List.Sorted.{sum_by-IsPermutation}
 use Rattle.std.proofs.lemmas.List.Elements.{All-cons, All-nil}
 use Rattle.std.proofs.lemmas.List.Quantifiers.{position-Some}
-use Rattle.gnss_obs.specs.Names.{Cell, System, Gps, Galileo, table, place_in, SortKey, is_before, SortKeysRise, insert_by, cell_sort_key, sorted_cells, sorted_epoch, cell_number, numbers, picked, EpochValue, PlanValue, AreInOrder, option_map_or, AllByRecursion}
+use Rattle.gnss_obs.specs.Names.{Cell, System, Gps, table, place_in, SortKey, is_before, SortKeysRise, insert_by, cell_sort_key, sorted_cells, sorted_epoch, cell_number, numbers, picked, EpochValue, PlanValue, AreInOrder, option_map_or, AllByRecursion}
 use Rattle.gnss_obs.proofs.OrderLemmas.{all-insert_by, sort_moves}
 use Rattle.std.proofs.lemmas.Grind.{common_steps}
 

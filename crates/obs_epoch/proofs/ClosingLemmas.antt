@@ -1,6 +1,6 @@
 -- The epoch that a step closes is the one that the longer list closes.
 use Rattle.std.proofs.Common.{◌≡◌, ℕ, ◌<◌, Bool, true, false, not, ◌&&◌, List, [], ◌∷◌, ◌++◌, refl, sym, ap, ap₂, ◌∙◌, arith, Option, Some, None, nat_lt, append-nil, if◌then◌else◌, option_to_list}
-use Rattle.obs_epoch.specs.Names.{Kind, CellCounts, GatherSetup, Heard, ends_epoch, is_own, Timed, greatest_time, is_closed, taken_at, is_late, is_past, time_of, State, is_pending, closes_first, no_counts, is_close_first, is_kept, kind_after, closed_times, closed_so_far, option_map_or}
+use Rattle.obs_epoch.specs.Names.{Kind, CellCounts, GatherSetup, Heard, ends_epoch, is_own, Timed, greatest_time, is_closed, taken_at, State, is_pending, closes_first, no_counts, is_close_first, is_kept, kind_after, closed_times, closed_so_far, option_map_or}
 use Rattle.obs_epoch.specs.Step.{closed_of, closed_by}
 use Rattle.obs_epoch.proofs.TimesLemmas.{next}
 use Rattle.obs_epoch.proofs.ClockLemmas.{standing, takes, same_time, Follows, first, greater, equal, new_time}

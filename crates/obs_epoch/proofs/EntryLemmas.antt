@@ -1,5 +1,5 @@
 -- The cells of a message, one by one: those that are listed, and the number of others.
-use Rattle.obs_epoch.specs.Names.{LockField, Cell, System, Entry, CellOutcome, Crowded, Kept, Repeated, Skipped, count_in, seen_in, unlisted_in, HeardCell, kept_cell, heard_cell, has_listed_key, with_skipped, place_in, planned_of, PlanValue, Loaded, load, load_one, load_entries, with_unlisted, outcome_in, hold, hold_by, planned_cell, CellCounts, option_map_or, cons_option}
+use Rattle.obs_epoch.specs.Names.{LockField, Cell, System, Entry, CellOutcome, Skipped, count_in, seen_in, unlisted_in, HeardCell, kept_cell, heard_cell, has_listed_key, with_skipped, place_in, planned_of, PlanValue, Loaded, load, load_one, load_entries, with_unlisted, outcome_in, hold, hold_by, planned_cell, CellCounts, option_map_or, cons_option}
 use Rattle.std.proofs.Common.{◌≡◌, ℕ, ◌+◌, Bool, true, false, ◌&&◌, List, [], ◌∷◌, refl, ap, sym, subst, ◌∙◌, arith, Option, Some, None, is_some, filter_map, cond, option_and_then, if◌then◌else◌}
 use Rattle.std.proofs.lemmas.Grind.{common_steps}
 

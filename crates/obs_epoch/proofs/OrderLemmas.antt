@@ -1,9 +1,9 @@
 -- Cells in order, and one more cell.
-use Rattle.std.proofs.Common.{◌≡◌, ℕ, suc, ◌+◌, Bool, true, false, ◌||◌, List, [], ◌∷◌, ◌++◌, map, refl, sym, ap, ◌∙◌, subst, arith, length, if◌then◌else◌, fold}
+use Rattle.std.proofs.Common.{◌≡◌, ℕ, ◌+◌, Bool, true, false, List, [], ◌∷◌, ◌++◌, map, refl, sym, subst, arith, length, if◌then◌else◌, fold}
 use Rattle.std.proofs.lemmas.Map.Keys.{IsDistinct-IsPermutation}
 use Rattle.std.proofs.lemmas.List.Sorted.{list_any-IsPermutation, length_permutation}
 use Rattle.gnss_obs.proofs.OrderLemmas.{Before, before_all, all-insert_by, sort_moves}
-use Rattle.obs_epoch.specs.Names.{is_among, has_same_key, SortKey, is_before, SortKeysRise, insert_by, sort_key_of, sorted, HeardCell, list_any, AllByRecursion, IsDistinct}
+use Rattle.obs_epoch.specs.Names.{is_among, has_same_key, SortKey, is_before, SortKeysRise, insert_by, sort_key_of, sorted, HeardCell, AllByRecursion, IsDistinct}
 use Rattle.obs_epoch.proofs.CellsLemmas.{same_key_laws}
 use Rattle.std.proofs.lemmas.Grind.{common_steps}
 

@@ -1,6 +1,6 @@
 -- The counts of the cells with a value, and of those of a message.
 use Rattle.obs_epoch.specs.Names.{LockField, System, Satellite, SignalAt, IsSignal, signal_of_id, LockTime, Entry, Heard, seen_in, observed, HeardCell, SignalCountsValue, brings_value, valued, is_of_signal, count_of, AreSignalCounts, entry_value, cons_option, list_any}
-use Rattle.std.proofs.Common.{◌≡◌, ℕ, zero, suc, nat_lt, nat_eq, not, replicate, ◌≤◌, Bool, List, [], ◌∷◌, ◌++◌, length, refl, sym, subst, arith, Option, Some, None, filter, is_some, filter_map, unwrap_or, option_map}
+use Rattle.std.proofs.Common.{◌≡◌, ℕ, zero, suc, nat_lt, nat_eq, not, replicate, ◌≤◌, Bool, List, [], ◌∷◌, ◌++◌, length, refl, sym, subst, arith, Option, Some, filter, is_some, filter_map, unwrap_or, option_map}
 use lib.Pointwise.{pointwise}
 use Rattle.std.proofs.lemmas.List.Sums.{length-filter, count_by-le-length}
 use Rattle.std.proofs.lemmas.Grind.{common_steps}

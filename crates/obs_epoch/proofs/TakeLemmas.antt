@@ -1,5 +1,5 @@
 -- The whole step: a property of the list before holds for the list after one more message.
-use Rattle.std.proofs.Common.{◌≡◌, ℕ, Bool, true, false, not, ◌||◌, ◌&&◌, List, [], ◌∷◌, ◌++◌, map, refl, sym, ap, ap₂, ◌∙◌, subst, arith, append-nil, Option, Some, None, is_some, ◌⊎◌, inl, inr, if◌then◌else◌, option_to_list}
+use Rattle.std.proofs.Common.{◌≡◌, ℕ, Bool, true, false, not, ◌||◌, ◌&&◌, List, [], ◌∷◌, ◌++◌, refl, sym, ap, ap₂, ◌∙◌, subst, arith, append-nil, Option, Some, None, is_some, ◌⊎◌, inl, inr, if◌then◌else◌, option_to_list}
 use Rattle.std.proofs.lemmas.List.Sums.{fold-append}
 use Rattle.obs_epoch.specs.Names.{Message, Kind, CloseFirst, CellCounts, GatherSetup, Heard, heard, is_own, ends_epoch, HeardCell, Timed, greatest_time, taken_at, timed, no_counts, with_skipped, offered, counts_of, counts_of_message, epoch_at, closed_so_far, closed_times, values_of, values_by_message, State, HasHeardMessages, is_pending, closes_first, is_close_first, is_kept, kind_after, with_unlisted, Gathered, Loaded, no_epoch, noted, load, loaded_if, outcome_in, load_one, with_time, closed_if, closed_noted, epoch_begun, just_closed_as, rested, take_step, end_step, is_same, count_in, KnownLock, held_at, Locked, HasTakenMessages, EpochValue, option_map_or}
 use Rattle.rtcm_msg.specs.declared.message.Message.TheVariants as message
