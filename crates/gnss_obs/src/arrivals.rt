@@ -62,12 +62,10 @@ impl Arrivals {
         ensures { IfOk result
             (λ e. e ≡ record { epoch = record { time = 0; gps = []; galileo = [] }; values = values }) }
     {
-        let gps = no_cells(alloc)?;
-        let galileo = no_cells(alloc)?;
         Ok(Arrivals {
             time: GpsTime::within(0),
-            gps,
-            galileo,
+            gps: no_cells(alloc)?,
+            galileo: no_cells(alloc)?,
             values,
         })
     }

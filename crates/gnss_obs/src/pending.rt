@@ -60,11 +60,9 @@ impl Pending {
           is_open = true;
         }) }
     {
-        let spare = no_cells(alloc)?;
-        let cells = Arrivals::new(alloc, values)?;
         Ok(Pending {
-            stage: Stage::Open(cells),
-            spare,
+            spare: no_cells(alloc)?,
+            stage: Stage::Open(Arrivals::new(alloc, values)?),
         })
     }
 
@@ -116,8 +114,7 @@ impl Pending {
     fn open(&mut self)
         ensures { self.new ≡ record { epoch = self.old.epoch; values = self.old.values; is_open = true } }
     {
-        let cells = into_arrivals(mem::replace(&mut self.stage, Stage::Moving));
-        self.stage = Stage::Open(cells);
+        self.stage = Stage::Open(into_arrivals(mem::replace(&mut self.stage, Stage::Moving)));
     }
 
     // Returns whether the epoch is pending.

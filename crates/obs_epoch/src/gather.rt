@@ -330,13 +330,9 @@ impl Gatherer {
         ensures rested { self.new.just_closed ≡ false }
         ensures one { cells_counted n.new ≡ cells_counted n.old + 1 }
     {
-        x.lli = lli(
-            &x,
-            self.pending.time().milliseconds(),
-            self.locks.latest(&x),
-        );
-        let added = self.pending.add(x);
-        count(added, n);
+        let time = self.pending.time().milliseconds();
+        x.lli = lli(&x, time, self.locks.latest(&x));
+        count(self.pending.add(x), n);
     }
 
     // Processes the cells of a message, and returns their outcomes.
