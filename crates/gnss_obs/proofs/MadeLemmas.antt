@@ -47,8 +47,8 @@ both_read first second added gps galileo ss ts is f s = subst (DoneOr (λ e. pla
 none_in : (ss : List SignalAt) → indices ss ≡ [] → ss ≡ []
 none_in [] h = refl
 none_in (s ∷ ss) h = absurd (no_item s.index (indices ss) h) where
-    no_item : (i : ℕ) (is : List ℕ) → i ∷ is ≡ [] → ⊥
-    no_item i is h = cc
+  no_item : (i : ℕ) (is : List ℕ) → i ∷ is ≡ [] → ⊥
+  no_item i is h = cc
 
 both_planned : (gps galileo : List ℕ) (ss ts : List ℕ) → signals_of Gps gps ≡ Ok ss → signals_of Galileo galileo ≡ Ok ts → (ss ≡ [] → ts ≡ [] → ⊥)
     → plan_of gps galileo ≡ Ok (record { gps = ss; galileo = ts })

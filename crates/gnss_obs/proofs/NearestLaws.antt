@@ -45,16 +45,16 @@ nearest_is (pos n) q some =
     let b = size_bounds n q some in
     record { near = apart (nearest_size n q * q) n q b.0 b.1; tie = λ e. tied (nearest_size n q * q) n q b.1 e }
 nearest_is (negsuc n) q some = let b = size_bounds (n + 1) q some in mirror (nearest (negsuc n) q) (nearest_size (n + 1) q) n q refl b.0 b.1 where
-    mirror_apart : (s n q : ℕ) → 2 * s ≤ 2 * (n + 1) + q → 2 * (n + 1) + q < 2 * s + 2 * q → 2 * unsigned_abs ((pos 0 -ℤ pos s) -ℤ negsuc n) ≤ q
-    mirror_apart s n q a b = omega (arith, ints)
+  mirror_apart : (s n q : ℕ) → 2 * s ≤ 2 * (n + 1) + q → 2 * (n + 1) + q < 2 * s + 2 * q → 2 * unsigned_abs ((pos 0 -ℤ pos s) -ℤ negsuc n) ≤ q
+  mirror_apart s n q a b = omega (arith, ints)
 
-    mirror_tied : (s n q : ℕ) → 2 * (n + 1) + q < 2 * s + 2 * q → 2 * unsigned_abs ((pos 0 -ℤ pos s) -ℤ negsuc n) ≡ q → suc n < unsigned_abs (pos 0 -ℤ pos s)
-    mirror_tied s n q b e = omega (arith, ints)
+  mirror_tied : (s n q : ℕ) → 2 * (n + 1) + q < 2 * s + 2 * q → 2 * unsigned_abs ((pos 0 -ℤ pos s) -ℤ negsuc n) ≡ q → suc n < unsigned_abs (pos 0 -ℤ pos s)
+  mirror_tied s n q b e = omega (arith, ints)
 
-    mirror : (v : ℤ) (t n q : ℕ) → v ≡ pos 0 -ℤ pos t → 2 * (t * q) ≤ 2 * (n + 1) + q → 2 * (n + 1) + q < 2 * (t * q) + 2 * q → IsNearest (negsuc n) q v
-    mirror v t n q e a b =
-        let product : v *ℤ pos q ≡ pos 0 -ℤ pos (t * q) = ap (λ x. x *ℤ pos q) e ∙ mirrored t q in
-        record { near = rw product (mirror_apart (t * q) n q a b); tie = rw product (mirror_tied (t * q) n q b) }
+  mirror : (v : ℤ) (t n q : ℕ) → v ≡ pos 0 -ℤ pos t → 2 * (t * q) ≤ 2 * (n + 1) + q → 2 * (n + 1) + q < 2 * (t * q) + 2 * q → IsNearest (negsuc n) q v
+  mirror v t n q e a b =
+      let product : v *ℤ pos q ≡ pos 0 -ℤ pos (t * q) = ap (λ x. x *ℤ pos q) e ∙ mirrored t q in
+      record { near = rw product (mirror_apart (t * q) n q a b); tie = rw product (mirror_tied (t * q) n q b) }
 
 -- the size of a quotient by an even number
 halved : (n h : ℕ) → nearest_size n (2 * h) ≡ (n + h) / (2 * h)
@@ -94,8 +94,8 @@ turned (negsuc t) q =
 -- a nearest number is not much larger than the fraction
 pub nearest_bound : (a : ℤ) (q : ℕ) (t : ℤ) → IsNearest a q t → unsigned_abs t * q ≤ unsigned_abs a + q
 nearest_bound a q t near = rw at_size at (step (t *ℤ pos q) near.near) where
-    at_size : unsigned_abs (t *ℤ pos q) ≡ unsigned_abs t * q
-    at_size = unsigned_abs-mul t (pos q)
+  at_size : unsigned_abs (t *ℤ pos q) ≡ unsigned_abs t * q
+  at_size = unsigned_abs-mul t (pos q)
 
-    step : (x : ℤ) → 2 * unsigned_abs (x -ℤ a) ≤ q → unsigned_abs x ≤ unsigned_abs a + q
-    step x h = omega (arith, ints)
+  step : (x : ℤ) → 2 * unsigned_abs (x -ℤ a) ≤ q → unsigned_abs x ≤ unsigned_abs a + q
+  step x h = omega (arith, ints)

@@ -11,9 +11,9 @@ rises_at system i = nat_lt (id_of (record { system = system; index = i })) (id_o
 
 pub ids_rise : (s : SignalAt) → IsSignal (after s) → id_of s < id_of (after s)
 ids_rise s listed = is_less _ _ (line s.system s.index listed) where
-    line : (system : System) (i : ℕ) → i + 1 < length (table system) → rises_at system i ≡ true
-    line Gps i listed = passes_at (rises_at Gps) 14 i refl (omega (arith, listed))
-    line Galileo i listed = passes_at (rises_at Galileo) 18 i refl (omega (arith, listed))
+  line : (system : System) (i : ℕ) → i + 1 < length (table system) → rises_at system i ≡ true
+  line Gps i listed = passes_at (rises_at Gps) 14 i refl (omega (arith, listed))
+  line Galileo i listed = passes_at (rises_at Galileo) 18 i refl (omega (arith, listed))
 
 -- a test passes at each row
 at_each : (test : System → ℕ → Bool) → passes_below (test Gps) 15 ≡ true → passes_below (test Galileo) 19 ≡ true → (system : System) (i : ℕ) → i < length (table system)

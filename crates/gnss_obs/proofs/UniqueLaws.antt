@@ -7,8 +7,8 @@ use Rattle.gnss_obs.specs.Rounding.{IsNearest}
 
 negative : (m q : ℕ) → negsuc m *ℤ pos q ≡ pos 0 -ℤ pos (suc m * q)
 negative m q = negsuc-*ℤ-pos m q ∙ turned (suc m * q) where
-    turned : (k : ℕ) → neg_ℤ (pos k) ≡ pos 0 -ℤ pos k
-    turned k = omega (arith, ints)
+  turned : (k : ℕ) → neg_ℤ (pos k) ≡ pos 0 -ℤ pos k
+  turned k = omega (arith, ints)
 
 more : (m n q : ℕ) → m < n → m * q + q ≤ n * q
 more m n q h = let p : suc m * q ≤ n * q = mul-le (suc m) q n q (omega (arith, h)) (omega arith) in omega (arith, p)
@@ -16,12 +16,12 @@ more m n q h = let p : suc m * q ≤ n * q = mul-le (suc m) q n q (omega (arith,
 -- multiples of q are q apart
 apart : (t u : ℤ) (q : ℕ) → t <ℤ u → ((t *ℤ pos q) +ℤ pos q) ≤ℤ (u *ℤ pos q)
 apart (pos m) (pos n) q h = let p = more m n q (omega (arith, ints, h)) in pp (m * q) (n * q) q p where
-    pp : (x y q : ℕ) → x + q ≤ y → (pos x +ℤ pos q) ≤ℤ pos y
-    pp x y q h = omega (arith, ints)
+  pp : (x y q : ℕ) → x + q ≤ y → (pos x +ℤ pos q) ≤ℤ pos y
+  pp x y q h = omega (arith, ints)
 apart (pos m) (negsuc n) q h = absurd (omega (arith, ints, h))
 apart (negsuc m) (pos n) q h = rw (negative m q) (np (suc m * q) (n * q) q (omega arith)) where
-    np : (x y q : ℕ) → q ≤ x → ((pos 0 -ℤ pos x) +ℤ pos q) ≤ℤ pos y
-    np x y q h = omega (arith, ints)
+  np : (x y q : ℕ) → q ≤ x → ((pos 0 -ℤ pos x) +ℤ pos q) ≤ℤ pos y
+  np x y q h = omega (arith, ints)
 apart (negsuc m) (negsuc n) q h = let p = more (suc n) (suc m) q (omega (arith, ints, h)) in rw (negative m q, negative n q) (nn (suc m * q) (suc n * q) q p)
   where
     nn : (x y q : ℕ) → y + q ≤ x → ((pos 0 -ℤ pos x) +ℤ pos q) ≤ℤ (pos 0 -ℤ pos y)
@@ -32,8 +32,8 @@ order t u = grind (arith, ints)
 
 zero_times : (q : ℕ) → pos 0 *ℤ pos q ≡ pos 0
 zero_times q = ap pos (none q) where
-    none : (q : ℕ) → 0 * q ≡ 0
-    none q = omega arith
+  none : (q : ℕ) → 0 * q ≡ 0
+  none q = omega arith
 
 -- x and y are adjacent and a is halfway: only one of them is further from zero than a
 clash : (x y a : ℤ) (q : ℕ) → 0 < q → (x +ℤ pos q) ≤ℤ y → 2 * unsigned_abs (x -ℤ a) ≤ q → 2 * unsigned_abs (y -ℤ a) ≤ q
@@ -50,9 +50,9 @@ one_side t u a q some less p r = clash (t *ℤ pos q) (u *ℤ pos q) a q some (a
   | inl e ↦ inl (rw (e, zero_times q) (omega (arith, ints)))
   | inr s ↦ elim s [ inl left ↦ inr (rw (zero_times q) at (apart t (pos 0) q left)) | inr right ↦ inl (positive t right) ]
 ]) where
-    positive : (t : ℤ) → pos 0 <ℤ t → pos 0 ≤ℤ (t *ℤ pos q)
-    positive (pos n) h = omega (arith, ints)
-    positive (negsuc n) h = absurd (omega (arith, ints, h))
+  positive : (t : ℤ) → pos 0 <ℤ t → pos 0 ≤ℤ (t *ℤ pos q)
+  positive (pos n) h = omega (arith, ints)
+  positive (negsuc n) h = absurd (omega (arith, ints, h))
 
 pub one_nearest : (a : ℤ) (q : ℕ) (t u : ℤ) → 0 < q → IsNearest a q t → IsNearest a q u → t ≡ u
 one_nearest a q t u some p r = elim (order t u) [

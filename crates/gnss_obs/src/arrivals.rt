@@ -125,6 +125,7 @@ impl Arrivals {
             System::Galileo => add(&mut self.galileo, x),
         }
     }
+
     /// Sorts the cells of each system by satellite and then by the order of a plan.
     pub fn sort(&mut self, plan: &Plan, spare: &mut Box<Cells>)
         ensures { self.new ≡ record { epoch = sorted_epoch plan.now self.old.epoch; values = self.old.values } }

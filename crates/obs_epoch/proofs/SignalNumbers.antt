@@ -46,11 +46,11 @@ get_is (x ∷ xs) (suc i) id below is = get_is xs i id (omega (arith, below)) is
 -- The ID of the signal with an ID.
 id_forth : (system : System) (id : ℕ) (g : SignalAt) → signal_of_id system id ≡ Some g → id_of g ≡ id
 id_forth system id g h = by (position (λ (e : ListedSignal). e.0 == id) (table system)) refl h where
-    by : (o : Option ℕ) → o ≡ position (λ (e : ListedSignal). e.0 == id) (table system) → option_map (signal_in system) o ≡ Some g → id_of g ≡ id
-    by None e h = absurd (none_some g None refl h)
-    by (Some i) e h =
-        let p = position-Some (λ (e : ListedSignal). e.0 == id) (table system) i (0, (0 ∷ 0 ∷ []), 0) (sym e) in
-        subst (λ (x : SignalAt). id_of x ≡ id) (some_same (signal_in system i) g (Some (signal_in system i)) refl h) (get_is (table system) i id p.0 p.1)
+  by : (o : Option ℕ) → o ≡ position (λ (e : ListedSignal). e.0 == id) (table system) → option_map (signal_in system) o ≡ Some g → id_of g ≡ id
+  by None e h = absurd (none_some g None refl h)
+  by (Some i) e h =
+      let p = position-Some (λ (e : ListedSignal). e.0 == id) (table system) i (0, (0 ∷ 0 ∷ []), 0) (sym e) in
+      subst (λ (x : SignalAt). id_of x ≡ id) (some_same (signal_in system i) g (Some (signal_in system i)) refl h) (get_is (table system) i id p.0 p.1)
 
 -- The signal with an ID is g, or not.
 no_signal : (system : System) (id : ℕ) (g : SignalAt) → IsSignal g → signal_of_id system id ≡ None → (is_system system g.system && (id == id_of g)) ≡ false
@@ -61,24 +61,24 @@ no_signal system id g listed none = not_both (is_system system g.system) (id == 
 
 the_signal : (system : System) (id : ℕ) (g s : SignalAt) → IsSignal g → signal_of_id system id ≡ Some s → (is_system system g.system && (id == id_of g)) ≡ (is_system g.system s.system && (s.index == g.index))
 the_signal system id g s listed some = one_way _ _ there back where
-    there : (is_system system g.system && (id == id_of g)) ≡ true → (is_system g.system s.system && (s.index == g.index)) ≡ true
-    there h =
-        let both = both_of (is_system system g.system) (id == id_of g) h in
-        let is : signal_of_id system id ≡ Some g = rw (system_same system g.system both.0, is_equal id (id_of g) both.1) (id_back g listed) in
-        let e : s ≡ g = some_same s g (signal_of_id system id) some is in
-        rw (system_self g.system s.system (ap (λ (x : SignalAt). x.system) (sym e)), equal_self s.index g.index (ap (λ (x : SignalAt). x.index) e)) refl
+  there : (is_system system g.system && (id == id_of g)) ≡ true → (is_system g.system s.system && (s.index == g.index)) ≡ true
+  there h =
+      let both = both_of (is_system system g.system) (id == id_of g) h in
+      let is : signal_of_id system id ≡ Some g = rw (system_same system g.system both.0, is_equal id (id_of g) both.1) (id_back g listed) in
+      let e : s ≡ g = some_same s g (signal_of_id system id) some is in
+      rw (system_self g.system s.system (ap (λ (x : SignalAt). x.system) (sym e)), equal_self s.index g.index (ap (λ (x : SignalAt). x.index) e)) refl
 
-    back : (is_system g.system s.system && (s.index == g.index)) ≡ true → (is_system system g.system && (id == id_of g)) ≡ true
-    back h =
-        let both = both_of (is_system g.system s.system) (s.index == g.index) h in
-        let of : s.system ≡ system = (listed_of system id s some).0 in
-        let e : g.system ≡ s.system = system_same g.system s.system both.0 in
-        let i : s.index ≡ g.index = is_equal s.index g.index both.1 in
-        let same : id_of s ≡ id_of g = alike s g (sym e) i in
-        rw (system_self system g.system (sym of ∙ sym e), equal_self id (id_of g) (sym (id_forth system id s some) ∙ same)) refl
-      where
-        alike : (a b : SignalAt) → a.system ≡ b.system → a.index ≡ b.index → id_of a ≡ id_of b
-        alike a b e f = rw (e, f) refl
+  back : (is_system g.system s.system && (s.index == g.index)) ≡ true → (is_system system g.system && (id == id_of g)) ≡ true
+  back h =
+      let both = both_of (is_system g.system s.system) (s.index == g.index) h in
+      let of : s.system ≡ system = (listed_of system id s some).0 in
+      let e : g.system ≡ s.system = system_same g.system s.system both.0 in
+      let i : s.index ≡ g.index = is_equal s.index g.index both.1 in
+      let same : id_of s ≡ id_of g = alike s g (sym e) i in
+      rw (system_self system g.system (sym of ∙ sym e), equal_self id (id_of g) (sym (id_forth system id s some) ∙ same)) refl
+    where
+      alike : (a b : SignalAt) → a.system ≡ b.system → a.index ≡ b.index → id_of a ≡ id_of b
+      alike a b e f = rw (e, f) refl
 
 -- ---- satellites
 
@@ -143,8 +143,8 @@ count_append g xs ys = grind (arith, common_steps)
 pub all_entries : (field : LockField) (system : System) (es : List Entry) (g : SignalAt) → IsSignal g
     → count_of g (filter brings_value (filter_map (seen_in field system) es)) ≡ (if is_system system g.system then value_count (satellite_set system) (id_of g) es else 0)
 all_entries field system [] g listed = none (is_system system g.system) where
-    none : (b : Bool) → zero ≡ (if b then zero else zero)
-    none b = grind (arith, common_steps)
+  none : (b : Bool) → zero ≡ (if b then zero else zero)
+  none b = grind (arith, common_steps)
 all_entries field system (e ∷ es) g listed =
     ap (count_of g) (sym (one_first (seen_in field system e) (filter_map (seen_in field system) es)))
     ∙ (count_append g (filter brings_value (cons_option (seen_in field system e) [])) (filter brings_value (filter_map (seen_in field system) es))
@@ -176,11 +176,11 @@ up_by_at n g i xs within few = grind (arith, common_steps)
 more_at : (g : SignalAt) (n : ℕ) (c : SignalCountsValue) (s : System) (i : ℕ) → i < length (signal_counts s c) → counted c s i + n ≤ 2 ^ 64 - 1
     → counted (counted_more g n c) s i ≡ counted c s i + (if is_system s g.system && (g.index == i) then n else 0)
 more_at g n c s i within few = by g.system s within few where
-    by : (t s : System) → i < length (signal_counts s c) → counted c s i + n ≤ 2 ^ 64 - 1 → counted (counted_more_in t g.index n c) s i ≡ counted c s i + (if is_system s t && (g.index == i) then n else 0)
-    by Gps Gps within few = up_by_at n g.index i c.gps within few
-    by Gps Galileo within few = omega arith
-    by Galileo Gps within few = omega arith
-    by Galileo Galileo within few = up_by_at n g.index i c.galileo within few
+  by : (t s : System) → i < length (signal_counts s c) → counted c s i + n ≤ 2 ^ 64 - 1 → counted (counted_more_in t g.index n c) s i ≡ counted c s i + (if is_system s t && (g.index == i) then n else 0)
+  by Gps Gps within few = up_by_at n g.index i c.gps within few
+  by Gps Galileo within few = omega arith
+  by Galileo Gps within few = omega arith
+  by Galileo Galileo within few = up_by_at n g.index i c.galileo within few
 
 more_gps : (t : System) (j n : ℕ) (c : SignalCountsValue) → length (counted_more_in t j n c).gps ≡ length c.gps
 more_gps Gps j n c = length-set c.gps j _
@@ -255,20 +255,20 @@ finished c c' system left counts es a none numbers = λ field cells few h. recor
       let total : count_of r more ≡ number system [] counts r = all_entries field system es r listed ∙ sym (last r listed (is_system system s)) in
       ended _ _ _ _ _ _ before start (count_append r cells more) total;
 } where
-    below : (a b l n : ℕ) → a ≡ b → b ≤ l → l + n < 2 ^ 63 → a < 2 ^ 63
-    below a b l n x y z = omega (arith, x, y, z)
+  below : (a b l n : ℕ) → a ≡ b → b ≤ l → l + n < 2 ^ 63 → a < 2 ^ 63
+  below a b l n x y z = omega (arith, x, y, z)
 
-    ended : (a b c d e f : ℕ) → a ≡ b + c → b ≡ d → e ≡ d + f → f ≡ c → a ≡ e
-    ended a b c d e f x y z w = omega (arith, x, y, z, w)
+  ended : (a b c d e f : ℕ) → a ≡ b + c → b ≡ d → e ≡ d + f → f ≡ c → a ≡ e
+  ended a b c d e f x y z w = omega (arith, x, y, z, w)
 
-    listed_lengths : (c : SignalCountsValue) (s : System) → length c.gps ≡ length (table Gps) → length c.galileo ≡ length (table Galileo) → length (signal_counts s c) ≡ length (table s)
-    listed_lengths c s e f = grind (arith, common_steps, e, f)
+  listed_lengths : (c : SignalCountsValue) (s : System) → length c.gps ≡ length (table Gps) → length c.galileo ≡ length (table Galileo) → length (signal_counts s c) ≡ length (table s)
+  listed_lengths c s e f = grind (arith, common_steps, e, f)
 
-    last : (r : SignalAt) → IsSignal r → (b : Bool) → (if b && true then get_or counts (id_of r - 1) 0 else 0) ≡ (if b then value_count (satellite_set system) (id_of r) es else 0)
-    last r listed true =
-        let within = ids_within r listed in
-        numbers (id_of r - 1) (omega (arith, within.0, within.1)) ∙ ap (λ (k : ℕ). value_count (satellite_set system) k es) (omega (arith, within.0))
-    last r listed false = refl
+  last : (r : SignalAt) → IsSignal r → (b : Bool) → (if b && true then get_or counts (id_of r - 1) 0 else 0) ≡ (if b then value_count (satellite_set system) (id_of r) es else 0)
+  last r listed true =
+      let within = ids_within r listed in
+      numbers (id_of r - 1) (omega (arith, within.0, within.1)) ∙ ap (λ (k : ℕ). value_count (satellite_set system) k es) (omega (arith, within.0))
+  last r listed false = refl
 
 -- ---- the signal of a number
 
