@@ -22,11 +22,11 @@ use Rattle.clap.specs.declared.builder.arg.Arg.{Arg}
 use Rattle.clap.specs.declared.builder.command.Command.{Command}
 use Rattle.clap.specs.declared.builder.command.Command.TheViews.{out-Command}
 
-second : (a b : Bool) → (a && b) ≡ true → b ≡ true
+pub second : (a b : Bool) → (a && b) ≡ true → b ≡ true
 second true b e = e
 second false b e = cc
 
-first_half : (a b : Bool) → (a && b) ≡ true → a ≡ true
+pub first_half : (a b : Bool) → (a && b) ≡ true → a ≡ true
 first_half true b e = refl
 first_half false b e = cc
 

@@ -17,6 +17,7 @@ use Rattle.rtcm_bits.specs.Bits.{FitsInt}
 use Rattle.rtcm_msg.specs.Station.{InRange}
 use Rattle.rtcm_msg.specs.declared.station.StationParts.{StationParts}
 use Rattle.rtcm2rinex.specs.Fitting.{position_text}
+use Rattle.rtcm2rinex.proofs.CommandLineLemmas.{first_half, second}
 use Rattle.rtcm2rinex.specs.Lengths.{coordinate_by, coordinate_of, cut, decimals_of, length_below, length_by, length_of, number_of, position_of, values_in}
 use Rattle.rtcm2rinex.specs.Metres.{digit, four_digits, metres, size_text}
 use Rattle.rtcm2rinex.specs.SetupOptions.{text_set, values_by_message}
@@ -31,14 +32,6 @@ is_lt n m h = grind (arith, nat_tests)
 both : (a b : Bool) → a ≡ true → b ≡ true → (a && b) ≡ true
 both true b p q = q
 both false b p q = cc
-
-first_of : (a b : Bool) → (a && b) ≡ true → a ≡ true
-first_of true b e = refl
-first_of false b e = cc
-
-second_of : (a b : Bool) → (a && b) ≡ true → b ≡ true
-second_of true b e = e
-second_of false b e = cc
 
 -- ---- digits
 
@@ -79,7 +72,7 @@ not_byte c x low h = grind (arith, nat_tests)
 no_byte : (c : ℕ) (ds : List ℕ) → c < 48 → list_all is_digit ds ≡ true → list_all (λ x. not (x == c)) ds ≡ true
 no_byte c [] low h = refl
 no_byte c (x ∷ xs) low h =
-    both (not (x == c)) (list_all (λ y. not (y == c)) xs) (not_byte c x low (first_of (is_digit x) (list_all is_digit xs) h)) (no_byte c xs low (second_of (is_digit x) (list_all is_digit xs) h))
+    both (not (x == c)) (list_all (λ y. not (y == c)) xs) (not_byte c x low (first_half (is_digit x) (list_all is_digit xs) h)) (no_byte c xs low (second (is_digit x) (list_all is_digit xs) h))
 
 four_are_digits : (n : ℕ) → list_all is_digit (four_digits n) ≡ true
 four_are_digits n =
@@ -116,8 +109,8 @@ module _ (c : ℕ) (same : (c == c) ≡ true) where
   placed : (a b : List ℕ) → list_all (λ x. not (x == c)) a ≡ true → position_or_len (λ x. x == c) (a ++ c ∷ b) ≡ length a
   placed [] b h = ap (λ (t : Bool). if not t then 1 + position_or_len (λ x. x == c) b else 0) same
   placed (x ∷ xs) b h =
-      let rest = placed xs b (second_of (not (x == c)) (list_all (λ y. not (y == c)) xs) h) in
-      ap (λ (t : Bool). if t then 1 + position_or_len (λ y. y == c) (xs ++ c ∷ b) else 0) (first_of (not (x == c)) (list_all (λ y. not (y == c)) xs) h)
+      let rest = placed xs b (second (not (x == c)) (list_all (λ y. not (y == c)) xs) h) in
+      ap (λ (t : Bool). if t then 1 + position_or_len (λ y. y == c) (xs ++ c ∷ b) else 0) (first_half (not (x == c)) (list_all (λ y. not (y == c)) xs) h)
       ∙ ap (λ (n : ℕ). 1 + n) rest ∙ omega arith
 
   cut_at : (t : List ℕ) (n : ℕ) → position_or_len (λ x. x == c) t ≡ n → n < length t → cut c t ≡ Some (take n t, drop (n + 1) t)
@@ -144,7 +137,7 @@ module _ (c : ℕ) (same : (c == c) ≡ true) where
 no_minus : (ds rest : List ℕ) → 0 < length ds → list_all is_digit ds ≡ true → strip_byte 45 (ds ++ rest) ≡ None
 no_minus [] rest some h = absurd (omega (arith, some))
 no_minus (x ∷ xs) rest some h =
-    let other : not (x == 45) ≡ true = not_byte 45 x (omega arith) (first_of (is_digit x) (list_all is_digit xs) h) in
+    let other : not (x == 45) ≡ true = not_byte 45 x (omega arith) (first_half (is_digit x) (list_all is_digit xs) h) in
     isnt (x == 45) (xs ++ rest) other where
       isnt : (b : Bool) (l : List ℕ) → not b ≡ true → (if b then Some l else None) ≡ None
       isnt true l e = cc
