@@ -34,10 +34,15 @@ position_text s = join_with_byte 0x2C (metres s.x ∷ metres s.y ∷ metres s.z 
 abbrev pub position_word : StationParts → List ℕ
 position_word s = codes "--position=" ++ position_text s
 
+-- the value of `--antenna-height`, or its default without a height
+abbrev pub height_text : Option ℕ → List ℕ
+height_text None = codes "0"
+height_text (Some h) = metres (pos h)
+
 -- the antenna height (DF028), which message 1006 has
 abbrev pub antenna_words : Option ℕ → List (List ℕ)
 antenna_words None = []
-antenna_words (Some h) = codes "--antenna-height" ∷ metres (pos h) ∷ []
+antenna_words (Some h) = codes "--antenna-height" ∷ height_text (Some h) ∷ []
 
 abbrev pub station_words : Option StationParts → List (List ℕ)
 station_words None = []

@@ -1,18 +1,12 @@
 -- The station values that `options` prints are read back.
-use Rattle.std.specs.Prelude.{◌≡◌, ℕ, pos, List, Option, Some, None, Ok, codes}
+use Rattle.std.specs.Prelude.{◌≡◌, List, None, Ok, codes}
 use Rattle.clap.specs.Walk.{Row}
 use Rattle.rtcm_msg.specs.Station.{InRange}
 use Rattle.rtcm_msg.specs.declared.station.StationParts.{StationParts}
 use Rattle.gnss_obs.specs.Values.{no_values}
 use Rattle.obs_epoch.specs.Epochs.{values_by}
-use Rattle.rtcm2rinex.specs.Fitting.{position_text}
-use Rattle.rtcm2rinex.specs.Metres.{metres}
+use Rattle.rtcm2rinex.specs.Fitting.{height_text, position_text}
 use Rattle.rtcm2rinex.specs.SetupOptions.{text_set, values_by_message}
-
--- the value of `--antenna-height`, or its default without a height
-abbrev pub height_text : Option ℕ → List ℕ
-height_text None = codes "0"
-height_text (Some h) = metres (pos h)
 
 -- With the position and the height of a station message in range, the station values are those that the message brings.
 abbrev pub AreReadAsStation : Type 0
