@@ -110,14 +110,14 @@ HasCompleted left r r' held waits w w' told e e' words =
     ⊎ (FailsParsing words DisplayVersion × (r' ≡ r) × PrintsText held waits w w' VERSION.now × (e' ≡ e))
 
 -- The command that the words ask for was stopped by a fault, or the writer failed in the output of the version, and the
--- line of that fault was printed; or memory ran out while the words were parsed. Then the line of `Memory` was printed,
--- and nothing else was read or written.
+-- line of that fault was printed; or memory ran out before anything was read or written, and the line of `Memory` was
+-- printed.
 abbrev pub HasStoppedEarly : {R W E : Type 0} → (R → Option (List ℕ)) → (r r' : Device R) → (W → Option (List ℕ))
     → (W → List ℕ) → (w w' : Device W) → (E → Option (List ℕ)) → (e e' : Device E) → List Text → Type 0
 HasStoppedEarly left r r' held waits w w' told e e' words =
     ((name : Text) × (options : List Row) × (fault : ToolFault) × SelectsCommand words name options
-    × (fault_status fault ≡ 1) × HaveFailedBy fault r r' w w' × HasStopped left r r' held waits w w' name options fault
-    × PrintsLine told e e' (error_line fault))
+    × (fault_status fault ≡ 1) × HaveFailedBy fault r r' w w'
+    × HasStopped left r r' held waits w w' name options fault × PrintsLine told e e' (error_line fault))
     ⊎ (FailsParsing words DisplayVersion × (r' ≡ r) × PrintsPart held w w' VERSION.now
     × PrintsLine told e e' (error_line faults.Write))
     ⊎ (IsUntouched r r' w w' × PrintsLine told e e' (error_line faults.Memory))

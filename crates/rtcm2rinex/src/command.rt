@@ -46,12 +46,12 @@ pub fn command<R: Read, W: Deliver, E: Deliver>(
 
     // By clap's definitions under the program's options, the words ask for a command, which
     // completed with these options; or they ask for the version, which was written. Only the report
-    // of `convert` was written to `faults`.
+    // of `convert` was written to `faults`, where it may wait.
     ensures good { result ≡ 0 → HasCompleted R.remaining reader.old reader.new W.contents W.waiting writer.old
         writer.new E.contents faults.old faults.new (texts words.now) }
 
     // They ask for a command that was stopped by a fault, whose line was written to `faults`; or
-    // memory ran out before anything else was read or written.
+    // memory ran out before anything was read or written. The line may wait in `faults`.
     ensures stopped { result ≡ 1 → HasStoppedEarly R.remaining reader.old reader.new W.contents W.waiting writer.old
         writer.new E.contents faults.old faults.new (texts words.now) }
 

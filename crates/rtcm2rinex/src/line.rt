@@ -141,7 +141,7 @@ impl OutputLine {
     }
 }
 
-/// Writes a text, and flushes the writer.
+/// Writes a text, and delivers it.
 ///
 /// # Errors
 ///

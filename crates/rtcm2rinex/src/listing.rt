@@ -98,8 +98,8 @@ pub fn run_show<R: Read, W: Deliver>(
     list(alloc, Listing::Messages, MOST_BYTES, reader, writer)
 }
 
-/// Writes the lines of a stream of at most `limit` bytes, and flushes the writer after each piece
-/// that is read.
+/// Writes the lines of a stream of at most `limit` bytes, and delivers them after each piece that
+/// is read.
 ///
 /// # Errors
 ///
