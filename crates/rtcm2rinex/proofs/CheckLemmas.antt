@@ -1,5 +1,5 @@
 -- The end of a check of a file.
-use Rattle.std.proofs.Common.{◌≡◌, ◌∙◌, ◌∷◌, ◌++◌, [], ap, codes, decimal, length, refl, sym, subst, ℕ, List, Option, Some, None, Result, Ok, Err, IfSome}
+use Rattle.std.proofs.Common.{◌≡◌, ◌∙◌, ◌∷◌, ◌++◌, [], ap, inr, codes, decimal, length, refl, sym, subst, ℕ, List, Option, Some, None, Result, Ok, Err, IfSome}
 use Rattle.rtcm_bits.specs.Device.{Device, HasFailed}
 use Rattle.rinex_file.specs.Exact.{IsNoFault}
 use Rattle.rinex_file.specs.Value.{FileValue}
@@ -10,6 +10,9 @@ use Rattle.rinex_file.specs.declared.read.file.Counts.{Counts}
 use Rattle.rinex_file.specs.declared.read.fault.ReadFault.{ReadFault}
 use Rattle.rinex_file.specs.declared.read.fault.ReadFault.TheVariants.{Memory, Read, BadHeader, BadEpoch, BadEvent, BadSatellite, CutShort, TooLong}
 use Rattle.std.specs.Prelude.{⊤}
+use Rattle.std.specs.Result.{IsErrAnd}
+use Rattle.std.specs.Io.KnownBytes.{Keeps}
+use Rattle.rtcm2rinex.proofs.PrintingLemmas.{kept_none, passed}
 use Rattle.rtcm2rinex.specs.declared.fault.ToolFault.{ToolFault}
 use Rattle.rtcm2rinex.specs.declared.fault.ToolFault.TheVariants as faults
 use Rattle.rtcm2rinex.specs.Devices.{Ends, ReadFailures}
@@ -66,14 +69,22 @@ line_built counts v none start epochs satellites events text are =
 -- the counts of a file were printed, or a part of them
 pub checked : {R W : Type 0} (left : R → Option (List ℕ)) (held : W → Option (List ℕ)) (waits : W → List ℕ) (r r2 : Device R) (w w2 : Device W) (ended : Result ⊤ ToolFault) (v : FileValue)
     → IsFileValue v → IfSome (left r.inner) (λ input. input ≡ file_text v) → r2.failures ≡ r.failures → EndsPrinting ended held waits w w2 (check_line v)
-    → Ends ended r r2 waits w w2 (λ _. ChecksFile (left r.inner) (held w.inner) (held w2.inner)) (StopsChecking left r r2 held w w2)
+    → Ends ended r r2 waits w w2 (λ _. ChecksFile (left r.inner) (held w.inner) (held w2.inner)) (StopsChecking left r r2 held waits w w2)
 checked left held waits r r2 w w2 (Ok u) v is text same p = ((same, p.0, p.1), (v, is, text, p.2))
 checked left held waits r r2 w w2 (Err fault) v is text same p =
-    subst (λ (f : ToolFault). Ends (Err f) r r2 waits w w2 (λ (u : ⊤). ChecksFile (left r.inner) (held w.inner) (held w2.inner)) (StopsChecking left r r2 held w w2)) (sym p.0)
-    ((same, p.1.0), (v, is, text, p.1.1))
+    subst (λ (f : ToolFault). Ends (Err f) r r2 waits w w2 (λ (u : ⊤). ChecksFile (left r.inner) (held w.inner) (held w2.inner)) (StopsChecking left r r2 held waits w w2)) (sym p.0)
+    ((same, p.1.0), inr (v, is, text, p.1.1))
 
 -- the same for each file value that was read
 pub checked_or : {W : Type 0} (held : W → Option (List ℕ)) (waits : W → List ℕ) (w w2 : Device W) (ended : Result ⊤ ToolFault) (v : FileValue) → EndsPrinting ended held waits w w2 (check_line v)
     → IsCheckedOr v ended (held w.inner) (held w2.inner)
 checked_or held waits w w2 (Ok u) v p = p.2
 checked_or held waits w w2 (Err fault) v p = subst (λ (f : ToolFault). IsCheckedOr v (Err f) (held w.inner) (held w2.inner)) (sym p.0) p.1.1
+
+-- the same if the writer failed before anything was read
+pub kept_first : (r w w2 : Option (List ℕ)) (ended : Result ⊤ ToolFault) (fault : ToolFault) (v : FileValue) → IsErrAnd ended (λ y. y ≡ fault) → fault ≡ faults.Write → Keeps w w2
+    → IfSome r (λ input. input ≡ file_text v → IsCheckedOr v ended w w2)
+kept_first None w w2 ended fault v is write kept = tt
+kept_first (Some input) w w2 ended fault v is write kept = λ same.
+    passed ended fault (λ (q : Result ⊤ ToolFault). IsCheckedOr v q w w2) is
+    (subst (λ (f : ToolFault). IsCheckedOr v (Err f) w w2) (sym write) (kept_none w w2 (check_line v) kept))

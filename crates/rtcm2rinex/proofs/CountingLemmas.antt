@@ -1,5 +1,5 @@
 -- Signal counts as a consumer of frames.
-use Rattle.std.proofs.Common.{◌≡◌, ◌∙◌, ap, ◌+◌, ◌*◌, ◌<◌, ◌≤◌, ◌^◌, sym, subst, arith, Bool, true, ℕ, List, [], ◌∷◌, ◌++◌, Option, Some, None, IfSome, Result, Ok, Err, length, length-append, append-nil, refl}
+use Rattle.std.proofs.Common.{◌≡◌, ◌∙◌, ap, inr, ◌+◌, ◌*◌, ◌<◌, ◌≤◌, ◌^◌, sym, subst, arith, Bool, true, ℕ, List, [], ◌∷◌, ◌++◌, Option, Some, None, IfSome, Result, Ok, Err, length, length-append, append-nil, refl}
 use Rattle.rtcm_scan.specs.Frames.{Framed, frames_of}
 use Rattle.rtcm_scan.specs.Known.{known_frames}
 use Rattle.rtcm_bits.specs.Device.{Device, HasFailed}
@@ -11,7 +11,7 @@ use Rattle.rtcm_scan.specs.declared.framer.ScanFault.TheVariants as scan
 use Rattle.rtcm2rinex.specs.declared.fault.ToolFault.{ToolFault}
 use Rattle.rtcm2rinex.specs.declared.fault.ToolFault.TheVariants as faults
 use Rattle.rtcm2rinex.specs.Printing.{EndsPrinting}
-use Rattle.rtcm2rinex.specs.Devices.{HaveFailedBy, ReadFailures, stream_fault}
+use Rattle.rtcm2rinex.specs.Devices.{HaveFailedBy, IsDelivered, ReadFailures, stream_fault}
 use Rattle.rtcm_scan.specs.Passing.{AtFault, Passes, BreaksReading, HasPassedAll, PassesAll, PassesToLimit, Reads}
 use Rattle.rtcm_scan.specs.Scan.{FramerValue}
 use Rattle.obs_epoch.specs.SignalCounts.{AreSignalCounts, CountsMessage, SignalCountsValue, valued}
@@ -169,22 +169,22 @@ counted_reads stream.TooLong before after h = h
 counted_reads (stream.Sink fault) before after h = h
 
 -- a fault of the counting is one of the command, and nothing was written
-pub signals_stopped : {R W : Type 0} (left : R → Option (List ℕ)) (held : W → Option (List ℕ)) (text : SignalText) (wanted : Option ℕ) (r r2 : Device R) (w : Device W) (fault : ToolFault)
-    → ReadFailures fault r.failures r2.failures → StopsCounting wanted left r r2 fault → HaveFailedBy fault r r2 w w × StopsSignals text wanted left r r2 held w w fault
-signals_stopped left held text wanted r r2 w faults.Read reads stops = ((reads, refl), refl)
-signals_stopped left held text wanted r r2 w (faults.Scan scan.TooLong) reads stops = ((reads, refl), (stops, refl))
-signals_stopped left held text wanted r r2 w (faults.Scan scan.Memory) reads stops = ((reads, refl), (stops, refl))
-signals_stopped left held text wanted r r2 w (faults.Scan scan.BadLimit) reads stops = absurd stops
-signals_stopped left held text wanted r r2 w (faults.Scan scan.Ended) reads stops = absurd stops
-signals_stopped left held text wanted r r2 w faults.Memory reads stops = absurd stops
-signals_stopped left held text wanted r r2 w faults.Write reads stops = absurd stops
-signals_stopped left held text wanted r r2 w faults.BadPosition reads stops = absurd stops
-signals_stopped left held text wanted r r2 w faults.BadHeight reads stops = absurd stops
-signals_stopped left held text wanted r r2 w (faults.Header e) reads stops = absurd stops
-signals_stopped left held text wanted r r2 w (faults.Plan e) reads stops = absurd stops
-signals_stopped left held text wanted r r2 w (faults.Convert e) reads stops = absurd stops
-signals_stopped left held text wanted r r2 w (faults.Check e) reads stops = absurd stops
-signals_stopped left held text wanted r r2 w faults.NoSignal reads stops = ((reads, refl), (stops, refl))
+pub signals_stopped : {R W : Type 0} (left : R → Option (List ℕ)) (held : W → Option (List ℕ)) (waits : W → List ℕ) (text : SignalText) (wanted : Option ℕ) (r r2 : Device R) (w w1 : Device W) (fault : ToolFault)
+    → w1.failures ≡ w.failures → IsDelivered held waits w w1 → ReadFailures fault r.failures r2.failures → StopsCounting wanted left r r2 fault → HaveFailedBy fault r r2 w w1 × StopsSignals text wanted left r r2 held waits w w1 fault
+signals_stopped left held waits text wanted r r2 w w1 faults.Read same sent reads stops = ((reads, same), sent)
+signals_stopped left held waits text wanted r r2 w w1 (faults.Scan scan.TooLong) same sent reads stops = ((reads, same), (stops, sent))
+signals_stopped left held waits text wanted r r2 w w1 (faults.Scan scan.Memory) same sent reads stops = ((reads, same), (stops, sent))
+signals_stopped left held waits text wanted r r2 w w1 (faults.Scan scan.BadLimit) same sent reads stops = absurd stops
+signals_stopped left held waits text wanted r r2 w w1 (faults.Scan scan.Ended) same sent reads stops = absurd stops
+signals_stopped left held waits text wanted r r2 w w1 faults.Memory same sent reads stops = absurd stops
+signals_stopped left held waits text wanted r r2 w w1 faults.Write same sent reads stops = absurd stops
+signals_stopped left held waits text wanted r r2 w w1 faults.BadPosition same sent reads stops = absurd stops
+signals_stopped left held waits text wanted r r2 w w1 faults.BadHeight same sent reads stops = absurd stops
+signals_stopped left held waits text wanted r r2 w w1 (faults.Header e) same sent reads stops = absurd stops
+signals_stopped left held waits text wanted r r2 w w1 (faults.Plan e) same sent reads stops = absurd stops
+signals_stopped left held waits text wanted r r2 w w1 (faults.Convert e) same sent reads stops = absurd stops
+signals_stopped left held waits text wanted r r2 w w1 (faults.Check e) same sent reads stops = absurd stops
+signals_stopped left held waits text wanted r r2 w w1 faults.NoSignal same sent reads stops = ((reads, same), (stops, sent))
 
 -- the signals of a stream were printed, or a part of their text
 pub signals_printed : {R W : Type 0} (left : R → Option (List ℕ)) (held : W → Option (List ℕ)) (waits : W → List ℕ) (text : SignalText) (wanted : Option ℕ) (r r2 : Device R) (w w2 : Device W) (ended : Result ⊤ ToolFault)
@@ -192,4 +192,4 @@ pub signals_printed : {R W : Type 0} (left : R → Option (List ℕ)) (held : W 
     → EndsSignals ended text wanted left r r2 held waits w w2
 signals_printed left held waits text wanted r r2 w w2 (Ok u) s h same p = ((same, p.0, p.1), (h.0, h.1, h.2, h.4, p.2))
 signals_printed left held waits text wanted r r2 w w2 (Err fault) s h same p =
-    subst (λ (f : ToolFault). EndsSignals {A = ⊤} (Err f) text wanted left r r2 held waits w w2) (sym p.0) ((same, p.1.0), (h.0, h.1, h.2, h.4, p.1.1))
+    subst (λ (f : ToolFault). EndsSignals {A = ⊤} (Err f) text wanted left r r2 held waits w w2) (sym p.0) ((same, p.1.0), inr (h.0, h.1, h.2, h.4, p.1.1))

@@ -1,8 +1,8 @@
 -- Texts written in one call, and failed calls.
-use Rattle.std.proofs.Common.{◌≡◌, inl, inr, sym, subst, append-nil, ℕ, List, [], Option, Result, Ok, Err, OnErr, OnOk}
+use Rattle.std.proofs.Common.{◌≡◌, ◌∙◌, inl, inr, sym, subst, append-nil, refl, ℕ, List, [], Option, Result, Ok, Err, OnErr, OnOk}
 use Rattle.std.specs.Io.KnownBytes.{Appends, Keeps}
-use Rattle.std.proofs.KnownBytes.{Appends-kept}
-use Rattle.rtcm_bits.specs.Device.{AppendsPrefix, Device, FailsWith}
+use Rattle.std.proofs.KnownBytes.{Appends-kept, Appends-nil, Appends-trans}
+use Rattle.rtcm_bits.specs.Device.{AppendsPrefix, Device, FailsWith, HasFailed}
 use Rattle.rtcm_bits.specs.declared.counted.DeviceFailed.{DeviceFailed}
 use Rattle.std.specs.Prelude.{⊤}
 use Rattle.std.specs.Result.{IsErrAnd}
@@ -35,6 +35,21 @@ pub line_printed : {E : Type 0} (r : Result ⊤ DeviceFailed) (told : E → Opti
     → OnErr r (AppendsPrefix (told e.inner) (told e2.inner) text) → FailsWith r e e2 → PrintsLine told e e2 text
 line_printed (Ok u) told e e2 text whole part device = inl (device.1, whole)
 line_printed (Err failed) told e e2 text whole part device = inr (device.0, part)
+
+kept_appends : (a b c : Option (List ℕ)) (text : List ℕ) → Keeps a b → Appends b c text → Appends a c text
+kept_appends a b c text k h = Appends-trans a b c [] text (Appends-kept a a b [] (Appends-nil a) k) h
+
+-- nothing is a prefix of each text
+pub kept_none : (a b : Option (List ℕ)) (text : List ℕ) → Keeps a b → AppendsPrefix a b text
+kept_none a b text k = (text, ([], refl, Appends-kept a a b [] (Appends-nil a) k))
+
+-- a text that was written after a delivery
+pub printed_later : {A W : Type 0} (r : Result A ToolFault) (held : W → Option (List ℕ)) (waits : W → List ℕ) (w w1 w2 : Device W) (text : List ℕ) → w1.failures ≡ w.failures → Keeps (held w.inner) (held w1.inner)
+    → EndsPrinting r held waits w1 w2 text → EndsPrinting r held waits w w2 text
+printed_later (Ok x) held waits w w1 w2 text same kept h = (h.0 ∙ same, h.1, kept_appends _ _ _ text kept h.2)
+printed_later (Err fault) held waits w w1 w2 text same kept h =
+    let prefix = h.1.1 in
+    (h.0, (subst (λ (n : ℕ). HasFailed n w2.failures) same h.1.0, (prefix.0, (prefix.1.0, prefix.1.1, kept_appends _ _ _ prefix.1.0 kept prefix.1.2))))
 
 -- the same text in other terms
 pub same_text : {A W : Type 0} (r : Result A ToolFault) (held : W → Option (List ℕ)) (waits : W → List ℕ) (w w2 : Device W) (x y : List ℕ) → x ≡ y → EndsPrinting r held waits w w2 x → EndsPrinting r held waits w w2 y

@@ -1,6 +1,6 @@
 -- The output of the command `check`: r is what the reader has left before, w and w' are the bytes written before and
 -- after.
-use Rattle.std.specs.Prelude.{◌≡◌, ◌≤◌, ℕ, List, [], ◌∷◌, length, codes, decimal, Option, Result, Ok, Err, IfSome, ⊤}
+use Rattle.std.specs.Prelude.{◌≡◌, ◌⊎◌, ◌≤◌, ℕ, List, [], ◌∷◌, length, codes, decimal, Option, Result, Ok, Err, IfSome, ⊤}
 use Rattle.std.specs.List.{sum_by}
 use Rattle.std.specs.Io.KnownBytes.{Appends}
 use Rattle.rtcm_bits.specs.Device.{AppendsPrefix, Device}
@@ -12,6 +12,7 @@ use Rattle.rinex_file.specs.ParserState.{events_in}
 use Rattle.rinex_file.specs.declared.read.fault.ReadFault.TheVariants as reading
 use Rattle.rtcm2rinex.specs.declared.fault.ToolFault.{ToolFault}
 use Rattle.rtcm2rinex.specs.declared.fault.ToolFault.TheVariants as faults
+use Rattle.rtcm2rinex.specs.Devices.{IsDelivered, IsUnread}
 use Rattle.rtcm2rinex.specs.Lines.{line}
 
 -- the numbers of epochs, satellite lines and events of a file
@@ -34,12 +35,15 @@ ChecksFile r w w' = IsFileWith (Appends w w') r
 abbrev pub ChecksPart : (r w w' : Option (List ℕ)) → Type 0
 ChecksPart r w w' = IsFileWith (AppendsPrefix w w') r
 
--- A file isn't accepted for this reason, and nothing was written; or the writer failed.
+-- A file isn't accepted for this reason, nothing was written and nothing waits in the writer; or the writer failed,
+-- before anything was read or in the counts.
 abbrev pub StopsChecking : {R W : Type 0} → (R → Option (List ℕ)) → (r r' : Device R) → (W → Option (List ℕ))
-    → (w w' : Device W) → ToolFault → Type 0
-StopsChecking left r r' held w w' (faults.Check e) = IfSome (left r.inner) (λ input. ExplainsFault input e) × (w' ≡ w)
-StopsChecking left r r' held w w' faults.Write = ChecksPart (left r.inner) (held w.inner) (held w'.inner)
-StopsChecking left r r' held w w' other = ⊥
+    → (W → List ℕ) → (w w' : Device W) → ToolFault → Type 0
+StopsChecking left r r' held waits w w' (faults.Check e) =
+    IfSome (left r.inner) (λ input. ExplainsFault input e) × IsDelivered held waits w w'
+StopsChecking left r r' held waits w w' faults.Write =
+    IsUnread r r' held w w' ⊎ ChecksPart (left r.inner) (held w.inner) (held w'.inner)
+StopsChecking left r r' held waits w w' other = ⊥
 
 -- the possible outcomes for the text of this file value: its counts, unless memory runs out or a device fails
 abbrev pub IsCheckedOr : FileValue → Result ⊤ ToolFault → (w w' : Option (List ℕ)) → Type 0

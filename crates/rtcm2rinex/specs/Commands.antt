@@ -53,10 +53,10 @@ abbrev pub HasStopped : {R W : Type 0} → (R → Option (List ℕ)) → (r r' :
 HasStopped left r r' held waits w w' name options fault =
     ((name ≡ codes "frames") × StopsListing (2 ^ 48) frame_lines left r r' held waits w w' fault)
     ⊎ ((name ≡ codes "show") × StopsListing (2 ^ 48) show_lines left r r' held waits w w' fault)
-    ⊎ ((name ≡ codes "signals") × StopsAsked signals_text options left r r' held w w' fault)
-    ⊎ ((name ≡ codes "options") × StopsAsked options_text options left r r' held w w' fault)
+    ⊎ ((name ≡ codes "signals") × StopsAsked signals_text options left r r' held waits w w' fault)
+    ⊎ ((name ≡ codes "options") × StopsAsked options_text options left r r' held waits w w' fault)
     ⊎ ((name ≡ codes "convert") × StopsConverting options left r r' held waits w w' fault)
-    ⊎ ((name ≡ codes "check") × StopsChecking left r r' held w w' fault)
+    ⊎ ((name ≡ codes "check") × StopsChecking left r r' held waits w w' fault)
 
 -- how the command ended; it prints no fault
 abbrev pub EndsCommand : {A R W E : Type 0} → Result A ToolFault → (R → Option (List ℕ)) → (r r' : Device R)

@@ -1,5 +1,6 @@
 -- The state of the devices of a command by its result: they were r and w before, and are r' and w' after it.
-use Rattle.std.specs.Prelude.{◌≡◌, ℕ, Result, Ok, Err, [], List}
+use Rattle.std.specs.Prelude.{◌≡◌, ℕ, Result, Ok, Err, [], List, Option}
+use Rattle.std.specs.Io.KnownBytes.{Keeps}
 use Rattle.rtcm_bits.specs.Device.{Device, HasFailed}
 use Rattle.rtcm_scan.specs.declared.feed.StreamFault.{StreamFault}
 use Rattle.rtcm_scan.specs.declared.feed.StreamFault.TheVariants as stream
@@ -45,6 +46,21 @@ AreFine r r' waits w w' = (r'.failures ≡ r.failures) × (w'.failures ≡ w.fai
 -- the device that the fault names failed, and no other
 abbrev pub HaveFailedBy : {R W : Type 0} → ToolFault → (r r' : Device R) → (w w' : Device W) → Type 0
 HaveFailedBy fault r r' w w' = ReadFailures fault r.failures r'.failures × WriteFailures fault w.failures w'.failures
+
+-- the bytes written are the same, and none of them waits in the writer
+abbrev pub IsDelivered : {W : Type 0} → (W → Option (List ℕ)) → (W → List ℕ) → (w w' : Device W) → Type 0
+IsDelivered held waits w w' = Keeps (held w.inner) (held w'.inner) × (waits w'.inner ≡ [])
+
+-- nothing was read, and the bytes written are the same
+abbrev pub IsUnread : {R W : Type 0} → (r r' : Device R) → (W → Option (List ℕ)) → (w w' : Device W) → Type 0
+IsUnread r r' held w w' = (r' ≡ r) × Keeps (held w.inner) (held w'.inner)
+
+-- The bytes that waited in the writer were delivered; or it failed once.
+abbrev pub EndsDelivery : {A W : Type 0} → Result A ToolFault → (W → Option (List ℕ)) → (W → List ℕ)
+    → (w w' : Device W) → Type 0
+EndsDelivery (Ok x) held waits w w' = (w'.failures ≡ w.failures) × IsDelivered held waits w w'
+EndsDelivery (Err fault) held waits w w' =
+    (fault ≡ faults.Write) × HasFailed w.failures w'.failures × Keeps (held w.inner) (held w'.inner)
 
 -- How a command ended: no device failed, nothing waits in the writer, and Done holds for its value; or Stopped holds
 -- for its fault.

@@ -1,14 +1,13 @@
 -- What the commands `signals` and `options` have read and written. The reader had r left and now has r', and the writer
 -- had written w and now has written w'. `text` is the output for the frames of a stream, for one station or for all.
-use Rattle.std.specs.Prelude.{◌≡◌, ℕ, ◌<◌, ◌^◌, List, [], length, Option, Result, codes}
+use Rattle.std.specs.Prelude.{◌≡◌, ◌⊎◌, ℕ, ◌<◌, ◌^◌, List, [], length, Option, Result, codes}
 use Rattle.std.specs.Io.KnownBytes.{Appends, Consumes, IsAtEnd}
 use Rattle.clap.specs.Walk.{Row, one_of}
 use Rattle.rtcm_bits.specs.Device.{AppendsPrefix, Device}
 use Rattle.rtcm_scan.specs.Frames.{Framed, frames_of}
 use Rattle.rtcm_scan.specs.declared.framer.ScanFault.TheVariants as scan
-use Rattle.rtcm_convert.specs.Faults.{IsUntouched}
 use Rattle.rtcm_convert.specs.Moves.{Moves}
-use Rattle.rtcm2rinex.specs.Devices.{Ends}
+use Rattle.rtcm2rinex.specs.Devices.{Ends, IsDelivered, IsUnread}
 use Rattle.rtcm2rinex.specs.declared.fault.ToolFault.{ToolFault}
 use Rattle.rtcm2rinex.specs.declared.fault.ToolFault.TheVariants as faults
 use Rattle.rtcm2rinex.specs.SetupOptions.{IsNumberOf}
@@ -38,24 +37,27 @@ HasNoSignal wanted r r' = (b : List ℕ) × Consumes r r' b × IsAtEnd r' × (va
 abbrev pub ReadsTooMuch : ℕ → (r r' : Option (List ℕ)) → Type 0
 ReadsTooMuch limit r r' = (b : List ℕ) × Consumes r r' b × (limit < length b)
 
--- What was read and written at a fault: only at `Write` was anything written.
+-- What was read and written at a fault: only at `Write` was anything written, and except at `Write` nothing waits in
+-- the writer. It fails before anything is read, or in the text.
 abbrev pub StopsSignals : {R W : Type 0} → SignalText → Option ℕ → (R → Option (List ℕ)) → (r r' : Device R)
-    → (W → Option (List ℕ)) → (w w' : Device W) → ToolFault → Type 0
-StopsSignals text wanted left r r' held w w' faults.Read = w' ≡ w
-StopsSignals text wanted left r r' held w w' faults.Write = Moves left r r' held w w' (PrintsSignalsPart text wanted)
-StopsSignals text wanted left r r' held w w' faults.NoSignal =
-    HasNoSignal wanted (left r.inner) (left r'.inner) × (w' ≡ w)
-StopsSignals text wanted left r r' held w w' (faults.Scan scan.TooLong) =
-    ReadsTooMuch (2 ^ 48) (left r.inner) (left r'.inner) × (w' ≡ w)
-StopsSignals text wanted left r r' held w w' (faults.Scan scan.Memory) = IsUntouched r r' w w'
-StopsSignals text wanted left r r' held w w' other = ⊥
+    → (W → Option (List ℕ)) → (W → List ℕ) → (w w' : Device W) → ToolFault → Type 0
+StopsSignals text wanted left r r' held waits w w' faults.Read = IsDelivered held waits w w'
+StopsSignals text wanted left r r' held waits w w' faults.Write =
+    IsUnread r r' held w w' ⊎ Moves left r r' held w w' (PrintsSignalsPart text wanted)
+StopsSignals text wanted left r r' held waits w w' faults.NoSignal =
+    HasNoSignal wanted (left r.inner) (left r'.inner) × IsDelivered held waits w w'
+StopsSignals text wanted left r r' held waits w w' (faults.Scan scan.TooLong) =
+    ReadsTooMuch (2 ^ 48) (left r.inner) (left r'.inner) × IsDelivered held waits w w'
+StopsSignals text wanted left r r' held waits w w' (faults.Scan scan.Memory) =
+    (r' ≡ r) × IsDelivered held waits w w'
+StopsSignals text wanted left r r' held waits w w' other = ⊥
 
 -- how such a command ended
 abbrev pub EndsSignals : {A R W : Type 0} → Result A ToolFault → SignalText → Option ℕ → (R → Option (List ℕ))
     → (r r' : Device R) → (W → Option (List ℕ)) → (W → List ℕ) → (w w' : Device W) → Type 0
 EndsSignals result text wanted left r r' held waits w w' =
     Ends result r r' waits w w' (λ _. Moves left r r' held w w' (PrintsSignals text wanted))
-    (StopsSignals text wanted left r r' held w w')
+    (StopsSignals text wanted left r r' held waits w w')
 
 -- ---- as options ask for it
 
@@ -68,6 +70,6 @@ PrintsAsked text options r r' w w' = OfStation options (λ wanted. PrintsSignals
 
 -- the same was stopped by a fault
 abbrev pub StopsAsked : {R W : Type 0} → SignalText → List Row → (R → Option (List ℕ)) → (r r' : Device R)
-    → (W → Option (List ℕ)) → (w w' : Device W) → ToolFault → Type 0
-StopsAsked text options left r r' held w w' fault =
-    OfStation options (λ wanted. StopsSignals text wanted left r r' held w w' fault)
+    → (W → Option (List ℕ)) → (W → List ℕ) → (w w' : Device W) → ToolFault → Type 0
+StopsAsked text options left r r' held waits w w' fault =
+    OfStation options (λ wanted. StopsSignals text wanted left r r' held waits w w' fault)

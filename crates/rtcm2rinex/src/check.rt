@@ -5,14 +5,14 @@ ghost use Rattle.rtcm2rinex.specs.Devices.{Ends};
 ghost use Rattle.rtcm2rinex.specs.Checking.{AcceptsFiles, ChecksFile, StopsChecking};
 
 use crate::fault::ToolFault;
-use crate::line::{OutputLine, print_text};
+use crate::line::{OutputLine, deliver_waiting, print_text};
 use rinex_file::check_file;
 use rtcm_bits::{Counted, Deliver};
 use std::alloc::Global;
 use std::io::Read;
 
-/// Reads a file to its end and writes its numbers of epochs, satellite lines and events. It is
-/// accepted exactly if it is encoded as `convert` encodes files.
+/// Delivers what waits in the writer, reads a file to its end and writes its numbers of epochs,
+/// satellite lines and events. It is accepted exactly if it is encoded as `convert` encodes files.
 ///
 /// # Errors
 ///
@@ -26,7 +26,7 @@ pub fn run_check<R: Read, W: Deliver>(
 ) -> Result<(), ToolFault>
     ensures ends { Ends result reader.old reader.new W.waiting writer.old writer.new
         (λ _. ChecksFile (R.remaining reader.old.inner) (W.contents writer.old.inner) (W.contents writer.new.inner))
-        (StopsChecking R.remaining reader.old reader.new W.contents writer.old writer.new) }
+        (StopsChecking R.remaining reader.old reader.new W.contents W.waiting writer.old writer.new) }
 
     // Some prefix of the input was read.
     ensures left { LeavesRest (R.remaining reader.old.inner) (R.remaining reader.new.inner) }
@@ -34,6 +34,7 @@ pub fn run_check<R: Read, W: Deliver>(
     // The text of each file value is accepted.
     ensures only { Moves R.remaining reader.old reader.new W.contents writer.old writer.new (AcceptsFiles result) }
 {
+    deliver_waiting(writer)?;
     match check_file(alloc, reader) {
         Ok(counts) => {
             let mut line = OutputLine::new();

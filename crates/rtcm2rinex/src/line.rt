@@ -1,5 +1,6 @@
 //! A line of output.
 ghost use Rattle.std.specs.Prelude.{◌≡◌, ◌+◌, ◌<◌, ◌≤◌, [], ◌∷◌, ◌++◌, length, decimal};
+ghost use Rattle.rtcm2rinex.specs.Devices.{EndsDelivery};
 ghost use Rattle.rtcm2rinex.specs.Metres.{digit, size_text, metres};
 ghost use Rattle.rtcm2rinex.specs.Printing.{EndsPrinting, PrintsLine};
 
@@ -138,6 +139,21 @@ impl OutputLine {
         ensures short { length result.now ≤ 400 }
     {
         self.text.as_slice()
+    }
+}
+
+/// Delivers the bytes that wait in the writer, if any. A command that writes only at its end does so
+/// before it reads, so that none of them waits if the reader fails.
+///
+/// # Errors
+///
+/// `Write` if the writer failed.
+pub fn deliver_waiting<W: Deliver>(writer: &mut Counted<W>) -> Result<(), ToolFault>
+    ensures { EndsDelivery result W.contents W.waiting writer.old writer.new }
+{
+    match writer.send() {
+        Ok(()) => Ok(()),
+        Err(_) => Err(ToolFault::Write),
     }
 }
 

@@ -16,7 +16,7 @@ ghost use Rattle.rtcm2rinex.specs.SignalOutput.{EndsSignals};
 ghost use Rattle.rtcm2rinex.specs.Signals.{codes_word, count_line, count_lines, had, signals_text};
 
 use crate::fault::ToolFault;
-use crate::line::{OutputLine, print_text};
+use crate::line::{OutputLine, deliver_waiting, print_text};
 use crate::listing::PIECE_BYTES;
 use arrayvec::ArrayVec;
 use gnss_obs::{Signal, System};
@@ -30,8 +30,8 @@ use std::io::Read;
 /// Room for a line of each signal: 34 of at most 26 bytes.
 const TEXT_BYTES: usize = 1_024;
 
-/// Writes the table of the signals of a stream that have a cell with a value, of one station or of
-/// all.
+/// Delivers what waits in the writer, reads a stream, and writes the table of its signals that have
+/// a cell with a value, of one station or of all.
 ///
 /// # Errors
 ///
@@ -45,6 +45,7 @@ pub fn run_signals<R: Read, W: Deliver>(
     ensures { EndsSignals result signals_text station
         R.remaining reader.old reader.new W.contents W.waiting writer.old writer.new }
 {
+    deliver_waiting(writer)?;
     let signals = read_signals(alloc, station, reader)?;
     let mut text = ArrayVec::new();
     add_lines(&mut text, &signals.signal_counts, System::Gps);
@@ -52,8 +53,9 @@ pub fn run_signals<R: Read, W: Deliver>(
     print_text(text.as_slice(), writer)
 }
 
-/// Writes a line of the options of `convert` that fit the stream: the signals of the cells that
-/// have a value, and the values of the first station message, of one station or of all.
+/// Delivers what waits in the writer, reads a stream, and writes a line of the options of `convert`
+/// that fit it: the signals of the cells that have a value, and the values of the first station
+/// message, of one station or of all.
 ///
 /// # Errors
 ///
@@ -67,6 +69,7 @@ pub fn run_options<R: Read, W: Deliver>(
     ensures { EndsSignals result options_text station
         R.remaining reader.old reader.new W.contents W.waiting writer.old writer.new }
 {
+    deliver_waiting(writer)?;
     let signals = read_signals(alloc, station, reader)?;
     let mut line = OutputLine::new();
     line.put(b"--gps");

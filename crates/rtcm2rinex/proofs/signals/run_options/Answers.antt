@@ -6,7 +6,7 @@ use Rattle.rtcm2rinex.specs.Fitting.{options_line, options_text, station_words}
 use Rattle.rtcm2rinex.specs.Lines.{with_words}
 use Rattle.rtcm2rinex.proofs.CountingLemmas.{signals_printed}
 use Rattle.rtcm2rinex.proofs.LineLemmas.{add_text, add_word, end_line}
-use Rattle.rtcm2rinex.proofs.PrintingLemmas.{same_text}
+use Rattle.rtcm2rinex.proofs.PrintingLemmas.{printed_later, same_text}
 use Rattle.rtcm2rinex.proofs.signals.run_options.Goals as goal
 
 pub add_station-requires-clause-in_range : goal.add_station-requires-clause-in_range
@@ -26,5 +26,6 @@ returns g c =
     let station = c.add_station.ensures.text ∙ ap (λ (t : List ℕ). with_words t words) galileo in
     let line = end_line [] (codes "--gps") (codes_word Gps (had cells Gps) ∷ codes "--galileo" ∷ codes_word Galileo (had cells Galileo) ∷ words) c.finish.ensures station in
     signals_printed g.R.Read.remaining g.W.Write.contents g.W.Deliver.waiting options_text c.args.station c.args.reader.now c.read_signals.new.reader c.args.writer.now c.print_text.new.writer c.print_text.result
-    c.in_ok-signals.signals s c.in_ok-signals.ensures.reader (same_text c.print_text.result g.W.Write.contents g.W.Deliver.waiting c.args.writer.now c.print_text.new.writer _ _
-    (c.as_bytes.ensures.text ∙ line ∙ ap (options_line (plan_had cells)) s.3.first) c.print_text.ensures)
+    c.in_ok-signals.signals s c.in_ok-signals.ensures.reader (printed_later c.print_text.result g.W.Write.contents g.W.Deliver.waiting c.args.writer.now c.deliver_waiting.new.writer c.print_text.new.writer _ c.in_ok-deliver_waiting.ensures.0 c.in_ok-deliver_waiting.ensures.1.0
+    (same_text c.print_text.result g.W.Write.contents g.W.Deliver.waiting c.deliver_waiting.new.writer c.print_text.new.writer _ _
+    (c.as_bytes.ensures.text ∙ line ∙ ap (options_line (plan_had cells)) s.3.first) c.print_text.ensures))

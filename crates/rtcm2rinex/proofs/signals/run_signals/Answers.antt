@@ -4,7 +4,7 @@ use Rattle.gnss_obs.specs.declared.system.System.TheVariants.{Gps, Galileo}
 use Rattle.rtcm2rinex.specs.Signals.{count_lines, signals_text, valued_in}
 use Rattle.rtcm_scan.specs.Frames.{frames_of}
 use Rattle.rtcm2rinex.proofs.CountingLemmas.{signals_printed}
-use Rattle.rtcm2rinex.proofs.PrintingLemmas.{same_text}
+use Rattle.rtcm2rinex.proofs.PrintingLemmas.{printed_later, same_text}
 use Rattle.rtcm2rinex.proofs.signals.run_signals.Goals as goal
 
 fits : (old new gps : ℕ) → old ≡ 0 → new ≤ old + 26 * gps → gps ≤ 19 → new ≤ 512
@@ -23,5 +23,6 @@ returns g c =
     let gps = c.add_lines.ensures.text cells counts ∙ ap (λ (l : List ℕ). l ++ count_lines cells Gps) c.new-text.ensures in
     let both = c.add_lines-2.ensures.text cells counts ∙ ap (λ (l : List ℕ). l ++ count_lines cells Galileo) gps in
     signals_printed g.R.Read.remaining g.W.Write.contents g.W.Deliver.waiting signals_text c.args.station c.args.reader.now c.read_signals.new.reader c.args.writer.now c.print_text.new.writer c.print_text.result
-    c.in_ok-signals.signals s c.in_ok-signals.ensures.reader (same_text c.print_text.result g.W.Write.contents g.W.Deliver.waiting c.args.writer.now c.print_text.new.writer _ _
-    (c.as_slice.ensures.value ∙ both) c.print_text.ensures)
+    c.in_ok-signals.signals s c.in_ok-signals.ensures.reader (printed_later c.print_text.result g.W.Write.contents g.W.Deliver.waiting c.args.writer.now c.deliver_waiting.new.writer c.print_text.new.writer _ c.in_ok-deliver_waiting.ensures.0 c.in_ok-deliver_waiting.ensures.1.0
+    (same_text c.print_text.result g.W.Write.contents g.W.Deliver.waiting c.deliver_waiting.new.writer c.print_text.new.writer _ _
+    (c.as_slice.ensures.value ∙ both) c.print_text.ensures))
