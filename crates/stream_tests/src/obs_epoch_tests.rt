@@ -32,6 +32,11 @@ enum Step {
     /// A message is processed: the numbers of its cells that are kept, repeated and crowded, and
     /// whether an epoch is closed.
     Keeps(Heard, (usize, usize, usize), bool),
+    /// A message is processed this many times, and its one cell is repeated each time.
+    Repeats(Heard, usize),
+    /// Messages of one GPS cell are processed, each kept: from satellite 32 to satellite 1, and of
+    /// each satellite from 5X to 1C.
+    Falls,
     /// It ends: whether an epoch is closed.
     Ends(bool),
     /// It has ended.
@@ -59,13 +64,43 @@ enum Step {
 }
 
 use Step::{
-    Closed, ClosedNone, Ends, HasEnded, HasNoDoppler, Holds, Keeps, LastLli, Lli, Locks, Of, Plans,
-    Takes, Values,
+    Closed, ClosedNone, Ends, Falls, HasEnded, HasNoDoppler, Holds, Keeps, LastLli, Lli, Locks, Of,
+    Plans, Repeats, Takes, Values,
 };
 
 /// Whether a message has this outcome.
 fn takes(g: &mut Gatherer, heard: Heard, kind: Kind, closed: bool) -> bool {
     !g.ended() && g.take(&message(heard)) == Taken { kind, closed }
+}
+
+/// Whether a message of one cell is repeated this many times.
+fn repeats(g: &mut Gatherer, heard: Heard, times: usize) -> bool {
+    for _ in 0..times {
+        if !takes(g, heard, counts(0, 1, 0), false) {
+            return false;
+        }
+    }
+    true
+}
+
+/// Whether the cells of all GPS satellites are kept if they arrive in falling order.
+fn falls(g: &mut Gatherer) -> bool {
+    for last in 0..32u32 {
+        if !falls_at(g, 1 << (32 + last)) {
+            return false;
+        }
+    }
+    true
+}
+
+/// The same of one satellite: 5X, 2L, 2W and 1C.
+fn falls_at(g: &mut Gatherer, satellite: u64) -> bool {
+    for signal in [1 << 8, 1 << 16, 1 << 22, 1 << 30] {
+        if !takes(g, Heard::Wide(true, satellite, signal), KEPT, false) {
+            return false;
+        }
+    }
+    true
 }
 
 /// The cell of the closed epoch of which a step is.
@@ -85,6 +120,8 @@ fn goes(g: &mut Gatherer, step: &Step) -> bool {
         Keeps(heard, (kept, repeated, crowded), closed) => {
             takes(g, *heard, counts(*kept, *repeated, *crowded), *closed)
         }
+        Repeats(heard, times) => repeats(g, *heard, *times),
+        Falls => falls(g),
         Ends(closed) => g.end() == *closed,
         step => shows(g, step),
     }

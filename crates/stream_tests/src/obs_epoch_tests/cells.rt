@@ -1,8 +1,8 @@
 //! The cells of an epoch that are kept, and their order.
 use super::messages::Heard;
 use super::{
-    Closed, Ends, FIRST, HasNoDoppler, Holds, KEPT, Keeps, LastLli, Locks, Of, Step, Takes,
-    goes_as_given, goes_by_bit,
+    Closed, Ends, FIRST, Falls, HasNoDoppler, Holds, KEPT, Keeps, LastLli, Locks, Of, Repeats,
+    Step, Takes, goes_as_given, goes_by_bit,
 };
 use obs_epoch::Gather;
 use std::test::*;
@@ -15,6 +15,37 @@ fn the_first_cell_of_a_key_is_kept(rt: HostRuntime) {
         Ends(true),
         Closed(FIRST, 1, 1),
         HasNoDoppler,
+    ];
+    assert!(rt; goes_by_bit(rt.alloc(), &STEPS));
+}
+
+#[test]
+fn a_thousand_repeats_keep_the_first_cell(rt: HostRuntime) {
+    static STEPS: [Step; 7] = [
+        Takes(Heard::Short(1_000, true, true, 15), KEPT, false),
+        Repeats(Heard::Long(1_000, true, 64), 1_000),
+        Holds(1),
+        Ends(true),
+        Closed(FIRST, 1, 1),
+        HasNoDoppler,
+        Locks(1),
+    ];
+    assert!(rt; goes_by_bit(rt.alloc(), &STEPS));
+}
+
+#[test]
+fn cells_that_fall_by_messages_of_one_are_sorted(rt: HostRuntime) {
+    static STEPS: [Step; 10] = [
+        Falls,
+        Holds(128),
+        Ends(true),
+        Closed(FIRST, 32, 128),
+        Of(0, 1, *b"1C"),
+        Of(1, 1, *b"2W"),
+        Of(2, 1, *b"2L"),
+        Of(3, 1, *b"5X"),
+        Of(4, 2, *b"1C"),
+        Of(127, 32, *b"5X"),
     ];
     assert!(rt; goes_by_bit(rt.alloc(), &STEPS));
 }
