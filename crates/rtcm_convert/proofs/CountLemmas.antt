@@ -1,17 +1,8 @@
 -- Each frame is counted once.
 use Rattle.std.proofs.Common.{◌≡◌, ℕ, ◌+◌, List, [], ◌∷◌, ◌++◌, Bool, false, refl, ◌∙◌, arith, length, suc, Option, Some, None}
-use Rattle.std.specs.Prelude.{sum_by, option_map}
-use Rattle.std.proofs.lemmas.List.Sums.{sum_by-cons}
-use Rattle.rtcm_scan.specs.Frames.{Framed, frames_of}
-use Rattle.obs_epoch.specs.declared.taken.Kind.{Kind}
-use Rattle.obs_epoch.specs.declared.taken.Kind.TheVariants as kind
-use Rattle.obs_epoch.specs.Heard.{GatherSetup, Heard}
-use Rattle.obs_epoch.specs.Kinds.{is_close_first, kind_of}
-use Rattle.rtcm_convert.specs.Converted.{SetupValue, messages_of, heard_in}
-use Rattle.rtcm_convert.specs.Outcomes.{outcomes, outcomes_after, tally_of_one, report_of}
 use Rattle.rtcm_convert.proofs.ExactLemmas.{outcomes_length}
-use Rattle.rtcm_convert.specs.Laws.{IsCountedOnce}
-use Rattle.rtcm_convert.specs.declared.tally.Tally.{Tally}
+use Rattle.rtcm_convert.proofs.Names.{sum_by, option_map, sum_by-cons, Framed, frames_of, Kind, GatherSetup, Heard, is_close_first, kind_of, SetupValue, messages_of, heard_in, outcomes, outcomes_after, tally_of_one, report_of, IsCountedOnce, Tally}
+use Rattle.obs_epoch.specs.declared.taken.Kind.TheVariants as kind
 
 -- the outcome that no frame has
 abbrev is_first : Option Kind → Bool

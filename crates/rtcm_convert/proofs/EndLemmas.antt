@@ -1,24 +1,9 @@
 -- The end of a stream.
 use Rattle.std.proofs.Common.{◌≡◌, ℕ, List, ◌++◌, true, false, sym, ap, subst, ◌∙◌, Option, append-nil, [], arith, length, ◌*◌, ◌≤◌, ◌^◌}
-use Rattle.rtcm_bits.specs.Device.{Device, HasFailed}
-use Rattle.rtcm_bits.specs.Prefix.{IsPrefix}
-use Rattle.rtcm_scan.specs.Frames.{Framed, frames_of}
-use Rattle.rtcm_scan.specs.Decided.{decided_frames}
-use Rattle.rtcm_scan.specs.Drained.{IsDrained}
-use Rattle.rtcm_scan.specs.Known.{known_frames}
-use Rattle.rtcm_scan.specs.Passing.{PassesKnown, BreaksKnown, HasPassedAll, HasBroken}
-use Rattle.rtcm_scan.specs.Scan.{FramerValue}
-use Rattle.rtcm_convert.specs.Converted.{SetupValue, so_far, file, epochs_in}
-use Rattle.rtcm_convert.specs.Fed.{AppendsBetween, AppendsPrefixBetween}
-use Rattle.rtcm_convert.specs.Filed.{HasFiledFrames}
-use Rattle.rtcm_convert.specs.Laws.{FiledStays, FiledGrows, WrittenStays, WrittenGrows}
-use Rattle.rtcm_convert.specs.Outcomes.{outcomes}
-use Rattle.rtcm_convert.specs.Steps.{EndsFile, BreaksInRest}
-use Rattle.rtcm_convert.specs.Stream.{Drained, Files, BreaksFiling, IsEnded, AppendsPrefixOfRest}
-use Rattle.rtcm_convert.specs.declared.file_writer.FileWriter.{FileWriter}
 use Rattle.rtcm_convert.proofs.ExactLemmas.{tally_whole, whole_epochs, epochs_few, outcomes_length}
 use Rattle.rtcm_convert.proofs.PartLemmas.{goes_on-trans, breaks_off-after, breaks_off-before, up_to_whole}
 use Rattle.rtcm_convert.proofs.StreamLemmas.{files_self, so_far-front}
+use Rattle.rtcm_convert.proofs.Names.{Device, HasFailed, IsPrefix, Framed, frames_of, decided_frames, IsDrained, known_frames, PassesKnown, BreaksKnown, HasPassedAll, HasBroken, FramerValue, SetupValue, so_far, file, epochs_in, AppendsBetween, AppendsPrefixBetween, HasFiledFrames, FiledStays, FiledGrows, WrittenStays, WrittenGrows, outcomes, EndsFile, BreaksInRest, Drained, Files, BreaksFiling, IsEnded, AppendsPrefixOfRest, FileWriter}
 
 -- at most 2^48 bytes were accepted
 within : (v : FramerValue) (w : FileWriter) (s : SetupValue) (bytes : List ℕ) → Drained v w s bytes → length bytes ≤ 2 ^ 48

@@ -1,36 +1,10 @@
 -- No count of a stream reaches the greatest number that is counted: a frame has at least six bytes and at most 64
 -- cells.
-use Rattle.rtcm_msg.specs.declared.entry.LockField.{LockField}
-use Rattle.rtcm_msg.specs.declared.entry.LockField.TheVariants.{Df402, Df407}
 use Rattle.std.proofs.Common.{◌≡◌, ◌||◌, ℕ, ◌+◌, ◌-◌, ◌*◌, ◌≤◌, ◌^◌, List, [], ◌∷◌, ◌++◌, Bool, true, false, refl, sym, ap, subst, ◌∙◌, arith, length, length-append, add-zero, suc, zero, nat_lt, Option, Some, None, is_some, not}
-use Rattle.std.specs.Prelude.{count_by, filter, filter_map, if◌then◌else◌}
-use Rattle.std.specs.List.{cons_option, zip}
-use Rattle.std.specs.Option.{option_map_or}
-use Rattle.std.proofs.lemmas.List.{length-map}
-use Rattle.std.proofs.lemmas.List.Sums.{sum_by-cons, length-filter, count_by-le-length}
-use Rattle.gnss_obs.specs.declared.system.System.{System}
-use Rattle.rtcm_bits.specs.Bits.{uint}
-use Rattle.rtcm_scan.specs.Frames.{Framed}
-use Rattle.rtcm_msg.specs.declared.message.Message.{Message}
+use Rattle.obs_epoch.specs.Cells.{kept_of_both as kept_both}
+use Rattle.rtcm_convert.proofs.Names.{LockField, Df402, Df407, count_by, filter, filter_map, if◌then◌else◌, cons_option, zip, option_map_or, length-map, sum_by-cons, length-filter, count_by-le-length, System, uint, Framed, Message, Entry, MasksValue, MsmValue, AreMasks, pair_count, IsMessage, chosen, cell_pairs, all_pairs, entries, entry4, entry7, Kind, GatherSetup, Heard, heard, heard_msm, is_own, seen_in, system_of, unlisted_in, HeardCell, Timed, timed, timed_after, taken_at, is_late, is_past, time_of, times, counts_of, counts_of_message, no_counts, with_skipped, is_planned, is_among, offered, kind_of, kind_at, kept_kind, all_epochs, closed_at, satellites_written, SetupValue, messages_of, heard_in, epochs_in, outcomes_after, capped, capped_tally, sum_of_counts, tally_of, tally_of_one, IsFew, AreFew, Tally, CellCounts}
 use Rattle.rtcm_msg.specs.declared.message.Message.TheVariants as message
-use Rattle.rtcm_msg.specs.declared.entry.Entry.{Entry}
-use Rattle.rtcm_msg.specs.Msm.{MasksValue, MsmValue, AreMasks, pair_count}
-use Rattle.rtcm_msg.specs.Encoding.{IsMessage}
-use Rattle.rtcm_msg.specs.Entries.{chosen, cell_pairs, all_pairs, entries, entry4, entry7}
-use Rattle.obs_epoch.specs.declared.taken.Kind.{Kind}
 use Rattle.obs_epoch.specs.declared.taken.Kind.TheVariants as kind
-use Rattle.obs_epoch.specs.Heard.{GatherSetup, Heard, heard, heard_msm, is_own, seen_in, system_of, unlisted_in}
-use Rattle.gnss_obs.specs.HeardCells.{HeardCell}
-use Rattle.obs_epoch.specs.Times.{Timed, timed, timed_after, taken_at, is_late, is_past, time_of}
-use Rattle.obs_epoch.specs.Loss.{times}
-use Rattle.obs_epoch.specs.Cells.{counts_of, counts_of_message, no_counts, with_skipped, is_planned, is_among, kept_of_both as kept_both, offered}
-use Rattle.obs_epoch.specs.Kinds.{kind_of, kind_at, kept_kind}
-use Rattle.obs_epoch.specs.Gathering.{all_epochs, closed_at}
-use Rattle.gnss_obs.specs.Values.{satellites_written}
-use Rattle.rtcm_convert.specs.Converted.{SetupValue, messages_of, heard_in, epochs_in}
-use Rattle.rtcm_convert.specs.Outcomes.{outcomes_after, capped, capped_tally, sum_of_counts, tally_of, tally_of_one, IsFew, AreFew}
-use Rattle.rtcm_convert.specs.declared.tally.Tally.{Tally}
-use Rattle.obs_epoch.specs.declared.taken.CellCounts.{CellCounts}
 
 -- ---- the cells of a message
 

@@ -1,13 +1,6 @@
 -- The faults of a call, by the results that it never has.
 use Rattle.std.proofs.Common.{◌≡◌, ◌≤◌, ℕ, max, Bool, true, false, List, [], refl, sym, ap, subst, ◌∙◌, arith, inl, inr, Result, Ok, Err, IfErr}
-use Rattle.std.proofs.lemmas.Bool.{false≢true}
-use Rattle.std.specs.Prelude.{IsErrOf, OnOk}
-use Rattle.rtcm_bits.specs.Device.{Device}
-use Rattle.rtcm_bits.specs.FrameOf.{longest_frame}
-use Rattle.rtcm_convert.specs.Faults.{IsSentAtFault, WriterFailures, ReaderFailures, FailsWithReader, FailsWithWriter, IsSentAfter, IsSetupFault, IsFeedFault, IsFinishFault, IsPiecesFault, IsRunFault}
-use Rattle.rtcm_convert.specs.declared.report.Report.{Report}
-use Rattle.rtcm_convert.specs.declared.fault.Fault.{Fault}
-use Rattle.rtcm_convert.specs.declared.fault.Fault.TheVariants.{BadSetup, Memory, Read, TooLong, Write, NoEpoch}
+use Rattle.rtcm_convert.proofs.Names.{false≢true, IsErrOf, OnOk, Device, longest_frame, IsSentAtFault, WriterFailures, ReaderFailures, FailsWithReader, FailsWithWriter, IsSentAfter, IsSetupFault, IsFeedFault, IsFinishFault, IsPiecesFault, IsRunFault, Report, Fault, BadSetup, Memory, Read, TooLong, Write, NoEpoch}
 
 abbrev pub of_setup : Fault → Bool
 of_setup BadSetup = true

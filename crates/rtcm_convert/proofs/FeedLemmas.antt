@@ -1,24 +1,8 @@
 -- A piece that a converter accepts, and the end of its stream.
 use Rattle.std.proofs.Common.{◌≡◌, ◌≢◌, ℕ, ◌<◌, ◌++◌, List, length, Bool, true, false, sym, subst, ◌∙◌, [], Option, suc, zero, arith, refl, true≢false, Result, Ok, Err, IfOk}
-use Rattle.rtcm_bits.specs.Device.{Device}
-use Rattle.rtcm_scan.specs.Examined.{HasExaminedSome}
-use Rattle.rtcm_scan.specs.Passing.{Passes, Breaks, PassesToLimit, AtFault, up_to_limit}
-use Rattle.rtcm_scan.specs.Scan.{FramerValue}
-use Rattle.rtcm_scan.specs.declared.feed.StreamFault.{StreamFault}
-use Rattle.rtcm_scan.specs.declared.feed.StreamFault.TheVariants.{Read, TooLong, Sink}
-use Rattle.rtcm_convert.specs.Conversion.{Conversion, kept_of, KeepsNow, IsGoing, IsFit, HasConverted, HasFinished, TakesPiece, CutsAtLimit, WritesPrefixOfAdded, FinishesNow, FinishesEmptyNow}
-use Rattle.rtcm_convert.specs.Converted.{SetupValue}
-use Rattle.rtcm_convert.specs.Kept.{IsKeptAtEnd, IsWithinBounds}
-use Rattle.rtcm_scan.specs.Decided.{skipped_before}
-use Rattle.rtcm_scan.specs.Frames.{frames_of}
-use Rattle.rtcm_scan.specs.Known.{known_place}
-use Rattle.rtcm_convert.specs.Outcomes.{report_with}
-use Rattle.rtcm_convert.specs.declared.report.Report.{Report}
-use Rattle.rtcm_convert.specs.declared.tally.Tally.{Tally}
-use Rattle.rtcm_convert.specs.Laws.{FiledGrows}
-use Rattle.rtcm_convert.specs.Stream.{Files, BreaksFiling, EndsBytes, AppendsDecided}
-use Rattle.rtcm_convert.specs.declared.file_writer.FileWriter.{FileWriter}
+use Rattle.rtcm_scan.specs.declared.feed.StreamFault.TheVariants.{Read, TooLong}
 use Rattle.rtcm_convert.proofs.StreamLemmas.{piece_whole, piece_part, piece_fine, to_limit}
+use Rattle.rtcm_convert.proofs.Names.{Device, HasExaminedSome, Passes, Breaks, PassesToLimit, AtFault, up_to_limit, FramerValue, StreamFault, Sink, Conversion, kept_of, KeepsNow, IsGoing, IsFit, HasConverted, HasFinished, TakesPiece, CutsAtLimit, WritesPrefixOfAdded, FinishesNow, FinishesEmptyNow, SetupValue, IsKeptAtEnd, IsWithinBounds, skipped_before, frames_of, known_place, report_with, Report, Tally, FiledGrows, Files, BreaksFiling, EndsBytes, AppendsDecided, FileWriter}
 
 pub read_of : {F : Type 0} (f : StreamFault F) (P Q R : Type 0) → f ≡ Read → AtFault f P Q R → P
 read_of f P Q R e a = subst (λ (x : StreamFault _). AtFault x P Q R) e a

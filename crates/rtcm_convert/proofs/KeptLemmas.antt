@@ -1,19 +1,6 @@
 -- What a converter holds.
 use Rattle.std.proofs.Common.{◌≡◌, ℕ, List, [], ◌∷◌, true, refl, sym, ap, ◌∙◌, Option, None}
-use Rattle.std.specs.Prelude.{map, length, if◌then◌else◌}
-use Rattle.rtcm_scan.specs.Frames.{frames_of}
-use Rattle.gnss_obs.specs.Values.{Closed}
-use Rattle.obs_epoch.specs.Heard.{GatherSetup, Heard}
-use Rattle.obs_epoch.specs.Times.{timed}
-use Rattle.obs_epoch.specs.Loss.{times}
-use Rattle.obs_epoch.specs.Epochs.{closed_times, closed_so_far}
-use Rattle.obs_epoch.specs.Gather.{Gathered}
-use Rattle.obs_epoch.specs.GathererHistory.{locked_in}
-use Rattle.obs_epoch.specs.Cells.{firsts}
-use Rattle.obs_epoch.specs.Gathering.{HasGatheredEpochs, is_done, closed_list_at}
-use Rattle.rtcm_convert.specs.Converted.{SetupValue, messages_of}
-use Rattle.rtcm_convert.specs.Kept.{locks_at, locks_in_all}
-use Rattle.rtcm_convert.specs.Conversion.{Conversion, HasFinished}
+use Rattle.rtcm_convert.proofs.Names.{map, length, if◌then◌else◌, frames_of, Closed, GatherSetup, Heard, timed, times, closed_times, closed_so_far, Gathered, locked_in, firsts, HasGatheredEpochs, is_done, closed_list_at, SetupValue, messages_of, locks_at, locks_in_all, Conversion, HasFinished}
 
 -- the times of the epochs of these times
 times_back : (s : GatherSetup) (ms : List Heard) (ts : List ℕ) → map (λ (c : Closed). c.epoch.time) (closed_list_at s ms ts) ≡ ts

@@ -1,12 +1,6 @@
 -- Bytes that are written one part after the other.
 use Rattle.std.proofs.Common.{◌≡◌, ℕ, List, [], ◌++◌, sym, ap, ◌∙◌, Option, None, Some, refl, subst, Result, Ok, Err, OnErr, append_assoc, append-nil}
-use Rattle.std.specs.Prelude.{IsErrOf}
-use Rattle.std.specs.Io.KnownBytes.{Appends, Keeps}
-use Rattle.std.proofs.lemmas.List.{append_cancel_left}
-use Rattle.std.proofs.KnownBytes.{Appends-trans, Appends-nil, Appends-kept}
-use Rattle.rtcm_bits.specs.Device.{AppendsPrefix}
-use Rattle.rtcm_bits.specs.Prefix.{IsPrefix}
-use Rattle.rtcm_convert.specs.Fed.{AppendsBetween, AppendsPrefixBetween, AppendsUpTo}
+use Rattle.rtcm_convert.proofs.Names.{IsErrOf, Appends, Keeps, append_cancel_left, Appends-trans, Appends-nil, Appends-kept, AppendsPrefix, IsPrefix, AppendsBetween, AppendsPrefixBetween, AppendsUpTo}
 
 pub on_err : {A E : Type 0} (r : Result A E) (P : Type 0) → P → OnErr r P
 on_err (Ok v) P p = tt

@@ -1,20 +1,8 @@
 -- Pieces that a converter accepts up to the end of its stream.
 use Rattle.std.proofs.Common.{◌≡◌, ℕ, ◌+◌, ◌<◌, ◌≤◌, inl, inr, List, [], ◌∷◌, ◌++◌, sym, ap, subst, ◌∙◌, arith, Option, Result, Ok, Err, IfOk, append-nil, append_assoc, length, length-append, take, drop, get_or}
-use Rattle.std.specs.Prelude.{IsErrOf, flat_map, Vec}
-use Rattle.std.proofs.lemmas.List.{take_more, take-append-drop, take-append-le}
-use Rattle.std.proofs.lemmas.Grind.{flat_map-append}
-use Rattle.std.proofs.Math.Seq.{take-length}
-use Rattle.rtcm_convert.specs.Broken.{joined_pieces}
-use Rattle.rtcm_convert.specs.Converted.{SetupValue}
-use Rattle.rtcm_convert.specs.Stream.{AppendsDecided, AppendsPrefixOfDecided}
-use Rattle.rtcm_convert.specs.Conversion.{Conversion, HasConverted, TakesPiece, CutsAtLimit, WritesPrefixOfAdded, StopsAtEnd, FinishesNow, FinishesEmptyNow, CompletesFile, CompletesEmptyFile, FailsAtEnd}
-use Rattle.rtcm_convert.specs.Pieces.{StopsInPieces}
-use Rattle.rtcm_convert.specs.Faults.{IsFeedFault}
-use Rattle.rtcm_convert.specs.declared.fault.Fault.{Fault}
-use Rattle.rtcm_convert.specs.declared.fault.Fault.TheVariants.{NoEpoch}
-use Rattle.rtcm_convert.specs.declared.report.Report.{Report}
 use Rattle.rtcm_convert.proofs.PartLemmas.{goes_on-trans}
 use Rattle.rtcm_convert.proofs.RunLemmas.{completed_after, empty_after}
+use Rattle.rtcm_convert.proofs.Names.{IsErrOf, flat_map, Vec, take_more, take-append-drop, take-append-le, flat_map-append, take-length, joined_pieces, SetupValue, AppendsDecided, AppendsPrefixOfDecided, Conversion, HasConverted, TakesPiece, CutsAtLimit, WritesPrefixOfAdded, StopsAtEnd, FinishesNow, FinishesEmptyNow, CompletesFile, CompletesEmptyFile, FailsAtEnd, StopsInPieces, IsFeedFault, Fault, NoEpoch, Report}
 
 -- ---- the first pieces
 

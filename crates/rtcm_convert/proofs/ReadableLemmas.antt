@@ -1,26 +1,6 @@
 -- The bytes written are the text of a file value.
 use Rattle.std.proofs.Common.{◌≡◌, ℕ, ◌<◌, inl, inr, Bool, true, false, List, [], ◌∷◌, ◌++◌, length, filter, refl, sym, subst, arith, Option, Some, None, Result, Ok, Err, nat_lt, append-nil}
-use Rattle.std.specs.Prelude.{cond, IfSome}
-use Rattle.std.specs.List.{AllByRecursion, cons_option}
-use Rattle.rtcm_scan.specs.Frames.{Framed}
-use Rattle.rtcm_msg.specs.declared.message.Message.{Message}
-use Rattle.rtcm_msg.specs.declared.fault.MsgFault.{MsgFault}
-use Rattle.rtcm_msg.specs.Encoding.{IsMessage}
-use Rattle.rtcm_msg.specs.Decoding.{message_at}
-use Rattle.gnss_obs.specs.Values.{PlanValue, Closed, satellites_written}
-use Rattle.obs_epoch.specs.Heard.{Heard}
-use Rattle.rtcm_bits.specs.Prefix.{IsPrefix}
-use Rattle.obs_epoch.specs.Gathering.{all_epochs, closed_epochs}
-use Rattle.obs_epoch.specs.Laws.{ClosedComeFirst}
-use Rattle.obs_epoch.specs.Reach.{IsHeard, MessagesAreHeard, EpochsAreGathered}
-use Rattle.gnss_obs.specs.GatheredEpochs.{IsGatheredEpoch, TimesRise, AreGatheredEpochs}
-use Rattle.rinex_file.specs.Texts.{HeaderLists}
-use Rattle.rinex_file.specs.FileValues.{AreTexts}
-use Rattle.rinex_file.specs.File.{gathered}
-use Rattle.rinex_file.specs.Gathered.{AreSignals, HasSatellite, IsGatheredFile}
-use Rattle.rtcm_convert.specs.Converted.{SetupValue, heard_of, heard_in, messages_of, written_epochs, text_of_epochs, text_with, file, so_far, epochs_in}
-use Rattle.rtcm_convert.specs.Laws.{IsFileText}
-use Rattle.rtcm_convert.specs.Readable.{HasValue, IsReadable, AreSound}
+use Rattle.rtcm_convert.proofs.Names.{cond, IfSome, AllByRecursion, cons_option, Framed, Message, MsgFault, IsMessage, message_at, PlanValue, Closed, satellites_written, Heard, IsPrefix, all_epochs, closed_epochs, ClosedComeFirst, IsHeard, MessagesAreHeard, EpochsAreGathered, IsGatheredEpoch, TimesRise, AreGatheredEpochs, HeaderLists, AreTexts, gathered, AreSignals, HasSatellite, IsGatheredFile, SetupValue, heard_of, heard_in, messages_of, written_epochs, text_of_epochs, text_with, file, so_far, epochs_in, IsFileText, HasValue, IsReadable, AreSound}
 
 -- the laws of the crates below on messages, epochs and files
 pub record Known : Type 0 where

@@ -1,13 +1,6 @@
 -- A call that is refused, and one that isn't.
 use Rattle.std.proofs.Common.{◌≡◌, ◌≤◌, ◌+◌, ℕ, max, Bool, true, false, List, refl, sym, ap, subst, ◌∙◌, arith, Option, Some, None, IfSome, Err}
-use Rattle.std.proofs.lemmas.Bool.{false≢true}
-use Rattle.std.specs.Prelude.{IsErrOf, ⊤, if◌then◌else◌}
-use Rattle.rtcm_bits.specs.Device.{Device}
-use Rattle.rtcm_bits.specs.FrameOf.{longest_frame}
-use Rattle.rtcm_convert.specs.Conversion.{Conversion, IsGoing, refusal}
-use Rattle.rtcm_convert.specs.Faults.{IsSentAtFault, WriterFailures, ReaderFailures}
-use Rattle.rtcm_convert.specs.declared.fault.Fault.{Fault}
-use Rattle.rtcm_convert.specs.declared.fault.Fault.TheVariants.{Failed, Finished}
+use Rattle.rtcm_convert.proofs.Names.{false≢true, IsErrOf, ⊤, if◌then◌else◌, Device, longest_frame, Conversion, IsGoing, refusal, IsSentAtFault, WriterFailures, ReaderFailures, Fault, Failed, Finished}
 
 abbrev pub of_refusal : Fault → Bool
 of_refusal Failed = true

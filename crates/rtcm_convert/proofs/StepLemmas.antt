@@ -1,22 +1,8 @@
 -- One message passed to the gatherer, and what it adds to the file.
 use Rattle.std.proofs.Common.{◌≡◌, ℕ, List, [], ◌∷◌, ◌++◌, Bool, true, false, append-nil, sym, ap, subst, ◌∙◌, Option, Some, None, inl, inr}
-use Rattle.std.specs.Prelude.{option_to_list}
-use Rattle.std.specs.Io.KnownBytes.{Appends}
-use Rattle.std.proofs.lemmas.Bool.{cases_Bool}
-use Rattle.rtcm_bits.specs.Device.{AppendsPrefix}
-use Rattle.rtcm_bits.specs.Prefix.{IsPrefix}
-use Rattle.obs_epoch.specs.declared.taken.Kind.{Kind}
-use Rattle.gnss_obs.specs.Values.{Closed}
-use Rattle.obs_epoch.specs.Heard.{GatherSetup, Heard}
-use Rattle.obs_epoch.specs.Kinds.{is_close_first}
-use Rattle.obs_epoch.specs.Gather.{Gathered}
-use Rattle.obs_epoch.specs.Gathering.{HasGatheredEpochs, IsAwaited, closed_by, closed_in, plan_in, closed_epochs, known_epochs}
-use Rattle.rtcm_convert.specs.Converted.{SetupValue, text_with}
-use Rattle.rtcm_convert.specs.Fed.{AppendsBetween, AppendsPrefixBetween}
-use Rattle.rtcm_convert.specs.Filed.{added, epochs_after, values_after, HasFiledEpochs}
-use Rattle.rtcm_convert.specs.declared.file_writer.FileWriter.{FileWriter}
 use Rattle.rtcm_convert.proofs.PartLemmas.{goes_on-by, breaks_off-by, breaks_off-before}
 use Rattle.rtcm_convert.proofs.TextLemmas.{last, text-closed, count-closed, last-closed, text-more}
+use Rattle.rtcm_convert.proofs.Names.{option_to_list, Appends, cases_Bool, AppendsPrefix, IsPrefix, Kind, Closed, GatherSetup, Heard, is_close_first, Gathered, HasGatheredEpochs, IsAwaited, closed_by, closed_in, plan_in, closed_epochs, known_epochs, SetupValue, text_with, AppendsBetween, AppendsPrefixBetween, added, epochs_after, values_after, HasFiledEpochs, FileWriter}
 
 -- the contract of the gatherer for a message that was passed to it
 pub record Took (old new : Gathered) (kind : Kind) (m : Heard) : Type 0 where

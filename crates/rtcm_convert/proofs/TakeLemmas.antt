@@ -1,32 +1,10 @@
 -- A message and a frame that are processed whole.
 use Rattle.std.proofs.Common.{◌≡◌, ℕ, List, [], ◌∷◌, ◌++◌, true, false, refl, sym, ap, subst, ◌∙◌, Option, Some, None, Result, Ok, Err, IfOk, OnOk, append-nil, append_assoc, ◌+◌, arith}
-use Rattle.std.specs.Prelude.{sum_by}
-use Rattle.std.proofs.lemmas.Grind.{common_steps}
-use Rattle.std.proofs.lemmas.List.Elements.{filter_map-append}
-use Rattle.std.proofs.lemmas.List.Sums.{sum_by-append}
-use Rattle.rtcm_bits.specs.Device.{AppendsPrefix}
-use Rattle.rtcm_scan.specs.Frames.{Framed}
-use Rattle.rtcm_msg.specs.declared.message.Message.{Message}
-use Rattle.rtcm_msg.specs.declared.fault.MsgFault.{MsgFault}
-use Rattle.rtcm_msg.specs.Decoding.{message_at}
-use Rattle.rtcm_msg.specs.Encoding.{IsMessage}
-use Rattle.obs_epoch.specs.declared.taken.Kind.{Kind}
-use Rattle.gnss_obs.specs.Values.{Closed}
-use Rattle.obs_epoch.specs.Heard.{GatherSetup, Heard, heard}
-use Rattle.obs_epoch.specs.Kinds.{is_close_first, kind_of}
-use Rattle.obs_epoch.specs.Gather.{Gathered}
-use Rattle.obs_epoch.specs.Gathering.{HasGatheredEpochs, IsAwaited, closed_by, closed_in, plan_in, closed_epochs, all_epochs, known_epochs}
-use Rattle.rtcm_convert.specs.Converted.{SetupValue, text_with, so_far, file, messages_of, heard_in}
-use Rattle.rtcm_convert.specs.Outcomes.{outcome, outcomes, outcomes_after, capped, capped_tally, tallies_added, sum_of_counts, tally_of, tally_of_one, IsFew, AreFew}
-use Rattle.rtcm_convert.specs.Fed.{AppendsBetween, AppendsPrefixBetween}
-use Rattle.rtcm_convert.specs.Filed.{added, HasFiledEpochs, Settled, HasFiledFrames}
-use Rattle.rtcm_convert.specs.Steps.{EndsFile}
-use Rattle.rtcm_convert.specs.declared.tally.Tally.{Tally}
-use Rattle.rtcm_convert.specs.declared.file_writer.FileWriter.{FileWriter}
 use Rattle.rtcm_convert.proofs.PartLemmas.{goes_on-refl, goes_on-trans, breaks_off-after, breaks_off-by}
 use Rattle.rtcm_convert.proofs.TextLemmas.{cap_more, count, last, text-closed}
 use Rattle.rtcm_convert.proofs.ExactLemmas.{few_more, message_few, refused_few}
 use Rattle.rtcm_convert.proofs.StepLemmas.{Wrote, wrote_all, part_of}
+use Rattle.rtcm_convert.proofs.Names.{sum_by, common_steps, filter_map-append, sum_by-append, AppendsPrefix, Framed, Message, MsgFault, message_at, IsMessage, Kind, Closed, GatherSetup, Heard, heard, is_close_first, kind_of, Gathered, HasGatheredEpochs, IsAwaited, closed_by, closed_in, plan_in, closed_epochs, all_epochs, known_epochs, SetupValue, text_with, so_far, file, messages_of, heard_in, outcome, outcomes, outcomes_after, capped, capped_tally, tallies_added, sum_of_counts, tally_of, tally_of_one, IsFew, AreFew, AppendsBetween, AppendsPrefixBetween, added, HasFiledEpochs, Settled, HasFiledFrames, EndsFile, Tally, FileWriter}
 
 -- the epochs written after these, and their text
 abbrev pub Written : FileWriter → SetupValue → List Heard → Option Heard → Option (List ℕ) → Option (List ℕ) → List Closed → Type 0

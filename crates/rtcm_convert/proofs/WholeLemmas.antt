@@ -1,21 +1,6 @@
 -- Whole streams.
 use Rattle.std.proofs.Common.{◌≡◌, ℕ, ◌+◌, ◌<◌, ◌≤◌, ◌⊎◌, inl, inr, refl, List, [], ◌++◌, sym, ap, subst, ◌∙◌, arith, Option, Some, None, Result, Ok, Err, IfOk, length, take}
-use Rattle.std.specs.Prelude.{IfSome, Vec}
-use Rattle.std.specs.Io.KnownBytes.{Appends, Consumes}
-use Rattle.std.proofs.KnownBytes.{Appends-trans}
-use Rattle.rtcm_scan.specs.Frames.{frames_of}
-use Rattle.rtcm_scan.specs.Decided.{decided_frames}
-use Rattle.rtcm_convert.specs.Converted.{SetupValue, so_far, file, epochs_in}
-use Rattle.rtcm_convert.specs.Fed.{AppendsBetween, AppendsPrefixBetween}
-use Rattle.rtcm_convert.specs.Laws.{NothingYet}
-use Rattle.rtcm_convert.specs.Stream.{AppendsDecided}
-use Rattle.rtcm_convert.specs.SetupValues.{Start, start_value}
-use Rattle.rtcm_convert.specs.Readable.{HasValue}
-use Rattle.rtcm_convert.specs.Made.{IsMade, IsMadeEmpty, IsMadeWith, IsMadeToLimit, AreMadeToLimit}
-use Rattle.rtcm_convert.specs.Pieces.{StopsInPieces}
-use Rattle.rtcm_convert.specs.Broken.{IsBetween, IsBetweenDecidedAndWhole, IsBroken, FailedWriting, FailedWritingAtEnd, BrokeInPieces, joined_pieces, of_first}
-use Rattle.rtcm_convert.specs.Conversion.{Conversion, HasConverted, WritesAdded, CutsAtLimit, IsPastLimit, Completed, CompletedEmpty, CompletesFile, CompletesEmptyFile, FailsAtPiece, FailsAtEnd, RanToLimit, FailsFeeding, FailsFinishing}
-use Rattle.rtcm_convert.specs.declared.report.Report.{Report}
+use Rattle.rtcm_convert.proofs.Names.{IfSome, Vec, Appends, Consumes, Appends-trans, frames_of, decided_frames, SetupValue, so_far, file, epochs_in, AppendsBetween, AppendsPrefixBetween, NothingYet, AppendsDecided, Start, start_value, HasValue, IsMade, IsMadeEmpty, IsMadeWith, IsMadeToLimit, AreMadeToLimit, StopsInPieces, IsBetween, IsBetweenDecidedAndWhole, IsBroken, FailedWriting, FailedWritingAtEnd, BrokeInPieces, joined_pieces, of_first, Conversion, HasConverted, WritesAdded, CutsAtLimit, IsPastLimit, Completed, CompletedEmpty, CompletesFile, CompletesEmptyFile, FailsAtPiece, FailsAtEnd, RanToLimit, FailsFeeding, FailsFinishing, Report}
 
 pub from_nothing : NothingYet → (a b : Option (List ℕ)) (s : SetupValue) (y : List ℕ) → AppendsBetween a b (so_far s (decided_frames [])) y → Appends a b y
 from_nothing nothing a b s y g =

@@ -1,6 +1,4 @@
-use Rattle.rtcm_scan.specs.Frames.{frames_of}
-use Rattle.rtcm_scan.specs.Decided.{decided_frames}
-use Rattle.rtcm_convert.specs.SetupValues.{setup_value_at}
+use Rattle.rtcm_convert.proofs.Names.{frames_of, decided_frames, setup_value_at}
 use Rattle.rtcm_convert.proofs.laws.read_back.Goals as goal
 
 pub returns-clause-file : goal.returns-clause-file

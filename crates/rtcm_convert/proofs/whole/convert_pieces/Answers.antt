@@ -1,13 +1,8 @@
-use Rattle.gnss_obs.specs.Values.{no_values}
 use Rattle.std.proofs.Common.{Some, refl}
-use Rattle.rtcm_convert.specs.Conversion.{LeftBy}
-use Rattle.rtcm_convert.specs.Faults.{IsPiecesFault}
-use Rattle.rtcm_convert.specs.declared.fault.Fault.TheVariants.{BadSetup, Read, TooLong, Write, NoEpoch, Failed, Finished}
 use Rattle.rtcm_convert.proofs.FaultLemmas.{of_pieces, pieces_known, never, not_of_setup, not_err, setup_only, setup_sent, setup_writer}
 use Rattle.rtcm_convert.proofs.PartLemmas.{same_fault}
-use Rattle.rtcm_convert.specs.Broken.{joined_pieces}
-use Rattle.rtcm_convert.specs.SetupValues.{setup_value, start_zero}
 use Rattle.rtcm_convert.proofs.WholeLemmas.{run_made, run_empty, pieces_cut, pieces_failed}
+use Rattle.rtcm_convert.proofs.Names.{no_values, LeftBy, IsPiecesFault, BadSetup, Read, TooLong, Write, NoEpoch, Failed, Finished, joined_pieces, setup_value, start_zero}
 use Rattle.rtcm_convert.proofs.whole.convert_pieces.Goals as goal
 
 pub returns-in-Ok-clause-made : goal.returns-in-Ok-clause-made

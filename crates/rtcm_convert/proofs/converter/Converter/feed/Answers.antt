@@ -1,12 +1,10 @@
 use Rattle.std.proofs.Common.{ℕ, ◌≤◌, ◌∙◌, sym, subst, refl, inl, inr, length}
-use Rattle.rtcm_convert.specs.declared.fault.Fault.TheVariants.{TooLong, Write}
 use Rattle.rtcm_convert.proofs.FaultLemmas.{not_err, only_too_long, only_write}
 use Rattle.rtcm_convert.proofs.RefusalLemmas.{refused_going, refused_is, refused_only, refused_sent, refused_writer, not_refused, none_taken}
-use Rattle.rtcm_scan.specs.Passing.{up_to_limit}
-use Rattle.rtcm_convert.specs.Conversion.{Conversion, IsGoing}
 use Rattle.rtcm_convert.proofs.FeedLemmas.{with_flags, long_of, sink_of, fed_whole, fed_fit, failed_fit, fed_long, fed_part}
 use Rattle.rtcm_convert.proofs.RunLemmas.{going_on}
 use Rattle.rtcm_convert.proofs.StreamLemmas.{piece_fine, piece_failed}
+use Rattle.rtcm_convert.proofs.Names.{TooLong, Write, up_to_limit, Conversion, IsGoing}
 use Rattle.rtcm_convert.proofs.converter.Converter.feed.Goals as goal
 
 pub returns-in-Some : goal.returns-in-Some

@@ -1,16 +1,6 @@
 use Rattle.std.proofs.Common.{◌≡◌, ◌≤◌, ◌^◌, ℕ, List, [], subst, refl, sym, inl, inr, arith, true≢false, ap, Result, Ok, Err}
-use Rattle.gnss_obs.specs.GatheredEpochs.{AreStationValues}
-use Rattle.rtcm_convert.specs.SetupValues.{Start, start_at, start_value, IsBadAt, IsBadStart}
 use Rattle.rtcm_convert.proofs.converter.Converter.new_at.Goals.{then-setup-gt-MOST_BYTES-via-then-setup-gt-MOST_BYTES, then-setup-gt-MOST_BYTES-via-else-setup-gt-MOST_BYTES+then-not-fits_message}
-use Rattle.rtcm_scan.specs.Decided.{decided_frames, frames_before}
-use Rattle.rtcm_scan.specs.Drained.{IsDrained}
-use Rattle.rtcm_scan.specs.Examined.{HasExamined, IsCountedExactly}
-use Rattle.rtcm_scan.specs.Frames.{Framed, frames_of, frames_from}
-use Rattle.rtcm_scan.specs.Known.{known_frames}
-use Rattle.rtcm_scan.specs.Results.{new_scan}
-use Rattle.rtcm_scan.specs.Scan.{FramerValue}
-use Rattle.rtcm_convert.specs.Filed.{HasFiledFrames}
-use Rattle.rtcm_convert.specs.Stream.{HasDrained}
+use Rattle.rtcm_convert.proofs.Names.{AreStationValues, Start, start_at, start_value, IsBadAt, IsBadStart, decided_frames, frames_before, IsDrained, HasExamined, IsCountedExactly, Framed, frames_of, frames_from, known_frames, new_scan, FramerValue, HasFiledFrames, HasDrained}
 use Rattle.rtcm_convert.proofs.converter.Converter.new_at.Goals as goal
 
 bad_start : (x : Start) → AreStationValues x.initial → x.setup.limit ≤ 2 ^ 48 → IsBadAt x → IsBadStart x.setup

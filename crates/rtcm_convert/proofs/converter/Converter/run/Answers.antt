@@ -1,13 +1,10 @@
 use Rattle.std.proofs.Common.{◌≡◌, ◌∙◌, None, sym, subst, refl, inl, inr}
-use Rattle.rtcm_scan.specs.Passing.{up_to_limit}
-use Rattle.rtcm_convert.specs.Conversion.{Conversion, IsGoing, LeftBy, refusal}
-use Rattle.rtcm_convert.specs.Faults.{IsFinishFault}
-use Rattle.rtcm_convert.specs.declared.fault.Fault.TheVariants.{NoEpoch, TooLong, Read, Write}
 use Rattle.rtcm_convert.proofs.FaultLemmas.{never, of_finish, finish_known, sent_finished, finish_reader, finish_left, writer_after, only_read, only_too_long, only_write}
 use Rattle.rtcm_convert.proofs.FeedLemmas.{with_flags, read_of, long_of, sink_of, fed_fit, failed_fit}
 use Rattle.rtcm_convert.proofs.RefusalLemmas.{refused_going, refused_is, refused_only, refused_sent, refused_writer, refused_reader, not_refused}
 use Rattle.rtcm_convert.proofs.RunLemmas.{going_on, ran_whole, ran_empty, run_finishing, rest_taken, rest_faulty, rest_long, rest_part, rest_device}
 use Rattle.rtcm_convert.proofs.StreamLemmas.{piece_fine}
+use Rattle.rtcm_convert.proofs.Names.{up_to_limit, Conversion, IsGoing, LeftBy, refusal, IsFinishFault, NoEpoch, TooLong, Read, Write}
 use Rattle.rtcm_convert.proofs.converter.Converter.run.Goals as goal
 
 pub returns-in-Some : goal.returns-in-Some

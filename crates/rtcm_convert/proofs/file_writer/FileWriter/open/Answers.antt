@@ -1,9 +1,6 @@
 use Rattle.std.proofs.Common.{◌∙◌, List, ℕ, sym, refl}
-use Rattle.std.specs.Prelude.{OnErr, OnOk}
-use Rattle.std.specs.Io.KnownBytes.{Appends}
-use Rattle.std.proofs.KnownBytes.{Appends-nil}
-use Rattle.rtcm_bits.specs.Device.{AppendsPrefix}
 use Rattle.rtcm_convert.proofs.TextLemmas.{opening_first, opening_later}
+use Rattle.rtcm_convert.proofs.Names.{OnErr, OnOk, Appends, Appends-nil, AppendsPrefix}
 use Rattle.rtcm_convert.proofs.file_writer.FileWriter.open.Goals as goal
 
 pub returns-in-None : goal.returns-in-None

@@ -1,6 +1,5 @@
-use Rattle.obs_epoch.specs.Heard.{heard}
-use Rattle.rtcm_msg.specs.Viewed.{viewed_message}
 use Rattle.rtcm_convert.proofs.StepLemmas.{Took, wrote_all, wrote_part}
+use Rattle.rtcm_convert.proofs.Names.{heard, viewed_message}
 use Rattle.rtcm_convert.proofs.file_writer.FileWriter.step.Goals as goal
 
 pub returns-in-Err-clause-part : goal.returns-in-Err-clause-part

@@ -1,9 +1,6 @@
 use Rattle.std.proofs.Common.{sym, None}
-use Rattle.std.proofs.lemmas.Result.{on_err_weaker}
-use Rattle.obs_epoch.specs.Heard.{heard}
-use Rattle.rtcm_msg.specs.Viewed.{viewed_message}
-use Rattle.obs_epoch.specs.Gathering.{closed_epochs}
 use Rattle.rtcm_convert.proofs.TakeLemmas.{settle, taken_again, kind_again, part_alone, part_again}
+use Rattle.rtcm_convert.proofs.Names.{on_err_weaker, heard, viewed_message, closed_epochs}
 use Rattle.rtcm_convert.proofs.file_writer.FileWriter.take_message.Goals as goal
 
 pub returns-in-Err-clause-part : goal.returns-in-Err-clause-part

@@ -1,7 +1,6 @@
 use Rattle.std.proofs.Common.{ℕ, ◌∙◌, refl, sym, subst}
-use Rattle.rtcm_bits.specs.Device.{HasFailed}
-use Rattle.obs_epoch.specs.Gathering.{closed_in}
 use Rattle.rtcm_convert.proofs.TextLemmas.{open_lent, part_lent}
+use Rattle.rtcm_convert.proofs.Names.{HasFailed, closed_in}
 use Rattle.rtcm_convert.proofs.file_writer.FileWriter.write_closed.Goals as goal
 
 pub returns-in-Err : goal.returns-in-Err

@@ -1,7 +1,5 @@
 use Rattle.std.proofs.Common.{sym, ap, refl, ◌∙◌}
-use Rattle.rtcm_msg.specs.Decoding.{message_at}
-use Rattle.rtcm_msg.specs.Viewed.{viewed_message}
-use Rattle.rtcm_scan.specs.Results.{framed}
+use Rattle.rtcm_convert.proofs.Names.{message_at, viewed_message, framed}
 use Rattle.rtcm_convert.proofs.StreamLemmas as sink
 use Rattle.rtcm_convert.proofs.TakeLemmas as writer
 use Rattle.rtcm_convert.proofs.stream.FileWriterFrameSinkCounted.take.Goals as goal
