@@ -12,6 +12,7 @@ pub mod EightLemmas
 pub mod SixteenLemmas
 pub mod WordLemmas
 pub mod WindowLemmas
+pub mod LookLemmas
 pub mod DeviceLemmas
 pub mod BufferLemmas
 pub mod Examples

@@ -1,13 +1,10 @@
 -- The calls of a window and its ring, as the contracts state them.
-use Rattle.std.proofs.Common.{◌≡◌, ℕ, ◌+◌, ◌-◌, ◌*◌, ◌<◌, ◌≤◌, min, max, List, [], ◌∷◌, ◌++◌, length, take, drop, replicate, get_or, slice_index, slice_index_or, slice_range, slice_set, refl, sym, ap, ◌∙◌, arith, suc, zero, length-append, length-drop, ⊎_elim}
+use Rattle.std.proofs.Common.{◌≡◌, ℕ, ◌+◌, ◌-◌, ◌<◌, ◌≤◌, min, max, List, [], ◌++◌, length, take, drop, slice_index, slice_range, slice_set, refl, sym, ap, ◌∙◌, arith, suc, zero, length-drop, ⊎_elim}
 use Rattle.std.proofs.lemmas.Bool.{cases_lt}
-use Rattle.std.proofs.lemmas.List.{append-nil, drop-append-le, drop-set-add, get_or-drop, get_or_default, length-replicate, take_all, take_rest, take-append-le}
-use Rattle.std.proofs.lemmas.List.Elements.{All-append, All-push, All-nil}
+use Rattle.std.proofs.lemmas.List.{append-nil, drop-append-le, drop-set-add, get_or-drop, take_all, take_rest, take-append-le}
 use Rattle.std.proofs.Math.Seq.{take-append-add, drop-append-add}
-use Rattle.std.specs.List.{All}
 use Rattle.circular_buffer.specs.Buffer.{Buffer, buffer}
-use Rattle.rtcm_bits.specs.FrameOf.{longest_frame}
-use Rattle.rtcm_bits.specs.Window.{WindowValue, held_of, counts_alone, looked, looked_through, pushed_all}
+use Rattle.rtcm_bits.specs.Window.{held_of, counts_alone, looked_through}
 
 -- the counts of a range don't depend on the bytes, nor on the sum of all looks
 pub through_counts : (b xs : List ℕ) (e m start n : ℕ) → e ≤ 18446744073709551615 →
@@ -32,7 +29,7 @@ one_more ys zs f j k m m' e a b =
     )
 
 -- looks at the counts after the first f
-shifted : (xs : List ℕ) (f m start n : ℕ)
+pub shifted : (xs : List ℕ) (f m start n : ℕ)
     → (drop f (looked_through (counts_alone xs m) (f + start) n).looks ≡ (looked_through (counts_alone (drop f xs) m) start n).looks)
     × ((looked_through (counts_alone xs m) (f + start) n).most ≡ (looked_through (counts_alone (drop f xs) m) start n).most)
 shifted xs f m start zero = (refl, refl)
@@ -40,23 +37,6 @@ shifted xs f m start (suc n) =
     let r = shifted xs f m start n in
     one_more (looked_through (counts_alone xs m) (f + start) n).looks (looked_through (counts_alone (drop f xs) m) start n).looks f (f + start + n) (start + n)
     (looked_through (counts_alone xs m) (f + start) n).most (looked_through (counts_alone (drop f xs) m) start n).most (omega arith) r.0 r.1
-
--- one more look at the byte at i
-pub view_look : (bs xs : List ℕ) (f e e' m m' i c d : ℕ) (w : WindowValue) → held_of bs (drop f xs) e m ≡ w → f + i < length xs
-    → d ≡ slice_index_or xs (f + i) d → c ≡ min (d + 1) 65535 → e' ≡ min (e + 1) 18446744073709551615 → m' ≡ max m c
-    → held_of bs (drop f (slice_set xs (f + i) c)) e' m' ≡ looked w i
-view_look bs xs f e e' m m' i c d w v h p q r s =
-    let o = one_more xs (drop f xs) f (f + i) i m m refl refl refl in
-    let g : c ≡ min (slice_index xs (f + i) + 1) 65535 = q ∙ ap (λ (n : ℕ). min (n + 1) 65535) (p ∙ get_or_default xs (f + i) d 0 h) in
-    rw (s, r, g, o.0, o.1) (ap (λ (u : WindowValue). looked u i) v)
-
--- one more look at each byte of a range
-pub view_looked : (bs xs ys : List ℕ) (f e e' m m' start n : ℕ) (w : WindowValue) → held_of bs (drop f xs) e m ≡ w → e ≤ 18446744073709551615
-    → ys ≡ (looked_through (counts_alone xs m) (f + start) n).looks → m' ≡ (looked_through (counts_alone xs m) (f + start) n).most
-    → e' ≡ min (e + n) 18446744073709551615 → held_of bs (drop f ys) e' m' ≡ looked_through w start n
-view_looked bs xs ys f e e' m m' start n w v h y k i =
-    let s = shifted xs f m start n in
-    rw (y, k, i, s.0, s.1) (sym (through_counts bs (drop f xs) e m start n h)) ∙ ap (λ (u : WindowValue). looked_through u start n) v
 
 -- a range of two consecutive lists: inside the first, across both, inside the second
 pub range_first : (f b : List ℕ) (s n : ℕ) → s + n ≤ length f → take (s + n - s) (drop s f) ++ [] ≡ slice_range (f ++ b) s (s + n)
@@ -91,47 +71,9 @@ range_past f b s n from e l =
     (λ (k : length f ≤ s). range_second f b s n from (length f - from) (s + n - length f - (s - from)) (s - from) k (grind (arith, e, l, k)) (grind (arith, e, l, k)) (grind (arith, e, k)))
     (cases_lt s (length f)))
 
-abbrev pub AreBytes : List ℕ → Type 0
-AreBytes xs = All (λ (b : ℕ). b < 256) xs
-
-pub one_byte : (b : ℕ) → b < 256 → AreBytes (b ∷ [])
-one_byte b h = All-push (λ (b : ℕ). b < 256) [] b (All-nil (λ (b : ℕ). b < 256)) h
-
-pub are_bytes : (xs : List ℕ) → ((i : ℕ) → get_or xs i 0 < 256) → AreBytes xs
-are_bytes xs h = λ k d l. let e : get_or xs k d ≡ get_or xs k 0 = get_or_default xs k d 0 l in rw e (h k)
-
 -- a ring that has room takes all
 pub all_taken : (b b' : Buffer ℕ) (more : List ℕ) (n : ℕ) → length b.items + length more ≤ b.capacity → n ≡ min (length more) (b.capacity - length b.items)
     → b' ≡ buffer (b.items ++ take n more) b.capacity → b' ≡ buffer (b.items ++ more) b.capacity
 all_taken b b' more n h e g =
     let k : n ≡ length more = grind (arith, e, h) in
     g ∙ ap (λ (t : List ℕ). buffer (b.items ++ t) b.capacity) (ap (λ (q : ℕ). take q more) k ∙ take_all (length more) more (omega arith))
-
--- as many counts as before, of which other ones are dropped
-pub same_count : (r f n : ℕ) (cs xs : List ℕ) → drop r cs ≡ drop f xs → r ≤ length cs → length xs ≡ f + n → length cs ≡ r + n
-same_count r f n cs xs e h g =
-    let l : length cs - r ≡ length xs - f = sym (length-drop r cs) ∙ ap length e ∙ length-drop f xs in
-    omega (arith, l, h, g)
-
--- the number of counts after more of them
-pub grown_count : (cs ys : List ℕ) (l k n : ℕ) → l ≡ length cs → k ≡ l + n → ys ≡ take k cs ++ replicate (k - l) 0 → length ys ≡ length cs + n
-grown_count cs ys l k n h g e =
-    let t : take k cs ≡ cs = take_all k cs (omega (arith, h, g)) in
-    ap length (e ∙ ap (λ (q : List ℕ). q ++ replicate (k - l) 0) t) ∙ omega (arith, length-append cs (replicate {A = ℕ} (k - l) 0), length-replicate {A = ℕ} (k - l) 0, g)
-
--- the bytes and counts after a push
-pub still_fits : (b b' : Buffer ℕ) (more ys : List ℕ) (r v : ℕ) → b' ≡ buffer (b.items ++ more) b.capacity → b.capacity ≡ 8 * longest_frame → AreBytes b.items → AreBytes more
-    → length b.items + length more ≤ longest_frame → 8 * longest_frame ≤ v → length ys ≤ 8 * longest_frame → length ys ≡ r + length b.items + length more
-    → (b'.capacity ≡ 8 * longest_frame) × (8 * longest_frame ≤ v) × (length b'.items ≤ longest_frame) × (length ys ≤ 8 * longest_frame) × (length ys ≡ r + length b'.items) × AreBytes b'.items
-still_fits b b' more ys r v x k a z h i j l =
-    rw x (k, i, omega (arith, h, length-append b.items more), j, omega (arith, l, length-append b.items more), All-append (λ (b : ℕ). b < 256) b.items more a z)
-
--- more bytes, each with no look
-pub view_grown : (b b' : Buffer ℕ) (more xs cs ys : List ℕ) (r f k l e m : ℕ) (w : WindowValue) → held_of b.items (drop f xs) e m ≡ w → b' ≡ buffer (b.items ++ more) b.capacity
-    → drop r cs ≡ drop f xs → r ≤ length cs → l ≡ length cs → k ≡ l + length more → ys ≡ take k cs ++ replicate (k - l) 0 → held_of b'.items (drop r ys) e m ≡ pushed_all w more
-view_grown b b' more xs cs ys r f k l e m w v x d h i j g =
-    let z : k - l ≡ length more = omega (arith, j) in
-    let t : take k cs ≡ cs = take_all k cs (omega (arith, i, j)) in
-    let y : ys ≡ cs ++ replicate (length more) 0 = g ∙ ap (λ (n : ℕ). take k cs ++ replicate n 0) z ∙ ap (λ (q : List ℕ). q ++ replicate (length more) 0) t in
-    let p : drop r (cs ++ replicate (length more) 0) ≡ drop r cs ++ replicate (length more) 0 = drop-append-le r cs (replicate (length more) 0) h in
-    rw (x, y, p, d) refl ∙ ap (λ (u : WindowValue). pushed_all u more) v

@@ -1,8 +1,8 @@
 //! Looks at the bytes of a window.
-ghost use Rattle.std.specs.Prelude.{◌≡◌, ◌≢◌, ◌+◌, ◌*◌, ◌<◌, ◌≤◌, ◌++◌, ℕ, length, drop, slice_index, slice_range, max};
+ghost use Rattle.std.specs.Prelude.{◌≡◌, ◌≢◌, ◌+◌, ◌-◌, ◌*◌, ◌<◌, ◌≤◌, ◌++◌, ℕ, length, drop, slice_index, slice_range, max};
 ghost use Rattle.std.specs.Vec.{vec_capacity};
 ghost use Rattle.rtcm_bits.specs.FrameOf.{longest_frame};
-ghost use Rattle.rtcm_bits.specs.Window.{looked_through, counts_alone};
+ghost use Rattle.rtcm_bits.specs.Window.{looked_through, counts_alone, filled_up};
 
 use crate::framing::LONGEST_FRAME;
 
@@ -29,7 +29,7 @@ pub(crate) fn look_at_each(counts: &mut [u16], start: usize, n: usize, greatest:
 /// Makes room for `n` more counts after those of the bytes in the window, which are the ones from
 /// index `first` on, and returns their first index then.
 #[inline(always)]
-pub(crate) fn make_room(counts: &mut Vec<u16>, first: usize, n: usize) -> usize
+fn make_room(counts: &mut Vec<u16>, first: usize, n: usize) -> usize
     requires within { (first ≤ length counts.old.items) × (length counts.old.items ≤ 8 * longest_frame) }
     requires few { length counts.old.items + n ≤ first + longest_frame }
     ensures counts { drop result counts.new.items ≡ drop first counts.old.items }
@@ -54,6 +54,29 @@ fn remove_front(counts: &mut Vec<u16>, n: usize)
     let len = counts.len();
     counts.as_mut_slice().copy_within(n..len, 0);
     counts.truncate(len - n);
+}
+
+/// Appends the counts of the bytes looked at once, and of more bytes up to `end` after index
+/// `first`, and returns the index of the first count then.
+pub(crate) fn spell_out(counts: &mut Vec<u16>, first: usize, once: usize, end: usize) -> usize
+    requires within { (first ≤ length counts.old.items) × (length counts.old.items ≤ 8 * longest_frame) }
+    requires few { (length counts.old.items + once ≤ first + longest_frame) × (end ≤ longest_frame) }
+    requires capacity { 8 * longest_frame ≤ vec_capacity counts.old }
+    ensures counts { drop result counts.new.items ≡ filled_up (drop first counts.old.items) once
+        (max end (length counts.old.items - first + once)) }
+    ensures room { length counts.new.items ≤ 8 * longest_frame }
+    ensures size { length counts.new.items ≡ result + max end (length counts.old.items - first + once) }
+    ensures capacity { 8 * longest_frame ≤ vec_capacity counts.new }
+{
+    let rest = end.saturating_sub(counts.len() - first + once);
+    let place = make_room(counts, first, once + rest);
+    let Ok(()) = counts.resize(counts.len() + once, 1) else {
+        unreachable!()
+    };
+    let Ok(()) = counts.resize(counts.len() + rest, 0) else {
+        unreachable!()
+    };
+    place
 }
 
 /// Raises the greatest count if this one is above it. It stores nothing otherwise, so that a look

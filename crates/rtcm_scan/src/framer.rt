@@ -379,9 +379,8 @@ impl Framer {
         ensures taken { self.new
             ≡ with_window self.old (without_front (looked_through (window_of self.old) 3 (size - 6)) size) 0 }
     {
-        self.window.hand_over(3, size - 6, message);
         let offset = self.place;
-        self.window.drop_front(size);
+        self.window.take_front(3, size - 6, size, message);
         self.candidate = Candidate::new();
         self.place += size as u64;
         offset

@@ -1,17 +1,67 @@
-use Rattle.std.proofs.Common.{List, ℕ, ◌+◌, drop, ap, ◌∙◌, rules}
+use Rattle.std.proofs.Common.{List, ℕ, ◌≡◌, ◌+◌, ◌-◌, drop, length, max, ap, ◌∙◌, rules, arith, length-drop}
 use Rattle.std.proofs.lemmas.List.{with_items_is, places}
-use Rattle.rtcm_bits.specs.Window.{held_of, looked_through, counts_alone}
-use Rattle.rtcm_bits.proofs.WindowLemmas.{view_looked}
+use Rattle.std.specs.Vec.{vec_len}
+use Rattle.rtcm_bits.specs.Window.{held_of, filled_up, looked_through, counts_alone}
+use Rattle.rtcm_bits.proofs.LookLemmas.{first_looks_at, later_looks, filled_out, looked_length}
 use Rattle.rtcm_bits.proofs.window.Window.count_looks.Goals as goal
 
-pub returns-clause-counted : goal.returns-clause-counted
-returns-clause-counted c =
+pub returns-then-start-counted-clause-counted : goal.returns-then-start-counted-clause-counted
+returns-then-start-counted-clause-counted c =
+    let i = c.self.inside in
+    let l : length i.bytes.items ≡ length c.args.self.now.bytes = ap (λ w. length w.bytes) c.self.view_is in
+    let v : vec_len i.counts ≡ length i.counts.items = i.counts.ok.0 in
+    first_looks_at i.bytes.items (drop i.first i.counts.items) i.once (length i.bytes.items) i.looks c.saturating_add-self-inside.result i.greatest c.raise.new.greatest
+    c.args.start c.args.n c.args.self.now c.self.view_is (omega (arith, v, length-drop i.first i.counts.items)) (omega (arith, l, c.requires)) (search rules) c.saturating_add-self-inside.ensures
+    (c.raise.ensures ∙ ap (λ (t : ℕ). max i.greatest t) c.min.ensures)
+
+pub returns-then-start-n-clause-counted : goal.returns-then-start-n-clause-counted
+returns-then-start-n-clause-counted c =
     let i = c.self.inside in
     let ys = c.look_at_each-self-inside.new.counts in
     let e = c.saturating_add-self-inside.result in
     let g = c.look_at_each-self-inside.result in
-    ap (λ (t : List ℕ). held_of i.bytes.items (drop i.first t) e g) (with_items_is i.counts ys (search (rules, places)))
-    ∙ view_looked i.bytes.items i.counts.items ys i.first i.looks e i.greatest g c.args.start c.args.n c.args.self.now c.self.view_is (search rules)
+    let v : vec_len i.counts ≡ length i.counts.items = i.counts.ok.0 in
+    ap (λ (t : List ℕ). held_of i.bytes.items (filled_up (drop i.first t) i.once (length i.bytes.items)) e g) (with_items_is i.counts ys (search (rules, places)))
+    ∙ later_looks i.bytes.items i.counts.items ys i.once (length i.bytes.items) i.first i.looks e i.greatest g c.args.start c.args.n c.args.self.now c.self.view_is
+    (omega (arith, v, c.self.invariant.4)) (search rules)
     (c.look_at_each-self-inside.ensures.counts ∙ ap (λ (t : List ℕ). (looked_through (counts_alone t i.greatest) (i.first + c.args.start) c.args.n).looks) c.as_mut_slice.ensures.value)
     (c.look_at_each-self-inside.ensures.greatest ∙ ap (λ (t : List ℕ). (looked_through (counts_alone t i.greatest) (i.first + c.args.start) c.args.n).most) c.as_mut_slice.ensures.value)
+    c.saturating_add-self-inside.ensures
+
+pub look_at_each-self-inside-requires-2 : goal.look_at_each-self-inside-requires-2
+look_at_each-self-inside-requires-2 c =
+    let i = c.self.inside in
+    let s = c.spell_out-self-inside in
+    let a : length c.as_mut_slice-2.result.now ≡ length s.new.counts.items = ap length c.as_mut_slice-2.ensures.value in
+    omega (arith, a, s.ensures.size)
+
+pub invariant_of-self-2 : goal.invariant_of-self-2
+invariant_of-self-2 c =
+    let i = c.self.inside in
+    let s = c.spell_out-self-inside in
+    let ys = c.look_at_each-self-inside-2.new.counts in
+    let l : length i.bytes.items ≡ length c.args.self.now.bytes = ap (λ w. length w.bytes) c.self.view_is in
+    let k : length ys ≡ length s.new.counts.items = ap length c.look_at_each-self-inside-2.ensures.counts ∙ looked_length _ _ _ c.args.n ∙ ap length c.as_mut_slice-2.ensures.value in
+    rw (with_items_is s.new.counts ys (search (rules, places)), k)
+    (c.self.invariant.0, s.ensures.capacity, c.self.invariant.2, s.ensures.room, omega (arith, s.ensures.size), omega (arith, s.ensures.size, l, c.requires, c.self.invariant), c.self.invariant.6)
+
+pub returns-clause-counted : goal.returns-clause-counted
+returns-clause-counted c =
+    let i = c.self.inside in
+    let s = c.spell_out-self-inside in
+    let cs = s.new.counts.items in
+    let ys = c.look_at_each-self-inside-2.new.counts in
+    let e = c.saturating_add-self-inside.result in
+    let g = c.look_at_each-self-inside-2.result in
+    let n = length i.bytes.items in
+    let l : length i.bytes.items ≡ length c.args.self.now.bytes = ap (λ w. length w.bytes) c.self.view_is in
+    let q : length (drop i.first i.counts.items) ≡ length i.counts.items - i.first = length-drop i.first i.counts.items in
+    let o : filled_up (drop s.result cs) 0 n ≡ filled_up (drop i.first i.counts.items) i.once n =
+    filled_out (drop i.first i.counts.items) (drop s.result cs) i.once n (max (c.args.start + c.args.n) (length i.counts.items - i.first + i.once)) s.ensures.counts (omega (arith, q)) (omega (arith, l, c.requires, c.self.invariant)) in
+    ap (λ (t : List ℕ). held_of i.bytes.items (filled_up (drop s.result t) 0 n) e g) (with_items_is s.new.counts ys (search (rules, places)))
+    ∙ later_looks i.bytes.items cs ys 0 n s.result i.looks e i.greatest g c.args.start c.args.n c.args.self.now
+    (ap (λ (t : List ℕ). held_of i.bytes.items t i.looks i.greatest) o ∙ c.self.view_is)
+    (omega (arith, s.ensures.size)) (search rules)
+    (c.look_at_each-self-inside-2.ensures.counts ∙ ap (λ (t : List ℕ). (looked_through (counts_alone t i.greatest) (s.result + c.args.start) c.args.n).looks) c.as_mut_slice-2.ensures.value)
+    (c.look_at_each-self-inside-2.ensures.greatest ∙ ap (λ (t : List ℕ). (looked_through (counts_alone t i.greatest) (s.result + c.args.start) c.args.n).most) c.as_mut_slice-2.ensures.value)
     c.saturating_add-self-inside.ensures

@@ -1,0 +1,194 @@
+-- The counts of looks of a window. Only the first ones are stored.
+use Rattle.std.proofs.Common.{◌≡◌, ℕ, ◌+◌, ◌-◌, ◌<◌, ◌≤◌, min, max, List, [], ◌∷◌, ◌++◌, length, drop, replicate, slice_index, slice_set, refl, sym, ap, ◌∙◌, arith, suc, zero, length-append, length-drop, append_assoc, ⊎_elim}
+use Rattle.std.proofs.lemmas.List.{drop-append-le, drop-replicate, drop-set-lt, get_or-append-add, get_or-append_right, get_or_append_left, get_or-replicate, get_or-set_other, length-replicate, length-set, replicate-append-replicate, set-append_left}
+use Rattle.std.proofs.lemmas.Bool.{cases_lt}
+use Rattle.std.proofs.Math.Seq.{drop-append-add, get_or-append_seam, set-append_seam}
+use Rattle.circular_buffer.specs.Buffer.{Buffer, buffer}
+use Rattle.rtcm_bits.specs.Window.{WindowValue, held_of, filled_up, counts_alone, looked_through, pushed_all, without_front}
+use Rattle.rtcm_bits.proofs.WindowLemmas.{shifted, through_counts}
+
+-- more bytes without a look
+pub filled_more : (xs : List ℕ) (o n k : ℕ) → length xs + o ≤ n → filled_up xs o (n + k) ≡ filled_up xs o n ++ replicate k 0
+filled_more xs o n k h =
+    let z : n + k - (length xs + o) ≡ n - (length xs + o) + k = omega (arith, h) in
+    let r : replicate {A = ℕ} (n - (length xs + o) + k) 0 ≡ replicate (n - (length xs + o)) 0 ++ replicate k 0 = sym (replicate-append-replicate (n - (length xs + o)) k 0) in
+    rw (z, r) (simp append_assoc)
+
+pub filled_length : (xs : List ℕ) (o n : ℕ) → length xs + o ≤ n → length (filled_up xs o n) ≡ n
+filled_length xs o n h =
+    simp (length-append, length-replicate) (omega (arith, h))
+
+-- all counts of the first bytes stored
+pub filled_out : (xs ys : List ℕ) (o n k : ℕ) → ys ≡ filled_up xs o k → length xs + o ≤ k → k ≤ n → filled_up ys 0 n ≡ filled_up xs o n
+filled_out xs ys o n k e h g =
+    let m : n ≡ k + (n - k) = omega (arith, g) in
+    let l : length (filled_up xs o k) ≡ k = filled_length xs o k h in
+    let r : filled_up xs o (k + (n - k)) ≡ filled_up xs o k ++ replicate (n - k) 0 = filled_more xs o k (n - k) h in
+    let z : n - (k + 0) ≡ n - k = omega arith in
+    rw (e, l, z) (sym (ap (filled_up xs o) m ∙ r))
+
+-- the first look at a byte after those with a count
+first_at : (ys : List ℕ) (z i : ℕ) → i ≡ length ys → (slice_index (ys ++ replicate (suc z) 0) i ≡ 0) × (slice_set (ys ++ replicate (suc z) 0) i 1 ≡ ys ++ (1 ∷ replicate z 0))
+first_at ys z i e = rw e (get_or-append_seam ys 0 (replicate z 0) 0, set-append_seam ys 0 (replicate z 0) 1)
+
+first_look : (xs : List ℕ) (o p n i : ℕ) → i ≡ length xs + o → p ≡ o + 1 → i < n
+    → (slice_index (filled_up xs o n) i ≡ 0) × (slice_set (filled_up xs o n) i 1 ≡ filled_up xs p n)
+first_look xs o p n i e f h =
+    let z : n - (length xs + o) ≡ suc (n - (length xs + (o + 1))) = omega (arith, e, h) in
+    let r : replicate {A = ℕ} (o + 1) 1 ≡ replicate o 1 ++ 1 ∷ [] = sym (replicate-append-replicate o 1 1) in
+    let k : i ≡ length (xs ++ replicate o 1) = simp (length-append, length-replicate) e in
+    let a = first_at (xs ++ replicate o 1) (n - (length xs + (o + 1))) i k in
+    let s : xs ++ (replicate o 1 ++ replicate (suc (n - (length xs + (o + 1)))) 0) ≡ (xs ++ replicate o 1) ++ replicate (suc (n - (length xs + (o + 1)))) 0 =
+    sym (append_assoc xs (replicate o 1) (replicate (suc (n - (length xs + (o + 1)))) 0)) in
+    let t : xs ++ ((replicate o 1 ++ 1 ∷ []) ++ replicate (n - (length xs + (o + 1))) 0) ≡ (xs ++ replicate o 1) ++ (1 ∷ replicate (n - (length xs + (o + 1))) 0) = simp append_assoc in
+    rw (f, z, r, s, t) a
+
+pub first_looks : (b xs : List ℕ) (o n e m k : ℕ) → length xs + o + k ≤ n → e ≤ 18446744073709551615
+    → looked_through (held_of b (filled_up xs o n) e m) (length xs + o) k ≡ held_of b (filled_up xs (o + k) n) (min (e + k) 18446744073709551615) (max m (min k 1))
+first_looks b xs o n e m zero h g =
+    let y : min (e + 0) 18446744073709551615 ≡ e = grind arith in
+    let x : max m (min 0 1) ≡ m = grind arith in
+    let z : o + 0 ≡ o = omega arith in
+    rw (y, x, z) refl
+first_looks b xs o n e m (suc k) h g =
+    let r = first_looks b xs o n e m k (omega (arith, h)) g in
+    let f = first_look xs (o + k) (o + suc k) n (length xs + o + k) (omega arith) (omega arith) (omega (arith, h)) in
+    let y : min (min (e + k) 18446744073709551615 + 1) 18446744073709551615 ≡ min (e + suc k) 18446744073709551615 = grind arith in
+    let x : max (max m (min k 1)) 1 ≡ max m (min (suc k) 1) = grind arith in
+    rw (r, f.0, f.1, y, x) refl
+
+-- looks at the stored counts
+pub looked_length : (xs : List ℕ) (m s n : ℕ) → length (looked_through (counts_alone xs m) s n).looks ≡ length xs
+looked_length xs m s zero = refl
+looked_length xs m s (suc n) = length-set (looked_through (counts_alone xs m) s n).looks (s + n) _ ∙ looked_length xs m s n
+
+one_in_front : (zs xs ys : List ℕ) (i m k : ℕ) → zs ≡ xs ++ ys → i < length xs → k ≡ m
+    → (slice_set zs i (min (slice_index zs i + 1) 65535) ≡ slice_set xs i (min (slice_index xs i + 1) 65535) ++ ys)
+    × (max k (min (slice_index zs i + 1) 65535) ≡ max m (min (slice_index xs i + 1) 65535))
+one_in_front zs xs ys i m k e h f =
+    let g : slice_index (xs ++ ys) i ≡ slice_index xs i = get_or_append_left xs ys 0 i h in
+    let p : slice_set (xs ++ ys) i (min (slice_index xs i + 1) 65535) ≡ slice_set xs i (min (slice_index xs i + 1) 65535) ++ ys = set-append_left xs ys i (min (slice_index xs i + 1) 65535) h in
+    rw (e, f, g) (p, refl)
+
+pub in_front : (xs ys : List ℕ) (m s n : ℕ) → s + n ≤ length xs
+    → ((looked_through (counts_alone (xs ++ ys) m) s n).looks ≡ (looked_through (counts_alone xs m) s n).looks ++ ys)
+    × ((looked_through (counts_alone (xs ++ ys) m) s n).most ≡ (looked_through (counts_alone xs m) s n).most)
+in_front xs ys m s zero h = (refl, refl)
+in_front xs ys m s (suc n) h =
+    let r = in_front xs ys m s n (omega (arith, h)) in
+    let l : s + n < length (looked_through (counts_alone xs m) s n).looks = omega (arith, h, looked_length xs m s n) in
+    one_in_front (looked_through (counts_alone (xs ++ ys) m) s n).looks (looked_through (counts_alone xs m) s n).looks ys (s + n)
+    (looked_through (counts_alone xs m) s n).most (looked_through (counts_alone (xs ++ ys) m) s n).most r.0 l r.1
+
+-- looks at bytes whose counts are the first of the stored ones from f on
+pub later_looks : (b xs ys : List ℕ) (o n f e e' m m' s k : ℕ) (w : WindowValue) → held_of b (filled_up (drop f xs) o n) e m ≡ w
+    → f + s + k ≤ length xs → e ≤ 18446744073709551615
+    → ys ≡ (looked_through (counts_alone xs m) (f + s) k).looks → m' ≡ (looked_through (counts_alone xs m) (f + s) k).most
+    → e' ≡ min (e + k) 18446744073709551615
+    → held_of b (filled_up (drop f ys) o n) e' m' ≡ looked_through w s k
+later_looks b xs ys o n f e e' m m' s k w v h g p q r =
+    let t = shifted xs f m s k in
+    let l : s + k ≤ length (drop f xs) = omega (arith, h, length-drop f xs) in
+    let i = in_front (drop f xs) (replicate o 1 ++ replicate (n - (length (drop f xs) + o)) 0) m s k l in
+    let j : length (looked_through (counts_alone (drop f xs) m) s k).looks ≡ length (drop f xs) = looked_length (drop f xs) m s k in
+    rw (p, q, r, t.0, t.1, ← v, through_counts b (filled_up (drop f xs) o n) e m s k g, i.0, i.1, j) refl
+
+-- without the first bytes
+drop_ones : (j o z : ℕ) → drop {A = ℕ} j (replicate o 1 ++ replicate z 0) ≡ replicate (o - j) 1 ++ replicate (z - (j - o)) 0
+drop_ones j o z = ⊎_elim
+    (λ (h : j < o).
+    let e : z - (j - o) ≡ z = omega (arith, h) in
+    rw (e, drop-append-le {A = ℕ} j (replicate o 1) (replicate z 0) (omega (arith, h, length-replicate {A = ℕ} o 1)), drop-replicate {X = ℕ} j o 1) refl)
+    (λ (h : o ≤ j).
+    let e : o - j ≡ 0 = omega (arith, h) in
+    let m : j ≡ length (replicate {A = ℕ} o 1) + (j - o) = omega (arith, h, length-replicate {A = ℕ} o 1) in
+    ap (λ (t : ℕ). drop {A = ℕ} t (replicate o 1 ++ replicate z 0)) m ∙ drop-append-add (replicate o 1) (replicate z 0) (j - o) ∙ rw (e, drop-replicate {X = ℕ} (j - o) z 0) refl)
+    (cases_lt j o)
+
+pub dropped_past : (xs : List ℕ) (o n d : ℕ) → length xs ≤ d → drop d (filled_up xs o n) ≡ filled_up [] (o - (d - length xs)) (n - d)
+dropped_past xs o n d h =
+    let m : d ≡ length xs + (d - length xs) = omega (arith, h) in
+    let z : n - (length xs + o) - (d - length xs - o) ≡ n - d - (o - (d - length xs)) = omega (arith, h) in
+    let y : n - d - (length {A = ℕ} [] + (o - (d - length xs))) ≡ n - d - (o - (d - length xs)) = omega arith in
+    ap (λ (t : ℕ). drop t (filled_up xs o n)) m
+    ∙ drop-append-add xs (replicate o 1 ++ replicate (n - (length xs + o)) 0) (d - length xs)
+    ∙ drop_ones (d - length xs) o (n - (length xs + o))
+    ∙ rw (z, y) refl
+
+-- first looks at the bytes from s on, of a window with the view w
+pub first_looks_at : (b xs : List ℕ) (o n e e' m m' s k : ℕ) (w : WindowValue) → held_of b (filled_up xs o n) e m ≡ w
+    → s ≡ length xs + o → s + k ≤ n → e ≤ 18446744073709551615 → e' ≡ min (e + k) 18446744073709551615 → m' ≡ max m (min k 1)
+    → held_of b (filled_up xs (o + k) n) e' m' ≡ looked_through w s k
+first_looks_at b xs o n e e' m m' s k w v h g f p q =
+    rw (p, q, h, ← v) (sym (first_looks b xs o n e m k (omega (arith, g, h)) f))
+
+-- more bytes in the ring
+pub view_grown : (b b' : Buffer ℕ) (more xs : List ℕ) (o e m : ℕ) (w : WindowValue) → held_of b.items (filled_up xs o (length b.items)) e m ≡ w
+    → b' ≡ buffer (b.items ++ more) b.capacity → length xs + o ≤ length b.items → held_of b'.items (filled_up xs o (length b'.items)) e m ≡ pushed_all w more
+view_grown b b' more xs o e m w v x h =
+    let l : length (b.items ++ more) ≡ length b.items + length more = length-append b.items more in
+    rw (x, l, filled_more xs o (length b.items) (length more) h, ← v) refl
+
+-- the last bytes of the ring, when no count is stored
+pub view_dropped : (b b' : Buffer ℕ) (xs ys : List ℕ) (o p e m j n : ℕ) (w : WindowValue) → held_of b.items (filled_up xs o (length b.items)) e m ≡ w
+    → b' ≡ buffer (drop j b.items) b.capacity → j ≡ n → ys ≡ [] → p ≡ o - (n - length xs) → length xs ≤ n
+    → held_of b'.items (filled_up (drop 0 ys) p (length b'.items)) e m ≡ without_front w n
+view_dropped b b' xs ys o p e m j n w v x f y q h =
+    rw (x, f, y, q, length-drop n b.items, ← dropped_past xs o (length b.items) n h, ← v) refl
+
+-- looks at bytes that are dropped next
+kept_past : (xs : List ℕ) (m s k d : ℕ) → s + k ≤ d → drop d (looked_through (counts_alone xs m) s k).looks ≡ drop d xs
+kept_past xs m s zero d h = refl
+kept_past xs m s (suc k) d h = drop-set-lt d (looked_through (counts_alone xs m) s k).looks (s + k) _ (omega (arith, h)) ∙ kept_past xs m s k d (omega (arith, h))
+
+kept_at : (xs : List ℕ) (m s k j : ℕ) → s + k ≤ j → slice_index (looked_through (counts_alone xs m) s k).looks j ≡ slice_index xs j
+kept_at xs m s zero j h = refl
+kept_at xs m s (suc k) j h = get_or-set_other (looked_through (counts_alone xs m) s k).looks (s + k) j _ 0 (omega (arith, h)) ∙ kept_at xs m s k j (omega (arith, h))
+
+seen_twice : (xs : List ℕ) (m s k : ℕ) → slice_index xs s ≡ 1 → ((j : ℕ) → slice_index xs (s + j) ≤ 1) → (looked_through (counts_alone xs m) s (suc k)).most ≡ max m 2
+seen_twice xs m s zero f g = let z : s + 0 ≡ s = omega arith in rw (z, f) refl
+seen_twice xs m s (suc k) f g =
+    let i = seen_twice xs m s k f g in
+    let a = kept_at xs m s (suc k) (s + suc k) (omega arith) in
+    let b = g (suc k) in
+    rw (i, a) (at_most m (slice_index xs (s + suc k)) b)
+  where
+    at_most : (m n : ℕ) → n ≤ 1 → max (max m 2) (min (n + 1) 65535) ≡ max m 2
+    at_most m n h = grind arith
+
+at_once : (xs : List ℕ) (o z j : ℕ) → j < o → slice_index (xs ++ (replicate o 1 ++ replicate z 0)) (length xs + j) ≡ 1
+at_once xs o z j h = get_or-append-add xs (replicate o 1 ++ replicate z 0) j 0
+    ∙ get_or_append_left (replicate o 1) (replicate z 0) 0 j (omega (arith, h, length-replicate {A = ℕ} o 1)) ∙ get_or-replicate o j 1 0 h
+
+zeros_at : (z i : ℕ) → slice_index (replicate z 0) i ≡ 0
+zeros_at zero i = refl
+zeros_at (suc z) zero = refl
+zeros_at (suc z) (suc i) = zeros_at z i
+
+at_most_once : (xs : List ℕ) (o z j : ℕ) → slice_index (xs ++ (replicate o 1 ++ replicate z 0)) (length xs + j) ≤ 1
+at_most_once xs o z j = ⊎_elim
+    (λ (h : j < o). rw (at_once xs o z j h) (omega arith))
+    (λ (h : o ≤ j).
+    let e : slice_index (xs ++ (replicate o 1 ++ replicate z 0)) (length xs + j) ≡ 0 =
+    get_or-append-add xs (replicate o 1 ++ replicate z 0) j 0
+    ∙ get_or-append_right (replicate o 1) (replicate z 0) o j 0 (length-replicate {A = ℕ} o 1) h ∙ zeros_at z (j - o) in
+    omega (arith, e))
+    (cases_lt j o)
+
+pub last_looks : (b xs : List ℕ) (o n e e' m m' s k : ℕ) (w : WindowValue) → held_of b (filled_up xs o n) e m ≡ w → length xs ≤ s → s < length xs + o
+    → 0 < k → e ≤ 18446744073709551615 → e' ≡ min (e + k) 18446744073709551615 → m' ≡ max m 2
+    → (d : ℕ) → s + k ≤ d → without_front (held_of b (filled_up xs o n) e' m') d ≡ without_front (looked_through w s k) d
+last_looks b xs o n e e' m m' s k w v h g p q r t d l =
+    let a : slice_index (filled_up xs o n) s ≡ 1 =
+    ap (λ (i : ℕ). slice_index (filled_up xs o n) i) (sum_back (length xs) s 0 h) ∙ at_once xs o (n - (length xs + o)) (s - length xs + 0) (omega (arith, h, g)) in
+    let c : (j : ℕ) → slice_index (filled_up xs o n) (s + j) ≤ 1 = λ j. rw (sum_on (length xs) s j h) (at_most_once xs o (n - (length xs + o)) (s - length xs + j)) in
+    let i : k ≡ suc (k - 1) = omega (arith, p) in
+    let f : (looked_through (counts_alone (filled_up xs o n) m) s k).most ≡ max m 2 =
+    ap (λ (u : ℕ). (looked_through (counts_alone (filled_up xs o n) m) s u).most) i ∙ seen_twice (filled_up xs o n) m s (k - 1) a c in
+    rw (r, t, ← v, through_counts b (filled_up xs o n) e m s k q, kept_past (filled_up xs o n) m s k d l, f) refl
+  where
+    sum_on : (x s j : ℕ) → x ≤ s → s + j ≡ x + (s - x + j)
+    sum_on x s j h = omega (arith, h)
+
+    sum_back : (x s j : ℕ) → x ≤ s → s ≡ x + (s - x + 0)
+    sum_back x s j h = omega (arith, h)

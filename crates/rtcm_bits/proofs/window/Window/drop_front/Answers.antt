@@ -1,0 +1,13 @@
+use Rattle.std.proofs.Common.{◌≡◌, length, drop, ap, arith, length-drop}
+use Rattle.std.specs.Vec.{vec_len}
+use Rattle.rtcm_bits.proofs.LookLemmas.{view_dropped}
+use Rattle.rtcm_bits.proofs.window.Window.drop_front.Goals as goal
+
+pub returns : goal.returns
+returns c =
+    let i = c.self.inside in
+    let l : length i.bytes.items ≡ length c.args.self.now.bytes = ap (λ w. length w.bytes) c.self.view_is in
+    let v : vec_len i.counts ≡ length i.counts.items = i.counts.ok.0 in
+    let k = length-drop i.first i.counts.items in
+    view_dropped i.bytes c.truncate_front.new.self (drop i.first i.counts.items) c.clear.new.self.items i.once c.saturating_sub-self-inside.result i.looks i.greatest _ c.args.n c.args.self.now
+    c.self.view_is c.truncate_front.ensures (omega (arith, l, c.requires)) c.clear.ensures.items (omega (arith, v, k)) (omega (arith, v, k))
