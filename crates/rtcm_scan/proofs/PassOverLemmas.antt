@@ -154,10 +154,6 @@ view_passed_on v limit place skipped tried n k w u w' ended ready e h g f l =
 pub others_held : (v : FramerValue) (bytes : List ℕ) (n : ℕ) → bytes ≡ v.held → n ≤ length bytes → ((i : ℕ) → i < n → slice_index bytes i ≢ 0xD3) → (n ≤ length v.held) × ((i : ℕ) → i < n → slice_index v.held i ≢ 0xD3)
 others_held v bytes n e l o = rw (← e) (l, o)
 
--- a candidate that has read no byte
-pub taken_nothing : (c : Candidate) (s : List ℕ) → c.count ≡ 0 → HasTaken c (take c.count s) → HasTaken c []
-taken_nothing c s e h = let a : take c.count s ≡ [] = ap (λ (k : ℕ). take k s) e in rw a at h
-
 -- the bytes left after the dropped ones
 after_bytes : (w w' : WindowValue) (n m : ℕ) → w' ≡ without_front (looked_through w 0 m) n → w'.bytes ≡ drop n w.bytes
 after_bytes w w' n m f = ap (λ (y : WindowValue). y.bytes) f ∙ ap (drop n) (looked_bytes w 0 m)

@@ -4,8 +4,8 @@ ghost use Rattle.rtcm_scan.specs.Candidate.{HasTaken, wanted_by};
 ghost use Rattle.rtcm_bits.specs.Window.{looked_through, without_front};
 ghost use Rattle.rtcm_scan.specs.Results.{ComesTo};
 
-use crate::candidate::{Candidate, PREAMBLE};
-use rtcm_bits::{Window, laws};
+use crate::candidate::Candidate;
+use rtcm_bits::{PREAMBLE, Window, laws};
 
 /// What begins at the front of the held bytes.
 #[derive(Clone, Copy)]
