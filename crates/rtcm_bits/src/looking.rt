@@ -58,6 +58,7 @@ fn remove_front(counts: &mut Vec<u16>, n: usize)
 
 /// Appends the counts of the bytes looked at once, and of more bytes up to `end` after index
 /// `first`, and returns the index of the first count then.
+#[inline(never)]
 pub(crate) fn spell_out(counts: &mut Vec<u16>, first: usize, once: usize, end: usize) -> usize
     requires within { (first ≤ length counts.old.items) × (length counts.old.items ≤ 8 * longest_frame) }
     requires few { (length counts.old.items + once ≤ first + longest_frame) × (end ≤ longest_frame) }
