@@ -11,7 +11,7 @@ ghost use Rattle.rtcm_msg.specs.ValueCounts.{entries_left, AreCells, AreAtMost, 
 
 use crate::masks::SIGNAL_MASK_BITS;
 use crate::pairs::{Pair, Pairs, split_first, split_signal, with_signals};
-use crate::view::MsmView;
+use crate::view::{Data, Form, MsmView};
 use std::marker::Model;
 
 /// Number of signal IDs.
@@ -153,6 +153,21 @@ impl<'a> MsmView<'a> {
         counts
     }
 
+    /// Returns what `count_all` does. The loop over cells is compiled for each form and kind of data,
+    /// so that it tests neither for each cell.
+    #[inline(always)]
+    fn count_by_form(&self, listed: u64) -> [u8; SIGNALS]
+        ensures counts { (i : ℕ) → i < signal_mask_bits
+            → slice_index result i ≡ value_count listed (i + 1) (entries (views.formed self.now)) }
+        ensures few { AreAtMost most_pairs result }
+    {
+        match (self.form, &self.rows) {
+            (Form::Msm4, Data::Bits(..)) => self.count_all(listed),
+            (Form::Msm7, Data::Bits(..)) => self.count_all(listed),
+            (_, Data::Packed(..)) => self.count_all(listed),
+        }
+    }
+
     /// Returns, for each signal of the message, the number of its cells that have a value and whose
     /// satellite is in the set `listed`, in which the most significant bit is satellite ID 1.
     #[inline(always)]
@@ -168,7 +183,7 @@ impl<'a> MsmView<'a> {
         let _ = self.cells();
         ValueCounts {
             signals: self.masks().signals() as u64,
-            counts: self.count_all(listed),
+            counts: self.count_by_form(listed),
         }
     }
 }
