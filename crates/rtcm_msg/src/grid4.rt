@@ -30,6 +30,9 @@ pub struct Cell4 {
     pub strength: u8,
 }
 
+/// The value of DF400 for an invalid fine pseudorange.
+pub(crate) const INVALID_RANGE4: i16 = -16384;
+
 /// The precision of MSM4: messages 1074 and 1094.
 pub struct Grid4;
 
@@ -136,7 +139,7 @@ impl Grid for Grid4 {
     ghost lock_codes = { msm.codes_of Df402 };
 
     fn range(satellite: &Satellite4, cell: &Cell4) -> Option<i64> {
-        let fine = scaled(cell.range as i32, -16384, 128);
+        let fine = scaled(cell.range as i32, INVALID_RANGE4 as i32, 128);
         range_joined(satellite.whole, satellite.fraction, fine)
     }
 

@@ -36,6 +36,9 @@ pub struct Cell7 {
     pub rate: i16,
 }
 
+/// The value of DF405 for an invalid fine pseudorange.
+pub(crate) const INVALID_RANGE7: i32 = -524288;
+
 /// The precision of MSM7: messages 1077 and 1097.
 pub struct Grid7;
 
@@ -151,7 +154,7 @@ impl Grid for Grid7 {
     ghost lock_codes = { msm.codes_of Df407 };
 
     fn range(satellite: &Satellite7, cell: &Cell7) -> Option<i64> {
-        let fine = scaled(cell.range, -524288, 4);
+        let fine = scaled(cell.range, INVALID_RANGE7, 4);
         range_joined(satellite.whole, satellite.fraction, fine)
     }
 

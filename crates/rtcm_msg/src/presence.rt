@@ -4,8 +4,8 @@ ghost use Rattle.rtcm_msg.specs.Viewed.{entry_in, rough};
 ghost use Rattle.rtcm_msg.specs.Presences.{has_rest, has_value, has_fine_range};
 
 use crate::grid::{Grid, INVALID_RANGE, ReadGrid};
-use crate::grid4::Grid4;
-use crate::grid7::Grid7;
+use crate::grid4::{Grid4, INVALID_RANGE4};
+use crate::grid7::{Grid7, INVALID_RANGE7};
 use crate::pairs::Pair;
 use crate::view::{Form, MsmView};
 
@@ -40,8 +40,8 @@ impl<'a> MsmView<'a> {
         ensures { result ≡ has_fine_range self.now.form (slice_index self.now.msm.cells i) }
     {
         match self.form() {
-            Form::Msm4 => self.cell::<Grid4>(i).range != -16384,
-            Form::Msm7 => self.cell::<Grid7>(i).range != -524288,
+            Form::Msm4 => self.cell::<Grid4>(i).range != INVALID_RANGE4,
+            Form::Msm7 => self.cell::<Grid7>(i).range != INVALID_RANGE7,
         }
     }
 

@@ -9,7 +9,6 @@ ghost use Rattle.rtcm_msg.specs.Decoding.{message_at, body_at};
 ghost use Rattle.rtcm_msg.specs.Viewed.{viewed_message, entry_in, lock_field, rough, Keeps};
 ghost use Rattle.rtcm_msg.specs.Entries.{IsEntry, entries};
 ghost use Rattle.rtcm_msg.specs.Encoding.{IsMessage};
-ghost use Rattle.rtcm_msg.specs.LastBits.{AreLast};
 ghost use Rattle.rtcm_msg.specs.Views as views;
 
 use crate::entry::{Entry, LockField, entry_of};
@@ -57,49 +56,6 @@ impl Form {
         match self {
             Form::Msm4 => (Grid4::satellite_widths(), Grid4::cell_widths()),
             Form::Msm7 => (Grid7::satellite_widths(), Grid7::cell_widths()),
-        }
-    }
-
-    /// Returns the last bits of the fields of `count` cells whose data begin at bit `place`.
-    fn last_bits(self, count: usize, place: usize) -> LastBits
-        requires few { count ≤ most_pairs }
-        requires small { place ≤ 8 * longest_message }
-        ensures count { result.count ≡ count }
-        ensures place { result.place ≡ place }
-        ensures last { AreLast (views.cell_widths self) result }
-    {
-        match self {
-            Form::Msm4 => {
-                let phase = place + count * 15;
-                let lock = phase + count * 22;
-                let half_cycle = lock + count * 4;
-                LastBits {
-                    count,
-                    place,
-                    range: place + 14,
-                    phase: phase + 21,
-                    lock: lock + 3,
-                    half_cycle,
-                    strength: half_cycle + count + 5,
-                    rate: 0,
-                }
-            }
-            Form::Msm7 => {
-                let phase = place + count * 20;
-                let lock = phase + count * 24;
-                let half_cycle = lock + count * 10;
-                let strength = half_cycle + count;
-                LastBits {
-                    count,
-                    place,
-                    range: place + 19,
-                    phase: phase + 23,
-                    lock: lock + 9,
-                    half_cycle,
-                    strength: strength + 9,
-                    rate: strength + count * 10 + 14,
-                }
-            }
         }
     }
 }
