@@ -12,7 +12,7 @@ use Rattle.rtcm_msg.specs.declared.pairs.Pair.{Pair}
 use Rattle.rtcm_bits.specs.BitLaws.{uint-low, pow_mono, length-uint}
 use Rattle.rtcm_msg.specs.Entries.{up_from, ids, pair, chosen}
 use Rattle.rtcm_msg.specs.Msm.{MasksValue, AreMasks, pair_count}
-use Rattle.rtcm_msg.specs.Pairs.{all_pairs_from, pairs_from, cell_pairs_left, IndicesAreBelow, AreLeft}
+use Rattle.rtcm_msg.specs.Pairs.{all_pairs_from, pairs_from, IndicesAreBelow, AreAll}
 use Rattle.rtcm_msg.proofs.CountLaws.{ids_count, pairs_count, cell_pairs_count}
 
 -- ---- the highest bit of a set
@@ -130,21 +130,20 @@ all_pairs_indices n gs k [] h = tt
 all_pairs_indices n gs k (x ∷ xs) h = row_indices n k x gs (all_pairs_from gs (k + 1) xs) (omega (arith, h)) (all_pairs_indices n gs (k + 1) xs (omega (arith, h)))
 
 -- Before the first pair all pairs are left.
-pub all_left : (s : MasksValue) (m n g : ℕ) → AreMasks s → m ≡ s.satellites → n ≡ s.satellites → g ≡ s.signals
-    → AreLeft (count_ones s.satellites) (count_ones n * count_ones g) (record { index = 0; satellites = m; signals = g; all = g })
-    × (length (cell_pairs_left (count_ones n * count_ones g) s (record { index = 0; satellites = m; signals = g; all = g })) ≡ count_ones s.cells)
-all_left s m n g sets e f h =
+pub all_left : (s : MasksValue) (m g : ℕ) → AreMasks s → m ≡ s.satellites → g ≡ s.signals → AreAll s (count_ones m * count_ones g) (record { index = 0; satellites = m; signals = g; all = g })
+all_left s m g sets e f =
     let all = all_pairs_from_is (ids 32 s.signals) 0 (ids 64 s.satellites) in
     let count = ids_count 64 s.satellites sets.satellites in
-    rw (e, f, h) (
-      (
+    rw (e, f) (record {
+      left = (
         ap length (sym all) ∙ pairs_count s sets,
         sets.few,
         record { satellites = sets.satellites; signals = sets.signals; all = sets.signals; index = rw (zero-add (length (ids 64 s.satellites))) (ids_few 64 s.satellites) },
         subst (IndicesAreBelow (count_ones s.satellites)) all (all_pairs_indices (count_ones s.satellites) (ids 32 s.signals) 0 (ids 64 s.satellites) (omega (arith, count))),
-      ),
-      ap (λ (ps : List Pair). length (chosen (uint (pair_count s.satellites s.signals) s.cells) ps)) (sym all) ∙ cell_pairs_count s sets,
-    )
+      );
+      cells = ap (chosen (uint (pair_count s.satellites s.signals) s.cells)) (sym all);
+      count = cell_pairs_count s sets;
+    })
 
 -- ---- cells
 

@@ -1,5 +1,5 @@
 -- Cells with a value are counted by signal.
-use Rattle.std.proofs.Common.{ℕ, zero, suc, ◌≡◌, ◌≢◌, ◌+◌, ◌-◌, ◌*◌, ◌/◌, ◌%◌, ◌==◌, ◌&&◌, ◌||◌, ◌^◌, ◌<◌, ◌≤◌, Bool, true, false, List, [], ◌∷◌, length, get_or, set, map, drop, filter, drop-cons, replicate, refl, ap, ◌∙◌, subst, arith, count_ones, inl, inr}
+use Rattle.std.proofs.Common.{ℕ, zero, suc, ◌≡◌, ◌≢◌, ◌+◌, ◌-◌, ◌/◌, ◌%◌, ◌==◌, ◌&&◌, ◌||◌, ◌^◌, ◌<◌, ◌≤◌, Bool, true, false, List, [], ◌∷◌, length, get_or, set, map, drop, filter, drop-cons, replicate, refl, ap, ◌∙◌, subst, arith, count_ones, inl, inr}
 use Rattle.std.specs.Prelude.{cond}
 use Rattle.std.specs.List.{zip, flat_map, list_any}
 use Rattle.std.proofs.lemmas.Bool.{cases_eq}
@@ -9,18 +9,18 @@ use Rattle.rtcm_bits.specs.Bits.{uint}
 use Rattle.rtcm_msg.specs.declared.entry.Entry.{Entry}
 use Rattle.rtcm_msg.specs.declared.pairs.Pair.{Pair}
 use Rattle.rtcm_msg.specs.declared.pairs.Pairs.{Pairs}
-use Rattle.rtcm_msg.specs.declared.value_counts.Cells.{Cells}
+use Rattle.rtcm_msg.specs.declared.value_counts.CellsLeft.{CellsLeft}
 use Rattle.rtcm_msg.specs.declared.view.Form.{Form}
 use Rattle.rtcm_msg.specs.declared.view.Form.TheVariants as forms
 use Rattle.rtcm_msg.specs.Msm.{MasksValue, MsmValue}
 use Rattle.rtcm_msg.specs.Entries.{ids, chosen, Rising, entries, pair, all_pairs, cell_pairs}
-use Rattle.rtcm_msg.specs.Pairs.{pairs_from, pairs_left, cell_pairs_left, ArePairs, IndicesAreBelow}
+use Rattle.rtcm_msg.specs.Pairs.{pairs_from, pairs_left, cell_pairs_left, ArePairs, HasFirst, IndicesAreBelow}
 use Rattle.rtcm_msg.specs.Viewed.{entry_in}
 use Rattle.rtcm_msg.specs.Views.{FormedMsm, formed, message_in}
 use Rattle.rtcm_msg.specs.ValueCounts.{has_listed_value, value_count, has_id, entries_left, AreCells}
 use Rattle.rtcm_msg.proofs.NextLaws.{no_more}
 use Rattle.rtcm_msg.proofs.IdLaws.{ids_rising}
-use Rattle.rtcm_msg.proofs.PairLaws.{found, passed, one_less, first_index, top_of, ids_split, all_pairs_from_is}
+use Rattle.rtcm_msg.proofs.PairLaws.{found, passed, one_less, first_index, top_of, ids_split}
 
 -- ---- pairs
 
@@ -49,7 +49,7 @@ cell_none s n l p q x is first count bit =
 pub next_there : (next n : ℕ) (ps qs : List Pair) (x : Pair) → ps ≡ x ∷ qs → length ps + next ≡ n → next < n
 next_there next n ps qs x e h = omega (arith, h, ap length e)
 
-pub after_cell : (v : FormedMsm) (c : Cells) (q : Pairs) (x : Pair) → AreCells v c → pairs_left c.pairs ≡ x ∷ pairs_left q → ArePairs q → cell_pairs_left c.left v.msm.sets c.pairs ≡ x ∷ cell_pairs_left (c.left - 1) v.msm.sets q
+pub after_cell : (v : FormedMsm) (c : CellsLeft) (q : Pairs) (x : Pair) → AreCells v c → pairs_left c.pairs ≡ x ∷ pairs_left q → ArePairs q → cell_pairs_left c.left v.msm.sets c.pairs ≡ x ∷ cell_pairs_left (c.left - 1) v.msm.sets q
     → AreCells v (record { pairs = q; left = c.left - 1; next = c.next + 1 })
 after_cell v c q x cells first in_range there = record {
   left = (
@@ -61,7 +61,7 @@ after_cell v c q x cells first in_range there = record {
   next = omega (arith, cells.next, ap length there);
 }
 
-pub after_none : (v : FormedMsm) (c : Cells) (q : Pairs) (x : Pair) → AreCells v c → pairs_left c.pairs ≡ x ∷ pairs_left q → ArePairs q → cell_pairs_left c.left v.msm.sets c.pairs ≡ cell_pairs_left (c.left - 1) v.msm.sets q
+pub after_none : (v : FormedMsm) (c : CellsLeft) (q : Pairs) (x : Pair) → AreCells v c → pairs_left c.pairs ≡ x ∷ pairs_left q → ArePairs q → cell_pairs_left c.left v.msm.sets c.pairs ≡ cell_pairs_left (c.left - 1) v.msm.sets q
     → AreCells v (record { pairs = q; left = c.left - 1; next = c.next })
 after_none v c q x cells first in_range there = record {
   left = (
@@ -78,15 +78,15 @@ row_index n k xs gs all x y ys hs e f h =
     (subst (λ (l : List ℕ). IndicesAreBelow n (pairs_from k (x ∷ ys) l all)) f (subst (λ (l : List ℕ). IndicesAreBelow n (pairs_from k l gs all)) e h)).0
 
 -- The first satellite of the pairs that are left is one of the message's.
-pub first_below : (n m : ℕ) (p : Pairs) → 0 < p.satellites → 0 < p.signals → ArePairs p → IndicesAreBelow n (pairs_left p) → n ≡ m → p.index < m
-first_below n m p s g fits h same =
-    let t = top_of 64 p.satellites s fits.satellites (omega arith) in
-    let u = top_of 32 p.signals g fits.signals (omega arith) in
+pub first_below : (n m : ℕ) (p : Pairs) → HasFirst p → ArePairs p → IndicesAreBelow n (pairs_left p) → n ≡ m → p.index < m
+first_below n m p some fits h same =
+    let t = top_of 64 p.satellites some.0 fits.satellites (omega arith) in
+    let u = top_of 32 p.signals some.1 fits.signals (omega arith) in
     rw (← same) (row_index n p.index (ids 64 p.satellites) (ids 32 p.signals) (ids 32 p.all) _ _ _ _ (ids_split 64 p.satellites _ t) (ids_split 32 p.signals _ u) h)
 
 -- ---- entries
 
-pub none_left : (v : FormedMsm) (c : Cells) → c.left ≡ 0 → entries_left v c ≡ []
+pub none_left : (v : FormedMsm) (c : CellsLeft) → c.left ≡ 0 → entries_left v c ≡ []
 unfolding chosen uint
 none_left v c e = rw e refl
 
@@ -97,15 +97,13 @@ few_entries v n same few = by v.form v.msm (omega (arith, same, few))
     by forms.Msm4 v h = omega (arith, h, no_more (entry_in forms.Msm4 v) (cell_pairs v.sets) v.cells)
     by forms.Msm7 v h = omega (arith, h, no_more (entry_in forms.Msm7 v) (cell_pairs v.sets) v.cells)
 
--- Before the first cell all cells are left.
-pub all_entries : (v : FormedMsm) (m n g : ℕ) → m ≡ v.msm.sets.satellites → n ≡ v.msm.sets.satellites → g ≡ v.msm.sets.signals
-    → entries (formed v) ≡ entries_left v (record { pairs = record { index = 0; satellites = m; signals = g; all = g }; left = count_ones n * count_ones g; next = 0 })
-all_entries v m n g e f h = rw (e, f, h) (same v.form v.msm)
+-- The entries of a message, from the pairs that have a cell.
+pub entries_are : (v : FormedMsm) (ps : List Pair) → ps ≡ cell_pairs v.msm.sets → entries (formed v) ≡ map (entry_in v.form v.msm) (zip ps v.msm.cells)
+entries_are v ps e = rw e (same v.form v.msm)
   where
-    same : (form : Form) (v : MsmValue) → entries (message_in form v)
-        ≡ map (entry_in form v) (zip (chosen (uint (count_ones v.sets.satellites * count_ones v.sets.signals) v.sets.cells) (pairs_from 0 (ids 64 v.sets.satellites) (ids 32 v.sets.signals) (ids 32 v.sets.signals))) v.cells)
-    same forms.Msm4 v = rw (← all_pairs_from_is (ids 32 v.sets.signals) 0 (ids 64 v.sets.satellites)) refl
-    same forms.Msm7 v = rw (← all_pairs_from_is (ids 32 v.sets.signals) 0 (ids 64 v.sets.satellites)) refl
+    same : (form : Form) (v : MsmValue) → entries (message_in form v) ≡ map (entry_in form v) (zip (cell_pairs v.sets) v.cells)
+    same forms.Msm4 v = refl
+    same forms.Msm7 v = refl
 
 pub zeros : (n i : ℕ) → get_or (replicate n zero) i zero ≡ zero
 zeros zero i = refl

@@ -1,11 +1,11 @@
 -- Iteration over the pairs of satellites and signals: the first ID is removed from a set.
-use Rattle.std.specs.Prelude.{◌≡◌, ℕ, ◌+◌, ◌^◌, ◌<◌, ◌≤◌, List, [], ◌∷◌, ◌++◌, map, length}
+use Rattle.std.specs.Prelude.{◌≡◌, ℕ, ◌+◌, ◌^◌, ◌<◌, ◌≤◌, List, [], ◌∷◌, ◌++◌, map, length, count_ones}
 use Rattle.std.specs.List.{flat_map, enumerate_from}
 use Rattle.rtcm_bits.specs.Bits.{uint}
 use Rattle.rtcm_msg.specs.declared.pairs.Pair.{Pair}
 use Rattle.rtcm_msg.specs.declared.pairs.Pairs.{Pairs}
 use Rattle.rtcm_msg.specs.Msm.{MasksValue, satellite_mask_bits, signal_mask_bits, most_pairs}
-use Rattle.rtcm_msg.specs.Entries.{ids, pair, chosen}
+use Rattle.rtcm_msg.specs.Entries.{ids, pair, chosen, cell_pairs}
 
 -- The pairs of these satellites, with indices from k on, with each of these signals.
 abbrev pub all_pairs_from : List ℕ → ℕ → List ℕ → List Pair
@@ -32,6 +32,10 @@ pub record ArePairs (p : Pairs) : Type 0 where
   pub all : p.all < 2 ^ signal_mask_bits
   pub index : p.index + length (ids satellite_mask_bits p.satellites) ≤ satellite_mask_bits
 
+-- The first satellite is left, with a signal.
+abbrev pub HasFirst : Pairs → Type 0
+HasFirst p = (0 < p.satellites) × (0 < p.signals)
+
 -- The index of each satellite is less than n.
 abbrev pub IndicesAreBelow : ℕ → List Pair → Type 0
 IndicesAreBelow n [] = Unit {0}
@@ -41,6 +45,12 @@ IndicesAreBelow n (x ∷ xs) = (x.index < n) × IndicesAreBelow n xs
 abbrev pub AreLeft : ℕ → ℕ → Pairs → Type 0
 AreLeft satellites left p =
     (length (pairs_left p) ≡ left) × (left ≤ most_pairs) × ArePairs p × IndicesAreBelow satellites (pairs_left p)
+
+-- All n pairs of a message are left.
+pub record AreAll (s : MasksValue) (n : ℕ) (p : Pairs) : Type 0 where
+  pub left : AreLeft (count_ones s.satellites) n p
+  pub cells : cell_pairs_left n s p ≡ cell_pairs s
+  pub count : length (cell_pairs s) ≡ count_ones s.cells
 
 -- Of the pairs that are left, the first one that the low bits of the number choose is this pair, and `after` pairs come
 -- after it.

@@ -4,7 +4,7 @@ use Rattle.std.specs.Prelude.{slice_index, count_ones}
 use Rattle.std.specs.List.{zip, list_any}
 use Rattle.rtcm_bits.specs.Bits.{odd}
 use Rattle.rtcm_msg.specs.declared.entry.Entry.{Entry}
-use Rattle.rtcm_msg.specs.declared.value_counts.Cells.{Cells}
+use Rattle.rtcm_msg.specs.declared.value_counts.CellsLeft.{CellsLeft}
 use Rattle.rtcm_msg.specs.Msm.{signal_mask_bits, satellite_mask_bits}
 use Rattle.rtcm_msg.specs.Pairs.{cell_pairs_left, AreLeft}
 use Rattle.rtcm_msg.specs.Presences.{has_value}
@@ -34,11 +34,11 @@ pub record SignalCounts : Type 0 where
 
 -- ---- the cells that are left
 
-abbrev pub entries_left : FormedMsm → Cells → List Entry
+abbrev pub entries_left : FormedMsm → CellsLeft → List Entry
 entries_left v c =
     map (entry_in v.form v.msm) (zip (cell_pairs_left c.left v.msm.sets c.pairs) (drop c.next v.msm.cells))
 
-pub record AreCells (v : FormedMsm) (c : Cells) : Type 0 where
+pub record AreCells (v : FormedMsm) (c : CellsLeft) : Type 0 where
   pub left : AreLeft (count_ones v.msm.sets.satellites) c.left c.pairs
   pub next : length (cell_pairs_left c.left v.msm.sets c.pairs) + c.next ≡ length v.msm.cells
 

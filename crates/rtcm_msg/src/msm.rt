@@ -219,6 +219,7 @@ pub(crate) fn msm_of<G: ReadGrid>(view: &MsmView<'_>) -> Msm<G>
     requires cells { G.cell_widths ≡ views.cell_widths view.now.form }
     ensures { result ≡ view.now.msm }
 {
+    // Brings the invariant of the view into the proof.
     let _ = view.form();
     Msm {
         is_galileo: view.is_galileo(),

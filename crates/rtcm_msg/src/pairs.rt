@@ -3,9 +3,9 @@ ghost use Rattle.std.specs.Prelude.{[], ◌≡◌, ◌<◌, ◌≤◌, ◌^◌, 
 ghost use Rattle.rtcm_bits.specs.Bits.{uint};
 ghost use Rattle.rtcm_msg.specs.Msm.{most_pairs, satellite_mask_bits, signal_mask_bits};
 ghost use Rattle.rtcm_msg.specs.Entries.{ids, chosen};
-ghost use Rattle.rtcm_msg.specs.Pairs.{pairs_left, ArePairs, IndicesAreBelow, SplitsCells};
+ghost use Rattle.rtcm_msg.specs.Pairs.{pairs_left, ArePairs, AreAll, HasFirst, IndicesAreBelow, SplitsCells};
 
-use crate::masks::{SATELLITE_MASK_BITS, SIGNAL_MASK_BITS};
+use crate::masks::{Masks, SATELLITE_MASK_BITS, SIGNAL_MASK_BITS};
 
 /// The satellite and the signal of a cell.
 #[derive(Clone, Copy)]
@@ -45,14 +45,31 @@ pub(crate) struct Pairs {
     pub all: u64,
 }
 
+impl Pairs {
+    /// Returns all pairs of a message, and their number.
+    pub fn of(masks: &Masks) -> (Pairs, u32)
+        ensures { AreAll masks.now result.1 result.0 }
+    {
+        // Brings the bounds of the masks into the proof.
+        let _ = masks.cells();
+        let (satellites, all) = (masks.satellites(), masks.signals() as u64);
+        let pairs = Pairs {
+            index: 0,
+            satellites,
+            signals: all,
+            all,
+        };
+        (pairs, satellites.count_ones() * all.count_ones())
+    }
+}
+
 /// Returns the same pairs, beginning with a satellite that has a signal left.
 pub(crate) fn with_signals(mut pairs: Pairs) -> Pairs
     requires some { 0 < length (pairs_left pairs) }
     requires in_range { ArePairs pairs }
     ensures same { pairs_left result ≡ pairs_left pairs }
     ensures in_range { ArePairs result }
-    ensures satellite { 0 < result.satellites }
-    ensures signal { 0 < result.signals }
+    ensures first { HasFirst result }
 {
     if pairs.signals == 0 {
         pairs.index += 1;
@@ -65,8 +82,7 @@ pub(crate) fn with_signals(mut pairs: Pairs) -> Pairs
 /// Returns the first pair, whose satellite has a signal left, and the other pairs.
 #[inline(always)]
 pub(crate) fn split_signal(pairs: Pairs) -> (Pair, Pairs)
-    requires satellite { 0 < pairs.satellites }
-    requires signal { 0 < pairs.signals }
+    requires first { HasFirst pairs }
     requires in_range { ArePairs pairs }
     ensures first { pairs_left pairs ≡ result.0 ∷ pairs_left result.1 }
     ensures in_range { ArePairs result.1 }

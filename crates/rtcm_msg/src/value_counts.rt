@@ -4,6 +4,7 @@ ghost use Rattle.std.specs.Prelude.{◌<◌, ◌≤◌, false, length, slice_ind
 ghost use Rattle.std.specs.Prelude.{IfSome, IfNone};
 ghost use Rattle.rtcm_msg.specs.Msm.{satellite_mask_bits, signal_mask_bits, most_pairs};
 ghost use Rattle.rtcm_msg.specs.Entries.{entries, ids};
+ghost use Rattle.rtcm_msg.specs.Pairs.{HasFirst};
 ghost use Rattle.rtcm_msg.specs.Viewed.{entry_in, rough};
 ghost use Rattle.rtcm_msg.specs.Views as views;
 ghost use Rattle.rtcm_msg.specs.ValueCounts.{has_listed_value, value_count, has_id};
@@ -15,11 +16,11 @@ use crate::view::{Data, Form, MsmView};
 use std::marker::Model;
 
 /// Number of signal IDs.
-const SIGNALS: usize = 32;
+const SIGNALS: usize = SIGNAL_MASK_BITS as usize;
 
 /// The cells of a message that are left.
 #[derive(Clone, Copy)]
-pub(crate) struct Cells {
+pub(crate) struct CellsLeft {
     /// The satellites and signals of the pairs that are left.
     pub pairs: Pairs,
     /// The number of these pairs.
@@ -49,23 +50,22 @@ impl<'a> MsmView<'a> {
 
     /// Counts the cell of the first pair, if it has one, and returns the cells that are left.
     #[inline(always)]
-    fn count_pair(&self, listed: u64, whole: u8, cells: Cells, counts: &mut [u8; SIGNALS]) -> Cells
+    fn count_pair(&self, listed: u64, whole: u8, cells: CellsLeft, counts: &mut [u8; SIGNALS]) -> CellsLeft
         requires cells { AreCells self.now cells }
-        requires satellite { 0 < cells.pairs.satellites }
-        requires signal { 0 < cells.pairs.signals }
+        requires first { HasFirst cells.pairs }
         requires whole { whole ≡ (rough self.now.form (slice_index self.now.msm.satellites cells.pairs.index)).whole }
         requires small { AreAtMost cells.next counts.old }
         ensures counts { AddsCounts listed counts.old counts.new (entries_left self.now cells)
             (entries_left self.now result) }
         ensures cells { AreCells self.now result }
         ensures small { AreAtMost result.next counts.new }
-        ensures index { result.pairs.index ≡ cells.pairs.index }
-        ensures satellite { result.pairs.satellites ≡ cells.pairs.satellites }
+        ensures same { (result.pairs.index ≡ cells.pairs.index) × (result.pairs.satellites ≡ cells.pairs.satellites) }
         ensures fewer { result.left < cells.left }
     {
         let (pair, pairs) = split_signal(cells.pairs);
         let left = cells.left - 1;
         let mut next = cells.next;
+        // Brings the numbers of satellites and cells into the proof.
         let _ = (self.satellites(), self.cells());
         if (self.masks().cells() >> left) % 2 == 1 {
             if self.has_listed_value(listed, pair, whole, next) {
@@ -73,24 +73,23 @@ impl<'a> MsmView<'a> {
             }
             next += 1;
         }
-        Cells { pairs, left, next }
+        CellsLeft { pairs, left, next }
     }
 
     /// Returns the cells that are left after the first pair, which has no cell.
     #[inline(always)]
-    fn skip_pair(&self, mask: u64, cells: Cells) -> Cells
+    fn skip_pair(&self, mask: u64, cells: CellsLeft) -> CellsLeft
         requires mask { mask ≡ self.now.msm.sets.cells }
         requires none { mask / 2 ^ (cells.left - 1) % 2 ≢ 1 }
         requires cells { AreCells self.now cells }
-        requires satellite { 0 < cells.pairs.satellites }
-        requires signal { 0 < cells.pairs.signals }
+        requires first { HasFirst cells.pairs }
         ensures left { entries_left self.now result ≡ entries_left self.now cells }
         ensures cells { AreCells self.now result }
         ensures next { result.next ≡ cells.next }
         ensures fewer { result.left < cells.left }
     {
         let (_, pairs) = split_signal(cells.pairs);
-        Cells {
+        CellsLeft {
             pairs,
             left: cells.left - 1,
             next: cells.next,
@@ -99,10 +98,9 @@ impl<'a> MsmView<'a> {
 
     /// Counts the cells of the first satellite, and returns the cells that are left.
     #[inline(always)]
-    fn count_row(&self, listed: u64, mut cells: Cells, counts: &mut [u8; SIGNALS]) -> Cells
+    fn count_row(&self, listed: u64, mut cells: CellsLeft, counts: &mut [u8; SIGNALS]) -> CellsLeft
         requires cells { AreCells self.now cells }
-        requires satellite { 0 < cells.pairs.satellites }
-        requires signal { 0 < cells.pairs.signals }
+        requires first { HasFirst cells.pairs }
         requires small { AreAtMost cells.next counts.old }
         ensures counts { AddsCounts listed counts.old counts.new (entries_left self.now cells)
             (entries_left self.now result) }
@@ -110,6 +108,7 @@ impl<'a> MsmView<'a> {
         ensures small { AreAtMost result.next counts.new }
         ensures fewer { result.left < cells.left }
     {
+        // Brings the number of satellites into the proof.
         let _ = self.satellites();
         let whole = self.read_whole(cells.pairs.index);
         cells = self.count_pair(listed, whole, cells, counts);
@@ -127,19 +126,15 @@ impl<'a> MsmView<'a> {
             → slice_index result i ≡ value_count listed (i + 1) (entries (views.formed self.now)) }
         ensures few { AreAtMost most_pairs result }
     {
-        let _ = (self.form(), self.cells());
+        // Brings the number of cells into the proof.
+        let _ = self.cells();
         let masks = self.masks();
         let mask = masks.cells();
-        let signals = masks.signals() as u64;
+        let (pairs, left) = Pairs::of(&masks);
         let mut counts = [0; SIGNALS];
-        let mut cells = Cells {
-            pairs: Pairs {
-                index: 0,
-                satellites: masks.satellites(),
-                signals,
-                all: signals,
-            },
-            left: masks.satellites().count_ones() * signals.count_ones(),
+        let mut cells = CellsLeft {
+            pairs,
+            left,
             next: 0,
         };
         while cells.left > 0 {
@@ -180,6 +175,7 @@ impl<'a> MsmView<'a> {
             → value_count listed id (entries (views.formed self.now)) ≡ 0 }
         ensures cells { length (entries (views.formed self.now)) ≤ most_pairs }
     {
+        // Brings the number of cells into the proof.
         let _ = self.cells();
         ValueCounts {
             signals: self.masks().signals() as u64,

@@ -256,18 +256,13 @@ impl<'a> MsmView<'a> {
         ensures all { result ≡ record { form = self.now.form; left = entries (views.formed self.now) } }
         ensures few { length result.left ≤ most_pairs }
     {
-        let _ = (self.form(), self.cells());
-        let masks = self.masks();
-        let signals = masks.signals() as u64;
+        // Brings the number of cells into the proof.
+        let _ = self.cells();
+        let (pairs, left) = Pairs::of(&self.masks());
         Entries {
             view: self,
-            pairs: Pairs {
-                index: 0,
-                satellites: masks.satellites(),
-                signals,
-                all: signals,
-            },
-            left: masks.satellites().count_ones() * signals.count_ones(),
+            pairs,
+            left,
             next: 0,
             index: self.satellites(),
             satellite: Satellite7::default(),
@@ -317,6 +312,7 @@ impl<'a> Entries<'a> {
         ensures same { self.new.form ≡ self.old.form }
     {
         let (pair, pairs, left) = split_cells(self.pairs, self.view.masks().cells(), self.left)?;
+        // Brings the numbers of satellites and cells into the proof.
         let _ = (self.view.satellites(), self.view.cells());
         let satellite = self.view.rough(pair.index, self.index, self.satellite);
         let entry = self.view.entry(pair, &satellite, self.next);

@@ -59,6 +59,7 @@ pub(crate) fn write_head(writer: &mut BitWriter, number: u16, header: &MsmHeader
         ++ field_bits (header_fields number header.now 0 ++ mask_fields masks.now) }
     ensures len { length writer.new ≤ length writer.old + 233 }
 {
+    // Brings the bound on the number of pairs into the proof.
     let _ = masks.cells();
     let pairs = masks.satellites().count_ones() * masks.signals().count_ones();
     let fields = [

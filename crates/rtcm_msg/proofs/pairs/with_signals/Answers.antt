@@ -4,8 +4,8 @@ use Rattle.rtcm_msg.specs.Entries.{ids}
 use Rattle.rtcm_msg.proofs.PairLaws.{satellite_left, signal_left, next_row}
 use Rattle.rtcm_msg.proofs.pairs.with_signals.Goals as goal
 
-pub returns-else-pairs-eq0-clause-satellite : goal.returns-else-pairs-eq0-clause-satellite
-returns-else-pairs-eq0-clause-satellite c = satellite_left c.args.pairs.index c.args.pairs.satellites (ids 32 c.args.pairs.signals) (ids 32 c.args.pairs.all) c.requires.some
+pub returns-else-pairs-eq0-clause-first : goal.returns-else-pairs-eq0-clause-first
+returns-else-pairs-eq0-clause-first c = (satellite_left c.args.pairs.index c.args.pairs.satellites (ids 32 c.args.pairs.signals) (ids 32 c.args.pairs.all) c.requires.some, omega arith)
 
 pub split_first-requires-clause-some : goal.split_first-requires-clause-some
 split_first-requires-clause-some c = satellite_left c.args.pairs.index c.args.pairs.satellites (ids 32 c.args.pairs.signals) (ids 32 c.args.pairs.all) c.requires.some
@@ -16,12 +16,9 @@ still xs ys e h = rw e h
 pub returns-then-pairs-eq0-clause-same : goal.returns-then-pairs-eq0-clause-same
 returns-then-pairs-eq0-clause-same c = next_row c.args.pairs.index c.args.pairs.satellites c.args.pairs.signals c.split_first.result.0 c.split_first.result.1 c.args.pairs.all (omega arith) c.split_first.ensures.first
 
-pub returns-then-pairs-eq0-clause-satellite : goal.returns-then-pairs-eq0-clause-satellite
-returns-then-pairs-eq0-clause-satellite c =
-    let same = next_row c.args.pairs.index c.args.pairs.satellites c.args.pairs.signals c.split_first.result.0 c.split_first.result.1 c.args.pairs.all (omega arith) c.split_first.ensures.first in
-    satellite_left (c.args.pairs.index + 1) c.split_first.result.1 (ids 32 c.args.pairs.all) (ids 32 c.args.pairs.all) (still _ _ same c.requires.some)
-
-pub returns-then-pairs-eq0-clause-signal : goal.returns-then-pairs-eq0-clause-signal
-returns-then-pairs-eq0-clause-signal c =
-    let same = next_row c.args.pairs.index c.args.pairs.satellites c.args.pairs.signals c.split_first.result.0 c.split_first.result.1 c.args.pairs.all (omega arith) c.split_first.ensures.first in
-    signal_left (c.args.pairs.index + 1) (ids 64 c.split_first.result.1) c.args.pairs.all (still _ _ same c.requires.some)
+pub returns-then-pairs-eq0-clause-first : goal.returns-then-pairs-eq0-clause-first
+returns-then-pairs-eq0-clause-first c =
+    let some = still _ _ (next_row c.args.pairs.index c.args.pairs.satellites c.args.pairs.signals c.split_first.result.0 c.split_first.result.1 c.args.pairs.all (omega arith) c.split_first.ensures.first) c.requires.some in (
+      satellite_left (c.args.pairs.index + 1) c.split_first.result.1 (ids 32 c.args.pairs.all) (ids 32 c.args.pairs.all) some,
+      signal_left (c.args.pairs.index + 1) (ids 64 c.split_first.result.1) c.args.pairs.all some,
+    )

@@ -4,4 +4,4 @@ use Rattle.rtcm_msg.proofs.view.MsmView.count_row.Goals as goal
 
 pub read_whole-whole-requires : goal.read_whole-whole-requires
 read_whole-whole-requires c =
-    first_below (count_ones c.args.self.now.msm.sets.satellites) _ c.args.cells.pairs c.requires.satellite c.requires.signal c.requires.cells.left.2 c.requires.cells.left.3 (sym c.satellites.ensures.set ∙ c.satellites.ensures.count)
+    first_below (count_ones c.args.self.now.msm.sets.satellites) _ c.args.cells.pairs c.requires.first c.requires.cells.left.2 c.requires.cells.left.3 (sym c.satellites.ensures.set ∙ c.satellites.ensures.count)
