@@ -14,11 +14,12 @@ use Rattle.rtcm_msg.specs.Decoding.{message_of, message_at}
 use Rattle.rtcm_msg.specs.Encoding.{ReadsMessage, IsFault, is_read_msm, is_read, number_of, set_of, layout, layout_of, has_bad_time, has_too_many, repeated}
 use Rattle.rtcm_msg.proofs.FieldLaws.{past_none, field_at}
 use Rattle.rtcm_msg.proofs.FaultLaws.{total-append, total-repeated, pair_count_of}
-use Rattle.rtcm_msg.proofs.MessageLaws.{Kind, station, msm4, msm7, other, kind_of, read_again, message_found, message_fault, message_only_fault, layout_station, layout_msm4, layout_msm7, msm4_is_msm, msm7_is_msm, and_all, not_true, some_none}
+use Rattle.rtcm_msg.proofs.MessageLaws.{Kind, station, of_form, other, kind_of, read_again, message_found, message_fault, message_only_fault, layout_station, layout_msm, form_is_msm, and_all, not_true, some_none}
 use Rattle.rtcm_msg.proofs.StationLaws.{station_widths, height_widths}
 use Rattle.rtcm_msg.specs.declared.message.Message.TheVariants as messages
-use Rattle.rtcm_msg.specs.Grid4 as grid4
-use Rattle.rtcm_msg.specs.Grid7 as grid7
+use Rattle.rtcm_msg.specs.declared.view.Form.{Form}
+use Rattle.rtcm_msg.specs.declared.view.Form.TheVariants as forms
+use Rattle.rtcm_msg.specs.Views.{satellite_widths, cell_widths}
 
 -- A field is the same if more bits follow.
 field_more : (a b : List Bool) (place w : ℕ) → place + w ≤ length a → field_at (a ++ b) place w ≡ field_at a place w
@@ -63,20 +64,21 @@ pairs_are bits msm long few = elim (cases_lt 64 (pair_count_of bits)) [
   | inr fine ↦ fine
 ]
 
+narrow : (form : Form) → (total_width (satellite_widths form) ≤ 36) × (total_width (cell_widths form) ≤ 80)
+narrow forms.Msm4 = (lit≤ tt, lit≤ tt)
+narrow forms.Msm7 = (lit≤ tt, lit≤ tt)
+
 layout_few : (bits : List Bool) (n : ℕ) → Kind n → number_of bits ≡ n → 8184 ≤ length bits → has_too_many bits ≡ false → total_width (layout bits) ≤ 8184
 layout_few bits n (station has e) is long few = rw (ap (λ (k : ℕ). layout_of k bits) (is ∙ e) ∙ layout_station has bits) (short has)
   where
     short : (has : Bool) → total_width (12 ∷ (station_widths ++ height_widths has)) ≤ 8184
     short true = lit≤ tt
     short false = lit≤ tt
-layout_few bits n (msm4 g e) is long few =
-    let pairs_few = pairs_are bits (ap is_read_msm (is ∙ e) ∙ msm4_is_msm g) long few in
-    rw (ap (λ (k : ℕ). layout_of k bits) (is ∙ e) ∙ layout_msm4 g bits)
-    (total_few (count_ones (field_at bits 73 64)) (count_ones (field_at bits 169 (pair_count_of bits))) (pair_count_of bits) grid4.satellite_widths grid4.cell_widths (lit≤ tt) (lit≤ tt) (ones_few bits 73 64 (lit≤ tt) (omega (arith, long))) (ones_few bits 169 (pair_count_of bits) pairs_few (omega (arith, long, pairs_few))) pairs_few)
-layout_few bits n (msm7 g e) is long few =
-    let pairs_few = pairs_are bits (ap is_read_msm (is ∙ e) ∙ msm7_is_msm g) long few in
-    rw (ap (λ (k : ℕ). layout_of k bits) (is ∙ e) ∙ layout_msm7 g bits)
-    (total_few (count_ones (field_at bits 73 64)) (count_ones (field_at bits 169 (pair_count_of bits))) (pair_count_of bits) grid7.satellite_widths grid7.cell_widths (lit≤ tt) (lit≤ tt) (ones_few bits 73 64 (lit≤ tt) (omega (arith, long))) (ones_few bits 169 (pair_count_of bits) pairs_few (omega (arith, long, pairs_few))) pairs_few)
+layout_few bits n (of_form form g e) is long few =
+    let pairs_few = pairs_are bits (ap is_read_msm (is ∙ e) ∙ form_is_msm form g) long few in
+    let widths_few = narrow form in
+    rw (ap (λ (k : ℕ). layout_of k bits) (is ∙ e) ∙ layout_msm form g bits)
+    (total_few (count_ones (field_at bits 73 64)) (count_ones (field_at bits 169 (pair_count_of bits))) (pair_count_of bits) (satellite_widths form) (cell_widths form) widths_few.0 widths_few.1 (ones_few bits 73 64 (lit≤ tt) (omega (arith, long))) (ones_few bits 169 (pair_count_of bits) pairs_few (omega (arith, long, pairs_few))) pairs_few)
 layout_few bits n (other unread no_msm empty body) is long few = rw (ap (λ (k : ℕ). layout_of k bits) is ∙ empty bits) (lit≤ tt)
 
 fault_more : (a b : List Bool) (e : MsgFault) → 8184 ≤ length a → IsFault a e → IsFault (a ++ b) e

@@ -1,7 +1,7 @@
 -- Each meaning is that of a value.
 use Rattle.std.proofs.Common.{ℕ, suc, ◌≡◌, ◌+◌, ◌==◌, ◌^◌, ◌<◌, ◌≤◌, Bool, true, false, List, [], ◌∷◌, ◌++◌, length, map, refl, sym, ap, subst, ◌∙◌, arith, count_ones, if◌then◌else◌, ◌⊎◌, inl, inr}
 use Rattle.std.specs.List.{flat_map, zip, enumerate_from}
-use Rattle.std.proofs.lemmas.List.{length-map}
+use Rattle.std.proofs.lemmas.List.{length-map, map-append}
 use Rattle.std.proofs.lemmas.Nat.{pow_pos}
 use Rattle.rtcm_bits.specs.Bits.{uint, number}
 use Rattle.rtcm_bits.specs.BitLaws.{uint-number, number-fits}
@@ -20,10 +20,6 @@ cross xs gs = flat_map (λ a. map (λ g. (a, g)) gs) xs
 row_pairs : (k a : ℕ) (gs : List ℕ) → map ids_of (map (pair (k, a)) gs) ≡ map (λ g. (a, g)) gs
 row_pairs k a [] = refl
 row_pairs k a (g ∷ gs) = ap (λ t. (a, g) ∷ t) (row_pairs k a gs)
-
-map-append : {A B : Type 0} (f : A → B) (xs ys : List A) → map f (xs ++ ys) ≡ map f xs ++ map f ys
-map-append f [] ys = refl
-map-append f (x ∷ xs) ys = ap (λ t. f x ∷ t) (map-append f xs ys)
 
 all_are_cross : (k : ℕ) (xs gs : List ℕ) → map ids_of (flat_map (λ x. map (pair x) gs) (enumerate_from k xs)) ≡ cross xs gs
 all_are_cross k [] gs = refl

@@ -1,7 +1,7 @@
 -- A value and its meaning correspond one to one.
 use Rattle.std.proofs.Common.{ℕ, ◌≡◌, ◌+◌, ◌*◌, ◌≤◌, Bool, true, false, List, [], ◌∷◌, ◌++◌, length, map, refl, sym, ap, subst, ◌∙◌, arith}
 use Rattle.std.specs.List.{flat_map, zip, enumerate_from}
-use Rattle.std.proofs.lemmas.List.{length-map}
+use Rattle.std.proofs.lemmas.List.{length-map, map-append}
 use Rattle.rtcm_bits.specs.Bits.{uint, number}
 use Rattle.rtcm_bits.specs.BitLaws.{length-uint, number_of-uint}
 use Rattle.rtcm_msg.specs.declared.pairs.Pair.{Pair}
@@ -20,10 +20,6 @@ key x = pair_number (ids_of x)
 rising-append : (low middle high : ℕ) (xs ys : List ℕ) → low ≤ middle + 1 → middle ≤ high → Rising low middle xs → Rising (middle + 1) high ys → Rising low high (xs ++ ys)
 rising-append low middle high [] ys h k r s = weaken low (middle + 1) high ys h s
 rising-append low middle high (x ∷ xs) ys h k r s = (r.0, omega (arith, k, r.1), rising-append (x + 1) middle high xs ys (omega (arith, r.1)) k r.2 s)
-
-map-append : (f : Pair → ℕ) (xs ys : List Pair) → map f (xs ++ ys) ≡ map f xs ++ map f ys
-map-append f [] ys = refl
-map-append f (x ∷ xs) ys = ap (λ t. f x ∷ t) (map-append f xs ys)
 
 -- The pairs of one satellite.
 row_rising : (x : ℕ × ℕ) (low : ℕ) (gs : List ℕ) → Rising low 32 gs → Rising (64 * x.1 + low) (64 * x.1 + 32) (map key (map (pair x) gs))
@@ -101,44 +97,23 @@ sets_one s t h k a g e =
 
 -- ---- maps
 
-nil_cons : {B : Type 0} (x : B) (xs : List B) → Path (List B) [] (x ∷ xs) → ⊥
-nil_cons x xs e = cc
-
--- The lists after the first entries.
-tails_same : {A : Type 0} (x y : A) (m n : ℕ) (us vs : List (A × ℕ)) → (x, m) ∷ us ≡ (y, n) ∷ vs → us ≡ vs
-tails_same x y m n us vs e = cc
-
-abbrev first_of : {A : Type 0} → A × ℕ → List (A × ℕ) → A × ℕ
-first_of d [] = d
-first_of d (x ∷ xs) = x
-
-first_same : {A : Type 0} (x y : A × ℕ) (us vs : List (A × ℕ)) → x ∷ us ≡ y ∷ vs → x ≡ y
-first_same x y us vs e = ap (first_of x) e
-
-cons_same : {B : Type 0} (x y : B) (xs ys : List B) → x ≡ y → xs ≡ ys → x ∷ xs ≡ y ∷ ys
-cons_same x y xs ys e f = rw (e, f) refl
-
-zip_keys : {A : Type 0} (xs ys : List A) (ms ns : List ℕ) → length xs ≡ length ms → length ys ≡ length ns → zip xs ms ≡ zip ys ns → (xs ≡ ys) × (ms ≡ ns)
-zip_keys [] [] [] [] a b e = (refl, refl)
-zip_keys [] [] [] (n ∷ ns) a b e = absurd (omega (arith, b))
-zip_keys [] [] (m ∷ ms) ns a b e = absurd (omega (arith, a))
-zip_keys [] (y ∷ ys) [] [] a b e = absurd (omega (arith, b))
-zip_keys [] (y ∷ ys) [] (n ∷ ns) a b e = absurd (nil_cons (y, n) (zip ys ns) e)
-zip_keys [] (y ∷ ys) (m ∷ ms) ns a b e = absurd (omega (arith, a))
-zip_keys (x ∷ xs) ys [] ns a b e = absurd (omega (arith, a))
-zip_keys (x ∷ xs) [] (m ∷ ms) [] a b e = absurd (nil_cons (x, m) (zip xs ms) (sym e))
-zip_keys (x ∷ xs) [] (m ∷ ms) (n ∷ ns) a b e = absurd (omega (arith, b))
-zip_keys (x ∷ xs) (y ∷ ys) (m ∷ ms) [] a b e = absurd (omega (arith, b))
-zip_keys (x ∷ xs) (y ∷ ys) (m ∷ ms) (n ∷ ns) a b e =
-    let rest = zip_keys xs ys ms ns (omega (arith, a)) (omega (arith, b)) (tails_same x y m n (zip xs ms) (zip ys ns) e) in
-    let here = first_same (x, m) (y, n) (zip xs ms) (zip ys ns) e in
-    (cons_same x y xs ys (ap (λ p. p.0) here) rest.0, cons_same m n ms ns (ap (λ p. p.1) here) rest.1)
-
 zip_firsts : {A : Type 0} (xs : List A) (ns : List ℕ) → length xs ≡ length ns → map (λ (x : A × ℕ). x.0) (zip xs ns) ≡ xs
 zip_firsts [] [] e = refl
 zip_firsts [] (n ∷ ns) e = refl
 zip_firsts (x ∷ xs) [] e = absurd (omega (arith, e))
 zip_firsts (x ∷ xs) (n ∷ ns) e = ap (λ t. x ∷ t) (zip_firsts xs ns (omega (arith, e)))
+
+zip_seconds : {A : Type 0} (xs : List A) (ns : List ℕ) → length xs ≡ length ns → map (λ (x : A × ℕ). x.1) (zip xs ns) ≡ ns
+zip_seconds [] [] e = refl
+zip_seconds [] (n ∷ ns) e = absurd (omega (arith, e))
+zip_seconds (x ∷ xs) [] e = refl
+zip_seconds (x ∷ xs) (n ∷ ns) e = ap (λ t. n ∷ t) (zip_seconds xs ns (omega (arith, e)))
+
+zip_one : {A : Type 0} (xs ys : List A) (ms ns : List ℕ) → length xs ≡ length ms → length ys ≡ length ns → zip xs ms ≡ zip ys ns → (xs ≡ ys) × (ms ≡ ns)
+zip_one xs ys ms ns a b e = (
+  sym (zip_firsts xs ms a) ∙ (ap (map (λ x. x.0)) e ∙ zip_firsts ys ns b),
+  sym (zip_seconds xs ms a) ∙ (ap (map (λ x. x.1)) e ∙ zip_seconds ys ns b),
+)
 
 satellites_count : (sw cw : List ℕ) (v : MsmValue) → IsValue sw cw v → length (ids 64 v.sets.satellites) ≡ length v.satellites
 satellites_count sw cw v h = ids_count 64 v.sets.satellites h.sets.satellites ∙ sym h.satellite_count
@@ -156,7 +131,7 @@ pub value_one : (sw cw : List ℕ) (v w : MsmValue) → IsValue sw cw v → IsVa
 value_one sw cw v w h k e =
     let galileo : v.is_galileo ≡ w.is_galileo = ap (λ (m : Meaning). m.is_galileo) e in
     let header = ap (λ (m : Meaning). m.header) e in
-    let one = zip_keys (ids 64 v.sets.satellites) (ids 64 w.sets.satellites) v.satellites w.satellites (satellites_count sw cw v h) (satellites_count sw cw w k) (ap (λ (m : Meaning). m.satellites) e) in
-    let two = zip_keys (cell_ids v.sets) (cell_ids w.sets) v.cells w.cells (cells_count sw cw v h) (cells_count sw cw w k) (ap (λ (m : Meaning). m.cells) e) in
+    let one = zip_one (ids 64 v.sets.satellites) (ids 64 w.sets.satellites) v.satellites w.satellites (satellites_count sw cw v h) (satellites_count sw cw w k) (ap (λ (m : Meaning). m.satellites) e) in
+    let two = zip_one (cell_ids v.sets) (cell_ids w.sets) v.cells w.cells (cells_count sw cw v h) (cells_count sw cw w k) (ap (λ (m : Meaning). m.cells) e) in
     let sets = sets_one v.sets w.sets h.sets k.sets one.0 (ap (λ (m : Meaning). m.signals) e) two.0 in
     rw (galileo, header, sets, one.1, two.1) refl

@@ -12,7 +12,7 @@ use Rattle.rtcm_msg.specs.declared.message.Message.{Message}
 use Rattle.rtcm_msg.specs.Fields.{◌>>=◌, field_bits, first_past}
 use Rattle.rtcm_msg.specs.Packed.{total_width, columns}
 use Rattle.rtcm_msg.specs.Station.{station_at, station_table, station_parts}
-use Rattle.rtcm_msg.specs.Msm.{msm_at, MsmValue, week, mask_fields}
+use Rattle.rtcm_msg.specs.Msm.{msm_at, msm_bits, MsmValue, IsValue, week, mask_fields}
 use Rattle.rtcm_msg.specs.Decoding.{message_of, body_at, start, other_at, set_at}
 use Rattle.rtcm_msg.specs.Encoding.{ReadsMessage, IsMessage, IsFault, message_bits, reserved_width, is_other, is_read, is_read_msm, number_of, set_of, layout, layout_of, has_bad_time, has_too_many}
 use Rattle.rtcm_msg.proofs.Binds.{bind_ok, ok_inj, of_read, number_consumed, number_short}
@@ -22,8 +22,9 @@ use Rattle.rtcm_msg.proofs.MsmLaws.{msm_consumed, msm_again, msm_tail, header_ta
 use Rattle.rtcm_msg.proofs.FieldLaws.{contents_at, fields_at, cursor_at, field_at, ShortAt, fields_read, number_there_at, short_at_more, short_at_after, past_none}
 use Rattle.rtcm_msg.proofs.FaultLaws.{MsmEnd, no_time, late, no_masks, many, short, good, msm_end, msm_widths, pair_count_of}
 use Rattle.rtcm_msg.specs.declared.message.Message.TheVariants as messages
-use Rattle.rtcm_msg.specs.Grid4 as grid4
-use Rattle.rtcm_msg.specs.Grid7 as grid7
+use Rattle.rtcm_msg.specs.declared.view.Form.{Form}
+use Rattle.rtcm_msg.specs.declared.view.Form.TheVariants as forms
+use Rattle.rtcm_msg.specs.Views.{satellite_widths, cell_widths, message_number, message_in, formed_at}
 
 -- ---- the message number
 
@@ -35,8 +36,7 @@ eq_other a b h = grind arith
 
 pub data Kind (n : ℕ) : Type 0 where
   station : (has : Bool) → n ≡ station_number has → Kind n
-  msm4 : (g : Bool) → n ≡ grid4.message_number g → Kind n
-  msm7 : (g : Bool) → n ≡ grid7.message_number g → Kind n
+  of_form : (form : Form) (g : Bool) → n ≡ message_number form g → Kind n
   other : is_read n ≡ false → is_read_msm n ≡ false → ((bits : List Bool) → layout_of n bits ≡ []) → ((c : Cursor) → body_at n c ≡ Ok (other_at n c)) → Kind n
 
 pub kind_of : (n : ℕ) → Kind n
@@ -46,13 +46,13 @@ kind_of n = elim (cases_eq n 1005) [
   | inr a ↦ elim (cases_eq n 1006) [
     | inl e ↦ station true e
     | inr b ↦ elim (cases_eq n 1074) [
-      | inl e ↦ msm4 false e
+      | inl e ↦ of_form forms.Msm4 false e
       | inr c ↦ elim (cases_eq n 1077) [
-        | inl e ↦ msm7 false e
+        | inl e ↦ of_form forms.Msm7 false e
         | inr d ↦ elim (cases_eq n 1094) [
-          | inl e ↦ msm4 true e
+          | inl e ↦ of_form forms.Msm4 true e
           | inr f ↦ elim (cases_eq n 1097) [
-            | inl e ↦ msm7 true e
+            | inl e ↦ of_form forms.Msm7 true e
             | inr g ↦
                 let a' = eq_other n 1005 a in
                 let b' = eq_other n 1006 b in
@@ -73,15 +73,12 @@ unfolding body_at
 body_station true c = refl
 body_station false c = refl
 
-body_msm4 : (g : Bool) (c : Cursor) → body_at (grid4.message_number g) c ≡ (msm_at grid4.satellite_widths grid4.cell_widths g c >>= λ m. Ok (messages.Msm4 m.0))
+body_msm : (form : Form) (g : Bool) (c : Cursor) → body_at (message_number form g) c ≡ formed_at form g c
 unfolding body_at
-body_msm4 true c = refl
-body_msm4 false c = refl
-
-body_msm7 : (g : Bool) (c : Cursor) → body_at (grid7.message_number g) c ≡ (msm_at grid7.satellite_widths grid7.cell_widths g c >>= λ m. Ok (messages.Msm7 m.0))
-unfolding body_at
-body_msm7 true c = refl
-body_msm7 false c = refl
+body_msm forms.Msm4 true c = refl
+body_msm forms.Msm4 false c = refl
+body_msm forms.Msm7 true c = refl
+body_msm forms.Msm7 false c = refl
 
 pub message_there : (bits : List Bool) → 12 ≤ length bits → message_of bits ≡ body_at (number_of bits) (cursor_at bits 12)
 unfolding message_of
@@ -115,6 +112,24 @@ again : (bits : List Bool) (n : ℕ) (tail rest : List Bool) → n < 2 ^ 12 → 
 unfolding message_of
 again bits n tail rest small is = rw (is, append_assoc (uint 12 n) tail rest, number_again 12 n 0 (tail ++ rest) small) refl
 
+msm_again_by : (form : Form) (bits rest : List Bool) (m : MsmValue) (reserved : ℕ) → IsValue (satellite_widths form) (cell_widths form) m → reserved < 128
+    → bits ≡ msm_bits (satellite_widths form) (cell_widths form) (message_number form m.is_galileo) m reserved ++ rest → message_of bits ≡ Ok (message_in form m)
+unfolding field_bits
+msm_again_by form bits rest m reserved h small is =
+    let sw = satellite_widths form in
+    let cw = cell_widths form in
+    let n = message_number form m.is_galileo in
+    let tail = msm_tail sw cw m reserved in
+    let read = msm_again sw cw m reserved 12 rest h small in
+    again bits n tail rest (few_number form m.is_galileo) (is ∙ ap (λ t. t ++ rest) (append_assoc (uint 12 n) (field_bits (header_tail m.header reserved)) (field_bits (mask_fields m.sets) ++ (columns sw m.satellites ++ columns cw m.cells))))
+    ∙ (body_msm form m.is_galileo (cursor 12 (tail ++ rest)) ∙ rw read.1 refl)
+  where
+    few_number : (form : Form) (g : Bool) → message_number form g < 2 ^ 12
+    few_number forms.Msm4 true = lit< tt
+    few_number forms.Msm4 false = lit< tt
+    few_number forms.Msm7 true = lit< tt
+    few_number forms.Msm7 false = lit< tt
+
 pub message_again : (bits rest : List Bool) (v : Message) (reserved : ℕ) → IsMessage v → is_other v ≡ false → reserved < 2 ^ reserved_width v → bits ≡ message_bits v reserved ++ rest → message_of bits ≡ Ok v
 unfolding field_bits
 message_again bits rest (messages.Station s) reserved h known small is =
@@ -125,24 +140,8 @@ message_again bits rest (messages.Station s) reserved h known small is =
     few_number : (has : Bool) → station_number has < 2 ^ 12
     few_number true = lit< tt
     few_number false = lit< tt
-message_again bits rest (messages.Msm4 m) reserved h known small is =
-    let tail = msm_tail grid4.satellite_widths grid4.cell_widths m reserved in
-    let read = msm_again grid4.satellite_widths grid4.cell_widths m reserved 12 rest h small in
-    again bits (grid4.message_number m.is_galileo) tail rest (few_number m.is_galileo) (is ∙ ap (λ t. t ++ rest) (append_assoc (uint 12 (grid4.message_number m.is_galileo)) (field_bits (header_tail m.header reserved)) (field_bits (mask_fields m.sets) ++ (columns grid4.satellite_widths m.satellites ++ columns grid4.cell_widths m.cells))))
-    ∙ (body_msm4 m.is_galileo (cursor 12 (tail ++ rest)) ∙ rw read.1 refl)
-  where
-    few_number : (g : Bool) → grid4.message_number g < 2 ^ 12
-    few_number true = lit< tt
-    few_number false = lit< tt
-message_again bits rest (messages.Msm7 m) reserved h known small is =
-    let tail = msm_tail grid7.satellite_widths grid7.cell_widths m reserved in
-    let read = msm_again grid7.satellite_widths grid7.cell_widths m reserved 12 rest h small in
-    again bits (grid7.message_number m.is_galileo) tail rest (few_number m.is_galileo) (is ∙ ap (λ t. t ++ rest) (append_assoc (uint 12 (grid7.message_number m.is_galileo)) (field_bits (header_tail m.header reserved)) (field_bits (mask_fields m.sets) ++ (columns grid7.satellite_widths m.satellites ++ columns grid7.cell_widths m.cells))))
-    ∙ (body_msm7 m.is_galileo (cursor 12 (tail ++ rest)) ∙ rw read.1 refl)
-  where
-    few_number : (g : Bool) → grid7.message_number g < 2 ^ 12
-    few_number true = lit< tt
-    few_number false = lit< tt
+message_again bits rest (messages.Msm4 m) reserved h known small is = msm_again_by forms.Msm4 bits rest m reserved h small is
+message_again bits rest (messages.Msm7 m) reserved h known small is = msm_again_by forms.Msm7 bits rest m reserved h small is
 message_again bits rest (messages.Other n set) reserved h known small is = cc
 
 true_false : (b : Bool) → b ≡ true → b ≡ false → ⊥
@@ -156,10 +155,10 @@ read_again bits v (inr o) = message_there bits o.number_there ∙ go (number_of 
     go : (n : ℕ) → Kind n → is_read n ≡ false → (c : Cursor) → body_at n c ≡ Ok (other_at n c)
     go n (station true e) un c = absurd (true_false _ (rw e refl) un)
     go n (station false e) un c = absurd (true_false _ (rw e refl) un)
-    go n (msm4 true e) un c = absurd (true_false _ (rw e refl) un)
-    go n (msm4 false e) un c = absurd (true_false _ (rw e refl) un)
-    go n (msm7 true e) un c = absurd (true_false _ (rw e refl) un)
-    go n (msm7 false e) un c = absurd (true_false _ (rw e refl) un)
+    go n (of_form forms.Msm4 true e) un c = absurd (true_false _ (rw e refl) un)
+    go n (of_form forms.Msm4 false e) un c = absurd (true_false _ (rw e refl) un)
+    go n (of_form forms.Msm7 true e) un c = absurd (true_false _ (rw e refl) un)
+    go n (of_form forms.Msm7 false e) un c = absurd (true_false _ (rw e refl) un)
     go n (other unread no_msm empty is) un c = is c
 
 -- ---- what was read
@@ -185,22 +184,18 @@ found_station bits has s d prefix r =
     let number : station_number has ≡ station_number (is_some s.height) = ap station_number (sym r.height) in
     begins bits (messages.Station s) r.reserved d.rest r.in_range refl r.one (with_number bits (station_number (is_some s.height)) (field_bits (station_tail s r.reserved)) d.rest (prefix ∙ ap (λ (n : ℕ). uint 12 n ++ drop 12 bits) number) r.bits)
 
-found_msm4 : (bits : List Bool) (g : Bool) (m : MsmValue) (d : Cursor) → bits ≡ uint 12 (grid4.message_number g) ++ drop 12 bits → IsMsmRead grid4.satellite_widths grid4.cell_widths g m (cursor_at bits 12) d → Found bits (messages.Msm4 m)
-unfolding field_bits
-found_msm4 bits g m d prefix r =
-    let n = grid4.message_number m.is_galileo in
-    let content = columns grid4.satellite_widths m.satellites ++ columns grid4.cell_widths m.cells in
-    let number : grid4.message_number g ≡ n = ap grid4.message_number (sym r.galileo) in
-    begins bits (messages.Msm4 m) r.reserved d.rest r.is_value refl r.small (with_number bits n (msm_tail grid4.satellite_widths grid4.cell_widths m r.reserved) d.rest (prefix ∙ ap (λ (n : ℕ). uint 12 n ++ drop 12 bits) number) r.bits
-    ∙ ap (λ (t : List Bool). t ++ d.rest) (sym (append_assoc (uint 12 n) (field_bits (header_tail m.header r.reserved)) (field_bits (mask_fields m.sets) ++ content))))
+begins_msm : (form : Form) (bits : List Bool) (m : MsmValue) (reserved : ℕ) (rest : List Bool) → IsValue (satellite_widths form) (cell_widths form) m → reserved < 128
+    → bits ≡ msm_bits (satellite_widths form) (cell_widths form) (message_number form m.is_galileo) m reserved ++ rest → Found bits (message_in form m)
+begins_msm forms.Msm4 bits m reserved rest h small is = begins bits (messages.Msm4 m) reserved rest h refl small is
+begins_msm forms.Msm7 bits m reserved rest h small is = begins bits (messages.Msm7 m) reserved rest h refl small is
 
-found_msm7 : (bits : List Bool) (g : Bool) (m : MsmValue) (d : Cursor) → bits ≡ uint 12 (grid7.message_number g) ++ drop 12 bits → IsMsmRead grid7.satellite_widths grid7.cell_widths g m (cursor_at bits 12) d → Found bits (messages.Msm7 m)
+found_msm : (form : Form) (bits : List Bool) (g : Bool) (m : MsmValue) (d : Cursor) → bits ≡ uint 12 (message_number form g) ++ drop 12 bits → IsMsmRead (satellite_widths form) (cell_widths form) g m (cursor_at bits 12) d → Found bits (message_in form m)
 unfolding field_bits
-found_msm7 bits g m d prefix r =
-    let n = grid7.message_number m.is_galileo in
-    let content = columns grid7.satellite_widths m.satellites ++ columns grid7.cell_widths m.cells in
-    let number : grid7.message_number g ≡ n = ap grid7.message_number (sym r.galileo) in
-    begins bits (messages.Msm7 m) r.reserved d.rest r.is_value refl r.small (with_number bits n (msm_tail grid7.satellite_widths grid7.cell_widths m r.reserved) d.rest (prefix ∙ ap (λ (n : ℕ). uint 12 n ++ drop 12 bits) number) r.bits
+found_msm form bits g m d prefix r =
+    let n = message_number form m.is_galileo in
+    let content = columns (satellite_widths form) m.satellites ++ columns (cell_widths form) m.cells in
+    let number : message_number form g ≡ n = ap (message_number form) (sym r.galileo) in
+    begins_msm form bits m r.reserved d.rest r.is_value r.small (with_number bits n (msm_tail (satellite_widths form) (cell_widths form) m r.reserved) d.rest (prefix ∙ ap (λ (n : ℕ). uint 12 n ++ drop 12 bits) number) r.bits
     ∙ ap (λ (t : List Bool). t ++ d.rest) (sym (append_assoc (uint 12 n) (field_bits (header_tail m.header r.reserved)) (field_bits (mask_fields m.sets) ++ content))))
 
 body_found : (bits : List Bool) (n : ℕ) (v : Message) → 12 ≤ length bits → number_of bits ≡ n → Kind n → body_at n (cursor_at bits 12) ≡ Ok v → Found bits v
@@ -208,14 +203,9 @@ body_found bits n v h is (station has e) read =
     let body = bind_ok (station_at has (cursor_at bits 12)) _ v (sym (body_station has (cursor_at bits 12)) ∙ (rw e at read)) in
     let x : Message = messages.Station body.0.0 in
     of_read (Found bits) x v body.2 (found_station bits has body.0.0 body.0.1 (begins_with_number bits h ∙ ap (λ (k : ℕ). uint 12 k ++ drop 12 bits) (is ∙ e)) (station_consumed has (cursor_at bits 12) body.0 body.1))
-body_found bits n v h is (msm4 g e) read =
-    let body = bind_ok (msm_at grid4.satellite_widths grid4.cell_widths g (cursor_at bits 12)) _ v (sym (body_msm4 g (cursor_at bits 12)) ∙ (rw e at read)) in
-    let x : Message = messages.Msm4 body.0.0 in
-    of_read (Found bits) x v body.2 (found_msm4 bits g body.0.0 body.0.1 (begins_with_number bits h ∙ ap (λ (k : ℕ). uint 12 k ++ drop 12 bits) (is ∙ e)) (msm_consumed grid4.satellite_widths grid4.cell_widths g (cursor_at bits 12) body.0 body.1))
-body_found bits n v h is (msm7 g e) read =
-    let body = bind_ok (msm_at grid7.satellite_widths grid7.cell_widths g (cursor_at bits 12)) _ v (sym (body_msm7 g (cursor_at bits 12)) ∙ (rw e at read)) in
-    let x : Message = messages.Msm7 body.0.0 in
-    of_read (Found bits) x v body.2 (found_msm7 bits g body.0.0 body.0.1 (begins_with_number bits h ∙ ap (λ (k : ℕ). uint 12 k ++ drop 12 bits) (is ∙ e)) (msm_consumed grid7.satellite_widths grid7.cell_widths g (cursor_at bits 12) body.0 body.1))
+body_found bits n v h is (of_form form g e) read =
+    let body = bind_ok (msm_at (satellite_widths form) (cell_widths form) g (cursor_at bits 12)) _ v (sym (body_msm form g (cursor_at bits 12)) ∙ (rw e at read)) in
+    of_read (Found bits) (message_in form body.0.0) v body.2 (found_msm form bits g body.0.0 body.0.1 (begins_with_number bits h ∙ ap (λ (k : ℕ). uint 12 k ++ drop 12 bits) (is ∙ e)) (msm_consumed (satellite_widths form) (cell_widths form) g (cursor_at bits 12) body.0 body.1))
 body_found bits n v h is (other unread no_msm empty body) read =
     let value : v ≡ messages.Other (number_of bits) (set_of bits) = ok_inj v (other_at n (cursor_at bits 12)) _ read (body (cursor_at bits 12)) ∙ (ap (λ (k : ℕ). other_at k (cursor_at bits 12)) (sym is) ∙ other_is bits h) in
     let unread' : is_read (number_of bits) ≡ false = ap is_read is ∙ unread in
@@ -294,25 +284,21 @@ pub layout_station : (has : Bool) (bits : List Bool) → layout_of (station_numb
 layout_station true bits = refl
 layout_station false bits = refl
 
-pub layout_msm4 : (g : Bool) (bits : List Bool) → layout_of (grid4.message_number g) bits ≡ 12 ∷ msm_widths grid4.satellite_widths grid4.cell_widths bits
-layout_msm4 true bits = refl
-layout_msm4 false bits = refl
-
-pub layout_msm7 : (g : Bool) (bits : List Bool) → layout_of (grid7.message_number g) bits ≡ 12 ∷ msm_widths grid7.satellite_widths grid7.cell_widths bits
-layout_msm7 true bits = refl
-layout_msm7 false bits = refl
+pub layout_msm : (form : Form) (g : Bool) (bits : List Bool) → layout_of (message_number form g) bits ≡ 12 ∷ msm_widths (satellite_widths form) (cell_widths form) bits
+layout_msm forms.Msm4 true bits = refl
+layout_msm forms.Msm4 false bits = refl
+layout_msm forms.Msm7 true bits = refl
+layout_msm forms.Msm7 false bits = refl
 
 station_no_msm : (has : Bool) → is_read_msm (station_number has) ≡ false
 station_no_msm true = refl
 station_no_msm false = refl
 
-pub msm4_is_msm : (g : Bool) → is_read_msm (grid4.message_number g) ≡ true
-msm4_is_msm true = refl
-msm4_is_msm false = refl
-
-pub msm7_is_msm : (g : Bool) → is_read_msm (grid7.message_number g) ≡ true
-msm7_is_msm true = refl
-msm7_is_msm false = refl
+pub form_is_msm : (form : Form) (g : Bool) → is_read_msm (message_number form g) ≡ true
+form_is_msm forms.Msm4 true = refl
+form_is_msm forms.Msm4 false = refl
+form_is_msm forms.Msm7 true = refl
+form_is_msm forms.Msm7 false = refl
 
 -- The result of reading a multiple signal message, for the widths of either grid.
 msm_message_end : (bits : List Bool) (sw cw : List ℕ) (g : Bool) (wrap : MsmValue → Message) → 12 ≤ length bits → is_read_msm (number_of bits) ≡ true → layout bits ≡ 12 ∷ msm_widths sw cw bits
@@ -356,10 +342,8 @@ message_end bits = elim (cases_lt (length bits) 12) [
           | inl bad ↦ faulty bad.0 (short_fault bits (station_widths ++ height_widths has) bad.0 h clean lay bad.2) (read ∙ rw bad.1 refl)
           | inr fine ↦ sound (messages.Station fine.0.0) (no_fault bits h clean (past_all bits (station_widths ++ height_widths has) h lay fine.2)) (read ∙ rw fine.1 refl)
         ]
-    go n is h (msm4 g e) = msm_message_end bits grid4.satellite_widths grid4.cell_widths g messages.Msm4 h (ap is_read_msm (is ∙ e) ∙ msm4_is_msm g) (ap (λ (k : ℕ). layout_of k bits) (is ∙ e) ∙ layout_msm4 g bits)
-        (message_there bits h ∙ (ap (λ (k : ℕ). body_at k (cursor_at bits 12)) (is ∙ e) ∙ body_msm4 g (cursor_at bits 12))) (msm_end grid4.satellite_widths grid4.cell_widths g bits h)
-    go n is h (msm7 g e) = msm_message_end bits grid7.satellite_widths grid7.cell_widths g messages.Msm7 h (ap is_read_msm (is ∙ e) ∙ msm7_is_msm g) (ap (λ (k : ℕ). layout_of k bits) (is ∙ e) ∙ layout_msm7 g bits)
-        (message_there bits h ∙ (ap (λ (k : ℕ). body_at k (cursor_at bits 12)) (is ∙ e) ∙ body_msm7 g (cursor_at bits 12))) (msm_end grid7.satellite_widths grid7.cell_widths g bits h)
+    go n is h (of_form form g e) = msm_message_end bits (satellite_widths form) (cell_widths form) g (message_in form) h (ap is_read_msm (is ∙ e) ∙ form_is_msm form g) (ap (λ (k : ℕ). layout_of k bits) (is ∙ e) ∙ layout_msm form g bits)
+        (message_there bits h ∙ (ap (λ (k : ℕ). body_at k (cursor_at bits 12)) (is ∙ e) ∙ body_msm form g (cursor_at bits 12))) (msm_end (satellite_widths form) (cell_widths form) g bits h)
     go n is h (other unread no_msm empty body) = sound (other_at n (cursor_at bits 12)) (no_fault bits h (no_msm_in_time bits (ap is_read_msm is ∙ no_msm)) (ap (first_past (length bits) 0) (ap (λ (k : ℕ). layout_of k bits) is ∙ empty bits)))
         (message_there bits h ∙ (ap (λ (k : ℕ). body_at k (cursor_at bits 12)) is ∙ body (cursor_at bits 12)))
 

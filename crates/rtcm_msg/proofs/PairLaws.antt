@@ -153,15 +153,16 @@ cell_set n r h = rw h refl
 cell_clear : (n r : ℕ) → n / 2 ^ r % 2 ≢ 1 → odd (n / 2 ^ r) ≡ false
 cell_clear n r h = grind (arith, h)
 
-pub found : (l r n : ℕ) (whole xs ys : List Pair) (x : Pair) → 0 < l → r ≡ l - 1 → whole ≡ chosen (uint l n) xs → xs ≡ x ∷ ys → n / 2 ^ r % 2 ≡ 1 → whole ≡ x ∷ chosen (uint r n) ys
+-- The first pair has a cell, or it has none.
+pub found : (l n : ℕ) (xs ys : List Pair) (x : Pair) → length xs ≡ l → xs ≡ x ∷ ys → n / 2 ^ (l - 1) % 2 ≡ 1 → chosen (uint l n) xs ≡ x ∷ chosen (uint (l - 1) n) ys
 unfolding chosen uint
-found zero r n whole xs ys x some is same e set = absurd (omega (arith, some))
-found (suc l) r n whole xs ys x some is same e set = let down : r ≡ l = omega (arith, is) in same ∙ rw (e, down, cell_set n l (rw down at set)) refl
+found zero n xs ys x count e set = absurd (omega (arith, rw e at count))
+found (suc l) n xs ys x count e set = let down : suc l - 1 ≡ l = omega arith in rw (e, down, cell_set n l (rw down at set)) refl
 
-pub passed : (l r n : ℕ) (whole xs ys : List Pair) (x : Pair) → 0 < l → r ≡ l - 1 → whole ≡ chosen (uint l n) xs → xs ≡ x ∷ ys → n / 2 ^ r % 2 ≢ 1 → whole ≡ chosen (uint r n) ys
+pub passed : (l n : ℕ) (xs ys : List Pair) (x : Pair) → length xs ≡ l → xs ≡ x ∷ ys → n / 2 ^ (l - 1) % 2 ≢ 1 → chosen (uint l n) xs ≡ chosen (uint (l - 1) n) ys
 unfolding chosen uint
-passed zero r n whole xs ys x some is same e clear = absurd (omega (arith, some))
-passed (suc l) r n whole xs ys x some is same e clear = let down : r ≡ l = omega (arith, is) in same ∙ rw (e, down, cell_clear n l (rw down at clear)) refl
+passed zero n xs ys x count e clear = absurd (omega (arith, rw e at count))
+passed (suc l) n xs ys x count e clear = let down : suc l - 1 ≡ l = omega arith in rw (e, down, cell_clear n l (rw down at clear)) refl
 
 pub over : (l n : ℕ) (whole xs : List Pair) → l ≡ 0 → whole ≡ chosen (uint l n) xs → whole ≡ []
 unfolding chosen uint

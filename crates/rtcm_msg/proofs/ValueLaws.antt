@@ -27,22 +27,17 @@ use Rattle.rtcm_msg.proofs.PairLaws.{found, passed, one_less, first_index, top_o
 pub id_within : (w m n x : ℕ) → ids w m ≡ x ∷ ids w n → (1 ≤ x) × (x ≤ w)
 id_within w m n x e = let r : Rising 1 w (x ∷ ids w n) = subst (Rising 1 w) e (ids_rising w m) in (r.0, r.1)
 
-pairs_some : (l : ℕ) (xs ys : List Pair) (x : Pair) → length xs ≡ l → xs ≡ x ∷ ys → 0 < l
-pairs_some l xs ys x count e = omega (arith, count, ap length e)
-
 -- The first pair has a cell.
 pub cell_there : (s : MasksValue) (n l : ℕ) (p q : Pairs) (x : Pair) → n ≡ s.cells → pairs_left p ≡ x ∷ pairs_left q → length (pairs_left p) ≡ l → n / 2 ^ (l - 1) % 2 ≡ 1
     → cell_pairs_left l s p ≡ x ∷ cell_pairs_left (l - 1) s q
 cell_there s n l p q x is first count bit =
-    subst (λ (m : ℕ). chosen (uint l m) (pairs_left p) ≡ x ∷ chosen (uint (l - 1) m) (pairs_left q)) is
-    (found l (l - 1) n (chosen (uint l n) (pairs_left p)) (pairs_left p) (pairs_left q) x (pairs_some l (pairs_left p) (pairs_left q) x count first) refl refl first bit)
+    subst (λ (m : ℕ). chosen (uint l m) (pairs_left p) ≡ x ∷ chosen (uint (l - 1) m) (pairs_left q)) is (found l n (pairs_left p) (pairs_left q) x count first bit)
 
 -- The first pair has no cell.
 pub cell_none : (s : MasksValue) (n l : ℕ) (p q : Pairs) (x : Pair) → n ≡ s.cells → pairs_left p ≡ x ∷ pairs_left q → length (pairs_left p) ≡ l → n / 2 ^ (l - 1) % 2 ≢ 1
     → cell_pairs_left l s p ≡ cell_pairs_left (l - 1) s q
 cell_none s n l p q x is first count bit =
-    subst (λ (m : ℕ). chosen (uint l m) (pairs_left p) ≡ chosen (uint (l - 1) m) (pairs_left q)) is
-    (passed l (l - 1) n (chosen (uint l n) (pairs_left p)) (pairs_left p) (pairs_left q) x (pairs_some l (pairs_left p) (pairs_left q) x count first) refl refl first bit)
+    subst (λ (m : ℕ). chosen (uint l m) (pairs_left p) ≡ chosen (uint (l - 1) m) (pairs_left q)) is (passed l n (pairs_left p) (pairs_left q) x count first bit)
 
 -- ---- the cells that are left
 

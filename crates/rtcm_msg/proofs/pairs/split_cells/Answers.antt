@@ -1,11 +1,11 @@
-use Rattle.std.proofs.Common.{◌-◌, arith, refl}
+use Rattle.std.proofs.Common.{◌∙◌, arith}
 use Rattle.rtcm_msg.specs.Pairs.{pairs_left}
 use Rattle.rtcm_msg.proofs.PairLaws.{found, passed, over, one_less, first_index}
 use Rattle.rtcm_msg.proofs.pairs.split_cells.Goals as goal
 
 pub returns-then-cells-left-eq1-clause-some : goal.returns-then-cells-left-eq1-clause-some
 returns-then-cells-left-eq1-clause-some c = (
-  found c.loop-left.left (c.loop-left.left - 1) c.args.cells _ (pairs_left c.loop-left.pairs) (pairs_left c.split_pairs.result.1) c.split_pairs.result.0 c.loop-left-test.true refl c.loop-left.invariant.same c.split_pairs.ensures.first c.if-cells-left-eq1.true,
+  c.loop-left.invariant.same ∙ found c.loop-left.left c.args.cells (pairs_left c.loop-left.pairs) (pairs_left c.split_pairs.result.1) c.split_pairs.result.0 c.loop-left.invariant.count c.split_pairs.ensures.first c.if-cells-left-eq1.true,
   one_less c.loop-left.left (pairs_left c.loop-left.pairs) (pairs_left c.split_pairs.result.1) c.split_pairs.result.0 c.loop-left.invariant.count c.split_pairs.ensures.first,
   omega (arith, c.loop-left.invariant.few),
   c.split_pairs.ensures.in_range,
@@ -16,7 +16,7 @@ returns-then-cells-left-eq1-clause-indices c = λ n h. first_index n (pairs_left
 
 pub loop-left-preserved : goal.loop-left-preserved
 loop-left-preserved c = record {
-  same = passed c.loop-left.left (c.loop-left.left - 1) c.args.cells _ (pairs_left c.loop-left.pairs) (pairs_left c.split_pairs.result.1) c.split_pairs.result.0 c.loop-left-test.true refl c.loop-left.invariant.same c.split_pairs.ensures.first c.if-cells-left-eq1.false;
+  same = c.loop-left.invariant.same ∙ passed c.loop-left.left c.args.cells (pairs_left c.loop-left.pairs) (pairs_left c.split_pairs.result.1) c.split_pairs.result.0 c.loop-left.invariant.count c.split_pairs.ensures.first c.if-cells-left-eq1.false;
   count = one_less c.loop-left.left (pairs_left c.loop-left.pairs) (pairs_left c.split_pairs.result.1) c.split_pairs.result.0 c.loop-left.invariant.count c.split_pairs.ensures.first;
   few = omega (arith, c.loop-left.invariant.few);
   in_range = c.split_pairs.ensures.in_range;
