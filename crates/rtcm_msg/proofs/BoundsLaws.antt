@@ -5,21 +5,11 @@ use Rattle.std.specs.Ordering.{int_eq}
 use Rattle.std.specs.List.{AllByRecursion, zip}
 use Rattle.std.proofs.lemmas.Int.{ints, unsigned_abs-mul}
 use Rattle.std.proofs.lemmas.Nat.{mul-le}
-use Rattle.rtcm_bits.specs.Bits.{FitsInt}
-use Rattle.rtcm_msg.specs.declared.message.Message.{Message}
-use Rattle.rtcm_msg.specs.declared.message.Message.TheVariants.{Station, Msm4, Msm7, Other}
-use Rattle.rtcm_msg.specs.declared.pairs.Pair.{Pair}
+use Rattle.rtcm_msg.specs.Names.{FitsInt, Message, Station, Msm4, Msm7, Other, Pair, unpacked_fit, scaled, range_joined, rate_joined, strength_of, MsmValue, entry4, entry7, cell_pairs, entries, StationParts, InRange, IsMeasured, IsCoordinate, IsPoint}
 use Rattle.rtcm_msg.specs.declared.grid4.Satellite4.{Satellite4}
 use Rattle.rtcm_msg.specs.declared.grid4.Cell4.{Cell4}
 use Rattle.rtcm_msg.specs.declared.grid7.Satellite7.{Satellite7}
 use Rattle.rtcm_msg.specs.declared.grid7.Cell7.{Cell7}
-use Rattle.rtcm_msg.specs.LayoutLaws.{unpacked_fit}
-use Rattle.rtcm_msg.specs.Fractions.{scaled, range_joined, rate_joined, strength_of}
-use Rattle.rtcm_msg.specs.Msm.{MsmValue}
-use Rattle.rtcm_msg.specs.Entries.{entry4, entry7, cell_pairs, entries}
-use Rattle.rtcm_msg.specs.declared.station.StationParts.{StationParts}
-use Rattle.rtcm_msg.specs.Station.{InRange}
-use Rattle.rtcm_msg.specs.Bounds.{IsMeasured, IsCoordinate, IsPoint}
 use Rattle.rtcm_msg.specs.Grid4 as grid4
 use Rattle.rtcm_msg.specs.Grid7 as grid7
 

@@ -2,11 +2,8 @@
 use Rattle.std.proofs.Common.{[], ℕ, zero, suc, subst, ◌≡◌, ◌+◌, ◌*◌, ◌^◌, ◌<◌, List, ◌∷◌, length, drop, get_or, Ok, refl, ap, arith, add-one, add-zero, zero-add, add_assoc, replicate}
 use Rattle.std.proofs.Math.Seq.{drop-cons}
 use Rattle.std.proofs.lemmas.Nat.{pow-add, pow_pos}
-use Rattle.rtcm_bits.specs.Cursors.{Cursor}
-use Rattle.rtcm_msg.specs.Fields.{number_at}
-use Rattle.rtcm_msg.specs.Packed.{total_width}
+use Rattle.rtcm_msg.specs.Names.{Cursor, number_at, total_width, column_at, columns_at, EachBelow}
 use Rattle.rtcm_msg.proofs.Binds.{bind_ok, ok_inj, number_consumed}
-use Rattle.rtcm_msg.specs.Columns.{column_at, columns_at, EachBelow}
 
 -- One more field in each.
 column_below : (w a : ℕ) (ps : List ℕ) (c : Cursor) (x : List ℕ × Cursor) → column_at w ps c ≡ Ok x → EachBelow a ps → EachBelow (a + w) x.0

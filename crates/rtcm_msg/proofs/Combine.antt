@@ -1,11 +1,8 @@
 -- Chains of fields: the bits that were read, reading encoded fields, and the fault.
 use Rattle.std.proofs.Common.{ℕ, ◌≡◌, ◌+◌, ◌*◌, ◌%◌, ◌^◌, ◌<◌, ◌≤◌, Bool, List, [], ◌∷◌, ◌++◌, length, take, drop, Result, Ok, Err, Some, refl, ap, subst, ◌∙◌, arith, length-append}
 use Rattle.std.proofs.lemmas.Nat.{mod_low}
-use Rattle.rtcm_bits.specs.Bits.{uint, number}
-use Rattle.rtcm_bits.specs.Cursors.{Cursor}
+use Rattle.rtcm_msg.specs.Names.{uint, number, Cursor, MsgFault, number_at, ◌>>=◌, first_past}
 use Rattle.rtcm_bits.specs.BitLaws.{length-uint, number-uint}
-use Rattle.rtcm_msg.specs.declared.fault.MsgFault.{MsgFault}
-use Rattle.rtcm_msg.specs.Fields.{number_at, ◌>>=◌, first_past}
 use Rattle.rtcm_msg.proofs.Binds.{number_there}
 
 -- ---- the fault

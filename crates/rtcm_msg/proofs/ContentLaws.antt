@@ -3,10 +3,7 @@ use Rattle.std.proofs.Common.{ℕ, ◌≡◌, ◌+◌, ◌*◌, ◌/◌, ◌%◌
 use Rattle.std.proofs.lemmas.Nat.{mod_low, shr_high, pow-add}
 use Rattle.std.proofs.lemmas.List.{length-take}
 use Rattle.rtcm_bits.specs.BitLaws.{number-fits, pow_mono}
-use Rattle.rtcm_msg.specs.Layout.{Table, FieldKind, width, widths, Contents, content}
-use Rattle.rtcm_msg.specs.Packed.{total_width, unpacked}
-use Rattle.rtcm_msg.specs.Fields.{field_at}
-use Rattle.rtcm_msg.specs.Rows.{row_at}
+use Rattle.rtcm_msg.specs.Names.{Table, FieldKind, width, widths, Contents, content, total_width, unpacked, field_at, row_at}
 
 -- The contents of item i, when the data of n items begin at a bit; the fields before them have k bits.
 abbrev pub contents_after : (t : Table) → ℕ → List Bool → ℕ → ℕ → ℕ → Contents t

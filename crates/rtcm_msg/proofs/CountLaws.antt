@@ -6,11 +6,8 @@ use Rattle.std.proofs.Math.Nat.{mod-eq_of_lt}
 use Rattle.std.proofs.lemmas.List.{length-map}
 use Rattle.std.proofs.lemmas.List.FromFn.{length-enumerate_from}
 use Rattle.std.specs.List.{flat_map, enumerate_from}
-use Rattle.rtcm_msg.specs.declared.pairs.Pair.{Pair}
-use Rattle.rtcm_msg.specs.Msm.{MasksValue, AreMasks, pair_count}
-use Rattle.rtcm_bits.specs.Bits.{uint}
+use Rattle.rtcm_msg.specs.Names.{Pair, MasksValue, AreMasks, pair_count, uint, up_from, ids, chosen, pair, all_pairs, cell_pairs}
 use Rattle.rtcm_bits.specs.BitLaws.{length-uint, mod-suc}
-use Rattle.rtcm_msg.specs.Entries.{up_from, ids, chosen, pair, all_pairs, cell_pairs}
 
 -- ---- the number of IDs
 

@@ -2,15 +2,7 @@
 use Rattle.std.proofs.Common.{ℕ, zero, suc, ◌≡◌, ◌+◌, ◌*◌, ◌^◌, ◌<◌, ◌≤◌, Bool, List, [], ◌∷◌, ◌++◌, length, Result, Ok, Err, None, refl, ap, ◌∙◌, arith, ◌⊎◌, inl, inr, replicate, count_ones}
 use Rattle.std.proofs.lemmas.Bool.{cases_lt}
 use Rattle.std.proofs.lemmas.List.{length-replicate, length-drop}
-use Rattle.rtcm_bits.specs.Cursors.{Cursor}
-use Rattle.rtcm_msg.specs.declared.fault.MsgFault.{MsgFault}
-use Rattle.rtcm_msg.specs.declared.fault.MsgFault.TheVariants.{BadTime, TooManyCells, Short}
-use Rattle.rtcm_msg.specs.declared.header.MsmHeader.{MsmHeader}
-use Rattle.rtcm_msg.specs.Fields.{number_at, ◌>>=◌, first_past}
-use Rattle.rtcm_msg.specs.Packed.{total_width}
-use Rattle.rtcm_msg.specs.Columns.{column_at, columns_at}
-use Rattle.rtcm_msg.specs.Encoding.{repeated}
-use Rattle.rtcm_msg.specs.Msm.{time_table, header_table, mask_table, header_of, header_at, masks_at, msm_at, week, MsmValue, pair_count}
+use Rattle.rtcm_msg.specs.Names.{Cursor, MsgFault, BadTime, TooManyCells, Short, MsmHeader, number_at, ◌>>=◌, first_past, total_width, column_at, columns_at, repeated, time_table, header_table, mask_table, header_of, header_at, masks_at, msm_at, week, MsmValue, pair_count}
 use Rattle.rtcm_msg.proofs.FieldLaws.{contents_at, fields_at, cursor_at, field_at, number_there_at, ShortAt, short_at_more, short_at_after, fields_read, past_none, past_through}
 use Rattle.rtcm_msg.proofs.Binds.{number_short}
 use Rattle.rtcm_msg.proofs.Combine.{past_here, past_next}

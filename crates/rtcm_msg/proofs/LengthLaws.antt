@@ -2,14 +2,8 @@
 use Rattle.std.proofs.Common.{ℕ, ◌≡◌, ◌+◌, ◌*◌, ◌/◌, ◌^◌, ◌≤◌, List, [], ◌∷◌, ◌++◌, length, refl, ◌∙◌, arith, lit≤, length-append, count_ones, Option, Some, None}
 use Rattle.std.specs.List.{flat_map}
 use Rattle.std.proofs.lemmas.Nat.{mul-le, ones-le}
-use Rattle.rtcm_bits.specs.Bits.{uint}
+use Rattle.rtcm_msg.specs.Names.{uint, Message, field_bits, fields_width, total_width, columns, station_fields, MsmValue, IsValue, pair_count, msm_bits, header_fields, mask_fields, IsMessage, message_bits}
 use Rattle.rtcm_bits.specs.BitLaws.{length-uint}
-use Rattle.rtcm_msg.specs.declared.message.Message.{Message}
-use Rattle.rtcm_msg.specs.Fields.{field_bits, fields_width}
-use Rattle.rtcm_msg.specs.Packed.{total_width, columns}
-use Rattle.rtcm_msg.specs.Station.{station_fields}
-use Rattle.rtcm_msg.specs.Msm.{MsmValue, IsValue, pair_count, msm_bits, header_fields, mask_fields}
-use Rattle.rtcm_msg.specs.Encoding.{IsMessage, message_bits}
 use Rattle.rtcm_msg.specs.declared.message.Message.TheVariants as messages
 use Rattle.rtcm_msg.specs.Grid4 as grid4
 use Rattle.rtcm_msg.specs.Grid7 as grid7

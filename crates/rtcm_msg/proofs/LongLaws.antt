@@ -3,23 +3,15 @@ use Rattle.std.proofs.Common.{ℕ, ◌≡◌, ◌+◌, ◌*◌, ◌≤◌, Bool,
 use Rattle.std.proofs.lemmas.Bool.{cases_lt, le-leb, lt-ltb}
 use Rattle.std.proofs.lemmas.Nat.{ones-le, mul-le}
 use Rattle.std.proofs.lemmas.List.{length-drop, take-append-le, drop-append-le, take-append-drop, length-take-le}
-use Rattle.rtcm_bits.specs.Bits.{bits_of, number}
+use Rattle.rtcm_msg.specs.Names.{bits_of, number, MsgFault, BadTime, TooManyCells, Short, Message, first_past, total_width, message_of, message_at, ReadsMessage, IsFault, is_read_msm, is_read, set_of, layout, layout_of, has_bad_time, has_too_many, repeated, Form, satellite_widths, cell_widths}
 use Rattle.rtcm_bits.specs.BitLaws.{bits_of-append, length-bits_of, number-take-fits}
-use Rattle.rtcm_msg.specs.declared.fault.MsgFault.{MsgFault}
-use Rattle.rtcm_msg.specs.declared.fault.MsgFault.TheVariants.{BadTime, TooManyCells, Short}
-use Rattle.rtcm_msg.specs.declared.message.Message.{Message}
-use Rattle.rtcm_msg.specs.Fields.{first_past}
-use Rattle.rtcm_msg.specs.Packed.{total_width}
-use Rattle.rtcm_msg.specs.Decoding.{message_of, message_at}
-use Rattle.rtcm_msg.specs.Encoding.{ReadsMessage, IsFault, is_read_msm, is_read, number_of, set_of, layout, layout_of, has_bad_time, has_too_many, repeated}
+use Rattle.rtcm_msg.specs.Encoding.{number_of}
 use Rattle.rtcm_msg.proofs.FieldLaws.{past_none, field_at}
 use Rattle.rtcm_msg.proofs.FaultLaws.{total-append, total-repeated, pair_count_of}
 use Rattle.rtcm_msg.proofs.MessageLaws.{Kind, station, of_form, other, kind_of, read_again, message_found, message_fault, message_only_fault, layout_station, layout_msm, form_is_msm, and_all, not_true, some_none}
 use Rattle.rtcm_msg.proofs.StationLaws.{station_widths, height_widths}
 use Rattle.rtcm_msg.specs.declared.message.Message.TheVariants as messages
-use Rattle.rtcm_msg.specs.declared.view.Form.{Form}
 use Rattle.rtcm_msg.specs.declared.view.Form.TheVariants as forms
-use Rattle.rtcm_msg.specs.Views.{satellite_widths, cell_widths}
 
 -- A field is the same if more bits follow.
 field_more : (a b : List Bool) (place w : ℕ) → place + w ≤ length a → field_at (a ++ b) place w ≡ field_at a place w

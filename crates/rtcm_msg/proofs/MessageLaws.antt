@@ -3,18 +3,8 @@ use Rattle.std.proofs.Common.{ℕ, ◌≡◌, ◌+◌, ◌==◌, ◌^◌, ◌<�
 use Rattle.std.proofs.lemmas.Bool.{cases_lt, cases_eq, lt-leb, le-leb, lt-ltb, le-ltb}
 use Rattle.std.proofs.lemmas.Nat.{pow_pos}
 use Rattle.std.proofs.lemmas.List.{length-drop, drop-drop}
-use Rattle.rtcm_bits.specs.Bits.{uint, filled, missing}
-use Rattle.rtcm_bits.specs.Cursors.{Cursor}
-use Rattle.rtcm_msg.specs.declared.fault.MsgFault.{MsgFault}
-use Rattle.rtcm_msg.specs.declared.fault.MsgFault.TheVariants.{BadTime, TooManyCells, Short}
-use Rattle.rtcm_msg.specs.declared.station.StationParts.{StationParts}
-use Rattle.rtcm_msg.specs.declared.message.Message.{Message}
-use Rattle.rtcm_msg.specs.Fields.{◌>>=◌, field_bits, first_past}
-use Rattle.rtcm_msg.specs.Packed.{total_width, columns}
-use Rattle.rtcm_msg.specs.Station.{station_at, station_table, station_parts}
-use Rattle.rtcm_msg.specs.Msm.{msm_at, msm_bits, MsmValue, IsValue, week, mask_fields}
-use Rattle.rtcm_msg.specs.Decoding.{message_of, body_at, start, other_at, set_at}
-use Rattle.rtcm_msg.specs.Encoding.{ReadsMessage, IsMessage, IsFault, message_bits, reserved_width, is_other, is_read, is_read_msm, number_of, set_of, layout, layout_of, has_bad_time, has_too_many}
+use Rattle.rtcm_msg.specs.Names.{uint, filled, missing, Cursor, MsgFault, BadTime, TooManyCells, Short, StationParts, Message, ◌>>=◌, field_bits, first_past, total_width, columns, station_at, station_table, station_parts, msm_at, msm_bits, MsmValue, IsValue, week, mask_fields, message_of, body_at, start, other_at, set_at, ReadsMessage, IsMessage, IsFault, message_bits, reserved_width, is_other, is_read, is_read_msm, set_of, layout, layout_of, has_bad_time, has_too_many, Form, satellite_widths, cell_widths, message_number, message_in, formed_at}
+use Rattle.rtcm_msg.specs.Encoding.{number_of}
 use Rattle.rtcm_msg.proofs.Binds.{bind_ok, ok_inj, of_read, number_consumed, number_short}
 use Rattle.rtcm_msg.proofs.Combine.{cursor, number_again, ok_err, past_here, past_next}
 use Rattle.rtcm_msg.proofs.StationLaws.{station_again, station_consumed, station_tail, station_widths, height_widths, station_chain, IsRead}
@@ -22,9 +12,7 @@ use Rattle.rtcm_msg.proofs.MsmLaws.{msm_consumed, msm_again, msm_tail, header_ta
 use Rattle.rtcm_msg.proofs.FieldLaws.{contents_at, fields_at, cursor_at, field_at, ShortAt, fields_read, number_there_at, short_at_more, short_at_after, past_none}
 use Rattle.rtcm_msg.proofs.FaultLaws.{MsmEnd, no_time, late, no_masks, many, short, good, msm_end, msm_widths, pair_count_of}
 use Rattle.rtcm_msg.specs.declared.message.Message.TheVariants as messages
-use Rattle.rtcm_msg.specs.declared.view.Form.{Form}
 use Rattle.rtcm_msg.specs.declared.view.Form.TheVariants as forms
-use Rattle.rtcm_msg.specs.Views.{satellite_widths, cell_widths, message_number, message_in, formed_at}
 
 -- ---- the message number
 

@@ -1,12 +1,7 @@
 -- What an iterator over the cells of a message keeps.
 use Rattle.std.proofs.Common.{ℕ, ◌≡◌, ◌+◌, ◌<◌, ◌≤◌, List, [], ◌∷◌, length, map, ap, arith}
 use Rattle.std.specs.List.{zip}
-use Rattle.rtcm_bits.specs.Bits.{uint}
-use Rattle.rtcm_msg.specs.declared.pairs.Pair.{Pair}
-use Rattle.rtcm_msg.specs.declared.pairs.Pairs.{Pairs}
-use Rattle.rtcm_msg.specs.Msm.{MasksValue}
-use Rattle.rtcm_msg.specs.Entries.{chosen}
-use Rattle.rtcm_msg.specs.Pairs.{pairs_left, cell_pairs_left}
+use Rattle.rtcm_msg.specs.Names.{uint, Pair, Pairs, MasksValue, chosen, pairs_left, cell_pairs_left}
 
 pub index_below : (i n m k : ℕ) → i < n → k ≡ m → k ≡ n → i < m
 index_below i n m k h e f = omega (arith, h, e, f)

@@ -5,19 +5,8 @@ use Rattle.std.specs.List.{zip, flat_map, list_any}
 use Rattle.std.proofs.lemmas.Bool.{cases_eq}
 use Rattle.std.proofs.lemmas.List.Folds.{list_any-append}
 use Rattle.std.proofs.lemmas.Grind.{common_steps}
-use Rattle.rtcm_bits.specs.Bits.{uint}
-use Rattle.rtcm_msg.specs.declared.entry.Entry.{Entry}
-use Rattle.rtcm_msg.specs.declared.pairs.Pair.{Pair}
-use Rattle.rtcm_msg.specs.declared.pairs.Pairs.{Pairs}
-use Rattle.rtcm_msg.specs.declared.value_counts.CellsLeft.{CellsLeft}
-use Rattle.rtcm_msg.specs.declared.view.Form.{Form}
+use Rattle.rtcm_msg.specs.Names.{uint, Entry, Pair, Pairs, CellsLeft, Form, MasksValue, MsmValue, ids, chosen, Rising, entries, pair, all_pairs, cell_pairs, pairs_from, pairs_left, cell_pairs_left, ArePairs, HasFirst, IndicesAreBelow, entry_in, FormedMsm, formed, message_in, has_listed_value, value_count, has_id, entries_left, AreCells}
 use Rattle.rtcm_msg.specs.declared.view.Form.TheVariants as forms
-use Rattle.rtcm_msg.specs.Msm.{MasksValue, MsmValue}
-use Rattle.rtcm_msg.specs.Entries.{ids, chosen, Rising, entries, pair, all_pairs, cell_pairs}
-use Rattle.rtcm_msg.specs.Pairs.{pairs_from, pairs_left, cell_pairs_left, ArePairs, HasFirst, IndicesAreBelow}
-use Rattle.rtcm_msg.specs.Viewed.{entry_in}
-use Rattle.rtcm_msg.specs.Views.{FormedMsm, formed, message_in}
-use Rattle.rtcm_msg.specs.ValueCounts.{has_listed_value, value_count, has_id, entries_left, AreCells}
 use Rattle.rtcm_msg.proofs.NextLaws.{no_more}
 use Rattle.rtcm_msg.proofs.IdLaws.{ids_rising}
 use Rattle.rtcm_msg.proofs.PairLaws.{found, passed, one_less, first_index, top_of, ids_split}

@@ -1,21 +1,8 @@
 -- The message of a view is the one that `decode` returns.
 use Rattle.std.proofs.Common.{ℕ, ◌≡◌, ◌+◌, ◌*◌, ◌^◌, ◌<◌, ◌≤◌, Bool, List, length, slice_index, Result, Ok, Err, refl, sym, ap, subst, ◌∙◌, arith, replicate, count_ones}
-use Rattle.rtcm_bits.specs.Bits.{bits_of}
-use Rattle.rtcm_bits.specs.Cursors.{Cursor}
+use Rattle.rtcm_msg.specs.Names.{bits_of, Cursor, MsgFault, MsmHeader, Form, cursor_at, total_width, columns_at, EachBelow, MasksValue, IsHeader, AreMasks, IsValue, header_at, masks_at, msm_at, LastBits, AreLast, rows_at, row_at, end_of_rows, Data, satellite_widths, cell_widths, satellite_rows, cell_rows, message_in, formed_at, AreWithin, AreDataOf}
 use Rattle.rtcm_bits.specs.BitLaws.{length-bits_of}
-use Rattle.rtcm_msg.specs.declared.fault.MsgFault.{MsgFault}
-use Rattle.rtcm_msg.specs.declared.header.MsmHeader.{MsmHeader}
-use Rattle.rtcm_msg.specs.declared.view.Form.{Form}
-use Rattle.rtcm_msg.specs.Fields.{cursor_at}
-use Rattle.rtcm_msg.specs.Packed.{total_width}
-use Rattle.rtcm_msg.specs.Columns.{columns_at, EachBelow}
-use Rattle.rtcm_msg.specs.Msm.{MasksValue, IsHeader, AreMasks, IsValue, header_at, masks_at, msm_at}
-use Rattle.rtcm_msg.specs.declared.last_bits.LastBits.{LastBits}
-use Rattle.rtcm_msg.specs.LastBits.{AreLast}
-use Rattle.rtcm_msg.specs.Rows.{rows_at, row_at, end_of_rows}
-use Rattle.rtcm_msg.specs.declared.view.Data.{Data}
 use Rattle.rtcm_msg.specs.declared.view.Data.TheVariants as datas
-use Rattle.rtcm_msg.specs.Views.{satellite_widths, cell_widths, satellite_rows, cell_rows, message_in, formed_at, AreWithin, AreDataOf}
 use Rattle.rtcm_msg.proofs.ColumnSteps.{columns_fit}
 use Rattle.rtcm_msg.proofs.RowLaws.{Ends, rows_end, rows_count, end_is, row_is}
 

@@ -50,7 +50,13 @@ impl<'a> MsmView<'a> {
 
     /// Counts the cell of the first pair, if it has one, and returns the cells that are left.
     #[inline(always)]
-    fn count_pair(&self, listed: u64, whole: u8, cells: CellsLeft, counts: &mut [u8; SIGNALS]) -> CellsLeft
+    fn count_pair(
+        &self,
+        listed: u64,
+        whole: u8,
+        cells: CellsLeft,
+        counts: &mut [u8; SIGNALS],
+    ) -> CellsLeft
         requires cells { AreCells self.now cells }
         requires first { HasFirst cells.pairs }
         requires whole { whole ≡ (rough self.now.form (slice_index self.now.msm.satellites cells.pairs.index)).whole }

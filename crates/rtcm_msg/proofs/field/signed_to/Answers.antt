@@ -1,6 +1,6 @@
 use Rattle.std.proofs.Common.{ap, ◌∙◌, rules, w64, FitsSigned}
 use Rattle.std.proofs.lemmas.Int.{to_z-of_z}
-use Rattle.rtcm_bits.specs.Bits.{signed}
+use Rattle.rtcm_msg.specs.Names.{signed}
 use Rattle.rtcm_msg.proofs.field.signed_to.Goals as goal
 
 pub returns-clause-value : goal.returns-clause-value

@@ -3,7 +3,7 @@ use Rattle.std.proofs.lemmas.Bool.Decides.{Decides-eqb, Decides-int_eq}
 use Rattle.std.proofs.lemmas.Int.{to_z-of_z, to_z_pos, fits_signed_mul, unsigned_abs-mul}
 use Rattle.std.specs.Bool.{Decides, then_some}
 use Rattle.std.specs.Ordering.{int_eq}
-use Rattle.rtcm_msg.specs.Fractions.{scaled}
+use Rattle.rtcm_msg.specs.Names.{scaled}
 use Rattle.rtcm_msg.proofs.SignedLaws.{wide_32_64, size_32}
 use Rattle.rtcm_msg.proofs.grid.scaled.Goals as goal
 

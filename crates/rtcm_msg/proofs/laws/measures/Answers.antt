@@ -1,4 +1,4 @@
-use Rattle.rtcm_bits.specs.Bits.{bits_of}
+use Rattle.rtcm_msg.specs.Names.{bits_of}
 use Rattle.rtcm_msg.proofs.MessageLaws.{message_found}
 use Rattle.rtcm_msg.proofs.BoundsLaws.{entries_measured, point_in_range}
 use Rattle.rtcm_msg.proofs.laws.measures.Goals as goal

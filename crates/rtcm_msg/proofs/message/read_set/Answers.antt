@@ -1,9 +1,6 @@
 use Rattle.std.proofs.Common.{ℕ, ◌%◌, true, false, nat_le, ◌≡◌, ◌*◌, ◌<◌, ◌≤◌, ◌==◌, length, List, arith, refl, ◌∙◌, sym, Some, None}
-use Rattle.rtcm_bits.specs.Bits.{bits_of}
+use Rattle.rtcm_msg.specs.Names.{bits_of, Cursor, cursor_at, field_at, set_at, set_in, is_any_msm}
 use Rattle.rtcm_bits.specs.BitLaws.{length-bits_of}
-use Rattle.rtcm_bits.specs.Cursors.{Cursor}
-use Rattle.rtcm_msg.specs.Fields.{cursor_at, field_at}
-use Rattle.rtcm_msg.specs.Decoding.{set_at, set_in, is_any_msm}
 use Rattle.rtcm_msg.proofs.MessageLaws.{other_set}
 use Rattle.rtcm_msg.proofs.message.read_set.Goals as goal
 

@@ -1,7 +1,5 @@
 use Rattle.std.proofs.Common.{ℕ, ◌≡◌, Bool, List}
-use Rattle.rtcm_msg.specs.declared.header.MsmHeader.{MsmHeader}
-use Rattle.rtcm_msg.specs.Msm.{MsmValue, MasksValue, IsValue}
-use Rattle.rtcm_msg.specs.Views.{satellite_widths, cell_widths}
+use Rattle.rtcm_msg.specs.Names.{MsmHeader, MsmValue, MasksValue, IsValue, satellite_widths, cell_widths}
 use Rattle.rtcm_msg.proofs.msm.msm_of.Goals as goal
 
 same_value : (sw cw vs vc : List ℕ) (g : Bool) (h : MsmHeader) (s : MasksValue) (xs ys : List ℕ) (v : MsmValue) → sw ≡ vs → cw ≡ vc → g ≡ v.is_galileo → h ≡ v.header → s ≡ v.sets → xs ≡ v.satellites → ys ≡ v.cells

@@ -1,8 +1,6 @@
 use Rattle.std.proofs.Common.{ℕ, List, Bool, ◌≡◌, ◌+◌, ◌*◌, ◌≤◌, ◌++◌, ◌∙◌, All, append_assoc, sym, ap, subst, length, arith}
 use Rattle.std.proofs.Math.Nat.{mul-le-mul_left}
-use Rattle.rtcm_msg.specs.Fields.{field_bits}
-use Rattle.rtcm_msg.specs.Packed.{total_width}
-use Rattle.rtcm_msg.specs.Msm.{IsValue}
+use Rattle.rtcm_msg.specs.Names.{field_bits, total_width, IsValue}
 use Rattle.rtcm_msg.proofs.WritingSteps.{field_bits-append}
 use Rattle.rtcm_msg.proofs.msm.write_msm.Goals as goal
 

@@ -1,7 +1,5 @@
 use Rattle.std.proofs.Common.{ℕ, ◌≡◌, ◌≤◌, length}
-use Rattle.rtcm_bits.specs.Bits.{uint}
-use Rattle.rtcm_msg.specs.Entries.{chosen}
-use Rattle.rtcm_msg.specs.Pairs.{pairs_left, ArePairs, IndicesAreBelow}
+use Rattle.rtcm_msg.specs.Names.{uint, chosen, pairs_left, ArePairs, IndicesAreBelow}
 use Rattle.rtcm_msg.proofs.pairs.split_cells.Given as goal
 
 abbrev pub invariant-loop-left : goal.invariant-loop-left

@@ -1,7 +1,6 @@
 use Rattle.std.proofs.Common.{ℤ, pos, negsuc, true, ◌≡◌, arith, rules, w64, to_z, of_z, FitsSigned}
 use Rattle.std.proofs.lemmas.Int.{to_z-of_z}
-use Rattle.rtcm_bits.specs.Bits.{FitsInt}
-use Rattle.rtcm_msg.specs.Ranges.{fits_int}
+use Rattle.rtcm_msg.specs.Names.{FitsInt, fits_int}
 use Rattle.rtcm_msg.proofs.station.station_fault.Goals as goal
 
 fits : (z : ℤ) → true ≡ fits_int 38 z → FitsInt 38 z

@@ -1,13 +1,7 @@
 use Rattle.std.proofs.Common.{ℕ, List, Bool, Ok, Err, refl, ◌≡◌, ◌+◌, ◌*◌, ◌≤◌, ◌∙◌, ap, arith, length}
 use Rattle.std.proofs.lemmas.Result.{err_from_is_err_and}
-use Rattle.rtcm_msg.specs.Packed.{total_width}
-use Rattle.rtcm_msg.specs.Rows.{end_of_rows}
-use Rattle.rtcm_bits.specs.Cursors.{Cursor}
-use Rattle.rtcm_msg.specs.declared.fault.MsgFault.{MsgFault}
-use Rattle.rtcm_msg.specs.declared.station.StationParts.{StationParts}
+use Rattle.rtcm_msg.specs.Names.{total_width, end_of_rows, Cursor, MsgFault, StationParts, station_message_at, field_widths, station_at}
 use Rattle.rtcm_msg.specs.declared.message.Message.TheVariants as messages
-use Rattle.rtcm_msg.specs.Decoding.{station_message_at}
-use Rattle.rtcm_msg.specs.Station.{field_widths, station_at}
 use Rattle.rtcm_msg.proofs.HeadLaws.{station_missing, station_whole}
 use Rattle.rtcm_msg.proofs.station.view_station.Goals as goal
 

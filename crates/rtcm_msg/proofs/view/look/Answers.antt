@@ -1,12 +1,6 @@
 use Rattle.std.proofs.Common.{ℕ, arith, ◌≡◌, ◌∙◌, sym, List, Result, Ok, Err, IfOk}
-use Rattle.rtcm_bits.specs.Bits.{bits_of}
+use Rattle.rtcm_msg.specs.Names.{bits_of, MsgFault, View, GivesViewed, message_at, viewed_message, IsMessage}
 use Rattle.rtcm_bits.specs.BitLaws.{length-bits_of}
-use Rattle.rtcm_msg.specs.declared.fault.MsgFault.{MsgFault}
-use Rattle.rtcm_msg.specs.declared.view.View.{View}
-use Rattle.rtcm_msg.specs.Fields.{GivesViewed}
-use Rattle.rtcm_msg.specs.Decoding.{message_at}
-use Rattle.rtcm_msg.specs.Viewed.{viewed_message}
-use Rattle.rtcm_msg.specs.Encoding.{IsMessage}
 use Rattle.rtcm_msg.proofs.MessageLaws.{message_found, message_none, message_there}
 use Rattle.rtcm_msg.proofs.LongLaws.{message_prefix}
 use Rattle.rtcm_msg.proofs.view.look.Goals as goal

@@ -1,11 +1,7 @@
 use Rattle.std.proofs.Common.{ℕ, ◌≡◌, ◌≤◌, Bool, List, count_ones, arith, sym, subst}
 use Rattle.std.proofs.lemmas.Nat.{ones-le}
 use Rattle.std.proofs.lemmas.Result.{err_from_is_err_and}
-use Rattle.rtcm_bits.specs.Bits.{bits_of}
-use Rattle.rtcm_msg.specs.Fields.{cursor_at}
-use Rattle.rtcm_msg.specs.declared.header.MsmHeader.{MsmHeader}
-use Rattle.rtcm_msg.specs.declared.view.Form.{Form}
-use Rattle.rtcm_msg.specs.Msm.{MasksValue, AreMasks, pair_count}
+use Rattle.rtcm_msg.specs.Names.{bits_of, cursor_at, MsmHeader, Form, MasksValue, AreMasks, pair_count}
 use Rattle.rtcm_msg.proofs.ViewLaws.{AfterMasks, Found, first_short, second_short, whole, are_within}
 use Rattle.rtcm_msg.proofs.view.view_msm.Goals as goal
 

@@ -1,6 +1,6 @@
 use Rattle.std.proofs.Common.{ℕ, ◌≡◌, ◌+◌, ◌*◌, ◌/◌, ◌^◌, ◌<◌, ◌≤◌, length, get_or, arith}
 use Rattle.std.proofs.Math.Nat.{mul-le-mul_left, mul-suc}
-use Rattle.rtcm_bits.specs.Bits.{uint}
+use Rattle.rtcm_msg.specs.Names.{uint}
 use Rattle.rtcm_msg.proofs.WritingSteps.{column_put, column_next}
 use Rattle.rtcm_msg.proofs.writing.write_column.Goals as goal
 

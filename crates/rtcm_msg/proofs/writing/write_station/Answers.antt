@@ -1,11 +1,8 @@
 use Rattle.std.proofs.Common.{ℕ, ℤ, List, Bool, Some, [], ◌∷◌, ◌≡◌, ◌++◌, ◌∙◌, refl, rules, sym, ap, append_assoc, FitsSigned, w64, to_z, of_z}
 use Rattle.std.proofs.lemmas.Int.{to_z-of_z}
 use Rattle.std.proofs.lemmas.List.{append-nil}
-use Rattle.rtcm_bits.specs.Bits.{raw, uint}
+use Rattle.rtcm_msg.specs.Names.{raw, uint, StationParts, field_bits, common_fields, station_fields}
 use Rattle.rtcm_bits.specs.BitLaws.{byte-bit}
-use Rattle.rtcm_msg.specs.declared.station.StationParts.{StationParts}
-use Rattle.rtcm_msg.specs.Fields.{field_bits}
-use Rattle.rtcm_msg.specs.Station.{common_fields, station_fields}
 use Rattle.rtcm_msg.proofs.WritingSteps.{field_bits-append}
 use Rattle.rtcm_msg.proofs.writing.write_station.Goals as goal
 

@@ -1,5 +1,5 @@
 use Rattle.std.proofs.Common.{ℕ, ℤ, ◌≡◌, ◌+◌, ◌*◌, ◌==◌, ◌∙◌, arith, ap, sym, refl, rules, w16, w32, FitsSigned}
-use Rattle.rtcm_bits.specs.Bits.{bits_of}
+use Rattle.rtcm_msg.specs.Names.{bits_of}
 use Rattle.rtcm_msg.specs.declared.grid4.Cell4.{Cell4}
 use Rattle.rtcm_msg.specs.Grid4.{cell_of, cell_table}
 use Rattle.rtcm_msg.proofs.ContentLaws.{unpacked_row}

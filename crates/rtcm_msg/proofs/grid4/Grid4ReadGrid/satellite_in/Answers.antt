@@ -1,5 +1,5 @@
 use Rattle.std.proofs.Common.{ℕ, ◌≡◌, ◌+◌, ◌*◌, ◌∙◌, arith, ap, sym, refl}
-use Rattle.rtcm_bits.specs.Bits.{bits_of}
+use Rattle.rtcm_msg.specs.Names.{bits_of}
 use Rattle.rtcm_msg.specs.declared.grid4.Satellite4.{Satellite4}
 use Rattle.rtcm_msg.specs.Grid4.{satellite_of, satellite_table}
 use Rattle.rtcm_msg.proofs.ContentLaws.{unpacked_row}

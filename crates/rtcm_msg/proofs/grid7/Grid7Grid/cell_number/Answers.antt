@@ -1,6 +1,6 @@
 use Rattle.std.proofs.Common.{ℕ, suc, Bool, true, false, ◌≡◌, ◌+◌, ◌*◌, ◌<◌, ap, ◌∙◌, arith, rules, w16, w32, FitsSigned, lit<, lit≤}
 use mir.Val.{bool_byte}
-use Rattle.rtcm_bits.specs.Bits.{raw}
+use Rattle.rtcm_msg.specs.Names.{raw}
 use Rattle.rtcm_bits.specs.BitLaws.{byte-bit}
 use Rattle.rtcm_msg.proofs.SignedLaws.{wide_16_64, wide_32_64}
 use Rattle.rtcm_msg.proofs.grid7.Grid7Grid.cell_number.Goals as goal

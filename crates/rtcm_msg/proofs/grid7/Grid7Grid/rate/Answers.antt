@@ -3,8 +3,7 @@ use Rattle.std.proofs.lemmas.Int.{ints, to_z-of_z}
 use Rattle.std.proofs.lemmas.Bool.Decides.{Decides-int_eq}
 use Rattle.std.specs.Bool.{Decides}
 use Rattle.std.specs.Ordering.{int_eq}
-use Rattle.rtcm_bits.specs.Bits.{FitsInt}
-use Rattle.rtcm_msg.specs.Fractions.{rate_joined}
+use Rattle.rtcm_msg.specs.Names.{FitsInt, rate_joined}
 use Rattle.rtcm_msg.proofs.SignedLaws.{wide_16_32}
 use Rattle.rtcm_msg.proofs.grid7.Grid7Grid.rate.Goals as goal
 

@@ -1,5 +1,5 @@
 use Rattle.std.proofs.Common.{ℕ, ℤ, ◌≡◌, ◌+◌, ◌*◌, ◌∙◌, arith, ap, sym, refl, rules, w16, FitsSigned}
-use Rattle.rtcm_bits.specs.Bits.{bits_of}
+use Rattle.rtcm_msg.specs.Names.{bits_of}
 use Rattle.rtcm_msg.specs.declared.grid7.Satellite7.{Satellite7}
 use Rattle.rtcm_msg.specs.Grid7.{satellite_of, satellite_table}
 use Rattle.rtcm_msg.proofs.ContentLaws.{unpacked_row}

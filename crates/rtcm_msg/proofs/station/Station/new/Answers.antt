@@ -1,10 +1,5 @@
 use Rattle.std.proofs.Common.{ℕ, ℤ, pos, negsuc, Option, Some, None, true, false, nat_le, ◌≡◌, ◌<◌, arith, refl, sym}
-use Rattle.rtcm_bits.specs.Bits.{FitsInt}
-use Rattle.rtcm_msg.specs.declared.fault.Field.{Field}
-use Rattle.rtcm_msg.specs.declared.station.StationParts.{StationParts}
-use Rattle.rtcm_msg.specs.Ranges.{fits_int}
-use Rattle.rtcm_msg.specs.Refusals.{station_fault}
-use Rattle.rtcm_msg.specs.Station.{InRange}
+use Rattle.rtcm_msg.specs.Names.{FitsInt, Field, StationParts, fits_int, station_fault, InRange}
 use Rattle.rtcm_msg.proofs.station.Station.new.Goals as goal
 
 below : (a b : ℕ) → b < a → nat_le a b ≡ false

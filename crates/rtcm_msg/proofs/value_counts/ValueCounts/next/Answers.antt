@@ -1,6 +1,5 @@
 use Rattle.std.proofs.Common.{◌∙◌, ap, sym, arith}
-use Rattle.rtcm_msg.specs.Entries.{ids}
-use Rattle.rtcm_msg.specs.ValueCounts.{SignalCounts}
+use Rattle.rtcm_msg.specs.Names.{ids, SignalCounts}
 use Rattle.rtcm_msg.proofs.ValueLaws.{id_within, id_once}
 use Rattle.rtcm_msg.proofs.PairLaws.{ids_none}
 use Rattle.rtcm_msg.proofs.value_counts.ValueCounts.next.Goals as goal

@@ -1,12 +1,7 @@
 use Rattle.std.proofs.Common.{ℕ, ◌≡◌, ◌+◌, ◌<◌, ◌≤◌, List, ◌∷◌, ◌∙◌, length, map, drop, slice_index, count_ones, refl, sym, ap, subst, arith}
 use Rattle.std.proofs.lemmas.List.{drop_more}
 use Rattle.std.specs.List.{zip}
-use Rattle.rtcm_msg.specs.declared.entry.Entry.{Entry}
-use Rattle.rtcm_msg.specs.declared.pairs.Pair.{Pair}
-use Rattle.rtcm_msg.specs.Msm.{MasksValue, codes_of}
-use Rattle.rtcm_msg.specs.Entries.{IsEntry}
-use Rattle.rtcm_msg.specs.Pairs.{cell_pairs_left}
-use Rattle.rtcm_msg.specs.Viewed.{Unread, entry_in, lock_field}
+use Rattle.rtcm_msg.specs.Names.{Entry, Pair, MasksValue, codes_of, IsEntry, cell_pairs_left, Unread, entry_in, lock_field}
 use Rattle.rtcm_msg.proofs.NextLaws.{index_below, one_less}
 use Rattle.rtcm_msg.proofs.view.Entries.next.Goals as goal
 

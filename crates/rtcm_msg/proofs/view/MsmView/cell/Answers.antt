@@ -1,9 +1,5 @@
 use Rattle.std.proofs.Common.{ℕ, List, ◌∙◌, ap, sym, subst, slice_index}
-use Rattle.rtcm_bits.specs.Bits.{bits_of}
-use Rattle.rtcm_msg.specs.LastBits.{AreLast}
-use Rattle.rtcm_msg.specs.Rows.{row_at}
-use Rattle.rtcm_msg.specs.declared.view.Data.{Data}
-use Rattle.rtcm_msg.specs.Views.{FormedMsm, AreDataOf, cell_widths, cell_rows}
+use Rattle.rtcm_msg.specs.Names.{bits_of, AreLast, row_at, Data, FormedMsm, AreDataOf, cell_widths, cell_rows}
 use Rattle.rtcm_msg.proofs.ViewLaws.{row_value, below, fits, cells_counted}
 use Rattle.rtcm_msg.proofs.view.MsmView.cell.Goals as goal
 

@@ -1,9 +1,6 @@
 use Rattle.std.proofs.Common.{◌≡◌, ◌+◌, ℕ, List, ap, subst, refl, arith}
-use Rattle.rtcm_msg.specs.Pairs.{AreAll}
+use Rattle.rtcm_msg.specs.Names.{AreAll, Entry, MasksValue, value_count}
 use Rattle.rtcm_msg.proofs.NextLaws.{begun_count}
-use Rattle.rtcm_msg.specs.declared.entry.Entry.{Entry}
-use Rattle.rtcm_msg.specs.Msm.{MasksValue}
-use Rattle.rtcm_msg.specs.ValueCounts.{value_count}
 use Rattle.rtcm_msg.proofs.ValueLaws.{entries_are, none_left, zeros}
 use Rattle.rtcm_msg.proofs.view.MsmView.count_all.Goals as goal
 

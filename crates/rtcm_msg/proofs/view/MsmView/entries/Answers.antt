@@ -1,8 +1,5 @@
 use Rattle.std.proofs.Common.{List, ap, sym, subst, arith}
-use Rattle.rtcm_msg.specs.declared.entry.Entry.{Entry}
-use Rattle.rtcm_msg.specs.Msm.{MasksValue}
-use Rattle.rtcm_msg.specs.Pairs.{AreAll}
-use Rattle.rtcm_msg.specs.Viewed.{entry_in}
+use Rattle.rtcm_msg.specs.Names.{Entry, MasksValue, AreAll, entry_in}
 use Rattle.rtcm_msg.proofs.NextLaws.{no_more, few, begun_count}
 use Rattle.rtcm_msg.proofs.ValueLaws.{entries_are}
 use Rattle.rtcm_msg.proofs.view.MsmView.entries.Goals as goal

@@ -1,6 +1,5 @@
 use Rattle.std.proofs.Common.{◌∙◌, ap, sym, subst, slice_index}
-use Rattle.rtcm_msg.specs.declared.view.Data.{Data}
-use Rattle.rtcm_msg.specs.Views.{FormedMsm, AreDataOf, satellite_widths, satellite_rows}
+use Rattle.rtcm_msg.specs.Names.{Data, FormedMsm, AreDataOf, satellite_widths, satellite_rows}
 use Rattle.rtcm_msg.proofs.ViewLaws.{row_value, below, fits, satellites_counted}
 use Rattle.rtcm_msg.proofs.view.MsmView.satellite.Goals as goal
 

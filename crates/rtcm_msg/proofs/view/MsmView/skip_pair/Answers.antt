@@ -1,7 +1,6 @@
 use Rattle.std.proofs.Common.{ap, sym, map, drop, List}
 use Rattle.std.specs.List.{zip}
-use Rattle.rtcm_msg.specs.declared.pairs.Pair.{Pair}
-use Rattle.rtcm_msg.specs.Viewed.{entry_in}
+use Rattle.rtcm_msg.specs.Names.{Pair, entry_in}
 use Rattle.rtcm_msg.proofs.ValueLaws.{cell_none, after_none}
 use Rattle.rtcm_msg.proofs.view.MsmView.skip_pair.Goals as goal
 
