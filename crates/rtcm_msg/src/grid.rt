@@ -5,6 +5,7 @@ ghost use Rattle.std.specs.Option.{ForSome};
 ghost use Rattle.rtcm_msg.specs.Fractions.{range_joined, scaled};
 ghost use Rattle.rtcm_msg.specs.Packed.{total_width};
 ghost use Rattle.rtcm_msg.specs.declared.fault.Field.{Field};
+ghost use Rattle.rtcm_msg.specs.declared.view.Form.{Form};
 ghost use Rattle.rtcm_bits.specs.Bits.{bits_of};
 ghost use Rattle.rtcm_bits.specs.FrameOf.{longest_message};
 ghost use Rattle.rtcm_msg.specs.Msm.{satellite_mask_bits, most_pairs};
@@ -13,6 +14,7 @@ ghost use Rattle.rtcm_msg.specs.LastBits.{AreLast};
 
 use crate::fault::Field;
 use crate::last_bits::LastBits;
+use crate::view::Form;
 
 /// The precision of an MSM: the fields of a satellite and of a cell, and their meaning. Reading and
 /// writing are the same in each precision.
@@ -190,6 +192,13 @@ pub trait Grid {
 
 /// Reads the satellites and cells of a precision from the bytes of a message.
 pub(crate) trait ReadGrid: Grid {
+    /// The form of the messages.
+    ghost form: { Form };
+
+    /// Returns the form of the messages. Code that matches it is compiled for one form.
+    fn form() -> Form
+        ensures { result ≡ form };
+
     /// Reads satellite `i` of `count` satellites whose data begin at bit `place`.
     fn satellite_in(bytes: &[u8], count: usize, place: usize, i: usize) -> Self::Satellite
         requires there { i < count }

@@ -4,6 +4,7 @@ use crate::fault::Field;
 use crate::field::{short_to, signed_to};
 use crate::grid::{Grid, ReadGrid, range_joined, scaled};
 use crate::last_bits::LastBits;
+use crate::view::Form;
 use rtcm_bits::{raw_of, signed_of};
 
 /// Data of a satellite in MSM4.
@@ -232,6 +233,15 @@ impl Grid for Grid4 {
 }
 
 impl ReadGrid for Grid4 {
+    ghost use Rattle.rtcm_msg.specs.declared.view.Form.TheVariants.{Msm4};
+
+    ghost form = { Msm4 };
+
+    #[inline(always)]
+    fn form() -> Form {
+        Form::Msm4
+    }
+
     #[inline(always)]
     fn satellite_in(bytes: &[u8], count: usize, place: usize, i: usize) -> Satellite4 {
         Satellite4 {

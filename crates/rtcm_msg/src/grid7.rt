@@ -4,6 +4,7 @@ use crate::fault::Field;
 use crate::field::{short_to, signed_to};
 use crate::grid::{Grid, ReadGrid, range_joined, scaled};
 use crate::last_bits::LastBits;
+use crate::view::Form;
 use rtcm_bits::{raw_of, signed_of};
 
 /// Data of a satellite in MSM7.
@@ -257,6 +258,15 @@ impl Grid for Grid7 {
 }
 
 impl ReadGrid for Grid7 {
+    ghost use Rattle.rtcm_msg.specs.declared.view.Form.TheVariants.{Msm7};
+
+    ghost form = { Msm7 };
+
+    #[inline(always)]
+    fn form() -> Form {
+        Form::Msm7
+    }
+
     #[inline(always)]
     fn satellite_in(bytes: &[u8], count: usize, place: usize, i: usize) -> Satellite7 {
         let extended = place + count * 8;

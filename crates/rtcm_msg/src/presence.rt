@@ -23,11 +23,12 @@ fn has_rest_of<G: Grid>(satellite: &G::Satellite, cell: &G::Cell) -> bool
 impl<'a> MsmView<'a> {
     /// Returns the whole milliseconds of the rough range of satellite `i`, DF397.
     #[inline(always)]
-    pub(crate) fn read_whole(&self, i: usize) -> u8
-        requires { i < length self.now.msm.satellites }
+    pub(crate) fn read_whole<G: ReadGrid>(&self, i: usize) -> u8
+        requires form { G.form ≡ self.now.form }
+        requires satellite { i < length self.now.msm.satellites }
         ensures { result ≡ (rough self.now.form (slice_index self.now.msm.satellites i)).whole }
     {
-        match self.form() {
+        match G::form() {
             Form::Msm4 => self.satellite::<Grid4>(i).whole,
             Form::Msm7 => self.satellite::<Grid7>(i).whole,
         }
@@ -35,11 +36,12 @@ impl<'a> MsmView<'a> {
 
     /// Returns whether cell `i` has a valid fine pseudorange.
     #[inline(always)]
-    fn has_fine_range(&self, i: usize) -> bool
-        requires { i < length self.now.msm.cells }
+    fn has_fine_range<G: ReadGrid>(&self, i: usize) -> bool
+        requires form { G.form ≡ self.now.form }
+        requires cell { i < length self.now.msm.cells }
         ensures { result ≡ has_fine_range self.now.form (slice_index self.now.msm.cells i) }
     {
-        match self.form() {
+        match G::form() {
             Form::Msm4 => self.cell::<Grid4>(i).range != INVALID_RANGE4,
             Form::Msm7 => self.cell::<Grid7>(i).range != INVALID_RANGE7,
         }
@@ -68,13 +70,14 @@ impl<'a> MsmView<'a> {
     /// Returns whether cell `i`, which is of the satellite and the signal of `pair`, has a value.
     /// Most cells have a pseudorange, so that no other field is read.
     #[inline(always)]
-    pub(crate) fn has_value(&self, pair: Pair, whole: u8, i: usize) -> bool
+    pub(crate) fn has_value<G: ReadGrid>(&self, pair: Pair, whole: u8, i: usize) -> bool
+        requires form { G.form ≡ self.now.form }
         requires satellite { pair.index < length self.now.msm.satellites }
         requires whole { whole ≡ (rough self.now.form (slice_index self.now.msm.satellites pair.index)).whole }
         requires cell { i < length self.now.msm.cells }
         ensures { result ≡ has_value (entry_in self.now.form self.now.msm (pair, slice_index self.now.msm.cells i)) }
     {
-        if whole != INVALID_RANGE && self.has_fine_range(i) {
+        if whole != INVALID_RANGE && self.has_fine_range::<G>(i) {
             true
         } else {
             self.has_rest(pair, i)

@@ -10,9 +10,12 @@ ghost use Rattle.rtcm_msg.specs.Views as views;
 ghost use Rattle.rtcm_msg.specs.ValueCounts.{has_listed_value, value_count, has_id};
 ghost use Rattle.rtcm_msg.specs.ValueCounts.{entries_left, AreCells, AreAtMost, AddsCounts};
 
+use crate::grid::ReadGrid;
+use crate::grid4::Grid4;
+use crate::grid7::Grid7;
 use crate::masks::SIGNAL_MASK_BITS;
 use crate::pairs::{Pair, Pairs, split_first, split_signal, with_signals};
-use crate::view::{Data, Form, MsmView};
+use crate::view::{Form, MsmView};
 use std::marker::Model;
 
 /// Number of signal IDs.
@@ -33,7 +36,8 @@ impl<'a> MsmView<'a> {
     /// Returns whether cell `i`, which is of the satellite and the signal of `pair`, has a value
     /// and its satellite is in a set.
     #[inline(always)]
-    fn has_listed_value(&self, listed: u64, pair: Pair, whole: u8, i: usize) -> bool
+    fn has_listed_value<G: ReadGrid>(&self, listed: u64, pair: Pair, whole: u8, i: usize) -> bool
+        requires form { G.form ≡ self.now.form }
         requires satellite { pair.index < length self.now.msm.satellites }
         requires whole { whole ≡ (rough self.now.form (slice_index self.now.msm.satellites pair.index)).whole }
         requires cell { i < length self.now.msm.cells }
@@ -42,7 +46,7 @@ impl<'a> MsmView<'a> {
             (entry_in self.now.form self.now.msm (pair, slice_index self.now.msm.cells i)) }
     {
         if (listed >> (64 - pair.satellite)) % 2 == 1 {
-            self.has_value(pair, whole, i)
+            self.has_value::<G>(pair, whole, i)
         } else {
             false
         }
@@ -50,13 +54,14 @@ impl<'a> MsmView<'a> {
 
     /// Counts the cell of the first pair, if it has one, and returns the cells that are left.
     #[inline(always)]
-    fn count_pair(
+    fn count_pair<G: ReadGrid>(
         &self,
         listed: u64,
         whole: u8,
         cells: CellsLeft,
         counts: &mut [u8; SIGNALS],
     ) -> CellsLeft
+        requires form { G.form ≡ self.now.form }
         requires cells { AreCells self.now cells }
         requires first { HasFirst cells.pairs }
         requires whole { whole ≡ (rough self.now.form (slice_index self.now.msm.satellites cells.pairs.index)).whole }
@@ -74,7 +79,7 @@ impl<'a> MsmView<'a> {
         // Brings the numbers of satellites and cells into the proof.
         let _ = (self.satellites(), self.cells());
         if (self.masks().cells() >> left) % 2 == 1 {
-            if self.has_listed_value(listed, pair, whole, next) {
+            if self.has_listed_value::<G>(listed, pair, whole, next) {
                 counts[pair.signal as usize - 1] += 1;
             }
             next += 1;
@@ -104,7 +109,13 @@ impl<'a> MsmView<'a> {
 
     /// Counts the cells of the first satellite, and returns the cells that are left.
     #[inline(always)]
-    fn count_row(&self, listed: u64, mut cells: CellsLeft, counts: &mut [u8; SIGNALS]) -> CellsLeft
+    fn count_row<G: ReadGrid>(
+        &self,
+        listed: u64,
+        mut cells: CellsLeft,
+        counts: &mut [u8; SIGNALS],
+    ) -> CellsLeft
+        requires form { G.form ≡ self.now.form }
         requires cells { AreCells self.now cells }
         requires first { HasFirst cells.pairs }
         requires small { AreAtMost cells.next counts.old }
@@ -116,10 +127,10 @@ impl<'a> MsmView<'a> {
     {
         // Brings the number of satellites into the proof.
         let _ = self.satellites();
-        let whole = self.read_whole(cells.pairs.index);
-        cells = self.count_pair(listed, whole, cells, counts);
+        let whole = self.read_whole::<G>(cells.pairs.index);
+        cells = self.count_pair::<G>(listed, whole, cells, counts);
         while cells.pairs.signals > 0 {
-            cells = self.count_pair(listed, whole, cells, counts);
+            cells = self.count_pair::<G>(listed, whole, cells, counts);
         }
         cells
     }
@@ -127,7 +138,8 @@ impl<'a> MsmView<'a> {
     /// Returns, for each signal ID from 1 on, the number of its cells that have a value and whose
     /// satellite is in a set.
     #[inline(always)]
-    fn count_all(&self, listed: u64) -> [u8; SIGNALS]
+    fn count_all<G: ReadGrid>(&self, listed: u64) -> [u8; SIGNALS]
+        requires form { G.form ≡ self.now.form }
         ensures counts { (i : ℕ) → i < signal_mask_bits
             → slice_index result i ≡ value_count listed (i + 1) (entries (views.formed self.now)) }
         ensures few { AreAtMost most_pairs result }
@@ -146,7 +158,7 @@ impl<'a> MsmView<'a> {
         while cells.left > 0 {
             cells.pairs = with_signals(cells.pairs);
             if (mask >> (cells.left - 1)) % 2 == 1 {
-                cells = self.count_row(listed, cells, &mut counts);
+                cells = self.count_row::<G>(listed, cells, &mut counts);
             } else {
                 cells = self.skip_pair(mask, cells);
             }
@@ -154,18 +166,16 @@ impl<'a> MsmView<'a> {
         counts
     }
 
-    /// Returns what `count_all` does. The loop over cells is compiled for each form and kind of data,
-    /// so that it tests neither for each cell.
+    /// Returns what `count_all` does, by the loop that is compiled for the form.
     #[inline(always)]
     fn count_by_form(&self, listed: u64) -> [u8; SIGNALS]
         ensures counts { (i : ℕ) → i < signal_mask_bits
             → slice_index result i ≡ value_count listed (i + 1) (entries (views.formed self.now)) }
         ensures few { AreAtMost most_pairs result }
     {
-        match (self.form, &self.rows) {
-            (Form::Msm4, Data::Bits(..)) => self.count_all(listed),
-            (Form::Msm7, Data::Bits(..)) => self.count_all(listed),
-            (_, Data::Packed(..)) => self.count_all(listed),
+        match self.form() {
+            Form::Msm4 => self.count_all::<Grid4>(listed),
+            Form::Msm7 => self.count_all::<Grid7>(listed),
         }
     }
 

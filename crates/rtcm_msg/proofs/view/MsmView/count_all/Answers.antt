@@ -11,7 +11,7 @@ counted_all : (n t l a : ℕ) → t ≡ n + l → l ≡ a → a ≡ 0 → n ≡ 
 counted_all n t l a e f g = omega (arith, e, f, g)
 
 pub loop-cells-init : goal.loop-cells-init
-loop-cells-init c =
+loop-cells-init g c =
     let all = subst (λ (s : MasksValue). AreAll s c.of-left.result.1 c.of-left.result.0) c.masks-masks.ensures c.of-left.ensures in
     record {
       counts = λ i h. begun _ _ _ (zeros 32 i) (ap (λ (es : List Entry). value_count c.args.listed (i + 1) es) (entries_are c.args.self.now _ all.cells));
@@ -20,5 +20,5 @@ loop-cells-init c =
     }
 
 pub returns-clause-counts : goal.returns-clause-counts
-returns-clause-counts c = λ i h.
+returns-clause-counts g c = λ i h.
     counted_all _ _ _ _ (c.loop-cells.invariant.counts i h) (ap (λ (es : List Entry). value_count c.args.listed (i + 1) es) (none_left c.args.self.now c.loop-cells.cells (omega (arith, c.loop-cells-test.false)))) refl

@@ -4,11 +4,11 @@ use Rattle.rtcm_msg.specs.Names.{entries, formed, entries_left, value_count, Are
 use Rattle.rtcm_msg.proofs.view.MsmView.count_all.Given as goal
 
 abbrev pub invariant-loop-cells : goal.invariant-loop-cells
-invariant-loop-cells l = record {
+invariant-loop-cells g l = record {
   counts : (i : ℕ) → i < 32 → value_count l.listed (i + 1) (entries (formed l.self)) ≡ slice_index l.counts i + value_count l.listed (i + 1) (entries_left l.self l.cells);
   cells : AreCells l.self l.cells;
   small : AreAtMost l.cells.next l.counts;
 }
 
 abbrev pub decreases-loop-cells : goal.decreases-loop-cells
-decreases-loop-cells l = l.cells.left
+decreases-loop-cells g l = l.cells.left

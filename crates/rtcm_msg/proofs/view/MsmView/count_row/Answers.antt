@@ -2,6 +2,6 @@ use Rattle.std.proofs.Common.{◌∙◌, sym, count_ones}
 use Rattle.rtcm_msg.proofs.ValueLaws.{first_below}
 use Rattle.rtcm_msg.proofs.view.MsmView.count_row.Goals as goal
 
-pub read_whole-whole-requires : goal.read_whole-whole-requires
-read_whole-whole-requires c =
+pub read_whole-whole-requires-clause-satellite : goal.read_whole-whole-requires-clause-satellite
+read_whole-whole-requires-clause-satellite g c =
     first_below (count_ones c.args.self.now.msm.sets.satellites) _ c.args.cells.pairs c.requires.first c.requires.cells.left.2 c.requires.cells.left.3 (sym c.satellites.ensures.set ∙ c.satellites.ensures.count)

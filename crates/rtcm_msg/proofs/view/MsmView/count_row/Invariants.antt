@@ -3,7 +3,7 @@ use Rattle.rtcm_msg.specs.Names.{entries_left, AreCells, AreAtMost, AddsCounts}
 use Rattle.rtcm_msg.proofs.view.MsmView.count_row.Given as goal
 
 abbrev pub invariant-loop-cells : goal.invariant-loop-cells
-invariant-loop-cells l = record {
+invariant-loop-cells g l = record {
   counts : AddsCounts l.listed l.fn.counts l.counts (entries_left l.self l.fn.cells) (entries_left l.self l.cells);
   cells : AreCells l.self l.cells;
   small : AreAtMost l.cells.next l.counts;
@@ -13,4 +13,4 @@ invariant-loop-cells l = record {
 }
 
 abbrev pub decreases-loop-cells : goal.decreases-loop-cells
-decreases-loop-cells l = l.cells.left
+decreases-loop-cells g l = l.cells.left
