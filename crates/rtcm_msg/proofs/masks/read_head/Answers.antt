@@ -1,3 +1,4 @@
+-- Each failed test gives the fault with which reading field by field ends (HeadLaws), for either form and system.
 use Rattle.std.proofs.Common.{ℕ, ◌<◌, ◌≡◌, ◌+◌, ◌*◌, ◌≤◌, length, count_ones, arith, inl, inr}
 use Rattle.std.proofs.Math.Nat.{mul-le-mul_left}
 use Rattle.std.proofs.lemmas.Nat.{ones-le}

@@ -1,3 +1,5 @@
+-- No step of the sum exceeds its type, since the whole number fits 128 bits; the steps in another order are the packed
+-- number.
 use Rattle.std.proofs.Common.{ℕ, suc, Bool, true, false, ◌≡◌, ◌+◌, ◌*◌, ◌<◌, ap, ◌∙◌, arith, rules, w16, w32, FitsSigned, lit<, lit≤}
 use mir.Val.{bool_byte}
 use Rattle.rtcm_msg.specs.Names.{raw}

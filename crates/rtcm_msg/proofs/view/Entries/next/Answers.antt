@@ -1,3 +1,4 @@
+-- The first pair with a cell and the next cell give the first entry; the invariant holds for what is left after them.
 use Rattle.std.proofs.Common.{ℕ, ◌≡◌, ◌+◌, ◌<◌, ◌≤◌, List, ◌∷◌, ◌∙◌, length, map, drop, slice_index, count_ones, refl, sym, ap, subst, arith}
 use Rattle.std.proofs.lemmas.List.{drop_more}
 use Rattle.std.specs.List.{zip}
