@@ -1,5 +1,5 @@
 -- The table that finds the cell of a key.
-use Rattle.std.proofs.Common.{◌≡◌, ℕ, suc, zero, ◌+◌, ◌<◌, ◌≤◌, ◌==◌, Bool, true, false, List, [], ◌∷◌, ◌++◌, map, take, set, refl, sym, ap, ◌∙◌, subst, arith, length, get_or, nat_eq, nat_lt}
+use Rattle.std.proofs.Common.{◌≡◌, ℕ, suc, zero, ◌+◌, ◌<◌, ◌≤◌, ◌==◌, Bool, true, false, List, [], ◌∷◌, ◌++◌, map, take, set, refl, sym, ap, ◌∙◌, subst, arith, length, get_or, nat_eq}
 use Rattle.std.specs.List.{AllByRecursion}
 use Rattle.std.proofs.lemmas.List.{get_or-set_same, get_or-set_other, get_or_append_left, get_or-append-add, get_or-map, get_or-take, length-map, length-take-le, length-append, map-append, take_more_set}
 use Rattle.gnss_obs.specs.declared.cell.Cell.{Cell}
@@ -47,17 +47,14 @@ found_here table buffer count s c most all less is =
     same_at (slot c) s (has_slot s slots) (λ e. both.0 (subst (λ k. n < k) (sym some) less, at ∙ e)) (λ h. sym at ∙ (both.1 h).1)
 
 pub found_none : (table : List ℕ) (buffer : List Cell) (count s : ℕ) → count ≤ length buffer → AreFound table (take count buffer) → count ≤ get_or table s 0
-    → nat_lt (get_or table s 0) count ≡ has_slot s (map slot (take count buffer))
-found_none table buffer count s most all none = not_less ∙ by (has_slot s (map slot (take count buffer))) refl where
+    → false ≡ has_slot s (map slot (take count buffer))
+found_none table buffer count s most all none = by (has_slot s (map slot (take count buffer))) refl where
   by : (b : Bool) → has_slot s (map slot (take count buffer)) ≡ b → false ≡ b
   by false e = refl
   by true e =
       let found = found_any table (map slot (take count buffer)) s (map slot (take count buffer)) all e in
       let less : get_or table s 0 < count = subst (λ k. get_or table s 0 < k) (slots_length buffer count most) found.0 in
       absurd (omega (arith, less, none))
-
-  not_less : nat_lt (get_or table s 0) count ≡ false
-  not_less = grind (arith, none)
 
 -- ---- one more cell
 

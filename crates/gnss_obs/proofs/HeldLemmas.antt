@@ -17,7 +17,7 @@ held_sorted system planned cells h =
 
 -- ---- one more cell
 
-low_index : (s : SignalAt) → IsSignal s → s.index < 32
+pub low_index : (s : SignalAt) → IsSignal s → s.index < 32
 low_index s h = by s.system h where
   by : (system : System) → IsSignal (record { system = system; index = s.index }) → s.index < 32
   by Gps h = omega (arith, h)

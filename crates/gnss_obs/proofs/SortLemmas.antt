@@ -1,113 +1,16 @@
 -- Cells sorted by numbers, and cells that are in order.
-use Rattle.std.proofs.Common.{◌≡◌, ℕ, suc, zero, ◌+◌, ◌*◌, ◌<◌, ◌≤◌, ◌==◌, ◌%◌, Bool, true, false, List, [], ◌∷◌, ◌++◌, map, take, drop, set, refl, sym, ap, ap₂, ◌∙◌, subst, arith, length, get_or, Option, Some, None, All}
-use Rattle.std.specs.Prelude.{⊤, fold, if◌then◌else◌, nat_lt, sum_by, position}
-use Rattle.std.specs.List.Sorted.{IsPermutation, IsNonDecreasing}
-use Rattle.std.proofs.lemmas.List.{append_assoc, append-nil, drop_more, take_more, take_more_set, length-take-le}
-use Rattle.std.proofs.lemmas.List.Sums.{sum_by-cons}
-use Rattle.std.proofs.lemmas.List.Sorted.{sum_by-IsPermutation}
-use Rattle.std.proofs.lemmas.List.Elements.{All-cons, All-nil}
+use Rattle.std.proofs.Common.{◌≡◌, ℕ, ◌+◌, ◌*◌, ◌<◌, ◌≤◌, ◌==◌, Bool, true, false, ◌||◌, List, [], ◌∷◌, ◌++◌, map, drop, refl, sym, ap, ap₂, ◌∙◌, subst, arith, length, get_or, Option, Some, None, All, nat_eq, is_some}
+use Rattle.std.specs.Prelude.{⊤, fold, nat_lt, position}
+use Rattle.std.proofs.lemmas.List.{append_assoc, append-nil, drop_more, get_or-map, length-append}
+use Rattle.std.proofs.lemmas.List.Elements.{All-append, All-cons, All-from_recursion, All-get_or, All-head, All-nil, All-push, All-tail, All-weaker}
 use Rattle.std.proofs.lemmas.List.Quantifiers.{position-Some}
-use Rattle.gnss_obs.specs.Names.{Cell, System, Gps, table, place_in, SortKey, is_before, SortKeysRise, insert_by, cell_sort_key, sorted_cells, sorted_epoch, cell_number, numbers, picked, EpochValue, PlanValue, AreInOrder, option_map_or, AllByRecursion}
-use Rattle.gnss_obs.proofs.OrderLemmas.{all-insert_by, sort_moves}
+use Rattle.std.proofs.lemmas.List.Sorted.{All-permutation, IsPermutation-sym, length_permutation}
+use Rattle.std.proofs.lemmas.Map.Keys.{apart_from_distinct}
+use Rattle.gnss_obs.specs.Names.{AreBelow, AreHeld, AreInPlanOrder, Cell, IsHeld, IsOf, IsSignal, SignalAt, System, has_slot, indices, IsDistinct, satellites, slot, table, place_in, SortKey, is_before, SortKeysRise, insert_by, cell_sort_key, sorted_cells, sorted_epoch, cell_number, EpochValue, PlanValue, AreInOrder, option_map_or, AllByRecursion}
+use Rattle.gnss_obs.proofs.HeldLemmas.{held_sorted, low_index}
+use Rattle.gnss_obs.proofs.OrderLemmas.{sort_moves}
+use Rattle.gnss_obs.proofs.PlanLemmas.{few_signals, length_indices}
 use Rattle.std.proofs.lemmas.Grind.{common_steps}
-
--- ---- sorted numbers
-
-abbrev one_if : Bool → ℕ
-one_if true = 1
-one_if false = 0
-
-abbrev count : ℕ → List ℕ → ℕ
-count k [] = 0
-count k (n ∷ ns) = one_if (n == k) + count k ns
-
-abbrev Low : ℕ → List ℕ → Type 0
-Low n ns = AllByRecursion (λ m. n ≤ m) ns
-
-abbrev pub Sorted : List ℕ → Type 0
-Sorted [] = ⊤
-Sorted (n ∷ ns) = Low n ns × Sorted ns
-
-one_same : (n k : ℕ) → n ≡ k → one_if (n == k) ≡ 1
-one_same n k e = by (n == k) refl where
-  by : (b : Bool) → (n == k) ≡ b → one_if b ≡ 1
-  by b f = grind (arith, common_steps, f)
-
-low_counted : (n k : ℕ) (ns : List ℕ) → Low n ns → 0 < count k ns → n ≤ k
-low_counted n k [] low some = absurd (omega (arith, some))
-low_counted n k (m ∷ ns) low some = by (m == k) refl (low_counted n k ns low.1) where
-  by : (b : Bool) → (m == k) ≡ b → (0 < count k ns → n ≤ k) → n ≤ k
-  by true e more = let is : m ≡ k = grind (arith, e) in let first : n ≤ m = low.0 in omega (arith, is, first)
-  by false e more = more (subst (λ c. 0 < c) (ap (λ b. one_if b + count k ns) e ∙ none (count k ns)) some) where
-    none : (c : ℕ) → 0 + c ≡ c
-    none c = omega arith
-
-first_least : (n k : ℕ) (ns : List ℕ) → Low n ns → 0 < count k (n ∷ ns) → n ≤ k
-first_least n k ns low some = low_counted n k (n ∷ ns) (omega arith, low) some
-
-first_counted : (n : ℕ) (ns : List ℕ) → 0 < count n (n ∷ ns)
-first_counted n ns = let one = one_same n n refl in omega (arith, one)
-
--- Sorted numbers are determined by how often each is among them.
-pub sorted_once : (xs ys : List ℕ) → Sorted xs → Sorted ys → ((k : ℕ) → count k xs ≡ count k ys) → xs ≡ ys
-sorted_once [] [] s t same = refl
-sorted_once [] (y ∷ ys) s t same = let e = same y in let some = first_counted y ys in absurd (omega (arith, e, some))
-sorted_once (x ∷ xs) [] s t same = let e = same x in let some = first_counted x xs in absurd (omega (arith, e, some))
-sorted_once (x ∷ xs) (y ∷ ys) s t same =
-    let a : y ≤ x = first_least y x ys t.0 (subst (λ n. 0 < n) (same x) (first_counted x xs)) in
-    let b : x ≤ y = first_least x y xs s.0 (subst (λ n. 0 < n) (sym (same y)) (first_counted y ys)) in
-    let is : x ≡ y = omega (arith, a, b) in
-    ap₂ (λ n ns. n ∷ ns) is (sorted_once xs ys s.1 t.1 (λ k. less k (ap (λ n. one_if (n == k)) is) (same k))) where
-      less : (k : ℕ) → one_if (x == k) ≡ one_if (y == k) → count k (x ∷ xs) ≡ count k (y ∷ ys) → count k xs ≡ count k ys
-      less k e f = omega (arith, e, f)
-
--- ---- one by one
-
-abbrev num : ℕ → SortKey
-num n = record { satellite = n; place = 0 }
-
-before_num : (n m : ℕ) → is_before (num n) (num m) ≡ nat_lt n m
-before_num n m = grind (arith, common_steps)
-
-abbrev ins : ℕ → List ℕ → List ℕ
-ins n ms = insert_by num n ms
-
-low_more : (n m : ℕ) (ms : List ℕ) → n ≤ m → Low m ms → Low n ms
-low_more n m [] h low = tt
-low_more n m (k ∷ ms) h low = (let a : m ≤ k = low.0 in omega (arith, h, a), low_more n m ms h low.1)
-
-sorted-ins : (n : ℕ) (ms : List ℕ) → Sorted ms → Sorted (ins n ms)
-sorted-ins n [] s = (tt, tt)
-sorted-ins n (m ∷ ms) s = by (is_before (num n) (num m)) (before_num n m) (sorted-ins n ms s.1) where
-  by : (b : Bool) → b ≡ nat_lt n m → Sorted (ins n ms) → Sorted (if b then n ∷ m ∷ ms else m ∷ ins n ms)
-  by true e more = let h : n ≤ m = grind (arith, e) in ((h, low_more n m ms h s.0), s)
-  by false e more = let h : m ≤ n = grind (arith, e) in (all-insert_by (λ k. m ≤ k) num n ms h s.0, more)
-
-abbrev isort : List ℕ → List ℕ → List ℕ
-isort acc ns = fold (λ ms n. ins n ms) acc ns
-
-sorted-isort : (acc ns : List ℕ) → Sorted acc → Sorted (isort acc ns)
-sorted-isort acc [] s = s
-sorted-isort acc (n ∷ ns) s = sorted-isort (ins n acc) ns (sorted-ins n acc s)
-
-count_is : (k : ℕ) (ns : List ℕ) → count k ns ≡ sum_by (λ n. one_if (n == k)) ns
-count_is k [] = refl
-count_is k (n ∷ ns) = ap (λ c. one_if (n == k) + c) (count_is k ns) ∙ sym (sum_by-cons (λ n. one_if (n == k)) n ns)
-
-low_at : (n : ℕ) (ns : List ℕ) → ((j : ℕ) → j < length ns → n ≤ get_or ns j 0) → Low n ns
-low_at n [] h = tt
-low_at n (m ∷ ns) h = (h 0 (omega arith), low_at n ns (λ j less. h (suc j) (omega (arith, less))))
-
-sorted_at : (ns : List ℕ) → ((i j : ℕ) → i ≤ j → j < length ns → get_or ns i 0 ≤ get_or ns j 0) → Sorted ns
-sorted_at [] h = tt
-sorted_at (n ∷ ns) h = (low_at n ns (λ j less. h 0 (suc j) (omega arith) (omega (arith, less))), sorted_at ns (λ i j le less. h (suc i) (suc j) (omega (arith, le)) (omega (arith, less))))
-
--- Numbers in order are those sorted one by one.
-pub sorted_is : (ns order : List ℕ) → IsPermutation ns order → IsNonDecreasing order → order ≡ isort [] ns
-sorted_is ns order moved rise =
-    sorted_once order (isort [] ns) (sorted_at order (λ i j le less. rise i j 0 le less)) (sorted-isort [] ns tt)
-    (λ k. count_is k order ∙ sum_by-IsPermutation (λ n. one_if (n == k)) ns order moved
-    ∙ sym (count_is k (isort [] ns) ∙ sum_by-IsPermutation (λ n. one_if (n == k)) ns (isort [] ns) (sort_moves num ns)))
 
 -- ---- numbers of cells
 
@@ -122,125 +25,238 @@ before_number planned a b few =
       compare : (i j p q : ℕ) → p < 64 → q < 64 → is_before (record { satellite = i; place = p }) (record { satellite = j; place = q }) ≡ nat_lt (64 * i + p) (64 * j + q)
       compare i j p q h k = grind (arith, common_steps, h, k)
 
--- The cell of index j has this number, with the index as the last byte.
-abbrev code : List ℕ → Cell → ℕ → ℕ
-code planned c j = 256 * cell_number planned c + j
-
-last_byte : (a j : ℕ) → j < 256 → (256 * a + j) % 256 ≡ j
-last_byte a j h = omega arith
-
-record IsCode (planned : List ℕ) (cells : List Cell) (d : Cell) (k n : ℕ) : Type 0 where
-  below : n % 256 < k
-  is : n ≡ code planned (get_or cells (n % 256) d) (n % 256)
-
-nat_lt_code : (a b k j : ℕ) → k < 256 → j < k → nat_lt (256 * a + k) (256 * b + j) ≡ nat_lt a b
-nat_lt_code a b k j h less = grind (arith, common_steps, h, less)
-
-before_code : (planned : List ℕ) (cells : List Cell) (d : Cell) (k n : ℕ) (x : Cell) → length planned ≤ 64 → k < 256 → IsCode planned cells d k n
-    → nat_lt (code planned x k) n ≡ is_before (cell_sort_key planned x) (cell_sort_key planned (get_or cells (n % 256) d))
-before_code planned cells d k n x few small is =
-    let c = get_or cells (n % 256) d in
-    ap (λ m. nat_lt (code planned x k) m) is.is ∙ nat_lt_code (cell_number planned x) (cell_number planned c) k (n % 256) small is.below
-    ∙ sym (before_number planned x c few)
-
-picked-ins : (planned : List ℕ) (cells : List Cell) (d : Cell) (k : ℕ) (x : Cell) → length planned ≤ 64 → k < 256 → get_or cells k d ≡ x
-    → (ys : List ℕ) → AllByRecursion (IsCode planned cells d k) ys
-    → picked cells d (ins (code planned x k) ys) ≡ insert_by (cell_sort_key planned) x (picked cells d ys)
-picked-ins planned cells d k x few small at [] all = ap (λ j. get_or cells j d ∷ []) (last_byte (cell_number planned x) k small) ∙ ap (λ c. c ∷ []) at
-picked-ins planned cells d k x few small at (y ∷ ys) all =
-    by (is_before (num (code planned x k)) (num y)) (before_num (code planned x k) y ∙ before_code planned cells d k y x few small all.0) (picked-ins planned cells d k x few small at ys all.1) where
-      first : get_or cells (code planned x k % 256) d ≡ x
-      first = ap (λ j. get_or cells j d) (last_byte (cell_number planned x) k small) ∙ at
-
-      by : (b : Bool) → b ≡ is_before (cell_sort_key planned x) (cell_sort_key planned (get_or cells (y % 256) d))
-          → picked cells d (ins (code planned x k) ys) ≡ insert_by (cell_sort_key planned) x (picked cells d ys)
-          → picked cells d (if b then code planned x k ∷ y ∷ ys else y ∷ ins (code planned x k) ys) ≡ insert_by (cell_sort_key planned) x (picked cells d (y ∷ ys))
-      by true e more =
-          ap (λ c. c ∷ picked cells d (y ∷ ys)) first
-          ∙ ap (λ b. if b then x ∷ picked cells d (y ∷ ys) else get_or cells (y % 256) d ∷ insert_by (cell_sort_key planned) x (picked cells d ys)) e
-      by false e more =
-          ap (λ l. get_or cells (y % 256) d ∷ l) more
-          ∙ ap (λ b. if b then x ∷ picked cells d (y ∷ ys) else get_or cells (y % 256) d ∷ insert_by (cell_sort_key planned) x (picked cells d ys)) e
-
-codes_later : (planned : List ℕ) (cells : List Cell) (d : Cell) (k : ℕ) (ys : List ℕ) → AllByRecursion (IsCode planned cells d k) ys → AllByRecursion (IsCode planned cells d (suc k)) ys
-codes_later planned cells d k [] all = tt
-codes_later planned cells d k (y ∷ ys) all = (record { below = let h = all.0.below in omega (arith, h); is = all.0.is }, codes_later planned cells d k ys all.1)
-
-codes_more : (planned : List ℕ) (cells : List Cell) (d : Cell) (k : ℕ) (x : Cell) → k < 256 → get_or cells k d ≡ x → (ys : List ℕ) → AllByRecursion (IsCode planned cells d k) ys
-    → AllByRecursion (IsCode planned cells d (suc k)) (ins (code planned x k) ys)
-codes_more planned cells d k x small at ys all =
-    let byte = last_byte (cell_number planned x) k small in
-    let one : IsCode planned cells d (suc k) (code planned x k) = record {
-      below = subst (λ j. j < suc k) (sym byte) (omega arith);
-      is = ap₂ (λ c j. code planned c j) (sym (ap (λ j. get_or cells j d) byte ∙ at)) (sym byte);
-    } in
-    all-insert_by (IsCode planned cells d (suc k)) num (code planned x k) ys one (codes_later planned cells d k ys all)
-
--- The rest of a list from an index on.
-rest_at : (cells : List Cell) (d : Cell) (k : ℕ) (x : Cell) (rest : List Cell) → drop k cells ≡ x ∷ rest → (k < length cells) × (get_or cells k d ≡ x) × (drop (suc k) cells ≡ rest)
-rest_at [] d zero x rest e = cc
-rest_at [] d (suc k) x rest e = cc
-rest_at (c ∷ cells) d zero x rest e = (omega arith, cc, cc)
-rest_at (c ∷ cells) d (suc k) x rest e = let h = rest_at cells d k x rest e in (let l = h.0 in omega (arith, l), h.1, h.2)
-
-picked-isort : (planned : List ℕ) (cells : List Cell) (d : Cell) → length planned ≤ 64 → length cells ≤ 256 → (k : ℕ) (rest : List Cell) → drop k cells ≡ rest
-    → (acc : List ℕ) → AllByRecursion (IsCode planned cells d k) acc
-    → picked cells d (isort acc (numbers planned k rest)) ≡ fold (λ ys c. insert_by (cell_sort_key planned) c ys) (picked cells d acc) rest
-picked-isort planned cells d few most k [] e acc all = refl
-picked-isort planned cells d few most k (x ∷ rest) e acc all =
-    let h = rest_at cells d k x rest e in
-    let less = h.0 in
-    let small : k < 256 = omega (arith, less, most) in
-    picked-isort planned cells d few most (suc k) rest h.2 (ins (code planned x k) acc) (codes_more planned cells d k x small h.1 acc all)
-    ∙ ap (λ l. fold (λ ys c. insert_by (cell_sort_key planned) c ys) l rest) (picked-ins planned cells d k x few small h.1 acc all)
-
--- The cells in the order of their numbers are the sorted ones.
-pub picked_sorted : (planned : List ℕ) (cells : List Cell) (d : Cell) (order : List ℕ) → length planned ≤ 64 → length cells ≤ 256
-    → IsPermutation (numbers planned 0 cells) order → IsNonDecreasing order → picked cells d order ≡ sorted_cells planned cells
-picked_sorted planned cells d order few most moved rise =
-    ap (picked cells d) (sorted_is (numbers planned 0 cells) order moved rise) ∙ picked-isort planned cells d few most 0 cells refl [] tt
-
--- Each index is below the number of cells.
-pub numbers_within : (planned : List ℕ) (cells : List Cell) (k n : ℕ) → k + length cells ≤ n → n ≤ 256 → All (λ m. m % 256 < n) (numbers planned k cells)
-numbers_within planned [] k n h most = All-nil (λ m. m % 256 < n)
-numbers_within planned (c ∷ cells) k n h most =
-    let byte = last_byte (cell_number planned c) k (omega (arith, h, most)) in
-    All-cons (λ m. m % 256 < n) (code planned c k) (numbers planned (suc k) cells) (subst (λ j. j < n) (sym byte) (omega (arith, h)))
-    (numbers_within planned cells (suc k) n (omega (arith, h)) most)
-
-pub numbers_push : (planned : List ℕ) (k : ℕ) (cells : List Cell) (x : Cell) → numbers planned k (cells ++ x ∷ []) ≡ numbers planned k cells ++ (256 * cell_number planned x + (k + length cells)) ∷ []
-numbers_push planned k [] x = let e : k ≡ k + 0 = omega arith in ap (λ n. (256 * cell_number planned x + n) ∷ []) e
-numbers_push planned k (c ∷ cells) x =
-    let e : suc k + length cells ≡ k + suc (length cells) = omega arith in
-    ap (λ l. code planned c k ∷ l) (numbers_push planned (suc k) cells x ∙ ap (λ n. numbers planned (suc k) cells ++ (256 * cell_number planned x + n) ∷ []) e)
-
--- The numbers of one more cell.
-pub number_step : (planned : List ℕ) (cells : List Cell) (order : List ℕ) (i n : ℕ) (x : Cell) → i < length cells → length order ≡ length cells → x ≡ get_or cells i x
-    → n ≡ cell_number planned x → take i order ≡ numbers planned 0 (take i cells) → take (i + 1) (set order i (256 * n + i)) ≡ numbers planned 0 (take (i + 1) cells)
-number_step planned cells order i n x h same at is before =
-    let some : length (take i cells) ≡ i = length-take-le i cells (omega (arith, h)) in
-    let end : 0 + length (take i cells) ≡ i = omega (arith, some) in
-    let more : take (i + 1) cells ≡ take i cells ++ x ∷ [] = take_more cells i x h ∙ ap (λ c. take i cells ++ c ∷ []) (sym at) in
-    take_more_set order i (256 * n + i) (subst (λ k. i < k) (sym same) h)
-    ∙ ap₂ (λ l m. l ++ (256 * m + i) ∷ []) before is
-    ∙ sym (ap (numbers planned 0) more ∙ numbers_push planned 0 (take i cells) x ∙ ap (λ k. numbers planned 0 (take i cells) ++ (256 * cell_number planned x + k) ∷ []) end)
-
--- Any cell.
-pub no_cell : Cell
-no_cell = record {
-  satellite = record { system = Gps; id = 1 };
-  signal = record { system = Gps; index = 0 };
-  lli = 0;
-  half_cycle = false;
-  c = None;
-  l = None;
-  d = None;
-  s = None;
-  lock = record { least = None; upper = None };
-}
-
 pub table_few : (system : System) → length (table system) ≤ 64
 table_few system = grind (arith, common_steps)
+
+-- ---- the sorted cells, one key after another
+
+rest_of : {X : Type 0} (P : X → Type 0) (xs ys : List X) → All P (xs ++ ys) → All P ys
+rest_of P [] ys h = h
+rest_of P (x ∷ xs) ys h = rest_of P xs ys (All-tail P x (xs ++ ys) h)
+
+-- What is true of each sorted cell is true of each cell, and the other way round.
+of_sorted : (P : Cell → Type 0) (planned : List ℕ) (cells : List Cell) → All P (sorted_cells planned cells) → All P cells
+of_sorted P planned cells h = All-permutation P (sorted_cells planned cells) cells (IsPermutation-sym cells (sorted_cells planned cells) (sort_moves (cell_sort_key planned) cells)) h
+
+to_sorted : (P : Cell → Type 0) (planned : List ℕ) (cells : List Cell) → All P cells → All P (sorted_cells planned cells)
+to_sorted P planned cells h = All-permutation P cells (sorted_cells planned cells) (sort_moves (cell_sort_key planned) cells) h
+
+rise_rest : (planned : List ℕ) (xs ys : List Cell) → SortKeysRise (map (cell_sort_key planned) (xs ++ ys)) → SortKeysRise (map (cell_sort_key planned) ys)
+rise_rest planned [] ys h = h
+rise_rest planned (x ∷ xs) ys h = rise_rest planned xs ys h.1
+
+-- Its number is n or more.
+abbrev IsFrom : List ℕ → ℕ → Cell → Type 0
+IsFrom planned n c = n ≤ cell_number planned c
+
+after_first : (planned : List ℕ) (y : Cell) (ys : List Cell) → length planned ≤ 64 → AllByRecursion (λ t. is_before (cell_sort_key planned y) t ≡ true) (map (cell_sort_key planned) ys)
+    → All (IsFrom planned (cell_number planned y + 1)) ys
+after_first planned y [] few h = All-nil (IsFrom planned (cell_number planned y + 1))
+after_first planned y (z ∷ ys) few h =
+    All-cons (IsFrom planned (cell_number planned y + 1)) z ys (less (cell_number planned y) (cell_number planned z) (sym (before_number planned y z few) ∙ h.0)) (after_first planned y ys few h.1) where
+      less : (a b : ℕ) → nat_lt a b ≡ true → a + 1 ≤ b
+      less a b e = grind (arith, e)
+
+-- The only cell of number k, if there is one, is the first of the rest.
+abbrev IsNext : List ℕ → ℕ → List Cell → Cell → Type 0
+IsNext planned k rest c = cell_number planned c ≡ k → rest ≡ c ∷ drop 1 rest
+
+next_rest : (planned : List ℕ) (k : ℕ) (rest : List Cell) → length planned ≤ 64 → SortKeysRise (map (cell_sort_key planned) rest) → All (IsFrom planned k) rest → All (IsNext planned k rest) rest
+next_rest planned k [] few rise later = All-nil (IsNext planned k [])
+next_rest planned k (y ∷ ys) few rise later =
+    let own = All-head (IsFrom planned k) y ys later in
+    All-cons (IsNext planned k (y ∷ ys)) y ys (λ e. refl)
+    (All-weaker (IsFrom planned (cell_number planned y + 1)) (IsNext planned k (y ∷ ys)) (λ z far e. absurd (omega (arith, own, far, e))) ys (after_first planned y ys few rise.0))
+
+-- The cell of number k comes next.
+below_found : (planned : List ℕ) (k : ℕ) (cells first : List Cell) (at : ℕ) (x : Cell) → length planned ≤ 64 → SortKeysRise (map (cell_sort_key planned) (sorted_cells planned cells))
+    → at < length cells → get_or cells at x ≡ x → cell_number planned x ≡ k → AreBelow planned k cells first
+    → (length first < length cells) × AreBelow planned (k + 1) cells (first ++ x ∷ [])
+below_found planned k cells first at x few rise less is number b = (room, record {
+  rest = drop 1 b.rest;
+  split = split ∙ sym (append_assoc first (x ∷ []) (drop 1 b.rest));
+  earlier = All-push (λ c. cell_number planned c < k + 1) first x (All-weaker (λ c. cell_number planned c < k) (λ c. cell_number planned c < k + 1) (λ c lower. omega (arith, lower)) first b.earlier) (omega (arith, number));
+  later = subst (λ n. All (IsFrom planned (n + 1)) (drop 1 b.rest)) number (after_first planned x (drop 1 b.rest) few (rising (x ∷ drop 1 b.rest) split).0);
+}) where
+  rising : (rest : List Cell) → sorted_cells planned cells ≡ first ++ rest → SortKeysRise (map (cell_sort_key planned) rest)
+  rising rest e = rise_rest planned first rest (subst (λ l. SortKeysRise (map (cell_sort_key planned) l)) e rise)
+
+  all : All (IsNext planned k b.rest) (first ++ b.rest)
+  all =
+      All-append (IsNext planned k b.rest) first b.rest (All-weaker (λ c. cell_number planned c < k) (IsNext planned k b.rest) (λ c lower e. absurd (omega (arith, lower, e))) first b.earlier)
+      (next_rest planned k b.rest few (rising b.rest b.split) b.later)
+
+  next : b.rest ≡ x ∷ drop 1 b.rest
+  next =
+      let each = of_sorted (IsNext planned k b.rest) planned cells (subst (All (IsNext planned k b.rest)) (sym b.split) all) in
+      subst (IsNext planned k b.rest) is (All-get_or (IsNext planned k b.rest) cells at x less each) number
+
+  split : sorted_cells planned cells ≡ first ++ x ∷ drop 1 b.rest
+  split = b.split ∙ ap (λ l. first ++ l) next
+
+  room : length first < length cells
+  room =
+      let n = length_permutation cells (sorted_cells planned cells) (sort_moves (cell_sort_key planned) cells) in
+      let m = ap length split ∙ length-append first (x ∷ drop 1 b.rest) in
+      omega (arith, n, m)
+
+-- A cell of a number from k on has one from n on.
+abbrev Gap : List ℕ → ℕ → ℕ → Cell → Type 0
+Gap planned k n c = k ≤ cell_number planned c → n ≤ cell_number planned c
+
+skip : (planned : List ℕ) (k n : ℕ) (cells : List Cell) → All (Gap planned k n) cells → All (IsFrom planned k) cells → All (IsFrom planned n) cells
+skip planned k n [] none later = All-nil (IsFrom planned n)
+skip planned k n (c ∷ cells) none later =
+    All-cons (IsFrom planned n) c cells (All-head (Gap planned k n) c cells none (All-head (IsFrom planned k) c cells later))
+    (skip planned k n cells (All-tail (Gap planned k n) c cells none) (All-tail (IsFrom planned k) c cells later))
+
+below_skip : (planned : List ℕ) (k n : ℕ) (cells first : List Cell) → k ≤ n → All (Gap planned k n) cells → AreBelow planned k cells first → AreBelow planned n cells first
+below_skip planned k n cells first le none b = record {
+  rest = b.rest;
+  split = b.split;
+  earlier = All-weaker (λ c. cell_number planned c < k) (λ c. cell_number planned c < n) (λ c lower. omega (arith, lower, le)) first b.earlier;
+  later = skip planned k n b.rest (rest_of (Gap planned k n) first b.rest (subst (All (Gap planned k n)) b.split (to_sorted (Gap planned k n) planned cells none))) b.later;
+}
+
+-- ---- cells of a system and a plan
+
+-- A cell of a planned signal: its index is that of the plan.
+abbrev IsPlaced : List ℕ → Cell → ℕ → Type 0
+IsPlaced planned c p = (place_in c.signal planned ≡ Some p) × (p < length planned) × (get_or planned p 0 ≡ c.signal.index)
+
+placed : (planned : List ℕ) (c : Cell) → is_some (place_in c.signal planned) ≡ true → (p : ℕ) × IsPlaced planned c p
+placed planned c h = by (place_in c.signal planned) refl h where
+  by : (o : Option ℕ) → place_in c.signal planned ≡ o → is_some o ≡ true → (p : ℕ) × IsPlaced planned c p
+  by None e h = cc
+  by (Some p) e h =
+      let at = position-Some (λ i. i == c.signal.index) planned p 0 e in
+      (p, (e, at.0, let is = at.1 in grind (arith, is)))
+
+number_is : (planned : List ℕ) (c : Cell) (p : ℕ) → place_in c.signal planned ≡ Some p → cell_number planned c ≡ 64 * c.satellite.id + p
+number_is planned c p e = ap (λ o. 64 * c.satellite.id + option_map_or (λ n. n) o 0) e
+
+same_place : (planned : List ℕ) (i p a : ℕ) → IsDistinct nat_eq planned → i < length planned → p < length planned → get_or planned i 0 ≡ a → get_or planned p 0 ≡ a → p ≡ i
+same_place planned i p a apart h k e f = by (nat_lt i p) (nat_lt p i) refl refl where
+  clash : (b : Bool) → nat_eq a a ≡ b → b ≡ false → ⊥
+  clash true e f = cc
+  clash false e f = absurd (grind (arith, e))
+
+  by : (b c : Bool) → nat_lt i p ≡ b → nat_lt p i ≡ c → p ≡ i
+  by true c x y = absurd (clash (nat_eq a a) refl (sym (ap₂ (λ n m. nat_eq n m) e f) ∙ apart_from_distinct nat_eq planned i p 0 apart (let l : i < p = grind (arith, x) in l) k))
+  by false true x y = absurd (clash (nat_eq a a) refl (sym (ap₂ (λ n m. nat_eq n m) f e) ∙ apart_from_distinct nat_eq planned p i 0 apart (let l : p < i = grind (arith, y) in l) h))
+  by false false x y = grind (arith, x, y)
+
+-- The cell of an entry has the number of its satellite and its signal's index in the plan.
+number_at : (planned : List ℕ) (id i index : ℕ) (x : Cell) → IsDistinct nat_eq planned → i < length planned → get_or planned i 0 ≡ index → index < 32 → x.signal.index < 32
+    → is_some (place_in x.signal planned) ≡ true → slot x ≡ 32 * id + index → cell_number planned x ≡ 64 * id + i
+number_at planned id i index x apart less at low small some is =
+    let p = placed planned x some in
+    let same = both x.satellite.id x.signal.index id index small low is in
+    number_is planned x p.0 p.1.0 ∙ ap₂ (λ n m. 64 * n + m) same.0 (same_place planned i p.0 index apart less p.1.1 at (p.1.2 ∙ same.1)) where
+      both : (a b n m : ℕ) → b < 32 → m < 32 → 32 * a + b ≡ 32 * n + m → (a ≡ n) × (b ≡ m)
+      both a b n m h k e = (omega (arith, h, k, e), omega (arith, h, k, e))
+
+abbrev IsPlanned : List ℕ → Cell → Type 0
+IsPlanned planned c = is_some (place_in c.signal planned) ≡ true
+
+-- Without a cell of an entry, no cell has the number of its satellite and signal.
+none_at : (planned : List ℕ) (id i index : ℕ) (cells : List Cell) → length planned ≤ 64 → i < length planned → get_or planned i 0 ≡ index → All (IsPlanned planned) cells
+    → has_slot (32 * id + index) (map slot cells) ≡ false → All (Gap planned (64 * id + i) (64 * id + (i + 1))) cells
+none_at planned id i index [] few less at all none = All-nil (Gap planned (64 * id + i) (64 * id + (i + 1)))
+none_at planned id i index (c ∷ cells) few less at all none =
+    by (slot c == 32 * id + index) refl none (none_at planned id i index cells few less at (All-tail (IsPlanned planned) c cells all)) where
+      at_plan : (p : ℕ) × IsPlaced planned c p
+      at_plan = placed planned c (All-head (IsPlanned planned) c cells all)
+
+      other : (a b n p q m : ℕ) → p < 64 → m < 64 → a ≡ 64 * b + p → (p ≡ m → 32 * b + q ≡ 32 * n + index → ⊥) → (p ≡ m → q ≡ index) → 64 * n + m ≤ a → 64 * n + (m + 1) ≤ a
+      other a b n p q m h k is differ same le = step (nat_eq a (64 * n + m)) refl where
+        step : (e : Bool) → nat_eq a (64 * n + m) ≡ e → 64 * n + (m + 1) ≤ a
+        step false e = grind (arith, e, le)
+        step true e =
+            let equal : a ≡ 64 * n + m = grind (arith, e) in
+            let place : p ≡ m = omega (arith, equal, is, h, k) in
+            let satellite : b ≡ n = omega (arith, equal, is, h, k) in
+            absurd (differ place (ap₂ (λ u v. 32 * u + v) satellite (same place)))
+
+      by : (b : Bool) → (slot c == 32 * id + index) ≡ b → (b || has_slot (32 * id + index) (map slot cells)) ≡ false
+          → (has_slot (32 * id + index) (map slot cells) ≡ false → All (Gap planned (64 * id + i) (64 * id + (i + 1))) cells)
+          → All (Gap planned (64 * id + i) (64 * id + (i + 1))) (c ∷ cells)
+      by true e f more = cc
+      by false e f more =
+          All-cons (Gap planned (64 * id + i) (64 * id + (i + 1))) c cells
+          (let within = at_plan.1.1 in
+          other (cell_number planned c) c.satellite.id id at_plan.0 c.signal.index i (omega (arith, within, few)) (omega (arith, less, few)) (number_is planned c at_plan.0 at_plan.1.0)
+          (λ place is. absurd (grind (arith, e, is))) (λ place. sym at_plan.1.2 ∙ ap (λ n. get_or planned n 0) place ∙ at))
+          (more f)
+
+abbrev IsOwn : System → List ℕ → Cell → Type 0
+IsOwn system planned c = (c.satellite.system ≡ system) × IsPlanned planned c
+
+planned_cells : (system : System) (planned : List ℕ) (cells : List Cell) → AreInPlanOrder system planned (sorted_cells planned cells) → All (IsPlanned planned) cells
+planned_cells system planned cells h =
+    All-weaker (IsOwn system planned) (IsPlanned planned) (λ c both. both.1) cells (of_sorted (IsOwn system planned) planned cells (All-from_recursion (IsOwn system planned) (sorted_cells planned cells) h.each))
+
+pub below_first : (system : System) (planned : List ℕ) (cells : List Cell) → AreHeld system cells → AreBelow planned 64 cells []
+below_first system planned cells h =
+    record { rest = sorted_cells planned cells; split = refl; earlier = All-nil (λ c. cell_number planned c < 64); later = to_sorted (IsFrom planned 64) planned cells (All-weaker (IsHeld system) (IsFrom planned 64) from cells h.each) } where
+      from : (c : Cell) → IsHeld system c → IsFrom planned 64 c
+      from c held = let one = held.number.0 in omega (arith, one)
+
+pub below_all : (system : System) (planned : List ℕ) (cells first : List Cell) → length planned ≤ 64 → AreHeld system cells → AreBelow planned (64 * (satellites system + 1)) cells first → first ≡ sorted_cells planned cells
+below_all system planned cells first few h b = sym (b.split ∙ ap (λ l. first ++ l) (none b.rest b.later (rest_of (IsHeld system) first b.rest (subst (All (IsHeld system)) b.split (held_sorted system planned cells h).each))) ∙ append-nil first) where
+  none : (rest : List Cell) → All (IsFrom planned (64 * (satellites system + 1))) rest → All (IsHeld system) rest → rest ≡ []
+  none [] later held = refl
+  none (c ∷ rest) later held =
+      let own = All-head (IsHeld system) c rest held in
+      let low = place_less (place_in c.signal planned) _ planned refl few in
+      let most = subst (λ s. c.satellite.id ≤ satellites s) own.satellite own.number.1 in
+      let from = All-head (IsFrom planned (64 * (satellites system + 1))) c rest later in
+      absurd (omega (arith, low, most, from))
+
+-- ---- the entries of a satellite
+
+pub few_planned : (system : System) (signals : List SignalAt) → IsOf system signals → length (indices signals) ≤ 64
+few_planned system signals of = let n = few_signals system signals of in let m = length_indices signals in let few = table_few system in omega (arith, n, m, few)
+
+index_of : (signals : List SignalAt) (i : ℕ) (s : SignalAt) → i < length signals → s ≡ get_or signals i s → get_or (indices signals) i 0 ≡ s.index
+index_of signals i s less at = get_or-map (λ (r : SignalAt). r.index) signals i s 0 less ∙ ap (λ (r : SignalAt). r.index) (sym at)
+
+pub entry_found : (system : System) (signals : List SignalAt) (id i at : ℕ) (s : SignalAt) (x : Cell) (cells first : List Cell) → IsOf system signals → AreHeld system cells
+    → AreInPlanOrder system (indices signals) (sorted_cells (indices signals) cells) → i < length signals → s ≡ get_or signals i s → IsSignal s
+    → (at < length cells) × ((d : Cell) → slot (get_or cells at d) ≡ 32 * id + s.index) → x ≡ get_or cells at x → AreBelow (indices signals) (64 * id + i) cells first
+    → (length first < length cells) × AreBelow (indices signals) (64 * id + (i + 1)) cells (first ++ x ∷ [])
+entry_found system signals id i at s x cells first of held order less is listed found here b =
+    let planned = indices signals in
+    let within : i < length planned = subst (λ n. i < n) (sym (length_indices signals)) less in
+    let some = subst (IsPlanned planned) (sym here) (All-get_or (IsPlanned planned) cells at x found.0 (planned_cells system planned cells order)) in
+    let own = subst (IsHeld system) (sym here) (All-get_or (IsHeld system) cells at x found.0 held.each) in
+    let number = number_at planned id i s.index x of.apart within (index_of signals i s less is) (low_index s listed) (low_index x.signal own.place) some (ap slot here ∙ found.1 x) in
+    let next = below_found planned (64 * id + i) cells first at x (few_planned system signals of) order.rise found.0 (sym here) number b in
+    let end : 64 * id + i + 1 ≡ 64 * id + (i + 1) = omega arith in
+    (next.0, subst (λ n. AreBelow planned n cells (first ++ x ∷ [])) end next.1)
+
+pub entry_none : (system : System) (signals : List SignalAt) (id i : ℕ) (s : SignalAt) (cells first : List Cell) → IsOf system signals → AreInPlanOrder system (indices signals) (sorted_cells (indices signals) cells)
+    → i < length signals → s ≡ get_or signals i s → has_slot (32 * id + s.index) (map slot cells) ≡ false → AreBelow (indices signals) (64 * id + i) cells first → AreBelow (indices signals) (64 * id + (i + 1)) cells first
+entry_none system signals id i s cells first of order less is none b =
+    let within : i < length (indices signals) = subst (λ n. i < n) (sym (length_indices signals)) less in
+    below_skip (indices signals) (64 * id + i) (64 * id + (i + 1)) cells first (omega arith)
+    (none_at (indices signals) id i s.index cells (few_planned system signals of) within (index_of signals i s less is) (planned_cells system (indices signals) cells order) none) b
+
+-- No cell is of a place after the plan's.
+pub entries_end : (system : System) (signals : List SignalAt) (id n : ℕ) (cells first : List Cell) → IsOf system signals → AreInPlanOrder system (indices signals) (sorted_cells (indices signals) cells)
+    → n ≡ length signals → AreBelow (indices signals) (64 * id + n) cells first → AreBelow (indices signals) (64 * (id + 1)) cells first
+entries_end system signals id n cells first of order end b =
+    below_skip (indices signals) (64 * id + n) (64 * (id + 1)) cells first (omega (arith, most, end, length_indices signals)) (All-weaker (IsPlanned (indices signals)) (Gap (indices signals) (64 * id + n) (64 * (id + 1))) later cells (planned_cells system (indices signals) cells order)) b where
+      most : length (indices signals) ≤ 64
+      most = few_planned system signals of
+
+      far : (a b p k : ℕ) → a ≡ 64 * b + p → p < k → k ≤ 64 → k ≡ n → 64 * id + n ≤ a → 64 * (id + 1) ≤ a
+      far a b p k e h le is from = omega (arith, e, h, le, is, from)
+
+      later : (c : Cell) → IsPlanned (indices signals) c → 64 * id + n ≤ cell_number (indices signals) c → 64 * (id + 1) ≤ cell_number (indices signals) c
+      later c some =
+          let p = placed (indices signals) c some in
+          far (cell_number (indices signals) c) c.satellite.id p.0 (length (indices signals)) (number_is (indices signals) c p.0 p.1.0) p.1.1 most (length_indices signals ∙ sym end)
 
 -- ---- cells in order
 

@@ -1,8 +1,8 @@
 -- The cells of a pending epoch, in the order in which they arrive.
-use Rattle.std.specs.Prelude.{ℕ, suc, ◌+◌, ◌*◌, ◌%◌, ◌≡◌, ◌<◌, ◌==◌, Bool, nat_le, List, [], ◌∷◌, ◌++◌, length, get_or}
+use Rattle.std.specs.Prelude.{ℕ, ◌+◌, ◌*◌, ◌≡◌, ◌<◌, ◌≤◌, ◌==◌, Bool, nat_le, List, [], ◌∷◌, ◌++◌, length, get_or}
 use Rattle.std.specs.Prelude.{map, fold, if◌then◌else◌}
 use Rattle.std.specs.Option.{option_map_or}
-use Rattle.std.specs.List.{AllByRecursion, list_any}
+use Rattle.std.specs.List.{All, AllByRecursion, list_any}
 use Rattle.gnss_obs.specs.declared.system.System.{System}
 use Rattle.gnss_obs.specs.declared.system.System.TheVariants.{Gps, Galileo}
 use Rattle.gnss_obs.specs.declared.cell.Cell.{Cell}
@@ -75,11 +75,9 @@ sorted_epoch p e =
 abbrev pub cell_number : List ℕ → Cell → ℕ
 cell_number planned c = 64 * c.satellite.id + option_map_or (λ p. p) (place_in c.signal planned) 0
 
--- The numbers of cells, from index i on, each with its index as the last byte.
-abbrev pub numbers : List ℕ → ℕ → List Cell → List ℕ
-numbers planned i [] = []
-numbers planned i (c ∷ cells) = (256 * cell_number planned c + i) ∷ numbers planned (suc i) cells
-
--- The cells whose indices are the last bytes of these numbers.
-abbrev pub picked : List Cell → Cell → List ℕ → List Cell
-picked cells d order = map (λ n. get_or cells (n % 256) d) order
+-- The first of the sorted cells: those whose numbers are below n.
+pub record AreBelow (planned : List ℕ) (n : ℕ) (cells first : List Cell) : Type 0 where
+  pub rest : List Cell
+  pub split : sorted_cells planned cells ≡ first ++ rest
+  pub earlier : All (λ c. cell_number planned c < n) first
+  pub later : All (λ c. n ≤ cell_number planned c) rest

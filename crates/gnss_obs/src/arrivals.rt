@@ -2,6 +2,7 @@
 ghost use Rattle.std.specs.Prelude.{◌≡◌, ◌<◌, [], IfOk};
 ghost use Rattle.gnss_obs.specs.HeardCells.{heard_cell, IsObserved};
 ghost use Rattle.gnss_obs.specs.Arriving.{IsAdded, AddsCell, sorted_cells, sorted_epoch};
+ghost use Rattle.gnss_obs.specs.Kept.{AreInOrder, AreInPlanOrder};
 ghost use Rattle.gnss_obs.specs.Values.{AreHeld, cells_of, planned_of};
 
 use crate::cell::{Cell, StationValues};
@@ -128,6 +129,7 @@ impl Arrivals {
 
     /// Sorts the cells of each system by satellite and then by the order of a plan.
     pub fn sort(&mut self, plan: &Plan, spare: &mut Box<Cells>)
+        requires { AreInOrder plan.now (sorted_epoch plan.now self.old.epoch) }
         ensures { self.new ≡ record { epoch = sorted_epoch plan.now self.old.epoch; values = self.old.values } }
     {
         sort(&mut self.gps, plan, System::Gps, spare);
@@ -163,10 +165,13 @@ fn add(cells: &mut Cells, x: Cell) -> Added
 
 // Sorts the cells of a system. They are copied only if they aren't in order.
 fn sort(cells: &mut Box<Cells>, plan: &Plan, system: System, spare: &mut Box<Cells>)
+    requires held { AreHeld system cells.old.value }
+    requires order { AreInPlanOrder system (planned_of system plan.now)
+        (sorted_cells (planned_of system plan.now) cells.old.value) }
     ensures { cells.new.value ≡ sorted_cells (planned_of system plan.now) cells.old.value }
 {
     if !are_in_order(cells.as_slice(), plan, system) {
-        sort_into(spare, cells.as_slice(), plan, system);
+        sort_into(spare, cells, plan, system);
         mem::swap(cells, spare);
     }
 }

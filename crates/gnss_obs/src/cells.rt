@@ -1,5 +1,6 @@
 //! The cells of one system of an epoch.
-ghost use Rattle.std.specs.Prelude.{◌≡◌, ◌<◌, ◌≤◌, ◌++◌, ◌∷◌, [], length, map};
+ghost use Rattle.std.specs.Prelude.{◌≡◌, ◌<◌, ◌≤◌, ◌++◌, ◌∷◌, [], length, map, get_or, is_some, IfSome};
+ghost use Rattle.gnss_obs.specs.declared.cell.Cell.{Cell};
 ghost use Rattle.gnss_obs.specs.Arriving.{has_slot, slot, most_slots};
 ghost use Rattle.gnss_obs.specs.Values.{most_cells};
 
@@ -71,9 +72,26 @@ impl Cells {
     pub fn has_key_of(&self, x: &Cell) -> bool
         ensures { result ≡ has_slot (slot x.now) (map slot self.now) }
     {
-        let place = slot(x);
-        let at = self.table[place] as usize;
-        at < self.count && slot(&self.buffer[at]) == place
+        self.find(slot(x)).is_some()
+    }
+
+    /// Returns the index of a cell of the key of this entry, or `None` if there is none.
+    #[inline(always)]
+    pub fn find(&self, entry: usize) -> Option<usize>
+        requires { entry < most_slots }
+        ensures found { IfSome result
+            (λ at. (at < length self.now) × ((d : Cell) → slot (get_or self.now at d) ≡ entry)) }
+        ensures any { is_some result ≡ has_slot entry (map slot self.now) }
+    {
+        let at = self.table[entry] as usize;
+        if at >= self.count {
+            return None;
+        }
+        if slot(&self.buffer[at]) == entry {
+            Some(at)
+        } else {
+            None
+        }
     }
 
     /// Appends a cell.

@@ -1,13 +1,15 @@
 //! Cells in the order of their satellites and of a plan.
-ghost use Rattle.std.specs.Prelude.{◌≡◌, ◌<◌, ◌≤◌, ◌%◌, true, length, All};
-ghost use Rattle.gnss_obs.specs.declared.cell.Cell.{Cell};
-ghost use Rattle.gnss_obs.specs.Arriving.{sorted_cells, cell_number, numbers, picked};
-ghost use Rattle.gnss_obs.specs.Values.{planned_of, most_cells};
+ghost use Rattle.std.specs.Prelude.{◌≡◌, ◌+◌, ◌*◌, ◌<◌, ◌≤◌, true};
+ghost use Rattle.gnss_obs.specs.Arriving.{sorted_cells, cell_number, AreBelow};
+ghost use Rattle.gnss_obs.specs.Kept.{AreInPlanOrder};
+ghost use Rattle.gnss_obs.specs.Satellites.{satellites};
+ghost use Rattle.gnss_obs.specs.SignalLists.{indices, IsOf};
+ghost use Rattle.gnss_obs.specs.Values.{AreHeld, planned_of};
 
 use crate::cell::Cell;
 use crate::cells::Cells;
-use crate::epoch::MOST_CELLS;
 use crate::plan::Plan;
+use crate::signal::Signal;
 use crate::system::System;
 
 /// Returns whether the cells are in the order of their satellites and then of the plan.
@@ -27,42 +29,34 @@ pub(crate) fn are_in_order(cells: &[Cell], plan: &Plan, system: System) -> bool
     true
 }
 
-/// Copies cells in the order of their satellites and then of the plan. Of cells with the same key
-/// the first comes first.
+/// Copies cells in the order of their satellites and then of the plan.
 #[inline(never)]
-pub(crate) fn sort_into(sorted: &mut Cells, cells: &[Cell], plan: &Plan, system: System)
-    requires { length cells.now ≤ most_cells }
+pub(crate) fn sort_into(sorted: &mut Cells, cells: &Cells, plan: &Plan, system: System)
+    requires held { AreHeld system cells.now }
+    requires order { AreInPlanOrder system (planned_of system plan.now)
+        (sorted_cells (planned_of system plan.now) cells.now) }
     ensures { sorted.new ≡ sorted_cells (planned_of system plan.now) cells.now }
 {
-    // This call is for the proof: it bounds the number of planned signals.
-    let _count = plan.signals(system);
-    let mut order = [0; MOST_CELLS];
-    let order = &mut order[..cells.len()];
-    number_cells(order, cells, plan, system);
-    order.sort_unstable();
-    copy_in(sorted, cells, order);
-}
-
-// Sets, for each cell, its number and, as the last byte, its index.
-fn number_cells(order: &mut [u32], cells: &[Cell], plan: &Plan, system: System)
-    requires same { length order.old ≡ length cells.now }
-    requires few { length cells.now ≤ most_cells }
-    ensures { order.new ≡ numbers (planned_of system plan.now) 0 cells.now }
-{
-    for i in 0..cells.len() {
-        order[i] = 256 * number_of(&cells[i], plan, system) + i as u32;
+    let signals = plan.of(system);
+    sorted.clear();
+    for before in 0..system.satellites() {
+        copy_satellite(sorted, cells, signals, system, before + 1);
     }
 }
 
-// Copies the cells whose indices are the last bytes of these numbers.
-fn copy_in(to: &mut Cells, cells: &[Cell], order: &[u32])
-    requires few { length order.now ≤ most_cells }
-    requires within { All (λ n. n % 256 < length cells.now) order.now }
-    ensures { (d : Cell) → to.new ≡ picked cells.now d order.now }
+// Copies the cells of a satellite in the order of the plan, after those of the satellites before.
+fn copy_satellite(sorted: &mut Cells, cells: &Cells, signals: &[Signal], system: System, id: u8)
+    requires id { id ≤ satellites system }
+    requires signals { IsOf system signals.now }
+    requires held { AreHeld system cells.now }
+    requires order { AreInPlanOrder system (indices signals.now) (sorted_cells (indices signals.now) cells.now) }
+    requires before { AreBelow (indices signals.now) (64 * id) cells.now sorted.old }
+    ensures { AreBelow (indices signals.now) (64 * (id + 1)) cells.now sorted.new }
 {
-    to.clear();
-    for i in 0..order.len() {
-        to.push(cells[(order[i] % 256) as usize]);
+    for i in 0..signals.len() {
+        if let Some(at) = cells.find(32 * id as usize + signals[i].index()) {
+            sorted.push(cells.as_slice()[at]);
+        }
     }
 }
 

@@ -33,18 +33,21 @@ pub enum Stage {
 #[derive(Drop)]
 pub struct Pending {
     stage: Stage,
+    // That of the stage, so that it is read for each cell without a look at the stage.
+    time: GpsTime,
     // Only used while cells are sorted.
     spare: Box<Cells>,
 }
 
 impl Model for Pending {
+    ghost use Rattle.std.specs.Prelude.{◌≡◌};
     ghost use Rattle.gnss_obs.specs.Stages.{PendingValue, stage_value, IsStage};
 
     ghost Value = { PendingValue };
 
     ghost view = { λ p. stage_value p.stage };
 
-    ghost invariant = { λ p. IsStage p.stage };
+    ghost invariant = { λ p. IsStage p.stage × (p.time ≡ (stage_value p.stage).epoch.time) };
 }
 
 impl Pending {
@@ -62,6 +65,7 @@ impl Pending {
     {
         Ok(Pending {
             spare: no_cells(alloc)?,
+            time: GpsTime::within(0),
             stage: Stage::Open(Arrivals::new(alloc, values)?),
         })
     }
@@ -76,6 +80,7 @@ impl Pending {
     {
         let mut cells = into_arrivals(mem::replace(&mut self.stage, Stage::Moving));
         cells.begin(time);
+        self.time = time;
         self.stage = Stage::Open(cells);
     }
 
@@ -100,7 +105,7 @@ impl Pending {
         ensures values { self.new.values ≡ self.old.values }
         ensures open { self.new.is_open ≡ true }
     {
-        if !self.is_open() {
+        if !matches!(&self.stage, Stage::Open(_)) {
             self.open();
         }
         match &mut self.stage {
@@ -115,14 +120,6 @@ impl Pending {
         ensures { self.new ≡ record { epoch = self.old.epoch; values = self.old.values; is_open = true } }
     {
         self.stage = Stage::Open(into_arrivals(mem::replace(&mut self.stage, Stage::Moving)));
-    }
-
-    // Returns whether the epoch is pending.
-    #[inline(always)]
-    fn is_open(&self) -> bool
-        ensures { result ≡ self.now.is_open }
-    {
-        matches!(&self.stage, Stage::Open(_))
     }
 
     /// Closes the epoch: sorts its cells by satellite and then by the order of a plan.
@@ -154,11 +151,7 @@ impl Pending {
     pub fn time(&self) -> GpsTime
         ensures { result ≡ self.now.epoch.time }
     {
-        match &self.stage {
-            Stage::Open(cells) => cells.time(),
-            Stage::Closed(epoch) => epoch.time(),
-            Stage::Moving => unreachable!(),
-        }
+        self.time
     }
 
     /// Returns the station values.

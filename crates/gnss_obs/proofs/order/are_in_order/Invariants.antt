@@ -1,4 +1,4 @@
-use Rattle.std.proofs.Common.{◌≡◌, drop, map}
+use Rattle.std.proofs.Common.{drop, map}
 use Rattle.gnss_obs.specs.Names.{cell_number, planned_of}
 use Rattle.gnss_obs.proofs.SortLemmas.{Rises}
 use Rattle.gnss_obs.proofs.order.are_in_order.Given as goal

@@ -1,20 +1,17 @@
-use Rattle.std.proofs.Common.{◌≤◌, ◌<◌, ◌%◌, ◌∙◌, sym, arith, subst, length, All, IsPermutation}
-use Rattle.std.proofs.lemmas.List.Sorted.{All-permutation, IsNonDecreasingBy-from_sort}
-use Rattle.gnss_obs.specs.Values.{planned_of}
-use Rattle.gnss_obs.proofs.SortLemmas.{no_cell, numbers_within, picked_sorted, table_few}
+use Rattle.std.proofs.Common.{◌≡◌, ◌≤◌, ◌+◌, ◌*◌, sym, arith, subst, length}
+use Rattle.gnss_obs.specs.Names.{AreBelow, planned_of, satellites}
+use Rattle.gnss_obs.proofs.SortLemmas.{below_all, below_first, few_planned}
 use Rattle.gnss_obs.proofs.order.sort_into.Goals as goal
 
-pub copy_in-requires-clause-within : goal.copy_in-requires-clause-within
-copy_in-requires-clause-within c =
-    let cells = c.args.cells.now in
-    All-permutation (λ n. n % 256 < length cells) c.number_cells.new.order c.sort_unstable.new.self c.sort_unstable.ensures.permutation
-    (subst (All (λ n. n % 256 < length cells)) (sym c.number_cells.ensures) (numbers_within (planned_of c.args.system c.args.plan.now) cells 0 (length cells) (omega arith) c.requires))
+pub loop-before-init : goal.loop-before-init
+loop-before-init c =
+    let planned = planned_of c.args.system c.args.plan.now in
+    subst (AreBelow planned 64 c.args.cells.now) (sym c.clear.ensures) (below_first c.args.system planned c.args.cells.now c.requires.held)
 
 pub returns : goal.returns
 returns c =
     let planned = planned_of c.args.system c.args.plan.now in
-    let few : length planned ≤ 64 = let n = table_few c.args.system in omega (arith, n, c.signals-count.ensures.count, c.signals-count.ensures.bound) in
-    c.copy_in.ensures no_cell
-    ∙ picked_sorted planned c.args.cells.now no_cell c.sort_unstable.new.self few c.requires
-    (subst (λ l. IsPermutation l c.sort_unstable.new.self) c.number_cells.ensures c.sort_unstable.ensures.permutation)
-    (IsNonDecreasingBy-from_sort (λ x. x) c.sort_unstable.new.self c.sort_unstable.ensures.sorted)
+    let few : length planned ≤ 64 = subst (λ l. length l ≤ 64) c.of-signals.ensures.indices (few_planned c.args.system c.of-signals.result.now c.of-signals.ensures.system) in
+    let end : c.loop-before.before ≡ satellites c.args.system = omega (arith, c.loop-before-test.false, c.loop-before.auto.before-end, c.satellites-before-end.ensures.value) in
+    below_all c.args.system planned c.args.cells.now c.loop-before.sorted few c.requires.held
+    (subst (λ n. AreBelow planned (64 * (n + 1)) c.args.cells.now c.loop-before.sorted) end c.loop-before.invariant)
