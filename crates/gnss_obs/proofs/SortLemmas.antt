@@ -72,12 +72,15 @@ next_rest planned k (y ∷ ys) few rise later =
 below_found : (planned : List ℕ) (k : ℕ) (cells first : List Cell) (at : ℕ) (x : Cell) → length planned ≤ 64 → SortKeysRise (map (cell_sort_key planned) (sorted_cells planned cells))
     → at < length cells → get_or cells at x ≡ x → cell_number planned x ≡ k → AreBelow planned k cells first
     → (length first < length cells) × AreBelow planned (k + 1) cells (first ++ x ∷ [])
-below_found planned k cells first at x few rise less is number b = (room, record {
-  rest = drop 1 b.rest;
-  split = split ∙ sym (append_assoc first (x ∷ []) (drop 1 b.rest));
-  earlier = All-push (λ c. cell_number planned c < k + 1) first x (All-weaker (λ c. cell_number planned c < k) (λ c. cell_number planned c < k + 1) (λ c lower. omega (arith, lower)) first b.earlier) (omega (arith, number));
-  later = subst (λ n. All (IsFrom planned (n + 1)) (drop 1 b.rest)) number (after_first planned x (drop 1 b.rest) few (rising (x ∷ drop 1 b.rest) split).0);
-}) where
+below_found planned k cells first at x few rise less is number b = (
+  room,
+  record {
+    rest = drop 1 b.rest;
+    split = split ∙ sym (append_assoc first (x ∷ []) (drop 1 b.rest));
+    earlier = All-push (λ c. cell_number planned c < k + 1) first x (All-weaker (λ c. cell_number planned c < k) (λ c. cell_number planned c < k + 1) (λ c lower. omega (arith, lower)) first b.earlier) (omega (arith, number));
+    later = subst (λ n. All (IsFrom planned (n + 1)) (drop 1 b.rest)) number (after_first planned x (drop 1 b.rest) few (rising (x ∷ drop 1 b.rest) split).0);
+  },
+) where
   rising : (rest : List Cell) → sorted_cells planned cells ≡ first ++ rest → SortKeysRise (map (cell_sort_key planned) rest)
   rising rest e = rise_rest planned first rest (subst (λ l. SortKeysRise (map (cell_sort_key planned) l)) e rise)
 

@@ -46,7 +46,8 @@ impl Cells {
         Cells {
             buffer: [Cell::default(); MOST_CELLS],
             count: 0,
-            table: [0; SLOTS],
+            // Most epochs have fewer cells, so that one comparison shows that there is none.
+            table: [255; SLOTS],
         }
     }
 

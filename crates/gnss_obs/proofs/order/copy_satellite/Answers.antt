@@ -17,7 +17,7 @@ push-requires c =
 
 pub loop-i-preserved : goal.loop-i-preserved
 loop-i-preserved c = elim c.match-find.branch [
-    in-Some w ↦
+  | in-Some w ↦
       let found = w.in-Some.ensures.found in
       let x = w.index-as_slice-at.result in
       subst (AreBelow (indices c.args.signals.now) (64 * c.args.id + (c.loop-i.i + 1)) c.args.cells.now) (sym (w.sorted-is ∙ w.push.ensures))
@@ -28,7 +28,7 @@ loop-i-preserved c = elim c.match-find.branch [
       subst (AreBelow (indices c.args.signals.now) (64 * c.args.id + (c.loop-i.i + 1)) c.args.cells.now) (sym w.sorted-is)
       (entry_none c.args.system c.args.signals.now c.args.id c.loop-i.i c.index-signals-i.result c.args.cells.now c.loop-i.sorted c.requires.signals c.requires.order c.loop-i-test.true
       c.index-signals-i.is (ap (λ n. has_slot (32 * c.args.id + n) (map slot c.args.cells.now)) (sym c.index.ensures.value) ∙ sym c.find.ensures.any ∙ ap is_some w.in_default.is) c.loop-i.invariant)
-  ]
+]
 
 pub returns : goal.returns
 returns c =
