@@ -216,6 +216,16 @@ below_all system planned cells first few h b = sym (b.split ∙ ap (λ l. first 
       let from = All-head (IsFrom planned (64 * (satellites system + 1))) c rest later in
       absurd (omega (arith, low, most, from))
 
+-- All cells are among the first ones if these are as many.
+pub below_whole : (planned : List ℕ) (n : ℕ) (cells first : List Cell) → length first ≡ length cells → AreBelow planned n cells first → first ≡ sorted_cells planned cells
+below_whole planned n cells first whole b =
+    let moved = length_permutation cells (sorted_cells planned cells) (sort_moves (cell_sort_key planned) cells) in
+    let parts : length (sorted_cells planned cells) ≡ length first + length b.rest = ap length b.split ∙ length-append first b.rest in
+    sym (b.split ∙ ap (λ l. first ++ l) (none b.rest (omega (arith, whole, moved, parts))) ∙ append-nil first) where
+      none : (rest : List Cell) → length rest ≡ 0 → rest ≡ []
+      none [] e = refl
+      none (c ∷ rest) e = absurd (omega (arith, e))
+
 -- ---- the entries of a satellite
 
 pub few_planned : (system : System) (signals : List SignalAt) → IsOf system signals → length (indices signals) ≤ 64

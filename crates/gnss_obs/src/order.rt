@@ -40,6 +40,9 @@ pub(crate) fn sort_into(sorted: &mut Cells, cells: &Cells, plan: &Plan, system: 
     let signals = plan.of(system);
     sorted.clear();
     for before in 0..system.satellites() {
+        if sorted.as_slice().len() == cells.as_slice().len() {
+            return;
+        }
         copy_satellite(sorted, cells, signals, system, before + 1);
     }
 }

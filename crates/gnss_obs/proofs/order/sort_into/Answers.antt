@@ -1,12 +1,17 @@
-use Rattle.std.proofs.Common.{◌≡◌, ◌≤◌, ◌+◌, ◌*◌, sym, arith, subst, length}
+use Rattle.std.proofs.Common.{◌≡◌, ◌≤◌, ◌+◌, ◌*◌, ◌∙◌, ap, sym, arith, subst, length}
 use Rattle.gnss_obs.specs.Names.{AreBelow, planned_of, satellites}
-use Rattle.gnss_obs.proofs.SortLemmas.{below_all, below_first, few_planned}
+use Rattle.gnss_obs.proofs.SortLemmas.{below_all, below_first, below_whole, few_planned}
 use Rattle.gnss_obs.proofs.order.sort_into.Goals as goal
 
 pub loop-before-init : goal.loop-before-init
 loop-before-init c =
     let planned = planned_of c.args.system c.args.plan.now in
     subst (AreBelow planned 64 c.args.cells.now) (sym c.clear.ensures) (below_first c.args.system planned c.args.cells.now c.requires.held)
+
+pub returns-then-as_slice : goal.returns-then-as_slice
+returns-then-as_slice c =
+    below_whole (planned_of c.args.system c.args.plan.now) (64 * (c.loop-before.before + 1)) c.args.cells.now c.loop-before.sorted
+    (ap length (sym c.as_slice.ensures.cells) ∙ c.if-as_slice.true ∙ ap length c.as_slice-in-loop-before.ensures.cells) c.loop-before.invariant
 
 pub returns : goal.returns
 returns c =
