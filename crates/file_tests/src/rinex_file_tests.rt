@@ -10,6 +10,7 @@ mod long;
 mod parts;
 mod pieces;
 mod reading;
+mod times;
 mod writing;
 
 use arrayvec::ArrayVec;

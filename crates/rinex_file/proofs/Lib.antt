@@ -14,8 +14,10 @@ mod SatelliteGroups
 mod TypeRows
 mod Sent
 mod LineByLine
+mod SummedFile
 mod FileText
 mod KeptFile
+mod LaterTimes
 mod Judged
 mod BodySteps
 mod EventSteps

@@ -1,4 +1,4 @@
--- Bytes that were read ahead and the lines among them; a file that is read line by line, and its counts.
+-- Bytes that were read ahead and the lines among them; a file that is read line by line.
 use Rattle.std.specs.Prelude.{is_some, ◌||◌, ◌==◌, nat_eq, nat_lt, min, All, ⊤, Bool, Ok}
 use Rattle.std.specs.Io.KnownBytes.{Consumes, IsAtEnd, prepend_known}
 use Rattle.std.proofs.Common.{arith, ◌≡◌, ◌∙◌, sym, ap, subst, refl, ℕ, zero, suc, ◌+◌, ◌-◌, ◌<◌, ◌≤◌, true, false, List, [], ◌∷◌, ◌++◌, length, take, drop, get_or, length-append, take-add, append_assoc, append-nil, Option, Some, None, IfSome, inl, inr}
@@ -13,11 +13,10 @@ use Rattle.rinex_file.specs.Exact.{IsLine, IsTextOf, NoFileBegins, IsCutShort, I
 use Rattle.rinex_file.specs.declared.read.parser_state.ParserState.{ParserState}
 use Rattle.rinex_file.specs.declared.read.expected.Added.{Added}
 use Rattle.rinex_file.specs.declared.read.reading.Reading.{Reading}
-use Rattle.rinex_file.specs.Value.{SatelliteRow, FileValue}
+use Rattle.rinex_file.specs.Value.{FileValue}
 use Rattle.rinex_file.specs.FileValues.{IsFileValue}
 use Rattle.rinex_file.specs.File.{file_text, file_lines}
 use Rattle.rinex_file.specs.ParserState.{History, with_line, GoesOnWithLine, ShowsLine, RefusesLine}
-use Rattle.rinex_file.specs.Counting.{AreCounts, IsTextWith}
 use Rattle.rinex_file.specs.Read.Steps.{ReadsNextLine, HasRead, IsWhole, IsTextOfOnly, file_at, IsTaken}
 use Rattle.rinex_file.specs.declared.read.file.FileBuilder.{FileBuilder}
 use Rattle.rinex_file.specs.Read.Keeping.{history_of, HasReadWhole}
@@ -331,20 +330,6 @@ no_reason (Some input) v = λ e. tt
 -- a line has its line feed
 pub line_some : (bytes : List ℕ) → IsLine bytes → 0 < length bytes
 line_some bytes (body, is, endless) = let size = ap length is ∙ length-append body (10 ∷ []) in omega (arith, size)
-
--- ---- a file that was read whole, and its counts
-
-no_rows_more : (n m : ℕ) (rows : List SatelliteRow) → n ≡ m + length rows → rows ≡ [] → n ≡ m
-no_rows_more n m rows e none = let zero : length rows ≡ 0 = ap length none in omega (arith, e, zero)
-
-counted_at : (c : ParserState) (h : History) (input : Option (List ℕ)) → IsWhole c h input → AreCounts c.counts (file_at c h)
-counted_at c h input whole = grind (arith, no_rows_more)
-
-pub counts_found : (c : ParserState) (h : History) (input : Option (List ℕ)) → IsWhole c h input → IsTextWith c.counts input
-counts_found c h input whole = grind (arith, said_of, counted_at)
-
-pub counts_only : (c : ParserState) (h : History) (input : Option (List ℕ)) (v : FileValue) → IsWhole c h input → IsFileValue v → IfSome input (λ bytes. bytes ≡ file_text v → AreCounts c.counts v)
-counts_only c h input v whole is = grind (arith, said_of, counted_at)
 
 -- ---- a step, by its result
 

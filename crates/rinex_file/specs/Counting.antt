@@ -1,12 +1,14 @@
--- The counts of a file.
-use Rattle.std.specs.Prelude.{◌≡◌, ◌≤◌, ℕ, List, length, Option, Result, Ok, Err, IfSome}
+-- The counts of a file, and the times of its epochs.
+use Rattle.std.specs.Prelude.{◌≡◌, ◌≤◌, ℕ, List, length, map, Option, Result, Ok, Err, IfSome}
 use Rattle.rinex_file.specs.declared.read.file.Counts.{Counts}
+use Rattle.rinex_file.specs.declared.read.file.FileSummary.{FileSummary}
 use Rattle.rinex_file.specs.declared.read.fault.ReadFault.{ReadFault}
 use Rattle.rinex_file.specs.Value.{FileValue}
-use Rattle.rinex_file.specs.FileValues.{IsFileValue}
+use Rattle.rinex_file.specs.FileValues.{IsFileValue, time_stamped}
 use Rattle.rinex_file.specs.File.{file_text, file_lines}
 use Rattle.rinex_file.specs.Exact.{IsNoFault, most_lines}
 use Rattle.rinex_file.specs.ParserState.{rows_in, events_in}
+use Rattle.rinex_file.specs.Times.{AreTimes}
 
 -- the numbers of the file's epochs, of its lines of satellites, and of its events
 pub record AreCounts (n : Counts) (v : FileValue) : Type 0 where
@@ -14,15 +16,20 @@ pub record AreCounts (n : Counts) (v : FileValue) : Type 0 where
   pub satellites : n.satellites ≡ rows_in v.epochs
   pub events : n.events ≡ events_in v.epochs
 
--- the input, if it is known, is the text of a file value with these counts
-pub record IsTextWith (n : Counts) (input : Option (List ℕ)) : Type 0 where
+-- the file's counts, and the times of its epochs
+pub record IsSummary (s : FileSummary) (v : FileValue) : Type 0 where
+  pub counts : AreCounts s.counts v
+  pub times : AreTimes (map time_stamped v.epochs) s.times
+
+-- the input, if it is known, is the text of a file value of which this holds
+pub record IsTextWith (Holds : FileValue → Type 0) (input : Option (List ℕ)) : Type 0 where
   pub v : FileValue
   pub is : IsFileValue v
   pub few : length (file_lines v) ≤ most_lines
   pub text : IfSome input (λ bytes. bytes ≡ file_text v)
-  pub counted : AreCounts n v
+  pub holds : Holds v
 
--- this file's counts, or an allocation failure, or a failed reader
-abbrev pub IsCountedOr : FileValue → Result Counts ReadFault → Type 0
-IsCountedOr v (Ok n) = AreCounts n v
-IsCountedOr v (Err fault) = IsNoFault fault
+-- this holds of what was found, or an allocation failure, or a failed reader
+abbrev pub HoldsOr : {A : Type 0} → (A → Type 0) → Result A ReadFault → Type 0
+HoldsOr Holds (Ok found) = Holds found
+HoldsOr Holds (Err fault) = IsNoFault fault

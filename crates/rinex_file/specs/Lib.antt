@@ -13,6 +13,7 @@ pub mod TextsOf
 pub mod FileValues
 pub mod Begun
 pub mod Exact
+pub mod Times
 pub mod ParserState
 pub mod Blocks
 pub mod Counting

@@ -5,6 +5,8 @@ use Rattle.std.specs.List.{sum_by}
 use Rattle.std.specs.List.Sorted.{IsStrictlyIncreasing}
 use Rattle.rinex_file.specs.declared.read.parser_state.ParserState.{ParserState}
 use Rattle.rinex_file.specs.declared.read.file.Counts.{Counts}
+use Rattle.rinex_file.specs.declared.read.times.EpochTimes.{EpochTimes}
+use Rattle.rinex_file.specs.Times.{AreTimesOrNone}
 use Rattle.rinex_file.specs.declared.read.expected.Added.{Added}
 use Rattle.rinex_file.specs.declared.read.expected.Added.TheVariants.{NoRow, OneRow, LastRow}
 use Rattle.rinex_file.specs.declared.read.expected.Refusal.{Refusal}
@@ -28,11 +30,6 @@ abbrev pub progress_at : ParserState → History → Progress
 progress_at c h =
     record { expected = c.expected; known = c.head; epochs = h.epochs; change = c.change; time = c.time; rows = h.rows }
 
--- this is the last of the numbers, or there is none
-abbrev pub EndsIn : List ℕ → Option ℕ → Type 0
-EndsIn xs None = xs ≡ []
-EndsIn xs (Some x) = (front : List ℕ) × (xs ≡ front ++ x ∷ [])
-
 -- exactly the numbers above this one continue the increasing numbers
 abbrev pub IsLast : List ℕ → ℕ → Type 0
 IsLast xs last = (n : ℕ) → 0 < n → (last < n) ↔ IsStrictlyIncreasing (xs ++ n ∷ [])
@@ -49,10 +46,10 @@ changes_of (Some v) = 1
 abbrev pub events_in : List Stamped → ℕ
 events_in epochs = sum_by (λ e. changes_of e.change) epochs
 
--- the last time and rank, the last change of station values, and the counts are those of a history
-pub record AreCounted (h : History) (last_time : Option ℕ) (last_rank : ℕ) (changed : Option StationValues)
+-- the times, the last rank, the last change of station values, and the counts are those of a history
+pub record AreCounted (h : History) (t : Option EpochTimes) (last_rank : ℕ) (changed : Option StationValues)
     (n : Counts) : Type 0 where
-  pub last : EndsIn (map time_stamped h.epochs) last_time
+  pub times : AreTimesOrNone (map time_stamped h.epochs) t
   pub rank : IsLast (map rank_of h.rows) last_rank
   pub values : (v : StationValues) → changed_by v changed ≡ values_following v h.epochs
   pub epochs : n.epochs ≡ length h.epochs
@@ -62,7 +59,7 @@ pub record AreCounted (h : History) (last_time : Option ℕ) (last_rank : ℕ) (
 -- this is the parser state after this history
 pub record FollowsHistory (c : ParserState) (h : History) : Type 0 where
   pub sound : IsSound (progress_at c h)
-  pub counted : AreCounted h c.last c.rank c.values c.counts
+  pub counted : AreCounted h c.times c.rank c.values c.counts
 
 -- an epoch after this change of station values
 abbrev pub stamped_at : Option StationValues → ℕ → List SatelliteRow → Stamped

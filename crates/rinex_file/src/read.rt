@@ -12,4 +12,5 @@ pub(crate) mod numbers;
 pub(crate) mod parser_state;
 pub(crate) mod reading;
 pub(crate) mod row;
+pub(crate) mod times;
 pub(crate) mod types;

@@ -3,7 +3,7 @@ ghost use Rattle.std.specs.Prelude.{◌≡◌, Err, IfOk, IfErr, IfSome, OnOk, [
 ghost use Rattle.rtcm_bits.specs.Device.{HasFailed};
 ghost use Rattle.rinex_file.specs.Exact.{ExplainsFault, IfTextOfFile, IsReadOr, IsTextOf};
 ghost use Rattle.rinex_file.specs.Blocks.{LeavesRest};
-ghost use Rattle.rinex_file.specs.Counting.{IsTextWith, IsCountedOr};
+ghost use Rattle.rinex_file.specs.Counting.{AreCounts, IsSummary, IsTextWith, HoldsOr};
 ghost use Rattle.rinex_file.specs.FileValues.{IsFileValue};
 ghost use Rattle.rinex_file.specs.ParserState.{FollowsHistory, nothing, with_line};
 ghost use Rattle.rinex_file.specs.Read.Steps.{file_at, HasRead};
@@ -14,6 +14,7 @@ use crate::read::fault::ReadFault;
 use crate::read::head_so_far::HeadSoFar;
 use crate::read::parser_state::ParserState;
 use crate::read::reading::Reading;
+use crate::read::times::EpochTimes;
 use crate::values::{KeptEpoch, KeptRow, ObsFile};
 use gnss_obs::Plan;
 use rtcm_bits::Counted;
@@ -30,6 +31,13 @@ pub struct Counts {
     pub satellites: u64,
     /// Number of events, each of which changes the station values.
     pub events: u64,
+}
+
+/// Counts of a file, and the times of its epochs.
+#[derive(Clone, Copy)]
+pub struct FileSummary {
+    pub counts: Counts,
+    pub times: EpochTimes,
 }
 
 /// The epochs of a file that were read, and the satellites of one that was begun.
@@ -159,11 +167,39 @@ fn read_lines<R: Read>(
 /// [`ReadFault::TooLong`] has no number.
 pub fn check_file<R: Read>(alloc: Global, reader: &mut Counted<R>) -> Result<Counts, ReadFault>
     // The counts are those of the file whose text is the whole input.
-    ensures found { IfOk result (λ n. IsTextWith n (R.remaining reader.old.inner)) }
+    ensures found { IfOk result (λ n. IsTextWith (AreCounts n) (R.remaining reader.old.inner)) }
     // The fault explains why nothing was counted.
     ensures fault { IfErr result (λ e. IfSome (R.remaining reader.old.inner) (λ input. ExplainsFault input e)) }
     // The text of each file value is accepted.
-    ensures only { IfTextOfFile (R.remaining reader.old.inner) (λ v. IsCountedOr v result) }
+    ensures only { IfTextOfFile (R.remaining reader.old.inner) (λ v. HoldsOr (λ n. AreCounts n v) result) }
+    // It fails with its reader: nothing is read again after a failed read.
+    ensures failed { result ≡ Err ReadFault.Read → HasFailed reader.old.failures reader.new.failures }
+    ensures same { (result ≡ Err ReadFault.Read → ⊥) → reader.new.failures ≡ reader.old.failures }
+    // A prefix of the input was read.
+    ensures left { LeavesRest (R.remaining reader.old.inner) (R.remaining reader.new.inner) }
+{
+    match check_file_times(alloc, reader) {
+        Ok(summary) => Ok(summary.counts),
+        Err(fault) => Err(fault),
+    }
+}
+
+/// Reads a file to its end and returns its counts and the times of its epochs. Accepts the same
+/// files as [`check_file`]. Memory doesn't grow with the file.
+///
+/// # Errors
+///
+/// As for [`check_file`].
+pub fn check_file_times<R: Read>(
+    alloc: Global,
+    reader: &mut Counted<R>,
+) -> Result<FileSummary, ReadFault>
+    // The counts and the times are those of the file whose text is the whole input.
+    ensures found { IfOk result (λ s. IsTextWith (IsSummary s) (R.remaining reader.old.inner)) }
+    // The fault explains why nothing was returned.
+    ensures fault { IfErr result (λ e. IfSome (R.remaining reader.old.inner) (λ input. ExplainsFault input e)) }
+    // The text of each file value is accepted.
+    ensures only { IfTextOfFile (R.remaining reader.old.inner) (λ v. HoldsOr (λ s. IsSummary s v) result) }
     // It fails with its reader: nothing is read again after a failed read.
     ensures failed { result ≡ Err ReadFault.Read → HasFailed reader.old.failures reader.new.failures }
     ensures same { (result ≡ Err ReadFault.Read → ⊥) → reader.new.failures ≡ reader.old.failures }
@@ -172,12 +208,8 @@ pub fn check_file<R: Read>(alloc: Global, reader: &mut Counted<R>) -> Result<Cou
 {
     let mut reading = Reading::new(alloc);
     let mut builder = FileBuilder::new(alloc);
-    let read = read_lines(reader, &mut reading, &mut builder, false);
-    let counts = reading.parser_state.counts;
-    drop(builder);
-    drop(reading);
-    match read {
-        Ok(()) => Ok(counts),
+    match read_lines(reader, &mut reading, &mut builder, false) {
+        Ok(()) => Ok(reading.parser_state.summary()),
         Err(fault) => Err(fault),
     }
 }

@@ -1,6 +1,6 @@
 //! The state of the parser of a file: what the next line has to fit, and counts. It doesn't grow
 //! with the file.
-ghost use Rattle.std.specs.Prelude.{◌≡◌, ◌<◌, ◌≤◌, ◌^◌, ◌↔◌, [], None, IsTrue};
+ghost use Rattle.std.specs.Prelude.{◌≡◌, ◌<◌, ◌≤◌, ◌^◌, ◌↔◌, [], Some, None, is_some, true, IsTrue};
 ghost use Rattle.rinex_file.specs.Value.{FileValue};
 ghost use Rattle.gnss_obs.specs.declared.cell.StationValues.{StationValues};
 ghost use Rattle.rinex_file.specs.FileValues.{IsFileValue, rank_of};
@@ -12,11 +12,12 @@ ghost use Rattle.rinex_file.specs.Read.Sound.{AreLinesOf, AreRead, MayBegin};
 
 use crate::read::epoch::read_epoch_line;
 use crate::read::expected::{Added, Expected, Refusal};
-use crate::read::file::Counts;
+use crate::read::file::{Counts, FileSummary};
 use crate::read::head_so_far::HeadSoFar;
 use crate::read::header_lines::{read_delta, read_position};
 use crate::read::numbers::is_same;
 use crate::read::row::read_seen;
+use crate::read::times::{EpochTimes, with_later};
 use crate::values::KeptSatellite;
 use crate::write::epoch::event_line;
 use crate::write::numbers::Line;
@@ -32,9 +33,8 @@ pub(crate) struct ParserState {
     // Of the epoch that was begun: the station values that change with it, and its time.
     pub(crate) change: Option<StationValues>,
     pub(crate) time: GpsTime,
-    // Of those before it: the time of the last, and the station values that changed last, if they
-    // did.
-    pub(crate) last: Option<u64>,
+    // Of those before it: their times, and the station values that changed last, if they did.
+    pub(crate) times: Option<EpochTimes>,
     pub(crate) values: Option<StationValues>,
     // The satellite that was read last, and its rank if it is of the epoch that was begun, or 0.
     pub(crate) seen: KeptSatellite,
@@ -67,7 +67,7 @@ impl ParserState {
             head,
             change: None,
             time,
-            last: None,
+            times: None,
             values: None,
             seen: KeptSatellite {
                 system: System::Gps,
@@ -120,9 +120,9 @@ impl ParserState {
         if satellites == 0 || satellites > gps + galileo {
             return false;
         }
-        match self.last {
+        match self.times {
             None => self.head.first.milliseconds() == time.milliseconds(),
-            Some(last) => last < time.milliseconds(),
+            Some(times) => times.last.milliseconds() < time.milliseconds(),
         }
     }
 
@@ -196,10 +196,22 @@ impl ParserState {
         self.counts.epochs += 1;
         self.counts.events += self.change.is_some() as u64;
         self.values = self.change.or(self.values);
-        self.last = Some(self.time.milliseconds());
+        self.times = Some(with_later(self.times, self.time));
         self.rank = 0;
         self.expected = Expected::Epoch;
         Ok(Added::LastRow)
+    }
+
+    /// Returns the counts and the times of the epochs that were read, at least one.
+    pub(crate) fn summary(&self) -> FileSummary
+        requires { is_some self.now.times ≡ true }
+        ensures counts { result.counts ≡ self.now.counts }
+        ensures times { self.now.times ≡ Some result.times }
+    {
+        FileSummary {
+            counts: self.counts,
+            times: self.times.unwrap(),
+        }
     }
 
     /// Returns whether the file may end here.

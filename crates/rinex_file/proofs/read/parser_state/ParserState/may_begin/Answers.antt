@@ -7,7 +7,7 @@ use Rattle.gnss_obs.specs.declared.system.System.TheVariants.{Gps, Galileo}
 use Rattle.std.proofs.lemmas.Bool.{lt-ltb, ltb-true}
 use Rattle.rinex_file.specs.FileValues.{most_rows, time_stamped}
 use Rattle.rinex_file.specs.declared.read.parser_state.ParserState.{ParserState}
-use Rattle.rinex_file.specs.ParserState.{EndsIn}
+use Rattle.rinex_file.specs.Times.{AreTimesOrNone}
 use Rattle.rinex_file.proofs.BodySteps.{rise_after, rise_last, not_none}
 use Rattle.rinex_file.proofs.read.parser_state.ParserState.may_begin.Goals as goal
 
@@ -24,16 +24,18 @@ some_one n some = omega (arith, some)
 
 pub returns-in-Some : goal.returns-in-Some
 returns-in-Some c = λ h history.
-    let (front, last) = subst (EndsIn (map time_stamped h.epochs)) (ap (λ (s : ParserState). s.last) (sym c.self.view_is) ∙ c.in-Some.is) history.counted.last in
-    let time = c.milliseconds-in-Some.ensures.value in
-    let x = c.in-Some.last in (
+    let times = subst (AreTimesOrNone (map time_stamped h.epochs)) (ap (λ (s : ParserState). s.times) (sym c.self.view_is) ∙ c.in-Some.is) history.counted.times in
+    let (front, last) = times.last in
+    let before = c.milliseconds-in-Some.ensures.value in
+    let time = c.milliseconds-in-Some-2.ensures.value in
+    let x = c.in-Some.times.last in (
       λ less. record {
-        later = rise_after _ front x c.args.time last (c.requires.between h history).rising (subst (λ t. x < t) time (ltb-true _ _ less));
+        later = rise_after _ front x c.args.time last (c.requires.between h history).rising (let now = ltb-true _ _ less in omega (arith, before, time, now));
         first = λ none. absurd (not_none h.epochs front x last none);
         some = some_one c.args.satellites c.if-satellites-eq0.false;
         room = within _ _ _ _ c.args.satellites _ _ _ _ c.planned.ensures c.planned-2.ensures c.min.ensures c.min-2.ensures c.satellites.ensures.value c.satellites-2.ensures.value c.if-satellites-gps.false;
       },
-      λ may. lt-ltb _ _ (subst (λ t. x < t) (sym time) (rise_last _ front x c.args.time last may.later)),
+      λ may. let rise = rise_last _ front x c.args.time last may.later in lt-ltb _ _ (omega (arith, before, time, rise)),
     )
 
 pub returns-then-satellites-eq0 : goal.returns-then-satellites-eq0

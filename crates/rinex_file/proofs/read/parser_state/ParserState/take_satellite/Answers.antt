@@ -1,4 +1,4 @@
-use Rattle.std.proofs.Common.{arith, ◌≡◌, ◌∙◌, ◌+◌, ◌-◌, ◌<◌, ◌∷◌, ◌++◌, [], ℕ, suc, List, sym, ap, subst, refl, length, length-append, Bool, true, false, Option, Some, None}
+use Rattle.std.proofs.Common.{arith, ◌≡◌, ◌∙◌, ◌+◌, ◌-◌, ◌<◌, ◌∷◌, ◌++◌, [], ℕ, suc, List, sym, ap, subst, refl, length, length-append, Bool, true, false, Option, Some, None, IfSome}
 use mir.Val.{bool_byte}
 use Rattle.std.specs.Option.{option_or, is_some}
 use Rattle.std.specs.Prelude.{map, ◌≤◌, ◌↔◌}
@@ -12,7 +12,9 @@ use Rattle.rinex_file.specs.FileValues.{IsSatelliteRow, changed_by, rank_of, tim
 use Rattle.rinex_file.specs.Lines.{satellite_line}
 use Rattle.rinex_file.specs.Read.Progress.{Progress}
 use Rattle.rinex_file.specs.Read.Fields.{ReadsExactly, some_if}
-use Rattle.rinex_file.specs.ParserState.{EndsIn, IsLast, changes_of, stamped_at, events_in, progress_at, rows_in}
+use Rattle.rinex_file.specs.declared.read.times.EpochTimes.{EpochTimes}
+use Rattle.rinex_file.specs.Times.{AreTimes, AreTimesOrNone}
+use Rattle.rinex_file.specs.ParserState.{IsLast, changes_of, stamped_at, events_in, progress_at, rows_in}
 use Rattle.rinex_file.proofs.BodySteps.{rise_after, rise_last, values_more, row_taken, row_shows, last_shows, no_row, bad_row, last_taken, sound_open, few_at, sound_row, sound_closed}
 use Rattle.rinex_file.proofs.FewRows.{some_rank}
 use Rattle.rinex_file.proofs.read.parser_state.ParserState.take_satellite.Goals as goal
@@ -40,10 +42,6 @@ Shows gps galileo line b seen = ReadsExactly (IsSatelliteRow gps galileo) satell
 shows : (g e gps galileo : ℕ) (line : List ℕ) (r b : Bool) (seen : SatelliteRow) → g ≡ gps → e ≡ galileo → r ≡ b → Shows g e line r seen → Shows gps galileo line b seen
 shows g e gps galileo line r b seen x y z h = grind arith
 
--- the last number of a list with one more item
-ends : {X : Type 0} (f : X → ℕ) (xs : List X) (x : X) (n : ℕ) → n ≡ f x → EndsIn (map f (xs ++ x ∷ [])) (Some n)
-ends f xs x n same = (map f xs, map-append f xs (x ∷ []) ∙ ap (λ m. map f xs ++ m ∷ []) (sym same))
-
 -- the ranks and a greater one are increasing, and those alone
 increasing : (gps galileo : ℕ) (rows : List SatelliteRow) (seen : SatelliteRow) (last rank : ℕ) → IsLast (map rank_of rows) last → IsSatelliteRow gps galileo seen → rank ≡ rank_of seen
     → (last < rank) ↔ IsStrictlyIncreasing (map rank_of rows ++ rank_of seen ∷ [])
@@ -52,9 +50,9 @@ increasing gps galileo rows seen last rank is row same =
 
 last_rank : (rows : List SatelliteRow) (seen : SatelliteRow) (n : ℕ) → n ≡ rank_of seen → IsStrictlyIncreasing (map rank_of rows ++ rank_of seen ∷ []) → IsLast (map rank_of (rows ++ seen ∷ [])) n
 last_rank rows seen n same rise m some =
-    let (front, ends_in) = ends rank_of rows seen n same in
+    let ends : map rank_of (rows ++ seen ∷ []) ≡ map rank_of rows ++ n ∷ [] = map-append rank_of rows (seen ∷ []) ∙ ap (λ m. map rank_of rows ++ m ∷ []) (sym same) in
     let all = subst IsStrictlyIncreasing (sym (map-append rank_of rows (seen ∷ []))) rise in
-    (rise_after _ front n m ends_in all, rise_last _ front n m ends_in)
+    (rise_after _ _ n m ends all, rise_last _ _ n m ends)
 
 not_above : (last rank : ℕ) → rank ≤ last → last < rank → ⊥
 not_above last rank least less = omega (arith, least, less)
@@ -74,6 +72,16 @@ returns-then-not-is_read c = λ h history.
           bad_row s (c.args.left - 1) c.args.line.now one seen shown.2
           (λ rise. not_above _ _ w.if-rank-self.true ((increasing _ _ h.rows seen _ _ history.counted.rank shown.0 c.rank_of-rank.ensures).1 rise))
     ]
+
+last_before : (all : List ℕ) (times : Option EpochTimes) (time : ℕ) → AreTimesOrNone all times → IsStrictlyIncreasing (all ++ time ∷ []) → IfSome times (λ t. t.last < time)
+last_before all None time are rise = tt
+last_before all (Some t) time are rise = let (front, last) = are.last in rise_last all front t.last time last rise
+
+pub with_later-requires : goal.with_later-requires
+with_later-requires c =
+    let (h, history) = c.requires.history in
+    let (read, begun, some, room) = sound_open (progress_at c.args.self.now h) c.args.left c.requires.expected history.sound in
+    last_before _ c.args.self.now.times c.args.self.now.time history.counted.times begun.later
 
 row_counted : (es : List Stamped) (rows : List SatelliteRow) (seen : SatelliteRow) (n : ℕ) → n ≡ rows_in es + length rows → n + 1 ≡ rows_in es + length (rows ++ seen ∷ [])
 row_counted es rows seen n e = let size : length (rows ++ seen ∷ []) ≡ length rows + 1 = length-append rows (seen ∷ []) in omega (arith, e, size)
@@ -101,7 +109,7 @@ returns-then-left-gt1 c = λ h history.
         counted =
             let old = history.counted in
             record {
-              last = old.last;
+              times = old.times;
               rank = last_rank h.rows seen c.rank_of-rank.result c.rank_of-rank.ensures rise;
               values = old.values;
               epochs = old.epochs;
@@ -143,7 +151,7 @@ returns c = λ h history.
         counted =
             let old = history.counted in
             record {
-              last = ends time_stamped h.epochs epoch c.milliseconds.result c.milliseconds.ensures.value;
+              times = subst (λ (ts : List ℕ). AreTimes ts c.with_later.result) (sym (map-append time_stamped h.epochs (epoch ∷ []))) (c.with_later.ensures _ old.times);
               rank = λ n some. (λ less k room. absurd (omega (arith, room)), λ rise. some);
               values = λ v. changed_or c.or-self.result c.args.self.now.change c.args.self.now.values v c.or-self.ensures ∙ ap (λ (w : StationValues). changed_by w c.args.self.now.change) (old.values v) ∙ sym (values_more v h.epochs epoch);
               epochs = one_longer h.epochs epoch c.args.self.now.counts.epochs old.epochs;

@@ -1,0 +1,7 @@
+use Rattle.std.proofs.Common.{subst}
+use Rattle.rinex_file.specs.Times.{AreTimesOrNone}
+use Rattle.rinex_file.proofs.LaterTimes.{times_more}
+use Rattle.rinex_file.proofs.read.times.with_later.Goals as goal
+
+pub returns : goal.returns
+returns c = λ all are. times_more all c.in-Some.times c.args.time _ (subst (AreTimesOrNone all) c.in-Some.is are) (cc)
