@@ -1,7 +1,7 @@
 //! The times of the epochs of a file: of files with gaps and an event, of one epoch, and of none.
 use super::joined;
 use super::parts::Part;
-use rinex_file::{FileSummary, ReadFault, check_file_times};
+use rinex_file::{EpochTimes, FileSummary, ReadFault, check_file_times};
 use rtcm_bits::Counted;
 use rtcm_bits::devices::{PieceReader, ReadEnd};
 use std::alloc::Global;
@@ -21,7 +21,7 @@ const A_DAY_LATER: &str = "\
 > 2024 02 05 00 00 31.2490000  0  1\n\
 G05  20985472.060 7 110279400.000 7      -525.504          45.063\n";
 
-/// Times in milliseconds, of the first and of the last epoch since midnight.
+/// Times of the first and the last epoch and the smallest step, in milliseconds.
 struct Times {
     first: u64,
     last: u64,
@@ -32,16 +32,16 @@ static FILES: [(&[Part], Times); 4] = [
     (
         &[Part::Header, Part::Epoch],
         Times {
-            first: 1_000,
-            last: 1_000,
+            first: MIDNIGHT + 1_000,
+            last: MIDNIGHT + 1_000,
             step: None,
         },
     ),
     (
         &[Part::Header, Part::Epoch, Part::Event, Part::Second],
         Times {
-            first: 1_000,
-            last: 2_000,
+            first: MIDNIGHT + 1_000,
+            last: MIDNIGHT + 2_000,
             step: Some(1_000),
         },
     ),
@@ -53,8 +53,8 @@ static FILES: [(&[Part], Times); 4] = [
             Part::Own(AT_31_250),
         ],
         Times {
-            first: 1_000,
-            last: 31_250,
+            first: MIDNIGHT + 1_000,
+            last: MIDNIGHT + 31_250,
             step: Some(250),
         },
     ),
@@ -67,8 +67,8 @@ static FILES: [(&[Part], Times); 4] = [
             Part::Own(A_DAY_LATER),
         ],
         Times {
-            first: 1_000,
-            last: 86_431_249,
+            first: MIDNIGHT + 1_000,
+            last: MIDNIGHT + 86_431_249,
             step: Some(250),
         },
     ),
@@ -83,14 +83,17 @@ fn summary_of(alloc: Global, parts: &[Part]) -> Result<FileSummary, ReadFault> {
     check_file_times(alloc, &mut reader)
 }
 
+/// Whether these are the times.
+fn are(found: &EpochTimes, times: &Times) -> bool {
+    found.first.milliseconds() == times.first
+        && found.last.milliseconds() == times.last
+        && found.step == times.step
+}
+
 /// Whether a file of these parts has these times.
 fn has_times(alloc: Global, parts: &[Part], times: &Times) -> bool {
     match summary_of(alloc, parts) {
-        Ok(summary) => {
-            summary.times.first.milliseconds() == MIDNIGHT + times.first
-                && summary.times.last.milliseconds() == MIDNIGHT + times.last
-                && summary.times.step == times.step
-        }
+        Ok(summary) => are(&summary.times, times),
         Err(_) => false,
     }
 }
