@@ -166,7 +166,7 @@ coordinate-fits z is = size_within z is.0 is.1
 
 -- a row is at its index
 pub placed : (n : ℕ) → n < row_count → row_place (row_at n) ≡ n
-placed n less = is_equal (row_place (row_at n)) n (passes_at (λ i. row_place (row_at i) == i) 26 n refl less)
+placed n less = is_equal (row_place (row_at n)) n (passes_at (λ i. row_place (row_at i) == i) row_count n refl less)
 
 -- the rows from an index on
 rows_next : (n : ℕ) → n < row_count → drop n all_rows ≡ row_at n ∷ drop (suc n) all_rows
@@ -202,15 +202,15 @@ module _ (h : Shown) where
   last n true less has later none = let next = line_next h.texts h.plan h.values (civil_of h.first) n less has in cc
   last n false less lacks later none = later (sym (line_none h.texts h.plan h.values (civil_of h.first) n less lacks) ∙ none)
 
-  last_line : (k n : ℕ) → k + n ≡ 25 → lines_after h n ≡ [] → ⊥
+  last_line : (k n : ℕ) → k + n ≡ row_place End → lines_after h n ≡ [] → ⊥
   last_line zero n e none =
-      let end : n ≡ 25 = omega (arith, e) in
-      let at : lines_after h 25 ≡ [] = subst (λ m. lines_after h m ≡ []) end none in
+      let end : n ≡ row_place End = omega (arith, e) in
+      let at : lines_after h (row_place End) ≡ [] = subst (λ m. lines_after h m ≡ []) end none in
       cc
   last_line (suc k) n e none = last n (has_line h.plan (row_at n)) (omega (arith, e)) refl (last_line k (suc n) (omega (arith, e))) none
 
   pub some_after : (n : ℕ) → n < row_count → lines_after h n ≡ [] → ⊥
-  some_after n less = last_line (25 - n) n (omega (arith, less))
+  some_after n less = last_line (row_place End - n) n (omega (arith, less))
 
 pub less_or : (P : Type 0) (i j : ℕ) → (i < j → P) → (j ≤ i → P) → P
 less_or P i j less more = grind arith
@@ -224,10 +224,10 @@ Agree h g n = (i : ℕ) → i < n → shown_rows h (row_at i) ≡ shown_rows g (
 
 -- ---- rows of types
 
-pub types_low : (s : System) → 9 ≤ first_types s
+pub types_low : (s : System) → first_types Gps ≤ first_types s
 types_low s = grind arith
 
-pub types_high : (s : System) → first_types s ≤ 15
+pub types_high : (s : System) → first_types s ≤ first_types Galileo
 types_high s = grind arith
 
 pub types_row : (s : System) (r : ℕ) → r < 6 → row_at (first_types s + r) ≡ Types s r
@@ -394,7 +394,7 @@ module _ (h g : Shown) (a : IsShown h) (b : IsShown g) where
 
   pub same_there : (n : ℕ) → n < row_count → Agree h g n → has_line h.plan (row_at n) ≡ has_line g.plan (row_at n)
   same_there n less agree = by (row_at n) (placed n less) where
-    shift_low : (s : System) → 22 < row_place (Shift s)
+    shift_low : (s : System) → 0 < row_place (Shift s)
     shift_low Gps = lit< tt
     shift_low Galileo = lit< tt
 

@@ -16,7 +16,7 @@ use Rattle.rinex_file.specs.Read.Sound.{IsSound, IsSoundAt, IsEventExpected, Are
 use Rattle.rinex_file.specs.ParserState.{History, FollowsHistory, progress_at, GoesOnWithLine, ShowsLine}
 use Rattle.rinex_file.specs.Read.Steps.{IsTaken}
 use Rattle.rinex_file.specs.Value.{SatelliteRow, Stamped, FileValue}
-use Rattle.rinex_file.specs.Header.{header_lines}
+use Rattle.rinex_file.specs.Header.{header_lines, row_count}
 use Rattle.rinex_file.specs.Lines.{satellite_line}
 use Rattle.rinex_file.specs.File.{event_lines, stamped_lines, file_lines, lines_of_parts}
 use Rattle.rinex_file.specs.Read.HeaderSteps.{GoesTo, EndsHeader, NoneGoesOn}
@@ -155,7 +155,7 @@ module _ (s : Progress) (place : ℕ) (line : List ℕ) (expected : s.expected �
         let one = some_plan s.known place at.valid at.read in
         let all : lines_of_header h ++ flat_map stamped_lines (b.first ∷ b.others) ≡ lines_of_header k.shown ++ left =
         sym b.lines ∙ here one.p one.may ∙ sym (append_assoc (lines_before (shown_with s.known one.p) place) (line ∷ []) left) ∙ ap (λ l. l ++ left) (sym (end.lines one.p one.may)) in
-        let same = agreed h k.shown b.is end.is 26 (lit≤ tt) (flat_map stamped_lines (b.first ∷ b.others)) left all in
+        let same = agreed h k.shown b.is end.is row_count (omega arith) (flat_map stamped_lines (b.first ∷ b.others)) left all in
         let header : h ≡ k.shown = same_header h k.shown b.is end.is (λ i l. same.agree i (omega (arith, l))) end.only in
         let epochs : b.first ∷ b.others ≡ s.epochs ++ b.first ∷ b.others = ap (λ x. x ++ b.first ∷ b.others) (sym none) in
         let file = λ (g : Shown) (es : List Stamped). record v { texts = g.texts; plan = g.plan; values = g.values; epochs = es } in

@@ -14,13 +14,13 @@ use Rattle.gnss_obs.specs.declared.cell.StationValues.{StationValues}
 use Rattle.gnss_obs.specs.Dates.{civil_of}
 use Rattle.rinex_file.specs.declared.header.fields.TextRow.{TextRow}
 use Rattle.rinex_file.specs.declared.header.fields.TextRow.TheVariants as row
-use Rattle.rinex_file.specs.declared.header.rows.HeaderRow.TheVariants.{End}
+use Rattle.rinex_file.specs.declared.header.rows.HeaderRow.TheVariants.{Texts, Position, Delta, First, End}
 use Rattle.rinex_file.specs.Blanks.{trimmed}
 use Rattle.rinex_file.specs.Texts.{HeaderLists, text_count, text_of, width_of, fields, fields_of, text_rows}
 use Rattle.rinex_file.specs.declared.header.fields.HeaderField.{HeaderField}
 use Rattle.rinex_file.specs.declared.header.fields.HeaderField.TheVariants.{AntType}
 use Rattle.rinex_file.specs.FileValues.{IsText, AreTexts, AreValues, IsTime}
-use Rattle.rinex_file.specs.Header.{row_line, end_line, first_line, first_types, texts_line, position_line, delta_line}
+use Rattle.rinex_file.specs.Header.{row_line, row_place, end_line, first_line, first_types, texts_line, position_line, delta_line}
 use Rattle.rinex_file.specs.Read.Fields.{digits_in}
 use Rattle.rinex_file.specs.Read.Progress.{Announced, Known, Shown, AreTypesRead, IsShown, AreValid, MayPlan, IsHeadAt, IsOnlyTime, shown_with, lines_before, announced, signals_begun}
 use Rattle.rinex_file.specs.Read.HeaderSteps.{RefusesHeaderLine, EndsHeader}
@@ -46,15 +46,15 @@ same_values v w a b c d = grind arith
 same_shown : (g h : Shown) → g.texts ≡ h.texts → g.plan ≡ h.plan → g.values ≡ h.values → g.first ≡ h.first → g ≡ h
 same_shown g h a b c d = grind arith
 
-module _ (h g : Shown) (a : IsShown h) (b : IsShown g) (agree : Agree h g 25) where
+module _ (h g : Shown) (a : IsShown h) (b : IsShown g) (agree : Agree h g (row_place End)) where
   text_lines : (r : TextRow) → texts_line h.texts r ≡ texts_line g.texts r
   unfolding row_line
-  text_lines row.Program = single (texts_line h.texts row.Program) (texts_line g.texts row.Program) (agree 1 (lit< tt))
-  text_lines row.Marker = single (texts_line h.texts row.Marker) (texts_line g.texts row.Marker) (agree 2 (lit< tt))
-  text_lines row.MarkerType = single (texts_line h.texts row.MarkerType) (texts_line g.texts row.MarkerType) (agree 3 (lit< tt))
-  text_lines row.Observer = single (texts_line h.texts row.Observer) (texts_line g.texts row.Observer) (agree 4 (lit< tt))
-  text_lines row.Receiver = single (texts_line h.texts row.Receiver) (texts_line g.texts row.Receiver) (agree 5 (lit< tt))
-  text_lines row.Antenna = single (texts_line h.texts row.Antenna) (texts_line g.texts row.Antenna) (agree 6 (lit< tt))
+  text_lines row.Program = single (texts_line h.texts row.Program) (texts_line g.texts row.Program) (agree (row_place (Texts row.Program)) (lit< tt))
+  text_lines row.Marker = single (texts_line h.texts row.Marker) (texts_line g.texts row.Marker) (agree (row_place (Texts row.Marker)) (lit< tt))
+  text_lines row.MarkerType = single (texts_line h.texts row.MarkerType) (texts_line g.texts row.MarkerType) (agree (row_place (Texts row.MarkerType)) (lit< tt))
+  text_lines row.Observer = single (texts_line h.texts row.Observer) (texts_line g.texts row.Observer) (agree (row_place (Texts row.Observer)) (lit< tt))
+  text_lines row.Receiver = single (texts_line h.texts row.Receiver) (texts_line g.texts row.Receiver) (agree (row_place (Texts row.Receiver)) (lit< tt))
+  text_lines row.Antenna = single (texts_line h.texts row.Antenna) (texts_line g.texts row.Antenna) (agree (row_place (Texts row.Antenna)) (lit< tt))
 
   texts : h.texts ≡ g.texts
   texts = same_lists h.texts g.texts (a.texts.count ∙ sym b.texts.count) (λ i less. at i (subst (λ n. i < n) a.texts.count less)) where
@@ -70,18 +70,18 @@ module _ (h g : Shown) (a : IsShown h) (b : IsShown g) (agree : Agree h g 25) wh
   signals : (s : System) → planned_of s h.plan ≡ planned_of s g.plan
   signals s =
       let high = types_high s in
-      let size = agree_count h g a b 25 agree s (omega (arith, high)) in
+      let size = agree_count h g a b (row_place End) agree s (omega (arith, high)) in
       let few = few_shown h a s in
       let also = few_shown g b s in
       sym (take_all (signals_begun 6) (planned_of s h.plan) (omega (arith, few)))
-      ∙ signals_same h g a b s size 6 (lit≤ tt) (λ r less. agree_types h g a b 25 agree s r less (omega (arith, less, high)))
+      ∙ signals_same h g a b s size 6 (lit≤ tt) (λ r less. agree_types h g a b (row_place End) agree s r less (omega (arith, less, high)))
       ∙ take_all (signals_begun 6) (planned_of s g.plan) (omega (arith, also))
 
   values : h.values ≡ g.values
   unfolding row_line
   values =
-      let e : position_line h.values ≡ position_line g.values = single (position_line h.values) (position_line g.values) (agree 7 (lit< tt)) in
-      let f : delta_line h.values ≡ delta_line g.values = single (delta_line h.values) (delta_line g.values) (agree 8 (lit< tt)) in
+      let e : position_line h.values ≡ position_line g.values = single (position_line h.values) (position_line g.values) (agree (row_place Position) (lit< tt)) in
+      let f : delta_line h.values ≡ delta_line g.values = single (delta_line h.values) (delta_line g.values) (agree (row_place Delta) (lit< tt)) in
       let label = codes "APPROX POSITION XYZ" in
       let p = lengths-back h.values.x h.values.y h.values.z label (coordinate-fits h.values.x a.values.x) (coordinate-fits h.values.y a.values.y) (coordinate-fits h.values.z a.values.z) in
       let q = lengths-back g.values.x g.values.y g.values.z label (coordinate-fits g.values.x b.values.x) (coordinate-fits g.values.y b.values.y) (coordinate-fits g.values.z b.values.z) in
@@ -93,27 +93,27 @@ module _ (h g : Shown) (a : IsShown h) (b : IsShown g) (agree : Agree h g 25) wh
   unfolding row_line
   same_header only =
       same_shown h g texts (same_plan h.plan g.plan (signals Gps) (signals Galileo)) values
-      (only h.first a.first (single (first_line (civil_of h.first)) (first_line (civil_of g.first)) (agree 22 (lit< tt))))
+      (only h.first a.first (single (first_line (civil_of h.first)) (first_line (civil_of g.first)) (agree (row_place First) (lit< tt))))
 
 -- ---- the last line
 
-module _ (k : Known) (at : IsHeadAt k 25) where
+module _ (k : Known) (at : IsHeadAt k (row_place End)) where
   all_read : (p : PlanValue) → MayPlan k p → (s : System) → planned_of s k.shown.plan ≡ planned_of s p
   all_read p may s = by (announced k s).planned refl where
     all_of : (n c : ℕ) (xs ys : List ℕ) → c ≤ 19 → 20 ≤ n → length xs ≡ min n c → c ≡ length ys → xs ≡ take (length xs) ys → xs ≡ ys
     all_of n c xs ys few many size is e = e ∙ take_all (length xs) ys (omega (arith, few, many, size, is))
 
-    begun : (b : ℕ) → b ≤ 15 → 20 ≤ signals_begun (25 - b)
+    begun : (b : ℕ) → b ≤ first_types Galileo → 20 ≤ signals_begun (row_place End - b)
     begun b high = omega (arith, high)
 
-    low : (b : ℕ) → b ≤ 15 → b < 25
+    low : (b : ℕ) → b ≤ first_types Galileo → b < row_place End
     low b high = omega (arith, high)
 
     by : (c : Bool) → (announced k s).planned ≡ c → planned_of s k.shown.plan ≡ planned_of s p
     by true e =
         let counted = (may.each s).count ((at.read.each s).counted.1 (e, low (first_types s) (types_high s))) in
-        let few = few_shown (shown_with k p) (with_is k 25 at.valid at.read p may) s in
-        all_of (signals_begun (25 - first_types s)) (announced k s).count (planned_of s k.shown.plan) (planned_of s p) (omega (arith, few, counted)) (begun (first_types s) (types_high s)) (at.read.each s).size counted (may.each s).begins
+        let few = few_shown (shown_with k p) (with_is k (row_place End) at.valid at.read p may) s in
+        all_of (signals_begun (row_place End - first_types s)) (announced k s).count (planned_of s k.shown.plan) (planned_of s p) (omega (arith, few, counted)) (begun (first_types s) (types_high s)) (at.read.each s).size counted (may.each s).begins
     by false e =
         let none : planned_of s p ≡ [] = none_planned (planned_of s p) (sym ((may.each s).planned (at.read.systems (lit< tt))) ∙ e) in
         (may.each s).begins ∙ ap (take (length (planned_of s k.shown.plan))) none ∙ take_all (length (planned_of s k.shown.plan)) [] (omega arith) ∙ sym none
@@ -121,14 +121,14 @@ module _ (k : Known) (at : IsHeadAt k 25) where
   whole : (p : PlanValue) → MayPlan k p → p ≡ k.shown.plan
   whole p may = same_plan p k.shown.plan (sym (all_read p may Gps)) (sym (all_read p may Galileo))
 
-  pub ends : (line : List ℕ) → line ≡ end_line → EndsHeader k 25 line k
+  pub ends : (line : List ℕ) → line ≡ end_line → EndsHeader k (row_place End) line k
   unfolding row_line
   ends line e =
-      let one = some_plan k 25 at.valid at.read in
+      let one = some_plan k (row_place End) at.valid at.read in
       record {
-        is = subst (λ p. IsShown (shown_with k p)) (whole one.p one.may) (with_is k 25 at.valid at.read one.p one.may);
+        is = subst (λ p. IsShown (shown_with k p)) (whole one.p one.may) (with_is k (row_place End) at.valid at.read one.p one.may);
         only = at.read.only (lit< tt);
-        lines = λ p may. split_at k.shown 25 ∙ ap (λ p. lines_before (shown_with k p) 25 ++ end_line ∷ []) (sym (whole p may)) ∙ ap (λ l. lines_before (shown_with k p) 25 ++ l ∷ []) (sym e);
+        lines = λ p may. split_at k.shown (row_place End) ∙ ap (λ p. lines_before (shown_with k p) (row_place End) ++ end_line ∷ []) (sym (whole p may)) ∙ ap (λ l. lines_before (shown_with k p) (row_place End) ++ l ∷ []) (sym e);
       }
 
 pub no_end_line : (line : List ℕ) → (line ≡ end_line → ⊥) → RefusesHeaderLine End line

@@ -186,7 +186,7 @@ pub put : (r : HeaderRow) (line : List ℕ) (old k new : Known) → k ≡ old �
 put r line old k new e l = subst (λ o. ReadsHeaderLine r line o new) e l
 
 -- the rows before and the next one were read
-next : (k : Known) (after n : ℕ) → IsOutside n → 0 < n → (22 < suc n → HasReadRows k n → IsOnlyTime after) → HasReadRows k n
+next : (k : Known) (after n : ℕ) → IsOutside n → 0 < n → (row_place First < suc n → HasReadRows k n → IsOnlyTime after) → HasReadRows k n
     → IsReadTo k.gps k.galileo k.shown.plan after (suc n)
 next k after n out some only read = reads_next k.gps k.galileo k.shown.plan k.shown.first after n out (read.systems some) (λ l. only l read) read
 
@@ -219,7 +219,7 @@ same_rows x y n same (r ∷ rows) all =
     let parts = both (ends_by n r) (list_all (ends_by n) rows) all in
     ap₂ (λ l ls. l ∷ ls) (same_line x y r (same_in x y n same (fields_of r) parts.0)) (same_rows x y n same rows parts.1)
 
-text_low : (r : TextRow) → text_row_index r < 6
+text_low : (r : TextRow) → text_row_index r < length text_rows
 text_low r = grind arith
 
 pub line_texts : (r : TextRow) (line : List ℕ) (k : Known) (x : HeaderLists) → ReadsTexts r line k.shown.texts x → ReadsHeaderLine (Texts r) line k (with_texts k x)
@@ -248,7 +248,7 @@ line_position k v line r rows known = record {
   plans = λ p may. may;
   before = λ p. refl;
   shows = λ p may. ap (λ l. l ∷ []) (sym r.1);
-  reads = next k k.shown.first 7 (outside_low 7 (lit≤ tt)) (lit≤ tt) (λ l. absurd (omega (arith, l))) rows;
+  reads = next k k.shown.first (row_place Position) (outside_low (row_place Position) (lit≤ tt)) (lit≤ tt) (λ l. absurd (omega (arith, l))) rows;
 }
 
 pub refuse_position : (line : List ℕ) → ReadsExactly IsPosition position_line line None → RefusesHeaderLine Position line
@@ -265,7 +265,7 @@ line_delta k height line r rows known = record {
   plans = λ p may. may;
   before = λ p. refl;
   shows = λ p may. ap (λ l. l ∷ []) (sym r.1);
-  reads = next k k.shown.first 8 (outside_low 8 (lit≤ tt)) (lit≤ tt) (λ l. absurd (omega (arith, l))) rows;
+  reads = next k k.shown.first (row_place Delta) (outside_low (row_place Delta) (lit≤ tt)) (lit≤ tt) (λ l. absurd (omega (arith, l))) rows;
 }
 
 pub refuse_delta : (line : List ℕ) → Height line None → RefusesHeaderLine Delta line
@@ -280,7 +280,7 @@ line_first k t line r rows known = record {
   plans = λ p may. may;
   before = λ p. refl;
   shows = λ p may. ap (λ l. l ∷ []) (sym r.1);
-  reads = next k t 22 (outside_high 22 (lit≤ tt)) (lit≤ tt) (λ l read u is e. r.2 u is (r.1 ∙ sym e)) rows;
+  reads = next k t (row_place First) (outside_high (row_place First) (lit≤ tt)) (lit≤ tt) (λ l read u is e. r.2 u is (r.1 ∙ sym e)) rows;
 }
 
 pub refuse_first : (line : List ℕ) → ReadsExactly IsTime (λ t. first_line (civil_of t)) line None → RefusesHeaderLine First line
@@ -289,7 +289,7 @@ refuse_first line r h is e = r h.first is.first (sym e)
 
 -- ---- lines that are always the same
 
-line_fixed : (r : HeaderRow) (text line : List ℕ) (k : Known) (b : Bool) → ((h : Shown) → shown_line h r ≡ text) → 20 < row_place r → row_place r ≢ 22
+line_fixed : (r : HeaderRow) (text line : List ℕ) (k : Known) (b : Bool) → ((h : Shown) → shown_line h r ≡ text) → row_place StrengthUnit ≤ row_place r → row_place r ≢ row_place First
     → (IsTrue b ↔ (line ≡ text)) → ReadsOrRefuses r line k k b
 line_fixed r text line k true shows far other is = λ rows known. record {
   plans = λ p may. may;
@@ -328,7 +328,7 @@ first_read s a b signals same r =
       counted = (λ l. let less = (r.counted.0 (subst (λ (n : ℕ). 0 < n) same l)).1 in absurd (omega (arith, less)), λ q. let less = q.1 in absurd (omega (arith, low, less)));
       size = r.size ∙ zeros a.count b.count (first_types s) low same;
     } where
-      zeros : (c d b : ℕ) → 9 ≤ b → d ≡ c → min (signals_begun (0 - b)) c ≡ min (signals_begun (1 - b)) d
+      zeros : (c d b : ℕ) → first_types Gps ≤ b → d ≡ c → min (signals_begun (0 - b)) c ≡ min (signals_begun (1 - b)) d
       zeros c d b low same = let e : 0 - b ≡ 1 - b = omega (arith, low) in ap (λ m. min (signals_begun m) c) e ∙ ap (λ n. min (signals_begun (1 - b)) n) (sym same)
 
 pub line_version : (k : Known) (gps galileo : Bool) (line : List ℕ) → Systems line (Some (gps, galileo)) → ReadsHeaderLine Version line k (with_systems k gps galileo)

@@ -226,10 +226,10 @@ module _ (k : Known) (place : ℕ) (valid : AreValid k) (read : HasReadRows k pl
 abbrev pub IsOutside : ℕ → Type 0
 IsOutside n = (s : System) → first_types s ≤ n → n < first_types s + 6 → ⊥
 
-pub outside_low : (n : ℕ) → n < 9 → IsOutside n
+pub outside_low : (n : ℕ) → n < first_types Gps → IsOutside n
 outside_low n less s more few = let low = types_low s in omega (arith, less, more, low)
 
-pub outside_high : (n : ℕ) → 20 < n → IsOutside n
+pub outside_high : (n : ℕ) → row_place StrengthUnit ≤ n → IsOutside n
 outside_high n far s more few = let high = types_high s in omega (arith, far, few, high)
 
 -- the signals that begin before a row are those that begin before the next
@@ -251,7 +251,7 @@ still_read s a signals n out r = record {
 
 module _ (gps galileo : Announced) (plan : PlanValue) (first after n : ℕ) where
   -- a row without a part of the plan
-  pub reads_next : IsOutside n → (gps.planned || galileo.planned) ≡ true → (22 < suc n → IsOnlyTime after) → IsReadTo gps galileo plan first n → IsReadTo gps galileo plan after (suc n)
+  pub reads_next : IsOutside n → (gps.planned || galileo.planned) ≡ true → (row_place First < suc n → IsOnlyTime after) → IsReadTo gps galileo plan first n → IsReadTo gps galileo plan after (suc n)
   reads_next out some only r = record {
     systems = λ l. some;
     fresh = λ e. absurd (omega (arith, e));
@@ -322,7 +322,7 @@ row_numbers other = true
 
 pub is_row : (n : ℕ) → n < row_count → IsRow (row_at n)
 unfolding row_numbers
-is_row n less = by (row_at n) (passes_at (λ i. row_numbers (row_at i)) 26 n refl less) where
+is_row n less = by (row_at n) (passes_at (λ i. row_numbers (row_at i)) row_count n refl less) where
   by : (r : HeaderRow) → row_numbers r ≡ true → IsRow r
   by Version e = tt
   by (Texts r) e = tt
@@ -374,8 +374,8 @@ skip_row Delta k row lacks read = cc
 skip_row (Types s i) k row lacks read = skip_types s i k row lacks read
 skip_row StrengthUnit k row lacks read = cc
 skip_row First k row lacks read = cc
-skip_row (Shift Gps) k row lacks read = reads_next k.gps k.galileo k.shown.plan k.shown.first k.shown.first 23 (outside_high 23 (lit≤ tt)) (read.systems (lit≤ tt)) (λ l. read.only (lit≤ tt)) read
-skip_row (Shift Galileo) k row lacks read = reads_next k.gps k.galileo k.shown.plan k.shown.first k.shown.first 24 (outside_high 24 (lit≤ tt)) (read.systems (lit≤ tt)) (λ l. read.only (lit≤ tt)) read
+skip_row (Shift Gps) k row lacks read = reads_next k.gps k.galileo k.shown.plan k.shown.first k.shown.first (row_place (Shift Gps)) (outside_high (row_place (Shift Gps)) (lit≤ tt)) (read.systems (lit≤ tt)) (λ l. read.only (lit≤ tt)) read
+skip_row (Shift Galileo) k row lacks read = reads_next k.gps k.galileo k.shown.plan k.shown.first k.shown.first (row_place (Shift Galileo)) (outside_high (row_place (Shift Galileo)) (lit≤ tt)) (read.systems (lit≤ tt)) (λ l. read.only (lit≤ tt)) read
 skip_row End k row lacks read = cc
 
 not_last : (n : ℕ) (k : Known) → n < row_count → known_line k (row_at n) ≡ false → suc n < row_count
@@ -456,8 +456,7 @@ pub none_at : (n : ℕ) (line : List ℕ) (k : Known) (r : HeaderRow) → IsHead
 none_at n line k r at has is refuses p h others left may shown e =
     refuses h shown (ap (shown_line h) (sym is) ∙ (follows n line k at has p h others left may shown e).shows)
 
--- the last row is at index 25
-pub last_at : (n : ℕ) → n < row_count → row_at n ≡ End → n ≡ 25
+pub last_at : (n : ℕ) → n < row_count → row_at n ≡ End → n ≡ row_place End
 last_at n less at = sym (placed n less) ∙ ap row_place at
 
 pub types_few : (n : ℕ) (s : System) (row : ℕ) → n < row_count → row_at n ≡ Types s row → row < 6

@@ -138,7 +138,7 @@ all_rows =
     ∷ StrengthUnit ∷ First ∷ Shift Gps ∷ Shift Galileo ∷ End ∷ []
 
 abbrev pub row_count : ℕ
-row_count = 26
+row_count = length all_rows
 
 -- the lines of a header, in order
 unfoldable pub header_lines : HeaderLists → PlanValue → StationValues → Civil → List (List ℕ)

@@ -7,13 +7,14 @@ use Rattle.gnss_obs.specs.declared.cell.StationValues.{StationValues}
 use Rattle.gnss_obs.specs.Values.{PlanValue, planned_of}
 use Rattle.gnss_obs.specs.Dates.{civil_of}
 use Rattle.rinex_file.specs.declared.header.rows.HeaderRow.{HeaderRow}
+use Rattle.rinex_file.specs.declared.header.rows.HeaderRow.TheVariants.{First}
 use Rattle.rinex_file.specs.declared.read.expected.Expected.{Expected}
 use Rattle.rinex_file.specs.declared.read.expected.Expected.TheVariants.{Header, Epoch, EventPosition, EventHeight}
 use Rattle.rinex_file.specs.declared.read.expected.Expected.TheVariants.{EventEpoch, Satellite}
 use Rattle.rinex_file.specs.Texts.{HeaderLists}
 use Rattle.rinex_file.specs.Value.{SatelliteRow, Stamped, FileValue}
 use Rattle.rinex_file.specs.FileValues.{AreTexts, IsPlan, AreValues, IsCoordinate, IsTime, IsFileValue, of_system}
-use Rattle.rinex_file.specs.Header.{row_line, row_lines, lines_from, all_rows, row_count, first_types}
+use Rattle.rinex_file.specs.Header.{row_line, row_lines, lines_from, all_rows, row_count, row_place, first_types}
 use Rattle.rinex_file.specs.Header.{first_line, header_line, type_line, types_of, codes_of}
 use Rattle.rinex_file.specs.Limits.{types_in_line}
 use Rattle.rinex_file.specs.Lines.{satellite_line, letter_of}
@@ -141,7 +142,7 @@ pub record IsReadTo (gps galileo : Announced) (plan : PlanValue) (first place : 
   pub systems : 0 < place → (gps.planned || galileo.planned) ≡ true
   pub fresh : place ≡ 0 → (gps.planned || galileo.planned) ≡ false
   pub each : (s : System) → AreTypesRead s (of_system s gps galileo) (planned_of s plan) place
-  pub only : 22 < place → IsOnlyTime first
+  pub only : row_place First < place → IsOnlyTime first
 
 abbrev pub HasReadRows : Known → ℕ → Type 0
 HasReadRows k place = IsReadTo k.gps k.galileo k.shown.plan k.shown.first place

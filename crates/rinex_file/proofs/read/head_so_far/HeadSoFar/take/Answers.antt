@@ -9,7 +9,7 @@ use Rattle.rinex_file.specs.declared.read.expected.Refusal.{Refusal}
 use Rattle.rinex_file.specs.declared.read.expected.Refusal.TheVariants.{Memory, Bad}
 use Rattle.rinex_file.specs.declared.header.rows.HeaderRow.TheVariants.{Version, Texts, Position, Delta, Types, StrengthUnit, First, Shift, End}
 use Rattle.gnss_obs.specs.Values.{planned_of}
-use Rattle.rinex_file.specs.Header.{end_line, first_types, row_at}
+use Rattle.rinex_file.specs.Header.{end_line, first_types, row_at, row_place}
 use Rattle.rinex_file.specs.Read.Progress.{Known, IsHeadAt, announced}
 use Rattle.rinex_file.specs.Read.HeaderSteps.{IsOnly, known_line, EndsHeader, NoneGoesOn, ReadsHeaderLine, TakesHeaderLine}
 use Rattle.rinex_file.proofs.HeaderEnd.{ends, no_end_line}
@@ -72,7 +72,7 @@ returns-in-End-2 c =
     none_from c.args.self.now _ _ c.args.line.now c.place_from-place.ensures.same (none_at c.place_from-place.result c.args.line.now c.args.self.now End c.place_from-place.ensures.same.at c.place_from-place.ensures.here (sym c.row_at.ensures ∙ c.in-End.is)
     (no_end_line c.args.line.now (refused c.is_header_line.result (c.args.line.now ≡ end_line) c.is_header_line.ensures c.if-is_header_line.false)))
 
-at_end : (k : Known) (n : ℕ) (line : List ℕ) → n ≡ 25 → IsHeadAt k n → line ≡ end_line → EndsHeader k n line k
+at_end : (k : Known) (n : ℕ) (line : List ℕ) → n ≡ row_place End → IsHeadAt k n → line ≡ end_line → EndsHeader k n line k
 at_end k n line e at same = subst (λ m. EndsHeader k m line k) (sym e) (ends k (subst (IsHeadAt k) e at) line same)
 
 pub returns-in-End : goal.returns-in-End
