@@ -41,8 +41,8 @@ impl SignalValues {
     }
 }
 
-/// A satellite of a system, with an entry for each planned signal in the plan's order, as it is in
-/// a line.
+/// A satellite of a system, with an entry for each planned signal in the plan's order: the one
+/// that was read last, in memory of fixed size, so that no line allocates.
 #[derive(Drop)]
 pub(crate) struct KeptSatellite {
     pub(crate) system: System,
@@ -59,7 +59,7 @@ impl Model for KeptSatellite {
         record { system = s.system; row = record { satellite = s.satellite; signal_values = s.signal_values.items } } };
 }
 
-/// A satellite of a system, with an entry for each planned signal, as it is stored in memory.
+/// A satellite of a file that is stored whole: a [`KeptSatellite`] of the memory that it needs.
 #[derive(Drop)]
 pub(crate) struct KeptRow {
     pub(crate) system: System,
