@@ -7,11 +7,13 @@ use Rattle.std.proofs.lemmas.List.{get_or_append_left, map-append}
 use Rattle.std.proofs.lemmas.Grind.{common_steps}
 use Rattle.std.proofs.lemmas.List.Elements.{All-head, All-tail, All-nil, All-push}
 use Rattle.std.proofs.lemmas.List.Concat.{flat_map-append}
+use Rattle.gnss_obs.specs.declared.system.System.{System}
 use Rattle.gnss_obs.specs.declared.system.System.TheVariants.{Gps, Galileo}
+use Rattle.gnss_obs.specs.Values.{PlanValue, planned_of}
 use Rattle.gnss_obs.specs.Dates.{civil_of}
 use Rattle.gnss_obs.specs.declared.cell.StationValues.{StationValues}
 use Rattle.rinex_file.specs.Value.{Stamped, SatelliteRow, FileValue}
-use Rattle.rinex_file.specs.FileValues.{time_stamped, IsFileValue, IsStamped, IsSatelliteRow, AreSatelliteRows, IsTime, IsChange, AreChanges, IsFirstSame, changed_by, values_following, rank_of, most_rows}
+use Rattle.rinex_file.specs.FileValues.{time_stamped, IsFileValue, IsPlan, IsStamped, IsSatelliteRow, AreSatelliteRows, IsTime, IsChange, AreChanges, IsFirstSame, changed_by, values_following, rank_of, most_rows}
 use Rattle.rinex_file.specs.declared.read.expected.Expected.TheVariants.{Epoch, Satellite}
 use Rattle.rinex_file.specs.Lines.{epoch_line, satellite_line}
 use Rattle.rinex_file.specs.File.{stamped_lines, change_lines, event_line}
@@ -50,7 +52,7 @@ pub not_none : (es : List Stamped) (front : List ℕ) (x : ℕ) → map time_sta
 not_none es front x last none = grind (arith, common_steps)
 
 -- the first line and the rest of what is left are those of the same lines
-cons_parts : (x y : List ℕ) (xs ys : List (List ℕ)) → x ∷ xs ≡ y ∷ ys → (x ≡ y) × (xs ≡ ys)
+pub cons_parts : (x y : List ℕ) (xs ys : List (List ℕ)) → x ∷ xs ≡ y ∷ ys → (x ≡ y) × (xs ≡ ys)
 cons_parts x y xs ys e = (ap (λ l. get_or l 0 []) e, ap (drop 1) e)
 
 no_cons : (x : List ℕ) (xs : List (List ℕ)) → x ∷ xs ≡ [] → ⊥
@@ -368,14 +370,11 @@ from_none s v left [] others count value starts rest = grind (arith, append-nil,
 pub sound_open : (s : Progress) (n : ℕ) → s.expected ≡ Satellite n → IsSound s → AreRead s × IsBegun s × (0 < n) × (length s.rows + n ≤ most_rows (length s.known.shown.plan.gps) (length s.known.shown.plan.galileo))
 sound_open s n expected sound = subst (λ d. IsSoundAt s d) expected sound
 
+pub few_signals_of : (p : PlanValue) → IsPlan p → (system : System) → length (planned_of system p) ≤ 19
+few_signals_of p is system = let few = few_planned p is system in let most = few_signals system in omega (arith, few, most)
+
 pub few_at : (s : Progress) (n : ℕ) → s.expected ≡ Satellite n → IsSound s → (length s.known.shown.plan.gps ≤ 19) × (length s.known.shown.plan.galileo ≤ 19)
-few_at s n expected sound =
-    let plan = (sound_open s n expected sound).0.shown.plan in
-    let gps = few_planned s.known.shown.plan plan Gps in
-    let galileo = few_planned s.known.shown.plan plan Galileo in
-    let g = few_signals Gps in
-    let e = few_signals Galileo in
-    (omega (arith, gps, g), omega (arith, galileo, e))
+few_at s n expected sound = let plan = (sound_open s n expected sound).0.shown.plan in (few_signals_of s.known.shown.plan plan Gps, few_signals_of s.known.shown.plan plan Galileo)
 
 seen_more : (gps galileo : ℕ) (rows : List SatelliteRow) (seen : SatelliteRow) → AreSatelliteRows gps galileo rows → IsSatelliteRow gps galileo seen → IsStrictlyIncreasing (map rank_of rows ++ rank_of seen ∷ [])
     → AreSatelliteRows gps galileo (rows ++ seen ∷ [])

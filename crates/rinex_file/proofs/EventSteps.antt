@@ -1,6 +1,6 @@
 -- The steps of a reading from one line of an event to the next.
 use Rattle.std.proofs.Common.{arith, lit<, ◌≡◌, ◌≢◌, ℕ, zero, suc, ◌<◌, ◌^◌, ◌-◌, ◌*◌, ◌/◌, ◌%◌, unsigned_abs, ℤ, pos, get_or, List, [], ◌∷◌, ◌++◌, refl, sym, ap, subst, ◌∙◌, length, drop, append_assoc, replicate, decimal, Option, Some, None, true, false}
-use Rattle.std.specs.Prelude.{⊤, ◌||◌, flat_map, codes}
+use Rattle.std.specs.Prelude.{⊤, ◌||◌, flat_map}
 use Rattle.std.specs.Int.{is_negative}
 use Rattle.std.specs.Fmt.{sign_text}
 use Rattle.gnss_obs.specs.Dates.{civil_of}
@@ -10,7 +10,7 @@ use Rattle.rinex_file.specs.declared.read.expected.Expected.{Expected}
 use Rattle.rinex_file.specs.declared.read.expected.Expected.TheVariants.{Epoch, EventPosition, EventHeight, EventEpoch}
 use Rattle.rinex_file.specs.Value.{Stamped, FileValue}
 use Rattle.rinex_file.specs.FileValues.{IsFileValue, AreValues, IsChange}
-use Rattle.rinex_file.specs.Header.{header_line, lengths, position_line, delta_line}
+use Rattle.rinex_file.specs.Header.{position_line, height_line, delta_line}
 use Rattle.rinex_file.specs.Lines.{epoch_fields, epoch_line}
 use Rattle.rinex_file.specs.Numbers.{joined, padded, fixed}
 use Rattle.rinex_file.specs.Read.Fields.{has}
@@ -147,9 +147,6 @@ position_shows s p line expected shown taken are =
 
 -- ---- the height
 
-abbrev height_text : ℕ → List ℕ
-height_text h = header_line (lengths (pos h) (pos 0) (pos 0)) (codes "ANTENNA: DELTA H/E/N")
-
 abbrev pub with_height : StationValues → ℕ → StationValues
 with_height p h = record p { height = h }
 
@@ -181,12 +178,12 @@ height_next s d p v line left expected (is, at) =
     }
 
 module _ (s : Progress) (p : StationValues) (line : List ℕ) (expected : s.expected ≡ EventHeight p) where
-  pub no_height : ((h : ℕ) → h < 2 ^ 16 → line ≡ height_text h → ⊥) → (v : FileValue) (left : List (List ℕ)) → HasLinesLeft s v (line ∷ left) → ⊥
+  pub no_height : ((h : ℕ) → h < 2 ^ 16 → line ≡ height_line h → ⊥) → (v : FileValue) (left : List (List ℕ)) → HasLinesLeft s v (line ∷ left) → ⊥
   no_height none v left on =
       let next = height_next s (EventHeight p) p v line left expected on in
       none next.event.values.height next.are.height next.line
 
-  module _ (h : ℕ) (only : (k : ℕ) → k < 2 ^ 16 → line ≡ height_text k → k ≡ h) where
+  module _ (h : ℕ) (only : (k : ℕ) → k < 2 ^ 16 → line ≡ height_line k → k ≡ h) where
     same_next : (d : Expected) (v : FileValue) (left : List (List ℕ)) (next : HeightNext s d p v line left) → SameValues next.event.values (with_height p h)
     same_next d v left next = same_with next.event.values p h next.event.shown (only next.event.values.height next.are.height next.line)
 
@@ -203,9 +200,9 @@ module _ (s : Progress) (p : StationValues) (line : List ℕ) (expected : s.expe
         let next = height_next s d p v line left expected on in
         (on.0, event_with (expected_next s d) d 3 3 (λ w. position_of w ≡ p) (λ u. u ≡ with_height p h) v left left next.event (same_next d v left next) next.event.rest)
 
-pub height_shows : (s : Progress) (p : StationValues) (h : ℕ) (line : List ℕ) → s.expected ≡ EventHeight p → line ≡ height_text h → ShowsLine s (expected_next s (EventEpoch (with_height p h))) line
+pub height_shows : (s : Progress) (p : StationValues) (h : ℕ) (line : List ℕ) → s.expected ≡ EventHeight p → line ≡ height_line h → ShowsLine s (expected_next s (EventEpoch (with_height p h))) line
 height_shows s p h line expected shown taken are =
-    lines_more (whole_lines s.known.shown s.epochs) taken (event_line ∷ position_line p ∷ []) line (height_text h) (subst (λ d. AreLinesAt s d taken) expected are) shown
+    lines_more (whole_lines s.known.shown s.epochs) taken (event_line ∷ position_line p ∷ []) line (height_line h) (subst (λ d. AreLinesAt s d taken) expected are) shown
 
 -- ---- what holds after a line of an event is accepted
 

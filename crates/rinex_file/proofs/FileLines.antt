@@ -26,7 +26,8 @@ use Rattle.rinex_file.proofs.Cuts.{filled, length-trimmed}
 use Rattle.rinex_file.proofs.Digits.{has-append, has-right, lacks-padded, length-right, length-padded}
 use Rattle.rinex_file.proofs.FewRows.{few_rows}
 use Rattle.rinex_file.proofs.PlainTexts.{clean-fixed, IsPlain, plain-append, plain-padded, plain, plain-flat_map, plain-joined, also}
-use Rattle.rinex_file.proofs.PlainHeader.{IsFileLine, as_line, of_80, whole_field, second_field, no_letter, few_signals_of, IsShort, short_time, line_of_position, line_of_delta, lines_of_header}
+use Rattle.rinex_file.proofs.BodySteps.{few_signals_of}
+use Rattle.rinex_file.proofs.PlainHeader.{IsFileLine, as_line, of_80, whole_field, second_field, no_letter, IsShort, short_time, line_of_position, line_of_delta, lines_of_header}
 
 -- ---- epochs
 

@@ -19,7 +19,7 @@ use Rattle.gnss_obs.specs.declared.cell.StationValues.{StationValues}
 use Rattle.gnss_obs.specs.declared.civil.Civil.{Civil}
 use Rattle.rinex_file.specs.Numbers.{joined, left, right, fixed}
 use Rattle.rinex_file.specs.Read.Fields.{digits_in, number_in}
-use Rattle.rinex_file.specs.Header.{header_line, lengths, row_line, row_lines, has_line, header_lines, all_rows, row_count, row_at, row_place, lines_from, first_types, type_rows, version_line}
+use Rattle.rinex_file.specs.Header.{header_line, lengths, height_line, row_line, row_lines, has_line, header_lines, all_rows, row_count, row_at, row_place, lines_from, first_types, type_rows, version_line}
 use Rattle.rinex_file.specs.Read.Progress.{version_with, Shown, shown_rows, lines_before, lines_after, IsShown, shown_line, AreTypes, types_line, is_some_planned, signals_begun}
 use Rattle.rinex_file.specs.FileValues.{IsCoordinate}
 use Rattle.rinex_file.specs.declared.header.rows.HeaderRow.TheVariants.{End, Version, Texts, Position, Delta, Types, StrengthUnit, First, Shift}
@@ -27,8 +27,8 @@ use Rattle.rinex_file.specs.Begun.{lines_of_header}
 use Rattle.rinex_file.specs.Texts.{HeaderLists}
 use Rattle.rinex_file.specs.declared.header.rows.HeaderRow.{HeaderRow}
 use Rattle.rinex_file.proofs.Digits.{number_in-fixed, digits_in-right, digits_in-fixed, length-fixed, length-right}
+use Rattle.rinex_file.proofs.BodySteps.{cons_parts}
 use Rattle.rinex_file.proofs.Entries.{few_signals}
-use Rattle.rinex_file.proofs.FewRows.{few_planned}
 use Rattle.rinex_file.proofs.HeaderText.{equal_or}
 use Rattle.rinex_file.proofs.TypeRows.{code_here, count_read, few_types, listed_at, signal_at, column_of, code_reads_back}
 
@@ -148,13 +148,13 @@ lengths-back x y z label a b c =
     )
 
 -- the height is no less than zero
-pub height-back : (h : ℕ) (y z : ℤ) (label : List ℕ) → h < 2 ^ 16 → digits_in (take 14 (drop 0 (header_line (lengths (pos h) y z) label))) ≡ h
-height-back h y z label small =
-    let line = header_line (lengths (pos h) y z) label in
+pub height-back : (h : ℕ) → h < 2 ^ 16 → digits_in (take 14 (drop 0 (height_line h))) ≡ h
+height-back h small =
     let f = right 14 (fixed 4 (pos h)) in
-    let (rest, shape) = begins f (right 14 (fixed 4 y)) (right 14 (fixed 4 z)) label in
+    let east = right 14 (fixed 4 (pos 0)) in
+    let (rest, shape) = begins f east east (codes "ANTENNA: DELTA H/E/N") in
     let few : Fits14 (pos h) = omega (arith, small) in
-    ap digits_in (field_at 0 [] f (right 14 (fixed 4 y) ++ (right 14 (fixed 4 z) ++ rest)) line refl (length-column (pos h) few) shape)
+    ap digits_in (field_at 0 [] f (east ++ (east ++ rest)) (height_line h) refl (length-column (pos h) few) shape)
     ∙ digits_in-right 14 (fixed 4 (pos h)) ∙ digits_in-fixed 4 (pos h) (omega arith) (fits_64 h few)
 
 size_within : (z : ℤ) → neg_ℤ (pos 137_438_953_472) ≤ℤ z → z ≤ℤ pos 137_438_953_471 → unsigned_abs z < 10 ^ 12
@@ -246,9 +246,6 @@ types_row Galileo (suc (suc (suc (suc zero)))) less = refl
 types_row Galileo (suc (suc (suc (suc (suc zero))))) less = refl
 types_row Galileo (suc (suc (suc (suc (suc (suc r)))))) less = absurd (omega (arith, less))
 
-pub few_shown : (h : Shown) → IsShown h → (s : System) → length (planned_of s h.plan) ≤ 19
-few_shown h is s = let few = few_planned h.plan is.plan s in let most = few_signals s in omega (arith, few, most)
-
 pub types_shown : (s : System) (h : Shown) → IsShown h → 0 < length (planned_of s h.plan) → AreTypes s (planned_of s h.plan)
 types_shown s h is some = record { listed = is.plan.listed s; apart = is.plan.apart s; some = some }
 
@@ -264,14 +261,11 @@ types_in h s r less = rows_when h (Types s r) true (is_lt r (type_rows (length (
 
 -- ---- the systems
 
-abbrev byte_with : Bool → Bool → ℕ
-byte_with gps galileo = if gps then (if galileo then 77 else 71) else 69
-
-same_byte : (a b : Bool) → (if a then 69 else (if b then 71 else 77)) ≡ byte_with (not a) (not b)
-same_byte a b = grind arith
+same_letter : (a b : Bool) → (if a then 69 else (if b then 71 else 77)) ≡ letter_with (not a) (not b)
+same_letter a b = grind arith
 
 pub version_same : (p : PlanValue) → version_line p ≡ version_with (is_some_planned p.gps) (is_some_planned p.galileo)
-version_same p = grind (arith, same_byte)
+version_same p = grind (arith, same_letter)
 
 either_planned : (a b : ℕ) → 0 < a + b → (not (a == 0) || not (b == 0)) ≡ true
 either_planned zero zero some = absurd (omega (arith, some))
@@ -287,6 +281,9 @@ some_planned v0 e = grind arith
 pub none_planned : (xs : List ℕ) → is_some_planned xs ≡ false → xs ≡ []
 none_planned [] e = refl
 none_planned (x ∷ xs) e = absurd (grind (arith, nat_tests, e))
+
+pub planned_is : (xs : List ℕ) → nat_lt 0 (length xs) ≡ is_some_planned xs
+planned_is v0 = grind (arith, nat_tests)
 
 abbrev systems_of : Shown → Bool × Bool
 systems_of h = (is_some_planned h.plan.gps, is_some_planned h.plan.galileo)
@@ -389,9 +386,6 @@ module _ (h g : Shown) (a : IsShown h) (b : IsShown g) where
   types_first : (xs : List ℕ) → nat_lt 0 (type_rows (length xs)) ≡ is_some_planned xs
   types_first v0 = grind (arith, is_lt, nat_tests)
 
-  any_first : (xs : List ℕ) → nat_lt 0 (length xs) ≡ is_some_planned xs
-  any_first v0 = grind (arith, nat_tests)
-
   pub same_there : (n : ℕ) → n < row_count → Agree h g n → has_line h.plan (row_at n) ≡ has_line g.plan (row_at n)
   same_there n less agree = by (row_at n) (placed n less) where
     shift_low : (s : System) → 0 < row_place (Shift s)
@@ -407,7 +401,7 @@ module _ (h g : Shown) (a : IsShown h) (b : IsShown g) where
     by (Types s (suc r)) e = ap (λ k. nat_lt (suc r) (type_rows k)) (agree_count n agree s (omega (arith, e)))
     by StrengthUnit e = refl
     by First e = refl
-    by (Shift s) e = let low = shift_low s in any_first (planned_of s h.plan) ∙ agree_systems n (omega (arith, e, low)) agree s ∙ sym (any_first (planned_of s g.plan))
+    by (Shift s) e = let low = shift_low s in planned_is (planned_of s h.plan) ∙ agree_systems n (omega (arith, e, low)) agree s ∙ sym (planned_is (planned_of s g.plan))
     by End e = refl
 
   -- ---- the same lines before a row
@@ -425,9 +419,7 @@ module _ (h g : Shown) (a : IsShown h) (b : IsShown g) where
       let gr : shown_rows g (row_at n) ≡ y ∷ [] = rows_when g (row_at n) true q in
       let both : y ∷ left ≡ x ∷ (lines_after h (suc n) ++ others) =
       sym (ap (λ l. l ++ left) gr) ∙ e ∙ ap (λ l. l ++ others) (after_next h n less ∙ ap (λ l. l ++ lines_after h (suc n)) hr) in
-      (hr ∙ ap (λ z. z ∷ []) (sym (heads y x left (lines_after h (suc n) ++ others) both).0) ∙ sym gr, (heads y x left (lines_after h (suc n) ++ others) both).1) where
-        heads : (y x : List ℕ) (ys xs : List (List ℕ)) → y ∷ ys ≡ x ∷ xs → (y ≡ x) × (ys ≡ xs)
-        heads y x ys xs e = (cc, cc)
+      (hr ∙ ap (λ z. z ∷ []) (sym (cons_parts y x left (lines_after h (suc n) ++ others) both).0) ∙ sym gr, (cons_parts y x left (lines_after h (suc n) ++ others) both).1)
   one_row n less others left false p q e =
       let hr : shown_rows h (row_at n) ≡ [] = rows_when h (row_at n) false p in
       let gr : shown_rows g (row_at n) ≡ [] = rows_when g (row_at n) false q in

@@ -1,6 +1,6 @@
 -- The steps of a reading from the header to the epochs, and its end.
 use Rattle.std.specs.Prelude.{Some, ⊤, map, flat_map}
-use Rattle.std.proofs.Common.{arith, ◌≡◌, ◌∙◌, sym, ap, refl, ℕ, zero, suc, ◌+◌, ◌<◌, pos, List, [], ◌∷◌, ◌++◌, length, Option, IfSome, lit<, lit≤, subst, take, drop, append-nil, append_assoc, None}
+use Rattle.std.proofs.Common.{arith, ◌≡◌, ◌∙◌, sym, ap, refl, ℕ, zero, suc, ◌+◌, ◌<◌, pos, List, [], ◌∷◌, ◌++◌, length, Option, IfSome, lit<, subst, take, drop, append-nil, append_assoc, None}
 use Rattle.std.proofs.lemmas.List.Elements.{All-head, All-nil}
 use Rattle.std.proofs.lemmas.List.{length-map, nil_from_length}
 use Rattle.gnss_obs.specs.declared.cell.StationValues.{StationValues}

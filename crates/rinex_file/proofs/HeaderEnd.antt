@@ -2,7 +2,7 @@
 use Rattle.std.specs.Array.{AllOfLen}
 use Rattle.std.proofs.Common.{arith, ◌≡◌, ◌∙◌, sym, ap, ap₂, map, refl, subst, ℕ, ℤ, pos, suc, lit<, lit≤, ◌-◌, ◌<◌, ◌≤◌, Bool, true, false, ◌||◌, min, List, [], ◌∷◌, ◌++◌, length, get_or, take, replicate, All, nat_eq}
 use Rattle.std.specs.List.{IsDistinct}
-use Rattle.std.proofs.lemmas.List.{take_all}
+use Rattle.std.proofs.lemmas.List.{take_all, ext_get_or}
 use Rattle.std.proofs.lemmas.List.Elements.{All-map, All-weaker}
 use Rattle.std.specs.Prelude.{codes}
 use Rattle.gnss_obs.specs.Signals.{SignalAt, IsSignal, table}
@@ -25,17 +25,15 @@ use Rattle.rinex_file.specs.Read.Fields.{digits_in}
 use Rattle.rinex_file.specs.Read.Progress.{Announced, Known, Shown, AreTypesRead, IsShown, AreValid, MayPlan, IsHeadAt, IsOnlyTime, shown_with, lines_before, announced, signals_begun}
 use Rattle.rinex_file.specs.Read.HeaderSteps.{RefusesHeaderLine, EndsHeader}
 use Rattle.gnss_obs.proofs.PlanLemmas.{none_of}
-use Rattle.rinex_file.proofs.HeaderAgree.{Agree, single, few_shown, types_high, agree_types, agree_count, signals_same, none_planned, split_at, lengths-back, height-back, number_at, coordinate-fits}
+use Rattle.rinex_file.proofs.BodySteps.{few_signals_of}
+use Rattle.rinex_file.proofs.HeaderAgree.{Agree, single, types_high, agree_types, agree_count, signals_same, none_planned, split_at, lengths-back, height-back, number_at, coordinate-fits}
 use Rattle.rinex_file.proofs.HeaderSteps.{some_plan, with_is}
-use Rattle.rinex_file.proofs.HeaderText.{place_back, same_at, same_rows, same_lists, texts_back, same_texts, same_some, SameTexts}
+use Rattle.rinex_file.proofs.HeaderText.{place_back, same_at, same_rows, texts_back, same_texts, same_some, SameTexts}
 
 -- ---- headers with the same lines are the same
 
-abbrev made_plan : List ℕ → List ℕ → PlanValue
-made_plan a b = record { gps = a; galileo = b }
-
 same_plan : (p q : PlanValue) → p.gps ≡ q.gps → p.galileo ≡ q.galileo → p ≡ q
-same_plan p q a b = ap (λ l. made_plan l p.galileo) a ∙ ap (λ l. made_plan q.gps l) b
+same_plan p q a b = grind arith
 
 abbrev made_values : ℤ → ℤ → ℤ → ℕ → StationValues
 made_values x y z height = record { x = x; y = y; z = z; height = height }
@@ -57,7 +55,7 @@ module _ (h g : Shown) (a : IsShown h) (b : IsShown g) (agree : Agree h g (row_p
   text_lines row.Antenna = single (texts_line h.texts row.Antenna) (texts_line g.texts row.Antenna) (agree (row_place (Texts row.Antenna)) (lit< tt))
 
   texts : h.texts ≡ g.texts
-  texts = same_lists h.texts g.texts (a.texts.count ∙ sym b.texts.count) (λ i less. at i (subst (λ n. i < n) a.texts.count less)) where
+  texts = ext_get_or [] h.texts g.texts (a.texts.count ∙ sym b.texts.count) (λ i less. at i (subst (λ n. i < n) a.texts.count less)) where
     row_of : (r : TextRow) → SameTexts h.texts g.texts (fields_of r)
     row_of r =
         let p = texts_back h.texts a.texts r (texts_line h.texts r) h.texts a.texts.count refl in
@@ -71,8 +69,8 @@ module _ (h g : Shown) (a : IsShown h) (b : IsShown g) (agree : Agree h g (row_p
   signals s =
       let high = types_high s in
       let size = agree_count h g a b (row_place End) agree s (omega (arith, high)) in
-      let few = few_shown h a s in
-      let also = few_shown g b s in
+      let few = few_signals_of h.plan a.plan s in
+      let also = few_signals_of g.plan b.plan s in
       sym (take_all (signals_begun 6) (planned_of s h.plan) (omega (arith, few)))
       ∙ signals_same h g a b s size 6 (lit≤ tt) (λ r less. agree_types h g a b (row_place End) agree s r less (omega (arith, less, high)))
       ∙ take_all (signals_begun 6) (planned_of s g.plan) (omega (arith, also))
@@ -86,8 +84,8 @@ module _ (h g : Shown) (a : IsShown h) (b : IsShown g) (agree : Agree h g (row_p
       let p = lengths-back h.values.x h.values.y h.values.z label (coordinate-fits h.values.x a.values.x) (coordinate-fits h.values.y a.values.y) (coordinate-fits h.values.z a.values.z) in
       let q = lengths-back g.values.x g.values.y g.values.z label (coordinate-fits g.values.x b.values.x) (coordinate-fits g.values.y b.values.y) (coordinate-fits g.values.z b.values.z) in
       same_values h.values g.values (sym p.0 ∙ ap (number_at 0) e ∙ q.0) (sym p.1 ∙ ap (number_at 14) e ∙ q.1) (sym p.2 ∙ ap (number_at 28) e ∙ q.2)
-      (sym (height-back h.values.height (pos 0) (pos 0) (codes "ANTENNA: DELTA H/E/N") a.values.height) ∙ ap (λ l. digits_in (take 14 (Rattle.std.specs.Prelude.drop 0 l))) f
-      ∙ height-back g.values.height (pos 0) (pos 0) (codes "ANTENNA: DELTA H/E/N") b.values.height)
+      (sym (height-back h.values.height a.values.height) ∙ ap (λ l. digits_in (take 14 (Rattle.std.specs.Prelude.drop 0 l))) f
+      ∙ height-back g.values.height b.values.height)
 
   pub same_header : IsOnlyTime g.first → h ≡ g
   unfolding row_line
@@ -112,7 +110,7 @@ module _ (k : Known) (at : IsHeadAt k (row_place End)) where
     by : (c : Bool) → (announced k s).planned ≡ c → planned_of s k.shown.plan ≡ planned_of s p
     by true e =
         let counted = (may.each s).count ((at.read.each s).counted.1 (e, low (first_types s) (types_high s))) in
-        let few = few_shown (shown_with k p) (with_is k (row_place End) at.valid at.read p may) s in
+        let few = few_signals_of p may.is s in
         all_of (signals_begun (row_place End - first_types s)) (announced k s).count (planned_of s k.shown.plan) (planned_of s p) (omega (arith, few, counted)) (begun (first_types s) (types_high s)) (at.read.each s).size counted (may.each s).begins
     by false e =
         let none : planned_of s p ≡ [] = none_planned (planned_of s p) (sym ((may.each s).planned (at.read.systems (lit< tt))) ∙ e) in

@@ -1,7 +1,7 @@
 -- What is known after each line of a header.
-use Rattle.std.specs.Prelude.{Result, Err, nat_lt, codes, ◌||◌, nat_le}
+use Rattle.std.specs.Prelude.{nat_lt, codes, ◌||◌, nat_le}
 use Rattle.std.specs.List.{list_all}
-use Rattle.std.proofs.Common.{arith, ◌≡◌, ◌∙◌, sym, ap, ap₂, refl, subst, ℕ, suc, ◌+◌, ◌-◌, ◌<◌, ◌≤◌, ◌==◌, ◌&&◌, Bool, true, false, List, [], ◌∷◌, length, take, min, ◌↔◌, ◌≢◌, pos, lit≤, ◌^◌, map, get_or, Option, Some, None, IsTrue}
+use Rattle.std.proofs.Common.{arith, ◌≡◌, ◌∙◌, sym, ap, ap₂, refl, subst, ℕ, suc, ◌+◌, ◌-◌, ◌<◌, ◌≤◌, ◌==◌, ◌&&◌, Bool, true, false, List, [], ◌∷◌, length, take, min, ◌↔◌, ◌≢◌, lit≤, ◌^◌, map, get_or, Option, Some, None, IsTrue}
 use Rattle.std.proofs.lemmas.Bool.Decides.{nat_tests}
 use Rattle.std.proofs.lemmas.List.{take-take, take-map, take_min, length-take}
 use Rattle.gnss_obs.specs.Signals.{SignalAt, table}
@@ -14,7 +14,7 @@ use Rattle.gnss_obs.specs.Dates.{civil_of}
 use Rattle.gnss_obs.specs.declared.cell.StationValues.{StationValues}
 use Rattle.gnss_obs.proofs.PlanLemmas.{length_indices}
 use Rattle.rinex_file.specs.declared.header.rows.HeaderRow.TheVariants.{Types, Version, Texts, Position, Delta, StrengthUnit, First, Shift}
-use Rattle.rinex_file.specs.Header.{row_line, has_line, first_types, type_rows, position_line, row_place, header_line, lengths, first_line, strength_line, shift_line, version_line, texts_line}
+use Rattle.rinex_file.specs.Header.{row_line, has_line, first_types, type_rows, position_line, row_place, header_line, height_line, first_line, strength_line, shift_line, version_line, texts_line}
 use Rattle.rinex_file.specs.Read.Progress.{Announced, Known, MayBeAll, MayPlan, AreTypesRead, IsHeadAt, announced, shown_with, shown_line, AreTypes, types_line, signals_begun, IsPosition, position_of, Shown, IsReadTo, IsOnlyTime, HasReadRows, lines_before, version_with, is_some_planned}
 use Rattle.rinex_file.specs.Read.HeaderSteps.{has_types, known_line, ReadsHeaderLine, NoneGoesOn, AreBegun, TakesTypes, RefusesTypes, with_types, RefusesHeaderLine, ReadsOrRefuses, ReadsTexts, RefusesTexts, with_texts, with_values, with_first, with_systems}
 use Rattle.rinex_file.specs.declared.header.fields.TextRow.{TextRow}
@@ -175,15 +175,8 @@ module _ (k : Known) (s : System) (row : ℕ) (line : List ℕ) (few : row < 6) 
           nothing [] hs size none = let e : signals_begun row ≡ 0 = omega (arith, none) in sym (ap (λ m. take m hs) e)
           nothing (x ∷ xs) hs size none = absurd (omega (arith, size, none))
 
-pub same_refusal : {A E : Type 0} (r : Result A E) (x y : E) → r ≡ Err x → r ≡ Err y → x ≡ y
-same_refusal r x y a b = cc
-
 false_true : IsTrue false → ⊥
 false_true e = cc
-
--- what was known before, by another name
-pub put : (r : HeaderRow) (line : List ℕ) (old k new : Known) → k ≡ old → ReadsHeaderLine r line k new → ReadsHeaderLine r line old new
-put r line old k new e l = subst (λ o. ReadsHeaderLine r line o new) e l
 
 -- the rows before and the next one were read
 next : (k : Known) (after n : ℕ) → IsOutside n → 0 < n → (row_place First < suc n → HasReadRows k n → IsOnlyTime after) → HasReadRows k n
@@ -256,7 +249,7 @@ unfolding row_line
 refuse_position line r h is e = r (position_of h.values) (is.values.x, is.values.y, is.values.z, refl) (sym e)
 
 abbrev Height : List ℕ → Option ℕ → Type 0
-Height line r = ReadsExactly (λ h. h < 2 ^ 16) (λ h. header_line (lengths (pos h) (pos 0) (pos 0)) (codes "ANTENNA: DELTA H/E/N")) line r
+Height line r = ReadsExactly (λ h. h < 2 ^ 16) height_line line r
 
 pub line_delta : (k : Known) (height : ℕ) (line : List ℕ) → Height line (Some height)
     → ReadsHeaderLine Delta line k (with_values k (record { x = k.shown.values.x; y = k.shown.values.y; z = k.shown.values.z; height = height }))

@@ -1,9 +1,11 @@
 -- Some plan has what was read of it; and from a row of a header to the next.
-use Rattle.std.specs.Prelude.{◌||◌, if◌then◌else◌, nat_lt, ⊤}
-use Rattle.std.specs.List.{list_any, IsDistinct, AllByRecursion}
-use Rattle.std.proofs.Common.{arith, ◌≡◌, ◌∙◌, sym, ap, refl, subst, ℕ, zero, suc, ◌+◌, ◌-◌, ◌<◌, ◌≤◌, Bool, true, false, eqb, nat_eq, List, [], ◌∷◌, ◌++◌, length, take, append_assoc, append-nil, length-append, All, ◌≢◌, ap₂, lit≤, ◌==◌, ◌&&◌, min, ◌↔◌}
+use Rattle.std.specs.Prelude.{◌||◌, ◌⊎◌, nat_lt}
+use Rattle.std.specs.List.{list_any, IsDistinct}
+use Rattle.std.proofs.Common.{arith, ◌≡◌, ◌∙◌, sym, ap, refl, subst, ℕ, zero, suc, ◌+◌, ◌-◌, ◌<◌, ◌≤◌, Bool, true, false, eqb, nat_eq, List, [], ◌∷◌, ◌++◌, length, take, append_assoc, append-nil, length-append, All, ◌≢◌, ap₂, lit≤, ◌==◌, ◌&&◌, min, ◌↔◌, inl, inr}
 use Rattle.std.proofs.Math.Seq.{take-append_seam}
-use Rattle.std.proofs.lemmas.Bool.{eqb-true}
+use Rattle.std.proofs.lemmas.Cmp.{nat_eq_equiv}
+use Rattle.std.proofs.lemmas.Map.Keys.{IsDistinct-push}
+use Rattle.std.proofs.lemmas.Map.Steps.{le-length_from_below}
 use Rattle.std.proofs.lemmas.Bool.Decides.{nat_tests}
 use Rattle.std.proofs.lemmas.List.Elements.{All-nil, All-cons, All-push}
 use Rattle.gnss_obs.specs.Signals.{table}
@@ -21,76 +23,33 @@ use Rattle.rinex_file.specs.Begun.{lines_of_header}
 use Rattle.rinex_file.specs.FileValues.{of_system}
 use Rattle.rinex_file.specs.Header.{has_line, row_at, row_count, row_place, first_types, type_rows}
 use Rattle.rinex_file.specs.Read.HeaderSteps.{has_types, known_line, ReadsHeaderLine, RefusesHeaderLine, GoesTo, NoneGoesOn, SameFrom, StepsTo}
+use Rattle.rinex_file.proofs.BodySteps.{cons_parts}
 use Rattle.rinex_file.proofs.Entries.{few_signals}
-use Rattle.rinex_file.proofs.HeaderAgree.{Agree, agreed, less_or, rows_when, same_there, types_low, types_high, is_lt, placed, line_next, before_next}
+use Rattle.rinex_file.proofs.HeaderAgree.{Agree, agreed, less_or, planned_is, rows_when, same_there, types_low, types_high, is_lt, placed, line_next, before_next}
 use Rattle.rinex_file.proofs.HeaderText.{equal_or}
 
--- ---- numbers below N that a list doesn't have
+-- ---- signals of a system, with others up to a number
 
-without : ℕ → List ℕ → List ℕ
-without m [] = []
-without m (x ∷ xs) = if eqb m x then without m xs else x ∷ without m xs
-
-not_longer : (m : ℕ) (xs : List ℕ) → length (without m xs) ≤ length xs
-unfolding without
-not_longer m [] = omega arith
-not_longer m (x ∷ xs) = grind (arith, without, (not_longer m xs))
-
-shorter : (m : ℕ) (xs : List ℕ) → list_any (eqb m) xs ≡ true → length (without m xs) < length xs
-unfolding without
-shorter m [] h = cc
-shorter m (x ∷ xs) h =
-    let most = not_longer m xs in
-    elim (eqb m x) as (λ t. (t || list_any (eqb m) xs) ≡ true → length (if t then without m xs else x ∷ without m xs) < suc (length xs)) [
-      | true ↦ λ k. omega (arith, most)
-      | false ↦ λ k. let rest = shorter m xs k in omega (arith, rest)
-    ] h
-
-other_of : (i m x : ℕ) → i < m → eqb m x ≡ true → eqb i x ≡ false
-other_of i m x less same = let e = eqb-true m x same in grind (arith, less, e)
-
-parts_false : (a b : Bool) → (a || b) ≡ false → (a ≡ false) × (b ≡ false)
-parts_false true b e = cc
-parts_false false b e = (refl, e)
-
-also_without : (i m x : ℕ) (xs : List ℕ) (t : Bool) → i < m → eqb m x ≡ t → (list_any (eqb i) (without m xs) ≡ false → list_any (eqb i) xs ≡ false)
-    → list_any (eqb i) (if t then without m xs else x ∷ without m xs) ≡ false → list_any (eqb i) (x ∷ xs) ≡ false
-also_without i m x xs true less e rest k = ap (λ t. t || list_any (eqb i) xs) (other_of i m x less e) ∙ rest k
-also_without i m x xs false less e rest k = grind (arith, parts_false, without)
-
-still_without : (i m : ℕ) (xs : List ℕ) → i < m → list_any (eqb i) (without m xs) ≡ false → list_any (eqb i) xs ≡ false
-unfolding without
-still_without i m [] less h = refl
-still_without i m (x ∷ xs) less h = also_without i m x xs (eqb m x) less refl (still_without i m xs less) h
-
+-- a number below n that isn't in a list
 record Fresh (n : ℕ) (xs : List ℕ) : Type 0 where
   i : ℕ
   below : i < n
   isnt : list_any (eqb i) xs ≡ false
 
-fresh_by : (m : ℕ) (xs : List ℕ) (t : Bool) → length xs < suc m → list_any (eqb m) xs ≡ t → (length (without m xs) < m → Fresh m (without m xs)) → Fresh (suc m) xs
-fresh_by m xs false few e rest = record { i = m; below = omega arith; isnt = e }
-fresh_by m xs true few e rest = grind (arith, shorter, still_without)
+-- there is one, or the list has them all
+fresh_or_all : (n : ℕ) (xs : List ℕ) → Fresh n xs ⊎ ((i : ℕ) → i < n → list_any (eqb i) xs ≡ true)
+fresh_or_all zero xs = inr (λ i less. absurd (omega (arith, less)))
+fresh_or_all (suc n) xs = by (list_any (eqb n) xs) refl (fresh_or_all n xs) where
+  by : (t : Bool) → list_any (eqb n) xs ≡ t → Fresh n xs ⊎ ((i : ℕ) → i < n → list_any (eqb i) xs ≡ true) → Fresh (suc n) xs ⊎ ((i : ℕ) → i < suc n → list_any (eqb i) xs ≡ true)
+  by false e rest = inl (record { i = n; below = omega arith; isnt = e })
+  by true e (inl one) = let less = one.below in inl (record { i = one.i; below = omega (arith, less); isnt = one.isnt })
+  by true e (inr all) = inr (λ i less. equal_or (list_any (eqb i) xs ≡ true) i n (λ same. subst (λ j. list_any (eqb j) xs ≡ true) (sym same) e) (λ other. all i (omega (arith, less, other))))
 
 fresh : (n : ℕ) (xs : List ℕ) → length xs < n → Fresh n xs
-fresh zero xs few = absurd (omega (arith, few))
-fresh (suc m) xs few = fresh_by m xs (list_any (eqb m) xs) few refl (fresh m (without m xs))
-
--- ---- signals of a system, with others up to a number
-
-flipped : (i x : ℕ) → eqb i x ≡ false → eqb x i ≡ false
-flipped i x e = grind (arith, e)
-
-apart_from : (x i : ℕ) (xs : List ℕ) → AllByRecursion (λ y. nat_eq x y ≡ false) xs → eqb i x ≡ false → AllByRecursion (λ y. nat_eq x y ≡ false) (xs ++ i ∷ [])
-apart_from x i [] all other = (flipped i x other, tt)
-apart_from x i (y ∷ ys) all other = (all.0, apart_from x i ys all.1 other)
-
-apart_more : (xs : List ℕ) (i : ℕ) → IsDistinct nat_eq xs → list_any (eqb i) xs ≡ false → IsDistinct nat_eq (xs ++ i ∷ [])
-unfolding IsDistinct
-apart_more [] i apart isnt = (tt, tt)
-apart_more (x ∷ xs) i apart isnt =
-    let both = parts_false (eqb i x) (list_any (eqb i) xs) isnt in
-    (apart_from x i xs apart.0 both.0, apart_more xs i apart.1 both.1)
+fresh n xs few = by (fresh_or_all n xs) where
+  by : Fresh n xs ⊎ ((i : ℕ) → i < n → list_any (eqb i) xs ≡ true) → Fresh n xs
+  by (inl one) = one
+  by (inr all) = let many = le-length_from_below xs n all in absurd (omega (arith, few, many))
 
 abbrev AreBelow : ℕ → List ℕ → Type 0
 AreBelow n xs = All (λ i. i < n) xs
@@ -116,7 +75,7 @@ complete zero n xs below apart room = grind (arith, append-nil)
 complete (suc d) n xs below apart room =
     let one = fresh n xs (omega (arith, room)) in
     let longer : length (xs ++ one.i ∷ []) ≡ length xs + 1 = length-append xs (one.i ∷ []) in
-    one_completed n d xs one.i (complete d n (xs ++ one.i ∷ []) (All-push (λ i. i < n) xs one.i below one.below) (apart_more xs one.i apart one.isnt) (omega (arith, room, longer)))
+    one_completed n d xs one.i (complete d n (xs ++ one.i ∷ []) (All-push (λ i. i < n) xs one.i below one.below) (IsDistinct-push nat_eq_equiv xs one.i apart one.isnt) (omega (arith, room, longer)))
 
 -- ---- all signals of a system, by those that were read
 
@@ -261,10 +220,6 @@ module _ (gps galileo : Announced) (plan : PlanValue) (first after n : ℕ) wher
 
 -- ---- which rows have a line
 
-planned_is : (signals : List ℕ) → nat_lt 0 (length signals) ≡ is_some_planned signals
-planned_is [] = refl
-planned_is (x ∷ xs) = grind (arith, nat_tests)
-
 -- a line of types, by whether there is a signal, the number of signals, and the line's number
 types_there : (row count n : ℕ) (b : Bool) → b ≡ nat_lt 0 n → (0 < row → 0 < n → count ≡ n) → nat_lt row (type_rows n) ≡ (b && (row == 0 || nat_lt row (type_rows count)))
 types_there row count zero b planned counted = grind (arith, nat_tests, planned)
@@ -311,28 +266,13 @@ pub far_other : (s : System) (row : ℕ) → row < 6 → first_types (other s) �
 far_other Gps row less more few = omega (arith, less, more)
 far_other Galileo row less more few = omega (arith, few)
 
--- a row of types has a number
-abbrev pub IsRow : HeaderRow → Type 0
-IsRow (Types s part) = part < 6
-IsRow other = ⊤
+-- a row of types has a number below six
+abbrev is_row : HeaderRow → Bool
+is_row (Types s part) = nat_lt part 6
+is_row other = true
 
-row_numbers : HeaderRow → Bool
-row_numbers (Types s part) = nat_lt part 6
-row_numbers other = true
-
-pub is_row : (n : ℕ) → n < row_count → IsRow (row_at n)
-unfolding row_numbers
-is_row n less = by (row_at n) (passes_at (λ i. row_numbers (row_at i)) row_count n refl less) where
-  by : (r : HeaderRow) → row_numbers r ≡ true → IsRow r
-  by Version e = tt
-  by (Texts r) e = tt
-  by Position e = tt
-  by Delta e = tt
-  by (Types s part) e = is_less part 6 e
-  by StrengthUnit e = tt
-  by First e = tt
-  by (Shift s) e = tt
-  by End e = tt
+are_rows : (n : ℕ) → n < row_count → is_row (row_at n) ≡ true
+are_rows n less = passes_at (λ i. is_row (row_at i)) row_count n refl less
 
 none_left : (planned : Bool) (row count : ℕ) → (planned && (row == 0 || nat_lt row (type_rows count))) ≡ false → (planned ≡ true → 0 < row × count ≤ signals_begun row)
 none_left true zero count e h = cc
@@ -366,12 +306,12 @@ skip_types s row k few lacks r = record {
   only = λ l. let high = types_high s in absurd (omega (arith, l, few, high));
 }
 
-skip_row : (r : HeaderRow) (k : Known) → IsRow r → known_line k r ≡ false → HasReadRows k (row_place r) → HasReadRows k (suc (row_place r))
+skip_row : (r : HeaderRow) (k : Known) → is_row r ≡ true → known_line k r ≡ false → HasReadRows k (row_place r) → HasReadRows k (suc (row_place r))
 skip_row Version k row lacks read = cc
 skip_row (Texts r) k row lacks read = cc
 skip_row Position k row lacks read = cc
 skip_row Delta k row lacks read = cc
-skip_row (Types s i) k row lacks read = skip_types s i k row lacks read
+skip_row (Types s i) k row lacks read = skip_types s i k (is_less i 6 row) lacks read
 skip_row StrengthUnit k row lacks read = cc
 skip_row First k row lacks read = cc
 skip_row (Shift Gps) k row lacks read = reads_next k.gps k.galileo k.shown.plan k.shown.first k.shown.first (row_place (Shift Gps)) (outside_high (row_place (Shift Gps)) (lit≤ tt)) (read.systems (lit≤ tt)) (λ l. read.only (lit≤ tt)) read
@@ -388,7 +328,7 @@ skipped n k at lacks = record {
       ∙ append-nil (lines_before (shown_with k p) n));
   at = record {
     valid = at.valid;
-    read = subst (λ m. HasReadRows k (suc m)) (placed n at.expected) (skip_row (row_at n) k (is_row n at.expected) lacks (subst (HasReadRows k) (sym (placed n at.expected)) at.read));
+    read = subst (λ m. HasReadRows k (suc m)) (placed n at.expected) (skip_row (row_at n) k (are_rows n at.expected) lacks (subst (HasReadRows k) (sym (placed n at.expected)) at.read));
     expected = not_last n k at.expected lacks;
   };
 }
@@ -447,20 +387,15 @@ follows n line k at has p h others left may is e =
     let same = agreed h g is (with_is k n at.valid at.read p may) n (let less = at.expected in omega (arith, less)) others (line ∷ left) e in
     let there : has_line h.plan (row_at n) ≡ true = same_there h g is (with_is k n at.valid at.read p may) n at.expected same.agree ∙ present_at n k p at.expected may at.read ∙ has in
     let next = line_next h.texts h.plan h.values (civil_of h.first) n at.expected there in
-    let both = heads line (shown_line h (row_at n)) left (lines_after h (suc n) ++ others) (same.rest ∙ ap (λ l. l ++ others) next) in
-    record { agree = same.agree; there = there; shows = sym both.0; rest = both.1 } where
-      heads : (y x : List ℕ) (ys xs : List (List ℕ)) → y ∷ ys ≡ x ∷ xs → (y ≡ x) × (ys ≡ xs)
-      heads y x ys xs e = (cc, cc)
+    let both = cons_parts line (shown_line h (row_at n)) left (lines_after h (suc n) ++ others) (same.rest ∙ ap (λ l. l ++ others) next) in
+    record { agree = same.agree; there = there; shows = sym both.0; rest = both.1 }
 
 pub none_at : (n : ℕ) (line : List ℕ) (k : Known) (r : HeaderRow) → IsHeadAt k n → known_line k (row_at n) ≡ true → row_at n ≡ r → RefusesHeaderLine r line → NoneGoesOn k n line
 none_at n line k r at has is refuses p h others left may shown e =
     refuses h shown (ap (shown_line h) (sym is) ∙ (follows n line k at has p h others left may shown e).shows)
 
-pub last_at : (n : ℕ) → n < row_count → row_at n ≡ End → n ≡ row_place End
-last_at n less at = sym (placed n less) ∙ ap row_place at
-
 pub types_few : (n : ℕ) (s : System) (row : ℕ) → n < row_count → row_at n ≡ Types s row → row < 6
-types_few n s row less at = subst IsRow at (is_row n less)
+types_few n s row less at = is_less row 6 (sym (ap is_row at) ∙ are_rows n less)
 
-pub types_place : (n : ℕ) (s : System) (row : ℕ) → n < row_count → row_at n ≡ Types s row → n ≡ first_types s + row
-types_place n s row less at = sym (placed n less) ∙ ap row_place at
+pub place_at : (n : ℕ) (r : HeaderRow) → n < row_count → row_at n ≡ r → n ≡ row_place r
+place_at n r less at = sym (placed n less) ∙ ap row_place at

@@ -4,7 +4,7 @@ use Rattle.std.specs.List.{list_all}
 use Rattle.std.proofs.Common.{arith, ◌≡◌, ◌∙◌, refl, sym, ap, ap₂, subst, ℕ, Option, suc, ◌+◌, ◌<◌, ◌≤◌, ◌≢◌, List, [], ◌∷◌, length, drop, get_or, add-one, true, Some, None, zero, ◌-◌, ◌++◌, take, replicate, append_assoc, append-nil, length-append}
 use Rattle.std.proofs.Math.Seq.{drop-cons}
 use Rattle.std.proofs.Math.ListN.{get_or-map, set, length-set}
-use Rattle.std.proofs.lemmas.List.{length-map, length-replicate, take_at, drop_at, get_or-set_same, get_or-set_other}
+use Rattle.std.proofs.lemmas.List.{length-map, length-replicate, take_at, drop_at, get_or-set_same, get_or-set_other, get_or_default, ext_get_or}
 use Rattle.std.proofs.lemmas.List.Folds.{list_all-append}
 use Rattle.gnss_obs.proofs.Checked.{passes_at, is_equal}
 use Rattle.rinex_file.specs.declared.header.fields.HeaderField.{HeaderField}
@@ -245,15 +245,6 @@ module _ (t : HeaderLists) (i : ℕ) (d : HeaderField) (less : i < text_count) w
       let next : suc i ≡ i + 1 = omega arith in
       fields_next ∙ ap (λ found. first_fault t found (drop (suc i) fields)) e ∙ ap (λ n. first_fault t None (drop n fields)) next
 
-pub same_lists : (a b : List (List ℕ)) → length a ≡ length b → ((i : ℕ) → i < length a → get_or a i [] ≡ get_or b i []) → a ≡ b
-same_lists [] [] size same = refl
-same_lists [] (y ∷ ys) size same = absurd (omega (arith, size))
-same_lists (x ∷ xs) [] size same = absurd (omega (arith, size))
-same_lists (x ∷ xs) (y ∷ ys) size same =
-    let head : x ≡ y = same 0 (omega arith) in
-    let rest : xs ≡ ys = same_lists xs ys (omega (arith, size)) (λ i less. same (suc i) (omega (arith, less))) in
-    cc
-
 -- the texts so far are cut
 abbrev pub AreCut : ℕ → HeaderLists → HeaderLists → Type 0
 AreCut i t x = (j : ℕ) → j < i → get_or x j [] ≡ trimmed (get_or t j [])
@@ -263,19 +254,14 @@ one_cut i t x size few cut j less = equal_or _ j i
     (λ e. subst (λ k. get_or (set x i (trimmed (get_or t i []))) k [] ≡ trimmed (get_or t k [])) (sym e) (get_or-set_same x i (trimmed (get_or t i [])) [] (subst (λ n. i < n) (sym size) few)))
     (λ other. get_or-set_other x i j (trimmed (get_or t i [])) [] other ∙ cut j (omega (arith, less, other)))
 
-same_default : {A : Type 0} (xs : List A) (i : ℕ) (d e : A) → i < length xs → get_or xs i d ≡ get_or xs i e
-same_default [] i d e less = absurd (omega (arith, less))
-same_default (x ∷ xs) zero d e less = refl
-same_default (x ∷ xs) (suc i) d e less = same_default xs i d e (omega (arith, less))
-
 pub one_stored : (t x new : HeaderLists) (i : ℕ) (d : HeaderField) (text : List ℕ) → i < text_count → length x ≡ text_count → AreCut i t x → text ≡ text_of t (get_or fields i d)
     → new ≡ set x (place_of (get_or fields i d)) (trimmed text) → AreCut (i + 1) t new × (length new ≡ text_count)
 one_stored t x new i d text less size cut is value =
-    let place : place_of (get_or fields i d) ≡ i = ap place_of (same_default fields i d AntType less) ∙ place_back i less in
+    let place : place_of (get_or fields i d) ≡ i = ap place_of (get_or_default fields i d AntType less) ∙ place_back i less in
     let stored : new ≡ set x i (trimmed (get_or t i [])) = value ∙ ap₂ (λ n b. set x n (trimmed b)) place (is ∙ ap (λ n. get_or t n []) place) in
     (subst (AreCut (i + 1) t) (sym stored) (one_cut i t x size less cut), ap length stored ∙ length-set x i (trimmed (get_or t i [])) ∙ size)
 
 pub all_cut : (t x : HeaderLists) → length t ≡ text_count → length x ≡ text_count → AreCut text_count t x → x ≡ trimmed_texts t
 unfolding trimmed
 all_cut t x size count cut =
-    same_lists x (map trimmed t) (count ∙ sym size ∙ sym (length-map t trimmed)) (λ j less. cut j (subst (λ n. j < n) count less) ∙ sym (get_or-map trimmed t j []))
+    ext_get_or [] x (map trimmed t) (count ∙ sym size ∙ sym (length-map t trimmed)) (λ j less. cut j (subst (λ n. j < n) count less) ∙ sym (get_or-map trimmed t j []))

@@ -14,7 +14,7 @@ use Rattle.rinex_file.specs.Numbers.{joined}
 use Rattle.rinex_file.specs.Lines.{epoch_line, satellite_line}
 use Rattle.rinex_file.specs.File.{header_text, change_lines, stamped_lines, file_text, lines_of_parts}
 use Rattle.rinex_file.specs.Read.Keeping.{HasRoom, HaveRowsRoom, stamped_text}
-use Rattle.rinex_file.proofs.PlainHeader.{few_signals_of}
+use Rattle.rinex_file.proofs.BodySteps.{few_signals_of}
 use Rattle.rinex_file.proofs.RowText.{few_satellites}
 use Rattle.rinex_file.proofs.Sent.{joined-append}
 

@@ -26,9 +26,8 @@ use Rattle.rinex_file.specs.Lines.{letter_of}
 use Rattle.rinex_file.specs.Numbers.{joined, left, right, fixed}
 use Rattle.rinex_file.specs.Read.Fields.{has}
 use Rattle.rinex_file.specs.Texts.{HeaderLists, width_of, text_of, fields_of, label_of, front_of}
-use Rattle.rinex_file.proofs.Entries.{few_signals}
+use Rattle.rinex_file.proofs.BodySteps.{few_signals_of}
 use Rattle.rinex_file.proofs.HeaderText.{few_columns}
-use Rattle.rinex_file.proofs.FewRows.{few_planned}
 use Rattle.rinex_file.proofs.TypeRows.{length-system_types}
 use Rattle.rinex_file.proofs.PlainTexts.{both, IsPlain, plain-wider, plain-append, plain-left, plain-right, plain-decimal, plain-fixed, plain, plain-flat_map, plain-joined, also, plain-text}
 
@@ -203,9 +202,6 @@ version p =
       (record { clean = refl; short = lit≤ tt }, (record { clean = refl; short = lit≤ tt }, (grind arith, tt))),
     )
     (lit≤ tt) (plain 20 (codes "RINEX VERSION / TYPE") refl (lit≤ tt))
-
-pub few_signals_of : (p : PlanValue) → IsPlan p → (system : System) → length (planned_of system p) ≤ 19
-few_signals_of p is system = let few = few_planned p is system in let most = few_signals system in omega (arith, few, most)
 
 -- ---- station
 

@@ -5,7 +5,7 @@ use Rattle.std.specs.List.{list_any, IsDistinct}
 use Rattle.std.proofs.Common.{min, ◌-◌, length-take, length-drop, arith, rules, ◌≡◌, ◌∙◌, ap, refl, ℕ, zero, suc, ◌+◌, ◌<◌, ◌≤◌, ◌==◌, ◌&&◌, Bool, true, false, List, [], ◌∷◌, length, take, drop, Some, None, Option, nat_lt, sym, ◌*◌, ◌/◌, ◌%◌, ◌++◌, get_or, append_assoc, append-nil, ap₂, subst, ◌^◌, ◌||◌, replicate, decimal, nat_eq}
 use Rattle.std.proofs.lemmas.Str.{IsUtf8-from_ascii}
 use Rattle.std.proofs.lemmas.Bool.{cases_lt}
-use Rattle.std.proofs.lemmas.List.{take_more, get_or-drop, take_all, take_at, take-take, take-map, drop_at, drop-drop, drop-take, get_or-take}
+use Rattle.std.proofs.lemmas.List.{length-map, take_more, get_or-drop, take_all, take_at, take-take, take-map, drop_at, drop-drop, drop-take, get_or-take}
 use Rattle.std.proofs.lemmas.List.Elements.{All-get_or, All-head, All-tail}
 use Rattle.std.proofs.lemmas.Map.Keys.{apart_from_distinct, IsDistinct-tail}
 use Rattle.std.proofs.lemmas.Map.Steps.{length-le_from_distinct_below}
@@ -105,18 +105,14 @@ type_here cs i e h = ap (λ n. get_or (types_of cs) n e) (split i) ∙ types_at 
 same_code : (s : SignalAt) (system : System) (index : ℕ) → s.index ≡ index → s.system ≡ system → code_of s ≡ code_of (record { system = system; index = index })
 same_code s system index p q = ap (λ x. code_of (record { system = x; index = s.index })) q ∙ ap (λ x. code_of (record { system = system; index = x })) p
 
-length-codes : (f : ℕ → List ℕ) (xs : List ℕ) → length (map f xs) ≡ length xs
-length-codes f [] = refl
-length-codes f (x ∷ xs) = ap suc (length-codes f xs)
-
 -- the type at an index of a system's types
 pub signal_type : (system : System) (signals : List ℕ) (s : SignalAt) (i : ℕ) → i < 4 * length signals → s.index ≡ slice_index signals (i / 4) → s.system ≡ system
     → type_of (i % 4) (code_of s) ≡ get_or (types_of (codes_of system signals)) i []
-signal_type system signals s i h p q = grind (arith, length-codes, same_code, at_code, quarter, type_here)
+signal_type system signals s i h p q = grind (arith, length-map, same_code, at_code, quarter, type_here)
 
 -- the number of a system's types
 pub length-system_types : (system : System) (signals : List ℕ) → length (types_of (codes_of system signals)) ≡ 4 * length signals
-length-system_types system signals = length-types_of (codes_of system signals) ∙ ap (λ n. 4 * n) (length-codes (λ index. code_of (record { system = system; index = index })) signals)
+length-system_types system signals = length-types_of (codes_of system signals) ∙ ap (λ n. 4 * n) (length-map signals (λ index. code_of (record { system = system; index = index })))
 
 abbrev pub columns : List (List ℕ) → List ℕ
 columns types = flat_map (λ t. 32 ∷ t) types

@@ -51,8 +51,11 @@ abbrev pub position_line : StationValues → List ℕ
 position_line v = header_line (lengths v.x v.y v.z) (codes "APPROX POSITION XYZ")
 
 -- the height of the antenna; its east and north offsets from the marker are zero
+abbrev pub height_line : ℕ → List ℕ
+height_line height = header_line (lengths (pos height) (pos 0) (pos 0)) (codes "ANTENNA: DELTA H/E/N")
+
 abbrev pub delta_line : StationValues → List ℕ
-delta_line v = header_line (lengths (pos v.height) (pos 0) (pos 0)) (codes "ANTENNA: DELTA H/E/N")
+delta_line v = height_line v.height
 
 -- ---- signals
 

@@ -10,7 +10,7 @@ use Rattle.rinex_file.specs.declared.header.fault.HeadFault.{HeadFault}
 use Rattle.rinex_file.specs.declared.header.fields.HeaderField.{HeaderField}
 use Rattle.rinex_file.specs.declared.header.fields.TextRow.{TextRow}
 use Rattle.rinex_file.specs.declared.header.rows.HeaderRow.{HeaderRow}
-use Rattle.rinex_file.specs.declared.header.rows.HeaderRow.TheVariants.{Version, Position, Delta, First, Types, Shift, End}
+use Rattle.rinex_file.specs.declared.header.rows.HeaderRow.TheVariants.{Types, Shift, End}
 use Rattle.rinex_file.specs.declared.read.expected.Expected.{Expected}
 use Rattle.rinex_file.specs.declared.read.expected.Expected.TheVariants.{Header, Epoch}
 use Rattle.rinex_file.specs.declared.read.expected.Refusal.{Refusal}
@@ -23,14 +23,6 @@ use Rattle.rinex_file.specs.Header.{row_place, texts_line, type_rows}
 use Rattle.rinex_file.specs.Read.Progress.{Announced, Known, Shown, IsShown, MayPlan, HasReadRows, IsHeadAt, IsOnlyTime}
 use Rattle.rinex_file.specs.Read.Progress.{shown_with, shown_rows, lines_before, announced, shown_line}
 use Rattle.rinex_file.specs.Read.Progress.{AreTypes, types_line, signals_begun}
-
--- a row whose line has values that are read back
-abbrev pub HasValues : HeaderRow → Type 0
-HasValues Version = ⊤
-HasValues Position = ⊤
-HasValues Delta = ⊤
-HasValues First = ⊤
-HasValues other = ⊥
 
 -- a row other than those of types and the last
 abbrev pub IsOnly : HeaderRow → Type 0

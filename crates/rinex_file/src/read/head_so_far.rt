@@ -6,7 +6,7 @@ ghost use Rattle.gnss_obs.specs.Values.{planned_of};
 ghost use Rattle.rinex_file.specs.Header.{type_rows, row_at};
 ghost use Rattle.rinex_file.specs.Read.Progress.{AreValid, IsHeadAt, announced, signals_begun};
 ghost use Rattle.rinex_file.specs.Read.HeaderSteps.{known_line, SameFrom, TakesHeaderLine};
-ghost use Rattle.rinex_file.specs.Read.HeaderSteps.{TakesTypes, RefusesTypes, with_types, HasValues, IsOnly, ReadsOrRefuses};
+ghost use Rattle.rinex_file.specs.Read.HeaderSteps.{TakesTypes, RefusesTypes, with_types, IsOnly, ReadsOrRefuses};
 
 use crate::header::lines::{END, SHIFT, STRENGTH_UNIT, UNIT};
 use crate::header::rows::{HeaderRow, row_at};
@@ -149,9 +149,9 @@ impl HeadSoFar {
         }
     }
 
-    /// Reads the line of a row of values. Returns whether some header has it.
-    fn read_values(&mut self, row: HeaderRow, line: &[u8]) -> bool
-        requires { HasValues row }
+    /// Reads the line of a row. Returns whether some header has it.
+    fn read_header_line(&mut self, row: HeaderRow, line: &[u8]) -> bool
+        requires { IsOnly row }
         ensures { ReadsOrRefuses row line.now self.old self.new result }
     {
         match row {
@@ -163,6 +163,7 @@ impl HeadSoFar {
                 self.galileo.is_planned = galileo;
                 true
             }
+            HeaderRow::Texts(row) => read_texts(&mut self.texts, row, line),
             HeaderRow::Position => {
                 let Some(mut values) = read_position(line) else {
                     return false;
@@ -178,27 +179,16 @@ impl HeadSoFar {
                 self.values.height = height;
                 true
             }
-            _ => {
+            HeaderRow::StrengthUnit => is_header_line(line, UNIT, STRENGTH_UNIT),
+            HeaderRow::First => {
                 let Some(first) = read_first(line) else {
                     return false;
                 };
                 self.first = first;
                 true
             }
-        }
-    }
-
-    /// Reads the line of a row. Returns whether some header has it.
-    fn read_header_line(&mut self, row: HeaderRow, line: &[u8]) -> bool
-        requires { IsOnly row }
-        ensures { ReadsOrRefuses row line.now self.old self.new result }
-    {
-        match row {
-            HeaderRow::Texts(row) => read_texts(&mut self.texts, row, line),
-            HeaderRow::StrengthUnit => is_header_line(line, UNIT, STRENGTH_UNIT),
             HeaderRow::Shift(system) => is_header_line(line, &[letter_of(system)], SHIFT),
             HeaderRow::Types(_, _) | HeaderRow::End => false,
-            row => self.read_values(row, line),
         }
     }
 

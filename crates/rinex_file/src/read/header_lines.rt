@@ -1,8 +1,8 @@
 //! The lines of a header, read back.
-ghost use Rattle.std.specs.Prelude.{◌≡◌, ◌↔◌, ◌+◌, ◌≤◌, ◌<◌, ◌^◌, ◌||◌, IsTrue, pos, Bool, true};
-ghost use Rattle.std.specs.Prelude.{length, take, drop, codes};
+ghost use Rattle.std.specs.Prelude.{◌≡◌, ◌↔◌, ◌+◌, ◌≤◌, ◌<◌, ◌^◌, ◌||◌, IsTrue, Bool, true};
+ghost use Rattle.std.specs.Prelude.{length, take, drop};
 ghost use Rattle.rinex_file.specs.FileValues.{IsCoordinate};
-ghost use Rattle.rinex_file.specs.Header.{header_line, lengths, position_line};
+ghost use Rattle.rinex_file.specs.Header.{header_line, height_line, position_line};
 ghost use Rattle.rinex_file.specs.Read.Fields.{number_in, ReadsExactly};
 ghost use Rattle.rinex_file.specs.Read.HeaderSteps.{ReadsOrRefusesTexts};
 ghost use Rattle.rinex_file.specs.Read.Progress.{IsPosition, version_with};
@@ -63,8 +63,7 @@ pub(crate) fn read_position(line: &[u8]) -> Option<StationValues>
 /// Returns the height of the antenna above the marker in 0.0001 m by its line, or None for any
 /// other line.
 pub(crate) fn read_delta(line: &[u8]) -> Option<u16>
-    ensures { ReadsExactly (λ h. h < 2 ^ 16)
-        (λ h. header_line (lengths (pos h) (pos 0) (pos 0)) (codes "ANTENNA: DELTA H/E/N")) line.now result }
+    ensures { ReadsExactly (λ h. h < 2 ^ 16) height_line line.now result }
 {
     // A number that doesn't fit differs from the limit, which is written again.
     let height = digits_in(columns(line, 0, 14)).min(65_535) as u16;

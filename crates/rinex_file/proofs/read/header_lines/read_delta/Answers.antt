@@ -1,19 +1,16 @@
 use Rattle.std.proofs.Common.{arith, ◌≡◌, ◌∙◌, ap, w64, to_z, ◌<◌, ◌^◌, ℕ, List, take, drop}
 use Rattle.std.specs.Prelude.{codes, pos, min}
-use Rattle.rinex_file.specs.Header.{header_line, lengths}
+use Rattle.rinex_file.specs.Header.{header_line, lengths, height_line}
 use Rattle.rinex_file.specs.Read.Fields.{digits_in}
 use Rattle.rinex_file.proofs.Judged.{exactly}
 use Rattle.rinex_file.proofs.HeaderAgree.{height-back}
 use Rattle.rinex_file.proofs.read.header_lines.read_delta.Goals as goal
 
-abbrev text : ℕ → List ℕ
-text h = header_line (lengths (pos h) (pos 0) (pos 0)) (codes "ANTENNA: DELTA H/E/N")
-
 -- the first columns of the line of a height contain the height
-there : (line : List ℕ) (h : ℕ) → h < 2 ^ 16 → line ≡ text h → digits_in (take 14 (drop 0 line)) ≡ h
-there line h small e = ap (λ l. digits_in (take 14 (drop 0 l))) e ∙ height-back h (pos 0) (pos 0) (codes "ANTENNA: DELTA H/E/N") small
+there : (line : List ℕ) (h : ℕ) → h < 2 ^ 16 → line ≡ height_line h → digits_in (take 14 (drop 0 line)) ≡ h
+there line h small e = ap (λ l. digits_in (take 14 (drop 0 l))) e ∙ height-back h small
 
-widened : (h : ℕ) → h < 2 ^ 16 → header_line (lengths (to_z w64 h) (pos 0) (pos 0)) (codes "ANTENNA: DELTA H/E/N") ≡ text h
+widened : (h : ℕ) → h < 2 ^ 16 → header_line (lengths (to_z w64 h) (pos 0) (pos 0)) (codes "ANTENNA: DELTA H/E/N") ≡ height_line h
 widened h small = grind arith
 
 small_min : (n height : ℕ) → height ≡ min n 65535 → height < 2 ^ 16
@@ -25,6 +22,6 @@ same_min n height h is same small = omega (arith, is, same, small)
 pub returns : goal.returns
 returns c =
     let small = small_min _ c.min-height.result c.min-height.ensures in
-    exactly (λ h. h < 2 ^ 16) text c.args.line.now _ c.min-height.result c.is_same.result _ c.then_some.ensures small
+    exactly (λ h. h < 2 ^ 16) height_line c.args.line.now _ c.min-height.result c.is_same.result _ c.then_some.ensures small
     (λ h fits e. same_min _ _ h c.min-height.ensures (c.digits_in.ensures.value ∙ ap digits_in c.columns.ensures.value ∙ there c.args.line.now h fits e) fits)
     (c.as_slice.ensures.value ∙ c.three_lengths-again.ensures ∙ widened c.min-height.result small) c.is_same.ensures

@@ -55,27 +55,5 @@ whole all place end a next count low high is same size = grind (arith, take_min)
 pub returns-clause-taken : goal.returns-clause-taken
 returns-clause-taken c = grind (arith, whole)
 
--- the index of a signal in a line of types is below the largest number of signals of a system
-within : (place end a count most : ℕ) → place < end → end ≡ min a count → count ≤ most → most ≤ 19 → place < 19
-within place end a count most less least few bound = omega (arith, less, least, few, bound)
-
-pub overflow_mul-column : goal.overflow_mul-column
-overflow_mul-column c = let n = within _ _ _ _ _ c.loop-place-test.true c.min-end.ensures c.requires.count (few_signals c.args.system) in omega (arith, n)
-
-pub overflow_mul-column-in-loop-place : goal.overflow_mul-column-in-loop-place
-overflow_mul-column-in-loop-place c = let n = within _ _ _ _ _ c.loop-place-test.true c.min-end.ensures c.requires.count (few_signals c.args.system) in omega (arith, n)
-
-pub overflow_mul-column-in-loop-place-2 : goal.overflow_mul-column-in-loop-place-2
-overflow_mul-column-in-loop-place-2 c = let n = within _ _ _ _ _ c.loop-place-test.true c.min-end.ensures c.requires.count (few_signals c.args.system) in omega (arith, n)
-
-pub overflow_add-column : goal.overflow_add-column
-overflow_add-column c = let n = within _ _ _ _ _ c.loop-place-test.true c.min-end.ensures c.requires.count (few_signals c.args.system) in omega (arith, n)
-
-pub overflow_add-column-in-loop-place : goal.overflow_add-column-in-loop-place
-overflow_add-column-in-loop-place c = let n = within _ _ _ _ _ c.loop-place-test.true c.min-end.ensures c.requires.count (few_signals c.args.system) in omega (arith, n)
-
-pub signal_in-requires : goal.signal_in-requires
-signal_in-requires c = let n = within _ _ _ _ _ c.loop-place-test.true c.min-end.ensures c.requires.count (few_signals c.args.system) in omega (arith, n)
-
 pub loop-place-init : goal.loop-place-init
 loop-place-init c = grind (arith, common_steps)

@@ -14,7 +14,7 @@ use Rattle.rinex_file.specs.Read.Progress.{Known, IsHeadAt, announced}
 use Rattle.rinex_file.specs.Read.HeaderSteps.{IsOnly, known_line, EndsHeader, NoneGoesOn, ReadsHeaderLine, TakesHeaderLine}
 use Rattle.rinex_file.proofs.HeaderEnd.{ends, no_end_line}
 use Rattle.rinex_file.proofs.HeaderRead.{begun_here, line_types, none_taken, rows_there}
-use Rattle.rinex_file.proofs.HeaderSteps.{step_at, steps_from, none_at, none_from, last_at, types_few, types_place}
+use Rattle.rinex_file.proofs.HeaderSteps.{step_at, steps_from, none_at, none_from, types_few, place_at}
 use Rattle.rinex_file.proofs.Judged.{refused}
 use Rattle.rinex_file.proofs.read.head_so_far.HeadSoFar.take.Goals as goal
 
@@ -27,7 +27,7 @@ stopped {Q} old new from line (Err Memory) is bad = tt
 
 -- what is known at a line of types
 abbrev at_types : (k : Known) (place : ℕ) (s : System) (row : ℕ) → IsHeadAt k place → row_at place ≡ Types s row → IsHeadAt k (first_types s + row)
-at_types k place s row at is = subst (IsHeadAt k) (types_place place s row at.expected is) at
+at_types k place s row at is = subst (IsHeadAt k) (place_at place (Types s row) at.expected is) at
 
 pub take_types-requires-clause-rows : goal.take_types-requires-clause-rows
 take_types-requires-clause-rows c =
@@ -63,7 +63,7 @@ returns-in_err-take_types-in-Types c = stopped c.args.self.now _ c.args.from c.a
     let s = c.in-Types.system in
     let row = c.in-Types.row in
     let k = c.args.self.now in
-    none_from k _ _ c.args.line.now c.place_from-place.ensures.same (subst (λ n. NoneGoesOn k n c.args.line.now) (sym (types_place c.place_from-place.result s row c.place_from-place.ensures.same.at.expected is))
+    none_from k _ _ c.args.line.now c.place_from-place.ensures.same (subst (λ n. NoneGoesOn k n c.args.line.now) (sym (place_at c.place_from-place.result (Types s row) c.place_from-place.ensures.same.at.expected is))
     (none_taken k s row c.args.line.now (types_few c.place_from-place.result s row c.place_from-place.ensures.same.at.expected is) (at_types k c.place_from-place.result s row c.place_from-place.ensures.same.at is) (sym (ap (known_line k) is) ∙ c.place_from-place.ensures.here)
     (c.in_err-take_types-in-Types.ensures.bad (ap Err (sym same ∙ bad))))))
 
@@ -78,7 +78,7 @@ at_end k n line e at same = subst (λ m. EndsHeader k m line k) (sym e) (ends k 
 pub returns-in-End : goal.returns-in-End
 returns-in-End c =
     steps_from c.args.self.now c.args.self.now c.args.from c.place_from-place.result c.args.line.now Epoch c.place_from-place.ensures.same
-    (at_end c.args.self.now c.place_from-place.result c.args.line.now (last_at c.place_from-place.result c.place_from-place.ensures.same.at.expected (sym c.row_at.ensures ∙ c.in-End.is)) c.place_from-place.ensures.same.at
+    (at_end c.args.self.now c.place_from-place.result c.args.line.now (place_at c.place_from-place.result End c.place_from-place.ensures.same.at.expected (sym c.row_at.ensures ∙ c.in-End.is)) c.place_from-place.ensures.same.at
     (c.is_header_line.ensures.0 c.if-is_header_line.true))
 
 pub returns-then-not-read_header_line : goal.returns-then-not-read_header_line

@@ -1,8 +1,8 @@
 use Rattle.std.proofs.Common.{◌≡◌, ◌∙◌, sym, ap, ℕ, None, Some}
-use Rattle.std.specs.Prelude.{Err}
+use Rattle.std.specs.Prelude.{Result, Err}
 use Rattle.std.proofs.lemmas.Result.{err_from_is_err_and}
 use Rattle.gnss_obs.specs.SignalLists.{indices}
-use Rattle.rinex_file.proofs.HeaderRead.{row_taken, same_refusal}
+use Rattle.rinex_file.proofs.HeaderRead.{row_taken}
 use Rattle.rinex_file.proofs.Judged.{at_some, refused}
 use Rattle.rinex_file.proofs.TypeRows.{shown_line}
 use Rattle.rinex_file.proofs.read.types.TypesSoFar.take.Goals as goal
@@ -12,6 +12,9 @@ not_some n e = cc
 
 same_some : (m n : ℕ) → Some m ≡ Some n → n ≡ m
 same_some m n e = cc
+
+same_refusal : {A E : Type 0} (r : Result A E) (x y : E) → r ≡ Err x → r ≡ Err y → x ≡ y
+same_refusal r x y a b = cc
 
 pub returns-in_default-clause-bad : goal.returns-in_default-clause-bad
 returns-in_default-clause-bad c = λ _ all are later begun is. not_some _ (sym c.in_default.is ∙ c.read_count.ensures.count all are later is)
