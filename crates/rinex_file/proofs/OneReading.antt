@@ -7,7 +7,7 @@ use Rattle.std.proofs.lemmas.List.{take_at, drop_at, take_all, drop-drop, get_or
 use Rattle.std.proofs.lemmas.List.Elements.{All-head, All-tail}
 use Rattle.std.proofs.Math.Seq.{take-append_seam}
 use Rattle.gnss_obs.specs.declared.system.System.{System}
-use Rattle.rinex_file.specs.Value.{SignalValues, SatelliteRow, no_signal_values}
+use Rattle.rinex_file.specs.Value.{SignalValues, SatelliteRow, satellite_row, no_signal_values}
 use Rattle.rinex_file.specs.FileValues.{FitsColumns, AreSignalValues}
 use Rattle.rinex_file.specs.Blanks.{trimmed, filled_to, IsEnded}
 use Rattle.rinex_file.specs.Numbers.{right, padded, fixed}
@@ -113,12 +113,8 @@ lli_column text e is fields =
 pub lli_once : (m n : ℕ) → m < 4 → n < 4 → lli_byte m ≡ lli_byte n → m ≡ n
 lli_once m n h k e = grind arith
 
-made : Option ℤ → Option ℤ → Option ℤ → Option ℤ → ℕ → SignalValues
-made c l d s m = record { c = c; l = l; d = d; s = s; lli = m }
-
 pub same_values : (x y : SignalValues) → x.c ≡ y.c → x.l ≡ y.l → x.d ≡ y.d → x.s ≡ y.s → x.lli ≡ y.lli → x ≡ y
-unfolding made
-same_values x y c l d s m = ap₂ (λ (a b : Option ℤ). made a b x.d x.s x.lli) c l ∙ ap₂ (λ (a b : Option ℤ). made y.c y.l a b x.lli) d s ∙ ap (made y.c y.l y.d y.s) m
+same_values x y c l d s m = grind arith
 
 pub signal_once : (e f : SignalValues) → AreSignalValues e → AreSignalValues f → signal_text e ≡ signal_text f → e ≡ f
 signal_once e f is also same =
@@ -228,12 +224,8 @@ text_of_line system signals v line (same, is) e =
       columns = fill-trimmed (64 * signals) columns size;
     })
 
-row_made : System → ℕ → List SignalValues → SatelliteRow
-row_made system id es = record { system = system; row = record { satellite = id; signal_values = es } }
-
 same_row : (v w : SatelliteRow) → v.system ≡ w.system → v.row.satellite ≡ w.row.satellite → v.row.signal_values ≡ w.row.signal_values → v ≡ w
-unfolding row_made
-same_row v w s n es = ap₂ (λ a b. row_made a b v.row.signal_values) s n ∙ ap (row_made w.system w.row.satellite) es
+same_row v w s n es = ap₂ (λ a b. satellite_row a b v.row.signal_values) s n ∙ ap (satellite_row w.system w.row.satellite) es
 
 pub line_once : (system : System) (signals : ℕ) (v w : SatelliteRow) (line : List ℕ) → IsRowOf system signals v → IsRowOf system signals w → line ≡ satellite_line v → line ≡ satellite_line w → v ≡ w
 line_once system signals v w line is also e f =
