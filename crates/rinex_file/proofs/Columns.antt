@@ -1,7 +1,7 @@
 -- The columns of a value: blanks, a sign, digits, a point and three digits.
-use Rattle.std.proofs.Common.{arith, ◌≡◌, ◌∙◌, inl, inr, sym, ap, refl, ℕ, zero, suc, ◌+◌, ◌-◌, ◌/◌, ◌%◌, ◌^◌, ◌<◌, ◌≤◌, List, [], ◌∷◌, ◌++◌, length, replicate, append_assoc, length-append, decimal, ℤ, pos, negsuc, unsigned_abs, true, false, w64}
+use Rattle.std.proofs.Common.{arith, ◌≡◌, ◌∙◌, inl, inr, sym, ap, refl, ℕ, zero, suc, ◌+◌, ◌-◌, ◌/◌, ◌%◌, ◌^◌, ◌<◌, ◌≤◌, List, [], ◌∷◌, ◌++◌, length, replicate, append_assoc, length-append, decimal, ℤ, pos, negsuc, unsigned_abs, true, false}
 use Rattle.std.specs.Prelude.{set, Some}
-use Rattle.std.specs.Int.{is_negative, to_le_bytes}
+use Rattle.std.specs.Int.{is_negative}
 use Rattle.std.specs.Fmt.{sign_text}
 use Rattle.std.proofs.lemmas.Bool.{cases_Bool}
 use Rattle.std.proofs.lemmas.Fmt.{length-decimal-le}
@@ -10,7 +10,7 @@ use Rattle.std.proofs.lemmas.Int.{ints}
 use Rattle.rinex_file.specs.FileValues.{FitsColumns}
 use Rattle.rinex_file.specs.Numbers.{padded, right, fixed}
 use Rattle.rinex_file.specs.Lines.{field}
-use Rattle.rinex_file.proofs.DigitWords.{AreColumns, three_digits}
+use Rattle.rinex_file.proofs.DigitWords.{three_digits}
 
 three_parts : (d p : List ℕ) (sign : List ℕ) (r n : ℕ) → r + length d ≡ 10 → length p ≡ 3 → length sign ≡ n → 14 - length ((sign ++ d) ++ 46 ∷ p) ≡ r - n
 three_parts d p sign r n e k l = simp length-append (omega (arith, e, k, l))
@@ -50,30 +50,7 @@ pub within_columns : (v : ℤ) → FitsColumns v → unsigned_abs v < 10 ^ 13
 within_columns (pos n) h = let high = h.1 in omega (arith, ints, high)
 within_columns (negsuc n) h = let low = h.0 in omega (arith, ints, low)
 
--- the index of a first digit after a minus
-pub some_blank : (v : ℤ) (n first last start lost strength : ℕ) → FitsColumns v → n ≡ unsigned_abs v → is_negative v ≡ true
-    → AreColumns first last start (n / 1000) (n % 1000) lost strength → 1 ≤ start
-some_blank v n first last start lost strength fits size sign are = grind (arith, nine_digits, within_signed)
-
--- the columns of a value that isn't negative
-pub plain : (v : ℤ) (n first last start lost strength : ℕ) → n ≡ unsigned_abs v → is_negative v ≡ false → AreColumns first last start (n / 1000) (n % 1000) lost strength
-    → to_le_bytes w64 first ++ to_le_bytes w64 last ≡ field (Some v) lost strength
-unfolding field
-plain v n first last start lost strength size sign are = grind (arith, columns-plain, length-three)
-
--- and of one that is
-pub signed : (v : ℤ) (n first last start lost strength : ℕ) → FitsColumns v → n ≡ unsigned_abs v → is_negative v ≡ true → AreColumns first last start (n / 1000) (n % 1000) lost strength
-    → set (to_le_bytes w64 first ++ to_le_bytes w64 last) (start - 1) 45 ≡ field (Some v) lost strength
-unfolding field
-signed v n first last start lost strength fits size sign are =
-    let some = some_blank v n first last start lost strength fits size sign are in
-    let text : fixed 3 v ≡ (45 ∷ decimal (n / 1000)) ++ 46 ∷ padded 3 (n % 1000) =
-    ap (λ b. (sign_text b ++ decimal (unsigned_abs v / 1000)) ++ 46 ∷ padded 3 (unsigned_abs v % 1000)) sign
-    ∙ ap (λ k. (45 ∷ decimal (k / 1000)) ++ 46 ∷ padded 3 (k % 1000)) (sym size) in
-    ap (λ t. set t (start - 1) 45) are.1 ∙ columns-signed (decimal (n / 1000)) (padded 3 (n % 1000)) lost strength start are.0 some (length-three (n % 1000) (omega arith))
-    ∙ ap (λ t. right 14 t ++ lost ∷ strength ∷ []) (sym text)
-
--- the same, of columns as a text
+-- the columns of a value that isn't negative, and of one that is
 pub plain_text : (v : ℤ) (n start lost strength : ℕ) (text : List ℕ) → n ≡ unsigned_abs v → is_negative v ≡ false → start + length (decimal (n / 1000)) ≡ 10
     → text ≡ replicate start 32 ++ (decimal (n / 1000) ++ (46 ∷ padded 3 (n % 1000) ++ lost ∷ strength ∷ [])) → text ≡ field (Some v) lost strength
 unfolding field

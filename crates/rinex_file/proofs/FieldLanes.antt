@@ -5,6 +5,7 @@ use lib.Dec.{leb}
 use lib.Lanes.{number_l, digits_l, pick_l, zip2, Each1, chunk}
 use Rattle.std.proofs.Math.Nat.{one-le-pow, pow-le-pow_right, pow-suc}
 use Rattle.std.proofs.lemmas.Bool.{agree_below_at, cases_lt, eqb-true, le-leb, lt-leb}
+use Rattle.std.proofs.lemmas.Int.{ints}
 use Rattle.std.proofs.lemmas.List.{length-set, take-take, get_or-take, get_or-drop, length-drop, length-take-le}
 use Rattle.std.proofs.lemmas.Simd.{length-zip2, get_or-zip2}
 use Rattle.rinex_file.specs.FileValues.{FitsColumns}
@@ -13,7 +14,6 @@ use Rattle.rinex_file.specs.Words.{AreBelow, AreWithin, digit_columns, leading, 
 use Rattle.rinex_file.specs.declared.read.fields.TheConstants.{LIMITS}
 use Rattle.rinex_file.proofs.Digits.{not_negative}
 use Rattle.rinex_file.proofs.Columns.{plain_text, signed_text}
-use Rattle.rinex_file.proofs.FieldWords.{fits_plain, fits_signed, set_below}
 use Rattle.rinex_file.proofs.LaneColumns.{added, front, rest_with, start_is, length-template, plain_columns_with, signed_columns_with}
 
 -- ---- numbers of two digits
@@ -151,6 +151,11 @@ end_is xs ts i l k h g few blank =
     ap (added (get_or (zip2 taken xs ts) i 0)) (sym blank) ∙ sym (get_or-zip2 added (zip2 taken xs ts) ts i 0 0 0 (omega (arith, size, few)) (omega (arith, k, few)))
     ∙ ap (λ r. get_or r i 0) (added_back xs ts (l ∙ sym k) h g)
 
+pub set_below : (n : ℕ) (bs : List ℕ) (i v : ℕ) → v < n → AreBelow n bs → AreBelow n (set bs i v)
+set_below n [] i v h are = tt
+set_below n (b ∷ bs) zero v h are = (h, are.1)
+set_below n (b ∷ bs) (suc i) v h are = (are.0, set_below n bs i v h are.1)
+
 pub template_below : (n z : ℕ) → AreBelow 256 (template n z)
 template_below zero z = omega arith
 template_below (suc n) zero = (omega arith, template_below n 0)
@@ -200,6 +205,12 @@ leads_at (suc (suc (suc (suc (suc (suc (suc (suc (suc (suc (n))))))))))) s h low
 abbrev pub IsValue : List ℕ → ℤ → Type 0
 IsValue columns v = FitsColumns v × (columns ≡ field (Some v) (get_or columns 14 0) (get_or columns 15 0))
 
+fits_plain : (n : ℕ) → n < 10 ^ 13 → FitsColumns (pos n)
+fits_plain n h = (omega (arith, ints), omega (arith, ints, h))
+
+fits_signed : (n : ℕ) → suc n < 10 ^ 12 → FitsColumns (negsuc n)
+fits_signed n h = (omega (arith, ints, h), omega (arith, ints))
+
 -- the digits of columns from which those of a row are taken
 abbrev pub HasDigits : List ℕ → List ℕ → ℕ → Type 0
 HasDigits columns ts s = zip2 taken columns ts ≡ digit_columns s (get_or (zip2 taken columns ts) 14 0) (get_or (zip2 taken columns ts) 15 0)
@@ -236,6 +247,11 @@ signed_value columns ts t n l h few is digits low high small =
     (fits_signed n small, signed_text (negsuc n) s (leading (front s)) (added y 32) (added z 32) columns refl refl (start_is s fits) (omega (arith, lead)) text ∙ ap₂ (λ p q. field (Some (negsuc n)) p q) a b)
 
 -- ---- the bytes of lanes
+
+pub byte_at : (bs : List ℕ) → AreBelow 256 bs → (i : ℕ) → get_or bs i 0 < 256
+byte_at [] h i = omega arith
+byte_at (b ∷ bs) h zero = h.0
+byte_at (b ∷ bs) h (suc i) = byte_at bs h.1 i
 
 pub bytes_below : (xs : List ℕ) → Each1 (Fits w8) xs → AreBelow 256 xs
 bytes_below [] h = tt

@@ -15,10 +15,8 @@ use Rattle.rinex_file.specs.Numbers.{padded}
 use Rattle.rinex_file.specs.Words.{AreBelow, AreWithin, digit_columns, leading, template, field_row, field_row_with}
 use Rattle.rinex_file.specs.declared.read.fields.TheConstants.{LIMITS}
 use Rattle.rinex_file.proofs.Digits.{not_negative}
-use Rattle.rinex_file.proofs.DigitWords.{byte_at}
 use Rattle.rinex_file.proofs.Columns.{last_blank, plain_text, signed_text, within_columns, within_signed}
-use Rattle.rinex_file.proofs.FieldLanes.{taken, template_below, leads_at}
-use Rattle.rinex_file.proofs.FieldWords.{set_below}
+use Rattle.rinex_file.proofs.FieldLanes.{taken, byte_at, set_below, template_below, leads_at}
 use Rattle.rinex_file.proofs.LaneColumns.{added, front, rest_with, start_is, leading-le, length-template, plain_columns_with, signed_columns_with}
 
 -- ---- columns of which digits are taken

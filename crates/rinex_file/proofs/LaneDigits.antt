@@ -1,13 +1,12 @@
 -- Numbers of two digits, in lanes of two bytes.
 use Rattle.std.proofs.Common.{arith, ◌≡◌, ◌∙◌, ap, refl, eqb, false, not, cond, ℕ, zero, suc, ◌+◌, ◌*◌, ◌/◌, ◌%◌, ◌^◌, ◌<◌, ◌≤◌, List, [], ◌∷◌, map, length, take, get_or}
 use Rattle.std.specs.Prelude.{⊤}
-use lib.Count.{count_trailing_zeros}
+use Rattle.std.specs.Int.Count.{count_trailing_zeros, under}
 use lib.Lanes.{number_l, digits_l, mask_l, top, zip2}
 use Rattle.std.proofs.lemmas.Bool.{ne_eqb}
 use Rattle.std.proofs.lemmas.List.{length-map}
 use Rattle.std.proofs.lemmas.Simd.{mask_l-mod, length-zip2}
 use Rattle.rinex_file.specs.Words.{leading}
-use Rattle.rinex_file.proofs.DigitWords.{even, odd}
 
 -- a lane with its tens in the upper byte and its ones in the lower
 abbrev pub lane : ℕ → ℕ
@@ -58,6 +57,14 @@ ones_and_tens n rest =
     λ i. o0 i ∷ t0 i ∷ o1 i ∷ t1 i ∷ o2 i ∷ t2 i ∷ n / 1_000_000 % 10 ∷ t3 i ∷ pairs rest
 
 -- ---- leading zeros
+
+even : (k n : ℕ) → n % 2 ≡ 0 → count_trailing_zeros (suc k) n ≡ suc (count_trailing_zeros k (n / 2))
+unfolding count_trailing_zeros
+even k n e = ap (λ d. under d (count_trailing_zeros k (n / 2))) e
+
+odd : (k n : ℕ) → n % 2 ≡ 1 → count_trailing_zeros (suc k) n ≡ 0
+unfolding count_trailing_zeros
+odd k n e = ap (λ d. under d (count_trailing_zeros k (n / 2))) e
 
 -- n times 0, and then 255
 abbrev pub ends : ℕ → List ℕ → List ℕ

@@ -1,9 +1,7 @@
 mod Digits
 mod DigitWords
-mod EightDigits
 mod LaneDigits
 mod LaneColumns
-mod FieldWords
 mod Cuts
 mod Grown
 mod Columns

@@ -3,19 +3,10 @@ use Rattle.std.specs.Prelude.{⊤, ℕ, zero, suc, ◌+◌, ◌*◌, ◌/◌, �
 use Rattle.std.specs.Prelude.{if◌then◌else◌}
 use Rattle.std.specs.List.{prefix_len}
 
--- bytes as a number
-abbrev pub word : List ℕ → ℕ
-word [] = 0
-word (b ∷ bs) = b + 256 * word bs
-
 -- the k + 1 digits of a number before other digits
 abbrev pub digits_onto : ℕ → ℕ → List ℕ → List ℕ
 digits_onto zero n ds = n ∷ ds
 digits_onto (suc k) n ds = digits_onto k (n / 10) (n % 10 ∷ ds)
-
--- the digits of a number below 10^8
-abbrev pub eight_digits : ℕ → List ℕ
-eight_digits n = digits_onto 7 n []
 
 -- the number of leading zeros
 abbrev pub leading : List ℕ → ℕ
@@ -28,17 +19,6 @@ abbrev pub spaced : List ℕ → List ℕ
 spaced [] = []
 spaced (zero ∷ ds) = 32 ∷ spaced ds
 spaced (suc d ∷ ds) = map (λ x. 48 + x) (suc d ∷ ds)
-
--- the number added to n digits, the first `empty` of which are leading zeros, to get their columns
-abbrev pub front_word : ℕ → ℕ → ℕ
-front_word zero empty = 0
-front_word (suc n) zero = 48 + 256 * front_word n zero
-front_word (suc n) (suc empty) = 32 + 256 * front_word n empty
-
--- the last eight columns of a value: the two last digits of its whole part, a point, thousandths, LLI and SSI
-abbrev pub last_columns : ℕ → ℕ → ℕ → ℕ → ℕ → List ℕ
-last_columns tens ones part lost strength =
-    tens ∷ (48 + ones) ∷ 46 ∷ (48 + part / 100) ∷ (48 + part / 10 % 10) ∷ (48 + part % 10) ∷ lost ∷ strength ∷ []
 
 -- each is less than n
 abbrev pub AreBelow : ℕ → List ℕ → Type 0

@@ -6,15 +6,12 @@ ghost use Rattle.std.specs.Prelude.{length, take, drop, replicate, set, slice_in
 ghost use Rattle.rinex_file.specs.FileValues.{FitsColumns};
 ghost use Rattle.rinex_file.specs.Lines.{field};
 ghost use Rattle.rinex_file.specs.Read.Fields.{ReadsExactly};
-ghost use Rattle.rinex_file.specs.Words.{word, template, AreBelow, AreWithin, digit_columns};
+ghost use Rattle.rinex_file.specs.Words.{template, AreBelow, AreWithin, digit_columns};
 ghost use Rattle.rinex_file.specs.Words.{field_row, field_row_with, twos_of};
 
 use crate::read::numbers::signed;
 use gnss_obs::Thousandths;
 use std::simd::prelude::*;
-
-/// Eight blanks.
-const BLANKS: u64 = 0x2020_2020_2020_2020;
 
 /// The columns to which the digits of a value are added, for each number of blanks before it: those
 /// of a value that isn't negative, then, from row 16 on, those of one that is. No value has the
@@ -92,16 +89,6 @@ static SIZES: [[u64; 2]; 32] = [
 
 /// The largest digit in each column of a value. The last two columns have none.
 const LIMITS: [u8; 16] = [9, 9, 9, 9, 9, 9, 9, 9, 9, 9, 0, 9, 9, 9, 255, 255];
-
-/// Returns eight columns as a word.
-pub(crate) fn word_at(text: &[u8], first: usize) -> u64
-    requires { first + 8 ≤ length text.now }
-    ensures { result ≡ word (take 8 (drop first text.now)) }
-{
-    let mut columns = [0; 8];
-    columns.copy_from_slice(&text[first..first + 8]);
-    u64::from_le_bytes(columns)
-}
 
 /// Returns the columns of this row.
 #[inline(always)]
@@ -204,15 +191,6 @@ fn value_in_row(columns: u8x16, row: usize) -> Option<Thousandths>
     Some(Thousandths::new(signed(size, row >= 16)))
 }
 
-/// Returns whether the sixteen columns from this one are blank.
-#[inline(always)]
-pub(crate) fn is_blank_at(text: &[u8], at: usize) -> bool
-    requires { at + 16 ≤ length text.now }
-    ensures { IsTrue result → take 16 (drop at text.now) ≡ replicate 16 32 }
-{
-    word_at(text, at) == BLANKS && word_at(text, at + 8) == BLANKS
-}
-
 /// Returns the number of blanks before the first other column.
 #[inline(always)]
 fn blanks_in(columns: u8x16) -> usize
@@ -225,6 +203,15 @@ fn blanks_in(columns: u8x16) -> usize
     } else {
         written.trailing_zeros() as usize
     }
+}
+
+/// Returns whether the sixteen columns from this one are blank.
+#[inline(always)]
+pub(crate) fn is_blank_at(text: &[u8], at: usize) -> bool
+    requires { at + 16 ≤ length text.now }
+    ensures { IsTrue result → take 16 (drop at text.now) ≡ replicate 16 32 }
+{
+    blanks_in(u8x16::from_slice(&text[at..at + 16])) == 16
 }
 
 /// Returns the row of columns with this number of blanks before the first other one.

@@ -38,27 +38,23 @@ fn put_value(columns: &mut [u8], value: &Option<Thousandths>, lost: u8, strength
     columns[15] = strength;
 }
 
-/// Writes a value as [`put_value`] does, in fewer steps if the value is below 100.
+/// Writes a value without LLI and SSI columns as [`put_value`] does, in fewer steps if it is from 0
+/// to 99.999.
 #[inline(always)]
-#[tactic(auto, unfolding(crate::specs::Lines::field))]
-fn put_short(columns: &mut [u8], value: &Option<Thousandths>, lost: u8, strength: u8)
+fn put_short(columns: &mut [u8], value: &Option<Thousandths>)
     requires fits { IfSome value.now FitsColumns }
     requires room { length columns.old ≡ value_columns }
-    ensures text { columns.new ≡ field value.now lost strength }
+    ensures text { columns.new ≡ field value.now 32 32 }
     ensures size { length columns.new ≡ value_columns }
 {
-    let Some(value) = value else {
-        columns.fill(b' ');
-        return;
-    };
-    let value = value.value();
-    let (first, last, start) = columns_of(value.unsigned_abs(), lost, strength);
-    let (front, back) = columns.split_at_mut(8);
-    front.copy_from_slice(&first.to_le_bytes());
-    back.copy_from_slice(&last.to_le_bytes());
-    if value < 0 {
-        columns[start - 1] = b'-';
+    if let Some(short) = value {
+        let short = short.value();
+        if 0 <= short && short < 100_000 {
+            columns.copy_from_slice(&columns_of(short as u32));
+            return;
+        }
     }
+    put_value(columns, value, b' ', b' ');
 }
 
 /// Returns the loss-of-lock (LLI) column of a phase.
@@ -120,7 +116,7 @@ fn put_both(columns: &mut [u8], first: &Option<Thousandths>, second: &Option<Tho
         }
     }
     put_value(front, first, b' ', b' ');
-    put_short(back, second, b' ', b' ');
+    put_short(back, second);
 }
 
 /// The values of a signal, borrowed, so that each is read when its columns are written.

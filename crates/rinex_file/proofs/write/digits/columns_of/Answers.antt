@@ -1,18 +1,35 @@
-use Rattle.rinex_file.proofs.DigitWords.{columns_below, columns_two, columns_from}
+use Rattle.std.proofs.Common.{arith, ◌≡◌, ◌∙◌, sym, ap, ap₂, refl, ℕ, List, [], ◌∷◌, ◌++◌, ◌+◌, ◌/◌, ◌%◌, ◌<◌, ◌≤◌, length, replicate, decimal, pos, Some}
+use Rattle.std.proofs.lemmas.Fmt.{decimal_digit, decimal_step}
+use Rattle.rinex_file.specs.Lines.{field}
+use Rattle.rinex_file.specs.Numbers.{padded}
+use Rattle.rinex_file.proofs.Columns.{plain_text}
+use Rattle.rinex_file.proofs.Digits.{not_negative}
+use Rattle.rinex_file.proofs.DigitWords.{three_digits}
 use Rattle.rinex_file.proofs.write.digits.columns_of.Goals as goal
 
-pub returns-then-size-lt10000 : goal.returns-then-size-lt10000
-returns-then-size-lt10000 c =
-    let (start, text) = columns_below c.args.size c.last-last.result c.args.lost c.args.strength c.ranges.lost.fits c.ranges.strength.fits c.last-last.ensures.word c.if-size-lt10000.true in
-    record { start = start; text = text }
+-- a point, the digits of thousandths and two blanks
+end : (n : ℕ) → List ℕ
+end n = 46 ∷ (48 + n % 1000 / 100) ∷ (48 + n % 1000 % 100 / 10) ∷ (48 + n % 1000 % 100 % 10) ∷ 32 ∷ 32 ∷ []
 
-pub returns-then-size-lt100000 : goal.returns-then-size-lt100000
-returns-then-size-lt100000 c =
-    let (start, text) = columns_two c.args.size c.last-last.result c.args.lost c.args.strength c.ranges.lost.fits c.ranges.strength.fits c.last-last.ensures.word c.if-size-lt10000.false c.if-size-lt100000.true in
-    record { start = start; text = text }
+end_is : (n : ℕ) → end n ≡ 46 ∷ padded 3 (n % 1000) ++ 32 ∷ 32 ∷ []
+unfolding end
+end_is n = grind (arith, three_digits)
+
+one_digit : (n : ℕ) → n < 10_000 → replicate 9 32 ++ (48 + n / 1000 % 10) ∷ end n ≡ field (Some (pos n)) 32 32
+one_digit n h =
+    let d : decimal (n / 1000) ≡ (48 + n / 1000 % 10) ∷ [] = decimal_digit (n / 1000) (omega (arith, h)) ∙ ap (λ k. (48 + k) ∷ []) (omega (arith, h)) in
+    plain_text (pos n) n 9 32 32 _ refl (not_negative n) (ap (λ (l : List ℕ). 9 + length l) d) (ap₂ (λ (l r : List ℕ). replicate 9 32 ++ (l ++ r)) (sym d) (end_is n))
+
+two_digits : (n : ℕ) → 10_000 ≤ n → n < 100_000 → replicate 8 32 ++ (48 + n / 1000 / 10) ∷ (48 + n / 1000 % 10) ∷ end n ≡ field (Some (pos n)) 32 32
+two_digits n h k =
+    let d : decimal (n / 1000) ≡ (48 + n / 1000 / 10) ∷ (48 + n / 1000 % 10) ∷ [] =
+    decimal_step (n / 1000) (omega (arith, h)) (omega (arith, k)) ∙ ap (λ l. l ++ (48 + n / 1000 % 10) ∷ []) (decimal_digit (n / 1000 / 10) (omega (arith, k))) in
+    plain_text (pos n) n 8 32 32 _ refl (not_negative n) (ap (λ (l : List ℕ). 8 + length l) d) (ap₂ (λ (l r : List ℕ). replicate 8 32 ++ (l ++ r)) (sym d) (end_is n))
+
+pub returns-then-value-lt10000 : goal.returns-then-value-lt10000
+unfolding end
+returns-then-value-lt10000 c = grind (arith, one_digit)
 
 pub returns : goal.returns
-returns c =
-    let (start, text) = columns_from c.args.size c.eight-digits.result c.front.result c.last-last-2.result c.args.lost c.args.strength c.if-size-lt100000.false c.requires c.ranges.lost.fits c.ranges.strength.fits
-    c.eight-digits.ensures.word c.front.ensures.word c.last-last-2.ensures.word in
-    record { start = start; text = text }
+unfolding end
+returns c = grind (arith, two_digits)

@@ -1,6 +1,13 @@
-use Rattle.std.proofs.Common.{◌∙◌}
-use Rattle.rinex_file.proofs.DigitWords.{pair_at}
+use Rattle.std.proofs.Common.{◌≡◌, ap₂, ℕ, [], ◌∷◌, ◌+◌, ◌*◌, ◌/◌, ◌%◌, ◌<◌, get_or, eqb, true, refl}
+use Rattle.std.proofs.lemmas.Bool.{agree_below_at, eqb-true}
+use Rattle.rinex_file.specs.declared.write.digits.TheConstants.{PAIRS}
 use Rattle.rinex_file.proofs.write.digits.pair.Goals as goal
 
+tens : (i : ℕ) → i < 100 → get_or PAIRS (2 * i) 0 ≡ 48 + i / 10
+tens i h = eqb-true _ _ (agree_below_at (λ k. eqb (get_or PAIRS (2 * k) 0) (48 + k / 10)) (λ k. true) 100 i refl h)
+
+ones : (i : ℕ) → i < 100 → get_or PAIRS (2 * i + 1) 0 ≡ 48 + i % 10
+ones i h = eqb-true _ _ (agree_below_at (λ k. eqb (get_or PAIRS (2 * k + 1) 0) (48 + k % 10)) (λ k. true) 100 i refl h)
+
 pub returns : goal.returns
-returns c = c.from_le_bytes.ensures ∙ pair_at c.args.number c.requires
+returns c = ap₂ (λ (a b : ℕ). a ∷ b ∷ []) (tens c.args.number c.requires) (ones c.args.number c.requires)
