@@ -23,6 +23,6 @@ pub use read::times::EpochTimes;
 pub use values::ObsFile;
 pub use write::epoch::epoch_line;
 pub use write::file::file_bytes;
-pub use write::numbers::Line;
+pub use write::line::Line;
 pub use write::satellite::satellite_line;
 pub use write::{write_epoch, write_event, write_header};

@@ -6,7 +6,7 @@ ghost use Rattle.rinex_file.specs.ParserState.{events_in};
 
 use crate::header::texts::HeaderTexts;
 use crate::read::file::Counts;
-use crate::write::numbers::MOST_SIGNALS;
+use crate::write::line::MOST_SIGNALS;
 use arrayvec::ArrayVec;
 use gnss_obs::{GpsTime, Plan, StationValues, System, Thousandths};
 use std::marker::Model;

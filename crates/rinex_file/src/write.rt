@@ -10,15 +10,15 @@ pub(crate) mod digits;
 pub(crate) mod epoch;
 pub(crate) mod file;
 pub(crate) mod lanes;
-pub(crate) mod numbers;
+pub(crate) mod line;
 pub(crate) mod satellite;
 
 use crate::header::fault::HeadFault;
 use crate::header::head::{Head, header_lines};
 use crate::header::lines::{delta_line, position_line};
 use crate::write::epoch::{epoch_line, event_line};
-use crate::write::numbers::{Line, MOST_LINE};
-use crate::write::satellite::put_seen;
+use crate::write::line::{Line, MOST_LINE};
+use crate::write::satellite::put_satellite_line;
 use gnss_obs::{Epoch, Plan, StationValues, System, end_of, is_written};
 use rtcm_bits::{Counted, DeviceFailed};
 use std::io::Write;
@@ -85,7 +85,7 @@ fn write_system<W: Write>(
         let to = end_of(cells, from, id);
         let own = &cells[from..to];
         if is_written(own, id) {
-            let size = put_seen(row, own, plan, system, id);
+            let size = put_satellite_line(row, own, plan, system, id);
             writer.write_whole(&row[..size])?;
         }
         from = to;

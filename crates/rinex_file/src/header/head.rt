@@ -14,7 +14,7 @@ use crate::header::lines::{
 use crate::header::rows::{HeaderRow, ROW_COUNT, row_at};
 use crate::header::texts::HeaderTexts;
 use crate::header::types::{type_line, type_rows};
-use crate::write::numbers::Line;
+use crate::write::line::Line;
 use crate::write::satellite::letter_of;
 use gnss_obs::{GpsTime, Plan, StationValues, System};
 use std::marker::Model;

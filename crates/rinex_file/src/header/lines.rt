@@ -7,7 +7,7 @@ ghost use Rattle.rinex_file.specs.Read.Progress.{version_with};
 
 use crate::header::fields::TextRow;
 use crate::header::texts::HeaderTexts;
-use crate::write::numbers::{Line, put, put_fixed, put_left, put_seconds, put_whole};
+use crate::write::line::{Line, put, put_fixed, put_left, put_seconds, put_whole};
 use gnss_obs::{GpsTime, StationValues};
 
 // The labels, in columns 61 to 80, of the rows that are read and written by `labelled`.

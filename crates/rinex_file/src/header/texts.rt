@@ -10,7 +10,7 @@ ghost use Rattle.rinex_file.specs.FileValues.{AreTexts};
 
 use crate::header::fault::HeadFault;
 use crate::header::fields::HeaderField;
-use crate::write::numbers::put;
+use crate::write::line::put;
 use crate::write::satellite::trimmed_len;
 use arrayvec::ArrayVec;
 use std::marker::Model;

@@ -10,7 +10,7 @@ ghost use Rattle.rinex_file.specs.Header.{codes_of, type_of};
 ghost use Rattle.rinex_file.specs.Limits.{most_line};
 
 use crate::header::lines::labelled;
-use crate::write::numbers::{Line, put, put_whole};
+use crate::write::line::{Line, put, put_whole};
 use crate::write::satellite::letter_of;
 use gnss_obs::{Plan, Signal, System};
 

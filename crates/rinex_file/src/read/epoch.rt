@@ -11,7 +11,7 @@ use crate::header::lines::first_line;
 use crate::read::header_lines::columns;
 use crate::read::numbers::{digits_in, is_same};
 use crate::write::epoch::epoch_line;
-use crate::write::numbers::Line;
+use crate::write::line::Line;
 use gnss_obs::laws::calendar;
 use gnss_obs::{Civil, GpsTime};
 

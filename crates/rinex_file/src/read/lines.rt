@@ -7,7 +7,7 @@ ghost use Rattle.rinex_file.specs.Blocks.{MovesBytes, LeavesRest};
 ghost use Rattle.rinex_file.specs.Exact.{IsFound, IsLine};
 ghost use Rattle.rinex_file.specs.Limits.{most_line};
 
-use crate::write::numbers::{Line, MOST_LINE, put};
+use crate::write::line::{Line, MOST_LINE, put};
 use memchr::memchr;
 use rtcm_bits::Counted;
 use std::io::Read;

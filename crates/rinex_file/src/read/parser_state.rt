@@ -20,7 +20,7 @@ use crate::read::row::read_seen;
 use crate::read::times::{EpochTimes, with_later};
 use crate::values::KeptSatellite;
 use crate::write::epoch::event_line;
-use crate::write::numbers::Line;
+use crate::write::line::Line;
 use arrayvec::ArrayVec;
 use gnss_obs::{GpsTime, StationValues, System};
 use std::alloc::Global;

@@ -10,7 +10,7 @@ use crate::read::expected::{Added, Expected, Refusal};
 use crate::read::fault::ReadFault;
 use crate::read::lines::{Found, Lines};
 use crate::read::parser_state::ParserState;
-use crate::write::numbers::Line;
+use crate::write::line::Line;
 use rtcm_bits::Counted;
 use std::alloc::Global;
 use std::io::Read;

@@ -14,7 +14,7 @@ ghost use Rattle.rinex_file.specs.Limits.{signal_columns, most_signals};
 
 use crate::read::fields::{field_in, is_blank_at};
 use crate::values::{KeptSatellite, SignalValues};
-use crate::write::numbers::{MOST_SIGNALS, SIGNAL_COLUMNS};
+use crate::write::line::{MOST_SIGNALS, SIGNAL_COLUMNS};
 use crate::write::satellite::{letter_of, strength_column};
 use arrayvec::ArrayVec;
 use gnss_obs::{System, Thousandths};

@@ -8,7 +8,7 @@ ghost use Rattle.rinex_file.specs.Limits.{most_line};
 ghost use Rattle.rinex_file.specs.Lines.{epoch_line};
 ghost use Rattle.rinex_file.specs.Numbers.{padded};
 
-use crate::write::numbers::{Line, put, put_padded, put_seconds, put_whole};
+use crate::write::line::{Line, put, put_padded, put_seconds, put_whole};
 use gnss_obs::GpsTime;
 
 /// Appends a blank and a number with two digits.

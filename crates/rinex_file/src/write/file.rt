@@ -8,7 +8,7 @@ use crate::header::fault::HeadFault;
 use crate::header::head::Head;
 use crate::values::{KeptEpoch, ObsFile};
 use crate::write::epoch::epoch_line;
-use crate::write::numbers::{Line, MOST_LINE};
+use crate::write::line::{Line, MOST_LINE};
 use crate::write::satellite::put_values;
 use crate::write::{write_event, write_header};
 use gnss_obs::StationValues;

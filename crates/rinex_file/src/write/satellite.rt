@@ -14,7 +14,7 @@ ghost use Rattle.rinex_file.specs.Limits.{most_line, signal_columns, value_colum
 use crate::values::SignalValues;
 use crate::write::digits::columns_of;
 use crate::write::lanes::{columns_in, columns_in_two};
-use crate::write::numbers::{Line, MOST_LINE, SIGNAL_COLUMNS, VALUE_COLUMNS, put};
+use crate::write::line::{Line, MOST_LINE, SIGNAL_COLUMNS, VALUE_COLUMNS, put};
 use gnss_obs::{Cell, Epoch, Plan, Sat, System, Thousandths, strength_digit};
 use std::marker::Model;
 use std::simd::prelude::*;
@@ -75,9 +75,9 @@ pub(crate) fn strength_column(strength: &Option<Thousandths>) -> u8
     }
 }
 
-/// Writes two values, of which the second may have a loss-of-lock indicator.
+/// Writes a pseudorange and a phase, which may have a loss-of-lock indicator.
 #[inline(always)]
-fn put_pair(
+fn put_range_and_phase(
     columns: &mut [u8],
     first: &Option<Thousandths>,
     second: &Option<Thousandths>,
@@ -95,10 +95,14 @@ fn put_pair(
     put_value(back, second, lost, strength);
 }
 
-/// Writes two values without LLI and SSI columns, the digits of both in the same steps if the sum
-/// of their sizes is below 100,000, as that of most Doppler shifts and strengths.
+/// Writes a Doppler shift and a strength, the digits of both in the same steps if the sum of their
+/// sizes is below 100,000, as most are.
 #[inline(always)]
-fn put_both(columns: &mut [u8], first: &Option<Thousandths>, second: &Option<Thousandths>)
+fn put_doppler_and_strength(
+    columns: &mut [u8],
+    first: &Option<Thousandths>,
+    second: &Option<Thousandths>,
+)
     requires first { IfSome first.now FitsColumns }
     requires second { IfSome second.now FitsColumns }
     requires room { length columns.old ≡ 32 }
@@ -171,8 +175,8 @@ fn put_signal(columns: &mut [u8], values: &Shown)
 {
     let strength = strength_column(values.s);
     let (front, back) = columns.split_at_mut(2 * VALUE_COLUMNS);
-    put_pair(front, values.c, values.l, lli_column(*values.lli), strength);
-    put_both(back, values.d, values.s);
+    put_range_and_phase(front, values.c, values.l, lli_column(*values.lli), strength);
+    put_doppler_and_strength(back, values.d, values.s);
 }
 
 /// Returns the length of the text without trailing blanks, in bytes.
@@ -258,7 +262,7 @@ fn end_columns(row: &mut [u8; MOST_LINE], size: usize) -> usize
 
 /// Writes the line of a satellite with these cells over the first bytes of a row, and returns its
 /// length. The row is not cleared before, as each column up to the end of the line is written.
-pub(crate) fn put_seen(
+pub(crate) fn put_satellite_line(
     row: &mut [u8; MOST_LINE],
     cells: &[Cell],
     plan: &Plan,
@@ -289,7 +293,7 @@ pub(crate) fn put_seen(
 }
 
 /// Writes the line of a satellite with these values of the planned signals over the first bytes of
-/// a row, and returns its length, as [`put_seen`] does.
+/// a row, and returns its length, as [`put_satellite_line`] does.
 pub(crate) fn put_values(
     row: &mut [u8; MOST_LINE],
     values: &[SignalValues],
@@ -326,7 +330,7 @@ pub fn satellite_line(epoch: &Epoch, plan: &Plan, satellite: Sat, line: &mut Lin
 {
     let cells = epoch.cells(satellite.system());
     let mut row = [b' '; MOST_LINE];
-    let size = put_seen(&mut row, cells, plan, satellite.system(), satellite.id());
+    let size = put_satellite_line(&mut row, cells, plan, satellite.system(), satellite.id());
     line.clear();
     put(line, &row[..size]);
 }

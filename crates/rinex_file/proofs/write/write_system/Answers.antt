@@ -68,7 +68,7 @@ returns-in_err-write_whole-clause-part g c =
     let d = contents c.write_whole.new.self.inner in
     where_failed c.from_residual.result _
     (part_lines (contents c.args.writer.now.inner) b d c.args.plan.now c.args.epoch.now.epoch c.args.system n (n + 1)
-    (satellites c.args.system) next within c.loop-before.invariant.out (subst (λ l. AppendsPrefix b d l) line (subst (λ l. AppendsPrefix b d l) (sym shown) (grind (arith, c.in_err-write_whole.ensures, c.put_seen-size.ensures.text)))))
+    (satellites c.args.system) next within c.loop-before.invariant.out (subst (λ l. AppendsPrefix b d l) line (subst (λ l. AppendsPrefix b d l) (sym shown) (grind (arith, c.in_err-write_whole.ensures, c.put_satellite_line-size.ensures.text)))))
 
 pub returns-in_err-write_whole-clause-whole : goal.returns-in_err-write_whole-clause-whole
 returns-in_err-write_whole-clause-whole g c = failed _ c.from_residual.result _ c.from_residual.ensures.1

@@ -1,6 +1,6 @@
 use Rattle.std.proofs.Common.{arith, ◌∙◌, ap, ◌++◌}
 use Rattle.std.proofs.lemmas.List.{take-replicate}
-use Rattle.rinex_file.proofs.write.numbers.put_blanks.Goals as goal
+use Rattle.rinex_file.proofs.write.line.put_blanks.Goals as goal
 
 pub returns-then-count-gt0-clause-text : goal.returns-then-count-gt0-clause-text
 returns-then-count-gt0-clause-text c = c.put.ensures.text ∙ ap (λ b. c.args.line.now.items ++ b) (take-replicate c.args.count 1220 32 (omega (arith, c.requires)))

@@ -4,7 +4,7 @@ use Rattle.rinex_file.specs.Value.{entries_of}
 use Rattle.rinex_file.specs.Lines.{letter_of}
 use Rattle.rinex_file.specs.Rows.{HasSignals}
 use Rattle.rinex_file.specs.Limits.{most_line}
-use Rattle.rinex_file.proofs.write.satellite.put_seen.Given as goal
+use Rattle.rinex_file.proofs.write.satellite.put_satellite_line.Given as goal
 
 -- the columns so far have the values of the cells from here on
 abbrev pub invariant-loop-at : goal.invariant-loop-at

@@ -14,8 +14,8 @@ use Rattle.rinex_file.specs.Value.{SignalValues, signal_values_at, entries_of}
 use Rattle.rinex_file.specs.Rows.{HasSignals}
 use Rattle.rinex_file.proofs.Entries.{few_signals as short_table}
 use Rattle.rinex_file.proofs.CellPlaces.{begun_entries, no_place, others_stay, other_stays, cell_put, all_fit, trimmed_line, front_length}
-use Rattle.rinex_file.proofs.write.satellite.put_seen.Goals as goal
-use Rattle.rinex_file.proofs.write.satellite.put_seen.Goals.{After-of, After-loop-at, else-id-via-else-id, else-id-via-then-id+in-None-1}
+use Rattle.rinex_file.proofs.write.satellite.put_satellite_line.Goals as goal
+use Rattle.rinex_file.proofs.write.satellite.put_satellite_line.Goals.{After-of, After-loop-at, else-id-via-else-id, else-id-via-then-id+in-None-1}
 
 more : (cells : List Cell) (at : ℕ) (cell : Cell) → 0 < at → at ≤ length cells → cell ≡ slice_index_or cells (at - 1) cell → drop (at - 1) cells ≡ cell ∷ drop at cells
 more cells at cell some within is =

@@ -1,4 +1,4 @@
-//! Numbers of fixed width, as in the columns of a line.
+//! The buffer of a line, and texts and numbers of fixed width that are appended to it.
 ghost use Rattle.std.specs.Prelude.{◌≡◌, ◌+◌, ◌^◌, ◌≤◌, ◌*◌, ◌++◌, pos, replicate, decimal, length};
 ghost use Rattle.rinex_file.specs.Numbers.{fixed, padded, left, right};
 ghost use Rattle.arrayvec.specs.ArrayVec.{array_vec_len};

@@ -1,6 +1,6 @@
 use Rattle.std.proofs.Common.{arith}
 use Rattle.std.proofs.lemmas.Grind.{common_steps}
-use Rattle.rinex_file.proofs.write.numbers.put_padded.Goals as goal
+use Rattle.rinex_file.proofs.write.line.put_padded.Goals as goal
 
 pub push-requires : goal.push-requires
 push-requires g c = grind (arith, common_steps)

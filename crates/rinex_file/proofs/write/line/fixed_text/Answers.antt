@@ -1,7 +1,7 @@
 use Rattle.std.proofs.Common.{arith}
 use Rattle.std.proofs.lemmas.Grind.{common_steps}
 use Rattle.rinex_file.proofs.Digits.{ten_pow}
-use Rattle.rinex_file.proofs.write.numbers.fixed_text.Goals as goal
+use Rattle.rinex_file.proofs.write.line.fixed_text.Goals as goal
 
 pub nonzero_div-size : goal.nonzero_div-size
 nonzero_div-size c = let h = ten_pow c.args.places in omega (arith, h, c.requires.scale)
