@@ -1,5 +1,5 @@
 -- The meaning of the exit status.
-use Rattle.std.proofs.Common.{◌≡◌, ◌∙◌, inl, inr, sym, subst, codes, ap, ap₂, option_map, ℕ, List, Option, Some, None, Result, Ok, Err, arith}
+use Rattle.std.proofs.Common.{◌≡◌, ◌∙◌, inl, inr, refl, sym, subst, codes, ap, ap₂, option_map, ℕ, List, Option, Some, None, Result, Ok, Err, arith}
 use Rattle.std.specs.Prelude.{⊤, ◌≢◌}
 use Rattle.std.specs.Box.{box_value}
 use Rattle.std.specs.Option.{option_map_or}
@@ -15,12 +15,19 @@ use Rattle.clap.specs.declared.error.kind.ErrorKind.TheVariants as kind
 use Rattle.clap.specs.declared.parser.matches.ArgMatches.{ArgMatches}
 use Rattle.rtcm_bits.specs.Device.{Device}
 use Rattle.rtcm2rinex.specs.CommandLine.{SelectsCommand, IsFoundIn, RefusesWords}
-use Rattle.rtcm2rinex.specs.Commands.{AreRefused, EndsCommand, EndsFound, HasCommand, HasCompleted, HasDone, HasStopped, HasStoppedEarly, StopsPrinting, fault_status, status_of}
+use Rattle.rtcm2rinex.specs.Commands.{AreRefused, EndsCommand, EndsFound, HasCommand, HasCompleted, HasDone, HasPrinted, HasStopped, HasStoppedEarly, HasStoppedPrinting, StopsPrinting, fault_status, status_of}
+use Rattle.rtcm2rinex.specs.Converting.{StopsConversion}
 use Rattle.rtcm2rinex.specs.ErrorLines.{error_line}
-use Rattle.rtcm2rinex.specs.Printing.{PrintsFault, PrintsLine}
+use Rattle.rtcm_inspect.specs.Printing.{PrintsLine}
+use Rattle.rtcm2rinex.specs.Printing.{PrintsFault}
 use Rattle.rtcm2rinex.specs.SetupOptions.{IsSetupRefused}
 use Rattle.rtcm_convert.specs.Faults.{IsUntouched}
-use Rattle.rtcm2rinex.specs.Devices.{Ends}
+use Rattle.rtcm_convert.specs.SetupValues.{Start}
+use Rattle.rinex_file.specs.declared.read.fault.ReadFault.TheVariants as reading
+use Rattle.rtcm_inspect.specs.Devices as devices
+use Rattle.rtcm_inspect.specs.declared.fault.InspectFault.{InspectFault}
+use Rattle.rtcm_inspect.specs.declared.fault.InspectFault.TheVariants as inspect
+use Rattle.rtcm2rinex.specs.Devices.{Ends, HaveFailedBy, inspected, of_inspection}
 use Rattle.rtcm2rinex.specs.declared.fault.ToolFault.{ToolFault}
 use Rattle.rtcm2rinex.specs.declared.fault.ToolFault.TheVariants as faults
 use Rattle.rtcm2rinex.proofs.CommandLineLemmas.{is_version}
@@ -53,6 +60,26 @@ pub ends_so : {A R W : Type 0} (ended : Result A ToolFault) (r r2 : Device R) (w
 ends_so (Ok x) r r2 waits w w2 P Q S T done stopped h = (h.0, done x h.1)
 ends_so (Err fault) r r2 waits w w2 P Q S T done stopped h = (h.0, stopped fault h.1)
 
+-- the devices after a fault of a command other than `convert`
+failed_by : {R W : Type 0} (e : InspectFault) (r r2 : Device R) (w w2 : Device W) → devices.HaveFailedBy e r r2 w w2 → HaveFailedBy (inspected e) r r2 w w2
+failed_by inspect.Read r r2 w w2 h = h
+failed_by inspect.Write r r2 w w2 h = h
+failed_by (inspect.Scan e) r r2 w w2 h = h
+failed_by (inspect.Check reading.Memory) r r2 w w2 h = h
+failed_by (inspect.Check reading.Read) r r2 w w2 h = h
+failed_by (inspect.Check (reading.BadHeader k)) r r2 w w2 h = h
+failed_by (inspect.Check (reading.BadEpoch k)) r r2 w w2 h = h
+failed_by (inspect.Check (reading.BadEvent k)) r r2 w w2 h = h
+failed_by (inspect.Check (reading.BadSatellite k)) r r2 w w2 h = h
+failed_by (inspect.Check (reading.CutShort k)) r r2 w w2 h = h
+failed_by (inspect.Check reading.TooLong) r r2 w w2 h = h
+failed_by inspect.NoSignal r r2 w w2 h = h
+
+ends_inspected : {A R W : Type 0} (ended : Result A InspectFault) (r r2 : Device R) (waits : W → List ℕ) (w w2 : Device W) (P Q : A → Type 0) (S : InspectFault → Type 0) (T : ToolFault → Type 0)
+    → ((x : A) → P x → Q x) → ((e : InspectFault) → S e → T (inspected e)) → devices.Ends ended r r2 waits w w2 P S → Ends (of_inspection ended) r r2 waits w w2 Q T
+ends_inspected (Ok x) r r2 waits w w2 P Q S T done stopped h = (h.0, done x h.1)
+ends_inspected (Err e) r r2 waits w w2 P Q S T done stopped h = (failed_by e r r2 w w2 h.0, stopped e h.1)
+
 pub has_command : (words : List Text) (m : ArgMatches) → IsFoundIn words m → HasCommand m
 has_command words m found = (found.0, found.1, found.2, found.3)
 
@@ -70,6 +97,17 @@ pub ends_found : {A R W E : Type 0} (ended : Result A ToolFault) (left : R → O
     → Some n ≡ subcommand_name_of m → Some o ≡ option_map (λ p. p.1) (subcommand_rows (out-ArgMatches m).subcommand) → EndsCommand ended left r r2 held waits w w2 told e e2 n o
     → EndsFound ended (subcommand_rows_of m) left r r2 held waits w w2 told e e2
 ends_found ended left held waits told r r2 w w2 e e2 m n o is rows h = (n, o, sub_found (out-ArgMatches m).subcommand n o is rows, h)
+
+-- how a command other than `convert` ended
+pub inspection_found : {A R W E : Type 0} (ended : Result A ToolFault) (inspection : Result A InspectFault) (left : R → Option (List ℕ)) (held : W → Option (List ℕ)) (waits : W → List ℕ) (told : E → Option (List ℕ)) (r r2 : Device R) (w w2 : Device W) (e : Device E) (m : ArgMatches) (n : Text) (o : List Row)
+    (P : A → Type 0) (S : InspectFault → Type 0) → ended ≡ of_inspection inspection → Some n ≡ subcommand_name_of m → Some o ≡ option_map (λ p. p.1) (subcommand_rows (out-ArgMatches m).subcommand)
+    → ((x : A) → P x → HasPrinted left r r2 held w w2 n o) → ((f : InspectFault) → S f → HasStoppedPrinting left r r2 held waits w w2 n o f) → devices.Ends inspection r r2 waits w w2 P S
+    → EndsFound ended (subcommand_rows_of m) left r r2 held waits w w2 told e e
+inspection_found ended inspection left held waits told r r2 w w2 e m n o P S same is rows done stopped h =
+    ends_found ended left held waits told r r2 w w2 e e m n o is rows
+    (subst (λ x. EndsCommand x left r r2 held waits w w2 told e e n o) (sym same)
+    (ends_inspected inspection r r2 waits w w2 P (λ x. HasDone left r r2 held w w2 told e e n o) S (λ f. HasStopped left r r2 held waits w w2 n o f × (e ≡ e))
+    (λ x p. inr (done x p, refl)) (λ f s. (inr (f, refl, stopped f s), refl)) h))
 
 -- a command that was found twice is the same
 asked : (words : List Text) (found : Option (Text × List Row)) (n n2 : Text) (o o2 : List Row) → found ≡ Some (n, o) → found ≡ Some (n2, o2) → SelectsCommand words n o → SelectsCommand words n2 o2
@@ -116,37 +154,31 @@ module _ {R W E : Type 0} (left : R → Option (List ℕ)) (held : W → Option 
 abbrev IsRefusedBy : {R W : Type 0} → (r r2 : Device R) → (w w2 : Device W) → Text → List Row → ToolFault → Type 0
 IsRefusedBy r r2 w w2 name options fault = (name ≡ codes "convert") × IsSetupRefused options fault × IsUntouched r r2 w w2
 
-module _ {R W : Type 0} (left : R → Option (List ℕ)) (held : W → Option (List ℕ)) (waits : W → List ℕ) (r r2 : Device R) (w w2 : Device W) (name : Text) (options : List Row) where
-  bad_position : HasStopped left r r2 held waits w w2 name options faults.BadPosition → IsRefusedBy r r2 w w2 name options faults.BadPosition
-  bad_position (inl (n, stops)) = absurd stops
-  bad_position (inr (inl (n, stops))) = absurd stops
-  bad_position (inr (inr (inl (n, (wanted, number, stops))))) = absurd stops
-  bad_position (inr (inr (inr (inl (n, (wanted, number, stops)))))) = absurd stops
-  bad_position (inr (inr (inr (inr (inl (n, inl (refused, untouched))))))) = (n, refused, untouched)
-  bad_position (inr (inr (inr (inr (inl (n, inr (x, start, stops))))))) = absurd stops
-  bad_position (inr (inr (inr (inr (inr (n, stops)))))) = absurd stops
+one_status : (e : InspectFault) → fault_status (inspected e) ≡ 1
+one_status inspect.Read = refl
+one_status inspect.Write = refl
+one_status (inspect.Scan e) = refl
+one_status (inspect.Check e) = refl
+one_status inspect.NoSignal = refl
 
-  bad_height : HasStopped left r r2 held waits w w2 name options faults.BadHeight → IsRefusedBy r r2 w w2 name options faults.BadHeight
-  bad_height (inl (n, stops)) = absurd stops
-  bad_height (inr (inl (n, stops))) = absurd stops
-  bad_height (inr (inr (inl (n, (wanted, number, stops))))) = absurd stops
-  bad_height (inr (inr (inr (inl (n, (wanted, number, stops)))))) = absurd stops
-  bad_height (inr (inr (inr (inr (inl (n, inl (refused, untouched))))))) = (n, refused, untouched)
-  bad_height (inr (inr (inr (inr (inl (n, inr (x, start, stops))))))) = absurd stops
-  bad_height (inr (inr (inr (inr (inr (n, stops)))))) = absurd stops
+module _ {R W : Type 0} (left : R → Option (List ℕ)) (held : W → Option (List ℕ)) (waits : W → List ℕ) (r r2 : Device R) (w w2 : Device W) (name : Text) (options : List Row) where
+  not_stopped : (x : Start) (fault : ToolFault) → fault_status fault ≡ 2 → StopsConversion x left r r2 held waits w w2 fault → ⊥
+  not_stopped x faults.BadPosition two stops = stops
+  not_stopped x faults.BadHeight two stops = stops
+  not_stopped x faults.Memory two stops = one_two two
+  not_stopped x faults.Read two stops = one_two two
+  not_stopped x faults.Write two stops = one_two two
+  not_stopped x (faults.Scan e) two stops = one_two two
+  not_stopped x (faults.Header e) two stops = one_two two
+  not_stopped x (faults.Plan e) two stops = one_two two
+  not_stopped x (faults.Convert e) two stops = one_two two
+  not_stopped x (faults.Check e) two stops = one_two two
+  not_stopped x faults.NoSignal two stops = one_two two
 
   refused_by : (fault : ToolFault) → fault_status fault ≡ 2 → HasStopped left r r2 held waits w w2 name options fault → IsRefusedBy r r2 w w2 name options fault
-  refused_by faults.BadPosition two stopped = bad_position stopped
-  refused_by faults.BadHeight two stopped = bad_height stopped
-  refused_by faults.Memory two stopped = absurd (one_two two)
-  refused_by faults.Read two stopped = absurd (one_two two)
-  refused_by faults.Write two stopped = absurd (one_two two)
-  refused_by (faults.Scan e) two stopped = absurd (one_two two)
-  refused_by (faults.Header e) two stopped = absurd (one_two two)
-  refused_by (faults.Plan e) two stopped = absurd (one_two two)
-  refused_by (faults.Convert e) two stopped = absurd (one_two two)
-  refused_by (faults.Check e) two stopped = absurd (one_two two)
-  refused_by faults.NoSignal two stopped = absurd (one_two two)
+  refused_by fault two (inl (n, inl (refused, untouched))) = (n, refused, untouched)
+  refused_by fault two (inl (n, inr (x, start, stops))) = absurd (not_stopped x fault two stops)
+  refused_by fault two (inr (e, same, stops)) = absurd (one_two (sym (one_status e) ∙ sym (ap fault_status same) ∙ two))
 
 pub refused_at_two : {R W E : Type 0} (left : R → Option (List ℕ)) (held : W → Option (List ℕ)) (waits : W → List ℕ) (told : E → Option (List ℕ)) (r r2 : Device R) (w w2 : Device W) (e e1 e2 : Device E) (words : List Text) (m : ArgMatches) (ended : Result ⊤ ToolFault) (status : ℕ)
     → status ≡ status_of ended → PrintsFault ended told e1 e2 → IsFoundIn words m → EndsFound ended (subcommand_rows_of m) left r r2 held waits w w2 told e e1 → status ≡ 2

@@ -16,10 +16,10 @@ use Rattle.rinex_file.specs.Read.Fields.{digits_from, digits_in, next_digit}
 use Rattle.rtcm_bits.specs.Bits.{FitsInt}
 use Rattle.rtcm_msg.specs.Station.{InRange}
 use Rattle.rtcm_msg.specs.declared.station.StationParts.{StationParts}
-use Rattle.rtcm2rinex.specs.Fitting.{height_text, position_text}
+use Rattle.rtcm_inspect.specs.Fitting.{height_text, position_text}
 use Rattle.rtcm2rinex.proofs.CommandLineLemmas.{first_half, second}
 use Rattle.rtcm2rinex.specs.Lengths.{coordinate_by, coordinate_of, cut, decimals_of, length_below, length_by, length_of, number_of, position_of, values_in}
-use Rattle.rtcm2rinex.specs.Metres.{digit, four_digits, metres, size_text}
+use Rattle.rtcm_inspect.specs.Metres.{digit, four_digits, metres, size_text}
 use Rattle.rtcm2rinex.specs.SetupOptions.{text_set, values_by_message}
 
 is_le : (n m : ℕ) → n ≤ m → nat_le n m ≡ true

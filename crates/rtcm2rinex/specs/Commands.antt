@@ -9,19 +9,21 @@ use Rattle.clap.specs.declared.parser.matches.ArgMatches.{ArgMatches}
 use Rattle.rtcm_bits.specs.Device.{Device}
 use Rattle.rtcm_convert.specs.Faults.{IsUntouched}
 use Rattle.rtcm_convert.specs.Moves.{Moves}
-use Rattle.rtcm2rinex.specs.FrameLines.{frame_lines}
-use Rattle.rtcm2rinex.specs.ShowLines.{show_lines}
-use Rattle.rtcm2rinex.specs.Listing.{ListsAll, StopsListing}
+use Rattle.rtcm_inspect.specs.FrameLines.{frame_lines}
+use Rattle.rtcm_inspect.specs.ShowLines.{show_lines}
+use Rattle.rtcm_inspect.specs.Listing.{ListsAll, StopsListing}
 use Rattle.rtcm2rinex.specs.Converting.{IsConverted, StopsConverting}
-use Rattle.rtcm2rinex.specs.Checking.{ChecksFile, StopsChecking}
-use Rattle.rtcm2rinex.specs.SignalOutput.{PrintsAsked, StopsAsked}
-use Rattle.rtcm2rinex.specs.Signals.{signals_text}
-use Rattle.rtcm2rinex.specs.Fitting.{options_text}
+use Rattle.rtcm_inspect.specs.Checking.{ChecksFile, StopsChecking}
+use Rattle.rtcm2rinex.specs.Asked.{PrintsAsked, StopsAsked}
+use Rattle.rtcm_inspect.specs.Signals.{signals_text}
+use Rattle.rtcm_inspect.specs.Fitting.{options_text}
 use Rattle.rtcm2rinex.specs.CommandLine.{SelectsCommand, FailsParsing, IsCommand}
-use Rattle.rtcm2rinex.specs.Printing.{PrintsLine, PrintsPart, PrintsText}
-use Rattle.rtcm2rinex.specs.Devices.{AreFine, Ends, HaveFailedBy}
+use Rattle.rtcm_inspect.specs.Devices.{AreFine}
+use Rattle.rtcm_inspect.specs.Printing.{PrintsLine, PrintsPart, PrintsText}
+use Rattle.rtcm2rinex.specs.Devices.{Ends, HaveFailedBy, IsInspected}
 use Rattle.rtcm2rinex.specs.ErrorLines.{error_line}
 use Rattle.rtcm2rinex.specs.SetupOptions.{IsSetupRefused}
+use Rattle.rtcm_inspect.specs.declared.fault.InspectFault.{InspectFault}
 use Rattle.rtcm2rinex.specs.declared.fault.ToolFault.{ToolFault}
 use Rattle.rtcm2rinex.specs.declared.fault.ToolFault.TheVariants as faults
 use Rattle.rtcm2rinex.specs.declared.cli.TheConstants.{VERSION}
@@ -47,16 +49,22 @@ HasDone left r r' held w w' told e e' name options =
     ((name ≡ codes "convert") × IsConverted options (left r.inner) (held w.inner) (held w'.inner) told e e')
     ⊎ (HasPrinted left r r' held w w' name options × (e' ≡ e))
 
--- the command was stopped by a fault
-abbrev pub HasStopped : {R W : Type 0} → (R → Option (List ℕ)) → (r r' : Device R) → (W → Option (List ℕ))
-    → (W → List ℕ) → (w w' : Device W) → Text → List Row → ToolFault → Type 0
-HasStopped left r r' held waits w w' name options fault =
+-- a command other than `convert` was stopped by a fault
+abbrev pub HasStoppedPrinting : {R W : Type 0} → (R → Option (List ℕ)) → (r r' : Device R) → (W → Option (List ℕ))
+    → (W → List ℕ) → (w w' : Device W) → Text → List Row → InspectFault → Type 0
+HasStoppedPrinting left r r' held waits w w' name options fault =
     ((name ≡ codes "frames") × StopsListing (2 ^ 48) frame_lines left r r' held waits w w' fault)
     ⊎ ((name ≡ codes "show") × StopsListing (2 ^ 48) show_lines left r r' held waits w w' fault)
     ⊎ ((name ≡ codes "signals") × StopsAsked signals_text options left r r' held waits w w' fault)
     ⊎ ((name ≡ codes "options") × StopsAsked options_text options left r r' held waits w w' fault)
-    ⊎ ((name ≡ codes "convert") × StopsConverting options left r r' held waits w w' fault)
     ⊎ ((name ≡ codes "check") × StopsChecking left r r' held waits w w' fault)
+
+-- the command was stopped by a fault
+abbrev pub HasStopped : {R W : Type 0} → (R → Option (List ℕ)) → (r r' : Device R) → (W → Option (List ℕ))
+    → (W → List ℕ) → (w w' : Device W) → Text → List Row → ToolFault → Type 0
+HasStopped left r r' held waits w w' name options fault =
+    ((name ≡ codes "convert") × StopsConverting options left r r' held waits w w' fault)
+    ⊎ IsInspected (HasStoppedPrinting left r r' held waits w w' name options) fault
 
 -- how the command ended; it prints no fault
 abbrev pub EndsCommand : {A R W E : Type 0} → Result A ToolFault → (R → Option (List ℕ)) → (r r' : Device R)

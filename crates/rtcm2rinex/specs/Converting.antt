@@ -8,7 +8,7 @@ use Rattle.rtcm_bits.specs.Device.{Device}
 use Rattle.rtcm_convert.specs.declared.fault.Fault.TheVariants as convert
 use Rattle.rtcm_convert.specs.declared.report.Report.{Report}
 use Rattle.rtcm2rinex.specs.Devices.{Ends}
-use Rattle.rtcm2rinex.specs.Printing.{PrintsLine}
+use Rattle.rtcm_inspect.specs.Printing.{PrintsLine}
 use Rattle.rtcm2rinex.specs.Reports.{report_line}
 use Rattle.clap.specs.Walk.{Row}
 use Rattle.rtcm2rinex.specs.declared.fault.ToolFault.{ToolFault}

@@ -1,8 +1,3 @@
-pub mod Lines
-pub mod Metres
-pub mod FrameLines
-pub mod ShowLines
-pub mod Listing
 pub mod Lengths
 pub mod SetupOptions
 pub mod CommandLine
@@ -10,13 +5,7 @@ pub mod Devices
 pub mod ErrorLines
 pub mod Converting
 pub mod Reports
-pub mod ReadBack
-pub mod Checking
-pub mod Signals
-pub mod Fitting
-pub mod Counting
-pub mod SignalOutput
 pub mod Printing
+pub mod Asked
 pub mod Commands
-pub mod SignalLaws
 pub mod StationLaws

@@ -5,7 +5,7 @@ use Rattle.rtcm_msg.specs.Station.{InRange}
 use Rattle.rtcm_msg.specs.declared.station.StationParts.{StationParts}
 use Rattle.gnss_obs.specs.Values.{no_values}
 use Rattle.obs_epoch.specs.Epochs.{values_by}
-use Rattle.rtcm2rinex.specs.Fitting.{height_text, position_text}
+use Rattle.rtcm_inspect.specs.Fitting.{height_text, position_text}
 use Rattle.rtcm2rinex.specs.SetupOptions.{text_set, values_by_message}
 
 -- With the position and the height of a station message in range, the station values are those that the message brings.

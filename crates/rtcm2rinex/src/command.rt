@@ -10,24 +10,25 @@ ghost use Rattle.clap.specs.declared.error.kind.ErrorKind.TheVariants.{DisplayVe
 ghost use Rattle.rtcm2rinex.specs.CommandLine.{IsCommand};
 ghost use Rattle.rtcm2rinex.specs.Commands.{AreRefused, EndsFound, HasCommand, name_of};
 ghost use Rattle.rtcm2rinex.specs.Commands.{HasStoppedEarly, HasCompleted, StopsPrinting, status_of};
+ghost use Rattle.rtcm2rinex.specs.Devices.{of_inspection};
 ghost use Rattle.rtcm2rinex.specs.ErrorLines.{error_line, not_text_line};
-ghost use Rattle.rtcm2rinex.specs.Printing.{PrintsFault, PrintsLine, PrintsText};
+ghost use Rattle.rtcm_inspect.specs.Printing.{PrintsLine, PrintsText};
+ghost use Rattle.rtcm2rinex.specs.Printing.{PrintsFault};
 ghost use Rattle.rtcm2rinex.specs.declared.cli.TheConstants.{VERSION};
 ghost use Rattle.rtcm2rinex.specs.Converting.{EndsConverting};
 ghost use Rattle.rtcm2rinex.specs.SetupOptions.{options_of};
 
-use crate::check::run_check;
 use crate::cli::{VERSION, parse};
 use crate::convert::{report_line, run_convert_at};
 use crate::error_lines::error_line;
 use crate::fault::ToolFault;
-use crate::line::{print_line, print_text};
-use crate::listing::{run_frames, run_show};
 use crate::options::{setup_of, station_of, values_of};
-use crate::signals::{run_options, run_signals};
 use clap::ArgMatches;
 use clap::error::ErrorKind;
 use rtcm_bits::{Counted, Deliver};
+use rtcm_inspect::{
+    InspectFault, print_line, print_text, run_check, run_frames, run_options, run_show, run_signals,
+};
 use std::alloc::Global;
 use std::io;
 use std::io::{Read, Write};
@@ -116,12 +117,22 @@ fn run<R: Read, W: Deliver, E: Write>(
         unreachable!()
     };
     match command_of(name) {
-        Asked::Frames => run_frames(alloc, reader, writer),
-        Asked::Show => run_show(alloc, reader, writer),
-        Asked::Signals => run_signals(alloc, station_of(options), reader, writer),
-        Asked::Options => run_options(alloc, station_of(options), reader, writer),
+        Asked::Frames => of_inspection(run_frames(alloc, reader, writer)),
+        Asked::Show => of_inspection(run_show(alloc, reader, writer)),
+        Asked::Signals => of_inspection(run_signals(alloc, station_of(options), reader, writer)),
+        Asked::Options => of_inspection(run_options(alloc, station_of(options), reader, writer)),
         Asked::Convert => convert(alloc, options, reader, writer, faults),
-        Asked::Check => run_check(alloc, reader, writer),
+        Asked::Check => of_inspection(run_check(alloc, reader, writer)),
+    }
+}
+
+/// Returns the result of a command other than `convert`.
+fn of_inspection(ended: Result<(), InspectFault>) -> Result<(), ToolFault>
+    ensures { result ≡ of_inspection ended }
+{
+    match ended {
+        Ok(()) => Ok(()),
+        Err(fault) => Err(ToolFault::from(fault)),
     }
 }
 
@@ -163,7 +174,10 @@ fn answer<W: Deliver, E: Deliver>(
         → (kind_of error.now ≢ DisplayVersion) × (kind_of error.now ≢ OutOfMemory) × (writer.new ≡ writer.old) }
 {
     match error.kind() {
-        ErrorKind::DisplayVersion => exit_status(print_text(VERSION.as_bytes(), writer), faults),
+        ErrorKind::DisplayVersion => {
+            let ended = print_text(VERSION.as_bytes(), writer);
+            exit_status(of_inspection(ended), faults)
+        }
         ErrorKind::OutOfMemory => exit_status(Err(ToolFault::Memory), faults),
         _ => {
             let _ = write!(faults, "{error}");

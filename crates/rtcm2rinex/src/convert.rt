@@ -6,10 +6,10 @@ ghost use Rattle.rtcm2rinex.specs.Converting.{EndsConversion};
 ghost use Rattle.rtcm2rinex.specs.Reports.{report_line};
 
 use crate::fault::ToolFault;
-use crate::line::OutputLine;
 use obs_epoch::StationValues;
 use rtcm_bits::{Counted, Deliver};
 use rtcm_convert::{Fault, Report, Setup, convert_stream_at};
+use rtcm_inspect::OutputLine;
 use std::alloc::Global;
 use std::io::Read;
 

@@ -4,14 +4,14 @@ ghost use Rattle.gnss_obs.specs.Satellites.{letter};
 ghost use Rattle.rinex_file.specs.Texts.{field_name};
 ghost use Rattle.rtcm2rinex.specs.ErrorLines.{conversion_word, error_line, error_words, file_words, header_words};
 ghost use Rattle.rtcm2rinex.specs.ErrorLines.{plan_words, scan_word};
-ghost use Rattle.rtcm2rinex.specs.Lines.{with_words};
+ghost use Rattle.rtcm_inspect.specs.Lines.{with_words};
 
 use crate::fault::ToolFault;
-use crate::line::OutputLine;
 use gnss_obs::System;
 use obs_epoch::PlanFault;
 use rinex_file::{HeadFault, HeaderField, ReadFault};
 use rtcm_convert::Fault;
+use rtcm_inspect::OutputLine;
 use rtcm_scan::ScanFault;
 
 /// Returns the line of a fault: the program's name, the fault's name, and the values that it

@@ -1,12 +1,12 @@
 //! Why a command stopped.
 ghost use Rattle.std.specs.Prelude.{◌≡◌};
-ghost use Rattle.rtcm2rinex.specs.Devices.{tool_fault_of, stream_fault};
+ghost use Rattle.rtcm2rinex.specs.Devices.{inspected, tool_fault_of};
 
 use obs_epoch::PlanFault;
 use rinex_file::{HeadFault, ReadFault};
-use rtcm_bits::DeviceFailed;
 use rtcm_convert::Fault;
-use rtcm_scan::{ScanFault, StreamFault};
+use rtcm_inspect::InspectFault;
+use rtcm_scan::ScanFault;
 
 /// Why a command stopped.
 #[derive(Clone, Copy)]
@@ -35,14 +35,16 @@ pub enum ToolFault {
     NoSignal,
 }
 
-impl From<StreamFault<DeviceFailed>> for ToolFault {
-    ghost from_gives = { λ stream fault. fault ≡ stream_fault stream };
+impl From<InspectFault> for ToolFault {
+    ghost from_gives = { λ inspection fault. fault ≡ inspected inspection };
 
-    fn from(stream: StreamFault<DeviceFailed>) -> ToolFault {
-        match stream {
-            StreamFault::Read => ToolFault::Read,
-            StreamFault::TooLong => ToolFault::Scan(ScanFault::TooLong),
-            StreamFault::Sink(_) => ToolFault::Write,
+    fn from(inspection: InspectFault) -> ToolFault {
+        match inspection {
+            InspectFault::Read => ToolFault::Read,
+            InspectFault::Write => ToolFault::Write,
+            InspectFault::Scan(fault) => ToolFault::Scan(fault),
+            InspectFault::Check(fault) => ToolFault::Check(fault),
+            InspectFault::NoSignal => ToolFault::NoSignal,
         }
     }
 }

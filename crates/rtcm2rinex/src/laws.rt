@@ -1,34 +1,5 @@
-//! Laws over all layers.
-ghost use Rattle.std.specs.Prelude.{List, ℕ};
-ghost use Rattle.rtcm_msg.specs.declared.message.Message.{Message};
-ghost use Rattle.rtcm2rinex.specs.ReadBack.{AreKnown, AreEncoded, ReadsBack};
-ghost use Rattle.rtcm2rinex.specs.SignalLaws.{LeavesNoneOut, AreReadAsPlan, SkipsNoValue};
+//! Laws over the options that `options` prints.
 ghost use Rattle.rtcm2rinex.specs.StationLaws.{AreReadAsStation, AreZeroByDefault};
-
-/// Every list of messages of known layouts has encodings. For every choice of these, their frames,
-/// joined, are a stream with exactly these frames, which is read back as that list.
-pub fn read_back()
-    ensures encoded { (vs : List Message) → AreKnown vs → (es : List (List ℕ)) × AreEncoded es vs }
-    ensures back { (es : List (List ℕ)) (vs : List Message) → AreEncoded es vs → ReadsBack es vs }
-{
-    rtcm_bits::laws::numbers();
-    rtcm_bits::laws::bytes();
-    rtcm_scan::laws::frames();
-    rtcm_scan::laws::joined();
-    rtcm_msg::laws::read_back();
-    rtcm_msg::laws::one_value();
-}
-
-/// The lists that `options` prints are read as the plan of the signals that they name. A conversion
-/// with this plan has a column for each value of a listed satellite and signal, and counts as
-/// `skipped` only unlisted cells and cells without a value.
-pub fn signals()
-    ensures columns { LeavesNoneOut }
-    ensures read { AreReadAsPlan }
-    ensures skips { SkipsNoValue }
-{
-    gnss_obs::laws::signal_tables();
-}
 
 /// The position and the height that `options` prints for a station message are read as the station
 /// values of that message, for every message in range. Without them the values are 0.

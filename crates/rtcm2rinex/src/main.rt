@@ -3,7 +3,6 @@
 //! command `check` reads such a file back and reports whether it is accepted.
 #![tactic(auto)]
 
-mod check;
 mod cli;
 mod command;
 mod commands;
@@ -11,10 +10,7 @@ mod convert;
 mod error_lines;
 mod fault;
 pub mod laws;
-mod line;
-mod listing;
 mod options;
-mod signals;
 #[cfg(test)]
 mod tests;
 

@@ -5,9 +5,8 @@ use super::scenario::{Case, FAULTLESS, Setting, assert_come};
 use super::texts::Piece::{Framed, Front, Repeated};
 use super::texts::Text;
 use super::texts::Text::{Bytes, Lines, Stream};
-use crate::fault::ToolFault;
-use crate::listing::{Listing, list};
 use rtcm_bits::Counted;
+use rtcm_inspect::{InspectFault, Listing, list};
 use rtcm_scan::ScanFault;
 use std::alloc::Global;
 
@@ -86,7 +85,7 @@ fn lists(alloc: Global, stream: &[u8], limit: u16, is_refused: bool, lines: &[u8
     has_lines
         && match answer {
             Ok(()) => !is_refused,
-            Err(ToolFault::Scan(ScanFault::TooLong)) => is_refused,
+            Err(InspectFault::Scan(ScanFault::TooLong)) => is_refused,
             Err(_) => false,
         }
 }

@@ -1,7 +1,0 @@
-use Rattle.rtcm2rinex.proofs.ListingLemmas.{unsent_listed}
-use Rattle.rtcm2rinex.proofs.PrintingLemmas.{on_err}
-use Rattle.rtcm2rinex.proofs.listing.ListingFrameSinkCounted.send.Goals as goal
-
-pub returns-clause-part : goal.returns-clause-part
-returns-clause-part g c = on_err c.send.result _ _
-    (λ failed k o ps fs took. unsent_listed g.W.Write.contents k o ps c.args.self.now c.args.out.now c.send.new.self fs c.send.ensures.kept failed took) c.send.ensures.device.0

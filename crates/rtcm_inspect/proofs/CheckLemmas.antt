@@ -1,0 +1,90 @@
+-- The end of a check of a file.
+use Rattle.std.proofs.Common.{◌≡◌, ◌∙◌, ◌∷◌, ◌++◌, [], ap, inr, codes, decimal, length, refl, sym, subst, ℕ, List, Option, Some, None, Result, Ok, Err, IfSome}
+use Rattle.rtcm_bits.specs.Device.{Device, HasFailed}
+use Rattle.rinex_file.specs.Exact.{IsNoFault}
+use Rattle.rinex_file.specs.Value.{FileValue}
+use Rattle.rinex_file.specs.File.{file_text}
+use Rattle.rinex_file.specs.FileValues.{IsFileValue}
+use Rattle.rinex_file.specs.Counting.{AreCounts}
+use Rattle.rinex_file.specs.declared.read.file.Counts.{Counts}
+use Rattle.rinex_file.specs.declared.read.fault.ReadFault.{ReadFault}
+use Rattle.rinex_file.specs.declared.read.fault.ReadFault.TheVariants.{Memory, Read, BadHeader, BadEpoch, BadEvent, BadSatellite, CutShort, TooLong}
+use Rattle.std.specs.Prelude.{⊤}
+use Rattle.std.specs.Result.{IsErrAnd}
+use Rattle.std.specs.Io.KnownBytes.{Keeps}
+use Rattle.rtcm_inspect.proofs.PrintingLemmas.{kept_none, passed}
+use Rattle.rtcm_inspect.specs.declared.fault.InspectFault.{InspectFault}
+use Rattle.rtcm_inspect.specs.declared.fault.InspectFault.TheVariants as faults
+use Rattle.rtcm_inspect.specs.Devices.{Ends, ReadFailures}
+use Rattle.rtcm_inspect.specs.Printing.{EndsPrinting}
+use Rattle.rinex_file.specs.ParserState.{rows_in}
+use Rattle.rtcm_inspect.specs.Lines.{line}
+use Rattle.rtcm_inspect.proofs.LineLemmas.{add_count, add_text, add_word, end_line}
+use Rattle.rtcm_inspect.specs.Checking.{check_line, ChecksFile, IsCheckedOr, StopsChecking}
+
+-- a property of known bytes
+pub where_known : (P Q : List ℕ → Type 0) (r : Option (List ℕ)) → ((input : List ℕ) → P input → Q input) → IfSome r P → IfSome r Q
+where_known P Q None step h = tt
+where_known P Q (Some input) step h = step input h
+
+-- a fault of reading is one of checking
+pub refused : (v : FileValue) (e : ReadFault) (w w' : Option (List ℕ)) → IsNoFault e → IsCheckedOr v (Err (faults.Check e)) w w'
+refused v Memory w w' h = tt
+refused v Read w w' h = tt
+refused v (BadHeader k) w w' h = absurd h
+refused v (BadEpoch k) w w' h = absurd h
+refused v (BadEvent k) w w' h = absurd h
+refused v (BadSatellite k) w w' h = absurd h
+refused v (CutShort k) w w' h = absurd h
+refused v TooLong w w' h = absurd h
+
+-- the reader failed only at `Read`
+pub read_failures : (e : ReadFault) (before after : ℕ) → (e ≡ Read → HasFailed before after) → ((e ≡ Read → ⊥) → after ≡ before) → ReadFailures (faults.Check e) before after
+read_failures Memory before after failed same = same (λ e. cc)
+read_failures Read before after failed same = failed refl
+read_failures (BadHeader k) before after failed same = same (λ e. cc)
+read_failures (BadEpoch k) before after failed same = same (λ e. cc)
+read_failures (BadEvent k) before after failed same = same (λ e. cc)
+read_failures (BadSatellite k) before after failed same = same (λ e. cc)
+read_failures (CutShort k) before after failed same = same (λ e. cc)
+read_failures TooLong before after failed same = same (λ e. cc)
+
+abbrev count_words : (epochs satellites events : ℕ) → List (List ℕ)
+count_words epochs satellites events = decimal epochs ∷ codes "satellites" ∷ decimal satellites ∷ codes "events" ∷ decimal events ∷ []
+
+-- the line of the counts is that of the file
+pub line_built : (counts : Counts) (v : FileValue) {none start epochs satellites events text : List ℕ} → none ≡ [] → start ≡ none ++ codes "epochs" → epochs ≡ start ++ 0x20 ∷ decimal counts.epochs
+    → satellites ≡ (epochs ++ 0x20 ∷ codes "satellites") ++ 0x20 ∷ decimal counts.satellites → events ≡ (satellites ++ 0x20 ∷ codes "events") ++ 0x20 ∷ decimal counts.events
+    → text ≡ events ++ 0x0A ∷ [] → AreCounts counts v → text ≡ check_line v
+unfolding check_line
+line_built counts v none start epochs satellites events text are =
+    let first = add_word epochs (add_text start none refl) refl in
+    let second = add_count (codes "satellites") (decimal counts.satellites) satellites first in
+    let third = add_count (codes "events") (decimal counts.events) events second in
+    end_line [] (codes "epochs") (count_words counts.epochs counts.satellites counts.events) text third
+    ∙ ap (λ (n : ℕ). line (codes "epochs" ∷ count_words n counts.satellites counts.events)) are.epochs
+    ∙ ap (λ (n : ℕ). line (codes "epochs" ∷ count_words (length v.epochs) n counts.events)) are.satellites
+    ∙ ap (λ (n : ℕ). line (codes "epochs" ∷ count_words (length v.epochs) (rows_in v.epochs) n)) are.events
+
+-- the counts of a file were printed, or a part of them
+pub checked : {R W : Type 0} (left : R → Option (List ℕ)) (held : W → Option (List ℕ)) (waits : W → List ℕ) (r r2 : Device R) (w w2 : Device W) (ended : Result ⊤ InspectFault) (v : FileValue)
+    → IsFileValue v → IfSome (left r.inner) (λ input. input ≡ file_text v) → r2.failures ≡ r.failures → EndsPrinting ended held waits w w2 (check_line v)
+    → Ends ended r r2 waits w w2 (λ _. ChecksFile (left r.inner) (held w.inner) (held w2.inner)) (StopsChecking left r r2 held waits w w2)
+checked left held waits r r2 w w2 (Ok u) v is text same p = ((same, p.0, p.1), (v, is, text, p.2))
+checked left held waits r r2 w w2 (Err fault) v is text same p =
+    subst (λ (f : InspectFault). Ends (Err f) r r2 waits w w2 (λ (u : ⊤). ChecksFile (left r.inner) (held w.inner) (held w2.inner)) (StopsChecking left r r2 held waits w w2)) (sym p.0)
+    ((same, p.1.0), inr (v, is, text, p.1.1))
+
+-- the same for each file value that was read
+pub checked_or : {W : Type 0} (held : W → Option (List ℕ)) (waits : W → List ℕ) (w w2 : Device W) (ended : Result ⊤ InspectFault) (v : FileValue) → EndsPrinting ended held waits w w2 (check_line v)
+    → IsCheckedOr v ended (held w.inner) (held w2.inner)
+checked_or held waits w w2 (Ok u) v p = p.2
+checked_or held waits w w2 (Err fault) v p = subst (λ (f : InspectFault). IsCheckedOr v (Err f) (held w.inner) (held w2.inner)) (sym p.0) p.1.1
+
+-- the same if the writer failed before anything was read
+pub kept_first : (r w w2 : Option (List ℕ)) (ended : Result ⊤ InspectFault) (fault : InspectFault) (v : FileValue) → IsErrAnd ended (λ y. y ≡ fault) → fault ≡ faults.Write → Keeps w w2
+    → IfSome r (λ input. input ≡ file_text v → IsCheckedOr v ended w w2)
+kept_first None w w2 ended fault v is write kept = tt
+kept_first (Some input) w w2 ended fault v is write kept = λ same.
+    passed ended fault (λ (q : Result ⊤ InspectFault). IsCheckedOr v q w w2) is
+    (subst (λ (f : InspectFault). IsCheckedOr v (Err f) w w2) (sym write) (kept_none w w2 (check_line v) kept))

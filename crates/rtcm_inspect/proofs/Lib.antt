@@ -1,0 +1,13 @@
+mod FrameLemmas
+pub mod LineLemmas
+mod StreamLemmas
+mod ListingLemmas
+mod ShowLemmas
+mod ReadBackLemmas
+mod CheckLemmas
+pub mod PrintingLemmas
+mod CountingLemmas
+mod SignalLemmas
+mod ValuedLemmas
+mod PlannedLemmas
+mod SkipLemmas

@@ -1,0 +1,42 @@
+-- Lines that are built word by word.
+use Rattle.std.proofs.Common.{◌≡◌, ℕ, List, [], ◌∷◌, ◌++◌, ◌∙◌, ap, refl, append_assoc}
+use Rattle.std.specs.List.{join_with_byte}
+use Rattle.rtcm_inspect.specs.Lines.{line, with_words}
+
+joined : (x w : List ℕ) (ws : List (List ℕ)) → join_with_byte 0x20 ((x ++ 0x20 ∷ w) ∷ ws) ≡ join_with_byte 0x20 (x ∷ w ∷ ws)
+joined x w [] = refl
+joined x w (v ∷ vs) = append_assoc x (0x20 ∷ w) (0x20 ∷ join_with_byte 0x20 (v ∷ vs))
+
+joined_after : (x w : List ℕ) (ws : List (List ℕ)) → join_with_byte 0x20 ((x ++ w) ∷ ws) ≡ x ++ join_with_byte 0x20 (w ∷ ws)
+joined_after x w [] = refl
+joined_after x w (v ∷ vs) = append_assoc x w (0x20 ∷ join_with_byte 0x20 (v ∷ vs))
+
+words_joined : (x : List ℕ) (ws : List (List ℕ)) → with_words x ws ≡ join_with_byte 0x20 (x ∷ ws)
+words_joined x [] = refl
+words_joined x (w ∷ ws) = words_joined (x ++ 0x20 ∷ w) ws ∙ joined x w ws
+
+-- one more word
+pub add_word : {old new text word same : List ℕ} → new ≡ old ++ 0x20 ∷ word → old ≡ text → word ≡ same → new ≡ text ++ 0x20 ∷ same
+add_word {old} {new} {text} {word} {same} e f g = e ∙ ap (λ (l : List ℕ). l ++ 0x20 ∷ word) f ∙ ap (λ (l : List ℕ). text ++ 0x20 ∷ l) g
+
+-- one more name with its number
+pub add_count : {old new text : List ℕ} (name number : List ℕ) → new ≡ (old ++ 0x20 ∷ name) ++ 0x20 ∷ number → old ≡ text → new ≡ (text ++ 0x20 ∷ name) ++ 0x20 ∷ number
+add_count name number e f = e ∙ ap (λ (l : List ℕ). (l ++ 0x20 ∷ name) ++ 0x20 ∷ number) f
+
+-- the line feed, after a start and the words of a line
+pub end_line : (start first : List ℕ) (words : List (List ℕ)) {text all : List ℕ} → all ≡ text ++ 0x0A ∷ [] → text ≡ with_words (start ++ first) words → all ≡ start ++ line (first ∷ words)
+end_line start first words {text} {all} e f =
+    e ∙ ap (λ (l : List ℕ). l ++ 0x0A ∷ []) (f ∙ words_joined (start ++ first) words ∙ joined_after start first words)
+    ∙ append_assoc start (join_with_byte 0x20 (first ∷ words)) (0x0A ∷ [])
+
+-- one more text
+pub add_text : {old new text part same : List ℕ} → new ≡ old ++ part → old ≡ text → part ≡ same → new ≡ text ++ same
+add_text {old} {new} {text} {part} {same} e f g = e ∙ ap (λ (l : List ℕ). l ++ part) f ∙ ap (λ (l : List ℕ). text ++ l) g
+
+-- a word and three texts, the first after a `=` and the others after commas
+pub assigned : (start p x y z : List ℕ) → (((start ++ 0x20 ∷ p) ++ 0x3D ∷ x) ++ 0x2C ∷ y) ++ 0x2C ∷ z ≡ start ++ 0x20 ∷ (p ++ 0x3D ∷ (x ++ 0x2C ∷ (y ++ 0x2C ∷ z)))
+assigned start p x y z =
+    ap (λ (l : List ℕ). (l ++ 0x2C ∷ y) ++ 0x2C ∷ z) (append_assoc start (0x20 ∷ p) (0x3D ∷ x))
+    ∙ ap (λ (l : List ℕ). l ++ 0x2C ∷ z) (append_assoc start (0x20 ∷ (p ++ 0x3D ∷ x)) (0x2C ∷ y))
+    ∙ append_assoc start (0x20 ∷ ((p ++ 0x3D ∷ x) ++ 0x2C ∷ y)) (0x2C ∷ z)
+    ∙ ap (λ (l : List ℕ). start ++ 0x20 ∷ l) (append_assoc (p ++ 0x3D ∷ x) (0x2C ∷ y) (0x2C ∷ z) ∙ append_assoc p (0x3D ∷ x) ((0x2C ∷ y) ++ (0x2C ∷ z)))

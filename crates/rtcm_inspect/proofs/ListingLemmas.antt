@@ -1,0 +1,159 @@
+-- A listing as a consumer of frames.
+use Rattle.std.proofs.Common.{◌≡◌, ◌∙◌, ◌-◌, ◌<◌, ap, sym, subst, refl, arith, Bool, true, false, ℕ, List, [], ◌∷◌, ◌++◌, Option, append_assoc, append-nil, length, take}
+use Rattle.std.specs.Io.KnownBytes.{Appends, Keeps}
+use Rattle.std.proofs.lemmas.Grind.{flat_map-append}
+use Rattle.std.proofs.KnownBytes.{Appends-nil, Appends-trans, Appends-kept}
+use Rattle.rtcm_bits.specs.Device.{AppendsPrefix, Device, HasFailed}
+use Rattle.rtcm_bits.specs.Prefix.{IsPrefix}
+use Rattle.rtcm_scan.specs.Frames.{Framed}
+use Rattle.rtcm_scan.specs.Decided.{decided_frames}
+use Rattle.rtcm_scan.specs.Known.{known_frames}
+use Rattle.std.specs.Prelude.{⊤}
+use Rattle.rtcm_scan.specs.declared.feed.StreamFault.{StreamFault}
+use Rattle.rtcm_scan.specs.declared.feed.StreamFault.TheVariants as stream
+use Rattle.rtcm_inspect.specs.Devices.{HaveFailedBy, stream_fault}
+use Rattle.rtcm_scan.specs.Passing.{AtFault, BreaksReading, HasPassedAll, Passes, PassesAll, PassesToLimit, Reads}
+use Rattle.rtcm_scan.specs.Scan.{FramerValue}
+use Rattle.rtcm_inspect.specs.declared.listing.Listing.{Listing}
+use Rattle.rtcm_inspect.specs.Listing.{Lists, ListsAll, ListsDecided, StopsListing, ListsPart, ListsToLimit, ListsUpTo, listing_line, listing_lines}
+
+-- the lines of one more frame
+lines_more : (k : Listing) (fs : List Framed) (f : Framed) → listing_lines k (fs ++ f ∷ []) ≡ listing_lines k fs ++ listing_line k f
+lines_more k fs f = flat_map-append (listing_line k) fs (f ∷ []) ∙ ap (λ (l : List ℕ). listing_lines k fs ++ l) (append-nil (listing_line k f))
+
+-- the lines of a prefix of the frames are a prefix of the lines
+first_lines : (k : Listing) (fs gs : List Framed) → IsPrefix fs gs → IsPrefix (listing_lines k fs) (listing_lines k gs)
+first_lines k fs gs p = (listing_lines k p.0, ap (listing_lines k) p.1 ∙ flat_map-append (listing_line k) fs p.0)
+
+longer_prefix : (a b c : List ℕ) → IsPrefix a b → IsPrefix b c → IsPrefix a c
+longer_prefix a b c p q = (p.0 ++ q.0, q.1 ∙ ap (λ (l : List ℕ). l ++ q.0) p.1 ∙ append_assoc a p.0 q.0)
+
+whole_prefix : (a : List ℕ) → IsPrefix a a
+whole_prefix a = ([], sym (append-nil a))
+
+module _ {W : Type 0} (held : W → Option (List ℕ)) (k0 : Listing) (o0 : Device W) (ps : List Framed) where
+  -- a frame's line was written
+  pub one_more_listed : (k : Listing) (o o2 : Device W) (fs : List Framed) (f : Framed) → Appends (held o.inner) (held o2.inner) (listing_line k f) → o2.failures ≡ o.failures
+      → Lists held k0 o0 ps k o fs → Lists held k0 o0 ps k o2 (fs ++ f ∷ [])
+  one_more_listed k o o2 fs f line fine s =
+      let same : Appends (held o.inner) (held o2.inner) (listing_line k0 f) = subst (λ (x : Listing). Appends (held o.inner) (held o2.inner) (listing_line x f)) s.same line in
+      record {
+        same = s.same;
+        out = λ w a. subst (λ (l : List ℕ). Appends w (held o2.inner) l) (sym (lines_more k0 fs f))
+            (Appends-trans w (held o.inner) (held o2.inner) (listing_lines k0 fs) (listing_line k0 f) (s.out w a) same);
+        fine = fine ∙ s.fine;
+      }
+
+  -- a prefix of the line was written
+  pub stopped_at_line : (k : Listing) (o o2 : Device W) (fs : List Framed) (f : Framed) → AppendsPrefix (held o.inner) (held o2.inner) (listing_line k f) → HasFailed o.failures o2.failures
+      → Lists held k0 o0 ps k o fs → ListsUpTo held k0 o0 ps k o2 fs (fs ++ f ∷ [])
+  stopped_at_line k o o2 fs f line failed s =
+      let part : AppendsPrefix (held o.inner) (held o2.inner) (listing_line k0 f) = subst (λ (x : Listing). AppendsPrefix (held o.inner) (held o2.inner) (listing_line x f)) s.same line in
+      let rest : List ℕ = part.0 in
+      let sent : List ℕ = part.1.0 in
+      record {
+        out = λ w a. record {
+          out = listing_lines k0 fs ++ sent;
+          went = Appends-trans w (held o.inner) (held o2.inner) (listing_lines k0 fs) sent (s.out w a) part.1.2;
+          least = (sent, refl);
+          most = (rest, lines_more k0 fs f ∙ ap (λ (l : List ℕ). listing_lines k0 fs ++ l) part.1.1 ∙ sym (append_assoc (listing_lines k0 fs) sent rest));
+        };
+        failed = subst (λ (n : ℕ). HasFailed n o2.failures) s.fine failed;
+      }
+
+  -- the writer was flushed
+  pub sent_listed : (k : Listing) (o o2 : Device W) (fs : List Framed) → Keeps (held o.inner) (held o2.inner) → o2.failures ≡ o.failures → Lists held k0 o0 ps k o fs → Lists held k0 o0 ps k o2 fs
+  sent_listed k o o2 fs kept fine s = record {
+    same = s.same;
+    out = λ w a. Appends-kept w (held o.inner) (held o2.inner) (listing_lines k0 fs) (s.out w a) kept;
+    fine = fine ∙ s.fine;
+  }
+
+  -- the writer couldn't be flushed
+  pub unsent_listed : (k : Listing) (o o2 : Device W) (fs : List Framed) → Keeps (held o.inner) (held o2.inner) → HasFailed o.failures o2.failures → Lists held k0 o0 ps k o fs
+      → ListsUpTo held k0 o0 ps k o2 fs fs
+  unsent_listed k o o2 fs kept failed s = record {
+    out = λ w a. record {
+      out = listing_lines k0 fs;
+      went = Appends-kept w (held o.inner) (held o2.inner) (listing_lines k0 fs) (s.out w a) kept;
+      least = whole_prefix (listing_lines k0 fs);
+      most = whole_prefix (listing_lines k0 fs);
+    };
+    failed = subst (λ (n : ℕ). HasFailed n o2.failures) s.fine failed;
+  }
+
+-- ---- a stream that is listed from its start
+
+pub new_listing : {W : Type 0} (held : W → Option (List ℕ)) (k : Listing) (o : Device W) → Lists held k o [] k o []
+new_listing held k o = record { same = refl; out = λ w a. a; fine = refl }
+
+module _ {W : Type 0} (held : W → Option (List ℕ)) (v v2 : FramerValue) (k k2 : Listing) (o o2 : Device W) (r r2 : Option (List ℕ)) (new : HasPassedAll (Lists held) v k o [] k o []) where
+  written : (b : List ℕ) → Passes (Lists held) v k o v2 k2 o2 b → Appends (held o.inner) (held o2.inner) (listing_lines k (known_frames v2.has_ended b))
+  written b passes = (passes k o [] [] new).passed.taken.out (held o.inner) (Appends-nil (held o.inner))
+
+  -- to its end
+  pub listed_all : v2.has_ended ≡ true → PassesAll (Lists held) v k o v2 k2 o2 r r2 → ListsAll (listing_lines k) r r2 (held o.inner) (held o2.inner) × (o2.failures ≡ o.failures)
+  listed_all ended p =
+      let b : List ℕ = p.0.0 in
+      let out = subst (λ (e : Bool). Appends (held o.inner) (held o2.inner) (listing_lines k (known_frames e b))) ended (written b p.0.2) in
+      ((b, p.0.1, p.1, out), (p.0.2 k o [] [] new).passed.taken.fine)
+
+  -- up to a failed read
+  pub listed_some : v2.has_ended ≡ false → Reads r r2 (Passes (Lists held) v k o v2 k2 o2) → ListsDecided (listing_lines k) r r2 (held o.inner) (held o2.inner) × (o2.failures ≡ o.failures)
+  listed_some going p =
+      let out = subst (λ (e : Bool). Appends (held o.inner) (held o2.inner) (listing_lines k (known_frames e p.0))) going (written p.0 p.2) in
+      ((p.0, p.1, out), (p.2 k o [] [] new).passed.taken.fine)
+
+  -- up to the limit
+  pub listed_to_limit : (limit : ℕ) → v.limit ≡ limit → v.taken ≡ 0 → v2.has_ended ≡ false → Reads r r2 (PassesToLimit (Lists held) v k o v2 k2 o2)
+      → ListsToLimit limit (listing_lines k) r r2 (held o.inner) (held o2.inner) × (o2.failures ≡ o.failures)
+  listed_to_limit limit is none going p =
+      let front : List ℕ = take (v.limit - v.taken) p.0 in
+      let out = subst (λ (e : Bool). Appends (held o.inner) (held o2.inner) (listing_lines k (known_frames e front))) going (written front p.2.passes) in
+      let size : v.limit - v.taken ≡ limit = omega (arith, is, none) in
+      let over : limit < length p.0 = omega (arith, is, none, p.2.over) in (
+        (p.0, p.1, over, subst (λ (n : ℕ). Appends (held o.inner) (held o2.inner) (listing_lines k (decided_frames (take n p.0)))) size out),
+        (p.2.passes k o [] [] new).passed.taken.fine,
+      )
+
+  -- up to a piece at which the writer failed
+  pub listed_part : {n : ℕ} → n ≡ 65536 → v.has_ended ≡ false → BreaksReading (Lists held) (ListsUpTo held) v k o k2 o2 n r r2
+      → ListsPart (listing_lines k) r r2 (held o.inner) (held o2.inner) × HasFailed o.failures o2.failures
+  listed_part size going p =
+      let broke = p.breaks k o [] [] new in
+      let between = broke.broken.out (held o.inner) (Appends-nil (held o.inner)) in
+      let least = subst (λ (e : Bool). IsPrefix (listing_lines k (known_frames e p.front)) (listing_lines k broke.taken)) going (first_lines k (known_frames v.has_ended p.front) broke.taken broke.first) in (
+        record {
+          front = p.front;
+          piece = p.piece;
+          ended = p.ended;
+          consumes = p.consumes;
+          few = omega (arith, size, p.few);
+          at_end = p.at_end;
+          between = record {
+            out = between.out;
+            went = between.went;
+            least = longer_prefix _ _ between.out least between.least;
+            most = longer_prefix between.out _ _ between.most (first_lines k broke.reached (known_frames p.ended (p.front ++ p.piece)) broke.known);
+          };
+        },
+        broke.broken.failed,
+      )
+
+-- the listing was stopped by a fault
+pub listing_stopped : {R W F : Type 0} (left : R → Option (List ℕ)) (held : W → Option (List ℕ)) (waits : W → List ℕ) (v v2 : FramerValue) (k k2 : Listing) (o o2 : Device W) (rd rd2 : Device R)
+    (n limit : ℕ) (fault : StreamFault F) → n ≡ 65536 → v.limit ≡ limit → v.taken ≡ 0 → v.has_ended ≡ false → HasPassedAll (Lists held) v k o [] k o []
+    → AtFault fault (Reads (left rd.inner) (left rd2.inner) (Passes (Lists held) v k o v2 k2 o2)) (Reads (left rd.inner) (left rd2.inner) (PassesToLimit (Lists held) v k o v2 k2 o2))
+    (BreaksReading (Lists held) (ListsUpTo held) v k o k2 o2 n (left rd.inner) (left rd2.inner))
+    → AtFault fault (v2.has_ended ≡ false) (v2.has_ended ≡ false) ⊤ → AtFault fault (waits o2.inner ≡ []) (waits o2.inner ≡ []) ⊤
+    → AtFault fault (HasFailed rd.failures rd2.failures) (rd2.failures ≡ rd.failures) (rd2.failures ≡ rd.failures)
+    → HaveFailedBy (stream_fault fault) rd rd2 o o2 × StopsListing limit (listing_lines k) left rd rd2 held waits o o2 (stream_fault fault)
+listing_stopped left held waits v v2 k k2 o o2 rd rd2 n limit stream.Read size is none going new passed still sent failed =
+    let listed = listed_some held v v2 k k2 o o2 (left rd.inner) (left rd2.inner) new still passed in
+    ((failed, listed.1), (listed.0, sent))
+listing_stopped left held waits v v2 k k2 o o2 rd rd2 n limit stream.TooLong size is none going new passed still sent failed =
+    let listed = listed_to_limit held v v2 k k2 o o2 (left rd.inner) (left rd2.inner) new limit is none still passed in
+    ((failed, listed.1), (listed.0, sent))
+listing_stopped left held waits v v2 k k2 o o2 rd rd2 n limit (stream.Sink fault) size is none going new broke still sent failed =
+    let listed = listed_part held v v2 k k2 o o2 (left rd.inner) (left rd2.inner) new size going broke in
+    ((failed, listed.1), listed.0)

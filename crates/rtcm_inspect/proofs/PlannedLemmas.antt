@@ -1,0 +1,274 @@
+-- The plan of the signals of a stream has a column for each of its values, and their line is parsed as that plan.
+use Rattle.std.proofs.Common.{◌≡◌, ℕ, zero, suc, ◌+◌, ◌<◌, ◌≤◌, ◌==◌, ◌&&◌, ◌||◌, Bool, true, false, not, List, [], ◌∷◌, ◌++◌, length, refl, sym, ap, ap₂, ◌∙◌, subst, arith, filter, map, All, Some, None, Result, Ok, Err, nat_eq, get_or, append-nil, append_assoc, is_some}
+use Rattle.std.specs.Prelude.{cond, nat_lt, nat_le, position}
+use Rattle.std.specs.List.{list_any, position_or_len}
+use Rattle.std.specs.Str.{bytes_eq}
+use Rattle.std.proofs.lemmas.List.Elements.{filter-append}
+use Rattle.std.proofs.lemmas.List.Folds.{list_any-append}
+use Rattle.gnss_obs.specs.declared.system.System.{System}
+use Rattle.gnss_obs.specs.declared.system.System.TheVariants.{Gps, Galileo}
+use Rattle.gnss_obs.specs.Satellites.{satellites}
+use Rattle.gnss_obs.specs.Signals.{SignalAt, IsSignal, table, code_of, signal_of_code}
+use Rattle.gnss_obs.specs.declared.fault.PlanFault.{PlanFault}
+use Rattle.gnss_obs.specs.declared.fault.PlanFault.TheVariants.{RepeatedCode}
+use Rattle.obs_epoch.specs.Cells.{is_planned, has_listed_key}
+use Rattle.obs_epoch.specs.Heard.{GatherSetup}
+use Rattle.gnss_obs.specs.HeardCells.{HeardCell, IsKey}
+use Rattle.gnss_obs.specs.Plans.{below, place_in, between_commas, onto_first, one_signal_more, signals_after, signals_of, plan_of}
+use Rattle.gnss_obs.specs.Values.{planned_of}
+use Rattle.obs_epoch.specs.SignalCounts.{is_of_signal, count_of, signal_in}
+use Rattle.rtcm_inspect.specs.Signals.{had, plan_had, code_list, codes_word}
+use Rattle.rtcm_inspect.proofs.SignalLemmas.{own_signal}
+
+-- ---- rising indices
+
+-- rising indices from low on and below n
+abbrev Climbs : ℕ → ℕ → List ℕ → Type 0
+Climbs low n [] = Unit {0}
+Climbs low n (i ∷ is) = (low ≤ i) × (i < n) × Climbs (i + 1) n is
+
+climbs-push : (low n : ℕ) (is : List ℕ) → low ≤ n → Climbs low n is → Climbs low (suc n) (is ++ n ∷ [])
+climbs-push low n [] le h = (le, omega arith, tt)
+climbs-push low n (i ∷ is) le h = (h.0, omega (arith, h.1), climbs-push (i + 1) n is (omega (arith, h.1)) h.2)
+
+climbs-more : (low n : ℕ) (is : List ℕ) → Climbs low n is → Climbs low (suc n) is
+climbs-more low n [] h = tt
+climbs-more low n (i ∷ is) h = (h.0, omega (arith, h.1), climbs-more (i + 1) n is h.2)
+
+filter-climbs : (p : ℕ → Bool) (n : ℕ) → Climbs 0 n (filter p (below n))
+filter-climbs p zero = tt
+filter-climbs p (suc n) = subst (Climbs 0 (suc n)) (sym (filter-append p (below n) (n ∷ []))) (by (p n) (filter-climbs p n)) where
+  by : (b : Bool) → Climbs 0 n (filter p (below n)) → Climbs 0 (suc n) (filter p (below n) ++ cond b (n ∷ []) [])
+  by true h = climbs-push 0 n (filter p (below n)) (omega arith) h
+  by false h = subst (Climbs 0 (suc n)) (sym (append-nil (filter p (below n)))) (climbs-more 0 n (filter p (below n)) h)
+
+-- ---- codes between commas
+
+abbrev is_comma : ℕ → Bool
+is_comma b = b == 44
+
+-- the text begins with a digit or a smaller byte
+abbrev starts_low : List ℕ → Bool
+starts_low [] = false
+starts_low (b ∷ bs) = nat_lt b 58
+
+abbrev is_plain : List ℕ → Bool
+is_plain code = not (list_any is_comma code) && starts_low code
+
+abbrev each_below : (ℕ → Bool) → ℕ → Bool
+each_below p zero = true
+each_below p (suc n) = p n && each_below p n
+
+holds_below : (p : ℕ → Bool) (n i : ℕ) → each_below p n ≡ true → i < n → p i ≡ true
+holds_below p zero i h within = absurd (omega (arith, within))
+holds_below p (suc n) i h within = by (n == i) refl (p n) refl h (λ rest lt. holds_below p n i rest lt) where
+  same : (a b : ℕ) → (a == b) ≡ true → a ≡ b
+  same a b e = grind (arith, e)
+
+  less : (a b : ℕ) → (a == b) ≡ false → b < suc a → b < a
+  less a b e lt = let other : a ≡ b → ⊥ = λ is. absurd (grind (arith, e, is)) in omega (arith, lt, other)
+
+  by : (b : Bool) → (n == i) ≡ b → (c : Bool) → p n ≡ c → (c && each_below p n) ≡ true → (each_below p n ≡ true → i < n → p i ≡ true) → p i ≡ true
+  by true e true is h more = ap p (sym (same n i e)) ∙ is
+  by false e true is h more = more h (less n i e within)
+  by true e false is h more = absurd (grind (arith, h))
+  by false e false is h more = absurd (grind (arith, h))
+
+abbrev code_at : System → ℕ → List ℕ
+code_at system i = code_of (signal_in system i)
+
+all_plain : (system : System) → each_below (λ i. is_plain (code_at system i)) (length (table system)) ≡ true
+all_plain Gps = refl
+all_plain Galileo = refl
+
+and_left : (a b : Bool) → (not a && b) ≡ true → a ≡ false
+and_left true b h = absurd (grind (arith, h))
+and_left false b h = refl
+
+and_right : (a b : Bool) → (not a && b) ≡ true → b ≡ true
+and_right true b h = absurd (grind (arith, h))
+and_right false b h = h
+
+no_comma : (system : System) (i : ℕ) → i < length (table system) → list_any is_comma (code_at system i) ≡ false
+no_comma system i within = and_left _ _ (holds_below (λ i. is_plain (code_at system i)) (length (table system)) i (all_plain system) within)
+
+code_low : (system : System) (i : ℕ) → i < length (table system) → starts_low (code_at system i) ≡ true
+code_low system i within = and_right _ _ (holds_below (λ i. is_plain (code_at system i)) (length (table system)) i (all_plain system) within)
+
+last_code : (code : List ℕ) → list_any is_comma code ≡ false → between_commas code ≡ code ∷ []
+last_code [] h = refl
+last_code (b ∷ bs) h = by (b == 44) h (last_code bs) where
+  by : (c : Bool) → (c || list_any is_comma bs) ≡ false → (list_any is_comma bs ≡ false → between_commas bs ≡ bs ∷ []) → cond c ([] ∷ between_commas bs) (onto_first b (between_commas bs)) ≡ (b ∷ bs) ∷ []
+  by true h more = absurd (grind (arith, h))
+  by false h more = ap (onto_first b) (more h)
+
+first_code : (code rest : List ℕ) → list_any is_comma code ≡ false → between_commas (code ++ 44 ∷ rest) ≡ code ∷ between_commas rest
+first_code [] rest h = refl
+first_code (b ∷ bs) rest h = by (b == 44) h (first_code bs rest) where
+  by : (c : Bool) → (c || list_any is_comma bs) ≡ false → (list_any is_comma bs ≡ false → between_commas (bs ++ 44 ∷ rest) ≡ bs ∷ between_commas rest)
+      → cond c ([] ∷ between_commas (bs ++ 44 ∷ rest)) (onto_first b (between_commas (bs ++ 44 ∷ rest))) ≡ (b ∷ bs) ∷ between_commas rest
+  by true h more = absurd (grind (arith, h))
+  by false h more = ap (onto_first b) (more h)
+
+codes_apart : (system : System) (low i : ℕ) (is : List ℕ) → Climbs low (length (table system)) (i ∷ is) → between_commas (code_list system (i ∷ is)) ≡ map (code_at system) (i ∷ is)
+codes_apart system low i [] h = last_code (code_at system i) (no_comma system i h.1)
+codes_apart system low i (j ∷ is) h =
+    first_code (code_at system i) (code_list system (j ∷ is)) (no_comma system i h.1) ∙ ap (λ (l : List (List ℕ)). code_at system i ∷ l) (codes_apart system (i + 1) j is h.2)
+
+-- ---- the signals that codes name
+
+-- each signal is read back from its code
+abbrev pub CodesReadBack : Type 0
+CodesReadBack = (s : SignalAt) → IsSignal s → signal_of_code s.system (code_of s) ≡ Some s
+
+codes_read : CodesReadBack → (system : System) (earlier : List ℕ) (low : ℕ) (is : List ℕ) → Climbs low (length (table system)) is → ((j : ℕ) → low ≤ j → list_any (nat_eq j) earlier ≡ false)
+    → signals_after system earlier (map (code_at system) is) ≡ Ok (earlier ++ is)
+codes_read law system earlier low [] h new = ap Ok (sym (append-nil earlier))
+codes_read law system earlier low (i ∷ is) h new =
+    let after : List ℕ → Result (List ℕ) PlanFault = λ signals. signals_after system signals (map (code_at system) is) in
+    ap (λ o. one_signal_more system earlier o after) (law (signal_in system i) h.1)
+    ∙ ap (λ (b : Bool). cond b (Err (RepeatedCode system (length earlier))) (after (earlier ++ i ∷ []))) (new i h.0)
+    ∙ codes_read law system (earlier ++ i ∷ []) (i + 1) is h.2 (λ j le. newer j le) ∙ ap Ok (append_assoc earlier (i ∷ []) is)
+  where
+    unlike : (a b : ℕ) → b + 1 ≤ a → nat_eq a b ≡ false
+    unlike a b e = grind (arith, e)
+
+    newer : (j : ℕ) → i + 1 ≤ j → list_any (nat_eq j) (earlier ++ i ∷ []) ≡ false
+    newer j le = list_any-append (nat_eq j) earlier (i ∷ []) ∙ ap₂ (λ a b. a || (b || false)) (new j (omega (arith, le, h.0))) (unlike j i le)
+
+low-append : (xs ys : List ℕ) → starts_low xs ≡ true → starts_low (xs ++ ys) ≡ true
+low-append [] ys h = absurd (grind (arith, h))
+low-append (x ∷ xs) ys h = h
+
+list_low : (system : System) (low i : ℕ) (is : List ℕ) → Climbs low (length (table system)) (i ∷ is) → starts_low (code_list system (i ∷ is)) ≡ true
+list_low system low i [] h = code_low system i h.1
+list_low system low i (j ∷ is) h = low-append (code_at system i) (44 ∷ code_list system (j ∷ is)) (code_low system i h.1)
+
+no_word : (text : List ℕ) (first : ℕ) (rest : List ℕ) → starts_low text ≡ true → 58 ≤ first → bytes_eq text (first ∷ rest) ≡ false
+no_word [] first rest h le = absurd (grind (arith, h))
+no_word (b ∷ bs) first rest h le = ap (λ (c : Bool). c && bytes_eq bs rest) (unlike b first h le) where
+  unlike : (a b : ℕ) → nat_lt a 58 ≡ true → 58 ≤ b → (a == b) ≡ false
+  unlike a b h le = grind (arith, h, le)
+
+word_read : CodesReadBack → (system : System) (is : List ℕ) → Climbs 0 (length (table system)) is → signals_of system (codes_word system is) ≡ Ok is
+word_read law system [] h = refl
+word_read law system (i ∷ is) h =
+    let text : List ℕ = code_list system (i ∷ is) in
+    let all : List ℕ = below (length (table system)) in
+    let read : Result (List ℕ) PlanFault = signals_after system [] (between_commas text) in
+    ap₂ (λ (a b : Bool). cond a (Ok all) (cond b (Ok []) read)) (no_word text 97 (108 ∷ 108 ∷ []) (list_low system 0 i is h) (omega arith)) (no_word text 110 (111 ∷ 110 ∷ 101 ∷ []) (list_low system 0 i is h) (omega arith))
+    ∙ ap (signals_after system []) (codes_apart system 0 i is h) ∙ codes_read law system [] 0 (i ∷ is) h (λ j le. refl)
+
+-- ---- the plan has the signal of each cell
+
+count_in : (g : SignalAt) (cells : List HeardCell) (i : ℕ) (d : HeardCell) → i < length cells → is_of_signal g (get_or cells i d) ≡ true → 0 < count_of g cells
+count_in g [] i d within is = absurd (omega (arith, within))
+count_in g (x ∷ xs) zero d within is = subst (λ (b : Bool). 0 < length (cond b (x ∷ filter (is_of_signal g) xs) (filter (is_of_signal g) xs))) (sym is) (omega arith)
+count_in g (x ∷ xs) (suc i) d within is = by (is_of_signal g x) (count_in g xs i d (omega (arith, within)) is) where
+  by : (b : Bool) → 0 < count_of g xs → 0 < length (cond b (x ∷ filter (is_of_signal g) xs) (filter (is_of_signal g) xs))
+  by true h = omega arith
+  by false h = h
+
+among_filter : (p : ℕ → Bool) (n k : ℕ) → k < n → p k ≡ true → list_any (λ i. i == k) (filter p (below n)) ≡ true
+among_filter p zero k within is = absurd (omega (arith, within))
+among_filter p (suc n) k within is =
+    ap (list_any (λ i. i == k)) (filter-append p (below n) (n ∷ [])) ∙ list_any-append (λ i. i == k) (filter p (below n)) (filter p (n ∷ [])) ∙ by (n == k) refl (λ lt. among_filter p n k lt is)
+  where
+    same : (a b : ℕ) → (a == b) ≡ true → a ≡ b
+    same a b e = grind (arith, e)
+
+    less : (a b : ℕ) → (a == b) ≡ false → b < suc a → b < a
+    less a b e lt = let other : a ≡ b → ⊥ = λ is. absurd (grind (arith, e, is)) in omega (arith, lt, other)
+
+    or_true : (a : Bool) → (a || true) ≡ true
+    or_true true = refl
+    or_true false = refl
+
+    or_left : (a b : Bool) → a ≡ true → (a || b) ≡ true
+    or_left true b h = refl
+    or_left false b h = absurd (grind (arith, h))
+
+    last : (n == k) ≡ true → list_any (λ i. i == k) (filter p (n ∷ [])) ≡ true
+    last e = ap (λ (b : Bool). list_any (λ i. i == k) (cond b (n ∷ []) [])) (ap p (same n k e) ∙ is) ∙ ap (λ (b : Bool). b || false) e
+
+    by : (b : Bool) → (n == k) ≡ b → (k < n → list_any (λ i. i == k) (filter p (below n)) ≡ true) → (list_any (λ i. i == k) (filter p (below n)) || list_any (λ i. i == k) (filter p (n ∷ []))) ≡ true
+    by true e more = ap (λ (b : Bool). list_any (λ i. i == k) (filter p (below n)) || b) (last e) ∙ or_true (list_any (λ i. i == k) (filter p (below n)))
+    by false e more = or_left (list_any (λ i. i == k) (filter p (below n))) (list_any (λ i. i == k) (filter p (n ∷ []))) (more (less n k e within))
+
+-- a signal that has cells is in the list of those that have
+own_among : (cells : List HeardCell) (g : SignalAt) → IsSignal g → 0 < count_of g cells → list_any (λ i. i == g.index) (had cells g.system) ≡ true
+own_among cells g listed some = among_filter (λ i. nat_lt 0 (count_of (signal_in g.system i) cells)) (length (table g.system)) g.index listed (positive (count_of g cells) some) where
+  positive : (n : ℕ) → 0 < n → nat_lt 0 n ≡ true
+  positive n h = grind (arith, h)
+
+has_place : (test : ℕ → Bool) (xs : List ℕ) → nat_lt (position_or_len test xs) (length xs) ≡ list_any test xs
+has_place test [] = refl
+has_place test (x ∷ xs) = by (test x) (has_place test xs) where
+  first : (n : ℕ) → nat_lt 0 (suc n) ≡ true
+  first n = grind arith
+
+  later : (a b : ℕ) → nat_lt (1 + a) (suc b) ≡ nat_lt a b
+  later a b = grind arith
+
+  by : (b : Bool) → nat_lt (position_or_len test xs) (length xs) ≡ list_any test xs → nat_lt (cond (not b) (1 + position_or_len test xs) 0) (length (x ∷ xs)) ≡ (b || list_any test xs)
+  by true h = first (length xs)
+  by false h = later (position_or_len test xs) (length xs) ∙ h
+
+some_place : (test : ℕ → Bool) (xs : List ℕ) → list_any test xs ≡ true → is_some (position test xs) ≡ true
+some_place test xs h = by (nat_lt (position_or_len test xs) (length xs)) (has_place test xs ∙ h) where
+  by : (b : Bool) → b ≡ true → is_some (cond b (Some (position_or_len test xs)) None) ≡ true
+  by true e = refl
+  by false e = absurd (grind (arith, e))
+
+key_listed : (x : HeardCell) → IsKey x → has_listed_key x ≡ true
+key_listed x key =
+    ap₂ (λ a b. a && b) (ap₂ (λ a b. a && b) (positive x.satellite.id key.satellite.0) (few x.satellite.id (satellites x.satellite.system) key.satellite.1))
+    (less x.signal.index (length (table x.satellite.system)) (subst (λ (u : System). x.signal.index < length (table u)) key.same key.signal))
+  where
+    positive : (n : ℕ) → 1 ≤ n → nat_lt 0 n ≡ true
+    positive n h = grind (arith, h)
+
+    few : (a b : ℕ) → a ≤ b → nat_le a b ≡ true
+    few a b h = grind (arith, h)
+
+    less : (a b : ℕ) → a < b → nat_lt a b ≡ true
+    less a b h = grind (arith, h)
+
+had_in : (cells : List HeardCell) (system : System) → planned_of system (plan_had cells) ≡ had cells system
+had_in cells Gps = refl
+had_in cells Galileo = refl
+
+planned_one : (s : GatherSetup) (cells : List HeardCell) (x : HeardCell) → s.plan ≡ plan_had cells → IsKey x → 0 < count_of x.signal cells → is_planned s x ≡ true
+planned_one s cells x plan key some =
+    let same : planned_of x.satellite.system s.plan ≡ had cells x.signal.system = ap (planned_of x.satellite.system) plan ∙ had_in cells x.satellite.system ∙ ap (had cells) (sym key.same) in
+    let place : is_some (place_in x.signal (planned_of x.satellite.system s.plan)) ≡ true =
+    ap (λ (l : List ℕ). is_some (place_in x.signal l)) same ∙ some_place (λ i. i == x.signal.index) (had cells x.signal.system) (own_among cells x.signal key.signal some) in
+    ap₂ (λ a b. a && b) (key_listed x key) place
+
+pub all_planned : (s : GatherSetup) (cells : List HeardCell) → s.plan ≡ plan_had cells → All IsKey cells → All (λ x. is_planned s x ≡ true) cells
+all_planned s cells plan keys = λ k d within. planned_one s cells (get_or cells k d) plan (keys k d within) (count_in (get_or cells k d).signal cells k d within (own_signal (get_or cells k d)))
+
+-- ---- the line is read as the plan
+
+some_had : (xs : List ℕ) (k : ℕ) → list_any (λ i. i == k) xs ≡ true → xs ≡ [] → ⊥
+some_had [] k h e = absurd (grind (arith, h))
+some_had (x ∷ xs) k h e = absurd (let bad : suc (length xs) ≡ 0 = ap length e in omega (arith, bad))
+
+plan_from : (g e gps galileo : List ℕ) → signals_of Gps g ≡ Ok gps → signals_of Galileo e ≡ Ok galileo → (gps ≡ [] → galileo ≡ [] → ⊥) → plan_of g e ≡ Ok (record { gps = gps; galileo = galileo })
+plan_from g e [] [] a b h = absurd (h refl refl)
+plan_from g e [] (x ∷ xs) a b h = rw (a, b) refl
+plan_from g e (p ∷ ps) gs a b h = rw (a, b) refl
+
+pub plan_read : CodesReadBack → (cells : List HeardCell) → 0 < length cells → All IsKey cells → plan_of (codes_word Gps (had cells Gps)) (codes_word Galileo (had cells Galileo)) ≡ Ok (plan_had cells)
+plan_read law [] some keys = absurd (omega (arith, some))
+plan_read law (x ∷ xs) some keys =
+    let cells : List HeardCell = x ∷ xs in
+    let key : IsKey x = keys 0 x (omega arith) in
+    let among = own_among cells x.signal key.signal (count_in x.signal cells 0 x (omega arith) (own_signal x)) in
+    plan_from (codes_word Gps (had cells Gps)) (codes_word Galileo (had cells Galileo)) (had cells Gps) (had cells Galileo)
+    (word_read law Gps (had cells Gps) (filter-climbs (λ i. nat_lt 0 (count_of (signal_in Gps i) cells)) (length (table Gps))))
+    (word_read law Galileo (had cells Galileo) (filter-climbs (λ i. nat_lt 0 (count_of (signal_in Galileo i) cells)) (length (table Galileo)))) (none x.signal.system x.signal.index among)
+  where
+    none : (s : System) (k : ℕ) → list_any (λ i. i == k) (had (x ∷ xs) s) ≡ true → had (x ∷ xs) Gps ≡ [] → had (x ∷ xs) Galileo ≡ [] → ⊥
+    none Gps k h a b = some_had (had (x ∷ xs) Gps) k h a
+    none Galileo k h a b = some_had (had (x ∷ xs) Galileo) k h b

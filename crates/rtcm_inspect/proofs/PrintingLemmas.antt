@@ -1,0 +1,64 @@
+-- Texts written in one call, and failed calls.
+use Rattle.std.proofs.Common.{◌≡◌, ◌∙◌, inl, inr, sym, subst, append-nil, refl, ℕ, List, [], Option, Result, Ok, Err, OnErr, OnOk}
+use Rattle.std.specs.Io.KnownBytes.{Appends, Keeps}
+use Rattle.std.proofs.KnownBytes.{Appends-kept, Appends-nil, Appends-trans}
+use Rattle.rtcm_bits.specs.Device.{AppendsPrefix, Device, FailsWith, HasFailed}
+use Rattle.rtcm_bits.specs.declared.counted.DeviceFailed.{DeviceFailed}
+use Rattle.std.specs.Prelude.{⊤}
+use Rattle.std.specs.Result.{IsErrAnd}
+use Rattle.rtcm_inspect.specs.Listing.{WritesLine}
+use Rattle.rtcm_inspect.specs.Printing.{EndsPrinting, PrintsLine}
+use Rattle.rtcm_inspect.specs.declared.fault.InspectFault.{InspectFault}
+
+pub on_err : {A E : Type 0} (r : Result A E) (P Q : Type 0) → (P → Q) → OnErr r P → OnErr r Q
+on_err (Ok x) P Q f p = p
+on_err (Err e) P Q f p = f p
+
+pub on_ok : {A E : Type 0} (r : Result A E) (P Q : Type 0) → (P → Q) → OnOk r P → OnOk r Q
+on_ok (Ok x) P Q f p = f p
+on_ok (Err e) P Q f p = p
+
+pub both_ok : {A E : Type 0} (r : Result A E) (P Q : Type 0) → OnOk r P → OnOk r Q → OnOk r (P × Q)
+both_ok (Ok x) P Q p q = (p, q)
+both_ok (Err e) P Q p q = tt
+
+pub both_err : {A E : Type 0} (r : Result A E) (P Q : Type 0) → OnErr r P → OnErr r Q → OnErr r (P × Q)
+both_err (Ok x) P Q p q = tt
+both_err (Err e) P Q p q = (p, q)
+
+-- a text that was written but couldn't be flushed
+pub kept_front : (a b c : Option (List ℕ)) (text : List ℕ) → Appends a b text → Keeps b c → AppendsPrefix a c text
+kept_front a b c text h k = ([], (text, sym (append-nil text), Appends-kept a b c text h k))
+
+-- a line that was written, in whole or in part
+pub line_printed : {E : Type 0} (r : Result ⊤ DeviceFailed) (told : E → Option (List ℕ)) (e e2 : Device E) (text : List ℕ) → OnOk r (Appends (told e.inner) (told e2.inner) text)
+    → OnErr r (AppendsPrefix (told e.inner) (told e2.inner) text) → FailsWith r e e2 → PrintsLine told e e2 text
+line_printed (Ok u) told e e2 text whole part device = inl (device.1, whole)
+line_printed (Err failed) told e e2 text whole part device = inr (device.0, part)
+
+kept_appends : (a b c : Option (List ℕ)) (text : List ℕ) → Keeps a b → Appends b c text → Appends a c text
+kept_appends a b c text k h = Appends-trans a b c [] text (Appends-kept a a b [] (Appends-nil a) k) h
+
+-- nothing is a prefix of each text
+pub kept_none : (a b : Option (List ℕ)) (text : List ℕ) → Keeps a b → AppendsPrefix a b text
+kept_none a b text k = (text, ([], refl, Appends-kept a a b [] (Appends-nil a) k))
+
+-- a text that was written after a delivery
+pub printed_later : {A W : Type 0} (r : Result A InspectFault) (held : W → Option (List ℕ)) (waits : W → List ℕ) (w w1 w2 : Device W) (text : List ℕ) → w1.failures ≡ w.failures → Keeps (held w.inner) (held w1.inner)
+    → EndsPrinting r held waits w1 w2 text → EndsPrinting r held waits w w2 text
+printed_later (Ok x) held waits w w1 w2 text same kept h = (h.0 ∙ same, h.1, kept_appends _ _ _ text kept h.2)
+printed_later (Err fault) held waits w w1 w2 text same kept h =
+    let prefix = h.1.1 in
+    (h.0, (subst (λ (n : ℕ). HasFailed n w2.failures) same h.1.0, (prefix.0, (prefix.1.0, prefix.1.1, kept_appends _ _ _ prefix.1.0 kept prefix.1.2))))
+
+-- the same text in other terms
+pub same_text : {A W : Type 0} (r : Result A InspectFault) (held : W → Option (List ℕ)) (waits : W → List ℕ) (w w2 : Device W) (x y : List ℕ) → x ≡ y → EndsPrinting r held waits w w2 x → EndsPrinting r held waits w w2 y
+same_text r held waits w w2 x y e h = subst (EndsPrinting r held waits w w2) e h
+
+pub line_written : {W : Type 0} (r : Result ⊤ DeviceFailed) (held : W → Option (List ℕ)) (w w2 : Device W) (x y : List ℕ) → x ≡ y → WritesLine r held w w2 x → WritesLine r held w w2 y
+line_written r held w w2 x y e h = subst (WritesLine r held w w2) e h
+
+-- an error that `?` returns
+pub passed : {A E : Type 0} (r : Result A E) (e : E) (P : Result A E → Type 0) → IsErrAnd r (λ y. y ≡ e) → P (Err e) → P r
+passed (Ok x) e P is h = absurd is
+passed (Err y) e P is h = subst (λ z. P (Err z)) (sym is) h

@@ -1,0 +1,36 @@
+-- The line of a message.
+use Rattle.std.proofs.Common.{◌≡◌, ◌∙◌, ap, sym, ℕ, ℤ, pos, negsuc, List, Result, Ok, FitsSigned, w64, to_z, of_z, arith, refl}
+use Rattle.std.proofs.lemmas.Int.{to_z-of_z}
+use Rattle.rtcm_bits.specs.Bits.{FitsInt}
+use Rattle.rtcm_scan.specs.Frames.{Framed}
+use Rattle.rtcm_msg.specs.declared.fault.MsgFault.{MsgFault}
+use Rattle.rtcm_msg.specs.declared.message.Message.{Message}
+use Rattle.rtcm_msg.specs.Decoding.{message_at}
+use Rattle.rtcm_msg.specs.declared.view.Form.{Form}
+use Rattle.rtcm_msg.specs.declared.view.Form.TheVariants as forms
+use Rattle.rtcm_msg.specs.Msm.{MsmValue}
+use Rattle.rtcm_msg.specs.Views.{FormedMsm, formed, message_in, message_number}
+use Rattle.rtcm_inspect.specs.ShowLines.{show_line, read_line, msm_line}
+
+pub shown : (f : Framed) (r : Result Message MsgFault) {bytes : List ℕ} → bytes ≡ f.message → message_at bytes ≡ r → show_line f ≡ read_line f r
+unfolding show_line
+shown f r {bytes} e h = ap (read_line f) (sym (ap message_at e) ∙ h)
+
+pub shown_value : (f : Framed) (v m : Message) {bytes : List ℕ} → bytes ≡ f.message → message_at bytes ≡ Ok v → v ≡ m → show_line f ≡ read_line f (Ok m)
+shown_value f v m e h same = shown f (Ok m) e (h ∙ ap (λ (x : Message). Ok x) same)
+
+-- the line of an MSM of either form
+pub shown_msm : (f : Framed) (m : FormedMsm) → read_line f (Ok (formed m)) ≡ msm_line f.offset (message_number m.form m.msm.is_galileo) m.msm
+shown_msm f m = by_form m.form m.msm
+  where
+    by_form : (form : Form) (v : MsmValue) → read_line f (Ok (message_in form v)) ≡ msm_line f.offset (message_number form v.is_galileo) v
+    by_form forms.Msm4 v = refl
+    by_form forms.Msm7 v = refl
+
+-- a coordinate as a parameter
+pub as_passed : (z : ℤ) → FitsInt 38 z → to_z w64 (of_z w64 z) ≡ z
+as_passed z h = to_z-of_z w64 z (fits z h)
+  where
+    fits : (z : ℤ) → FitsInt 38 z → FitsSigned w64 z
+    fits (pos n) h = omega arith
+    fits (negsuc n) h = omega arith

@@ -1,0 +1,156 @@
+-- The text of the signals of a stream, signal by signal.
+use Rattle.std.proofs.Common.{◌≡◌, ℕ, zero, suc, ◌+◌, ◌<◌, ◌≤◌, ◌==◌, ◌&&◌, ◌||◌, All, Result, Ok, OnOk, Bool, true, false, List, [], ◌∷◌, ◌++◌, length, get_or, refl, sym, ap, ap₂, ◌∙◌, subst, arith, filter, map, append-nil, append_assoc}
+use Rattle.std.proofs.lemmas.List.{map-append}
+use Rattle.std.proofs.lemmas.Grind.{flat_map-append}
+use Rattle.std.specs.Prelude.{cond, nat_lt, codes}
+use Rattle.std.specs.List.{list_any}
+use Rattle.std.proofs.lemmas.List.Elements.{All-head, filter-append}
+use Rattle.std.proofs.lemmas.List.Sums.{length-filter, count_by-le-length}
+use Rattle.gnss_obs.specs.Satellites.{is_system}
+use Rattle.gnss_obs.specs.declared.system.System.TheVariants.{Gps, Galileo}
+use Rattle.std.specs.List.{flat_map, join_with_byte}
+use Rattle.gnss_obs.specs.declared.system.System.{System}
+use Rattle.gnss_obs.specs.Signals.{table, code_of}
+use Rattle.gnss_obs.specs.Plans.{below}
+use Rattle.obs_epoch.specs.SignalCounts.{SignalCountsValue, AreSignalCounts, counted, has_any, signal_in, count_of, is_of_signal}
+use Rattle.rtcm_inspect.specs.Signals.{had_below, had, code_list, codes_word, count_line, lines_below}
+use Rattle.gnss_obs.specs.HeardCells.{IsKey, HeardCell}
+
+below-more : (i : ℕ) → below (i + 1) ≡ below i ++ i ∷ []
+below-more i = let e : i + 1 ≡ suc i = omega arith in rw e refl
+
+-- one more signal of the table: it is in the list if it has cells
+had_more : (c : SignalCountsValue) (cells : List HeardCell) (system : System) (i n : ℕ) → AreSignalCounts c cells → i < length (table system) → n ≡ counted c system i
+    → had_below cells system (i + 1) ≡ had_below cells system i ++ cond (nat_lt 0 n) (i ∷ []) []
+had_more c cells system i n h within is =
+    ap (filter (λ i. nat_lt 0 (count_of (signal_in system i) cells))) (below-more i) ∙ filter-append (λ i. nat_lt 0 (count_of (signal_in system i) cells)) (below i) (i ∷ [])
+    ∙ ap (λ (m : ℕ). had_below cells system i ++ cond (nat_lt 0 m) (i ∷ []) []) (sym (is ∙ h.each system i within))
+
+positive : (n : ℕ) → 0 < n → nat_lt 0 n ≡ true
+positive n h = grind (arith, h)
+
+zero_count : (n : ℕ) → n ≤ 0 → nat_lt 0 n ≡ false
+zero_count n h = grind (arith, h)
+
+pub had_one : (c : SignalCountsValue) (cells : List HeardCell) (system : System) (i n : ℕ) → AreSignalCounts c cells → i < length (table system) → n ≡ counted c system i → 0 < n
+    → had_below cells system (i + 1) ≡ had_below cells system i ++ i ∷ []
+had_one c cells system i n h within is some = had_more c cells system i n h within is ∙ ap (λ (b : Bool). had_below cells system i ++ cond b (i ∷ []) []) (positive n some)
+
+pub had_none : (c : SignalCountsValue) (cells : List HeardCell) (system : System) (i n : ℕ) → AreSignalCounts c cells → i < length (table system) → n ≡ counted c system i → n ≤ 0
+    → had_below cells system (i + 1) ≡ had_below cells system i
+had_none c cells system i n h within is none =
+    had_more c cells system i n h within is ∙ ap (λ (b : Bool). had_below cells system i ++ cond b (i ∷ []) []) (zero_count n none) ∙ append-nil (had_below cells system i)
+
+-- ---- the codes of a system
+
+-- after a start: nothing, or a blank and codes separated by commas
+abbrev pub IsPartly : (start text : List ℕ) (separator : ℕ) (system : System) → List ℕ → Type 0
+IsPartly start text separator system [] = (text ≡ start) × (separator ≡ 0x20)
+IsPartly start text separator system (i ∷ is) = (text ≡ start ++ 0x20 ∷ code_list system (i ∷ is)) × (separator ≡ 0x2C)
+
+join-push : (x : List ℕ) (xs : List (List ℕ)) (y : List ℕ) → join_with_byte 0x2C (x ∷ xs ++ y ∷ []) ≡ join_with_byte 0x2C (x ∷ xs) ++ 0x2C ∷ y
+join-push x [] y = refl
+join-push x (z ∷ xs) y = ap (λ (l : List ℕ). x ++ 0x2C ∷ l) (join-push z xs y) ∙ sym (append_assoc x (0x2C ∷ join_with_byte 0x2C (z ∷ xs)) (0x2C ∷ y))
+
+codes-push : (system : System) (i : ℕ) (is : List ℕ) (j : ℕ) → code_list system (i ∷ is ++ j ∷ []) ≡ code_list system (i ∷ is) ++ 0x2C ∷ code_of (signal_in system j)
+codes-push system i is j =
+    ap (λ (l : List (List ℕ)). join_with_byte 0x2C (code_of (signal_in system i) ∷ l)) (map-append (λ i. code_of (signal_in system i)) is (j ∷ []))
+    ∙ join-push (code_of (signal_in system i)) (map (λ i. code_of (signal_in system i)) is) (code_of (signal_in system j))
+
+-- one more code
+pub partly_more : (start text more code : List ℕ) (separator : ℕ) (system : System) (is : List ℕ) (j : ℕ) → IsPartly start text separator system is → more ≡ text ++ separator ∷ code
+    → code ≡ code_of (signal_in system j) → IsPartly start more 0x2C system (is ++ j ∷ [])
+partly_more start text more code separator system [] j h e same =
+    (e ∙ ap₂ (λ (l : List ℕ) (s : ℕ). l ++ s ∷ code) h.0 h.1 ∙ ap (λ (l : List ℕ). start ++ 0x20 ∷ l) same, refl)
+partly_more start text more code separator system (i ∷ is) j h e same = (
+  e ∙ ap₂ (λ (l : List ℕ) (s : ℕ). l ++ s ∷ code) h.0 h.1 ∙ append_assoc start (0x20 ∷ code_list system (i ∷ is)) (0x2C ∷ code)
+      ∙ ap (λ (l : List ℕ). start ++ 0x20 ∷ (code_list system (i ∷ is) ++ 0x2C ∷ l)) same ∙ ap (λ (l : List ℕ). start ++ 0x20 ∷ l) (sym (codes-push system i is j)),
+  refl,
+)
+
+-- the word with codes, or the word for none
+pub word_some : (start text : List ℕ) (separator : ℕ) (system : System) (is : List ℕ) → IsPartly start text separator system is → (separator ≡ 0x20 → ⊥) → text ≡ start ++ 0x20 ∷ codes_word system is
+word_some start text separator system [] h other = absurd (other h.1)
+word_some start text separator system (i ∷ is) h other = h.0
+
+pub word_none : (start text more : List ℕ) (separator : ℕ) (system : System) (is : List ℕ) → IsPartly start text separator system is → separator ≡ 0x20 → more ≡ text ++ 0x20 ∷ codes "none"
+    → more ≡ start ++ 0x20 ∷ codes_word system is
+word_none start text more separator system [] h blank e = e ∙ ap (λ (l : List ℕ). l ++ 0x20 ∷ codes "none") h.0
+word_none start text more separator system (i ∷ is) h blank e = absurd (let bad : 0x2C ≡ 0x20 = sym h.1 ∙ blank in omega (arith, bad))
+
+-- ---- a line for each signal
+
+pub lines_one : (c : SignalCountsValue) (cells : List HeardCell) (system : System) (i n : ℕ) (start text more line : List ℕ) → AreSignalCounts c cells → i < length (table system) → n ≡ counted c system i → 0 < n
+    → text ≡ start ++ lines_below cells system i → more ≡ text ++ line → line ≡ count_line (signal_in system i) n → more ≡ start ++ lines_below cells system (i + 1)
+lines_one c cells system i n start text more line h within is some before e same =
+    let f = λ (i : ℕ). count_line (signal_in system i) (count_of (signal_in system i) cells) in
+    let last : line ≡ f i ++ [] = same ∙ ap (count_line (signal_in system i)) (is ∙ h.each system i within) ∙ sym (append-nil (f i)) in
+    e ∙ ap₂ (λ (a b : List ℕ). a ++ b) before last ∙ append_assoc start (lines_below cells system i) (f i ++ [])
+    ∙ ap (λ (l : List ℕ). start ++ l) (sym (flat_map-append f (had_below cells system i) (i ∷ [])) ∙ ap (flat_map f) (sym (had_one c cells system i n h within is some)))
+
+pub lines_none : (c : SignalCountsValue) (cells : List HeardCell) (system : System) (i n : ℕ) (start text : List ℕ) → AreSignalCounts c cells → i < length (table system) → n ≡ counted c system i → n ≤ 0
+    → text ≡ start ++ lines_below cells system i → text ≡ start ++ lines_below cells system (i + 1)
+lines_none c cells system i n start text h within is none before =
+    before ∙ ap (λ (l : List ℕ). start ++ flat_map (λ (i : ℕ). count_line (signal_in system i) (count_of (signal_in system i) cells)) l) (sym (had_none c cells system i n h within is none))
+
+-- at the end of the table, all its signals were processed
+pub at_end : (system : System) (cells : List HeardCell) (i n : ℕ) → n ≡ length (table system) → i ≤ n → n ≤ i → had_below cells system i ≡ had cells system
+at_end system cells i n is within end = let e : i ≡ length (table system) = omega (arith, is, within, end) in ap (had_below cells system) e
+
+pub of_ok : {A E : Type 0} (r : Result A E) (u : A) (P : Type 0) → r ≡ Ok u → OnOk r P → P
+of_ok r u P e h = subst (λ q. OnOk q P) e h
+
+-- ---- whether there is a cell of any signal
+
+any_some : (xs : List ℕ) → list_any (λ n. nat_lt 0 n) xs ≡ true → (i : ℕ) × (i < length xs) × (0 < get_or xs i 0)
+any_some [] h = absurd (grind (arith, h))
+any_some (x ∷ xs) h = by (nat_lt 0 x) refl h (any_some xs) where
+  by : (b : Bool) → nat_lt 0 x ≡ b → (b || list_any (λ n. nat_lt 0 n) xs) ≡ true → (list_any (λ n. nat_lt 0 n) xs ≡ true → (i : ℕ) × (i < length xs) × (0 < get_or xs i 0))
+      → (i : ℕ) × (i < length (x ∷ xs)) × (0 < get_or (x ∷ xs) i 0)
+  by true t h more = (0, omega arith, grind (arith, t))
+  by false t h more = (let m = more h in (suc m.0, omega (arith, m.1), m.2))
+
+any_none : (xs : List ℕ) → list_any (λ n. nat_lt 0 n) xs ≡ false → (i : ℕ) → get_or xs i 0 ≡ 0
+any_none [] h i = refl
+any_none (x ∷ xs) h i = by (nat_lt 0 x) refl h (λ rest i. any_none xs rest i) i where
+  by : (b : Bool) → nat_lt 0 x ≡ b → (b || list_any (λ n. nat_lt 0 n) xs) ≡ false → (list_any (λ n. nat_lt 0 n) xs ≡ false → (i : ℕ) → get_or xs i 0 ≡ 0) → (i : ℕ) → get_or (x ∷ xs) i 0 ≡ 0
+  by true t h more i = absurd (grind (arith, h))
+  by false t h more zero = grind (arith, t)
+  by false t h more (suc i) = more h i
+
+-- if some signal has a cell, there is a cell
+pub some_cells : (c : SignalCountsValue) (cells : List HeardCell) → AreSignalCounts c cells → has_any c ≡ true → 0 < length cells
+some_cells c cells h any = by (list_any (λ n. nat_lt 0 n) c.gps) refl any where
+  found : (system : System) (i : ℕ) → i < length (table system) → 0 < counted c system i → 0 < length cells
+  found system i within some = omega (arith, h.each system i within, some, length-filter (is_of_signal (signal_in system i)) cells, count_by-le-length (is_of_signal (signal_in system i)) cells)
+
+  by : (b : Bool) → list_any (λ n. nat_lt 0 n) c.gps ≡ b → (b || list_any (λ n. nat_lt 0 n) c.galileo) ≡ true → 0 < length cells
+  by true t any = let m = any_some c.gps t in (let within : m.0 < length (table Gps) = omega (arith, m.1, h.gps) in found Gps m.0 within m.2)
+  by false t any = let m = any_some c.galileo any in (let within : m.0 < length (table Galileo) = omega (arith, m.1, h.galileo) in found Galileo m.0 within m.2)
+
+pub own_signal : (x : HeardCell) → is_of_signal x.signal x ≡ true
+own_signal x = by x.signal.system where
+  same : (n : ℕ) → (n == n) ≡ true
+  same n = grind arith
+
+  by : (s : System) → (is_system s s && (x.signal.index == x.signal.index)) ≡ true
+  by Gps = same x.signal.index
+  by Galileo = same x.signal.index
+
+-- if no signal has a cell, there is no cell
+pub no_cells : (c : SignalCountsValue) (cells : List HeardCell) → AreSignalCounts c cells → All IsKey cells → has_any c ≡ false → cells ≡ []
+no_cells c [] h keys none = refl
+no_cells c (x ∷ xs) h keys none = by (list_any (λ n. nat_lt 0 n) c.gps) refl none where
+  key : IsKey x
+  key = All-head IsKey x xs keys
+
+  counts : count_of x.signal (x ∷ xs) ≡ suc (count_of x.signal xs)
+  counts = ap (λ (b : Bool). length (cond b (x ∷ filter (is_of_signal x.signal) xs) (filter (is_of_signal x.signal) xs))) (own_signal x)
+
+  zeros : list_any (λ n. nat_lt 0 n) c.gps ≡ false → list_any (λ n. nat_lt 0 n) c.galileo ≡ false → (s : System) (i : ℕ) → counted c s i ≡ 0
+  zeros a b Gps i = any_none c.gps a i
+  zeros a b Galileo i = any_none c.galileo b i
+
+  by : (b : Bool) → list_any (λ n. nat_lt 0 n) c.gps ≡ b → (b || list_any (λ n. nat_lt 0 n) c.galileo) ≡ false → x ∷ xs ≡ []
+  by true t none = absurd (grind (arith, none))
+  by false t none = absurd (omega (arith, h.each x.signal.system x.signal.index key.signal, counts, zeros t none x.signal.system x.signal.index))

@@ -1,0 +1,24 @@
+use Rattle.std.proofs.Common.{◌∙◌, [], ◌∷◌, ap, decimal, count_ones}
+use Rattle.rtcm_bits.specs.Bits.{bit}
+use Rattle.rtcm_msg.specs.declared.header.MsmHeader.{MsmHeader}
+use Rattle.rtcm_msg.specs.Msm.{MasksValue}
+use Rattle.rtcm_msg.specs.Views.{message_number as number_of}
+use Rattle.rtcm_inspect.specs.ShowLines.{msm_line}
+use Rattle.rtcm_inspect.proofs.LineLemmas.{add_word, end_line}
+use Rattle.rtcm_inspect.proofs.listing.add_msm.Goals as goal
+
+pub returns : goal.returns
+unfolding msm_line
+returns c =
+    let form = c.args.msm.now.form in
+    let m = c.args.msm.now.msm in
+    let h = c.header-header.ensures.value in
+    let number = add_word c.add_number.ensures.text c.put_number.ensures.text (ap decimal c.number.ensures.value) in
+    let station = add_word c.add_number-2.ensures.text number (ap decimal (ap (λ (x : MsmHeader). x.station) h)) in
+    let time = add_word c.add_number-3.ensures.text station (ap decimal (ap (λ (x : MsmHeader). x.time) h)) in
+    let more = add_word c.add_number-4.ensures.text time (ap decimal (c.from.ensures ∙ ap (λ (x : MsmHeader). bit x.more) h)) in
+    let satellites = add_word c.add_number-5.ensures.text more (ap decimal c.satellites.ensures.set) in
+    let signals = add_word c.add_number-6.ensures.text satellites (ap decimal (ap count_ones (c.signals.ensures ∙ ap (λ (x : MasksValue). x.signals) c.masks.ensures))) in
+    let cells = add_word c.add_number-7.ensures.text signals (ap decimal c.cells.ensures.set) in
+    end_line c.args.line.now (decimal c.args.offset) (decimal (number_of form m.is_galileo) ∷ decimal m.header.station ∷ decimal m.header.time ∷ decimal (bit m.header.more)
+    ∷ decimal (count_ones m.sets.satellites) ∷ decimal (count_ones m.sets.signals) ∷ decimal (count_ones m.sets.cells) ∷ []) c.finish.ensures cells

@@ -1,0 +1,46 @@
+use Rattle.std.proofs.Common.{◌≡◌, ◌∙◌, ◌+◌, ◌*◌, ◌≤◌, ◌<◌, ap, sym, arith, ℕ, List, length}
+use Rattle.gnss_obs.specs.Signals.{table}
+use Rattle.rtcm_inspect.specs.Signals.{had_below}
+use Rattle.rtcm_inspect.proofs.SignalLemmas.{partly_more, had_one, had_none, word_some, word_none, at_end}
+use Rattle.rtcm_inspect.proofs.signals.add_codes.Goals as goal
+use Rattle.rtcm_inspect.proofs.signals.add_codes.Goals.{then-count-gt0, else-count-gt0}
+
+within : (i n m : ℕ) → i < n → n ≡ m → i < m
+within i n m a b = omega (arith, a, b)
+
+longer : (a b c start i : ℕ) → a ≡ b + c + 1 → c ≡ 2 → b ≤ start + 3 * i → a ≤ start + 3 * (i + 1)
+longer a b c start i x y z = omega (arith, x, y, z)
+
+same_long : (b start i : ℕ) → b ≤ start + 3 * i → b ≤ start + 3 * (i + 1)
+same_long b start i z = omega (arith, z)
+
+pub loop-index-preserved : goal.loop-index-preserved
+loop-index-preserved c =
+    let system = c.args.system in
+    let i : ℕ = c.loop-index.index in
+    let start : List ℕ = c.args.line.now in
+    let there : i < length (table system) = within i c.signals-index-end.result (length (table system)) c.loop-index-test.true c.signals-index-end.ensures.value in
+    record {
+      text = λ cells h. elim c.if-count-gt0.branch [
+        | then-count-gt0 w ↦ (let more = partly_more start c.loop-index.line w.add_part.new.self w.as_slice.result.now c.loop-index.separator system (had_below cells system i) i (c.loop-index.invariant.text cells h)
+            w.add_part.ensures.text (w.as_slice.ensures ∙ w.code_at.ensures.value) in
+            rw (w.line-is, w.separator-is, had_one c.args.signal_counts.now cells system i c.count.result h there c.count.ensures w.if-count-gt0.true) more)
+        | else-count-gt0 w ↦ rw (w.line-is, w.separator-is, had_none c.args.signal_counts.now cells system i c.count.result h there c.count.ensures w.if-count-gt0.false) (c.loop-index.invariant.text cells h)
+      ];
+      short = elim c.if-count-gt0.branch [
+        | then-count-gt0 w ↦ rw w.line-is (longer (length w.add_part.new.self) (length c.loop-index.line) (length w.as_slice.result.now) (length start) i w.add_part.ensures.short
+            (ap length w.as_slice.ensures ∙ w.code_at.ensures.short) c.loop-index.invariant.short)
+        | else-count-gt0 w ↦ rw w.line-is (same_long (length c.loop-index.line) (length start) i c.loop-index.invariant.short)
+      ];
+    }
+
+pub returns-then-separator-eq32-clause-text : goal.returns-then-separator-eq32-clause-text
+returns-then-separator-eq32-clause-text c = λ cells h.
+    let all = at_end c.args.system cells c.loop-index.index c.signals-index-end.result c.signals-index-end.ensures.value c.loop-index.auto.index-end c.loop-index-test.false in
+    rw (sym all) (word_none c.args.line.now c.loop-index.line c.add_word.new.self c.loop-index.separator c.args.system (had_below cells c.args.system c.loop-index.index) (c.loop-index.invariant.text cells h)
+    c.if-separator-eq32.true c.add_word.ensures.text)
+
+pub returns-else-separator-eq32-clause-text : goal.returns-else-separator-eq32-clause-text
+returns-else-separator-eq32-clause-text c = λ cells h.
+    let all = at_end c.args.system cells c.loop-index.index c.signals-index-end.result c.signals-index-end.ensures.value c.loop-index.auto.index-end c.loop-index-test.false in
+    rw (sym all) (word_some c.args.line.now c.loop-index.line c.loop-index.separator c.args.system (had_below cells c.args.system c.loop-index.index) (c.loop-index.invariant.text cells h) c.if-separator-eq32.false)

@@ -1,0 +1,13 @@
+use Rattle.std.proofs.Common.{◌+◌, ◌*◌, ◌≤◌, List, length}
+use Rattle.rtcm_inspect.specs.Signals.{had_below}
+use Rattle.obs_epoch.specs.SignalCounts.{AreSignalCounts}
+use Rattle.rtcm_inspect.proofs.SignalLemmas.{IsPartly}
+use Rattle.rtcm_inspect.proofs.signals.add_codes.Given as goal
+use Rattle.gnss_obs.specs.HeardCells.{HeardCell}
+
+abbrev pub invariant-loop-index : goal.invariant-loop-index
+invariant-loop-index l =
+    record {
+      text : (cells : List HeardCell) → AreSignalCounts l.signal_counts cells → IsPartly l.fn.line l.line l.separator l.system (had_below cells l.system l.index);
+      short : length l.line ≤ length l.fn.line + 3 * l.index;
+    }

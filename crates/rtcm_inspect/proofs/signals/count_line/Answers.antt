@@ -1,0 +1,22 @@
+use Rattle.std.proofs.Common.{◌≡◌, ◌∙◌, [], ◌∷◌, ℕ, ap, refl, decimal}
+use Rattle.gnss_obs.specs.Satellites.{letter as letter_byte}
+use Rattle.gnss_obs.specs.Signals.{code_of}
+use Rattle.gnss_obs.specs.declared.system.System.{System}
+use Rattle.gnss_obs.specs.declared.system.System.TheVariants.{Gps, Galileo}
+use Rattle.obs_epoch.specs.SignalCounts.{signal_in}
+use Rattle.rtcm_inspect.specs.Signals.{count_line, letter}
+use Rattle.rtcm_inspect.proofs.LineLemmas.{add_text, add_word, end_line}
+use Rattle.rtcm_inspect.proofs.signals.count_line.Goals as goal
+
+lettered : (s : System) → letter_byte s ∷ [] ≡ letter s
+lettered Gps = refl
+lettered Galileo = refl
+
+pub returns-clause-text : goal.returns-clause-text
+unfolding count_line
+returns-clause-text c =
+    let g = signal_in c.args.system c.args.index in
+    let first = add_text c.put.ensures c.new-line.ensures (ap (λ (n : ℕ). n ∷ []) c.letter.ensures ∙ lettered c.args.system) in
+    let code = add_word c.add_part.ensures.text first (c.as_slice.ensures ∙ c.code_at.ensures.value) in
+    let count = add_word c.add_number.ensures.text code refl in
+    end_line [] (letter c.args.system) (code_of g ∷ decimal c.args.count ∷ []) c.finish.ensures count

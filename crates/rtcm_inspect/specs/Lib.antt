@@ -1,0 +1,15 @@
+pub mod Lines
+pub mod Metres
+pub mod FrameLines
+pub mod ShowLines
+pub mod Devices
+pub mod Messages
+pub mod Listing
+pub mod ReadBack
+pub mod Checking
+pub mod Signals
+pub mod Fitting
+pub mod Counting
+pub mod SignalOutput
+pub mod Printing
+pub mod SignalLaws

@@ -1,0 +1,101 @@
+-- What a command that lists a stream's frames has read and written.
+use Rattle.std.specs.Prelude.{◌≡◌, ◌<◌, ◌≤◌, ℕ, Bool, true, List, ◌++◌, take, length, Option, Result, OnOk, OnErr, ⊤}
+use Rattle.std.specs.Prelude.{[]}
+use Rattle.std.specs.List.{flat_map}
+use Rattle.std.specs.Io.KnownBytes.{Appends, Consumes, IsAtEnd}
+use Rattle.rtcm_bits.specs.Device.{AppendsPrefix, Device, FailsWith, HasFailed}
+use Rattle.rtcm_bits.specs.declared.counted.DeviceFailed.{DeviceFailed}
+use Rattle.rtcm_scan.specs.Frames.{Framed, frames_of}
+use Rattle.rtcm_scan.specs.Decided.{decided_frames}
+use Rattle.rtcm_scan.specs.Known.{known_frames}
+use Rattle.rtcm_scan.specs.declared.framer.ScanFault.TheVariants as scan
+use Rattle.rtcm_inspect.specs.Devices.{IsBetween}
+use Rattle.rtcm_inspect.specs.Devices.{IsUntouched}
+use Rattle.rtcm_inspect.specs.Devices.{Moves}
+use Rattle.rtcm_inspect.specs.Devices.{Ends}
+use Rattle.rtcm_inspect.specs.declared.fault.InspectFault.{InspectFault}
+use Rattle.rtcm_inspect.specs.declared.fault.InspectFault.TheVariants as faults
+use Rattle.rtcm_inspect.specs.declared.listing.Listing.{Listing}
+use Rattle.rtcm_inspect.specs.declared.listing.Listing.TheVariants.{Frames, Messages}
+use Rattle.rtcm_inspect.specs.FrameLines.{frame_line}
+use Rattle.rtcm_inspect.specs.ShowLines.{show_line}
+
+-- the line of a frame
+abbrev pub listing_line : Listing → Framed → List ℕ
+listing_line Frames f = frame_line f
+listing_line Messages f = show_line f
+
+-- the lines of frames, one after the other
+abbrev pub listing_lines : Listing → List Framed → List ℕ
+listing_lines listing fs = flat_map (listing_line listing) fs
+
+-- The reader had r left and now has r', and the writer had written w and now has written w'. `lines` gives the lines of
+-- a list of frames.
+
+-- the stream was read to its end, and the lines of its frames were written
+abbrev pub ListsAll : (List Framed → List ℕ) → (r r' w w' : Option (List ℕ)) → Type 0
+ListsAll lines r r' w w' = (b : List ℕ) × Consumes r r' b × IsAtEnd r' × Appends w w' (lines (frames_of b))
+
+-- some bytes were read, and the lines of the frames that they decide were written
+abbrev pub ListsDecided : (List Framed → List ℕ) → (r r' w w' : Option (List ℕ)) → Type 0
+ListsDecided lines r r' w w' = (b : List ℕ) × Consumes r r' b × Appends w w' (lines (decided_frames b))
+
+-- more bytes were read than the limit allows, and the lines of the frames that those up to it decide were written
+abbrev pub ListsToLimit : ℕ → (List Framed → List ℕ) → (r r' w w' : Option (List ℕ)) → Type 0
+ListsToLimit limit lines r r' w w' =
+    (b : List ℕ) × Consumes r r' b × (limit < length b) × Appends w w' (lines (decided_frames (take limit b)))
+
+-- The bytes read end in a piece of at most 65,536. At least the lines of the frames that the bytes before it decide
+-- were written, and at most those of the frames that all bytes read decide or, at the end of the stream, have.
+pub record ListsPart (lines : List Framed → List ℕ) (r r' w w' : Option (List ℕ)) : Type 0 where
+  pub front : List ℕ
+  pub piece : List ℕ
+  pub ended : Bool
+  pub consumes : Consumes r r' (front ++ piece)
+  pub few : length piece ≤ 65536
+  pub at_end : ended ≡ true → IsAtEnd r'
+  pub between : IsBetween w w' (lines (decided_frames front)) (lines (known_frames ended (front ++ piece)))
+
+-- What a listing of at most `limit` bytes has read and written when it was stopped by a fault. Nothing waits in the
+-- writer except at `Write`.
+abbrev pub StopsListing : {R W : Type 0} → ℕ → (List Framed → List ℕ) → (R → Option (List ℕ)) → (r r' : Device R)
+    → (W → Option (List ℕ)) → (W → List ℕ) → (w w' : Device W) → InspectFault → Type 0
+StopsListing limit lines left r r' held waits w w' faults.Read =
+    Moves left r r' held w w' (ListsDecided lines) × (waits w'.inner ≡ [])
+StopsListing limit lines left r r' held waits w w' faults.Write = Moves left r r' held w w' (ListsPart lines)
+StopsListing limit lines left r r' held waits w w' (faults.Scan scan.TooLong) =
+    Moves left r r' held w w' (ListsToLimit limit lines) × (waits w'.inner ≡ [])
+StopsListing limit lines left r r' held waits w w' (faults.Scan scan.Memory) = IsUntouched r r' w w'
+StopsListing limit lines left r r' held waits w w' other = ⊥
+
+-- how such a listing ended
+abbrev pub EndsListing : {A R W : Type 0} → Result A InspectFault → ℕ → (List Framed → List ℕ) → (R → Option (List ℕ))
+    → (r r' : Device R) → (W → Option (List ℕ)) → (W → List ℕ) → (w w' : Device W) → Type 0
+EndsListing result limit lines left r r' held waits w w' =
+    Ends result r r' waits w w' (λ _. Moves left r r' held w w' (ListsAll lines))
+    (StopsListing limit lines left r r' held waits w w')
+
+-- ---- a listing as a consumer of frames
+
+-- the line was written, or a prefix of it by the call that failed
+abbrev pub WritesLine : {W : Type 0} → Result ⊤ DeviceFailed → (W → Option (List ℕ)) → (w w' : Device W) → List ℕ
+    → Type 0
+WritesLine result held w w' text =
+    OnOk result (Appends (held w.inner) (held w'.inner) text)
+    × OnErr result (AppendsPrefix (held w.inner) (held w'.inner) text) × FailsWith result w w'
+
+-- The device o0 after the frames ps became o after the frames fs: the lines of the frames between were written, and no
+-- call failed.
+pub record Lists {W : Type 0} (held : W → Option (List ℕ)) (k0 : Listing) (o0 : Device W) (ps : List Framed)
+    (k : Listing) (o : Device W) (fs : List Framed) : Type 0 where
+  pub same : k ≡ k0
+  pub out : (w : Option (List ℕ)) → Appends w (held o0.inner) (listing_lines k0 ps)
+      → Appends w (held o.inner) (listing_lines k0 fs)
+  pub fine : o.failures ≡ o0.failures
+
+-- One call failed: at least the lines of fs were written, and at most those of gs.
+pub record ListsUpTo {W : Type 0} (held : W → Option (List ℕ)) (k0 : Listing) (o0 : Device W) (ps : List Framed)
+    (k : Listing) (o : Device W) (fs gs : List Framed) : Type 0 where
+  pub out : (w : Option (List ℕ)) → Appends w (held o0.inner) (listing_lines k0 ps)
+      → IsBetween w (held o.inner) (listing_lines k0 fs) (listing_lines k0 gs)
+  pub failed : HasFailed o0.failures o.failures

@@ -1,0 +1,65 @@
+-- The lines of `show`.
+use Rattle.std.specs.Prelude.{ℕ, pos, List, [], ◌∷◌, Option, Some, None, Result, Ok, Err, is_some, count_ones, codes}
+use Rattle.std.specs.Prelude.{decimal, if◌then◌else◌}
+use Rattle.std.specs.List.{flat_map}
+use Rattle.rtcm_bits.specs.Bits.{bit}
+use Rattle.rtcm_scan.specs.Frames.{Framed}
+use Rattle.rtcm_msg.specs.declared.fault.MsgFault.{MsgFault}
+use Rattle.rtcm_msg.specs.declared.fault.MsgFault.TheVariants.{Short, TooManyCells, BadTime}
+use Rattle.rtcm_msg.specs.declared.message.Message.{Message}
+use Rattle.rtcm_msg.specs.declared.message.Message.TheVariants.{Station, Msm4, Msm7, Other}
+use Rattle.rtcm_msg.specs.declared.station.StationParts.{StationParts}
+use Rattle.rtcm_msg.specs.Msm.{MsmValue}
+use Rattle.rtcm_msg.specs.Decoding.{message_at}
+use Rattle.rtcm_msg.specs.Grid4 as grid4
+use Rattle.rtcm_msg.specs.Grid7 as grid7
+use Rattle.rtcm_inspect.specs.FrameLines.{number_word}
+use Rattle.rtcm_inspect.specs.Lines.{line}
+use Rattle.rtcm_inspect.specs.Metres.{metres}
+
+-- the antenna height (DF028), which message 1006 has
+abbrev pub height_words : Option ℕ → List (List ℕ)
+height_words None = []
+height_words (Some h) = metres (pos h) ∷ []
+
+-- a station message: offset, number, station (DF003), X, Y and Z (DF025 to DF027), and the height (DF028) if it has one
+unfoldable pub station_line : ℕ → StationParts → List ℕ
+station_line offset s =
+    line
+    (decimal offset ∷ decimal (if is_some s.height then 1006 else 1005) ∷ decimal s.station ∷ metres s.x
+    ∷ metres s.y ∷ metres s.z ∷ height_words s.height)
+
+-- an MSM: offset, number, station (DF003), time (ms of the week), DF393, and the numbers of satellites, signals and
+-- cells
+unfoldable pub msm_line : ℕ → ℕ → MsmValue → List ℕ
+msm_line offset number m =
+    line
+    (decimal offset ∷ decimal number ∷ decimal m.header.station ∷ decimal m.header.time
+    ∷ decimal (bit m.header.more)
+    ∷ decimal (count_ones m.sets.satellites) ∷ decimal (count_ones m.sets.signals) ∷ decimal (count_ones m.sets.cells)
+    ∷ [])
+
+abbrev pub fault_words : MsgFault → List (List ℕ)
+fault_words (Short bits) = codes "Short" ∷ decimal bits ∷ []
+fault_words TooManyCells = codes "TooManyCells" ∷ []
+fault_words BadTime = codes "BadTime" ∷ []
+
+-- a refused message: offset, number, and the fault
+unfoldable pub fault_line : ℕ → List ℕ → MsgFault → List ℕ
+fault_line offset message fault = line (decimal offset ∷ number_word message ∷ fault_words fault)
+
+-- a message that isn't read has no line
+abbrev pub read_line : Framed → Result Message MsgFault → List ℕ
+read_line f (Ok (Station s)) = station_line f.offset s
+read_line f (Ok (Msm4 m)) = msm_line f.offset (grid4.message_number m.is_galileo) m
+read_line f (Ok (Msm7 m)) = msm_line f.offset (grid7.message_number m.is_galileo) m
+read_line f (Ok (Other n set)) = []
+read_line f (Err fault) = fault_line f.offset f.message fault
+
+-- the line of a frame
+unfoldable pub show_line : Framed → List ℕ
+show_line f = read_line f (message_at f.message)
+
+-- the lines of frames, one after the other
+abbrev pub show_lines : List Framed → List ℕ
+show_lines fs = flat_map show_line fs

@@ -1,0 +1,16 @@
+//! What is in a stream or a file, as text: the frames, messages and signals of an RTCM 3 stream,
+//! the options of a conversion that fit it, and the counts of an observation file.
+#![tactic(auto)]
+
+mod check;
+mod fault;
+pub mod laws;
+mod line;
+mod listing;
+mod signals;
+
+pub use check::run_check;
+pub use fault::InspectFault;
+pub use line::{OutputLine, print_line, print_text};
+pub use listing::{Listing, list, run_frames, run_show};
+pub use signals::{run_options, run_signals};

@@ -1,0 +1,189 @@
+//! A line of output.
+ghost use Rattle.std.specs.Prelude.{◌≡◌, ◌+◌, ◌<◌, ◌≤◌, [], ◌∷◌, ◌++◌, length, decimal};
+ghost use Rattle.rtcm_inspect.specs.Devices.{EndsDelivery};
+ghost use Rattle.rtcm_inspect.specs.Metres.{digit, size_text, metres};
+ghost use Rattle.rtcm_inspect.specs.Printing.{EndsPrinting, PrintsLine};
+
+use crate::fault::InspectFault;
+use arrayvec::ArrayVec;
+use itoa::Buffer;
+use rtcm_bits::{Counted, Deliver};
+use std::io::Write;
+use std::marker::Model;
+
+/// A line of at most 400 bytes, built word by word with single blanks between the words.
+#[derive(Drop)]
+pub struct OutputLine {
+    text: ArrayVec<u8, 400>,
+}
+
+impl Model for OutputLine {
+    ghost use Rattle.std.specs.Prelude.{List, ℕ, ◌≤◌, length};
+
+    ghost Value = { List ℕ };
+
+    ghost view = { λ l. l.text.items };
+
+    ghost invariant = { λ l. length l.text.items ≤ 400 };
+}
+
+impl OutputLine {
+    /// Returns a line without a byte.
+    pub fn new() -> OutputLine
+        ensures { result ≡ [] }
+    {
+        OutputLine {
+            text: ArrayVec::new(),
+        }
+    }
+
+    /// Appends these bytes.
+    pub fn put(&mut self, bytes: &[u8])
+        requires { length self.old + length bytes.now ≤ 400 }
+        ensures { self.new ≡ self.old ++ bytes.now }
+    {
+        self.text.try_extend_from_slice(bytes).unwrap();
+    }
+
+    /// Appends a number.
+    pub fn put_number(&mut self, number: u64)
+        requires { length self.old ≤ 380 }
+        ensures text { self.new ≡ self.old ++ decimal number }
+        ensures short { length self.new ≤ length self.old + 20 }
+    {
+        if number < 10 {
+            self.put(&[digit(number)]);
+        } else {
+            self.put(Buffer::new().format(number).as_bytes());
+        }
+    }
+
+    /// Appends a blank and a number.
+    pub fn add_number(&mut self, number: u64)
+        requires { length self.old ≤ 379 }
+        ensures text { self.new ≡ self.old ++ 0x20 ∷ decimal number }
+        ensures short { length self.new ≤ length self.old + 21 }
+    {
+        self.put(b" ");
+        self.put_number(number);
+    }
+
+    /// Appends a blank and a word.
+    pub fn add_word(&mut self, word: &str)
+        requires { length self.old + length word.now + 1 ≤ 400 }
+        ensures text { self.new ≡ self.old ++ 0x20 ∷ word.now }
+        ensures short { length self.new ≡ length self.old + length word.now + 1 }
+    {
+        self.put(b" ");
+        self.put(word.as_bytes());
+    }
+
+    /// Appends a blank, a name, a blank and a number.
+    pub fn add_count(&mut self, name: &str, number: u64)
+        requires { length self.old + length name.now + 22 ≤ 400 }
+        ensures text { self.new ≡ (self.old ++ 0x20 ∷ name.now) ++ 0x20 ∷ decimal number }
+        ensures short { length self.new ≤ length self.old + length name.now + 22 }
+    {
+        self.add_word(name);
+        self.add_number(number);
+    }
+
+    /// Appends a separator and a text.
+    pub fn add_part(&mut self, separator: u8, part: &[u8])
+        requires { length self.old + length part.now + 1 ≤ 400 }
+        ensures text { self.new ≡ self.old ++ separator ∷ part.now }
+        ensures short { length self.new ≡ length self.old + length part.now + 1 }
+    {
+        self.put(&[separator]);
+        self.put(part);
+    }
+
+    /// Appends a separator and a length, given in units of 0.0001 m, in metres with four decimals.
+    pub fn add_metres(&mut self, separator: u8, value: i64)
+        requires { length self.old ≤ 293 }
+        ensures text { self.new ≡ self.old ++ separator ∷ metres value }
+        ensures short { length self.new ≤ length self.old + 27 }
+    {
+        self.put(&[separator]);
+        self.put(if value < 0 { b"-" } else { b"" });
+        self.put_size(value.unsigned_abs());
+    }
+
+    fn put_size(&mut self, size: u64)
+        requires { length self.old ≤ 295 }
+        ensures text { self.new ≡ self.old ++ size_text size }
+        ensures short { length self.new ≤ length self.old + 25 }
+    {
+        self.put_number(size / 10_000);
+        let decimals = [
+            b'.',
+            digit(size / 1_000),
+            digit(size / 100),
+            digit(size / 10),
+            digit(size),
+        ];
+        self.put(decimals.as_slice());
+    }
+
+    /// Appends the line feed.
+    pub fn finish(&mut self)
+        requires { length self.old < 400 }
+        ensures { self.new ≡ self.old ++ 0x0A ∷ [] }
+    {
+        self.put(b"\n");
+    }
+
+    /// Returns the line's bytes.
+    pub fn as_bytes(&self) -> &[u8]
+        ensures text { result.now ≡ self.now }
+        ensures short { length result.now ≤ 400 }
+    {
+        self.text.as_slice()
+    }
+}
+
+/// Delivers the bytes that wait in the writer, if any. A command that writes only at its end does so
+/// before it reads, so that none of them waits if the reader fails.
+///
+/// # Errors
+///
+/// `Write` if the writer failed.
+pub fn deliver_waiting<W: Deliver>(writer: &mut Counted<W>) -> Result<(), InspectFault>
+    ensures { EndsDelivery result W.contents W.waiting writer.old writer.new }
+{
+    match writer.send() {
+        Ok(()) => Ok(()),
+        Err(_) => Err(InspectFault::Write),
+    }
+}
+
+/// Writes a text, and delivers it.
+///
+/// # Errors
+///
+/// `Write` if the writer failed.
+pub fn print_text<W: Deliver>(text: &[u8], writer: &mut Counted<W>) -> Result<(), InspectFault>
+    ensures { EndsPrinting result W.contents W.waiting writer.old writer.new text.now }
+{
+    match writer.write_whole(text) {
+        Ok(()) => match writer.flush_whole() {
+            Ok(()) => Ok(()),
+            Err(_) => Err(InspectFault::Write),
+        },
+        Err(_) => Err(InspectFault::Write),
+    }
+}
+
+/// Writes a line to standard error. A failure of the writer is ignored.
+pub fn print_line<E: Write>(text: &[u8], faults: &mut Counted<E>)
+    ensures { PrintsLine E.contents faults.old faults.new text.now }
+{
+    let _ = faults.write_whole(text);
+}
+
+/// Returns the last decimal digit of a number, in ASCII.
+fn digit(number: u64) -> u8
+    ensures { result ≡ digit number }
+{
+    b'0' + (number % 10) as u8
+}

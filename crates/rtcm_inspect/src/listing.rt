@@ -1,0 +1,244 @@
+//! The commands `frames` and `show`: a line for each frame, or for each message, of a stream.
+ghost use Rattle.std.specs.Prelude.{◌≡◌, ◌+◌, ◌≤◌, ◌^◌, ◌∷◌, ◌++◌, length};
+ghost use Rattle.rtcm_bits.specs.FrameOf.{longest_message};
+ghost use Rattle.rtcm_scan.specs.Results.{framed};
+ghost use Rattle.rtcm_msg.specs.Station.{InRange};
+ghost use Rattle.rtcm_msg.specs.Views.{message_number};
+ghost use Rattle.rtcm_inspect.specs.FrameLines.{frame_line, frame_lines, number_word};
+ghost use Rattle.rtcm_inspect.specs.Lines.{with_words};
+ghost use Rattle.rtcm_inspect.specs.ShowLines.{fault_words, height_words};
+ghost use Rattle.rtcm_inspect.specs.ShowLines.{msm_line, show_line, show_lines, station_line};
+ghost use Rattle.rtcm_inspect.specs.Listing.{EndsListing, listing_line, listing_lines};
+
+use crate::fault::InspectFault;
+use crate::line::OutputLine;
+use rtcm_bits::{BitReader, Counted, Deliver, DeviceFailed};
+use rtcm_msg::{MsgFault, MsmView, StationParts, View, look};
+use rtcm_scan::{Frame, FrameSink, Framer, MOST_BYTES, ScanFault, laws};
+use std::alloc::Global;
+use std::io::Read;
+
+/// Largest number of bytes read at a time.
+pub const PIECE_BYTES: usize = 65_536;
+
+/// The lines that are written for a stream.
+#[derive(Clone, Copy)]
+pub enum Listing {
+    /// A line for each frame.
+    Frames,
+    /// A line for each message that is read or refused.
+    Messages,
+}
+
+impl<W: Deliver> FrameSink<Counted<W>> for Listing {
+    ghost use Rattle.std.specs.Prelude.{◌≡◌, []};
+    ghost use Rattle.rtcm_inspect.specs.Listing.{Lists, ListsUpTo};
+
+    type Fault = DeviceFailed;
+
+    ghost is_sent = { λ o. W.waiting o.inner ≡ [] };
+
+    ghost took = { Lists W.contents };
+
+    ghost broke = { ListsUpTo W.contents };
+
+    fn take(&mut self, frame: &Frame, out: &mut Counted<W>) -> Result<(), DeviceFailed> {
+        let mut line = OutputLine::new();
+        add_line(&mut line, *self, frame);
+        out.write_whole(line.as_bytes())
+    }
+
+    fn send(&self, out: &mut Counted<W>) -> Result<(), DeviceFailed> {
+        out.send()
+    }
+}
+
+/// Adds the line of a frame, if it has one.
+fn add_line(line: &mut OutputLine, listing: Listing, frame: &Frame)
+    requires { length line.old ≤ 80 }
+    ensures { line.new ≡ line.old ++ listing_line listing (framed frame.now) }
+{
+    match listing {
+        Listing::Frames => add_frame(line, frame),
+        Listing::Messages => add_message(line, frame),
+    }
+}
+
+/// Writes a line for each frame of the stream: its offset and the length of its message in bytes,
+/// and the message number (DF002).
+///
+/// # Errors
+///
+/// Those of `list`.
+pub fn run_frames<R: Read, W: Deliver>(
+    alloc: Global,
+    reader: &mut Counted<R>,
+    writer: &mut Counted<W>,
+) -> Result<(), InspectFault>
+    ensures { EndsListing result (2 ^ 48) frame_lines
+        R.remaining reader.old reader.new W.contents W.waiting writer.old writer.new }
+{
+    list(alloc, Listing::Frames, MOST_BYTES, reader, writer)
+}
+
+/// Writes a line for each message of the stream that is read or refused: a station, the head of an
+/// MSM, or the fault.
+///
+/// # Errors
+///
+/// Those of `list`.
+pub fn run_show<R: Read, W: Deliver>(
+    alloc: Global,
+    reader: &mut Counted<R>,
+    writer: &mut Counted<W>,
+) -> Result<(), InspectFault>
+    ensures { EndsListing result (2 ^ 48) show_lines
+        R.remaining reader.old reader.new W.contents W.waiting writer.old writer.new }
+{
+    list(alloc, Listing::Messages, MOST_BYTES, reader, writer)
+}
+
+/// Writes the lines of a stream of at most `limit` bytes, and delivers them after each piece that
+/// is read.
+///
+/// # Errors
+///
+/// `Read` if the reader failed, `Write` if the writer failed, and `Scan` if the stream is longer
+/// than the limit or memory ran out.
+pub fn list<R: Read, W: Deliver>(
+    alloc: Global,
+    listing: Listing,
+    limit: u64,
+    reader: &mut Counted<R>,
+    writer: &mut Counted<W>,
+) -> Result<(), InspectFault>
+    requires { limit ≤ 2 ^ 48 }
+    ensures { EndsListing result limit (listing_lines listing)
+        R.remaining reader.old reader.new W.contents W.waiting writer.old writer.new }
+{
+    // The limit is valid, so a framer is refused only when out of memory.
+    let Ok(mut framer) = Framer::new(alloc, limit) else {
+        return Err(InspectFault::Scan(ScanFault::Memory));
+    };
+    let mut listing = listing;
+    let mut buffer = [0; PIECE_BYTES];
+    laws::prefix();
+    let read = framer.read_frames(reader, &mut buffer, &mut listing, writer);
+    drop(framer);
+    match read {
+        Ok(()) => Ok(()),
+        Err(fault) => Err(InspectFault::from(fault)),
+    }
+}
+
+/// Adds the line of a frame: its offset and the length of its message in bytes, and the message
+/// number (DF002).
+fn add_frame(line: &mut OutputLine, frame: &Frame)
+    requires { length line.old ≤ 80 }
+    ensures { line.new ≡ line.old ++ frame_line (framed frame.now) }
+{
+    line.put_number(frame.offset);
+    line.add_number(frame.message.len() as u64);
+    add_message_number(line, frame.message.as_slice());
+    line.finish();
+}
+
+/// Adds the line of a frame's message, if it is read or refused. That of a refused message is its
+/// offset, number and fault.
+// Inlined into the loop of `frames`, its buffers would be cleared for every frame.
+#[inline(never)]
+fn add_message(line: &mut OutputLine, frame: &Frame)
+    requires { length line.old ≤ 80 }
+    ensures { line.new ≡ line.old ++ show_line (framed frame.now) }
+{
+    let message = frame.message.as_slice();
+    match look(message) {
+        Ok(view) => match &view {
+            View::Station(station) => add_station(line, frame.offset, station.parts()),
+            View::Msm(msm) => add_msm(line, frame.offset, msm),
+            View::Other { .. } => {}
+        },
+        Err(fault) => {
+            line.put_number(frame.offset);
+            add_message_number(line, message);
+            add_fault(line, fault);
+            line.finish();
+        }
+    }
+}
+
+/// Adds the number of a message, or a dash if it has fewer than 12 bits.
+fn add_message_number(line: &mut OutputLine, message: &[u8])
+    requires room { length line.old ≤ 235 }
+    requires short { length message.now ≤ longest_message }
+    ensures text { line.new ≡ line.old ++ 0x20 ∷ number_word message.now }
+    ensures short { length line.new ≤ length line.old + 21 }
+{
+    match BitReader::new(message).unsigned(12) {
+        Some(number) => line.add_number(number),
+        None => line.add_word("-"),
+    }
+}
+
+/// Adds the line of a station message: offset, number, station, X, Y and Z in metres, and the
+/// height of a 1006 in metres.
+fn add_station(line: &mut OutputLine, offset: u64, station: StationParts)
+    requires room { length line.old ≤ 80 }
+    requires in_range { InRange station }
+    ensures { line.new ≡ line.old ++ station_line offset station }
+{
+    line.put_number(offset);
+    line.add_number(if station.height.is_some() { 1006 } else { 1005 });
+    line.add_number(station.station as u64);
+    line.add_metres(b' ', station.x);
+    line.add_metres(b' ', station.y);
+    line.add_metres(b' ', station.z);
+    add_height(line, station.height);
+    line.finish();
+}
+
+/// Adds the height of a 1006 in metres.
+fn add_height(line: &mut OutputLine, height: Option<u16>)
+    requires { length line.old ≤ 229 }
+    ensures text { line.new ≡ with_words line.old (height_words height) }
+    ensures short { length line.new ≤ length line.old + 27 }
+{
+    if let Some(height) = height {
+        line.add_metres(b' ', i64::from(height));
+    }
+}
+
+/// Adds the line of an MSM: offset, number, station, epoch time, DF393, and the numbers of
+/// satellites, signals and cells.
+fn add_msm(line: &mut OutputLine, offset: u64, msm: &MsmView<'_>)
+    requires { length line.old ≤ 80 }
+    ensures { line.new
+        ≡ line.old ++ msm_line offset (message_number msm.now.form msm.now.msm.is_galileo) msm.now.msm }
+{
+    let header = msm.header();
+    line.put_number(offset);
+    line.add_number(msm.number() as u64);
+    line.add_number(header.station as u64);
+    line.add_number(header.time as u64);
+    line.add_number(u64::from(header.more));
+    line.add_number(msm.satellites() as u64);
+    line.add_number(msm.masks().signals().count_ones() as u64);
+    line.add_number(msm.cells() as u64);
+    line.finish();
+}
+
+/// Adds the name of a fault and, for `Short`, the index of the first bit of the field.
+fn add_fault(line: &mut OutputLine, fault: MsgFault)
+    requires { length line.old ≤ 200 }
+    ensures text { line.new ≡ with_words line.old (fault_words fault) }
+    ensures short { length line.new ≤ length line.old + 40 }
+{
+    match fault {
+        MsgFault::Short(bits) => {
+            line.add_word("Short");
+            line.add_number(bits as u64);
+        }
+        MsgFault::TooManyCells => line.add_word("TooManyCells"),
+        MsgFault::BadTime => line.add_word("BadTime"),
+    }
+}
