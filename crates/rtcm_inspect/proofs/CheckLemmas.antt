@@ -1,5 +1,5 @@
 -- The end of a check of a file.
-use Rattle.std.proofs.Common.{◌≡◌, ◌∙◌, ◌∷◌, ◌++◌, [], ap, inr, codes, decimal, length, refl, sym, subst, ℕ, List, Option, Some, None, Result, Ok, Err, IfSome}
+use Rattle.std.proofs.Common.{◌≡◌, ◌∙◌, ◌∷◌, ◌++◌, [], ap, inl, inr, codes, decimal, length, refl, sym, subst, ℕ, List, Option, Some, None, Result, Ok, Err, IfSome}
 use Rattle.rtcm_bits.specs.Device.{Device, HasFailed}
 use Rattle.rinex_file.specs.Exact.{IsNoFault}
 use Rattle.rinex_file.specs.Value.{FileValue}
@@ -12,7 +12,7 @@ use Rattle.rinex_file.specs.declared.read.fault.ReadFault.TheVariants.{Memory, R
 use Rattle.std.specs.Prelude.{⊤}
 use Rattle.std.specs.Result.{IsErrAnd}
 use Rattle.std.specs.Io.KnownBytes.{Keeps}
-use Rattle.rtcm_inspect.proofs.PrintingLemmas.{kept_none, passed}
+use Rattle.rtcm_inspect.proofs.PrintingLemmas.{passed}
 use Rattle.rtcm_inspect.specs.declared.fault.InspectFault.{InspectFault}
 use Rattle.rtcm_inspect.specs.declared.fault.InspectFault.TheVariants as faults
 use Rattle.rtcm_inspect.specs.Devices.{Ends, ReadFailures}
@@ -20,7 +20,7 @@ use Rattle.rtcm_inspect.specs.Printing.{EndsPrinting}
 use Rattle.rinex_file.specs.ParserState.{rows_in}
 use Rattle.rtcm_inspect.specs.Lines.{line}
 use Rattle.rtcm_inspect.proofs.LineLemmas.{add_count, add_text, add_word, end_line}
-use Rattle.rtcm_inspect.specs.Checking.{check_line, ChecksFile, IsCheckedOr, StopsChecking}
+use Rattle.rtcm_inspect.specs.Checking.{check_line, ChecksWhole, IsCheckedOr, StopsAnyCheck}
 
 -- a property of known bytes
 pub where_known : (P Q : List ℕ → Type 0) (r : Option (List ℕ)) → ((input : List ℕ) → P input → Q input) → IfSome r P → IfSome r Q
@@ -28,15 +28,15 @@ where_known P Q None step h = tt
 where_known P Q (Some input) step h = step input h
 
 -- a fault of reading is one of checking
-pub refused : (v : FileValue) (e : ReadFault) (w w' : Option (List ℕ)) → IsNoFault e → IsCheckedOr v (Err (faults.Check e)) w w'
-refused v Memory w w' h = tt
-refused v Read w w' h = tt
-refused v (BadHeader k) w w' h = absurd h
-refused v (BadEpoch k) w w' h = absurd h
-refused v (BadEvent k) w w' h = absurd h
-refused v (BadSatellite k) w w' h = absurd h
-refused v (CutShort k) w w' h = absurd h
-refused v TooLong w w' h = absurd h
+pub refused : (IsOutput : FileValue → List ℕ → Type 0) (v : FileValue) (e : ReadFault) (w w' : Option (List ℕ)) → IsNoFault e → IsCheckedOr IsOutput v (Err (faults.Check e)) w w'
+refused IsOutput v Memory w w' h = tt
+refused IsOutput v Read w w' h = tt
+refused IsOutput v (BadHeader k) w w' h = absurd h
+refused IsOutput v (BadEpoch k) w w' h = absurd h
+refused IsOutput v (BadEvent k) w w' h = absurd h
+refused IsOutput v (BadSatellite k) w w' h = absurd h
+refused IsOutput v (CutShort k) w w' h = absurd h
+refused IsOutput v TooLong w w' h = absurd h
 
 -- the reader failed only at `Read`
 pub read_failures : (e : ReadFault) (before after : ℕ) → (e ≡ Read → HasFailed before after) → ((e ≡ Read → ⊥) → after ≡ before) → ReadFailures (faults.Check e) before after
@@ -66,25 +66,24 @@ line_built counts v none start epochs satellites events text are =
     ∙ ap (λ (n : ℕ). line (codes "epochs" ∷ count_words (length v.epochs) n counts.events)) are.satellites
     ∙ ap (λ (n : ℕ). line (codes "epochs" ∷ count_words (length v.epochs) (rows_in v.epochs) n)) are.events
 
--- the counts of a file were printed, or a part of them
-pub checked : {R W : Type 0} (left : R → Option (List ℕ)) (held : W → Option (List ℕ)) (waits : W → List ℕ) (r r2 : Device R) (w w2 : Device W) (ended : Result ⊤ InspectFault) (v : FileValue)
-    → IsFileValue v → IfSome (left r.inner) (λ input. input ≡ file_text v) → r2.failures ≡ r.failures → EndsPrinting ended held waits w w2 (check_line v)
-    → Ends ended r r2 waits w w2 (λ _. ChecksFile (left r.inner) (held w.inner) (held w2.inner)) (StopsChecking left r r2 held waits w w2)
-checked left held waits r r2 w w2 (Ok u) v is text same p = ((same, p.0, p.1), (v, is, text, p.2))
-checked left held waits r r2 w w2 (Err fault) v is text same p =
-    subst (λ (f : InspectFault). Ends (Err f) r r2 waits w w2 (λ (u : ⊤). ChecksFile (left r.inner) (held w.inner) (held w2.inner)) (StopsChecking left r r2 held waits w w2)) (sym p.0)
-    ((same, p.1.0), inr (v, is, text, p.1.1))
+-- the output of a file was written, or a part of it
+pub checked : {R W : Type 0} (IsOutput : FileValue → List ℕ → Type 0) (left : R → Option (List ℕ)) (held : W → Option (List ℕ)) (waits : W → List ℕ) (r r2 : Device R) (w w2 : Device W) (ended : Result ⊤ InspectFault) (v : FileValue) (out : List ℕ)
+    → IsFileValue v → IfSome (left r.inner) (λ input. input ≡ file_text v) → IsOutput v out → r2.failures ≡ r.failures → EndsPrinting ended held waits w w2 out
+    → Ends ended r r2 waits w w2 (λ _. ChecksWhole IsOutput (left r.inner) (held w.inner) (held w2.inner)) (StopsAnyCheck IsOutput left r r2 held waits w w2)
+checked IsOutput left held waits r r2 w w2 (Ok u) v out is text of same p = ((same, p.0, p.1), (v, is, text, (out, of, p.2)))
+checked IsOutput left held waits r r2 w w2 (Err fault) v out is text of same p =
+    subst (λ (f : InspectFault). Ends (Err f) r r2 waits w w2 (λ (u : ⊤). ChecksWhole IsOutput (left r.inner) (held w.inner) (held w2.inner)) (StopsAnyCheck IsOutput left r r2 held waits w w2)) (sym p.0)
+    ((same, p.1.0), inr (v, is, text, (out, of, p.1.1)))
 
 -- the same for each file value that was read
-pub checked_or : {W : Type 0} (held : W → Option (List ℕ)) (waits : W → List ℕ) (w w2 : Device W) (ended : Result ⊤ InspectFault) (v : FileValue) → EndsPrinting ended held waits w w2 (check_line v)
-    → IsCheckedOr v ended (held w.inner) (held w2.inner)
-checked_or held waits w w2 (Ok u) v p = p.2
-checked_or held waits w w2 (Err fault) v p = subst (λ (f : InspectFault). IsCheckedOr v (Err f) (held w.inner) (held w2.inner)) (sym p.0) p.1.1
+pub checked_or : {W : Type 0} (IsOutput : FileValue → List ℕ → Type 0) (held : W → Option (List ℕ)) (waits : W → List ℕ) (w w2 : Device W) (ended : Result ⊤ InspectFault) (v : FileValue) (out : List ℕ) → IsOutput v out
+    → EndsPrinting ended held waits w w2 out → IsCheckedOr IsOutput v ended (held w.inner) (held w2.inner)
+checked_or IsOutput held waits w w2 (Ok u) v out of p = (out, of, p.2)
+checked_or IsOutput held waits w w2 (Err fault) v out of p = subst (λ (f : InspectFault). IsCheckedOr IsOutput v (Err f) (held w.inner) (held w2.inner)) (sym p.0) (inr (out, of, p.1.1))
 
 -- the same if the writer failed before anything was read
-pub kept_first : (r w w2 : Option (List ℕ)) (ended : Result ⊤ InspectFault) (fault : InspectFault) (v : FileValue) → IsErrAnd ended (λ y. y ≡ fault) → fault ≡ faults.Write → Keeps w w2
-    → IfSome r (λ input. input ≡ file_text v → IsCheckedOr v ended w w2)
-kept_first None w w2 ended fault v is write kept = tt
-kept_first (Some input) w w2 ended fault v is write kept = λ same.
-    passed ended fault (λ (q : Result ⊤ InspectFault). IsCheckedOr v q w w2) is
-    (subst (λ (f : InspectFault). IsCheckedOr v (Err f) w w2) (sym write) (kept_none w w2 (check_line v) kept))
+pub kept_first : (IsOutput : FileValue → List ℕ → Type 0) (r w w2 : Option (List ℕ)) (ended : Result ⊤ InspectFault) (fault : InspectFault) (v : FileValue) → IsErrAnd ended (λ y. y ≡ fault) → fault ≡ faults.Write → Keeps w w2
+    → IfSome r (λ input. input ≡ file_text v → IsCheckedOr IsOutput v ended w w2)
+kept_first IsOutput None w w2 ended fault v is write kept = tt
+kept_first IsOutput (Some input) w w2 ended fault v is write kept = λ same.
+    passed ended fault (λ (q : Result ⊤ InspectFault). IsCheckedOr IsOutput v q w w2) is (subst (λ (f : InspectFault). IsCheckedOr IsOutput v (Err f) w w2) (sym write) (inl kept))

@@ -1,5 +1,5 @@
 -- Texts written in one call, and failed calls.
-use Rattle.std.proofs.Common.{◌≡◌, ◌∙◌, inl, inr, sym, subst, append-nil, refl, ℕ, List, [], Option, Result, Ok, Err, OnErr, OnOk}
+use Rattle.std.proofs.Common.{◌≡◌, ◌∙◌, inl, inr, sym, subst, append-nil, ℕ, List, [], Option, Result, Ok, Err, OnErr, OnOk}
 use Rattle.std.specs.Io.KnownBytes.{Appends, Keeps}
 use Rattle.std.proofs.KnownBytes.{Appends-kept, Appends-nil, Appends-trans}
 use Rattle.rtcm_bits.specs.Device.{AppendsPrefix, Device, FailsWith, HasFailed}
@@ -38,10 +38,6 @@ line_printed (Err failed) told e e2 text whole part device = inr (device.0, part
 
 kept_appends : (a b c : Option (List ℕ)) (text : List ℕ) → Keeps a b → Appends b c text → Appends a c text
 kept_appends a b c text k h = Appends-trans a b c [] text (Appends-kept a a b [] (Appends-nil a) k) h
-
--- nothing is a prefix of each text
-pub kept_none : (a b : Option (List ℕ)) (text : List ℕ) → Keeps a b → AppendsPrefix a b text
-kept_none a b text k = (text, ([], refl, Appends-kept a a b [] (Appends-nil a) k))
 
 -- a text that was written after a delivery
 pub printed_later : {A W : Type 0} (r : Result A InspectFault) (held : W → Option (List ℕ)) (waits : W → List ℕ) (w w1 w2 : Device W) (text : List ℕ) → w1.failures ≡ w.failures → Keeps (held w.inner) (held w1.inner)

@@ -6,6 +6,7 @@ pub mod Devices
 pub mod Messages
 pub mod Listing
 pub mod ReadBack
+pub mod DateTexts
 pub mod Checking
 pub mod Signals
 pub mod Fitting

@@ -8,8 +8,9 @@ pub mod laws;
 mod line;
 mod listing;
 mod signals;
+mod times;
 
-pub use check::run_check;
+pub use check::{run_check, run_check_times};
 pub use fault::InspectFault;
 pub use line::{OutputLine, print_line, print_text};
 pub use listing::{Listing, list, run_frames, run_show};

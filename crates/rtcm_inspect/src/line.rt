@@ -182,7 +182,7 @@ pub fn print_line<E: Write>(text: &[u8], faults: &mut Counted<E>)
 }
 
 /// Returns the last decimal digit of a number, in ASCII.
-fn digit(number: u64) -> u8
+pub fn digit(number: u64) -> u8
     ensures { result ≡ digit number }
 {
     b'0' + (number % 10) as u8

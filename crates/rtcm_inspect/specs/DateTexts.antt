@@ -1,0 +1,41 @@
+-- GPS times as text, and the lines of `check --times`.
+use Rattle.std.specs.Prelude.{ℕ, ◌/◌, List, [], ◌∷◌, ◌++◌, codes, decimal, Option, Some, None}
+use Rattle.gnss_obs.specs.Dates.{civil_of}
+use Rattle.gnss_obs.specs.declared.civil.Civil.{Civil}
+use Rattle.rinex_file.specs.declared.read.times.EpochTimes.{EpochTimes}
+use Rattle.rtcm_inspect.specs.Lines.{line}
+use Rattle.rtcm_inspect.specs.Metres.{digit, four_digits}
+
+-- the last two or three digits of a number
+abbrev pub two_digits : ℕ → List ℕ
+two_digits n = digit (n / 10) ∷ digit n ∷ []
+
+abbrev pub three_digits : ℕ → List ℕ
+three_digits n = digit (n / 100) ∷ digit (n / 10) ∷ digit n ∷ []
+
+-- year, month and day
+abbrev pub date_text : Civil → List ℕ
+date_text c = four_digits c.year ++ codes "-" ++ two_digits c.month ++ codes "-" ++ two_digits c.day
+
+-- hour, minute and second with three decimals
+abbrev pub clock_text : Civil → List ℕ
+clock_text c =
+    two_digits c.hour ++ codes ":" ++ two_digits c.minute ++ codes ":" ++ two_digits (c.millisecond / 1000) ++ codes "."
+    ++ three_digits c.millisecond
+
+-- a number of milliseconds, in seconds with three decimals
+abbrev pub seconds_text : ℕ → List ℕ
+seconds_text n = decimal (n / 1000) ++ codes "." ++ three_digits n
+
+-- a name, and the date and the time of day of a time
+unfoldable pub time_line : List ℕ → ℕ → List ℕ
+time_line name t = line (name ∷ date_text (civil_of t) ∷ clock_text (civil_of t) ∷ [])
+
+-- the smallest step between epochs, if there are two
+abbrev pub step_line : Option ℕ → List ℕ
+step_line None = []
+step_line (Some n) = line (codes "step" ∷ seconds_text n ∷ [])
+
+-- the times of the first and of the last epoch, and the step
+abbrev pub times_lines : EpochTimes → List ℕ
+times_lines t = time_line (codes "first") t.first ++ time_line (codes "last") t.last ++ step_line t.step

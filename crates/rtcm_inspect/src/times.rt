@@ -1,0 +1,99 @@
+//! Times as text, and the lines of `check --times`.
+ghost use Rattle.std.specs.Prelude.{◌≡◌, ◌+◌, ◌≤◌, ◌∷◌, ◌++◌, length};
+ghost use Rattle.rtcm_inspect.specs.DateTexts.{clock_text, date_text, step_line};
+ghost use Rattle.rtcm_inspect.specs.DateTexts.{time_line, times_lines};
+
+use crate::line::{OutputLine, digit};
+use gnss_obs::{Civil, GpsTime};
+use rinex_file::EpochTimes;
+
+/// Adds the lines of the times of a file's epochs.
+pub fn add_times(text: &mut OutputLine, times: &EpochTimes)
+    requires { length text.old ≤ 100 }
+    ensures { text.new ≡ text.old ++ times_lines times.now }
+{
+    add_time(text, "first", times.first);
+    add_time(text, "last", times.last);
+    add_step(text, times.step);
+}
+
+/// Adds the line of a time: a name, the date and the time of day.
+fn add_time(text: &mut OutputLine, name: &str, time: GpsTime)
+    requires room { length text.old ≤ 200 }
+    requires short { length name.now ≤ 10 }
+    ensures text { text.new ≡ text.old ++ time_line name.now time }
+    ensures short { length text.new ≤ length text.old + 40 }
+{
+    let civil = time.civil();
+    text.put(name.as_bytes());
+    add_date(text, &civil);
+    add_clock(text, &civil);
+    text.finish();
+}
+
+/// Adds a blank and a date.
+fn add_date(text: &mut OutputLine, civil: &Civil)
+    requires { length text.old ≤ 300 }
+    ensures text { text.new ≡ text.old ++ 0x20 ∷ date_text civil.now }
+    ensures short { length text.new ≤ length text.old + 11 }
+{
+    let year = u64::from(civil.year);
+    let month = u64::from(civil.month);
+    let day = u64::from(civil.day);
+    let date = [
+        b' ',
+        digit(year / 1_000),
+        digit(year / 100),
+        digit(year / 10),
+        digit(year),
+        b'-',
+        digit(month / 10),
+        digit(month),
+        b'-',
+        digit(day / 10),
+        digit(day),
+    ];
+    text.put(date.as_slice());
+}
+
+/// Adds a blank and a time of day, in milliseconds.
+fn add_clock(text: &mut OutputLine, civil: &Civil)
+    requires { length text.old ≤ 300 }
+    ensures text { text.new ≡ text.old ++ 0x20 ∷ clock_text civil.now }
+    ensures short { length text.new ≤ length text.old + 13 }
+{
+    let hour = u64::from(civil.hour);
+    let minute = u64::from(civil.minute);
+    let millisecond = u64::from(civil.millisecond);
+    let second = millisecond / 1_000;
+    let clock = [
+        b' ',
+        digit(hour / 10),
+        digit(hour),
+        b':',
+        digit(minute / 10),
+        digit(minute),
+        b':',
+        digit(second / 10),
+        digit(second),
+        b'.',
+        digit(millisecond / 100),
+        digit(millisecond / 10),
+        digit(millisecond),
+    ];
+    text.put(clock.as_slice());
+}
+
+/// Adds the line of the step in seconds, if there is one.
+fn add_step(text: &mut OutputLine, step: Option<u64>)
+    requires { length text.old ≤ 300 }
+    ensures { text.new ≡ text.old ++ step_line step }
+{
+    if let Some(step) = step {
+        text.put(b"step");
+        text.add_number(step / 1_000);
+        let decimals = [b'.', digit(step / 100), digit(step / 10), digit(step)];
+        text.put(decimals.as_slice());
+        text.finish();
+    }
+}
