@@ -52,6 +52,7 @@ never_zero (faults.Header f) e = one_zero e
 never_zero (faults.Plan f) e = one_zero e
 never_zero (faults.Convert f) e = one_zero e
 never_zero (faults.Check f) e = one_zero e
+never_zero (faults.SeveralStations a b) e = one_zero e
 never_zero faults.NoSignal e = one_zero e
 
 -- the end of a command in other terms
@@ -73,6 +74,7 @@ failed_by (inspect.Check (reading.BadEvent k)) r r2 w w2 h = h
 failed_by (inspect.Check (reading.BadSatellite k)) r r2 w w2 h = h
 failed_by (inspect.Check (reading.CutShort k)) r r2 w w2 h = h
 failed_by (inspect.Check reading.TooLong) r r2 w w2 h = h
+failed_by (inspect.SeveralStations a b) r r2 w w2 h = h
 failed_by inspect.NoSignal r r2 w w2 h = h
 
 ends_inspected : {A R W : Type 0} (ended : Result A InspectFault) (r r2 : Device R) (waits : W → List ℕ) (w w2 : Device W) (P Q : A → Type 0) (S : InspectFault → Type 0) (T : ToolFault → Type 0)
@@ -159,6 +161,7 @@ one_status inspect.Read = refl
 one_status inspect.Write = refl
 one_status (inspect.Scan e) = refl
 one_status (inspect.Check e) = refl
+one_status (inspect.SeveralStations a b) = refl
 one_status inspect.NoSignal = refl
 
 module _ {R W : Type 0} (left : R → Option (List ℕ)) (held : W → Option (List ℕ)) (waits : W → List ℕ) (r r2 : Device R) (w w2 : Device W) (name : Text) (options : List Row) where
@@ -173,6 +176,7 @@ module _ {R W : Type 0} (left : R → Option (List ℕ)) (held : W → Option (L
   not_stopped x (faults.Plan e) two stops = one_two two
   not_stopped x (faults.Convert e) two stops = one_two two
   not_stopped x (faults.Check e) two stops = one_two two
+  not_stopped x (faults.SeveralStations a b) two stops = one_two two
   not_stopped x faults.NoSignal two stops = one_two two
 
   refused_by : (fault : ToolFault) → fault_status fault ≡ 2 → HasStopped left r r2 held waits w w2 name options fault → IsRefusedBy r r2 w w2 name options fault

@@ -14,9 +14,7 @@ use Rattle.rtcm_inspect.specs.ShowLines.{show_lines}
 use Rattle.rtcm_inspect.specs.Listing.{ListsAll, StopsListing}
 use Rattle.rtcm2rinex.specs.Converting.{IsConverted, StopsConverting}
 use Rattle.rtcm_inspect.specs.Checking.{ChecksFile, StopsChecking}
-use Rattle.rtcm2rinex.specs.Asked.{PrintsAsked, StopsAsked}
-use Rattle.rtcm_inspect.specs.Signals.{signals_text}
-use Rattle.rtcm_inspect.specs.Fitting.{options_text}
+use Rattle.rtcm2rinex.specs.Asked.{PrintsOptionsAsked, PrintsSignalsAsked, StopsOptionsAsked, StopsSignalsAsked}
 use Rattle.rtcm2rinex.specs.CommandLine.{SelectsCommand, FailsParsing, IsCommand}
 use Rattle.rtcm_inspect.specs.Devices.{AreFine}
 use Rattle.rtcm_inspect.specs.Printing.{PrintsLine, PrintsPart, PrintsText}
@@ -37,8 +35,8 @@ abbrev pub HasPrinted : {R W : Type 0} → (R → Option (List ℕ)) → (r r' :
 HasPrinted left r r' held w w' name options =
     ((name ≡ codes "frames") × Moves left r r' held w w' (ListsAll frame_lines))
     ⊎ ((name ≡ codes "show") × Moves left r r' held w w' (ListsAll show_lines))
-    ⊎ ((name ≡ codes "signals") × Moves left r r' held w w' (PrintsAsked signals_text options))
-    ⊎ ((name ≡ codes "options") × Moves left r r' held w w' (PrintsAsked options_text options))
+    ⊎ ((name ≡ codes "signals") × Moves left r r' held w w' (PrintsSignalsAsked options))
+    ⊎ ((name ≡ codes "options") × Moves left r r' held w w' (PrintsOptionsAsked options))
     ⊎ ((name ≡ codes "check") × ChecksFile (left r.inner) (held w.inner) (held w'.inner))
 
 -- The command of this name completed: the file of the stream was written, which has an epoch, and its report was
@@ -55,8 +53,8 @@ abbrev pub HasStoppedPrinting : {R W : Type 0} → (R → Option (List ℕ)) →
 HasStoppedPrinting left r r' held waits w w' name options fault =
     ((name ≡ codes "frames") × StopsListing (2 ^ 48) frame_lines left r r' held waits w w' fault)
     ⊎ ((name ≡ codes "show") × StopsListing (2 ^ 48) show_lines left r r' held waits w w' fault)
-    ⊎ ((name ≡ codes "signals") × StopsAsked signals_text options left r r' held waits w w' fault)
-    ⊎ ((name ≡ codes "options") × StopsAsked options_text options left r r' held waits w w' fault)
+    ⊎ ((name ≡ codes "signals") × StopsSignalsAsked options left r r' held waits w w' fault)
+    ⊎ ((name ≡ codes "options") × StopsOptionsAsked options left r r' held waits w w' fault)
     ⊎ ((name ≡ codes "check") × StopsChecking left r r' held waits w w' fault)
 
 -- the command was stopped by a fault

@@ -22,6 +22,7 @@ inspected inspect.Read = faults.Read
 inspected inspect.Write = faults.Write
 inspected (inspect.Scan e) = faults.Scan e
 inspected (inspect.Check e) = faults.Check e
+inspected (inspect.SeveralStations a b) = faults.SeveralStations a b
 inspected inspect.NoSignal = faults.NoSignal
 
 -- the result of a command other than `convert`

@@ -74,6 +74,7 @@ error_words (faults.Header e) = header_words e
 error_words (faults.Plan e) = plan_words e
 error_words (faults.Convert e) = conversion_word e ∷ []
 error_words (faults.Check e) = file_words e
+error_words (faults.SeveralStations a b) = codes "SeveralStations" ∷ decimal a ∷ decimal b ∷ []
 error_words faults.NoSignal = codes "NoSignal" ∷ []
 
 -- the line of an error

@@ -120,7 +120,10 @@ fn run<R: Read, W: Deliver, E: Write>(
         Asked::Frames => of_inspection(run_frames(alloc, reader, writer)),
         Asked::Show => of_inspection(run_show(alloc, reader, writer)),
         Asked::Signals => of_inspection(run_signals(alloc, station_of(options), reader, writer)),
-        Asked::Options => of_inspection(run_options(alloc, station_of(options), reader, writer)),
+        Asked::Options => {
+            let ended = run_options(alloc, station_of(options), None, reader, writer);
+            of_inspection(ended)
+        }
         Asked::Convert => convert(alloc, options, reader, writer, faults),
         Asked::Check => of_inspection(run_check(alloc, reader, writer)),
     }

@@ -50,6 +50,10 @@ fn add_error(line: &mut OutputLine, fault: ToolFault)
         ToolFault::Plan(fault) => add_plan_error(line, fault),
         ToolFault::Convert(fault) => line.add_word(conversion_name(fault)),
         ToolFault::Check(fault) => add_file_error(line, fault),
+        ToolFault::SeveralStations(first, other) => {
+            line.add_count("SeveralStations", u64::from(first));
+            line.add_number(u64::from(other));
+        }
         ToolFault::NoSignal => line.add_word("NoSignal"),
     }
 }

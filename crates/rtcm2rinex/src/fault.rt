@@ -31,6 +31,8 @@ pub enum ToolFault {
     Convert(Fault),
     /// The file checked was refused.
     Check(ReadFault),
+    /// No station was given, and the stream is of these two, or more.
+    SeveralStations(u16, u16),
     /// No cell of the stream has a value.
     NoSignal,
 }
@@ -44,6 +46,7 @@ impl From<InspectFault> for ToolFault {
             InspectFault::Write => ToolFault::Write,
             InspectFault::Scan(fault) => ToolFault::Scan(fault),
             InspectFault::Check(fault) => ToolFault::Check(fault),
+            InspectFault::SeveralStations(first, other) => ToolFault::SeveralStations(first, other),
             InspectFault::NoSignal => ToolFault::NoSignal,
         }
     }

@@ -1,17 +1,14 @@
 -- Signal counts as a consumer of frames.
-use Rattle.std.proofs.Common.{◌≡◌, ◌∙◌, ap, inr, ◌+◌, ◌*◌, ◌<◌, ◌≤◌, ◌^◌, sym, subst, arith, Bool, true, ℕ, List, [], ◌∷◌, ◌++◌, Option, Some, None, IfSome, Result, Ok, Err, length, length-append, append-nil, refl}
+use Rattle.std.proofs.Common.{◌≡◌, ◌∙◌, ap, inr, ◌+◌, ◌*◌, ◌<◌, ◌≤◌, ◌^◌, sym, subst, arith, Bool, true, ℕ, List, [], ◌∷◌, ◌++◌, Option, Result, Ok, Err, length, length-append, append-nil, refl}
 use Rattle.rtcm_scan.specs.Frames.{Framed, frames_of}
 use Rattle.rtcm_scan.specs.Known.{known_frames}
 use Rattle.rtcm_bits.specs.Device.{Device, HasFailed}
 use Rattle.rtcm_scan.specs.declared.feed.StreamFault.{StreamFault}
 use Rattle.rtcm_scan.specs.declared.feed.StreamFault.TheVariants as stream
 use Rattle.std.specs.Prelude.{⊤}
-use Rattle.std.specs.Io.KnownBytes.{Consumes, IsAtEnd}
-use Rattle.rtcm_scan.specs.declared.framer.ScanFault.TheVariants as scan
 use Rattle.rtcm_inspect.specs.declared.fault.InspectFault.{InspectFault}
-use Rattle.rtcm_inspect.specs.declared.fault.InspectFault.TheVariants as faults
 use Rattle.rtcm_inspect.specs.Printing.{EndsPrinting}
-use Rattle.rtcm_inspect.specs.Devices.{HaveFailedBy, IsDelivered, ReadFailures, stream_fault}
+use Rattle.rtcm_inspect.specs.Devices.{ReadFailures, stream_fault}
 use Rattle.rtcm_scan.specs.Passing.{AtFault, Passes, BreaksReading, HasPassedAll, PassesAll, PassesToLimit, Reads}
 use Rattle.rtcm_scan.specs.Scan.{FramerValue}
 use Rattle.obs_epoch.specs.SignalCounts.{AreSignalCounts, CountsMessage, SignalCountsValue, valued}
@@ -23,27 +20,12 @@ use Rattle.rtcm_msg.specs.declared.fault.MsgFault.{MsgFault}
 use Rattle.rtcm_msg.specs.declared.message.Message.{Message}
 use Rattle.rtcm_inspect.specs.Signals.{valued_in, valued_of}
 use Rattle.std.proofs.lemmas.Grind.{flat_map-append}
-use Rattle.rtcm_inspect.specs.SignalOutput.{EndsSignals, ReadsTooMuch, SignalText, StopsSignals}
+use Rattle.rtcm_inspect.specs.FirstMessages.{AreFirst}
+use Rattle.rtcm_inspect.specs.OptionOutput.{AreOptionsOf, EndsOptions}
+use Rattle.rtcm_inspect.specs.SignalOutput.{EndsSignals, ReadsTooMuch, SignalText}
 use Rattle.rtcm_inspect.specs.Counting.{Counts, StopsCounting, HasCounted, IsCounted, AreSignals, NeverFails}
-use Rattle.rtcm_inspect.specs.Fitting.{first_station, point_of, station_of}
-use Rattle.rtcm_msg.specs.Station.{InRange}
-use Rattle.rtcm_msg.specs.declared.station.StationParts.{StationParts}
-use Rattle.std.specs.Option.{option_map_or, option_or}
-use Rattle.rtcm_inspect.specs.declared.signals.StreamSignals.{StreamSignals}
-
--- the first station message of one more frame
-or_more : (a b c : Option StationParts) → option_or a (option_or b c) ≡ option_or (option_or a b) c
-or_more None b c = refl
-or_more (Some x) b c = refl
-
-or_none : (a : Option StationParts) → option_or a None ≡ a
-or_none None = refl
-or_none (Some x) = refl
-
-first_more : (wanted : Option ℕ) (fs : List Framed) (f : Framed) → first_station wanted (fs ++ f ∷ []) ≡ option_or (first_station wanted fs) (station_of wanted f)
-first_more wanted [] f = or_none (station_of wanted f)
-first_more wanted (g ∷ fs) f =
-    ap (option_or (station_of wanted g)) (first_more wanted fs f) ∙ or_more (station_of wanted g) (first_station wanted fs) (station_of wanted f)
+use Rattle.std.specs.Option.{option_map_or}
+use Rattle.rtcm_inspect.specs.declared.counting.StreamSignals.{StreamSignals}
 
 valued_more : (wanted : Option ℕ) (fs : List Framed) (f : Framed) (cells : List HeardCell) → valued_of wanted f ≡ cells → valued_in wanted (fs ++ f ∷ []) ≡ valued_in wanted fs ++ cells
 valued_more wanted fs f cells is =
@@ -70,11 +52,6 @@ read_counted c c2 wanted fs f m is step small h =
           (ap length all ∙ length-append cells more);
     }
 
--- the first station message after one more message that was read
-pub first_as_read : (first : Option StationParts) (wanted : Option ℕ) (f : Framed) (m : Message) → message_at f.message ≡ Ok m
-    → option_or first (point_of wanted (heard m)) ≡ option_or first (station_of wanted f)
-first_as_read first wanted f m is = ap (λ (r : Result Message MsgFault). option_or first (option_map_or (point_of wanted) (heard_of r) None)) (sym is)
-
 -- a message that was refused has no cells
 pub refused_counted : (c : SignalCountsValue) (wanted : Option ℕ) (fs : List Framed) (f : Framed) (e : MsgFault) → message_at f.message ≡ Err e → IsCounted c wanted fs → IsCounted c wanted (fs ++ f ∷ [])
 refused_counted c wanted fs f e is h =
@@ -89,18 +66,9 @@ refused_counted c wanted fs f e is h =
     longer : (cells fs fs2 all : ℕ) → cells ≤ 64 * fs → fs2 ≡ fs + 1 → all ≡ cells → all ≤ 64 * fs2
     longer cells fs fs2 all few e same = omega (arith, few, e, same)
 
--- nor a station
-pub first_kept : (first : Option StationParts) (wanted : Option ℕ) (f : Framed) (e : MsgFault) → message_at f.message ≡ Err e → first ≡ option_or first (station_of wanted f)
-first_kept first wanted f e is =
-    sym (or_none first) ∙ ap (λ (r : Result Message MsgFault). option_or first (option_map_or (point_of wanted) (heard_of r) None)) (sym is)
-
 -- no frame was counted
-pub none_counted : (c : StreamSignals) (wanted : Option ℕ) → AreSignalCounts c.signal_counts [] → c.first ≡ None → AreSignals c wanted []
-none_counted c wanted signal_counts none = record {
-  counted = record { signal_counts = signal_counts; few = omega arith };
-  first = none;
-  in_range = subst (λ (o : Option StationParts). IfSome o InRange) (sym none) tt;
-}
+pub none_counted : (c : StreamSignals) (wanted : Option ℕ) → AreSignalCounts c.signal_counts [] → AreFirst c.first wanted [] → AreSignals c wanted []
+none_counted c wanted signal_counts first = record { counted = record { signal_counts = signal_counts; few = omega arith }; first = first }
 
 pub new_counts : (c : StreamSignals) → Counts c tt [] c tt []
 new_counts c = record { same = refl; counts = λ few begun. begun }
@@ -108,38 +76,31 @@ new_counts c = record { same = refl; counts = λ few begun. begun }
 -- one more frame was counted
 pub one_more_counted : (c0 c c2 : StreamSignals) (ps fs : List Framed) (f : Framed) → c2.station ≡ c.station
     → ((gs : List Framed) → length gs < 2 ^ 56 → IsCounted c.signal_counts c.station gs → IsCounted c2.signal_counts c.station (gs ++ f ∷ []))
-    → c2.first ≡ option_or c.first (station_of c.station f) → (IfSome c.first InRange → IfSome c2.first InRange)
+    → ((gs : List Framed) → AreFirst c.first c.station gs → AreFirst c2.first c.station (gs ++ f ∷ []))
     → Counts c0 tt ps c tt fs → Counts c0 tt ps c2 tt (fs ++ f ∷ [])
-one_more_counted c0 c c2 ps fs f kept step first range s = record {
+one_more_counted c0 c c2 ps fs f kept step first s = record {
   same = kept ∙ s.same;
   counts = λ few begun.
       let fewer : length fs < 2 ^ 56 = join (length fs) (length (fs ++ f ∷ [])) (length-append fs (f ∷ [])) few in
       let before : AreSignals c c.station fs = subst (λ (wanted : Option ℕ). AreSignals c wanted fs) (sym s.same) (s.counts fewer begun) in
-      subst (λ (wanted : Option ℕ). AreSignals c2 wanted (fs ++ f ∷ [])) s.same (after before fewer);
+      subst (λ (wanted : Option ℕ). AreSignals c2 wanted (fs ++ f ∷ [])) s.same (record { counted = step fs fewer before.counted; first = first fs before.first });
 }
   where
     join : (n m : ℕ) → m ≡ n + 1 → m < 2 ^ 56 → n < 2 ^ 56
     join n m e h = omega (arith, e, h)
-
-    after : AreSignals c c.station fs → length fs < 2 ^ 56 → AreSignals c2 c.station (fs ++ f ∷ [])
-    after h fewer = record {
-      counted = step fs fewer h.counted;
-      first = first ∙ ap (λ (o : Option StationParts). option_or o (station_of c.station f)) h.first ∙ sym (first_more c.station fs f);
-      in_range = range h.in_range;
-    }
 
 -- ---- a stream that is counted from its start
 
 module _ (v v2 : FramerValue) (c c2 : StreamSignals) (r r2 : Option (List ℕ)) (new : HasPassedAll Counts v c tt [] c tt []) where
   -- to its end
   pub counted_all : v2.has_ended ≡ true → AreSignals c c.station [] → ((b : List ℕ) → 6 * length (frames_of b) ≤ length b)
-      → PassesAll Counts v c tt v2 c2 tt r r2 → (b : List ℕ) × Consumes r r2 b × IsAtEnd r2 × AreSignals c2 c.station (frames_of b)
+      → PassesAll Counts v c tt v2 c2 tt r r2 → HasCounted c2 c.station r r2
   counted_all ended begun law p =
       let b : List ℕ = p.0.0 in
       let all = p.0.2 c tt [] [] new in
       let counts = subst (λ (e : Bool). length (known_frames e b) < 2 ^ 56 → AreSignals c c.station [] → AreSignals c2 c.station (known_frames e b)) ended all.passed.taken.counts in
       let few = join (length (frames_of b)) (length b) v2.taken v2.limit (law b) all.passed.framer.history.taken all.passed.framer.within all.passed.framer.limit in
-      (b, p.0.1, p.1, counts few begun)
+      (b, p.0.1, p.1, all.passed.taken.same, counts few begun)
     where
       join : (n m t l : ℕ) → 6 * n ≤ m → t ≡ m → t ≤ l → l ≤ 2 ^ 48 → n < 2 ^ 56
       join n m t l a e w x = omega (arith, a, e, w, x)
@@ -154,36 +115,32 @@ module _ (v v2 : FramerValue) (c c2 : StreamSignals) (r r2 : Option (List ℕ)) 
   counter_fails p = (p.breaks c tt [] [] new).broken
 
 -- the counting was stopped by a fault
-pub counting_stopped : {R F : Type 0} (left : R → Option (List ℕ)) (v v2 : FramerValue) (c c2 : StreamSignals) (rd rd2 : Device R) (n : ℕ) (wanted : Option ℕ) (fault : StreamFault F) → v.limit ≡ 2 ^ 48 → v.taken ≡ 0
+pub counting_stopped : {R F : Type 0} (left : R → Option (List ℕ)) (v v2 : FramerValue) (c c2 : StreamSignals) (rd rd2 : Device R) (n : ℕ) (fault : StreamFault F) → v.limit ≡ 2 ^ 48 → v.taken ≡ 0
     → HasPassedAll Counts v c tt [] c tt []
     → AtFault fault (Reads (left rd.inner) (left rd2.inner) (Passes Counts v c tt v2 c2 tt)) (Reads (left rd.inner) (left rd2.inner) (PassesToLimit Counts v c tt v2 c2 tt))
     (BreaksReading Counts NeverFails v c tt c2 tt n (left rd.inner) (left rd2.inner))
-    → StopsCounting wanted left rd rd2 (stream_fault fault)
-counting_stopped left v v2 c c2 rd rd2 n wanted stream.Read is none new passed = tt
-counting_stopped left v v2 c c2 rd rd2 n wanted stream.TooLong is none new passed = counted_too_much v v2 c c2 (left rd.inner) (left rd2.inner) new is none passed
-counting_stopped left v v2 c c2 rd rd2 n wanted (stream.Sink fault) is none new broke = absurd (counter_fails v v2 c c2 (left rd.inner) (left rd2.inner) new broke)
+    → StopsCounting left rd rd2 (stream_fault fault)
+counting_stopped left v v2 c c2 rd rd2 n stream.Read is none new passed = tt
+counting_stopped left v v2 c c2 rd rd2 n stream.TooLong is none new passed = counted_too_much v v2 c c2 (left rd.inner) (left rd2.inner) new is none passed
+counting_stopped left v v2 c c2 rd rd2 n (stream.Sink fault) is none new broke = absurd (counter_fails v v2 c c2 (left rd.inner) (left rd2.inner) new broke)
 
 pub counted_reads : {F : Type 0} (fault : StreamFault F) (before after : ℕ) → AtFault fault (HasFailed before after) (after ≡ before) (after ≡ before) → ReadFailures (stream_fault fault) before after
 counted_reads stream.Read before after h = h
 counted_reads stream.TooLong before after h = h
 counted_reads (stream.Sink fault) before after h = h
 
--- a fault of the counting is one of the command, and nothing was written
-pub signals_stopped : {R W : Type 0} (left : R → Option (List ℕ)) (held : W → Option (List ℕ)) (waits : W → List ℕ) (text : SignalText) (wanted : Option ℕ) (r r2 : Device R) (w w1 : Device W) (fault : InspectFault)
-    → w1.failures ≡ w.failures → IsDelivered held waits w w1 → ReadFailures fault r.failures r2.failures → StopsCounting wanted left r r2 fault → HaveFailedBy fault r r2 w w1 × StopsSignals text wanted left r r2 held waits w w1 fault
-signals_stopped left held waits text wanted r r2 w w1 faults.Read same sent reads stops = ((reads, same), sent)
-signals_stopped left held waits text wanted r r2 w w1 (faults.Scan scan.TooLong) same sent reads stops = ((reads, same), (stops, sent))
-signals_stopped left held waits text wanted r r2 w w1 (faults.Scan scan.Memory) same sent reads stops = ((reads, same), (stops, sent))
-signals_stopped left held waits text wanted r r2 w w1 (faults.Scan scan.BadLimit) same sent reads stops = absurd stops
-signals_stopped left held waits text wanted r r2 w w1 (faults.Scan scan.Ended) same sent reads stops = absurd stops
-signals_stopped left held waits text wanted r r2 w w1 faults.Write same sent reads stops = absurd stops
-signals_stopped left held waits text wanted r r2 w w1 (faults.Check e) same sent reads stops = absurd stops
-signals_stopped left held waits text wanted r r2 w w1 faults.NoSignal same sent reads stops = ((reads, same), (stops, sent))
-
 -- the signals of a stream were printed, or a part of their text
 pub signals_printed : {R W : Type 0} (left : R → Option (List ℕ)) (held : W → Option (List ℕ)) (waits : W → List ℕ) (text : SignalText) (wanted : Option ℕ) (r r2 : Device R) (w w2 : Device W) (ended : Result ⊤ InspectFault)
-    (s : StreamSignals) (h : HasCounted s wanted (left r.inner) (left r2.inner)) → r2.failures ≡ r.failures → EndsPrinting ended held waits w w2 (text wanted (frames_of h.0))
+    (s : StreamSignals) (h : HasCounted s wanted (left r.inner) (left r2.inner)) → 0 < length (valued_in wanted (frames_of h.0)) → r2.failures ≡ r.failures → EndsPrinting ended held waits w w2 (text wanted (frames_of h.0))
     → EndsSignals ended text wanted left r r2 held waits w w2
-signals_printed left held waits text wanted r r2 w w2 (Ok u) s h same p = ((same, p.0, p.1), (h.0, h.1, h.2, h.4, p.2))
-signals_printed left held waits text wanted r r2 w w2 (Err fault) s h same p =
-    subst (λ (f : InspectFault). EndsSignals {A = ⊤} (Err f) text wanted left r r2 held waits w w2) (sym p.0) ((same, p.1.0), inr (h.0, h.1, h.2, h.4, p.1.1))
+signals_printed left held waits text wanted r r2 w w2 (Ok u) s h some same p = ((same, p.0, p.1), (h.0, h.1, h.2, some, p.2))
+signals_printed left held waits text wanted r r2 w w2 (Err fault) s h some same p =
+    subst (λ (f : InspectFault). EndsSignals {A = ⊤} (Err f) text wanted left r r2 held waits w w2) (sym p.0) ((same, p.1.0), inr (h.0, h.1, h.2, some, p.1.1))
+
+-- the options of a stream were printed, or a part of their text
+pub options_printed : {R W : Type 0} (left : R → Option (List ℕ)) (held : W → Option (List ℕ)) (waits : W → List ℕ) (near wanted : Option ℕ) (r r2 : Device R) (w w2 : Device W) (ended : Result ⊤ InspectFault) (text : List ℕ)
+    (s : StreamSignals) (h : HasCounted s wanted (left r.inner) (left r2.inner)) → AreOptionsOf near wanted (frames_of h.0) text → r2.failures ≡ r.failures → EndsPrinting ended held waits w w2 text
+    → EndsOptions ended near wanted left r r2 held waits w w2
+options_printed left held waits near wanted r r2 w w2 (Ok u) text s h are same p = ((same, p.0, p.1), (h.0, h.1, h.2, (text, are, p.2)))
+options_printed left held waits near wanted r r2 w w2 (Err fault) text s h are same p =
+    subst (λ (f : InspectFault). EndsOptions {A = ⊤} (Err f) near wanted left r r2 held waits w w2) (sym p.0) ((same, p.1.0), inr (h.0, h.1, h.2, (text, are, p.1.1)))

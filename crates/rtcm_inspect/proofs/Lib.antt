@@ -6,8 +6,10 @@ mod ShowLemmas
 mod ReadBackLemmas
 mod CheckLemmas
 pub mod PrintingLemmas
+mod FirstLemmas
 mod CountingLemmas
 mod SignalLemmas
 mod ValuedLemmas
 mod PlannedLemmas
 mod SkipLemmas
+mod WeekLemmas

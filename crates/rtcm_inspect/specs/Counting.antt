@@ -1,17 +1,16 @@
 -- The counts of the cells of a stream, by signal, while the stream is read.
-use Rattle.std.specs.Prelude.{◌≡◌, ℕ, ◌*◌, ◌<◌, ◌≤◌, ◌^◌, List, length, Option, IfSome, ⊤}
+use Rattle.std.specs.Prelude.{◌≡◌, ℕ, ◌*◌, ◌<◌, ◌≤◌, ◌^◌, List, length, Option, ⊤}
 use Rattle.std.specs.Io.KnownBytes.{Consumes, IsAtEnd}
 use Rattle.rtcm_bits.specs.Device.{Device}
 use Rattle.rtcm_scan.specs.Frames.{Framed, frames_of}
 use Rattle.rtcm_scan.specs.declared.framer.ScanFault.TheVariants as scan
 use Rattle.obs_epoch.specs.SignalCounts.{SignalCountsValue, AreSignalCounts}
-use Rattle.rtcm_msg.specs.Station.{InRange}
-use Rattle.rtcm_inspect.specs.Fitting.{first_station}
+use Rattle.rtcm_inspect.specs.FirstMessages.{AreFirst}
 use Rattle.rtcm_inspect.specs.Signals.{valued_in}
-use Rattle.rtcm_inspect.specs.SignalOutput.{HasNoSignal, ReadsTooMuch}
+use Rattle.rtcm_inspect.specs.SignalOutput.{ReadsTooMuch}
 use Rattle.rtcm_inspect.specs.declared.fault.InspectFault.{InspectFault}
 use Rattle.rtcm_inspect.specs.declared.fault.InspectFault.TheVariants as faults
-use Rattle.rtcm_inspect.specs.declared.signals.StreamSignals.{StreamSignals}
+use Rattle.rtcm_inspect.specs.declared.counting.StreamSignals.{StreamSignals}
 
 -- the counts are those of the cells of these frames, each of which has at most 64
 pub record IsCounted (c : SignalCountsValue) (wanted : Option ℕ) (fs : List Framed) : Type 0 where
@@ -21,21 +20,19 @@ pub record IsCounted (c : SignalCountsValue) (wanted : Option ℕ) (fs : List Fr
 -- the signals of these frames
 pub record AreSignals (s : StreamSignals) (wanted : Option ℕ) (fs : List Framed) : Type 0 where
   pub counted : IsCounted s.signal_counts wanted fs
-  pub first : s.first ≡ first_station wanted fs
-  pub in_range : IfSome s.first InRange
+  pub first : AreFirst s.first wanted fs
 
--- The stream was read to its end, its signals were counted, and it has a cell with a value.
+-- The stream was read to its end, and its signals were counted.
 abbrev pub HasCounted : StreamSignals → Option ℕ → (r r' : Option (List ℕ)) → Type 0
-HasCounted s wanted r r' = (b : List ℕ) × Consumes r r' b × IsAtEnd r' × AreSignals s wanted (frames_of b)
-    × (0 < length (valued_in wanted (frames_of b)))
+HasCounted s wanted r r' =
+    (b : List ℕ) × Consumes r r' b × IsAtEnd r' × (s.station ≡ wanted) × AreSignals s wanted (frames_of b)
 
 -- what was read when the counting was stopped by a fault
-abbrev pub StopsCounting : {R : Type 0} → Option ℕ → (R → Option (List ℕ)) → (r r' : Device R) → InspectFault → Type 0
-StopsCounting wanted left r r' faults.Read = ⊤
-StopsCounting wanted left r r' faults.NoSignal = HasNoSignal wanted (left r.inner) (left r'.inner)
-StopsCounting wanted left r r' (faults.Scan scan.TooLong) = ReadsTooMuch (2 ^ 48) (left r.inner) (left r'.inner)
-StopsCounting wanted left r r' (faults.Scan scan.Memory) = r' ≡ r
-StopsCounting wanted left r r' other = ⊥
+abbrev pub StopsCounting : {R : Type 0} → (R → Option (List ℕ)) → (r r' : Device R) → InspectFault → Type 0
+StopsCounting left r r' faults.Read = ⊤
+StopsCounting left r r' (faults.Scan scan.TooLong) = ReadsTooMuch (2 ^ 48) (left r.inner) (left r'.inner)
+StopsCounting left r r' (faults.Scan scan.Memory) = r' ≡ r
+StopsCounting left r r' other = ⊥
 
 -- ---- signal counts as a consumer of frames
 

@@ -8,9 +8,13 @@ pub mod Listing
 pub mod ReadBack
 pub mod DateTexts
 pub mod Checking
+pub mod FirstMessages
+pub mod NearWeek
 pub mod Signals
 pub mod Fitting
 pub mod Counting
 pub mod SignalOutput
+pub mod OptionOutput
 pub mod Printing
 pub mod SignalLaws
+pub mod WeekLaws

@@ -1,4 +1,4 @@
--- What the commands `signals` and `options` have read and written. The reader had r left and now has r', and the writer
+-- What the command `signals` has read and written. The reader had r left and now has r', and the writer
 -- had written w and now has written w'. `text` is the output for the frames of a stream, for one station or for all.
 use Rattle.std.specs.Prelude.{◌≡◌, ◌⊎◌, ℕ, ◌<◌, ◌^◌, List, [], length, Option, Result}
 use Rattle.std.specs.Io.KnownBytes.{Appends, Consumes, IsAtEnd}
@@ -35,20 +35,24 @@ HasNoSignal wanted r r' = (b : List ℕ) × Consumes r r' b × IsAtEnd r' × (va
 abbrev pub ReadsTooMuch : ℕ → (r r' : Option (List ℕ)) → Type 0
 ReadsTooMuch limit r r' = (b : List ℕ) × Consumes r r' b × (limit < length b)
 
+-- What was read and written at a fault of reading: nothing was written, and nothing waits in the writer.
+abbrev pub StopsReading : {R W : Type 0} → (R → Option (List ℕ)) → (r r' : Device R) → (W → Option (List ℕ))
+    → (W → List ℕ) → (w w' : Device W) → InspectFault → Type 0
+StopsReading left r r' held waits w w' faults.Read = IsDelivered held waits w w'
+StopsReading left r r' held waits w w' (faults.Scan scan.TooLong) =
+    ReadsTooMuch (2 ^ 48) (left r.inner) (left r'.inner) × IsDelivered held waits w w'
+StopsReading left r r' held waits w w' (faults.Scan scan.Memory) = (r' ≡ r) × IsDelivered held waits w w'
+StopsReading left r r' held waits w w' other = ⊥
+
 -- What was read and written at a fault: only at `Write` was anything written, and except at `Write` nothing waits in
 -- the writer. It fails before anything is read, or in the text.
 abbrev pub StopsSignals : {R W : Type 0} → SignalText → Option ℕ → (R → Option (List ℕ)) → (r r' : Device R)
     → (W → Option (List ℕ)) → (W → List ℕ) → (w w' : Device W) → InspectFault → Type 0
-StopsSignals text wanted left r r' held waits w w' faults.Read = IsDelivered held waits w w'
 StopsSignals text wanted left r r' held waits w w' faults.Write =
     IsUnread r r' held w w' ⊎ Moves left r r' held w w' (PrintsSignalsPart text wanted)
 StopsSignals text wanted left r r' held waits w w' faults.NoSignal =
     HasNoSignal wanted (left r.inner) (left r'.inner) × IsDelivered held waits w w'
-StopsSignals text wanted left r r' held waits w w' (faults.Scan scan.TooLong) =
-    ReadsTooMuch (2 ^ 48) (left r.inner) (left r'.inner) × IsDelivered held waits w w'
-StopsSignals text wanted left r r' held waits w w' (faults.Scan scan.Memory) =
-    (r' ≡ r) × IsDelivered held waits w w'
-StopsSignals text wanted left r r' held waits w w' other = ⊥
+StopsSignals text wanted left r r' held waits w w' other = StopsReading left r r' held waits w w' other
 
 -- how such a command ended
 abbrev pub EndsSignals : {A R W : Type 0} → Result A InspectFault → SignalText → Option ℕ → (R → Option (List ℕ))

@@ -19,6 +19,9 @@ pub enum InspectFault {
     Scan(ScanFault),
     /// The file checked was refused.
     Check(ReadFault),
+    /// The MSMs and station messages of the stream are of these two stations, or more, and none was
+    /// given.
+    SeveralStations(u16, u16),
     /// No cell of the stream has a value.
     NoSignal,
 }

@@ -3,6 +3,7 @@ ghost use Rattle.std.specs.Prelude.{List, ℕ};
 ghost use Rattle.rtcm_msg.specs.declared.message.Message.{Message};
 ghost use Rattle.rtcm_inspect.specs.ReadBack.{AreKnown, AreEncoded, ReadsBack};
 ghost use Rattle.rtcm_inspect.specs.SignalLaws.{LeavesNoneOut, AreReadAsPlan, SkipsNoValue};
+ghost use Rattle.rtcm_inspect.specs.WeekLaws.{HasOneWeek, IsDatedByWeek};
 
 /// Every list of messages of known layouts has encodings. For every choice of these, their frames,
 /// joined, are a stream with exactly these frames, which is read back as that list.
@@ -28,3 +29,11 @@ pub fn signals()
 {
     gnss_obs::laws::signal_tables();
 }
+
+/// The week that `run_options` prints for a date. From 1980-01-09 on exactly one week puts a time
+/// of week at most half a week before noon, or less than half a week after it. A conversion with a
+/// start week gives the first MSM, of the station or of any, its time in that week.
+pub fn near()
+    ensures one { HasOneWeek }
+    ensures dated { IsDatedByWeek }
+{}

@@ -3,10 +3,13 @@
 #![tactic(auto)]
 
 mod check;
+mod counting;
 mod fault;
+mod first_messages;
 pub mod laws;
 mod line;
 mod listing;
+mod options;
 mod signals;
 mod times;
 
@@ -14,4 +17,5 @@ pub use check::{run_check, run_check_times};
 pub use fault::InspectFault;
 pub use line::{OutputLine, print_line, print_text};
 pub use listing::{Listing, list, run_frames, run_show};
-pub use signals::{run_options, run_signals};
+pub use options::run_options;
+pub use signals::run_signals;

@@ -100,7 +100,7 @@ impl OutputLine {
 
     /// Appends a separator and a length, given in units of 0.0001 m, in metres with four decimals.
     pub fn add_metres(&mut self, separator: u8, value: i64)
-        requires { length self.old ≤ 293 }
+        requires { length self.old ≤ 360 }
         ensures text { self.new ≡ self.old ++ separator ∷ metres value }
         ensures short { length self.new ≤ length self.old + 27 }
     {
@@ -110,7 +110,7 @@ impl OutputLine {
     }
 
     fn put_size(&mut self, size: u64)
-        requires { length self.old ≤ 295 }
+        requires { length self.old ≤ 362 }
         ensures text { self.new ≡ self.old ++ size_text size }
         ensures short { length self.new ≤ length self.old + 25 }
     {
@@ -142,8 +142,8 @@ impl OutputLine {
     }
 }
 
-/// Delivers the bytes that wait in the writer, if any. A command that writes only at its end does so
-/// before it reads, so that none of them waits if the reader fails.
+/// Delivers the bytes that wait in the writer, if any. A command that writes only at its end does
+/// so before it reads, so that none of them waits if the reader fails.
 ///
 /// # Errors
 ///

@@ -1,10 +1,12 @@
-use Rattle.std.proofs.Common.{◌≡◌, ◌∙◌, ◌+◌, ◌*◌, ◌≤◌, ◌++◌, ap, arith, lit≤, ℕ, List, length}
+use Rattle.std.proofs.Common.{◌≡◌, ◌∙◌, ◌+◌, ◌*◌, ◌≤◌, ◌++◌, ap, sym, arith, lit≤, ℕ, List, length}
 use Rattle.gnss_obs.specs.Signals.{table}
 use Rattle.gnss_obs.specs.declared.system.System.TheVariants.{Gps, Galileo}
 use Rattle.rtcm_inspect.specs.Signals.{count_lines, signals_text, valued_in}
 use Rattle.rtcm_scan.specs.Frames.{frames_of}
 use Rattle.rtcm_inspect.proofs.CountingLemmas.{signals_printed}
 use Rattle.rtcm_inspect.proofs.PrintingLemmas.{printed_later, same_text}
+use Rattle.rtcm_inspect.proofs.SignalLemmas.{no_cells, some_cells}
+use Rattle.rtcm_inspect.proofs.ValuedLemmas.{valued_keys}
 use Rattle.rtcm_inspect.proofs.signals.run_signals.Goals as goal
 
 fits : (old new gps : ℕ) → old ≡ 0 → new ≤ old + 26 * gps → gps ≤ 19 → new ≤ 512
@@ -15,14 +17,22 @@ add_lines-requires-2 g c =
     let small : length (table Gps) ≤ 19 = lit≤ tt in
     fits (length c.new-text.result.items) (length c.add_lines.new.text.items) (length (table Gps)) (ap length c.new-text.ensures) c.add_lines.ensures.short small
 
+pub returns-then-not-has_any : goal.returns-then-not-has_any
+returns-then-not-has_any g c =
+    let s = c.in_ok-signals.ensures.whole in
+    let cells = valued_in c.args.station (frames_of s.0) in
+    let none = no_cells _ cells s.4.counted.signal_counts (valued_keys c.args.station (frames_of s.0)) (sym c.has_any.ensures ∙ c.if-not-has_any.true) in
+    ((c.in_ok-signals.ensures.reader, c.in_ok-deliver_waiting.ensures.0), ((s.0, s.1, s.2, none), c.in_ok-deliver_waiting.ensures.1))
+
 pub returns : goal.returns
 returns g c =
     let s = c.in_ok-signals.ensures.whole in
-    let counts = s.3.counted.signal_counts in
+    let counts = s.4.counted.signal_counts in
     let cells = valued_in c.args.station (frames_of s.0) in
+    let some = some_cells _ cells counts (sym c.has_any.ensures ∙ c.if-not-has_any.false) in
     let gps = c.add_lines.ensures.text cells counts ∙ ap (λ (l : List ℕ). l ++ count_lines cells Gps) c.new-text.ensures in
     let both = c.add_lines-2.ensures.text cells counts ∙ ap (λ (l : List ℕ). l ++ count_lines cells Galileo) gps in
     signals_printed g.R.Read.remaining g.W.Write.contents g.W.Deliver.waiting signals_text c.args.station c.args.reader.now c.read_signals.new.reader c.args.writer.now c.print_text.new.writer c.print_text.result
-    c.in_ok-signals.signals s c.in_ok-signals.ensures.reader (printed_later c.print_text.result g.W.Write.contents g.W.Deliver.waiting c.args.writer.now c.deliver_waiting.new.writer c.print_text.new.writer _ c.in_ok-deliver_waiting.ensures.0 c.in_ok-deliver_waiting.ensures.1.0
+    c.in_ok-signals.signals s some c.in_ok-signals.ensures.reader (printed_later c.print_text.result g.W.Write.contents g.W.Deliver.waiting c.args.writer.now c.deliver_waiting.new.writer c.print_text.new.writer _ c.in_ok-deliver_waiting.ensures.0 c.in_ok-deliver_waiting.ensures.1.0
     (same_text c.print_text.result g.W.Write.contents g.W.Deliver.waiting c.deliver_waiting.new.writer c.print_text.new.writer _ _
     (c.as_slice.ensures.value ∙ both) c.print_text.ensures))

@@ -2,8 +2,8 @@ use Rattle.std.proofs.Common.{◌≡◌, ◌∙◌, ◌+◌, ◌*◌, ◌≤◌,
 use Rattle.gnss_obs.specs.Signals.{table}
 use Rattle.rtcm_inspect.specs.Signals.{had_below}
 use Rattle.rtcm_inspect.proofs.SignalLemmas.{partly_more, had_one, had_none, word_some, word_none, at_end}
-use Rattle.rtcm_inspect.proofs.signals.add_codes.Goals as goal
-use Rattle.rtcm_inspect.proofs.signals.add_codes.Goals.{then-count-gt0, else-count-gt0}
+use Rattle.rtcm_inspect.proofs.options.add_codes.Goals as goal
+use Rattle.rtcm_inspect.proofs.options.add_codes.Goals.{then-count-gt0, else-count-gt0}
 
 within : (i n m : ℕ) → i < n → n ≡ m → i < m
 within i n m a b = omega (arith, a, b)

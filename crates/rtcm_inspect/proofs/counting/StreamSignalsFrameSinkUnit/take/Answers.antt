@@ -2,8 +2,9 @@ use Rattle.std.proofs.Common.{◌∙◌, ap, refl, sym}
 use Rattle.rtcm_msg.specs.Decoding.{message_at}
 use Rattle.rtcm_msg.specs.Viewed.{viewed_message}
 use Rattle.rtcm_scan.specs.Results.{framed}
-use Rattle.rtcm_inspect.proofs.CountingLemmas.{first_as_read, first_kept, one_more_counted, read_counted, refused_counted}
-use Rattle.rtcm_inspect.proofs.signals.StreamSignalsFrameSinkUnit.take.Goals as goal
+use Rattle.rtcm_inspect.proofs.CountingLemmas.{one_more_counted, read_counted, refused_counted}
+use Rattle.rtcm_inspect.proofs.FirstLemmas.{first_refused}
+use Rattle.rtcm_inspect.proofs.counting.StreamSignalsFrameSinkUnit.take.Goals as goal
 
 pub returns-in-Ok-clause-whole : goal.returns-in-Ok-clause-whole
 returns-in-Ok-clause-whole c = λ c0 o ps fs took.
@@ -11,9 +12,8 @@ returns-in-Ok-clause-whole c = λ c0 o ps fs took.
     let f = framed c.args.frame.now in
     let m = viewed_message c.in-Ok.view in
     let is = ap message_at (sym c.as_slice.ensures.value) ∙ c.in-Ok.ensures.exact in
-    one_more_counted c0 s (record s { signal_counts = c.count_view.new.self; first = c.first_of-self.result }) ps fs f refl
-    (λ gs few h. read_counted s.signal_counts c.count_view.new.self s.station gs f m is c.count_view.ensures few h)
-    (c.first_of-self.ensures.value ∙ first_as_read s.first s.station f m is) c.first_of-self.ensures.in_range took
+    one_more_counted c0 s (record s { signal_counts = c.count_view.new.self; first = c.with-self.result }) ps fs f refl
+    (λ gs few h. read_counted s.signal_counts c.count_view.new.self s.station gs f m is c.count_view.ensures few h) (λ gs h. c.with-self.ensures gs f is h) took
 
 pub returns-in-Err-clause-whole : goal.returns-in-Err-clause-whole
 returns-in-Err-clause-whole c = λ c0 o ps fs took.
@@ -21,4 +21,4 @@ returns-in-Err-clause-whole c = λ c0 o ps fs took.
     let f = framed c.args.frame.now in
     let is = ap message_at (sym c.as_slice.ensures.value) ∙ c.in-Err.ensures.exact in
     one_more_counted c0 s s ps fs f refl (λ gs few h. refused_counted s.signal_counts s.station gs f c.in-Err.field-0 is h)
-    (first_kept s.first s.station f c.in-Err.field-0 is) (λ h. h) took
+    (λ gs h. first_refused s.first s.station gs f c.in-Err.field-0 is h) took

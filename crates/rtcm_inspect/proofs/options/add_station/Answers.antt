@@ -6,7 +6,7 @@ use Rattle.rtcm_inspect.specs.Lines.{with_words}
 use Rattle.rtcm_inspect.specs.Metres.{metres}
 use Rattle.rtcm_inspect.proofs.LineLemmas.{add_text, add_word, assigned}
 use Rattle.rtcm_inspect.proofs.ShowLemmas.{as_passed}
-use Rattle.rtcm_inspect.proofs.signals.add_station.Goals as goal
+use Rattle.rtcm_inspect.proofs.options.add_station.Goals as goal
 
 -- the option of the position
 placed : (start : List ℕ) (s : StationParts) {name x y z : List ℕ} → InRange s → name ≡ start ++ 0x20 ∷ codes "--position" → x ≡ name ++ 0x3D ∷ metres (to_z w64 (of_z w64 s.x))

@@ -1,0 +1,104 @@
+-- What the first messages contain, after one more frame.
+use Rattle.std.proofs.Common.{◌≡◌, ◌∙◌, ◌==◌, ◌++◌, ℕ, true, false, not, List, [], ◌∷◌, Option, Some, None, Result, Ok, Err, IfSome, refl, sym, ap, find, append-nil, arith}
+use Rattle.std.specs.Prelude.{option_and_then}
+use Rattle.std.specs.Option.{option_or}
+use Rattle.std.proofs.lemmas.List.Elements.{filter_map-append}
+use Rattle.std.proofs.lemmas.List.Folds.{find-append}
+use Rattle.rtcm_scan.specs.Frames.{Framed}
+use Rattle.rtcm_msg.specs.Decoding.{message_at}
+use Rattle.rtcm_msg.specs.Station.{InRange}
+use Rattle.rtcm_msg.specs.declared.station.StationParts.{StationParts}
+use Rattle.rtcm_msg.specs.declared.fault.MsgFault.{MsgFault}
+use Rattle.rtcm_msg.specs.declared.message.Message.{Message}
+use Rattle.obs_epoch.specs.Heard.{Heard, heard}
+use Rattle.rtcm_inspect.specs.FirstMessages.{AreFirst, first_in, first_station, first_tow, one_of, point_of, sender, stations_in, stations_of, tow_of, with_other}
+use Rattle.rtcm_inspect.specs.Messages.{heard_in, heard_of}
+use Rattle.rtcm_inspect.specs.declared.first_messages.FirstMessages.{FirstMessages}
+use Rattle.rtcm_inspect.specs.declared.first_messages.Stations.TheVariants.{Unknown, One, Several}
+
+or_more : {A : Type 0} (a b c : Option A) → option_or a (option_or b c) ≡ option_or (option_or a b) c
+or_more None b c = refl
+or_more (Some x) b c = refl
+
+or_none : {A : Type 0} (a : Option A) → option_or a None ≡ a
+or_none None = refl
+or_none (Some x) = refl
+
+-- one more frame
+first_more : {A : Type 0} (has : Heard → Option A) (fs : List Framed) (f : Framed) → first_in has (fs ++ f ∷ []) ≡ option_or (first_in has fs) (option_and_then has (heard_in f))
+first_more has [] f = or_none (option_and_then has (heard_in f))
+first_more has (g ∷ fs) f = ap (option_or (option_and_then has (heard_in g))) (first_more has fs f) ∙ or_more (option_and_then has (heard_in g)) (first_in has fs) (option_and_then has (heard_in f))
+
+-- a frame with this message, if it was read
+first_after : {A : Type 0} (has : Heard → Option A) (fs : List Framed) (f : Framed) (r : Result Message MsgFault) → message_at f.message ≡ r
+    → first_in has (fs ++ f ∷ []) ≡ option_or (first_in has fs) (option_and_then has (heard_of r))
+first_after has fs f r is = first_more has fs f ∙ ap (λ (r : Result Message MsgFault). option_or (first_in has fs) (option_and_then has (heard_of r))) is
+
+stations_more : (fs : List Framed) (f : Framed) → stations_of (fs ++ f ∷ []) ≡ stations_of fs ++ one_of (option_and_then sender (heard_in f))
+stations_more fs f = filter_map-append (λ g. option_and_then sender (heard_in g)) fs (f ∷ []) ∙ ap (λ (l : List ℕ). stations_of fs ++ l) (by (option_and_then sender (heard_in f)) refl) where
+  by : (o : Option ℕ) → option_and_then sender (heard_in f) ≡ o → stations_of (f ∷ []) ≡ one_of (option_and_then sender (heard_in f))
+  by None e = grind (arith, e)
+  by (Some n) e = grind (arith, e)
+
+stations_after : (fs : List Framed) (f : Framed) (r : Result Message MsgFault) → message_at f.message ≡ r → stations_of (fs ++ f ∷ []) ≡ stations_of fs ++ one_of (option_and_then sender (heard_of r))
+stations_after fs f r is = stations_more fs f ∙ ap (λ (r : Result Message MsgFault). stations_of fs ++ one_of (option_and_then sender (heard_of r))) is
+
+-- a message that was read
+pub first_read : (x y : FirstMessages) (wanted : Option ℕ) (fs : List Framed) (f : Framed) (m : Message) → message_at f.message ≡ Ok m → y.point ≡ option_or x.point (point_of wanted (heard m))
+    → y.tow ≡ option_or x.tow (tow_of wanted (heard m)) → (x.stations ≡ stations_in (stations_of fs) → y.stations ≡ stations_in (stations_of fs ++ one_of (sender (heard m))))
+    → (IfSome x.point InRange → IfSome y.point InRange) → AreFirst x wanted fs → AreFirst y wanted (fs ++ f ∷ [])
+first_read x y wanted fs f m is point tow stations range h = record {
+  point = point ∙ ap (λ (o : Option StationParts). option_or o (point_of wanted (heard m))) h.point ∙ sym (first_after (point_of wanted) fs f (Ok m) is);
+  tow = tow ∙ ap (λ (o : Option ℕ). option_or o (tow_of wanted (heard m))) h.tow ∙ sym (first_after (tow_of wanted) fs f (Ok m) is);
+  stations = stations h.stations ∙ ap stations_in (sym (stations_after fs f (Ok m) is));
+  in_range = range h.in_range;
+}
+
+-- a message that was refused
+pub first_refused : (x : FirstMessages) (wanted : Option ℕ) (fs : List Framed) (f : Framed) (e : MsgFault) → message_at f.message ≡ Err e → AreFirst x wanted fs → AreFirst x wanted (fs ++ f ∷ [])
+first_refused x wanted fs f e is h = record {
+  point = h.point ∙ sym (first_after (point_of wanted) fs f (Err e) is ∙ or_none (first_station wanted fs));
+  tow = h.tow ∙ sym (first_after (tow_of wanted) fs f (Err e) is ∙ or_none (first_tow wanted fs));
+  stations = h.stations ∙ ap stations_in (sym (stations_after fs f (Err e) is ∙ append-nil (stations_of fs)));
+  in_range = h.in_range;
+}
+
+-- ---- one more station
+
+-- the first of all
+pub first_one : (ns : List ℕ) (n : ℕ) → Unknown ≡ stations_in ns → One n ≡ stations_in (ns ++ n ∷ [])
+first_one [] n e = refl
+first_one (a ∷ ns) n e = by (find (λ n. not (n == a)) ns) e where
+  by : (o : Option ℕ) → Unknown ≡ with_other a o → One n ≡ stations_in (a ∷ ns ++ n ∷ [])
+  by None e = cc
+  by (Some b) e = cc
+
+-- the same one, or another
+more_of_one : (a : ℕ) (ns : List ℕ) (n : ℕ) (other : Option ℕ) → find (λ m. not (m == a)) (n ∷ []) ≡ other → find (λ m. not (m == a)) ns ≡ None → with_other a other ≡ stations_in (a ∷ ns ++ n ∷ [])
+more_of_one a ns n other is none =
+    ap (with_other a) (sym is) ∙ ap (λ (o : Option ℕ). with_other a (option_or o (find (λ m. not (m == a)) (n ∷ [])))) (sym none)
+    ∙ ap (with_other a) (sym (find-append (λ m. not (m == a)) ns (n ∷ [])))
+
+pub one_kept : (ns : List ℕ) (a n : ℕ) → n ≡ a → One a ≡ stations_in ns → One a ≡ stations_in (ns ++ n ∷ [])
+one_kept [] a n same e = cc
+one_kept (b ∷ ns) a n same e = by (find (λ m. not (m == b)) ns) refl e where
+  by : (o : Option ℕ) → find (λ m. not (m == b)) ns ≡ o → One a ≡ with_other b o → One a ≡ stations_in (b ∷ ns ++ n ∷ [])
+  by (Some c) none e = cc
+  by None none e = let p : a ≡ b = (let q = e in cc) in
+      (ap One p ∙ more_of_one b ns n None (let t : (n == b) ≡ true = grind (arith, same, p) in grind (arith, t)) none)
+
+pub one_more : (ns : List ℕ) (a n : ℕ) → (a ≡ n → ⊥) → One a ≡ stations_in ns → Several a n ≡ stations_in (ns ++ n ∷ [])
+one_more [] a n other e = cc
+one_more (b ∷ ns) a n other e = by (find (λ m. not (m == b)) ns) refl e where
+  by : (o : Option ℕ) → find (λ m. not (m == b)) ns ≡ o → One a ≡ with_other b o → Several a n ≡ stations_in (b ∷ ns ++ n ∷ [])
+  by (Some c) none e = cc
+  by None none e = let p : a ≡ b = (let q = e in cc) in
+      (ap (λ (x : ℕ). Several x n) p ∙ more_of_one b ns n (Some n) (let t : (n == b) ≡ false = grind (arith, other, p) in grind (arith, t)) none)
+
+pub several_kept : (ns : List ℕ) (a b n : ℕ) → Several a b ≡ stations_in ns → Several a b ≡ stations_in (ns ++ n ∷ [])
+several_kept [] a b n e = cc
+several_kept (c ∷ ns) a b n e = by (find (λ m. not (m == c)) ns) refl e where
+  by : (o : Option ℕ) → find (λ m. not (m == c)) ns ≡ o → Several a b ≡ with_other c o → Several a b ≡ stations_in (c ∷ ns ++ n ∷ [])
+  by None is e = cc
+  by (Some d) is e =
+      e ∙ ap (λ (o : Option ℕ). with_other c (option_or o (find (λ m. not (m == c)) (n ∷ [])))) (sym is) ∙ ap (with_other c) (sym (find-append (λ m. not (m == c)) ns (n ∷ [])))

@@ -1,0 +1,173 @@
+-- The nearest week, and the time of the first MSM.
+use Rattle.std.proofs.Common.{◌≡◌, ◌∙◌, ◌+◌, ◌-◌, ◌*◌, ◌/◌, ◌<◌, ◌≤◌, ◌==◌, ◌&&◌, ◌||◌, ◌++◌, ℕ, Bool, true, false, List, [], ◌∷◌, Option, Some, None, Result, Ok, Err, refl, sym, ap, ap₂, arith}
+use Rattle.std.specs.List.{cons_option}
+use Rattle.std.specs.Prelude.{filter_map, nat_lt, option_and_then, if◌then◌else◌}
+use Rattle.std.specs.Option.{option_or, option_map_or}
+use Rattle.gnss_obs.specs.Weeks.{week, weeks}
+use Rattle.rtcm_scan.specs.Frames.{Framed}
+use Rattle.rtcm_msg.specs.Decoding.{message_at}
+use Rattle.rtcm_msg.specs.declared.fault.MsgFault.{MsgFault}
+use Rattle.rtcm_msg.specs.declared.message.Message.{Message}
+use Rattle.rtcm_msg.specs.declared.message.Message.TheVariants.{Station, Msm4, Msm7, Other}
+use Rattle.obs_epoch.specs.Heard.{GatherSetup, Heard, is_own}
+use Rattle.obs_epoch.specs.SignalCounts.{is_of_station}
+use Rattle.obs_epoch.specs.Times.{Timed, ahead, greatest_time, is_closed, is_past, max_known, taken_at, timed_after}
+use Rattle.rtcm_inspect.specs.FirstMessages.{first_tow, tow_of}
+use Rattle.rtcm_inspect.specs.Messages.{heard_in, heard_of}
+use Rattle.rtcm_inspect.specs.NearWeek.{IsNearestWeek, half_week}
+use Rattle.rtcm_inspect.specs.WeekLaws.{first_time}
+
+-- ---- the nearest week, by its quotient q: n = q * week + r
+
+divided : (n : ℕ) → (n / week * week ≤ n) × (n < n / week * week + week)
+divided n = grind arith
+
+pub one_week : (noon tow : ℕ) → half_week ≤ noon → tow < week → (w : ℕ) × IsNearestWeek noon tow w × ((v : ℕ) → IsNearestWeek noon tow v → v ≡ w)
+one_week noon tow late small = (q, (omega (arith, d.0, d.1, late, small), omega (arith, d.0, d.1, late, small)), same)
+  where
+    n : ℕ
+    n = (noon + half_week - 1) - tow
+
+    q : ℕ
+    q = n / week
+
+    d : (n / week * week ≤ n) × (n < n / week * week + week)
+    d = divided n
+
+    same : (v : ℕ) → IsNearestWeek noon tow v → v ≡ q
+    same v h = omega (arith, d.0, d.1, late, small, h.0, h.1)
+
+-- ---- the first MSM
+
+-- a message of the setup's station is of the station whose messages count
+own_counts : (s : GatherSetup) (m : Heard) → is_own s m ≡ true → is_of_station s.station m ≡ true
+own_counts s m h = by s.station m.station h where
+  by : (wanted from : Option ℕ) → option_map_or (λ f. option_map_or (λ w. f == w) wanted true) from false ≡ true → option_map_or (λ n. option_map_or (λ f. f == n) from false) wanted true ≡ true
+  by None from h = refl
+  by (Some w) None h = h
+  by (Some w) (Some f) h = h
+
+-- and the other way round, if it has a station
+counts_own : (s : GatherSetup) (m : Heard) (n : ℕ) → m.station ≡ Some n → is_of_station s.station m ≡ true → is_own s m ≡ true
+counts_own s m n is h = by s.station m.station is h where
+  by : (wanted from : Option ℕ) → from ≡ Some n → option_map_or (λ n. option_map_or (λ f. f == n) from false) wanted true ≡ true → option_map_or (λ f. option_map_or (λ w. f == w) wanted true) from false ≡ true
+  by wanted None is h = cc
+  by None (Some f) is h = refl
+  by (Some w) (Some f) is h = h
+
+abbrev tow_in : Option Heard → Option ℕ
+tow_in o = option_and_then (λ m. m.tow) o
+
+abbrev station_in : Option Heard → Option ℕ
+station_in o = option_and_then (λ m. m.station) o
+
+no_tow : {t : ℕ} → ◌≡◌ {A = Option ℕ} None (Some t) → ⊥
+no_tow e = cc
+
+-- an MSM has a station
+has_station : (r : Result Message MsgFault) (m : Heard) (tow : ℕ) → heard_of r ≡ Some m → m.tow ≡ Some tow → (n : ℕ) × (m.station ≡ Some n)
+has_station (Ok (Station p)) m tow is t = absurd (let e : m.tow ≡ None = ap (λ (o : Option Heard). tow_in o) (sym is) in no_tow (sym e ∙ t))
+has_station (Ok (Msm4 v)) m tow is t = (v.header.station, ap (λ (o : Option Heard). station_in o) (sym is))
+has_station (Ok (Msm7 v)) m tow is t = (v.header.station, ap (λ (o : Option Heard). station_in o) (sym is))
+has_station (Ok (Other k set)) m tow is t = absurd (let e : m.tow ≡ None = ap (λ (o : Option Heard). tow_in o) (sym is) in no_tow (sym e ∙ t))
+has_station (Err e) m tow is t = cc
+
+first_time-append : (xs ys : List Timed) → first_time (xs ++ ys) ≡ option_or (first_time xs) (first_time ys)
+first_time-append [] ys = refl
+first_time-append (x ∷ xs) ys = ap (option_or x.time) (first_time-append xs ys) ∙ by x.time where
+  by : (t : Option ℕ) → option_or t (option_or (first_time xs) (first_time ys)) ≡ option_or (option_or t (first_time xs)) (first_time ys)
+  by None = refl
+  by (Some t) = refl
+
+-- without a first time there is no greatest one
+none_greatest : (xs : List Timed) → first_time xs ≡ None → greatest_time xs ≡ None
+none_greatest [] h = refl
+none_greatest (x ∷ xs) h = by x.time (none_greatest xs) h where
+  by : (t : Option ℕ) → (first_time xs ≡ None → greatest_time xs ≡ None) → option_or t (first_time xs) ≡ None → max_known t (greatest_time xs) ≡ None
+  by None rest h = rest h
+  by (Some t) rest h = cc
+
+-- the first time stays
+first_stays : (s : GatherSetup) (t : ℕ) (earlier : List Timed) (ms : List Heard) → first_time earlier ≡ Some t → first_time (timed_after s earlier ms) ≡ Some t
+first_stays s t earlier [] h = h
+first_stays s t earlier (m ∷ ms) h =
+    let x : Timed = record { message = m; time = taken_at s earlier m } in
+    first_stays s t (earlier ++ x ∷ []) ms (first_time-append earlier (x ∷ []) ∙ ap (λ (o : Option ℕ). option_or o (first_time (x ∷ []))) h)
+
+-- one more message, whose time isn't accepted
+still_none : (earlier : List Timed) (x : Timed) → x.time ≡ None → first_time earlier ≡ None → first_time (earlier ++ x ∷ []) ≡ None
+still_none earlier x none h =
+    first_time-append earlier (x ∷ []) ∙ ap (λ (o : Option ℕ). option_or o (first_time (x ∷ []))) h ∙ ap (λ (o : Option ℕ). option_or o None) none
+
+-- the first one whose time is accepted
+now_first : (earlier : List Timed) (x : Timed) (t : ℕ) → x.time ≡ Some t → first_time earlier ≡ None → first_time (earlier ++ x ∷ []) ≡ Some t
+now_first earlier x t is h =
+    first_time-append earlier (x ∷ []) ∙ ap (λ (o : Option ℕ). option_or o (first_time (x ∷ []))) h ∙ ap (λ (o : Option ℕ). option_or o None) is
+
+-- the parts of a time of week that was found
+tow_parts : (wanted : Option ℕ) (m : Heard) (t : ℕ) → tow_of wanted m ≡ Some t → (is_of_station wanted m ≡ true) × (m.tow ≡ Some t)
+tow_parts wanted m t h = by (is_of_station wanted m) refl h where
+  by : (b : Bool) → is_of_station wanted m ≡ b → (if b then m.tow else None) ≡ Some t → (is_of_station wanted m ≡ true) × (m.tow ≡ Some t)
+  by true e h = (e, h)
+  by false e h = absurd (no_tow h)
+
+no_parts : (wanted : Option ℕ) (m : Heard) → tow_of wanted m ≡ None → is_of_station wanted m ≡ true → m.tow ≡ None
+no_parts wanted m h own = by (is_of_station wanted m) own h where
+  by : (b : Bool) → b ≡ true → (if b then m.tow else None) ≡ None → m.tow ≡ None
+  by true e h = h
+  by false e h = cc
+
+choose : (own : Bool) (F : ℕ → Option ℕ) (o : Option ℕ) → (own ≡ true → o ≡ None) → (if own then option_and_then F o else None) ≡ None
+choose false F o h = refl
+choose true F o h = ap (option_and_then F) (h refl)
+
+-- a message without a time of week of the station isn't accepted
+not_taken : (s : GatherSetup) (earlier : List Timed) (m : Heard) → tow_of s.station m ≡ None → taken_at s earlier m ≡ None
+not_taken s earlier m none = choose (is_own s m) _ m.tow (λ own. no_parts s.station m none (own_counts s m own))
+
+-- the time of an accepted message, by the greatest time before it
+abbrev placed : GatherSetup → List Timed → Option ℕ → ℕ → Option ℕ
+placed s earlier greatest tow =
+    if option_map_or (λ t. nat_lt 302_400_000 (ahead t tow) || ((ahead t tow == 0) && is_closed s t earlier)) greatest false
+    || is_past (option_map_or (λ t. t + ahead t tow) greatest (s.start_week * week + tow))
+    then None else Some (option_map_or (λ t. t + ahead t tow) greatest (s.start_week * week + tow))
+
+not_past : (w tow : ℕ) → w < weeks → tow < week → is_past (w * week + tow) ≡ false
+not_past w tow within small = let h : w * week + tow < weeks * week = omega (arith, within, small) in grind (arith, h)
+
+-- the first MSM is accepted in the start week
+taken_first : (s : GatherSetup) (earlier : List Timed) (m : Heard) (tow : ℕ) → s.start_week < weeks → tow < week → greatest_time earlier ≡ None → is_own s m ≡ true → m.tow ≡ Some tow
+    → taken_at s earlier m ≡ Some (s.start_week * week + tow)
+taken_first s earlier m tow within small none own is =
+    ap₂ (λ (b : Bool) (o : Option ℕ). if b then option_and_then (placed s earlier (greatest_time earlier)) o else None) own is
+    ∙ ap (λ (g : Option ℕ). placed s earlier g tow) none
+    ∙ ap (λ (b : Bool). if b then None else Some (s.start_week * week + tow)) (not_past s.start_week tow within small)
+
+-- one more frame, whose message is o
+dated_step : (s : GatherSetup) (tow : ℕ) (earlier : List Timed) (o : Option Heard) (ms : List Heard) (rest : Option ℕ) → s.start_week < weeks → tow < week
+    → ((earlier : List Timed) → first_time earlier ≡ None → rest ≡ Some tow → first_time (timed_after s earlier ms) ≡ Some (s.start_week * week + tow))
+    → ((m : Heard) (t : ℕ) → o ≡ Some m → m.tow ≡ Some t → (n : ℕ) × (m.station ≡ Some n)) → first_time earlier ≡ None → option_or (option_and_then (tow_of s.station) o) rest ≡ Some tow
+    → first_time (timed_after s earlier (cons_option o ms)) ≡ Some (s.start_week * week + tow)
+dated_step s tow earlier None ms rest within small more station none first = more earlier none first
+dated_step s tow earlier (Some m) ms rest within small more station none first = by (tow_of s.station m) refl first where
+  x : Timed
+  x = record { message = m; time = taken_at s earlier m }
+
+  by : (t : Option ℕ) → tow_of s.station m ≡ t → option_or t rest ≡ Some tow → first_time (timed_after s (earlier ++ x ∷ []) ms) ≡ Some (s.start_week * week + tow)
+  by None e first = more (earlier ++ x ∷ []) (still_none earlier x (not_taken s earlier m e) none) first
+  by (Some t) e first =
+      let parts = tow_parts s.station m t e in
+      let is : m.tow ≡ Some tow = parts.1 ∙ first in
+      let from = station m tow refl is in
+      let own = counts_own s m from.0 from.1 parts.0 in
+      first_stays s (s.start_week * week + tow) (earlier ++ x ∷ []) ms (now_first earlier x (s.start_week * week + tow) (taken_first s earlier m tow within small (none_greatest earlier none) own is) none)
+
+dated_after : (s : GatherSetup) (tow : ℕ) (fs : List Framed) → s.start_week < weeks → tow < week → first_tow s.station fs ≡ Some tow → (earlier : List Timed) → first_time earlier ≡ None
+    → first_time (timed_after s earlier (filter_map heard_in fs)) ≡ Some (s.start_week * week + tow)
+dated_after s tow [] within small first earlier none = absurd (no_tow first)
+dated_after s tow (f ∷ fs) within small first earlier none =
+    dated_step s tow earlier (heard_in f) (filter_map heard_in fs) (first_tow s.station fs) within small (λ earlier none first. dated_after s tow fs within small first earlier none)
+    (λ m t is h. has_station (message_at f.message) m t is h) none first
+
+pub dated : (s : GatherSetup) (fs : List Framed) (tow : ℕ) → s.start_week < weeks → tow < week → first_tow s.station fs ≡ Some tow → first_time (timed_after s [] (filter_map heard_in fs)) ≡ Some (s.start_week * week + tow)
+dated s fs tow within small first = dated_after s tow fs within small first [] refl

@@ -1,0 +1,26 @@
+-- The week that `options` prints dates the first MSM of a conversion.
+use Rattle.std.specs.Prelude.{◌≡◌, ℕ, ◌+◌, ◌*◌, ◌<◌, ◌≤◌, List, [], ◌∷◌, Option, Some, None, filter_map}
+use Rattle.std.specs.Option.{option_or}
+use Rattle.gnss_obs.specs.Weeks.{week, weeks}
+use Rattle.rtcm_scan.specs.Frames.{Framed}
+use Rattle.obs_epoch.specs.Heard.{GatherSetup}
+use Rattle.obs_epoch.specs.Times.{Timed, timed}
+use Rattle.rtcm_inspect.specs.FirstMessages.{first_tow}
+use Rattle.rtcm_inspect.specs.Messages.{heard_in}
+use Rattle.rtcm_inspect.specs.NearWeek.{IsNearestWeek, half_week}
+
+-- from 1980-01-09 12:00 on exactly one week is the nearest
+abbrev pub HasOneWeek : Type 0
+HasOneWeek = (noon tow : ℕ) → half_week ≤ noon → tow < week
+    → (w : ℕ) × IsNearestWeek noon tow w × ((v : ℕ) → IsNearestWeek noon tow v → v ≡ w)
+
+-- the time of the first accepted message
+abbrev pub first_time : List Timed → Option ℕ
+first_time [] = None
+first_time (x ∷ xs) = option_or x.time (first_time xs)
+
+-- a conversion accepts the first MSM of the station, or of any, and its time is in the start week
+abbrev pub IsDatedByWeek : Type 0
+IsDatedByWeek = (s : GatherSetup) (fs : List Framed) (tow : ℕ) → s.start_week < weeks → tow < week
+    → first_tow s.station fs ≡ Some tow
+    → first_time (timed s (filter_map heard_in fs)) ≡ Some (s.start_week * week + tow)

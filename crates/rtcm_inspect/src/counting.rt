@@ -1,0 +1,90 @@
+//! The signals of a stream, counted while it is read.
+ghost use Rattle.std.specs.Prelude.{IfOk, IfErr};
+ghost use Rattle.rtcm_inspect.specs.Counting.{HasCounted, StopsCounting};
+ghost use Rattle.rtcm_inspect.specs.Devices.{CountsReader};
+
+use crate::fault::InspectFault;
+use crate::first_messages::FirstMessages;
+use crate::listing::PIECE_BYTES;
+use obs_epoch::SignalCounts;
+use rtcm_bits::{Counted, DeviceFailed};
+use rtcm_msg::look;
+use rtcm_scan::{Frame, FrameSink, Framer, MOST_BYTES, ScanFault, laws};
+use std::alloc::Global;
+use std::io::Read;
+
+/// The signals of the messages read so far, and what the first ones contain.
+#[derive(Drop)]
+pub struct StreamSignals {
+    /// The station whose messages count; `None` counts those of every station.
+    pub station: Option<u16>,
+    /// The number of cells of each signal that have a value.
+    pub signal_counts: SignalCounts,
+    /// What the first messages contain.
+    pub first: FirstMessages,
+}
+
+impl FrameSink<()> for StreamSignals {
+    ghost use Rattle.rtcm_inspect.specs.Counting.{Counts, NeverFails};
+
+    type Fault = DeviceFailed;
+
+    ghost took = { Counts };
+
+    ghost broke = { NeverFails };
+
+    /// Counts the cells of the frame's message, and keeps what it contains if it is a first one.
+    fn take(&mut self, frame: &Frame, _out: &mut ()) -> Result<(), DeviceFailed> {
+        match look(frame.message.as_slice()) {
+            Ok(view) => {
+                self.signal_counts.count_view(self.station, &view);
+                self.first = self.first.with(self.station, &view);
+                Ok(())
+            }
+            // A refused message has no cells.
+            Err(_) => Ok(()),
+        }
+    }
+
+    fn send(&self, _out: &mut ()) -> Result<(), DeviceFailed> {
+        Ok(())
+    }
+}
+
+/// Counts the signals of a stream of at most 2^48 bytes that have a cell with a value, for one
+/// station or for all.
+///
+/// # Errors
+///
+/// `Read` if the reader failed, and `Scan` if the stream is longer than the limit or memory ran
+/// out.
+pub fn read_signals<R: Read>(
+    alloc: Global,
+    station: Option<u16>,
+    reader: &mut Counted<R>,
+) -> Result<StreamSignals, InspectFault>
+    ensures whole { IfOk result
+        (λ s. HasCounted s station (R.remaining reader.old.inner) (R.remaining reader.new.inner)) }
+    ensures fault { IfErr result (StopsCounting R.remaining reader.old reader.new) }
+    ensures reader { CountsReader result reader.old reader.new }
+{
+    // The limit is valid, so a framer is refused only when out of memory.
+    let Ok(mut framer) = Framer::new(alloc, MOST_BYTES) else {
+        return Err(InspectFault::Scan(ScanFault::Memory));
+    };
+    let mut signals = StreamSignals {
+        station,
+        signal_counts: SignalCounts::new(),
+        first: FirstMessages::new(),
+    };
+    let mut buffer = [0; PIECE_BYTES];
+    laws::prefix();
+    let read = framer.read_frames(reader, &mut buffer, &mut signals, &mut ());
+    // At most the limit's number of bytes was read, so no count reaches its largest number.
+    let _ = framer.taken();
+    drop(framer);
+    match read {
+        Ok(()) => Ok(signals),
+        Err(fault) => Err(InspectFault::from(fault)),
+    }
+}
