@@ -42,7 +42,8 @@ fn run(rt: &HostRuntime) -> io::Result<u8> {
         words.push(word.as_str())?;
     }
     // Files are read line by line, streams in small pieces, and lines are written one by one. The
-    // buffers avoid a system call for each. The commands flush the buffer before they read more.
+    // buffers avoid a system call for each. The commands deliver what they wrote before they read
+    // more.
     let input = BufReader::with_capacity(alloc, INPUT_BYTES, rt.stdin())?;
     let mut reader = Counted::new(input);
     let mut writer = Counted::new(Buffered::new(alloc, rt.stdout())?);

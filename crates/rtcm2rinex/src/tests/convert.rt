@@ -6,6 +6,13 @@ use super::texts::ExpectedLine::{Above, NextTime, NextValues, Position, Time, Tw
 use super::texts::Piece::{Fine, Framed};
 use super::texts::Text::{File, Stream};
 use super::texts::{FINE_FILE, REPORT, Text};
+use crate::convert::{report_line, run_convert};
+use obs_epoch::{Gather, Plan};
+use rinex_file::{HeaderTexts, Texts};
+use rtcm_bits::Counted;
+use rtcm_convert::Setup;
+use rtcm_scan::MOST_BYTES;
+use std::alloc::Global;
 
 pub const OPTIONS: [&str; 10] = [
     "rtcm2rinex",
@@ -151,4 +158,64 @@ static FITTING: Setting = Setting {
 #[test]
 fn refused_options_read_nothing(rt: HostRuntime) {
     assert_come(&rt, rt.alloc(), &FITTING, &UNFIT);
+}
+
+/// The texts of the header of `FINE_FILE`.
+const TEXTS: Texts<'static> = Texts {
+    run_by: "",
+    date: "20240204 000001 UTC",
+    marker: "",
+    marker_type: "GEODETIC",
+    observer: "",
+    agency: "",
+    rec_number: "",
+    rec_type: "",
+    rec_version: "",
+    ant_number: "",
+    ant_type: "",
+};
+
+/// The setup of `OPTIONS`.
+fn setup(alloc: Global) -> Option<Setup> {
+    let texts = HeaderTexts::new(&TEXTS).ok()?;
+    let plan = Plan::parse(alloc, "1C", "none").ok()?;
+    Some(Setup {
+        plan,
+        texts,
+        start_week: 2300,
+        station: None,
+        gather: Gather::Bit,
+        limit: MOST_BYTES,
+    })
+}
+
+/// Whether `run_convert` writes this file of a stream, and returns this report.
+fn converts(alloc: Global, stream: &[u8], file: &[u8], report: &str) -> bool {
+    let Some(setup) = setup(alloc) else {
+        return false;
+    };
+    let mut reader = Counted::new(stream);
+    let mut writer = Counted::new(Vec::new(alloc));
+    let ended = run_convert(alloc, setup, &mut reader, &mut writer);
+    let output = writer.into_inner();
+    match ended {
+        Ok(found) => {
+            report_line(&found).as_bytes() == report.as_bytes() && output.as_slice() == file
+        }
+        Err(_) => false,
+    }
+}
+
+/// Whether the stream of one message is converted without station values.
+fn converts_one(alloc: Global) -> bool {
+    let mut stream = Vec::new(alloc);
+    let mut file = Vec::new(alloc);
+    IN_ONE.add_to(&mut stream).is_ok()
+        && FINE_FILE.add_to(&mut file).is_ok()
+        && converts(alloc, stream.as_slice(), file.as_slice(), REPORT)
+}
+
+#[test]
+fn a_conversion_without_given_values_is_that_of_the_program(rt: HostRuntime) {
+    assert!(rt; converts_one(rt.alloc()));
 }
