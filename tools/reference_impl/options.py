@@ -1,13 +1,16 @@
-"""The options of `convert`: plans, lengths and the texts of the header."""
+"""The values of options: plans, weeks, dates, lengths and the texts of the header."""
 import re
+from datetime import date
 
-from .epochs import Plan, StationValues
+from .epochs import LAST_WEEK, Plan, StationValues
 from .messages import SIGNALS
 
 # The texts of the header in the order in which they are judged, with their columns.
 COLUMNS = {"run_by": 20, "date": 20, "marker": 60, "marker_type": 20, "observer": 20, "agency": 40}
 COLUMNS |= dict.fromkeys("rec_number rec_type rec_version ant_number ant_type".split(), 20)
 MOST = 1 << 37
+DATES = "a date yyyy-mm-dd, 1980-01-06 to 3896-07-18"
+WEEK = "WEEK: a GPS week, 0 to 99999, or " + DATES
 POSITION = "X,Y,Z: metres, up to 8 digits and 4 decimals each, -13743895.3472 to 13743895.3471"
 HEIGHT = "HEIGHT: metres, up to 4 decimals, 0 to 6.5535"
 
@@ -24,6 +27,27 @@ def check_texts(texts: dict[str, str]) -> None:
             raise Fault(f"NotPrintable {name}")
         if len(text) > columns:
             raise Fault(f"TooLong {name}")
+
+
+def days_of(text: str) -> int:
+    """Returns the number of days from 1980-01-06 to a date."""
+    found = re.fullmatch(r"(\d{4})-(\d\d)-(\d\d)", text, re.ASCII)
+    if found is None:
+        raise ValueError(text)
+    days = (date(*map(int, found.groups())) - date(1980, 1, 6)).days
+    if not 0 <= days < 7 * LAST_WEEK:
+        raise ValueError(text)
+    return days
+
+
+def week_of(text: str) -> int:
+    """Returns the GPS week of the option `--week`: a number, or that of a date."""
+    try:
+        if re.fullmatch(r"[+-]?\d+", text, re.ASCII) and 0 <= int(text) < LAST_WEEK:
+            return int(text)
+        return days_of(text) // 7
+    except ValueError:
+        raise Fault(f"BadDate --week {WEEK}") from None
 
 
 def length_of(text: str) -> int:

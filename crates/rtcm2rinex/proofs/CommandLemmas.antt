@@ -28,6 +28,7 @@ use Rattle.rtcm_inspect.specs.Devices as devices
 use Rattle.rtcm_inspect.specs.declared.fault.InspectFault.{InspectFault}
 use Rattle.rtcm_inspect.specs.declared.fault.InspectFault.TheVariants as inspect
 use Rattle.rtcm2rinex.specs.Devices.{Ends, HaveFailedBy, inspected, of_inspection}
+use Rattle.rtcm2rinex.specs.declared.fault.DateOption.{DateOption}
 use Rattle.rtcm2rinex.specs.declared.fault.ToolFault.{ToolFault}
 use Rattle.rtcm2rinex.specs.declared.fault.ToolFault.TheVariants as faults
 use Rattle.rtcm2rinex.proofs.CommandLineLemmas.{is_version}
@@ -42,6 +43,7 @@ two_zero : ◌≡◌ {A = ℕ} 2 0 → ⊥
 two_zero e = omega (arith, e)
 
 never_zero : (fault : ToolFault) → fault_status fault ≡ 0 → ⊥
+never_zero (faults.BadDate o) e = two_zero e
 never_zero faults.BadPosition e = two_zero e
 never_zero faults.BadHeight e = two_zero e
 never_zero faults.Memory e = one_zero e
@@ -166,6 +168,7 @@ one_status inspect.NoSignal = refl
 
 module _ {R W : Type 0} (left : R → Option (List ℕ)) (held : W → Option (List ℕ)) (waits : W → List ℕ) (r r2 : Device R) (w w2 : Device W) (name : Text) (options : List Row) where
   not_stopped : (x : Start) (fault : ToolFault) → fault_status fault ≡ 2 → StopsConversion x left r r2 held waits w w2 fault → ⊥
+  not_stopped x (faults.BadDate o) two stops = stops
   not_stopped x faults.BadPosition two stops = stops
   not_stopped x faults.BadHeight two stops = stops
   not_stopped x faults.Memory two stops = one_two two

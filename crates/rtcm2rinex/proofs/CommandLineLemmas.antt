@@ -19,6 +19,7 @@ use Rattle.rtcm2rinex.specs.CommandLine.{FailsParsing, RefusesWords, command_set
 use Rattle.clap.specs.Values.{kind_of}
 use Rattle.clap.specs.declared.error.kind.ErrorKind.TheVariants as kind
 use Rattle.clap.specs.declared.builder.arg.Arg.{Arg}
+use Rattle.clap.specs.declared.builder.action.ArgAction.TheVariants as action
 use Rattle.clap.specs.declared.builder.command.Command.{Command}
 use Rattle.clap.specs.declared.builder.command.Command.TheViews.{out-Command}
 
@@ -107,7 +108,7 @@ nothing = record { ref_ptr = (0, 0); now = [] }
 
 -- the row after the last one
 abbrev pub no_option : OptionRow
-no_option = record { name = nothing; value = nothing; required = false; defaults = record { ref_ptr = (0, 0); now = [] }; parser = value.String; help = nothing }
+no_option = record { name = nothing; value = nothing; required = false; defaults = record { ref_ptr = (0, 0); now = [] }; parser = value.String; action = action.Set; help = nothing }
 
 abbrev pub no_command : CommandRow
 no_command = record { name = nothing; about = nothing; examples = nothing; options = options.None }

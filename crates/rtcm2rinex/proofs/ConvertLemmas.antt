@@ -16,7 +16,7 @@ use Rattle.rtcm2rinex.specs.declared.fault.ToolFault.TheVariants as faults
 use Rattle.clap.specs.Walk.{Row}
 use Rattle.gnss_obs.specs.declared.cell.StationValues.{StationValues}
 use Rattle.rtcm2rinex.specs.Lengths.{values_by}
-use Rattle.rtcm2rinex.specs.SetupOptions.{HasSetupFault, IsFirstFault, IsSetupRefused, values_by_message}
+use Rattle.rtcm2rinex.specs.SetupOptions.{HasSetupFault, IsFirstFault, IsSetupRefused, IsWeekRefused, IsWeekSet, values_set}
 use Rattle.rtcm2rinex.specs.Converting.{StopsConversion, StopsConverting}
 use Rattle.rtcm2rinex.specs.Devices.{HaveFailedBy, tool_fault_of}
 
@@ -84,31 +84,39 @@ module _ {R W : Type 0} (left : R → Option (List ℕ)) (held : W → Option (L
   abbrev Refuses : ToolFault → Type 0
   Refuses e = HaveFailedBy e rd rd o o × StopsConverting options left rd rd held waits o o e
 
-  -- of a result that is known
-  refused_first : (values : Result StationValues ToolFault) (e : ToolFault) → values_by_message options ≡ values → IsFirstFault values options e → IsSetupRefused options e
-  refused_first values e is h = subst (λ (v : Result StationValues ToolFault). IsFirstFault v options e) (sym is) h
+  -- a week that is invalid
+  pub week_refused : (e : ToolFault) → IsWeekRefused options e → Refuses e
+  week_refused e h = subst Refuses (sym h.0) ((refl, refl), inl (inl (refl, h.1), (refl, refl)))
 
-  by_two : (e : ToolFault) → (e ≡ faults.BadPosition) ⊎ (e ≡ faults.BadHeight) → values_by_message options ≡ Err e → Refuses e
-  by_two e (inl is) h = subst Refuses (sym is) ((refl, refl), inl (refused_first (Err faults.BadPosition) faults.BadPosition (h ∙ ap (λ (f : ToolFault). Err f) is) refl, (refl, refl)))
-  by_two e (inr is) h = subst Refuses (sym is) ((refl, refl), inl (refused_first (Err faults.BadHeight) faults.BadHeight (h ∙ ap (λ (f : ToolFault). Err f) is) refl, (refl, refl)))
+  -- after a valid week, of a result that is known
+  refused_first : (n : ℕ) → IsWeekSet options n → (values : Result StationValues ToolFault) (e : ToolFault) → values_set options ≡ values → IsFirstFault values options e
+      → IsSetupRefused options e
+  refused_first n week values e is h = inr (n, week, subst (λ (v : Result StationValues ToolFault). IsFirstFault v options e) (sym is) h)
+
+  by_two : (n : ℕ) → IsWeekSet options n → (e : ToolFault) → (e ≡ faults.BadPosition) ⊎ (e ≡ faults.BadHeight) → values_set options ≡ Err e → Refuses e
+  by_two n week e (inl is) h =
+      subst Refuses (sym is) ((refl, refl), inl (refused_first n week (Err faults.BadPosition) faults.BadPosition (h ∙ ap (λ (f : ToolFault). Err f) is) refl, (refl, refl)))
+  by_two n week e (inr is) h =
+      subst Refuses (sym is) ((refl, refl), inl (refused_first n week (Err faults.BadHeight) faults.BadHeight (h ∙ ap (λ (f : ToolFault). Err f) is) refl, (refl, refl)))
 
   -- a position or a height that is invalid
-  pub values_refused : (e : ToolFault) → values_by_message options ≡ Err e → Refuses e
-  values_refused e h = by_two e (only_two _ _ e h) h
+  pub values_refused : (n : ℕ) → IsWeekSet options n → (e : ToolFault) → values_set options ≡ Err e → Refuses e
+  values_refused n week e h = by_two n week e (only_two _ _ e h) h
 
   -- a text or a plan that is refused after a valid position and height
-  pub setup_refused : (e : ToolFault) (v : StationValues) → values_by_message options ≡ Ok v → HasSetupFault options e → Refuses e
-  setup_refused (faults.Header f) v is h = ((refl, refl), inl (refused_first (Ok v) (faults.Header f) is h, (refl, refl)))
-  setup_refused (faults.Plan f) v is h = ((refl, refl), inl (refused_first (Ok v) (faults.Plan f) is h, (refl, refl)))
-  setup_refused faults.Memory v is h = absurd h
-  setup_refused faults.Read v is h = absurd h
-  setup_refused faults.Write v is h = absurd h
-  setup_refused (faults.Scan f) v is h = absurd h
-  setup_refused faults.BadPosition v is h = absurd h
-  setup_refused faults.BadHeight v is h = absurd h
-  setup_refused (faults.Convert f) v is h = absurd h
-  setup_refused (faults.Check f) v is h = absurd h
-  setup_refused faults.NoSignal v is h = absurd h
+  pub setup_refused : (n : ℕ) → IsWeekSet options n → (e : ToolFault) (v : StationValues) → values_set options ≡ Ok v → HasSetupFault options e → Refuses e
+  setup_refused n week (faults.Header f) v is h = ((refl, refl), inl (refused_first n week (Ok v) (faults.Header f) is h, (refl, refl)))
+  setup_refused n week (faults.Plan f) v is h = ((refl, refl), inl (refused_first n week (Ok v) (faults.Plan f) is h, (refl, refl)))
+  setup_refused n week faults.Memory v is h = absurd h
+  setup_refused n week faults.Read v is h = absurd h
+  setup_refused n week faults.Write v is h = absurd h
+  setup_refused n week (faults.Scan f) v is h = absurd h
+  setup_refused n week (faults.BadDate o) v is h = absurd h
+  setup_refused n week faults.BadPosition v is h = absurd h
+  setup_refused n week faults.BadHeight v is h = absurd h
+  setup_refused n week (faults.Convert f) v is h = absurd h
+  setup_refused n week (faults.Check f) v is h = absurd h
+  setup_refused n week faults.NoSignal v is h = absurd h
 
 -- 0 is a coordinate and a height
 zero_values : AreStationValues no_values

@@ -1,11 +1,16 @@
 -- The values of options.
 use Rattle.std.proofs.Common.{◌≡◌, ◌∙◌, ℕ, List, [], Option, Some, None, Result, Bor, option_map, unwrap_or, refl, sym, ap, subst}
+use Rattle.std.specs.Prelude.{◌<◌, ◌*◌, ◌↔◌}
 use Rattle.std.specs.Str.Parse.{ParsesUnsigned}
 use Rattle.clap.specs.Matches.{ReadsOne, first_value, one_text}
-use Rattle.clap.specs.Walk.{one_of, rows_of}
+use Rattle.clap.specs.Walk.{first_of, one_of, rows_of}
 use Rattle.clap.specs.declared.parser.matches.Found.{Found}
 use Rattle.clap.proofs.WalkLemmas.{first_value-rows, one_text-rows}
-use Rattle.rtcm2rinex.specs.SetupOptions.{IsNumberOf, text_set}
+use Rattle.gnss_obs.specs.Dates.{IsCivilOf}
+use Rattle.gnss_obs.specs.Weeks.{week, weeks}
+use Rattle.gnss_obs.specs.declared.civil.Civil.{Civil}
+use Rattle.rtcm2rinex.specs.Dates.{IsHourOf, civil_in}
+use Rattle.rtcm2rinex.specs.SetupOptions.{IsNoonOf, IsNumberOf, text_set}
 
 -- a typed getter returns the number whose decimal form the text is; P and Q are further properties of the parse
 number_of : {E : Type 0} (P Q : List ℕ → Result ℕ E → Type 0) (bits : ℕ) (text : Option (List ℕ)) (n : Option ℕ) → (text ≡ None → n ≡ None)
@@ -28,3 +33,23 @@ pub text_is : (f : Found) (id : List ℕ) (r o : Option (Bor (List ℕ))) → op
 text_is f id r o is found =
     ap (λ (x : Option (Bor (List ℕ))). unwrap_or (option_map (λ s. s.now) x) []) (sym found)
     ∙ ap (λ (t : Option (List ℕ)). unwrap_or t []) (is ∙ first_value-rows f id)
+
+-- ---- dates
+
+-- no hour of the day in a text
+pub no_hour : (hour : ℕ) (text : List ℕ) (c : Civil) → civil_in hour text ≡ Some c → ((t : ℕ) → t < weeks * week → IsCivilOf t c → ⊥) → (t : ℕ) → IsHourOf hour text t → ⊥
+no_hour hour text c is none t h =
+    let same : h.0 ≡ c = ap (λ (o : Option Civil). unwrap_or o c) (sym h.1 ∙ is) in
+    none t h.3 (subst (IsCivilOf t) same h.2)
+
+-- noon by the first value found of an option, and by the options as clap's definitions list them
+pub noon_given : (f : Found) (id : List ℕ) (r o : Option (Bor (List ℕ))) (near : Option ℕ) → option_map (λ s. s.now) r ≡ first_value f id → r ≡ o
+    → IsNoonOf (option_map (λ s. s.now) o) near ↔ IsNoonOf (first_of id (rows_of f)) near
+noon_given f id r o near is found =
+    let same : option_map (λ (s : Bor (List ℕ)). s.now) o ≡ first_of id (rows_of f) = ap (option_map (λ (s : Bor (List ℕ)). s.now)) (sym found) ∙ is ∙ first_value-rows f id in
+    (subst (λ (t : Option (List ℕ)). IsNoonOf t near) same, subst (λ (t : Option (List ℕ)). IsNoonOf t near) (sym same))
+
+-- a text of which noon isn't known
+pub no_noon : (text : List ℕ) → ((t : ℕ) → IsHourOf 12 text t → ⊥) → (near : Option ℕ) → IsNoonOf (Some text) near → ⊥
+no_noon text none None h = h
+no_noon text none (Some t) h = none t h

@@ -20,7 +20,7 @@ use Rattle.rtcm_inspect.specs.Fitting.{height_text, position_text}
 use Rattle.rtcm2rinex.proofs.CommandLineLemmas.{first_half, second}
 use Rattle.rtcm2rinex.specs.Lengths.{coordinate_by, coordinate_of, cut, decimals_of, length_below, length_by, length_of, number_of, position_of, values_in}
 use Rattle.rtcm_inspect.specs.Metres.{digit, four_digits, metres, size_text}
-use Rattle.rtcm2rinex.specs.SetupOptions.{text_set, values_by_message}
+use Rattle.rtcm2rinex.specs.SetupOptions.{text_set, values_set}
 
 is_le : (n m : ℕ) → n ≤ m → nat_le n m ≡ true
 is_le n m h = grind (arith, nat_tests)
@@ -236,10 +236,10 @@ values_read s are None small = values_by_parts (position_text s) (height_text No
 values_read s are (Some n) small = values_by_parts (position_text s) (height_text (Some n)) s.x s.y s.z n (position_read s are) (height_read n small)
 
 pub station_read : (options : List Row) (s : StationParts) → InRange s → text_set options (codes "position") ≡ position_text s → text_set options (codes "antenna-height") ≡ height_text s.height
-    → values_by_message options ≡ Ok (values_by s 0)
+    → values_set options ≡ Ok (values_by s 0)
 station_read options s are position height =
     ap (λ (t : List ℕ). values_in t (text_set options (codes "antenna-height"))) position ∙ ap (values_in (position_text s)) height ∙ values_read s are s.height are.height
 
-pub zero_read : (options : List Row) → text_set options (codes "position") ≡ codes "0,0,0" → text_set options (codes "antenna-height") ≡ height_text None → values_by_message options ≡ Ok no_values
+pub zero_read : (options : List Row) → text_set options (codes "position") ≡ codes "0,0,0" → text_set options (codes "antenna-height") ≡ height_text None → values_set options ≡ Ok no_values
 zero_read options position height =
     ap (λ (t : List ℕ). values_in t (text_set options (codes "antenna-height"))) position ∙ ap (values_in (codes "0,0,0")) height

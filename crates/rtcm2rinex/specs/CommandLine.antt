@@ -12,6 +12,7 @@ use Rattle.clap.specs.declared.error.Error.{Error}
 use Rattle.clap.specs.declared.error.kind.ErrorKind.{ErrorKind}
 use Rattle.clap.specs.declared.error.kind.ErrorKind.TheVariants as kind
 use Rattle.clap.specs.declared.parser.matches.ArgMatches.{ArgMatches}
+use Rattle.clap.specs.declared.builder.action.ArgAction.TheVariants as action
 use Rattle.clap.specs.declared.builder.command.Command.{Command}
 use Rattle.clap.specs.declared.builder.value_parser.ValueParser.{ValueParser}
 use Rattle.clap.specs.declared.builder.value_parser.ValueParser.TheVariants as value
@@ -25,7 +26,7 @@ use Rattle.rtcm2rinex.specs.declared.commands.Tables.{Tables}
 
 -- `--name VALUE` or `--name=VALUE`; it isn't given twice
 abbrev pub named : Text → Rule
-named name = record (new_rule name) { long = Some name; value_names = 1 }
+named name = record (new_rule name) { long = Some name; value_names = 1; action = Some action.Set }
 
 abbrev pub or_else : Text → Rule → Rule
 or_else default a = record a { defaults = default ∷ [] }
@@ -37,11 +38,15 @@ read_by parser a = record a { parser = Some parser }
 abbrev pub option : Text → Rule
 option name = read_by value.String (named name)
 
+-- `--name`, which has the value `true` if it is given, and else `false`
+abbrev pub flag : Text → Rule
+flag name = record (read_by value.Bool (named name)) { action = Some action.SetTrue }
+
 abbrev pub required : Rule → Rule
 required a = record a { required = true }
 
 abbrev pub week : Rule
-week = read_by (value.Signed (pos 0) (pos 99999)) (required (option (codes "week")))
+week = required (option (codes "week"))
 
 abbrev pub date : Rule
 date = required (option (codes "date"))
@@ -52,6 +57,13 @@ planned name = or_else (codes "all") (option name)
 
 abbrev pub station : Rule
 station = read_by (value.Signed (pos 0) (pos 4095)) (option (codes "station"))
+
+-- a date near the first observations
+abbrev pub near : Rule
+near = option (codes "near")
+
+abbrev pub times : Rule
+times = flag (codes "times")
 
 -- the position that holds until a station message has another
 abbrev pub position : Rule
@@ -87,6 +99,7 @@ option_set row = record (named row.name.now) {
   required = row.required;
   defaults = map (λ s. s.now) row.defaults.now;
   parser = Some row.parser;
+  action = Some row.action;
 }
 
 -- ---- commands
@@ -98,9 +111,12 @@ with_options a rules = fold with_rule a rules
 abbrev pub rows_of : Tables → Options → List OptionRow
 rows_of tables options.None = []
 rows_of tables options.Station = tables.station.now
+rows_of tables options.Near = tables.station.now
 rows_of tables options.Convert = tables.convert.now
+rows_of tables options.Times = tables.times.now
 
 abbrev pub more_of : Tables → Options → List OptionRow
+more_of tables options.Near = tables.near.now
 more_of tables options.Convert = tables.texts.now
 more_of tables other = []
 
@@ -115,6 +131,12 @@ with_commands a commands = fold (λ (program : App) (command : App). with_subcom
 
 abbrev pub of_station : Text → App
 of_station name = with_options (new_app name) (station ∷ [])
+
+abbrev pub fitting : App
+fitting = with_options (of_station (codes "options")) (near ∷ [])
+
+abbrev pub check : App
+check = with_options (new_app (codes "check")) (times ∷ [])
 
 abbrev pub convert : Bor (List (Bor Text)) → App
 convert names = with_options (with_options (new_app (codes "convert"))
@@ -134,10 +156,10 @@ listings = with_subcommand (with_subcommand start (new_app (codes "frames")).top
 
 abbrev pub signal_commands : App
 signal_commands =
-    with_subcommand (with_subcommand listings (of_station (codes "signals")).top) (of_station (codes "options")).top
+    with_subcommand (with_subcommand listings (of_station (codes "signals")).top) fitting.top
 
 abbrev pub program : Bor (List (Bor Text)) → App
-program names = with_subcommand (with_subcommand signal_commands (convert names).top) (new_app (codes "check")).top
+program names = with_subcommand (with_subcommand signal_commands (convert names).top) check.top
 
 -- the commands and options are those of the program
 abbrev pub IsProgram : App → Type 0

@@ -95,8 +95,9 @@ EndsFound result found left r r' held waits w w' told e e' =
 
 -- ---- the exit status
 
--- the exit status of a fault: 2 for an invalid position or height
+-- the exit status of a fault: 2 for an invalid date, position or height
 abbrev pub fault_status : ToolFault → ℕ
+fault_status (faults.BadDate option) = 2
 fault_status faults.BadPosition = 2
 fault_status faults.BadHeight = 2
 fault_status other = 1

@@ -13,6 +13,8 @@ use Rattle.rinex_file.specs.declared.read.fault.ReadFault.TheVariants as reading
 use Rattle.rtcm_convert.specs.declared.fault.Fault.{Fault}
 use Rattle.rtcm_convert.specs.declared.fault.Fault.TheVariants as convert
 use Rattle.rtcm_inspect.specs.Lines.{line}
+use Rattle.rtcm2rinex.specs.declared.fault.DateOption.{DateOption}
+use Rattle.rtcm2rinex.specs.declared.fault.DateOption.TheVariants as dated
 use Rattle.rtcm2rinex.specs.declared.fault.ToolFault.{ToolFault}
 use Rattle.rtcm2rinex.specs.declared.fault.ToolFault.TheVariants as faults
 
@@ -59,12 +61,19 @@ file_words (reading.BadSatellite k) = codes "BadSatellite" ∷ decimal k ∷ []
 file_words (reading.CutShort k) = codes "CutShort" ∷ decimal k ∷ []
 file_words reading.TooLong = codes "TooLong" ∷ []
 
+-- an option with a date, and the forms that it accepts
+abbrev pub date_words : DateOption → List (List ℕ)
+date_words dated.Week =
+    codes "--week WEEK: a GPS week, 0 to 99999," ∷ codes "or a date yyyy-mm-dd, 1980-01-06 to 3896-07-18" ∷ []
+date_words dated.Near = codes "--near DATE: a date yyyy-mm-dd, 1980-01-06 to 3896-07-18" ∷ []
+
 -- the name of an error, and its parameters or the accepted form
 abbrev pub error_words : ToolFault → List (List ℕ)
 error_words faults.Memory = codes "Memory" ∷ []
 error_words faults.Read = codes "Read" ∷ []
 error_words faults.Write = codes "Write" ∷ []
 error_words (faults.Scan e) = scan_word e ∷ []
+error_words (faults.BadDate option) = codes "BadDate" ∷ date_words option
 error_words faults.BadPosition =
     codes "BadPosition" ∷ codes "--position X,Y,Z: metres, up to 8 digits and 4 decimals each,"
     ∷ codes "-13743895.3472 to 13743895.3471" ∷ []

@@ -1,4 +1,5 @@
 pub mod Lengths
+pub mod Dates
 pub mod SetupOptions
 pub mod CommandLine
 pub mod Devices

@@ -1,6 +1,6 @@
--- The settings that the options of `convert` give.
+-- The values that the options of the commands give.
 use Rattle.std.specs.Prelude.{◌≡◌, ◌<◌, ◌^◌, ℕ, List, [], ◌∷◌, map, Option, Some, None, Result, Ok, Err, codes}
-use Rattle.std.specs.Prelude.{unwrap_or, not, ◌⊎◌}
+use Rattle.std.specs.Prelude.{Bool, unwrap_or, not, ◌⊎◌}
 use Rattle.std.specs.Str.{bytes_eq}
 use Rattle.std.specs.Str.Parse.{IsNumeral, digits_value, without_leading_plus}
 use Rattle.clap.specs.Walk.{Row, first_of, one_of, rows_of}
@@ -13,7 +13,9 @@ use Rattle.rinex_file.specs.Texts.{HeaderLists, trimmed_texts, first_fault, fiel
 use Rattle.gnss_obs.specs.declared.cell.StationValues.{StationValues}
 use Rattle.rtcm_convert.specs.SetupValues.{Start}
 use Rattle.rtcm_convert.specs.declared.setup.Setup.{Setup}
+use Rattle.rtcm2rinex.specs.Dates.{IsHourOf, IsWeekOf}
 use Rattle.rtcm2rinex.specs.Lengths.{values_in}
+use Rattle.rtcm2rinex.specs.declared.fault.DateOption.TheVariants as dated
 use Rattle.rtcm2rinex.specs.declared.fault.ToolFault.{ToolFault}
 use Rattle.rtcm2rinex.specs.declared.fault.ToolFault.TheVariants as faults
 
@@ -47,22 +49,48 @@ IsNumberOf bits (Some text) (Some n) = IsDecimalForm bits text × (n ≡ digits_
 abbrev pub IsNumberOr : ℕ → ℕ → Option (List ℕ) → ℕ → Type 0
 IsNumberOr bits otherwise text n = (found : Option ℕ) × IsNumberOf bits text found × (n ≡ unwrap_or found otherwise)
 
+-- the week that `--week` gives
+abbrev pub IsWeekSet : List Row → ℕ → Type 0
+IsWeekSet options n = IsWeekOf (text_set options (codes "week")) n
+
+-- it gives none, which is this fault
+abbrev pub IsWeekRefused : List Row → ToolFault → Type 0
+IsWeekRefused options fault = (fault ≡ faults.BadDate dated.Week) × ((n : ℕ) → IsWeekSet options n → ⊥)
+
+-- noon of the date in a text, if there is a text
+abbrev pub IsNoonOf : Option (List ℕ) → Option ℕ → Type 0
+IsNoonOf None near = near ≡ None
+IsNoonOf (Some text) None = ⊥
+IsNoonOf (Some text) (Some t) = IsHourOf 12 text t
+
+-- noon of the date that `--near` gives, if it is given
+abbrev pub IsNearSet : List Row → Option ℕ → Type 0
+IsNearSet options near = IsNoonOf (first_of (codes "near") options) near
+
+-- its text isn't a date, which is this fault
+abbrev pub IsNearRefused : List Row → ToolFault → Type 0
+IsNearRefused options fault = (fault ≡ faults.BadDate dated.Near) × ((near : Option ℕ) → IsNearSet options near → ⊥)
+
+-- the flag `--times` is given
+abbrev pub has_times : List Row → Bool
+has_times options = bytes_eq (text_set options (codes "times")) (codes "true")
+
 -- The setup of a conversion has the value of each option, by its name.
 pub record IsSetupOf (options : List Row) (x : Setup) : Type 0 where
   pub texts : x.texts ≡ trimmed_texts (texts_set options)
   pub plan : plan_of (text_set options (codes "gps")) (text_set options (codes "galileo")) ≡ Ok x.plan
-  pub week : IsNumberOr 32 0 (one_of (codes "week") options) x.start_week
+  pub week : IsWeekSet options x.start_week
   pub station : IsNumberOf 16 (one_of (codes "station") options) x.station
   pub gather : is_by_bit x.gather ≡ not (bytes_eq (text_set options (codes "gather")) (codes "time"))
   pub limit : IsNumberOr 64 (2 ^ 48) (one_of (codes "limit") options) x.limit
 
 -- the station values that the options give, or the fault of the option that is invalid
-abbrev pub values_by_message : List Row → Result StationValues ToolFault
-values_by_message options = values_in (text_set options (codes "position")) (text_set options (codes "antenna-height"))
+abbrev pub values_set : List Row → Result StationValues ToolFault
+values_set options = values_in (text_set options (codes "position")) (text_set options (codes "antenna-height"))
 
 -- the start of a conversion that the options give
 abbrev pub IsStartOf : List Row → Start → Type 0
-IsStartOf options x = IsSetupOf options x.setup × (values_by_message options ≡ Ok x.initial)
+IsStartOf options x = IsSetupOf options x.setup × (values_set options ≡ Ok x.initial)
 
 -- Of these options a text of the header has this fault; or the texts are valid, and the plan has this fault, or memory
 -- ran out for it.
@@ -77,7 +105,9 @@ abbrev pub IsFirstFault : Result StationValues ToolFault → List Row → ToolFa
 IsFirstFault (Err e) options fault = fault ≡ e
 IsFirstFault (Ok values) options fault = HasSetupFault options fault
 
--- These options are refused with this fault: that of the position, else that of the height, else that of a text of the
--- header, else that of the plan.
+-- These options are refused with this fault: that of the week, else that of the position, else that of the height, else
+-- that of a text of the header, else that of the plan.
 abbrev pub IsSetupRefused : List Row → ToolFault → Type 0
-IsSetupRefused options fault = IsFirstFault (values_by_message options) options fault
+IsSetupRefused options fault =
+    IsWeekRefused options fault
+    ⊎ ((n : ℕ) × IsWeekSet options n × IsFirstFault (values_set options) options fault)

@@ -10,7 +10,7 @@ use clap::{Arg, ArgMatches, Command, Error};
 use std::alloc::{AllocError, Global};
 
 /// The name, the version, and the kit that it is proved and built with, as `rt version` prints it.
-pub const VERSION: &str = "rtcm2rinex 1.1.0 (rattle-kit-13b logic dac8208d650f15bf)\n";
+pub const VERSION: &str = "rtcm2rinex 1.2.0 (rattle-kit-13b logic dac8208d650f15bf)\n";
 
 /// Parses the words of the command line, the first of which is the program's name.
 ///
@@ -98,7 +98,7 @@ fn described<'a>(alloc: Global, row: &CommandRow<'a>) -> Command<'a>
         .after_help(row.examples)
 }
 
-/// Returns an option with its help, its default and the parser of its value.
+/// Returns an option with its help, its default and the parser of its value, or a flag.
 fn option<'a>(alloc: Global, row: &OptionRow<'a>) -> Arg<'a>
     ensures { rule_of result ≡ option_set row.now }
 {
@@ -109,4 +109,5 @@ fn option<'a>(alloc: Global, row: &OptionRow<'a>) -> Arg<'a>
         .required(row.required)
         .default_values(row.defaults)
         .value_parser(row.parser)
+        .action(row.action)
 }

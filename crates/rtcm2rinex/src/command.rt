@@ -22,7 +22,7 @@ use crate::cli::{VERSION, parse};
 use crate::convert::{report_line, run_convert_at};
 use crate::error_lines::error_line;
 use crate::fault::ToolFault;
-use crate::options::{setup_of, station_of, values_of};
+use crate::options::{setup_of, start_week_of, station_of, values_of};
 use clap::ArgMatches;
 use clap::error::ErrorKind;
 use rtcm_bits::{Counted, Deliver};
@@ -151,8 +151,9 @@ fn convert<R: Read, W: Deliver, E: Write>(
     ensures { EndsConverting result (options_of options.now) R.remaining reader.old reader.new
         W.contents W.waiting writer.old writer.new E.contents faults.old faults.new }
 {
+    let start_week = start_week_of(options)?;
     let initial = values_of(options)?;
-    let setup = setup_of(alloc, options)?;
+    let setup = setup_of(alloc, options, start_week)?;
     match run_convert_at(alloc, setup, initial, reader, writer) {
         Ok(report) => {
             print_line(report_line(&report).as_bytes(), faults);
@@ -207,7 +208,7 @@ pub fn refuse_words<E: Write>(error: &io::Error, faults: &mut Counted<E>) -> u8
 }
 
 /// Prints the fault of a command, if any, on one line, and returns the exit status: 0 after
-/// success, 2 if the position or the height is invalid, else 1. A failure of this writer is
+/// success, 2 if a date, the position or the height is invalid, else 1. A failure of this writer is
 /// ignored.
 fn exit_status<E: Write>(ended: Result<(), ToolFault>, faults: &mut Counted<E>) -> u8
     ensures value { result ≡ status_of ended }
@@ -217,7 +218,7 @@ fn exit_status<E: Write>(ended: Result<(), ToolFault>, faults: &mut Counted<E>) 
     let Err(fault) = ended else { return 0 };
     print_line(error_line(fault).as_bytes(), faults);
     match fault {
-        ToolFault::BadPosition | ToolFault::BadHeight => 2,
+        ToolFault::BadDate(_) | ToolFault::BadPosition | ToolFault::BadHeight => 2,
         _ => 1,
     }
 }

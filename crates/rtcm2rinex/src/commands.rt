@@ -3,6 +3,7 @@ ghost use Rattle.std.specs.Prelude.{◌≡◌};
 ghost use Rattle.rtcm2rinex.specs.CommandLine.{AreTables, more_of, rows_of};
 
 use crate::cli::VERSION;
+use clap::ArgAction;
 use clap::builder::ValueParser;
 
 /// A command.
@@ -22,8 +23,12 @@ pub enum Options {
     None,
     /// The station.
     Station,
+    /// The station, and then a date.
+    Near,
     /// Those of a conversion, and then the texts of the header.
     Convert,
+    /// Whether times are printed.
+    Times,
 }
 
 /// An option of a command.
@@ -37,11 +42,13 @@ pub struct OptionRow<'a> {
     pub defaults: &'a [&'a str],
     /// What its value has to be.
     pub parser: ValueParser<'a>,
+    /// Whether it has a value or is a flag.
+    pub action: ArgAction,
     pub help: &'a str,
 }
 
-/// The commands of a program, and the options that they have. No table is in a row of another, which
-/// would make proofs slow.
+/// The commands of a program, and the options that they have. No table is in a row of another,
+/// which would make proofs slow.
 #[derive(Clone, Copy)]
 pub struct Tables<'a> {
     /// The name and the help of the program itself.
@@ -49,12 +56,14 @@ pub struct Tables<'a> {
     pub version: &'a str,
     pub commands: &'a [CommandRow<'a>],
     pub station: &'a [OptionRow<'a>],
+    pub near: &'a [OptionRow<'a>],
+    pub times: &'a [OptionRow<'a>],
     pub convert: &'a [OptionRow<'a>],
     /// The texts of the header.
     pub texts: &'a [OptionRow<'a>],
 }
 
-/// A table of options: the fields of each in their order.
+/// A table of options that have values: the other fields of each in their order.
 macro_rules! option_rows {
     ($($name:expr, $value:expr, $required:expr, $defaults:expr, $parser:expr, $help:expr;)*) => {
         &[$(OptionRow {
@@ -63,17 +72,20 @@ macro_rules! option_rows {
             required: $required,
             defaults: $defaults,
             parser: $parser,
+            action: ArgAction::Set,
             help: $help,
         }),*]
     };
 }
 
-/// The program itself.
+/// The program itself. The lines of all help texts have at most 80 columns.
 const PROGRAM: CommandRow<'static> = CommandRow {
     name: "rtcm2rinex",
-    about: "Reads an RTCM 3 stream from standard input and writes its content to standard output",
-    examples: "Example: rtcm2rinex convert --week 2300 --date \"20240204 000001 UTC\" < stream.rtcm3 \
-               > station.obs",
+    about: "Reads an RTCM 3 stream from standard input and prints its content",
+    examples: "Example:\n  \
+               plan=$(rtcm2rinex options --near 2024-02-04 < stream.rtcm3) &&\n  \
+               rtcm2rinex convert --date \"20240204 000001 UTC\" $plan \\\n    \
+               < stream.rtcm3 > station.obs",
     options: Options::None,
 };
 
@@ -81,23 +93,21 @@ const PROGRAM: CommandRow<'static> = CommandRow {
 const COMMANDS: &[CommandRow<'static>] = &[
     CommandRow {
         name: "frames",
-        about: "Lists the frames: the place of each, the length of its message and the message's \
-                number",
+        about: "Lists the frames: the place, length and number of each message",
         examples: "Example: rtcm2rinex frames < stream.rtcm3\n\
-                   A line as '0 19 1005' is a frame at byte 0 with a message of 19 bytes, which is \
-                   message 1005.",
+                   A line as '0 19 1005' is a frame at byte 0 with a message of 19 bytes, which\n\
+                   is message 1005.",
         options: Options::None,
     },
     CommandRow {
         name: "show",
-        about: "Shows the messages: stations and their coordinates, heads of MSMs, and why a \
-                message is refused",
+        about: "Shows the messages: stations, heads of MSMs, and refused messages",
         examples: "Example: rtcm2rinex show < stream.rtcm3\n\
-                   A line as '0 1005 2003 1114104.5999 -4850729.7108 3975521.4643' is a station: \
-                   the place of its frame, the message's number, the station, and X, Y and Z in \
+                   A line as '0 1005 2003 1114104.5999 -4850729.7108 3975521.4643' is a station:\n\
+                   the place of its frame, the message's number, the station, and X, Y and Z in\n\
                    metres.\n\
-                   A line as '52 1077 2003 1000 0 1 1 1' is an MSM: place, number, station, time \
-                   in milliseconds of the week, DF393, and how many satellites, signals and cells \
+                   A line as '52 1077 2003 1000 0 1 1 1' is an MSM: place, number, station, time\n\
+                   in milliseconds of the week, DF393, and how many satellites, signals and cells\n\
                    it has.",
         options: Options::None,
     },
@@ -105,38 +115,44 @@ const COMMANDS: &[CommandRow<'static>] = &[
         name: "signals",
         about: "Prints a table of the signals of the stream",
         examples: "Example: rtcm2rinex signals < stream.rtcm3\n\
-                   A line as 'G 1C 3042' is a signal: its system, its code, and the number of its \
+                   A line as 'G 1C 3042' is a signal: its system, its code, and the number of its\n\
                    cells with a pseudorange, a phase, a Doppler shift or a strength.",
         options: Options::Station,
     },
     CommandRow {
         name: "options",
         about: "Prints the options of convert that fit the stream",
-        examples: "Example: plan=$(rtcm2rinex options < stream.rtcm3) && rtcm2rinex convert --week \
-                   2300 --date \"20240204 000001 UTC\" $plan < stream.rtcm3 > station.obs\n\
-                   A line as '--gps 1C,2W --galileo none --position=1.0000,-2.0000,3.0000' has \
-                   every signal with a pseudorange, a phase, a Doppler shift or a strength, and \
-                   the position of the first message 1005 or 1006.",
-        options: Options::Station,
+        examples: "Example:\n  \
+                   plan=$(rtcm2rinex options --near 2024-02-04 < stream.rtcm3) &&\n  \
+                   rtcm2rinex convert --date \"20240204 000001 UTC\" $plan \\\n    \
+                   < stream.rtcm3 > station.obs\n\
+                   A line as '--gps 1C,2W --galileo none --position=1.0000,-2.0000,3.0000' has\n\
+                   every signal with a pseudorange, a phase, a Doppler shift or a strength, and\n\
+                   the position of the first message 1005 or 1006. With --near it begins with\n\
+                   the week, as '--week 2300', and with --station it has the station. Without\n\
+                   --station a stream of several stations is refused.",
+        options: Options::Near,
     },
     CommandRow {
         name: "convert",
         about: "Converts the observations to a RINEX 3.05 observation file",
-        examples: "Example: rtcm2rinex convert --week 2300 --date \"20240204 000001 UTC\" --gps \
-                   1C,2W --galileo none < stream.rtcm3 > station.obs\n\
-                   At the end one line on standard error counts the bytes, frames, messages, cells \
-                   and epochs.",
+        examples: "Example:\n  \
+                   rtcm2rinex convert --week 2300 --date \"20240204 000001 UTC\" \\\n    \
+                   --gps 1C,2W --galileo none < stream.rtcm3 > station.obs\n\
+                   The command options prints the week and the signals of a stream.\n\
+                   At the end one line on standard error counts the bytes, frames, messages,\n\
+                   cells and epochs.",
         options: Options::Convert,
     },
     CommandRow {
         name: "check",
-        about: "Checks that standard input is an observation file just as convert writes it",
+        about: "Checks that standard input is a file just as convert writes it",
         examples: "Example: rtcm2rinex check < station.obs\n\
-                   A line as 'epochs 2 satellites 17 events 0' counts the epochs, the lines of \
-                   satellites, and the events with other station values. Of any other file the \
-                   first line that is wrong is given on standard error, as 'rtcm2rinex: BadHeader \
-                   2'.",
-        options: Options::None,
+                   A line as 'epochs 2 satellites 17 events 0' counts the epochs, the lines of\n\
+                   satellites, and the events with other station values. Of any other file the\n\
+                   first line that is wrong is given on standard error, as\n\
+                   'rtcm2rinex: BadHeader 2'.",
+        options: Options::Times,
     },
 ];
 
@@ -145,46 +161,73 @@ const STATIONS: ValueParser<'static> = ValueParser::Signed(0, 4_095);
 
 const STATION: &[OptionRow<'static>] = option_rows! {
     "station", "NUMBER", false, &[], STATIONS,
-        "Reference station (DF003) whose messages count; without it those of every station";
+        "Reference station (DF003), 0 to 4095: no other counts";
 };
 
 /// Any text.
 const TEXT: ValueParser<'static> = ValueParser::String;
 
-/// The options of a conversion.
-const CONVERT: &[OptionRow<'static>] = option_rows! {
-    "week", "WEEK", true, &[], ValueParser::Signed(0, 99_999),
-        "GPS week of the first observations, 0 to 99,999, counted on from 1980 without wrapping";
-    "date", "TEXT", true, &[], TEXT, "Date of the run, in RINEX's form 'yyyymmdd hhmmss UTC'";
-    "gps", "SIGNALS", false, &["all"], TEXT,
-        "GPS signals in the file's order: all, none, or codes as 1C,2W";
-    "galileo", "SIGNALS", false, &["all"], TEXT,
-        "Galileo signals in the file's order: all, none, or codes as 1C,5Q";
-    "station", "NUMBER", false, &[], STATIONS,
-        "Reference station (DF003) whose messages count; without it those of every station";
-    "position", "X,Y,Z", false, &["0,0,0"], TEXT,
-        "Position in metres until a message 1005 or 1006; write --position=X,Y,Z if X is negative";
-    "antenna-height", "HEIGHT", false, &["0"], TEXT,
-        "Antenna height in metres until a message 1006, 0 to 6.5535";
-    "gather", "RULE", false, &["bit"], ValueParser::Names(&["bit", "time"]),
-        "What closes an epoch: the last message of a set (DF393) or a later time; or time alone";
-    "limit", "BYTES", false, &["281474976710656"],
-        ValueParser::Unsigned(0, 281_474_976_710_656),
-        "Most bytes of the stream; a longer one is a fault";
+const NEAR: &[OptionRow<'static>] = option_rows! {
+    "near", "DATE", false, &[], TEXT,
+        "GPS date within half a week of the first\n\
+         observations, as 2024-02-04: prints --week too";
 };
 
-/// The texts of the header, other than the date.
+const TIMES: &[OptionRow<'static>] = &[OptionRow {
+    name: "times",
+    value: "",
+    required: false,
+    defaults: &[],
+    parser: ValueParser::Bool,
+    action: ArgAction::SetTrue,
+    help: "Also prints the first and the last epoch and the\n\
+           smallest step between epochs",
+}];
+
+/// The options of a conversion.
+const CONVERT: &[OptionRow<'static>] = option_rows! {
+    "week", "WEEK", true, &[], TEXT,
+        "GPS week of the first observations, 0 to 99999\n\
+         without rollover, or a date in it: 2024-02-04";
+    "date", "TEXT", true, &[], TEXT, "Date of the run: 'yyyymmdd hhmmss UTC'";
+    "gps", "SIGNALS", false, &["all"], TEXT,
+        "GPS signals in the file's order: all, none,\n\
+         or codes as 1C,2W";
+    "galileo", "SIGNALS", false, &["all"], TEXT,
+        "Galileo signals in the file's order: all, none,\n\
+         or codes as 1C,5Q";
+    "station", "NUMBER", false, &[], STATIONS,
+        "Reference station (DF003), 0 to 4095; without\n\
+         it the messages of every station count";
+    "position", "X,Y,Z", false, &["0,0,0"], TEXT,
+        "Position in metres until a message 1005 or\n\
+         1006; write --position=X,Y,Z if X is\n\
+         negative";
+    "antenna-height", "HEIGHT", false, &["0"], TEXT,
+        "Antenna height in metres until a message 1006,\n\
+         0 to 6.5535";
+    "gather", "RULE", false, &["bit"], ValueParser::Names(&["bit", "time"]),
+        "What closes an epoch: a later time (time), or\n\
+         also the last message of a set by its DF393\n\
+         bit";
+    "limit", "BYTES", false, &["281474976710656"],
+        ValueParser::Unsigned(0, 281_474_976_710_656),
+        "Most bytes of the stream; a longer one is a\n\
+         fault";
+};
+
+/// The texts of the header, other than the date: printable ASCII.
 const TEXTS: &[OptionRow<'static>] = option_rows! {
-    "run-by", "TEXT", false, &[""], TEXT, "Who runs the program";
-    "marker", "TEXT", false, &[""], TEXT, "Name of the antenna marker";
-    "marker-type", "TEXT", false, &["GEODETIC"], TEXT, "Type of the marker";
-    "observer", "TEXT", false, &[""], TEXT, "Name of the observer";
-    "agency", "TEXT", false, &[""], TEXT, "Name of the observer's agency";
-    "rec-number", "TEXT", false, &[""], TEXT, "Serial number of the receiver";
-    "rec-type", "TEXT", false, &[""], TEXT, "Type of the receiver";
-    "rec-version", "TEXT", false, &[""], TEXT, "Version of the receiver's firmware";
-    "ant-number", "TEXT", false, &[""], TEXT, "Serial number of the antenna";
-    "ant-type", "TEXT", false, &[""], TEXT, "Type of the antenna";
+    "run-by", "TEXT", false, &[""], TEXT, "Who runs the program, 20 columns";
+    "marker", "TEXT", false, &[""], TEXT, "Name of the antenna marker, 60 columns";
+    "marker-type", "TEXT", false, &["GEODETIC"], TEXT, "Type of the marker, 20 columns";
+    "observer", "TEXT", false, &[""], TEXT, "Name of the observer, 20 columns";
+    "agency", "TEXT", false, &[""], TEXT, "Name of the observer's agency, 40 columns";
+    "rec-number", "TEXT", false, &[""], TEXT, "Serial number of the receiver, 20 columns";
+    "rec-type", "TEXT", false, &[""], TEXT, "Type of the receiver, 20 columns";
+    "rec-version", "TEXT", false, &[""], TEXT, "Version of its firmware, 20 columns";
+    "ant-number", "TEXT", false, &[""], TEXT, "Serial number of the antenna, 20 columns";
+    "ant-type", "TEXT", false, &[""], TEXT, "Type of the antenna, 20 columns";
 };
 
 /// Returns the tables of the program.
@@ -196,6 +239,8 @@ pub fn program_tables() -> Tables<'static>
         version: VERSION,
         commands: COMMANDS,
         station: STATION,
+        near: NEAR,
+        times: TIMES,
         convert: CONVERT,
         texts: TEXTS,
     }
@@ -208,8 +253,9 @@ impl<'a> Tables<'a> {
     {
         match options {
             Options::None => &[],
-            Options::Station => self.station,
+            Options::Station | Options::Near => self.station,
             Options::Convert => self.convert,
+            Options::Times => self.times,
         }
     }
 
@@ -218,6 +264,7 @@ impl<'a> Tables<'a> {
         ensures { result.now ≡ more_of self.now options }
     {
         match options {
+            Options::Near => self.near,
             Options::Convert => self.texts,
             _ => &[],
         }

@@ -1,12 +1,12 @@
 //! The lines of errors, on standard error.
-ghost use Rattle.std.specs.Prelude.{◌≡◌, ◌+◌, ◌≤◌, [], ◌∷◌, decimal, length};
+ghost use Rattle.std.specs.Prelude.{◌≡◌, ◌+◌, ◌≤◌, [], ◌∷◌, codes, decimal, length};
 ghost use Rattle.gnss_obs.specs.Satellites.{letter};
 ghost use Rattle.rinex_file.specs.Texts.{field_name};
-ghost use Rattle.rtcm2rinex.specs.ErrorLines.{conversion_word, error_line, error_words, file_words, header_words};
+ghost use Rattle.rtcm2rinex.specs.ErrorLines.{conversion_word, date_words, error_line, error_words, file_words, header_words};
 ghost use Rattle.rtcm2rinex.specs.ErrorLines.{plan_words, scan_word};
 ghost use Rattle.rtcm_inspect.specs.Lines.{with_words};
 
-use crate::fault::ToolFault;
+use crate::fault::{DateOption, ToolFault};
 use gnss_obs::System;
 use obs_epoch::PlanFault;
 use rinex_file::{HeadFault, HeaderField, ReadFault};
@@ -37,6 +37,7 @@ fn add_error(line: &mut OutputLine, fault: ToolFault)
         ToolFault::Read => line.add_word("Read"),
         ToolFault::Write => line.add_word("Write"),
         ToolFault::Scan(fault) => line.add_word(scan_name(fault)),
+        ToolFault::BadDate(option) => add_bad_date(line, option),
         ToolFault::BadPosition => {
             line.add_word("BadPosition");
             line.add_word("--position X,Y,Z: metres, up to 8 digits and 4 decimals each,");
@@ -55,6 +56,24 @@ fn add_error(line: &mut OutputLine, fault: ToolFault)
             line.add_number(u64::from(other));
         }
         ToolFault::NoSignal => line.add_word("NoSignal"),
+    }
+}
+
+/// Adds the name of an invalid date, its option and the forms that this accepts.
+fn add_bad_date(line: &mut OutputLine, option: DateOption)
+    requires { length line.old ≤ 100 }
+    ensures text { line.new ≡ with_words line.old (codes "BadDate" ∷ date_words option) }
+    ensures short { length line.new ≤ length line.old + 120 }
+{
+    line.add_word("BadDate");
+    match option {
+        DateOption::Week => {
+            line.add_word("--week WEEK: a GPS week, 0 to 99999,");
+            line.add_word("or a date yyyy-mm-dd, 1980-01-06 to 3896-07-18");
+        }
+        DateOption::Near => {
+            line.add_word("--near DATE: a date yyyy-mm-dd, 1980-01-06 to 3896-07-18");
+        }
     }
 }
 

@@ -19,6 +19,8 @@ pub enum ToolFault {
     Write,
     /// The framer refused.
     Scan(ScanFault),
+    /// The text of this option isn't a date or a week.
+    BadDate(DateOption),
     /// The text of `--position` isn't a position.
     BadPosition,
     /// The text of `--antenna-height` isn't a height.
@@ -35,6 +37,15 @@ pub enum ToolFault {
     SeveralStations(u16, u16),
     /// No cell of the stream has a value.
     NoSignal,
+}
+
+/// An option whose value is a date.
+#[derive(Clone, Copy)]
+pub enum DateOption {
+    /// `--week`, whose value may also be the number of a week.
+    Week,
+    /// `--near`.
+    Near,
 }
 
 impl From<InspectFault> for ToolFault {

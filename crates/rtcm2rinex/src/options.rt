@@ -1,29 +1,71 @@
 //! The values of the options of the commands.
-ghost use Rattle.std.specs.Prelude.{◌≡◌, ◌≤◌, ◌<◌, ◌^◌, IfSome, MatchOption};
+ghost use Rattle.std.specs.Prelude.{◌≡◌, ◌≤◌, ◌<◌, ◌^◌, ℕ, IfSome, MatchOption};
 ghost use Rattle.std.specs.Prelude.{MatchResult, None, Some, codes, not};
 ghost use Rattle.clap.specs.Walk.{one_of};
 ghost use Rattle.std.specs.Str.{bytes_eq};
 ghost use Rattle.obs_epoch.specs.Kinds.{is_by_bit};
 ghost use Rattle.rinex_file.specs.TextsOf.{lists_of};
+ghost use Rattle.rtcm2rinex.specs.Dates.{IsHourOf, IsWeekNumber, IsWeekOf, civil_in, fixed_number};
 ghost use Rattle.rtcm2rinex.specs.Lengths.{coordinate_of, cut, decimals_of};
 ghost use Rattle.rtcm2rinex.specs.Lengths.{length_below, length_of, number_of, position_of};
-ghost use Rattle.rtcm2rinex.specs.SetupOptions.{HasSetupFault, IsNumberOf, IsSetupOf};
-ghost use Rattle.rtcm2rinex.specs.SetupOptions.{options_of, text_set, texts_set, values_by_message};
+ghost use Rattle.rtcm2rinex.specs.SetupOptions.{HasSetupFault, IsNumberOf, IsSetupOf, IsWeekSet};
+ghost use Rattle.rtcm2rinex.specs.SetupOptions.{IsNearRefused, IsNearSet, IsWeekRefused, has_times, options_of, text_set, texts_set, values_set};
 
-use crate::fault::ToolFault;
+use crate::fault::{DateOption, ToolFault};
 use clap::ArgMatches;
+use gnss_obs::{Civil, GpsTime, WEEK, WEEKS};
 use obs_epoch::{Gather, Plan, StationValues};
 use rinex_file::{HeaderTexts, Texts};
 use rtcm_convert::Setup;
 use rtcm_scan::MOST_BYTES;
 use std::alloc::Global;
 
-/// Returns the settings of a conversion. The texts of the header are checked before the plan.
+/// Returns the week of the first observations.
+///
+/// # Errors
+///
+/// `BadDate` if the text isn't a week or a date.
+pub fn start_week_of(options: &ArgMatches) -> Result<u32, ToolFault>
+    ensures { MatchResult result (IsWeekSet (options_of options.now)) (IsWeekRefused (options_of options.now)) }
+{
+    match week_of(text(options, "week")) {
+        Some(week) => Ok(week),
+        None => Err(ToolFault::BadDate(DateOption::Week)),
+    }
+}
+
+/// Returns noon of the date near the first observations, or `None` if the option isn't given.
+///
+/// # Errors
+///
+/// `BadDate` if the text isn't a date.
+pub fn near_of(options: &ArgMatches) -> Result<Option<GpsTime>, ToolFault>
+    ensures { MatchResult result (IsNearSet (options_of options.now)) (IsNearRefused (options_of options.now)) }
+{
+    match options.get_str("near") {
+        Some(text) => match hour_of(text, 12) {
+            Some(noon) => Ok(Some(noon)),
+            None => Err(ToolFault::BadDate(DateOption::Near)),
+        },
+        None => Ok(None),
+    }
+}
+
+/// Returns whether times are printed.
+pub fn has_times(options: &ArgMatches) -> bool
+    ensures { result ≡ has_times (options_of options.now) }
+{
+    text(options, "times") == "true"
+}
+
+/// Returns the settings of a conversion that begins in a week. The texts of the header are checked
+/// before the plan.
 ///
 /// # Errors
 ///
 /// `Header` if a text of the header is refused, and `Plan` if the plan is.
-pub fn setup_of(alloc: Global, options: &ArgMatches) -> Result<Setup, ToolFault>
+pub fn setup_of(alloc: Global, options: &ArgMatches, start_week: u32) -> Result<Setup, ToolFault>
+    requires { IsWeekSet (options_of options.now) start_week }
     ensures { MatchResult result (IsSetupOf (options_of options.now)) (HasSetupFault (options_of options.now)) }
 {
     let texts = match HeaderTexts::new(&texts_of(options)) {
@@ -37,7 +79,7 @@ pub fn setup_of(alloc: Global, options: &ArgMatches) -> Result<Setup, ToolFault>
     Ok(Setup {
         plan,
         texts,
-        start_week: options.get_one::<u32>("week").unwrap_or(0),
+        start_week,
         station: station_of(options),
         gather: gather_of(text(options, "gather")),
         limit: options.get_one::<u64>("limit").unwrap_or(MOST_BYTES),
@@ -93,7 +135,7 @@ pub fn station_of(options: &ArgMatches) -> Option<u16>
 ///
 /// `BadPosition` or `BadHeight` if a text has another form, or a length that no message can have.
 pub fn values_of(options: &ArgMatches) -> Result<StationValues, ToolFault>
-    ensures { result ≡ values_by_message (options_of options.now) }
+    ensures { result ≡ values_set (options_of options.now) }
 {
     let Some((x, y, z)) = position_of(text(options, "position")) else {
         return Err(ToolFault::BadPosition);
@@ -106,6 +148,81 @@ pub fn values_of(options: &ArgMatches) -> Result<StationValues, ToolFault>
             height: height as u16,
         }),
         None => Err(ToolFault::BadHeight),
+    }
+}
+
+// ---- weeks and dates, read from text
+
+/// Parses the number of a week, 0 to 99,999, or a date and returns the week that contains it.
+fn week_of(text: &str) -> Option<u32>
+    ensures { MatchOption result ((n : ℕ) → ¬ IsWeekOf text.now n) (IsWeekOf text.now) }
+{
+    match week_number(text) {
+        Some(week) => Some(week),
+        None => match hour_of(text, 0) {
+            Some(midnight) => Some((midnight.milliseconds() / WEEK) as u32),
+            None => None,
+        },
+    }
+}
+
+/// Parses the number of a week as `clap` parses a signed number.
+fn week_number(text: &str) -> Option<u32>
+    ensures { MatchOption result ((n : ℕ) → ¬ IsWeekNumber text.now n) (IsWeekNumber text.now) }
+{
+    match text.parse::<i64>() {
+        Ok(week) if 0 <= week && week < WEEKS as i64 => Some(week as u32),
+        _ => None,
+    }
+}
+
+/// Parses a date as `yyyy-mm-dd`, and returns this hour of it.
+fn hour_of(text: &str, hour: u8) -> Option<GpsTime>
+    ensures { MatchOption result ((t : ℕ) → ¬ IsHourOf hour text.now t) (IsHourOf hour text.now) }
+{
+    match civil_in(text, hour) {
+        // The inner match gives the proof the range of the time.
+        Some(civil) => match GpsTime::from_civil(&civil) {
+            Some(time) => Some(time),
+            None => None,
+        },
+        None => None,
+    }
+}
+
+/// Parses numbers of four, two and two digits, separated by hyphens.
+fn civil_in(text: &str, hour: u8) -> Option<Civil>
+    ensures { result ≡ civil_in hour text.now }
+{
+    let (year, rest) = cut(text, '-')?;
+    let (month, day) = cut(rest, '-')?;
+    match (
+        fixed_number(year, 4),
+        fixed_number(month, 2),
+        fixed_number(day, 2),
+    ) {
+        (Some(year), Some(month), Some(day)) => Some(Civil {
+            year: year as u16,
+            month: month as u8,
+            day: day as u8,
+            hour,
+            minute: 0,
+            millisecond: 0,
+        }),
+        _ => None,
+    }
+}
+
+/// Parses a number of exactly `width` digits.
+fn fixed_number(text: &str, width: usize) -> Option<u64>
+    requires { width ≤ 8 }
+    ensures value { result ≡ fixed_number width text.now }
+    ensures small { IfSome result (λ n. n < 10 ^ width) }
+{
+    if text.len() == width {
+        number_of(text, width)
+    } else {
+        None
     }
 }
 
@@ -192,7 +309,7 @@ fn cut(text: &str, separator: char) -> Option<(&str, &str)>
 fn number_of(text: &str, most: usize) -> Option<u64>
     requires { most ≤ 8 }
     ensures value { result ≡ number_of most text.now }
-    ensures small { IfSome result (λ n. n < 10 ^ 8) }
+    ensures small { IfSome result (λ n. n < 10 ^ most) }
 {
     let digits = text.as_bytes();
     if digits.is_empty() || digits.len() > most {

@@ -7,16 +7,24 @@ use Rattle.rtcm_inspect.specs.Printing.{PrintsLine}
 use Rattle.rtcm2rinex.specs.SetupOptions.{options_of}
 use Rattle.rtcm2rinex.specs.declared.fault.ToolFault.{ToolFault}
 use Rattle.rtcm2rinex.specs.declared.fault.ToolFault.TheVariants as faults
-use Rattle.rtcm2rinex.proofs.ConvertLemmas.{setup_refused, values_refused}
+use Rattle.rtcm2rinex.proofs.ConvertLemmas.{setup_refused, values_refused, week_refused}
 use Rattle.rtcm_inspect.proofs.PrintingLemmas.{passed}
 use Rattle.rtcm2rinex.proofs.command.convert.Goals as goal
 
-pub returns-in_err-initial : goal.returns-in_err-initial
-returns-in_err-initial g c =
-    passed c.from_residual.result c.in_err-initial.field-0.0
+pub returns-in_err-start_week : goal.returns-in_err-start_week
+returns-in_err-start_week g c =
+    passed c.from_residual.result c.in_err-start_week.field-0.0
     (λ r. EndsConverting r (options_of c.args.options.now) g.R.Read.remaining c.args.reader.now c.args.reader.now g.W.Write.contents g.W.Deliver.waiting c.args.writer.now c.args.writer.now
     g.E.Write.contents c.args.faults.now c.args.faults.now) c.from_residual.ensures.1
-    (let end = values_refused g.R.Read.remaining g.W.Write.contents g.W.Deliver.waiting (options_of c.args.options.now) c.args.reader.now c.args.writer.now c.in_err-initial.field-0.0 (sym c.values_of.ensures ∙ c.in_err-initial.was) in
+    (let end = week_refused g.R.Read.remaining g.W.Write.contents g.W.Deliver.waiting (options_of c.args.options.now) c.args.reader.now c.args.writer.now c.in_err-start_week.field-0.0 c.in_err-start_week.ensures in
+    (end.0, (end.1, refl)))
+
+pub returns-in_err-initial : goal.returns-in_err-initial
+returns-in_err-initial g c =
+    passed c.from_residual-in_err-initial.result c.in_err-initial.field-0.0
+    (λ r. EndsConverting r (options_of c.args.options.now) g.R.Read.remaining c.args.reader.now c.args.reader.now g.W.Write.contents g.W.Deliver.waiting c.args.writer.now c.args.writer.now
+    g.E.Write.contents c.args.faults.now c.args.faults.now) c.from_residual-in_err-initial.ensures.1
+    (let end = values_refused g.R.Read.remaining g.W.Write.contents g.W.Deliver.waiting (options_of c.args.options.now) c.args.reader.now c.args.writer.now c.in_ok-start_week.start_week c.in_ok-start_week.ensures c.in_err-initial.field-0.0 (sym c.values_of.ensures ∙ c.in_err-initial.was) in
     (end.0, (end.1, refl)))
 
 pub returns-in_err-setup : goal.returns-in_err-setup
@@ -24,7 +32,7 @@ returns-in_err-setup g c =
     passed c.from_residual-in_err-setup.result c.in_err-setup.field-0.0
     (λ r. EndsConverting r (options_of c.args.options.now) g.R.Read.remaining c.args.reader.now c.args.reader.now g.W.Write.contents g.W.Deliver.waiting c.args.writer.now c.args.writer.now
     g.E.Write.contents c.args.faults.now c.args.faults.now) c.from_residual-in_err-setup.ensures.1
-    (let end = setup_refused g.R.Read.remaining g.W.Write.contents g.W.Deliver.waiting (options_of c.args.options.now) c.args.reader.now c.args.writer.now c.in_err-setup.field-0.0 c.in_ok-initial.initial (sym c.values_of.ensures ∙ c.in_ok-initial.was) c.in_err-setup.ensures in
+    (let end = setup_refused g.R.Read.remaining g.W.Write.contents g.W.Deliver.waiting (options_of c.args.options.now) c.args.reader.now c.args.writer.now c.in_ok-start_week.start_week c.in_ok-start_week.ensures c.in_err-setup.field-0.0 c.in_ok-initial.initial (sym c.values_of.ensures ∙ c.in_ok-initial.was) c.in_err-setup.ensures in
     (end.0, (end.1, refl)))
 
 pub returns-in-Ok : goal.returns-in-Ok

@@ -12,16 +12,12 @@ returns c =
     record {
       texts = search rules;
       plan = search rules;
-      week = (
-        c.get_one.result,
-        number_given (ExplainsUnsignedError 10) HasUnsignedDigitsIfOk 32 f (codes "week") _ c.get_one.ensures.none c.get_one.ensures.value,
-        c.unwrap_or.ensures,
-      );
+      week = c.requires;
       station = c.station_of.ensures;
       gather = c.gather_of.ensures ∙ ap (λ (t : List ℕ). not (bytes_eq t (codes "time"))) c.text-3.ensures;
       limit = (
-        c.get_one-2.result,
-        number_given (ExplainsUnsignedError 10) HasUnsignedDigitsIfOk 64 f (codes "limit") _ c.get_one-2.ensures.none c.get_one-2.ensures.value,
-        c.unwrap_or-2.ensures,
+        c.get_one.result,
+        number_given (ExplainsUnsignedError 10) HasUnsignedDigitsIfOk 64 f (codes "limit") _ c.get_one.ensures.none c.get_one.ensures.value,
+        c.unwrap_or.ensures,
       );
     }
