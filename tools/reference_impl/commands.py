@@ -1,8 +1,9 @@
 """The commands: the lines printed for the bytes of a stream."""
-from .epochs import Gathered, Setup
+from .epochs import LAST_WEEK, Gathered, Setup
 from .frames import frames_of
 from .lines import epoch_lines, event_lines, fixed, has_value, header
-from .messages import SIGNALS, Message, Msm, Refused, Station, decode, number_of
+from .messages import SIGNALS, WEEK, Message, Msm, Refused, Station, decode, number_of
+from .options import Fault
 
 KINDS = ("station", "other", "ignored", "late", "past", "taken")
 Report = dict[str, int]
@@ -56,7 +57,10 @@ def signal_counts(data: bytes, station: int | None) -> dict[tuple[str, str], int
     return {signal: count for signal, count in counts.items() if count}
 
 
-def count_lines(counts: dict[tuple[str, str], int]) -> list[str]:
+def count_lines(data: bytes, station: int | None) -> list[str]:
+    counts = signal_counts(data, station)
+    if not counts:
+        raise Fault("NoSignal")
     return [f"{system} {code} {count}" for (system, code), count in counts.items()]
 
 
@@ -66,10 +70,34 @@ def first_station(data: bytes, station: int | None) -> Station | None:
     return next((read for read in stations if station in (None, read.station)), None)
 
 
-def option_line(counts: dict[tuple[str, str], int], first: Station | None) -> str:
-    """Returns the options of `convert` that fit a stream with these signals and this first station message."""
+def first_stations(data: bytes) -> list[int]:
+    """Returns the first station, and the first other one, of the messages that are decoded."""
+    read = [message for message in messages_of(frames_of(data)) if isinstance(message, Station | Msm)]
+    return list(dict.fromkeys(message.station for message in read))[:2]
+
+
+def week_near(data: bytes, station: int | None, noon: int) -> int | None:
+    """Returns the week in which the first MSM of this station, or of any, is nearest to noon; the earlier of two."""
+    times = (read.time for read in messages_of(frames_of(data)) if isinstance(read, Msm) and station in (None, read.station))
+    time = next(times, None)
+    if time is None:
+        return None
+    weeks = range(max(noon // WEEK - 1, 0), min(noon // WEEK + 2, LAST_WEEK))
+    return min(weeks, key=lambda week: abs(week * WEEK + time - noon))
+
+
+def option_line(data: bytes, station: int | None, noon: int | None = None) -> str:
+    """Returns the options of `convert` that fit a stream, of this station or of its only one."""
+    stations = first_stations(data)
+    if station is None and len(stations) > 1:
+        raise Fault(f"SeveralStations {stations[0]} {stations[1]}")
+    counts, first = signal_counts(data, station), first_station(data, station)
+    if not counts:
+        raise Fault("NoSignal")
+    words = [] if noon is None else [f"--week {week_near(data, station, noon)}"]
+    words += [] if station is None else [f"--station {station}"]
     names = {system: ",".join(code for at, code in counts if at == system) or "none" for system in SIGNALS}
-    words = [f"--gps {names['G']} --galileo {names['E']}"]
+    words.append(f"--gps {names['G']} --galileo {names['E']}")
     if first:
         words.append("--position=" + ",".join(fixed(value, 4) for value in first.coordinates))
     if first and first.height is not None:

@@ -1,7 +1,7 @@
 """The judgement of a file: its counts, or the first line at fault."""
 import re
 from collections.abc import Iterator
-from datetime import datetime
+from datetime import datetime, timedelta
 
 from .lines import fixed, header_line, station_lines, type_lines
 from .messages import SATELLITES, SIGNALS
@@ -47,7 +47,8 @@ class File:
     def __init__(self, data: bytes) -> None:
         self.data, self.place, self.number = data.decode("latin-1"), 0, 0
         self.values: list[int] = []
-        self.epochs = self.satellites = self.events = 0
+        self.times: list[int] = []
+        self.satellites = self.events = 0
         self.plan: dict[str, list[str]] = {"G": [], "E": []}
 
     def take(self) -> str:
@@ -135,7 +136,7 @@ class File:
         self.expect(found[3] == str(count).rjust(3))
         self.expect(time == self.first if before is None else time > before)
         self.expect(0 < count <= sum(SATELLITES[system] for system in "GE" if self.plan[system]))
-        self.epochs += 1
+        self.times.append(time)
         return time, count
 
     def signal(self, text: str) -> bool:
@@ -186,12 +187,21 @@ class File:
                 satellite = self.satellite(satellite)
 
 
-def check_line(data: bytes) -> str:
-    """Returns the counts of a file. Raises its fault, if it has one."""
+def time_lines(times: list[int]) -> list[str]:
+    """Returns the lines of the first time, the last one, and the smallest step, if there are two."""
+    shown = [(datetime(1980, 1, 6) + timedelta(milliseconds=time)).isoformat(" ", "milliseconds") for time in times]
+    lines = [f"first {shown[0]}", f"last {shown[-1]}"]
+    steps = [later - time for time, later in zip(times, times[1:])]
+    return lines + [f"step {min(steps) // 1000}.{min(steps) % 1000:03}"] if steps else lines
+
+
+def check_lines(data: bytes, has_times: bool = False) -> list[str]:
+    """Returns the counts of a file, and the lines of its times if asked for. Raises its fault, if it has one."""
     file, kind = File(data), ""
     try:
         for kind in file.read():
             pass
     except (ValueError, IndexError):
         raise Fault(f"{kind} {file.number}") from None
-    return f"epochs {file.epochs} satellites {file.satellites} events {file.events}"
+    counts = f"epochs {len(file.times)} satellites {file.satellites} events {file.events}"
+    return [counts, *time_lines(file.times)] if has_times else [counts]

@@ -50,6 +50,14 @@ def week_of(text: str) -> int:
         raise Fault(f"BadDate --week {WEEK}") from None
 
 
+def noon_of(text: str) -> int:
+    """Returns noon of the date of the option `--near`, in milliseconds from 1980-01-06."""
+    try:
+        return (2 * days_of(text) + 1) * 43_200_000
+    except ValueError:
+        raise Fault(f"BadDate --near DATE: {DATES}") from None
+
+
 def length_of(text: str) -> int:
     """Returns a length in units of 0.0001 m, from a text in metres."""
     found = re.fullmatch(r"(-?)(\d{1,8})(?:\.(\d{1,4}))?", text, re.ASCII)
