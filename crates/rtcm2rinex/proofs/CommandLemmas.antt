@@ -1,12 +1,12 @@
 -- The meaning of the exit status.
 use Rattle.std.proofs.Common.{◌≡◌, ◌∙◌, inl, inr, refl, sym, subst, codes, ap, ap₂, option_map, ℕ, List, Option, Some, None, Result, Ok, Err, arith}
-use Rattle.std.specs.Prelude.{⊤, ◌≢◌}
+use Rattle.std.specs.Prelude.{⊤, ◌≢◌, ◌⊎◌}
 use Rattle.std.specs.Box.{box_value}
 use Rattle.std.specs.Option.{option_map_or}
 use Rattle.std.specs.Prelude.{Box}
 use Rattle.clap.specs.Matches.{found_of, subcommand_name_of}
 use Rattle.clap.specs.Simple.{subcommand_rows, subcommand_rows_of}
-use Rattle.clap.specs.Walk.{Row, Text, rows_of}
+use Rattle.clap.specs.Walk.{Row, Text, one_of, rows_of}
 use Rattle.clap.specs.declared.parser.matches.ArgMatches.TheViews.{out-ArgMatches, out-SubCommand}
 use Rattle.clap.specs.declared.parser.matches.SubCommand.{SubCommand}
 use Rattle.clap.specs.Values.{kind_of}
@@ -15,19 +15,21 @@ use Rattle.clap.specs.declared.error.kind.ErrorKind.TheVariants as kind
 use Rattle.clap.specs.declared.parser.matches.ArgMatches.{ArgMatches}
 use Rattle.rtcm_bits.specs.Device.{Device}
 use Rattle.rtcm2rinex.specs.CommandLine.{SelectsCommand, IsFoundIn, RefusesWords}
-use Rattle.rtcm2rinex.specs.Commands.{AreRefused, EndsCommand, EndsFound, HasCommand, HasCompleted, HasDone, HasPrinted, HasStopped, HasStoppedEarly, HasStoppedPrinting, StopsPrinting, fault_status, status_of}
+use Rattle.rtcm2rinex.specs.Asked.{EndsOptionsAsked, PrintsOptionsAsked, RefusesDate, StopsOptionsAsked}
+use Rattle.rtcm_inspect.specs.OptionOutput.{EndsOptions, PrintsOptions, StopsOptions}
+use Rattle.rtcm2rinex.specs.Commands.{AreRefused, AreRefusedBy, EndsCommand, EndsFound, HasCommand, HasCompleted, HasDone, HasPrinted, HasStopped, HasStoppedEarly, HasStoppedPrinting, StopsPrinting, fault_status, status_of}
 use Rattle.rtcm2rinex.specs.Converting.{StopsConversion}
 use Rattle.rtcm2rinex.specs.ErrorLines.{error_line}
 use Rattle.rtcm_inspect.specs.Printing.{PrintsLine}
 use Rattle.rtcm2rinex.specs.Printing.{PrintsFault}
-use Rattle.rtcm2rinex.specs.SetupOptions.{IsSetupRefused}
+use Rattle.rtcm2rinex.specs.SetupOptions.{IsNearRefused, IsNearSet, IsNumberOf}
 use Rattle.rtcm_convert.specs.Faults.{IsUntouched}
 use Rattle.rtcm_convert.specs.SetupValues.{Start}
 use Rattle.rinex_file.specs.declared.read.fault.ReadFault.TheVariants as reading
 use Rattle.rtcm_inspect.specs.Devices as devices
 use Rattle.rtcm_inspect.specs.declared.fault.InspectFault.{InspectFault}
 use Rattle.rtcm_inspect.specs.declared.fault.InspectFault.TheVariants as inspect
-use Rattle.rtcm2rinex.specs.Devices.{Ends, HaveFailedBy, inspected, of_inspection}
+use Rattle.rtcm2rinex.specs.Devices.{Ends, HaveFailedBy, IsInspected, inspected, of_inspection}
 use Rattle.rtcm2rinex.specs.declared.fault.DateOption.{DateOption}
 use Rattle.rtcm2rinex.specs.declared.fault.ToolFault.{ToolFault}
 use Rattle.rtcm2rinex.specs.declared.fault.ToolFault.TheVariants as faults
@@ -111,7 +113,29 @@ inspection_found ended inspection left held waits told r r2 w w2 e m n o P S sam
     ends_found ended left held waits told r r2 w w2 e e m n o is rows
     (subst (λ x. EndsCommand x left r r2 held waits w w2 told e e n o) (sym same)
     (ends_inspected inspection r r2 waits w w2 P (λ x. HasDone left r r2 held w w2 told e e n o) S (λ f. HasStopped left r r2 held waits w w2 n o f × (e ≡ e))
-    (λ x p. inr (done x p, refl)) (λ f s. (inr (f, refl, stopped f s), refl)) h))
+    (λ x p. inr (done x p, refl)) (λ f s. (inr (inl (f, refl, stopped f s)), refl)) h))
+
+-- the command `options` was stopped
+pub options_stopped : {R W : Type 0} (left : R → Option (List ℕ)) (held : W → Option (List ℕ)) (waits : W → List ℕ) (r r2 : Device R) (w w2 : Device W) (n : Text) (o : List Row) (fault : ToolFault)
+    → n ≡ codes "options" → IsInspected (StopsOptionsAsked o left r r2 held waits w w2) fault ⊎ RefusesDate o r r2 w w2 fault → HasStopped left r r2 held waits w w2 n o fault
+options_stopped left held waits r r2 w w2 n o fault is (inl (e, same, stops)) = inr (inl (e, same, inr (inr (inr (inl (is, stops))))))
+options_stopped left held waits r r2 w w2 n o fault is (inr refused) = inr (inr (is, refused))
+
+-- how it ended after a valid date
+pub options_ended : {A R W : Type 0} (ended : Result A ToolFault) (inspection : Result A InspectFault) (left : R → Option (List ℕ)) (held : W → Option (List ℕ)) (waits : W → List ℕ) (r r2 : Device R) (w w2 : Device W) (o : List Row) (near wanted : Option ℕ)
+    → ended ≡ of_inspection inspection → IsNearSet o near → IsNumberOf 16 (one_of (codes "station") o) wanted → EndsOptions inspection near wanted left r r2 held waits w w2
+    → EndsOptionsAsked ended o left r r2 held waits w w2
+options_ended ended inspection left held waits r r2 w w2 o near wanted same date number h =
+    subst (λ x. EndsOptionsAsked x o left r r2 held waits w w2) (sym same)
+    (ends_inspected inspection r r2 waits w w2 (λ x. devices.Moves left r r2 held w w2 (PrintsOptions near wanted)) (λ x. devices.Moves left r r2 held w w2 (PrintsOptionsAsked o))
+    (StopsOptions near wanted left r r2 held waits w w2) (λ fault. IsInspected (StopsOptionsAsked o left r r2 held waits w w2) fault ⊎ RefusesDate o r r2 w w2 fault)
+    (λ x p. (wanted, number, (near, date, p))) (λ e s. inl (e, refl, (wanted, number, (near, date, s)))) h)
+
+-- its date is invalid
+pub date_refused : (A : Type 0) {R W : Type 0} (left : R → Option (List ℕ)) (held : W → Option (List ℕ)) (waits : W → List ℕ) (r : Device R) (w : Device W) (o : List Row) (fault : ToolFault)
+    → IsNearRefused o fault → EndsOptionsAsked {A = A} (Err fault) o left r r held waits w w
+date_refused A left held waits r w o fault (is, none) =
+    subst (λ (f : ToolFault). EndsOptionsAsked {A = A} (Err f) o left r r held waits w w) (sym is) ((refl, refl), inr ((refl, none), (refl, refl)))
 
 -- a command that was found twice is the same
 asked : (words : List Text) (found : Option (Text × List Row)) (n n2 : Text) (o o2 : List Row) → found ≡ Some (n, o) → found ≡ Some (n2, o2) → SelectsCommand words n o → SelectsCommand words n2 o2
@@ -154,9 +178,9 @@ module _ {R W E : Type 0} (left : R → Option (List ℕ)) (held : W → Option 
   answered_in_part error refused (inl memory) unread = inr (inr ((unread, memory.1), memory.2))
   answered_in_part error refused (inr part) unread = inr (inl (is_version words error refused part.0, unread, part.1, part.2))
 
--- a command with status 2 is a conversion that is refused before anything is read
+-- a command with status 2 is refused before anything is read
 abbrev IsRefusedBy : {R W : Type 0} → (r r2 : Device R) → (w w2 : Device W) → Text → List Row → ToolFault → Type 0
-IsRefusedBy r r2 w w2 name options fault = (name ≡ codes "convert") × IsSetupRefused options fault × IsUntouched r r2 w w2
+IsRefusedBy r r2 w w2 name options fault = AreRefusedBy name options fault × IsUntouched r r2 w w2
 
 one_status : (e : InspectFault) → fault_status (inspected e) ≡ 1
 one_status inspect.Read = refl
@@ -183,9 +207,10 @@ module _ {R W : Type 0} (left : R → Option (List ℕ)) (held : W → Option (L
   not_stopped x faults.NoSignal two stops = one_two two
 
   refused_by : (fault : ToolFault) → fault_status fault ≡ 2 → HasStopped left r r2 held waits w w2 name options fault → IsRefusedBy r r2 w w2 name options fault
-  refused_by fault two (inl (n, inl (refused, untouched))) = (n, refused, untouched)
+  refused_by fault two (inl (n, inl (refused, untouched))) = (inl (n, refused), untouched)
   refused_by fault two (inl (n, inr (x, start, stops))) = absurd (not_stopped x fault two stops)
-  refused_by fault two (inr (e, same, stops)) = absurd (one_two (sym (one_status e) ∙ sym (ap fault_status same) ∙ two))
+  refused_by fault two (inr (inl (e, same, stops))) = absurd (one_two (sym (one_status e) ∙ sym (ap fault_status same) ∙ two))
+  refused_by fault two (inr (inr (n, refused))) = (inr (n, refused.0), refused.1)
 
 pub refused_at_two : {R W E : Type 0} (left : R → Option (List ℕ)) (held : W → Option (List ℕ)) (waits : W → List ℕ) (told : E → Option (List ℕ)) (r r2 : Device R) (w w2 : Device W) (e e1 e2 : Device E) (words : List Text) (m : ArgMatches) (ended : Result ⊤ ToolFault) (status : ℕ)
     → status ≡ status_of ended → PrintsFault ended told e1 e2 → IsFoundIn words m → EndsFound ended (subcommand_rows_of m) left r r2 held waits w w2 told e e1 → status ≡ 2
@@ -195,7 +220,7 @@ refused_at_two left held waits told r r2 w w2 e e1 e2 words m (Err fault) status
     let same : fault_status fault ≡ 2 = sym is ∙ two in
     let refused = refused_by left held waits r r2 w w2 end.0 end.1 fault same end.3.1.0 in
     let asks : SelectsCommand words end.0 end.1 = asked words (subcommand_rows_of m) found.0 end.0 found.1 end.1 found.3 end.2 found.4 in
-    (inr (end.1, fault, subst (λ (n : Text). SelectsCommand words n end.1) refused.0 asks, refused.1, same, printed_after told e e1 e2 (error_line fault) end.3.1.1 line), refused.2)
+    (inr (end.0, end.1, fault, asks, refused.0, same, printed_after told e e1 e2 (error_line fault) end.3.1.1 line), refused.1)
 
 pub refused_words : {E : Type 0} (told : E → Option (List ℕ)) (e e2 : Device E) (words : List Text) (error : Error) → RefusesWords words error → (kind_of error ≢ kind.DisplayVersion) → (kind_of error ≢ kind.OutOfMemory)
     → AreRefused told e e2 words

@@ -116,6 +116,7 @@ module _ {R W : Type 0} (left : R → Option (List ℕ)) (held : W → Option (L
   setup_refused n week faults.BadHeight v is h = absurd h
   setup_refused n week (faults.Convert f) v is h = absurd h
   setup_refused n week (faults.Check f) v is h = absurd h
+  setup_refused n week (faults.SeveralStations a b) v is h = absurd h
   setup_refused n week faults.NoSignal v is h = absurd h
 
 -- 0 is a coordinate and a height

@@ -13,14 +13,14 @@ use Rattle.rtcm_inspect.specs.FrameLines.{frame_lines}
 use Rattle.rtcm_inspect.specs.ShowLines.{show_lines}
 use Rattle.rtcm_inspect.specs.Listing.{ListsAll, StopsListing}
 use Rattle.rtcm2rinex.specs.Converting.{IsConverted, StopsConverting}
-use Rattle.rtcm_inspect.specs.Checking.{ChecksFile, StopsChecking}
-use Rattle.rtcm2rinex.specs.Asked.{PrintsOptionsAsked, PrintsSignalsAsked, StopsOptionsAsked, StopsSignalsAsked}
+use Rattle.rtcm2rinex.specs.Asked.{ChecksBy, PrintsOptionsAsked, PrintsSignalsAsked, RefusesDate, StopsChecksBy}
+use Rattle.rtcm2rinex.specs.Asked.{StopsOptionsAsked, StopsSignalsAsked}
 use Rattle.rtcm2rinex.specs.CommandLine.{SelectsCommand, FailsParsing, IsCommand}
 use Rattle.rtcm_inspect.specs.Devices.{AreFine}
 use Rattle.rtcm_inspect.specs.Printing.{PrintsLine, PrintsPart, PrintsText}
 use Rattle.rtcm2rinex.specs.Devices.{Ends, HaveFailedBy, IsInspected}
 use Rattle.rtcm2rinex.specs.ErrorLines.{error_line}
-use Rattle.rtcm2rinex.specs.SetupOptions.{IsSetupRefused}
+use Rattle.rtcm2rinex.specs.SetupOptions.{IsNearRefused, IsSetupRefused, has_times}
 use Rattle.rtcm_inspect.specs.declared.fault.InspectFault.{InspectFault}
 use Rattle.rtcm2rinex.specs.declared.fault.ToolFault.{ToolFault}
 use Rattle.rtcm2rinex.specs.declared.fault.ToolFault.TheVariants as faults
@@ -37,7 +37,7 @@ HasPrinted left r r' held w w' name options =
     ⊎ ((name ≡ codes "show") × Moves left r r' held w w' (ListsAll show_lines))
     ⊎ ((name ≡ codes "signals") × Moves left r r' held w w' (PrintsSignalsAsked options))
     ⊎ ((name ≡ codes "options") × Moves left r r' held w w' (PrintsOptionsAsked options))
-    ⊎ ((name ≡ codes "check") × ChecksFile (left r.inner) (held w.inner) (held w'.inner))
+    ⊎ ((name ≡ codes "check") × ChecksBy (has_times options) (left r.inner) (held w.inner) (held w'.inner))
 
 -- The command of this name completed: the file of the stream was written, which has an epoch, and its report was
 -- printed; or any other command, and nothing was written to standard error.
@@ -55,7 +55,7 @@ HasStoppedPrinting left r r' held waits w w' name options fault =
     ⊎ ((name ≡ codes "show") × StopsListing (2 ^ 48) show_lines left r r' held waits w w' fault)
     ⊎ ((name ≡ codes "signals") × StopsSignalsAsked options left r r' held waits w w' fault)
     ⊎ ((name ≡ codes "options") × StopsOptionsAsked options left r r' held waits w w' fault)
-    ⊎ ((name ≡ codes "check") × StopsChecking left r r' held waits w w' fault)
+    ⊎ ((name ≡ codes "check") × StopsChecksBy (has_times options) left r r' held waits w w' fault)
 
 -- the command was stopped by a fault
 abbrev pub HasStopped : {R W : Type 0} → (R → Option (List ℕ)) → (r r' : Device R) → (W → Option (List ℕ))
@@ -63,6 +63,7 @@ abbrev pub HasStopped : {R W : Type 0} → (R → Option (List ℕ)) → (r r' :
 HasStopped left r r' held waits w w' name options fault =
     ((name ≡ codes "convert") × StopsConverting options left r r' held waits w w' fault)
     ⊎ IsInspected (HasStoppedPrinting left r r' held waits w w' name options) fault
+    ⊎ ((name ≡ codes "options") × RefusesDate options r r' w w' fault)
 
 -- how the command ended; it prints no fault
 abbrev pub EndsCommand : {A R W E : Type 0} → Result A ToolFault → (R → Option (List ℕ)) → (r r' : Device R)
@@ -136,10 +137,16 @@ StopsPrinting k held w w' told e e' =
     ((k ≡ OutOfMemory) × (w' ≡ w) × PrintsLine told e e' (error_line faults.Memory))
     ⊎ ((k ≡ DisplayVersion) × PrintsPart held w w' VERSION.now × PrintsLine told e e' (error_line faults.Write))
 
--- The words lead to an error other than the version's text; or they ask for a conversion whose position or antenna
--- height is invalid, and the line of that fault was printed.
+-- these options of a command are refused with this fault
+abbrev pub AreRefusedBy : Text → List Row → ToolFault → Type 0
+AreRefusedBy name options fault =
+    ((name ≡ codes "convert") × IsSetupRefused options fault)
+    ⊎ ((name ≡ codes "options") × IsNearRefused options fault)
+
+-- The words lead to an error other than the version's text; or they ask for a command with an option whose date,
+-- position or antenna height is invalid, and the line of that fault was printed.
 abbrev pub AreRefused : {E : Type 0} → (E → Option (List ℕ)) → (e e' : Device E) → List Text → Type 0
 AreRefused told e e' words =
     ((k : ErrorKind) × FailsParsing words k × (k ≡ DisplayVersion → ⊥))
-    ⊎ ((options : List Row) × (fault : ToolFault) × SelectsCommand words (codes "convert") options
-    × IsSetupRefused options fault × (fault_status fault ≡ 2) × PrintsLine told e e' (error_line fault))
+    ⊎ ((name : Text) × (options : List Row) × (fault : ToolFault) × SelectsCommand words name options
+    × AreRefusedBy name options fault × (fault_status fault ≡ 2) × PrintsLine told e e' (error_line fault))

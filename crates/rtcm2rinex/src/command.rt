@@ -8,6 +8,7 @@ ghost use Rattle.rtcm_convert.specs.Faults.{IsUntouched};
 ghost use Rattle.clap.specs.Values.{kind_of};
 ghost use Rattle.clap.specs.declared.error.kind.ErrorKind.TheVariants.{DisplayVersion, OutOfMemory};
 ghost use Rattle.rtcm2rinex.specs.CommandLine.{IsCommand};
+ghost use Rattle.rtcm2rinex.specs.Asked.{EndsCheck, EndsOptionsAsked};
 ghost use Rattle.rtcm2rinex.specs.Commands.{AreRefused, EndsFound, HasCommand, name_of};
 ghost use Rattle.rtcm2rinex.specs.Commands.{HasStoppedEarly, HasCompleted, StopsPrinting, status_of};
 ghost use Rattle.rtcm2rinex.specs.Devices.{of_inspection};
@@ -16,18 +17,19 @@ ghost use Rattle.rtcm_inspect.specs.Printing.{PrintsLine, PrintsText};
 ghost use Rattle.rtcm2rinex.specs.Printing.{PrintsFault};
 ghost use Rattle.rtcm2rinex.specs.declared.cli.TheConstants.{VERSION};
 ghost use Rattle.rtcm2rinex.specs.Converting.{EndsConverting};
-ghost use Rattle.rtcm2rinex.specs.SetupOptions.{options_of};
+ghost use Rattle.rtcm2rinex.specs.SetupOptions.{has_times, options_of};
 
 use crate::cli::{VERSION, parse};
 use crate::convert::{report_line, run_convert_at};
 use crate::error_lines::error_line;
 use crate::fault::ToolFault;
-use crate::options::{setup_of, start_week_of, station_of, values_of};
+use crate::options::{has_times, near_of, setup_of, start_week_of, station_of, values_of};
 use clap::ArgMatches;
 use clap::error::ErrorKind;
 use rtcm_bits::{Counted, Deliver};
 use rtcm_inspect::{
-    InspectFault, print_line, print_text, run_check, run_frames, run_options, run_show, run_signals,
+    InspectFault, print_line, print_text, run_check, run_check_times, run_frames, run_options,
+    run_show, run_signals,
 };
 use std::alloc::Global;
 use std::io;
@@ -56,8 +58,8 @@ pub fn command<R: Read, W: Deliver, E: Deliver>(
     ensures stopped { result ≡ 1 → HasStoppedEarly R.remaining reader.old reader.new W.contents W.waiting writer.old
         writer.new E.contents faults.old faults.new (texts words.now) }
 
-    // They aren't accepted, ask for help, or ask to convert with an invalid position or height.
-    // Nothing was read, and nothing was written to the output.
+    // They aren't accepted, ask for help, or have an invalid date, position or height. Nothing was
+    // read, and nothing was written to the output.
     ensures refused { result ≡ 2 → AreRefused E.contents faults.old faults.new (texts words.now)
         × IsUntouched reader.old reader.new writer.old writer.new }
 {
@@ -120,12 +122,9 @@ fn run<R: Read, W: Deliver, E: Write>(
         Asked::Frames => of_inspection(run_frames(alloc, reader, writer)),
         Asked::Show => of_inspection(run_show(alloc, reader, writer)),
         Asked::Signals => of_inspection(run_signals(alloc, station_of(options), reader, writer)),
-        Asked::Options => {
-            let ended = run_options(alloc, station_of(options), None, reader, writer);
-            of_inspection(ended)
-        }
+        Asked::Options => print_options(alloc, options, reader, writer),
         Asked::Convert => convert(alloc, options, reader, writer, faults),
-        Asked::Check => of_inspection(run_check(alloc, reader, writer)),
+        Asked::Check => of_inspection(check(alloc, options, reader, writer)),
     }
 }
 
@@ -136,6 +135,37 @@ fn of_inspection(ended: Result<(), InspectFault>) -> Result<(), ToolFault>
     match ended {
         Ok(()) => Ok(()),
         Err(fault) => Err(ToolFault::from(fault)),
+    }
+}
+
+/// Prints the options that fit the stream, for the station and near the date that are given.
+fn print_options<R: Read, W: Deliver>(
+    alloc: Global,
+    options: &ArgMatches,
+    reader: &mut Counted<R>,
+    writer: &mut Counted<W>,
+) -> Result<(), ToolFault>
+    ensures { EndsOptionsAsked result (options_of options.now) R.remaining reader.old reader.new
+        W.contents W.waiting writer.old writer.new }
+{
+    let near = near_of(options)?;
+    of_inspection(run_options(alloc, station_of(options), near, reader, writer))
+}
+
+/// Reads a file back, and prints its counts and, if they are asked for, its times.
+fn check<R: Read, W: Deliver>(
+    alloc: Global,
+    options: &ArgMatches,
+    reader: &mut Counted<R>,
+    writer: &mut Counted<W>,
+) -> Result<(), InspectFault>
+    ensures { EndsCheck result (has_times (options_of options.now)) R.remaining reader.old reader.new
+        W.contents W.waiting writer.old writer.new }
+{
+    if has_times(options) {
+        run_check_times(alloc, reader, writer)
+    } else {
+        run_check(alloc, reader, writer)
     }
 }
 

@@ -219,14 +219,14 @@ const CONVERT: &[OptionRow<'static>] = option_rows! {
 /// The texts of the header, other than the date: printable ASCII.
 const TEXTS: &[OptionRow<'static>] = option_rows! {
     "run-by", "TEXT", false, &[""], TEXT, "Who runs the program, 20 columns";
-    "marker", "TEXT", false, &[""], TEXT, "Name of the antenna marker, 60 columns";
-    "marker-type", "TEXT", false, &["GEODETIC"], TEXT, "Type of the marker, 20 columns";
+    "marker", "TEXT", false, &[""], TEXT, "Name of the marker, 60 columns";
+    "marker-type", "TEXT", false, &["GEODETIC"], TEXT, "Its type, 20 columns";
     "observer", "TEXT", false, &[""], TEXT, "Name of the observer, 20 columns";
-    "agency", "TEXT", false, &[""], TEXT, "Name of the observer's agency, 40 columns";
-    "rec-number", "TEXT", false, &[""], TEXT, "Serial number of the receiver, 20 columns";
+    "agency", "TEXT", false, &[""], TEXT, "Observer's agency, 40 columns";
+    "rec-number", "TEXT", false, &[""], TEXT, "Receiver's number, 20 columns";
     "rec-type", "TEXT", false, &[""], TEXT, "Type of the receiver, 20 columns";
-    "rec-version", "TEXT", false, &[""], TEXT, "Version of its firmware, 20 columns";
-    "ant-number", "TEXT", false, &[""], TEXT, "Serial number of the antenna, 20 columns";
+    "rec-version", "TEXT", false, &[""], TEXT, "Receiver's version, 20 columns";
+    "ant-number", "TEXT", false, &[""], TEXT, "Antenna's number, 20 columns";
     "ant-type", "TEXT", false, &[""], TEXT, "Type of the antenna, 20 columns";
 };
 

@@ -2,8 +2,8 @@
 ghost use Rattle.std.specs.Prelude.{◌≡◌, ◌+◌, ◌≤◌, [], ◌∷◌, codes, decimal, length};
 ghost use Rattle.gnss_obs.specs.Satellites.{letter};
 ghost use Rattle.rinex_file.specs.Texts.{field_name};
-ghost use Rattle.rtcm2rinex.specs.ErrorLines.{conversion_word, date_words, error_line, error_words, file_words, header_words};
-ghost use Rattle.rtcm2rinex.specs.ErrorLines.{plan_words, scan_word};
+ghost use Rattle.rtcm2rinex.specs.ErrorLines.{conversion_word, date_words, error_line, error_words};
+ghost use Rattle.rtcm2rinex.specs.ErrorLines.{file_words, header_words, plan_words, scan_word};
 ghost use Rattle.rtcm_inspect.specs.Lines.{with_words};
 
 use crate::fault::{DateOption, ToolFault};

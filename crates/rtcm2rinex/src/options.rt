@@ -8,8 +8,9 @@ ghost use Rattle.rinex_file.specs.TextsOf.{lists_of};
 ghost use Rattle.rtcm2rinex.specs.Dates.{IsHourOf, IsWeekNumber, IsWeekOf, civil_in, fixed_number};
 ghost use Rattle.rtcm2rinex.specs.Lengths.{coordinate_of, cut, decimals_of};
 ghost use Rattle.rtcm2rinex.specs.Lengths.{length_below, length_of, number_of, position_of};
-ghost use Rattle.rtcm2rinex.specs.SetupOptions.{HasSetupFault, IsNumberOf, IsSetupOf, IsWeekSet};
-ghost use Rattle.rtcm2rinex.specs.SetupOptions.{IsNearRefused, IsNearSet, IsWeekRefused, has_times, options_of, text_set, texts_set, values_set};
+ghost use Rattle.rtcm2rinex.specs.SetupOptions.{HasSetupFault, IsNearRefused, IsNearSet, IsNumberOf};
+ghost use Rattle.rtcm2rinex.specs.SetupOptions.{IsSetupOf, IsWeekRefused, IsWeekSet, has_times};
+ghost use Rattle.rtcm2rinex.specs.SetupOptions.{options_of, text_set, texts_set, values_set};
 
 use crate::fault::{DateOption, ToolFault};
 use clap::ArgMatches;

@@ -1,7 +1,7 @@
 use Rattle.std.proofs.Common.{◌∙◌, ap, inl, inr, refl}
 use Rattle.rtcm2rinex.specs.Commands.{name_of}
 use Rattle.rtcm2rinex.specs.SetupOptions.{options_of}
-use Rattle.rtcm2rinex.proofs.CommandLemmas.{ends_found, ends_so, inspection_found}
+use Rattle.rtcm2rinex.proofs.CommandLemmas.{ends_found, ends_so, options_stopped, inspection_found}
 use Rattle.rtcm2rinex.proofs.command.run.Goals as goal
 
 pub returns-in-Frames : goal.returns-in-Frames
@@ -21,8 +21,10 @@ returns-in-Signals g c =
 
 pub returns-in-Options : goal.returns-in-Options
 returns-in-Options g c =
-    inspection_found c.of_inspection-in-Options.result c.run_options.result g.R.Read.remaining g.W.Write.contents g.W.Deliver.waiting g.E.Write.contents c.args.reader.now c.run_options.new.reader c.args.writer.now c.run_options.new.writer c.args.faults.now c.args.matches.now c.in-Some.name.now (options_of c.in-Some.options.now) _ _ c.of_inspection-in-Options.ensures c.in-Some.ensures.name c.in-Some.ensures.rows
-    (λ x h. inr (inr (inr (inl (c.command_of.ensures ∙ ap name_of c.in-Options.is, (c.station_of-in-Options.result, c.station_of-in-Options.ensures, h)))))) (λ f h. inr (inr (inr (inl (c.command_of.ensures ∙ ap name_of c.in-Options.is, (c.station_of-in-Options.result, c.station_of-in-Options.ensures, h)))))) c.run_options.ensures
+    ends_found c.print_options.result g.R.Read.remaining g.W.Write.contents g.W.Deliver.waiting g.E.Write.contents c.args.reader.now c.print_options.new.reader c.args.writer.now c.print_options.new.writer c.args.faults.now c.args.faults.now c.args.matches.now c.in-Some.name.now (options_of c.in-Some.options.now) c.in-Some.ensures.name c.in-Some.ensures.rows
+    (ends_so c.print_options.result _ _ _ _ _ _ _ _ _ (λ x h. inr (inr (inr (inr (inl (c.command_of.ensures ∙ ap name_of c.in-Options.is, h)))), refl))
+    (λ f h. (options_stopped g.R.Read.remaining g.W.Write.contents g.W.Deliver.waiting c.args.reader.now c.print_options.new.reader c.args.writer.now c.print_options.new.writer c.in-Some.name.now (options_of c.in-Some.options.now) f (c.command_of.ensures ∙ ap name_of c.in-Options.is) h, refl))
+    c.print_options.ensures)
 
 pub returns-in-Convert : goal.returns-in-Convert
 returns-in-Convert g c =
@@ -31,5 +33,5 @@ returns-in-Convert g c =
 
 pub returns-in-Check : goal.returns-in-Check
 returns-in-Check g c =
-    inspection_found c.of_inspection-in-Check.result c.run_check.result g.R.Read.remaining g.W.Write.contents g.W.Deliver.waiting g.E.Write.contents c.args.reader.now c.run_check.new.reader c.args.writer.now c.run_check.new.writer c.args.faults.now c.args.matches.now c.in-Some.name.now (options_of c.in-Some.options.now) _ _ c.of_inspection-in-Check.ensures c.in-Some.ensures.name c.in-Some.ensures.rows
-    (λ x h. inr (inr (inr (inr (c.command_of.ensures ∙ ap name_of c.in-Check.is, h))))) (λ f h. inr (inr (inr (inr (c.command_of.ensures ∙ ap name_of c.in-Check.is, h))))) c.run_check.ensures.ends
+    inspection_found c.of_inspection-in-Check.result c.check.result g.R.Read.remaining g.W.Write.contents g.W.Deliver.waiting g.E.Write.contents c.args.reader.now c.check.new.reader c.args.writer.now c.check.new.writer c.args.faults.now c.args.matches.now c.in-Some.name.now (options_of c.in-Some.options.now) _ _ c.of_inspection-in-Check.ensures c.in-Some.ensures.name c.in-Some.ensures.rows
+    (λ x h. inr (inr (inr (inr (c.command_of.ensures ∙ ap name_of c.in-Check.is, h))))) (λ f h. inr (inr (inr (inr (c.command_of.ensures ∙ ap name_of c.in-Check.is, h))))) c.check.ensures

@@ -11,7 +11,7 @@ pub returns-in-None-hour_of : goal.returns-in-None-hour_of
 returns-in-None-hour_of c = (
   refl,
   λ near h. no_noon c.in-Some.text.now c.in-None-hour_of.ensures near
-    ((noon_given (found_of c.args.options.now) (codes "near") c.get_str.result (Some c.in-Some.text) near c.get_str.ensures c.in-Some.is).1 h),
+      ((noon_given (found_of c.args.options.now) (codes "near") c.get_str.result (Some c.in-Some.text) near c.get_str.ensures c.in-Some.is).1 h),
 )
 
 pub returns-in-None : goal.returns-in-None
