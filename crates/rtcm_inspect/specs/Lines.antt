@@ -2,6 +2,10 @@
 use Rattle.std.specs.Prelude.{ℕ, List, [], ◌∷◌, ◌++◌}
 use Rattle.std.specs.List.{join_with_byte}
 
+-- room for a line, the longest of which is the report of a conversion
+abbrev pub longest_line : ℕ
+longest_line = 400
+
 -- the words with single blanks between them and a line feed after the last
 abbrev pub line : List (List ℕ) → List ℕ
 line words = join_with_byte 0x20 words ++ 0x0A ∷ []

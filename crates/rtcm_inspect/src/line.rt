@@ -1,6 +1,7 @@
 //! A line of output.
 ghost use Rattle.std.specs.Prelude.{◌≡◌, ◌+◌, ◌<◌, ◌≤◌, [], ◌∷◌, ◌++◌, length, decimal};
 ghost use Rattle.rtcm_inspect.specs.Devices.{EndsDelivery};
+ghost use Rattle.rtcm_inspect.specs.Lines.{longest_line};
 ghost use Rattle.rtcm_inspect.specs.Metres.{digit, size_text, metres};
 ghost use Rattle.rtcm_inspect.specs.Printing.{EndsPrinting, PrintsLine};
 
@@ -11,20 +12,25 @@ use rtcm_bits::{Counted, Deliver};
 use std::io::Write;
 use std::marker::Model;
 
-/// A line of at most 400 bytes, built word by word with single blanks between the words.
+/// Room for a line. The longest is the report of a conversion, of at most 398 bytes: 14 names of 90
+/// letters in all, 14 numbers of at most 20 digits, 27 blanks and a line feed.
+const LINE_BYTES: usize = 400;
+
+/// A line of output, built word by word with single blanks between the words.
 #[derive(Drop)]
 pub struct OutputLine {
-    text: ArrayVec<u8, 400>,
+    text: ArrayVec<u8, LINE_BYTES>,
 }
 
 impl Model for OutputLine {
     ghost use Rattle.std.specs.Prelude.{List, ℕ, ◌≤◌, length};
+    ghost use Rattle.rtcm_inspect.specs.Lines.{longest_line};
 
     ghost Value = { List ℕ };
 
     ghost view = { λ l. l.text.items };
 
-    ghost invariant = { λ l. length l.text.items ≤ 400 };
+    ghost invariant = { λ l. length l.text.items ≤ longest_line };
 }
 
 impl OutputLine {
@@ -39,7 +45,7 @@ impl OutputLine {
 
     /// Appends these bytes.
     pub fn put(&mut self, bytes: &[u8])
-        requires { length self.old + length bytes.now ≤ 400 }
+        requires { length self.old + length bytes.now ≤ longest_line }
         ensures { self.new ≡ self.old ++ bytes.now }
     {
         self.text.try_extend_from_slice(bytes).unwrap();
@@ -47,7 +53,7 @@ impl OutputLine {
 
     /// Appends a number.
     pub fn put_number(&mut self, number: u64)
-        requires { length self.old ≤ 380 }
+        requires { length self.old + 20 ≤ longest_line }
         ensures text { self.new ≡ self.old ++ decimal number }
         ensures short { length self.new ≤ length self.old + 20 }
     {
@@ -60,7 +66,7 @@ impl OutputLine {
 
     /// Appends a blank and a number.
     pub fn add_number(&mut self, number: u64)
-        requires { length self.old ≤ 379 }
+        requires { length self.old + 21 ≤ longest_line }
         ensures text { self.new ≡ self.old ++ 0x20 ∷ decimal number }
         ensures short { length self.new ≤ length self.old + 21 }
     {
@@ -70,7 +76,7 @@ impl OutputLine {
 
     /// Appends a blank and a word.
     pub fn add_word(&mut self, word: &str)
-        requires { length self.old + length word.now + 1 ≤ 400 }
+        requires { length self.old + length word.now + 1 ≤ longest_line }
         ensures text { self.new ≡ self.old ++ 0x20 ∷ word.now }
         ensures short { length self.new ≡ length self.old + length word.now + 1 }
     {
@@ -80,7 +86,7 @@ impl OutputLine {
 
     /// Appends a blank, a name, a blank and a number.
     pub fn add_count(&mut self, name: &str, number: u64)
-        requires { length self.old + length name.now + 22 ≤ 400 }
+        requires { length self.old + length name.now + 22 ≤ longest_line }
         ensures text { self.new ≡ (self.old ++ 0x20 ∷ name.now) ++ 0x20 ∷ decimal number }
         ensures short { length self.new ≤ length self.old + length name.now + 22 }
     {
@@ -90,7 +96,7 @@ impl OutputLine {
 
     /// Appends a separator and a text.
     pub fn add_part(&mut self, separator: u8, part: &[u8])
-        requires { length self.old + length part.now + 1 ≤ 400 }
+        requires { length self.old + length part.now + 1 ≤ longest_line }
         ensures text { self.new ≡ self.old ++ separator ∷ part.now }
         ensures short { length self.new ≡ length self.old + length part.now + 1 }
     {
@@ -100,7 +106,7 @@ impl OutputLine {
 
     /// Appends a separator and a length, given in units of 0.0001 m, in metres with four decimals.
     pub fn add_metres(&mut self, separator: u8, value: i64)
-        requires { length self.old ≤ 360 }
+        requires { length self.old + 27 ≤ longest_line }
         ensures text { self.new ≡ self.old ++ separator ∷ metres value }
         ensures short { length self.new ≤ length self.old + 27 }
     {
@@ -110,7 +116,7 @@ impl OutputLine {
     }
 
     fn put_size(&mut self, size: u64)
-        requires { length self.old ≤ 362 }
+        requires { length self.old + 25 ≤ longest_line }
         ensures text { self.new ≡ self.old ++ size_text size }
         ensures short { length self.new ≤ length self.old + 25 }
     {
@@ -127,7 +133,7 @@ impl OutputLine {
 
     /// Appends the line feed.
     pub fn finish(&mut self)
-        requires { length self.old < 400 }
+        requires { length self.old < longest_line }
         ensures { self.new ≡ self.old ++ 0x0A ∷ [] }
     {
         self.put(b"\n");
@@ -136,7 +142,7 @@ impl OutputLine {
     /// Returns the line's bytes.
     pub fn as_bytes(&self) -> &[u8]
         ensures text { result.now ≡ self.now }
-        ensures short { length result.now ≤ 400 }
+        ensures short { length result.now ≤ longest_line }
     {
         self.text.as_slice()
     }
