@@ -6,7 +6,8 @@
 # make dist       packs the proved program with its documents, out/rtcm2rinex-VERSION-linux-x86_64.tar.gz
 # make install    builds it if it is missing, and installs program and manual page to PREFIX (/usr/local)
 # make read-back  builds it, and has RTKLIB read back the converted recordings
-# make test       runs the gate: documents, all proofs, must-fail mutants, tests, stored cases, fault injection (docs/GATE.md)
+# make test       runs the gate: documents, all proofs, must-fail mutants, tests, stored cases, the commands of the manual
+#                 page, random streams, fault injection (docs/GATE.md)
 # make bench      compares the instructions of the programs that make test left with stored ones; needs valgrind
 # make mutants    tries the mutants of crates/*/must-fail and crates/*/mutants over kept work, and their controls
 PROGRAM := crates/rtcm2rinex/out/rtcm2rinex
