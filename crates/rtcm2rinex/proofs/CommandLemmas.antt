@@ -1,39 +1,12 @@
 -- The meaning of the exit status.
 use Rattle.std.proofs.Common.{◌≡◌, ◌∙◌, inl, inr, refl, sym, subst, codes, ap, ap₂, option_map, ℕ, List, Option, Some, None, Result, Ok, Err, arith}
-use Rattle.std.specs.Prelude.{⊤, ◌≢◌, ◌⊎◌}
-use Rattle.std.specs.Box.{box_value}
-use Rattle.std.specs.Option.{option_map_or}
-use Rattle.std.specs.Prelude.{Box}
-use Rattle.clap.specs.Matches.{found_of, subcommand_name_of}
-use Rattle.clap.specs.Simple.{subcommand_rows, subcommand_rows_of}
-use Rattle.clap.specs.Walk.{Row, Text, one_of, rows_of}
-use Rattle.clap.specs.declared.parser.matches.ArgMatches.TheViews.{out-ArgMatches, out-SubCommand}
-use Rattle.clap.specs.declared.parser.matches.SubCommand.{SubCommand}
-use Rattle.clap.specs.Values.{kind_of}
-use Rattle.clap.specs.declared.error.Error.{Error}
+use Rattle.rtcm2rinex.proofs.CommandLineLemmas.{is_version}
+use Rattle.rtcm2rinex.proofs.Names.{⊤, ◌≢◌, ◌⊎◌, box_value, option_map_or, Box, found_of, subcommand_name_of, subcommand_rows, subcommand_rows_of, Row, Text, one_of, rows_of, out-ArgMatches, out-SubCommand, SubCommand, kind_of, Error, ArgMatches, Device, SelectsCommand, IsFoundIn, RefusesWords, EndsOptionsAsked, PrintsOptionsAsked, RefusesDate, StopsOptionsAsked, EndsOptions, PrintsOptions, StopsOptions, AreRefused, AreRefusedBy, EndsCommand, EndsFound, HasCommand, HasCompleted, HasDone, HasPrinted, HasStopped, HasStoppedEarly, HasStoppedPrinting, StopsPrinting, fault_status, status_of, StopsConversion, error_line, PrintsLine, PrintsFault, IsNearRefused, IsNearSet, IsNumberOf, IsUntouched, Start, InspectFault, Ends, HaveFailedBy, IsInspected, inspected, of_inspection, DateOption, ToolFault}
 use Rattle.clap.specs.declared.error.kind.ErrorKind.TheVariants as kind
-use Rattle.clap.specs.declared.parser.matches.ArgMatches.{ArgMatches}
-use Rattle.rtcm_bits.specs.Device.{Device}
-use Rattle.rtcm2rinex.specs.CommandLine.{SelectsCommand, IsFoundIn, RefusesWords}
-use Rattle.rtcm2rinex.specs.Asked.{EndsOptionsAsked, PrintsOptionsAsked, RefusesDate, StopsOptionsAsked}
-use Rattle.rtcm_inspect.specs.OptionOutput.{EndsOptions, PrintsOptions, StopsOptions}
-use Rattle.rtcm2rinex.specs.Commands.{AreRefused, AreRefusedBy, EndsCommand, EndsFound, HasCommand, HasCompleted, HasDone, HasPrinted, HasStopped, HasStoppedEarly, HasStoppedPrinting, StopsPrinting, fault_status, status_of}
-use Rattle.rtcm2rinex.specs.Converting.{StopsConversion}
-use Rattle.rtcm2rinex.specs.ErrorLines.{error_line}
-use Rattle.rtcm_inspect.specs.Printing.{PrintsLine}
-use Rattle.rtcm2rinex.specs.Printing.{PrintsFault}
-use Rattle.rtcm2rinex.specs.SetupOptions.{IsNearRefused, IsNearSet, IsNumberOf}
-use Rattle.rtcm_convert.specs.Faults.{IsUntouched}
-use Rattle.rtcm_convert.specs.SetupValues.{Start}
 use Rattle.rinex_file.specs.declared.read.fault.ReadFault.TheVariants as reading
 use Rattle.rtcm_inspect.specs.Devices as devices
-use Rattle.rtcm_inspect.specs.declared.fault.InspectFault.{InspectFault}
 use Rattle.rtcm_inspect.specs.declared.fault.InspectFault.TheVariants as inspect
-use Rattle.rtcm2rinex.specs.Devices.{Ends, HaveFailedBy, IsInspected, inspected, of_inspection}
-use Rattle.rtcm2rinex.specs.declared.fault.DateOption.{DateOption}
-use Rattle.rtcm2rinex.specs.declared.fault.ToolFault.{ToolFault}
 use Rattle.rtcm2rinex.specs.declared.fault.ToolFault.TheVariants as faults
-use Rattle.rtcm2rinex.proofs.CommandLineLemmas.{is_version}
 
 one_two : ◌≡◌ {A = ℕ} 1 2 → ⊥
 one_two e = omega (arith, e)

@@ -1,27 +1,11 @@
 -- A command after an option or a command is added.
 use Rattle.std.proofs.Common.{◌≡◌, ◌+◌, ◌<◌, ◌&&◌, ◌∷◌, [], ℕ, Bool, Result, Ok, Err, IfErr, List, Option, Some, true, false, not, is_some, length, map, take, get_or, inl, inr, refl, sym, subst, ap, ap₂, ◌∙◌}
-use Rattle.std.proofs.lemmas.List.{map_more}
-use Rattle.std.proofs.lemmas.List.Sums.{fold-append}
-use Rattle.clap.specs.Walk.{Rule, Text, is_empty, rule_of}
-use Rattle.clap.specs.Simple.{App, app_of, built, app_of_fields, is_simple, new_app, on_top, with_rule, with_subcommand}
-use Rattle.clap.specs.Built.{AddsArg, AddsSubcommand}
-use Rattle.clap.specs.Faults.{is_free_app, is_simple_and_free}
-use Rattle.clap.proofs.OnLiterals.{clap_on_literals}
-use Rattle.clap.specs.Kinds.{FailsBy, HasKind, Kinds}
-use Rattle.clap.specs.declared.error.Error.{Error}
-use Rattle.std.specs.Borrow.{Bor}
-use Rattle.rtcm2rinex.specs.declared.commands.CommandRow.{CommandRow}
-use Rattle.rtcm2rinex.specs.declared.commands.OptionRow.{OptionRow}
+use Rattle.rtcm2rinex.specs.CommandLine.{rows_of}
+use Rattle.rtcm2rinex.proofs.Names.{map_more, fold-append, Rule, Text, is_empty, rule_of, App, app_of, built, app_of_fields, is_simple, new_app, on_top, with_rule, with_subcommand, AddsArg, AddsSubcommand, is_free_app, is_simple_and_free, clap_on_literals, FailsBy, HasKind, Kinds, Error, Bor, CommandRow, OptionRow, Tables, FailsParsing, RefusesWords, command_set, more_of, option_set, program, with_commands, with_options, kind_of, Arg, Command, out-Command}
 use Rattle.rtcm2rinex.specs.declared.commands.Options.TheVariants as options
-use Rattle.rtcm2rinex.specs.declared.commands.Tables.{Tables}
 use Rattle.clap.specs.declared.builder.value_parser.ValueParser.TheVariants as value
-use Rattle.rtcm2rinex.specs.CommandLine.{FailsParsing, RefusesWords, command_set, more_of, option_set, program, rows_of, with_commands, with_options}
-use Rattle.clap.specs.Values.{kind_of}
 use Rattle.clap.specs.declared.error.kind.ErrorKind.TheVariants as kind
-use Rattle.clap.specs.declared.builder.arg.Arg.{Arg}
 use Rattle.clap.specs.declared.builder.action.ArgAction.TheVariants as action
-use Rattle.clap.specs.declared.builder.command.Command.{Command}
-use Rattle.clap.specs.declared.builder.command.Command.TheViews.{out-Command}
 
 pub second : (a b : Bool) → (a && b) ≡ true → b ≡ true
 second true b e = e

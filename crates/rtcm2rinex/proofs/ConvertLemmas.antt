@@ -1,24 +1,7 @@
 -- A conversion that is stopped by a fault.
 use Rattle.std.proofs.Common.{◌≡◌, ◌∙◌, ap, sym, subst, refl, rules, ℕ, ℤ, List, Option, Some, None, Result, Ok, Err, IsErrOf, IfSome, inl, inr}
-use Rattle.std.specs.Prelude.{◌≢◌, ◌↔◌, ◌⊎◌}
-use Rattle.rtcm_bits.specs.Device.{Device}
-use Rattle.rtcm_convert.specs.Faults.{FailsWithReader, FailsWithWriter, IsSentAfter, IsSetupFault, IsUntouched}
-use Rattle.rtcm_convert.specs.Made.{IsMadeEmpty, IsMadeSoFar, IsMadeInPart, IsMadeToLimit}
-use Rattle.rtcm_convert.specs.SetupValues.{IsBad, IsBadAt, Start, start_zero}
-use Rattle.rtcm_convert.specs.declared.setup.Setup.{Setup}
-use Rattle.gnss_obs.specs.Values.{no_values}
-use Rattle.gnss_obs.specs.GatheredEpochs.{AreStationValues}
-use Rattle.rtcm_convert.specs.declared.fault.Fault.{Fault}
-use Rattle.rtcm_convert.specs.declared.fault.Fault.TheVariants.{Memory, BadSetup, TooLong, Read, Write, Failed, Finished, NoEpoch}
-use Rattle.rtcm_convert.specs.declared.report.Report.{Report}
-use Rattle.rtcm2rinex.specs.declared.fault.ToolFault.{ToolFault}
+use Rattle.rtcm2rinex.proofs.Names.{◌≢◌, ◌↔◌, ◌⊎◌, Device, FailsWithReader, FailsWithWriter, IsSentAfter, IsSetupFault, IsUntouched, IsMadeEmpty, IsMadeSoFar, IsMadeInPart, IsMadeToLimit, IsBad, IsBadAt, Start, start_zero, Setup, no_values, AreStationValues, Fault, Memory, BadSetup, TooLong, Read, Write, Failed, Finished, NoEpoch, Report, ToolFault, Row, StationValues, values_by, HasSetupFault, IsFirstFault, IsSetupRefused, IsWeekRefused, IsWeekSet, values_set, StopsConversion, StopsConverting, HaveFailedBy, tool_fault_of}
 use Rattle.rtcm2rinex.specs.declared.fault.ToolFault.TheVariants as faults
-use Rattle.clap.specs.Walk.{Row}
-use Rattle.gnss_obs.specs.declared.cell.StationValues.{StationValues}
-use Rattle.rtcm2rinex.specs.Lengths.{values_by}
-use Rattle.rtcm2rinex.specs.SetupOptions.{HasSetupFault, IsFirstFault, IsSetupRefused, IsWeekRefused, IsWeekSet, values_set}
-use Rattle.rtcm2rinex.specs.Converting.{StopsConversion, StopsConverting}
-use Rattle.rtcm2rinex.specs.Devices.{HaveFailedBy, tool_fault_of}
 
 module _ {R W : Type 0} (left : R → Option (List ℕ)) (held : W → Option (List ℕ)) (waits : W → List ℕ) (x : Start) (rd rd2 : Device R) (o o2 : Device W) where
   abbrev Result-of : Fault → Result Report Fault

@@ -1,3 +1,4 @@
+pub mod Names
 mod OptionLemmas
 mod CommandLineLemmas
 mod ConvertLemmas

@@ -1,16 +1,6 @@
 -- The values of options.
 use Rattle.std.proofs.Common.{◌≡◌, ◌∙◌, ℕ, List, [], Option, Some, None, Result, Bor, option_map, unwrap_or, refl, sym, ap, subst}
-use Rattle.std.specs.Prelude.{◌<◌, ◌*◌, ◌↔◌}
-use Rattle.std.specs.Str.Parse.{ParsesUnsigned}
-use Rattle.clap.specs.Matches.{ReadsOne, first_value, one_text}
-use Rattle.clap.specs.Walk.{first_of, one_of, rows_of}
-use Rattle.clap.specs.declared.parser.matches.Found.{Found}
-use Rattle.clap.proofs.WalkLemmas.{first_value-rows, one_text-rows}
-use Rattle.gnss_obs.specs.Dates.{IsCivilOf}
-use Rattle.gnss_obs.specs.Weeks.{week, weeks}
-use Rattle.gnss_obs.specs.declared.civil.Civil.{Civil}
-use Rattle.rtcm2rinex.specs.Dates.{IsHourOf, civil_in}
-use Rattle.rtcm2rinex.specs.SetupOptions.{IsNoonOf, IsNumberOf, text_set}
+use Rattle.rtcm2rinex.proofs.Names.{◌<◌, ◌*◌, ◌↔◌, ParsesUnsigned, ReadsOne, first_value, one_text, first_of, one_of, rows_of, Found, first_value-rows, one_text-rows, IsCivilOf, week, weeks, Civil, IsHourOf, civil_in, IsNoonOf, IsNumberOf, text_set}
 
 -- a typed getter returns the number whose decimal form the text is; P and Q are further properties of the parse
 number_of : {E : Type 0} (P Q : List ℕ → Result ℕ E → Type 0) (bits : ℕ) (text : Option (List ℕ)) (n : Option ℕ) → (text ≡ None → n ≡ None)

@@ -1,26 +1,8 @@
 -- Lengths in metres that were written are read back.
 use Rattle.std.proofs.Common.{◌≡◌, ◌∙◌, ◌+◌, ◌-◌, ◌*◌, ◌/◌, ◌%◌, ◌^◌, ◌<◌, ◌≤◌, ◌&&◌, ◌==◌, [], ◌∷◌, ◌++◌, ℕ, ℤ, pos, negsuc, neg_ℤ, Bool, true, false, not, List, Option, Some, None, Ok, IfSome, length, take, drop, decimal, codes, option_map, suc, ap, refl, append_assoc, arith, lit≤}
-use Rattle.std.specs.Prelude.{nat_le, nat_lt, if◌then◌else◌, option_and_then}
-use Rattle.std.specs.List.{list_all, position_or_len}
-use Rattle.std.specs.Option.{option_map_or}
-use Rattle.std.proofs.Math.Seq.{take-append_seam}
-use Rattle.std.proofs.lemmas.Bool.Decides.{nat_tests}
-use Rattle.std.proofs.lemmas.Fmt.{decimal_by_steps, decimal_nonempty, length-decimal-le}
-use Rattle.std.proofs.lemmas.List.Folds.{list_all-append}
-use Rattle.clap.specs.Lexer.{is_digit, strip_byte}
-use Rattle.clap.specs.Walk.{Row}
-use Rattle.gnss_obs.specs.Values.{no_values}
-use Rattle.gnss_obs.specs.declared.cell.StationValues.{StationValues}
 use Rattle.obs_epoch.specs.Epochs.{values_by}
-use Rattle.rinex_file.specs.Read.Fields.{digits_from, digits_in, next_digit}
-use Rattle.rtcm_bits.specs.Bits.{FitsInt}
-use Rattle.rtcm_msg.specs.Station.{InRange}
-use Rattle.rtcm_msg.specs.declared.station.StationParts.{StationParts}
-use Rattle.rtcm_inspect.specs.Fitting.{height_text, position_text}
 use Rattle.rtcm2rinex.proofs.CommandLineLemmas.{first_half, second}
-use Rattle.rtcm2rinex.specs.Lengths.{coordinate_by, coordinate_of, cut, decimals_of, length_below, length_by, length_of, number_of, position_of, values_in}
-use Rattle.rtcm_inspect.specs.Metres.{digit, four_digits, metres, size_text}
-use Rattle.rtcm2rinex.specs.SetupOptions.{text_set, values_set}
+use Rattle.rtcm2rinex.proofs.Names.{nat_le, nat_lt, if◌then◌else◌, option_and_then, list_all, position_or_len, option_map_or, take-append_seam, nat_tests, decimal_by_steps, decimal_nonempty, length-decimal-le, list_all-append, is_digit, strip_byte, Row, no_values, StationValues, digits_from, digits_in, next_digit, FitsInt, InRange, StationParts, height_text, position_text, coordinate_by, coordinate_of, cut, decimals_of, length_below, length_by, length_of, number_of, position_of, values_in, digit, four_digits, metres, size_text, text_set, values_set}
 
 is_le : (n m : ℕ) → n ≤ m → nat_le n m ≡ true
 is_le n m h = grind (arith, nat_tests)

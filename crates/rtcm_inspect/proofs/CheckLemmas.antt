@@ -1,26 +1,10 @@
 -- The end of a check of a file.
 use Rattle.std.proofs.Common.{◌≡◌, ◌∙◌, ◌∷◌, ◌++◌, [], ap, inl, inr, codes, decimal, length, refl, sym, subst, ℕ, List, Option, Some, None, Result, Ok, Err, IfSome}
-use Rattle.rtcm_bits.specs.Device.{Device, HasFailed}
-use Rattle.rinex_file.specs.Exact.{IsNoFault}
-use Rattle.rinex_file.specs.Value.{FileValue}
-use Rattle.rinex_file.specs.File.{file_text}
-use Rattle.rinex_file.specs.FileValues.{IsFileValue}
-use Rattle.rinex_file.specs.Counting.{AreCounts}
 use Rattle.rinex_file.specs.declared.read.file.Counts.{Counts}
-use Rattle.rinex_file.specs.declared.read.fault.ReadFault.{ReadFault}
-use Rattle.rinex_file.specs.declared.read.fault.ReadFault.TheVariants.{Memory, Read, BadHeader, BadEpoch, BadEvent, BadSatellite, CutShort, TooLong}
-use Rattle.std.specs.Prelude.{⊤}
-use Rattle.std.specs.Result.{IsErrAnd}
-use Rattle.std.specs.Io.KnownBytes.{Keeps}
 use Rattle.rtcm_inspect.proofs.PrintingLemmas.{passed}
-use Rattle.rtcm_inspect.specs.declared.fault.InspectFault.{InspectFault}
-use Rattle.rtcm_inspect.specs.declared.fault.InspectFault.TheVariants as faults
-use Rattle.rtcm_inspect.specs.Devices.{Ends, ReadFailures}
-use Rattle.rtcm_inspect.specs.Printing.{EndsPrinting}
-use Rattle.rinex_file.specs.ParserState.{rows_in}
-use Rattle.rtcm_inspect.specs.Lines.{line}
 use Rattle.rtcm_inspect.proofs.LineLemmas.{add_count, add_text, add_word, end_line}
-use Rattle.rtcm_inspect.specs.Checking.{check_line, ChecksWhole, IsCheckedOr, StopsAnyCheck}
+use Rattle.rtcm_inspect.proofs.Names.{Device, HasFailed, IsNoFault, FileValue, file_text, IsFileValue, AreCounts, ReadFault, Memory, Read, BadHeader, BadEpoch, BadEvent, BadSatellite, CutShort, TooLong, ⊤, IsErrAnd, Keeps, InspectFault, Ends, ReadFailures, EndsPrinting, rows_in, line, check_line, ChecksWhole, IsCheckedOr, StopsAnyCheck}
+use Rattle.rtcm_inspect.specs.declared.fault.InspectFault.TheVariants as faults
 
 -- a property of known bytes
 pub where_known : (P Q : List ℕ → Type 0) (r : Option (List ℕ)) → ((input : List ℕ) → P input → Q input) → IfSome r P → IfSome r Q

@@ -1,31 +1,7 @@
 -- Signal counts as a consumer of frames.
 use Rattle.std.proofs.Common.{◌≡◌, ◌∙◌, ap, inr, ◌+◌, ◌*◌, ◌<◌, ◌≤◌, ◌^◌, sym, subst, arith, Bool, true, ℕ, List, [], ◌∷◌, ◌++◌, Option, Result, Ok, Err, length, length-append, append-nil, refl}
-use Rattle.rtcm_scan.specs.Frames.{Framed, frames_of}
-use Rattle.rtcm_scan.specs.Known.{known_frames}
-use Rattle.rtcm_bits.specs.Device.{Device, HasFailed}
-use Rattle.rtcm_scan.specs.declared.feed.StreamFault.{StreamFault}
+use Rattle.rtcm_inspect.proofs.Names.{Framed, frames_of, known_frames, Device, HasFailed, StreamFault, ⊤, InspectFault, EndsPrinting, ReadFailures, stream_fault, AtFault, Passes, BreaksReading, HasPassedAll, PassesAll, PassesToLimit, Reads, FramerValue, AreSignalCounts, CountsMessage, SignalCountsValue, valued, heard, HeardCell, heard_of, message_at, MsgFault, Message, valued_in, valued_of, flat_map-append, AreFirst, AreOptionsOf, EndsOptions, EndsSignals, ReadsTooMuch, SignalText, Counts, StopsCounting, HasCounted, IsCounted, AreSignals, NeverFails, option_map_or, StreamSignals}
 use Rattle.rtcm_scan.specs.declared.feed.StreamFault.TheVariants as stream
-use Rattle.std.specs.Prelude.{⊤}
-use Rattle.rtcm_inspect.specs.declared.fault.InspectFault.{InspectFault}
-use Rattle.rtcm_inspect.specs.Printing.{EndsPrinting}
-use Rattle.rtcm_inspect.specs.Devices.{ReadFailures, stream_fault}
-use Rattle.rtcm_scan.specs.Passing.{AtFault, Passes, BreaksReading, HasPassedAll, PassesAll, PassesToLimit, Reads}
-use Rattle.rtcm_scan.specs.Scan.{FramerValue}
-use Rattle.obs_epoch.specs.SignalCounts.{AreSignalCounts, CountsMessage, SignalCountsValue, valued}
-use Rattle.obs_epoch.specs.Heard.{heard}
-use Rattle.gnss_obs.specs.HeardCells.{HeardCell}
-use Rattle.rtcm_inspect.specs.Messages.{heard_of}
-use Rattle.rtcm_msg.specs.Decoding.{message_at}
-use Rattle.rtcm_msg.specs.declared.fault.MsgFault.{MsgFault}
-use Rattle.rtcm_msg.specs.declared.message.Message.{Message}
-use Rattle.rtcm_inspect.specs.Signals.{valued_in, valued_of}
-use Rattle.std.proofs.lemmas.Grind.{flat_map-append}
-use Rattle.rtcm_inspect.specs.FirstMessages.{AreFirst}
-use Rattle.rtcm_inspect.specs.OptionOutput.{AreOptionsOf, EndsOptions}
-use Rattle.rtcm_inspect.specs.SignalOutput.{EndsSignals, ReadsTooMuch, SignalText}
-use Rattle.rtcm_inspect.specs.Counting.{Counts, StopsCounting, HasCounted, IsCounted, AreSignals, NeverFails}
-use Rattle.std.specs.Option.{option_map_or}
-use Rattle.rtcm_inspect.specs.declared.counting.StreamSignals.{StreamSignals}
 
 valued_more : (wanted : Option ℕ) (fs : List Framed) (f : Framed) (cells : List HeardCell) → valued_of wanted f ≡ cells → valued_in wanted (fs ++ f ∷ []) ≡ valued_in wanted fs ++ cells
 valued_more wanted fs f cells is =

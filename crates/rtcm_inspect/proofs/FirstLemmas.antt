@@ -1,20 +1,6 @@
 -- What the first messages contain, after one more frame.
 use Rattle.std.proofs.Common.{◌≡◌, ◌∙◌, ◌==◌, ◌++◌, ℕ, true, false, not, List, [], ◌∷◌, Option, Some, None, Result, Ok, Err, IfSome, refl, sym, ap, find, append-nil, arith}
-use Rattle.std.specs.Prelude.{option_and_then}
-use Rattle.std.specs.Option.{option_or}
-use Rattle.std.proofs.lemmas.List.Elements.{filter_map-append}
-use Rattle.std.proofs.lemmas.List.Folds.{find-append}
-use Rattle.rtcm_scan.specs.Frames.{Framed}
-use Rattle.rtcm_msg.specs.Decoding.{message_at}
-use Rattle.rtcm_msg.specs.Station.{InRange}
-use Rattle.rtcm_msg.specs.declared.station.StationParts.{StationParts}
-use Rattle.rtcm_msg.specs.declared.fault.MsgFault.{MsgFault}
-use Rattle.rtcm_msg.specs.declared.message.Message.{Message}
-use Rattle.obs_epoch.specs.Heard.{Heard, heard}
-use Rattle.rtcm_inspect.specs.FirstMessages.{AreFirst, first_in, first_station, first_tow, one_of, point_of, sender, stations_in, stations_of, tow_of, with_other}
-use Rattle.rtcm_inspect.specs.Messages.{heard_in, heard_of}
-use Rattle.rtcm_inspect.specs.declared.first_messages.FirstMessages.{FirstMessages}
-use Rattle.rtcm_inspect.specs.declared.first_messages.Stations.TheVariants.{Unknown, One, Several}
+use Rattle.rtcm_inspect.proofs.Names.{option_and_then, option_or, filter_map-append, find-append, Framed, message_at, InRange, StationParts, MsgFault, Message, Heard, heard, AreFirst, first_in, first_station, first_tow, one_of, point_of, sender, stations_in, stations_of, tow_of, with_other, heard_in, heard_of, FirstMessages, Unknown, One, Several}
 
 or_more : {A : Type 0} (a b c : Option A) → option_or a (option_or b c) ≡ option_or (option_or a b) c
 or_more None b c = refl

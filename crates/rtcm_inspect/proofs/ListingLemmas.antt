@@ -1,21 +1,7 @@
 -- A listing as a consumer of frames.
 use Rattle.std.proofs.Common.{◌≡◌, ◌∙◌, ◌-◌, ◌<◌, ap, sym, subst, refl, arith, Bool, true, false, ℕ, List, [], ◌∷◌, ◌++◌, Option, append_assoc, append-nil, length, take}
-use Rattle.std.specs.Io.KnownBytes.{Appends, Keeps}
-use Rattle.std.proofs.lemmas.Grind.{flat_map-append}
-use Rattle.std.proofs.KnownBytes.{Appends-nil, Appends-trans, Appends-kept}
-use Rattle.rtcm_bits.specs.Device.{AppendsPrefix, Device, HasFailed}
-use Rattle.rtcm_bits.specs.Prefix.{IsPrefix}
-use Rattle.rtcm_scan.specs.Frames.{Framed}
-use Rattle.rtcm_scan.specs.Decided.{decided_frames}
-use Rattle.rtcm_scan.specs.Known.{known_frames}
-use Rattle.std.specs.Prelude.{⊤}
-use Rattle.rtcm_scan.specs.declared.feed.StreamFault.{StreamFault}
+use Rattle.rtcm_inspect.proofs.Names.{Appends, Keeps, flat_map-append, Appends-nil, Appends-trans, Appends-kept, AppendsPrefix, Device, HasFailed, IsPrefix, Framed, decided_frames, known_frames, ⊤, StreamFault, HaveFailedBy, stream_fault, AtFault, BreaksReading, HasPassedAll, Passes, PassesAll, PassesToLimit, Reads, FramerValue, Listing, Lists, ListsAll, ListsDecided, StopsListing, ListsPart, ListsToLimit, ListsUpTo, listing_line, listing_lines}
 use Rattle.rtcm_scan.specs.declared.feed.StreamFault.TheVariants as stream
-use Rattle.rtcm_inspect.specs.Devices.{HaveFailedBy, stream_fault}
-use Rattle.rtcm_scan.specs.Passing.{AtFault, BreaksReading, HasPassedAll, Passes, PassesAll, PassesToLimit, Reads}
-use Rattle.rtcm_scan.specs.Scan.{FramerValue}
-use Rattle.rtcm_inspect.specs.declared.listing.Listing.{Listing}
-use Rattle.rtcm_inspect.specs.Listing.{Lists, ListsAll, ListsDecided, StopsListing, ListsPart, ListsToLimit, ListsUpTo, listing_line, listing_lines}
 
 -- the lines of one more frame
 lines_more : (k : Listing) (fs : List Framed) (f : Framed) → listing_lines k (fs ++ f ∷ []) ≡ listing_lines k fs ++ listing_line k f

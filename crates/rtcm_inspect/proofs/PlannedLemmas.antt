@@ -1,24 +1,7 @@
 -- The plan of the signals of a stream has a column for each of its values, and their line is parsed as that plan.
 use Rattle.std.proofs.Common.{◌≡◌, ℕ, zero, suc, ◌+◌, ◌<◌, ◌≤◌, ◌==◌, ◌&&◌, ◌||◌, Bool, true, false, not, List, [], ◌∷◌, ◌++◌, length, refl, sym, ap, ap₂, ◌∙◌, subst, arith, filter, map, All, Some, None, Result, Ok, Err, nat_eq, get_or, append-nil, append_assoc, is_some}
-use Rattle.std.specs.Prelude.{cond, nat_lt, nat_le, position}
-use Rattle.std.specs.List.{list_any, position_or_len}
-use Rattle.std.specs.Str.{bytes_eq}
-use Rattle.std.proofs.lemmas.List.Elements.{filter-append}
-use Rattle.std.proofs.lemmas.List.Folds.{list_any-append}
-use Rattle.gnss_obs.specs.declared.system.System.{System}
-use Rattle.gnss_obs.specs.declared.system.System.TheVariants.{Gps, Galileo}
-use Rattle.gnss_obs.specs.Satellites.{satellites}
-use Rattle.gnss_obs.specs.Signals.{SignalAt, IsSignal, table, code_of, signal_of_code}
-use Rattle.gnss_obs.specs.declared.fault.PlanFault.{PlanFault}
-use Rattle.gnss_obs.specs.declared.fault.PlanFault.TheVariants.{RepeatedCode}
-use Rattle.obs_epoch.specs.Cells.{is_planned, has_listed_key}
-use Rattle.obs_epoch.specs.Heard.{GatherSetup}
-use Rattle.gnss_obs.specs.HeardCells.{HeardCell, IsKey}
-use Rattle.gnss_obs.specs.Plans.{below, place_in, between_commas, onto_first, one_signal_more, signals_after, signals_of, plan_of}
-use Rattle.gnss_obs.specs.Values.{planned_of}
-use Rattle.obs_epoch.specs.SignalCounts.{is_of_signal, count_of, signal_in}
-use Rattle.rtcm_inspect.specs.Signals.{had, plan_had, code_list, codes_word}
 use Rattle.rtcm_inspect.proofs.SignalLemmas.{own_signal}
+use Rattle.rtcm_inspect.proofs.Names.{cond, nat_lt, nat_le, position, list_any, position_or_len, bytes_eq, filter-append, list_any-append, System, Gps, Galileo, satellites, SignalAt, IsSignal, table, code_of, signal_of_code, PlanFault, RepeatedCode, is_planned, has_listed_key, GatherSetup, HeardCell, IsKey, below, place_in, between_commas, onto_first, one_signal_more, signals_after, signals_of, plan_of, planned_of, is_of_signal, count_of, signal_in, had, plan_had, code_list, codes_word}
 
 -- ---- rising indices
 

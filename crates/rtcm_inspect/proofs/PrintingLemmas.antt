@@ -1,14 +1,6 @@
 -- Texts written in one call, and failed calls.
 use Rattle.std.proofs.Common.{◌≡◌, ◌∙◌, inl, inr, sym, subst, append-nil, ℕ, List, [], Option, Result, Ok, Err, OnErr, OnOk}
-use Rattle.std.specs.Io.KnownBytes.{Appends, Keeps}
-use Rattle.std.proofs.KnownBytes.{Appends-kept, Appends-nil, Appends-trans}
-use Rattle.rtcm_bits.specs.Device.{AppendsPrefix, Device, FailsWith, HasFailed}
-use Rattle.rtcm_bits.specs.declared.counted.DeviceFailed.{DeviceFailed}
-use Rattle.std.specs.Prelude.{⊤}
-use Rattle.std.specs.Result.{IsErrAnd}
-use Rattle.rtcm_inspect.specs.Listing.{WritesLine}
-use Rattle.rtcm_inspect.specs.Printing.{EndsPrinting, PrintsLine}
-use Rattle.rtcm_inspect.specs.declared.fault.InspectFault.{InspectFault}
+use Rattle.rtcm_inspect.proofs.Names.{Appends, Keeps, Appends-kept, Appends-nil, Appends-trans, AppendsPrefix, Device, FailsWith, HasFailed, DeviceFailed, ⊤, IsErrAnd, WritesLine, EndsPrinting, PrintsLine, InspectFault}
 
 pub on_err : {A E : Type 0} (r : Result A E) (P Q : Type 0) → (P → Q) → OnErr r P → OnErr r Q
 on_err (Ok x) P Q f p = p

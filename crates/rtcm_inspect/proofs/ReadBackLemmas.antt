@@ -1,12 +1,6 @@
 -- Messages, their encodings in frames, and the messages read back.
 use Rattle.std.proofs.Common.{◌≡◌, ◌∙◌, sym, ap, subst, refl, arith, ℕ, suc, zero, ◌+◌, ◌*◌, ◌/◌, ◌<◌, ◌≤◌, Bool, false, List, [], ◌∷◌, ◌++◌, length, take, drop, map, replicate, All, get_or, flat_map, length-append, length-take, length-drop, take-append-drop}
-use Rattle.rtcm_bits.specs.Bits.{bits_of, filled, missing, uint, number}
-use Rattle.rtcm_bits.specs.FrameOf.{frame_bytes}
-use Rattle.rtcm_scan.specs.Frames.{Framed, AreFrames, frames_of}
-use Rattle.rtcm_scan.specs.Local.{placed}
-use Rattle.rtcm_msg.specs.declared.message.Message.{Message}
-use Rattle.rtcm_msg.specs.Encoding.{IsEncoding, IsMessage, ReadsMessage, is_other, message_bits}
-use Rattle.rtcm_inspect.specs.ReadBack.{AreEncoded, AreReadAs, ReadsBack, AreKnown}
+use Rattle.rtcm_inspect.proofs.Names.{bits_of, filled, missing, uint, number, frame_bytes, Framed, AreFrames, frames_of, placed, Message, IsEncoding, IsMessage, ReadsMessage, is_other, message_bits, AreEncoded, AreReadAs, ReadsBack, AreKnown}
 
 -- laws of the layers below
 abbrev pub EightBits : Type 0

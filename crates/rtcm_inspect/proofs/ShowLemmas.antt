@@ -1,16 +1,7 @@
 -- The line of a message.
 use Rattle.std.proofs.Common.{◌≡◌, ◌∙◌, ap, sym, ℕ, ℤ, pos, negsuc, List, Result, Ok, FitsSigned, w64, to_z, of_z, arith, refl}
-use Rattle.std.proofs.lemmas.Int.{to_z-of_z}
-use Rattle.rtcm_bits.specs.Bits.{FitsInt}
-use Rattle.rtcm_scan.specs.Frames.{Framed}
-use Rattle.rtcm_msg.specs.declared.fault.MsgFault.{MsgFault}
-use Rattle.rtcm_msg.specs.declared.message.Message.{Message}
-use Rattle.rtcm_msg.specs.Decoding.{message_at}
-use Rattle.rtcm_msg.specs.declared.view.Form.{Form}
+use Rattle.rtcm_inspect.proofs.Names.{to_z-of_z, FitsInt, Framed, MsgFault, Message, message_at, Form, MsmValue, FormedMsm, formed, message_in, message_number, show_line, read_line, msm_line}
 use Rattle.rtcm_msg.specs.declared.view.Form.TheVariants as forms
-use Rattle.rtcm_msg.specs.Msm.{MsmValue}
-use Rattle.rtcm_msg.specs.Views.{FormedMsm, formed, message_in, message_number}
-use Rattle.rtcm_inspect.specs.ShowLines.{show_line, read_line, msm_line}
 
 pub shown : (f : Framed) (r : Result Message MsgFault) {bytes : List ℕ} → bytes ≡ f.message → message_at bytes ≡ r → show_line f ≡ read_line f r
 unfolding show_line

@@ -1,18 +1,6 @@
 -- The cells that a conversion skips with the plan of a stream's signals.
 use Rattle.std.proofs.Common.{◌≡◌, ◌+◌, ◌≤◌, ◌==◌, Bool, true, false, not, ℕ, List, [], ◌∷◌, ◌++◌, filter, Option, Some, None, All, refl, subst, arith}
-use Rattle.std.specs.Prelude.{cond}
-use Rattle.std.specs.List.{count_by}
-use Rattle.std.specs.Option.{option_map_or}
-use Rattle.std.proofs.lemmas.List.Elements.{All-nil, All-cons, All-head, All-tail}
-use Rattle.std.proofs.lemmas.List.Sums.{sum_by-cons}
-use Rattle.rtcm_scan.specs.Frames.{Framed}
-use Rattle.obs_epoch.specs.Cells.{counts_of, counts_of_message, is_planned, no_counts, offered, with_skipped}
-use Rattle.obs_epoch.specs.SignalCounts.{brings_value, is_of_station, valued}
-use Rattle.obs_epoch.specs.Heard.{GatherSetup, Heard, is_own}
-use Rattle.gnss_obs.specs.HeardCells.{HeardCell}
-use Rattle.obs_epoch.specs.Times.{Timed}
-use Rattle.rtcm_inspect.specs.SignalLaws.{SkipsOnly}
-use Rattle.rtcm_inspect.specs.Signals.{valued_in, valued_of}
+use Rattle.rtcm_inspect.proofs.Names.{cond, count_by, option_map_or, All-nil, All-cons, All-head, All-tail, sum_by-cons, Framed, counts_of, counts_of_message, is_planned, no_counts, offered, with_skipped, brings_value, is_of_station, valued, GatherSetup, Heard, is_own, HeardCell, Timed, SkipsOnly, valued_in, valued_of}
 
 abbrev ArePlanned : GatherSetup → List HeardCell → Type 0
 ArePlanned s xs = All (λ x. is_planned s x ≡ true) xs

@@ -1,27 +1,8 @@
 -- The cells with a value are of listed satellites and signals.
-use Rattle.rtcm_msg.specs.declared.entry.LockField.{LockField}
-use Rattle.rtcm_msg.specs.declared.entry.LockField.TheVariants.{Df402, Df407}
 use Rattle.std.proofs.Common.{◌≡◌, ℕ, ◌<◌, ◌≤◌, ◌==◌, ◌&&◌, Bool, true, false, List, [], ◌∷◌, length, refl, sym, ap, ◌∙◌, subst, arith, filter, All, Option, Some, None, Result, Ok, Err}
-use Rattle.std.specs.Prelude.{filter_map, cond, nat_lt, nat_le}
-use Rattle.std.specs.Option.{option_map, option_and_then, option_map_or}
-use Rattle.std.specs.List.{cons_option, position_or_len}
-use Rattle.std.proofs.lemmas.List.Elements.{All-nil, All-cons, All-append, All-filter}
-use Rattle.gnss_obs.specs.declared.system.System.{System}
-use Rattle.gnss_obs.specs.Satellites.{Satellite, IsSatellite, satellites, satellite_of_id}
+use Rattle.std.specs.Option.{option_and_then}
+use Rattle.rtcm_inspect.proofs.Names.{LockField, Df402, Df407, filter_map, cond, nat_lt, nat_le, option_map, option_map_or, cons_option, position_or_len, All-nil, All-cons, All-append, All-filter, System, Satellite, IsSatellite, satellites, satellite_of_id, SignalAt, IsSignal, table, signal_of_id, Entry, Message, Station, Msm4, Msm7, Other, entries, MsgFault, message_at, Framed, Heard, heard, seen_in, lock_by, observed, system_of, HeardCell, IsKey, heard_of, brings_value, is_of_station, valued, signal_in, valued_of, valued_in}
 use Rattle.gnss_obs.specs.declared.tables.ListedSignal as tables
-use Rattle.gnss_obs.specs.Signals.{SignalAt, IsSignal, table, signal_of_id}
-use Rattle.rtcm_msg.specs.declared.entry.Entry.{Entry}
-use Rattle.rtcm_msg.specs.declared.message.Message.{Message}
-use Rattle.rtcm_msg.specs.declared.message.Message.TheVariants.{Station, Msm4, Msm7, Other}
-use Rattle.rtcm_msg.specs.Entries.{entries}
-use Rattle.rtcm_msg.specs.declared.fault.MsgFault.{MsgFault}
-use Rattle.rtcm_msg.specs.Decoding.{message_at}
-use Rattle.rtcm_scan.specs.Frames.{Framed}
-use Rattle.obs_epoch.specs.Heard.{Heard, heard, seen_in, lock_by, observed, system_of}
-use Rattle.gnss_obs.specs.HeardCells.{HeardCell, IsKey}
-use Rattle.rtcm_inspect.specs.Messages.{heard_of}
-use Rattle.obs_epoch.specs.SignalCounts.{brings_value, is_of_station, valued, signal_in}
-use Rattle.rtcm_inspect.specs.Signals.{valued_of, valued_in}
 
 some_same : {X : Type 0} (x y : X) → Some x ≡ Some y → x ≡ y
 some_same x y e = ap (λ o. option_map_or (λ z. z) o x) e

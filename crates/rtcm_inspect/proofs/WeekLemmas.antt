@@ -1,21 +1,6 @@
 -- The nearest week, and the time of the first MSM.
 use Rattle.std.proofs.Common.{◌≡◌, ◌∙◌, ◌+◌, ◌-◌, ◌*◌, ◌/◌, ◌<◌, ◌≤◌, ◌==◌, ◌&&◌, ◌||◌, ◌++◌, ℕ, Bool, true, false, List, [], ◌∷◌, Option, Some, None, Result, Ok, Err, refl, sym, ap, ap₂, arith}
-use Rattle.std.specs.List.{cons_option}
-use Rattle.std.specs.Prelude.{filter_map, nat_lt, option_and_then, if◌then◌else◌}
-use Rattle.std.specs.Option.{option_or, option_map_or}
-use Rattle.gnss_obs.specs.Weeks.{week, weeks}
-use Rattle.rtcm_scan.specs.Frames.{Framed}
-use Rattle.rtcm_msg.specs.Decoding.{message_at}
-use Rattle.rtcm_msg.specs.declared.fault.MsgFault.{MsgFault}
-use Rattle.rtcm_msg.specs.declared.message.Message.{Message}
-use Rattle.rtcm_msg.specs.declared.message.Message.TheVariants.{Station, Msm4, Msm7, Other}
-use Rattle.obs_epoch.specs.Heard.{GatherSetup, Heard, is_own}
-use Rattle.obs_epoch.specs.SignalCounts.{is_of_station}
-use Rattle.obs_epoch.specs.Times.{Timed, ahead, greatest_time, is_closed, is_past, max_known, taken_at, timed_after}
-use Rattle.rtcm_inspect.specs.FirstMessages.{first_tow, tow_of}
-use Rattle.rtcm_inspect.specs.Messages.{heard_in, heard_of}
-use Rattle.rtcm_inspect.specs.NearWeek.{IsNearestWeek, half_week}
-use Rattle.rtcm_inspect.specs.WeekLaws.{first_time}
+use Rattle.rtcm_inspect.proofs.Names.{cons_option, filter_map, nat_lt, option_and_then, if◌then◌else◌, option_or, option_map_or, week, weeks, Framed, message_at, MsgFault, Message, Station, Msm4, Msm7, Other, GatherSetup, Heard, is_own, is_of_station, Timed, ahead, greatest_time, is_closed, is_past, max_known, taken_at, timed_after, first_tow, tow_of, heard_in, heard_of, IsNearestWeek, half_week, first_time}
 
 -- ---- the nearest week, by its quotient q: n = q * week + r
 

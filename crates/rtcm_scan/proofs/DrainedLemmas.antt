@@ -1,14 +1,9 @@
 -- Everything that can be decided is decided.
 use Rattle.std.proofs.Common.{ℕ, ◌≡◌, ◌+◌, ◌<◌, ◌≤◌, true, false, List, [], length, drop, sym, ap, ◌∙◌, arith, sum_by}
-use Rattle.std.proofs.lemmas.List.{drop_all}
-use Rattle.rtcm_scan.specs.Frame.{is_open}
-use Rattle.rtcm_scan.specs.Frames.{Framed}
-use Rattle.rtcm_scan.specs.Decided.{decided}
-use Rattle.rtcm_scan.specs.Scan.{FramerValue, HasFramed, first_held, Scanned}
-use Rattle.rtcm_scan.specs.Drained.{IsDrained}
 use Rattle.rtcm_scan.proofs.ScanLemmas.{scanned_all}
 use Rattle.rtcm_scan.proofs.DecidedLemmas.{decided_is, decided_frames_are}
 use Rattle.rtcm_scan.proofs.SkippedLemmas.{given_up_is}
+use Rattle.rtcm_scan.proofs.Names.{drop_all, is_open, Framed, decided, FramerValue, HasFramed, first_held, Scanned, IsDrained}
 
 -- everything is decided if nothing is held, or if the held bytes are open
 pub drained_ended : (v : FramerValue) (b : List ℕ) (fs : List Framed) → v.has_ended ≡ true → v.held ≡ [] → HasFramed v b fs → IsDrained v b fs

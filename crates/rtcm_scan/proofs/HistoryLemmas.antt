@@ -1,14 +1,9 @@
 -- What a framer has accepted after each of its steps.
 use Rattle.std.proofs.Common.{ℕ, ◌≡◌, ◌+◌, ◌-◌, ◌<◌, ◌≤◌, Bool, true, false, List, [], ◌∷◌, ◌++◌, length, drop, refl, ap, ◌∙◌, arith, length-append, sum_by}
-use Rattle.std.proofs.lemmas.List.{drop-append-le, length-drop, drop-drop}
-use Rattle.std.proofs.lemmas.List.Sums.{sum_by_push}
-use Rattle.rtcm_scan.specs.Frame.{begins_frame, message_length, frame_length, framed_message}
-use Rattle.rtcm_scan.specs.Frames.{Framed, IsFrameOf}
-use Rattle.rtcm_bits.specs.Window.{WindowValue, pushed, without_front}
-use Rattle.rtcm_scan.specs.Scan.{FramerValue, scan_of, with_window, HasFramed, first_held, IsPassed, Scanned}
 use Rattle.rtcm_scan.proofs.FrameLemmas.{begins_parts, length-message}
 use Rattle.rtcm_scan.proofs.ScanLemmas.{scanned_skip, scanned_frame, scanned_longer, scanned_ended}
 use Rattle.rtcm_scan.proofs.PrefixLemmas.{known_first}
+use Rattle.rtcm_scan.proofs.Names.{drop-append-le, length-drop, drop-drop, sum_by_push, begins_frame, message_length, frame_length, framed_message, Framed, IsFrameOf, WindowValue, pushed, without_front, FramerValue, scan_of, with_window, HasFramed, first_held, IsPassed, Scanned}
 
 -- the bytes of a frame
 abbrev pub size_of : Framed → ℕ

@@ -1,3 +1,4 @@
+pub mod Names
 pub mod FrameLemmas
 pub mod ScanLemmas
 pub mod HistoryLemmas

@@ -1,20 +1,10 @@
 -- Damage stays local.
 use Rattle.std.proofs.Common.{ℕ, ◌≡◌, ◌+◌, ◌-◌, ◌/◌, ◌%◌, ◌<◌, ◌≤◌, true, List, [], ◌∷◌, ◌++◌, length, take, drop, get_or, refl, sym, ap, ◌∙◌, arith, suc, zero, ⊎_elim, subst, eq-eqb, append_assoc, length-append, take-add}
-use Rattle.std.specs.List.{All, Contains, flat_map}
-use Rattle.std.proofs.lemmas.Bool.{cases_lt, and_from, le-leb}
-use Rattle.std.proofs.lemmas.List.{append-nil, take_at, drop_at, length-drop, drop_all, get_or-drop, take-append-drop, drop_more}
-use Rattle.std.proofs.lemmas.List.Elements.{All-head, All-tail, All-drop, Contains-append_right}
-use Rattle.std.proofs.lemmas.List.Concat.{flat_map-append}
-use Rattle.rtcm_bits.specs.Crc.{crc}
-use Rattle.rtcm_bits.specs.FrameOf.{frame_bytes, frame_header, three_bytes}
-use Rattle.rtcm_scan.specs.Frame.{begins_frame, message_length, frame_length, sent_check, framed_message}
-use Rattle.rtcm_scan.specs.Frames.{Framed, IsFrameOf, frame_end, frames_from, frames_of}
-use Rattle.rtcm_scan.specs.Local.{stream_after, frame_place, HasNoOtherFrame, StaysLocal, placed}
-use Rattle.rtcm_scan.specs.Scan.{Scanned}
 use Rattle.rtcm_scan.proofs.ScanLemmas.{scanned_frames, scanned_all}
 use Rattle.rtcm_scan.proofs.FrameLemmas.{length-message}
 use Rattle.rtcm_scan.proofs.DecisionLemmas.{frame_length_bound}
 use Rattle.rtcm_scan.proofs.LawLemmas.{frames_scanned, same_frame}
+use Rattle.rtcm_scan.proofs.Names.{All, Contains, flat_map, cases_lt, and_from, le-leb, append-nil, take_at, drop_at, length-drop, drop_all, get_or-drop, take-append-drop, drop_more, All-head, All-tail, All-drop, Contains-append_right, flat_map-append, crc, frame_bytes, frame_header, three_bytes, begins_frame, message_length, frame_length, sent_check, framed_message, Framed, IsFrameOf, frame_end, frames_from, frames_of, stream_after, frame_place, HasNoOtherFrame, StaysLocal, placed, Scanned}
 
 -- the parts of a list: header, message, CRC and the rest
 spread : (m rest : List ℕ) → frame_bytes m ++ rest ≡ (frame_header m ++ m) ++ (three_bytes (crc (frame_header m ++ m)) ++ rest)

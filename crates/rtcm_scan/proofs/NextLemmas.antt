@@ -1,22 +1,12 @@
 -- The state after the steps of `next`.
-use Rattle.std.proofs.Common.{ℕ, ◌≡◌, ◌+◌, ◌-◌, ◌<◌, ◌≤◌, true, false, List, [], ◌∷◌, ◌++◌, length, drop, refl, sym, ap, ◌∙◌, arith, ⊎_elim}
-use Rattle.std.proofs.lemmas.Bool.{cases_Bool}
-use Rattle.std.proofs.lemmas.List.{nil_from_length}
-use Rattle.rtcm_scan.specs.Frame.{begins_frame, is_open, frame_length, framed_message}
-use Rattle.rtcm_scan.specs.Frames.{Framed}
-use Rattle.rtcm_bits.specs.Window.{WindowValue, looked_through, without_front}
-use Rattle.rtcm_scan.specs.Scan.{FramerValue, HasFramed, first_held, IsPassed, window_of, with_window, with_looks}
-use Rattle.rtcm_scan.specs.Pending.{asked, with_candidate_examined, passed}
-use Rattle.rtcm_scan.specs.Examined.{HasExamined, IsCountedExactly, IsCountedTo}
+use Rattle.std.proofs.Common.{ℕ, ◌≡◌, ◌+◌, ◌-◌, ◌<◌, ◌≤◌, true, false, List, [], ◌∷◌, ◌++◌, length, drop, refl, sym, ap, ◌∙◌, arith, ⊎_elim, subst, length-drop}
 use Rattle.rtcm_scan.proofs.StepLemmas.{step_examined, step_give_up, step_take, looked_bytes}
 use Rattle.rtcm_scan.proofs.KnownLemmas.{counted_empty, counted_open, counted_frame}
 use Rattle.rtcm_scan.proofs.FrameLemmas.{length-message, begins_parts}
 use Rattle.rtcm_scan.proofs.DecidedLemmas.{none_past}
-use Rattle.rtcm_scan.specs.Frame.{message_length}
-use Rattle.std.proofs.Common.{subst, length-drop}
-use Rattle.rtcm_scan.specs.Drained.{IsDrained}
 use Rattle.rtcm_scan.proofs.HistoryLemmas.{stands_give_up, stands_take, stands_ready}
 use Rattle.rtcm_scan.proofs.DrainedLemmas.{drained_ended, drained_waiting}
+use Rattle.rtcm_scan.proofs.Names.{cases_Bool, nil_from_length, begins_frame, is_open, frame_length, framed_message, Framed, WindowValue, looked_through, without_front, FramerValue, HasFramed, first_held, IsPassed, window_of, with_window, with_looks, asked, with_candidate_examined, passed, HasExamined, IsCountedExactly, IsCountedTo, message_length, IsDrained}
 
 -- other counts don't change what a framer has accepted
 pub stands_looks : (v : FramerValue) (w : WindowValue) (t : ℕ) (b : List ℕ) (fs : List Framed) → HasFramed v b fs → HasFramed (with_looks v w t) b fs

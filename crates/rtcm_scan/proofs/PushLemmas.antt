@@ -1,12 +1,8 @@
 -- What a framer has accepted after many bytes.
 use Rattle.std.proofs.Common.{ℕ, ◌≡◌, ◌+◌, ◌<◌, ◌≤◌, Bool, false, List, [], ◌∷◌, ◌++◌, length, replicate, refl, ap, arith, suc, length-append}
-use Rattle.std.proofs.lemmas.List.{append-nil, append_assoc}
-use Rattle.rtcm_bits.specs.Window.{WindowValue, pushed_all}
-use Rattle.rtcm_scan.specs.Frames.{Framed}
-use Rattle.rtcm_scan.specs.Scan.{FramerValue, scan_of, with_bytes, HasFramed}
-use Rattle.rtcm_scan.specs.Examined.{HasExamined}
 use Rattle.rtcm_scan.proofs.HistoryLemmas.{stands_push, stands_ready}
 use Rattle.rtcm_scan.proofs.StepLemmas.{step_push}
+use Rattle.rtcm_scan.proofs.Names.{append-nil, append_assoc, WindowValue, pushed_all, Framed, FramerValue, scan_of, with_bytes, HasFramed, HasExamined}
 
 -- the state after one byte is pushed
 abbrev pub with_byte : FramerValue → ℕ → FramerValue

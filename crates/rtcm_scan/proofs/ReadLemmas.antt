@@ -1,21 +1,8 @@
 -- A stream that is read piece by piece.
-use Rattle.std.specs.Prelude.{Result, Ok, Err, MatchResult}
 use Rattle.std.proofs.Common.{◌≡◌, ℕ, ◌+◌, ◌-◌, ◌<◌, ◌≤◌, Bool, true, false, List, [], ◌∷◌, ◌++◌, ◌∙◌, ap, sym, refl, arith, length, suc, take, drop, max, append_assoc, append-nil, subst, length-append, Option, true≢false, add-zero}
-use Rattle.std.specs.Io.KnownBytes.{Consumes, Keeps, IsAtEnd, ReadConsumes}
-use Rattle.std.specs.Io.{ReadsAtMost}
-use Rattle.std.proofs.KnownBytes.{Consumes-trans, Consumes-nil}
-use Rattle.rtcm_scan.specs.Frames.{Framed}
-use Rattle.std.proofs.lemmas.List.{length-drop, take-append-le, length-take-le}
-use Rattle.rtcm_bits.specs.FrameOf.{longest_frame}
-use Rattle.rtcm_scan.specs.Decided.{decided}
-use Rattle.rtcm_scan.specs.Drained.{IsDrained}
-use Rattle.rtcm_scan.specs.Known.{known_frames, known_place}
-use Rattle.rtcm_scan.specs.Scan.{FramerValue}
-use Rattle.rtcm_scan.specs.Passing.{HasReadPiece, Coming, Breaking, HasPassedAll, HasBroken, Passes, Breaks, Continues, BreaksKnown, PassesKnown, PassesToLimit, PassesAll, BreaksAfter, BreaksReading, Reads, ReadsOn, IsReadingOn, AtFault}
 use Rattle.rtcm_scan.proofs.PassingLemmas.{prefix_self, passes_sent}
 use Rattle.rtcm_scan.proofs.PrefixLemmas.{decided_near}
-use Rattle.rtcm_scan.specs.declared.feed.StreamFault.{StreamFault}
-use Rattle.rtcm_scan.specs.declared.feed.StreamFault.TheVariants.{Read, TooLong, Sink}
+use Rattle.rtcm_scan.proofs.Names.{Result, Ok, Err, MatchResult, Consumes, Keeps, IsAtEnd, ReadConsumes, ReadsAtMost, Consumes-trans, Consumes-nil, Framed, length-drop, take-append-le, length-take-le, longest_frame, decided, IsDrained, known_frames, known_place, FramerValue, HasReadPiece, Coming, Breaking, HasPassedAll, HasBroken, Passes, Breaks, Continues, BreaksKnown, PassesKnown, PassesToLimit, PassesAll, BreaksAfter, BreaksReading, Reads, ReadsOn, IsReadingOn, AtFault, StreamFault, Read, TooLong, Sink}
 
 -- at each fault, one proposition implies another
 pub at_each : {F : Type 0} (f : StreamFault F) (P Q R P' Q' R' : Type 0) → (P → P') → (Q → Q') → (R → R') → AtFault f P Q R → AtFault f P' Q' R'

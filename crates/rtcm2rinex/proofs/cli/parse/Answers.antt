@@ -1,11 +1,7 @@
 use Rattle.std.proofs.Common.{◌≡◌, ◌∙◌, true, inl, inr, ap, subst, sym}
-use Rattle.std.proofs.lemmas.Result.{IfErr-weaker}
-use Rattle.clap.specs.Simple.{app_of}
-use Rattle.clap.specs.Walk.{texts}
-use Rattle.clap.specs.Faults.{is_simple_and_free}
-use Rattle.rtcm2rinex.specs.CommandLine.{IsProgram, start_of}
 use Rattle.rtcm2rinex.proofs.CommandLineLemmas.{is_read, versioned, why}
 use Rattle.rtcm2rinex.proofs.AcceptedLemmas.{found_command}
+use Rattle.rtcm2rinex.proofs.Names.{IfErr-weaker, app_of, texts, is_simple_and_free, IsProgram, start_of}
 use Rattle.rtcm2rinex.proofs.cli.parse.Goals as goal
 
 pub returns-in-Ok : goal.returns-in-Ok

@@ -1,9 +1,8 @@
 use Rattle.std.proofs.Common.{◌∙◌, get_or, map, take, subst}
-use Rattle.std.proofs.lemmas.Result.{IfOk-weaker}
-use Rattle.rtcm2rinex.specs.CommandLine.{Makes, command_set, with_commands}
 use Rattle.rtcm2rinex.proofs.CommandLineLemmas.{no_command, one_command_more, plain_given, with_command}
-use Rattle.rtcm2rinex.proofs.cli.with_commands.Goals as goal
 use Rattle.rtcm2rinex.proofs.cli.with_commands.Goals.{in-Ok+in-Ok-command, in-Ok+in-Err-command, in-Err}
+use Rattle.rtcm2rinex.proofs.Names.{IfOk-weaker, Makes, command_set, with_commands}
+use Rattle.rtcm2rinex.proofs.cli.with_commands.Goals as goal
 
 pub loop-row-preserved : goal.loop-row-preserved
 loop-row-preserved c = λ a made.

@@ -1,6 +1,5 @@
 use Rattle.std.proofs.Common.{map, take}
-use Rattle.clap.specs.Simple.{App}
-use Rattle.rtcm2rinex.specs.CommandLine.{Makes, command_set, with_commands}
+use Rattle.rtcm2rinex.proofs.Names.{App, Makes, command_set, with_commands}
 use Rattle.rtcm2rinex.proofs.cli.with_commands.Given as goal
 
 abbrev pub invariant-loop-row : goal.invariant-loop-row

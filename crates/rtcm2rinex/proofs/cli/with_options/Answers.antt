@@ -1,9 +1,8 @@
 use Rattle.std.proofs.Common.{◌∙◌, get_or, map, take, subst}
-use Rattle.std.proofs.lemmas.Result.{IfOk-weaker}
-use Rattle.rtcm2rinex.specs.CommandLine.{Makes, option_set, with_options}
 use Rattle.rtcm2rinex.proofs.CommandLineLemmas.{no_option, one_option_more, simple_given, with_option}
-use Rattle.rtcm2rinex.proofs.cli.with_options.Goals as goal
 use Rattle.rtcm2rinex.proofs.cli.with_options.Goals.{in-Ok, in-Err}
+use Rattle.rtcm2rinex.proofs.Names.{IfOk-weaker, Makes, option_set, with_options}
+use Rattle.rtcm2rinex.proofs.cli.with_options.Goals as goal
 
 pub loop-row-preserved : goal.loop-row-preserved
 loop-row-preserved c = λ a made.

@@ -1,6 +1,5 @@
 use Rattle.std.proofs.Common.{map, take}
-use Rattle.clap.specs.Simple.{App}
-use Rattle.rtcm2rinex.specs.CommandLine.{Makes, option_set, with_options}
+use Rattle.rtcm2rinex.proofs.Names.{App, Makes, option_set, with_options}
 use Rattle.rtcm2rinex.proofs.cli.with_options.Given as goal
 
 abbrev pub invariant-loop-row : goal.invariant-loop-row

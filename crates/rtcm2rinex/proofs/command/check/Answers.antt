@@ -1,5 +1,5 @@
 use Rattle.std.proofs.Common.{◌∙◌, Bool, subst, sym}
-use Rattle.rtcm2rinex.specs.Asked.{EndsCheck}
+use Rattle.rtcm2rinex.proofs.Names.{EndsCheck}
 use Rattle.rtcm2rinex.proofs.command.check.Goals as goal
 
 pub returns-then-has_times : goal.returns-then-has_times

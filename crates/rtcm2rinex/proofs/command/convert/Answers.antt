@@ -1,14 +1,7 @@
 use Rattle.std.proofs.Common.{◌≡◌, ◌∙◌, inr, refl, subst, sym, ℕ, List, Result, Ok, Err}
-use Rattle.rtcm_convert.specs.SetupValues.{start_at}
-use Rattle.rtcm_convert.specs.declared.fault.Fault.TheVariants.{BadSetup}
-use Rattle.rtcm_convert.specs.declared.report.Report.{Report}
-use Rattle.rtcm2rinex.specs.Converting.{EndsConverting}
-use Rattle.rtcm_inspect.specs.Printing.{PrintsLine}
-use Rattle.rtcm2rinex.specs.SetupOptions.{options_of}
-use Rattle.rtcm2rinex.specs.declared.fault.ToolFault.{ToolFault}
-use Rattle.rtcm2rinex.specs.declared.fault.ToolFault.TheVariants as faults
 use Rattle.rtcm2rinex.proofs.ConvertLemmas.{setup_refused, values_refused, week_refused}
-use Rattle.rtcm_inspect.proofs.PrintingLemmas.{passed}
+use Rattle.rtcm2rinex.proofs.Names.{start_at, BadSetup, Report, EndsConverting, PrintsLine, options_of, ToolFault, passed}
+use Rattle.rtcm2rinex.specs.declared.fault.ToolFault.TheVariants as faults
 use Rattle.rtcm2rinex.proofs.command.convert.Goals as goal
 
 pub returns-in_err-start_week : goal.returns-in_err-start_week

@@ -1,8 +1,5 @@
-use Rattle.std.specs.Prelude.{⊤}
-use Rattle.rtcm2rinex.specs.Asked.{EndsOptionsAsked}
-use Rattle.rtcm2rinex.specs.SetupOptions.{options_of}
 use Rattle.rtcm2rinex.proofs.CommandLemmas.{date_refused, options_ended}
-use Rattle.rtcm_inspect.proofs.PrintingLemmas.{passed}
+use Rattle.rtcm2rinex.proofs.Names.{⊤, EndsOptionsAsked, options_of, passed}
 use Rattle.rtcm2rinex.proofs.command.print_options.Goals as goal
 
 pub returns-in_err-near : goal.returns-in_err-near

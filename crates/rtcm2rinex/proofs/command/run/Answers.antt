@@ -1,7 +1,6 @@
 use Rattle.std.proofs.Common.{◌∙◌, ap, inl, inr, refl}
-use Rattle.rtcm2rinex.specs.Commands.{name_of}
-use Rattle.rtcm2rinex.specs.SetupOptions.{options_of}
 use Rattle.rtcm2rinex.proofs.CommandLemmas.{ends_found, ends_so, options_stopped, inspection_found}
+use Rattle.rtcm2rinex.proofs.Names.{name_of, options_of}
 use Rattle.rtcm2rinex.proofs.command.run.Goals as goal
 
 pub returns-in-Frames : goal.returns-in-Frames

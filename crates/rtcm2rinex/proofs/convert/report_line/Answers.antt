@@ -1,6 +1,5 @@
 use Rattle.std.proofs.Common.{[], codes, decimal, refl}
-use Rattle.rtcm2rinex.specs.Reports.{counts_named, report_line}
-use Rattle.rtcm_inspect.proofs.LineLemmas.{add_count, add_text, add_word, end_line}
+use Rattle.rtcm2rinex.proofs.Names.{counts_named, report_line, add_count, add_text, add_word, end_line}
 use Rattle.rtcm2rinex.proofs.convert.report_line.Goals as goal
 
 pub returns : goal.returns

@@ -1,11 +1,6 @@
 use Rattle.std.proofs.Common.{inr, subst}
-use Rattle.std.specs.Prelude.{◌≡◌, ◌↔◌, Err}
-use Rattle.gnss_obs.specs.declared.cell.StationValues.{StationValues}
-use Rattle.rtcm_convert.specs.SetupValues.{IsBadAt, start_at}
-use Rattle.rtcm_convert.specs.declared.fault.Fault.TheVariants.{BadSetup}
-use Rattle.rtcm2rinex.specs.Converting.{EndsConversion}
-use Rattle.rtcm2rinex.specs.declared.fault.ToolFault.TheVariants.{Convert}
 use Rattle.rtcm2rinex.proofs.ConvertLemmas.{zero_bad}
+use Rattle.rtcm2rinex.proofs.Names.{◌≡◌, ◌↔◌, Err, StationValues, IsBadAt, start_at, BadSetup, EndsConversion, Convert}
 use Rattle.rtcm2rinex.proofs.convert.run_convert.Goals as goal
 
 pub returns-clause-ends : goal.returns-clause-ends

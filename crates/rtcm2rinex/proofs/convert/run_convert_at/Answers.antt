@@ -1,8 +1,6 @@
 use Rattle.std.proofs.Common.{Err, subst, sym}
-use Rattle.rtcm_convert.specs.SetupValues.{IsBadAt, start_at}
-use Rattle.rtcm2rinex.specs.Converting.{EndsConversion}
-use Rattle.rtcm2rinex.specs.declared.fault.ToolFault.{ToolFault}
 use Rattle.rtcm2rinex.proofs.ConvertLemmas.{conversion_stopped, given_bad}
+use Rattle.rtcm2rinex.proofs.Names.{IsBadAt, start_at, EndsConversion, ToolFault}
 use Rattle.rtcm2rinex.proofs.convert.run_convert_at.Goals as goal
 
 pub returns-in-Ok-clause-ends : goal.returns-in-Ok-clause-ends

@@ -1,7 +1,5 @@
 use Rattle.std.proofs.Common.{◌∙◌, [], ℕ, List, ap, codes, refl}
-use Rattle.rtcm2rinex.specs.ErrorLines.{error_line, error_words}
-use Rattle.rtcm_inspect.specs.Lines.{with_words}
-use Rattle.rtcm_inspect.proofs.LineLemmas.{add_text, end_line}
+use Rattle.rtcm2rinex.proofs.Names.{error_line, error_words, with_words, add_text, end_line}
 use Rattle.rtcm2rinex.proofs.error_lines.error_line.Goals as goal
 
 pub returns : goal.returns

@@ -1,7 +1,5 @@
 use Rattle.std.proofs.Common.{◌≡◌, ◌∙◌, sym, ap, arith, rules, ℕ, List, None, Bor, option_map}
-use Rattle.std.proofs.lemmas.Str.Pattern.{strip_prefix_char}
-use Rattle.clap.specs.Lexer.{strip_byte}
-use Rattle.clap.proofs.LexerLemmas.{strip_byte-from}
+use Rattle.rtcm2rinex.proofs.Names.{strip_prefix_char, strip_byte, strip_byte-from}
 use Rattle.rtcm2rinex.proofs.options.coordinate_of.Goals as goal
 
 pub returns-in-None-length_below-2 : goal.returns-in-None-length_below-2

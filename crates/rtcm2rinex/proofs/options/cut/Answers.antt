@@ -1,8 +1,5 @@
 use Rattle.std.proofs.Common.{◌≡◌, ◌<◌, ◌==◌, arith, refl, true, false, ℕ, List, Option, Some, None, Bor, length}
-use Rattle.std.specs.Prelude.{MatchOption, nat_lt}
-use Rattle.std.specs.List.{position_or_len, before_first, after_first}
-use Rattle.std.proofs.lemmas.Bool.Decides.{nat_tests}
-use Rattle.rtcm2rinex.specs.Lengths.{cut}
+use Rattle.rtcm2rinex.proofs.Names.{MatchOption, nat_lt, position_or_len, before_first, after_first, nat_tests, cut}
 use Rattle.rtcm2rinex.proofs.options.cut.Goals as goal
 
 is_below : (n m : ℕ) → n < m → nat_lt n m ≡ true

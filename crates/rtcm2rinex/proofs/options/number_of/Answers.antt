@@ -1,5 +1,5 @@
 use Rattle.std.proofs.Common.{arith, ◌^◌, ◌≤◌, ◌<◌, ℕ}
-use Rattle.std.proofs.Math.Nat.{pow-le-pow_right}
+use Rattle.rtcm2rinex.proofs.Names.{pow-le-pow_right}
 use Rattle.rtcm2rinex.proofs.options.number_of.Goals as goal
 
 below : (n i j : ℕ) → n < 10 ^ i → i ≤ j → n < 10 ^ j

@@ -1,7 +1,5 @@
 use Rattle.std.proofs.Common.{◌≡◌, ◌^◌, ◌<◌, drop}
-use Rattle.std.specs.List.{list_all}
-use Rattle.clap.specs.Lexer.{is_digit}
-use Rattle.rinex_file.specs.Read.Fields.{digits_from}
+use Rattle.rtcm2rinex.proofs.Names.{list_all, is_digit, digits_from}
 use Rattle.rtcm2rinex.proofs.options.number_of.Given as goal
 
 -- the rest of the digits continues the number so far, which has at most one digit for each byte before

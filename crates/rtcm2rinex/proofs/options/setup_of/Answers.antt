@@ -1,9 +1,6 @@
 use Rattle.std.proofs.Common.{◌∙◌, ℕ, List, ap, codes, rules}
-use Rattle.std.specs.Prelude.{not}
-use Rattle.std.specs.Str.{bytes_eq}
-use Rattle.std.specs.Str.Parse.{HasUnsignedDigitsIfOk, ExplainsUnsignedError}
-use Rattle.clap.specs.Matches.{found_of}
 use Rattle.rtcm2rinex.proofs.OptionLemmas.{number_given}
+use Rattle.rtcm2rinex.proofs.Names.{not, bytes_eq, HasUnsignedDigitsIfOk, ExplainsUnsignedError, found_of}
 use Rattle.rtcm2rinex.proofs.options.setup_of.Goals as goal
 
 pub returns : goal.returns

@@ -1,7 +1,6 @@
-use Rattle.std.specs.Str.Parse.{HasUnsignedDigitsIfOk, ExplainsUnsignedError}
 use Rattle.std.proofs.Common.{codes}
-use Rattle.clap.specs.Matches.{found_of}
 use Rattle.rtcm2rinex.proofs.OptionLemmas.{number_given}
+use Rattle.rtcm2rinex.proofs.Names.{HasUnsignedDigitsIfOk, ExplainsUnsignedError, found_of}
 use Rattle.rtcm2rinex.proofs.options.station_of.Goals as goal
 
 pub returns : goal.returns

@@ -1,12 +1,7 @@
 use Rattle.std.proofs.Common.{◌≡◌, ◌∙◌, ◌++◌, List, ℕ, ap, Err}
-use Rattle.rinex_file.specs.File.{file_text}
-use Rattle.rinex_file.specs.Counting.{AreCounts, IsSummary}
-use Rattle.rinex_file.specs.Value.{FileValue}
-use Rattle.rtcm_inspect.specs.Checking.{AreLinesOf, check_line}
-use Rattle.rtcm_inspect.specs.DateTexts.{times_lines}
 use Rattle.rtcm_inspect.proofs.CheckLemmas.{checked, checked_or, kept_first, read_failures, refused, where_known}
 use Rattle.rtcm_inspect.proofs.PrintingLemmas.{printed_later, same_text}
-use Rattle.rinex_file.specs.declared.read.file.FileSummary.{FileSummary}
+use Rattle.rtcm_inspect.proofs.Names.{file_text, AreCounts, IsSummary, FileValue, AreLinesOf, check_line, times_lines, FileSummary}
 use Rattle.rtcm_inspect.proofs.check.run_check_times.Goals as goal
 
 -- the lines of the counts and of the times

@@ -1,11 +1,7 @@
 use Rattle.std.proofs.Common.{ap, sym, subst, refl}
-use Rattle.rtcm_scan.specs.Scan.{FramerValue}
-use Rattle.rtcm_inspect.specs.Counting.{Counts, StopsCounting}
-use Rattle.rtcm_inspect.specs.Devices.{ReadFailures}
-use Rattle.rtcm_inspect.specs.declared.counting.StreamSignals.{StreamSignals}
-use Rattle.rtcm_inspect.specs.declared.fault.InspectFault.{InspectFault}
 use Rattle.rtcm_inspect.proofs.StreamLemmas.{started}
 use Rattle.rtcm_inspect.proofs.CountingLemmas.{counted_all, counted_reads, counting_stopped, new_counts, none_counted}
+use Rattle.rtcm_inspect.proofs.Names.{FramerValue, Counts, StopsCounting, ReadFailures, StreamSignals, InspectFault}
 use Rattle.rtcm_inspect.proofs.counting.read_signals.Goals as goal
 
 pub returns-in-Ok-read-clause-whole : goal.returns-in-Ok-read-clause-whole

@@ -1,7 +1,7 @@
-use Rattle.rtcm_inspect.specs.Signals.{valued_in}
 use Rattle.rtcm_inspect.proofs.PlannedLemmas.{all_planned, plan_read}
 use Rattle.rtcm_inspect.proofs.SkipLemmas.{frames_skip}
 use Rattle.rtcm_inspect.proofs.ValuedLemmas.{valued_keys}
+use Rattle.rtcm_inspect.proofs.Names.{valued_in}
 use Rattle.rtcm_inspect.proofs.laws.signals.Goals as goal
 
 pub returns-clause-columns : goal.returns-clause-columns

@@ -1,13 +1,7 @@
 use Rattle.std.proofs.Common.{◌∙◌, ◌∷◌, ◌++◌, ap, sym, refl, append-nil, decimal, ℕ, List, Err}
-use Rattle.rtcm_scan.specs.Results.{framed}
-use Rattle.rtcm_msg.specs.Viewed.{viewed_message}
-use Rattle.rtcm_msg.specs.Views.{formed}
-use Rattle.rtcm_msg.specs.declared.message.Message.TheVariants.{Station, Other}
-use Rattle.rtcm_inspect.specs.FrameLines.{number_word}
-use Rattle.rtcm_inspect.specs.Lines.{with_words}
-use Rattle.rtcm_inspect.specs.ShowLines.{station_line, fault_line, fault_words}
 use Rattle.rtcm_inspect.proofs.LineLemmas.{add_word, end_line}
 use Rattle.rtcm_inspect.proofs.ShowLemmas.{shown, shown_value, shown_msm}
+use Rattle.rtcm_inspect.proofs.Names.{framed, viewed_message, formed, Station, Other, number_word, with_words, station_line, fault_line, fault_words}
 use Rattle.rtcm_inspect.proofs.listing.add_message.Goals as goal
 
 pub returns-in-Station : goal.returns-in-Station

@@ -1,9 +1,7 @@
 use Rattle.std.proofs.Common.{◌≡◌, ◌∙◌, ◌∷◌, ap, refl, rules, ℕ, List, decimal, is_some, if◌then◌else◌}
-use Rattle.rtcm_inspect.specs.Lines.{with_words}
-use Rattle.rtcm_inspect.specs.Metres.{metres}
-use Rattle.rtcm_inspect.specs.ShowLines.{station_line, height_words}
 use Rattle.rtcm_inspect.proofs.LineLemmas.{add_word, end_line}
 use Rattle.rtcm_inspect.proofs.ShowLemmas.{as_passed}
+use Rattle.rtcm_inspect.proofs.Names.{with_words, metres, station_line, height_words}
 use Rattle.rtcm_inspect.proofs.listing.add_station.Goals as goal
 
 pub returns : goal.returns

@@ -1,10 +1,7 @@
 use Rattle.std.proofs.Common.{Err, ap, refl, subst, sym}
-use Rattle.std.specs.Prelude.{⊤}
-use Rattle.rtcm_scan.specs.Scan.{FramerValue}
-use Rattle.rtcm_inspect.specs.declared.fault.InspectFault.{InspectFault}
-use Rattle.rtcm_inspect.specs.Listing.{EndsListing, Lists, listing_lines}
 use Rattle.rtcm_inspect.proofs.StreamLemmas.{started}
 use Rattle.rtcm_inspect.proofs.ListingLemmas.{listed_all, listing_stopped, new_listing}
+use Rattle.rtcm_inspect.proofs.Names.{⊤, FramerValue, InspectFault, EndsListing, Lists, listing_lines}
 use Rattle.rtcm_inspect.proofs.listing.list.Goals as goal
 
 pub returns-in-Ok-read : goal.returns-in-Ok-read

@@ -1,9 +1,8 @@
 use Rattle.std.proofs.Common.{◌≡◌, ◌∙◌, ◌+◌, ◌*◌, ◌≤◌, ◌<◌, ap, sym, arith, ℕ, List, length}
-use Rattle.gnss_obs.specs.Signals.{table}
-use Rattle.rtcm_inspect.specs.Signals.{had_below}
 use Rattle.rtcm_inspect.proofs.SignalLemmas.{partly_more, had_one, had_none, word_some, word_none, at_end}
-use Rattle.rtcm_inspect.proofs.options.add_codes.Goals as goal
 use Rattle.rtcm_inspect.proofs.options.add_codes.Goals.{then-count-gt0, else-count-gt0}
+use Rattle.rtcm_inspect.proofs.Names.{table, had_below}
+use Rattle.rtcm_inspect.proofs.options.add_codes.Goals as goal
 
 within : (i n m : ℕ) → i < n → n ≡ m → i < m
 within i n m a b = omega (arith, a, b)

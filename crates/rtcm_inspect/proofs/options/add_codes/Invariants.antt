@@ -1,9 +1,7 @@
 use Rattle.std.proofs.Common.{◌+◌, ◌*◌, ◌≤◌, List, length}
-use Rattle.rtcm_inspect.specs.Signals.{had_below}
-use Rattle.obs_epoch.specs.SignalCounts.{AreSignalCounts}
 use Rattle.rtcm_inspect.proofs.SignalLemmas.{IsPartly}
+use Rattle.rtcm_inspect.proofs.Names.{had_below, AreSignalCounts, HeardCell}
 use Rattle.rtcm_inspect.proofs.options.add_codes.Given as goal
-use Rattle.gnss_obs.specs.HeardCells.{HeardCell}
 
 abbrev pub invariant-loop-index : goal.invariant-loop-index
 invariant-loop-index l =

@@ -1,12 +1,6 @@
 use Rattle.std.proofs.Common.{◌≡◌, ◌∙◌, [], ◌∷◌, ◌++◌, ℕ, List, Option, Some, None, ap, sym, append_assoc, append-nil, codes, decimal, refl}
-use Rattle.std.specs.List.{join_with_byte}
-use Rattle.gnss_obs.specs.Values.{PlanValue}
-use Rattle.gnss_obs.specs.declared.system.System.TheVariants.{Gps, Galileo}
-use Rattle.rtcm_msg.specs.declared.station.StationParts.{StationParts}
-use Rattle.rtcm_inspect.specs.Signals.{codes_word, plan_had, valued_in}
-use Rattle.rtcm_inspect.specs.Fitting.{number_start, number_words, options_line, station_words}
-use Rattle.rtcm_inspect.specs.Lines.{line, with_words}
 use Rattle.rtcm_inspect.proofs.LineLemmas.{add_text, add_word, end_line}
+use Rattle.rtcm_inspect.proofs.Names.{join_with_byte, PlanValue, Gps, Galileo, StationParts, codes_word, plan_had, valued_in, number_start, number_words, options_line, station_words, line, with_words}
 use Rattle.rtcm_inspect.proofs.options.options_line.Goals as goal
 
 -- an option with a number before the words of a line

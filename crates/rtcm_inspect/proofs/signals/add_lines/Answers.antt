@@ -1,8 +1,8 @@
 use Rattle.std.proofs.Common.{◌≡◌, ◌∙◌, ◌+◌, ◌*◌, ◌≤◌, ◌<◌, ap, arith, ℕ, List, length}
-use Rattle.gnss_obs.specs.Signals.{table}
 use Rattle.rtcm_inspect.proofs.SignalLemmas.{lines_one, lines_none, of_ok}
-use Rattle.rtcm_inspect.proofs.signals.add_lines.Goals as goal
 use Rattle.rtcm_inspect.proofs.signals.add_lines.Goals.{then-count-gt0, else-count-gt0}
+use Rattle.rtcm_inspect.proofs.Names.{table}
+use Rattle.rtcm_inspect.proofs.signals.add_lines.Goals as goal
 
 within : (i n m : ℕ) → i < n → n ≡ m → i < m
 within i n m a b = omega (arith, a, b)

@@ -1,8 +1,6 @@
 use Rattle.std.proofs.Common.{◌≡◌, ◌+◌, ◌*◌, ◌≤◌, ◌++◌, List, length}
-use Rattle.rtcm_inspect.specs.Signals.{lines_below}
-use Rattle.obs_epoch.specs.SignalCounts.{AreSignalCounts}
+use Rattle.rtcm_inspect.proofs.Names.{lines_below, AreSignalCounts, HeardCell}
 use Rattle.rtcm_inspect.proofs.signals.add_lines.Given as goal
-use Rattle.gnss_obs.specs.HeardCells.{HeardCell}
 
 abbrev pub invariant-loop-index : goal.invariant-loop-index
 invariant-loop-index l =

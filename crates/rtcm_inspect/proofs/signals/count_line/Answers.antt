@@ -1,11 +1,7 @@
 use Rattle.std.proofs.Common.{◌≡◌, ◌∙◌, [], ◌∷◌, ℕ, ap, refl, decimal}
 use Rattle.gnss_obs.specs.Satellites.{letter as letter_byte}
-use Rattle.gnss_obs.specs.Signals.{code_of}
-use Rattle.gnss_obs.specs.declared.system.System.{System}
-use Rattle.gnss_obs.specs.declared.system.System.TheVariants.{Gps, Galileo}
-use Rattle.obs_epoch.specs.SignalCounts.{signal_in}
-use Rattle.rtcm_inspect.specs.Signals.{count_line, letter}
 use Rattle.rtcm_inspect.proofs.LineLemmas.{add_text, add_word, end_line}
+use Rattle.rtcm_inspect.proofs.Names.{code_of, System, Gps, Galileo, signal_in, count_line, letter}
 use Rattle.rtcm_inspect.proofs.signals.count_line.Goals as goal
 
 lettered : (s : System) → letter_byte s ∷ [] ≡ letter s

@@ -1,12 +1,9 @@
 use Rattle.std.proofs.Common.{◌≡◌, ◌∙◌, ◌+◌, ◌*◌, ◌≤◌, ◌++◌, ap, sym, arith, lit≤, ℕ, List, length}
-use Rattle.gnss_obs.specs.Signals.{table}
-use Rattle.gnss_obs.specs.declared.system.System.TheVariants.{Gps, Galileo}
-use Rattle.rtcm_inspect.specs.Signals.{count_lines, signals_text, valued_in}
-use Rattle.rtcm_scan.specs.Frames.{frames_of}
 use Rattle.rtcm_inspect.proofs.CountingLemmas.{signals_printed}
 use Rattle.rtcm_inspect.proofs.PrintingLemmas.{printed_later, same_text}
 use Rattle.rtcm_inspect.proofs.SignalLemmas.{no_cells, some_cells}
 use Rattle.rtcm_inspect.proofs.ValuedLemmas.{valued_keys}
+use Rattle.rtcm_inspect.proofs.Names.{table, Gps, Galileo, count_lines, signals_text, valued_in, frames_of}
 use Rattle.rtcm_inspect.proofs.signals.run_signals.Goals as goal
 
 fits : (old new gps : ℕ) → old ≡ 0 → new ≤ old + 26 * gps → gps ≤ 19 → new ≤ 512

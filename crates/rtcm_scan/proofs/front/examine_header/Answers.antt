@@ -1,7 +1,7 @@
 use Rattle.std.proofs.Common.{ap, ◌∙◌, ◌<◌, ◌≤◌, arith, length, take, slice_index}
 use Rattle.rtcm_scan.proofs.CandidateLemmas.{taken_more, looked_more}
-use Rattle.rtcm_scan.proofs.front.examine_header.Goals as goal
 use Rattle.rtcm_scan.proofs.front.examine_header.Goals.{then-held-candidate-eq1, else-held-candidate-eq1}
+use Rattle.rtcm_scan.proofs.front.examine_header.Goals as goal
 
 pub loop-candidate-preserved : goal.loop-candidate-preserved
 loop-candidate-preserved c =

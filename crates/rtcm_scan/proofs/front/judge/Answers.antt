@@ -1,8 +1,8 @@
 use Rattle.std.proofs.Common.{arith, ◌∙◌, ap, sym}
-use Rattle.rtcm_scan.specs.Results.{if_missing}
 use Rattle.rtcm_scan.proofs.JudgeLemmas.{judge_missing, judge_found, judge_wrong, judge_none}
-use Rattle.rtcm_scan.proofs.front.judge.Goals as goal
 use Rattle.rtcm_scan.proofs.front.judge.Goals.{else-candidate-gt1-via-then-candidate-gt1+else-value-eq0, else-candidate-gt1-via-else-candidate-gt1}
+use Rattle.rtcm_scan.proofs.Names.{if_missing}
+use Rattle.rtcm_scan.proofs.front.judge.Goals as goal
 
 pub returns-then-has_ended : goal.returns-then-has_ended
 returns-then-has_ended c = λ s l b t a. sym (ap if_missing c.if-has_ended.true) ∙ judge_missing c.args.candidate.now c.args.has_ended s l t a c.if-candidate.true

@@ -1,8 +1,5 @@
 use Rattle.std.proofs.Common.{◌≡◌, List, ℕ, length}
-use Rattle.rtcm_bits.specs.Prefix.{IsPrefix}
-use Rattle.rtcm_scan.specs.Examined.{HasExaminedSome}
-use Rattle.rtcm_scan.specs.Frames.{Framed}
-use Rattle.rtcm_scan.specs.Passing.{HasPassed}
+use Rattle.rtcm_scan.proofs.Names.{IsPrefix, HasExaminedSome, Framed, HasPassed}
 use Rattle.rtcm_scan.proofs.framer.Framer.drain_into.Given as goal
 
 abbrev pub invariant-loop-offset : goal.invariant-loop-offset

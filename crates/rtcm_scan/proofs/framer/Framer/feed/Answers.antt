@@ -1,6 +1,6 @@
 use Rattle.std.proofs.Common.{subst, take_all, arith, List, ℕ, take}
-use Rattle.rtcm_scan.specs.Passing.{Passes}
 use Rattle.rtcm_scan.proofs.PassingLemmas.{passes_sent, limit_sent, breaks_sent}
+use Rattle.rtcm_scan.proofs.Names.{Passes}
 use Rattle.rtcm_scan.proofs.framer.Framer.feed.Goals as goal
 
 pub take_piece-requires : goal.take_piece-requires

@@ -1,11 +1,6 @@
 use Rattle.std.proofs.Common.{◌∙◌, ap, sym, subst, Bool, List}
-use Rattle.std.proofs.lemmas.Result.{on_ok_weaker, on_err_weaker}
-use Rattle.rtcm_bits.specs.Prefix.{IsPrefix}
-use Rattle.rtcm_scan.specs.Frames.{Framed}
-use Rattle.rtcm_scan.specs.Known.{known_frames}
-use Rattle.rtcm_scan.specs.Passing.{HasBroken}
-use Rattle.rtcm_scan.specs.Scan.{FramerValue}
 use Rattle.rtcm_scan.proofs.PassingLemmas.{prefix_self, same_ended}
+use Rattle.rtcm_scan.proofs.Names.{on_ok_weaker, on_err_weaker, IsPrefix, Framed, known_frames, HasBroken, FramerValue}
 use Rattle.rtcm_scan.proofs.framer.Framer.finish.Goals as goal
 
 pub drain_into-requires : goal.drain_into-requires

@@ -1,7 +1,6 @@
 use Rattle.std.proofs.Common.{ap, ◌∙◌, arith, refl}
-use Rattle.rtcm_scan.specs.Results.{frame_at}
-use Rattle.rtcm_scan.specs.Scan.{FramerValue}
 use Rattle.rtcm_scan.proofs.NextLemmas.{step_found, counts_found, less_found}
+use Rattle.rtcm_scan.proofs.Names.{frame_at, FramerValue}
 use Rattle.rtcm_scan.proofs.framer.Framer.next_into.Goals as goal
 
 pub take_frame-requires : goal.take_frame-requires

@@ -1,8 +1,6 @@
 use Rattle.std.proofs.Common.{◌≡◌, ◌∙◌, ap, arith, refl, sym, true≢false, length, take}
-use Rattle.std.proofs.lemmas.List.{length-take-le}
-use Rattle.std.proofs.KnownBytes.{Consumes-kept}
-use Rattle.rtcm_bits.specs.Device.{one_more}
 use Rattle.rtcm_scan.proofs.ReadLemmas.{not_read, reading_more, reads_none, reads_more, fault_after, breaks_first}
+use Rattle.rtcm_scan.proofs.Names.{length-take-le, Consumes-kept, one_more}
 use Rattle.rtcm_scan.proofs.framer.Framer.read_pieces.Goals as goal
 
 pub returns-in-Err : goal.returns-in-Err

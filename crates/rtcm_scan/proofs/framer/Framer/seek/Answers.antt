@@ -1,10 +1,9 @@
 use Rattle.std.proofs.Common.{true, ◌≡◌, ◌-◌, ◌<◌, ap, ◌∙◌, length, refl, arith, length-drop}
-use Rattle.rtcm_scan.specs.Scan.{FramerValue}
-use Rattle.rtcm_scan.specs.Pending.{passed}
 use Rattle.rtcm_scan.proofs.DecisionLemmas.{from_found, from_passed, from_open, open_bound}
 use Rattle.rtcm_scan.proofs.NextLemmas.{step_passed, counts_passed, found_begins, found_stands, found_counts, finish_empty, finish_open, counts_empty, counts_open}
-use Rattle.rtcm_scan.proofs.framer.Framer.seek.Goals as goal
 use Rattle.rtcm_scan.proofs.framer.Framer.seek.Goals.{else-loop-self-test, then-loop-self-test+in-Open}
+use Rattle.rtcm_scan.proofs.Names.{FramerValue, passed}
+use Rattle.rtcm_scan.proofs.framer.Framer.seek.Goals as goal
 
 pub pass_over-requires : goal.pass_over-requires
 pass_over-requires c =

@@ -1,7 +1,5 @@
 use Rattle.std.proofs.Common.{◌≡◌, List, ℕ, length}
-use Rattle.rtcm_scan.specs.Frames.{Framed}
-use Rattle.rtcm_scan.specs.Scan.{HasFramed, IsScannedOn}
-use Rattle.rtcm_scan.specs.Examined.{HasExamined}
+use Rattle.rtcm_scan.proofs.Names.{Framed, HasFramed, IsScannedOn, HasExamined}
 use Rattle.rtcm_scan.proofs.framer.Framer.seek.Given as goal
 
 abbrev pub invariant-loop-self : goal.invariant-loop-self

@@ -1,6 +1,6 @@
 use Rattle.std.proofs.Common.{◌≡◌, ◌+◌, ◌-◌, ◌≤◌, take, length}
-use Rattle.rtcm_scan.specs.Passing.{Continues}
 use Rattle.rtcm_scan.proofs.PassingLemmas.{PassesPart}
+use Rattle.rtcm_scan.proofs.Names.{Continues}
 use Rattle.rtcm_scan.proofs.framer.Framer.take_piece.Given as goal
 
 abbrev pub invariant-loop-fault : goal.invariant-loop-fault

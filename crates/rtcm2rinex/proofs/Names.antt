@@ -1,0 +1,86 @@
+-- The names that proofs cite, passed on from one place. Declares nothing.
+pub use Rattle.clap.proofs.LexerLemmas.{strip_byte-from}
+unfoldable pub use Rattle.clap.proofs.OnLiterals.{clap_on_literals}
+pub use Rattle.clap.proofs.WalkLemmas.{first_value-rows, one_text-rows}
+pub use Rattle.clap.specs.Built.{AddsArg, AddsSubcommand}
+pub use Rattle.clap.specs.Facts.{explicit_source}
+unfoldable pub use Rattle.clap.specs.Faults.{walk_fault}
+pub use Rattle.clap.specs.Faults.{check_fault, defaults_fault, entered_fault, fault_of, is_free_app, is_simple_and_free, level_fault, other_fault, settle_fault, step_fault, turn_fault, word_fault}
+pub use Rattle.clap.specs.Kinds.{FailsBy, HasKind, Kinds, check_kinds, or_else}
+pub use Rattle.clap.specs.Lexer.{is_digit, long_of, short_of, strip_byte}
+pub use Rattle.clap.specs.Matches.{ReadsOne, first_value, found_of, one_text, subcommand_name_of}
+pub use Rattle.clap.specs.Simple.{App, HasMatchesOf, Shape, app_of, app_of_fields, argument_words, built, entered, is_simple, label_of, names_of, new_app, on_top, rows_at, subcommand_of, subcommand_rows, subcommand_rows_of, with_rule, with_subcommand}
+pub use Rattle.clap.specs.Takes.{is_given}
+pub use Rattle.clap.specs.Values.{kind_of}
+unfoldable pub use Rattle.clap.specs.Walk.{walked}
+pub use Rattle.clap.specs.Walk.{Held, Names, Outcome, Row, Rule, Step, Text, Waiting, Walk, after_flag, after_step, answers_to, arg_by_index, arg_by_long, bundle, done, finished, first_of, idle, is_empty, long_met, long_or_other, next, nothing_held, one_of, option, plain, plain_word, positional, refused, rows_of, rule_of, settled, short_or_plain, subcommand, subcommand_met, subcommand_or_other, texts, to_positional, trailing, value, waits, walk, walk_from, walked_from, word_met}
+pub use Rattle.clap.specs.declared.builder.arg.Arg.{Arg}
+pub use Rattle.clap.specs.declared.builder.command.Command.{Command}
+pub use Rattle.clap.specs.declared.builder.command.Command.TheViews.{out-Command}
+pub use Rattle.clap.specs.declared.error.Error.{Error}
+pub use Rattle.clap.specs.declared.parser.matches.ArgMatches.{ArgMatches}
+pub use Rattle.clap.specs.declared.parser.matches.ArgMatches.TheViews.{out-ArgMatches, out-SubCommand}
+pub use Rattle.clap.specs.declared.parser.matches.Found.{Found}
+pub use Rattle.clap.specs.declared.parser.matches.SubCommand.{SubCommand}
+pub use Rattle.gnss_obs.specs.Dates.{IsCivilOf}
+pub use Rattle.gnss_obs.specs.GatheredEpochs.{AreStationValues}
+pub use Rattle.gnss_obs.specs.Values.{no_values}
+pub use Rattle.gnss_obs.specs.Weeks.{week, weeks}
+pub use Rattle.gnss_obs.specs.declared.cell.StationValues.{StationValues}
+pub use Rattle.gnss_obs.specs.declared.civil.Civil.{Civil}
+pub use Rattle.rinex_file.specs.Read.Fields.{digits_from, digits_in, next_digit}
+pub use Rattle.rtcm2rinex.specs.Asked.{EndsCheck, EndsOptionsAsked, PrintsOptionsAsked, RefusesDate, StopsOptionsAsked}
+pub use Rattle.rtcm2rinex.specs.CommandLine.{FailsParsing, IsCommand, IsFoundIn, IsProgram, Makes, RefusesWords, SelectsCommand, command_set, more_of, option_set, program, start_of, with_commands, with_options}
+pub use Rattle.rtcm2rinex.specs.Commands.{AreRefused, AreRefusedBy, EndsCommand, EndsFound, HasCommand, HasCompleted, HasDone, HasPrinted, HasStopped, HasStoppedEarly, HasStoppedPrinting, StopsPrinting, fault_status, name_of, status_of}
+pub use Rattle.rtcm2rinex.specs.Converting.{EndsConversion, EndsConverting, StopsConversion, StopsConverting}
+pub use Rattle.rtcm2rinex.specs.Dates.{IsHourOf, IsWeekOf, civil_in}
+pub use Rattle.rtcm2rinex.specs.Devices.{Ends, HaveFailedBy, IsInspected, inspected, of_inspection, tool_fault_of}
+unfoldable pub use Rattle.rtcm2rinex.specs.ErrorLines.{error_line}
+pub use Rattle.rtcm2rinex.specs.ErrorLines.{error_words}
+pub use Rattle.rtcm2rinex.specs.Lengths.{coordinate_by, coordinate_of, cut, decimals_of, length_below, length_by, length_of, number_of, position_of, values_by, values_in}
+pub use Rattle.rtcm2rinex.specs.Printing.{PrintsFault}
+unfoldable pub use Rattle.rtcm2rinex.specs.Reports.{report_line}
+pub use Rattle.rtcm2rinex.specs.Reports.{counts_named}
+pub use Rattle.rtcm2rinex.specs.SetupOptions.{HasSetupFault, IsFirstFault, IsNearRefused, IsNearSet, IsNoonOf, IsNumberOf, IsSetupRefused, IsWeekRefused, IsWeekSet, options_of, text_set, values_set}
+pub use Rattle.rtcm2rinex.specs.declared.commands.CommandRow.{CommandRow}
+pub use Rattle.rtcm2rinex.specs.declared.commands.OptionRow.{OptionRow}
+pub use Rattle.rtcm2rinex.specs.declared.commands.Tables.{Tables}
+pub use Rattle.rtcm2rinex.specs.declared.fault.DateOption.{DateOption}
+pub use Rattle.rtcm2rinex.specs.declared.fault.ToolFault.{ToolFault}
+pub use Rattle.rtcm2rinex.specs.declared.fault.ToolFault.TheVariants.{Convert}
+pub use Rattle.rtcm_bits.specs.Bits.{FitsInt}
+pub use Rattle.rtcm_bits.specs.Device.{Device}
+pub use Rattle.rtcm_convert.specs.Faults.{FailsWithReader, FailsWithWriter, IsSentAfter, IsSetupFault, IsUntouched}
+pub use Rattle.rtcm_convert.specs.Made.{IsMadeEmpty, IsMadeInPart, IsMadeSoFar, IsMadeToLimit}
+pub use Rattle.rtcm_convert.specs.SetupValues.{IsBad, IsBadAt, Start, start_at, start_zero}
+pub use Rattle.rtcm_convert.specs.declared.fault.Fault.{Fault}
+pub use Rattle.rtcm_convert.specs.declared.fault.Fault.TheVariants.{BadSetup, Failed, Finished, Memory, NoEpoch, Read, TooLong, Write}
+pub use Rattle.rtcm_convert.specs.declared.report.Report.{Report}
+pub use Rattle.rtcm_convert.specs.declared.setup.Setup.{Setup}
+pub use Rattle.rtcm_inspect.proofs.LineLemmas.{add_count, add_text, add_word, end_line}
+pub use Rattle.rtcm_inspect.proofs.PrintingLemmas.{passed}
+pub use Rattle.rtcm_inspect.specs.Fitting.{height_text, position_text}
+pub use Rattle.rtcm_inspect.specs.Lines.{with_words}
+pub use Rattle.rtcm_inspect.specs.Metres.{digit, four_digits, metres, size_text}
+pub use Rattle.rtcm_inspect.specs.OptionOutput.{EndsOptions, PrintsOptions, StopsOptions}
+pub use Rattle.rtcm_inspect.specs.Printing.{PrintsLine}
+pub use Rattle.rtcm_inspect.specs.declared.fault.InspectFault.{InspectFault}
+pub use Rattle.rtcm_msg.specs.Station.{InRange}
+pub use Rattle.rtcm_msg.specs.declared.station.StationParts.{StationParts}
+pub use Rattle.std.proofs.Math.Nat.{pow-le-pow_right}
+pub use Rattle.std.proofs.Math.Seq.{take-append_seam}
+pub use Rattle.std.proofs.lemmas.Bool.Decides.{nat_tests}
+pub use Rattle.std.proofs.lemmas.Fmt.{decimal_by_steps, decimal_nonempty, length-decimal-le}
+pub use Rattle.std.proofs.lemmas.List.{map_more}
+pub use Rattle.std.proofs.lemmas.List.Folds.{list_all-append}
+pub use Rattle.std.proofs.lemmas.List.Sums.{fold-append}
+pub use Rattle.std.proofs.lemmas.Result.{IfErr-weaker, IfOk-weaker}
+pub use Rattle.std.proofs.lemmas.Slice.Eq.{bytes_eq-Decides}
+pub use Rattle.std.proofs.lemmas.Str.Pattern.{strip_prefix_char}
+pub use Rattle.std.specs.Borrow.{Bor}
+pub use Rattle.std.specs.Box.{box_value}
+pub use Rattle.std.specs.List.{after_first, before_first, list_all, list_any, position_or_len}
+pub use Rattle.std.specs.Option.{option_map_or}
+pub use Rattle.std.specs.Prelude.{Box, Err, MatchOption, if◌then◌else◌, nat_le, nat_lt, not, option_and_then, ⊤, ◌*◌, ◌<◌, ◌↔◌, ◌≡◌, ◌≢◌, ◌⊎◌}
+pub use Rattle.std.specs.Str.{bytes_eq}
+pub use Rattle.std.specs.Str.Parse.{ExplainsUnsignedError, HasUnsignedDigitsIfOk, ParsesUnsigned}

@@ -1,0 +1,104 @@
+-- The names that proofs cite, passed on from one place. Declares nothing.
+pub use Rattle.gnss_obs.specs.Dates.{civil_of}
+pub use Rattle.gnss_obs.specs.HeardCells.{HeardCell, IsKey}
+pub use Rattle.gnss_obs.specs.Plans.{below, between_commas, one_signal_more, onto_first, place_in, plan_of, signals_after, signals_of}
+pub use Rattle.gnss_obs.specs.Satellites.{IsSatellite, Satellite, is_system, satellite_of_id, satellites}
+pub use Rattle.gnss_obs.specs.Signals.{IsSignal, SignalAt, code_of, signal_of_code, signal_of_id, table}
+pub use Rattle.gnss_obs.specs.Values.{PlanValue, planned_of}
+pub use Rattle.gnss_obs.specs.Weeks.{week, weeks}
+pub use Rattle.gnss_obs.specs.declared.fault.PlanFault.{PlanFault}
+pub use Rattle.gnss_obs.specs.declared.fault.PlanFault.TheVariants.{RepeatedCode}
+pub use Rattle.gnss_obs.specs.declared.system.System.{System}
+pub use Rattle.gnss_obs.specs.declared.system.System.TheVariants.{Galileo, Gps}
+pub use Rattle.obs_epoch.specs.Cells.{counts_of, counts_of_message, has_listed_key, is_planned, no_counts, offered, with_skipped}
+pub use Rattle.obs_epoch.specs.Heard.{GatherSetup, Heard, heard, is_own, lock_by, observed, seen_in, system_of}
+pub use Rattle.obs_epoch.specs.SignalCounts.{AreSignalCounts, CountsMessage, SignalCountsValue, brings_value, count_of, counted, has_any, is_of_signal, is_of_station, signal_in, valued}
+pub use Rattle.obs_epoch.specs.Times.{Timed, ahead, greatest_time, is_closed, is_past, max_known, taken_at, timed_after}
+pub use Rattle.rinex_file.specs.Counting.{AreCounts, IsSummary}
+pub use Rattle.rinex_file.specs.Exact.{IsNoFault}
+pub use Rattle.rinex_file.specs.File.{file_text}
+pub use Rattle.rinex_file.specs.FileValues.{IsFileValue}
+pub use Rattle.rinex_file.specs.ParserState.{rows_in}
+pub use Rattle.rinex_file.specs.Value.{FileValue}
+pub use Rattle.rinex_file.specs.declared.read.fault.ReadFault.{ReadFault}
+pub use Rattle.rinex_file.specs.declared.read.fault.ReadFault.TheVariants.{BadEpoch, BadEvent, BadHeader, BadSatellite, CutShort, Memory, Read, TooLong}
+pub use Rattle.rinex_file.specs.declared.read.file.FileSummary.{FileSummary}
+unfoldable pub use Rattle.rtcm_bits.specs.Bits.{bits_of}
+pub use Rattle.rtcm_bits.specs.Bits.{FitsInt, bit, filled, missing, number, uint}
+pub use Rattle.rtcm_bits.specs.Cursors.{Cursor}
+pub use Rattle.rtcm_bits.specs.Device.{AppendsPrefix, Device, FailsWith, HasFailed}
+pub use Rattle.rtcm_bits.specs.FrameOf.{frame_bytes}
+pub use Rattle.rtcm_bits.specs.Prefix.{IsPrefix}
+pub use Rattle.rtcm_bits.specs.declared.counted.DeviceFailed.{DeviceFailed}
+unfoldable pub use Rattle.rtcm_inspect.specs.Checking.{check_line}
+pub use Rattle.rtcm_inspect.specs.Checking.{AreLinesOf, ChecksWhole, IsCheckedOr, IsLineOf, StopsAnyCheck}
+pub use Rattle.rtcm_inspect.specs.Counting.{AreSignals, Counts, HasCounted, IsCounted, NeverFails, StopsCounting}
+unfoldable pub use Rattle.rtcm_inspect.specs.DateTexts.{time_line}
+pub use Rattle.rtcm_inspect.specs.DateTexts.{clock_text, date_text, times_lines}
+pub use Rattle.rtcm_inspect.specs.Devices.{Ends, HaveFailedBy, ReadFailures, stream_fault}
+pub use Rattle.rtcm_inspect.specs.FirstMessages.{AreFirst, first_in, first_station, first_tow, mixed_of, one_of, point_of, sender, stations_in, stations_of, tow_of, with_other}
+unfoldable pub use Rattle.rtcm_inspect.specs.Fitting.{options_line}
+pub use Rattle.rtcm_inspect.specs.Fitting.{antenna_words, number_start, number_words, position_word, station_words}
+unfoldable pub use Rattle.rtcm_inspect.specs.FrameLines.{frame_line, number_word}
+pub use Rattle.rtcm_inspect.specs.Lines.{line, with_words}
+pub use Rattle.rtcm_inspect.specs.Listing.{EndsListing, Lists, ListsAll, ListsDecided, ListsPart, ListsToLimit, ListsUpTo, StopsListing, WritesLine, listing_line, listing_lines}
+pub use Rattle.rtcm_inspect.specs.Messages.{heard_in, heard_of}
+pub use Rattle.rtcm_inspect.specs.Metres.{metres}
+pub use Rattle.rtcm_inspect.specs.NearWeek.{IsNearestWeek, IsWeekFor, half_week}
+pub use Rattle.rtcm_inspect.specs.OptionOutput.{AreOptionsOf, EndsOptions}
+pub use Rattle.rtcm_inspect.specs.Printing.{EndsPrinting, PrintsLine}
+pub use Rattle.rtcm_inspect.specs.ReadBack.{AreEncoded, AreKnown, AreReadAs, ReadsBack}
+unfoldable pub use Rattle.rtcm_inspect.specs.ShowLines.{fault_line, msm_line, show_line, station_line}
+pub use Rattle.rtcm_inspect.specs.ShowLines.{fault_words, height_words, read_line}
+pub use Rattle.rtcm_inspect.specs.SignalLaws.{SkipsOnly}
+pub use Rattle.rtcm_inspect.specs.SignalOutput.{EndsSignals, ReadsTooMuch, SignalText}
+unfoldable pub use Rattle.rtcm_inspect.specs.Signals.{count_line}
+pub use Rattle.rtcm_inspect.specs.Signals.{code_list, codes_word, count_lines, had, had_below, letter, lines_below, plan_had, signals_text, valued_in, valued_of}
+pub use Rattle.rtcm_inspect.specs.WeekLaws.{first_time}
+pub use Rattle.rtcm_inspect.specs.declared.counting.StreamSignals.{StreamSignals}
+pub use Rattle.rtcm_inspect.specs.declared.fault.InspectFault.{InspectFault}
+pub use Rattle.rtcm_inspect.specs.declared.first_messages.FirstMessages.{FirstMessages}
+pub use Rattle.rtcm_inspect.specs.declared.first_messages.Stations.{Stations}
+pub use Rattle.rtcm_inspect.specs.declared.first_messages.Stations.TheVariants.{One, Several, Unknown}
+pub use Rattle.rtcm_inspect.specs.declared.listing.Listing.{Listing}
+pub use Rattle.rtcm_msg.specs.Decoding.{message_at}
+pub use Rattle.rtcm_msg.specs.Encoding.{IsEncoding, IsMessage, ReadsMessage, is_other, message_bits}
+pub use Rattle.rtcm_msg.specs.Entries.{entries}
+pub use Rattle.rtcm_msg.specs.Msm.{MasksValue, MsmValue}
+pub use Rattle.rtcm_msg.specs.Station.{InRange}
+pub use Rattle.rtcm_msg.specs.Viewed.{viewed_message}
+pub use Rattle.rtcm_msg.specs.Views.{FormedMsm, formed, message_in, message_number}
+pub use Rattle.rtcm_msg.specs.declared.entry.Entry.{Entry}
+pub use Rattle.rtcm_msg.specs.declared.entry.LockField.{LockField}
+pub use Rattle.rtcm_msg.specs.declared.entry.LockField.TheVariants.{Df402, Df407}
+pub use Rattle.rtcm_msg.specs.declared.fault.MsgFault.{MsgFault}
+pub use Rattle.rtcm_msg.specs.declared.header.MsmHeader.{MsmHeader}
+pub use Rattle.rtcm_msg.specs.declared.message.Message.{Message}
+pub use Rattle.rtcm_msg.specs.declared.message.Message.TheVariants.{Msm4, Msm7, Other, Station}
+pub use Rattle.rtcm_msg.specs.declared.station.StationParts.{StationParts}
+pub use Rattle.rtcm_msg.specs.declared.view.Form.{Form}
+pub use Rattle.rtcm_scan.specs.Decided.{decided_frames}
+pub use Rattle.rtcm_scan.specs.Drained.{IsDrained}
+pub use Rattle.rtcm_scan.specs.Examined.{HasExamined, IsCountedExactly}
+pub use Rattle.rtcm_scan.specs.Frames.{AreFrames, Framed, frames_of}
+pub use Rattle.rtcm_scan.specs.Known.{known_frames}
+pub use Rattle.rtcm_scan.specs.Local.{placed}
+pub use Rattle.rtcm_scan.specs.Passing.{AtFault, BreaksReading, Coming, HasPassedAll, Passes, PassesAll, PassesToLimit, Reads}
+pub use Rattle.rtcm_scan.specs.Results.{framed}
+pub use Rattle.rtcm_scan.specs.Scan.{FramerValue}
+pub use Rattle.rtcm_scan.specs.declared.feed.StreamFault.{StreamFault}
+pub use Rattle.std.proofs.KnownBytes.{Appends-kept, Appends-nil, Appends-trans}
+pub use Rattle.std.proofs.lemmas.Bool.{le-leb, lt-leb}
+pub use Rattle.std.proofs.lemmas.Fmt.{decimal_digit}
+pub use Rattle.std.proofs.lemmas.Grind.{flat_map-append}
+pub use Rattle.std.proofs.lemmas.Int.{to_z-of_z}
+pub use Rattle.std.proofs.lemmas.List.{map-append}
+pub use Rattle.std.proofs.lemmas.List.Elements.{All-append, All-cons, All-filter, All-head, All-nil, All-tail, filter-append, filter_map-append}
+pub use Rattle.std.proofs.lemmas.List.Folds.{find-append, list_any-append}
+pub use Rattle.std.proofs.lemmas.List.Sums.{count_by-le-length, length-filter, sum_by-cons}
+pub use Rattle.std.specs.Io.KnownBytes.{Appends, Keeps}
+pub use Rattle.std.specs.List.{cons_option, count_by, flat_map, join_with_byte, list_any, position_or_len}
+pub use Rattle.std.specs.Option.{option_map, option_map_or, option_or}
+pub use Rattle.std.specs.Prelude.{codes, cond, filter_map, if◌then◌else◌, nat_le, nat_lt, option_and_then, position, ⊤}
+pub use Rattle.std.specs.Result.{IsErrAnd}
+pub use Rattle.std.specs.Str.{bytes_eq}
