@@ -2,56 +2,20 @@
 //! written, or nothing is read.
 ghost use Rattle.std.specs.Prelude.{◌≡◌, ◌↔◌, ◌+◌, ◌-◌, ◌*◌, ◌/◌, ◌%◌, ◌^◌, ◌≤◌, ◌<◌, ◌==◌};
 ghost use Rattle.std.specs.List.{prefix_len};
-ghost use Rattle.std.specs.Prelude.{length, take, drop, replicate, set, slice_index, IfSome, IsTrue, Some};
+ghost use Rattle.std.specs.Prelude.{length, take, drop, replicate, slice_index, IfSome, IsTrue, Some};
 ghost use Rattle.rinex_file.specs.FileValues.{FitsColumns};
 ghost use Rattle.rinex_file.specs.Lines.{field};
 ghost use Rattle.rinex_file.specs.Read.Fields.{ReadsExactly};
-ghost use Rattle.rinex_file.specs.Words.{template, AreBelow, AreWithin, digit_columns};
+ghost use Rattle.rinex_file.specs.Words.{AreBelow, AreWithin, digit_columns};
 ghost use Rattle.rinex_file.specs.Words.{field_row, field_row_with, twos_of};
 
 use crate::read::numbers::signed;
+use crate::write::lanes::template_in;
 use gnss_obs::Thousandths;
 use std::simd::prelude::*;
 
-/// The columns to which the digits of a value are added, for each number of blanks before it: those
-/// of a value that isn't negative, then, from row 16 on, those of one that is. No value has the
-/// other rows.
-static TEMPLATES: [[u8; 16]; 32] = [
-    *b"0000000000.000  ",
-    *b" 000000000.000  ",
-    *b"  00000000.000  ",
-    *b"   0000000.000  ",
-    *b"    000000.000  ",
-    *b"     00000.000  ",
-    *b"      0000.000  ",
-    *b"       000.000  ",
-    *b"        00.000  ",
-    *b"         0.000  ",
-    *b"0000000000.000  ",
-    *b"0000000000.000  ",
-    *b"0000000000.000  ",
-    *b"0000000000.000  ",
-    *b"0000000000.000  ",
-    *b"0000000000.000  ",
-    *b"-000000000.000  ",
-    *b" -00000000.000  ",
-    *b"  -0000000.000  ",
-    *b"   -000000.000  ",
-    *b"    -00000.000  ",
-    *b"     -0000.000  ",
-    *b"      -000.000  ",
-    *b"       -00.000  ",
-    *b"        -0.000  ",
-    *b"0000000000.000  ",
-    *b"0000000000.000  ",
-    *b"0000000000.000  ",
-    *b"0000000000.000  ",
-    *b"0000000000.000  ",
-    *b"0000000000.000  ",
-    *b"0000000000.000  ",
-];
-
-/// The least size in thousandths of a value in each row, and the one after the largest.
+/// The least size in thousandths of a value in each row of the templates, and the one after the
+/// largest.
 static SIZES: [[u64; 2]; 32] = [
     [1_000_000_000_000, 10_000_000_000_000],
     [100_000_000_000, 1_000_000_000_000],
@@ -89,16 +53,6 @@ static SIZES: [[u64; 2]; 32] = [
 
 /// The largest digit in each column of a value. The last two columns have none.
 const LIMITS: [u8; 16] = [9, 9, 9, 9, 9, 9, 9, 9, 9, 9, 0, 9, 9, 9, 255, 255];
-
-/// Returns the columns of this row.
-#[inline(always)]
-fn template_in(row: usize) -> u8x16
-    requires { row < 32 }
-    ensures plain { row ≤ 9 → result ≡ template 9 row }
-    ensures signed { 16 ≤ row → row ≤ 24 → result ≡ set (template 9 (row - 15)) (row - 16) 45 }
-{
-    u8x16::from_array(TEMPLATES[row])
-}
 
 /// Returns the least size in thousandths of this row, and the one after the largest.
 #[inline(always)]

@@ -8,9 +8,10 @@ ghost use Rattle.rinex_file.specs.Words.{digit_columns, leading, template};
 
 use std::simd::prelude::*;
 
-/// The columns to which the digits of a value are added, for each index of its first digit: those
-/// of a value that isn't negative, then those of one that is.
-static TEMPLATES: [[u8; 16]; 20] = [
+/// The columns to which the digits of a value are added, for each number of blanks before it: those
+/// of a value that isn't negative, then, from row 16 on, those of one that is. No value has the
+/// other rows, but a reader finds a row for any columns.
+static TEMPLATES: [[u8; 16]; 32] = [
     *b"0000000000.000  ",
     *b" 000000000.000  ",
     *b"  00000000.000  ",
@@ -22,6 +23,11 @@ static TEMPLATES: [[u8; 16]; 20] = [
     *b"        00.000  ",
     *b"         0.000  ",
     *b"0000000000.000  ",
+    *b"0000000000.000  ",
+    *b"0000000000.000  ",
+    *b"0000000000.000  ",
+    *b"0000000000.000  ",
+    *b"0000000000.000  ",
     *b"-000000000.000  ",
     *b" -00000000.000  ",
     *b"  -0000000.000  ",
@@ -31,6 +37,13 @@ static TEMPLATES: [[u8; 16]; 20] = [
     *b"      -000.000  ",
     *b"       -00.000  ",
     *b"        -0.000  ",
+    *b"0000000000.000  ",
+    *b"0000000000.000  ",
+    *b"0000000000.000  ",
+    *b"0000000000.000  ",
+    *b"0000000000.000  ",
+    *b"0000000000.000  ",
+    *b"0000000000.000  ",
 ];
 
 /// Zero for each digit that may be a leading zero. No digit is equal to the others.
@@ -127,6 +140,17 @@ fn zeros(digits: u8x16) -> usize
         .trailing_zeros() as usize
 }
 
+/// Returns the columns of this row of the templates.
+#[inline(always)]
+pub(crate) fn template_in(row: usize) -> u8x16
+    requires { row < 32 }
+    ensures lanes { row ≤ 24 → length result ≡ 16 }
+    ensures plain { row ≤ 9 → result ≡ template 9 row }
+    ensures signed { 16 ≤ row → row ≤ 24 → result ≡ set (template 9 (row - 15)) (row - 16) 45 }
+{
+    u8x16::from_array(TEMPLATES[row])
+}
+
 /// Returns the columns to which the digits of a value are added.
 #[inline(always)]
 fn template(start: usize, negative: bool) -> u8x16
@@ -135,8 +159,7 @@ fn template(start: usize, negative: bool) -> u8x16
     ensures plain { negative ≡ false → result ≡ template 9 start }
     ensures signed { negative ≡ true → 1 ≤ start → result ≡ set (template 9 start) (start - 1) 45 }
 {
-    let row = if negative { start + 10 } else { start };
-    u8x16::from_array(TEMPLATES[row])
+    template_in(if negative { start + 15 } else { start })
 }
 
 /// Returns the columns of a value with these digits: blanks, a minus if it is negative, its whole
