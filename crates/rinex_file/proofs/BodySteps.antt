@@ -1,32 +1,9 @@
 -- The steps of a reading from one line of an epoch to the next.
-use Rattle.std.specs.List.Sorted.{IsStrictlyIncreasing}
-use Rattle.std.specs.Prelude.{All, map, flat_map, if◌then◌else◌, nat_lt, Result, Ok, Err}
-use Rattle.std.specs.Result.{IsErrAnd}
 use Rattle.std.proofs.Common.{arith, ◌≡◌, refl, ℕ, ◌<◌, List, [], ◌∷◌, ◌++◌, length, length-append, suc, ◌+◌, ◌≤◌, sym, ap, ap₂, subst, ◌∙◌, append_assoc, append-nil, zero-add, drop, get_or, Option, Some, None, Bool}
-use Rattle.std.proofs.lemmas.List.{get_or_append_left, map-append}
-use Rattle.std.proofs.lemmas.Grind.{common_steps}
-use Rattle.std.proofs.lemmas.List.Elements.{All-head, All-tail, All-nil, All-push}
-use Rattle.std.proofs.lemmas.List.Concat.{flat_map-append}
-use Rattle.gnss_obs.specs.declared.system.System.{System}
-use Rattle.gnss_obs.specs.declared.system.System.TheVariants.{Gps, Galileo}
-use Rattle.gnss_obs.specs.Values.{PlanValue, planned_of}
-use Rattle.gnss_obs.specs.Dates.{civil_of}
-use Rattle.gnss_obs.specs.declared.cell.StationValues.{StationValues}
-use Rattle.rinex_file.specs.Value.{Stamped, SatelliteRow, FileValue}
-use Rattle.rinex_file.specs.FileValues.{time_stamped, IsFileValue, IsPlan, IsStamped, IsSatelliteRow, AreSatelliteRows, IsTime, IsChange, AreChanges, IsFirstSame, changed_by, values_following, rank_of, most_rows}
-use Rattle.rinex_file.specs.declared.read.expected.Expected.TheVariants.{Epoch, Satellite}
-use Rattle.rinex_file.specs.Lines.{epoch_line, satellite_line}
-use Rattle.rinex_file.specs.File.{stamped_lines, change_lines, event_line}
-use Rattle.rinex_file.specs.Read.Progress.{Progress, file_with, stamped, StartsAt, IsAt, IsBetween, IsInEvent, IsInEpoch, HasLinesLeft, epoch_after, begun_at, with_row, with_epoch}
-use Rattle.rinex_file.specs.Read.Sound.{AreRead, IsBegun, IsEventExpected, IsSoundAt, IsSound, MayBegin, values_now, AreLinesAt}
-use Rattle.rinex_file.specs.Begun.{lines_of_header, whole_lines, part_lines}
-use Rattle.rinex_file.specs.declared.read.expected.Added.{Added}
-use Rattle.rinex_file.specs.declared.read.expected.Refusal.{Refusal}
-use Rattle.rinex_file.specs.declared.read.expected.Refusal.TheVariants.{Memory, Bad}
-use Rattle.rinex_file.specs.declared.read.parser_state.ParserState.{ParserState}
-use Rattle.rinex_file.specs.ParserState.{History, FollowsHistory, GoesOnWithLine, ShowsLine, RefusesLine, TakesLine, HasRoom, progress_at}
+use Rattle.rinex_file.specs.ParserState.{HasRoom}
 use Rattle.rinex_file.proofs.FewRows.{few_rows, few_planned}
 use Rattle.rinex_file.proofs.Entries.{few_signals}
+use Rattle.rinex_file.proofs.Names.{IsStrictlyIncreasing, All, map, flat_map, if◌then◌else◌, nat_lt, Result, Ok, Err, IsErrAnd, get_or_append_left, map-append, common_steps, All-head, All-tail, All-nil, All-push, flat_map-append, System, Gps, Galileo, PlanValue, planned_of, civil_of, StationValues, Stamped, SatelliteRow, FileValue, time_stamped, IsFileValue, IsPlan, IsStamped, IsSatelliteRow, AreSatelliteRows, IsTime, IsChange, AreChanges, IsFirstSame, changed_by, values_following, rank_of, most_rows, Epoch, Satellite, epoch_line, satellite_line, stamped_lines, change_lines, event_line, Progress, file_with, stamped, StartsAt, IsAt, IsBetween, IsInEvent, IsInEpoch, HasLinesLeft, epoch_after, begun_at, with_row, with_epoch, AreRead, IsBegun, IsEventExpected, IsSoundAt, IsSound, MayBegin, values_now, AreLinesAt, lines_of_header, whole_lines, part_lines, Added, Refusal, Memory, Bad, ParserState, History, FollowsHistory, GoesOnWithLine, ShowsLine, RefusesLine, TakesLine, progress_at}
 
 -- a line was refused: memory ran out, or no file continues with it
 pub stopped : {Q : Refusal → Type 0} (old new : ParserState) (line : List ℕ) (r : Result Added Refusal) → IsErrAnd r Q → ((e : Refusal) → Q e → e ≡ Bad → (h : History) → FollowsHistory old h → RefusesLine (progress_at old h) line)

@@ -1,28 +1,9 @@
 -- A satellite's cells, each stored at its signal's index in the plan.
 use Rattle.std.proofs.Common.{arith, ◌≡◌, ◌∙◌, sym, ap, ap₂, refl, subst, ℕ, ℤ, zero, suc, ◌+◌, ◌*◌, ◌-◌, ◌<◌, ◌≤◌, List, [], ◌∷◌, ◌++◌, map, take, drop, length, replicate, get_or, append_assoc, append-nil, length-append, Bool, false, ◌==◌, Option, Some, None, slice_set}
-use Rattle.std.specs.Prelude.{◌&&◌, ◌≢◌, ◌||◌, nat_eq, find, flat_map, position, All, is_some, if◌then◌else◌}
-use Rattle.std.specs.Option.{option_map_or}
-use Rattle.std.specs.List.{IsDistinct, position_or_len}
-use Rattle.std.proofs.lemmas.List.{drop_at, drop_all, length-drop, drop_more, set_at, length-take-le, length-replicate, length-set, take-append-le, drop-append-le, drop-take, replicate-append-replicate}
-use Rattle.std.proofs.lemmas.Bool.{cond_both, and_from, and_right, eq-eqb, ne_eqb, eqb-true, eqb-false}
-use Rattle.std.proofs.lemmas.List.Concat.{flat_map-append}
-use Rattle.std.proofs.lemmas.List.Quantifiers.{position-Some}
-use Rattle.std.proofs.lemmas.List.Elements.{All-from_recursion, All-head, All-tail, All-map, All-append, All-drop, All-replicate}
-use Rattle.std.proofs.lemmas.List.Sums.{fails_before_first}
-use Rattle.gnss_obs.specs.declared.system.System.{System}
-use Rattle.gnss_obs.specs.declared.cell.Cell.{Cell}
-use Rattle.gnss_obs.specs.Values.{IsHeld}
-use Rattle.rinex_file.specs.Value.{SignalValues, signal_values_of, no_signal_values, signal_values_at, is_of_key}
-use Rattle.rinex_file.specs.FileValues.{HaveRoom, has_some_value}
-use Rattle.rinex_file.specs.Blanks.{trimmed}
-use Rattle.rinex_file.specs.Lines.{field, signal_text}
 use Rattle.rinex_file.proofs.HeaderText.{trimmed-blanks}
 use Rattle.rinex_file.proofs.RowText.{if_fits, length-room, length-signals}
-use Rattle.rinex_file.specs.Rows.{HasSignals}
-use Rattle.rinex_file.specs.Numbers.{padded}
 use Rattle.rinex_file.proofs.DigitWords.{two_digits}
-use Rattle.std.proofs.lemmas.Grind.{replicate_next}
-use Rattle.std.proofs.Math.Seq.{take-append-add, drop-append-add}
+use Rattle.rinex_file.proofs.Names.{◌&&◌, ◌≢◌, ◌||◌, nat_eq, find, flat_map, position, All, is_some, if◌then◌else◌, option_map_or, IsDistinct, position_or_len, drop_at, drop_all, length-drop, drop_more, set_at, length-take-le, length-replicate, length-set, take-append-le, drop-append-le, drop-take, replicate-append-replicate, cond_both, and_from, and_right, eq-eqb, ne_eqb, eqb-true, eqb-false, flat_map-append, position-Some, All-from_recursion, All-head, All-tail, All-map, All-append, All-drop, All-replicate, fails_before_first, System, Cell, IsHeld, SignalValues, signal_values_of, no_signal_values, signal_values_at, is_of_key, HaveRoom, has_some_value, trimmed, field, signal_text, HasSignals, padded, replicate_next, take-append-add, drop-append-add}
 
 -- ---- what a cell before others changes
 

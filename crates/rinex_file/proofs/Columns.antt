@@ -1,16 +1,7 @@
 -- The columns of a value: blanks, a sign, digits, a point and three digits.
 use Rattle.std.proofs.Common.{arith, ◌≡◌, ◌∙◌, inl, inr, sym, ap, refl, ℕ, zero, suc, ◌+◌, ◌-◌, ◌/◌, ◌%◌, ◌^◌, ◌<◌, ◌≤◌, List, [], ◌∷◌, ◌++◌, length, replicate, append_assoc, length-append, decimal, ℤ, pos, negsuc, unsigned_abs, true, false}
-use Rattle.std.specs.Prelude.{set, Some}
-use Rattle.std.specs.Int.{is_negative}
-use Rattle.std.specs.Fmt.{sign_text}
-use Rattle.std.proofs.lemmas.Bool.{cases_Bool}
-use Rattle.std.proofs.lemmas.Fmt.{length-decimal-le}
-use Rattle.std.proofs.lemmas.List.{length-replicate, length-set, replicate-append-replicate, set_at}
-use Rattle.std.proofs.lemmas.Int.{ints}
-use Rattle.rinex_file.specs.FileValues.{FitsColumns}
-use Rattle.rinex_file.specs.Numbers.{padded, right, fixed}
-use Rattle.rinex_file.specs.Lines.{field}
 use Rattle.rinex_file.proofs.DigitWords.{three_digits}
+use Rattle.rinex_file.proofs.Names.{set, Some, is_negative, sign_text, cases_Bool, length-decimal-le, length-replicate, length-set, replicate-append-replicate, set_at, ints, FitsColumns, padded, right, fixed, field}
 
 three_parts : (d p : List ℕ) (sign : List ℕ) (r n : ℕ) → r + length d ≡ 10 → length p ≡ 3 → length sign ≡ n → 14 - length ((sign ++ d) ++ 46 ∷ p) ≡ r - n
 three_parts d p sign r n e k l = simp length-append (omega (arith, e, k, l))

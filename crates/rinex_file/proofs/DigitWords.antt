@@ -1,11 +1,6 @@
 -- Digits of a number as columns, with blanks or zeros before them.
 use Rattle.std.proofs.Common.{arith, ◌≡◌, ◌∙◌, sym, ap, ap₂, refl, ℕ, zero, suc, ◌+◌, ◌-◌, ◌*◌, ◌/◌, ◌%◌, ◌^◌, ◌<◌, ◌≤◌, List, [], ◌∷◌, ◌++◌, map, length, drop, replicate, get_or, append_assoc, append-nil, length-append, inl, inr}
-use Rattle.std.proofs.lemmas.Bool.{cases_lt}
-use Rattle.std.proofs.Math.Nat.{pow-suc}
-use Rattle.std.proofs.lemmas.Fmt.{decimal_digit, decimal_step}
-use Rattle.std.proofs.lemmas.Grind.{replicate_next}
-use Rattle.rinex_file.specs.Numbers.{padded}
-use Rattle.rinex_file.specs.Words.{digits_onto, leading, spaced}
+use Rattle.rinex_file.proofs.Names.{cases_lt, pow-suc, decimal_digit, decimal_step, replicate_next, padded, digits_onto, leading, spaced}
 
 -- digits that are those of a number after zeros
 abbrev pub IsSpaced : List ℕ → ℕ → List ℕ → Type 0

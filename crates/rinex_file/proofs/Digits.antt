@@ -1,14 +1,6 @@
 -- A number that was written is read back, so its text determines it.
 use Rattle.std.proofs.Common.{rules, arith, ◌≡◌, ℕ, zero, suc, ◌+◌, ◌-◌, ◌*◌, ◌/◌, ◌%◌, ◌^◌, ◌<◌, ◌≤◌, List, [], ◌∷◌, ◌++◌, length, replicate, decimal, refl, sym, ap, ◌∙◌, Bool, false, append_assoc, length-append, ℤ, pos, negsuc, neg_ℤ, unsigned_abs}
-use Rattle.std.specs.Prelude.{◌||◌, ◌==◌, if◌then◌else◌}
-use Rattle.std.specs.Int.{is_negative}
-use Rattle.std.specs.Fmt.{sign_text}
-use Rattle.std.proofs.Math.Nat.{pow-suc, div-le_self, mod-le, mod-lt}
-use Rattle.std.proofs.lemmas.Nat.{pow-add, div-add-mod'}
-use Rattle.std.proofs.lemmas.List.{length-replicate}
-use Rattle.std.proofs.lemmas.Fmt.{decimal_by_steps, length-decimal-le}
-use Rattle.rinex_file.specs.Numbers.{right, padded, fixed}
-use Rattle.rinex_file.specs.Read.Fields.{next_digit, digits_from, digits_in, has, number_in}
+use Rattle.rinex_file.proofs.Names.{◌||◌, ◌==◌, if◌then◌else◌, is_negative, sign_text, pow-suc, div-le_self, mod-le, mod-lt, pow-add, div-add-mod', length-replicate, decimal_by_steps, length-decimal-le, right, padded, fixed, next_digit, digits_from, digits_in, has, number_in}
 
 pub digits_from-append : (n : ℕ) (xs ys : List ℕ) → digits_from n (xs ++ ys) ≡ digits_from (digits_from n xs) ys
 digits_from-append n [] ys = refl

@@ -1,20 +1,9 @@
 -- A date and time of day is read back from its columns.
 use Rattle.std.proofs.Common.{arith, ◌≡◌, ℕ, zero, suc, ◌+◌, ◌-◌, ◌*◌, ◌/◌, ◌%◌, ◌^◌, ◌<◌, ◌≤◌, List, [], ◌∷◌, ◌++◌, refl, sym, ap, ap₂, ◌∙◌, length, get_or, take, drop, replicate, append_assoc, decimal, pos, subst}
-use Rattle.std.specs.Prelude.{codes, min, ⊤}
-use Rattle.std.specs.Int.{is_negative}
-use Rattle.std.specs.Fmt.{sign_text}
-use Rattle.std.proofs.lemmas.Fmt.{length-decimal-le}
-pub use Rattle.std.proofs.lemmas.Option.{none-some as none_some, same_Some}
-use Rattle.std.proofs.lemmas.List.{take_at, drop_at, drop-drop}
-use Rattle.std.proofs.lemmas.Nat.{div-add-mod'}
-use Rattle.gnss_obs.specs.declared.civil.Civil.{Civil}
 use Rattle.gnss_obs.specs.Weeks.{day as day_length}
-use Rattle.gnss_obs.specs.Dates.{IsCivilOf, civil_of}
-use Rattle.rinex_file.specs.Numbers.{joined, left, right, padded, fixed}
-use Rattle.rinex_file.specs.Read.Fields.{digits_in}
-use Rattle.rinex_file.specs.Lines.{epoch_line}
-use Rattle.rinex_file.specs.Header.{header_line, first_line}
 use Rattle.rinex_file.proofs.Digits.{length-right, length-padded, length-fixed, not_negative, digits_in-right, digits_in-fixed, digits_in-padded, digits_in-whole}
+use Rattle.rinex_file.proofs.Names.{codes, min, ⊤, is_negative, sign_text, length-decimal-le, take_at, drop_at, drop-drop, div-add-mod', Civil, IsCivilOf, civil_of, joined, left, right, padded, fixed, digits_in, epoch_line, header_line, first_line}
+pub use Rattle.std.proofs.lemmas.Option.{none-some as none_some, same_Some}
 
 -- ---- fields of fixed widths, one after the other
 

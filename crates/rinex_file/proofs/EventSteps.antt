@@ -1,26 +1,8 @@
 -- The steps of a reading from one line of an event to the next.
 use Rattle.std.proofs.Common.{arith, lit<, ◌≡◌, ◌≢◌, ℕ, zero, suc, ◌<◌, ◌^◌, ◌-◌, ◌*◌, ◌/◌, ◌%◌, unsigned_abs, ℤ, pos, get_or, List, [], ◌∷◌, ◌++◌, refl, sym, ap, subst, ◌∙◌, length, drop, append_assoc, replicate, decimal, Option, Some, None, true, false}
-use Rattle.std.specs.Prelude.{⊤, ◌||◌, flat_map}
-use Rattle.std.specs.Int.{is_negative}
-use Rattle.std.specs.Fmt.{sign_text}
-use Rattle.gnss_obs.specs.Dates.{civil_of}
-use Rattle.gnss_obs.specs.declared.civil.Civil.{Civil}
-use Rattle.gnss_obs.specs.declared.cell.StationValues.{StationValues}
-use Rattle.rinex_file.specs.declared.read.expected.Expected.{Expected}
-use Rattle.rinex_file.specs.declared.read.expected.Expected.TheVariants.{Epoch, EventPosition, EventHeight, EventEpoch}
-use Rattle.rinex_file.specs.Value.{Stamped, FileValue}
-use Rattle.rinex_file.specs.FileValues.{IsFileValue, AreValues, IsChange}
-use Rattle.rinex_file.specs.Header.{position_line, height_line, delta_line}
-use Rattle.rinex_file.specs.Lines.{epoch_fields, epoch_line}
-use Rattle.rinex_file.specs.Numbers.{joined, padded, fixed}
-use Rattle.rinex_file.specs.Read.Fields.{has}
-use Rattle.rinex_file.specs.File.{stamped_lines, event_line}
-use Rattle.rinex_file.specs.Begun.{whole_lines}
-use Rattle.rinex_file.specs.ParserState.{GoesOnWithLine, ShowsLine}
-use Rattle.rinex_file.specs.Read.Progress.{Progress, file_with, StartsAt, IsAt, IsBetween, IsInEvent, IsPosition, position_of, HasLinesLeft, expected_next}
-use Rattle.rinex_file.specs.Read.Sound.{IsSound, AreLinesAt, values_now}
 use Rattle.rinex_file.proofs.Digits.{has-append}
 use Rattle.rinex_file.proofs.BodySteps.{lines_with, lines_are, changes_midst, sound_between}
+use Rattle.rinex_file.proofs.Names.{⊤, ◌||◌, flat_map, is_negative, sign_text, civil_of, Civil, StationValues, Expected, Epoch, EventPosition, EventHeight, EventEpoch, Stamped, FileValue, IsFileValue, AreValues, IsChange, position_line, height_line, delta_line, epoch_fields, epoch_line, joined, padded, fixed, has, stamped_lines, event_line, whole_lines, GoesOnWithLine, ShowsLine, Progress, file_with, StartsAt, IsAt, IsBetween, IsInEvent, IsPosition, position_of, HasLinesLeft, expected_next, IsSound, AreLinesAt, values_now}
 
 -- ---- an event's line isn't that of an epoch, which has a point
 

@@ -1,18 +1,6 @@
 -- A plan has no more signals than the tables, and an epoch no more satellites than the planned systems.
 use Rattle.std.proofs.Common.{arith, ◌≡◌, refl, sym, subst, ℕ, suc, ◌+◌, ◌-◌, ◌<◌, ◌≤◌, Bool, true, false, eqb, List, [], ◌∷◌, length}
-use Rattle.std.specs.Prelude.{◌||◌, if◌then◌else◌, All, map, nat_lt, slice_index}
-use Rattle.std.specs.List.{list_any}
-use Rattle.std.specs.List.Sorted.{IsStrictlyIncreasing}
-use Rattle.std.proofs.lemmas.Bool.{eqb-true, lt-ltb}
-use Rattle.std.proofs.lemmas.List.Elements.{All-head, All-tail}
-use Rattle.std.proofs.lemmas.Map.Steps.{length-le_from_distinct_below}
-use Rattle.gnss_obs.specs.Signals.{table}
-use Rattle.gnss_obs.specs.declared.system.System.{System}
-use Rattle.gnss_obs.specs.declared.system.System.TheVariants.{Gps, Galileo}
-use Rattle.gnss_obs.specs.Values.{PlanValue, planned_of}
-use Rattle.gnss_obs.specs.Satellites.{satellites}
-use Rattle.rinex_file.specs.Value.{SatelliteRow}
-use Rattle.rinex_file.specs.FileValues.{IsPlan, IsSatelliteRow, AreSatelliteRows, of_system, rank_of, most_rows}
+use Rattle.rinex_file.proofs.Names.{◌||◌, if◌then◌else◌, All, map, nat_lt, slice_index, list_any, IsStrictlyIncreasing, eqb-true, lt-ltb, All-head, All-tail, length-le_from_distinct_below, table, System, Gps, Galileo, PlanValue, planned_of, satellites, SatelliteRow, IsPlan, IsSatelliteRow, AreSatelliteRows, of_system, rank_of, most_rows}
 
 -- ---- signals
 

@@ -1,20 +1,11 @@
 -- The columns of a field as lanes: their digits, and the size of which they are.
 use Rattle.std.proofs.Common.{arith, ◌≡◌, ◌∙◌, sym, ap, ap₂, refl, subst, ℕ, zero, suc, ◌+◌, ◌-◌, ◌*◌, ◌/◌, ◌%◌, ◌^◌, ◌<◌, ◌≤◌, List, [], ◌∷◌, ◌++◌, length, get_or, replicate, take, drop, true, eqb, inl, inr, ℤ, pos, negsuc, Some, Fits, w8}
-use Rattle.std.specs.Prelude.{⊤, Bool, set, neg_ℤ, if◌then◌else◌}
-use lib.Dec.{leb}
-use lib.Lanes.{number_l, digits_l, pick_l, zip2, Each1, chunk}
-use Rattle.std.proofs.Math.Nat.{one-le-pow, pow-le-pow_right, pow-suc}
-use Rattle.std.proofs.lemmas.Bool.{agree_below_at, cases_lt, eqb-true, le-leb, lt-leb}
-use Rattle.std.proofs.lemmas.Int.{ints}
-use Rattle.std.proofs.lemmas.List.{length-set, take-take, get_or-take, get_or-drop, length-drop, length-take-le}
-use Rattle.std.proofs.lemmas.Simd.{length-zip2, get_or-zip2}
-use Rattle.rinex_file.specs.FileValues.{FitsColumns}
-use Rattle.rinex_file.specs.Lines.{field}
-use Rattle.rinex_file.specs.Words.{AreBelow, AreWithin, digit_columns, leading, template, twos_of}
-use Rattle.rinex_file.specs.declared.read.fields.TheConstants.{LIMITS}
 use Rattle.rinex_file.proofs.Digits.{not_negative}
 use Rattle.rinex_file.proofs.Columns.{plain_text, signed_text}
 use Rattle.rinex_file.proofs.LaneColumns.{added, front, rest_with, start_is, length-template, plain_columns_with, signed_columns_with}
+use Rattle.rinex_file.proofs.Names.{⊤, Bool, set, neg_ℤ, if◌then◌else◌, one-le-pow, pow-le-pow_right, pow-suc, agree_below_at, cases_lt, eqb-true, le-leb, lt-leb, ints, length-set, take-take, get_or-take, get_or-drop, length-drop, length-take-le, length-zip2, get_or-zip2, FitsColumns, field, AreBelow, AreWithin, digit_columns, leading, template, twos_of, LIMITS}
+use lib.Dec.{leb}
+use lib.Lanes.{number_l, digits_l, pick_l, zip2, Each1, chunk}
 
 -- ---- numbers of two digits
 

@@ -1,23 +1,12 @@
 -- The row of the columns of a value: of the templates, only that of the row leaves digits of a size of the row.
 use Rattle.std.proofs.Common.{arith, ◌≡◌, ◌∙◌, ◌⊎◌, sym, ap, ap₂, refl, subst, cond, ℕ, zero, suc, ◌+◌, ◌-◌, ◌*◌, ◌/◌, ◌%◌, ◌^◌, ◌<◌, ◌≤◌, List, [], ◌∷◌, ◌++◌, map, length, get_or, replicate, decimal, true, false, eqb, not, inl, inr, ℤ, pos, negsuc, unsigned_abs, Some, w8}
-use Rattle.std.specs.Prelude.{Bool, set, ◌==◌, nat_lt}
-use Rattle.std.specs.List.{prefix_len}
-use lib.Count.{count_trailing_zeros}
-use lib.Lanes.{zip2, mask_l, top}
-use Rattle.std.proofs.lemmas.Bool.{cases_Bool, cases_lt, eqb-true, ne_eqb}
-use Rattle.std.proofs.lemmas.Fmt.{decimal_digit, first_decimal}
-use Rattle.std.proofs.lemmas.List.{length-map, length-set}
-use Rattle.std.proofs.lemmas.List.Sums.{prefix_len-le-length}
-use Rattle.std.proofs.lemmas.Simd.{bitmask_splat, first_set_mask_l, mask_l-mod, length-zip2}
-use Rattle.rinex_file.specs.FileValues.{FitsColumns}
-use Rattle.rinex_file.specs.Lines.{field}
-use Rattle.rinex_file.specs.Numbers.{padded}
-use Rattle.rinex_file.specs.Words.{AreBelow, AreWithin, digit_columns, leading, template, field_row, field_row_with}
-use Rattle.rinex_file.specs.declared.read.fields.TheConstants.{LIMITS}
 use Rattle.rinex_file.proofs.Digits.{not_negative}
 use Rattle.rinex_file.proofs.Columns.{last_blank, plain_text, signed_text, within_columns, within_signed}
 use Rattle.rinex_file.proofs.FieldLanes.{taken, byte_at, set_below, template_below, leads_at}
 use Rattle.rinex_file.proofs.LaneColumns.{added, front, rest_with, start_is, leading-le, length-template, plain_columns_with, signed_columns_with}
+use Rattle.rinex_file.proofs.Names.{Bool, set, ◌==◌, nat_lt, prefix_len, cases_Bool, cases_lt, eqb-true, ne_eqb, decimal_digit, first_decimal, length-map, length-set, prefix_len-le-length, bitmask_splat, first_set_mask_l, mask_l-mod, length-zip2, FitsColumns, field, padded, AreBelow, AreWithin, digit_columns, leading, template, field_row, field_row_with, LIMITS}
+use lib.Count.{count_trailing_zeros}
+use lib.Lanes.{zip2, mask_l, top}
 
 -- ---- columns of which digits are taken
 

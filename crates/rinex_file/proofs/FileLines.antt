@@ -1,25 +1,6 @@
 -- The lines of a file value are lines, and none is longer than the largest line that is read.
 use Rattle.std.proofs.Common.{arith, lit≤, ◌≡◌, ◌∙◌, ap, refl, sym, subst, ℕ, ◌+◌, ◌*◌, ◌^◌, ◌<◌, ◌≤◌, ℤ, pos, false, Option, Some, None, IfSome, List, [], ◌∷◌, ◌++◌, length, replicate, decimal, get_or, append_assoc}
-use Rattle.std.specs.Prelude.{◌==◌, ◌||◌, map, flat_map, All, codes}
-use Rattle.std.specs.List.{AllByRecursion}
-use Rattle.std.proofs.lemmas.Bool.{or_parts}
-use Rattle.std.proofs.lemmas.List.Elements.{All-nil, All-head, All-tail, All-cons, All-append, All-map}
-use Rattle.gnss_obs.specs.Satellites.{satellites}
-use Rattle.gnss_obs.specs.declared.system.System.TheVariants.{Gps, Galileo}
-use Rattle.gnss_obs.specs.declared.cell.StationValues.{StationValues}
-use Rattle.gnss_obs.specs.declared.civil.Civil.{Civil}
-use Rattle.gnss_obs.specs.Dates.{civil_of}
-use Rattle.gnss_obs.specs.Values.{PlanValue}
-use Rattle.rinex_file.specs.Blanks.{trimmed}
-use Rattle.rinex_file.specs.Exact.{IsLine}
-use Rattle.rinex_file.specs.File.{event_line, stamped_lines, change_lines, lines_of_parts as lines_of_file, file_lines}
-use Rattle.rinex_file.specs.FileValues.{AreTexts, IsPlan, AreValues, FitsColumns, AreSignalValues, IsRow, IsSatelliteRow, IsStamped, IsChange, AreChanges, IsFileValue, changed_by, of_system, most_rows}
-use Rattle.rinex_file.specs.Header.{header_lines, position_line, delta_line}
-use Rattle.rinex_file.specs.Lines.{epoch_line, field, lli_byte, strength_byte, signal_text, letter_of, row_text, satellite_line}
-use Rattle.rinex_file.specs.Numbers.{joined, right, padded, fixed}
-use Rattle.rinex_file.specs.Read.Fields.{has}
-use Rattle.rinex_file.specs.Texts.{HeaderLists}
-use Rattle.rinex_file.specs.Value.{SignalValues, Row, SatelliteRow, Stamped, FileValue}
+use Rattle.rinex_file.specs.File.{lines_of_parts as lines_of_file}
 use Rattle.rinex_file.proofs.RowText.{small_value, length-value, strength_fits, few_satellites}
 use Rattle.rinex_file.proofs.KeptFile.{either_few}
 use Rattle.rinex_file.proofs.Cuts.{filled, length-trimmed}
@@ -28,6 +9,7 @@ use Rattle.rinex_file.proofs.FewRows.{few_rows}
 use Rattle.rinex_file.proofs.PlainTexts.{clean-fixed, IsPlain, plain-append, plain-padded, plain, plain-flat_map, plain-joined, also}
 use Rattle.rinex_file.proofs.BodySteps.{few_signals_of}
 use Rattle.rinex_file.proofs.PlainHeader.{IsFileLine, as_line, of_80, whole_field, second_field, no_letter, IsShort, short_time, line_of_position, line_of_delta, lines_of_header}
+use Rattle.rinex_file.proofs.Names.{◌==◌, ◌||◌, map, flat_map, All, codes, AllByRecursion, or_parts, All-nil, All-head, All-tail, All-cons, All-append, All-map, satellites, Gps, Galileo, StationValues, Civil, civil_of, PlanValue, trimmed, IsLine, event_line, stamped_lines, change_lines, file_lines, AreTexts, IsPlan, AreValues, FitsColumns, AreSignalValues, IsRow, IsSatelliteRow, IsStamped, IsChange, AreChanges, IsFileValue, changed_by, of_system, most_rows, header_lines, position_line, delta_line, epoch_line, field, lli_byte, strength_byte, signal_text, letter_of, row_text, satellite_line, joined, right, padded, fixed, has, HeaderLists, SignalValues, Row, SatelliteRow, Stamped, FileValue}
 
 -- ---- epochs
 

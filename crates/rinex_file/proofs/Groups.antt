@@ -1,13 +1,7 @@
 -- The line of a satellite by its own cells.
 use Rattle.std.proofs.Common.{arith, ◌≡◌, ℕ, List, [], ◌∷◌, map, filter, ap₂, refl}
-use Rattle.std.specs.Prelude.{find}
-use Rattle.std.specs.Option.{option_map_or}
-use Rattle.gnss_obs.specs.declared.system.System.{System}
-use Rattle.gnss_obs.specs.declared.cell.Cell.{Cell}
-use Rattle.gnss_obs.specs.Values.{PlanValue, is_of_satellite}
 use Rattle.rinex_file.proofs.SatelliteGroups.{any_from}
-use Rattle.rinex_file.specs.Value.{is_of_key, signal_values_at, signal_values_of, no_signal_values}
-use Rattle.rinex_file.specs.File.{line_among}
+use Rattle.rinex_file.proofs.Names.{find, option_map_or, System, Cell, PlanValue, is_of_satellite, is_of_key, signal_values_at, signal_values_of, no_signal_values, line_among}
 
 find_from : (id index : ℕ) (cells : List Cell) → find (is_of_key id index) (filter (is_of_satellite id) cells) ≡ find (is_of_key id index) cells
 find_from id index [] = refl

@@ -1,30 +1,11 @@
 -- The steps of a reading from the header to the epochs, and its end.
-use Rattle.std.specs.Prelude.{Some, ⊤, map, flat_map}
 use Rattle.std.proofs.Common.{arith, ◌≡◌, ◌∙◌, sym, ap, refl, ℕ, zero, suc, ◌+◌, ◌<◌, pos, List, [], ◌∷◌, ◌++◌, length, Option, IfSome, lit<, subst, take, drop, append-nil, append_assoc, None}
-use Rattle.std.proofs.lemmas.List.Elements.{All-head, All-nil}
-use Rattle.std.proofs.lemmas.List.{length-map, nil_from_length}
-use Rattle.gnss_obs.specs.declared.cell.StationValues.{StationValues}
-use Rattle.gnss_obs.specs.Dates.{civil_of}
-use Rattle.rinex_file.specs.declared.read.parser_state.ParserState.{ParserState}
-use Rattle.rinex_file.specs.declared.read.expected.Expected.{Expected}
-use Rattle.rinex_file.specs.declared.read.expected.Expected.TheVariants.{Header, Epoch, EventPosition, EventHeight, EventEpoch, Satellite}
-use Rattle.rinex_file.specs.FileValues.{IsChange, IsFileValue}
-use Rattle.rinex_file.specs.Begun.{AreBegun, IsEventBegun, lines_of_header, whole_lines}
-use Rattle.rinex_file.specs.Exact.{AreBefore, IsExpectedAt}
-use Rattle.rinex_file.specs.Read.Progress.{Progress, IsPosition, shown_with, lines_after, stamped, Known, Shown, IsShown, IsHeadAt, lines_before, file_with, StartsAt, IsInHeader, IsAt, IsBetween, IsInEvent, position_of, IsInEpoch, HasLinesLeft}
-use Rattle.rinex_file.specs.Read.Sound.{IsSound, IsSoundAt, IsEventExpected, AreLinesAt, values_now, AreRead, AreLinesOf}
-use Rattle.rinex_file.specs.ParserState.{History, FollowsHistory, progress_at, GoesOnWithLine, ShowsLine}
-use Rattle.rinex_file.specs.Read.Steps.{IsTaken}
-use Rattle.rinex_file.specs.Value.{SatelliteRow, Stamped, FileValue}
-use Rattle.rinex_file.specs.Header.{header_lines, row_count}
-use Rattle.rinex_file.specs.Lines.{satellite_line}
-use Rattle.rinex_file.specs.File.{event_lines, stamped_lines, file_lines, lines_of_parts}
-use Rattle.rinex_file.specs.Read.HeaderSteps.{GoesTo, EndsHeader, NoneGoesOn}
 use Rattle.rinex_file.proofs.HeaderAgree.{some_after, split_at, agreed}
 use Rattle.rinex_file.proofs.HeaderSteps.{some_plan, with_is}
 use Rattle.rinex_file.proofs.HeaderEnd.{zero_values, same_header}
 use Rattle.rinex_file.proofs.LineByLine.{consumed}
 use Rattle.rinex_file.proofs.BodySteps.{lines_with, lines_are, sound_open, sound_between}
+use Rattle.rinex_file.proofs.Names.{Some, ⊤, map, flat_map, All-head, All-nil, length-map, nil_from_length, StationValues, civil_of, ParserState, Expected, Header, Epoch, EventPosition, EventHeight, EventEpoch, Satellite, IsChange, IsFileValue, AreBegun, IsEventBegun, lines_of_header, whole_lines, AreBefore, IsExpectedAt, Progress, IsPosition, shown_with, lines_after, stamped, Known, Shown, IsShown, IsHeadAt, lines_before, file_with, StartsAt, IsInHeader, IsAt, IsBetween, IsInEvent, position_of, IsInEpoch, HasLinesLeft, IsSound, IsSoundAt, IsEventExpected, AreLinesAt, values_now, AreRead, AreLinesOf, History, FollowsHistory, progress_at, GoesOnWithLine, ShowsLine, IsTaken, SatelliteRow, Stamped, FileValue, header_lines, row_count, satellite_line, event_lines, stamped_lines, file_lines, lines_of_parts, GoesTo, EndsHeader, NoneGoesOn}
 
 some_lines : (xs : List (List ℕ)) → (xs ≡ [] → ⊥) → 0 < length xs
 some_lines [] some = absurd (some refl)

@@ -1,34 +1,11 @@
 -- The last line of a header, the header that was read, and the start.
-use Rattle.std.specs.Array.{AllOfLen}
 use Rattle.std.proofs.Common.{arith, ◌≡◌, ◌∙◌, sym, ap, ap₂, map, refl, subst, ℕ, ℤ, pos, suc, lit<, lit≤, ◌-◌, ◌<◌, ◌≤◌, Bool, true, false, ◌||◌, min, List, [], ◌∷◌, ◌++◌, length, get_or, take, replicate, All, nat_eq}
-use Rattle.std.specs.List.{IsDistinct}
-use Rattle.std.proofs.lemmas.List.{take_all, ext_get_or}
-use Rattle.std.proofs.lemmas.List.Elements.{All-map, All-weaker}
-use Rattle.std.specs.Prelude.{codes}
-use Rattle.gnss_obs.specs.Signals.{SignalAt, IsSignal, table}
-use Rattle.gnss_obs.specs.declared.system.System.{System}
-use Rattle.gnss_obs.specs.declared.system.System.TheVariants.{Gps, Galileo}
-use Rattle.gnss_obs.specs.SignalLists.{indices, IsOf}
-use Rattle.gnss_obs.specs.Values.{PlanValue, planned_of}
-use Rattle.gnss_obs.specs.declared.cell.StationValues.{StationValues}
-use Rattle.gnss_obs.specs.Dates.{civil_of}
-use Rattle.rinex_file.specs.declared.header.fields.TextRow.{TextRow}
-use Rattle.rinex_file.specs.declared.header.fields.TextRow.TheVariants as row
-use Rattle.rinex_file.specs.declared.header.rows.HeaderRow.TheVariants.{Texts, Position, Delta, First, End}
-use Rattle.rinex_file.specs.Blanks.{trimmed}
-use Rattle.rinex_file.specs.Texts.{HeaderLists, text_count, text_of, width_of, fields, fields_of, text_rows}
-use Rattle.rinex_file.specs.declared.header.fields.HeaderField.{HeaderField}
-use Rattle.rinex_file.specs.declared.header.fields.HeaderField.TheVariants.{AntType}
-use Rattle.rinex_file.specs.FileValues.{IsText, AreTexts, AreValues, IsTime}
-use Rattle.rinex_file.specs.Header.{row_line, row_place, end_line, first_line, first_types, texts_line, position_line, delta_line}
-use Rattle.rinex_file.specs.Read.Fields.{digits_in}
-use Rattle.rinex_file.specs.Read.Progress.{Announced, Known, Shown, AreTypesRead, IsShown, AreValid, MayPlan, IsHeadAt, IsOnlyTime, shown_with, lines_before, announced, signals_begun}
-use Rattle.rinex_file.specs.Read.HeaderSteps.{RefusesHeaderLine, EndsHeader}
-use Rattle.gnss_obs.proofs.PlanLemmas.{none_of}
 use Rattle.rinex_file.proofs.BodySteps.{few_signals_of}
 use Rattle.rinex_file.proofs.HeaderAgree.{Agree, single, types_high, agree_types, agree_count, signals_same, none_planned, split_at, lengths-back, height-back, number_at, coordinate-fits}
 use Rattle.rinex_file.proofs.HeaderSteps.{some_plan, with_is}
 use Rattle.rinex_file.proofs.HeaderText.{place_back, same_at, same_rows, texts_back, same_texts, same_some, SameTexts}
+use Rattle.rinex_file.proofs.Names.{AllOfLen, IsDistinct, take_all, ext_get_or, All-map, All-weaker, codes, SignalAt, IsSignal, table, System, Gps, Galileo, indices, IsOf, PlanValue, planned_of, StationValues, civil_of, TextRow, Texts, Position, Delta, First, End, trimmed, HeaderLists, text_count, text_of, width_of, fields, fields_of, text_rows, HeaderField, AntType, IsText, AreTexts, AreValues, IsTime, row_line, row_place, end_line, first_line, first_types, texts_line, position_line, delta_line, digits_in, Announced, Known, Shown, AreTypesRead, IsShown, AreValid, MayPlan, IsHeadAt, IsOnlyTime, shown_with, lines_before, announced, signals_begun, RefusesHeaderLine, EndsHeader, none_of}
+use Rattle.rinex_file.specs.declared.header.fields.TextRow.TheVariants as row
 
 -- ---- headers with the same lines are the same
 

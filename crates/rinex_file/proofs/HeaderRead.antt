@@ -1,34 +1,11 @@
 -- What is known after each line of a header.
-use Rattle.std.specs.Prelude.{nat_lt, codes, ◌||◌, nat_le}
-use Rattle.std.specs.List.{list_all}
 use Rattle.std.proofs.Common.{arith, ◌≡◌, ◌∙◌, sym, ap, ap₂, refl, subst, ℕ, suc, ◌+◌, ◌-◌, ◌<◌, ◌≤◌, ◌==◌, ◌&&◌, Bool, true, false, List, [], ◌∷◌, length, take, min, ◌↔◌, ◌≢◌, lit≤, ◌^◌, map, get_or, Option, Some, None, IsTrue}
-use Rattle.std.proofs.lemmas.Bool.Decides.{nat_tests}
-use Rattle.std.proofs.lemmas.List.{take-take, take-map, take_min, length-take}
-use Rattle.gnss_obs.specs.Signals.{SignalAt, table}
-use Rattle.gnss_obs.specs.declared.system.System.{System}
-use Rattle.gnss_obs.specs.declared.system.System.TheVariants.{Gps, Galileo}
-use Rattle.gnss_obs.proofs.Checked.{is_less}
-use Rattle.gnss_obs.specs.SignalLists.{indices}
-use Rattle.gnss_obs.specs.Values.{PlanValue, planned_of}
-use Rattle.gnss_obs.specs.Dates.{civil_of}
-use Rattle.gnss_obs.specs.declared.cell.StationValues.{StationValues}
-use Rattle.gnss_obs.proofs.PlanLemmas.{length_indices}
-use Rattle.rinex_file.specs.declared.header.rows.HeaderRow.TheVariants.{Types, Version, Texts, Position, Delta, StrengthUnit, First, Shift}
-use Rattle.rinex_file.specs.Header.{row_line, has_line, first_types, type_rows, position_line, row_place, header_line, height_line, first_line, strength_line, shift_line, version_line, texts_line}
-use Rattle.rinex_file.specs.Read.Progress.{Announced, Known, MayBeAll, MayPlan, AreTypesRead, IsHeadAt, announced, shown_with, shown_line, AreTypes, types_line, signals_begun, IsPosition, position_of, Shown, IsReadTo, IsOnlyTime, HasReadRows, lines_before, version_with, is_some_planned}
-use Rattle.rinex_file.specs.Read.HeaderSteps.{has_types, known_line, ReadsHeaderLine, NoneGoesOn, AreBegun, TakesTypes, RefusesTypes, with_types, RefusesHeaderLine, ReadsOrRefuses, ReadsTexts, RefusesTexts, with_texts, with_values, with_first, with_systems}
-use Rattle.rinex_file.specs.declared.header.fields.TextRow.{TextRow}
-use Rattle.rinex_file.specs.declared.header.rows.HeaderRow.{HeaderRow}
-use Rattle.rinex_file.specs.Texts.{HeaderLists, text_rows, text_row_index, fields_of, place_of, front_of}
-use Rattle.rinex_file.specs.declared.header.fields.HeaderField.{HeaderField}
-use Rattle.rinex_file.specs.declared.header.fields.HeaderField.TheVariants.{AntType}
-use Rattle.rinex_file.specs.FileValues.{IsTime}
-use Rattle.rinex_file.specs.Lines.{letter_of}
-use Rattle.rinex_file.specs.Read.Fields.{ReadsExactly}
+use Rattle.rinex_file.specs.Read.HeaderSteps.{AreBegun}
 use Rattle.rinex_file.proofs.HeaderAgree.{agree_count, agree_types, signals_same, less_or, types_in, types_row, types_low, types_high, types_shown, rows_when, version_same, some_in}
 use Rattle.rinex_file.proofs.HeaderSteps.{follows, other, either_system, far_other, still_read, with_is, IsOutside, outside_low, outside_high, reads_next, present}
 use Rattle.rinex_file.proofs.HeaderText.{same_line, kept_texts, SameTexts}
 use Rattle.rinex_file.proofs.PlainTexts.{both}
+use Rattle.rinex_file.proofs.Names.{nat_lt, codes, ◌||◌, nat_le, list_all, nat_tests, take-take, take-map, take_min, length-take, SignalAt, table, System, Gps, Galileo, is_less, indices, PlanValue, planned_of, civil_of, StationValues, length_indices, Types, Version, Texts, Position, Delta, StrengthUnit, First, Shift, row_line, has_line, first_types, type_rows, position_line, row_place, header_line, height_line, first_line, strength_line, shift_line, version_line, texts_line, Announced, Known, MayBeAll, MayPlan, AreTypesRead, IsHeadAt, announced, shown_with, shown_line, AreTypes, types_line, signals_begun, IsPosition, position_of, Shown, IsReadTo, IsOnlyTime, HasReadRows, lines_before, version_with, is_some_planned, has_types, known_line, ReadsHeaderLine, NoneGoesOn, TakesTypes, RefusesTypes, with_types, RefusesHeaderLine, ReadsOrRefuses, ReadsTexts, RefusesTexts, with_texts, with_values, with_first, with_systems, TextRow, HeaderRow, HeaderLists, text_rows, text_row_index, fields_of, place_of, front_of, HeaderField, AntType, IsTime, letter_of, ReadsExactly}
 
 -- ---- numbers of signals
 

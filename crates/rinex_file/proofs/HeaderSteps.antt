@@ -1,32 +1,10 @@
 -- Some plan has what was read of it; and from a row of a header to the next.
-use Rattle.std.specs.Prelude.{◌||◌, ◌⊎◌, nat_lt}
-use Rattle.std.specs.List.{list_any, IsDistinct}
 use Rattle.std.proofs.Common.{arith, ◌≡◌, ◌∙◌, sym, ap, refl, subst, ℕ, zero, suc, ◌+◌, ◌-◌, ◌<◌, ◌≤◌, Bool, true, false, eqb, nat_eq, List, [], ◌∷◌, ◌++◌, length, take, append_assoc, append-nil, length-append, All, ◌≢◌, ap₂, lit≤, ◌==◌, ◌&&◌, min, ◌↔◌, inl, inr}
-use Rattle.std.proofs.Math.Seq.{take-append_seam}
-use Rattle.std.proofs.lemmas.Cmp.{nat_eq_equiv}
-use Rattle.std.proofs.lemmas.Map.Keys.{IsDistinct-push}
-use Rattle.std.proofs.lemmas.Map.Steps.{le-length_from_below}
-use Rattle.std.proofs.lemmas.Bool.Decides.{nat_tests}
-use Rattle.std.proofs.lemmas.List.Elements.{All-nil, All-cons, All-push}
-use Rattle.gnss_obs.specs.Signals.{table}
-use Rattle.gnss_obs.specs.declared.system.System.{System}
-use Rattle.gnss_obs.specs.declared.system.System.TheVariants.{Gps, Galileo}
-use Rattle.gnss_obs.proofs.Checked.{passes_at, is_less}
-use Rattle.gnss_obs.specs.Values.{PlanValue, planned_of}
-use Rattle.gnss_obs.specs.Dates.{civil_of}
-use Rattle.rinex_file.specs.Read.Progress.{Known, MayBeAll, announced, IsShown, AreValid, MayPlan, HasReadRows, is_some_planned, shown_with, Announced, Shown, AreTypesRead, IsReadTo, IsHeadAt, IsOnlyTime, shown_rows, shown_line, lines_before, lines_after, signals_begun}
-use Rattle.rinex_file.specs.declared.header.rows.HeaderRow.{HeaderRow}
-use Rattle.rinex_file.specs.declared.header.rows.HeaderRow.TheVariants.{Version, Texts, Position, Delta, Types, StrengthUnit, First, Shift, End}
-use Rattle.rinex_file.specs.declared.read.expected.Expected.{Expected}
-use Rattle.rinex_file.specs.declared.read.expected.Expected.TheVariants.{Header, Epoch, EventPosition, EventHeight, EventEpoch, Satellite}
-use Rattle.rinex_file.specs.Begun.{lines_of_header}
-use Rattle.rinex_file.specs.FileValues.{of_system}
-use Rattle.rinex_file.specs.Header.{has_line, row_at, row_count, row_place, first_types, type_rows}
-use Rattle.rinex_file.specs.Read.HeaderSteps.{has_types, known_line, ReadsHeaderLine, RefusesHeaderLine, GoesTo, NoneGoesOn, SameFrom, StepsTo}
 use Rattle.rinex_file.proofs.BodySteps.{cons_parts}
 use Rattle.rinex_file.proofs.Entries.{few_signals}
 use Rattle.rinex_file.proofs.HeaderAgree.{Agree, agreed, less_or, planned_is, rows_when, same_there, types_low, types_high, is_lt, placed, line_next, before_next}
 use Rattle.rinex_file.proofs.HeaderText.{equal_or}
+use Rattle.rinex_file.proofs.Names.{◌||◌, ◌⊎◌, nat_lt, list_any, IsDistinct, take-append_seam, nat_eq_equiv, IsDistinct-push, le-length_from_below, nat_tests, All-nil, All-cons, All-push, table, System, Gps, Galileo, passes_at, is_less, PlanValue, planned_of, civil_of, Known, MayBeAll, announced, IsShown, AreValid, MayPlan, HasReadRows, is_some_planned, shown_with, Announced, Shown, AreTypesRead, IsReadTo, IsHeadAt, IsOnlyTime, shown_rows, shown_line, lines_before, lines_after, signals_begun, HeaderRow, Version, Texts, Position, Delta, Types, StrengthUnit, First, Shift, End, Expected, Header, Epoch, EventPosition, EventHeight, EventEpoch, Satellite, lines_of_header, of_system, has_line, row_at, row_count, row_place, first_types, type_rows, has_types, known_line, ReadsHeaderLine, RefusesHeaderLine, GoesTo, NoneGoesOn, SameFrom, StepsTo}
 
 -- ---- signals of a system, with others up to a number
 

@@ -1,22 +1,9 @@
 -- The text of a file that is stored in memory.
 use Rattle.std.proofs.Common.{arith, ◌≡◌, ◌∙◌, sym, ap, ap₂, refl, ℕ, ◌+◌, ◌<◌, ◌≤◌, List, [], ◌∷◌, ◌++◌, length, take, get_or, append_assoc, append-nil}
-use Rattle.std.specs.Prelude.{All, map, flat_map}
-use Rattle.std.proofs.lemmas.List.{take_all, take_more}
-use Rattle.std.proofs.lemmas.List.Concat.{flat_map-append}
-use Rattle.std.proofs.lemmas.List.Folds.{flat_map-map}
-use Rattle.gnss_obs.specs.declared.system.System.{System}
-use Rattle.gnss_obs.specs.declared.system.System.TheVariants.{Gps, Galileo}
-use Rattle.gnss_obs.specs.Dates.{civil_of}
-use Rattle.rinex_file.specs.Value.{SatelliteRow, Stamped, FileValue}
-use Rattle.rinex_file.specs.FileValues.{IsSatelliteRow, IsFileValue, of_system}
-use Rattle.rinex_file.specs.Header.{header_lines}
-use Rattle.rinex_file.specs.Numbers.{joined}
-use Rattle.rinex_file.specs.Lines.{epoch_line, satellite_line}
-use Rattle.rinex_file.specs.File.{header_text, change_lines, stamped_lines, file_text, lines_of_parts}
-use Rattle.rinex_file.specs.Read.Keeping.{HasRoom, HaveRowsRoom, stamped_text}
 use Rattle.rinex_file.proofs.BodySteps.{few_signals_of}
 use Rattle.rinex_file.proofs.RowText.{few_satellites}
 use Rattle.rinex_file.proofs.Sent.{joined-append}
+use Rattle.rinex_file.proofs.Names.{All, map, flat_map, take_all, take_more, flat_map-append, flat_map-map, System, Gps, Galileo, civil_of, SatelliteRow, Stamped, FileValue, IsSatelliteRow, IsFileValue, of_system, header_lines, joined, epoch_line, satellite_line, header_text, change_lines, stamped_lines, file_text, lines_of_parts, HasRoom, HaveRowsRoom, stamped_text}
 
 pub either_few : (s : System) (gps galileo : ℕ) → gps ≤ 19 → galileo ≤ 19 → of_system s gps galileo ≤ 19
 either_few Gps gps galileo few less = few

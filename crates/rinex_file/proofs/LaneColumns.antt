@@ -1,12 +1,8 @@
 -- Digits in lanes, added to the columns of a field.
 use Rattle.std.proofs.Common.{arith, ◌≡◌, ◌∙◌, sym, ap, ap₂, refl, subst, ℕ, zero, suc, ◌+◌, ◌-◌, ◌/◌, ◌%◌, ◌^◌, ◌<◌, ◌≤◌, List, [], ◌∷◌, ◌++◌, map, length, replicate, get_or, decimal, append_assoc, append-nil, length-append, inl, inr}
-use Rattle.std.specs.Prelude.{set}
-use Rattle.std.proofs.lemmas.Bool.{cases_lt}
-use Rattle.std.proofs.lemmas.Fmt.{decimal_digit, decimal_step, first_decimal, length-decimal-le}
-use lib.Lanes.{zip2}
-use Rattle.rinex_file.specs.Numbers.{padded}
-use Rattle.rinex_file.specs.Words.{AreBelow, digits_onto, leading, spaced, template}
 use Rattle.rinex_file.proofs.DigitWords.{IsSpaced, spaced_is, padded_digits, three_digits}
+use Rattle.rinex_file.proofs.Names.{set, cases_lt, decimal_digit, decimal_step, first_decimal, length-decimal-le, padded, AreBelow, digits_onto, leading, spaced, template}
+use lib.Lanes.{zip2}
 
 abbrev pub added : ℕ → ℕ → ℕ
 added a b = (a + b) % 2 ^ 8

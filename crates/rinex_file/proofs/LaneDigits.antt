@@ -1,12 +1,7 @@
 -- Numbers of two digits, in lanes of two bytes.
 use Rattle.std.proofs.Common.{arith, ◌≡◌, ◌∙◌, ap, refl, eqb, false, not, cond, ℕ, zero, suc, ◌+◌, ◌*◌, ◌/◌, ◌%◌, ◌^◌, ◌<◌, ◌≤◌, List, [], ◌∷◌, map, length, take, get_or}
-use Rattle.std.specs.Prelude.{⊤}
-use Rattle.std.specs.Int.Count.{count_trailing_zeros, under}
+use Rattle.rinex_file.proofs.Names.{⊤, count_trailing_zeros, under, ne_eqb, length-map, mask_l-mod, length-zip2, leading}
 use lib.Lanes.{number_l, digits_l, mask_l, top, zip2}
-use Rattle.std.proofs.lemmas.Bool.{ne_eqb}
-use Rattle.std.proofs.lemmas.List.{length-map}
-use Rattle.std.proofs.lemmas.Simd.{mask_l-mod, length-zip2}
-use Rattle.rinex_file.specs.Words.{leading}
 
 -- a lane with its tens in the upper byte and its ones in the lower
 abbrev pub lane : ℕ → ℕ

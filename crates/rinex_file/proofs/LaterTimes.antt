@@ -1,11 +1,6 @@
 -- The times of epochs and of one more.
 use Rattle.std.proofs.Common.{arith, ◌≡◌, ◌∙◌, sym, ap, subst, refl, ℕ, ◌-◌, List, [], ◌∷◌, ◌++◌, Option, Some}
-use Rattle.std.specs.Prelude.{min, unwrap_or}
-use Rattle.std.specs.List.{reduce}
-use Rattle.std.proofs.lemmas.List.Sums.{fold-append}
-use Rattle.std.proofs.Math.Nat.{min-eq_left}
-use Rattle.rinex_file.specs.declared.read.times.EpochTimes.{EpochTimes}
-use Rattle.rinex_file.specs.Times.{steps_of, AreTimes}
+use Rattle.rinex_file.proofs.Names.{min, unwrap_or, reduce, fold-append, min-eq_left, EpochTimes, steps_of, AreTimes}
 
 smallest_more : (xs : List ℕ) (n : ℕ) → Some (min (unwrap_or (reduce min xs) n) n) ≡ reduce min (xs ++ n ∷ [])
 smallest_more [] n = ap Some (min-eq_left (omega arith))

@@ -1,3 +1,4 @@
+pub mod Names
 mod Digits
 mod DigitWords
 mod LaneDigits

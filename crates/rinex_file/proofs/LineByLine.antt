@@ -1,33 +1,9 @@
 -- Bytes that were read ahead and the lines among them; a file that is read line by line.
-use Rattle.std.specs.Prelude.{is_some, ◌||◌, ◌==◌, nat_eq, nat_lt, min, All, ⊤, Bool, Ok}
-use Rattle.std.specs.Io.KnownBytes.{Consumes, IsAtEnd, prepend_known}
 use Rattle.std.proofs.Common.{arith, ◌≡◌, ◌∙◌, sym, ap, subst, refl, ℕ, zero, suc, ◌+◌, ◌-◌, ◌<◌, ◌≤◌, true, false, List, [], ◌∷◌, ◌++◌, length, take, drop, get_or, length-append, take-add, append_assoc, append-nil, Option, Some, None, IfSome, inl, inr}
-use Rattle.std.proofs.Math.Nat.{min-eq_left, min-eq_right, min-le_left, min-le_right, le-min}
-use Rattle.std.proofs.lemmas.Bool.{false_from_ne_true, or_parts, or_right}
-use Rattle.std.proofs.lemmas.List.{append_cancel_left, length-take-le, take-append-drop, length_push, drop-take, drop-drop, take-take}
-use Rattle.std.proofs.KnownBytes.{Consumes-nil, Consumes-trans}
-use Rattle.std.proofs.lemmas.List.Elements.{All-head, All-tail, All-push}
-use Rattle.rinex_file.specs.Read.Fields.{has}
-use Rattle.rinex_file.specs.Blocks.{LeavesRest, AreMoved, MovesBytes}
-use Rattle.rinex_file.specs.Exact.{IsLine, IsTextOf, NoFileBegins, IsCutShort, IsTooLong, IsFaulty, ExplainsFault, IsNoFault, most_lines}
-use Rattle.rinex_file.specs.declared.read.parser_state.ParserState.{ParserState}
-use Rattle.rinex_file.specs.declared.read.expected.Added.{Added}
-use Rattle.rinex_file.specs.declared.read.reading.Reading.{Reading}
-use Rattle.rinex_file.specs.Value.{FileValue}
-use Rattle.rinex_file.specs.FileValues.{IsFileValue}
-use Rattle.rinex_file.specs.File.{file_text, file_lines}
-use Rattle.rinex_file.specs.ParserState.{History, with_line, GoesOnWithLine, ShowsLine, RefusesLine}
-use Rattle.rinex_file.specs.Read.Steps.{ReadsNextLine, HasRead, IsWhole, IsTextOfOnly, file_at, IsTaken}
-use Rattle.rinex_file.specs.declared.read.file.FileBuilder.{FileBuilder}
-use Rattle.rinex_file.specs.Read.Keeping.{history_of, HasReadWhole}
-use Rattle.rinex_file.specs.Numbers.{joined}
-use Rattle.rinex_file.specs.declared.read.fault.ReadFault.{ReadFault}
-use Rattle.rinex_file.specs.declared.read.fault.ReadFault.TheVariants.{Memory, Read, BadHeader, BadEpoch, BadEvent, BadSatellite, CutShort, TooLong}
-use Rattle.rinex_file.specs.Begun.{AreBegun}
-use Rattle.rinex_file.specs.Read.Progress.{Progress, HasLinesLeft}
-use Rattle.rinex_file.specs.Read.Sound.{AreLinesOf, HasReadLines}
+use Rattle.rinex_file.specs.declared.read.fault.ReadFault.TheVariants.{Memory}
 use Rattle.rinex_file.proofs.Digits.{has-append, lacks-append}
 use Rattle.rinex_file.proofs.Sent.{joined-append}
+use Rattle.rinex_file.proofs.Names.{is_some, ◌||◌, ◌==◌, nat_eq, nat_lt, min, All, ⊤, Bool, Ok, Consumes, IsAtEnd, prepend_known, min-eq_left, min-eq_right, min-le_left, min-le_right, le-min, false_from_ne_true, or_parts, or_right, append_cancel_left, length-take-le, take-append-drop, length_push, drop-take, drop-drop, take-take, Consumes-nil, Consumes-trans, All-head, All-tail, All-push, has, LeavesRest, AreMoved, MovesBytes, IsLine, IsTextOf, NoFileBegins, IsCutShort, IsTooLong, IsFaulty, ExplainsFault, IsNoFault, most_lines, ParserState, Added, Reading, FileValue, IsFileValue, file_text, file_lines, History, with_line, GoesOnWithLine, ShowsLine, RefusesLine, ReadsNextLine, HasRead, IsWhole, IsTextOfOnly, file_at, IsTaken, FileBuilder, history_of, HasReadWhole, joined, ReadFault, Read, BadHeader, BadEpoch, BadEvent, BadSatellite, CutShort, TooLong, AreBegun, Progress, HasLinesLeft, AreLinesOf, HasReadLines}
 
 -- ---- bytes that are moved to a line
 

@@ -1,19 +1,5 @@
 -- A text is that of one value: of a field, of a signal, and of a satellite.
 use Rattle.std.proofs.Common.{arith, ◌≡◌, ◌∙◌, sym, ap, ap₂, refl, subst, ℕ, zero, suc, ◌+◌, ◌-◌, ◌*◌, ◌/◌, ◌%◌, ◌<◌, ◌≤◌, List, [], ◌∷◌, ◌++◌, length, take, drop, replicate, get_or, ℤ, unsigned_abs, decimal, true, false, Option, Some, None, IfSome}
-use Rattle.std.specs.Prelude.{flat_map, All, Bool, ◌||◌}
-use Rattle.std.specs.Int.{is_negative}
-use Rattle.std.specs.Fmt.{sign_text}
-use Rattle.std.proofs.lemmas.List.{take_at, drop_at, take_all, drop-drop, get_or_at, get_or-append-add, length_push}
-use Rattle.std.proofs.lemmas.List.Elements.{All-head, All-tail}
-use Rattle.std.proofs.Math.Seq.{take-append_seam}
-use Rattle.gnss_obs.specs.declared.system.System.{System}
-use Rattle.rinex_file.specs.Value.{SignalValues, SatelliteRow, satellite_row, no_signal_values}
-use Rattle.rinex_file.specs.FileValues.{FitsColumns, AreSignalValues}
-use Rattle.rinex_file.specs.Blanks.{trimmed, filled_to, IsEnded}
-use Rattle.rinex_file.specs.Numbers.{right, padded, fixed}
-use Rattle.rinex_file.specs.Lines.{field, signal_text, lli_byte, strength_byte, letter_of, row_text, satellite_line}
-use Rattle.rinex_file.specs.Read.Fields.{has, number_in, ReadsExactly}
-use Rattle.rinex_file.specs.Read.Row.{IsRowOf}
 use Rattle.rinex_file.proofs.Cuts.{fill-trimmed, length-trimmed, trimmed-front}
 use Rattle.rinex_file.proofs.Digits.{has-append, has-right, length-right, number_in-fixed}
 use Rattle.rinex_file.proofs.DigitWords.{two_digits}
@@ -21,6 +7,7 @@ use Rattle.rinex_file.proofs.FieldLanes.{lane_is}
 use Rattle.rinex_file.proofs.FieldRows.{blanks}
 use Rattle.rinex_file.proofs.HeaderText.{trimmed-trimmed}
 use Rattle.rinex_file.proofs.RowText.{length-value, length-field, length-room, length-signals, small_value, strength_fits, values_fit, all_values_fit, few_satellites, front_line}
+use Rattle.rinex_file.proofs.Names.{flat_map, All, Bool, ◌||◌, is_negative, sign_text, take_at, drop_at, take_all, drop-drop, get_or_at, get_or-append-add, length_push, All-head, All-tail, take-append_seam, System, SignalValues, SatelliteRow, satellite_row, no_signal_values, FitsColumns, AreSignalValues, trimmed, filled_to, IsEnded, right, padded, fixed, field, signal_text, lli_byte, strength_byte, letter_of, row_text, satellite_line, has, number_in, ReadsExactly, IsRowOf}
 
 -- ---- a field
 

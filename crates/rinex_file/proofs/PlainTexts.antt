@@ -1,19 +1,8 @@
 -- Texts without a line feed, and their largest lengths.
 use Rattle.std.proofs.Common.{arith, ◌≡◌, ◌∙◌, ap, refl, ℕ, suc, ◌+◌, ◌-◌, ◌*◌, ◌^◌, ◌<◌, ◌≤◌, ℤ, unsigned_abs, Bool, true, false, List, [], ◌∷◌, ◌++◌, length, replicate, decimal, length-append}
-use Rattle.std.specs.Prelude.{◌==◌, ◌||◌, flat_map, All}
-use Rattle.std.specs.List.{AllByRecursion, list_all}
-use Rattle.std.specs.Fmt.{sign_text}
-use Rattle.std.proofs.Math.Nat.{div-le_self, mod-le}
-use Rattle.std.proofs.lemmas.Fmt.{length-decimal-le}
-pub use Rattle.std.proofs.lemmas.Bool.{and_parts as both}
-use Rattle.std.proofs.lemmas.Bool.{and_parts}
-use Rattle.std.proofs.lemmas.List.{length-replicate}
-use Rattle.std.proofs.lemmas.List.Elements.{All-from_recursion, All-head, All-tail}
-use Rattle.rinex_file.specs.Numbers.{joined, left, right, padded, fixed}
-use Rattle.rinex_file.specs.Read.Fields.{has}
-use Rattle.rinex_file.specs.Texts.{is_printable}
-use Rattle.rinex_file.specs.FileValues.{IsText}
 use Rattle.rinex_file.proofs.Digits.{has-not, lacks-append, lacks-decimal, lacks-padded, length-fixed-le, length-padded-le}
+use Rattle.rinex_file.proofs.Names.{◌==◌, ◌||◌, flat_map, All, AllByRecursion, list_all, sign_text, div-le_self, mod-le, length-decimal-le, and_parts, length-replicate, All-from_recursion, All-head, All-tail, joined, left, right, padded, fixed, has, is_printable, IsText}
+pub use Rattle.std.proofs.lemmas.Bool.{and_parts as both}
 
 -- ---- no line feed
 

@@ -1,19 +1,8 @@
 -- The sizes of the parts of a satellite's line, and its first letter.
 use Rattle.std.proofs.Common.{arith, ◌≡◌, ℕ, suc, ◌*◌, ◌^◌, ◌<◌, ◌≤◌, List, [], ◌∷◌, ◌++◌, length, refl, ap, length-append, ℤ, pos, negsuc, unsigned_abs, to_z, of_z, w64, Option, Some, None, IfSome}
-use Rattle.std.specs.Prelude.{flat_map, All}
-use Rattle.std.specs.Fmt.{sign_text}
-use Rattle.std.proofs.lemmas.Int.{ints, to_z-of_z, fits_signed_from_abs}
-use Rattle.std.proofs.lemmas.List.Elements.{All-head, All-tail, All-weaker}
-use Rattle.rinex_file.specs.Numbers.{padded, fixed}
 use Rattle.rinex_file.proofs.Digits.{length-fixed, length-right, not_negative}
-use Rattle.gnss_obs.specs.Satellites.{satellites}
-use Rattle.gnss_obs.specs.declared.system.System.{System}
-use Rattle.gnss_obs.specs.Values.{HasTwelveDigits}
-use Rattle.rinex_file.specs.Value.{SignalValues, SatelliteRow}
-use Rattle.rinex_file.specs.FileValues.{FitsColumns, HaveRoom, AreSignalValues, IsFrom}
-use Rattle.rinex_file.specs.Blanks.{trimmed}
-use Rattle.rinex_file.specs.Lines.{field, signal_text, satellite_line, letter_of}
 use Rattle.rinex_file.proofs.Cuts.{trimmed-front}
+use Rattle.rinex_file.proofs.Names.{flat_map, All, sign_text, ints, to_z-of_z, fits_signed_from_abs, All-head, All-tail, All-weaker, padded, fixed, satellites, System, HasTwelveDigits, SignalValues, SatelliteRow, FitsColumns, HaveRoom, AreSignalValues, IsFrom, trimmed, field, signal_text, satellite_line, letter_of}
 
 most : (n : ℕ) → FitsColumns (pos n) → n ≤ 9_999_999_999_999
 most n h = let high = h.1 in omega (arith, ints)

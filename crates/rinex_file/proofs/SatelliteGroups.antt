@@ -1,11 +1,6 @@
 -- The cells of one satellite, in a list in the order of satellites.
 use Rattle.std.proofs.Common.{◌≡◌, ℕ, zero, suc, ◌+◌, ◌-◌, ◌<◌, ◌≤◌, Bool, true, false, List, [], ◌∷◌, filter, take, drop, refl, sym, ap, ap₂, ◌∙◌, subst, arith, length}
-use Rattle.std.specs.Prelude.{if◌then◌else◌, cond}
-use Rattle.std.specs.List.{AllByRecursion}
-use Rattle.std.proofs.lemmas.List.{drop-drop}
-use Rattle.gnss_obs.specs.declared.cell.Cell.{Cell}
-use Rattle.gnss_obs.specs.Values.{is_written, is_of_satellite, run}
-use Rattle.gnss_obs.proofs.GroupLemmas.{Above, Climb, Left}
+use Rattle.rinex_file.proofs.Names.{if◌then◌else◌, cond, AllByRecursion, drop-drop, Cell, is_written, is_of_satellite, run, Above, Climb, Left}
 
 climb-drop : (n : ℕ) (cells : List Cell) → Climb cells → Climb (drop n cells)
 climb-drop zero cells h = h

@@ -1,24 +1,9 @@
 -- Lines that were written, and a part of them.
 use Rattle.std.proofs.Common.{arith, ◌≡◌, ◌∙◌, sym, ap, ap₂, refl, subst, ℕ, zero, suc, ◌+◌, ◌-◌, ◌≤◌, List, [], ◌∷◌, ◌++◌, length, append_assoc, append-nil, length-append, Option, Bool, true, false, Result, Ok, Err, OnOk, OnErr}
-use Rattle.std.specs.Prelude.{map, if◌then◌else◌, IsErrAnd, IfErr}
-use Rattle.std.specs.Io.KnownBytes.{Appends}
-use Rattle.std.proofs.KnownBytes.{Appends-trans, Appends-nil}
-use Rattle.std.proofs.lemmas.List.{map-append, length-map}
-use Rattle.std.proofs.lemmas.List.Elements.{filter-append}
-use Rattle.rtcm_bits.specs.Device.{AppendsPrefix, Device, FailsWith, HasFailed}
-use Rattle.gnss_obs.specs.declared.system.System.{System}
-use Rattle.gnss_obs.specs.declared.system.System.TheVariants.{Gps, Galileo}
+use Rattle.std.specs.Prelude.{IsErrAnd}
 use Rattle.gnss_obs.specs.Satellites.{satellites as satellites_in}
-use Rattle.gnss_obs.specs.declared.cell.Cell.{Cell}
-use Rattle.gnss_obs.specs.Dates.{civil_of}
-use Rattle.gnss_obs.specs.Values.{PlanValue, EpochValue, is_written, written_among, satellites_written}
-use Rattle.rinex_file.specs.Numbers.{joined}
-use Rattle.rinex_file.specs.Value.{written_satellites, row_among, row_in_epoch, rows_of}
-use Rattle.rinex_file.specs.Lines.{satellite_line, epoch_line}
-use Rattle.gnss_obs.specs.declared.cell.StationValues.{StationValues}
-use Rattle.rinex_file.specs.Header.{position_line, delta_line}
-use Rattle.rinex_file.specs.File.{event_line, event_text, line_among, line_or_none, lines_up_to, epoch_text}
 use Rattle.rinex_file.proofs.Entries.{flat_map-append}
+use Rattle.rinex_file.proofs.Names.{map, if◌then◌else◌, IfErr, Appends, Appends-trans, Appends-nil, map-append, length-map, filter-append, AppendsPrefix, Device, FailsWith, HasFailed, System, Gps, Galileo, Cell, civil_of, PlanValue, EpochValue, is_written, written_among, satellites_written, joined, written_satellites, row_among, row_in_epoch, rows_of, satellite_line, epoch_line, StationValues, position_line, delta_line, event_line, event_text, line_among, line_or_none, lines_up_to, epoch_text}
 
 -- a part of the rest, after what was written
 pub part_after : (a b c : Option (List ℕ)) (text done next rest : List ℕ) → text ≡ done ++ (next ++ rest) → Appends a b done → AppendsPrefix b c next → AppendsPrefix a c text

@@ -1,17 +1,7 @@
 -- The counts of a file that was read whole, and the times of its epochs.
 use Rattle.std.proofs.Common.{arith, ◌≡◌, sym, ap, subst, refl, ℕ, ◌+◌, ◌<◌, List, [], ◌∷◌, length, Option, Some, None, IfSome}
-use Rattle.std.specs.Prelude.{map, is_some, true}
-use Rattle.rinex_file.specs.declared.read.parser_state.ParserState.{ParserState}
-use Rattle.rinex_file.specs.declared.read.times.EpochTimes.{EpochTimes}
-use Rattle.rinex_file.specs.declared.read.file.FileSummary.{FileSummary}
-use Rattle.rinex_file.specs.Value.{SatelliteRow, Stamped, FileValue}
-use Rattle.rinex_file.specs.FileValues.{IsFileValue, time_stamped}
-use Rattle.rinex_file.specs.File.{file_text}
-use Rattle.rinex_file.specs.ParserState.{History}
-use Rattle.rinex_file.specs.Times.{AreTimesOrNone}
-use Rattle.rinex_file.specs.Counting.{IsSummary, IsTextWith}
-use Rattle.rinex_file.specs.Read.Steps.{IsWhole, file_at}
 use Rattle.rinex_file.proofs.LineByLine.{said_of}
+use Rattle.rinex_file.proofs.Names.{map, is_some, true, ParserState, EpochTimes, FileSummary, SatelliteRow, Stamped, FileValue, IsFileValue, time_stamped, file_text, History, AreTimesOrNone, IsSummary, IsTextWith, IsWhole, file_at}
 
 no_rows_more : (n m : ℕ) (rows : List SatelliteRow) → n ≡ m + length rows → rows ≡ [] → n ≡ m
 no_rows_more n m rows e none = let zero : length rows ≡ 0 = ap length none in omega (arith, e, zero)

@@ -1,29 +1,8 @@
 -- A line of types: the columns of the signals that begin in it, and the signals that are read from it.
-use Rattle.std.specs.Str.{IsAscii, IsUtf8}
-use Rattle.std.specs.Prelude.{map, flat_map, slice_index, codes, All}
-use Rattle.std.specs.List.{list_any, IsDistinct}
 use Rattle.std.proofs.Common.{min, ◌-◌, length-take, length-drop, arith, rules, ◌≡◌, ◌∙◌, ap, refl, ℕ, zero, suc, ◌+◌, ◌<◌, ◌≤◌, ◌==◌, ◌&&◌, Bool, true, false, List, [], ◌∷◌, length, take, drop, Some, None, Option, nat_lt, sym, ◌*◌, ◌/◌, ◌%◌, ◌++◌, get_or, append_assoc, append-nil, ap₂, subst, ◌^◌, ◌||◌, replicate, decimal, nat_eq}
-use Rattle.std.proofs.lemmas.Str.{IsUtf8-from_ascii}
-use Rattle.std.proofs.lemmas.Bool.{cases_lt}
-use Rattle.std.proofs.lemmas.List.{length-map, take_more, get_or-drop, take_all, take_at, take-take, take-map, drop_at, drop-drop, drop-take, get_or-take}
-use Rattle.std.proofs.lemmas.List.Elements.{All-get_or, All-head, All-tail}
-use Rattle.std.proofs.lemmas.Map.Keys.{apart_from_distinct, IsDistinct-tail}
-use Rattle.std.proofs.lemmas.Map.Steps.{length-le_from_distinct_below}
-use Rattle.std.proofs.lemmas.Fmt.{length-decimal-le}
-use Rattle.gnss_obs.specs.declared.system.System.{System}
-use Rattle.gnss_obs.specs.declared.system.System.TheVariants.{Gps, Galileo}
-use Rattle.gnss_obs.specs.Signals.{SignalAt, IsSignal, table, code_of, signal_of_code}
-use Rattle.gnss_obs.proofs.Checked.{passes_at, is_less, is_equal}
-use Rattle.gnss_obs.specs.SignalLists.{indices, IsOf}
-use Rattle.gnss_obs.proofs.PlanLemmas.{any_index, indices-push}
-use Rattle.rinex_file.specs.Header.{type_of, types_of, codes_of, type_columns, header_line, type_front}
-use Rattle.rinex_file.specs.Numbers.{joined, left, right}
-use Rattle.rinex_file.specs.Lines.{letter_of}
-use Rattle.rinex_file.specs.Read.Fields.{digits_in}
-use Rattle.rinex_file.specs.Read.Progress.{AreTypes, types_line, signals_begun}
-use Rattle.rinex_file.specs.Read.HeaderSteps.{HasSignalAt}
 use Rattle.rinex_file.proofs.Entries.{flat_map-append}
 use Rattle.rinex_file.proofs.Digits.{length-right, digits_in-whole}
+use Rattle.rinex_file.proofs.Names.{IsAscii, IsUtf8, map, flat_map, slice_index, codes, All, list_any, IsDistinct, IsUtf8-from_ascii, cases_lt, length-map, take_more, get_or-drop, take_all, take_at, take-take, take-map, drop_at, drop-drop, drop-take, get_or-take, All-get_or, All-head, All-tail, apart_from_distinct, IsDistinct-tail, length-le_from_distinct_below, length-decimal-le, System, Gps, Galileo, SignalAt, IsSignal, table, code_of, signal_of_code, passes_at, is_less, is_equal, indices, IsOf, any_index, indices-push, type_of, types_of, codes_of, type_columns, header_line, type_front, joined, left, right, letter_of, digits_in, AreTypes, types_line, signals_begun, HasSignalAt}
 
 abbrev signal : System → ℕ → SignalAt
 signal system index = record { system = system; index = index }

@@ -1,20 +1,9 @@
 -- A line whose columns are those in which its values are written.
 use Rattle.std.proofs.Common.{arith, ◌≡◌, ◌≢◌, ◌∙◌, sym, ap, ap₂, refl, ℕ, ◌+◌, ◌-◌, ◌*◌, ◌/◌, ◌%◌, ◌≤◌, ◌<◌, List, [], ◌∷◌, ◌++◌, length, take, drop, replicate, get_or, append-nil, take-append-drop}
-use Rattle.std.specs.Prelude.{Bool, true, false, flat_map, ◌||◌, IsTrue, ◌↔◌, not, nat_eq}
-use Rattle.std.specs.List.{list_any}
-use Rattle.std.proofs.Math.Seq.{take-add}
-use Rattle.std.proofs.lemmas.List.{drop-drop, take_all, take_more, length-drop, length-take-le, length_push, get_or-take, get_or_append_left}
-use Rattle.std.proofs.lemmas.Bool.{ne_eqb}
-use Rattle.std.proofs.lemmas.List.Concat.{flat_map-append}
-use Rattle.std.proofs.lemmas.List.Folds.{list_any-append}
-use Rattle.rinex_file.specs.Value.{SignalValues, SatelliteRow}
-use Rattle.rinex_file.specs.FileValues.{has_some_value}
-use Rattle.rinex_file.specs.Blanks.{trimmed, IsEnded}
-use Rattle.rinex_file.specs.Numbers.{padded}
-use Rattle.rinex_file.specs.Lines.{field, signal_text, lli_byte, strength_byte, row_text, satellite_line, letter_of}
 use Rattle.rinex_file.proofs.Cuts.{uncut, cut_last, length-trimmed}
 use Rattle.rinex_file.proofs.DigitWords.{two_digits}
 use Rattle.rinex_file.proofs.HeaderText.{trimmed-blanks}
+use Rattle.rinex_file.proofs.Names.{Bool, true, false, flat_map, ◌||◌, IsTrue, ◌↔◌, not, nat_eq, list_any, take-add, drop-drop, take_all, take_more, length-drop, length-take-le, length_push, get_or-take, get_or_append_left, ne_eqb, flat_map-append, list_any-append, SignalValues, SatelliteRow, has_some_value, trimmed, IsEnded, padded, field, signal_text, lli_byte, strength_byte, row_text, satellite_line, letter_of}
 
 -- ---- the columns of a signal
 

@@ -1,12 +1,6 @@
 use Rattle.std.proofs.Common.{◌≡◌, ◌<◌, subst, ℕ, List, length, nat_eq}
-use Rattle.std.specs.Prelude.{All}
-use Rattle.std.specs.List.{IsDistinct}
-use Rattle.gnss_obs.specs.declared.system.System.{System}
-use Rattle.gnss_obs.specs.declared.system.System.TheVariants.{Gps, Galileo}
-use Rattle.gnss_obs.specs.Signals.{SignalAt, table}
-use Rattle.gnss_obs.specs.SignalLists.{indices, IsOf}
-use Rattle.gnss_obs.specs.Values.{planned_of}
 use Rattle.rinex_file.proofs.HeaderEnd.{listed_by}
+use Rattle.rinex_file.proofs.Names.{All, IsDistinct, System, Gps, Galileo, SignalAt, table, indices, IsOf, planned_of}
 use Rattle.rinex_file.proofs.laws.head.Goals as goal
 
 -- these are the signals of a system

@@ -1,7 +1,6 @@
 use Rattle.std.proofs.Common.{◌≡◌, ◌∙◌, refl, ap₂, ℕ, List}
-use Rattle.gnss_obs.specs.Dates.{civil_of}
-use Rattle.rinex_file.specs.Lines.{epoch_line}
 use Rattle.rinex_file.proofs.Sent.{failed, fails_after, only_fault, where_failed, epoch_first, epoch_second, epoch_third, epoch_whole}
+use Rattle.rinex_file.proofs.Names.{civil_of, epoch_line}
 use Rattle.rinex_file.proofs.write.write_epoch.Goals as goal
 
 first_line : (line buffer : List ℕ) (t n time count : ℕ) → line ≡ buffer → buffer ≡ epoch_line (civil_of t) n → t ≡ time → n ≡ count → line ≡ epoch_line (civil_of time) count

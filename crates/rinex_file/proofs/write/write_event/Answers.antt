@@ -1,7 +1,6 @@
 use Rattle.std.proofs.Common.{◌∙◌, refl, subst}
-use Rattle.std.specs.Io.KnownBytes.{Appends}
-use Rattle.rtcm_bits.specs.Device.{AppendsPrefix}
 use Rattle.rinex_file.proofs.Sent.{event_first, event_second, event_third, event_whole, where_failed, failed, fails_after, only_fault}
+use Rattle.rinex_file.proofs.Names.{Appends, AppendsPrefix}
 use Rattle.rinex_file.proofs.write.write_event.Goals as goal
 
 pub returns-in_err-write_whole-clause-part : goal.returns-in_err-write_whole-clause-part

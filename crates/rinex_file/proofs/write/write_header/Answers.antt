@@ -1,10 +1,6 @@
 use Rattle.std.proofs.Common.{arith, ◌∙◌, sym, ap, subst, refl, [], ◌++◌, append_assoc, append-nil}
-use Rattle.std.specs.Io.KnownBytes.{Appends}
-use Rattle.std.proofs.KnownBytes.{Appends-nil, Appends-trans}
-use Rattle.rtcm_bits.specs.Device.{AppendsPrefix}
-use Rattle.rinex_file.specs.Numbers.{joined}
-use Rattle.rinex_file.specs.File.{header_text}
 use Rattle.rinex_file.proofs.Sent.{failed, fails_after, only_fault, part_after, where_failed}
+use Rattle.rinex_file.proofs.Names.{Appends, Appends-nil, Appends-trans, AppendsPrefix, joined, header_text}
 use Rattle.rinex_file.proofs.write.write_header.Goals as goal
 
 pub loop-line-init : goal.loop-line-init

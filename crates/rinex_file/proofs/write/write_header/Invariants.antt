@@ -1,7 +1,5 @@
 use Rattle.std.proofs.Common.{◌≡◌, ◌++◌, List, ℕ}
-use Rattle.std.specs.Io.KnownBytes.{Appends}
-use Rattle.rinex_file.specs.Numbers.{joined}
-use Rattle.rinex_file.specs.File.{header_text}
+use Rattle.rinex_file.proofs.Names.{Appends, joined, header_text}
 use Rattle.rinex_file.proofs.write.write_header.Given as goal
 
 -- what was written and what is left are the whole text

@@ -1,16 +1,10 @@
 use Rattle.std.proofs.Common.{arith, ◌≡◌, ◌∙◌, sym, subst, refl, suc, ◌+◌, ◌≤◌, take, drop}
-use Rattle.std.specs.Prelude.{◌-◌}
-use Rattle.std.specs.Io.KnownBytes.{Appends}
-use Rattle.std.proofs.KnownBytes.{Appends-nil}
-use Rattle.gnss_obs.specs.Satellites.{satellites}
-use Rattle.rtcm_bits.specs.Device.{AppendsPrefix}
-use Rattle.gnss_obs.specs.Values.{cells_of}
-use Rattle.gnss_obs.proofs.GroupLemmas.{left_all, sorted_climbs}
 use Rattle.rinex_file.proofs.SatelliteGroups.{further}
 use Rattle.rinex_file.proofs.Groups.{same_line}
 use Rattle.rinex_file.proofs.Sent.{no_lines, grown_lines, part_lines, where_failed, failed, fails_after, not_written, is_shown}
-use Rattle.rinex_file.proofs.write.write_system.Goals as goal
 use Rattle.rinex_file.proofs.write.write_system.Goals.{then-is_written+in_ok-write_whole, else-is_written}
+use Rattle.rinex_file.proofs.Names.{◌-◌, Appends, Appends-nil, satellites, AppendsPrefix, cells_of, left_all, sorted_climbs}
+use Rattle.rinex_file.proofs.write.write_system.Goals as goal
 
 pub loop-before-init : goal.loop-before-init
 loop-before-init g c =

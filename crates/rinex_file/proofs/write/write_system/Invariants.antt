@@ -1,7 +1,5 @@
 use Rattle.std.proofs.Common.{◌≡◌}
-use Rattle.std.specs.Io.KnownBytes.{Appends}
-use Rattle.rinex_file.specs.File.{lines_up_to}
-use Rattle.gnss_obs.proofs.GroupLemmas.{Left}
+use Rattle.rinex_file.proofs.Names.{Appends, lines_up_to, Left}
 use Rattle.rinex_file.proofs.write.write_system.Given as goal
 
 -- the lines of the satellites so far were written

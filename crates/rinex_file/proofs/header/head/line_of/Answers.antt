@@ -1,10 +1,6 @@
 use Rattle.std.proofs.Common.{arith, ◌≡◌, ◌∙◌, sym, ap, ℕ, [], ◌∷◌, length}
-use Rattle.std.specs.Prelude.{codes, nat_lt, not, ◌==◌}
-use Rattle.gnss_obs.specs.Values.{PlanValue}
-use Rattle.gnss_obs.specs.Dates.{civil_of}
-use Rattle.rinex_file.specs.Header.{row_line, header_line, version_line}
-use Rattle.rinex_file.specs.Read.Progress.{version_with}
 use Rattle.rinex_file.proofs.HeaderAgree.{version_same}
+use Rattle.rinex_file.proofs.Names.{codes, nat_lt, not, ◌==◌, PlanValue, civil_of, row_line, header_line, version_line, version_with}
 use Rattle.rinex_file.proofs.header.head.line_of.Goals as goal
 
 some_test : (n : ℕ) → nat_lt 0 n ≡ not (n == 0)

@@ -1,8 +1,5 @@
 use Rattle.std.proofs.Common.{◌≡◌}
-use Rattle.gnss_obs.specs.declared.cell.StationValues.{StationValues}
-use Rattle.gnss_obs.specs.declared.civil.Civil.{Civil}
-use Rattle.rinex_file.specs.Texts.{HeaderLists}
-use Rattle.rinex_file.specs.Header.{lines_from}
+use Rattle.rinex_file.proofs.Names.{StationValues, Civil, HeaderLists, lines_from}
 use Rattle.rinex_file.proofs.header.head.place_from.Given as goal
 
 -- the lines from here on are those that were left

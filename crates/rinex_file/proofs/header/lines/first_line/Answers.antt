@@ -1,8 +1,6 @@
 use Rattle.std.proofs.Common.{◌∙◌, ap, ◌∷◌, [], refl, ◌*◌, decimal}
-use Rattle.std.specs.Prelude.{codes, pos}
-use Rattle.rinex_file.specs.Numbers.{right, fixed}
-use Rattle.rinex_file.specs.Header.{header_line, first_line}
 use Rattle.rinex_file.proofs.Grown.{grown_whole}
+use Rattle.rinex_file.proofs.Names.{codes, pos, right, fixed, header_line, first_line}
 use Rattle.rinex_file.proofs.header.lines.first_line.Goals as goal
 
 pub returns : goal.returns

@@ -1,7 +1,5 @@
 use Rattle.std.proofs.Common.{arith, ◌≡◌, ◌∙◌, ap, to_z, of_z, w64}
-use Rattle.std.specs.Prelude.{codes}
-use Rattle.std.proofs.lemmas.Int.{to_z-of_z}
-use Rattle.rinex_file.specs.Header.{header_line, lengths}
+use Rattle.rinex_file.proofs.Names.{codes, to_z-of_z, header_line, lengths}
 use Rattle.rinex_file.proofs.header.lines.position_line.Goals as goal
 
 pub returns : goal.returns

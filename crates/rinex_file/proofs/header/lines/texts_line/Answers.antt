@@ -1,5 +1,5 @@
 use Rattle.std.proofs.Common.{arith}
-use Rattle.std.proofs.lemmas.Grind.{common_steps}
+use Rattle.rinex_file.proofs.Names.{common_steps}
 use Rattle.rinex_file.proofs.header.lines.texts_line.Goals as goal
 
 pub loop-field-preserved : goal.loop-field-preserved

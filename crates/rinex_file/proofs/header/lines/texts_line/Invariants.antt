@@ -1,7 +1,5 @@
 use Rattle.std.proofs.Common.{◌≡◌, ◌≤◌, ◌+◌, ◌*◌, ◌++◌, length, take}
-use Rattle.std.specs.Prelude.{flat_map}
-use Rattle.rinex_file.specs.Header.{text_columns}
-use Rattle.rinex_file.specs.Texts.{fields_of, front_of}
+use Rattle.rinex_file.proofs.Names.{flat_map, text_columns, fields_of, front_of}
 use Rattle.rinex_file.proofs.header.lines.texts_line.Given as goal
 
 -- the texts so far are in the content

@@ -1,7 +1,6 @@
 use Rattle.std.proofs.Common.{rules, ◌≡◌, ◌∙◌, ap, ◌∷◌, ◌++◌, [], refl}
-use Rattle.rinex_file.specs.Numbers.{right, fixed}
-use Rattle.rinex_file.specs.Header.{header_line}
 use Rattle.rinex_file.proofs.Grown.{grown_whole}
+use Rattle.rinex_file.proofs.Names.{right, fixed, header_line}
 use Rattle.rinex_file.proofs.header.lines.three_lengths.Goals as goal
 
 pub returns : goal.returns

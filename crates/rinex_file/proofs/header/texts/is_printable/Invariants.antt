@@ -1,6 +1,5 @@
 use Rattle.std.proofs.Common.{◌≡◌, drop}
-use Rattle.std.specs.List.{list_all}
-use Rattle.rinex_file.specs.Texts.{is_printable}
+use Rattle.rinex_file.proofs.Names.{list_all, is_printable}
 use Rattle.rinex_file.proofs.header.texts.is_printable.Given as goal
 
 abbrev pub invariant-loop-b : goal.invariant-loop-b

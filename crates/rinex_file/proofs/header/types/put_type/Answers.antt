@@ -1,5 +1,5 @@
 use Rattle.std.proofs.Common.{arith}
-use Rattle.std.proofs.lemmas.Grind.{common_steps}
+use Rattle.rinex_file.proofs.Names.{common_steps}
 use Rattle.rinex_file.proofs.header.types.put_type.Goals as goal
 
 pub returns-clause-text : goal.returns-clause-text

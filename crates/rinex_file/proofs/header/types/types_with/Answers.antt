@@ -1,7 +1,5 @@
 use Rattle.std.proofs.Common.{◌∙◌, ◌++◌, ◌*◌, ap}
-use Rattle.std.specs.Prelude.{codes}
-use Rattle.gnss_obs.specs.SignalLists.{indices}
-use Rattle.rinex_file.specs.Header.{header_line, type_front, type_columns, types_of, codes_of}
+use Rattle.rinex_file.proofs.Names.{codes, indices, header_line, type_front, type_columns, types_of, codes_of}
 use Rattle.rinex_file.proofs.header.types.types_with.Goals as goal
 
 pub returns : goal.returns

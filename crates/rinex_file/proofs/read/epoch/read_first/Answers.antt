@@ -1,9 +1,6 @@
 use Rattle.std.proofs.Common.{rules, ◌∙◌, sym, refl}
-use Rattle.std.proofs.lemmas.Option.{none-some, same_Some}
-use Rattle.gnss_obs.specs.Dates.{civil_of}
-use Rattle.rinex_file.specs.FileValues.{IsTime}
-use Rattle.rinex_file.specs.Header.{first_line}
 use Rattle.rinex_file.proofs.Judged.{exactly}
+use Rattle.rinex_file.proofs.Names.{none-some, same_Some, civil_of, IsTime, first_line}
 use Rattle.rinex_file.proofs.read.epoch.read_first.Goals as goal
 
 pub returns-in_default : goal.returns-in_default

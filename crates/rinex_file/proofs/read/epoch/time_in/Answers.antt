@@ -1,13 +1,8 @@
 use Rattle.std.proofs.Common.{arith, ◌≡◌, ◌∙◌, ◌<◌, ◌*◌, ap, subst, sym, ℕ, Option, Some, None, IfSome}
-use Rattle.std.specs.Prelude.{IfNone}
-use Rattle.gnss_obs.specs.declared.civil.Civil.{Civil}
-use Rattle.gnss_obs.specs.Dates.{IsCivilOf, civil_of}
-use Rattle.gnss_obs.specs.Weeks.{week, weeks}
-use Rattle.rinex_file.specs.FileValues.{IsTime}
-use Rattle.rinex_file.specs.Read.Fields.{digits_in}
 use Rattle.rinex_file.proofs.EpochText.{ShowDate, HasColumns, epoch_shown, first_shown, has_columns, are_read, of_numbers, found, one_time}
-use Rattle.rinex_file.proofs.read.epoch.time_in.Goals as goal
 use Rattle.rinex_file.proofs.read.epoch.time_in.Goals.{After-from_civil}
+use Rattle.rinex_file.proofs.Names.{IfNone, Civil, IsCivilOf, civil_of, week, weeks, IsTime, digits_in}
+use Rattle.rinex_file.proofs.read.epoch.time_in.Goals as goal
 
 room : (c : After-from_civil) (t : ℕ) → IsTime t → HasColumns (civil_of t)
 room c t is = has_columns t (c.calendar.ensures.civil t is) (c.calendar.ensures.small t is)

@@ -1,7 +1,6 @@
 use Rattle.std.proofs.Common.{ap}
-use Rattle.std.specs.Prelude.{nat_eq}
-use Rattle.std.proofs.lemmas.Bool.{eqb-true}
 use Rattle.rinex_file.proofs.FieldRows.{limits}
+use Rattle.rinex_file.proofs.Names.{nat_eq, eqb-true}
 use Rattle.rinex_file.proofs.read.fields.are_digits.Goals as goal
 
 pub returns : goal.returns

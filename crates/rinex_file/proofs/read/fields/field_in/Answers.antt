@@ -1,11 +1,10 @@
 use Rattle.std.proofs.Common.{arith, ◌≡◌, ◌∙◌, ap, ap₂, refl, sym, ℕ, ◌+◌, ◌<◌, List, take, drop, Some, None, get_or}
-use Rattle.rinex_file.specs.Lines.{field}
-use Rattle.rinex_file.specs.Words.{field_row, field_row_with}
 use Rattle.rinex_file.proofs.FieldLanes.{lanes_are, lane_is, sixteen_long}
 use Rattle.rinex_file.proofs.FieldRows.{blanks, sixteen_blank}
 use Rattle.rinex_file.proofs.OneReading.{no_field, field_once, value_of}
-use Rattle.rinex_file.proofs.read.fields.field_in.Goals as goal
 use Rattle.rinex_file.proofs.read.fields.field_in.Goals.{After-blanks_in-empty}
+use Rattle.rinex_file.proofs.Names.{field, field_row, field_row_with}
+use Rattle.rinex_file.proofs.read.fields.field_in.Goals as goal
 
 counted : (c : After-blanks_in-empty) → c.blanks_in-empty.result ≡ blanks (take 16 (drop c.args.at c.args.text.now))
 counted c = c.blanks_in-empty.ensures.count ∙ ap blanks (lanes_are c.args.text.now c.args.at)

@@ -1,8 +1,8 @@
 use Rattle.std.proofs.Common.{◌≡◌, ◌∙◌, ap, ◌+◌, ◌*◌, get_or}
-use Rattle.rinex_file.specs.Words.{twos_of}
 use Rattle.rinex_file.proofs.FieldLanes.{ordered_below, size_is, size_l}
-use Rattle.rinex_file.proofs.read.fields.size_of.Goals as goal
 use Rattle.rinex_file.proofs.read.fields.size_of.Goals.{After-eights}
+use Rattle.rinex_file.proofs.Names.{twos_of}
+use Rattle.rinex_file.proofs.read.fields.size_of.Goals as goal
 
 pub twos-requires : goal.twos-requires
 twos-requires c = ordered_below c.args.digits c.fits-digits.0 c.requires

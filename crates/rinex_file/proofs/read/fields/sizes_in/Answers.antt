@@ -1,6 +1,5 @@
 use Rattle.std.proofs.Common.{arith, ◌≡◌, ◌∙◌, ap, ◌+◌, ◌-◌, true, eqb, slice_index, slice_index_or, [], refl}
-use Rattle.std.proofs.lemmas.Bool.{agree_below_at, eqb-true}
-use Rattle.rinex_file.specs.declared.read.fields.TheConstants.{SIZES}
+use Rattle.rinex_file.proofs.Names.{agree_below_at, eqb-true, SIZES}
 use Rattle.rinex_file.proofs.read.fields.sizes_in.Goals as goal
 
 pub returns-clause-signed_none : goal.returns-clause-signed_none

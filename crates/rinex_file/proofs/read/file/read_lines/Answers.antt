@@ -1,11 +1,8 @@
 use Rattle.std.proofs.Common.{arith, ◌≡◌, ◌∙◌, sym, ap, refl, true, false}
-use Rattle.std.specs.Prelude.{is_some, Result, Ok, Err, OnOk}
-use Rattle.std.specs.Result.{is_err}
-use Rattle.rinex_file.specs.Read.Keeping.{history_of}
-use Rattle.rinex_file.specs.ParserState.{nothing, with_line}
 use Rattle.rinex_file.proofs.LineByLine.{added_more, the_end, leaves_all, leaves_more}
-use Rattle.rinex_file.proofs.read.file.read_lines.Goals as goal
 use Rattle.rinex_file.proofs.read.file.read_lines.Goals.{else-is_stored-via-then-is_stored+else-is_err, else-is_stored-via-else-is_stored}
+use Rattle.rinex_file.proofs.Names.{is_some, Result, Ok, Err, OnOk, is_err, history_of, nothing, with_line}
+use Rattle.rinex_file.proofs.read.file.read_lines.Goals as goal
 
 -- a fact that holds if there was no error
 kept : {A E : Type 0} (r : Result A E) (P : Type 0) → is_err r ≡ false → OnOk r P → P

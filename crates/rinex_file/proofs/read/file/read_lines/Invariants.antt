@@ -1,9 +1,5 @@
 use Rattle.std.proofs.Common.{◌≡◌, ◌-◌, ◌+◌}
-use Rattle.rinex_file.specs.Blocks.{LeavesRest}
-use Rattle.rinex_file.specs.ParserState.{History}
-use Rattle.rinex_file.specs.Exact.{most_lines}
-use Rattle.rinex_file.specs.Read.Keeping.{Stores}
-use Rattle.rinex_file.specs.Read.Steps.{HasRead}
+use Rattle.rinex_file.proofs.Names.{LeavesRest, History, most_lines, Stores, HasRead}
 use Rattle.rinex_file.proofs.read.file.read_lines.Given as goal
 
 -- a history was read of the input, and it is stored, if one is

@@ -1,9 +1,7 @@
 use Rattle.std.proofs.Common.{arith, ◌≡◌, ◌∙◌, ap, w64, to_z, ◌<◌, ◌^◌, ℕ, List, take, drop}
-use Rattle.std.specs.Prelude.{codes, pos, min}
-use Rattle.rinex_file.specs.Header.{header_line, lengths, height_line}
-use Rattle.rinex_file.specs.Read.Fields.{digits_in}
 use Rattle.rinex_file.proofs.Judged.{exactly}
 use Rattle.rinex_file.proofs.HeaderAgree.{height-back}
+use Rattle.rinex_file.proofs.Names.{codes, pos, min, header_line, lengths, height_line, digits_in}
 use Rattle.rinex_file.proofs.read.header_lines.read_delta.Goals as goal
 
 -- the first columns of the line of a height contain the height

@@ -1,13 +1,7 @@
 use Rattle.std.proofs.Common.{arith, refl, ◌≡◌, ◌∙◌, sym, ap, subst, ℤ, ℕ, List, w64, to_z, of_z}
-use Rattle.std.proofs.lemmas.Int.{fits_signed_from_abs, to_z-of_z}
-use Rattle.std.specs.Prelude.{codes}
-use Rattle.std.specs.Bool.{then_some}
-use Rattle.gnss_obs.specs.declared.cell.StationValues.{StationValues}
-use Rattle.rinex_file.specs.FileValues.{IsCoordinate}
-use Rattle.rinex_file.specs.Header.{position_line}
-use Rattle.rinex_file.specs.Read.Progress.{IsPosition}
 use Rattle.rinex_file.proofs.Judged.{exactly}
 use Rattle.rinex_file.proofs.HeaderAgree.{lengths-back, coordinate-fits, number_at}
+use Rattle.rinex_file.proofs.Names.{fits_signed_from_abs, to_z-of_z, codes, then_some, StationValues, IsCoordinate, position_line, IsPosition}
 use Rattle.rinex_file.proofs.read.header_lines.read_position.Goals as goal
 
 abbrev at : ℤ → ℤ → ℤ → StationValues

@@ -1,12 +1,7 @@
 use Rattle.std.proofs.Common.{arith, rules, ◌≡◌, ◌∙◌, sym, ap, subst, refl, ◌≤◌, ◌+◌, ◌*◌, Option, ℕ, List, Bool, true, false, IsTrue, ◌↔◌, Some, None, length}
-use Rattle.std.proofs.lemmas.List.{drop_all}
-use Rattle.rinex_file.specs.declared.header.fields.HeaderField.{HeaderField}
-use Rattle.rinex_file.specs.declared.header.fields.TextRow.{TextRow}
-use Rattle.rinex_file.specs.Texts.{HeaderLists, fields_of, front_of, text_count, width_of}
-use Rattle.rinex_file.specs.Header.{texts_line}
-use Rattle.rinex_file.specs.Read.HeaderSteps.{ReadsOrRefusesTexts, texts_in}
 use Rattle.rinex_file.proofs.HeaderText.{not_same, not_printable, refused_text, added_text}
 use Rattle.rinex_file.proofs.Judged.{refused}
+use Rattle.rinex_file.proofs.Names.{drop_all, HeaderField, TextRow, HeaderLists, fields_of, front_of, text_count, width_of, texts_line, ReadsOrRefusesTexts, texts_in}
 use Rattle.rinex_file.proofs.read.header_lines.read_texts.Goals as goal
 
 compared : (r : TextRow) (line again : List ℕ) (old new : HeaderLists) (b : Bool) → length old ≡ text_count → texts_in (fields_of r) (length (front_of r)) line old ≡ Some new

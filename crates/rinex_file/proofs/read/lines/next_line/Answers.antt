@@ -1,12 +1,7 @@
 use Rattle.std.proofs.Common.{arith, ◌≡◌, ◌∙◌, sym, refl, subst, ℕ, ◌-◌, ◌≤◌, ◌<◌, [], Bool, false, nat_eq, List, length, Option}
-use Rattle.std.proofs.KnownBytes.{Consumes-nil}
-use Rattle.rtcm_bits.specs.Device.{HasFailed}
-use Rattle.rinex_file.specs.declared.read.lines.Found.{Found}
-use Rattle.rinex_file.specs.declared.read.lines.Found.TheVariants.{Line, End, Long, Failed}
-use Rattle.rinex_file.specs.Exact.{IsFound}
-use Rattle.rinex_file.specs.Read.Fields.{has}
-use Rattle.rinex_file.specs.Blocks.{MovesBytes}
+use Rattle.rinex_file.specs.declared.read.lines.Found.TheVariants.{End}
 use Rattle.rinex_file.proofs.LineByLine.{is_full, not_nil, consumed_none, moved_taken, line_whole, still_endless, longer, leaves_all, leaves_more}
+use Rattle.rinex_file.proofs.Names.{Consumes-nil, HasFailed, Found, Line, Long, Failed, IsFound, has, MovesBytes}
 use Rattle.rinex_file.proofs.read.lines.next_line.Goals as goal
 
 pub loop-block-init : goal.loop-block-init

@@ -1,7 +1,5 @@
 use Rattle.std.proofs.Common.{◌≡◌, ◌-◌, ◌≤◌, false, length}
-use Rattle.std.specs.Io.KnownBytes.{Consumes, prepend_known}
-use Rattle.rinex_file.specs.Blocks.{LeavesRest}
-use Rattle.rinex_file.specs.Read.Fields.{has}
+use Rattle.rinex_file.proofs.Names.{Consumes, prepend_known, LeavesRest, has}
 use Rattle.rinex_file.proofs.read.lines.next_line.Given as goal
 
 -- the bytes so far were consumed, no line feed is among them, and no read failed

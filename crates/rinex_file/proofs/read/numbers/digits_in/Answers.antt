@@ -1,6 +1,5 @@
 use Rattle.std.proofs.Common.{arith, ◌^◌, ◌≤◌, ◌<◌, ℕ}
-use Rattle.std.proofs.Math.Nat.{pow-le-pow_right}
-use Rattle.std.proofs.lemmas.Grind.{common_steps}
+use Rattle.rinex_file.proofs.Names.{pow-le-pow_right, common_steps}
 use Rattle.rinex_file.proofs.read.numbers.digits_in.Goals as goal
 
 below : (n i : ℕ) → n < 10 ^ i → i ≤ 18 → n < 10 ^ 18

@@ -1,6 +1,5 @@
-use Rattle.rinex_file.specs.Value.{no_signal_values}
-use Rattle.rinex_file.specs.Lines.{field}
 use Rattle.rinex_file.proofs.WrittenRow.{signal_is}
+use Rattle.rinex_file.proofs.Names.{no_signal_values, field}
 use Rattle.rinex_file.proofs.read.row.is_blank.Goals as goal
 
 pub returns : goal.returns

@@ -1,9 +1,8 @@
 use Rattle.std.proofs.Common.{arith, ◌≡◌, ◌∙◌, sym, ℕ, ◌<◌, true}
-use Rattle.std.specs.Prelude.{leb}
-use Rattle.std.proofs.lemmas.Bool.{eqb-true, leb-true}
 use Rattle.rinex_file.proofs.WrittenRow.{ends}
-use Rattle.rinex_file.proofs.read.row.is_ended.Goals as goal
 use Rattle.rinex_file.proofs.read.row.is_ended.Goals.{then-end-ge2, else-end-ge2}
+use Rattle.rinex_file.proofs.Names.{leb, eqb-true, leb-true}
+use Rattle.rinex_file.proofs.read.row.is_ended.Goals as goal
 
 no_less : (n : ℕ) → n < 2 → leb 2 n ≡ true → ⊥
 no_less n less is = let low = leb-true 2 n is in omega (arith, less, low)

@@ -1,7 +1,6 @@
 use Rattle.std.proofs.Common.{◌∙◌, ap, refl, ◌*◌, ◌/◌, length}
-use Rattle.std.proofs.lemmas.List.{take_rest}
-use Rattle.rinex_file.specs.Blanks.{filled_to}
 use Rattle.rinex_file.proofs.CutColumns.{filled_over}
+use Rattle.rinex_file.proofs.Names.{take_rest, filled_to}
 use Rattle.rinex_file.proofs.read.row.last_columns.Goals as goal
 
 pub returns : goal.returns

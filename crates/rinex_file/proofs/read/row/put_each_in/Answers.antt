@@ -1,12 +1,8 @@
 use Rattle.std.proofs.Common.{arith, ◌≡◌, ◌∙◌, refl, sym, subst, ◌+◌, ◌*◌, ◌<◌, take, length, [], ◌∷◌, ◌++◌, All, slice_set, ap, get_or, drop}
-use Rattle.std.proofs.lemmas.List.{take_more_set}
-use Rattle.std.proofs.lemmas.List.Elements.{All-push}
-use Rattle.rinex_file.specs.FileValues.{AreSignalValues}
-use Rattle.rinex_file.specs.Blanks.{filled_to}
 use Rattle.rinex_file.proofs.WrittenRow.{signals_more, some_more}
 use Rattle.rinex_file.proofs.CutColumns.{filled_part, all_read}
 use Rattle.rinex_file.proofs.OneReading.{signal_at}
-use Rattle.rinex_file.specs.Value.{no_signal_values}
+use Rattle.rinex_file.proofs.Names.{take_more_set, All-push, AreSignalValues, filled_to, no_signal_values}
 use Rattle.rinex_file.proofs.read.row.put_each_in.Goals as goal
 
 pub loop-i-preserved : goal.loop-i-preserved

@@ -1,9 +1,5 @@
 use Rattle.std.proofs.Common.{◌≡◌, ◌*◌, take, length, All}
-use Rattle.std.specs.Prelude.{flat_map}
-use Rattle.std.specs.List.{list_any}
-use Rattle.rinex_file.specs.FileValues.{AreSignalValues, has_some_value}
-use Rattle.rinex_file.specs.Blanks.{filled_to}
-use Rattle.rinex_file.specs.Lines.{signal_text}
+use Rattle.rinex_file.proofs.Names.{flat_map, list_any, AreSignalValues, has_some_value, filled_to, signal_text}
 use Rattle.rinex_file.proofs.read.row.put_each_in.Given as goal
 
 -- the entries so far, and their columns

@@ -1,11 +1,5 @@
 use Rattle.std.proofs.Common.{arith, ◌≡◌, ◌∙◌, sym, ap, subst, ℕ, ◌*◌, List, ◌++◌, length, take, drop, append-nil}
-use Rattle.std.proofs.lemmas.List.{take_all, drop_all}
-use Rattle.rinex_file.specs.Value.{SignalValues}
-use Rattle.rinex_file.specs.Blanks.{filled_to}
-use Rattle.std.specs.Prelude.{flat_map}
-use Rattle.rinex_file.specs.Lines.{signal_text}
-use Rattle.rinex_file.specs.Read.Fields.{ReadsExactly, some_if}
-use Rattle.rinex_file.specs.Read.Row.{AreEntries}
+use Rattle.rinex_file.proofs.Names.{take_all, drop_all, SignalValues, filled_to, flat_map, signal_text, ReadsExactly, some_if, AreEntries}
 use Rattle.rinex_file.proofs.read.row.put_written_in.Goals as goal
 
 -- a list after all its elements were lent

@@ -1,20 +1,10 @@
 use Rattle.std.proofs.Common.{arith, ◌≡◌, ◌∙◌, sym, ap, refl, subst, ℕ, ◌*◌, ◌≤◌, List, Bool, true, false, take}
-use Rattle.std.specs.Prelude.{flat_map}
-use Rattle.std.proofs.lemmas.List.{take_rest}
-use Rattle.gnss_obs.specs.declared.system.System.{System}
-use Rattle.gnss_obs.specs.Satellites.{satellites}
-use Rattle.rinex_file.specs.Value.{SatelliteRow}
-use Rattle.rinex_file.specs.Lines.{letter_of, satellite_line, signal_text}
-use Rattle.rinex_file.specs.Blanks.{filled_to}
-use Rattle.rinex_file.specs.Read.Fields.{ReadsExactly, some_if}
-use Rattle.rinex_file.specs.Read.Row.{AreEntries, IsRowOf}
 use Rattle.rinex_file.proofs.Judged.{refused}
 use Rattle.rinex_file.proofs.CutColumns.{cut_line_is}
 use Rattle.rinex_file.proofs.OneReading.{IsTextOf, line_ended, line_once, text_of_line}
+use Rattle.rinex_file.proofs.read.row.read_of.Goals.{After-saturating_sub, then-text-lt3-via-then-text-lt3, then-text-lt3-via-else-text-lt3+then-text-signals, then-text-letter_of-via-then-text-letter_of, then-text-letter_of-via-else-text-letter_of+then-id-eq0, then-text-letter_of-via-else-text-letter_of+else-id-eq0+then-id-satellites}
+use Rattle.rinex_file.proofs.Names.{flat_map, take_rest, System, satellites, SatelliteRow, letter_of, satellite_line, signal_text, filled_to, ReadsExactly, some_if, AreEntries, IsRowOf}
 use Rattle.rinex_file.proofs.read.row.read_of.Goals as goal
-use Rattle.rinex_file.proofs.read.row.read_of.Goals.{After-saturating_sub}
-use Rattle.rinex_file.proofs.read.row.read_of.Goals.{then-text-lt3-via-then-text-lt3, then-text-lt3-via-else-text-lt3+then-text-signals}
-use Rattle.rinex_file.proofs.read.row.read_of.Goals.{then-text-letter_of-via-then-text-letter_of, then-text-letter_of-via-else-text-letter_of+then-id-eq0, then-text-letter_of-via-else-text-letter_of+else-id-eq0+then-id-satellites}
 
 pub returns-then-not-is_ended : goal.returns-then-not-is_ended
 returns-then-not-is_ended c = λ v is e. refused c.is_ended.result _ c.is_ended.ensures c.if-not-is_ended.true (line_ended v c.args.line.now e)

@@ -1,13 +1,6 @@
 use Rattle.std.proofs.Common.{arith, ◌≡◌, ◌≢◌, ◌∙◌, sym, ap, refl, ℕ, ◌<◌, List, Option, Some, None}
-use Rattle.std.specs.Prelude.{slice_get, option_copied}
-use Rattle.gnss_obs.specs.declared.system.System.{System}
-use Rattle.gnss_obs.specs.declared.system.System.TheVariants.{Gps, Galileo}
-use Rattle.rinex_file.specs.Value.{Row, SatelliteRow}
-use Rattle.rinex_file.specs.FileValues.{IsSatelliteRow, IsRow, of_system}
-use Rattle.rinex_file.specs.Lines.{satellite_line, letter_of}
-use Rattle.rinex_file.specs.Read.Fields.{ReadsExactly}
-use Rattle.rinex_file.specs.Read.Row.{IsRowOf}
 use Rattle.rinex_file.proofs.RowText.{front_line}
+use Rattle.rinex_file.proofs.Names.{slice_get, option_copied, System, Gps, Galileo, Row, SatelliteRow, IsSatelliteRow, IsRow, of_system, satellite_line, letter_of, ReadsExactly, IsRowOf}
 use Rattle.rinex_file.proofs.read.row.read_seen.Goals as goal
 
 -- a row with a value has a signal

@@ -1,8 +1,8 @@
 use Rattle.std.proofs.Common.{arith, ◌∙◌, sym}
 use Rattle.rinex_file.proofs.OneReading.{number_once}
 use Rattle.rinex_file.proofs.WrittenRow.{digits_shown, number_shown}
-use Rattle.rinex_file.proofs.read.row.two_digits_in.Goals as goal
 use Rattle.rinex_file.proofs.read.row.two_digits_in.Goals.{then-tens-lt48-via-then-tens-lt48, then-tens-lt48-via-else-tens-lt48+then-tens-gt57, then-ones-lt48-via-then-ones-lt48, then-ones-lt48-via-else-ones-lt48+then-ones-gt57}
+use Rattle.rinex_file.proofs.read.row.two_digits_in.Goals as goal
 
 pub returns-then-tens-lt48 : goal.returns-then-tens-lt48
 returns-then-tens-lt48 c = λ v h e.

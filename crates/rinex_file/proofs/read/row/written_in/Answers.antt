@@ -1,13 +1,11 @@
 use Rattle.std.proofs.Common.{◌≡◌, ◌∙◌, sym, ap, ap₂, subst, [], ◌∷◌, get_or, ℤ, pos, Option, IfSome}
-use Rattle.rinex_file.specs.Value.{SignalValues}
-use Rattle.rinex_file.specs.FileValues.{AreSignalValues, IsFrom}
-use Rattle.rinex_file.specs.Lines.{field, strength_byte, signal_text}
 use Rattle.rinex_file.proofs.Judged.{refused}
 use Rattle.rinex_file.proofs.OneReading.{has_fields, lli_column, signal_read, blank_read, none_read}
 use Rattle.rinex_file.proofs.RowText.{strength_fits}
 use Rattle.rinex_file.proofs.WrittenRow.{signal_is}
-use Rattle.rinex_file.proofs.read.row.written_in.Goals as goal
 use Rattle.rinex_file.proofs.read.row.written_in.Goals.{After-strength_column-strength}
+use Rattle.rinex_file.proofs.Names.{SignalValues, AreSignalValues, IsFrom, field, strength_byte, signal_text}
+use Rattle.rinex_file.proofs.read.row.written_in.Goals as goal
 
 -- the strength column of values that are written here
 strength : (c : After-strength_column-strength) (e : SignalValues) → AreSignalValues e → c.args.text.now ≡ signal_text e → c.strength_column-strength.result ≡ strength_byte e.s

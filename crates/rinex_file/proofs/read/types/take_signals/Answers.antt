@@ -1,13 +1,8 @@
 use Rattle.std.proofs.Common.{arith, ◌≡◌, ◌∙◌, ap, refl, subst, ℕ, List, [], ◌∷◌, ◌++◌, length-append, length, take, min, ◌+◌, ◌*◌, ◌<◌, ◌≤◌}
-use Rattle.std.specs.Prelude.{Ok}
-use Rattle.std.proofs.lemmas.List.{take_at, take_min}
-use Rattle.std.proofs.lemmas.Grind.{common_steps}
-use Rattle.gnss_obs.specs.declared.system.System.{System}
-use Rattle.gnss_obs.specs.Signals.{SignalAt, IsSignal, table}
-use Rattle.gnss_obs.specs.SignalLists.{indices, IsAdded, IsOf}
 use Rattle.rinex_file.proofs.Entries.{few_signals}
 use Rattle.rinex_file.proofs.Judged.{at_some}
 use Rattle.rinex_file.proofs.TypeRows.{still_grows, not_read, taken_more, taken_before}
+use Rattle.rinex_file.proofs.Names.{Ok, take_at, take_min, common_steps, System, SignalAt, IsSignal, table, indices, IsAdded, IsOf}
 use Rattle.rinex_file.proofs.read.types.take_signals.Goals as goal
 
 -- the index of the signal is below that of the first one of the next line, and there are that many

@@ -1,10 +1,8 @@
 use Rattle.std.proofs.Common.{arith, ◌≡◌, ◌∙◌, sym, ap, ap₂, refl, ℕ, List, [], ◌∷◌, ◌++◌, ◌+◌, ◌/◌, ◌%◌, ◌<◌, ◌≤◌, length, replicate, decimal, pos, Some}
-use Rattle.std.proofs.lemmas.Fmt.{decimal_digit, decimal_step}
-use Rattle.rinex_file.specs.Lines.{field}
-use Rattle.rinex_file.specs.Numbers.{padded}
 use Rattle.rinex_file.proofs.Columns.{plain_text}
 use Rattle.rinex_file.proofs.Digits.{not_negative}
 use Rattle.rinex_file.proofs.DigitWords.{three_digits}
+use Rattle.rinex_file.proofs.Names.{decimal_digit, decimal_step, field, padded}
 use Rattle.rinex_file.proofs.write.digits.columns_of.Goals as goal
 
 -- a point, the digits of thousandths and two blanks

@@ -1,8 +1,6 @@
 use Rattle.std.proofs.Common.{◌∙◌, ◌∷◌, ◌*◌, [], ap, refl, decimal}
-use Rattle.std.specs.Prelude.{codes, pos}
-use Rattle.rinex_file.specs.Lines.{epoch_line}
-use Rattle.rinex_file.specs.Numbers.{right, fixed, padded}
 use Rattle.rinex_file.proofs.Grown.{grown_whole}
+use Rattle.rinex_file.proofs.Names.{codes, pos, epoch_line, right, fixed, padded}
 use Rattle.rinex_file.proofs.write.epoch.epoch_line.Goals as goal
 
 pub returns : goal.returns

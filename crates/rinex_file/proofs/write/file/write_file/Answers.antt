@@ -1,9 +1,7 @@
 use Rattle.std.proofs.Common.{◌∙◌, sym, ap, ◌++◌, append-nil, subst, All}
-use Rattle.rinex_file.specs.Value.{Stamped, FileValue}
-use Rattle.rinex_file.specs.File.{header_text}
-use Rattle.rinex_file.specs.Read.Keeping.{HaveRowsRoom, stamped_text}
 use Rattle.rinex_file.proofs.KeptFile.{lines_have_room, all_written, one_more}
 use Rattle.rinex_file.proofs.Sent.{failed}
+use Rattle.rinex_file.proofs.Names.{Stamped, FileValue, header_text, HaveRowsRoom, stamped_text}
 use Rattle.rinex_file.proofs.write.file.write_file.Goals as goal
 
 pub write_kept-requires : goal.write_kept-requires

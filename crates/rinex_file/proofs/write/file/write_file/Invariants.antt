@@ -1,8 +1,5 @@
 use Rattle.std.proofs.Common.{◌≡◌, ◌++◌, take, get_or}
-use Rattle.std.specs.Prelude.{flat_map}
-use Rattle.rinex_file.specs.Value.{Stamped}
-use Rattle.rinex_file.specs.File.{header_text}
-use Rattle.rinex_file.specs.Read.Keeping.{stamped_text}
+use Rattle.rinex_file.proofs.Names.{flat_map, Stamped, header_text, stamped_text}
 use Rattle.rinex_file.proofs.write.file.write_file.Given as goal
 
 -- the header and the epochs so far were written

@@ -1,18 +1,10 @@
 use Rattle.std.proofs.Common.{◌∙◌, ◌++◌, refl, ap, ap₂, ◌≤◌, subst, sym, length, append-nil, List, All}
-use Rattle.std.specs.Prelude.{flat_map}
-use Rattle.std.proofs.lemmas.List.{take_all}
-use Rattle.gnss_obs.specs.Dates.{civil_of}
-use Rattle.rinex_file.specs.Numbers.{joined}
-use Rattle.rinex_file.specs.File.{change_lines}
-use Rattle.rinex_file.specs.FileValues.{AreSignalValues}
-use Rattle.rinex_file.specs.Lines.{epoch_line, satellite_line}
-use Rattle.rinex_file.specs.Read.Keeping.{HasRoom}
-use Rattle.rinex_file.specs.Value.{SignalValues, SatelliteRow, Stamped, satellite_row}
 use Rattle.rinex_file.proofs.KeptFile.{epoch_whole, one_more}
 use Rattle.rinex_file.proofs.RowText.{all_values_fit}
 use Rattle.rinex_file.proofs.Sent.{failed}
-use Rattle.rinex_file.proofs.write.file.write_kept.Goals as goal
 use Rattle.rinex_file.proofs.write.file.write_kept.Goals.{After-as_slice-values}
+use Rattle.rinex_file.proofs.Names.{flat_map, take_all, civil_of, joined, change_lines, AreSignalValues, epoch_line, satellite_line, HasRoom, SignalValues, SatelliteRow, Stamped, satellite_row}
+use Rattle.rinex_file.proofs.write.file.write_kept.Goals as goal
 
 pub loop-kept-init : goal.loop-kept-init
 loop-kept-init c =

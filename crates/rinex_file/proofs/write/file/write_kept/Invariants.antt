@@ -1,9 +1,5 @@
 use Rattle.std.proofs.Common.{◌≡◌, ◌++◌, take, length}
-use Rattle.std.specs.Prelude.{flat_map}
-use Rattle.gnss_obs.specs.Dates.{civil_of}
-use Rattle.rinex_file.specs.Numbers.{joined}
-use Rattle.rinex_file.specs.File.{change_lines}
-use Rattle.rinex_file.specs.Lines.{epoch_line, satellite_line}
+use Rattle.rinex_file.proofs.Names.{flat_map, civil_of, joined, change_lines, epoch_line, satellite_line}
 use Rattle.rinex_file.proofs.write.file.write_kept.Given as goal
 
 -- the change, the epoch line and the satellites so far were written

@@ -1,8 +1,6 @@
 use Rattle.std.proofs.Common.{arith, ◌≡◌, ◌∙◌, ap, inl, inr, unsigned_abs, to_z, of_z, w64}
-use Rattle.std.specs.Int.{is_negative}
-use Rattle.std.proofs.lemmas.Bool.{cases_Bool}
-use Rattle.std.proofs.lemmas.Int.{to_z-of_z}
 use Rattle.rinex_file.proofs.Columns.{lanes_of, signed_lanes_of, plain_field, signed_field, within_columns, within_signed}
+use Rattle.rinex_file.proofs.Names.{is_negative, cases_Bool, to_z-of_z}
 use Rattle.rinex_file.proofs.write.lanes.columns_in.Goals as goal
 
 pub returns-clause-text : goal.returns-clause-text

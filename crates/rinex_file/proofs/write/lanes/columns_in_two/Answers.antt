@@ -1,9 +1,6 @@
 use Rattle.std.proofs.Common.{arith, ◌≡◌, ◌∙◌, ap, inl, inr, unsigned_abs, to_z, of_z, w64, ℤ, pos, negsuc, ◌<◌, ◌^◌}
-use Rattle.std.specs.Int.{is_negative}
-use Rattle.std.proofs.lemmas.Bool.{cases_Bool}
-use Rattle.std.proofs.lemmas.Int.{to_z-of_z, ints}
-use Rattle.rinex_file.specs.FileValues.{FitsColumns}
 use Rattle.rinex_file.proofs.Columns.{lanes_of, signed_lanes_of, plain_field, signed_field}
+use Rattle.rinex_file.proofs.Names.{is_negative, cases_Bool, to_z-of_z, ints, FitsColumns}
 use Rattle.rinex_file.proofs.write.lanes.columns_in_two.Goals as goal
 
 fits : (v : ℤ) → unsigned_abs v < 10 ^ 8 → FitsColumns v

@@ -1,12 +1,9 @@
 use Rattle.std.proofs.Common.{arith, ◌≡◌, ◌∙◌, sym, ap, ap₂, ◌-◌, ◌/◌, ◌≤◌, ◌<◌, ◌^◌, ◌++◌, length, take, replicate, decimal, ℕ}
-use Rattle.std.specs.Prelude.{set}
-use Rattle.std.proofs.lemmas.Fmt.{length-decimal-le}
-use Rattle.std.proofs.lemmas.Simd.{length-zip2}
-use lib.Lanes.{zip2}
-use Rattle.rinex_file.specs.Words.{digit_columns, leading, template}
 use Rattle.rinex_file.proofs.LaneColumns.{added, front, rest, start_is, plain_columns, signed_columns}
-use Rattle.rinex_file.proofs.write.lanes.columns_with.Goals as goal
 use Rattle.rinex_file.proofs.write.lanes.columns_with.Goals.{After-zeros}
+use Rattle.rinex_file.proofs.Names.{set, length-decimal-le, length-zip2, digit_columns, leading, template}
+use lib.Lanes.{zip2}
+use Rattle.rinex_file.proofs.write.lanes.columns_with.Goals as goal
 
 first : (c : After-zeros) (s : ℕ) → c.args.digits ≡ digit_columns s 0 0 → c.zeros.result ≡ leading (front s)
 first c s are = c.zeros.ensures ∙ ap (λ l. leading (take 9 l)) are

@@ -1,6 +1,6 @@
 use Rattle.std.proofs.Common.{arith}
-use Rattle.std.proofs.lemmas.Grind.{common_steps}
 use Rattle.rinex_file.proofs.Digits.{ten_pow}
+use Rattle.rinex_file.proofs.Names.{common_steps}
 use Rattle.rinex_file.proofs.write.line.fixed_text.Goals as goal
 
 pub nonzero_div-size : goal.nonzero_div-size

@@ -1,5 +1,5 @@
 use Rattle.std.proofs.Common.{arith, ◌∙◌, ap, ◌++◌}
-use Rattle.std.proofs.lemmas.List.{take-replicate}
+use Rattle.rinex_file.proofs.Names.{take-replicate}
 use Rattle.rinex_file.proofs.write.line.put_blanks.Goals as goal
 
 pub returns-then-count-gt0-clause-text : goal.returns-then-count-gt0-clause-text

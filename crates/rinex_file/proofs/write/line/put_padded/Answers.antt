@@ -1,5 +1,5 @@
 use Rattle.std.proofs.Common.{arith}
-use Rattle.std.proofs.lemmas.Grind.{common_steps}
+use Rattle.rinex_file.proofs.Names.{common_steps}
 use Rattle.rinex_file.proofs.write.line.put_padded.Goals as goal
 
 pub push-requires : goal.push-requires

@@ -1,6 +1,6 @@
 use Rattle.std.proofs.Common.{arith, ◌≡◌, ◌*◌, ◌-◌, ◌+◌, length, take}
-use Rattle.std.proofs.lemmas.List.{length-take-le}
 use Rattle.rinex_file.proofs.CellPlaces.{put_first}
+use Rattle.rinex_file.proofs.Names.{length-take-le}
 use Rattle.rinex_file.proofs.write.satellite.put_columns.Goals as goal
 
 pub returns-clause-text : goal.returns-clause-text

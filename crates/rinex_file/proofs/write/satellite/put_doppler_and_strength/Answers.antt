@@ -1,7 +1,5 @@
 use Rattle.std.proofs.Common.{arith, ◌≡◌, ◌∙◌, ap, ap₂, ◌++◌, Some, length, to_z, of_z, w64}
-use Rattle.std.proofs.lemmas.Int.{to_z-of_z}
-use Rattle.std.proofs.lemmas.Simd.{put_chunk_whole}
-use Rattle.rinex_file.specs.Lines.{field}
+use Rattle.rinex_file.proofs.Names.{to_z-of_z, put_chunk_whole, field}
 use Rattle.rinex_file.proofs.write.satellite.put_doppler_and_strength.Goals as goal
 
 pub returns-then-unsigned_abs-lt100000000-clause-text : goal.returns-then-unsigned_abs-lt100000000-clause-text

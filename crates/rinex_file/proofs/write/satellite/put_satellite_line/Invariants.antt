@@ -1,9 +1,5 @@
 use Rattle.std.proofs.Common.{◌≤◌, ◌<◌, ◌∷◌, length, take, drop}
-use Rattle.rinex_file.specs.Numbers.{padded}
-use Rattle.rinex_file.specs.Value.{entries_of}
-use Rattle.rinex_file.specs.Lines.{letter_of}
-use Rattle.rinex_file.specs.Rows.{HasSignals}
-use Rattle.rinex_file.specs.Limits.{most_line}
+use Rattle.rinex_file.proofs.Names.{padded, entries_of, letter_of, HasSignals, most_line}
 use Rattle.rinex_file.proofs.write.satellite.put_satellite_line.Given as goal
 
 -- the columns so far have the values of the cells from here on

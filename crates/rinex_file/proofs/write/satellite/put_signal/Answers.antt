@@ -1,6 +1,5 @@
 use Rattle.std.proofs.Common.{arith}
-use Rattle.std.proofs.lemmas.Grind.{common_steps}
-use Rattle.rinex_file.specs.Lines.{signal_text}
+use Rattle.rinex_file.proofs.Names.{common_steps, signal_text}
 use Rattle.rinex_file.proofs.write.satellite.put_signal.Goals as goal
 
 pub returns-clause-text : goal.returns-clause-text

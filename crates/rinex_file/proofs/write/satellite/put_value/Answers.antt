@@ -1,10 +1,6 @@
 use Rattle.std.proofs.Common.{arith, ◌≡◌, ◌∙◌, ap, Some, length, to_z, of_z, w64}
-use Rattle.std.specs.Prelude.{set}
-use Rattle.std.proofs.lemmas.Int.{to_z-of_z}
-use Rattle.std.proofs.lemmas.Simd.{put_chunk_whole}
-use Rattle.rinex_file.specs.FileValues.{FitsColumns}
-use Rattle.rinex_file.specs.Lines.{field}
 use Rattle.rinex_file.proofs.Columns.{with_ends}
+use Rattle.rinex_file.proofs.Names.{set, to_z-of_z, put_chunk_whole, FitsColumns, field}
 use Rattle.rinex_file.proofs.write.satellite.put_value.Goals as goal
 
 pub returns-clause-text : goal.returns-clause-text

@@ -1,13 +1,8 @@
 use Rattle.std.proofs.Common.{arith, ◌≡◌, ◌∙◌, refl, sym, ap, subst, ℕ, ◌+◌, ◌-◌, ◌<◌, List, [], ◌∷◌, ◌++◌, length, take, drop, replicate, length-append}
-use Rattle.std.proofs.lemmas.List.{length-replicate}
-use Rattle.std.specs.Prelude.{slice_set}
-use Rattle.rinex_file.specs.Numbers.{padded}
-use Rattle.rinex_file.specs.Lines.{letter_of, satellite_line}
-use Rattle.rinex_file.specs.Value.{SignalValues, no_signal_values}
-use Rattle.rinex_file.specs.Rows.{HasSignals}
 use Rattle.rinex_file.proofs.CellPlaces.{begun_values, value_put, value_passed, front_fit, trimmed_line, front_length}
-use Rattle.rinex_file.proofs.write.satellite.put_values.Goals as goal
 use Rattle.rinex_file.proofs.write.satellite.put_values.Goals.{After-loop-place}
+use Rattle.rinex_file.proofs.Names.{length-replicate, slice_set, padded, letter_of, satellite_line, SignalValues, no_signal_values, HasSignals}
+use Rattle.rinex_file.proofs.write.satellite.put_values.Goals as goal
 
 within : (values : List SignalValues) (n : ℕ) → n < length values → n < length (replicate (n + 1) no_signal_values ++ drop (n + 1) values)
 within values n h = rw (length-append (replicate (n + 1) no_signal_values) (drop (n + 1) values), length-replicate (n + 1) no_signal_values) (omega arith)

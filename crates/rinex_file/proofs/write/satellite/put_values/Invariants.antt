@@ -1,9 +1,5 @@
 use Rattle.std.proofs.Common.{◌≤◌, ◌<◌, ◌∷◌, ◌++◌, length, take, drop, replicate}
-use Rattle.rinex_file.specs.Numbers.{padded}
-use Rattle.rinex_file.specs.Value.{no_signal_values}
-use Rattle.rinex_file.specs.Lines.{letter_of}
-use Rattle.rinex_file.specs.Rows.{HasSignals}
-use Rattle.rinex_file.specs.Limits.{most_line}
+use Rattle.rinex_file.proofs.Names.{padded, no_signal_values, letter_of, HasSignals, most_line}
 use Rattle.rinex_file.proofs.write.satellite.put_values.Given as goal
 
 -- the line has the signals from here on

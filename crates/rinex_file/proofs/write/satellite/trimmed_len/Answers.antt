@@ -1,7 +1,6 @@
 use Rattle.std.proofs.Common.{arith}
-use Rattle.std.proofs.lemmas.Grind.{common_steps}
-use Rattle.rinex_file.specs.Blanks.{trimmed}
 use Rattle.rinex_file.proofs.Cuts.{cut_more, cut_enough}
+use Rattle.rinex_file.proofs.Names.{common_steps, trimmed}
 use Rattle.rinex_file.proofs.write.satellite.trimmed_len.Goals as goal
 
 pub loop-end-preserved : goal.loop-end-preserved

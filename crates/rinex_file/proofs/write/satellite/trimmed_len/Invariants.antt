@@ -1,5 +1,5 @@
 use Rattle.std.proofs.Common.{◌≡◌, ◌≤◌, length, take}
-use Rattle.rinex_file.specs.Blanks.{trimmed}
+use Rattle.rinex_file.proofs.Names.{trimmed}
 use Rattle.rinex_file.proofs.write.satellite.trimmed_len.Given as goal
 
 -- the bytes from `end` on are trailing blanks

@@ -1,9 +1,8 @@
 use Rattle.std.proofs.Common.{arith, ◌≡◌, ◌∙◌, sym, ap, ◌∷◌, ◌+◌, ◌<◌, ℕ, suc, List, length}
-use Rattle.gnss_obs.specs.Dates.{civil_of}
-use Rattle.rinex_file.specs.Header.{lines_from, row_line, row_at}
 use Rattle.rinex_file.proofs.HeaderAgree.{line_next}
-use Rattle.rinex_file.proofs.header.head.HeaderLinesIterator.next.Goals as goal
 use Rattle.rinex_file.proofs.header.head.HeaderLinesIterator.next.Goals.{After-line_of}
+use Rattle.rinex_file.proofs.Names.{civil_of, lines_from, row_line, row_at}
+use Rattle.rinex_file.proofs.header.head.HeaderLinesIterator.next.Goals as goal
 
 pub returns-in_err-place-clause-steps : goal.returns-in_err-place-clause-steps
 returns-in_err-place-clause-steps c = grind (arith, c.self.inside, (sym c.self.view_is ∙ c.in_err-place.ensures.none c.self.inside.head.texts.now c.self.inside.head.values (civil_of c.self.inside.head.first)))

@@ -1,5 +1,5 @@
-use Rattle.rinex_file.specs.Texts.{text_count}
 use Rattle.rinex_file.proofs.HeaderEnd.{blank_texts, all_blank}
+use Rattle.rinex_file.proofs.Names.{text_count}
 use Rattle.rinex_file.proofs.header.texts.HeaderTexts.blank.Goals as goal
 
 pub invariant_of-result : goal.invariant_of-result

@@ -1,11 +1,6 @@
 use Rattle.std.proofs.Common.{arith, ◌∙◌, sym, ap, refl}
-use Rattle.std.specs.Prelude.{Err}
-use Rattle.std.specs.Result.{result_err}
-use Rattle.std.proofs.lemmas.Result.{err_from_is_err_and}
-use Rattle.std.proofs.lemmas.Grind.{common_steps}
-use Rattle.rinex_file.specs.Texts.{fault_of}
-use Rattle.rinex_file.specs.TextsOf.{lists_of}
 use Rattle.rinex_file.proofs.HeaderText.{fault_here, fine_here, one_stored, all_cut}
+use Rattle.rinex_file.proofs.Names.{Err, result_err, err_from_is_err_and, common_steps, fault_of, lists_of}
 use Rattle.rinex_file.proofs.header.texts.HeaderTexts.new.Goals as goal
 
 pub loop-field-preserved : goal.loop-field-preserved

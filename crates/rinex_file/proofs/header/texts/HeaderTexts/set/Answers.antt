@@ -1,10 +1,8 @@
 use Rattle.std.proofs.Common.{arith, ◌≡◌, ◌∙◌, sym, ap, ap₂, ◌≤◌, ◌++◌, length, set, take, map, length-take}
-use Rattle.std.proofs.lemmas.List.{map-set}
-use Rattle.rinex_file.specs.Blanks.{trimmed}
-use Rattle.rinex_file.specs.Texts.{place_of, width_of}
 use Rattle.rinex_file.proofs.HeaderText.{set_text, cut_text}
-use Rattle.rinex_file.proofs.header.texts.HeaderTexts.set.Goals as goal
 use Rattle.rinex_file.proofs.header.texts.HeaderTexts.set.Goals.{After-put}
+use Rattle.rinex_file.proofs.Names.{map-set, trimmed, place_of, width_of}
+use Rattle.rinex_file.proofs.header.texts.HeaderTexts.set.Goals as goal
 
 kept : (c : After-put) → c.put.new.line.items ≡ trimmed c.args.text.now
 kept c = c.put.ensures.text ∙ ap (λ l. l ++ take c.trimmed_len.result c.args.text.now) c.new-taken.ensures ∙ c.trimmed_len.ensures.text

@@ -1,9 +1,7 @@
 use Rattle.std.proofs.Common.{arith, ◌≡◌, ap, subst, sym}
-use Rattle.gnss_obs.specs.declared.system.System.TheVariants.{Gps, Galileo}
-use Rattle.gnss_obs.specs.SignalLists.{indices}
-use Rattle.rinex_file.specs.FileValues.{AreValues}
 use Rattle.rinex_file.proofs.Judged.{at_some}
 use Rattle.rinex_file.proofs.HeaderEnd.{begins, none_read, zero_time, zero_values}
+use Rattle.rinex_file.proofs.Names.{Gps, Galileo, indices, AreValues}
 use Rattle.rinex_file.proofs.read.head_so_far.HeadSoFar.new.Goals as goal
 
 pub returns : goal.returns

@@ -1,6 +1,5 @@
 use Rattle.std.proofs.Common.{◌-◌}
-use Rattle.rinex_file.specs.Header.{row_count}
-use Rattle.rinex_file.specs.Read.HeaderSteps.{SameFrom}
+use Rattle.rinex_file.proofs.Names.{row_count, SameFrom}
 use Rattle.rinex_file.proofs.read.head_so_far.HeadSoFar.place_from.Given as goal
 
 -- no row so far has a line

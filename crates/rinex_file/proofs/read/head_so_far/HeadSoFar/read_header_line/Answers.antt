@@ -1,11 +1,6 @@
 use Rattle.std.proofs.Common.{◌≡◌, subst, sym, refl, ℕ, List, Bool, true, false, inl, inr}
-use Rattle.rinex_file.specs.declared.header.fields.TextRow.{TextRow}
-use Rattle.rinex_file.specs.declared.header.rows.HeaderRow.{HeaderRow}
-use Rattle.rinex_file.specs.declared.header.rows.HeaderRow.TheVariants.{Texts}
-use Rattle.rinex_file.specs.Texts.{HeaderLists}
-use Rattle.rinex_file.specs.Read.Progress.{Known}
-use Rattle.rinex_file.specs.Read.HeaderSteps.{IsOnly, ReadsOrRefuses, ReadsOrRefusesTexts, with_texts}
 use Rattle.rinex_file.proofs.HeaderRead.{line_version, refuse_version, line_texts, refuse_texts, line_position, refuse_position, line_delta, refuse_delta, line_unit, line_first, refuse_first, line_shift}
+use Rattle.rinex_file.proofs.Names.{TextRow, HeaderRow, Texts, HeaderLists, Known, IsOnly, ReadsOrRefuses, ReadsOrRefusesTexts, with_texts}
 use Rattle.rinex_file.proofs.read.head_so_far.HeadSoFar.read_header_line.Goals as goal
 
 -- the row and what was known before it, by other names

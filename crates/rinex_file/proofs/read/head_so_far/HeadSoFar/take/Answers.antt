@@ -1,21 +1,9 @@
 use Rattle.std.proofs.Common.{◌≡◌, ◌∙◌, ◌+◌, ◌<◌, sym, ap, subst, refl, ℕ, List}
-use Rattle.std.specs.Prelude.{Result, Ok, Err}
-use Rattle.std.specs.Result.{IsErrAnd}
-use Rattle.gnss_obs.specs.declared.system.System.{System}
-use Rattle.rinex_file.specs.declared.header.rows.HeaderRow.{HeaderRow}
-use Rattle.rinex_file.specs.declared.read.expected.Expected.{Expected}
-use Rattle.rinex_file.specs.declared.read.expected.Expected.TheVariants.{Header, Epoch}
-use Rattle.rinex_file.specs.declared.read.expected.Refusal.{Refusal}
-use Rattle.rinex_file.specs.declared.read.expected.Refusal.TheVariants.{Memory, Bad}
-use Rattle.rinex_file.specs.declared.header.rows.HeaderRow.TheVariants.{Version, Texts, Position, Delta, Types, StrengthUnit, First, Shift, End}
-use Rattle.gnss_obs.specs.Values.{planned_of}
-use Rattle.rinex_file.specs.Header.{end_line, first_types, row_at, row_place}
-use Rattle.rinex_file.specs.Read.Progress.{Known, IsHeadAt, announced}
-use Rattle.rinex_file.specs.Read.HeaderSteps.{IsOnly, known_line, EndsHeader, NoneGoesOn, ReadsHeaderLine, TakesHeaderLine}
 use Rattle.rinex_file.proofs.HeaderEnd.{ends, no_end_line}
 use Rattle.rinex_file.proofs.HeaderRead.{begun_here, line_types, none_taken, rows_there}
 use Rattle.rinex_file.proofs.HeaderSteps.{step_at, steps_from, none_at, none_from, types_few, place_at}
 use Rattle.rinex_file.proofs.Judged.{refused}
+use Rattle.rinex_file.proofs.Names.{Result, Ok, Err, IsErrAnd, System, HeaderRow, Expected, Header, Epoch, Refusal, Memory, Bad, Version, Texts, Position, Delta, Types, StrengthUnit, First, Shift, End, planned_of, end_line, first_types, row_at, row_place, Known, IsHeadAt, announced, IsOnly, known_line, EndsHeader, NoneGoesOn, ReadsHeaderLine, TakesHeaderLine}
 use Rattle.rinex_file.proofs.read.head_so_far.HeadSoFar.take.Goals as goal
 
 -- a refusal that was passed on

@@ -1,5 +1,5 @@
 use Rattle.std.proofs.Common.{arith}
-use Rattle.std.proofs.lemmas.Grind.{common_steps}
+use Rattle.rinex_file.proofs.Names.{common_steps}
 use Rattle.rinex_file.proofs.read.lines.Block.fill.Goals as goal
 
 pub returns-then-self-clause-some : goal.returns-then-self-clause-some

@@ -1,11 +1,6 @@
 use Rattle.std.proofs.Common.{arith, ◌≡◌, ◌∙◌, sym, ap, ℕ, ◌+◌, ◌≤◌, take, length, subst, List, [], ◌∷◌, ◌++◌, Option, Some}
-use Rattle.std.specs.Prelude.{min}
-use Rattle.std.proofs.Math.Nat.{min-le_left}
-use Rattle.std.proofs.lemmas.Bool.{eqb-true}
-use Rattle.std.proofs.lemmas.List.{take_more, take-take, length-take-le}
-use Rattle.memchr.specs.Find.{IsFirstByte, is_byte}
-use Rattle.rinex_file.specs.Exact.{IsLine}
 use Rattle.rinex_file.proofs.LineByLine.{no_feed}
+use Rattle.rinex_file.proofs.Names.{min, min-le_left, eqb-true, take_more, take-take, length-take-le, IsFirstByte, is_byte, IsLine}
 use Rattle.rinex_file.proofs.read.lines.Block.line_size.Goals as goal
 
 -- the bytes up to the first line feed

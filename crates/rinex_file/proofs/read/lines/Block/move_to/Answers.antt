@@ -1,12 +1,6 @@
 use Rattle.std.proofs.Common.{arith, ◌≡◌, ◌∙◌, ap, ◌<◌, ◌≤◌, ℕ, List, [], ◌∷◌, length, take, drop, get_or, Option, Some, None}
-use Rattle.std.specs.Prelude.{unwrap_or, ◌==◌, true, false, min}
-use Rattle.std.proofs.Math.Nat.{min-le_left}
-use Rattle.std.proofs.Math.Seq.{drop-cons}
-use Rattle.std.proofs.lemmas.List.{length-take-le}
-use Rattle.std.proofs.lemmas.Bool.{eqb-true}
-use Rattle.memchr.specs.Find.{IsFirstByte, is_byte}
-use Rattle.rinex_file.specs.Read.Fields.{has}
 use Rattle.rinex_file.proofs.LineByLine.{moved, moved_of, left_ahead, no_feed}
+use Rattle.rinex_file.proofs.Names.{unwrap_or, ◌==◌, true, false, min, min-le_left, drop-cons, length-take-le, eqb-true, IsFirstByte, is_byte, has}
 use Rattle.rinex_file.proofs.read.lines.Block.move_to.Goals as goal
 
 -- the byte at the first line feed

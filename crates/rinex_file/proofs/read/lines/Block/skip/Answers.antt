@@ -1,7 +1,6 @@
 use Rattle.std.proofs.Common.{arith, ◌≡◌, ◌∙◌, sym, ap, ℕ, List, length, ◌≤◌, take, drop}
-use Rattle.std.proofs.Math.Nat.{min-le_left}
-use Rattle.std.proofs.lemmas.List.{length-take}
 use Rattle.rinex_file.proofs.LineByLine.{left_ahead}
+use Rattle.rinex_file.proofs.Names.{min-le_left, length-take}
 use Rattle.rinex_file.proofs.read.lines.Block.skip.Goals as goal
 
 few : (n count : ℕ) (xs now : List ℕ) → take n xs ≡ now → count ≤ length now → count ≤ n

@@ -1,8 +1,6 @@
 use Rattle.std.proofs.Common.{arith, ◌≡◌, ◌∙◌, sym, ap, ℕ, zero, suc, ◌<◌, List, Option, take, drop}
-use Rattle.std.specs.Io.KnownBytes.{Consumes, prepend_known}
-use Rattle.std.proofs.lemmas.List.{take-append-drop}
-use Rattle.rinex_file.specs.Blocks.{LeavesRest, LinesRead, last_line}
 use Rattle.rinex_file.proofs.LineByLine.{ahead_moved, leaves_all}
+use Rattle.rinex_file.proofs.Names.{Consumes, prepend_known, take-append-drop, LeavesRest, LinesRead, last_line}
 use Rattle.rinex_file.proofs.read.lines.Lines.next.Goals as goal
 
 -- the first bytes of the block are consumed

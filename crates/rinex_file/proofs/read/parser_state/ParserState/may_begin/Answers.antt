@@ -1,14 +1,6 @@
 use Rattle.std.proofs.Common.{arith, ◌≡◌, ◌∙◌, ap, sym, subst, map, ℕ, zero, suc, ◌+◌, ◌*◌, ◌<◌, ◌≤◌}
-use Rattle.std.specs.Prelude.{min, nat_lt, if◌then◌else◌}
-use Rattle.std.proofs.Math.Nat.{min-eq_right}
-use Rattle.std.proofs.lemmas.Grind.{common_steps}
-use Rattle.gnss_obs.specs.Satellites.{satellites}
-use Rattle.gnss_obs.specs.declared.system.System.TheVariants.{Gps, Galileo}
-use Rattle.std.proofs.lemmas.Bool.{lt-ltb, ltb-true}
-use Rattle.rinex_file.specs.FileValues.{most_rows, time_stamped}
-use Rattle.rinex_file.specs.declared.read.parser_state.ParserState.{ParserState}
-use Rattle.rinex_file.specs.Times.{AreTimesOrNone}
 use Rattle.rinex_file.proofs.BodySteps.{rise_after, rise_last, not_none}
+use Rattle.rinex_file.proofs.Names.{min, nat_lt, if◌then◌else◌, min-eq_right, common_steps, satellites, Gps, Galileo, lt-ltb, ltb-true, most_rows, time_stamped, ParserState, AreTimesOrNone}
 use Rattle.rinex_file.proofs.read.parser_state.ParserState.may_begin.Goals as goal
 
 -- the satellites of a system of which some signal is planned

@@ -1,15 +1,8 @@
 use Rattle.std.proofs.Common.{◌≡◌, ◌<◌, ℕ, List, subst, sym, ◌∙◌, Err}
-use Rattle.rinex_file.specs.declared.read.parser_state.ParserState.{ParserState}
-use Rattle.rinex_file.specs.declared.read.expected.Added.TheVariants.{NoRow}
-use Rattle.rinex_file.specs.declared.read.expected.Expected.{Expected}
-use Rattle.rinex_file.specs.declared.read.expected.Expected.TheVariants.{Header, Epoch, EventPosition, EventHeight, EventEpoch, Satellite}
-use Rattle.rinex_file.specs.declared.read.expected.Refusal.{Refusal}
-use Rattle.rinex_file.specs.ParserState.{History, FollowsHistory, IsNext, progress_at}
-use Rattle.rinex_file.specs.Read.Progress.{Known}
-use Rattle.rinex_file.specs.Read.HeaderSteps.{StepsTo, TakesHeaderLine}
 use Rattle.rinex_file.proofs.BodySteps.{still_room, stopped}
 use Rattle.rinex_file.proofs.EventSteps.{event_taken, event_shows, sound_event, position_taken, position_shows, no_position, sound_position}
 use Rattle.rinex_file.proofs.HeaderBody.{no_header, header_taken, header_shows, header_ended, ended_shows, sound_start, sound_header}
+use Rattle.rinex_file.proofs.Names.{ParserState, NoRow, Expected, Header, Epoch, EventPosition, EventHeight, EventEpoch, Satellite, Refusal, History, FollowsHistory, IsNext, progress_at, Known, StepsTo, TakesHeaderLine}
 use Rattle.rinex_file.proofs.read.parser_state.ParserState.take.Goals as goal
 
 pub returns-in_err-self-in-Header : goal.returns-in_err-self-in-Header

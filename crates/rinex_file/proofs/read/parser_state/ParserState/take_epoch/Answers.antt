@@ -1,10 +1,7 @@
 use Rattle.std.proofs.Common.{◌<◌, ◌≤◌, ℕ, subst, sym}
-use Rattle.rinex_file.specs.FileValues.{IsTime}
-use Rattle.rinex_file.specs.ParserState.{progress_at}
-use Rattle.rinex_file.specs.Read.Progress.{Progress}
-use Rattle.rinex_file.specs.Read.Sound.{MayBegin}
 use Rattle.rinex_file.proofs.BodySteps.{Begins, still_room, epoch_taken, epoch_shows, few_satellites, no_epoch, sound_begun, sound_epoch}
 use Rattle.rinex_file.proofs.Judged.{refused}
+use Rattle.rinex_file.proofs.Names.{IsTime, progress_at, Progress, MayBegin}
 use Rattle.rinex_file.proofs.read.parser_state.ParserState.take_epoch.Goals as goal
 
 pub may_begin-requires : goal.may_begin-requires

@@ -1,15 +1,8 @@
 use Rattle.std.proofs.Common.{◌≡◌, ◌∙◌, sym, ap, subst, refl, ℕ, List, Option, Some, None}
-use Rattle.std.specs.Prelude.{unwrap_or}
-use Rattle.gnss_obs.specs.declared.cell.StationValues.{StationValues}
-use Rattle.rinex_file.specs.FileValues.{changed_by}
-use Rattle.rinex_file.specs.declared.read.parser_state.ParserState.{ParserState}
-use Rattle.rinex_file.specs.declared.read.expected.Added.TheVariants.{NoRow}
-use Rattle.rinex_file.specs.declared.read.expected.Expected.{Expected}
-use Rattle.rinex_file.specs.declared.read.expected.Expected.TheVariants.{EventEpoch}
-use Rattle.rinex_file.specs.ParserState.{History, IsNext, progress_at}
 use Rattle.rinex_file.proofs.Judged.{refused}
 use Rattle.rinex_file.proofs.BodySteps.{still_room}
 use Rattle.rinex_file.proofs.EventSteps.{height_taken, height_shows, no_height, same_height, sound_height}
+use Rattle.rinex_file.proofs.Names.{unwrap_or, StationValues, changed_by, ParserState, NoRow, Expected, EventEpoch, History, IsNext, progress_at}
 use Rattle.rinex_file.proofs.read.parser_state.ParserState.take_height.Goals as goal
 
 unwrapped : (o : Option StationValues) (v : StationValues) → unwrap_or o v ≡ changed_by v o

@@ -1,11 +1,9 @@
 use Rattle.std.proofs.Common.{arith, ◌≡◌, ◌∙◌, ap, ℕ, List, ◌/◌, ◌≤◌, Some}
-use Rattle.gnss_obs.specs.declared.system.System.{System}
-use Rattle.rinex_file.specs.Read.Fields.{digits_in}
-use Rattle.rinex_file.specs.Read.Progress.{types_line}
 use Rattle.rinex_file.proofs.Entries.{few_signals}
 use Rattle.rinex_file.proofs.TypeRows.{few_types, count_read}
-use Rattle.rinex_file.proofs.read.types.TypesSoFar.read_count.Goals as goal
 use Rattle.rinex_file.proofs.read.types.TypesSoFar.read_count.Goals.{then-count-eq0-via-then-count-eq0, then-count-eq0-via-else-count-eq0+then-count-signals}
+use Rattle.rinex_file.proofs.Names.{System, digits_in, types_line}
+use Rattle.rinex_file.proofs.read.types.TypesSoFar.read_count.Goals as goal
 
 first_row : (system : System) (all line : List ℕ) (row : ℕ) → row ≤ 0 → line ≡ types_line system all row → line ≡ types_line system all 0
 first_row system all line row none is = let e : row ≡ 0 = omega (arith, none) in is ∙ ap (types_line system all) e

@@ -1,10 +1,8 @@
 use Rattle.std.proofs.Common.{◌≡◌, ◌∙◌, sym, ap, ℕ, None, Some}
-use Rattle.std.specs.Prelude.{Result, Err}
-use Rattle.std.proofs.lemmas.Result.{err_from_is_err_and}
-use Rattle.gnss_obs.specs.SignalLists.{indices}
 use Rattle.rinex_file.proofs.HeaderRead.{row_taken}
 use Rattle.rinex_file.proofs.Judged.{at_some, refused}
 use Rattle.rinex_file.proofs.TypeRows.{shown_line}
+use Rattle.rinex_file.proofs.Names.{Result, Err, err_from_is_err_and, indices}
 use Rattle.rinex_file.proofs.read.types.TypesSoFar.take.Goals as goal
 
 not_some : (n : ℕ) → None ≡ Some n → ⊥

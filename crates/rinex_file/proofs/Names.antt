@@ -1,0 +1,114 @@
+-- The names that proofs cite, passed on from one place. Declares nothing.
+pub use Rattle.arrayvec.specs.ArrayVec.{array_vec_len}
+pub use Rattle.gnss_obs.proofs.Checked.{is_equal, is_less, passes_at}
+pub use Rattle.gnss_obs.proofs.GroupLemmas.{Above, Climb, Left, left_all, sorted_climbs}
+pub use Rattle.gnss_obs.proofs.PlanLemmas.{any_index, few_signals, indices-push, length_indices, none_of}
+pub use Rattle.gnss_obs.specs.Dates.{IsCivilOf, YearMonthDay, civil_of, civil_with, date_of, month_length, month_on, year_length, year_on}
+pub use Rattle.gnss_obs.specs.GatheredEpochs.{AreGathered, AreGatheredEpochs, AreStationValues, IsGathered, IsGatheredEpoch, TimesRise, same_place}
+pub use Rattle.gnss_obs.specs.Plans.{place_in}
+pub use Rattle.gnss_obs.specs.Satellites.{satellites}
+pub use Rattle.gnss_obs.specs.SignalLists.{IsAdded, IsOf, indices}
+pub use Rattle.gnss_obs.specs.Signals.{IsSignal, SignalAt, code_of, signal_of_code, table}
+unfoldable pub use Rattle.gnss_obs.specs.Values.{written_among}
+pub use Rattle.gnss_obs.specs.Values.{Closed, EpochValue, HasTwelveDigits, IsHeld, PlanValue, cells_of, has_value, is_of_satellite, is_written, planned_of, run, same_values, satellites_written}
+pub use Rattle.gnss_obs.specs.Weeks.{week, weeks}
+pub use Rattle.gnss_obs.specs.declared.cell.Cell.{Cell}
+pub use Rattle.gnss_obs.specs.declared.cell.StationValues.{StationValues}
+pub use Rattle.gnss_obs.specs.declared.civil.Civil.{Civil}
+pub use Rattle.gnss_obs.specs.declared.system.System.{System}
+pub use Rattle.gnss_obs.specs.declared.system.System.TheVariants.{Galileo, Gps}
+pub use Rattle.memchr.specs.Find.{IsFirstByte, is_byte}
+pub use Rattle.rinex_file.specs.Begun.{AreBegun, IsEventBegun, lines_of_header, part_lines, whole_lines}
+unfoldable pub use Rattle.rinex_file.specs.Blanks.{trimmed}
+pub use Rattle.rinex_file.specs.Blanks.{IsEnded, before_cut, filled_to}
+pub use Rattle.rinex_file.specs.Blocks.{AreMoved, LeavesRest, LinesRead, MovesBytes, last_line}
+pub use Rattle.rinex_file.specs.Counting.{IsSummary, IsTextWith}
+pub use Rattle.rinex_file.specs.Exact.{AreBefore, ExplainsFault, IsCutShort, IsExpectedAt, IsFaulty, IsFound, IsLine, IsNoFault, IsReadOr, IsTextOf, IsTooLong, NoFileBegins, most_lines}
+unfoldable pub use Rattle.rinex_file.specs.File.{epoch_text, event_line, event_text, header_text, line_among, lines_up_to}
+pub use Rattle.rinex_file.specs.File.{change_lines, change_text, closed_text, event_lines, file_lines, file_text, gathered, line_or_none, lines_of_parts, stamped_lines}
+pub use Rattle.rinex_file.specs.FileValues.{AreChanges, AreSatelliteRows, AreSignalValues, AreTexts, AreValues, FitsColumns, HaveRoom, IsChange, IsCoordinate, IsFileValue, IsFirstSame, IsFrom, IsPlan, IsRow, IsSatelliteRow, IsStamped, IsText, IsTime, changed_by, has_some_value, most_rows, of_system, rank_of, time_stamped, values_following}
+pub use Rattle.rinex_file.specs.Gathered.{AreSignals, HasSatellite}
+unfoldable pub use Rattle.rinex_file.specs.Header.{header_line, header_lines, row_line}
+pub use Rattle.rinex_file.specs.Header.{all_rows, codes_of, delta_line, end_line, file_system, first_line, first_types, has_line, height_line, lengths, lines_from, position_line, row_at, row_count, row_lines, row_place, shift_line, strength_line, text_columns, texts_line, type_columns, type_front, type_line, type_of, type_rows, types_of, version_line}
+pub use Rattle.rinex_file.specs.Limits.{most_line}
+unfoldable pub use Rattle.rinex_file.specs.Lines.{epoch_line, field, satellite_line, signal_text}
+pub use Rattle.rinex_file.specs.Lines.{epoch_fields, letter_of, lli_byte, row_text, strength_byte}
+pub use Rattle.rinex_file.specs.Numbers.{fixed, joined, left, padded, right}
+pub use Rattle.rinex_file.specs.ParserState.{FollowsHistory, GoesOnWithLine, History, IsLast, IsNext, RefusesLine, ShowsLine, TakesLine, changes_of, events_in, nothing, progress_at, rows_in, stamped_at, with_line}
+pub use Rattle.rinex_file.specs.Read.Fields.{ReadsExactly, digits_from, digits_in, has, next_digit, number_in, some_if}
+pub use Rattle.rinex_file.specs.Read.HeaderSteps.{EndsHeader, GoesTo, HasSignalAt, IsOnly, NoneGoesOn, ReadsHeaderLine, ReadsOrRefuses, ReadsOrRefusesTexts, ReadsTexts, RefusesHeaderLine, RefusesTexts, RefusesTypes, SameFrom, StepsTo, TakesHeaderLine, TakesTypes, has_types, if_fine, known_line, texts_in, with_first, with_systems, with_texts, with_types, with_values}
+unfoldable pub use Rattle.rinex_file.specs.Read.Keeping.{stamped_text}
+pub use Rattle.rinex_file.specs.Read.Keeping.{HasReadWhole, HasRoom, HaveRowsRoom, Stores, history_of}
+unfoldable pub use Rattle.rinex_file.specs.Read.Progress.{HasLinesLeft}
+pub use Rattle.rinex_file.specs.Read.Progress.{Announced, AreTypes, AreTypesRead, AreValid, HasReadRows, IsAt, IsBetween, IsHeadAt, IsInEpoch, IsInEvent, IsInHeader, IsOnlyTime, IsPosition, IsReadTo, IsShown, Known, MayBeAll, MayPlan, Progress, Shown, StartsAt, announced, begun_at, epoch_after, expected_next, file_with, is_some_planned, lines_after, lines_before, position_of, shown_line, shown_rows, shown_with, signals_begun, stamped, types_line, version_with, with_epoch, with_row}
+pub use Rattle.rinex_file.specs.Read.Row.{AreEntries, IsRowOf}
+pub use Rattle.rinex_file.specs.Read.Sound.{AreLinesAt, AreLinesOf, AreRead, HasReadLines, IsBegun, IsEventExpected, IsSound, IsSoundAt, MayBegin, values_now}
+pub use Rattle.rinex_file.specs.Read.Steps.{HasRead, IsTaken, IsTextOfOnly, IsWhole, ReadsNextLine, file_at}
+pub use Rattle.rinex_file.specs.Rows.{HasSignals}
+pub use Rattle.rinex_file.specs.Texts.{HeaderLists, fault_of, fields, fields_of, first_fault, front_of, is_printable, label_of, place_of, text_count, text_of, text_row_index, text_rows, trimmed_texts, width_of}
+pub use Rattle.rinex_file.specs.TextsOf.{lists_of}
+pub use Rattle.rinex_file.specs.Times.{AreTimes, AreTimesOrNone, steps_of}
+pub use Rattle.rinex_file.specs.Value.{FileValue, Row, SatelliteRow, SignalValues, Stamped, all_stamped, change_from, entries_of, is_of_key, no_signal_values, numbers, row_among, row_in_epoch, row_of, rows_of, satellite_row, signal_values_at, signal_values_of, stamped_after, stamped_of, written_satellites}
+pub use Rattle.rinex_file.specs.Words.{AreBelow, AreWithin, digit_columns, digits_onto, field_row, field_row_with, leading, spaced, template, twos_of}
+pub use Rattle.rinex_file.specs.declared.header.fault.HeadFault.{HeadFault}
+pub use Rattle.rinex_file.specs.declared.header.fields.HeaderField.{HeaderField}
+pub use Rattle.rinex_file.specs.declared.header.fields.HeaderField.TheVariants.{AntType}
+pub use Rattle.rinex_file.specs.declared.header.fields.TextRow.{TextRow}
+pub use Rattle.rinex_file.specs.declared.header.rows.HeaderRow.{HeaderRow}
+pub use Rattle.rinex_file.specs.declared.header.rows.HeaderRow.TheVariants.{Delta, End, First, Position, Shift, StrengthUnit, Texts, Types, Version}
+pub use Rattle.rinex_file.specs.declared.read.expected.Added.{Added}
+pub use Rattle.rinex_file.specs.declared.read.expected.Added.TheVariants.{NoRow}
+pub use Rattle.rinex_file.specs.declared.read.expected.Expected.{Expected}
+pub use Rattle.rinex_file.specs.declared.read.expected.Expected.TheVariants.{Epoch, EventEpoch, EventHeight, EventPosition, Header, Satellite}
+pub use Rattle.rinex_file.specs.declared.read.expected.Refusal.{Refusal}
+pub use Rattle.rinex_file.specs.declared.read.expected.Refusal.TheVariants.{Bad, Memory}
+pub use Rattle.rinex_file.specs.declared.read.fault.ReadFault.{ReadFault}
+pub use Rattle.rinex_file.specs.declared.read.fault.ReadFault.TheVariants.{BadEpoch, BadEvent, BadHeader, BadSatellite, CutShort, Read, TooLong}
+pub use Rattle.rinex_file.specs.declared.read.fields.TheConstants.{LIMITS, SIZES}
+pub use Rattle.rinex_file.specs.declared.read.file.FileBuilder.{FileBuilder}
+pub use Rattle.rinex_file.specs.declared.read.file.FileSummary.{FileSummary}
+pub use Rattle.rinex_file.specs.declared.read.lines.Found.{Found}
+pub use Rattle.rinex_file.specs.declared.read.lines.Found.TheVariants.{Failed, Line, Long}
+pub use Rattle.rinex_file.specs.declared.read.parser_state.ParserState.{ParserState}
+pub use Rattle.rinex_file.specs.declared.read.reading.Reading.{Reading}
+pub use Rattle.rinex_file.specs.declared.read.times.EpochTimes.{EpochTimes}
+pub use Rattle.rinex_file.specs.declared.write.digits.TheConstants.{PAIRS}
+pub use Rattle.rtcm_bits.specs.Device.{AppendsPrefix, Device, FailsWith, HasFailed}
+pub use Rattle.std.proofs.KnownBytes.{Appends-nil, Appends-trans, Consumes-nil, Consumes-trans}
+pub use Rattle.std.proofs.Math.Nat.{div-le_self, le-min, min-eq_left, min-eq_right, min-le_left, min-le_right, mod-le, mod-lt, one-le-pow, pow-le-pow_right, pow-suc}
+pub use Rattle.std.proofs.Math.Seq.{drop-append-add, drop-cons, take-add, take-append-add, take-append_seam}
+pub use Rattle.std.proofs.lemmas.Bool.{agree_below_at, and_from, and_parts, and_right, cases_Bool, cases_lt, cond_both, eq-eqb, eqb-false, eqb-true, false_from_ne_true, le-leb, leb-true, lt-leb, lt-ltb, ltb-true, ne_eqb, or_parts, or_right}
+pub use Rattle.std.proofs.lemmas.Bool.Decides.{Decides-int_eq, nat_tests}
+pub use Rattle.std.proofs.lemmas.Cmp.{nat_eq_equiv}
+pub use Rattle.std.proofs.lemmas.Fmt.{decimal_by_steps, decimal_digit, decimal_step, first_decimal, length-decimal-le}
+pub use Rattle.std.proofs.lemmas.Grind.{common_steps, replicate_next}
+pub use Rattle.std.proofs.lemmas.Int.{fits_signed_from_abs, ints, to_z-of_z}
+pub use Rattle.std.proofs.lemmas.List.{append_cancel_left, drop-append-le, drop-drop, drop-replicate, drop-take, drop_all, drop_at, drop_more, ext_get_or, get_or-append-add, get_or-drop, get_or-map, get_or-set_other, get_or-set_same, get_or-take, get_or_append_left, get_or_at, get_or_default, length-drop, length-map, length-replicate, length-set, length-take, length-take-le, length_push, map-append, map-id, map-set, nil_from_length, replicate-append-replicate, set_at, take-append-drop, take-append-le, take-map, take-replicate, take-take, take_all, take_at, take_min, take_more, take_more_same, take_more_set, take_rest}
+pub use Rattle.std.proofs.lemmas.List.Concat.{flat_map-append}
+pub use Rattle.std.proofs.lemmas.List.Elements.{All-append, All-cons, All-drop, All-filter, All-from_recursion, All-get_or, All-head, All-map, All-nil, All-push, All-replicate, All-tail, All-take, All-weaker, filter-append, filter_passes}
+pub use Rattle.std.proofs.lemmas.List.Folds.{Any-from_list_any, flat_map-map, list_all-append, list_any-append, list_any-from_Any}
+pub use Rattle.std.proofs.lemmas.List.Kept.{IsStrictlyIncreasing-filter}
+pub use Rattle.std.proofs.lemmas.List.Quantifiers.{position-Some}
+pub use Rattle.std.proofs.lemmas.List.Sums.{fails_before_first, fold-append, prefix_len-le-length, sum_by-append}
+pub use Rattle.std.proofs.lemmas.Map.Keys.{IsDistinct-push, IsDistinct-tail, apart_from_distinct}
+pub use Rattle.std.proofs.lemmas.Map.Steps.{le-length_from_below, length-le_from_distinct_below}
+pub use Rattle.std.proofs.lemmas.Nat.{div-add-mod', pow-add}
+pub use Rattle.std.proofs.lemmas.Option.{none-some, same_Some}
+pub use Rattle.std.proofs.lemmas.Result.{err_from_is_err_and}
+pub use Rattle.std.proofs.lemmas.Simd.{bitmask_splat, first_set_mask_l, get_or-zip2, length-zip2, map-map, mask_l-mod, put_chunk_whole}
+pub use Rattle.std.proofs.lemmas.Str.{IsUtf8-from_ascii}
+pub use Rattle.std.specs.Array.{AllOfLen}
+pub use Rattle.std.specs.Bool.{then_some}
+unfoldable pub use Rattle.std.specs.Fmt.{digits}
+pub use Rattle.std.specs.Fmt.{sign_text}
+pub use Rattle.std.specs.Int.{is_negative}
+unfoldable pub use Rattle.std.specs.Int.Count.{count_trailing_zeros}
+pub use Rattle.std.specs.Int.Count.{under}
+pub use Rattle.std.specs.Io.KnownBytes.{Appends, Consumes, IsAtEnd, prepend_known}
+unfoldable pub use Rattle.std.specs.List.{IsDistinct}
+pub use Rattle.std.specs.List.{AllByRecursion, list_all, list_any, position_or_len, prefix_len, reduce}
+pub use Rattle.std.specs.List.Sorted.{IsStrictlyIncreasing}
+pub use Rattle.std.specs.Option.{ok_or, option_map_or, option_or}
+pub use Rattle.std.specs.Prelude.{All, Any, Bool, Err, IfErr, IfNone, IfOk, IfSome, IsTrue, Ok, OnOk, Result, Some, codes, cond, false, find, flat_map, if◌then◌else◌, is_some, leb, map, min, nat_eq, nat_le, nat_lt, neg_ℤ, not, option_copied, pos, position, set, slice_get, slice_index, slice_set, true, unwrap_or, ⊤, ◌&&◌, ◌-◌, ◌==◌, ◌||◌, ◌↔◌, ◌≢◌, ◌≤◌, ◌⊎◌}
+pub use Rattle.std.specs.Result.{IsErrAnd, is_err, result_err}
+pub use Rattle.std.specs.Str.{IsAscii, IsUtf8}
