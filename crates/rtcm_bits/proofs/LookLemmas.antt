@@ -57,6 +57,28 @@ first_looks b xs o n e m (suc k) h g =
     let x : max (max m (min k 1)) 1 ≡ max m (min (suc k) 1) = grind arith in
     rw (r, f.0, f.1, y, x) refl
 
+-- the second look at the first byte looked at once
+second_at : (xs zs : List ℕ) → (slice_index (xs ++ (1 ∷ zs)) (length xs) ≡ 1) × (slice_set (xs ++ (1 ∷ zs)) (length xs) 2 ≡ xs ++ (2 ∷ zs))
+second_at xs zs = (get_or-append_seam xs 1 zs 0, set-append_seam xs 1 zs 2)
+
+second_look : (xs : List ℕ) (p n : ℕ) → (slice_index (filled_up xs (suc p) n) (length xs) ≡ 1)
+    × (slice_set (filled_up xs (suc p) n) (length xs) 2 ≡ filled_up (xs ++ 2 ∷ []) p n)
+second_look xs p n =
+    let l : length (xs ++ 2 ∷ []) + p ≡ length xs + suc p = simp length-append (omega arith) in
+    let a = second_at xs (replicate p 1 ++ replicate (n - (length xs + suc p)) 0) in
+    let t : (xs ++ 2 ∷ []) ++ (replicate p 1 ++ replicate (n - (length xs + suc p)) 0) ≡ xs ++ (2 ∷ (replicate p 1 ++ replicate (n - (length xs + suc p)) 0)) = simp append_assoc in
+    rw (l, t) a
+
+pub second_look_at : (b xs ys : List ℕ) (f o q n e e' m m' s k : ℕ) (w : WindowValue) → held_of b (filled_up (drop f xs) o n) e m ≡ w
+    → f ≤ length xs → s ≡ length (drop f xs) → 0 < o → q ≡ o - 1 → k ≡ 1 → ys ≡ xs ++ 2 ∷ [] → e' ≡ min (e + k) 18446744073709551615 → m' ≡ max m 2
+    → held_of b (filled_up (drop f ys) q n) e' m' ≡ looked_through w s k
+second_look_at b xs ys f o q n e e' m m' s k w v h g p r z y t u =
+    let i : o ≡ suc q = omega (arith, p, r) in
+    let j : s + 0 ≡ length (drop f xs) = omega (arith, g) in
+    let d : drop f (xs ++ 2 ∷ []) ≡ drop f xs ++ 2 ∷ [] = drop-append-le f xs (2 ∷ []) h in
+    let a = second_look (drop f xs) q n in
+    rw (t, u, y, z, ← v, i, j, d, a.0, a.1) refl
+
 -- looks at the stored counts
 pub looked_length : (xs : List ℕ) (m s n : ℕ) → length (looked_through (counts_alone xs m) s n).looks ≡ length xs
 looked_length xs m s zero = refl

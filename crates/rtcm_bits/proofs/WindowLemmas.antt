@@ -4,7 +4,7 @@ use Rattle.std.proofs.lemmas.Bool.{cases_lt}
 use Rattle.std.proofs.lemmas.List.{append-nil, drop-append-le, drop-set-add, get_or-drop, take_all, take_rest, take-append-le}
 use Rattle.std.proofs.Math.Seq.{take-append-add, drop-append-add}
 use Rattle.circular_buffer.specs.Buffer.{Buffer, buffer}
-use Rattle.rtcm_bits.specs.Window.{held_of, counts_alone, looked_through}
+use Rattle.rtcm_bits.specs.Window.{WindowValue, held_of, counts_alone, looked, looked_through, without_front}
 
 -- the counts of a range don't depend on the bytes, nor on the sum of all looks
 pub through_counts : (b xs : List ℕ) (e m start n : ℕ) → e ≤ 18446744073709551615 →
@@ -37,6 +37,36 @@ shifted xs f m start (suc n) =
     let r = shifted xs f m start n in
     one_more (looked_through (counts_alone xs m) (f + start) n).looks (looked_through (counts_alone (drop f xs) m) start n).looks f (f + start + n) (start + n)
     (looked_through (counts_alone xs m) (f + start) n).most (looked_through (counts_alone (drop f xs) m) start n).most (omega arith) r.0 r.1
+
+-- looks at consecutive ranges
+looked_on : (w : WindowValue) (s j k : ℕ) → looked_through (looked_through w s j) (s + j) k ≡ looked_through w s (j + k)
+looked_on w s j zero = let z : j + 0 ≡ j = omega arith in rw z refl
+looked_on w s j (suc k) =
+    let z : j + suc k ≡ suc (j + k) = omega arith in
+    let a : s + (j + k) ≡ s + j + k = omega arith in
+    rw (z, looked_on w s j k, a) refl
+
+-- a look at the byte after the first n, before or after they are dropped
+looked_next : (w : WindowValue) (n k : ℕ) → k ≡ n → looked (without_front w n) 0 ≡ without_front (looked w k) n
+looked_next w n k e =
+    let a = one_more w.looks (drop n w.looks) n n 0 w.most w.most (omega arith) refl refl in
+    let g : slice_index (drop n w.looks) 0 ≡ slice_index w.looks n = get_or-drop n w.looks 0 0 ∙ ap (λ (t : ℕ). slice_index w.looks t) (omega arith) in
+    rw (e, a.0, g) refl
+
+pub looked_to : (w v : WindowValue) (n : ℕ) → v ≡ without_front (looked_through w 0 n) n → looked_through v 0 1 ≡ without_front (looked_through w 0 (n + 1)) n
+looked_to w v n e =
+    let z : n + 1 ≡ suc n = omega arith in
+    rw (e, z) (looked_next (looked_through w 0 n) n (0 + n) (omega arith))
+
+-- n bytes dropped after a look at the first j, and then at the others
+pub looked_dropped : (w u v x : WindowValue) (j n : ℕ) → j ≤ n → u ≡ looked_through w 0 j
+    → ((d : ℕ) → j + (n - j) ≤ d → without_front v d ≡ without_front (looked_through u j (n - j)) d) → x ≡ without_front v n
+    → x ≡ without_front (looked_through w 0 n) n
+looked_dropped w u v x j n h e f g =
+    let z : j + (n - j) ≡ n = omega (arith, h) in
+    g ∙ f n (omega (arith, h)) ∙ ap (λ (t : WindowValue). without_front (looked_through t j (n - j)) n) e
+    ∙ ap (λ (t : WindowValue). without_front t n)
+    (ap (λ (t : ℕ). looked_through (looked_through w 0 j) t (n - j)) (omega arith) ∙ looked_on w 0 j (n - j)) ∙ ap (λ (t : ℕ). without_front (looked_through w 0 t) n) z
 
 -- a range of two consecutive lists: inside the first, across both, inside the second
 pub range_first : (f b : List ℕ) (s n : ℕ) → s + n ≤ length f → take (s + n - s) (drop s f) ++ [] ≡ slice_range (f ++ b) s (s + n)

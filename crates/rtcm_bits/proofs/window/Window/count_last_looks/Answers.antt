@@ -3,8 +3,8 @@ use Rattle.std.specs.Vec.{vec_len}
 use Rattle.rtcm_bits.proofs.LookLemmas.{last_looks}
 use Rattle.rtcm_bits.proofs.window.Window.count_last_looks.Goals as goal
 
-pub returns-then-n-gt0-clause-counted : goal.returns-then-n-gt0-clause-counted
-returns-then-n-gt0-clause-counted c =
+pub returns-then-start-counted-clause-counted : goal.returns-then-start-counted-clause-counted
+returns-then-start-counted-clause-counted c =
     let i = c.self.inside in
     let v : vec_len i.counts ≡ length i.counts.items = i.counts.ok.0 in
     let k = length-drop i.first i.counts.items in

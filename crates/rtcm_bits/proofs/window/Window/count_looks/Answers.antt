@@ -1,8 +1,8 @@
-use Rattle.std.proofs.Common.{List, ℕ, ◌≡◌, ◌+◌, ◌-◌, drop, length, max, ap, ◌∙◌, rules, arith, length-drop}
+use Rattle.std.proofs.Common.{List, ℕ, ◌≡◌, ◌+◌, ◌-◌, drop, length, max, refl, ap, ◌∙◌, rules, arith, length-drop}
 use Rattle.std.proofs.lemmas.List.{with_items_is, places}
 use Rattle.std.specs.Vec.{vec_len}
 use Rattle.rtcm_bits.specs.Window.{held_of, filled_up, looked_through, counts_alone}
-use Rattle.rtcm_bits.proofs.LookLemmas.{first_looks_at, later_looks, filled_out, looked_length}
+use Rattle.rtcm_bits.proofs.LookLemmas.{first_looks_at, second_look_at, later_looks, filled_out, looked_length}
 use Rattle.rtcm_bits.proofs.window.Window.count_looks.Goals as goal
 
 pub returns-then-start-counted-clause-counted : goal.returns-then-start-counted-clause-counted
@@ -27,6 +27,15 @@ returns-then-start-n-clause-counted c =
     (c.look_at_each-self-inside.ensures.counts ∙ ap (λ (t : List ℕ). (looked_through (counts_alone t i.greatest) (i.first + c.args.start) c.args.n).looks) c.as_mut_slice.ensures.value)
     (c.look_at_each-self-inside.ensures.greatest ∙ ap (λ (t : List ℕ). (looked_through (counts_alone t i.greatest) (i.first + c.args.start) c.args.n).most) c.as_mut_slice.ensures.value)
     c.saturating_add-self-inside.ensures
+
+pub returns-then-len-lt-CAPACITY-clause-counted : goal.returns-then-len-lt-CAPACITY-clause-counted
+returns-then-len-lt-CAPACITY-clause-counted c =
+    let i = c.self.inside in
+    let v : vec_len i.counts ≡ length i.counts.items = i.counts.ok.0 in
+    let k = length-drop i.first i.counts.items in
+    second_look_at i.bytes.items i.counts.items c.push.new.self.items i.first i.once (i.once - 1) (length i.bytes.items) i.looks c.saturating_add-self-inside.result i.greatest c.raise-then-len-lt-CAPACITY.new.greatest
+    c.args.start c.args.n c.args.self.now c.self.view_is (omega (arith, v, c.self.invariant)) (omega (arith, v, k, c.if-start-counted-2.true)) (omega (arith, v, c.if-start-n.false, c.if-start-counted.false, c.if-start-counted-2.true)) refl
+    c.if-n-eq1.true c.in-Ok.ensures.items c.saturating_add-self-inside.ensures c.raise-then-len-lt-CAPACITY.ensures
 
 pub look_at_each-self-inside-requires-2 : goal.look_at_each-self-inside-requires-2
 look_at_each-self-inside-requires-2 c =
