@@ -1,20 +1,13 @@
 -- Eight bytes at once: the register is added to the first three of them; each byte has its own table, whose entries are
 -- the CRCs of that byte with the others 0.
 use Rattle.std.proofs.Common.{◌≡◌, ℕ, ◌+◌, ◌*◌, ◌/◌, ◌%◌, ◌^◌, ◌<◌, ◌≤◌, Bool, false, List, [], ◌∷◌, ◌++◌, length, drop, take, map, get_or, replicate, refl, sym, ap, ◌∙◌, arith, suc, zero, bit_and, bit_xor, length-append, lit<, lit≤}
-use Rattle.std.specs.Int.Bits.{xor_zero_r}
-use Rattle.std.proofs.lemmas.List.{get_or-drop, get_or-map, get_or-take, length-take-le, length-replicate, replicate-append-replicate}
-use Rattle.std.proofs.lemmas.Nat.{xor_lt, and_mask}
-use Rattle.rtcm_bits.specs.Bits.{uint, number, bits_of}
-use Rattle.rtcm_bits.specs.Crc.{add_front, remainder, bits_remainder, crc}
-use Rattle.rtcm_bits.specs.Register.{after_bits}
-use Rattle.rtcm_bits.specs.declared.tables.TheConstants.{TABLES}
-use Rattle.rtcm_bits.specs.BitLaws.{length-uint, number_of-uint}
 use Rattle.rtcm_bits.proofs.ListLemmas.{eight_of}
 use Rattle.rtcm_bits.proofs.RegisterBits.{uint-xor, uint-split}
 use Rattle.rtcm_bits.proofs.CheckLemmas.{divide_all, length-add_front, add_front_to_zeros, zeros_to_front}
 use Rattle.rtcm_bits.proofs.ResidueLemmas.{add_front-append}
 use Rattle.rtcm_bits.proofs.RegisterLemmas.{check_is, check_below, check_push}
 use Rattle.rtcm_bits.proofs.TableLemmas.{add_split, remainder_sum, table_right, table_step}
+use Rattle.rtcm_bits.proofs.Names.{xor_zero_r, get_or-drop, get_or-map, get_or-take, length-take-le, length-replicate, replicate-append-replicate, xor_lt, and_mask, uint, number, bits_of, add_front, remainder, bits_remainder, crc, after_bits, TABLES, length-uint, number_of-uint}
 
 -- the register is added to the first bits
 into_front : (r m : List Bool) → length r ≡ 24 → 24 ≤ length m → after_bits r m ≡ bits_remainder (add_front r m)

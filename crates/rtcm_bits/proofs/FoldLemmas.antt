@@ -1,22 +1,12 @@
 -- The CRC of folded bytes: a byte that is taken away and added to those 69, 71, 79, 85 and 96 places further on.
 use Rattle.std.proofs.Common.{◌≡◌, ℕ, ◌+◌, ◌*◌, ◌/◌, ◌%◌, ◌^◌, ◌<◌, ◌≤◌, Bool, true, false, eqb, List, [], ◌∷◌, ◌++◌, length, drop, take, get_or, replicate, refl, sym, ap, ◌∙◌, arith, suc, zero, bit_xor, length-append}
-use Rattle.std.specs.Int.Bits.{xor_assoc}
-use Rattle.std.proofs.lemmas.Bool.{agree_below_at, eqb-true}
-use Rattle.std.proofs.lemmas.List.{append_assoc, length-replicate, replicate-append-replicate, length-drop, length-take-le, drop-drop, drop-append-le, take-append-drop, take-append-le, take_all}
-use Rattle.std.proofs.Math.Seq.{drop-append_seam, drop-append-add, drop-length}
-use lib.Lanes.{zip2}
-use Rattle.std.proofs.lemmas.Nat.{xor_lt, xor_comm}
-use Rattle.rtcm_bits.specs.Bits.{uint, number, number_from, bits_of}
-use Rattle.rtcm_bits.specs.Crc.{add_front, remainder, bits_remainder, crc}
-use Rattle.rtcm_bits.specs.Register.{after_bits}
-use Rattle.rtcm_bits.specs.Folding.{add_bytes, fold_into}
-use Rattle.rtcm_bits.specs.declared.tables.TheConstants.{TABLES}
-use Rattle.rtcm_bits.specs.BitLaws.{length-uint, length-bits_of, bits_of-append}
 use Rattle.rtcm_bits.proofs.RegisterBits.{uint-xor, uint-mod}
 use Rattle.rtcm_bits.proofs.CheckLemmas.{divide_all, remainder_is, after_bits-append}
 use Rattle.rtcm_bits.proofs.RegisterLemmas.{check_is, check_below}
 use Rattle.rtcm_bits.proofs.TableLemmas.{add_split, remainder_sum, table_right, add_to_zeros}
 use Rattle.rtcm_bits.proofs.EightLemmas.{sum_remainder, check_front, number_is, next_entry, next_right, zero_after, into_bytes}
+use Rattle.rtcm_bits.proofs.Names.{xor_assoc, agree_below_at, eqb-true, append_assoc, length-replicate, replicate-append-replicate, length-drop, length-take-le, drop-drop, drop-append-le, take-append-drop, take-append-le, take_all, drop-append_seam, drop-append-add, drop-length, xor_lt, xor_comm, uint, number, number_from, bits_of, add_front, remainder, bits_remainder, crc, after_bits, add_bytes, fold_into, TABLES, length-uint, length-bits_of, bits_of-append}
+use lib.Lanes.{zip2}
 
 -- sums of bytes
 pub drop-add : (k : ℕ) (a b : List ℕ) → drop k (add_bytes a b) ≡ add_bytes (drop k a) (drop k b)

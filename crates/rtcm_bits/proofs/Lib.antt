@@ -1,3 +1,4 @@
+pub mod Names
 pub mod ListLemmas
 pub mod BitLemmas
 pub mod PartLemmas

@@ -1,13 +1,9 @@
 -- The steps of the code that folds a long message.
 use Rattle.std.proofs.Common.{◌≡◌, ℕ, ◌+◌, ◌-◌, ◌^◌, ◌<◌, ◌≤◌, List, ◌++◌, length, drop, take, replicate, sym, ap, ◌∙◌, arith}
-use Rattle.std.proofs.lemmas.List.{length-drop, length-take-le, drop-drop, take-append-drop, take_all}
-use Rattle.rtcm_bits.specs.Bits.{uint, bits_of}
-use Rattle.rtcm_bits.specs.Crc.{crc}
-use Rattle.rtcm_bits.specs.Register.{after_bits}
-use Rattle.rtcm_bits.specs.Folding.{add_bytes, fold_into}
 use Rattle.rtcm_bits.proofs.RegisterLemmas.{check_below}
 use Rattle.rtcm_bits.proofs.EightLemmas.{number_is}
 use Rattle.rtcm_bits.proofs.FoldLemmas.{take-add_bytes, fold_step, last_step, last_end}
+use Rattle.rtcm_bits.proofs.Names.{length-drop, length-take-le, drop-drop, take-append-drop, take_all, uint, bits_of, crc, after_bits, add_bytes, fold_into}
 
 -- what is folded to the first bytes does not depend on the others
 first_sum : (k : ℕ) (d x y : List ℕ) → take k x ≡ take k y → take k (add_bytes d x) ≡ take k (add_bytes d y)

@@ -1,11 +1,7 @@
 -- The counts of looks of a window. Only the first ones are stored.
 use Rattle.std.proofs.Common.{◌≡◌, ℕ, ◌+◌, ◌-◌, ◌<◌, ◌≤◌, min, max, List, [], ◌∷◌, ◌++◌, length, drop, replicate, slice_index, slice_set, refl, sym, ap, ◌∙◌, arith, suc, zero, length-append, length-drop, append_assoc, ⊎_elim}
-use Rattle.std.proofs.lemmas.List.{drop-append-le, drop-replicate, drop-set-lt, get_or-append-add, get_or-append_right, get_or_append_left, get_or-replicate, get_or-set_other, length-replicate, length-set, replicate-append-replicate, set-append_left}
-use Rattle.std.proofs.lemmas.Bool.{cases_lt}
-use Rattle.std.proofs.Math.Seq.{drop-append-add, get_or-append_seam, set-append_seam}
-use Rattle.circular_buffer.specs.Buffer.{Buffer, buffer}
-use Rattle.rtcm_bits.specs.Window.{WindowValue, held_of, filled_up, counts_alone, looked_through, pushed_all, without_front}
 use Rattle.rtcm_bits.proofs.WindowLemmas.{shifted, through_counts}
+use Rattle.rtcm_bits.proofs.Names.{drop-append-le, drop-replicate, drop-set-lt, get_or-append-add, get_or-append_right, get_or_append_left, get_or-replicate, get_or-set_other, length-replicate, length-set, replicate-append-replicate, set-append_left, cases_lt, drop-append-add, get_or-append_seam, set-append_seam, Buffer, buffer, WindowValue, held_of, filled_up, counts_alone, looked_through, pushed_all, without_front}
 
 -- more bytes without a look
 pub filled_more : (xs : List ℕ) (o n k : ℕ) → length xs + o ≤ n → filled_up xs o (n + k) ≡ filled_up xs o n ++ replicate k 0

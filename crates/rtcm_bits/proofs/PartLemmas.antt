@@ -1,12 +1,7 @@
 -- A number that is read a part of a byte at a time.
 use Rattle.std.proofs.Common.{◌≡◌, ℕ, zero, suc, ◌+◌, ◌-◌, ◌*◌, ◌/◌, ◌%◌, ◌^◌, ◌<◌, ◌≤◌, Bool, List, [], ◌∷◌, ◌++◌, length, take, drop, get_or, refl, sym, ap, ◌∙◌, arith}
-use Rattle.std.proofs.Math.Seq.{take-add}
-use Rattle.std.proofs.lemmas.List.{length-drop, length-take-le, drop-drop, take-append-le, drop-append-le}
-use Rattle.std.proofs.lemmas.Nat.{one_shl, shr-shr}
-use Rattle.std.proofs.Math.Nat.{pow-le-pow_right, mod-eq_of_lt}
-use Rattle.rtcm_bits.specs.Bits.{odd, uint, number, number_from, bits_of}
-use Rattle.rtcm_bits.specs.BitLaws.{length-uint, length-bits_of, number-uint, number-split, number-take-fits}
 use Rattle.rtcm_bits.proofs.BitLemmas.{number-append}
+use Rattle.rtcm_bits.proofs.Names.{take-add, length-drop, length-take-le, drop-drop, take-append-le, drop-append-le, one_shl, shr-shr, pow-le-pow_right, mod-eq_of_lt, odd, uint, number, number_from, bits_of, length-uint, length-bits_of, number-uint, number-split, number-take-fits}
 
 -- the bits after the first r
 drop-uint : (r w x : ℕ) → drop r (uint (r + w) x) ≡ uint w x

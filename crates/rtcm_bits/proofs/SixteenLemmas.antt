@@ -1,10 +1,7 @@
 -- Sixteen bytes at once, by the same tables and twice as many of them.
 use Rattle.std.proofs.Common.{◌≡◌, ℕ, ◌/◌, ◌%◌, ◌^◌, ◌<◌, List, [], ◌∷◌, length, get_or, replicate, refl, ap, ◌∙◌, bit_xor}
-use Rattle.std.proofs.lemmas.Simd.{pick_l_whole}
-use Rattle.rtcm_bits.specs.Bits.{uint, bits_of}
-use Rattle.rtcm_bits.specs.Crc.{crc}
-use Rattle.rtcm_bits.specs.Register.{after_bits}
 use Rattle.rtcm_bits.proofs.EightLemmas.{entries, steps_sum}
+use Rattle.rtcm_bits.proofs.Names.{pick_l_whole, uint, bits_of, crc, after_bits}
 
 pub sixteen_right : (x : ℕ) (xs : List ℕ) (e0 e1 e2 e3 e4 e5 e6 e7 e8 e9 e10 e11 e12 e13 e14 e15 : ℕ) → x < 2 ^ 24 → length xs ≡ 16
     → e0 ≡ crc (get_or xs 15 0 ∷ []) → e1 ≡ crc (get_or xs 14 0 ∷ replicate 1 0)

@@ -1,8 +1,6 @@
 use Rattle.std.proofs.Common.{take, ◌+◌, ap, ◌∙◌}
-use Rattle.std.proofs.lemmas.List.{take_more, take_all}
-use Rattle.rtcm_bits.specs.Bits.{uint, bits_of}
-use Rattle.rtcm_bits.specs.Register.{after_bits}
 use Rattle.rtcm_bits.proofs.RegisterLemmas.{steps_push, no_steps}
+use Rattle.rtcm_bits.proofs.Names.{take_more, take_all, uint, bits_of, after_bits}
 use Rattle.rtcm_bits.proofs.crc.after_each.Goals as goal
 
 pub loop-byte-init : goal.loop-byte-init

@@ -1,6 +1,5 @@
 use Rattle.std.proofs.Common.{◌≡◌, ◌^◌, ◌<◌, take}
-use Rattle.rtcm_bits.specs.Bits.{uint, bits_of}
-use Rattle.rtcm_bits.specs.Register.{after_bits}
+use Rattle.rtcm_bits.proofs.Names.{uint, bits_of, after_bits}
 use Rattle.rtcm_bits.proofs.crc.after_each.Given as goal
 
 abbrev pub invariant-loop-byte : goal.invariant-loop-byte

@@ -1,7 +1,6 @@
 use Rattle.std.proofs.Common.{◌++◌, List, ℕ, take, ap, sym, ◌∙◌, take-append-drop}
-use Rattle.std.proofs.lemmas.List.{take_rest}
-use Rattle.rtcm_bits.specs.Bits.{uint}
 use Rattle.rtcm_bits.proofs.RegisterLemmas.{steps_more}
+use Rattle.rtcm_bits.proofs.Names.{take_rest, uint}
 use Rattle.rtcm_bits.proofs.crc.after_fewer.Goals as goal
 
 pub returns-clause-steps : goal.returns-clause-steps

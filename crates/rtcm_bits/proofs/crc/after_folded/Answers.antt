@@ -1,8 +1,7 @@
 use Rattle.std.proofs.Common.{◌≡◌, ◌+◌, ◌-◌, ◌++◌, ◌≤◌, ℕ, List, length, drop, replicate, sym, ap, ◌∙◌, arith, length-append}
-use Rattle.std.proofs.lemmas.List.{append-nil, length-drop, length-replicate, take_rest}
-use Rattle.rtcm_bits.specs.Folding.{fold_into}
 use Rattle.rtcm_bits.proofs.FoldLemmas.{last_start, last_window}
 use Rattle.rtcm_bits.proofs.LongLemmas.{last_more, last_right}
+use Rattle.rtcm_bits.proofs.Names.{append-nil, length-drop, length-replicate, take_rest, fold_into}
 use Rattle.rtcm_bits.proofs.crc.after_folded.Goals as goal
 
 pub loop-taken-init : goal.loop-taken-init

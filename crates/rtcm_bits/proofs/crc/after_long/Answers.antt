@@ -1,10 +1,7 @@
 use Rattle.std.proofs.Common.{◌≡◌, ◌+◌, ◌-◌, ◌≤◌, ℕ, List, length, drop, sym, ap, ◌∙◌, arith, length-append}
-use Rattle.std.proofs.lemmas.List.{length-drop, take_rest}
-use Rattle.rtcm_bits.specs.Bits.{uint}
-use Rattle.rtcm_bits.specs.Crc.{crc}
-use Rattle.rtcm_bits.specs.Folding.{fold_into}
 use Rattle.rtcm_bits.proofs.FoldLemmas.{start_folded}
 use Rattle.rtcm_bits.proofs.LongLemmas.{long_step}
+use Rattle.rtcm_bits.proofs.Names.{length-drop, take_rest, uint, crc, fold_into}
 use Rattle.rtcm_bits.proofs.crc.after_long.Goals as goal
 
 pub loop-taken-init : goal.loop-taken-init

@@ -1,8 +1,5 @@
 use Rattle.std.proofs.Common.{◌≡◌, ◌+◌, ◌-◌, ◌≤◌, length, drop}
-use Rattle.rtcm_bits.specs.Bits.{uint, bits_of}
-use Rattle.rtcm_bits.specs.Crc.{crc}
-use Rattle.rtcm_bits.specs.Folding.{fold_into}
-use Rattle.rtcm_bits.specs.Register.{after_bits}
+use Rattle.rtcm_bits.proofs.Names.{uint, bits_of, crc, fold_into, after_bits}
 use Rattle.rtcm_bits.proofs.crc.after_long.Given as goal
 
 abbrev pub invariant-loop-taken : goal.invariant-loop-taken

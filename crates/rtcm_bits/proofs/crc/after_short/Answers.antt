@@ -1,8 +1,6 @@
 use Rattle.std.proofs.Common.{◌≡◌, ◌+◌, ◌-◌, ◌++◌, ℕ, take, drop, ap, sym, ◌∙◌, arith, take-append-drop}
-use Rattle.std.proofs.Math.Seq.{take-add}
-use Rattle.std.proofs.lemmas.List.{take_rest}
-use Rattle.rtcm_bits.specs.Bits.{uint}
 use Rattle.rtcm_bits.proofs.RegisterLemmas.{steps_more, no_steps}
+use Rattle.rtcm_bits.proofs.Names.{take-add, take_rest, uint}
 use Rattle.rtcm_bits.proofs.crc.after_short.Goals as goal
 
 pub loop-taken-init : goal.loop-taken-init

@@ -1,6 +1,5 @@
 use Rattle.std.proofs.Common.{◌≡◌, ◌-◌, ◌^◌, ◌<◌, ◌≤◌, length, take}
-use Rattle.rtcm_bits.specs.Bits.{uint, bits_of}
-use Rattle.rtcm_bits.specs.Register.{after_bits}
+use Rattle.rtcm_bits.proofs.Names.{uint, bits_of, after_bits}
 use Rattle.rtcm_bits.proofs.crc.after_short.Given as goal
 
 abbrev pub invariant-loop-taken : goal.invariant-loop-taken

@@ -1,5 +1,5 @@
 use Rattle.std.proofs.Common.{◌++◌, arith, length-append}
-use Rattle.std.proofs.lemmas.Simd.{pick_l-range_with_len}
+use Rattle.rtcm_bits.proofs.Names.{pick_l-range_with_len}
 use Rattle.rtcm_bits.proofs.folding.at_nine.Goals as goal
 
 pub returns : goal.returns

@@ -1,4 +1,4 @@
-use Rattle.rtcm_bits.specs.BitLaws.{length-bits_of, bits_of-append}
+use Rattle.rtcm_bits.proofs.Names.{length-bits_of, bits_of-append}
 use Rattle.rtcm_bits.proofs.laws.bytes.Goals as goal
 
 pub returns-clause-length : goal.returns-clause-length

@@ -1,4 +1,4 @@
-use Rattle.rtcm_bits.specs.BitLaws.{signed-raw, raw-signed, raw_fits, signed-fits}
+use Rattle.rtcm_bits.proofs.Names.{signed-raw, raw-signed, raw_fits, signed-fits}
 use Rattle.rtcm_bits.proofs.laws.complement.Goals as goal
 
 pub returns-clause-number : goal.returns-clause-number

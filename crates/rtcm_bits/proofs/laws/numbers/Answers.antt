@@ -1,7 +1,6 @@
 use Rattle.std.proofs.Common.{◌∙◌, arith}
-use Rattle.rtcm_bits.specs.Bits.{number}
-use Rattle.rtcm_bits.specs.BitLaws.{length-uint, number-uint, uint-number, number-fits, number-split}
 use Rattle.rtcm_bits.proofs.BitLemmas.{number-append}
+use Rattle.rtcm_bits.proofs.Names.{number, length-uint, number-uint, uint-number, number-fits, number-split}
 use Rattle.rtcm_bits.proofs.laws.numbers.Goals as goal
 
 pub returns-clause-width : goal.returns-clause-width

@@ -1,5 +1,5 @@
 use Rattle.std.proofs.Common.{ap, ◌∙◌, Some, append_assoc}
-use Rattle.std.specs.Io.KnownBytes.{append_known}
+use Rattle.rtcm_bits.proofs.Names.{append_known}
 use Rattle.rtcm_bits.proofs.laws.waiting.Goals as goal
 
 pub returns : goal.returns

@@ -1,5 +1,5 @@
 use Rattle.std.proofs.Common.{◌≡◌, ◌-◌, length, sym, ap, ◌∙◌, arith, length-drop}
-use Rattle.std.specs.Vec.{vec_len}
+use Rattle.rtcm_bits.proofs.Names.{vec_len}
 use Rattle.rtcm_bits.proofs.looking.spell_out.Goals as goal
 
 pub returns-clause-size : goal.returns-clause-size

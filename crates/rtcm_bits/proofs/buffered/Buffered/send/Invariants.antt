@@ -1,6 +1,5 @@
 use Rattle.std.proofs.Common.{◌≡◌, ◌≤◌, ◌-◌, length, drop, true, vec_capacity}
-use Rattle.std.specs.Io.KnownBytes.{Keeps, append_known}
-use Rattle.rtcm_bits.specs.Buffering.{contents_of}
+use Rattle.rtcm_bits.proofs.Names.{Keeps, append_known, contents_of}
 use Rattle.rtcm_bits.proofs.buffered.Buffered.send.Given as goal
 
 abbrev pub invariant-loop-self : goal.invariant-loop-self

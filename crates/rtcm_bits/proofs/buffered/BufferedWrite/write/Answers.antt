@@ -1,8 +1,8 @@
 use Rattle.std.proofs.Common.{◌≡◌, false, sym, ap, ◌∙◌, rules}
-use Rattle.std.proofs.KnownBytes.{append_known-grown, Keeps-refl}
 use Rattle.rtcm_bits.proofs.BufferLemmas.{one_more}
-use Rattle.rtcm_bits.proofs.buffered.BufferedWrite.write.Goals as goal
 use Rattle.rtcm_bits.proofs.buffered.BufferedWrite.write.Goals.{then-self+in_default, else-self+else-len-eq-BUFFER_BYTES}
+use Rattle.rtcm_bits.proofs.Names.{append_known-grown, Keeps-refl}
+use Rattle.rtcm_bits.proofs.buffered.BufferedWrite.write.Goals as goal
 
 pub returns-clause-bytes : goal.returns-clause-bytes
 returns-clause-bytes g c =

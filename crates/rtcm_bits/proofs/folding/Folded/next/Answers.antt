@@ -1,7 +1,6 @@
 use Rattle.std.proofs.Common.{◌++◌, ℕ, List, length, take, ap, ◌∙◌, arith}
-use Rattle.std.proofs.lemmas.List.{length-take-le}
-use Rattle.rtcm_bits.specs.Folding.{fold_into}
 use Rattle.rtcm_bits.proofs.FoldLemmas.{vector_next, length-fold}
+use Rattle.rtcm_bits.proofs.Names.{length-take-le, fold_into}
 use Rattle.rtcm_bits.proofs.folding.Folded.next.Goals as goal
 
 abbrev whole : goal.returns-clause-added

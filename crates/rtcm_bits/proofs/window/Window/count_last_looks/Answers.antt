@@ -1,6 +1,6 @@
 use Rattle.std.proofs.Common.{◌≡◌, length, drop, arith, rules, length-drop}
-use Rattle.std.specs.Vec.{vec_len}
 use Rattle.rtcm_bits.proofs.LookLemmas.{last_looks}
+use Rattle.rtcm_bits.proofs.Names.{vec_len}
 use Rattle.rtcm_bits.proofs.window.Window.count_last_looks.Goals as goal
 
 pub returns-then-start-counted-clause-counted : goal.returns-then-start-counted-clause-counted

@@ -1,6 +1,6 @@
 use Rattle.std.proofs.Common.{◌≡◌, length, drop, ap, arith, length-drop}
-use Rattle.std.specs.Vec.{vec_len}
 use Rattle.rtcm_bits.proofs.LookLemmas.{view_dropped}
+use Rattle.rtcm_bits.proofs.Names.{vec_len}
 use Rattle.rtcm_bits.proofs.window.Window.drop_front.Goals as goal
 
 pub returns : goal.returns
