@@ -15,7 +15,7 @@ IsWeekNear noon tow w =
     ((w < weeks) × IsNearestWeek noon tow w) ⊎ ((w ≡ 0) × (noon + week ≤ tow + half_week))
     ⊎ ((w ≡ weeks - 1) × (w * week + tow + half_week < noon))
 
--- The week that is printed for the noon of a date and the first MSM: none without a date.
+-- The week that is printed for the noon of a date and the first MSM: none without a date or without an MSM.
 abbrev pub IsWeekFor : (near tow w : Option ℕ) → Type 0
 IsWeekFor None tow w = w ≡ None
 IsWeekFor (Some noon) None w = w ≡ None
