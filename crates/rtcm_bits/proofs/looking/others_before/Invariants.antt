@@ -1,5 +1,5 @@
-use Rattle.std.proofs.Common.{◌≢◌, ◌<◌, ℕ, slice_index}
+use Rattle.std.proofs.Common.{◌≢◌, ◌<◌, ◌*◌, ℕ, slice_index}
 use Rattle.rtcm_bits.proofs.looking.others_before.Given as goal
 
-abbrev pub invariant-loop-i : goal.invariant-loop-i
-invariant-loop-i l = (k : ℕ) → k < l.i → slice_index l.bytes k ≢ l.byte
+abbrev pub invariant-loop-turn : goal.invariant-loop-turn
+invariant-loop-turn l = (k : ℕ) → k < 4 * l.turn → slice_index l.bytes k ≢ l.byte
