@@ -36,8 +36,8 @@ use std::io;
 use std::io::{Read, Write};
 
 /// Runs the command that the words ask for, the first of which is the program's name, and returns
-/// the exit status: 0 after success, 1 after a fault, and 2 if the words aren't accepted or ask for
-/// help.
+/// the exit status: 0 after success, 1 after a fault, and 2 if the words aren't accepted, ask for
+/// help, or have an invalid date, position or height.
 pub fn command<R: Read, W: Deliver, E: Deliver>(
     alloc: Global,
     words: &[&str],

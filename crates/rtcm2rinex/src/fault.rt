@@ -19,7 +19,7 @@ pub enum ToolFault {
     Write,
     /// The framer refused.
     Scan(ScanFault),
-    /// The text of this option isn't a date or a week.
+    /// The text of this option isn't a date, nor a week where one is accepted.
     BadDate(DateOption),
     /// The text of `--position` isn't a position.
     BadPosition,

@@ -57,7 +57,7 @@ pub struct FirstMessages {
     pub point: Option<StationParts>,
     /// The time of week of its first MSM, in milliseconds.
     pub tow: Option<u32>,
-    /// The stations of all messages.
+    /// The stations of all MSMs and station messages.
     pub stations: Stations,
 }
 
