@@ -10,7 +10,3 @@ loop-place-preserved c x v t =
     let lacks : has_line plan (row_at at) ≡ false = ap (has_line plan) (sym c.row_at.ensures) ∙ sym c.has_line.ensures ∙ c.if-has_line.false in
     let next : suc at ≡ at + 1 = omega arith in
     c.loop-place.invariant x v t ∙ line_none x plan v t at c.loop-place-test.true lacks ∙ ap (lines_from x plan v t) next
-
-pub returns-clause-none : goal.returns-clause-none
-returns-clause-none c x v t =
-    c.loop-place.invariant x v t ∙ ap (flat_map (row_lines x c.args.plan.now v t)) (drop_all c.loop-place.place all_rows c.loop-place-test.false)

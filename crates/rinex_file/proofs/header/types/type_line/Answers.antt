@@ -15,6 +15,3 @@ returns c =
     let count = ap (λ (n : ℕ). 4 * n) (sym (length_indices signals)) ∙ sym (length-system_types system (indices signals)) in
     c.types_with.ensures ∙ ap (λ (n : ℕ). header_line (type_front (letter_of system) n row ++ type_columns types row) (codes "SYS / # / OBS TYPES")) count
     ∙ ap (λ l. type_line (letter_of system) (types_of (codes_of system l)) row) c.of-signals.ensures.indices
-
-pub types_with-requires-clause-row : goal.types_with-requires-clause-row
-types_with-requires-clause-row c = grind (arith, common_steps)

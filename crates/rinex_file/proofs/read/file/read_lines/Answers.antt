@@ -41,9 +41,6 @@ loop-added-smaller g c =
     let few = read.within.1 in
     omega (arith, counted, few)
 
-pub next-requires : goal.next-requires
-next-requires g c = let (h, read, stores) = c.loop-added.invariant.read in (h, _, read)
-
 pub returns-in-Ok-None-clause-found : goal.returns-in-Ok-None-clause-found
 returns-in-Ok-None-clause-found g c =
     let (h, read, stores) = c.loop-added.invariant.read in

@@ -4,9 +4,6 @@ use Rattle.rinex_file.proofs.LineByLine.{is_full, not_nil, consumed_none, moved_
 use Rattle.rinex_file.proofs.Names.{Consumes-nil, HasFailed, Found, Line, Long, Failed, IsFound, has, MovesBytes}
 use Rattle.rinex_file.proofs.read.lines.next_line.Goals as goal
 
-pub loop-block-init : goal.loop-block-init
-loop-block-init g c = grind (arith, Consumes-nil, leaves_all)
-
 -- what was found in the place of more bytes is found after those so far
 found_after : (f : Found) (bytes : List ℕ) (left : Option (List ℕ)) (first old new : ℕ) → has 10 bytes ≡ false → length bytes < 1220 → old ≡ first → IsFound f [] left old new → IsFound f bytes left first new
 found_after Line bytes left first old new endless few same ((body, shape, none), fine) = absurd (not_nil _ [] (body, shape, none) refl)
@@ -19,10 +16,6 @@ not_full n m h most = grind arith
 
 pub returns-in-Some-clause-taken : goal.returns-in-Some-clause-taken
 returns-in-Some-clause-taken g c = (consumed_none _ _ _ _ c.loop-block.invariant.taken c.fill.ensures.same, leaves_more _ _ _ c.loop-block.invariant.left c.fill.ensures.left)
-
-pub returns-in-Some-clause-found : goal.returns-in-Some-clause-found
-returns-in-Some-clause-found g c = found_after c.in-Some.found _ _ _ _ _ c.loop-block.invariant.endless
-    (not_full _ _ (sym c.loop-block-test.true ∙ c.is_full.ensures.value) c.loop-block.invariant.within) c.loop-block.invariant.same c.in-Some.ensures.none
 
 pub returns-then-move_to-clause-taken : goal.returns-then-move_to-clause-taken
 returns-then-move_to-clause-taken g c =
@@ -48,12 +41,3 @@ loop-block-preserved g c =
 
 shorter : (old new : List ℕ) → length old < length new → length old < 1220 → 1220 - length new < 1220 - length old
 shorter old new more less = omega (arith, more, less)
-
-pub loop-block-smaller : goal.loop-block-smaller
-loop-block-smaller g c = grind (arith, not_full, is_full, shorter, longer)
-
-pub returns-clause-taken : goal.returns-clause-taken
-returns-clause-taken g c = (c.loop-block.invariant.taken, c.loop-block.invariant.left)
-
-pub returns-clause-found : goal.returns-clause-found
-returns-clause-found g c = (is_full _ _ (sym c.loop-block-test.false ∙ c.is_full.ensures.value), c.loop-block.invariant.endless, c.loop-block.invariant.same)

@@ -26,6 +26,3 @@ pub returns-clause-texts : goal.returns-clause-texts
 returns-clause-texts c =
     let far = c.loop-field-test.false in
     all_cut (lists_of c.args.texts.now) c.loop-field.taken refl c.are_texts.ensures.count (λ j less. c.loop-field.invariant.cut j (omega (arith, less, far)))
-
-pub returns-clause-fault : goal.returns-clause-fault
-returns-clause-fault c = grind (arith, common_steps)

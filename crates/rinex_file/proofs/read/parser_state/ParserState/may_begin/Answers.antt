@@ -29,9 +29,3 @@ returns-in-Some c = λ h history.
       },
       λ may. let rise = rise_last _ front x c.args.time last may.later in lt-ltb _ _ (omega (arith, before, time, rise)),
     )
-
-pub returns-then-satellites-eq0 : goal.returns-then-satellites-eq0
-returns-then-satellites-eq0 c = grind (arith, common_steps)
-
-pub returns-in-None : goal.returns-in-None
-returns-in-None c = grind (arith, common_steps)

@@ -4,6 +4,3 @@ use Rattle.rinex_file.proofs.read.parser_state.ParserState.new.Goals as goal
 
 pub returns-clause-starts : goal.returns-clause-starts
 returns-clause-starts c = header_starts _ refl
-
-pub returns-clause-lines : goal.returns-clause-lines
-returns-clause-lines c = λ p may. refl

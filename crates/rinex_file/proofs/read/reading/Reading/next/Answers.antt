@@ -51,18 +51,6 @@ returns-in-Long-clause-goes g c = λ h input read.
     both_said input _ _ _ c.fault_at-fault.ensures.faulty (over_long s c.args.self.now.count input _ _ c.next.new.self.line read.taken long.found.0 long.found.1 long.taken.0)
     (expected_at c.args.self.now.parser_state h c.args.self.now.parser_state.expected c.args.self.now.count input _ read.taken refl read.history)
 
-pub overflow_add-number : goal.overflow_add-number
-overflow_add-number g c = let (h, input, read) = c.requires in let few = read.within.1 in omega (arith, few)
-
-pub take-requires-clause-history : goal.take-requires-clause-history
-take-requires-clause-history g c = let (h, input, read) = c.requires in (h, read.history)
-
-pub take-requires-clause-room : goal.take-requires-clause-room
-take-requires-clause-room g c =
-    let (h, input, read) = c.requires in
-    let ((epochs, rows, events), few) = read.within in
-    (omega (arith, epochs, few), omega (arith, rows, few), omega (arith, events, few))
-
 pub returns-in-Ok-clause-goes : goal.returns-in-Ok-clause-goes
 returns-in-Ok-clause-goes g c = λ h input read.
     let old = progress_at c.args.self.now.parser_state h in

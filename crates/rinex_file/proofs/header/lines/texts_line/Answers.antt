@@ -1,6 +1,0 @@
-use Rattle.std.proofs.Common.{arith}
-use Rattle.rinex_file.proofs.Names.{common_steps}
-use Rattle.rinex_file.proofs.header.lines.texts_line.Goals as goal
-
-pub loop-field-preserved : goal.loop-field-preserved
-loop-field-preserved c = grind (arith, common_steps)
