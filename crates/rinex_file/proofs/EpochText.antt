@@ -1,44 +1,42 @@
 -- A date and time of day is read back from its columns.
-use Rattle.std.proofs.Common.{arith, ◌≡◌, ℕ, zero, suc, ◌+◌, ◌-◌, ◌*◌, ◌/◌, ◌%◌, ◌^◌, ◌<◌, ◌≤◌, List, [], ◌∷◌, ◌++◌, refl, sym, ap, ap₂, ◌∙◌, length, get_or, take, drop, replicate, append_assoc, decimal, pos, subst}
+use Rattle.std.proofs.Common.{arith, ◌≡◌, ℕ, zero, suc, ◌+◌, ◌-◌, ◌*◌, ◌/◌, ◌%◌, ◌^◌, ◌<◌, ◌≤◌, List, [], ◌∷◌, ◌++◌, refl, sym, ap, ap₂, ◌∙◌, length, get_or, take, drop, replicate, append_assoc, decimal, pos, subst, lit<}
 use Rattle.gnss_obs.specs.Weeks.{day as day_length}
 use Rattle.rinex_file.proofs.Digits.{length-right, length-padded, length-fixed, not_negative, digits_in-right, digits_in-fixed, digits_in-padded, digits_in-whole}
+use Rattle.rinex_file.proofs.TypeRows.{content_first}
 use Rattle.rinex_file.proofs.Names.{codes, min, ⊤, is_negative, sign_text, length-decimal-le, take_at, drop_at, drop-drop, div-add-mod', Civil, IsCivilOf, civil_of, joined, left, right, padded, fixed, digits_in, epoch_line, header_line, first_line}
 pub use Rattle.std.proofs.lemmas.Option.{none-some as none_some, same_Some}
 
 -- ---- fields of fixed widths, one after the other
 
--- a field with this width and these digits
-abbrev IsField : List ℕ → ℕ × ℕ → Type 0
-IsField f (w, n) = (length f ≡ w) × (digits_in f ≡ n)
+-- a field with this width, and what is read of it
+abbrev pub IsField : {X : Type 0} → (List ℕ → X) → List ℕ → ℕ × X → Type 0
+IsField read f (w, x) = (length f ≡ w) × (read f ≡ x)
 
-abbrev AreFields : List (List ℕ) → List (ℕ × ℕ) → Type 0
-AreFields [] [] = ⊤
-AreFields [] (p ∷ ps) = ⊥
-AreFields (f ∷ fs) [] = ⊥
-AreFields (f ∷ fs) (p ∷ ps) = IsField f p × AreFields fs ps
+abbrev pub AreFields : {X : Type 0} → (List ℕ → X) → List (List ℕ) → List (ℕ × X) → Type 0
+AreFields read [] [] = ⊤
+AreFields read [] (p ∷ ps) = ⊥
+AreFields read (f ∷ fs) [] = ⊥
+AreFields read (f ∷ fs) (p ∷ ps) = IsField read f p × AreFields read fs ps
 
 -- the column at which a field begins
-abbrev start_of : List (ℕ × ℕ) → ℕ → ℕ
+abbrev pub start_of : {X : Type 0} → List (ℕ × X) → ℕ → ℕ
 start_of ps zero = 0
 start_of [] (suc k) = 0
-start_of ((w, n) ∷ ps) (suc k) = w + start_of ps k
+start_of ((w, x) ∷ ps) (suc k) = w + start_of ps k
 
 skip : (f rest : List ℕ) (w n : ℕ) → length f ≡ w → drop (w + n) (f ++ rest) ≡ drop n rest
 skip f rest w n e = sym (drop-drop n w (f ++ rest)) ∙ ap (drop n) (drop_at f rest w e)
 
--- the digits of a field are those in its columns
-field_at : (fs : List (List ℕ)) (ps : List (ℕ × ℕ)) (k : ℕ) (tail : List ℕ) → AreFields fs ps
-    → digits_in (take (get_or ps k (0, 0)).0 (drop (start_of ps k) (joined fs ++ tail))) ≡ (get_or ps k (0, 0)).1
-field_at [] [] zero tail are = refl
-field_at [] [] (suc k) tail are = refl
-field_at [] (p ∷ ps) k tail are = absurd are
-field_at (f ∷ fs) [] k tail are = absurd are
-field_at (f ∷ fs) ((w, n) ∷ ps) zero tail ((e, d), are) =
-    ap (λ t. digits_in (take w t)) (append_assoc f (joined fs) tail) ∙ ap digits_in (take_at f (joined fs ++ tail) w e) ∙ d
-field_at (f ∷ fs) ((w, n) ∷ ps) (suc k) tail ((e, d), are) =
-    ap (λ t. digits_in (take (get_or ps k (0, 0)).0 (drop (w + start_of ps k) t))) (append_assoc f (joined fs) tail)
-    ∙ ap (λ t. digits_in (take (get_or ps k (0, 0)).0 t)) (skip f (joined fs ++ tail) w (start_of ps k) e)
-    ∙ field_at fs ps k tail are
+-- a field is read from its columns
+pub field_at : {X : Type 0} (read : List ℕ → X) (fs : List (List ℕ)) (ps : List (ℕ × X)) (k : ℕ) (d : ℕ × X) (tail line : List ℕ) → AreFields read fs ps → k < length ps → line ≡ joined fs ++ tail
+    → read (take (get_or ps k d).0 (drop (start_of ps k) line)) ≡ (get_or ps k d).1
+field_at read fs [] k d tail line are less e = absurd (omega (arith, less))
+field_at read [] (p ∷ ps) k d tail line are less e = absurd are
+field_at read (f ∷ fs) ((w, x) ∷ ps) zero d tail line ((size, is), are) less e =
+    ap (λ t. read (take w t)) (e ∙ append_assoc f (joined fs) tail) ∙ ap read (take_at f (joined fs ++ tail) w size) ∙ is
+field_at read (f ∷ fs) ((w, x) ∷ ps) (suc k) d tail line ((size, is), are) less e =
+    ap (λ t. read (take (get_or ps k d).0 t)) (ap (drop (w + start_of ps k)) (e ∙ append_assoc f (joined fs) tail) ∙ skip f (joined fs ++ tail) w (start_of ps k) size)
+    ∙ field_at read fs ps k d tail (joined fs ++ tail) are (omega (arith, less)) refl
 
 -- ---- the lines with a date and time of day
 
@@ -52,18 +50,18 @@ pub record HasColumns (t : Civil) : Type 0 where
   pub millisecond : t.millisecond < 60_000
 
 -- a number with leading blanks
-is_whole : (width n : ℕ) → 0 < width → n < 10 ^ width → n < 2 ^ 64 → IsField (right width (decimal n)) (width, n)
+is_whole : (width n : ℕ) → 0 < width → n < 10 ^ width → n < 2 ^ 64 → IsField digits_in (right width (decimal n)) (width, n)
 is_whole width n some few fits = (length-right width (decimal n) (length-decimal-le width n some few fits), digits_in-whole width n fits)
 
-is_six : (n : ℕ) → n < 10_000 → IsField (right 6 (decimal n)) (6, n)
+is_six : (n : ℕ) → n < 10_000 → IsField digits_in (right 6 (decimal n)) (6, n)
 is_six n few = is_whole 6 n (omega arith) (omega (arith, few)) (omega (arith, few))
 
 -- a blank and a number with a leading zero
-is_two : (n : ℕ) → n < 100 → IsField (32 ∷ padded 2 n) (3, n)
+is_two : (n : ℕ) → n < 100 → IsField digits_in (32 ∷ padded 2 n) (3, n)
 is_two n h = (ap suc (length-padded 2 n (omega arith) (omega (arith, h)) (omega (arith, h))), digits_in-padded 2 n (omega arith) (omega (arith, h)) (omega (arith, h)))
 
 -- seconds in 11 columns or more
-is_second : (width s : ℕ) → 11 ≤ width → s < 60_000 → IsField (right width (fixed 7 (pos (s * 10_000)))) (width, s * 10_000)
+is_second : (width s : ℕ) → 11 ≤ width → s < 60_000 → IsField digits_in (right width (fixed 7 (pos (s * 10_000)))) (width, s * 10_000)
 is_second width s wide h =
     let l = length-fixed 7 2 (pos (s * 10_000)) (omega arith) (omega arith) (omega (arith, h)) (omega (arith, h)) in
     let none : length (sign_text (is_negative (pos (s * 10_000)))) ≡ 0 = ap (λ b. length (sign_text b)) (not_negative (s * 10_000)) in (
@@ -84,17 +82,17 @@ pub record ShowDate (t : Civil) (w k : ℕ) (line : List ℕ) : Type 0 where
 abbrev date_fields : Civil → ℕ → ℕ → List (ℕ × ℕ) → List (ℕ × ℕ)
 date_fields t w k more = (6, t.year) ∷ (w, t.month) ∷ (w, t.day) ∷ (w, t.hour) ∷ (w, t.minute) ∷ (k, t.millisecond * 10_000) ∷ more
 
-date_shown : (t : Civil) (w k : ℕ) (fs : List (List ℕ)) (more : List (ℕ × ℕ)) (tail line : List ℕ) → AreFields fs (date_fields t w k more) → line ≡ joined fs ++ tail → ShowDate t w k line
+date_shown : (t : Civil) (w k : ℕ) (fs : List (List ℕ)) (more : List (ℕ × ℕ)) (tail line : List ℕ) → AreFields digits_in fs (date_fields t w k more) → line ≡ joined fs ++ tail → ShowDate t w k line
 date_shown t w k fs more tail line are e =
     let ps = date_fields t w k more in
-    let at : (j : ℕ) → digits_in (take (get_or ps j (0, 0)).0 (drop (start_of ps j) line)) ≡ (get_or ps j (0, 0)).1 = λ j. rw e (field_at fs ps j tail are) in
+    let at : (j : ℕ) → j < 6 → digits_in (take (get_or ps j (0, 0)).0 (drop (start_of ps j) line)) ≡ (get_or ps j (0, 0)).1 = λ j less. field_at digits_in fs ps j (0, 0) tail line are (omega (arith, less)) e in
     record {
-      year = at 0;
-      month = at 1;
-      day = ap (λ (n : ℕ). digits_in (take w (drop n line))) (omega arith) ∙ at 2;
-      hour = ap (λ (n : ℕ). digits_in (take w (drop n line))) (omega arith) ∙ at 3;
-      minute = ap (λ (n : ℕ). digits_in (take w (drop n line))) (omega arith) ∙ at 4;
-      second = ap (λ (n : ℕ). digits_in (take k (drop n line))) (omega arith) ∙ at 5;
+      year = at 0 (lit< tt);
+      month = at 1 (lit< tt);
+      day = ap (λ (n : ℕ). digits_in (take w (drop n line))) (omega arith) ∙ at 2 (lit< tt);
+      hour = ap (λ (n : ℕ). digits_in (take w (drop n line))) (omega arith) ∙ at 3 (lit< tt);
+      minute = ap (λ (n : ℕ). digits_in (take w (drop n line))) (omega arith) ∙ at 4 (lit< tt);
+      second = ap (λ (n : ℕ). digits_in (take k (drop n line))) (omega arith) ∙ at 5 (lit< tt);
     }
 
 -- ---- the line of an epoch
@@ -104,7 +102,7 @@ epoch_parts t n =
     (62 ∷ 32 ∷ right 4 (decimal t.year)) ∷ (32 ∷ padded 2 t.month) ∷ (32 ∷ padded 2 t.day) ∷ (32 ∷ padded 2 t.hour) ∷ (32 ∷ padded 2 t.minute)
     ∷ right 11 (fixed 7 (pos (t.millisecond * 10_000))) ∷ codes "  0" ∷ right 3 (decimal n) ∷ []
 
-epoch_are : (t : Civil) (n : ℕ) → HasColumns t → n < 1000 → AreFields (epoch_parts t n) (date_fields t 3 11 ((3, 0) ∷ (3, n) ∷ []))
+epoch_are : (t : Civil) (n : ℕ) → HasColumns t → n < 1000 → AreFields digits_in (epoch_parts t n) (date_fields t 3 11 ((3, 0) ∷ (3, n) ∷ []))
 unfolding epoch_parts
 epoch_are t n is few =
     let year = is_whole 4 t.year (omega arith) (omega (arith, is.year)) (omega (arith, is.year)) in
@@ -126,25 +124,17 @@ epoch_shown t n line is few e =
     let are = epoch_are t n is few in
     let more : List (ℕ × ℕ) = (3, 0) ∷ (3, n) ∷ [] in (
       date_shown t 3 11 (epoch_parts t n) more (10 ∷ []) line are same,
-      ap (λ l. digits_in (take 3 (drop 32 l))) same ∙ field_at (epoch_parts t n) (date_fields t 3 11 more) 7 (10 ∷ []) are,
+      field_at digits_in (epoch_parts t n) (date_fields t 3 11 more) 7 (0, 0) (10 ∷ []) line are (lit< tt) same,
     )
 
 -- ---- the header's line of the first epoch
-
--- a line of a header begins with its content
-begins : (content label : List ℕ) → (tail : List ℕ) × (header_line content label ≡ content ++ tail)
-unfolding header_line
-begins content label =
-    let blanks = replicate (60 - length content) 32 in
-    let after = left 20 label ++ (10 ∷ []) in
-    (blanks ++ after, append_assoc content blanks after)
 
 pub first_shown : (t : Civil) (line : List ℕ) → HasColumns t → line ≡ first_line t → ShowDate t 6 13 line
 first_shown t line is e =
     let fs =
     right 6 (decimal t.year) ∷ right 6 (decimal t.month) ∷ right 6 (decimal t.day) ∷ right 6 (decimal t.hour) ∷ right 6 (decimal t.minute)
     ∷ right 13 (fixed 7 (pos (t.millisecond * 10_000))) ∷ codes "     GPS" ∷ [] in
-    let (tail, shape) = begins (joined fs) (codes "TIME OF FIRST OBS") in
+    let (tail, shape) = content_first (joined fs) (codes "TIME OF FIRST OBS") in
     let year = is_six t.year (omega (arith, is.year)) in
     let month = is_six t.month (omega (arith, is.month)) in
     let day = is_six t.day (omega (arith, is.day)) in

@@ -5,9 +5,10 @@ use Rattle.std.proofs.lemmas.Grind.{flat_map-append}
 use Rattle.rinex_file.proofs.Digits.{number_in-fixed, digits_in-right, digits_in-fixed, length-fixed, length-right}
 use Rattle.rinex_file.proofs.BodySteps.{cons_parts}
 use Rattle.rinex_file.proofs.Entries.{few_signals}
+use Rattle.rinex_file.proofs.EpochText.{IsField, AreFields, field_at}
 use Rattle.rinex_file.proofs.HeaderText.{equal_or}
-use Rattle.rinex_file.proofs.TypeRows.{code_here, count_read, few_types, listed_at, signal_at, column_of, code_reads_back}
-use Rattle.rinex_file.proofs.Names.{IsTrue, ◌↔◌, not, ◌||◌, ◌==◌, codes, if◌then◌else◌, flat_map, nat_lt, slice_index, is_negative, digits, sign_text, nat_tests, ints, take_at, drop_at, take_more, take-append-drop, take_min, take_more_same, drop-cons, SignalAt, code_of, signal_of_code, System, Gps, Galileo, passes_at, is_equal, civil_of, PlanValue, planned_of, StationValues, Civil, joined, left, right, fixed, digits_in, number_in, header_line, lengths, height_line, row_line, row_lines, has_line, header_lines, all_rows, row_count, row_at, row_place, lines_from, first_types, type_rows, version_line, version_with, Shown, shown_rows, lines_before, lines_after, IsShown, shown_line, AreTypes, types_line, is_some_planned, signals_begun, IsCoordinate, End, Version, Texts, Position, Delta, Types, StrengthUnit, First, Shift, lines_of_header, HeaderLists, HeaderRow}
+use Rattle.rinex_file.proofs.TypeRows.{code_here, count_read, few_types, listed_at, signal_at, column_of, code_reads_back, content_first}
+use Rattle.rinex_file.proofs.Names.{IsTrue, ◌↔◌, not, ◌||◌, ◌==◌, codes, if◌then◌else◌, flat_map, nat_lt, slice_index, is_negative, digits, sign_text, nat_tests, ints, take_at, drop_at, take_more, take-append-drop, take_min, take_more_same, drop-cons, SignalAt, code_of, signal_of_code, System, Gps, Galileo, passes_at, is_equal, civil_of, PlanValue, planned_of, StationValues, Civil, joined, left, right, fixed, digits_in, number_in, header_line, lengths, height_line, row_line, row_lines, has_line, header_lines, all_rows, row_count, row_at, row_place, lines_from, first_types, type_rows, version_line, version_with, Shown, shown_rows, lines_before, lines_after, IsShown, shown_line, AreTypes, types_line, is_some_planned, signals_begun, IsCoordinate, End, Version, Texts, Position, Delta, Types, StrengthUnit, First, Shift, lines_of_header, HeaderLists, HeaderRow, drop-drop}
 
 -- ---- version
 
@@ -86,53 +87,34 @@ length-column z h =
     within : (n k : ℕ) → n ≤ k + (8 + (1 + 4)) → k ≤ 1 → n ≤ 14
     within n k a b = omega (arith, a, b)
 
-number_back : (z : ℤ) → Fits14 z → number_in (right 14 (fixed 4 z)) ≡ z
-number_back z h = number_in-fixed 14 4 z (omega arith) (fits_64 (unsigned_abs z) h)
-
--- three fields, and the rest of the line after them
-begins : (f g h label : List ℕ) → (rest : List ℕ) × (header_line (joined (f ∷ g ∷ h ∷ [])) label ≡ f ++ (g ++ (h ++ rest)))
-unfolding header_line
-begins f g h label =
-    let blanks = replicate (60 - length (joined (f ∷ g ∷ h ∷ []))) 32 in
-    let tail = left 20 label ++ (10 ∷ []) in
-    let rest = blanks ++ tail in (
-      rest,
-      append_assoc (joined (f ∷ g ∷ h ∷ [])) blanks tail
-          ∙ ap (λ l. (f ++ (g ++ l)) ++ rest) (append-nil h)
-          ∙ append_assoc f (g ++ h) rest
-          ∙ ap (λ l. f ++ l) (append_assoc g h rest),
-    )
+is_length : (z : ℤ) → Fits14 z → IsField number_in (right 14 (fixed 4 z)) (14, z)
+is_length z h = (length-column z h, number_in-fixed 14 4 z (omega arith) (fits_64 (unsigned_abs z) h))
 
 -- columns of a line from one on, read as a number
 abbrev pub number_at : ℕ → List ℕ → ℤ
 number_at from line = number_in (take 14 (drop from line))
 
-field_at : (from : ℕ) (front field rest line : List ℕ) → length front ≡ from → length field ≡ 14 → line ≡ front ++ (field ++ rest) → take 14 (drop from line) ≡ field
-field_at from front field rest line l w e = ap (λ t. take 14 (drop from t)) e ∙ ap (take 14) (drop_at front (field ++ rest) from l) ∙ take_at field rest 14 w
-
 pub lengths-back : (x y z : ℤ) (label : List ℕ) → Fits14 x → Fits14 y → Fits14 z
     → (number_at 0 (header_line (lengths x y z) label) ≡ x) × (number_at 14 (header_line (lengths x y z) label) ≡ y) × (number_at 28 (header_line (lengths x y z) label) ≡ z)
 lengths-back x y z label a b c =
-    let line = header_line (lengths x y z) label in
-    let f = right 14 (fixed 4 x) in
-    let g = right 14 (fixed 4 y) in
-    let h = right 14 (fixed 4 z) in
-    let (rest, shape) = begins f g h label in
-    let two : length (f ++ g) ≡ 28 = length-append f g ∙ ap (λ n. n + length g) (length-column x a) ∙ ap (λ n. 14 + n) (length-column y b) in (
-      ap number_in (field_at 0 [] f (g ++ (h ++ rest)) line refl (length-column x a) shape) ∙ number_back x a,
-      ap number_in (field_at 14 f g (h ++ rest) line (length-column x a) (length-column y b) shape) ∙ number_back y b,
-      ap number_in (field_at 28 (f ++ g) h rest line two (length-column z c) (shape ∙ sym (append_assoc f g (h ++ rest)))) ∙ number_back z c,
-    )
+    let fs = right 14 (fixed 4 x) ∷ right 14 (fixed 4 y) ∷ right 14 (fixed 4 z) ∷ [] in
+    let ps : List (ℕ × ℤ) = (14, x) ∷ (14, y) ∷ (14, z) ∷ [] in
+    let (rest, shape) = content_first (joined fs) label in
+    let are : AreFields number_in fs ps = (is_length x a, (is_length y b, (is_length z c, tt))) in
+    let at = λ (k : ℕ) (less : k < 3). field_at number_in fs ps k (0, pos 0) rest (header_line (lengths x y z) label) are less shape in
+    (at 0 (lit< tt), at 1 (lit< tt), at 2 (lit< tt))
+
+is_height : (h : ℕ) → h < 2 ^ 16 → IsField digits_in (right 14 (fixed 4 (pos h))) (14, h)
+is_height h small = (length-column (pos h) (omega (arith, small)), digits_in-right 14 (fixed 4 (pos h)) ∙ digits_in-fixed 4 (pos h) (omega arith) (omega (arith, small)))
 
 -- the height is no less than zero
 pub height-back : (h : ℕ) → h < 2 ^ 16 → digits_in (take 14 (drop 0 (height_line h))) ≡ h
 height-back h small =
     let f = right 14 (fixed 4 (pos h)) in
-    let east = right 14 (fixed 4 (pos 0)) in
-    let (rest, shape) = begins f east east (codes "ANTENNA: DELTA H/E/N") in
-    let few : Fits14 (pos h) = omega (arith, small) in
-    ap digits_in (field_at 0 [] f (east ++ (east ++ rest)) (height_line h) refl (length-column (pos h) few) shape)
-    ∙ digits_in-right 14 (fixed 4 (pos h)) ∙ digits_in-fixed 4 (pos h) (omega arith) (fits_64 h few)
+    let none = right 14 (fixed 4 (pos 0)) in
+    let (rest, shape) = content_first (joined (f ∷ none ∷ none ∷ [])) (codes "ANTENNA: DELTA H/E/N") in
+    let zero = is_height 0 (lit< tt) in
+    field_at digits_in (f ∷ none ∷ none ∷ []) ((14, h) ∷ (14, 0) ∷ (14, 0) ∷ []) 0 (0, 0) rest (height_line h) (is_height h small, (zero, (zero, tt))) (lit< tt) shape
 
 size_within : (z : ℤ) → neg_ℤ (pos 137_438_953_472) ≤ℤ z → z ≤ℤ pos 137_438_953_471 → unsigned_abs z < 10 ^ 12
 size_within z low high = omega (arith, ints)
@@ -175,25 +157,30 @@ module _ (h : Shown) where
   split_at n = sym (ap (flat_map (shown_rows h)) (take-append-drop n all_rows)) ∙ flat_map-append (shown_rows h) (take n all_rows) (drop n all_rows)
 
   -- the last row has a line
-  last : (n : ℕ) (b : Bool) → n < row_count → has_line h.plan (row_at n) ≡ b → (lines_after h (suc n) ≡ [] → ⊥) → lines_after h n ≡ [] → ⊥
-  last n true less has later none = let next = line_next h.texts h.plan h.values (civil_of h.first) n less has in cc
-  last n false less lacks later none = later (sym (line_none h.texts h.plan h.values (civil_of h.first) n less lacks) ∙ none)
-
-  last_line : (k n : ℕ) → k + n ≡ row_place End → lines_after h n ≡ [] → ⊥
-  last_line zero n e none =
-      let end : n ≡ row_place End = omega (arith, e) in
-      let at : lines_after h (row_place End) ≡ [] = subst (λ m. lines_after h m ≡ []) end none in
-      cc
-  last_line (suc k) n e none = last n (has_line h.plan (row_at n)) (omega (arith, e)) refl (last_line k (suc n) (omega (arith, e))) none
-
   pub some_after : (n : ℕ) → n < row_count → lines_after h n ≡ [] → ⊥
-  some_after n less = last_line (row_place End - n) n (omega (arith, less))
+  some_after n less none =
+      let k = row_place End - n in
+      let at : n + k ≡ row_place End = omega (arith, less) in
+      let end : drop k (drop n all_rows) ≡ End ∷ [] = drop-drop k n all_rows ∙ ap (λ m. drop m all_rows) at in
+      let parts : lines_after h n ≡ flat_map (shown_rows h) (take k (drop n all_rows)) ++ shown_rows h End =
+      sym (ap (flat_map (shown_rows h)) (take-append-drop k (drop n all_rows))) ∙ flat_map-append (shown_rows h) (take k (drop n all_rows)) (drop k (drop n all_rows))
+      ∙ ap (λ rows. flat_map (shown_rows h) (take k (drop n all_rows)) ++ flat_map (shown_rows h) rows) end in
+      let size = ap length (sym parts ∙ none) in
+      absurd (omega (arith, size, length-append (flat_map (shown_rows h) (take k (drop n all_rows))) (shown_rows h End)))
 
 pub less_or : (P : Type 0) (i j : ℕ) → (i < j → P) → (j ≤ i → P) → P
 less_or P i j less more = grind arith
 
 pub single : (x y : List ℕ) → ◌≡◌ {A = List (List ℕ)} (x ∷ []) (y ∷ []) → x ≡ y
 single x y e = cc
+
+-- lines that begin with one or with none are the same
+parted : (b c : Bool) (x y : List ℕ) (xs ys : List (List ℕ)) → b ≡ c → (if c then y ∷ [] else []) ++ ys ≡ (if b then x ∷ [] else []) ++ xs
+    → ((if b then x ∷ [] else []) ≡ (if c then y ∷ [] else [])) × (ys ≡ xs)
+parted true true x y xs ys same e = let (first, rest) = cons_parts y x ys xs e in (ap (λ l. l ∷ []) (sym first), rest)
+parted false false x y xs ys same e = (refl, e)
+parted true false x y xs ys same e = cc
+parted false true x y xs ys same e = cc
 
 -- the headers have the same lines in the rows before an index
 abbrev pub Agree : Shown → Shown → ℕ → Type 0
@@ -207,21 +194,13 @@ types_low s = grind arith
 pub types_high : (s : System) → first_types s ≤ first_types Galileo
 types_high s = grind arith
 
+pub shift_far : (s : System) → row_place First < row_place (Shift s)
+shift_far s = grind arith
+
 pub types_row : (s : System) (r : ℕ) → r < 6 → row_at (first_types s + r) ≡ Types s r
-types_row Gps zero less = refl
-types_row Gps (suc zero) less = refl
-types_row Gps (suc (suc zero)) less = refl
-types_row Gps (suc (suc (suc zero))) less = refl
-types_row Gps (suc (suc (suc (suc zero)))) less = refl
-types_row Gps (suc (suc (suc (suc (suc zero))))) less = refl
-types_row Gps (suc (suc (suc (suc (suc (suc r)))))) less = absurd (omega (arith, less))
-types_row Galileo zero less = refl
-types_row Galileo (suc zero) less = refl
-types_row Galileo (suc (suc zero)) less = refl
-types_row Galileo (suc (suc (suc zero))) less = refl
-types_row Galileo (suc (suc (suc (suc zero)))) less = refl
-types_row Galileo (suc (suc (suc (suc (suc zero))))) less = refl
-types_row Galileo (suc (suc (suc (suc (suc (suc r)))))) less = absurd (omega (arith, less))
+types_row s (suc (suc (suc (suc (suc (suc r)))))) less = absurd (omega (arith, less))
+types_row Gps r less = refl
+types_row Galileo r less = refl
 
 pub types_shown : (s : System) (h : Shown) → IsShown h → 0 < length (planned_of s h.plan) → AreTypes s (planned_of s h.plan)
 types_shown s h is some = record { listed = is.plan.listed s; apart = is.plan.apart s; some = some }
@@ -365,42 +344,17 @@ module _ (h g : Shown) (a : IsShown h) (b : IsShown g) where
 
   pub same_there : (n : ℕ) → n < row_count → Agree h g n → has_line h.plan (row_at n) ≡ has_line g.plan (row_at n)
   same_there n less agree = by (row_at n) (placed n less) where
-    shift_low : (s : System) → 0 < row_place (Shift s)
-    shift_low Gps = lit< tt
-    shift_low Galileo = lit< tt
-
     by : (r : HeaderRow) → row_place r ≡ n → has_line h.plan r ≡ has_line g.plan r
-    by Version e = refl
-    by (Texts r) e = refl
-    by Position e = refl
-    by Delta e = refl
     by (Types s zero) e = let low = types_low s in types_first (planned_of s h.plan) ∙ agree_systems n (omega (arith, e, low)) agree s ∙ sym (types_first (planned_of s g.plan))
     by (Types s (suc r)) e = ap (λ k. nat_lt (suc r) (type_rows k)) (agree_count n agree s (omega (arith, e)))
-    by StrengthUnit e = refl
-    by First e = refl
-    by (Shift s) e = let low = shift_low s in planned_is (planned_of s h.plan) ∙ agree_systems n (omega (arith, e, low)) agree s ∙ sym (planned_is (planned_of s g.plan))
-    by End e = refl
+    by (Shift s) e = let low = shift_far s in planned_is (planned_of s h.plan) ∙ agree_systems n (omega (arith, e, low)) agree s ∙ sym (planned_is (planned_of s g.plan))
+    by other e = refl
 
   -- ---- the same lines before a row
 
   pub record Agreed (n : ℕ) (others left : List (List ℕ)) : Type 0 where
     pub agree : Agree h g n
     pub rest : left ≡ lines_after h n ++ others
-
-  one_row : (n : ℕ) → n < row_count → (others left : List (List ℕ)) (c : Bool) → has_line h.plan (row_at n) ≡ c → has_line g.plan (row_at n) ≡ c
-      → shown_rows g (row_at n) ++ left ≡ lines_after h n ++ others → (shown_rows h (row_at n) ≡ shown_rows g (row_at n)) × (left ≡ lines_after h (suc n) ++ others)
-  one_row n less others left true p q e =
-      let x = shown_line h (row_at n) in
-      let y = shown_line g (row_at n) in
-      let hr : shown_rows h (row_at n) ≡ x ∷ [] = rows_when h (row_at n) true p in
-      let gr : shown_rows g (row_at n) ≡ y ∷ [] = rows_when g (row_at n) true q in
-      let both : y ∷ left ≡ x ∷ (lines_after h (suc n) ++ others) =
-      sym (ap (λ l. l ++ left) gr) ∙ e ∙ ap (λ l. l ++ others) (after_next h n less ∙ ap (λ l. l ++ lines_after h (suc n)) hr) in
-      (hr ∙ ap (λ z. z ∷ []) (sym (cons_parts y x left (lines_after h (suc n) ++ others) both).0) ∙ sym gr, (cons_parts y x left (lines_after h (suc n) ++ others) both).1)
-  one_row n less others left false p q e =
-      let hr : shown_rows h (row_at n) ≡ [] = rows_when h (row_at n) false p in
-      let gr : shown_rows g (row_at n) ≡ [] = rows_when g (row_at n) false q in
-      (hr ∙ sym gr, sym (ap (λ l. l ++ left) gr) ∙ e ∙ ap (λ l. l ++ others) (after_next h n less ∙ ap (λ l. l ++ lines_after h (suc n)) hr))
 
   pub agreed : (n : ℕ) → n ≤ row_count → (others left : List (List ℕ)) → lines_of_header h ++ others ≡ lines_before g n ++ left → Agreed n others left
   unfolding header_lines
@@ -409,7 +363,8 @@ module _ (h g : Shown) (a : IsShown h) (b : IsShown g) where
       let less : n < row_count = omega (arith, few) in
       let before = agreed n (omega (arith, few)) others (shown_rows g (row_at n) ++ left)
       (e ∙ ap (λ l. l ++ left) (before_next g n less) ∙ append_assoc (lines_before g n) (shown_rows g (row_at n)) left) in
-      let one = one_row n less others left (has_line g.plan (row_at n)) (same_there n less before.agree) refl before.rest in
+      let one = parted (has_line h.plan (row_at n)) (has_line g.plan (row_at n)) (shown_line h (row_at n)) (shown_line g (row_at n)) (lines_after h (suc n) ++ others) left (same_there n less before.agree)
+      (before.rest ∙ ap (λ l. l ++ others) (after_next h n less) ∙ append_assoc (shown_rows h (row_at n)) (lines_after h (suc n)) others) in
       record {
         agree = λ i l. equal_or (shown_rows h (row_at i) ≡ shown_rows g (row_at i)) i n (λ e. subst (λ j. shown_rows h (row_at j) ≡ shown_rows g (row_at j)) (sym e) one.0)
             (λ far. before.agree i (omega (arith, l, far)));

@@ -2,10 +2,9 @@
 use Rattle.std.proofs.Common.{arith, ◌≡◌, ◌∙◌, sym, ap, ap₂, map, refl, subst, ℕ, ℤ, pos, suc, lit<, lit≤, ◌-◌, ◌<◌, ◌≤◌, Bool, true, false, ◌||◌, min, List, [], ◌∷◌, ◌++◌, length, get_or, take, replicate, All, nat_eq}
 use Rattle.rinex_file.proofs.BodySteps.{few_signals_of}
 use Rattle.rinex_file.proofs.HeaderAgree.{Agree, single, types_high, agree_types, agree_count, signals_same, none_planned, split_at, lengths-back, height-back, number_at, coordinate-fits}
-use Rattle.rinex_file.proofs.HeaderSteps.{some_plan, with_is}
-use Rattle.rinex_file.proofs.HeaderText.{place_back, same_at, same_rows, texts_back, same_texts, same_some, SameTexts}
-use Rattle.rinex_file.proofs.Names.{AllOfLen, IsDistinct, take_all, ext_get_or, All-map, All-weaker, codes, SignalAt, IsSignal, table, System, Gps, Galileo, indices, IsOf, PlanValue, planned_of, StationValues, civil_of, TextRow, Texts, Position, Delta, First, End, trimmed, HeaderLists, text_count, text_of, width_of, fields, fields_of, text_rows, HeaderField, AntType, IsText, AreTexts, AreValues, IsTime, row_line, row_place, end_line, first_line, first_types, texts_line, position_line, delta_line, digits_in, Announced, Known, Shown, AreTypesRead, IsShown, AreValid, MayPlan, IsHeadAt, IsOnlyTime, shown_with, lines_before, announced, signals_begun, RefusesHeaderLine, EndsHeader, none_of}
-use Rattle.rinex_file.specs.declared.header.fields.TextRow.TheVariants as row
+use Rattle.rinex_file.proofs.HeaderSteps.{some_plan, with_is, unread}
+use Rattle.rinex_file.proofs.HeaderText.{place_back, same_at, same_rows, texts_back, same_texts, same_some, SameTexts, text_low}
+use Rattle.rinex_file.proofs.Names.{AllOfLen, IsDistinct, take_all, ext_get_or, All-map, All-weaker, codes, SignalAt, IsSignal, table, System, Gps, Galileo, indices, IsOf, PlanValue, planned_of, StationValues, civil_of, TextRow, Texts, Position, Delta, First, End, trimmed, HeaderLists, text_count, text_of, width_of, fields, fields_of, text_rows, HeaderField, AntType, IsText, AreTexts, AreValues, IsTime, row_line, row_place, end_line, first_line, first_types, texts_line, position_line, delta_line, digits_in, Announced, Known, Shown, AreTypesRead, IsShown, AreValid, MayPlan, IsHeadAt, IsOnlyTime, shown_with, lines_before, announced, signals_begun, RefusesHeaderLine, EndsHeader, none_of, row_at, shown_rows, text_row_index}
 
 -- ---- headers with the same lines are the same
 
@@ -21,15 +20,15 @@ same_values v w a b c d = grind arith
 same_shown : (g h : Shown) → g.texts ≡ h.texts → g.plan ≡ h.plan → g.values ≡ h.values → g.first ≡ h.first → g ≡ h
 same_shown g h a b c d = grind arith
 
+text_here : (r : TextRow) → row_at (row_place (Texts r)) ≡ Texts r
+text_here r = grind arith
+
 module _ (h g : Shown) (a : IsShown h) (b : IsShown g) (agree : Agree h g (row_place End)) where
   text_lines : (r : TextRow) → texts_line h.texts r ≡ texts_line g.texts r
   unfolding row_line
-  text_lines row.Program = single (texts_line h.texts row.Program) (texts_line g.texts row.Program) (agree (row_place (Texts row.Program)) (lit< tt))
-  text_lines row.Marker = single (texts_line h.texts row.Marker) (texts_line g.texts row.Marker) (agree (row_place (Texts row.Marker)) (lit< tt))
-  text_lines row.MarkerType = single (texts_line h.texts row.MarkerType) (texts_line g.texts row.MarkerType) (agree (row_place (Texts row.MarkerType)) (lit< tt))
-  text_lines row.Observer = single (texts_line h.texts row.Observer) (texts_line g.texts row.Observer) (agree (row_place (Texts row.Observer)) (lit< tt))
-  text_lines row.Receiver = single (texts_line h.texts row.Receiver) (texts_line g.texts row.Receiver) (agree (row_place (Texts row.Receiver)) (lit< tt))
-  text_lines row.Antenna = single (texts_line h.texts row.Antenna) (texts_line g.texts row.Antenna) (agree (row_place (Texts row.Antenna)) (lit< tt))
+  text_lines r =
+      let low = text_low r in
+      single (texts_line h.texts r) (texts_line g.texts r) (subst (λ x. shown_rows h x ≡ shown_rows g x) (text_here r) (agree (row_place (Texts r)) (omega (arith, low))))
 
   texts : h.texts ≡ g.texts
   texts = ext_get_or [] h.texts g.texts (a.texts.count ∙ sym b.texts.count) (λ i less. at i (subst (λ n. i < n) a.texts.count less)) where
@@ -133,18 +132,9 @@ begins k valid g l m n gps galileo = record {
   read = record { systems = λ l. absurd (omega (arith, l)); fresh = λ e. ap₂ (λ a b. a || b) g l; each = each; only = λ l. absurd (omega (arith, l)) };
   expected = lit≤ tt;
 } where
-  unread : (s : System) (a : Announced) (signals : List ℕ) → a.count ≡ 0 → signals ≡ [] → AreTypesRead s a signals 0
-  unread s a signals none empty = record {
-    few = omega (arith, none);
-    counted = (λ l. absurd (omega (arith, l, none)), λ q. let less = q.1 in absurd (omega (arith, less)));
-    size = ap length empty ∙ nothing (signals_begun (0 - first_types s)) a.count none;
-  } where
-    nothing : (a c : ℕ) → c ≡ 0 → 0 ≡ min a c
-    nothing a c e = omega (arith, e)
-
   each : (s : System) → AreTypesRead s (announced k s) (planned_of s k.shown.plan) 0
-  each Gps = unread Gps k.gps k.shown.plan.gps m gps
-  each Galileo = unread Galileo k.galileo k.shown.plan.galileo n galileo
+  each Gps = unread Gps k.gps k.shown.plan.gps 0 (omega arith) m gps
+  each Galileo = unread Galileo k.galileo k.shown.plan.galileo 0 (omega arith) n galileo
 
 blank_text : (f : HeaderField) → IsText (width_of f) (text_of (replicate text_count []) f)
 unfolding trimmed

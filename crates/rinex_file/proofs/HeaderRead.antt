@@ -1,11 +1,11 @@
 -- What is known after each line of a header.
 use Rattle.std.proofs.Common.{arith, ◌≡◌, ◌∙◌, sym, ap, ap₂, refl, subst, ℕ, suc, ◌+◌, ◌-◌, ◌<◌, ◌≤◌, ◌==◌, ◌&&◌, Bool, true, false, List, [], ◌∷◌, length, take, min, ◌↔◌, ◌≢◌, lit≤, ◌^◌, map, get_or, Option, Some, None, IsTrue}
 use Rattle.rinex_file.specs.Read.HeaderSteps.{AreBegun}
-use Rattle.rinex_file.proofs.HeaderAgree.{agree_count, agree_types, signals_same, less_or, types_in, types_row, types_low, types_high, types_shown, rows_when, version_same, some_in}
-use Rattle.rinex_file.proofs.HeaderSteps.{follows, other, either_system, far_other, still_read, with_is, IsOutside, outside_low, outside_high, reads_next, present}
-use Rattle.rinex_file.proofs.HeaderText.{same_line, kept_texts, SameTexts}
+use Rattle.rinex_file.proofs.HeaderAgree.{agree_count, agree_types, signals_same, less_or, types_in, types_row, types_low, types_high, types_shown, rows_when, version_same, some_in, shift_far}
+use Rattle.rinex_file.proofs.HeaderSteps.{follows, other, either_system, far_other, still_read, with_is, IsOutside, outside_low, outside_high, reads_next, present, unread}
+use Rattle.rinex_file.proofs.HeaderText.{same_line, kept_texts, SameTexts, text_low}
 use Rattle.rinex_file.proofs.PlainTexts.{both}
-use Rattle.rinex_file.proofs.Names.{nat_lt, codes, ◌||◌, nat_le, list_all, nat_tests, take-take, take-map, take_min, length-take, SignalAt, table, System, Gps, Galileo, is_less, indices, PlanValue, planned_of, civil_of, StationValues, length_indices, Types, Version, Texts, Position, Delta, StrengthUnit, First, Shift, row_line, has_line, first_types, type_rows, position_line, row_place, header_line, height_line, first_line, strength_line, shift_line, version_line, texts_line, Announced, Known, MayBeAll, MayPlan, AreTypesRead, IsHeadAt, announced, shown_with, shown_line, AreTypes, types_line, signals_begun, IsPosition, position_of, Shown, IsReadTo, IsOnlyTime, HasReadRows, lines_before, version_with, is_some_planned, has_types, known_line, ReadsHeaderLine, NoneGoesOn, TakesTypes, RefusesTypes, with_types, RefusesHeaderLine, ReadsOrRefuses, ReadsTexts, RefusesTexts, with_texts, with_values, with_first, with_systems, TextRow, HeaderRow, HeaderLists, text_rows, text_row_index, fields_of, place_of, front_of, HeaderField, AntType, IsTime, letter_of, ReadsExactly}
+use Rattle.rinex_file.proofs.Names.{nat_lt, codes, ◌||◌, nat_le, list_all, nat_tests, take-take, take-map, take_min, length-take, SignalAt, table, System, Gps, Galileo, is_less, indices, PlanValue, planned_of, civil_of, StationValues, length_indices, Types, Version, Texts, Position, Delta, StrengthUnit, First, Shift, row_line, has_line, first_types, type_rows, position_line, row_place, header_line, height_line, first_line, strength_line, shift_line, version_line, texts_line, Announced, Known, MayBeAll, MayPlan, AreTypesRead, IsHeadAt, announced, shown_with, shown_line, AreTypes, types_line, signals_begun, IsPosition, position_of, Shown, IsReadTo, IsOnlyTime, HasReadRows, lines_before, version_with, is_some_planned, has_types, known_line, ReadsHeaderLine, NoneGoesOn, TakesTypes, RefusesTypes, with_types, RefusesHeaderLine, ReadsOrRefuses, ReadsTexts, RefusesTexts, with_texts, with_values, with_first, with_systems, TextRow, HeaderRow, HeaderLists, text_rows, text_row_index, fields_of, place_of, front_of, HeaderField, AntType, IsTime, letter_of, ReadsExactly, nil_from_length}
 
 -- ---- numbers of signals
 
@@ -152,13 +152,21 @@ module _ (k : Known) (s : System) (row : ℕ) (line : List ℕ) (few : row < 6) 
           nothing [] hs size none = let e : signals_begun row ≡ 0 = omega (arith, none) in sym (ap (λ m. take m hs) e)
           nothing (x ∷ xs) hs size none = absurd (omega (arith, size, none))
 
-false_true : IsTrue false → ⊥
-false_true e = cc
+-- what was read, with these texts, station values and time of the first epoch
+abbrev with_parts : Known → HeaderLists → StationValues → ℕ → Known
+with_parts k x v t = record k { shown = record k.shown { texts = x; values = v; first = t } }
 
--- the rows before and the next one were read
-next : (k : Known) (after n : ℕ) → IsOutside n → 0 < n → (row_place First < suc n → HasReadRows k n → IsOnlyTime after) → HasReadRows k n
-    → IsReadTo k.gps k.galileo k.shown.plan after (suc n)
-next k after n out some only read = reads_next k.gps k.galileo k.shown.plan k.shown.first after n out (read.systems some) (λ l. only l read) read
+-- a row without a part of the plan was read, and the lines before it are the same
+module _ (r : HeaderRow) (line : List ℕ) (k : Known) (x : HeaderLists) (v : StationValues) (t : ℕ) (out : IsOutside (row_place r)) (some : 0 < row_place r) where
+  row_read : ((p : PlanValue) → lines_before (shown_with (with_parts k x v t) p) (row_place r) ≡ lines_before (shown_with k p) (row_place r))
+      → ((h : Shown) → h.texts ≡ x → h.values ≡ v → h.first ≡ t → shown_line h r ≡ line) → (row_place First < suc (row_place r) → HasReadRows k (row_place r) → IsOnlyTime t)
+      → ReadsHeaderLine r line k (with_parts k x v t)
+  row_read before shows only rows known = record {
+    plans = λ p may. may;
+    before = before;
+    shows = λ p may. rows_when (shown_with (with_parts k x v t) p) r true (present r k p may rows ∙ known) ∙ ap (λ l. l ∷ []) (shows (shown_with (with_parts k x v t) p) refl refl refl);
+    reads = reads_next k.gps k.galileo k.shown.plan k.shown.first t (row_place r) out (rows.systems some) (λ l. only l rows) rows;
+  }
 
 -- ---- texts
 
@@ -189,21 +197,16 @@ same_rows x y n same (r ∷ rows) all =
     let parts = both (ends_by n r) (list_all (ends_by n) rows) all in
     ap₂ (λ l ls. l ∷ ls) (same_line x y r (same_in x y n same (fields_of r) parts.0)) (same_rows x y n same rows parts.1)
 
-text_low : (r : TextRow) → text_row_index r < length text_rows
-text_low r = grind arith
-
 pub line_texts : (r : TextRow) (line : List ℕ) (k : Known) (x : HeaderLists) → ReadsTexts r line k.shown.texts x → ReadsHeaderLine (Texts r) line k (with_texts k x)
 unfolding row_line
-line_texts r line k x read rows known =
+line_texts r line k x read =
     let low = text_low r in
-    record {
-      plans = λ p may. may;
-      before = λ p. front_lines (shown_with (with_texts k x) p) r
-          ∙ ap (λ l. version_line p ∷ l) (same_rows x k.shown.texts (start_of r) (kept_texts (start_of r) (fields_of r) (length (front_of r)) line k.shown.texts x (own_texts r) read.read) (take (text_row_index r) text_rows) (rows_in_front r))
-          ∙ sym (front_lines (shown_with k p) r);
-      shows = λ p may. ap (λ l. l ∷ []) read.shown;
-      reads = next k k.shown.first (1 + text_row_index r) (outside_low (1 + text_row_index r) (omega (arith, low))) (omega arith) (λ l. absurd (omega (arith, l, low))) rows;
-    }
+    let same = kept_texts (start_of r) (fields_of r) (length (front_of r)) line k.shown.texts x (own_texts r) read.read in
+    row_read (Texts r) line k x k.shown.values k.shown.first (outside_low (1 + text_row_index r) (omega (arith, low))) (omega arith)
+    (λ p. front_lines (shown_with (with_texts k x) p) r
+        ∙ ap (λ l. version_line p ∷ l) (same_rows x k.shown.texts (start_of r) same (take (text_row_index r) text_rows) (rows_in_front r))
+        ∙ sym (front_lines (shown_with k p) r))
+    (λ h e f g. ap (λ y. texts_line y r) e ∙ read.shown) (λ l rows. absurd (omega (arith, l, low)))
 
 pub refuse_texts : (r : TextRow) (line : List ℕ) → RefusesTexts r line → RefusesHeaderLine (Texts r) line
 unfolding row_line
@@ -214,12 +217,9 @@ refuse_texts r line refuses h is e = refuses h.texts is.texts e
 pub line_position : (k : Known) (v : StationValues) (line : List ℕ) → ReadsExactly IsPosition position_line line (Some v)
     → ReadsHeaderLine Position line k (with_values k (record v { height = k.shown.values.height }))
 unfolding row_line
-line_position k v line r rows known = record {
-  plans = λ p may. may;
-  before = λ p. refl;
-  shows = λ p may. ap (λ l. l ∷ []) (sym r.1);
-  reads = next k k.shown.first (row_place Position) (outside_low (row_place Position) (lit≤ tt)) (lit≤ tt) (λ l. absurd (omega (arith, l))) rows;
-}
+line_position k v line r =
+    row_read Position line k k.shown.texts (record v { height = k.shown.values.height }) k.shown.first (outside_low (row_place Position) (lit≤ tt)) (lit≤ tt)
+    (λ p. refl) (λ h e f g. ap position_line f ∙ sym r.1) (λ l rows. absurd (omega (arith, l)))
 
 pub refuse_position : (line : List ℕ) → ReadsExactly IsPosition position_line line None → RefusesHeaderLine Position line
 unfolding row_line
@@ -229,14 +229,11 @@ abbrev Height : List ℕ → Option ℕ → Type 0
 Height line r = ReadsExactly (λ h. h < 2 ^ 16) height_line line r
 
 pub line_delta : (k : Known) (height : ℕ) (line : List ℕ) → Height line (Some height)
-    → ReadsHeaderLine Delta line k (with_values k (record { x = k.shown.values.x; y = k.shown.values.y; z = k.shown.values.z; height = height }))
+    → ReadsHeaderLine Delta line k (with_values k (record k.shown.values { height = height }))
 unfolding row_line
-line_delta k height line r rows known = record {
-  plans = λ p may. may;
-  before = λ p. refl;
-  shows = λ p may. ap (λ l. l ∷ []) (sym r.1);
-  reads = next k k.shown.first (row_place Delta) (outside_low (row_place Delta) (lit≤ tt)) (lit≤ tt) (λ l. absurd (omega (arith, l))) rows;
-}
+line_delta k height line r =
+    row_read Delta line k k.shown.texts (record k.shown.values { height = height }) k.shown.first (outside_low (row_place Delta) (lit≤ tt)) (lit≤ tt)
+    (λ p. refl) (λ h e f g. ap (λ (v : StationValues). height_line v.height) f ∙ sym r.1) (λ l rows. absurd (omega (arith, l)))
 
 pub refuse_delta : (line : List ℕ) → Height line None → RefusesHeaderLine Delta line
 unfolding row_line
@@ -246,12 +243,9 @@ refuse_delta line r h is e = r h.values.height is.values.height (sym e)
 
 pub line_first : (k : Known) (t : ℕ) (line : List ℕ) → ReadsExactly IsTime (λ t. first_line (civil_of t)) line (Some t) → ReadsHeaderLine First line k (with_first k t)
 unfolding row_line
-line_first k t line r rows known = record {
-  plans = λ p may. may;
-  before = λ p. refl;
-  shows = λ p may. ap (λ l. l ∷ []) (sym r.1);
-  reads = next k t (row_place First) (outside_high (row_place First) (lit≤ tt)) (lit≤ tt) (λ l read u is e. r.2 u is (r.1 ∙ sym e)) rows;
-}
+line_first k t line r =
+    row_read First line k k.shown.texts k.shown.values t (outside_high (row_place First) (lit≤ tt)) (lit≤ tt)
+    (λ p. refl) (λ h e f g. ap (λ t. first_line (civil_of t)) g ∙ sym r.1) (λ l rows u is e. r.2 u is (r.1 ∙ sym e))
 
 pub refuse_first : (line : List ℕ) → ReadsExactly IsTime (λ t. first_line (civil_of t)) line None → RefusesHeaderLine First line
 unfolding row_line
@@ -261,13 +255,10 @@ refuse_first line r h is e = r h.first is.first (sym e)
 
 line_fixed : (r : HeaderRow) (text line : List ℕ) (k : Known) (b : Bool) → ((h : Shown) → shown_line h r ≡ text) → row_place StrengthUnit ≤ row_place r → row_place r ≢ row_place First
     → (IsTrue b ↔ (line ≡ text)) → ReadsOrRefuses r line k k b
-line_fixed r text line k true shows far other is = λ rows known. record {
-  plans = λ p may. may;
-  before = λ p. refl;
-  shows = λ p may. rows_when (shown_with k p) r true (present r k p may rows ∙ known) ∙ ap (λ l. l ∷ []) (shows (shown_with k p) ∙ sym (is.0 refl));
-  reads = next k k.shown.first (row_place r) (outside_high (row_place r) far) (omega (arith, far)) (λ l read. read.only (omega (arith, l, other))) rows;
-}
-line_fixed r text line k false shows far other is = λ h shown l. false_true (is.1 (sym l ∙ shows h))
+line_fixed r text line k true shows far other is =
+    row_read r line k k.shown.texts k.shown.values k.shown.first (outside_high (row_place r) far) (omega (arith, far))
+    (λ p. refl) (λ h e f g. shows h ∙ sym (is.0 refl)) (λ l rows. rows.only (omega (arith, l, other)))
+line_fixed r text line k false shows far other is = λ h shown l. let e = is.1 (sym l ∙ shows h) in cc
 
 pub line_unit : (k : Known) (line : List ℕ) (b : Bool) → (IsTrue b ↔ (line ≡ strength_line)) → ReadsOrRefuses StrengthUnit line k k b
 unfolding row_line
@@ -276,30 +267,26 @@ line_unit k line b is = line_fixed StrengthUnit strength_line line k b (λ h. re
 pub line_shift : (system : System) (letter : ℕ) (k : Known) (line : List ℕ) (b : Bool) → letter ≡ letter_of system
     → (IsTrue b ↔ (line ≡ header_line (letter ∷ []) (codes "SYS / PHASE SHIFT"))) → ReadsOrRefuses (Shift system) line k k b
 unfolding row_line
-line_shift system letter k line b e is = by system (subst (λ l. IsTrue b ↔ (line ≡ header_line (l ∷ []) (codes "SYS / PHASE SHIFT"))) e is) where
-  by : (s : System) → (IsTrue b ↔ (line ≡ shift_line s)) → ReadsOrRefuses (Shift s) line k k b
-  by Gps is = line_fixed (Shift Gps) (shift_line Gps) line k b (λ h. refl) (lit≤ tt) (λ e. absurd (omega (arith, e))) is
-  by Galileo is = line_fixed (Shift Galileo) (shift_line Galileo) line k b (λ h. refl) (lit≤ tt) (λ e. absurd (omega (arith, e))) is
+line_shift system letter k line b e is =
+    let far = shift_far system in
+    line_fixed (Shift system) (shift_line system) line k b (λ h. refl) (omega (arith, far)) (λ same. omega (arith, far, same))
+    (subst (λ l. IsTrue b ↔ (line ≡ header_line (l ∷ []) (codes "SYS / PHASE SHIFT"))) e is)
 
 -- ---- version and systems
 
 abbrev Systems : List ℕ → Option (Bool × Bool) → Type 0
 Systems line r = ReadsExactly (λ (p : Bool × Bool). (p.0 || p.1) ≡ true) (λ (p : Bool × Bool). version_with p.0 p.1) line r
 
-no_both : (b : Bool) → b ≡ true → b ≡ false → ⊥
-no_both b h k = cc
-
 -- no line of types was read before or after the first line
 first_read : (s : System) (a b : Announced) (signals : List ℕ) → b.count ≡ a.count → AreTypesRead s a signals 0 → AreTypesRead s b signals 1
 first_read s a b signals same r =
     let low = types_low s in
-    record {
-      few = subst (λ (n : ℕ). n ≤ length (table s)) (sym same) r.few;
-      counted = (λ l. let less = (r.counted.0 (subst (λ (n : ℕ). 0 < n) same l)).1 in absurd (omega (arith, less)), λ q. let less = q.1 in absurd (omega (arith, low, less)));
-      size = r.size ∙ zeros a.count b.count (first_types s) low same;
-    } where
-      zeros : (c d b : ℕ) → first_types Gps ≤ b → d ≡ c → min (signals_begun (0 - b)) c ≡ min (signals_begun (1 - b)) d
-      zeros c d b low same = let e : 0 - b ≡ 1 - b = omega (arith, low) in ap (λ m. min (signals_begun m) c) e ∙ ap (λ n. min (signals_begun (1 - b)) n) (sym same)
+    let none : a.count ≡ 0 = nothing a.count (λ l. let less = (r.counted.0 l).1 in absurd (omega (arith, less))) in
+    let size = r.size in
+    unread s b signals 1 (omega (arith, low)) (same ∙ none) (nil_from_length signals (omega (arith, none, size)))
+  where
+    nothing : (n : ℕ) → (0 < n → ⊥) → n ≡ 0
+    nothing n none = omega (arith, none)
 
 pub line_version : (k : Known) (gps galileo : Bool) (line : List ℕ) → Systems line (Some (gps, galileo)) → ReadsHeaderLine Version line k (with_systems k gps galileo)
 unfolding row_line
@@ -311,8 +298,8 @@ line_version k gps galileo line r rows known = record {
   reads = record { systems = λ l. r.0; fresh = λ e. absurd (omega (arith, e)); each = each; only = λ l. absurd (omega (arith, l)) };
 } where
   before : (p : PlanValue) → MayPlan (with_systems k gps galileo) p → (s : System) → MayBeAll (k.gps.planned || k.galileo.planned) (announced k s) (planned_of s k.shown.plan) (planned_of s p)
-  before p may Gps = let m = may.each Gps in record { planned = λ some. absurd (no_both _ some (rows.fresh refl)); count = m.count; begins = m.begins }
-  before p may Galileo = let m = may.each Galileo in record { planned = λ some. absurd (no_both _ some (rows.fresh refl)); count = m.count; begins = m.begins }
+  before p may Gps = let m = may.each Gps in record { planned = λ some. (let none = rows.fresh refl in cc); count = m.count; begins = m.begins }
+  before p may Galileo = let m = may.each Galileo in record { planned = λ some. (let none = rows.fresh refl in cc); count = m.count; begins = m.begins }
 
   each : (s : System) → AreTypesRead s (announced (with_systems k gps galileo) s) (planned_of s k.shown.plan) 1
   each Gps = first_read Gps k.gps _ _ refl (rows.each Gps)

@@ -2,7 +2,7 @@
 use Rattle.std.proofs.Common.{arith, ◌≡◌, ◌∙◌, sym, ap, refl, subst, ℕ, zero, suc, ◌+◌, ◌-◌, ◌<◌, ◌≤◌, Bool, true, false, eqb, nat_eq, List, [], ◌∷◌, ◌++◌, length, take, append_assoc, append-nil, length-append, All, ◌≢◌, ap₂, lit≤, ◌==◌, ◌&&◌, min, ◌↔◌, inl, inr}
 use Rattle.rinex_file.proofs.BodySteps.{cons_parts}
 use Rattle.rinex_file.proofs.Entries.{few_signals}
-use Rattle.rinex_file.proofs.HeaderAgree.{Agree, agreed, less_or, planned_is, rows_when, same_there, types_low, types_high, is_lt, placed, line_next, before_next}
+use Rattle.rinex_file.proofs.HeaderAgree.{Agree, agreed, less_or, planned_is, rows_when, same_there, types_low, types_high, shift_far, is_lt, placed, line_next, before_next}
 use Rattle.rinex_file.proofs.HeaderText.{equal_or}
 use Rattle.rinex_file.proofs.Names.{◌||◌, ◌⊎◌, nat_lt, list_any, IsDistinct, take-append_seam, nat_eq_equiv, IsDistinct-push, le-length_from_below, nat_tests, All-nil, All-cons, All-push, table, System, Gps, Galileo, passes_at, is_less, PlanValue, planned_of, civil_of, Known, MayBeAll, announced, IsShown, AreValid, MayPlan, HasReadRows, is_some_planned, shown_with, Announced, Shown, AreTypesRead, IsReadTo, IsHeadAt, IsOnlyTime, shown_rows, shown_line, lines_before, lines_after, signals_begun, HeaderRow, Version, Texts, Position, Delta, Types, StrengthUnit, First, Shift, End, Expected, Header, Epoch, EventPosition, EventHeight, EventEpoch, Satellite, lines_of_header, of_system, has_line, row_at, row_count, row_place, first_types, type_rows, has_types, known_line, ReadsHeaderLine, RefusesHeaderLine, GoesTo, NoneGoesOn, SameFrom, StepsTo}
 
@@ -147,12 +147,9 @@ module _ (k : Known) (place : ℕ) (valid : AreValid k) (read : HasReadRows k pl
 
   pub some_plan : SomePlan k
   some_plan = by (k.gps.planned || k.galileo.planned) refl where
-    true_false : (c : Bool) → c ≡ true → c ≡ false → ⊥
-    true_false c h e = cc
-
     by : (c : Bool) → (k.gps.planned || k.galileo.planned) ≡ c → SomePlan k
     by true e = made k.gps.planned k.galileo.planned e (λ h. h) (λ h. h) (λ h. (refl, refl))
-    by false e = made true true refl (λ h. refl) (λ h. refl) (λ h. absurd (true_false (k.gps.planned || k.galileo.planned) h e))
+    by false e = made true true refl (λ h. refl) (λ h. refl) (λ h. cc)
 
   pub with_is : (p : PlanValue) → MayPlan k p → IsShown (shown_with k p)
   with_is p may = record { texts = valid.texts; plan = may.is; values = valid.values; first = valid.first }
@@ -172,6 +169,16 @@ outside_high n far s more few = let high = types_high s in omega (arith, far, fe
 -- the signals that begin before a row are those that begin before the next
 pub still_size : (n b c : ℕ) → c ≤ 19 → (b ≤ n → n < b + 6 → c ≤ signals_begun (n - b)) → min (signals_begun (n - b)) c ≡ min (signals_begun (suc n - b)) c
 still_size n b c few within = grind (arith, less_or)
+
+-- no line of types was read, nor is one before this row
+pub unread : (s : System) (a : Announced) (signals : List ℕ) (n : ℕ) → n ≤ first_types s → a.count ≡ 0 → signals ≡ [] → AreTypesRead s a signals n
+unread s a signals n low none empty = record {
+  few = omega (arith, none);
+  counted = (λ l. absurd (omega (arith, l, none)), λ q. let less = q.1 in absurd (omega (arith, less, low)));
+  size = ap length empty ∙ nothing (signals_begun (n - first_types s)) a.count none;
+} where
+  nothing : (a c : ℕ) → c ≡ 0 → 0 ≡ min a c
+  nothing a c e = omega (arith, e)
 
 few_counted : (s : System) (c : ℕ) → c ≤ length (table s) → c ≤ 19
 few_counted s c few = let most = few_signals s in omega (arith, few, most)
@@ -208,21 +215,14 @@ planned_true : (b : Bool) (n : ℕ) → b ≡ nat_lt 0 n → 0 < n → b ≡ tru
 planned_true b n e some = e ∙ is_lt 0 n some
 
 pub present : (r : HeaderRow) (k : Known) (p : PlanValue) → MayPlan k p → HasReadRows k (row_place r) → has_line p r ≡ known_line k r
-present Version k p may read = refl
-present (Texts r) k p may read = refl
-present Position k p may read = refl
-present Delta k p may read = refl
 present (Types s row) k p may read =
     let low = types_low s in
     let a = announced k s in
     let planned : a.planned ≡ nat_lt 0 (length (planned_of s p)) = (may.each s).planned (read.systems (omega (arith, low))) ∙ sym (planned_is (planned_of s p)) in
     types_there row a.count (length (planned_of s p)) a.planned planned
     (λ far some. (may.each s).count ((read.each s).counted.1 (planned_true a.planned (length (planned_of s p)) planned some, omega (arith, far))))
-present StrengthUnit k p may read = refl
-present First k p may read = refl
-present (Shift Gps) k p may read = planned_is p.gps ∙ sym ((may.each Gps).planned (read.systems (lit≤ tt)))
-present (Shift Galileo) k p may read = planned_is p.galileo ∙ sym ((may.each Galileo).planned (read.systems (lit≤ tt)))
-present End k p may read = refl
+present (Shift s) k p may read = let far = shift_far s in planned_is (planned_of s p) ∙ sym ((may.each s).planned (read.systems (omega (arith, far))))
+present other k p may read = refl
 
 present_at : (n : ℕ) (k : Known) (p : PlanValue) → n < row_count → MayPlan k p → HasReadRows k n → has_line p (row_at n) ≡ known_line k (row_at n)
 present_at n k p less may read = present (row_at n) k p may (subst (HasReadRows k) (sym (placed n less)) read)
@@ -285,16 +285,11 @@ skip_types s row k few lacks r = record {
 }
 
 skip_row : (r : HeaderRow) (k : Known) → is_row r ≡ true → known_line k r ≡ false → HasReadRows k (row_place r) → HasReadRows k (suc (row_place r))
-skip_row Version k row lacks read = cc
-skip_row (Texts r) k row lacks read = cc
-skip_row Position k row lacks read = cc
-skip_row Delta k row lacks read = cc
 skip_row (Types s i) k row lacks read = skip_types s i k (is_less i 6 row) lacks read
-skip_row StrengthUnit k row lacks read = cc
-skip_row First k row lacks read = cc
-skip_row (Shift Gps) k row lacks read = reads_next k.gps k.galileo k.shown.plan k.shown.first k.shown.first (row_place (Shift Gps)) (outside_high (row_place (Shift Gps)) (lit≤ tt)) (read.systems (lit≤ tt)) (λ l. read.only (lit≤ tt)) read
-skip_row (Shift Galileo) k row lacks read = reads_next k.gps k.galileo k.shown.plan k.shown.first k.shown.first (row_place (Shift Galileo)) (outside_high (row_place (Shift Galileo)) (lit≤ tt)) (read.systems (lit≤ tt)) (λ l. read.only (lit≤ tt)) read
-skip_row End k row lacks read = cc
+skip_row (Shift s) k row lacks read =
+    let far = shift_far s in
+    reads_next k.gps k.galileo k.shown.plan k.shown.first k.shown.first (row_place (Shift s)) (outside_high (row_place (Shift s)) (omega (arith, far))) (read.systems (omega (arith, far))) (λ l. read.only (omega (arith, far))) read
+skip_row other k row lacks read = cc
 
 not_last : (n : ℕ) (k : Known) → n < row_count → known_line k (row_at n) ≡ false → suc n < row_count
 not_last n k less lacks = grind (arith, less_or)
@@ -318,10 +313,7 @@ steps_from k new a b line (Header next) same step = record {
   lines = λ p may. step.lines p may ∙ sym (ap (λ l. l ++ line ∷ []) (same.lines p (step.plans p may)));
   at = step.at;
 }
-steps_from k new a b line EventPosition same step = absurd step
-steps_from k new a b line (EventHeight p) same step = absurd step
-steps_from k new a b line (EventEpoch p) same step = absurd step
-steps_from k new a b line (Satellite n) same step = absurd step
+steps_from k new a b line other same step = absurd step
 
 pub none_from : (k : Known) (a b : ℕ) (line : List ℕ) → SameFrom k a b → NoneGoesOn k b line → NoneGoesOn k a line
 none_from k a b line same none p h others left may is e = none p h others left may is (e ∙ ap (λ l. l ++ line ∷ left) (same.lines p may))

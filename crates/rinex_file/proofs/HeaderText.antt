@@ -4,7 +4,7 @@ use Rattle.std.proofs.Math.ListN.{get_or-map, set, length-set}
 use Rattle.rinex_file.proofs.Cuts.{filled, trimmed-blank}
 use Rattle.rinex_file.proofs.PlainTexts.{both}
 use Rattle.rinex_file.proofs.TypeRows.{content_first}
-use Rattle.rinex_file.proofs.Names.{if◌then◌else◌, nat_le, ◌==◌, map, flat_map, ⊤, list_all, drop-cons, length-map, length-replicate, take_at, drop_at, get_or-set_same, get_or-set_other, get_or_default, ext_get_or, list_all-append, passes_at, is_equal, HeaderField, HeadFault, AntType, trimmed, before_cut, HeaderLists, text_count, width_of, text_of, is_printable, fault_of, first_fault, fields, fields_of, trimmed_texts, place_of, front_of, label_of, IsText, AreTexts, TextRow, left, header_line, text_columns, texts_line, texts_in, if_fine, RefusesTexts}
+use Rattle.rinex_file.proofs.Names.{if◌then◌else◌, nat_le, ◌==◌, map, flat_map, ⊤, list_all, drop-cons, length-map, length-replicate, take_at, drop_at, get_or-set_same, get_or-set_other, get_or_default, ext_get_or, list_all-append, passes_at, is_equal, HeaderField, HeadFault, AntType, trimmed, before_cut, HeaderLists, text_count, width_of, text_of, is_printable, fault_of, first_fault, fields, fields_of, trimmed_texts, place_of, front_of, label_of, IsText, AreTexts, TextRow, left, header_line, text_columns, texts_line, texts_in, if_fine, RefusesTexts, text_rows, text_row_index}
 
 pub trimmed-blanks : (k : ℕ) (text : List ℕ) → trimmed (text ++ replicate k 32) ≡ trimmed text
 trimmed-blanks zero text = ap trimmed (append-nil text)
@@ -33,6 +33,9 @@ field_less field = grind arith
 
 pub place_back : (i : ℕ) → i < text_count → place_of (field_at i) ≡ i
 place_back i less = is_equal (place_of (field_at i)) i (passes_at (λ j. place_of (field_at j) == j) text_count i refl less)
+
+pub text_low : (r : TextRow) → text_row_index r < length text_rows
+text_low r = grind arith
 
 pub few_columns : (f : HeaderField) → width_of f ≤ 60
 few_columns f = grind arith

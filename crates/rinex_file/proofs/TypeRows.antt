@@ -2,7 +2,7 @@
 use Rattle.std.proofs.Common.{min, ◌-◌, length-take, length-drop, arith, rules, ◌≡◌, ◌∙◌, ap, refl, ℕ, zero, suc, ◌+◌, ◌<◌, ◌≤◌, ◌==◌, ◌&&◌, Bool, true, false, List, [], ◌∷◌, length, take, drop, Some, None, Option, nat_lt, sym, ◌*◌, ◌/◌, ◌%◌, ◌++◌, get_or, append_assoc, append-nil, ap₂, subst, ◌^◌, ◌||◌, replicate, decimal, nat_eq}
 use Rattle.rinex_file.proofs.Entries.{flat_map-append}
 use Rattle.rinex_file.proofs.Digits.{length-right, digits_in-whole}
-use Rattle.rinex_file.proofs.Names.{IsAscii, IsUtf8, map, flat_map, slice_index, codes, All, list_any, IsDistinct, IsUtf8-from_ascii, cases_lt, length-map, take_more, get_or-drop, take_all, take_at, take-take, take-map, drop_at, drop-drop, drop-take, get_or-take, All-get_or, All-head, All-tail, apart_from_distinct, IsDistinct-tail, length-le_from_distinct_below, length-decimal-le, System, Gps, Galileo, SignalAt, IsSignal, table, code_of, signal_of_code, passes_at, is_less, is_equal, indices, IsOf, any_index, indices-push, type_of, types_of, codes_of, type_columns, header_line, type_front, joined, left, right, letter_of, digits_in, AreTypes, types_line, signals_begun, HasSignalAt}
+use Rattle.rinex_file.proofs.Names.{IsAscii, IsUtf8, map, flat_map, slice_index, codes, All, list_any, IsDistinct, IsUtf8-from_ascii, cases_lt, length-map, take_more, get_or-drop, take_all, take_at, take-take, take-map, drop_at, drop-drop, drop-take, get_or-take, All-get_or, All-head, All-tail, apart_from_distinct, IsDistinct-tail, length-le_from_distinct_below, length-decimal-le, System, Gps, Galileo, SignalAt, IsSignal, table, code_of, signal_of_code, passes_at, is_less, is_equal, indices, IsOf, any_index, indices-push, type_of, types_of, codes_of, type_columns, header_line, type_front, joined, left, right, letter_of, digits_in, AreTypes, types_line, signals_begun, HasSignalAt, same_Some}
 
 abbrev signal : System → ℕ → SignalAt
 signal system index = record { system = system; index = index }
@@ -282,12 +282,6 @@ pub code_here : (system : System) (all line : List ℕ) (row place : ℕ) → Ar
     → signals_begun row ≤ place → place < signals_begun (row + 1) → place < length all → take 2 (drop (column_of row place) line) ≡ code_of (signal_at system all place)
 code_here system all line row place are few is low high less = grind (arith, code_in_line, in_row, same_place)
 
-same_signal : (s t : SignalAt) → Some s ≡ Some t → s ≡ t
-same_signal s t e = cc
-
-no_signal : (s : SignalAt) → None ≡ Some s → ⊥
-no_signal s e = cc
-
 not_both : (b : Bool) → b ≡ true → b ≡ false → ⊥
 not_both b h k = grind (arith, h, k)
 
@@ -299,16 +293,16 @@ module _ (system : System) (all line : List ℕ) (row place : ℕ) (are : AreTyp
   read_here = read (signal_at system all place) (listed_at system all place are less, refl, code_here system all line row place are few is low high less)
 
   pub not_read : found ≡ None → ⊥
-  not_read none = no_signal _ (sym none ∙ read_here)
+  not_read none = let e = read_here in cc
 
   pub taken_more : (s : SignalAt) (old : List SignalAt) → found ≡ Some s → indices old ≡ take place all → indices (old ++ s ∷ []) ≡ take (place + 1) all
   taken_more s old e before =
-      let same : s.index ≡ slice_index all place = ap (λ (t : SignalAt). t.index) (same_signal s (signal_at system all place) (sym e ∙ read_here)) in
+      let same : s.index ≡ slice_index all place = ap (λ (t : SignalAt). t.index) (same_Some s (signal_at system all place) (sym e ∙ read_here)) in
       indices-push old s ∙ ap₂ (λ l i. l ++ i ∷ []) before same ∙ sym (take_more all place 0 less)
 
   pub taken_before : (s : SignalAt) (old : List SignalAt) → found ≡ Some s → list_any (λ (r : SignalAt). s.index == r.index) old ≡ true → indices old ≡ take place all → ⊥
   taken_before s old e twice before =
-      let same : s.index ≡ slice_index all place = ap (λ (t : SignalAt). t.index) (same_signal s (signal_at system all place) (sym e ∙ read_here)) in
+      let same : s.index ≡ slice_index all place = ap (λ (t : SignalAt). t.index) (same_Some s (signal_at system all place) (sym e ∙ read_here)) in
       not_both _ twice (any_index s.index old ∙ ap₂ (λ i l. list_any (nat_eq i) l) same before ∙ not_before all place are.apart less)
 
 -- ---- the whole line
