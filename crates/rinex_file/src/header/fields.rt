@@ -51,24 +51,14 @@ const NAMES: &[&str] = &[
     "ant_type",
 ];
 
-/// The labels of the rows of texts, in their order.
-const LABELS: &[&[u8]] = &[
-    b"PGM / RUN BY / DATE",
-    b"MARKER NAME",
-    b"MARKER TYPE",
-    b"OBSERVER / AGENCY",
-    b"REC # / TYPE / VERS",
-    b"ANT # / TYPE",
-];
-
-/// The texts of the rows, in order.
-const FIELDS: &[&[HeaderField]] = &[
-    &[RunBy, Date],
-    &[Marker],
-    &[MarkerType],
-    &[Observer, Agency],
-    &[RecNumber, RecType, RecVersion],
-    &[AntNumber, AntType],
+/// The rows of texts, in their order: the label and the texts.
+const ROWS: &[(&[u8], &[HeaderField])] = &[
+    (b"PGM / RUN BY / DATE", &[RunBy, Date]),
+    (b"MARKER NAME", &[Marker]),
+    (b"MARKER TYPE", &[MarkerType]),
+    (b"OBSERVER / AGENCY", &[Observer, Agency]),
+    (b"REC # / TYPE / VERS", &[RecNumber, RecType, RecVersion]),
+    (b"ANT # / TYPE", &[AntNumber, AntType]),
 ];
 
 /// A row of texts.
@@ -131,7 +121,7 @@ impl TextRow {
         ensures value { result.now ≡ label_of self }
         ensures bound { length result.now ≤ 20 }
     {
-        LABELS[self as usize]
+        ROWS[self as usize].0
     }
 
     /// Returns the columns before the texts.
@@ -150,6 +140,6 @@ impl TextRow {
         ensures value { result.now ≡ fields_of self }
         ensures bound { length result.now ≤ 3 }
     {
-        FIELDS[self as usize]
+        ROWS[self as usize].1
     }
 }

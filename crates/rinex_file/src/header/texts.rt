@@ -64,12 +64,7 @@ impl Model for HeaderTexts {
 fn is_printable(text: &[u8]) -> bool
     ensures { result ≡ list_all is_printable text.now }
 {
-    for b in text {
-        if *b < 0x20 || *b > 0x7E {
-            return false;
-        }
-    }
-    true
+    text.iter().all(|b| *b >= 0x20 && *b <= 0x7E)
 }
 
 impl<'a> Texts<'a> {
