@@ -96,34 +96,17 @@ impl FileBuilder {
         requires history { FollowsHistory parser_state (history_of self) }
         ensures { IfSome result (λ f. f ≡ file_at parser_state (history_of self)) }
     {
-        let ParserState { head, counts, .. } = parser_state;
-        let FileBuilder {
-            alloc,
-            epochs,
-            rows,
-        } = self;
-        drop(rows);
+        let head = parser_state.head;
         let gps = head.gps.signals.as_slice();
-        let Ok(plan) = Plan::from_signals(alloc, gps, head.galileo.signals.as_slice()) else {
-            drop(epochs);
-            drop(head);
+        let Ok(plan) = Plan::from_signals(self.alloc, gps, head.galileo.signals.as_slice()) else {
             return None;
         };
-        let HeadSoFar {
-            texts,
-            gps,
-            galileo,
-            values,
-            ..
-        } = head;
-        drop(gps);
-        drop(galileo);
         Some(ObsFile {
-            texts,
+            texts: head.texts,
             plan,
-            values,
-            epochs,
-            counts,
+            values: head.values,
+            epochs: self.epochs,
+            counts: parser_state.counts,
         })
     }
 }

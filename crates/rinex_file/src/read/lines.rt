@@ -48,17 +48,6 @@ pub(crate) enum Found {
 }
 
 impl Block {
-    /// Returns a block without bytes.
-    fn new() -> Block
-        ensures { result ≡ [] }
-    {
-        Block {
-            bytes: [0; BLOCK_BYTES],
-            at: 0,
-            end: 0,
-        }
-    }
-
     /// Reads bytes ahead if none is left. Returns what was found in their place, or None if there
     /// are some.
     fn fill<R: Read>(&mut self, reader: &mut Counted<R>) -> Option<Found>
@@ -177,7 +166,11 @@ impl Lines {
         ensures { result.ahead ≡ [] }
     {
         Lines {
-            block: Block::new(),
+            block: Block {
+                bytes: [0; BLOCK_BYTES],
+                at: 0,
+                end: 0,
+            },
             size: 0,
             buffer: Line::new(),
         }
