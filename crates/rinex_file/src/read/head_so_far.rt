@@ -1,5 +1,5 @@
 //! What was read of a header.
-ghost use Rattle.std.specs.Prelude.{◌≡◌, ◌<◌, ◌≤◌, ◌+◌, true, length, Err, OnOk};
+ghost use Rattle.std.specs.Prelude.{◌≡◌, ◌<◌, ◌≤◌, ◌+◌, true, length, is_some, Err, OnOk};
 ghost use Rattle.gnss_obs.specs.Signals.{table};
 ghost use Rattle.gnss_obs.specs.SignalLists.{indices};
 ghost use Rattle.gnss_obs.specs.Values.{planned_of};
@@ -149,46 +149,38 @@ impl HeadSoFar {
         }
     }
 
-    /// Reads the line of a row. Returns whether some header has it.
-    fn read_header_line(&mut self, row: HeaderRow, line: &[u8]) -> bool
+    /// Reads the line of a row, or returns None if no header has it.
+    fn read_header_line(&mut self, row: HeaderRow, line: &[u8]) -> Option<()>
         requires { IsOnly row }
-        ensures { ReadsOrRefuses row line.now self.old self.new result }
+        ensures { ReadsOrRefuses row line.now self.old self.new (is_some result) }
     {
         match row {
             HeaderRow::Version => {
-                let Some((gps, galileo)) = read_version(line) else {
-                    return false;
-                };
+                let (gps, galileo) = read_version(line)?;
                 self.gps.is_planned = gps;
                 self.galileo.is_planned = galileo;
-                true
+                Some(())
             }
-            HeaderRow::Texts(row) => read_texts(&mut self.texts, row, line),
+            HeaderRow::Texts(row) => read_texts(&mut self.texts, row, line).then_some(()),
             HeaderRow::Position => {
-                let Some(mut values) = read_position(line) else {
-                    return false;
-                };
+                let mut values = read_position(line)?;
                 values.height = self.values.height;
                 self.values = values;
-                true
+                Some(())
             }
             HeaderRow::Delta => {
-                let Some(height) = read_delta(line) else {
-                    return false;
-                };
-                self.values.height = height;
-                true
+                self.values.height = read_delta(line)?;
+                Some(())
             }
-            HeaderRow::StrengthUnit => is_header_line(line, UNIT, STRENGTH_UNIT),
+            HeaderRow::StrengthUnit => is_header_line(line, UNIT, STRENGTH_UNIT).then_some(()),
             HeaderRow::First => {
-                let Some(first) = read_first(line) else {
-                    return false;
-                };
-                self.first = first;
-                true
+                self.first = read_first(line)?;
+                Some(())
             }
-            HeaderRow::Shift(system) => is_header_line(line, &[letter_of(system)], SHIFT),
-            HeaderRow::Types(_, _) | HeaderRow::End => false,
+            HeaderRow::Shift(system) => {
+                is_header_line(line, &[letter_of(system)], SHIFT).then_some(())
+            }
+            HeaderRow::Types(_, _) | HeaderRow::End => None,
         }
     }
 
@@ -208,9 +200,9 @@ impl HeadSoFar {
             HeaderRow::End if is_header_line(line, b"", END) => Ok(Expected::Epoch),
             HeaderRow::End => Err(Refusal::Bad),
             row => {
-                if !self.read_header_line(row, line) {
+                let Some(()) = self.read_header_line(row, line) else {
                     return Err(Refusal::Bad);
-                }
+                };
                 self.are_valid();
                 Ok(Expected::Header(place + 1))
             }

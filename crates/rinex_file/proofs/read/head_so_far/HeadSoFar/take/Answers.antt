@@ -69,27 +69,21 @@ returns-in-End c =
     (at_end c.args.self.now c.place_from-place.result c.args.line.now (place_at c.place_from-place.result End c.place_from-place.ensures.same.at.expected (sym c.row_at.ensures ∙ c.in-End.is)) c.place_from-place.ensures.same.at
     (c.is_header_line.ensures.0 c.if-is_header_line.true))
 
-pub returns-then-not-read_header_line : goal.returns-then-not-read_header_line
-returns-then-not-read_header_line c =
+pub returns-in_default-read_header_line : goal.returns-in_default-read_header_line
+returns-in_default-read_header_line c =
     none_from c.args.self.now _ _ c.args.line.now c.place_from-place.ensures.same (none_at c.place_from-place.result c.args.line.now c.args.self.now c.row_at.result c.place_from-place.ensures.same.at c.place_from-place.ensures.here (sym c.row_at.ensures)
-    (rw c.if-not-read_header_line.true at c.read_header_line.ensures))
+    c.in_default-read_header_line.ensures)
 
-pub returns-else-not-read_header_line : goal.returns-else-not-read_header_line
-returns-else-not-read_header_line c =
+pub returns-in-Some : goal.returns-in-Some
+returns-in-Some c =
     steps_from c.args.self.now c.read_header_line.new.self c.args.from c.place_from-place.result c.args.line.now (Header (c.place_from-place.result + 1)) c.place_from-place.ensures.same
     (step_at c.place_from-place.result c.args.line.now c.args.self.now c.read_header_line.new.self c.row_at.result c.place_from-place.ensures.same.at c.place_from-place.ensures.here (sym c.row_at.ensures) c.in_default.not-End
-    (rw c.if-not-read_header_line.false at c.read_header_line.ensures) c.are_valid-in_default.ensures)
+    c.in-Some.ensures c.are_valid-in_default.ensures)
 
 sole : (r : HeaderRow) → ((s : System) (i : ℕ) → r ≡ Types s i → ⊥) → (r ≡ End → ⊥) → IsOnly r
-sole Version other far = tt
-sole (Texts r) other far = tt
-sole Position other far = tt
-sole Delta other far = tt
 sole (Types s i) other far = other s i refl
-sole StrengthUnit other far = tt
-sole First other far = tt
-sole (Shift s) other far = tt
 sole End other far = far refl
+sole r other far = tt
 
 pub read_header_line-requires : goal.read_header_line-requires
 read_header_line-requires c = sole c.row_at.result c.in_default.not-Types c.in_default.not-End
