@@ -204,8 +204,8 @@ line_texts r line k x read =
     let same = kept_texts (start_of r) (fields_of r) (length (front_of r)) line k.shown.texts x (own_texts r) read.read in
     row_read (Texts r) line k x k.shown.values k.shown.first (outside_low (1 + text_row_index r) (omega (arith, low))) (omega arith)
     (λ p. front_lines (shown_with (with_texts k x) p) r
-        ∙ ap (λ l. version_line p ∷ l) (same_rows x k.shown.texts (start_of r) same (take (text_row_index r) text_rows) (rows_in_front r))
-        ∙ sym (front_lines (shown_with k p) r))
+    ∙ ap (λ l. version_line p ∷ l) (same_rows x k.shown.texts (start_of r) same (take (text_row_index r) text_rows) (rows_in_front r))
+    ∙ sym (front_lines (shown_with k p) r))
     (λ h e f g. ap (λ y. texts_line y r) e ∙ read.shown) (λ l rows. absurd (omega (arith, l, low)))
 
 pub refuse_texts : (r : TextRow) (line : List ℕ) → RefusesTexts r line → RefusesHeaderLine (Texts r) line

@@ -8,6 +8,11 @@ use Rattle.rinex_file.proofs.read.file.read_file.Goals as goal
 pub read_lines-requires-clause-read : goal.read_lines-requires-clause-read
 read_lines-requires-clause-read g c = c.new-reading.ensures _
 
+pub finish-requires : goal.finish-requires
+finish-requires g c =
+    let whole = stored_whole c.read_lines.new.reading.parser_state c.read_lines.new.builder _ c.in-Ok.ensures.found in
+    record { none = whole.none; value = whole.is; history = whole.history }
+
 -- the file, or a fault if memory ran out
 or_memory : (o : Option FileValue) (file : FileValue) (P : Result FileValue ReadFault → Type 0) → IfSome o (λ f. f ≡ file) → ((f : FileValue) → f ≡ file → P (Ok f)) → P (Err Memory) → P (ok_or o Memory)
 or_memory None file P is some none = none

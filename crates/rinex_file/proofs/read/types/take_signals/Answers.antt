@@ -46,3 +46,9 @@ loop-place-preserved c =
 
 whole : (all : List ℕ) (place end a next count : ℕ) → place ≤ end → end ≤ place → end ≡ min a count → a ≡ next → length all ≡ count → take place all ≡ take next all
 whole all place end a next count low high is same size = grind (arith, take_min)
+
+pub returns-clause-taken : goal.returns-clause-taken
+returns-clause-taken c = grind (arith, whole)
+
+pub loop-place-init : goal.loop-place-init
+loop-place-init c = grind (arith, common_steps)

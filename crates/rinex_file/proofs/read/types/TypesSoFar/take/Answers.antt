@@ -14,6 +14,15 @@ same_some m n e = cc
 same_refusal : {A E : Type 0} (r : Result A E) (x y : E) → r ≡ Err x → r ≡ Err y → x ≡ y
 same_refusal r x y a b = cc
 
+pub returns-in_default-clause-bad : goal.returns-in_default-clause-bad
+returns-in_default-clause-bad c = λ _ all are later begun is. not_some _ (sym c.in_default.is ∙ c.read_count.ensures.count all are later is)
+
+pub returns-in_err-take_signals-clause-bad : goal.returns-in_err-take_signals-clause-bad
+returns-in_err-take_signals-clause-bad c = λ refused all are later begun is.
+    let p = err_from_is_err_and c.from_residual.result c.from_residual.ensures.1 in
+    c.in_err-take_signals.ensures.bad (ap Err (same_refusal _ _ _ (p.1 ∙ ap Err p.2) refused)) all are
+    (same_some _ _ (sym c.in-Some.is ∙ c.read_count.ensures.count all are later is), begun) is
+
 pub returns-else-is_same-clause-bad : goal.returns-else-is_same-clause-bad
 returns-else-is_same-clause-bad c = λ bad all are later begun is.
     let size = same_some _ _ (sym c.in-Some.is ∙ c.read_count.ensures.count all are later is) in
