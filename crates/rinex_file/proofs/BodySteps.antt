@@ -32,15 +32,6 @@ not_none es front x last none = grind (arith, common_steps)
 pub cons_parts : (x y : List ℕ) (xs ys : List (List ℕ)) → x ∷ xs ≡ y ∷ ys → (x ≡ y) × (xs ≡ ys)
 cons_parts x y xs ys e = (ap (λ l. get_or l 0 []) e, ap (drop 1) e)
 
-no_cons : (x : List ℕ) (xs : List (List ℕ)) → x ∷ xs ≡ [] → ⊥
-no_cons x xs e = cc
-
-one_less : (a b : ℕ) → suc a ≡ suc b → a ≡ b
-one_less a b e = omega (arith, e)
-
-one_at_least : (a b : ℕ) → a ≡ b + 1 → 0 < a
-one_at_least a b e = omega (arith, e)
-
 pub All-midst : {X : Type 0} (P : X → Type 0) (xs ys : List X) (y : X) → All P (xs ++ y ∷ ys) → P y
 All-midst P [] ys y h = All-head P y ys h
 All-midst P (x ∷ xs) ys y h = All-midst P xs ys y (All-tail P x (xs ++ y ∷ ys) h)
@@ -122,7 +113,7 @@ NoEvent s line = (0 < length s.epochs) × (line ≡ event_line) → ⊥
 
 from_others : (s : Progress) (v : FileValue) (line : List ℕ) (left : List (List ℕ)) (others : List Stamped) → NoEvent s line → IsFileValue v → v ≡ file_with s (s.epochs ++ others)
     → StartsAt s.known.shown.first (s.epochs ++ others) → line ∷ left ≡ flat_map stamped_lines others → EpochNext s None v line left
-from_others s v line left [] never is value starts rest = absurd (no_cons line left rest)
+from_others s v line left [] never is value starts rest = cc
 from_others s v line left (e ∷ es) never is value starts rest = by e.change refl where
   by : (c : Option StationValues) → e.change ≡ c → EpochNext s None v line left
   by None h = next_with s None v line left e es is value starts h (rest ∙ ap (λ l. l ++ flat_map stamped_lines es) (lines_are e None h))
@@ -261,7 +252,7 @@ from_more s n v line left (m ∷ ms) others is count value starts rest =
       seen = m;
       more = ms;
       others = others;
-      count = one_less (length ms) n count;
+      count = omega (arith, count);
       value = value;
       starts = starts;
       is = All-midst (IsSatelliteRow (length s.known.shown.plan.gps) (length s.known.shown.plan.galileo)) s.rows ms m one.rows.each;
@@ -388,7 +379,7 @@ module _ (s : Progress) (n left : ℕ) (expected : s.expected ≡ Satellite left
           epochs = All-push (IsStamped (length s.known.shown.plan.gps) (length s.known.shown.plan.galileo)) s.epochs (stamped s (s.rows ++ seen ∷ [])) read.epochs (record {
             time = begun.time;
             rows = rows_more;
-            some = one_at_least _ _ size;
+            some = omega (arith, size);
           });
           rising = subst IsStrictlyIncreasing (sym (map-append time_stamped s.epochs (stamped s (s.rows ++ seen ∷ []) ∷ []))) begun.later;
           starts = starts_more s.known.shown.first s.epochs (stamped s (s.rows ++ seen ∷ [])) read.starts begun.first;

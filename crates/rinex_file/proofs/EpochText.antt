@@ -168,9 +168,7 @@ abbrev pub of_numbers : ℕ → ℕ → ℕ → ℕ → ℕ → ℕ → Civil
 of_numbers a b c d e f = record { year = a; month = b; day = c; hour = d; minute = e; millisecond = f }
 
 same_civil : (t u : Civil) → t.year ≡ u.year → t.month ≡ u.month → t.day ≡ u.day → t.hour ≡ u.hour → t.minute ≡ u.minute → t.millisecond ≡ u.millisecond → t ≡ u
-same_civil t u p q r s v w =
-    ap₂ (λ (a b : ℕ). of_numbers a b t.day t.hour t.minute t.millisecond) p q ∙ ap₂ (λ (a b : ℕ). of_numbers u.year u.month a b t.minute t.millisecond) r s
-    ∙ ap₂ (λ (a b : ℕ). of_numbers u.year u.month u.day u.hour a b) v w
+same_civil t u p q r s v w = grind arith
 
 -- a date is read back although each number is limited to the largest value of its type
 pub are_read : (t : Civil) (a b c d e f year month day hour minute second : ℕ) → HasColumns t

@@ -171,7 +171,7 @@ same_self : (v : StationValues) → same_values v v ≡ true
 same_self v = grind (arith, Decides-int_eq)
 
 all_same : (v w : StationValues) → v.x ≡ w.x → v.y ≡ w.y → v.z ≡ w.z → v.height ≡ w.height → v ≡ w
-all_same v w p q r s = ap (λ (t : ℤ). record v { x = t }) p ∙ ap (λ (t : ℤ). record v { x = w.x; y = t }) q ∙ ap (λ (t : ℤ). record w { z = t; height = v.height }) r ∙ ap (λ (t : ℕ). record w { height = t }) s
+all_same v w p q r s = grind arith
 
 same_are : (v w : StationValues) → same_values v w ≡ true → v ≡ w
 same_are v w h = grind (arith, and_parts, all_same, Decides-int_eq, eqb-true)

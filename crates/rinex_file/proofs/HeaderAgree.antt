@@ -8,7 +8,7 @@ use Rattle.rinex_file.proofs.Entries.{few_signals}
 use Rattle.rinex_file.proofs.EpochText.{IsField, AreFields, field_at}
 use Rattle.rinex_file.proofs.HeaderText.{equal_or}
 use Rattle.rinex_file.proofs.TypeRows.{code_here, count_read, few_types, listed_at, signal_at, column_of, code_reads_back, content_first}
-use Rattle.rinex_file.proofs.Names.{IsTrue, ◌↔◌, not, ◌||◌, ◌==◌, codes, if◌then◌else◌, flat_map, nat_lt, slice_index, is_negative, digits, sign_text, nat_tests, ints, take_at, drop_at, take_more, take-append-drop, take_min, take_more_same, drop-cons, SignalAt, code_of, signal_of_code, System, Gps, Galileo, passes_at, is_equal, civil_of, PlanValue, planned_of, StationValues, Civil, joined, left, right, fixed, digits_in, number_in, header_line, lengths, height_line, row_line, row_lines, has_line, header_lines, all_rows, row_count, row_at, row_place, lines_from, first_types, type_rows, version_line, version_with, Shown, shown_rows, lines_before, lines_after, IsShown, shown_line, AreTypes, types_line, is_some_planned, signals_begun, IsCoordinate, End, Version, Texts, Position, Delta, Types, StrengthUnit, First, Shift, lines_of_header, HeaderLists, HeaderRow, drop-drop}
+use Rattle.rinex_file.proofs.Names.{IsTrue, ◌↔◌, not, ◌||◌, ◌==◌, codes, if◌then◌else◌, flat_map, nat_lt, slice_index, is_negative, digits, sign_text, nat_tests, ints, take_at, drop_at, take_more, take-append-drop, take_min, take_more_same, drop-cons, SignalAt, code_of, signal_of_code, System, Gps, Galileo, passes_at, is_equal, civil_of, PlanValue, planned_of, StationValues, Civil, joined, left, right, fixed, digits_in, number_in, header_line, lengths, height_line, row_line, row_lines, has_line, header_lines, all_rows, row_count, row_at, row_place, lines_from, first_types, type_rows, version_line, version_with, Shown, shown_rows, lines_before, lines_after, IsShown, shown_line, AreTypes, types_line, is_some_planned, signals_begun, IsCoordinate, End, Version, Texts, Position, Delta, Types, StrengthUnit, First, Shift, lines_of_header, HeaderLists, HeaderRow, drop-drop, same_Some}
 
 -- ---- version
 
@@ -56,11 +56,8 @@ version_read line w a b letter at gps galileo some e =
       by : (p : Bool × Bool) → (p.0 || p.1) ≡ true → p ≡ (not (letter_with p.0 p.1 == 69), not (letter_with p.0 p.1 == 71))
       by p some = grind arith
 
-no_letters : ◌≡◌ {A = List ℕ} (69 ∷ []) (71 ∷ []) → ⊥
-no_letters e = let f : 69 ≡ 71 = ap (λ l. get_or l 0 0) e in omega (arith, f)
-
 pub letters_differ : (a b : Bool) (letter : List ℕ) → (IsTrue a ↔ (letter ≡ 69 ∷ [])) → (IsTrue b ↔ (letter ≡ 71 ∷ [])) → (not a || not b) ≡ true
-letters_differ true true letter gps galileo = absurd (no_letters (sym (gps.0 refl) ∙ galileo.0 refl))
+letters_differ true true letter gps galileo = let f : 69 ≡ 71 = ap (λ l. get_or l 0 0) (sym (gps.0 refl) ∙ galileo.0 refl) in absurd (omega (arith, f))
 letters_differ true false letter gps galileo = refl
 letters_differ false b letter gps galileo = refl
 
@@ -286,16 +283,12 @@ module _ (h g : Shown) (a : IsShown h) (b : IsShown g) where
       let most = few_signals s in
       let at : take 2 (drop (column_of r m) (types_line s y r)) ≡ code_of (signal_at s x m) = code_here s x (types_line s y r) r m ax (omega (arith, fx, most)) (sym e) (begun m) (ends m) lx in
       let also : take 2 (drop (column_of r m) (types_line s y r)) ≡ code_of (signal_at s y m) = code_here s y (types_line s y r) r m ay (omega (arith, fy, most)) refl (begun m) (ends m) ly in
-      same_index (signal_at s x m) (signal_at s y m)
-      (sym (code_reads_back (signal_at s x m) (listed_at s x m ax lx)) ∙ ap (signal_of_code s) (sym at ∙ also) ∙ code_reads_back (signal_at s y m) (listed_at s y m ay ly)) where
+      ap (λ (t : SignalAt). t.index) (same_Some (signal_at s x m) (signal_at s y m) (sym (code_reads_back (signal_at s x m) (listed_at s x m ax lx)) ∙ ap (signal_of_code s) (sym at ∙ also) ∙ code_reads_back (signal_at s y m) (listed_at s y m ay ly))) where
         begun : (m : ℕ) → signals_begun (4 * m / 13) ≤ m
         begun m = omega arith
 
         ends : (m : ℕ) → m < signals_begun (4 * m / 13 + 1)
         ends m = omega arith
-
-        same_index : (t u : SignalAt) → Some t ≡ Some u → t.index ≡ u.index
-        same_index t u e = cc
 
   module _ (s : System) (size : length (planned_of s h.plan) ≡ length (planned_of s g.plan)) (row : ℕ) (few : row ≤ 6)
       (rows : (r : ℕ) → r < row → shown_rows h (Types s r) ≡ shown_rows g (Types s r)) where

@@ -3,8 +3,8 @@ use Rattle.std.proofs.Common.{arith, ◌≡◌, ◌∙◌, sym, ap, ap₂, map, 
 use Rattle.rinex_file.proofs.BodySteps.{few_signals_of}
 use Rattle.rinex_file.proofs.HeaderAgree.{Agree, single, types_high, agree_types, agree_count, signals_same, none_planned, split_at, lengths-back, height-back, number_at, coordinate-fits}
 use Rattle.rinex_file.proofs.HeaderSteps.{some_plan, with_is, unread}
-use Rattle.rinex_file.proofs.HeaderText.{place_back, same_at, same_rows, texts_back, same_texts, same_some, SameTexts, text_low}
-use Rattle.rinex_file.proofs.Names.{AllOfLen, IsDistinct, take_all, ext_get_or, All-map, All-weaker, codes, SignalAt, IsSignal, table, System, Gps, Galileo, indices, IsOf, PlanValue, planned_of, StationValues, civil_of, TextRow, Texts, Position, Delta, First, End, trimmed, HeaderLists, text_count, text_of, width_of, fields, fields_of, text_rows, HeaderField, AntType, IsText, AreTexts, AreValues, IsTime, row_line, row_place, end_line, first_line, first_types, texts_line, position_line, delta_line, digits_in, Announced, Known, Shown, AreTypesRead, IsShown, AreValid, MayPlan, IsHeadAt, IsOnlyTime, shown_with, lines_before, announced, signals_begun, RefusesHeaderLine, EndsHeader, none_of, row_at, shown_rows, text_row_index}
+use Rattle.rinex_file.proofs.HeaderText.{place_back, same_at, same_rows, texts_back, same_texts, SameTexts, text_low}
+use Rattle.rinex_file.proofs.Names.{AllOfLen, IsDistinct, take_all, ext_get_or, All-map, All-weaker, codes, SignalAt, IsSignal, table, System, Gps, Galileo, indices, IsOf, PlanValue, planned_of, StationValues, civil_of, TextRow, Texts, Position, Delta, First, End, trimmed, HeaderLists, text_count, text_of, width_of, fields, fields_of, text_rows, HeaderField, AntType, IsText, AreTexts, AreValues, IsTime, row_line, row_place, end_line, first_line, first_types, texts_line, position_line, delta_line, digits_in, Announced, Known, Shown, AreTypesRead, IsShown, AreValid, MayPlan, IsHeadAt, IsOnlyTime, shown_with, lines_before, announced, signals_begun, RefusesHeaderLine, EndsHeader, none_of, row_at, shown_rows, text_row_index, same_Some}
 
 -- ---- headers with the same lines are the same
 
@@ -36,7 +36,7 @@ module _ (h g : Shown) (a : IsShown h) (b : IsShown g) (agree : Agree h g (row_p
     row_of r =
         let p = texts_back h.texts a.texts r (texts_line h.texts r) h.texts a.texts.count refl in
         let q = texts_back g.texts b.texts r (texts_line h.texts r) h.texts a.texts.count (sym (text_lines r)) in
-        same_texts p.new h.texts g.texts (fields_of r) p.same (subst (λ x. SameTexts x g.texts (fields_of r)) (same_some _ q.new p.new q.read p.read) q.same)
+        same_texts p.new h.texts g.texts (fields_of r) p.same (subst (λ x. SameTexts x g.texts (fields_of r)) (same_Some q.new p.new (sym q.read ∙ p.read)) q.same)
 
     at : (i : ℕ) → i < text_count → get_or h.texts i [] ≡ get_or g.texts i []
     at i less = subst (λ j. get_or h.texts j [] ≡ get_or g.texts j []) (place_back i less) (same_at h.texts g.texts fields i AntType less (same_rows h.texts g.texts row_of text_rows))

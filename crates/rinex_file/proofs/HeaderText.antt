@@ -4,7 +4,7 @@ use Rattle.std.proofs.Math.ListN.{get_or-map, set, length-set}
 use Rattle.rinex_file.proofs.Cuts.{filled, trimmed-blank}
 use Rattle.rinex_file.proofs.PlainTexts.{both}
 use Rattle.rinex_file.proofs.TypeRows.{content_first}
-use Rattle.rinex_file.proofs.Names.{if◌then◌else◌, nat_le, ◌==◌, map, flat_map, ⊤, list_all, drop-cons, length-map, length-replicate, take_at, drop_at, get_or-set_same, get_or-set_other, get_or_default, ext_get_or, list_all-append, passes_at, is_equal, HeaderField, HeadFault, AntType, trimmed, before_cut, HeaderLists, text_count, width_of, text_of, is_printable, fault_of, first_fault, fields, fields_of, trimmed_texts, place_of, front_of, label_of, IsText, AreTexts, TextRow, left, header_line, text_columns, texts_line, texts_in, if_fine, RefusesTexts, text_rows, text_row_index}
+use Rattle.rinex_file.proofs.Names.{if◌then◌else◌, nat_le, ◌==◌, map, flat_map, ⊤, list_all, drop-cons, length-map, length-replicate, take_at, drop_at, get_or-set_same, get_or-set_other, get_or_default, ext_get_or, list_all-append, passes_at, is_equal, HeaderField, HeadFault, AntType, trimmed, before_cut, HeaderLists, text_count, width_of, text_of, is_printable, fault_of, first_fault, fields, fields_of, trimmed_texts, place_of, front_of, label_of, IsText, AreTexts, TextRow, left, header_line, text_columns, texts_line, texts_in, if_fine, RefusesTexts, text_rows, text_row_index, same_Some}
 
 pub trimmed-blanks : (k : ℕ) (text : List ℕ) → trimmed (text ++ replicate k 32) ≡ trimmed text
 trimmed-blanks zero text = ap trimmed (append-nil text)
@@ -138,20 +138,14 @@ same_at x y (f ∷ fs) (suc i) d less same = same_at x y fs i d (omega (arith, l
 
 -- ---- read
 
-none_some : {X : Type 0} (r : Option X) (x : X) → r ≡ None → r ≡ Some x → ⊥
-none_some r x a b = cc
-
-pub same_some : {X : Type 0} (r : Option X) (x y : X) → r ≡ Some x → r ≡ Some y → x ≡ y
-same_some r x y a b = cc
-
 pub not_printable : (r : TextRow) (line : List ℕ) (old : HeaderLists) → length old ≡ text_count → texts_in (fields_of r) (length (front_of r)) line old ≡ None → RefusesTexts r line
-not_printable r line old size none x are e = let back = texts_back x are r line old size e in none_some _ back.new none back.read
+not_printable r line old size none x are e = let back = texts_back x are r line old size e in let read = back.read in cc
 
 pub not_same : (r : TextRow) (line : List ℕ) (old new : HeaderLists) → length old ≡ text_count → texts_in (fields_of r) (length (front_of r)) line old ≡ Some new
     → (line ≡ texts_line new r → ⊥) → RefusesTexts r line
 not_same r line old new size read other x are e =
     let back = texts_back x are r line old size e in
-    other (sym e ∙ sym (same_line back.new x r back.same) ∙ ap (λ y. texts_line y r) (same_some _ back.new new back.read read))
+    other (sym e ∙ sym (same_line back.new x r back.same) ∙ ap (λ y. texts_line y r) (same_Some back.new new (sym back.read ∙ read)))
 
 not_fine : (fault : Option HeadFault) (r : Option HeaderLists) → (fault ≡ None → ⊥) → if_fine fault r ≡ None
 not_fine None r some = absurd (some refl)
@@ -191,7 +185,7 @@ far_place i n place less far = grind (arith, far)
 -- the texts before those that are read are unchanged
 pub kept_texts : (n : ℕ) (fs : List HeaderField) (column : ℕ) (line : List ℕ) (old new : HeaderLists) → list_all (λ f. nat_le n (place_of f)) fs ≡ true → texts_in fs column line old ≡ Some new
     → (i : ℕ) → i < n → get_or new i [] ≡ get_or old i []
-kept_texts n [] column line old new all read i less = ap (λ x. get_or x i []) (sym (same_some _ old new refl read))
+kept_texts n [] column line old new all read i less = ap (λ x. get_or x i []) (sym (same_Some old new read))
 kept_texts n (f ∷ fs) column line old new all read i less =
     let parts = both (nat_le n (place_of f)) (list_all (λ f. nat_le n (place_of f)) fs) all in
     kept_texts n fs (column + width_of f) line _ new parts.1 (fine_read _ _ new read) i less

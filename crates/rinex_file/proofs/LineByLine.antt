@@ -273,12 +273,9 @@ module _ (are_lines : (v : FileValue) → IsFileValue v → All IsLine (file_lin
     not_explained : (v : FileValue) (input : List ℕ) (fault : ReadFault) → IsFileValue v → length (file_lines v) ≤ most_lines → ExplainsFault input fault → input ≡ file_text v → IsNoFault fault
     not_explained v input Memory is few why e = tt
     not_explained v input Read is few why e = tt
-    not_explained v input (BadHeader k) is few why e = faulty_not v input k is why.0 e
-    not_explained v input (BadEpoch k) is few why e = faulty_not v input k is why.0 e
-    not_explained v input (BadEvent k) is few why e = faulty_not v input k is why.0 e
-    not_explained v input (BadSatellite k) is few why e = faulty_not v input k is why.0 e
     not_explained v input (CutShort k) is few why e = why.none v is e
     not_explained v input TooLong is few why e = not_many v why.lines why.rest is why.first.are why.count why.more few (sym e ∙ why.first.first)
+    not_explained v input other is few why e = faulty_not v input _ is why.0 e
 
     pub only_faults : (a : Option (List ℕ)) (fault : ReadFault) (v : FileValue) → IfSome a (λ input. ExplainsFault input fault) → IsFileValue v → length (file_lines v) ≤ most_lines
         → IfSome a (λ input. input ≡ file_text v → IsNoFault fault)

@@ -1,8 +1,12 @@
 -- A line of types: the columns of the signals that begin in it, and the signals that are read from it.
 use Rattle.std.proofs.Common.{min, ◌-◌, length-take, length-drop, arith, rules, ◌≡◌, ◌∙◌, ap, refl, ℕ, zero, suc, ◌+◌, ◌<◌, ◌≤◌, ◌==◌, ◌&&◌, Bool, true, false, List, [], ◌∷◌, length, take, drop, Some, None, Option, nat_lt, sym, ◌*◌, ◌/◌, ◌%◌, ◌++◌, get_or, append_assoc, append-nil, ap₂, subst, ◌^◌, ◌||◌, replicate, decimal, nat_eq}
+use Rattle.std.proofs.lemmas.Str.Ascii.{IsAscii-from_all}
+use Rattle.std.proofs.lemmas.List.Sums.{AllPass-from_list_all}
+use Rattle.std.proofs.lemmas.List.Concat.{get_or-flat_map}
+use Rattle.std.proofs.lemmas.List.{get_or-map}
 use Rattle.rinex_file.proofs.Entries.{flat_map-append}
 use Rattle.rinex_file.proofs.Digits.{length-right, digits_in-whole}
-use Rattle.rinex_file.proofs.Names.{IsAscii, IsUtf8, map, flat_map, slice_index, codes, All, list_any, IsDistinct, IsUtf8-from_ascii, cases_lt, length-map, take_more, get_or-drop, take_all, take_at, take-take, take-map, drop_at, drop-drop, drop-take, get_or-take, All-get_or, All-head, All-tail, apart_from_distinct, IsDistinct-tail, length-le_from_distinct_below, length-decimal-le, System, Gps, Galileo, SignalAt, IsSignal, table, code_of, signal_of_code, passes_at, is_less, is_equal, indices, IsOf, any_index, indices-push, type_of, types_of, codes_of, type_columns, header_line, type_front, joined, left, right, letter_of, digits_in, AreTypes, types_line, signals_begun, HasSignalAt, same_Some}
+use Rattle.rinex_file.proofs.Names.{IsAscii, IsUtf8, map, flat_map, slice_index, codes, All, list_any, IsDistinct, IsUtf8-from_ascii, cases_lt, length-map, take_more, get_or-drop, take_all, take_at, take-take, take-map, drop_at, drop-drop, drop-take, get_or-take, All-get_or, All-head, All-tail, apart_from_distinct, IsDistinct-tail, length-le_from_distinct_below, length-decimal-le, System, Gps, Galileo, SignalAt, IsSignal, table, code_of, signal_of_code, passes_at, is_less, is_equal, indices, IsOf, any_index, indices-push, type_of, types_of, codes_of, type_columns, header_line, type_front, joined, left, right, letter_of, digits_in, AreTypes, types_line, signals_begun, HasSignalAt, same_Some, list_all, All-weaker}
 
 abbrev signal : System → ℕ → SignalAt
 signal system index = record { system = system; index = index }
@@ -19,16 +23,10 @@ length-code Galileo i h = is_equal _ _ (passes_at (two_bytes Galileo) 19 i refl 
 -- ---- ASCII
 
 abbrev ascii_bytes : List ℕ → Bool
-ascii_bytes [] = true
-ascii_bytes (b ∷ bs) = nat_lt b 128 && ascii_bytes bs
+ascii_bytes bs = list_all (λ b. nat_lt b 128) bs
 
-pub ascii_from : (bs : List ℕ) → ascii_bytes bs ≡ true → IsAscii bs
-ascii_from [] h i = omega arith
-ascii_from (b ∷ bs) h zero = grind (arith, is_less)
-ascii_from (b ∷ bs) h (suc i) = ascii_from bs (by (nat_lt b 128) h) i where
-  by : (t : Bool) → (t && ascii_bytes bs) ≡ true → ascii_bytes bs ≡ true
-  by true k = k
-  by false k = absurd (grind (arith, k))
+ascii_from : (bs : List ℕ) → ascii_bytes bs ≡ true → IsAscii bs
+ascii_from bs h = IsAscii-from_all bs (All-weaker (λ b. nat_lt b 128 ≡ true) (λ b. b < 128) (λ b less. is_less b 128 less) bs (AllPass-from_list_all (λ b. nat_lt b 128) bs h))
 
 pub utf8-code : (system : System) (i : ℕ) → i < length (table system) → IsUtf8 (code_of (signal system i))
 utf8-code Gps i h = IsUtf8-from_ascii _ (ascii_from _ (passes_at (λ j. ascii_bytes (code_of (signal Gps j))) 15 i refl h))
@@ -41,11 +39,6 @@ code_reads_back s h = search rules
 
 pub code_of_one : (system : System) (s : SignalAt) (code : List ℕ) → IsSignal s → s.system ≡ system → code ≡ code_of s → signal_of_code system code ≡ Some s
 code_of_one system s code listed same is = grind (arith, code_reads_back)
-
-at_code : (f : ℕ → List ℕ) (xs : List ℕ) (k : ℕ) (d : List ℕ) → k < length xs → get_or (map f xs) k d ≡ f (slice_index xs k)
-at_code f [] k d h = absurd (omega (arith, h))
-at_code f (x ∷ xs) zero d h = refl
-at_code f (x ∷ xs) (suc k) d h = at_code f xs k d (omega (arith, h))
 
 four_more : (m : ℕ) → suc (suc (suc (suc (4 * m)))) ≡ 4 * suc m
 four_more m = omega arith
@@ -61,16 +54,11 @@ first_four c rest (suc (suc zero)) e h = refl
 first_four c rest (suc (suc (suc zero))) e h = refl
 first_four c rest (suc (suc (suc (suc r)))) e h = absurd (omega (arith, h))
 
-none_more : (r : ℕ) → 4 * 0 + r ≡ r
-none_more r = omega arith
-
-steps : (q r : ℕ) → 4 * suc q + r ≡ suc (suc (suc (suc (4 * q + r))))
-steps q r = omega arith
-
 pub types_at : (cs : List (List ℕ)) (q r : ℕ) (d e : List ℕ) → q < length cs → r < 4 → get_or (types_of cs) (4 * q + r) e ≡ type_of r (get_or cs q d)
-types_at [] q r d e h k = absurd (omega (arith, h))
-types_at (c ∷ cs) zero r d e h k = ap (λ n. get_or (types_of (c ∷ cs)) n e) (none_more r) ∙ first_four c (types_of cs) r e k
-types_at (c ∷ cs) (suc q) r d e h k = ap (λ n. get_or (types_of (c ∷ cs)) n e) (steps q r) ∙ types_at cs q r d e (omega (arith, h)) k
+types_at cs q r d e h k =
+    let four = λ (c : List ℕ). type_of 0 c ∷ type_of 1 c ∷ type_of 2 c ∷ type_of 3 c ∷ [] in
+    let before : length (types_of (take q cs)) ≡ 4 * q = length-types_of (take q cs) ∙ ap (λ n. 4 * n) (simp length-take (omega (arith, h))) in
+    ap (λ n. get_or (types_of cs) (n + r) e) (sym before) ∙ get_or-flat_map four cs q r d e h k ∙ first_four (get_or cs q d) [] r e k
 
 quarter : (i n : ℕ) → i < 4 * n → i / 4 < n
 quarter i n h = omega (arith, h)
@@ -87,7 +75,7 @@ same_code s system index p q = ap (λ x. code_of (record { system = x; index = s
 -- the type at an index of a system's types
 pub signal_type : (system : System) (signals : List ℕ) (s : SignalAt) (i : ℕ) → i < 4 * length signals → s.index ≡ slice_index signals (i / 4) → s.system ≡ system
     → type_of (i % 4) (code_of s) ≡ get_or (types_of (codes_of system signals)) i []
-signal_type system signals s i h p q = grind (arith, length-map, same_code, at_code, quarter, type_here)
+signal_type system signals s i h p q = grind (arith, length-map, same_code, get_or-map, quarter, type_here)
 
 -- the number of a system's types
 pub length-system_types : (system : System) (signals : List ℕ) → length (types_of (codes_of system signals)) ≡ 4 * length signals

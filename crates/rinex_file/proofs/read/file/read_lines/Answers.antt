@@ -9,9 +9,6 @@ kept : {A E : Type 0} (r : Result A E) (P : Type 0) → is_err r ≡ false → O
 kept (Ok x) P fine p = p
 kept (Err x) P fine p = cc
 
-not_on : true ≡ false → ⊥
-not_on e = cc
-
 pub loop-added-init : goal.loop-added-init
 loop-added-init g c = record {
   read = (nothing, c.requires.read, λ stored. c.requires.none);
@@ -26,7 +23,7 @@ loop-added-preserved g c =
     let k = with_line c.in-Ok-Some.added c.next.new.self.parser_state h in
     let stored : c.args.is_stored ≡ true → history_of c.else-is_stored.builder ≡ k = λ on. elim c.else-is_stored.branch [
       | else-is_stored-via-then-is_stored+else-is_err w ↦ ap history_of w.builder-is ∙ kept w.keep.result _ (sym w.is_err.ensures.value ∙ w.if-is_err.false) w.keep.ensures ∙ ap (with_line c.in-Ok-Some.added c.next.new.self.parser_state) (stores on)
-      | else-is_stored-via-else-is_stored w ↦ absurd (not_on (sym on ∙ w.if-is_stored.false))
+      | else-is_stored-via-else-is_stored w ↦ let e : true ≡ false = sym on ∙ w.if-is_stored.false in cc
     ] in
     record {
       read = (k, (added_more c.loop-added.reading c.next.new.self h _ _ c.in-Ok-Some.field-0 c.in-Ok-Some.added c.in-Ok-Some.field-0-is (c.in-Ok-Some.ensures.goes h _ read)).0, stored);

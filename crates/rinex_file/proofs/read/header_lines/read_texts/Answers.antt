@@ -1,5 +1,5 @@
 use Rattle.std.proofs.Common.{arith, rules, ◌≡◌, ◌∙◌, sym, ap, subst, refl, ◌≤◌, ◌+◌, ◌*◌, Option, ℕ, List, Bool, true, false, IsTrue, ◌↔◌, Some, None, length}
-use Rattle.rinex_file.proofs.HeaderText.{not_same, not_printable, refused_text, added_text}
+use Rattle.rinex_file.proofs.HeaderText.{not_same, not_printable, refused_text, added_text, few_columns}
 use Rattle.rinex_file.proofs.Judged.{refused}
 use Rattle.rinex_file.proofs.Names.{drop_all, HeaderField, TextRow, HeaderLists, fields_of, front_of, text_count, width_of, texts_line, ReadsOrRefusesTexts, texts_in}
 use Rattle.rinex_file.proofs.read.header_lines.read_texts.Goals as goal
@@ -9,11 +9,8 @@ compared : (r : TextRow) (line again : List ℕ) (old new : HeaderLists) (b : Bo
 compared r line again old new true size read is says = record { read = read; shown = sym is ∙ sym (says.0 refl) }
 compared r line again old new false size read is says = not_same r line old new size read (λ h. refused false (line ≡ again) says refl (h ∙ sym is))
 
-wide : (f : HeaderField) → width_of f ≤ 60
-wide f = search rules
-
 few_more : (column width i : ℕ) (f : HeaderField) → column ≤ 20 + 60 * i → width ≡ width_of f → column + width ≤ 20 + 60 * (i + 1)
-few_more column width i f few w = let most = wide f in omega (arith, few, w, most)
+few_more column width i f few w = let most = few_columns f in omega (arith, few, w, most)
 
 pub loop-field-preserved : goal.loop-field-preserved
 loop-field-preserved c = record {
@@ -24,14 +21,11 @@ loop-field-preserved c = record {
   few = few_more c.loop-field.column c.width-width.result c.loop-field.field-index _ c.loop-field.invariant.few c.width-width.ensures;
 }
 
-some_fault : {A : Type 0} (fault : Option A) (f : A) → Some f ≡ fault → fault ≡ None → ⊥
-some_fault fault f some none = cc
-
 pub returns-in-Err : goal.returns-in-Err
 returns-in-Err c =
     not_printable c.args.row c.args.line.now c.args.texts.now c.are_texts.ensures.count (sym c.loop-field.invariant.read
     ∙ refused_text c.fields-field-items.result.now (fields_of c.args.row) c.loop-field.field-index _ c.loop-field.column c.width-width.result c.args.line.now c.columns.result.now c.loop-field.texts _
-    c.fields-field-items.ensures.value c.loop-field-test.true c.width-width.ensures c.columns.ensures.value refl (some_fault _ _ c.in-Err.ensures.fault))
+    c.fields-field-items.ensures.value c.loop-field-test.true c.width-width.ensures c.columns.ensures.value refl (λ none. let e = c.in-Err.ensures.fault in cc))
 
 pub returns : goal.returns
 returns c =

@@ -19,9 +19,6 @@ read_seen-is_read-requires c =
 one_expected : (left : ℕ) (s : Progress) → s.expected ≡ Satellite left → 0 < left → s.expected ≡ Satellite (suc (left - 1))
 one_expected left s expected some = let n : left ≡ suc (left - 1) = omega (arith, some) in expected ∙ ap Satellite n
 
-one_left : (left : ℕ) → 0 < left → left ≡ suc (left - 1)
-one_left left some = omega (arith, some)
-
 -- the satellite of a line, if these numbers of signals are planned
 abbrev Shows : ℕ → ℕ → List ℕ → Bool → SatelliteRow → Type 0
 Shows gps galileo line b seen = ReadsExactly (IsSatelliteRow gps galileo) satellite_line line (some_if b seen)
@@ -41,9 +38,6 @@ last_rank rows seen n same rise m some =
     let all = subst IsStrictlyIncreasing (sym (map-append rank_of rows (seen ∷ []))) rise in
     (rise_after _ _ n m ends all, rise_last _ _ n m ends)
 
-not_above : (last rank : ℕ) → rank ≤ last → last < rank → ⊥
-not_above last rank least less = omega (arith, least, less)
-
 pub returns-then-not-is_read : goal.returns-then-not-is_read
 returns-then-not-is_read c = λ h history.
     let s = progress_at c.args.self.now h in
@@ -57,7 +51,7 @@ returns-then-not-is_read c = λ h history.
       | then-not-is_read-via-else-not-is_read+then-rank-self w ↦
           let shown = shows _ _ _ _ c.args.line.now _ true seen c.planned-gps.ensures c.planned-galileo.ensures w.if-not-is_read.false c.read_seen-is_read.ensures in
           bad_row s (c.args.left - 1) c.args.line.now one seen shown.2
-          (λ rise. not_above _ _ w.if-rank-self.true ((increasing _ _ h.rows seen _ _ history.counted.rank shown.0 c.rank_of-rank.ensures).1 rise))
+          (λ rise. let more = (increasing _ _ h.rows seen _ _ history.counted.rank shown.0 c.rank_of-rank.ensures).1 rise in omega (arith, more, w.if-rank-self.true))
     ]
 
 last_before : (all : List ℕ) (times : Option EpochTimes) (time : ℕ) → AreTimesOrNone all times → IsStrictlyIncreasing (all ++ time ∷ []) → IfSome times (λ t. t.last < time)
@@ -92,7 +86,7 @@ returns-then-left-gt1 c = λ h history.
     let more : 0 < c.args.left - 1 = let n = c.if-left-gt1.true in omega (arith, n) in
     record {
       history = record {
-        sound = sound_row s (c.args.left - 1) c.args.left c.requires.expected history.sound seen shown.0 rise more (one_left c.args.left some);
+        sound = sound_row s (c.args.left - 1) c.args.left c.requires.expected history.sound seen shown.0 rise more (omega (arith, some));
         counted =
             let old = history.counted in
             record {

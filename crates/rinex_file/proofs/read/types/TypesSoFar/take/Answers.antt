@@ -2,30 +2,24 @@ use Rattle.std.proofs.Common.{◌≡◌, ◌∙◌, sym, ap, ℕ, None, Some}
 use Rattle.rinex_file.proofs.HeaderRead.{row_taken}
 use Rattle.rinex_file.proofs.Judged.{at_some, refused}
 use Rattle.rinex_file.proofs.TypeRows.{shown_line}
-use Rattle.rinex_file.proofs.Names.{Result, Err, err_from_is_err_and, indices}
+use Rattle.rinex_file.proofs.Names.{Result, Err, err_from_is_err_and, indices, none-some, same_Some}
 use Rattle.rinex_file.proofs.read.types.TypesSoFar.take.Goals as goal
-
-not_some : (n : ℕ) → None ≡ Some n → ⊥
-not_some n e = cc
-
-same_some : (m n : ℕ) → Some m ≡ Some n → n ≡ m
-same_some m n e = cc
 
 same_refusal : {A E : Type 0} (r : Result A E) (x y : E) → r ≡ Err x → r ≡ Err y → x ≡ y
 same_refusal r x y a b = cc
 
 pub returns-in_default-clause-bad : goal.returns-in_default-clause-bad
-returns-in_default-clause-bad c = λ _ all are later begun is. not_some _ (sym c.in_default.is ∙ c.read_count.ensures.count all are later is)
+returns-in_default-clause-bad c = λ _ all are later begun is. none-some _ (sym c.in_default.is ∙ c.read_count.ensures.count all are later is)
 
 pub returns-in_err-take_signals-clause-bad : goal.returns-in_err-take_signals-clause-bad
 returns-in_err-take_signals-clause-bad c = λ refused all are later begun is.
     let p = err_from_is_err_and c.from_residual.result c.from_residual.ensures.1 in
     c.in_err-take_signals.ensures.bad (ap Err (same_refusal _ _ _ (p.1 ∙ ap Err p.2) refused)) all are
-    (same_some _ _ (sym c.in-Some.is ∙ c.read_count.ensures.count all are later is), begun) is
+    (sym (same_Some _ _ (sym c.in-Some.is ∙ c.read_count.ensures.count all are later is)), begun) is
 
 pub returns-else-is_same-clause-bad : goal.returns-else-is_same-clause-bad
 returns-else-is_same-clause-bad c = λ bad all are later begun is.
-    let size = same_some _ _ (sym c.in-Some.is ∙ c.read_count.ensures.count all are later is) in
+    let size = sym (same_Some _ _ (sym c.in-Some.is ∙ c.read_count.ensures.count all are later is)) in
     let again = c.as_slice-2.ensures.value ∙ c.types_with-again.ensures ∙ shown_line c.args.system all _ c.args.row c.in-Some.count size (ap indices c.as_slice.ensures ∙ c.in_ok-take_signals.ensures.taken all are (size, begun) is) in
     refused c.is_same.result _ c.is_same.ensures c.if-is_same.false (is ∙ sym again)
 
