@@ -2,11 +2,13 @@
 use Rattle.std.proofs.Common.{arith, lit≤, lit<, ◌≡◌, ap, refl, subst, ℕ, zero, suc, ◌+◌, ◌-◌, ◌*◌, ◌/◌, ◌%◌, ◌^◌, ◌<◌, ◌≤◌, ℤ, pos, unsigned_abs, Bool, true, false, List, [], ◌∷◌, ◌++◌, length, replicate, take, drop, decimal, get_or, append_assoc, length-append}
 use Rattle.gnss_obs.specs.declared.tables.ListedSignal.{ListedSignal as TableEntry}
 use Rattle.gnss_obs.specs.Weeks.{day as day_length}
+use Rattle.gnss_obs.proofs.WalkLemmas.{date_of_is}
+use Rattle.gnss_obs.specs.Dates.{IsCivil}
 use Rattle.rinex_file.proofs.BodySteps.{few_signals_of}
 use Rattle.rinex_file.proofs.HeaderText.{few_columns}
 use Rattle.rinex_file.proofs.TypeRows.{length-system_types}
 use Rattle.rinex_file.proofs.PlainTexts.{both, IsPlain, plain-wider, plain-append, plain-left, plain-right, plain-decimal, plain-fixed, plain, plain-flat_map, plain-joined, also, plain-text}
-use Rattle.rinex_file.proofs.Names.{◌==◌, ◌||◌, ◌&&◌, not, if◌then◌else◌, nat_lt, nat_le, flat_map, All, codes, slice_get, AllByRecursion, list_all, option_map_or, cond_both, ints, length-take, All-nil, All-head, All-tail, All-cons, All-append, All-map, All-take, All-drop, All-replicate, code_of, System, StationValues, Civil, YearMonthDay, month_on, year_on, month_length, year_length, date_of, civil_with, civil_of, PlanValue, planned_of, HeaderField, TextRow, HeaderRow, Version, Texts, Position, Delta, Types, StrengthUnit, First, Shift, End, IsLine, AreTexts, IsPlan, AreValues, IsTime, IsCoordinate, header_line, version_line, lengths, file_system, first_line, text_columns, texts_line, types_of, type_front, type_columns, type_line, codes_of, row_line, row_lines, has_line, all_rows, header_lines, position_line, delta_line, letter_of, joined, left, right, fixed, has, HeaderLists, width_of, text_of, fields_of, label_of, front_of}
+use Rattle.rinex_file.proofs.Names.{◌==◌, ◌||◌, ◌&&◌, not, if◌then◌else◌, nat_le, flat_map, All, codes, slice_get, AllByRecursion, list_all, option_map_or, cond_both, ints, length-take, All-nil, All-head, All-tail, All-cons, All-append, All-map, All-take, All-drop, All-replicate, code_of, System, StationValues, Civil, YearMonthDay, date_of, civil_with, civil_of, PlanValue, planned_of, HeaderField, TextRow, HeaderRow, Version, Texts, Position, Delta, Types, StrengthUnit, First, Shift, End, IsLine, AreTexts, IsPlan, AreValues, IsTime, IsCoordinate, header_line, version_line, lengths, file_system, first_line, text_columns, texts_line, types_of, type_front, type_columns, type_line, codes_of, row_line, row_lines, has_line, all_rows, header_lines, position_line, delta_line, letter_of, joined, left, right, fixed, has, HeaderLists, width_of, text_of, fields_of, label_of, front_of, common_steps}
 
 -- ---- a line of a file
 
@@ -119,25 +121,6 @@ one_of_types system signals row few =
 
 -- ---- times
 
-record IsWithin (d : YearMonthDay) (y m k : ℕ) : Type 0 where
-  year : d.year ≤ y
-  month : d.month ≤ m
-  day : d.day ≤ k
-
-within_year : (months y m days year month day : ℕ) → y ≤ year → m + months ≤ month → days + 1 ≤ day → IsWithin (month_on months y m days) year month day
-within_year zero y m days year month day h k l = record { year = h; month = omega (arith, k); day = l }
-within_year (suc months) y m days year month day h k l =
-    cond_both (nat_lt days (month_length y m)) (record { year = y; month = m; day = days + 1 }) (month_on months y (m + 1) (days - month_length y m)) (λ d. IsWithin d year month day)
-    (λ here. record { year = h; month = omega (arith, k); day = l })
-    (λ later. within_year months y (m + 1) (days - month_length y m) year month day h (omega (arith, k)) (omega (arith, l)))
-
-within_years : (years y days year day : ℕ) → y + years ≤ year → days + 1 ≤ day → IsWithin (year_on years y days) year 12 day
-within_years zero y days year day h l = within_year 11 y 1 days year 12 day (omega (arith, h)) (lit≤ tt) l
-within_years (suc years) y days year day h l =
-    cond_both (nat_lt days (year_length y)) (month_on 11 y 1 days) (year_on years (y + 1) (days - year_length y)) (λ d. IsWithin d year 12 day)
-    (λ here. within_year 11 y 1 days year 12 day (omega (arith, h)) (lit≤ tt) l)
-    (λ later. within_years years (y + 1) (days - year_length y) year day (omega (arith, h)) (omega (arith, l)))
-
 -- each part of a date and time of day fits 32 bits
 pub record IsShort (t : Civil) : Type 0 where
   pub year : t.year < 2 ^ 32
@@ -147,13 +130,20 @@ pub record IsShort (t : Civil) : Type 0 where
   pub minute : t.minute < 2 ^ 32
   pub millisecond : t.millisecond < 2 ^ 32
 
-short_civil : (d : YearMonthDay) (clock : ℕ) → IsWithin d 3900 12 1_000_000 → clock < 100_000_000 → IsShort (civil_with d clock)
-short_civil d clock is few = grind arith
+-- the calendar ends with the year 9999
+short_civil : (c : Civil) → IsCivil c → IsShort c
+short_civil c is = grind (arith, common_steps)
+
+hours : (clock : ℕ) → clock < 86_400_000 → clock / 3_600_000 < 24
+hours clock less = omega (arith, less)
 
 pub short_time : (t : ℕ) → IsTime t → IsShort (civil_of t)
-short_time t h =
-    short_civil (date_of (t / day_length)) (t % day_length) (within_years 1920 1980 (t / day_length + 5) 3900 1_000_000 (lit≤ tt) (omega (arith, h)))
-    (omega arith)
+short_time t h = short_civil (civil_of t) (record {
+  date = (date_of_is (t / day_length) (omega (arith, h))).0;
+  hour = hours (t % day_length) (omega arith);
+  minute = omega arith;
+  millisecond = omega arith;
+})
 
 pub second_field : (width m : ℕ) → width ≤ 20 → m < 2 ^ 32 → IsPlain 80 (right width (fixed 7 (pos (m * 10_000))))
 second_field width m few fits =
