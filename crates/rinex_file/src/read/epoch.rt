@@ -42,9 +42,7 @@ fn time_in(line: &[u8], width: usize, second: usize) -> Option<GpsTime>
 pub(crate) fn read_first(line: &[u8]) -> Option<GpsTime>
     ensures { ReadsExactly IsTime (λ t. first_line (civil_of t)) line.now result }
 {
-    let Some(time) = time_in(line, 6, 13) else {
-        return None;
-    };
+    let time = time_in(line, 6, 13)?;
     is_same(line, first_line(time).as_slice()).then_some(time)
 }
 
@@ -55,9 +53,7 @@ pub(crate) fn read_epoch_line(line: &[u8], again: &mut Line) -> Option<(GpsTime,
         line.now result }
 {
     calendar();
-    let Some(time) = time_in(line, 3, 11) else {
-        return None;
-    };
+    let time = time_in(line, 3, 11)?;
     let count = digits_in(columns(line, 32, 3)) as usize;
     epoch_line(time, count, again);
     is_same(line, again.as_slice()).then_some((time, count))

@@ -21,14 +21,14 @@ counted c t n is few e =
     c.digits_in-count.ensures.value ∙ ap digits_in c.columns.ensures.value
     ∙ (epoch_shown (civil_of t) n c.args.line.now (has_columns t (c.calendar.ensures.civil t is) (c.calendar.ensures.small t is)) (omega (arith, few)) e).1
 
-pub returns-in_default : goal.returns-in_default
-returns-in_default c = λ v is e. none-some v.0 (sym c.in_default.is ∙ c.time_in.ensures.epoch v.0 v.1 is.0 is.1 refl refl e)
+pub returns-in_err-time : goal.returns-in_err-time
+returns-in_err-time c = rw c.from_residual.ensures (λ v is e. none-some v.0 (sym c.in_err-time.was ∙ c.time_in.ensures.epoch v.0 v.1 is.0 is.1 refl refl e))
 
 pub returns : goal.returns
 returns c =
-    exactly (λ (e : ℕ × ℕ). IsTime e.0 × e.1 ≤ 999) (λ (e : ℕ × ℕ). epoch_line (civil_of e.0) e.1) c.args.line.now _ (c.in-Some.time, c.digits_in-count.result) c.is_same.result _
+    exactly (λ (e : ℕ × ℕ). IsTime e.0 × e.1 ≤ 999) (λ (e : ℕ × ℕ). epoch_line (civil_of e.0) e.1) c.args.line.now _ (c.in_ok-time.time, c.digits_in-count.result) c.is_same.result _
     c.then_some.ensures (search rules, small _ _ c.columns.ensures.bound c.digits_in-count.ensures.digits)
-    (λ w is e. same_pair w c.in-Some.time c.digits_in-count.result
-    (same_Some w.0 c.in-Some.time (sym (c.time_in.ensures.epoch w.0 w.1 is.0 is.1 refl refl e) ∙ c.in-Some.is))
+    (λ w is e. same_pair w c.in_ok-time.time c.digits_in-count.result
+    (same_Some w.0 c.in_ok-time.time (sym (c.time_in.ensures.epoch w.0 w.1 is.0 is.1 refl refl e) ∙ c.in_ok-time.was))
     (counted ((goal.at.returns c).After-is_same) w.0 w.1 is.0 is.1 e))
     (c.as_slice.ensures.value ∙ c.epoch_line.ensures) c.is_same.ensures
