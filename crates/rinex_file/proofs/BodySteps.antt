@@ -3,7 +3,7 @@ use Rattle.std.proofs.Common.{arith, ◌≡◌, refl, ℕ, ◌<◌, List, [], �
 use Rattle.rinex_file.specs.ParserState.{HasRoom}
 use Rattle.rinex_file.proofs.FewRows.{few_rows, few_planned}
 use Rattle.rinex_file.proofs.Entries.{few_signals}
-use Rattle.rinex_file.proofs.Names.{IsStrictlyIncreasing, All, map, flat_map, if◌then◌else◌, nat_lt, Result, Ok, Err, IsErrAnd, get_or_append_left, map-append, common_steps, All-head, All-tail, All-nil, All-push, flat_map-append, System, Gps, Galileo, PlanValue, planned_of, civil_of, StationValues, Stamped, SatelliteRow, FileValue, time_stamped, IsFileValue, IsPlan, IsStamped, IsSatelliteRow, AreSatelliteRows, IsTime, IsChange, AreChanges, IsFirstSame, changed_by, values_following, rank_of, most_rows, Epoch, Satellite, epoch_line, satellite_line, stamped_lines, change_lines, event_line, Progress, file_with, stamped, StartsAt, IsAt, IsBetween, IsInEvent, IsInEpoch, HasLinesLeft, epoch_after, begun_at, with_row, with_epoch, AreRead, IsBegun, IsEventExpected, IsSoundAt, IsSound, MayBegin, values_now, AreLinesAt, lines_of_header, whole_lines, part_lines, Added, Refusal, Memory, Bad, ParserState, History, FollowsHistory, GoesOnWithLine, ShowsLine, RefusesLine, TakesLine, progress_at}
+use Rattle.rinex_file.proofs.Names.{Expected, IsStrictlyIncreasing, All, map, flat_map, if◌then◌else◌, nat_lt, Result, Ok, Err, IsErrAnd, get_or_append_left, map-append, common_steps, All-head, All-tail, All-nil, All-push, flat_map-append, System, Gps, Galileo, PlanValue, planned_of, civil_of, StationValues, Stamped, SatelliteRow, FileValue, time_stamped, IsFileValue, IsPlan, IsStamped, IsSatelliteRow, AreSatelliteRows, IsTime, IsChange, AreChanges, IsFirstSame, changed_by, values_following, rank_of, most_rows, Epoch, Satellite, epoch_line, satellite_line, stamped_lines, change_lines, event_line, Progress, file_with, stamped, StartsAt, IsAt, IsBetween, IsInEvent, IsInEpoch, HasLinesLeft, epoch_after, begun_at, with_row, with_epoch, AreRead, IsBegun, IsEventExpected, IsSoundAt, IsSound, MayBegin, values_now, AreLinesAt, lines_of_header, whole_lines, part_lines, Added, Refusal, Memory, Bad, ParserState, History, FollowsHistory, GoesOnWithLine, ShowsLine, RefusesLine, TakesLine, progress_at, Known, NoRow, IsNext}
 
 -- a line was refused: memory ran out, or no file continues with it
 pub stopped : {Q : Refusal → Type 0} (old new : ParserState) (line : List ℕ) (r : Result Added Refusal) → IsErrAnd r Q → ((e : Refusal) → Q e → e ≡ Bad → (h : History) → FollowsHistory old h → RefusesLine (progress_at old h) line)
@@ -398,7 +398,18 @@ last_taken s line expected seen shown only v left on =
     let here : IsInEpoch (with_row s seen 0) 0 v left = (row_taken s 0 line expected seen shown only v left on).1 in
     (on.0, from_none (with_row s seen 0) v left here.more here.others here.count here.value here.starts here.rest)
 
--- ---- the counts
+-- ---- a line that adds nothing
 
-pub still_room : (c : ParserState) (n : ℕ) → HasRoom c n → HasRoom c (n + 1)
-still_room c n (epochs, rows, events) = (omega (arith, epochs), omega (arith, rows), omega (arith, events))
+-- the state with what a line changes that adds no satellite: the expected line, the header, and the epoch that it begins
+abbrev pub state_with : ParserState → Expected → Known → Option StationValues → ℕ → ParserState
+state_with c e k change t = record c { expected = e; head = k; change = change; time = t }
+
+pub goes_on : (c : ParserState) (h : History) (e : Expected) (k : Known) (change : Option StationValues) (t : ℕ) (line : List ℕ) → FollowsHistory c h
+    → IsSound (progress_at (state_with c e k change t) h) → GoesOnWithLine (progress_at c h) (progress_at (state_with c e k change t) h) line
+    → ShowsLine (progress_at c h) (progress_at (state_with c e k change t) h) line → IsNext c (state_with c e k change t) NoRow line h
+goes_on c h e k change t line history sound follows shows = record {
+  history = record { sound = sound; counted = history.counted };
+  follows = follows;
+  shows = shows;
+  room = λ n (epochs, rows, events). (omega (arith, epochs), omega (arith, rows), omega (arith, events));
+}

@@ -48,11 +48,8 @@ length-types_of [] = refl
 length-types_of (c ∷ cs) = ap (λ n. suc (suc (suc (suc n)))) (length-types_of cs) ∙ four_more (length cs)
 
 first_four : (c : List ℕ) (rest : List (List ℕ)) (r : ℕ) (e : List ℕ) → r < 4 → get_or (type_of 0 c ∷ type_of 1 c ∷ type_of 2 c ∷ type_of 3 c ∷ rest) r e ≡ type_of r c
-first_four c rest zero e h = refl
-first_four c rest (suc zero) e h = refl
-first_four c rest (suc (suc zero)) e h = refl
-first_four c rest (suc (suc (suc zero))) e h = refl
 first_four c rest (suc (suc (suc (suc r)))) e h = absurd (omega (arith, h))
+first_four c rest r e h = refl
 
 pub types_at : (cs : List (List ℕ)) (q r : ℕ) (d e : List ℕ) → q < length cs → r < 4 → get_or (types_of cs) (4 * q + r) e ≡ type_of r (get_or cs q d)
 types_at cs q r d e h k =

@@ -10,11 +10,8 @@ same_pair (a, b) t n e f = cc
 
 -- a number of at most three digits
 small : (n k : ℕ) → n ≤ 3 → k < 10 ^ n → k ≤ 999
-small zero k few less = omega (arith, less)
-small (suc zero) k few less = omega (arith, less)
-small (suc (suc zero)) k few less = omega (arith, less)
-small (suc (suc (suc zero))) k few less = omega (arith, less)
 small (suc (suc (suc (suc n)))) k few less = absurd (omega (arith, few))
+small n k few less = omega (arith, less)
 
 counted : (c : After-is_same) (t n : ℕ) → IsTime t → n ≤ 999 → c.args.line.now ≡ epoch_line (civil_of t) n → c.digits_in-count.result ≡ n
 counted c t n is few e =

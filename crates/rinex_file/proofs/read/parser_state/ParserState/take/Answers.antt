@@ -1,5 +1,5 @@
 use Rattle.std.proofs.Common.{◌≡◌, ◌<◌, ℕ, List, subst, sym, ◌∙◌, Err}
-use Rattle.rinex_file.proofs.BodySteps.{still_room, stopped}
+use Rattle.rinex_file.proofs.BodySteps.{goes_on, stopped}
 use Rattle.rinex_file.proofs.EventSteps.{event_taken, event_shows, sound_event, position_taken, position_shows, no_position, sound_position}
 use Rattle.rinex_file.proofs.HeaderBody.{no_header, header_taken, header_shows, header_ended, ended_shows, sound_start, sound_header}
 use Rattle.rinex_file.proofs.Names.{ParserState, NoRow, Expected, Header, Epoch, EventPosition, EventHeight, EventEpoch, Satellite, Refusal, History, FollowsHistory, IsNext, progress_at, Known, StepsTo, TakesHeaderLine}
@@ -19,25 +19,13 @@ headed : (c : ParserState) (h : History) (place : ℕ) (line : List ℕ) (k : Kn
 headed c h place line k (Header next) expected history goes =
     let s = progress_at c h in
     let (epochs, rows, here) = sound_header s place expected history.sound in
-    record {
-      history = record { sound = (epochs, rows, goes.at); counted = history.counted };
-      follows = header_taken s place line expected k next goes;
-      shows = header_shows s place line expected k next goes;
-      room = still_room c;
-    }
+    goes_on c h (Header next) k c.change c.time line history (epochs, rows, goes.at) (header_taken s place line expected k next goes) (header_shows s place line expected k next goes)
 headed c h place line k Epoch expected history end =
     let s = progress_at c h in
     let (epochs, rows, here) = sound_header s place expected history.sound in
-    record {
-      history = record { sound = (sound_start s k end.is epochs, rows); counted = history.counted };
-      follows = header_ended s place line expected k epochs here end;
-      shows = ended_shows s place line expected k epochs here end;
-      room = still_room c;
-    }
-headed c h place line k EventPosition expected history goes = absurd goes
-headed c h place line k (EventHeight p) expected history goes = absurd goes
-headed c h place line k (EventEpoch v) expected history goes = absurd goes
-headed c h place line k (Satellite n) expected history goes = absurd goes
+    goes_on c h Epoch k c.change c.time line history (sound_start s k end.is epochs, rows) (header_ended s place line expected k epochs here end)
+    (ended_shows s place line expected k epochs here end)
+headed c h place line k other expected history goes = absurd goes
 
 pub returns-in_ok-self-in-Header : goal.returns-in_ok-self-in-Header
 returns-in_ok-self-in-Header c = λ h history. headed c.args.self.now h c.in-Header.place c.args.line.now c.take.new.self _ c.in-Header.is history c.in_ok-self-in-Header.ensures
@@ -46,12 +34,9 @@ pub returns-in-Epoch : goal.returns-in-Epoch
 returns-in-Epoch c = λ h history.
     let s = progress_at c.args.self.now h in
     let (some, shown) = c.begins_event.ensures.0 c.if-begins_event.true in
-    record {
-      history = record { sound = sound_event s c.in-Epoch.is history.sound (subst (λ (n : ℕ). 0 < n) history.counted.epochs some); counted = history.counted };
-      follows = event_taken s c.args.line.now c.in-Epoch.is shown;
-      shows = event_shows s c.args.line.now c.in-Epoch.is shown;
-      room = still_room c.args.self.now;
-    }
+    goes_on c.args.self.now h EventPosition c.args.self.now.head c.args.self.now.change c.args.self.now.time c.args.line.now history
+    (sound_event s c.in-Epoch.is history.sound (subst (λ (n : ℕ). 0 < n) history.counted.epochs some)) (event_taken s c.args.line.now c.in-Epoch.is shown)
+    (event_shows s c.args.line.now c.in-Epoch.is shown)
 
 pub returns-in-None : goal.returns-in-None
 returns-in-None c = λ h history. no_position (progress_at c.args.self.now h) c.args.line.now c.in-EventPosition.is c.in-None.ensures
@@ -61,9 +46,5 @@ returns-in-Some c = λ h history.
     let s = progress_at c.args.self.now h in
     let p = c.in-Some.position in
     let (is, shown, only) = c.in-Some.ensures in
-    record {
-      history = record { sound = sound_position s p c.in-EventPosition.is history.sound is; counted = history.counted };
-      follows = position_taken s p c.args.line.now c.in-EventPosition.is only;
-      shows = position_shows s p c.args.line.now c.in-EventPosition.is shown;
-      room = still_room c.args.self.now;
-    }
+    goes_on c.args.self.now h (EventHeight p) c.args.self.now.head c.args.self.now.change c.args.self.now.time c.args.line.now history
+    (sound_position s p c.in-EventPosition.is history.sound is) (position_taken s p c.args.line.now c.in-EventPosition.is only) (position_shows s p c.args.line.now c.in-EventPosition.is shown)

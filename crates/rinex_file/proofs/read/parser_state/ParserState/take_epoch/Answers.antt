@@ -1,7 +1,7 @@
 use Rattle.std.proofs.Common.{◌<◌, ◌≤◌, ℕ, subst, sym}
-use Rattle.rinex_file.proofs.BodySteps.{Begins, still_room, epoch_taken, epoch_shows, few_satellites, no_epoch, sound_begun, sound_epoch}
+use Rattle.rinex_file.proofs.BodySteps.{Begins, goes_on, epoch_taken, epoch_shows, few_satellites, no_epoch, sound_begun, sound_epoch}
 use Rattle.rinex_file.proofs.Judged.{refused}
-use Rattle.rinex_file.proofs.Names.{IsTime, progress_at, Progress, MayBegin}
+use Rattle.rinex_file.proofs.Names.{IsTime, progress_at, Progress, MayBegin, Satellite}
 use Rattle.rinex_file.proofs.read.parser_state.ParserState.take_epoch.Goals as goal
 
 pub may_begin-requires : goal.may_begin-requires
@@ -32,10 +32,7 @@ returns-in-Some c = λ h history.
     let time = c.in-Some.begun.0 in
     let n = c.in-Some.begun.1 in
     let may = (c.may_begin.ensures h history).0 c.if-may_begin.true in
-    record {
-      history = record { sound = sound_begun s c.args.change time n read rows may is.0 change same; counted = history.counted };
-      follows = epoch_taken s c.args.change time n c.args.line.now rows shown (λ w begins. only w (fits s w begins)) c.requires.expected
-          (λ none both. c.requires.event none (subst (λ (k : ℕ). 0 < k) (sym history.counted.epochs) both.0, both.1));
-      shows = epoch_shows s c.args.change time n c.args.line.now c.requires.expected rows shown;
-      room = still_room c.args.self.now;
-    }
+    goes_on c.args.self.now h (Satellite n) c.args.self.now.head c.args.change time c.args.line.now history (sound_begun s c.args.change time n read rows may is.0 change same)
+    (epoch_taken s c.args.change time n c.args.line.now rows shown (λ w begins. only w (fits s w begins)) c.requires.expected
+        (λ none both. c.requires.event none (subst (λ (k : ℕ). 0 < k) (sym history.counted.epochs) both.0, both.1)))
+    (epoch_shows s c.args.change time n c.args.line.now c.requires.expected rows shown)

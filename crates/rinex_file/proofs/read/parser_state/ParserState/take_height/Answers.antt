@@ -1,6 +1,6 @@
 use Rattle.std.proofs.Common.{◌≡◌, ◌∙◌, sym, ap, subst, refl, ℕ, List, Option, Some, None}
 use Rattle.rinex_file.proofs.Judged.{refused}
-use Rattle.rinex_file.proofs.BodySteps.{still_room}
+use Rattle.rinex_file.proofs.BodySteps.{goes_on}
 use Rattle.rinex_file.proofs.EventSteps.{height_taken, height_shows, no_height, same_height, sound_height}
 use Rattle.rinex_file.proofs.Names.{unwrap_or, StationValues, changed_by, ParserState, NoRow, Expected, EventEpoch, History, IsNext, progress_at}
 use Rattle.rinex_file.proofs.read.parser_state.ParserState.take_height.Goals as goal
@@ -36,12 +36,6 @@ returns c = λ h history.
     let (small, shown, only) = c.in-Some.ensures in
     let now = current _ c.args.self.now c.unwrap_or.result c.self.view_is c.unwrap_or.ensures ∙ history.counted.values c.args.self.now.head.shown.values in
     next_of _ c.args.self.now (EventEpoch (record p { height = height })) c.args.line.now h c.self.view_is
-    (record {
-      history = record {
-        sound = sound_height s p height c.requires.expected history.sound small (λ other. refused c.is_same.result _ c.is_same.ensures.exact c.if-is_same.false (other ∙ sym now));
-        counted = history.counted;
-      };
-      follows = height_taken s p c.args.line.now c.requires.expected height only;
-      shows = height_shows s p height c.args.line.now c.requires.expected shown;
-      room = still_room c.args.self.now;
-    })
+    (goes_on c.args.self.now h (EventEpoch (record p { height = height })) c.args.self.now.head c.args.self.now.change c.args.self.now.time c.args.line.now history
+    (sound_height s p height c.requires.expected history.sound small (λ other. refused c.is_same.result _ c.is_same.ensures.exact c.if-is_same.false (other ∙ sym now)))
+    (height_taken s p c.args.line.now c.requires.expected height only) (height_shows s p height c.args.line.now c.requires.expected shown))
