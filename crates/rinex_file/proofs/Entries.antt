@@ -1,6 +1,5 @@
 -- The columns of a satellite's signals, one after the other.
-use Rattle.std.proofs.Common.{lit≤, ◌≤◌, length}
-use Rattle.rinex_file.proofs.Names.{table, System, Gps, Galileo}
+use Rattle.rinex_file.proofs.Names.{lit≤, ◌≤◌, length, table, System, Gps, Galileo}
 pub use Rattle.std.proofs.lemmas.Grind.{flat_map-append}
 
 pub few_signals : (s : System) → length (table s) ≤ 19

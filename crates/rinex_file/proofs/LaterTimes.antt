@@ -1,6 +1,5 @@
 -- The times of epochs and of one more.
-use Rattle.std.proofs.Common.{arith, ◌≡◌, ◌∙◌, sym, ap, subst, refl, ℕ, ◌-◌, List, [], ◌∷◌, ◌++◌, Option, Some}
-use Rattle.rinex_file.proofs.Names.{min, unwrap_or, reduce, fold-append, min-eq_left, EpochTimes, steps_of, AreTimes}
+use Rattle.rinex_file.proofs.Names.{arith, ◌≡◌, ◌∙◌, sym, ap, subst, refl, ℕ, ◌-◌, List, [], ◌∷◌, ◌++◌, Option, Some, min, unwrap_or, reduce, fold-append, min-eq_left, EpochTimes, steps_of, AreTimes}
 
 smallest_more : (xs : List ℕ) (n : ℕ) → Some (min (unwrap_or (reduce min xs) n) n) ≡ reduce min (xs ++ n ∷ [])
 smallest_more [] n = ap Some (min-eq_left (omega arith))

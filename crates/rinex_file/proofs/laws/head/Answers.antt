@@ -1,6 +1,5 @@
-use Rattle.std.proofs.Common.{◌≡◌, ◌<◌, subst, ℕ, List, length, nat_eq}
 use Rattle.rinex_file.proofs.HeaderEnd.{listed_by}
-use Rattle.rinex_file.proofs.Names.{All, IsDistinct, System, Gps, Galileo, SignalAt, table, indices, IsOf, planned_of}
+use Rattle.rinex_file.proofs.Names.{◌≡◌, ◌<◌, subst, ℕ, List, length, nat_eq, All, IsDistinct, System, Gps, Galileo, SignalAt, table, indices, IsOf, planned_of}
 use Rattle.rinex_file.proofs.laws.head.Goals as goal
 
 -- these are the signals of a system

@@ -1,5 +1,4 @@
-use Rattle.std.proofs.Common.{refl}
-use Rattle.rinex_file.proofs.Names.{header_lines}
+use Rattle.rinex_file.proofs.Names.{refl, header_lines}
 use Rattle.rinex_file.proofs.header.head.header_lines.Goals as goal
 
 pub returns : goal.returns

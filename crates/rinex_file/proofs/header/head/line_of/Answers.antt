@@ -1,6 +1,5 @@
-use Rattle.std.proofs.Common.{arith, ◌≡◌, ◌∙◌, sym, ap, ℕ, [], ◌∷◌, length}
 use Rattle.rinex_file.proofs.HeaderAgree.{version_same}
-use Rattle.rinex_file.proofs.Names.{codes, nat_lt, not, ◌==◌, PlanValue, civil_of, row_line, header_line, version_line, version_with}
+use Rattle.rinex_file.proofs.Names.{arith, ◌≡◌, ◌∙◌, sym, ap, ℕ, [], ◌∷◌, length, codes, nat_lt, not, ◌==◌, PlanValue, civil_of, row_line, header_line, version_line, version_with}
 use Rattle.rinex_file.proofs.header.head.line_of.Goals as goal
 
 some_test : (n : ℕ) → nat_lt 0 n ≡ not (n == 0)

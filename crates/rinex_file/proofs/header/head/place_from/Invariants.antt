@@ -1,5 +1,4 @@
-use Rattle.std.proofs.Common.{◌≡◌}
-use Rattle.rinex_file.proofs.Names.{StationValues, Civil, HeaderLists, lines_from}
+use Rattle.rinex_file.proofs.Names.{◌≡◌, StationValues, Civil, HeaderLists, lines_from}
 use Rattle.rinex_file.proofs.header.head.place_from.Given as goal
 
 -- the lines from here on are those that were left

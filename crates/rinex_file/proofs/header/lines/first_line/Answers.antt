@@ -1,6 +1,5 @@
-use Rattle.std.proofs.Common.{◌∙◌, ap, ◌∷◌, [], refl, ◌*◌, decimal}
 use Rattle.rinex_file.proofs.Grown.{grown_whole}
-use Rattle.rinex_file.proofs.Names.{codes, pos, right, fixed, header_line, first_line}
+use Rattle.rinex_file.proofs.Names.{◌∙◌, ap, ◌∷◌, [], refl, ◌*◌, decimal, codes, pos, right, fixed, header_line, first_line}
 use Rattle.rinex_file.proofs.header.lines.first_line.Goals as goal
 
 pub returns : goal.returns

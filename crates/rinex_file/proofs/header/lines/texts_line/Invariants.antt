@@ -1,5 +1,4 @@
-use Rattle.std.proofs.Common.{◌≡◌, ◌≤◌, ◌+◌, ◌*◌, ◌++◌, length, take}
-use Rattle.rinex_file.proofs.Names.{flat_map, text_columns, fields_of, front_of}
+use Rattle.rinex_file.proofs.Names.{◌≡◌, ◌≤◌, ◌+◌, ◌*◌, ◌++◌, length, take, flat_map, text_columns, fields_of, front_of}
 use Rattle.rinex_file.proofs.header.lines.texts_line.Given as goal
 
 -- the texts so far are in the content

@@ -1,6 +1,5 @@
-use Rattle.std.proofs.Common.{rules, ◌≡◌, ◌∙◌, ap, ◌∷◌, ◌++◌, [], refl}
 use Rattle.rinex_file.proofs.Grown.{grown_whole}
-use Rattle.rinex_file.proofs.Names.{right, fixed, header_line}
+use Rattle.rinex_file.proofs.Names.{rules, ◌≡◌, ◌∙◌, ap, ◌∷◌, ◌++◌, [], refl, right, fixed, header_line}
 use Rattle.rinex_file.proofs.header.lines.three_lengths.Goals as goal
 
 pub returns : goal.returns

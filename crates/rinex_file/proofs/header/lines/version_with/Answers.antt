@@ -1,7 +1,6 @@
-use Rattle.std.proofs.Common.{arith, ◌≡◌, ◌∙◌, ap, ◌∷◌, ◌++◌, []}
 use Rattle.rinex_file.proofs.HeaderAgree.{letter_with}
 use Rattle.rinex_file.proofs.header.lines.version_with.Goals.{in-true-true, in-true-false, in-false-default}
-use Rattle.rinex_file.proofs.Names.{codes, digits, header_line}
+use Rattle.rinex_file.proofs.Names.{arith, ◌≡◌, ◌∙◌, ap, ◌∷◌, ◌++◌, [], codes, digits, header_line}
 use Rattle.rinex_file.proofs.header.lines.version_with.Goals as goal
 
 pub returns : goal.returns

@@ -1,6 +1,5 @@
-use Rattle.std.proofs.Common.{◌≡◌, ◌≤◌, ◌+◌, ◌-◌, ◌*◌, ◌++◌, length, take, drop}
 use Rattle.rinex_file.proofs.TypeRows.{columns}
-use Rattle.rinex_file.proofs.Names.{indices, types_of, codes_of}
+use Rattle.rinex_file.proofs.Names.{◌≡◌, ◌≤◌, ◌+◌, ◌-◌, ◌*◌, ◌++◌, length, take, drop, indices, types_of, codes_of}
 use Rattle.rinex_file.proofs.header.types.put_types.Given as goal
 
 -- the types so far are in the line

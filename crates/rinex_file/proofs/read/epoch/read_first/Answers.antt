@@ -1,6 +1,5 @@
-use Rattle.std.proofs.Common.{rules, ◌∙◌, sym, refl}
 use Rattle.rinex_file.proofs.Judged.{exactly}
-use Rattle.rinex_file.proofs.Names.{none-some, same_Some, civil_of, IsTime, first_line}
+use Rattle.rinex_file.proofs.Names.{rules, ◌∙◌, sym, refl, none-some, same_Some, civil_of, IsTime, first_line}
 use Rattle.rinex_file.proofs.read.epoch.read_first.Goals as goal
 
 pub returns-in_err-time : goal.returns-in_err-time

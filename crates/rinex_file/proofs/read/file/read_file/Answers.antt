@@ -1,8 +1,7 @@
-use Rattle.std.proofs.Common.{◌≡◌, Option, Some, None, IfSome}
 use Rattle.rinex_file.specs.declared.read.fault.ReadFault.TheVariants.{Memory}
 use Rattle.rinex_file.proofs.FileLines.{lines_are_lines, lines_are_short}
 use Rattle.rinex_file.proofs.LineByLine.{only_faults, no_reason, file_found, file_only, stored_whole, explains_memory}
-use Rattle.rinex_file.proofs.Names.{IfOk, IfErr, Result, Ok, Err, ok_or, ReadFault, ExplainsFault, IsReadOr, IsTextOf, file_text, FileValue}
+use Rattle.rinex_file.proofs.Names.{◌≡◌, Option, Some, None, IfSome, IfOk, IfErr, Result, Ok, Err, ok_or, ReadFault, ExplainsFault, IsReadOr, IsTextOf, file_text, FileValue}
 use Rattle.rinex_file.proofs.read.file.read_file.Goals as goal
 
 pub read_lines-requires-clause-read : goal.read_lines-requires-clause-read

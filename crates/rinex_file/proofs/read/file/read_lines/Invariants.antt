@@ -1,5 +1,4 @@
-use Rattle.std.proofs.Common.{◌≡◌, ◌-◌, ◌+◌}
-use Rattle.rinex_file.proofs.Names.{LeavesRest, History, most_lines, Stores, HasRead}
+use Rattle.rinex_file.proofs.Names.{◌≡◌, ◌-◌, ◌+◌, LeavesRest, History, most_lines, Stores, HasRead}
 use Rattle.rinex_file.proofs.read.file.read_lines.Given as goal
 
 -- a history was read of the input, and it is stored, if one is

@@ -1,5 +1,4 @@
-use Rattle.std.proofs.Common.{◌≡◌, ◌≤◌, ◌+◌, ◌*◌, length, drop}
-use Rattle.rinex_file.proofs.Names.{fields_of, front_of, texts_in}
+use Rattle.rinex_file.proofs.Names.{◌≡◌, ◌≤◌, ◌+◌, ◌*◌, length, drop, fields_of, front_of, texts_in}
 use Rattle.rinex_file.proofs.read.header_lines.read_texts.Given as goal
 
 -- the texts that are left are read after those so far

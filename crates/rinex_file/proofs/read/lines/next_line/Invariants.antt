@@ -1,5 +1,4 @@
-use Rattle.std.proofs.Common.{◌≡◌, ◌-◌, ◌≤◌, false, length}
-use Rattle.rinex_file.proofs.Names.{Consumes, prepend_known, LeavesRest, has}
+use Rattle.rinex_file.proofs.Names.{◌≡◌, ◌-◌, ◌≤◌, false, length, Consumes, prepend_known, LeavesRest, has}
 use Rattle.rinex_file.proofs.read.lines.next_line.Given as goal
 
 -- the bytes so far were consumed, no line feed is among them, and no read failed

@@ -1,5 +1,4 @@
-use Rattle.std.proofs.Common.{subst, inl, inr}
-use Rattle.rinex_file.proofs.Names.{Expected, IsExpectedAt}
+use Rattle.rinex_file.proofs.Names.{subst, inl, inr, Expected, IsExpectedAt}
 use Rattle.rinex_file.proofs.read.reading.fault_at.Goals as goal
 
 pub returns-in-Epoch-clause-faulty : goal.returns-in-Epoch-clause-faulty

@@ -1,6 +1,5 @@
-use Rattle.std.proofs.Common.{subst}
 use Rattle.rinex_file.proofs.LaterTimes.{times_more}
-use Rattle.rinex_file.proofs.Names.{AreTimesOrNone}
+use Rattle.rinex_file.proofs.Names.{subst, AreTimesOrNone}
 use Rattle.rinex_file.proofs.read.times.with_later.Goals as goal
 
 pub returns : goal.returns

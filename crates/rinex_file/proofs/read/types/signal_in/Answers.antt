@@ -1,6 +1,5 @@
-use Rattle.std.proofs.Common.{arith, ◌∙◌, sym, subst}
 use Rattle.rinex_file.proofs.TypeRows.{utf8-code, code_of_one}
-use Rattle.rinex_file.proofs.Names.{IsUtf8}
+use Rattle.rinex_file.proofs.Names.{arith, ◌∙◌, sym, subst, IsUtf8}
 use Rattle.rinex_file.proofs.read.types.signal_in.Goals as goal
 
 pub returns-in-Err-clause-read : goal.returns-in-Err-clause-read

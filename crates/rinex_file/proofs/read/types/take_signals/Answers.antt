@@ -1,8 +1,7 @@
-use Rattle.std.proofs.Common.{arith, ◌≡◌, ◌∙◌, ap, refl, subst, ℕ, List, [], ◌∷◌, ◌++◌, length-append, length, take, min, ◌+◌, ◌*◌, ◌<◌, ◌≤◌}
 use Rattle.rinex_file.proofs.Entries.{few_signals}
 use Rattle.rinex_file.proofs.Judged.{at_some}
 use Rattle.rinex_file.proofs.TypeRows.{still_grows, not_read, taken_more, taken_before}
-use Rattle.rinex_file.proofs.Names.{Ok, take_at, take_min, common_steps, System, SignalAt, IsSignal, table, indices, IsAdded, IsOf}
+use Rattle.rinex_file.proofs.Names.{arith, ◌≡◌, ◌∙◌, ap, refl, subst, ℕ, List, [], ◌∷◌, ◌++◌, length-append, length, take, min, ◌+◌, ◌*◌, ◌<◌, ◌≤◌, Ok, take_at, take_min, common_steps, System, SignalAt, IsSignal, table, indices, IsAdded, IsOf}
 use Rattle.rinex_file.proofs.read.types.take_signals.Goals as goal
 
 -- the index of the signal is below that of the first one of the next line, and there are that many

@@ -1,6 +1,5 @@
-use Rattle.std.proofs.Common.{ℕ, List, ◌≡◌, ◌≤◌, length, take}
 use Rattle.rinex_file.specs.Read.HeaderSteps.{AreBegun}
-use Rattle.rinex_file.proofs.Names.{indices, IsOf, AreTypes, types_line, signals_begun}
+use Rattle.rinex_file.proofs.Names.{ℕ, List, ◌≡◌, ◌≤◌, length, take, indices, IsOf, AreTypes, types_line, signals_begun}
 use Rattle.rinex_file.proofs.read.types.take_signals.Given as goal
 
 -- if the line is that of these signals, those so far were appended

@@ -1,7 +1,6 @@
-use Rattle.std.proofs.Common.{arith, ◌≡◌, ◌∙◌, sym, ap, ◌∷◌, ◌+◌, ◌<◌, ℕ, suc, List, length}
 use Rattle.rinex_file.proofs.HeaderAgree.{line_next}
 use Rattle.rinex_file.proofs.header.head.HeaderLinesIterator.next.Goals.{After-line_of}
-use Rattle.rinex_file.proofs.Names.{civil_of, lines_from, row_line, row_at}
+use Rattle.rinex_file.proofs.Names.{arith, ◌≡◌, ◌∙◌, sym, ap, ◌∷◌, ◌+◌, ◌<◌, ℕ, suc, List, length, civil_of, lines_from, row_line, row_at}
 use Rattle.rinex_file.proofs.header.head.HeaderLinesIterator.next.Goals as goal
 
 pub returns-in_err-place-clause-steps : goal.returns-in_err-place-clause-steps

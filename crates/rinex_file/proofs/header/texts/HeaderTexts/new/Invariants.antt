@@ -1,6 +1,5 @@
-use Rattle.std.proofs.Common.{◌≡◌, drop, length, None}
 use Rattle.rinex_file.proofs.HeaderText.{AreCut}
-use Rattle.rinex_file.proofs.Names.{fields, first_fault, text_count, lists_of}
+use Rattle.rinex_file.proofs.Names.{◌≡◌, drop, length, None, fields, first_fault, text_count, lists_of}
 use Rattle.rinex_file.proofs.header.texts.HeaderTexts.new.Given as goal
 
 -- no text so far has a fault, and each was stored

@@ -1,7 +1,6 @@
-use Rattle.std.proofs.Common.{arith, ◌≡◌, ◌∙◌, sym, ap, ap₂, ◌≤◌, ◌++◌, length, set, take, map, length-take}
 use Rattle.rinex_file.proofs.HeaderText.{set_text, cut_text}
 use Rattle.rinex_file.proofs.header.texts.HeaderTexts.set.Goals.{After-put}
-use Rattle.rinex_file.proofs.Names.{map-set, trimmed, place_of, width_of}
+use Rattle.rinex_file.proofs.Names.{arith, ◌≡◌, ◌∙◌, sym, ap, ap₂, ◌≤◌, ◌++◌, length, set, take, map, length-take, map-set, trimmed, place_of, width_of}
 use Rattle.rinex_file.proofs.header.texts.HeaderTexts.set.Goals as goal
 
 kept : (c : After-put) → c.put.new.line.items ≡ trimmed c.args.text.now

@@ -1,7 +1,6 @@
-use Rattle.std.proofs.Common.{arith, ◌≡◌, ap, subst, sym}
 use Rattle.rinex_file.proofs.Judged.{at_some}
 use Rattle.rinex_file.proofs.HeaderEnd.{begins, none_read, zero_time, zero_values}
-use Rattle.rinex_file.proofs.Names.{Gps, Galileo, indices, AreValues}
+use Rattle.rinex_file.proofs.Names.{arith, ◌≡◌, ap, subst, sym, Gps, Galileo, indices, AreValues}
 use Rattle.rinex_file.proofs.read.head_so_far.HeadSoFar.new.Goals as goal
 
 pub returns : goal.returns

@@ -1,6 +1,5 @@
-use Rattle.std.proofs.Common.{arith, ◌≡◌, ◌∙◌, sym, ap, subst, suc, ◌+◌, false}
 use Rattle.rinex_file.proofs.HeaderSteps.{skipped, same_on}
-use Rattle.rinex_file.proofs.Names.{row_at, known_line, SameFrom}
+use Rattle.rinex_file.proofs.Names.{arith, ◌≡◌, ◌∙◌, sym, ap, subst, suc, ◌+◌, false, row_at, known_line, SameFrom}
 use Rattle.rinex_file.proofs.read.head_so_far.HeadSoFar.place_from.Goals as goal
 
 pub loop-place-preserved : goal.loop-place-preserved

@@ -1,5 +1,4 @@
-use Rattle.std.proofs.Common.{◌-◌}
-use Rattle.rinex_file.proofs.Names.{row_count, SameFrom}
+use Rattle.rinex_file.proofs.Names.{◌-◌, row_count, SameFrom}
 use Rattle.rinex_file.proofs.read.head_so_far.HeadSoFar.place_from.Given as goal
 
 -- no row so far has a line

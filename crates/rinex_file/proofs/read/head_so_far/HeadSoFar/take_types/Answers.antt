@@ -1,5 +1,4 @@
-use Rattle.std.proofs.Common.{arith}
-use Rattle.rinex_file.proofs.Names.{common_steps}
+use Rattle.rinex_file.proofs.Names.{arith, common_steps}
 use Rattle.rinex_file.proofs.read.head_so_far.HeadSoFar.take_types.Goals as goal
 
 pub take-requires-clause-begun : goal.take-requires-clause-begun

@@ -1,6 +1,5 @@
-use Rattle.std.proofs.Common.{arith, ◌≡◌, ◌∙◌, sym, ap, ℕ, ◌+◌, ◌≤◌, take, length, subst, List, [], ◌∷◌, ◌++◌, Option, Some}
 use Rattle.rinex_file.proofs.LineByLine.{no_feed}
-use Rattle.rinex_file.proofs.Names.{min, min-le_left, eqb-true, take_more, take-take, length-take-le, IsFirstByte, is_byte, IsLine}
+use Rattle.rinex_file.proofs.Names.{arith, ◌≡◌, ◌∙◌, sym, ap, ℕ, ◌+◌, ◌≤◌, take, length, subst, List, [], ◌∷◌, ◌++◌, Option, Some, min, min-le_left, eqb-true, take_more, take-take, length-take-le, IsFirstByte, is_byte, IsLine}
 use Rattle.rinex_file.proofs.read.lines.Block.line_size.Goals as goal
 
 -- the bytes up to the first line feed

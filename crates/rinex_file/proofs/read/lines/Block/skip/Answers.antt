@@ -1,6 +1,5 @@
-use Rattle.std.proofs.Common.{arith, ◌≡◌, ◌∙◌, sym, ap, ℕ, List, length, ◌≤◌, take, drop}
 use Rattle.rinex_file.proofs.LineByLine.{left_ahead}
-use Rattle.rinex_file.proofs.Names.{min-le_left, length-take}
+use Rattle.rinex_file.proofs.Names.{arith, ◌≡◌, ◌∙◌, sym, ap, ℕ, List, length, ◌≤◌, take, drop, min-le_left, length-take}
 use Rattle.rinex_file.proofs.read.lines.Block.skip.Goals as goal
 
 few : (n count : ℕ) (xs now : List ℕ) → take n xs ≡ now → count ≤ length now → count ≤ n

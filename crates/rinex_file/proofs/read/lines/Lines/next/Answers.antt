@@ -1,6 +1,5 @@
-use Rattle.std.proofs.Common.{arith, ◌≡◌, ◌∙◌, sym, ap, ℕ, zero, suc, ◌<◌, List, Option, take, drop}
 use Rattle.rinex_file.proofs.LineByLine.{ahead_moved, leaves_all}
-use Rattle.rinex_file.proofs.Names.{Consumes, prepend_known, take-append-drop, LeavesRest, LinesRead, last_line}
+use Rattle.rinex_file.proofs.Names.{arith, ◌≡◌, ◌∙◌, sym, ap, ℕ, zero, suc, ◌<◌, List, Option, take, drop, Consumes, prepend_known, take-append-drop, LeavesRest, LinesRead, last_line}
 use Rattle.rinex_file.proofs.read.lines.Lines.next.Goals as goal
 
 -- the first bytes of the block are consumed

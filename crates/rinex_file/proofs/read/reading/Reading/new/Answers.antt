@@ -1,6 +1,5 @@
-use Rattle.std.proofs.Common.{arith, ◌≡◌, refl, ap, List, ℕ, [], ◌++◌, Option, Some, None}
 use Rattle.rinex_file.proofs.LineByLine.{start}
-use Rattle.rinex_file.proofs.Names.{prepend_known}
+use Rattle.rinex_file.proofs.Names.{arith, ◌≡◌, refl, ap, List, ℕ, [], ◌++◌, Option, Some, None, prepend_known}
 use Rattle.rinex_file.proofs.read.reading.Reading.new.Goals as goal
 
 -- nothing was read ahead

@@ -1,10 +1,9 @@
-use Rattle.std.proofs.Common.{refl, ◌≡◌, ◌∙◌, sym, ap, subst, ℕ, List, ◌^◌, ◌+◌, ◌<◌, ◌≤◌, length, Err, arith}
 use Rattle.rinex_file.proofs.FileLines.{lines_are_lines}
 use Rattle.rinex_file.proofs.Judged.{refused as judged}
 use Rattle.rinex_file.proofs.HeaderBody.{unfinished, file_shown, only_file, file_read, sound_rows, begun, expected_at}
 use Rattle.rinex_file.proofs.LineByLine.{one_more, refused, over_long, cut, whole, both_said, too_long, line_some, is_empty, not_empty}
 use Rattle.rinex_file.proofs.read.reading.Reading.next.Goals.{then-self-eq-MOST_LINES+else-not-is_empty, else-self-eq-MOST_LINES}
-use Rattle.rinex_file.proofs.Names.{Refusal, GoesOnWithLine, ShowsLine, RefusesLine, TakesLine, progress_at, with_line}
+use Rattle.rinex_file.proofs.Names.{refl, ◌≡◌, ◌∙◌, sym, ap, subst, ℕ, List, ◌^◌, ◌+◌, ◌<◌, ◌≤◌, length, Err, arith, Refusal, GoesOnWithLine, ShowsLine, RefusesLine, TakesLine, progress_at, with_line}
 use Rattle.rinex_file.proofs.read.reading.Reading.next.Goals as goal
 
 few_lines : (lines taken : List (List ℕ)) (n : ℕ) → lines ≡ taken → length taken ≡ n → n ≤ 2 ^ 32 → length lines ≤ 2 ^ 32
