@@ -60,6 +60,16 @@ values_more v (e ∷ es) x = values_more (changed_by v e.change) es x
 first_more : (es : List Stamped) (x : Stamped) → IsFirstSame es → (es ≡ [] → x.change ≡ None) → IsFirstSame (es ++ x ∷ [])
 first_more v0 x h k = grind arith
 
+-- ---- a file that continues with these lines
+
+pub file_value : (s : Progress) (v : FileValue) (left : List (List ℕ)) → HasLinesLeft s v left → IsFileValue v
+unfolding HasLinesLeft
+file_value s v left on = on.0
+
+pub at_expected : (s : Progress) (d : Expected) → s.expected ≡ d → (v : FileValue) (left : List (List ℕ)) → HasLinesLeft s v left → IsAt s d v left
+unfolding HasLinesLeft
+at_expected s d expected v left on = subst (λ d. IsAt s d v left) expected on.1
+
 -- ---- the line of an epoch
 
 -- an epoch after this change, at this time, with these satellites

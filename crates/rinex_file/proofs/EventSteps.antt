@@ -1,7 +1,7 @@
 -- The steps of a reading from one line of an event to the next.
 use Rattle.rinex_file.proofs.Digits.{has-append}
-use Rattle.rinex_file.proofs.BodySteps.{lines_with, lines_are, changes_midst, sound_between}
-use Rattle.rinex_file.proofs.Names.{arith, lit<, ◌≡◌, ◌≢◌, ℕ, zero, suc, ◌<◌, ◌^◌, ◌-◌, ◌*◌, ◌/◌, ◌%◌, unsigned_abs, ℤ, pos, get_or, List, [], ◌∷◌, ◌++◌, refl, sym, ap, subst, ◌∙◌, length, drop, append_assoc, replicate, decimal, Option, Some, None, true, false, ⊤, ◌||◌, flat_map, is_negative, sign_text, civil_of, Civil, StationValues, Expected, Epoch, EventPosition, EventHeight, EventEpoch, Stamped, FileValue, IsFileValue, AreValues, IsChange, position_line, height_line, delta_line, epoch_fields, epoch_line, joined, padded, fixed, has, stamped_lines, event_line, whole_lines, GoesOnWithLine, ShowsLine, Progress, file_with, StartsAt, IsAt, IsBetween, IsInEvent, IsPosition, position_of, HasLinesLeft, expected_next, IsSound, AreLinesAt, values_now}
+use Rattle.rinex_file.proofs.BodySteps.{lines_with, lines_are, changes_midst, sound_between, at_expected, file_value, cons_parts}
+use Rattle.rinex_file.proofs.Names.{arith, lit<, ◌≡◌, ◌≢◌, ℕ, zero, suc, ◌<◌, ◌^◌, ◌-◌, ◌*◌, ◌/◌, ◌%◌, unsigned_abs, ℤ, pos, get_or, List, [], ◌∷◌, ◌++◌, refl, sym, ap, subst, ◌∙◌, length, drop, append_assoc, replicate, decimal, Option, Some, None, true, false, ⊤, ◌||◌, flat_map, is_negative, sign_text, civil_of, Civil, StationValues, Expected, Epoch, EventPosition, EventHeight, EventEpoch, Stamped, FileValue, IsFileValue, AreValues, IsChange, position_line, height_line, delta_line, epoch_fields, epoch_line, joined, padded, fixed, has, stamped_lines, event_line, whole_lines, GoesOnWithLine, ShowsLine, Progress, file_with, StartsAt, IsAt, IsBetween, IsInEvent, IsPosition, position_of, HasLinesLeft, expected_next, IsSound, AreLinesAt, values_now, drop-cons}
 
 -- ---- an event's line isn't that of an epoch, which has a point
 
@@ -86,29 +86,35 @@ values_in_range : (s : Progress) (v : FileValue) (e : Stamped) (others : List St
     → IsChange (values_now s) (Some w)
 values_in_range s v e others w is value change = grind (arith, changes_midst)
 
+-- what follows if `k` lines of an event were accepted and the next one is the position, the height or the epoch's
+record EventNext (s : Progress) (d : Expected) (k : ℕ) (P : StationValues → Type 0) (v : FileValue) (line : List ℕ) (left : List (List ℕ)) : Type 0 where
+  pub event : IsInEvent (expected_next s d) (suc k) P v left
+  pub shown : line ≡ get_or (lines_with (Some event.values) event.next) k []
+  pub change : IsChange (values_now s) (Some event.values)
+
+event_next : (s : Progress) (d : Expected) (k : ℕ) (P : StationValues → Type 0) (v : FileValue) (line : List ℕ) (left : List (List ℕ)) → k < 4 → IsFileValue v
+    → IsInEvent s k P v (line ∷ left) → EventNext s d k P v line left
+event_next s d k P v line left few is here =
+    let all = lines_with (Some here.values) here.next in
+    let lines = lines_are here.next (Some here.values) here.change in
+    let text : line ∷ left ≡ (get_or all k [] ∷ drop (suc k) all) ++ Others here.others =
+    here.rest ∙ ap (λ l. drop k l ++ Others here.others) lines ∙ ap (λ l. l ++ Others here.others) (drop-cons all k [] (omega (arith, few))) in
+    let (first, rest) = cons_parts line (get_or all k []) left (drop (suc k) all ++ Others here.others) text in
+    record {
+      event = event_with s d k (suc k) P P v (line ∷ left) left here here.shown (rest ∙ ap (λ l. drop (suc k) l ++ Others here.others) (sym lines));
+      shown = first;
+      change = values_in_range s v here.next here.others here.values is here.value here.change;
+    }
+
 -- ---- the position
 
--- what follows if the position of an event is next
-record PositionNext (s : Progress) (d : Expected) (v : FileValue) (line : List ℕ) (left : List (List ℕ)) : Type 0 where
-  pub event : IsInEvent (expected_next s d) 2 (λ w. line ≡ position_line w) v left
-  pub are : AreValues event.values
-
-position_next : (s : Progress) (d : Expected) (v : FileValue) (line : List ℕ) (left : List (List ℕ)) → s.expected ≡ EventPosition → HasLinesLeft s v (line ∷ left) → PositionNext s d v line left
-unfolding HasLinesLeft
-position_next s d v line left expected (is, at) =
-    let here : IsInEvent s 1 (λ w. ⊤) v (line ∷ left) = subst (λ d. IsAt s d v (line ∷ left)) expected at in
-    let lines = lines_are here.next (Some here.values) here.change in
-    let text : line ∷ left ≡ drop 1 (lines_with (Some here.values) here.next) ++ Others here.others = here.rest ∙ ap (λ l. drop 1 l ++ Others here.others) lines in
-    let after : left ≡ drop 2 (lines_with (Some here.values) here.next) ++ Others here.others = ap (drop 1) text in
-    record {
-      event = event_with s d 1 2 (λ w. ⊤) (λ w. line ≡ position_line w) v (line ∷ left) left here (cc) (after ∙ ap (λ l. drop 2 l ++ Others here.others) (sym lines));
-      are = (values_in_range s v here.next here.others here.values is here.value here.change).0;
-    }
+position_next : (s : Progress) (d : Expected) (v : FileValue) (line : List ℕ) (left : List (List ℕ)) → s.expected ≡ EventPosition → HasLinesLeft s v (line ∷ left) → EventNext s d 1 (λ w. ⊤) v line left
+position_next s d v line left expected on = event_next s d 1 (λ w. ⊤) v line left (lit< tt) (file_value s v (line ∷ left) on) (at_expected s EventPosition expected v (line ∷ left) on)
 
 pub no_position : (s : Progress) (line : List ℕ) → s.expected ≡ EventPosition → ((p : StationValues) → IsPosition p → line ≡ position_line p → ⊥) → (v : FileValue) (left : List (List ℕ)) → HasLinesLeft s v (line ∷ left) → ⊥
 no_position s line expected none v left on =
     let next = position_next s EventPosition v line left expected on in
-    none (position_of next.event.values) (next.are.x, next.are.y, next.are.z, refl) next.event.shown
+    none (position_of next.event.values) (let are = next.change.0 in (are.x, are.y, are.z, refl)) next.shown
 
 pub position_taken : (s : Progress) (p : StationValues) (line : List ℕ) → s.expected ≡ EventPosition → ((q : StationValues) → IsPosition q → line ≡ position_line q → q ≡ p)
     → GoesOnWithLine s (expected_next s (EventHeight p)) line
@@ -118,8 +124,8 @@ position_taken s p line expected only v left on =
     let next = position_next s d v line left expected on in
     let here = next.event in (
       on.0,
-      event_with (expected_next s d) d 2 2 (λ w. line ≡ position_line w) (λ w. position_of w ≡ p) v left left here
-          (only (position_of here.values) (next.are.x, next.are.y, next.are.z, refl) here.shown) here.rest,
+      event_with (expected_next s d) d 2 2 (λ w. ⊤) (λ w. position_of w ≡ p) v left left here
+          (only (position_of here.values) (let are = next.change.0 in (are.x, are.y, are.z, refl)) next.shown) here.rest,
     )
 
 pub position_shows : (s : Progress) (p : StationValues) (line : List ℕ) → s.expected ≡ EventPosition → line ≡ position_line p → ShowsLine s (expected_next s (EventHeight p)) line
@@ -137,42 +143,28 @@ SameValues v w = v ≡ w
 same_with : (w p : StationValues) (h : ℕ) → position_of w ≡ p → w.height ≡ h → SameValues w (with_height p h)
 same_with w p h a b = ap (λ q. with_height q w.height) a ∙ ap (with_height p) b
 
-record HeightNext (s : Progress) (d : Expected) (p : StationValues) (v : FileValue) (text : List ℕ) (left : List (List ℕ)) : Type 0 where
-  pub event : IsInEvent (expected_next s d) 3 (λ w. position_of w ≡ p) v left
-  pub line : text ≡ delta_line event.values
-  pub are : AreValues event.values
-  pub other : event.values ≢ values_now s
+abbrev HeightNext : Progress → Expected → StationValues → FileValue → List ℕ → List (List ℕ) → Type 0
+HeightNext s d p v line left = EventNext s d 2 (λ w. position_of w ≡ p) v line left
 
 height_next : (s : Progress) (d : Expected) (p : StationValues) (v : FileValue) (line : List ℕ) (left : List (List ℕ)) → s.expected ≡ EventHeight p → HasLinesLeft s v (line ∷ left) → HeightNext s d p v line left
-unfolding HasLinesLeft
-height_next s d p v line left expected (is, at) =
-    let here : IsInEvent s 2 (λ w. position_of w ≡ p) v (line ∷ left) = subst (λ d. IsAt s d v (line ∷ left)) expected at in
-    let lines = lines_are here.next (Some here.values) here.change in
-    let text : line ∷ left ≡ drop 2 (lines_with (Some here.values) here.next) ++ Others here.others = here.rest ∙ ap (λ l. drop 2 l ++ Others here.others) lines in
-    let after : left ≡ drop 3 (lines_with (Some here.values) here.next) ++ Others here.others = ap (drop 1) text in
-    let given = values_in_range s v here.next here.others here.values is here.value here.change in
-    record {
-      event = event_with s d 2 3 (λ w. position_of w ≡ p) (λ w. position_of w ≡ p) v (line ∷ left) left here here.shown (after ∙ ap (λ l. drop 3 l ++ Others here.others) (sym lines));
-      line = cc;
-      are = given.0;
-      other = given.1;
-    }
+height_next s d p v line left expected on =
+    event_next s d 2 (λ w. position_of w ≡ p) v line left (lit< tt) (file_value s v (line ∷ left) on) (at_expected s (EventHeight p) expected v (line ∷ left) on)
 
 module _ (s : Progress) (p : StationValues) (line : List ℕ) (expected : s.expected ≡ EventHeight p) where
   pub no_height : ((h : ℕ) → h < 2 ^ 16 → line ≡ height_line h → ⊥) → (v : FileValue) (left : List (List ℕ)) → HasLinesLeft s v (line ∷ left) → ⊥
   no_height none v left on =
       let next = height_next s (EventHeight p) p v line left expected on in
-      none next.event.values.height next.are.height next.line
+      none next.event.values.height next.change.0.height next.shown
 
   module _ (h : ℕ) (only : (k : ℕ) → k < 2 ^ 16 → line ≡ height_line k → k ≡ h) where
     same_next : (d : Expected) (v : FileValue) (left : List (List ℕ)) (next : HeightNext s d p v line left) → SameValues next.event.values (with_height p h)
-    same_next d v left next = same_with next.event.values p h next.event.shown (only next.event.values.height next.are.height next.line)
+    same_next d v left next = same_with next.event.values p h next.event.shown (only next.event.values.height next.change.0.height next.shown)
 
     -- the station values are those before
     pub same_height : with_height p h ≡ values_now s → (v : FileValue) (left : List (List ℕ)) → HasLinesLeft s v (line ∷ left) → ⊥
     same_height same v left on =
         let next = height_next s (EventHeight p) p v line left expected on in
-        next.other (same_next (EventHeight p) v left next ∙ same)
+        next.change.1 (same_next (EventHeight p) v left next ∙ same)
 
     pub height_taken : GoesOnWithLine s (expected_next s (EventEpoch (with_height p h))) line
     unfolding HasLinesLeft

@@ -3,7 +3,7 @@ use Rattle.rinex_file.proofs.HeaderAgree.{some_after, split_at, agreed}
 use Rattle.rinex_file.proofs.HeaderSteps.{some_plan, with_is}
 use Rattle.rinex_file.proofs.HeaderEnd.{zero_values, same_header}
 use Rattle.rinex_file.proofs.LineByLine.{consumed}
-use Rattle.rinex_file.proofs.BodySteps.{lines_with, lines_are, sound_open, sound_between}
+use Rattle.rinex_file.proofs.BodySteps.{lines_with, lines_are, sound_open, sound_between, at_expected, file_value}
 use Rattle.rinex_file.proofs.Names.{arith, ◌≡◌, ◌∙◌, sym, ap, refl, ℕ, zero, suc, ◌+◌, ◌<◌, pos, List, [], ◌∷◌, ◌++◌, length, Option, IfSome, lit<, subst, take, drop, append-nil, append_assoc, None, Some, ⊤, map, flat_map, All-head, All-nil, length-map, nil_from_length, StationValues, civil_of, ParserState, Expected, Header, Epoch, EventPosition, EventHeight, EventEpoch, Satellite, IsChange, IsFileValue, AreBegun, IsEventBegun, lines_of_header, whole_lines, AreBefore, IsExpectedAt, Progress, IsPosition, shown_with, lines_after, stamped, Known, Shown, IsShown, IsHeadAt, lines_before, file_with, StartsAt, IsInHeader, IsAt, IsBetween, IsInEvent, position_of, IsInEpoch, HasLinesLeft, IsSound, IsSoundAt, IsEventExpected, AreLinesAt, values_now, AreRead, AreLinesOf, History, FollowsHistory, progress_at, GoesOnWithLine, ShowsLine, IsTaken, SatelliteRow, Stamped, FileValue, header_lines, row_count, satellite_line, event_lines, stamped_lines, file_lines, lines_of_parts, GoesTo, EndsHeader, NoneGoesOn}
 
 some_lines : (xs : List (List ℕ)) → (xs ≡ [] → ⊥) → 0 < length xs
@@ -91,8 +91,7 @@ known_as s k expected = record { expected = expected; known = k; epochs = s.epoc
 
 -- what holds if a line of the header is expected
 in_header : (s : Progress) (place : ℕ) (v : FileValue) (left : List (List ℕ)) → s.expected ≡ Header place → HasLinesLeft s v left → IsFileValue v × IsInHeader s place v left
-unfolding HasLinesLeft
-in_header s place v left expected (is, at) = (is, subst (λ d. IsAt s d v left) expected at)
+in_header s place v left expected on = (file_value s v left on, at_expected s (Header place) expected v left on)
 
 -- a file has an epoch, and the header of its time
 record Begins (v : FileValue) : Type 0 where
@@ -222,10 +221,6 @@ pub only_file : (s : Progress) → s.expected ≡ Epoch → (v : FileValue) → 
 unfolding HasLinesLeft
 only_file s expected v (is, at) = grind (arith, none_left, append-nil)
 
-file_value : (s : Progress) (v : FileValue) (left : List (List ℕ)) → HasLinesLeft s v left → IsFileValue v
-unfolding HasLinesLeft
-file_value s v left on = on.0
-
 pub no_file : (s : Progress) → s.expected ≡ Epoch → s.epochs ≡ [] → (v : FileValue) → HasLinesLeft s v [] → ⊥
 no_file s expected none v on = grind (arith, only_file, file_value)
 
@@ -245,10 +240,6 @@ file_shown s taken expected sound some are =
 
 no_epochs : (es : List Stamped) (n : ℕ) → n ≡ length es → (0 < n → ⊥) → es ≡ []
 no_epochs es n size never = nil_from_length es (omega (arith, size, never))
-
-at_expected : (s : Progress) (d : Expected) → s.expected ≡ d → (v : FileValue) (left : List (List ℕ)) → HasLinesLeft s v left → IsAt s d v left
-unfolding HasLinesLeft
-at_expected s d expected v left on = subst (λ d. IsAt s d v left) expected on.1
 
 unfinished_at : (c : ParserState) (h : History) (expected : Expected) → c.expected ≡ expected → FollowsHistory c h → ((expected ≡ Epoch) × (0 < c.counts.epochs) → ⊥) → (v : FileValue) → HasLinesLeft (progress_at c h) v [] → ⊥
 unfinished_at c h (Header place) same history never v on = header_unfinished (progress_at c h) place same history.sound v on
