@@ -1,5 +1,5 @@
 use Rattle.rinex_file.proofs.HeaderAgree.{line_none}
-use Rattle.rinex_file.proofs.Names.{arith, ◌≡◌, ◌∙◌, ◌+◌, ap, sym, suc, false, flat_map, drop_all, row_at, row_lines, has_line, all_rows, lines_from}
+use Rattle.rinex_file.proofs.Names.{arith, ◌≡◌, ◌∙◌, ◌+◌, ap, sym, suc, false, row_at, has_line, lines_from}
 use Rattle.rinex_file.proofs.header.head.place_from.Goals as goal
 
 pub loop-place-preserved : goal.loop-place-preserved

@@ -1,6 +1,6 @@
 use Rattle.rinex_file.specs.declared.read.lines.Found.TheVariants.{End}
-use Rattle.rinex_file.proofs.LineByLine.{is_full, not_nil, consumed_none, moved_taken, line_whole, still_endless, longer, leaves_all, leaves_more}
-use Rattle.rinex_file.proofs.Names.{arith, ◌≡◌, ◌∙◌, sym, refl, subst, ℕ, ◌-◌, ◌≤◌, ◌<◌, [], Bool, false, nat_eq, List, length, Option, Consumes-nil, HasFailed, Found, Line, Long, Failed, IsFound, has, MovesBytes}
+use Rattle.rinex_file.proofs.LineByLine.{not_nil, consumed_none, moved_taken, line_whole, still_endless, leaves_more}
+use Rattle.rinex_file.proofs.Names.{arith, ◌≡◌, ◌∙◌, refl, subst, ℕ, ◌-◌, ◌≤◌, ◌<◌, [], Bool, false, nat_eq, List, length, Option, HasFailed, Found, Line, Long, Failed, IsFound, has, MovesBytes}
 use Rattle.rinex_file.proofs.read.lines.next_line.Goals as goal
 
 -- what was found in the place of more bytes is found after those so far

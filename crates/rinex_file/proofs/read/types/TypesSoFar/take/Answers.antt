@@ -1,7 +1,7 @@
 use Rattle.rinex_file.proofs.HeaderRead.{row_taken}
 use Rattle.rinex_file.proofs.Judged.{at_some, refused}
 use Rattle.rinex_file.proofs.TypeRows.{shown_line}
-use Rattle.rinex_file.proofs.Names.{◌≡◌, ◌∙◌, sym, ap, ℕ, None, Some, Result, Err, err_from_is_err_and, indices, none-some, same_Some}
+use Rattle.rinex_file.proofs.Names.{◌≡◌, ◌∙◌, sym, ap, Result, Err, err_from_is_err_and, indices, none-some, same_Some}
 use Rattle.rinex_file.proofs.read.types.TypesSoFar.take.Goals as goal
 
 same_refusal : {A E : Type 0} (r : Result A E) (x y : E) → r ≡ Err x → r ≡ Err y → x ≡ y
