@@ -1,18 +1,31 @@
 -- Digits of a number as columns, with blanks or zeros before them.
 use Rattle.std.proofs.Common.{arith, ◌≡◌, ◌∙◌, sym, ap, ap₂, refl, ℕ, zero, suc, ◌+◌, ◌-◌, ◌*◌, ◌/◌, ◌%◌, ◌^◌, ◌<◌, ◌≤◌, List, [], ◌∷◌, ◌++◌, map, length, drop, replicate, get_or, append_assoc, append-nil, length-append, inl, inr}
-use Rattle.rinex_file.proofs.Names.{cases_lt, pow-suc, decimal_digit, decimal_step, replicate_next, padded, digits_onto, leading, spaced}
+use Rattle.rinex_file.proofs.Names.{Bool, cases_lt, pow-suc, decimal_digit, decimal_step, replicate_next, padded, digits_onto, empty_column, leading}
+
+-- digits as columns, without leading zeros
+abbrev pub spaced : Bool → List ℕ → List ℕ
+spaced negative [] = []
+spaced negative (zero ∷ ds) = empty_column (leading ds) negative ∷ spaced negative ds
+spaced negative (suc d ∷ ds) = map (λ x. 48 + x) (suc d ∷ ds)
+
+-- the columns before the first digit
+abbrev pub empty_columns : Bool → ℕ → List ℕ
+empty_columns negative zero = []
+empty_columns negative (suc n) = empty_column n negative ∷ empty_columns negative n
 
 -- digits that are those of a number after zeros
-abbrev pub IsSpaced : List ℕ → ℕ → List ℕ → Type 0
-IsSpaced ds z text = (spaced ds ≡ replicate z 32 ++ text) × (leading ds ≡ z)
+abbrev pub IsSpaced : Bool → List ℕ → ℕ → List ℕ → Type 0
+IsSpaced b ds z text = (spaced b ds ≡ empty_columns b z ++ text) × (leading ds ≡ z)
 
-pub spaced_is : (ds : List ℕ) (z : ℕ) (text : List ℕ) → map (λ x. 48 + x) ds ≡ replicate z 48 ++ text → 48 < get_or text 0 0 → IsSpaced ds z text
-spaced_is [] zero text e h = absurd (let none : get_or text 0 0 ≡ 0 = ap (λ l. get_or l 0 0) (sym e) in omega (arith, h, none))
-spaced_is [] (suc z) text e h = cc
-spaced_is (zero ∷ ds) zero text e h = absurd (let low : get_or text 0 0 ≡ 48 = ap (λ l. get_or l 0 0) (sym e) in omega (arith, h, low))
-spaced_is (suc d ∷ ds) zero text e h = (e, refl)
-spaced_is (zero ∷ ds) (suc z) text e h = grind (arith, (ap (drop 1) e), (spaced_is ds z text (ap (drop 1) e) h))
-spaced_is (suc d ∷ ds) (suc z) text e h = absurd (let low : 48 + suc d ≡ 48 = ap (λ l. get_or l 0 0) e in omega (arith, low))
+pub spaced_is : (b : Bool) (ds : List ℕ) (z : ℕ) (text : List ℕ) → map (λ x. 48 + x) ds ≡ replicate z 48 ++ text → 48 < get_or text 0 0 → IsSpaced b ds z text
+spaced_is b [] zero text e h = absurd (let none : get_or text 0 0 ≡ 0 = ap (λ l. get_or l 0 0) (sym e) in omega (arith, h, none))
+spaced_is b [] (suc z) text e h = cc
+spaced_is b (zero ∷ ds) zero text e h = absurd (let low : get_or text 0 0 ≡ 48 = ap (λ l. get_or l 0 0) (sym e) in omega (arith, h, low))
+spaced_is b (suc d ∷ ds) zero text e h = (e, refl)
+spaced_is b (zero ∷ ds) (suc z) text e h =
+    let (columns, zeros) = spaced_is b ds z text (ap (drop 1) e) h in
+    (ap₂ (λ n l. empty_column n b ∷ l) zeros columns, ap suc zeros)
+spaced_is b (suc d ∷ ds) (suc z) text e h = absurd (let low : 48 + suc d ≡ 48 = ap (λ l. get_or l 0 0) e in omega (arith, low))
 
 -- ---- a number with leading zeros, digit by digit
 

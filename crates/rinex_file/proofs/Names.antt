@@ -49,7 +49,7 @@ pub use Rattle.rinex_file.specs.Texts.{HeaderLists, fault_of, fields, fields_of,
 pub use Rattle.rinex_file.specs.TextsOf.{lists_of}
 pub use Rattle.rinex_file.specs.Times.{AreTimes, AreTimesOrNone, steps_of}
 pub use Rattle.rinex_file.specs.Value.{FileValue, Row, SatelliteRow, SignalValues, Stamped, all_stamped, change_from, entries_of, is_of_key, no_signal_values, numbers, row_among, row_in_epoch, row_of, rows_of, satellite_row, signal_values_at, signal_values_of, stamped_after, stamped_of, written_satellites}
-pub use Rattle.rinex_file.specs.Words.{AreBelow, AreWithin, digit_columns, digits_onto, field_row, field_row_with, leading, spaced, template, twos_of}
+pub use Rattle.rinex_file.specs.Words.{AreBelow, AreWithin, blanks, digit_columns, digits_onto, empty_column, has_minus, leading, template, twos_of}
 pub use Rattle.rinex_file.specs.declared.header.fault.HeadFault.{HeadFault}
 pub use Rattle.rinex_file.specs.declared.header.fields.HeaderField.{HeaderField}
 pub use Rattle.rinex_file.specs.declared.header.fields.HeaderField.TheVariants.{AntType}
@@ -64,7 +64,7 @@ pub use Rattle.rinex_file.specs.declared.read.expected.Refusal.{Refusal}
 pub use Rattle.rinex_file.specs.declared.read.expected.Refusal.TheVariants.{Bad, Memory}
 pub use Rattle.rinex_file.specs.declared.read.fault.ReadFault.{ReadFault}
 pub use Rattle.rinex_file.specs.declared.read.fault.ReadFault.TheVariants.{BadEpoch, BadEvent, BadHeader, BadSatellite, CutShort, Read, TooLong}
-pub use Rattle.rinex_file.specs.declared.read.fields.TheConstants.{LIMITS, SIZES}
+pub use Rattle.rinex_file.specs.declared.read.fields.TheConstants.{LIMITS}
 pub use Rattle.rinex_file.specs.declared.read.file.FileBuilder.{FileBuilder}
 pub use Rattle.rinex_file.specs.declared.read.file.FileSummary.{FileSummary}
 pub use Rattle.rinex_file.specs.declared.read.lines.Found.{Found}

@@ -1,6 +1,6 @@
--- Eight columns as a number, the first in its lowest byte.
-use Rattle.std.specs.Prelude.{⊤, ℕ, zero, suc, ◌+◌, ◌*◌, ◌/◌, ◌%◌, ◌<◌, ◌≤◌, ◌==◌, List, [], ◌∷◌, map, slice_index}
-use Rattle.std.specs.Prelude.{if◌then◌else◌}
+-- The columns of a value as digits, and as a template to which these are added.
+use Rattle.std.specs.Prelude.{⊤, ℕ, zero, suc, ◌+◌, ◌*◌, ◌/◌, ◌%◌, ◌<◌, ◌≤◌, ◌==◌, List, [], ◌∷◌, slice_index}
+use Rattle.std.specs.Prelude.{Bool, true}
 use Rattle.std.specs.List.{prefix_len}
 
 -- the k + 1 digits of a number before other digits
@@ -14,32 +14,29 @@ leading [] = 0
 leading (zero ∷ ds) = suc (leading ds)
 leading (suc d ∷ ds) = 0
 
--- digits as columns, with blanks for leading zeros
-abbrev pub spaced : List ℕ → List ℕ
-spaced [] = []
-spaced (zero ∷ ds) = 32 ∷ spaced ds
-spaced (suc d ∷ ds) = map (λ x. 48 + x) (suc d ∷ ds)
+-- the column before this number of others without a digit: a minus before the first digit if there is one, or a blank
+abbrev pub empty_column : ℕ → Bool → ℕ
+empty_column zero true = 45
+empty_column others negative = 32
 
 -- each is less than n
 abbrev pub AreBelow : ℕ → List ℕ → Type 0
 AreBelow n [] = ⊤
 AreBelow n (b ∷ bs) = (b < n) × AreBelow n bs
 
--- a field without its digits: the first `empty` of n columns are blank, then those of the last digit, of a point and of
--- thousandths, LLI and SSI
-abbrev pub template : ℕ → ℕ → List ℕ
-template zero empty = 48 ∷ 46 ∷ 48 ∷ 48 ∷ 48 ∷ 32 ∷ 32 ∷ []
-template (suc n) zero = 48 ∷ template n zero
-template (suc n) (suc empty) = 32 ∷ template n empty
+-- a field without its digits: of the first n columns this number is without a digit, then come those of the last digit, of
+-- a point and of thousandths, LLI and SSI
+abbrev pub template : Bool → ℕ → ℕ → List ℕ
+template negative zero empty = 48 ∷ 46 ∷ 48 ∷ 48 ∷ 48 ∷ 32 ∷ 32 ∷ []
+template negative (suc n) zero = 48 ∷ template negative n zero
+template negative (suc n) (suc empty) = empty_column empty negative ∷ template negative n empty
 
--- the row of columns among the templates: the number of blanks before the first other column, and 16 more if that is
--- a minus
-abbrev pub field_row_with : ℕ → ℕ → ℕ
-field_row_with empty first = if first == 45 then empty + 16 else empty
+-- the number of blanks before the first other column, and whether that is a minus
+abbrev pub blanks : List ℕ → ℕ
+blanks columns = prefix_len (λ b. b == 32) columns
 
-abbrev pub field_row : List ℕ → ℕ
-field_row columns =
-    let empty = prefix_len (λ b. b == 32) columns in field_row_with empty (slice_index columns empty)
+abbrev pub has_minus : List ℕ → Bool
+has_minus columns = slice_index columns (blanks columns) == 45
 
 -- no number is more than the limit at its place
 abbrev pub AreWithin : List ℕ → List ℕ → Type 0

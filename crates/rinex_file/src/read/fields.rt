@@ -1,74 +1,20 @@
 //! The value in the columns of a field, judged by lanes: the columns are those in which it is
 //! written, or nothing is read.
-ghost use Rattle.std.specs.Prelude.{◌≡◌, ◌↔◌, ◌+◌, ◌-◌, ◌*◌, ◌/◌, ◌%◌, ◌^◌, ◌≤◌, ◌<◌, ◌==◌};
-ghost use Rattle.std.specs.List.{prefix_len};
+ghost use Rattle.std.specs.Prelude.{◌≡◌, ◌↔◌, ◌+◌, ◌^◌, ◌≤◌, ◌<◌, if◌then◌else◌};
 ghost use Rattle.std.specs.Prelude.{length, take, drop, replicate, slice_index, IfSome, IsTrue, Some};
 ghost use Rattle.rinex_file.specs.FileValues.{FitsColumns};
 ghost use Rattle.rinex_file.specs.Lines.{field};
 ghost use Rattle.rinex_file.specs.Read.Fields.{ReadsExactly};
 ghost use Rattle.rinex_file.specs.Words.{AreBelow, AreWithin, digit_columns};
-ghost use Rattle.rinex_file.specs.Words.{field_row, field_row_with, twos_of};
+ghost use Rattle.rinex_file.specs.Words.{blanks, has_minus, twos_of};
 
 use crate::read::numbers::signed;
-use crate::write::lanes::template_in;
+use crate::write::lanes::{template, zeros};
 use gnss_obs::Thousandths;
 use std::simd::prelude::*;
 
-/// The least size in thousandths of a value in each row of the templates, and the one after the
-/// largest.
-static SIZES: [[u64; 2]; 32] = [
-    [1_000_000_000_000, 10_000_000_000_000],
-    [100_000_000_000, 1_000_000_000_000],
-    [10_000_000_000, 100_000_000_000],
-    [1_000_000_000, 10_000_000_000],
-    [100_000_000, 1_000_000_000],
-    [10_000_000, 100_000_000],
-    [1_000_000, 10_000_000],
-    [100_000, 1_000_000],
-    [10_000, 100_000],
-    [0, 10_000],
-    [0, 0],
-    [0, 0],
-    [0, 0],
-    [0, 0],
-    [0, 0],
-    [0, 0],
-    [100_000_000_000, 1_000_000_000_000],
-    [10_000_000_000, 100_000_000_000],
-    [1_000_000_000, 10_000_000_000],
-    [100_000_000, 1_000_000_000],
-    [10_000_000, 100_000_000],
-    [1_000_000, 10_000_000],
-    [100_000, 1_000_000],
-    [10_000, 100_000],
-    [1, 10_000],
-    [0, 0],
-    [0, 0],
-    [0, 0],
-    [0, 0],
-    [0, 0],
-    [0, 0],
-    [0, 0],
-];
-
 /// The largest digit in each column of a value. The last two columns have none.
 const LIMITS: [u8; 16] = [9, 9, 9, 9, 9, 9, 9, 9, 9, 9, 0, 9, 9, 9, 255, 255];
-
-/// Returns the least size in thousandths of this row, and the one after the largest.
-#[inline(always)]
-fn sizes_in(row: usize) -> [u64; 2]
-    requires { row < 32 }
-    ensures least { row ≤ 8 → slice_index result 0 ≡ 10 ^ (12 - row) }
-    ensures end { row ≤ 9 → slice_index result 1 ≡ 10 ^ (13 - row) }
-    ensures zero { row ≡ 9 → slice_index result 0 ≡ 0 }
-    ensures none { 10 ≤ row → row < 16 → slice_index result 1 ≡ 0 }
-    ensures signed_least { 16 ≤ row → row ≤ 23 → slice_index result 0 ≡ 10 ^ (27 - row) }
-    ensures signed_end { 16 ≤ row → row ≤ 24 → slice_index result 1 ≡ 10 ^ (28 - row) }
-    ensures some { row ≡ 24 → slice_index result 0 ≡ 1 }
-    ensures signed_none { 25 ≤ row → row ≤ 31 → slice_index result 1 ≡ 0 }
-{
-    SIZES[row]
-}
 
 /// Returns whether no number is more than the largest digit of its column.
 #[inline(always)]
@@ -122,33 +68,33 @@ fn size_of(digits: u8x16) -> u64
 }
 
 /// Returns the value whose columns these are, with the LLI and SSI columns that they have, or None
-/// if they are those of no value. The row is that of the columns.
+/// if they are those of no value. Its first digit is in column `start`.
 #[inline(always)]
-fn value_in_row(columns: u8x16, row: usize) -> Option<Thousandths>
-    requires few { row < 32 }
-    requires row { row ≡ field_row columns }
+fn value_in(columns: u8x16, start: usize, negative: bool) -> Option<Thousandths>
+    requires few { start ≤ 10 }
+    requires sign { negative ≡ has_minus columns }
+    requires start { start ≡ (if negative then blanks columns + 1 else blanks columns) }
     ensures { ReadsExactly FitsColumns (λ v. field (Some v) (slice_index columns 14) (slice_index columns 15))
         columns result }
 {
-    let digits = columns - template_in(row);
+    let digits = columns - template(start, negative);
     if !are_digits(digits) {
         return None;
     }
+    if zeros(digits) != start {
+        return None;
+    }
     let size = size_of(digits);
-    let [least, end] = sizes_in(row);
-    if size < least {
+    if negative && size == 0 {
         return None;
     }
-    if size >= end {
-        return None;
-    }
-    Some(Thousandths::new(signed(size, row >= 16)))
+    Some(Thousandths::new(signed(size, negative)))
 }
 
 /// Returns the number of blanks before the first other column.
 #[inline(always)]
 fn blanks_in(columns: u8x16) -> usize
-    ensures count { result ≡ prefix_len (λ b. b == 32) columns }
+    ensures count { result ≡ blanks columns }
     ensures most { result ≤ 16 }
 {
     let written = columns.simd_ne(u8x16::splat(b' ')).to_bitmask();
@@ -168,15 +114,6 @@ pub(crate) fn is_blank_at(text: &[u8], at: usize) -> bool
     blanks_in(u8x16::from_slice(&text[at..at + 16])) == 16
 }
 
-/// Returns the row of columns with this number of blanks before the first other one.
-#[inline(always)]
-fn row_from(empty: usize, first: u8) -> usize
-    requires { empty < 16 }
-    ensures { result ≡ field_row_with empty first }
-{
-    if first == b'-' { empty + 16 } else { empty }
-}
-
 /// Returns the value of the field in these columns, with these LLI and SSI columns if there is a
 /// value, or None if they are not as they are written.
 #[inline(always)]
@@ -192,8 +129,8 @@ pub(crate) fn field_in(
 {
     let columns = u8x16::from_slice(&text[at..at + 16]);
     let empty = blanks_in(columns);
-    if empty == 16 {
-        return Some(None);
+    if empty > 9 {
+        return if empty == 16 { Some(None) } else { None };
     }
     if text[at + 14] != lost {
         return None;
@@ -201,7 +138,9 @@ pub(crate) fn field_in(
     if text[at + 15] != strength {
         return None;
     }
-    match value_in_row(columns, row_from(empty, text[at + empty])) {
+    let negative = text[at + empty] == b'-';
+    let start = if negative { empty + 1 } else { empty };
+    match value_in(columns, start, negative) {
         Some(value) => Some(Some(value)),
         None => None,
     }

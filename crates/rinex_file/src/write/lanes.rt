@@ -1,17 +1,17 @@
 //! The columns of a value, all at once: a lane for each column of its field.
-ghost use Rattle.std.specs.Prelude.{◌≡◌, ◌+◌, ◌*◌, ◌/◌, ◌%◌, ◌^◌, ◌≤◌, ◌<◌, ◌++◌, [], ◌∷◌, ◌-◌, length, take, set};
-ghost use Rattle.std.specs.Prelude.{slice_index, true, false, replicate, decimal, unsigned_abs, Some, ℕ};
+ghost use Rattle.std.specs.Prelude.{◌≡◌, ◌/◌, ◌%◌, ◌^◌, ◌≤◌, ◌<◌, [], ◌∷◌, length, take};
+ghost use Rattle.std.specs.Prelude.{slice_index, true, false, unsigned_abs, Some, ℤ};
+ghost use Rattle.std.specs.Int.{is_negative};
 ghost use Rattle.rinex_file.specs.FileValues.{FitsColumns};
 ghost use Rattle.rinex_file.specs.Lines.{field};
-ghost use Rattle.rinex_file.specs.Numbers.{padded};
 ghost use Rattle.rinex_file.specs.Words.{digit_columns, leading, template};
 
 use std::simd::prelude::*;
 
-/// The columns to which the digits of a value are added, for each number of blanks before it: those
-/// of a value that isn't negative, then, from row 16 on, those of one that is. No value has the
-/// other rows, but a reader finds a row for any columns.
-static TEMPLATES: [[u8; 16]; 32] = [
+/// The columns to which the digits of a value are added, for each number of columns before its first
+/// digit: those of a value that isn't negative, then, from row 10 on, those of one that is. No value
+/// has the last row, but a reader finds it.
+static TEMPLATES: [[u8; 16]; 20] = [
     *b"0000000000.000  ",
     *b" 000000000.000  ",
     *b"  00000000.000  ",
@@ -22,12 +22,6 @@ static TEMPLATES: [[u8; 16]; 32] = [
     *b"       000.000  ",
     *b"        00.000  ",
     *b"         0.000  ",
-    *b"0000000000.000  ",
-    *b"0000000000.000  ",
-    *b"0000000000.000  ",
-    *b"0000000000.000  ",
-    *b"0000000000.000  ",
-    *b"0000000000.000  ",
     *b"-000000000.000  ",
     *b" -00000000.000  ",
     *b"  -0000000.000  ",
@@ -37,13 +31,7 @@ static TEMPLATES: [[u8; 16]; 32] = [
     *b"      -000.000  ",
     *b"       -00.000  ",
     *b"        -0.000  ",
-    *b"0000000000.000  ",
-    *b"0000000000.000  ",
-    *b"0000000000.000  ",
-    *b"0000000000.000  ",
-    *b"0000000000.000  ",
-    *b"0000000000.000  ",
-    *b"0000000000.000  ",
+    *b"         -.000  ",
 ];
 
 /// Zero for each digit that may be a leading zero. No digit is equal to the others.
@@ -130,7 +118,7 @@ fn digits_of_two(first: u32, second: u32) -> (u8x16, u8x16)
 
 /// Returns the number of leading zeros among the first nine digits.
 #[inline(always)]
-fn zeros(digits: u8x16) -> usize
+pub(crate) fn zeros(digits: u8x16) -> usize
     requires { slice_index digits 9 < 10 }
     ensures { result ≡ leading (take 9 digits) }
 {
@@ -140,26 +128,15 @@ fn zeros(digits: u8x16) -> usize
         .trailing_zeros() as usize
 }
 
-/// Returns the columns of this row of the templates.
+/// Returns the columns to which the digits of a value are added, of which the first is in column
+/// `start`.
 #[inline(always)]
-pub(crate) fn template_in(row: usize) -> u8x16
-    requires { row < 32 }
-    ensures lanes { row ≤ 24 → length result ≡ 16 }
-    ensures plain { row ≤ 9 → result ≡ template 9 row }
-    ensures signed { 16 ≤ row → row ≤ 24 → result ≡ set (template 9 (row - 15)) (row - 16) 45 }
-{
-    u8x16::from_array(TEMPLATES[row])
-}
-
-/// Returns the columns to which the digits of a value are added.
-#[inline(always)]
-fn template(start: usize, negative: bool) -> u8x16
-    requires { start ≤ 9 }
+pub(crate) fn template(start: usize, negative: bool) -> u8x16
+    requires { start ≤ 10 }
     ensures lanes { length result ≡ 16 }
-    ensures plain { negative ≡ false → result ≡ template 9 start }
-    ensures signed { negative ≡ true → 1 ≤ start → result ≡ set (template 9 start) (start - 1) 45 }
+    ensures text { start ≤ 9 → (negative ≡ true → 1 ≤ start) → result ≡ template negative 9 start }
 {
-    template_in(if negative { start + 15 } else { start })
+    u8x16::from_array(TEMPLATES[if negative { start + 9 } else { start }])
 }
 
 /// Returns the columns of a value with these digits: blanks, a minus if it is negative, its whole
@@ -168,13 +145,8 @@ fn template(start: usize, negative: bool) -> u8x16
 fn columns_with(digits: u8x16, negative: bool) -> u8x16
     requires { slice_index digits 9 < 10 }
     ensures lanes { length result ≡ 16 }
-    ensures plain { negative ≡ false → (size : ℕ) → size < 10 ^ 13 → digits ≡ digit_columns size 0 0
-        → result ≡ replicate (10 - length (decimal (size / 1000))) 32
-        ++ (decimal (size / 1000) ++ (46 ∷ padded 3 (size % 1000) ++ 32 ∷ 32 ∷ [])) }
-    ensures signed { negative ≡ true → (size : ℕ) → size < 10 ^ 12 → digits ≡ digit_columns size 0 0
-        → result ≡ set (replicate (10 - length (decimal (size / 1000))) 32
-        ++ (decimal (size / 1000) ++ (46 ∷ padded 3 (size % 1000) ++ 32 ∷ 32 ∷ [])))
-        (10 - length (decimal (size / 1000)) - 1) 45 }
+    ensures text { (v : ℤ) → FitsColumns v → is_negative v ≡ negative → digits ≡ digit_columns (unsigned_abs v) 0 0
+        → result ≡ field (Some v) 32 32 }
 {
     digits + template(zeros(digits), negative)
 }

@@ -1,7 +1,7 @@
 use Rattle.std.proofs.Common.{◌∙◌, ap}
 use Rattle.rinex_file.proofs.FieldLanes.{lanes_are, sixteen_long}
-use Rattle.rinex_file.proofs.FieldRows.{blanks, sixteen_blank}
-use Rattle.rinex_file.proofs.Names.{eqb-true}
+use Rattle.rinex_file.proofs.FieldRows.{sixteen_blank}
+use Rattle.rinex_file.proofs.Names.{blanks, eqb-true}
 use Rattle.rinex_file.proofs.read.fields.is_blank_at.Goals as goal
 
 pub returns : goal.returns
