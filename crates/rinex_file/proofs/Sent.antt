@@ -155,3 +155,5 @@ only_fault Q (Err e) h = h
 pub fails_after : {A E T : Type 0} (Q : E → Type 0) (r : Result A E) (a b c : Device T) → IsErrAnd r Q → b.failures ≡ a.failures → b.widest ≡ a.widest
     → HasFailed b.failures c.failures → c.widest ≡ b.widest → FailsWith r a c
 fails_after Q r a b c h fine wide more wider = (where_failed r _ (subst (λ n. HasFailed n c.failures) fine more), failed Q r _ h, wider ∙ wide)
+
+pub ruleset failures = (failed, only_fault, fails_after)

@@ -28,6 +28,7 @@ use std::io::Write;
 /// # Errors
 ///
 /// [`HeadFault::Write`] if the writer fails; the bytes written are then a prefix of the header.
+#[tactic(auto, using(crate::proofs::Sent::failures))]
 pub fn write_header<W: Write>(head: &Head, writer: &mut Counted<W>) -> Result<(), HeadFault>
     ensures whole { OnOk result
         (Appends (W.contents writer.old.inner) (W.contents writer.new.inner) (head_text head.now)) }
@@ -47,6 +48,7 @@ pub fn write_header<W: Write>(head: &Head, writer: &mut Counted<W>) -> Result<()
 /// # Errors
 ///
 /// [`HeadFault::Write`] if the writer fails; the bytes written are then a prefix of these lines.
+#[tactic(auto, using(crate::proofs::Sent::failures))]
 pub fn write_event<W: Write>(
     values: StationValues,
     writer: &mut Counted<W>,
@@ -65,6 +67,7 @@ pub fn write_event<W: Write>(
 }
 
 /// Writes the line of each satellite of a system that has a value.
+#[tactic(auto, using(crate::proofs::Sent::failures))]
 fn write_system<W: Write>(
     epoch: &Epoch,
     plan: &Plan,
@@ -99,6 +102,7 @@ fn write_system<W: Write>(
 /// # Errors
 ///
 /// [`HeadFault::Write`] if the writer fails; the bytes written are then a prefix of these lines.
+#[tactic(auto, using(crate::proofs::Sent::failures))]
 pub fn write_epoch<W: Write>(
     epoch: &Epoch,
     plan: &Plan,

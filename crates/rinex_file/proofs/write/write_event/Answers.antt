@@ -1,5 +1,5 @@
-use Rattle.std.proofs.Common.{◌∙◌, refl, subst}
-use Rattle.rinex_file.proofs.Sent.{event_first, event_second, event_third, event_whole, where_failed, failed, fails_after, only_fault}
+use Rattle.std.proofs.Common.{◌∙◌, subst}
+use Rattle.rinex_file.proofs.Sent.{event_first, event_second, event_third, event_whole, where_failed}
 use Rattle.rinex_file.proofs.Names.{Appends, AppendsPrefix}
 use Rattle.rinex_file.proofs.write.write_event.Goals as goal
 
@@ -42,39 +42,3 @@ returns-clause-whole g c =
     event_whole c.args.values a b d e (subst (λ l. Appends a b l) c.event_line.ensures c.in_ok-write_whole.ensures.whole)
     (subst (λ l. Appends b d l) (c.as_slice.ensures.value ∙ c.position_line.ensures) c.in_ok-write_whole-2.ensures.whole)
     (subst (λ l. Appends d e l) (c.as_slice-2.ensures.value ∙ c.delta_line.ensures) c.in_ok-write_whole-3.ensures.whole)
-
-pub returns-in_err-write_whole-clause-whole : goal.returns-in_err-write_whole-clause-whole
-returns-in_err-write_whole-clause-whole g c = failed _ c.from_residual.result _ c.from_residual.ensures.1
-
-pub returns-in_err-write_whole-clause-only : goal.returns-in_err-write_whole-clause-only
-returns-in_err-write_whole-clause-only g c = only_fault _ c.from_residual.result c.from_residual.ensures.1
-
-pub returns-in_err-write_whole-clause-device : goal.returns-in_err-write_whole-clause-device
-returns-in_err-write_whole-clause-device g c =
-    let device = c.in_err-write_whole.ensures.device in
-    fails_after _ c.from_residual.result c.args.writer.now c.args.writer.now c.write_whole.new.self c.from_residual.ensures.1 refl refl device.0 device.2
-
-pub returns-in_err-write_whole-2-clause-whole : goal.returns-in_err-write_whole-2-clause-whole
-returns-in_err-write_whole-2-clause-whole g c = failed _ c.from_residual-in_err-write_whole-2.result _ c.from_residual-in_err-write_whole-2.ensures.1
-
-pub returns-in_err-write_whole-2-clause-only : goal.returns-in_err-write_whole-2-clause-only
-returns-in_err-write_whole-2-clause-only g c = only_fault _ c.from_residual-in_err-write_whole-2.result c.from_residual-in_err-write_whole-2.ensures.1
-
-pub returns-in_err-write_whole-2-clause-device : goal.returns-in_err-write_whole-2-clause-device
-returns-in_err-write_whole-2-clause-device g c =
-    let device = c.in_err-write_whole-2.ensures.device in
-    fails_after _ c.from_residual-in_err-write_whole-2.result c.args.writer.now c.write_whole.new.self c.write_whole-2.new.self c.from_residual-in_err-write_whole-2.ensures.1 c.in_ok-write_whole.ensures.device.1 c.in_ok-write_whole.ensures.device.2 device.0 device.2
-
-pub returns-in_err-write_whole-3-clause-whole : goal.returns-in_err-write_whole-3-clause-whole
-returns-in_err-write_whole-3-clause-whole g c = failed _ c.from_residual-in_err-write_whole-3.result _ c.from_residual-in_err-write_whole-3.ensures.1
-
-pub returns-in_err-write_whole-3-clause-only : goal.returns-in_err-write_whole-3-clause-only
-returns-in_err-write_whole-3-clause-only g c = only_fault _ c.from_residual-in_err-write_whole-3.result c.from_residual-in_err-write_whole-3.ensures.1
-
-pub returns-in_err-write_whole-3-clause-device : goal.returns-in_err-write_whole-3-clause-device
-returns-in_err-write_whole-3-clause-device g c =
-    let device = c.in_err-write_whole-3.ensures.device in
-    fails_after _ c.from_residual-in_err-write_whole-3.result c.args.writer.now c.write_whole-2.new.self c.write_whole-3.new.self c.from_residual-in_err-write_whole-3.ensures.1 (c.in_ok-write_whole-2.ensures.device.1 ∙ c.in_ok-write_whole.ensures.device.1) (c.in_ok-write_whole-2.ensures.device.2 ∙ c.in_ok-write_whole.ensures.device.2) device.0 device.2
-
-pub returns-clause-device : goal.returns-clause-device
-returns-clause-device g c = (tt, c.in_ok-write_whole-3.ensures.device.1 ∙ c.in_ok-write_whole-2.ensures.device.1 ∙ c.in_ok-write_whole.ensures.device.1, c.in_ok-write_whole-3.ensures.device.2 ∙ c.in_ok-write_whole-2.ensures.device.2 ∙ c.in_ok-write_whole.ensures.device.2)

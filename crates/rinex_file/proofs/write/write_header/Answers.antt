@@ -1,5 +1,5 @@
 use Rattle.std.proofs.Common.{arith, ◌∙◌, sym, ap, subst, refl, [], ◌++◌, append_assoc, append-nil}
-use Rattle.rinex_file.proofs.Sent.{failed, fails_after, only_fault, part_after, where_failed}
+use Rattle.rinex_file.proofs.Sent.{part_after, where_failed}
 use Rattle.rinex_file.proofs.Names.{Appends, Appends-nil, Appends-trans, AppendsPrefix, joined, header_text}
 use Rattle.rinex_file.proofs.write.write_header.Goals as goal
 
@@ -39,22 +39,5 @@ returns-in_err-write_whole-clause-part g c =
     (part_after a b d (header_text h.texts.now h.plan.now h.values h.first) done line (joined c.next.new.self)
     (text ∙ ap (λ l. done ++ joined l) c.in-Some.ensures.steps) out (subst (λ l. AppendsPrefix b d l) c.as_slice.ensures.value c.in_err-write_whole.ensures.part))
 
-pub returns-in_err-write_whole-clause-device : goal.returns-in_err-write_whole-clause-device
-returns-in_err-write_whole-clause-device g c =
-    let (can, ends, done, fine, widest) = c.loop-line.invariant in
-    let device = c.in_err-write_whole.ensures.device in
-    fails_after _ c.from_residual.result c.args.writer.now c.loop-line.writer c.write_whole.new.self c.from_residual.ensures.1 fine widest device.0 device.2
-
 pub returns-clause-whole : goal.returns-clause-whole
 returns-clause-whole g c = grind (arith, append-nil)
-
-pub returns-in_err-write_whole-clause-whole : goal.returns-in_err-write_whole-clause-whole
-returns-in_err-write_whole-clause-whole g c = failed _ c.from_residual.result _ c.from_residual.ensures.1
-
-pub returns-in_err-write_whole-clause-only : goal.returns-in_err-write_whole-clause-only
-returns-in_err-write_whole-clause-only g c = only_fault _ c.from_residual.result c.from_residual.ensures.1
-
-pub returns-clause-device : goal.returns-clause-device
-returns-clause-device g c =
-    let (can, ends, done, fine, widest) = c.loop-line.invariant in
-    (tt, fine, widest)

@@ -1,7 +1,7 @@
 use Rattle.std.proofs.Common.{arith, ◌≡◌, ◌∙◌, sym, subst, refl, suc, ◌+◌, ◌≤◌, take, drop}
 use Rattle.rinex_file.proofs.SatelliteGroups.{further}
 use Rattle.rinex_file.proofs.Groups.{same_line}
-use Rattle.rinex_file.proofs.Sent.{no_lines, grown_lines, part_lines, where_failed, failed, fails_after, not_written, is_shown}
+use Rattle.rinex_file.proofs.Sent.{no_lines, grown_lines, part_lines, where_failed, not_written, is_shown}
 use Rattle.rinex_file.proofs.write.write_system.Goals.{then-is_written+in_ok-write_whole, else-is_written}
 use Rattle.rinex_file.proofs.Names.{◌-◌, Appends, Appends-nil, satellites, AppendsPrefix, cells_of, left_all, sorted_climbs}
 use Rattle.rinex_file.proofs.write.write_system.Goals as goal
@@ -63,15 +63,3 @@ returns-in_err-write_whole-clause-part g c =
     where_failed c.from_residual.result _
     (part_lines (contents c.args.writer.now.inner) b d c.args.plan.now c.args.epoch.now.epoch c.args.system n (n + 1)
     (satellites c.args.system) next within c.loop-before.invariant.out (subst (λ l. AppendsPrefix b d l) line (subst (λ l. AppendsPrefix b d l) (sym shown) (grind (arith, c.in_err-write_whole.ensures, c.put_satellite_line-size.ensures.text)))))
-
-pub returns-in_err-write_whole-clause-whole : goal.returns-in_err-write_whole-clause-whole
-returns-in_err-write_whole-clause-whole g c = failed _ c.from_residual.result _ c.from_residual.ensures.1
-
-pub returns-in_err-write_whole-clause-device : goal.returns-in_err-write_whole-clause-device
-returns-in_err-write_whole-clause-device g c =
-    let inv = c.loop-before.invariant in
-    let device = c.in_err-write_whole.ensures.device in
-    fails_after _ c.from_residual.result c.args.writer.now c.loop-before.writer c.write_whole.new.self c.from_residual.ensures.1 inv.fine inv.widest device.0 device.2
-
-pub returns-clause-device : goal.returns-clause-device
-returns-clause-device g c = (tt, c.loop-before.invariant.fine, c.loop-before.invariant.widest)

@@ -1,6 +1,5 @@
 use Rattle.std.proofs.Common.{◌∙◌, sym, ap, ◌++◌, append-nil, subst, All}
 use Rattle.rinex_file.proofs.KeptFile.{lines_have_room, all_written, one_more}
-use Rattle.rinex_file.proofs.Sent.{failed}
 use Rattle.rinex_file.proofs.Names.{Stamped, FileValue, header_text, HaveRowsRoom, stamped_text}
 use Rattle.rinex_file.proofs.write.file.write_file.Goals as goal
 
@@ -14,12 +13,6 @@ returns c =
     let (first, at, written) = c.loop-epoch.invariant in
     all_written _ c.args.file.now first c.as_slice-epochs.result.now c.args.text.now.inner.items _ c.loop-epoch.epoch-index c.file.view_is c.file.invariant.0 c.as_slice-epochs.ensures.value at
     c.loop-epoch-test.false written
-
-pub returns-in_err-write_header : goal.returns-in_err-write_header
-returns-in_err-write_header c = failed _ c.from_residual.result _ c.from_residual.ensures.1
-
-pub returns-in_err-write_kept : goal.returns-in_err-write_kept
-returns-in_err-write_kept c = failed _ c.from_residual-in_err-write_kept.result _ c.from_residual-in_err-write_kept.ensures.1
 
 pub loop-epoch-init : goal.loop-epoch-init
 loop-epoch-init c =

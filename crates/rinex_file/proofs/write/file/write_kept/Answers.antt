@@ -1,7 +1,6 @@
 use Rattle.std.proofs.Common.{◌∙◌, ◌++◌, refl, ap, ap₂, ◌≤◌, subst, sym, length, append-nil, List, All}
 use Rattle.rinex_file.proofs.KeptFile.{epoch_whole, one_more}
 use Rattle.rinex_file.proofs.RowText.{all_values_fit}
-use Rattle.rinex_file.proofs.Sent.{failed}
 use Rattle.rinex_file.proofs.write.file.write_kept.Goals.{After-as_slice-values}
 use Rattle.rinex_file.proofs.Names.{flat_map, take_all, civil_of, joined, change_lines, AreSignalValues, epoch_line, satellite_line, HasRoom, SignalValues, SatelliteRow, Stamped, satellite_row}
 use Rattle.rinex_file.proofs.write.file.write_kept.Goals as goal
@@ -44,12 +43,3 @@ returns c =
     let e = c.args.epoch.now in
     epoch_whole e e rows c.args.text.now.inner.items _ _ _ c.loop-kept.text.inner.items refl (c.as_slice-rows.ensures.value ∙ ap (λ (e : Stamped). e.rows) c.epoch.view_is) refl refl refl
     (c.loop-kept.invariant ∙ ap (λ (r : List SatelliteRow). ((c.args.text.now.inner.items ++ joined (change_lines e.change)) ++ epoch_line (civil_of e.time) (length rows)) ++ flat_map satellite_line r) (take_all c.loop-kept.kept-index rows c.loop-kept-test.false))
-
-pub returns-in_err-write_change : goal.returns-in_err-write_change
-returns-in_err-write_change c = failed _ c.from_residual.result _ c.from_residual.ensures.1
-
-pub returns-in_err-write_whole : goal.returns-in_err-write_whole
-returns-in_err-write_whole c = failed _ c.from_residual-in_err-write_whole.result _ c.from_residual-in_err-write_whole.ensures.1
-
-pub returns-in_err-write_whole-2 : goal.returns-in_err-write_whole-2
-returns-in_err-write_whole-2 c = failed _ c.from_residual-in_err-write_whole-2.result _ c.from_residual-in_err-write_whole-2.ensures.1
