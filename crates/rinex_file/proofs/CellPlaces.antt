@@ -1,9 +1,9 @@
 -- A satellite's cells, each stored at its signal's index in the plan.
-use Rattle.std.proofs.Common.{arith, ◌≡◌, ◌∙◌, sym, ap, ap₂, refl, subst, ℕ, ℤ, zero, suc, ◌+◌, ◌*◌, ◌-◌, ◌<◌, ◌≤◌, List, [], ◌∷◌, ◌++◌, map, take, drop, length, replicate, get_or, append_assoc, append-nil, length-append, Bool, false, ◌==◌, Option, Some, None, slice_set}
+use Rattle.std.proofs.Common.{arith, ◌≡◌, ◌∙◌, sym, ap, ap₂, refl, subst, ℕ, zero, suc, ◌+◌, ◌*◌, ◌-◌, ◌<◌, ◌≤◌, List, [], ◌∷◌, ◌++◌, map, take, drop, length, replicate, get_or, append_assoc, length-append, false, ◌==◌, Some, None, slice_set}
 use Rattle.rinex_file.proofs.HeaderText.{trimmed-blanks}
 use Rattle.rinex_file.proofs.RowText.{if_fits, length-room, length-signals}
 use Rattle.rinex_file.proofs.DigitWords.{two_digits}
-use Rattle.rinex_file.proofs.Names.{◌&&◌, ◌≢◌, ◌||◌, nat_eq, find, flat_map, position, All, is_some, if◌then◌else◌, option_map_or, IsDistinct, position_or_len, drop_at, drop_all, length-drop, drop_more, set_at, length-take-le, length-replicate, length-set, take-append-le, drop-append-le, drop-take, replicate-append-replicate, cond_both, and_from, and_right, eq-eqb, ne_eqb, eqb-true, eqb-false, flat_map-append, position-Some, All-from_recursion, All-head, All-tail, All-map, All-append, All-drop, All-replicate, fails_before_first, System, Cell, IsHeld, SignalValues, signal_values_of, no_signal_values, signal_values_at, is_of_key, HaveRoom, has_some_value, trimmed, field, signal_text, HasSignals, padded, replicate_next, take-append-add, drop-append-add}
+use Rattle.rinex_file.proofs.Names.{◌&&◌, ◌≢◌, nat_eq, find, flat_map, position, All, if◌then◌else◌, option_map_or, IsDistinct, position_or_len, take_at, drop_at, drop_all, length-drop, length-take-le, length-replicate, length-set, take-append-le, drop-append-le, drop-take, replicate-append-replicate, cond_both, and_from, and_right, eq-eqb, ne_eqb, eqb-true, eqb-false, position-Some, All-from_recursion, All-head, All-tail, All-map, fails_before_first, System, Cell, IsHeld, SignalValues, signal_values_of, no_signal_values, signal_values_at, is_of_key, HaveRoom, trimmed, field, signal_text, HasSignals, padded, take-append-add, drop-append-add}
 
 -- ---- what a cell before others changes
 
@@ -69,25 +69,6 @@ found_as P Q id index each none (c ∷ cells) all =
 
 pub all_fit : (system : System) (cells : List Cell) (id : ℕ) (signals : List ℕ) → All (IsHeld system) cells → All HaveRoom (map (signal_values_at cells id) signals)
 all_fit system cells id signals all = All-map HaveRoom (signal_values_at cells id) signals (λ k d less. found_as (IsHeld system) HaveRoom id (get_or signals k d) (λ c h. record { c = if_fits c.c h.c; l = if_fits c.l h.l; d = if_fits c.d h.d; s = if_fits c.s h.s; lli = h.lli }) none_fit cells all)
-
--- ---- signals without a value
-
-or_none : (a b c d : Bool) → (a || b || c || d) ≡ false → (a ≡ false) × (b ≡ false) × (c ≡ false) × (d ≡ false)
-or_none false false false false e = (refl, refl, refl, refl)
-or_none a b c d e = cc
-
-is_none : (v : Option ℤ) → is_some v ≡ false → v ≡ None
-is_none v e = grind arith
-
-blank_text : (c l d s : Option ℤ) (lost strength : ℕ) → c ≡ None → l ≡ None → d ≡ None → s ≡ None
-    → field c 32 strength ++ (field l lost strength ++ (field d 32 32 ++ field s 32 32)) ≡ replicate 64 32
-unfolding field
-blank_text None None None None lost strength a b e f = refl
-blank_text c l d s lost strength a b e f = cc
-
-no_value : (e : SignalValues) → has_some_value e ≡ false → signal_text e ≡ replicate 64 32
-unfolding signal_text
-no_value e none = grind (arith, or_none, blank_text, is_none)
 
 -- ---- the signals of a line
 
@@ -183,10 +164,11 @@ trimmed_line line front values is = sym (trimmed-blanks (3 + 64 * length values 
 -- ---- the beginning of a line
 
 none_text : (n : ℕ) → flat_map signal_text (replicate n no_signal_values) ≡ replicate (64 * n) 32
+unfolding signal_text field
 none_text zero = refl
 none_text (suc n) =
     let size : 64 + 64 * n ≡ 64 * suc n = omega arith in
-    ap₂ (λ a b. a ++ b) (no_value no_signal_values refl) (none_text n) ∙ replicate-append-replicate {A = ℕ} 64 (64 * n) 32 ∙ ap (λ k. replicate {A = ℕ} k 32) size
+    ap (λ b. replicate 64 32 ++ b) (none_text n) ∙ replicate-append-replicate {A = ℕ} 64 (64 * n) 32 ∙ ap (λ k. replicate {A = ℕ} k 32) size
 
 -- letter and number, before any value
 begun : (front : List ℕ) (n : ℕ) → length front ≡ 3 → HasSignals front front (replicate n no_signal_values)
@@ -195,27 +177,15 @@ begun front n l =
     let size : 3 + 64 * length (replicate n no_signal_values) - length front ≡ 64 * n = omega (arith, l, count) in
     ap (λ k. front ++ replicate k 32) size ∙ ap (λ t. front ++ t) (sym (none_text n))
 
-pub begun_values : (line front : List ℕ) (values : List SignalValues) (n : ℕ) → line ≡ front → length front ≡ 3 → n ≡ length values → HasSignals line front (replicate n no_signal_values ++ drop n values)
-begun_values line front values n is l size =
-    let none : replicate n no_signal_values ++ drop n values ≡ replicate n no_signal_values = ap (λ vs. replicate n no_signal_values ++ vs) (drop_all n values (omega (arith, size))) ∙ append-nil _ in
-    rw (is, none) (begun front n l)
-
 pub begun_entries : (line front : List ℕ) (cells : List Cell) (id n : ℕ) (signals : List ℕ) → line ≡ front → length front ≡ 3 → n ≡ length cells → HasSignals line front (map (signal_values_at (drop n cells) id) signals)
 begun_entries line front cells id n signals is l size = rw (is, drop_all n cells (omega (arith, size)), none_put id signals) (begun front (length signals) l)
 
--- ---- the loops
-
--- one more signal with a value
-pub value_put : (values : List SignalValues) (n : ℕ) (v : SignalValues) → n < length values → v ≡ get_or values n v → slice_set (replicate (n + 1) no_signal_values ++ drop (n + 1) values) n v ≡ replicate n no_signal_values ++ drop n values
-value_put values n v h is = grind (arith, replicate_next, append_assoc, set_at, length-replicate, drop_more)
-
--- one more signal without a value
-pub value_passed : (line front : List ℕ) (values : List SignalValues) (n : ℕ) (v : SignalValues) → n < length values → v ≡ get_or values n v → has_some_value v ≡ false
-    → HasSignals line front (replicate (n + 1) no_signal_values ++ drop (n + 1) values) → HasSignals line front (replicate n no_signal_values ++ drop n values)
-value_passed line front values n v h is none before = grind (arith, replicate_next, append_assoc, drop_more, no_value, length-append, flat_map-append)
-
-pub front_fit : (values : List SignalValues) (n : ℕ) → All HaveRoom values → All HaveRoom (replicate n no_signal_values ++ drop n values)
-front_fit values n all = All-append HaveRoom (replicate n no_signal_values) (drop n values) (All-replicate HaveRoom n no_signal_values none_fit) (All-drop HaveRoom n values all)
+-- a signal is written after others
+pub signal_after : (row text front more : List ℕ) (n k : ℕ) → length text ≡ 64 → k ≡ 64 → n + 64 ≤ length row → take n row ≡ front → more ≡ take n row ++ (text ++ drop k (drop n row)) → take (n + 64) more ≡ front ++ text
+signal_after row text front more n k size width within is put =
+    let first = length-take-le n row (omega (arith, within)) in
+    let long : length (take n row ++ text) ≡ n + 64 = length-append (take n row) text ∙ omega (arith, first, size) in
+    ap (take (n + 64)) (put ∙ sym (append_assoc (take n row) text (drop k (drop n row)))) ∙ take_at (take n row ++ text) (drop k (drop n row)) (n + 64) long ∙ ap (λ l. l ++ text) is
 
 -- the first three columns are written
 pub three_set : (row : List ℕ) (a b c : ℕ) → 3 ≤ length row → take 3 (slice_set (slice_set (slice_set row 0 a) 1 b) 2 c) ≡ a ∷ b ∷ c ∷ []

@@ -308,14 +308,12 @@ pub(crate) fn put_values(
 {
     begin_columns(row, system, id);
     let mut size = 3;
-    // From the last to the first, so that blanks are appended once.
-    let mut place = values.len();
-    while place > 0 {
-        place -= 1;
-        let value = &values[place];
-        if value.has_value() {
-            size = put_columns(row, size, place, &Shown::in_line(value));
-        }
+    for value in values {
+        put_signal(
+            &mut row[size..size + SIGNAL_COLUMNS],
+            &Shown::in_line(value),
+        );
+        size += SIGNAL_COLUMNS;
     }
     end_columns(row, size)
 }
