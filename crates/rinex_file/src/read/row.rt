@@ -31,23 +31,17 @@ fn lli_in(column: u8) -> Option<u8>
     }
 }
 
-/// Returns whether this is a strength from 0.001 to 99.999 dB-Hz, or none.
-fn is_strength(value: Option<Thousandths>) -> bool
-    ensures { IsTrue result ↔ IfSome value (IsFrom (pos 1) (pos 99_999)) }
-{
-    match value {
-        None => true,
-        Some(v) => 1 <= v.value() && v.value() <= 99_999,
-    }
-}
-
-/// Returns whether strength and indicator may be those of a signal: only a phase has a loss-of-lock
-/// indicator.
+/// Returns whether strength and indicator may be those of a signal: the strength is from 0.001 to
+/// 99.999 dB-Hz, or none, and only a phase has a loss-of-lock indicator.
 fn is_plausible(entry: &SignalValues) -> bool
     ensures { IsTrue result
         ↔ (IfSome entry.now.s (IsFrom (pos 1) (pos 99_999)) × (entry.now.l ≡ None → entry.now.lli ≡ 0)) }
 {
-    is_strength(entry.s) && (entry.lli == 0 || entry.l.is_some())
+    let is_strength = match entry.s {
+        None => true,
+        Some(v) => 1 <= v.value() && v.value() <= 99_999,
+    };
+    is_strength && (entry.lli == 0 || entry.l.is_some())
 }
 
 /// Returns whether the columns of a signal are blank.
