@@ -74,6 +74,12 @@ ordered_below ds size h =
 pub tenth_below : (ds : List ℕ) → length ds ≡ 16 → AreWithin LIMITS ds → get_or ds 9 0 < 10
 tenth_below ds size h = sixteen (λ xs. AreWithin LIMITS xs → get_or xs 9 0 < 10) (λ a b c d e f g h i j k l m n o p are. omega (arith, are)) ds size h
 
+-- numbers of two digits to a base are below its square
+pub twos_below : (base n : ℕ) → ((a b : ℕ) → a < base → b < base → a * base + b < n) → (xs : List ℕ) → AreBelow base xs → AreBelow n (twos_of base xs)
+twos_below base n small [] h = tt
+twos_below base n small (a ∷ []) h = tt
+twos_below base n small (a ∷ b ∷ xs) h = (small a b h.0 h.1.0, twos_below base n small xs h.1.1)
+
 -- the digits of a number
 digits_are : (s a b c d e f g h i j l m n y z : ℕ) → AreBelow 10 (a ∷ b ∷ c ∷ d ∷ e ∷ f ∷ g ∷ h ∷ i ∷ j ∷ l ∷ m ∷ n ∷ [])
     → s ≡ a * 1_000_000_000_000 + b * 100_000_000_000 + c * 10_000_000_000 + d * 1_000_000_000 + e * 100_000_000 + f * 10_000_000 + g * 1_000_000 + h * 100_000 + i * 10_000 + j * 1000 + l * 100 + m * 10 + n
@@ -152,10 +158,10 @@ template_below b (suc n) (suc z) = (empty_below z b, template_below b n z) where
 
 -- ---- the bytes of lanes
 
-pub byte_at : (bs : List ℕ) → AreBelow 256 bs → (i : ℕ) → get_or bs i 0 < 256
-byte_at [] h i = omega arith
-byte_at (b ∷ bs) h zero = h.0
-byte_at (b ∷ bs) h (suc i) = byte_at bs h.1 i
+pub below_at : (n : ℕ) (bs : List ℕ) → 0 < n → AreBelow n bs → (i : ℕ) → get_or bs i 0 < n
+below_at n [] some h i = some
+below_at n (b ∷ bs) some h zero = h.0
+below_at n (b ∷ bs) some h (suc i) = below_at n bs some h.1 i
 
 pub bytes_below : (xs : List ℕ) → Each1 (Fits w8) xs → AreBelow 256 xs
 bytes_below [] h = tt

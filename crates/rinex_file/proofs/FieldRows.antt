@@ -3,7 +3,7 @@ use Rattle.std.proofs.Common.{arith, ◌≡◌, ◌∙◌, sym, ap, ap₂, refl,
 use Rattle.rinex_file.proofs.Digits.{not_negative}
 use Rattle.rinex_file.proofs.DigitWords.{empty_columns}
 use Rattle.rinex_file.proofs.Columns.{blank_columns, empty_columns_are, field_text, within_columns}
-use Rattle.rinex_file.proofs.FieldLanes.{taken, byte_at, added_back, taken_back, template_below}
+use Rattle.rinex_file.proofs.FieldLanes.{taken, below_at, added_back, taken_back, template_below}
 use Rattle.rinex_file.proofs.LaneColumns.{added, front, start_is, leading-le, length-template, sign_before, value_columns}
 use Rattle.rinex_file.proofs.OneReading.{field_parts}
 use Rattle.rinex_file.proofs.Names.{Bool, ◌==◌, if◌then◌else◌, neg_ℤ, nat_lt, prefix_len, is_negative, cases_Bool, eqb-true, ne_eqb, ints, decimal_digit, first_decimal, length-map, prefix_len-le-length, bitmask_splat, first_set_mask_l, mask_l-mod, length-zip2, FitsColumns, field, AreBelow, AreWithin, blanks, digit_columns, has_minus, leading, template, LIMITS}
@@ -187,7 +187,7 @@ shown columns ts start b v below fits is minus at rows =
     let low : (taken y 32 < 256) × (taken z 32 < 256) = (omega arith, omega arith) in
     let ds : List ℕ = digit_columns n (taken y 32) (taken z 32) in
     let whole : columns ≡ zip2 added ds (template b 9 start) =
-    is ∙ ap₂ (λ p q. field (Some v) p q) (sym (end_back y (byte_at columns below 14))) (sym (end_back z (byte_at columns below 15))) ∙ sym (value_columns v (taken y 32) (taken z 32) fits)
+    is ∙ ap₂ (λ p q. field (Some v) p q) (sym (end_back y (below_at 256 columns (omega arith) below 14))) (sym (end_back z (below_at 256 columns (omega arith) below 15))) ∙ sym (value_columns v (taken y 32) (taken z 32) fits)
     ∙ ap₂ (λ t k. zip2 added ds (template t 9 k)) sign lead in
     record {
       lost = taken y 32;
