@@ -75,26 +75,6 @@ pub(crate) fn strength_column(strength: &Option<Thousandths>) -> u8
     }
 }
 
-/// Writes a pseudorange and a phase, which may have a loss-of-lock indicator.
-#[inline(always)]
-fn put_range_and_phase(
-    columns: &mut [u8],
-    first: &Option<Thousandths>,
-    second: &Option<Thousandths>,
-    lost: u8,
-    strength: u8,
-)
-    requires first { IfSome first.now FitsColumns }
-    requires second { IfSome second.now FitsColumns }
-    requires room { length columns.old ≡ 32 }
-    ensures text { columns.new ≡ field first.now 32 strength ++ field second.now lost strength }
-    ensures size { length columns.new ≡ 32 }
-{
-    let (front, back) = columns.split_at_mut(VALUE_COLUMNS);
-    put_value(front, first, b' ', strength);
-    put_value(back, second, lost, strength);
-}
-
 /// Writes a Doppler shift and a strength, the digits of both in the same steps if the sum of their
 /// sizes is below 100,000, as most are.
 #[inline(always)]
@@ -174,9 +154,11 @@ fn put_signal(columns: &mut [u8], values: &Shown)
     ensures size { length columns.new ≡ signal_columns }
 {
     let strength = strength_column(values.s);
-    let (front, back) = columns.split_at_mut(2 * VALUE_COLUMNS);
-    put_range_and_phase(front, values.c, values.l, lli_column(*values.lli), strength);
-    put_doppler_and_strength(back, values.d, values.s);
+    let (range, others) = columns.split_at_mut(VALUE_COLUMNS);
+    put_value(range, values.c, b' ', strength);
+    let (phase, others) = others.split_at_mut(VALUE_COLUMNS);
+    put_value(phase, values.l, lli_column(*values.lli), strength);
+    put_doppler_and_strength(others, values.d, values.s);
 }
 
 /// Returns the length of the text without trailing blanks, in bytes.
