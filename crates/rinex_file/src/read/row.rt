@@ -179,24 +179,6 @@ fn resize(values: &mut ArrayVec<SignalValues, MOST_SIGNALS>, signals: usize)
     }
 }
 
-/// Reads the signals in a text whose blanks at the end were cut. Returns whether the columns are as
-/// values are written, of which there are some.
-#[inline(always)]
-fn put_written_in(
-    text: &[u8],
-    signals: usize,
-    values: &mut ArrayVec<SignalValues, MOST_SIGNALS>,
-) -> bool
-    requires few { signals ≤ most_signals }
-    requires room { length text.now ≤ signal_columns * signals }
-    ensures { ReadsExactly (AreEntries signals) (flat_map signal_text)
-        (filled_to (signal_columns * signals) text.now) (some_if result values.new.items) }
-{
-    resize(values, signals);
-    let last = last_columns(text);
-    put_each_in(text, &last, values.as_mut_slice())
-}
-
 /// Returns the number in two columns, or None if they are not two digits.
 fn two_digits_in(tens: u8, ones: u8) -> Option<u8>
     ensures { ReadsExactly (λ n. n < 100) (padded 2) (tens ∷ ones ∷ []) result }
@@ -238,7 +220,10 @@ fn read_of(line: &[u8], system: System, signals: usize, seen: &mut KeptSatellite
     }
     seen.system = system;
     seen.satellite = id;
-    put_written_in(&text[3..], signals, &mut seen.signal_values)
+    resize(&mut seen.signal_values, signals);
+    let columns = &text[3..];
+    let last = last_columns(columns);
+    put_each_in(columns, &last, seen.signal_values.as_mut_slice())
 }
 
 /// Reads the satellite in a line, given the number of planned signals of each system. Returns

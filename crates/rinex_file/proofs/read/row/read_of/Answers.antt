@@ -1,9 +1,9 @@
-use Rattle.std.proofs.Common.{arith, ◌≡◌, ◌∙◌, sym, ap, refl, subst, ℕ, ◌*◌, ◌≤◌, List, Bool, true, false, take}
+use Rattle.std.proofs.Common.{arith, ◌≡◌, ◌∙◌, sym, ap, refl, subst, ℕ, ◌*◌, ◌≤◌, List, Bool, true, false, ◌-◌, ◌++◌, append-nil, length, take, drop}
 use Rattle.rinex_file.proofs.Judged.{refused}
 use Rattle.rinex_file.proofs.CutColumns.{cut_line_is}
 use Rattle.rinex_file.proofs.OneReading.{IsTextOf, line_ended, line_once, text_of_line}
 use Rattle.rinex_file.proofs.read.row.read_of.Goals.{After-saturating_sub, then-text-lt3-via-then-text-lt3, then-text-lt3-via-else-text-lt3+then-text-signals, then-text-letter_of-via-then-text-letter_of, then-text-letter_of-via-else-text-letter_of+then-id-eq0, then-text-letter_of-via-else-text-letter_of+else-id-eq0+then-id-satellites}
-use Rattle.rinex_file.proofs.Names.{flat_map, take_rest, System, satellites, SatelliteRow, letter_of, satellite_line, signal_text, filled_to, ReadsExactly, some_if, AreEntries, IsRowOf}
+use Rattle.rinex_file.proofs.Names.{flat_map, SignalValues, drop_all, take_all, take_rest, System, satellites, SatelliteRow, letter_of, satellite_line, signal_text, filled_to, ReadsExactly, some_if, AreEntries, IsRowOf}
 use Rattle.rinex_file.proofs.read.row.read_of.Goals as goal
 
 pub returns-then-not-is_ended : goal.returns-then-not-is_ended
@@ -52,14 +52,25 @@ row_read true system signals line columns seen same number shown columns_of (are
 row_read false system signals line columns seen same number shown columns_of none = λ v is e.
     none v.row.signal_values (record { each = is.1.signal_values; whole = is.1.whole; some = is.1.some }) (columns_of v is e)
 
+-- a list after all its elements were lent
+lent : (old new : List SignalValues) → length new ≡ length old → take (length old) (new ++ drop (length new) old) ≡ new
+lent old new size =
+    ap (λ l. take (length old) (new ++ l)) (drop_all (length new) old (omega (arith, size)))
+    ∙ ap (take (length old)) (append-nil new) ∙ take_all (length old) new (omega (arith, size))
+
 pub returns : goal.returns
 returns c =
     let line = c.args.line.now in
     let n = 64 * c.args.signals in
     let text = take c.saturating_sub.result line in
     let rest = take_rest text 3 in
-    row_read c.put_written_in.result c.args.system c.args.signals line _ _ refl (omega arith, omega arith)
+    let all = c.put_each_in.result in
+    let new = c.put_each_in.new.values in
+    let count : length c.as_mut_slice.result.now ≡ c.args.signals = ap length c.as_mut_slice.ensures.value ∙ c.resize.ensures in
+    let read = subst (λ (k : ℕ). ReadsExactly (AreEntries k) (flat_map signal_text) (filled_to (64 * k) (take (length text - 3) (drop 3 text))) (some_if all new)) count c.put_each_in.ensures.read in
+    row_read all c.args.system c.args.signals line _ _ refl (omega arith, omega arith)
     (λ is. cut_line_is _ line text _ _ n (c.is_ended.ensures.0 c.if-not-is_ended.false) (ap (λ (k : ℕ). take k line) c.saturating_sub.ensures) (omega arith)
     (c.if-text-letter_of.false ∙ c.letter_of.ensures) refl refl (sym c.in-Some.ensures.1) (ap (filled_to n) (sym rest) ∙ is))
     (λ v is e. ap (filled_to n) rest ∙ (parts ((goal.at.returns c).After-saturating_sub) v is e).columns)
-    c.put_written_in.ensures
+    (subst (λ (es : List SignalValues). ReadsExactly (AreEntries c.args.signals) (flat_map signal_text) (filled_to n (take (length text - 3) (drop 3 text))) (some_if all es))
+    (sym (lent c.resize.new.values.items new (c.put_each_in.ensures.size ∙ ap length c.as_mut_slice.ensures.value))) read)
