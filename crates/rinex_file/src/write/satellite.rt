@@ -38,25 +38,6 @@ fn put_value(columns: &mut [u8], value: &Option<Thousandths>, lost: u8, strength
     columns[15] = strength;
 }
 
-/// Writes a value without LLI and SSI columns as [`put_value`] does, in fewer steps if it is from 0
-/// to 99.999.
-#[inline(always)]
-fn put_short(columns: &mut [u8], value: &Option<Thousandths>)
-    requires fits { IfSome value.now FitsColumns }
-    requires room { length columns.old ≡ value_columns }
-    ensures text { columns.new ≡ field value.now 32 32 }
-    ensures size { length columns.new ≡ value_columns }
-{
-    if let Some(short) = value {
-        let short = short.value();
-        if 0 <= short && short < 100_000 {
-            columns.copy_from_slice(&columns_of(short as u32));
-            return;
-        }
-    }
-    put_value(columns, value, b' ', b' ');
-}
-
 /// Returns the loss-of-lock (LLI) column of a phase.
 fn lli_column(lli: u8) -> u8
     requires { lli < 4 }
@@ -76,7 +57,7 @@ pub(crate) fn strength_column(strength: &Option<Thousandths>) -> u8
 }
 
 /// Writes a Doppler shift and a strength, the digits of both in the same steps if the sum of their
-/// sizes is below 100,000, as most are.
+/// sizes is below 100,000, as most are. A strength alone takes fewer steps if it is from 0 to 99.999.
 #[inline(always)]
 fn put_doppler_and_strength(
     columns: &mut [u8],
@@ -100,7 +81,14 @@ fn put_doppler_and_strength(
         }
     }
     put_value(front, first, b' ', b' ');
-    put_short(back, second);
+    if let Some(density) = second {
+        let density = density.value();
+        if 0 <= density && density < 100_000 {
+            back.copy_from_slice(&columns_of(density as u32));
+            return;
+        }
+    }
+    put_value(back, second, b' ', b' ');
 }
 
 /// The values of a signal, borrowed, so that each is read when its columns are written.
