@@ -6,36 +6,27 @@ use lib.Lanes.{number_l, digits_l, pick_l, zip2, Each1, chunk}
 
 -- ---- numbers of two digits
 
--- a lane of two digits, as it is computed
-abbrev pub pairs_l : ℕ → ℕ → List ℕ
-pairs_l zero w = []
-pairs_l (suc k) w = (w % 65536 * 2561 % 65536 / 256) ∷ pairs_l k (w / 65536)
+-- lanes of two numbers, as they are computed
+abbrev pub pairs_l : ℕ → ℕ → ℕ → ℕ → ℕ → List ℕ
+pairs_l width factor part zero w = []
+pairs_l width factor part (suc k) w = (w % width * factor % width / part) ∷ pairs_l width factor part k (w / width)
 
-pub pairs_are : (k : ℕ) (xs : List ℕ) → length xs ≡ 2 * k → AreBelow 10 xs → pairs_l k (number_l 256 xs) ≡ twos_of 10 xs
-pairs_are zero [] l h = refl
-pairs_are zero (a ∷ xs) l h = absurd (omega (arith, l))
-pairs_are (suc k) [] l h = absurd (omega (arith, l))
-pairs_are (suc k) (a ∷ []) l h = absurd (omega (arith, l))
-pairs_are (suc k) (a ∷ b ∷ xs) l h =
-    let w = number_l 256 xs in
-    let one : (a + 256 * (b + 256 * w)) % 65536 * 2561 % 65536 / 256 ≡ a * 10 + b = omega (arith, h.0, h.1.0) in
-    let on : (a + 256 * (b + 256 * w)) / 65536 ≡ w = omega (arith, h.0, h.1.0) in
-    (λ i. one i ∷ pairs_l k (on i)) ∙ ap (λ t. (a * 10 + b) ∷ t) (pairs_are k xs (omega (arith, l)) h.1.1)
+pairs_by : (byte base width factor part : ℕ)
+    → ((a b w : ℕ) → a < base → b < base → ((a + byte * (b + byte * w)) % width * factor % width / part ≡ a * base + b) × ((a + byte * (b + byte * w)) / width ≡ w))
+    → (k : ℕ) (xs : List ℕ) → length xs ≡ 2 * k → AreBelow base xs → pairs_l width factor part k (number_l byte xs) ≡ twos_of base xs
+pairs_by byte base width factor part lane zero [] l h = refl
+pairs_by byte base width factor part lane zero (a ∷ xs) l h = absurd (omega (arith, l))
+pairs_by byte base width factor part lane (suc k) [] l h = absurd (omega (arith, l))
+pairs_by byte base width factor part lane (suc k) (a ∷ []) l h = absurd (omega (arith, l))
+pairs_by byte base width factor part lane (suc k) (a ∷ b ∷ xs) l h =
+    let (one, on) = lane a b (number_l byte xs) h.0 h.1.0 in
+    (λ i. one i ∷ pairs_l width factor part k (on i)) ∙ ap (λ t. (a * base + b) ∷ t) (pairs_by byte base width factor part lane k xs (omega (arith, l)) h.1.1)
 
-abbrev pub fours_l : ℕ → ℕ → List ℕ
-fours_l zero w = []
-fours_l (suc k) w = (w % 4294967296 * 6553601 % 4294967296 / 65536) ∷ fours_l k (w / 4294967296)
+pub pairs_are : (k : ℕ) (xs : List ℕ) → length xs ≡ 2 * k → AreBelow 10 xs → pairs_l 65536 2561 256 k (number_l 256 xs) ≡ twos_of 10 xs
+pairs_are k xs l h = pairs_by 256 10 65536 2561 256 (λ a b w p q. (omega (arith, p, q), omega (arith, p, q))) k xs l h
 
-fours_are : (k : ℕ) (xs : List ℕ) → length xs ≡ 2 * k → AreBelow 100 xs → fours_l k (number_l 65536 xs) ≡ twos_of 100 xs
-fours_are zero [] l h = refl
-fours_are zero (a ∷ xs) l h = absurd (omega (arith, l))
-fours_are (suc k) [] l h = absurd (omega (arith, l))
-fours_are (suc k) (a ∷ []) l h = absurd (omega (arith, l))
-fours_are (suc k) (a ∷ b ∷ xs) l h =
-    let w = number_l 65536 xs in
-    let one : (a + 65536 * (b + 65536 * w)) % 4294967296 * 6553601 % 4294967296 / 65536 ≡ a * 100 + b = omega (arith, h.0, h.1.0) in
-    let on : (a + 65536 * (b + 65536 * w)) / 4294967296 ≡ w = omega (arith, h.0, h.1.0) in
-    (λ i. one i ∷ fours_l k (on i)) ∙ ap (λ t. (a * 100 + b) ∷ t) (fours_are k xs (omega (arith, l)) h.1.1)
+fours_are : (k : ℕ) (xs : List ℕ) → length xs ≡ 2 * k → AreBelow 100 xs → pairs_l 4294967296 6553601 65536 k (number_l 65536 xs) ≡ twos_of 100 xs
+fours_are k xs l h = pairs_by 65536 100 4294967296 6553601 65536 (λ a b w p q. (omega (arith, p, q), omega (arith, p, q))) k xs l h
 
 -- the bytes of a number
 bytes_of : (k n : ℕ) → n < 256 ^ k → number_l 256 (digits_l 256 k n) ≡ n
@@ -52,10 +43,10 @@ number_below (a ∷ xs) h =
     let more = number_below xs h.1 in
     omega (arith, h.0, p, more)
 
-pub fours_of_bytes : (xs : List ℕ) → length xs ≡ 8 → AreBelow 100 xs → fours_l 4 (number_l 256 (digits_l 256 16 (number_l 65536 xs))) ≡ twos_of 100 xs
+pub fours_of_bytes : (xs : List ℕ) → length xs ≡ 8 → AreBelow 100 xs → pairs_l 4294967296 6553601 65536 4 (number_l 256 (digits_l 256 16 (number_l 65536 xs))) ≡ twos_of 100 xs
 fours_of_bytes xs l h =
     let below = subst (λ (n : ℕ). number_l 65536 xs < 65536 ^ n) l (number_below xs h) in
-    ap (fours_l 4) (bytes_of 16 (number_l 65536 xs) below) ∙ fours_are 4 xs l h
+    ap (pairs_l 4294967296 6553601 65536 4) (bytes_of 16 (number_l 65536 xs) below) ∙ fours_are 4 xs l h
 
 -- ---- the size with digits in lanes
 
