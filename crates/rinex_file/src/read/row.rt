@@ -183,10 +183,7 @@ fn resize(values: &mut ArrayVec<SignalValues, MOST_SIGNALS>, signals: usize)
 fn two_digits_in(tens: u8, ones: u8) -> Option<u8>
     ensures { ReadsExactly (λ n. n < 100) (padded 2) (tens ∷ ones ∷ []) result }
 {
-    if tens < b'0' || tens > b'9' {
-        return None;
-    }
-    if ones < b'0' || ones > b'9' {
+    if !tens.is_ascii_digit() || !ones.is_ascii_digit() {
         return None;
     }
     Some((tens - b'0') * 10 + (ones - b'0'))
