@@ -38,14 +38,6 @@ fn put_value(columns: &mut [u8], value: &Option<Thousandths>, lost: u8, strength
     columns[15] = strength;
 }
 
-/// Returns the loss-of-lock (LLI) column of a phase.
-fn lli_column(lli: u8) -> u8
-    requires { lli < 4 }
-    ensures { result ≡ lli_byte lli }
-{
-    if lli == 0 { b' ' } else { b'0' + lli }
-}
-
 /// Returns the strength (SSI) column of a pseudorange and of a phase.
 pub(crate) fn strength_column(strength: &Option<Thousandths>) -> u8
     ensures { result ≡ strength_byte strength.now }
@@ -142,10 +134,12 @@ fn put_signal(columns: &mut [u8], values: &Shown)
     ensures size { length columns.new ≡ signal_columns }
 {
     let strength = strength_column(values.s);
+    let lli = *values.lli;
+    let lost = if lli == 0 { b' ' } else { b'0' + lli };
     let (range, others) = columns.split_at_mut(VALUE_COLUMNS);
     put_value(range, values.c, b' ', strength);
     let (phase, others) = others.split_at_mut(VALUE_COLUMNS);
-    put_value(phase, values.l, lli_column(*values.lli), strength);
+    put_value(phase, values.l, lost, strength);
     put_doppler_and_strength(others, values.d, values.s);
 }
 
