@@ -11,10 +11,7 @@ entries_from : (id : ℕ) (cells : List Cell) (signals : List ℕ) → map (sign
 entries_from id cells [] = refl
 entries_from id cells (i ∷ signals) = ap₂ (λ o l. option_map_or signal_values_of o no_signal_values ∷ l) (find_from id i cells) (entries_from id cells signals)
 
-pub line_from : (p : PlanValue) (system : System) (cells : List Cell) (id : ℕ) → line_among p system (filter (is_of_satellite id) cells) id ≡ line_among p system cells id
-unfolding line_among
-line_from p system cells id = grind (arith, any_from, entries_from)
-
 pub same_line : (p : PlanValue) (system : System) (cells all : List Cell) (id : ℕ) (group : List Cell) → filter (is_of_satellite id) cells ≡ group → cells ≡ all
     → line_among p system group id ≡ line_among p system all id
-same_line p system cells all id group is same = grind (arith, line_from)
+unfolding line_among
+same_line p system cells all id group is same = grind (arith, any_from, entries_from)
