@@ -7,8 +7,8 @@ use Rattle.rinex_file.proofs.Cuts.{filled, length-trimmed}
 use Rattle.rinex_file.proofs.Digits.{has-append, has-right, lacks-padded, length-right, length-padded}
 use Rattle.rinex_file.proofs.FewRows.{few_rows}
 use Rattle.rinex_file.proofs.PlainTexts.{clean-fixed, IsPlain, plain-append, plain-padded, plain, plain-flat_map, plain-joined, also}
-use Rattle.rinex_file.proofs.BodySteps.{few_signals_of}
-use Rattle.rinex_file.proofs.PlainHeader.{IsFileLine, as_line, of_80, whole_field, second_field, no_letter, IsShort, short_time, line_of_position, line_of_delta, lines_of_header}
+use Rattle.rinex_file.proofs.Reading.Epochs.{few_signals_of}
+use Rattle.rinex_file.proofs.HeaderRows.Plain.{IsFileLine, as_line, of_80, whole_field, second_field, no_letter, IsShort, short_time, line_of_position, line_of_delta, lines_of_header}
 use Rattle.rinex_file.proofs.Names.{◌==◌, ◌||◌, map, flat_map, All, codes, AllByRecursion, or_parts, All-nil, All-head, All-tail, All-cons, All-append, All-map, satellites, Gps, Galileo, StationValues, Civil, civil_of, PlanValue, trimmed, IsLine, event_line, stamped_lines, change_lines, file_lines, AreTexts, IsPlan, AreValues, FitsColumns, AreSignalValues, IsRow, IsSatelliteRow, IsStamped, IsChange, AreChanges, IsFileValue, changed_by, of_system, most_rows, header_lines, position_line, delta_line, epoch_line, field, lli_byte, strength_byte, signal_text, letter_of, row_text, satellite_line, joined, right, padded, fixed, has, HeaderLists, SignalValues, Row, SatelliteRow, Stamped, FileValue}
 
 -- ---- epochs

@@ -1,4 +1,4 @@
-use Rattle.rinex_file.proofs.HeaderEnd.{listed_by}
+use Rattle.rinex_file.proofs.HeaderRows.End.{listed_by}
 use Rattle.rinex_file.proofs.Names.{◌≡◌, ◌<◌, subst, ℕ, List, length, nat_eq, All, IsDistinct, System, Gps, Galileo, SignalAt, table, indices, IsOf, planned_of}
 use Rattle.rinex_file.proofs.laws.head.Goals as goal
 

@@ -1,4 +1,4 @@
-use Rattle.rinex_file.proofs.HeaderAgree.{version_same}
+use Rattle.rinex_file.proofs.HeaderRows.Agree.{version_same}
 use Rattle.rinex_file.proofs.Names.{arith, ◌≡◌, ◌∙◌, sym, ap, ℕ, [], ◌∷◌, length, codes, nat_lt, not, ◌==◌, PlanValue, civil_of, row_line, header_line, version_line, version_with}
 use Rattle.rinex_file.proofs.header.head.line_of.Goals as goal
 

@@ -1,4 +1,4 @@
-use Rattle.rinex_file.proofs.HeaderAgree.{line_none}
+use Rattle.rinex_file.proofs.HeaderRows.Agree.{line_none}
 use Rattle.rinex_file.proofs.Names.{arith, ◌≡◌, ◌∙◌, ◌+◌, ap, sym, suc, false, row_at, has_line, lines_from}
 use Rattle.rinex_file.proofs.header.head.place_from.Goals as goal
 

@@ -1,4 +1,4 @@
-use Rattle.rinex_file.proofs.HeaderAgree.{letter_with}
+use Rattle.rinex_file.proofs.HeaderRows.Agree.{letter_with}
 use Rattle.rinex_file.proofs.header.lines.version_with.Goals.{in-true-true, in-true-false, in-false-default}
 use Rattle.rinex_file.proofs.Names.{arith, ◌≡◌, ◌∙◌, ap, ◌∷◌, ◌++◌, [], codes, digits, header_line}
 use Rattle.rinex_file.proofs.header.lines.version_with.Goals as goal

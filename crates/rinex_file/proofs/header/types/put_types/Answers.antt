@@ -1,4 +1,4 @@
-use Rattle.rinex_file.proofs.TypeRows.{signal_type, length-system_types, type_more, types_done, index_here, system_here}
+use Rattle.rinex_file.proofs.HeaderRows.Types.{signal_type, length-system_types, type_more, types_done, index_here, system_here}
 use Rattle.rinex_file.proofs.Names.{arith, indices, length_indices, types_of, codes_of}
 use Rattle.rinex_file.proofs.header.types.put_types.Goals as goal
 

@@ -1,4 +1,4 @@
-use Rattle.rinex_file.proofs.TypeRows.{columns}
+use Rattle.rinex_file.proofs.HeaderRows.Types.{columns}
 use Rattle.rinex_file.proofs.Names.{◌≡◌, ◌≤◌, ◌+◌, ◌-◌, ◌*◌, ◌++◌, length, take, drop, indices, types_of, codes_of}
 use Rattle.rinex_file.proofs.header.types.put_types.Given as goal
 

@@ -1,4 +1,4 @@
-use Rattle.rinex_file.proofs.TypeRows.{length-system_types}
+use Rattle.rinex_file.proofs.HeaderRows.Types.{length-system_types}
 use Rattle.rinex_file.proofs.Names.{◌∙◌, sym, ap, ◌++◌, ◌*◌, ℕ, codes, indices, length_indices, few_signals, letter_of, header_line, type_front, type_columns, type_line, types_of, codes_of}
 use Rattle.rinex_file.proofs.header.types.type_line.Goals as goal
 

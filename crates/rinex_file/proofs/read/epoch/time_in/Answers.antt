@@ -1,4 +1,4 @@
-use Rattle.rinex_file.proofs.EpochText.{ShowDate, HasColumns, epoch_shown, first_shown, has_columns, are_read, of_numbers, found, one_time}
+use Rattle.rinex_file.proofs.Reading.Dates.{ShowDate, HasColumns, epoch_shown, first_shown, has_columns, are_read, of_numbers, found, one_time}
 use Rattle.rinex_file.proofs.read.epoch.time_in.Goals.{After-from_civil}
 use Rattle.rinex_file.proofs.Names.{arith, ◌≡◌, ◌∙◌, ◌<◌, ◌*◌, ap, subst, sym, ℕ, Option, Some, None, IfSome, IfNone, Civil, IsCivilOf, civil_of, week, weeks, IsTime, digits_in}
 use Rattle.rinex_file.proofs.read.epoch.time_in.Goals as goal

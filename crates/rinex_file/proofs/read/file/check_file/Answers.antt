@@ -1,4 +1,4 @@
-use Rattle.rinex_file.proofs.LineByLine.{said_of}
+use Rattle.rinex_file.proofs.Reading.Lines.{said_of}
 use Rattle.rinex_file.proofs.read.file.check_file.Goals as goal
 
 pub returns-in-Ok-clause-only : goal.returns-in-Ok-clause-only

@@ -1,6 +1,6 @@
 use Rattle.rinex_file.proofs.FileLines.{lines_are_lines, lines_are_short}
-use Rattle.rinex_file.proofs.LineByLine.{only_faults}
-use Rattle.rinex_file.proofs.SummedFile.{has_times, summary_found, summary_only}
+use Rattle.rinex_file.proofs.Reading.Lines.{only_faults}
+use Rattle.rinex_file.proofs.Reading.Summary.{has_times, summary_found, summary_only}
 use Rattle.rinex_file.proofs.read.file.check_file_times.Goals as goal
 
 pub read_lines-requires-clause-read : goal.read_lines-requires-clause-read

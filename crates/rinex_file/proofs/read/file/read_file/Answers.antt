@@ -1,6 +1,6 @@
 use Rattle.rinex_file.specs.declared.read.fault.ReadFault.TheVariants.{Memory}
 use Rattle.rinex_file.proofs.FileLines.{lines_are_lines, lines_are_short}
-use Rattle.rinex_file.proofs.LineByLine.{only_faults, no_reason, file_found, file_only, stored_whole, explains_memory}
+use Rattle.rinex_file.proofs.Reading.Lines.{only_faults, no_reason, file_found, file_only, stored_whole, explains_memory}
 use Rattle.rinex_file.proofs.Names.{◌≡◌, Option, Some, None, IfSome, IfOk, IfErr, Result, Ok, Err, ok_or, ReadFault, ExplainsFault, IsReadOr, IsTextOf, file_text, FileValue}
 use Rattle.rinex_file.proofs.read.file.read_file.Goals as goal
 

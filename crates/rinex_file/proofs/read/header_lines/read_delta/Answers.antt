@@ -1,5 +1,5 @@
 use Rattle.rinex_file.proofs.Judged.{exactly}
-use Rattle.rinex_file.proofs.HeaderAgree.{height-back}
+use Rattle.rinex_file.proofs.HeaderRows.Agree.{height-back}
 use Rattle.rinex_file.proofs.Names.{arith, ◌≡◌, ◌∙◌, ap, w64, to_z, ◌<◌, ◌^◌, ℕ, List, take, drop, codes, pos, min, header_line, lengths, height_line, digits_in}
 use Rattle.rinex_file.proofs.read.header_lines.read_delta.Goals as goal
 

@@ -1,5 +1,5 @@
 use Rattle.rinex_file.proofs.Judged.{exactly}
-use Rattle.rinex_file.proofs.HeaderAgree.{lengths-back, coordinate-fits, number_at}
+use Rattle.rinex_file.proofs.HeaderRows.Agree.{lengths-back, coordinate-fits, number_at}
 use Rattle.rinex_file.proofs.Names.{arith, refl, ◌≡◌, ◌∙◌, sym, ap, subst, ℤ, ℕ, List, w64, to_z, of_z, fits_signed_from_abs, to_z-of_z, codes, then_some, StationValues, IsCoordinate, position_line, IsPosition}
 use Rattle.rinex_file.proofs.read.header_lines.read_position.Goals as goal
 

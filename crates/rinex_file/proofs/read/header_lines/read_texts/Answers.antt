@@ -1,4 +1,4 @@
-use Rattle.rinex_file.proofs.HeaderText.{not_same, not_printable, refused_text, added_text, few_columns}
+use Rattle.rinex_file.proofs.HeaderRows.Texts.{not_same, not_printable, refused_text, added_text, few_columns}
 use Rattle.rinex_file.proofs.Judged.{refused}
 use Rattle.rinex_file.proofs.Names.{arith, ◌≡◌, ◌∙◌, sym, ap, subst, refl, ◌≤◌, ◌+◌, ◌*◌, ℕ, List, Bool, true, false, IsTrue, ◌↔◌, Some, length, drop_all, HeaderField, TextRow, HeaderLists, fields_of, front_of, text_count, width_of, texts_line, ReadsOrRefusesTexts, texts_in}
 use Rattle.rinex_file.proofs.read.header_lines.read_texts.Goals as goal

@@ -1,6 +1,6 @@
 use Rattle.std.proofs.Common.{◌∙◌}
 use Rattle.rinex_file.proofs.Judged.{exactly}
-use Rattle.rinex_file.proofs.HeaderAgree.{version_read, letters_differ}
+use Rattle.rinex_file.proofs.HeaderRows.Agree.{version_read, letters_differ}
 use Rattle.rinex_file.proofs.read.header_lines.read_version.Goals as goal
 
 pub returns : goal.returns

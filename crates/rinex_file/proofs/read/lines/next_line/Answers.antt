@@ -1,5 +1,5 @@
 use Rattle.rinex_file.specs.declared.read.lines.Found.TheVariants.{End}
-use Rattle.rinex_file.proofs.LineByLine.{not_nil, consumed_none, moved_taken, line_whole, still_endless, leaves_more}
+use Rattle.rinex_file.proofs.Reading.Lines.{not_nil, consumed_none, moved_taken, line_whole, still_endless, leaves_more}
 use Rattle.rinex_file.proofs.Names.{arith, ◌≡◌, ◌∙◌, refl, subst, ℕ, ◌-◌, ◌≤◌, ◌<◌, [], Bool, false, nat_eq, List, length, Option, HasFailed, Found, Line, Long, Failed, IsFound, has, MovesBytes}
 use Rattle.rinex_file.proofs.read.lines.next_line.Goals as goal
 

@@ -1,4 +1,4 @@
-use Rattle.rinex_file.proofs.TypeRows.{utf8-code, code_of_one}
+use Rattle.rinex_file.proofs.HeaderRows.Types.{utf8-code, code_of_one}
 use Rattle.rinex_file.proofs.Names.{arith, ◌∙◌, sym, subst, IsUtf8}
 use Rattle.rinex_file.proofs.read.types.signal_in.Goals as goal
 

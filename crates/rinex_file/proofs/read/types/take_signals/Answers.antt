@@ -1,6 +1,6 @@
 use Rattle.rinex_file.proofs.Entries.{few_signals}
 use Rattle.rinex_file.proofs.Judged.{at_some}
-use Rattle.rinex_file.proofs.TypeRows.{still_grows, not_read, taken_more, taken_before}
+use Rattle.rinex_file.proofs.HeaderRows.Types.{still_grows, not_read, taken_more, taken_before}
 use Rattle.rinex_file.proofs.Names.{arith, ◌≡◌, ◌∙◌, ap, refl, subst, ℕ, List, [], ◌∷◌, ◌++◌, length-append, length, take, min, ◌+◌, ◌*◌, ◌<◌, ◌≤◌, Ok, take_at, take_min, common_steps, System, SignalAt, IsSignal, table, indices, IsAdded, IsOf}
 use Rattle.rinex_file.proofs.read.types.take_signals.Goals as goal
 

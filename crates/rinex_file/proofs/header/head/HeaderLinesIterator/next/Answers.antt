@@ -1,4 +1,4 @@
-use Rattle.rinex_file.proofs.HeaderAgree.{line_next}
+use Rattle.rinex_file.proofs.HeaderRows.Agree.{line_next}
 use Rattle.rinex_file.proofs.header.head.HeaderLinesIterator.next.Goals.{After-line_of}
 use Rattle.rinex_file.proofs.Names.{arith, ◌≡◌, ◌∙◌, sym, ap, ◌∷◌, ◌+◌, ◌<◌, ℕ, suc, List, length, civil_of, lines_from, row_line, row_at}
 use Rattle.rinex_file.proofs.header.head.HeaderLinesIterator.next.Goals as goal

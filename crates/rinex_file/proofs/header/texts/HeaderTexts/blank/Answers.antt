@@ -1,4 +1,4 @@
-use Rattle.rinex_file.proofs.HeaderEnd.{blank_texts, all_blank}
+use Rattle.rinex_file.proofs.HeaderRows.End.{blank_texts, all_blank}
 use Rattle.rinex_file.proofs.Names.{text_count}
 use Rattle.rinex_file.proofs.header.texts.HeaderTexts.blank.Goals as goal
 

@@ -1,4 +1,4 @@
-use Rattle.rinex_file.proofs.HeaderText.{fault_here, fine_here, one_stored, all_cut}
+use Rattle.rinex_file.proofs.HeaderRows.Texts.{fault_here, fine_here, one_stored, all_cut}
 use Rattle.rinex_file.proofs.Names.{arith, ◌∙◌, sym, ap, refl, Err, result_err, err_from_is_err_and, fault_of, lists_of}
 use Rattle.rinex_file.proofs.header.texts.HeaderTexts.new.Goals as goal
 

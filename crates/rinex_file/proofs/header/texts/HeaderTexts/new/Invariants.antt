@@ -1,4 +1,4 @@
-use Rattle.rinex_file.proofs.HeaderText.{AreCut}
+use Rattle.rinex_file.proofs.HeaderRows.Texts.{AreCut}
 use Rattle.rinex_file.proofs.Names.{◌≡◌, drop, length, None, fields, first_fault, text_count, lists_of}
 use Rattle.rinex_file.proofs.header.texts.HeaderTexts.new.Given as goal
 

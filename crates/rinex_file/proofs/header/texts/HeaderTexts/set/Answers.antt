@@ -1,4 +1,4 @@
-use Rattle.rinex_file.proofs.HeaderText.{set_text, cut_text}
+use Rattle.rinex_file.proofs.HeaderRows.Texts.{set_text, cut_text}
 use Rattle.rinex_file.proofs.header.texts.HeaderTexts.set.Goals.{After-put}
 use Rattle.rinex_file.proofs.Names.{arith, ◌≡◌, ◌∙◌, sym, ap, ap₂, ◌≤◌, ◌++◌, length, set, take, map, length-take, map-set, trimmed, place_of, width_of}
 use Rattle.rinex_file.proofs.header.texts.HeaderTexts.set.Goals as goal

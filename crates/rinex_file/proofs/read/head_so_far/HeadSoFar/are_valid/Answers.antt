@@ -1,5 +1,5 @@
 use Rattle.std.proofs.Common.{refl}
-use Rattle.rinex_file.proofs.HeaderEnd.{valid_by}
+use Rattle.rinex_file.proofs.HeaderRows.End.{valid_by}
 use Rattle.rinex_file.proofs.read.head_so_far.HeadSoFar.are_valid.Goals as goal
 
 pub returns : goal.returns

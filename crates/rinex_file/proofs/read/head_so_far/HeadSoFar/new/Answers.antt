@@ -1,5 +1,5 @@
 use Rattle.rinex_file.proofs.Judged.{at_some}
-use Rattle.rinex_file.proofs.HeaderEnd.{begins, none_read, zero_time, zero_values}
+use Rattle.rinex_file.proofs.HeaderRows.End.{begins, none_read, zero_time, zero_values}
 use Rattle.rinex_file.proofs.Names.{arith, ◌≡◌, ap, subst, sym, Gps, Galileo, indices, AreValues}
 use Rattle.rinex_file.proofs.read.head_so_far.HeadSoFar.new.Goals as goal
 

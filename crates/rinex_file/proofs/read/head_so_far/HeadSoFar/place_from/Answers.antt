@@ -1,4 +1,4 @@
-use Rattle.rinex_file.proofs.HeaderSteps.{skipped, same_on}
+use Rattle.rinex_file.proofs.HeaderRows.Steps.{skipped, same_on}
 use Rattle.rinex_file.proofs.Names.{arith, ◌≡◌, ◌∙◌, sym, ap, subst, suc, ◌+◌, false, row_at, known_line, SameFrom}
 use Rattle.rinex_file.proofs.read.head_so_far.HeadSoFar.place_from.Goals as goal
 

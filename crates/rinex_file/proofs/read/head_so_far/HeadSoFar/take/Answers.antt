@@ -1,6 +1,6 @@
-use Rattle.rinex_file.proofs.HeaderEnd.{ends, no_end_line}
-use Rattle.rinex_file.proofs.HeaderRead.{begun_here, line_types, none_taken, rows_there}
-use Rattle.rinex_file.proofs.HeaderSteps.{step_at, steps_from, none_at, none_from, types_few, place_at}
+use Rattle.rinex_file.proofs.HeaderRows.End.{ends, no_end_line}
+use Rattle.rinex_file.proofs.HeaderRows.Read.{begun_here, line_types, none_taken, rows_there}
+use Rattle.rinex_file.proofs.HeaderRows.Steps.{step_at, steps_from, none_at, none_from, types_few, place_at}
 use Rattle.rinex_file.proofs.Judged.{refused}
 use Rattle.rinex_file.proofs.Names.{◌≡◌, ◌∙◌, ◌+◌, ◌<◌, sym, ap, subst, refl, ℕ, List, Result, Ok, Err, IsErrAnd, System, HeaderRow, Expected, Header, Epoch, Refusal, Memory, Bad, Types, End, planned_of, end_line, first_types, row_at, row_place, Known, IsHeadAt, announced, IsOnly, known_line, EndsHeader, NoneGoesOn, ReadsHeaderLine, TakesHeaderLine}
 use Rattle.rinex_file.proofs.read.head_so_far.HeadSoFar.take.Goals as goal

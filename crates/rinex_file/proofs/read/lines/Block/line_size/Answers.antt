@@ -1,4 +1,4 @@
-use Rattle.rinex_file.proofs.LineByLine.{no_feed}
+use Rattle.rinex_file.proofs.Reading.Lines.{no_feed}
 use Rattle.rinex_file.proofs.Names.{arith, ◌≡◌, ◌∙◌, sym, ap, ℕ, ◌+◌, ◌≤◌, take, length, subst, List, [], ◌∷◌, ◌++◌, Option, Some, min, min-le_left, eqb-true, take_more, take-take, length-take-le, IsFirstByte, is_byte, IsLine}
 use Rattle.rinex_file.proofs.read.lines.Block.line_size.Goals as goal
 

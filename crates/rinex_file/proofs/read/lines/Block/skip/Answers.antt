@@ -1,4 +1,4 @@
-use Rattle.rinex_file.proofs.LineByLine.{left_ahead}
+use Rattle.rinex_file.proofs.Reading.Lines.{left_ahead}
 use Rattle.rinex_file.proofs.Names.{arith, ◌≡◌, ◌∙◌, sym, ap, ℕ, List, length, ◌≤◌, take, drop, min-le_left, length-take}
 use Rattle.rinex_file.proofs.read.lines.Block.skip.Goals as goal
 

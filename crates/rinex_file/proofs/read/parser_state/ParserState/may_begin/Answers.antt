@@ -1,4 +1,4 @@
-use Rattle.rinex_file.proofs.BodySteps.{rise_after, rise_last, not_none}
+use Rattle.rinex_file.proofs.Reading.Epochs.{rise_after, rise_last, not_none}
 use Rattle.rinex_file.proofs.Names.{arith, ◌≡◌, ◌∙◌, ap, sym, subst, map, ℕ, zero, suc, ◌+◌, ◌*◌, ◌<◌, ◌≤◌, min, nat_lt, if◌then◌else◌, min-eq_right, satellites, Gps, Galileo, lt-ltb, ltb-true, most_rows, time_stamped, ParserState, AreTimesOrNone}
 use Rattle.rinex_file.proofs.read.parser_state.ParserState.may_begin.Goals as goal
 

@@ -1,5 +1,5 @@
 use Rattle.std.proofs.Common.{refl}
-use Rattle.rinex_file.proofs.HeaderBody.{header_starts}
+use Rattle.rinex_file.proofs.Reading.Header.{header_starts}
 use Rattle.rinex_file.proofs.read.parser_state.ParserState.new.Goals as goal
 
 pub returns-clause-starts : goal.returns-clause-starts

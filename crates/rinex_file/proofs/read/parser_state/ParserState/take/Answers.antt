@@ -1,6 +1,6 @@
-use Rattle.rinex_file.proofs.BodySteps.{goes_on, stopped}
-use Rattle.rinex_file.proofs.EventSteps.{event_taken, event_shows, sound_event, position_taken, position_shows, no_position, sound_position}
-use Rattle.rinex_file.proofs.HeaderBody.{no_header, header_taken, header_shows, header_ended, ended_shows, sound_start, sound_header}
+use Rattle.rinex_file.proofs.Reading.Epochs.{goes_on, stopped}
+use Rattle.rinex_file.proofs.Reading.Events.{event_taken, event_shows, sound_event, position_taken, position_shows, no_position, sound_position}
+use Rattle.rinex_file.proofs.Reading.Header.{no_header, header_taken, header_shows, header_ended, ended_shows, sound_start, sound_header}
 use Rattle.rinex_file.proofs.Names.{◌≡◌, ◌<◌, ℕ, List, subst, sym, ◌∙◌, Err, ParserState, NoRow, Expected, Header, Epoch, EventPosition, EventHeight, Refusal, History, FollowsHistory, IsNext, progress_at, Known, StepsTo, TakesHeaderLine}
 use Rattle.rinex_file.proofs.read.parser_state.ParserState.take.Goals as goal
 

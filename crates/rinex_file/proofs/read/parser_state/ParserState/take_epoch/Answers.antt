@@ -1,4 +1,4 @@
-use Rattle.rinex_file.proofs.BodySteps.{Begins, goes_on, epoch_taken, epoch_shows, few_satellites, no_epoch, sound_begun, sound_epoch}
+use Rattle.rinex_file.proofs.Reading.Epochs.{Begins, goes_on, epoch_taken, epoch_shows, few_satellites, no_epoch, sound_begun, sound_epoch}
 use Rattle.rinex_file.proofs.Judged.{refused}
 use Rattle.rinex_file.proofs.Names.{◌<◌, ◌≤◌, ℕ, subst, sym, IsTime, progress_at, Progress, MayBegin, Satellite}
 use Rattle.rinex_file.proofs.read.parser_state.ParserState.take_epoch.Goals as goal

@@ -1,6 +1,6 @@
 use Rattle.rinex_file.proofs.Judged.{refused}
-use Rattle.rinex_file.proofs.BodySteps.{goes_on}
-use Rattle.rinex_file.proofs.EventSteps.{height_taken, height_shows, no_height, same_height, sound_height}
+use Rattle.rinex_file.proofs.Reading.Epochs.{goes_on}
+use Rattle.rinex_file.proofs.Reading.Events.{height_taken, height_shows, no_height, same_height, sound_height}
 use Rattle.rinex_file.proofs.Names.{◌≡◌, ◌∙◌, sym, ap, subst, refl, ℕ, List, Option, Some, None, unwrap_or, StationValues, changed_by, ParserState, NoRow, Expected, EventEpoch, History, IsNext, progress_at}
 use Rattle.rinex_file.proofs.read.parser_state.ParserState.take_height.Goals as goal
 

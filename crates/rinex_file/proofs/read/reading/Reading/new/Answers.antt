@@ -1,4 +1,4 @@
-use Rattle.rinex_file.proofs.LineByLine.{start}
+use Rattle.rinex_file.proofs.Reading.Lines.{start}
 use Rattle.rinex_file.proofs.Names.{arith, ◌≡◌, refl, ap, List, ℕ, [], ◌++◌, Option, Some, None, prepend_known}
 use Rattle.rinex_file.proofs.read.reading.Reading.new.Goals as goal
 

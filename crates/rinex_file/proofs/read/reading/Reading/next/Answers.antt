@@ -1,7 +1,7 @@
 use Rattle.rinex_file.proofs.FileLines.{lines_are_lines}
 use Rattle.rinex_file.proofs.Judged.{refused as judged}
-use Rattle.rinex_file.proofs.HeaderBody.{unfinished, file_shown, only_file, file_read, sound_rows, begun, expected_at}
-use Rattle.rinex_file.proofs.LineByLine.{one_more, refused, over_long, cut, whole, both_said, too_long, line_some, is_empty, not_empty}
+use Rattle.rinex_file.proofs.Reading.Header.{unfinished, file_shown, only_file, file_read, sound_rows, begun, expected_at}
+use Rattle.rinex_file.proofs.Reading.Lines.{one_more, refused, over_long, cut, whole, both_said, too_long, line_some, is_empty, not_empty}
 use Rattle.rinex_file.proofs.read.reading.Reading.next.Goals.{then-self-eq-MOST_LINES+else-not-is_empty, else-self-eq-MOST_LINES}
 use Rattle.rinex_file.proofs.Names.{refl, ◌≡◌, ◌∙◌, sym, ap, subst, ℕ, List, ◌^◌, ◌+◌, ◌<◌, ◌≤◌, length, Err, arith, Refusal, GoesOnWithLine, ShowsLine, RefusesLine, TakesLine, progress_at, with_line}
 use Rattle.rinex_file.proofs.read.reading.Reading.next.Goals as goal

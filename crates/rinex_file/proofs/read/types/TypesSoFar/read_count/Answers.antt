@@ -1,5 +1,5 @@
 use Rattle.rinex_file.proofs.Entries.{few_signals}
-use Rattle.rinex_file.proofs.TypeRows.{few_types, count_read}
+use Rattle.rinex_file.proofs.HeaderRows.Types.{few_types, count_read}
 use Rattle.rinex_file.proofs.read.types.TypesSoFar.read_count.Goals.{then-count-eq0-via-then-count-eq0, then-count-eq0-via-else-count-eq0+then-count-signals}
 use Rattle.rinex_file.proofs.Names.{arith, ◌≡◌, ◌∙◌, ap, ℕ, List, ◌/◌, ◌≤◌, Some, System, digits_in, types_line}
 use Rattle.rinex_file.proofs.read.types.TypesSoFar.read_count.Goals as goal

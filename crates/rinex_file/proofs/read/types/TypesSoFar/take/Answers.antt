@@ -1,6 +1,6 @@
-use Rattle.rinex_file.proofs.HeaderRead.{row_taken}
+use Rattle.rinex_file.proofs.HeaderRows.Read.{row_taken}
 use Rattle.rinex_file.proofs.Judged.{at_some, refused}
-use Rattle.rinex_file.proofs.TypeRows.{shown_line}
+use Rattle.rinex_file.proofs.HeaderRows.Types.{shown_line}
 use Rattle.rinex_file.proofs.Names.{◌≡◌, ◌∙◌, sym, ap, Result, Err, err_from_is_err_and, indices, none-some, same_Some}
 use Rattle.rinex_file.proofs.read.types.TypesSoFar.take.Goals as goal
 

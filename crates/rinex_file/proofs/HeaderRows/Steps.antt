@@ -1,8 +1,8 @@
 -- Some plan has what was read of it; and from a row of a header to the next.
-use Rattle.rinex_file.proofs.BodySteps.{cons_parts}
+use Rattle.rinex_file.proofs.Reading.Epochs.{cons_parts}
 use Rattle.rinex_file.proofs.Entries.{few_signals}
-use Rattle.rinex_file.proofs.HeaderAgree.{Agree, agreed, less_or, planned_is, rows_when, same_there, types_low, types_high, shift_far, is_lt, placed, line_next, before_next}
-use Rattle.rinex_file.proofs.HeaderText.{equal_or}
+use Rattle.rinex_file.proofs.HeaderRows.Agree.{Agree, agreed, less_or, planned_is, rows_when, same_there, types_low, types_high, shift_far, is_lt, placed, line_next, before_next}
+use Rattle.rinex_file.proofs.HeaderRows.Texts.{equal_or}
 use Rattle.rinex_file.proofs.Names.{arith, ◌≡◌, ◌∙◌, sym, ap, refl, subst, ℕ, zero, suc, ◌+◌, ◌-◌, ◌<◌, ◌≤◌, Bool, true, false, eqb, nat_eq, List, [], ◌∷◌, ◌++◌, length, take, append_assoc, append-nil, length-append, All, ◌≢◌, ap₂, ◌==◌, ◌&&◌, min, ◌↔◌, inl, inr, ◌||◌, ◌⊎◌, nat_lt, list_any, IsDistinct, take-append_seam, nat_eq_equiv, IsDistinct-push, le-length_from_below, nat_tests, All-nil, All-cons, All-push, table, System, Gps, Galileo, passes_at, is_less, PlanValue, planned_of, civil_of, Known, MayBeAll, announced, IsShown, AreValid, MayPlan, HasReadRows, is_some_planned, shown_with, Announced, Shown, AreTypesRead, IsReadTo, IsHeadAt, IsOnlyTime, shown_rows, shown_line, lines_before, lines_after, signals_begun, HeaderRow, Types, StrengthUnit, First, Shift, End, Expected, Header, Epoch, lines_of_header, of_system, has_line, row_at, row_count, row_place, first_types, type_rows, has_types, known_line, ReadsHeaderLine, RefusesHeaderLine, GoesTo, NoneGoesOn, SameFrom, StepsTo}
 
 -- ---- signals of a system, with others up to a number

@@ -1,8 +1,8 @@
 -- The last line of a header, the header that was read, and the start.
-use Rattle.rinex_file.proofs.BodySteps.{few_signals_of}
-use Rattle.rinex_file.proofs.HeaderAgree.{Agree, single, types_high, agree_types, agree_count, signals_same, none_planned, split_at, lengths-back, height-back, number_at, coordinate-fits}
-use Rattle.rinex_file.proofs.HeaderSteps.{some_plan, with_is, unread}
-use Rattle.rinex_file.proofs.HeaderText.{place_back, same_at, same_rows, texts_back, same_texts, SameTexts, text_low}
+use Rattle.rinex_file.proofs.Reading.Epochs.{few_signals_of}
+use Rattle.rinex_file.proofs.HeaderRows.Agree.{Agree, single, types_high, agree_types, agree_count, signals_same, none_planned, split_at, lengths-back, height-back, number_at, coordinate-fits}
+use Rattle.rinex_file.proofs.HeaderRows.Steps.{some_plan, with_is, unread}
+use Rattle.rinex_file.proofs.HeaderRows.Texts.{place_back, same_at, same_rows, texts_back, same_texts, SameTexts, text_low}
 use Rattle.rinex_file.proofs.Names.{arith, ◌≡◌, ◌∙◌, sym, ap, ap₂, map, refl, subst, ℕ, ℤ, pos, suc, lit<, lit≤, ◌-◌, ◌<◌, ◌≤◌, Bool, true, false, ◌||◌, min, List, [], ◌∷◌, ◌++◌, length, get_or, take, replicate, All, nat_eq, AllOfLen, IsDistinct, take_all, ext_get_or, All-map, All-weaker, codes, SignalAt, IsSignal, table, System, Gps, Galileo, indices, IsOf, PlanValue, planned_of, StationValues, civil_of, TextRow, Texts, Position, Delta, First, End, trimmed, HeaderLists, text_count, text_of, width_of, fields, fields_of, text_rows, HeaderField, AntType, IsText, AreTexts, AreValues, IsTime, row_line, row_place, end_line, first_line, first_types, texts_line, position_line, delta_line, digits_in, Known, Shown, AreTypesRead, IsShown, AreValid, MayPlan, IsHeadAt, IsOnlyTime, shown_with, lines_before, announced, signals_begun, RefusesHeaderLine, EndsHeader, none_of, row_at, shown_rows, same_Some}
 
 -- ---- headers with the same lines are the same

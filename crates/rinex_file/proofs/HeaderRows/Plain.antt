@@ -3,9 +3,9 @@ use Rattle.gnss_obs.specs.declared.tables.ListedSignal.{ListedSignal as TableEnt
 use Rattle.gnss_obs.specs.Weeks.{day as day_length}
 use Rattle.gnss_obs.proofs.WalkLemmas.{date_of_is}
 use Rattle.gnss_obs.specs.Dates.{IsCivil}
-use Rattle.rinex_file.proofs.BodySteps.{few_signals_of}
-use Rattle.rinex_file.proofs.HeaderText.{few_columns}
-use Rattle.rinex_file.proofs.TypeRows.{length-system_types}
+use Rattle.rinex_file.proofs.Reading.Epochs.{few_signals_of}
+use Rattle.rinex_file.proofs.HeaderRows.Texts.{few_columns}
+use Rattle.rinex_file.proofs.HeaderRows.Types.{length-system_types}
 use Rattle.rinex_file.proofs.PlainTexts.{both, IsPlain, plain-wider, plain-append, plain-left, plain-right, plain-decimal, plain-fixed, plain, plain-flat_map, plain-joined, also, plain-text}
 use Rattle.rinex_file.proofs.Names.{arith, lit≤, lit<, ◌≡◌, ap, refl, subst, ℕ, zero, suc, ◌+◌, ◌*◌, ◌/◌, ◌%◌, ◌^◌, ◌<◌, ◌≤◌, ℤ, pos, unsigned_abs, Bool, true, false, List, [], ◌∷◌, ◌++◌, length, replicate, take, drop, decimal, get_or, append_assoc, length-append, ◌==◌, ◌||◌, ◌&&◌, not, if◌then◌else◌, nat_le, flat_map, All, codes, slice_get, AllByRecursion, list_all, option_map_or, cond_both, ints, length-take, All-nil, All-head, All-tail, All-cons, All-append, All-map, All-take, All-drop, All-replicate, code_of, System, StationValues, Civil, civil_of, PlanValue, planned_of, HeaderField, TextRow, HeaderRow, Version, Texts, Position, Delta, Types, StrengthUnit, First, Shift, End, IsLine, AreTexts, IsPlan, AreValues, IsTime, IsCoordinate, header_line, version_line, lengths, file_system, first_line, text_columns, texts_line, types_of, type_front, type_columns, type_line, codes_of, row_line, row_lines, has_line, all_rows, header_lines, position_line, delta_line, letter_of, joined, left, right, fixed, has, HeaderLists, width_of, text_of, fields_of, label_of, front_of, common_steps}
 

@@ -1,9 +1,9 @@
 -- The steps of a reading from the header to the epochs, and its end.
-use Rattle.rinex_file.proofs.HeaderAgree.{some_after, split_at, agreed}
-use Rattle.rinex_file.proofs.HeaderSteps.{some_plan, with_is}
-use Rattle.rinex_file.proofs.HeaderEnd.{zero_values, same_header}
-use Rattle.rinex_file.proofs.LineByLine.{consumed}
-use Rattle.rinex_file.proofs.BodySteps.{lines_with, lines_are, sound_open, sound_between, at_expected, file_value}
+use Rattle.rinex_file.proofs.HeaderRows.Agree.{some_after, split_at, agreed}
+use Rattle.rinex_file.proofs.HeaderRows.Steps.{some_plan, with_is}
+use Rattle.rinex_file.proofs.HeaderRows.End.{zero_values, same_header}
+use Rattle.rinex_file.proofs.Reading.Lines.{consumed}
+use Rattle.rinex_file.proofs.Reading.Epochs.{lines_with, lines_are, sound_open, sound_between, at_expected, file_value}
 use Rattle.rinex_file.proofs.Names.{arith, ◌≡◌, ◌∙◌, sym, ap, refl, ℕ, zero, suc, ◌+◌, ◌<◌, pos, List, [], ◌∷◌, ◌++◌, length, Option, IfSome, lit<, subst, take, drop, append-nil, append_assoc, None, Some, ⊤, map, flat_map, All-head, All-nil, length-map, nil_from_length, StationValues, civil_of, ParserState, Expected, Header, Epoch, EventPosition, EventHeight, EventEpoch, Satellite, IsChange, IsFileValue, AreBegun, IsEventBegun, lines_of_header, whole_lines, AreBefore, IsExpectedAt, Progress, IsPosition, shown_with, lines_after, stamped, Known, Shown, IsShown, IsHeadAt, lines_before, file_with, StartsAt, IsInHeader, IsAt, IsBetween, IsInEvent, position_of, IsInEpoch, HasLinesLeft, IsSound, IsSoundAt, IsEventExpected, AreLinesAt, values_now, AreRead, AreLinesOf, History, FollowsHistory, progress_at, GoesOnWithLine, ShowsLine, IsTaken, SatelliteRow, Stamped, FileValue, header_lines, row_count, satellite_line, event_lines, stamped_lines, file_lines, lines_of_parts, GoesTo, EndsHeader, NoneGoesOn}
 
 some_lines : (xs : List (List ℕ)) → (xs ≡ [] → ⊥) → 0 < length xs

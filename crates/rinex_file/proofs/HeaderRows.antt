@@ -1,0 +1,8 @@
+-- The lines of a header: their texts and types, headers with the same lines, and what is known after each line.
+pub mod Texts
+pub mod Types
+pub mod Agree
+pub mod Steps
+pub mod Read
+pub mod End
+pub mod Plain
