@@ -1,10 +1,10 @@
 -- The lines of a file value are lines, and none is longer than the largest line that is read.
 use Rattle.std.proofs.Common.{arith, lit≤, ◌≡◌, ◌∙◌, ap, refl, sym, subst, ℕ, ◌+◌, ◌*◌, ◌^◌, ◌<◌, ◌≤◌, ℤ, pos, false, Option, Some, None, IfSome, List, [], ◌∷◌, ◌++◌, length, replicate, decimal, get_or, append_assoc}
 use Rattle.rinex_file.specs.File.{lines_of_parts as lines_of_file}
-use Rattle.rinex_file.proofs.RowText.{small_value, length-value, strength_fits, few_satellites}
-use Rattle.rinex_file.proofs.KeptFile.{either_few}
-use Rattle.rinex_file.proofs.Cuts.{filled, length-trimmed}
-use Rattle.rinex_file.proofs.Digits.{has-append, has-right, lacks-padded, length-right, length-padded}
+use Rattle.rinex_file.proofs.Rows.Sizes.{small_value, length-value, strength_fits, few_satellites}
+use Rattle.rinex_file.proofs.Writing.Stored.{either_few}
+use Rattle.rinex_file.proofs.Rows.Trimmed.{filled, length-trimmed}
+use Rattle.rinex_file.proofs.Digits.Numbers.{has-append, has-right, lacks-padded, length-right, length-padded}
 use Rattle.rinex_file.proofs.FewRows.{few_rows}
 use Rattle.rinex_file.proofs.PlainTexts.{clean-fixed, IsPlain, plain-append, plain-padded, plain, plain-flat_map, plain-joined, also}
 use Rattle.rinex_file.proofs.Reading.Epochs.{few_signals_of}

@@ -28,7 +28,7 @@ use std::io::Write;
 /// # Errors
 ///
 /// [`HeadFault::Write`] if the writer fails; the bytes written are then a prefix of the header.
-#[tactic(auto, using(crate::proofs::Sent::failures))]
+#[tactic(auto, using(crate::proofs::Writing::Sent::failures))]
 pub fn write_header<W: Write>(head: &Head, writer: &mut Counted<W>) -> Result<(), HeadFault>
     ensures whole { OnOk result
         (Appends (W.contents writer.old.inner) (W.contents writer.new.inner) (head_text head.now)) }
@@ -48,7 +48,7 @@ pub fn write_header<W: Write>(head: &Head, writer: &mut Counted<W>) -> Result<()
 /// # Errors
 ///
 /// [`HeadFault::Write`] if the writer fails; the bytes written are then a prefix of these lines.
-#[tactic(auto, using(crate::proofs::Sent::failures))]
+#[tactic(auto, using(crate::proofs::Writing::Sent::failures))]
 pub fn write_event<W: Write>(
     values: StationValues,
     writer: &mut Counted<W>,
@@ -67,7 +67,7 @@ pub fn write_event<W: Write>(
 }
 
 /// Writes the line of each satellite of a system that has a value.
-#[tactic(auto, using(crate::proofs::Sent::failures))]
+#[tactic(auto, using(crate::proofs::Writing::Sent::failures))]
 fn write_system<W: Write>(
     epoch: &Epoch,
     plan: &Plan,
@@ -102,7 +102,7 @@ fn write_system<W: Write>(
 /// # Errors
 ///
 /// [`HeadFault::Write`] if the writer fails; the bytes written are then a prefix of these lines.
-#[tactic(auto, using(crate::proofs::Sent::failures))]
+#[tactic(auto, using(crate::proofs::Writing::Sent::failures))]
 pub fn write_epoch<W: Write>(
     epoch: &Epoch,
     plan: &Plan,

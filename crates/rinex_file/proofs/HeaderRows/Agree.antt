@@ -1,7 +1,7 @@
 -- Version, position and height are read back from their lines; headers with the same lines before a row have the same
 -- contents in these rows.
 use Rattle.std.proofs.lemmas.Grind.{flat_map-append}
-use Rattle.rinex_file.proofs.Digits.{number_in-fixed, digits_in-right, digits_in-fixed, length-fixed, length-right}
+use Rattle.rinex_file.proofs.Digits.Numbers.{number_in-fixed, digits_in-right, digits_in-fixed, length-fixed, length-right}
 use Rattle.rinex_file.proofs.Reading.Epochs.{cons_parts}
 use Rattle.rinex_file.proofs.Entries.{few_signals}
 use Rattle.rinex_file.proofs.Reading.Dates.{IsField, AreFields, field_at}

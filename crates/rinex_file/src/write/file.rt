@@ -30,7 +30,7 @@ fn write_change(change: Option<StationValues>, text: &mut Text) -> Result<(), He
 }
 
 /// Writes the lines of an epoch, each in the buffer or over the first bytes of the row before.
-#[tactic(auto, using(crate::proofs::Sent::failures))]
+#[tactic(auto, using(crate::proofs::Writing::Sent::failures))]
 fn write_kept(
     epoch: &KeptEpoch,
     line: &mut Line,
@@ -53,7 +53,7 @@ fn write_kept(
 }
 
 /// Writes the lines of a file.
-#[tactic(auto, using(crate::proofs::Sent::failures))]
+#[tactic(auto, using(crate::proofs::Writing::Sent::failures))]
 fn write_file(file: &ObsFile, text: &mut Text) -> Result<(), HeadFault>
     ensures { OnOk result (text.new.inner.items ≡ text.old.inner.items ++ file_text file.now) }
 {

@@ -1,4 +1,4 @@
-use Rattle.rinex_file.proofs.FileText.{file_text-gathered, header_text-some}
+use Rattle.rinex_file.proofs.Writing.Text.{file_text-gathered, header_text-some}
 use Rattle.rinex_file.proofs.laws.file.Goals as goal
 
 pub returns-clause-text : goal.returns-clause-text

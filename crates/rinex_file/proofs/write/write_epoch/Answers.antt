@@ -1,5 +1,5 @@
 use Rattle.std.proofs.Common.{◌≡◌, ◌∙◌, ap₂, ℕ, List}
-use Rattle.rinex_file.proofs.Sent.{where_failed, epoch_first, epoch_second, epoch_third, epoch_whole}
+use Rattle.rinex_file.proofs.Writing.Sent.{where_failed, epoch_first, epoch_second, epoch_third, epoch_whole}
 use Rattle.rinex_file.proofs.Names.{civil_of, epoch_line}
 use Rattle.rinex_file.proofs.write.write_epoch.Goals as goal
 

@@ -1,5 +1,5 @@
 use Rattle.std.proofs.Common.{◌∙◌, subst}
-use Rattle.rinex_file.proofs.Sent.{event_first, event_second, event_third, event_whole, where_failed}
+use Rattle.rinex_file.proofs.Writing.Sent.{event_first, event_second, event_third, event_whole, where_failed}
 use Rattle.rinex_file.proofs.Names.{Appends, AppendsPrefix}
 use Rattle.rinex_file.proofs.write.write_event.Goals as goal
 

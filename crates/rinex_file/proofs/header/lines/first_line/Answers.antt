@@ -1,4 +1,4 @@
-use Rattle.rinex_file.proofs.Grown.{grown_whole}
+use Rattle.rinex_file.proofs.Writing.Grown.{grown_whole}
 use Rattle.rinex_file.proofs.Names.{◌∙◌, ap, ◌∷◌, [], refl, ◌*◌, decimal, codes, pos, right, fixed, header_line, first_line}
 use Rattle.rinex_file.proofs.header.lines.first_line.Goals as goal
 

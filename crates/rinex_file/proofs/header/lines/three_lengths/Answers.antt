@@ -1,4 +1,4 @@
-use Rattle.rinex_file.proofs.Grown.{grown_whole}
+use Rattle.rinex_file.proofs.Writing.Grown.{grown_whole}
 use Rattle.rinex_file.proofs.Names.{rules, ◌≡◌, ◌∙◌, ap, ◌∷◌, ◌++◌, [], refl, right, fixed, header_line}
 use Rattle.rinex_file.proofs.header.lines.three_lengths.Goals as goal
 

@@ -1,4 +1,4 @@
-use Rattle.rinex_file.proofs.FieldRows.{none_written, some_written, few_blanks}
+use Rattle.rinex_file.proofs.Fields.Values.{none_written, some_written, few_blanks}
 use Rattle.rinex_file.proofs.read.fields.blanks_in.Goals as goal
 
 pub returns-then-written-eq0-clause-count : goal.returns-then-written-eq0-clause-count

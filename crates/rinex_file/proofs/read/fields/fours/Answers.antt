@@ -1,4 +1,4 @@
-use Rattle.rinex_file.proofs.FieldLanes.{fours_of_bytes}
+use Rattle.rinex_file.proofs.Fields.Lanes.{fours_of_bytes}
 use Rattle.rinex_file.proofs.read.fields.fours.Goals as goal
 
 pub returns : goal.returns

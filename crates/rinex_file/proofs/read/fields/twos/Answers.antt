@@ -1,4 +1,4 @@
-use Rattle.rinex_file.proofs.FieldLanes.{pairs_are}
+use Rattle.rinex_file.proofs.Fields.Lanes.{pairs_are}
 use Rattle.rinex_file.proofs.read.fields.twos.Goals as goal
 
 pub returns : goal.returns

@@ -1,10 +1,10 @@
 use Rattle.std.proofs.Common.{arith, ◌≡◌, ◌∙◌, ap, sym, subst, ℤ, ◌+◌, ◌≤◌, take, true, to_z, of_z, w64, Some, slice_index}
-use Rattle.rinex_file.proofs.FieldLanes.{bytes_below, taken, tenth_below}
-use Rattle.rinex_file.proofs.FieldRows.{IsShown, IsValue, shown, value_is, within, no_zero}
+use Rattle.rinex_file.proofs.Fields.Lanes.{bytes_below, taken, tenth_below}
+use Rattle.rinex_file.proofs.Fields.Values.{IsShown, IsValue, shown, value_is, within, no_zero}
 use Rattle.rinex_file.proofs.Judged.{refused}
-use Rattle.rinex_file.proofs.LaneColumns.{front, leading-le}
+use Rattle.rinex_file.proofs.Fields.Templates.{front, leading-le}
 use Rattle.rinex_file.proofs.OneReading.{value_once}
-use Rattle.rinex_file.proofs.RowText.{stays}
+use Rattle.rinex_file.proofs.Rows.Sizes.{stays}
 use Rattle.rinex_file.proofs.read.fields.value_in.Goals.{After-template, else-negative-via-then-negative+else-size-eq0, else-negative-via-else-negative}
 use Rattle.rinex_file.proofs.Names.{if◌then◌else◌, length-zip2, FitsColumns, blanks, field, leading}
 use lib.Lanes.{zip2}

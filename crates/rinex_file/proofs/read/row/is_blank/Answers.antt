@@ -1,4 +1,4 @@
-use Rattle.rinex_file.proofs.WrittenRow.{signal_is}
+use Rattle.rinex_file.proofs.Rows.Written.{signal_is}
 use Rattle.rinex_file.proofs.Names.{no_signal_values, field}
 use Rattle.rinex_file.proofs.read.row.is_blank.Goals as goal
 

@@ -1,5 +1,5 @@
 use Rattle.std.proofs.Common.{arith, ◌≡◌, ◌∙◌, sym, ℕ, ◌<◌, true}
-use Rattle.rinex_file.proofs.WrittenRow.{ends}
+use Rattle.rinex_file.proofs.Rows.Written.{ends}
 use Rattle.rinex_file.proofs.read.row.is_ended.Goals.{then-end-ge2, else-end-ge2}
 use Rattle.rinex_file.proofs.Names.{leb, eqb-true, leb-true}
 use Rattle.rinex_file.proofs.read.row.is_ended.Goals as goal

@@ -1,5 +1,5 @@
 use Rattle.std.proofs.Common.{◌∙◌, ap, refl, ◌*◌, ◌/◌, length}
-use Rattle.rinex_file.proofs.CutColumns.{filled_over}
+use Rattle.rinex_file.proofs.Rows.Cut.{filled_over}
 use Rattle.rinex_file.proofs.Names.{take_rest, filled_to}
 use Rattle.rinex_file.proofs.read.row.last_columns.Goals as goal
 

@@ -1,6 +1,6 @@
 use Rattle.std.proofs.Common.{arith, ◌∙◌, sym, ◌≤◌}
 use Rattle.rinex_file.proofs.OneReading.{number_once}
-use Rattle.rinex_file.proofs.WrittenRow.{digits_shown, number_shown}
+use Rattle.rinex_file.proofs.Rows.Written.{digits_shown, number_shown}
 use Rattle.rinex_file.proofs.read.row.two_digits_in.Goals as goal
 
 pub returns-then-not-is_ascii_digit : goal.returns-then-not-is_ascii_digit

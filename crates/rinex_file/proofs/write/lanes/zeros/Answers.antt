@@ -1,5 +1,5 @@
 use Rattle.std.proofs.Common.{arith, ◌∙◌, ap, ℕ, List, [], ◌∷◌}
-use Rattle.rinex_file.proofs.LaneDigits.{ends, first_flag, few_flags}
+use Rattle.rinex_file.proofs.Digits.Lanes.{ends, first_flag, few_flags}
 use lib.Count.{count_trailing_zeros}
 use Rattle.rinex_file.proofs.write.lanes.zeros.Goals as goal
 

@@ -1,5 +1,5 @@
 use Rattle.std.proofs.Common.{arith}
-use Rattle.rinex_file.proofs.Digits.{ten_pow}
+use Rattle.rinex_file.proofs.Digits.Numbers.{ten_pow}
 use Rattle.rinex_file.proofs.Names.{common_steps}
 use Rattle.rinex_file.proofs.write.line.fixed_text.Goals as goal
 

@@ -1,7 +1,7 @@
 -- The text of a file that is stored in memory.
 use Rattle.rinex_file.proofs.Reading.Epochs.{few_signals_of}
-use Rattle.rinex_file.proofs.RowText.{few_satellites}
-use Rattle.rinex_file.proofs.Sent.{joined-append}
+use Rattle.rinex_file.proofs.Rows.Sizes.{few_satellites}
+use Rattle.rinex_file.proofs.Writing.Sent.{joined-append}
 use Rattle.rinex_file.proofs.Names.{arith, ◌≡◌, ◌∙◌, sym, ap, ap₂, refl, ℕ, ◌+◌, ◌<◌, ◌≤◌, List, [], ◌∷◌, ◌++◌, length, take, get_or, append_assoc, append-nil, All, map, flat_map, take_all, take_more, flat_map-append, flat_map-map, System, Gps, Galileo, civil_of, SatelliteRow, Stamped, FileValue, IsSatelliteRow, IsFileValue, of_system, header_lines, joined, epoch_line, satellite_line, header_text, change_lines, stamped_lines, file_text, lines_of_parts, HasRoom, HaveRowsRoom, stamped_text}
 
 pub either_few : (s : System) (gps galileo : ℕ) → gps ≤ 19 → galileo ≤ 19 → of_system s gps galileo ≤ 19

@@ -1,0 +1,6 @@
+-- The line of a satellite: its parts, written and read.
+pub mod Sizes
+pub mod Cells
+pub mod Trimmed
+pub mod Cut
+pub mod Written

@@ -1,0 +1,7 @@
+-- Lines and files as they are written.
+pub mod Sent
+pub mod Satellites
+pub mod OwnCells
+pub mod Stored
+pub mod Text
+pub mod Grown
