@@ -163,6 +163,18 @@ kept_at : (xs : List ℕ) (m s k j : ℕ) → s + k ≤ j → slice_index (looke
 kept_at xs m s zero j h = refl
 kept_at xs m s (suc k) j h = get_or-set_other (looked_through (counts_alone xs m) s k).looks (s + k) j _ 0 (omega (arith, h)) ∙ kept_at xs m s k j (omega (arith, h))
 
+-- the greatest count after one look more
+pub most_more : (xs : List ℕ) (m s k p q : ℕ) → p ≡ (looked_through (counts_alone xs m) s k).most → q ≡ max p (min (slice_index xs (s + k) + 1) 65535)
+    → q ≡ (looked_through (counts_alone xs m) s (k + 1)).most
+most_more xs m s k p q e f = let z : k + 1 ≡ suc k = omega arith in rw (z, f, e, kept_at xs m s k (s + k) (omega arith)) refl
+
+pub last_stored : (b xs : List ℕ) (f o n e e' m m' s k : ℕ) (w : WindowValue) → held_of b (filled_up (drop f xs) o n) e m ≡ w → s + k ≤ length (drop f xs)
+    → e ≤ 18446744073709551615 → e' ≡ min (e + k) 18446744073709551615 → m' ≡ (looked_through (counts_alone xs m) (f + s) k).most
+    → (d : ℕ) → s + k ≤ d → without_front (held_of b (filled_up (drop f xs) o n) e' m') d ≡ without_front (looked_through w s k) d
+last_stored b xs f o n e e' m m' s k w v h g r q d l =
+    let i = in_front (drop f xs) (replicate o 1 ++ replicate (n - (length (drop f xs) + o)) 0) m s k h in
+    rw (r, q, (shifted xs f m s k).1, ← v, through_counts b (filled_up (drop f xs) o n) e m s k g, kept_past (filled_up (drop f xs) o n) m s k d l, i.1) refl
+
 seen_twice : (xs : List ℕ) (m s k : ℕ) → slice_index xs s ≡ 1 → ((j : ℕ) → slice_index xs (s + j) ≤ 1) → (looked_through (counts_alone xs m) s (suc k)).most ≡ max m 2
 seen_twice xs m s zero f g = let z : s + 0 ≡ s = omega arith in rw (z, f) refl
 seen_twice xs m s (suc k) f g =

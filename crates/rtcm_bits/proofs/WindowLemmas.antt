@@ -1,6 +1,6 @@
 -- The calls of a window and its ring, as the contracts state them.
 use Rattle.std.proofs.Common.{◌≡◌, ℕ, ◌+◌, ◌-◌, ◌<◌, ◌≤◌, min, max, List, [], ◌++◌, length, take, drop, slice_index, slice_range, slice_set, refl, sym, ap, ◌∙◌, arith, suc, zero, length-drop, ⊎_elim}
-use Rattle.rtcm_bits.proofs.Names.{cases_lt, append-nil, drop-append-le, drop-set-add, get_or-drop, take_all, take_rest, take-append-le, take-append-add, drop-append-add, Buffer, buffer, WindowValue, held_of, counts_alone, looked, looked_through, without_front}
+use Rattle.rtcm_bits.proofs.Names.{cases_lt, append-nil, drop-append-le, drop-drop, drop-set-add, get_or-drop, take_all, take_rest, take-append-le, take-append-add, drop-append-add, Buffer, buffer, WindowValue, held_of, counts_alone, looked, looked_through, without_front}
 
 -- the counts of a range don't depend on the bytes, nor on the sum of all looks
 pub through_counts : (b xs : List ℕ) (e m start n : ℕ) → e ≤ 18446744073709551615 →
@@ -42,27 +42,33 @@ looked_on w s j (suc k) =
     let a : s + (j + k) ≡ s + j + k = omega arith in
     rw (z, looked_on w s j k, a) refl
 
--- a look at the byte after the first n, before or after they are dropped
-looked_next : (w : WindowValue) (n k : ℕ) → k ≡ n → looked (without_front w n) 0 ≡ without_front (looked w k) n
-looked_next w n k e =
-    let a = one_more w.looks (drop n w.looks) n n 0 w.most w.most (omega arith) refl refl in
-    let g : slice_index (drop n w.looks) 0 ≡ slice_index w.looks n = get_or-drop n w.looks 0 0 ∙ ap (λ (t : ℕ). slice_index w.looks t) (omega arith) in
-    rw (e, a.0, g) refl
+-- looks at the bytes after the first j, before or after those are dropped
+front_last : (w : WindowValue) (j k : ℕ) → looked_through (without_front w j) 0 k ≡ without_front (looked_through w j k) j
+front_last w j zero = refl
+front_last w j (suc k) =
+    let v = looked_through w j k in
+    let a = one_more v.looks (drop j v.looks) j (j + k) (0 + k) v.most v.most (omega arith) refl refl in
+    rw (front_last w j k, a.0, a.1) refl
 
 pub looked_to : (w v : WindowValue) (n : ℕ) → v ≡ without_front (looked_through w 0 n) n → looked_through v 0 1 ≡ without_front (looked_through w 0 (n + 1)) n
 looked_to w v n e =
-    let z : n + 1 ≡ suc n = omega arith in
-    rw (e, z) (looked_next (looked_through w 0 n) n (0 + n) (omega arith))
+    ap (λ (t : WindowValue). looked_through t 0 1) e ∙ front_last (looked_through w 0 n) n 1
+    ∙ ap (λ (t : WindowValue). without_front t n) (ap (λ (i : ℕ). looked_through (looked_through w 0 n) i 1) (omega arith) ∙ looked_on w 0 n 1)
 
 -- n bytes dropped after a look at the first j, and then at the others
-pub looked_dropped : (w u v x : WindowValue) (j n : ℕ) → j ≤ n → u ≡ looked_through w 0 j
+pub looked_dropped : (w u v x : WindowValue) (j n : ℕ) → j ≤ n
+    → ((d : ℕ) → 0 + j ≤ d → without_front u d ≡ without_front (looked_through w 0 j) d)
     → ((d : ℕ) → j + (n - j) ≤ d → without_front v d ≡ without_front (looked_through u j (n - j)) d) → x ≡ without_front v n
     → x ≡ without_front (looked_through w 0 n) n
-looked_dropped w u v x j n h e f g =
-    let z : j + (n - j) ≡ n = omega (arith, h) in
-    g ∙ f n (omega (arith, h)) ∙ ap (λ (t : WindowValue). without_front (looked_through t j (n - j)) n) e
-    ∙ ap (λ (t : WindowValue). without_front t n)
-    (ap (λ (t : ℕ). looked_through (looked_through w 0 j) t (n - j)) (omega arith) ∙ looked_on w 0 j (n - j)) ∙ ap (λ (t : ℕ). without_front (looked_through w 0 t) n) z
+looked_dropped w u v x j n h e f g = g ∙ f n (omega (arith, h)) ∙ both (n - j) n (omega (arith, h))
+  where
+    both : (k i : ℕ) → i ≡ j + k → without_front (looked_through u j k) i ≡ without_front (looked_through w 0 i) i
+    both k i q =
+        let s : (t : WindowValue) → without_front t (j + k) ≡ without_front (without_front t j) k = λ (t : WindowValue). rw (drop-drop k j t.bytes, drop-drop k j t.looks) refl in
+        rw q (s (looked_through u j k) ∙ ap (λ (t : WindowValue). without_front t k)
+        (sym (front_last u j k) ∙ ap (λ (t : WindowValue). looked_through t 0 k) (e j (omega arith)) ∙ front_last (looked_through w 0 j) j k)
+        ∙ sym (s (looked_through (looked_through w 0 j) j k))
+        ∙ ap (λ (t : WindowValue). without_front t (j + k)) (ap (λ (i : ℕ). looked_through (looked_through w 0 j) i k) (omega arith) ∙ looked_on w 0 j k))
 
 -- a range of two consecutive lists: inside the first, across both, inside the second
 pub range_first : (f b : List ℕ) (s n : ℕ) → s + n ≤ length f → take (s + n - s) (drop s f) ++ [] ≡ slice_range (f ++ b) s (s + n)

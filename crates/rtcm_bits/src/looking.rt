@@ -26,6 +26,19 @@ pub(crate) fn look_at_each(counts: &mut [u16], start: usize, n: usize, greatest:
     most
 }
 
+/// Returns the greatest of `greatest` and of the `n` counts from index `start` on, with one look
+/// more, up to 65,535, each.
+pub(crate) fn most_after(counts: &[u16], start: usize, n: usize, greatest: u16) -> u16
+    requires { start + n ≤ length counts.now }
+    ensures { result ≡ (looked_through (counts_alone counts.now greatest) start n).most }
+{
+    let mut most = greatest;
+    for i in 0..n {
+        most = most.max(counts[start + i].saturating_add(1));
+    }
+    most
+}
+
 /// Makes room for `n` more counts after those of the bytes in the window, which are the ones from
 /// index `first` on, and returns their first index then.
 #[inline(always)]

@@ -8,20 +8,20 @@ returns-then-held-gt0-clause-dropped c =
     let w = c.args.self.now in
     let n = c.others_in-n.result in
     let x = c.drop_front.new.self in
-    let e = looked_dropped w c.count_looks.new.self c.count_last_looks.new.self x c.min-stored.result n (grind (arith, c.min-stored.ensures)) c.count_looks.ensures.counted c.count_last_looks.ensures.counted c.drop_front.ensures in
+    let e = looked_dropped w c.count_last_looks.new.self c.count_last_looks-2.new.self x c.min-stored.result n (grind (arith, c.min-stored.ensures)) c.count_last_looks.ensures.counted c.count_last_looks-2.ensures.counted c.drop_front.ensures in
     let l : length x.bytes ≡ length w.bytes - n =
-    ap (λ (t : WindowValue). length t.bytes) c.drop_front.ensures ∙ length-drop n c.count_last_looks.new.self.bytes ∙ ap (λ (t : List ℕ). length t - n) (c.count_last_looks.ensures.same ∙ c.count_looks.ensures.same) in
+    ap (λ (t : WindowValue). length t.bytes) c.drop_front.ensures ∙ length-drop n c.count_last_looks-2.new.self.bytes ∙ ap (λ (t : List ℕ). length t - n) (c.count_last_looks-2.ensures.same ∙ c.count_last_looks.ensures.same) in
     let m : n + 1 ≡ min (n + 1) (length w.bytes) = grind (arith, l, c.held.ensures.value, c.if-held-gt0.true) in
-    c.count_looks-then-held-gt0.ensures.counted ∙ looked_to w x n e ∙ ap (λ (t : ℕ). without_front (looked_through w 0 t) n) m
+    c.count_looks.ensures.counted ∙ looked_to w x n e ∙ ap (λ (t : ℕ). without_front (looked_through w 0 t) n) m
 
 pub returns-else-held-gt0-clause-dropped : goal.returns-else-held-gt0-clause-dropped
 returns-else-held-gt0-clause-dropped c =
     let w = c.args.self.now in
     let n = c.others_in-n.result in
     let x = c.drop_front.new.self in
-    let e = looked_dropped w c.count_looks.new.self c.count_last_looks.new.self x c.min-stored.result n (grind (arith, c.min-stored.ensures)) c.count_looks.ensures.counted c.count_last_looks.ensures.counted c.drop_front.ensures in
+    let e = looked_dropped w c.count_last_looks.new.self c.count_last_looks-2.new.self x c.min-stored.result n (grind (arith, c.min-stored.ensures)) c.count_last_looks.ensures.counted c.count_last_looks-2.ensures.counted c.drop_front.ensures in
     let l : length x.bytes ≡ length w.bytes - n =
-    ap (λ (t : WindowValue). length t.bytes) c.drop_front.ensures ∙ length-drop n c.count_last_looks.new.self.bytes ∙ ap (λ (t : List ℕ). length t - n) (c.count_last_looks.ensures.same ∙ c.count_looks.ensures.same) in
+    ap (λ (t : WindowValue). length t.bytes) c.drop_front.ensures ∙ length-drop n c.count_last_looks-2.new.self.bytes ∙ ap (λ (t : List ℕ). length t - n) (c.count_last_looks-2.ensures.same ∙ c.count_last_looks.ensures.same) in
     let s = c.as_slices.result in
     let a : length s.0.now + length s.1.now ≡ length w.bytes =
     sym (length-append s.0.now s.1.now) ∙ ap length c.as_slices.ensures ∙ ap (λ (t : WindowValue). length t.bytes) c.self.view_is in
