@@ -9,8 +9,8 @@ pub mod CheckLemmas
 pub mod RegisterLemmas
 pub mod ResidueLemmas
 pub mod TableLemmas
-pub mod EightLemmas
-pub mod SixteenLemmas
+pub mod SumLemmas
+pub mod EntryLemmas
 pub mod WordLemmas
 pub mod WindowLemmas
 pub mod LookLemmas

@@ -1,24 +1,21 @@
 -- The steps of the code that folds a long message.
-use Rattle.std.proofs.Common.{◌≡◌, ℕ, ◌+◌, ◌-◌, ◌^◌, ◌<◌, ◌≤◌, List, ◌++◌, length, drop, take, replicate, sym, ap, ◌∙◌, arith}
+use Rattle.std.proofs.Common.{◌≡◌, ℕ, ◌+◌, ◌-◌, ◌^◌, ◌<◌, ◌≤◌, List, [], ◌∷◌, ◌++◌, length, drop, take, replicate, sym, ap, ◌∙◌, arith}
 use Rattle.rtcm_bits.proofs.RegisterLemmas.{check_below}
-use Rattle.rtcm_bits.proofs.EightLemmas.{number_is}
-use Rattle.rtcm_bits.proofs.FoldLemmas.{take-add_bytes, fold_step, last_step, last_end}
+use Rattle.rtcm_bits.proofs.SumLemmas.{number_is, take-add_bytes}
+use Rattle.rtcm_bits.proofs.FoldLemmas.{offsets, fold_at, fold_step, last_step, last_end}
 use Rattle.rtcm_bits.proofs.Names.{length-drop, length-take-le, drop-drop, take-append-drop, take_all, uint, bits_of, crc, after_bits, add_bytes, fold_into}
 
 -- what is folded to the first bytes does not depend on the others
 first_sum : (k : ℕ) (d x y : List ℕ) → take k x ≡ take k y → take k (add_bytes d x) ≡ take k (add_bytes d y)
 first_sum k d x y h = take-add_bytes k d x ∙ ap (add_bytes (take k d)) h ∙ sym (take-add_bytes k d y)
 
+folded_first : (os w x y : List ℕ) → take 16 x ≡ take 16 y → take 16 (fold_at os w x) ≡ take 16 (fold_at os w y)
+folded_first [] w x y h = h
+folded_first (o ∷ os) w x y h = first_sum 16 (drop o w) (fold_at os w x) (fold_at os w y) (folded_first os w x y h)
+
 first_folded : (w m : List ℕ) → 16 ≤ length m → take 16 (fold_into w (take 16 m)) ≡ take 16 (fold_into w m)
 unfolding fold_into
-first_folded w m h =
-    let p : List ℕ = take 16 m in
-    let l : length (take 16 m) ≡ 16 = length-take-le 16 m h in
-    first_sum 16 (drop 27 w) (add_bytes (drop 25 w) (add_bytes (drop 17 w) (add_bytes (drop 11 w) (add_bytes w p)))) (add_bytes (drop 25 w) (add_bytes (drop 17 w) (add_bytes (drop 11 w) (add_bytes w m))))
-    (first_sum 16 (drop 25 w) (add_bytes (drop 17 w) (add_bytes (drop 11 w) (add_bytes w p))) (add_bytes (drop 17 w) (add_bytes (drop 11 w) (add_bytes w m)))
-    (first_sum 16 (drop 17 w) (add_bytes (drop 11 w) (add_bytes w p)) (add_bytes (drop 11 w) (add_bytes w m))
-    (first_sum 16 (drop 11 w) (add_bytes w p) (add_bytes w m)
-    (first_sum 16 w p m (take_all 16 p (omega (arith, l)))))))
+first_folded w m h = folded_first offsets w (take 16 m) m (take_all 16 (take 16 m) (omega (arith, length-take-le 16 m h)))
 
 next_is : (w bytes v : List ℕ) (t n : ℕ) → t + 16 ≤ length bytes → n ≡ 16 → v ≡ take 16 (fold_into w (take n (drop t bytes))) → v ≡ take 16 (fold_into w (drop t bytes))
 next_is w bytes v t n h k e =

@@ -1,6 +1,6 @@
 -- The calls of a window and its ring, as the contracts state them.
 use Rattle.std.proofs.Common.{◌≡◌, ℕ, ◌+◌, ◌-◌, ◌<◌, ◌≤◌, min, max, List, [], ◌++◌, length, take, drop, slice_index, slice_range, slice_set, refl, sym, ap, ◌∙◌, arith, suc, zero, length-drop, ⊎_elim}
-use Rattle.rtcm_bits.proofs.Names.{cases_lt, append-nil, drop-append-le, drop-drop, drop-set-add, get_or-drop, take_all, take_rest, take-append-le, take-append-add, drop-append-add, Buffer, buffer, WindowValue, held_of, counts_alone, looked, looked_through, without_front}
+use Rattle.rtcm_bits.proofs.Names.{cases_lt, append-nil, drop-append-le, drop-drop, drop-set-add, get_or-drop, take_all, take_rest, take-append-le, take-append-add, drop-append-add, Buffer, buffer, WindowValue, held_of, counts_alone, looked_through, without_front}
 
 -- the counts of a range don't depend on the bytes, nor on the sum of all looks
 pub through_counts : (b xs : List ℕ) (e m start n : ℕ) → e ≤ 18446744073709551615 →

@@ -89,7 +89,7 @@ fn after_short(register: u32, bytes: &[u8]) -> u32
     let mut after = register;
     let mut taken = 0;
     while bytes.len() - taken >= 16 {
-        after = after_sixteen(after, &bytes[taken..taken + 16]);
+        after = after_some(after, &bytes[taken..taken + 16]);
         taken += 16;
     }
     after_fewer(after, &bytes[taken..])
@@ -124,7 +124,7 @@ fn after_folded(start: Folded, bytes: &[u8]) -> u32
     let mut taken = 0;
     while taken < 96 {
         let next = folded.next(&bytes[taken..taken + 16]);
-        after = after_sixteen(after, &next.to_array());
+        after = after_some(after, &next.to_array());
         folded = folded.moved(u8x16::splat(0));
         taken += 16;
     }
@@ -141,7 +141,7 @@ fn after_fewer(register: u32, bytes: &[u8]) -> u32
     if bytes.len() < 8 {
         return after_each(register, bytes);
     }
-    after_each(after_eight(register, &bytes[..8]), &bytes[8..])
+    after_each(after_some(register, &bytes[..8]), &bytes[8..])
 }
 
 /// Returns the register after these bytes, processed one by one.
@@ -157,53 +157,25 @@ fn after_each(register: u32, bytes: &[u8]) -> u32
     after
 }
 
-/// Returns the register after eight bytes. The register is added to the first three bytes, and then
-/// the table entries of all eight are added, each from its own table.
-fn after_eight(register: u32, bytes: &[u8]) -> u32
+/// Returns the register after these bytes. The register is added to the first three of them, and
+/// then the table entries of all are added, each from its own table.
+// Inlined, the number of bytes is known, and the loop is unrolled.
+#[inline(always)]
+fn after_some(register: u32, bytes: &[u8]) -> u32
     requires below { register < 2 ^ 24 }
-    requires eight { length bytes.now ≡ 8 }
+    requires some { (3 ≤ length bytes.now) × (length bytes.now ≤ 16) }
     ensures bound { result < 2 ^ 24 }
     ensures steps { uint 24 result ≡ after_bits (uint 24 register) (bits_of bytes.now) }
 {
     let first = (register / 65536) as u8 ^ bytes[0];
     let second = (register / 256 % 256) as u8 ^ bytes[1];
     let third = (register % 256) as u8 ^ bytes[2];
-    entry(0, bytes[7])
-        ^ entry(1, bytes[6])
-        ^ entry(2, bytes[5])
-        ^ entry(3, bytes[4])
-        ^ entry(4, bytes[3])
-        ^ entry(5, third)
-        ^ entry(6, second)
-        ^ entry(7, first)
-}
-
-/// Returns the register after sixteen bytes, in the way of `after_eight`.
-fn after_sixteen(register: u32, bytes: &[u8]) -> u32
-    requires below { register < 2 ^ 24 }
-    requires sixteen { length bytes.now ≡ 16 }
-    ensures bound { result < 2 ^ 24 }
-    ensures steps { uint 24 result ≡ after_bits (uint 24 register) (bits_of bytes.now) }
-{
-    let first = (register / 65536) as u8 ^ bytes[0];
-    let second = (register / 256 % 256) as u8 ^ bytes[1];
-    let third = (register % 256) as u8 ^ bytes[2];
-    entry(0, bytes[15])
-        ^ entry(1, bytes[14])
-        ^ entry(2, bytes[13])
-        ^ entry(3, bytes[12])
-        ^ entry(4, bytes[11])
-        ^ entry(5, bytes[10])
-        ^ entry(6, bytes[9])
-        ^ entry(7, bytes[8])
-        ^ entry(8, bytes[7])
-        ^ entry(9, bytes[6])
-        ^ entry(10, bytes[5])
-        ^ entry(11, bytes[4])
-        ^ entry(12, bytes[3])
-        ^ entry(13, third)
-        ^ entry(14, second)
-        ^ entry(15, first)
+    let n = bytes.len();
+    let mut sum = 0;
+    for k in 0..n - 3 {
+        sum ^= entry(k, bytes[n - 1 - k]);
+    }
+    sum ^ entry(n - 3, third) ^ entry(n - 2, second) ^ entry(n - 1, first)
 }
 
 /// Returns the register after the eight bits of a byte, by the first table.

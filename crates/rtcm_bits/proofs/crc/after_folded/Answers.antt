@@ -24,10 +24,10 @@ loop-taken-preserved c =
     record {
       within = i;
       parts = omega (arith, c.loop-taken.invariant.parts);
-      bound = c.after_sixteen-after.ensures.bound;
+      bound = c.after_some-after.ensures.bound;
       window = c.moved-folded.ensures ∙ ap (λ (l : List ℕ). drop 16 l ++ replicate 16 0) c.loop-taken.invariant.window ∙ last_window c.args.start t (omega (arith, c.requires.whole, i));
       steps = c.loop-taken.invariant.steps
-          ∙ last_more c.loop-taken.folded c.args.bytes.now c.next-next.result c.moved-folded.result t (t + 16 - t) c.loop-taken.after c.after_sixteen-after.result w (omega (arith, c.requires.long, i)) z c.next-next.ensures.added c.moved-folded.ensures c.after_sixteen-after.ensures.steps;
+          ∙ last_more c.loop-taken.folded c.args.bytes.now c.next-next.result c.moved-folded.result t (t + 16 - t) c.loop-taken.after c.after_some-after.result w (omega (arith, c.requires.long, i)) z c.next-next.ensures.added c.moved-folded.ensures c.after_some-after.ensures.steps;
     }
 
 pub returns-clause-value : goal.returns-clause-value

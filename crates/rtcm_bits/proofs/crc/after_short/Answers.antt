@@ -12,10 +12,10 @@ loop-taken-preserved c =
     let z : t + 16 - t ≡ 16 = omega arith in
     record {
       within = omega (arith, c.loop-taken-test.true, c.loop-taken.invariant.within);
-      bound = c.after_sixteen-after.ensures.bound;
-      steps = steps_more (uint 24 c.args.register) (take t c.args.bytes.now) _ (take (t + 16) c.args.bytes.now) c.loop-taken.after c.after_sixteen-after.result
+      bound = c.after_some-after.ensures.bound;
+      steps = steps_more (uint 24 c.args.register) (take t c.args.bytes.now) _ (take (t + 16) c.args.bytes.now) c.loop-taken.after c.after_some-after.result
           (take-add t 16 c.args.bytes.now ∙ ap (λ (n : ℕ). take t c.args.bytes.now ++ take n (drop t c.args.bytes.now)) (sym z))
-          c.loop-taken.invariant.steps c.after_sixteen-after.ensures.steps;
+          c.loop-taken.invariant.steps c.after_some-after.ensures.steps;
     }
 
 pub returns-clause-steps : goal.returns-clause-steps

@@ -1,0 +1,6 @@
+use Rattle.std.proofs.Common.{◌≡◌, ◌-◌, length, drop}
+use Rattle.rtcm_bits.proofs.Names.{crc}
+use Rattle.rtcm_bits.proofs.crc.after_some.Given as goal
+
+abbrev pub invariant-loop-k : goal.invariant-loop-k
+invariant-loop-k l = l.sum ≡ crc (drop (length l.bytes - l.k) l.bytes)
