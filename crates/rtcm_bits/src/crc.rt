@@ -1,6 +1,6 @@
 //! The CRC of a frame, CRC-24Q (RTCM 10403.3, transport layer): generator 0x1864CFB, initial value
 //! 0, most significant bit first, no final exclusive or.
-ghost use Rattle.std.specs.Prelude.{◌≡◌, ◌^◌, ◌<◌, ◌≤◌, List, ℕ, [], ◌∷◌, ◌++◌, length};
+ghost use Rattle.std.specs.Prelude.{◌≡◌, ◌+◌, ◌*◌, ◌^◌, ◌<◌, ◌≤◌, List, ℕ, [], ◌∷◌, ◌++◌, length, drop};
 ghost use Rattle.rtcm_bits.specs.Bits.{uint, bits_of};
 ghost use Rattle.rtcm_bits.specs.Crc.{crc};
 ghost use Rattle.rtcm_bits.specs.Folding.{fold_into};
@@ -104,12 +104,32 @@ fn after_long(register: u32, bytes: &[u8]) -> u32
 {
     let mut folded = Folded::new(register);
     let mut taken = 0;
-    while bytes.len() - taken >= 112 {
-        let next = folded.next(&bytes[taken..taken + 16]);
-        folded = folded.moved(next);
-        taken += 16;
+    while bytes.len() - taken >= 192 {
+        // After six steps each part is in its place again, so that no register is copied.
+        folded = after_steps(folded, bytes, taken, 6);
+        taken += 96;
     }
-    after_folded(folded, &bytes[taken..])
+    let n = (bytes.len() - taken - 96) / 16;
+    folded = after_steps(folded, bytes, taken, n);
+    after_folded(folded, &bytes[taken + 16 * n..])
+}
+
+/// Returns the folded bytes after `n` times sixteen more, from index `start` on.
+#[inline(always)]
+fn after_steps(first: Folded, bytes: &[u8], start: usize, n: usize) -> Folded
+    requires whole { length first ≡ 96 }
+    requires within { start + 16 * n + 96 ≤ length bytes.now }
+    ensures whole { length result ≡ 96 }
+    ensures same { crc (fold_into first (drop start bytes.now))
+        ≡ crc (fold_into result (drop (start + 16 * n) bytes.now)) }
+{
+    let mut folded = first;
+    for i in 0..n {
+        let at = start + 16 * i;
+        let next = folded.next(&bytes[at..at + 16]);
+        folded = folded.moved(next);
+    }
+    folded
 }
 
 /// Returns the CRC of these bytes with all that was folded to them.
