@@ -1,6 +1,6 @@
-use Rattle.std.proofs.Common.{take, ◌+◌, ap, ◌∙◌}
+use Rattle.std.proofs.Common.{take, ◌+◌}
 use Rattle.rtcm_bits.proofs.RegisterLemmas.{steps_push, no_steps}
-use Rattle.rtcm_bits.proofs.Names.{take_more, take_all, uint, bits_of, after_bits}
+use Rattle.rtcm_bits.proofs.Names.{take_more, uint}
 use Rattle.rtcm_bits.proofs.crc.after_each.Goals as goal
 
 pub loop-byte-init : goal.loop-byte-init
@@ -12,6 +12,3 @@ loop-byte-preserved c = record {
   steps = steps_push (uint 24 c.args.register) (take c.loop-byte.byte-index c.args.bytes.now) (take (c.loop-byte.byte-index + 1) c.args.bytes.now) c.loop-byte.after c.by_table-after.result _
       (take_more c.args.bytes.now c.loop-byte.byte-index 0 c.loop-byte-test.true) c.loop-byte.invariant.steps c.by_table-after.ensures.steps;
 }
-
-pub returns-clause-steps : goal.returns-clause-steps
-returns-clause-steps c = c.loop-byte.invariant.steps ∙ ap (λ t. after_bits (uint 24 c.args.register) (bits_of t)) (take_all c.loop-byte.byte-index c.args.bytes.now c.loop-byte-test.false)

@@ -13,12 +13,6 @@ loop-offset-init g c = record {
   some = λ h. h;
 }
 
-pub take-requires : goal.take-requires
-take-requires g c = c.loop-offset.invariant.can
-
-pub loop-offset-smaller : goal.loop-offset-smaller
-loop-offset-smaller g c = c.in-Some.ensures.less
-
 pub loop-offset-preserved : goal.loop-offset-preserved
 loop-offset-preserved g c =
     let i = c.loop-offset.invariant in

@@ -3,9 +3,6 @@ use Rattle.rtcm_scan.proofs.PassingLemmas.{passes_sent, limit_sent, breaks_sent}
 use Rattle.rtcm_scan.proofs.Names.{Passes}
 use Rattle.rtcm_scan.proofs.framer.Framer.feed.Goals as goal
 
-pub take_piece-requires : goal.take_piece-requires
-take_piece-requires g c = record { can = c.requires.can; going = c.requires.going }
-
 pub returns-in-Err : goal.returns-in-Err
 returns-in-Err g c = record {
   goes = c.take_piece.ensures.goes;

@@ -3,9 +3,6 @@ use Rattle.rtcm_scan.proofs.PassingLemmas.{prefix_self, same_ended}
 use Rattle.rtcm_scan.proofs.Names.{on_ok_weaker, on_err_weaker, IsPrefix, Framed, known_frames, HasBroken, FramerValue}
 use Rattle.rtcm_scan.proofs.framer.Framer.finish.Goals as goal
 
-pub drain_into-requires : goal.drain_into-requires
-drain_into-requires g c = c.requires
-
 pub returns-in-Ok : goal.returns-in-Ok
 returns-in-Ok g c = record {
   goes = c.drain_into.ensures.goes;

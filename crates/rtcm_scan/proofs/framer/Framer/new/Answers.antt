@@ -1,4 +1,4 @@
-use Rattle.std.proofs.Common.{rules, refl, inl, inr}
+use Rattle.std.proofs.Common.{refl, inl}
 use Rattle.rtcm_scan.proofs.MomentLemmas.{counts_new, drained_new, counted_new}
 use Rattle.rtcm_scan.proofs.framer.Framer.new.Goals as goal
 
@@ -21,6 +21,3 @@ returns-then-limit-gt-MOST_BYTES c = record {
   bad_limit = (λ _. c.if-limit-gt-MOST_BYTES.true, λ _. refl);
   only = inl refl;
 }
-
-pub returns-in-Err : goal.returns-in-Err
-returns-in-Err c = record { new = tt; history = tt; counts = tt; drained = tt; counted = tt; bad_limit = search rules; only = inr refl }

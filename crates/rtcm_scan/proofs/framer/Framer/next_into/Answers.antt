@@ -3,9 +3,6 @@ use Rattle.rtcm_scan.proofs.NextLemmas.{step_found, counts_found, less_found}
 use Rattle.rtcm_scan.proofs.Names.{frame_at, FramerValue}
 use Rattle.rtcm_scan.proofs.framer.Framer.next_into.Goals as goal
 
-pub take_frame-requires : goal.take_frame-requires
-take_frame-requires c = record { begins = c.in-Some.ensures.begins.0; size = c.in-Some.ensures.begins.1 }
-
 pub returns-in-Some : goal.returns-in-Some
 returns-in-Some c =
     let f = c.in-Some.ensures.begins in

@@ -46,9 +46,3 @@ returns-else-self-taken-clause-counts c = λ b fs s.
     let w : c.args.self.now.taken + length c.args.bytes.now ≤ c.args.self.now.limit = omega (arith, t, l, i, c.taken.ensures.value, c.if-self-taken.false) in
     rw (view_pushed_all c.args.self.now c.self.inside.limit c.self.inside.place c.self.inside.given_up c.self.inside.candidate.count c.self.inside.window c.push_all.new.self c.self.inside.ended c.self.inside.drained c.args.bytes.now c.self.view_is c.push_all.ensures)
     (step_push_all c.args.self.now b c.args.bytes.now fs n w s)
-
-pub returns-else-self-taken-clause-long : goal.returns-else-self-taken-clause-long
-returns-else-self-taken-clause-long c = tt
-
-pub returns-else-self-taken-clause-err : goal.returns-else-self-taken-clause-err
-returns-else-self-taken-clause-err c = tt

@@ -2,12 +2,6 @@ use Rattle.std.proofs.Common.{◌∙◌}
 use Rattle.rtcm_scan.proofs.ReadLemmas.{at_each, passes_end, breaks_end, breaks_reading}
 use Rattle.rtcm_scan.proofs.framer.Framer.read_frames.Goals as goal
 
-pub read_pieces-requires : goal.read_pieces-requires
-read_pieces-requires g c = record { can = c.requires.can; room = c.requires.room; going = c.requires.going }
-
-pub finish-requires : goal.finish-requires
-finish-requires g c = c.in-Ok.ensures.same.can
-
 pub returns-in-Ok-finish : goal.returns-in-Ok-finish
 returns-in-Ok-finish g c = record {
   whole = (passes_end g.S.FrameSink.took g.S.FrameSink.broke c.args.self.now c.read_pieces.new.self c.finish.new.self c.args.sink.now c.read_pieces.new.sink c.finish.new.sink

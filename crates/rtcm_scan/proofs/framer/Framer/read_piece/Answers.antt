@@ -1,4 +1,4 @@
-use Rattle.std.proofs.Common.{◌≡◌, ◌∙◌, arith, length, drop, min, length-take, ℕ}
+use Rattle.std.proofs.Common.{◌≡◌, ◌∙◌, arith, length, drop, min, length-take}
 use Rattle.rtcm_scan.proofs.ReadLemmas.{read_room}
 use Rattle.rtcm_scan.proofs.framer.Framer.read_piece.Goals as goal
 
@@ -8,6 +8,3 @@ returns-clause-piece g c =
     read_room c.read.result c.args.self.now (g.R.Read.remaining c.args.reader.now.inner) (g.R.Read.remaining c.read.new.self.inner) (length c.args.buffer.now) c.max-room.result
     c.read.new.buf (drop c.max-room.result c.args.buffer.now) c.read.ensures.bytes c.read.ensures.bound
     (omega (arith, len, c.max-room.ensures, c.saturating_sub.ensures, c.requires)) (omega (arith, c.max-room.ensures)) (omega (arith, c.max-room.ensures, c.saturating_sub.ensures, c.held.ensures.value))
-
-pub returns-clause-widest : goal.returns-clause-widest
-returns-clause-widest g c = omega (arith, c.read.ensures.widest, length-take {A = ℕ})

@@ -1,6 +1,6 @@
-use Rattle.std.proofs.Common.{◌≡◌, ◌∙◌, ap, arith, refl, sym, true≢false, length, take}
+use Rattle.std.proofs.Common.{◌∙◌, ap, arith, refl, sym, true≢false, length, take}
 use Rattle.rtcm_scan.proofs.ReadLemmas.{not_read, reading_more, reads_none, reads_more, fault_after, breaks_first}
-use Rattle.rtcm_scan.proofs.Names.{length-take-le, Consumes-kept, one_more}
+use Rattle.rtcm_scan.proofs.Names.{Consumes-kept, one_more}
 use Rattle.rtcm_scan.proofs.framer.Framer.read_pieces.Goals as goal
 
 pub returns-in-Err : goal.returns-in-Err
@@ -21,9 +21,6 @@ loop-n-init g c = record {
   reader = refl;
   widest = omega arith;
 }
-
-pub read_piece-requires : goal.read_piece-requires
-read_piece-requires g c = omega (arith, c.requires.room, c.loop-n.invariant.same.size)
 
 pub returns-in-Err-read_piece : goal.returns-in-Err-read_piece
 returns-in-Err-read_piece g c =
@@ -69,11 +66,6 @@ returns-then-n-eq0 g c =
       reader = (tt, c.in-Ok.ensures.failures ∙ i.reader, omega (arith, c.read_piece.ensures.widest, i.widest, i.same.size));
       same = reading_more _ _ _ _ _ _ _ _ _ _ c.loop-n.invariant.same c.feed.ensures.goes c.feed.ensures.same c.read_piece.ensures.size;
     }
-
-pub loop-n-smaller : goal.loop-n-smaller
-loop-n-smaller g c =
-    let l : length (take c.in-Ok.n c.read_piece.new.buffer) ≡ c.in-Ok.n = length-take-le c.in-Ok.n c.read_piece.new.buffer c.in-Ok.ensures.piece.within in
-    omega (arith, l, c.in_default-feed.ensures.taken, c.feed.ensures.same.within, c.feed.ensures.same.limit, c.if-n-eq0.false)
 
 pub loop-n-preserved : goal.loop-n-preserved
 loop-n-preserved g c =

@@ -1,14 +1,9 @@
-use Rattle.std.proofs.Common.{true, ◌≡◌, ◌-◌, ◌<◌, ap, ◌∙◌, length, refl, arith, length-drop}
+use Rattle.std.proofs.Common.{List, ℕ, true, ◌≡◌, ◌-◌, ◌<◌, ap, ◌∙◌, length, refl, arith, length-drop}
 use Rattle.rtcm_scan.proofs.DecisionLemmas.{from_found, from_passed, from_open, open_bound}
-use Rattle.rtcm_scan.proofs.NextLemmas.{step_passed, counts_passed, found_begins, found_stands, found_counts, finish_empty, finish_open, counts_empty, counts_open}
+use Rattle.rtcm_scan.proofs.NextLemmas.{step_passed, counts_passed, found_begins, found_counts, finish_empty, finish_open, counts_empty, counts_open}
 use Rattle.rtcm_scan.proofs.framer.Framer.seek.Goals.{else-loop-self-test, then-loop-self-test+in-Open}
-use Rattle.rtcm_scan.proofs.Names.{FramerValue, passed}
+use Rattle.rtcm_scan.proofs.Names.{FramerValue, passed, Framed, HasFramed, HasExamined, IsDrained, IsCountedExactly}
 use Rattle.rtcm_scan.proofs.framer.Framer.seek.Goals as goal
-
-pub pass_over-requires : goal.pass_over-requires
-pass_over-requires c =
-    let e : length c.decide.new.self.held ≡ length c.loop-self.self.held = ap (λ (y : FramerValue). length y.held) c.in-Passed.ensures.examined in
-    omega (arith, e, c.held.ensures.value, c.loop-self-test.true)
 
 pub loop-self-preserved : goal.loop-self-preserved
 loop-self-preserved c =
@@ -31,9 +26,6 @@ loop-self-preserved c =
 pub returns-in-Found-clause-begins : goal.returns-in-Found-clause-begins
 returns-in-Found-clause-begins c =
     found_begins c.loop-self.self c.decide.new.self c.in-Found.size c.in-Found.ensures.examined (from_found c.loop-self.self.has_ended c.loop-self.self.held c.in-Found.size c.in-Found.ensures.decision)
-
-pub returns-in-Found-clause-history : goal.returns-in-Found-clause-history
-returns-in-Found-clause-history c = λ b fs s. found_stands c.loop-self.self c.decide.new.self b fs c.in-Found.ensures.examined (c.loop-self.invariant.history b fs s)
 
 pub returns-in-Found-clause-counts : goal.returns-in-Found-clause-counts
 returns-in-Found-clause-counts c = λ b fs s. found_counts c.loop-self.self c.decide.new.self b fs c.in-Found.ensures.examined c.in-Found.ensures.tried (c.loop-self.invariant.counts b fs s)
@@ -63,54 +55,30 @@ returns-clause-room c =
     let l : length c.self-2.inside.window.bytes ≡ length c.loop-self-test.self.held = ap (λ (y : FramerValue). length y.held) c.self-2.view_is in
     omega (arith, l, room c)
 
-pub returns-clause-history : goal.returns-clause-history
-returns-clause-history c = λ b fs s. elim c.loop-self-test.branch [
-  | else-loop-self-test w ↦ (finish_empty c.loop-self.self c.loop-self-test.self _ b fs w.self-is (ap with_ready c.self-2.view_is)
-      (omega (arith, c.held.ensures.value, w.loop-self-test.false)) (c.loop-self.invariant.history b fs s)).0
+-- what is known when the loop is left
+finished : (c : goal.After-self-1) (w : FramerValue) (b : List ℕ) (fs : List Framed) → w ≡ with_ready c.loop-self-test.self → HasFramed c.args.self.now b fs → HasFramed w b fs × IsDrained w b fs
+finished c v b fs e s = elim c.loop-self-test.branch [
+  | else-loop-self-test w ↦ finish_empty c.loop-self.self c.loop-self-test.self v b fs w.self-is e (omega (arith, c.held.ensures.value, w.loop-self-test.false)) (c.loop-self.invariant.history b fs s)
   | then-loop-self-test+in-Open w ↦ (let o = from_open c.loop-self.self.has_ended c.loop-self.self.held w.in-Open.ensures.decision in
-      (finish_open c.loop-self.self w.decide.new.self c.loop-self-test.self _ b fs w.in-Open.ensures.examined w.self-is (ap with_ready c.self-2.view_is) o.2 o.1 (c.loop-self.invariant.history b fs s)).0)
+      finish_open c.loop-self.self w.decide.new.self c.loop-self-test.self v b fs w.in-Open.ensures.examined w.self-is e o.2 o.1 (c.loop-self.invariant.history b fs s))
 ]
+
+finished_counts : (c : goal.After-self-1) (w : FramerValue) (b : List ℕ) (fs : List Framed) → w ≡ with_ready c.loop-self-test.self → HasExamined c.args.self.now b fs → HasExamined w b fs × IsCountedExactly w b
+finished_counts c v b fs e s = elim c.loop-self-test.branch [
+  | else-loop-self-test w ↦ counts_empty c.loop-self.self c.loop-self-test.self v b fs w.self-is e (omega (arith, c.held.ensures.value, w.loop-self-test.false)) (c.loop-self.invariant.counts b fs s)
+  | then-loop-self-test+in-Open w ↦ (let o = from_open c.loop-self.self.has_ended c.loop-self.self.held w.in-Open.ensures.decision in
+      counts_open c.loop-self.self w.decide.new.self c.loop-self-test.self v b fs w.in-Open.ensures.examined w.self-is e o.2
+      (omega (arith, c.held.ensures.value, w.loop-self-test.true)) o.1 w.in-Open.ensures.tried (c.loop-self.invariant.counts b fs s))
+]
+
+pub returns-clause-history : goal.returns-clause-history
+returns-clause-history c = λ b fs s. (finished c _ b fs (ap with_ready c.self-2.view_is) s).0
 
 pub returns-clause-none : goal.returns-clause-none
-returns-clause-none c = λ b fs s. elim c.loop-self-test.branch [
-  | else-loop-self-test w ↦ (finish_empty c.loop-self.self c.loop-self-test.self _ b fs w.self-is (ap with_ready c.self-2.view_is)
-      (omega (arith, c.held.ensures.value, w.loop-self-test.false)) (c.loop-self.invariant.history b fs s)).1
-  | then-loop-self-test+in-Open w ↦ (let o = from_open c.loop-self.self.has_ended c.loop-self.self.held w.in-Open.ensures.decision in
-      (finish_open c.loop-self.self w.decide.new.self c.loop-self-test.self _ b fs w.in-Open.ensures.examined w.self-is (ap with_ready c.self-2.view_is) o.2 o.1 (c.loop-self.invariant.history b fs s)).1)
-]
+returns-clause-none c = λ b fs s. (finished c _ b fs (ap with_ready c.self-2.view_is) s).1
 
 pub returns-clause-counts : goal.returns-clause-counts
-returns-clause-counts c = λ b fs s. elim c.loop-self-test.branch [
-  | else-loop-self-test w ↦ (counts_empty c.loop-self.self c.loop-self-test.self _ b fs w.self-is (ap with_ready c.self-2.view_is)
-      (omega (arith, c.held.ensures.value, w.loop-self-test.false)) (c.loop-self.invariant.counts b fs s)).0
-  | then-loop-self-test+in-Open w ↦ (let o = from_open c.loop-self.self.has_ended c.loop-self.self.held w.in-Open.ensures.decision in
-      (counts_open c.loop-self.self w.decide.new.self c.loop-self-test.self _ b fs w.in-Open.ensures.examined w.self-is (ap with_ready c.self-2.view_is) o.2
-      (omega (arith, c.held.ensures.value, w.loop-self-test.true)) o.1 w.in-Open.ensures.tried (c.loop-self.invariant.counts b fs s)).0)
-]
+returns-clause-counts c = λ b fs s. (finished_counts c _ b fs (ap with_ready c.self-2.view_is) s).0
 
 pub returns-clause-none_counts : goal.returns-clause-none_counts
-returns-clause-none_counts c = λ b fs s. elim c.loop-self-test.branch [
-  | else-loop-self-test w ↦ (counts_empty c.loop-self.self c.loop-self-test.self _ b fs w.self-is (ap with_ready c.self-2.view_is)
-      (omega (arith, c.held.ensures.value, w.loop-self-test.false)) (c.loop-self.invariant.counts b fs s)).1
-  | then-loop-self-test+in-Open w ↦ (let o = from_open c.loop-self.self.has_ended c.loop-self.self.held w.in-Open.ensures.decision in
-      (counts_open c.loop-self.self w.decide.new.self c.loop-self-test.self _ b fs w.in-Open.ensures.examined w.self-is (ap with_ready c.self-2.view_is) o.2
-      (omega (arith, c.held.ensures.value, w.loop-self-test.true)) o.1 w.in-Open.ensures.tried (c.loop-self.invariant.counts b fs s)).1)
-]
-
-pub returns-in-Found-clause-none : goal.returns-in-Found-clause-none
-returns-in-Found-clause-none c = tt
-
-pub returns-in-Found-clause-none_counts : goal.returns-in-Found-clause-none_counts
-returns-in-Found-clause-none_counts c = tt
-
-pub returns-in-Found-clause-ready : goal.returns-in-Found-clause-ready
-returns-in-Found-clause-ready c = tt
-
-pub returns-in-Found-clause-room : goal.returns-in-Found-clause-room
-returns-in-Found-clause-room c = tt
-
-pub returns-clause-begins : goal.returns-clause-begins
-returns-clause-begins c = tt
-
-pub returns-clause-waits : goal.returns-clause-waits
-returns-clause-waits c = tt
+returns-clause-none_counts c = λ b fs s. (finished_counts c _ b fs (ap with_ready c.self-2.view_is) s).1

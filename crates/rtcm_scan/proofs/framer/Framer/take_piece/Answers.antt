@@ -19,15 +19,6 @@ loop-fault-init g c = record {
   };
 }
 
-pub drain_into-requires : goal.drain_into-requires
-drain_into-requires g c = c.loop-fault.invariant.can
-
-pub returns-in-Err-clause-goes : goal.returns-in-Err-clause-goes
-returns-in-Err-clause-goes g c = c.drain_into.ensures.goes
-
-pub returns-in-Err-clause-whole : goal.returns-in-Err-clause-whole
-returns-in-Err-clause-whole g c = tt
-
 pub returns-in-Err-clause-part : goal.returns-in-Err-clause-part
 returns-in-Err-clause-part g c =
     let i = c.loop-fault.invariant in
@@ -38,12 +29,6 @@ pub returns-in-Err-clause-same : goal.returns-in-Err-clause-same
 returns-in-Err-clause-same g c =
     let i = c.loop-fault.invariant in
     continues_most _ _ _ _ i.bound (continues_same _ _ _ _ i.same c.drain_into.ensures.ended c.drain_into.ensures.same)
-
-pub overflow_sub-piece : goal.overflow_sub-piece
-overflow_sub-piece g c = c.loop-fault.invariant.bound
-
-pub returns-then-next-taken-clause-goes : goal.returns-then-next-taken-clause-goes
-returns-then-next-taken-clause-goes g c = c.drain_into.ensures.goes
 
 pub returns-then-next-taken-clause-whole : goal.returns-then-next-taken-clause-whole
 returns-then-next-taken-clause-whole g c =
@@ -59,16 +44,10 @@ returns-then-next-taken-clause-whole g c =
       ready = d.ready;
     }
 
-pub returns-then-next-taken-clause-part : goal.returns-then-next-taken-clause-part
-returns-then-next-taken-clause-part g c = tt
-
 pub returns-then-next-taken-clause-same : goal.returns-then-next-taken-clause-same
 returns-then-next-taken-clause-same g c =
     let i = c.loop-fault.invariant in
     continues_most _ _ _ _ i.bound (continues_same _ _ _ _ i.same c.drain_into.ensures.ended c.drain_into.ensures.same)
-
-pub loop-fault-smaller : goal.loop-fault-smaller
-loop-fault-smaller g c = omega (arith, c.if-next-taken.false, c.min.ensures, c.loop-fault.invariant.bound)
 
 pub loop-fault-preserved : goal.loop-fault-preserved
 loop-fault-preserved g c =
