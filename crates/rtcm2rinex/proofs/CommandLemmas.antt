@@ -1,11 +1,9 @@
 -- The meaning of the exit status.
 use Rattle.std.proofs.Common.{◌≡◌, ◌∙◌, inl, inr, refl, sym, subst, codes, ap, ap₂, option_map, ℕ, List, Option, Some, None, Result, Ok, Err, arith}
 use Rattle.rtcm2rinex.proofs.CommandLineLemmas.{is_version}
-use Rattle.rtcm2rinex.proofs.Names.{⊤, ◌≢◌, ◌⊎◌, box_value, option_map_or, Box, found_of, subcommand_name_of, subcommand_rows, subcommand_rows_of, Row, Text, one_of, rows_of, out-ArgMatches, out-SubCommand, SubCommand, kind_of, Error, ArgMatches, Device, SelectsCommand, IsFoundIn, RefusesWords, EndsOptionsAsked, PrintsOptionsAsked, RefusesDate, StopsOptionsAsked, EndsOptions, PrintsOptions, StopsOptions, AreRefused, AreRefusedBy, EndsCommand, EndsFound, HasCommand, HasCompleted, HasDone, HasPrinted, HasStopped, HasStoppedEarly, HasStoppedPrinting, StopsPrinting, fault_status, status_of, StopsConversion, error_line, PrintsLine, PrintsFault, IsNearRefused, IsNearSet, IsNumberOf, IsUntouched, Start, InspectFault, Ends, HaveFailedBy, IsInspected, inspected, of_inspection, ToolFault}
+use Rattle.rtcm2rinex.proofs.Names.{⊤, ◌≢◌, ◌⊎◌, box_value, option_map_or, Box, found_of, subcommand_name_of, subcommand_rows, subcommand_rows_of, Row, Text, one_of, rows_of, out-ArgMatches, out-SubCommand, SubCommand, kind_of, Error, ArgMatches, Device, SelectsCommand, IsFoundIn, RefusesWords, EndsOptionsAsked, PrintsOptionsAsked, RefusesDate, StopsOptionsAsked, EndsOptions, PrintsOptions, StopsOptions, AreRefused, AreRefusedBy, EndsCommand, EndsFound, HasCommand, HasCompleted, HasDone, HasPrinted, HasStopped, HasStoppedEarly, HasStoppedPrinting, StopsPrinting, fault_status, status_of, error_line, PrintsLine, PrintsFault, IsNearRefused, IsNearSet, IsNumberOf, IsUntouched, InspectFault, Ends, IsInspected, of_inspection, ToolFault}
 use Rattle.clap.specs.declared.error.kind.ErrorKind.TheVariants as kind
-use Rattle.rinex_file.specs.declared.read.fault.ReadFault.TheVariants as reading
 use Rattle.rtcm_inspect.specs.Devices as devices
-use Rattle.rtcm_inspect.specs.declared.fault.InspectFault.TheVariants as inspect
 use Rattle.rtcm2rinex.specs.declared.fault.ToolFault.TheVariants as faults
 
 one_two : ◌≡◌ {A = ℕ} 1 2 → ⊥
@@ -22,15 +20,10 @@ never_zero (faults.BadDate o) e = two_zero e
 never_zero faults.BadPosition e = two_zero e
 never_zero faults.BadHeight e = two_zero e
 never_zero faults.Memory e = one_zero e
-never_zero faults.Read e = one_zero e
-never_zero faults.Write e = one_zero e
-never_zero (faults.Scan f) e = one_zero e
 never_zero (faults.Header f) e = one_zero e
 never_zero (faults.Plan f) e = one_zero e
 never_zero (faults.Convert f) e = one_zero e
-never_zero (faults.Check f) e = one_zero e
-never_zero (faults.SeveralStations a b) e = one_zero e
-never_zero faults.NoSignal e = one_zero e
+never_zero (faults.Inspect f) e = one_zero e
 
 -- the end of a command in other terms
 pub ends_so : {A R W : Type 0} (ended : Result A ToolFault) (r r2 : Device R) (waits : W → List ℕ) (w w2 : Device W) (P Q : A → Type 0) (S T : ToolFault → Type 0)
@@ -38,26 +31,10 @@ pub ends_so : {A R W : Type 0} (ended : Result A ToolFault) (r r2 : Device R) (w
 ends_so (Ok x) r r2 waits w w2 P Q S T done stopped h = (h.0, done x h.1)
 ends_so (Err fault) r r2 waits w w2 P Q S T done stopped h = (h.0, stopped fault h.1)
 
--- the devices after a fault of a command other than `convert`
-failed_by : {R W : Type 0} (e : InspectFault) (r r2 : Device R) (w w2 : Device W) → devices.HaveFailedBy e r r2 w w2 → HaveFailedBy (inspected e) r r2 w w2
-failed_by inspect.Read r r2 w w2 h = h
-failed_by inspect.Write r r2 w w2 h = h
-failed_by (inspect.Scan e) r r2 w w2 h = h
-failed_by (inspect.Check reading.Memory) r r2 w w2 h = h
-failed_by (inspect.Check reading.Read) r r2 w w2 h = h
-failed_by (inspect.Check (reading.BadHeader k)) r r2 w w2 h = h
-failed_by (inspect.Check (reading.BadEpoch k)) r r2 w w2 h = h
-failed_by (inspect.Check (reading.BadEvent k)) r r2 w w2 h = h
-failed_by (inspect.Check (reading.BadSatellite k)) r r2 w w2 h = h
-failed_by (inspect.Check (reading.CutShort k)) r r2 w w2 h = h
-failed_by (inspect.Check reading.TooLong) r r2 w w2 h = h
-failed_by (inspect.SeveralStations a b) r r2 w w2 h = h
-failed_by inspect.NoSignal r r2 w w2 h = h
-
 ends_inspected : {A R W : Type 0} (ended : Result A InspectFault) (r r2 : Device R) (waits : W → List ℕ) (w w2 : Device W) (P Q : A → Type 0) (S : InspectFault → Type 0) (T : ToolFault → Type 0)
-    → ((x : A) → P x → Q x) → ((e : InspectFault) → S e → T (inspected e)) → devices.Ends ended r r2 waits w w2 P S → Ends (of_inspection ended) r r2 waits w w2 Q T
+    → ((x : A) → P x → Q x) → ((e : InspectFault) → S e → T (faults.Inspect e)) → devices.Ends ended r r2 waits w w2 P S → Ends (of_inspection ended) r r2 waits w w2 Q T
 ends_inspected (Ok x) r r2 waits w w2 P Q S T done stopped h = (h.0, done x h.1)
-ends_inspected (Err e) r r2 waits w w2 P Q S T done stopped h = (failed_by e r r2 w w2 h.0, stopped e h.1)
+ends_inspected (Err e) r r2 waits w w2 P Q S T done stopped h = (h.0, stopped e h.1)
 
 pub has_command : (words : List Text) (m : ArgMatches) → IsFoundIn words m → HasCommand m
 has_command words m found = (found.0, found.1, found.2, found.3)
@@ -155,34 +132,11 @@ module _ {R W E : Type 0} (left : R → Option (List ℕ)) (held : W → Option 
 abbrev IsRefusedBy : {R W : Type 0} → (r r2 : Device R) → (w w2 : Device W) → Text → List Row → ToolFault → Type 0
 IsRefusedBy r r2 w w2 name options fault = AreRefusedBy name options fault × IsUntouched r r2 w w2
 
-one_status : (e : InspectFault) → fault_status (inspected e) ≡ 1
-one_status inspect.Read = refl
-one_status inspect.Write = refl
-one_status (inspect.Scan e) = refl
-one_status (inspect.Check e) = refl
-one_status (inspect.SeveralStations a b) = refl
-one_status inspect.NoSignal = refl
-
 module _ {R W : Type 0} (left : R → Option (List ℕ)) (held : W → Option (List ℕ)) (waits : W → List ℕ) (r r2 : Device R) (w w2 : Device W) (name : Text) (options : List Row) where
-  not_stopped : (x : Start) (fault : ToolFault) → fault_status fault ≡ 2 → StopsConversion x left r r2 held waits w w2 fault → ⊥
-  not_stopped x (faults.BadDate o) two stops = stops
-  not_stopped x faults.BadPosition two stops = stops
-  not_stopped x faults.BadHeight two stops = stops
-  not_stopped x faults.Memory two stops = one_two two
-  not_stopped x faults.Read two stops = one_two two
-  not_stopped x faults.Write two stops = one_two two
-  not_stopped x (faults.Scan e) two stops = one_two two
-  not_stopped x (faults.Header e) two stops = one_two two
-  not_stopped x (faults.Plan e) two stops = one_two two
-  not_stopped x (faults.Convert e) two stops = one_two two
-  not_stopped x (faults.Check e) two stops = one_two two
-  not_stopped x (faults.SeveralStations a b) two stops = one_two two
-  not_stopped x faults.NoSignal two stops = one_two two
-
   refused_by : (fault : ToolFault) → fault_status fault ≡ 2 → HasStopped left r r2 held waits w w2 name options fault → IsRefusedBy r r2 w w2 name options fault
   refused_by fault two (inl (n, inl (refused, untouched))) = (inl (n, refused), untouched)
-  refused_by fault two (inl (n, inr (x, start, stops))) = absurd (not_stopped x fault two stops)
-  refused_by fault two (inr (inl (e, same, stops))) = absurd (one_two (sym (one_status e) ∙ sym (ap fault_status same) ∙ two))
+  refused_by fault two (inl (n, inr (x, start, (e, same, stops)))) = absurd (one_two (sym (ap fault_status same) ∙ two))
+  refused_by fault two (inr (inl (e, same, stops))) = absurd (one_two (sym (ap fault_status same) ∙ two))
   refused_by fault two (inr (inr (n, refused))) = (inr (n, refused.0), refused.1)
 
 pub refused_at_two : {R W E : Type 0} (left : R → Option (List ℕ)) (held : W → Option (List ℕ)) (waits : W → List ℕ) (told : E → Option (List ℕ)) (r r2 : Device R) (w w2 : Device W) (e e1 e2 : Device E) (words : List Text) (m : ArgMatches) (ended : Result ⊤ ToolFault) (status : ℕ)

@@ -1,54 +1,34 @@
 -- A conversion that is stopped by a fault.
 use Rattle.std.proofs.Common.{◌≡◌, ◌∙◌, ap, sym, subst, refl, rules, ℕ, ℤ, List, Option, Some, None, Result, Ok, Err, IsErrOf, IfSome, inl, inr}
-use Rattle.rtcm2rinex.proofs.Names.{◌≢◌, ◌↔◌, ◌⊎◌, Device, FailsWithReader, FailsWithWriter, IsSentAfter, IsSetupFault, IsUntouched, IsMadeEmpty, IsMadeSoFar, IsMadeInPart, IsMadeToLimit, IsBad, IsBadAt, Start, start_zero, Setup, no_values, AreStationValues, Fault, Memory, BadSetup, TooLong, Read, Write, Failed, Finished, NoEpoch, Report, ToolFault, Row, StationValues, values_by, HasSetupFault, IsFirstFault, IsSetupRefused, IsWeekRefused, IsWeekSet, values_set, StopsConversion, StopsConverting, HaveFailedBy, tool_fault_of}
+use Rattle.rtcm2rinex.proofs.Names.{◌≢◌, ◌↔◌, ◌⊎◌, Device, IsSentAfter, IsSetupFault, IsUntouched, IsMadeEmpty, IsMadeSoFar, IsMadeInPart, IsMadeToLimit, IsBad, IsBadAt, Start, start_zero, Setup, no_values, AreStationValues, Fault, Memory, BadSetup, TooLong, Read, Write, Failed, Finished, NoEpoch, Report, ToolFault, Row, StationValues, values_by, HasSetupFault, IsFirstFault, IsSetupRefused, IsWeekRefused, IsWeekSet, values_set, StopsConversion, StopsConverting, HaveFailedBy}
 use Rattle.rtcm2rinex.specs.declared.fault.ToolFault.TheVariants as faults
 
 module _ {R W : Type 0} (left : R → Option (List ℕ)) (held : W → Option (List ℕ)) (waits : W → List ℕ) (x : Start) (rd rd2 : Device R) (o o2 : Device W) where
   abbrev Result-of : Fault → Result Report Fault
   Result-of fault = Err fault
 
-  pub conversion_stopped : (fault : Fault) → FailsWithReader (Result-of fault) rd rd2 → FailsWithWriter (Result-of fault) o o2 → IsSentAfter (Result-of fault) (waits o.inner) (waits o2.inner)
+  pub conversion_stopped : (fault : Fault) → IsSentAfter (Result-of fault) (waits o.inner) (waits o2.inner)
       → (IsErrOf (Result-of fault) NoEpoch → IfSome (left rd.inner) (IsMadeEmpty x (held o.inner) (held o2.inner)))
       → (IsErrOf (Result-of fault) TooLong → IsMadeToLimit x (left rd.inner) (left rd2.inner) (held o.inner) (held o2.inner))
       → (IsErrOf (Result-of fault) Read → IsMadeSoFar x (left rd.inner) (left rd2.inner) (held o.inner) (held o2.inner))
       → (IsErrOf (Result-of fault) Write → IsMadeInPart x (left rd.inner) (left rd2.inner) (held o.inner) (held o2.inner))
       → (Result-of fault ≡ Err BadSetup ↔ IsBadAt x) → (IsSetupFault fault → IsUntouched rd rd2 o o2) → (Result-of fault ≢ Err Failed) × (Result-of fault ≢ Err Finished)
-      → HaveFailedBy (tool_fault_of fault) rd rd2 o o2 × StopsConversion x left rd rd2 held waits o o2 (tool_fault_of fault)
-  conversion_stopped Memory reader writer sent none long read write bad untouched only = ((reader.0, writer.0), untouched (inr refl))
-  conversion_stopped BadSetup reader writer sent none long read write bad untouched only = ((reader.0, writer.0), (bad.0 refl, untouched (inl refl)))
-  conversion_stopped TooLong reader writer sent none long read write bad untouched only = ((reader.0, writer.0), (long refl, sent))
-  conversion_stopped Read reader writer sent none long read write bad untouched only = ((reader.0, writer.0), (read refl, sent))
-  conversion_stopped Write reader writer sent none long read write bad untouched only = ((reader.0, writer.0), write refl)
-  conversion_stopped Failed reader writer sent none long read write bad untouched only = absurd (only.0 refl)
-  conversion_stopped Finished reader writer sent none long read write bad untouched only = absurd (only.1 refl)
-  conversion_stopped NoEpoch reader writer sent none long read write bad untouched only = ((reader.0, writer.0), (none refl, sent))
-
-bad_only : (fault : Fault) → ◌≡◌ {A = Result Report ToolFault} (Err (tool_fault_of fault)) (Err (faults.Convert BadSetup)) → ◌≡◌ {A = Result Report Fault} (Err fault) (Err BadSetup)
-bad_only BadSetup h = refl
-bad_only Memory h = cc
-bad_only TooLong h = cc
-bad_only Read h = cc
-bad_only Write h = cc
-bad_only Failed h = cc
-bad_only Finished h = cc
-bad_only NoEpoch h = cc
-
-bad_back : (fault : Fault) → ◌≡◌ {A = Result Report Fault} (Err fault) (Err BadSetup) → ◌≡◌ {A = Result Report ToolFault} (Err (tool_fault_of fault)) (Err (faults.Convert BadSetup))
-bad_back BadSetup h = refl
-bad_back Memory h = cc
-bad_back TooLong h = cc
-bad_back Read h = cc
-bad_back Write h = cc
-bad_back Failed h = cc
-bad_back Finished h = cc
-bad_back NoEpoch h = cc
+      → StopsConversion x left rd rd2 held waits o o2 fault
+  conversion_stopped Memory sent none long read write bad untouched only = untouched (inr refl)
+  conversion_stopped BadSetup sent none long read write bad untouched only = (bad.0 refl, untouched (inl refl))
+  conversion_stopped TooLong sent none long read write bad untouched only = (long refl, sent)
+  conversion_stopped Read sent none long read write bad untouched only = (read refl, sent)
+  conversion_stopped Write sent none long read write bad untouched only = write refl
+  conversion_stopped Failed sent none long read write bad untouched only = absurd (only.0 refl)
+  conversion_stopped Finished sent none long read write bad untouched only = absurd (only.1 refl)
+  conversion_stopped NoEpoch sent none long read write bad untouched only = (none refl, sent)
 
 -- a bad start is the fault of the conversion and of the command
-pub given_bad : (fault : Fault) (e : ToolFault) (Bad : Type 0) → e ≡ tool_fault_of fault → (◌≡◌ {A = Result Report Fault} (Err fault) (Err BadSetup) ↔ Bad)
-    → (◌≡◌ {A = Result Report ToolFault} (Err e) (Err (faults.Convert BadSetup)) ↔ Bad)
-given_bad fault e Bad is bad = (
-  λ h. bad.0 (bad_only fault (ap (λ (f : ToolFault). Err f) (sym is) ∙ h)),
-  λ b. ap (λ (f : ToolFault). Err f) is ∙ bad_back fault (bad.1 b),
+pub given_bad : (fault : Fault) (Bad : Type 0) → (◌≡◌ {A = Result Report Fault} (Err fault) (Err BadSetup) ↔ Bad)
+    → (◌≡◌ {A = Result Report ToolFault} (Err (faults.Convert fault)) (Err (faults.Convert BadSetup)) ↔ Bad)
+given_bad fault Bad bad = (
+  λ h. bad.0 (let e : fault ≡ BadSetup = cc in ap (λ (f : Fault). Err f) e),
+  λ b. (let h = bad.1 b in let e : fault ≡ BadSetup = cc in ap (λ (f : Fault). Err (faults.Convert f)) e),
 )
 
 -- ---- the values of options
@@ -91,16 +71,11 @@ module _ {R W : Type 0} (left : R → Option (List ℕ)) (held : W → Option (L
   setup_refused n week (faults.Header f) v is h = ((refl, refl), inl (refused_first n week (Ok v) (faults.Header f) is h, (refl, refl)))
   setup_refused n week (faults.Plan f) v is h = ((refl, refl), inl (refused_first n week (Ok v) (faults.Plan f) is h, (refl, refl)))
   setup_refused n week faults.Memory v is h = absurd h
-  setup_refused n week faults.Read v is h = absurd h
-  setup_refused n week faults.Write v is h = absurd h
-  setup_refused n week (faults.Scan f) v is h = absurd h
+  setup_refused n week (faults.Inspect f) v is h = absurd h
   setup_refused n week (faults.BadDate o) v is h = absurd h
   setup_refused n week faults.BadPosition v is h = absurd h
   setup_refused n week faults.BadHeight v is h = absurd h
   setup_refused n week (faults.Convert f) v is h = absurd h
-  setup_refused n week (faults.Check f) v is h = absurd h
-  setup_refused n week (faults.SeveralStations a b) v is h = absurd h
-  setup_refused n week faults.NoSignal v is h = absurd h
 
 -- 0 is a coordinate and a height
 zero_values : AreStationValues no_values

@@ -34,7 +34,7 @@ pub use Rattle.rtcm2rinex.specs.CommandLine.{FailsParsing, IsCommand, IsFoundIn,
 pub use Rattle.rtcm2rinex.specs.Commands.{AreRefused, AreRefusedBy, EndsCommand, EndsFound, HasCommand, HasCompleted, HasDone, HasPrinted, HasStopped, HasStoppedEarly, HasStoppedPrinting, StopsPrinting, fault_status, name_of, status_of}
 pub use Rattle.rtcm2rinex.specs.Converting.{EndsConversion, EndsConverting, StopsConversion, StopsConverting}
 pub use Rattle.rtcm2rinex.specs.Dates.{IsHourOf, IsWeekOf, civil_in}
-pub use Rattle.rtcm2rinex.specs.Devices.{Ends, HaveFailedBy, IsInspected, inspected, of_inspection, tool_fault_of}
+pub use Rattle.rtcm2rinex.specs.Devices.{Ends, HaveFailedBy, IsInspected, of_inspection}
 unfoldable pub use Rattle.rtcm2rinex.specs.ErrorLines.{error_line}
 pub use Rattle.rtcm2rinex.specs.ErrorLines.{error_words}
 pub use Rattle.rtcm2rinex.specs.Lengths.{coordinate_by, coordinate_of, cut, decimals_of, length_below, length_by, length_of, number_of, position_of, values_by, values_in}
@@ -50,7 +50,7 @@ pub use Rattle.rtcm2rinex.specs.declared.fault.ToolFault.{ToolFault}
 pub use Rattle.rtcm2rinex.specs.declared.fault.ToolFault.TheVariants.{Convert}
 pub use Rattle.rtcm_bits.specs.Bits.{FitsInt}
 pub use Rattle.rtcm_bits.specs.Device.{Device}
-pub use Rattle.rtcm_convert.specs.Faults.{FailsWithReader, FailsWithWriter, IsSentAfter, IsSetupFault, IsUntouched}
+pub use Rattle.rtcm_convert.specs.Faults.{IsSentAfter, IsSetupFault, IsUntouched}
 pub use Rattle.rtcm_convert.specs.Made.{IsMadeEmpty, IsMadeInPart, IsMadeSoFar, IsMadeToLimit}
 pub use Rattle.rtcm_convert.specs.SetupValues.{IsBad, IsBadAt, Start, start_at, start_zero}
 pub use Rattle.rtcm_convert.specs.declared.fault.Fault.{Fault}

@@ -22,6 +22,7 @@ use Rattle.rtcm2rinex.specs.Devices.{Ends, HaveFailedBy, IsInspected}
 use Rattle.rtcm2rinex.specs.ErrorLines.{error_line}
 use Rattle.rtcm2rinex.specs.SetupOptions.{IsNearRefused, IsSetupRefused, has_times}
 use Rattle.rtcm_inspect.specs.declared.fault.InspectFault.{InspectFault}
+use Rattle.rtcm_inspect.specs.declared.fault.InspectFault.TheVariants as inspect
 use Rattle.rtcm2rinex.specs.declared.fault.ToolFault.{ToolFault}
 use Rattle.rtcm2rinex.specs.declared.fault.ToolFault.TheVariants as faults
 use Rattle.rtcm2rinex.specs.declared.cli.TheConstants.{VERSION}
@@ -127,7 +128,7 @@ HasStoppedEarly left r r' held waits w w' told e e' words =
     × (fault_status fault ≡ 1) × HaveFailedBy fault r r' w w'
     × HasStopped left r r' held waits w w' name options fault × PrintsLine told e e' (error_line fault))
     ⊎ (FailsParsing words DisplayVersion × (r' ≡ r) × PrintsPart held w w' VERSION.now
-    × PrintsLine told e e' (error_line faults.Write))
+    × PrintsLine told e e' (error_line (faults.Inspect inspect.Write)))
     ⊎ (IsUntouched r r' w w' × PrintsLine told e e' (error_line faults.Memory))
 
 -- Memory ran out and nothing was written, or the version's text was written in part. The line of that fault was printed.
@@ -135,7 +136,8 @@ abbrev pub StopsPrinting : {W E : Type 0} → ErrorKind → (W → Option (List 
     → (E → Option (List ℕ)) → (e e' : Device E) → Type 0
 StopsPrinting k held w w' told e e' =
     ((k ≡ OutOfMemory) × (w' ≡ w) × PrintsLine told e e' (error_line faults.Memory))
-    ⊎ ((k ≡ DisplayVersion) × PrintsPart held w w' VERSION.now × PrintsLine told e e' (error_line faults.Write))
+    ⊎ ((k ≡ DisplayVersion) × PrintsPart held w w' VERSION.now
+    × PrintsLine told e e' (error_line (faults.Inspect inspect.Write)))
 
 -- these options of a command are refused with this fault
 abbrev pub AreRefusedBy : Text → List Row → ToolFault → Type 0

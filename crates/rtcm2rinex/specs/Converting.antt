@@ -5,14 +5,14 @@ use Rattle.rtcm_convert.specs.Made.{IsMadeEmpty, IsMadeWith, IsMadeToLimit, IsMa
 use Rattle.rtcm_convert.specs.Faults.{IsUntouched}
 use Rattle.rtcm_convert.specs.Moves.{Moves}
 use Rattle.rtcm_bits.specs.Device.{Device}
+use Rattle.rtcm_convert.specs.declared.fault.Fault.{Fault}
 use Rattle.rtcm_convert.specs.declared.fault.Fault.TheVariants as convert
 use Rattle.rtcm_convert.specs.declared.report.Report.{Report}
-use Rattle.rtcm2rinex.specs.Devices.{Ends}
+use Rattle.rtcm2rinex.specs.Devices.{Ends, IsOfConversion}
 use Rattle.rtcm_inspect.specs.Printing.{PrintsLine}
 use Rattle.rtcm2rinex.specs.Reports.{report_line}
 use Rattle.clap.specs.Walk.{Row}
 use Rattle.rtcm2rinex.specs.declared.fault.ToolFault.{ToolFault}
-use Rattle.rtcm2rinex.specs.declared.fault.ToolFault.TheVariants as faults
 use Rattle.rtcm2rinex.specs.SetupOptions.{IsStartOf, IsSetupRefused}
 
 -- A conversion with the start that these options give, which is in range, read everything that the reader had, and
@@ -31,16 +31,16 @@ MakesNoEpoch x r r' w w' = IfSome r (IsMadeEmpty x w w')
 -- before close, at `Write` a part of the file, and at `TooLong` the file of the epochs that the bytes up to the limit
 -- close.
 abbrev pub StopsConversion : {R W : Type 0} → Start → (R → Option (List ℕ)) → (r r' : Device R) → (W → Option (List ℕ))
-    → (W → List ℕ) → (w w' : Device W) → ToolFault → Type 0
-StopsConversion x left r r' held waits w w' faults.Read =
+    → (W → List ℕ) → (w w' : Device W) → Fault → Type 0
+StopsConversion x left r r' held waits w w' convert.Read =
     Moves left r r' held w w' (IsMadeSoFar x) × (waits w'.inner ≡ [])
-StopsConversion x left r r' held waits w w' faults.Write = Moves left r r' held w w' (IsMadeInPart x)
-StopsConversion x left r r' held waits w w' (faults.Convert convert.TooLong) =
+StopsConversion x left r r' held waits w w' convert.Write = Moves left r r' held w w' (IsMadeInPart x)
+StopsConversion x left r r' held waits w w' convert.TooLong =
     Moves left r r' held w w' (IsMadeToLimit x) × (waits w'.inner ≡ [])
-StopsConversion x left r r' held waits w w' (faults.Convert convert.NoEpoch) =
+StopsConversion x left r r' held waits w w' convert.NoEpoch =
     Moves left r r' held w w' (MakesNoEpoch x) × (waits w'.inner ≡ [])
-StopsConversion x left r r' held waits w w' (faults.Convert convert.BadSetup) = IsBadAt x × IsUntouched r r' w w'
-StopsConversion x left r r' held waits w w' (faults.Convert convert.Memory) = IsUntouched r r' w w'
+StopsConversion x left r r' held waits w w' convert.BadSetup = IsBadAt x × IsUntouched r r' w w'
+StopsConversion x left r r' held waits w w' convert.Memory = IsUntouched r r' w w'
 StopsConversion x left r r' held waits w w' other = ⊥
 
 -- how a conversion with this start ended
@@ -48,7 +48,7 @@ abbrev pub EndsConversion : {R W : Type 0} → Result Report ToolFault → Start
     → (W → Option (List ℕ)) → (W → List ℕ) → (w w' : Device W) → Type 0
 EndsConversion result x left r r' held waits w w' =
     Ends result r r' waits w w' (λ report. IfSome (left r.inner) (IsMadeWith x report (held w.inner) (held w'.inner)))
-    (StopsConversion x left r r' held waits w w')
+    (IsOfConversion (StopsConversion x left r r' held waits w w'))
 
 -- The setup of these options is refused, and nothing was read or written; or the conversion that they ask for was
 -- stopped.
@@ -56,7 +56,7 @@ abbrev pub StopsConverting : {R W : Type 0} → List Row → (R → Option (List
     → (W → Option (List ℕ)) → (W → List ℕ) → (w w' : Device W) → ToolFault → Type 0
 StopsConverting options left r r' held waits w w' fault =
     (IsSetupRefused options fault × IsUntouched r r' w w')
-    ⊎ ((x : Start) × IsStartOf options x × StopsConversion x left r r' held waits w w' fault)
+    ⊎ ((x : Start) × IsStartOf options x × IsOfConversion (StopsConversion x left r r' held waits w w') fault)
 
 -- how such a command ended; it prints no fault
 abbrev pub EndsConverting : {A R W E : Type 0} → Result A ToolFault → List Row → (R → Option (List ℕ))

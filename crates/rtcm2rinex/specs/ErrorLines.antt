@@ -13,6 +13,8 @@ use Rattle.rinex_file.specs.declared.read.fault.ReadFault.TheVariants as reading
 use Rattle.rtcm_convert.specs.declared.fault.Fault.{Fault}
 use Rattle.rtcm_convert.specs.declared.fault.Fault.TheVariants as convert
 use Rattle.rtcm_inspect.specs.Lines.{line}
+use Rattle.rtcm_inspect.specs.declared.fault.InspectFault.{InspectFault}
+use Rattle.rtcm_inspect.specs.declared.fault.InspectFault.TheVariants as inspect
 use Rattle.rtcm2rinex.specs.declared.fault.DateOption.{DateOption}
 use Rattle.rtcm2rinex.specs.declared.fault.DateOption.TheVariants as dated
 use Rattle.rtcm2rinex.specs.declared.fault.ToolFault.{ToolFault}
@@ -61,6 +63,15 @@ file_words (reading.BadSatellite k) = codes "BadSatellite" ∷ decimal k ∷ []
 file_words (reading.CutShort k) = codes "CutShort" ∷ decimal k ∷ []
 file_words reading.TooLong = codes "TooLong" ∷ []
 
+-- a command other than `convert`
+abbrev pub inspection_words : InspectFault → List (List ℕ)
+inspection_words inspect.Read = codes "Read" ∷ []
+inspection_words inspect.Write = codes "Write" ∷ []
+inspection_words (inspect.Scan e) = scan_word e ∷ []
+inspection_words (inspect.Check e) = file_words e
+inspection_words (inspect.SeveralStations a b) = codes "SeveralStations" ∷ decimal a ∷ decimal b ∷ []
+inspection_words inspect.NoSignal = codes "NoSignal" ∷ []
+
 -- an option with a date, and the forms that it accepts
 abbrev pub date_words : DateOption → List (List ℕ)
 date_words dated.Week =
@@ -70,9 +81,6 @@ date_words dated.Near = codes "--near DATE: a date yyyy-mm-dd, 1980-01-06 to 389
 -- the name of an error, and its parameters or the accepted form
 abbrev pub error_words : ToolFault → List (List ℕ)
 error_words faults.Memory = codes "Memory" ∷ []
-error_words faults.Read = codes "Read" ∷ []
-error_words faults.Write = codes "Write" ∷ []
-error_words (faults.Scan e) = scan_word e ∷ []
 error_words (faults.BadDate option) = codes "BadDate" ∷ date_words option
 error_words faults.BadPosition =
     codes "BadPosition" ∷ codes "--position X,Y,Z: metres, up to 8 digits and 4 decimals each,"
@@ -82,9 +90,7 @@ error_words faults.BadHeight =
 error_words (faults.Header e) = header_words e
 error_words (faults.Plan e) = plan_words e
 error_words (faults.Convert e) = conversion_word e ∷ []
-error_words (faults.Check e) = file_words e
-error_words (faults.SeveralStations a b) = codes "SeveralStations" ∷ decimal a ∷ decimal b ∷ []
-error_words faults.NoSignal = codes "NoSignal" ∷ []
+error_words (faults.Inspect e) = inspection_words e
 
 -- the line of an error
 unfoldable pub error_line : ToolFault → List ℕ

@@ -134,7 +134,7 @@ fn of_inspection(ended: Result<(), InspectFault>) -> Result<(), ToolFault>
 {
     match ended {
         Ok(()) => Ok(()),
-        Err(fault) => Err(ToolFault::from(fault)),
+        Err(fault) => Err(ToolFault::Inspect(fault)),
     }
 }
 

@@ -19,8 +19,8 @@ use std::io::Read;
 ///
 /// # Errors
 ///
-/// `Read`, `Write`, and `Convert` with the other faults of `convert_stream`, of which `NoEpoch`
-/// means that the file has no epoch.
+/// `Convert` with the faults of `convert_stream`, of which `NoEpoch` means that the file has no
+/// epoch.
 pub fn run_convert<R: Read, W: Deliver>(
     alloc: Global,
     setup: Setup,
@@ -55,7 +55,7 @@ pub fn run_convert_at<R: Read, W: Deliver>(
 {
     match convert_stream_at(alloc, setup, initial, reader, writer) {
         Ok(report) => Ok(report),
-        Err(fault) => Err(ToolFault::from(fault)),
+        Err(fault) => Err(ToolFault::Convert(fault)),
     }
 }
 

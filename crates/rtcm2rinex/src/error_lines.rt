@@ -3,7 +3,7 @@ ghost use Rattle.std.specs.Prelude.{◌≡◌, ◌+◌, ◌≤◌, [], ◌∷◌
 ghost use Rattle.gnss_obs.specs.Satellites.{letter};
 ghost use Rattle.rinex_file.specs.Texts.{field_name};
 ghost use Rattle.rtcm2rinex.specs.ErrorLines.{conversion_word, date_words, error_line, error_words};
-ghost use Rattle.rtcm2rinex.specs.ErrorLines.{file_words, header_words, plan_words, scan_word};
+ghost use Rattle.rtcm2rinex.specs.ErrorLines.{file_words, header_words, inspection_words, plan_words, scan_word};
 ghost use Rattle.rtcm_inspect.specs.Lines.{with_words};
 
 use crate::fault::{DateOption, ToolFault};
@@ -11,7 +11,7 @@ use gnss_obs::System;
 use obs_epoch::PlanFault;
 use rinex_file::{HeadFault, HeaderField, ReadFault};
 use rtcm_convert::Fault;
-use rtcm_inspect::OutputLine;
+use rtcm_inspect::{InspectFault, OutputLine};
 use rtcm_scan::ScanFault;
 
 /// Returns the line of a fault: the program's name, the fault's name, and the values that it
@@ -34,9 +34,6 @@ fn add_error(line: &mut OutputLine, fault: ToolFault)
 {
     match fault {
         ToolFault::Memory => line.add_word("Memory"),
-        ToolFault::Read => line.add_word("Read"),
-        ToolFault::Write => line.add_word("Write"),
-        ToolFault::Scan(fault) => line.add_word(scan_name(fault)),
         ToolFault::BadDate(option) => add_bad_date(line, option),
         ToolFault::BadPosition => {
             line.add_word("BadPosition");
@@ -50,12 +47,7 @@ fn add_error(line: &mut OutputLine, fault: ToolFault)
         ToolFault::Header(fault) => add_header_error(line, fault),
         ToolFault::Plan(fault) => add_plan_error(line, fault),
         ToolFault::Convert(fault) => line.add_word(conversion_name(fault)),
-        ToolFault::Check(fault) => add_file_error(line, fault),
-        ToolFault::SeveralStations(first, other) => {
-            line.add_count("SeveralStations", u64::from(first));
-            line.add_number(u64::from(other));
-        }
-        ToolFault::NoSignal => line.add_word("NoSignal"),
+        ToolFault::Inspect(fault) => add_inspection_error(line, fault),
     }
 }
 
@@ -104,6 +96,25 @@ fn conversion_name(fault: Fault) -> &'static str
         Fault::Failed => "Failed",
         Fault::Finished => "Finished",
         Fault::NoEpoch => "NoEpoch",
+    }
+}
+
+/// Adds a fault of a command other than `convert`, with the numbers of the stations, if any.
+fn add_inspection_error(line: &mut OutputLine, fault: InspectFault)
+    requires { length line.old ≤ 100 }
+    ensures text { line.new ≡ with_words line.old (inspection_words fault) }
+    ensures short { length line.new ≤ length line.old + 120 }
+{
+    match fault {
+        InspectFault::Read => line.add_word("Read"),
+        InspectFault::Write => line.add_word("Write"),
+        InspectFault::Scan(fault) => line.add_word(scan_name(fault)),
+        InspectFault::Check(fault) => add_file_error(line, fault),
+        InspectFault::SeveralStations(first, other) => {
+            line.add_count("SeveralStations", u64::from(first));
+            line.add_number(u64::from(other));
+        }
+        InspectFault::NoSignal => line.add_word("NoSignal"),
     }
 }
 
