@@ -1,4 +1,5 @@
 -- The names that proofs cite, passed on from one place. Declares nothing.
+pub use Rattle.clap.proofs.CutLemmas.{Lacks, after_first-at, before_first-at}
 pub use Rattle.clap.proofs.LexerLemmas.{strip_byte-from}
 unfoldable pub use Rattle.clap.proofs.OnLiterals.{clap_on_literals}
 pub use Rattle.clap.proofs.WalkLemmas.{first_value-rows, one_text-rows}
@@ -67,20 +68,20 @@ pub use Rattle.rtcm_inspect.specs.Printing.{PrintsLine}
 pub use Rattle.rtcm_inspect.specs.declared.fault.InspectFault.{InspectFault}
 pub use Rattle.rtcm_msg.specs.Station.{InRange}
 pub use Rattle.rtcm_msg.specs.declared.station.StationParts.{StationParts}
-pub use Rattle.std.proofs.Math.Nat.{pow-le-pow_right}
-pub use Rattle.std.proofs.Math.Seq.{take-append_seam}
 pub use Rattle.std.proofs.lemmas.Bool.Decides.{nat_tests}
-pub use Rattle.std.proofs.lemmas.Fmt.{decimal_by_steps, decimal_nonempty, length-decimal-le}
-pub use Rattle.std.proofs.lemmas.List.{map_more}
+pub use Rattle.std.proofs.lemmas.Fmt.{decimal_nonempty, digits_decimal, digits_value-decimal, length-decimal-le}
+pub use Rattle.std.proofs.lemmas.List.{length-take, map_more}
 pub use Rattle.std.proofs.lemmas.List.Folds.{list_all-append}
-pub use Rattle.std.proofs.lemmas.List.Sums.{fold-append}
+pub use Rattle.std.proofs.lemmas.List.Sums.{AllPass-from_list_all, fold-append}
 pub use Rattle.std.proofs.lemmas.Result.{IfErr-weaker, IfOk-weaker}
 pub use Rattle.std.proofs.lemmas.Slice.Eq.{bytes_eq-Decides}
-pub use Rattle.std.proofs.lemmas.Str.Pattern.{strip_prefix_char}
+pub use Rattle.std.proofs.lemmas.Str.Parse.{IsNumeralModel, digits_value_short, not_in_digits, numerals_by_fold, parse_plain}
+pub use Rattle.std.proofs.lemmas.Str.Pattern.{starts_char, strip_prefix_char}
 pub use Rattle.std.specs.Borrow.{Bor}
 pub use Rattle.std.specs.Box.{box_value}
 pub use Rattle.std.specs.List.{after_first, before_first, list_all, list_any, position_or_len}
 pub use Rattle.std.specs.Option.{option_map_or}
+pub use Rattle.std.specs.Result.{result_ok}
 pub use Rattle.std.specs.Prelude.{Box, Err, MatchOption, if◌then◌else◌, nat_le, nat_lt, not, option_and_then, ⊤, ◌*◌, ◌<◌, ◌↔◌, ◌≡◌, ◌≢◌, ◌⊎◌}
 pub use Rattle.std.specs.Str.{bytes_eq}
 pub use Rattle.std.specs.Str.Parse.{ExplainsUnsignedError, HasUnsignedDigitsIfOk, ParsesUnsigned}

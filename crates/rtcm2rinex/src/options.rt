@@ -312,16 +312,12 @@ fn number_of(text: &str, most: usize) -> Option<u64>
     ensures value { result ≡ number_of most text.now }
     ensures small { IfSome result (λ n. n < 10 ^ most) }
 {
-    let digits = text.as_bytes();
-    if digits.is_empty() || digits.len() > most {
+    if text.len() > most {
         return None;
     }
-    let mut number = 0;
-    for b in digits {
-        if !b.is_ascii_digit() {
-            return None;
-        }
-        number = number * 10 + (*b - b'0') as u64;
+    // A number may begin with a plus sign for `parse`.
+    if text.starts_with('+') {
+        return None;
     }
-    Some(number)
+    text.parse().ok()
 }

@@ -1,15 +1,10 @@
-use Rattle.std.proofs.Common.{arith, ◌^◌, ◌≤◌, ◌<◌, ℕ}
-use Rattle.rtcm2rinex.proofs.Names.{pow-le-pow_right}
+use Rattle.std.proofs.Common.{◌^◌, ◌<◌, ◌∙◌, arith, sym, subst, true≢false, ℕ, Option, IfSome}
+use Rattle.rtcm2rinex.proofs.OptionLemmas.{number_parsed}
+use Rattle.rtcm2rinex.proofs.Names.{starts_char}
 use Rattle.rtcm2rinex.proofs.options.number_of.Goals as goal
 
-below : (n i j : ℕ) → n < 10 ^ i → i ≤ j → n < 10 ^ j
-below n i j small few = let ten : 0 < 10 = omega arith in omega (arith, small, pow-le-pow_right {n = 10} ten {i = i} {j = j} few)
-
-pub overflow_mul-number : goal.overflow_mul-number
-overflow_mul-number c = let h = below c.loop-b.number c.loop-b.b-index 8 c.loop-b.invariant.bound (omega arith) in omega (arith, h)
-
-pub overflow_add-number : goal.overflow_add-number
-overflow_add-number c = let h = below c.loop-b.number c.loop-b.b-index 8 c.loop-b.invariant.bound (omega arith) in omega (arith, h)
-
-pub returns-clause-small : goal.returns-clause-small
-returns-clause-small c = below c.loop-b.number c.loop-b.b-index c.args.most c.loop-b.invariant.bound (omega arith)
+pub returns : goal.returns
+returns c =
+    let plus = starts_char 43 c.args.text.now c.starts_with.result c.starts_with.ensures.cases (omega arith) (omega arith) in
+    let p = number_parsed c.args.most c.args.text.now c.parse.result c.requires c.if-text-most.false (λ e. true≢false (sym (plus.1 e) ∙ c.if-starts_with.false)) c.parse.ensures.value.0 in
+    record { value = c.ok.ensures.value ∙ p.0; small = subst (λ (o : Option ℕ). IfSome o (λ n. n < 10 ^ c.args.most)) (sym c.ok.ensures.value) p.1 }
