@@ -2,7 +2,8 @@
 ghost use Rattle.std.specs.Prelude.{◌≡◌, ◌+◌, ◌<◌, ◌≤◌, [], ◌∷◌, ◌++◌, length, decimal};
 ghost use Rattle.rtcm_inspect.specs.Devices.{EndsDelivery};
 ghost use Rattle.rtcm_inspect.specs.Lines.{longest_line};
-ghost use Rattle.rtcm_inspect.specs.Metres.{digit, size_text, metres};
+ghost use Rattle.rtcm_inspect.specs.DateTexts.{three_digits, two_digits};
+ghost use Rattle.rtcm_inspect.specs.Metres.{digit, four_digits, size_text, metres};
 ghost use Rattle.rtcm_inspect.specs.Printing.{EndsPrinting, PrintsLine};
 
 use crate::fault::InspectFault;
@@ -121,14 +122,42 @@ impl OutputLine {
         ensures short { length self.new ≤ length self.old + 25 }
     {
         self.put_number(size / 10_000);
-        let decimals = [
-            b'.',
-            digit(size / 1_000),
-            digit(size / 100),
-            digit(size / 10),
-            digit(size),
-        ];
-        self.put(decimals.as_slice());
+        self.add_four(b'.', size);
+    }
+
+    /// Appends a separator and the last two digits of a number.
+    pub(crate) fn add_two(&mut self, separator: u8, number: u64)
+        requires { length self.old + 3 ≤ longest_line }
+        ensures { self.new ≡ self.old ++ separator ∷ two_digits number }
+    {
+        self.put(&[separator, digit(number / 10), digit(number)]);
+    }
+
+    /// Appends a separator and the last three digits of a number.
+    pub(crate) fn add_three(&mut self, separator: u8, number: u64)
+        requires { length self.old + 4 ≤ longest_line }
+        ensures { self.new ≡ self.old ++ separator ∷ three_digits number }
+    {
+        self.put(&[
+            separator,
+            digit(number / 100),
+            digit(number / 10),
+            digit(number),
+        ]);
+    }
+
+    /// Appends a separator and the last four digits of a number.
+    pub(crate) fn add_four(&mut self, separator: u8, number: u64)
+        requires { length self.old + 5 ≤ longest_line }
+        ensures { self.new ≡ self.old ++ separator ∷ four_digits number }
+    {
+        self.put(&[
+            separator,
+            digit(number / 1_000),
+            digit(number / 100),
+            digit(number / 10),
+            digit(number),
+        ]);
     }
 
     /// Appends the line feed.
@@ -188,7 +217,7 @@ pub fn print_line<E: Write>(text: &[u8], faults: &mut Counted<E>)
 }
 
 /// Returns the last decimal digit of a number, in ASCII.
-pub fn digit(number: u64) -> u8
+fn digit(number: u64) -> u8
     ensures { result ≡ digit number }
 {
     b'0' + (number % 10) as u8

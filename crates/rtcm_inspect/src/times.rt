@@ -3,7 +3,7 @@ ghost use Rattle.std.specs.Prelude.{◌≡◌, ◌+◌, ◌≤◌, ◌∷◌, �
 ghost use Rattle.rtcm_inspect.specs.DateTexts.{clock_text, date_text, step_line};
 ghost use Rattle.rtcm_inspect.specs.DateTexts.{time_line, times_lines};
 
-use crate::line::{OutputLine, digit};
+use crate::line::OutputLine;
 use gnss_obs::{Civil, GpsTime};
 use rinex_file::EpochTimes;
 
@@ -37,23 +37,9 @@ fn add_date(text: &mut OutputLine, civil: &Civil)
     ensures text { text.new ≡ text.old ++ 0x20 ∷ date_text civil.now }
     ensures short { length text.new ≤ length text.old + 11 }
 {
-    let year = u64::from(civil.year);
-    let month = u64::from(civil.month);
-    let day = u64::from(civil.day);
-    let date = [
-        b' ',
-        digit(year / 1_000),
-        digit(year / 100),
-        digit(year / 10),
-        digit(year),
-        b'-',
-        digit(month / 10),
-        digit(month),
-        b'-',
-        digit(day / 10),
-        digit(day),
-    ];
-    text.put(date.as_slice());
+    text.add_four(b' ', u64::from(civil.year));
+    text.add_two(b'-', u64::from(civil.month));
+    text.add_two(b'-', u64::from(civil.day));
 }
 
 /// Adds a blank and a time of day, in milliseconds.
@@ -62,26 +48,11 @@ fn add_clock(text: &mut OutputLine, civil: &Civil)
     ensures text { text.new ≡ text.old ++ 0x20 ∷ clock_text civil.now }
     ensures short { length text.new ≤ length text.old + 13 }
 {
-    let hour = u64::from(civil.hour);
-    let minute = u64::from(civil.minute);
     let millisecond = u64::from(civil.millisecond);
-    let second = millisecond / 1_000;
-    let clock = [
-        b' ',
-        digit(hour / 10),
-        digit(hour),
-        b':',
-        digit(minute / 10),
-        digit(minute),
-        b':',
-        digit(second / 10),
-        digit(second),
-        b'.',
-        digit(millisecond / 100),
-        digit(millisecond / 10),
-        digit(millisecond),
-    ];
-    text.put(clock.as_slice());
+    text.add_two(b' ', u64::from(civil.hour));
+    text.add_two(b':', u64::from(civil.minute));
+    text.add_two(b':', millisecond / 1_000);
+    text.add_three(b'.', millisecond);
 }
 
 /// Adds the line of the step in seconds, if there is one.
@@ -92,8 +63,7 @@ fn add_step(text: &mut OutputLine, step: Option<u64>)
     if let Some(step) = step {
         text.put(b"step");
         text.add_number(step / 1_000);
-        let decimals = [b'.', digit(step / 100), digit(step / 10), digit(step)];
-        text.put(decimals.as_slice());
+        text.add_three(b'.', step);
         text.finish();
     }
 }
