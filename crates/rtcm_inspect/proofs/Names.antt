@@ -53,7 +53,7 @@ pub use Rattle.rtcm_inspect.specs.ShowLines.{fault_words, height_words, read_lin
 pub use Rattle.rtcm_inspect.specs.SignalLaws.{SkipsOnly}
 pub use Rattle.rtcm_inspect.specs.SignalOutput.{EndsSignals, ReadsTooMuch, SignalText}
 unfoldable pub use Rattle.rtcm_inspect.specs.Signals.{count_line}
-pub use Rattle.rtcm_inspect.specs.Signals.{code_list, codes_word, count_lines, had, had_below, letter, lines_below, plan_had, signals_text, valued_in, valued_of}
+pub use Rattle.rtcm_inspect.specs.Signals.{code_list, codes_word, count_lines, had, had_below, lines_below, plan_had, signals_text, valued_in, valued_of}
 pub use Rattle.rtcm_inspect.specs.WeekLaws.{first_time}
 pub use Rattle.rtcm_inspect.specs.declared.counting.StreamSignals.{StreamSignals}
 pub use Rattle.rtcm_inspect.specs.declared.fault.InspectFault.{InspectFault}
@@ -89,16 +89,18 @@ pub use Rattle.rtcm_scan.specs.Scan.{FramerValue}
 pub use Rattle.rtcm_scan.specs.declared.feed.StreamFault.{StreamFault}
 pub use Rattle.std.proofs.KnownBytes.{Appends-kept, Appends-nil, Appends-trans}
 pub use Rattle.std.proofs.lemmas.Bool.{le-leb, lt-leb}
+pub use Rattle.std.proofs.lemmas.Bool.Decides.{nat_tests}
 pub use Rattle.std.proofs.lemmas.Fmt.{decimal_digit}
-pub use Rattle.std.proofs.lemmas.Grind.{flat_map-append}
+pub use Rattle.std.proofs.lemmas.Grind.{common_steps, flat_map-append}
 pub use Rattle.std.proofs.lemmas.Int.{to_z-of_z}
 pub use Rattle.std.proofs.lemmas.List.{map-append}
 pub use Rattle.std.proofs.lemmas.List.Elements.{All-append, All-cons, All-filter, All-head, All-nil, All-tail, filter-append, filter_map-append}
 pub use Rattle.std.proofs.lemmas.List.Folds.{find-append, list_any-append}
-pub use Rattle.std.proofs.lemmas.List.Sums.{count_by-le-length, length-filter, sum_by-cons}
+pub use Rattle.std.proofs.lemmas.List.Sums.{AllPass-from_list_all, count_by-le-length, length-filter, sum_by-cons}
+pub use Rattle.std.proofs.lemmas.Option.{slice_get-get_or}
 pub use Rattle.std.specs.Io.KnownBytes.{Appends, Keeps}
-pub use Rattle.std.specs.List.{cons_option, count_by, flat_map, join_with_byte, list_any, position_or_len}
+pub use Rattle.std.specs.List.{cons_option, count_by, flat_map, join_with_byte, list_all, list_any, position_or_len, slice_get}
 pub use Rattle.std.specs.Option.{option_map, option_map_or, option_or}
-pub use Rattle.std.specs.Prelude.{codes, cond, filter_map, if◌then◌else◌, nat_le, nat_lt, option_and_then, position, ⊤}
+pub use Rattle.std.specs.Prelude.{codes, cond, filter_map, if◌then◌else◌, nat_le, nat_lt, option_and_then, position, ⊤, ◌≢◌}
 pub use Rattle.std.specs.Result.{IsErrAnd}
 pub use Rattle.std.specs.Str.{bytes_eq}

@@ -5,6 +5,7 @@ use Rattle.std.specs.List.{join_with_byte}
 use Rattle.rtcm_scan.specs.Frames.{Framed}
 use Rattle.gnss_obs.specs.declared.system.System.{System}
 use Rattle.gnss_obs.specs.declared.system.System.TheVariants.{Gps, Galileo}
+use Rattle.gnss_obs.specs.Satellites.{letter}
 use Rattle.gnss_obs.specs.Signals.{SignalAt, table, code_of}
 use Rattle.obs_epoch.specs.SignalCounts.{valued, count_of, signal_in}
 use Rattle.gnss_obs.specs.Plans.{below}
@@ -46,14 +47,9 @@ abbrev pub codes_word : System → List ℕ → List ℕ
 codes_word system [] = codes "none"
 codes_word system (i ∷ is) = code_list system (i ∷ is)
 
--- the letter of a system in RINEX
-abbrev pub letter : System → List ℕ
-letter Gps = codes "G"
-letter Galileo = codes "E"
-
 -- the letter of the system, the code, and the number of cells
 unfoldable pub count_line : SignalAt → ℕ → List ℕ
-count_line g count = line (letter g.system ∷ code_of g ∷ decimal count ∷ [])
+count_line g count = line ((letter g.system ∷ []) ∷ code_of g ∷ decimal count ∷ [])
 
 abbrev pub lines_below : List HeardCell → System → ℕ → List ℕ
 lines_below cells system n =

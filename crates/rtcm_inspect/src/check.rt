@@ -3,8 +3,7 @@ ghost use Rattle.std.specs.Prelude.{◌≡◌, ◌≤◌, length};
 ghost use Rattle.rinex_file.specs.Blocks.{LeavesRest};
 ghost use Rattle.rinex_file.specs.Counting.{AreCounts};
 ghost use Rattle.rinex_file.specs.Value.{FileValue};
-ghost use Rattle.rtcm_inspect.specs.Devices.{Moves};
-ghost use Rattle.rtcm_inspect.specs.Devices.{Ends};
+ghost use Rattle.rtcm_inspect.specs.Devices.{Ends, Moves};
 ghost use Rattle.rtcm_inspect.specs.Checking.{AcceptsFiles, AreLinesOf, ChecksFile, ChecksTimes, IsLineOf};
 ghost use Rattle.rtcm_inspect.specs.Checking.{StopsChecking, StopsCheckingTimes, check_line};
 

@@ -40,12 +40,9 @@ impl Stations {
     pub fn mixed(self, wanted: Option<u16>) -> Option<(u16, u16)>
         ensures { result ≡ mixed_of wanted self }
     {
-        match wanted {
-            Some(_) => None,
-            None => match self {
-                Stations::Several(first, other) => Some((first, other)),
-                Stations::Unknown | Stations::One(_) => None,
-            },
+        match (wanted, self) {
+            (None, Stations::Several(first, other)) => Some((first, other)),
+            _ => None,
         }
     }
 }

@@ -84,7 +84,7 @@ fn options_line(signals: &StreamSignals, week: Option<u32>) -> OutputLine
 {
     let mut line = OutputLine::new();
     add_number(&mut line, "--week", week);
-    add_number(&mut line, "--station", widened(signals.station));
+    add_number(&mut line, "--station", signals.station.map(u32::from));
     line.put(b"--gps");
     add_codes(&mut line, &signals.signal_counts, System::Gps);
     line.add_word("--galileo");
@@ -125,16 +125,6 @@ fn add_number(line: &mut OutputLine, option: &str, number: Option<u32>)
         line.put(option.as_bytes());
         line.add_number(u64::from(number));
         line.put(b" ");
-    }
-}
-
-/// Returns the number in 32 bits.
-fn widened(number: Option<u16>) -> Option<u32>
-    ensures { result ≡ number }
-{
-    match number {
-        Some(number) => Some(u32::from(number)),
-        None => None,
     }
 }
 

@@ -1,4 +1,4 @@
-use Rattle.std.proofs.Common.{◌≡◌, ◌∙◌, [], ◌∷◌, ◌++◌, ℕ, List, Option, Some, None, ap, sym, append_assoc, append-nil, codes, decimal, refl}
+use Rattle.std.proofs.Common.{◌≡◌, ◌∙◌, [], ◌∷◌, ◌++◌, ℕ, List, Option, Some, None, ap, sym, append_assoc, append-nil, codes, decimal, refl, rules}
 use Rattle.rtcm_inspect.proofs.LineLemmas.{add_text, add_word, end_line}
 use Rattle.rtcm_inspect.proofs.Names.{join_with_byte, PlanValue, Gps, Galileo, StationParts, codes_word, plan_had, valued_in, number_start, number_words, options_line, station_words, line, with_words}
 use Rattle.rtcm_inspect.proofs.options.options_line.Goals as goal
@@ -42,6 +42,6 @@ returns c = λ fs h.
     let counts = h.counted.signal_counts in
     let cells = valued_in s.station fs in
     line_made c.args.week s.station (plan_had cells) s.first.point c.new-line.ensures c.add_number.ensures.text
-    (c.add_number-2.ensures.text ∙ ap (λ (n : Option ℕ). c.add_number.new.line ++ number_start (codes "--station") n) c.widened.ensures) c.put.ensures (c.add_codes.ensures.text cells counts)
+    (c.add_number-2.ensures.text ∙ ap (λ (n : Option ℕ). c.add_number.new.line ++ number_start (codes "--station") n) (search rules)) c.put.ensures (c.add_codes.ensures.text cells counts)
     c.add_word.ensures.text (c.add_codes-2.ensures.text cells counts) c.add_station.ensures.text c.finish.ensures
     ∙ ap (options_line c.args.week s.station (plan_had cells)) h.first.point

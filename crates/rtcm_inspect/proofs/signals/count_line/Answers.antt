@@ -1,18 +1,14 @@
-use Rattle.std.proofs.Common.{◌≡◌, ◌∙◌, [], ◌∷◌, ℕ, ap, refl, decimal}
-use Rattle.gnss_obs.specs.Satellites.{letter as letter_byte}
+use Rattle.std.proofs.Common.{[], ◌∷◌, ℕ, ap, refl, decimal, ◌∙◌}
+use Rattle.gnss_obs.specs.Satellites.{letter}
 use Rattle.rtcm_inspect.proofs.LineLemmas.{add_text, add_word, end_line}
-use Rattle.rtcm_inspect.proofs.Names.{code_of, System, Gps, Galileo, signal_in, count_line, letter}
+use Rattle.rtcm_inspect.proofs.Names.{code_of, signal_in, count_line}
 use Rattle.rtcm_inspect.proofs.signals.count_line.Goals as goal
-
-lettered : (s : System) → letter_byte s ∷ [] ≡ letter s
-lettered Gps = refl
-lettered Galileo = refl
 
 pub returns-clause-text : goal.returns-clause-text
 unfolding count_line
 returns-clause-text c =
     let g = signal_in c.args.system c.args.index in
-    let first = add_text c.put.ensures c.new-line.ensures (ap (λ (n : ℕ). n ∷ []) c.letter.ensures ∙ lettered c.args.system) in
+    let first = add_text c.put.ensures c.new-line.ensures (ap (λ (n : ℕ). n ∷ []) c.letter.ensures) in
     let code = add_word c.add_part.ensures.text first (c.as_slice.ensures ∙ c.code_at.ensures.value) in
     let count = add_word c.add_number.ensures.text code refl in
-    end_line [] (letter c.args.system) (code_of g ∷ decimal c.args.count ∷ []) c.finish.ensures count
+    end_line [] (letter c.args.system ∷ []) (code_of g ∷ decimal c.args.count ∷ []) c.finish.ensures count
