@@ -1,7 +1,8 @@
 -- The plan of the signals of a stream has a column for each of its values, and their line is parsed as that plan.
-use Rattle.std.proofs.Common.{◌≡◌, ℕ, zero, suc, ◌+◌, ◌<◌, ◌≤◌, ◌==◌, ◌&&◌, ◌||◌, Bool, true, false, not, List, [], ◌∷◌, ◌++◌, length, refl, sym, ap, ap₂, ◌∙◌, subst, arith, filter, map, All, Some, None, Result, Ok, Err, nat_eq, get_or, append-nil, append_assoc, is_some}
+use Rattle.std.proofs.Common.{◌≡◌, ℕ, zero, suc, ◌+◌, ◌<◌, ◌≤◌, ◌==◌, ◌&&◌, ◌||◌, Bool, true, false, not, List, [], ◌∷◌, ◌++◌, length, refl, sym, ap, ap₂, ◌∙◌, subst, arith, filter, map, All, Some, Result, Ok, Err, nat_eq, get_or, append-nil, append_assoc, is_some}
 use Rattle.rtcm_inspect.proofs.SignalLemmas.{own_signal}
-use Rattle.rtcm_inspect.proofs.Names.{cond, nat_lt, nat_le, position, list_any, position_or_len, bytes_eq, filter-append, list_any-append, System, Gps, Galileo, satellites, SignalAt, IsSignal, table, code_of, signal_of_code, PlanFault, RepeatedCode, is_planned, has_listed_key, GatherSetup, HeardCell, IsKey, below, place_in, between_commas, onto_first, one_signal_more, signals_after, signals_of, plan_of, planned_of, is_of_signal, count_of, signal_in, had, plan_had, code_list, codes_word}
+use Rattle.gnss_obs.specs.declared.tables.ListedSignal as tables
+use Rattle.rtcm_inspect.proofs.Names.{◌≢◌, AllPass-from_list_all, common_steps, list_all, nat_tests, option_map_or, slice_get, slice_get-get_or, cond, nat_lt, position, list_any, position_or_len, bytes_eq, filter-append, list_any-append, System, Gps, Galileo, SignalAt, IsSignal, table, code_of, signal_of_code, PlanFault, RepeatedCode, is_planned, has_listed_key, GatherSetup, HeardCell, IsKey, below, place_in, between_commas, onto_first, one_signal_more, signals_after, signals_of, plan_of, planned_of, is_of_signal, count_of, signal_in, had, plan_had, code_list, codes_word}
 
 -- ---- rising indices
 
@@ -38,60 +39,36 @@ starts_low (b ∷ bs) = nat_lt b 58
 abbrev is_plain : List ℕ → Bool
 is_plain code = not (list_any is_comma code) && starts_low code
 
-abbrev each_below : (ℕ → Bool) → ℕ → Bool
-each_below p zero = true
-each_below p (suc n) = p n && each_below p n
-
-holds_below : (p : ℕ → Bool) (n i : ℕ) → each_below p n ≡ true → i < n → p i ≡ true
-holds_below p zero i h within = absurd (omega (arith, within))
-holds_below p (suc n) i h within = by (n == i) refl (p n) refl h (λ rest lt. holds_below p n i rest lt) where
-  same : (a b : ℕ) → (a == b) ≡ true → a ≡ b
-  same a b e = grind (arith, e)
-
-  less : (a b : ℕ) → (a == b) ≡ false → b < suc a → b < a
-  less a b e lt = let other : a ≡ b → ⊥ = λ is. absurd (grind (arith, e, is)) in omega (arith, lt, other)
-
-  by : (b : Bool) → (n == i) ≡ b → (c : Bool) → p n ≡ c → (c && each_below p n) ≡ true → (each_below p n ≡ true → i < n → p i ≡ true) → p i ≡ true
-  by true e true is h more = ap p (sym (same n i e)) ∙ is
-  by false e true is h more = more h (less n i e within)
-  by true e false is h more = absurd (grind (arith, h))
-  by false e false is h more = absurd (grind (arith, h))
-
 abbrev code_at : System → ℕ → List ℕ
 code_at system i = code_of (signal_in system i)
 
-all_plain : (system : System) → each_below (λ i. is_plain (code_at system i)) (length (table system)) ≡ true
+all_plain : (system : System) → list_all (λ e. is_plain e.1) (table system) ≡ true
 all_plain Gps = refl
 all_plain Galileo = refl
 
-and_left : (a b : Bool) → (not a && b) ≡ true → a ≡ false
-and_left true b h = absurd (grind (arith, h))
-and_left false b h = refl
-
-and_right : (a b : Bool) → (not a && b) ≡ true → b ≡ true
-and_right true b h = absurd (grind (arith, h))
-and_right false b h = h
+plain_at : (system : System) (i : ℕ) → i < length (table system) → is_plain (code_at system i) ≡ true
+plain_at system i within = by (table system) (all_plain system) within where
+  by : (es : List tables.ListedSignal) → list_all (λ e. is_plain e.1) es ≡ true → i < length es → is_plain (option_map_or (λ e. e.1) (slice_get es i) []) ≡ true
+  by [] h less = absurd (omega (arith, less))
+  by (e ∷ es) h less = rw (slice_get-get_or (e ∷ es) i e less) (AllPass-from_list_all (λ e. is_plain e.1) (e ∷ es) h i e less)
 
 no_comma : (system : System) (i : ℕ) → i < length (table system) → list_any is_comma (code_at system i) ≡ false
-no_comma system i within = and_left _ _ (holds_below (λ i. is_plain (code_at system i)) (length (table system)) i (all_plain system) within)
+no_comma system i within = let h = plain_at system i within in grind (arith, h)
 
 code_low : (system : System) (i : ℕ) → i < length (table system) → starts_low (code_at system i) ≡ true
-code_low system i within = and_right _ _ (holds_below (λ i. is_plain (code_at system i)) (length (table system)) i (all_plain system) within)
+code_low system i within = let h = plain_at system i within in grind (arith, h)
+
+neither : (a b : Bool) → (a || b) ≡ false → (a ≡ false) × (b ≡ false)
+neither true b h = cc
+neither false b h = (refl, h)
 
 last_code : (code : List ℕ) → list_any is_comma code ≡ false → between_commas code ≡ code ∷ []
 last_code [] h = refl
-last_code (b ∷ bs) h = by (b == 44) h (last_code bs) where
-  by : (c : Bool) → (c || list_any is_comma bs) ≡ false → (list_any is_comma bs ≡ false → between_commas bs ≡ bs ∷ []) → cond c ([] ∷ between_commas bs) (onto_first b (between_commas bs)) ≡ (b ∷ bs) ∷ []
-  by true h more = absurd (grind (arith, h))
-  by false h more = ap (onto_first b) (more h)
+last_code (b ∷ bs) h = let n = neither (b == 44) _ h in rw n.0 (ap (onto_first b) (last_code bs n.1))
 
 first_code : (code rest : List ℕ) → list_any is_comma code ≡ false → between_commas (code ++ 44 ∷ rest) ≡ code ∷ between_commas rest
 first_code [] rest h = refl
-first_code (b ∷ bs) rest h = by (b == 44) h (first_code bs rest) where
-  by : (c : Bool) → (c || list_any is_comma bs) ≡ false → (list_any is_comma bs ≡ false → between_commas (bs ++ 44 ∷ rest) ≡ bs ∷ between_commas rest)
-      → cond c ([] ∷ between_commas (bs ++ 44 ∷ rest)) (onto_first b (between_commas (bs ++ 44 ∷ rest))) ≡ (b ∷ bs) ∷ between_commas rest
-  by true h more = absurd (grind (arith, h))
-  by false h more = ap (onto_first b) (more h)
+first_code (b ∷ bs) rest h = let n = neither (b == 44) _ h in rw n.0 (ap (onto_first b) (first_code bs rest n.1))
 
 codes_apart : (system : System) (low i : ℕ) (is : List ℕ) → Climbs low (length (table system)) (i ∷ is) → between_commas (code_list system (i ∷ is)) ≡ map (code_at system) (i ∷ is)
 codes_apart system low i [] h = last_code (code_at system i) (no_comma system i h.1)
@@ -157,26 +134,9 @@ among_filter p zero k within is = absurd (omega (arith, within))
 among_filter p (suc n) k within is =
     ap (list_any (λ i. i == k)) (filter-append p (below n) (n ∷ [])) ∙ list_any-append (λ i. i == k) (filter p (below n)) (filter p (n ∷ [])) ∙ by (n == k) refl (λ lt. among_filter p n k lt is)
   where
-    same : (a b : ℕ) → (a == b) ≡ true → a ≡ b
-    same a b e = grind (arith, e)
-
-    less : (a b : ℕ) → (a == b) ≡ false → b < suc a → b < a
-    less a b e lt = let other : a ≡ b → ⊥ = λ is. absurd (grind (arith, e, is)) in omega (arith, lt, other)
-
-    or_true : (a : Bool) → (a || true) ≡ true
-    or_true true = refl
-    or_true false = refl
-
-    or_left : (a b : Bool) → a ≡ true → (a || b) ≡ true
-    or_left true b h = refl
-    or_left false b h = absurd (grind (arith, h))
-
-    last : (n == k) ≡ true → list_any (λ i. i == k) (filter p (n ∷ [])) ≡ true
-    last e = ap (λ (b : Bool). list_any (λ i. i == k) (cond b (n ∷ []) [])) (ap p (same n k e) ∙ is) ∙ ap (λ (b : Bool). b || false) e
-
     by : (b : Bool) → (n == k) ≡ b → (k < n → list_any (λ i. i == k) (filter p (below n)) ≡ true) → (list_any (λ i. i == k) (filter p (below n)) || list_any (λ i. i == k) (filter p (n ∷ []))) ≡ true
-    by true e more = ap (λ (b : Bool). list_any (λ i. i == k) (filter p (below n)) || b) (last e) ∙ or_true (list_any (λ i. i == k) (filter p (below n)))
-    by false e more = or_left (list_any (λ i. i == k) (filter p (below n))) (list_any (λ i. i == k) (filter p (n ∷ []))) (more (less n k e within))
+    by true e more = let same : n ≡ k = grind (arith, nat_tests) in rw (ap p same ∙ is, e) (grind arith)
+    by false e more = let other : n ≢ k = grind (arith, nat_tests) in rw (more (omega (arith, within, other))) refl
 
 -- a signal that has cells is in the list of those that have
 own_among : (cells : List HeardCell) (g : SignalAt) → IsSignal g → 0 < count_of g cells → list_any (λ i. i == g.index) (had cells g.system) ≡ true
@@ -186,36 +146,15 @@ own_among cells g listed some = among_filter (λ i. nat_lt 0 (count_of (signal_i
 
 has_place : (test : ℕ → Bool) (xs : List ℕ) → nat_lt (position_or_len test xs) (length xs) ≡ list_any test xs
 has_place test [] = refl
-has_place test (x ∷ xs) = by (test x) (has_place test xs) where
-  first : (n : ℕ) → nat_lt 0 (suc n) ≡ true
-  first n = grind arith
-
-  later : (a b : ℕ) → nat_lt (1 + a) (suc b) ≡ nat_lt a b
-  later a b = grind arith
-
-  by : (b : Bool) → nat_lt (position_or_len test xs) (length xs) ≡ list_any test xs → nat_lt (cond (not b) (1 + position_or_len test xs) 0) (length (x ∷ xs)) ≡ (b || list_any test xs)
-  by true h = first (length xs)
-  by false h = later (position_or_len test xs) (length xs) ∙ h
+has_place test (x ∷ xs) = grind (arith, common_steps, nat_tests, (has_place test xs))
 
 some_place : (test : ℕ → Bool) (xs : List ℕ) → list_any test xs ≡ true → is_some (position test xs) ≡ true
-some_place test xs h = by (nat_lt (position_or_len test xs) (length xs)) (has_place test xs ∙ h) where
-  by : (b : Bool) → b ≡ true → is_some (cond b (Some (position_or_len test xs)) None) ≡ true
-  by true e = refl
-  by false e = absurd (grind (arith, e))
+some_place test xs h = rw (has_place test xs, h) refl
 
 key_listed : (x : HeardCell) → IsKey x → has_listed_key x ≡ true
 key_listed x key =
-    ap₂ (λ a b. a && b) (ap₂ (λ a b. a && b) (positive x.satellite.id key.satellite.0) (few x.satellite.id (satellites x.satellite.system) key.satellite.1))
-    (less x.signal.index (length (table x.satellite.system)) (subst (λ (u : System). x.signal.index < length (table u)) key.same key.signal))
-  where
-    positive : (n : ℕ) → 1 ≤ n → nat_lt 0 n ≡ true
-    positive n h = grind (arith, h)
-
-    few : (a b : ℕ) → a ≤ b → nat_le a b ≡ true
-    few a b h = grind (arith, h)
-
-    less : (a b : ℕ) → a < b → nat_lt a b ≡ true
-    less a b h = grind (arith, h)
+    let listed : x.signal.index < length (table x.satellite.system) = subst (λ (u : System). x.signal.index < length (table u)) key.same key.signal in
+    grind (arith, nat_tests, key.satellite.0, key.satellite.1)
 
 had_in : (cells : List HeardCell) (system : System) → planned_of system (plan_had cells) ≡ had cells system
 had_in cells Gps = refl
