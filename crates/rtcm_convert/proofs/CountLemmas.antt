@@ -1,7 +1,7 @@
 -- Each frame is counted once.
 use Rattle.std.proofs.Common.{◌≡◌, ℕ, ◌+◌, List, [], ◌∷◌, ◌++◌, Bool, false, refl, ◌∙◌, arith, length, suc, Option, Some, None}
 use Rattle.rtcm_convert.proofs.ExactLemmas.{outcomes_length}
-use Rattle.rtcm_convert.proofs.Names.{sum_by, option_map, sum_by-cons, Framed, frames_of, Kind, GatherSetup, Heard, is_close_first, kind_of, SetupValue, messages_of, heard_in, outcomes, outcomes_after, tally_of_one, report_of, IsCountedOnce, Tally}
+use Rattle.rtcm_convert.proofs.Names.{sum_by, option_map, sum_by-cons, Framed, frames_of, Kind, GatherSetup, Heard, is_close_first, kind_of, SetupValue, messages_of, heard_in, outcomes, outcomes_after, tally_of_one, report_of, IsCountedOnce, Report}
 use Rattle.obs_epoch.specs.declared.taken.Kind.TheVariants as kind
 
 -- the outcome that no frame has
@@ -25,7 +25,7 @@ outcomes_done kinds s before [] = tt
 outcomes_done kinds s before (f ∷ fs) = (heard_done kinds s.gather (messages_of before) (heard_in f), outcomes_done kinds s (before ++ f ∷ []) fs)
 
 -- what a frame adds to the seven kinds
-abbrev seven : Tally → ℕ
+abbrev seven : Report → ℕ
 seven t = t.faulty + (t.station + (t.other + (t.ignored + (t.late + (t.past + t.taken)))))
 
 one_each : (o : Option Kind) → is_first o ≡ false → seven (tally_of_one o) ≡ 1
@@ -38,10 +38,10 @@ one_each (Some kind.PastWeeks) e = refl
 one_each (Some (kind.Kept kept skipped repeated crowded)) e = refl
 one_each (Some kind.CloseFirst) e = absurd (grind (arith, e))
 
-abbrev sum : (Tally → ℕ) → List (Option Kind) → ℕ
+abbrev sum : (Report → ℕ) → List (Option Kind) → ℕ
 sum count os = sum_by (λ o. count (tally_of_one o)) os
 
-sum-cons : (count : Tally → ℕ) (o : Option Kind) (os : List (Option Kind)) → sum count (o ∷ os) ≡ count (tally_of_one o) + sum count os
+sum-cons : (count : Report → ℕ) (o : Option Kind) (os : List (Option Kind)) → sum count (o ∷ os) ≡ count (tally_of_one o) + sum count os
 sum-cons count o os = sum_by-cons (λ o. count (tally_of_one o)) o os
 
 add : (n a b c d e f g a' b' c' d' e' f' g' A B C D E F G : ℕ) → A ≡ a + a' → B ≡ b + b' → C ≡ c + c' → D ≡ d + d' → E ≡ e + e' → F ≡ f + f' → G ≡ g + g'

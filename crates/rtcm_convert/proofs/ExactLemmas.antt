@@ -1,8 +1,8 @@
 -- No count of a stream reaches the greatest number that is counted: a frame has at least six bytes and at most 64
 -- cells.
-use Rattle.std.proofs.Common.{◌≡◌, ◌||◌, ℕ, ◌+◌, ◌-◌, ◌*◌, ◌≤◌, ◌^◌, List, [], ◌∷◌, ◌++◌, Bool, true, false, refl, sym, ap, subst, ◌∙◌, arith, length, length-append, add-zero, suc, zero, nat_lt, Option, Some, None, is_some, not}
+use Rattle.std.proofs.Common.{◌≡◌, ◌||◌, ℕ, ◌+◌, ◌-◌, ◌*◌, ◌≤◌, ◌^◌, List, [], ◌∷◌, ◌++◌, Bool, true, false, refl, sym, ap, subst, ◌∙◌, arith, rules, length, length-append, add-zero, suc, zero, nat_lt, Option, Some, None, is_some, not}
 use Rattle.obs_epoch.specs.Cells.{kept_of_both as kept_both}
-use Rattle.rtcm_convert.proofs.Names.{LockField, Df402, Df407, count_by, filter, filter_map, if◌then◌else◌, cons_option, zip, option_map_or, length-map, sum_by-cons, length-filter, count_by-le-length, System, uint, Framed, Message, Entry, MasksValue, MsmValue, AreMasks, pair_count, IsMessage, chosen, cell_pairs, all_pairs, entries, entry4, entry7, Kind, GatherSetup, Heard, heard, heard_msm, is_own, seen_in, system_of, unlisted_in, HeardCell, Timed, timed, timed_after, taken_at, is_late, is_past, time_of, times, counts_of, counts_of_message, no_counts, with_skipped, is_planned, is_among, offered, kind_of, kind_at, kept_kind, all_epochs, closed_at, satellites_written, SetupValue, messages_of, heard_in, epochs_in, outcomes_after, capped, capped_tally, sum_of_counts, tally_of, tally_of_one, IsFew, AreFew, Tally, CellCounts}
+use Rattle.rtcm_convert.proofs.Names.{LockField, Df402, Df407, count_by, filter, filter_map, if◌then◌else◌, cons_option, zip, option_map_or, length-map, sum_by-cons, length-filter, count_by-le-length, System, uint, Framed, Message, Entry, MasksValue, MsmValue, AreMasks, pair_count, IsMessage, chosen, cell_pairs, all_pairs, entries, entry4, entry7, Kind, GatherSetup, Heard, heard, heard_msm, is_own, seen_in, system_of, unlisted_in, HeardCell, Timed, timed, timed_after, taken_at, is_late, is_past, time_of, times, counts_of, counts_of_message, no_counts, with_skipped, is_planned, is_among, offered, kind_of, kind_at, kept_kind, all_epochs, closed_at, satellites_written, SetupValue, messages_of, heard_in, epochs_in, outcomes_after, capped, capped_tally, sum_of_counts, tally_of, tally_of_one, IsFew, AreFew, Report, CellCounts}
 use Rattle.rtcm_msg.specs.declared.message.Message.TheVariants as message
 use Rattle.obs_epoch.specs.declared.taken.Kind.TheVariants as kind
 
@@ -113,31 +113,22 @@ counts_few_at s xs m (Some u) h = counts_few s (offered s u xs) m h
 
 -- ---- what a frame adds to each count
 
-none_few : 0 ≤ 128
-none_few = omega arith
-
-one_few : 1 ≤ 128
-one_few = omega arith
-
-plain_few : (t : Tally) → t.frames ≤ 128 → t.faulty ≤ 128 → t.station ≤ 128 → t.other ≤ 128 → t.ignored ≤ 128 → t.late ≤ 128 → t.past ≤ 128 → t.taken ≤ 128 → t.skipped ≤ 128 → t.repeated ≤ 128 → t.crowded ≤ 128 → IsFew t
-plain_few t a b c d e f g h i j k = record { frames = a; faulty = b; station = c; other = d; ignored = e; late = f; past = g; taken = h; skipped = i; repeated = j; crowded = k }
-
 pub refused_few : IsFew (tally_of_one None)
-refused_few = plain_few (tally_of_one None) one_few one_few none_few none_few none_few none_few none_few none_few none_few none_few none_few
+refused_few = search rules
 
 timed_few : (late past : Bool) (n : CellCounts) → CountsFew n → IsFew (tally_of_one (Some (if late then kind.Late else (if past then kind.PastWeeks else kept_kind n))))
-timed_few true past n h = plain_few (tally_of_one (Some kind.Late)) one_few none_few none_few none_few none_few one_few none_few none_few none_few none_few none_few
-timed_few false true n h = plain_few (tally_of_one (Some kind.PastWeeks)) one_few none_few none_few none_few none_few none_few one_few none_few none_few none_few none_few
-timed_few false false n h = plain_few (tally_of_one (Some (kept_kind n))) one_few none_few none_few none_few none_few none_few none_few one_few h.skipped h.repeated h.crowded
+timed_few true past n h = search rules
+timed_few false true n h = search rules
+timed_few false false n h = search rules
 
 own_few : (s : GatherSetup) (xs : List Timed) (n : CellCounts) (tow : Option ℕ) → CountsFew n → IsFew (tally_of_one (Some (option_map_or (kind_at s xs n) tow kind.Station)))
-own_few s xs n None h = plain_few (tally_of_one (Some kind.Station)) one_few none_few one_few none_few none_few none_few none_few none_few none_few none_few none_few
+own_few s xs n None h = search rules
 own_few s xs n (Some tow) h = timed_few (is_late s xs tow) (is_past (time_of s xs tow)) n h
 
 kind_few : (known own : Bool) (k : Kind) → IsFew (tally_of_one (Some k)) → IsFew (tally_of_one (Some (if known then (if own then k else kind.OtherStation) else kind.Ignored)))
 kind_few true true k h = h
-kind_few true false k h = plain_few (tally_of_one (Some kind.OtherStation)) one_few none_few none_few one_few none_few none_few none_few none_few none_few none_few none_few
-kind_few false own k h = plain_few (tally_of_one (Some kind.Ignored)) one_few none_few none_few none_few one_few none_few none_few none_few none_few none_few none_few
+kind_few true false k h = search rules
+kind_few false own k h = search rules
 
 heard_kind_few : (s : GatherSetup) (ms : List Heard) (m : Heard) → HasFew m → IsFew (tally_of_one (Some (kind_of s ms m)))
 heard_kind_few s ms m h =
@@ -156,7 +147,7 @@ few_more (p ∷ os) o h k = (h.0, few_more os o h.1 k)
 add_few : (a b c n : ℕ) → c ≡ a + b → a ≤ 128 → b ≤ 128 * n → c ≤ 128 * suc n
 add_few a b c n e p q = omega arith
 
-total_few : (count : Tally → ℕ) → ((t : Tally) → IsFew t → count t ≤ 128) → (os : List (Option Kind)) → AreFew os → sum_of_counts count os ≤ 128 * length os
+total_few : (count : Report → ℕ) → ((t : Report) → IsFew t → count t ≤ 128) → (os : List (Option Kind)) → AreFew os → sum_of_counts count os ≤ 128 * length os
 total_few count below [] h = omega arith
 total_few count below (o ∷ os) h =
     add_few (count (tally_of_one o)) (sum_of_counts count os) (sum_of_counts count (o ∷ os)) (length os) (sum_by-cons (λ o. count (tally_of_one o)) o os) (below (tally_of_one o) h.0) (total_few count below os h.1)

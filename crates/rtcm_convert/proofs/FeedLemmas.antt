@@ -2,7 +2,7 @@
 use Rattle.std.proofs.Common.{◌≡◌, ◌≢◌, ℕ, ◌<◌, ◌++◌, List, length, Bool, true, false, sym, subst, ◌∙◌, [], Option, suc, zero, arith, refl, true≢false, Result, Ok, Err, IfOk}
 use Rattle.rtcm_scan.specs.declared.feed.StreamFault.TheVariants.{Read, TooLong}
 use Rattle.rtcm_convert.proofs.StreamLemmas.{piece_whole, piece_part, piece_fine, to_limit}
-use Rattle.rtcm_convert.proofs.Names.{Device, HasExaminedSome, Passes, Breaks, PassesToLimit, AtFault, up_to_limit, FramerValue, StreamFault, Sink, Conversion, kept_of, KeepsNow, IsGoing, IsFit, HasConverted, HasFinished, TakesPiece, CutsAtLimit, WritesPrefixOfAdded, FinishesNow, FinishesEmptyNow, SetupValue, IsKeptAtEnd, IsWithinBounds, skipped_before, frames_of, known_place, report_with, Report, Tally, FiledGrows, Files, BreaksFiling, EndsBytes, AppendsDecided, FileWriter}
+use Rattle.rtcm_convert.proofs.Names.{Device, HasExaminedSome, Passes, Breaks, PassesToLimit, AtFault, up_to_limit, FramerValue, StreamFault, Sink, Conversion, kept_of, KeepsNow, IsGoing, IsFit, HasConverted, HasFinished, TakesPiece, CutsAtLimit, WritesPrefixOfAdded, FinishesNow, FinishesEmptyNow, SetupValue, IsKeptAtEnd, IsWithinBounds, skipped_before, frames_of, known_place, report_with, Report, FiledGrows, Files, BreaksFiling, EndsBytes, AppendsDecided, FileWriter}
 
 pub read_of : {F : Type 0} (f : StreamFault F) (P Q R : Type 0) → f ≡ Read → AtFault f P Q R → P
 read_of f P Q R e a = subst (λ (x : StreamFault _). AtFault x P Q R) e a
@@ -76,7 +76,7 @@ some (suc n) m e h = omega (arith, e)
 abbrev pub KeepsAtEnd : Conversion → Type 0
 KeepsAtEnd x = (s : SetupValue) (b : List ℕ) → HasFinished x s b → IsKeptAtEnd s b (kept_of x)
 
-same_report : (m n k l : ℕ) (t u : Tally) (d e : ℕ) → m ≡ n → k ≡ l → t ≡ u → d ≡ e → report_with m k t d ≡ report_with n l u e
+same_report : (m n k l : ℕ) (t u : Report) (d e : ℕ) → m ≡ n → k ≡ l → t ≡ u → d ≡ e → report_with m k t d ≡ report_with n l u e
 same_report m n k l t u d e p q r s = rw (p, q, r, s) refl
 
 module _ (failed over : Bool) (v v' : FramerValue) (w w' : FileWriter) (a b : Option (List ℕ)) (ends : EndsBytes v w v' w' a b)

@@ -45,7 +45,6 @@ pub use Rattle.rtcm_convert.specs.declared.fault.Fault.{Fault}
 pub use Rattle.rtcm_convert.specs.declared.fault.Fault.TheVariants.{BadSetup, Failed, Finished, Memory, NoEpoch, Read, TooLong, Write}
 pub use Rattle.rtcm_convert.specs.declared.file_writer.FileWriter.{FileWriter}
 pub use Rattle.rtcm_convert.specs.declared.report.Report.{Report}
-pub use Rattle.rtcm_convert.specs.declared.tally.Tally.{Tally}
 pub use Rattle.rtcm_msg.specs.Decoding.{message_at}
 pub use Rattle.rtcm_msg.specs.Encoding.{IsMessage}
 unfoldable pub use Rattle.rtcm_msg.specs.Entries.{chosen}

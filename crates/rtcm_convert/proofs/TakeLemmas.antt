@@ -4,7 +4,7 @@ use Rattle.rtcm_convert.proofs.PartLemmas.{goes_on-refl, goes_on-trans, breaks_o
 use Rattle.rtcm_convert.proofs.TextLemmas.{cap_more, count, last, text-closed}
 use Rattle.rtcm_convert.proofs.ExactLemmas.{few_more, message_few, refused_few}
 use Rattle.rtcm_convert.proofs.StepLemmas.{Wrote, wrote_all, part_of}
-use Rattle.rtcm_convert.proofs.Names.{sum_by, common_steps, filter_map-append, sum_by-append, AppendsPrefix, Framed, Message, MsgFault, message_at, IsMessage, Kind, Closed, GatherSetup, Heard, heard, is_close_first, kind_of, Gathered, HasGatheredEpochs, IsAwaited, closed_by, closed_in, plan_in, closed_epochs, all_epochs, known_epochs, SetupValue, text_with, so_far, file, messages_of, heard_in, outcome, outcomes, outcomes_after, capped, capped_tally, tallies_added, sum_of_counts, tally_of, tally_of_one, IsFew, AreFew, AppendsBetween, AppendsPrefixBetween, added, HasFiledEpochs, Settled, HasFiledFrames, EndsFile, Tally, FileWriter}
+use Rattle.rtcm_convert.proofs.Names.{sum_by, common_steps, filter_map-append, sum_by-append, AppendsPrefix, Framed, Message, MsgFault, message_at, IsMessage, Kind, Closed, GatherSetup, Heard, heard, is_close_first, kind_of, Gathered, HasGatheredEpochs, IsAwaited, closed_by, closed_in, plan_in, closed_epochs, all_epochs, known_epochs, SetupValue, text_with, so_far, file, messages_of, heard_in, outcome, outcomes, outcomes_after, capped, capped_tally, tallies_added, sum_of_counts, tally_of, tally_of_one, IsFew, AreFew, AppendsBetween, AppendsPrefixBetween, added, HasFiledEpochs, Settled, HasFiledFrames, EndsFile, Report, FileWriter}
 
 -- the epochs written after these, and their text
 abbrev pub Written : FileWriter → SetupValue → List Heard → Option Heard → Option (List ℕ) → Option (List ℕ) → List Closed → Type 0
@@ -61,7 +61,7 @@ sum_one w os o =
     let one : sum_by w (o ∷ []) ≡ w o = grind (arith, common_steps) in
     cap_more (sum_by w os) (w o) ∙ ap capped (ap (λ k. sum_by w os + k) (sym one) ∙ sym (sum_by-append w os (o ∷ [])))
 
-total_one : (count : Tally → ℕ) (os : List (Option Kind)) (o : Option Kind) → capped (capped (sum_of_counts count os) + count (tally_of_one o)) ≡ capped (sum_of_counts count (os ++ o ∷ []))
+total_one : (count : Report → ℕ) (os : List (Option Kind)) (o : Option Kind) → capped (capped (sum_of_counts count os) + count (tally_of_one o)) ≡ capped (sum_of_counts count (os ++ o ∷ []))
 total_one count os o = sum_one (λ o. count (tally_of_one o)) os o
 
 tally_more : (os : List (Option Kind)) (o : Option Kind) → tallies_added (capped_tally (tally_of os)) (tally_of_one o) ≡ capped_tally (tally_of (os ++ o ∷ []))
@@ -79,7 +79,7 @@ tally_more os o =
     let crowded = total_one (λ t. t.crowded) os o in
     cc
 
-tally_one : (s : SetupValue) (fs : List Framed) (f : Framed) (r r' : Tally) (o : Option Kind) → o ≡ outcome s fs f → r ≡ capped_tally (tally_of (outcomes s fs)) → r' ≡ tallies_added r (tally_of_one o) → r' ≡ capped_tally (tally_of (outcomes s (fs ++ f ∷ [])))
+tally_one : (s : SetupValue) (fs : List Framed) (f : Framed) (r r' : Report) (o : Option Kind) → o ≡ outcome s fs f → r ≡ capped_tally (tally_of (outcomes s fs)) → r' ≡ tallies_added r (tally_of_one o) → r' ≡ capped_tally (tally_of (outcomes s (fs ++ f ∷ [])))
 tally_one s fs f r r' o is old new =
     new ∙ ap (λ x. tallies_added x (tally_of_one o)) old ∙ tally_more (outcomes s fs) o ∙ ap (λ x. capped_tally (tally_of (outcomes s fs ++ x ∷ []))) is ∙ ap (λ l. capped_tally (tally_of l)) (sym (outcomes_after-one s [] fs f))
 

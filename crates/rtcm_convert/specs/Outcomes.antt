@@ -8,7 +8,6 @@ use Rattle.obs_epoch.specs.declared.taken.Kind.TheVariants as kind
 use Rattle.obs_epoch.specs.Kinds.{kind_of}
 use Rattle.rtcm_convert.specs.Converted.{SetupValue, messages_of, heard_in, epochs_in}
 use Rattle.rtcm_convert.specs.declared.report.Report.{Report}
-use Rattle.rtcm_convert.specs.declared.tally.Tally.{Tally}
 
 -- the outcome of a frame after these: `None` if its message is refused, else that of the message
 abbrev pub outcome : SetupValue → List Framed → Framed → Option Kind
@@ -22,9 +21,12 @@ outcomes_after s before (f ∷ fs) = outcome s before f ∷ outcomes_after s (be
 abbrev pub outcomes : SetupValue → List Framed → List (Option Kind)
 outcomes s fs = outcomes_after s [] fs
 
-abbrev pub no_tally : Tally
+-- the counts of no frame
+abbrev pub no_tally : Report
 no_tally =
     record {
+      bytes = 0;
+      skipped_bytes = 0;
       frames = 0;
       faulty = 0;
       station = 0;
@@ -36,13 +38,14 @@ no_tally =
       skipped = 0;
       repeated = 0;
       crowded = 0;
+      epochs = 0;
     }
 
 -- a frame whose message was read
-abbrev one_frame : Tally
+abbrev one_frame : Report
 one_frame = record no_tally { frames = 1 }
 
-abbrev tally_by : Kind → Tally
+abbrev tally_by : Kind → Report
 tally_by kind.Station = record one_frame { station = 1 }
 tally_by kind.OtherStation = record one_frame { other = 1 }
 tally_by kind.Ignored = record one_frame { ignored = 1 }
@@ -53,7 +56,7 @@ tally_by (kind.Kept kept skipped repeated crowded) =
 tally_by kind.CloseFirst = one_frame
 
 -- what one frame adds to each count
-abbrev pub tally_of_one : Option Kind → Tally
+abbrev pub tally_of_one : Option Kind → Report
 tally_of_one None = record one_frame { faulty = 1 }
 tally_of_one (Some k) = tally_by k
 
@@ -62,8 +65,8 @@ abbrev pub capped : ℕ → ℕ
 capped n = min n (2 ^ 64 - 1)
 
 -- both counts together
-abbrev pub tallies_added : Tally → Tally → Tally
-tallies_added a b = record {
+abbrev pub tallies_added : Report → Report → Report
+tallies_added a b = record a {
   frames = capped (a.frames + b.frames);
   faulty = capped (a.faulty + b.faulty);
   station = capped (a.station + b.station);
@@ -78,8 +81,8 @@ tallies_added a b = record {
 }
 
 -- each count up to the greatest number that is counted; no stream that a converter accepts reaches it
-abbrev pub capped_tally : Tally → Tally
-capped_tally t = record {
+abbrev pub capped_tally : Report → Report
+capped_tally t = record t {
   frames = capped t.frames;
   faulty = capped t.faulty;
   station = capped t.station;
@@ -94,7 +97,7 @@ capped_tally t = record {
 }
 
 -- one frame adds at most 128 to each count
-pub record IsFew (t : Tally) : Type 0 where
+pub record IsFew (t : Report) : Type 0 where
   pub frames : t.frames ≤ 128
   pub faulty : t.faulty ≤ 128
   pub station : t.station ≤ 128
@@ -112,12 +115,12 @@ AreFew [] = Unit {0}
 AreFew (o ∷ os) = IsFew (tally_of_one o) × AreFew os
 
 -- the sum over these outcomes of what each adds to a count
-abbrev pub sum_of_counts : (Tally → ℕ) → List (Option Kind) → ℕ
+abbrev pub sum_of_counts : (Report → ℕ) → List (Option Kind) → ℕ
 sum_of_counts count os = sum_by (λ o. count (tally_of_one o)) os
 
 -- the counts of these outcomes
-abbrev pub tally_of : List (Option Kind) → Tally
-tally_of os = record {
+abbrev pub tally_of : List (Option Kind) → Report
+tally_of os = record no_tally {
   frames = sum_of_counts (λ t. t.frames) os;
   faulty = sum_of_counts (λ t. t.faulty) os;
   station = sum_of_counts (λ t. t.station) os;
@@ -132,23 +135,8 @@ tally_of os = record {
 }
 
 -- the report with these counts, and those of all bytes, of the bytes in no frame, and of the epochs
-abbrev pub report_with : ℕ → ℕ → Tally → ℕ → Report
-report_with bytes skipped_bytes t epochs = record {
-  bytes = bytes;
-  skipped_bytes = skipped_bytes;
-  frames = t.frames;
-  faulty = t.faulty;
-  station = t.station;
-  other = t.other;
-  ignored = t.ignored;
-  late = t.late;
-  past = t.past;
-  taken = t.taken;
-  skipped = t.skipped;
-  repeated = t.repeated;
-  crowded = t.crowded;
-  epochs = epochs;
-}
+abbrev pub report_with : ℕ → ℕ → Report → ℕ → Report
+report_with bytes skipped_bytes t epochs = record t { bytes = bytes; skipped_bytes = skipped_bytes; epochs = epochs }
 
 -- the report of a stream
 abbrev pub report_of : SetupValue → List ℕ → Report

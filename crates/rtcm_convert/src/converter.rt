@@ -230,9 +230,12 @@ impl Converter {
         if epochs == 0 {
             return Err(Fault::NoEpoch);
         }
-        let bytes = self.framer.taken();
-        let skipped = self.framer.skipped();
-        Ok(self.file_writer.tally.report(bytes, skipped, epochs))
+        Ok(Report {
+            bytes: self.framer.taken(),
+            skipped_bytes: self.framer.skipped(),
+            epochs,
+            ..self.file_writer.tally
+        })
     }
 
     /// Accepts the pieces of the rest of the stream in order, ends it, and returns the report: a

@@ -12,8 +12,8 @@ ghost use Rattle.rtcm_convert.specs.Steps.{IsKindOf, BreaksInMessage, TakesNext,
 ghost use Rattle.rtcm_convert.specs.Steps.{EndsFile, BreaksInRest};
 
 use crate::fault::Fault;
+use crate::report::Report;
 use crate::setup::Setup;
-use crate::tally::Tally;
 use obs_epoch::{Epoch, Gatherer, Kind, PlanFault, StationValues};
 use rinex_file::{Head, HeadFault, HeaderTexts, write_epoch, write_event, write_header};
 use rtcm_bits::{Counted, Deliver};
@@ -30,7 +30,8 @@ pub(crate) struct FileWriter {
     pub(crate) values: Option<StationValues>,
     /// Number of epochs in the file.
     pub(crate) epochs: u64,
-    pub(crate) tally: Tally,
+    /// The counts of the frames so far. Those of bytes and epochs are 0.
+    pub(crate) tally: Report,
 }
 
 impl FileWriter {
@@ -60,7 +61,7 @@ impl FileWriter {
                 texts,
                 values: None,
                 epochs: 0,
-                tally: Tally::new(),
+                tally: Report::new(),
             }),
             Err(fault) => {
                 drop(texts);

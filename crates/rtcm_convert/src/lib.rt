@@ -10,7 +10,6 @@ pub mod laws;
 mod report;
 mod setup;
 mod stream;
-mod tally;
 mod whole;
 
 pub use converter::Converter;

@@ -1,4 +1,8 @@
 //! The report of a conversion.
+ghost use Rattle.std.specs.Prelude.{◌≡◌};
+ghost use Rattle.rtcm_convert.specs.Outcomes.{no_tally, tally_of_one, tallies_added};
+
+use obs_epoch::Kind;
 
 /// The counts of a whole stream. Each frame is counted once among `faulty`, `station`, `other`,
 /// `ignored`, `late`, `past` and `taken`.
@@ -32,4 +36,81 @@ pub struct Report {
     pub crowded: u64,
     /// Number of epochs in the file.
     pub epochs: u64,
+}
+
+impl Report {
+    /// Returns the counts of no frame.
+    pub(crate) fn new() -> Report
+        ensures { result ≡ no_tally }
+    {
+        Report {
+            bytes: 0,
+            skipped_bytes: 0,
+            frames: 0,
+            faulty: 0,
+            station: 0,
+            other: 0,
+            ignored: 0,
+            late: 0,
+            past: 0,
+            taken: 0,
+            skipped: 0,
+            repeated: 0,
+            crowded: 0,
+            epochs: 0,
+        }
+    }
+
+    /// Returns the counts of one frame: `None` if its message was refused, else the outcome of the
+    /// message.
+    fn of(outcome: Option<Kind>) -> Report
+        ensures { result ≡ tally_of_one outcome }
+    {
+        let mut one = Report::new();
+        one.frames = 1;
+        match outcome {
+            None => one.faulty = 1,
+            Some(Kind::Station) => one.station = 1,
+            Some(Kind::OtherStation) => one.other = 1,
+            Some(Kind::Ignored) => one.ignored = 1,
+            Some(Kind::Late) => one.late = 1,
+            Some(Kind::PastWeeks) => one.past = 1,
+            Some(
+                Kind::Kept {
+                    skipped,
+                    repeated,
+                    crowded,
+                    ..
+                },
+            ) => {
+                one.taken = 1;
+                one.skipped = skipped as u64;
+                one.repeated = repeated as u64;
+                one.crowded = crowded as u64;
+            }
+            Some(Kind::CloseFirst) => {}
+        }
+        one
+    }
+
+    /// Counts a frame: `None` if its message was refused, else the message's outcome.
+    pub(crate) fn count(&mut self, outcome: Option<Kind>)
+        ensures { self.new ≡ tallies_added self.old (tally_of_one outcome) }
+    {
+        let one = Report::of(outcome);
+        *self = Report {
+            frames: self.frames.saturating_add(one.frames),
+            faulty: self.faulty.saturating_add(one.faulty),
+            station: self.station.saturating_add(one.station),
+            other: self.other.saturating_add(one.other),
+            ignored: self.ignored.saturating_add(one.ignored),
+            late: self.late.saturating_add(one.late),
+            past: self.past.saturating_add(one.past),
+            taken: self.taken.saturating_add(one.taken),
+            skipped: self.skipped.saturating_add(one.skipped),
+            repeated: self.repeated.saturating_add(one.repeated),
+            crowded: self.crowded.saturating_add(one.crowded),
+            ..*self
+        };
+    }
 }
