@@ -41,30 +41,9 @@ apart test f g holds fails e = false≢true (sym fails ∙ ap test (sym e) ∙ h
 apart_err : {A : Type 0} (test : Fault → Bool) (f g : Fault) → test f ≡ true → test g ≡ false → IsErrOf {T = A} (Err f) g → ⊥
 apart_err test f g holds fails h = let e : f ≡ g = cc in apart test f g holds fails e
 
-abbrev pub is_too_long : Fault → Bool
-is_too_long TooLong = true
-is_too_long _ = false
-
-abbrev pub is_write : Fault → Bool
-is_write Write = true
-is_write _ = false
-
 abbrev pub is_no_epoch : Fault → Bool
 is_no_epoch NoEpoch = true
 is_no_epoch _ = false
-
-abbrev pub is_read : Fault → Bool
-is_read Read = true
-is_read _ = false
-
-pub only_read : {A : Type 0} (g : Fault) → is_read g ≡ false → IsErrOf {T = A} (Err Read) g → ⊥
-only_read g fails e = apart_err is_read Read g refl fails e
-
-pub only_too_long : {A : Type 0} (g : Fault) → is_too_long g ≡ false → IsErrOf {T = A} (Err TooLong) g → ⊥
-only_too_long g fails e = apart_err is_too_long TooLong g refl fails e
-
-pub only_write : {A : Type 0} (g : Fault) → is_write g ≡ false → IsErrOf {T = A} (Err Write) g → ⊥
-only_write g fails e = apart_err is_write Write g refl fails e
 
 -- a call whose faults are of one kind returns no other
 module _ (K L : Fault → Type 0) (test : Fault → Bool) (known : (f : Fault) → K f → test f ≡ true) where

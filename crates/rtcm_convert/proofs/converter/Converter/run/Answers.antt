@@ -1,5 +1,5 @@
 use Rattle.std.proofs.Common.{◌≡◌, ◌∙◌, None, sym, subst, refl, inl, inr}
-use Rattle.rtcm_convert.proofs.FaultLemmas.{never, of_finish, finish_known, sent_finished, finish_reader, finish_left, writer_after, only_read, only_too_long, only_write}
+use Rattle.rtcm_convert.proofs.FaultLemmas.{never, of_finish, finish_known, sent_finished, finish_reader, finish_left, writer_after}
 use Rattle.rtcm_convert.proofs.FeedLemmas.{with_flags, read_of, long_of, sink_of, fed_fit, failed_fit}
 use Rattle.rtcm_convert.proofs.RefusalLemmas.{refused_going, refused_is, refused_only, refused_sent, refused_writer, refused_reader, not_refused}
 use Rattle.rtcm_convert.proofs.RunLemmas.{going_on, ran_whole, ran_empty, run_finishing, rest_taken, rest_faulty, rest_long, rest_part, rest_device}
@@ -71,10 +71,10 @@ returns-in-Err-Read g c =
     record {
       refused = not_refused c.args.self.now _ c.in_default.ensures;
       whole = tt;
-      no_epoch = λ h. absurd (only_read NoEpoch refl h);
-      long = λ h. absurd (only_read TooLong refl h);
+      no_epoch = λ h. cc;
+      long = λ h. cc;
       read = λ _. rw (← c.self.view_is) (rest_faulty g.W.Write.contents f.failed f.finished f.framer c.read_pieces.new.self f.file_writer c.read_pieces.new.sink c.args.writer.now c.read_pieces.new.out _ _ listening (c.read_pieces.ensures.same.ended ∙ listening) k);
-      write = λ h. absurd (only_read Write refl h);
+      write = λ h. cc;
       sent = read_of c.in-Err-Read.field-0 _ _ _ c.in-Err-Read.field-0-is c.in-Err-Read.ensures.sent;
       reader = (read_of c.in-Err-Read.field-0 _ _ _ c.in-Err-Read.field-0-is c.in-Err-Read.ensures.reader.0, tt, c.in-Err-Read.ensures.reader.2);
       writer = (d.1, tt, d.2);
@@ -94,10 +94,10 @@ returns-in-Err-TooLong g c =
     record {
       refused = not_refused c.args.self.now _ c.in_default.ensures;
       whole = tt;
-      no_epoch = λ h. absurd (only_too_long NoEpoch refl h);
+      no_epoch = λ h. cc;
       long = λ _. rw (← c.self.view_is) (rest_long g.W.Write.contents f.failed f.finished f.framer c.read_pieces.new.self f.file_writer c.read_pieces.new.sink c.args.writer.now c.read_pieces.new.out _ _ listening (c.read_pieces.ensures.same.ended ∙ listening) k);
-      read = λ h. absurd (only_too_long Read refl h);
-      write = λ h. absurd (only_too_long Write refl h);
+      read = λ h. cc;
+      write = λ h. cc;
       sent = long_of c.in-Err-TooLong.field-0 _ _ _ c.in-Err-TooLong.field-0-is c.in-Err-TooLong.ensures.sent;
       reader = (long_of c.in-Err-TooLong.field-0 _ _ _ c.in-Err-TooLong.field-0-is c.in-Err-TooLong.ensures.reader.0, tt, c.in-Err-TooLong.ensures.reader.2);
       writer = (d.1, tt, d.2);
@@ -116,9 +116,9 @@ returns-in-Err-Sink g c =
     record {
       refused = not_refused c.args.self.now _ c.in_default.ensures;
       whole = tt;
-      no_epoch = λ h. absurd (only_write NoEpoch refl h);
-      long = λ h. absurd (only_write TooLong refl h);
-      read = λ h. absurd (only_write Read refl h);
+      no_epoch = λ h. cc;
+      long = λ h. cc;
+      read = λ h. cc;
       write = λ _. rw (← c.self.view_is) (inl (rest_part g.W.Write.contents f.failed f.finished f.framer c.read_pieces.new.self f.file_writer c.read_pieces.new.sink c.args.writer.now c.read_pieces.new.out _ _ c.filed.ensures.grows c.prefix.ensures.decided (c.self.invariant.listening go) k));
       sent = tt;
       reader = (sink_of c.in-Err-Sink.field-0 _ _ _ _ c.in-Err-Sink.field-0-is c.in-Err-Sink.ensures.reader.0, tt, c.in-Err-Sink.ensures.reader.2);
