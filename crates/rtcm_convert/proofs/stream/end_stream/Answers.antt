@@ -4,12 +4,6 @@ use Rattle.rtcm_convert.proofs.StreamLemmas.{passed_here}
 use Rattle.rtcm_convert.proofs.Names.{on_ok_weaker, on_err_weaker, HasFailed}
 use Rattle.rtcm_convert.proofs.stream.end_stream.Goals as goal
 
-pub finish-requires : goal.finish-requires
-finish-requires g c = c.requires.going
-
-pub end-requires : goal.end-requires
-end-requires g c = c.finish.ensures.goes
-
 pub returns-in-Ok : goal.returns-in-Ok
 returns-in-Ok g c =
     let e = c.end.ensures in

@@ -19,12 +19,6 @@ returns-in-Ok-clause-long g c = λ e. pieces_cut c.in-Ok.converter c.take_pieces
 pub returns-in-Ok-clause-write : goal.returns-in-Ok-clause-write
 returns-in-Ok-clause-write g c = λ e. pieces_failed c.in-Ok.converter (setup_value c.args.setup) _ _ c.args.pieces.now c.prefix.ensures.nothing c.in-Ok.ensures.history (c.take_pieces-answer.ensures.write e)
 
-pub returns-in-Ok-clause-sent : goal.returns-in-Ok-clause-sent
-returns-in-Ok-clause-sent g c = c.take_pieces-answer.ensures.sent
-
-pub returns-in-Ok-clause-writer : goal.returns-in-Ok-clause-writer
-returns-in-Ok-clause-writer g c = c.take_pieces-answer.ensures.device
-
 pub returns-in-Ok-clause-bad_setup : goal.returns-in-Ok-clause-bad_setup
 returns-in-Ok-clause-bad_setup g c = (
   λ e. absurd (never IsPiecesFault (λ f. LeftBy f c.take_pieces-answer.new.self) of_pieces pieces_known c.take_pieces-answer.result (c.take_pieces-answer.ensures.left.0.1 c.in-Ok.ensures.history.going) BadSetup refl e),

@@ -20,12 +20,6 @@ returns-in-Ok-clause-long g c = λ e. run_long c.in-Ok.converter c.run-answer.ne
 pub returns-in-Ok-clause-write : goal.returns-in-Ok-clause-write
 returns-in-Ok-clause-write g c = λ e. run_write c.in-Ok.converter c.run-answer.new.self (start_value (start_at c.args.setup c.args.initial)) _ _ _ _ c.prefix.ensures.nothing c.in-Ok.ensures.history (c.run-answer.ensures.write e)
 
-pub returns-in-Ok-clause-sent : goal.returns-in-Ok-clause-sent
-returns-in-Ok-clause-sent g c = c.run-answer.ensures.sent
-
-pub returns-in-Ok-clause-devices : goal.returns-in-Ok-clause-devices
-returns-in-Ok-clause-devices g c = (c.run-answer.ensures.reader, c.run-answer.ensures.writer)
-
 pub returns-in-Ok-clause-bad_setup : goal.returns-in-Ok-clause-bad_setup
 returns-in-Ok-clause-bad_setup g c = (
   λ e. absurd (never IsRunFault (λ f. LeftBy f c.run-answer.new.self) of_run run_known c.run-answer.result (c.run-answer.ensures.left.0.1 c.in-Ok.ensures.history.going) BadSetup refl e),

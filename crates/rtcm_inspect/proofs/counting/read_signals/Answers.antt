@@ -1,4 +1,4 @@
-use Rattle.std.proofs.Common.{ap, sym, subst, refl}
+use Rattle.std.proofs.Common.{ap, sym, subst}
 use Rattle.rtcm_inspect.proofs.StreamLemmas.{started}
 use Rattle.rtcm_inspect.proofs.CountingLemmas.{counted_all, counted_reads, counting_stopped, new_counts, none_counted}
 use Rattle.rtcm_inspect.proofs.Names.{FramerValue, Counts, StopsCounting, ReadFailures, StreamSignals, InspectFault}
@@ -26,9 +26,3 @@ pub returns-in-Err-clause-reader : goal.returns-in-Err-clause-reader
 returns-in-Err-clause-reader g c =
     subst (λ (f : InspectFault). ReadFailures f c.args.reader.now.failures c.read_frames-read.new.reader.failures) (sym c.from.ensures)
     (counted_reads c.in-Err.fault _ _ c.in-Err.ensures.reader.0)
-
-pub returns-in-Ok-read-clause-reader : goal.returns-in-Ok-read-clause-reader
-returns-in-Ok-read-clause-reader g c = c.in-Ok-read.ensures.reader.1
-
-pub returns-in_default-clause-reader : goal.returns-in_default-clause-reader
-returns-in_default-clause-reader g c = refl

@@ -33,9 +33,6 @@ line_made week own p point none start numbers name gps next galileo station all 
     end_line (number_start (codes "--week") week ++ number_start (codes "--station") own) (codes "--gps") rest all (station ∙ ap (λ (t : List ℕ). with_words t words) third)
     ∙ two_options (codes "--week") (codes "--station") week own (codes "--gps") rest
 
-pub add_station-requires-clause-in_range : goal.add_station-requires-clause-in_range
-add_station-requires-clause-in_range c = c.requires
-
 pub returns : goal.returns
 returns c = λ fs h.
     let s = c.args.signals.now in

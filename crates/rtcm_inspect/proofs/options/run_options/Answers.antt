@@ -12,6 +12,3 @@ returns g c =
     options_printed g.R.Read.remaining g.W.Write.contents g.W.Deliver.waiting c.args.near c.args.station c.args.reader.now c.read_signals.new.reader c.args.writer.now c.print_text.new.writer c.print_text.result c.in_ok-line.line
     c.in_ok-signals.signals s are c.in_ok-signals.ensures.reader (printed_later c.print_text.result g.W.Write.contents g.W.Deliver.waiting c.args.writer.now c.deliver_waiting.new.writer c.print_text.new.writer _ c.in_ok-deliver_waiting.ensures.0 c.in_ok-deliver_waiting.ensures.1.0
     (same_text c.print_text.result g.W.Write.contents g.W.Deliver.waiting c.deliver_waiting.new.writer c.print_text.new.writer _ _ c.as_bytes.ensures.text c.print_text.ensures))
-
-pub options_of-requires : goal.options_of-requires
-options_of-requires g c = c.in_ok-signals.ensures.whole.4.first.in_range

@@ -18,18 +18,3 @@ returns-clause-whole g c = λ s fs x.
     let p = file_whole c.args.self.now c.write_closed.new.self c.end.new.self _ _ (record { gatherer = e.same.0; texts = e.same.1; epochs = e.now.0; values = e.now.1; out = e.whole })
     c.end.ensures.ended (λ s ms es x. (c.end.ensures.closes s ms es x c.requires).1) s fs x in
     (goes_on-kept _ _ _ _ _ p.0 c.flush_whole.ensures.kept, p.1, p.2)
-
-pub returns-in-Err-clause-whole : goal.returns-in-Err-clause-whole
-returns-in-Err-clause-whole g c = tt
-
-pub returns-in-Err-clause-sent : goal.returns-in-Err-clause-sent
-returns-in-Err-clause-sent g c = tt
-
-pub returns-in-Err-flush_whole-clause-whole : goal.returns-in-Err-flush_whole-clause-whole
-returns-in-Err-flush_whole-clause-whole g c = tt
-
-pub returns-in-Err-flush_whole-clause-sent : goal.returns-in-Err-flush_whole-clause-sent
-returns-in-Err-flush_whole-clause-sent g c = tt
-
-pub returns-clause-part : goal.returns-clause-part
-returns-clause-part g c = tt

@@ -21,23 +21,5 @@ returns-in-Ok-clause-taken g c = λ kept s ms es again f x.
     wrote_all c.args.self.now c.write_closed.new.self c.take_view-taken.new.self _ _ s ms _ es again _
     (record { gatherer = e.same.0; texts = e.same.1; epochs = e.now.0; values = e.now.1; out = e.whole }) x (c.take_view-taken.ensures.taken s.gather ms es again x.gatherer f kept)
 
-pub returns-in-Ok-clause-again : goal.returns-in-Ok-clause-again
-returns-in-Ok-clause-again g c = λ s ms es x. c.take_view-taken.ensures.again s.gather ms es x.gatherer
-
 pub returns-in-Ok-clause-kind : goal.returns-in-Ok-clause-kind
 returns-in-Ok-clause-kind g c = λ kept s ms es again f x. c.take_view-taken.ensures.kind s.gather ms es again x.gatherer f kept
-
-pub returns-in-Err-clause-first : goal.returns-in-Err-clause-first
-returns-in-Err-clause-first g c = tt
-
-pub returns-in-Err-clause-taken : goal.returns-in-Err-clause-taken
-returns-in-Err-clause-taken g c = tt
-
-pub returns-in-Err-clause-again : goal.returns-in-Err-clause-again
-returns-in-Err-clause-again g c = tt
-
-pub returns-in-Err-clause-kind : goal.returns-in-Err-clause-kind
-returns-in-Err-clause-kind g c = tt
-
-pub returns-in-Ok-clause-part : goal.returns-in-Ok-clause-part
-returns-in-Ok-clause-part g c = tt

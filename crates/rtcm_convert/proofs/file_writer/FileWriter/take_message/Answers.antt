@@ -29,12 +29,3 @@ pub returns-clause-kind : goal.returns-clause-kind
 returns-clause-kind g c =
     kind_again c.args.self.now c.step.new.self (heard (viewed_message c.args.message.now)) _ _ c.step-2.result
     (c.in-Ok.ensures.first (sym c.if-not-is_close_first.ensures)) c.step-2.ensures.kind c.step-2.ensures.again
-
-pub returns-in-Err-clause-whole : goal.returns-in-Err-clause-whole
-returns-in-Err-clause-whole g c = tt
-
-pub returns-in-Err-clause-kind : goal.returns-in-Err-clause-kind
-returns-in-Err-clause-kind g c = tt
-
-pub returns-then-not-is_close_first-clause-part : goal.returns-then-not-is_close_first-clause-part
-returns-then-not-is_close_first-clause-part g c = tt

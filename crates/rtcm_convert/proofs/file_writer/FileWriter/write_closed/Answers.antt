@@ -27,6 +27,3 @@ returns-in-Err-write_epoch g c =
       now = tt;
       same = (refl, refl, refl);
     }
-
-pub returns-clause-part : goal.returns-clause-part
-returns-clause-part g c = tt

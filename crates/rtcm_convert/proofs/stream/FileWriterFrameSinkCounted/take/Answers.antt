@@ -24,12 +24,3 @@ returns-in-Err-take_message-clause-part g c =
     sink.files_part g.W.Write.contents c.args.self.now c.take_message.new.self c.args.out.now c.take_message.new.writer (framed c.args.frame.now)
     (writer.files_part c.args.self.now (framed c.args.frame.now) (viewed_message c.in-Ok.message) _ _ (ap message_at (sym c.deref.ensures.0) ∙ c.in-Ok.ensures.exact) e.part)
     e.device.1.0 e.device.1.2
-
-pub returns-in-Err-clause-part : goal.returns-in-Err-clause-part
-returns-in-Err-clause-part g c = tt
-
-pub returns-in-Ok-take_message-clause-part : goal.returns-in-Ok-take_message-clause-part
-returns-in-Ok-take_message-clause-part g c = tt
-
-pub returns-in-Err-take_message-clause-whole : goal.returns-in-Err-take_message-clause-whole
-returns-in-Err-take_message-clause-whole g c = tt
