@@ -44,16 +44,12 @@ sum count os = sum_by (λ o. count (tally_of_one o)) os
 sum-cons : (count : Report → ℕ) (o : Option Kind) (os : List (Option Kind)) → sum count (o ∷ os) ≡ count (tally_of_one o) + sum count os
 sum-cons count o os = sum_by-cons (λ o. count (tally_of_one o)) o os
 
-add : (n a b c d e f g a' b' c' d' e' f' g' A B C D E F G : ℕ) → A ≡ a + a' → B ≡ b + b' → C ≡ c + c' → D ≡ d + d' → E ≡ e + e' → F ≡ f + f' → G ≡ g + g'
-    → a + (b + (c + (d + (e + (f + g))))) ≡ 1 → a' + (b' + (c' + (d' + (e' + (f' + g'))))) ≡ n → A + (B + (C + (D + (E + (F + G))))) ≡ suc n
-add n a b c d e f g a' b' c' d' e' f' g' A B C D E F G p q r s t u v one rest = omega arith
-
 all_once : (os : List (Option Kind)) → AreDone os
     → sum (λ t. t.faulty) os + (sum (λ t. t.station) os + (sum (λ t. t.other) os + (sum (λ t. t.ignored) os + (sum (λ t. t.late) os + (sum (λ t. t.past) os + sum (λ t. t.taken) os))))) ≡ length os
 all_once [] d = refl
 all_once (o ∷ os) d =
-    add (length os) _ _ _ _ _ _ _ _ _ _ _ _ _ _ _ _ _ _ _ _ _ (sum-cons (λ t. t.faulty) o os) (sum-cons (λ t. t.station) o os) (sum-cons (λ t. t.other) o os) (sum-cons (λ t. t.ignored) o os)
-    (sum-cons (λ t. t.late) o os) (sum-cons (λ t. t.past) o os) (sum-cons (λ t. t.taken) o os) (one_each o d.0) (all_once os d.1)
+    omega (arith, sum-cons (λ t. t.faulty) o os, sum-cons (λ t. t.station) o os, sum-cons (λ t. t.other) o os, sum-cons (λ t. t.ignored) o os,
+    sum-cons (λ t. t.late) o os, sum-cons (λ t. t.past) o os, sum-cons (λ t. t.taken) o os, one_each o d.0, all_once os d.1)
 
 one_frame : (o : Option Kind) → (tally_of_one o).frames ≡ 1
 one_frame None = refl
@@ -65,12 +61,9 @@ one_frame (Some kind.PastWeeks) = refl
 one_frame (Some (kind.Kept kept skipped repeated crowded)) = refl
 one_frame (Some kind.CloseFirst) = refl
 
-one_more : (a b c n : ℕ) → c ≡ a + b → a ≡ 1 → b ≡ n → c ≡ suc n
-one_more a b c n e one rest = omega arith
-
 sum_frames : (os : List (Option Kind)) → sum (λ t. t.frames) os ≡ length os
 sum_frames [] = refl
-sum_frames (o ∷ os) = one_more _ _ _ (length os) (sum-cons (λ t. t.frames) o os) (one_frame o) (sum_frames os)
+sum_frames (o ∷ os) = omega (arith, sum-cons (λ t. t.frames) o os, one_frame o, sum_frames os)
 
 pub counted_once : Kinds → (s : SetupValue) (b : List ℕ) → IsCountedOnce (report_of s b) (length (frames_of b))
 counted_once kinds s b =

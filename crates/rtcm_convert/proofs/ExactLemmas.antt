@@ -30,10 +30,7 @@ cell_pairs_few s ys h =
     let a = zip_few (cell_pairs s) ys in
     let b : length (cell_pairs s) ≤ length (uint (pair_count s.satellites s.signals) s.cells) = chosen_few (uint (pair_count s.satellites s.signals) s.cells) (all_pairs s) in
     let c : length (uint (pair_count s.satellites s.signals) s.cells) ≡ pair_count s.satellites s.signals = length-uint (pair_count s.satellites s.signals) s.cells in
-    chain _ _ _ _ a b c h.few
-  where
-    chain : (x y z p : ℕ) → x ≤ y → y ≤ z → z ≡ p → p ≤ 64 → x ≤ 64
-    chain x y z p a b c d = omega arith
+    omega (arith, a, b, c, h.few)
 
 entries_few : (m : Message) → IsMessage m → length (entries m) ≤ 64
 entries_few (message.Station s) h = omega arith
@@ -62,13 +59,10 @@ record HasFew (m : Heard) : Type 0 where
   cells : length m.cells ≤ 64
   unlisted : m.unlisted ≤ 64
 
-short_of : (n k : ℕ) → n ≤ k → k ≤ 64 → n ≤ 64
-short_of n k a b = omega arith
-
 heard_msm_few : (field : LockField) (v : MsmValue) (es : List Entry) → length es ≤ 64 → HasFew (heard_msm field v es)
 heard_msm_few field v es le = record {
-  cells = short_of _ _ (filter_map_few (seen_in field (system_of v.is_galileo)) es) le;
-  unlisted = short_of _ _ (unlisted_few field (system_of v.is_galileo) es) le;
+  cells = omega (arith, filter_map_few (seen_in field (system_of v.is_galileo)) es, le);
+  unlisted = omega (arith, unlisted_few field (system_of v.is_galileo) es, le);
 }
 
 heard_few : (m : Message) → IsMessage m → HasFew (heard m)
@@ -87,23 +81,14 @@ record CountsFew (n : CellCounts) : Type 0 where
 planned_few : (s : GatherSetup) (xs : List HeardCell) → length (filter (is_planned s) xs) ≤ length xs
 planned_few s xs = subst (λ (n : ℕ). n ≤ length xs) (sym (length-filter (is_planned s) xs)) (count_by-le-length (is_planned s) xs)
 
-less : (a b c n : ℕ) → a ≤ b → b ≤ c → c ≤ 64 → a - n ≤ 128
-less a b c n p q r = omega arith
-
-at_most : (a b c : ℕ) → a ≤ b → b ≤ c → c ≤ 64 → a ≤ 128
-at_most a b c p q r = omega arith
-
-sum_few : (a b c : ℕ) → a ≤ b → b ≤ 64 → c ≤ 64 → a + c ≤ 128
-sum_few a b c p q r = omega arith
-
 counts_few : (s : GatherSetup) (before : List HeardCell) (m : Heard) → HasFew m → CountsFew (with_skipped m.unlisted (counts_of s before m.cells))
 counts_few s before m h =
     let planned = filter (is_planned s) m.cells in
     let all = kept_both (before ++ planned) in
     record {
-      skipped = sum_few _ _ _ (count_by-le-length (λ x. not (is_planned s x)) m.cells) h.cells h.unlisted;
-      repeated = less _ _ _ _ (count_by-le-length (is_among all) planned) (planned_few s m.cells) h.cells;
-      crowded = at_most _ _ _ (count_by-le-length (λ x. not (is_among all x)) planned) (planned_few s m.cells) h.cells;
+      skipped = omega (arith, count_by-le-length (λ x. not (is_planned s x)) m.cells, h.cells, h.unlisted);
+      repeated = omega (arith, count_by-le-length (is_among all) planned, planned_few s m.cells, h.cells);
+      crowded = omega (arith, count_by-le-length (λ x. not (is_among all x)) planned, planned_few s m.cells, h.cells);
     }
 
 counts_few_at : (s : GatherSetup) (xs : List Timed) (m : Heard) (o : Option ℕ) → HasFew m
@@ -144,13 +129,10 @@ few_more (p ∷ os) o h k = (h.0, few_more os o h.1 k)
 
 -- ---- so that no count is capped
 
-add_few : (a b c n : ℕ) → c ≡ a + b → a ≤ 128 → b ≤ 128 * n → c ≤ 128 * suc n
-add_few a b c n e p q = omega arith
-
 total_few : (count : Report → ℕ) → ((t : Report) → IsFew t → count t ≤ 128) → (os : List (Option Kind)) → AreFew os → sum_of_counts count os ≤ 128 * length os
 total_few count below [] h = omega arith
 total_few count below (o ∷ os) h =
-    add_few (count (tally_of_one o)) (sum_of_counts count os) (sum_of_counts count (o ∷ os)) (length os) (sum_by-cons (λ o. count (tally_of_one o)) o os) (below (tally_of_one o) h.0) (total_few count below os h.1)
+    omega (arith, sum_by-cons (λ o. count (tally_of_one o)) o os, below (tally_of_one o) h.0, total_few count below os h.1)
 
 whole_count : (n k most : ℕ) → n ≤ 128 * k → 6 * k ≤ most → most ≤ 2 ^ 48 → capped n ≡ n
 whole_count n k most a b c = omega arith
@@ -190,21 +172,15 @@ timed_length s earlier (m ∷ ms) =
     let x : Timed = record { message = m; time = taken_at s earlier m } in
     let a = timed_length s (earlier ++ x ∷ []) ms in
     let b : length (earlier ++ x ∷ []) ≡ length earlier + 1 = length-append earlier (x ∷ []) in
-    a ∙ ap (λ n. n + length ms) b ∙ one_of (length earlier) (length ms)
-  where
-    one_of : (n k : ℕ) → (n + 1) + k ≡ n + suc k
-    one_of n k = omega arith
-
-chain_few : (a b c d e f : ℕ) → a ≤ b → b ≡ c → c ≤ d → d ≡ 0 + e → e ≤ f → a ≤ f
-chain_few a b c d e f p q r s t = omega arith
+    omega (arith, a, b)
 
 pub epochs_few : (s : SetupValue) (fs : List Framed) → epochs_in s fs ≤ length fs
 epochs_few s fs =
     let ms = messages_of fs in
     let g = s.gather in
-    chain_few _ _ _ _ _ _
-    (subst (λ (n : ℕ). n ≤ length (all_epochs g ms)) (sym (length-filter (λ e. nat_lt 0 (satellites_written e.epoch)) (all_epochs g ms))) (count_by-le-length (λ e. nat_lt 0 (satellites_written e.epoch)) (all_epochs g ms)))
-    (length-map (times (timed g ms)) (closed_at g ms)) (times_few (timed g ms)) (timed_length g [] ms) (filter_map_few heard_in fs)
+    let all = all_epochs g ms in
+    let written = length-filter (λ e. nat_lt 0 (satellites_written e.epoch)) all in
+    omega (arith, written, count_by-le-length (λ e. nat_lt 0 (satellites_written e.epoch)) all, length-map (times (timed g ms)) (closed_at g ms), times_few (timed g ms), timed_length g [] ms, filter_map_few heard_in fs)
 
 pub whole_epochs : (n k most : ℕ) → n ≤ k → 6 * k ≤ most → most ≤ 2 ^ 48 → capped n ≡ n
 whole_epochs n k most a b c = omega arith

@@ -7,13 +7,6 @@ valued_more : (wanted : Option ℕ) (fs : List Framed) (f : Framed) (cells : Lis
 valued_more wanted fs f cells is =
     flat_map-append (valued_of wanted) fs (f ∷ []) ∙ ap (λ (l : List HeardCell). valued_in wanted fs ++ l) (append-nil (valued_of wanted f) ∙ is)
 
--- at most 64 cells more in one frame more
-still_few : (cells more fs fs2 all : ℕ) → cells ≤ 64 * fs → more ≤ 64 → fs2 ≡ fs + 1 → all ≡ cells + more → all ≤ 64 * fs2
-still_few cells more fs fs2 all few small e sum = omega (arith, few, small, e, sum)
-
-fewer_cells : (cells fs : ℕ) → cells ≤ 64 * fs → fs < 2 ^ 56 → cells < 2 ^ 62
-fewer_cells cells fs few small = omega (arith, few, small)
-
 -- the cells of one more message that was read
 pub read_counted : (c c2 : SignalCountsValue) (wanted : Option ℕ) (fs : List Framed) (f : Framed) (m : Message) → message_at f.message ≡ Ok m → CountsMessage c c2 wanted (heard m)
     → length fs < 2 ^ 56 → IsCounted c wanted fs → IsCounted c2 wanted (fs ++ f ∷ [])
@@ -23,9 +16,8 @@ read_counted c c2 wanted fs f m is step small h =
     let own : valued_of wanted f ≡ more = ap (λ (r : Result Message MsgFault). option_map_or (valued wanted) (heard_of r) []) is in
     let all = valued_more wanted fs f more own in
     record {
-      signal_counts = subst (AreSignalCounts c2) (sym all) (step.counts cells (fewer_cells (length cells) (length fs) h.few small) h.signal_counts);
-      few = still_few (length cells) (length more) (length fs) (length (fs ++ f ∷ [])) (length (valued_in wanted (fs ++ f ∷ []))) h.few step.few (length-append fs (f ∷ []))
-          (ap length all ∙ length-append cells more);
+      signal_counts = subst (AreSignalCounts c2) (sym all) (step.counts cells (omega (arith, h.few, small)) h.signal_counts);
+      few = omega (arith, h.few, step.few, length-append fs (f ∷ []), ap length all, length-append cells more);
     }
 
 -- a message that was refused has no cells
@@ -36,11 +28,8 @@ refused_counted c wanted fs f e is h =
     let all = valued_more wanted fs f [] own ∙ append-nil cells in
     record {
       signal_counts = subst (AreSignalCounts c) (sym all) h.signal_counts;
-      few = longer (length cells) (length fs) (length (fs ++ f ∷ [])) (length (valued_in wanted (fs ++ f ∷ []))) h.few (length-append fs (f ∷ [])) (ap length all);
+      few = omega (arith, h.few, length-append fs (f ∷ []), ap length all);
     }
-  where
-    longer : (cells fs fs2 all : ℕ) → cells ≤ 64 * fs → fs2 ≡ fs + 1 → all ≡ cells → all ≤ 64 * fs2
-    longer cells fs fs2 all few e same = omega (arith, few, e, same)
 
 -- no frame was counted
 pub none_counted : (c : StreamSignals) (wanted : Option ℕ) → AreSignalCounts c.signal_counts [] → AreFirst c.first wanted [] → AreSignals c wanted []
@@ -57,13 +46,10 @@ pub one_more_counted : (c0 c c2 : StreamSignals) (ps fs : List Framed) (f : Fram
 one_more_counted c0 c c2 ps fs f kept step first s = record {
   same = kept ∙ s.same;
   counts = λ few begun.
-      let fewer : length fs < 2 ^ 56 = join (length fs) (length (fs ++ f ∷ [])) (length-append fs (f ∷ [])) few in
+      let fewer : length fs < 2 ^ 56 = omega (arith, length-append fs (f ∷ []), few) in
       let before : AreSignals c c.station fs = subst (λ (wanted : Option ℕ). AreSignals c wanted fs) (sym s.same) (s.counts fewer begun) in
       subst (λ (wanted : Option ℕ). AreSignals c2 wanted (fs ++ f ∷ [])) s.same (record { counted = step fs fewer before.counted; first = first fs before.first });
 }
-  where
-    join : (n m : ℕ) → m ≡ n + 1 → m < 2 ^ 56 → n < 2 ^ 56
-    join n m e h = omega (arith, e, h)
 
 -- ---- a stream that is counted from its start
 
@@ -75,11 +61,8 @@ module _ (v v2 : FramerValue) (c c2 : StreamSignals) (r r2 : Option (List ℕ)) 
       let b : List ℕ = p.0.0 in
       let all = p.0.2 c tt [] [] new in
       let counts = subst (λ (e : Bool). length (known_frames e b) < 2 ^ 56 → AreSignals c c.station [] → AreSignals c2 c.station (known_frames e b)) ended all.passed.taken.counts in
-      let few = join (length (frames_of b)) (length b) v2.taken v2.limit (law b) all.passed.framer.history.taken all.passed.framer.within all.passed.framer.limit in
+      let few : length (frames_of b) < 2 ^ 56 = omega (arith, law b, all.passed.framer.history.taken, all.passed.framer.within, all.passed.framer.limit) in
       (b, p.0.1, p.1, all.passed.taken.same, counts few begun)
-    where
-      join : (n m t l : ℕ) → 6 * n ≤ m → t ≡ m → t ≤ l → l ≤ 2 ^ 48 → n < 2 ^ 56
-      join n m t l a e w x = omega (arith, a, e, w, x)
 
   -- over the limit
   pub counted_too_much : v.limit ≡ 2 ^ 48 → v.taken ≡ 0 → Reads r r2 (PassesToLimit Counts v c tt v2 c2 tt) → ReadsTooMuch (2 ^ 48) r r2

@@ -1,5 +1,6 @@
 -- The cells that a conversion skips with the plan of a stream's signals.
 use Rattle.std.proofs.Common.{◌≡◌, ◌+◌, ◌≤◌, ◌==◌, Bool, true, false, not, ℕ, List, [], ◌∷◌, ◌++◌, filter, Option, Some, None, All, refl, subst, arith}
+use Rattle.rtcm_inspect.proofs.WeekLemmas.{own_counts}
 use Rattle.rtcm_inspect.proofs.Names.{cond, count_by, option_map_or, All-nil, All-cons, All-head, All-tail, sum_by-cons, Framed, counts_of, counts_of_message, is_planned, no_counts, offered, with_skipped, brings_value, is_of_station, valued, GatherSetup, Heard, is_own, HeardCell, Timed, SkipsOnly, valued_in, valued_of}
 
 abbrev ArePlanned : GatherSetup → List HeardCell → Type 0
@@ -38,15 +39,9 @@ few_skipped s (x ∷ xs) h = rw (counted (is_planned s) x xs, counted brings_val
       planned_kept (is_planned s x) _ _ (All-head (λ x. is_planned s x ≡ true) x (filter brings_value xs) h) (more (All-tail (λ x. is_planned s x ≡ true) x (filter brings_value xs) h))
   by false h more = at_most (is_planned s x) _ _ (more h)
 
--- a message that the gatherer accepts as its own is of the station
-own_counts : (wanted from : Option ℕ) → option_map_or (λ f. option_map_or (λ w. f == w) wanted true) from false ≡ true → option_map_or (λ w. option_map_or (λ f. f == w) from false) wanted true ≡ true
-own_counts None from h = refl
-own_counts (Some w) None h = h
-own_counts (Some w) (Some f) h = h
-
 message_skips : (s : GatherSetup) (earlier : List Timed) (m : Heard) → ArePlanned s (valued s.station m)
     → (counts_of_message s earlier m).skipped ≤ m.unlisted + count_by (λ x. not (brings_value x)) m.cells
-message_skips s earlier m h = by (is_own s m) _ (λ own. few_skipped s m.cells (of_own (is_of_station s.station m) (own_counts s.station m.station own) h)) where
+message_skips s earlier m h = by (is_own s m) _ (λ own. few_skipped s m.cells (of_own (is_of_station s.station m) (own_counts s m own) h)) where
   of_own : (b : Bool) → b ≡ true → ArePlanned s (cond b (filter brings_value m.cells) []) → ArePlanned s (filter brings_value m.cells)
   of_own true e h = h
   of_own false e h = cc

@@ -25,7 +25,7 @@ one_week noon tow late small = (q, (omega (arith, d.0, d.1, late, small), omega 
 -- ---- the first MSM
 
 -- a message of the setup's station is of the station whose messages count
-own_counts : (s : GatherSetup) (m : Heard) → is_own s m ≡ true → is_of_station s.station m ≡ true
+pub own_counts : (s : GatherSetup) (m : Heard) → is_own s m ≡ true → is_of_station s.station m ≡ true
 own_counts s m h = by s.station m.station h where
   by : (wanted from : Option ℕ) → option_map_or (λ f. option_map_or (λ w. f == w) wanted true) from false ≡ true → option_map_or (λ n. option_map_or (λ f. f == n) from false) wanted true ≡ true
   by None from h = refl

@@ -4,21 +4,12 @@ use Rattle.rtcm_inspect.proofs.options.add_codes.Goals.{then-count-gt0, else-cou
 use Rattle.rtcm_inspect.proofs.Names.{table, had_below}
 use Rattle.rtcm_inspect.proofs.options.add_codes.Goals as goal
 
-within : (i n m : ℕ) → i < n → n ≡ m → i < m
-within i n m a b = omega (arith, a, b)
-
-longer : (a b c start i : ℕ) → a ≡ b + c + 1 → c ≡ 2 → b ≤ start + 3 * i → a ≤ start + 3 * (i + 1)
-longer a b c start i x y z = omega (arith, x, y, z)
-
-same_long : (b start i : ℕ) → b ≤ start + 3 * i → b ≤ start + 3 * (i + 1)
-same_long b start i z = omega (arith, z)
-
 pub loop-index-preserved : goal.loop-index-preserved
 loop-index-preserved c =
     let system = c.args.system in
     let i : ℕ = c.loop-index.index in
     let start : List ℕ = c.args.line.now in
-    let there : i < length (table system) = within i c.signals-index-end.result (length (table system)) c.loop-index-test.true c.signals-index-end.ensures.value in
+    let there : i < length (table system) = omega (arith, c.loop-index-test.true, c.signals-index-end.ensures.value) in
     record {
       text = λ cells h. elim c.if-count-gt0.branch [
         | then-count-gt0 w ↦ (let more = partly_more start c.loop-index.line w.add_part.new.self w.as_slice.result.now c.loop-index.separator system (had_below cells system i) i (c.loop-index.invariant.text cells h)
@@ -27,9 +18,8 @@ loop-index-preserved c =
         | else-count-gt0 w ↦ rw (w.line-is, w.separator-is, had_none c.args.signal_counts.now cells system i c.count.result h there c.count.ensures w.if-count-gt0.false) (c.loop-index.invariant.text cells h)
       ];
       short = elim c.if-count-gt0.branch [
-        | then-count-gt0 w ↦ rw w.line-is (longer (length w.add_part.new.self) (length c.loop-index.line) (length w.as_slice.result.now) (length start) i w.add_part.ensures.short
-            (ap length w.as_slice.ensures ∙ w.code_at.ensures.short) c.loop-index.invariant.short)
-        | else-count-gt0 w ↦ rw w.line-is (same_long (length c.loop-index.line) (length start) i c.loop-index.invariant.short)
+        | then-count-gt0 w ↦ rw w.line-is (omega (arith, w.add_part.ensures.short, ap length w.as_slice.ensures, w.code_at.ensures.short, c.loop-index.invariant.short))
+        | else-count-gt0 w ↦ rw w.line-is (omega (arith, c.loop-index.invariant.short))
       ];
     }
 

@@ -6,13 +6,10 @@ use Rattle.rtcm_inspect.proofs.ValuedLemmas.{valued_keys}
 use Rattle.rtcm_inspect.proofs.Names.{table, Gps, Galileo, count_lines, signals_text, valued_in, frames_of}
 use Rattle.rtcm_inspect.proofs.signals.run_signals.Goals as goal
 
-fits : (old new gps : ℕ) → old ≡ 0 → new ≤ old + 26 * gps → gps ≤ 19 → new ≤ 512
-fits old new gps none few small = omega (arith, none, few, small)
-
 pub add_lines-requires-2 : goal.add_lines-requires-2
 add_lines-requires-2 g c =
     let small : length (table Gps) ≤ 19 = lit≤ tt in
-    fits (length c.new-text.result.items) (length c.add_lines.new.text.items) (length (table Gps)) (ap length c.new-text.ensures) c.add_lines.ensures.short small
+    omega (arith, small, ap length c.new-text.ensures, c.add_lines.ensures.short)
 
 pub returns-then-not-has_any : goal.returns-then-not-has_any
 returns-then-not-has_any g c =
