@@ -1,4 +1,4 @@
-use Rattle.std.proofs.Common.{◌≡◌, ◌∙◌, ◌+◌, ◌*◌, ◌≤◌, ◌<◌, ap, arith, ℕ, List, length}
+use Rattle.std.proofs.Common.{◌∙◌, ◌<◌, ap, arith, ℕ, List, length}
 use Rattle.rtcm_inspect.proofs.SignalLemmas.{lines_one, lines_none, of_ok}
 use Rattle.rtcm_inspect.proofs.signals.add_lines.Goals.{then-count-gt0, else-count-gt0}
 use Rattle.rtcm_inspect.proofs.Names.{table}

@@ -1,4 +1,4 @@
-use Rattle.std.proofs.Common.{◌≡◌, ◌∙◌, ◌+◌, ◌*◌, ◌≤◌, ◌++◌, ap, sym, arith, lit≤, ℕ, List, length}
+use Rattle.std.proofs.Common.{◌∙◌, ◌≤◌, ◌++◌, ap, sym, arith, lit≤, ℕ, List, length}
 use Rattle.rtcm_inspect.proofs.CountingLemmas.{signals_printed}
 use Rattle.rtcm_inspect.proofs.PrintingLemmas.{printed_later, same_text}
 use Rattle.rtcm_inspect.proofs.SignalLemmas.{no_cells, some_cells}
