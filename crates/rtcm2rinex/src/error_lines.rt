@@ -2,8 +2,8 @@
 ghost use Rattle.std.specs.Prelude.{◌≡◌, ◌+◌, ◌≤◌, [], ◌∷◌, codes, decimal, length};
 ghost use Rattle.gnss_obs.specs.Satellites.{letter};
 ghost use Rattle.rinex_file.specs.Texts.{field_name};
-ghost use Rattle.rtcm2rinex.specs.ErrorLines.{conversion_word, date_words, error_line, error_words};
-ghost use Rattle.rtcm2rinex.specs.ErrorLines.{file_words, header_words, inspection_words, plan_words, scan_word};
+ghost use Rattle.rtcm2rinex.specs.ErrorLines.{date_words, error_line, error_words};
+ghost use Rattle.rtcm2rinex.specs.ErrorLines.{file_words, header_words, inspection_words, plan_words};
 ghost use Rattle.rtcm_inspect.specs.Lines.{with_words};
 
 use crate::fault::{DateOption, ToolFault};
@@ -46,7 +46,14 @@ fn add_error(line: &mut OutputLine, fault: ToolFault)
         }
         ToolFault::Header(fault) => add_header_error(line, fault),
         ToolFault::Plan(fault) => add_plan_error(line, fault),
-        ToolFault::Convert(fault) => line.add_word(conversion_name(fault)),
+        ToolFault::Convert(Fault::Memory) => line.add_word("Memory"),
+        ToolFault::Convert(Fault::BadSetup) => line.add_word("BadSetup"),
+        ToolFault::Convert(Fault::TooLong) => line.add_word("TooLong"),
+        ToolFault::Convert(Fault::Read) => line.add_word("Read"),
+        ToolFault::Convert(Fault::Write) => line.add_word("Write"),
+        ToolFault::Convert(Fault::Failed) => line.add_word("Failed"),
+        ToolFault::Convert(Fault::Finished) => line.add_word("Finished"),
+        ToolFault::Convert(Fault::NoEpoch) => line.add_word("NoEpoch"),
         ToolFault::Inspect(fault) => add_inspection_error(line, fault),
     }
 }
@@ -69,36 +76,6 @@ fn add_bad_date(line: &mut OutputLine, option: DateOption)
     }
 }
 
-/// Returns the name of a fault of a framer.
-fn scan_name(fault: ScanFault) -> &'static str
-    ensures name { result.now ≡ scan_word fault }
-    ensures short { length result.now ≤ 20 }
-{
-    match fault {
-        ScanFault::Memory => "Memory",
-        ScanFault::BadLimit => "BadLimit",
-        ScanFault::TooLong => "TooLong",
-        ScanFault::Ended => "Ended",
-    }
-}
-
-/// Returns the name of a fault of a conversion.
-fn conversion_name(fault: Fault) -> &'static str
-    ensures name { result.now ≡ conversion_word fault }
-    ensures short { length result.now ≤ 20 }
-{
-    match fault {
-        Fault::Memory => "Memory",
-        Fault::BadSetup => "BadSetup",
-        Fault::TooLong => "TooLong",
-        Fault::Read => "Read",
-        Fault::Write => "Write",
-        Fault::Failed => "Failed",
-        Fault::Finished => "Finished",
-        Fault::NoEpoch => "NoEpoch",
-    }
-}
-
 /// Adds a fault of a command other than `convert`, with the numbers of the stations, if any.
 fn add_inspection_error(line: &mut OutputLine, fault: InspectFault)
     requires { length line.old ≤ 100 }
@@ -108,7 +85,10 @@ fn add_inspection_error(line: &mut OutputLine, fault: InspectFault)
     match fault {
         InspectFault::Read => line.add_word("Read"),
         InspectFault::Write => line.add_word("Write"),
-        InspectFault::Scan(fault) => line.add_word(scan_name(fault)),
+        InspectFault::Scan(ScanFault::Memory) => line.add_word("Memory"),
+        InspectFault::Scan(ScanFault::BadLimit) => line.add_word("BadLimit"),
+        InspectFault::Scan(ScanFault::TooLong) => line.add_word("TooLong"),
+        InspectFault::Scan(ScanFault::Ended) => line.add_word("Ended"),
         InspectFault::Check(fault) => add_file_error(line, fault),
         InspectFault::SeveralStations(first, other) => {
             line.add_count("SeveralStations", u64::from(first));
