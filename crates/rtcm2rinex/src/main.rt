@@ -41,6 +41,13 @@ fn run(rt: &HostRuntime) -> io::Result<u8> {
     for word in &owned {
         words.push(word.as_str())?;
     }
+    run_words(rt, words.as_slice())
+}
+
+/// Runs the command that the words ask for over the standard streams, and returns the exit status.
+// A function of its own, so that none of its exits drops the words.
+fn run_words(rt: &HostRuntime, words: &[&str]) -> io::Result<u8> {
+    let alloc: Global = rt.alloc();
     // Files are read line by line, streams in small pieces, and lines are written one by one. The
     // buffers avoid a system call for each. The commands deliver what they wrote before they read
     // more.
@@ -48,6 +55,5 @@ fn run(rt: &HostRuntime) -> io::Result<u8> {
     let mut reader = Counted::new(input);
     let mut writer = Counted::new(Buffered::new(alloc, rt.stdout())?);
     let mut faults = Counted::new(rt.stderr());
-    let words = words.as_slice();
     Ok(command(alloc, words, &mut reader, &mut writer, &mut faults))
 }
