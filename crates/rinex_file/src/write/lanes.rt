@@ -8,9 +8,9 @@ ghost use Rattle.rinex_file.specs.Words.{digit_columns, leading, template};
 
 use std::simd::prelude::*;
 
-/// The columns to which the digits of a value are added, for each number of columns before its first
-/// digit: those of a value that isn't negative, then, from row 10 on, those of one that is. No value
-/// has the last row, but a reader finds it.
+/// The columns to which the digits of a value are added, for each number of columns before its
+/// first digit: those of a value that isn't negative, then, from row 10 on, those of one that is.
+/// No value has the last row, but a reader finds it.
 static TEMPLATES: [[u8; 16]; 20] = [
     *b"0000000000.000  ",
     *b" 000000000.000  ",

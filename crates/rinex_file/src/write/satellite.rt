@@ -49,7 +49,8 @@ pub(crate) fn strength_column(strength: &Option<Thousandths>) -> u8
 }
 
 /// Writes a Doppler shift and a strength, the digits of both in the same steps if the sum of their
-/// sizes is below 100,000, as most are. A strength alone takes fewer steps if it is from 0 to 99.999.
+/// sizes is below 100,000, as most are. A strength alone takes fewer steps if it is from 0 to
+/// 99.999.
 #[inline(always)]
 fn put_doppler_and_strength(
     columns: &mut [u8],
