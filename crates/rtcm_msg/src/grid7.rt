@@ -210,9 +210,9 @@ impl Grid for Grid7 {
         let range = raw_of(cell.range as i64, 20);
         let phase = raw_of(cell.phase as i64, 24);
         let rate = raw_of(cell.rate as i64, 15);
-        let number = (range as u128 * (1 << 24) + phase as u128) * 1024 + cell.lock as u128;
-        let number = (number * 2 + cell.half_cycle as u128) * 1024 + cell.strength as u128;
-        number * 32768 + rate as u128
+        let first = (range * (1 << 24) + phase) * 1024 + cell.lock as u64;
+        let last = (cell.half_cycle as u64 * 1024 + cell.strength as u64) * 32768 + rate;
+        first as u128 * (1 << 26) + last as u128
     }
 
     fn cell_of(number: u128) -> Cell7 {
