@@ -100,16 +100,6 @@ pub(crate) fn split_signal(pairs: Pairs) -> (Pair, Pairs)
     (pair, Pairs { signals, ..pairs })
 }
 
-/// Returns the first pair, and the other pairs.
-fn split_pairs(pairs: Pairs) -> (Pair, Pairs)
-    requires some { 0 < length (pairs_left pairs) }
-    requires in_range { ArePairs pairs }
-    ensures first { pairs_left pairs ≡ result.0 ∷ pairs_left result.1 }
-    ensures in_range { ArePairs result.1 }
-{
-    split_signal(with_signals(pairs))
-}
-
 /// Returns the first remaining pair with a cell, the pairs after it, and their number. `None` if no
 /// remaining pair has a cell. The low `left` bits of the cell mask are those of the remaining
 /// pairs.
@@ -124,7 +114,7 @@ pub(crate) fn split_cells(mut pairs: Pairs, cells: u64, mut left: u32) -> Option
 {
     while left > 0 {
         left -= 1;
-        let (pair, after) = split_pairs(pairs);
+        let (pair, after) = split_signal(with_signals(pairs));
         pairs = after;
         if (cells >> left) % 2 == 1 {
             return Some((pair, pairs, left));
