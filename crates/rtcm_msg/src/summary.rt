@@ -10,7 +10,7 @@ use crate::view::View;
 
 /// The contents of a message other than the data of satellites and cells. A field is `None` if the
 /// message does not contain it or it isn't decoded.
-#[derive(Clone, Copy)]
+#[derive(Clone, Copy, Default)]
 pub struct Summary {
     /// Reference station ID, DF003.
     pub station: Option<u16>,
@@ -29,14 +29,14 @@ impl<'a> View<'a> {
         ensures value { result ≡ summary (viewed_message self.now) }
         ensures time { ForSome result.time (λ time. time < week) }
     {
+        let none = Summary::default();
         match self {
             View::Station(station) => {
                 let parts = station.parts();
                 Summary {
                     station: Some(parts.station),
-                    time: None,
-                    more: None,
                     point: Some(parts),
+                    ..none
                 }
             },
             View::Msm(msm) => {
@@ -45,21 +45,18 @@ impl<'a> View<'a> {
                     station: Some(h.station),
                     time: Some(h.time),
                     more: Some(h.more),
-                    point: None,
+                    ..none
                 }
             }
-            View::Other { set, .. } => {
-                let (station, more) = match set {
-                    Some((station, more)) => (Some(*station), Some(*more)),
-                    None => (None, None),
-                };
-                Summary {
-                    station,
-                    time: None,
-                    more,
-                    point: None,
-                }
-            }
+            View::Other {
+                set: Some((station, more)),
+                ..
+            } => Summary {
+                station: Some(*station),
+                more: Some(*more),
+                ..none
+            },
+            View::Other { set: None, .. } => none,
         }
     }
 }
