@@ -135,14 +135,14 @@ impl<'a> MsmView<'a> {
         cells
     }
 
-    /// Returns, for each signal ID from 1 on, the number of its cells that have a value and whose
-    /// satellite is in a set.
+    /// Returns what `value_counts` does, by the loop that is compiled for the form.
     #[inline(always)]
-    fn count_all<G: ReadGrid>(&self, listed: u64) -> [u8; SIGNALS]
+    fn count_all<G: ReadGrid>(&self, listed: u64) -> ValueCounts
         requires form { G.form ≡ self.now.form }
+        ensures signals { result.left ≡ ids signal_mask_bits self.now.msm.sets.signals }
         ensures counts { (i : ℕ) → i < signal_mask_bits
-            → slice_index result i ≡ value_count listed (i + 1) (entries (views.formed self.now)) }
-        ensures few { AreAtMost most_pairs result }
+            → slice_index result.counts i ≡ value_count listed (i + 1) (entries (views.formed self.now)) }
+        ensures few { AreAtMost most_pairs result.counts }
     {
         // Brings the number of cells into the proof.
         let _ = self.cells();
@@ -163,25 +163,16 @@ impl<'a> MsmView<'a> {
                 cells = self.skip_pair(mask, cells);
             }
         }
-        counts
-    }
-
-    /// Returns what `count_all` does, by the loop that is compiled for the form.
-    #[inline(always)]
-    fn count_by_form(&self, listed: u64) -> [u8; SIGNALS]
-        ensures counts { (i : ℕ) → i < signal_mask_bits
-            → slice_index result i ≡ value_count listed (i + 1) (entries (views.formed self.now)) }
-        ensures few { AreAtMost most_pairs result }
-    {
-        match self.form() {
-            Form::Msm4 => self.count_all::<Grid4>(listed),
-            Form::Msm7 => self.count_all::<Grid7>(listed),
+        ValueCounts {
+            signals: masks.signals() as u64,
+            counts,
         }
     }
 
     /// Returns, for each signal of the message, the number of its cells that have a value and whose
     /// satellite is in the set `listed`, in which the most significant bit is satellite ID 1.
     #[inline(always)]
+    #[tactic(auto, using(crate::proofs::ValueLaws::no_cells, crate::proofs::ValueLaws::few_entries))]
     pub fn value_counts(&self, listed: u64) -> ValueCounts
         ensures signals { result.left ≡ ids signal_mask_bits self.now.msm.sets.signals }
         ensures counts { (i : ℕ) → i < signal_mask_bits
@@ -193,9 +184,9 @@ impl<'a> MsmView<'a> {
     {
         // Brings the number of cells into the proof.
         let _ = self.cells();
-        ValueCounts {
-            signals: self.masks().signals() as u64,
-            counts: self.count_by_form(listed),
+        match self.form() {
+            Form::Msm4 => self.count_all::<Grid4>(listed),
+            Form::Msm7 => self.count_all::<Grid7>(listed),
         }
     }
 }
