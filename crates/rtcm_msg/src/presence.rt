@@ -1,24 +1,13 @@
 //! Whether a cell of an MSM has a value; no more of the cell is read than is needed.
-ghost use Rattle.std.specs.Prelude.{◌≡◌, ◌<◌, ◌||◌, length, slice_index, is_some};
+ghost use Rattle.std.specs.Prelude.{◌≡◌, ◌<◌, length, slice_index};
 ghost use Rattle.rtcm_msg.specs.Viewed.{entry_in, rough};
 ghost use Rattle.rtcm_msg.specs.Presences.{has_rest, has_value, has_fine_range};
 
-use crate::grid::{Grid, INVALID_RANGE, ReadGrid};
+use crate::grid::{INVALID_RANGE, ReadGrid};
 use crate::grid4::{Grid4, INVALID_RANGE4};
 use crate::grid7::{Grid7, INVALID_RANGE7};
 use crate::pairs::Pair;
 use crate::view::{Form, MsmView};
-
-/// Returns whether a cell has a phase range, a phase range rate or a carrier to noise ratio.
-#[inline(always)]
-fn has_rest_of<G: Grid>(satellite: &G::Satellite, cell: &G::Cell) -> bool
-    ensures { result ≡ (is_some (G.phase_of satellite.now cell.now)
-        || is_some (G.rate_of satellite.now cell.now) || is_some (G.strength_of cell.now)) }
-{
-    G::phase(satellite, cell).is_some()
-        || G::rate(satellite, cell).is_some()
-        || G::strength(cell).is_some()
-}
 
 impl<'a> MsmView<'a> {
     /// Returns the whole milliseconds of the rough range of satellite `i`, DF397.
@@ -55,16 +44,8 @@ impl<'a> MsmView<'a> {
         requires cell { i < length self.now.msm.cells }
         ensures { result ≡ has_rest (entry_in self.now.form self.now.msm (pair, slice_index self.now.msm.cells i)) }
     {
-        match self.form() {
-            Form::Msm4 => has_rest_of::<Grid4>(
-                &self.satellite::<Grid4>(pair.index),
-                &self.cell::<Grid4>(i),
-            ),
-            Form::Msm7 => has_rest_of::<Grid7>(
-                &self.satellite::<Grid7>(pair.index),
-                &self.cell::<Grid7>(i),
-            ),
-        }
+        let entry = self.entry(pair, &self.read_rough(pair.index), i);
+        entry.phase.is_some() || entry.rate.is_some() || entry.strength.is_some()
     }
 
     /// Returns whether cell `i`, which is of the satellite and the signal of `pair`, has a value.

@@ -215,7 +215,7 @@ impl<'a> MsmView<'a> {
     /// Reads the data of satellite `i` in the form of MSM7. MSM4 has no rate and no extended
     /// information: both are 0.
     #[inline(never)]
-    fn read_rough(&self, i: usize) -> Satellite7
+    pub(crate) fn read_rough(&self, i: usize) -> Satellite7
         requires { i < length self.now.msm.satellites }
         ensures { result ≡ rough self.now.form (slice_index self.now.msm.satellites i) }
     {
@@ -235,7 +235,7 @@ impl<'a> MsmView<'a> {
 
     /// Returns the entry of cell `i`, which is of the satellite and the signal of `pair`.
     #[inline(always)]
-    fn entry(&self, pair: Pair, satellite: &Satellite7, i: usize) -> Entry
+    pub(crate) fn entry(&self, pair: Pair, satellite: &Satellite7, i: usize) -> Entry
         requires rough { satellite.now ≡ rough self.now.form (slice_index self.now.msm.satellites pair.index) }
         requires cell { i < length self.now.msm.cells }
         ensures value { result ≡ entry_in self.now.form self.now.msm (pair, slice_index self.now.msm.cells i) }
