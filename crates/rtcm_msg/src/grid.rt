@@ -2,6 +2,7 @@
 ghost use Rattle.std.specs.Prelude.{◌≡◌, ◌+◌, ◌*◌, ◌^◌, ◌<◌, ◌≤◌, ℕ, ℤ, Bool, List, Option, length};
 ghost use Rattle.std.specs.Prelude.{All, IfNone, IfSome, unsigned_abs};
 ghost use Rattle.std.specs.Option.{ForSome};
+ghost use Rattle.std.specs.List.{list_any};
 ghost use Rattle.rtcm_msg.specs.Fractions.{range_joined, scaled};
 ghost use Rattle.rtcm_msg.specs.Packed.{total_width};
 ghost use Rattle.rtcm_msg.specs.declared.fault.Field.{Field};
@@ -218,6 +219,28 @@ pub(crate) trait ReadGrid: Grid {
         requires after { 64 ≤ cells.now.place }
         ensures { result ≡ Self.cell_at
             (row_at Self.cell_widths cells.now.count (bits_of bytes.now) cells.now.place i 0) };
+}
+
+/// Data whose fields may not fit their bits.
+pub(crate) trait HasFields {
+    /// Whether a field does not fit its bits.
+    ghost is_bad: { Field → Self → Bool };
+
+    /// Returns whether a field does not fit its bits.
+    fn is_bad(&self, field: Field) -> bool
+        ensures { result ≡ is_bad field self.now };
+}
+
+/// Returns whether a field does not fit its bits in some of the data.
+pub(crate) fn has_bad<T: HasFields>(items: &[T], field: Field) -> bool
+    ensures { result ≡ list_any (T.is_bad field) items.now }
+{
+    for item in items {
+        if item.is_bad(field) {
+            return true;
+        }
+    }
+    false
 }
 
 /// Returns a fine part in 2^-31 ms: `number` units of `unit`, or `None` for the invalid number.

@@ -1,8 +1,7 @@
 //! The precision of MSM4.
-use crate::bad_fields::{HasFields, has_bad};
 use crate::fault::Field;
 use crate::field::{short_to, signed_to};
-use crate::grid::{Grid, ReadGrid, range_joined, scaled};
+use crate::grid::{Grid, HasFields, ReadGrid, has_bad, range_joined, scaled};
 use crate::last_bits::LastBits;
 use crate::view::Form;
 use rtcm_bits::{raw_of, signed_of};

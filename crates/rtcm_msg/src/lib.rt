@@ -5,7 +5,6 @@
 //! cells of an MSM one by one from its bytes, each as an [`Entry`].
 #![tactic(auto)]
 
-mod bad_fields;
 mod entry;
 mod fault;
 mod field;
@@ -19,7 +18,6 @@ mod masks;
 mod message;
 mod msm;
 mod pairs;
-mod presence;
 mod station;
 mod summary;
 mod value_counts;

@@ -221,12 +221,11 @@ impl<'a> MsmView<'a> {
     {
         match self.form() {
             Form::Msm4 => {
-                let satellite = self.satellite::<Grid4>(i);
+                let Satellite4 { whole, fraction } = self.satellite::<Grid4>(i);
                 Satellite7 {
-                    whole: satellite.whole,
-                    extended: 0,
-                    fraction: satellite.fraction,
-                    rate: 0,
+                    whole,
+                    fraction,
+                    ..Satellite7::default()
                 }
             }
             Form::Msm7 => self.satellite::<Grid7>(i),

@@ -1,7 +1,7 @@
 use Rattle.std.proofs.Common.{ℕ, ◌≡◌, ◌+◌, ◌<◌, ◌∙◌, Bool, true, false, List, length, drop, get_or, add-one, arith, refl, sym}
 use Rattle.std.proofs.Math.Seq.{drop-cons, drop-length}
 use Rattle.std.specs.List.{list_any}
-use Rattle.rtcm_msg.proofs.bad_fields.has_bad.Goals as goal
+use Rattle.rtcm_msg.proofs.grid.has_bad.Goals as goal
 
 found : {X : Type 0} (p : X → Bool) (k : ℕ) (xs : List X) (x : X) → k < length xs → x ≡ get_or xs k x → true ≡ p x → list_any p (drop k xs) ≡ true
 found p k xs x h item bad = rw (drop-cons xs k x h, ← item, ← bad) refl
