@@ -1,7 +1,7 @@
 -- The fields of MSM7 for a satellite and for a cell.
 use Rattle.std.specs.Prelude.{ℕ, ℤ, negsuc, ◌^◌, ◌<◌, List, [], ◌∷◌, Bool, not, nat_le, Some, None, Option}
 use Rattle.std.specs.Prelude.{if◌then◌else◌}
-use Rattle.std.specs.List.{list_any}
+use Rattle.std.specs.List.{find, list_any}
 use Rattle.rtcm_msg.specs.declared.fault.Field.{Field}
 use Rattle.rtcm_msg.specs.Ranges.{fits_int}
 use Rattle.rtcm_bits.specs.Bits.{FitsInt}
@@ -98,22 +98,19 @@ is_bad_cell fields.Lock x = nat_le (2 ^ 10) x.lock
 is_bad_cell fields.Strength x = nat_le (2 ^ 10) x.strength
 is_bad_cell field x = not (fits_int 15 x.rate)
 
+-- The fields of a satellite and of a cell, in the order of the layout.
+abbrev pub satellite_fields : List Field
+satellite_fields = fields.RangeWhole ∷ fields.Extended ∷ fields.RangeFraction ∷ fields.RoughRate ∷ []
+
+abbrev pub cell_fields : List Field
+cell_fields = fields.FineRange ∷ fields.FinePhase ∷ fields.Lock ∷ fields.Strength ∷ fields.FineRate ∷ []
+
+-- The first of them that does not fit its bits in some satellite or cell.
 abbrev pub satellite_fault : List Satellite7 → Option Field
-satellite_fault xs =
-    if list_any (λ x. nat_le (2 ^ 8) x.whole) xs then Some fields.RangeWhole
-    else (if list_any (λ x. nat_le (2 ^ 4) x.extended) xs then Some fields.Extended
-    else (if list_any (λ x. nat_le (2 ^ 10) x.fraction) xs then Some fields.RangeFraction
-    else (if list_any (λ x. not (fits_int 14 x.rate)) xs then Some fields.RoughRate
-    else None)))
+satellite_fault xs = find (λ f. list_any (is_bad_satellite f) xs) satellite_fields
 
 abbrev pub cell_fault : List Cell7 → Option Field
-cell_fault xs =
-    if list_any (λ x. not (fits_int 20 x.range)) xs then Some fields.FineRange
-    else (if list_any (λ x. not (fits_int 24 x.phase)) xs then Some fields.FinePhase
-    else (if list_any (λ x. nat_le (2 ^ 10) x.lock) xs then Some fields.Lock
-    else (if list_any (λ x. nat_le (2 ^ 10) x.strength) xs then Some fields.Strength
-    else (if list_any (λ x. not (fits_int 15 x.rate)) xs then Some fields.FineRate
-    else None))))
+cell_fault xs = find (λ f. list_any (is_bad_cell f) xs) cell_fields
 
 abbrev pub range_of : Satellite7 → Cell7 → Option ℤ
 range_of s c = range_joined s.whole s.fraction (scaled (negsuc 524287) 4 c.range)

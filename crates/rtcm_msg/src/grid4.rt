@@ -1,7 +1,7 @@
 //! The precision of MSM4.
 use crate::fault::Field;
 use crate::field::{short_to, signed_to};
-use crate::grid::{Grid, HasFields, ReadGrid, has_bad, range_joined, scaled};
+use crate::grid::{Grid, HasFields, ReadGrid, first_bad, range_joined, scaled};
 use crate::last_bits::LastBits;
 use crate::view::Form;
 use rtcm_bits::{raw_of, signed_of};
@@ -41,7 +41,7 @@ impl HasFields for Satellite4 {
 
     ghost is_bad = { grid4.is_bad_satellite };
 
-    // The type bounds the first; from the test the prover knows the bound of each element.
+    // The type bounds the first.
     fn is_bad(&self, field: Field) -> bool {
         match field {
             Field::RangeWhole => self.whole as u16 >= 256,
@@ -101,27 +101,19 @@ impl Grid for Grid4 {
     ghost cell_fault_of = { grid4.cell_fault };
 
     fn satellite_fault(satellites: &[Satellite4]) -> Option<Field> {
-        if has_bad(satellites, Field::RangeWhole) {
-            Some(Field::RangeWhole)
-        } else if has_bad(satellites, Field::RangeFraction) {
-            Some(Field::RangeFraction)
-        } else {
-            None
-        }
+        first_bad(satellites, &[Field::RangeWhole, Field::RangeFraction])
     }
 
     fn cell_fault(cells: &[Cell4]) -> Option<Field> {
-        if has_bad(cells, Field::FineRange) {
-            Some(Field::FineRange)
-        } else if has_bad(cells, Field::FinePhase) {
-            Some(Field::FinePhase)
-        } else if has_bad(cells, Field::Lock) {
-            Some(Field::Lock)
-        } else if has_bad(cells, Field::Strength) {
-            Some(Field::Strength)
-        } else {
-            None
-        }
+        first_bad(
+            cells,
+            &[
+                Field::FineRange,
+                Field::FinePhase,
+                Field::Lock,
+                Field::Strength,
+            ],
+        )
     }
 
     ghost range_of = { grid4.range_of };

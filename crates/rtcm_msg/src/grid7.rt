@@ -1,7 +1,7 @@
 //! The precision of MSM7.
 use crate::fault::Field;
 use crate::field::{short_to, signed_to};
-use crate::grid::{Grid, HasFields, ReadGrid, has_bad, range_joined, scaled};
+use crate::grid::{Grid, HasFields, ReadGrid, first_bad, range_joined, scaled};
 use crate::last_bits::LastBits;
 use crate::view::Form;
 use rtcm_bits::{raw_of, signed_of};
@@ -47,7 +47,7 @@ impl HasFields for Satellite7 {
 
     ghost is_bad = { grid7.is_bad_satellite };
 
-    // The type bounds the first; from the test the prover knows the bound of each element.
+    // The type bounds the first.
     fn is_bad(&self, field: Field) -> bool {
         match field {
             Field::RangeWhole => self.whole as u16 >= 256,
@@ -110,33 +110,28 @@ impl Grid for Grid7 {
     ghost cell_fault_of = { grid7.cell_fault };
 
     fn satellite_fault(satellites: &[Satellite7]) -> Option<Field> {
-        if has_bad(satellites, Field::RangeWhole) {
-            Some(Field::RangeWhole)
-        } else if has_bad(satellites, Field::Extended) {
-            Some(Field::Extended)
-        } else if has_bad(satellites, Field::RangeFraction) {
-            Some(Field::RangeFraction)
-        } else if has_bad(satellites, Field::RoughRate) {
-            Some(Field::RoughRate)
-        } else {
-            None
-        }
+        first_bad(
+            satellites,
+            &[
+                Field::RangeWhole,
+                Field::Extended,
+                Field::RangeFraction,
+                Field::RoughRate,
+            ],
+        )
     }
 
     fn cell_fault(cells: &[Cell7]) -> Option<Field> {
-        if has_bad(cells, Field::FineRange) {
-            Some(Field::FineRange)
-        } else if has_bad(cells, Field::FinePhase) {
-            Some(Field::FinePhase)
-        } else if has_bad(cells, Field::Lock) {
-            Some(Field::Lock)
-        } else if has_bad(cells, Field::Strength) {
-            Some(Field::Strength)
-        } else if has_bad(cells, Field::FineRate) {
-            Some(Field::FineRate)
-        } else {
-            None
-        }
+        first_bad(
+            cells,
+            &[
+                Field::FineRange,
+                Field::FinePhase,
+                Field::Lock,
+                Field::Strength,
+                Field::FineRate,
+            ],
+        )
     }
 
     ghost range_of = { grid7.range_of };
