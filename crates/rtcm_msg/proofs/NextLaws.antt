@@ -15,9 +15,5 @@ no_more f [] ys = omega arith
 no_more f (x ∷ xs) [] = omega arith
 no_more f (x ∷ xs) (y ∷ ys) = omega (arith, no_more f xs ys)
 
--- No cell is before the first pair.
-pub begun_count : {ps qs : List Pair} {n k m : ℕ} → ps ≡ qs → length qs ≡ m → k ≡ n → k ≡ m → length ps + 0 ≡ n
-begun_count e count is set = omega (arith, ap length e, count, is, set)
-
 pub few : (n m k : ℕ) → n ≤ m → k ≡ m → k ≤ 64 → n ≤ 64
 few n m k h same most = omega (arith, h, same, most)

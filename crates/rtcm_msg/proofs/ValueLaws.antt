@@ -1,11 +1,11 @@
 -- Cells with a value are counted by signal.
-use Rattle.std.proofs.Common.{ℕ, zero, suc, ◌≡◌, ◌≢◌, ◌+◌, ◌-◌, ◌/◌, ◌%◌, ◌==◌, ◌&&◌, ◌||◌, ◌^◌, ◌<◌, ◌≤◌, Bool, true, false, List, [], ◌∷◌, length, get_or, set, map, drop, filter, drop-cons, replicate, refl, ap, ◌∙◌, subst, arith, count_ones, inl, inr}
+use Rattle.std.proofs.Common.{ℕ, zero, suc, ◌≡◌, ◌≢◌, ◌+◌, ◌-◌, ◌/◌, ◌%◌, ◌==◌, ◌&&◌, ◌||◌, ◌^◌, ◌<◌, ◌≤◌, Bool, true, false, List, [], ◌∷◌, length, get_or, set, map, drop, filter, drop-cons, replicate, refl, sym, ap, ◌∙◌, subst, arith, count_ones, inl, inr}
 use Rattle.std.specs.Prelude.{cond}
 use Rattle.std.specs.List.{zip, flat_map, list_any}
 use Rattle.std.proofs.lemmas.Bool.{cases_eq}
 use Rattle.std.proofs.lemmas.List.Folds.{list_any-append}
 use Rattle.std.proofs.lemmas.Grind.{common_steps}
-use Rattle.rtcm_msg.specs.Names.{uint, Entry, Pair, Pairs, CellsLeft, Form, MasksValue, MsmValue, ids, chosen, Rising, entries, pair, all_pairs, cell_pairs, pairs_from, pairs_left, cell_pairs_left, ArePairs, HasFirst, IndicesAreBelow, entry_in, FormedMsm, formed, message_in, has_listed_value, value_count, has_id, entries_left, AreCells}
+use Rattle.rtcm_msg.specs.Names.{uint, Entry, Pair, Pairs, CellsLeft, Form, MasksValue, MsmValue, ids, chosen, Rising, entries, pair, all_pairs, cell_pairs, pairs_from, pairs_left, cell_pairs_left, ArePairs, AreAll, HasFirst, IndicesAreBelow, entry_in, FormedMsm, formed, message_in, has_listed_value, value_count, has_id, entries_left, AreCells}
 use Rattle.rtcm_msg.specs.declared.view.Form.TheVariants as forms
 use Rattle.rtcm_msg.proofs.NextLaws.{no_more}
 use Rattle.rtcm_msg.proofs.IdLaws.{ids_rising}
@@ -82,12 +82,19 @@ few_entries v n same few = by v.form v.msm (omega (arith, same, few))
     by forms.Msm7 v h = omega (arith, h, no_more (entry_in forms.Msm7 v) (cell_pairs v.sets) v.cells)
 
 -- The entries of a message, from the pairs that have a cell.
-pub entries_are : (v : FormedMsm) (ps : List Pair) → ps ≡ cell_pairs v.msm.sets → entries (formed v) ≡ map (entry_in v.form v.msm) (zip ps v.msm.cells)
+entries_are : (v : FormedMsm) (ps : List Pair) → ps ≡ cell_pairs v.msm.sets → entries (formed v) ≡ map (entry_in v.form v.msm) (zip ps v.msm.cells)
 entries_are v ps e = rw e (same v.form v.msm)
   where
     same : (form : Form) (v : MsmValue) → entries (message_in form v) ≡ map (entry_in form v) (zip (cell_pairs v.sets) v.cells)
     same forms.Msm4 v = refl
     same forms.Msm7 v = refl
+
+-- Before the first cell all are left.
+pub all_entries : (v : FormedMsm) (c : CellsLeft) → AreAll v.msm.sets c.left c.pairs → c.next ≡ 0 → entries_left v c ≡ entries (formed v)
+all_entries v c all none = rw none (sym (entries_are v _ all.cells))
+
+pub all_cells : (v : FormedMsm) (c : CellsLeft) (n : ℕ) → AreAll v.msm.sets c.left c.pairs → c.next ≡ 0 → n ≡ length v.msm.cells → n ≡ count_ones v.msm.sets.cells → AreCells v c
+all_cells v c n all none count set = record { left = all.left; next = omega (arith, ap length all.cells, all.count, none, count, set) }
 
 pub zeros : (n i : ℕ) → get_or (replicate n zero) i zero ≡ zero
 zeros zero i = refl

@@ -1,5 +1,5 @@
 -- The fields of MSM7 for a satellite and for a cell.
-use Rattle.std.specs.Prelude.{ℕ, ℤ, negsuc, ◌^◌, ◌<◌, List, [], ◌∷◌, Bool, not, nat_le, Some, None, Option}
+use Rattle.std.specs.Prelude.{ℕ, ℤ, negsuc, ◌^◌, ◌<◌, List, [], ◌∷◌, Bool, not, nat_le, Option}
 use Rattle.std.specs.Prelude.{if◌then◌else◌}
 use Rattle.std.specs.List.{find, list_any}
 use Rattle.rtcm_msg.specs.declared.fault.Field.{Field}

@@ -51,7 +51,7 @@ pub use Rattle.rtcm_msg.specs.declared.message.Message.TheVariants.{Msm4, Msm7, 
 pub use Rattle.rtcm_msg.specs.declared.pairs.Pair.{Pair}
 pub use Rattle.rtcm_msg.specs.declared.pairs.Pairs.{Pairs}
 pub use Rattle.rtcm_msg.specs.declared.station.StationParts.{StationParts}
-pub use Rattle.rtcm_msg.specs.declared.value_counts.CellsLeft.{CellsLeft}
+pub use Rattle.rtcm_msg.specs.declared.pairs.CellsLeft.{CellsLeft}
 pub use Rattle.rtcm_msg.specs.declared.view.Data.{Data}
 pub use Rattle.rtcm_msg.specs.declared.view.Form.{Form}
 pub use Rattle.rtcm_msg.specs.declared.view.View.{View}

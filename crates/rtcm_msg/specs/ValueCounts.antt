@@ -4,7 +4,7 @@ use Rattle.std.specs.Prelude.{slice_index, count_ones}
 use Rattle.std.specs.List.{zip, list_any}
 use Rattle.rtcm_bits.specs.Bits.{odd}
 use Rattle.rtcm_msg.specs.declared.entry.Entry.{Entry}
-use Rattle.rtcm_msg.specs.declared.value_counts.CellsLeft.{CellsLeft}
+use Rattle.rtcm_msg.specs.declared.pairs.CellsLeft.{CellsLeft}
 use Rattle.rtcm_msg.specs.Msm.{signal_mask_bits, satellite_mask_bits}
 use Rattle.rtcm_msg.specs.Pairs.{cell_pairs_left, AreLeft}
 use Rattle.rtcm_msg.specs.Presences.{has_value}

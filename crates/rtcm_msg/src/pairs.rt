@@ -45,21 +45,36 @@ pub(crate) struct Pairs {
     pub all: u64,
 }
 
-impl Pairs {
-    /// Returns all pairs of a message, and their number.
-    pub fn of(masks: &Masks) -> (Pairs, u32)
-        ensures { AreAll masks.now result.1 result.0 }
+/// The cells of a message that are left.
+#[derive(Clone, Copy)]
+pub(crate) struct CellsLeft {
+    /// The satellites and signals of the pairs that are left.
+    pub pairs: Pairs,
+    /// The number of these pairs.
+    pub left: u32,
+    /// The number of cells before those that are left.
+    pub next: usize,
+}
+
+impl CellsLeft {
+    /// Returns all cells of a message.
+    pub fn of(masks: &Masks) -> CellsLeft
+        ensures all { AreAll masks.now result.left result.pairs }
+        ensures none { result.next ≡ 0 }
     {
         // Brings the bounds of the masks into the proof.
         let _ = masks.cells();
         let (satellites, all) = (masks.satellites(), masks.signals() as u64);
-        let pairs = Pairs {
-            index: 0,
-            satellites,
-            signals: all,
-            all,
-        };
-        (pairs, satellites.count_ones() * all.count_ones())
+        CellsLeft {
+            pairs: Pairs {
+                index: 0,
+                satellites,
+                signals: all,
+                all,
+            },
+            left: satellites.count_ones() * all.count_ones(),
+            next: 0,
+        }
     }
 }
 

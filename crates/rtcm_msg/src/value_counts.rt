@@ -15,23 +15,12 @@ use crate::grid::{INVALID_RANGE, ReadGrid};
 use crate::grid4::{Grid4, INVALID_RANGE4};
 use crate::grid7::{Grid7, INVALID_RANGE7};
 use crate::masks::SIGNAL_MASK_BITS;
-use crate::pairs::{Pair, Pairs, split_first, split_signal, with_signals};
+use crate::pairs::{CellsLeft, Pair, split_first, split_signal, with_signals};
 use crate::view::{Form, MsmView};
 use std::marker::Model;
 
 /// Number of signal IDs.
 const SIGNALS: usize = SIGNAL_MASK_BITS as usize;
-
-/// The cells of a message that are left.
-#[derive(Clone, Copy)]
-pub(crate) struct CellsLeft {
-    /// The satellites and signals of the pairs that are left.
-    pub pairs: Pairs,
-    /// The number of these pairs.
-    pub left: u32,
-    /// The number of cells before those that are left.
-    pub next: usize,
-}
 
 impl<'a> MsmView<'a> {
     /// Returns the whole milliseconds of the rough range of satellite `i`, DF397.
@@ -196,13 +185,8 @@ impl<'a> MsmView<'a> {
         let _ = self.cells();
         let masks = self.masks();
         let mask = masks.cells();
-        let (pairs, left) = Pairs::of(&masks);
         let mut counts = [0; SIGNALS];
-        let mut cells = CellsLeft {
-            pairs,
-            left,
-            next: 0,
-        };
+        let mut cells = CellsLeft::of(&masks);
         while cells.left > 0 {
             cells.pairs = with_signals(cells.pairs);
             if (mask >> (cells.left - 1)) % 2 == 1 {

@@ -22,7 +22,7 @@ use crate::last_bits::LastBits;
 use crate::masks::{Masks, read_head};
 use crate::message::{Message, read_set};
 use crate::msm::msm_of;
-use crate::pairs::{Pair, Pairs, split_cells};
+use crate::pairs::{CellsLeft, Pair, split_cells};
 use crate::station::{Station, view_station};
 use rtcm_bits::{LONGEST_MESSAGE, number_at};
 use std::marker::Model;
@@ -257,12 +257,9 @@ impl<'a> MsmView<'a> {
     {
         // Brings the number of cells into the proof.
         let _ = self.cells();
-        let (pairs, left) = Pairs::of(&self.masks());
         Entries {
             view: self,
-            pairs,
-            left,
-            next: 0,
+            cells: CellsLeft::of(&self.masks()),
             index: self.satellites(),
             satellite: Satellite7::default(),
         }
@@ -273,31 +270,21 @@ impl<'a> MsmView<'a> {
 #[derive(Drop)]
 pub struct Entries<'a> {
     view: &'a MsmView<'a>,
-    /// The satellites and signals of the pairs that are left, and the number of these pairs.
-    pairs: Pairs,
-    left: u32,
-    next: usize,
+    cells: CellsLeft,
     /// The index of the satellite whose data were read last, or the number of satellites.
     index: usize,
     satellite: Satellite7,
 }
 
 impl<'a> Model for Entries<'a> {
-    ghost use Rattle.std.specs.Prelude.{◌≡◌, ◌+◌, map, drop, length, count_ones};
-    ghost use Rattle.std.specs.List.{zip};
-    ghost use Rattle.rtcm_msg.specs.Pairs.{cell_pairs_left, AreLeft};
-    ghost use Rattle.rtcm_msg.specs.Viewed.{Unread, Keeps, entry_in};
+    ghost use Rattle.rtcm_msg.specs.ValueCounts.{AreCells, entries_left};
+    ghost use Rattle.rtcm_msg.specs.Viewed.{Unread, Keeps};
 
     ghost Value = { Unread };
 
-    ghost view = { λ e. record {
-      form = e.view.now.form;
-      left = map (entry_in e.view.now.form e.view.now.msm)
-          (zip (cell_pairs_left e.left e.view.now.msm.sets e.pairs) (drop e.next e.view.now.msm.cells));
-    } };
+    ghost view = { λ e. record { form = e.view.now.form; left = entries_left e.view.now e.cells } };
 
-    ghost invariant = { λ e. AreLeft (count_ones e.view.now.msm.sets.satellites) e.left e.pairs
-        × (length (cell_pairs_left e.left e.view.now.msm.sets e.pairs) + e.next ≡ length e.view.now.msm.cells)
+    ghost invariant = { λ e. AreCells e.view.now e.cells
         × Keeps e.view.now.form e.view.now.msm.satellites e.index e.satellite };
 }
 
@@ -310,16 +297,19 @@ impl<'a> Entries<'a> {
         ensures none { IfNone result ((self.old.left ≡ []) × (self.new.left ≡ [])) }
         ensures same { self.new.form ≡ self.old.form }
     {
-        let (pair, pairs, left) = split_cells(self.pairs, self.view.masks().cells(), self.left)?;
+        let cells = self.cells;
+        let (pair, pairs, left) = split_cells(cells.pairs, self.view.masks().cells(), cells.left)?;
         // Brings the numbers of satellites and cells into the proof.
         let _ = (self.view.satellites(), self.view.cells());
         let satellite = self.view.rough(pair.index, self.index, self.satellite);
-        let entry = self.view.entry(pair, &satellite, self.next);
-        self.pairs = pairs;
-        self.left = left;
+        let entry = self.view.entry(pair, &satellite, cells.next);
+        self.cells = CellsLeft {
+            pairs,
+            left,
+            next: cells.next + 1,
+        };
         self.index = pair.index;
         self.satellite = satellite;
-        self.next += 1;
         Some(entry)
     }
 }

@@ -1,5 +1,5 @@
 use Rattle.rtcm_msg.specs.Grid4.{IsSatelliteData, is_bad_satellite, satellite_fields}
-use Rattle.rtcm_msg.proofs.FitLaws.{none_bad, fit, fit_int}
+use Rattle.rtcm_msg.proofs.FitLaws.{none_bad, fit}
 use Rattle.rtcm_msg.proofs.grid4.Grid4Grid.satellite_fault.Goals as goal
 
 pub returns-clause-none : goal.returns-clause-none

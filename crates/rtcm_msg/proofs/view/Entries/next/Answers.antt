@@ -13,16 +13,16 @@ next_fits : (next cells n : ℕ) → next < cells → n ≡ cells → n ≤ 64 �
 next_fits next cells n h same few = omega (arith, h, same, few)
 
 pub split_cells-requires-clause-few : goal.split_cells-requires-clause-few
-split_cells-requires-clause-few c = c.self.invariant.0.1
+split_cells-requires-clause-few c = c.self.invariant.0.left.1
 
 pub split_cells-requires-clause-count : goal.split_cells-requires-clause-count
-split_cells-requires-clause-count c = c.self.invariant.0.0
+split_cells-requires-clause-count c = c.self.invariant.0.left.0
 
 pub split_cells-requires-clause-in_range : goal.split_cells-requires-clause-in_range
-split_cells-requires-clause-in_range c = c.self.invariant.0.2
+split_cells-requires-clause-in_range c = c.self.invariant.0.left.2
 
 pub rough-satellite-requires-clause-keeps : goal.rough-satellite-requires-clause-keeps
-rough-satellite-requires-clause-keeps c = c.self.invariant.2
+rough-satellite-requires-clause-keeps c = c.self.invariant.1
 
 pub entry-entry-requires-clause-rough : goal.entry-entry-requires-clause-rough
 entry-entry-requires-clause-rough c = c.rough-satellite.ensures
@@ -31,25 +31,27 @@ pub entry-entry-requires-clause-cell : goal.entry-entry-requires-clause-cell
 entry-entry-requires-clause-cell c =
     let v = c.self.inside.view.now in
     let split = rw (c.cells.ensures.value ∙ ap (λ (s : MasksValue). s.cells) c.masks.ensures) at c.in_ok-pair.ensures.some.0 in
-    one_there (cell_pairs_left c.self.inside.left v.msm.sets c.self.inside.pairs) (cell_pairs_left c.in_ok-pair.left v.msm.sets c.in_ok-pair.pairs) c.in_ok-pair.pair c.self.inside.next (length v.msm.cells) split c.self.invariant.1
+    one_there (cell_pairs_left c.self.inside.cells.left v.msm.sets c.self.inside.cells.pairs) (cell_pairs_left c.in_ok-pair.left v.msm.sets c.in_ok-pair.pairs) c.in_ok-pair.pair c.self.inside.cells.next (length v.msm.cells) split c.self.invariant.0.next
 
 pub overflow_add-self : goal.overflow_add-self
 overflow_add-self c =
     let v = c.self.inside.view.now in
     let split = rw (c.cells.ensures.value ∙ ap (λ (s : MasksValue). s.cells) c.masks.ensures) at c.in_ok-pair.ensures.some.0 in
-    let there = one_there (cell_pairs_left c.self.inside.left v.msm.sets c.self.inside.pairs) (cell_pairs_left c.in_ok-pair.left v.msm.sets c.in_ok-pair.pairs) c.in_ok-pair.pair c.self.inside.next (length v.msm.cells) split c.self.invariant.1 in
-    record { fits = next_fits c.self.inside.next (length v.msm.cells) c.cells-2.result there c.cells-2.ensures.count c.cells-2.ensures.few }
+    let there = one_there (cell_pairs_left c.self.inside.cells.left v.msm.sets c.self.inside.cells.pairs) (cell_pairs_left c.in_ok-pair.left v.msm.sets c.in_ok-pair.pairs) c.in_ok-pair.pair c.self.inside.cells.next (length v.msm.cells) split c.self.invariant.0.next in
+    record { fits = next_fits c.self.inside.cells.next (length v.msm.cells) c.cells-2.result there c.cells-2.ensures.count c.cells-2.ensures.few }
 
 pub rough-satellite-requires-clause-there : goal.rough-satellite-requires-clause-there
 rough-satellite-requires-clause-there c =
-    index_below c.in_ok-pair.pair.index _ _ _ (c.in_ok-pair.ensures.indices (count_ones c.self.inside.view.now.msm.sets.satellites) c.self.invariant.0.3).0 c.satellites.ensures.count c.satellites.ensures.set
+    index_below c.in_ok-pair.pair.index _ _ _ (c.in_ok-pair.ensures.indices (count_ones c.self.inside.view.now.msm.sets.satellites) c.self.invariant.0.left.3).0 c.satellites.ensures.count c.satellites.ensures.set
 
 pub invariant_of-self : goal.invariant_of-self
 invariant_of-self c =
     let some = c.in_ok-pair.ensures.some in
     let sets = c.self.inside.view.now.msm.sets in (
-      (some.1, some.2, some.3, (c.in_ok-pair.ensures.indices (count_ones sets.satellites) c.self.invariant.0.3).1),
-      one_less sets c.cells.result c.self.inside.left c.in_ok-pair.left c.self.inside.pairs c.in_ok-pair.pairs c.in_ok-pair.pair c.self.inside.next _ (c.cells.ensures.value ∙ ap (λ (s : MasksValue). s.cells) c.masks.ensures) some.0 c.self.invariant.1,
+      record {
+        left = (some.1, some.2, some.3, (c.in_ok-pair.ensures.indices (count_ones sets.satellites) c.self.invariant.0.left.3).1);
+        next = one_less sets c.cells.result c.self.inside.cells.left c.in_ok-pair.left c.self.inside.cells.pairs c.in_ok-pair.pairs c.in_ok-pair.pair c.self.inside.cells.next _ (c.cells.ensures.value ∙ ap (λ (s : MasksValue). s.cells) c.masks.ensures) some.0 c.self.invariant.0.next;
+      },
       λ h. c.rough-satellite.ensures,
     )
 
@@ -64,5 +66,5 @@ pub returns-clause-some : goal.returns-clause-some
 returns-clause-some c =
     let v = c.self.inside.view.now in
     let split = rw (c.cells.ensures.value ∙ ap (λ (s : MasksValue). s.cells) c.masks.ensures) at c.in_ok-pair.ensures.some.0 in
-    let first = taken (entry_in v.form v.msm) (cell_pairs_left c.self.inside.left v.msm.sets c.self.inside.pairs) (cell_pairs_left c.in_ok-pair.left v.msm.sets c.in_ok-pair.pairs) c.in_ok-pair.pair v.msm.cells c.self.inside.next c.entry-entry.result split c.self.invariant.1 c.entry-entry.ensures.value in
+    let first = taken (entry_in v.form v.msm) (cell_pairs_left c.self.inside.cells.left v.msm.sets c.self.inside.cells.pairs) (cell_pairs_left c.in_ok-pair.left v.msm.sets c.in_ok-pair.pairs) c.in_ok-pair.pair v.msm.cells c.self.inside.cells.next c.entry-entry.result split c.self.invariant.0.next c.entry-entry.ensures.value in
     (sym (ap (λ (u : Unread). u.left) c.self.view_is) ∙ first, subst (λ (u : Unread). IsEntry (codes_of (lock_field u.form)) c.entry-entry.result) c.self.view_is c.entry-entry.ensures.bounds)

@@ -1,7 +1,6 @@
-use Rattle.std.proofs.Common.{◌≡◌, ◌+◌, ℕ, List, ap, subst, refl, arith}
+use Rattle.std.proofs.Common.{◌≡◌, ◌+◌, ℕ, List, ap, sym, subst, refl, arith}
 use Rattle.rtcm_msg.specs.Names.{AreAll, Entry, MasksValue, value_count}
-use Rattle.rtcm_msg.proofs.NextLaws.{begun_count}
-use Rattle.rtcm_msg.proofs.ValueLaws.{entries_are, none_left, zeros}
+use Rattle.rtcm_msg.proofs.ValueLaws.{all_entries, all_cells, none_left, zeros}
 use Rattle.rtcm_msg.proofs.view.MsmView.count_all.Goals as goal
 
 begun : (z a b : ℕ) → z ≡ 0 → a ≡ b → a ≡ z + b
@@ -12,10 +11,10 @@ counted_all n t l a e f g = omega (arith, e, f, g)
 
 pub loop-cells-init : goal.loop-cells-init
 loop-cells-init g c =
-    let all = subst (λ (s : MasksValue). AreAll s c.of-left.result.1 c.of-left.result.0) c.masks-masks.ensures c.of-left.ensures in
+    let all = subst (λ (s : MasksValue). AreAll s c.of-cells.result.left c.of-cells.result.pairs) c.masks-masks.ensures c.of-cells.ensures.all in
     record {
-      counts = λ i h. begun _ _ _ (zeros 32 i) (ap (λ (es : List Entry). value_count c.args.listed (i + 1) es) (entries_are c.args.self.now _ all.cells));
-      cells = record { left = all.left; next = begun_count all.cells all.count c.cells.ensures.count c.cells.ensures.set };
+      counts = λ i h. begun _ _ _ (zeros 32 i) (ap (λ (es : List Entry). value_count c.args.listed (i + 1) es) (sym (all_entries c.args.self.now c.of-cells.result all c.of-cells.ensures.none)));
+      cells = all_cells c.args.self.now c.of-cells.result c.cells.result all c.of-cells.ensures.none c.cells.ensures.count c.cells.ensures.set;
       small = λ i. omega (arith, zeros 32 i);
     }
 

@@ -1,5 +1,0 @@
-use Rattle.rtcm_msg.proofs.PairLaws.{all_left}
-use Rattle.rtcm_msg.proofs.pairs.Pairs.of.Goals as goal
-
-pub returns : goal.returns
-returns c = all_left c.args.masks.now c.satellites-satellites.result c.signals.result c.cells.ensures.sets c.satellites-satellites.ensures c.signals.ensures
