@@ -5,7 +5,7 @@ use Rattle.std.specs.Ordering.{int_eq}
 use Rattle.std.specs.List.{AllByRecursion, zip}
 use Rattle.std.proofs.lemmas.Int.{ints, unsigned_abs-mul}
 use Rattle.std.proofs.lemmas.Nat.{mul-le}
-use Rattle.rtcm_msg.specs.Names.{FitsInt, Message, Station, Msm4, Msm7, Other, Pair, unpacked_fit, scaled, range_joined, rate_joined, strength_of, MsmValue, entry4, entry7, cell_pairs, entries, StationParts, InRange, IsMeasured, IsCoordinate, IsPoint}
+use Rattle.rtcm_msg.specs.Names.{FitsInt, Message, Station, Msm4, Msm7, Other, Pair, unpacked_fit, scaled, range_joined, rate_joined, strength_of, MsmValue, entry4, entry7, cell_pairs, entries, IsMeasured}
 use Rattle.rtcm_msg.specs.declared.grid4.Satellite4.{Satellite4}
 use Rattle.rtcm_msg.specs.declared.grid4.Cell4.{Cell4}
 use Rattle.rtcm_msg.specs.declared.grid7.Satellite7.{Satellite7}
@@ -106,12 +106,3 @@ entries_measured (Station s) = tt
 entries_measured (Msm4 v) = each4 v (zip (cell_pairs v.sets) v.cells)
 entries_measured (Msm7 v) = each7 v (zip (cell_pairs v.sets) v.cells)
 entries_measured (Other n set) = tt
-
--- ---- points
-
-coordinate : (z : ℤ) → FitsInt 38 z → IsCoordinate z
-coordinate (pos n) h = (omega (arith, ints, h), omega (arith, ints, h))
-coordinate (negsuc n) h = (omega (arith, ints, h), omega (arith, ints, h))
-
-pub point_in_range : (p : StationParts) → InRange p → IsPoint p
-point_in_range p h = record { x = coordinate p.x h.x; y = coordinate p.y h.y; z = coordinate p.z h.z; height = h.height }

@@ -14,6 +14,3 @@ pub no_more : {X Y Z : Type 0} (f : X × Y → Z) (xs : List X) (ys : List Y) �
 no_more f [] ys = omega arith
 no_more f (x ∷ xs) [] = omega arith
 no_more f (x ∷ xs) (y ∷ ys) = omega (arith, no_more f xs ys)
-
-pub few : (n m k : ℕ) → n ≤ m → k ≡ m → k ≤ 64 → n ≤ 64
-few n m k h same most = omega (arith, h, same, most)

@@ -2,9 +2,6 @@ use Rattle.rtcm_msg.proofs.MessageLaws.{zero_read, read_again}
 use Rattle.rtcm_msg.proofs.LengthLaws.{message_short}
 use Rattle.rtcm_msg.proofs.laws.read_back.Goals as goal
 
-pub returns-clause-encoded : goal.returns-clause-encoded
-returns-clause-encoded c = λ v value known. zero_read v value known
-
 pub returns-clause-read : goal.returns-clause-read
 returns-clause-read c = λ v bytes value known is. rw is (read_again _ v (zero_read v value known))
 

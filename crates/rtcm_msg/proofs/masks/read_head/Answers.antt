@@ -1,7 +1,5 @@
 -- Each failed test gives the fault with which reading field by field ends (HeadLaws), for either form and system.
-use Rattle.std.proofs.Common.{ℕ, ◌<◌, ◌≡◌, ◌+◌, ◌*◌, ◌≤◌, length, count_ones, arith, inl, inr}
-use Rattle.std.proofs.Math.Nat.{mul-le-mul_left}
-use Rattle.std.proofs.lemmas.Nat.{ones-le}
+use Rattle.std.proofs.Common.{◌≡◌, ◌+◌, ◌*◌, ◌≤◌, length, count_ones, arith, inl, inr}
 use Rattle.std.proofs.lemmas.Result.{err_from_is_err_and}
 use Rattle.rtcm_msg.proofs.HeadLaws.{time_missing, time_late, head_missing, header_whole, masks_many, cells_missing, masks_whole}
 use Rattle.rtcm_msg.proofs.ViewLaws.{no_header, no_masks}
@@ -49,19 +47,3 @@ returns-clause-read c =
       rw (end, c.number_at.ensures.value, c.number_at-satellites.ensures.value, c.number_at-signals.ensures.value)
           (masks_whole c.args.bytes.now (rw (c.number_at-satellites.ensures.value, c.number_at-signals.ensures.value) at c.if-pairs-gt-MOST_CELL_MASK_BITS.false) (rw (c.number_at-satellites.ensures.value, c.number_at-signals.ensures.value) at room)),
     )
-
-few_pairs : (m n : ℕ) → m ≤ 64 → n ≤ 32 → m * n < 4294967296
-few_pairs m n h k = let most = mul-le-mul_left m k in omega (arith, most, h)
-
-pub overflow_mul-pairs : goal.overflow_mul-pairs
-overflow_mul-pairs c = record {
-  fits = few_pairs _ _ (ones-le 64 c.number_at-satellites.result c.number_at-satellites.ensures.fits) (ones-le 32 c.number_at-signals.result c.number_at-signals.ensures.fits);
-}
-
-pub invariant_of-masks : goal.invariant_of-masks
-invariant_of-masks c = record {
-  satellites = c.number_at-satellites.ensures.fits;
-  signals = c.number_at-signals.ensures.fits;
-  few = c.if-pairs-gt-MOST_CELL_MASK_BITS.false;
-  cells = c.number_at.ensures.fits;
-}

@@ -20,9 +20,6 @@ returns-in_err-end_of_fields c =
 room : (ws : List ℕ) (has : Bool) (end bits : ℕ) → ws ≡ field_widths has → end ≡ 12 + 1 * total_width ws → end ≤ bits → 12 + total_width (field_widths has) ≤ bits
 room ws has end bits same e h = rw (← same) (omega (arith, e, h))
 
-pub parts_in-requires-clause-there : goal.parts_in-requires-clause-there
-parts_in-requires-clause-there c = room c.field_widths.result.now c.args.has_height c.in_ok-end_of_fields.field-0 _ c.field_widths.ensures c.in_ok-end_of_fields.ensures.end c.in_ok-end_of_fields.ensures.within
-
 pub returns : goal.returns
 returns c =
     rw c.parts_in.ensures.value

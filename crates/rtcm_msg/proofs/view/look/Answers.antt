@@ -1,13 +1,9 @@
-use Rattle.std.proofs.Common.{ℕ, arith, ◌≡◌, ◌∙◌, sym, List, Result, Ok, Err, IfOk}
-use Rattle.rtcm_msg.specs.Names.{bits_of, MsgFault, View, GivesViewed, message_at, viewed_message, IsMessage}
+use Rattle.std.proofs.Common.{arith, ◌≡◌, ◌∙◌, sym}
+use Rattle.rtcm_msg.specs.Names.{bits_of, message_at}
 use Rattle.rtcm_bits.specs.BitLaws.{length-bits_of}
-use Rattle.rtcm_msg.proofs.MessageLaws.{message_found, message_none, message_there}
+use Rattle.rtcm_msg.proofs.MessageLaws.{message_none, message_there}
 use Rattle.rtcm_msg.proofs.LongLaws.{message_prefix}
 use Rattle.rtcm_msg.proofs.view.look.Goals as goal
-
-is_message : (bytes : List ℕ) (r : Result View MsgFault) → GivesViewed viewed_message r (message_at bytes) → IfOk r (λ v. IsMessage (viewed_message v))
-is_message bytes (Ok v) g = (message_found (bits_of bytes) (viewed_message v) g).is_message
-is_message bytes (Err f) g = tt
 
 pub returns-then-bytes-lt2-clause-exact : goal.returns-then-bytes-lt2-clause-exact
 returns-then-bytes-lt2-clause-exact c =
@@ -19,6 +15,3 @@ returns-clause-exact c =
     let same : message_at c.unwrap_or-bytes.result.now ≡ message_at c.args.bytes.now = grind (arith, message_prefix, c.get.ensures, c.unwrap_or-bytes.ensures) in
     let read = message_there (bits_of c.unwrap_or-bytes.result.now) (omega (arith, c.if-bytes-lt2.false, length-bits_of c.unwrap_or-bytes.result.now)) in
     rw (← same, read, ← c.number_at.ensures.value) c.view_body.ensures
-
-pub returns-clause-message : goal.returns-clause-message
-returns-clause-message c = is_message c.args.bytes.now c.view_body.result (returns-clause-exact c)

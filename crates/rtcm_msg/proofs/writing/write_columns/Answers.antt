@@ -1,14 +1,9 @@
-use Rattle.std.proofs.Common.{ℕ, ◌≡◌, ◌+◌, ◌-◌, ◌*◌, ◌≤◌, length, drop, get_or, arith, sym, ◌∙◌, append-nil}
+use Rattle.std.proofs.Common.{◌≡◌, ◌+◌, ◌-◌, length, drop, get_or, arith, sym, ◌∙◌, append-nil}
 use Rattle.std.proofs.Math.Seq.{drop-length}
 use Rattle.rtcm_msg.specs.Names.{columns, total_width}
 use Rattle.rtcm_msg.proofs.ColumnSteps.{total-drop}
 use Rattle.rtcm_msg.proofs.WritingSteps.{columns_next}
 use Rattle.rtcm_msg.proofs.writing.write_columns.Goals as goal
-
-room_column : (len end w r n m : ℕ) → len + (w + r) * n ≡ end → end ≤ m → len + w * n ≤ m
-room_column len end w r n m e room =
-    let split : (w + r) * n ≡ w * n + r * n = grind arith in
-    omega (arith, split, e, room)
 
 pub loop-width-preserved : goal.loop-width-preserved
 loop-width-preserved c =
@@ -27,13 +22,3 @@ unfolding columns
 returns-clause-bits c =
     let end : c.loop-width.width-index ≡ length c.args.widths.now = omega arith in
     sym (append-nil c.loop-width.writer) ∙ (rw (end, drop-length c.args.widths.now) at c.loop-width.invariant.bits)
-
-pub write_column-requires : goal.write_column-requires
-write_column-requires c =
-    let split = total-drop c.loop-width.width-index c.args.widths.now c.loop-width-test.true in
-    let low = c.loop-width.invariant.low in
-    record {
-      few = c.requires.few c.loop-width.width-index 0 c.loop-width-test.true;
-      shift = omega (arith, low);
-      room = room_column _ _ (get_or c.args.widths.now c.loop-width.width-index 0) _ (length c.args.numbers.now) 8184 (rw split at c.loop-width.invariant.len) c.requires.room;
-    }

@@ -1,5 +1,5 @@
-use Rattle.std.proofs.Common.{ℕ, List, ◌∙◌, ap, sym, subst, slice_index}
-use Rattle.rtcm_msg.specs.Names.{bits_of, AreLast, row_at, Data, FormedMsm, AreDataOf, cell_widths, cell_rows}
+use Rattle.std.proofs.Common.{ℕ, ◌∙◌, ap, sym, subst, slice_index}
+use Rattle.rtcm_msg.specs.Names.{bits_of, row_at, Data, FormedMsm, AreDataOf, cell_widths, cell_rows}
 use Rattle.rtcm_msg.proofs.ViewLaws.{row_value, below, fits, cells_counted}
 use Rattle.rtcm_msg.proofs.view.MsmView.cell.Goals as goal
 
@@ -8,17 +8,6 @@ cell_in-requires-clause-there g c =
     let there = subst (AreDataOf c.self.inside.form c.self.inside.satellites c.self.inside.cells) c.in-Bits.is c.self.invariant.1 in
     let h = below c.args.i c.self.inside.cells _ _ (cells_counted c.self.inside.form c.self.inside.satellites c.self.inside.cells c.self.inside.rows c.self.invariant.1) (ap (λ (v : FormedMsm). v.msm.cells) c.self.view_is) c.requires.there in
     rw there.there.cell_count h
-
-pub cell_in-requires-clause-few : goal.cell_in-requires-clause-few
-cell_in-requires-clause-few g c =
-    let there = subst (AreDataOf c.self.inside.form c.self.inside.satellites c.self.inside.cells) c.in-Bits.is c.self.invariant.1 in
-    rw there.there.cell_count there.cells_few
-
-pub cell_in-requires-clause-last : goal.cell_in-requires-clause-last
-cell_in-requires-clause-last g c =
-    let there = subst (AreDataOf c.self.inside.form c.self.inside.satellites c.self.inside.cells) c.in-Bits.is c.self.invariant.1 in
-    let widths = c.requires.widths ∙ sym (ap (λ (v : FormedMsm). cell_widths v.form) c.self.view_is) in
-    subst (λ (ws : List ℕ). AreLast ws c.in-Bits.cells) (sym widths) there.there.last
 
 pub returns-in-Bits-clause-value : goal.returns-in-Bits-clause-value
 returns-in-Bits-clause-value g c =
@@ -42,17 +31,3 @@ returns-in-Bits-clause-same g c =
     let widths = c.requires.widths ∙ sym (ap (λ (v : FormedMsm). cell_widths v.form) c.self.view_is) in
     let small = fits _ (slice_index c.args.self.now.msm.cells c.args.i) g.G.Grid.cell_widths (cell_widths c.self.inside.form) (ap (λ (v : FormedMsm). slice_index v.msm.cells c.args.i) c.self.view_is) widths (c.self.invariant.0.cells c.args.i) in
     ap g.G.Grid.cell_packed (returns-in-Bits-clause-value g c) ∙ g.met.G.Grid.cell_same _ small
-
-pub cell_of-requires : goal.cell_of-requires
-cell_of-requires g c =
-    let item = ap (λ (d : Data). slice_index (cell_rows c.self.inside.form c.self.inside.cells d) c.args.i) (sym c.in-Packed.is) ∙ ap (λ (v : FormedMsm). slice_index v.msm.cells c.args.i) c.self.view_is in
-    let widths = c.requires.widths ∙ sym (ap (λ (v : FormedMsm). cell_widths v.form) c.self.view_is) in
-    rw item (fits _ (slice_index c.args.self.now.msm.cells c.args.i) g.G.Grid.cell_widths (cell_widths c.self.inside.form) (ap (λ (v : FormedMsm). slice_index v.msm.cells c.args.i) c.self.view_is) widths (c.self.invariant.0.cells c.args.i))
-
-pub returns-in-Packed : goal.returns-in-Packed
-returns-in-Packed g c =
-    let item = ap (λ (d : Data). slice_index (cell_rows c.self.inside.form c.self.inside.cells d) c.args.i) (sym c.in-Packed.is) ∙ ap (λ (v : FormedMsm). slice_index v.msm.cells c.args.i) c.self.view_is in
-    let widths = c.requires.widths ∙ sym (ap (λ (v : FormedMsm). cell_widths v.form) c.self.view_is) in
-    let small = fits _ (slice_index c.args.self.now.msm.cells c.args.i) g.G.Grid.cell_widths (cell_widths c.self.inside.form) (ap (λ (v : FormedMsm). slice_index v.msm.cells c.args.i) c.self.view_is) widths (c.self.invariant.0.cells c.args.i) in
-    let value = c.cell_of.ensures ∙ ap g.G.Grid.cell_at item in
-    record { value = value; in_range = subst g.G.Grid.is_cell (sym value) (g.met.G.Grid.cell_in_range _ small); same = ap g.G.Grid.cell_packed value ∙ g.met.G.Grid.cell_same _ small }

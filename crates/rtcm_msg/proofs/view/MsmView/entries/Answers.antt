@@ -1,12 +1,7 @@
-use Rattle.std.proofs.Common.{List, ap, subst, arith}
+use Rattle.std.proofs.Common.{List, ap, subst}
 use Rattle.rtcm_msg.specs.Names.{Entry, MasksValue, AreAll, Unread}
-use Rattle.rtcm_msg.proofs.ValueLaws.{all_cells, all_entries, few_entries}
+use Rattle.rtcm_msg.proofs.ValueLaws.{all_entries, few_entries}
 use Rattle.rtcm_msg.proofs.view.MsmView.entries.Goals as goal
-
-pub invariant_of-result : goal.invariant_of-result
-invariant_of-result c =
-    let all = subst (λ (s : MasksValue). AreAll s c.of.result.left c.of.result.pairs) c.masks.ensures c.of.ensures.all in
-    (all_cells c.args.self.now c.of.result c.cells.result all c.of.ensures.none c.cells.ensures.count c.cells.ensures.set, λ h. absurd (omega (arith, h, c.satellites.ensures.count)))
 
 pub returns-clause-all : goal.returns-clause-all
 returns-clause-all c =

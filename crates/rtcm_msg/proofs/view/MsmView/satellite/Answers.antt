@@ -27,17 +27,3 @@ returns-in-Bits-clause-same g c =
     let widths = c.requires.widths ∙ sym (ap (λ (v : FormedMsm). satellite_widths v.form) c.self.view_is) in
     let small = fits _ (slice_index c.args.self.now.msm.satellites c.args.i) g.G.Grid.satellite_widths (satellite_widths c.self.inside.form) (ap (λ (v : FormedMsm). slice_index v.msm.satellites c.args.i) c.self.view_is) widths (c.self.invariant.0.satellites c.args.i) in
     ap g.G.Grid.satellite_packed (returns-in-Bits-clause-value g c) ∙ g.met.G.Grid.satellite_same _ small
-
-pub satellite_of-requires : goal.satellite_of-requires
-satellite_of-requires g c =
-    let item = ap (λ (d : Data). slice_index (satellite_rows c.self.inside.form c.self.inside.satellites d) c.args.i) (sym c.in-Packed.is) ∙ ap (λ (v : FormedMsm). slice_index v.msm.satellites c.args.i) c.self.view_is in
-    let widths = c.requires.widths ∙ sym (ap (λ (v : FormedMsm). satellite_widths v.form) c.self.view_is) in
-    rw item (fits _ (slice_index c.args.self.now.msm.satellites c.args.i) g.G.Grid.satellite_widths (satellite_widths c.self.inside.form) (ap (λ (v : FormedMsm). slice_index v.msm.satellites c.args.i) c.self.view_is) widths (c.self.invariant.0.satellites c.args.i))
-
-pub returns-in-Packed : goal.returns-in-Packed
-returns-in-Packed g c =
-    let item = ap (λ (d : Data). slice_index (satellite_rows c.self.inside.form c.self.inside.satellites d) c.args.i) (sym c.in-Packed.is) ∙ ap (λ (v : FormedMsm). slice_index v.msm.satellites c.args.i) c.self.view_is in
-    let widths = c.requires.widths ∙ sym (ap (λ (v : FormedMsm). satellite_widths v.form) c.self.view_is) in
-    let small = fits _ (slice_index c.args.self.now.msm.satellites c.args.i) g.G.Grid.satellite_widths (satellite_widths c.self.inside.form) (ap (λ (v : FormedMsm). slice_index v.msm.satellites c.args.i) c.self.view_is) widths (c.self.invariant.0.satellites c.args.i) in
-    let value = c.satellite_of.ensures ∙ ap g.G.Grid.satellite_at item in
-    record { value = value; in_range = subst g.G.Grid.is_satellite (sym value) (g.met.G.Grid.satellite_in_range _ small); same = ap g.G.Grid.satellite_packed value ∙ g.met.G.Grid.satellite_same _ small }
