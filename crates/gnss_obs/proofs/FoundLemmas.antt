@@ -80,12 +80,14 @@ found_more table slots s h (r ∷ rs) all = (by (r == s) refl, found_more table 
   by true e = let is : s ≡ r = grind (arith, e) in subst (IsFound (set table s (length slots)) (slots ++ s ∷ [])) is (found_one table slots s h)
   by false e = found_other table slots s r (λ is. absurd (grind (arith, is, e))) all.0
 
+pub slots_push : (buffer : List Cell) (count s : ℕ) (x : Cell) → count < length buffer → s ≡ slot x → map slot (take (count + 1) (set buffer count x)) ≡ map slot (take count buffer) ++ s ∷ []
+slots_push buffer count s x room is =
+    ap (map slot) (take_more_set buffer count x room) ∙ map-append slot (take count buffer) (x ∷ []) ∙ ap (λ k. map slot (take count buffer) ++ k ∷ []) (sym is)
+
 pub found_push : (table : List ℕ) (buffer : List Cell) (count s : ℕ) (x : Cell) → count < length buffer → s ≡ slot x → s < length table → AreFound table (take count buffer)
     → AreFound (set table s count) (take (count + 1) (set buffer count x))
 found_push table buffer count s x room is within all =
     let slots = map slot (take count buffer) in
     let some = slots_length buffer count (omega (arith, room)) in
-    let more : map slot (take (count + 1) (set buffer count x)) ≡ slots ++ s ∷ [] =
-    ap (map slot) (take_more_set buffer count x room) ∙ map-append slot (take count buffer) (x ∷ []) ∙ ap (λ k. slots ++ k ∷ []) (sym is) in
-    subst (λ l. AllByRecursion (IsFound (set table s count) l) l) (sym more)
+    subst (λ l. AllByRecursion (IsFound (set table s count) l) l) (sym (slots_push buffer count s x room is))
     (subst (λ n. AllByRecursion (IsFound (set table s n) (slots ++ s ∷ [])) (slots ++ s ∷ [])) some (found_more table slots s within slots all))

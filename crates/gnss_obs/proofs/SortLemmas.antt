@@ -1,14 +1,15 @@
 -- Cells sorted by numbers, and cells that are in order.
-use Rattle.std.proofs.Common.{◌≡◌, ℕ, ◌+◌, ◌*◌, ◌<◌, ◌≤◌, ◌==◌, Bool, true, false, ◌||◌, List, [], ◌∷◌, ◌++◌, map, drop, refl, sym, ap, ap₂, ◌∙◌, subst, arith, length, get_or, Option, Some, None, All, nat_eq, is_some}
-use Rattle.std.specs.Prelude.{⊤, fold, nat_lt, position}
-use Rattle.std.proofs.lemmas.List.{append_assoc, append-nil, drop_more, get_or-map, length-append}
+use Rattle.std.proofs.Common.{◌≡◌, ℕ, zero, suc, ◌+◌, ◌*◌, ◌<◌, ◌≤◌, ◌==◌, Bool, true, false, ◌||◌, List, [], ◌∷◌, ◌++◌, map, drop, refl, sym, ap, ap₂, ◌∙◌, subst, arith, length, get_or, Option, Some, None, All, nat_eq, is_some}
+use Rattle.std.specs.Prelude.{◌&&◌, fold, nat_lt, position}
+use Rattle.std.proofs.lemmas.List.{append_assoc, append-nil, get_or-map, length-append}
 use Rattle.std.proofs.lemmas.List.Elements.{All-append, All-cons, All-from_recursion, All-get_or, All-head, All-nil, All-push, All-tail, All-weaker}
 use Rattle.std.proofs.lemmas.List.Quantifiers.{position-Some}
 use Rattle.std.proofs.lemmas.List.Sorted.{All-permutation, IsPermutation-sym, length_permutation}
 use Rattle.std.proofs.lemmas.Map.Keys.{apart_from_distinct}
+use Rattle.gnss_obs.specs.Order.{Rise, RiseTo}
 use Rattle.gnss_obs.specs.Names.{AreBelow, AreHeld, AreInPlanOrder, Cell, IsHeld, IsOf, IsSignal, SignalAt, System, has_slot, indices, IsDistinct, satellites, slot, table, place_in, SortKey, is_before, SortKeysRise, insert_by, cell_sort_key, sorted_cells, sorted_epoch, cell_number, EpochValue, PlanValue, AreInOrder, option_map_or, AllByRecursion}
 use Rattle.gnss_obs.proofs.HeldLemmas.{held_sorted, low_index}
-use Rattle.gnss_obs.proofs.OrderLemmas.{sort_moves}
+use Rattle.gnss_obs.proofs.OrderLemmas.{Before, sort_moves}
 use Rattle.gnss_obs.proofs.PlanLemmas.{few_signals, length_indices}
 use Rattle.std.proofs.lemmas.Grind.{common_steps}
 
@@ -311,32 +312,74 @@ pub sorted_again : (p : PlanValue) (e : EpochValue) → AreInOrder p (sorted_epo
 sorted_again p e h =
     ap₂ (λ gps galileo. record { time = e.time; gps = gps; galileo = galileo }) (sorted_same p.gps (sorted_cells p.gps e.gps) h.gps.rise) (sorted_same p.galileo (sorted_cells p.galileo e.galileo) h.galileo.rise)
 
--- Each number is greater than the one before it, and the first than this one.
-abbrev pub Rises : ℕ → List ℕ → Type 0
-Rises last [] = ⊤
-Rises last (n ∷ ns) = (last < n) × Rises n ns
+-- ---- cells in the order of their slots
 
-rises_least : (a b : ℕ) (ns : List ℕ) → a ≤ b → Rises b ns → Rises a ns
-rises_least a b [] h r = tt
-rises_least a b (n ∷ ns) h r = (let l = r.0 in omega (arith, h, l), r.1)
+all_push : (n x : ℕ) (ns : List ℕ) → n < x → AllByRecursion (λ m. n < m) ns → AllByRecursion (λ m. n < m) (ns ++ x ∷ [])
+all_push n x [] h all = (h, tt)
+all_push n x (m ∷ ns) h all = (all.0, all_push n x ns h all.1)
 
-before_rest : (planned : List ℕ) (c : Cell) (cells : List Cell) → length planned ≤ 64 → Rises (cell_number planned c) (map (cell_number planned) cells)
-    → AllByRecursion (λ t. is_before (cell_sort_key planned c) t ≡ true) (map (cell_sort_key planned) cells)
-before_rest planned c [] few r = tt
-before_rest planned c (x ∷ cells) few r =
-    let less : nat_lt (cell_number planned c) (cell_number planned x) ≡ true = let l = r.0 in grind (arith, l) in
-    let l = r.0 in
-    (before_number planned c x few ∙ less, before_rest planned c cells few (rises_least (cell_number planned c) (cell_number planned x) (map (cell_number planned) cells) (omega (arith, l)) r.1))
+-- One more number, of at least the bound.
+pub rise_push : (bound x : ℕ) (ns : List ℕ) → bound ≤ x → RiseTo bound ns → RiseTo (x + 1) (ns ++ x ∷ [])
+rise_push bound x [] h r = (omega arith, tt, tt)
+rise_push bound x (n ∷ ns) h r = let l = r.0 in (omega (arith, h, l), all_push n x ns (omega (arith, h, l)) r.1, rise_push bound x ns h r.2)
 
-keys_rise : (planned : List ℕ) (last : ℕ) (cells : List Cell) → length planned ≤ 64 → Rises last (map (cell_number planned) cells) → SortKeysRise (map (cell_sort_key planned) cells)
-keys_rise planned last [] few r = tt
-keys_rise planned last (c ∷ cells) few r = (before_rest planned c cells few r.1, keys_rise planned (cell_number planned c) cells few r.1)
+all_at : (n : ℕ) (ns : List ℕ) (i : ℕ) → AllByRecursion (λ m. n < m) ns → i < length ns → n < get_or ns i 0
+all_at n [] i all h = absurd (omega (arith, h))
+all_at n (m ∷ ns) zero all h = all.0
+all_at n (m ∷ ns) (suc i) all h = all_at n ns i all.1 (omega (arith, h))
 
--- Cells whose numbers rise are their own sorted list.
-pub rises_sorted : (planned : List ℕ) (cells : List Cell) → length planned ≤ 64 → Rises 0 (map (cell_number planned) cells) → sorted_cells planned cells ≡ cells
-rises_sorted planned cells few r = sorted_same planned cells (keys_rise planned 0 cells few r)
+rise_at : (bound : ℕ) (ns : List ℕ) (i j : ℕ) → RiseTo bound ns → i < j → j < length ns → get_or ns i 0 < get_or ns j 0
+rise_at bound [] i j r h k = absurd (omega (arith, k))
+rise_at bound (n ∷ ns) i zero r h k = absurd (omega (arith, h))
+rise_at bound (n ∷ ns) zero (suc j) r h k = all_at n ns j r.1 (omega (arith, k))
+rise_at bound (n ∷ ns) (suc i) (suc j) r h k = rise_at bound ns i j r.2 (omega (arith, h)) (omega (arith, k))
 
--- One more number.
-pub rises_more : (planned : List ℕ) (cells : List Cell) (i last : ℕ) (d : Cell) → i < length cells → last < cell_number planned (get_or cells i d)
-    → Rises (cell_number planned (get_or cells i d)) (map (cell_number planned) (drop (i + 1) cells)) → Rises last (map (cell_number planned) (drop i cells))
-rises_more planned cells i last d h less r = subst (λ l. Rises last (map (cell_number planned) l)) (sym (drop_more cells i d h)) (less, r)
+abbrev IsPlannedCell : List ℕ → Cell → Type 0
+IsPlannedCell planned c = IsPlanned planned c × (c.signal.index < 32)
+
+-- If the planned signals are in the order of their indices, the sort keys compare as the slots do.
+before_slot : (bound : ℕ) (planned : List ℕ) (c d : Cell) → RiseTo bound planned → IsPlannedCell planned c → IsPlannedCell planned d → slot c < slot d
+    → is_before (cell_sort_key planned c) (cell_sort_key planned d) ≡ true
+before_slot bound planned c d r h k less =
+    let p = placed planned c h.0 in
+    let q = placed planned d k.0 in
+    ap₂ (λ o u. is_before (record { satellite = c.satellite.id; place = option_map_or (λ n. n) o 0 }) (record { satellite = d.satellite.id; place = option_map_or (λ n. n) u 0 })) p.1.0 q.1.0
+    ∙ compare c.satellite.id d.satellite.id p.0 q.0 c.signal.index d.signal.index h.1 k.1 less (places p.0 q.0 p.1 q.1) where
+      places : (p q : ℕ) → IsPlaced planned c p → IsPlaced planned d q → c.signal.index < d.signal.index → p < q
+      places p q at bt l = by (nat_lt p q) (nat_lt q p) refl refl where
+        by : (e f : Bool) → nat_lt p q ≡ e → nat_lt q p ≡ f → p < q
+        by true f x y = grind (arith, x)
+        by false true x y = let back = rise_at bound planned q p r (grind (arith, y)) at.1 in absurd (omega (arith, back, at.2, bt.2, l))
+        by false false x y = let same : p ≡ q = grind (arith, x, y) in let e = ap (λ n. get_or planned n 0) same in absurd (omega (arith, e, at.2, bt.2, l))
+
+      compare : (i j p q a b : ℕ) → a < 32 → b < 32 → 32 * i + a < 32 * j + b → (a < b → p < q) → is_before (record { satellite = i; place = p }) (record { satellite = j; place = q }) ≡ true
+      compare i j p q a b h k less more = by (nat_lt i j) refl where
+        by : (e : Bool) → nat_lt i j ≡ e → (e || ((i == j) && nat_lt p q)) ≡ true
+        by true x = refl
+        by false x =
+            let far : j ≤ i = grind (arith, x) in
+            let same : i ≡ j = omega (arith, far, less, h, k) in
+            let next = more (omega (arith, same, less)) in
+            grind (arith, same, next)
+
+slots_first : (bound : ℕ) (planned : List ℕ) (c : Cell) (cells : List Cell) → RiseTo bound planned → IsPlannedCell planned c → All (IsPlannedCell planned) cells
+    → AllByRecursion (λ n. slot c < n) (map slot cells) → Before (cell_sort_key planned c) (map (cell_sort_key planned) cells)
+slots_first bound planned c [] r h all less = tt
+slots_first bound planned c (d ∷ cells) r h all less =
+    (before_slot bound planned c d r h (All-head (IsPlannedCell planned) d cells all) less.0, slots_first bound planned c cells r h (All-tail (IsPlannedCell planned) d cells all) less.1)
+
+slots_rise : (bound top : ℕ) (planned : List ℕ) (cells : List Cell) → RiseTo bound planned → All (IsPlannedCell planned) cells → RiseTo top (map slot cells) → SortKeysRise (map (cell_sort_key planned) cells)
+slots_rise bound top planned [] r all s = tt
+slots_rise bound top planned (c ∷ cells) r all s =
+    let rest = All-tail (IsPlannedCell planned) c cells all in
+    (slots_first bound planned c cells r (All-head (IsPlannedCell planned) c cells all) rest s.1, slots_rise bound top planned cells r rest s.2)
+
+pub slots_sorted : (system : System) (planned : List ℕ) (cells : List Cell) → AreHeld system cells → AreInPlanOrder system planned (sorted_cells planned cells) → Rise planned → Rise (map slot cells)
+    → sorted_cells planned cells ≡ cells
+slots_sorted system planned cells held order r s =
+    sorted_same planned cells (slots_rise r.0 s.0 planned cells r.1 (both cells held.each (planned_cells system planned cells order)) s.1) where
+      both : (cells : List Cell) → All (IsHeld system) cells → All (IsPlanned planned) cells → All (IsPlannedCell planned) cells
+      both [] h k = All-nil (IsPlannedCell planned)
+      both (c ∷ cells) h k =
+          All-cons (IsPlannedCell planned) c cells (All-head (IsPlanned planned) c cells k, low_index c.signal (All-head (IsHeld system) c cells h).place)
+          (both cells (All-tail (IsHeld system) c cells h) (All-tail (IsPlanned planned) c cells k))

@@ -1,5 +1,5 @@
 -- The order of kept cells: by satellite, then by the order of the plan.
-use Rattle.std.specs.Prelude.{ℕ, ◌≡◌, ◌==◌, ◌&&◌, ◌||◌, ⊤, Bool, true, nat_lt, List, [], ◌∷◌, fold, map}
+use Rattle.std.specs.Prelude.{ℕ, ◌≡◌, ◌<◌, ◌==◌, ◌&&◌, ◌||◌, ⊤, Bool, true, nat_lt, List, [], ◌∷◌, fold, map}
 use Rattle.std.specs.Prelude.{if◌then◌else◌}
 use Rattle.std.specs.Option.{option_map_or}
 use Rattle.std.specs.List.{AllByRecursion}
@@ -33,6 +33,23 @@ SortKeysRise (s ∷ ss) = AllByRecursion (λ t. is_before s t ≡ true) ss × So
 abbrev pub insert_by : {X : Type 0} → (X → SortKey) → X → List X → List X
 insert_by at x [] = x ∷ []
 insert_by at x (y ∷ ys) = if is_before (at x) (at y) then x ∷ y ∷ ys else y ∷ insert_by at x ys
+
+-- ---- numbers in order
+
+-- Each number is less than all after it, and than this bound.
+abbrev pub RiseTo : ℕ → List ℕ → Type 0
+RiseTo bound [] = ⊤
+RiseTo bound (n ∷ ns) = (n < bound) × AllByRecursion (λ m. n < m) ns × RiseTo bound ns
+
+abbrev pub Rise : List ℕ → Type 0
+Rise ns = (bound : ℕ) × RiseTo bound ns
+
+-- The bound of numbers that don't rise.
+abbrev pub no_bound : ℕ
+no_bound = 2048
+
+abbrev pub IsBound : ℕ → List ℕ → Type 0
+IsBound bound ns = bound < no_bound → RiseTo bound ns
 
 -- ---- cells
 

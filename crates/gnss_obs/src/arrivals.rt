@@ -8,7 +8,7 @@ ghost use Rattle.gnss_obs.specs.Values.{AreHeld, cells_of, planned_of};
 use crate::cell::{Cell, StationValues};
 use crate::cells::Cells;
 use crate::epoch::{Epoch, MOST_CELLS};
-use crate::order::{are_in_order, sort_into};
+use crate::order::sort_into;
 use crate::plan::Plan;
 use crate::system::System;
 use crate::time::GpsTime;
@@ -163,15 +163,17 @@ fn add(cells: &mut Cells, x: Cell) -> Added
     Added::Kept
 }
 
-// Sorts the cells of a system. They are copied only if they aren't in order.
+// Sorts the cells of a system. They are copied only if they or the planned signals aren't in the
+// order of the signals' indices.
 fn sort(cells: &mut Box<Cells>, plan: &Plan, system: System, spare: &mut Box<Cells>)
     requires held { AreHeld system cells.old.value }
     requires order { AreInPlanOrder system (planned_of system plan.now)
         (sorted_cells (planned_of system plan.now) cells.old.value) }
     ensures { cells.new.value ≡ sorted_cells (planned_of system plan.now) cells.old.value }
 {
-    if !are_in_order(cells.as_slice(), plan, system) {
-        sort_into(spare, cells, plan, system);
-        mem::swap(cells, spare);
+    if cells.is_by_index() && plan.is_by_index(system) {
+        return;
     }
+    sort_into(spare, cells, plan, system);
+    mem::swap(cells, spare);
 }

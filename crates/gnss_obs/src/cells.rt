@@ -1,11 +1,13 @@
 //! The cells of one system of an epoch.
-ghost use Rattle.std.specs.Prelude.{◌≡◌, ◌<◌, ◌≤◌, ◌++◌, ◌∷◌, [], length, map, get_or, is_some, IfSome};
+ghost use Rattle.std.specs.Prelude.{◌≡◌, ◌<◌, ◌≤◌, ◌++◌, ◌∷◌, [], true, length, map, get_or, is_some, IfSome};
 ghost use Rattle.gnss_obs.specs.declared.cell.Cell.{Cell};
 ghost use Rattle.gnss_obs.specs.Arriving.{has_slot, slot, most_slots};
+ghost use Rattle.gnss_obs.specs.Order.{Rise};
 ghost use Rattle.gnss_obs.specs.Values.{most_cells};
 
 use crate::cell::Cell;
 use crate::epoch::MOST_CELLS;
+use crate::order::{NO_BOUND, bound_after};
 use std::marker::Model;
 
 /// Number of entries of the table that finds a cell by its satellite and signal: 32 for each
@@ -21,12 +23,15 @@ pub struct Cells {
     // The index of the last cell of each key. An entry of a key without a cell may be any number:
     // so no entry has to be cleared.
     table: [u8; SLOTS],
+    // The bound of the indices in the table, in the order of the cells.
+    bound: usize,
 }
 
 impl Model for Cells {
-    ghost use Rattle.std.specs.Prelude.{List, ◌≡◌, ◌≤◌, length, take};
+    ghost use Rattle.std.specs.Prelude.{List, ◌≡◌, ◌≤◌, length, map, take};
     ghost use Rattle.gnss_obs.specs.Values.{most_cells};
-    ghost use Rattle.gnss_obs.specs.Arriving.{AreFound, most_slots};
+    ghost use Rattle.gnss_obs.specs.Arriving.{AreFound, most_slots, slot};
+    ghost use Rattle.gnss_obs.specs.Order.{IsBound};
     ghost use Rattle.gnss_obs.specs.declared.cell.Cell.{Cell};
 
     ghost Value = { List Cell };
@@ -35,7 +40,7 @@ impl Model for Cells {
 
     ghost invariant = { λ c.
         (c.count ≤ most_cells) × (length c.buffer ≡ 256) × (length c.table ≡ most_slots)
-        × AreFound c.table (take c.count c.buffer) };
+        × AreFound c.table (take c.count c.buffer) × IsBound c.bound (map slot (take c.count c.buffer)) };
 }
 
 impl Cells {
@@ -48,6 +53,7 @@ impl Cells {
             count: 0,
             // Most epochs have fewer cells, so that one comparison shows that there is none.
             table: [255; SLOTS],
+            bound: 0,
         }
     }
 
@@ -56,6 +62,7 @@ impl Cells {
         ensures { self.new ≡ [] }
     {
         self.count = 0;
+        self.bound = 0;
     }
 
     /// Returns the cells.
@@ -102,9 +109,19 @@ impl Cells {
         ensures { self.new ≡ self.old ++ x ∷ [] }
     {
         let at = self.count;
-        self.table[slot(&x)] = at as u8;
+        let entry = slot(&x);
+        self.table[entry] = at as u8;
         self.buffer[at] = x;
         self.count = at + 1;
+        self.bound = bound_after(self.bound, entry);
+    }
+
+    /// Returns `true` only if the cells are in the order of their satellites, and then of the
+    /// indices of their signals.
+    pub fn is_by_index(&self) -> bool
+        ensures { result ≡ true → Rise (map slot self.now) }
+    {
+        self.bound < NO_BOUND
     }
 }
 

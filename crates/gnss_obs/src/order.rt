@@ -1,32 +1,28 @@
 //! Cells in the order of their satellites and of a plan.
-ghost use Rattle.std.specs.Prelude.{◌≡◌, ◌+◌, ◌*◌, ◌<◌, ◌≤◌, true};
-ghost use Rattle.gnss_obs.specs.Arriving.{sorted_cells, cell_number, AreBelow};
+ghost use Rattle.std.specs.Prelude.{◌≡◌, ◌+◌, ◌*◌, ◌<◌, ◌≤◌, ◌++◌, ◌∷◌, [], List, ℕ};
+ghost use Rattle.gnss_obs.specs.Arriving.{sorted_cells, AreBelow};
 ghost use Rattle.gnss_obs.specs.Kept.{AreInPlanOrder};
+ghost use Rattle.gnss_obs.specs.Order.{IsBound, no_bound};
 ghost use Rattle.gnss_obs.specs.Satellites.{satellites};
 ghost use Rattle.gnss_obs.specs.SignalLists.{indices, IsOf};
 ghost use Rattle.gnss_obs.specs.Values.{AreHeld, planned_of};
 
-use crate::cell::Cell;
 use crate::cells::Cells;
 use crate::plan::Plan;
 use crate::signal::Signal;
 use crate::system::System;
 
-/// Returns whether the cells are in the order of their satellites and then of the plan.
-pub(crate) fn are_in_order(cells: &[Cell], plan: &Plan, system: System) -> bool
-    ensures { result ≡ true → sorted_cells (planned_of system plan.now) cells.now ≡ cells.now }
+/// The bound of numbers of which one is not greater than the one before it.
+pub(crate) const NO_BOUND: usize = 2_048;
+
+/// Returns the bound of numbers after one more: the last one plus 1, if each is greater than the
+/// one before it, else `NO_BOUND`. Without a number it is 0.
+#[inline(always)]
+pub(crate) fn bound_after(bound: usize, number: usize) -> usize
+    requires { number < no_bound }
+    ensures { (ns : List ℕ) → IsBound bound ns → IsBound result (ns ++ number ∷ []) }
 {
-    // This call is for the proof: it bounds the number of planned signals.
-    let _count = plan.signals(system);
-    let mut last = 0;
-    for i in 0..cells.len() {
-        let number = number_of(&cells[i], plan, system);
-        if number <= last {
-            return false;
-        }
-        last = number;
-    }
-    true
+    if number < bound { NO_BOUND } else { number + 1 }
 }
 
 /// Copies cells in the order of their satellites and then of the plan.
@@ -61,17 +57,4 @@ fn copy_satellite(sorted: &mut Cells, cells: &Cells, signals: &[Signal], system:
             sorted.push(cells.as_slice()[at]);
         }
     }
-}
-
-// Returns a number of at most 4,095 that rises with the satellite of a cell, and then with the
-// index of its signal in the plan.
-#[inline(always)]
-fn number_of(x: &Cell, plan: &Plan, system: System) -> u32
-    ensures value { result ≡ cell_number (planned_of system plan.now) x.now }
-    ensures bound { result < 4096 }
-{
-    // This call is for the proof: it bounds the number of planned signals.
-    let _count = plan.signals(system);
-    let place = plan.place_among(system, x.signal).unwrap_or(0);
-    64 * x.satellite.id() as u32 + place as u32
 }

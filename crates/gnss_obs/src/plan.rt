@@ -1,7 +1,8 @@
 //! Plans: the wanted signals of each system.
-ghost use Rattle.std.specs.Prelude.{◌≡◌, ◌<◌, ◌≤◌, ◌+◌, [], length, slice_index, IfErr, IsOk, Err};
+ghost use Rattle.std.specs.Prelude.{◌≡◌, ◌<◌, ◌≤◌, ◌+◌, [], true, length, slice_index, IfErr, IsOk, Err};
 ghost use Rattle.gnss_obs.specs.declared.system.System.TheVariants.{Gps, Galileo};
 ghost use Rattle.gnss_obs.specs.Signals.{table};
+ghost use Rattle.gnss_obs.specs.Order.{Rise};
 ghost use Rattle.gnss_obs.specs.Values.{planned_of};
 ghost use Rattle.gnss_obs.specs.Plans.{plan_of, signals_of, signals_coded, place_in};
 ghost use Rattle.gnss_obs.specs.SignalLists.{indices, IsOf, ArePlanned, HasEvery, IsPushed};
@@ -134,6 +135,13 @@ impl Plan {
         ensures { result ≡ place_in signal (planned_of system self.now) }
     {
         self.list(system).place(signal)
+    }
+
+    // Returns `true` only if the wanted signals of a system are in the order of their indices.
+    pub(crate) fn is_by_index(&self, system: System) -> bool
+        ensures { result ≡ true → Rise (planned_of system self.now) }
+    {
+        self.list(system).is_by_index()
     }
 
     // Returns the list of the wanted signals of a system.

@@ -2,9 +2,11 @@
 ghost use Rattle.std.specs.Prelude.{◌≡◌, ◌↔◌, ◌==◌, [], IsTrue, length, true, false, Ok, OnErr};
 ghost use Rattle.std.specs.List.{list_any};
 ghost use Rattle.gnss_obs.specs.Signals.{SignalAt};
+ghost use Rattle.gnss_obs.specs.Order.{Rise};
 ghost use Rattle.gnss_obs.specs.Plans.{place_in};
 ghost use Rattle.gnss_obs.specs.SignalLists.{indices, IsAdded, IsOf};
 
+use crate::order::{NO_BOUND, bound_after};
 use crate::signal::Signal;
 use crate::tables::GALILEO_SIGNAL_COUNT;
 use indexmap::IndexSet;
@@ -18,18 +20,21 @@ pub struct Signals {
     // The index of each signal in `order`, by its index in the table of its system, so that no
     // search asks the set. The table of Galileo is the longest.
     places: [Option<usize>; GALILEO_SIGNAL_COUNT],
+    // The bound of the indices in the table, in the order of the signals.
+    bound: usize,
 }
 
 impl Model for Signals {
     ghost use Rattle.std.specs.Prelude.{List};
     ghost use Rattle.gnss_obs.specs.Signals.{SignalAt};
+    ghost use Rattle.gnss_obs.specs.Order.{IsBound};
     ghost use Rattle.gnss_obs.specs.SignalLists.{indices, AreFound};
 
     ghost Value = { List SignalAt };
 
     ghost view = { λ s. s.order.keys };
 
-    ghost invariant = { λ s. AreFound s.places (indices s.order.keys) };
+    ghost invariant = { λ s. AreFound s.places (indices s.order.keys) × IsBound s.bound (indices s.order.keys) };
 }
 
 impl Signals {
@@ -40,6 +45,7 @@ impl Signals {
         Signals {
             order: IndexSet::new(alloc),
             places: [None; GALILEO_SIGNAL_COUNT],
+            bound: 0,
         }
     }
 
@@ -61,6 +67,7 @@ impl Signals {
             Ok((place, is_new)) => {
                 if is_new {
                     self.places[index] = Some(place);
+                    self.bound = bound_after(self.bound, index);
                 }
                 Ok(is_new)
             }
@@ -94,5 +101,12 @@ impl Signals {
         ensures { result ≡ place_in signal (indices self.now) }
     {
         self.places[signal.index()]
+    }
+
+    // Returns `true` only if the signals are in the order of their indices.
+    pub(crate) fn is_by_index(&self) -> bool
+        ensures { result ≡ true → Rise (indices self.now) }
+    {
+        self.bound < NO_BOUND
     }
 }

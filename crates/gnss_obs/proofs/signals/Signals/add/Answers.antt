@@ -1,4 +1,5 @@
 use Rattle.std.proofs.Common.{◌≡◌, ℕ, nat_eq, ◌==◌, ◌++◌, ◌∷◌, [], ◌≤◌, true, false, List, length, sym, ap, ◌∙◌, subst, arith, rules}
+use Rattle.gnss_obs.specs.Order.{IsBound}
 use Rattle.gnss_obs.specs.Names.{SignalAt, indices, IsOf, list_any}
 use Rattle.gnss_obs.proofs.PlanLemmas.{any_index, indices-push, length_indices}
 use Rattle.gnss_obs.proofs.SignalLemmas.{was_new, was_there, found_more}
@@ -11,9 +12,12 @@ invariant_of-self c =
     let of = subst (IsOf s.system) (sym c.self.view_is) c.requires in
     let a = was_new _ (λ a b e. grind arith) s keys _ _ c.in-Ok.place c.in-Ok.ensures.unique of c.index-index.ensures.listed c.in-Ok.ensures.keys c.in-Ok.ensures.added c.in-Ok.ensures.index c.if-is_new.true in
     let room : 19 ≤ length c.self.inside.places = omega arith in
-    found_more c.self.inside.places (indices keys) _ c.index-index.result c.in-Ok.place c.self.invariant (search rules) room
-    (ap (λ (n : ℕ). list_any (nat_eq n) (indices keys)) c.index-index.ensures.value ∙ sym (any_index s.index keys) ∙ a.1) (a.3 ∙ sym (length_indices keys))
-    (ap indices a.0 ∙ indices-push keys s ∙ ap (λ (n : ℕ). indices keys ++ n ∷ []) (sym c.index-index.ensures.value))
+    let more = ap indices a.0 ∙ indices-push keys s ∙ ap (λ (n : ℕ). indices keys ++ n ∷ []) (sym c.index-index.ensures.value) in (
+      found_more c.self.inside.places (indices keys) _ c.index-index.result c.in-Ok.place c.self.invariant.0 (search rules) room
+          (ap (λ (n : ℕ). list_any (nat_eq n) (indices keys)) c.index-index.ensures.value ∙ sym (any_index s.index keys) ∙ a.1) (a.3 ∙ sym (length_indices keys))
+          more,
+      subst (IsBound c.bound_after-self-inside.result) (sym more) (c.bound_after-self-inside.ensures (indices keys) c.self.invariant.1),
+    )
 
 pub returns-then-is_new-clause-new : goal.returns-then-is_new-clause-new
 returns-then-is_new-clause-new c = λ e.

@@ -1,0 +1,12 @@
+use Rattle.std.proofs.Common.{map, subst, sym}
+use Rattle.gnss_obs.specs.Arriving.{slot}
+use Rattle.gnss_obs.specs.Order.{Rise}
+use Rattle.gnss_obs.specs.Values.{planned_of}
+use Rattle.gnss_obs.proofs.SortLemmas.{slots_sorted}
+use Rattle.gnss_obs.proofs.arrivals.sort.Goals as goal
+
+pub returns-then-is_by_index-2 : goal.returns-then-is_by_index-2
+returns-then-is_by_index-2 c =
+    sym (slots_sorted c.args.system (planned_of c.args.system c.args.plan.now) c.args.cells.now.value c.requires.held c.requires.order
+    (c.is_by_index-then-is_by_index.ensures c.if-is_by_index-2.true)
+    (subst (λ cells. Rise (map slot cells)) c.deref.ensures (c.is_by_index.ensures c.if-is_by_index.true)))
