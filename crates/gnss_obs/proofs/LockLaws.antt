@@ -1,15 +1,7 @@
 -- The test for a loss of lock.
-use Rattle.std.proofs.Common.{ℕ, ◌≡◌, ◌<◌, ◌≤◌, ◌↔◌, IsTrue, Option, Some, None, arith, rules, refl, ◌+◌, ◌*◌, ◌^◌, ◌==◌, ◌||◌, nat_lt}
-use Rattle.gnss_obs.specs.LockTimes.{LockTime, IsLost, lost, doublings, least4, least7, no_time}
+use Rattle.std.proofs.Common.{ℕ, ◌≡◌, ◌<◌, ◌≤◌, arith, refl, ◌+◌, ◌*◌, ◌^◌, ◌==◌, ◌||◌, nat_lt}
+use Rattle.gnss_obs.specs.LockTimes.{doublings, least4, least7, no_time}
 use Rattle.gnss_obs.proofs.Checked.{passes_at, is_less, is_equal, unless_less}
-
-pub lost_is : (earlier later : LockTime) (elapsed : ℕ) → IsTrue (lost earlier.least later.least later.upper elapsed) ↔ IsLost earlier later elapsed
-lost_is earlier later elapsed = cases earlier.least later.least later.upper where
-  cases : (before least upper : Option ℕ) → IsTrue (lost before least upper elapsed) ↔ IsLost (record { least = before; upper = None }) (record { least = least; upper = upper }) elapsed
-  cases None least upper = search rules
-  cases (Some before) None upper = search rules
-  cases (Some before) (Some least) None = search rules
-  cases (Some before) (Some least) (Some upper) = search rules
 
 -- the steps of the indicators, each computed
 pub rising4 : (i : ℕ) → i < 15 → least4 i < least4 (i + 1)

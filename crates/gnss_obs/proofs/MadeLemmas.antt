@@ -1,5 +1,5 @@
 -- The plan of two lists of signals, or its fault.
-use Rattle.std.proofs.Common.{◌≡◌, ℕ, ◌+◌, ◌<◌, true≢false, List, [], ◌∷◌, length, refl, sym, ap, ap₂, ◌∙◌, subst, arith, ◌⊎◌, inl, inr, Result, Ok, Err, IfErr, IsOk, MatchResult, is_ok}
+use Rattle.std.proofs.Common.{◌≡◌, ℕ, ◌+◌, ◌<◌, true≢false, List, [], ◌∷◌, length, refl, sym, ap, ap₂, ◌∙◌, subst, arith, ◌⊎◌, inl, inr, Result, Ok, Err, IfErr, MatchResult, is_ok}
 use Rattle.std.specs.Result.{result_and}
 use Rattle.gnss_obs.specs.Names.{Gps, Galileo, PlanFault, UnknownCode, RepeatedCode, NothingPlanned, BadWeek, BadStation, Memory, SignalAt, PlanValue, plan_of, signals_of, indices, IsOf, ArePlanned, DoneOr, IsDefined, IsMade, IsMemoryFaultOr, IsPlanResult, IsUnfit, IsUnplanned}
 use Rattle.gnss_obs.proofs.FitLemmas.{unfit_not_of}
@@ -8,10 +8,6 @@ use Rattle.std.proofs.lemmas.Grind.{common_steps}
 abbrev fault_of : {A : Type 0} → Result A PlanFault → PlanFault
 fault_of (Ok u) = Memory
 fault_of (Err e) = e
-
-pub done_if : {A : Type 0} (P : PlanFault → Type 0) (Done : Type 0) (added : Result A PlanFault) → DoneOr P Done added → IsOk added → Done
-done_if P Done (Ok u) is ok = is
-done_if P Done (Err e) is ok = absurd (true≢false (sym ok))
 
 made : {A : Type 0} (P : PlanFault → Type 0) (Done : Type 0) (added : Result A PlanFault) (ss ts : List SignalAt) (result : Result PlanValue PlanFault) → DoneOr P Done added
     → IsMade added ss ts result

@@ -57,17 +57,8 @@ shift_small s v h =
     shift_below (unsigned_abs a) (unsigned_abs (pos 0 -ℤ a)) (unsigned_abs t) (turned a) (product_within v (hertz_of s) (10 ^ 8) most_hertz h (hertz_within s))
     (nearest_bound (pos 0 -ℤ a) (10 * light) t (nearest_is (pos 0 -ℤ a) (10 * light) (lit< tt)))
 
-pub decibels_between : (s : ℕ) → 0 < s → s < 1024 → (pos 1 ≤ℤ nearest_strength s) × (nearest_strength s ≤ℤ pos 99_999)
-decibels_between s some few = (omega (arith, ints, some), omega (arith, ints, few))
-
 pub strength_within : (s : ℕ) → s < 1024 → (pos 0 ≤ℤ nearest_strength s) × (nearest_strength s <ℤ pos 100_000)
 strength_within s few = (omega (arith, ints), omega (arith, ints, few))
-
-pub strength_small : (s : ℕ) → s < 1024 → unsigned_abs (nearest_strength s) < 10 ^ 12
-strength_small s few = omega (arith, ints, few)
-
-pub strength_positive : (s : ℕ) → 0 < s → pos 0 <ℤ nearest_strength s
-strength_positive s some = omega (arith, ints, some)
 
 -- ---- the arguments of a rounding
 

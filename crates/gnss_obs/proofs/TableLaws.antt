@@ -1,8 +1,8 @@
 -- The signal tables: their IDs rise row by row, each ID and each code has one row, and each ID the row that is listed
 -- for it.
-use Rattle.std.proofs.Common.{ℕ, ◌≡◌, ◌+◌, ◌<◌, ◌≤◌, ◌==◌, ◌&&◌, true≢false, [], get_or, Bool, true, false, nat_lt, length, position, List, Option, Some, None, Bor, slice_index_or, refl, sym, ap, ◌∙◌, arith, lit≤, slice_get, unwrap_or, option_copied, option_map, is_some, IfSome, bytes_eq}
+use Rattle.std.proofs.Common.{ℕ, ◌≡◌, ◌+◌, ◌<◌, ◌≤◌, ◌==◌, ◌&&◌, true≢false, Bool, true, false, nat_lt, length, position, List, Option, Some, None, Bor, slice_index_or, refl, sym, ap, arith, slice_get, unwrap_or, option_copied, option_map, is_some, IfSome}
 use Rattle.std.proofs.lemmas.Option.{slice_get_past, slice_get_read}
-use Rattle.gnss_obs.specs.Names.{System, ListedSignal, Gps, Galileo, SignalAt, IsSignal, after, code_of, greatest_signal_id, hertz_of, id_of, signal_of_code, signal_of_id, table, rows}
+use Rattle.gnss_obs.specs.Names.{System, Gps, Galileo, SignalAt, IsSignal, after, greatest_signal_id, id_of, signal_of_id, table, rows}
 use Rattle.gnss_obs.proofs.Checked.{passes_at, passes_below, is_less, is_equal, both_first, both_second}
 
 -- the ID of a row is below the next one
@@ -51,28 +51,6 @@ pub id_back : (s : SignalAt) → IsSignal s → signal_of_id s.system (id_of s) 
 unfolding is_at
 id_back s listed = ap (option_map (signal s.system)) (from_at _ s.index (at_each has_first_id refl refl s.system s.index listed))
 
-abbrev has_first_code : System → ℕ → Bool
-has_first_code system i = is_at (position (λ e. bytes_eq e.1 (code_of (signal system i))) (table system)) i
-
-pub code_back : (s : SignalAt) → IsSignal s → signal_of_code s.system (code_of s) ≡ Some s
-unfolding is_at
-code_back s listed = ap (option_map (signal s.system)) (from_at _ s.index (at_each has_first_code refl refl s.system s.index listed))
-
--- the carrier of a row
-abbrev listed_hertz : System → ℕ → ℕ
-listed_hertz system i = (get_or (table system) i (record { 0 = 0; 1 = []; 2 = 0 })).2
-
-abbrev has_hertz : System → ℕ → Bool
-has_hertz system i = (listed_hertz system i == hertz_of (signal system i)) && nat_lt 0 (hertz_of (signal system i))
-
-pub hertz_listed : (rows : List ListedSignal) (s : SignalAt) → rows ≡ table s.system → IsSignal s
-    → ((get_or rows s.index (record { 0 = 0; 1 = []; 2 = 0 })).2 ≡ hertz_of s) × (0 < hertz_of s)
-hertz_listed rows s same listed =
-    let has = at_each has_hertz refl refl s.system s.index listed in (
-      ap (λ (l : List ListedSignal). (get_or l s.index (record { 0 = 0; 1 = []; 2 = 0 })).2) same ∙ is_equal _ _ (both_first _ _ has),
-      is_less 0 (hertz_of s) (both_second (listed_hertz s.system s.index == hertz_of s) _ has),
-    )
-
 -- a listed row is the first one with the ID
 is_row : ℕ → Option ℕ → ℕ → Bool
 is_row n None row = row == 255
@@ -115,14 +93,3 @@ row_is system id o below some here other =
   where
     unlike : (n : ℕ) → (n ≡ 255 → ⊥) → (n == 255) ≡ false
     unlike n other = grind (arith, other)
-
-pub none_is : (system : System) (id : ℕ) (o : Option (Bor ℕ)) → id < 256 → is_some o ≡ nat_lt id (length (rows system)) → IfSome o (λ x. x.now ≡ slice_index_or (rows system) id x.now)
-    → unwrap_or (option_copied o) 255 ≡ 255 → position (λ e. e.0 == id) (table system) ≡ None
-unfolding row_at
-none_is system id o below some here none =
-    let is = read_at (rows system) id o some here in
-    no_row (length (table system)) (position (λ e. e.0 == id) (table system)) (unwrap_or (option_copied o) 255) (rw (← is) at (rows_fit system id below)) none (few_rows system)
-  where
-    few_rows : (system : System) → length (table system) ≤ 255
-    few_rows Gps = lit≤ tt
-    few_rows Galileo = lit≤ tt

@@ -105,12 +105,7 @@ impl Epoch {
 fn has_value(cells: &[Cell]) -> bool
     ensures { result ≡ list_any has_value cells.now }
 {
-    for i in 0..cells.len() {
-        if cells[i].has_value() {
-            return true;
-        }
-    }
-    false
+    cells.iter().any(|x| x.has_value())
 }
 
 /// Returns the end of the run of cells of a satellite that begins at this index.
@@ -131,12 +126,9 @@ pub fn end_of(cells: &[Cell], from: usize, id: u8) -> usize
 pub fn is_written(cells: &[Cell], id: u8) -> bool
     ensures { result ≡ is_written cells.now id }
 {
-    for i in 0..cells.len() {
-        if cells[i].satellite.id() == id && cells[i].has_value() {
-            return true;
-        }
-    }
-    false
+    cells
+        .iter()
+        .any(|x| x.satellite.id() == id && x.has_value())
 }
 
 // Returns the number of satellites of a system that have a cell with a value.

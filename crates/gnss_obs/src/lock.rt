@@ -134,17 +134,9 @@ pub fn is_lost(then: Lock, now: Lock, elapsed: u64) -> bool
     ensures lost { IsTrue result ↔ IsLost then now elapsed }
     ensures value { result ≡ lost then.least now.least now.upper elapsed }
 {
-    has_fallen(then.least(), now.least(), now.upper(), elapsed)
-}
-
-/// Returns the result of `is_lost` from the least time of the earlier lock, and the least time and
-/// upper bound of the later one, in milliseconds.
-fn has_fallen(before: Option<u32>, least: Option<u32>, upper: Option<u32>, elapsed: u64) -> bool
-    ensures { result ≡ lost before least upper elapsed }
-{
-    match (before, least) {
+    match (then.least(), now.least()) {
         (Some(before), Some(least)) => {
-            least < before || matches!(upper, Some(upper) if upper as u64 <= elapsed)
+            least < before || matches!(now.upper(), Some(upper) if upper as u64 <= elapsed)
         }
         _ => false,
     }

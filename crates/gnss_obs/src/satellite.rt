@@ -39,13 +39,11 @@ impl Sat {
         ensures value { result ≡ satellite_of_id system id }
         ensures listed { IsSome result ↔ ((1 ≤ id) × (id ≤ satellites system)) }
     {
-        if id == 0 {
-            return None;
+        if id == 0 || id > system.satellites() {
+            None
+        } else {
+            Some(Sat { system, id })
         }
-        if id > system.satellites() {
-            return None;
-        }
-        Some(Sat { system, id })
     }
 
     /// Returns the system that the satellite belongs to.

@@ -1,8 +1,8 @@
-use Rattle.std.proofs.Common.{◌≡◌, ◌^◌, ◌*ℤ◌, ◌<◌, pos, unsigned_abs, arith, ◌∙◌, refl, sym, ap₂, subst, w64, to_z, of_z, lit<}
+use Rattle.std.proofs.Common.{◌≡◌, ◌^◌, ◌*ℤ◌, ◌<◌, pos, unsigned_abs, arith, ◌∙◌, sym, ap₂, subst, w64, to_z, of_z, lit<}
 use Rattle.std.proofs.lemmas.Int.{ints}
 use Rattle.gnss_obs.specs.Names.{IsNearest, nearest, nearest_phase, hertz_of}
 use Rattle.gnss_obs.proofs.NearestLaws.{nearest_is}
-use Rattle.gnss_obs.proofs.SizeLaws.{cycles_small, kept, product_fits}
+use Rattle.gnss_obs.proofs.SizeLaws.{cycles_small, kept}
 use Rattle.gnss_obs.proofs.observables.phase.Goals as goal
 
 value_is : (c : goal.After-new) → c.new.result ≡ nearest_phase (hertz_of c.args.signal) c.in-Some.p
@@ -11,16 +11,10 @@ value_is c =
     c.new.ensures ∙ same ∙ c.nearest_whole.ensures
     ∙ ap₂ (λ x h. nearest (x *ℤ pos h) (2 ^ 31)) (kept c.in-Some.p (c.requires c.in-Some.p c.in-Some.is)) c.hertz.ensures.value
 
-pub nearest_whole-requires-clause-size : goal.nearest_whole-requires-clause-size
-nearest_whole-requires-clause-size c = product_fits c.in-Some.p c.hertz.result (c.requires c.in-Some.p c.in-Some.is) c.hertz.ensures.bound
-
 pub returns-in-Some-clause-rounded : goal.returns-in-Some-clause-rounded
 returns-in-Some-clause-rounded c =
     let product = c.in-Some.p *ℤ pos (hertz_of c.args.signal) in
     rw c.in-Some.is (subst (IsNearest product (2 ^ 31)) (sym (value_is c)) (nearest_is product (2 ^ 31) (lit< tt)))
-
-pub returns-in-Some-clause-value : goal.returns-in-Some-clause-value
-returns-in-Some-clause-value c = rw (c.in-Some.is, value_is c) refl
 
 pub returns-in-Some-clause-bound : goal.returns-in-Some-clause-bound
 returns-in-Some-clause-bound c =

@@ -1,13 +1,5 @@
-use Rattle.std.proofs.Common.{subst, sym}
-use Rattle.gnss_obs.specs.Names.{Gps, Galileo, IsOf}
-use Rattle.gnss_obs.proofs.MadeLemmas.{both_added, done_if, memory_alone, plan_added}
+use Rattle.gnss_obs.proofs.MadeLemmas.{both_added, memory_alone, plan_added}
 use Rattle.gnss_obs.proofs.plan.Plan.from_signals.Goals as goal
-
-pub with-requires : goal.with-requires
-with-requires c = λ ok.
-    let added = both_added c.add_signals-added.result c.add_signals-also_added.result c.and.result c.args.gps.now c.args.galileo.now _ _ c.and.ensures c.add_signals-added.ensures c.add_signals-also_added.ensures in
-    let is = done_if _ _ c.and.result added ok in
-    (subst (IsOf Gps) (sym is.0) is.2, subst (IsOf Galileo) (sym is.1) is.3)
 
 pub returns-clause-cases : goal.returns-clause-cases
 returns-clause-cases c =

@@ -1,11 +1,5 @@
-use Rattle.gnss_obs.proofs.MadeLemmas.{both_read, done_if, plan_read}
+use Rattle.gnss_obs.proofs.MadeLemmas.{both_read, plan_read}
 use Rattle.gnss_obs.proofs.plan.Plan.parse.Goals as goal
-
-pub with-requires : goal.with-requires
-with-requires c = λ ok.
-    let read = both_read c.read_signals-read.result c.read_signals-also_read.result c.and.result c.args.gps.now c.args.galileo.now _ _ c.and.ensures c.read_signals-read.ensures c.read_signals-also_read.ensures in
-    let is = done_if _ _ c.and.result read ok in
-    (is.2, is.3)
 
 pub returns : goal.returns
 returns c =
