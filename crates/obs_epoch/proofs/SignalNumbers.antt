@@ -269,12 +269,3 @@ finished c c' system left counts es a none numbers = λ field cells few h. recor
       let within = ids_within r listed in
       numbers (id_of r - 1) (omega (arith, within.0, within.1)) ∙ ap (λ (k : ℕ). value_count (satellite_set system) k es) (omega (arith, within.0))
   last r listed false = refl
-
--- ---- the signal of a number
-
-pub signal_found : (o : Option SignalAt) (n : ℕ) (r : Option (SignalAt × ℕ)) (g : SignalAt) (m : ℕ) → r ≡ option_map (λ (s : SignalAt). (s, n)) o → r ≡ Some (g, m) → (o ≡ Some g) × (m ≡ n)
-signal_found None n r g m e f = absurd (none_some (g, m) r e f)
-signal_found (Some s) n r g m e f = let same : (s, n) ≡ (g, m) = some_same (s, n) (g, m) r e f in (ap (λ (p : SignalAt × ℕ). Some p.0) same, sym (ap (λ (p : SignalAt × ℕ). p.1) same))
-
-pub signal_missing : (o : Option SignalAt) (n : ℕ) (r : Option (SignalAt × ℕ)) → r ≡ option_map (λ (s : SignalAt). (s, n)) o → r ≡ None → o ≡ None
-signal_missing o n r e f = grind (arith, common_steps, e, f)

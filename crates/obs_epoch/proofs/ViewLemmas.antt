@@ -1,7 +1,6 @@
 -- A view and its message.
 use Rattle.std.proofs.Common.{arith, ◌≡◌}
 use Rattle.obs_epoch.specs.Names.{Message, Form, FormedMsm, formed, message_in, lock_field, summary, MsmValue, entries, heard, heard_msm, heard_summary, without_cells}
-use Rattle.rtcm_msg.specs.declared.view.Form.TheVariants as forms
 use Rattle.std.proofs.lemmas.Grind.{common_steps}
 
 pub summary_heard : (m : Message) → heard_summary (summary m) ≡ without_cells (heard m)

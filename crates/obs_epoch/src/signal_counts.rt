@@ -1,6 +1,6 @@
 //! The number of cells with a value, by signal.
-ghost use Rattle.std.specs.Prelude.{◌≡◌, ◌<◌, ◌≤◌, [], length, option_map};
-ghost use Rattle.gnss_obs.specs.Signals.{table, signal_of_id};
+ghost use Rattle.std.specs.Prelude.{◌≡◌, ◌<◌, ◌≤◌, [], length};
+ghost use Rattle.gnss_obs.specs.Signals.{table};
 ghost use Rattle.obs_epoch.specs.Heard.{heard};
 ghost use Rattle.obs_epoch.specs.SignalCounts.{counted, has_any, counted_more, satellite_set, CountsEntries};
 ghost use Rattle.obs_epoch.specs.SignalCounts.{CountsMessage, AreSignalCounts};
@@ -84,17 +84,16 @@ impl SignalCounts {
     {
         let mut counts = view.value_counts(satellites_of(system));
         while let Some((id, count)) = counts.next() {
-            if let Some(more) = signal_of(system, id, count) {
-                self.add(more);
+            if let Some(signal) = Signal::from_id(system, id) {
+                self.add(signal, count as u64);
             }
         }
     }
 
     // Adds a number of cells to those of a signal.
-    fn add(&mut self, more: (Signal, u64))
-        ensures { self.new ≡ counted_more more.0 more.1 self.old }
+    fn add(&mut self, signal: Signal, count: u64)
+        ensures { self.new ≡ counted_more signal count self.old }
     {
-        let (signal, count) = more;
         let place = signal.index();
         match signal.system() {
             System::Gps => self.gps[place] = self.gps[place].saturating_add(count),
@@ -111,12 +110,4 @@ fn satellites_of(system: System) -> u64
         System::Gps => 0xFFFF_FFFF_0000_0000,
         System::Galileo => 0xFFFF_FFFF_F000_0000,
     }
-}
-
-// Returns the signal with this ID, if it is listed, and the number of its cells with a value.
-fn signal_of(system: System, id: u8, count: u8) -> Option<(Signal, u64)>
-    ensures value { result ≡ option_map (λ s. (s, count)) (signal_of_id system id) }
-{
-    let signal = Signal::from_id(system, id)?;
-    Some((signal, count as u64))
 }

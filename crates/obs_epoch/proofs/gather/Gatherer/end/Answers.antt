@@ -1,29 +1,19 @@
-use Rattle.std.proofs.Common.{◌≡◌, ◌++◌, None, Bool, true, sym, ◌∙◌, subst, ap, ap₂, refl}
+use Rattle.std.proofs.Common.{◌≡◌, ◌++◌, None, Bool, true, sym, ◌∙◌, subst, ap, ap₂}
 use Rattle.obs_epoch.specs.Names.{EpochValue, sorted_epoch, State, Gathered, closed_noted, end_step, HasGatheredEpochs, returned_epoch}
-use Rattle.obs_epoch.proofs.HandingLemmas.{gathers_ended, has_closed, end_handed, end_ended}
-use Rattle.obs_epoch.proofs.StandLemmas.{never_both}
+use Rattle.obs_epoch.proofs.HandingLemmas.{gathers_ended, end_handed}
 use Rattle.obs_epoch.proofs.gather.Gatherer.end.Goals as goal
 
 abbrev going : Gathered → EpochValue → State → Bool → Gathered
 going g e clock closed = record { clock = clock; epoch = sorted_epoch clock.setup.plan e; locks = g.locks; values = g.values; just_closed = closed; has_ended = true }
 
-pub returns : goal.returns
-returns c =
+pub returns-clause-closes : goal.returns-clause-closes
+returns-clause-closes c = λ s ms es h fresh.
     let now = c.args.self.now in
     let i = c.self.inside in
     let g : Gathered = record { clock = i.clock; epoch = sorted_epoch i.clock.setup.plan i.pending.epoch; locks = i.locks; values = i.pending.values; just_closed = i.just_closed; has_ended = i.has_ended } in
     let step : c.note_closed.new.self ≡ end_step now =
     c.note_closed.ensures ∙ ap₂ (λ clock closed. closed_noted (going g i.pending.epoch clock closed)) c.end-closed.ensures.step c.end-closed.ensures.was ∙ ap end_step c.self.view_is in
-    let just = ap (λ (v : Gathered). v.just_closed) c.self-2.view_is in
-    let no = ap (λ (v : Gathered). v.has_ended) (sym c.self.view_is) ∙ c.if-self.false in
-    record {
-      closes = λ s ms es h fresh.
-          let e = gathers_ended now s ms es h fresh in (
-            just ∙ ap (λ (v : Gathered). v.just_closed) step ∙ end_handed now.clock.pending _ ∙ e.0,
-            subst (λ (v : Gathered). HasGatheredEpochs v s ms (es ++ returned_epoch v) None) (sym step) e.1,
-          );
-      closed = just ∙ has_closed c.note_closed.new.self;
-      ended = ap (λ (v : Gathered). v.has_ended) step ∙ end_ended now.clock.pending _ refl;
-      twice = λ e. absurd (never_both _ no e);
-      stays = λ s ms es again h e. absurd (never_both _ no e);
-    }
+    let e = gathers_ended now s ms es h fresh in (
+      ap (λ (v : Gathered). v.just_closed) c.self-2.view_is ∙ ap (λ (v : Gathered). v.just_closed) step ∙ end_handed now.clock.pending _ ∙ e.0,
+      subst (λ (v : Gathered). HasGatheredEpochs v s ms (es ++ returned_epoch v) None) (sym step) e.1,
+    )

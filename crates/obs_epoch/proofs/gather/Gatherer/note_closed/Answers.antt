@@ -1,4 +1,4 @@
-use Rattle.std.proofs.Common.{◌≡◌, ◌∙◌, Bool, true, false, sym, ap, ap₂, arith, refl}
+use Rattle.std.proofs.Common.{◌≡◌, ◌∙◌, Bool, true, sym, ap, ap₂, arith, refl}
 use Rattle.std.proofs.lemmas.Grind.{common_steps}
 use Rattle.obs_epoch.specs.Names.{sorted_epoch, Gathered, closed_noted, just_closed_as}
 use Rattle.obs_epoch.proofs.StandLemmas.{closed_value, noted_closed, pending_closed}

@@ -1,15 +1,14 @@
 use Rattle.std.proofs.Common.{ℕ, ◌-◌, ◌∙◌, List, get_or, ap, sym, subst}
-use Rattle.obs_epoch.proofs.SignalNumbers.{Adds, adds_some, adds_none, finished, signal_found, signal_missing}
+use Rattle.obs_epoch.proofs.SignalNumbers.{Adds, adds_some, adds_none, finished}
 use Rattle.obs_epoch.proofs.signal_counts.SignalCounts.count_cells.Goals as goal
 
-pub loop-id-preserved-in-Some-signal_of : goal.loop-id-preserved-in-Some-signal_of
-loop-id-preserved-in-Some-signal_of c =
+pub loop-id-preserved-in-Some-from_id : goal.loop-id-preserved-in-Some-from_id
+loop-id-preserved-in-Some-from_id c =
     let same = c.in-Some.ensures.same in
-    let found = signal_found _ c.in-Some.count c.signal_of.result c.in-Some-signal_of.more.0 c.in-Some-signal_of.more.1 c.signal_of.ensures.value c.in-Some-signal_of.is in
-    let read = found.1 ∙ (c.in-Some.ensures.some.1 ∙ ap (λ (l : List ℕ). get_or l (c.in-Some.id - 1) 0) (sym same)) in
+    let read = c.in-Some.ensures.some.1 ∙ ap (λ (l : List ℕ). get_or l (c.in-Some.id - 1) 0) (sym same) in
     record {
-      adds = adds_some c.args.self.now c.loop-id.self c.add.new.self c.args.system c.loop-id.counts.left c.next.new.self.left c.next.new.self.counts c.in-Some.id c.in-Some-signal_of.more.1 c.in-Some-signal_of.more.0
-          (subst (λ (l : List ℕ). Adds c.args.self.now c.loop-id.self c.args.system c.loop-id.counts.left l) (sym same) c.loop-id.invariant.adds) c.in-Some.ensures.some.0 found.0 read (λ i. rw same (c.loop-id.invariant.few i)) c.in-Some.ensures.once c.add.ensures;
+      adds = adds_some c.args.self.now c.loop-id.self c.add.new.self c.args.system c.loop-id.counts.left c.next.new.self.left c.next.new.self.counts c.in-Some.id c.in-Some.count c.in-Some-from_id.signal
+          (subst (λ (l : List ℕ). Adds c.args.self.now c.loop-id.self c.args.system c.loop-id.counts.left l) (sym same) c.loop-id.invariant.adds) c.in-Some.ensures.some.0 (sym c.from_id.ensures ∙ c.in-Some-from_id.is) read (λ i. rw same (c.loop-id.invariant.few i)) c.in-Some.ensures.once c.add.ensures;
       numbers = λ i h. rw same (c.loop-id.invariant.numbers i h);
       few = λ i. rw same (c.loop-id.invariant.few i);
     }
@@ -17,11 +16,10 @@ loop-id-preserved-in-Some-signal_of c =
 pub loop-id-preserved : goal.loop-id-preserved
 loop-id-preserved c =
     let same = c.in-Some.ensures.same in
-    let missing = signal_missing _ c.in-Some.count c.signal_of.result c.signal_of.ensures.value c.in_default-signal_of.is in
     let read = c.in-Some.ensures.some.1 ∙ ap (λ (l : List ℕ). get_or l (c.in-Some.id - 1) 0) (sym same) in
     record {
       adds = adds_none c.args.self.now c.loop-id.self c.args.system c.loop-id.counts.left c.next.new.self.left c.next.new.self.counts c.in-Some.id c.in-Some.count
-          (subst (λ (l : List ℕ). Adds c.args.self.now c.loop-id.self c.args.system c.loop-id.counts.left l) (sym same) c.loop-id.invariant.adds) c.in-Some.ensures.some.0 missing read c.in-Some.ensures.once;
+          (subst (λ (l : List ℕ). Adds c.args.self.now c.loop-id.self c.args.system c.loop-id.counts.left l) (sym same) c.loop-id.invariant.adds) c.in-Some.ensures.some.0 (sym c.from_id.ensures ∙ c.in_default-from_id.is) read c.in-Some.ensures.once;
       numbers = λ i h. rw same (c.loop-id.invariant.numbers i h);
       few = λ i. rw same (c.loop-id.invariant.few i);
     }
