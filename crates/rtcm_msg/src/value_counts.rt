@@ -8,6 +8,7 @@ ghost use Rattle.rtcm_msg.specs.Pairs.{HasFirst};
 ghost use Rattle.rtcm_msg.specs.Viewed.{entry_in, rough};
 ghost use Rattle.rtcm_msg.specs.Views as views;
 ghost use Rattle.rtcm_msg.specs.Presences.{has_rest, has_value, has_fine_range};
+ghost use Rattle.rtcm_msg.specs.declared.pairs.Pair.{Pair};
 ghost use Rattle.rtcm_msg.specs.ValueCounts.{has_listed_value, value_count, has_id};
 ghost use Rattle.rtcm_msg.specs.ValueCounts.{entries_left, AreCells, AreAtMost, AddsCounts};
 
@@ -49,15 +50,23 @@ impl<'a> MsmView<'a> {
         }
     }
 
-    /// Returns whether cell `i`, which is of the satellite and the signal of `pair`, has a value
-    /// other than a pseudorange.
+    /// Returns whether cell `i`, which is of the satellite at `index`, has a value other than a
+    /// pseudorange.
+    // A pair as a parameter would be stored for each cell: 9 instructions.
     #[inline(never)]
-    fn has_rest(&self, pair: Pair, i: usize) -> bool
-        requires satellite { pair.index < length self.now.msm.satellites }
+    fn has_rest(&self, index: usize, i: usize) -> bool
+        requires satellite { index < length self.now.msm.satellites }
         requires cell { i < length self.now.msm.cells }
-        ensures { result ≡ has_rest (entry_in self.now.form self.now.msm (pair, slice_index self.now.msm.cells i)) }
+        ensures { (pair : Pair) → pair.index ≡ index
+            → result ≡ has_rest (entry_in self.now.form self.now.msm (pair, slice_index self.now.msm.cells i)) }
     {
-        let entry = self.entry(pair, &self.read_rough(pair.index), i);
+        // No value depends on the numbers of the satellite and the signal.
+        let pair = Pair {
+            satellite: 1,
+            signal: 1,
+            index,
+        };
+        let entry = self.entry(pair, &self.read_rough(index), i);
         entry.phase.is_some() || entry.rate.is_some() || entry.strength.is_some()
     }
 
@@ -71,7 +80,7 @@ impl<'a> MsmView<'a> {
         requires cell { i < length self.now.msm.cells }
         ensures { result ≡ has_value (entry_in self.now.form self.now.msm (pair, slice_index self.now.msm.cells i)) }
     {
-        (whole != INVALID_RANGE && self.has_fine_range::<G>(i)) || self.has_rest(pair, i)
+        (whole != INVALID_RANGE && self.has_fine_range::<G>(i)) || self.has_rest(pair.index, i)
     }
 
     /// Returns whether cell `i`, which is of the satellite and the signal of `pair`, has a value

@@ -297,17 +297,18 @@ impl<'a> Entries<'a> {
         ensures none { IfNone result ((self.old.left ≡ []) × (self.new.left ≡ [])) }
         ensures same { self.new.form ≡ self.old.form }
     {
-        let cells = self.cells;
-        let (pair, pairs, left) = split_cells(cells.pairs, self.view.masks().cells(), cells.left)?;
+        let (pair, pairs, left) = split_cells(
+            self.cells.pairs,
+            self.view.masks().cells(),
+            self.cells.left,
+        )?;
         // Brings the numbers of satellites and cells into the proof.
         let _ = (self.view.satellites(), self.view.cells());
         let satellite = self.view.rough(pair.index, self.index, self.satellite);
-        let entry = self.view.entry(pair, &satellite, cells.next);
-        self.cells = CellsLeft {
-            pairs,
-            left,
-            next: cells.next + 1,
-        };
+        let entry = self.view.entry(pair, &satellite, self.cells.next);
+        self.cells.pairs = pairs;
+        self.cells.left = left;
+        self.cells.next += 1;
         self.index = pair.index;
         self.satellite = satellite;
         Some(entry)
