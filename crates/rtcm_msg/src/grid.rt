@@ -245,6 +245,16 @@ pub(crate) fn first_bad<T: HasFields>(items: &[T], fields: &[Field]) -> Option<F
     fields.iter().copied().find(|field| has_bad(items, *field))
 }
 
+/// The fields of a cell that may not fit their bits, in the order of the layouts. MSM4 has all but
+/// the last.
+pub(crate) const CELL_FIELDS: &[Field] = &[
+    Field::FineRange,
+    Field::FinePhase,
+    Field::Lock,
+    Field::Strength,
+    Field::FineRate,
+];
+
 /// Returns a fine part in 2^-31 ms: `number` units of `unit`, or `None` for the invalid number.
 pub(crate) fn scaled(number: i32, invalid: i32, unit: u32) -> Option<i64>
     requires few { unit ≤ 128 }

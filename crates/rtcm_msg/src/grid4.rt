@@ -1,7 +1,7 @@
 //! The precision of MSM4.
 use crate::fault::Field;
 use crate::field::{short_to, signed_to};
-use crate::grid::{Grid, HasFields, ReadGrid, first_bad, range_joined, scaled};
+use crate::grid::{CELL_FIELDS, Grid, HasFields, ReadGrid, first_bad, range_joined, scaled};
 use crate::last_bits::LastBits;
 use crate::view::Form;
 use rtcm_bits::{raw_of, signed_of};
@@ -105,15 +105,7 @@ impl Grid for Grid4 {
     }
 
     fn cell_fault(cells: &[Cell4]) -> Option<Field> {
-        first_bad(
-            cells,
-            &[
-                Field::FineRange,
-                Field::FinePhase,
-                Field::Lock,
-                Field::Strength,
-            ],
-        )
+        first_bad(cells, &CELL_FIELDS[..4])
     }
 
     ghost range_of = { grid4.range_of };

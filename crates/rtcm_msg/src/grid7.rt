@@ -1,7 +1,7 @@
 //! The precision of MSM7.
 use crate::fault::Field;
 use crate::field::{short_to, signed_to};
-use crate::grid::{Grid, HasFields, ReadGrid, first_bad, range_joined, scaled};
+use crate::grid::{CELL_FIELDS, Grid, HasFields, ReadGrid, first_bad, range_joined, scaled};
 use crate::last_bits::LastBits;
 use crate::view::Form;
 use rtcm_bits::{raw_of, signed_of};
@@ -122,16 +122,7 @@ impl Grid for Grid7 {
     }
 
     fn cell_fault(cells: &[Cell7]) -> Option<Field> {
-        first_bad(
-            cells,
-            &[
-                Field::FineRange,
-                Field::FinePhase,
-                Field::Lock,
-                Field::Strength,
-                Field::FineRate,
-            ],
-        )
+        first_bad(cells, CELL_FIELDS)
     }
 
     ghost range_of = { grid7.range_of };
