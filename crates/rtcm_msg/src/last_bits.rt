@@ -38,38 +38,23 @@ impl Form {
         ensures place { result.place ≡ place }
         ensures last { AreLast (views.cell_widths self) result }
     {
-        match self {
-            Form::Msm4 => {
-                let phase = place + count * 15;
-                let lock = phase + count * 22;
-                let half_cycle = lock + count * 4;
-                LastBits {
-                    count,
-                    place,
-                    range: place + 14,
-                    phase: phase + 21,
-                    lock: lock + 3,
-                    half_cycle,
-                    strength: half_cycle + count + 5,
-                    rate: 0,
-                }
-            }
-            Form::Msm7 => {
-                let phase = place + count * 20;
-                let lock = phase + count * 24;
-                let half_cycle = lock + count * 10;
-                let strength = half_cycle + count;
-                LastBits {
-                    count,
-                    place,
-                    range: place + 19,
-                    phase: phase + 23,
-                    lock: lock + 9,
-                    half_cycle,
-                    strength: strength + 9,
-                    rate: strength + count * 10 + 14,
-                }
-            }
+        let (range, phase, lock, strength) = match self {
+            Form::Msm4 => (15, 22, 4, 6),
+            Form::Msm7 => (20, 24, 10, 10),
+        };
+        let phases = place + count * range;
+        let locks = phases + count * phase;
+        let half_cycle = locks + count * lock;
+        let strengths = half_cycle + count;
+        LastBits {
+            count,
+            place,
+            range: place + range - 1,
+            phase: phases + phase - 1,
+            lock: locks + lock - 1,
+            half_cycle,
+            strength: strengths + strength - 1,
+            rate: strengths + count * strength + 14,
         }
     }
 }
