@@ -48,15 +48,11 @@ impl<'a> View<'a> {
                     ..none
                 }
             }
-            View::Other {
-                set: Some((station, more)),
-                ..
-            } => Summary {
-                station: Some(*station),
-                more: Some(*more),
+            View::Other { set, .. } => Summary {
+                station: set.map(|parts| parts.0),
+                more: set.map(|parts| parts.1),
                 ..none
             },
-            View::Other { set: None, .. } => none,
         }
     }
 }
