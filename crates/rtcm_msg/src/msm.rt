@@ -160,16 +160,12 @@ fn msm_fault(
     if header.time >= WEEK {
         return Some(ValueFault::BadTime);
     }
-    if satellites != masks.satellites().count_ones() as usize {
+    let counts = (masks.satellites().count_ones(), masks.cells().count_ones());
+    if satellites != counts.0 as usize || cells != counts.1 as usize {
         return Some(ValueFault::CellCount);
     }
-    if cells != masks.cells().count_ones() as usize {
-        return Some(ValueFault::CellCount);
-    }
-    match header_fault(header).or(faults.0).or(faults.1) {
-        Some(field) => Some(ValueFault::OutOfRange(field)),
-        None => None,
-    }
+    let field = header_fault(header).or(faults.0).or(faults.1);
+    field.map(|field| ValueFault::OutOfRange(field))
 }
 
 /// Returns the satellites of a view, the fields of each packed in one number.
