@@ -99,21 +99,6 @@ impl Message {
     }
 }
 
-/// Writes a message with its message number.
-fn write_message(writer: &mut BitWriter, message: &Message)
-    requires known { is_other message.now ≡ false }
-    requires new { length writer.old ≡ 0 }
-    ensures bits { writer.new ≡ writer.old ++ message_bits message.now 0 }
-    ensures value { IsMessage message.now }
-{
-    match message {
-        Message::Station(station) => write_station(writer, &station.parts()),
-        Message::Msm4(msm) => write_msm(writer, msm),
-        Message::Msm7(msm) => write_msm(writer, msm),
-        Message::Other { .. } => unreachable!(),
-    }
-}
-
 /// Replaces `bytes` by the encoding of the message, with reserved bits of zero, padded with zero
 /// bits to a byte. `decode` returns the same message. It must not be a `Message::Other`.
 pub fn encode(message: &Message, bytes: &mut ArrayVec<u8, LONGEST_MESSAGE>)
@@ -122,6 +107,11 @@ pub fn encode(message: &Message, bytes: &mut ArrayVec<u8, LONGEST_MESSAGE>)
     ensures value { IsMessage message.now }
 {
     let mut writer = BitWriter::new();
-    write_message(&mut writer, message);
+    match message {
+        Message::Station(station) => write_station(&mut writer, &station.parts()),
+        Message::Msm4(msm) => write_msm(&mut writer, msm),
+        Message::Msm7(msm) => write_msm(&mut writer, msm),
+        Message::Other { .. } => unreachable!(),
+    }
     writer.finish(bytes);
 }
