@@ -127,11 +127,7 @@ const STATION_WIDTHS: &[u32] = &[12, 6, 1, 1, 1, 1, 38, 1, 1, 38, 2, 38, 16];
 fn field_widths(has_height: bool) -> &'static [u32]
     ensures { result.now ≡ field_widths has_height }
 {
-    if has_height {
-        STATION_WIDTHS
-    } else {
-        &STATION_WIDTHS[..12]
-    }
+    &STATION_WIDTHS[..12 + has_height as usize]
 }
 
 /// Returns the antenna height, DF028, if the message has it.
