@@ -130,19 +130,6 @@ fn field_widths(has_height: bool) -> &'static [u32]
     &STATION_WIDTHS[..12 + has_height as usize]
 }
 
-/// Returns the antenna height, DF028, if the message has it.
-fn height_in(bytes: &[u8], has_height: bool) -> Option<u16>
-    requires there { 12 + total_width (field_widths has_height) ≤ 8 * length bytes.now }
-    requires small { length bytes.now ≤ longest_message }
-    ensures { result ≡ height_in has_height (bits_of bytes.now) }
-{
-    if has_height {
-        Some(number_at(bytes, 152, 16) as u16)
-    } else {
-        None
-    }
-}
-
 /// Returns a coordinate of the antenna reference point, DF025 to DF027: 38 bits with a sign.
 fn coordinate_at(bytes: &[u8], place: usize) -> i64
     requires there { place + 38 ≤ 8 * length bytes.now }
@@ -173,7 +160,11 @@ fn parts_in(bytes: &[u8], has_height: bool) -> StationParts
         y: coordinate_at(bytes, 74),
         quarter: byte_at(bytes, 112, 2),
         z: coordinate_at(bytes, 114),
-        height: height_in(bytes, has_height),
+        height: if has_height {
+            Some(number_at(bytes, 152, 16) as u16)
+        } else {
+            None
+        },
     }
 }
 
