@@ -5,7 +5,7 @@ ghost use Rattle.rtcm_bits.specs.FrameOf.{longest_message};
 ghost use Rattle.rtcm_msg.specs.Refusals.{header_fault};
 ghost use Rattle.rtcm_msg.specs.Msm.{header_in, week, IsHeader};
 
-use crate::fault::Field;
+use crate::fault::{Field, first_of};
 use crate::field::{byte_at, flag_at};
 use rtcm_bits::number_at;
 
@@ -58,17 +58,11 @@ pub(crate) fn header_fault(header: &MsmHeader) -> Option<Field>
     ensures first { result ≡ header_fault header.now }
     ensures none { header.now.time < 604800000 → IfNone result (IsHeader header.now) }
 {
-    if header.station >= 1 << 12 {
-        Some(Field::Station)
-    } else if header.iods >= 1 << 3 {
-        Some(Field::Iods)
-    } else if header.steering >= 1 << 2 {
-        Some(Field::Steering)
-    } else if header.clock >= 1 << 2 {
-        Some(Field::Clock)
-    } else if header.interval >= 1 << 3 {
-        Some(Field::Interval)
-    } else {
-        None
-    }
+    first_of(&[
+        (header.station >= 1 << 12, Field::Station),
+        (header.iods >= 1 << 3, Field::Iods),
+        (header.steering >= 1 << 2, Field::Steering),
+        (header.clock >= 1 << 2, Field::Clock),
+        (header.interval >= 1 << 3, Field::Interval),
+    ])
 }

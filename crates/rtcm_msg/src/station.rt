@@ -10,7 +10,7 @@ ghost use Rattle.rtcm_msg.specs.Refusals.{station_made, station_fault};
 ghost use Rattle.rtcm_msg.specs.Viewed.{viewed_message};
 ghost use Rattle.rtcm_msg.specs.Decoding.{station_message_at};
 
-use crate::fault::{Field, MsgFault, ValueFault};
+use crate::fault::{Field, MsgFault, ValueFault, first_of};
 use crate::field::{byte_at, end_of_fields, flag_at};
 use crate::view::View;
 use rtcm_bits::{number_at, signed_of};
@@ -102,21 +102,14 @@ fn station_fault(parts: StationParts) -> Option<Field>
     ensures first { result ≡ station_fault parts }
     ensures none { IfNone result (InRange parts) }
 {
-    if parts.station >= 1 << 12 {
-        Some(Field::Station)
-    } else if parts.realization >= 1 << 6 {
-        Some(Field::Realization)
-    } else if !is_coordinate(parts.x) {
-        Some(Field::X)
-    } else if !is_coordinate(parts.y) {
-        Some(Field::Y)
-    } else if parts.quarter >= 1 << 2 {
-        Some(Field::Quarter)
-    } else if !is_coordinate(parts.z) {
-        Some(Field::Z)
-    } else {
-        None
-    }
+    first_of(&[
+        (parts.station >= 1 << 12, Field::Station),
+        (parts.realization >= 1 << 6, Field::Realization),
+        (!is_coordinate(parts.x), Field::X),
+        (!is_coordinate(parts.y), Field::Y),
+        (parts.quarter >= 1 << 2, Field::Quarter),
+        (!is_coordinate(parts.z), Field::Z),
+    ])
 }
 
 /// Widths in bits of the fields of message 1006 after the message number: DF003, DF021 to DF024,
