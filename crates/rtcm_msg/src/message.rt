@@ -1,9 +1,9 @@
 //! Messages, decoded and encoded.
-ghost use Rattle.std.specs.Prelude.{◌≡◌, ◌*◌, ◌++◌, ◌≤◌, IfOk, IfErr, length, false, Ok, Err};
+ghost use Rattle.std.specs.Prelude.{◌≡◌, ◌*◌, ◌≤◌, IfOk, IfErr, length, false, Ok, Err};
 ghost use Rattle.rtcm_msg.specs.Fields.{GivesViewed, cursor_at};
 ghost use Rattle.rtcm_bits.specs.Bits.{bits_of};
 ghost use Rattle.rtcm_bits.specs.FrameOf.{longest_message};
-ghost use Rattle.rtcm_msg.specs.Encoding.{message_bits, is_other, ReadsMessage, IsFault, IsMessage, IsEncoding};
+ghost use Rattle.rtcm_msg.specs.Encoding.{is_other, ReadsMessage, IsFault, IsMessage, IsEncoding};
 ghost use Rattle.rtcm_msg.specs.declared.message.Message.{Message};
 ghost use Rattle.rtcm_msg.specs.declared.fault.MsgFault.{MsgFault};
 ghost use Rattle.rtcm_msg.specs.Viewed.{viewed_message};

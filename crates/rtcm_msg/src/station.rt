@@ -5,7 +5,7 @@ ghost use Rattle.rtcm_bits.specs.FrameOf.{longest_message};
 ghost use Rattle.rtcm_msg.specs.Ranges.{fits_int};
 ghost use Rattle.rtcm_msg.specs.Fields.{GivesViewed, cursor_at, field_at};
 ghost use Rattle.rtcm_msg.specs.Packed.{total_width};
-ghost use Rattle.rtcm_msg.specs.Station.{InRange, height_in, parts_in, field_widths};
+ghost use Rattle.rtcm_msg.specs.Station.{InRange, parts_in, field_widths};
 ghost use Rattle.rtcm_msg.specs.Refusals.{station_made, station_fault};
 ghost use Rattle.rtcm_msg.specs.Viewed.{viewed_message};
 ghost use Rattle.rtcm_msg.specs.Decoding.{station_message_at};
