@@ -80,13 +80,10 @@ impl Lock {
         requires { code ≤ last4 }
         ensures { result ≡ times4 code }
     {
+        let is_last = code == LAST_DF402;
         Lock {
             least: least4(code),
-            upper: if code == LAST_DF402 {
-                NO_TIME
-            } else {
-                least4(code + 1)
-            },
+            upper: if is_last { NO_TIME } else { least4(code + 1) },
         }
     }
 
@@ -99,14 +96,11 @@ impl Lock {
         if code > LAST_DF407 {
             return Lock::default();
         }
+        let is_last = code == LAST_DF407;
         let (least, length) = range7(code);
         Lock {
             least,
-            upper: if code == LAST_DF407 {
-                NO_TIME
-            } else {
-                least + length
-            },
+            upper: if is_last { NO_TIME } else { least + length },
         }
     }
 

@@ -12,7 +12,7 @@ ghost use Rattle.gnss_obs.specs.SignalLists.{IsMade, IsPlanResult};
 use crate::fault::PlanFault;
 use crate::signal::Signal;
 use crate::signals::Signals;
-use crate::system::{System, is_same_system};
+use crate::system::System;
 use std::alloc::Global;
 use std::marker::Model;
 
@@ -176,7 +176,7 @@ fn add_signal(signals: &mut Signals, system: System, signal: Signal) -> Added
     ensures { DoneOr (IsUnfitAfter system signals.old signal) (IsPushed system signals.old signal signals.new) result }
 {
     let place = signals.len();
-    if !is_same_system(signal.system(), system) {
+    if signal.system() != system {
         return Err(PlanFault::UnknownCode(system, place));
     }
     match signals.add(signal) {
@@ -210,9 +210,7 @@ fn add_every(signals: &mut Signals, system: System) -> Added
         let Some(signal) = Signal::from_index(system, index) else {
             unreachable!()
         };
-        if signals.add(signal).is_err() {
-            return Err(PlanFault::Memory);
-        }
+        signals.add(signal).map_err(|_| PlanFault::Memory)?;
     }
     Ok(())
 }

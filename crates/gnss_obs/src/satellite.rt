@@ -40,10 +40,9 @@ impl Sat {
         ensures listed { IsSome result ↔ ((1 ≤ id) × (id ≤ satellites system)) }
     {
         if id == 0 || id > system.satellites() {
-            None
-        } else {
-            Some(Sat { system, id })
+            return None;
         }
+        Some(Sat { system, id })
     }
 
     /// Returns the system that the satellite belongs to.

@@ -1,6 +1,5 @@
 //! The satellite systems GPS and Galileo.
-ghost use Rattle.std.specs.Prelude.{◌≡◌, ◌↔◌, ◌≤◌, IsTrue, length};
-ghost use Rattle.gnss_obs.specs.Satellites.{is_system};
+ghost use Rattle.std.specs.Prelude.{◌≡◌, ◌≤◌, length};
 
 use crate::tables::{GALILEO_SIGNAL_COUNT, GPS_SIGNAL_COUNT};
 
@@ -55,15 +54,4 @@ impl System {
             System::Galileo => GALILEO_SIGNAL_COUNT,
         }
     }
-}
-
-// Returns whether two systems are the same.
-pub(crate) fn is_same_system(a: System, b: System) -> bool
-    ensures value { result ≡ is_system a b }
-    ensures exact { IsTrue result ↔ (a ≡ b) }
-{
-    matches!(
-        (a, b),
-        (System::Gps, System::Gps) | (System::Galileo, System::Galileo)
-    )
 }

@@ -1,4 +1,4 @@
-use Rattle.std.proofs.Common.{◌∙◌, sym, ap, subst}
+use Rattle.std.proofs.Common.{◌∙◌, sym, ap, subst, rules}
 use Rattle.gnss_obs.specs.SignalLists.{indices, IsOf}
 use Rattle.gnss_obs.proofs.PlanLemmas.{none_of, index_added}
 use Rattle.gnss_obs.proofs.plan.add_every.Goals as goal
@@ -8,5 +8,5 @@ loop-index-init c = (ap indices (sym c.requires), subst (IsOf c.args.system) (sy
 
 pub loop-index-preserved : goal.loop-index-preserved
 loop-index-preserved c =
-    index_added c.args.system c.loop-index.index c.in-Some.signal c.loop-index.signals c.add.new.self c.add.result (sym c.is_err.ensures.value ∙ c.if-is_err.false)
+    index_added c.args.system c.loop-index.index c.in-Some.signal c.loop-index.signals c.add.new.self c.add.result (search rules)
     c.loop-index.invariant.0 c.loop-index.invariant.1 (sym c.from_index.ensures ∙ c.in-Some.is) c.add.ensures.new c.add.ensures.old
