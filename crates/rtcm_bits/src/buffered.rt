@@ -52,15 +52,12 @@ impl<W> Buffered<W> {
         ensures empty { IfOk result (λ b. b.waiting ≡ []) }
         ensures fine { IfOk result (λ b. b.has_failed ≡ false) }
     {
-        match Vec::with_capacity(alloc, BUFFER_BYTES) {
-            Ok(bytes) => Ok(Buffered {
-                device,
-                bytes,
-                sent: 0,
-                failed: false,
-            }),
-            Err(error) => Err(error),
-        }
+        Ok(Buffered {
+            bytes: Vec::with_capacity(alloc, BUFFER_BYTES)?,
+            device,
+            sent: 0,
+            failed: false,
+        })
     }
 
     /// Returns the device. Bytes in the buffer are lost.
@@ -111,9 +108,7 @@ impl<W: Deliver> Write for Buffered<W> {
             → result ≡ Ok (min (length buf.now) (65536 - length self.old.waiting)) }
     {
         if self.failed || self.bytes.len() == BUFFER_BYTES {
-            if let Err(error) = self.send() {
-                return Err(error);
-            }
+            self.send()?;
         }
         let n = buf.len().min(BUFFER_BYTES - self.bytes.len());
         let Ok(()) = self.bytes.extend_from_slice(&buf[..n]) else {
@@ -130,9 +125,7 @@ impl<W: Deliver> Write for Buffered<W> {
         ensures failed { OnErr result (self.new.has_failed ≡ true) }
         ensures over { self.old.has_failed ≡ true → IsErr result × (self.new ≡ self.old) }
     {
-        if let Err(error) = self.send() {
-            return Err(error);
-        }
+        self.send()?;
         let result = self.device.deliver();
         self.failed = result.is_err();
         result
