@@ -404,11 +404,7 @@ fn new_parts(
     if station.unwrap_or(0) > 4_095 {
         return Err(PlanFault::BadStation);
     }
-    let Ok(locks) = Locks::new(alloc) else {
-        return Err(PlanFault::Memory);
-    };
-    match Pending::new(alloc, initial) {
-        Ok(pending) => Ok((pending, locks)),
-        Err(_) => Err(PlanFault::Memory),
-    }
+    let locks = Locks::new(alloc).map_err(|_| PlanFault::Memory)?;
+    let pending = Pending::new(alloc, initial).map_err(|_| PlanFault::Memory)?;
+    Ok((pending, locks))
 }

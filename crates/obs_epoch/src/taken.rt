@@ -42,7 +42,7 @@ pub enum Kind {
 }
 
 /// The number of cells of a message with each outcome.
-#[derive(Clone, Copy)]
+#[derive(Clone, Copy, Default)]
 pub struct CellCounts {
     pub kept: usize,
     pub skipped: usize,
@@ -98,10 +98,5 @@ impl Kind {
 pub(crate) fn no_counts() -> CellCounts
     ensures { result ≡ no_counts }
 {
-    CellCounts {
-        kept: 0,
-        skipped: 0,
-        repeated: 0,
-        crowded: 0,
-    }
+    CellCounts::default()
 }
