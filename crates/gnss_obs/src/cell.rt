@@ -34,7 +34,7 @@ pub struct Cell {
 
 /// The antenna reference point and the antenna height in the last messages that contain them; 0
 /// before the first.
-#[derive(Clone, Copy)]
+#[derive(Clone, Copy, Default)]
 pub struct StationValues {
     /// Antenna reference point ECEF-X of the last message 1005 or 1006, in 0.0001 m (DF025).
     pub x: i64,
@@ -73,12 +73,7 @@ impl StationValues {
     pub fn zero() -> StationValues
         ensures { result ≡ no_values }
     {
-        StationValues {
-            x: 0,
-            y: 0,
-            z: 0,
-            height: 0,
-        }
+        StationValues::default()
     }
 
     /// Returns whether message 1005 or 1006 can contain these values: each coordinate fits 38 bits
