@@ -13,7 +13,7 @@ use crate::header::lines::{
 };
 use crate::header::rows::{HeaderRow, ROW_COUNT, row_at};
 use crate::header::texts::HeaderTexts;
-use crate::header::types::{type_line, type_rows};
+use crate::header::types::{type_rows, types_with};
 use crate::write::line::Line;
 use crate::write::satellite::letter_of;
 use gnss_obs::{GpsTime, Plan, StationValues, System};
@@ -75,7 +75,10 @@ fn line_of(head: &Head, row: HeaderRow) -> Line
         HeaderRow::Texts(row) => texts_line(head.texts, row),
         HeaderRow::Position => position_line(&head.values),
         HeaderRow::Delta => delta_line(&head.values),
-        HeaderRow::Types(system, row) => type_line(head.plan, system, row),
+        HeaderRow::Types(system, row) => {
+            let signals = head.plan.of(system);
+            types_with(system, signals.len(), signals, row)
+        }
         HeaderRow::StrengthUnit => labelled(UNIT, STRENGTH_UNIT),
         HeaderRow::First => first_line(head.first),
         HeaderRow::Shift(system) => labelled(&[letter_of(system)], SHIFT),

@@ -88,13 +88,3 @@ pub(crate) fn types_with(system: System, count: usize, signals: &[Signal], row: 
     put_types(&mut content, system, signals, row);
     labelled(content.as_slice(), b"SYS / # / OBS TYPES")
 }
-
-/// Returns a line of a system's types.
-pub(crate) fn type_line(plan: &Plan, system: System, row: usize) -> Line
-    requires { row < type_rows (length (planned_of system plan.now)) }
-    ensures { result.items
-        ≡ type_line (letter_of system) (types_of (codes_of system (planned_of system plan.now))) row }
-{
-    let signals = plan.of(system);
-    types_with(system, signals.len(), signals, row)
-}

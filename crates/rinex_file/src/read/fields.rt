@@ -16,14 +16,6 @@ use std::simd::prelude::*;
 /// The largest digit in each column of a value. The last two columns have none.
 const LIMITS: [u8; 16] = [9, 9, 9, 9, 9, 9, 9, 9, 9, 9, 0, 9, 9, 9, 255, 255];
 
-/// Returns whether no number is more than the largest digit of its column.
-#[inline(always)]
-fn are_digits(digits: u8x16) -> bool
-    ensures { IsTrue result ↔ AreWithin LIMITS digits }
-{
-    digits.simd_gt(u8x16::from_array(LIMITS)).to_bitmask() == 0
-}
-
 /// Returns the numbers of each two digits.
 #[inline(always)]
 fn twos(digits: u8x16) -> u16x8
@@ -78,7 +70,7 @@ fn value_in(columns: u8x16, start: usize, negative: bool) -> Option<Thousandths>
         columns result }
 {
     let digits = columns - template(start, negative);
-    if !are_digits(digits) {
+    if digits.simd_gt(u8x16::from_array(LIMITS)).to_bitmask() != 0 {
         return None;
     }
     if zeros(digits) != start {
@@ -132,16 +124,11 @@ pub(crate) fn field_in(
     if empty > 9 {
         return if empty == 16 { Some(None) } else { None };
     }
-    if text[at + 14] != lost {
-        return None;
-    }
-    if text[at + 15] != strength {
+    if text[at + 14] != lost || text[at + 15] != strength {
         return None;
     }
     let negative = text[at + empty] == b'-';
     let start = if negative { empty + 1 } else { empty };
-    match value_in(columns, start, negative) {
-        Some(value) => Some(Some(value)),
-        None => None,
-    }
+    let value = value_in(columns, start, negative)?;
+    Some(Some(value))
 }

@@ -12,7 +12,7 @@ use crate::header::lines::{
     DELTA, labelled, position_line, texts_line, three_lengths, version_with,
 };
 use crate::header::texts::HeaderTexts;
-use crate::read::numbers::{digits_in, is_same, number_in};
+use crate::read::numbers::{digits_in, is_same, signed};
 use gnss_obs::StationValues;
 
 /// Returns up to `width` columns of a line, from column `from` on, counted from 0.
@@ -43,7 +43,8 @@ fn coordinate_in(line: &[u8], from: usize) -> i64
     ensures value { IsCoordinate (number_in (take 14 (drop from line.now)))
         → result ≡ number_in (take 14 (drop from line.now)) }
 {
-    number_in(columns(line, from, 14)).clamp(-137_438_953_472, 137_438_953_471)
+    let text = columns(line, from, 14);
+    signed(digits_in(text), text.contains(&b'-')).clamp(-137_438_953_472, 137_438_953_471)
 }
 
 /// Returns the position of the antenna in 0.0001 m, with height zero, by its line, or None for any

@@ -34,11 +34,3 @@ pub(crate) fn signed(size: u64, has_minus: bool) -> i64
     let number = size as i64;
     if has_minus { -number } else { number }
 }
-
-/// Returns the digits of a text as one number, negative if there is a minus.
-pub(crate) fn number_in(text: &[u8]) -> i64
-    requires { length text.now ≤ 18 }
-    ensures { result ≡ number_in text.now }
-{
-    signed(digits_in(text), text.contains(&b'-'))
-}

@@ -90,7 +90,8 @@ impl ParserState {
                 self.expected = self.head.take(place, line)?;
                 Ok(Added::NoRow)
             }
-            Expected::Epoch if self.begins_event(line) => {
+            // No event precedes the first epoch.
+            Expected::Epoch if self.counts.epochs > 0 && is_same(line, event_line()) => {
                 self.expected = Expected::EventPosition;
                 Ok(Added::NoRow)
             }
@@ -124,13 +125,6 @@ impl ParserState {
             None => self.head.first.milliseconds() == time.milliseconds(),
             Some(times) => times.last.milliseconds() < time.milliseconds(),
         }
-    }
-
-    /// Returns whether an event begins with the line; no event precedes the first epoch.
-    fn begins_event(&self, line: &[u8]) -> bool
-        ensures { IsTrue result ↔ ((0 < self.now.counts.epochs) × (line.now ≡ event_line)) }
-    {
-        self.counts.epochs > 0 && is_same(line, event_line())
     }
 
     /// Processes the first line of an epoch, after an event with these station values or none.

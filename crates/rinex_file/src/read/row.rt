@@ -50,13 +50,7 @@ fn is_blank(text: &[u8]) -> bool
     requires { length text.now ≡ signal_columns }
     ensures { IsTrue result → text.now ≡ signal_text no_signal_values }
 {
-    if !is_blank_at(text, 0) {
-        return false;
-    }
-    if !is_blank_at(text, 16) {
-        return false;
-    }
-    if !is_blank_at(text, 32) {
+    if !is_blank_at(text, 0) || !is_blank_at(text, 16) || !is_blank_at(text, 32) {
         return false;
     }
     is_blank_at(text, 48)
@@ -93,15 +87,6 @@ fn written_in(text: &[u8]) -> Option<SignalValues>
     }
 }
 
-/// Writes a text over the first columns.
-#[inline(always)]
-fn put_over(columns: &mut [u8], text: &[u8])
-    requires { length text.now ≤ length columns.old }
-    ensures { columns.new ≡ text.now ++ drop (length text.now) columns.old }
-{
-    columns[..text.len()].copy_from_slice(text);
-}
-
 /// Returns the last columns of a text, which are those of a signal that is not whole in it, padded
 /// with blanks.
 #[inline(always)]
@@ -109,8 +94,8 @@ fn last_columns(text: &[u8]) -> [u8; SIGNAL_COLUMNS]
     ensures { result ≡ last_signal text.now }
 {
     let mut columns = [b' '; SIGNAL_COLUMNS];
-    let whole = SIGNAL_COLUMNS * (text.len() / SIGNAL_COLUMNS);
-    put_over(&mut columns, &text[whole..]);
+    let cut = &text[SIGNAL_COLUMNS * (text.len() / SIGNAL_COLUMNS)..];
+    columns[..cut.len()].copy_from_slice(cut);
     columns
 }
 

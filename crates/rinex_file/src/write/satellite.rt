@@ -115,14 +115,6 @@ impl<'a> Shown<'a> {
             lli: &cell.lli,
         }
     }
-
-    /// Returns the values in a line.
-    fn in_line(values: &'a SignalValues) -> Shown<'a>
-        ensures { result ≡ values.now }
-    {
-        let SignalValues { c, l, d, s, lli } = values;
-        Shown { c, l, d, s, lli }
-    }
 }
 
 /// Writes the columns of a signal.
@@ -274,10 +266,9 @@ pub(crate) fn put_values(
     begin_columns(row, system, id);
     let mut size = 3;
     for value in values {
-        put_signal(
-            &mut row[size..size + SIGNAL_COLUMNS],
-            &Shown::in_line(value),
-        );
+        let SignalValues { c, l, d, s, lli } = value;
+        let shown = Shown { c, l, d, s, lli };
+        put_signal(&mut row[size..size + SIGNAL_COLUMNS], &shown);
         size += SIGNAL_COLUMNS;
     }
     end_columns(row, size)

@@ -1,5 +1,6 @@
 use Rattle.rinex_file.proofs.HeaderRows.Agree.{version_same}
-use Rattle.rinex_file.proofs.Names.{arith, ◌≡◌, ◌∙◌, sym, ap, ℕ, [], ◌∷◌, length, codes, nat_lt, not, ◌==◌, PlanValue, civil_of, row_line, header_line, version_line, version_with}
+use Rattle.rinex_file.proofs.HeaderRows.Types.{length-system_types}
+use Rattle.rinex_file.proofs.Names.{arith, ◌≡◌, ◌∙◌, sym, ap, ℕ, [], ◌∷◌, length, codes, nat_lt, not, ◌==◌, PlanValue, civil_of, row_line, header_line, version_line, version_with, ◌++◌, ◌*◌, indices, length_indices, few_signals, letter_of, type_front, type_columns, type_line, types_of, codes_of}
 use Rattle.rinex_file.proofs.header.head.line_of.Goals as goal
 
 some_test : (n : ℕ) → nat_lt 0 n ≡ not (n == 0)
@@ -27,9 +28,21 @@ pub returns-in-Delta : goal.returns-in-Delta
 unfolding row_line
 returns-in-Delta c = let h = c.args.head.now in c.delta_line.ensures ∙ ap (row_line h.texts.now h.plan.now h.values (civil_of h.first)) (sym c.in-Delta.is)
 
+pub types_with-requires-clause-count : goal.types_with-requires-clause-count
+types_with-requires-clause-count c = few_signals c.in-Types.system c.of-signals.result.now c.of-signals.ensures.system
+
 pub returns-in-Types : goal.returns-in-Types
 unfolding row_line
-returns-in-Types c = let h = c.args.head.now in c.type_line.ensures ∙ ap (row_line h.texts.now h.plan.now h.values (civil_of h.first)) (sym c.in-Types.is)
+returns-in-Types c =
+    let h = c.args.head.now in
+    let system = c.in-Types.system in
+    let row = c.in-Types.row in
+    let signals = c.of-signals.result.now in
+    let types = types_of (codes_of system (indices signals)) in
+    let count = ap (λ (n : ℕ). 4 * n) (sym (length_indices signals)) ∙ sym (length-system_types system (indices signals)) in
+    c.types_with.ensures ∙ ap (λ (n : ℕ). header_line (type_front (letter_of system) n row ++ type_columns types row) (codes "SYS / # / OBS TYPES")) count
+    ∙ ap (λ l. type_line (letter_of system) (types_of (codes_of system l)) row) c.of-signals.ensures.indices
+    ∙ ap (row_line h.texts.now h.plan.now h.values (civil_of h.first)) (sym c.in-Types.is)
 
 pub returns-in-StrengthUnit : goal.returns-in-StrengthUnit
 unfolding row_line

@@ -1,7 +1,6 @@
-use Rattle.std.proofs.Common.{arith, ◌≡◌, ◌∙◌, ap, sym, subst, ℤ, ◌+◌, ◌≤◌, take, true, to_z, of_z, w64, Some, slice_index}
+use Rattle.std.proofs.Common.{arith, ◌≡◌, ◌∙◌, ap, sym, subst, ℤ, ◌+◌, ◌≤◌, take, length, true, to_z, of_z, w64, Some, slice_index}
 use Rattle.rinex_file.proofs.Fields.Lanes.{bytes_below, taken, tenth_below}
-use Rattle.rinex_file.proofs.Fields.Values.{IsShown, IsValue, shown, value_is, within, no_zero}
-use Rattle.rinex_file.proofs.Judged.{refused}
+use Rattle.rinex_file.proofs.Fields.Values.{IsShown, IsValue, limits, shown, value_is, within, no_zero}
 use Rattle.rinex_file.proofs.Fields.Templates.{front, leading-le}
 use Rattle.rinex_file.proofs.OneReading.{value_once}
 use Rattle.rinex_file.proofs.Rows.Sizes.{stays}
@@ -15,13 +14,21 @@ left : (c : After-template) (v : ℤ) → FitsColumns v → c.args.columns ≡ f
     → IsShown (zip2 taken c.args.columns c.template.result) c.args.start c.args.negative v
 left c v fits is = shown c.args.columns c.template.result c.args.start c.args.negative v (bytes_below c.args.columns c.fits-columns.1) fits is c.requires.sign c.requires.start c.template.ensures.text
 
-pub returns-then-not-are_digits : goal.returns-then-not-are_digits
-returns-then-not-are_digits c = λ v fits is.
-    refused c.are_digits.result _ c.are_digits.ensures c.if-not-are_digits.true (within _ _ _ _ (left ((goal.at.returns-then-not-are_digits c).After-template) v fits is))
+lanes : (c : After-template) → length (zip2 taken c.args.columns c.template.result) ≡ 16
+lanes c = length-zip2 taken c.args.columns c.template.result (c.fits-columns.0 ∙ sym c.template.ensures.lanes) ∙ c.fits-columns.0
+
+pub returns-then-digits-ne0 : goal.returns-then-digits-ne0
+returns-then-digits-ne0 c = λ v fits is.
+    let at = (goal.at.returns-then-digits-ne0 c).After-template in
+    c.if-digits-ne0.true ((limits _ (lanes at)).1 (within _ _ _ _ (left at v fits is)))
 
 pub zeros-requires : goal.zeros-requires
 zeros-requires c =
-    tenth_below _ (length-zip2 taken c.args.columns c.template.result (c.fits-columns.0 ∙ sym c.template.ensures.lanes) ∙ c.fits-columns.0) (c.are_digits.ensures.0 c.if-not-are_digits.false)
+    let size = lanes ((goal.at.zeros-requires c).After-template) in
+    tenth_below _ size ((limits _ size).0 c.if-digits-ne0.false)
+
+pub size_of-size-requires : goal.size_of-size-requires
+size_of-size-requires c = (limits _ (lanes ((goal.at.size_of-size-requires c).After-template))).0 c.if-digits-ne0.false
 
 pub returns-then-zeros-start : goal.returns-then-zeros-start
 returns-then-zeros-start c = λ v fits is.

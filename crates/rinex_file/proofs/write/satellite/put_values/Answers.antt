@@ -7,7 +7,7 @@ use Rattle.rinex_file.proofs.write.satellite.put_values.Goals as goal
 pub loop-value-preserved : goal.loop-value-preserved
 loop-value-preserved c =
     let inv = c.loop-value.invariant in
-    let text = c.put_signal.ensures.text ∙ ap signal_text c.in_line.ensures in
+    let text = c.put_signal.ensures.text ∙ ap signal_text c.value.view_is in
     let less = c.loop-value-test.true in
     let size : length c.put_signal.new.columns ≡ 64 = c.put_signal.ensures.size in
     let room : length c.loop-value.row ≡ 1220 = omega arith in

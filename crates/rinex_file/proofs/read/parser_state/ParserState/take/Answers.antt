@@ -32,9 +32,9 @@ returns-in_ok-self-in-Header c = λ h history. headed c.args.self.now h c.in-Hea
 pub returns-in-Epoch : goal.returns-in-Epoch
 returns-in-Epoch c = λ h history.
     let s = progress_at c.args.self.now h in
-    let (some, shown) = c.begins_event.ensures.0 c.if-begins_event.true in
+    let shown = c.is_same.ensures.0 c.if-is_same.true ∙ c.event_line.ensures in
     goes_on c.args.self.now h EventPosition c.args.self.now.head c.args.self.now.change c.args.self.now.time c.args.line.now history
-    (sound_event s c.in-Epoch.is history.sound (subst (λ (n : ℕ). 0 < n) history.counted.epochs some)) (event_taken s c.args.line.now c.in-Epoch.is shown)
+    (sound_event s c.in-Epoch.is history.sound (subst (λ (n : ℕ). 0 < n) history.counted.epochs c.if-self-gt0.true)) (event_taken s c.args.line.now c.in-Epoch.is shown)
     (event_shows s c.args.line.now c.in-Epoch.is shown)
 
 pub returns-in-None : goal.returns-in-None
