@@ -3,16 +3,15 @@ ghost use Rattle.std.specs.Prelude.{◌≡◌, ◌+◌, ◌*◌, ◌≤◌, ◌<
 ghost use Rattle.arrayvec.specs.ArrayVec.{array_vec_len};
 ghost use Rattle.gnss_obs.specs.Signals.{table, code_of};
 ghost use Rattle.gnss_obs.specs.SignalLists.{indices, IsOf};
-ghost use Rattle.gnss_obs.specs.Values.{planned_of};
 ghost use Rattle.rinex_file.specs.Lines.{letter_of};
-ghost use Rattle.rinex_file.specs.Header.{header_line, type_line, type_front, type_columns, type_rows, types_of};
+ghost use Rattle.rinex_file.specs.Header.{header_line, type_front, type_columns, type_rows, types_of};
 ghost use Rattle.rinex_file.specs.Header.{codes_of, type_of};
 ghost use Rattle.rinex_file.specs.Limits.{most_line};
 
 use crate::header::lines::labelled;
 use crate::write::line::{Line, put, put_whole};
 use crate::write::satellite::letter_of;
-use gnss_obs::{Plan, Signal, System};
+use gnss_obs::{Signal, System};
 
 /// Largest number of types in a line.
 pub(crate) const TYPES_IN_LINE: usize = 13;

@@ -1,6 +1,6 @@
 //! The value in the columns of a field, judged by lanes: the columns are those in which it is
 //! written, or nothing is read.
-ghost use Rattle.std.specs.Prelude.{◌≡◌, ◌↔◌, ◌+◌, ◌^◌, ◌≤◌, ◌<◌, if◌then◌else◌};
+ghost use Rattle.std.specs.Prelude.{◌≡◌, ◌+◌, ◌^◌, ◌≤◌, ◌<◌, if◌then◌else◌};
 ghost use Rattle.std.specs.Prelude.{length, take, drop, replicate, slice_index, IfSome, IsTrue, Some};
 ghost use Rattle.rinex_file.specs.FileValues.{FitsColumns};
 ghost use Rattle.rinex_file.specs.Lines.{field};

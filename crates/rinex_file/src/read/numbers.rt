@@ -1,7 +1,7 @@
 //! Numbers in the columns of a line, read without validation: the caller writes them again and
 //! compares.
 ghost use Rattle.std.specs.Prelude.{◌≡◌, ◌↔◌, IsTrue, ◌^◌, ◌≤◌, ◌<◌, length, pos, neg_ℤ, if◌then◌else◌};
-ghost use Rattle.rinex_file.specs.Read.Fields.{digits_in, number_in};
+ghost use Rattle.rinex_file.specs.Read.Fields.{digits_in};
 
 /// Returns whether two texts are byte-identical.
 pub(crate) fn is_same(a: &[u8], b: &[u8]) -> bool

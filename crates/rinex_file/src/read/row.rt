@@ -1,6 +1,6 @@
 //! The line of a satellite, read back: its columns are judged where they are.
-ghost use Rattle.std.specs.Prelude.{◌≡◌, ◌↔◌, ℕ, ◌+◌, ◌*◌, ◌%◌, ◌≤◌, ◌<◌, [], ◌∷◌, ◌++◌, flat_map};
-ghost use Rattle.std.specs.Prelude.{length, drop, pos, None, IfSome, IsTrue};
+ghost use Rattle.std.specs.Prelude.{◌≡◌, ◌↔◌, ℕ, ◌+◌, ◌*◌, ◌%◌, ◌≤◌, ◌<◌, [], ◌∷◌, flat_map};
+ghost use Rattle.std.specs.Prelude.{length, pos, None, IfSome, IsTrue};
 ghost use Rattle.arrayvec.specs.ArrayVec.{array_vec_len};
 ghost use Rattle.gnss_obs.specs.declared.system.System.{System};
 ghost use Rattle.rinex_file.specs.FileValues.{IsFrom, AreSignalValues, IsSatelliteRow};
@@ -17,7 +17,7 @@ use crate::values::{KeptSatellite, SignalValues};
 use crate::write::line::{MOST_SIGNALS, SIGNAL_COLUMNS};
 use crate::write::satellite::{letter_of, strength_column};
 use arrayvec::ArrayVec;
-use gnss_obs::{System, Thousandths};
+use gnss_obs::System;
 
 /// Returns the loss-of-lock indicator in the LLI column of a phase, or None if it is no such
 /// column.
@@ -85,18 +85,6 @@ fn written_in(text: &[u8]) -> Option<SignalValues>
     } else {
         None
     }
-}
-
-/// Returns the last columns of a text, which are those of a signal that is not whole in it, padded
-/// with blanks.
-#[inline(always)]
-fn last_columns(text: &[u8]) -> [u8; SIGNAL_COLUMNS]
-    ensures { result ≡ last_signal text.now }
-{
-    let mut columns = [b' '; SIGNAL_COLUMNS];
-    let cut = &text[SIGNAL_COLUMNS * (text.len() / SIGNAL_COLUMNS)..];
-    columns[..cut.len()].copy_from_slice(cut);
-    columns
 }
 
 /// Returns the columns of a signal that begins in a text with these last columns.
@@ -204,7 +192,10 @@ fn read_of(line: &[u8], system: System, signals: usize, seen: &mut KeptSatellite
     seen.satellite = id;
     resize(&mut seen.signal_values, signals);
     let columns = &text[3..];
-    let last = last_columns(columns);
+    // Those of a signal that is not whole in the line, padded with blanks.
+    let mut last = [b' '; SIGNAL_COLUMNS];
+    let cut = &columns[SIGNAL_COLUMNS * (columns.len() / SIGNAL_COLUMNS)..];
+    last[..cut.len()].copy_from_slice(cut);
     put_each_in(columns, &last, seen.signal_values.as_mut_slice())
 }
 

@@ -1,6 +1,6 @@
-use Rattle.std.proofs.Common.{arith, ◌≡◌, ◌∙◌, sym, ap, refl, subst, ℕ, ◌*◌, ◌≤◌, List, Bool, true, false, ◌-◌, ◌++◌, append-nil, length, take, drop}
+use Rattle.std.proofs.Common.{arith, ◌≡◌, ◌∙◌, sym, ap, refl, subst, ℕ, ◌*◌, ◌≤◌, List, Bool, true, false, ◌-◌, ◌++◌, append-nil, length, take, drop, replicate, ◌/◌}
 use Rattle.rinex_file.proofs.Judged.{refused}
-use Rattle.rinex_file.proofs.Rows.Cut.{cut_line_is}
+use Rattle.rinex_file.proofs.Rows.Cut.{cut_line_is, filled_over}
 use Rattle.rinex_file.proofs.OneReading.{IsTextOf, line_ended, line_once, text_of_line}
 use Rattle.rinex_file.proofs.read.row.read_of.Goals.{After-saturating_sub, then-text-lt3-via-then-text-lt3, then-text-lt3-via-else-text-lt3+then-text-signals, then-text-letter_of-via-then-text-letter_of, then-text-letter_of-via-else-text-letter_of+then-id-eq0, then-text-letter_of-via-else-text-letter_of+else-id-eq0+then-id-satellites}
 use Rattle.rinex_file.proofs.Names.{flat_map, SignalValues, drop_all, take_all, take_rest, System, satellites, SatelliteRow, letter_of, satellite_line, signal_text, filled_to, ReadsExactly, some_if, AreEntries, IsRowOf}
@@ -57,6 +57,14 @@ lent : (old new : List SignalValues) → length new ≡ length old → take (len
 lent old new size =
     ap (λ l. take (length old) (new ++ l)) (drop_all (length new) old (omega (arith, size)))
     ∙ ap (take (length old)) (append-nil new) ∙ take_all (length old) new (omega (arith, size))
+
+pub put_each_in-requires-clause-last : goal.put_each_in-requires-clause-last
+put_each_in-requires-clause-last c =
+    let text = take c.saturating_sub.result c.args.line.now in
+    let columns = take (length text - 3) (drop 3 text) in
+    let whole = 64 * (length columns / 64) in
+    let cut = take (length columns - whole) (drop whole columns) in
+    ap (λ l. l ++ drop (length cut) (replicate 64 32)) c.copy_from_slice.ensures.after ∙ filled_over 64 cut _ refl ∙ ap (filled_to 64) (take_rest columns whole)
 
 pub returns : goal.returns
 returns c =
