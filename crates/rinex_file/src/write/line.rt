@@ -90,24 +90,6 @@ pub(crate) fn put_whole(line: &mut Line, width: usize, number: u64)
     put_right(line, width, Buffer::new().format(number).as_bytes());
 }
 
-/// Returns a number, given in units of 10 to the minus `places`, with a decimal point.
-pub(crate) fn fixed_text(places: usize, scale: u64, value: i64) -> ArrayVec<u8, 64>
-    requires places { places ≤ 20 }
-    requires scale { scale ≡ 10 ^ places }
-    ensures { result.items ≡ fixed places value }
-{
-    let size = value.unsigned_abs();
-    let mut text = ArrayVec::new();
-    if value < 0 {
-        text.push(b'-');
-    }
-    let mut buffer = Buffer::new();
-    put(&mut text, buffer.format(size / scale).as_bytes());
-    text.push(b'.');
-    put_padded(&mut text, places, size % scale);
-    text
-}
-
 /// Appends a number, given in units of 10 to the minus `places`, with a decimal point and
 /// right-aligned in `width` columns.
 pub(crate) fn put_fixed(line: &mut Line, width: usize, places: usize, scale: u64, value: i64)
@@ -118,7 +100,16 @@ pub(crate) fn put_fixed(line: &mut Line, width: usize, places: usize, scale: u64
     ensures text { line.new.items ≡ line.old.items ++ right width (fixed places value) }
     ensures size { array_vec_len line.new ≤ array_vec_len line.old + 84 }
 {
-    put_right(line, width, fixed_text(places, scale, value).as_slice());
+    let size = value.unsigned_abs();
+    let mut text: ArrayVec<u8, 64> = ArrayVec::new();
+    if value < 0 {
+        text.push(b'-');
+    }
+    let mut buffer = Buffer::new();
+    put(&mut text, buffer.format(size / scale).as_bytes());
+    text.push(b'.');
+    put_padded(&mut text, places, size % scale);
+    put_right(line, width, text.as_slice());
 }
 
 /// Appends seconds, given in milliseconds, with seven decimals and right-aligned in `width`

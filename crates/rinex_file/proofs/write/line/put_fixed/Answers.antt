@@ -1,7 +1,7 @@
 use Rattle.std.proofs.Common.{arith}
 use Rattle.rinex_file.proofs.Digits.Numbers.{ten_pow}
 use Rattle.rinex_file.proofs.Names.{common_steps}
-use Rattle.rinex_file.proofs.write.line.fixed_text.Goals as goal
+use Rattle.rinex_file.proofs.write.line.put_fixed.Goals as goal
 
 pub nonzero_div-size : goal.nonzero_div-size
 nonzero_div-size c = let h = ten_pow c.args.places in omega (arith, h, c.requires.scale)
@@ -18,5 +18,5 @@ push-requires-2 c = grind (arith, common_steps)
 pub put_padded-requires : goal.put_padded-requires
 put_padded-requires c = grind (arith, common_steps)
 
-pub returns : goal.returns
-returns c = grind (arith, common_steps)
+pub returns-clause-text : goal.returns-clause-text
+returns-clause-text c = grind (arith, common_steps)
