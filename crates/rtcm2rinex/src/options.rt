@@ -73,10 +73,9 @@ pub fn setup_of(alloc: Global, options: &ArgMatches, start_week: u32) -> Result<
         Ok(texts) => texts,
         Err(fault) => return Err(ToolFault::Header(fault)),
     };
-    let plan = match Plan::parse(alloc, text(options, "gps"), text(options, "galileo")) {
-        Ok(plan) => plan,
-        Err(fault) => return Err(ToolFault::Plan(fault)),
-    };
+    let plan = Plan::parse(alloc, text(options, "gps"), text(options, "galileo")).map_err(
+        ToolFault::Plan,
+    )?;
     Ok(Setup {
         plan,
         texts,
@@ -138,18 +137,16 @@ pub fn station_of(options: &ArgMatches) -> Option<u16>
 pub fn values_of(options: &ArgMatches) -> Result<StationValues, ToolFault>
     ensures { result ≡ values_set (options_of options.now) }
 {
-    let Some((x, y, z)) = position_of(text(options, "position")) else {
-        return Err(ToolFault::BadPosition);
-    };
-    match length_below(text(options, "antenna-height"), 1 << 16) {
-        Some(height) => Ok(StationValues {
-            x,
-            y,
-            z,
-            height: height as u16,
-        }),
-        None => Err(ToolFault::BadHeight),
-    }
+    let (x, y, z) = position_of(text(options, "position")).ok_or(ToolFault::BadPosition)?;
+    let height = length_below(text(options, "antenna-height"), 1 << 16).ok_or(
+        ToolFault::BadHeight,
+    )?;
+    Ok(StationValues {
+        x,
+        y,
+        z,
+        height: height as u16,
+    })
 }
 
 // ---- weeks and dates, read from text
@@ -197,21 +194,14 @@ fn civil_in(text: &str, hour: u8) -> Option<Civil>
 {
     let (year, rest) = cut(text, '-')?;
     let (month, day) = cut(rest, '-')?;
-    match (
-        fixed_number(year, 4),
-        fixed_number(month, 2),
-        fixed_number(day, 2),
-    ) {
-        (Some(year), Some(month), Some(day)) => Some(Civil {
-            year: year as u16,
-            month: month as u8,
-            day: day as u8,
-            hour,
-            minute: 0,
-            millisecond: 0,
-        }),
-        _ => None,
-    }
+    Some(Civil {
+        year: fixed_number(year, 4)? as u16,
+        month: fixed_number(month, 2)? as u8,
+        day: fixed_number(day, 2)? as u8,
+        hour,
+        minute: 0,
+        millisecond: 0,
+    })
 }
 
 /// Parses a number of exactly `width` digits.
@@ -235,10 +225,7 @@ fn position_of(text: &str) -> Option<(i64, i64, i64)>
 {
     let (x, rest) = cut(text, ',')?;
     let (y, z) = cut(rest, ',')?;
-    match (coordinate_of(x), coordinate_of(y), coordinate_of(z)) {
-        (Some(x), Some(y), Some(z)) => Some((x, y, z)),
-        _ => None,
-    }
+    Some((coordinate_of(x)?, coordinate_of(y)?, coordinate_of(z)?))
 }
 
 /// Parses a length that fits 38 bits, with or without a minus sign, in units of 0.0001 m.
@@ -246,14 +233,8 @@ fn coordinate_of(text: &str) -> Option<i64>
     ensures { result ≡ coordinate_of text.now }
 {
     match text.strip_prefix('-') {
-        Some(size) => match length_below(size, (1 << 37) + 1) {
-            Some(length) => Some(-(length as i64)),
-            None => None,
-        },
-        None => match length_below(text, 1 << 37) {
-            Some(length) => Some(length as i64),
-            None => None,
-        },
+        Some(size) => Some(-(length_below(size, (1 << 37) + 1)? as i64)),
+        None => Some(length_below(text, 1 << 37)? as i64),
     }
 }
 
@@ -262,24 +243,16 @@ fn length_below(text: &str, bound: u64) -> Option<u64>
     ensures value { result ≡ length_below bound text.now }
     ensures below { IfSome result (λ n. n < bound) }
 {
-    match length_of(text) {
-        Some(length) if length < bound => Some(length),
-        _ => None,
-    }
+    let length = length_of(text)?;
+    (length < bound).then_some(length)
 }
 
 /// Parses a length of at most eight digits, a point and four decimals, in units of 0.0001 m.
 fn length_of(text: &str) -> Option<u64>
     ensures { result ≡ length_of text.now }
 {
-    let (whole, decimals) = match cut(text, '.') {
-        Some(parts) => parts,
-        None => (text, "0"),
-    };
-    match (number_of(whole, 8), decimals_of(decimals)) {
-        (Some(whole), Some(decimals)) => Some(whole * 10_000 + decimals),
-        _ => None,
-    }
+    let (whole, decimals) = cut(text, '.').unwrap_or((text, "0"));
+    Some(number_of(whole, 8)? * 10_000 + decimals_of(decimals)?)
 }
 
 /// Parses one to four decimals, in units of 0.0001.
@@ -288,13 +261,7 @@ fn decimals_of(text: &str) -> Option<u64>
     ensures small { IfSome result (λ n. n < 10 ^ 12) }
 {
     let number = number_of(text, 4)?;
-    let unit = match text.len() {
-        1 => 1_000,
-        2 => 100,
-        3 => 10,
-        _ => 1,
-    };
-    Some(number * unit)
+    Some(number * 10u64.pow(4 - text.len() as u32))
 }
 
 /// Returns the texts before and after the first separator, or `None` if there is none.
@@ -312,11 +279,8 @@ fn number_of(text: &str, most: usize) -> Option<u64>
     ensures value { result ≡ number_of most text.now }
     ensures small { IfSome result (λ n. n < 10 ^ most) }
 {
-    if text.len() > most {
-        return None;
-    }
     // A number may begin with a plus sign for `parse`.
-    if text.starts_with('+') {
+    if text.len() > most || text.starts_with('+') {
         return None;
     }
     text.parse().ok()

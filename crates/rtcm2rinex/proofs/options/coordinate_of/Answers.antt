@@ -3,8 +3,8 @@ use Rattle.rtcm2rinex.proofs.OptionLemmas.{no_sign}
 use Rattle.rtcm2rinex.proofs.Names.{strip_prefix_char}
 use Rattle.rtcm2rinex.proofs.options.coordinate_of.Goals as goal
 
-pub returns-in-None-length_below-2 : goal.returns-in-None-length_below-2
-returns-in-None-length_below-2 c = rw (no_sign c.args.text.now _ (strip_prefix_char 45 _ _ c.strip_prefix.ensures.cases (omega arith)) c.in-None.is) (search rules)
+pub returns-in_err-length_below-in-None : goal.returns-in_err-length_below-in-None
+returns-in_err-length_below-in-None c = rw (no_sign c.args.text.now _ (strip_prefix_char 45 _ _ c.strip_prefix.ensures.cases (omega arith)) c.in-None.is) (search rules)
 
-pub returns-in-Some-length_below-2 : goal.returns-in-Some-length_below-2
-returns-in-Some-length_below-2 c = rw (no_sign c.args.text.now _ (strip_prefix_char 45 _ _ c.strip_prefix.ensures.cases (omega arith)) c.in-None.is) (search rules)
+pub returns-in_ok-length_below-in-None : goal.returns-in_ok-length_below-in-None
+returns-in_ok-length_below-in-None c = rw (no_sign c.args.text.now _ (strip_prefix_char 45 _ _ c.strip_prefix.ensures.cases (omega arith)) c.in-None.is) (search rules)
