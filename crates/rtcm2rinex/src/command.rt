@@ -132,10 +132,7 @@ fn run<R: Read, W: Deliver, E: Write>(
 fn of_inspection(ended: Result<(), InspectFault>) -> Result<(), ToolFault>
     ensures { result ≡ of_inspection ended }
 {
-    match ended {
-        Ok(()) => Ok(()),
-        Err(fault) => Err(ToolFault::Inspect(fault)),
-    }
+    ended.map_err(ToolFault::Inspect)
 }
 
 /// Prints the options that fit the stream, for the station and near the date that are given.
