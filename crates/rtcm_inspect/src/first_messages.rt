@@ -91,10 +91,7 @@ fn point_of(wanted: Option<u16>, view: &View<'_>) -> Option<StationParts>
     match view {
         View::Station(message) => {
             let parts = message.parts();
-            match wanted {
-                Some(wanted) if wanted != parts.station => None,
-                _ => Some(parts),
-            }
+            (wanted.unwrap_or(parts.station) == parts.station).then_some(parts)
         }
         _ => None,
     }
@@ -107,10 +104,7 @@ fn tow_of(wanted: Option<u16>, view: &View<'_>) -> Option<u32>
     match view {
         View::Msm(message) => {
             let header = message.header();
-            match wanted {
-                Some(wanted) if wanted != header.station => None,
-                _ => Some(header.time),
-            }
+            (wanted.unwrap_or(header.station) == header.station).then_some(header.time)
         }
         _ => None,
     }

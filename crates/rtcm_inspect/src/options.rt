@@ -99,10 +99,7 @@ fn options_line(signals: &StreamSignals, week: Option<u32>) -> OutputLine
 fn week_for(near: Option<GpsTime>, tow: Option<u32>) -> Option<u32>
     ensures { IsWeekFor near tow result }
 {
-    match (near, tow) {
-        (Some(noon), Some(tow)) => Some(week_near(noon.milliseconds(), tow)),
-        _ => None,
-    }
+    Some(week_near(near?.milliseconds(), tow?))
 }
 
 /// Returns the week in which a time of week is nearest to noon.
