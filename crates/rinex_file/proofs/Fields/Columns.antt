@@ -35,7 +35,7 @@ pub blank_columns : (n : ℕ) → empty_columns false n ≡ replicate n 32
 blank_columns zero = refl
 blank_columns (suc n) = ap₂ (λ a l. a ∷ l) (other_column n) (blank_columns n)
 
-last_minus : (n : ℕ) → empty_columns true (suc n) ≡ replicate n 32 ++ 45 ∷ []
+pub last_minus : (n : ℕ) → empty_columns true (suc n) ≡ replicate n 32 ++ 45 ∷ []
 last_minus zero = refl
 last_minus (suc n) = ap (λ l. 32 ∷ l) (last_minus n)
 

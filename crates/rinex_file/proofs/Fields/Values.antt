@@ -1,12 +1,12 @@
 -- The value in the columns of a field: only its template leaves the digits of a size whose first digit is in its place.
-use Rattle.std.proofs.Common.{arith, ◌≡◌, ◌∙◌, sym, ap, ap₂, refl, subst, cond, ℕ, zero, suc, ◌+◌, ◌-◌, ◌*◌, ◌/◌, ◌%◌, ◌^◌, ◌<◌, ◌≤◌, List, [], ◌∷◌, ◌++◌, map, length, get_or, replicate, decimal, append_assoc, true, false, eqb, not, inl, inr, ℤ, pos, negsuc, unsigned_abs, Some, w8}
+use Rattle.std.proofs.Common.{arith, ◌≡◌, ◌∙◌, sym, ap, ap₂, refl, subst, cond, ℕ, zero, suc, ◌+◌, ◌-◌, ◌*◌, ◌/◌, ◌%◌, ◌^◌, ◌<◌, ◌≤◌, List, [], ◌∷◌, ◌++◌, map, length, get_or, replicate, drop, take, decimal, append_assoc, true, false, eqb, not, inl, inr, ℤ, pos, negsuc, unsigned_abs, Some, w8}
 use Rattle.rinex_file.proofs.Digits.Numbers.{not_negative}
 use Rattle.rinex_file.proofs.Digits.Padded.{empty_columns}
-use Rattle.rinex_file.proofs.Fields.Columns.{blank_columns, empty_columns_are, field_text, within_columns}
-use Rattle.rinex_file.proofs.Fields.Lanes.{taken, below_at, added_back, taken_back, template_below}
+use Rattle.rinex_file.proofs.Fields.Columns.{blank_columns, last_minus, empty_columns_are, field_text, within_columns}
+use Rattle.rinex_file.proofs.Fields.Lanes.{taken, below_at, added_back, taken_back, template_below, tenth_below}
 use Rattle.rinex_file.proofs.Fields.Templates.{added, front, start_is, leading-le, length-template, sign_before, value_columns}
 use Rattle.rinex_file.proofs.OneReading.{field_parts}
-use Rattle.rinex_file.proofs.Names.{Bool, ◌==◌, if◌then◌else◌, neg_ℤ, nat_lt, prefix_len, is_negative, cases_Bool, eqb-true, ne_eqb, ints, decimal_digit, first_decimal, length-map, prefix_len-le-length, bitmask_splat, first_set_mask_l, mask_l-mod, length-zip2, FitsColumns, field, AreBelow, AreWithin, blanks, digit_columns, has_minus, leading, template, LIMITS}
+use Rattle.rinex_file.proofs.Names.{Bool, ◌==◌, if◌then◌else◌, neg_ℤ, nat_lt, prefix_len, is_negative, cases_Bool, eqb-true, ne_eqb, ints, decimal_digit, first_decimal, length-map, prefix_len-le-length, bitmask_splat, first_set_mask_l, mask_l-mod, length-zip2, drop_all, drop_more, get_or-drop, get_or-zip2, add-one, FitsColumns, field, AreBelow, AreWithin, blanks, digit_columns, empty_column, has_minus, leading, template, LIMITS}
 use lib.Count.{count_trailing_zeros}
 use lib.Lanes.{zip2, mask_l, top}
 
@@ -79,20 +79,20 @@ few_blanks xs size some =
     let less = prefix_len-le-length (λ b. b == 32) xs in
     omega (arith, count, less, size)
 
-all_blank : (xs : List ℕ) → blanks xs ≡ length xs → xs ≡ replicate (length xs) 32
-all_blank [] e = refl
-all_blank (x ∷ xs) e =
+blanks_first : (xs : List ℕ) → xs ≡ replicate (blanks xs) 32 ++ drop (blanks xs) xs
+blanks_first [] = refl
+blanks_first (x ∷ xs) =
     elim (cases_Bool (x == 32)) [
       | inl blank ↦
-          let more : 1 + blanks xs ≡ suc (length xs) = ap (λ b. cond b (1 + blanks xs) 0) (sym blank) ∙ e in
-          ap₂ (λ a r. a ∷ r) (eqb-true x 32 blank) (all_blank xs (omega (arith, more)))
-      | inr other ↦
-          let none : 0 ≡ suc (length xs) = ap (λ b. cond b (1 + blanks xs) 0) (sym other) ∙ e in
-          absurd (omega (arith, none))
+          let more : suc (blanks xs) ≡ blanks (x ∷ xs) = omega arith ∙ ap (λ b. cond b (1 + blanks xs) 0) (sym blank) in
+          ap₂ (λ a r. a ∷ r) (eqb-true x 32 blank) (blanks_first xs) ∙ ap (λ k. replicate k 32 ++ drop k (x ∷ xs)) more
+      | inr other ↦ ap (λ k. replicate k 32 ++ drop k (x ∷ xs)) (ap (λ b. cond b (1 + blanks xs) 0) (sym other))
     ]
 
 pub sixteen_blank : (xs : List ℕ) (n : ℕ) → length xs ≡ 16 → n ≡ blanks xs → n ≡ 16 → xs ≡ replicate 16 32
-sixteen_blank xs n size count all = all_blank xs (sym count ∙ all ∙ sym size) ∙ ap (λ k. replicate k 32) size
+sixteen_blank xs n size count all =
+    let k : blanks xs ≡ 16 = sym count ∙ all in
+    blanks_first xs ∙ ap (λ k. replicate k 32 ++ drop k xs) k ∙ ap (λ r. replicate 16 32 ++ r) (drop_all 16 xs (omega (arith, size)))
 
 -- blanks before another column
 blanks_before : (k b : ℕ) (rest : List ℕ) → (b == 32) ≡ false → (blanks (replicate k 32 ++ b ∷ rest) ≡ k) × (get_or (replicate k 32 ++ b ∷ rest) k 0 ≡ b)
@@ -224,6 +224,72 @@ no_zero ds start s y z b v is minus none digits =
 
 abbrev pub IsValue : List ℕ → ℤ → Type 0
 IsValue columns v = FitsColumns v × (columns ≡ field (Some v) (get_or columns 14 0) (get_or columns 15 0))
+
+-- columns that begin so
+begin_as : (b : Bool) (start : ℕ) (columns : List ℕ) → length columns ≡ 16 → blanks columns ≤ 9 → Begins columns b start → columns ≡ empty_columns b start ++ drop start columns
+begin_as false start columns size few (sign, at) = blanks_first columns ∙ ap (λ k. replicate k 32 ++ drop k columns) at ∙ ap (λ l. l ++ drop start columns) (sym (blank_columns start))
+begin_as true start columns size few (sign, at) =
+    let k = blanks columns in
+    let minus : get_or columns k 0 ≡ 45 = eqb-true (get_or columns k 0) 45 sign in
+    blanks_first columns ∙ ap (λ l. replicate k 32 ++ l) (drop_more columns k 0 (omega (arith, size, few)) ∙ ap (λ d. d ∷ drop (k + 1) columns) minus)
+    ∙ sym (append_assoc (replicate k 32) (45 ∷ []) (drop (k + 1) columns)) ∙ ap (λ l. l ++ drop (k + 1) columns) (sym (last_minus k))
+    ∙ ap₂ (λ m n. empty_columns true m ++ drop n columns) (sym (add-one k) ∙ at) at
+
+-- their leading zeros end where the first digit is, if that is not a zero or is the last
+empty_taken : (b : Bool) (n : ℕ) → taken (empty_column n b) (empty_column n b) ≡ 0
+empty_taken true zero = refl
+empty_taken false zero = refl
+empty_taken b (suc n) = refl
+
+no_leading : (d : ℕ) (ds : List ℕ) → (d ≡ 0 → ⊥) → leading (d ∷ ds) ≡ 0
+no_leading zero ds some = absurd (some refl)
+no_leading (suc d) ds some = refl
+
+zeros_before : (b : Bool) (n start : ℕ) (rest : List ℕ) → start ≤ n → get_or rest 0 0 < 256 → (start < n → get_or rest 0 0 ≡ 48 → ⊥)
+    → leading (take n (zip2 taken (empty_columns b start ++ rest) (template b n start))) ≡ start
+zeros_before b zero start rest few small some = omega (arith, few)
+zeros_before b (suc n) zero [] few small some = refl
+zeros_before b (suc n) zero (x ∷ rest) few small some = no_leading (taken x 48) (take n (zip2 taken rest (template b n 0))) (λ none. some (omega arith) (omega (arith, none, small)))
+zeros_before b (suc n) (suc start) rest few small some =
+    ap (λ d. leading (d ∷ take n (zip2 taken (empty_columns b start ++ rest) (template b n start)))) (empty_taken b start)
+    ∙ ap (λ (k : ℕ). suc k) (zeros_before b n start rest (omega (arith, few)) small (λ h. some (omega (arith, h))))
+
+pub first_is : (columns : List ℕ) (b : Bool) (start : ℕ) → length columns ≡ 16 → AreBelow 256 columns → blanks columns ≤ 9 → Begins columns b start → start ≤ 9 → (start < 9 → get_or columns start 0 ≡ 48 → ⊥)
+    → leading (take 9 (zip2 taken columns (template b 9 start))) ≡ start
+first_is columns b start size below few begin less some =
+    let first : get_or (drop start columns) 0 0 ≡ get_or columns start 0 = get_or-drop start columns 0 0 ∙ ap (λ n. get_or columns n 0) (omega arith) in
+    ap (λ l. leading (take 9 (zip2 taken l (template b 9 start)))) (begin_as b start columns size few begin)
+    ∙ zeros_before b 9 start (drop start columns) less (subst (λ (d : ℕ). d < 256) (sym first) (below_at 256 columns (omega arith) below start)) (λ h zero. some h (sym first ∙ zero))
+
+-- no minus is in the column of the last whole digit
+pub within_nine : (columns ts : List ℕ) (start : ℕ) (b : Bool) → length columns ≡ 16 → length ts ≡ 16 → blanks columns ≤ 9 → Begins columns b start → (start ≡ 10 → get_or ts 9 0 ≡ 48) → AreWithin LIMITS (zip2 taken columns ts) → start ≤ 9
+within_nine columns ts start false size long few (sign, at) last are = omega (arith, at, few)
+within_nine columns ts start true size long few (sign, at) last are =
+    let minus : start ≡ 10 → get_or (zip2 taken columns ts) 9 0 ≡ 253 = λ ten. get_or-zip2 taken columns ts 9 0 0 0 (omega (arith, size)) (omega (arith, long))
+    ∙ ap₂ taken (ap (λ n. get_or columns n 0) (omega (arith, at, ten)) ∙ eqb-true (get_or columns (blanks columns) 0) 45 sign) (last ten) in
+    let digit = tenth_below (zip2 taken columns ts) (length-zip2 taken columns ts (size ∙ sym long) ∙ size) are in
+    grind (arith, at, few, minus, digit)
+
+-- the digits of a zero begin with one
+pub zero_first : (columns ts : List ℕ) (b : Bool) (start s y z : ℕ) → length columns ≡ 16 → AreBelow 256 columns → start ≡ leading (front s) → ts ≡ template b 9 start → zip2 taken columns ts ≡ digit_columns s y z → s ≡ 0 → get_or columns start 0 ≡ 48
+zero_first columns ts b start s y z size below lead row digits none =
+    let nine : start ≡ 9 = lead ∙ ap (λ n. leading (front n)) none in
+    let h = below_at 256 columns (omega arith) below 9 in
+    let lane = sym (get_or-zip2 taken columns (template b 9 9) 9 0 0 0 (omega (arith, size)) (omega arith)) ∙ ap (λ l. get_or (zip2 taken columns l) 9 0) (ap (template b 9) (sym nine) ∙ sym row) ∙ ap (λ l. get_or l 9 0) digits in
+    ap (λ n. get_or columns n 0) nine ∙ omega (arith, h, lane, none)
+
+-- no value with more than one whole digit begins with a zero
+pub no_zero_first : (b : Bool) (n start : ℕ) (xs : List ℕ) → start < n → get_or xs start 0 ≡ 48 → leading (take n (zip2 taken xs (template b n start))) ≡ start → ⊥
+no_zero_first b n start [] small none is = absurd (omega (arith, none))
+no_zero_first b zero start (x ∷ xs) small none is = omega (arith, small)
+no_zero_first b (suc n) zero (x ∷ xs) small none is =
+    let one : suc (leading (take n (zip2 taken xs (template b n 0)))) ≡ 0 = ap (λ d. leading (taken d 48 ∷ take n (zip2 taken xs (template b n 0)))) (sym none) ∙ is in
+    omega (arith, one)
+no_zero_first b (suc n) (suc start) (x ∷ xs) small none is =
+    no_zero_first b n start xs (omega (arith, small)) none (one_less (taken x (empty_column start b)) (take n (zip2 taken xs (template b n start))) start is) where
+      one_less : (d : ℕ) (ds : List ℕ) (k : ℕ) → leading (d ∷ ds) ≡ suc k → leading ds ≡ k
+      one_less zero ds k is = omega (arith, is)
+      one_less (suc d) ds k is = absurd (omega (arith, is))
 
 -- the value of a size and a sign
 signed_is : (s : ℕ) (b : Bool) → s < 10 ^ 13 → (b ≡ true → 1 ≤ leading (front s)) → (b ≡ true → s ≡ 0 → ⊥)

@@ -1,6 +1,6 @@
 //! The value in the columns of a field, judged by lanes: the columns are those in which it is
 //! written, or nothing is read.
-ghost use Rattle.std.specs.Prelude.{◌≡◌, ◌+◌, ◌^◌, ◌≤◌, ◌<◌, if◌then◌else◌};
+ghost use Rattle.std.specs.Prelude.{◌≡◌, ◌↔◌, ◌+◌, ◌^◌, ◌≤◌, ◌<◌, if◌then◌else◌};
 ghost use Rattle.std.specs.Prelude.{length, take, drop, replicate, slice_index, IfSome, IsTrue, Some};
 ghost use Rattle.rinex_file.specs.FileValues.{FitsColumns};
 ghost use Rattle.rinex_file.specs.Lines.{field};
@@ -9,12 +9,20 @@ ghost use Rattle.rinex_file.specs.Words.{AreBelow, AreWithin, digit_columns};
 ghost use Rattle.rinex_file.specs.Words.{blanks, has_minus, twos_of};
 
 use crate::read::numbers::signed;
-use crate::write::lanes::{template, zeros};
+use crate::write::lanes::template;
 use gnss_obs::Thousandths;
 use std::simd::prelude::*;
 
 /// The largest digit in each column of a value. The last two columns have none.
 const LIMITS: [u8; 16] = [9, 9, 9, 9, 9, 9, 9, 9, 9, 9, 0, 9, 9, 9, 255, 255];
+
+/// Returns whether no number is more than the largest digit of its column.
+#[inline(always)]
+fn are_digits(digits: u8x16) -> bool
+    ensures { IsTrue result ↔ AreWithin LIMITS digits }
+{
+    digits.simd_gt(u8x16::from_array(LIMITS)).to_bitmask() == 0
+}
 
 /// Returns the numbers of each two digits.
 #[inline(always)]
@@ -60,25 +68,29 @@ fn size_of(digits: u8x16) -> u64
 }
 
 /// Returns the value whose columns these are, with the LLI and SSI columns that they have, or None
-/// if they are those of no value. Its first digit is in column `start`.
+/// if they are those of no value. Its first digit is in column `start`, and is `first`.
 #[inline(always)]
-fn value_in(columns: u8x16, start: usize, negative: bool) -> Option<Thousandths>
-    requires few { start ≤ 10 }
+fn value_in(columns: u8x16, start: usize, first: u8, negative: bool) -> Option<Thousandths>
+    requires few { blanks columns ≤ 9 }
     requires sign { negative ≡ has_minus columns }
     requires start { start ≡ (if negative then blanks columns + 1 else blanks columns) }
+    requires first { first ≡ slice_index columns start }
     ensures { ReadsExactly FitsColumns (λ v. field (Some v) (slice_index columns 14) (slice_index columns 15))
         columns result }
 {
     let digits = columns - template(start, negative);
-    if digits.simd_gt(u8x16::from_array(LIMITS)).to_bitmask() != 0 {
-        return None;
-    }
-    if zeros(digits) != start {
+    if !are_digits(digits) {
         return None;
     }
     let size = size_of(digits);
-    if negative && size == 0 {
-        return None;
+    // A value begins with a zero only if that is its one whole digit.
+    if first == b'0' {
+        if start < 9 {
+            return None;
+        }
+        if negative && size == 0 {
+            return None;
+        }
     }
     Some(Thousandths::new(signed(size, negative)))
 }
@@ -124,11 +136,16 @@ pub(crate) fn field_in(
     if empty > 9 {
         return if empty == 16 { Some(None) } else { None };
     }
-    if text[at + 14] != lost || text[at + 15] != strength {
+    if text[at + 14] != lost {
+        return None;
+    }
+    if text[at + 15] != strength {
         return None;
     }
     let negative = text[at + empty] == b'-';
-    let start = if negative { empty + 1 } else { empty };
-    let value = value_in(columns, start, negative)?;
-    Some(Some(value))
+    let start = empty + usize::from(negative);
+    match value_in(columns, start, text[at + start], negative) {
+        Some(value) => Some(Some(value)),
+        None => None,
+    }
 }

@@ -10,7 +10,7 @@ use std::simd::prelude::*;
 
 /// The columns to which the digits of a value are added, for each number of columns before its
 /// first digit: those of a value that isn't negative, then, from row 10 on, those of one that is.
-/// No value has the last row, but a reader finds it.
+/// No value has the last row, but a reader finds it: there its minus is taken for a digit.
 static TEMPLATES: [[u8; 16]; 20] = [
     *b"0000000000.000  ",
     *b" 000000000.000  ",
@@ -31,7 +31,7 @@ static TEMPLATES: [[u8; 16]; 20] = [
     *b"      -000.000  ",
     *b"       -00.000  ",
     *b"        -0.000  ",
-    *b"         -.000  ",
+    *b"         0.000  ",
 ];
 
 /// Zero for each digit that may be a leading zero. No digit is equal to the others.
@@ -118,7 +118,7 @@ fn digits_of_two(first: u32, second: u32) -> (u8x16, u8x16)
 
 /// Returns the number of leading zeros among the first nine digits.
 #[inline(always)]
-pub(crate) fn zeros(digits: u8x16) -> usize
+fn zeros(digits: u8x16) -> usize
     requires { slice_index digits 9 < 10 }
     ensures { result ≡ leading (take 9 digits) }
 {
@@ -135,6 +135,7 @@ pub(crate) fn template(start: usize, negative: bool) -> u8x16
     requires { start ≤ 10 }
     ensures lanes { length result ≡ 16 }
     ensures text { start ≤ 9 → (negative ≡ true → 1 ≤ start) → result ≡ template negative 9 start }
+    ensures last { start ≡ 10 → slice_index result 9 ≡ 48 }
 {
     u8x16::from_array(TEMPLATES[if negative { start + 9 } else { start }])
 }

@@ -1,8 +1,8 @@
-use Rattle.std.proofs.Common.{arith, ◌≡◌, ◌∙◌, ap, ap₂, sym, ℤ, ◌+◌, ◌<◌, take, drop, Option, Some, None, get_or, IfSome}
+use Rattle.std.proofs.Common.{arith, ◌≡◌, ◌∙◌, ap, ap₂, sym, ℤ, ℕ, ◌+◌, ◌<◌, take, drop, Option, Some, None, get_or, IfSome}
 use Rattle.rinex_file.proofs.Fields.Lanes.{lanes_are, lane_is, sixteen_long}
 use Rattle.rinex_file.proofs.Fields.Values.{few_before, sixteen_blank}
 use Rattle.rinex_file.proofs.OneReading.{no_field, field_once, value_of}
-use Rattle.rinex_file.proofs.read.fields.field_in.Goals.{After-blanks_in-empty, then-text-at-via-then-text-at, then-text-at-via-else-text-at+then-text-at-2}
+use Rattle.rinex_file.proofs.read.fields.field_in.Goals.{After-blanks_in-empty}
 use Rattle.rinex_file.proofs.Names.{◌==◌, FitsColumns, blanks, field}
 use Rattle.rinex_file.proofs.read.fields.field_in.Goals as goal
 
@@ -32,10 +32,12 @@ returns-else-empty-eq16 c = λ w fits is.
 pub returns-then-text-at : goal.returns-then-text-at
 returns-then-text-at c = λ w fits is.
     let (v, small, shows, lost, strength) = value ((goal.at.returns-then-text-at c).After-blanks_in-empty) (λ all. omega (arith, all, c.if-empty-gt9.false)) w fits is in
-    elim c.then-text-at.branch [
-      | then-text-at-via-then-text-at r ↦ r.if-text-at.true lost
-      | then-text-at-via-else-text-at+then-text-at-2 r ↦ r.if-text-at-2.true strength
-    ]
+    c.if-text-at.true lost
+
+pub returns-then-text-at-2 : goal.returns-then-text-at-2
+returns-then-text-at-2 c = λ w fits is.
+    let (v, small, shows, lost, strength) = value ((goal.at.returns-then-text-at-2 c).After-blanks_in-empty) (λ all. omega (arith, all, c.if-empty-gt9.false)) w fits is in
+    c.if-text-at-2.true strength
 
 pub value_in-requires-clause-sign : goal.value_in-requires-clause-sign
 value_in-requires-clause-sign c =
@@ -44,16 +46,21 @@ value_in-requires-clause-sign c =
     let few : c.blanks_in-empty.result < 16 = omega (arith, c.if-empty-gt9.false) in
     ap (λ b. b == 45) (sym (lane_is c.args.text.now c.args.at c.blanks_in-empty.result few) ∙ ap₂ (λ r k. get_or r k 0) (sym is) c.blanks_in-empty.ensures.count)
 
-pub returns-in_err-value : goal.returns-in_err-value
-returns-in_err-value c = rw c.from_residual.ensures (λ w fits e.
-    let is = lanes_are c.args.text.now c.args.at in
-    let (v, small, shows, lost, strength) = value_of _ w _ _ _ fits e (counted ((goal.at.returns-in_err-value c).After-blanks_in-empty)) (λ all. omega (arith, all, c.if-empty-gt9.false)) in
-    c.in_err-value.ensures v small (is ∙ shows ∙ ap₂ (λ a b. field (Some v) a b) (sym (ap (λ r. get_or r 14 0) is ∙ lost)) (sym (ap (λ r. get_or r 15 0) is ∙ strength))))
+pub value_in-requires-clause-first : goal.value_in-requires-clause-first
+value_in-requires-clause-first c =
+    let start : ℕ = c.blanks_in-empty.result + c.from.result in
+    sym (ap (λ r. get_or r start 0) (lanes_are c.args.text.now c.args.at) ∙ lane_is c.args.text.now c.args.at start (grind (arith, c.from.ensures, c.if-empty-gt9.false)))
 
-pub returns : goal.returns
-returns c =
+pub returns-in-Some : goal.returns-in-Some
+returns-in-Some c =
     let is = lanes_are c.args.text.now c.args.at in
     let lost = ap (λ r. get_or r 14 0) is ∙ lane_is c.args.text.now c.args.at 14 (omega arith) ∙ c.if-text-at.false in
     let strength = ap (λ r. get_or r 15 0) is ∙ lane_is c.args.text.now c.args.at 15 (omega arith) ∙ c.if-text-at-2.false in
-    let shows = sym is ∙ c.in_ok-value.ensures.1 ∙ ap₂ (λ a b. field (Some c.in_ok-value.value) a b) lost strength in
-    (c.in_ok-value.ensures.0, shows, λ w fits e. field_once w (Some c.in_ok-value.value) _ _ c.args.lost c.args.strength fits c.in_ok-value.ensures.0 (sym e ∙ shows))
+    let shows = sym is ∙ c.in-Some.ensures.1 ∙ ap₂ (λ a b. field (Some c.in-Some.value) a b) lost strength in
+    (c.in-Some.ensures.0, shows, λ w fits e. field_once w (Some c.in-Some.value) _ _ c.args.lost c.args.strength fits c.in-Some.ensures.0 (sym e ∙ shows))
+
+pub returns-in-None : goal.returns-in-None
+returns-in-None c = λ w fits e.
+    let is = lanes_are c.args.text.now c.args.at in
+    let (v, small, shows, lost, strength) = value_of _ w _ _ _ fits e (counted ((goal.at.returns-in-None c).After-blanks_in-empty)) (λ all. omega (arith, all, c.if-empty-gt9.false)) in
+    c.in-None.ensures v small (is ∙ shows ∙ ap₂ (λ a b. field (Some v) a b) (sym (ap (λ r. get_or r 14 0) is ∙ lost)) (sym (ap (λ r. get_or r 15 0) is ∙ strength)))

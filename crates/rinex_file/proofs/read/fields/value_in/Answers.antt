@@ -1,11 +1,12 @@
-use Rattle.std.proofs.Common.{arith, ◌≡◌, ◌∙◌, ap, sym, subst, ℤ, ◌+◌, ◌≤◌, take, length, true, to_z, of_z, w64, Some, slice_index}
-use Rattle.rinex_file.proofs.Fields.Lanes.{bytes_below, taken, tenth_below}
-use Rattle.rinex_file.proofs.Fields.Values.{IsShown, IsValue, limits, shown, value_is, within, no_zero}
-use Rattle.rinex_file.proofs.Fields.Templates.{front, leading-le}
+use Rattle.std.proofs.Common.{arith, ◌≡◌, ◌∙◌, ap, sym, subst, ℤ, ◌+◌, ◌≤◌, ◌<◌, take, true, to_z, of_z, w64, Some, slice_index}
+use Rattle.rinex_file.proofs.Fields.Lanes.{bytes_below, taken}
+use Rattle.rinex_file.proofs.Fields.Values.{Begins, IsShown, IsValue, shown, value_is, within, no_zero, no_zero_first, first_is, within_nine, zero_first}
+use Rattle.rinex_file.proofs.Judged.{refused}
+use Rattle.rinex_file.proofs.Fields.Templates.{front}
 use Rattle.rinex_file.proofs.OneReading.{value_once}
 use Rattle.rinex_file.proofs.Rows.Sizes.{stays}
-use Rattle.rinex_file.proofs.read.fields.value_in.Goals.{After-template, else-negative-via-then-negative+else-size-eq0, else-negative-via-else-negative}
-use Rattle.rinex_file.proofs.Names.{if◌then◌else◌, length-zip2, FitsColumns, blanks, field, leading}
+use Rattle.rinex_file.proofs.read.fields.value_in.Goals.{After-template, Start, else-first-eq48, then-first-eq48+else-start-lt9+else-negative, else-negative-via-then-negative+else-size-eq0, else-negative-via-else-negative}
+use Rattle.rinex_file.proofs.Names.{if◌then◌else◌, get_or, FitsColumns, blanks, field, leading}
 use lib.Lanes.{zip2}
 use Rattle.rinex_file.proofs.read.fields.value_in.Goals as goal
 
@@ -14,26 +15,20 @@ left : (c : After-template) (v : ℤ) → FitsColumns v → c.args.columns ≡ f
     → IsShown (zip2 taken c.args.columns c.template.result) c.args.start c.args.negative v
 left c v fits is = shown c.args.columns c.template.result c.args.start c.args.negative v (bytes_below c.args.columns c.fits-columns.1) fits is c.requires.sign c.requires.start c.template.ensures.text
 
-lanes : (c : After-template) → length (zip2 taken c.args.columns c.template.result) ≡ 16
-lanes c = length-zip2 taken c.args.columns c.template.result (c.fits-columns.0 ∙ sym c.template.ensures.lanes) ∙ c.fits-columns.0
+pub returns-then-not-are_digits : goal.returns-then-not-are_digits
+returns-then-not-are_digits c = λ v fits is.
+    refused c.are_digits.result _ c.are_digits.ensures c.if-not-are_digits.true (within _ _ _ _ (left ((goal.at.returns-then-not-are_digits c).After-template) v fits is))
 
-pub returns-then-digits-ne0 : goal.returns-then-digits-ne0
-returns-then-digits-ne0 c = λ v fits is.
-    let at = (goal.at.returns-then-digits-ne0 c).After-template in
-    c.if-digits-ne0.true ((limits _ (lanes at)).1 (within _ _ _ _ (left at v fits is)))
+-- before a negative value is a column for its minus
+before : (c : Start) → c.args.negative ≡ true → 1 ≤ c.args.start
+before c is = let at = c.requires.start ∙ ap (λ t. if t then blanks c.args.columns + 1 else blanks c.args.columns) is in omega (arith, at)
 
-pub zeros-requires : goal.zeros-requires
-zeros-requires c =
-    let size = lanes ((goal.at.zeros-requires c).After-template) in
-    tenth_below _ size ((limits _ size).0 c.if-digits-ne0.false)
-
-pub size_of-size-requires : goal.size_of-size-requires
-size_of-size-requires c = (limits _ (lanes ((goal.at.size_of-size-requires c).After-template))).0 c.if-digits-ne0.false
-
-pub returns-then-zeros-start : goal.returns-then-zeros-start
-returns-then-zeros-start c = λ v fits is.
-    let are = left ((goal.at.returns-then-zeros-start c).After-template) v fits is in
-    c.if-zeros-start.true (c.zeros.ensures ∙ ap (λ l. leading (take 9 l)) are.digits ∙ are.lead)
+pub returns-then-start-lt9 : goal.returns-then-start-lt9
+returns-then-start-lt9 c = λ v fits is.
+    let are = left ((goal.at.returns-then-start-lt9 c).After-template) v fits is in
+    let few = c.if-start-lt9.true in
+    no_zero_first c.args.negative 9 c.args.start c.args.columns few (sym c.requires.first ∙ c.if-first-eq48.true)
+    (ap (λ ts. leading (take 9 (zip2 taken c.args.columns ts))) (sym (c.template.ensures.text (omega (arith, few)) (before ((goal.at.returns-then-start-lt9 c).Start)))) ∙ ap (λ l. leading (take 9 l)) are.digits ∙ are.lead)
 
 pub returns-then-size-eq0 : goal.returns-then-size-eq0
 returns-then-size-eq0 c = λ v fits is.
@@ -43,14 +38,26 @@ pub returns : goal.returns
 returns c =
     let columns = c.args.columns in
     let negative = c.args.negative in
-    let before : negative ≡ true → 1 ≤ c.args.start = λ is. let at = c.requires.start ∙ ap (λ t. if t then blanks columns + 1 else blanks columns) is in omega (arith, at) in
-    let some : negative ≡ true → c.size_of-size.result ≡ 0 → ⊥ = elim c.else-negative.branch [
-      | else-negative-via-then-negative+else-size-eq0 w ↦ λ is none. w.if-size-eq0.false none
-      | else-negative-via-else-negative w ↦ λ is none. absurd (cc (is, w.if-negative.false))
+    let start = c.args.start in
+    let size = c.size_of-size.result in
+    let below = bytes_below columns c.fits-columns.1 in
+    let begin : Begins columns negative start = (sym c.requires.sign, sym c.requires.start) in
+    let few = within_nine columns c.template.result start negative c.fits-columns.0 c.template.ensures.lanes c.requires.few begin c.template.ensures.last (c.are_digits.ensures.0 c.if-not-are_digits.false) in
+    let sign = before ((goal.at.returns c).Start) in
+    let row = c.template.ensures.text few sign in
+    let other : (start < 9 → get_or columns start 0 ≡ 48 → ⊥) × (negative ≡ true → size ≡ 0 → get_or columns start 0 ≡ 48 → ⊥) = elim c.if-first-eq48.branch [
+      | else-first-eq48 w ↦ (λ less zero. w.if-first-eq48.false (c.requires.first ∙ zero), λ is none zero. w.if-first-eq48.false (c.requires.first ∙ zero))
+      | then-first-eq48+else-start-lt9+else-negative w ↦ (
+        λ less zero. omega (arith, w.if-start-lt9.false, less),
+        elim w.else-negative.branch [
+          | else-negative-via-then-negative+else-size-eq0 u ↦ λ is none zero. u.if-size-eq0.false none
+          | else-negative-via-else-negative u ↦ λ is none zero. absurd (cc (is, u.if-negative.false))
+        ],
+      )
     ] in
-    let lead : c.args.start ≡ leading (front c.size_of-size.result) = sym c.if-zeros-start.false ∙ c.zeros.ensures ∙ ap (λ l. leading (take 9 l)) c.size_of-size.ensures.digits in
-    let few = leading-le (front c.size_of-size.result) in
-    let value = value_is columns c.template.result c.size_of-size.result c.args.start negative c.fits-columns.0 (bytes_below columns c.fits-columns.1) c.size_of-size.ensures.bound lead before some
-    (c.template.ensures.text (omega (arith, lead, few)) before) c.size_of-size.ensures.digits in
+    let lead : start ≡ leading (front size) =
+    sym (first_is columns negative start c.fits-columns.0 below c.requires.few begin few other.0) ∙ ap (λ ts. leading (take 9 (zip2 taken columns ts))) (sym row) ∙ ap (λ l. leading (take 9 l)) c.size_of-size.ensures.digits in
+    let some : negative ≡ true → size ≡ 0 → ⊥ = λ is none. other.1 is none (zero_first columns c.template.result negative start size _ _ c.fits-columns.0 below lead row c.size_of-size.ensures.digits none) in
+    let value = value_is columns c.template.result size start negative c.fits-columns.0 below c.size_of-size.ensures.bound lead sign some row c.size_of-size.ensures.digits in
     let (fits, is) = subst (IsValue columns) (sym (c.new.ensures ∙ ap (λ (z : ℤ). to_z w64 (of_z w64 z)) c.signed.ensures ∙ stays _ value.0)) value in
     (fits, is, λ w also shows. value_once w _ _ _ also fits (sym shows ∙ is))
