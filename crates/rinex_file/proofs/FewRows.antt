@@ -1,6 +1,5 @@
 -- A plan has no more signals than the tables, and an epoch no more satellites than the planned systems.
-use Rattle.std.proofs.Common.{arith, ◌≡◌, refl, sym, subst, ℕ, suc, ◌+◌, ◌-◌, ◌<◌, ◌≤◌, Bool, true, false, eqb, List, [], ◌∷◌, length}
-use Rattle.rinex_file.proofs.Names.{◌||◌, if◌then◌else◌, All, map, nat_lt, slice_index, list_any, IsStrictlyIncreasing, eqb-true, lt-ltb, All-head, All-tail, length-le_from_distinct_below, table, System, Gps, Galileo, PlanValue, planned_of, satellites, SatelliteRow, IsPlan, IsSatelliteRow, AreSatelliteRows, of_system, rank_of, most_rows}
+use Rattle.rinex_file.proofs.Names.{arith, ◌≡◌, refl, sym, subst, ℕ, suc, ◌+◌, ◌-◌, ◌<◌, ◌≤◌, Bool, true, false, eqb, List, [], ◌∷◌, length, ◌||◌, if◌then◌else◌, All, map, nat_lt, slice_index, list_any, IsStrictlyIncreasing, eqb-true, lt-ltb, All-head, All-tail, length-le_from_distinct_below, table, System, Gps, Galileo, PlanValue, planned_of, satellites, SatelliteRow, IsPlan, IsSatelliteRow, AreSatelliteRows, of_system, rank_of, most_rows}
 
 -- ---- signals
 

@@ -1,9 +1,8 @@
 -- The end of a check of a file.
-use Rattle.std.proofs.Common.{◌≡◌, ◌∙◌, ◌∷◌, ◌++◌, [], ap, inl, inr, codes, decimal, length, refl, sym, subst, ℕ, List, Option, Some, None, Result, Ok, Err, IfSome}
 use Rattle.rinex_file.specs.declared.read.file.Counts.{Counts}
 use Rattle.rtcm_inspect.proofs.PrintingLemmas.{passed}
 use Rattle.rtcm_inspect.proofs.LineLemmas.{add_count, add_text, add_word, end_line}
-use Rattle.rtcm_inspect.proofs.Names.{Device, HasFailed, IsNoFault, FileValue, file_text, IsFileValue, AreCounts, ReadFault, Memory, Read, BadHeader, BadEpoch, BadEvent, BadSatellite, CutShort, TooLong, ⊤, IsErrAnd, Keeps, InspectFault, Ends, ReadFailures, EndsPrinting, rows_in, line, check_line, ChecksWhole, IsCheckedOr, StopsAnyCheck}
+use Rattle.rtcm_inspect.proofs.Names.{◌≡◌, ◌∙◌, ◌∷◌, ◌++◌, [], ap, inl, inr, codes, decimal, length, refl, sym, subst, ℕ, List, Option, Some, None, Result, Ok, Err, IfSome, Device, HasFailed, IsNoFault, FileValue, file_text, IsFileValue, AreCounts, ReadFault, Memory, Read, BadHeader, BadEpoch, BadEvent, BadSatellite, CutShort, TooLong, ⊤, IsErrAnd, Keeps, InspectFault, Ends, ReadFailures, EndsPrinting, rows_in, line, check_line, ChecksWhole, IsCheckedOr, StopsAnyCheck}
 use Rattle.rtcm_inspect.specs.declared.fault.InspectFault.TheVariants as faults
 
 -- a property of known bytes

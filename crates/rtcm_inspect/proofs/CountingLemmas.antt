@@ -1,6 +1,5 @@
 -- Signal counts as a consumer of frames.
-use Rattle.std.proofs.Common.{◌≡◌, ◌∙◌, ap, inr, ◌*◌, ◌<◌, ◌≤◌, ◌^◌, sym, subst, arith, Bool, true, ℕ, List, [], ◌∷◌, ◌++◌, Option, Result, Ok, Err, length, length-append, append-nil, refl}
-use Rattle.rtcm_inspect.proofs.Names.{Framed, frames_of, known_frames, Device, HasFailed, StreamFault, ⊤, InspectFault, EndsPrinting, ReadFailures, stream_fault, AtFault, Passes, BreaksReading, HasPassedAll, PassesAll, PassesToLimit, Reads, FramerValue, AreSignalCounts, CountsMessage, SignalCountsValue, valued, heard, HeardCell, heard_of, message_at, MsgFault, Message, valued_in, valued_of, flat_map-append, AreFirst, AreOptionsOf, EndsOptions, EndsSignals, ReadsTooMuch, SignalText, Counts, StopsCounting, HasCounted, IsCounted, AreSignals, NeverFails, option_map_or, StreamSignals}
+use Rattle.rtcm_inspect.proofs.Names.{◌≡◌, ◌∙◌, ap, inr, ◌*◌, ◌<◌, ◌≤◌, ◌^◌, sym, subst, arith, Bool, true, ℕ, List, [], ◌∷◌, ◌++◌, Option, Result, Ok, Err, length, length-append, append-nil, refl, Framed, frames_of, known_frames, Device, HasFailed, StreamFault, ⊤, InspectFault, EndsPrinting, ReadFailures, stream_fault, AtFault, Passes, BreaksReading, HasPassedAll, PassesAll, PassesToLimit, Reads, FramerValue, AreSignalCounts, CountsMessage, SignalCountsValue, valued, heard, HeardCell, heard_of, message_at, MsgFault, Message, valued_in, valued_of, flat_map-append, AreFirst, AreOptionsOf, EndsOptions, EndsSignals, ReadsTooMuch, SignalText, Counts, StopsCounting, HasCounted, IsCounted, AreSignals, NeverFails, option_map_or, StreamSignals}
 use Rattle.rtcm_scan.specs.declared.feed.StreamFault.TheVariants as stream
 
 valued_more : (wanted : Option ℕ) (fs : List Framed) (f : Framed) (cells : List HeardCell) → valued_of wanted f ≡ cells → valued_in wanted (fs ++ f ∷ []) ≡ valued_in wanted fs ++ cells

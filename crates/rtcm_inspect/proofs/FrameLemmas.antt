@@ -1,6 +1,5 @@
 -- The words of a frame's line.
-use Rattle.std.proofs.Common.{◌≡◌, ◌≤◌, ◌<◌, ℕ, Bool, subst, List, ◌∷◌, ◌++◌, ◌∙◌, ap, refl, length, take, decimal, codes}
-use Rattle.rtcm_inspect.proofs.Names.{le-leb, lt-leb, bits_of, number, number_word}
+use Rattle.rtcm_inspect.proofs.Names.{◌≡◌, ◌≤◌, ◌<◌, ℕ, Bool, subst, List, ◌∷◌, ◌++◌, ◌∙◌, ap, refl, length, take, decimal, codes, le-leb, lt-leb, bits_of, number, number_word}
 
 word_there : (m : List ℕ) → 12 ≤ length (bits_of m) → decimal (number (take 12 (bits_of m))) ≡ number_word m
 unfolding number_word

@@ -1,6 +1,5 @@
 -- Lines that are built word by word.
-use Rattle.std.proofs.Common.{◌≡◌, ℕ, List, [], ◌∷◌, ◌++◌, ◌∙◌, ap, refl, append_assoc}
-use Rattle.rtcm_inspect.proofs.Names.{join_with_byte, line, with_words}
+use Rattle.rtcm_inspect.proofs.Names.{◌≡◌, ℕ, List, [], ◌∷◌, ◌++◌, ◌∙◌, ap, refl, append_assoc, join_with_byte, line, with_words}
 
 joined : (x w : List ℕ) (ws : List (List ℕ)) → join_with_byte 0x20 ((x ++ 0x20 ∷ w) ∷ ws) ≡ join_with_byte 0x20 (x ∷ w ∷ ws)
 joined x w [] = refl

@@ -1,6 +1,5 @@
 -- A listing as a consumer of frames.
-use Rattle.std.proofs.Common.{◌≡◌, ◌∙◌, ◌-◌, ◌<◌, ap, sym, subst, refl, arith, Bool, true, false, ℕ, List, [], ◌∷◌, ◌++◌, Option, append_assoc, append-nil, length, take}
-use Rattle.rtcm_inspect.proofs.Names.{Appends, Keeps, flat_map-append, Appends-nil, Appends-trans, Appends-kept, AppendsPrefix, Device, HasFailed, IsPrefix, Framed, decided_frames, known_frames, ⊤, StreamFault, HaveFailedBy, stream_fault, AtFault, BreaksReading, HasPassedAll, Passes, PassesAll, PassesToLimit, Reads, FramerValue, Listing, Lists, ListsAll, ListsDecided, StopsListing, ListsPart, ListsToLimit, ListsUpTo, listing_line, listing_lines}
+use Rattle.rtcm_inspect.proofs.Names.{◌≡◌, ◌∙◌, ◌-◌, ◌<◌, ap, sym, subst, refl, arith, Bool, true, false, ℕ, List, [], ◌∷◌, ◌++◌, Option, append_assoc, append-nil, length, take, Appends, Keeps, flat_map-append, Appends-nil, Appends-trans, Appends-kept, AppendsPrefix, Device, HasFailed, IsPrefix, Framed, decided_frames, known_frames, ⊤, StreamFault, HaveFailedBy, stream_fault, AtFault, BreaksReading, HasPassedAll, Passes, PassesAll, PassesToLimit, Reads, FramerValue, Listing, Lists, ListsAll, ListsDecided, StopsListing, ListsPart, ListsToLimit, ListsUpTo, listing_line, listing_lines}
 use Rattle.rtcm_scan.specs.declared.feed.StreamFault.TheVariants as stream
 
 -- the lines of one more frame

@@ -104,3 +104,4 @@ pub use Rattle.std.specs.Option.{option_map, option_map_or, option_or}
 pub use Rattle.std.specs.Prelude.{codes, cond, filter_map, if◌then◌else◌, nat_le, nat_lt, option_and_then, position, ⊤, ◌≢◌}
 pub use Rattle.std.specs.Result.{IsErrAnd}
 pub use Rattle.std.specs.Str.{bytes_eq}
+pub use Rattle.std.proofs.Common.{All, Bool, Err, FitsSigned, IfSome, List, None, Ok, OnErr, OnOk, Option, Result, Some, [], ap, append-nil, append_assoc, ap₂, arith, count_ones, decimal, drop, false, filter, find, get_or, inl, inr, is_some, length, length-append, length-drop, length-take, lit≤, map, nat_eq, negsuc, not, of_z, pos, refl, replicate, rules, subst, suc, sym, take, take-append-drop, to_z, true, w64, zero, ℕ, ℤ, ◌&&◌, ◌*◌, ◌++◌, ◌+◌, ◌-◌, ◌/◌, ◌<◌, ◌==◌, ◌^◌, ◌||◌, ◌∙◌, ◌∷◌, ◌≡◌, ◌≤◌}

@@ -1,6 +1,5 @@
 -- Texts written in one call, and failed calls.
-use Rattle.std.proofs.Common.{◌≡◌, ◌∙◌, inl, inr, sym, subst, append-nil, ℕ, List, [], Option, Result, Ok, Err, OnErr, OnOk}
-use Rattle.rtcm_inspect.proofs.Names.{Appends, Keeps, Appends-kept, Appends-nil, Appends-trans, AppendsPrefix, Device, FailsWith, HasFailed, DeviceFailed, ⊤, IsErrAnd, WritesLine, EndsPrinting, PrintsLine, InspectFault}
+use Rattle.rtcm_inspect.proofs.Names.{◌≡◌, ◌∙◌, inl, inr, sym, subst, append-nil, ℕ, List, [], Option, Result, Ok, Err, OnErr, OnOk, Appends, Keeps, Appends-kept, Appends-nil, Appends-trans, AppendsPrefix, Device, FailsWith, HasFailed, DeviceFailed, ⊤, IsErrAnd, WritesLine, EndsPrinting, PrintsLine, InspectFault}
 
 pub on_err : {A E : Type 0} (r : Result A E) (P Q : Type 0) → (P → Q) → OnErr r P → OnErr r Q
 on_err (Ok x) P Q f p = p

@@ -1,6 +1,5 @@
 -- Messages, their encodings in frames, and the messages read back.
-use Rattle.std.proofs.Common.{◌≡◌, ◌∙◌, sym, ap, subst, refl, arith, ℕ, suc, zero, ◌+◌, ◌*◌, ◌/◌, ◌<◌, ◌≤◌, Bool, false, List, [], ◌∷◌, ◌++◌, length, take, drop, map, replicate, All, get_or, flat_map, length-append, length-take, length-drop, take-append-drop}
-use Rattle.rtcm_inspect.proofs.Names.{bits_of, filled, missing, uint, number, frame_bytes, Framed, AreFrames, frames_of, placed, Message, IsEncoding, IsMessage, ReadsMessage, is_other, message_bits, AreEncoded, AreReadAs, ReadsBack, AreKnown}
+use Rattle.rtcm_inspect.proofs.Names.{◌≡◌, ◌∙◌, sym, ap, subst, refl, arith, ℕ, suc, zero, ◌+◌, ◌*◌, ◌/◌, ◌<◌, ◌≤◌, Bool, false, List, [], ◌∷◌, ◌++◌, length, take, drop, map, replicate, All, get_or, flat_map, length-append, length-take, length-drop, take-append-drop, bits_of, filled, missing, uint, number, frame_bytes, Framed, AreFrames, frames_of, placed, Message, IsEncoding, IsMessage, ReadsMessage, is_other, message_bits, AreEncoded, AreReadAs, ReadsBack, AreKnown}
 
 -- laws of the layers below
 abbrev pub EightBits : Type 0

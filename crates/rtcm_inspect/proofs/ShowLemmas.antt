@@ -1,6 +1,5 @@
 -- The line of a message.
-use Rattle.std.proofs.Common.{◌≡◌, ◌∙◌, ap, sym, ℕ, ℤ, pos, negsuc, List, Result, Ok, FitsSigned, w64, to_z, of_z, arith, refl}
-use Rattle.rtcm_inspect.proofs.Names.{to_z-of_z, FitsInt, Framed, MsgFault, Message, message_at, Form, MsmValue, FormedMsm, formed, message_in, message_number, show_line, read_line, msm_line}
+use Rattle.rtcm_inspect.proofs.Names.{◌≡◌, ◌∙◌, ap, sym, ℕ, ℤ, pos, negsuc, List, Result, Ok, FitsSigned, w64, to_z, of_z, arith, refl, to_z-of_z, FitsInt, Framed, MsgFault, Message, message_at, Form, MsmValue, FormedMsm, formed, message_in, message_number, show_line, read_line, msm_line}
 use Rattle.rtcm_msg.specs.declared.view.Form.TheVariants as forms
 
 pub shown : (f : Framed) (r : Result Message MsgFault) {bytes : List ℕ} → bytes ≡ f.message → message_at bytes ≡ r → show_line f ≡ read_line f r

@@ -1,6 +1,5 @@
 -- The text of the signals of a stream, signal by signal.
-use Rattle.std.proofs.Common.{◌≡◌, ℕ, zero, suc, ◌+◌, ◌<◌, ◌≤◌, ◌==◌, ◌&&◌, ◌||◌, All, Result, Ok, OnOk, Bool, true, false, List, [], ◌∷◌, ◌++◌, length, get_or, refl, sym, ap, ap₂, ◌∙◌, subst, arith, filter, map, append-nil, append_assoc}
-use Rattle.rtcm_inspect.proofs.Names.{map-append, flat_map-append, cond, nat_lt, codes, list_any, All-head, filter-append, length-filter, count_by-le-length, is_system, Gps, Galileo, flat_map, join_with_byte, System, table, code_of, below, SignalCountsValue, AreSignalCounts, counted, has_any, signal_in, count_of, is_of_signal, had_below, had, code_list, codes_word, count_line, lines_below, IsKey, HeardCell}
+use Rattle.rtcm_inspect.proofs.Names.{◌≡◌, ℕ, zero, suc, ◌+◌, ◌<◌, ◌≤◌, ◌==◌, ◌&&◌, ◌||◌, All, Result, Ok, OnOk, Bool, true, false, List, [], ◌∷◌, ◌++◌, length, get_or, refl, sym, ap, ap₂, ◌∙◌, subst, arith, filter, map, append-nil, append_assoc, map-append, flat_map-append, cond, nat_lt, codes, list_any, All-head, filter-append, length-filter, count_by-le-length, is_system, Gps, Galileo, flat_map, join_with_byte, System, table, code_of, below, SignalCountsValue, AreSignalCounts, counted, has_any, signal_in, count_of, is_of_signal, had_below, had, code_list, codes_word, count_line, lines_below, IsKey, HeardCell}
 
 below-more : (i : ℕ) → below (i + 1) ≡ below i ++ i ∷ []
 below-more i = let e : i + 1 ≡ suc i = omega arith in rw e refl

@@ -1,7 +1,6 @@
 -- The cells that a conversion skips with the plan of a stream's signals.
-use Rattle.std.proofs.Common.{◌≡◌, ◌+◌, ◌≤◌, Bool, true, false, not, ℕ, List, [], ◌∷◌, ◌++◌, filter, Option, Some, None, All, refl, subst, arith}
 use Rattle.rtcm_inspect.proofs.WeekLemmas.{own_counts}
-use Rattle.rtcm_inspect.proofs.Names.{cond, count_by, option_map_or, All-nil, All-cons, All-head, All-tail, sum_by-cons, Framed, counts_of, counts_of_message, is_planned, no_counts, offered, with_skipped, brings_value, is_of_station, valued, GatherSetup, Heard, is_own, HeardCell, Timed, SkipsOnly, valued_in, valued_of}
+use Rattle.rtcm_inspect.proofs.Names.{◌≡◌, ◌+◌, ◌≤◌, Bool, true, false, not, ℕ, List, [], ◌∷◌, ◌++◌, filter, Option, Some, None, All, refl, subst, arith, cond, count_by, option_map_or, All-nil, All-cons, All-head, All-tail, sum_by-cons, Framed, counts_of, counts_of_message, is_planned, no_counts, offered, with_skipped, brings_value, is_of_station, valued, GatherSetup, Heard, is_own, HeardCell, Timed, SkipsOnly, valued_in, valued_of}
 
 abbrev ArePlanned : GatherSetup → List HeardCell → Type 0
 ArePlanned s xs = All (λ x. is_planned s x ≡ true) xs

@@ -1,6 +1,5 @@
 -- A new framer, from which a stream is read.
-use Rattle.std.proofs.Common.{◌≡◌, ◌∙◌, ap, sym, subst, Bool, false, List, []}
-use Rattle.rtcm_inspect.proofs.Names.{decided_frames, IsDrained, HasExamined, IsCountedExactly, Framed, known_frames, Coming, HasPassedAll, FramerValue}
+use Rattle.rtcm_inspect.proofs.Names.{◌≡◌, ◌∙◌, ap, sym, subst, Bool, false, List, [], decided_frames, IsDrained, HasExamined, IsCountedExactly, Framed, known_frames, Coming, HasPassedAll, FramerValue}
 
 -- a new framer has passed on all frames of no bytes
 pub started : {S O : Type 0} (took : Coming S O) (v : FramerValue) (s : S) (o : O) → v.has_ended ≡ false → decided_frames [] ≡ [] → HasExamined v [] [] → IsDrained v [] []

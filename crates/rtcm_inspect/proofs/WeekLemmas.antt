@@ -1,6 +1,5 @@
 -- The nearest week, and the time of the first MSM.
-use Rattle.std.proofs.Common.{◌≡◌, ◌∙◌, ◌+◌, ◌-◌, ◌*◌, ◌/◌, ◌<◌, ◌≤◌, ◌==◌, ◌&&◌, ◌||◌, ◌++◌, ℕ, Bool, true, false, List, [], ◌∷◌, Option, Some, None, Result, Ok, Err, refl, sym, ap, ap₂, arith}
-use Rattle.rtcm_inspect.proofs.Names.{cons_option, filter_map, nat_lt, option_and_then, if◌then◌else◌, option_or, option_map_or, week, weeks, Framed, message_at, MsgFault, Message, Station, Msm4, Msm7, Other, GatherSetup, Heard, is_own, is_of_station, Timed, ahead, greatest_time, is_closed, is_past, max_known, taken_at, timed_after, first_tow, tow_of, heard_in, heard_of, IsNearestWeek, half_week, first_time}
+use Rattle.rtcm_inspect.proofs.Names.{◌≡◌, ◌∙◌, ◌+◌, ◌-◌, ◌*◌, ◌/◌, ◌<◌, ◌≤◌, ◌==◌, ◌&&◌, ◌||◌, ◌++◌, ℕ, Bool, true, false, List, [], ◌∷◌, Option, Some, None, Result, Ok, Err, refl, sym, ap, ap₂, arith, cons_option, filter_map, nat_lt, option_and_then, if◌then◌else◌, option_or, option_map_or, week, weeks, Framed, message_at, MsgFault, Message, Station, Msm4, Msm7, Other, GatherSetup, Heard, is_own, is_of_station, Timed, ahead, greatest_time, is_closed, is_past, max_known, taken_at, timed_after, first_tow, tow_of, heard_in, heard_of, IsNearestWeek, half_week, first_time}
 
 -- ---- the nearest week, by its quotient q: n = q * week + r
 

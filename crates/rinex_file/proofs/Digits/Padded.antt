@@ -1,6 +1,5 @@
 -- Digits of a number as columns, with blanks or zeros before them.
-use Rattle.std.proofs.Common.{arith, ◌≡◌, ◌∙◌, sym, ap, ap₂, refl, ℕ, zero, suc, ◌+◌, ◌-◌, ◌*◌, ◌/◌, ◌%◌, ◌^◌, ◌<◌, ◌≤◌, List, [], ◌∷◌, ◌++◌, map, length, drop, replicate, get_or, append_assoc, append-nil, length-append, inl, inr}
-use Rattle.rinex_file.proofs.Names.{Bool, cases_lt, pow-suc, decimal_digit, decimal_step, replicate_next, padded, digits_onto, empty_column, leading}
+use Rattle.rinex_file.proofs.Names.{arith, ◌≡◌, ◌∙◌, sym, ap, ap₂, refl, ℕ, zero, suc, ◌+◌, ◌-◌, ◌*◌, ◌/◌, ◌%◌, ◌^◌, ◌<◌, ◌≤◌, List, [], ◌∷◌, ◌++◌, map, length, drop, replicate, get_or, append_assoc, append-nil, length-append, inl, inr, Bool, cases_lt, pow-suc, decimal_digit, decimal_step, replicate_next, padded, digits_onto, empty_column, leading}
 
 -- digits as columns, without leading zeros
 abbrev pub spaced : Bool → List ℕ → List ℕ

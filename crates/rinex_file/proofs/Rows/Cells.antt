@@ -1,9 +1,8 @@
 -- A satellite's cells, each stored at its signal's index in the plan.
-use Rattle.std.proofs.Common.{arith, ◌≡◌, ◌∙◌, sym, ap, ap₂, refl, subst, ℕ, zero, suc, ◌+◌, ◌*◌, ◌-◌, ◌<◌, ◌≤◌, List, [], ◌∷◌, ◌++◌, map, take, drop, length, replicate, get_or, append_assoc, length-append, false, ◌==◌, Some, None, slice_set}
 use Rattle.rinex_file.proofs.HeaderRows.Texts.{trimmed-blanks}
 use Rattle.rinex_file.proofs.Rows.Sizes.{if_fits, length-room, length-signals}
 use Rattle.rinex_file.proofs.Digits.Padded.{two_digits}
-use Rattle.rinex_file.proofs.Names.{◌&&◌, ◌≢◌, nat_eq, find, flat_map, position, All, if◌then◌else◌, option_map_or, IsDistinct, position_or_len, take_at, drop_at, drop_all, length-drop, length-take-le, length-replicate, length-set, take-append-le, drop-append-le, drop-take, replicate-append-replicate, cond_both, and_from, and_right, eq-eqb, ne_eqb, eqb-true, eqb-false, position-Some, All-from_recursion, All-head, All-tail, All-map, fails_before_first, System, Cell, IsHeld, SignalValues, signal_values_of, no_signal_values, signal_values_at, is_of_key, HaveRoom, trimmed, field, signal_text, HasSignals, padded, take-append-add, drop-append-add}
+use Rattle.rinex_file.proofs.Names.{arith, ◌≡◌, ◌∙◌, sym, ap, ap₂, refl, subst, ℕ, zero, suc, ◌+◌, ◌*◌, ◌-◌, ◌<◌, ◌≤◌, List, [], ◌∷◌, ◌++◌, map, take, drop, length, replicate, get_or, append_assoc, length-append, false, ◌==◌, Some, None, slice_set, ◌&&◌, ◌≢◌, nat_eq, find, flat_map, position, All, if◌then◌else◌, option_map_or, IsDistinct, position_or_len, take_at, drop_at, drop_all, length-drop, length-take-le, length-replicate, length-set, take-append-le, drop-append-le, drop-take, replicate-append-replicate, cond_both, and_from, and_right, eq-eqb, ne_eqb, eqb-true, eqb-false, position-Some, All-from_recursion, All-head, All-tail, All-map, fails_before_first, System, Cell, IsHeld, SignalValues, signal_values_of, no_signal_values, signal_values_at, is_of_key, HaveRoom, trimmed, field, signal_text, HasSignals, padded, take-append-add, drop-append-add}
 
 -- ---- what a cell before others changes
 

@@ -1,6 +1,5 @@
 -- A text whose trailing blanks were cut is restored by padding it.
-use Rattle.std.proofs.Common.{arith, ◌≡◌, ℕ, suc, ◌+◌, ◌-◌, ◌<◌, ◌≤◌, List, [], ◌∷◌, ◌++◌, length, replicate, take, get_or, refl, sym, ap, ◌∙◌, true, false, length-append}
-use Rattle.rinex_file.proofs.Names.{◌==◌, if◌then◌else◌, length-replicate, take_all, take_more, eqb-true, trimmed, before_cut}
+use Rattle.rinex_file.proofs.Names.{arith, ◌≡◌, ℕ, suc, ◌+◌, ◌-◌, ◌<◌, ◌≤◌, List, [], ◌∷◌, ◌++◌, length, replicate, take, get_or, refl, sym, ap, ◌∙◌, true, false, length-append, ◌==◌, if◌then◌else◌, length-replicate, take_all, take_more, eqb-true, trimmed, before_cut}
 
 -- some blanks make the text whole
 abbrev FilledTo : List ℕ → List ℕ → Type 0

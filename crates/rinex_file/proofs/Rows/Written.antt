@@ -1,9 +1,8 @@
 -- A line whose columns are those in which its values are written.
-use Rattle.std.proofs.Common.{arith, ◌≡◌, ◌≢◌, ◌∙◌, sym, ap, ap₂, refl, ℕ, ◌+◌, ◌-◌, ◌*◌, ◌/◌, ◌%◌, ◌≤◌, ◌<◌, List, [], ◌∷◌, ◌++◌, length, take, drop, replicate, get_or, append-nil, take-append-drop}
 use Rattle.rinex_file.proofs.Rows.Trimmed.{uncut, cut_last, length-trimmed}
 use Rattle.rinex_file.proofs.Digits.Padded.{two_digits}
 use Rattle.rinex_file.proofs.HeaderRows.Texts.{trimmed-blanks}
-use Rattle.rinex_file.proofs.Names.{Bool, true, false, flat_map, ◌||◌, IsTrue, ◌↔◌, not, nat_eq, list_any, take-add, drop-drop, take_all, take_more, length-drop, length-take-le, length_push, get_or-take, get_or_append_left, ne_eqb, flat_map-append, list_any-append, SignalValues, SatelliteRow, has_some_value, trimmed, IsEnded, padded, field, signal_text, lli_byte, strength_byte, row_text, satellite_line, letter_of}
+use Rattle.rinex_file.proofs.Names.{arith, ◌≡◌, ◌≢◌, ◌∙◌, sym, ap, ap₂, refl, ℕ, ◌+◌, ◌-◌, ◌*◌, ◌/◌, ◌%◌, ◌≤◌, ◌<◌, List, [], ◌∷◌, ◌++◌, length, take, drop, replicate, get_or, append-nil, take-append-drop, Bool, true, false, flat_map, ◌||◌, IsTrue, ◌↔◌, not, nat_eq, list_any, take-add, drop-drop, take_all, take_more, length-drop, length-take-le, length_push, get_or-take, get_or_append_left, ne_eqb, flat_map-append, list_any-append, SignalValues, SatelliteRow, has_some_value, trimmed, IsEnded, padded, field, signal_text, lli_byte, strength_byte, row_text, satellite_line, letter_of}
 
 -- ---- the columns of a signal
 

@@ -1,6 +1,5 @@
 -- A text to which parts were appended.
-use Rattle.std.proofs.Common.{◌≡◌, ◌∙◌, sym, ap, ℕ, List, [], ◌∷◌, ◌++◌, append_assoc, append-nil}
-use Rattle.rinex_file.proofs.Names.{joined}
+use Rattle.rinex_file.proofs.Names.{◌≡◌, ◌∙◌, sym, ap, ℕ, List, [], ◌∷◌, ◌++◌, append_assoc, append-nil, joined}
 
 -- y is x with these parts after it, one after the other
 abbrev pub Grows : List ℕ → List (List ℕ) → List ℕ → Type 0

@@ -1,7 +1,6 @@
 -- The line of a satellite by its own cells.
-use Rattle.std.proofs.Common.{arith, ◌≡◌, ℕ, List, [], ◌∷◌, map, filter, ap₂, refl}
 use Rattle.rinex_file.proofs.Writing.Satellites.{any_from}
-use Rattle.rinex_file.proofs.Names.{find, option_map_or, System, Cell, PlanValue, is_of_satellite, is_of_key, signal_values_at, signal_values_of, no_signal_values, line_among}
+use Rattle.rinex_file.proofs.Names.{arith, ◌≡◌, ℕ, List, [], ◌∷◌, map, filter, ap₂, refl, find, option_map_or, System, Cell, PlanValue, is_of_satellite, is_of_key, signal_values_at, signal_values_of, no_signal_values, line_among}
 
 find_from : (id index : ℕ) (cells : List Cell) → find (is_of_key id index) (filter (is_of_satellite id) cells) ≡ find (is_of_key id index) cells
 find_from id index [] = refl

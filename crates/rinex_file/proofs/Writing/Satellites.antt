@@ -1,6 +1,5 @@
 -- The cells of one satellite, in a list in the order of satellites.
-use Rattle.std.proofs.Common.{◌≡◌, ℕ, zero, suc, ◌+◌, ◌-◌, ◌<◌, ◌≤◌, Bool, true, false, List, [], ◌∷◌, filter, take, drop, refl, sym, ap, ap₂, ◌∙◌, subst, arith, length}
-use Rattle.rinex_file.proofs.Names.{if◌then◌else◌, cond, AllByRecursion, drop-drop, Cell, is_written, is_of_satellite, run, Above, Climb, Left}
+use Rattle.rinex_file.proofs.Names.{◌≡◌, ℕ, zero, suc, ◌+◌, ◌-◌, ◌<◌, ◌≤◌, Bool, true, false, List, [], ◌∷◌, filter, take, drop, refl, sym, ap, ap₂, ◌∙◌, subst, arith, length, if◌then◌else◌, cond, AllByRecursion, drop-drop, Cell, is_written, is_of_satellite, run, Above, Climb, Left}
 
 climb-drop : (n : ℕ) (cells : List Cell) → Climb cells → Climb (drop n cells)
 climb-drop zero cells h = h

@@ -1,9 +1,8 @@
 -- Lines that were written, and a part of them.
-use Rattle.std.proofs.Common.{arith, ◌≡◌, ◌∙◌, sym, ap, ap₂, refl, subst, ℕ, zero, suc, ◌+◌, ◌-◌, ◌≤◌, List, [], ◌∷◌, ◌++◌, length, append_assoc, append-nil, length-append, Option, Bool, true, false, Result, Ok, Err, OnOk, OnErr}
 use Rattle.std.specs.Prelude.{IsErrAnd}
 use Rattle.gnss_obs.specs.Satellites.{satellites as satellites_in}
 use Rattle.rinex_file.proofs.Entries.{flat_map-append}
-use Rattle.rinex_file.proofs.Names.{map, if◌then◌else◌, IfErr, Appends, Appends-trans, Appends-nil, map-append, length-map, filter-append, AppendsPrefix, Device, FailsWith, HasFailed, System, Gps, Galileo, Cell, civil_of, PlanValue, EpochValue, is_written, written_among, satellites_written, joined, written_satellites, row_among, row_in_epoch, rows_of, satellite_line, epoch_line, StationValues, position_line, delta_line, event_line, event_text, line_among, line_or_none, lines_up_to, epoch_text}
+use Rattle.rinex_file.proofs.Names.{arith, ◌≡◌, ◌∙◌, sym, ap, ap₂, refl, subst, ℕ, zero, suc, ◌+◌, ◌-◌, ◌≤◌, List, [], ◌∷◌, ◌++◌, length, append_assoc, append-nil, length-append, Option, Bool, true, false, Result, Ok, Err, OnOk, OnErr, map, if◌then◌else◌, IfErr, Appends, Appends-trans, Appends-nil, map-append, length-map, filter-append, AppendsPrefix, Device, FailsWith, HasFailed, System, Gps, Galileo, Cell, civil_of, PlanValue, EpochValue, is_written, written_among, satellites_written, joined, written_satellites, row_among, row_in_epoch, rows_of, satellite_line, epoch_line, StationValues, position_line, delta_line, event_line, event_text, line_among, line_or_none, lines_up_to, epoch_text}
 
 -- a part of the rest, after what was written
 pub part_after : (a b c : Option (List ℕ)) (text done next rest : List ℕ) → text ≡ done ++ (next ++ rest) → Appends a b done → AppendsPrefix b c next → AppendsPrefix a c text

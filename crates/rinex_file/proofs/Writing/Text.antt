@@ -1,7 +1,6 @@
 -- The text of a file is that of its header and its epochs, one after the other.
-use Rattle.std.proofs.Common.{◌≡◌, ◌≢◌, ◌∙◌, sym, ap, ap₂, refl, append_assoc, Bool, true, false, Some, None, ℕ, List, [], ◌∷◌, ◌++◌, drop}
 use Rattle.rinex_file.proofs.Writing.Sent.{joined-append}
-use Rattle.rinex_file.proofs.Names.{flat_map, if◌then◌else◌, StationValues, civil_of, PlanValue, Closed, same_values, joined, left, HeaderLists, stamped_of, stamped_after, all_stamped, header_line, header_lines, row_line, version_line, header_text, epoch_text, event_text, event_lines, change_lines, change_text, closed_text, stamped_lines, file_text, gathered}
+use Rattle.rinex_file.proofs.Names.{◌≡◌, ◌≢◌, ◌∙◌, sym, ap, ap₂, refl, append_assoc, Bool, true, false, Some, None, ℕ, List, [], ◌∷◌, ◌++◌, drop, flat_map, if◌then◌else◌, StationValues, civil_of, PlanValue, Closed, same_values, joined, left, HeaderLists, stamped_of, stamped_after, all_stamped, header_line, header_lines, row_line, version_line, header_text, epoch_text, event_text, event_lines, change_lines, change_text, closed_text, stamped_lines, file_text, gathered}
 
 -- the lines of an epoch that was closed after others
 stamped_text : (p : PlanValue) (v : StationValues) (c : Closed) → joined (stamped_lines (stamped_after p v c)) ≡ change_text v c.values ++ epoch_text p c.epoch

@@ -1,6 +1,5 @@
-use Rattle.std.proofs.Common.{◌≡◌, ◌∙◌, ap₂, ℕ, List}
 use Rattle.rinex_file.proofs.Writing.Sent.{where_failed, epoch_first, epoch_second, epoch_third, epoch_whole}
-use Rattle.rinex_file.proofs.Names.{civil_of, epoch_line}
+use Rattle.rinex_file.proofs.Names.{◌≡◌, ◌∙◌, ap₂, ℕ, List, civil_of, epoch_line}
 use Rattle.rinex_file.proofs.write.write_epoch.Goals as goal
 
 first_line : (line buffer : List ℕ) (t n time count : ℕ) → line ≡ buffer → buffer ≡ epoch_line (civil_of t) n → t ≡ time → n ≡ count → line ≡ epoch_line (civil_of time) count

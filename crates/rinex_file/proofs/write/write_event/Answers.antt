@@ -1,6 +1,5 @@
-use Rattle.std.proofs.Common.{◌∙◌, subst}
 use Rattle.rinex_file.proofs.Writing.Sent.{event_first, event_second, event_third, event_whole, where_failed}
-use Rattle.rinex_file.proofs.Names.{Appends, AppendsPrefix}
+use Rattle.rinex_file.proofs.Names.{◌∙◌, subst, Appends, AppendsPrefix}
 use Rattle.rinex_file.proofs.write.write_event.Goals as goal
 
 pub returns-in_err-write_whole-clause-part : goal.returns-in_err-write_whole-clause-part

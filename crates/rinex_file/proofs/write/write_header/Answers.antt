@@ -1,6 +1,5 @@
-use Rattle.std.proofs.Common.{arith, ◌∙◌, sym, ap, subst, refl, [], ◌++◌, append_assoc, append-nil}
 use Rattle.rinex_file.proofs.Writing.Sent.{part_after, where_failed}
-use Rattle.rinex_file.proofs.Names.{Appends, Appends-nil, Appends-trans, AppendsPrefix, joined, header_text}
+use Rattle.rinex_file.proofs.Names.{arith, ◌∙◌, sym, ap, subst, refl, [], ◌++◌, append_assoc, append-nil, Appends, Appends-nil, Appends-trans, AppendsPrefix, joined, header_text}
 use Rattle.rinex_file.proofs.write.write_header.Goals as goal
 
 pub loop-line-init : goal.loop-line-init

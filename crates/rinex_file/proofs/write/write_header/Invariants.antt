@@ -1,5 +1,4 @@
-use Rattle.std.proofs.Common.{◌≡◌, ◌++◌, List, ℕ}
-use Rattle.rinex_file.proofs.Names.{Appends, joined, header_text}
+use Rattle.rinex_file.proofs.Names.{◌≡◌, ◌++◌, List, ℕ, Appends, joined, header_text}
 use Rattle.rinex_file.proofs.write.write_header.Given as goal
 
 -- what was written and what is left are the whole text

@@ -1,9 +1,8 @@
-use Rattle.std.proofs.Common.{arith, ◌≡◌, ◌∙◌, sym, subst, refl, suc, ◌+◌, ◌≤◌, take, drop}
 use Rattle.rinex_file.proofs.Writing.Satellites.{further}
 use Rattle.rinex_file.proofs.Writing.OwnCells.{same_line}
 use Rattle.rinex_file.proofs.Writing.Sent.{no_lines, grown_lines, part_lines, where_failed, not_written, is_shown}
 use Rattle.rinex_file.proofs.write.write_system.Goals.{then-is_written+in_ok-write_whole, else-is_written}
-use Rattle.rinex_file.proofs.Names.{◌-◌, Appends, Appends-nil, satellites, AppendsPrefix, cells_of, left_all, sorted_climbs}
+use Rattle.rinex_file.proofs.Names.{arith, ◌≡◌, ◌∙◌, sym, subst, refl, suc, ◌+◌, ◌≤◌, take, drop, ◌-◌, Appends, Appends-nil, satellites, AppendsPrefix, cells_of, left_all, sorted_climbs}
 use Rattle.rinex_file.proofs.write.write_system.Goals as goal
 
 pub loop-before-init : goal.loop-before-init

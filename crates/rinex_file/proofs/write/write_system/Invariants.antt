@@ -1,5 +1,4 @@
-use Rattle.std.proofs.Common.{◌≡◌}
-use Rattle.rinex_file.proofs.Names.{Appends, lines_up_to, Left}
+use Rattle.rinex_file.proofs.Names.{◌≡◌, Appends, lines_up_to, Left}
 use Rattle.rinex_file.proofs.write.write_system.Given as goal
 
 -- the lines of the satellites so far were written

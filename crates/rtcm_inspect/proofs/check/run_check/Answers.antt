@@ -1,7 +1,6 @@
-use Rattle.std.proofs.Common.{◌≡◌, ap, Err}
 use Rattle.rtcm_inspect.proofs.CheckLemmas.{checked, checked_or, kept_first, read_failures, refused, where_known}
 use Rattle.rtcm_inspect.proofs.PrintingLemmas.{printed_later, same_text}
-use Rattle.rtcm_inspect.proofs.Names.{file_text, AreCounts, IsLineOf}
+use Rattle.rtcm_inspect.proofs.Names.{◌≡◌, ap, Err, file_text, AreCounts, IsLineOf}
 use Rattle.rtcm_inspect.proofs.check.run_check.Goals as goal
 
 pub returns-in-Ok-clause-ends : goal.returns-in-Ok-clause-ends

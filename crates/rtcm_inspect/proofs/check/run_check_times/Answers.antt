@@ -1,7 +1,6 @@
-use Rattle.std.proofs.Common.{◌≡◌, ◌∙◌, ◌++◌, List, ℕ, ap, Err}
 use Rattle.rtcm_inspect.proofs.CheckLemmas.{checked, checked_or, kept_first, read_failures, refused, where_known}
 use Rattle.rtcm_inspect.proofs.PrintingLemmas.{printed_later, same_text}
-use Rattle.rtcm_inspect.proofs.Names.{file_text, AreCounts, IsSummary, FileValue, AreLinesOf, check_line, times_lines, FileSummary}
+use Rattle.rtcm_inspect.proofs.Names.{◌≡◌, ◌∙◌, ◌++◌, List, ℕ, ap, Err, file_text, AreCounts, IsSummary, FileValue, AreLinesOf, check_line, times_lines, FileSummary}
 use Rattle.rtcm_inspect.proofs.check.run_check_times.Goals as goal
 
 -- the lines of the counts and of the times

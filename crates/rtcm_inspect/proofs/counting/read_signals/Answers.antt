@@ -1,7 +1,6 @@
-use Rattle.std.proofs.Common.{ap, sym, subst}
 use Rattle.rtcm_inspect.proofs.StreamLemmas.{started}
 use Rattle.rtcm_inspect.proofs.CountingLemmas.{counted_all, counted_reads, counting_stopped, new_counts, none_counted}
-use Rattle.rtcm_inspect.proofs.Names.{FramerValue, Counts, StopsCounting, ReadFailures, StreamSignals, InspectFault}
+use Rattle.rtcm_inspect.proofs.Names.{ap, sym, subst, FramerValue, Counts, StopsCounting, ReadFailures, StreamSignals, InspectFault}
 use Rattle.rtcm_inspect.proofs.counting.read_signals.Goals as goal
 
 pub returns-in-Ok-read-clause-whole : goal.returns-in-Ok-read-clause-whole

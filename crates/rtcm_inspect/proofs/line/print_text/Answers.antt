@@ -1,6 +1,5 @@
-use Rattle.std.proofs.Common.{ℕ, refl, subst}
 use Rattle.rtcm_inspect.proofs.PrintingLemmas.{kept_front}
-use Rattle.rtcm_inspect.proofs.Names.{HasFailed}
+use Rattle.rtcm_inspect.proofs.Names.{ℕ, refl, subst, HasFailed}
 use Rattle.rtcm_inspect.proofs.line.print_text.Goals as goal
 
 pub returns-in-Err-flush_whole : goal.returns-in-Err-flush_whole

@@ -1,6 +1,5 @@
-use Rattle.std.proofs.Common.{[], ◌∷◌, ap, length, decimal}
 use Rattle.rtcm_inspect.proofs.LineLemmas.{add_word, end_line}
-use Rattle.rtcm_inspect.proofs.Names.{frame_line, number_word}
+use Rattle.rtcm_inspect.proofs.Names.{[], ◌∷◌, ap, length, decimal, frame_line, number_word}
 use Rattle.rtcm_inspect.proofs.listing.add_frame.Goals as goal
 
 pub returns : goal.returns

@@ -1,6 +1,5 @@
-use Rattle.std.proofs.Common.{◌≡◌, ap}
 use Rattle.rtcm_inspect.proofs.FrameLemmas.{number_there, number_missing}
-use Rattle.rtcm_inspect.proofs.Names.{bits_of, Cursor}
+use Rattle.rtcm_inspect.proofs.Names.{◌≡◌, ap, bits_of, Cursor}
 use Rattle.rtcm_inspect.proofs.listing.add_message_number.Goals as goal
 
 pub returns-in-Some-clause-text : goal.returns-in-Some-clause-text

@@ -1,7 +1,6 @@
-use Rattle.std.proofs.Common.{◌≡◌, ◌∙◌, ◌∷◌, ap, refl, rules, ℕ, List, decimal, is_some, if◌then◌else◌}
 use Rattle.rtcm_inspect.proofs.LineLemmas.{add_word, end_line}
 use Rattle.rtcm_inspect.proofs.ShowLemmas.{as_passed}
-use Rattle.rtcm_inspect.proofs.Names.{with_words, metres, station_line, height_words}
+use Rattle.rtcm_inspect.proofs.Names.{◌≡◌, ◌∙◌, ◌∷◌, ap, refl, rules, ℕ, List, decimal, is_some, if◌then◌else◌, with_words, metres, station_line, height_words}
 use Rattle.rtcm_inspect.proofs.listing.add_station.Goals as goal
 
 pub returns : goal.returns

@@ -1,7 +1,6 @@
-use Rattle.std.proofs.Common.{Err, ap, refl, subst, sym}
 use Rattle.rtcm_inspect.proofs.StreamLemmas.{started}
 use Rattle.rtcm_inspect.proofs.ListingLemmas.{listed_all, listing_stopped, new_listing}
-use Rattle.rtcm_inspect.proofs.Names.{⊤, FramerValue, InspectFault, EndsListing, Lists, listing_lines}
+use Rattle.rtcm_inspect.proofs.Names.{Err, ap, refl, subst, sym, ⊤, FramerValue, InspectFault, EndsListing, Lists, listing_lines}
 use Rattle.rtcm_inspect.proofs.listing.list.Goals as goal
 
 pub returns-in-Ok-read : goal.returns-in-Ok-read

@@ -1,7 +1,6 @@
-use Rattle.std.proofs.Common.{◌∙◌, ◌<◌, ap, sym, arith, ℕ, List, length}
 use Rattle.rtcm_inspect.proofs.SignalLemmas.{partly_more, had_one, had_none, word_some, word_none, at_end}
 use Rattle.rtcm_inspect.proofs.options.add_codes.Goals.{then-count-gt0, else-count-gt0}
-use Rattle.rtcm_inspect.proofs.Names.{table, had_below}
+use Rattle.rtcm_inspect.proofs.Names.{◌∙◌, ◌<◌, ap, sym, arith, ℕ, List, length, table, had_below}
 use Rattle.rtcm_inspect.proofs.options.add_codes.Goals as goal
 
 pub loop-index-preserved : goal.loop-index-preserved

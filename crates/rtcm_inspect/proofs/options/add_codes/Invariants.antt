@@ -1,6 +1,5 @@
-use Rattle.std.proofs.Common.{◌+◌, ◌*◌, ◌≤◌, List, length}
 use Rattle.rtcm_inspect.proofs.SignalLemmas.{IsPartly}
-use Rattle.rtcm_inspect.proofs.Names.{had_below, AreSignalCounts, HeardCell}
+use Rattle.rtcm_inspect.proofs.Names.{◌+◌, ◌*◌, ◌≤◌, List, length, had_below, AreSignalCounts, HeardCell}
 use Rattle.rtcm_inspect.proofs.options.add_codes.Given as goal
 
 abbrev pub invariant-loop-index : goal.invariant-loop-index

@@ -1,7 +1,6 @@
-use Rattle.std.proofs.Common.{◌≡◌, ◌∙◌, ◌∷◌, ◌++◌, ap, sym, subst, refl, rules, ℕ, ℤ, pos, List, Option, Some, None, IfSome, codes, w64, to_z, of_z}
 use Rattle.rtcm_inspect.proofs.LineLemmas.{add_text, add_word, assigned}
 use Rattle.rtcm_inspect.proofs.ShowLemmas.{as_passed}
-use Rattle.rtcm_inspect.proofs.Names.{InRange, StationParts, antenna_words, position_word, station_words, with_words, metres}
+use Rattle.rtcm_inspect.proofs.Names.{◌≡◌, ◌∙◌, ◌∷◌, ◌++◌, ap, sym, subst, refl, rules, ℕ, ℤ, pos, List, Option, Some, None, IfSome, codes, w64, to_z, of_z, InRange, StationParts, antenna_words, position_word, station_words, with_words, metres}
 use Rattle.rtcm_inspect.proofs.options.add_station.Goals as goal
 
 -- the option of the position

@@ -1,6 +1,5 @@
-use Rattle.std.proofs.Common.{◌≡◌, ◌∙◌, [], ◌∷◌, ◌++◌, ℕ, List, Option, Some, None, ap, sym, append_assoc, append-nil, codes, decimal, refl, rules}
 use Rattle.rtcm_inspect.proofs.LineLemmas.{add_text, add_word, end_line}
-use Rattle.rtcm_inspect.proofs.Names.{join_with_byte, PlanValue, Gps, Galileo, StationParts, codes_word, plan_had, valued_in, number_start, number_words, options_line, station_words, line, with_words}
+use Rattle.rtcm_inspect.proofs.Names.{◌≡◌, ◌∙◌, [], ◌∷◌, ◌++◌, ℕ, List, Option, Some, None, ap, sym, append_assoc, append-nil, codes, decimal, refl, rules, join_with_byte, PlanValue, Gps, Galileo, StationParts, codes_word, plan_had, valued_in, number_start, number_words, options_line, station_words, line, with_words}
 use Rattle.rtcm_inspect.proofs.options.options_line.Goals as goal
 
 -- an option with a number before the words of a line

@@ -1,7 +1,6 @@
-use Rattle.std.proofs.Common.{◌∙◌, ap, sym, subst, Option, ℕ}
 use Rattle.rtcm_inspect.proofs.SignalLemmas.{no_cells, some_cells}
 use Rattle.rtcm_inspect.proofs.ValuedLemmas.{valued_keys}
-use Rattle.rtcm_inspect.proofs.Names.{mixed_of, IsWeekFor, valued_in, Stations}
+use Rattle.rtcm_inspect.proofs.Names.{◌∙◌, ap, sym, subst, Option, ℕ, mixed_of, IsWeekFor, valued_in, Stations}
 use Rattle.rtcm_inspect.proofs.options.options_of.Goals as goal
 
 pub returns-in-None-clause-refused : goal.returns-in-None-clause-refused

@@ -1,7 +1,6 @@
-use Rattle.std.proofs.Common.{sym, subst, Option, ℕ}
 use Rattle.rtcm_inspect.proofs.CountingLemmas.{options_printed}
 use Rattle.rtcm_inspect.proofs.PrintingLemmas.{printed_later, same_text}
-use Rattle.rtcm_inspect.proofs.Names.{frames_of, AreSignals, AreOptionsOf}
+use Rattle.rtcm_inspect.proofs.Names.{sym, subst, Option, ℕ, frames_of, AreSignals, AreOptionsOf}
 use Rattle.rtcm_inspect.proofs.options.run_options.Goals as goal
 
 pub returns : goal.returns

@@ -1,7 +1,6 @@
-use Rattle.std.proofs.Common.{◌∙◌, ◌<◌, ap, arith, ℕ, List, length}
 use Rattle.rtcm_inspect.proofs.SignalLemmas.{lines_one, lines_none, of_ok}
 use Rattle.rtcm_inspect.proofs.signals.add_lines.Goals.{then-count-gt0, else-count-gt0}
-use Rattle.rtcm_inspect.proofs.Names.{table}
+use Rattle.rtcm_inspect.proofs.Names.{◌∙◌, ◌<◌, ap, arith, ℕ, List, length, table}
 use Rattle.rtcm_inspect.proofs.signals.add_lines.Goals as goal
 
 pub loop-index-preserved : goal.loop-index-preserved

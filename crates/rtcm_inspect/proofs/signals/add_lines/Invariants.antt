@@ -1,5 +1,4 @@
-use Rattle.std.proofs.Common.{◌≡◌, ◌+◌, ◌*◌, ◌≤◌, ◌++◌, List, length}
-use Rattle.rtcm_inspect.proofs.Names.{lines_below, AreSignalCounts, HeardCell}
+use Rattle.rtcm_inspect.proofs.Names.{◌≡◌, ◌+◌, ◌*◌, ◌≤◌, ◌++◌, List, length, lines_below, AreSignalCounts, HeardCell}
 use Rattle.rtcm_inspect.proofs.signals.add_lines.Given as goal
 
 abbrev pub invariant-loop-index : goal.invariant-loop-index

@@ -1,7 +1,6 @@
-use Rattle.std.proofs.Common.{[], ◌∷◌, ℕ, ap, refl, decimal, ◌∙◌}
 use Rattle.gnss_obs.specs.Satellites.{letter}
 use Rattle.rtcm_inspect.proofs.LineLemmas.{add_text, add_word, end_line}
-use Rattle.rtcm_inspect.proofs.Names.{code_of, signal_in, count_line}
+use Rattle.rtcm_inspect.proofs.Names.{[], ◌∷◌, ℕ, ap, refl, decimal, ◌∙◌, code_of, signal_in, count_line}
 use Rattle.rtcm_inspect.proofs.signals.count_line.Goals as goal
 
 pub returns-clause-text : goal.returns-clause-text

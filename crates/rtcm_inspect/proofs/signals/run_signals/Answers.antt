@@ -1,9 +1,8 @@
-use Rattle.std.proofs.Common.{◌∙◌, ◌≤◌, ◌++◌, ap, sym, arith, lit≤, ℕ, List, length}
 use Rattle.rtcm_inspect.proofs.CountingLemmas.{signals_printed}
 use Rattle.rtcm_inspect.proofs.PrintingLemmas.{printed_later, same_text}
 use Rattle.rtcm_inspect.proofs.SignalLemmas.{no_cells, some_cells}
 use Rattle.rtcm_inspect.proofs.ValuedLemmas.{valued_keys}
-use Rattle.rtcm_inspect.proofs.Names.{table, Gps, Galileo, count_lines, signals_text, valued_in, frames_of}
+use Rattle.rtcm_inspect.proofs.Names.{◌∙◌, ◌≤◌, ◌++◌, ap, sym, arith, lit≤, ℕ, List, length, table, Gps, Galileo, count_lines, signals_text, valued_in, frames_of}
 use Rattle.rtcm_inspect.proofs.signals.run_signals.Goals as goal
 
 pub add_lines-requires-2 : goal.add_lines-requires-2

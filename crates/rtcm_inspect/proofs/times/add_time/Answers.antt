@@ -1,6 +1,5 @@
-use Rattle.std.proofs.Common.{◌≡◌, ◌∙◌, ◌+◌, [], ◌∷◌, ◌++◌, ℕ, List, ap, arith, length, length-append, refl}
 use Rattle.rtcm_inspect.proofs.LineLemmas.{add_text, add_word, end_line}
-use Rattle.rtcm_inspect.proofs.Names.{civil_of, clock_text, date_text, time_line}
+use Rattle.rtcm_inspect.proofs.Names.{◌≡◌, ◌∙◌, ◌+◌, [], ◌∷◌, ◌++◌, ℕ, List, ap, arith, length, length-append, refl, civil_of, clock_text, date_text, time_line}
 use Rattle.rtcm_inspect.proofs.times.add_time.Goals as goal
 
 size : {new : List ℕ} (old part : List ℕ) → new ≡ old ++ part → length new ≡ length old + length part

@@ -1,6 +1,5 @@
-use Rattle.std.proofs.Common.{ap}
 use Rattle.rinex_file.proofs.Fields.Values.{limits}
-use Rattle.rinex_file.proofs.Names.{nat_eq, eqb-true}
+use Rattle.rinex_file.proofs.Names.{ap, nat_eq, eqb-true}
 use Rattle.rinex_file.proofs.read.fields.are_digits.Goals as goal
 
 pub returns : goal.returns

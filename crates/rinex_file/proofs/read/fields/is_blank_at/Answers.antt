@@ -1,7 +1,6 @@
-use Rattle.std.proofs.Common.{◌∙◌, ap}
 use Rattle.rinex_file.proofs.Fields.Lanes.{lanes_are, sixteen_long}
 use Rattle.rinex_file.proofs.Fields.Values.{sixteen_blank}
-use Rattle.rinex_file.proofs.Names.{blanks, eqb-true}
+use Rattle.rinex_file.proofs.Names.{◌∙◌, ap, blanks, eqb-true}
 use Rattle.rinex_file.proofs.read.fields.is_blank_at.Goals as goal
 
 pub returns : goal.returns

@@ -1,4 +1,3 @@
-use Rattle.std.proofs.Common.{arith, ◌≡◌, ◌∙◌, ap, sym, subst, ℤ, ◌+◌, ◌≤◌, ◌<◌, take, true, to_z, of_z, w64, Some, slice_index}
 use Rattle.rinex_file.proofs.Fields.Lanes.{bytes_below, taken}
 use Rattle.rinex_file.proofs.Fields.Values.{Begins, IsShown, IsValue, shown, value_is, within, no_zero, no_zero_first, first_is, within_nine, zero_first}
 use Rattle.rinex_file.proofs.Judged.{refused}
@@ -6,7 +5,7 @@ use Rattle.rinex_file.proofs.Fields.Templates.{front}
 use Rattle.rinex_file.proofs.OneReading.{value_once}
 use Rattle.rinex_file.proofs.Rows.Sizes.{stays}
 use Rattle.rinex_file.proofs.read.fields.value_in.Goals.{After-template, Start, else-first-eq48, then-first-eq48+else-start-lt9+else-negative, else-negative-via-then-negative+else-size-eq0, else-negative-via-else-negative}
-use Rattle.rinex_file.proofs.Names.{if◌then◌else◌, get_or, FitsColumns, blanks, field, leading}
+use Rattle.rinex_file.proofs.Names.{arith, ◌≡◌, ◌∙◌, ap, sym, subst, ℤ, ◌+◌, ◌≤◌, ◌<◌, take, true, to_z, of_z, w64, Some, slice_index, if◌then◌else◌, get_or, FitsColumns, blanks, field, leading}
 use lib.Lanes.{zip2}
 use Rattle.rinex_file.proofs.read.fields.value_in.Goals as goal
 

@@ -1,5 +1,4 @@
-use Rattle.std.proofs.Common.{arith, ◌^◌, ◌≤◌, ◌<◌, ℕ}
-use Rattle.rinex_file.proofs.Names.{pow-le-pow_right, common_steps}
+use Rattle.rinex_file.proofs.Names.{arith, ◌^◌, ◌≤◌, ◌<◌, ℕ, pow-le-pow_right, common_steps}
 use Rattle.rinex_file.proofs.read.numbers.digits_in.Goals as goal
 
 below : (n i : ℕ) → n < 10 ^ i → i ≤ 18 → n < 10 ^ 18

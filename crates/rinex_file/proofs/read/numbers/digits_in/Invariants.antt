@@ -1,5 +1,4 @@
-use Rattle.std.proofs.Common.{◌≡◌, ◌^◌, ◌<◌, drop}
-use Rattle.rinex_file.proofs.Names.{digits_from}
+use Rattle.rinex_file.proofs.Names.{◌≡◌, ◌^◌, ◌<◌, drop, digits_from}
 use Rattle.rinex_file.proofs.read.numbers.digits_in.Given as goal
 
 -- the rest of the text continues the number so far, which has at most one digit for each byte

@@ -1,6 +1,5 @@
-use Rattle.std.proofs.Common.{arith, ◌∙◌, sym, ap, ℕ, drop}
 use Rattle.rinex_file.proofs.Rows.Cut.{filled_end, last_place}
-use Rattle.rinex_file.proofs.Names.{filled_to}
+use Rattle.rinex_file.proofs.Names.{arith, ◌∙◌, sym, ap, ℕ, drop, filled_to}
 use Rattle.rinex_file.proofs.read.row.columns_at.Goals as goal
 
 pub returns : goal.returns

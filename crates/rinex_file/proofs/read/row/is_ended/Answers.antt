@@ -1,7 +1,6 @@
-use Rattle.std.proofs.Common.{arith, ◌≡◌, ◌∙◌, sym, ℕ, ◌<◌, true}
 use Rattle.rinex_file.proofs.Rows.Written.{ends}
 use Rattle.rinex_file.proofs.read.row.is_ended.Goals.{then-end-ge2, else-end-ge2}
-use Rattle.rinex_file.proofs.Names.{leb, eqb-true, leb-true}
+use Rattle.rinex_file.proofs.Names.{arith, ◌≡◌, ◌∙◌, sym, ℕ, ◌<◌, true, leb, eqb-true, leb-true}
 use Rattle.rinex_file.proofs.read.row.is_ended.Goals as goal
 
 no_less : (n : ℕ) → n < 2 → leb 2 n ≡ true → ⊥

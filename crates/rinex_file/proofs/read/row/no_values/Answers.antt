@@ -1,6 +1,5 @@
-use Rattle.std.proofs.Common.{◌∙◌, sym, ap}
 use Rattle.rinex_file.proofs.OneReading.{same_values}
-use Rattle.rinex_file.proofs.Names.{SignalValues, no_signal_values}
+use Rattle.rinex_file.proofs.Names.{◌∙◌, sym, ap, SignalValues, no_signal_values}
 use Rattle.rinex_file.proofs.read.row.no_values.Goals as goal
 
 pub returns : goal.returns

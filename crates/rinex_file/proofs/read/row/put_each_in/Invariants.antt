@@ -1,5 +1,4 @@
-use Rattle.std.proofs.Common.{◌≡◌, ◌*◌, take, length, All}
-use Rattle.rinex_file.proofs.Names.{flat_map, list_any, AreSignalValues, has_some_value, filled_to, signal_text}
+use Rattle.rinex_file.proofs.Names.{◌≡◌, ◌*◌, take, length, All, flat_map, list_any, AreSignalValues, has_some_value, filled_to, signal_text}
 use Rattle.rinex_file.proofs.read.row.put_each_in.Given as goal
 
 -- the entries so far, and their columns

@@ -1,9 +1,8 @@
-use Rattle.std.proofs.Common.{arith, ◌≡◌, ◌∙◌, sym, ap, refl, subst, ℕ, ◌*◌, ◌≤◌, List, Bool, true, false, ◌-◌, ◌++◌, append-nil, length, take, drop, replicate, ◌/◌}
 use Rattle.rinex_file.proofs.Judged.{refused}
 use Rattle.rinex_file.proofs.Rows.Cut.{cut_line_is, filled_over}
 use Rattle.rinex_file.proofs.OneReading.{IsTextOf, line_ended, line_once, text_of_line}
 use Rattle.rinex_file.proofs.read.row.read_of.Goals.{After-saturating_sub, then-text-lt3-via-then-text-lt3, then-text-lt3-via-else-text-lt3+then-text-signals, then-text-letter_of-via-then-text-letter_of, then-text-letter_of-via-else-text-letter_of+then-id-eq0, then-text-letter_of-via-else-text-letter_of+else-id-eq0+then-id-satellites}
-use Rattle.rinex_file.proofs.Names.{flat_map, SignalValues, drop_all, take_all, take_rest, System, satellites, SatelliteRow, letter_of, satellite_line, signal_text, filled_to, ReadsExactly, some_if, AreEntries, IsRowOf}
+use Rattle.rinex_file.proofs.Names.{arith, ◌≡◌, ◌∙◌, sym, ap, refl, subst, ℕ, ◌*◌, ◌≤◌, List, Bool, true, false, ◌-◌, ◌++◌, append-nil, length, take, drop, replicate, ◌/◌, flat_map, SignalValues, drop_all, take_all, take_rest, System, satellites, SatelliteRow, letter_of, satellite_line, signal_text, filled_to, ReadsExactly, some_if, AreEntries, IsRowOf}
 use Rattle.rinex_file.proofs.read.row.read_of.Goals as goal
 
 pub returns-then-not-is_ended : goal.returns-then-not-is_ended

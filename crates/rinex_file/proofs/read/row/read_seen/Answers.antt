@@ -1,6 +1,5 @@
-use Rattle.std.proofs.Common.{arith, ◌≡◌, ◌≢◌, ◌∙◌, sym, ap, refl, ℕ, ◌<◌, List, Option, Some, None}
 use Rattle.rinex_file.proofs.Rows.Sizes.{front_line}
-use Rattle.rinex_file.proofs.Names.{slice_get, option_copied, System, Gps, Galileo, Row, SatelliteRow, IsSatelliteRow, IsRow, of_system, satellite_line, letter_of, ReadsExactly, IsRowOf}
+use Rattle.rinex_file.proofs.Names.{arith, ◌≡◌, ◌≢◌, ◌∙◌, sym, ap, refl, ℕ, ◌<◌, List, Option, Some, None, slice_get, option_copied, System, Gps, Galileo, Row, SatelliteRow, IsSatelliteRow, IsRow, of_system, satellite_line, letter_of, ReadsExactly, IsRowOf}
 use Rattle.rinex_file.proofs.read.row.read_seen.Goals as goal
 
 -- a row with a value has a signal

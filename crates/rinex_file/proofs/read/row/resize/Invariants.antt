@@ -1,5 +1,4 @@
-use Rattle.std.proofs.Common.{◌≡◌, ◌≤◌}
-use Rattle.rinex_file.proofs.Names.{array_vec_len}
+use Rattle.rinex_file.proofs.Names.{◌≡◌, ◌≤◌, array_vec_len}
 use Rattle.rinex_file.proofs.read.row.resize.Given as goal
 
 -- the list has this length, which isn't more than is wanted

@@ -1,5 +1,4 @@
-use Rattle.std.proofs.Common.{◌≡◌, ap₂, ℕ, [], ◌∷◌, ◌+◌, ◌*◌, ◌/◌, ◌%◌, ◌<◌, get_or, eqb, true, refl}
-use Rattle.rinex_file.proofs.Names.{agree_below_at, eqb-true, PAIRS}
+use Rattle.rinex_file.proofs.Names.{◌≡◌, ap₂, ℕ, [], ◌∷◌, ◌+◌, ◌*◌, ◌/◌, ◌%◌, ◌<◌, get_or, eqb, true, refl, agree_below_at, eqb-true, PAIRS}
 use Rattle.rinex_file.proofs.write.digits.pair.Goals as goal
 
 tens : (i : ℕ) → i < 100 → get_or PAIRS (2 * i) 0 ≡ 48 + i / 10

@@ -1,6 +1,5 @@
-use Rattle.std.proofs.Common.{◌∙◌, sym, ap, ◌++◌, append-nil, subst, All}
 use Rattle.rinex_file.proofs.Writing.Stored.{lines_have_room, all_written, one_more}
-use Rattle.rinex_file.proofs.Names.{Stamped, FileValue, header_text, HaveRowsRoom, stamped_text}
+use Rattle.rinex_file.proofs.Names.{◌∙◌, sym, ap, ◌++◌, append-nil, subst, All, Stamped, FileValue, header_text, HaveRowsRoom, stamped_text}
 use Rattle.rinex_file.proofs.write.file.write_file.Goals as goal
 
 pub write_kept-requires : goal.write_kept-requires

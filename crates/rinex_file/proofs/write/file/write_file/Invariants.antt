@@ -1,5 +1,4 @@
-use Rattle.std.proofs.Common.{◌≡◌, ◌++◌, take, get_or}
-use Rattle.rinex_file.proofs.Names.{flat_map, Stamped, header_text, stamped_text}
+use Rattle.rinex_file.proofs.Names.{◌≡◌, ◌++◌, take, get_or, flat_map, Stamped, header_text, stamped_text}
 use Rattle.rinex_file.proofs.write.file.write_file.Given as goal
 
 -- the header and the epochs so far were written

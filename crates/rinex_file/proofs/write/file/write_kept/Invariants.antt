@@ -1,5 +1,4 @@
-use Rattle.std.proofs.Common.{◌≡◌, ◌++◌, take, length}
-use Rattle.rinex_file.proofs.Names.{flat_map, civil_of, joined, change_lines, epoch_line, satellite_line}
+use Rattle.rinex_file.proofs.Names.{◌≡◌, ◌++◌, take, length, flat_map, civil_of, joined, change_lines, epoch_line, satellite_line}
 use Rattle.rinex_file.proofs.write.file.write_kept.Given as goal
 
 -- the change, the epoch line and the satellites so far were written

@@ -1,6 +1,5 @@
-use Rattle.std.proofs.Common.{arith, ◌≡◌, ◌∙◌, sym, ap, ap₂, subst, ℕ, ◌≤◌, take, unsigned_abs}
 use Rattle.rinex_file.proofs.Fields.Templates.{added, front, leading-le, sign_before, value_columns}
-use Rattle.rinex_file.proofs.Names.{length-zip2, leading, template}
+use Rattle.rinex_file.proofs.Names.{arith, ◌≡◌, ◌∙◌, sym, ap, ap₂, subst, ℕ, ◌≤◌, take, unsigned_abs, length-zip2, leading, template}
 use lib.Lanes.{zip2}
 use Rattle.rinex_file.proofs.write.lanes.columns_with.Goals as goal
 

@@ -1,5 +1,4 @@
-use Rattle.std.proofs.Common.{arith, ◌∙◌, ap, ◌++◌}
-use Rattle.rinex_file.proofs.Names.{take-replicate}
+use Rattle.rinex_file.proofs.Names.{arith, ◌∙◌, ap, ◌++◌, take-replicate}
 use Rattle.rinex_file.proofs.write.line.put_blanks.Goals as goal
 
 pub returns-then-count-gt0-clause-text : goal.returns-then-count-gt0-clause-text

@@ -1,6 +1,5 @@
-use Rattle.std.proofs.Common.{arith}
 use Rattle.rinex_file.proofs.Digits.Numbers.{ten_pow}
-use Rattle.rinex_file.proofs.Names.{common_steps}
+use Rattle.rinex_file.proofs.Names.{arith, common_steps}
 use Rattle.rinex_file.proofs.write.line.put_fixed.Goals as goal
 
 pub nonzero_div-size : goal.nonzero_div-size

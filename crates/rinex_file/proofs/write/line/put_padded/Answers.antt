@@ -1,5 +1,4 @@
-use Rattle.std.proofs.Common.{arith}
-use Rattle.rinex_file.proofs.Names.{common_steps}
+use Rattle.rinex_file.proofs.Names.{arith, common_steps}
 use Rattle.rinex_file.proofs.write.line.put_padded.Goals as goal
 
 pub push-requires : goal.push-requires

@@ -1,6 +1,5 @@
-use Rattle.std.proofs.Common.{arith, ◌≡◌, ◌*◌, ◌-◌, ◌+◌, length, take}
 use Rattle.rinex_file.proofs.Rows.Cells.{put_first}
-use Rattle.rinex_file.proofs.Names.{length-take-le}
+use Rattle.rinex_file.proofs.Names.{arith, ◌≡◌, ◌*◌, ◌-◌, ◌+◌, length, take, length-take-le}
 use Rattle.rinex_file.proofs.write.satellite.put_columns.Goals as goal
 
 pub returns-clause-text : goal.returns-clause-text

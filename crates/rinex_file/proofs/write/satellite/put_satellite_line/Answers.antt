@@ -1,8 +1,7 @@
-use Rattle.std.proofs.Common.{arith, ◌≡◌, ◌∙◌, refl, sym, ap, ap₂, subst, ◌+◌, ◌-◌, ◌<◌, ◌≤◌, [], ◌∷◌, ◌++◌, ℕ, List, length, take, drop, false, slice_index_or}
 use Rattle.rinex_file.proofs.Entries.{few_signals as short_table}
 use Rattle.rinex_file.proofs.Rows.Cells.{begun_entries, no_place, others_stay, other_stays, cell_put, all_fit, trimmed_line, front_length}
 use Rattle.rinex_file.proofs.write.satellite.put_satellite_line.Goals.{After-of, After-loop-at, else-id-via-else-id, else-id-via-then-id+in-None-1}
-use Rattle.rinex_file.proofs.Names.{◌==◌, slice_set, nat_eq, IsDistinct, drop_more, length-map, All-drop, position-Some, Cell, SignalAt, IsHeld, planned_of, few_signals, padded, letter_of, satellite_line, SignalValues, signal_values_at, entries_of, HasSignals}
+use Rattle.rinex_file.proofs.Names.{arith, ◌≡◌, ◌∙◌, refl, sym, ap, ap₂, subst, ◌+◌, ◌-◌, ◌<◌, ◌≤◌, [], ◌∷◌, ◌++◌, ℕ, List, length, take, drop, false, slice_index_or, ◌==◌, slice_set, nat_eq, IsDistinct, drop_more, length-map, All-drop, position-Some, Cell, SignalAt, IsHeld, planned_of, few_signals, padded, letter_of, satellite_line, SignalValues, signal_values_at, entries_of, HasSignals}
 use Rattle.rinex_file.proofs.write.satellite.put_satellite_line.Goals as goal
 
 more : (cells : List Cell) (at : ℕ) (cell : Cell) → 0 < at → at ≤ length cells → cell ≡ slice_index_or cells (at - 1) cell → drop (at - 1) cells ≡ cell ∷ drop at cells

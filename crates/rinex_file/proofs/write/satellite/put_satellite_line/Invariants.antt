@@ -1,5 +1,4 @@
-use Rattle.std.proofs.Common.{◌≤◌, ◌<◌, ◌∷◌, length, take, drop}
-use Rattle.rinex_file.proofs.Names.{padded, entries_of, letter_of, HasSignals, most_line}
+use Rattle.rinex_file.proofs.Names.{◌≤◌, ◌<◌, ◌∷◌, length, take, drop, padded, entries_of, letter_of, HasSignals, most_line}
 use Rattle.rinex_file.proofs.write.satellite.put_satellite_line.Given as goal
 
 -- the columns so far have the values of the cells from here on

@@ -1,5 +1,4 @@
-use Rattle.std.proofs.Common.{arith}
-use Rattle.rinex_file.proofs.Names.{common_steps, signal_text}
+use Rattle.rinex_file.proofs.Names.{arith, common_steps, signal_text}
 use Rattle.rinex_file.proofs.write.satellite.put_signal.Goals as goal
 
 pub returns-clause-text : goal.returns-clause-text

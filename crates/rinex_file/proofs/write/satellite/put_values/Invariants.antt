@@ -1,5 +1,4 @@
-use Rattle.std.proofs.Common.{◌≡◌, ◌+◌, ◌*◌, ◌∷◌, ◌++◌, take}
-use Rattle.rinex_file.proofs.Names.{flat_map, letter_of, padded, signal_text}
+use Rattle.rinex_file.proofs.Names.{◌≡◌, ◌+◌, ◌*◌, ◌∷◌, ◌++◌, take, flat_map, letter_of, padded, signal_text}
 use Rattle.rinex_file.proofs.write.satellite.put_values.Given as goal
 
 -- the columns so far have the first signals

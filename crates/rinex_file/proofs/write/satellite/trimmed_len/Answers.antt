@@ -1,6 +1,5 @@
-use Rattle.std.proofs.Common.{arith}
 use Rattle.rinex_file.proofs.Rows.Trimmed.{cut_more, cut_enough}
-use Rattle.rinex_file.proofs.Names.{common_steps, trimmed}
+use Rattle.rinex_file.proofs.Names.{arith, common_steps, trimmed}
 use Rattle.rinex_file.proofs.write.satellite.trimmed_len.Goals as goal
 
 pub loop-end-preserved : goal.loop-end-preserved

@@ -1,5 +1,4 @@
-use Rattle.std.proofs.Common.{◌≡◌, ◌≤◌, length, take}
-use Rattle.rinex_file.proofs.Names.{trimmed}
+use Rattle.rinex_file.proofs.Names.{◌≡◌, ◌≤◌, length, take, trimmed}
 use Rattle.rinex_file.proofs.write.satellite.trimmed_len.Given as goal
 
 -- the bytes from `end` on are trailing blanks

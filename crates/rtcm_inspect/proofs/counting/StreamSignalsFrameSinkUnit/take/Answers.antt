@@ -1,7 +1,6 @@
-use Rattle.std.proofs.Common.{◌∙◌, ap, refl, sym}
 use Rattle.rtcm_inspect.proofs.CountingLemmas.{one_more_counted, read_counted, refused_counted}
 use Rattle.rtcm_inspect.proofs.FirstLemmas.{first_refused}
-use Rattle.rtcm_inspect.proofs.Names.{message_at, viewed_message, framed}
+use Rattle.rtcm_inspect.proofs.Names.{◌∙◌, ap, refl, sym, message_at, viewed_message, framed}
 use Rattle.rtcm_inspect.proofs.counting.StreamSignalsFrameSinkUnit.take.Goals as goal
 
 pub returns-in-Ok-clause-whole : goal.returns-in-Ok-clause-whole

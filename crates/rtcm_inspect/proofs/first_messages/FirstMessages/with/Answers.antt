@@ -1,6 +1,5 @@
-use Rattle.std.proofs.Common.{◌∙◌, ◌++◌, sym, ap, subst, IfSome, Some, None, ℕ, Option}
 use Rattle.rtcm_inspect.proofs.FirstLemmas.{first_read}
-use Rattle.rtcm_inspect.proofs.Names.{option_or, InRange, viewed_message, StationParts, one_of, stations_in, stations_of}
+use Rattle.rtcm_inspect.proofs.Names.{◌∙◌, ◌++◌, sym, ap, subst, IfSome, Some, None, ℕ, Option, option_or, InRange, viewed_message, StationParts, one_of, stations_in, stations_of}
 use Rattle.rtcm_inspect.proofs.first_messages.FirstMessages.with.Goals as goal
 
 either : {A : Type 0} (P : A → Type 0) (a b : Option A) → IfSome a P → IfSome b P → IfSome (option_or a b) P

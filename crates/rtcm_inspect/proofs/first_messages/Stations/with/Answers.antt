@@ -1,6 +1,5 @@
-use Rattle.std.proofs.Common.{◌≡◌, ◌∙◌, ◌++◌, sym, ap, Some, List, Option, ℕ}
 use Rattle.rtcm_inspect.proofs.FirstLemmas.{one_kept, one_more, several_kept}
-use Rattle.rtcm_inspect.proofs.Names.{one_of, stations_in, Stations}
+use Rattle.rtcm_inspect.proofs.Names.{◌≡◌, ◌∙◌, ◌++◌, sym, ap, Some, List, Option, ℕ, one_of, stations_in, Stations}
 use Rattle.rtcm_inspect.proofs.first_messages.Stations.with.Goals as goal
 
 -- the station that was given

@@ -1,5 +1,4 @@
-use Rattle.std.proofs.Common.{◌≡◌, ◌+◌, ◌∙◌, [], ◌∷◌, ◌++◌, List, ℕ, ap, sym, arith}
-use Rattle.rtcm_inspect.proofs.Names.{decimal_digit}
+use Rattle.rtcm_inspect.proofs.Names.{◌≡◌, ◌+◌, ◌∙◌, [], ◌∷◌, ◌++◌, List, ℕ, ap, sym, arith, decimal_digit}
 use Rattle.rtcm_inspect.proofs.line.OutputLine.put_number.Goals as goal
 
 pub returns-then-number-lt10-clause-text : goal.returns-then-number-lt10-clause-text

@@ -1,7 +1,6 @@
-use Rattle.std.proofs.Common.{◌∙◌, ◌++◌, ap, ℕ, List}
 use Rattle.rtcm_inspect.proofs.ListingLemmas.{one_more_listed, stopped_at_line}
 use Rattle.rtcm_inspect.proofs.PrintingLemmas.{on_err, on_ok, both_err, both_ok, line_written}
-use Rattle.rtcm_inspect.proofs.Names.{framed, listing_line}
+use Rattle.rtcm_inspect.proofs.Names.{◌∙◌, ◌++◌, ap, ℕ, List, framed, listing_line}
 use Rattle.rtcm_inspect.proofs.listing.ListingFrameSinkCounted.take.Goals as goal
 
 pub returns-clause-whole : goal.returns-clause-whole
