@@ -48,8 +48,18 @@ all_once : (os : List (Option Kind)) → AreDone os
     → sum (λ t. t.faulty) os + (sum (λ t. t.station) os + (sum (λ t. t.other) os + (sum (λ t. t.ignored) os + (sum (λ t. t.late) os + (sum (λ t. t.past) os + sum (λ t. t.taken) os))))) ≡ length os
 all_once [] d = refl
 all_once (o ∷ os) d =
-    omega (arith, sum-cons (λ t. t.faulty) o os, sum-cons (λ t. t.station) o os, sum-cons (λ t. t.other) o os, sum-cons (λ t. t.ignored) o os,
-    sum-cons (λ t. t.late) o os, sum-cons (λ t. t.past) o os, sum-cons (λ t. t.taken) o os, one_each o d.0, all_once os d.1)
+    omega (
+      arith,
+      sum-cons (λ t. t.faulty) o os,
+      sum-cons (λ t. t.station) o os,
+      sum-cons (λ t. t.other) o os,
+      sum-cons (λ t. t.ignored) o os,
+      sum-cons (λ t. t.late) o os,
+      sum-cons (λ t. t.past) o os,
+      sum-cons (λ t. t.taken) o os,
+      one_each o d.0,
+      all_once os d.1,
+    )
 
 one_frame : (o : Option Kind) → (tally_of_one o).frames ≡ 1
 one_frame None = refl

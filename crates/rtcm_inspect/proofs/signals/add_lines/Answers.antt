@@ -17,8 +17,13 @@ loop-index-preserved c =
         | else-count-gt0 w ↦ rw w.text-is (lines_none c.args.signal_counts.now cells system i c.count-count.result start c.loop-index.text.items h there c.count-count.ensures w.if-count-gt0.false (c.loop-index.invariant.text cells h))
       ];
       short = elim c.if-count-gt0.branch [
-        | then-count-gt0 w ↦ rw w.text-is (omega (arith, of_ok w.try_extend_from_slice.result w.unwrap.result _ w.unwrap.ensures w.try_extend_from_slice.ensures.len, ap length w.as_bytes.ensures.text,
-            w.count_line-line.ensures.short, c.loop-index.invariant.short))
+        | then-count-gt0 w ↦ rw w.text-is (omega (
+          arith,
+          of_ok w.try_extend_from_slice.result w.unwrap.result _ w.unwrap.ensures w.try_extend_from_slice.ensures.len,
+          ap length w.as_bytes.ensures.text,
+          w.count_line-line.ensures.short,
+          c.loop-index.invariant.short,
+        ))
         | else-count-gt0 w ↦ rw w.text-is (omega (arith, c.loop-index.invariant.short))
       ];
     }
