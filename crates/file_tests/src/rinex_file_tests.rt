@@ -14,7 +14,7 @@ mod times;
 mod writing;
 
 use arrayvec::ArrayVec;
-use obs_epoch::{GpsTime, Plan, StationValues};
+use gnss_obs::{GpsTime, Plan, StationValues};
 use parts::{Part, text_of};
 use rinex_file::{Head, HeadFault, HeaderField, HeaderTexts, Texts, header_lines};
 use rtcm_bits::Counted;

@@ -12,7 +12,7 @@ use Rattle.gnss_obs.specs.HeardCells.{heard_cell}
 use Rattle.gnss_obs.specs.Values.{PlanValue, EpochValue, cells_of, most_cells}
 use Rattle.gnss_obs.specs.Plans.{place_in}
 use Rattle.gnss_obs.specs.Order.{insert_by, cell_sort_key}
-use Rattle.gnss_obs.specs.Kept.{is_held}
+use Rattle.gnss_obs.specs.PlanOrder.{is_held}
 
 -- ---- one more cell
 

@@ -12,7 +12,7 @@ pub mod Plans
 pub mod SignalLists
 pub mod HeardCells
 pub mod Order
-pub mod Kept
+pub mod PlanOrder
 pub mod Arriving
 pub mod Stages
 pub mod GatheredEpochs

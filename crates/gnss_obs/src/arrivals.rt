@@ -2,7 +2,7 @@
 ghost use Rattle.std.specs.Prelude.{◌≡◌, ◌<◌, [], IfOk};
 ghost use Rattle.gnss_obs.specs.HeardCells.{heard_cell, IsObserved};
 ghost use Rattle.gnss_obs.specs.Arriving.{IsAdded, AddsCell, sorted_cells, sorted_epoch};
-ghost use Rattle.gnss_obs.specs.Kept.{AreInOrder, AreInPlanOrder};
+ghost use Rattle.gnss_obs.specs.PlanOrder.{AreInOrder, AreInPlanOrder};
 ghost use Rattle.gnss_obs.specs.Values.{AreHeld, cells_of, planned_of};
 
 use crate::cell::{Cell, StationValues};

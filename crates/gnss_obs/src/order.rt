@@ -1,7 +1,7 @@
 //! Cells in the order of their satellites and of a plan.
 ghost use Rattle.std.specs.Prelude.{◌≡◌, ◌+◌, ◌*◌, ◌<◌, ◌≤◌, ◌++◌, ◌∷◌, [], List, ℕ};
 ghost use Rattle.gnss_obs.specs.Arriving.{sorted_cells, AreBelow};
-ghost use Rattle.gnss_obs.specs.Kept.{AreInPlanOrder};
+ghost use Rattle.gnss_obs.specs.PlanOrder.{AreInPlanOrder};
 ghost use Rattle.gnss_obs.specs.Order.{IsBound, no_bound};
 ghost use Rattle.gnss_obs.specs.Satellites.{satellites};
 ghost use Rattle.gnss_obs.specs.SignalLists.{indices, IsOf};

@@ -2,7 +2,7 @@
 ghost use Rattle.std.specs.Prelude.{◌≡◌, ◌<◌, [], true, false, IfOk, if◌then◌else◌, Some, None, option_map};
 ghost use Rattle.gnss_obs.specs.HeardCells.{heard_cell, IsObserved};
 ghost use Rattle.gnss_obs.specs.Arriving.{IsAdded, sorted_epoch};
-ghost use Rattle.gnss_obs.specs.Kept.{AreInOrder};
+ghost use Rattle.gnss_obs.specs.PlanOrder.{AreInOrder};
 ghost use Rattle.gnss_obs.specs.Values.{AreHeld, cells_of};
 ghost use Rattle.gnss_obs.specs.Stages.{IsStage, stage_value};
 

@@ -1,17 +1,17 @@
 -- A call of the gatherer returns the epoch that the longer list closes.
 use Rattle.std.proofs.Common.{◌≡◌, ℕ, Bool, true, false, ◌||◌, ◌&&◌, List, [], ◌∷◌, ◌++◌, refl, sym, ap, ap₂, ◌∙◌, subst, arith, Option, Some, None, is_some, nat_lt, append-nil, if◌then◌else◌, option_to_list}
 use Rattle.std.proofs.lemmas.List.{map-append}
-use Rattle.obs_epoch.specs.Names.{GatherSetup, Heard, ends_epoch, Closed, EpochValue, Timed, is_at, greatest_time, from_first, is_closed, taken_at, timed, times, is_shut, closed_times, closed_so_far, epoch_at, values_of, is_pending, closes_first, Gathered, no_epoch, take_step, end_step, noted, HasTakenMessages, held_at, option_map_or, list_any}
+use Rattle.obs_epoch.specs.Names.{GatherSetup, Heard, ends_epoch, Closed, EpochValue, Timed, is_at, greatest_time, from_first, is_closed, taken_at, timed, times, is_shut, closed_times, closed_so_far, epoch_at, values_of, is_pending, closes_first, GathererValue, no_epoch, take_step, end_step, noted, HasTakenMessages, held_at, option_map_or, list_any}
 use Rattle.obs_epoch.specs.Step.{closed_by as closes}
 use Rattle.rtcm_bits.specs.Prefix.{IsPrefix}
-use Rattle.obs_epoch.specs.Gathering.{before_closing, closed_at, closed_list_at, known_epochs, closed_by, closed_in, returned_epoch, is_done, HasGatheredEpochs}
+use Rattle.obs_epoch.specs.GathererHistory.{before_closing, closed_at, closed_list_at, known_epochs, closed_by, closed_in, returned_epoch, is_done, HasGatheredEpochs}
 use Rattle.obs_epoch.proofs.TimesLemmas.{next, timed-push, greater-absent, none-absent}
 use Rattle.obs_epoch.proofs.ClockLemmas.{Follows, first, greater, equal, new_time, same_time, standing as standing_at}
 use Rattle.obs_epoch.proofs.ClosedLemmas.{taken_follows}
 use Rattle.obs_epoch.proofs.ClosingLemmas.{closing}
 use Rattle.obs_epoch.proofs.StandingLemmas.{closed_later}
 use Rattle.obs_epoch.proofs.TakeLemmas.{taken, closes_it, ended, Ended, times_taken, time_taken, pending_taken, IsSet, no_point_given, same_values, handed_is, ended_is}
-use Rattle.obs_epoch.proofs.GatheringLemmas.{Each, each_filter, each_front, each_back, list-push, before_all, before-push, pending_open, with_pending, prefix_self}
+use Rattle.obs_epoch.proofs.HistoryLemmas.{Each, each_filter, each_front, each_back, list-push, before_all, before-push, pending_open, with_pending, prefix_self}
 use Rattle.std.proofs.lemmas.Grind.{common_steps}
 
 -- ---- which epoch is new
@@ -36,7 +36,7 @@ some_is : (a b : ℕ) → Some a ≡ Some b → a ≡ b
 some_is a b e = grind (arith, e)
 
 -- An epoch that a step closes wasn't closed before.
-new_open : (g : Gathered) (s : GatherSetup) (ms : List Heard) (m : Heard) (shut : Bool) → HasTakenMessages g s ms shut → closes_first s (timed s ms) m ≡ shut
+new_open : (g : GathererValue) (s : GatherSetup) (ms : List Heard) (m : Heard) (shut : Bool) → HasTakenMessages g s ms shut → closes_first s (timed s ms) m ≡ shut
     → (t : ℕ) → closes g.clock m ≡ Some t → is_shut s (timed s ms) t ≡ false
 new_open g s ms m shut h early t e = by (taken_at s xs m) refl where
   xs : List Timed
@@ -75,7 +75,7 @@ shut_new s ys before t grown =
     (each_back (is_shut s ys) before (t ∷ []) (subst (Each (is_shut s ys)) all (each_filter (is_shut s ys) (times ys)))).0
 
 -- The epoch that a step closes, as it is returned.
-new_closed : (g : Gathered) (s : GatherSetup) (ms : List Heard) (m : Heard) (shut : Bool) → HasTakenMessages g s ms shut → closes_first s (timed s ms) m ≡ shut → IsSet m
+new_closed : (g : GathererValue) (s : GatherSetup) (ms : List Heard) (m : Heard) (shut : Bool) → HasTakenMessages g s ms shut → closes_first s (timed s ms) m ≡ shut → IsSet m
     → (o : Option ℕ) → closes g.clock m ≡ o → (take_step g m).state.just_closed ≡ is_some o
     → returned_epoch (take_step g m).state ≡ closed_list_at s (ms ++ m ∷ []) (option_to_list o)
 new_closed g s ms m shut h early given None e has = let v = (take_step g m).state in ap (λ b. closed_by (if b then Some (v.epoch) else None) v.values) has
@@ -94,7 +94,7 @@ new_closed g s ms m shut h early given (Some t) e has =
     ∙ ap₂ (λ (a : EpochValue) w. record { epoch = a; values = w } ∷ []) epoch values
 
 -- The pending epoch, as it is returned.
-pending_closed : (v : Gathered) (s : GatherSetup) (ms : List Heard) (t : ℕ) → greatest_time (timed s ms) ≡ Some t → is_pending s (timed s ms) ≡ true
+pending_closed : (v : GathererValue) (s : GatherSetup) (ms : List Heard) (t : ℕ) → greatest_time (timed s ms) ≡ Some t → is_pending s (timed s ms) ≡ true
     → v.epoch ≡ held_at s (timed s ms) → v.values ≡ values_of s ms → v.just_closed ≡ true → returned_epoch v ≡ closed_list_at s ms (option_to_list (greatest_time (timed s ms)))
 pending_closed v s ms t e p epoch values has = grind (arith, common_steps, before_all, pending_open)
 
@@ -107,11 +107,11 @@ or_and : (b a p : Bool) → a ≡ false → (b || (a && p)) ≡ b
 or_and true a p e = refl
 or_and false a p e = and_false a p e
 
-pub not_done : (v : Gathered) (s : GatherSetup) (ms : List Heard) (again : Option Heard) → v.has_ended ≡ false → is_done v s ms again ≡ is_some again
+pub not_done : (v : GathererValue) (s : GatherSetup) (ms : List Heard) (again : Option Heard) → v.has_ended ≡ false → is_done v s ms again ≡ is_some again
 not_done v s ms again going = or_and (is_some again) v.has_ended (is_pending s (timed s ms)) going
 
 -- A message is processed.
-pub gathers_taken : (g : Gathered) (s : GatherSetup) (ms : List Heard) (es : List Closed) (again : Option Heard) (m : Heard) → HasGatheredEpochs g s ms es again → g.has_ended ≡ false
+pub gathers_taken : (g : GathererValue) (s : GatherSetup) (ms : List Heard) (es : List Closed) (again : Option Heard) (m : Heard) → HasGatheredEpochs g s ms es again → g.has_ended ≡ false
     → closes_first s (timed s ms) m ≡ is_some again → IsSet m → HasGatheredEpochs (take_step g m).state s (ms ++ m ∷ []) (es ++ returned_epoch (take_step g m).state) None
 gathers_taken g s ms es again m h going early given =
     let v = (take_step g m).state in
@@ -136,13 +136,13 @@ gathers_taken g s ms es again m h going early given =
     }
 
 -- The pending epoch is closed first.
-pub gathers_first : (g : Gathered) (s : GatherSetup) (ms : List Heard) (es : List Closed) (m : Heard) → HasGatheredEpochs g s ms es None → g.has_ended ≡ false
+pub gathers_first : (g : GathererValue) (s : GatherSetup) (ms : List Heard) (es : List Closed) (m : Heard) → HasGatheredEpochs g s ms es None → g.has_ended ≡ false
     → closes_first s (timed s ms) m ≡ true → m.point ≡ None → HasGatheredEpochs (take_step g m).state s ms (es ++ returned_epoch (take_step g m).state) (Some m)
 gathers_first g s ms es m h going early point = by (greatest_time (timed s ms)) refl where
   xs : List Timed
   xs = timed s ms
 
-  v : Gathered
+  v : GathererValue
   v = (take_step g m).state
 
   standing : HasTakenMessages g s ms false
@@ -183,20 +183,20 @@ gathers_first g s ms es m h going early point = by (greatest_time (timed s ms)) 
         plan = ap (λ (u : GatherSetup). u.plan) f.after.clock.setup;
       }
 
-pub has_closed : (v : Gathered) → v.just_closed ≡ is_some (closed_in v)
+pub has_closed : (v : GathererValue) → v.just_closed ≡ is_some (closed_in v)
 has_closed v = grind (arith, common_steps)
 
-pub end_ended : (b : Bool) (h : Gathered) → h.has_ended ≡ true → (if b then noted h else h).has_ended ≡ true
+pub end_ended : (b : Bool) (h : GathererValue) → h.has_ended ≡ true → (if b then noted h else h).has_ended ≡ true
 end_ended b h e = grind (arith, common_steps, e)
 
-pub end_handed : (b : Bool) (h : Gathered) → (if b then noted h else h).just_closed ≡ h.just_closed
+pub end_handed : (b : Bool) (h : GathererValue) → (if b then noted h else h).just_closed ≡ h.just_closed
 end_handed b h = grind (arith, common_steps)
 
 and_true : (a : Bool) → (a && true) ≡ a
 and_true a = grind (arith, common_steps)
 
 -- No message follows.
-pub gathers_ended : (g : Gathered) (s : GatherSetup) (ms : List Heard) (es : List Closed) → HasGatheredEpochs g s ms es None → g.has_ended ≡ false
+pub gathers_ended : (g : GathererValue) (s : GatherSetup) (ms : List Heard) (es : List Closed) → HasGatheredEpochs g s ms es None → g.has_ended ≡ false
     → (g.clock.pending ≡ is_pending s (timed s ms)) × HasGatheredEpochs (end_step g) s ms (es ++ returned_epoch (end_step g)) None
 gathers_ended g s ms es h going = (
   pending,
@@ -212,7 +212,7 @@ gathers_ended g s ms es h going = (
   xs : List Timed
   xs = timed s ms
 
-  v : Gathered
+  v : GathererValue
   v = end_step g
 
   standing : HasTakenMessages g s ms false

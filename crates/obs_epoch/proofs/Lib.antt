@@ -12,7 +12,7 @@ pub mod StandingLemmas
 pub mod ClockLemmas
 pub mod Rows
 pub mod EntryLemmas
-pub mod GatheringLemmas
+pub mod HistoryLemmas
 pub mod HandingLemmas
 pub mod KindLemmas
 mod OrderLemmas

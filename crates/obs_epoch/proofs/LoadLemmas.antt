@@ -1,6 +1,6 @@
 -- The cells of one more message, kept one by one, are the kept cells of the longer list.
 use Rattle.std.proofs.Common.{[], ◌≡◌, ℕ, suc, Bool, true, false, not, ◌||◌, ◌&&◌, List, ◌∷◌, ◌++◌, filter, refl, sym, ap, ap₂, ◌∙◌, arith, length, append_assoc, append-nil, Option, nat_le, if◌then◌else◌, cond}
-use Rattle.obs_epoch.specs.Names.{System, Gps, Galileo, CellOutcome, Crowded, Kept, Repeated, Skipped, count_in, lookup, outcome_of, is_held, GatherSetup, HeardCell, kept_cell, is_of_system, is_among, kept, add, is_planned, has_same_key, lli_with, Gathered, with_more, outcome_in, hold, hold_by, load, PlanValue, planned_of, most_cells, EpochValue, cells_of, insert_by, sort_key_of, sorted, cell_sort_key, Cell, KnownLock, CellCounts}
+use Rattle.obs_epoch.specs.Names.{System, Gps, Galileo, CellOutcome, Crowded, Kept, Repeated, Skipped, count_in, lookup, outcome_of, is_held, GatherSetup, HeardCell, kept_cell, is_of_system, is_among, kept, add, is_planned, has_same_key, lli_with, GathererValue, with_more, outcome_in, hold, hold_by, load, PlanValue, planned_of, most_cells, EpochValue, cells_of, insert_by, sort_key_of, sorted, cell_sort_key, Cell, KnownLock, CellCounts}
 use Rattle.obs_epoch.proofs.CellsLemmas.{kept-add}
 use Rattle.obs_epoch.proofs.OrderLemmas.{sorted-push, among-sorted, length-sorted}
 use Rattle.std.proofs.lemmas.Grind.{common_steps}
@@ -90,11 +90,11 @@ abbrev pub counts_after : GatherSetup → List HeardCell → CellCounts → List
 counts_after s xs n [] = n
 counts_after s xs n (y ∷ ys) = counts_after s (xs ++ planned_one s y) (count_in (outcome_after s xs y) n) ys
 
-pub hold_is : (k : CellOutcome) (g : Gathered) (x : HeardCell) → hold_by k g x ≡ record g { epoch = epoch_by g.clock.setup.plan k (lookup g.locks) g.epoch x }
+pub hold_is : (k : CellOutcome) (g : GathererValue) (x : HeardCell) → hold_by k g x ≡ record g { epoch = epoch_by g.clock.setup.plan k (lookup g.locks) g.epoch x }
 hold_is k g x = grind (arith, common_steps)
 
 -- The cells of a message, kept one by one.
-pub load_is : (g : Gathered) (n : CellCounts) (t : ℕ) (xs ys : List HeardCell) → g.epoch ≡ epoch_of g.clock.setup.plan (lookup g.locks) t xs
+pub load_is : (g : GathererValue) (n : CellCounts) (t : ℕ) (xs ys : List HeardCell) → g.epoch ≡ epoch_of g.clock.setup.plan (lookup g.locks) t xs
     → load (record { state = g; counts = n }) ys
     ≡ record { state = record g { epoch = epoch_of g.clock.setup.plan (lookup g.locks) t (xs ++ filter (is_planned g.clock.setup) ys) }; counts = counts_after g.clock.setup xs n ys }
 load_is g n t xs [] h = ap (λ e. record { state = record g { epoch = e }; counts = n }) (h ∙ ap (epoch_of g.clock.setup.plan (lookup g.locks) t) (sym (append-nil xs)))

@@ -5,7 +5,7 @@ use Rattle.std.specs.List.{IsDistinct, cons_option}
 use Rattle.std.proofs.lemmas.List.Elements.{filter-append}
 use Rattle.std.proofs.lemmas.Grind.{flat_map-append}
 use Rattle.std.proofs.lemmas.Map.Keys.{IsDistinct-push}
-use Rattle.obs_epoch.specs.Names.{System, Gps, Galileo, GatherSetup, HeardCell, Timed, is_at, is_of_system, has_listed_key, is_planned, is_among, kept, kept_at, add, offered, has_same_key, planned_of, EpochValue, lock_of, locked_at, latest_in, last_of, is_locked, cells_with_lli, epoch_at, lookup, note_all, most_locks, TracksLocks, Gathered, noted, locked_in, Locked, Cell, KnownLock}
+use Rattle.obs_epoch.specs.Names.{System, Gps, Galileo, GatherSetup, HeardCell, Timed, is_at, is_of_system, has_listed_key, is_planned, is_among, kept, kept_at, add, offered, has_same_key, planned_of, EpochValue, lock_of, locked_at, latest_in, last_of, is_locked, cells_with_lli, epoch_at, lookup, note_all, most_locks, TracksLocks, GathererValue, noted, locked_in, Locked, Cell, KnownLock}
 use Rattle.obs_epoch.proofs.OrderLemmas.{among-sorted, all-sorted, distinct-sorted}
 use Rattle.obs_epoch.proofs.CellsLemmas.{kept-add, same_key_laws}
 use Rattle.obs_epoch.proofs.LockLemmas.{seens, lookup-note_all, note_all_size, tracks_all, locked, find_none, AllListed}
@@ -139,7 +139,7 @@ noted_tracks s xs ts t rs h =
     subst (TracksLocks (note_all t (note_all t rs (cells_with_lli s xs t gps)) (cells_with_lli s xs t galileo))) is second
 
 -- The kept epoch is closed.
-pub noted_locked : (g : Gathered) (s : GatherSetup) (xs : List Timed) (ts : List ℕ) (t : ℕ) → g.epoch ≡ epoch_at s xs t → Locked g s xs ts → Locked (noted g) s xs (ts ++ t ∷ [])
+pub noted_locked : (g : GathererValue) (s : GatherSetup) (xs : List Timed) (ts : List ℕ) (t : ℕ) → g.epoch ≡ epoch_at s xs t → Locked g s xs ts → Locked (noted g) s xs (ts ++ t ∷ [])
 noted_locked g s xs ts t e h =
     let is : (noted g).locks ≡ note_all t (note_all t g.locks (cells_with_lli s xs t (kept_at s t xs Gps))) (cells_with_lli s xs t (kept_at s t xs Galileo)) =
     ap (λ (v : EpochValue). note_all v.time (note_all v.time g.locks v.gps) v.galileo) e in

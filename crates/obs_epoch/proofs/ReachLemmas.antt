@@ -1,5 +1,5 @@
 -- Bounds of the values of epochs.
-use Rattle.obs_epoch.specs.Names.{LockField, Df402, Df407, System, Gps, Galileo, Satellite, satellite_of_id, SignalAt, signal_of_id, hertz_of, nearest_pseudorange, nearest_phase, nearest_doppler, nearest_strength, LockTime, Entry, Message, Station, Msm4, Msm7, Other, IsMessage, IsMeasured, EntriesAreMeasured, PointsAreInRange, entries, StationValues, weeks, Closed, HasTwelveDigits, cells_of, planned_of, most_cells, GatherSetup, Heard, heard, observed, seen_in, lock_by, HeardCell, kept_cell, Timed, is_at, timed, timed_after, taken_at, is_of_system, is_planned, offered, firsts_after, firsts, kept, kept_at, has_same_key, times, lli_with, lli_of, has_lost, cells_with_lli, epoch_at, values_by_message, is_shut, open_after, before_closing, closed_list_at, all_epochs, IsHeardCell, IsHeard, IsStrength, IsGathered, same_place, AreGathered, AreStationValues, IsGatheredEpoch, TimesRise, AreGatheredEpochs, KnownLock}
+use Rattle.obs_epoch.specs.Names.{LockField, Df402, Df407, System, Gps, Galileo, Satellite, satellite_of_id, SignalAt, signal_of_id, hertz_of, nearest_pseudorange, nearest_phase, nearest_doppler, nearest_strength, LockTime, Entry, Message, Station, Msm4, Msm7, Other, IsMessage, IsMeasured, EntriesAreMeasured, PointsAreInRange, entries, StationValues, weeks, Closed, HasTwelveDigits, cells_of, planned_of, most_cells, GatherSetup, Heard, heard, observed, seen_in, lock_by, HeardCell, kept_cell, Timed, is_at, timed, timed_after, taken_at, is_of_system, is_planned, offered, firsts_after, firsts, kept, kept_at, has_same_key, times, lli_with, lli_of, has_lost, cells_with_lli, epoch_at, values_after_message, is_shut, open_after, before_closing, closed_list_at, all_epochs, IsHeardCell, IsHeard, IsStrength, IsGathered, same_place, AreGathered, AreStationValues, IsGatheredEpoch, TimesRise, AreGatheredEpochs, KnownLock}
 use Rattle.std.proofs.Common.{◌≡◌, ℕ, zero, suc, ℤ, pos, ◌+◌, ◌*◌, ◌^◌, ◌<◌, ◌≤◌, ◌≤ℤ◌, Bool, true, false, List, [], ◌∷◌, ◌++◌, filter, take, ap, arith, Option, Some, None, nat_lt, is_some, unsigned_abs, if◌then◌else◌, flat_map, filter_map, option_map, option_and_then, IfSome, fold}
 use Rattle.std.specs.List.{AllByRecursion, IsDistinct, cons_option}
 use Rattle.rtcm_msg.specs.Msm.{week}
@@ -177,12 +177,12 @@ cells_at s xs t h Galileo = cells_gathered s xs t Galileo h
 
 -- ---- station values
 
-values_in_range : (s : GatherSetup) (v : StationValues) (m : Heard) → IsHeard m → AreStationValues v → AreStationValues (values_by_message s v m)
+values_in_range : (s : GatherSetup) (v : StationValues) (m : Heard) → IsHeard m → AreStationValues v → AreStationValues (values_after_message s v m)
 values_in_range s v m k h = grind (arith, common_steps)
 
-values_from : (s : GatherSetup) (v : StationValues) (ms : List Heard) → AllByRecursion IsHeard ms → AreStationValues v → AreStationValues (fold (values_by_message s) v ms)
+values_from : (s : GatherSetup) (v : StationValues) (ms : List Heard) → AllByRecursion IsHeard ms → AreStationValues v → AreStationValues (fold (values_after_message s) v ms)
 values_from s v [] k h = h
-values_from s v (m ∷ ms) k h = values_from s (values_by_message s v m) ms k.1 (values_in_range s v m k.0 h)
+values_from s v (m ∷ ms) k h = values_from s (values_after_message s v m) ms k.1 (values_in_range s v m k.0 h)
 
 open_heard : (s : GatherSetup) (t : ℕ) (earlier ms : List Heard) → AllByRecursion IsHeard earlier → AllByRecursion IsHeard ms → AllByRecursion IsHeard (open_after s t earlier ms)
 open_heard s t earlier [] h k = h

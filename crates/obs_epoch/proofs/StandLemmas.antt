@@ -1,7 +1,7 @@
 -- The order of an epoch's cells, and one more cell.
 use Rattle.std.proofs.Common.{◌≡◌, ℕ, ◌==◌, Bool, true, false, ◌||◌, List, [], ◌∷◌, ◌++◌, refl, sym, ap, ap₂, ◌∙◌, subst, arith, length, get_or, Option, Some, None, is_some, if◌then◌else◌, position}
 use Rattle.std.proofs.lemmas.List.Quantifiers.{position-Some}
-use Rattle.obs_epoch.specs.Names.{System, Gps, Galileo, Cell, EpochValue, PlanValue, planned_of, cells_of, PendingValue, note_all, KnownLock, place_in, is_planned, has_same_key, GatherSetup, Heard, IsKey, HeardCell, kept_cell, heard_cell, SortKey, insert_by, sort_key_of, cell_sort_key, Crowded, Kept, Repeated, lookup, outcome_of_added, values_by_message, StationValues, is_held, Gathered, with_more_in, with_more, outcome_in, hold, hold_by, just_closed_as, noted, rested, with_time, IsPending, AreInPlanOrder, AreInOrder, Added, IsAdded, cells_after, epoch_with, outcome_by, sorted_cells, sorted_epoch, State, step_by, lli_with, option_map_or, AllByRecursion}
+use Rattle.obs_epoch.specs.Names.{System, Gps, Galileo, Cell, EpochValue, PlanValue, planned_of, cells_of, PendingValue, note_all, KnownLock, place_in, is_planned, has_same_key, GatherSetup, Heard, IsKey, HeardCell, kept_cell, heard_cell, SortKey, insert_by, sort_key_of, cell_sort_key, Crowded, Kept, Repeated, lookup, outcome_of_added, values_after_message, StationValues, is_held, GathererValue, with_more_in, with_more, outcome_in, hold, hold_by, just_closed_as, noted, rested, with_time, IsPending, AreInPlanOrder, AreInOrder, Added, IsAdded, cells_after, epoch_with, outcome_by, sorted_cells, sorted_epoch, State, step_by, lli_with, option_map_or, AllByRecursion}
 use Rattle.gnss_obs.proofs.SortLemmas.{sorted_again}
 use Rattle.gnss_obs.specs.declared.arrivals.Added.TheVariants as added
 use Rattle.std.proofs.lemmas.List.Sums.{fold-append}
@@ -77,7 +77,7 @@ outcome_same : (a b : Bool) → (if a then Repeated else (if b then Crowded else
 outcome_same a b = grind (arith, common_steps)
 
 -- The outcome of a planned cell.
-outcome_added : (g : Gathered) (p : PlanValue) (e : EpochValue) (x : HeardCell) → g.epoch ≡ sorted_epoch p e → is_planned g.clock.setup x ≡ true
+outcome_added : (g : GathererValue) (p : PlanValue) (e : EpochValue) (x : HeardCell) → g.epoch ≡ sorted_epoch p e → is_planned g.clock.setup x ≡ true
     → outcome_in g x ≡ outcome_of_added (outcome_by (is_held (cells_of x.satellite.system e) x) (length (cells_of x.satellite.system e)))
 outcome_added g p e x is planned =
     let held = ap (λ (v : EpochValue). is_held (cells_of x.satellite.system v) x) is ∙ held_any x.satellite.system p e x in
@@ -106,21 +106,21 @@ sorted_after added.Kept p e m = sorted_push m.satellite.system p e m
 sorted_after added.Repeated p e m = ap (sorted_epoch p) (with_same m.satellite.system e)
 sorted_after added.Crowded p e m = ap (sorted_epoch p) (with_same m.satellite.system e)
 
-hold_after : (k : Added) (g : Gathered) (x : HeardCell) (lli : ℕ) → lli ≡ lli_with g.epoch.time x (lookup g.locks x)
+hold_after : (k : Added) (g : GathererValue) (x : HeardCell) (lli : ℕ) → lli ≡ lli_with g.epoch.time x (lookup g.locks x)
     → record g { epoch = epoch_after k g.clock.setup.plan g.epoch (kept_cell x lli) } ≡ hold_by (outcome_of_added k) g x
 hold_after added.Kept g x lli e = ap (λ n. record g { epoch = with_more g.clock.setup.plan g.epoch (kept_cell x n) }) e
 hold_after added.Repeated g x lli e = refl
 hold_after added.Crowded g x lli e = refl
 
 -- A cell that arrives is held.
-pub held_is : (g : Gathered) (e new : EpochValue) (x : HeardCell) (lli : ℕ) (k : Added) → g.epoch ≡ sorted_epoch g.clock.setup.plan e → is_planned g.clock.setup x ≡ true
+pub held_is : (g : GathererValue) (e new : EpochValue) (x : HeardCell) (lli : ℕ) (k : Added) → g.epoch ≡ sorted_epoch g.clock.setup.plan e → is_planned g.clock.setup x ≡ true
     → lli ≡ lli_with g.epoch.time x (lookup g.locks x) → IsAdded e (kept_cell x lli) k new → record g { epoch = sorted_epoch g.clock.setup.plan new } ≡ hold g x
 held_is g e new x lli k is planned mark added =
     let p = g.clock.setup.plan in
     ap (λ v. record g { epoch = v }) (ap (sorted_epoch p) added.epoch ∙ sorted_after k p e (kept_cell x lli) ∙ ap (λ v. epoch_after k p v (kept_cell x lli)) (sym is))
     ∙ hold_after k g x lli mark ∙ ap (λ o. hold_by o g x) (ap outcome_of_added added.outcome ∙ sym (outcome_added g p e x is planned))
 
-pub outcome_is : (g : Gathered) (e new : EpochValue) (x : HeardCell) (lli : ℕ) (k : Added) → g.epoch ≡ sorted_epoch g.clock.setup.plan e → is_planned g.clock.setup x ≡ true
+pub outcome_is : (g : GathererValue) (e new : EpochValue) (x : HeardCell) (lli : ℕ) (k : Added) → g.epoch ≡ sorted_epoch g.clock.setup.plan e → is_planned g.clock.setup x ≡ true
     → IsAdded e (kept_cell x lli) k new → outcome_of_added k ≡ outcome_in g x
 outcome_is g e new x lli k is planned added = ap outcome_of_added added.outcome ∙ sym (outcome_added g g.clock.setup.plan e x is planned)
 
@@ -149,12 +149,12 @@ step_setup g m = grind (arith, common_steps)
 pub never_both : (b : Bool) → b ≡ false → b ≡ true → ⊥
 never_both b e f = cc
 
-abbrev parts : Gathered → State → EpochValue → StationValues → Gathered
+abbrev parts : GathererValue → State → EpochValue → StationValues → GathererValue
 parts g clock e values = record { clock = clock; epoch = e; locks = g.locks; values = values; just_closed = false; has_ended = g.has_ended }
 
 -- The value after the time and the station values of a message.
-pub heard_is : (g : Gathered) (e new : EpochValue) (clock : State) (v values : StationValues) (m : Heard) → g.epoch ≡ sorted_epoch g.clock.setup.plan e → clock ≡ step_by g.clock m → new ≡ e
-    → v ≡ values → values ≡ values_by_message g.clock.setup g.values m
+pub heard_is : (g : GathererValue) (e new : EpochValue) (clock : State) (v values : StationValues) (m : Heard) → g.epoch ≡ sorted_epoch g.clock.setup.plan e → clock ≡ step_by g.clock m → new ≡ e
+    → v ≡ values → values ≡ values_after_message g.clock.setup g.values m
     → record { clock = clock; epoch = sorted_epoch clock.setup.plan new; locks = g.locks; values = v; just_closed = false; has_ended = g.has_ended } ≡ rested (with_time g m)
 heard_is g e new clock v values m is step same given by_m =
     ap (λ (c : State). parts g c (sorted_epoch c.setup.plan new) v) step
@@ -175,14 +175,14 @@ pending_closed p q r b o is =
       closed = λ e. (ap (λ (v : PendingValue). v.is_open) is, again ∙ sym (ap (λ (v : PendingValue). v.epoch) is));
     }
 
-abbrev closed_parts : Gathered → EpochValue → List (Option KnownLock) → StationValues → Gathered
+abbrev closed_parts : GathererValue → EpochValue → List (Option KnownLock) → StationValues → GathererValue
 closed_parts g e l v = record { clock = g.clock; epoch = e; locks = l; values = v; just_closed = true; has_ended = g.has_ended }
 
 abbrev noted_both : List (Option KnownLock) → ℕ → List Cell → List Cell → List (Option KnownLock)
 noted_both l n a b = note_all n (note_all n l a) b
 
 -- The locks of a closed epoch are recorded.
-pub noted_closed : (g : Gathered) (q r : PendingValue) (t : ℕ) (gps galileo : List Cell) (first second : List (Option KnownLock)) → AreInOrder g.clock.setup.plan (sorted_epoch g.clock.setup.plan q.epoch)
+pub noted_closed : (g : GathererValue) (q r : PendingValue) (t : ℕ) (gps galileo : List Cell) (first second : List (Option KnownLock)) → AreInOrder g.clock.setup.plan (sorted_epoch g.clock.setup.plan q.epoch)
     → g.epoch ≡ sorted_epoch g.clock.setup.plan q.epoch → g.values ≡ q.values → r ≡ closed_value g.clock.setup.plan q → t ≡ r.epoch.time → gps ≡ r.epoch.gps → galileo ≡ r.epoch.galileo
     → first ≡ note_all t g.locks gps → second ≡ note_all t first galileo
     → record { clock = g.clock; epoch = sorted_epoch g.clock.setup.plan r.epoch; locks = second; values = r.values; just_closed = true; has_ended = g.has_ended } ≡ noted (just_closed_as true g)

@@ -1,7 +1,7 @@
 -- A step of the gatherer adds one message to the list.
 use Rattle.std.proofs.Common.{◌≡◌, ℕ, zero, suc, replicate, ◌<◌, Bool, true, false, not, ◌||◌, List, [], ◌∷◌, ◌++◌, filter, refl, sym, ap, ap₂, ◌∙◌, subst, arith, length, append-nil, Option, Some, None, nat_lt, if◌then◌else◌, cond, filter_map, flat_map}
 use Rattle.std.proofs.lemmas.List.Elements.{filter-append}
-use Rattle.obs_epoch.specs.Names.{Gps, Galileo, GatherSetup, Heard, ends_epoch, HeardCell, kept_cell, Timed, is_at, greatest_time, is_closed, taken_at, no_counts, kept_at, offered, is_planned, locked_at, latest_in, previous, times, lli_with, cells_with_lli, epoch_at, closed_so_far, lookup, no_locks, State, closes_first, Gathered, no_epoch, load, epoch_begun, is_same, locked_in, held_at, Locked, KnownLock, option_map_or, list_any}
+use Rattle.obs_epoch.specs.Names.{Gps, Galileo, GatherSetup, Heard, ends_epoch, HeardCell, kept_cell, Timed, is_at, greatest_time, is_closed, taken_at, no_counts, kept_at, offered, is_planned, locked_at, latest_in, previous, times, lli_with, cells_with_lli, epoch_at, closed_so_far, lookup, no_locks, State, closes_first, GathererValue, no_epoch, load, epoch_begun, is_same, locked_in, held_at, Locked, KnownLock, option_map_or, list_any}
 use Rattle.obs_epoch.proofs.TimesLemmas.{next, greater-absent, none-absent}
 use Rattle.obs_epoch.proofs.ClockLemmas.{standing, same_time, Follows, first, greater, equal, new_time}
 use Rattle.obs_epoch.proofs.ClosedLemmas.{Below, when, ends, closed_is, passes_all, one_fails, less_true, less_false, taken_follows, times-push_same}
@@ -21,7 +21,7 @@ locked_in-push : (s : GatherSetup) (xs : List Timed) (x : Timed) (ts : List ℕ)
 locked_in-push s xs x [] h = refl
 locked_in-push s xs x (t ∷ ts) h = grind (arith, common_steps, kept_at-push, locked_in-push s xs x ts h.1)
 
-pub locked-push : (g : Gathered) (s : GatherSetup) (xs : List Timed) (x : Timed) (ts : List ℕ) → AllLater x.time ts → Locked g s xs ts → Locked g s (xs ++ x ∷ []) ts
+pub locked-push : (g : GathererValue) (s : GatherSetup) (xs : List Timed) (x : Timed) (ts : List ℕ) → AllLater x.time ts → Locked g s xs ts → Locked g s (xs ++ x ∷ []) ts
 locked-push g s xs x ts later h = grind (arith, common_steps, latest-push, locked_in-push)
 
 -- ---- an accepted message: the closed epochs are those before its time
@@ -92,11 +92,11 @@ not_known : (t u : ℕ) → t < u → is_same (Some t) (Some u) ≡ false
 not_known t u h = grind arith
 
 -- The epoch in which the cells of an accepted message are kept.
-begun_is : (g : Gathered) (s : GatherSetup) (xs : List Timed) (m : Heard) (u : ℕ) (shut : Bool) → taken_at s xs m ≡ Some u → closes_first s xs m ≡ shut
+begun_is : (g : GathererValue) (s : GatherSetup) (xs : List Timed) (m : Heard) (u : ℕ) (shut : Bool) → taken_at s xs m ≡ Some u → closes_first s xs m ≡ shut
     → g.epoch ≡ held_at s xs → Locked g s xs (closed_so_far s xs shut) → g.clock.latest ≡ Some u
     → epoch_begun (greatest_time xs) g ≡ record g { epoch = epoch_of s.plan (lookup g.locks) u (offered s u xs) }
 begun_is g s xs m u shut some h held locks now = ap (λ o. begun_to (greatest_time xs) o) now ∙ by (taken_follows s xs m u some) where
-  begun_to : Option ℕ → Option ℕ → Gathered
+  begun_to : Option ℕ → Option ℕ → GathererValue
   begun_to a b = if is_same a b then g else record g { epoch = record { time = option_map_or (λ t. t) b 0; gps = []; galileo = [] } }
 
   fresh : is_same (greatest_time xs) (Some u) ≡ false → list_any (is_at u) xs ≡ false → begun_to (greatest_time xs) (Some u) ≡ record g { epoch = epoch_of s.plan (lookup g.locks) u (offered s u xs) }
@@ -119,7 +119,7 @@ begun_is g s xs m u shut some h held locks now = ap (λ o. begun_to (greatest_ti
 -- ---- the value after the step, before the closing
 
 -- An accepted message.
-pub loaded_taken : (g : Gathered) (s : GatherSetup) (xs : List Timed) (m : Heard) (u : ℕ) (shut : Bool) → taken_at s xs m ≡ Some u → closes_first s xs m ≡ shut
+pub loaded_taken : (g : GathererValue) (s : GatherSetup) (xs : List Timed) (m : Heard) (u : ℕ) (shut : Bool) → taken_at s xs m ≡ Some u → closes_first s xs m ≡ shut
     → g.epoch ≡ held_at s xs → Locked g s xs (closed_so_far s xs shut) → g.clock ≡ standing s (xs ++ next s xs m ∷ []) false
     → load (record { state = epoch_begun (greatest_time xs) g; counts = no_counts }) m.cells
     ≡ record { state = record g { epoch = epoch_at s (xs ++ next s xs m ∷ []) u }; counts = counts_after s (offered s u xs) no_counts m.cells }
@@ -159,5 +159,5 @@ none_sized : (n : ℕ) → length (replicate n none_known) ≡ n
 none_sized zero = refl
 none_sized (suc n) = ap suc (none_sized n)
 
-pub none_locked : (g : Gathered) (s : GatherSetup) → g.locks ≡ no_locks → Locked g s [] (closed_so_far s [] false)
+pub none_locked : (g : GathererValue) (s : GatherSetup) → g.locks ≡ no_locks → Locked g s [] (closed_so_far s [] false)
 none_locked g s e = grind (arith, common_steps, none_found, none_recorded, none_sized)

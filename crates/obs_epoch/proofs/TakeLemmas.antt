@@ -1,7 +1,7 @@
 -- The whole step: a property of the list before holds for the list after one more message.
 use Rattle.std.proofs.Common.{◌≡◌, ℕ, Bool, true, false, not, ◌||◌, ◌&&◌, List, [], ◌∷◌, ◌++◌, refl, sym, ap, ap₂, ◌∙◌, subst, arith, append-nil, Option, Some, None, is_some, ◌⊎◌, inl, inr, if◌then◌else◌, option_to_list}
 use Rattle.std.proofs.lemmas.List.Sums.{fold-append}
-use Rattle.obs_epoch.specs.Names.{Message, Kind, CloseFirst, CellCounts, GatherSetup, Heard, heard, is_own, ends_epoch, HeardCell, Timed, greatest_time, taken_at, timed, no_counts, with_skipped, offered, counts_of, counts_of_message, epoch_at, closed_so_far, closed_times, values_of, values_by_message, State, HasHeardMessages, is_pending, closes_first, is_close_first, is_kept, kind_after, with_unlisted, Gathered, Loaded, no_epoch, noted, load, loaded_if, outcome_in, load_one, with_time, closed_if, closed_noted, epoch_begun, just_closed_as, rested, take_step, end_step, is_same, count_in, KnownLock, held_at, Locked, HasTakenMessages, EpochValue, option_map_or}
+use Rattle.obs_epoch.specs.Names.{Message, Kind, CloseFirst, CellCounts, GatherSetup, Heard, heard, is_own, ends_epoch, HeardCell, Timed, greatest_time, taken_at, timed, no_counts, with_skipped, offered, counts_of, counts_of_message, epoch_at, closed_so_far, closed_times, values_of, values_after_message, State, HasHeardMessages, is_pending, closes_first, is_close_first, is_kept, kind_after, with_unlisted, GathererValue, Loaded, no_epoch, noted, load, loaded_if, outcome_in, load_one, with_time, closed_if, closed_noted, epoch_begun, just_closed_as, rested, take_step, end_step, is_same, count_in, KnownLock, held_at, Locked, HasTakenMessages, EpochValue, option_map_or}
 use Rattle.rtcm_msg.specs.declared.message.Message.TheVariants as message
 use Rattle.obs_epoch.specs.Step.{kind_by, step_by, closed_by, closed_of}
 use Rattle.obs_epoch.proofs.TimesLemmas.{next, timed-push}
@@ -20,18 +20,18 @@ clock_is g s ms shut h = same_state g s _ _ h.setup h.latest h.pending
 pub clock_stands : (g : State) (s : GatherSetup) (ms : List Heard) (xs : List Timed) (shut : Bool) → timed s ms ≡ xs → g ≡ standing s xs shut → HasHeardMessages g s ms shut
 clock_stands g s ms xs shut same e = grind (arith, common_steps)
 
-values-push : (s : GatherSetup) (ms : List Heard) (m : Heard) → values_of s (ms ++ m ∷ []) ≡ values_by_message s (values_of s ms) m
-values-push s ms m = fold-append (values_by_message s) s.initial ms (m ∷ [])
+values-push : (s : GatherSetup) (ms : List Heard) (m : Heard) → values_of s (ms ++ m ∷ []) ≡ values_after_message s (values_of s ms) m
+values-push s ms m = fold-append (values_after_message s) s.initial ms (m ∷ [])
 
 -- Before the closing.
-pub record Mid (g : Gathered) (s : GatherSetup) (ms : List Heard) (shut : Bool) (ts : List ℕ) : Type 0 where
+pub record Mid (g : GathererValue) (s : GatherSetup) (ms : List Heard) (shut : Bool) (ts : List ℕ) : Type 0 where
   pub clock : HasHeardMessages g.clock s ms shut
   pub epoch : g.epoch ≡ held_at s (timed s ms)
   pub locks : Locked g s (timed s ms) ts
   pub values : g.values ≡ values_of s ms
 
 -- After the closing.
-pub assemble : (g : Gathered) (s : GatherSetup) (ms : List Heard) (shut : Bool) (ts : List ℕ) (o : Option ℕ) → Mid g s ms shut ts
+pub assemble : (g : GathererValue) (s : GatherSetup) (ms : List Heard) (shut : Bool) (ts : List ℕ) (o : Option ℕ) → Mid g s ms shut ts
     → ((t : ℕ) → o ≡ Some t → greatest_time (timed s ms) ≡ Some t) → closed_so_far s (timed s ms) shut ≡ ts ++ option_to_list o
     → HasTakenMessages (if is_some o then noted g else g) s ms shut
 assemble g s ms shut ts None h at closed = grind (arith, common_steps, append-nil)
@@ -55,7 +55,7 @@ pub record Reached (l : Loaded) (s : GatherSetup) (ms : List Heard) (m : Heard) 
   pub mid : Mid l.state s (ms ++ m ∷ []) false (closed_so_far s (timed s ms) shut)
   pub counts : l.counts ≡ counts_of_message s (timed s ms) m
 
-reached : (g : Gathered) (s : GatherSetup) (ms : List Heard) (m : Heard) (shut : Bool) → HasTakenMessages g s ms shut → closes_first s (timed s ms) m ≡ shut
+reached : (g : GathererValue) (s : GatherSetup) (ms : List Heard) (m : Heard) (shut : Bool) → HasTakenMessages g s ms shut → closes_first s (timed s ms) m ≡ shut
     → Reached (loaded_if (is_kept (kind_by g.clock no_counts m)) g.clock.latest (with_time g m) m) s ms m shut
 reached g s ms m shut h early = by (taken_at s xs m) refl where
   xs : List Timed
@@ -74,7 +74,7 @@ reached g s ms m shut h early = by (taken_at s xs m) refl where
   kind = ap (λ c. kind_by c no_counts m) was ∙ (takes s xs no_counts m shut early).0
 
   values : (with_time g m).values ≡ values_of s (ms ++ m ∷ [])
-  values = ap₂ (λ c v. values_by_message c v m) h.clock.setup h.values ∙ sym (values-push s ms m)
+  values = ap₂ (λ c v. values_after_message c v m) h.clock.setup h.values ∙ sym (values-push s ms m)
 
   locks : Locked (with_time g m) s (xs ++ next s xs m ∷ []) (closed_so_far s xs shut)
   locks =
@@ -84,7 +84,7 @@ reached g s ms m shut h early = by (taken_at s xs m) refl where
   before : Locked (with_time g m) s xs (closed_so_far s xs shut)
   before = record { found = h.locks.found; tracks = h.locks.tracks }
 
-  moved : (v : Gathered) → v.clock ≡ standing s (xs ++ next s xs m ∷ []) false → v.epoch ≡ held_at s (xs ++ next s xs m ∷ [])
+  moved : (v : GathererValue) → v.clock ≡ standing s (xs ++ next s xs m ∷ []) false → v.epoch ≡ held_at s (xs ++ next s xs m ∷ [])
       → Locked v s (xs ++ next s xs m ∷ []) (closed_so_far s xs shut) → v.values ≡ values_of s (ms ++ m ∷ []) → Mid v s (ms ++ m ∷ []) false (closed_so_far s xs shut)
   moved v a b c d = record {
     clock = clock_stands v.clock s (ms ++ m ∷ []) _ false same a;
@@ -112,14 +112,14 @@ reached g s ms m shut h early = by (taken_at s xs m) refl where
       })
 
 -- The times of the closed epochs grow by that of the epoch that the step closes.
-pub times_taken : (g : Gathered) (s : GatherSetup) (ms : List Heard) (m : Heard) (shut : Bool) → HasTakenMessages g s ms shut → closes_first s (timed s ms) m ≡ shut
+pub times_taken : (g : GathererValue) (s : GatherSetup) (ms : List Heard) (m : Heard) (shut : Bool) → HasTakenMessages g s ms shut → closes_first s (timed s ms) m ≡ shut
     → closed_so_far s (timed s (ms ++ m ∷ [])) false ≡ closed_so_far s (timed s ms) shut ++ option_to_list (closed_by g.clock m)
 times_taken g s ms m shut h early =
     ap (λ l. closed_so_far s l false) (timed-push s ms m) ∙ closing s (timed s ms) m shut early
     ∙ ap (λ c. closed_so_far s (timed s ms) shut ++ option_to_list (closed_by c m)) (sym (clock_is g.clock s ms shut h.clock))
 
 -- That time is the greatest then.
-pub time_taken : (g : Gathered) (s : GatherSetup) (ms : List Heard) (m : Heard) (shut : Bool) → HasTakenMessages g s ms shut → closes_first s (timed s ms) m ≡ shut
+pub time_taken : (g : GathererValue) (s : GatherSetup) (ms : List Heard) (m : Heard) (shut : Bool) → HasTakenMessages g s ms shut → closes_first s (timed s ms) m ≡ shut
     → (t : ℕ) → closed_by g.clock m ≡ Some t → greatest_time (timed s (ms ++ m ∷ [])) ≡ Some t
 time_taken g s ms m shut h early t e =
     let xs = timed s ms in
@@ -129,13 +129,13 @@ time_taken g s ms m shut h early t e =
     ap greatest_time (timed-push s ms m) ∙ ap (λ (c : State). c.latest) (sym now)
     ∙ after_closed (kind_by g.clock no_counts m) _ _ _ _ t (ap is_close_first (kind no_counts) ∙ not_first s xs no_counts m) e
 
-pub record Taken (g : Gathered) (s : GatherSetup) (ms : List Heard) (m : Heard) (shut : Bool) : Type 0 where
+pub record Taken (g : GathererValue) (s : GatherSetup) (ms : List Heard) (m : Heard) (shut : Bool) : Type 0 where
   pub kind : (n : CellCounts) → kind_by g.clock n m ≡ kind_after s (timed s ms) n m
   pub counts : (take_step g m).counts ≡ counts_of_message s (timed s ms) m
   pub after : HasTakenMessages (take_step g m).state s (ms ++ m ∷ []) false
 
 -- A message is processed.
-pub taken : (g : Gathered) (s : GatherSetup) (ms : List Heard) (m : Heard) (shut : Bool) → HasTakenMessages g s ms shut → closes_first s (timed s ms) m ≡ shut → Taken g s ms m shut
+pub taken : (g : GathererValue) (s : GatherSetup) (ms : List Heard) (m : Heard) (shut : Bool) → HasTakenMessages g s ms shut → closes_first s (timed s ms) m ≡ shut → Taken g s ms m shut
 taken g s ms m shut h early =
     let xs = timed s ms in
     let o = closed_by g.clock m in
@@ -153,7 +153,7 @@ taken g s ms m shut h early =
 was_pending : (k : Kind) (b p : Bool) (before after : Option ℕ) (t : ℕ) → is_close_first k ≡ false → is_kept k ≡ false → closed_of k b p before after ≡ Some t → p ≡ true
 was_pending k b p before after t other untaken e = grind (arith, common_steps)
 
-pub pending_taken : (g : Gathered) (s : GatherSetup) (ms : List Heard) (m : Heard) (shut : Bool) → HasTakenMessages g s ms shut → closes_first s (timed s ms) m ≡ shut
+pub pending_taken : (g : GathererValue) (s : GatherSetup) (ms : List Heard) (m : Heard) (shut : Bool) → HasTakenMessages g s ms shut → closes_first s (timed s ms) m ≡ shut
     → taken_at s (timed s ms) m ≡ None → (t : ℕ) → closed_by g.clock m ≡ Some t → is_pending s (timed s ms) ≡ true
 pending_taken g s ms m shut h early none t e =
     let xs = timed s ms in
@@ -185,13 +185,13 @@ no_point_given g m t (inr both) e = grind (arith, common_steps, closes_none)
 pub same_values : (s : GatherSetup) (ms : List Heard) (m : Heard) → m.point ≡ None → values_of s (ms ++ m ∷ []) ≡ values_of s ms
 same_values s ms m none = grind (arith, common_steps)
 
-pub record First (g : Gathered) (s : GatherSetup) (ms : List Heard) (m : Heard) : Type 0 where
+pub record First (g : GathererValue) (s : GatherSetup) (ms : List Heard) (m : Heard) : Type 0 where
   pub kind : (n : CellCounts) → kind_by g.clock n m ≡ CloseFirst
   pub has : is_some (closed_by g.clock m) ≡ true
   pub after : HasTakenMessages (take_step g m).state s ms true
 
 -- A message that closes first isn't processed.
-pub closes_it : (g : Gathered) (s : GatherSetup) (ms : List Heard) (m : Heard) → HasTakenMessages g s ms false → closes_first s (timed s ms) m ≡ true → m.point ≡ None → First g s ms m
+pub closes_it : (g : GathererValue) (s : GatherSetup) (ms : List Heard) (m : Heard) → HasTakenMessages g s ms false → closes_first s (timed s ms) m ≡ true → m.point ≡ None → First g s ms m
 closes_it g s ms m h early none = by (greatest_time (timed s ms)) refl where
   xs : List Timed
   xs = timed s ms
@@ -208,7 +208,7 @@ closes_it g s ms m h early none = by (greatest_time (timed s ms)) refl where
   just_closed : closed_by g.clock m ≡ greatest_time xs
   just_closed = ap (λ k. closed_of k (ends_epoch g.clock.setup m) g.clock.pending g.clock.latest (step_by g.clock m).latest) (kind no_counts) ∙ ap (λ (c : State). c.latest) was
 
-  unchanged : values_by_message g.clock.setup g.values m ≡ values_of s ms
+  unchanged : values_after_message g.clock.setup g.values m ≡ values_of s ms
   unchanged = by_own (is_own g.clock.setup m) ∙ h.values where
     by_own : (b : Bool) → (if b then option_map_or (λ p. record { x = p.x; y = p.y; z = p.z; height = option_map_or (λ h. h) p.height g.values.height }) m.point g.values else g.values) ≡ g.values
     by_own b = grind (arith, common_steps)
@@ -237,27 +237,27 @@ closes_it g s ms m h early none = by (greatest_time (timed s ms)) refl where
             (assemble (with_time g m) s ms true (closed_so_far s xs false) (Some t) mid (λ u f. e ∙ f) more);
       }
 
-pub record Ended (g : Gathered) (s : GatherSetup) (ms : List Heard) (shut : Bool) : Type 0 where
+pub record Ended (g : GathererValue) (s : GatherSetup) (ms : List Heard) (shut : Bool) : Type 0 where
   pub was : g.clock.pending ≡ (is_pending s (timed s ms) && not shut)
   pub after : HasTakenMessages (end_step g) s ms (shut || g.clock.pending)
 
-abbrev stopping : Gathered → Gathered
+abbrev stopping : GathererValue → GathererValue
 stopping g = record g { clock = record g.clock { pending = false }; just_closed = g.clock.pending; has_ended = true }
 
-ended_by : (g : Gathered) (s : GatherSetup) (ms : List Heard) (shut : Bool) (b : Bool) → g.clock.pending ≡ b → g.clock.pending ≡ (is_pending s (timed s ms) && not shut)
+ended_by : (g : GathererValue) (s : GatherSetup) (ms : List Heard) (shut : Bool) (b : Bool) → g.clock.pending ≡ b → g.clock.pending ≡ (is_pending s (timed s ms) && not shut)
     → HasTakenMessages (if b then noted (stopping g) else stopping g) s ms (shut || b)
     → Ended g s ms shut
 ended_by g s ms shut b is was after = grind (arith, common_steps)
 
 -- No epoch was pending.
-ended_none : (g : Gathered) (s : GatherSetup) (ms : List Heard) (shut : Bool) → HasTakenMessages g s ms shut → g.clock.pending ≡ false → Ended g s ms shut
+ended_none : (g : GathererValue) (s : GatherSetup) (ms : List Heard) (shut : Bool) → HasTakenMessages g s ms shut → g.clock.pending ≡ false → Ended g s ms shut
 ended_none g s ms shut h f = grind (arith, common_steps)
 
 and_not_true : (b : Bool) → false ≡ (b && not true)
 and_not_true b = grind (arith, common_steps)
 
 -- The pending epoch is closed.
-ended_some : (g : Gathered) (s : GatherSetup) (ms : List Heard) → HasTakenMessages g s ms false → g.clock.pending ≡ true → Ended g s ms false
+ended_some : (g : GathererValue) (s : GatherSetup) (ms : List Heard) → HasTakenMessages g s ms false → g.clock.pending ≡ true → Ended g s ms false
 ended_some g s ms h f = by (greatest_time (timed s ms)) refl where
   xs : List Timed
   xs = timed s ms
@@ -277,7 +277,7 @@ ended_some g s ms h f = by (greatest_time (timed s ms)) refl where
       (assemble (stopping g) s ms true (closed_so_far s xs false) (Some t) mid (λ u q. e ∙ q) more)
 
 -- No message follows.
-pub ended : (g : Gathered) (s : GatherSetup) (ms : List Heard) (shut : Bool) → HasTakenMessages g s ms shut → Ended g s ms shut
+pub ended : (g : GathererValue) (s : GatherSetup) (ms : List Heard) (shut : Bool) → HasTakenMessages g s ms shut → Ended g s ms shut
 ended g s ms true h = grind (arith, common_steps, ended_none)
 ended g s ms false h = by g.clock.pending refl where
   by : (p : Bool) → g.clock.pending ≡ p → Ended g s ms false
@@ -291,24 +291,24 @@ no_point s xs m h = grind (arith, common_steps, h)
 -- ---- what neither the kept epoch nor the lock records change
 
 -- A field that doesn't depend on them.
-abbrev IsApart : (Gathered → Bool) → Type 0
-IsApart f = (g : Gathered) (e : EpochValue) (locks : List (Option KnownLock)) → f (record g { epoch = e; locks = locks }) ≡ f g
+abbrev IsApart : (GathererValue → Bool) → Type 0
+IsApart f = (g : GathererValue) (e : EpochValue) (locks : List (Option KnownLock)) → f (record g { epoch = e; locks = locks }) ≡ f g
 
-load_apart : (f : Gathered → Bool) → IsApart f → (l : Loaded) (xs : List HeardCell) → f (load l xs).state ≡ f l.state
+load_apart : (f : GathererValue → Bool) → IsApart f → (l : Loaded) (xs : List HeardCell) → f (load l xs).state ≡ f l.state
 load_apart f apart l [] = refl
 load_apart f apart l (x ∷ xs) = load_apart f apart (load_one l x) xs ∙ ap f (hold_is (outcome_in l.state x) l.state x) ∙ apart l.state _ l.state.locks
 
-loaded_apart : (f : Gathered → Bool) → IsApart f → (accepted : Bool) (before : Option ℕ) (g : Gathered) (m : Heard) → f (loaded_if accepted before g m).state ≡ f g
+loaded_apart : (f : GathererValue → Bool) → IsApart f → (accepted : Bool) (before : Option ℕ) (g : GathererValue) (m : Heard) → f (loaded_if accepted before g m).state ≡ f g
 loaded_apart f apart true before g m = load_apart f apart _ m.cells ∙ begun (is_same before g.clock.latest) where
   begun : (b : Bool) → f (if b then g else record g { epoch = record { time = option_map_or (λ t. t) g.clock.latest 0; gps = []; galileo = [] } }) ≡ f g
   begun true = refl
   begun false = apart g _ g.locks
 loaded_apart f apart false before g m = refl
 
-closed_loaded : (accepted : Bool) (before : Option ℕ) (g : Gathered) (m : Heard) → (loaded_if accepted before (with_time g m) m).state.just_closed ≡ is_some (closed_by g.clock m)
+closed_loaded : (accepted : Bool) (before : Option ℕ) (g : GathererValue) (m : Heard) → (loaded_if accepted before (with_time g m) m).state.just_closed ≡ is_some (closed_by g.clock m)
 closed_loaded accepted before g m = loaded_apart (λ v. v.just_closed) (λ v e locks. refl) accepted before (with_time g m) m
 
-step_apart : (f : Gathered → Bool) → IsApart f → (g : Gathered) (m : Heard) → f (take_step g m).state ≡ f (with_time g m)
+step_apart : (f : GathererValue → Bool) → IsApart f → (g : GathererValue) (m : Heard) → f (take_step g m).state ≡ f (with_time g m)
 step_apart f apart g m = closed (is_some (closed_by g.clock m)) (loaded_if kept g.clock.latest (with_time g m) m) ∙ loaded_apart f apart kept g.clock.latest (with_time g m) m where
   kept : Bool
   kept = is_kept (kind_by g.clock no_counts m)
@@ -318,13 +318,13 @@ step_apart f apart g m = closed (is_some (closed_by g.clock m)) (loaded_if kept 
   closed false l = refl
 
 -- The step of the gatherer, from what its message loads.
-pub noted_is : (g : Gathered) (m : Heard) → closed_noted (loaded_if (is_kept (kind_by g.clock no_counts m)) g.clock.latest (with_time g m) m).state ≡ (take_step g m).state
+pub noted_is : (g : GathererValue) (m : Heard) → closed_noted (loaded_if (is_kept (kind_by g.clock no_counts m)) g.clock.latest (with_time g m) m).state ≡ (take_step g m).state
 noted_is g m = let v = (loaded_if (is_kept (kind_by g.clock no_counts m)) g.clock.latest (with_time g m) m).state in ap (λ b. if b then noted v else v) (closed_loaded _ _ g m)
 
-pub handed_is : (g : Gathered) (m : Heard) → (take_step g m).state.just_closed ≡ is_some (closed_by g.clock m)
+pub handed_is : (g : GathererValue) (m : Heard) → (take_step g m).state.just_closed ≡ is_some (closed_by g.clock m)
 handed_is g m = step_apart (λ v. v.just_closed) (λ v e locks. refl) g m
 
-pub ended_is : (g : Gathered) (m : Heard) → (take_step g m).state.has_ended ≡ g.has_ended
+pub ended_is : (g : GathererValue) (m : Heard) → (take_step g m).state.has_ended ≡ g.has_ended
 ended_is g m = step_apart (λ v. v.has_ended) (λ v e locks. refl) g m
 
 -- ---- the messages of a call that may close the epoch at its end
@@ -341,7 +341,7 @@ load_rested : (l : Loaded) (xs : List HeardCell) → load (resting l) xs ≡ res
 load_rested l [] = refl
 load_rested l (x ∷ xs) = ap (λ v. load v xs) (one_rested l x) ∙ load_rested (load_one l x) xs
 
-pub loaded_rested : (accepted : Bool) (before : Option ℕ) (g : Gathered) (m : Heard) → loaded_if accepted before (rested g) m ≡ resting (loaded_if accepted before g m)
+pub loaded_rested : (accepted : Bool) (before : Option ℕ) (g : GathererValue) (m : Heard) → loaded_if accepted before (rested g) m ≡ resting (loaded_if accepted before g m)
 loaded_rested true before g m =
     ap (λ v. with_unlisted m.unlisted (load (record { state = v; counts = no_counts }) m.cells)) (begun (is_same before g.clock.latest))
     ∙ ap (with_unlisted m.unlisted) (load_rested (record { state = epoch_begun before g; counts = no_counts }) m.cells) where
@@ -351,7 +351,7 @@ loaded_rested true before g m =
 loaded_rested false before g m = refl
 
 -- The step of the gatherer, from what its message loads and whether the epoch is closed then.
-pub closed_is : (g : Gathered) (m : Heard) (l : Loaded) (closed : Bool) → l ≡ loaded_if (is_kept (kind_by g.clock no_counts m)) g.clock.latest (rested (with_time g m)) m
+pub closed_is : (g : GathererValue) (m : Heard) (l : Loaded) (closed : Bool) → l ≡ loaded_if (is_kept (kind_by g.clock no_counts m)) g.clock.latest (rested (with_time g m)) m
     → closed ≡ is_some (closed_by g.clock m) → closed_noted (just_closed_as closed l.state) ≡ (take_step g m).state
 closed_is g m l closed e is =
     let accepted = is_kept (kind_by g.clock no_counts m) in

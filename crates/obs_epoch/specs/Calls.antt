@@ -9,38 +9,38 @@ use Rattle.obs_epoch.specs.Times.{timed}
 use Rattle.obs_epoch.specs.Cells.{firsts}
 use Rattle.obs_epoch.specs.Epochs.{closed_so_far}
 use Rattle.obs_epoch.specs.Clock.{is_pending, closes_first}
-use Rattle.obs_epoch.specs.Gather.{Gathered}
-use Rattle.obs_epoch.specs.GathererHistory.{held_at, locked_in}
+use Rattle.obs_epoch.specs.GathererSteps.{GathererValue}
+use Rattle.obs_epoch.specs.GathererAfter.{held_at, locked_in}
 use Rattle.obs_epoch.specs.Kinds.{is_close_first, kind_of}
-use Rattle.obs_epoch.specs.Gathering.{HasGatheredEpochs, IsAwaited, returned_epoch, closed_in, is_done}
+use Rattle.obs_epoch.specs.GathererHistory.{HasGatheredEpochs, IsAwaited, returned_epoch, closed_in, is_done}
 
 -- The kind is `CloseFirst` exactly if an epoch is pending and the message's time is greater and within the weeks.
-abbrev pub IsCloseFirstExactly : Gathered → Heard → Kind → Type 0
+abbrev pub IsCloseFirstExactly : GathererValue → Heard → Kind → Type 0
 IsCloseFirstExactly old m kind =
     (s : GatherSetup) (ms : List Heard) (es : List Closed) → HasGatheredEpochs old s ms es None
     → is_close_first kind ≡ closes_first s (timed s ms) m
 
 -- If the pending epoch is closed first, it is returned, and the message is expected again.
-abbrev pub AwaitsMessage : Gathered → Gathered → Heard → Kind → Type 0
+abbrev pub AwaitsMessage : GathererValue → GathererValue → Heard → Kind → Type 0
 AwaitsMessage old new m kind =
     (s : GatherSetup) (ms : List Heard) (es : List Closed) → HasGatheredEpochs old s ms es None
     → is_close_first kind ≡ true → HasGatheredEpochs new s ms (es ++ returned_epoch new) (Some m)
 
 -- If the message is processed, it comes after the others, and the epoch that it closes is returned after the others.
-abbrev pub GathersMessage : Gathered → Gathered → Heard → Kind → Type 0
+abbrev pub GathersMessage : GathererValue → GathererValue → Heard → Kind → Type 0
 GathersMessage old new m kind =
     (s : GatherSetup) (ms : List Heard) (es : List Closed) (again : Option Heard) → HasGatheredEpochs old s ms es again
     → IsAwaited again m → is_close_first kind ≡ false
     → HasGatheredEpochs new s (ms ++ m ∷ []) (es ++ returned_epoch new) None
 
 -- If the message is processed, the kind is its outcome after the others.
-abbrev pub IsKindOfProcessed : Gathered → Heard → Kind → Type 0
+abbrev pub IsKindOfProcessed : GathererValue → Heard → Kind → Type 0
 IsKindOfProcessed old m kind =
     (s : GatherSetup) (ms : List Heard) (es : List Closed) (again : Option Heard) → HasGatheredEpochs old s ms es again
     → IsAwaited again m → is_close_first kind ≡ false → kind ≡ kind_of s ms m
 
 -- A message that is expected again is processed.
-abbrev pub TakesAwaited : Gathered → Heard → Kind → Type 0
+abbrev pub TakesAwaited : GathererValue → Heard → Kind → Type 0
 TakesAwaited old m kind =
     (s : GatherSetup) (ms : List Heard) (es : List Closed) → HasGatheredEpochs old s ms es (Some m)
     → is_close_first kind ≡ false
@@ -48,7 +48,7 @@ TakesAwaited old m kind =
 -- The result of a call with a message: the pending epoch is closed first exactly if the message's time is greater and
 -- within the weeks, and then the message is expected again; every other message is processed, and the epoch that it
 -- closes is returned.
-pub record TakesMessage (old new : Gathered) (m : Heard) (answer : Taken) : Type 0 where
+pub record TakesMessage (old new : GathererValue) (m : Heard) (answer : Taken) : Type 0 where
   pub exactly : IsCloseFirstExactly old m answer.kind
   pub first : AwaitsMessage old new m answer.kind
   pub again : TakesAwaited old m answer.kind
@@ -58,25 +58,25 @@ pub record TakesMessage (old new : Gathered) (m : Heard) (answer : Taken) : Type
   pub going : new.has_ended ≡ false
 
 -- `end` closes the pending epoch, and returns whether there was one.
-abbrev pub EndsPendingEpoch : Gathered → Gathered → Bool → Type 0
+abbrev pub EndsPendingEpoch : GathererValue → GathererValue → Bool → Type 0
 EndsPendingEpoch old new was =
     (s : GatherSetup) (ms : List Heard) (es : List Closed) → HasGatheredEpochs old s ms es None → old.has_ended ≡ false
     → (was ≡ is_pending s (timed s ms)) × HasGatheredEpochs new s ms (es ++ returned_epoch new) None
 
 -- A gatherer that has ended keeps its messages and epochs.
-abbrev pub StaysEnded : Gathered → Gathered → Type 0
+abbrev pub StaysEnded : GathererValue → GathererValue → Type 0
 StaysEnded old new =
     (s : GatherSetup) (ms : List Heard) (es : List Closed) (again : Option Heard) → HasGatheredEpochs old s ms es again
     → old.has_ended ≡ true → HasGatheredEpochs new s ms es again
 
 -- The number of kept cells of the system in the epoch of the greatest time.
-abbrev pub HoldsCells : Gathered → System → ℕ → Type 0
+abbrev pub HoldsCells : GathererValue → System → ℕ → Type 0
 HoldsCells now system count =
     (s : GatherSetup) (ms : List Heard) (es : List Closed) (again : Option Heard) → HasGatheredEpochs now s ms es again
     → count ≡ length (cells_of system (held_at s (timed s ms)))
 
 -- The number of keys of the locked cells of the closed epochs.
-abbrev pub HoldsLockedKeys : Gathered → ℕ → Type 0
+abbrev pub HoldsLockedKeys : GathererValue → ℕ → Type 0
 HoldsLockedKeys now count =
     (s : GatherSetup) (ms : List Heard) (es : List Closed) (again : Option Heard) → HasGatheredEpochs now s ms es again
     → count ≡ length (firsts (locked_in s (timed s ms) (closed_so_far s (timed s ms) (is_done now s ms again))))

@@ -41,12 +41,12 @@ closed_epochs s xs = map (epoch_at s xs) (filter (is_shut s xs) (times xs))
 abbrev pub values_by : StationParts → ℕ → StationValues
 values_by p height = record { x = p.x; y = p.y; z = p.z; height = option_map_or (λ h. h) p.height height }
 
-abbrev pub values_by_message : GatherSetup → StationValues → Heard → StationValues
-values_by_message s v m = if is_own s m then option_map_or (λ p. values_by p v.height) m.point v else v
+abbrev pub values_after_message : GatherSetup → StationValues → Heard → StationValues
+values_after_message s v m = if is_own s m then option_map_or (λ p. values_by p v.height) m.point v else v
 
 -- The point of the last own message that has one, and the last height; the initial values before.
 abbrev pub values_of : GatherSetup → List Heard → StationValues
-values_of s ms = fold (values_by_message s) s.initial ms
+values_of s ms = fold (values_after_message s) s.initial ms
 
 -- The times of the epochs that are closed within the list.
 abbrev pub closed_times : GatherSetup → List Timed → List ℕ

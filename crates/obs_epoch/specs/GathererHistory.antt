@@ -1,34 +1,80 @@
--- The value of a gatherer after a list of messages.
-use Rattle.std.specs.Prelude.{ℕ, ◌≡◌, Bool, List, ◌++◌, filter, flat_map}
-use Rattle.std.specs.Option.{option_map_or}
-use Rattle.gnss_obs.specs.declared.system.System.TheVariants.{Gps, Galileo}
+-- The history of a gatherer: its messages, the epochs that it returned, and a message that is expected again.
+use Rattle.std.specs.Prelude.{ℕ, ◌≡◌, ◌&&◌, ◌||◌, Bool, true, List, [], ◌∷◌, ◌++◌, map, if◌then◌else◌, Option, Some}
+use Rattle.std.specs.Prelude.{None, is_some, option_to_list}
+use Rattle.std.specs.Option.{IfSome, option_map_or}
+use Rattle.rtcm_bits.specs.Prefix.{IsPrefix}
+use Rattle.gnss_obs.specs.declared.cell.StationValues.{StationValues}
 use Rattle.obs_epoch.specs.Heard.{GatherSetup, Heard}
-use Rattle.gnss_obs.specs.HeardCells.{HeardCell}
-use Rattle.obs_epoch.specs.Times.{Timed, greatest_time, timed}
-use Rattle.obs_epoch.specs.Cells.{kept_at}
-use Rattle.obs_epoch.specs.Loss.{is_locked, latest_in}
-use Rattle.obs_epoch.specs.Epochs.{epoch_at, closed_so_far, values_of}
-use Rattle.obs_epoch.specs.Held.{lookup, TracksLocks}
-use Rattle.obs_epoch.specs.Clock.{HasHeardMessages}
-use Rattle.obs_epoch.specs.Gather.{Gathered, no_epoch}
-use Rattle.gnss_obs.specs.Values.{EpochValue}
+use Rattle.gnss_obs.specs.Values.{EpochValue, PlanValue, Closed}
+use Rattle.obs_epoch.specs.Times.{timed}
+use Rattle.obs_epoch.specs.Loss.{times}
+use Rattle.obs_epoch.specs.Epochs.{epoch_at, is_shut, closed_times, closed_so_far, values_of}
+use Rattle.obs_epoch.specs.Clock.{is_pending, closes_first}
+use Rattle.obs_epoch.specs.GathererSteps.{GathererValue}
+use Rattle.obs_epoch.specs.GathererAfter.{HasTakenMessages}
 
--- The locked cells of the epochs of these times.
-abbrev pub locked_in : GatherSetup → List Timed → List ℕ → List HeardCell
-locked_in s xs ts = flat_map (λ t. filter is_locked (kept_at s t xs Gps ++ kept_at s t xs Galileo)) ts
+-- ---- the epochs of a list of messages
 
--- The epoch of the greatest time.
-abbrev pub held_at : GatherSetup → List Timed → EpochValue
-held_at s xs = option_map_or (epoch_at s xs) (greatest_time xs) no_epoch
+-- The earlier messages, and the later ones before the message that closes the epoch of time t.
+abbrev pub open_after : GatherSetup → ℕ → List Heard → List Heard → List Heard
+open_after s t earlier [] = earlier
+open_after s t earlier (m ∷ ms) =
+    if is_shut s (timed s (earlier ++ m ∷ [])) t then earlier else open_after s t (earlier ++ m ∷ []) ms
 
--- The lock records are the latest locks of their keys in the epochs of these times, one record for each key.
-pub record Locked (g : Gathered) (s : GatherSetup) (xs : List Timed) (ts : List ℕ) : Type 0 where
-  pub found : (key : HeardCell) → lookup g.locks key ≡ latest_in s xs ts key
-  pub tracks : TracksLocks g.locks (locked_in s xs ts)
+-- The messages before the one that closes the epoch of time t.
+abbrev pub before_closing : GatherSetup → ℕ → List Heard → List Heard
+before_closing s t ms = open_after s t [] ms
 
--- The gatherer has processed these messages; if `shut`, the pending epoch was closed after the last of them.
-pub record HasTakenMessages (g : Gathered) (s : GatherSetup) (ms : List Heard) (shut : Bool) : Type 0 where
-  pub clock : HasHeardMessages g.clock s ms shut
-  pub epoch : g.epoch ≡ held_at s (timed s ms)
-  pub locks : Locked g s (timed s ms) (closed_so_far s (timed s ms) shut)
-  pub values : g.values ≡ values_of s ms
+-- The epoch of time t, with the station values that were known when it was closed.
+abbrev pub closed_at : GatherSetup → List Heard → ℕ → Closed
+closed_at s ms t = record { epoch = (epoch_at s (timed s ms) t); values = values_of s (before_closing s t ms) }
+
+abbrev pub closed_list_at : GatherSetup → List Heard → List ℕ → List Closed
+closed_list_at s ms ts = map (closed_at s ms) ts
+
+-- The epochs that are closed within the list.
+abbrev pub closed_epochs : GatherSetup → List Heard → List Closed
+closed_epochs s ms = closed_list_at s ms (closed_times s (timed s ms))
+
+-- All epochs of a list, when its end closed the last one.
+abbrev pub all_epochs : GatherSetup → List Heard → List Closed
+all_epochs s ms = closed_list_at s ms (times (timed s ms))
+
+abbrev pub known_epochs : Bool → GatherSetup → List Heard → List Closed
+known_epochs has_ended s ms = if has_ended then all_epochs s ms else closed_epochs s ms
+
+-- ---- the gatherer
+
+-- The planned signals of a gatherer.
+abbrev pub plan_in : GathererValue → PlanValue
+plan_in v = v.clock.setup.plan
+
+-- The epoch that the last call closed.
+abbrev pub closed_in : GathererValue → Option EpochValue
+closed_in v = if v.just_closed then Some (v.epoch) else None
+
+-- The epoch with these station values, if there is one.
+abbrev pub closed_by : Option EpochValue → StationValues → List Closed
+closed_by e values = option_map_or (λ epoch. record { epoch = epoch; values = values } ∷ []) e []
+
+-- The epoch that the last call returned, if any.
+abbrev pub returned_epoch : GathererValue → List Closed
+returned_epoch v = closed_by (closed_in v) v.values
+
+-- The pending epoch was closed after the last message: for a message that is expected again, or by `end`.
+abbrev pub is_done : GathererValue → GatherSetup → List Heard → Option Heard → Bool
+is_done v s ms again = is_some again || (v.has_ended && is_pending s (timed s ms))
+
+-- The message is the one that is expected again, if there is one.
+abbrev pub IsAwaited : Option Heard → Heard → Type 0
+IsAwaited again m = IfSome again (λ awaited. m ≡ awaited)
+
+-- The gatherer has processed these messages, has returned these epochs, and expects the message `again`, if any.
+pub record HasGatheredEpochs (v : GathererValue) (s : GatherSetup) (ms : List Heard) (es : List Closed)
+    (again : Option Heard) : Type 0 where
+  pub standing : HasTakenMessages v s ms (is_done v s ms again)
+  pub returned : es ≡ closed_list_at s ms (closed_so_far s (timed s ms) (is_done v s ms again))
+  pub epochs : again ≡ None → es ≡ known_epochs v.has_ended s ms
+  pub first : IsPrefix es (known_epochs v.has_ended s (ms ++ option_to_list again))
+  pub fits : IfSome again (λ m. closes_first s (timed s ms) m ≡ true)
+  pub plan : v.clock.setup.plan ≡ s.plan

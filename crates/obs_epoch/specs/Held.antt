@@ -14,7 +14,7 @@ use Rattle.gnss_obs.specs.Values.{most_cells}
 use Rattle.obs_epoch.specs.Loss.{lock_of}
 use Rattle.obs_epoch.specs.declared.locks.KnownLock.{KnownLock}
 use Rattle.obs_epoch.specs.declared.taken.CellCounts.{CellCounts}
-use Rattle.gnss_obs.specs.Kept.{is_held}
+use Rattle.gnss_obs.specs.PlanOrder.{is_held}
 use Rattle.gnss_obs.specs.declared.arrivals.Added.{Added}
 use Rattle.gnss_obs.specs.declared.arrivals.Added.TheVariants as added
 

@@ -3,7 +3,7 @@ use Rattle.std.specs.Prelude.{◌≡◌, false, List, [], ◌++◌}
 use Rattle.obs_epoch.specs.Heard.{GatherSetup, Heard}
 use Rattle.obs_epoch.specs.Kinds.{is_close_first, kind_of}
 use Rattle.rtcm_bits.specs.Prefix.{IsPrefix}
-use Rattle.obs_epoch.specs.Gathering.{closed_epochs, all_epochs}
+use Rattle.obs_epoch.specs.GathererHistory.{closed_epochs, all_epochs}
 
 -- For every list of later messages, the closed epochs don't change and stay the first ones.
 abbrev pub ClosedStay : Type 0

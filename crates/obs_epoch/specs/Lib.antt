@@ -7,9 +7,9 @@ pub mod Held
 pub mod Kinds
 pub mod Clock
 pub mod Step
-pub mod Gather
+pub mod GathererSteps
+pub mod GathererAfter
 pub mod GathererHistory
-pub mod Gathering
 pub mod Calls
 pub mod Laws
 pub mod Reach

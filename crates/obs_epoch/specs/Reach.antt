@@ -7,7 +7,7 @@ use Rattle.rtcm_msg.specs.Bounds.{IsPoint}
 use Rattle.gnss_obs.specs.Values.{HasTwelveDigits}
 use Rattle.obs_epoch.specs.Heard.{GatherSetup, Heard, heard}
 use Rattle.gnss_obs.specs.HeardCells.{HeardCell}
-use Rattle.obs_epoch.specs.Gathering.{all_epochs}
+use Rattle.obs_epoch.specs.GathererHistory.{all_epochs}
 use Rattle.gnss_obs.specs.GatheredEpochs.{IsStrength, AreStationValues, AreGatheredEpochs}
 
 -- ---- messages

@@ -10,16 +10,16 @@ ghost use Rattle.obs_epoch.specs.Heard.{GatherSetup, Heard, heard, heard_summary
 ghost use Rattle.gnss_obs.specs.Order.{AreSortedByPlan};
 ghost use Rattle.gnss_obs.specs.Plans.{place_in};
 ghost use Rattle.gnss_obs.specs.HeardCells.{heard_cell, IsObserved};
-ghost use Rattle.obs_epoch.specs.Epochs.{values_by_message, values_of};
+ghost use Rattle.obs_epoch.specs.Epochs.{values_after_message, values_of};
 ghost use Rattle.obs_epoch.specs.Held.{count_in, most_locks, no_locks, outcome_of_added, recorded};
 ghost use Rattle.obs_epoch.specs.Step.{kind_by, closed_by as closed_at};
 ghost use Rattle.gnss_obs.specs.Values.{Closed, cells_of, most_cells, planned_of};
 ghost use Rattle.obs_epoch.specs.Kinds.{is_no_station, setup_at, setup_of, with_counts};
-ghost use Rattle.obs_epoch.specs.Gathering.{HasGatheredEpochs, closed_by, closed_in, plan_in};
+ghost use Rattle.obs_epoch.specs.GathererHistory.{HasGatheredEpochs, closed_by, closed_in, plan_in};
 ghost use Rattle.obs_epoch.specs.Calls.{TakesMessage, EndsPendingEpoch, StaysEnded, HoldsCells, HoldsLockedKeys};
 ghost use Rattle.gnss_obs.specs.declared.fault.PlanFault.{PlanFault};
-ghost use Rattle.obs_epoch.specs.Gather.{closed_noted, loaded_if, load_entry, load_entries, epoch_begun};
-ghost use Rattle.obs_epoch.specs.Gather.{load, rested, outcome_in, hold, no_pending, just_closed_as, with_time};
+ghost use Rattle.obs_epoch.specs.GathererSteps.{closed_noted, loaded_if, load_entry, load_entries, epoch_begun};
+ghost use Rattle.obs_epoch.specs.GathererSteps.{load, rested, outcome_in, hold, no_pending, just_closed_as, with_time};
 ghost use Rattle.obs_epoch.specs.Cells.{cells_counted, no_counts};
 
 use crate::clock::Clock;
@@ -44,10 +44,10 @@ pub struct Gatherer {
 }
 
 impl Model for Gatherer {
-    ghost use Rattle.obs_epoch.specs.Gather.{Gathered, IsPending};
+    ghost use Rattle.obs_epoch.specs.GathererSteps.{GathererValue, IsPending};
     ghost use Rattle.gnss_obs.specs.Arriving.{sorted_epoch};
 
-    ghost Value = { Gathered };
+    ghost Value = { GathererValue };
 
     ghost view = { λ a. record {
       clock = a.clock;
@@ -87,7 +87,7 @@ impl Gatherer {
             (λ e. (e ≡ PlanFault.BadWeek) ⊎ ((e ≡ PlanFault.BadStation) ⊎ (e ≡ PlanFault.Memory))) }
     {
         let zero = StationValues::zero();
-        Gatherer::new_at(alloc, plan, start_week, station, gather, zero)
+        Gatherer::with_values(alloc, plan, start_week, station, gather, zero)
     }
 
     /// Returns a gatherer as `new` does, with `initial` as the station values until a station
@@ -96,7 +96,7 @@ impl Gatherer {
     /// # Errors
     ///
     /// Those of `new`.
-    pub fn new_at(
+    pub fn with_values(
         alloc: Global,
         plan: Plan,
         start_week: u32,
@@ -270,7 +270,7 @@ impl Gatherer {
 
     // Returns the station values after a message.
     fn values_after(&self, said: &Summary) -> StationValues
-        ensures { result ≡ values_by_message self.now.clock.setup self.now.values (heard_summary said.now) }
+        ensures { result ≡ values_after_message self.now.clock.setup self.now.values (heard_summary said.now) }
     {
         let values = self.pending.station_values();
         match said.point {

@@ -13,8 +13,7 @@ mod signal_counts;
 mod taken;
 
 pub use gather::Gatherer;
-pub use gnss_obs::{
-    Cell, Civil, Epoch, GpsTime, Plan, PlanFault, Signals, StationValues, end_of, is_written,
-};
+// The benchmark imports it from here.
+pub use gnss_obs::Plan;
 pub use signal_counts::SignalCounts;
 pub use taken::{Gather, Kind, Taken};

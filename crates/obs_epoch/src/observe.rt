@@ -4,7 +4,7 @@ ghost use Rattle.rtcm_msg.specs.Entries.{IsEntry};
 ghost use Rattle.rtcm_msg.specs.Msm.{codes_of};
 ghost use Rattle.obs_epoch.specs.Heard.{seen_in, system_of};
 ghost use Rattle.gnss_obs.specs.HeardCells.{heard_cell, IsObserved};
-ghost use Rattle.obs_epoch.specs.Gather.{planned_cell};
+ghost use Rattle.obs_epoch.specs.GathererSteps.{planned_cell};
 
 use gnss_obs::{Cell, Lock, Plan, Sat, Signal, System, doppler, phase, pseudorange, strength};
 use rtcm_msg::{Entry, LockField};

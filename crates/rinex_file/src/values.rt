@@ -44,13 +44,13 @@ impl SignalValues {
 /// A satellite of a system, with an entry for each planned signal in the plan's order: the one
 /// that was read last, in memory of fixed size, so that no line allocates.
 #[derive(Drop)]
-pub(crate) struct KeptSatellite {
+pub(crate) struct SatelliteRow {
     pub(crate) system: System,
     pub(crate) satellite: u8,
     pub(crate) signal_values: ArrayVec<SignalValues, MOST_SIGNALS>,
 }
 
-impl Model for KeptSatellite {
+impl Model for SatelliteRow {
     ghost use Rattle.rinex_file.specs.Value.{SatelliteRow};
 
     ghost Value = { SatelliteRow };
@@ -59,15 +59,15 @@ impl Model for KeptSatellite {
         record { system = s.system; row = record { satellite = s.satellite; signal_values = s.signal_values.items } } };
 }
 
-/// A satellite of a file that is stored whole: a [`KeptSatellite`] of the memory that it needs.
+/// A satellite of a file that is stored whole: a [`SatelliteRow`] of the memory that it needs.
 #[derive(Drop)]
-pub(crate) struct KeptRow {
+pub(crate) struct StoredRow {
     pub(crate) system: System,
     pub(crate) satellite: u8,
     pub(crate) signal_values: Vec<SignalValues>,
 }
 
-impl Model for KeptRow {
+impl Model for StoredRow {
     ghost use Rattle.rinex_file.specs.Value.{SatelliteRow};
 
     ghost Value = { SatelliteRow };
@@ -78,13 +78,13 @@ impl Model for KeptRow {
 
 /// An epoch with its satellites, and the station values that change with it.
 #[derive(Drop)]
-pub(crate) struct KeptEpoch {
+pub(crate) struct StoredEpoch {
     pub(crate) change: Option<StationValues>,
     pub(crate) time: GpsTime,
-    pub(crate) rows: Vec<KeptRow>,
+    pub(crate) rows: Vec<StoredRow>,
 }
 
-impl Model for KeptEpoch {
+impl Model for StoredEpoch {
     ghost use Rattle.rinex_file.specs.Value.{Stamped};
 
     ghost Value = { Stamped };
@@ -98,7 +98,7 @@ pub struct ObsFile {
     pub(crate) texts: HeaderTexts,
     pub(crate) plan: Plan,
     pub(crate) values: StationValues,
-    pub(crate) epochs: Vec<KeptEpoch>,
+    pub(crate) epochs: Vec<StoredEpoch>,
     pub(crate) counts: Counts,
 }
 

@@ -20,7 +20,7 @@ ghost use Rattle.rtcm2rinex.specs.Converting.{EndsConverting};
 ghost use Rattle.rtcm2rinex.specs.SetupOptions.{has_times, options_of};
 
 use crate::cli::{VERSION, parse};
-use crate::convert::{report_line, run_convert_at};
+use crate::convert::{report_line, run_convert_with};
 use crate::error_lines::error_line;
 use crate::fault::ToolFault;
 use crate::options::{has_times, near_of, setup_of, start_week_of, station_of, values_of};
@@ -181,7 +181,7 @@ fn convert<R: Read, W: Deliver, E: Write>(
     let start_week = start_week_of(options)?;
     let initial = values_of(options)?;
     let setup = setup_of(alloc, options, start_week)?;
-    match run_convert_at(alloc, setup, initial, reader, writer) {
+    match run_convert_with(alloc, setup, initial, reader, writer) {
         Ok(report) => {
             print_line(report_line(&report).as_bytes(), faults);
             Ok(())

@@ -6,9 +6,9 @@ ghost use Rattle.rtcm2rinex.specs.Converting.{EndsConversion};
 ghost use Rattle.rtcm2rinex.specs.Reports.{report_line};
 
 use crate::fault::ToolFault;
-use obs_epoch::StationValues;
+use gnss_obs::StationValues;
 use rtcm_bits::{Counted, Deliver};
-use rtcm_convert::{Fault, Report, Setup, convert_stream_at};
+use rtcm_convert::{Fault, Report, Setup, convert_stream_with};
 use rtcm_inspect::OutputLine;
 use std::alloc::Global;
 use std::io::Read;
@@ -32,7 +32,7 @@ pub fn run_convert<R: Read, W: Deliver>(
     ensures bad_setup { result ≡ Err (ToolFault.Convert Fault.BadSetup) ↔ IsBad setup }
     ensures widest { reader.new.widest ≤ max reader.old.widest longest_frame }
 {
-    run_convert_at(alloc, setup, StationValues::zero(), reader, writer)
+    run_convert_with(alloc, setup, StationValues::zero(), reader, writer)
 }
 
 /// Writes the observation file of a stream as `run_convert` does. The station values are `initial`
@@ -41,7 +41,7 @@ pub fn run_convert<R: Read, W: Deliver>(
 /// # Errors
 ///
 /// Those of `run_convert`.
-pub fn run_convert_at<R: Read, W: Deliver>(
+pub fn run_convert_with<R: Read, W: Deliver>(
     alloc: Global,
     setup: Setup,
     initial: StationValues,
@@ -53,7 +53,7 @@ pub fn run_convert_at<R: Read, W: Deliver>(
     ensures bad_setup { result ≡ Err (ToolFault.Convert Fault.BadSetup) ↔ IsBadAt (start_at setup initial) }
     ensures widest { reader.new.widest ≤ max reader.old.widest longest_frame }
 {
-    match convert_stream_at(alloc, setup, initial, reader, writer) {
+    match convert_stream_with(alloc, setup, initial, reader, writer) {
         Ok(report) => Ok(report),
         Err(fault) => Err(ToolFault::Convert(fault)),
     }

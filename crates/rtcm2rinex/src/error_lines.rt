@@ -7,8 +7,7 @@ ghost use Rattle.rtcm2rinex.specs.ErrorLines.{file_words, header_words, inspecti
 ghost use Rattle.rtcm_inspect.specs.Lines.{with_words};
 
 use crate::fault::{DateOption, ToolFault};
-use gnss_obs::System;
-use obs_epoch::PlanFault;
+use gnss_obs::{PlanFault, System};
 use rinex_file::{HeadFault, HeaderField, ReadFault};
 use rtcm_convert::Fault;
 use rtcm_inspect::{InspectFault, OutputLine};

@@ -1,6 +1,6 @@
 //! Why a command stopped.
 
-use obs_epoch::PlanFault;
+use gnss_obs::PlanFault;
 use rinex_file::HeadFault;
 use rtcm_convert::Fault;
 use rtcm_inspect::InspectFault;

@@ -14,8 +14,8 @@ ghost use Rattle.rtcm2rinex.specs.SetupOptions.{options_of, text_set, texts_set,
 
 use crate::fault::{DateOption, ToolFault};
 use clap::ArgMatches;
-use gnss_obs::{Civil, GpsTime, WEEK, WEEKS};
-use obs_epoch::{Gather, Plan, StationValues};
+use gnss_obs::{Civil, GpsTime, Plan, StationValues, WEEK, WEEKS};
+use obs_epoch::Gather;
 use rinex_file::{HeaderTexts, Texts};
 use rtcm_convert::Setup;
 use rtcm_scan::MOST_BYTES;

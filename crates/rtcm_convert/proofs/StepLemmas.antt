@@ -2,10 +2,10 @@
 use Rattle.std.proofs.Common.{◌≡◌, ℕ, List, [], ◌∷◌, ◌++◌, Bool, true, false, append-nil, sym, ap, subst, ◌∙◌, Option, Some, None, inl, inr}
 use Rattle.rtcm_convert.proofs.PartLemmas.{goes_on-by, breaks_off-by, breaks_off-before}
 use Rattle.rtcm_convert.proofs.TextLemmas.{last, text-closed, count-closed, last-closed, text-more}
-use Rattle.rtcm_convert.proofs.Names.{option_to_list, Appends, cases_Bool, AppendsPrefix, IsPrefix, Kind, Closed, GatherSetup, Heard, is_close_first, Gathered, HasGatheredEpochs, IsAwaited, closed_by, closed_in, plan_in, closed_epochs, known_epochs, SetupValue, text_with, AppendsBetween, AppendsPrefixBetween, added, epochs_after, values_after, HasFiledEpochs, FileWriter}
+use Rattle.rtcm_convert.proofs.Names.{option_to_list, Appends, cases_Bool, AppendsPrefix, IsPrefix, Kind, Closed, GatherSetup, Heard, is_close_first, GathererValue, HasGatheredEpochs, IsAwaited, closed_by, closed_in, plan_in, closed_epochs, known_epochs, SetupValue, text_with, AppendsBetween, AppendsPrefixBetween, added, epochs_after, values_after, HasFiledEpochs, FileWriter}
 
 -- the contract of the gatherer for a message that was passed to it
-pub record Took (old new : Gathered) (kind : Kind) (m : Heard) : Type 0 where
+pub record Took (old new : GathererValue) (kind : Kind) (m : Heard) : Type 0 where
   pub first : (s : GatherSetup) (ms : List Heard) (es : List Closed) → HasGatheredEpochs old s ms es None → is_close_first kind ≡ true
       → HasGatheredEpochs new s ms (es ++ closed_by (closed_in new) new.values) (Some m)
   pub taken : (s : GatherSetup) (ms : List Heard) (es : List Closed) (again : Option Heard) → HasGatheredEpochs old s ms es again → IsAwaited again m → is_close_first kind ≡ false
@@ -14,14 +14,14 @@ pub record Took (old new : Gathered) (kind : Kind) (m : Heard) : Type 0 where
   pub ended : new.has_ended ≡ false
 
 -- what the file writer wrote for the epoch that was closed
-pub record Wrote (old new : FileWriter) (now : Gathered) (a b : Option (List ℕ)) : Type 0 where
+pub record Wrote (old new : FileWriter) (now : GathererValue) (a b : Option (List ℕ)) : Type 0 where
   pub gatherer : new.gatherer ≡ now
   pub texts : new.texts ≡ old.texts
   pub epochs : new.epochs ≡ epochs_after old.epochs (closed_in now)
   pub values : new.values ≡ values_after old.values (closed_in now) now.values
   pub out : Appends a b (added old.texts (plan_in now) old.values (closed_in now) now.values)
 
-pub wrote_all : (v w : FileWriter) (g : Gathered) (a b : Option (List ℕ)) (s : SetupValue) (ms ms' : List Heard) (es : List Closed) (again again' : Option Heard)
+pub wrote_all : (v w : FileWriter) (g : GathererValue) (a b : Option (List ℕ)) (s : SetupValue) (ms ms' : List Heard) (es : List Closed) (again again' : Option Heard)
     → Wrote v w g a b → HasFiledEpochs v s ms es again → HasGatheredEpochs g s.gather ms' (es ++ closed_by (closed_in g) g.values) again'
     → (all : List Closed) × HasFiledEpochs w s ms' all again' × AppendsBetween a b (text_with s es) (text_with s all)
 wrote_all v w g a b s ms ms' es again again' o x y =
@@ -37,17 +37,17 @@ wrote_all v w g a b s ms ms' es again again' o x y =
     )
 
 -- a gatherer with that plan, and a prefix of the epochs that these messages close
-abbrev Front : Gathered → GatherSetup → List Heard → List Closed → Type 0
+abbrev Front : GathererValue → GatherSetup → List Heard → List Closed → Type 0
 Front g s ms es = (plan_in g ≡ s.plan) × IsPrefix es (closed_epochs s ms)
 
-front : (g : Gathered) (s : GatherSetup) (ms : List Heard) (es : List Closed) (again : Option Heard) → g.has_ended ≡ false → HasGatheredEpochs g s ms es again → Front g s (ms ++ option_to_list again) es
+front : (g : GathererValue) (s : GatherSetup) (ms : List Heard) (es : List Closed) (again : Option Heard) → g.has_ended ≡ false → HasGatheredEpochs g s ms es again → Front g s (ms ++ option_to_list again) es
 front g s ms es again going x = (x.plan, subst (λ (e : Bool). IsPrefix es (known_epochs e s (ms ++ option_to_list again))) going x.first)
 
-front_none : (g : Gathered) (s : GatherSetup) (ms : List Heard) (es : List Closed) → g.has_ended ≡ false → HasGatheredEpochs g s ms es None → Front g s ms es
+front_none : (g : GathererValue) (s : GatherSetup) (ms : List Heard) (es : List Closed) → g.has_ended ≡ false → HasGatheredEpochs g s ms es None → Front g s ms es
 front_none g s ms es going x = subst (λ (l : List Heard). Front g s l es) (append-nil ms) (front g s ms es None going x)
 
 -- the closed epochs are a prefix of those that the messages close
-closed_front : (v g : Gathered) (k : Kind) (m : Heard) (s : GatherSetup) (ms : List Heard) (es : List Closed) (again : Option Heard)
+closed_front : (v g : GathererValue) (k : Kind) (m : Heard) (s : GatherSetup) (ms : List Heard) (es : List Closed) (again : Option Heard)
     → Took v g k m → IsAwaited again m → HasGatheredEpochs v s ms es again → Front g s (ms ++ m ∷ []) (es ++ closed_by (closed_in g) g.values)
 closed_front v g k m s ms es None t f x = elim (cases_Bool (is_close_first k)) [
   | inl shut ↦ front g s ms _ (Some m) t.ended (t.first s ms es x shut)
@@ -58,11 +58,11 @@ closed_front v g k m s ms es (Some n) t f x =
     front_none g s (ms ++ m ∷ []) _ t.ended (t.taken s ms es (Some n) x f (t.again s ms es y))
 
 -- the part added, in the terms of the definitions
-pub part_of : (v : FileWriter) (g : Gathered) (a b : Option (List ℕ)) (s : SetupValue) (ms : List Heard) (es : List Closed) (again : Option Heard) → HasFiledEpochs v s ms es again → plan_in g ≡ s.gather.plan
+pub part_of : (v : FileWriter) (g : GathererValue) (a b : Option (List ℕ)) (s : SetupValue) (ms : List Heard) (es : List Closed) (again : Option Heard) → HasFiledEpochs v s ms es again → plan_in g ≡ s.gather.plan
     → AppendsPrefix a b (added v.texts (plan_in g) v.values (closed_in g) g.values) → AppendsPrefix a b (added s.texts s.gather.plan (last es) (closed_in g) g.values)
 part_of v g a b s ms es again x plan p = rw (← x.texts, ← plan, ← x.values) p
 
-pub wrote_part : (v : FileWriter) (g : Gathered) (k : Kind) (m : Heard) (a b : Option (List ℕ))
+pub wrote_part : (v : FileWriter) (g : GathererValue) (k : Kind) (m : Heard) (a b : Option (List ℕ))
     → Took v.gatherer g k m → AppendsPrefix a b (added v.texts (plan_in g) v.values (closed_in g) g.values)
     → (s : SetupValue) (ms : List Heard) (es : List Closed) (again : Option Heard) → IsAwaited again m → HasFiledEpochs v s ms es again
     → AppendsPrefixBetween a b (text_with s es) (text_with s (closed_epochs s.gather (ms ++ m ∷ [])))

@@ -4,7 +4,7 @@ use Rattle.rtcm_convert.proofs.PartLemmas.{goes_on-refl, goes_on-trans, breaks_o
 use Rattle.rtcm_convert.proofs.TextLemmas.{cap_more, count, last, text-closed}
 use Rattle.rtcm_convert.proofs.ExactLemmas.{few_more, message_few, refused_few}
 use Rattle.rtcm_convert.proofs.StepLemmas.{Wrote, wrote_all, part_of}
-use Rattle.rtcm_convert.proofs.Names.{sum_by, common_steps, filter_map-append, sum_by-append, AppendsPrefix, Framed, Message, MsgFault, message_at, IsMessage, Kind, Closed, GatherSetup, Heard, heard, is_close_first, kind_of, Gathered, HasGatheredEpochs, IsAwaited, closed_by, closed_in, plan_in, closed_epochs, all_epochs, known_epochs, SetupValue, text_with, so_far, file, messages_of, heard_in, outcome, outcomes, outcomes_after, capped, capped_tally, tallies_added, sum_of_counts, tally_of, tally_of_one, IsFew, AreFew, AppendsBetween, AppendsPrefixBetween, added, HasFiledEpochs, Settled, HasFiledFrames, EndsFile, Report, FileWriter}
+use Rattle.rtcm_convert.proofs.Names.{sum_by, common_steps, filter_map-append, sum_by-append, AppendsPrefix, Framed, Message, MsgFault, message_at, IsMessage, Kind, Closed, GatherSetup, Heard, heard, is_close_first, kind_of, GathererValue, HasGatheredEpochs, IsAwaited, closed_by, closed_in, plan_in, closed_epochs, all_epochs, known_epochs, SetupValue, text_with, so_far, file, messages_of, heard_in, outcome, outcomes, outcomes_after, capped, capped_tally, tallies_added, sum_of_counts, tally_of, tally_of_one, IsFew, AreFew, AppendsBetween, AppendsPrefixBetween, added, HasFiledEpochs, Settled, HasFiledFrames, EndsFile, Report, FileWriter}
 
 -- the epochs written after these, and their text
 abbrev pub Written : FileWriter → SetupValue → List Heard → Option Heard → Option (List ℕ) → Option (List ℕ) → List Closed → Type 0
@@ -131,7 +131,7 @@ files_part v f m a b e t s fs x =
     subst (λ (ns : List Heard). Breaks a b s (messages_of fs) ns) (sym (messages_more fs f m e)) (t s (messages_of fs) x.settled)
 
 -- the rest of the file
-pub file_whole : (v w : FileWriter) (g : Gathered) (a b : Option (List ℕ)) → Wrote v w g a b → g.has_ended ≡ true
+pub file_whole : (v w : FileWriter) (g : GathererValue) (a b : Option (List ℕ)) → Wrote v w g a b → g.has_ended ≡ true
     → ((s : GatherSetup) (ms : List Heard) (es : List Closed) → HasGatheredEpochs v.gatherer s ms es None → HasGatheredEpochs g s ms (es ++ closed_by (closed_in g) g.values) None)
     → EndsFile v w a b
 file_whole v w g a b o over t s fs x =
@@ -139,17 +139,17 @@ file_whole v w g a b o over t s fs x =
     let es = closed_epochs s.gather ms in
     let now = t s.gather ms es x.settled.gatherer in
     let p = wrote_all v w g a b s ms ms es None None o x.settled now in
-    let e : p.0 ≡ all_epochs s.gather ms = p.1.gatherer.epochs refl ∙ ap (λ (h : Gathered). known_epochs h.has_ended s.gather ms) o.gatherer ∙ ap (λ h. known_epochs h s.gather ms) over in (
+    let e : p.0 ≡ all_epochs s.gather ms = p.1.gatherer.epochs refl ∙ ap (λ (h : GathererValue). known_epochs h.has_ended s.gather ms) o.gatherer ∙ ap (λ h. known_epochs h s.gather ms) over in (
       subst (λ (all : List Closed). AppendsBetween a b (so_far s fs) (text_with s all)) e p.2,
       p.1.epochs ∙ ap count e,
       record {
-        ended = ap (λ (h : Gathered). h.has_ended) o.gatherer ∙ over;
+        ended = ap (λ (h : GathererValue). h.has_ended) o.gatherer ∙ over;
         epochs = es ++ closed_by (closed_in g) g.values;
-        gathers = subst (λ (h : Gathered). HasGatheredEpochs h s.gather ms (es ++ closed_by (closed_in g) g.values) None) (sym o.gatherer) now;
+        gathers = subst (λ (h : GathererValue). HasGatheredEpochs h s.gather ms (es ++ closed_by (closed_in g) g.values) None) (sym o.gatherer) now;
       },
     )
 
-pub file_part : (v : FileWriter) (g : Gathered) (a b : Option (List ℕ)) → AppendsPrefix a b (added v.texts (plan_in g) v.values (closed_in g) g.values) → g.has_ended ≡ true
+pub file_part : (v : FileWriter) (g : GathererValue) (a b : Option (List ℕ)) → AppendsPrefix a b (added v.texts (plan_in g) v.values (closed_in g) g.values) → g.has_ended ≡ true
     → ((s : GatherSetup) (ms : List Heard) (es : List Closed) → HasGatheredEpochs v.gatherer s ms es None → HasGatheredEpochs g s ms (es ++ closed_by (closed_in g) g.values) None)
     → (s : SetupValue) (fs : List Framed) → HasFiledFrames v s fs → AppendsPrefixBetween a b (so_far s fs) (file s fs)
 file_part v g a b p over t s fs x =

@@ -7,7 +7,7 @@ use Rattle.rtcm_msg.specs.declared.fault.MsgFault.{MsgFault}
 use Rattle.rtcm_msg.specs.Decoding.{message_at}
 use Rattle.gnss_obs.specs.Values.{PlanValue, Closed, satellites_written}
 use Rattle.obs_epoch.specs.Heard.{GatherSetup, Heard, heard}
-use Rattle.obs_epoch.specs.Gathering.{all_epochs, closed_epochs}
+use Rattle.obs_epoch.specs.GathererHistory.{all_epochs, closed_epochs}
 use Rattle.rinex_file.specs.Texts.{HeaderLists}
 use Rattle.rinex_file.specs.File.{header_text, closed_text}
 

@@ -5,7 +5,7 @@ use Rattle.gnss_obs.specs.Values.{Closed}
 use Rattle.obs_epoch.specs.Heard.{Heard}
 use Rattle.obs_epoch.specs.Kinds.{is_close_first, kind_of}
 use Rattle.obs_epoch.specs.declared.taken.Kind.{Kind}
-use Rattle.obs_epoch.specs.Gathering.{IsAwaited, closed_epochs}
+use Rattle.obs_epoch.specs.GathererHistory.{IsAwaited, closed_epochs}
 use Rattle.rtcm_convert.specs.Converted.{SetupValue, text_with, so_far, file, epochs_in}
 use Rattle.rtcm_convert.specs.Outcomes.{capped}
 use Rattle.rtcm_convert.specs.Fed.{AppendsBetween, AppendsPrefixBetween}

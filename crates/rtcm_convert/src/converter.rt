@@ -32,8 +32,7 @@ use crate::laws;
 use crate::report::Report;
 use crate::setup::Setup;
 use crate::stream::end_stream;
-use gnss_obs::System;
-use obs_epoch::StationValues;
+use gnss_obs::{StationValues, System};
 use rtcm_bits::{Counted, Deliver, LONGEST_FRAME};
 use rtcm_scan::{Frame, Framer, MOST_BYTES, StreamFault};
 use std::alloc::Global;
@@ -67,7 +66,7 @@ impl Model for Converter {
 }
 
 impl Converter {
-    /// Returns a converter that has accepted no byte. Only this call and `new_at` allocate.
+    /// Returns a converter that has accepted no byte. Only this call and `with_values` allocate.
     ///
     /// # Errors
     ///
@@ -78,7 +77,7 @@ impl Converter {
         ensures bad { result ≡ Err Fault.BadSetup ↔ IsBad setup }
         ensures only { IfErr result IsSetupFault }
     {
-        Converter::new_at(alloc, setup, StationValues::zero())
+        Converter::with_values(alloc, setup, StationValues::zero())
     }
 
     /// Returns a converter as `new` does, whose station values are `initial` until a station
@@ -87,7 +86,7 @@ impl Converter {
     /// # Errors
     ///
     /// Those of `new`, and `BadSetup` for coordinates that don't fit 38 bits (DF025 to DF027).
-    pub fn new_at(alloc: Global, setup: Setup, initial: StationValues) -> Result<Converter, Fault>
+    pub fn with_values(alloc: Global, setup: Setup, initial: StationValues) -> Result<Converter, Fault>
         ensures history { IfOk result (λ c. HasConverted c (setup_value_at setup initial) []) }
         ensures fresh { IfOk result (λ c. (c.scan.limit ≡ setup.limit) × (c.scan.taken ≡ 0)) }
         ensures bad { result ≡ Err Fault.BadSetup ↔ IsBadAt (start_at setup initial) }

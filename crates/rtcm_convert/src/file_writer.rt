@@ -14,7 +14,8 @@ ghost use Rattle.rtcm_convert.specs.Steps.{EndsFile, BreaksInRest};
 use crate::fault::Fault;
 use crate::report::Report;
 use crate::setup::Setup;
-use obs_epoch::{Epoch, Gatherer, Kind, PlanFault, StationValues};
+use gnss_obs::{Epoch, PlanFault, StationValues};
+use obs_epoch::{Gatherer, Kind};
 use rinex_file::{Head, HeadFault, HeaderTexts, write_epoch, write_event, write_header};
 use rtcm_bits::{Counted, Deliver};
 use rtcm_msg::View;
@@ -48,7 +49,7 @@ impl FileWriter {
         ensures only { IfErr result IsSetupFault }
     {
         let texts = setup.texts;
-        match Gatherer::new_at(
+        match Gatherer::with_values(
             alloc,
             setup.plan,
             setup.start_week,

@@ -17,4 +17,4 @@ pub use fault::Fault;
 pub use kept::Kept;
 pub use report::Report;
 pub use setup::Setup;
-pub use whole::{convert_pieces, convert_stream, convert_stream_at};
+pub use whole::{convert_pieces, convert_stream, convert_stream_with};

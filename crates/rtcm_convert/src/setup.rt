@@ -1,6 +1,7 @@
 //! The settings of a conversion.
 
-use obs_epoch::{Gather, Plan};
+use gnss_obs::Plan;
+use obs_epoch::Gather;
 use rinex_file::HeaderTexts;
 
 /// The settings of a conversion.

@@ -12,7 +12,7 @@ use crate::fault::Fault;
 use crate::laws;
 use crate::report::Report;
 use crate::setup::Setup;
-use obs_epoch::StationValues;
+use gnss_obs::StationValues;
 use rtcm_bits::{Counted, Deliver};
 use std::alloc::Global;
 use std::io::Read;
@@ -59,7 +59,7 @@ pub fn convert_stream<R: Read, W: Deliver>(
         → IsUntouched reader.old reader.new writer.old writer.new) }
     ensures only { (result ≢ Err Fault.Failed) × (result ≢ Err Fault.Finished) }
 {
-    convert_stream_at(alloc, setup, StationValues::zero(), reader, writer)
+    convert_stream_with(alloc, setup, StationValues::zero(), reader, writer)
 }
 
 /// Writes the observation file of a stream as [`convert_stream`] does. The station values are
@@ -71,7 +71,7 @@ pub fn convert_stream<R: Read, W: Deliver>(
 /// DF027).
 // Not inlined, so that the converter isn't in the stack frame of every command.
 #[inline(never)]
-pub fn convert_stream_at<R: Read, W: Deliver>(
+pub fn convert_stream_with<R: Read, W: Deliver>(
     alloc: Global,
     setup: Setup,
     initial: StationValues,
@@ -109,7 +109,7 @@ pub fn convert_stream_at<R: Read, W: Deliver>(
 {
     laws::prefix();
     laws::read_back(&setup);
-    match Converter::new_at(alloc, setup, initial) {
+    match Converter::with_values(alloc, setup, initial) {
         Ok(mut converter) => {
             let answer = converter.run(reader, writer);
             drop(converter);

@@ -10,9 +10,9 @@ mod messages;
 mod plans;
 mod signal_counts;
 
-use gnss_obs::System;
+use gnss_obs::{Cell, Epoch, Plan, PlanFault, StationValues, System};
 use messages::{Heard, message};
-use obs_epoch::{Cell, Epoch, Gather, Gatherer, Kind, Plan, PlanFault, StationValues, Taken};
+use obs_epoch::{Gather, Gatherer, Kind, Taken};
 use std::alloc::Global;
 use std::test::*;
 

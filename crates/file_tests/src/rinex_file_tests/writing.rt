@@ -1,8 +1,8 @@
 //! The output of a gathered message, and the end of writing at a failure.
 use super::parts::Part;
 use super::{ALL, OWN_TEXTS, Takes, Writer, has_written, is_outcome, length, writer};
-use gnss_obs::{Sat, System};
-use obs_epoch::{Epoch, Gather, Gatherer, GpsTime, Plan};
+use gnss_obs::{Epoch, GpsTime, Plan, Sat, System};
+use obs_epoch::{Gather, Gatherer};
 use rinex_file::{
     Head, HeadFault, HeaderTexts, Line, epoch_line, satellite_line, write_epoch, write_header,
 };

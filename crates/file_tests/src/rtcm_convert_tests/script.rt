@@ -4,8 +4,8 @@
 //! makes and drops each of them, and a test is a table of scripts.
 use super::by_definition::Text;
 use super::{Frame, bytes_of, file};
-use gnss_obs::System;
-use obs_epoch::{Gather, Plan};
+use gnss_obs::{Plan, System};
+use obs_epoch::Gather;
 use rinex_file::{HeaderTexts, Texts};
 use rtcm_bits::devices::{PieceReader, ReadEnd, ShortWriter, WriteEnd};
 use rtcm_bits::{Counted, Deliver};

@@ -15,7 +15,7 @@ use crate::read::head_so_far::HeadSoFar;
 use crate::read::parser_state::ParserState;
 use crate::read::reading::Reading;
 use crate::read::times::EpochTimes;
-use crate::values::{KeptEpoch, KeptRow, ObsFile};
+use crate::values::{StoredEpoch, StoredRow, ObsFile};
 use gnss_obs::Plan;
 use rtcm_bits::Counted;
 use std::alloc::{AllocError, Global};
@@ -44,8 +44,8 @@ pub struct FileSummary {
 #[derive(Drop)]
 pub(crate) struct FileBuilder {
     alloc: Global,
-    pub(crate) epochs: Vec<KeptEpoch>,
-    pub(crate) rows: Vec<KeptRow>,
+    pub(crate) epochs: Vec<StoredEpoch>,
+    pub(crate) rows: Vec<StoredRow>,
 }
 
 impl FileBuilder {
@@ -73,14 +73,14 @@ impl FileBuilder {
         }
         let seen = &parser_state.seen;
         let signal_values = Vec::from_slice(self.alloc, seen.signal_values.as_slice())?;
-        self.rows.push(KeptRow {
+        self.rows.push(StoredRow {
             system: seen.system,
             satellite: seen.satellite,
             signal_values,
         })?;
         if let Added::LastRow = added {
             let rows = mem::replace(&mut self.rows, Vec::new(self.alloc));
-            self.epochs.push(KeptEpoch {
+            self.epochs.push(StoredEpoch {
                 change: parser_state.change,
                 time: parser_state.time,
                 rows,

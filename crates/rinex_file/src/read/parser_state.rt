@@ -18,7 +18,7 @@ use crate::read::header_lines::{read_delta, read_position};
 use crate::read::numbers::is_same;
 use crate::read::row::read_seen;
 use crate::read::times::{EpochTimes, with_later};
-use crate::values::KeptSatellite;
+use crate::values::SatelliteRow;
 use crate::write::epoch::event_line;
 use crate::write::line::Line;
 use arrayvec::ArrayVec;
@@ -37,13 +37,13 @@ pub(crate) struct ParserState {
     pub(crate) times: Option<EpochTimes>,
     pub(crate) values: Option<StationValues>,
     // The satellite that was read last, and its rank if it is of the epoch that was begun, or 0.
-    pub(crate) seen: KeptSatellite,
+    pub(crate) seen: SatelliteRow,
     pub(crate) rank: u64,
     pub(crate) counts: Counts,
 }
 
 /// Returns a satellite's rank among all: those of GPS come first.
-fn rank_of(seen: &KeptSatellite) -> u64
+fn rank_of(seen: &SatelliteRow) -> u64
     ensures { result ≡ rank_of seen.now }
 {
     match seen.system {
@@ -69,7 +69,7 @@ impl ParserState {
             time,
             times: None,
             values: None,
-            seen: KeptSatellite {
+            seen: SatelliteRow {
                 system: System::Gps,
                 satellite: 0,
                 signal_values: ArrayVec::new(),

@@ -13,7 +13,7 @@ ghost use Rattle.rinex_file.specs.Read.Row.{AreEntries, IsRowOf, signal_from, la
 ghost use Rattle.rinex_file.specs.Limits.{signal_columns, most_signals};
 
 use crate::read::fields::{field_in, is_blank_at};
-use crate::values::{KeptSatellite, SignalValues};
+use crate::values::{SatelliteRow, SignalValues};
 use crate::write::line::{MOST_SIGNALS, SIGNAL_COLUMNS};
 use crate::write::satellite::{letter_of, strength_column};
 use arrayvec::ArrayVec;
@@ -171,7 +171,7 @@ fn is_ended(line: &[u8]) -> bool
 }
 
 /// Reads the satellite of this system in a line. Returns whether the line is that of one.
-fn read_of(line: &[u8], system: System, signals: usize, seen: &mut KeptSatellite) -> bool
+fn read_of(line: &[u8], system: System, signals: usize, seen: &mut SatelliteRow) -> bool
     requires few { signals ≤ most_signals }
     ensures { ReadsExactly (IsRowOf system signals) satellite_line line.now (some_if result seen.new) }
 {
@@ -201,7 +201,7 @@ fn read_of(line: &[u8], system: System, signals: usize, seen: &mut KeptSatellite
 
 /// Reads the satellite in a line, given the number of planned signals of each system. Returns
 /// whether the line is that of a satellite.
-pub(crate) fn read_seen(line: &[u8], gps: usize, galileo: usize, seen: &mut KeptSatellite) -> bool
+pub(crate) fn read_seen(line: &[u8], gps: usize, galileo: usize, seen: &mut SatelliteRow) -> bool
     requires few { (gps ≤ most_signals) × (galileo ≤ most_signals) }
     ensures { ReadsExactly (IsSatelliteRow gps galileo) satellite_line line.now (some_if result seen.new) }
 {

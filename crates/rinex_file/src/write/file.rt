@@ -6,7 +6,7 @@ ghost use Rattle.rinex_file.specs.Read.Keeping.{HaveRowsRoom, stamped_text};
 
 use crate::header::fault::HeadFault;
 use crate::header::head::Head;
-use crate::values::{KeptEpoch, ObsFile};
+use crate::values::{StoredEpoch, ObsFile};
 use crate::write::epoch::epoch_line;
 use crate::write::line::{Line, MOST_LINE};
 use crate::write::satellite::put_values;
@@ -31,8 +31,8 @@ fn write_change(change: Option<StationValues>, text: &mut Text) -> Result<(), He
 
 /// Writes the lines of an epoch, each in the buffer or over the first bytes of the row before.
 #[tactic(auto, using(crate::proofs::Writing::Sent::failures))]
-fn write_kept(
-    epoch: &KeptEpoch,
+fn write_stored(
+    epoch: &StoredEpoch,
     line: &mut Line,
     row: &mut [u8; MOST_LINE],
     text: &mut Text,
@@ -69,7 +69,7 @@ fn write_file(file: &ObsFile, text: &mut Text) -> Result<(), HeadFault>
     };
     write_header(&head, text)?;
     for epoch in epochs {
-        write_kept(epoch, &mut line, &mut row, text)?;
+        write_stored(epoch, &mut line, &mut row, text)?;
     }
     Ok(())
 }

@@ -1,6 +1,6 @@
 //! Dates and times of day.
 use super::WEEK;
-use obs_epoch::{Civil, GpsTime};
+use gnss_obs::{Civil, GpsTime};
 use std::test::*;
 
 /// Whether a time is the beginning of a day.

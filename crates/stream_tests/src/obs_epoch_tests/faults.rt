@@ -1,7 +1,6 @@
 //! The texts of faults.
 use crate::texts::have_texts;
-use gnss_obs::System;
-use obs_epoch::PlanFault;
+use gnss_obs::{PlanFault, System};
 use std::test::*;
 
 static TEXTS: [(PlanFault, &str); 6] = [

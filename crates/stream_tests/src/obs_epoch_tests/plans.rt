@@ -1,6 +1,5 @@
 //! Plans of texts and of signals.
-use gnss_obs::{Signal, System};
-use obs_epoch::{Plan, PlanFault};
+use gnss_obs::{Plan, PlanFault, Signal, System};
 use std::alloc::Global;
 use std::test::*;
 

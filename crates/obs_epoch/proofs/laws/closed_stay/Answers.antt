@@ -1,5 +1,5 @@
 use Rattle.std.proofs.Common.{◌++◌}
-use Rattle.obs_epoch.proofs.GatheringLemmas.{epochs-more, all-prefix, prefix_trans}
+use Rattle.obs_epoch.proofs.HistoryLemmas.{epochs-more, all-prefix, prefix_trans}
 use Rattle.obs_epoch.proofs.laws.closed_stay.Goals as goal
 
 pub returns-clause-stay : goal.returns-clause-stay

@@ -2,8 +2,8 @@ use Rattle.rinex_file.proofs.Writing.Stored.{lines_have_room, all_written, one_m
 use Rattle.rinex_file.proofs.Names.{◌∙◌, sym, ap, ◌++◌, append-nil, subst, All, Stamped, FileValue, header_text, HaveRowsRoom, stamped_text}
 use Rattle.rinex_file.proofs.write.file.write_file.Goals as goal
 
-pub write_kept-requires : goal.write_kept-requires
-write_kept-requires c =
+pub write_stored-requires : goal.write_stored-requires
+write_stored-requires c =
     let rooms = subst (All HaveRowsRoom) (sym c.as_slice-epochs.ensures.value) (lines_have_room _ c.file.invariant.0) in
     subst HaveRowsRoom (sym c.epoch-item.is) (rooms c.loop-epoch.epoch-index c.epoch-item.result c.loop-epoch-test.true)
 
@@ -24,4 +24,4 @@ pub loop-epoch-preserved : goal.loop-epoch-preserved
 loop-epoch-preserved c =
     let (first, at, written) = c.loop-epoch.invariant in
     let epochs = c.as_slice-epochs.result.now in
-    (first, at, one_more stamped_text epochs c.loop-epoch.epoch-index c.epoch-item.result _ _ _ c.loop-epoch-test.true c.epoch-item.is written c.in_ok-write_kept.ensures)
+    (first, at, one_more stamped_text epochs c.loop-epoch.epoch-index c.epoch-item.result _ _ _ c.loop-epoch-test.true c.epoch-item.is written c.in_ok-write_stored.ensures)

@@ -3,7 +3,7 @@ use Rattle.rtcm_convert.proofs.FaultLemmas.{of_run, run_known, never, not_of_set
 use Rattle.rtcm_convert.proofs.PartLemmas.{same_fault}
 use Rattle.rtcm_convert.proofs.WholeLemmas.{run_made, run_empty, run_read, run_long, run_write}
 use Rattle.rtcm_convert.proofs.Names.{LeftBy, IsRunFault, BadSetup, Read, TooLong, Write, NoEpoch, Failed, Finished, start_value, start_at}
-use Rattle.rtcm_convert.proofs.whole.convert_stream_at.Goals as goal
+use Rattle.rtcm_convert.proofs.whole.convert_stream_with.Goals as goal
 
 pub returns-in-Ok-clause-made : goal.returns-in-Ok-clause-made
 returns-in-Ok-clause-made g c = run_made c.in-Ok.converter c.run-answer.new.self _ (start_at c.args.setup c.args.initial) _ _ _ c.run-answer.result c.prefix.ensures.nothing (c.read_back.ensures.some c.args.initial c.in-Ok.ensures.fits) c.in-Ok.ensures.history c.run-answer.ensures.left.0.0 c.in-Ok.ensures.fresh.0 c.run-answer.ensures.whole

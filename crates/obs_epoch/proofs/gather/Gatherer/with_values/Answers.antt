@@ -1,7 +1,7 @@
 use Rattle.std.proofs.Common.{[], refl, ap, subst, rules, false}
 use Rattle.obs_epoch.specs.Names.{HasHeardMessages, GatherSetup, sorted_epoch, PendingValue}
 use Rattle.obs_epoch.proofs.StandingLemmas.{none_locked}
-use Rattle.obs_epoch.proofs.gather.Gatherer.new_at.Goals as goal
+use Rattle.obs_epoch.proofs.gather.Gatherer.with_values.Goals as goal
 
 pub returns-in-Ok-clause-history : goal.returns-in-Ok-clause-history
 returns-in-Ok-clause-history c =

@@ -1,7 +1,7 @@
 use Rattle.std.proofs.Common.{refl}
 use Rattle.rtcm2rinex.proofs.ConvertLemmas.{conversion_stopped, given_bad}
 use Rattle.rtcm2rinex.proofs.Names.{IsBadAt, start_at}
-use Rattle.rtcm2rinex.proofs.convert.run_convert_at.Goals as goal
+use Rattle.rtcm2rinex.proofs.convert.run_convert_with.Goals as goal
 
 pub returns-in-Ok-clause-ends : goal.returns-in-Ok-clause-ends
 returns-in-Ok-clause-ends g c =
@@ -11,7 +11,7 @@ returns-in-Ok-clause-ends g c =
 pub returns-in-Err-clause-ends : goal.returns-in-Err-clause-ends
 returns-in-Err-clause-ends g c =
     let end = c.in-Err.ensures in
-    let stopped = conversion_stopped g.R.Read.remaining g.W.Write.contents g.W.Deliver.waiting (start_at c.args.setup c.args.initial) c.args.reader.now c.convert_stream_at.new.reader c.args.writer.now c.convert_stream_at.new.writer
+    let stopped = conversion_stopped g.R.Read.remaining g.W.Write.contents g.W.Deliver.waiting (start_at c.args.setup c.args.initial) c.args.reader.now c.convert_stream_with.new.reader c.args.writer.now c.convert_stream_with.new.writer
     c.in-Err.fault end.sent end.no_epoch end.long end.read end.write end.bad_setup end.untouched end.only in
     ((end.devices.0.0, end.devices.1.0), (c.in-Err.fault, refl, stopped))
 

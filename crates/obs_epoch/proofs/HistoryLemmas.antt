@@ -3,7 +3,7 @@ use Rattle.std.proofs.Common.{◌≡◌, ℕ, Bool, true, false, not, List, [], 
 use Rattle.std.proofs.lemmas.List.{map-append}
 use Rattle.obs_epoch.specs.Names.{GatherSetup, Heard, ends_epoch, Timed, is_at, max_known, greatest_time, from_first, is_closed, taken_at, timed, times, is_shut, closed_times, epoch_at, values_of, is_pending, EpochValue, option_map_or, list_any}
 use Rattle.rtcm_bits.specs.Prefix.{IsPrefix}
-use Rattle.obs_epoch.specs.Gathering.{open_after, before_closing, closed_at, closed_list_at, closed_epochs, all_epochs}
+use Rattle.obs_epoch.specs.GathererHistory.{open_after, before_closing, closed_at, closed_list_at, closed_epochs, all_epochs}
 use Rattle.obs_epoch.proofs.TimesLemmas.{next, timed-push, greatest-push}
 use Rattle.obs_epoch.proofs.ClosedLemmas.{ends, no_times, closed_is, when, taken_follows, grows_by}
 use Rattle.obs_epoch.proofs.EpochLemmas.{AllLater, IsLater, epoch_at-push, times_before, all_later}

@@ -1,5 +1,5 @@
 use Rattle.rinex_file.proofs.Names.{◌≡◌, ◌++◌, take, length, flat_map, civil_of, joined, change_lines, epoch_line, satellite_line}
-use Rattle.rinex_file.proofs.write.file.write_kept.Given as goal
+use Rattle.rinex_file.proofs.write.file.write_stored.Given as goal
 
 -- the change, the epoch line and the satellites so far were written
 abbrev pub invariant-loop-kept : goal.invariant-loop-kept

@@ -1,8 +1,8 @@
 use Rattle.rinex_file.proofs.Writing.Stored.{epoch_whole, one_more}
 use Rattle.rinex_file.proofs.Rows.Sizes.{all_values_fit}
-use Rattle.rinex_file.proofs.write.file.write_kept.Goals.{After-as_slice-values}
+use Rattle.rinex_file.proofs.write.file.write_stored.Goals.{After-as_slice-values}
 use Rattle.rinex_file.proofs.Names.{◌∙◌, ◌++◌, refl, ap, ap₂, ◌≤◌, subst, sym, length, append-nil, List, All, flat_map, take_all, civil_of, joined, change_lines, AreSignalValues, epoch_line, satellite_line, HasRoom, SignalValues, SatelliteRow, Stamped, satellite_row}
-use Rattle.rinex_file.proofs.write.file.write_kept.Goals as goal
+use Rattle.rinex_file.proofs.write.file.write_stored.Goals as goal
 
 pub loop-kept-init : goal.loop-kept-init
 loop-kept-init c =

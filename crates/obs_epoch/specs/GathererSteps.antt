@@ -13,13 +13,13 @@ use Rattle.gnss_obs.specs.HeardCells.{HeardCell, kept_cell}
 use Rattle.obs_epoch.specs.Cells.{no_counts, with_skipped}
 use Rattle.obs_epoch.specs.Kinds.{is_kept}
 use Rattle.gnss_obs.specs.Values.{PlanValue, planned_of, EpochValue, cells_of}
-use Rattle.gnss_obs.specs.Kept.{AreInOrder}
+use Rattle.gnss_obs.specs.PlanOrder.{AreInOrder}
 use Rattle.gnss_obs.specs.Arriving.{sorted_epoch}
 use Rattle.gnss_obs.specs.Stages.{PendingValue}
 use Rattle.gnss_obs.specs.Plans.{place_in}
 use Rattle.gnss_obs.specs.Order.{insert_by, cell_sort_key}
 use Rattle.obs_epoch.specs.Loss.{lli_with}
-use Rattle.obs_epoch.specs.Epochs.{values_by_message}
+use Rattle.obs_epoch.specs.Epochs.{values_after_message}
 use Rattle.obs_epoch.specs.Clock.{State}
 use Rattle.obs_epoch.specs.Step.{kind_by, step_by, closed_by}
 use Rattle.gnss_obs.specs.declared.cell.Cell.{Cell}
@@ -49,7 +49,7 @@ with_more p e m = with_more_in m.satellite.system p e m
 
 -- ---- the gatherer
 
-pub record Gathered : Type 0 where
+pub record GathererValue : Type 0 where
   pub clock : State
   pub epoch : EpochValue
   pub locks : List (Option KnownLock)
@@ -61,20 +61,20 @@ pub record Gathered : Type 0 where
 abbrev pub planned_cell : PlanValue → HeardCell → Option Cell
 planned_cell p x = if is_some (place_in x.signal (planned_of x.satellite.system p)) then Some (kept_cell x 0) else None
 
-abbrev pub outcome_in : Gathered → HeardCell → CellOutcome
+abbrev pub outcome_in : GathererValue → HeardCell → CellOutcome
 outcome_in g x = outcome_of g.clock.setup (cells_of x.satellite.system g.epoch) x
 
-abbrev pub hold_by : CellOutcome → Gathered → HeardCell → Gathered
+abbrev pub hold_by : CellOutcome → GathererValue → HeardCell → GathererValue
 hold_by Kept g x =
     record g { epoch = with_more g.clock.setup.plan g.epoch (kept_cell x (lli_with g.epoch.time x (lookup g.locks x))) }
 hold_by _ g x = g
 
 -- One more cell.
-abbrev pub hold : Gathered → HeardCell → Gathered
+abbrev pub hold : GathererValue → HeardCell → GathererValue
 hold g x = hold_by (outcome_in g x) g x
 
 pub record Loaded : Type 0 where
-  pub state : Gathered
+  pub state : GathererValue
   pub counts : CellCounts
 
 abbrev pub load_one : Loaded → HeardCell → Loaded
@@ -102,11 +102,11 @@ abbrev pub load_heard : Loaded → Heard → Loaded
 load_heard l m = with_unlisted m.unlisted (load l m.cells)
 
 -- The locks of the kept epoch are recorded.
-abbrev pub noted : Gathered → Gathered
+abbrev pub noted : GathererValue → GathererValue
 noted g = record g { locks = note_all g.epoch.time (note_all g.epoch.time g.locks g.epoch.gps) g.epoch.galileo }
 
 -- The same if the epoch was just closed.
-abbrev pub closed_noted : Gathered → Gathered
+abbrev pub closed_noted : GathererValue → GathererValue
 closed_noted g = if g.just_closed then noted g else g
 
 -- ---- a whole message
@@ -118,46 +118,46 @@ is_same (Some a) None = false
 is_same (Some a) (Some b) = a == b
 
 -- The epoch of the greatest time, without cells if that time is new.
-abbrev pub epoch_begun : Option ℕ → Gathered → Gathered
+abbrev pub epoch_begun : Option ℕ → GathererValue → GathererValue
 epoch_begun before g =
     if is_same before g.clock.latest then g
     else record g { epoch = record { time = option_map_or (λ t. t) g.clock.latest 0; gps = []; galileo = [] } }
 
 -- The cells of a message are kept if it is accepted.
-abbrev pub loaded_if : Bool → Option ℕ → Gathered → Heard → Loaded
+abbrev pub loaded_if : Bool → Option ℕ → GathererValue → Heard → Loaded
 loaded_if accepted before g m =
     if accepted then load_heard (record { state = epoch_begun before g; counts = no_counts }) m
     else record { state = g; counts = no_counts }
 
 -- The clock and the station values process the message.
-abbrev pub with_time : Gathered → Heard → Gathered
+abbrev pub with_time : GathererValue → Heard → GathererValue
 with_time g m =
     record g {
       clock = step_by g.clock m;
-      values = values_by_message g.clock.setup g.values m;
+      values = values_after_message g.clock.setup g.values m;
       just_closed = is_some (closed_by g.clock m);
     }
 
 abbrev pub closed_if : Bool → Loaded → Loaded
 closed_if b l = record { state = if b then noted l.state else l.state; counts = l.counts }
 
-abbrev pub take_step : Gathered → Heard → Loaded
+abbrev pub take_step : GathererValue → Heard → Loaded
 take_step g m =
     closed_if (is_some (closed_by g.clock m))
     (loaded_if (is_kept (kind_by g.clock no_counts m)) g.clock.latest (with_time g m) m)
 
-abbrev pub just_closed_as : Bool → Gathered → Gathered
+abbrev pub just_closed_as : Bool → GathererValue → GathererValue
 just_closed_as closed g = record g { just_closed = closed }
 
 -- The last call closed no epoch.
-abbrev pub rested : Gathered → Gathered
+abbrev pub rested : GathererValue → GathererValue
 rested g = record g { just_closed = false }
 
 abbrev pub stopped : State → State
 stopped c = record c { pending = false }
 
 -- The step of `end`: no message follows.
-abbrev pub end_step : Gathered → Gathered
+abbrev pub end_step : GathererValue → GathererValue
 end_step g =
     let h = record g { clock = stopped g.clock; just_closed = g.clock.pending; has_ended = true } in
     if g.clock.pending then noted h else h

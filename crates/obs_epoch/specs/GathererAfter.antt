@@ -1,0 +1,34 @@
+-- The value of a gatherer after a list of messages.
+use Rattle.std.specs.Prelude.{ℕ, ◌≡◌, Bool, List, ◌++◌, filter, flat_map}
+use Rattle.std.specs.Option.{option_map_or}
+use Rattle.gnss_obs.specs.declared.system.System.TheVariants.{Gps, Galileo}
+use Rattle.obs_epoch.specs.Heard.{GatherSetup, Heard}
+use Rattle.gnss_obs.specs.HeardCells.{HeardCell}
+use Rattle.obs_epoch.specs.Times.{Timed, greatest_time, timed}
+use Rattle.obs_epoch.specs.Cells.{kept_at}
+use Rattle.obs_epoch.specs.Loss.{is_locked, latest_in}
+use Rattle.obs_epoch.specs.Epochs.{epoch_at, closed_so_far, values_of}
+use Rattle.obs_epoch.specs.Held.{lookup, TracksLocks}
+use Rattle.obs_epoch.specs.Clock.{HasHeardMessages}
+use Rattle.obs_epoch.specs.GathererSteps.{GathererValue, no_epoch}
+use Rattle.gnss_obs.specs.Values.{EpochValue}
+
+-- The locked cells of the epochs of these times.
+abbrev pub locked_in : GatherSetup → List Timed → List ℕ → List HeardCell
+locked_in s xs ts = flat_map (λ t. filter is_locked (kept_at s t xs Gps ++ kept_at s t xs Galileo)) ts
+
+-- The epoch of the greatest time.
+abbrev pub held_at : GatherSetup → List Timed → EpochValue
+held_at s xs = option_map_or (epoch_at s xs) (greatest_time xs) no_epoch
+
+-- The lock records are the latest locks of their keys in the epochs of these times, one record for each key.
+pub record Locked (g : GathererValue) (s : GatherSetup) (xs : List Timed) (ts : List ℕ) : Type 0 where
+  pub found : (key : HeardCell) → lookup g.locks key ≡ latest_in s xs ts key
+  pub tracks : TracksLocks g.locks (locked_in s xs ts)
+
+-- The gatherer has processed these messages; if `shut`, the pending epoch was closed after the last of them.
+pub record HasTakenMessages (g : GathererValue) (s : GatherSetup) (ms : List Heard) (shut : Bool) : Type 0 where
+  pub clock : HasHeardMessages g.clock s ms shut
+  pub epoch : g.epoch ≡ held_at s (timed s ms)
+  pub locks : Locked g s (timed s ms) (closed_so_far s (timed s ms) shut)
+  pub values : g.values ≡ values_of s ms
