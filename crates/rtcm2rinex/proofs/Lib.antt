@@ -3,5 +3,4 @@ mod OptionLemmas
 mod CommandLineLemmas
 mod ConvertLemmas
 mod AcceptedLemmas
-mod StationLemmas
 mod CommandLemmas

@@ -1,6 +1,5 @@
 -- The names that proofs cite, passed on from one place. Declares nothing.
 pub use Rattle.clap.proofs.CutLemmas.{Lacks, after_first-at, before_first-at}
-pub use Rattle.clap.proofs.LexerLemmas.{strip_byte-from}
 unfoldable pub use Rattle.clap.proofs.OnLiterals.{clap_on_literals}
 pub use Rattle.clap.proofs.WalkLemmas.{first_value-rows, one_text-rows}
 pub use Rattle.clap.specs.Built.{AddsArg, AddsSubcommand}
@@ -23,26 +22,22 @@ pub use Rattle.clap.specs.declared.parser.matches.ArgMatches.{ArgMatches}
 pub use Rattle.clap.specs.declared.parser.matches.ArgMatches.TheViews.{out-ArgMatches, out-SubCommand}
 pub use Rattle.clap.specs.declared.parser.matches.Found.{Found}
 pub use Rattle.clap.specs.declared.parser.matches.SubCommand.{SubCommand}
-pub use Rattle.gnss_obs.specs.Dates.{IsCivilOf}
 pub use Rattle.gnss_obs.specs.GatheredEpochs.{AreStationValues}
 pub use Rattle.gnss_obs.specs.Values.{no_values}
-pub use Rattle.gnss_obs.specs.Weeks.{week, weeks}
 pub use Rattle.gnss_obs.specs.declared.cell.StationValues.{StationValues}
-pub use Rattle.gnss_obs.specs.declared.civil.Civil.{Civil}
-pub use Rattle.rinex_file.specs.Read.Fields.{digits_from, digits_in, next_digit}
 pub use Rattle.rtcm2rinex.specs.Asked.{EndsCheck, EndsOptionsAsked, PrintsOptionsAsked, RefusesDate, StopsOptionsAsked}
 pub use Rattle.rtcm2rinex.specs.CommandLine.{FailsParsing, IsCommand, IsFoundIn, IsProgram, Makes, RefusesWords, SelectsCommand, command_set, more_of, option_set, program, start_of, with_commands, with_options}
 pub use Rattle.rtcm2rinex.specs.Commands.{AreRefused, AreRefusedBy, EndsCommand, EndsFound, HasCommand, HasCompleted, HasDone, HasPrinted, HasStopped, HasStoppedEarly, HasStoppedPrinting, StopsPrinting, fault_status, name_of, status_of}
 pub use Rattle.rtcm2rinex.specs.Converting.{EndsConversion, EndsConverting, StopsConversion, StopsConverting}
-pub use Rattle.rtcm2rinex.specs.Dates.{IsHourOf, IsWeekOf, civil_in}
+pub use Rattle.rtcm_inspect.specs.Dates.{IsHourOf, IsWeekOf}
 pub use Rattle.rtcm2rinex.specs.Devices.{Ends, HaveFailedBy, IsInspected, of_inspection}
 unfoldable pub use Rattle.rtcm2rinex.specs.ErrorLines.{error_line}
 pub use Rattle.rtcm2rinex.specs.ErrorLines.{error_words}
-pub use Rattle.rtcm2rinex.specs.Lengths.{coordinate_by, coordinate_of, cut, decimals_of, length_below, length_by, length_of, number_of, position_of, values_by, values_in}
+pub use Rattle.rtcm_inspect.specs.Lengths.{length_below, position_of}
 pub use Rattle.rtcm2rinex.specs.Printing.{PrintsFault}
 unfoldable pub use Rattle.rtcm2rinex.specs.Reports.{report_line}
 pub use Rattle.rtcm2rinex.specs.Reports.{counts_named}
-pub use Rattle.rtcm2rinex.specs.SetupOptions.{HasSetupFault, IsFirstFault, IsNearRefused, IsNearSet, IsNoonOf, IsNumberOf, IsSetupRefused, IsWeekRefused, IsWeekSet, options_of, text_set, values_set}
+pub use Rattle.rtcm2rinex.specs.SetupOptions.{HasSetupFault, IsFirstFault, IsNearRefused, IsNearSet, IsNoonOf, IsNumberOf, IsSetupRefused, IsWeekRefused, IsWeekSet, options_of, text_set, values_by, values_in, values_set}
 pub use Rattle.rtcm2rinex.specs.declared.commands.CommandRow.{CommandRow}
 pub use Rattle.rtcm2rinex.specs.declared.commands.OptionRow.{OptionRow}
 pub use Rattle.rtcm2rinex.specs.declared.commands.Tables.{Tables}
@@ -69,14 +64,12 @@ pub use Rattle.rtcm_inspect.specs.declared.fault.InspectFault.{InspectFault}
 pub use Rattle.rtcm_msg.specs.Station.{InRange}
 pub use Rattle.rtcm_msg.specs.declared.station.StationParts.{StationParts}
 pub use Rattle.std.proofs.lemmas.Bool.Decides.{nat_tests}
-pub use Rattle.std.proofs.lemmas.Fmt.{decimal_nonempty, digits_decimal, digits_value-decimal, length-decimal-le}
 pub use Rattle.std.proofs.lemmas.List.{length-take, map_more}
 pub use Rattle.std.proofs.lemmas.List.Folds.{list_all-append}
 pub use Rattle.std.proofs.lemmas.List.Sums.{AllPass-from_list_all, fold-append}
 pub use Rattle.std.proofs.lemmas.Result.{IfErr-weaker, IfOk-weaker}
 pub use Rattle.std.proofs.lemmas.Slice.Eq.{bytes_eq-Decides}
 pub use Rattle.std.proofs.lemmas.Str.Parse.{IsNumeralModel, digits_value_short, not_in_digits, numerals_by_fold, parse_plain}
-pub use Rattle.std.proofs.lemmas.Str.Pattern.{starts_char, strip_prefix_char}
 pub use Rattle.std.specs.Borrow.{Bor}
 pub use Rattle.std.specs.Box.{box_value}
 pub use Rattle.std.specs.List.{after_first, before_first, list_all, list_any, position_or_len}

@@ -1,5 +1,3 @@
-pub mod Lengths
-pub mod Dates
 pub mod SetupOptions
 pub mod CommandLine
 pub mod Devices

@@ -1,5 +1,5 @@
 -- The values that the options of the commands give.
-use Rattle.std.specs.Prelude.{◌≡◌, ◌<◌, ◌^◌, ℕ, List, [], ◌∷◌, map, Option, Some, None, Result, Ok, Err, codes}
+use Rattle.std.specs.Prelude.{◌≡◌, ◌<◌, ◌^◌, ℕ, ℤ, List, [], ◌∷◌, map, Option, Some, None, Result, Ok, Err, codes}
 use Rattle.std.specs.Prelude.{Bool, unwrap_or, not, ◌⊎◌}
 use Rattle.std.specs.Str.{bytes_eq}
 use Rattle.std.specs.Str.Parse.{IsNumeral, digits_value, without_leading_plus}
@@ -13,8 +13,8 @@ use Rattle.rinex_file.specs.Texts.{HeaderLists, trimmed_texts, first_fault, fiel
 use Rattle.gnss_obs.specs.declared.cell.StationValues.{StationValues}
 use Rattle.rtcm_convert.specs.SetupValues.{Start}
 use Rattle.rtcm_convert.specs.declared.setup.Setup.{Setup}
-use Rattle.rtcm2rinex.specs.Dates.{IsHourOf, IsWeekOf}
-use Rattle.rtcm2rinex.specs.Lengths.{values_in}
+use Rattle.rtcm_inspect.specs.Dates.{IsHourOf, IsWeekOf}
+use Rattle.rtcm_inspect.specs.Lengths.{length_below, position_of}
 use Rattle.rtcm2rinex.specs.declared.fault.DateOption.TheVariants as dated
 use Rattle.rtcm2rinex.specs.declared.fault.ToolFault.{ToolFault}
 use Rattle.rtcm2rinex.specs.declared.fault.ToolFault.TheVariants as faults
@@ -83,6 +83,15 @@ pub record IsSetupOf (options : List Row) (x : Setup) : Type 0 where
   pub station : IsNumberOf 16 (one_of (codes "station") options) x.station
   pub gather : is_by_bit x.gather ≡ not (bytes_eq (text_set options (codes "gather")) (codes "time"))
   pub limit : IsNumberOr 64 (2 ^ 48) (one_of (codes "limit") options) x.limit
+
+-- the station values of a position and an antenna height, or the fault of the text that isn't one
+abbrev pub values_by : Option (ℤ × ℤ × ℤ) → Option ℕ → Result StationValues ToolFault
+values_by None height = Err faults.BadPosition
+values_by (Some p) None = Err faults.BadHeight
+values_by (Some (x, y, z)) (Some h) = Ok (record { x = x; y = y; z = z; height = h })
+
+abbrev pub values_in : (position height : List ℕ) → Result StationValues ToolFault
+values_in position height = values_by (position_of position) (length_below (2 ^ 16) height)
 
 -- the station values that the options give, or the fault of the option that is invalid
 abbrev pub values_set : List Row → Result StationValues ToolFault

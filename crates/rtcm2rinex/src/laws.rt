@@ -6,4 +6,6 @@ ghost use Rattle.rtcm2rinex.specs.StationLaws.{AreReadAsStation, AreZeroByDefaul
 pub fn station()
     ensures read { AreReadAsStation }
     ensures zero { AreZeroByDefault }
-{}
+{
+    rtcm_inspect::laws::lengths();
+}

@@ -1,23 +1,20 @@
 //! The values of the options of the commands.
-ghost use Rattle.std.specs.Prelude.{◌≡◌, ◌≤◌, ◌<◌, ◌^◌, ℕ, IfSome, MatchOption};
-ghost use Rattle.std.specs.Prelude.{MatchResult, None, Some, codes, not};
+ghost use Rattle.std.specs.Prelude.{◌≡◌, MatchResult, codes, not};
 ghost use Rattle.clap.specs.Walk.{one_of};
 ghost use Rattle.std.specs.Str.{bytes_eq};
 ghost use Rattle.obs_epoch.specs.Kinds.{is_by_bit};
 ghost use Rattle.rinex_file.specs.TextsOf.{lists_of};
-ghost use Rattle.rtcm2rinex.specs.Dates.{IsHourOf, IsWeekNumber, IsWeekOf, civil_in, fixed_number};
-ghost use Rattle.rtcm2rinex.specs.Lengths.{coordinate_of, cut, decimals_of};
-ghost use Rattle.rtcm2rinex.specs.Lengths.{length_below, length_of, number_of, position_of};
 ghost use Rattle.rtcm2rinex.specs.SetupOptions.{HasSetupFault, IsNearRefused, IsNearSet, IsNumberOf};
 ghost use Rattle.rtcm2rinex.specs.SetupOptions.{IsSetupOf, IsWeekRefused, IsWeekSet, has_times};
 ghost use Rattle.rtcm2rinex.specs.SetupOptions.{options_of, text_set, texts_set, values_set};
 
 use crate::fault::{DateOption, ToolFault};
 use clap::ArgMatches;
-use gnss_obs::{Civil, GpsTime, Plan, StationValues, WEEK, WEEKS};
+use gnss_obs::{GpsTime, Plan, StationValues};
 use obs_epoch::Gather;
 use rinex_file::{HeaderTexts, Texts};
 use rtcm_convert::Setup;
+use rtcm_inspect::{hour_of, length_below, position_of, week_of};
 use rtcm_scan::MOST_BYTES;
 use std::alloc::Global;
 
@@ -147,141 +144,4 @@ pub fn values_of(options: &ArgMatches) -> Result<StationValues, ToolFault>
         z,
         height: height as u16,
     })
-}
-
-// ---- weeks and dates, read from text
-
-/// Parses the number of a week, 0 to 99,999, or a date and returns the week that contains it.
-fn week_of(text: &str) -> Option<u32>
-    ensures { MatchOption result ((n : ℕ) → ¬ IsWeekOf text.now n) (IsWeekOf text.now) }
-{
-    match week_number(text) {
-        Some(week) => Some(week),
-        None => match hour_of(text, 0) {
-            Some(midnight) => Some((midnight.milliseconds() / WEEK) as u32),
-            None => None,
-        },
-    }
-}
-
-/// Parses the number of a week as `clap` parses a signed number.
-fn week_number(text: &str) -> Option<u32>
-    ensures { MatchOption result ((n : ℕ) → ¬ IsWeekNumber text.now n) (IsWeekNumber text.now) }
-{
-    match text.parse::<i64>() {
-        Ok(week) if 0 <= week && week < WEEKS as i64 => Some(week as u32),
-        _ => None,
-    }
-}
-
-/// Parses a date as `yyyy-mm-dd`, and returns this hour of it.
-fn hour_of(text: &str, hour: u8) -> Option<GpsTime>
-    ensures { MatchOption result ((t : ℕ) → ¬ IsHourOf hour text.now t) (IsHourOf hour text.now) }
-{
-    match civil_in(text, hour) {
-        // The inner match gives the proof the range of the time.
-        Some(civil) => match GpsTime::from_civil(&civil) {
-            Some(time) => Some(time),
-            None => None,
-        },
-        None => None,
-    }
-}
-
-/// Parses numbers of four, two and two digits, separated by hyphens.
-fn civil_in(text: &str, hour: u8) -> Option<Civil>
-    ensures { result ≡ civil_in hour text.now }
-{
-    let (year, rest) = cut(text, '-')?;
-    let (month, day) = cut(rest, '-')?;
-    Some(Civil {
-        year: fixed_number(year, 4)? as u16,
-        month: fixed_number(month, 2)? as u8,
-        day: fixed_number(day, 2)? as u8,
-        hour,
-        minute: 0,
-        millisecond: 0,
-    })
-}
-
-/// Parses a number of exactly `width` digits.
-fn fixed_number(text: &str, width: usize) -> Option<u64>
-    requires { width ≤ 8 }
-    ensures value { result ≡ fixed_number width text.now }
-    ensures small { IfSome result (λ n. n < 10 ^ width) }
-{
-    if text.len() == width {
-        number_of(text, width)
-    } else {
-        None
-    }
-}
-
-// ---- lengths in metres, read from text in units of 0.0001 m
-
-/// Parses X, Y and Z, separated by commas.
-fn position_of(text: &str) -> Option<(i64, i64, i64)>
-    ensures { result ≡ position_of text.now }
-{
-    let (x, rest) = cut(text, ',')?;
-    let (y, z) = cut(rest, ',')?;
-    Some((coordinate_of(x)?, coordinate_of(y)?, coordinate_of(z)?))
-}
-
-/// Parses a length that fits 38 bits, with or without a minus sign, in units of 0.0001 m.
-fn coordinate_of(text: &str) -> Option<i64>
-    ensures { result ≡ coordinate_of text.now }
-{
-    match text.strip_prefix('-') {
-        Some(size) => Some(-(length_below(size, (1 << 37) + 1)? as i64)),
-        None => Some(length_below(text, 1 << 37)? as i64),
-    }
-}
-
-/// Parses a length below a bound, in units of 0.0001 m.
-fn length_below(text: &str, bound: u64) -> Option<u64>
-    ensures value { result ≡ length_below bound text.now }
-    ensures below { IfSome result (λ n. n < bound) }
-{
-    let length = length_of(text)?;
-    (length < bound).then_some(length)
-}
-
-/// Parses a length of at most eight digits, a point and four decimals, in units of 0.0001 m.
-fn length_of(text: &str) -> Option<u64>
-    ensures { result ≡ length_of text.now }
-{
-    let (whole, decimals) = cut(text, '.').unwrap_or((text, "0"));
-    Some(number_of(whole, 8)? * 10_000 + decimals_of(decimals)?)
-}
-
-/// Parses one to four decimals, in units of 0.0001.
-fn decimals_of(text: &str) -> Option<u64>
-    ensures value { result ≡ decimals_of text.now }
-    ensures small { IfSome result (λ n. n < 10 ^ 12) }
-{
-    let number = number_of(text, 4)?;
-    Some(number * 10u64.pow(4 - text.len() as u32))
-}
-
-/// Returns the texts before and after the first separator, or `None` if there is none.
-fn cut(text: &str, separator: char) -> Option<(&str, &str)>
-    requires { separator < 128 }
-    ensures { MatchOption result (cut separator text.now ≡ None)
-        (λ p. cut separator text.now ≡ Some (p.0.now, p.1.now)) }
-{
-    text.split_once(separator)
-}
-
-/// Parses a number of one to `most` digits.
-fn number_of(text: &str, most: usize) -> Option<u64>
-    requires { most ≤ 8 }
-    ensures value { result ≡ number_of most text.now }
-    ensures small { IfSome result (λ n. n < 10 ^ most) }
-{
-    // A number may begin with a plus sign for `parse`.
-    if text.len() > most || text.starts_with('+') {
-        return None;
-    }
-    text.parse().ok()
 }

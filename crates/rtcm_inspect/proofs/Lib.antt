@@ -14,3 +14,4 @@ mod ValuedLemmas
 mod PlannedLemmas
 mod SkipLemmas
 mod WeekLemmas
+mod LengthLemmas

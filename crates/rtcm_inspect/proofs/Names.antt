@@ -1,5 +1,5 @@
 -- The names that proofs cite, passed on from one place. Declares nothing.
-pub use Rattle.gnss_obs.specs.Dates.{civil_of}
+pub use Rattle.gnss_obs.specs.Dates.{IsCivilOf, civil_of}
 pub use Rattle.gnss_obs.specs.HeardCells.{HeardCell, IsKey}
 pub use Rattle.gnss_obs.specs.Plans.{below, between_commas, one_signal_more, onto_first, place_in, plan_of, signals_after, signals_of}
 pub use Rattle.gnss_obs.specs.Satellites.{IsSatellite, Satellite, is_system, satellite_of_id, satellites}
@@ -38,12 +38,12 @@ pub use Rattle.rtcm_inspect.specs.DateTexts.{clock_text, date_text, times_lines}
 pub use Rattle.rtcm_inspect.specs.Devices.{Ends, HaveFailedBy, ReadFailures, stream_fault}
 pub use Rattle.rtcm_inspect.specs.FirstMessages.{AreFirst, first_in, first_station, first_tow, mixed_of, one_of, point_of, sender, stations_in, stations_of, tow_of, with_other}
 unfoldable pub use Rattle.rtcm_inspect.specs.Fitting.{options_line}
-pub use Rattle.rtcm_inspect.specs.Fitting.{antenna_words, number_start, number_words, position_word, station_words}
+pub use Rattle.rtcm_inspect.specs.Fitting.{antenna_words, height_text, number_start, number_words, position_text, position_word, station_words}
 unfoldable pub use Rattle.rtcm_inspect.specs.FrameLines.{frame_line, number_word}
 pub use Rattle.rtcm_inspect.specs.Lines.{line, with_words}
 pub use Rattle.rtcm_inspect.specs.Listing.{EndsListing, Lists, ListsAll, ListsDecided, ListsPart, ListsToLimit, ListsUpTo, StopsListing, WritesLine, listing_line, listing_lines}
 pub use Rattle.rtcm_inspect.specs.Messages.{heard_in, heard_of}
-pub use Rattle.rtcm_inspect.specs.Metres.{metres}
+pub use Rattle.rtcm_inspect.specs.Metres.{four_digits, metres, size_text}
 pub use Rattle.rtcm_inspect.specs.NearWeek.{IsNearestWeek, IsWeekFor, half_week}
 pub use Rattle.rtcm_inspect.specs.OptionOutput.{AreOptionsOf, EndsOptions}
 pub use Rattle.rtcm_inspect.specs.Printing.{EndsPrinting, PrintsLine}
@@ -90,18 +90,25 @@ pub use Rattle.rtcm_scan.specs.declared.feed.StreamFault.{StreamFault}
 pub use Rattle.std.proofs.KnownBytes.{Appends-kept, Appends-nil, Appends-trans}
 pub use Rattle.std.proofs.lemmas.Bool.{le-leb, lt-leb}
 pub use Rattle.std.proofs.lemmas.Bool.Decides.{nat_tests}
-pub use Rattle.std.proofs.lemmas.Fmt.{decimal_digit}
+pub use Rattle.std.proofs.lemmas.Fmt.{decimal_digit, decimal_nonempty, digits_decimal, digits_value-decimal, length-decimal-le}
 pub use Rattle.std.proofs.lemmas.Grind.{common_steps, flat_map-append}
 pub use Rattle.std.proofs.lemmas.Int.{to_z-of_z}
-pub use Rattle.std.proofs.lemmas.List.{map-append}
+pub use Rattle.std.proofs.lemmas.List.{drop_at, get_or_append_left, get_or_at, length_push, map-append, take_at}
 pub use Rattle.std.proofs.lemmas.List.Elements.{All-append, All-cons, All-filter, All-head, All-nil, All-tail, filter-append, filter_map-append}
-pub use Rattle.std.proofs.lemmas.List.Folds.{find-append, list_any-append}
-pub use Rattle.std.proofs.lemmas.List.Sums.{AllPass-from_list_all, count_by-le-length, length-filter, sum_by-cons}
+pub use Rattle.std.proofs.lemmas.List.Folds.{find-append, list_all-append, list_any-append}
+pub use Rattle.std.proofs.lemmas.List.Sums.{AllPass-from_list_all, count_by-le-length, length-filter, position_or_len_is, sum_by-cons}
 pub use Rattle.std.proofs.lemmas.Option.{slice_get-get_or}
 pub use Rattle.std.specs.Io.KnownBytes.{Appends, Keeps}
-pub use Rattle.std.specs.List.{cons_option, count_by, flat_map, join_with_byte, list_all, list_any, position_or_len, slice_get}
+pub use Rattle.std.specs.List.{after_first, before_first, cons_option, count_by, flat_map, join_with_byte, list_all, list_any, position_or_len, slice_get}
 pub use Rattle.std.specs.Option.{option_map, option_map_or, option_or}
-pub use Rattle.std.specs.Prelude.{codes, cond, filter_map, if◌then◌else◌, nat_le, nat_lt, option_and_then, position, ⊤, ◌≢◌}
-pub use Rattle.std.specs.Result.{IsErrAnd}
+pub use Rattle.std.specs.Prelude.{MatchOption, codes, cond, filter_map, if◌then◌else◌, nat_le, nat_lt, option_and_then, position, ⊤, ◌≢◌}
+pub use Rattle.std.specs.Result.{IsErrAnd, result_ok}
 pub use Rattle.std.specs.Str.{bytes_eq}
 pub use Rattle.std.proofs.Common.{All, Bool, Err, FitsSigned, IfSome, List, None, Ok, OnErr, OnOk, Option, Result, Some, [], ap, append-nil, append_assoc, ap₂, arith, count_ones, decimal, drop, false, filter, find, get_or, inl, inr, is_some, length, length-append, length-drop, length-take, lit≤, map, nat_eq, negsuc, not, of_z, pos, refl, replicate, rules, subst, suc, sym, take, take-append-drop, to_z, true, w64, zero, ℕ, ℤ, ◌&&◌, ◌*◌, ◌++◌, ◌+◌, ◌-◌, ◌/◌, ◌<◌, ◌==◌, ◌^◌, ◌||◌, ◌∙◌, ◌∷◌, ◌≡◌, ◌≤◌}
+pub use Rattle.gnss_obs.specs.declared.civil.Civil.{Civil}
+pub use Rattle.rinex_file.specs.Read.Fields.{digits_from, digits_in, next_digit}
+pub use Rattle.rtcm_inspect.specs.Dates.{IsHourOf, IsWeekOf, civil_in}
+pub use Rattle.rtcm_inspect.specs.Lengths.{after_byte, coordinate_by, coordinate_of, cut, decimals_of, is_digit, length_below, length_by, length_of, number_of, position_of}
+pub use Rattle.std.proofs.lemmas.Str.Parse.{IsNumeralModel, digits_value_short, numerals_by_fold, parse_plain}
+pub use Rattle.std.proofs.lemmas.Str.Pattern.{starts_char, strip_prefix_char}
+pub use Rattle.std.specs.Str.Parse.{ParsesUnsigned}

@@ -7,6 +7,8 @@ pub mod Messages
 pub mod Listing
 pub mod ReadBack
 pub mod DateTexts
+pub mod Lengths
+pub mod Dates
 pub mod Checking
 pub mod FirstMessages
 pub mod NearWeek
@@ -18,3 +20,4 @@ pub mod OptionOutput
 pub mod Printing
 pub mod SignalLaws
 pub mod WeekLaws
+pub mod LengthLaws

@@ -4,6 +4,7 @@ ghost use Rattle.rtcm_msg.specs.declared.message.Message.{Message};
 ghost use Rattle.rtcm_inspect.specs.ReadBack.{AreKnown, AreEncoded, ReadsBack};
 ghost use Rattle.rtcm_inspect.specs.SignalLaws.{LeavesNoneOut, AreReadAsPlan, SkipsNoValue};
 ghost use Rattle.rtcm_inspect.specs.WeekLaws.{HasOneWeek, IsDatedByWeek};
+ghost use Rattle.rtcm_inspect.specs.LengthLaws.{AreHeightsRead, ArePositionsRead};
 
 /// Every list of messages of known layouts has encodings. For every choice of these, their frames,
 /// joined, are a stream with exactly these frames, which is read back as that list.
@@ -36,4 +37,11 @@ pub fn signals()
 pub fn near()
     ensures one { HasOneWeek }
     ensures dated { IsDatedByWeek }
+{}
+
+/// The position and the antenna height that `run_options` prints for a station message are read as
+/// those of the message, for every message in range.
+pub fn lengths()
+    ensures positions { ArePositionsRead }
+    ensures heights { AreHeightsRead }
 {}

@@ -1,7 +1,7 @@
 use Rattle.std.proofs.Common.{◌^◌, ◌<◌, ◌∙◌, arith, sym, subst, true≢false, ℕ, Option, IfSome}
-use Rattle.rtcm2rinex.proofs.OptionLemmas.{number_parsed}
-use Rattle.rtcm2rinex.proofs.Names.{starts_char}
-use Rattle.rtcm2rinex.proofs.options.number_of.Goals as goal
+use Rattle.rtcm_inspect.proofs.LengthLemmas.{number_parsed}
+use Rattle.rtcm_inspect.proofs.Names.{starts_char}
+use Rattle.rtcm_inspect.proofs.option_texts.number_of.Goals as goal
 
 pub returns : goal.returns
 returns c =

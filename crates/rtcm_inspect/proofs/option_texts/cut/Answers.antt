@@ -1,7 +1,7 @@
 use Rattle.std.proofs.Common.{◌≡◌, ◌<◌, ◌==◌, arith, refl, false, ℕ, List, Option, Some, None, Bor, length}
-use Rattle.rtcm2rinex.proofs.OptionLemmas.{is_lt}
-use Rattle.rtcm2rinex.proofs.Names.{MatchOption, nat_lt, position_or_len, before_first, after_first, nat_tests, cut}
-use Rattle.rtcm2rinex.proofs.options.cut.Goals as goal
+use Rattle.rtcm_inspect.proofs.LengthLemmas.{is_lt}
+use Rattle.rtcm_inspect.proofs.Names.{MatchOption, nat_lt, position_or_len, before_first, after_first, nat_tests, cut}
+use Rattle.rtcm_inspect.proofs.option_texts.cut.Goals as goal
 
 is_not_below : (n m : ℕ) → n ≡ m → nat_lt n m ≡ false
 is_not_below n m h = grind (arith, nat_tests)

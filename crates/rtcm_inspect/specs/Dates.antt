@@ -5,7 +5,7 @@ use Rattle.std.specs.Str.Parse.{IsNumeral, signed_digits_value, without_leading_
 use Rattle.gnss_obs.specs.Dates.{IsCivilOf}
 use Rattle.gnss_obs.specs.Weeks.{week, weeks}
 use Rattle.gnss_obs.specs.declared.civil.Civil.{Civil}
-use Rattle.rtcm2rinex.specs.Lengths.{cut, number_of}
+use Rattle.rtcm_inspect.specs.Lengths.{cut, number_of}
 
 -- the number of exactly `width` digits
 abbrev pub fixed_number : ℕ → List ℕ → Option ℕ

@@ -1,5 +1,5 @@
 use Rattle.std.proofs.Common.{inl, inr}
-use Rattle.rtcm2rinex.proofs.options.week_of.Goals as goal
+use Rattle.rtcm_inspect.proofs.option_texts.week_of.Goals as goal
 
 pub returns-in-None-hour_of : goal.returns-in-None-hour_of
 returns-in-None-hour_of c = λ n is. elim is [

@@ -1,7 +1,7 @@
 use Rattle.std.proofs.Common.{arith, rules}
-use Rattle.rtcm2rinex.proofs.OptionLemmas.{no_sign}
-use Rattle.rtcm2rinex.proofs.Names.{strip_prefix_char}
-use Rattle.rtcm2rinex.proofs.options.coordinate_of.Goals as goal
+use Rattle.rtcm_inspect.proofs.LengthLemmas.{no_sign}
+use Rattle.rtcm_inspect.proofs.Names.{strip_prefix_char}
+use Rattle.rtcm_inspect.proofs.option_texts.coordinate_of.Goals as goal
 
 pub returns-in_err-length_below-in-None : goal.returns-in_err-length_below-in-None
 returns-in_err-length_below-in-None c = rw (no_sign c.args.text.now _ (strip_prefix_char 45 _ _ c.strip_prefix.ensures.cases (omega arith)) c.in-None.is) (search rules)

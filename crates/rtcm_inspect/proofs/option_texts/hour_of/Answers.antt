@@ -1,6 +1,6 @@
 use Rattle.std.proofs.Common.{◌∙◌, rules, sym}
-use Rattle.rtcm2rinex.proofs.OptionLemmas.{no_hour}
-use Rattle.rtcm2rinex.proofs.options.hour_of.Goals as goal
+use Rattle.rtcm_inspect.proofs.LengthLemmas.{no_hour}
+use Rattle.rtcm_inspect.proofs.option_texts.hour_of.Goals as goal
 
 pub returns-in-Some-from_civil : goal.returns-in-Some-from_civil
 returns-in-Some-from_civil c = (c.in-Some.civil, sym c.civil_in.ensures ∙ c.in-Some.is, c.in-Some-from_civil.ensures.some, search rules)

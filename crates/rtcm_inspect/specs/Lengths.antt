@@ -1,13 +1,12 @@
 -- Lengths in metres, read from text in units of 0.0001 m.
-use Rattle.std.specs.Prelude.{ℕ, ℤ, pos, neg_ℤ, nat_le, nat_lt, ◌+◌, ◌-◌, ◌*◌, ◌^◌, ◌==◌, ◌&&◌, List, take, drop}
-use Rattle.std.specs.Prelude.{length, Option, Some, None, Result, Ok, Err, option_map, option_and_then, position}
+use Rattle.std.specs.Prelude.{ℕ, ℤ, pos, neg_ℤ, nat_le, nat_lt, ◌+◌, ◌-◌, ◌*◌, ◌^◌, ◌==◌, ◌&&◌, Bool, List, [], ◌∷◌, take, drop}
+use Rattle.std.specs.Prelude.{length, Option, Some, None, option_map, option_and_then, position}
 use Rattle.std.specs.Prelude.{if◌then◌else◌}
 use Rattle.std.specs.List.{list_all}
-use Rattle.clap.specs.Lexer.{is_digit, strip_byte}
 use Rattle.rinex_file.specs.Read.Fields.{digits_in}
-use Rattle.gnss_obs.specs.declared.cell.StationValues.{StationValues}
-use Rattle.rtcm2rinex.specs.declared.fault.ToolFault.{ToolFault}
-use Rattle.rtcm2rinex.specs.declared.fault.ToolFault.TheVariants.{BadPosition, BadHeight}
+
+abbrev pub is_digit : ℕ → Bool
+is_digit b = nat_le 48 b && nat_le b 57
 
 -- the number of a text that has only digits
 abbrev pub only_digits_in : List ℕ → Option ℕ
@@ -37,13 +36,18 @@ length_of text = length_by text (cut 0x2E text)
 abbrev pub length_below : ℕ → List ℕ → Option ℕ
 length_below bound text = option_and_then (λ n. if nat_lt n bound then Some n else None) (length_of text)
 
+-- the bytes after a first one, if the text begins with it
+abbrev pub after_byte : ℕ → List ℕ → Option (List ℕ)
+after_byte c [] = None
+after_byte c (x ∷ xs) = if x == c then Some xs else None
+
 -- a length that fits 38 bits, after a minus sign (0x2D) if there is one
 abbrev pub coordinate_by : List ℕ → Option (List ℕ) → Option ℤ
 coordinate_by text None = option_map pos (length_below (2 ^ 37) text)
 coordinate_by text (Some size) = option_map (λ n. neg_ℤ (pos n)) (length_below (2 ^ 37 + 1) size)
 
 abbrev pub coordinate_of : List ℕ → Option ℤ
-coordinate_of text = coordinate_by text (strip_byte 0x2D text)
+coordinate_of text = coordinate_by text (after_byte 0x2D text)
 
 -- X, Y and Z, separated by commas (0x2C)
 abbrev pub position_of : List ℕ → Option (ℤ × ℤ × ℤ)
@@ -52,12 +56,3 @@ position_of text =
     option_and_then (λ x. option_and_then (λ y. option_map (λ z. (x, y, z)) (coordinate_of q.1)) (coordinate_of q.0))
     (coordinate_of p.0))
     (cut 0x2C p.1)) (cut 0x2C text)
-
--- the station values of a position and an antenna height, or the fault of the text that isn't one
-abbrev pub values_by : Option (ℤ × ℤ × ℤ) → Option ℕ → Result StationValues ToolFault
-values_by None height = Err BadPosition
-values_by (Some p) None = Err BadHeight
-values_by (Some (x, y, z)) (Some h) = Ok (record { x = x; y = y; z = z; height = h })
-
-abbrev pub values_in : (position height : List ℕ) → Result StationValues ToolFault
-values_in position height = values_by (position_of position) (length_below (2 ^ 16) height)

@@ -1,0 +1,195 @@
+-- Numbers, dates and lengths that are read from text, and lengths that were written.
+use Rattle.std.proofs.Common.{◌≡◌, ◌≢◌, ◌∙◌, ◌≤◌, ◌<◌, ◌+◌, ◌-◌, ◌*◌, ◌/◌, ◌%◌, ◌^◌, ◌&&◌, ◌==◌, ◌++◌, ℕ, ℤ, pos, negsuc, neg_ℤ, suc, Bool, true, false, not, List, [], ◌∷◌, Option, Some, None, Result, Ok, Err, IfSome, Bor, option_map, unwrap_or, length, length-append, get_or, drop, decimal, codes, append_assoc, arith, rules, refl, sym, ap, subst, lit≤}
+use Rattle.rtcm_inspect.proofs.Names.{ParsesUnsigned, IsCivilOf, week, weeks, Civil, IsHourOf, civil_in, if◌then◌else◌, option_and_then, option_map_or, nat_le, nat_lt, nat_tests, common_steps, list_all, result_ok, is_digit, digits_from, digits_in, next_digit, number_of as digits_number, number_of, MatchOption, IsNumeralModel, numerals_by_fold, parse_plain, digits_value_short, position_or_len, position_or_len_is, get_or_append_left, get_or_at, take_at, drop_at, length_push, decimal_nonempty, digits_decimal, digits_value-decimal, length-decimal-le, list_all-append, AllPass-from_list_all, FitsInt, InRange, StationParts, height_text, position_text, after_byte, coordinate_by, coordinate_of, cut, decimals_of, length_below, length_by, length_of, position_of, four_digits, metres, size_text}
+
+-- ---- numbers of digits alone
+
+pub is_le : (n m : ℕ) → n ≤ m → nat_le n m ≡ true
+is_le n m h = grind (arith, nat_tests)
+
+pub is_lt : (n m : ℕ) → n < m → nat_lt n m ≡ true
+is_lt n m h = grind (arith, nat_tests)
+
+pub own : IsNumeralModel (λ text. list_all is_digit text ≡ true) digits_in
+own = numerals_by_fold _ (search rules) digits_from (search rules)
+
+pub number_read : (most : ℕ) (text : List ℕ) → 1 ≤ length text → length text ≤ most → list_all is_digit text ≡ true → digits_number most text ≡ Some (digits_in text)
+number_read most text some few all = rw (is_le 1 (length text) some, is_le (length text) most few, all) refl
+
+-- a text that is empty, too long, or has another character
+pub number_missing : (most : ℕ) (text : List ℕ) → (list_all is_digit text ≡ true → 1 ≤ length text → length text ≤ most → ⊥) → digits_number most text ≡ None
+number_missing most text none = by (nat_le 1 (length text)) refl (nat_le (length text) most) refl (list_all is_digit text) refl where
+  by : (a : Bool) → nat_le 1 (length text) ≡ a → (b : Bool) → nat_le (length text) most ≡ b → (c : Bool) → list_all is_digit text ≡ c → (if a && b then (if c then Some (digits_in text) else None) else None) ≡ None
+  by true some true few true all = absurd (none all (grind (arith, nat_tests)) (grind (arith, nat_tests)))
+  by true some true few false all = refl
+  by true some false few c all = refl
+  by false some b few c all = refl
+
+-- a text without a leading plus sign that was parsed
+pub number_parsed : {E : Type 0} (most : ℕ) (text : List ℕ) (r : Result ℕ E) → most ≤ 8 → length text ≤ most → (get_or text 0 0 ≢ 43) → ParsesUnsigned 64 10 text r
+    → (result_ok r ≡ digits_number most text) × IfSome (result_ok r) (λ n. n < 10 ^ most)
+number_parsed {E} most text (Ok n) small few plain h =
+    let p = parse_plain own {E = E} 64 text (Ok n) h plain in
+    (ap (λ (k : ℕ). Some k) p.1 ∙ sym (number_read most text p.0.1 few p.0.0), subst (λ (k : ℕ). k < 10 ^ most) (sym p.1) (digits_value_short own text most p.0.0 few))
+number_parsed {E} most text (Err e) small few plain h =
+    (sym (number_missing most text (λ all some _. parse_plain own {E = E} 64 text (Err e) h plain (all, some, omega (arith, digits_value_short own text 8 all (omega arith))))), tt)
+
+-- the clause of `strip_prefix` at a byte
+after_byte_from : (c : ℕ) (bs : List ℕ) (r : Option (Bor (List ℕ)))
+    → MatchOption r ((rest : List ℕ) → bs ≢ c ∷ rest) (λ x. bs ≡ c ∷ x.now) → option_map (λ s. s.now) r ≡ after_byte c bs
+after_byte_from c [] None h = refl
+after_byte_from c [] (Some x) h = cc
+after_byte_from c (b ∷ bs) None h = go (b == c) refl
+  where
+    go : (t : Bool) → (b == c) ≡ t → None ≡ after_byte c (b ∷ bs)
+    go true e = absurd (h bs (ap (λ n. n ∷ bs) (grind (arith, nat_tests))))
+    go false e = rw e
+after_byte_from c (b ∷ bs) (Some x) h = sym (ap (after_byte c) h ∙ first c x.now)
+  where
+    first : (c : ℕ) (rest : List ℕ) → after_byte c (c ∷ rest) ≡ Some rest
+    first c rest = let same : (c == c) ≡ true = grind (arith, nat_tests) in rw same refl
+
+-- a text without a minus sign
+pub no_sign : (text : List ℕ) (r : Option (Bor (List ℕ))) → MatchOption r ((rest : List ℕ) → text ≢ 45 ∷ rest) (λ x. text ≡ 45 ∷ x.now) → r ≡ None → after_byte 45 text ≡ None
+no_sign text r h is = sym (after_byte_from 45 text r h) ∙ ap (option_map (λ (s : Bor (List ℕ)). s.now)) is
+
+-- ---- dates
+
+-- no hour of the day in a text
+pub no_hour : (hour : ℕ) (text : List ℕ) (c : Civil) → civil_in hour text ≡ Some c → ((t : ℕ) → t < weeks * week → IsCivilOf t c → ⊥) → (t : ℕ) → IsHourOf hour text t → ⊥
+no_hour hour text c is none t h =
+    let same : h.0 ≡ c = ap (λ (o : Option Civil). unwrap_or o c) (sym h.1 ∙ is) in
+    none t h.3 (subst (IsCivilOf t) same h.2)
+
+-- ---- lengths that were written
+
+rest_of : (a b : Bool) → (a && b) ≡ true → b ≡ true
+rest_of true b e = e
+rest_of false b e = cc
+
+both : (a b : Bool) → a ≡ true → b ≡ true → (a && b) ≡ true
+both true b p q = q
+both false b p q = cc
+
+-- ---- digits
+
+four_are_digits : (n : ℕ) → list_all is_digit (four_digits n) ≡ true
+four_are_digits n = grind (arith, nat_tests)
+
+next_of : (n d : ℕ) → d < 10 → next_digit n (48 + d) ≡ n * 10 + d
+next_of n d h = grind (arith, nat_tests)
+
+four_read : (n : ℕ) → digits_in (four_digits n) ≡ n % 10000
+four_read n = rw (next_of 0 (n / 1000 % 10) (omega arith), next_of _ (n / 100 % 10) (omega arith), next_of _ (n / 10 % 10) (omega arith), next_of _ (n % 10) (omega arith)) (omega arith)
+
+-- a byte below the digits isn't one
+no_byte : (c : ℕ) (ds : List ℕ) → c < 48 → list_all is_digit ds ≡ true → list_all (λ x. not (x == c)) ds ≡ true
+no_byte c [] low h = refl
+no_byte c (x ∷ xs) low h = both (not (x == c)) _ (grind (arith, nat_tests)) (no_byte c xs low (rest_of (is_digit x) (list_all is_digit xs) h))
+
+-- ---- separators
+
+cut_first : (c : ℕ) (a b : List ℕ) → list_all (λ x. not (x == c)) a ≡ true → cut c (a ++ c ∷ b) ≡ Some (a, b)
+cut_first c a b h = rw (place, is_lt (length a) (length (a ++ c ∷ b)) (omega (arith, length-append a (c ∷ b))), take_at a (c ∷ b) (length a) refl, after) refl
+  where
+    same : (c == c) ≡ true
+    same = grind (arith, nat_tests)
+
+    place : position_or_len (λ x. x == c) (a ++ c ∷ b) ≡ length a
+    place =
+        position_or_len_is (λ x. x == c) (a ++ c ∷ b) (length a) 0 (grind (arith, common_steps))
+        (λ i less. let other = AllPass-from_list_all (λ x. not (x == c)) a h i 0 less in rw get_or_append_left (grind (arith, nat_tests)))
+        (λ _. rw (get_or_at a c b 0 (length a) refl) same)
+
+    after : drop (length a + 1) (a ++ c ∷ b) ≡ b
+    after = ap (drop (length a + 1)) (sym (append_assoc a (c ∷ []) b)) ∙ drop_at (a ++ c ∷ []) b (length a + 1) (length_push a c)
+
+no_minus : (ds rest : List ℕ) → 0 < length ds → list_all is_digit ds ≡ true → after_byte 45 (ds ++ rest) ≡ None
+no_minus [] rest some h = absurd (omega (arith, some))
+no_minus (x ∷ xs) rest some h = let other : (x == 45) ≡ false = grind (arith, nat_tests) in rw other refl
+
+-- ---- lengths
+
+size_shape : (n : ℕ) → size_text n ≡ decimal (n / 10000) ++ 0x2E ∷ four_digits n
+size_shape n = append_assoc (decimal (n / 10000)) (codes ".") (four_digits n)
+
+times_one : (n p : ℕ) → p ≡ 1 → n * p ≡ n
+times_one n p e = ap (λ (k : ℕ). n * k) e ∙ omega arith
+
+joined : (n : ℕ) → n / 10000 * 10000 + n % 10000 ≡ n
+joined n = omega arith
+
+module _ (n : ℕ) (small : n < 10 ^ 12) where
+  whole_small : n / 10000 < 10 ^ 8
+  whole_small = omega (arith, small)
+
+  whole_fits : n / 10000 < 2 ^ 64
+  whole_fits = omega (arith, small)
+
+  all_digits : list_all is_digit (decimal (n / 10000)) ≡ true
+  all_digits = digits_decimal own (n / 10000) whole_fits
+
+  whole_read : number_of 8 (decimal (n / 10000)) ≡ Some (n / 10000)
+  whole_read =
+      let some = decimal_nonempty (n / 10000) whole_fits in
+      number_read 8 (decimal (n / 10000)) (omega (arith, some)) (length-decimal-le 8 (n / 10000) (omega arith) whole_small whole_fits) all_digits
+      ∙ ap (λ (k : ℕ). Some k) (digits_value-decimal own (n / 10000) whole_fits)
+
+  decimals_read : decimals_of (four_digits n) ≡ Some (n % 10000)
+  decimals_read =
+      let four = number_read 4 (four_digits n) (lit≤ tt) (lit≤ tt) (four_are_digits n) ∙ ap (λ (k : ℕ). Some k) (four_read n) in
+      ap (option_map (λ k. k * 10 ^ (4 - length (four_digits n)))) four ∙ ap (λ (k : ℕ). Some k) (times_one (n % 10000) (10 ^ (4 - length (four_digits n))) refl)
+
+  pub size_read : length_of (size_text n) ≡ Some n
+  size_read =
+      let whole = decimal (n / 10000) in
+      let text = whole ++ 0x2E ∷ four_digits n in
+      let parted : cut 0x2E text ≡ Some (whole, four_digits n) = cut_first 0x2E whole (four_digits n) (no_byte 0x2E whole (omega arith) all_digits) in
+      ap length_of (size_shape n) ∙ ap (length_by text) parted
+      ∙ ap (option_and_then (λ k. option_map (λ d. k * 10000 + d) (decimals_of (four_digits n)))) whole_read
+      ∙ ap (option_map (λ d. n / 10000 * 10000 + d)) decimals_read ∙ ap (λ (k : ℕ). Some k) (joined n)
+
+  pub size_below : (bound : ℕ) → n < bound → length_below bound (size_text n) ≡ Some n
+  size_below bound less =
+      ap (option_and_then (λ k. if nat_lt k bound then Some k else None)) size_read ∙ ap (λ (b : Bool). if b then Some n else None) (is_lt n bound less)
+
+  pub size_unsigned : after_byte 45 (size_text n) ≡ None
+  size_unsigned =
+      ap (after_byte 45) (size_shape n) ∙ no_minus (decimal (n / 10000)) (0x2E ∷ four_digits n) (decimal_nonempty (n / 10000) whole_fits) all_digits
+
+  -- no comma is in it
+  pub size_whole : list_all (λ x. not (x == 0x2C)) (size_text n) ≡ true
+  size_whole =
+      let whole = decimal (n / 10000) in
+      ap (list_all (λ x. not (x == 0x2C))) (size_shape n) ∙ list_all-append (λ x. not (x == 0x2C)) whole (0x2E ∷ four_digits n)
+      ∙ both (list_all (λ x. not (x == 0x2C)) whole) (list_all (λ x. not (x == 0x2C)) (0x2E ∷ four_digits n))
+      (no_byte 0x2C whole (omega arith) all_digits) (no_byte 0x2C (four_digits n) (omega arith) (four_are_digits n))
+
+pub coordinate_read : (z : ℤ) → FitsInt 38 z → coordinate_of (metres z) ≡ Some z
+coordinate_read (pos n) fits =
+    let small : n < 10 ^ 12 = omega (arith, fits) in
+    ap (coordinate_by (size_text n)) (size_unsigned n small) ∙ ap (option_map pos) (size_below n small (2 ^ 37) fits)
+coordinate_read (negsuc n) fits =
+    let small : n + 1 < 10 ^ 12 = omega (arith, fits) in
+    let less : n + 1 < 2 ^ 37 + 1 = omega (arith, fits) in
+    ap (option_map (λ k. neg_ℤ (pos k))) (size_below (n + 1) small (2 ^ 37 + 1) less) ∙ ap (λ (k : ℕ). Some (neg_ℤ (pos k))) (next n) where
+      next : (k : ℕ) → k + 1 ≡ suc k
+      next k = omega arith
+
+pub metres_whole : (z : ℤ) → FitsInt 38 z → list_all (λ x. not (x == 0x2C)) (metres z) ≡ true
+metres_whole (pos n) fits = size_whole n (omega (arith, fits))
+metres_whole (negsuc n) fits = size_whole (n + 1) (omega (arith, fits))
+
+position_by_parts : (text rest a b c : List ℕ) (x y z : ℤ) → cut 0x2C text ≡ Some (a, rest) → cut 0x2C rest ≡ Some (b, c) → coordinate_of a ≡ Some x → coordinate_of b ≡ Some y
+    → coordinate_of c ≡ Some z → position_of text ≡ Some (x, y, z)
+position_by_parts text rest a b c x y z first second p q r = rw (first, second, p, q, r) refl
+
+pub position_read : (s : StationParts) → InRange s → position_of (position_text s) ≡ Some (s.x, s.y, s.z)
+position_read s are =
+    position_by_parts (position_text s) (metres s.y ++ 0x2C ∷ metres s.z) (metres s.x) (metres s.y) (metres s.z) s.x s.y s.z
+    (cut_first 0x2C (metres s.x) (metres s.y ++ 0x2C ∷ metres s.z) (metres_whole s.x are.x)) (cut_first 0x2C (metres s.y) (metres s.z) (metres_whole s.y are.y))
+    (coordinate_read s.x are.x) (coordinate_read s.y are.y) (coordinate_read s.z are.z)
+
+pub height_read : (h : Option ℕ) → IfSome h (λ n. n < 2 ^ 16) → length_below (2 ^ 16) (height_text h) ≡ Some (option_map_or (λ n. n) h 0)
+height_read None small = refl
+height_read (Some n) small = size_below n (omega (arith, small)) (2 ^ 16) small
