@@ -1,5 +1,5 @@
 -- The lines of errors, on standard error. They agree with the manual page.
-use Rattle.std.specs.Prelude.{ℕ, List, [], ◌∷◌, codes, decimal}
+use Rattle.std.specs.Prelude.{ℕ, List, [], ◌∷◌, Option, Some, None, codes, decimal}
 use Rattle.gnss_obs.specs.Satellites.{letter}
 use Rattle.gnss_obs.specs.declared.fault.PlanFault.{PlanFault}
 use Rattle.gnss_obs.specs.declared.fault.PlanFault.TheVariants as plans
@@ -51,6 +51,11 @@ conversion_word convert.Write = codes "Write"
 conversion_word convert.Failed = codes "Failed"
 conversion_word convert.Finished = codes "Finished"
 conversion_word convert.NoEpoch = codes "NoEpoch"
+
+-- a name, and a number if there is one
+abbrev pub named : List ℕ → Option ℕ → List (List ℕ)
+named name None = name ∷ []
+named name (Some k) = name ∷ decimal k ∷ []
 
 -- a line of a file, counted from 1
 abbrev pub file_words : ReadFault → List (List ℕ)

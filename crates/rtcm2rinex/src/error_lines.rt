@@ -2,8 +2,8 @@
 ghost use Rattle.std.specs.Prelude.{◌≡◌, ◌+◌, ◌≤◌, [], ◌∷◌, codes, decimal, length};
 ghost use Rattle.gnss_obs.specs.Satellites.{letter};
 ghost use Rattle.rinex_file.specs.Texts.{field_name};
-ghost use Rattle.rtcm2rinex.specs.ErrorLines.{date_words, error_line, error_words};
-ghost use Rattle.rtcm2rinex.specs.ErrorLines.{file_words, header_words, inspection_words, plan_words};
+ghost use Rattle.rtcm2rinex.specs.ErrorLines.{conversion_word, date_words, error_line, error_words};
+ghost use Rattle.rtcm2rinex.specs.ErrorLines.{file_words, header_words, inspection_words, named, plan_words, scan_word};
 ghost use Rattle.rtcm_inspect.specs.Lines.{with_words};
 
 use crate::fault::{DateOption, ToolFault};
@@ -45,14 +45,7 @@ fn add_error(line: &mut OutputLine, fault: ToolFault)
         }
         ToolFault::Header(fault) => add_header_error(line, fault),
         ToolFault::Plan(fault) => add_plan_error(line, fault),
-        ToolFault::Convert(Fault::Memory) => line.add_word("Memory"),
-        ToolFault::Convert(Fault::BadSetup) => line.add_word("BadSetup"),
-        ToolFault::Convert(Fault::TooLong) => line.add_word("TooLong"),
-        ToolFault::Convert(Fault::Read) => line.add_word("Read"),
-        ToolFault::Convert(Fault::Write) => line.add_word("Write"),
-        ToolFault::Convert(Fault::Failed) => line.add_word("Failed"),
-        ToolFault::Convert(Fault::Finished) => line.add_word("Finished"),
-        ToolFault::Convert(Fault::NoEpoch) => line.add_word("NoEpoch"),
+        ToolFault::Convert(fault) => line.add_word(conversion_name(fault)),
         ToolFault::Inspect(fault) => add_inspection_error(line, fault),
     }
 }
@@ -84,10 +77,7 @@ fn add_inspection_error(line: &mut OutputLine, fault: InspectFault)
     match fault {
         InspectFault::Read => line.add_word("Read"),
         InspectFault::Write => line.add_word("Write"),
-        InspectFault::Scan(ScanFault::Memory) => line.add_word("Memory"),
-        InspectFault::Scan(ScanFault::BadLimit) => line.add_word("BadLimit"),
-        InspectFault::Scan(ScanFault::TooLong) => line.add_word("TooLong"),
-        InspectFault::Scan(ScanFault::Ended) => line.add_word("Ended"),
+        InspectFault::Scan(fault) => line.add_word(scan_name(fault)),
         InspectFault::Check(fault) => add_file_error(line, fault),
         InspectFault::SeveralStations(first, other) => {
             line.add_count("SeveralStations", u64::from(first));
@@ -132,15 +122,57 @@ fn add_file_error(line: &mut OutputLine, fault: ReadFault)
     ensures text { line.new ≡ with_words line.old (file_words fault) }
     ensures short { length line.new ≤ length line.old + 120 }
 {
+    let (name, number) = file_name(fault);
+    line.add_word(name);
+    if let Some(number) = number {
+        line.add_number(number);
+    }
+}
+
+/// Returns the name of a fault of a file, and the number of the line.
+fn file_name(fault: ReadFault) -> (&'static str, Option<u64>)
+    ensures words { file_words fault ≡ named result.0.now result.1 }
+    ensures short { length result.0.now ≤ 20 }
+{
     match fault {
-        ReadFault::Memory => line.add_word("Memory"),
-        ReadFault::Read => line.add_word("Read"),
-        ReadFault::BadHeader(k) => line.add_count("BadHeader", k),
-        ReadFault::BadEpoch(k) => line.add_count("BadEpoch", k),
-        ReadFault::BadEvent(k) => line.add_count("BadEvent", k),
-        ReadFault::BadSatellite(k) => line.add_count("BadSatellite", k),
-        ReadFault::CutShort(k) => line.add_count("CutShort", k),
-        ReadFault::TooLong => line.add_word("TooLong"),
+        ReadFault::Memory => ("Memory", None),
+        ReadFault::Read => ("Read", None),
+        ReadFault::BadHeader(k) => ("BadHeader", Some(k)),
+        ReadFault::BadEpoch(k) => ("BadEpoch", Some(k)),
+        ReadFault::BadEvent(k) => ("BadEvent", Some(k)),
+        ReadFault::BadSatellite(k) => ("BadSatellite", Some(k)),
+        ReadFault::CutShort(k) => ("CutShort", Some(k)),
+        ReadFault::TooLong => ("TooLong", None),
+    }
+}
+
+/// Returns the name of a fault of a conversion.
+fn conversion_name(fault: Fault) -> &'static str
+    ensures name { result.now ≡ conversion_word fault }
+    ensures short { length result.now ≤ 20 }
+{
+    match fault {
+        Fault::Memory => "Memory",
+        Fault::BadSetup => "BadSetup",
+        Fault::TooLong => "TooLong",
+        Fault::Read => "Read",
+        Fault::Write => "Write",
+        Fault::Failed => "Failed",
+        Fault::Finished => "Finished",
+        Fault::NoEpoch => "NoEpoch",
+    }
+}
+
+/// Returns the name of a fault of the framer.
+fn scan_name(fault: ScanFault) -> &'static str
+    ensures name { result.now ≡ scan_word fault }
+    ensures short { length result.now ≤ 20 }
+{
+    match fault {
+        ScanFault::Memory => "Memory",
+        ScanFault::BadLimit => "BadLimit",
+        ScanFault::TooLong => "TooLong",
+        ScanFault::Ended => "Ended",
     }
 }
 
