@@ -66,10 +66,7 @@ pub fn setup_of(alloc: Global, options: &ArgMatches, start_week: u32) -> Result<
     requires { IsWeekSet (options_of options.now) start_week }
     ensures { MatchResult result (IsSetupOf (options_of options.now)) (HasSetupFault (options_of options.now)) }
 {
-    let texts = match HeaderTexts::new(&texts_of(options)) {
-        Ok(texts) => texts,
-        Err(fault) => return Err(ToolFault::Header(fault)),
-    };
+    let texts = HeaderTexts::new(&texts_of(options)).map_err(ToolFault::Header)?;
     let plan = Plan::parse(alloc, text(options, "gps"), text(options, "galileo")).map_err(
         ToolFault::Plan,
     )?;
@@ -134,14 +131,16 @@ pub fn station_of(options: &ArgMatches) -> Option<u16>
 pub fn values_of(options: &ArgMatches) -> Result<StationValues, ToolFault>
     ensures { result ≡ values_set (options_of options.now) }
 {
-    let (x, y, z) = position_of(text(options, "position")).ok_or(ToolFault::BadPosition)?;
-    let height = length_below(text(options, "antenna-height"), 1 << 16).ok_or(
-        ToolFault::BadHeight,
-    )?;
-    Ok(StationValues {
-        x,
-        y,
-        z,
-        height: height as u16,
-    })
+    let position = position_of(text(options, "position"));
+    let height = length_below(text(options, "antenna-height"), 1 << 16);
+    match (position, height) {
+        (None, _) => Err(ToolFault::BadPosition),
+        (Some(_), None) => Err(ToolFault::BadHeight),
+        (Some((x, y, z)), Some(height)) => Ok(StationValues {
+            x,
+            y,
+            z,
+            height: height as u16,
+        }),
+    }
 }

@@ -49,14 +49,21 @@ fn civil_in(text: &str, hour: u8) -> Option<Civil>
 {
     let (year, rest) = cut(text, '-')?;
     let (month, day) = cut(rest, '-')?;
-    Some(Civil {
-        year: fixed_number(year, 4)? as u16,
-        month: fixed_number(month, 2)? as u8,
-        day: fixed_number(day, 2)? as u8,
-        hour,
-        minute: 0,
-        millisecond: 0,
-    })
+    match (
+        fixed_number(year, 4),
+        fixed_number(month, 2),
+        fixed_number(day, 2),
+    ) {
+        (Some(year), Some(month), Some(day)) => Some(Civil {
+            year: year as u16,
+            month: month as u8,
+            day: day as u8,
+            hour,
+            minute: 0,
+            millisecond: 0,
+        }),
+        _ => None,
+    }
 }
 
 /// Parses a number of exactly `width` digits.
@@ -80,7 +87,10 @@ pub fn position_of(text: &str) -> Option<(i64, i64, i64)>
 {
     let (x, rest) = cut(text, ',')?;
     let (y, z) = cut(rest, ',')?;
-    Some((coordinate_of(x)?, coordinate_of(y)?, coordinate_of(z)?))
+    match (coordinate_of(x), coordinate_of(y), coordinate_of(z)) {
+        (Some(x), Some(y), Some(z)) => Some((x, y, z)),
+        _ => None,
+    }
 }
 
 /// Parses a length that fits 38 bits, with or without a minus sign, in units of 0.0001 m.
@@ -98,8 +108,10 @@ pub fn length_below(text: &str, bound: u64) -> Option<u64>
     ensures value { result ≡ length_below bound text.now }
     ensures below { IfSome result (λ n. n < bound) }
 {
-    let length = length_of(text)?;
-    (length < bound).then_some(length)
+    match length_of(text) {
+        Some(length) if length < bound => Some(length),
+        _ => None,
+    }
 }
 
 /// Parses a length of at most eight digits, a point and four decimals, in units of 0.0001 m.
@@ -107,7 +119,10 @@ fn length_of(text: &str) -> Option<u64>
     ensures { result ≡ length_of text.now }
 {
     let (whole, decimals) = cut(text, '.').unwrap_or((text, "0"));
-    Some(number_of(whole, 8)? * 10_000 + decimals_of(decimals)?)
+    match (number_of(whole, 8), decimals_of(decimals)) {
+        (Some(whole), Some(decimals)) => Some(whole * 10_000 + decimals),
+        _ => None,
+    }
 }
 
 /// Parses one to four decimals, in units of 0.0001.

@@ -1,13 +1,19 @@
-use Rattle.std.proofs.Common.{◌∙◌, ℕ, List, ap, codes, rules}
+use Rattle.std.proofs.Common.{◌≡◌, ◌∙◌, ℕ, List, Result, Ok, Err, IfOk, MatchResult, IsErrAnd, ap, codes, rules, subst}
+use Rattle.rinex_file.specs.Texts.{trimmed_texts}
 use Rattle.rtcm2rinex.proofs.OptionLemmas.{number_given}
 use Rattle.rtcm2rinex.proofs.Names.{not, bytes_eq, HasUnsignedDigitsIfOk, ExplainsUnsignedError, found_of}
 use Rattle.rtcm2rinex.proofs.options.setup_of.Goals as goal
+
+-- a value whose fault was wrapped
+wrapped : {T D E : Type 0} (Q : D → E → Type 0) (P : T → Type 0) (r : Result T D) (s : Result T E) (t : T) → IfOk r P → MatchResult r (λ x. s ≡ Ok x) (λ e. IsErrAnd s (Q e)) → s ≡ Ok t → P t
+wrapped Q P (Ok x) s t given is ok = subst P (let same : x ≡ t = cc in same) given
+wrapped Q P (Err e) s t given is ok = absurd (rw ok at is)
 
 pub returns : goal.returns
 returns c =
     let f = found_of c.args.options.now in
     record {
-      texts = search rules;
+      texts = wrapped _ _ c.new.result _ _ c.new.ensures.texts c.map_err.ensures.cases c.in_ok-texts.was ∙ ap trimmed_texts c.texts_of.ensures;
       plan = search rules;
       week = c.requires;
       station = c.station_of.ensures;
