@@ -1,46 +1,13 @@
 -- The lines of errors, on standard error. They agree with the manual page.
-use Rattle.std.specs.Prelude.{ℕ, List, [], ◌∷◌, Option, Some, None, codes, decimal}
-use Rattle.gnss_obs.specs.Satellites.{letter}
-use Rattle.gnss_obs.specs.declared.fault.PlanFault.{PlanFault}
-use Rattle.gnss_obs.specs.declared.fault.PlanFault.TheVariants as plans
-use Rattle.rtcm_scan.specs.declared.framer.ScanFault.{ScanFault}
-use Rattle.rtcm_scan.specs.declared.framer.ScanFault.TheVariants as scan
-use Rattle.rinex_file.specs.Texts.{field_name}
-use Rattle.rinex_file.specs.declared.header.fault.HeadFault.{HeadFault}
-use Rattle.rinex_file.specs.declared.header.fault.HeadFault.TheVariants as header
-use Rattle.rinex_file.specs.declared.read.fault.ReadFault.{ReadFault}
-use Rattle.rinex_file.specs.declared.read.fault.ReadFault.TheVariants as reading
+use Rattle.std.specs.Prelude.{ℕ, List, [], ◌∷◌, codes}
 use Rattle.rtcm_convert.specs.declared.fault.Fault.{Fault}
 use Rattle.rtcm_convert.specs.declared.fault.Fault.TheVariants as convert
+use Rattle.rtcm_inspect.specs.FaultWords.{header_words, inspection_words, plan_words}
 use Rattle.rtcm_inspect.specs.Lines.{line}
-use Rattle.rtcm_inspect.specs.declared.fault.InspectFault.{InspectFault}
-use Rattle.rtcm_inspect.specs.declared.fault.InspectFault.TheVariants as inspect
 use Rattle.rtcm2rinex.specs.declared.fault.DateOption.{DateOption}
 use Rattle.rtcm2rinex.specs.declared.fault.DateOption.TheVariants as dated
 use Rattle.rtcm2rinex.specs.declared.fault.ToolFault.{ToolFault}
 use Rattle.rtcm2rinex.specs.declared.fault.ToolFault.TheVariants as faults
-
--- a stream is too long, or memory ran out
-abbrev pub scan_word : ScanFault → List ℕ
-scan_word scan.Memory = codes "Memory"
-scan_word scan.BadLimit = codes "BadLimit"
-scan_word scan.TooLong = codes "TooLong"
-scan_word scan.Ended = codes "Ended"
-
--- a text of the header, by the name of its option
-abbrev pub header_words : HeadFault → List (List ℕ)
-header_words (header.TooLong field) = codes "TooLong" ∷ field_name field ∷ []
-header_words (header.NotPrintable field) = codes "NotPrintable" ∷ field_name field ∷ []
-header_words header.Write = codes "Write" ∷ []
-
--- a planned code, by the letter of its system and its place in the list, counted from 0
-abbrev pub plan_words : PlanFault → List (List ℕ)
-plan_words (plans.UnknownCode system place) = codes "UnknownCode" ∷ (letter system ∷ []) ∷ decimal place ∷ []
-plan_words (plans.RepeatedCode system place) = codes "RepeatedCode" ∷ (letter system ∷ []) ∷ decimal place ∷ []
-plan_words plans.NothingPlanned = codes "NothingPlanned" ∷ []
-plan_words plans.BadWeek = codes "BadWeek" ∷ []
-plan_words plans.BadStation = codes "BadStation" ∷ []
-plan_words plans.Memory = codes "Memory" ∷ []
 
 abbrev pub conversion_word : Fault → List ℕ
 conversion_word convert.Memory = codes "Memory"
@@ -51,31 +18,6 @@ conversion_word convert.Write = codes "Write"
 conversion_word convert.Failed = codes "Failed"
 conversion_word convert.Finished = codes "Finished"
 conversion_word convert.NoEpoch = codes "NoEpoch"
-
--- a name, and a number if there is one
-abbrev pub named : List ℕ → Option ℕ → List (List ℕ)
-named name None = name ∷ []
-named name (Some k) = name ∷ decimal k ∷ []
-
--- a line of a file, counted from 1
-abbrev pub file_words : ReadFault → List (List ℕ)
-file_words reading.Memory = codes "Memory" ∷ []
-file_words reading.Read = codes "Read" ∷ []
-file_words (reading.BadHeader k) = codes "BadHeader" ∷ decimal k ∷ []
-file_words (reading.BadEpoch k) = codes "BadEpoch" ∷ decimal k ∷ []
-file_words (reading.BadEvent k) = codes "BadEvent" ∷ decimal k ∷ []
-file_words (reading.BadSatellite k) = codes "BadSatellite" ∷ decimal k ∷ []
-file_words (reading.CutShort k) = codes "CutShort" ∷ decimal k ∷ []
-file_words reading.TooLong = codes "TooLong" ∷ []
-
--- a command other than `convert`
-abbrev pub inspection_words : InspectFault → List (List ℕ)
-inspection_words inspect.Read = codes "Read" ∷ []
-inspection_words inspect.Write = codes "Write" ∷ []
-inspection_words (inspect.Scan e) = scan_word e ∷ []
-inspection_words (inspect.Check e) = file_words e
-inspection_words (inspect.SeveralStations a b) = codes "SeveralStations" ∷ decimal a ∷ decimal b ∷ []
-inspection_words inspect.NoSignal = codes "NoSignal" ∷ []
 
 -- an option with a date, and the forms that it accepts
 abbrev pub date_words : DateOption → List (List ℕ)

@@ -1,4 +1,5 @@
 pub mod Lines
+pub mod FaultWords
 pub mod Metres
 pub mod FrameLines
 pub mod ShowLines

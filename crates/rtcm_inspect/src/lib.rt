@@ -6,6 +6,7 @@
 mod check;
 mod counting;
 mod fault;
+mod fault_words;
 mod first_messages;
 pub mod laws;
 mod line;
@@ -17,6 +18,7 @@ mod times;
 
 pub use check::{run_check, run_check_times};
 pub use fault::InspectFault;
+pub use fault_words::{add_header_error, add_inspection_error, add_plan_error};
 pub use line::{OutputLine, print_line, print_text};
 pub use listing::{Listing, list, run_frames, run_show};
 pub use option_texts::{hour_of, length_below, position_of, week_of};

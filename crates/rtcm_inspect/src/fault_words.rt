@@ -1,0 +1,126 @@
+//! The names of faults, and what they carry, as words of a line.
+ghost use Rattle.std.specs.Prelude.{◌≡◌, ◌+◌, ◌≤◌, [], ◌∷◌, decimal, length};
+ghost use Rattle.gnss_obs.specs.Satellites.{letter};
+ghost use Rattle.rinex_file.specs.Texts.{field_name};
+ghost use Rattle.rtcm_inspect.specs.FaultWords.{file_words, header_words, inspection_words, named, plan_words, scan_word};
+ghost use Rattle.rtcm_inspect.specs.Lines.{with_words};
+
+use crate::fault::InspectFault;
+use crate::line::OutputLine;
+use gnss_obs::{PlanFault, System};
+use rinex_file::{HeadFault, HeaderField, ReadFault};
+use rtcm_scan::ScanFault;
+
+/// Adds the fault of an inspection, with the numbers of the stations, if any.
+pub fn add_inspection_error(line: &mut OutputLine, fault: InspectFault)
+    requires { length line.old ≤ 100 }
+    ensures text { line.new ≡ with_words line.old (inspection_words fault) }
+    ensures short { length line.new ≤ length line.old + 120 }
+{
+    match fault {
+        InspectFault::Read => line.add_word("Read"),
+        InspectFault::Write => line.add_word("Write"),
+        InspectFault::Scan(fault) => line.add_word(scan_name(fault)),
+        InspectFault::Check(fault) => add_file_error(line, fault),
+        InspectFault::SeveralStations(first, other) => {
+            line.add_count("SeveralStations", u64::from(first));
+            line.add_number(u64::from(other));
+        }
+        InspectFault::NoSignal => line.add_word("NoSignal"),
+    }
+}
+
+/// Adds a fault of the texts of the header, with the name of the text.
+pub fn add_header_error(line: &mut OutputLine, fault: HeadFault)
+    requires { length line.old ≤ 100 }
+    ensures text { line.new ≡ with_words line.old (header_words fault) }
+    ensures short { length line.new ≤ length line.old + 120 }
+{
+    match fault {
+        HeadFault::TooLong(field) => add_field(line, "TooLong", field),
+        HeadFault::NotPrintable(field) => add_field(line, "NotPrintable", field),
+        HeadFault::Write => line.add_word("Write"),
+    }
+}
+
+/// Adds a fault of the plan, with the letter of the system and the place of the code.
+pub fn add_plan_error(line: &mut OutputLine, fault: PlanFault)
+    requires { length line.old ≤ 100 }
+    ensures text { line.new ≡ with_words line.old (plan_words fault) }
+    ensures short { length line.new ≤ length line.old + 120 }
+{
+    match fault {
+        PlanFault::UnknownCode(system, place) => add_code(line, "UnknownCode", system, place),
+        PlanFault::RepeatedCode(system, place) => add_code(line, "RepeatedCode", system, place),
+        PlanFault::NothingPlanned => line.add_word("NothingPlanned"),
+        PlanFault::BadWeek => line.add_word("BadWeek"),
+        PlanFault::BadStation => line.add_word("BadStation"),
+        PlanFault::Memory => line.add_word("Memory"),
+    }
+}
+
+/// Adds a fault of a file, with the number of the line.
+fn add_file_error(line: &mut OutputLine, fault: ReadFault)
+    requires { length line.old ≤ 100 }
+    ensures text { line.new ≡ with_words line.old (file_words fault) }
+    ensures short { length line.new ≤ length line.old + 120 }
+{
+    let (name, number) = file_name(fault);
+    line.add_word(name);
+    if let Some(number) = number {
+        line.add_number(number);
+    }
+}
+
+/// Returns the name of a fault of a file, and the number of the line.
+fn file_name(fault: ReadFault) -> (&'static str, Option<u64>)
+    ensures words { file_words fault ≡ named result.0.now result.1 }
+    ensures short { length result.0.now ≤ 20 }
+{
+    match fault {
+        ReadFault::Memory => ("Memory", None),
+        ReadFault::Read => ("Read", None),
+        ReadFault::BadHeader(k) => ("BadHeader", Some(k)),
+        ReadFault::BadEpoch(k) => ("BadEpoch", Some(k)),
+        ReadFault::BadEvent(k) => ("BadEvent", Some(k)),
+        ReadFault::BadSatellite(k) => ("BadSatellite", Some(k)),
+        ReadFault::CutShort(k) => ("CutShort", Some(k)),
+        ReadFault::TooLong => ("TooLong", None),
+    }
+}
+
+/// Returns the name of a fault of the framer.
+fn scan_name(fault: ScanFault) -> &'static str
+    ensures name { result.now ≡ scan_word fault }
+    ensures short { length result.now ≤ 20 }
+{
+    match fault {
+        ScanFault::Memory => "Memory",
+        ScanFault::BadLimit => "BadLimit",
+        ScanFault::TooLong => "TooLong",
+        ScanFault::Ended => "Ended",
+    }
+}
+
+/// Adds a name and that of a text of the header.
+fn add_field(line: &mut OutputLine, name: &str, field: HeaderField)
+    requires room { length line.old ≤ 100 }
+    requires short { length name.now ≤ 20 }
+    ensures text { line.new ≡ with_words line.old (name.now ∷ field_name field ∷ []) }
+    ensures short { length line.new ≤ length line.old + 60 }
+{
+    line.add_word(name);
+    line.add_word(field.name());
+}
+
+/// Adds a name, the letter of a system and a place.
+fn add_code(line: &mut OutputLine, name: &str, system: System, place: usize)
+    requires room { length line.old ≤ 100 }
+    requires short { length name.now ≤ 20 }
+    ensures text { line.new ≡ with_words line.old (name.now ∷ (letter system ∷ []) ∷ decimal place ∷ []) }
+    ensures short { length line.new ≤ length line.old + 60 }
+{
+    line.add_word(name);
+    line.add_part(b' ', &[system.letter()]);
+    line.add_number(place as u64);
+}
