@@ -1,7 +1,7 @@
 -- The meaning of the exit status.
 use Rattle.std.proofs.Common.{◌≡◌, ◌∙◌, inl, inr, refl, sym, subst, codes, ap, ap₂, option_map, ℕ, List, Option, Some, None, Result, Ok, Err, arith}
 use Rattle.rtcm2rinex.proofs.CommandLineLemmas.{is_version}
-use Rattle.rtcm2rinex.proofs.Names.{⊤, ◌≢◌, ◌⊎◌, box_value, option_map_or, Box, found_of, subcommand_name_of, subcommand_rows, subcommand_rows_of, Row, Text, one_of, rows_of, out-ArgMatches, out-SubCommand, SubCommand, kind_of, Error, ArgMatches, Device, SelectsCommand, IsFoundIn, RefusesWords, EndsOptionsAsked, PrintsOptionsAsked, RefusesDate, StopsOptionsAsked, EndsOptions, PrintsOptions, StopsOptions, AreRefused, AreRefusedBy, EndsCommand, EndsFound, HasCommand, HasCompleted, HasDone, HasPrinted, HasStopped, HasStoppedEarly, HasStoppedPrinting, StopsPrinting, fault_status, status_of, error_line, PrintsLine, PrintsFault, IsNearRefused, IsNearSet, IsNumberOf, IsUntouched, InspectFault, Ends, IsInspected, of_inspection, ToolFault}
+use Rattle.rtcm2rinex.proofs.Names.{⊤, ◌≢◌, ◌⊎◌, IsCommand, box_value, option_map_or, Box, found_of, subcommand_name_of, subcommand_rows, subcommand_rows_of, Row, Text, one_of, rows_of, out-ArgMatches, out-SubCommand, SubCommand, kind_of, Error, ArgMatches, Device, SelectsCommand, IsFoundIn, RefusesWords, EndsOptionsAsked, PrintsOptionsAsked, RefusesDate, StopsOptionsAsked, EndsOptions, PrintsOptions, StopsOptions, AreRefused, AreRefusedBy, EndsCommand, EndsFound, HasCommand, HasCompleted, HasDone, HasPrinted, HasStopped, HasStoppedEarly, HasStoppedPrinting, StopsPrinting, fault_status, status_of, error_line, PrintsLine, PrintsFault, IsNearRefused, IsNearSet, IsNumberOf, IsUntouched, InspectFault, Ends, IsInspected, of_inspection, ToolFault}
 use Rattle.clap.specs.declared.error.kind.ErrorKind.TheVariants as kind
 use Rattle.rtcm_inspect.specs.Devices as devices
 use Rattle.rtcm2rinex.specs.declared.fault.ToolFault.TheVariants as faults
@@ -47,6 +47,20 @@ sub_found (Some b) n o e f =
     let p : n ≡ (out-SubCommand (box_value b)).name.now = ap (λ (x : Option Text). option_map_or (λ y. y) x n) e in
     let q : o ≡ rows_of (found_of (out-SubCommand (box_value b)).matches) = ap (λ (x : Option (List Row)). option_map_or (λ y. y) x o) f in
     sym (ap₂ (λ (x : Text) (y : List Row). Some (x, y)) p q)
+
+only_check : (n : Text) → IsCommand n → (n ≢ codes "frames") → (n ≢ codes "show") → (n ≢ codes "signals") → (n ≢ codes "options") → (n ≢ codes "convert") → n ≡ codes "check"
+only_check n (inl e) f s g p v = absurd (f e)
+only_check n (inr (inl e)) f s g p v = absurd (s e)
+only_check n (inr (inr (inl e))) f s g p v = absurd (g e)
+only_check n (inr (inr (inr (inl e)))) f s g p v = absurd (p e)
+only_check n (inr (inr (inr (inr (inl e))))) f s g p v = absurd (v e)
+only_check n (inr (inr (inr (inr (inr e))))) f s g p v = e
+
+-- the command that was found, if it isn't one of the others
+pub is_check : (m : ArgMatches) (n : Text) (o : List Row) → HasCommand m → Some n ≡ subcommand_name_of m → Some o ≡ option_map (λ p. p.1) (subcommand_rows (out-ArgMatches m).subcommand)
+    → (n ≢ codes "frames") → (n ≢ codes "show") → (n ≢ codes "signals") → (n ≢ codes "options") → (n ≢ codes "convert") → n ≡ codes "check"
+is_check m n o (name, options, one, found) is rows =
+    only_check n (subst IsCommand (ap (λ (x : Option (Text × List Row)). option_map_or (λ p. p.0) x n) (sym found ∙ sub_found (out-ArgMatches m).subcommand n o is rows)) one)
 
 -- how the command that was found ended
 pub ends_found : {A R W E : Type 0} (ended : Result A ToolFault) (left : R → Option (List ℕ)) (held : W → Option (List ℕ)) (waits : W → List ℕ) (told : E → Option (List ℕ)) (r r2 : Device R) (w w2 : Device W) (e e2 : Device E) (m : ArgMatches) (n : Text) (o : List Row)

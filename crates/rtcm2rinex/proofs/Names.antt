@@ -27,7 +27,7 @@ pub use Rattle.gnss_obs.specs.Values.{no_values}
 pub use Rattle.gnss_obs.specs.declared.cell.StationValues.{StationValues}
 pub use Rattle.rtcm2rinex.specs.Asked.{EndsCheck, EndsOptionsAsked, PrintsOptionsAsked, RefusesDate, StopsOptionsAsked}
 pub use Rattle.rtcm2rinex.specs.CommandLine.{FailsParsing, IsCommand, IsFoundIn, IsProgram, Makes, RefusesWords, SelectsCommand, command_set, more_of, option_set, program, start_of, with_commands, with_options}
-pub use Rattle.rtcm2rinex.specs.Commands.{AreRefused, AreRefusedBy, EndsCommand, EndsFound, HasCommand, HasCompleted, HasDone, HasPrinted, HasStopped, HasStoppedEarly, HasStoppedPrinting, StopsPrinting, fault_status, name_of, status_of}
+pub use Rattle.rtcm2rinex.specs.Commands.{AreRefused, AreRefusedBy, EndsCommand, EndsFound, HasCommand, HasCompleted, HasDone, HasPrinted, HasStopped, HasStoppedEarly, HasStoppedPrinting, StopsPrinting, fault_status, status_of}
 pub use Rattle.rtcm2rinex.specs.Converting.{EndsConversion, EndsConverting, StopsConversion, StopsConverting}
 pub use Rattle.rtcm_inspect.specs.Dates.{IsHourOf, IsWeekOf}
 pub use Rattle.rtcm2rinex.specs.Devices.{Ends, HaveFailedBy, IsInspected, of_inspection}

@@ -26,8 +26,6 @@ use Rattle.rtcm_inspect.specs.declared.fault.InspectFault.TheVariants as inspect
 use Rattle.rtcm2rinex.specs.declared.fault.ToolFault.{ToolFault}
 use Rattle.rtcm2rinex.specs.declared.fault.ToolFault.TheVariants as faults
 use Rattle.rtcm2rinex.specs.declared.cli.TheConstants.{VERSION}
-use Rattle.rtcm2rinex.specs.declared.command.Asked.{Asked}
-use Rattle.rtcm2rinex.specs.declared.command.Asked.TheVariants as asked
 
 -- A command other than `convert` completed with these options: the stream was read to its end and listed, its signals
 -- or options were printed, or a file was read back.
@@ -73,15 +71,6 @@ abbrev pub EndsCommand : {A R W E : Type 0} → Result A ToolFault → (R → Op
 EndsCommand result left r r' held waits w w' told e e' name options =
     Ends result r r' waits w w' (λ _. HasDone left r r' held w w' told e e' name options)
     (λ fault. HasStopped left r r' held waits w w' name options fault × (e' ≡ e))
-
--- the name of a command
-abbrev pub name_of : Asked → Text
-name_of asked.Frames = codes "frames"
-name_of asked.Show = codes "show"
-name_of asked.Signals = codes "signals"
-name_of asked.Options = codes "options"
-name_of asked.Convert = codes "convert"
-name_of asked.Check = codes "check"
 
 -- a command of the program was found in words
 abbrev pub HasCommand : ArgMatches → Type 0

@@ -7,9 +7,8 @@ ghost use Rattle.clap.specs.Walk.{texts};
 ghost use Rattle.rtcm_convert.specs.Faults.{IsUntouched};
 ghost use Rattle.clap.specs.Values.{kind_of};
 ghost use Rattle.clap.specs.declared.error.kind.ErrorKind.TheVariants.{DisplayVersion, OutOfMemory};
-ghost use Rattle.rtcm2rinex.specs.CommandLine.{IsCommand};
-ghost use Rattle.rtcm2rinex.specs.Asked.{EndsCheck, EndsOptionsAsked};
-ghost use Rattle.rtcm2rinex.specs.Commands.{AreRefused, EndsFound, HasCommand, name_of};
+ghost use Rattle.rtcm2rinex.specs.Asked.{EndsOptionsAsked};
+ghost use Rattle.rtcm2rinex.specs.Commands.{AreRefused, EndsFound, HasCommand};
 ghost use Rattle.rtcm2rinex.specs.Commands.{HasStoppedEarly, HasCompleted, StopsPrinting, status_of};
 ghost use Rattle.rtcm2rinex.specs.Devices.{of_inspection};
 ghost use Rattle.rtcm2rinex.specs.ErrorLines.{error_line, not_text_line};
@@ -17,7 +16,7 @@ ghost use Rattle.rtcm_inspect.specs.Printing.{PrintsLine, PrintsText};
 ghost use Rattle.rtcm2rinex.specs.Printing.{PrintsFault};
 ghost use Rattle.rtcm2rinex.specs.declared.cli.TheConstants.{VERSION};
 ghost use Rattle.rtcm2rinex.specs.Converting.{EndsConverting};
-ghost use Rattle.rtcm2rinex.specs.SetupOptions.{has_times, options_of};
+ghost use Rattle.rtcm2rinex.specs.SetupOptions.{options_of};
 
 use crate::cli::{VERSION, parse};
 use crate::convert::{report_line, run_convert_with};
@@ -77,32 +76,6 @@ pub fn command<R: Read, W: Deliver, E: Deliver>(
     }
 }
 
-/// A command of the program.
-#[derive(Clone, Copy)]
-enum Asked {
-    Frames,
-    Show,
-    Signals,
-    Options,
-    Convert,
-    Check,
-}
-
-/// Returns the command of this name.
-fn command_of(name: &str) -> Asked
-    requires { IsCommand name.now }
-    ensures { name.now ≡ name_of result }
-{
-    match name {
-        "frames" => Asked::Frames,
-        "show" => Asked::Show,
-        "signals" => Asked::Signals,
-        "options" => Asked::Options,
-        "convert" => Asked::Convert,
-        _ => Asked::Check,
-    }
-}
-
 /// Runs the command that was found in the words.
 fn run<R: Read, W: Deliver, E: Write>(
     alloc: Global,
@@ -118,13 +91,14 @@ fn run<R: Read, W: Deliver, E: Write>(
     let Some((name, options)) = matches.subcommand() else {
         unreachable!()
     };
-    match command_of(name) {
-        Asked::Frames => of_inspection(run_frames(alloc, reader, writer)),
-        Asked::Show => of_inspection(run_show(alloc, reader, writer)),
-        Asked::Signals => of_inspection(run_signals(alloc, station_of(options), reader, writer)),
-        Asked::Options => print_options(alloc, options, reader, writer),
-        Asked::Convert => convert(alloc, options, reader, writer, faults),
-        Asked::Check => of_inspection(check(alloc, options, reader, writer)),
+    match name {
+        "frames" => of_inspection(run_frames(alloc, reader, writer)),
+        "show" => of_inspection(run_show(alloc, reader, writer)),
+        "signals" => of_inspection(run_signals(alloc, station_of(options), reader, writer)),
+        "options" => print_options(alloc, options, reader, writer),
+        "convert" => convert(alloc, options, reader, writer, faults),
+        _ if has_times(options) => of_inspection(run_check_times(alloc, reader, writer)),
+        _ => of_inspection(run_check(alloc, reader, writer)),
     }
 }
 
@@ -147,23 +121,6 @@ fn print_options<R: Read, W: Deliver>(
 {
     let near = near_of(options)?;
     of_inspection(run_options(alloc, station_of(options), near, reader, writer))
-}
-
-/// Reads a file back, and prints its counts and, if they are asked for, its times.
-fn check<R: Read, W: Deliver>(
-    alloc: Global,
-    options: &ArgMatches,
-    reader: &mut Counted<R>,
-    writer: &mut Counted<W>,
-) -> Result<(), InspectFault>
-    ensures { EndsCheck result (has_times (options_of options.now)) R.remaining reader.old reader.new
-        W.contents W.waiting writer.old writer.new }
-{
-    if has_times(options) {
-        run_check_times(alloc, reader, writer)
-    } else {
-        run_check(alloc, reader, writer)
-    }
 }
 
 /// Converts the stream as the options ask, and prints the report. A failure of its writer is
