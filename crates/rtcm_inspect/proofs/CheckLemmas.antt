@@ -14,23 +14,12 @@ where_known P Q (Some input) step h = step input h
 pub refused : (IsOutput : FileValue → List ℕ → Type 0) (v : FileValue) (e : ReadFault) (w w' : Option (List ℕ)) → IsNoFault e → IsCheckedOr IsOutput v (Err (faults.Check e)) w w'
 refused IsOutput v Memory w w' h = tt
 refused IsOutput v Read w w' h = tt
-refused IsOutput v (BadHeader k) w w' h = absurd h
-refused IsOutput v (BadEpoch k) w w' h = absurd h
-refused IsOutput v (BadEvent k) w w' h = absurd h
-refused IsOutput v (BadSatellite k) w w' h = absurd h
-refused IsOutput v (CutShort k) w w' h = absurd h
-refused IsOutput v TooLong w w' h = absurd h
+refused IsOutput v other w w' h = absurd h
 
 -- the reader failed only at `Read`
 pub read_failures : (e : ReadFault) (before after : ℕ) → (e ≡ Read → HasFailed before after) → ((e ≡ Read → ⊥) → after ≡ before) → ReadFailures (faults.Check e) before after
-read_failures Memory before after failed same = same (λ e. cc)
 read_failures Read before after failed same = failed refl
-read_failures (BadHeader k) before after failed same = same (λ e. cc)
-read_failures (BadEpoch k) before after failed same = same (λ e. cc)
-read_failures (BadEvent k) before after failed same = same (λ e. cc)
-read_failures (BadSatellite k) before after failed same = same (λ e. cc)
-read_failures (CutShort k) before after failed same = same (λ e. cc)
-read_failures TooLong before after failed same = same (λ e. cc)
+read_failures other before after failed same = same (λ e. cc)
 
 abbrev count_words : (epochs satellites events : ℕ) → List (List ℕ)
 count_words epochs satellites events = decimal epochs ∷ codes "satellites" ∷ decimal satellites ∷ codes "events" ∷ decimal events ∷ []
