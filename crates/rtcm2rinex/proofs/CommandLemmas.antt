@@ -19,11 +19,7 @@ never_zero : (fault : ToolFault) → fault_status fault ≡ 0 → ⊥
 never_zero (faults.BadDate o) e = two_zero e
 never_zero faults.BadPosition e = two_zero e
 never_zero faults.BadHeight e = two_zero e
-never_zero faults.Memory e = one_zero e
-never_zero (faults.Header f) e = one_zero e
-never_zero (faults.Plan f) e = one_zero e
-never_zero (faults.Convert f) e = one_zero e
-never_zero (faults.Inspect f) e = one_zero e
+never_zero other e = one_zero e
 
 -- the end of a command in other terms
 pub ends_so : {A R W : Type 0} (ended : Result A ToolFault) (r r2 : Device R) (waits : W → List ℕ) (w w2 : Device W) (P Q : A → Type 0) (S T : ToolFault → Type 0)

@@ -70,12 +70,7 @@ module _ {R W : Type 0} (left : R → Option (List ℕ)) (held : W → Option (L
   pub setup_refused : (n : ℕ) → IsWeekSet options n → (e : ToolFault) (v : StationValues) → values_set options ≡ Ok v → HasSetupFault options e → Refuses e
   setup_refused n week (faults.Header f) v is h = ((refl, refl), inl (refused_first n week (Ok v) (faults.Header f) is h, (refl, refl)))
   setup_refused n week (faults.Plan f) v is h = ((refl, refl), inl (refused_first n week (Ok v) (faults.Plan f) is h, (refl, refl)))
-  setup_refused n week faults.Memory v is h = absurd h
-  setup_refused n week (faults.Inspect f) v is h = absurd h
-  setup_refused n week (faults.BadDate o) v is h = absurd h
-  setup_refused n week faults.BadPosition v is h = absurd h
-  setup_refused n week faults.BadHeight v is h = absurd h
-  setup_refused n week (faults.Convert f) v is h = absurd h
+  setup_refused n week other v is h = absurd h
 
 -- 0 is a coordinate and a height
 zero_values : AreStationValues no_values

@@ -11,7 +11,8 @@ use gnss_obs::{PlanFault, System};
 use rinex_file::{HeadFault, HeaderField, ReadFault};
 use rtcm_scan::ScanFault;
 
-/// Adds the fault of an inspection, with the numbers of the stations, if any.
+/// Adds the fault of an inspection, with the number of the line or the numbers of the stations, if
+/// any.
 pub fn add_inspection_error(line: &mut OutputLine, fault: InspectFault)
     requires { length line.old ≤ 100 }
     ensures text { line.new ≡ with_words line.old (inspection_words fault) }
@@ -21,7 +22,13 @@ pub fn add_inspection_error(line: &mut OutputLine, fault: InspectFault)
         InspectFault::Read => line.add_word("Read"),
         InspectFault::Write => line.add_word("Write"),
         InspectFault::Scan(fault) => line.add_word(scan_name(fault)),
-        InspectFault::Check(fault) => add_file_error(line, fault),
+        InspectFault::Check(fault) => {
+            let (name, number) = file_name(fault);
+            line.add_word(name);
+            if let Some(number) = number {
+                line.add_number(number);
+            }
+        }
         InspectFault::SeveralStations(first, other) => {
             line.add_count("SeveralStations", u64::from(first));
             line.add_number(u64::from(other));
@@ -56,19 +63,6 @@ pub fn add_plan_error(line: &mut OutputLine, fault: PlanFault)
         PlanFault::BadWeek => line.add_word("BadWeek"),
         PlanFault::BadStation => line.add_word("BadStation"),
         PlanFault::Memory => line.add_word("Memory"),
-    }
-}
-
-/// Adds a fault of a file, with the number of the line.
-fn add_file_error(line: &mut OutputLine, fault: ReadFault)
-    requires { length line.old ≤ 100 }
-    ensures text { line.new ≡ with_words line.old (file_words fault) }
-    ensures short { length line.new ≤ length line.old + 120 }
-{
-    let (name, number) = file_name(fault);
-    line.add_word(name);
-    if let Some(number) = number {
-        line.add_number(number);
     }
 }
 
