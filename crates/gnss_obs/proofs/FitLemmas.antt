@@ -1,14 +1,9 @@
 -- Signals that fit a plan, and those that don't.
-use Rattle.std.proofs.Common.{◌≡◌, ℕ, suc, zero, ◌<◌, ◌==◌, ◌||◌, Bool, true, false, List, [], ◌∷◌, ◌++◌, length, take, drop, get_or, All, nat_eq, refl, sym, ap, ap₂, ◌∙◌, subst, arith, ◌⊎◌, inl, inr}
+use Rattle.std.proofs.Common.{◌≡◌, ℕ, suc, ◌<◌, ◌==◌, ◌||◌, false, List, [], ◌∷◌, ◌++◌, length, take, drop, get_or, All, nat_eq, refl, sym, true≢false, ap, ap₂, ◌∙◌, subst, arith, ◌⊎◌, inl, inr}
+use Rattle.std.proofs.Math.Seq.{split_at}
 use Rattle.std.proofs.lemmas.Map.Keys.{apart_from_distinct, IsDistinct-tail}
 use Rattle.std.proofs.lemmas.List.Elements.{All-head, All-tail}
 use Rattle.gnss_obs.specs.Names.{System, SignalAt, IsSignal, PlanFault, UnknownCode, RepeatedCode, NothingPlanned, BadWeek, BadStation, Memory, indices, IsOf, IsUnfitAfter, IsUnfit, list_any, IsDistinct}
-
--- An index splits a list of signals.
-pub parted : (ss : List SignalAt) (k : ℕ) (s : SignalAt) → k < length ss → s ≡ get_or ss k s → ss ≡ take k ss ++ s ∷ drop (suc k) ss
-parted [] k s less is = absurd (omega (arith, less))
-parted (x ∷ ss) zero s less is = ap (λ y. y ∷ ss) (sym is)
-parted (x ∷ ss) (suc k) s less is = ap (λ l. x ∷ l) (parted ss k s (omega (arith, less)) is)
 
 -- The first signal that doesn't fit.
 pub unfit_at : (system : System) (ss before : List SignalAt) (k : ℕ) (s : SignalAt) (fault : PlanFault) → k < length ss → s ≡ get_or ss k s → before ≡ take k ss
@@ -18,7 +13,7 @@ unfit_at system ss before k s fault less is taken fits (inr u) = inr (record {
   before = take k ss;
   signal = s;
   rest = drop (suc k) ss;
-  split = parted ss k s less is;
+  split = split_at ss k s less ∙ ap (λ r. take k ss ++ r ∷ drop (suc k) ss) (sym is);
   fits = fits;
   unfit = subst (λ (l : List SignalAt). IsUnfitAfter system l s fault) taken u;
 })
@@ -48,12 +43,9 @@ of_system : (system : System) (before rest : List SignalAt) (s : SignalAt) → A
 of_system system [] rest s h = (All-head (λ (r : SignalAt). (r.system ≡ system) × IsSignal r) s rest h).0
 of_system system (x ∷ before) rest s h = of_system system before rest s (All-tail (λ (r : SignalAt). (r.system ≡ system) × IsSignal r) x (before ++ s ∷ rest) h)
 
-not_both : (b : Bool) → b ≡ true → b ≡ false → ⊥
-not_both b h k = grind (arith, h, k)
-
 by_fault : (system : System) (before rest : List SignalAt) (s : SignalAt) (fault : PlanFault) → IsUnfitAfter system before s fault → IsOf system (before ++ s ∷ rest) → ⊥
 by_fault system before rest s (UnknownCode named place) u is = u.2 (of_system system before rest s is.each)
-by_fault system before rest s (RepeatedCode named place) u is = not_both _ u.3 (not_before before rest s is.apart)
+by_fault system before rest s (RepeatedCode named place) u is = true≢false (sym u.3 ∙ not_before before rest s is.apart)
 by_fault system before rest s NothingPlanned u is = u
 by_fault system before rest s BadWeek u is = u
 by_fault system before rest s BadStation u is = u

@@ -108,18 +108,12 @@ below_found planned k cells first at x few rise less is number b = (
 abbrev Gap : List ℕ → ℕ → ℕ → Cell → Type 0
 Gap planned k n c = k ≤ cell_number planned c → n ≤ cell_number planned c
 
-skip : (planned : List ℕ) (k n : ℕ) (cells : List Cell) → All (Gap planned k n) cells → All (IsFrom planned k) cells → All (IsFrom planned n) cells
-skip planned k n [] none later = All-nil (IsFrom planned n)
-skip planned k n (c ∷ cells) none later =
-    All-cons (IsFrom planned n) c cells (All-head (Gap planned k n) c cells none (All-head (IsFrom planned k) c cells later))
-    (skip planned k n cells (All-tail (Gap planned k n) c cells none) (All-tail (IsFrom planned k) c cells later))
-
 below_skip : (planned : List ℕ) (k n : ℕ) (cells first : List Cell) → k ≤ n → All (Gap planned k n) cells → AreBelow planned k cells first → AreBelow planned n cells first
 below_skip planned k n cells first le none b = record {
   rest = b.rest;
   split = b.split;
   earlier = All-weaker (λ c. cell_number planned c < k) (λ c. cell_number planned c < n) (λ c lower. omega (arith, lower, le)) first b.earlier;
-  later = skip planned k n b.rest (rest_of (Gap planned k n) first b.rest (subst (All (Gap planned k n)) b.split (to_sorted (Gap planned k n) planned cells none))) b.later;
+  later = λ i d less. rest_of (Gap planned k n) first b.rest (subst (All (Gap planned k n)) b.split (to_sorted (Gap planned k n) planned cells none)) i d less (b.later i d less);
 }
 
 -- ---- cells of a system and a plan
@@ -377,9 +371,4 @@ slots_rise bound top planned (c ∷ cells) r all s =
 pub slots_sorted : (system : System) (planned : List ℕ) (cells : List Cell) → AreHeld system cells → AreInPlanOrder system planned (sorted_cells planned cells) → Rise planned → Rise (map slot cells)
     → sorted_cells planned cells ≡ cells
 slots_sorted system planned cells held order r s =
-    sorted_same planned cells (slots_rise r.0 s.0 planned cells r.1 (both cells held.each (planned_cells system planned cells order)) s.1) where
-      both : (cells : List Cell) → All (IsHeld system) cells → All (IsPlanned planned) cells → All (IsPlannedCell planned) cells
-      both [] h k = All-nil (IsPlannedCell planned)
-      both (c ∷ cells) h k =
-          All-cons (IsPlannedCell planned) c cells (All-head (IsPlanned planned) c cells k, low_index c.signal (All-head (IsHeld system) c cells h).place)
-          (both cells (All-tail (IsHeld system) c cells h) (All-tail (IsPlanned planned) c cells k))
+    sorted_same planned cells (slots_rise r.0 s.0 planned cells r.1 (λ i d less. (planned_cells system planned cells order i d less, low_index (get_or cells i d).signal (held.each i d less).place)) s.1)

@@ -69,14 +69,6 @@ unfolding is_row
 same_row n None row h other = absurd (grind (arith, h, other))
 same_row n (Some i) row h other = (ap Some (is_equal row i (both_second (nat_lt i n) (row == i) h)), rw (is_equal row i (both_second (nat_lt i n) (row == i) h)) (is_less i n (both_first (nat_lt i n) (row == i) h)))
 
-no_row : (n : ℕ) (o : Option ℕ) (row : ℕ) → is_row n o row ≡ true → row ≡ 255 → n ≤ 255 → o ≡ None
-unfolding is_row
-no_row n None row h none few = refl
-no_row n (Some i) row h none few =
-    let less = is_less i n (both_first (nat_lt i n) (row == i) h) in
-    let same = is_equal row i (both_second (nat_lt i n) (row == i) h) in
-    absurd (omega (arith, less, same, none, few))
-
 -- the row at an ID
 read_at : (xs : List ℕ) (id : ℕ) (o : Option (Bor ℕ)) → is_some o ≡ nat_lt id (length xs) → IfSome o (λ x. x.now ≡ slice_index_or xs id x.now)
     → unwrap_or (option_copied o) 255 ≡ unwrap_or (slice_get xs id) 255
