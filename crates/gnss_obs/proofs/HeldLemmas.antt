@@ -1,8 +1,9 @@
 -- Kept cells of a system as they arrive.
-use Rattle.std.proofs.Common.{◌≡◌, ℕ, ◌+◌, ◌*◌, ◌<◌, ◌==◌, ◌&&◌, ◌||◌, List, [], ◌∷◌, map, refl, sym, ap, ap₂, ◌∙◌, subst, arith, length, All}
-use Rattle.std.proofs.lemmas.List.Elements.{All-head, All-tail}
+use Rattle.std.proofs.Common.{◌≡◌, ℕ, ◌+◌, ◌*◌, ◌<◌, ◌==◌, ◌&&◌, ◌||◌, List, [], ◌∷◌, map, refl, sym, ap, ap₂, ◌∙◌, subst, arith, rules, length, All}
+use Rattle.std.proofs.lemmas.List.Elements.{All-head, All-push, All-tail}
 use Rattle.std.proofs.lemmas.List.Sorted.{All-permutation, length_permutation}
 use Rattle.gnss_obs.proofs.OrderLemmas.{sort_moves}
+use Rattle.gnss_obs.specs.declared.arrivals.Added.TheVariants.{Kept}
 use Rattle.gnss_obs.specs.Names.{System, Gps, Galileo, Cell, Added, Satellite, SignalAt, IsSignal, AreHeld, EpochValue, IsHeld, cells_of, IsObserved, heard_cell, same_key, cell_sort_key, is_held, AddsCell, IsAdded, slot, has_slot, sorted_cells, outcome_by, cells_after, epoch_with}
 use Rattle.std.proofs.lemmas.Grind.{common_steps}
 
@@ -38,10 +39,18 @@ held_slot system x is listed (c ∷ cells) all =
     (sym (same_is system x.satellite c.satellite x.signal c.signal is one.satellite ∙ slots_same x.satellite.id c.satellite.id x.signal.index c.signal.index (low_index x.signal listed) (low_index c.signal one.place)))
     (held_slot system x is listed cells (All-tail (IsHeld system) c cells all))
 
-pub is_added : (system : System) (e : EpochValue) (x : Cell) (k : Added) (new : List Cell) → x.satellite.system ≡ system → AreHeld system (cells_of system e) → IsObserved (heard_cell x)
-    → AddsCell (cells_of system e) x k new → IsAdded e x k (epoch_with system e new)
-is_added system e x k new is held observed a = record {
-  outcome = subst (λ s. k ≡ outcome_by (is_held (cells_of s e) (heard_cell x)) (length (cells_of s e))) (sym is)
-      (a.outcome ∙ ap (λ b. outcome_by b (length (cells_of system e))) (held_slot system x is observed.key.signal (cells_of system e) held.each));
-  epoch = subst (λ s. epoch_with system e new ≡ epoch_with s e (cells_after k (cells_of s e) x)) (sym is) (ap (epoch_with system e) a.cells);
-}
+pub held_added : (system : System) (old cells new : List Cell) (x : Cell) (k : Added) → x.satellite.system ≡ system → AreHeld system old → IsObserved (heard_cell x) → x.lli < 4
+    → cells ≡ old → AddsCell cells x k new → AreHeld system new
+held_added system old cells new x Kept is held observed low same a =
+    let h = subst (AreHeld system) (sym same) held in
+    record { each = subst (All (IsHeld system)) (sym a.cells) (All-push (IsHeld system) cells x h.each (search rules)); few = grind (arith, common_steps, a.cells, a.outcome) }
+held_added system old cells new x _ is held observed low same a = subst (AreHeld system) (sym (a.cells ∙ same)) held
+
+pub is_added : (system : System) (old e : EpochValue) (cells new : List Cell) (x : Cell) (k : Added) → x.satellite.system ≡ system → AreHeld system (cells_of system e)
+    → IsObserved (heard_cell x) → e ≡ old → cells ≡ cells_of system e → AddsCell cells x k new → IsAdded old x k (epoch_with system e new)
+is_added system old e cells new x k is held observed same at a =
+    subst (λ v. IsAdded v x k (epoch_with system e new)) same (record {
+      outcome = subst (λ s. k ≡ outcome_by (is_held (cells_of s e) (heard_cell x)) (length (cells_of s e))) (sym is)
+          (a.outcome ∙ ap (λ l. outcome_by (has_slot (slot x) (map slot l)) (length l)) at ∙ ap (λ b. outcome_by b (length (cells_of system e))) (held_slot system x is observed.key.signal (cells_of system e) held.each));
+      epoch = subst (λ s. epoch_with system e new ≡ epoch_with s e (cells_after k (cells_of s e) x)) (sym is) (ap (epoch_with system e) (a.cells ∙ ap (λ l. cells_after k l x) at));
+    })
