@@ -44,12 +44,13 @@ RiseTo bound (n ∷ ns) = (n < bound) × AllByRecursion (λ m. n < m) ns × Rise
 abbrev pub Rise : List ℕ → Type 0
 Rise ns = (bound : ℕ) × RiseTo bound ns
 
--- The bound of numbers that don't rise.
-abbrev pub no_bound : ℕ
-no_bound = 2048
+-- Kept in place of the least next number if the numbers don't rise.
+abbrev pub unsorted : ℕ
+unsorted = 2048
 
-abbrev pub IsBound : ℕ → List ℕ → Type 0
-IsBound bound ns = bound < no_bound → RiseTo bound ns
+-- Numbers rise to the least one that may follow, if that is kept.
+abbrev pub IsLeastNext : ℕ → List ℕ → Type 0
+IsLeastNext least ns = least < unsorted → RiseTo least ns
 
 -- ---- cells
 

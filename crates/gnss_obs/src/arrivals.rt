@@ -161,14 +161,14 @@ fn add(cells: &mut Cells, x: Cell) -> Added
 }
 
 // Sorts the cells of a system. They are copied only if they or the planned signals aren't in the
-// order of the signals' indices.
+// order of the table of signals.
 fn sort(cells: &mut Box<Cells>, plan: &Plan, system: System, spare: &mut Box<Cells>)
     requires held { AreHeld system cells.old.value }
     requires order { AreInPlanOrder system (planned_of system plan.now)
         (sorted_cells (planned_of system plan.now) cells.old.value) }
     ensures { cells.new.value ≡ sorted_cells (planned_of system plan.now) cells.old.value }
 {
-    if cells.is_by_index() && plan.is_by_index(system) {
+    if cells.is_in_table_order() && plan.is_in_table_order(system) {
         return;
     }
     sort_into(spare, cells, plan, system);

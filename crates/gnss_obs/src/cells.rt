@@ -7,7 +7,7 @@ ghost use Rattle.gnss_obs.specs.Values.{most_cells};
 
 use crate::cell::Cell;
 use crate::epoch::MOST_CELLS;
-use crate::order::{NO_BOUND, bound_after};
+use crate::order::{UNSORTED, least_next_after};
 use std::marker::Model;
 
 /// Number of entries of the table that finds a cell by its satellite and signal: 32 for each
@@ -23,15 +23,15 @@ pub struct Cells {
     // The index of the last cell of each key. An entry of a key without a cell may be any number:
     // so no entry has to be cleared.
     table: [u8; SLOTS],
-    // The bound of the indices in the table, in the order of the cells.
-    bound: usize,
+    // The least index in the table that may follow if the cells' indices rise, or `UNSORTED`.
+    least_next: usize,
 }
 
 impl Model for Cells {
     ghost use Rattle.std.specs.Prelude.{List, ◌≡◌, ◌≤◌, length, map, take};
     ghost use Rattle.gnss_obs.specs.Values.{most_cells};
     ghost use Rattle.gnss_obs.specs.Arriving.{AreFound, most_slots, slot};
-    ghost use Rattle.gnss_obs.specs.Order.{IsBound};
+    ghost use Rattle.gnss_obs.specs.Order.{IsLeastNext};
     ghost use Rattle.gnss_obs.specs.declared.cell.Cell.{Cell};
 
     ghost Value = { List Cell };
@@ -40,7 +40,7 @@ impl Model for Cells {
 
     ghost invariant = { λ c.
         (c.count ≤ most_cells) × (length c.buffer ≡ 256) × (length c.table ≡ most_slots)
-        × AreFound c.table (take c.count c.buffer) × IsBound c.bound (map slot (take c.count c.buffer)) };
+        × AreFound c.table (take c.count c.buffer) × IsLeastNext c.least_next (map slot (take c.count c.buffer)) };
 }
 
 impl Cells {
@@ -53,7 +53,7 @@ impl Cells {
             count: 0,
             // Most epochs have fewer cells, so that one comparison shows that there is none.
             table: [255; SLOTS],
-            bound: 0,
+            least_next: 0,
         }
     }
 
@@ -62,7 +62,7 @@ impl Cells {
         ensures { self.new ≡ [] }
     {
         self.count = 0;
-        self.bound = 0;
+        self.least_next = 0;
     }
 
     /// Returns the cells.
@@ -113,15 +113,15 @@ impl Cells {
         self.table[entry] = at as u8;
         self.buffer[at] = x;
         self.count = at + 1;
-        self.bound = bound_after(self.bound, entry);
+        self.least_next = least_next_after(self.least_next, entry);
     }
 
     /// Returns `true` only if the cells are in the order of their satellites, and then of the
-    /// indices of their signals.
-    pub fn is_by_index(&self) -> bool
+    /// table of signals.
+    pub fn is_in_table_order(&self) -> bool
         ensures { result ≡ true → Rise (map slot self.now) }
     {
-        self.bound < NO_BOUND
+        self.least_next < UNSORTED
     }
 }
 

@@ -2,7 +2,7 @@
 ghost use Rattle.std.specs.Prelude.{◌≡◌, ◌+◌, ◌*◌, ◌<◌, ◌≤◌, ◌++◌, ◌∷◌, [], List, ℕ};
 ghost use Rattle.gnss_obs.specs.Arriving.{sorted_cells, AreBelow};
 ghost use Rattle.gnss_obs.specs.PlanOrder.{AreInPlanOrder};
-ghost use Rattle.gnss_obs.specs.Order.{IsBound, no_bound};
+ghost use Rattle.gnss_obs.specs.Order.{IsLeastNext, unsorted};
 ghost use Rattle.gnss_obs.specs.Satellites.{satellites};
 ghost use Rattle.gnss_obs.specs.SignalLists.{indices, IsOf};
 ghost use Rattle.gnss_obs.specs.Values.{AreHeld, planned_of};
@@ -12,17 +12,18 @@ use crate::plan::Plan;
 use crate::signal::Signal;
 use crate::system::System;
 
-/// The bound of numbers of which one is not greater than the one before it.
-pub(crate) const NO_BOUND: usize = 2_048;
+/// Kept in place of the least next number if the numbers so far don't rise.
+pub(crate) const UNSORTED: usize = 2_048;
 
-/// Returns the bound of numbers after one more: the last one plus 1, if each is greater than the
-/// one before it, else `NO_BOUND`. Without a number it is 0.
+/// Returns, after one more number, the least number that may follow in rising order: the last one
+/// plus 1. It is 0 without a number, and `UNSORTED` if a number isn't greater than the one
+/// before it.
 #[inline(always)]
-pub(crate) fn bound_after(bound: usize, number: usize) -> usize
-    requires { number < no_bound }
-    ensures { (ns : List ℕ) → IsBound bound ns → IsBound result (ns ++ number ∷ []) }
+pub(crate) fn least_next_after(least: usize, number: usize) -> usize
+    requires { number < unsorted }
+    ensures { (ns : List ℕ) → IsLeastNext least ns → IsLeastNext result (ns ++ number ∷ []) }
 {
-    if number < bound { NO_BOUND } else { number + 1 }
+    if number < least { UNSORTED } else { number + 1 }
 }
 
 /// Copies cells in the order of their satellites and then of the plan.

@@ -137,11 +137,11 @@ impl Plan {
         self.list(system).place(signal)
     }
 
-    // Returns `true` only if the wanted signals of a system are in the order of their indices.
-    pub(crate) fn is_by_index(&self, system: System) -> bool
+    // Returns `true` only if the wanted signals of a system are in the order of its table.
+    pub(crate) fn is_in_table_order(&self, system: System) -> bool
         ensures { result ≡ true → Rise (planned_of system self.now) }
     {
-        self.list(system).is_by_index()
+        self.list(system).is_in_table_order()
     }
 
     // Returns the list of the wanted signals of a system.

@@ -6,7 +6,7 @@ ghost use Rattle.gnss_obs.specs.Order.{Rise};
 ghost use Rattle.gnss_obs.specs.Plans.{place_in};
 ghost use Rattle.gnss_obs.specs.SignalLists.{indices, IsAdded, IsOf};
 
-use crate::order::{NO_BOUND, bound_after};
+use crate::order::{UNSORTED, least_next_after};
 use crate::signal::Signal;
 use crate::tables::GALILEO_SIGNAL_COUNT;
 use indexmap::IndexSet;
@@ -20,21 +20,21 @@ pub struct Signals {
     // The index of each signal in `order`, by its index in the table of its system, so that no
     // search asks the set. The table of Galileo is the longest.
     places: [Option<usize>; GALILEO_SIGNAL_COUNT],
-    // The bound of the indices in the table, in the order of the signals.
-    bound: usize,
+    // The least index in the table that may follow if the signals' indices rise, or `UNSORTED`.
+    least_next: usize,
 }
 
 impl Model for Signals {
     ghost use Rattle.std.specs.Prelude.{List};
     ghost use Rattle.gnss_obs.specs.Signals.{SignalAt};
-    ghost use Rattle.gnss_obs.specs.Order.{IsBound};
+    ghost use Rattle.gnss_obs.specs.Order.{IsLeastNext};
     ghost use Rattle.gnss_obs.specs.SignalLists.{indices, AreFound};
 
     ghost Value = { List SignalAt };
 
     ghost view = { λ s. s.order.keys };
 
-    ghost invariant = { λ s. AreFound s.places (indices s.order.keys) × IsBound s.bound (indices s.order.keys) };
+    ghost invariant = { λ s. AreFound s.places (indices s.order.keys) × IsLeastNext s.least_next (indices s.order.keys) };
 }
 
 impl Signals {
@@ -45,7 +45,7 @@ impl Signals {
         Signals {
             order: IndexSet::new(alloc),
             places: [None; GALILEO_SIGNAL_COUNT],
-            bound: 0,
+            least_next: 0,
         }
     }
 
@@ -67,7 +67,7 @@ impl Signals {
             Ok((place, is_new)) => {
                 if is_new {
                     self.places[index] = Some(place);
-                    self.bound = bound_after(self.bound, index);
+                    self.least_next = least_next_after(self.least_next, index);
                 }
                 Ok(is_new)
             }
@@ -103,10 +103,10 @@ impl Signals {
         self.places[signal.index()]
     }
 
-    // Returns `true` only if the signals are in the order of their indices.
-    pub(crate) fn is_by_index(&self) -> bool
+    // Returns `true` only if the signals are in the order of the table.
+    pub(crate) fn is_in_table_order(&self) -> bool
         ensures { result ≡ true → Rise (indices self.now) }
     {
-        self.bound < NO_BOUND
+        self.least_next < UNSORTED
     }
 }

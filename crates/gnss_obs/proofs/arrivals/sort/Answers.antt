@@ -5,8 +5,8 @@ use Rattle.gnss_obs.specs.Values.{planned_of}
 use Rattle.gnss_obs.proofs.SortLemmas.{slots_sorted}
 use Rattle.gnss_obs.proofs.arrivals.sort.Goals as goal
 
-pub returns-then-is_by_index-2 : goal.returns-then-is_by_index-2
-returns-then-is_by_index-2 c =
+pub returns-then-is_in_table_order-2 : goal.returns-then-is_in_table_order-2
+returns-then-is_in_table_order-2 c =
     sym (slots_sorted c.args.system (planned_of c.args.system c.args.plan.now) c.args.cells.now.value c.requires.held c.requires.order
-    (c.is_by_index-then-is_by_index.ensures c.if-is_by_index-2.true)
-    (subst (λ cells. Rise (map slot cells)) c.deref.ensures (c.is_by_index.ensures c.if-is_by_index.true)))
+    (c.is_in_table_order-then-is_in_table_order.ensures c.if-is_in_table_order-2.true)
+    (subst (λ cells. Rise (map slot cells)) c.deref.ensures (c.is_in_table_order.ensures c.if-is_in_table_order.true)))

@@ -1,6 +1,6 @@
 use Rattle.std.proofs.Common.{◌≡◌, ◌<◌, ◌∙◌, ap, arith, length, map, subst, sym, take, length-take-le, length-set}
 use Rattle.gnss_obs.specs.Arriving.{slot}
-use Rattle.gnss_obs.specs.Order.{IsBound}
+use Rattle.gnss_obs.specs.Order.{IsLeastNext}
 use Rattle.gnss_obs.proofs.FoundLemmas.{found_push, slots_push}
 use Rattle.gnss_obs.proofs.cells.Cells.push.Goals as goal
 
@@ -18,5 +18,5 @@ invariant_of-self c =
       length-set buffer count c.args.x ∙ i.1,
       length-set c.self.inside.table entry count ∙ i.2,
       found_push c.self.inside.table buffer count entry c.args.x room is (omega (arith, c.slot-entry.ensures.bound, i.2)) i.3,
-      subst (IsBound c.bound_after-self-inside.result) (sym (slots_push buffer count entry c.args.x room is)) (c.bound_after-self-inside.ensures (map slot (take count buffer)) i.4),
+      subst (IsLeastNext c.least_next_after-self-inside.result) (sym (slots_push buffer count entry c.args.x room is)) (c.least_next_after-self-inside.ensures (map slot (take count buffer)) i.4),
     )

@@ -1,5 +1,5 @@
 use Rattle.std.proofs.Common.{◌≡◌, ℕ, nat_eq, ◌==◌, ◌++◌, ◌∷◌, [], ◌≤◌, true, false, List, length, sym, ap, ◌∙◌, subst, arith, rules}
-use Rattle.gnss_obs.specs.Order.{IsBound}
+use Rattle.gnss_obs.specs.Order.{IsLeastNext}
 use Rattle.gnss_obs.specs.Names.{SignalAt, indices, IsOf, list_any}
 use Rattle.gnss_obs.proofs.PlanLemmas.{any_index, indices-push, length_indices}
 use Rattle.gnss_obs.proofs.SignalLemmas.{was_new, was_there, found_more}
@@ -16,7 +16,7 @@ invariant_of-self c =
       found_more c.self.inside.places (indices keys) _ c.index-index.result c.in-Ok.place c.self.invariant.0 (search rules) room
           (ap (λ (n : ℕ). list_any (nat_eq n) (indices keys)) c.index-index.ensures.value ∙ sym (any_index s.index keys) ∙ a.1) (a.3 ∙ sym (length_indices keys))
           more,
-      subst (IsBound c.bound_after-self-inside.result) (sym more) (c.bound_after-self-inside.ensures (indices keys) c.self.invariant.1),
+      subst (IsLeastNext c.least_next_after-self-inside.result) (sym more) (c.least_next_after-self-inside.ensures (indices keys) c.self.invariant.1),
     )
 
 pub returns-then-is_new-clause-new : goal.returns-then-is_new-clause-new
