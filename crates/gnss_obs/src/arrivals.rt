@@ -142,7 +142,7 @@ impl Arrivals {
 pub(crate) fn no_cells(alloc: Global) -> Result<Box<Cells>, AllocError>
     ensures { IfOk result (λ cells. cells.value ≡ []) }
 {
-    Ok(Box::new(alloc, Cells::new()).map_err(|_| AllocError)?)
+    Box::new(alloc, Cells::new()).map_err(|_| AllocError)
 }
 
 // Appends a cell, unless one of its key is kept or there is no room.
