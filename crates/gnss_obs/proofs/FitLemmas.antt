@@ -3,7 +3,7 @@ use Rattle.std.proofs.Common.{◌≡◌, ℕ, suc, ◌<◌, ◌==◌, ◌||◌, 
 use Rattle.std.proofs.Math.Seq.{split_at}
 use Rattle.std.proofs.lemmas.Map.Keys.{apart_from_distinct, IsDistinct-tail}
 use Rattle.std.proofs.lemmas.List.Elements.{All-head, All-tail}
-use Rattle.gnss_obs.specs.Names.{System, SignalAt, IsSignal, PlanFault, UnknownCode, RepeatedCode, NothingPlanned, BadWeek, BadStation, Memory, indices, IsOf, IsUnfitAfter, IsUnfit, list_any, IsDistinct}
+use Rattle.gnss_obs.specs.Names.{System, SignalAt, IsSignal, PlanFault, UnknownCode, RepeatedCode, Memory, indices, IsOf, IsUnfitAfter, IsUnfit, list_any, IsDistinct}
 
 -- The first signal that doesn't fit.
 pub unfit_at : (system : System) (ss before : List SignalAt) (k : ℕ) (s : SignalAt) (fault : PlanFault) → k < length ss → s ≡ get_or ss k s → before ≡ take k ss
@@ -46,10 +46,7 @@ of_system system (x ∷ before) rest s h = of_system system before rest s (All-t
 by_fault : (system : System) (before rest : List SignalAt) (s : SignalAt) (fault : PlanFault) → IsUnfitAfter system before s fault → IsOf system (before ++ s ∷ rest) → ⊥
 by_fault system before rest s (UnknownCode named place) u is = u.2 (of_system system before rest s is.each)
 by_fault system before rest s (RepeatedCode named place) u is = true≢false (sym u.3 ∙ not_before before rest s is.apart)
-by_fault system before rest s NothingPlanned u is = u
-by_fault system before rest s BadWeek u is = u
-by_fault system before rest s BadStation u is = u
-by_fault system before rest s Memory u is = u
+by_fault system before rest s _ u is = u
 
 -- A list with a signal that doesn't fit is no list of the system's signals.
 pub unfit_not_of : (system : System) (ss : List SignalAt) (fault : PlanFault) → IsUnfit system ss fault → IsOf system ss → ⊥

@@ -1,9 +1,9 @@
 -- The cells of one satellite, in a list in the order of satellites.
-use Rattle.std.proofs.Common.{◌≡◌, ℕ, zero, suc, ◌+◌, ◌<◌, ◌≤◌, ◌==◌, Bool, true, false, ◌||◌, ◌&&◌, List, [], ◌∷◌, map, filter, drop, refl, sym, ap, ap₂, ◌∙◌, subst, arith, length, not, All, if◌then◌else◌, nat_lt}
-use Rattle.std.proofs.lemmas.List.Elements.{All-head, All-tail}
+use Rattle.std.proofs.Common.{◌≡◌, ℕ, zero, suc, ◌+◌, ◌<◌, ◌≤◌, ◌==◌, Bool, true, false, ◌||◌, ◌&&◌, List, [], ◌∷◌, map, filter, drop, refl, sym, ap, ap₂, ◌∙◌, subst, arith, length, not, if◌then◌else◌, nat_lt}
+use Rattle.std.proofs.lemmas.List.Elements.{recursion_from_All}
 use Rattle.gnss_obs.specs.Names.{System, Cell, is_before, SortKeysRise, cell_sort_key, AreSorted, AllByRecursion, list_any}
 use Rattle.gnss_obs.specs.Satellites.{satellites as satellites_in}
-use Rattle.gnss_obs.specs.Values.{IsHeld, AreHeld, has_value, is_written, written_among, is_of_satellite}
+use Rattle.gnss_obs.specs.Values.{AreHeld, has_value, is_written, written_among, is_of_satellite}
 use Rattle.std.proofs.lemmas.Grind.{common_steps}
 
 -- ---- cells in the order of satellites
@@ -43,10 +43,8 @@ pub record Left (n from : ℕ) (cells : List Cell) : Type 0 where
   pub rest : (later : ℕ) → n < later → filter (is_of_satellite later) cells ≡ filter (is_of_satellite later) (drop from cells)
 
 pub left_all : (system : System) (cells : List Cell) → AreHeld system cells → Left 0 0 cells
-left_all system cells h = record { within = omega arith; above = listed cells h.each; rest = λ later l. refl } where
-  listed : (cells : List Cell) → All (IsHeld system) cells → Above 0 cells
-  listed [] h = tt
-  listed (c ∷ cells) h = (let one = All-head (IsHeld system) c cells h in omega (arith, one.number.0), listed cells (All-tail (IsHeld system) c cells h))
+left_all system cells h =
+    record { within = omega arith; above = recursion_from_All (λ (c : Cell). 0 < c.satellite.id) cells (λ i d less. (h.each i d less).number.0); rest = λ later l. refl }
 
 -- ---- the number of satellites to write
 
@@ -150,22 +148,15 @@ all_counted count last i cells end h = grind (arith, common_steps)
 pub counted_all : (system : System) (cells : List Cell) → AreHeld system cells → AreSorted cells
     → (counted_after 0 cells ≡ written_among cells (satellites_in system)) × (counted_after 0 cells ≤ satellites_in system)
 counted_all system cells held sorted = (is, subst (λ k. k ≤ satellites_in system) (sym is) (few_written cells (satellites_in system))) where
-  within : (cells : List Cell) → All (IsHeld system) cells → Within (satellites_in system) cells
-  within [] h = tt
-  within (c ∷ cells) h =
-      let one = All-head (IsHeld system) c cells h in
-      (subst (λ s. c.satellite.id ≤ satellites_in s) one.satellite one.number.1, within cells (All-tail (IsHeld system) c cells h))
-
-  above : (cells : List Cell) → Above 0 cells → AllByRecursion (λ (c : Cell). 0 ≤ c.satellite.id) cells
-  above [] h = tt
-  above (c ∷ cells) h = (omega arith, above cells h.1)
+  within : Within (satellites_in system) cells
+  within = recursion_from_All (λ (c : Cell). c.satellite.id ≤ satellites_in system) cells (λ i d less. let one = held.each i d less in rw (← one.satellite) one.number.1)
 
   all : Above 0 cells
   all = (left_all system cells held).above
 
   is : counted_after 0 cells ≡ written_among cells (satellites_in system)
   is =
-      let sum = counted_is (satellites_in system) 0 cells (sorted_climbs cells sorted) (within cells held.each) all (above cells all) in
+      let sum = counted_is (satellites_in system) 0 cells (sorted_climbs cells sorted) within all (recursion_from_All (λ (c : Cell). 0 ≤ c.satellite.id) cells (λ i d less. omega arith)) in
       let none = none_written 0 cells all in
       sym (sum ∙ ap (λ b. counted_after 0 cells + one_if b) none ∙ plus (counted_after 0 cells)) where
         plus : (k : ℕ) → k + 0 ≡ k

@@ -1,7 +1,7 @@
 -- The plan of two lists of signals, or its fault.
 use Rattle.std.proofs.Common.{◌≡◌, ℕ, ◌+◌, ◌<◌, true≢false, List, [], ◌∷◌, length, refl, sym, ap, ap₂, ◌∙◌, subst, arith, ◌⊎◌, inl, inr, Result, Ok, Err, IfErr, MatchResult, is_ok}
 use Rattle.std.specs.Result.{result_and}
-use Rattle.gnss_obs.specs.Names.{Gps, Galileo, PlanFault, UnknownCode, RepeatedCode, NothingPlanned, BadWeek, BadStation, Memory, SignalAt, PlanValue, plan_of, signals_of, indices, IsOf, ArePlanned, DoneOr, IsDefined, IsMade, IsMemoryFaultOr, IsPlanResult, IsUnfit, IsUnplanned}
+use Rattle.gnss_obs.specs.Names.{Gps, Galileo, PlanFault, UnknownCode, RepeatedCode, NothingPlanned, Memory, SignalAt, PlanValue, plan_of, signals_of, indices, IsOf, ArePlanned, DoneOr, IsDefined, IsMade, IsMemoryFaultOr, IsPlanResult, IsUnfit, IsUnplanned}
 use Rattle.gnss_obs.proofs.FitLemmas.{unfit_not_of}
 use Rattle.std.proofs.lemmas.Grind.{common_steps}
 
@@ -81,20 +81,14 @@ unfit_first gps galileo (UnknownCode Gps place) u = u
 unfit_first gps galileo (UnknownCode Galileo place) u = absurd (apart u.unfit.0)
 unfit_first gps galileo (RepeatedCode Gps place) u = u
 unfit_first gps galileo (RepeatedCode Galileo place) u = absurd (apart u.unfit.0)
-unfit_first gps galileo NothingPlanned u = absurd u.unfit
-unfit_first gps galileo BadWeek u = absurd u.unfit
-unfit_first gps galileo BadStation u = absurd u.unfit
-unfit_first gps galileo Memory u = absurd u.unfit
+unfit_first gps galileo _ u = absurd u.unfit
 
 unfit_second : (gps galileo : List SignalAt) (fault : PlanFault) → IsOf Gps gps → IsUnfit Galileo galileo fault → IsUnplanned gps galileo fault
 unfit_second gps galileo (UnknownCode Gps place) of u = absurd (apart (sym u.unfit.0))
 unfit_second gps galileo (UnknownCode Galileo place) of u = (of, u)
 unfit_second gps galileo (RepeatedCode Gps place) of u = absurd (apart (sym u.unfit.0))
 unfit_second gps galileo (RepeatedCode Galileo place) of u = (of, u)
-unfit_second gps galileo NothingPlanned of u = absurd u.unfit
-unfit_second gps galileo BadWeek of u = absurd u.unfit
-unfit_second gps galileo BadStation of u = absurd u.unfit
-unfit_second gps galileo Memory of u = absurd u.unfit
+unfit_second gps galileo _ of u = absurd u.unfit
 
 pub both_added : {A : Type 0} (first second added : Result A PlanFault) (gps galileo ss ts : List SignalAt) → added ≡ result_and first second
     → DoneOr (IsUnfit Gps gps) ((ss ≡ gps) × IsOf Gps gps) first → DoneOr (IsUnfit Galileo galileo) ((ts ≡ galileo) × IsOf Galileo galileo) second
@@ -139,6 +133,4 @@ memory_alone gps galileo (Err e) (inr bad) first second some = absurd (by e bad)
   by (RepeatedCode Gps place) u = unfit_not_of Gps gps _ u first
   by (RepeatedCode Galileo place) u = unfit_not_of Galileo galileo _ u.1 second
   by NothingPlanned u = let n = ap length u.0 in let m = ap length u.1 in omega (arith, some, n, m)
-  by BadWeek u = u
-  by BadStation u = u
-  by Memory u = u
+  by _ u = u

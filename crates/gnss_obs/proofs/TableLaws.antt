@@ -1,8 +1,10 @@
 -- The signal tables: their IDs rise row by row, each ID and each code has one row, and each ID the row that is listed
 -- for it.
-use Rattle.std.proofs.Common.{ℕ, ◌≡◌, ◌+◌, ◌<◌, ◌≤◌, ◌==◌, ◌&&◌, true≢false, Bool, true, false, nat_lt, length, position, List, Option, Some, None, Bor, slice_index_or, refl, sym, ap, arith, slice_get, unwrap_or, option_copied, option_map, is_some, IfSome}
+use Rattle.std.proofs.Common.{ℕ, ◌≡◌, ◌+◌, ◌<◌, ◌≤◌, ◌==◌, ◌&&◌, true≢false, Bool, true, false, nat_lt, length, position, List, Option, Some, None, Bor, slice_index_or, refl, sym, ap, ◌∙◌, arith, slice_get, unwrap_or, option_copied, option_map, is_some, IfSome}
 use Rattle.std.proofs.lemmas.Option.{slice_get_past, slice_get_read}
 use Rattle.gnss_obs.specs.Names.{System, Gps, Galileo, SignalAt, IsSignal, after, greatest_signal_id, id_of, signal_of_id, table, rows}
+use Rattle.std.proofs.lemmas.Grind.{common_steps}
+use Rattle.gnss_obs.proofs.SortLemmas.{table_few}
 use Rattle.gnss_obs.proofs.Checked.{passes_at, passes_below, is_less, is_equal, both_first, both_second}
 
 -- the ID of a row is below the next one
@@ -69,6 +71,11 @@ unfolding is_row
 same_row n None row h other = absurd (grind (arith, h, other))
 same_row n (Some i) row h other = (ap Some (is_equal row i (both_second (nat_lt i n) (row == i) h)), rw (is_equal row i (both_second (nat_lt i n) (row == i) h)) (is_less i n (both_first (nat_lt i n) (row == i) h)))
 
+no_row : (n : ℕ) (o : Option ℕ) (row : ℕ) → is_row n o row ≡ true → row ≡ 255 → n ≤ 64 → o ≡ None
+unfolding is_row
+no_row n None row h none few = refl
+no_row n (Some i) row h none few = absurd (grind (arith, common_steps, h, none, few))
+
 -- the row at an ID
 read_at : (xs : List ℕ) (id : ℕ) (o : Option (Bor ℕ)) → is_some o ≡ nat_lt id (length xs) → IfSome o (λ x. x.now ≡ slice_index_or xs id x.now)
     → unwrap_or (option_copied o) 255 ≡ unwrap_or (slice_get xs id) 255
@@ -76,12 +83,12 @@ read_at xs id None some h = ap (λ o. unwrap_or o 255) (sym (slice_get_past xs i
 read_at xs id (Some x) some h = ap (λ o. unwrap_or o 255) (sym (slice_get_read xs (length xs) id x.now refl (is_less id (length xs) (sym some)) h))
 
 pub row_is : (system : System) (id : ℕ) (o : Option (Bor ℕ)) → id < 256 → is_some o ≡ nat_lt id (length (rows system)) → IfSome o (λ x. x.now ≡ slice_index_or (rows system) id x.now)
-    → (unwrap_or (option_copied o) 255 ≡ 255 → ⊥)
-    → (Some (unwrap_or (option_copied o) 255) ≡ position (λ e. e.0 == id) (table system)) × (unwrap_or (option_copied o) 255 < length (table system))
+    → (row : ℕ) → row ≡ unwrap_or (option_copied o) 255
+    → (row ≡ 255 → position (λ e. e.0 == id) (table system) ≡ None) × ((row ≡ 255 → ⊥) → (Some row ≡ position (λ e. e.0 == id) (table system)) × (row < length (table system)))
 unfolding row_at
-row_is system id o below some here other =
-    let is = read_at (rows system) id o some here in
-    same_row (length (table system)) (position (λ e. e.0 == id) (table system)) (unwrap_or (option_copied o) 255) (rw (← is) at (rows_fit system id below)) (unlike _ other)
+row_is system id o below some here row is =
+    let fits = rw (← (is ∙ read_at (rows system) id o some here)) at (rows_fit system id below) in
+    (λ none. no_row (length (table system)) _ row fits none (table_few system), λ other. same_row (length (table system)) _ row fits (unlike row other))
   where
     unlike : (n : ℕ) → (n ≡ 255 → ⊥) → (n == 255) ≡ false
     unlike n other = grind (arith, other)

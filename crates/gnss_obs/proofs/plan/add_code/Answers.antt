@@ -1,5 +1,5 @@
 use Rattle.std.proofs.Common.{◌≡◌, ◌++◌, ◌∷◌, [], ℕ, List, inl, inr, sym, ◌∙◌, Result, Ok, Err, Some, MatchResult}
-use Rattle.gnss_obs.specs.Names.{System, SignalAt, signal_of_code, PlanFault, UnknownCode, RepeatedCode, NothingPlanned, BadWeek, BadStation, Memory, IsOf, TakesCode, RefusesCode, IsMemoryFaultOr, IsUnfitAfter}
+use Rattle.gnss_obs.specs.Names.{System, SignalAt, signal_of_code, PlanFault, UnknownCode, RepeatedCode, IsOf, TakesCode, RefusesCode, IsMemoryFaultOr, IsUnfitAfter}
 use Rattle.gnss_obs.proofs.FitLemmas.{not_before}
 use Rattle.gnss_obs.proofs.PlanLemmas.{repeated, accepted, of_where}
 use Rattle.gnss_obs.proofs.plan.add_code.Goals as goal
@@ -11,10 +11,7 @@ refused : (system : System) (code : List ℕ) (ss : List SignalAt) (s : SignalAt
     → RefusesCode system code ss e
 refused system code ss s (RepeatedCode named place) is u = grind (arith, common_steps, repeated)
 refused system code ss s (UnknownCode named place) is u = absurd (u.2 (of_where system _ s is).0)
-refused system code ss s NothingPlanned is u = absurd u
-refused system code ss s BadWeek is u = absurd u
-refused system code ss s BadStation is u = absurd u
-refused system code ss s Memory is u = absurd u
+refused system code ss s _ is u = absurd u
 
 added : (A : Type 0) (system : System) (code : List ℕ) (ss new : List SignalAt) (s : SignalAt) (r : Result A PlanFault) → signal_of_code system code ≡ Some s
     → MatchResult r (λ _. (new ≡ ss ++ s ∷ []) × IsOf system new) (IsMemoryFaultOr (IsUnfitAfter system ss s))
