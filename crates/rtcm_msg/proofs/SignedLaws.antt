@@ -8,6 +8,9 @@ raised n a b h k = omega (arith, h, k)
 pub wide_16_32 : (z : ℤ) → FitsSigned w16 z → to_z w32 (of_z w32 (to_z w16 (of_z w16 z))) ≡ z
 wide_16_32 z f = rw (to_z-of_z w16 z f) (to_z-of_z w32 z (record { sfits = raised _ _ _ f.sfits (lit≤ tt) }))
 
+pub wide_16_64 : (z : ℤ) → FitsSigned w16 z → to_z w64 (of_z w64 (to_z w16 (of_z w16 z))) ≡ z
+wide_16_64 z f = rw (to_z-of_z w16 z f) (to_z-of_z w64 z (record { sfits = raised _ _ _ f.sfits (lit≤ tt) }))
+
 pub wide_32_64 : (z : ℤ) → FitsSigned w32 z → to_z w64 (of_z w64 (to_z w32 (of_z w32 z))) ≡ z
 wide_32_64 z f = rw (to_z-of_z w32 z f) (to_z-of_z w64 z (record { sfits = raised _ _ _ f.sfits (lit≤ tt) }))
 

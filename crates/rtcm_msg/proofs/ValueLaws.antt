@@ -33,29 +33,26 @@ cell_none s n l p q x is first count bit =
 pub next_there : (next n : ℕ) (ps qs : List Pair) (x : Pair) → ps ≡ x ∷ qs → length ps + next ≡ n → next < n
 next_there next n ps qs x e h = omega (arith, h, ap length e)
 
-pub after_cell : (v : FormedMsm) (c : CellsLeft) (q : Pairs) (x : Pair) → AreCells v c → pairs_left c.pairs ≡ x ∷ pairs_left q → ArePairs q → cell_pairs_left c.left v.msm.sets c.pairs ≡ x ∷ cell_pairs_left (c.left - 1) v.msm.sets q
-    → AreCells v (record { pairs = q; left = c.left - 1; next = c.next + 1 })
-after_cell v c q x cells first in_range there = record {
+-- The cells that are left after the first pair, with the number of cells before them.
+after_pair : (v : FormedMsm) (c : CellsLeft) (q : Pairs) (x : Pair) (n : ℕ) → AreCells v c → pairs_left c.pairs ≡ x ∷ pairs_left q → ArePairs q → length (cell_pairs_left (c.left - 1) v.msm.sets q) + n ≡ length v.msm.cells
+    → AreCells v (record { pairs = q; left = c.left - 1; next = n })
+after_pair v c q x n cells first in_range next = record {
   left = (
     one_less c.left (pairs_left c.pairs) (pairs_left q) x cells.left.0 first,
     omega (arith, cells.left.1),
     in_range,
     (first_index (count_ones v.msm.sets.satellites) (pairs_left c.pairs) (pairs_left q) x first cells.left.3).1,
   );
-  next = omega (arith, cells.next, ap length there);
+  next = next;
 }
+
+pub after_cell : (v : FormedMsm) (c : CellsLeft) (q : Pairs) (x : Pair) → AreCells v c → pairs_left c.pairs ≡ x ∷ pairs_left q → ArePairs q → cell_pairs_left c.left v.msm.sets c.pairs ≡ x ∷ cell_pairs_left (c.left - 1) v.msm.sets q
+    → AreCells v (record { pairs = q; left = c.left - 1; next = c.next + 1 })
+after_cell v c q x cells first in_range there = after_pair v c q x _ cells first in_range (omega (arith, cells.next, ap length there))
 
 pub after_none : (v : FormedMsm) (c : CellsLeft) (q : Pairs) (x : Pair) → AreCells v c → pairs_left c.pairs ≡ x ∷ pairs_left q → ArePairs q → cell_pairs_left c.left v.msm.sets c.pairs ≡ cell_pairs_left (c.left - 1) v.msm.sets q
     → AreCells v (record { pairs = q; left = c.left - 1; next = c.next })
-after_none v c q x cells first in_range there = record {
-  left = (
-    one_less c.left (pairs_left c.pairs) (pairs_left q) x cells.left.0 first,
-    omega (arith, cells.left.1),
-    in_range,
-    (first_index (count_ones v.msm.sets.satellites) (pairs_left c.pairs) (pairs_left q) x first cells.left.3).1,
-  );
-  next = omega (arith, cells.next, ap length there);
-}
+after_none v c q x cells first in_range there = after_pair v c q x _ cells first in_range (omega (arith, cells.next, ap length there))
 
 row_index : (n k : ℕ) (xs gs all : List ℕ) (x y : ℕ) (ys hs : List ℕ) → xs ≡ x ∷ ys → gs ≡ y ∷ hs → IndicesAreBelow n (pairs_from k xs gs all) → k < n
 row_index n k xs gs all x y ys hs e f h =

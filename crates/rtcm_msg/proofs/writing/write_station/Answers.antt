@@ -1,13 +1,10 @@
-use Rattle.std.proofs.Common.{ℕ, ℤ, List, Bool, Some, [], ◌∷◌, ◌≡◌, ◌++◌, ◌∙◌, refl, rules, sym, ap, append_assoc, FitsSigned, w64, to_z, of_z}
+use Rattle.std.proofs.Common.{ℕ, List, Bool, Some, [], ◌∷◌, ◌≡◌, ◌++◌, ◌∙◌, refl, rules, sym, ap, append_assoc, w64}
 use Rattle.std.proofs.lemmas.Int.{to_z-of_z}
 use Rattle.std.proofs.lemmas.List.{append-nil}
-use Rattle.rtcm_msg.specs.Names.{raw, uint, StationParts, field_bits, common_fields, station_fields}
+use Rattle.rtcm_msg.specs.Names.{uint, StationParts, field_bits, common_fields, station_fields}
 use Rattle.rtcm_bits.specs.BitLaws.{byte-bit}
 use Rattle.rtcm_msg.proofs.WritingSteps.{field_bits-append}
 use Rattle.rtcm_msg.proofs.writing.write_station.Goals as goal
-
-coordinate : (r : ℕ) (z : ℤ) → FitsSigned w64 z → r ≡ raw 38 (to_z w64 (of_z w64 z)) → r ≡ raw 38 z
-coordinate r z f e = e ∙ ap (raw 38) (to_z-of_z w64 z f)
 
 with_height : (s : StationParts) (h : ℕ) (old mid new : List Bool) → s.height ≡ Some h → mid ≡ old ++ field_bits (common_fields 1006 s 0) → new ≡ mid ++ uint 16 h → new ≡ old ++ field_bits (station_fields s 0)
 unfolding field_bits
@@ -17,16 +14,10 @@ with_height s h old mid new e m n =
 pub returns-in-Some : goal.returns-in-Some
 returns-in-Some c =
     let p = c.args.parts.now in
-    let x = coordinate c.raw_of.result p.x (search rules) c.raw_of.ensures.value in
-    let y = coordinate c.raw_of-2.result p.y (search rules) c.raw_of-2.ensures.value in
-    let z = coordinate c.raw_of-3.result p.z (search rules) c.raw_of-3.ensures.value in
-    let common : c.write_fields.new.writer ≡ c.args.writer.now ++ field_bits (common_fields 1006 p 0) = rw (c.write_fields.ensures.bits, x, y, z, byte-bit p.gps, byte-bit p.glonass, byte-bit p.galileo, byte-bit p.reference, byte-bit p.oscillator, c.is_some.ensures, c.in-Some.is) refl in
+    let common : c.write_fields.new.writer ≡ c.args.writer.now ++ field_bits (common_fields 1006 p 0) = c.write_fields.ensures.bits ∙ rw (c.raw_of.ensures.value, c.raw_of-2.ensures.value, c.raw_of-3.ensures.value, to_z-of_z w64 p.x (search rules), to_z-of_z w64 p.y (search rules), to_z-of_z w64 p.z (search rules), byte-bit p.gps, byte-bit p.glonass, byte-bit p.galileo, byte-bit p.reference, byte-bit p.oscillator, c.is_some.ensures, c.in-Some.is) refl in
     with_height p c.in-Some.height c.args.writer.now c.write_fields.new.writer c.put.new.self c.in-Some.is common c.put.ensures.bits
 
 pub returns-in_default : goal.returns-in_default
 returns-in_default c =
     let p = c.args.parts.now in
-    let x = coordinate c.raw_of.result p.x (search rules) c.raw_of.ensures.value in
-    let y = coordinate c.raw_of-2.result p.y (search rules) c.raw_of-2.ensures.value in
-    let z = coordinate c.raw_of-3.result p.z (search rules) c.raw_of-3.ensures.value in
-    rw (c.write_fields.ensures.bits, x, y, z, byte-bit p.gps, byte-bit p.glonass, byte-bit p.galileo, byte-bit p.reference, byte-bit p.oscillator, c.is_some.ensures, c.in_default.is) refl
+    rw (c.write_fields.ensures.bits, c.raw_of.ensures.value, c.raw_of-2.ensures.value, c.raw_of-3.ensures.value, to_z-of_z w64 p.x (search rules), to_z-of_z w64 p.y (search rules), to_z-of_z w64 p.z (search rules), byte-bit p.gps, byte-bit p.glonass, byte-bit p.galileo, byte-bit p.reference, byte-bit p.oscillator, c.is_some.ensures, c.in_default.is) refl

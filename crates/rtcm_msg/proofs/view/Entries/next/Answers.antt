@@ -12,14 +12,8 @@ one_there ps qs p next cells split count = let more = ap length split in omega (
 next_fits : (next cells n : ℕ) → next < cells → n ≡ cells → n ≤ 64 → next + 1 < 18446744073709551616
 next_fits next cells n h same few = omega (arith, h, same, few)
 
-pub split_cells-requires-clause-few : goal.split_cells-requires-clause-few
-split_cells-requires-clause-few c = c.self.invariant.0.left.1
-
-pub split_cells-requires-clause-count : goal.split_cells-requires-clause-count
-split_cells-requires-clause-count c = c.self.invariant.0.left.0
-
-pub split_cells-requires-clause-in_range : goal.split_cells-requires-clause-in_range
-split_cells-requires-clause-in_range c = c.self.invariant.0.left.2
+pub split_cells-requires : goal.split_cells-requires
+split_cells-requires c = let left = c.self.invariant.0.left in record { few = left.1; count = left.0; in_range = left.2 }
 
 pub rough-satellite-requires-clause-keeps : goal.rough-satellite-requires-clause-keeps
 rough-satellite-requires-clause-keeps c = c.self.invariant.1
