@@ -29,7 +29,7 @@ unfoldable pub use Rattle.rtcm_msg.specs.Packed.{columns}
 pub use Rattle.rtcm_msg.specs.Pairs.{AreAll, ArePairs, HasFirst, IndicesAreBelow, all_pairs_from, cell_pairs_left}
 pub use Rattle.rtcm_msg.specs.Pairs.{pairs_from, pairs_left}
 pub use Rattle.rtcm_msg.specs.Ranges.{fits_int}
-pub use Rattle.rtcm_msg.specs.Refusals.{station_fault}
+pub use Rattle.rtcm_msg.specs.Refusals.{first_of, station_fault}
 pub use Rattle.rtcm_msg.specs.Rows.{numbers_in, rows_at}
 unfoldable pub use Rattle.rtcm_msg.specs.Rows.{end_of_rows, row_at}
 pub use Rattle.rtcm_msg.specs.Station.{InRange, common_fields, field_widths, height_at, height_fields, height_table}

@@ -1,5 +1,5 @@
 -- The parts that make a value, and the first fault of others.
-use Rattle.std.specs.Prelude.{ℕ, List, length, ◌^◌, ◌==◌, ◌&&◌, nat_lt, nat_le, if◌then◌else◌, not, Option, Some, None}
+use Rattle.std.specs.Prelude.{ℕ, Bool, List, [], ◌∷◌, length, ◌^◌, ◌==◌, ◌&&◌, nat_lt, nat_le, if◌then◌else◌, not, Option, Some, None}
 use Rattle.std.specs.Prelude.{Result, Ok, Err, count_ones}
 use Rattle.rtcm_msg.specs.declared.fault.Field.{Field}
 use Rattle.rtcm_msg.specs.declared.header.MsmHeader.{MsmHeader}
@@ -15,6 +15,11 @@ masks_of satellites signals cells =
     if nat_lt most_pairs (pair_count satellites signals) then Err faults.TooManyCells
     else (if nat_le (2 ^ pair_count satellites signals) cells then Err (faults.OutOfRange fields.Cells)
     else Ok (record { satellites = satellites; signals = signals; cells = cells }))
+
+-- The first field that is given with true.
+abbrev pub first_of : List (Bool × Field) → Option Field
+first_of [] = None
+first_of (x ∷ xs) = if x.0 then Some x.1 else first_of xs
 
 -- The first field of a station message, in the order of the layout, that is out of range.
 abbrev pub station_fault : StationParts → Option Field

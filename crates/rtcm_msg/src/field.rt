@@ -19,7 +19,7 @@ pub(crate) fn end_of_fields(
     bytes: &[u8],
     widths: &[u32],
     count: usize,
-    place: usize,
+    mut place: usize,
 ) -> Result<usize, MsgFault>
     requires few { count ≤ 64 }
     requires within { place ≤ 8 * length bytes.now }
@@ -29,7 +29,6 @@ pub(crate) fn end_of_fields(
     ensures within { IfOk result (λ end. end ≤ 8 * length bytes.now) }
 {
     let bits = 8 * bytes.len();
-    let mut place = place;
     for width in widths {
         let end = place + count * *width as usize;
         if bits < end {

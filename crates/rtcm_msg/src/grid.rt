@@ -2,7 +2,7 @@
 ghost use Rattle.std.specs.Prelude.{◌≡◌, ◌+◌, ◌*◌, ◌^◌, ◌<◌, ◌≤◌, ℕ, ℤ, Bool, List, Option, length};
 ghost use Rattle.std.specs.Prelude.{All, IfNone, IfSome, unsigned_abs};
 ghost use Rattle.std.specs.Option.{ForSome};
-ghost use Rattle.std.specs.List.{find, list_any};
+ghost use Rattle.std.specs.List.{list_any};
 ghost use Rattle.rtcm_msg.specs.Fractions.{range_joined, scaled};
 ghost use Rattle.rtcm_msg.specs.Packed.{total_width};
 ghost use Rattle.rtcm_msg.specs.declared.fault.Field.{Field};
@@ -237,23 +237,6 @@ pub(crate) fn has_bad<T: HasFields>(items: &[T], field: Field) -> bool
 {
     items.iter().any(|item| item.is_bad(field))
 }
-
-/// Returns the first of the fields that does not fit its bits in some of the data.
-pub(crate) fn first_bad<T: HasFields>(items: &[T], fields: &[Field]) -> Option<Field>
-    ensures { result ≡ find (λ f. list_any (T.is_bad f) items.now) fields.now }
-{
-    fields.iter().copied().find(|field| has_bad(items, *field))
-}
-
-/// The fields of a cell that may not fit their bits, in the order of the layouts. MSM4 has all but
-/// the last.
-pub(crate) const CELL_FIELDS: &[Field] = &[
-    Field::FineRange,
-    Field::FinePhase,
-    Field::Lock,
-    Field::Strength,
-    Field::FineRate,
-];
 
 /// Returns a fine part in 2^-31 ms: `number` units of `unit`, or `None` for the invalid number.
 pub(crate) fn scaled(number: i32, invalid: i32, unit: u32) -> Option<i64>

@@ -1,7 +1,7 @@
 //! The precision of MSM4.
-use crate::fault::Field;
+use crate::fault::{Field, first_of};
 use crate::field::{short_to, signed_to};
-use crate::grid::{CELL_FIELDS, Grid, HasFields, ReadGrid, first_bad, range_joined, scaled};
+use crate::grid::{Grid, HasFields, ReadGrid, has_bad, range_joined, scaled};
 use crate::last_bits::LastBits;
 use crate::view::Form;
 use rtcm_bits::{raw_of, signed_of};
@@ -41,7 +41,7 @@ impl HasFields for Satellite4 {
 
     ghost is_bad = { grid4.is_bad_satellite };
 
-    // The type bounds the first.
+    // The first test never succeeds. It brings the bound of a `u8` into the proof.
     fn is_bad(&self, field: Field) -> bool {
         match field {
             Field::RangeWhole => self.whole as u16 >= 256,
@@ -101,11 +101,22 @@ impl Grid for Grid4 {
     ghost cell_fault_of = { grid4.cell_fault };
 
     fn satellite_fault(satellites: &[Satellite4]) -> Option<Field> {
-        first_bad(satellites, &[Field::RangeWhole, Field::RangeFraction])
+        first_of(&[
+            (has_bad(satellites, Field::RangeWhole), Field::RangeWhole),
+            (
+                has_bad(satellites, Field::RangeFraction),
+                Field::RangeFraction,
+            ),
+        ])
     }
 
     fn cell_fault(cells: &[Cell4]) -> Option<Field> {
-        first_bad(cells, &CELL_FIELDS[..4])
+        first_of(&[
+            (has_bad(cells, Field::FineRange), Field::FineRange),
+            (has_bad(cells, Field::FinePhase), Field::FinePhase),
+            (has_bad(cells, Field::Lock), Field::Lock),
+            (has_bad(cells, Field::Strength), Field::Strength),
+        ])
     }
 
     ghost range_of = { grid4.range_of };

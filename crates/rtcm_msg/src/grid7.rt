@@ -1,7 +1,7 @@
 //! The precision of MSM7.
-use crate::fault::Field;
+use crate::fault::{Field, first_of};
 use crate::field::{short_to, signed_to};
-use crate::grid::{CELL_FIELDS, Grid, HasFields, ReadGrid, first_bad, range_joined, scaled};
+use crate::grid::{Grid, HasFields, ReadGrid, has_bad, range_joined, scaled};
 use crate::last_bits::LastBits;
 use crate::view::Form;
 use rtcm_bits::{raw_of, signed_of};
@@ -47,7 +47,7 @@ impl HasFields for Satellite7 {
 
     ghost is_bad = { grid7.is_bad_satellite };
 
-    // The type bounds the first.
+    // The first test never succeeds. It brings the bound of a `u8` into the proof.
     fn is_bad(&self, field: Field) -> bool {
         match field {
             Field::RangeWhole => self.whole as u16 >= 256,
@@ -110,19 +110,25 @@ impl Grid for Grid7 {
     ghost cell_fault_of = { grid7.cell_fault };
 
     fn satellite_fault(satellites: &[Satellite7]) -> Option<Field> {
-        first_bad(
-            satellites,
-            &[
-                Field::RangeWhole,
-                Field::Extended,
+        first_of(&[
+            (has_bad(satellites, Field::RangeWhole), Field::RangeWhole),
+            (has_bad(satellites, Field::Extended), Field::Extended),
+            (
+                has_bad(satellites, Field::RangeFraction),
                 Field::RangeFraction,
-                Field::RoughRate,
-            ],
-        )
+            ),
+            (has_bad(satellites, Field::RoughRate), Field::RoughRate),
+        ])
     }
 
     fn cell_fault(cells: &[Cell7]) -> Option<Field> {
-        first_bad(cells, CELL_FIELDS)
+        first_of(&[
+            (has_bad(cells, Field::FineRange), Field::FineRange),
+            (has_bad(cells, Field::FinePhase), Field::FinePhase),
+            (has_bad(cells, Field::Lock), Field::Lock),
+            (has_bad(cells, Field::Strength), Field::Strength),
+            (has_bad(cells, Field::FineRate), Field::FineRate),
+        ])
     }
 
     ghost range_of = { grid7.range_of };

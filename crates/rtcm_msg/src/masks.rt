@@ -100,8 +100,8 @@ impl Masks {
 /// Widths in bits of the first fields after the message number: DF003, and DF004 or DF248.
 const TIME_WIDTHS: &[u32] = &[12, 30];
 
-/// Widths of the fields after the epoch time: DF393, DF409, 7 reserved bits, DF411, DF412, DF417 and
-/// DF418 of the header, and the first two masks, DF394 and DF395.
+/// Widths of the fields after the epoch time: DF393, DF409, 7 reserved bits, DF411, DF412, DF417
+/// and DF418 of the header, and the first two masks, DF394 and DF395.
 const HEAD_WIDTHS: &[u32] = &[1, 3, 7, 2, 2, 1, 3, SATELLITE_MASK_BITS, SIGNAL_MASK_BITS];
 
 /// Reads the header and the masks of an MSM after its message number, and returns them with the bit

@@ -143,9 +143,9 @@ impl<G: Grid> Msm<G> {
     }
 }
 
-/// Returns the fault of a header, of numbers of satellites and cells that aren't those in the masks,
-/// or of the first field out of range. The last argument has the first such field of the satellites
-/// and of the cells.
+/// Returns the fault of a header, of numbers of satellites and cells that aren't those in the
+/// masks, or of the first field out of range. The last argument has the first such field of the
+/// satellites and of the cells.
 fn msm_fault(
     header: &MsmHeader,
     masks: &Masks,
@@ -234,12 +234,8 @@ pub(crate) fn write_msm<G: Grid>(writer: &mut BitWriter, msm: &Msm<G>)
     ensures bits { writer.new ≡ writer.old
         ++ msm_bits G.satellite_widths G.cell_widths (G.number_of msm.now.is_galileo) msm.now 0 }
 {
-    write_head(
-        writer,
-        G::number_of(msm.is_galileo),
-        &msm.header,
-        &msm.masks,
-    );
+    let number = G::number_of(msm.is_galileo);
+    write_head(writer, number, &msm.header, &msm.masks);
     write_columns(writer, G::satellite_widths(), msm.satellites.as_slice());
     write_columns(writer, G::cell_widths(), msm.cells.as_slice());
 }

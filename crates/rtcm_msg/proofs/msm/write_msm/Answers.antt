@@ -10,7 +10,7 @@ appended old d e m s t a b x y z =
 
 pub returns-clause-bits : goal.returns-clause-bits
 returns-clause-bits g c =
-    let h = rw c.number_of.ensures.value at c.write_head.ensures.bits in
+    let h = rw c.number_of-number.ensures.value at c.write_head.ensures.bits in
     let s = rw (c.satellite_widths.ensures, c.as_slice.ensures.value) at c.write_columns.ensures.bits in
     let t = rw (c.cell_widths.ensures, c.as_slice-2.ensures.value) at c.write_columns-2.ensures.bits in
     rw (← c.msm.view_is) (appended c.args.writer.now _ _ c.write_head.new.writer c.write_columns.new.writer c.write_columns-2.new.writer _ _ h s t)

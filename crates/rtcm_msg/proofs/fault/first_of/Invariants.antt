@@ -1,0 +1,6 @@
+use Rattle.std.proofs.Common.{◌≡◌, drop}
+use Rattle.rtcm_msg.specs.Names.{first_of}
+use Rattle.rtcm_msg.proofs.fault.first_of.Given as goal
+
+abbrev pub invariant-loop-is_bad : goal.invariant-loop-is_bad
+invariant-loop-is_bad l = first_of (drop l.is_bad-index l.fields) ≡ first_of l.fields
