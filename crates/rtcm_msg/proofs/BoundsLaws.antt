@@ -30,17 +30,14 @@ fine_within invalid k m z h room = by (int_eq z invalid) where
   by true = tt
   by false = product
 
-sum_far : (whole fraction : ℕ) (fine : ℤ) → whole < 2 ^ 8 → fraction < 2 ^ 10 → Small fine → Far (pos (whole * 2 ^ 31 + fraction * 2 ^ 21) +ℤ fine)
-sum_far whole fraction fine w f s = omega (arith, ints, w, f, s)
-
 joined_within : (whole fraction : ℕ) (fine : Option ℤ) → whole < 2 ^ 8 → fraction < 2 ^ 10 → IfSome fine Small → IfSome (range_joined whole fraction fine) Far
 joined_within whole fraction None w f s = tt
 joined_within whole fraction (Some fine) w f s = by (whole == 255) where
   by : (b : Bool) → IfSome (if b then None else Some (pos (whole * 2 ^ 31 + fraction * 2 ^ 21) +ℤ fine)) Far
   by true = tt
-  by false = sum_far whole fraction fine w f s
+  by false = omega (arith, ints, w, f, s)
 
-rate_small : (rough fine : ℤ) → unsigned_abs rough ≤ 2 ^ 13 → unsigned_abs fine ≤ 2 ^ 14 → unsigned_abs ((rough *ℤ pos 10000) +ℤ fine) ≤ 10 ^ 8
+pub rate_small : (rough fine : ℤ) → unsigned_abs rough ≤ 2 ^ 13 → unsigned_abs fine ≤ 2 ^ 14 → unsigned_abs ((rough *ℤ pos 10000) +ℤ fine) ≤ 10 ^ 8
 rate_small rough fine r f = omega (arith, ints, r, f)
 
 rate_within : (rough fine : ℤ) → unsigned_abs rough ≤ 2 ^ 13 → unsigned_abs fine ≤ 2 ^ 14 → IfSome (rate_joined rough fine) (λ v. unsigned_abs v ≤ 10 ^ 8)
@@ -56,7 +53,7 @@ strength_within n k some few = by (n == 0) refl where
   by true e = tt
   by false e = (let more : 1 ≤ n = grind (arith, e) in let p : 1 * 1 ≤ n * k = mul-le 1 1 n k more some in omega (arith, p), few)
 
-signed_within : (w m : ℕ) (z : ℤ) → FitsInt w z → 2 ^ (w - 1) ≤ m → unsigned_abs z ≤ m
+pub signed_within : (w m : ℕ) (z : ℤ) → FitsInt w z → 2 ^ (w - 1) ≤ m → unsigned_abs z ≤ m
 signed_within w m (pos n) h k = omega (arith, h, k)
 signed_within w m (negsuc n) h k = omega (arith, h, k)
 

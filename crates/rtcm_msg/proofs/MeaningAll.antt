@@ -78,9 +78,6 @@ more m n h = omega arith
 over : (m n : ℕ) → m + 1 ≤ n → m < n
 over m n h = omega arith
 
-reflexive : (n : ℕ) → n ≤ n
-reflexive n = omega arith
-
 record Picked (xs ys : List (ℕ × ℕ)) : Type 0 where
   back : chosen (pick xs ys) xs ≡ ys
   len : length (pick xs ys) ≡ length xs
@@ -99,7 +96,7 @@ picked low high start top (x ∷ xs) (y ∷ ys) r s h = elim h.0 [
   | inr i ↦
       let up : pair_number x + 1 ≤ pair_number y = in_above (pair_number x + 1) high y xs r.2 i in
       let above : Rising (pair_number x + 1) top (map pair_number ys) = weaken (pair_number x + 1) (pair_number y + 1) top (map pair_number ys) (more (pair_number x) (pair_number y) up) s.2 in
-      let p = picked (pair_number x + 1) high (pair_number y) top xs (y ∷ ys) r.2 (reflexive (pair_number y), s.1, s.2) (i, others_in top x xs ys above h.1) in
+      let p = picked (pair_number x + 1) high (pair_number y) top xs (y ∷ ys) r.2 (omega arith, s.1, s.2) (i, others_in top x xs ys above h.1) in
       let here = pick_later x y xs ys (over (pair_number x) (pair_number y) up) in
       record { back = rw here p.back; len = rw here (ap suc p.len) }
 ]

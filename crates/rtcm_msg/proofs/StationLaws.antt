@@ -69,9 +69,6 @@ station_consumed has c v e =
 
 -- ---- reading an encoding
 
-fit_again : (s : StationParts) (reserved : ℕ) → InRange s → reserved < 2 → FitAll station_table (station_contents s reserved)
-fit_again s reserved r one = (r.station, (r.realization, (tt, (tt, (tt, (tt, (r.x, (tt, (one, (r.y, (r.quarter, (r.z, tt))))))))))))
-
 height_again : (h : Option ℕ) (place : ℕ) (rest : List Bool) → IfSome h (λ k. k < 2 ^ 16) → height_at (is_some h) (cursor place (field_bits (height_fields h) ++ rest)) ≡ Ok (h, cursor (place + total_width (height_widths (is_some h))) rest)
 unfolding field_bits
 height_again None place rest fits = rw (add-zero place) refl
@@ -83,6 +80,6 @@ station_again s reserved place rest r one =
     let cs = station_contents s reserved in
     let c = cursor place (field_bits (fields_of station_table cs ++ height_fields s.height) ++ rest) in
     let split : c ≡ cursor place (field_bits (fields_of station_table cs) ++ (field_bits (height_fields s.height) ++ rest)) = ap (cursor place) (ap (λ t. t ++ rest) (field_bits-append (fields_of station_table cs) (height_fields s.height)) ∙ append_assoc (field_bits (fields_of station_table cs)) (field_bits (height_fields s.height)) rest) in
-    let first = fields_again station_table cs place (field_bits (height_fields s.height) ++ rest) refl (fit_again s reserved r one) in
+    let first = fields_again station_table cs place (field_bits (height_fields s.height) ++ rest) refl (r.station, (r.realization, (tt, (tt, (tt, (tt, (r.x, (tt, (one, (r.y, (r.quarter, (r.z, tt)))))))))))) in
     let second = height_again s.height (place + total_width station_widths) rest r.height in
     station_chain (is_some s.height) c ∙ rw (split, first, second) refl

@@ -1,10 +1,10 @@
-use Rattle.std.proofs.Common.{ℕ, ℤ, pos, ◌≡◌, ◌*◌, ◌≤◌, ◌^◌, ◌*ℤ◌, ◌==◌, ◌∙◌, unsigned_abs, Bool, true, false, not, if◌then◌else◌, IfSome, Some, None, refl, sym, arith, lit<, w32, w64, of_z, FitsSigned}
+use Rattle.std.proofs.Common.{ℕ, ℤ, pos, ◌≡◌, ◌*◌, ◌≤◌, ◌^◌, ◌*ℤ◌, ◌==◌, ◌∙◌, unsigned_abs, Bool, true, false, not, if◌then◌else◌, IfSome, Some, None, refl, sym, arith, lit<, w32, w64, of_z, FitsSigned, lit≤}
 use Rattle.std.proofs.lemmas.Bool.Decides.{Decides-eqb, Decides-int_eq}
 use Rattle.std.proofs.lemmas.Int.{to_z-of_z, to_z_pos, fits_signed_mul, unsigned_abs-mul}
 use Rattle.std.specs.Bool.{Decides, then_some}
 use Rattle.std.specs.Ordering.{int_eq}
 use Rattle.rtcm_msg.specs.Names.{scaled}
-use Rattle.rtcm_msg.proofs.SignedLaws.{wide_32_64, size_32}
+use Rattle.rtcm_msg.proofs.SignedLaws.{wider, size_32}
 use Rattle.rtcm_msg.proofs.grid.scaled.Goals as goal
 
 same_test : {P Q : Type 0} (a b : Bool) → Decides a P → Decides b Q → (P → Q) → (Q → P) → a ≡ b
@@ -34,7 +34,7 @@ pub overflow_mul-number : goal.overflow_mul-number
 overflow_mul-number c =
     let z = c.args.number in
     let unit = to_z_pos w64 c.args.unit (omega (arith, c.requires.few)) in
-    rw (wide_32_64 z c.ranges.number, unit) (product_fits z c.args.unit c.ranges.number c.requires.few)
+    rw (wider w32 w64 z c.ranges.number (lit≤ tt), unit) (product_fits z c.args.unit c.ranges.number c.requires.few)
 
 pub returns-clause-value : goal.returns-clause-value
 returns-clause-value c =
@@ -43,7 +43,7 @@ returns-clause-value c =
     let test = same_test (of_z w32 z == of_z w32 i) (int_eq z i) (Decides-eqb (of_z w32 z) (of_z w32 i)) (Decides-int_eq z i) (same_number z i c.ranges.number c.ranges.invalid) (λ e. rw e refl) in
     let unit = to_z_pos w64 c.args.unit (omega (arith, c.requires.few)) in
     let product = to_z-of_z w64 (z *ℤ pos c.args.unit) (product_fits z c.args.unit c.ranges.number c.requires.few) in
-    c.then_some.ensures ∙ rw (test, wide_32_64 z c.ranges.number, unit, product) (branch (int_eq z i) (z *ℤ pos c.args.unit))
+    c.then_some.ensures ∙ rw (test, wider w32 w64 z c.ranges.number (lit≤ tt), unit, product) (branch (int_eq z i) (z *ℤ pos c.args.unit))
 
 pub returns-clause-fits : goal.returns-clause-fits
 returns-clause-fits c = λ h. rw (returns-clause-value c) (bounded c.args.number c.args.invalid c.args.unit (2 ^ 33) h)

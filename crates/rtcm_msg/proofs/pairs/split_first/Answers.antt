@@ -17,12 +17,8 @@ removed w m j few top =
 pub overflow_sub-result : goal.overflow_sub-result
 overflow_sub-result c = let top = top_of c.args.width c.args.mask c.requires.some c.requires.within c.requires.few in omega (arith, top.within)
 
-pub returns-clause-first : goal.returns-clause-first
-returns-clause-first c =
+pub returns : goal.returns
+returns c =
     let top = top_of c.args.width c.args.mask c.requires.some c.requires.within c.requires.few in
-    rw (removed c.args.width c.args.mask (63 - count_leading_zeros 64 c.args.mask) c.requires.few top) (ids_split c.args.width c.args.mask (63 - count_leading_zeros 64 c.args.mask) top)
-
-pub returns-clause-fits : goal.returns-clause-fits
-returns-clause-fits c =
-    let top = top_of c.args.width c.args.mask c.requires.some c.requires.within c.requires.few in
-    rw (removed c.args.width c.args.mask (63 - count_leading_zeros 64 c.args.mask) c.requires.few top) (omega (arith, c.requires.within))
+    let rest = removed c.args.width c.args.mask (63 - count_leading_zeros 64 c.args.mask) c.requires.few top in
+    record { first = rw rest (ids_split c.args.width c.args.mask (63 - count_leading_zeros 64 c.args.mask) top); fits = rw rest (omega (arith, c.requires.within)) }

@@ -5,17 +5,11 @@ use Rattle.rtcm_msg.specs.declared.message.Message.TheVariants as messages
 use Rattle.rtcm_msg.proofs.HeadLaws.{station_missing, station_whole}
 use Rattle.rtcm_msg.proofs.station.view_station.Goals as goal
 
-not_read : (has : Bool) (c : Cursor) (x : MsgFault) → station_at has c ≡ Err x → station_message_at has c ≡ Err x
-not_read has c x e = rw e refl
-
-is_read : (has : Bool) (c d : Cursor) (s : StationParts) → station_at has c ≡ Ok (s, d) → station_message_at has c ≡ Ok (messages.Station s)
-is_read has c d s e = rw e refl
-
 pub returns-in_err-end_of_fields : goal.returns-in_err-end_of_fields
 returns-in_err-end_of_fields c =
     let p = err_from_is_err_and c.from_residual.result c.from_residual.ensures.1 in
     rw (p.1, p.2)
-    (not_read c.args.has_height _ _ (station_missing c.args.bytes.now c.args.has_height _ c.requires.number (c.in_err-end_of_fields.ensures.exact ∙ ap (λ (ws : List ℕ). end_of_rows ws 1 (8 * length c.args.bytes.now) 12) c.field_widths.ensures)))
+    (rw (station_missing c.args.bytes.now c.args.has_height _ c.requires.number (c.in_err-end_of_fields.ensures.exact ∙ ap (λ (ws : List ℕ). end_of_rows ws 1 (8 * length c.args.bytes.now) 12) c.field_widths.ensures)) refl)
 
 room : (ws : List ℕ) (has : Bool) (end bits : ℕ) → ws ≡ field_widths has → end ≡ 12 + 1 * total_width ws → end ≤ bits → 12 + total_width (field_widths has) ≤ bits
 room ws has end bits same e h = rw (← same) (omega (arith, e, h))
@@ -23,4 +17,4 @@ room ws has end bits same e h = rw (← same) (omega (arith, e, h))
 pub returns : goal.returns
 returns c =
     rw c.parts_in.ensures.value
-    (is_read c.args.has_height _ _ _ (station_whole c.args.bytes.now c.args.has_height (room c.field_widths.result.now c.args.has_height c.in_ok-end_of_fields.field-0 _ c.field_widths.ensures c.in_ok-end_of_fields.ensures.end c.in_ok-end_of_fields.ensures.within)))
+    (rw (station_whole c.args.bytes.now c.args.has_height (room c.field_widths.result.now c.args.has_height c.in_ok-end_of_fields.field-0 _ c.field_widths.ensures c.in_ok-end_of_fields.ensures.end c.in_ok-end_of_fields.ensures.within)) refl)

@@ -1,18 +1,16 @@
-use Rattle.std.proofs.Common.{◌+◌, ◌*◌, ◌∙◌, arith, ap, sym, rules, w16, w32, FitsSigned}
+use Rattle.std.proofs.Common.{◌+◌, ◌*◌, ◌∙◌, arith, ap, sym, rules, w16, w32, w64, lit≤}
 use Rattle.rtcm_msg.specs.Names.{bits_of}
 use Rattle.rtcm_msg.specs.Grid4.{cell_of, cell_table}
 use Rattle.rtcm_msg.proofs.ContentLaws.{unpacked_row}
-use Rattle.rtcm_msg.proofs.SignedLaws.{narrow_16, narrow_32}
+use Rattle.rtcm_msg.proofs.SignedLaws.{narrower}
 use Rattle.rtcm_msg.proofs.grid4.Grid4ReadGrid.cell_in.Goals as goal
 
 pub returns : goal.returns
 returns c =
     let b = c.args.cells.now in
     let ends = c.requires.last in
-    let f0 : FitsSigned w16 c.signed_to.result = search rules in
-    let f1 : FitsSigned w32 c.signed_to-2.result = search rules in
-    let range = narrow_16 c.signed_to.result f0 ∙ c.signed_to.ensures.value b.place ends.0 in
-    let phase = narrow_32 c.signed_to-2.result f1 ∙ c.signed_to-2.ensures.value (b.place + b.count * 15) ends.1.0 in
+    let range = narrower w64 w16 c.signed_to.result (search rules) (lit≤ tt) ∙ c.signed_to.ensures.value b.place ends.0 in
+    let phase = narrower w64 w32 c.signed_to-2.result (search rules) (lit≤ tt) ∙ c.signed_to-2.ensures.value (b.place + b.count * 15) ends.1.0 in
     let lock = c.short_to.ensures.value (b.place + b.count * 37) (omega (arith, ends.1.1.0)) in
     let half_cycle = c.short_to-2.ensures.value (b.place + b.count * 41) (omega (arith, ends.1.1.1.0)) in
     let strength = c.short_to-3.ensures.value (b.place + b.count * 42) (omega (arith, ends.1.1.1.1.0)) in

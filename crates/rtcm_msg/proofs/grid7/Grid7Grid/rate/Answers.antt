@@ -1,10 +1,11 @@
-use Rattle.std.proofs.Common.{ℕ, ℤ, pos, negsuc, ◌≡◌, ◌*ℤ◌, ◌+ℤ◌, ◌-◌, ◌≤◌, ◌^◌, unsigned_abs, Some, Bool, true, false, refl, ap, arith, rules, w16, w32, to_z, of_z, FitsSigned}
+use Rattle.std.proofs.Common.{ℕ, ℤ, pos, negsuc, ◌≡◌, ◌*ℤ◌, ◌+ℤ◌, ◌-◌, ◌≤◌, ◌^◌, unsigned_abs, Some, Bool, true, false, refl, ap, arith, rules, w16, w32, to_z, of_z, FitsSigned, lit≤}
 use Rattle.std.proofs.lemmas.Int.{ints, to_z-of_z}
 use Rattle.std.proofs.lemmas.Bool.Decides.{Decides-int_eq}
 use Rattle.std.specs.Bool.{Decides}
 use Rattle.std.specs.Ordering.{int_eq}
-use Rattle.rtcm_msg.specs.Names.{FitsInt, rate_joined}
-use Rattle.rtcm_msg.proofs.SignedLaws.{wide_16_32}
+use Rattle.rtcm_msg.specs.Names.{rate_joined}
+use Rattle.rtcm_msg.proofs.BoundsLaws.{rate_small, signed_within}
+use Rattle.rtcm_msg.proofs.SignedLaws.{wider}
 use Rattle.rtcm_msg.proofs.grid7.Grid7Grid.rate.Goals as goal
 
 not_that : {P : Type 0} (b : Bool) → Decides b P → (P → ⊥) → b ≡ false
@@ -19,20 +20,13 @@ sum_fits s c f g = omega (arith, ints, f, g)
 
 sum_is : (s c : ℤ) → FitsSigned w16 s → FitsSigned w16 c
     → to_z w32 (of_z w32 (to_z w32 (of_z w32 (to_z w32 (of_z w32 (to_z w16 (of_z w16 s))) *ℤ pos 10000)) +ℤ to_z w32 (of_z w32 (to_z w16 (of_z w16 c))))) ≡ (s *ℤ pos 10000) +ℤ c
-sum_is s c f g = rw (wide_16_32 s f, wide_16_32 c g, to_z-of_z w32 (s *ℤ pos 10000) (product_fits s f)) (to_z-of_z w32 ((s *ℤ pos 10000) +ℤ c) (sum_fits s c f g))
+sum_is s c f g = rw (wider w16 w32 s f (lit≤ tt), wider w16 w32 c g (lit≤ tt), to_z-of_z w32 (s *ℤ pos 10000) (product_fits s f)) (to_z-of_z w32 ((s *ℤ pos 10000) +ℤ c) (sum_fits s c f g))
 
 joined : (s c r : ℤ) → (of_z w16 s ≡ 57344 → ⊥) → (of_z w16 c ≡ 49152 → ⊥) → r ≡ (s *ℤ pos 10000) +ℤ c → Some r ≡ rate_joined s c
 joined s c r a b e =
     let rough = not_that (int_eq s (negsuc 8191)) (Decides-int_eq s (negsuc 8191)) (λ h. a (ap (of_z w16) h)) in
     let fine = not_that (int_eq c (negsuc 16383)) (Decides-int_eq c (negsuc 16383)) (λ h. b (ap (of_z w16) h)) in
     rw (rough, fine, e) refl
-
-abs_within : (w : ℕ) (z : ℤ) → FitsInt w z → unsigned_abs z ≤ 2 ^ (w - 1)
-abs_within w (pos n) f = omega (arith, f)
-abs_within w (negsuc n) f = f
-
-size : (s c : ℤ) → unsigned_abs s ≤ 8192 → unsigned_abs c ≤ 16384 → unsigned_abs ((s *ℤ pos 10000) +ℤ c) ≤ 100000000
-size s c f g = omega (arith, ints, f, g)
 
 pub returns-clause-value : goal.returns-clause-value
 returns-clause-value c =
@@ -48,4 +42,4 @@ returns-clause-bound c = λ hs hc.
     let f = c.args.cell.now.rate in
     let a : FitsSigned w16 s = search rules in
     let b : FitsSigned w16 f = search rules in
-    rw (sum_is s f a b) (size s f (abs_within 14 s hs.rate) (abs_within 15 f hc.rate))
+    rw (sum_is s f a b) (rate_small s f (signed_within 14 8192 s hs.rate (lit≤ tt)) (signed_within 15 16384 f hc.rate (lit≤ tt)))

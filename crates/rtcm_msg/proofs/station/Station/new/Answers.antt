@@ -12,8 +12,5 @@ fits (negsuc n) h = grind arith
 no_fault : (s : StationParts) → InRange s → station_fault s ≡ None
 no_fault s h = rw (below _ s.station h.station, below _ s.realization h.realization, fits s.x h.x, fits s.y h.y, below _ s.quarter h.quarter, fits s.z h.z) refl
 
-not_both : (r : Option Field) (f : Field) → r ≡ Some f → r ≡ None → ⊥
-not_both r f e g = cc
-
 pub returns-in-Some-clause-accepted : goal.returns-in-Some-clause-accepted
-returns-in-Some-clause-accepted c = λ h. absurd (not_both (station_fault c.args.parts) c.in-Some.field (sym c.in-Some.ensures.first) (no_fault c.args.parts h))
+returns-in-Some-clause-accepted c = λ h. let none = no_fault c.args.parts h in absurd (cc (none, c.in-Some.ensures.first))

@@ -15,17 +15,11 @@ next_fits next cells n h same few = omega (arith, h, same, few)
 pub split_cells-requires : goal.split_cells-requires
 split_cells-requires c = let left = c.self.invariant.0.left in record { few = left.1; count = left.0; in_range = left.2 }
 
-pub rough-satellite-requires-clause-keeps : goal.rough-satellite-requires-clause-keeps
-rough-satellite-requires-clause-keeps c = c.self.invariant.1
-
-pub entry-entry-requires-clause-rough : goal.entry-entry-requires-clause-rough
-entry-entry-requires-clause-rough c = c.rough-satellite.ensures
-
-pub entry-entry-requires-clause-cell : goal.entry-entry-requires-clause-cell
-entry-entry-requires-clause-cell c =
+pub entry-entry-requires : goal.entry-entry-requires
+entry-entry-requires c =
     let v = c.self.inside.view.now in
     let split = rw (c.cells.ensures.value ∙ ap (λ (s : MasksValue). s.cells) c.masks.ensures) at c.in_ok-pair.ensures.some.0 in
-    one_there (cell_pairs_left c.self.inside.cells.left v.msm.sets c.self.inside.cells.pairs) (cell_pairs_left c.in_ok-pair.left v.msm.sets c.in_ok-pair.pairs) c.in_ok-pair.pair c.self.inside.cells.next (length v.msm.cells) split c.self.invariant.0.next
+    record { rough = c.rough-satellite.ensures; cell = one_there (cell_pairs_left c.self.inside.cells.left v.msm.sets c.self.inside.cells.pairs) (cell_pairs_left c.in_ok-pair.left v.msm.sets c.in_ok-pair.pairs) c.in_ok-pair.pair c.self.inside.cells.next (length v.msm.cells) split c.self.invariant.0.next }
 
 pub overflow_add-self : goal.overflow_add-self
 overflow_add-self c =
@@ -34,9 +28,9 @@ overflow_add-self c =
     let there = one_there (cell_pairs_left c.self.inside.cells.left v.msm.sets c.self.inside.cells.pairs) (cell_pairs_left c.in_ok-pair.left v.msm.sets c.in_ok-pair.pairs) c.in_ok-pair.pair c.self.inside.cells.next (length v.msm.cells) split c.self.invariant.0.next in
     record { fits = next_fits c.self.inside.cells.next (length v.msm.cells) c.cells-2.result there c.cells-2.ensures.count c.cells-2.ensures.few }
 
-pub rough-satellite-requires-clause-there : goal.rough-satellite-requires-clause-there
-rough-satellite-requires-clause-there c =
-    index_below c.in_ok-pair.pair.index _ _ _ (c.in_ok-pair.ensures.indices (count_ones c.self.inside.view.now.msm.sets.satellites) c.self.invariant.0.left.3).0 c.satellites.ensures.count c.satellites.ensures.set
+pub rough-satellite-requires : goal.rough-satellite-requires
+rough-satellite-requires c =
+    record { there = index_below c.in_ok-pair.pair.index _ _ _ (c.in_ok-pair.ensures.indices (count_ones c.self.inside.view.now.msm.sets.satellites) c.self.invariant.0.left.3).0 c.satellites.ensures.count c.satellites.ensures.set; keeps = c.self.invariant.1 }
 
 pub invariant_of-self : goal.invariant_of-self
 invariant_of-self c =

@@ -7,20 +7,17 @@ use Rattle.rtcm_msg.proofs.view.MsmView.count_pair.Goals.{then-has_listed_value,
 
 pub has_listed_value-requires-clause-cell : goal.has_listed_value-requires-clause-cell
 has_listed_value-requires-clause-cell g c =
-    let there = cell_there c.args.self.now.msm.sets c.cells-2.result c.args.cells.left c.args.cells.pairs c.split_signal.result.1 c.split_signal.result.0 (c.cells-2.ensures.value ∙ ap (λ (s : MasksValue). s.cells) c.masks.ensures) c.split_signal.ensures.first
-    c.requires.cells.left.0 c.if-cells-left-eq1.true in
+    let there = cell_there c.args.self.now.msm.sets c.cells-2.result c.args.cells.left c.args.cells.pairs c.split_signal.result.1 c.split_signal.result.0 (c.cells-2.ensures.value ∙ ap (λ (s : MasksValue). s.cells) c.masks.ensures) c.split_signal.ensures.first c.requires.cells.left.0 c.if-cells-left-eq1.true in
     next_there c.args.cells.next _ _ _ _ there c.requires.cells.next
 
 pub returns-after-has_listed_value-clause-cells : goal.returns-after-has_listed_value-clause-cells
 returns-after-has_listed_value-clause-cells g c =
-    let there = cell_there c.args.self.now.msm.sets c.cells-2.result c.args.cells.left c.args.cells.pairs c.split_signal.result.1 c.split_signal.result.0 (c.cells-2.ensures.value ∙ ap (λ (s : MasksValue). s.cells) c.masks.ensures) c.split_signal.ensures.first
-    c.requires.cells.left.0 c.if-cells-left-eq1.true in
+    let there = cell_there c.args.self.now.msm.sets c.cells-2.result c.args.cells.left c.args.cells.pairs c.split_signal.result.1 c.split_signal.result.0 (c.cells-2.ensures.value ∙ ap (λ (s : MasksValue). s.cells) c.masks.ensures) c.split_signal.ensures.first c.requires.cells.left.0 c.if-cells-left-eq1.true in
     after_cell c.args.self.now c.args.cells c.split_signal.result.1 c.split_signal.result.0 c.requires.cells c.split_signal.ensures.first c.split_signal.ensures.in_range there
 
 pub returns-else-cells-left-eq1-clause-cells : goal.returns-else-cells-left-eq1-clause-cells
 returns-else-cells-left-eq1-clause-cells g c =
-    let none = cell_none c.args.self.now.msm.sets c.cells-2.result c.args.cells.left c.args.cells.pairs c.split_signal.result.1 c.split_signal.result.0 (c.cells-2.ensures.value ∙ ap (λ (s : MasksValue). s.cells) c.masks.ensures) c.split_signal.ensures.first
-    c.requires.cells.left.0 c.if-cells-left-eq1.false in
+    let none = cell_none c.args.self.now.msm.sets c.cells-2.result c.args.cells.left c.args.cells.pairs c.split_signal.result.1 c.split_signal.result.0 (c.cells-2.ensures.value ∙ ap (λ (s : MasksValue). s.cells) c.masks.ensures) c.split_signal.ensures.first c.requires.cells.left.0 c.if-cells-left-eq1.false in
     after_none c.args.self.now c.args.cells c.split_signal.result.1 c.split_signal.result.0 c.requires.cells c.split_signal.ensures.first c.split_signal.ensures.in_range none
 
 pub returns-after-has_listed_value-clause-counts : goal.returns-after-has_listed_value-clause-counts
@@ -37,6 +34,5 @@ returns-after-has_listed_value-clause-counts g c = λ i h.
 
 pub returns-else-cells-left-eq1-clause-counts : goal.returns-else-cells-left-eq1-clause-counts
 returns-else-cells-left-eq1-clause-counts g c = λ i h.
-    let none = cell_none c.args.self.now.msm.sets c.cells-2.result c.args.cells.left c.args.cells.pairs c.split_signal.result.1 c.split_signal.result.0 (c.cells-2.ensures.value ∙ ap (λ (s : MasksValue). s.cells) c.masks.ensures) c.split_signal.ensures.first
-    c.requires.cells.left.0 c.if-cells-left-eq1.false in
+    let none = cell_none c.args.self.now.msm.sets c.cells-2.result c.args.cells.left c.args.cells.pairs c.split_signal.result.1 c.split_signal.result.0 (c.cells-2.ensures.value ∙ ap (λ (s : MasksValue). s.cells) c.masks.ensures) c.split_signal.ensures.first c.requires.cells.left.0 c.if-cells-left-eq1.false in
     entries_same c.args.listed i (slice_index c.args.counts.now i) c.args.self.now _ _ c.args.cells.next none
