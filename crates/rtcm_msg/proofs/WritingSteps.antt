@@ -21,11 +21,8 @@ pub width_next : (fs : List (ℕ × ℕ)) (i : ℕ) → i < length fs → fields
 width_next fs i h = rw (add-one i, drop-cons fs i (0, 0) h) refl
 
 -- ---- columns
-low_part : (w n : ℕ) → uint w (n % 2 ^ w) ≡ uint w n
-low_part w n = sym (uint-low w (n / 2 ^ w) (n % 2 ^ w)) ∙ ap (uint w) (div-add-mod' n (2 ^ w))
-
 pub column_put : (old new : List Bool) (w s n : ℕ) → w ≤ 64 → s < 128 → new ≡ old ++ uint w (n / ((1 * 2 ^ s) % 2 ^ 128) % ((1 * 2 ^ w) % 2 ^ 128)) → new ≡ old ++ uint w (n / 2 ^ s)
-column_put old new w s n few h put = rw (one_shl s 128 h, one_shl w 128 (omega arith), low_part w (n / 2 ^ s)) at put
+column_put old new w s n few h put = rw (one_shl s 128 h, one_shl w 128 (omega arith), sym (uint-low w (n / 2 ^ s / 2 ^ w) (n / 2 ^ s % 2 ^ w)) ∙ ap (uint w) (div-add-mod' (n / 2 ^ s) (2 ^ w))) at put
 
 pub column_next : (f : ℕ → List Bool) (ns : List ℕ) (i : ℕ) (old new whole : List Bool) → i < length ns → new ≡ old ++ f (get_or ns i 0) → old ++ flat_map f (drop i ns) ≡ whole → new ++ flat_map f (drop (i + 1) ns) ≡ whole
 column_next f ns i old new whole h put inv =

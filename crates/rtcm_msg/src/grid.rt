@@ -231,11 +231,12 @@ pub(crate) trait HasFields {
         ensures { result ≡ is_bad field self.now };
 }
 
-/// Returns whether a field does not fit its bits in some of the data.
-pub(crate) fn has_bad<T: HasFields>(items: &[T], field: Field) -> bool
-    ensures { result ≡ list_any (T.is_bad field) items.now }
+/// Returns a field after whether it does not fit its bits in some of the data.
+pub(crate) fn tested<T: HasFields>(items: &[T], field: Field) -> (bool, Field)
+    ensures bad { result.0 ≡ list_any (T.is_bad field) items.now }
+    ensures field { result.1 ≡ field }
 {
-    items.iter().any(|item| item.is_bad(field))
+    (items.iter().any(|item| item.is_bad(field)), field)
 }
 
 /// Returns a fine part in 2^-31 ms: `number` units of `unit`, or `None` for the invalid number.

@@ -1,7 +1,7 @@
 //! The precision of MSM4.
 use crate::fault::{Field, first_of};
 use crate::field::{short_to, signed_to};
-use crate::grid::{Grid, HasFields, ReadGrid, has_bad, range_joined, scaled};
+use crate::grid::{Grid, HasFields, ReadGrid, range_joined, scaled, tested};
 use crate::last_bits::LastBits;
 use crate::view::Form;
 use rtcm_bits::{raw_of, signed_of};
@@ -102,20 +102,17 @@ impl Grid for Grid4 {
 
     fn satellite_fault(satellites: &[Satellite4]) -> Option<Field> {
         first_of(&[
-            (has_bad(satellites, Field::RangeWhole), Field::RangeWhole),
-            (
-                has_bad(satellites, Field::RangeFraction),
-                Field::RangeFraction,
-            ),
+            tested(satellites, Field::RangeWhole),
+            tested(satellites, Field::RangeFraction),
         ])
     }
 
     fn cell_fault(cells: &[Cell4]) -> Option<Field> {
         first_of(&[
-            (has_bad(cells, Field::FineRange), Field::FineRange),
-            (has_bad(cells, Field::FinePhase), Field::FinePhase),
-            (has_bad(cells, Field::Lock), Field::Lock),
-            (has_bad(cells, Field::Strength), Field::Strength),
+            tested(cells, Field::FineRange),
+            tested(cells, Field::FinePhase),
+            tested(cells, Field::Lock),
+            tested(cells, Field::Strength),
         ])
     }
 

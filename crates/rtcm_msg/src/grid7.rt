@@ -1,7 +1,7 @@
 //! The precision of MSM7.
 use crate::fault::{Field, first_of};
 use crate::field::{short_to, signed_to};
-use crate::grid::{Grid, HasFields, ReadGrid, has_bad, range_joined, scaled};
+use crate::grid::{Grid, HasFields, ReadGrid, range_joined, scaled, tested};
 use crate::last_bits::LastBits;
 use crate::view::Form;
 use rtcm_bits::{raw_of, signed_of};
@@ -111,23 +111,20 @@ impl Grid for Grid7 {
 
     fn satellite_fault(satellites: &[Satellite7]) -> Option<Field> {
         first_of(&[
-            (has_bad(satellites, Field::RangeWhole), Field::RangeWhole),
-            (has_bad(satellites, Field::Extended), Field::Extended),
-            (
-                has_bad(satellites, Field::RangeFraction),
-                Field::RangeFraction,
-            ),
-            (has_bad(satellites, Field::RoughRate), Field::RoughRate),
+            tested(satellites, Field::RangeWhole),
+            tested(satellites, Field::Extended),
+            tested(satellites, Field::RangeFraction),
+            tested(satellites, Field::RoughRate),
         ])
     }
 
     fn cell_fault(cells: &[Cell7]) -> Option<Field> {
         first_of(&[
-            (has_bad(cells, Field::FineRange), Field::FineRange),
-            (has_bad(cells, Field::FinePhase), Field::FinePhase),
-            (has_bad(cells, Field::Lock), Field::Lock),
-            (has_bad(cells, Field::Strength), Field::Strength),
-            (has_bad(cells, Field::FineRate), Field::FineRate),
+            tested(cells, Field::FineRange),
+            tested(cells, Field::FinePhase),
+            tested(cells, Field::Lock),
+            tested(cells, Field::Strength),
+            tested(cells, Field::FineRate),
         ])
     }
 

@@ -9,9 +9,6 @@ use Rattle.rtcm_msg.proofs.view.view_msm.Goals as goal
 abbrev placed : (form : Form) (g : Bool) (bytes : List ℕ) (h : MsmHeader) (s : MasksValue) (n place m at q : ℕ) → q ≡ at → Found form g (bits_of bytes) (cursor_at (bits_of bytes) 12) h s n place m at → Found form g (bits_of bytes) (cursor_at (bits_of bytes) 12) h s n place m q
 placed form g bytes h s n place m at q e f = subst (λ (x : ℕ). Found form g (bits_of bytes) (cursor_at (bits_of bytes) 12) h s n place m x) (sym e) f
 
-few_satellites : (n : ℕ) (s : MasksValue) → AreMasks s → n ≡ s.satellites → count_ones n ≤ 64
-few_satellites n s h e = rw e (ones-le 64 s.satellites h.satellites)
-
 few_cells : (n : ℕ) (s : MasksValue) → AreMasks s → n ≡ s.cells → count_ones n ≤ 64
 few_cells n s h e = rw e (let few = ones-le (pair_count s.satellites s.signals) s.cells h.cells in omega (arith, few, h.few))
 
@@ -41,7 +38,7 @@ invariant_of-result c =
     c.in_ok-cells_at.ensures.exact c.in_ok-cells_at.ensures.within c.in_ok-end_of_fields.ensures.exact c.in_ok-end_of_fields.ensures.within c.in_ok-header.ensures.is_header c.cells.ensures.sets) in (
       here.value,
       record {
-        satellites_few = few_satellites c.satellites.result c.in_ok-header.masks c.cells.ensures.sets c.satellites.ensures;
+        satellites_few = rw c.satellites.ensures (ones-le 64 c.in_ok-header.masks.satellites c.cells.ensures.sets.satellites);
         cells_few = few_cells c.cells.result c.in_ok-header.masks c.cells.ensures.sets c.cells.ensures.value;
         there = are_within c.args.form c.args.bytes.now (count_ones c.satellites.result) c.in_ok-header.satellites_at (count_ones c.cells.result) c.last_bits.result c.requires.small (omega (arith, c.in_ok-header.ensures.within.0)) here.order here.satellites_there here.cells_there
             c.last_bits.ensures.count c.last_bits.ensures.last;
