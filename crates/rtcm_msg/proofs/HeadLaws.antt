@@ -35,12 +35,9 @@ end_once (w ∷ ws) len place h = elim (cases_lt len (place + w)) [
     one : (w : ℕ) → 1 * w ≡ w
     one w = omega arith
 
-err_inj : (e f : MsgFault) (r : Result ℕ MsgFault) → Err e ≡ r → r ≡ Err f → e ≡ f
-err_inj e f r a b = cc
-
 -- A failed check is the fault of the first field that does not end within the bits.
 same_short : (ws : List ℕ) (bits : List Bool) (place : ℕ) (e f : MsgFault) → place ≤ length bits → Err e ≡ end_of_rows ws 1 (length bits) place → ShortAt bits place ws f → f ≡ e
-same_short ws bits place e f h check s = sym (err_inj e f _ check (end_once ws (length bits) place h ∙ (ap (short_or_end (place + total_width ws)) s.past ∙ ap Err (sym s.is))))
+same_short ws bits place e f h check s = cc (check, end_once ws (length bits) place h, ap (short_or_end (place + total_width ws)) s.past, s.is)
 
 no_short : (ws : List ℕ) (bits : List Bool) (place : ℕ) (e : MsgFault) → place ≤ length bits → Err e ≡ end_of_rows ws 1 (length bits) place → first_past (length bits) place ws ≡ None → ⊥
 no_short ws bits place e h check none = ok_err (place + total_width ws) e _ (ap (short_or_end (place + total_width ws)) none) (sym (end_once ws (length bits) place h) ∙ sym check)

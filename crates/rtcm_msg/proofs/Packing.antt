@@ -30,6 +30,3 @@ room_packed f k xs ns is h few =
 
 pub next_taken : (k : ℕ) (xs ns new : List ℕ) (n : ℕ) → k < length xs → n ≡ get_or xs k 0 → ns ≡ take k xs → new ≡ ns ++ (n ∷ []) → new ≡ take (k + 1) xs
 next_taken k xs ns new n h number is push = rw (push, is, number, add-one k) (sym (take-suc xs k 0 h))
-
-pub room_taken : (k n : ℕ) (xs ns : List ℕ) → ns ≡ take k xs → k < n → n ≡ length xs → n ≤ 64 → length ns < 64
-room_taken k n xs ns is h all few = rw (is, length-take-le k xs (omega (arith, h, all))) (omega (arith, h, few))

@@ -143,9 +143,6 @@ all_left s m g sets e f =
 
 -- ---- cells
 
-cell_set : (n r : ℕ) → n / 2 ^ r % 2 ≡ 1 → odd (n / 2 ^ r) ≡ true
-cell_set n r h = rw h refl
-
 cell_clear : (n r : ℕ) → n / 2 ^ r % 2 ≢ 1 → odd (n / 2 ^ r) ≡ false
 cell_clear n r h = grind (arith, h)
 
@@ -153,7 +150,7 @@ cell_clear n r h = grind (arith, h)
 pub found : (l n : ℕ) (xs ys : List Pair) (x : Pair) → length xs ≡ l → xs ≡ x ∷ ys → n / 2 ^ (l - 1) % 2 ≡ 1 → chosen (uint l n) xs ≡ x ∷ chosen (uint (l - 1) n) ys
 unfolding chosen uint
 found zero n xs ys x count e set = absurd (omega (arith, rw e at count))
-found (suc l) n xs ys x count e set = let down : suc l - 1 ≡ l = omega arith in rw (e, down, cell_set n l (rw down at set)) refl
+found (suc l) n xs ys x count e set = let down : suc l - 1 ≡ l = omega arith in let bit = rw down at set in rw (e, down, bit) refl
 
 pub passed : (l n : ℕ) (xs ys : List Pair) (x : Pair) → length xs ≡ l → xs ≡ x ∷ ys → n / 2 ^ (l - 1) % 2 ≢ 1 → chosen (uint l n) xs ≡ chosen (uint (l - 1) n) ys
 unfolding chosen uint

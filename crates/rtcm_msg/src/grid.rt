@@ -231,7 +231,7 @@ pub(crate) trait HasFields {
         ensures { result ≡ is_bad field self.now };
 }
 
-/// Returns a field after whether it does not fit its bits in some of the data.
+/// Returns whether a field does not fit its bits in some of the data, with the field.
 pub(crate) fn tested<T: HasFields>(items: &[T], field: Field) -> (bool, Field)
     ensures bad { result.0 ≡ list_any (T.is_bad field) items.now }
     ensures field { result.1 ≡ field }

@@ -213,7 +213,6 @@ impl<'a> MsmView<'a> {
     /// Returns, for each signal of the message, the number of its cells that have a value and whose
     /// satellite is in the set `listed`, in which the most significant bit is satellite ID 1.
     #[inline(always)]
-    #[tactic(auto, using(crate::proofs::ValueLaws::no_cells, crate::proofs::ValueLaws::few_entries))]
     pub fn value_counts(&self, listed: u64) -> ValueCounts
         ensures signals { result.left ≡ ids signal_mask_bits self.now.msm.sets.signals }
         ensures counts { (i : ℕ) → i < signal_mask_bits

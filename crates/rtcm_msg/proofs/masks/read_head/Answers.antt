@@ -47,3 +47,6 @@ returns-clause-read c =
       rw (end, c.number_at.ensures.value, c.number_at-satellites.ensures.value, c.number_at-signals.ensures.value)
           (masks_whole c.args.bytes.now (rw (c.number_at-satellites.ensures.value, c.number_at-signals.ensures.value) at c.if-pairs-gt-MOST_CELL_MASK_BITS.false) (rw (c.number_at-satellites.ensures.value, c.number_at-signals.ensures.value) at room)),
     )
+
+pub invariant_of-masks : goal.invariant_of-masks
+invariant_of-masks c = record { satellites = c.number_at-satellites.ensures.fits; signals = c.number_at-signals.ensures.fits; few = c.if-pairs-gt-MOST_CELL_MASK_BITS.false; cells = c.number_at.ensures.fits }

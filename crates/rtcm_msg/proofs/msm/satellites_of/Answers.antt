@@ -1,5 +1,5 @@
-use Rattle.std.proofs.Common.{arith, lit<, ◌∙◌}
-use Rattle.rtcm_msg.proofs.Packing.{next_taken, room_taken}
+use Rattle.std.proofs.Common.{◌∙◌}
+use Rattle.rtcm_msg.proofs.Packing.{next_taken}
 use Rattle.rtcm_msg.proofs.msm.satellites_of.Goals as goal
 
 pub loop-i-preserved : goal.loop-i-preserved

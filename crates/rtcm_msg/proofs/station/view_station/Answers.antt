@@ -1,7 +1,6 @@
-use Rattle.std.proofs.Common.{ℕ, List, Bool, Ok, Err, refl, ◌≡◌, ◌+◌, ◌*◌, ◌≤◌, ◌∙◌, ap, arith, length}
+use Rattle.std.proofs.Common.{ℕ, List, Bool, refl, ◌≡◌, ◌+◌, ◌*◌, ◌≤◌, ◌∙◌, ap, arith, length}
 use Rattle.std.proofs.lemmas.Result.{err_from_is_err_and}
-use Rattle.rtcm_msg.specs.Names.{total_width, end_of_rows, Cursor, MsgFault, StationParts, station_message_at, field_widths, station_at}
-use Rattle.rtcm_msg.specs.declared.message.Message.TheVariants as messages
+use Rattle.rtcm_msg.specs.Names.{total_width, end_of_rows, field_widths}
 use Rattle.rtcm_msg.proofs.HeadLaws.{station_missing, station_whole}
 use Rattle.rtcm_msg.proofs.station.view_station.Goals as goal
 

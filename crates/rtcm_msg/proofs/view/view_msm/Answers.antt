@@ -5,12 +5,9 @@ use Rattle.rtcm_msg.specs.Names.{bits_of, cursor_at, MsmHeader, Form, MasksValue
 use Rattle.rtcm_msg.proofs.ViewLaws.{AfterMasks, Found, first_short, second_short, whole, are_within}
 use Rattle.rtcm_msg.proofs.view.view_msm.Goals as goal
 
--- The message, by the place of its cells in the view.
+-- The message by the place of its cells in the view.
 abbrev placed : (form : Form) (g : Bool) (bytes : List ℕ) (h : MsmHeader) (s : MasksValue) (n place m at q : ℕ) → q ≡ at → Found form g (bits_of bytes) (cursor_at (bits_of bytes) 12) h s n place m at → Found form g (bits_of bytes) (cursor_at (bits_of bytes) 12) h s n place m q
 placed form g bytes h s n place m at q e f = subst (λ (x : ℕ). Found form g (bits_of bytes) (cursor_at (bits_of bytes) 12) h s n place m x) (sym e) f
-
-few_cells : (n : ℕ) (s : MasksValue) → AreMasks s → n ≡ s.cells → count_ones n ≤ 64
-few_cells n s h e = rw e (let few = ones-le (pair_count s.satellites s.signals) s.cells h.cells in omega (arith, few, h.few))
 
 pub returns-in_err-header : goal.returns-in_err-header
 returns-in_err-header c =
@@ -39,7 +36,7 @@ invariant_of-result c =
       here.value,
       record {
         satellites_few = rw c.satellites.ensures (ones-le 64 c.in_ok-header.masks.satellites c.cells.ensures.sets.satellites);
-        cells_few = few_cells c.cells.result c.in_ok-header.masks c.cells.ensures.sets c.cells.ensures.value;
+        cells_few = rw c.cells.ensures.value (let few = ones-le (pair_count c.in_ok-header.masks.satellites c.in_ok-header.masks.signals) c.in_ok-header.masks.cells c.cells.ensures.sets.cells in omega (arith, few, c.cells.ensures.sets.few));
         there = are_within c.args.form c.args.bytes.now (count_ones c.satellites.result) c.in_ok-header.satellites_at (count_ones c.cells.result) c.last_bits.result c.requires.small (omega (arith, c.in_ok-header.ensures.within.0)) here.order here.satellites_there here.cells_there
             c.last_bits.ensures.count c.last_bits.ensures.last;
       },

@@ -1,4 +1,4 @@
-use Rattle.std.proofs.Common.{ℕ, ℤ, pos, negsuc, ◌≡◌, ◌*ℤ◌, ◌+ℤ◌, ◌-◌, ◌≤◌, ◌^◌, unsigned_abs, Some, Bool, true, false, refl, ap, arith, rules, w16, w32, to_z, of_z, FitsSigned, lit≤}
+use Rattle.std.proofs.Common.{ℤ, pos, negsuc, ◌≡◌, ◌*ℤ◌, ◌+ℤ◌, Some, Bool, true, false, refl, ap, arith, rules, w16, w32, to_z, of_z, FitsSigned, lit≤}
 use Rattle.std.proofs.lemmas.Int.{ints, to_z-of_z}
 use Rattle.std.proofs.lemmas.Bool.Decides.{Decides-int_eq}
 use Rattle.std.specs.Bool.{Decides}
