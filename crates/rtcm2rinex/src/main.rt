@@ -45,7 +45,8 @@ fn run(rt: &HostRuntime) -> io::Result<u8> {
 }
 
 /// Runs the command that the words ask for over the standard streams, and returns the exit status.
-// A function of its own, so that none of its exits drops the words.
+// A function of its own: if the exits of these calls also dropped the words, the proof of each would
+// be longer.
 fn run_words(rt: &HostRuntime, words: &[&str]) -> io::Result<u8> {
     let alloc: Global = rt.alloc();
     // Files are read line by line, streams in small pieces, and lines are written one by one. The
