@@ -14,11 +14,11 @@ mod times;
 mod writing;
 
 use arrayvec::ArrayVec;
+use devices_for_tests::{ShortWriter, WriteEnd};
 use gnss_obs::{GpsTime, Plan, StationValues};
 use parts::{Part, text_of};
 use rinex_file::{Head, HeadFault, HeaderField, HeaderTexts, Texts, header_lines};
 use rtcm_bits::Counted;
-use rtcm_bits::devices::{ShortWriter, WriteEnd};
 use std::alloc::Global;
 
 /// The values of a station.

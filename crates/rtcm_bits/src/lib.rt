@@ -7,7 +7,6 @@ mod complement;
 mod counted;
 mod crc;
 mod deliver;
-pub mod devices;
 mod folding;
 mod framing;
 pub mod laws;

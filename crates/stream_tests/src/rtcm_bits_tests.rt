@@ -9,7 +9,7 @@ mod windows;
 
 use arrayvec::ArrayVec;
 use buffered::Stumbles;
-use rtcm_bits::devices::{PieceReader, ReadEnd, ShortWriter, WriteEnd};
+use devices_for_tests::{PieceReader, ReadEnd, ShortWriter, WriteEnd};
 use rtcm_bits::{BitReader, BitWriter, CheckRegister, Counted, LONGEST_MESSAGE, crc24q, frame_of};
 use std::io;
 use std::io::{ErrorKind, Read, Write};

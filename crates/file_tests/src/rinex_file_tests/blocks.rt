@@ -1,9 +1,9 @@
 //! The blocks in which a file is read ahead: their reads, which no clause counts, and lines that
 //! continue in the next block.
 use super::long::long_text;
+use devices_for_tests::{PieceReader, ReadEnd};
 use rinex_file::{Counts, ReadFault, check_file, file_bytes, read_file};
 use rtcm_bits::Counted;
-use rtcm_bits::devices::{PieceReader, ReadEnd};
 use std::alloc::Global;
 use std::io;
 use std::io::Read;

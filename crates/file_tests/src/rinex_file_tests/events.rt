@@ -2,8 +2,8 @@
 use super::parts::Part;
 use super::reading::{Content, SMALL, have_faults, is_counted, is_read_back};
 use super::{ALL, Takes, VALUES, has_written, is_outcome, length, writer};
+use devices_for_tests::WriteEnd;
 use rinex_file::{ReadFault, write_event};
-use rtcm_bits::devices::WriteEnd;
 use std::io::ErrorKind;
 
 static FILE: [Part; 4] = [Part::Header, Part::Epoch, Part::Event, Part::Second];

@@ -1,12 +1,12 @@
 //! The output of a gathered message, and the end of writing at a failure.
 use super::parts::Part;
 use super::{ALL, OWN_TEXTS, Takes, Writer, has_written, is_outcome, length, writer};
+use devices_for_tests::WriteEnd;
 use gnss_obs::{Epoch, GpsTime, Plan, Sat, System};
 use obs_epoch::{Gather, Gatherer};
 use rinex_file::{
     Head, HeadFault, HeaderTexts, Line, epoch_line, satellite_line, write_epoch, write_header,
 };
-use rtcm_bits::devices::WriteEnd;
 use rtcm_msg::{Message, decode};
 use std::alloc::Global;
 use std::io::ErrorKind;

@@ -2,7 +2,7 @@
 use super::Frame;
 use super::script::{Call, IDLE, OPTIONS, Options, Script, Way, all_hold};
 use crate::texts::have_texts;
-use rtcm_bits::devices::{ReadEnd, WriteEnd};
+use devices_for_tests::{ReadEnd, WriteEnd};
 use rtcm_convert::Fault;
 use rtcm_scan::MOST_BYTES;
 use std::io::ErrorKind;

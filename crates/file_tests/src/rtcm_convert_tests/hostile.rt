@@ -3,7 +3,7 @@
 use super::ONE;
 use super::by_definition::{DefinedConversion, SIZE, defined_conversion, four_frames, piece};
 use super::script::{OPTIONS, converter, feed, looks, writer};
-use rtcm_bits::devices::WriteEnd;
+use devices_for_tests::WriteEnd;
 use rtcm_convert::{Converter, Fault, Report};
 use std::alloc::Global;
 

@@ -4,10 +4,10 @@
 //! makes and drops each of them, and a test is a table of scripts.
 use super::by_definition::Text;
 use super::{Frame, bytes_of, file};
+use devices_for_tests::{PieceReader, ReadEnd, ShortWriter, WriteEnd};
 use gnss_obs::{Plan, System};
 use obs_epoch::Gather;
 use rinex_file::{HeaderTexts, Texts};
-use rtcm_bits::devices::{PieceReader, ReadEnd, ShortWriter, WriteEnd};
 use rtcm_bits::{Counted, Deliver};
 use rtcm_convert::{Converter, Fault, Report, Setup, convert_pieces, convert_stream};
 use rtcm_scan::MOST_BYTES;

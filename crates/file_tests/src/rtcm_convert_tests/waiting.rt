@@ -5,7 +5,7 @@ ghost use Rattle.std.specs.Prelude.{◌≡◌, [], OnOk};
 use super::by_definition::Text;
 use super::script::{OPTIONS, convert, stream_of};
 use super::{Frame, TWO, file};
-use rtcm_bits::devices::{PieceReader, ReadEnd};
+use devices_for_tests::{PieceReader, ReadEnd};
 use rtcm_bits::{Counted, Deliver};
 use rtcm_convert::{Fault, Report};
 use std::alloc::Global;

@@ -2,7 +2,7 @@
 use super::scenario::{FAULTLESS, READ, Room, Setting, WRITE, ends, run};
 use super::texts::{Text, front};
 use crate::command::command;
-use rtcm_bits::devices::{PieceReader, ReadEnd, ShortWriter, WriteEnd};
+use devices_for_tests::{PieceReader, ReadEnd, ShortWriter, WriteEnd};
 use rtcm_bits::{Buffered, Counted, Deliver};
 use std::alloc::Global;
 use std::io;

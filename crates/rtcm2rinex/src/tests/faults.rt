@@ -12,7 +12,7 @@ use super::texts::ExpectedLine::{Above, NextTime, NextValues, Position, Time, Tw
 use super::texts::Piece::{Fine, Framed, Front};
 use super::texts::Text::{Bytes, File, Lines, Stream};
 use super::texts::{FINE_FILE, REPORT, Text};
-use rtcm_bits::devices::{ReadEnd, WriteEnd};
+use devices_for_tests::{ReadEnd, WriteEnd};
 use std::io::ErrorKind;
 
 /// The frame of `FINE`.

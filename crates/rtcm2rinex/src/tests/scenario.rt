@@ -4,8 +4,8 @@
 //! them, and a test is a setting and a list of cases.
 use super::texts::Text;
 use crate::command::command;
+use devices_for_tests::{PieceReader, ReadEnd, ShortWriter, WriteEnd};
 use rtcm_bits::Counted;
-use rtcm_bits::devices::{PieceReader, ReadEnd, ShortWriter, WriteEnd};
 use std::alloc::{AllocError, Global};
 use std::process::Abort;
 

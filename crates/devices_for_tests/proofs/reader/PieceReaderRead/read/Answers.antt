@@ -1,6 +1,6 @@
 use Rattle.std.proofs.Common.{◌<◌, ◌≡◌, ◌∙◌, ap, length, min}
-use Rattle.rtcm_bits.proofs.DeviceLemmas.{read_gives, not_empty}
-use Rattle.rtcm_bits.proofs.devices.PieceReaderRead.read.Goals as goal
+use Rattle.devices_for_tests.proofs.ReadLemmas.{read_gives, not_empty}
+use Rattle.devices_for_tests.proofs.reader.PieceReaderRead.read.Goals as goal
 
 pub returns-clause-bytes : goal.returns-clause-bytes
 returns-clause-bytes c =
