@@ -1,7 +1,9 @@
 -- The counts of looks of a window. Only the first ones are stored.
-use Rattle.std.proofs.Common.{◌≡◌, ℕ, ◌+◌, ◌-◌, ◌<◌, ◌≤◌, min, max, List, [], ◌∷◌, ◌++◌, length, drop, replicate, slice_index, slice_set, refl, sym, ap, ◌∙◌, arith, suc, zero, length-append, length-drop, append_assoc, ⊎_elim}
+use Rattle.std.proofs.Common.{◌≡◌, ℕ, ◌+◌, ◌-◌, ◌<◌, ◌≤◌, min, max, List, [], ◌∷◌, ◌++◌, length, drop, replicate, slice_index, slice_set, refl, sym, ap, ◌∙◌, arith, suc, zero, length-append, length-drop, append_assoc, ⊎_elim, ltb, get_or, Bool, true, false}
+use Rattle.std.proofs.lemmas.Bool.{lt-ltb, le-ltb}
+use Rattle.std.proofs.lemmas.List.{get_or_default}
 use Rattle.rtcm_bits.proofs.WindowLemmas.{shifted, through_counts}
-use Rattle.rtcm_bits.proofs.Names.{drop-append-le, drop-replicate, drop-set-lt, get_or-append-add, get_or-append_right, get_or_append_left, get_or-replicate, get_or-set_other, length-replicate, length-set, replicate-append-replicate, set-append_left, cases_lt, drop-append-add, get_or-append_seam, set-append_seam, Buffer, buffer, WindowValue, held_of, filled_up, counts_alone, looked_through, pushed_all, without_front}
+use Rattle.rtcm_bits.proofs.Names.{drop-append-le, drop-replicate, drop-set-lt, get_or-append-add, get_or-append_right, get_or-drop, get_or_append_left, get_or-replicate, get_or-set_other, length-replicate, length-set, replicate-append-replicate, set-append_left, cases_lt, drop-append-add, get_or-append_seam, set-append_seam, Buffer, buffer, WindowValue, held_of, filled_up, counts_alone, looked_through, pushed_all, without_front}
 
 -- more bytes without a look
 pub filled_more : (xs : List ℕ) (o n k : ℕ) → length xs + o ≤ n → filled_up xs o (n + k) ≡ filled_up xs o n ++ replicate k 0
@@ -195,14 +197,14 @@ zeros_at zero i = refl
 zeros_at (suc z) zero = refl
 zeros_at (suc z) (suc i) = zeros_at z i
 
+not_once : (xs : List ℕ) (o z j : ℕ) → o ≤ j → slice_index (xs ++ (replicate o 1 ++ replicate z 0)) (length xs + j) ≡ 0
+not_once xs o z j h = get_or-append-add xs (replicate o 1 ++ replicate z 0) j 0
+    ∙ get_or-append_right (replicate o 1) (replicate z 0) o j 0 (length-replicate {A = ℕ} o 1) h ∙ zeros_at z (j - o)
+
 at_most_once : (xs : List ℕ) (o z j : ℕ) → slice_index (xs ++ (replicate o 1 ++ replicate z 0)) (length xs + j) ≤ 1
 at_most_once xs o z j = ⊎_elim
     (λ (h : j < o). rw (at_once xs o z j h) (omega arith))
-    (λ (h : o ≤ j).
-    let e : slice_index (xs ++ (replicate o 1 ++ replicate z 0)) (length xs + j) ≡ 0 =
-    get_or-append-add xs (replicate o 1 ++ replicate z 0) j 0
-    ∙ get_or-append_right (replicate o 1) (replicate z 0) o j 0 (length-replicate {A = ℕ} o 1) h ∙ zeros_at z (j - o) in
-    omega (arith, e))
+    (λ (h : o ≤ j). rw (not_once xs o z j h) (omega arith))
     (cases_lt j o)
 
 pub last_looks : (b xs : List ℕ) (o n e e' m m' s k : ℕ) (w : WindowValue) → held_of b (filled_up xs o n) e m ≡ w → length xs ≤ s → s < length xs + o
@@ -222,3 +224,19 @@ last_looks b xs o n e e' m m' s k w v h g p q r t d l =
 
     sum_back : (x s j : ℕ) → x ≤ s → s ≡ x + (s - x + 0)
     sum_back x s j h = omega (arith, h)
+
+-- the number of looks at a byte with a stored count, and at one without
+pub looks_stored : (b xs : List ℕ) (f o n e m i r : ℕ) (w : WindowValue) → held_of b (filled_up (drop f xs) o n) e m ≡ w → i < length (drop f xs)
+    → r ≡ get_or xs (f + i) r → r ≡ slice_index w.looks i
+looks_stored b xs f o n e m i r w v h g =
+    rw (← v, get_or_append_left (drop f xs) (replicate o 1 ++ replicate (n - (length (drop f xs) + o)) 0) 0 i h, get_or_default (drop f xs) i 0 r h, get_or-drop f xs i r) g
+
+pub looks_at_once : (b xs : List ℕ) (o n e m i r : ℕ) (f : Bool → ℕ) (w : WindowValue) → held_of b (filled_up xs o n) e m ≡ w → length xs ≤ i
+    → r ≡ f (ltb i (length xs + o)) → f true ≡ 1 → f false ≡ 0 → r ≡ slice_index w.looks i
+looks_at_once b xs o n e m i r f w v h g p q =
+    let j : i ≡ length xs + (i - length xs) = omega (arith, h) in
+    let z : ℕ = n - (length xs + o) in
+    rw (← v) (g ∙ ⊎_elim
+    (λ (k : i < length xs + o). ap f (lt-ltb i (length xs + o) k) ∙ p ∙ sym (ap (slice_index (filled_up xs o n)) j ∙ at_once xs o z (i - length xs) (omega (arith, h, k))))
+    (λ (k : length xs + o ≤ i). ap f (le-ltb i (length xs + o) k) ∙ q ∙ sym (ap (slice_index (filled_up xs o n)) j ∙ not_once xs o z (i - length xs) (omega (arith, h, k))))
+    (cases_lt i (length xs + o)))

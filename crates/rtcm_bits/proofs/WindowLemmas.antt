@@ -1,6 +1,8 @@
 -- The calls of a window and its ring, as the contracts state them.
-use Rattle.std.proofs.Common.{◌≡◌, ℕ, ◌+◌, ◌-◌, ◌<◌, ◌≤◌, min, max, List, [], ◌++◌, length, take, drop, slice_index, slice_range, slice_set, refl, sym, ap, ◌∙◌, arith, suc, zero, length-drop, ⊎_elim}
-use Rattle.rtcm_bits.proofs.Names.{cases_lt, append-nil, drop-append-le, drop-drop, drop-set-add, get_or-drop, take_all, take_rest, take-append-le, take-append-add, drop-append-add, Buffer, buffer, WindowValue, held_of, counts_alone, looked_through, without_front}
+use Rattle.std.proofs.Common.{◌≡◌, ℕ, ◌+◌, ◌-◌, ◌<◌, ◌≤◌, min, max, List, [], ◌∷◌, ◌++◌, length, take, drop, slice_index, slice_range, slice_set, refl, sym, ap, ◌∙◌, arith, suc, zero, length-drop, ⊎_elim}
+use Rattle.std.specs.List.{All}
+use Rattle.std.proofs.lemmas.List.{get_or_default}
+use Rattle.rtcm_bits.proofs.Names.{cases_lt, append-nil, drop-append-le, drop-drop, drop-set-add, get_or-drop, take_all, take_rest, take-append-le, take-append-add, drop-append-add, Buffer, buffer, WindowValue, held_of, counts_alone, looked_through, pushed, pushed_all, without_front}
 
 -- the counts of a range don't depend on the bytes, nor on the sum of all looks
 pub through_counts : (b xs : List ℕ) (e m start n : ℕ) → e ≤ 18446744073709551615 →
@@ -109,3 +111,12 @@ pub all_taken : (b b' : Buffer ℕ) (more : List ℕ) (n : ℕ) → length b.ite
 all_taken b b' more n h e g =
     let k : n ≡ length more = grind (arith, e, h) in
     g ∙ ap (λ (t : List ℕ). buffer (b.items ++ t) b.capacity) (ap (λ (q : ℕ). take q more) k ∙ take_all (length more) more (omega arith))
+
+-- a byte alone
+pub pushed_one : (w v : WindowValue) (bytes : List ℕ) → length bytes ≡ 1 → v ≡ pushed w (slice_index bytes 0) → v ≡ pushed_all w bytes
+pushed_one w v [] h e = absurd (omega (arith, h))
+pushed_one w v (b ∷ []) h e = e
+pushed_one w v (b ∷ d ∷ bytes) h e = absurd (omega (arith, h))
+
+pub all_bytes : (xs : List ℕ) → ((i : ℕ) → slice_index xs i < 256) → All (λ (b : ℕ). b < 256) xs
+all_bytes xs h k d l = rw (get_or_default xs k d 0 l) (h k)

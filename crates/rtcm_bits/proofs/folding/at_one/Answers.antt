@@ -1,0 +1,6 @@
+use Rattle.std.proofs.Common.{◌++◌, arith, length-append}
+use Rattle.rtcm_bits.proofs.Names.{pick_l-range_with_len}
+use Rattle.rtcm_bits.proofs.folding.at_one.Goals as goal
+
+pub returns : goal.returns
+returns c = pick_l-range_with_len 0 (c.args.before ++ c.args.after) 1 16 (omega (arith, length-append c.args.before c.args.after))
