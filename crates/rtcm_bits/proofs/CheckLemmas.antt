@@ -1,6 +1,5 @@
 -- A register that processes the bits of a message one by one has the remainder of the long division.
-use Rattle.std.proofs.Common.{◌≡◌, ℕ, ◌<◌, ◌≤◌, Bool, true, false, cond, List, [], ◌∷◌, ◌++◌, length, drop, replicate, refl, sym, ap, ◌∙◌, arith, length-append, suc, zero, lit<}
-use Rattle.rtcm_bits.proofs.Names.{length-replicate, uint, plus, add_front, generator, remainder, bits_remainder, after_bit, after_bits}
+use Rattle.rtcm_bits.proofs.Names.{◌≡◌, ℕ, ◌<◌, ◌≤◌, Bool, true, false, cond, List, [], ◌∷◌, ◌++◌, length, drop, replicate, refl, sym, ap, ◌∙◌, arith, length-append, suc, zero, lit<, length-replicate, uint, plus, add_front, generator, remainder, bits_remainder, after_bit, after_bits}
 
 pub plus_assoc : (a b c : Bool) → plus a (plus b c) ≡ plus (plus a b) c
 plus_assoc true true true = refl

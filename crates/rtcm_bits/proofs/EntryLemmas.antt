@@ -1,13 +1,12 @@
 -- Several bytes at once: the register is added to the first three of them; each byte has its own table, whose entries
 -- are the CRCs of that byte followed by zeros.
-use Rattle.std.proofs.Common.{◌≡◌, ℕ, ◌+◌, ◌-◌, ◌*◌, ◌/◌, ◌%◌, ◌^◌, ◌<◌, ◌≤◌, Bool, false, List, [], ◌∷◌, ◌++◌, length, drop, take, map, get_or, replicate, refl, sym, ap, ◌∙◌, arith, suc, zero, bit_and, bit_xor, length-append, lit<, lit≤}
+use Rattle.rtcm_bits.proofs.Names.{◌≡◌, ℕ, ◌+◌, ◌-◌, ◌*◌, ◌/◌, ◌%◌, ◌^◌, ◌<◌, ◌≤◌, Bool, false, List, [], ◌∷◌, ◌++◌, length, drop, take, map, get_or, replicate, refl, sym, ap, ◌∙◌, arith, suc, zero, bit_and, bit_xor, length-append, lit<, lit≤, xor_zero_r, xor_comm, drop_more, length-drop, get_or-drop, get_or-map, get_or-take, length-take-le, replicate-append-replicate, xor_lt, and_mask, uint, bits_of, add_front, remainder, bits_remainder, crc, after_bits, TABLES, length-uint}
 use Rattle.rtcm_bits.proofs.RegisterBits.{uint-xor, uint-split}
 use Rattle.rtcm_bits.proofs.CheckLemmas.{divide_all, length-add_front}
 use Rattle.rtcm_bits.proofs.ResidueLemmas.{add_front-append}
 use Rattle.rtcm_bits.proofs.RegisterLemmas.{check_is, check_below, check_push}
 use Rattle.rtcm_bits.proofs.TableLemmas.{add_split, table_right, table_step}
 use Rattle.rtcm_bits.proofs.SumLemmas.{split_check}
-use Rattle.rtcm_bits.proofs.Names.{xor_zero_r, xor_comm, drop_more, length-drop, get_or-drop, get_or-map, get_or-take, length-take-le, replicate-append-replicate, xor_lt, and_mask, uint, bits_of, add_front, remainder, bits_remainder, crc, after_bits, TABLES, length-uint}
 
 -- the register is added to the first bits
 into_front : (r m : List Bool) → length r ≡ 24 → 24 ≤ length m → after_bits r m ≡ bits_remainder (add_front r m)

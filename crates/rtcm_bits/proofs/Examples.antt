@@ -1,6 +1,5 @@
 -- The definitions at known values.
-use Rattle.std.proofs.Common.{◌≡◌, [], ◌∷◌, take, drop, refl, negsuc}
-use Rattle.rtcm_bits.proofs.Names.{uint, number, number_from, bits_of, signed, crc, bits_remainder, remainder, add_front, generator, frame_bytes, WindowValue, nothing_held, pushed, looked, looked_through, without_front}
+use Rattle.rtcm_bits.proofs.Names.{◌≡◌, [], ◌∷◌, take, drop, refl, negsuc, uint, number, number_from, bits_of, signed, crc, bits_remainder, remainder, add_front, generator, frame_bytes, WindowValue, nothing_held, pushed, looked, looked_through, without_front}
 
 -- the byte B5 is 5 in three bits and -11 in five
 first_field : number (take 3 (bits_of (0xB5 ∷ []))) ≡ 5

@@ -1,12 +1,11 @@
 -- The CRC of folded bytes: a byte that is taken away and added to those 69, 71, 79, 85 and 96 places further on.
-use Rattle.std.proofs.Common.{◌≡◌, ℕ, ◌+◌, ◌-◌, ◌/◌, ◌%◌, ◌^◌, ◌<◌, ◌≤◌, Bool, true, false, eqb, List, [], ◌∷◌, ◌++◌, length, drop, take, get_or, replicate, refl, sym, ap, ◌∙◌, arith, suc, zero, bit_xor, length-append, lit<, lit≤}
+use Rattle.rtcm_bits.proofs.Names.{◌≡◌, ℕ, ◌+◌, ◌-◌, ◌/◌, ◌%◌, ◌^◌, ◌<◌, ◌≤◌, Bool, true, false, eqb, List, [], ◌∷◌, ◌++◌, length, drop, take, get_or, replicate, refl, sym, ap, ◌∙◌, arith, suc, zero, bit_xor, length-append, lit<, lit≤, xor_assoc, xor_zero_r, drop-replicate, agree_below_at, eqb-true, append_assoc, length-replicate, replicate-append-replicate, length-drop, length-take-le, drop-drop, drop-append-le, take-append-drop, take-append-le, take_all, drop-append_seam, drop-append-add, drop-length, xor_lt, xor_comm, uint, number, number_from, bits_of, add_front, remainder, bits_remainder, crc, after_bits, add_bytes, fold_into, TABLES, length-uint, bits_of-append}
 use Rattle.rtcm_bits.proofs.RegisterBits.{uint-xor, uint-mod}
 use Rattle.rtcm_bits.proofs.CheckLemmas.{divide_all, remainder_is, after_bits-append}
 use Rattle.rtcm_bits.proofs.RegisterLemmas.{check_is, check_below}
 use Rattle.rtcm_bits.proofs.TableLemmas.{add_split, remainder_sum, table_right, add_to_zeros}
 use Rattle.rtcm_bits.proofs.SumLemmas.{drop-add, take-add_bytes, length-add, zeros_on, zeros_end, number_is, sum_same, split_check}
 use Rattle.rtcm_bits.proofs.EntryLemmas.{next_entry, next_right, zero_after, into_bytes}
-use Rattle.rtcm_bits.proofs.Names.{xor_assoc, xor_zero_r, drop-replicate, agree_below_at, eqb-true, append_assoc, length-replicate, replicate-append-replicate, length-drop, length-take-le, drop-drop, drop-append-le, take-append-drop, take-append-le, take_all, drop-append_seam, drop-append-add, drop-length, xor_lt, xor_comm, uint, number, number_from, bits_of, add_front, remainder, bits_remainder, crc, after_bits, add_bytes, fold_into, TABLES, length-uint, bits_of-append}
 use lib.Lanes.{zip2}
 
 sum_check : (a b : List ℕ) (k : ℕ) → length a + k ≡ length b → crc (add_bytes a b) ≡ bit_xor (crc (a ++ replicate k 0)) (crc b)
@@ -19,9 +18,6 @@ check_zeros : (n : ℕ) → crc (replicate n 0) ≡ 0
 unfolding crc bits_remainder remainder bits_of uint number_from
 check_zeros zero = refl
 check_zeros (suc n) = check_zeros n
-
-swap_last : (a b c : ℕ) → bit_xor (bit_xor a b) c ≡ bit_xor (bit_xor a c) b
-swap_last a b c = xor_assoc a b c ∙ ap (bit_xor a) (xor_comm b c) ∙ sym (xor_assoc a c b)
 
 -- the register after a byte of 0: the sum of those of the parts
 to_end : (r : List Bool) → length r ≡ 24 → add_front r (replicate 24 false ++ replicate 8 false) ≡ r ++ replicate 8 false

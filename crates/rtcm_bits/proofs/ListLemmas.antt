@@ -1,5 +1,5 @@
 -- Lists of a known length.
-use Rattle.std.proofs.Common.{◌≡◌, ℕ, List, [], ◌∷◌, length, get_or, refl, arith}
+use Rattle.rtcm_bits.proofs.Names.{◌≡◌, ℕ, List, [], ◌∷◌, length, get_or, refl, arith}
 
 -- eight bytes, one by one
 pub eight_of : (xs : List ℕ) → length xs ≡ 8 → xs ≡ get_or xs 0 0 ∷ get_or xs 1 0 ∷ get_or xs 2 0 ∷ get_or xs 3 0 ∷ get_or xs 4 0 ∷ get_or xs 5 0 ∷ get_or xs 6 0 ∷ get_or xs 7 0 ∷ []

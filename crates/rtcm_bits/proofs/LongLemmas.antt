@@ -1,9 +1,8 @@
 -- The steps of the code that folds a long message.
-use Rattle.std.proofs.Common.{◌≡◌, ℕ, ◌+◌, ◌-◌, ◌^◌, ◌<◌, ◌≤◌, List, [], ◌∷◌, ◌++◌, length, drop, take, replicate, sym, ap, ◌∙◌, arith}
+use Rattle.rtcm_bits.proofs.Names.{◌≡◌, ℕ, ◌+◌, ◌-◌, ◌^◌, ◌<◌, ◌≤◌, List, [], ◌∷◌, ◌++◌, length, drop, take, replicate, sym, ap, ◌∙◌, arith, length-drop, length-take-le, drop-drop, take-append-drop, take_all, uint, bits_of, crc, after_bits, add_bytes, fold_into}
 use Rattle.rtcm_bits.proofs.RegisterLemmas.{check_below}
 use Rattle.rtcm_bits.proofs.SumLemmas.{number_is, take-add_bytes}
 use Rattle.rtcm_bits.proofs.FoldLemmas.{offsets, fold_at, fold_step, last_step, last_end}
-use Rattle.rtcm_bits.proofs.Names.{length-drop, length-take-le, drop-drop, take-append-drop, take_all, uint, bits_of, crc, after_bits, add_bytes, fold_into}
 
 -- what is folded to the first bytes does not depend on the others
 first_sum : (k : ℕ) (d x y : List ℕ) → take k x ≡ take k y → take k (add_bytes d x) ≡ take k (add_bytes d y)

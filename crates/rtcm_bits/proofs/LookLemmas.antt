@@ -1,9 +1,6 @@
 -- The counts of looks of a window. Only the first ones are stored.
-use Rattle.std.proofs.Common.{◌≡◌, ℕ, ◌+◌, ◌-◌, ◌<◌, ◌≤◌, min, max, List, [], ◌∷◌, ◌++◌, length, drop, replicate, slice_index, slice_set, refl, sym, ap, ◌∙◌, arith, suc, zero, length-append, length-drop, append_assoc, ⊎_elim, ltb, get_or, Bool, true, false}
-use Rattle.std.proofs.lemmas.Bool.{lt-ltb, le-ltb}
-use Rattle.std.proofs.lemmas.List.{get_or_default}
+use Rattle.rtcm_bits.proofs.Names.{◌≡◌, ℕ, ◌+◌, ◌-◌, ◌<◌, ◌≤◌, min, max, List, [], ◌∷◌, ◌++◌, length, drop, replicate, slice_index, slice_set, refl, sym, ap, ◌∙◌, arith, suc, zero, length-append, length-drop, append_assoc, ⊎_elim, ltb, get_or, Bool, true, false, drop-append-le, drop-replicate, drop-set-lt, get_or-append-add, get_or-append_right, get_or-drop, get_or_append_left, get_or-replicate, get_or-set_other, length-replicate, length-set, replicate-append-replicate, set-append_left, cases_lt, drop-append-add, get_or-append_seam, set-append_seam, Buffer, buffer, WindowValue, held_of, filled_up, counts_alone, looked_through, pushed_all, without_front, lt-ltb, le-ltb, get_or_default}
 use Rattle.rtcm_bits.proofs.WindowLemmas.{shifted, through_counts}
-use Rattle.rtcm_bits.proofs.Names.{drop-append-le, drop-replicate, drop-set-lt, get_or-append-add, get_or-append_right, get_or-drop, get_or_append_left, get_or-replicate, get_or-set_other, length-replicate, length-set, replicate-append-replicate, set-append_left, cases_lt, drop-append-add, get_or-append_seam, set-append_seam, Buffer, buffer, WindowValue, held_of, filled_up, counts_alone, looked_through, pushed_all, without_front}
 
 -- more bytes without a look
 pub filled_more : (xs : List ℕ) (o n k : ℕ) → length xs + o ≤ n → filled_up xs o (n + k) ≡ filled_up xs o n ++ replicate k 0

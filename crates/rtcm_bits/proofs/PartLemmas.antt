@@ -1,7 +1,6 @@
 -- A number that is read a part of a byte at a time.
-use Rattle.std.proofs.Common.{◌≡◌, ℕ, zero, suc, ◌+◌, ◌-◌, ◌*◌, ◌/◌, ◌%◌, ◌^◌, ◌<◌, ◌≤◌, Bool, List, [], ◌∷◌, ◌++◌, length, take, drop, get_or, refl, sym, ap, ◌∙◌, arith}
+use Rattle.rtcm_bits.proofs.Names.{◌≡◌, ℕ, zero, suc, ◌+◌, ◌-◌, ◌*◌, ◌/◌, ◌%◌, ◌^◌, ◌<◌, ◌≤◌, Bool, List, [], ◌∷◌, ◌++◌, length, take, drop, get_or, refl, sym, ap, ◌∙◌, arith, take-add, length-drop, length-take-le, drop-drop, take-append-le, drop-append-le, one_shl, shr-shr, pow-le-pow_right, mod-eq_of_lt, odd, uint, number, number_from, bits_of, length-uint, length-bits_of, number-uint, number-split, number-take-fits}
 use Rattle.rtcm_bits.proofs.BitLemmas.{number-append}
-use Rattle.rtcm_bits.proofs.Names.{take-add, length-drop, length-take-le, drop-drop, take-append-le, drop-append-le, one_shl, shr-shr, pow-le-pow_right, mod-eq_of_lt, odd, uint, number, number_from, bits_of, length-uint, length-bits_of, number-uint, number-split, number-take-fits}
 
 -- the bits after the first r
 drop-uint : (r w x : ℕ) → drop r (uint (r + w) x) ≡ uint w x

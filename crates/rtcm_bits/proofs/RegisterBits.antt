@@ -1,6 +1,5 @@
 -- Bits of numbers that are joined, cut, doubled and added without carry.
-use Rattle.std.proofs.Common.{◌≡◌, ℕ, ◌+◌, ◌-◌, ◌*◌, ◌/◌, ◌%◌, ◌^◌, ◌<◌, ◌≤◌, eqb, ◌∷◌, ◌++◌, refl, sym, ap, ◌∙◌, arith, suc, zero, inl, inr, ◌⊎◌, ⊎_elim, bit_xor}
-use Rattle.rtcm_bits.proofs.Names.{cases_eq, div-add-mod', bit_at_cat_low, bit_at_cat_high, bit_at_xor, bit_at-lt, bit_at, odd, uint, plus, add_front}
+use Rattle.rtcm_bits.proofs.Names.{◌≡◌, ℕ, ◌+◌, ◌-◌, ◌*◌, ◌/◌, ◌%◌, ◌^◌, ◌<◌, ◌≤◌, eqb, ◌∷◌, ◌++◌, refl, sym, ap, ◌∙◌, arith, suc, zero, inl, inr, ◌⊎◌, ⊎_elim, bit_xor, cases_eq, div-add-mod', bit_at_cat_low, bit_at_cat_high, bit_at_xor, bit_at-lt, bit_at, odd, uint, plus, add_front}
 
 -- only the low bits count
 pub uint-cat : (w a k b : ℕ) → w ≤ k → uint w (a * 2 ^ k + b) ≡ uint w b

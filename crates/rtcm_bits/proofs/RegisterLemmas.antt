@@ -1,8 +1,7 @@
 -- The register as a number.
-use Rattle.std.proofs.Common.{◌≡◌, ℕ, ◌^◌, ◌<◌, Bool, List, [], ◌∷◌, ◌++◌, length, refl, sym, ap, ◌∙◌}
+use Rattle.rtcm_bits.proofs.Names.{◌≡◌, ℕ, ◌^◌, ◌<◌, Bool, List, [], ◌∷◌, ◌++◌, length, refl, sym, ap, ◌∙◌, uint, number, number_from, bits_of, crc, bits_remainder, after_bits, uint-number, number-fits, bits_of-append, number_of-uint}
 use Rattle.rtcm_bits.proofs.BitLemmas.{bits_of-push}
 use Rattle.rtcm_bits.proofs.CheckLemmas.{after_bits-append, remainder-append, length-bits_remainder}
-use Rattle.rtcm_bits.proofs.Names.{uint, number, number_from, bits_of, crc, bits_remainder, after_bits, uint-number, number-fits, bits_of-append, number_of-uint}
 
 -- the bits of a CRC are the remainder
 pub check_is : (m : List ℕ) → uint 24 (crc m) ≡ bits_remainder (bits_of m)

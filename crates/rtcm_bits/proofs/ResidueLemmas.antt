@@ -1,7 +1,6 @@
 -- A message followed by its CRC has the remainder 0, and followed by no other three bytes.
-use Rattle.std.proofs.Common.{◌≡◌, ℕ, ◌+◌, ◌*◌, ◌^◌, ◌<◌, ◌≤◌, Bool, true, false, List, [], ◌∷◌, ◌++◌, length, take, drop, get_or, replicate, refl, sym, ap, ◌∙◌, arith, length-append, suc, zero}
+use Rattle.rtcm_bits.proofs.Names.{◌≡◌, ℕ, ◌+◌, ◌*◌, ◌^◌, ◌<◌, ◌≤◌, Bool, true, false, List, [], ◌∷◌, ◌++◌, length, take, drop, get_or, replicate, refl, sym, ap, ◌∙◌, arith, length-append, suc, zero, true≢false, append-nil, length-replicate, get_or_push, take-append-le, take_all, uint, number, number_from, bits_of, plus, add_front, generator, remainder, bits_remainder, crc, after_bit, after_bits, length-uint, uint-number, bits_of-append, number-split, number_of-uint}
 use Rattle.rtcm_bits.proofs.CheckLemmas.{divide_all, remainder-append, length-bits_remainder, length-add_front, add_front_to_zeros, length-after_bit, length-after_bits, length-generator}
-use Rattle.rtcm_bits.proofs.Names.{true≢false, append-nil, length-replicate, get_or_push, take-append-le, take_all, uint, number, number_from, bits_of, plus, add_front, generator, remainder, bits_remainder, crc, after_bit, after_bits, length-uint, uint-number, bits_of-append, number-split, number_of-uint}
 use Rattle.rtcm_bits.proofs.BitLemmas as bit_lemmas
 
 pub add_front-append : (g p q : List Bool) → length g ≤ length p → add_front g (p ++ q) ≡ add_front g p ++ q

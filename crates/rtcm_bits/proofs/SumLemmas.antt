@@ -1,10 +1,9 @@
 -- The CRC of a sum of bytes is the sum of their CRCs.
-use Rattle.std.proofs.Common.{◌≡◌, ℕ, ◌+◌, ◌*◌, ◌^◌, ◌<◌, Bool, false, List, [], ◌∷◌, ◌++◌, length, drop, take, replicate, refl, sym, ap, ◌∙◌, arith, suc, zero, bit_xor, length-append}
+use Rattle.rtcm_bits.proofs.Names.{◌≡◌, ℕ, ◌+◌, ◌*◌, ◌^◌, ◌<◌, Bool, false, List, [], ◌∷◌, ◌++◌, length, drop, take, replicate, refl, sym, ap, ◌∙◌, arith, suc, zero, bit_xor, length-append, xor_zero_r, length-replicate, xor_lt, uint, number, bits_of, add_front, remainder, bits_remainder, crc, add_bytes, length-uint, length-bits_of, number_of-uint}
 use Rattle.rtcm_bits.proofs.RegisterBits.{uint-xor}
 use Rattle.rtcm_bits.proofs.CheckLemmas.{length-add_front, zeros_to_front}
 use Rattle.rtcm_bits.proofs.RegisterLemmas.{check_is, check_below}
 use Rattle.rtcm_bits.proofs.TableLemmas.{add_split, remainder_sum}
-use Rattle.rtcm_bits.proofs.Names.{xor_zero_r, length-replicate, xor_lt, uint, number, bits_of, add_front, remainder, bits_remainder, crc, add_bytes, length-uint, length-bits_of, number_of-uint}
 
 -- sums of bytes
 pub drop-add : (k : ℕ) (a b : List ℕ) → drop k (add_bytes a b) ≡ add_bytes (drop k a) (drop k b)

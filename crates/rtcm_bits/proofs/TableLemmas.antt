@@ -1,10 +1,9 @@
 -- A table of the CRCs of single bytes gives the register after eight bits.
-use Rattle.std.proofs.Common.{◌≡◌, ℕ, ◌+◌, ◌*◌, ◌/◌, ◌%◌, ◌^◌, ◌<◌, ◌≤◌, Bool, true, false, eqb, List, [], ◌∷◌, ◌++◌, length, drop, get_or, replicate, refl, sym, ap, ◌∙◌, arith, length-append, suc, zero, bit_and, bit_xor}
+use Rattle.rtcm_bits.proofs.Names.{◌≡◌, ℕ, ◌+◌, ◌*◌, ◌/◌, ◌%◌, ◌^◌, ◌<◌, ◌≤◌, Bool, true, false, eqb, List, [], ◌∷◌, ◌++◌, length, drop, get_or, replicate, refl, sym, ap, ◌∙◌, arith, length-append, suc, zero, bit_and, bit_xor, agree_below_at, eqb-true, append-nil, length-replicate, and_mask, xor_comm, xor_lt, mod-eq_of_lt, div-add-mod', uint, number_from, bits_of, plus, add_front, generator, remainder, bits_remainder, crc, after_bits, TABLES, length-uint}
 use Rattle.rtcm_bits.proofs.RegisterBits.{uint-xor, uint-split}
 use Rattle.rtcm_bits.proofs.CheckLemmas.{divide_all, length-add_front, add_front_to_zeros, zeros_to_front, add_front_assoc, length-generator}
 use Rattle.rtcm_bits.proofs.ResidueLemmas.{add_front-append, add_front-same}
 use Rattle.rtcm_bits.proofs.RegisterLemmas.{check_is, check_below}
-use Rattle.rtcm_bits.proofs.Names.{agree_below_at, eqb-true, append-nil, length-replicate, and_mask, xor_comm, xor_lt, mod-eq_of_lt, div-add-mod', uint, number_from, bits_of, plus, add_front, generator, remainder, bits_remainder, crc, after_bits, TABLES, length-uint}
 
 pub table_right : (i : ℕ) → i < 256 → get_or TABLES i 0 ≡ crc (i ∷ [])
 unfolding crc bits_remainder remainder add_front generator uint number_from bits_of

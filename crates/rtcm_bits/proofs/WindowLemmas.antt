@@ -1,8 +1,5 @@
 -- The calls of a window and its ring, as the contracts state them.
-use Rattle.std.proofs.Common.{◌≡◌, ℕ, ◌+◌, ◌-◌, ◌<◌, ◌≤◌, min, max, List, [], ◌∷◌, ◌++◌, length, take, drop, slice_index, slice_range, slice_set, refl, sym, ap, ◌∙◌, arith, suc, zero, length-drop, ⊎_elim}
-use Rattle.std.specs.List.{All}
-use Rattle.std.proofs.lemmas.List.{get_or_default}
-use Rattle.rtcm_bits.proofs.Names.{cases_lt, append-nil, drop-append-le, drop-drop, drop-set-add, get_or-drop, take_all, take_rest, take-append-le, take-append-add, drop-append-add, Buffer, buffer, WindowValue, held_of, counts_alone, looked_through, pushed, pushed_all, without_front}
+use Rattle.rtcm_bits.proofs.Names.{◌≡◌, ℕ, ◌+◌, ◌-◌, ◌<◌, ◌≤◌, min, max, List, [], ◌∷◌, ◌++◌, length, take, drop, slice_index, slice_range, slice_set, refl, sym, ap, ◌∙◌, arith, suc, zero, length-drop, ⊎_elim, cases_lt, drop-append-le, drop-drop, drop-set-add, get_or-drop, take_all, take_rest, take-append-add, drop-append-add, Buffer, buffer, WindowValue, held_of, counts_alone, looked_through, pushed, pushed_all, without_front, All, get_or_default}
 
 -- the counts of a range don't depend on the bytes, nor on the sum of all looks
 pub through_counts : (b xs : List ℕ) (e m start n : ℕ) → e ≤ 18446744073709551615 →
@@ -72,14 +69,7 @@ looked_dropped w u v x j n h e f g = g ∙ f n (omega (arith, h)) ∙ both (n - 
         ∙ sym (s (looked_through (looked_through w 0 j) j k))
         ∙ ap (λ (t : WindowValue). without_front t (j + k)) (ap (λ (i : ℕ). looked_through (looked_through w 0 j) i k) (omega arith) ∙ looked_on w 0 j k))
 
--- a range of two consecutive lists: inside the first, across both, inside the second
-pub range_first : (f b : List ℕ) (s n : ℕ) → s + n ≤ length f → take (s + n - s) (drop s f) ++ [] ≡ slice_range (f ++ b) s (s + n)
-range_first f b s n h =
-    let z : s + n - s ≡ n = omega arith in
-    let d : drop s (f ++ b) ≡ drop s f ++ b = drop-append-le s f b (omega (arith, h)) in
-    let t : take n (drop s f ++ b) ≡ take n (drop s f) = take-append-le n (drop s f) b (omega (arith, h, length-drop s f)) in
-    rw (z, d, t, append-nil (take n (drop s f))) refl
-
+-- a range of two consecutive lists: across both, inside the second
 range_seam : (f b : List ℕ) (s n u v w x : ℕ) → s ≤ length f → length f ≤ s + n → u ≡ s → v ≡ length f - s → w ≡ s + n - length f → x ≡ 0
     → take v (drop u f) ++ take w (drop x b) ≡ take n (drop s (f ++ b))
 range_seam f b s n u v w x h g i j k l =

@@ -1,8 +1,7 @@
 -- A number that is put a part of a byte at a time.
-use Rattle.std.proofs.Common.{◌≡◌, ℕ, ◌+◌, ◌-◌, ◌*◌, ◌/◌, ◌%◌, ◌^◌, ◌<◌, ◌≤◌, Bool, List, [], ◌∷◌, ◌++◌, length, sym, ap, ◌∙◌, arith, append_assoc, append-nil, length-append}
+use Rattle.rtcm_bits.proofs.Names.{◌≡◌, ℕ, ◌+◌, ◌-◌, ◌*◌, ◌/◌, ◌%◌, ◌^◌, ◌<◌, ◌≤◌, Bool, List, [], ◌∷◌, ◌++◌, length, sym, ap, ◌∙◌, arith, append_assoc, append-nil, length-append, pow-le-pow_right, mod-eq_of_lt, mod-lt, one_shl, pow-add, div-add-mod', pow_pos, uint, bits_of, length-uint}
 use Rattle.rtcm_bits.proofs.BitLemmas.{length-whole, bits_of-push}
 use Rattle.rtcm_bits.proofs.RegisterBits.{uint-split, uint-mod}
-use Rattle.rtcm_bits.proofs.Names.{pow-le-pow_right, mod-eq_of_lt, mod-lt, one_shl, pow-add, div-add-mod', pow_pos, uint, bits_of, length-uint}
 
 -- a part after the k bits of the incomplete byte
 pub record Part (k n p b : ℕ) : Type 0 where

@@ -1,8 +1,7 @@
 -- The decided part of a stream.
-use Rattle.std.proofs.Common.{ℕ, ◌≡◌, ◌+◌, ◌-◌, ◌<◌, ◌≤◌, Bool, true, false, not, cond, ◌&&◌, ◌||◌, ltb, List, [], ◌∷◌, ◌++◌, length, drop, get_or, refl, ap, ◌∙◌, arith, suc, zero, ◌⊎◌, ⊎_elim, inl, inr}
+use Rattle.rtcm_scan.proofs.Names.{ℕ, ◌≡◌, ◌+◌, ◌-◌, ◌<◌, ◌≤◌, Bool, true, false, not, cond, ◌&&◌, ◌||◌, ltb, List, [], ◌∷◌, ◌++◌, length, drop, get_or, refl, ap, ◌∙◌, arith, suc, zero, ◌⊎◌, ⊎_elim, inl, inr, filter, list_any, cases_lt, cases_eq, lt-ltb, le-ltb, and_from, and_left, and_right, length_push, append-nil, get_or_push, get_or_append_left, prefix_len_is, list_any-append, filter-append, begins_frame, is_open, frame_length, framed_message, Framed, frame_end, frames_from, frames_of, places, is_inside, is_tried, decided, frames_before, decided_frames, Scanned}
 use Rattle.rtcm_scan.proofs.FrameLemmas.{begins_parts, closed_whole}
 use Rattle.rtcm_scan.proofs.ScanLemmas.{scanned_le, scanned_frames}
-use Rattle.rtcm_scan.proofs.Names.{filter, list_any, cases_lt, cases_eq, lt-ltb, le-ltb, and_from, and_left, and_right, length_push, append-nil, get_or_push, get_or_append_left, prefix_len_is, list_any-append, filter-append, begins_frame, is_open, frame_length, framed_message, Framed, frame_end, frames_from, frames_of, places, is_inside, is_tried, decided, frames_before, decided_frames, Scanned}
 
 pub or_none : (x y : Bool) → y ≡ false → (x || y) ≡ x
 or_none true y h = refl

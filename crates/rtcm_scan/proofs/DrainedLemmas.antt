@@ -1,9 +1,8 @@
 -- Everything that can be decided is decided.
-use Rattle.std.proofs.Common.{ℕ, ◌≡◌, ◌+◌, ◌<◌, ◌≤◌, true, false, List, [], length, drop, sym, ap, ◌∙◌, arith, sum_by}
+use Rattle.rtcm_scan.proofs.Names.{ℕ, ◌≡◌, ◌+◌, ◌<◌, ◌≤◌, true, false, List, [], length, drop, sym, ap, ◌∙◌, arith, sum_by, drop_all, is_open, Framed, decided, FramerValue, HasFramed, first_held, Scanned, IsDrained}
 use Rattle.rtcm_scan.proofs.ScanLemmas.{scanned_all}
 use Rattle.rtcm_scan.proofs.DecidedLemmas.{decided_is, decided_frames_are}
 use Rattle.rtcm_scan.proofs.SkippedLemmas.{given_up_is}
-use Rattle.rtcm_scan.proofs.Names.{drop_all, is_open, Framed, decided, FramerValue, HasFramed, first_held, Scanned, IsDrained}
 
 -- everything is decided if nothing is held, or if the held bytes are open
 pub drained_ended : (v : FramerValue) (b : List ℕ) (fs : List Framed) → v.has_ended ≡ true → v.held ≡ [] → HasFramed v b fs → IsDrained v b fs

@@ -1,6 +1,5 @@
 -- Worked streams.
-use Rattle.std.proofs.Common.{◌≡◌, [], ◌∷◌, refl, replicate}
-use Rattle.rtcm_scan.proofs.Names.{uint, number_from, bits_of, crc, bits_remainder, remainder, add_front, generator, begins_frame, is_open, frames_of, frames_from, skipped_before, decided, decided_frames, frames_before, places, is_tried, tried, examined, examined_now, most, most_now, spans_of, spans_now, greatest_below}
+use Rattle.rtcm_scan.proofs.Names.{◌≡◌, [], ◌∷◌, refl, replicate, uint, number_from, bits_of, crc, bits_remainder, remainder, add_front, generator, begins_frame, is_open, frames_of, frames_from, skipped_before, decided, decided_frames, frames_before, places, is_tried, tried, examined, examined_now, most, most_now, spans_of, spans_now, greatest_below}
 
 empty_message : frames_of (0xD3 ∷ 0 ∷ 0 ∷ 0x47 ∷ 0xEA ∷ 0x4B ∷ []) ≡ record { offset = 0; message = [] } ∷ []
 unfolding frames_of frames_from begins_frame crc bits_remainder remainder add_front generator uint number_from bits_of

@@ -1,9 +1,8 @@
 -- What a framer has accepted after each of its steps.
-use Rattle.std.proofs.Common.{ℕ, ◌≡◌, ◌+◌, ◌-◌, ◌<◌, ◌≤◌, Bool, true, false, List, [], ◌∷◌, ◌++◌, length, drop, refl, ap, ◌∙◌, arith, length-append, sum_by}
+use Rattle.rtcm_scan.proofs.Names.{ℕ, ◌≡◌, ◌+◌, ◌-◌, ◌<◌, ◌≤◌, Bool, true, false, List, [], ◌∷◌, ◌++◌, length, drop, refl, ap, ◌∙◌, arith, length-append, sum_by, drop-append-le, length-drop, drop-drop, sum_by_push, begins_frame, message_length, frame_length, framed_message, Framed, IsFrameOf, WindowValue, pushed, without_front, FramerValue, scan_of, with_window, HasFramed, first_held, IsPassed, Scanned}
 use Rattle.rtcm_scan.proofs.FrameLemmas.{begins_parts, length-message}
 use Rattle.rtcm_scan.proofs.ScanLemmas.{scanned_skip, scanned_frame, scanned_longer, scanned_ended}
 use Rattle.rtcm_scan.proofs.PrefixLemmas.{known_first}
-use Rattle.rtcm_scan.proofs.Names.{drop-append-le, length-drop, drop-drop, sum_by_push, begins_frame, message_length, frame_length, framed_message, Framed, IsFrameOf, WindowValue, pushed, without_front, FramerValue, scan_of, with_window, HasFramed, first_held, IsPassed, Scanned}
 
 -- the bytes of a frame
 abbrev pub size_of : Framed → ℕ

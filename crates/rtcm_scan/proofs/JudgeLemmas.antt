@@ -1,9 +1,8 @@
 -- The decision about a candidate.
-use Rattle.std.proofs.Common.{ℕ, ◌≡◌, ◌+◌, ◌*◌, ◌<◌, ◌≤◌, ◌↔◌, Bool, true, false, cond, eqb, List, [], ◌∷◌, ◌++◌, length, take, drop, get_or, slice_index, refl, sym, ap, ◌∙◌, arith, ◌⊎◌, ⊎_elim, inl, inr, take-append-drop, append_assoc}
+use Rattle.rtcm_scan.proofs.Names.{ℕ, ◌≡◌, ◌+◌, ◌*◌, ◌<◌, ◌≤◌, ◌↔◌, Bool, true, false, cond, eqb, List, [], ◌∷◌, ◌++◌, length, take, drop, get_or, slice_index, refl, sym, ap, ◌∙◌, arith, ◌⊎◌, ⊎_elim, inl, inr, take-append-drop, append_assoc, cases_lt, cases_eq, eq-eqb, ne_eqb, length-take-le, take_more, crc, message_length, frame_length, has_preamble, sent_check, Candidate, wanted_by, HasTaken, asked, decision, if_missing, Passed, Found}
 use Rattle.rtcm_scan.proofs.FrameLemmas.{length_stays, preamble_stays}
 use Rattle.rtcm_scan.proofs.CandidateLemmas.{wanted_stays, wanted_bound}
 use Rattle.rtcm_scan.proofs.DecisionLemmas.{decision_without, decision_short, decision_found, decision_wrong}
-use Rattle.rtcm_scan.proofs.Names.{cases_lt, cases_eq, eq-eqb, ne_eqb, length-take-le, take_more, crc, message_length, frame_length, has_preamble, sent_check, Candidate, wanted_by, HasTaken, asked, decision, if_missing, Passed, Found}
 
 abbrev AreBytes : List ℕ → Type 0
 AreBytes s = (i : ℕ) → slice_index s i < 256

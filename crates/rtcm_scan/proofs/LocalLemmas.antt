@@ -1,10 +1,9 @@
 -- Damage stays local.
-use Rattle.std.proofs.Common.{ℕ, ◌≡◌, ◌+◌, ◌-◌, ◌/◌, ◌%◌, ◌<◌, ◌≤◌, true, List, [], ◌∷◌, ◌++◌, length, take, drop, get_or, refl, sym, ap, ◌∙◌, arith, suc, zero, ⊎_elim, subst, eq-eqb, append_assoc, length-append, take-add}
+use Rattle.rtcm_scan.proofs.Names.{ℕ, ◌≡◌, ◌+◌, ◌-◌, ◌/◌, ◌%◌, ◌<◌, ◌≤◌, true, List, [], ◌∷◌, ◌++◌, length, take, drop, get_or, refl, sym, ap, ◌∙◌, arith, suc, zero, ⊎_elim, subst, eq-eqb, append_assoc, length-append, take-add, All, Contains, flat_map, cases_lt, and_from, le-leb, append-nil, take_at, drop_at, length-drop, drop_all, get_or-drop, take-append-drop, drop_more, All-head, All-tail, All-drop, Contains-append_right, flat_map-append, crc, frame_bytes, frame_header, three_bytes, begins_frame, message_length, frame_length, sent_check, framed_message, Framed, IsFrameOf, frame_end, frames_from, frames_of, stream_after, frame_place, HasNoOtherFrame, StaysLocal, placed, Scanned}
 use Rattle.rtcm_scan.proofs.ScanLemmas.{scanned_frames, scanned_all}
 use Rattle.rtcm_scan.proofs.FrameLemmas.{length-message}
 use Rattle.rtcm_scan.proofs.DecisionLemmas.{frame_length_bound}
 use Rattle.rtcm_scan.proofs.LawLemmas.{frames_scanned, same_frame}
-use Rattle.rtcm_scan.proofs.Names.{All, Contains, flat_map, cases_lt, and_from, le-leb, append-nil, take_at, drop_at, length-drop, drop_all, get_or-drop, take-append-drop, drop_more, All-head, All-tail, All-drop, Contains-append_right, flat_map-append, crc, frame_bytes, frame_header, three_bytes, begins_frame, message_length, frame_length, sent_check, framed_message, Framed, IsFrameOf, frame_end, frames_from, frames_of, stream_after, frame_place, HasNoOtherFrame, StaysLocal, placed, Scanned}
 
 -- the parts of a list: header, message, CRC and the rest
 spread : (m rest : List ℕ) → frame_bytes m ++ rest ≡ (frame_header m ++ m) ++ (three_bytes (crc (frame_header m ++ m)) ++ rest)

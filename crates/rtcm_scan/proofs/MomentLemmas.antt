@@ -1,9 +1,8 @@
 -- What holds at every moment.
-use Rattle.std.proofs.Common.{ℕ, ◌≡◌, ◌*◌, ◌≤◌, ◌^◌, true, false, List, [], length, refl, arith}
+use Rattle.rtcm_scan.proofs.Names.{ℕ, ◌≡◌, ◌*◌, ◌≤◌, ◌^◌, true, false, List, [], length, refl, arith, Framed, frames_of, frames_from, WindowValue, nothing_held, FramerValue, scan_of, HasFramed, first_held, new_scan, places, tried, decided, decided_frames, frames_before, IsDrained, greatest_below, spans_now, looks_at, all_looks, spans_at, tried_before, HasExamined, IsCountedExactly}
 use Rattle.rtcm_scan.proofs.BoundLemmas.{looks_bound, all_bound, greatest_bound}
 use Rattle.rtcm_scan.proofs.HistoryLemmas.{stands_end, stands_by}
 use Rattle.rtcm_scan.proofs.ScanLemmas.{scanned_none}
-use Rattle.rtcm_scan.proofs.Names.{Framed, frames_of, frames_from, WindowValue, nothing_held, FramerValue, scan_of, HasFramed, first_held, new_scan, places, tried, decided, decided_frames, frames_before, IsDrained, greatest_below, spans_now, looks_at, all_looks, spans_at, tried_before, HasExamined, IsCountedExactly}
 
 pub most_moment : (v : FramerValue) (b : List ℕ) (fs : List Framed) → length v.held ≤ 1029 → HasExamined v b fs → v.most ≤ 1030
 most_moment v b fs h x =

@@ -1,12 +1,11 @@
 -- The state after the steps of `next`.
-use Rattle.std.proofs.Common.{ℕ, ◌≡◌, ◌+◌, ◌-◌, ◌<◌, ◌≤◌, true, false, List, [], ◌∷◌, ◌++◌, length, drop, refl, sym, ap, ◌∙◌, arith, ⊎_elim, subst, length-drop}
+use Rattle.rtcm_scan.proofs.Names.{ℕ, ◌≡◌, ◌+◌, ◌-◌, ◌<◌, ◌≤◌, true, false, List, [], ◌∷◌, ◌++◌, length, drop, refl, sym, ap, ◌∙◌, arith, ⊎_elim, subst, length-drop, cases_Bool, nil_from_length, begins_frame, is_open, frame_length, framed_message, Framed, WindowValue, looked_through, without_front, FramerValue, HasFramed, first_held, IsPassed, window_of, with_window, with_looks, asked, with_candidate_examined, passed, HasExamined, IsCountedExactly, IsCountedTo, message_length, IsDrained}
 use Rattle.rtcm_scan.proofs.StepLemmas.{step_examined, step_give_up, step_take, looked_bytes}
 use Rattle.rtcm_scan.proofs.KnownLemmas.{counted_empty, counted_open, counted_frame}
 use Rattle.rtcm_scan.proofs.FrameLemmas.{length-message, begins_parts}
 use Rattle.rtcm_scan.proofs.DecidedLemmas.{none_past}
 use Rattle.rtcm_scan.proofs.HistoryLemmas.{stands_give_up, stands_take, stands_ready}
 use Rattle.rtcm_scan.proofs.DrainedLemmas.{drained_ended, drained_waiting}
-use Rattle.rtcm_scan.proofs.Names.{cases_Bool, nil_from_length, begins_frame, is_open, frame_length, framed_message, Framed, WindowValue, looked_through, without_front, FramerValue, HasFramed, first_held, IsPassed, window_of, with_window, with_looks, asked, with_candidate_examined, passed, HasExamined, IsCountedExactly, IsCountedTo, message_length, IsDrained}
 
 -- other counts don't change what a framer has accepted
 pub stands_looks : (v : FramerValue) (w : WindowValue) (t : ℕ) (b : List ℕ) (fs : List Framed) → HasFramed v b fs → HasFramed (with_looks v w t) b fs
@@ -30,9 +29,6 @@ counts_passed v u w b fs e f h p t x = rw (f, e) (step_give_up (with_candidate_e
 pub found_begins : (v u : FramerValue) (size : ℕ) → u ≡ with_candidate_examined v → (begins_frame v.held ≡ true) × (size ≡ frame_length v.held)
     → (begins_frame u.held ≡ true) × (size ≡ frame_length u.held) × (u.tried ≡ asked u.held)
 found_begins v u size e f = rw e (f.0, f.1, refl)
-
-pub found_stands : (v u : FramerValue) (b : List ℕ) (fs : List Framed) → u ≡ with_candidate_examined v → HasFramed v b fs → HasFramed u b fs
-found_stands v u b fs e s = rw e (stands_looks v (looked_through (window_of v) v.tried (asked v.held - v.tried)) (asked v.held) b fs s)
 
 pub found_counts : (v u : FramerValue) (b : List ℕ) (fs : List Framed) → u ≡ with_candidate_examined v → v.tried ≤ asked v.held → HasExamined v b fs → HasExamined u b fs
 found_counts v u b fs e t x = rw e (step_examined v b fs t x)

@@ -1,11 +1,10 @@
 -- Bytes that begin no frame are dropped together, as if one by one.
-use Rattle.std.proofs.Common.{ℕ, ◌≡◌, ◌≢◌, ◌+◌, ◌-◌, ◌<◌, ◌≤◌, ◌^◌, min, Bool, false, List, [], ◌∷◌, length, take, drop, get_or, refl, sym, ap, ◌∙◌, arith, suc, zero, slice_index, slice_set, subst}
+use Rattle.rtcm_scan.proofs.Names.{ℕ, ◌≡◌, ◌≢◌, ◌+◌, ◌-◌, ◌<◌, ◌≤◌, ◌^◌, min, Bool, false, List, [], ◌∷◌, length, take, drop, get_or, refl, sym, ap, ◌∙◌, arith, suc, zero, slice_index, slice_set, subst, drop-drop, length-drop, get_or-drop, ne_eqb, WindowValue, looked, looked_through, without_front, has_preamble, Candidate, HasTaken, Framed, FramerValue, HasFramed, IsPassed, scan_of, window_of, with_window, with_looks, asked, with_candidate_examined, passed, HasExamined}
 use Rattle.rtcm_scan.proofs.FrameLemmas.{none_without}
 use Rattle.rtcm_scan.proofs.CandidateLemmas.{looked_twice, taken_more}
 use Rattle.rtcm_scan.proofs.NextLemmas.{step_passed, counts_passed, stands_looks}
 use Rattle.rtcm_scan.proofs.HistoryLemmas.{view_dropped}
 use Rattle.rtcm_scan.proofs.StepLemmas.{looked_bytes, step_examined_to}
-use Rattle.rtcm_scan.proofs.Names.{drop-drop, length-drop, get_or-drop, ne_eqb, WindowValue, looked, looked_through, without_front, has_preamble, Candidate, HasTaken, Framed, FramerValue, HasFramed, IsPassed, scan_of, window_of, with_window, with_looks, asked, with_candidate_examined, passed, HasExamined}
 
 -- looks after the first byte, if that is dropped
 set_after : (l : List ℕ) (i x : ℕ) → slice_set (drop 1 l) i x ≡ drop 1 (slice_set l (i + 1) x)

@@ -1,7 +1,6 @@
 -- Frames that are passed to a sink, piece by piece.
-use Rattle.std.proofs.Common.{◌≡◌, ℕ, ◌+◌, ◌-◌, ◌<◌, ◌≤◌, Bool, true, false, List, [], ◌∷◌, ◌++◌, ◌∙◌, ap, sym, refl, arith, length, take, drop, append_assoc, append-nil, subst, take-append-drop, length-drop, slice_range, length-take, ⊎_elim}
+use Rattle.rtcm_scan.proofs.Names.{◌≡◌, ℕ, ◌+◌, ◌-◌, ◌<◌, ◌≤◌, Bool, true, false, List, [], ◌∷◌, ◌++◌, ◌∙◌, ap, sym, refl, arith, length, take, drop, append_assoc, append-nil, subst, take-append-drop, length-drop, slice_range, length-take, ⊎_elim, cases_lt, take-add, IsPrefix, Framed, frames_of, known_frames, IsDrained, FramerValue, HasFramed, with_bytes, HasExamined, CountsFrame, CountsKnown, Coming, Breaking, HasPassed, HasPassedAll, PassesKnown, BreaksKnown, Passes, PassesToLimit, Breaks, TakesPiece, Continues, IsSameStream}
 use Rattle.rtcm_scan.proofs.PrefixLemmas.{stays_decided}
-use Rattle.rtcm_scan.proofs.Names.{cases_lt, take-add, IsPrefix, Framed, frames_of, known_frames, IsDrained, FramerValue, HasFramed, with_bytes, HasExamined, CountsFrame, CountsKnown, Coming, Breaking, HasPassed, HasPassedAll, PassesKnown, BreaksKnown, Passes, PassesToLimit, Breaks, TakesPiece, Continues, IsSameStream}
 
 pub prefix_self : {A : Type 0} (xs : List A) → IsPrefix xs xs
 prefix_self xs = ([], sym (append-nil xs))

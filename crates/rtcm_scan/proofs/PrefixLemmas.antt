@@ -1,10 +1,9 @@
 -- Decided frames stay decided when bytes follow.
-use Rattle.std.proofs.Common.{ℕ, ◌≡◌, ◌+◌, ◌-◌, ◌*◌, ◌<◌, ◌≤◌, Bool, true, false, List, [], ◌∷◌, ◌++◌, length, drop, refl, sym, ap, ◌∙◌, arith, suc, zero, ⊎_elim, length-append}
+use Rattle.rtcm_scan.proofs.Names.{ℕ, ◌≡◌, ◌+◌, ◌-◌, ◌*◌, ◌<◌, ◌≤◌, Bool, true, false, List, [], ◌∷◌, ◌++◌, length, drop, refl, sym, ap, ◌∙◌, arith, suc, zero, ⊎_elim, length-append, cases_Bool, cases_lt, begins_frame, is_open, Framed, IsFrameOf, frame_end, frames_of, frames_from, framed_at, decided, decided_frames, frames_before, IsPrefix, known_frames, AllPassed, Scanned, length-drop}
 use Rattle.rtcm_scan.proofs.ScanLemmas.{scanned_none, scanned_le, scanned_longer, frame_within}
 use Rattle.rtcm_scan.proofs.DecidedLemmas.{decided_is, decided_frames_are, frames_split}
 use Rattle.rtcm_scan.proofs.LawLemmas.{scanned_prepend, framed_valid, frames_scanned}
 use Rattle.rtcm_scan.proofs.DecisionLemmas.{open_bound}
-use Rattle.rtcm_scan.proofs.Names.{cases_Bool, cases_lt, begins_frame, is_open, Framed, IsFrameOf, frame_end, frames_of, frames_from, framed_at, decided, decided_frames, frames_before, IsPrefix, known_frames, AllPassed, Scanned, length-drop}
 
 -- from a place on, b is scanned up to the place at which bytes are missing
 record ScannedOn (b : List ℕ) (from : ℕ) : Type 0 where

@@ -1,8 +1,7 @@
 -- What a framer has accepted after many bytes.
-use Rattle.std.proofs.Common.{ℕ, ◌≡◌, ◌+◌, ◌<◌, ◌≤◌, Bool, false, List, [], ◌∷◌, ◌++◌, length, replicate, refl, ap, arith, suc, length-append}
+use Rattle.rtcm_scan.proofs.Names.{ℕ, ◌≡◌, ◌+◌, ◌<◌, ◌≤◌, Bool, false, List, [], ◌∷◌, ◌++◌, length, replicate, refl, ap, arith, suc, length-append, append-nil, append_assoc, WindowValue, pushed_all, Framed, FramerValue, scan_of, with_bytes, HasFramed, HasExamined}
 use Rattle.rtcm_scan.proofs.HistoryLemmas.{stands_push, stands_ready}
 use Rattle.rtcm_scan.proofs.StepLemmas.{step_push}
-use Rattle.rtcm_scan.proofs.Names.{append-nil, append_assoc, WindowValue, pushed_all, Framed, FramerValue, scan_of, with_bytes, HasFramed, HasExamined}
 
 -- the state after one byte is pushed
 abbrev pub with_byte : FramerValue → ℕ → FramerValue

@@ -1,8 +1,7 @@
 -- A stream that is read piece by piece.
-use Rattle.std.proofs.Common.{◌≡◌, ℕ, ◌+◌, ◌-◌, ◌<◌, ◌≤◌, Bool, true, false, List, [], ◌∷◌, ◌++◌, ◌∙◌, ap, sym, refl, arith, length, suc, take, drop, max, append_assoc, append-nil, subst, length-append, Option, true≢false, add-zero}
+use Rattle.rtcm_scan.proofs.Names.{◌≡◌, ℕ, ◌+◌, ◌-◌, ◌<◌, ◌≤◌, Bool, true, false, List, [], ◌∷◌, ◌++◌, ◌∙◌, ap, sym, refl, arith, length, suc, take, drop, max, append_assoc, append-nil, subst, length-append, Option, true≢false, add-zero, Result, Ok, Err, MatchResult, Consumes, Keeps, IsAtEnd, ReadConsumes, ReadsAtMost, Consumes-trans, Consumes-nil, Framed, length-drop, take-append-le, length-take-le, longest_frame, decided, IsDrained, known_frames, known_place, FramerValue, HasReadPiece, Coming, Breaking, HasPassedAll, HasBroken, Passes, Breaks, Continues, BreaksKnown, PassesKnown, PassesToLimit, PassesAll, BreaksAfter, BreaksReading, Reads, ReadsOn, IsReadingOn, AtFault, StreamFault, Read, TooLong, Sink}
 use Rattle.rtcm_scan.proofs.PassingLemmas.{prefix_self, passes_sent}
 use Rattle.rtcm_scan.proofs.PrefixLemmas.{decided_near}
-use Rattle.rtcm_scan.proofs.Names.{Result, Ok, Err, MatchResult, Consumes, Keeps, IsAtEnd, ReadConsumes, ReadsAtMost, Consumes-trans, Consumes-nil, Framed, length-drop, take-append-le, length-take-le, longest_frame, decided, IsDrained, known_frames, known_place, FramerValue, HasReadPiece, Coming, Breaking, HasPassedAll, HasBroken, Passes, Breaks, Continues, BreaksKnown, PassesKnown, PassesToLimit, PassesAll, BreaksAfter, BreaksReading, Reads, ReadsOn, IsReadingOn, AtFault, StreamFault, Read, TooLong, Sink}
 
 -- at each fault, one proposition implies another
 pub at_each : {F : Type 0} (f : StreamFault F) (P Q R P' Q' R' : Type 0) → (P → P') → (Q → Q') → (R → R') → AtFault f P Q R → AtFault f P' Q' R'

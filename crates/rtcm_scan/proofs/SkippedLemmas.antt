@@ -1,8 +1,7 @@
 -- The number of places in no frame is the number of bytes outside the frames.
-use Rattle.std.proofs.Common.{ℕ, ◌≡◌, ◌+◌, ◌-◌, ◌<◌, ◌≤◌, Bool, true, false, not, cond, ◌&&◌, ltb, leb, List, [], ◌∷◌, ◌++◌, length, drop, sum_by, refl, sym, ap, ◌∙◌, arith, suc, zero}
+use Rattle.rtcm_scan.proofs.Names.{ℕ, ◌≡◌, ◌+◌, ◌-◌, ◌<◌, ◌≤◌, Bool, true, false, not, cond, ◌&&◌, ltb, leb, List, [], ◌∷◌, ◌++◌, length, drop, sum_by, refl, sym, ap, ◌∙◌, arith, suc, zero, list_any, count_by, lt-ltb, le-ltb, le-leb, lt-leb, and_left, and_right, sum_by_push, sum_by-cons, list_any-append, begins_frame, frame_length, framed_message, Framed, frame_end, frames_from, frames_of, places, is_within, skipped_before, Scanned}
 use Rattle.rtcm_scan.proofs.ScanLemmas.{scanned_le}
 use Rattle.rtcm_scan.proofs.DecidedLemmas.{or_none, frames_split}
-use Rattle.rtcm_scan.proofs.Names.{list_any, count_by, lt-ltb, le-ltb, le-leb, lt-leb, and_left, and_right, sum_by_push, sum_by-cons, list_any-append, begins_frame, frame_length, framed_message, Framed, frame_end, frames_from, frames_of, places, is_within, skipped_before, Scanned}
 
 -- from a place on, all places pass a test, or none does
 count_all : (t : ℕ → Bool) (from d : ℕ) → ((q : ℕ) → from ≤ q → q < from + d → t q ≡ true) → count_by t (places (from + d)) ≡ count_by t (places from) + d

@@ -1,6 +1,5 @@
-use Rattle.std.proofs.Common.{take, ◌+◌}
+use Rattle.rtcm_bits.proofs.Names.{take, ◌+◌, take_more, uint}
 use Rattle.rtcm_bits.proofs.RegisterLemmas.{steps_push, no_steps}
-use Rattle.rtcm_bits.proofs.Names.{take_more, uint}
 use Rattle.rtcm_bits.proofs.crc.after_each.Goals as goal
 
 pub loop-byte-init : goal.loop-byte-init

@@ -1,5 +1,4 @@
-use Rattle.std.proofs.Common.{◌≡◌, ◌^◌, ◌<◌, take}
-use Rattle.rtcm_bits.proofs.Names.{uint, bits_of, after_bits}
+use Rattle.rtcm_bits.proofs.Names.{◌≡◌, ◌^◌, ◌<◌, take, uint, bits_of, after_bits}
 use Rattle.rtcm_bits.proofs.crc.after_each.Given as goal
 
 abbrev pub invariant-loop-byte : goal.invariant-loop-byte

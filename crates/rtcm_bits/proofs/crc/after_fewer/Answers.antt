@@ -1,6 +1,5 @@
-use Rattle.std.proofs.Common.{◌++◌, List, ℕ, take, ap, sym, ◌∙◌, take-append-drop}
+use Rattle.rtcm_bits.proofs.Names.{◌++◌, List, ℕ, take, ap, sym, ◌∙◌, take-append-drop, take_rest, uint}
 use Rattle.rtcm_bits.proofs.RegisterLemmas.{steps_more}
-use Rattle.rtcm_bits.proofs.Names.{take_rest, uint}
 use Rattle.rtcm_bits.proofs.crc.after_fewer.Goals as goal
 
 pub returns-clause-steps : goal.returns-clause-steps

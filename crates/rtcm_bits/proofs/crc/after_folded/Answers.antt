@@ -1,7 +1,6 @@
-use Rattle.std.proofs.Common.{◌≡◌, ◌+◌, ◌-◌, ◌++◌, ◌≤◌, ℕ, List, length, drop, replicate, sym, ap, ◌∙◌, arith, length-append}
+use Rattle.rtcm_bits.proofs.Names.{◌≡◌, ◌+◌, ◌-◌, ◌++◌, ◌≤◌, ℕ, List, length, drop, replicate, sym, ap, ◌∙◌, arith, length-append, append-nil, length-drop, length-replicate, take_rest, fold_into}
 use Rattle.rtcm_bits.proofs.FoldLemmas.{last_start, last_window}
 use Rattle.rtcm_bits.proofs.LongLemmas.{last_more, last_right}
-use Rattle.rtcm_bits.proofs.Names.{append-nil, length-drop, length-replicate, take_rest, fold_into}
 use Rattle.rtcm_bits.proofs.crc.after_folded.Goals as goal
 
 pub loop-taken-init : goal.loop-taken-init

@@ -1,5 +1,4 @@
-use Rattle.std.proofs.Common.{◌≡◌, ◌-◌, ◌%◌, ◌^◌, ◌<◌, ◌≤◌, ◌++◌, drop, replicate}
-use Rattle.rtcm_bits.proofs.Names.{uint, bits_of, crc, fold_into, after_bits}
+use Rattle.rtcm_bits.proofs.Names.{◌≡◌, ◌-◌, ◌%◌, ◌^◌, ◌<◌, ◌≤◌, ◌++◌, drop, replicate, uint, bits_of, crc, fold_into, after_bits}
 use Rattle.rtcm_bits.proofs.crc.after_folded.Given as goal
 
 abbrev pub invariant-loop-taken : goal.invariant-loop-taken

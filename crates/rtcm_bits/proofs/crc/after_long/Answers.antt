@@ -1,6 +1,5 @@
-use Rattle.std.proofs.Common.{List, ℕ, sym, ap, length, ◌∙◌, arith}
+use Rattle.rtcm_bits.proofs.Names.{List, ℕ, sym, ap, length, ◌∙◌, arith, take_rest, uint, crc, fold_into}
 use Rattle.rtcm_bits.proofs.FoldLemmas.{start_folded}
-use Rattle.rtcm_bits.proofs.Names.{take_rest, uint, crc, fold_into}
 use Rattle.rtcm_bits.proofs.crc.after_long.Goals as goal
 
 pub loop-taken-init : goal.loop-taken-init

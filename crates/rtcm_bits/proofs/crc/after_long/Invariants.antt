@@ -1,5 +1,4 @@
-use Rattle.std.proofs.Common.{◌≡◌, ◌+◌, ◌-◌, ◌≤◌, length, drop}
-use Rattle.rtcm_bits.proofs.Names.{uint, bits_of, crc, fold_into, after_bits}
+use Rattle.rtcm_bits.proofs.Names.{◌≡◌, ◌+◌, ◌-◌, ◌≤◌, length, drop, uint, bits_of, crc, fold_into, after_bits}
 use Rattle.rtcm_bits.proofs.crc.after_long.Given as goal
 
 abbrev pub invariant-loop-taken : goal.invariant-loop-taken

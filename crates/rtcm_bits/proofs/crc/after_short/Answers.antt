@@ -1,6 +1,5 @@
-use Rattle.std.proofs.Common.{◌≡◌, ◌+◌, ◌-◌, ◌++◌, ℕ, take, drop, ap, sym, ◌∙◌, arith, take-append-drop}
+use Rattle.rtcm_bits.proofs.Names.{◌≡◌, ◌+◌, ◌-◌, ◌++◌, ℕ, take, drop, ap, sym, ◌∙◌, arith, take-append-drop, take-add, take_rest, uint}
 use Rattle.rtcm_bits.proofs.RegisterLemmas.{steps_more, no_steps}
-use Rattle.rtcm_bits.proofs.Names.{take-add, take_rest, uint}
 use Rattle.rtcm_bits.proofs.crc.after_short.Goals as goal
 
 pub loop-taken-init : goal.loop-taken-init

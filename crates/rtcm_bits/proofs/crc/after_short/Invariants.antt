@@ -1,5 +1,4 @@
-use Rattle.std.proofs.Common.{◌≡◌, ◌-◌, ◌^◌, ◌<◌, ◌≤◌, length, take}
-use Rattle.rtcm_bits.proofs.Names.{uint, bits_of, after_bits}
+use Rattle.rtcm_bits.proofs.Names.{◌≡◌, ◌-◌, ◌^◌, ◌<◌, ◌≤◌, length, take, uint, bits_of, after_bits}
 use Rattle.rtcm_bits.proofs.crc.after_short.Given as goal
 
 abbrev pub invariant-loop-taken : goal.invariant-loop-taken

@@ -1,7 +1,6 @@
-use Rattle.std.proofs.Common.{◌≡◌, ◌-◌, ◌∙◌, ℕ, length, drop, ap, sym, arith}
+use Rattle.rtcm_bits.proofs.Names.{◌≡◌, ◌-◌, ◌∙◌, ℕ, length, drop, ap, sym, arith, crc, drop-length}
 use Rattle.rtcm_bits.proofs.EntryLemmas.{entry_more, some_right}
 use Rattle.rtcm_bits.proofs.RegisterLemmas.{check_nil}
-use Rattle.rtcm_bits.proofs.Names.{crc, drop-length}
 use Rattle.rtcm_bits.proofs.crc.after_some.Goals as goal
 
 pub loop-k-init : goal.loop-k-init

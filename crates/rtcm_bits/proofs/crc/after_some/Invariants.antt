@@ -1,5 +1,4 @@
-use Rattle.std.proofs.Common.{◌≡◌, ◌-◌, length, drop}
-use Rattle.rtcm_bits.proofs.Names.{crc}
+use Rattle.rtcm_bits.proofs.Names.{◌≡◌, ◌-◌, length, drop, crc}
 use Rattle.rtcm_bits.proofs.crc.after_some.Given as goal
 
 abbrev pub invariant-loop-k : goal.invariant-loop-k

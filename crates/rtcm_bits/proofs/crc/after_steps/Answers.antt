@@ -1,6 +1,5 @@
-use Rattle.std.proofs.Common.{◌≡◌, ◌+◌, ◌*◌, ◌-◌, ◌≤◌, ℕ, length, drop, ap, ◌∙◌, arith, length-append}
+use Rattle.rtcm_bits.proofs.Names.{◌≡◌, ◌+◌, ◌*◌, ◌-◌, ◌≤◌, ℕ, length, drop, ap, ◌∙◌, arith, length-append, length-drop, crc, fold_into}
 use Rattle.rtcm_bits.proofs.LongLemmas.{long_step}
-use Rattle.rtcm_bits.proofs.Names.{length-drop, crc, fold_into}
 use Rattle.rtcm_bits.proofs.crc.after_steps.Goals as goal
 
 pub loop-i-init : goal.loop-i-init

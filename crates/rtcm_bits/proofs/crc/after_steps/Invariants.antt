@@ -1,5 +1,4 @@
-use Rattle.std.proofs.Common.{◌≡◌, ◌+◌, ◌*◌, length, drop}
-use Rattle.rtcm_bits.proofs.Names.{crc, fold_into}
+use Rattle.rtcm_bits.proofs.Names.{◌≡◌, ◌+◌, ◌*◌, length, drop, crc, fold_into}
 use Rattle.rtcm_bits.proofs.crc.after_steps.Given as goal
 
 abbrev pub invariant-loop-i : goal.invariant-loop-i

@@ -1,5 +1,4 @@
-use Rattle.std.proofs.Common.{◌++◌, arith, length-append}
-use Rattle.rtcm_bits.proofs.Names.{pick_l-range_with_len}
+use Rattle.rtcm_bits.proofs.Names.{◌++◌, arith, length-append, pick_l-range_with_len}
 use Rattle.rtcm_bits.proofs.folding.at_one.Goals as goal
 
 pub returns : goal.returns

@@ -1,6 +1,5 @@
-use Rattle.std.proofs.Common.{◌∙◌, arith}
+use Rattle.rtcm_bits.proofs.Names.{◌∙◌, arith, number, length-uint, number-uint, uint-number, number-fits, number-split}
 use Rattle.rtcm_bits.proofs.BitLemmas.{number-append}
-use Rattle.rtcm_bits.proofs.Names.{number, length-uint, number-uint, uint-number, number-fits, number-split}
 use Rattle.rtcm_bits.proofs.laws.numbers.Goals as goal
 
 pub returns-clause-width : goal.returns-clause-width

@@ -1,5 +1,4 @@
-use Rattle.std.proofs.Common.{◌≡◌, length}
-use Rattle.rtcm_bits.proofs.Names.{looked_through, counts_alone}
+use Rattle.rtcm_bits.proofs.Names.{◌≡◌, length, looked_through, counts_alone}
 use Rattle.rtcm_bits.proofs.looking.look_at_each.Given as goal
 
 abbrev pub invariant-loop-i : goal.invariant-loop-i

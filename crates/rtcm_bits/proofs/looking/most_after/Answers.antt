@@ -1,4 +1,4 @@
-use Rattle.std.proofs.Common.{max, ap, ◌∙◌}
+use Rattle.rtcm_bits.proofs.Names.{max, ap, ◌∙◌}
 use Rattle.rtcm_bits.proofs.LookLemmas.{most_more}
 use Rattle.rtcm_bits.proofs.looking.most_after.Goals as goal
 

@@ -1,5 +1,4 @@
-use Rattle.std.proofs.Common.{◌≡◌}
-use Rattle.rtcm_bits.proofs.Names.{looked_through, counts_alone}
+use Rattle.rtcm_bits.proofs.Names.{◌≡◌, looked_through, counts_alone}
 use Rattle.rtcm_bits.proofs.looking.most_after.Given as goal
 
 abbrev pub invariant-loop-i : goal.invariant-loop-i

@@ -1,4 +1,4 @@
-use Rattle.std.proofs.Common.{◌≢◌, ◌<◌, ℕ, slice_index}
+use Rattle.rtcm_bits.proofs.Names.{◌≢◌, ◌<◌, ℕ, slice_index}
 use Rattle.rtcm_bits.proofs.looking.others_from.Given as goal
 
 abbrev pub invariant-loop-i : goal.invariant-loop-i

@@ -1,4 +1,4 @@
-use Rattle.std.proofs.Common.{rules}
+use Rattle.rtcm_bits.proofs.Names.{rules}
 use Rattle.rtcm_bits.proofs.WindowLemmas.{range_past}
 use Rattle.rtcm_bits.proofs.looking.part_of.Goals as goal
 

@@ -1,5 +1,4 @@
-use Rattle.std.proofs.Common.{◌≡◌, ◌-◌, length, sym, ap, ◌∙◌, arith, length-drop}
-use Rattle.rtcm_bits.proofs.Names.{vec_len}
+use Rattle.rtcm_bits.proofs.Names.{◌≡◌, ◌-◌, length, sym, ap, ◌∙◌, arith, length-drop, vec_len}
 use Rattle.rtcm_bits.proofs.looking.spell_out.Goals as goal
 
 pub returns-clause-size : goal.returns-clause-size

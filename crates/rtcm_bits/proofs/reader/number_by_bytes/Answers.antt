@@ -1,6 +1,5 @@
-use Rattle.std.proofs.Common.{◌≡◌, ◌-◌, arith, drop}
+use Rattle.rtcm_bits.proofs.Names.{◌≡◌, ◌-◌, arith, drop, length-drop, bits_of, length-bits_of, number-take-fits}
 use Rattle.rtcm_bits.proofs.PartLemmas.{nothing_read, next_part}
-use Rattle.rtcm_bits.proofs.Names.{length-drop, bits_of, length-bits_of, number-take-fits}
 use Rattle.rtcm_bits.proofs.reader.number_by_bytes.Goals as goal
 
 pub loop-at-init : goal.loop-at-init

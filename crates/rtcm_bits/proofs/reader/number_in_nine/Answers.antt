@@ -1,6 +1,5 @@
-use Rattle.std.proofs.Common.{ℕ, ◌≡◌, ◌+◌, ◌-◌, ◌*◌, ap, ◌∙◌, arith, drop, take, refl}
+use Rattle.rtcm_bits.proofs.Names.{ℕ, ◌≡◌, ◌+◌, ◌-◌, ◌*◌, ap, ◌∙◌, arith, drop, take, refl, bits_of, number}
 use Rattle.rtcm_bits.proofs.WordLemmas.{in_nine}
-use Rattle.rtcm_bits.proofs.Names.{bits_of, number}
 use Rattle.rtcm_bits.proofs.reader.number_in_nine.Goals as goal
 
 pub overflow_add-result : goal.overflow_add-result

@@ -1,4 +1,4 @@
-use Rattle.std.proofs.Common.{◌+◌, ◌-◌, arith}
+use Rattle.rtcm_bits.proofs.Names.{◌+◌, ◌-◌, arith}
 use Rattle.rtcm_bits.proofs.WordLemmas.{word_of_range}
 use Rattle.rtcm_bits.proofs.reader.word_at.Goals as goal
 

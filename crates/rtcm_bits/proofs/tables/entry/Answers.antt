@@ -1,4 +1,4 @@
-use Rattle.std.proofs.Common.{◌∷◌, replicate}
+use Rattle.rtcm_bits.proofs.Names.{◌∷◌, replicate}
 use Rattle.rtcm_bits.proofs.EntryLemmas.{entry_right}
 use Rattle.rtcm_bits.proofs.RegisterLemmas.{check_below}
 use Rattle.rtcm_bits.proofs.tables.entry.Goals as goal

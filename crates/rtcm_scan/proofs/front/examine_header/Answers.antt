@@ -1,4 +1,4 @@
-use Rattle.std.proofs.Common.{ap, ◌∙◌, ◌<◌, ◌≤◌, arith, length, take, slice_index}
+use Rattle.rtcm_scan.proofs.Names.{ap, ◌∙◌, ◌<◌, ◌≤◌, arith, length, take, slice_index}
 use Rattle.rtcm_scan.proofs.CandidateLemmas.{taken_more, looked_more}
 use Rattle.rtcm_scan.proofs.front.examine_header.Goals.{then-held-candidate-eq1, else-held-candidate-eq1}
 use Rattle.rtcm_scan.proofs.front.examine_header.Goals as goal

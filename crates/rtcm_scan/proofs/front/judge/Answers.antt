@@ -1,7 +1,6 @@
-use Rattle.std.proofs.Common.{arith, ◌∙◌, ap, sym}
+use Rattle.rtcm_scan.proofs.Names.{arith, ◌∙◌, ap, sym, if_missing}
 use Rattle.rtcm_scan.proofs.JudgeLemmas.{judge_missing, judge_found, judge_wrong, judge_none}
 use Rattle.rtcm_scan.proofs.front.judge.Goals.{else-candidate-gt1-via-then-candidate-gt1+else-value-eq0, else-candidate-gt1-via-else-candidate-gt1}
-use Rattle.rtcm_scan.proofs.Names.{if_missing}
 use Rattle.rtcm_scan.proofs.front.judge.Goals as goal
 
 pub returns-then-has_ended : goal.returns-then-has_ended

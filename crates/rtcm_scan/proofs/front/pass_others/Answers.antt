@@ -1,6 +1,5 @@
-use Rattle.std.proofs.Common.{◌≡◌, ◌+◌, ◌-◌, ◌<◌, ◌≤◌, ℕ, min, length, ap, ◌∙◌, arith}
+use Rattle.rtcm_scan.proofs.Names.{◌≡◌, ◌+◌, ◌-◌, ◌<◌, ◌≤◌, ℕ, min, length, ap, ◌∙◌, arith, looked_through, without_front}
 use Rattle.rtcm_scan.proofs.PassOverLemmas.{after_length, taken_preamble}
-use Rattle.rtcm_scan.proofs.Names.{looked_through, without_front}
 use Rattle.rtcm_scan.proofs.front.pass_others.Goals as goal
 
 pub returns-then-held-gt0-clause-taken : goal.returns-then-held-gt0-clause-taken

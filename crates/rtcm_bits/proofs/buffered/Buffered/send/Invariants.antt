@@ -1,5 +1,4 @@
-use Rattle.std.proofs.Common.{◌≡◌, ◌≤◌, ◌-◌, length, drop, true, vec_capacity}
-use Rattle.rtcm_bits.proofs.Names.{Keeps, append_known, contents_of}
+use Rattle.rtcm_bits.proofs.Names.{◌≡◌, ◌≤◌, ◌-◌, length, drop, true, vec_capacity, Keeps, append_known, contents_of}
 use Rattle.rtcm_bits.proofs.buffered.Buffered.send.Given as goal
 
 abbrev pub invariant-loop-self : goal.invariant-loop-self

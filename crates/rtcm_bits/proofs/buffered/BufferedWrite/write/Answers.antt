@@ -1,7 +1,6 @@
-use Rattle.std.proofs.Common.{◌≡◌, false, sym, ap, ◌∙◌, rules}
+use Rattle.rtcm_bits.proofs.Names.{◌≡◌, false, sym, ap, ◌∙◌, rules, append_known-grown, Keeps-refl}
 use Rattle.rtcm_bits.proofs.BufferLemmas.{one_more}
 use Rattle.rtcm_bits.proofs.buffered.BufferedWrite.write.Goals.{then-self+in_ok-send, else-self+else-len-eq-BUFFER_BYTES}
-use Rattle.rtcm_bits.proofs.Names.{append_known-grown, Keeps-refl}
 use Rattle.rtcm_bits.proofs.buffered.BufferedWrite.write.Goals as goal
 
 pub returns-clause-bytes : goal.returns-clause-bytes

@@ -1,4 +1,4 @@
-use Rattle.std.proofs.Common.{◌∙◌}
+use Rattle.rtcm_bits.proofs.Names.{◌∙◌}
 use Rattle.rtcm_bits.proofs.RegisterLemmas.{check_push}
 use Rattle.rtcm_bits.proofs.crc.CheckRegister.take.Goals as goal
 

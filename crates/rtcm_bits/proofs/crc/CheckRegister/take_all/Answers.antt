@@ -1,4 +1,4 @@
-use Rattle.std.proofs.Common.{◌∙◌}
+use Rattle.rtcm_bits.proofs.Names.{◌∙◌}
 use Rattle.rtcm_bits.proofs.RegisterLemmas.{check_append}
 use Rattle.rtcm_bits.proofs.crc.CheckRegister.take_all.Goals as goal
 

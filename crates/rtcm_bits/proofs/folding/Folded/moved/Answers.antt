@@ -1,4 +1,4 @@
-use Rattle.std.proofs.Common.{◌++◌, ℕ, List, drop, ap, ◌∙◌}
+use Rattle.rtcm_bits.proofs.Names.{◌++◌, ℕ, List, drop, ap, ◌∙◌}
 use Rattle.rtcm_bits.proofs.FoldLemmas.{vectors_moved}
 use Rattle.rtcm_bits.proofs.folding.Folded.moved.Goals as goal
 

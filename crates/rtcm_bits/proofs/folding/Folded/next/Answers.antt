@@ -1,6 +1,5 @@
-use Rattle.std.proofs.Common.{◌++◌, ℕ, List, length, take, ap, ◌∙◌, arith}
+use Rattle.rtcm_bits.proofs.Names.{◌++◌, ℕ, List, length, take, ap, ◌∙◌, arith, length-take-le, fold_into}
 use Rattle.rtcm_bits.proofs.FoldLemmas.{offsets, vector_next, length-fold}
-use Rattle.rtcm_bits.proofs.Names.{length-take-le, fold_into}
 use Rattle.rtcm_bits.proofs.folding.Folded.next.Goals as goal
 
 abbrev whole : goal.returns-clause-added

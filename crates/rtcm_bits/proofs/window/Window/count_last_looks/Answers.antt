@@ -1,6 +1,5 @@
-use Rattle.std.proofs.Common.{◌≡◌, ◌+◌, List, ℕ, length, drop, ap, ◌∙◌, arith, rules, length-drop}
+use Rattle.rtcm_bits.proofs.Names.{◌≡◌, ◌+◌, List, ℕ, length, drop, ap, ◌∙◌, arith, rules, length-drop, vec_len, looked_through, counts_alone}
 use Rattle.rtcm_bits.proofs.LookLemmas.{last_looks, last_stored}
-use Rattle.rtcm_bits.proofs.Names.{vec_len, looked_through, counts_alone}
 use Rattle.rtcm_bits.proofs.window.Window.count_last_looks.Goals as goal
 
 pub returns-then-start-counted-clause-counted : goal.returns-then-start-counted-clause-counted

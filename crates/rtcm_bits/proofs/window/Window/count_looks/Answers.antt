@@ -1,6 +1,5 @@
-use Rattle.std.proofs.Common.{List, ℕ, ◌≡◌, ◌+◌, ◌-◌, drop, length, max, refl, ap, ◌∙◌, rules, arith, length-drop}
+use Rattle.rtcm_bits.proofs.Names.{List, ℕ, ◌≡◌, ◌+◌, ◌-◌, drop, length, max, refl, ap, ◌∙◌, rules, arith, length-drop, with_items_is, places, vec_len, held_of, filled_up, looked_through, counts_alone}
 use Rattle.rtcm_bits.proofs.LookLemmas.{first_looks_at, second_look_at, later_looks, filled_out, looked_length}
-use Rattle.rtcm_bits.proofs.Names.{with_items_is, places, vec_len, held_of, filled_up, looked_through, counts_alone}
 use Rattle.rtcm_bits.proofs.window.Window.count_looks.Goals as goal
 
 pub returns-then-start-counted-clause-counted : goal.returns-then-start-counted-clause-counted

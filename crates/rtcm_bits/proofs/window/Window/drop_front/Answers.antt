@@ -1,6 +1,5 @@
-use Rattle.std.proofs.Common.{◌≡◌, length, drop, ap, arith, length-drop}
+use Rattle.rtcm_bits.proofs.Names.{◌≡◌, length, drop, ap, arith, length-drop, vec_len}
 use Rattle.rtcm_bits.proofs.LookLemmas.{view_dropped}
-use Rattle.rtcm_bits.proofs.Names.{vec_len}
 use Rattle.rtcm_bits.proofs.window.Window.drop_front.Goals as goal
 
 pub returns : goal.returns

@@ -1,6 +1,5 @@
-use Rattle.std.proofs.Common.{◌≡◌, ◌+◌, ◌-◌, ◌≤◌, List, ℕ, length, min, ap, ◌∙◌, sym, arith, length-append, length-drop}
+use Rattle.rtcm_bits.proofs.Names.{◌≡◌, ◌+◌, ◌-◌, ◌≤◌, List, ℕ, length, min, ap, ◌∙◌, sym, arith, length-append, length-drop, WindowValue, looked_through, without_front}
 use Rattle.rtcm_bits.proofs.WindowLemmas.{looked_dropped, looked_to}
-use Rattle.rtcm_bits.proofs.Names.{WindowValue, looked_through, without_front}
 use Rattle.rtcm_bits.proofs.window.Window.drop_others.Goals as goal
 
 pub returns-then-held-gt0-clause-dropped : goal.returns-then-held-gt0-clause-dropped

@@ -1,7 +1,4 @@
-use Rattle.std.proofs.Common.{◌≡◌, List, ℕ, Option, ◌∙◌, ap, sym, add-zero, slice_index}
-use Rattle.std.proofs.lemmas.Option.{get_or_from_slice_get}
-use Rattle.std.specs.Option.{option_copied}
-use Rattle.rtcm_bits.proofs.Names.{WindowValue, looked}
+use Rattle.rtcm_bits.proofs.Names.{◌≡◌, List, ℕ, ◌∙◌, ap, sym, add-zero, slice_index, WindowValue, looked, get_or_from_slice_get, option_copied}
 use Rattle.rtcm_bits.proofs.window.Window.look.Goals as goal
 
 pub returns-clause-byte : goal.returns-clause-byte

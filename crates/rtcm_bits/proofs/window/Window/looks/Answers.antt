@@ -1,7 +1,5 @@
-use Rattle.std.proofs.Common.{◌≡◌, ◌+◌, ◌-◌, ℕ, ltb, length, drop, refl, ap, ◌∙◌, arith, length-drop}
+use Rattle.rtcm_bits.proofs.Names.{◌≡◌, ◌+◌, ◌-◌, ℕ, ltb, length, drop, refl, ap, ◌∙◌, arith, length-drop, vec_len, bool_byte}
 use Rattle.rtcm_bits.proofs.LookLemmas.{looks_stored, looks_at_once}
-use Rattle.rtcm_bits.proofs.Names.{vec_len}
-use mir.Val.{bool_byte}
 use Rattle.rtcm_bits.proofs.window.Window.looks.Goals as goal
 
 pub returns-then-i-counted : goal.returns-then-i-counted

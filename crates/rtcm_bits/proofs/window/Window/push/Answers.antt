@@ -1,4 +1,4 @@
-use Rattle.std.proofs.Common.{[], ◌∷◌, drop, arith, length-drop}
+use Rattle.rtcm_bits.proofs.Names.{[], ◌∷◌, drop, arith, length-drop}
 use Rattle.rtcm_bits.proofs.LookLemmas.{view_grown}
 use Rattle.rtcm_bits.proofs.window.Window.push.Goals as goal
 

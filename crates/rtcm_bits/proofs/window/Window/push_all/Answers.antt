@@ -1,8 +1,6 @@
-use Rattle.std.proofs.Common.{◌≡◌, ◌<◌, ◌++◌, ℕ, length, drop, ap, arith, length-drop, length-append}
+use Rattle.rtcm_bits.proofs.Names.{◌≡◌, ◌<◌, ◌++◌, ℕ, length, drop, ap, arith, length-drop, length-append, buffer, All-append}
 use Rattle.rtcm_bits.proofs.LookLemmas.{view_grown}
 use Rattle.rtcm_bits.proofs.WindowLemmas.{all_taken, all_bytes, pushed_one}
-use Rattle.rtcm_bits.proofs.Names.{buffer}
-use Rattle.std.proofs.lemmas.List.Elements.{All-append}
 use Rattle.rtcm_bits.proofs.window.Window.push_all.Goals as goal
 
 pub returns : goal.returns

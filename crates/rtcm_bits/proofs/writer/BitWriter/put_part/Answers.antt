@@ -1,4 +1,4 @@
-use Rattle.std.proofs.Common.{arith, ◌+◌, ◌≤◌}
+use Rattle.rtcm_bits.proofs.Names.{arith, ◌+◌, ◌≤◌}
 use Rattle.rtcm_bits.proofs.WriteLemmas.{Part, part_is, part_put, byte_put, begun_is}
 use Rattle.rtcm_bits.proofs.writer.BitWriter.put_part.Goals as goal
 

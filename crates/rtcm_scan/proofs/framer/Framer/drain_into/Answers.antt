@@ -1,6 +1,5 @@
-use Rattle.std.proofs.Common.{[], ◌∷◌, ◌++◌, ◌∙◌, refl}
+use Rattle.rtcm_scan.proofs.Names.{[], ◌∷◌, ◌++◌, ◌∙◌, refl, frame_at, Framed}
 use Rattle.rtcm_scan.proofs.PassingLemmas.{prefix_self, prefix_one_more, passes_known, breaks_at}
-use Rattle.rtcm_scan.proofs.Names.{frame_at, Framed}
 use Rattle.rtcm_scan.proofs.framer.Framer.drain_into.Goals as goal
 
 pub loop-offset-init : goal.loop-offset-init

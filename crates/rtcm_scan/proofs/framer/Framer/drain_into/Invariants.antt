@@ -1,5 +1,4 @@
-use Rattle.std.proofs.Common.{◌≡◌, List, ℕ, length}
-use Rattle.rtcm_scan.proofs.Names.{IsPrefix, HasExaminedSome, Framed, HasPassed}
+use Rattle.rtcm_scan.proofs.Names.{◌≡◌, List, ℕ, length, IsPrefix, HasExaminedSome, Framed, HasPassed}
 use Rattle.rtcm_scan.proofs.framer.Framer.drain_into.Given as goal
 
 abbrev pub invariant-loop-offset : goal.invariant-loop-offset

@@ -1,6 +1,5 @@
-use Rattle.std.proofs.Common.{subst, take_all, arith, List, ℕ, take}
+use Rattle.rtcm_scan.proofs.Names.{subst, take_all, arith, List, ℕ, take, Passes}
 use Rattle.rtcm_scan.proofs.PassingLemmas.{passes_sent, limit_sent, breaks_sent}
-use Rattle.rtcm_scan.proofs.Names.{Passes}
 use Rattle.rtcm_scan.proofs.framer.Framer.feed.Goals as goal
 
 pub returns-in-Err : goal.returns-in-Err

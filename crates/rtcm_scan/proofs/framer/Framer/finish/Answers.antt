@@ -1,6 +1,5 @@
-use Rattle.std.proofs.Common.{◌∙◌, ap, sym, subst, Bool, List}
+use Rattle.rtcm_scan.proofs.Names.{◌∙◌, ap, sym, subst, Bool, List, on_ok_weaker, on_err_weaker, IsPrefix, Framed, known_frames, HasBroken, FramerValue}
 use Rattle.rtcm_scan.proofs.PassingLemmas.{prefix_self, same_ended}
-use Rattle.rtcm_scan.proofs.Names.{on_ok_weaker, on_err_weaker, IsPrefix, Framed, known_frames, HasBroken, FramerValue}
 use Rattle.rtcm_scan.proofs.framer.Framer.finish.Goals as goal
 
 pub returns-in-Ok : goal.returns-in-Ok

@@ -1,4 +1,4 @@
-use Rattle.std.proofs.Common.{refl, inl}
+use Rattle.rtcm_scan.proofs.Names.{refl, inl}
 use Rattle.rtcm_scan.proofs.MomentLemmas.{counts_new, drained_new, counted_new}
 use Rattle.rtcm_scan.proofs.framer.Framer.new.Goals as goal
 

@@ -1,6 +1,5 @@
-use Rattle.std.proofs.Common.{ap, ◌∙◌, arith, refl}
+use Rattle.rtcm_scan.proofs.Names.{ap, ◌∙◌, arith, refl, frame_at, FramerValue}
 use Rattle.rtcm_scan.proofs.NextLemmas.{step_found, counts_found, less_found}
-use Rattle.rtcm_scan.proofs.Names.{frame_at, FramerValue}
 use Rattle.rtcm_scan.proofs.framer.Framer.next_into.Goals as goal
 
 pub returns-in-Some : goal.returns-in-Some

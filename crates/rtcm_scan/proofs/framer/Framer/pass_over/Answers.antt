@@ -1,6 +1,5 @@
-use Rattle.std.proofs.Common.{◌≡◌, ◌+◌, ◌-◌, ◌≤◌, ◌<◌, ap, ◌∙◌, length, drop, refl, arith}
+use Rattle.rtcm_scan.proofs.Names.{◌≡◌, ◌+◌, ◌-◌, ◌≤◌, ◌<◌, ap, ◌∙◌, length, drop, refl, arith, length-drop, FramerValue, passed}
 use Rattle.rtcm_scan.proofs.PassOverLemmas.{to_stands, to_counts, view_passed_on, others_held, after_length}
-use Rattle.rtcm_scan.proofs.Names.{length-drop, FramerValue, passed}
 use Rattle.rtcm_scan.proofs.framer.Framer.pass_over.Goals as goal
 
 pub returns-clause-history : goal.returns-clause-history

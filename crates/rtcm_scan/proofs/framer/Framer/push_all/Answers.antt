@@ -1,6 +1,5 @@
-use Rattle.std.proofs.Common.{sym, ap, ◌∙◌, ◌≡◌, ◌+◌, ◌≤◌, length, arith, false, refl, rules, true≢false}
+use Rattle.rtcm_scan.proofs.Names.{sym, ap, ◌∙◌, ◌≡◌, ◌+◌, ◌≤◌, length, arith, false, refl, rules, true≢false, FramerValue}
 use Rattle.rtcm_scan.proofs.PushLemmas.{stands_push_all, step_push_all, view_pushed_all}
-use Rattle.rtcm_scan.proofs.Names.{FramerValue}
 use Rattle.rtcm_scan.proofs.framer.Framer.push_all.Goals as goal
 
 pub returns-then-self : goal.returns-then-self

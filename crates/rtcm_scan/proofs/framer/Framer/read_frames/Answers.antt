@@ -1,4 +1,4 @@
-use Rattle.std.proofs.Common.{◌∙◌}
+use Rattle.rtcm_scan.proofs.Names.{◌∙◌}
 use Rattle.rtcm_scan.proofs.ReadLemmas.{at_each, passes_end, breaks_end, breaks_reading}
 use Rattle.rtcm_scan.proofs.framer.Framer.read_frames.Goals as goal
 

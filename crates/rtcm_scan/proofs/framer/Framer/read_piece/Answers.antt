@@ -1,4 +1,4 @@
-use Rattle.std.proofs.Common.{◌≡◌, ◌∙◌, arith, length, drop, min, length-take}
+use Rattle.rtcm_scan.proofs.Names.{◌≡◌, ◌∙◌, arith, length, drop, min, length-take}
 use Rattle.rtcm_scan.proofs.ReadLemmas.{read_room}
 use Rattle.rtcm_scan.proofs.framer.Framer.read_piece.Goals as goal
 

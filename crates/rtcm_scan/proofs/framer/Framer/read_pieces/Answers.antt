@@ -1,6 +1,5 @@
-use Rattle.std.proofs.Common.{◌∙◌, ap, arith, refl, sym, true≢false, length, take}
+use Rattle.rtcm_scan.proofs.Names.{◌∙◌, ap, arith, refl, sym, true≢false, length, take, Consumes-kept, one_more}
 use Rattle.rtcm_scan.proofs.ReadLemmas.{not_read, reading_more, reads_none, reads_more, fault_after, breaks_first}
-use Rattle.rtcm_scan.proofs.Names.{Consumes-kept, one_more}
 use Rattle.rtcm_scan.proofs.framer.Framer.read_pieces.Goals as goal
 
 pub returns-in-Err : goal.returns-in-Err

@@ -1,5 +1,4 @@
-use Rattle.std.proofs.Common.{◌≡◌, ◌+◌, ◌-◌, ◌≤◌, length, max}
-use Rattle.rtcm_scan.proofs.Names.{ReadsOn, IsReadingOn}
+use Rattle.rtcm_scan.proofs.Names.{◌≡◌, ◌+◌, ◌-◌, ◌≤◌, length, max, ReadsOn, IsReadingOn}
 use Rattle.rtcm_scan.proofs.framer.Framer.read_pieces.Given as goal
 
 abbrev pub invariant-loop-n : goal.invariant-loop-n

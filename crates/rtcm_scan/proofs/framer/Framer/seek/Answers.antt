@@ -1,8 +1,7 @@
-use Rattle.std.proofs.Common.{List, ℕ, true, ◌≡◌, ◌-◌, ◌<◌, ap, ◌∙◌, length, refl, arith, length-drop}
+use Rattle.rtcm_scan.proofs.Names.{List, ℕ, true, ◌≡◌, ◌-◌, ◌<◌, ap, ◌∙◌, length, refl, arith, length-drop, FramerValue, passed, Framed, HasFramed, HasExamined, IsDrained, IsCountedExactly}
 use Rattle.rtcm_scan.proofs.DecisionLemmas.{from_found, from_passed, from_open, open_bound}
 use Rattle.rtcm_scan.proofs.NextLemmas.{step_passed, counts_passed, found_begins, found_counts, finish_empty, finish_open, counts_empty, counts_open}
 use Rattle.rtcm_scan.proofs.framer.Framer.seek.Goals.{else-loop-self-test, then-loop-self-test+in-Open}
-use Rattle.rtcm_scan.proofs.Names.{FramerValue, passed, Framed, HasFramed, HasExamined, IsDrained, IsCountedExactly}
 use Rattle.rtcm_scan.proofs.framer.Framer.seek.Goals as goal
 
 pub loop-self-preserved : goal.loop-self-preserved

@@ -1,5 +1,4 @@
-use Rattle.std.proofs.Common.{◌≡◌, List, ℕ, length}
-use Rattle.rtcm_scan.proofs.Names.{Framed, HasFramed, IsScannedOn, HasExamined}
+use Rattle.rtcm_scan.proofs.Names.{◌≡◌, List, ℕ, length, Framed, HasFramed, IsScannedOn, HasExamined}
 use Rattle.rtcm_scan.proofs.framer.Framer.seek.Given as goal
 
 abbrev pub invariant-loop-self : goal.invariant-loop-self

@@ -1,6 +1,5 @@
-use Rattle.std.proofs.Common.{◌≡◌, ◌≤◌, ◌+◌, ◌∙◌, ap, sym, subst, refl, add-zero, arith, ℕ, length, slice_range, take}
+use Rattle.rtcm_scan.proofs.Names.{◌≡◌, ◌≤◌, ◌+◌, ◌∙◌, ap, sym, subst, refl, add-zero, arith, ℕ, length, slice_range, take, FramerValue}
 use Rattle.rtcm_scan.proofs.PassingLemmas.{at_limit, continues_most, continues_same, continues_block, part_none, part_drained, part_pushed, part_breaks}
-use Rattle.rtcm_scan.proofs.Names.{FramerValue}
 use Rattle.rtcm_scan.proofs.framer.Framer.take_piece.Goals as goal
 
 pub loop-fault-init : goal.loop-fault-init

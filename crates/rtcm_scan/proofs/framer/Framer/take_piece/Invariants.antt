@@ -1,6 +1,5 @@
-use Rattle.std.proofs.Common.{◌≡◌, ◌+◌, ◌-◌, ◌≤◌, take, length}
+use Rattle.rtcm_scan.proofs.Names.{◌≡◌, ◌+◌, ◌-◌, ◌≤◌, take, length, Continues}
 use Rattle.rtcm_scan.proofs.PassingLemmas.{PassesPart}
-use Rattle.rtcm_scan.proofs.Names.{Continues}
 use Rattle.rtcm_scan.proofs.framer.Framer.take_piece.Given as goal
 
 abbrev pub invariant-loop-fault : goal.invariant-loop-fault
