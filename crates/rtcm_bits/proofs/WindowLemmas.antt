@@ -1,5 +1,5 @@
 -- The calls of a window and its ring, as the contracts state them.
-use Rattle.rtcm_bits.proofs.Names.{◌≡◌, ℕ, ◌+◌, ◌-◌, ◌<◌, ◌≤◌, min, max, List, [], ◌∷◌, ◌++◌, length, take, drop, slice_index, slice_range, slice_set, refl, sym, ap, ◌∙◌, arith, suc, zero, length-drop, ⊎_elim, cases_lt, drop-append-le, drop-drop, drop-set-add, get_or-drop, take_all, take_rest, take-append-add, drop-append-add, Buffer, buffer, WindowValue, held_of, counts_alone, looked_through, pushed, pushed_all, without_front, All, get_or_default}
+use Rattle.rtcm_bits.proofs.Names.{◌≡◌, ◌≢◌, ℕ, ◌+◌, ◌-◌, ◌<◌, ◌≤◌, min, max, List, [], ◌∷◌, ◌++◌, length, take, drop, slice_index, slice_range, slice_set, refl, sym, ap, ◌∙◌, arith, suc, zero, length-append, length-drop, ⊎_elim, cases_lt, drop-append-le, drop-drop, drop-set-add, get_or-drop, take_all, take_rest, take-append-add, drop-append-add, Buffer, buffer, WindowValue, held_of, counts_alone, looked_through, pushed, pushed_all, without_front, All, get_or_default}
 
 -- the counts of a range don't depend on the bytes, nor on the sum of all looks
 pub through_counts : (b xs : List ℕ) (e m start n : ℕ) → e ≤ 18446744073709551615 →
@@ -110,3 +110,10 @@ pushed_one w v (b ∷ d ∷ bytes) h e = absurd (omega (arith, h))
 
 pub all_bytes : (xs : List ℕ) → ((i : ℕ) → slice_index xs i < 256) → All (λ (b : ℕ). b < 256) xs
 all_bytes xs h k d l = rw (get_or_default xs k d 0 l) (h k)
+
+-- a search in two consecutive lists
+pub others_on : (f b w : List ℕ) (n byte : ℕ) → f ++ b ≡ w → n ≤ length f + length b → ((i : ℕ) → i < n → slice_index (f ++ b) i ≢ byte)
+    → (n < length f + length b → slice_index (f ++ b) n ≡ byte) → (n ≤ length w) × ((i : ℕ) → i < n → slice_index w i ≢ byte) × (n < length w → slice_index w n ≡ byte)
+others_on f b w n byte e h o s =
+    let l : length (f ++ b) ≡ length f + length b = length-append f b in
+    rw (← e, l) (h, o, s)

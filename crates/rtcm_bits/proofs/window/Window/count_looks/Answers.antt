@@ -71,3 +71,22 @@ returns-clause-counted c =
     (c.look_at_each-self-inside-2.ensures.counts ∙ ap (λ (t : List ℕ). (looked_through (counts_alone t i.greatest) (s.result + c.args.start) c.args.n).looks) c.as_mut_slice-2.ensures.value)
     (c.look_at_each-self-inside-2.ensures.greatest ∙ ap (λ (t : List ℕ). (looked_through (counts_alone t i.greatest) (s.result + c.args.start) c.args.n).most) c.as_mut_slice-2.ensures.value)
     c.saturating_add-self-inside.ensures
+
+pub invariant_of-self : goal.invariant_of-self
+invariant_of-self c =
+    let i = c.self.inside in
+    let ys = c.look_at_each-self-inside.new.counts in
+    let k : length ys ≡ length i.counts.items = ap length c.look_at_each-self-inside.ensures.counts ∙ looked_length _ _ _ c.args.n ∙ ap length c.as_mut_slice.ensures.value in
+    rw (with_items_is i.counts ys (search (rules, places)), k) c.self.invariant
+
+pub invariant_of-self-then-start-counted : goal.invariant_of-self-then-start-counted
+invariant_of-self-then-start-counted c =
+    let l : length c.self.inside.bytes.items ≡ length c.args.self.now.bytes = ap (λ w. length w.bytes) c.self.view_is in
+    let v = c.self.invariant in
+    (v.0, v.1, v.2, v.3, v.4, omega (arith, l, c.requires, v.4, v.5), v.6)
+
+pub spell_out-self-inside-requires : goal.spell_out-self-inside-requires
+spell_out-self-inside-requires c =
+    let l : length c.self.inside.bytes.items ≡ length c.args.self.now.bytes = ap (λ w. length w.bytes) c.self.view_is in
+    let v = c.self.invariant in
+    record { within = (v.4, v.3); few = (omega (arith, v.2, v.5), omega (arith, l, c.requires, v.2)); capacity = v.1 }
