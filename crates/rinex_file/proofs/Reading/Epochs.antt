@@ -231,7 +231,9 @@ room_left rows n most none room = let size : length rows ≡ 0 = ap length none 
 
 pub sound_begun : (s : Progress) (c : Option StationValues) (t n : ℕ) → AreRead s → s.rows ≡ [] → MayBegin s t n → IsTime t → IsChange (values_now s) c → (s.epochs ≡ [] → c ≡ None)
     → IsSound (begun_at s c t n)
-sound_begun s c t n read none may time change same = grind (arith, no_rows, room_left)
+sound_begun s c t n read none may time change same =
+    let rows : AreSatelliteRows (length s.known.shown.plan.gps) (length s.known.shown.plan.galileo) s.rows = subst (AreSatelliteRows (length s.known.shown.plan.gps) (length s.known.shown.plan.galileo)) (sym none) (no_rows _ _) in
+    (read, record { time = time; later = may.later; rows = rows; first = may.first; change = change; same = same }, may.some, room_left s.rows n _ none may.room)
 
 -- ---- the line of a satellite
 
@@ -271,7 +273,9 @@ from_more s n v line left (m ∷ ms) others is count value starts rest =
 
 pub row_next : (s : Progress) (n : ℕ) (v : FileValue) (line : List ℕ) (left : List (List ℕ)) → s.expected ≡ Satellite (suc n) → HasLinesLeft s v (line ∷ left) → RowNext s n v line left
 unfolding HasLinesLeft
-row_next s n v line left expected (is, at) = grind (arith, from_more)
+row_next s n v line left expected (is, at) =
+    let here : IsInEpoch s (suc n) v (line ∷ left) = subst (λ d. IsAt s d v (line ∷ left)) expected at in
+    from_more s n v line left here.more here.others is here.count here.value here.starts here.rest
 
 module _ (s : Progress) (n : ℕ) (line : List ℕ) (expected : s.expected ≡ Satellite (suc n)) where
   pub no_row : ((w : SatelliteRow) → IsSatelliteRow (length s.known.shown.plan.gps) (length s.known.shown.plan.galileo) w → line ≡ satellite_line w → ⊥)

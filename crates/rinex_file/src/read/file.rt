@@ -15,7 +15,7 @@ use crate::read::head_so_far::HeadSoFar;
 use crate::read::parser_state::ParserState;
 use crate::read::reading::Reading;
 use crate::read::times::EpochTimes;
-use crate::values::{StoredEpoch, StoredRow, ObsFile};
+use crate::values::{ObsFile, StoredEpoch, StoredRow};
 use gnss_obs::Plan;
 use rtcm_bits::Counted;
 use std::alloc::{AllocError, Global};
@@ -98,7 +98,13 @@ impl FileBuilder {
     {
         let head = parser_state.head;
         let gps = head.gps.signals.as_slice();
-        let Ok(plan) = Plan::from_signals(self.alloc, gps, head.galileo.signals.as_slice()) else {
+        let plan = Plan::from_signals(self.alloc, gps, head.galileo.signals.as_slice());
+        drop(parser_state.seen);
+        drop(head.gps);
+        drop(head.galileo);
+        drop(self.rows);
+        let Ok(plan) = plan else {
+            drop(self.epochs);
             return None;
         };
         Some(ObsFile {
@@ -192,8 +198,17 @@ pub fn check_file_times<R: Read>(
     let mut reading = Reading::new(alloc);
     let mut builder = FileBuilder::new(alloc);
     match read_lines(reader, &mut reading, &mut builder, false) {
-        Ok(()) => Ok(reading.parser_state.summary()),
-        Err(fault) => Err(fault),
+        Ok(()) => {
+            let summary = reading.parser_state.summary();
+            drop(builder);
+            drop(reading.parser_state);
+            Ok(summary)
+        }
+        Err(fault) => {
+            drop(builder);
+            drop(reading.parser_state);
+            Err(fault)
+        }
     }
 }
 

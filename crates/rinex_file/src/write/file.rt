@@ -6,7 +6,7 @@ ghost use Rattle.rinex_file.specs.Read.Keeping.{HaveRowsRoom, stamped_text};
 
 use crate::header::fault::HeadFault;
 use crate::header::head::Head;
-use crate::values::{StoredEpoch, ObsFile};
+use crate::values::{ObsFile, StoredEpoch};
 use crate::write::epoch::epoch_line;
 use crate::write::line::{Line, MOST_LINE};
 use crate::write::satellite::put_values;
