@@ -53,3 +53,6 @@ returns-in-Err-clause-fault g c = let (h, read, stores) = c.loop-added.invariant
 
 pub returns-in-Err-clause-left : goal.returns-in-Err-clause-left
 returns-in-Err-clause-left g c = leaves_more _ _ _ c.loop-added.invariant.left c.in-Err.ensures.left
+
+pub next-requires : goal.next-requires
+next-requires g c = let (h, read, stores) = c.loop-added.invariant.read in (h, _, read)

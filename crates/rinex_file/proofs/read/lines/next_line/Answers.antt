@@ -1,6 +1,6 @@
 use Rattle.rinex_file.specs.declared.read.lines.Found.TheVariants.{End}
-use Rattle.rinex_file.proofs.Reading.Lines.{not_nil, consumed_none, moved_taken, line_whole, still_endless, leaves_more}
-use Rattle.rinex_file.proofs.Names.{arith, ◌≡◌, ◌∙◌, refl, subst, ℕ, ◌-◌, ◌≤◌, ◌<◌, [], Bool, false, nat_eq, List, length, Option, HasFailed, Found, Line, Long, Failed, IsFound, has, MovesBytes}
+use Rattle.rinex_file.proofs.Reading.Lines.{not_nil, consumed_none, moved_taken, line_whole, still_endless, leaves_more, leaves_all}
+use Rattle.rinex_file.proofs.Names.{arith, ◌≡◌, ◌∙◌, refl, subst, ℕ, ◌-◌, ◌≤◌, ◌<◌, [], Bool, false, nat_eq, List, length, Option, HasFailed, Found, Line, Long, Failed, IsFound, has, MovesBytes, sym, Consumes-nil}
 use Rattle.rinex_file.proofs.read.lines.next_line.Goals as goal
 
 -- what was found in the place of more bytes is found after those so far
@@ -40,3 +40,13 @@ loop-block-preserved g c =
 
 shorter : (old new : List ℕ) → length old < length new → length old < 1220 → 1220 - length new < 1220 - length old
 shorter old new more less = omega (arith, more, less)
+
+pub loop-block-init : goal.loop-block-init
+loop-block-init g c = grind (arith, Consumes-nil, leaves_all)
+
+pub returns-in-Some-clause-found : goal.returns-in-Some-clause-found
+returns-in-Some-clause-found g c = found_after c.in-Some.found _ _ _ _ _ c.loop-block.invariant.endless
+    (not_full _ _ (sym c.loop-block-test.true ∙ c.is_full.ensures.value) c.loop-block.invariant.within) c.loop-block.invariant.same c.in-Some.ensures.none
+
+pub returns-clause-taken : goal.returns-clause-taken
+returns-clause-taken g c = (c.loop-block.invariant.taken, c.loop-block.invariant.left)

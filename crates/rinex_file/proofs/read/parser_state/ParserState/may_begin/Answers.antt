@@ -1,5 +1,5 @@
 use Rattle.rinex_file.proofs.Reading.Epochs.{rise_after, rise_last, not_none}
-use Rattle.rinex_file.proofs.Names.{arith, ◌≡◌, ◌∙◌, ap, sym, subst, map, ℕ, zero, suc, ◌+◌, ◌*◌, ◌<◌, ◌≤◌, min, nat_lt, if◌then◌else◌, min-eq_right, satellites, Gps, Galileo, lt-ltb, ltb-true, most_rows, time_stamped, ParserState, AreTimesOrNone}
+use Rattle.rinex_file.proofs.Names.{arith, ◌≡◌, ◌∙◌, ap, sym, subst, map, ℕ, zero, suc, ◌+◌, ◌*◌, ◌<◌, ◌≤◌, min, nat_lt, if◌then◌else◌, min-eq_right, satellites, Gps, Galileo, lt-ltb, ltb-true, most_rows, time_stamped, ParserState, AreTimesOrNone, common_steps}
 use Rattle.rinex_file.proofs.read.parser_state.ParserState.may_begin.Goals as goal
 
 -- the satellites of a system of which some signal is planned
@@ -28,3 +28,9 @@ returns-in-Some c = λ h history.
       },
       λ may. let rise = rise_last _ front x c.args.time last may.later in lt-ltb _ _ (omega (arith, before, time, rise)),
     )
+
+pub returns-then-satellites-eq0 : goal.returns-then-satellites-eq0
+returns-then-satellites-eq0 c = grind (arith, common_steps)
+
+pub returns-in-None : goal.returns-in-None
+returns-in-None c = grind (arith, common_steps)

@@ -82,3 +82,15 @@ returns-in-Err-Bad-clause-goes g c = λ h input read.
     both_said input _ _ _ c.fault_at-fault.ensures.faulty
     (refused lines_are_lines s n input _ _ line read.taken c.in-Line.ensures.found.0 c.in-Line.ensures.taken.0 (subst (RefusesLine s) c.line.ensures.line (takes h read.history)))
     (expected_at c.args.self.now.parser_state h c.args.self.now.parser_state.expected n input _ read.taken refl read.history)
+
+pub overflow_add-number : goal.overflow_add-number
+overflow_add-number g c = let (h, input, read) = c.requires in let few = read.within.1 in omega (arith, few)
+
+pub take-requires-clause-history : goal.take-requires-clause-history
+take-requires-clause-history g c = let (h, input, read) = c.requires in (h, read.history)
+
+pub take-requires-clause-room : goal.take-requires-clause-room
+take-requires-clause-room g c =
+    let (h, input, read) = c.requires in
+    let ((epochs, rows, events), few) = read.within in
+    (omega (arith, epochs, few), omega (arith, rows, few), omega (arith, events, few))
