@@ -199,10 +199,11 @@ pub fn check_file_times<R: Read>(
     let mut builder = FileBuilder::new(alloc);
     match read_lines(reader, &mut reading, &mut builder, false) {
         Ok(()) => {
-            let summary = reading.parser_state.summary();
+            let state = &reading.parser_state;
+            let (counts, times) = (state.counts, state.times.unwrap());
             drop(builder);
             drop(reading.parser_state);
-            Ok(summary)
+            Ok(FileSummary { counts, times })
         }
         Err(fault) => {
             drop(builder);

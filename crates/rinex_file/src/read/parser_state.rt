@@ -1,6 +1,6 @@
 //! The state of the parser of a file: what the next line has to fit, and counts. It doesn't grow
 //! with the file.
-ghost use Rattle.std.specs.Prelude.{◌≡◌, ◌<◌, ◌≤◌, ◌^◌, ◌↔◌, [], Some, None, is_some, true, IsTrue};
+ghost use Rattle.std.specs.Prelude.{◌≡◌, ◌<◌, ◌≤◌, ◌^◌, ◌↔◌, [], None, true, IsTrue};
 ghost use Rattle.rinex_file.specs.Value.{FileValue};
 ghost use Rattle.gnss_obs.specs.declared.cell.StationValues.{StationValues};
 ghost use Rattle.rinex_file.specs.FileValues.{IsFileValue, rank_of};
@@ -12,7 +12,7 @@ ghost use Rattle.rinex_file.specs.Read.Sound.{AreLinesOf, AreRead, MayBegin};
 
 use crate::read::epoch::read_epoch_line;
 use crate::read::expected::{Added, Expected, Refusal};
-use crate::read::file::{Counts, FileSummary};
+use crate::read::file::Counts;
 use crate::read::head_so_far::HeadSoFar;
 use crate::read::header_lines::{read_delta, read_position};
 use crate::read::numbers::is_same;
@@ -194,18 +194,6 @@ impl ParserState {
         self.rank = 0;
         self.expected = Expected::Epoch;
         Ok(Added::LastRow)
-    }
-
-    /// Returns the counts and the times of the epochs that were read, at least one.
-    pub(crate) fn summary(&self) -> FileSummary
-        requires { is_some self.now.times ≡ true }
-        ensures counts { result.counts ≡ self.now.counts }
-        ensures times { self.now.times ≡ Some result.times }
-    {
-        FileSummary {
-            counts: self.counts,
-            times: self.times.unwrap(),
-        }
     }
 
     /// Returns whether the file may end here.
