@@ -44,9 +44,9 @@ fn write_stored(
     let rows = epoch.rows.as_slice();
     epoch_line(epoch.time, rows.len(), line);
     text.write_whole(line.as_slice())?;
-    for kept in rows {
-        let values = kept.signal_values.as_slice();
-        let size = put_values(row, values, kept.system, kept.satellite);
+    for stored in rows {
+        let values = stored.signal_values.as_slice();
+        let size = put_values(row, values, stored.system, stored.satellite);
         text.write_whole(&row[..size])?;
     }
     Ok(())

@@ -116,18 +116,6 @@ fn digits_of_two(first: u32, second: u32) -> (u8x16, u8x16)
     )
 }
 
-/// Returns the number of leading zeros among the first nine digits.
-#[inline(always)]
-fn zeros(digits: u8x16) -> usize
-    requires { slice_index digits 9 < 10 }
-    ensures { result ≡ leading (take 9 digits) }
-{
-    digits
-        .simd_ne(u8x16::from_array(LEADING))
-        .to_bitmask()
-        .trailing_zeros() as usize
-}
-
 /// Returns the columns to which the digits of a value are added, of which the first is in column
 /// `start`.
 #[inline(always)]
@@ -149,7 +137,12 @@ fn columns_with(digits: u8x16, negative: bool) -> u8x16
     ensures text { (v : ℤ) → FitsColumns v → is_negative v ≡ negative → digits ≡ digit_columns (unsigned_abs v) 0 0
         → result ≡ field (Some v) 32 32 }
 {
-    digits + template(zeros(digits), negative)
+    // The number of leading zeros among the first nine digits.
+    let zeros = digits
+        .simd_ne(u8x16::from_array(LEADING))
+        .to_bitmask()
+        .trailing_zeros() as usize;
+    digits + template(zeros, negative)
 }
 
 /// Returns the columns of a value in thousandths, with blanks in the LLI and SSI columns.

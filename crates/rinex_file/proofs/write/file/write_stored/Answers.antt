@@ -4,18 +4,18 @@ use Rattle.rinex_file.proofs.write.file.write_stored.Goals.{After-as_slice-value
 use Rattle.rinex_file.proofs.Names.{◌∙◌, ◌++◌, refl, ap, ap₂, ◌≤◌, subst, sym, length, append-nil, List, All, flat_map, take_all, civil_of, joined, change_lines, AreSignalValues, epoch_line, satellite_line, HasRoom, SignalValues, SatelliteRow, Stamped, satellite_row}
 use Rattle.rinex_file.proofs.write.file.write_stored.Goals as goal
 
-pub loop-kept-init : goal.loop-kept-init
-loop-kept-init c =
+pub loop-stored-init : goal.loop-stored-init
+loop-stored-init c =
     let old = c.args.text.now.inner.items in
     let rows = c.as_slice-rows.result.now in
     c.in_ok-write_whole.ensures.whole ∙ ap₂ (λ a b. a ++ b) c.in_ok-write_change.ensures (c.as_slice.ensures.value ∙ c.epoch_line.ensures)
     ∙ ap (λ (e : Stamped). (old ++ joined (change_lines e.change)) ++ epoch_line (civil_of e.time) (length rows)) c.epoch.view_is ∙ sym (append-nil _)
 
 -- the line has room for the satellite
-room : (c : After-as_slice-values) → HasRoom (satellite_row c.kept.inside.system c.kept.inside.satellite c.kept.inside.signal_values.items)
+room : (c : After-as_slice-values) → HasRoom (satellite_row c.stored.inside.system c.stored.inside.satellite c.stored.inside.signal_values.items)
 room c =
     let rooms = subst (All HasRoom) (sym (c.as_slice-rows.ensures.value ∙ ap (λ (e : Stamped). e.rows) c.epoch.view_is)) c.requires in
-    subst HasRoom (sym (c.kept.view_is ∙ c.kept-item.is)) (rooms c.loop-kept.kept-index c.kept-item.result c.loop-kept-test.true)
+    subst HasRoom (sym (c.stored.view_is ∙ c.stored-item.is)) (rooms c.loop-stored.stored-index c.stored-item.result c.loop-stored-test.true)
 
 pub put_values-size-requires-clause-id : goal.put_values-size-requires-clause-id
 put_values-size-requires-clause-id c = let (id, values, few) = room ((goal.at.put_values-size-requires-clause-id c).After-as_slice-values) in id
@@ -30,15 +30,15 @@ put_values-size-requires-clause-few c =
     let (id, values, few) = room ((goal.at.put_values-size-requires-clause-few c).After-as_slice-values) in
     subst (λ (es : List SignalValues). length es ≤ 19) (sym c.as_slice-values.ensures.value) few
 
-pub loop-kept-preserved : goal.loop-kept-preserved
-loop-kept-preserved c =
-    let row = ap (λ (es : List SignalValues). satellite_line (satellite_row c.kept.inside.system c.kept.inside.satellite es)) c.as_slice-values.ensures.value ∙ ap satellite_line c.kept.view_is in
-    one_more satellite_line c.as_slice-rows.result.now c.loop-kept.kept-index c.kept-item.result _ _ _ c.loop-kept-test.true c.kept-item.is c.loop-kept.invariant
-    (c.in_ok-write_whole-2.ensures.whole ∙ ap (λ l. c.loop-kept.text.inner.items ++ l) (c.put_values-size.ensures.text ∙ row))
+pub loop-stored-preserved : goal.loop-stored-preserved
+loop-stored-preserved c =
+    let row = ap (λ (es : List SignalValues). satellite_line (satellite_row c.stored.inside.system c.stored.inside.satellite es)) c.as_slice-values.ensures.value ∙ ap satellite_line c.stored.view_is in
+    one_more satellite_line c.as_slice-rows.result.now c.loop-stored.stored-index c.stored-item.result _ _ _ c.loop-stored-test.true c.stored-item.is c.loop-stored.invariant
+    (c.in_ok-write_whole-2.ensures.whole ∙ ap (λ l. c.loop-stored.text.inner.items ++ l) (c.put_values-size.ensures.text ∙ row))
 
 pub returns : goal.returns
 returns c =
     let rows = c.as_slice-rows.result.now in
     let e = c.args.epoch.now in
-    epoch_whole e e rows c.args.text.now.inner.items _ _ _ c.loop-kept.text.inner.items refl (c.as_slice-rows.ensures.value ∙ ap (λ (e : Stamped). e.rows) c.epoch.view_is) refl refl refl
-    (c.loop-kept.invariant ∙ ap (λ (r : List SatelliteRow). ((c.args.text.now.inner.items ++ joined (change_lines e.change)) ++ epoch_line (civil_of e.time) (length rows)) ++ flat_map satellite_line r) (take_all c.loop-kept.kept-index rows c.loop-kept-test.false))
+    epoch_whole e e rows c.args.text.now.inner.items _ _ _ c.loop-stored.text.inner.items refl (c.as_slice-rows.ensures.value ∙ ap (λ (e : Stamped). e.rows) c.epoch.view_is) refl refl refl
+    (c.loop-stored.invariant ∙ ap (λ (r : List SatelliteRow). ((c.args.text.now.inner.items ++ joined (change_lines e.change)) ++ epoch_line (civil_of e.time) (length rows)) ++ flat_map satellite_line r) (take_all c.loop-stored.stored-index rows c.loop-stored-test.false))
