@@ -76,29 +76,18 @@ digits_are : (s a b c d e f g h i j l m n y z : ℕ) → AreBelow 10 (a ∷ b �
     → (a ∷ b ∷ c ∷ d ∷ e ∷ f ∷ g ∷ h ∷ i ∷ j ∷ 0 ∷ l ∷ m ∷ n ∷ y ∷ z ∷ [] ≡ digit_columns s y z) × (s < 10 ^ 13)
 digits_are s a b c d e f g h i j l m n y z (ha, (hb, (hc, (hd, (he, (hf, (hg, (hh, (hi, (hj, (hl, (hm, (hn, t))))))))))))) is =
     let qn : n ≡ s % 10 = omega (arith, is, hn) in
-    let sm : s / 10 ≡ a * 100_000_000_000 + b * 10_000_000_000 + c * 1_000_000_000 + d * 100_000_000 + e * 10_000_000 + f * 1_000_000 + g * 100_000 + h * 10_000 + i * 1000 + j * 100 + l * 10 + m = omega (arith, is, hn) in
-    let qm : m ≡ s / 10 % 10 = omega (arith, sm, hm) in
-    let sl : s / 100 ≡ a * 10_000_000_000 + b * 1_000_000_000 + c * 100_000_000 + d * 10_000_000 + e * 1_000_000 + f * 100_000 + g * 10_000 + h * 1000 + i * 100 + j * 10 + l = omega (arith, sm, hm) in
-    let ql : l ≡ s / 100 % 10 = omega (arith, sl, hl) in
-    let sj : s / 1000 ≡ a * 1_000_000_000 + b * 100_000_000 + c * 10_000_000 + d * 1_000_000 + e * 100_000 + f * 10_000 + g * 1000 + h * 100 + i * 10 + j = omega (arith, sl, hl) in
-    let qj : j ≡ s / 1000 % 10 = omega (arith, sj, hj) in
-    let si : s / 10_000 ≡ a * 100_000_000 + b * 10_000_000 + c * 1_000_000 + d * 100_000 + e * 10_000 + f * 1000 + g * 100 + h * 10 + i = omega (arith, sj, hj) in
-    let qi : i ≡ s / 10_000 % 10 = omega (arith, si, hi) in
-    let sh : s / 100_000 ≡ a * 10_000_000 + b * 1_000_000 + c * 100_000 + d * 10_000 + e * 1000 + f * 100 + g * 10 + h = omega (arith, si, hi) in
-    let qh : h ≡ s / 100_000 % 10 = omega (arith, sh, hh) in
-    let sg : s / 1_000_000 ≡ a * 1_000_000 + b * 100_000 + c * 10_000 + d * 1000 + e * 100 + f * 10 + g = omega (arith, sh, hh) in
-    let qg : g ≡ s / 1_000_000 % 10 = omega (arith, sg, hg) in
-    let sf : s / 10_000_000 ≡ a * 100_000 + b * 10_000 + c * 1000 + d * 100 + e * 10 + f = omega (arith, sg, hg) in
-    let qf : f ≡ s / 10_000_000 % 10 = omega (arith, sf, hf) in
-    let se : s / 100_000_000 ≡ a * 10_000 + b * 1000 + c * 100 + d * 10 + e = omega (arith, sf, hf) in
-    let qe : e ≡ s / 100_000_000 % 10 = omega (arith, se, he) in
-    let sd : s / 1_000_000_000 ≡ a * 1000 + b * 100 + c * 10 + d = omega (arith, se, he) in
-    let qd : d ≡ s / 1_000_000_000 % 10 = omega (arith, sd, hd) in
-    let sc : s / 10_000_000_000 ≡ a * 100 + b * 10 + c = omega (arith, sd, hd) in
-    let qc : c ≡ s / 10_000_000_000 % 10 = omega (arith, sc, hc) in
-    let sb : s / 100_000_000_000 ≡ a * 10 + b = omega (arith, sc, hc) in
-    let qb : b ≡ s / 100_000_000_000 % 10 = omega (arith, sb, hb) in
-    let qa : a ≡ s / 1_000_000_000_000 = omega (arith, sb, hb) in
+    let qm : m ≡ s / 10 % 10 = omega (arith, is, hn, hm) in
+    let ql : l ≡ s / 100 % 10 = omega (arith, is, hn, hm, hl) in
+    let qj : j ≡ s / 1000 % 10 = omega (arith, is, hn, hm, hl, hj) in
+    let qi : i ≡ s / 10_000 % 10 = omega (arith, is, hn, hm, hl, hj, hi) in
+    let qh : h ≡ s / 100_000 % 10 = omega (arith, is, hn, hm, hl, hj, hi, hh) in
+    let qg : g ≡ s / 1_000_000 % 10 = omega (arith, is, hn, hm, hl, hj, hi, hh, hg) in
+    let qf : f ≡ s / 10_000_000 % 10 = omega (arith, is, hn, hm, hl, hj, hi, hh, hg, hf) in
+    let qe : e ≡ s / 100_000_000 % 10 = omega (arith, is, hn, hm, hl, hj, hi, hh, hg, hf, he) in
+    let qd : d ≡ s / 1_000_000_000 % 10 = omega (arith, is, hn, hm, hl, hj, hi, hh, hg, hf, he, hd) in
+    let qc : c ≡ s / 10_000_000_000 % 10 = omega (arith, is, hn, hm, hl, hj, hi, hh, hg, hf, he, hd, hc) in
+    let qb : b ≡ s / 100_000_000_000 % 10 = omega (arith, is, hn, hm, hl, hj, hi, hh, hg, hf, he, hd, hc, hb) in
+    let qa : a ≡ s / 1_000_000_000_000 = omega (arith, is, hn, hm, hl, hj, hi, hh, hg, hf, he, hd, hc, hb) in
     (λ o. qa o ∷ qb o ∷ qc o ∷ qd o ∷ qe o ∷ qf o ∷ qg o ∷ qh o ∷ qi o ∷ qj o ∷ 0 ∷ ql o ∷ qm o ∷ qn o ∷ y ∷ z ∷ [], omega (arith, qa, ha))
 
 -- the size of the digits in lanes

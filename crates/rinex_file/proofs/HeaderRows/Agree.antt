@@ -7,7 +7,7 @@ use Rattle.rinex_file.proofs.Entries.{few_signals}
 use Rattle.rinex_file.proofs.Reading.Dates.{IsField, AreFields, field_at}
 use Rattle.rinex_file.proofs.HeaderRows.Texts.{equal_or}
 use Rattle.rinex_file.proofs.HeaderRows.Types.{code_here, count_read, few_types, listed_at, signal_at, column_of, code_reads_back, content_first}
-use Rattle.rinex_file.proofs.Names.{arith, ◌≡◌, ◌∙◌, refl, sym, ap, ℕ, ◌+◌, ◌-◌, ◌/◌, ◌<◌, ◌≤◌, ◌^◌, List, [], ◌∷◌, ◌++◌, length, take, drop, get_or, replicate, append_assoc, append-nil, length-append, Bool, true, false, ℤ, pos, neg_ℤ, ◌≤ℤ◌, unsigned_abs, subst, zero, suc, lit<, ◌*◌, min, IsTrue, ◌↔◌, not, ◌||◌, ◌==◌, codes, if◌then◌else◌, flat_map, nat_lt, slice_index, is_negative, digits, sign_text, nat_tests, ints, take_more, take-append-drop, take_min, take_more_same, drop-cons, SignalAt, code_of, signal_of_code, System, Gps, Galileo, passes_at, is_equal, civil_of, PlanValue, planned_of, StationValues, Civil, joined, left, right, fixed, digits_in, number_in, header_line, lengths, height_line, row_line, row_lines, has_line, header_lines, all_rows, row_count, row_at, row_place, lines_from, first_types, type_rows, version_line, version_with, Shown, shown_rows, lines_before, lines_after, IsShown, shown_line, AreTypes, types_line, is_some_planned, signals_begun, IsCoordinate, End, Version, Types, First, Shift, lines_of_header, HeaderLists, HeaderRow, drop-drop, same_Some}
+use Rattle.rinex_file.proofs.Names.{arith, ◌≡◌, ◌∙◌, refl, sym, ap, ℕ, ◌+◌, ◌-◌, ◌/◌, ◌<◌, ◌≤◌, ◌^◌, List, [], ◌∷◌, ◌++◌, length, take, drop, get_or, replicate, append_assoc, append-nil, length-append, Bool, true, false, ℤ, pos, neg_ℤ, ◌≤ℤ◌, unsigned_abs, subst, zero, suc, lit<, ◌*◌, min, IsTrue, ◌↔◌, not, ◌||◌, ◌==◌, codes, if◌then◌else◌, flat_map, nat_lt, slice_index, is_negative, digits, sign_text, nat_tests, ints, take_more, take-append-drop, take_min, take_more_same, drop-cons, SignalAt, code_of, signal_of_code, System, Gps, Galileo, passes_at, is_equal, civil_of, PlanValue, planned_of, StationValues, Civil, joined, left, right, fixed, digits_in, number_in, header_line, lengths, height_line, row_line, row_lines, has_line, header_lines, all_rows, row_count, row_at, row_place, lines_from, first_types, type_rows, version_line, version_with, Shown, shown_rows, lines_before, lines_after, IsShown, shown_line, AreTypes, types_line, is_some_planned, signals_begun, IsCoordinate, End, Version, Types, First, Shift, lines_of_header, HeaderLists, HeaderRow, drop-append-le, same_Some}
 
 -- ---- version
 
@@ -31,7 +31,7 @@ letter_at letter = refl
 
 -- the systems that a letter means
 abbrev planned_by : ℕ → Bool × Bool
-planned_by letter = if letter == 77 then (true, true) else (if letter == 71 then (true, false) else (false, true))
+planned_by letter = (not (letter == 69), not (letter == 71))
 
 planned_back : (p : Bool × Bool) → (p.0 || p.1) ≡ true → planned_by (letter_with p.0 p.1) ≡ p
 planned_back p some = grind arith
@@ -51,9 +51,7 @@ pub version_read : (line : List ℕ) (w : Bool × Bool) (a b : Bool) (letter : L
 version_read line w a b letter at gps galileo some e =
     let l = letter_with w.0 w.1 in
     let here : letter ≡ l ∷ [] = at ∙ ap (λ t. take 1 (drop 40 t)) e ∙ letter_at l in
-    by w some ∙ sym (ap (λ x. (not x, not b)) (is_letter a letter l 69 here gps) ∙ ap (λ x. (not (l == 69), not x)) (is_letter b letter l 71 here galileo)) where
-      by : (p : Bool × Bool) → (p.0 || p.1) ≡ true → p ≡ (not (letter_with p.0 p.1 == 69), not (letter_with p.0 p.1 == 71))
-      by p some = grind arith
+    sym (planned_back w some) ∙ sym (ap (λ x. (not x, not b)) (is_letter a letter l 69 here gps) ∙ ap (λ x. (not (l == 69), not x)) (is_letter b letter l 71 here galileo))
 
 pub letters_differ : (a b : Bool) (letter : List ℕ) → (IsTrue a ↔ (letter ≡ 69 ∷ [])) → (IsTrue b ↔ (letter ≡ 71 ∷ [])) → (not a || not b) ≡ true
 letters_differ true true letter gps galileo = let f : 69 ≡ 71 = ap (λ l. get_or l 0 0) (sym (gps.0 refl) ∙ galileo.0 refl) in absurd (omega (arith, f))
@@ -155,14 +153,11 @@ module _ (h : Shown) where
   -- the last row has a line
   pub some_after : (n : ℕ) → n < row_count → lines_after h n ≡ [] → ⊥
   some_after n less none =
-      let k = row_place End - n in
-      let at : n + k ≡ row_place End = omega (arith, less) in
-      let end : drop k (drop n all_rows) ≡ End ∷ [] = drop-drop k n all_rows ∙ ap (λ m. drop m all_rows) at in
-      let parts : lines_after h n ≡ flat_map (shown_rows h) (take k (drop n all_rows)) ++ shown_rows h End =
-      sym (ap (flat_map (shown_rows h)) (take-append-drop k (drop n all_rows))) ∙ flat_map-append (shown_rows h) (take k (drop n all_rows)) (drop k (drop n all_rows))
-      ∙ ap (λ rows. flat_map (shown_rows h) (take k (drop n all_rows)) ++ flat_map (shown_rows h) rows) end in
+      let front = take (row_place End) all_rows in
+      let rows : drop n all_rows ≡ drop n front ++ End ∷ [] = drop-append-le n front (End ∷ []) (omega (arith, less)) in
+      let parts : lines_after h n ≡ flat_map (shown_rows h) (drop n front) ++ shown_rows h End = ap (flat_map (shown_rows h)) rows ∙ flat_map-append (shown_rows h) (drop n front) (End ∷ []) in
       let size = ap length (sym parts ∙ none) in
-      absurd (omega (arith, size, length-append (flat_map (shown_rows h) (take k (drop n all_rows))) (shown_rows h End)))
+      absurd (omega (arith, size, length-append (flat_map (shown_rows h) (drop n front)) (shown_rows h End)))
 
 pub less_or : (P : Type 0) (i j : ℕ) → (i < j → P) → (j ≤ i → P) → P
 less_or P i j less more = grind arith

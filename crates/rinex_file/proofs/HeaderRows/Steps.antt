@@ -3,7 +3,7 @@ use Rattle.rinex_file.proofs.Reading.Epochs.{cons_parts}
 use Rattle.rinex_file.proofs.Entries.{few_signals}
 use Rattle.rinex_file.proofs.HeaderRows.Agree.{Agree, agreed, less_or, planned_is, rows_when, same_there, types_low, types_high, shift_far, is_lt, placed, line_next, before_next}
 use Rattle.rinex_file.proofs.HeaderRows.Texts.{equal_or}
-use Rattle.rinex_file.proofs.Names.{arith, ◌≡◌, ◌∙◌, sym, ap, refl, subst, ℕ, zero, suc, ◌+◌, ◌-◌, ◌<◌, ◌≤◌, Bool, true, false, eqb, nat_eq, List, [], ◌∷◌, ◌++◌, length, take, append_assoc, append-nil, length-append, All, ◌≢◌, ap₂, ◌==◌, ◌&&◌, min, ◌↔◌, inl, inr, ◌||◌, ◌⊎◌, nat_lt, list_any, IsDistinct, take-append_seam, nat_eq_equiv, IsDistinct-push, le-length_from_below, nat_tests, All-nil, All-cons, All-push, table, System, Gps, Galileo, passes_at, is_less, PlanValue, planned_of, civil_of, Known, MayBeAll, announced, IsShown, AreValid, MayPlan, HasReadRows, is_some_planned, shown_with, Announced, Shown, AreTypesRead, IsReadTo, IsHeadAt, IsOnlyTime, shown_rows, shown_line, lines_before, lines_after, signals_begun, HeaderRow, Types, StrengthUnit, First, Shift, End, Expected, Header, Epoch, lines_of_header, of_system, has_line, row_at, row_count, row_place, first_types, type_rows, has_types, known_line, ReadsHeaderLine, RefusesHeaderLine, GoesTo, NoneGoesOn, SameFrom, StepsTo}
+use Rattle.rinex_file.proofs.Names.{arith, ◌≡◌, ◌∙◌, sym, ap, refl, subst, ℕ, zero, suc, ◌+◌, ◌-◌, ◌<◌, ◌≤◌, Bool, true, false, eqb, nat_eq, List, [], ◌∷◌, ◌++◌, length, take, append_assoc, append-nil, length-append, All, not, take_all, take-take, ◌≢◌, ap₂, ◌==◌, ◌&&◌, min, ◌↔◌, inl, inr, ◌||◌, ◌⊎◌, nat_lt, list_any, IsDistinct, take-append_seam, nat_eq_equiv, IsDistinct-push, le-length_from_below, nat_tests, All-nil, All-cons, All-push, table, System, Gps, Galileo, passes_at, is_less, PlanValue, planned_of, civil_of, Known, MayBeAll, announced, IsShown, AreValid, MayPlan, HasReadRows, is_some_planned, shown_with, Announced, Shown, AreTypesRead, IsReadTo, IsHeadAt, IsOnlyTime, shown_rows, shown_line, lines_before, lines_after, signals_begun, HeaderRow, Types, StrengthUnit, First, Shift, End, Expected, Header, Epoch, lines_of_header, of_system, has_line, row_at, row_count, row_place, first_types, type_rows, has_types, known_line, ReadsHeaderLine, RefusesHeaderLine, GoesTo, NoneGoesOn, SameFrom, StepsTo}
 
 -- ---- signals of a system, with others up to a number
 
@@ -31,28 +31,24 @@ fresh n xs few = by (fresh_or_all n xs) where
 abbrev AreBelow : ℕ → List ℕ → Type 0
 AreBelow n xs = All (λ i. i < n) xs
 
-record Completed (n d : ℕ) (xs : List ℕ) : Type 0 where
-  more : List ℕ
-  size : length more ≡ d
-  below : AreBelow n (xs ++ more)
-  apart : IsDistinct nat_eq (xs ++ more)
+-- a list of c numbers below n that begins with these
+record Completed (n c : ℕ) (xs : List ℕ) : Type 0 where
+  all : List ℕ
+  size : length all ≡ c
+  below : AreBelow n all
+  apart : IsDistinct nat_eq all
+  begins : xs ≡ take (length xs) all
 
-one_completed : (n d : ℕ) (xs : List ℕ) (i : ℕ) → Completed n d (xs ++ i ∷ []) → Completed n (suc d) xs
-one_completed n d xs i rest =
-    let same : (xs ++ i ∷ []) ++ rest.more ≡ xs ++ i ∷ rest.more = append_assoc xs (i ∷ []) rest.more in
-    record {
-      more = i ∷ rest.more;
-      size = ap suc rest.size;
-      below = subst (AreBelow n) same rest.below;
-      apart = subst (λ (l : List ℕ). IsDistinct nat_eq l) same rest.apart;
-    }
+in_front : (xs all : List ℕ) (i : ℕ) → xs ++ i ∷ [] ≡ take (length (xs ++ i ∷ [])) all → xs ≡ take (length xs) all
+in_front xs all i e = sym (take-append_seam xs (i ∷ [])) ∙ ap (take (length xs)) e ∙ take-take (length xs) (length (xs ++ i ∷ [])) all (omega (arith, length-append xs (i ∷ [])))
 
-complete : (d n : ℕ) (xs : List ℕ) → AreBelow n xs → IsDistinct nat_eq xs → length xs + d ≤ n → Completed n d xs
-complete zero n xs below apart room = grind (arith, append-nil)
-complete (suc d) n xs below apart room =
-    let one = fresh n xs (omega (arith, room)) in
+complete : (d n c : ℕ) (xs : List ℕ) → AreBelow n xs → IsDistinct nat_eq xs → length xs + d ≡ c → c ≤ n → Completed n c xs
+complete zero n c xs below apart whole room = record { all = xs; size = omega (arith, whole); below = below; apart = apart; begins = sym (take_all (length xs) xs (omega arith)) }
+complete (suc d) n c xs below apart whole room =
+    let one = fresh n xs (omega (arith, whole, room)) in
     let longer : length (xs ++ one.i ∷ []) ≡ length xs + 1 = length-append xs (one.i ∷ []) in
-    one_completed n d xs one.i (complete d n (xs ++ one.i ∷ []) (All-push (λ i. i < n) xs one.i below one.below) (IsDistinct-push nat_eq_equiv xs one.i apart one.isnt) (omega (arith, room, longer)))
+    let rest = complete d n c (xs ++ one.i ∷ []) (All-push (λ i. i < n) xs one.i below one.below) (IsDistinct-push nat_eq_equiv xs one.i apart one.isnt) (omega (arith, whole, longer)) room in
+    record { all = rest.all; size = rest.size; below = rest.below; apart = rest.apart; begins = in_front xs rest.all one.i rest.begins }
 
 -- ---- all signals of a system, by those that were read
 
@@ -68,21 +64,6 @@ record Choice (n : ℕ) (planned : Bool) (count : ℕ) (read : List ℕ) : Type 
   size : 0 < count → count ≡ length all
   begins : read ≡ take (length read) all
 
--- the signals that were read and those that complete them
-by_rest : (n c : ℕ) (planned : Bool) (read : List ℕ) → length read ≤ suc c → planned ≡ true → Completed n (suc c - length read) read → Choice n planned (suc c) read
-by_rest n c planned read fits is rest =
-    let more = rest.size in
-    let both = length-append read rest.more in
-    let whole : length (read ++ rest.more) ≡ suc c = omega (arith, both, more, fits) in
-    record {
-      all = read ++ rest.more;
-      below = rest.below;
-      apart = rest.apart;
-      some = is ∙ more_planned (read ++ rest.more) (omega (arith, whole));
-      size = λ l. sym whole;
-      begins = sym (take-append_seam read rest.more);
-    }
-
 choose : (n : ℕ) (planned : Bool) (count : ℕ) (read : List ℕ) → 0 < n → AreBelow n read → IsDistinct nat_eq read → length read ≤ count → count ≤ n → (0 < count → planned ≡ true)
     → Choice n planned count read
 unfolding IsDistinct
@@ -91,12 +72,24 @@ choose n true zero [] some below apart fits few is =
     record { all = 0 ∷ []; below = All-cons (λ i. i < n) 0 [] some (All-nil (λ i. i < n)); apart = (tt, tt); some = refl; size = λ l. absurd (omega (arith, l)); begins = refl }
 choose n planned zero (x ∷ xs) some below apart fits few is = absurd (omega (arith, fits))
 choose n planned (suc c) read some below apart fits few is =
-    by_rest n c planned read fits (is (omega arith)) (complete (suc c - length read) n read below apart (omega (arith, fits, few)))
+    let made = complete (suc c - length read) n (suc c) read below apart (omega (arith, fits)) few in
+    let size = made.size in
+    record { all = made.all; below = made.below; apart = made.apart; some = is (omega arith) ∙ more_planned made.all (omega (arith, size)); size = λ l. sym size; begins = made.begins }
 
 -- ---- a plan
 
 table_some : (s : System) → 0 < length (table s)
 table_some s = grind arith
+
+-- a system is planned if it was announced, or if none was
+abbrev picked : Bool → Bool → Bool
+picked any b = b || not any
+
+as_picked : (a any : Bool) → any ≡ true → a ≡ picked any a
+as_picked a any e = grind (arith, e)
+
+neither : (a b : Bool) → (a || not (a || b)) ≡ false → (b || not (a || b)) ≡ false → ⊥
+neither a b e f = grind (arith, e, f)
 
 pub record SomePlan (k : Known) : Type 0 where
   pub p : PlanValue
@@ -110,27 +103,27 @@ module _ (k : Known) (place : ℕ) (valid : AreValid k) (read : HasReadRows k pl
       choose (length (table s)) planned (announced k s).count (planned_of s k.shown.plan) (table_some s) (valid.listed s) (valid.apart s)
       (omega (arith, size)) (read.each s).few (λ l. is ((read.each s).counted.0 l).0)
 
-  made : (a b : Bool) → (a || b) ≡ true → (k.gps.planned ≡ true → a ≡ true) → (k.galileo.planned ≡ true → b ≡ true) → ((k.gps.planned || k.galileo.planned) ≡ true → (k.gps.planned ≡ a) × (k.galileo.planned ≡ b)) → SomePlan k
-  made a b some gps galileo same = record {
+  g : Choice (length (table Gps)) (picked (k.gps.planned || k.galileo.planned) k.gps.planned) k.gps.count k.shown.plan.gps
+  g = chosen Gps (picked (k.gps.planned || k.galileo.planned) k.gps.planned) (ap (picked (k.gps.planned || k.galileo.planned)))
+
+  l : Choice (length (table Galileo)) (picked (k.gps.planned || k.galileo.planned) k.galileo.planned) k.galileo.count k.shown.plan.galileo
+  l = chosen Galileo (picked (k.gps.planned || k.galileo.planned) k.galileo.planned) (ap (picked (k.gps.planned || k.galileo.planned)))
+
+  pub some_plan : SomePlan k
+  some_plan = record {
     p = p;
     may = record {
-      is = record { listed = listed; apart = apart; some = some_signals a b g.all l.all g.some l.some some };
+      is = record { listed = listed; apart = apart; some = some_signals k.gps.planned k.galileo.planned g.all l.all g.some l.some };
       each = each;
     };
   } where
-    g : Choice (length (table Gps)) a k.gps.count k.shown.plan.gps
-    g = chosen Gps a gps
-
-    l : Choice (length (table Galileo)) b k.galileo.count k.shown.plan.galileo
-    l = chosen Galileo b galileo
-
     p : PlanValue
     p = record { gps = g.all; galileo = l.all }
 
-    some_signals : (a b : Bool) (xs ys : List ℕ) → a ≡ is_some_planned xs → b ≡ is_some_planned ys → (a || b) ≡ true → 0 < length xs + length ys
-    some_signals a b (x ∷ xs) ys e f some = omega arith
-    some_signals a b [] (y ∷ ys) e f some = omega arith
-    some_signals a b [] [] e f some = cc
+    some_signals : (a b : Bool) (xs ys : List ℕ) → (a || not (a || b)) ≡ is_some_planned xs → (b || not (a || b)) ≡ is_some_planned ys → 0 < length xs + length ys
+    some_signals a b (x ∷ xs) ys e f = omega arith
+    some_signals a b [] (y ∷ ys) e f = omega arith
+    some_signals a b [] [] e f = absurd (neither a b e f)
 
     listed : (s : System) → AreBelow (length (table s)) (planned_of s p)
     listed Gps = g.below
@@ -141,14 +134,8 @@ module _ (k : Known) (place : ℕ) (valid : AreValid k) (read : HasReadRows k pl
     apart Galileo = l.apart
 
     each : (s : System) → MayBeAll (k.gps.planned || k.galileo.planned) (announced k s) (planned_of s k.shown.plan) (planned_of s p)
-    each Gps = record { planned = λ e. (same e).0 ∙ g.some; count = g.size; begins = g.begins }
-    each Galileo = record { planned = λ e. (same e).1 ∙ l.some; count = l.size; begins = l.begins }
-
-  pub some_plan : SomePlan k
-  some_plan = by (k.gps.planned || k.galileo.planned) refl where
-    by : (c : Bool) → (k.gps.planned || k.galileo.planned) ≡ c → SomePlan k
-    by true e = made k.gps.planned k.galileo.planned e (λ h. h) (λ h. h) (λ h. (refl, refl))
-    by false e = made true true refl (λ h. refl) (λ h. refl) (λ h. cc)
+    each Gps = record { planned = λ e. as_picked k.gps.planned _ e ∙ g.some; count = g.size; begins = g.begins }
+    each Galileo = record { planned = λ e. as_picked k.galileo.planned _ e ∙ l.some; count = l.size; begins = l.begins }
 
   pub with_is : (p : PlanValue) → MayPlan k p → IsShown (shown_with k p)
   with_is p may = record { texts = valid.texts; plan = may.is; values = valid.values; first = valid.first }
@@ -182,15 +169,17 @@ unread s a signals n low none empty = record {
 few_counted : (s : System) (c : ℕ) → c ≤ length (table s) → c ≤ 19
 few_counted s c few = let most = few_signals s in omega (arith, few, most)
 
--- what was read of a system is the same after a row outside its types
-pub still_read : (s : System) (a : Announced) (signals : List ℕ) (n : ℕ) → (first_types s ≤ n → n < first_types s + 6 → ⊥) → AreTypesRead s a signals n → AreTypesRead s a signals (suc n)
-still_read s a signals n out r = record {
+-- what was read of a system is the same after a row in which none of its signals begins
+next_read : (s : System) (a : Announced) (signals : List ℕ) (n : ℕ) → (a.planned ≡ true → first_types s ≡ n → ⊥) → (first_types s ≤ n → n < first_types s + 6 → a.count ≤ signals_begun (n - first_types s))
+    → AreTypesRead s a signals n → AreTypesRead s a signals (suc n)
+next_read s a signals n other fits r = record {
   few = r.few;
-  counted = (λ l. let q = r.counted.0 l in let less = q.1 in (q.0, omega (arith, less)), λ q. r.counted.1 (q.0, before q.1));
-  size = r.size ∙ still_size n (first_types s) a.count (few_counted s a.count r.few) (λ more less. absurd (out more less));
-} where
-  before : first_types s < suc n → first_types s < n
-  before less = equal_or (first_types s < n) n (first_types s) (λ e. absurd (out (omega (arith, e)) (omega (arith, e)))) (λ far. omega (arith, less, far))
+  counted = (λ l. let q = r.counted.0 l in let less = q.1 in (q.0, omega (arith, less)), λ q. let less = q.1 in r.counted.1 (q.0, equal_or (first_types s < n) n (first_types s) (λ e. absurd (other q.0 (sym e))) (λ far. omega (arith, less, far))));
+  size = r.size ∙ still_size n (first_types s) a.count (few_counted s a.count r.few) fits;
+}
+
+pub still_read : (s : System) (a : Announced) (signals : List ℕ) (n : ℕ) → (first_types s ≤ n → n < first_types s + 6 → ⊥) → AreTypesRead s a signals n → AreTypesRead s a signals (suc n)
+still_read s a signals n out r = next_read s a signals n (λ p e. out (omega (arith, e)) (omega (arith, e))) (λ more less. absurd (out more less)) r
 
 module _ (gps galileo : Announced) (plan : PlanValue) (first after n : ℕ) where
   -- a row without a part of the plan
@@ -261,11 +250,8 @@ uncounted zero b P is e = refl
 uncounted (suc c) b P is e = grind arith
 
 skip_own : (s : System) (a : Announced) (signals : List ℕ) (row : ℕ) → has_types a row ≡ false → AreTypesRead s a signals (first_types s + row) → AreTypesRead s a signals (suc (first_types s + row))
-skip_own s a signals row lacks r = record {
-  few = r.few;
-  counted = (λ l. let q = r.counted.0 l in let less = q.1 in (q.0, omega (arith, less)), λ q. let some = (none_left a.planned row a.count lacks q.0).0 in r.counted.1 (q.0, omega (arith, some)));
-  size = r.size ∙ still_size (first_types s + row) (first_types s) a.count (few_counted s a.count r.few) (λ more less. fits a.count (first_types s) (first_types s + row) (here a.planned refl) refl);
-} where
+skip_own s a signals row lacks r = next_read s a signals (first_types s + row) (λ p e. let some = (none_left a.planned row a.count lacks p).0 in omega (arith, some, e))
+    (λ more less. fits a.count (first_types s) (first_types s + row) (here a.planned refl) refl) r where
   fits : (c b n : ℕ) → c ≤ signals_begun row → n ≡ b + row → c ≤ signals_begun (n - b)
   fits c b n few e = let m : n - b ≡ row = omega (arith, e) in subst (λ j. c ≤ signals_begun j) (sym m) few
 
