@@ -3,7 +3,7 @@ use Rattle.rinex_file.proofs.Reading.Epochs.{cons_parts}
 use Rattle.rinex_file.proofs.Entries.{few_signals}
 use Rattle.rinex_file.proofs.HeaderRows.Agree.{Agree, agreed, less_or, planned_is, rows_when, same_there, types_low, types_high, shift_far, is_lt, placed, line_next, before_next}
 use Rattle.rinex_file.proofs.HeaderRows.Texts.{equal_or}
-use Rattle.rinex_file.proofs.Names.{arith, ◌≡◌, ◌∙◌, sym, ap, refl, subst, ℕ, zero, suc, ◌+◌, ◌-◌, ◌<◌, ◌≤◌, Bool, true, false, eqb, nat_eq, List, [], ◌∷◌, ◌++◌, length, take, append_assoc, append-nil, length-append, All, not, take_all, take-take, ◌≢◌, ap₂, ◌==◌, ◌&&◌, min, ◌↔◌, inl, inr, ◌||◌, ◌⊎◌, nat_lt, list_any, IsDistinct, take-append_seam, nat_eq_equiv, IsDistinct-push, le-length_from_below, nat_tests, All-nil, All-cons, All-push, table, System, Gps, Galileo, passes_at, is_less, PlanValue, planned_of, civil_of, Known, MayBeAll, announced, IsShown, AreValid, MayPlan, HasReadRows, is_some_planned, shown_with, Announced, Shown, AreTypesRead, IsReadTo, IsHeadAt, IsOnlyTime, shown_rows, shown_line, lines_before, lines_after, signals_begun, HeaderRow, Types, StrengthUnit, First, Shift, End, Expected, Header, Epoch, lines_of_header, of_system, has_line, row_at, row_count, row_place, first_types, type_rows, has_types, known_line, ReadsHeaderLine, RefusesHeaderLine, GoesTo, NoneGoesOn, SameFrom, StepsTo}
+use Rattle.rinex_file.proofs.Names.{arith, ◌≡◌, ◌∙◌, sym, ap, refl, subst, ℕ, zero, suc, ◌+◌, ◌-◌, ◌<◌, ◌≤◌, Bool, true, false, eqb, nat_eq, List, [], ◌∷◌, ◌++◌, length, take, append-nil, length-append, All, not, take_all, take-take, ◌≢◌, ap₂, ◌==◌, ◌&&◌, min, ◌↔◌, inl, inr, ◌||◌, ◌⊎◌, nat_lt, list_any, IsDistinct, take-append_seam, nat_eq_equiv, IsDistinct-push, le-length_from_below, nat_tests, All-nil, All-cons, All-push, table, System, Gps, Galileo, passes_at, is_less, PlanValue, planned_of, civil_of, Known, MayBeAll, announced, IsShown, AreValid, MayPlan, HasReadRows, is_some_planned, shown_with, Announced, Shown, AreTypesRead, IsReadTo, IsHeadAt, IsOnlyTime, shown_rows, shown_line, lines_before, lines_after, signals_begun, HeaderRow, Types, StrengthUnit, First, Shift, End, Expected, Header, Epoch, lines_of_header, of_system, has_line, row_at, row_count, row_place, first_types, type_rows, has_types, known_line, ReadsHeaderLine, RefusesHeaderLine, GoesTo, NoneGoesOn, SameFrom, StepsTo}
 
 -- ---- signals of a system, with others up to a number
 
@@ -96,29 +96,22 @@ pub record SomePlan (k : Known) : Type 0 where
   pub may : MayPlan k p
 
 module _ (k : Known) (place : ℕ) (valid : AreValid k) (read : HasReadRows k place) where
-  chosen : (s : System) (planned : Bool) → ((announced k s).planned ≡ true → planned ≡ true)
-      → Choice (length (table s)) planned (announced k s).count (planned_of s k.shown.plan)
-  chosen s planned is =
+  choice : (s : System) → Choice (length (table s)) (picked (k.gps.planned || k.galileo.planned) (announced k s).planned) (announced k s).count (planned_of s k.shown.plan)
+  choice s =
       let size = (read.each s).size in
-      choose (length (table s)) planned (announced k s).count (planned_of s k.shown.plan) (table_some s) (valid.listed s) (valid.apart s)
-      (omega (arith, size)) (read.each s).few (λ l. is ((read.each s).counted.0 l).0)
-
-  g : Choice (length (table Gps)) (picked (k.gps.planned || k.galileo.planned) k.gps.planned) k.gps.count k.shown.plan.gps
-  g = chosen Gps (picked (k.gps.planned || k.galileo.planned) k.gps.planned) (ap (picked (k.gps.planned || k.galileo.planned)))
-
-  l : Choice (length (table Galileo)) (picked (k.gps.planned || k.galileo.planned) k.galileo.planned) k.galileo.count k.shown.plan.galileo
-  l = chosen Galileo (picked (k.gps.planned || k.galileo.planned) k.galileo.planned) (ap (picked (k.gps.planned || k.galileo.planned)))
+      choose (length (table s)) _ (announced k s).count (planned_of s k.shown.plan) (table_some s) (valid.listed s) (valid.apart s)
+      (omega (arith, size)) (read.each s).few (λ l. ap (picked (k.gps.planned || k.galileo.planned)) ((read.each s).counted.0 l).0)
 
   pub some_plan : SomePlan k
   some_plan = record {
     p = p;
     may = record {
-      is = record { listed = listed; apart = apart; some = some_signals k.gps.planned k.galileo.planned g.all l.all g.some l.some };
+      is = record { listed = listed; apart = apart; some = some_signals k.gps.planned k.galileo.planned (choice Gps).all (choice Galileo).all (choice Gps).some (choice Galileo).some };
       each = each;
     };
   } where
     p : PlanValue
-    p = record { gps = g.all; galileo = l.all }
+    p = record { gps = (choice Gps).all; galileo = (choice Galileo).all }
 
     some_signals : (a b : Bool) (xs ys : List ℕ) → (a || not (a || b)) ≡ is_some_planned xs → (b || not (a || b)) ≡ is_some_planned ys → 0 < length xs + length ys
     some_signals a b (x ∷ xs) ys e f = omega arith
@@ -126,16 +119,16 @@ module _ (k : Known) (place : ℕ) (valid : AreValid k) (read : HasReadRows k pl
     some_signals a b [] [] e f = absurd (neither a b e f)
 
     listed : (s : System) → AreBelow (length (table s)) (planned_of s p)
-    listed Gps = g.below
-    listed Galileo = l.below
+    listed Gps = (choice Gps).below
+    listed Galileo = (choice Galileo).below
 
     apart : (s : System) → IsDistinct nat_eq (planned_of s p)
-    apart Gps = g.apart
-    apart Galileo = l.apart
+    apart Gps = (choice Gps).apart
+    apart Galileo = (choice Galileo).apart
 
     each : (s : System) → MayBeAll (k.gps.planned || k.galileo.planned) (announced k s) (planned_of s k.shown.plan) (planned_of s p)
-    each Gps = record { planned = λ e. as_picked k.gps.planned _ e ∙ g.some; count = g.size; begins = g.begins }
-    each Galileo = record { planned = λ e. as_picked k.galileo.planned _ e ∙ l.some; count = l.size; begins = l.begins }
+    each Gps = record { planned = λ e. as_picked k.gps.planned _ e ∙ (choice Gps).some; count = (choice Gps).size; begins = (choice Gps).begins }
+    each Galileo = record { planned = λ e. as_picked k.galileo.planned _ e ∙ (choice Galileo).some; count = (choice Galileo).size; begins = (choice Galileo).begins }
 
   pub with_is : (p : PlanValue) → MayPlan k p → IsShown (shown_with k p)
   with_is p may = record { texts = valid.texts; plan = may.is; values = valid.values; first = valid.first }
