@@ -21,10 +21,6 @@ version_of letter = header_line
 abbrev pub letter_with : Bool → Bool → ℕ
 letter_with gps galileo = if gps then (if galileo then 77 else 71) else 69
 
-letter_back : (letter : ℕ) → get_or (version_of letter) 40 0 ≡ letter
-unfolding header_line digits
-letter_back letter = refl
-
 letter_at : (letter : ℕ) → take 1 (drop 40 (version_of letter)) ≡ letter ∷ []
 unfolding header_line digits
 letter_at letter = refl
@@ -39,7 +35,9 @@ planned_back p some = grind arith
 -- the systems are read back from the first line
 pub version_determines : (line : List ℕ) (p q : Bool × Bool) → (p.0 || p.1) ≡ true → (q.0 || q.1) ≡ true
     → line ≡ version_with p.0 p.1 → line ≡ version_with q.0 q.1 → q ≡ p
-version_determines line p q a b e f = grind (arith, letter_back, planned_back, (sym (letter_back (letter_with q.0 q.1)) ∙ ap (λ l. get_or l 40 0) (sym f ∙ e) ∙ letter_back (letter_with p.0 p.1)))
+version_determines line p q a b e f =
+    let same = sym (letter_at (letter_with q.0 q.1)) ∙ ap (λ l. take 1 (drop 40 l)) (sym f ∙ e) ∙ letter_at (letter_with p.0 p.1) in
+    sym (planned_back q b) ∙ ap (λ t. planned_by (get_or t 0 0)) same ∙ planned_back p a
 
 -- a byte as the letter of the systems that aren't planned
 is_letter : (a : Bool) (letter : List ℕ) (x y : ℕ) → letter ≡ x ∷ [] → (IsTrue a ↔ (letter ≡ y ∷ [])) → a ≡ (x == y)
@@ -252,9 +250,6 @@ module _ (h g : Shown) (a : IsShown h) (b : IsShown g) where
   count_same : (s : System) → is_some_planned (planned_of s h.plan) ≡ is_some_planned (planned_of s g.plan) → shown_rows h (Types s 0) ≡ shown_rows g (Types s 0)
       → length (planned_of s h.plan) ≡ length (planned_of s g.plan)
   count_same s some rows = by (is_some_planned (planned_of s h.plan)) refl where
-    first : (n : ℕ) → 0 < n → 0 < type_rows n
-    first n some = omega (arith, some)
-
     by : (c : Bool) → is_some_planned (planned_of s h.plan) ≡ c → length (planned_of s h.plan) ≡ length (planned_of s g.plan)
     by false e = ap length (none_planned (planned_of s h.plan) e) ∙ sym (ap length (none_planned (planned_of s g.plan) (sym some ∙ e)))
     by true e =
@@ -263,7 +258,7 @@ module _ (h g : Shown) (a : IsShown h) (b : IsShown g) where
         let p = some_planned hs e in
         let q = some_planned gs (sym some ∙ e) in
         let same : types_line s hs 0 ≡ types_line s gs 0 =
-        single (types_line s hs 0) (types_line s gs 0) (sym (types_in h s 0 (first (length hs) p)) ∙ rows ∙ types_in g s 0 (first (length gs) q)) in
+        single (types_line s hs 0) (types_line s gs 0) (sym (types_in h s 0 (omega (arith, p))) ∙ rows ∙ types_in g s 0 (omega (arith, q))) in
         sym (count_read s hs (types_line s hs 0) (types_shown s h a p) (few_signals s) refl)
         ∙ count_read s gs (types_line s hs 0) (types_shown s g b q) (few_signals s) same
 
@@ -275,14 +270,9 @@ module _ (h g : Shown) (a : IsShown h) (b : IsShown g) where
       let fx = few_types s x ax in
       let fy = few_types s y ay in
       let most = few_signals s in
-      let at : take 2 (drop (column_of r m) (types_line s y r)) ≡ code_of (signal_at s x m) = code_here s x (types_line s y r) r m ax (omega (arith, fx, most)) (sym e) (begun m) (ends m) lx in
-      let also : take 2 (drop (column_of r m) (types_line s y r)) ≡ code_of (signal_at s y m) = code_here s y (types_line s y r) r m ay (omega (arith, fy, most)) refl (begun m) (ends m) ly in
-      ap (λ (t : SignalAt). t.index) (same_Some (signal_at s x m) (signal_at s y m) (sym (code_reads_back (signal_at s x m) (listed_at s x m ax lx)) ∙ ap (signal_of_code s) (sym at ∙ also) ∙ code_reads_back (signal_at s y m) (listed_at s y m ay ly))) where
-        begun : (m : ℕ) → signals_begun (4 * m / 13) ≤ m
-        begun m = omega arith
-
-        ends : (m : ℕ) → m < signals_begun (4 * m / 13 + 1)
-        ends m = omega arith
+      let at : take 2 (drop (column_of r m) (types_line s y r)) ≡ code_of (signal_at s x m) = code_here s x (types_line s y r) r m ax (omega (arith, fx, most)) (sym e) (omega arith) (omega arith) lx in
+      let also : take 2 (drop (column_of r m) (types_line s y r)) ≡ code_of (signal_at s y m) = code_here s y (types_line s y r) r m ay (omega (arith, fy, most)) refl (omega arith) (omega arith) ly in
+      ap (λ (t : SignalAt). t.index) (same_Some (signal_at s x m) (signal_at s y m) (sym (code_reads_back (signal_at s x m) (listed_at s x m ax lx)) ∙ ap (signal_of_code s) (sym at ∙ also) ∙ code_reads_back (signal_at s y m) (listed_at s y m ay ly)))
 
   module _ (s : System) (size : length (planned_of s h.plan) ≡ length (planned_of s g.plan)) (row : ℕ) (few : row ≤ 6)
       (rows : (r : ℕ) → r < row → shown_rows h (Types s r) ≡ shown_rows g (Types s r)) where
@@ -296,16 +286,11 @@ module _ (h g : Shown) (a : IsShown h) (b : IsShown g) where
         let lg : m < length gs = omega (arith, less, size) in
         let next : suc m ≡ m + 1 = omega arith in
         let same : types_line s hs r ≡ types_line s gs r = single (types_line s hs r) (types_line s gs r)
-        (sym (types_in h s r (there m (length hs) lh)) ∙ rows r (within m row low) ∙ types_in g s r (there m (length gs) lg)) in
+        (sym (types_in h s r (omega (arith, lh))) ∙ rows r (omega (arith, low)) ∙ types_in g s r (omega (arith, lg))) in
         ap (λ n. take n hs) next
         ∙ take_more_same hs gs m 0 lh lg (first_same m (omega (arith, low)) (omega (arith, less)))
         (same_signal s hs gs m (types_shown s h a (omega (arith, lh))) (types_shown s g b (omega (arith, lg))) lh lg same)
-        ∙ ap (λ n. take n gs) (sym next) where
-          there : (m n : ℕ) → m < n → 4 * m / 13 < type_rows n
-          there m n less = omega (arith, less)
-
-          within : (m row : ℕ) → suc m ≤ signals_begun row → 4 * m / 13 < row
-          within m row low = omega (arith, low)
+        ∙ ap (λ n. take n gs) (sym next)
 
     pub signals_same : take (signals_begun row) (planned_of s h.plan) ≡ take (signals_begun row) (planned_of s g.plan)
     signals_same =

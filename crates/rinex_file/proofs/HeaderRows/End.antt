@@ -76,17 +76,12 @@ module _ (k : Known) (at : IsHeadAt k (row_place End)) where
     all_of : (n c : ℕ) (xs ys : List ℕ) → c ≤ 19 → 20 ≤ n → length xs ≡ min n c → c ≡ length ys → xs ≡ take (length xs) ys → xs ≡ ys
     all_of n c xs ys few many size is e = e ∙ take_all (length xs) ys (omega (arith, few, many, size, is))
 
-    begun : (b : ℕ) → b ≤ first_types Galileo → 20 ≤ signals_begun (row_place End - b)
-    begun b high = omega (arith, high)
-
-    low : (b : ℕ) → b ≤ first_types Galileo → b < row_place End
-    low b high = omega (arith, high)
-
     by : (c : Bool) → (announced k s).planned ≡ c → planned_of s k.shown.plan ≡ planned_of s p
     by true e =
-        let counted = (may.each s).count ((at.read.each s).counted.1 (e, low (first_types s) (types_high s))) in
+        let high = types_high s in
+        let counted = (may.each s).count ((at.read.each s).counted.1 (e, omega (arith, high))) in
         let few = few_signals_of p may.is s in
-        all_of (signals_begun (row_place End - first_types s)) (announced k s).count (planned_of s k.shown.plan) (planned_of s p) (omega (arith, few, counted)) (begun (first_types s) (types_high s)) (at.read.each s).size counted (may.each s).begins
+        all_of (signals_begun (row_place End - first_types s)) (announced k s).count (planned_of s k.shown.plan) (planned_of s p) (omega (arith, few, counted)) (omega (arith, high)) (at.read.each s).size counted (may.each s).begins
     by false e =
         let none : planned_of s p ≡ [] = none_planned (planned_of s p) (sym ((may.each s).planned (at.read.systems (lit< tt))) ∙ e) in
         (may.each s).begins ∙ ap (take (length (planned_of s k.shown.plan))) none ∙ take_all (length (planned_of s k.shown.plan)) [] (omega arith) ∙ sym none

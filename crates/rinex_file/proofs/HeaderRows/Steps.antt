@@ -13,20 +13,18 @@ record Fresh (n : ℕ) (xs : List ℕ) : Type 0 where
   below : i < n
   isnt : list_any (eqb i) xs ≡ false
 
--- there is one, or the list has them all
-fresh_or_all : (n : ℕ) (xs : List ℕ) → Fresh n xs ⊎ ((i : ℕ) → i < n → list_any (eqb i) xs ≡ true)
-fresh_or_all zero xs = inr (λ i less. absurd (omega (arith, less)))
-fresh_or_all (suc n) xs = by (list_any (eqb n) xs) refl (fresh_or_all n xs) where
-  by : (t : Bool) → list_any (eqb n) xs ≡ t → Fresh n xs ⊎ ((i : ℕ) → i < n → list_any (eqb i) xs ≡ true) → Fresh (suc n) xs ⊎ ((i : ℕ) → i < suc n → list_any (eqb i) xs ≡ true)
-  by false e rest = inl (record { i = n; below = omega arith; isnt = e })
-  by true e (inl one) = let less = one.below in inl (record { i = one.i; below = omega (arith, less); isnt = one.isnt })
-  by true e (inr all) = inr (λ i less. equal_or (list_any (eqb i) xs ≡ true) i n (λ same. subst (λ j. list_any (eqb j) xs ≡ true) (sym same) e) (λ other. all i (omega (arith, less, other))))
+-- there is one, unless the list has them all
+fresh_unless : (n : ℕ) (xs : List ℕ) → (((i : ℕ) → i < n → list_any (eqb i) xs ≡ true) → ⊥) → Fresh n xs
+fresh_unless zero xs some = absurd (some (λ i less. absurd (omega (arith, less))))
+fresh_unless (suc n) xs some = by (list_any (eqb n) xs) refl (fresh_unless n xs) where
+  by : (t : Bool) → list_any (eqb n) xs ≡ t → ((((i : ℕ) → i < n → list_any (eqb i) xs ≡ true) → ⊥) → Fresh n xs) → Fresh (suc n) xs
+  by false e rest = record { i = n; below = omega arith; isnt = e }
+  by true e rest =
+      let one = rest (λ all. some (λ i less. equal_or (list_any (eqb i) xs ≡ true) i n (λ same. subst (λ j. list_any (eqb j) xs ≡ true) (sym same) e) (λ other. all i (omega (arith, less, other))))) in
+      let less = one.below in record { i = one.i; below = omega (arith, less); isnt = one.isnt }
 
 fresh : (n : ℕ) (xs : List ℕ) → length xs < n → Fresh n xs
-fresh n xs few = by (fresh_or_all n xs) where
-  by : Fresh n xs ⊎ ((i : ℕ) → i < n → list_any (eqb i) xs ≡ true) → Fresh n xs
-  by (inl one) = one
-  by (inr all) = let many = le-length_from_below xs n all in absurd (omega (arith, few, many))
+fresh n xs few = fresh_unless n xs (λ all. let many = le-length_from_below xs n all in omega (arith, few, many))
 
 abbrev AreBelow : ℕ → List ℕ → Type 0
 AreBelow n xs = All (λ i. i < n) xs
