@@ -14,7 +14,7 @@ leading [] = 0
 leading (zero ∷ ds) = suc (leading ds)
 leading (suc d ∷ ds) = 0
 
--- the column before this number of others without a digit: a minus before the first digit if there is one, or a blank
+-- a column before the first digit and this number of others: the one next to the digit has the minus, if there is one
 abbrev pub empty_column : ℕ → Bool → ℕ
 empty_column zero true = 45
 empty_column others negative = 32

@@ -3,8 +3,8 @@
 //! A [`Head`] has the contents of a header; its texts are validated by [`HeaderTexts`].
 //! [`header_lines`], [`epoch_line`] and [`satellite_line`] format lines; [`write_header`],
 //! [`write_event`] and [`write_epoch`] write them. None of these allocates memory. [`read_file`]
-//! reads a file back, [`check_file`] only counts its contents, [`check_file_times`] also returns the
-//! times of its epochs, and [`file_bytes`] returns the text of a file that was read.
+//! reads a file back, [`check_file`] only counts its contents, [`check_file_times`] also returns
+//! the times of its epochs, and [`file_bytes`] returns the text of a file that was read.
 #![tactic(auto)]
 
 mod header;

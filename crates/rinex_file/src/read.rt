@@ -1,5 +1,5 @@
-//! Reading a file line by line: a satellite's line is judged in place; the fields of other lines are
-//! read leniently, written again, and compared.
+//! Reading a file line by line: a satellite's line is judged in place; the fields of other lines
+//! are read leniently, written again, and compared.
 pub(crate) mod epoch;
 pub(crate) mod expected;
 pub(crate) mod fault;

@@ -41,8 +41,8 @@ impl SignalValues {
     }
 }
 
-/// A satellite of a system, with an entry for each planned signal in the plan's order: the one
-/// that was read last, in memory of fixed size, so that no line allocates.
+/// The row of a satellite: its system, its number, and the values of each planned signal in the
+/// plan's order. It has a fixed size, so that reading a line into it doesn't allocate.
 #[derive(Drop)]
 pub(crate) struct SatelliteRow {
     pub(crate) system: System,
@@ -59,7 +59,7 @@ impl Model for SatelliteRow {
         record { system = s.system; row = record { satellite = s.satellite; signal_values = s.signal_values.items } } };
 }
 
-/// A satellite of a file that is stored whole: a [`SatelliteRow`] of the memory that it needs.
+/// A [`SatelliteRow`] of a file that is stored whole, with memory for the signals that it has.
 #[derive(Drop)]
 pub(crate) struct StoredRow {
     pub(crate) system: System,

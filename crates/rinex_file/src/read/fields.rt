@@ -133,6 +133,7 @@ pub(crate) fn field_in(
 {
     let columns = u8x16::from_slice(&text[at..at + 16]);
     let empty = blanks_in(columns);
+    // The tenth column has the last whole digit of a value.
     if empty > 9 {
         return if empty == 16 { Some(None) } else { None };
     }

@@ -16,7 +16,8 @@ use std::marker::Model;
 /// Size of a block, in bytes.
 const BLOCK_BYTES: usize = 65_536;
 
-/// Bytes that were read ahead: the line that was read last, if it wasn't copied, and those after it.
+/// Bytes that were read ahead: the line that was read last, if it wasn't copied, and those after
+/// it.
 #[derive(Drop)]
 struct Block {
     bytes: [u8; BLOCK_BYTES],

@@ -50,6 +50,7 @@ fn is_blank(text: &[u8]) -> bool
     requires { length text.now ≡ signal_columns }
     ensures { IsTrue result → text.now ≡ signal_text no_signal_values }
 {
+    // Each test is a fact of its own in the proof; `&&` would join them in one, to be split again.
     if !is_blank_at(text, 0) || !is_blank_at(text, 16) || !is_blank_at(text, 32) {
         return false;
     }

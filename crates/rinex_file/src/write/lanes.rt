@@ -10,7 +10,8 @@ use std::simd::prelude::*;
 
 /// The columns to which the digits of a value are added, for each number of columns before its
 /// first digit: those of a value that isn't negative, then, from row 10 on, those of one that is.
-/// No value has the last row, but a reader finds it: there its minus is taken for a digit.
+/// The last row is that of no value. A reader reaches it if a minus is in the tenth column, in
+/// place of the last whole digit, and then refuses the columns.
 static TEMPLATES: [[u8; 16]; 20] = [
     *b"0000000000.000  ",
     *b" 000000000.000  ",
