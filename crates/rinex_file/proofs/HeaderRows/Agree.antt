@@ -7,7 +7,7 @@ use Rattle.rinex_file.proofs.Entries.{few_signals}
 use Rattle.rinex_file.proofs.Reading.Dates.{IsField, AreFields, field_at}
 use Rattle.rinex_file.proofs.HeaderRows.Texts.{equal_or}
 use Rattle.rinex_file.proofs.HeaderRows.Types.{code_here, count_read, few_types, listed_at, signal_at, column_of, code_reads_back, content_first}
-use Rattle.rinex_file.proofs.Names.{arith, ◌≡◌, ◌∙◌, refl, sym, ap, ℕ, ◌+◌, ◌/◌, ◌<◌, ◌≤◌, ◌^◌, List, [], ◌∷◌, ◌++◌, length, take, drop, get_or, replicate, append_assoc, append-nil, length-append, Bool, true, false, ℤ, pos, neg_ℤ, ◌≤ℤ◌, unsigned_abs, subst, zero, suc, lit<, ◌*◌, min, IsTrue, ◌↔◌, not, ◌||◌, ◌==◌, codes, if◌then◌else◌, flat_map, nat_lt, slice_index, is_negative, digits, sign_text, nat_tests, ints, take_more, take-append-drop, take_min, take_more_same, drop-cons, SignalAt, code_of, signal_of_code, System, Gps, Galileo, passes_at, is_equal, civil_of, PlanValue, planned_of, StationValues, Civil, joined, left, right, fixed, digits_in, number_in, header_line, lengths, height_line, row_line, row_lines, has_line, header_lines, all_rows, row_count, row_at, row_place, lines_from, first_types, type_rows, version_line, version_with, Shown, shown_rows, lines_before, lines_after, IsShown, shown_line, AreTypes, types_line, is_some_planned, signals_begun, IsCoordinate, End, Version, Types, First, Shift, lines_of_header, HeaderLists, HeaderRow, drop-append-le, same_Some}
+use Rattle.rinex_file.proofs.Names.{◌&&◌, arith, ◌≡◌, ◌∙◌, refl, sym, ap, ℕ, ◌+◌, ◌/◌, ◌<◌, ◌≤◌, ◌^◌, List, [], ◌∷◌, ◌++◌, length, take, drop, get_or, replicate, append_assoc, append-nil, length-append, Bool, true, false, ℤ, pos, neg_ℤ, ◌≤ℤ◌, unsigned_abs, subst, zero, suc, lit<, ◌*◌, min, IsTrue, ◌↔◌, not, ◌||◌, ◌==◌, codes, if◌then◌else◌, flat_map, nat_lt, slice_index, is_negative, digits, sign_text, nat_tests, ints, take_more, take-append-drop, take_min, take_more_same, drop-cons, SignalAt, code_of, signal_of_code, System, Gps, Galileo, passes_at, is_equal, civil_of, PlanValue, planned_of, StationValues, Civil, joined, left, right, fixed, digits_in, number_in, header_line, lengths, height_line, row_line, row_lines, has_line, header_lines, all_rows, row_count, row_at, row_place, lines_from, first_types, type_rows, version_line, version_with, Shown, shown_rows, lines_before, lines_after, IsShown, shown_line, AreTypes, types_line, is_some_planned, signals_begun, IsCoordinate, End, Version, Types, First, Shift, lines_of_header, HeaderLists, HeaderRow, drop-append-le, same_Some}
 
 -- ---- version
 
@@ -74,10 +74,8 @@ whole_digits n h = omega (arith, h)
 length-column : (z : ℤ) → Fits14 z → length (right 14 (fixed 4 z)) ≡ 14
 length-column z h =
     let text = length-fixed 4 8 z (omega arith) (omega arith) (fits_64 (unsigned_abs z) h) (whole_digits (unsigned_abs z) h) in
-    length-right 14 (fixed 4 z) (within (length (fixed 4 z)) (length (sign_text (is_negative z))) text (length-sign (is_negative z)))
-  where
-    within : (n k : ℕ) → n ≤ k + (8 + (1 + 4)) → k ≤ 1 → n ≤ 14
-    within n k a b = omega (arith, a, b)
+    let sign = length-sign (is_negative z) in
+    length-right 14 (fixed 4 z) (omega (arith, text, sign))
 
 is_length : (z : ℤ) → Fits14 z → IsField number_in (right 14 (fixed 4 z)) (14, z)
 is_length z h = (length-column z h, number_in-fixed 14 4 z (omega arith) (fits_64 (unsigned_abs z) h))
@@ -154,8 +152,7 @@ module _ (h : Shown) where
       let front = take (row_place End) all_rows in
       let rows : drop n all_rows ≡ drop n front ++ End ∷ [] = drop-append-le n front (End ∷ []) (omega (arith, less)) in
       let parts : lines_after h n ≡ flat_map (shown_rows h) (drop n front) ++ shown_rows h End = ap (flat_map (shown_rows h)) rows ∙ flat_map-append (shown_rows h) (drop n front) (End ∷ []) in
-      let size = ap length (sym parts ∙ none) in
-      absurd (omega (arith, size, length-append (flat_map (shown_rows h) (drop n front)) (shown_rows h End)))
+      absurd (omega (arith, ap length (sym parts ∙ none), length-append (flat_map (shown_rows h) (drop n front)) (shown_rows h End)))
 
 pub less_or : (P : Type 0) (i j : ℕ) → (i < j → P) → (j ≤ i → P) → P
 less_or P i j less more = grind arith
@@ -213,9 +210,7 @@ pub version_same : (p : PlanValue) → version_line p ≡ version_with (is_some_
 version_same p = grind (arith, same_letter)
 
 either_planned : (a b : ℕ) → 0 < a + b → (not (a == 0) || not (b == 0)) ≡ true
-either_planned zero zero some = absurd (omega (arith, some))
-either_planned zero (suc b) some = grind (arith, nat_tests)
-either_planned (suc a) b some = grind (arith, nat_tests)
+either_planned a b some = grind (arith, nat_tests)
 
 pub some_in : (h : Shown) → IsShown h → (is_some_planned h.plan.gps || is_some_planned h.plan.galileo) ≡ true
 some_in h is = either_planned (length h.plan.gps) (length h.plan.galileo) is.plan.some
@@ -229,6 +224,12 @@ none_planned (x ∷ xs) e = absurd (grind (arith, nat_tests, e))
 
 pub planned_is : (xs : List ℕ) → nat_lt 0 (length xs) ≡ is_some_planned xs
 planned_is v0 = grind (arith, nat_tests)
+
+-- a line of types, by whether there is a signal, the number of signals, and the line's number
+pub types_there : (row count n : ℕ) (b : Bool) → b ≡ nat_lt 0 n → (0 < row → 0 < n → count ≡ n) → nat_lt row (type_rows n) ≡ (b && (row == 0 || nat_lt row (type_rows count)))
+types_there row count zero b planned counted = grind (arith, nat_tests, planned)
+types_there zero count (suc n) b planned counted = grind (arith, nat_tests, planned)
+types_there (suc row) count (suc n) b planned counted = let e = counted (omega arith) (omega arith) in grind (arith, nat_tests, planned, e)
 
 abbrev systems_of : Shown → Bool × Bool
 systems_of h = (is_some_planned h.plan.gps, is_some_planned h.plan.galileo)
@@ -311,14 +312,15 @@ module _ (h g : Shown) (a : IsShown h) (b : IsShown g) where
       let low = types_low s in
       count_same s (agree_systems n (omega (arith, low, less)) agree s) (agree_types n agree s 0 (lit< tt) (omega (arith, less)))
 
-  types_first : (xs : List ℕ) → nat_lt 0 (type_rows (length xs)) ≡ is_some_planned xs
-  types_first v0 = grind (arith, is_lt, nat_tests)
-
   pub same_there : (n : ℕ) → n < row_count → Agree h g n → has_line h.plan (row_at n) ≡ has_line g.plan (row_at n)
   same_there n less agree = by (row_at n) (placed n less) where
     by : (r : HeaderRow) → row_place r ≡ n → has_line h.plan r ≡ has_line g.plan r
-    by (Types s zero) e = let low = types_low s in types_first (planned_of s h.plan) ∙ agree_systems n (omega (arith, e, low)) agree s ∙ sym (types_first (planned_of s g.plan))
-    by (Types s (suc r)) e = ap (λ k. nat_lt (suc r) (type_rows k)) (agree_count n agree s (omega (arith, e)))
+    by (Types s row) e =
+        let low = types_low s in
+        let hs = planned_of s h.plan in
+        let gs = planned_of s g.plan in
+        let some = planned_is hs ∙ agree_systems n (omega (arith, e, low)) agree s ∙ sym (planned_is gs) in
+        types_there row (length gs) (length hs) _ (sym some) (λ far _. sym (agree_count n agree s (omega (arith, e, far)))) ∙ sym (types_there row (length gs) (length gs) _ refl (λ _ _. refl))
     by (Shift s) e = let low = shift_far s in planned_is (planned_of s h.plan) ∙ agree_systems n (omega (arith, e, low)) agree s ∙ sym (planned_is (planned_of s g.plan))
     by other e = refl
 

@@ -4,7 +4,7 @@ use Rattle.rinex_file.proofs.HeaderRows.Agree.{agree_count, agree_types, signals
 use Rattle.rinex_file.proofs.HeaderRows.Steps.{follows, other, either_system, far_other, still_read, with_is, IsOutside, outside_low, outside_high, reads_next, present, unread}
 use Rattle.rinex_file.proofs.HeaderRows.Texts.{same_line, kept_texts, SameTexts, text_low}
 use Rattle.rinex_file.proofs.PlainTexts.{both}
-use Rattle.rinex_file.proofs.Names.{arith, ◌≡◌, ◌∙◌, sym, ap, ap₂, refl, subst, ℕ, suc, ◌+◌, ◌-◌, ◌<◌, ◌≤◌, ◌==◌, ◌&&◌, Bool, true, false, List, [], ◌∷◌, length, take, min, ◌↔◌, ◌≢◌, lit≤, ◌^◌, map, get_or, Option, Some, None, IsTrue, nat_lt, codes, ◌||◌, nat_le, list_all, nat_tests, take-take, take-map, take_min, length-take, SignalAt, table, System, Gps, Galileo, is_less, indices, PlanValue, planned_of, civil_of, StationValues, length_indices, Types, Version, Texts, Position, Delta, StrengthUnit, First, Shift, row_line, has_line, first_types, type_rows, position_line, row_place, header_line, height_line, first_line, strength_line, shift_line, version_line, texts_line, Announced, Known, MayBeAll, MayPlan, AreTypesRead, IsHeadAt, announced, shown_with, shown_line, AreTypes, types_line, signals_begun, IsPosition, position_of, Shown, IsOnlyTime, HasReadRows, lines_before, version_with, is_some_planned, has_types, known_line, ReadsHeaderLine, NoneGoesOn, TakesTypes, RefusesTypes, with_types, RefusesHeaderLine, ReadsOrRefuses, ReadsTexts, RefusesTexts, with_texts, with_values, with_first, with_systems, TextRow, HeaderRow, HeaderLists, text_rows, text_row_index, fields_of, place_of, front_of, HeaderField, AntType, IsTime, letter_of, ReadsExactly, nil_from_length}
+use Rattle.rinex_file.proofs.Names.{arith, ◌≡◌, ◌∙◌, sym, ap, ap₂, refl, subst, ℕ, suc, ◌+◌, ◌-◌, ◌<◌, ◌≤◌, ◌==◌, Bool, true, false, List, [], ◌∷◌, length, take, min, ◌↔◌, ◌≢◌, lit≤, ◌^◌, map, get_or, Option, Some, None, IsTrue, nat_lt, codes, ◌||◌, nat_le, list_all, nat_tests, take-take, take-map, take_min, length-take, SignalAt, table, System, Gps, Galileo, is_less, indices, PlanValue, planned_of, civil_of, StationValues, length_indices, Types, Version, Texts, Position, Delta, StrengthUnit, First, Shift, row_line, has_line, first_types, type_rows, position_line, row_place, header_line, height_line, first_line, strength_line, shift_line, version_line, texts_line, Announced, Known, MayBeAll, MayPlan, AreTypesRead, IsHeadAt, announced, shown_with, shown_line, AreTypes, types_line, signals_begun, IsPosition, position_of, Shown, IsOnlyTime, HasReadRows, lines_before, version_with, is_some_planned, has_types, known_line, ReadsHeaderLine, NoneGoesOn, TakesTypes, RefusesTypes, with_types, RefusesHeaderLine, ReadsOrRefuses, ReadsTexts, RefusesTexts, with_texts, with_values, with_first, with_systems, TextRow, HeaderRow, HeaderLists, text_rows, text_row_index, fields_of, place_of, front_of, HeaderField, AntType, IsTime, letter_of, ReadsExactly, nil_from_length}
 
 -- ---- numbers of signals
 
@@ -60,12 +60,8 @@ other_made : (P : Announced → List ℕ → Type 0) (s : System) (k : Known) (c
 other_made P Gps k count signals a = a
 other_made P Galileo k count signals a = a
 
-and_first : (a b : Bool) → (a && b) ≡ true → a ≡ true
-and_first true b h = refl
-and_first false b h = h
-
 planned_there : (a : Announced) (row : ℕ) → has_types a row ≡ true → a.planned ≡ true
-planned_there a row has = and_first a.planned (row == 0 || nat_lt row (type_rows a.count)) has
+planned_there a row has = (both a.planned (row == 0 || nat_lt row (type_rows a.count)) has).0
 
 -- a line of types that isn't the first is expected by the number of signals
 pub rows_there : (a : Announced) (row : ℕ) → has_types a row ≡ true → 0 < row → row < type_rows a.count
@@ -276,16 +272,16 @@ line_shift system letter k line b e is =
 abbrev Systems : List ℕ → Option (Bool × Bool) → Type 0
 Systems line r = ReadsExactly (λ (p : Bool × Bool). (p.0 || p.1) ≡ true) (λ (p : Bool × Bool). version_with p.0 p.1) line r
 
+none_counted : (n : ℕ) → (0 < n → ⊥) → n ≡ 0
+none_counted n none = omega (arith, none)
+
 -- no line of types was read before or after the first line
 first_read : (s : System) (a b : Announced) (signals : List ℕ) → b.count ≡ a.count → AreTypesRead s a signals 0 → AreTypesRead s b signals 1
 first_read s a b signals same r =
     let low = types_low s in
-    let none : a.count ≡ 0 = nothing a.count (λ l. let less = (r.counted.0 l).1 in absurd (omega (arith, less))) in
+    let none = none_counted a.count (λ l. let less = (r.counted.0 l).1 in absurd (omega (arith, less))) in
     let size = r.size in
     unread s b signals 1 (omega (arith, low)) (same ∙ none) (nil_from_length signals (omega (arith, none, size)))
-  where
-    nothing : (n : ℕ) → (0 < n → ⊥) → n ≡ 0
-    nothing n none = omega (arith, none)
 
 pub line_version : (k : Known) (gps galileo : Bool) (line : List ℕ) → Systems line (Some (gps, galileo)) → ReadsHeaderLine Version line k (with_systems k gps galileo)
 unfolding row_line

@@ -1,9 +1,9 @@
 -- Some plan has what was read of it; and from a row of a header to the next.
 use Rattle.rinex_file.proofs.Reading.Epochs.{cons_parts}
 use Rattle.rinex_file.proofs.Entries.{few_signals}
-use Rattle.rinex_file.proofs.HeaderRows.Agree.{Agree, agreed, less_or, planned_is, rows_when, same_there, types_low, types_high, shift_far, is_lt, placed, line_next, before_next}
+use Rattle.rinex_file.proofs.HeaderRows.Agree.{types_there, Agree, agreed, less_or, planned_is, rows_when, same_there, types_low, types_high, shift_far, is_lt, placed, line_next, before_next}
 use Rattle.rinex_file.proofs.HeaderRows.Texts.{equal_or}
-use Rattle.rinex_file.proofs.Names.{arith, ◌≡◌, ◌∙◌, sym, ap, refl, subst, ℕ, zero, suc, ◌+◌, ◌-◌, ◌<◌, ◌≤◌, Bool, true, false, eqb, nat_eq, List, [], ◌∷◌, ◌++◌, length, take, append-nil, length-append, All, not, take_all, take-take, ◌≢◌, ap₂, ◌==◌, ◌&&◌, min, ◌↔◌, inl, inr, ◌||◌, ◌⊎◌, nat_lt, list_any, IsDistinct, take-append_seam, nat_eq_equiv, IsDistinct-push, le-length_from_below, nat_tests, All-nil, All-cons, All-push, table, System, Gps, Galileo, passes_at, is_less, PlanValue, planned_of, civil_of, Known, MayBeAll, announced, IsShown, AreValid, MayPlan, HasReadRows, is_some_planned, shown_with, Announced, Shown, AreTypesRead, IsReadTo, IsHeadAt, IsOnlyTime, shown_rows, shown_line, lines_before, lines_after, signals_begun, HeaderRow, Types, StrengthUnit, First, Shift, End, Expected, Header, Epoch, lines_of_header, of_system, has_line, row_at, row_count, row_place, first_types, type_rows, has_types, known_line, ReadsHeaderLine, RefusesHeaderLine, GoesTo, NoneGoesOn, SameFrom, StepsTo}
+use Rattle.rinex_file.proofs.Names.{arith, ◌≡◌, ◌∙◌, sym, ap, refl, subst, ℕ, zero, suc, ◌+◌, ◌-◌, ◌<◌, ◌≤◌, Bool, true, false, eqb, nat_eq, List, [], ◌∷◌, ◌++◌, length, take, append-nil, length-append, All, not, take_all, take-take, ◌≢◌, ap₂, ◌==◌, ◌&&◌, min, ◌↔◌, ◌||◌, nat_lt, list_any, IsDistinct, take-append_seam, nat_eq_equiv, IsDistinct-push, le-length_from_below, nat_tests, All-nil, All-cons, All-push, table, System, Gps, Galileo, passes_at, is_less, PlanValue, planned_of, civil_of, Known, MayBeAll, announced, IsShown, AreValid, MayPlan, HasReadRows, is_some_planned, shown_with, Announced, Shown, AreTypesRead, IsReadTo, IsHeadAt, IsOnlyTime, shown_rows, shown_line, lines_before, lines_after, signals_begun, HeaderRow, Types, StrengthUnit, First, Shift, End, Expected, Header, Epoch, lines_of_header, of_system, has_line, row_at, row_count, row_place, first_types, type_rows, has_types, known_line, ReadsHeaderLine, RefusesHeaderLine, GoesTo, NoneGoesOn, SameFrom, StepsTo}
 
 -- ---- signals of a system, with others up to a number
 
@@ -184,12 +184,6 @@ module _ (gps galileo : Announced) (plan : PlanValue) (first after n : ℕ) wher
 
 -- ---- which rows have a line
 
--- a line of types, by whether there is a signal, the number of signals, and the line's number
-types_there : (row count n : ℕ) (b : Bool) → b ≡ nat_lt 0 n → (0 < row → 0 < n → count ≡ n) → nat_lt row (type_rows n) ≡ (b && (row == 0 || nat_lt row (type_rows count)))
-types_there row count zero b planned counted = grind (arith, nat_tests, planned)
-types_there zero count (suc n) b planned counted = grind (arith, nat_tests, planned)
-types_there (suc row) count (suc n) b planned counted = let e = counted (omega arith) (omega arith) in grind (arith, nat_tests, planned, e)
-
 planned_true : (b : Bool) (n : ℕ) → b ≡ nat_lt 0 n → 0 < n → b ≡ true
 planned_true b n e some = e ∙ is_lt 0 n some
 
@@ -243,12 +237,12 @@ uncounted (suc c) b P is e = grind arith
 skip_own : (s : System) (a : Announced) (signals : List ℕ) (row : ℕ) → has_types a row ≡ false → AreTypesRead s a signals (first_types s + row) → AreTypesRead s a signals (suc (first_types s + row))
 skip_own s a signals row lacks r = next_read s a signals (first_types s + row) (λ p e. let some = (none_left a.planned row a.count lacks p).0 in omega (arith, some, e))
     (λ more less. fits a.count (first_types s) (first_types s + row) (here a.planned refl) refl) r where
-  fits : (c b n : ℕ) → c ≤ signals_begun row → n ≡ b + row → c ≤ signals_begun (n - b)
-  fits c b n few e = let m : n - b ≡ row = omega (arith, e) in subst (λ j. c ≤ signals_begun j) (sym m) few
+      fits : (c b n : ℕ) → c ≤ signals_begun row → n ≡ b + row → c ≤ signals_begun (n - b)
+      fits c b n few e = let m : n - b ≡ row = omega (arith, e) in subst (λ j. c ≤ signals_begun j) (sym m) few
 
-  here : (c : Bool) → a.planned ≡ c → a.count ≤ signals_begun row
-  here true e = (none_left a.planned row a.count lacks e).1
-  here false e = let none = uncounted a.count a.planned _ r.counted e in omega (arith, none)
+      here : (c : Bool) → a.planned ≡ c → a.count ≤ signals_begun row
+      here true e = (none_left a.planned row a.count lacks e).1
+      here false e = let none = uncounted a.count a.planned _ r.counted e in omega (arith, none)
 
 skip_types : (s : System) (row : ℕ) (k : Known) → row < 6 → known_line k (Types s row) ≡ false → HasReadRows k (first_types s + row) → HasReadRows k (suc (first_types s + row))
 skip_types s row k few lacks r = record {

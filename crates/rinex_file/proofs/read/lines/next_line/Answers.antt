@@ -1,6 +1,6 @@
 use Rattle.rinex_file.specs.declared.read.lines.Found.TheVariants.{End}
 use Rattle.rinex_file.proofs.Reading.Lines.{not_nil, consumed_none, moved_taken, line_whole, still_endless, leaves_more, leaves_all}
-use Rattle.rinex_file.proofs.Names.{arith, ◌≡◌, ◌∙◌, refl, subst, ℕ, ◌-◌, ◌≤◌, ◌<◌, [], Bool, false, nat_eq, List, length, Option, HasFailed, Found, Line, Long, Failed, IsFound, has, MovesBytes, sym, Consumes-nil}
+use Rattle.rinex_file.proofs.Names.{arith, ◌≡◌, ◌∙◌, refl, subst, ℕ, ◌≤◌, ◌<◌, [], Bool, false, nat_eq, List, length, Option, HasFailed, Found, Line, Long, Failed, IsFound, has, MovesBytes, sym, Consumes-nil}
 use Rattle.rinex_file.proofs.read.lines.next_line.Goals as goal
 
 -- what was found in the place of more bytes is found after those so far
@@ -37,9 +37,6 @@ loop-block-preserved g c =
       left = leaves_more _ _ _ inv.left c.fill.ensures.left;
       same = c.in_default.ensures.some.1 ∙ inv.same;
     }
-
-shorter : (old new : List ℕ) → length old < length new → length old < 1220 → 1220 - length new < 1220 - length old
-shorter old new more less = omega (arith, more, less)
 
 pub loop-block-init : goal.loop-block-init
 loop-block-init g c = grind (arith, Consumes-nil, leaves_all)

@@ -13,8 +13,7 @@ zeros_are ds size small =
 pub template-requires : goal.template-requires
 template-requires c =
     let zeros = zeros_are c.args.digits c.fits-digits.0 c.requires in
-    let few = leading-le (take 9 c.args.digits) in
-    omega (arith, zeros, few, length-take 9 c.args.digits)
+    omega (arith, zeros, leading-le (take 9 c.args.digits), length-take 9 c.args.digits)
 
 pub returns-clause-lanes : goal.returns-clause-lanes
 returns-clause-lanes c = length-zip2 added c.args.digits c.template.result (c.fits-digits.0 ∙ sym c.template.ensures.lanes) ∙ c.fits-digits.0

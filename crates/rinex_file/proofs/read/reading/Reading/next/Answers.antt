@@ -16,8 +16,7 @@ returns-in_default-clause-goes g c = λ h input read.
 
 pub returns-in-End-clause-goes : goal.returns-in-End-clause-goes
 returns-in-End-clause-goes g c = λ h input read.
-    let parser_state = c.args.self.now.parser_state in
-    let s = progress_at parser_state h in
+    let s = progress_at c.args.self.now.parser_state h in
     let end = c.in-End.ensures in
     let (expected, counted) = c.may_end.ensures.0 c.if-may_end.true in
     let some : 0 < length h.epochs = subst (λ (n : ℕ). 0 < n) read.history.counted.epochs counted in
@@ -45,9 +44,8 @@ returns-in-End-2-2-clause-goes g c = λ h input read.
 
 pub returns-in-Long-clause-goes : goal.returns-in-Long-clause-goes
 returns-in-Long-clause-goes g c = λ h input read.
-    let s = progress_at c.args.self.now.parser_state h in
     let long = c.in-Long.ensures in
-    both_said input _ _ _ c.fault_at-fault.ensures.faulty (over_long s c.args.self.now.count input _ _ c.next.new.self.line read.taken long.found.0 long.found.1 long.taken.0)
+    both_said input _ _ _ c.fault_at-fault.ensures.faulty (over_long (progress_at c.args.self.now.parser_state h) c.args.self.now.count input _ _ c.next.new.self.line read.taken long.found.0 long.found.1 long.taken.0)
     (expected_at c.args.self.now.parser_state h c.args.self.now.parser_state.expected c.args.self.now.count input _ read.taken refl read.history)
 
 pub returns-in-Ok-clause-goes : goal.returns-in-Ok-clause-goes
@@ -76,12 +74,10 @@ returns-in-Ok-clause-goes g c = λ h input read.
 pub returns-in-Err-Bad-clause-goes : goal.returns-in-Err-Bad-clause-goes
 returns-in-Err-Bad-clause-goes g c = λ h input read.
     let s = progress_at c.args.self.now.parser_state h in
-    let n = c.args.self.now.count in
-    let line = c.next.new.self.line in
     let takes = subst (λ (r : Refusal). TakesLine c.args.self.now.parser_state c.take.new.self c.line.result.now (Err r)) c.in-Err-Bad.field-0-is c.in-Err-Bad.ensures in
     both_said input _ _ _ c.fault_at-fault.ensures.faulty
-    (refused lines_are_lines s n input _ _ line read.taken c.in-Line.ensures.found.0 c.in-Line.ensures.taken.0 (subst (RefusesLine s) c.line.ensures.line (takes h read.history)))
-    (expected_at c.args.self.now.parser_state h c.args.self.now.parser_state.expected n input _ read.taken refl read.history)
+    (refused lines_are_lines s c.args.self.now.count input _ _ c.next.new.self.line read.taken c.in-Line.ensures.found.0 c.in-Line.ensures.taken.0 (subst (RefusesLine s) c.line.ensures.line (takes h read.history)))
+    (expected_at c.args.self.now.parser_state h c.args.self.now.parser_state.expected c.args.self.now.count input _ read.taken refl read.history)
 
 pub overflow_add-number : goal.overflow_add-number
 overflow_add-number g c = let (h, input, read) = c.requires in let few = read.within.1 in omega (arith, few)
