@@ -7,11 +7,14 @@ of_setup BadSetup = true
 of_setup Memory = true
 of_setup _ = false
 
+abbrev pub of_finish : Fault → Bool
+of_finish NoEpoch = true
+of_finish Write = true
+of_finish _ = false
+
 abbrev pub of_pieces : Fault → Bool
 of_pieces TooLong = true
-of_pieces NoEpoch = true
-of_pieces Write = true
-of_pieces _ = false
+of_pieces fault = of_finish fault
 
 abbrev pub of_run : Fault → Bool
 of_run Read = true
@@ -41,9 +44,16 @@ apart test f g holds fails e = false≢true (sym fails ∙ ap test (sym e) ∙ h
 apart_err : {A : Type 0} (test : Fault → Bool) (f g : Fault) → test f ≡ true → test g ≡ false → IsErrOf {T = A} (Err f) g → ⊥
 apart_err test f g holds fails h = let e : f ≡ g = cc in apart test f g holds fails e
 
-abbrev pub is_no_epoch : Fault → Bool
-is_no_epoch NoEpoch = true
-is_no_epoch _ = false
+abbrev pub is : Fault → Fault → Bool
+is Read Read = true
+is TooLong TooLong = true
+is NoEpoch NoEpoch = true
+is Write Write = true
+is _ _ = false
+
+-- a fault is no other
+pub unlike : {A P : Type 0} (f g : Fault) → is f f ≡ true → is f g ≡ false → IsErrOf {T = A} (Err f) g → P
+unlike f g same other h = absurd (apart_err (is f) f g same other h)
 
 -- a call whose faults are of one kind returns no other
 module _ (K L : Fault → Type 0) (test : Fault → Bool) (known : (f : Fault) → K f → test f ≡ true) where
@@ -78,11 +88,6 @@ setup_writer f kind o = (by_setup (λ x. WriterFailures x o.failures o.failures)
 
 -- ---- a call after others that did not fail
 
-abbrev pub of_finish : Fault → Bool
-of_finish NoEpoch = true
-of_finish Write = true
-of_finish _ = false
-
 pub finish_known : (f : Fault) → IsFinishFault f → of_finish f ≡ true
 finish_known f (inl e) = ap of_finish e
 finish_known f (inr e) = ap of_finish e
@@ -110,13 +115,9 @@ writer_after r old mid new e w d = (
   d.2 ∙ w,
 )
 
-pub finish_left : {A : Type 0} (L : Fault → Type 0) (r : Result A Fault) → IfErr r (λ f. IsFinishFault f × L f) → IfErr r (λ f. IsRunFault f × L f)
-finish_left L (Ok x) left = tt
-finish_left L (Err f) left = (inr (inr left.0), left.1)
-
-pub pieces_left : {A : Type 0} (L : Fault → Type 0) (r : Result A Fault) → IfErr r (λ f. IsFinishFault f × L f) → IfErr r (λ f. IsPiecesFault f × L f)
-pieces_left L (Ok x) left = tt
-pieces_left L (Err f) left = (inr left.0, left.1)
+pub left_as : {A : Type 0} (K M L : Fault → Type 0) → ((f : Fault) → K f → M f) → (r : Result A Fault) → IfErr r (λ f. K f × L f) → IfErr r (λ f. M f × L f)
+left_as K M L wider (Ok x) left = tt
+left_as K M L wider (Err f) left = (wider f left.0, left.1)
 
 pub feed_pieces : (f : Fault) → IsFeedFault f → IsPiecesFault f
 feed_pieces f (inl e) = inl e
@@ -134,7 +135,7 @@ module _ {A : Type 0} (E : Type 0) where
   no_epoch_of (Err f) none h = none.1
 
   pub no_epoch_only : (r : Result A Fault) → IfErr r (λ f. (f ≡ NoEpoch) × E) → IsErrOf r Write → ⊥
-  no_epoch_only r none h = never (λ f. f ≡ NoEpoch) (λ _. E) is_no_epoch (λ f e. ap is_no_epoch e) r none Write refl h
+  no_epoch_only r none h = never (λ f. f ≡ NoEpoch) (λ _. E) (is NoEpoch) (λ f e. ap (is NoEpoch) e) r none Write refl h
 
   pub no_epoch_sent : (r : Result A Fault) (before after : List ℕ) → IfErr r (λ f. (f ≡ NoEpoch) × E) → after ≡ [] → IsSentAfter r before after
   no_epoch_sent (Ok x) before after none e = e

@@ -86,7 +86,11 @@ impl Converter {
     /// # Errors
     ///
     /// Those of `new`, and `BadSetup` for coordinates that don't fit 38 bits (DF025 to DF027).
-    pub fn with_values(alloc: Global, setup: Setup, initial: StationValues) -> Result<Converter, Fault>
+    pub fn with_values(
+        alloc: Global,
+        setup: Setup,
+        initial: StationValues,
+    ) -> Result<Converter, Fault>
         ensures history { IfOk result (λ c. HasConverted c (setup_value_at setup initial) []) }
         ensures fresh { IfOk result (λ c. (c.scan.limit ≡ setup.limit) × (c.scan.taken ≡ 0)) }
         ensures bad { result ≡ Err Fault.BadSetup ↔ IsBadAt (start_at setup initial) }

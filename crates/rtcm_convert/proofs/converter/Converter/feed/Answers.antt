@@ -1,4 +1,5 @@
 use Rattle.std.proofs.Common.{ℕ, ◌≤◌, ◌∙◌, sym, subst, refl, inl, inr, length}
+use Rattle.rtcm_convert.proofs.FaultLemmas.{unlike, not_err}
 use Rattle.rtcm_convert.proofs.RefusalLemmas.{refused_going, refused_is, refused_only, refused_sent, refused_writer, not_refused, none_taken}
 use Rattle.rtcm_convert.proofs.FeedLemmas.{with_flags, long_of, sink_of, fed_whole, fed_fit, failed_fit, fed_long, fed_part}
 use Rattle.rtcm_convert.proofs.RunLemmas.{going_on}
@@ -47,8 +48,8 @@ returns-in-Ok g c =
           rw (← c.self.view_is) (record { fine = go.fine; more = go.more }, n.limit, c.in-Ok.ensures.taken, λ _. subst (λ (k : ℕ). c.feed.new.self.taken ≤ k) (sym n.limit) n.within));
       taken = rw (← c.self.view_is) (c.feed.ensures.same.least, c.feed.ensures.same.most);
       keeps = record { bounds = c.kept.ensures.bounds; values = c.kept.ensures.now };
-      part = λ h. cc;
-      long = λ h. cc;
+      part = λ h. absurd (not_err _ Write h);
+      long = λ h. absurd (not_err _ TooLong h);
       sent = c.in-Ok.ensures.sent;
       device = (let d = piece_fine g.W.Write.contents f.framer c.feed.new.self f.file_writer c.feed.new.sink c.args.writer.now c.feed.new.out c.args.piece.now c.in-Ok.ensures.whole (c.self.invariant.drained go) in
           (tt, d.1, d.2));
@@ -66,7 +67,7 @@ returns-in-Err-TooLong g c =
       going = tt;
       taken = rw (← c.self.view_is) (c.feed.ensures.same.least, c.feed.ensures.same.most);
       keeps = tt;
-      part = λ h. cc;
+      part = λ h. unlike TooLong Write refl refl h;
       long = λ _. rw (← c.self.view_is) (fed_long g.W.Write.contents f.failed f.finished f.framer c.feed.new.self f.file_writer c.feed.new.sink c.args.writer.now c.feed.new.out c.args.piece.now (c.self.invariant.listening go) (c.feed.ensures.same.ended ∙ c.self.invariant.listening go) k);
       sent = long_of c.in-Err-TooLong.field-0 _ _ _ c.in-Err-TooLong.field-0-is c.in-Err-TooLong.ensures.sent;
       device = (let d = piece_fine g.W.Write.contents f.framer c.feed.new.self f.file_writer c.feed.new.sink c.args.writer.now c.feed.new.out (up_to_limit f.framer c.args.piece.now) k.passes (c.self.invariant.drained go) in
@@ -86,7 +87,7 @@ returns-in-Err-Sink g c =
       taken = rw (← c.self.view_is) (c.feed.ensures.same.least, c.feed.ensures.same.most);
       keeps = tt;
       part = λ _. rw (← c.self.view_is) (fed_part g.W.Write.contents f.failed f.finished f.framer c.feed.new.self f.file_writer c.feed.new.sink c.args.writer.now c.feed.new.out c.args.piece.now c.filed.ensures.grows (c.self.invariant.listening go) k);
-      long = λ h. cc;
+      long = λ h. unlike Write TooLong refl refl h;
       sent = tt;
       device = (let d = piece_failed g.W.Write.contents f.framer f.file_writer c.feed.new.sink c.args.writer.now c.feed.new.out c.args.piece.now k (c.self.invariant.drained go) in
           (d.0, tt, d.1));

@@ -1,5 +1,5 @@
 use Rattle.std.proofs.Common.{refl, true, inl, inr}
-use Rattle.rtcm_convert.proofs.FaultLemmas.{on_no_epoch, no_epoch_of, no_epoch_only, no_epoch_sent, ok_always}
+use Rattle.rtcm_convert.proofs.FaultLemmas.{unlike, on_no_epoch, no_epoch_of, no_epoch_only, no_epoch_sent, ok_always}
 use Rattle.rtcm_convert.proofs.FeedLemmas.{with_flags, failed_fit, ended_fit, finishes_with, finishes_empty}
 use Rattle.rtcm_convert.proofs.RefusalLemmas.{refused_going, refused_is, refused_only, refused_sent, refused_writer, not_refused}
 use Rattle.rtcm_convert.proofs.Names.{LeftBy, IsFinishFault, WriterFailures, Write, NoEpoch}
@@ -50,7 +50,7 @@ returns-in-Err g c =
     record {
       refused = not_refused c.args.self.now _ c.in_default.ensures;
       whole = tt;
-      no_epoch = λ h. cc;
+      no_epoch = λ h. unlike Write NoEpoch refl refl h;
       part = λ _. rw (← c.self.view_is) (λ s bytes h. c.in-Err.ensures.part s bytes h.drained);
       sent = tt;
       device = (d.1.0, tt, d.1.2);

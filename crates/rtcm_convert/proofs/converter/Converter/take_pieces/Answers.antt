@@ -1,9 +1,9 @@
-use Rattle.std.proofs.Common.{◌∙◌, ap, refl, Err}
+use Rattle.std.proofs.Common.{◌∙◌, ap, refl, inr, Err}
 use Rattle.rtcm_convert.proofs.RefusalLemmas.{refused_going, refused_is, refused_only, refused_sent, refused_writer, not_refused}
-use Rattle.rtcm_convert.proofs.FaultLemmas.{never, of_finish, finish_known, sent_fed, sent_finished, writer_after, pieces_left, feed_pieces}
+use Rattle.rtcm_convert.proofs.FaultLemmas.{never, of_finish, finish_known, sent_fed, sent_finished, writer_after, left_as, feed_pieces}
 use Rattle.rtcm_convert.proofs.PartLemmas.{same_fault}
 use Rattle.rtcm_convert.proofs.PiecesLemmas.{not_empty, taken_then, longer_by, pieces_more, pieces_all, pieces_rest, pieces_whole, pieces_empty, pieces_long, pieces_broke, pieces_broke_at_end}
-use Rattle.rtcm_convert.proofs.Names.{NoEpoch, TooLong, Write, LeftBy, IsFinishFault, Report}
+use Rattle.rtcm_convert.proofs.Names.{NoEpoch, TooLong, Write, LeftBy, IsFinishFault, IsPiecesFault, Report}
 use Rattle.rtcm_convert.proofs.converter.Converter.take_pieces.Goals as goal
 
 pub returns-in-Some : goal.returns-in-Some
@@ -67,5 +67,5 @@ returns g c =
       write = λ e. pieces_broke_at_end c.args.self.now c.loop-piece.self c.finish.new.self _ _ _ _ c.loop-piece.invariant.came c.args.pieces.now all (c.finish.ensures.part e);
       sent = sent_finished _ r _ _ _ l n.sent;
       device = writer_after r c.args.writer.now c.loop-piece.writer c.finish.new.writer i.fine i.unread n.device;
-      left = ((n.left.0.0 ∙ i.limit, λ _. pieces_left _ r l), n.left.1);
+      left = ((n.left.0.0 ∙ i.limit, λ _. left_as IsFinishFault IsPiecesFault _ (λ f k. inr k) r l), n.left.1);
     }
