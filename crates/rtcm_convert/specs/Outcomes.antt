@@ -21,7 +21,7 @@ outcomes_after s before (f ∷ fs) = outcome s before f ∷ outcomes_after s (be
 abbrev pub outcomes : SetupValue → List Framed → List (Option Kind)
 outcomes s fs = outcomes_after s [] fs
 
--- the counts of no frame
+-- A tally is the `Report` of some frames, with counts of 0 for bytes and epochs. This is that of no frame.
 abbrev pub no_tally : Report
 no_tally =
     record {

@@ -31,7 +31,7 @@ pub(crate) struct FileWriter {
     pub(crate) values: Option<StationValues>,
     /// Number of epochs in the file.
     pub(crate) epochs: u64,
-    /// The counts of the frames so far. Those of bytes and epochs are 0.
+    /// The report of the frames so far, with counts of 0 for bytes and epochs.
     pub(crate) tally: Report,
 }
 
@@ -62,7 +62,7 @@ impl FileWriter {
                 texts,
                 values: None,
                 epochs: 0,
-                tally: Report::new(),
+                tally: Report::default(),
             }),
             Err(fault) => {
                 drop(texts);

@@ -1,12 +1,12 @@
 //! The report of a conversion.
 ghost use Rattle.std.specs.Prelude.{◌≡◌};
-ghost use Rattle.rtcm_convert.specs.Outcomes.{no_tally, tally_of_one, tallies_added};
+ghost use Rattle.rtcm_convert.specs.Outcomes.{tally_of_one, tallies_added};
 
 use obs_epoch::Kind;
 
 /// The counts of a whole stream. Each frame is counted once among `faulty`, `station`, `other`,
 /// `ignored`, `late`, `past` and `taken`.
-#[derive(Clone, Copy, PartialEq)]
+#[derive(Clone, Copy, Default, PartialEq)]
 pub struct Report {
     /// Number of bytes of the stream.
     pub bytes: u64,
@@ -39,34 +39,12 @@ pub struct Report {
 }
 
 impl Report {
-    /// Returns the counts of no frame.
-    pub(crate) fn new() -> Report
-        ensures { result ≡ no_tally }
-    {
-        Report {
-            bytes: 0,
-            skipped_bytes: 0,
-            frames: 0,
-            faulty: 0,
-            station: 0,
-            other: 0,
-            ignored: 0,
-            late: 0,
-            past: 0,
-            taken: 0,
-            skipped: 0,
-            repeated: 0,
-            crowded: 0,
-            epochs: 0,
-        }
-    }
-
     /// Returns the counts of one frame: `None` if its message was refused, else the outcome of the
     /// message.
     fn of(outcome: Option<Kind>) -> Report
         ensures { result ≡ tally_of_one outcome }
     {
-        let mut one = Report::new();
+        let mut one = Report::default();
         one.frames = 1;
         match outcome {
             None => one.faulty = 1,
