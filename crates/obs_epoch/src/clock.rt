@@ -6,7 +6,7 @@ ghost use Rattle.obs_epoch.specs.Heard.{heard_summary, is_own};
 ghost use Rattle.obs_epoch.specs.Kinds.{setup_at};
 ghost use Rattle.gnss_obs.specs.Weeks.{weeks};
 
-use crate::taken::{Gather, Kind, no_counts};
+use crate::taken::{CellCounts, Gather, Kind};
 use gnss_obs::{Plan, StationValues, WEEK, WEEKS};
 use rtcm_msg::Summary;
 use std::marker::Model;
@@ -170,6 +170,6 @@ impl Clock {
         }
         self.latest = Some(time);
         self.pending = true;
-        Kind::kept(no_counts())
+        Kind::kept(CellCounts::default())
     }
 }

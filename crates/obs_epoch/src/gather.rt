@@ -25,7 +25,7 @@ ghost use Rattle.obs_epoch.specs.Cells.{cells_counted, no_counts};
 use crate::clock::Clock;
 use crate::locks::{Locks, lli, note_cells};
 use crate::observe::{observe, system_of};
-use crate::taken::{CellCounts, Gather, Kind, Taken, no_counts};
+use crate::taken::{CellCounts, Gather, Kind, Taken};
 use gnss_obs::{
     Added, Cell, Epoch, GpsTime, Pending, Plan, PlanFault, StationValues, System, WEEKS,
 };
@@ -293,7 +293,7 @@ impl Gatherer {
             ≡ loaded_if is_kept before self.old (heard (viewed_message view.now)) }
     {
         if !is_kept {
-            return no_counts();
+            return CellCounts::default();
         }
         self.begin(before);
         match view {
@@ -301,7 +301,7 @@ impl Gatherer {
                 let system = system_of(m.is_galileo());
                 self.take_all(m.form().lock_field(), system, &mut m.entries())
             }
-            View::Station(_) | View::Other { number: _, set: _ } => no_counts(),
+            View::Station(_) | View::Other { number: _, set: _ } => CellCounts::default(),
         }
     }
 
@@ -343,7 +343,7 @@ impl Gatherer {
         ensures { record { state = self.new; counts = result }
             ≡ load_entries field system (record { state = self.old; counts = no_counts }) cells.old.left }
     {
-        let mut counts = no_counts();
+        let mut counts = CellCounts::default();
         while let Some(entry) = cells.next() {
             self.take_entry(field, system, &entry, &mut counts);
         }

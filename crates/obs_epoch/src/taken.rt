@@ -1,6 +1,5 @@
 //! The outcome of a message.
 ghost use Rattle.std.specs.Prelude.{◌≡◌};
-ghost use Rattle.obs_epoch.specs.Cells.{no_counts};
 ghost use Rattle.obs_epoch.specs.Kinds.{is_close_first, is_kept, kept_kind, with_counts};
 
 /// How the epochs of a station are closed.
@@ -92,11 +91,4 @@ impl Kind {
     {
         if self.is_kept() { Kind::kept(n) } else { self }
     }
-}
-
-/// Returns counts that are all 0.
-pub(crate) fn no_counts() -> CellCounts
-    ensures { result ≡ no_counts }
-{
-    CellCounts::default()
 }
