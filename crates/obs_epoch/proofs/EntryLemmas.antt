@@ -1,6 +1,6 @@
 -- The cells of a message, one by one: those that are listed, and the number of others.
-use Rattle.obs_epoch.specs.Names.{LockField, Cell, System, Entry, CellOutcome, Skipped, count_in, seen_in, unlisted_in, HeardCell, kept_cell, heard_cell, has_listed_key, with_skipped, place_in, planned_of, PlanValue, Loaded, load, load_one, load_entries, with_unlisted, outcome_in, hold, hold_by, planned_cell, CellCounts, option_map_or, cons_option}
-use Rattle.std.proofs.Common.{◌≡◌, ℕ, ◌+◌, Bool, true, false, ◌&&◌, List, [], ◌∷◌, refl, ap, ◌∙◌, arith, Option, Some, None, is_some, filter_map, cond, option_and_then, if◌then◌else◌}
+use Rattle.obs_epoch.specs.Names.{LockField, Cell, System, Entry, CellOutcome, Skipped, count_in, seen_in, unlisted_in, HeardCell, kept_cell, heard_cell, has_listed_key, with_skipped, PlanValue, Loaded, load, load_one, load_entries, with_unlisted, outcome_in, hold, hold_by, planned_cell, CellCounts, option_map_or, cons_option}
+use Rattle.std.proofs.Common.{◌≡◌, ℕ, ◌+◌, Bool, ◌&&◌, List, [], ◌∷◌, refl, ap, ◌∙◌, arith, Option, Some, None, is_some, filter_map, cond, option_and_then, if◌then◌else◌}
 use Rattle.std.proofs.lemmas.Grind.{common_steps}
 
 later_count : (k : CellOutcome) (n : ℕ) (c : CellCounts) → count_in k (with_skipped n c) ≡ with_skipped n (count_in k c)
@@ -50,11 +50,5 @@ unplanned_entry p None l same e = refl
 unplanned_entry p (Some h) l same e = one_skipped (has_listed_key h) _ l h _ (e ∙ ap (λ q. planned_cell q h) same)
 
 -- A planned entry is that of its cell.
-pub planned_entry : (p q : PlanValue) (o : Option HeardCell) (x : Cell) → p ≡ q → Some x ≡ option_and_then (planned_cell p) o
-    → (is_some (place_in x.signal (planned_of x.satellite.system q)) ≡ true) × (Some (heard_cell x) ≡ o)
-planned_entry p q None x same e = cc
-planned_entry p q (Some h) x same e = by (is_some (place_in h.signal (planned_of h.satellite.system q))) refl (e ∙ ap (λ r. planned_cell r h) same) where
-  by : (b : Bool) → is_some (place_in h.signal (planned_of h.satellite.system q)) ≡ b → Some x ≡ (if b then Some (kept_cell h 0) else None)
-      → (is_some (place_in x.signal (planned_of x.satellite.system q)) ≡ true) × (Some (heard_cell x) ≡ Some h)
-  by true f e = let same : x ≡ kept_cell h 0 = cc in rw same (f, refl)
-  by false f e = cc
+pub planned_entry : (p : PlanValue) (o : Option HeardCell) (x : Cell) → Some x ≡ option_and_then (planned_cell p) o → Some (heard_cell x) ≡ o
+planned_entry p o x e = grind (arith, common_steps, e)
