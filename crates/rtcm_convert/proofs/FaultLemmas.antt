@@ -1,6 +1,6 @@
 -- The faults of a call, by the results that it never has.
 use Rattle.std.proofs.Common.{◌≡◌, ◌≤◌, ℕ, max, Bool, true, false, List, [], refl, sym, ap, subst, ◌∙◌, arith, inl, inr, Result, Ok, Err, IfErr}
-use Rattle.rtcm_convert.proofs.Names.{false≢true, IsErrOf, OnOk, Device, longest_frame, IsSentAtFault, WriterFailures, ReaderFailures, FailsWithReader, FailsWithWriter, IsSentAfter, IsSetupFault, IsFeedFault, IsFinishFault, IsPiecesFault, IsRunFault, Report, Fault, BadSetup, Memory, Read, TooLong, Write, NoEpoch}
+use Rattle.rtcm_convert.proofs.Names.{false≢true, IsErrOf, OnErr, OnOk, Device, HasFailed, FailsToWrite, longest_frame, IsSentAtFault, WriterFailures, ReaderFailures, FailsWithReader, FailsWithWriter, IsSentAfter, IsSetupFault, IsFeedFault, IsFinishFault, IsPiecesFault, IsRunFault, Report, Fault, BadSetup, Memory, Read, TooLong, Write, NoEpoch, ⊤}
 
 abbrev pub of_setup : Fault → Bool
 of_setup BadSetup = true
@@ -114,6 +114,9 @@ writer_after r old mid new e w d = (
   subst (λ (n : ℕ). OnOk r (new.failures ≡ n)) e d.1,
   d.2 ∙ w,
 )
+
+pub fails_after : {T A : Type 0} (r : Result A Fault) (old mid new : Device T) → ⊤ × (mid.failures ≡ old.failures) × (mid.widest ≡ old.widest) → FailsToWrite r mid new → FailsToWrite r old new
+fails_after r old mid new e d = (d.0, (subst (λ (n : ℕ). OnErr r (HasFailed n new.failures)) e.1 d.1.0, subst (λ (n : ℕ). OnOk r (new.failures ≡ n)) e.1 d.1.1, d.1.2 ∙ e.2))
 
 pub left_as : {A : Type 0} (K M L : Fault → Type 0) → ((f : Fault) → K f → M f) → (r : Result A Fault) → IfErr r (λ f. K f × L f) → IfErr r (λ f. M f × L f)
 left_as K M L wider (Ok x) left = tt

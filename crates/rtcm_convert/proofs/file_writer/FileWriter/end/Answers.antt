@@ -1,20 +1,28 @@
+use Rattle.std.proofs.Common.{ℕ, ◌∙◌, ap, refl, subst}
 use Rattle.rtcm_convert.proofs.PartLemmas.{goes_on-kept, goes_on-front}
 use Rattle.rtcm_convert.proofs.TakeLemmas.{file_whole, file_part}
+use Rattle.rtcm_convert.proofs.Names.{GathererValue, HasFailed}
 use Rattle.rtcm_convert.proofs.file_writer.FileWriter.end.Goals as goal
 
-pub returns-in-Err-clause-part : goal.returns-in-Err-clause-part
-returns-in-Err-clause-part g c =
-    file_part c.args.self.now c.end.new.self _ _ c.in-Err.ensures.part c.end.ensures.ended (λ s ms es x. (c.end.ensures.closes s ms es x c.requires).1)
+pub returns-in-Err : goal.returns-in-Err
+returns-in-Err g c =
+    let e = c.in-Err.ensures in
+    let part = file_part c.args.self.now c.end.new.self _ _ e.part c.end.ensures.ended (λ s ms es x. (c.end.ensures.closes s ms es x c.requires).1) in
+    record { whole = tt; same = e.same.2; part = part; device = (refl, e.device); sent = tt; ended = ap (λ (v : GathererValue). v.has_ended) e.same.0 ∙ c.end.ensures.ended }
 
-pub returns-in-Err-flush_whole-clause-part : goal.returns-in-Err-flush_whole-clause-part
-returns-in-Err-flush_whole-clause-part g c = λ s fs x.
+pub returns-in-Err-flush_whole : goal.returns-in-Err-flush_whole
+returns-in-Err-flush_whole g c =
     let e = c.in_default.ensures in
-    goes_on-front _ _ _ _ (goes_on-kept _ _ _ _ _ (file_whole c.args.self.now c.write_closed.new.self c.end.new.self _ _ (record { gatherer = e.same.0; texts = e.same.1; epochs = e.now.0; values = e.now.1; out = e.whole })
-    c.end.ensures.ended (λ s ms es x. (c.end.ensures.closes s ms es x c.requires).1) s fs x).0 c.flush_whole.ensures.kept)
+    let d = c.in-Err-flush_whole.ensures.device in
+    let whole = file_whole c.args.self.now c.write_closed.new.self c.end.new.self _ _ (record { gatherer = e.same.0; texts = e.same.1; epochs = e.now.0; values = e.now.1; out = e.whole }) c.end.ensures.ended (λ s ms es x. (c.end.ensures.closes s ms es x c.requires).1) in
+    let failed = subst (λ (n : ℕ). HasFailed n c.flush_whole.new.self.failures) e.device.1 d.0 in
+    let ended = ap (λ (v : GathererValue). v.has_ended) e.same.0 ∙ c.end.ensures.ended in
+    record { whole = tt; same = e.same.2; part = λ s fs x. goes_on-front _ _ _ _ (goes_on-kept _ _ _ _ _ (whole s fs x).0 c.flush_whole.ensures.kept); device = (refl, (failed, tt, d.2 ∙ e.device.2)); sent = tt; ended = ended }
 
-pub returns-clause-whole : goal.returns-clause-whole
-returns-clause-whole g c = λ s fs x.
+pub returns : goal.returns
+returns g c =
     let e = c.in_default.ensures in
-    let p = file_whole c.args.self.now c.write_closed.new.self c.end.new.self _ _ (record { gatherer = e.same.0; texts = e.same.1; epochs = e.now.0; values = e.now.1; out = e.whole })
-    c.end.ensures.ended (λ s ms es x. (c.end.ensures.closes s ms es x c.requires).1) s fs x in
-    (goes_on-kept _ _ _ _ _ p.0 c.flush_whole.ensures.kept, p.1, p.2)
+    let d = c.in_default-flush_whole.ensures in
+    let whole = file_whole c.args.self.now c.write_closed.new.self c.end.new.self _ _ (record { gatherer = e.same.0; texts = e.same.1; epochs = e.now.0; values = e.now.1; out = e.whole }) c.end.ensures.ended (λ s ms es x. (c.end.ensures.closes s ms es x c.requires).1) in
+    let ended = ap (λ (v : GathererValue). v.has_ended) e.same.0 ∙ c.end.ensures.ended in
+    record { whole = λ s fs x. (let p = whole s fs x in (goes_on-kept _ _ _ _ _ p.0 d.kept, p.1, p.2)); same = e.same.2; part = tt; device = (tt, (tt, d.device.1 ∙ e.device.1, d.device.2 ∙ e.device.2)); sent = d.sent; ended = ended }

@@ -1,25 +1,30 @@
-use Rattle.rtcm_convert.proofs.StepLemmas.{Took, wrote_all, wrote_part}
-use Rattle.rtcm_convert.proofs.Names.{heard, viewed_message}
+use Rattle.std.proofs.Common.{ap, refl, ◌∙◌}
+use Rattle.rtcm_convert.proofs.StepLemmas.{Took, Wrote, wrote_all, wrote_part}
+use Rattle.rtcm_convert.proofs.Names.{GathererValue, heard, viewed_message}
 use Rattle.rtcm_convert.proofs.file_writer.FileWriter.step.Goals as goal
 
-pub returns-in-Err-clause-part : goal.returns-in-Err-clause-part
-returns-in-Err-clause-part g c =
+pub returns-in-Err : goal.returns-in-Err
+returns-in-Err g c =
     let t = c.take_view-taken.ensures in
+    let e = c.in-Err.ensures in
     let took : Took c.args.self.now.gatherer c.take_view-taken.new.self c.take_view-taken.result.kind (heard (viewed_message c.args.message.now)) =
     record { first = t.first; taken = t.taken; again = t.again; ended = t.going } in
-    wrote_part c.args.self.now c.take_view-taken.new.self c.take_view-taken.result.kind (heard (viewed_message c.args.message.now)) _ _ took c.in-Err.ensures.part
+    let part = wrote_part c.args.self.now c.take_view-taken.new.self c.take_view-taken.result.kind (heard (viewed_message c.args.message.now)) _ _ took e.part in
+    let ended = ap (λ (v : GathererValue). v.has_ended) e.same.0 ∙ t.going in
+    record { first = tt; taken = tt; again = tt; kind = tt; same = e.same.2; part = part; device = (refl, e.device); ended = ended }
 
-pub returns-in-Ok-clause-first : goal.returns-in-Ok-clause-first
-returns-in-Ok-clause-first g c = λ shut s ms es x.
+pub returns-in-Ok : goal.returns-in-Ok
+returns-in-Ok g c =
+    let t = c.take_view-taken.ensures in
     let e = c.in-Ok.ensures in
-    wrote_all c.args.self.now c.write_closed.new.self c.take_view-taken.new.self _ _ s ms ms es _ _
-    (record { gatherer = e.same.0; texts = e.same.1; epochs = e.now.0; values = e.now.1; out = e.whole }) x (c.take_view-taken.ensures.first s.gather ms es x.gatherer shut)
-
-pub returns-in-Ok-clause-taken : goal.returns-in-Ok-clause-taken
-returns-in-Ok-clause-taken g c = λ kept s ms es again f x.
-    let e = c.in-Ok.ensures in
-    wrote_all c.args.self.now c.write_closed.new.self c.take_view-taken.new.self _ _ s ms _ es again _
-    (record { gatherer = e.same.0; texts = e.same.1; epochs = e.now.0; values = e.now.1; out = e.whole }) x (c.take_view-taken.ensures.taken s.gather ms es again x.gatherer f kept)
-
-pub returns-in-Ok-clause-kind : goal.returns-in-Ok-clause-kind
-returns-in-Ok-clause-kind g c = λ kept s ms es again f x. c.take_view-taken.ensures.kind s.gather ms es again x.gatherer f kept
+    let o : Wrote c.args.self.now c.write_closed.new.self c.take_view-taken.new.self _ _ = record { gatherer = e.same.0; texts = e.same.1; epochs = e.now.0; values = e.now.1; out = e.whole } in
+    record {
+      first = λ shut s ms es x. wrote_all _ _ _ _ _ s ms ms es _ _ o x (t.first s.gather ms es x.gatherer shut);
+      taken = λ kept s ms es again f x. wrote_all _ _ _ _ _ s ms _ es again _ o x (t.taken s.gather ms es again x.gatherer f kept);
+      again = λ s ms es x. t.again s.gather ms es x.gatherer;
+      kind = λ kept s ms es again f x. t.kind s.gather ms es again x.gatherer f kept;
+      same = e.same.2;
+      part = tt;
+      device = (tt, e.device);
+      ended = ap (λ (v : GathererValue). v.has_ended) e.same.0 ∙ t.going;
+    }

@@ -1,31 +1,37 @@
-use Rattle.std.proofs.Common.{sym, None}
+use Rattle.std.proofs.Common.{◌∙◌, sym, None}
+use Rattle.rtcm_convert.proofs.FaultLemmas.{fails_after}
 use Rattle.rtcm_convert.proofs.TakeLemmas.{settle, taken_again, kind_again, part_alone, part_again}
 use Rattle.rtcm_convert.proofs.Names.{on_err_weaker, heard, viewed_message, closed_epochs}
 use Rattle.rtcm_convert.proofs.file_writer.FileWriter.take_message.Goals as goal
 
-pub returns-in-Err-clause-part : goal.returns-in-Err-clause-part
-returns-in-Err-clause-part g c = part_alone c.args.self.now (heard (viewed_message c.args.message.now)) _ _ c.in-Err.ensures.part
+pub returns-in-Err : goal.returns-in-Err
+returns-in-Err g c =
+    let part = part_alone c.args.self.now (heard (viewed_message c.args.message.now)) _ _ c.in-Err.ensures.part in
+    record { whole = tt; kind = tt; same = c.step.ensures.same; part = part; device = c.in-Err.ensures.device; ended = c.step.ensures.ended }
 
-pub returns-then-not-is_close_first-clause-whole : goal.returns-then-not-is_close_first-clause-whole
-returns-then-not-is_close_first-clause-whole g c = λ s ms x.
-    settle _ s _ _ _ (closed_epochs s.gather ms) c.step.ensures.ended
-    (c.in-Ok.ensures.taken (sym c.if-not-is_close_first.ensures) s ms (closed_epochs s.gather ms) None tt x)
+pub returns-then-not-is_close_first : goal.returns-then-not-is_close_first
+returns-then-not-is_close_first g c =
+    let n = c.in-Ok.ensures in
+    let kept = sym c.if-not-is_close_first.ensures in
+    record {
+      whole = λ s ms x. settle _ s _ _ _ (closed_epochs s.gather ms) n.ended (n.taken kept s ms (closed_epochs s.gather ms) None tt x);
+      kind = λ s ms x. n.kind kept s ms (closed_epochs s.gather ms) None tt x;
+      same = n.same;
+      part = tt;
+      device = n.device;
+      ended = n.ended;
+    }
 
-pub returns-clause-whole : goal.returns-clause-whole
-returns-clause-whole g c =
-    taken_again c.args.self.now c.step.new.self c.step-2.new.self (heard (viewed_message c.args.message.now)) _ _ _ c.step-2.result c.step-2.ensures.ended
-    (c.in-Ok.ensures.first (sym c.if-not-is_close_first.ensures)) c.step-2.ensures.taken c.step-2.ensures.again
-
-pub returns-clause-part : goal.returns-clause-part
-returns-clause-part g c = on_err_weaker c.step-2.result (λ p s ms x.
-    part_again c.step.new.self (heard (viewed_message c.args.message.now)) _ _ _ s ms
-    (c.in-Ok.ensures.first (sym c.if-not-is_close_first.ensures) s ms (closed_epochs s.gather ms) x) p) c.step-2.ensures.part
-
-pub returns-then-not-is_close_first-clause-kind : goal.returns-then-not-is_close_first-clause-kind
-returns-then-not-is_close_first-clause-kind g c = λ s ms x.
-    c.in-Ok.ensures.kind (sym c.if-not-is_close_first.ensures) s ms (closed_epochs s.gather ms) None tt x
-
-pub returns-clause-kind : goal.returns-clause-kind
-returns-clause-kind g c =
-    kind_again c.args.self.now c.step.new.self (heard (viewed_message c.args.message.now)) _ _ c.step-2.result
-    (c.in-Ok.ensures.first (sym c.if-not-is_close_first.ensures)) c.step-2.ensures.kind c.step-2.ensures.again
+pub returns : goal.returns
+returns g c =
+    let m = heard (viewed_message c.args.message.now) in
+    let n = c.step-2.ensures in
+    let first = c.in-Ok.ensures.first (sym c.if-not-is_close_first.ensures) in
+    record {
+      whole = taken_again c.args.self.now c.step.new.self c.step-2.new.self m _ _ _ c.step-2.result n.ended first n.taken n.again;
+      kind = kind_again c.args.self.now c.step.new.self m _ _ c.step-2.result first n.kind n.again;
+      same = n.same ∙ c.step.ensures.same;
+      part = on_err_weaker c.step-2.result (λ p s ms x. part_again c.step.new.self m _ _ _ s ms (first s ms (closed_epochs s.gather ms) x) p) n.part;
+      device = fails_after c.step-2.result c.args.writer.now c.step.new.writer c.step-2.new.writer c.in-Ok.ensures.device.1 n.device;
+      ended = n.ended;
+    }
