@@ -5,35 +5,30 @@ use Rattle.rtcm_convert.proofs.WholeLemmas.{run_made, run_empty, run_read, run_l
 use Rattle.rtcm_convert.proofs.Names.{LeftBy, IsRunFault, BadSetup, Read, TooLong, Write, NoEpoch, Failed, Finished, start_value, start_at}
 use Rattle.rtcm_convert.proofs.whole.convert_stream_with.Goals as goal
 
-pub returns-in-Ok-clause-made : goal.returns-in-Ok-clause-made
-returns-in-Ok-clause-made g c = run_made c.in-Ok.converter c.run-answer.new.self _ (start_at c.args.setup c.args.initial) _ _ _ c.run-answer.result c.prefix.ensures.nothing (c.read_back.ensures.some c.args.initial c.in-Ok.ensures.fits) c.in-Ok.ensures.history c.run-answer.ensures.left.0.0 c.in-Ok.ensures.fresh.0 c.run-answer.ensures.whole
-
-pub returns-in-Ok-clause-no_epoch : goal.returns-in-Ok-clause-no_epoch
-returns-in-Ok-clause-no_epoch g c = λ e. run_empty c.in-Ok.converter c.run-answer.new.self _ (start_at c.args.setup c.args.initial) _ _ _ c.prefix.ensures.nothing c.in-Ok.ensures.history c.run-answer.ensures.left.0.0 c.in-Ok.ensures.fresh.0 (c.run-answer.ensures.no_epoch e)
-
-pub returns-in-Ok-clause-read : goal.returns-in-Ok-clause-read
-returns-in-Ok-clause-read g c = λ e. run_read c.in-Ok.converter c.run-answer.new.self (start_value (start_at c.args.setup c.args.initial)) _ _ _ _ c.prefix.ensures.nothing c.in-Ok.ensures.history (c.run-answer.ensures.read e)
-
-pub returns-in-Ok-clause-long : goal.returns-in-Ok-clause-long
-returns-in-Ok-clause-long g c = λ e. run_long c.in-Ok.converter c.run-answer.new.self (start_at c.args.setup c.args.initial) _ _ _ _ c.prefix.ensures.nothing c.in-Ok.ensures.history c.in-Ok.ensures.fresh.0 (c.run-answer.ensures.long e)
-
-pub returns-in-Ok-clause-write : goal.returns-in-Ok-clause-write
-returns-in-Ok-clause-write g c = λ e. run_write c.in-Ok.converter c.run-answer.new.self (start_value (start_at c.args.setup c.args.initial)) _ _ _ _ c.prefix.ensures.nothing c.in-Ok.ensures.history (c.run-answer.ensures.write e)
-
-pub returns-in-Ok-clause-bad_setup : goal.returns-in-Ok-clause-bad_setup
-returns-in-Ok-clause-bad_setup g c = (
-  λ e. absurd (never IsRunFault (λ f. LeftBy f c.run-answer.new.self) of_run run_known c.run-answer.result (c.run-answer.ensures.left.0.1 c.in-Ok.ensures.history.going) BadSetup refl e),
-  λ b. absurd (not_err c.in-Ok.converter BadSetup (c.in-Ok.ensures.bad.1 b)),
-)
-
-pub returns-in-Ok-clause-untouched : goal.returns-in-Ok-clause-untouched
-returns-in-Ok-clause-untouched g c = not_of_setup IsRunFault (λ f. LeftBy f c.run-answer.new.self) of_run run_known _ c.run-answer.result (c.run-answer.ensures.left.0.1 c.in-Ok.ensures.history.going) refl refl
-
-pub returns-in-Ok-clause-only : goal.returns-in-Ok-clause-only
-returns-in-Ok-clause-only g c = (
-  never IsRunFault (λ f. LeftBy f c.run-answer.new.self) of_run run_known c.run-answer.result (c.run-answer.ensures.left.0.1 c.in-Ok.ensures.history.going) Failed refl,
-  never IsRunFault (λ f. LeftBy f c.run-answer.new.self) of_run run_known c.run-answer.result (c.run-answer.ensures.left.0.1 c.in-Ok.ensures.history.going) Finished refl,
-)
+pub returns-in-Ok : goal.returns-in-Ok
+returns-in-Ok g c =
+    let x = start_at c.args.setup c.args.initial in
+    let v = c.in-Ok.converter in
+    let h = c.in-Ok.ensures in
+    let w = c.run-answer.new.self in
+    let r = c.run-answer.result in
+    let n = c.run-answer.ensures in
+    let from = g.R.Read.remaining c.args.reader.now.inner in
+    let none = c.prefix.ensures.nothing in
+    let left = n.left.0.1 h.history.going in
+    let no = never IsRunFault (λ f. LeftBy f w) of_run run_known r left in
+    record {
+      made = run_made v w _ x from _ _ r none (c.read_back.ensures.some c.args.initial h.fits) h.history n.left.0.0 h.fresh.0 n.whole;
+      no_epoch = λ e. run_empty v w _ x from _ _ none h.history n.left.0.0 h.fresh.0 (n.no_epoch e);
+      long = λ e. run_long v w x from _ _ _ none h.history h.fresh.0 (n.long e);
+      read = λ e. run_read v w (start_value x) from _ _ _ none h.history (n.read e);
+      write = λ e. run_write v w (start_value x) from _ _ _ none h.history (n.write e);
+      sent = n.sent;
+      devices = (n.reader, n.writer);
+      bad_setup = (λ e. absurd (no BadSetup refl e), λ b. absurd (not_err v BadSetup (h.bad.1 b)));
+      untouched = not_of_setup IsRunFault (λ f. LeftBy f w) of_run run_known _ r left refl refl;
+      only = (no Failed refl, no Finished refl);
+    }
 
 pub returns-in-Err : goal.returns-in-Err
 returns-in-Err g c = record {
