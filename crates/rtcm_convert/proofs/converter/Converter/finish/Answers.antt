@@ -1,8 +1,8 @@
-use Rattle.std.proofs.Common.{refl, true, inl, inr}
+use Rattle.std.proofs.Common.{◌∙◌, IfOk, ap, subst, refl, true, inl, inr}
 use Rattle.rtcm_convert.proofs.FaultLemmas.{unlike, on_no_epoch, no_epoch_of, no_epoch_only, no_epoch_sent, ok_always}
 use Rattle.rtcm_convert.proofs.FeedLemmas.{with_flags, failed_fit, ended_fit, finishes_with, finishes_empty}
 use Rattle.rtcm_convert.proofs.RefusalLemmas.{refused_going, refused_is, refused_only, refused_sent, refused_writer, not_refused}
-use Rattle.rtcm_convert.proofs.Names.{LeftBy, IsFinishFault, WriterFailures, Write, NoEpoch}
+use Rattle.rtcm_convert.proofs.Names.{Conversion, FinishesEmptyNow, FinishesNow, StopsAtEnd, LeftBy, IsFinishFault, WriterFailures, Write, NoEpoch}
 use Rattle.rtcm_convert.proofs.converter.Converter.finish.Goals as goal
 
 pub returns-in-Some : goal.returns-in-Some
@@ -32,13 +32,13 @@ returns-in-Ok g c =
     let r = c.ended_report.result in
     record {
       refused = not_refused c.args.self.now _ c.in_default.ensures;
-      whole = rw (← c.self.view_is) (finishes_with f.failed f.finished f.framer c.end_stream.new.framer f.file_writer c.end_stream.new.file_writer _ _ c.in-Ok.ensures.whole c.kept.ensures.all c.kept.ensures.bounds _ c.in-Ok.ensures.sent r c.ended_report.ensures.some);
-      no_epoch = λ h. rw (← c.self.view_is) (finishes_empty f.failed f.finished f.framer c.end_stream.new.framer f.file_writer c.end_stream.new.file_writer _ _ c.in-Ok.ensures.whole c.kept.ensures.all c.kept.ensures.bounds _ c.in-Ok.ensures.sent (no_epoch_of _ r n h));
+      whole = subst (λ (x : Conversion). IfOk r (FinishesNow x (with_flags f.failed true c.end_stream.new.framer c.end_stream.new.file_writer) (g.W.Deliver.waiting c.end_stream.new.writer.inner) (g.W.Write.contents c.args.writer.now.inner) (g.W.Write.contents c.end_stream.new.writer.inner))) c.self.view_is (finishes_with f.failed f.finished f.framer c.end_stream.new.framer f.file_writer c.end_stream.new.file_writer _ _ c.in-Ok.ensures.whole c.kept.ensures.all c.kept.ensures.bounds _ c.in-Ok.ensures.sent r c.ended_report.ensures.some);
+      no_epoch = λ h. subst (λ (x : Conversion). FinishesEmptyNow x (with_flags f.failed true c.end_stream.new.framer c.end_stream.new.file_writer) (g.W.Deliver.waiting c.end_stream.new.writer.inner) (g.W.Write.contents c.args.writer.now.inner) (g.W.Write.contents c.end_stream.new.writer.inner)) c.self.view_is (finishes_empty f.failed f.finished f.framer c.end_stream.new.framer f.file_writer c.end_stream.new.file_writer _ _ c.in-Ok.ensures.whole c.kept.ensures.all c.kept.ensures.bounds _ c.in-Ok.ensures.sent (no_epoch_of _ r n h));
       part = λ h. absurd (no_epoch_only _ r n h);
       sent = no_epoch_sent _ r _ _ n c.in-Ok.ensures.sent;
       device = (on_no_epoch _ (λ x. WriterFailures x c.args.writer.now.failures c.end_stream.new.writer.failures) r n d.1.1, ok_always _ r d.1.1, d.1.2);
-      taken = rw (← c.self.view_is) c.end_stream.ensures.same.1;
-      left = rw (← c.self.view_is) ((c.end_stream.ensures.same.0, λ _. on_no_epoch _ (λ x. IsFinishFault x × LeftBy x (with_flags f.failed true c.end_stream.new.framer c.end_stream.new.file_writer)) r n (inl refl, refl)), ok_always _ r refl);
+      taken = c.end_stream.ensures.same.1 ∙ ap (λ (x : Conversion). x.scan.taken) c.self.view_is;
+      left = ((c.end_stream.ensures.same.0 ∙ ap (λ (x : Conversion). x.scan.limit) c.self.view_is, λ _. on_no_epoch _ (λ x. IsFinishFault x × LeftBy x (with_flags f.failed true c.end_stream.new.framer c.end_stream.new.file_writer)) r n (inl refl, refl)), ok_always _ r refl);
     }
 
 pub invariant_of-self-in-Err : goal.invariant_of-self-in-Err
@@ -51,9 +51,9 @@ returns-in-Err g c =
       refused = not_refused c.args.self.now _ c.in_default.ensures;
       whole = tt;
       no_epoch = λ h. unlike Write NoEpoch refl refl h;
-      part = λ _. rw (← c.self.view_is) (λ s bytes h. c.in-Err.ensures.part s bytes h.drained);
+      part = λ _. subst (λ (x : Conversion). StopsAtEnd x (g.W.Write.contents c.args.writer.now.inner) (g.W.Write.contents c.end_stream.new.writer.inner)) c.self.view_is (λ s bytes h. c.in-Err.ensures.part s bytes h.drained);
       sent = tt;
       device = (d.1.0, tt, d.1.2);
-      taken = rw (← c.self.view_is) c.end_stream.ensures.same.1;
-      left = rw (← c.self.view_is) ((c.end_stream.ensures.same.0, λ go. (inr refl, (refl, go.more))), tt);
+      taken = c.end_stream.ensures.same.1 ∙ ap (λ (x : Conversion). x.scan.taken) c.self.view_is;
+      left = ((c.end_stream.ensures.same.0 ∙ ap (λ (x : Conversion). x.scan.limit) c.self.view_is, λ go. (inr refl, (refl, ap (λ (x : Conversion). x.has_ended) c.self.view_is ∙ go.more))), tt);
     }
