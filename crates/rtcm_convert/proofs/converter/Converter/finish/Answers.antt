@@ -1,8 +1,9 @@
-use Rattle.std.proofs.Common.{◌∙◌, IfOk, ap, subst, refl, true, inl, inr}
+use Rattle.std.proofs.Common.{◌∙◌, IfOk, ap, subst, sym, refl, true, inl, inr}
 use Rattle.rtcm_convert.proofs.FaultLemmas.{unlike, on_no_epoch, no_epoch_of, no_epoch_only, no_epoch_sent, ok_always}
 use Rattle.rtcm_convert.proofs.FeedLemmas.{with_flags, failed_fit, ended_fit, finishes_with, finishes_empty}
 use Rattle.rtcm_convert.proofs.RefusalLemmas.{refused_going, refused_is, refused_only, refused_sent, refused_writer, not_refused}
-use Rattle.rtcm_convert.proofs.Names.{Conversion, FinishesEmptyNow, FinishesNow, StopsAtEnd, LeftBy, IsFinishFault, WriterFailures, Write, NoEpoch}
+use Rattle.rtcm_convert.proofs.RunLemmas.{going_on}
+use Rattle.rtcm_convert.proofs.Names.{Conversion, IsGoing, FinishesEmptyNow, FinishesNow, StopsAtEnd, LeftBy, IsFinishFault, WriterFailures, Write, NoEpoch}
 use Rattle.rtcm_convert.proofs.converter.Converter.finish.Goals as goal
 
 pub returns-in-Some : goal.returns-in-Some
@@ -20,6 +21,11 @@ returns-in-Some g c =
       taken = refl;
       left = ((refl, λ go. absurd (refused_going v f e go)), tt);
     }
+
+pub end_stream-requires : goal.end_stream-requires
+end_stream-requires g c =
+    let go : IsGoing (with_flags c.self.inside.failed c.self.inside.finished c.self.inside.framer c.self.inside.file_writer) = subst (λ (x : Conversion). IsGoing x) (sym c.self.view_is) (going_on c.args.self.now c.in_default.ensures) in
+    record { going = c.self.invariant.going go; listening = c.self.invariant.listening go; some = c.self.invariant.drained go }
 
 pub invariant_of-self : goal.invariant_of-self
 invariant_of-self g c = ended_fit c.self.inside.failed c.end_stream.new.framer c.end_stream.new.file_writer c.end_stream.ensures.some
@@ -45,15 +51,13 @@ pub invariant_of-self-in-Err : goal.invariant_of-self-in-Err
 invariant_of-self-in-Err g c = failed_fit c.self.inside.finished c.end_stream.new.framer c.end_stream.new.file_writer c.end_stream.ensures.some
 
 pub returns-in-Err : goal.returns-in-Err
-returns-in-Err g c =
-    let d = c.in-Err.ensures.device in
-    record {
-      refused = not_refused c.args.self.now _ c.in_default.ensures;
-      whole = tt;
-      no_epoch = λ h. unlike Write NoEpoch refl refl h;
-      part = λ _. subst (λ (x : Conversion). StopsAtEnd x (g.W.Write.contents c.args.writer.now.inner) (g.W.Write.contents c.end_stream.new.writer.inner)) c.self.view_is (λ s bytes h. c.in-Err.ensures.part s bytes h.drained);
-      sent = tt;
-      device = (d.1.0, tt, d.1.2);
-      taken = c.end_stream.ensures.same.1 ∙ ap (λ (x : Conversion). x.scan.taken) c.self.view_is;
-      left = ((c.end_stream.ensures.same.0 ∙ ap (λ (x : Conversion). x.scan.limit) c.self.view_is, λ go. (inr refl, (refl, ap (λ (x : Conversion). x.has_ended) c.self.view_is ∙ go.more))), tt);
-    }
+returns-in-Err g c = record {
+  refused = not_refused c.args.self.now _ c.in_default.ensures;
+  whole = tt;
+  no_epoch = λ h. unlike Write NoEpoch refl refl h;
+  part = λ _. subst (λ (x : Conversion). StopsAtEnd x (g.W.Write.contents c.args.writer.now.inner) (g.W.Write.contents c.end_stream.new.writer.inner)) c.self.view_is (λ s bytes h. c.in-Err.ensures.part s bytes h.drained);
+  sent = tt;
+  device = (c.in-Err.ensures.device.1.0, tt, c.in-Err.ensures.device.1.2);
+  taken = c.end_stream.ensures.same.1 ∙ ap (λ (x : Conversion). x.scan.taken) c.self.view_is;
+  left = ((c.end_stream.ensures.same.0 ∙ ap (λ (x : Conversion). x.scan.limit) c.self.view_is, λ go. (inr refl, (refl, ap (λ (x : Conversion). x.has_ended) c.self.view_is ∙ go.more))), tt);
+}
