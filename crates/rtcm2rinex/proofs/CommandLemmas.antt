@@ -1,7 +1,6 @@
 -- The meaning of the exit status.
-use Rattle.std.proofs.Common.{◌≡◌, ◌∙◌, inl, inr, refl, sym, subst, codes, ap, ap₂, option_map, ℕ, List, Option, Some, None, Result, Ok, Err, arith}
 use Rattle.rtcm2rinex.proofs.CommandLineLemmas.{is_version}
-use Rattle.rtcm2rinex.proofs.Names.{⊤, ◌≢◌, ◌⊎◌, IsCommand, box_value, option_map_or, Box, found_of, subcommand_name_of, subcommand_rows, subcommand_rows_of, Row, Text, one_of, rows_of, out-ArgMatches, out-SubCommand, SubCommand, kind_of, Error, ArgMatches, Device, SelectsCommand, IsFoundIn, RefusesWords, EndsOptionsAsked, PrintsOptionsAsked, RefusesDate, StopsOptionsAsked, EndsOptions, PrintsOptions, StopsOptions, AreRefused, AreRefusedBy, EndsCommand, EndsFound, HasCommand, HasCompleted, HasDone, HasPrinted, HasStopped, HasStoppedEarly, HasStoppedPrinting, StopsPrinting, fault_status, status_of, error_line, PrintsLine, PrintsFault, IsNearRefused, IsNearSet, IsNumberOf, IsUntouched, InspectFault, Ends, IsInspected, of_inspection, ToolFault}
+use Rattle.rtcm2rinex.proofs.Names.{◌≡◌, ◌∙◌, inl, inr, refl, sym, subst, codes, ap, ap₂, option_map, ℕ, List, Option, Some, None, Result, Ok, Err, arith, ⊤, ◌≢◌, ◌⊎◌, IsCommand, box_value, option_map_or, Box, found_of, subcommand_name_of, subcommand_rows, subcommand_rows_of, Row, Text, one_of, rows_of, out-ArgMatches, out-SubCommand, SubCommand, kind_of, Error, ArgMatches, Device, SelectsCommand, IsFoundIn, RefusesWords, EndsOptionsAsked, PrintsOptionsAsked, RefusesDate, StopsOptionsAsked, EndsOptions, PrintsOptions, StopsOptions, AreRefused, AreRefusedBy, EndsCommand, EndsFound, HasCommand, HasCompleted, HasDone, HasPrinted, HasStopped, HasStoppedEarly, HasStoppedPrinting, StopsPrinting, fault_status, status_of, error_line, PrintsLine, PrintsFault, IsNearRefused, IsNearSet, IsNumberOf, IsUntouched, InspectFault, Ends, IsInspected, of_inspection, ToolFault}
 use Rattle.clap.specs.declared.error.kind.ErrorKind.TheVariants as kind
 use Rattle.rtcm_inspect.specs.Devices as devices
 use Rattle.rtcm2rinex.specs.declared.fault.ToolFault.TheVariants as faults

@@ -1,7 +1,6 @@
 -- A command after an option or a command is added.
-use Rattle.std.proofs.Common.{◌≡◌, ◌+◌, ◌<◌, ◌&&◌, ◌∷◌, [], ℕ, Bool, Result, Ok, Err, IfErr, List, Option, Some, true, false, not, is_some, length, map, take, get_or, inl, inr, refl, sym, subst, ap, ap₂, ◌∙◌}
 use Rattle.rtcm2rinex.specs.CommandLine.{rows_of}
-use Rattle.rtcm2rinex.proofs.Names.{map_more, fold-append, Rule, Text, is_empty, rule_of, App, app_of, built, app_of_fields, is_simple, new_app, on_top, with_rule, with_subcommand, AddsArg, AddsSubcommand, is_free_app, is_simple_and_free, clap_on_literals, FailsBy, HasKind, Kinds, Error, Bor, CommandRow, OptionRow, Tables, FailsParsing, RefusesWords, command_set, more_of, option_set, program, with_commands, with_options, kind_of, Arg, Command, out-Command}
+use Rattle.rtcm2rinex.proofs.Names.{◌≡◌, ◌+◌, ◌<◌, ◌&&◌, ◌∷◌, [], ℕ, Bool, Result, Ok, Err, IfErr, List, Option, Some, true, false, not, is_some, length, map, take, get_or, inl, inr, refl, sym, subst, ap, ap₂, ◌∙◌, map_more, fold-append, Rule, Text, is_empty, rule_of, App, app_of, built, app_of_fields, is_simple, new_app, on_top, with_rule, with_subcommand, AddsArg, AddsSubcommand, is_free_app, is_simple_and_free, clap_on_literals, FailsBy, HasKind, Kinds, Error, Bor, CommandRow, OptionRow, Tables, FailsParsing, RefusesWords, command_set, more_of, option_set, program, with_commands, with_options, kind_of, Arg, Command, out-Command}
 use Rattle.rtcm2rinex.specs.declared.commands.Options.TheVariants as options
 use Rattle.clap.specs.declared.builder.value_parser.ValueParser.TheVariants as value
 use Rattle.clap.specs.declared.error.kind.ErrorKind.TheVariants as kind

@@ -1,6 +1,5 @@
 -- A conversion that is stopped by a fault.
-use Rattle.std.proofs.Common.{◌≡◌, ◌∙◌, ap, sym, subst, refl, rules, ℕ, ℤ, List, Option, Some, None, Result, Ok, Err, IsErrOf, IfSome, inl, inr}
-use Rattle.rtcm2rinex.proofs.Names.{◌≢◌, ◌↔◌, ◌⊎◌, Device, IsSentAfter, IsSetupFault, IsUntouched, IsMadeEmpty, IsMadeSoFar, IsMadeInPart, IsMadeToLimit, IsBad, IsBadAt, Start, start_zero, Setup, no_values, AreStationValues, Fault, Memory, BadSetup, TooLong, Read, Write, Failed, Finished, NoEpoch, Report, ToolFault, Row, StationValues, values_by, HasSetupFault, IsFirstFault, IsSetupRefused, IsWeekRefused, IsWeekSet, values_set, StopsConversion, StopsConverting, HaveFailedBy}
+use Rattle.rtcm2rinex.proofs.Names.{◌≡◌, ◌∙◌, ap, sym, subst, refl, rules, ℕ, ℤ, List, Option, Some, None, Result, Ok, Err, IsErrOf, IfSome, inl, inr, ◌≢◌, ◌↔◌, ◌⊎◌, Device, IsSentAfter, IsSetupFault, IsUntouched, IsMadeEmpty, IsMadeSoFar, IsMadeInPart, IsMadeToLimit, IsBad, IsBadAt, Start, start_zero, Setup, no_values, AreStationValues, Fault, Memory, BadSetup, TooLong, Read, Write, Failed, Finished, NoEpoch, Report, ToolFault, Row, StationValues, values_by, HasSetupFault, IsFirstFault, IsSetupRefused, IsWeekRefused, IsWeekSet, values_set, StopsConversion, StopsConverting, HaveFailedBy}
 use Rattle.rtcm2rinex.specs.declared.fault.ToolFault.TheVariants as faults
 
 module _ {R W : Type 0} (left : R → Option (List ℕ)) (held : W → Option (List ℕ)) (waits : W → List ℕ) (x : Start) (rd rd2 : Device R) (o o2 : Device W) where

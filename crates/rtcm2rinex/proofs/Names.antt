@@ -78,3 +78,4 @@ pub use Rattle.std.specs.Result.{result_ok}
 pub use Rattle.std.specs.Prelude.{Box, Err, MatchOption, if◌then◌else◌, nat_le, nat_lt, not, option_and_then, ⊤, ◌*◌, ◌<◌, ◌↔◌, ◌≡◌, ◌≢◌, ◌⊎◌}
 pub use Rattle.std.specs.Str.{bytes_eq}
 pub use Rattle.std.specs.Str.Parse.{ExplainsUnsignedError, HasUnsignedDigitsIfOk, ParsesUnsigned}
+pub use Rattle.std.proofs.Common.{Bool, IfErr, IfOk, IfSome, IsErrAnd, IsErrOf, List, MatchResult, None, Ok, Option, Result, Some, [], ap, ap₂, arith, codes, decimal, false, find, fold, get_or, inl, inr, is_some, length, map, option_map, refl, rules, subst, sym, take, true, unwrap_or, ℕ, ℤ, ◌&&◌, ◌++◌, ◌+◌, ◌^◌, ◌||◌, ◌∙◌, ◌∷◌}

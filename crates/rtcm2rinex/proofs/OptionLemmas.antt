@@ -1,6 +1,5 @@
 -- The values of options.
-use Rattle.std.proofs.Common.{◌≡◌, ◌∙◌, ℕ, List, [], Option, Some, None, Result, Bor, option_map, unwrap_or, refl, sym, ap, subst}
-use Rattle.rtcm2rinex.proofs.Names.{◌↔◌, ParsesUnsigned, ReadsOne, first_value, one_text, first_of, one_of, rows_of, Found, first_value-rows, one_text-rows, IsHourOf, IsNoonOf, IsNumberOf, text_set}
+use Rattle.rtcm2rinex.proofs.Names.{◌≡◌, ◌∙◌, ℕ, List, [], Option, Some, None, Result, Bor, option_map, unwrap_or, refl, sym, ap, subst, ◌↔◌, ParsesUnsigned, ReadsOne, first_value, one_text, first_of, one_of, rows_of, Found, first_value-rows, one_text-rows, IsHourOf, IsNoonOf, IsNumberOf, text_set}
 
 -- a typed getter returns the number whose decimal form the text is; P and Q are further properties of the parse
 number_of : {E : Type 0} (P Q : List ℕ → Result ℕ E → Type 0) (bits : ℕ) (text : Option (List ℕ)) (n : Option ℕ) → (text ≡ None → n ≡ None)

@@ -1,7 +1,6 @@
-use Rattle.std.proofs.Common.{◌≡◌, ◌∙◌, true, inl, inr, ap, subst, sym}
 use Rattle.rtcm2rinex.proofs.CommandLineLemmas.{is_read, versioned, why}
 use Rattle.rtcm2rinex.proofs.AcceptedLemmas.{found_command}
-use Rattle.rtcm2rinex.proofs.Names.{IfErr-weaker, app_of, texts, is_simple_and_free, IsProgram, start_of}
+use Rattle.rtcm2rinex.proofs.Names.{◌≡◌, ◌∙◌, true, inl, inr, ap, subst, sym, IfErr-weaker, app_of, texts, is_simple_and_free, IsProgram, start_of}
 use Rattle.rtcm2rinex.proofs.cli.parse.Goals as goal
 
 pub returns-in-Ok : goal.returns-in-Ok

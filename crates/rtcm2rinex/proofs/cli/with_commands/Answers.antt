@@ -1,7 +1,6 @@
-use Rattle.std.proofs.Common.{◌∙◌, get_or, map, take, subst}
 use Rattle.rtcm2rinex.proofs.CommandLineLemmas.{no_command, one_command_more, plain_given, with_command}
 use Rattle.rtcm2rinex.proofs.cli.with_commands.Goals.{in-Ok+in-Ok-command, in-Ok+in-Err-command, in-Err}
-use Rattle.rtcm2rinex.proofs.Names.{IfOk-weaker, Makes, command_set, with_commands}
+use Rattle.rtcm2rinex.proofs.Names.{◌∙◌, get_or, map, take, subst, IfOk-weaker, Makes, command_set, with_commands}
 use Rattle.rtcm2rinex.proofs.cli.with_commands.Goals as goal
 
 pub loop-row-preserved : goal.loop-row-preserved

@@ -1,5 +1,4 @@
-use Rattle.std.proofs.Common.{map, take}
-use Rattle.rtcm2rinex.proofs.Names.{App, Makes, command_set, with_commands}
+use Rattle.rtcm2rinex.proofs.Names.{map, take, App, Makes, command_set, with_commands}
 use Rattle.rtcm2rinex.proofs.cli.with_commands.Given as goal
 
 abbrev pub invariant-loop-row : goal.invariant-loop-row

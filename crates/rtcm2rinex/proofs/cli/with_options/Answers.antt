@@ -1,7 +1,6 @@
-use Rattle.std.proofs.Common.{◌∙◌, get_or, map, take, subst}
 use Rattle.rtcm2rinex.proofs.CommandLineLemmas.{no_option, one_option_more, simple_given, with_option}
 use Rattle.rtcm2rinex.proofs.cli.with_options.Goals.{in-Ok, in-Err}
-use Rattle.rtcm2rinex.proofs.Names.{IfOk-weaker, Makes, option_set, with_options}
+use Rattle.rtcm2rinex.proofs.Names.{◌∙◌, get_or, map, take, subst, IfOk-weaker, Makes, option_set, with_options}
 use Rattle.rtcm2rinex.proofs.cli.with_options.Goals as goal
 
 pub loop-row-preserved : goal.loop-row-preserved

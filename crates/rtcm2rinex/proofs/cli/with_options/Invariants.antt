@@ -1,5 +1,4 @@
-use Rattle.std.proofs.Common.{map, take}
-use Rattle.rtcm2rinex.proofs.Names.{App, Makes, option_set, with_options}
+use Rattle.rtcm2rinex.proofs.Names.{map, take, App, Makes, option_set, with_options}
 use Rattle.rtcm2rinex.proofs.cli.with_options.Given as goal
 
 abbrev pub invariant-loop-row : goal.invariant-loop-row

@@ -1,7 +1,6 @@
-use Rattle.std.proofs.Common.{inr, refl}
 use Rattle.rtcm2rinex.proofs.CommandLineLemmas.{is_version}
 use Rattle.rtcm2rinex.proofs.CommandLemmas.{answered_in_part, failed_to_serve, has_command, refused_at_two, refused_words, served}
-use Rattle.rtcm2rinex.proofs.Names.{texts}
+use Rattle.rtcm2rinex.proofs.Names.{inr, refl, texts}
 use Rattle.rtcm2rinex.proofs.command.command.Goals as goal
 
 pub run-ended-requires : goal.run-ended-requires

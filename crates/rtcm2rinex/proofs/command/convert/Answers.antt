@@ -1,6 +1,5 @@
-use Rattle.std.proofs.Common.{◌≡◌, ◌∙◌, inr, refl, subst, sym, ℕ, List, Result, Ok, Err}
 use Rattle.rtcm2rinex.proofs.ConvertLemmas.{setup_refused, values_refused, week_refused}
-use Rattle.rtcm2rinex.proofs.Names.{start_at, BadSetup, Report, EndsConverting, PrintsLine, options_of, ToolFault, passed}
+use Rattle.rtcm2rinex.proofs.Names.{◌≡◌, ◌∙◌, inr, refl, subst, sym, ℕ, List, Result, Ok, Err, start_at, BadSetup, Report, EndsConverting, PrintsLine, options_of, ToolFault, passed}
 use Rattle.rtcm2rinex.specs.declared.fault.ToolFault.TheVariants as faults
 use Rattle.rtcm2rinex.proofs.command.convert.Goals as goal
 

@@ -1,6 +1,5 @@
-use Rattle.std.proofs.Common.{◌∙◌, Bool, inl, inr, refl, subst, sym}
 use Rattle.rtcm2rinex.proofs.CommandLemmas.{ends_found, ends_so, inspection_found, is_check, options_stopped}
-use Rattle.rtcm2rinex.proofs.Names.{EndsCheck, options_of}
+use Rattle.rtcm2rinex.proofs.Names.{◌∙◌, Bool, inl, inr, refl, subst, sym, EndsCheck, options_of}
 use Rattle.rtcm2rinex.proofs.command.run.Goals as goal
 
 pub returns-in-frames : goal.returns-in-frames

@@ -1,5 +1,4 @@
-use Rattle.std.proofs.Common.{[], codes, decimal, refl}
-use Rattle.rtcm2rinex.proofs.Names.{counts_named, report_line, add_count, add_text, add_word, end_line}
+use Rattle.rtcm2rinex.proofs.Names.{[], codes, decimal, refl, counts_named, report_line, add_count, add_text, add_word, end_line}
 use Rattle.rtcm2rinex.proofs.convert.report_line.Goals as goal
 
 pub returns : goal.returns

@@ -1,6 +1,5 @@
-use Rattle.std.proofs.Common.{inr, subst}
 use Rattle.rtcm2rinex.proofs.ConvertLemmas.{zero_bad}
-use Rattle.rtcm2rinex.proofs.Names.{◌≡◌, ◌↔◌, Err, StationValues, IsBadAt, start_at, BadSetup, EndsConversion, Convert}
+use Rattle.rtcm2rinex.proofs.Names.{inr, subst, ◌≡◌, ◌↔◌, Err, StationValues, IsBadAt, start_at, BadSetup, EndsConversion, Convert}
 use Rattle.rtcm2rinex.proofs.convert.run_convert.Goals as goal
 
 pub returns-clause-ends : goal.returns-clause-ends

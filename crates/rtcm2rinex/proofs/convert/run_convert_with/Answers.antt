@@ -1,6 +1,5 @@
-use Rattle.std.proofs.Common.{refl}
 use Rattle.rtcm2rinex.proofs.ConvertLemmas.{conversion_stopped, given_bad}
-use Rattle.rtcm2rinex.proofs.Names.{IsBadAt, start_at}
+use Rattle.rtcm2rinex.proofs.Names.{refl, IsBadAt, start_at}
 use Rattle.rtcm2rinex.proofs.convert.run_convert_with.Goals as goal
 
 pub returns-in-Ok-clause-ends : goal.returns-in-Ok-clause-ends

@@ -1,5 +1,4 @@
-use Rattle.std.proofs.Common.{◌∙◌, [], ℕ, List, ap, codes, refl}
-use Rattle.rtcm2rinex.proofs.Names.{error_line, error_words, with_words, add_text, end_line}
+use Rattle.rtcm2rinex.proofs.Names.{◌∙◌, [], ℕ, List, ap, codes, refl, error_line, error_words, with_words, add_text, end_line}
 use Rattle.rtcm2rinex.proofs.error_lines.error_line.Goals as goal
 
 pub returns : goal.returns

@@ -1,5 +1,4 @@
-use Rattle.std.proofs.Common.{◌≡◌, ◌∙◌, ◌^◌, ℕ, ℤ, List, Some, Ok, ap, codes, refl}
-use Rattle.rtcm2rinex.proofs.Names.{height_text, length_below, position_of, position_text, text_set, values_in}
+use Rattle.rtcm2rinex.proofs.Names.{◌≡◌, ◌∙◌, ◌^◌, ℕ, ℤ, List, Some, Ok, ap, codes, refl, height_text, length_below, position_of, position_text, text_set, values_in}
 use Rattle.rtcm2rinex.proofs.laws.station.Goals as goal
 
 values_by_parts : (position height : List ℕ) (x y z : ℤ) (h : ℕ) → position_of position ≡ Some (x, y, z) → length_below (2 ^ 16) height ≡ Some h

@@ -1,6 +1,5 @@
-use Rattle.std.proofs.Common.{codes, refl, None, Some}
 use Rattle.rtcm2rinex.proofs.OptionLemmas.{no_noon, noon_given}
-use Rattle.rtcm2rinex.proofs.Names.{found_of}
+use Rattle.rtcm2rinex.proofs.Names.{codes, refl, None, Some, found_of}
 use Rattle.rtcm2rinex.proofs.options.near_of.Goals as goal
 
 pub returns-in-Some-hour_of : goal.returns-in-Some-hour_of

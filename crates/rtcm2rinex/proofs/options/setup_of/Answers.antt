@@ -1,7 +1,6 @@
-use Rattle.std.proofs.Common.{◌≡◌, ◌∙◌, ℕ, List, Result, Ok, Err, IfOk, MatchResult, IsErrAnd, ap, codes, rules, subst}
 use Rattle.rinex_file.specs.Texts.{trimmed_texts}
 use Rattle.rtcm2rinex.proofs.OptionLemmas.{number_given}
-use Rattle.rtcm2rinex.proofs.Names.{not, bytes_eq, HasUnsignedDigitsIfOk, ExplainsUnsignedError, found_of}
+use Rattle.rtcm2rinex.proofs.Names.{◌≡◌, ◌∙◌, ℕ, List, Result, Ok, Err, IfOk, MatchResult, IsErrAnd, ap, codes, rules, subst, not, bytes_eq, HasUnsignedDigitsIfOk, ExplainsUnsignedError, found_of}
 use Rattle.rtcm2rinex.proofs.options.setup_of.Goals as goal
 
 -- a value whose fault was wrapped

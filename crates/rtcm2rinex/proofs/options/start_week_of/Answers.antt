@@ -1,5 +1,4 @@
-use Rattle.std.proofs.Common.{ℕ, List, refl, subst, sym}
-use Rattle.rtcm2rinex.proofs.Names.{IsWeekOf}
+use Rattle.rtcm2rinex.proofs.Names.{ℕ, List, refl, subst, sym, IsWeekOf}
 use Rattle.rtcm2rinex.proofs.options.start_week_of.Goals as goal
 
 pub returns-in-None : goal.returns-in-None

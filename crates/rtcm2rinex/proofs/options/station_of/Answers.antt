@@ -1,6 +1,5 @@
-use Rattle.std.proofs.Common.{codes}
 use Rattle.rtcm2rinex.proofs.OptionLemmas.{number_given}
-use Rattle.rtcm2rinex.proofs.Names.{HasUnsignedDigitsIfOk, ExplainsUnsignedError, found_of}
+use Rattle.rtcm2rinex.proofs.Names.{codes, HasUnsignedDigitsIfOk, ExplainsUnsignedError, found_of}
 use Rattle.rtcm2rinex.proofs.options.station_of.Goals as goal
 
 pub returns : goal.returns

@@ -1,6 +1,5 @@
-use Rattle.std.proofs.Common.{◌≡◌, ◌∙◌, ap, refl, ℕ, List, [], Option, Some, None, Bor, option_map, unwrap_or}
 use Rattle.rtcm2rinex.proofs.OptionLemmas.{text_is}
-use Rattle.rtcm2rinex.proofs.Names.{found_of}
+use Rattle.rtcm2rinex.proofs.Names.{◌≡◌, ◌∙◌, ap, refl, ℕ, List, [], Option, Some, None, Bor, option_map, unwrap_or, found_of}
 use Rattle.rtcm2rinex.proofs.options.text.Goals as goal
 
 unwrapped : (r : Option (Bor (List ℕ))) (d v : Bor (List ℕ)) → v ≡ unwrap_or r d → d.now ≡ [] → v.now ≡ unwrap_or (option_map (λ s. s.now) r) []
