@@ -1,3 +1,4 @@
+-- The lines of the satellites up to `before` are written, and `from` is where the cells of the next one begin.
 use Rattle.rinex_file.proofs.Writing.Satellites.{further}
 use Rattle.rinex_file.proofs.Writing.OwnCells.{same_line}
 use Rattle.rinex_file.proofs.Writing.Sent.{no_lines, grown_lines, part_lines, where_failed, not_written, is_shown}

@@ -1,3 +1,5 @@
+-- A line without a line feed, of another length, or with no letter and number of a satellite of the system is no
+-- row's text; else it is one exactly if its columns are.
 use Rattle.rinex_file.proofs.Judged.{refused}
 use Rattle.rinex_file.proofs.Rows.Cut.{cut_line_is, filled_over}
 use Rattle.rinex_file.proofs.OneReading.{IsTextOf, line_ended, line_once, text_of_line}

@@ -1,3 +1,5 @@
+-- The cells are put last to first: the columns so far are those of the cells from `at` on, so that of two cells of a
+-- signal the first is written. At the end they are the line.
 use Rattle.rinex_file.proofs.Entries.{few_signals as short_table}
 use Rattle.rinex_file.proofs.Rows.Cells.{begun_entries, no_place, others_stay, other_stays, cell_put, all_fit, trimmed_line, front_length}
 use Rattle.rinex_file.proofs.write.satellite.put_satellite_line.Goals.{After-of, After-loop-at, else-id-via-else-id, else-id-via-then-id+in-None-1}

@@ -1,3 +1,5 @@
+-- Four cases: bytes with an entry are counted there; bytes without a look are only numbered; a second look at the
+-- first byte without an entry adds one; else every byte gets its entry first.
 use Rattle.rtcm_bits.proofs.Names.{List, ℕ, ◌≡◌, ◌+◌, ◌-◌, drop, length, max, refl, ap, ◌∙◌, rules, arith, length-drop, with_items_is, places, vec_len, held_of, filled_up, looked_through, counts_alone}
 use Rattle.rtcm_bits.proofs.LookLemmas.{first_looks_at, second_look_at, later_looks, filled_out, looked_length}
 use Rattle.rtcm_bits.proofs.window.Window.count_looks.Goals as goal

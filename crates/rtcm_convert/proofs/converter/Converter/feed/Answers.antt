@@ -1,3 +1,5 @@
+-- Each end of a feed: refused at once, fed, or stopped by TooLong or the file's writer, with the record of what was
+-- made, for a value of the converter with its parts inside.
 use Rattle.std.proofs.Common.{ℕ, ◌≤◌, ◌+◌, ◌∙◌, ap, sym, subst, refl, inl, inr, length, true}
 use Rattle.rtcm_convert.proofs.FaultLemmas.{unlike, not_err}
 use Rattle.rtcm_convert.proofs.RefusalLemmas.{refused_going, refused_is, refused_only, refused_sent, refused_writer, not_refused, none_taken}

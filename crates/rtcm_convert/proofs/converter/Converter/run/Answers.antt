@@ -1,3 +1,5 @@
+-- Each end of a run: refused at once, finished, or stopped by Read, TooLong or the file's writer, with the record of
+-- what was made, for a value of the converter with its parts inside.
 use Rattle.std.proofs.Common.{◌∙◌, IfOk, ap, sym, subst, refl, inl, inr, true}
 use Rattle.rtcm_convert.proofs.FaultLemmas.{unlike, never, of_finish, finish_known, sent_finished, finish_reader, left_as, writer_after}
 use Rattle.rtcm_convert.proofs.FeedLemmas.{with_flags, read_of, long_of, sink_of, fed_fit, failed_fit}

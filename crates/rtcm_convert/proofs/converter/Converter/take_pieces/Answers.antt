@@ -1,3 +1,5 @@
+-- Each piece that was fed keeps the record of what was made from the pieces so far; the loop ends at the first
+-- fault.
 use Rattle.std.proofs.Common.{◌∙◌, ap, refl, inr, Err}
 use Rattle.rtcm_convert.proofs.RefusalLemmas.{refused_going, refused_is, refused_only, refused_sent, refused_writer, not_refused}
 use Rattle.rtcm_convert.proofs.FaultLemmas.{never, of_finish, finish_known, sent_fed, sent_finished, writer_after, left_as, feed_pieces}

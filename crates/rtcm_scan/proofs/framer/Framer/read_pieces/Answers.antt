@@ -1,3 +1,5 @@
+-- What was read so far was fed, so the framer, the sink and its output are those of these bytes; the loop ends at a
+-- fault, or when the reader has no byte.
 use Rattle.rtcm_scan.proofs.Names.{◌∙◌, ap, arith, refl, sym, true≢false, length, take, Consumes-kept, one_more}
 use Rattle.rtcm_scan.proofs.ReadLemmas.{not_read, reading_more, reads_none, reads_more, fault_after, breaks_first}
 use Rattle.rtcm_scan.proofs.framer.Framer.read_pieces.Goals as goal

@@ -1,3 +1,5 @@
+-- Dropping a byte that begins no frame keeps the history and the counts. When the loop is left without a frame, none
+-- of the held bytes is decided, fewer than the longest frame are held, and the framer is marked as drained.
 use Rattle.rtcm_scan.proofs.Names.{List, ℕ, true, ◌≡◌, ◌-◌, ◌<◌, ap, ◌∙◌, length, refl, arith, length-drop, FramerValue, passed, Framed, HasFramed, HasExamined, IsDrained, IsCountedExactly}
 use Rattle.rtcm_scan.proofs.DecisionLemmas.{from_found, from_passed, from_open, open_bound}
 use Rattle.rtcm_scan.proofs.NextLemmas.{step_passed, counts_passed, found_begins, found_counts, finish_empty, finish_open, counts_empty, counts_open}

@@ -1,3 +1,5 @@
+-- The frames that the bytes so far decide were passed on before more bytes are pushed, up to the limit of the
+-- framer.
 use Rattle.rtcm_scan.proofs.Names.{◌≡◌, ◌≤◌, ◌+◌, ◌∙◌, ap, sym, subst, refl, add-zero, arith, ℕ, length, slice_range, take, FramerValue}
 use Rattle.rtcm_scan.proofs.PassingLemmas.{at_limit, continues_most, continues_same, continues_block, part_none, part_drained, part_pushed, part_breaks}
 use Rattle.rtcm_scan.proofs.framer.Framer.take_piece.Goals as goal

@@ -1,3 +1,5 @@
+-- A line is a row of types, the end of the header, or one of the other rows, each in its place; what is known goes
+-- on by it.
 use Rattle.rinex_file.proofs.HeaderRows.End.{ends, no_end_line}
 use Rattle.rinex_file.proofs.HeaderRows.Read.{begun_here, line_types, none_taken, rows_there}
 use Rattle.rinex_file.proofs.HeaderRows.Steps.{step_at, steps_from, none_at, none_from, types_few, place_at}

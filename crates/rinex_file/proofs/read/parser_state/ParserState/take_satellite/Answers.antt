@@ -1,3 +1,5 @@
+-- The line is refused unless it is the text of a row whose rank rises. One row more keeps the history of the file;
+-- with the last one expected, the epoch is complete, and its counts, times and station values go on.
 use Rattle.std.specs.Option.{is_some}
 use Rattle.rinex_file.proofs.Reading.Epochs.{rise_after, rise_last, values_more, row_taken, row_shows, last_shows, no_row, bad_row, last_taken, sound_open, few_at, sound_row, sound_closed}
 use Rattle.rinex_file.proofs.FewRows.{some_rank}

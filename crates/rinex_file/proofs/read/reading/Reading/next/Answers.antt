@@ -1,3 +1,5 @@
+-- What the next line is decides the end of the step: the end of the input, a line that is too long, or a line that
+-- the parser takes or refuses. The lines taken so far go on by one.
 use Rattle.rinex_file.proofs.FileLines.{lines_are_lines}
 use Rattle.rinex_file.proofs.Judged.{refused as judged}
 use Rattle.rinex_file.proofs.Reading.Header.{unfinished, file_shown, only_file, file_read, sound_rows, begun, expected_at}
