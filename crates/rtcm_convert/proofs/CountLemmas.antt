@@ -1,7 +1,6 @@
 -- Each frame is counted once.
-use Rattle.std.proofs.Common.{◌≡◌, ℕ, ◌+◌, List, [], ◌∷◌, ◌++◌, Bool, false, refl, ◌∙◌, arith, length, Option, Some, None}
 use Rattle.rtcm_convert.proofs.ExactLemmas.{outcomes_length}
-use Rattle.rtcm_convert.proofs.Names.{sum_by, option_map, sum_by-cons, Framed, frames_of, Kind, GatherSetup, Heard, is_close_first, kind_of, SetupValue, messages_of, heard_in, outcomes, outcomes_after, tally_of_one, report_of, IsCountedOnce, Report}
+use Rattle.rtcm_convert.proofs.Names.{◌≡◌, ℕ, ◌+◌, List, [], ◌∷◌, ◌++◌, Bool, false, refl, ◌∙◌, arith, length, Option, Some, None, sum_by, option_map, sum_by-cons, Framed, frames_of, Kind, GatherSetup, Heard, is_close_first, kind_of, SetupValue, messages_of, heard_in, outcomes, outcomes_after, tally_of_one, report_of, IsCountedOnce, Report}
 use Rattle.obs_epoch.specs.declared.taken.Kind.TheVariants as kind
 
 -- the outcome that no frame has

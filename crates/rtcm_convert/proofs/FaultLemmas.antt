@@ -1,6 +1,5 @@
 -- The faults of a call, by the results that it never has.
-use Rattle.std.proofs.Common.{◌≡◌, ◌≤◌, ℕ, max, Bool, true, false, List, [], refl, sym, ap, subst, ◌∙◌, arith, inl, inr, Result, Ok, Err, IfErr}
-use Rattle.rtcm_convert.proofs.Names.{false≢true, IsErrOf, OnErr, OnOk, Device, HasFailed, FailsToWrite, longest_frame, IsSentAtFault, WriterFailures, ReaderFailures, FailsWithReader, FailsWithWriter, IsSentAfter, IsSetupFault, IsFeedFault, IsFinishFault, IsPiecesFault, IsRunFault, Report, Fault, BadSetup, Memory, Read, TooLong, Write, NoEpoch, ⊤}
+use Rattle.rtcm_convert.proofs.Names.{◌≡◌, ◌≤◌, ℕ, max, Bool, true, false, List, [], refl, sym, ap, subst, ◌∙◌, arith, inl, inr, Result, Ok, Err, IfErr, false≢true, IsErrOf, OnErr, OnOk, Device, HasFailed, FailsToWrite, longest_frame, IsSentAtFault, WriterFailures, ReaderFailures, FailsWithReader, FailsWithWriter, IsSentAfter, IsSetupFault, IsFeedFault, IsFinishFault, IsPiecesFault, IsRunFault, Report, Fault, BadSetup, Memory, Read, TooLong, Write, NoEpoch, ⊤}
 
 abbrev pub of_setup : Fault → Bool
 of_setup BadSetup = true

@@ -1,6 +1,5 @@
 -- What a converter holds.
-use Rattle.std.proofs.Common.{◌≡◌, ℕ, List, [], ◌∷◌, true, refl, sym, ap, ◌∙◌, Option, None}
-use Rattle.rtcm_convert.proofs.Names.{map, length, if◌then◌else◌, frames_of, Closed, GatherSetup, Heard, timed, times, closed_times, closed_so_far, GathererValue, locked_in, firsts, HasGatheredEpochs, is_done, closed_list_at, SetupValue, messages_of, locks_at, locks_in_all, Conversion, HasFinished}
+use Rattle.rtcm_convert.proofs.Names.{◌≡◌, ℕ, List, [], ◌∷◌, true, refl, sym, ap, ◌∙◌, Option, None, map, length, if◌then◌else◌, frames_of, Closed, GatherSetup, Heard, timed, times, closed_times, closed_so_far, GathererValue, locked_in, firsts, HasGatheredEpochs, is_done, closed_list_at, SetupValue, messages_of, locks_at, locks_in_all, Conversion, HasFinished}
 
 -- the times of the epochs of these times
 times_back : (s : GatherSetup) (ms : List Heard) (ts : List ℕ) → map (λ (c : Closed). c.epoch.time) (closed_list_at s ms ts) ≡ ts

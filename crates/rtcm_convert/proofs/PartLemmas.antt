@@ -1,6 +1,5 @@
 -- Bytes that are written one part after the other.
-use Rattle.std.proofs.Common.{◌≡◌, ℕ, List, [], ◌++◌, sym, ap, ◌∙◌, Option, None, Some, refl, subst, Err, append_assoc, append-nil}
-use Rattle.rtcm_convert.proofs.Names.{IsErrOf, Appends, Keeps, append_cancel_left, Appends-trans, Appends-nil, Appends-kept, AppendsPrefix, IsPrefix, AppendsBetween, AppendsPrefixBetween, AppendsUpTo}
+use Rattle.rtcm_convert.proofs.Names.{◌≡◌, ℕ, List, [], ◌++◌, sym, ap, ◌∙◌, Option, None, Some, refl, subst, Err, append_assoc, append-nil, IsErrOf, Appends, Keeps, append_cancel_left, Appends-trans, Appends-nil, Appends-kept, AppendsPrefix, IsPrefix, AppendsBetween, AppendsPrefixBetween, AppendsUpTo}
 
 pub prefix_more : (a b : Option (List ℕ)) (x y : List ℕ) → AppendsPrefix a b x → AppendsPrefix a b (x ++ y)
 prefix_more a b x y p = (p.0 ++ y, (p.1.0, ap (λ l. l ++ y) p.1.1 ∙ append_assoc p.1.0 p.0 y, p.1.2))

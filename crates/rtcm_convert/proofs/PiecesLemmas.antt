@@ -1,8 +1,7 @@
 -- Pieces that a converter accepts up to the end of its stream.
-use Rattle.std.proofs.Common.{◌≡◌, ℕ, ◌+◌, ◌<◌, ◌≤◌, inl, inr, List, [], ◌∷◌, ◌++◌, sym, ap, subst, ◌∙◌, arith, Option, Result, Ok, Err, IfOk, append-nil, append_assoc, length, length-append, take, drop, get_or}
 use Rattle.rtcm_convert.proofs.PartLemmas.{goes_on-trans}
 use Rattle.rtcm_convert.proofs.RunLemmas.{completed_after, empty_after}
-use Rattle.rtcm_convert.proofs.Names.{IsErrOf, flat_map, Vec, take_more, take-append-drop, take-append-le, flat_map-append, take-length, joined_pieces, SetupValue, AppendsDecided, AppendsPrefixOfDecided, Conversion, HasConverted, TakesPiece, CutsAtLimit, WritesPrefixOfAdded, StopsAtEnd, FinishesNow, FinishesEmptyNow, CompletesFile, CompletesEmptyFile, FailsAtEnd, StopsInPieces, IsFeedFault, Fault, NoEpoch, Report}
+use Rattle.rtcm_convert.proofs.Names.{◌≡◌, ℕ, ◌+◌, ◌<◌, ◌≤◌, inl, inr, List, [], ◌∷◌, ◌++◌, sym, ap, subst, ◌∙◌, arith, Option, Result, Ok, Err, IfOk, append-nil, append_assoc, length, length-append, take, drop, get_or, IsErrOf, flat_map, Vec, take_more, take-append-drop, take-append-le, flat_map-append, take-length, joined_pieces, SetupValue, AppendsDecided, AppendsPrefixOfDecided, Conversion, HasConverted, TakesPiece, CutsAtLimit, WritesPrefixOfAdded, StopsAtEnd, FinishesNow, FinishesEmptyNow, CompletesFile, CompletesEmptyFile, FailsAtEnd, StopsInPieces, IsFeedFault, Fault, NoEpoch, Report}
 
 -- ---- the first pieces
 

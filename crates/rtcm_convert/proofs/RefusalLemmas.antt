@@ -1,6 +1,5 @@
 -- A call that is refused, and one that isn't.
-use Rattle.std.proofs.Common.{◌≡◌, ◌≤◌, ◌+◌, ℕ, max, Bool, true, false, List, refl, sym, ap, subst, ◌∙◌, arith, Option, Some, None, IfSome, Err}
-use Rattle.rtcm_convert.proofs.Names.{false≢true, IsErrOf, ⊤, if◌then◌else◌, Device, longest_frame, Conversion, IsGoing, refusal, IsSentAtFault, WriterFailures, ReaderFailures, Fault, Failed, Finished}
+use Rattle.rtcm_convert.proofs.Names.{◌≡◌, ◌≤◌, ◌+◌, ℕ, max, Bool, true, false, List, refl, sym, ap, subst, ◌∙◌, arith, Option, Some, None, IfSome, Err, false≢true, IsErrOf, ⊤, if◌then◌else◌, Device, longest_frame, Conversion, IsGoing, refusal, IsSentAtFault, WriterFailures, ReaderFailures, Fault, Failed, Finished}
 
 abbrev pub of_refusal : Fault → Bool
 of_refusal Failed = true

@@ -1,9 +1,8 @@
 -- A stream that is read to its end.
-use Rattle.std.proofs.Common.{◌≡◌, ℕ, List, ◌++◌, sym, ap, subst, ◌∙◌, Option, append_assoc, length, ◌+◌, ◌<◌, refl, Bool, true, false, true≢false, None, Some, arith, length-append, Result, Ok, Err, IfOk}
 use Rattle.rtcm_convert.proofs.FeedLemmas.{with_flags, fed_whole, fed_long}
 use Rattle.rtcm_convert.proofs.PartLemmas.{goes_on-trans, up_to_earlier, up_to_later}
 use Rattle.rtcm_convert.proofs.StreamLemmas.{passed_here, piece_whole, so_far-front}
-use Rattle.rtcm_convert.proofs.Names.{IfSome, if◌then◌else◌, Consumes, IsAtEnd, Consumes-whole, Device, HasFailed, IsPrefix, decided_frames, Framed, known_frames, PassesToLimit, BreaksAfter, Reads, ReadsOn, FramerValue, SetupValue, so_far, AppendsUpTo, FiledGrows, FileWriter, Report, AppendsDecided, AppendsPrefixOfRest, BreaksFiling, Files, HasDrainedSome, Conversion, KeepsNow, IsGoing, refusal, HasConverted, TakesFromReader, IsPastLimit, CutsAtLimit, RanToFault, RanToLimit, Completed, CompletedEmpty, FinishesNow, FinishesEmptyNow, CompletesFile, CompletesEmptyFile, FailsFeeding, FailsFinishing, Failed, Finished}
+use Rattle.rtcm_convert.proofs.Names.{◌≡◌, ℕ, List, ◌++◌, sym, ap, subst, ◌∙◌, Option, append_assoc, length, ◌+◌, ◌<◌, refl, Bool, true, false, true≢false, None, Some, arith, length-append, Result, Ok, Err, IfOk, IfSome, if◌then◌else◌, Consumes, IsAtEnd, Consumes-whole, Device, HasFailed, IsPrefix, decided_frames, Framed, known_frames, PassesToLimit, BreaksAfter, Reads, ReadsOn, FramerValue, SetupValue, so_far, AppendsUpTo, FiledGrows, FileWriter, Report, AppendsDecided, AppendsPrefixOfRest, BreaksFiling, Files, HasDrainedSome, Conversion, KeepsNow, IsGoing, refusal, HasConverted, TakesFromReader, IsPastLimit, CutsAtLimit, RanToFault, RanToLimit, Completed, CompletedEmpty, FinishesNow, FinishesEmptyNow, CompletesFile, CompletesEmptyFile, FailsFeeding, FailsFinishing, Failed, Finished}
 
 flags : (ended failed : Bool) → None ≡ (if ended then Some Finished else if failed then Some Failed else None) → (failed ≡ false) × (ended ≡ false)
 flags true failed e = absurd cc

@@ -1,8 +1,7 @@
 -- One message passed to the gatherer, and what it adds to the file.
-use Rattle.std.proofs.Common.{◌≡◌, ℕ, List, [], ◌∷◌, ◌++◌, Bool, true, false, append-nil, sym, ap, subst, ◌∙◌, Option, Some, None, inl, inr}
 use Rattle.rtcm_convert.proofs.PartLemmas.{goes_on-by, breaks_off-by, breaks_off-before}
 use Rattle.rtcm_convert.proofs.TextLemmas.{last, text-closed, count-closed, last-closed, text-more}
-use Rattle.rtcm_convert.proofs.Names.{option_to_list, Appends, cases_Bool, AppendsPrefix, IsPrefix, Kind, Closed, GatherSetup, Heard, is_close_first, GathererValue, HasGatheredEpochs, IsAwaited, closed_by, closed_in, plan_in, closed_epochs, known_epochs, SetupValue, text_with, AppendsBetween, AppendsPrefixBetween, added, epochs_after, values_after, HasFiledEpochs, FileWriter}
+use Rattle.rtcm_convert.proofs.Names.{◌≡◌, ℕ, List, [], ◌∷◌, ◌++◌, Bool, true, false, append-nil, sym, ap, subst, ◌∙◌, Option, Some, None, inl, inr, option_to_list, Appends, cases_Bool, AppendsPrefix, IsPrefix, Kind, Closed, GatherSetup, Heard, is_close_first, GathererValue, HasGatheredEpochs, IsAwaited, closed_by, closed_in, plan_in, closed_epochs, known_epochs, SetupValue, text_with, AppendsBetween, AppendsPrefixBetween, added, epochs_after, values_after, HasFiledEpochs, FileWriter}
 
 -- the contract of the gatherer for a message that was passed to it
 pub record Took (old new : GathererValue) (kind : Kind) (m : Heard) : Type 0 where

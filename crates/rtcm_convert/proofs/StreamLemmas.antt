@@ -1,7 +1,6 @@
 -- The file writer as a sink of frames, and a piece of a stream.
-use Rattle.std.proofs.Common.{◌≡◌, ℕ, List, [], ◌∷◌, ◌++◌, ◌+◌, ◌-◌, ◌≤◌, Bool, false, refl, sym, ap, subst, suc, arith, length, take, ◌∙◌, Option}
 use Rattle.rtcm_convert.proofs.PartLemmas.{goes_on-refl, goes_on-trans, goes_on-kept, goes_on-front, breaks_off-before, up_to_whole}
-use Rattle.rtcm_convert.proofs.Names.{Keeps, Device, HasFailed, IsPrefix, Framed, decided_frames, known_frames, Passes, Breaks, HasPassedAll, up_to_limit, FramerValue, SetupValue, so_far, AppendsBetween, AppendsPrefixBetween, FiledGrows, TakesFrame, BreaksInFrame, Drained, HasDrained, HasDrainedSome, Files, BreaksFiling, AppendsDecided, AppendsPrefixOfDecided, FileWriter}
+use Rattle.rtcm_convert.proofs.Names.{◌≡◌, ℕ, List, [], ◌∷◌, ◌++◌, ◌+◌, ◌-◌, ◌≤◌, Bool, false, refl, sym, ap, subst, suc, arith, length, take, ◌∙◌, Option, Keeps, Device, HasFailed, IsPrefix, Framed, decided_frames, known_frames, Passes, Breaks, HasPassedAll, up_to_limit, FramerValue, SetupValue, so_far, AppendsBetween, AppendsPrefixBetween, FiledGrows, TakesFrame, BreaksInFrame, Drained, HasDrained, HasDrainedSome, Files, BreaksFiling, AppendsDecided, AppendsPrefixOfDecided, FileWriter}
 
 pub so_far-front : FiledGrows → (s : SetupValue) (fs gs : List Framed) → IsPrefix fs gs → IsPrefix (so_far s fs) (so_far s gs)
 so_far-front grows s fs gs p = subst (λ (l : List Framed). IsPrefix (so_far s fs) (so_far s l)) (sym p.1) (grows s fs p.0)

@@ -1,10 +1,9 @@
 -- A message and a frame that are processed whole.
-use Rattle.std.proofs.Common.{◌≡◌, ℕ, List, [], ◌∷◌, ◌++◌, true, false, refl, sym, ap, subst, ◌∙◌, Option, Some, None, Result, Ok, Err, IfOk, OnOk, append-nil, append_assoc, ◌+◌, arith}
 use Rattle.rtcm_convert.proofs.PartLemmas.{goes_on-refl, goes_on-trans, breaks_off-after, breaks_off-by}
 use Rattle.rtcm_convert.proofs.TextLemmas.{cap_more, count, last, text-closed}
 use Rattle.rtcm_convert.proofs.ExactLemmas.{few_more, message_few, refused_few}
 use Rattle.rtcm_convert.proofs.StepLemmas.{Wrote, wrote_all, part_of}
-use Rattle.rtcm_convert.proofs.Names.{sum_by, common_steps, filter_map-append, sum_by-append, AppendsPrefix, Framed, Message, MsgFault, message_at, IsMessage, Kind, Closed, GatherSetup, Heard, heard, is_close_first, kind_of, GathererValue, HasGatheredEpochs, IsAwaited, closed_by, closed_in, plan_in, closed_epochs, all_epochs, known_epochs, SetupValue, text_with, so_far, file, messages_of, heard_in, outcome, outcomes, outcomes_after, capped, capped_tally, tallies_added, sum_of_counts, tally_of, tally_of_one, IsFew, AreFew, AppendsBetween, AppendsPrefixBetween, added, HasFiledEpochs, Settled, HasFiledFrames, EndsFile, Report, FileWriter}
+use Rattle.rtcm_convert.proofs.Names.{◌≡◌, ℕ, List, [], ◌∷◌, ◌++◌, true, false, refl, sym, ap, subst, ◌∙◌, Option, Some, None, Result, Ok, Err, IfOk, OnOk, append-nil, append_assoc, ◌+◌, arith, sum_by, common_steps, filter_map-append, sum_by-append, AppendsPrefix, Framed, Message, MsgFault, message_at, IsMessage, Kind, Closed, GatherSetup, Heard, heard, is_close_first, kind_of, GathererValue, HasGatheredEpochs, IsAwaited, closed_by, closed_in, plan_in, closed_epochs, all_epochs, known_epochs, SetupValue, text_with, so_far, file, messages_of, heard_in, outcome, outcomes, outcomes_after, capped, capped_tally, tallies_added, sum_of_counts, tally_of, tally_of_one, IsFew, AreFew, AppendsBetween, AppendsPrefixBetween, added, HasFiledEpochs, Settled, HasFiledFrames, EndsFile, Report, FileWriter}
 
 -- the epochs written after these, and their text
 abbrev pub Written : FileWriter → SetupValue → List Heard → Option Heard → Option (List ℕ) → Option (List ℕ) → List Closed → Type 0

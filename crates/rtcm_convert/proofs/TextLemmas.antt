@@ -1,7 +1,6 @@
 -- The text of a file, epoch by epoch.
-use Rattle.std.proofs.Common.{◌≡◌, ℕ, List, [], ◌∷◌, ◌++◌, Bool, true, false, refl, sym, ap, subst, ◌∙◌, arith, Option, Some, None, append_assoc, append-nil, nat_lt, length, length-append, ◌+◌}
 use Rattle.rtcm_convert.proofs.PartLemmas.{prefix_more, prefix_after}
-use Rattle.rtcm_convert.proofs.Names.{◌==◌, if◌then◌else◌, int_eq_equiv, filter-append, filter_map-append, Appends, AppendsPrefix, Framed, IsPrefix, PlanValue, EpochValue, Closed, same_values, satellites_written, StationValues, GatherSetup, Heard, closed_epochs, all_epochs, closed_by, HeaderLists, header_text, epoch_text, event_text, change_text, closed_text, file_text, gathered, SetupValue, messages_of, written_epochs, text_of_epochs, text_with, so_far, file, capped, opening, added, epochs_after, values_after, values_following_closed, last_values}
+use Rattle.rtcm_convert.proofs.Names.{◌≡◌, ℕ, List, [], ◌∷◌, ◌++◌, Bool, true, false, refl, sym, ap, subst, ◌∙◌, arith, Option, Some, None, append_assoc, append-nil, nat_lt, length, length-append, ◌+◌, ◌==◌, if◌then◌else◌, int_eq_equiv, filter-append, filter_map-append, Appends, AppendsPrefix, Framed, IsPrefix, PlanValue, EpochValue, Closed, same_values, satellites_written, StationValues, GatherSetup, Heard, closed_epochs, all_epochs, closed_by, HeaderLists, header_text, epoch_text, event_text, change_text, closed_text, file_text, gathered, SetupValue, messages_of, written_epochs, text_of_epochs, text_with, so_far, file, capped, opening, added, epochs_after, values_after, values_following_closed, last_values}
 
 -- a capped count that is increased
 pub cap_more : (n k : ℕ) → capped (capped n + k) ≡ capped (n + k)

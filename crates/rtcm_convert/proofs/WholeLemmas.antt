@@ -1,6 +1,5 @@
 -- Whole streams.
-use Rattle.std.proofs.Common.{◌≡◌, ℕ, ◌+◌, ◌<◌, ◌≤◌, ◌⊎◌, inl, inr, refl, List, [], ◌++◌, sym, ap, subst, ◌∙◌, arith, Option, Some, None, Result, Ok, Err, IfOk, length, take}
-use Rattle.rtcm_convert.proofs.Names.{IfSome, Vec, Appends, Consumes, Appends-trans, frames_of, decided_frames, SetupValue, so_far, file, epochs_in, AppendsBetween, AppendsPrefixBetween, NothingYet, AppendsDecided, Start, start_value, HasValue, IsMade, IsMadeEmpty, IsMadeWith, IsMadeToLimit, AreMadeToLimit, StopsInPieces, IsBetween, IsBetweenDecidedAndWhole, IsBroken, FailedWriting, FailedWritingAtEnd, BrokeInPieces, joined_pieces, of_first, Conversion, HasConverted, WritesAdded, CutsAtLimit, IsPastLimit, Completed, CompletedEmpty, CompletesFile, CompletesEmptyFile, FailsAtPiece, FailsAtEnd, RanToLimit, FailsFeeding, FailsFinishing, Report}
+use Rattle.rtcm_convert.proofs.Names.{◌≡◌, ℕ, ◌+◌, ◌<◌, ◌≤◌, ◌⊎◌, inl, inr, refl, List, [], ◌++◌, sym, ap, subst, ◌∙◌, arith, Option, Some, None, Result, Ok, Err, IfOk, length, take, IfSome, Vec, Appends, Consumes, Appends-trans, frames_of, decided_frames, SetupValue, so_far, file, epochs_in, AppendsBetween, AppendsPrefixBetween, NothingYet, AppendsDecided, Start, start_value, HasValue, IsMade, IsMadeEmpty, IsMadeWith, IsMadeToLimit, AreMadeToLimit, StopsInPieces, IsBetween, IsBetweenDecidedAndWhole, IsBroken, FailedWriting, FailedWritingAtEnd, BrokeInPieces, joined_pieces, of_first, Conversion, HasConverted, WritesAdded, CutsAtLimit, IsPastLimit, Completed, CompletedEmpty, CompletesFile, CompletesEmptyFile, FailsAtPiece, FailsAtEnd, RanToLimit, FailsFeeding, FailsFinishing, Report}
 
 pub from_nothing : NothingYet → (a b : Option (List ℕ)) (s : SetupValue) (y : List ℕ) → AppendsBetween a b (so_far s (decided_frames [])) y → Appends a b y
 from_nothing nothing a b s y g =

@@ -1,7 +1,6 @@
-use Rattle.std.proofs.Common.{◌∙◌, ℕ, refl, subst}
 use Rattle.rtcm_convert.proofs.EndLemmas.{ended, ended_part, ended_fine, drain_part, drain_failed}
 use Rattle.rtcm_convert.proofs.StreamLemmas.{passed_here}
-use Rattle.rtcm_convert.proofs.Names.{on_ok_weaker, on_err_weaker, HasFailed}
+use Rattle.rtcm_convert.proofs.Names.{◌∙◌, ℕ, refl, subst, on_ok_weaker, on_err_weaker, HasFailed}
 use Rattle.rtcm_convert.proofs.stream.end_stream.Goals as goal
 
 pub returns-in-Ok : goal.returns-in-Ok

@@ -1,8 +1,7 @@
-use Rattle.std.proofs.Common.{Some, refl}
 use Rattle.rtcm_convert.proofs.FaultLemmas.{of_pieces, pieces_known, never, not_of_setup, not_err, setup_only, setup_sent, setup_writer}
 use Rattle.rtcm_convert.proofs.PartLemmas.{same_fault}
 use Rattle.rtcm_convert.proofs.WholeLemmas.{run_made, run_empty, pieces_cut, pieces_failed}
-use Rattle.rtcm_convert.proofs.Names.{no_values, LeftBy, IsPiecesFault, BadSetup, Read, TooLong, Write, NoEpoch, Failed, Finished, joined_pieces, setup_value, start_zero}
+use Rattle.rtcm_convert.proofs.Names.{Some, refl, no_values, LeftBy, IsPiecesFault, BadSetup, Read, TooLong, Write, NoEpoch, Failed, Finished, joined_pieces, setup_value, start_zero}
 use Rattle.rtcm_convert.proofs.whole.convert_pieces.Goals as goal
 
 pub returns-in-Ok : goal.returns-in-Ok

@@ -1,8 +1,7 @@
-use Rattle.std.proofs.Common.{refl}
 use Rattle.rtcm_convert.proofs.FaultLemmas.{of_run, run_known, never, not_of_setup, not_err, setup_only, setup_sent, setup_reader, setup_writer}
 use Rattle.rtcm_convert.proofs.PartLemmas.{same_fault}
 use Rattle.rtcm_convert.proofs.WholeLemmas.{run_made, run_empty, run_read, run_long, run_write}
-use Rattle.rtcm_convert.proofs.Names.{LeftBy, IsRunFault, BadSetup, Read, TooLong, Write, NoEpoch, Failed, Finished, start_value, start_at}
+use Rattle.rtcm_convert.proofs.Names.{refl, LeftBy, IsRunFault, BadSetup, Read, TooLong, Write, NoEpoch, Failed, Finished, start_value, start_at}
 use Rattle.rtcm_convert.proofs.whole.convert_stream_with.Goals as goal
 
 pub returns-in-Ok : goal.returns-in-Ok

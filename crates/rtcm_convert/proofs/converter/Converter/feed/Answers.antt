@@ -1,12 +1,11 @@
 -- Each end of a feed: refused at once, fed, or stopped by TooLong or the file's writer, with the record of what was
 -- made, for a value of the converter with its parts inside.
-use Rattle.std.proofs.Common.{ℕ, ◌≤◌, ◌+◌, ◌∙◌, ap, sym, subst, refl, inl, inr, length, true}
 use Rattle.rtcm_convert.proofs.FaultLemmas.{unlike, not_err}
 use Rattle.rtcm_convert.proofs.RefusalLemmas.{refused_going, refused_is, refused_only, refused_sent, refused_writer, not_refused, none_taken}
 use Rattle.rtcm_convert.proofs.FeedLemmas.{with_flags, long_of, sink_of, fed_whole, fed_fit, failed_fit, fed_long, fed_part}
 use Rattle.rtcm_convert.proofs.RunLemmas.{going_on}
 use Rattle.rtcm_convert.proofs.StreamLemmas.{piece_fine, piece_failed}
-use Rattle.rtcm_convert.proofs.Names.{TooLong, Write, up_to_limit, Conversion, CutsAtLimit, IsGoing, false≢true, TakesPiece, WritesPrefixOfAdded}
+use Rattle.rtcm_convert.proofs.Names.{ℕ, ◌≤◌, ◌+◌, ◌∙◌, ap, sym, subst, refl, inl, inr, length, true, TooLong, Write, up_to_limit, Conversion, CutsAtLimit, IsGoing, false≢true, TakesPiece, WritesPrefixOfAdded}
 use Rattle.rtcm_convert.proofs.converter.Converter.feed.Goals as goal
 
 pub returns-in-Some : goal.returns-in-Some

@@ -1,9 +1,8 @@
-use Rattle.std.proofs.Common.{◌∙◌, IfOk, ap, subst, sym, refl, true, inl, inr}
 use Rattle.rtcm_convert.proofs.FaultLemmas.{unlike, on_no_epoch, no_epoch_of, no_epoch_only, no_epoch_sent, ok_always}
 use Rattle.rtcm_convert.proofs.FeedLemmas.{with_flags, failed_fit, ended_fit, finishes_with, finishes_empty}
 use Rattle.rtcm_convert.proofs.RefusalLemmas.{refused_going, refused_is, refused_only, refused_sent, refused_writer, not_refused}
 use Rattle.rtcm_convert.proofs.RunLemmas.{going_on}
-use Rattle.rtcm_convert.proofs.Names.{Conversion, IsGoing, FinishesEmptyNow, FinishesNow, StopsAtEnd, LeftBy, IsFinishFault, WriterFailures, Write, NoEpoch}
+use Rattle.rtcm_convert.proofs.Names.{◌∙◌, IfOk, ap, subst, sym, refl, true, inl, inr, Conversion, IsGoing, FinishesEmptyNow, FinishesNow, StopsAtEnd, LeftBy, IsFinishFault, WriterFailures, Write, NoEpoch}
 use Rattle.rtcm_convert.proofs.converter.Converter.finish.Goals as goal
 
 pub returns-in-Some : goal.returns-in-Some

@@ -1,12 +1,11 @@
 -- Each end of a run: refused at once, finished, or stopped by Read, TooLong or the file's writer, with the record of
 -- what was made, for a value of the converter with its parts inside.
-use Rattle.std.proofs.Common.{◌∙◌, IfOk, ap, sym, subst, refl, inl, inr, true}
 use Rattle.rtcm_convert.proofs.FaultLemmas.{unlike, never, of_finish, finish_known, sent_finished, finish_reader, left_as, writer_after}
 use Rattle.rtcm_convert.proofs.FeedLemmas.{with_flags, read_of, long_of, sink_of, fed_fit, failed_fit}
 use Rattle.rtcm_convert.proofs.RefusalLemmas.{refused_going, refused_is, refused_only, refused_sent, refused_writer, refused_reader, not_refused}
 use Rattle.rtcm_convert.proofs.RunLemmas.{going_on, ran_whole, ran_empty, run_finishing, rest_taken, rest_faulty, rest_long, rest_part, rest_device}
 use Rattle.rtcm_convert.proofs.StreamLemmas.{piece_fine}
-use Rattle.rtcm_convert.proofs.Names.{up_to_limit, CompletesEmptyFile, CompletesFile, Conversion, FailsFeeding, FailsFinishing, IfSome, RanToFault, RanToLimit, IsGoing, LeftBy, IsFinishFault, IsRunFault, NoEpoch, TooLong, Read, Write}
+use Rattle.rtcm_convert.proofs.Names.{◌∙◌, IfOk, ap, sym, subst, refl, inl, inr, true, up_to_limit, CompletesEmptyFile, CompletesFile, Conversion, FailsFeeding, FailsFinishing, IfSome, RanToFault, RanToLimit, IsGoing, LeftBy, IsFinishFault, IsRunFault, NoEpoch, TooLong, Read, Write}
 use Rattle.rtcm_convert.proofs.converter.Converter.run.Goals as goal
 
 pub returns-in-Some : goal.returns-in-Some

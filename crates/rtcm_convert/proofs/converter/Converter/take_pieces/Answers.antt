@@ -1,11 +1,10 @@
 -- Each piece that was fed keeps the record of what was made from the pieces so far; the loop ends at the first
 -- fault.
-use Rattle.std.proofs.Common.{◌∙◌, ap, refl, inr, Err}
 use Rattle.rtcm_convert.proofs.RefusalLemmas.{refused_going, refused_is, refused_only, refused_sent, refused_writer, not_refused}
 use Rattle.rtcm_convert.proofs.FaultLemmas.{never, of_finish, finish_known, sent_fed, sent_finished, writer_after, left_as, feed_pieces}
 use Rattle.rtcm_convert.proofs.PartLemmas.{same_fault}
 use Rattle.rtcm_convert.proofs.PiecesLemmas.{not_empty, taken_then, longer_by, pieces_more, pieces_all, pieces_rest, pieces_whole, pieces_empty, pieces_long, pieces_broke, pieces_broke_at_end}
-use Rattle.rtcm_convert.proofs.Names.{NoEpoch, TooLong, Write, LeftBy, IsFinishFault, IsPiecesFault, Report}
+use Rattle.rtcm_convert.proofs.Names.{◌∙◌, ap, refl, inr, Err, NoEpoch, TooLong, Write, LeftBy, IsFinishFault, IsPiecesFault, Report}
 use Rattle.rtcm_convert.proofs.converter.Converter.take_pieces.Goals as goal
 
 pub returns-in-Some : goal.returns-in-Some

@@ -1,6 +1,5 @@
-use Rattle.std.proofs.Common.{◌≡◌, ◌+◌, take, length}
 use Rattle.rtcm_convert.proofs.PiecesLemmas.{HasTaken}
-use Rattle.rtcm_convert.proofs.Names.{flat_map, IsGoing}
+use Rattle.rtcm_convert.proofs.Names.{◌≡◌, ◌+◌, take, length, flat_map, IsGoing}
 use Rattle.rtcm_convert.proofs.converter.Converter.take_pieces.Given as goal
 
 abbrev pub invariant-loop-piece : goal.invariant-loop-piece

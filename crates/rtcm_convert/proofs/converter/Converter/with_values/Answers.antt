@@ -1,8 +1,7 @@
 -- A setup that is refused has the fault of its first bad value; a new converter has examined, counted and written
 -- nothing.
-use Rattle.std.proofs.Common.{◌≡◌, ◌≤◌, ◌^◌, ℕ, List, [], subst, refl, sym, inl, inr, arith, true≢false, ap, Result, Ok, Err}
 use Rattle.rtcm_convert.proofs.converter.Converter.with_values.Goals.{then-setup-gt-MOST_BYTES-via-then-setup-gt-MOST_BYTES, then-setup-gt-MOST_BYTES-via-else-setup-gt-MOST_BYTES+then-not-fits_message}
-use Rattle.rtcm_convert.proofs.Names.{AreStationValues, Start, start_at, start_value, IsBadAt, IsBadStart, decided_frames, frames_before, IsDrained, HasExamined, IsCountedExactly, Framed, frames_of, frames_from, known_frames, new_scan, FramerValue, HasFiledFrames, HasDrained}
+use Rattle.rtcm_convert.proofs.Names.{◌≡◌, ◌≤◌, ◌^◌, ℕ, List, [], subst, refl, sym, inl, inr, arith, true≢false, ap, Result, Ok, Err, AreStationValues, Start, start_at, start_value, IsBadAt, IsBadStart, decided_frames, frames_before, IsDrained, HasExamined, IsCountedExactly, Framed, frames_of, frames_from, known_frames, new_scan, FramerValue, HasFiledFrames, HasDrained}
 use Rattle.rtcm_convert.proofs.converter.Converter.with_values.Goals as goal
 
 bad_start : (x : Start) → AreStationValues x.initial → x.setup.limit ≤ 2 ^ 48 → IsBadAt x → IsBadStart x.setup

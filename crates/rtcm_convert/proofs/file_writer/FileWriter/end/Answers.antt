@@ -1,7 +1,6 @@
-use Rattle.std.proofs.Common.{ℕ, ◌∙◌, ap, refl, subst}
 use Rattle.rtcm_convert.proofs.PartLemmas.{goes_on-kept, goes_on-front}
 use Rattle.rtcm_convert.proofs.TakeLemmas.{file_whole, file_part}
-use Rattle.rtcm_convert.proofs.Names.{GathererValue, HasFailed}
+use Rattle.rtcm_convert.proofs.Names.{ℕ, ◌∙◌, ap, refl, subst, GathererValue, HasFailed}
 use Rattle.rtcm_convert.proofs.file_writer.FileWriter.end.Goals as goal
 
 pub returns-in-Err : goal.returns-in-Err

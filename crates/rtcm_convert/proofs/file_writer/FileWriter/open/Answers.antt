@@ -1,6 +1,5 @@
-use Rattle.std.proofs.Common.{◌∙◌, List, ℕ, sym, refl}
 use Rattle.rtcm_convert.proofs.TextLemmas.{opening_first, opening_later}
-use Rattle.rtcm_convert.proofs.Names.{OnErr, OnOk, Appends, Appends-nil, AppendsPrefix}
+use Rattle.rtcm_convert.proofs.Names.{◌∙◌, List, ℕ, sym, refl, OnErr, OnOk, Appends, Appends-nil, AppendsPrefix}
 use Rattle.rtcm_convert.proofs.file_writer.FileWriter.open.Goals as goal
 
 pub returns-in-None : goal.returns-in-None

@@ -1,6 +1,5 @@
-use Rattle.std.proofs.Common.{ap, refl, ◌∙◌}
 use Rattle.rtcm_convert.proofs.StepLemmas.{Took, Wrote, wrote_all, wrote_part}
-use Rattle.rtcm_convert.proofs.Names.{GathererValue, heard, viewed_message}
+use Rattle.rtcm_convert.proofs.Names.{ap, refl, ◌∙◌, GathererValue, heard, viewed_message}
 use Rattle.rtcm_convert.proofs.file_writer.FileWriter.step.Goals as goal
 
 pub returns-in-Err : goal.returns-in-Err

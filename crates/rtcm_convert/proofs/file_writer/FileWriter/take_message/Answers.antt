@@ -1,7 +1,6 @@
-use Rattle.std.proofs.Common.{◌∙◌, sym, None}
 use Rattle.rtcm_convert.proofs.FaultLemmas.{fails_after}
 use Rattle.rtcm_convert.proofs.TakeLemmas.{settle, taken_again, kind_again, part_alone, part_again}
-use Rattle.rtcm_convert.proofs.Names.{on_err_weaker, heard, viewed_message, closed_epochs}
+use Rattle.rtcm_convert.proofs.Names.{◌∙◌, sym, None, on_err_weaker, heard, viewed_message, closed_epochs}
 use Rattle.rtcm_convert.proofs.file_writer.FileWriter.take_message.Goals as goal
 
 pub returns-in-Err : goal.returns-in-Err

@@ -1,6 +1,5 @@
-use Rattle.std.proofs.Common.{ℕ, ◌∙◌, refl, sym, subst}
 use Rattle.rtcm_convert.proofs.TextLemmas.{open_lent, part_lent}
-use Rattle.rtcm_convert.proofs.Names.{HasFailed, closed_in}
+use Rattle.rtcm_convert.proofs.Names.{ℕ, ◌∙◌, refl, sym, subst, HasFailed, closed_in}
 use Rattle.rtcm_convert.proofs.file_writer.FileWriter.write_closed.Goals as goal
 
 pub returns-in-Err : goal.returns-in-Err

@@ -1,5 +1,4 @@
-use Rattle.std.proofs.Common.{sym, ap, refl, ◌∙◌}
-use Rattle.rtcm_convert.proofs.Names.{message_at, viewed_message, framed}
+use Rattle.rtcm_convert.proofs.Names.{sym, ap, refl, ◌∙◌, message_at, viewed_message, framed}
 use Rattle.rtcm_convert.proofs.StreamLemmas as sink
 use Rattle.rtcm_convert.proofs.TakeLemmas as writer
 use Rattle.rtcm_convert.proofs.stream.FileWriterFrameSinkCounted.take.Goals as goal
