@@ -2,7 +2,8 @@
 ghost use Rattle.std.specs.Prelude.{◌≡◌, ◌+◌, ◌≤◌, [], ◌∷◌, decimal, length};
 ghost use Rattle.gnss_obs.specs.Satellites.{letter};
 ghost use Rattle.rinex_file.specs.Texts.{field_name};
-ghost use Rattle.rtcm_inspect.specs.FaultWords.{file_words, header_words, inspection_words, named, plan_words, scan_word};
+ghost use Rattle.rtcm_inspect.specs.FaultWords.{file_words, header_words, inspection_words, named};
+ghost use Rattle.rtcm_inspect.specs.FaultWords.{plan_words, scan_word};
 ghost use Rattle.rtcm_inspect.specs.Lines.{with_words};
 
 use crate::fault::InspectFault;
@@ -11,8 +12,8 @@ use gnss_obs::{PlanFault, System};
 use rinex_file::{HeadFault, HeaderField, ReadFault};
 use rtcm_scan::ScanFault;
 
-/// Adds the fault of an inspection, with the number of the line or the numbers of the stations, if
-/// any.
+/// Adds the name of a fault of an inspection, with the number of the line or the numbers of the
+/// stations, if any.
 pub fn add_inspection_error(line: &mut OutputLine, fault: InspectFault)
     requires { length line.old ≤ 100 }
     ensures text { line.new ≡ with_words line.old (inspection_words fault) }
@@ -37,7 +38,7 @@ pub fn add_inspection_error(line: &mut OutputLine, fault: InspectFault)
     }
 }
 
-/// Adds a fault of the texts of the header, with the name of the text.
+/// Adds the name of a fault of the texts of the header, and that of the text.
 pub fn add_header_error(line: &mut OutputLine, fault: HeadFault)
     requires { length line.old ≤ 100 }
     ensures text { line.new ≡ with_words line.old (header_words fault) }
@@ -50,7 +51,8 @@ pub fn add_header_error(line: &mut OutputLine, fault: HeadFault)
     }
 }
 
-/// Adds a fault of the plan, with the letter of the system and the place of the code.
+/// Adds the name of a fault of the plan, with the letter of the system and the place of the code,
+/// counted from 0.
 pub fn add_plan_error(line: &mut OutputLine, fault: PlanFault)
     requires { length line.old ≤ 100 }
     ensures text { line.new ≡ with_words line.old (plan_words fault) }

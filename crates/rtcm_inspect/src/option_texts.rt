@@ -6,7 +6,8 @@ ghost use Rattle.rtcm_inspect.specs.Lengths.{length_below, length_of, number_of,
 
 use gnss_obs::{Civil, GpsTime, WEEK, WEEKS};
 
-/// Parses the number of a week, 0 to 99,999, or a date and returns the week that contains it.
+/// Returns the GPS week of a text: a number from 0 to 99,999, with or without a sign, or a GPS date
+/// `yyyy-mm-dd` in it. `None` for any other text.
 pub fn week_of(text: &str) -> Option<u32>
     ensures { MatchOption result ((n : ℕ) → ¬ IsWeekOf text.now n) (IsWeekOf text.now) }
 {
@@ -29,7 +30,8 @@ fn week_number(text: &str) -> Option<u32>
     }
 }
 
-/// Parses a date as `yyyy-mm-dd`, and returns this hour of it.
+/// Returns this hour of the GPS date `yyyy-mm-dd` in a text, from 1980-01-06 on and before week
+/// 100,000. `None` for any other text.
 pub fn hour_of(text: &str, hour: u8) -> Option<GpsTime>
     ensures { MatchOption result ((t : ℕ) → ¬ IsHourOf hour text.now t) (IsHourOf hour text.now) }
 {
@@ -81,7 +83,8 @@ fn fixed_number(text: &str, width: usize) -> Option<u64>
 
 // ---- lengths in metres, read from text in units of 0.0001 m
 
-/// Parses X, Y and Z, separated by commas.
+/// Returns X, Y and Z of a text in 0.0001 m, each of 38 bits (DF025 to DF027). They are separated
+/// by commas, in metres with up to eight digits and four decimals. `None` for any other text.
 pub fn position_of(text: &str) -> Option<(i64, i64, i64)>
     ensures { result ≡ position_of text.now }
 {
@@ -103,7 +106,8 @@ fn coordinate_of(text: &str) -> Option<i64>
     }
 }
 
-/// Parses a length below a bound, in units of 0.0001 m.
+/// Returns the length in a text in 0.0001 m, given in metres with up to eight digits and four
+/// decimals. `None` for any other text, and for a length that isn't below the bound.
 pub fn length_below(text: &str, bound: u64) -> Option<u64>
     ensures value { result ≡ length_below bound text.now }
     ensures below { IfSome result (λ n. n < bound) }
