@@ -40,9 +40,9 @@ row_split (w ∷ ws) n bits p i m =
       rest.2 ∙ rw (pow-add 2 w (total_width ws)) (joined m here (2 ^ w) t rest.0),
     )
 
-first_unpacked : (f : ℕ × FieldKind) (fs : Table) (n : ℕ) (bits : List Bool) (q i m : ℕ) (rest : Contents fs) → unpacked fs (row_at (widths fs) n bits (q + n * width f.1) i (m * 2 ^ width f.1 + field_at bits (q + i * width f.1) (width f.1))) ≡ rest → unpacked (f ∷ fs) (row_at (widths (f ∷ fs)) n bits q i m) ≡ (content f.1 (field_at bits (q + i * width f.1) (width f.1)), rest)
+first_unpacked : (f : ℕ × FieldKind) (fs : Table) (n : ℕ) (bits : List Bool) (q i m : ℕ) {rest : Contents fs} → unpacked fs (row_at (widths fs) n bits (q + n * width f.1) i (m * 2 ^ width f.1 + field_at bits (q + i * width f.1) (width f.1))) ≡ rest → unpacked (f ∷ fs) (row_at (widths (f ∷ fs)) n bits q i m) ≡ (content f.1 (field_at bits (q + i * width f.1) (width f.1)), rest)
 unfolding row_at
-first_unpacked f fs n bits q i m rest e =
+first_unpacked f fs n bits q i m e =
     let w = width f.1 in
     let here = field_at bits (q + i * w) w in
     let k = m * 2 ^ w + here in
@@ -57,9 +57,9 @@ next_place p n k w = grind arith
 unpacked_after : (t : Table) (n : ℕ) (bits : List Bool) (p k i m : ℕ) → unpacked t (row_at (widths t) n bits (p + n * k) i m) ≡ contents_after t n bits p k i
 unfolding row_at
 unpacked_after [] n bits p k i m = refl
-unpacked_after (f ∷ fs) n bits p k i m = first_unpacked f fs n bits (p + n * k) i m (contents_after fs n bits p (k + width f.1) i) (rw (next_place p n k (width f.1)) (unpacked_after fs n bits p (k + width f.1) i _))
+unpacked_after (f ∷ fs) n bits p k i m = first_unpacked f fs n bits (p + n * k) i m (rw (next_place p n k (width f.1)) (unpacked_after fs n bits p (k + width f.1) i _))
 
 pub unpacked_row : (t : Table) (n : ℕ) (bits : List Bool) (p i m : ℕ) → unpacked t (row_at (widths t) n bits p i m) ≡ contents_at t n bits p i
 unfolding row_at
 unpacked_row [] n bits p i m = refl
-unpacked_row (f ∷ fs) n bits p i m = first_unpacked f fs n bits p i m (contents_after fs n bits p (width f.1) i) (unpacked_after fs n bits p (width f.1) i _)
+unpacked_row (f ∷ fs) n bits p i m = first_unpacked f fs n bits p i m (unpacked_after fs n bits p (width f.1) i _)

@@ -144,12 +144,12 @@ data_end sw cw satellites cells bits place h = elim (columns_read sw satellites 
       let width = total-repeated satellites sw in
       elim (columns_read cw cells (replicate cells 0) bits next (length-replicate cells 0) one.2) [
         | inl few ↦ short few.0 (short_at_after (repeated satellites sw) (repeated cells cw) bits place few.0 (rw width one.2) (rw width few.2)) (λ f. rw (one.1, few.1) refl)
-        | inr two ↦ good one.0 (two.0, cursor_at bits (next + total_width cw * cells)) (room place (repeated satellites sw) (repeated cells cw) _ _ _ width (total-repeated cells cw) two.2) (λ f. rw (one.1, two.1) refl)
+        | inr two ↦ good one.0 (two.0, cursor_at bits (next + total_width cw * cells)) (room place (repeated satellites sw) (repeated cells cw) _ width (total-repeated cells cw) two.2) (λ f. rw (one.1, two.1) refl)
       ]
 ]
   where
-    room : (place : ℕ) (ws vs : List ℕ) (a b len : ℕ) → total_width ws ≡ a → total_width vs ≡ b → place + a + b ≤ len → place + total_width (ws ++ vs) ≤ len
-    room place ws vs a b len e f h = rw (total-append ws vs, e, f) (omega arith)
+    room : (place : ℕ) (ws vs : List ℕ) {a b : ℕ} (len : ℕ) → total_width ws ≡ a → total_width vs ≡ b → place + a + b ≤ len → place + total_width (ws ++ vs) ≤ len
+    room place ws vs len e f h = rw (total-append ws vs, e, f) (omega arith)
 
 abbrev header_widths : List ℕ
 header_widths = head_widths ++ tail_widths

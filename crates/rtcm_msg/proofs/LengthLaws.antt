@@ -33,16 +33,13 @@ msm_short sw cw number v few h =
     let satellites : length (columns sw v.satellites) ≤ total_width sw * 64 = rw (length-columns sw v.satellites, h.satellite_count) (mul-le (total_width sw) (count_ones v.sets.satellites) (total_width sw) 64 (omega arith) (ones-le 64 v.sets.satellites h.sets.satellites)) in
     let cells : length (columns cw v.cells) ≤ total_width cw * 64 = rw (length-columns cw v.cells, h.cell_count) (mul-le (total_width cw) (count_ones v.sets.cells) (total_width cw) 64 (omega arith) (few_cells p v.sets.cells h.sets.few (ones-le p v.sets.cells h.sets.cells))) in
     rw (length-append (field_bits (header_fields number v.header 0)) (field_bits (mask_fields v.sets) ++ (columns sw v.satellites ++ columns cw v.cells)), length-append (field_bits (mask_fields v.sets)) (columns sw v.satellites ++ columns cw v.cells), length-append (columns sw v.satellites) (columns cw v.cells), head, sets)
-    (sum p (length (columns sw v.satellites)) (length (columns cw v.cells)) (total_width sw) (total_width cw) h.sets.few satellites cells few)
+    (omega (arith, h.sets.few, satellites, cells, few))
   where
     wide : (p : ℕ) → 64 + (32 + (p + 0)) ≡ 96 + p
     wide p = omega arith
 
     few_cells : (p c : ℕ) → p ≤ 64 → count_ones c ≤ p → count_ones c ≤ 64
     few_cells p c h k = omega (arith, h, k)
-
-    sum : (p s c a b : ℕ) → p ≤ 64 → s ≤ a * 64 → c ≤ b * 64 → a + b ≤ 124 → 73 + (96 + p + (s + c)) ≤ 8184
-    sum p s c a b h i j k = omega arith
 
 pub message_short : (v : Message) → IsMessage v → length (message_bits v 0) ≤ 8184
 message_short (messages.Station s) h = rw (length-field_bits (station_fields s 0)) (by_height s.height)

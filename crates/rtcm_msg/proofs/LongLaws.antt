@@ -37,13 +37,6 @@ module _ (a b : List Bool) (long : 8184 ≤ length a) where
   few_more : has_too_many (a ++ b) ≡ has_too_many a
   few_more = rw (number_more, le_more 169 a b (omega (arith, long)), field_more a b 73 64 (omega (arith, long)), field_more a b 137 32 (omega (arith, long))) refl
 
--- The largest number of bits of a message.
-total_few : (s c p : ℕ) (sw cw : List ℕ) → total_width sw ≤ 36 → total_width cw ≤ 80 → s ≤ 64 → c ≤ 64 → p ≤ 64 → total_width (12 ∷ 12 ∷ 30 ∷ 1 ∷ 3 ∷ 7 ∷ 2 ∷ 2 ∷ 1 ∷ 3 ∷ 64 ∷ 32 ∷ p ∷ (repeated s sw ++ repeated c cw)) ≤ 8184
-total_few s c p sw cw a b hs hc hp =
-    let one : total_width sw * s ≤ 36 * 64 = mul-le (total_width sw) s 36 64 a hs in
-    let two : total_width cw * c ≤ 80 * 64 = mul-le (total_width cw) c 80 64 b hc in
-    rw (total-append (repeated s sw) (repeated c cw), total-repeated s sw, total-repeated c cw) (omega (arith, one, two, hp))
-
 ones_few : (bits : List Bool) (place w : ℕ) → w ≤ 64 → place + w ≤ length bits → count_ones (field_at bits place w) ≤ 64
 ones_few bits place w few h =
     let fits = number-take-fits (drop place bits) w (omega (arith, length-drop place bits)) in
@@ -60,6 +53,15 @@ narrow : (form : Form) → (total_width (satellite_widths form) ≤ 36) × (tota
 narrow forms.Msm4 = (lit≤ tt, lit≤ tt)
 narrow forms.Msm7 = (lit≤ tt, lit≤ tt)
 
+-- The largest number of bits of a message.
+total_few : (form : Form) (s c p : ℕ) → s ≤ 64 → c ≤ 64 → p ≤ 64 → total_width (12 ∷ 12 ∷ 30 ∷ 1 ∷ 3 ∷ 7 ∷ 2 ∷ 2 ∷ 1 ∷ 3 ∷ 64 ∷ 32 ∷ p ∷ (repeated s (satellite_widths form) ++ repeated c (cell_widths form))) ≤ 8184
+total_few form s c p hs hc hp =
+    let sw = satellite_widths form in
+    let cw = cell_widths form in
+    let one : total_width sw * s ≤ 36 * 64 = mul-le (total_width sw) s 36 64 (narrow form).0 hs in
+    let two : total_width cw * c ≤ 80 * 64 = mul-le (total_width cw) c 80 64 (narrow form).1 hc in
+    rw (total-append (repeated s sw) (repeated c cw), total-repeated s sw, total-repeated c cw) (omega (arith, one, two, hp))
+
 layout_few : (bits : List Bool) (n : ℕ) → Kind n → number_of bits ≡ n → 8184 ≤ length bits → has_too_many bits ≡ false → total_width (layout bits) ≤ 8184
 layout_few bits n (station has e) is long few = rw (ap (λ (k : ℕ). layout_of k bits) (is ∙ e) ∙ layout_station has bits) (short has)
   where
@@ -68,9 +70,8 @@ layout_few bits n (station has e) is long few = rw (ap (λ (k : ℕ). layout_of 
     short false = lit≤ tt
 layout_few bits n (of_form form g e) is long few =
     let pairs_few = pairs_are bits (ap is_read_msm (is ∙ e) ∙ form_is_msm form g) long few in
-    let widths_few = narrow form in
     rw (ap (λ (k : ℕ). layout_of k bits) (is ∙ e) ∙ layout_msm form g bits)
-    (total_few (count_ones (field_at bits 73 64)) (count_ones (field_at bits 169 (pair_count_of bits))) (pair_count_of bits) (satellite_widths form) (cell_widths form) widths_few.0 widths_few.1 (ones_few bits 73 64 (lit≤ tt) (omega (arith, long))) (ones_few bits 169 (pair_count_of bits) pairs_few (omega (arith, long, pairs_few))) pairs_few)
+    (total_few form (count_ones (field_at bits 73 64)) (count_ones (field_at bits 169 (pair_count_of bits))) (pair_count_of bits) (ones_few bits 73 64 (lit≤ tt) (omega (arith, long))) (ones_few bits 169 (pair_count_of bits) pairs_few (omega (arith, long, pairs_few))) pairs_few)
 layout_few bits n (other unread no_msm empty body) is long few = rw (ap (λ (k : ℕ). layout_of k bits) is ∙ empty bits) (lit≤ tt)
 
 fault_more : (a b : List Bool) (e : MsgFault) → 8184 ≤ length a → IsFault a e → IsFault (a ++ b) e

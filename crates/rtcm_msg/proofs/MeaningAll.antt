@@ -82,21 +82,21 @@ record Picked (xs ys : List (ℕ × ℕ)) : Type 0 where
   back : chosen (pick xs ys) xs ≡ ys
   len : length (pick xs ys) ≡ length xs
 
-picked : (low high start top : ℕ) (xs ys : List (ℕ × ℕ)) → Rising low high (map pair_number xs) → Rising start top (map pair_number ys) → Each (λ y. IsIn y xs) ys → Picked xs ys
+picked : (low high start : ℕ) (xs ys : List (ℕ × ℕ)) → Rising low high (map pair_number xs) → Rising start high (map pair_number ys) → Each (λ y. IsIn y xs) ys → Picked xs ys
 unfolding pick chosen
-picked low high start top [] [] r s h = record { back = refl; len = refl }
-picked low high start top [] (y ∷ ys) r s h = absurd h.0
-picked low high start top (x ∷ xs) [] r s h = let p = picked (pair_number x + 1) high start top xs [] r.2 tt tt in record { back = p.back; len = ap suc p.len }
-picked low high start top (x ∷ xs) (y ∷ ys) r s h = elim h.0 [
+picked low high start [] [] r s h = record { back = refl; len = refl }
+picked low high start [] (y ∷ ys) r s h = absurd h.0
+picked low high start (x ∷ xs) [] r s h = let p = picked (pair_number x + 1) high start xs [] r.2 tt tt in record { back = p.back; len = ap suc p.len }
+picked low high start (x ∷ xs) (y ∷ ys) r s h = elim h.0 [
   | inl e ↦
-      let above : Rising (pair_number x + 1) top (map pair_number ys) = subst (λ (n : ℕ). Rising (n + 1) top (map pair_number ys)) (ap pair_number e) s.2 in
-      let p = picked (pair_number x + 1) high (pair_number x + 1) top xs ys r.2 above (others_in top x xs ys above h.1) in
+      let above : Rising (pair_number x + 1) high (map pair_number ys) = subst (λ (n : ℕ). Rising (n + 1) high (map pair_number ys)) (ap pair_number e) s.2 in
+      let p = picked (pair_number x + 1) high (pair_number x + 1) xs ys r.2 above (others_in high x xs ys above h.1) in
       let here = pick_here x y xs ys e in
       record { back = rw here (ap (λ t. x ∷ t) p.back ∙ ap (λ (z : ℕ × ℕ). z ∷ ys) (sym e)); len = rw here (ap suc p.len) }
   | inr i ↦
       let up : pair_number x + 1 ≤ pair_number y = in_above (pair_number x + 1) high y xs r.2 i in
-      let above : Rising (pair_number x + 1) top (map pair_number ys) = weaken (pair_number x + 1) (pair_number y + 1) top (map pair_number ys) (more (pair_number x) (pair_number y) up) s.2 in
-      let p = picked (pair_number x + 1) high (pair_number y) top xs (y ∷ ys) r.2 (omega arith, s.1, s.2) (i, others_in top x xs ys above h.1) in
+      let above : Rising (pair_number x + 1) high (map pair_number ys) = weaken (pair_number x + 1) (pair_number y + 1) high (map pair_number ys) (more (pair_number x) (pair_number y) up) s.2 in
+      let p = picked (pair_number x + 1) high (pair_number y) xs (y ∷ ys) r.2 (omega arith, s.1, s.2) (i, others_in high x xs ys above h.1) in
       let here = pick_later x y xs ys (over (pair_number x) (pair_number y) up) in
       record { back = rw here p.back; len = rw here (ap suc p.len) }
 ]
@@ -142,7 +142,7 @@ masked a g ps fa fg few s h =
     let t : MasksValue = record { satellites = a; signals = g; cells = 0 } in
     let is_all : map ids_of (all_pairs t) ≡ all = all_are_cross 0 (ids 64 a) (ids 32 g) in
     let r : Rising 65 4128 (map pair_number all) = rw is_all at (rw (← map-map (all_pairs t)) at (all_rising t)) in
-    let p = picked 65 4128 65 4128 all ps r s h in
+    let p = picked 65 4128 65 all ps r s h in
     let bits = pick all ps in
     let count : length bits ≡ pair_count a g = p.len ∙ (ap length (sym is_all) ∙ (length-map (all_pairs t) ids_of ∙ pairs_count t (record { satellites = fa; signals = fg; few = few; cells = pow_pos (pair_count a g) }))) in
     let P : ℕ → Type 0 = λ n. number bits < 2 ^ n in

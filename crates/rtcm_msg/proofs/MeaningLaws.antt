@@ -13,9 +13,9 @@ abbrev pub key : Pair → ℕ
 key x = pair_number (ids_of x)
 
 -- A rising list before one that begins above it.
-rising-append : (low middle high : ℕ) (xs ys : List ℕ) → low ≤ middle + 1 → middle ≤ high → Rising low middle xs → Rising (middle + 1) high ys → Rising low high (xs ++ ys)
-rising-append low middle high [] ys h k r s = weaken low (middle + 1) high ys h s
-rising-append low middle high (x ∷ xs) ys h k r s = (r.0, omega (arith, k, r.1), rising-append (x + 1) middle high xs ys (omega (arith, r.1)) k r.2 s)
+rising-append : (low middle high : ℕ) (xs ys : List ℕ) → (low ≤ middle + 1) × (middle ≤ high) → Rising low middle xs → Rising (middle + 1) high ys → Rising low high (xs ++ ys)
+rising-append low middle high [] ys h r s = weaken low (middle + 1) high ys h.0 s
+rising-append low middle high (x ∷ xs) ys h r s = (r.0, omega (arith, h.1, r.1), rising-append (x + 1) middle high xs ys (omega (arith, r.1), h.1) r.2 s)
 
 -- The pairs of one satellite.
 row_rising : (x : ℕ × ℕ) (low : ℕ) (gs : List ℕ) → Rising low 32 gs → Rising (64 * x.1 + low) (64 * x.1 + 32) (map key (map (pair x) gs))
@@ -31,7 +31,7 @@ rows_rising gs k low (x ∷ xs) g h r =
     let here = weaken (64 * low + 1) (64 * x + 1) (64 * x + 32) (map key (map (pair (k, x)) gs)) (omega (arith, r.0)) (row_rising (k, x) 1 gs g) in
     let above = weaken (64 * x + 32 + 1) (64 * (x + 1) + 1) (64 * 64 + 32) (map key (flat_map (λ y. map (pair y) gs) (enumerate_from (k + 1) xs))) (omega arith) others in
     rw (map-append key (map (pair (k, x)) gs) (flat_map (λ y. map (pair y) gs) (enumerate_from (k + 1) xs)))
-    (rising-append (64 * low + 1) (64 * x + 32) (64 * 64 + 32) _ _ (omega (arith, r.0)) (omega (arith, r.1)) here above)
+    (rising-append (64 * low + 1) (64 * x + 32) (64 * 64 + 32) _ _ (omega (arith, r.0), omega (arith, r.1)) here above)
 
 pub all_rising : (s : MasksValue) → Rising (64 * 1 + 1) (64 * 64 + 32) (map key (all_pairs s))
 all_rising s = rows_rising (ids 32 s.signals) 0 1 (ids 64 s.satellites) (ids_rising 32 s.signals) (omega arith) (ids_rising 64 s.satellites)
@@ -55,16 +55,17 @@ pairs_rising s = rw (map-map (cell_pairs s)) (chosen_rising 65 4128 (uint (pair_
 not_above : (n high : ℕ) (xs ys : List ℕ) → Rising (n + 1) high ys → n ∷ xs ≡ ys → ⊥
 not_above n high xs ys r e = let s : Rising (n + 1) high (n ∷ xs) = subst (Rising (n + 1) high) (sym e) r in omega (arith, s.0)
 
-chosen_one : (low high : ℕ) (bs cs : List Bool) (xs : List Pair) → length bs ≡ length xs → length cs ≡ length xs → Rising low high (map key xs) → map key (chosen bs xs) ≡ map key (chosen cs xs) → bs ≡ cs
+-- The greatest number of a pair is 64 * 64 + 32 = 4128.
+chosen_one : (low : ℕ) (bs cs : List Bool) (xs : List Pair) → length bs ≡ length xs → length cs ≡ length xs → Rising low 4128 (map key xs) → map key (chosen bs xs) ≡ map key (chosen cs xs) → bs ≡ cs
 unfolding chosen
-chosen_one low high [] [] xs a b r e = refl
-chosen_one low high [] (c ∷ cs) xs a b r e = absurd (omega (arith, a, b))
-chosen_one low high (b ∷ bs) [] xs a c r e = absurd (omega (arith, a, c))
-chosen_one low high (b ∷ bs) (c ∷ cs) [] l m r e = absurd (omega (arith, l))
-chosen_one low high (true ∷ bs) (true ∷ cs) (x ∷ xs) l m r e = ap (λ t. true ∷ t) (chosen_one (key x + 1) high bs cs xs (omega (arith, l)) (omega (arith, m)) r.2 (cons_tail (key x) (key x) (map key (chosen bs xs)) (map key (chosen cs xs)) e))
-chosen_one low high (false ∷ bs) (false ∷ cs) (x ∷ xs) l m r e = ap (λ t. false ∷ t) (chosen_one (key x + 1) high bs cs xs (omega (arith, l)) (omega (arith, m)) r.2 e)
-chosen_one low high (true ∷ bs) (false ∷ cs) (x ∷ xs) l m r e = absurd (not_above (key x) high (map key (chosen bs xs)) (map key (chosen cs xs)) (chosen_rising (key x + 1) high cs xs r.2) e)
-chosen_one low high (false ∷ bs) (true ∷ cs) (x ∷ xs) l m r e = absurd (not_above (key x) high (map key (chosen cs xs)) (map key (chosen bs xs)) (chosen_rising (key x + 1) high bs xs r.2) (sym e))
+chosen_one low [] [] xs a b r e = refl
+chosen_one low [] (c ∷ cs) xs a b r e = absurd (omega (arith, a, b))
+chosen_one low (b ∷ bs) [] xs a c r e = absurd (omega (arith, a, c))
+chosen_one low (b ∷ bs) (c ∷ cs) [] l m r e = absurd (omega (arith, l))
+chosen_one low (true ∷ bs) (true ∷ cs) (x ∷ xs) l m r e = ap (λ t. true ∷ t) (chosen_one (key x + 1) bs cs xs (omega (arith, l)) (omega (arith, m)) r.2 (cons_tail (key x) (key x) (map key (chosen bs xs)) (map key (chosen cs xs)) e))
+chosen_one low (false ∷ bs) (false ∷ cs) (x ∷ xs) l m r e = ap (λ t. false ∷ t) (chosen_one (key x + 1) bs cs xs (omega (arith, l)) (omega (arith, m)) r.2 e)
+chosen_one low (true ∷ bs) (false ∷ cs) (x ∷ xs) l m r e = absurd (not_above (key x) 4128 (map key (chosen bs xs)) (map key (chosen cs xs)) (chosen_rising (key x + 1) 4128 cs xs r.2) e)
+chosen_one low (false ∷ bs) (true ∷ cs) (x ∷ xs) l m r e = absurd (not_above (key x) 4128 (map key (chosen cs xs)) (map key (chosen bs xs)) (chosen_rising (key x + 1) 4128 bs xs r.2) (sym e))
 
 -- Masks with the same satellites, signals and pairs.
 cells_same : (a g m n : ℕ) → AreMasks (record { satellites = a; signals = g; cells = m }) → AreMasks (record { satellites = a; signals = g; cells = n })
@@ -75,18 +76,18 @@ cells_same a g m n h k e =
     let t : MasksValue = record { satellites = a; signals = g; cells = n } in
     let count = pairs_count s h in
     let keys : map key (cell_pairs s) ≡ map key (cell_pairs t) = sym (map-map (cell_pairs s)) ∙ (ap (map pair_number) e ∙ map-map (cell_pairs t)) in
-    let bits = chosen_one 65 4128 (uint p m) (uint p n) (all_pairs s) (length-uint p m ∙ sym count) (length-uint p n ∙ sym count) (all_rising s) keys in
+    let bits = chosen_one 65 (uint p m) (uint p n) (all_pairs s) (length-uint p m ∙ sym count) (length-uint p n ∙ sym count) (all_rising s) keys in
     sym (number_of-uint p m h.cells) ∙ (ap number bits ∙ number_of-uint p n k.cells)
 
 pub sets_one : (s t : MasksValue) → AreMasks s → AreMasks t → ids 64 s.satellites ≡ ids 64 t.satellites → ids 32 s.signals ≡ ids 32 t.signals → cell_ids s ≡ cell_ids t → s ≡ t
 sets_one s t h k a g e =
     let sat : s.satellites ≡ t.satellites = ids_one 64 s.satellites t.satellites h.satellites k.satellites a in
     let sig : s.signals ≡ t.signals = ids_one 32 s.signals t.signals h.signals k.signals g in
-    join s.satellites t.satellites s.signals t.signals s.cells t.cells sat sig h k e
+    join sat sig h k e
   where
-    join : (a b g f m n : ℕ) → a ≡ b → g ≡ f → AreMasks (record { satellites = a; signals = g; cells = m }) → AreMasks (record { satellites = b; signals = f; cells = n })
+    join : {a b g f m n : ℕ} → a ≡ b → g ≡ f → AreMasks (record { satellites = a; signals = g; cells = m }) → AreMasks (record { satellites = b; signals = f; cells = n })
         → cell_ids (record { satellites = a; signals = g; cells = m }) ≡ cell_ids (record { satellites = b; signals = f; cells = n }) → Path MasksValue (record { satellites = a; signals = g; cells = m }) (record { satellites = b; signals = f; cells = n })
-    join a b g f m n p q h k e =
+    join {b = b} {f = f} {m} {n} p q h k e =
         let h' = rw (p, q) at h in
         let e' = rw (p, q) at e in
         rw (p, q) (ap (λ (c : ℕ). record { satellites = b; signals = f; cells = c }) (cells_same b f m n h' k e'))

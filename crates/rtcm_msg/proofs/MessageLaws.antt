@@ -289,9 +289,9 @@ form_is_msm forms.Msm7 true = refl
 form_is_msm forms.Msm7 false = refl
 
 -- The result of reading a multiple signal message, for the widths of either grid.
-msm_message_end : (bits : List Bool) (sw cw : List ℕ) (g : Bool) (wrap : MsmValue → Message) → 12 ≤ length bits → is_read_msm (number_of bits) ≡ true → layout bits ≡ 12 ∷ msm_widths sw cw bits
+msm_message_end : {bits : List Bool} {sw cw : List ℕ} {g : Bool} (wrap : MsmValue → Message) → 12 ≤ length bits → is_read_msm (number_of bits) ≡ true → layout bits ≡ 12 ∷ msm_widths sw cw bits
     → message_of bits ≡ (msm_at sw cw g (cursor_at bits 12) >>= λ m. Ok (wrap m.0)) → MsmEnd sw cw g bits → MessageEnd bits
-msm_message_end bits sw cw g wrap h msm lay read end = go end
+msm_message_end {bits} {sw} {cw} {g} wrap h msm lay read end = go end
   where
     m : Bool
     m = is_read_msm (number_of bits)
@@ -330,7 +330,7 @@ message_end bits = elim (cases_lt (length bits) 12) [
           | inl bad ↦ faulty bad.0 (short_fault bits (station_widths ++ height_widths has) bad.0 h clean lay bad.2) (read ∙ rw bad.1 refl)
           | inr fine ↦ sound (messages.Station fine.0.0) (no_fault bits h clean (past_all bits (station_widths ++ height_widths has) h lay fine.2)) (read ∙ rw fine.1 refl)
         ]
-    go n is h (of_form form g e) = msm_message_end bits (satellite_widths form) (cell_widths form) g (message_in form) h (ap is_read_msm (is ∙ e) ∙ form_is_msm form g) (ap (λ (k : ℕ). layout_of k bits) (is ∙ e) ∙ layout_msm form g bits)
+    go n is h (of_form form g e) = msm_message_end (message_in form) h (ap is_read_msm (is ∙ e) ∙ form_is_msm form g) (ap (λ (k : ℕ). layout_of k bits) (is ∙ e) ∙ layout_msm form g bits)
         (message_there bits h ∙ (ap (λ (k : ℕ). body_at k (cursor_at bits 12)) (is ∙ e) ∙ body_msm form g (cursor_at bits 12))) (msm_end (satellite_widths form) (cell_widths form) g bits h)
     go n is h (other unread no_msm empty body) = sound (other_at n (cursor_at bits 12)) (no_fault bits h (no_msm_in_time bits (ap is_read_msm is ∙ no_msm)) (ap (first_past (length bits) 0) (ap (λ (k : ℕ). layout_of k bits) is ∙ empty bits)))
         (message_there bits h ∙ (ap (λ (k : ℕ). body_at k (cursor_at bits 12)) is ∙ body (cursor_at bits 12)))

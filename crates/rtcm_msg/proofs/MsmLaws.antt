@@ -156,10 +156,10 @@ pub record IsMsmRead (sw cw : List ℕ) (g : Bool) (v : MsmValue) (c d : Cursor)
 columns_count : (ws : List ℕ) (n : ℕ) (c : Cursor) (x : List ℕ × Cursor) → ColumnsConsumed ws (replicate n 0) c x → length x.0 ≡ n
 columns_count ws n c x t = sym (length-map x.0 (λ k. k / 2 ^ total_width ws)) ∙ (ap length t.high ∙ length-replicate n 0)
 
-msm_done : (sw cw : List ℕ) (g : Bool) (c : Cursor) (h : MsmHeader × Cursor) (s : MasksValue × Cursor) (x y : List ℕ × Cursor) → IsHeaderRead h.0 c h.1 → AreSetsRead s.0 h.1 s.1
+msm_done : {sw cw : List ℕ} {g : Bool} {c : Cursor} {h : MsmHeader × Cursor} {s : MasksValue × Cursor} {x y : List ℕ × Cursor} → IsHeaderRead h.0 c h.1 → AreSetsRead s.0 h.1 s.1
     → columns_at sw (replicate (count_ones s.0.satellites) 0) s.1 ≡ Ok x → columns_at cw (replicate (count_ones s.0.cells) 0) x.1 ≡ Ok y
     → IsMsmRead sw cw g (record { is_galileo = g; header = h.0; sets = s.0; satellites = x.0; cells = y.0 }) c y.1
-msm_done sw cw g c h s x y a b e f =
+msm_done {sw} {cw} {c} {h} {s} {x} {y} a b e f =
     let xs = columns_consumed sw (replicate (count_ones s.0.satellites) 0) s.1 x e in
     let ys = columns_consumed cw (replicate (count_ones s.0.cells) 0) x.1 y f in
     record {
@@ -174,11 +174,11 @@ msm_done sw cw g c h s x y a b e f =
         satellites = columns_fit sw (count_ones s.0.satellites) s.1 x e;
         cells = columns_fit cw (count_ones s.0.cells) x.1 y f;
       };
-      bits = join4 (field_bits (header_tail h.0 a.reserved)) (field_bits (mask_fields s.0)) (columns sw x.0) (columns cw y.0) _ _ _ _ _ a.bits b.bits xs.bits ys.bits;
+      bits = join4 (field_bits (header_tail h.0 a.reserved)) (field_bits (mask_fields s.0)) (columns sw x.0) (columns cw y.0) _ a.bits b.bits (xs.bits ∙ ap (λ z. columns sw x.0 ++ z) ys.bits);
     }
   where
-    join4 : (p q r t a b c d e : List Bool) → a ≡ p ++ b → b ≡ q ++ c → c ≡ r ++ d → d ≡ t ++ e → a ≡ (p ++ (q ++ (r ++ t))) ++ e
-    join4 p q r t a b c d e i j k l = i ∙ (ap (λ z. p ++ z) (j ∙ ap (λ z. q ++ z) (k ∙ ap (λ z. r ++ z) l)) ∙ sym (append_assoc p (q ++ (r ++ t)) e ∙ ap (λ z. p ++ z) (append_assoc q (r ++ t) e ∙ ap (λ z. q ++ z) (append_assoc r t e))))
+    join4 : (p q r t : List Bool) {a b c : List Bool} (e : List Bool) → a ≡ p ++ b → b ≡ q ++ c → c ≡ r ++ (t ++ e) → a ≡ (p ++ (q ++ (r ++ t))) ++ e
+    join4 p q r t e i j k = i ∙ (ap (λ z. p ++ z) (j ∙ ap (λ z. q ++ z) k) ∙ sym (append_assoc p (q ++ (r ++ t)) e ∙ ap (λ z. p ++ z) (append_assoc q (r ++ t) e ∙ ap (λ z. q ++ z) (append_assoc r t e))))
 
 -- Encoded numbers in range are read from zeros as the same numbers.
 columns_same : (ws ns : List ℕ) (count place : ℕ) (rest : List Bool) → length ns ≡ count → EachBelow (total_width ws) ns → columns_at ws (replicate count 0) (cursor place (columns ws ns ++ rest)) ≡ Ok (ns, cursor (place + total_width ws * length ns) rest)
@@ -193,7 +193,7 @@ msm_consumed sw cw g c v e =
     let cells = bind_ok (columns_at cw (replicate (count_ones sets.0.0.cells) 0) satellites.0.1) _ v satellites.2 in
     let x : MsmValue × Cursor = (record { is_galileo = g; header = header.0.0; sets = sets.0.0; satellites = satellites.0.0; cells = cells.0.0 }, cells.0.1) in
     of_read (λ (w : MsmValue × Cursor). IsMsmRead sw cw g w.0 c w.1) x v cells.2
-    (msm_done sw cw g c header.0 sets.0 satellites.0 cells.0 (header_consumed c header.0 header.1) (sets_consumed header.0.1 sets.0 sets.1) satellites.1 cells.1)
+    (msm_done (header_consumed c header.0 header.1) (sets_consumed header.0.1 sets.0 sets.1) satellites.1 cells.1)
 
 pub msm_again : (sw cw : List ℕ) (v : MsmValue) (reserved place : ℕ) (rest : List Bool) → IsValue sw cw v → reserved < 128 → (d : Cursor) × (msm_at sw cw v.is_galileo (cursor place (msm_tail sw cw v reserved ++ rest)) ≡ Ok (v, d))
 unfolding msm_at

@@ -115,15 +115,15 @@ first_read w ws ps bits n place len x =
     let after : x.0.1 ≡ cursor_at bits (place + n * w) = rw len at x.2.after in
     columns_next w ws ps x.0.0 (cursor_at bits place) x.0.1 x.1 ∙ ap (columns_at ws x.0.0) after
 
-columns_row : (ws ps : List ℕ) (bits : List Bool) (n place i : ℕ) → length ps ≡ n → place + n * total_width ws ≤ length bits → i < n → get_or (numbers_in (columns_at ws ps (cursor_at bits place))) i 0 ≡ row_at ws n bits place i (get_or ps i 0)
+columns_row : (ws ps : List ℕ) (bits : List Bool) {n : ℕ} (place i : ℕ) → length ps ≡ n → place + n * total_width ws ≤ length bits → i < n → get_or (numbers_in (columns_at ws ps (cursor_at bits place))) i 0 ≡ row_at ws n bits place i (get_or ps i 0)
 unfolding columns_at row_at
-columns_row [] ps bits n place i len h there = refl
-columns_row (w ∷ ws) ps bits n place i len h there =
+columns_row [] ps bits place i len h there = refl
+columns_row (w ∷ ws) ps bits {n} place i len h there =
     let room : place + n * w + n * total_width ws ≤ length bits = rw (two_more place n w (total_width ws)) h in
     let read = column_row w ps bits place (rw len (omega (arith, room))) in
     let here = read.2.row i (rw len there) in
     ap (λ (r : Result (List ℕ × Cursor) MsgFault). get_or (numbers_in r) i 0) (first_read w ws ps bits n place len read)
-    ∙ (columns_row ws read.0.0 bits n (place + n * w) i (read.2.len ∙ len) room there ∙ ap (row_at ws n bits (place + n * w) i) here)
+    ∙ (columns_row ws read.0.0 bits (place + n * w) i (read.2.len ∙ len) room there ∙ ap (row_at ws n bits (place + n * w) i) here)
 
 columns_length : (ws ps : List ℕ) (bits : List Bool) (n place : ℕ) → length ps ≡ n → place + n * total_width ws ≤ length bits → length (numbers_in (columns_at ws ps (cursor_at bits place))) ≡ n
 unfolding columns_at
@@ -135,7 +135,7 @@ columns_length (w ∷ ws) ps bits n place len h =
 
 -- The data of item i.
 pub row_is : (ws : List ℕ) (bits : List Bool) (n place i : ℕ) → place + n * total_width ws ≤ length bits → i < n → get_or (rows_at ws n bits place) i 0 ≡ row_at ws n bits place i 0
-row_is ws bits n place i h there = columns_row ws (replicate n 0) bits n place i (length-replicate n 0) h there ∙ ap (row_at ws n bits place i) (get_or-replicate n i 0 0 there)
+row_is ws bits n place i h there = columns_row ws (replicate n 0) bits place i (length-replicate n 0) h there ∙ ap (row_at ws n bits place i) (get_or-replicate n i 0 0 there)
 
 pub rows_count : (ws : List ℕ) (bits : List Bool) (n place : ℕ) → place + n * total_width ws ≤ length bits → length (rows_at ws n bits place) ≡ n
 rows_count ws bits n place h = columns_length ws (replicate n 0) bits n place (length-replicate n 0) h

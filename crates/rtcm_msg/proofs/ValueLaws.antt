@@ -17,15 +17,15 @@ pub id_within : (w m n x : ℕ) → ids w m ≡ x ∷ ids w n → (1 ≤ x) × (
 id_within w m n x e = let r : Rising 1 w (x ∷ ids w n) = subst (Rising 1 w) e (ids_rising w m) in (r.0, r.1)
 
 -- The first pair has a cell.
-pub cell_there : (s : MasksValue) (n l : ℕ) (p q : Pairs) (x : Pair) → n ≡ s.cells → pairs_left p ≡ x ∷ pairs_left q → length (pairs_left p) ≡ l → n / 2 ^ (l - 1) % 2 ≡ 1
+pub cell_there : (s : MasksValue) {n l : ℕ} (p q : Pairs) {x : Pair} → n ≡ s.cells → pairs_left p ≡ x ∷ pairs_left q → length (pairs_left p) ≡ l → n / 2 ^ (l - 1) % 2 ≡ 1
     → cell_pairs_left l s p ≡ x ∷ cell_pairs_left (l - 1) s q
-cell_there s n l p q x is first count bit =
+cell_there s {n} {l} p q {x} is first count bit =
     subst (λ (m : ℕ). chosen (uint l m) (pairs_left p) ≡ x ∷ chosen (uint (l - 1) m) (pairs_left q)) is (found l n (pairs_left p) (pairs_left q) x count first bit)
 
 -- The first pair has no cell.
-pub cell_none : (s : MasksValue) (n l : ℕ) (p q : Pairs) (x : Pair) → n ≡ s.cells → pairs_left p ≡ x ∷ pairs_left q → length (pairs_left p) ≡ l → n / 2 ^ (l - 1) % 2 ≢ 1
+pub cell_none : (s : MasksValue) {n l : ℕ} (p q : Pairs) {x : Pair} → n ≡ s.cells → pairs_left p ≡ x ∷ pairs_left q → length (pairs_left p) ≡ l → n / 2 ^ (l - 1) % 2 ≢ 1
     → cell_pairs_left l s p ≡ cell_pairs_left (l - 1) s q
-cell_none s n l p q x is first count bit =
+cell_none s {n} {l} p q {x} is first count bit =
     subst (λ (m : ℕ). chosen (uint l m) (pairs_left p) ≡ chosen (uint (l - 1) m) (pairs_left q)) is (passed l n (pairs_left p) (pairs_left q) x count first bit)
 
 -- ---- the cells that are left
@@ -34,9 +34,9 @@ pub next_there : (next n : ℕ) (ps qs : List Pair) (x : Pair) → ps ≡ x ∷ 
 next_there next n ps qs x e h = omega (arith, h, ap length e)
 
 -- The cells that are left after the first pair, with the number of cells before them.
-after_pair : (v : FormedMsm) (c : CellsLeft) (q : Pairs) (x : Pair) (n : ℕ) → AreCells v c → pairs_left c.pairs ≡ x ∷ pairs_left q → ArePairs q → length (cell_pairs_left (c.left - 1) v.msm.sets q) + n ≡ length v.msm.cells
+after_pair : {v : FormedMsm} {c : CellsLeft} {q : Pairs} {x : Pair} {n : ℕ} → AreCells v c → pairs_left c.pairs ≡ x ∷ pairs_left q → ArePairs q → length (cell_pairs_left (c.left - 1) v.msm.sets q) + n ≡ length v.msm.cells
     → AreCells v (record { pairs = q; left = c.left - 1; next = n })
-after_pair v c q x n cells first in_range next = record {
+after_pair {v} {c} {q} {x} cells first in_range next = record {
   left = (
     one_less c.left (pairs_left c.pairs) (pairs_left q) x cells.left.0 first,
     omega (arith, cells.left.1),
@@ -48,14 +48,14 @@ after_pair v c q x n cells first in_range next = record {
 
 pub after_cell : (v : FormedMsm) (c : CellsLeft) (q : Pairs) (x : Pair) → AreCells v c → pairs_left c.pairs ≡ x ∷ pairs_left q → ArePairs q → cell_pairs_left c.left v.msm.sets c.pairs ≡ x ∷ cell_pairs_left (c.left - 1) v.msm.sets q
     → AreCells v (record { pairs = q; left = c.left - 1; next = c.next + 1 })
-after_cell v c q x cells first in_range there = after_pair v c q x _ cells first in_range (omega (arith, cells.next, ap length there))
+after_cell v c q x cells first in_range there = after_pair cells first in_range (omega (arith, cells.next, ap length there))
 
 pub after_none : (v : FormedMsm) (c : CellsLeft) (q : Pairs) (x : Pair) → AreCells v c → pairs_left c.pairs ≡ x ∷ pairs_left q → ArePairs q → cell_pairs_left c.left v.msm.sets c.pairs ≡ cell_pairs_left (c.left - 1) v.msm.sets q
     → AreCells v (record { pairs = q; left = c.left - 1; next = c.next })
-after_none v c q x cells first in_range there = after_pair v c q x _ cells first in_range (omega (arith, cells.next, ap length there))
+after_none v c q x cells first in_range there = after_pair cells first in_range (omega (arith, cells.next, ap length there))
 
-row_index : (n k : ℕ) (xs gs all : List ℕ) (x y : ℕ) (ys hs : List ℕ) → xs ≡ x ∷ ys → gs ≡ y ∷ hs → IndicesAreBelow n (pairs_from k xs gs all) → k < n
-row_index n k xs gs all x y ys hs e f h =
+row_index : (n k : ℕ) {xs gs : List ℕ} (all : List ℕ) {x y : ℕ} {ys hs : List ℕ} → xs ≡ x ∷ ys → gs ≡ y ∷ hs → IndicesAreBelow n (pairs_from k xs gs all) → k < n
+row_index n k {gs} all {x} {ys} e f h =
     (subst (λ (l : List ℕ). IndicesAreBelow n (pairs_from k (x ∷ ys) l all)) f (subst (λ (l : List ℕ). IndicesAreBelow n (pairs_from k l gs all)) e h)).0
 
 -- The first satellite of the pairs that are left is one of the message's.
@@ -63,7 +63,7 @@ pub first_below : (n m : ℕ) (p : Pairs) → HasFirst p → ArePairs p → Indi
 first_below n m p some fits h same =
     let t = top_of 64 p.satellites some.0 fits.satellites (omega arith) in
     let u = top_of 32 p.signals some.1 fits.signals (omega arith) in
-    rw (← same) (row_index n p.index (ids 64 p.satellites) (ids 32 p.signals) (ids 32 p.all) _ _ _ _ (ids_split 64 p.satellites _ t) (ids_split 32 p.signals _ u) h)
+    rw (← same) (row_index n p.index (ids 32 p.all) (ids_split 64 p.satellites _ t) (ids_split 32 p.signals _ u) h)
 
 -- ---- entries
 
@@ -111,9 +111,9 @@ entry_signal forms.Msm7 v x n = refl
 pub count_first : (p : Entry → Bool) (e : Entry) (es : List Entry) → length (filter p (e ∷ es)) ≡ cond (p e) 1 0 + length (filter p es)
 count_first p e es = grind (arith, common_steps)
 
-pub counted : (listed sig i : ℕ) (old : List ℕ) (e : Entry) (all left : List Entry) → all ≡ e ∷ left → e.signal ≡ sig → 1 ≤ sig → sig ≤ length old → has_listed_value listed e ≡ true
+pub counted : (listed : ℕ) {sig : ℕ} (i : ℕ) (old : List ℕ) {e : Entry} {all left : List Entry} → all ≡ e ∷ left → e.signal ≡ sig → 1 ≤ sig → sig ≤ length old → has_listed_value listed e ≡ true
     → get_or old i 0 + value_count listed (i + 1) all ≡ get_or (set old (sig - 1) (get_or old (sig - 1) 0 + 1)) i 0 + value_count listed (i + 1) left
-counted listed sig i old e all left is signal low high value = rw (is, count_first (λ e. has_listed_value listed e && (e.signal == i + 1)) e left, value, signal) (elim (cases_eq i (sig - 1)) [
+counted listed {sig} i old {e} {left} is signal low high value = rw (is, count_first (λ e. has_listed_value listed e && (e.signal == i + 1)) e left, value, signal) (elim (cases_eq i (sig - 1)) [
   | inl here ↦ rw here (here_case (value_count listed (sig - 1 + 1) left))
   | inr other ↦ other_case other (value_count listed (i + 1) left)
 ])

@@ -3,8 +3,8 @@ use Rattle.rtcm_msg.specs.Names.{field_bits}
 use Rattle.rtcm_msg.proofs.WritingSteps.{field_bits-append}
 use Rattle.rtcm_msg.proofs.msm.write_msm.Goals as goal
 
-appended : (old d e m s t : List Bool) (a b : List (ℕ × ℕ)) → m ≡ old ++ field_bits (a ++ b) → s ≡ m ++ d → t ≡ s ++ e → t ≡ old ++ (field_bits a ++ (field_bits b ++ (d ++ e)))
-appended old d e m s t a b x y z =
+appended : (old d e : List Bool) {m s t : List Bool} (a b : List (ℕ × ℕ)) → m ≡ old ++ field_bits (a ++ b) → s ≡ m ++ d → t ≡ s ++ e → t ≡ old ++ (field_bits a ++ (field_bits b ++ (d ++ e)))
+appended old d e a b x y z =
     rw (z, y, x, field_bits-append a b)
     (append_assoc (old ++ (field_bits a ++ field_bits b)) d e ∙ (append_assoc old (field_bits a ++ field_bits b) (d ++ e) ∙ ap (λ n. old ++ n) (append_assoc (field_bits a) (field_bits b) (d ++ e))))
 
@@ -13,4 +13,4 @@ returns-clause-bits g c =
     let h = rw c.number_of-number.ensures.value at c.write_head.ensures.bits in
     let s = rw (c.satellite_widths.ensures, c.as_slice.ensures.value) at c.write_columns.ensures.bits in
     let t = rw (c.cell_widths.ensures, c.as_slice-2.ensures.value) at c.write_columns-2.ensures.bits in
-    rw (← c.msm.view_is) (appended c.args.writer.now _ _ c.write_head.new.writer c.write_columns.new.writer c.write_columns-2.new.writer _ _ h s t)
+    rw (← c.msm.view_is) (appended c.args.writer.now _ _ _ _ h s t)

@@ -7,6 +7,6 @@ pub loop-number-preserved : goal.loop-number-preserved
 loop-number-preserved c =
     let put = column_put c.loop-number.writer c.put.new.self c.args.width c.args.shift (get_or c.args.numbers.now c.loop-number.number-index 0) c.requires.few c.requires.shift c.put.ensures.bits in
     record {
-      bits = column_next (λ p. uint c.args.width (p / 2 ^ c.args.shift)) c.args.numbers.now c.loop-number.number-index c.loop-number.writer c.put.new.self _ c.loop-number-test.true put c.loop-number.invariant.bits;
+      bits = column_next (λ p. uint c.args.width (p / 2 ^ c.args.shift)) c.args.numbers.now c.loop-number.number-index c.loop-number.writer c.loop-number-test.true put c.loop-number.invariant.bits;
       len = omega arith;
     }

@@ -13,7 +13,7 @@ loop-width-preserved c =
     record {
       low = omega arith;
       shift = rest;
-      bits = columns_next c.args.widths.now c.args.numbers.now c.loop-width.width-index c.loop-width.writer c.write_column.new.writer _ c.loop-width-test.true (rw rest at c.write_column.ensures.bits) c.loop-width.invariant.bits;
+      bits = columns_next c.args.widths.now c.args.numbers.now c.loop-width.width-index c.loop-width.writer c.loop-width-test.true (rw rest at c.write_column.ensures.bits) c.loop-width.invariant.bits;
       len = omega (arith, len);
     }
 

@@ -2,12 +2,12 @@
 use Rattle.std.proofs.Common.{ℕ, ◌≡◌, ◌+◌, ◌<◌, ◌≤◌, List, ◌∷◌, ◌∙◌, length, map, drop, slice_index, count_ones, refl, sym, ap, subst, arith}
 use Rattle.std.proofs.lemmas.List.{drop_more}
 use Rattle.std.specs.List.{zip}
-use Rattle.rtcm_msg.specs.Names.{Entry, Pair, MasksValue, codes_of, IsEntry, cell_pairs_left, Unread, entry_in, lock_field}
+use Rattle.rtcm_msg.specs.Names.{Entry, Pair, MasksValue, codes_of, IsEntry, Unread, entry_in, lock_field}
 use Rattle.rtcm_msg.proofs.NextLaws.{index_below, one_less}
 use Rattle.rtcm_msg.proofs.view.Entries.next.Goals as goal
 
-one_there : (ps qs : List Pair) (p : Pair) (next cells : ℕ) → ps ≡ p ∷ qs → length ps + next ≡ cells → next < cells
-one_there ps qs p next cells split count = let more = ap length split in omega (arith, more, count)
+one_there : {ps qs : List Pair} {p : Pair} (next : ℕ) {cells : ℕ} → ps ≡ p ∷ qs → length ps + next ≡ cells → next < cells
+one_there next split count = let more = ap length split in omega (arith, more, count)
 
 next_fits : (next cells n : ℕ) → next < cells → n ≡ cells → n ≤ 64 → next + 1 < 18446744073709551616
 next_fits next cells n h same few = omega (arith, h, same, few)
@@ -19,13 +19,13 @@ pub entry-entry-requires : goal.entry-entry-requires
 entry-entry-requires c =
     let v = c.self.inside.view.now in
     let split = rw (c.cells.ensures.value ∙ ap (λ (s : MasksValue). s.cells) c.masks.ensures) at c.in_ok-pair.ensures.some.0 in
-    record { rough = c.rough-satellite.ensures; cell = one_there (cell_pairs_left c.self.inside.cells.left v.msm.sets c.self.inside.cells.pairs) (cell_pairs_left c.in_ok-pair.left v.msm.sets c.in_ok-pair.pairs) c.in_ok-pair.pair c.self.inside.cells.next (length v.msm.cells) split c.self.invariant.0.next }
+    record { rough = c.rough-satellite.ensures; cell = one_there c.self.inside.cells.next split c.self.invariant.0.next }
 
 pub overflow_add-self : goal.overflow_add-self
 overflow_add-self c =
     let v = c.self.inside.view.now in
     let split = rw (c.cells.ensures.value ∙ ap (λ (s : MasksValue). s.cells) c.masks.ensures) at c.in_ok-pair.ensures.some.0 in
-    let there = one_there (cell_pairs_left c.self.inside.cells.left v.msm.sets c.self.inside.cells.pairs) (cell_pairs_left c.in_ok-pair.left v.msm.sets c.in_ok-pair.pairs) c.in_ok-pair.pair c.self.inside.cells.next (length v.msm.cells) split c.self.invariant.0.next in
+    let there = one_there c.self.inside.cells.next split c.self.invariant.0.next in
     record { fits = next_fits c.self.inside.cells.next (length v.msm.cells) c.cells-2.result there c.cells-2.ensures.count c.cells-2.ensures.few }
 
 pub rough-satellite-requires : goal.rough-satellite-requires
@@ -38,15 +38,15 @@ invariant_of-self c =
     let sets = c.self.inside.view.now.msm.sets in (
       record {
         left = (some.1, some.2, some.3, (c.in_ok-pair.ensures.indices (count_ones sets.satellites) c.self.invariant.0.left.3).1);
-        next = one_less sets c.cells.result c.self.inside.cells.left c.in_ok-pair.left c.self.inside.cells.pairs c.in_ok-pair.pairs c.in_ok-pair.pair c.self.inside.cells.next _ (c.cells.ensures.value ∙ ap (λ (s : MasksValue). s.cells) c.masks.ensures) some.0 c.self.invariant.0.next;
+        next = one_less c.self.inside.cells.next (rw (c.cells.ensures.value ∙ ap (λ (s : MasksValue). s.cells) c.masks.ensures) at some.0) c.self.invariant.0.next;
       },
       λ h. c.rough-satellite.ensures,
     )
 
 -- The entries that are left begin with the one of the first pair and the first cell.
-taken : (f : Pair × ℕ → Entry) (ps qs : List Pair) (p : Pair) (cells : List ℕ) (next : ℕ) (e : Entry) → ps ≡ p ∷ qs → length ps + next ≡ length cells → e ≡ f (p, slice_index cells next)
+taken : (f : Pair × ℕ → Entry) {ps qs : List Pair} {p : Pair} (cells : List ℕ) (next : ℕ) {e : Entry} → ps ≡ p ∷ qs → length ps + next ≡ length cells → e ≡ f (p, slice_index cells next)
     → map f (zip ps (drop next cells)) ≡ e ∷ map f (zip qs (drop (next + 1) cells))
-taken f ps qs p cells next e split count value =
+taken f cells next split count value =
     let more = ap length split in
     rw (split, drop_more cells next 0 (omega (arith, more, count)), value) refl
 
@@ -54,5 +54,5 @@ pub returns-clause-some : goal.returns-clause-some
 returns-clause-some c =
     let v = c.self.inside.view.now in
     let split = rw (c.cells.ensures.value ∙ ap (λ (s : MasksValue). s.cells) c.masks.ensures) at c.in_ok-pair.ensures.some.0 in
-    let first = taken (entry_in v.form v.msm) (cell_pairs_left c.self.inside.cells.left v.msm.sets c.self.inside.cells.pairs) (cell_pairs_left c.in_ok-pair.left v.msm.sets c.in_ok-pair.pairs) c.in_ok-pair.pair v.msm.cells c.self.inside.cells.next c.entry-entry.result split c.self.invariant.0.next c.entry-entry.ensures.value in
+    let first = taken (entry_in v.form v.msm) v.msm.cells c.self.inside.cells.next split c.self.invariant.0.next c.entry-entry.ensures.value in
     (sym (ap (λ (u : Unread). u.left) c.self.view_is) ∙ first, subst (λ (u : Unread). IsEntry (codes_of (lock_field u.form)) c.entry-entry.result) c.self.view_is c.entry-entry.ensures.bounds)

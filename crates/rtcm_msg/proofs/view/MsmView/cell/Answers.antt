@@ -17,7 +17,7 @@ returns-in-Bits g c =
     let value : c.cell_in.result ≡ g.G.Grid.cell_at (slice_index c.args.self.now.msm.cells c.args.i) =
     c.cell_in.ensures
     ∙ ap (λ (n : ℕ). g.G.Grid.cell_at (row_at g.G.Grid.cell_widths n (bits_of c.in-Bits.bytes.now) c.in-Bits.cells.place c.args.i 0)) there.there.cell_count
-    ∙ ap g.G.Grid.cell_at (row_value g.G.Grid.cell_widths (cell_widths c.self.inside.form) c.in-Bits.bytes.now c.self.inside.cells c.in-Bits.cells.place c.args.i widths there.there.cells_there h ∙ (ap (λ (d : Data). slice_index (cell_rows c.self.inside.form c.self.inside.cells d) c.args.i) (sym c.in-Bits.is) ∙ ap (λ (v : FormedMsm). slice_index v.msm.cells c.args.i) c.self.view_is)) in
+    ∙ ap g.G.Grid.cell_at (row_value c.in-Bits.bytes.now c.self.inside.cells c.in-Bits.cells.place c.args.i widths there.there.cells_there h ∙ (ap (λ (d : Data). slice_index (cell_rows c.self.inside.form c.self.inside.cells d) c.args.i) (sym c.in-Bits.is) ∙ ap (λ (v : FormedMsm). slice_index v.msm.cells c.args.i) c.self.view_is)) in
     record { value = value; in_range = subst g.G.Grid.is_cell (sym value) (g.met.G.Grid.cell_in_range _ small); same = ap g.G.Grid.cell_packed value ∙ g.met.G.Grid.cell_same _ small }
 
 pub cell_of-requires : goal.cell_of-requires

@@ -14,7 +14,7 @@ returns-in-Bits g c =
     let small = fits _ (slice_index c.args.self.now.msm.satellites c.args.i) g.G.Grid.satellite_widths (satellite_widths c.self.inside.form) (ap (λ (v : FormedMsm). slice_index v.msm.satellites c.args.i) c.self.view_is) widths (c.self.invariant.0.satellites c.args.i) in
     let value : c.satellite_in.result ≡ g.G.Grid.satellite_at (slice_index c.args.self.now.msm.satellites c.args.i) =
     c.satellite_in.ensures
-    ∙ ap g.G.Grid.satellite_at (row_value g.G.Grid.satellite_widths (satellite_widths c.self.inside.form) c.in-Bits.bytes.now c.self.inside.satellites c.in-Bits.place c.args.i widths there.there.satellites_there h ∙ (ap (λ (d : Data). slice_index (satellite_rows c.self.inside.form c.self.inside.satellites d) c.args.i) (sym c.in-Bits.is) ∙ ap (λ (v : FormedMsm). slice_index v.msm.satellites c.args.i) c.self.view_is)) in
+    ∙ ap g.G.Grid.satellite_at (row_value c.in-Bits.bytes.now c.self.inside.satellites c.in-Bits.place c.args.i widths there.there.satellites_there h ∙ (ap (λ (d : Data). slice_index (satellite_rows c.self.inside.form c.self.inside.satellites d) c.args.i) (sym c.in-Bits.is) ∙ ap (λ (v : FormedMsm). slice_index v.msm.satellites c.args.i) c.self.view_is)) in
     record { value = value; in_range = subst g.G.Grid.is_satellite (sym value) (g.met.G.Grid.satellite_in_range _ small); same = ap g.G.Grid.satellite_packed value ∙ g.met.G.Grid.satellite_same _ small }
 
 pub satellite_of-requires : goal.satellite_of-requires
