@@ -85,25 +85,25 @@ no_time : (s : GatherSetup) (xs : List Timed) (n : CellCounts) (m : Heard) (shut
     → Takes s xs n m shut
 no_time s xs n m shut own none closes = grind (arith, common_steps, same_time, next, and_true, ended_to)
 
-not_later : (s : GatherSetup) (xs : List Timed) (m : Heard) (tow t : ℕ) (shut : Bool) → m.tow ≡ Some tow → greatest_time xs ≡ Some t
+not_later : (s : GatherSetup) (xs : List Timed) (m : Heard) {tow t : ℕ} {shut : Bool} → m.tow ≡ Some tow → greatest_time xs ≡ Some t
     → closes_first s xs m ≡ shut → ahead t tow ≡ 0 → shut ≡ false
-not_later s xs m tow t shut some at closes none = grind (arith, some, at, closes, none)
+not_later s xs m some at closes none = grind (arith, some, at, closes, none)
 
-late_by : (s : GatherSetup) (xs : List Timed) (m : Heard) (tow : ℕ) (shut : Bool) (g : Option ℕ) → greatest_time xs ≡ g → m.tow ≡ Some tow → closes_first s xs m ≡ shut
+late_by : (s : GatherSetup) (xs : List Timed) (m : Heard) {tow : ℕ} {shut : Bool} (g : Option ℕ) → greatest_time xs ≡ g → m.tow ≡ Some tow → closes_first s xs m ≡ shut
     → is_late_at (record { setup = s; latest = g; pending = is_pending s xs && not shut }) tow
     ≡ option_map_or (λ t. nat_lt 302_400_000 (ahead t tow) || ((ahead t tow == 0) && is_closed s t xs)) g false
-late_by s xs m tow shut None at some closes = refl
-late_by s xs m tow shut (Some t) at some closes = grind (arith, common_steps, not_later, closes)
+late_by s xs m None at some closes = refl
+late_by s xs m (Some t) at some closes = grind (arith, common_steps, not_later, closes)
 
 late_same : (s : GatherSetup) (xs : List Timed) (m : Heard) (tow : ℕ) (shut : Bool) → m.tow ≡ Some tow → closes_first s xs m ≡ shut
     → is_late_at (standing s xs shut) tow ≡ is_late s xs tow
-late_same s xs m tow shut some closes = late_by s xs m tow shut (greatest_time xs) refl some closes
+late_same s xs m tow shut some closes = late_by s xs m (greatest_time xs) refl some closes
 
 -- An own message that is late or after the last week.
-not_taken : (s : GatherSetup) (xs : List Timed) (n : CellCounts) (m : Heard) (tow : ℕ) (shut : Bool) → is_own s m ≡ true → m.tow ≡ Some tow → closes_first s xs m ≡ shut
+not_taken : (s : GatherSetup) (xs : List Timed) (n : CellCounts) (m : Heard) {tow : ℕ} {shut : Bool} → is_own s m ≡ true → m.tow ≡ Some tow → closes_first s xs m ≡ shut
     → (is_late s xs tow || is_past (time_of s xs tow)) ≡ true
     → Takes s xs n m shut
-not_taken s xs n m tow shut own some closes bad = grind (arith, common_steps, same_time, next, late_same, closes, and_true)
+not_taken s xs n m own some closes bad = grind (arith, common_steps, same_time, next, late_same, closes, and_true)
 
 pub follows : (s : GatherSetup) (xs : List Timed) (tow : ℕ) → is_late s xs tow ≡ false → Follows s xs (time_of s xs tow)
 follows s xs tow early = by (greatest_time xs) refl early where
@@ -116,31 +116,25 @@ follows s xs tow early = by (greatest_time xs) refl early where
   by None at early = first at
   by (Some t) at early = at_once t (t + ahead t tow) (ahead t tow) at refl early
 
-no_first : (s : GatherSetup) (xs : List Timed) (m : Heard) (tow : ℕ) (shut : Bool) → is_own s m ≡ true → m.tow ≡ Some tow → closes_first s xs m ≡ shut
+no_first : (s : GatherSetup) (xs : List Timed) (m : Heard) {tow : ℕ} {shut : Bool} → is_own s m ≡ true → m.tow ≡ Some tow → closes_first s xs m ≡ shut
     → is_late s xs tow ≡ false → is_past (time_of s xs tow) ≡ false → is_first_at (standing s xs shut) tow ≡ false
-no_first s xs m tow shut own some closes early within = grind (arith, common_steps)
-
--- An own message that is accepted.
-is_taken : (s : GatherSetup) (xs : List Timed) (n : CellCounts) (m : Heard) (tow : ℕ) (shut : Bool) → is_own s m ≡ true → m.tow ≡ Some tow → closes_first s xs m ≡ shut
-    → is_late s xs tow ≡ false → is_past (time_of s xs tow) ≡ false
-    → Takes s xs n m shut
-is_taken s xs n m tow shut own some closes early within =
-    let u = time_of s xs tow in
-    let taken : taken_at s xs m ≡ Some u = grind (arith, own, some, early, within) in
-    let new = new_time s xs (next s xs m) u taken (follows s xs tow early) in
-    let late = late_same s xs m tow shut some closes in
-    let none_first = no_first s xs m tow shut own some closes early within in
-    let step : step_by (standing s xs shut) m ≡ ended_where (ends_epoch s m) (record { setup = s; latest = Some u; pending = true }) =
-    grind (arith, own, some, late, early, within, none_first) in
-    (grind (arith, own, some, late, early, within, none_first), step ∙ ended_to s xs m (Some u) true new.0 new.1)
+no_first s xs m own some closes early within = grind (arith, common_steps)
 
 pub takes : (s : GatherSetup) (xs : List Timed) (n : CellCounts) (m : Heard) (shut : Bool) → closes_first s xs m ≡ shut → Takes s xs n m shut
 takes s xs n m shut closes = by_own (is_own s m) m.tow refl refl where
   by_bad : (tow : ℕ) (bad late past : Bool) → is_own s m ≡ true → m.tow ≡ Some tow → is_late s xs tow ≡ late → is_past (time_of s xs tow) ≡ past
       → Takes s xs n m shut
-  by_bad tow bad true past own some late is_over = not_taken s xs n m tow shut own some closes (ap (λ v. v || is_past (time_of s xs tow)) late)
-  by_bad tow bad false true own some late is_over = not_taken s xs n m tow shut own some closes (ap₂ (λ v w. v || w) late is_over)
-  by_bad tow bad false false own some late is_over = is_taken s xs n m tow shut own some closes late is_over
+  by_bad tow bad true past own some late is_over = not_taken s xs n m own some closes (ap (λ v. v || is_past (time_of s xs tow)) late)
+  by_bad tow bad false true own some late is_over = not_taken s xs n m own some closes (ap₂ (λ v w. v || w) late is_over)
+  by_bad tow bad false false own some early within =
+      let u = time_of s xs tow in
+      let taken : taken_at s xs m ≡ Some u = grind (arith, own, some, early, within) in
+      let new = new_time s xs (next s xs m) u taken (follows s xs tow early) in
+      let late = late_same s xs m tow shut some closes in
+      let none_first = no_first s xs m own some closes early within in
+      let step : step_by (standing s xs shut) m ≡ ended_where (ends_epoch s m) (record { setup = s; latest = Some u; pending = true }) =
+      grind (arith, own, some, late, early, within, none_first) in
+      (grind (arith, own, some, late, early, within, none_first), step ∙ ended_to s xs m (Some u) true new.0 new.1)
 
   by_own : (own : Bool) (tow : Option ℕ) → is_own s m ≡ own → m.tow ≡ tow → Takes s xs n m shut
   by_own false tow own some = not_own s xs n m shut own closes

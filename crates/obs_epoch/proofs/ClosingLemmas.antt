@@ -43,16 +43,16 @@ pub own_of : (s : GatherSetup) (xs : List Timed) (m : Heard) (u : ℕ) → taken
 own_of s xs m u some = grind (arith, common_steps)
 
 -- An accepted message: whether it closes the epoch before, and its own.
-pub taken_by : (s : GatherSetup) (xs : List Timed) (m : Heard) (u : ℕ) → is_own s m ≡ true → taken_at s xs m ≡ Some u → Follows s xs u
+pub taken_by : {s : GatherSetup} {xs : List Timed} (m : Heard) {u : ℕ} → is_own s m ≡ true → taken_at s xs m ≡ Some u → Follows s xs u
     → (shut : Bool) → closes_first s xs m ≡ shut
     → closed_times s (xs ++ next s xs m ∷ []) ≡ closed_so_far s xs shut ++ when (ends_epoch s m) u
-taken_by s xs m u own some (first e) shut h =
+taken_by {s} {xs} m {u} own some (first e) shut h =
     let open_still : shut ≡ false = grind (arith, h, e) in
     closed-push_first s xs (next s xs m) u some e ∙ ap (λ l. l ++ when (ends_epoch s m) u) (sym (plain s xs) ∙ ap (closed_so_far s xs) (sym open_still))
-taken_by s xs m u own some (equal e c) shut h =
+taken_by {s} {xs} m {u} own some (equal e c) shut h =
     let open_still : shut ≡ false = not_less (is_closed s u xs) shut u (sym (first_is s xs m u u own some e) ∙ h) in
     closed-push_same s xs (next s xs m) u some e c ∙ ap (λ l. l ++ when (ends_epoch s m) u) (sym (plain s xs) ∙ ap (closed_so_far s xs) (sym open_still))
-taken_by s xs m u own some (greater t e lt) shut h =
+taken_by {s} {xs} m {u} own some (greater t e lt) shut h =
     let same : when (not (is_closed s t xs)) t ≡ (if shut then option_to_list (greatest_time xs) else []) =
     shut_text (is_closed s t xs) shut (nat_lt t u) t (greatest_time xs) e (less t u lt) (sym (first_is s xs m u t own some e) ∙ h) in
     closed-push_greater s xs (next s xs m) t u some e lt ∙ ap (λ l. (closed_times s xs ++ l) ++ when (ends_epoch s m) u) same
@@ -81,14 +81,14 @@ closing_none s xs m shut none h =
       open_still : shut ≡ false
       open_still = grind (arith, none, h)
 
-      by : (k : Kind) (ends p sh : Bool) (before after : Option ℕ) → is_close_first k ≡ false → is_kept k ≡ false → sh ≡ false → after ≡ before
+      by : (k : Kind) (ends p : Bool) {sh : Bool} (before : Option ℕ) {after : Option ℕ} → is_close_first k ≡ false → is_kept k ≡ false → sh ≡ false → after ≡ before
           → (if ends && p then before else None) ≡ closed_of k ends (p && not sh) before after
-      by k ends p sh before after other untaken still same = grind (arith, common_steps)
+      by k ends p before other untaken still same = grind (arith, common_steps)
 
       closed : (if ends_epoch s m && is_pending s xs then greatest_time xs else None) ≡ closed_in s xs m shut
       closed =
           let kind = refused s xs no_counts m none in
-          by (kind_after s xs no_counts m) (ends_epoch s m) (is_pending s xs) shut (greatest_time xs) _ kind.0 kind.1 open_still (same_time s xs (next s xs m) none).0
+          by (kind_after s xs no_counts m) (ends_epoch s m) (is_pending s xs) (greatest_time xs) kind.0 kind.1 open_still (same_time s xs (next s xs m) none).0
 
 closing_some : (s : GatherSetup) (xs : List Timed) (m : Heard) (u : ℕ) (shut : Bool) → taken_at s xs m ≡ Some u → closes_first s xs m ≡ shut
     → closed_so_far s (xs ++ next s xs m ∷ []) false ≡ closed_so_far s xs shut ++ option_to_list (closed_in s xs m shut)
@@ -96,11 +96,11 @@ closing_some s xs m u shut some h =
     let own = own_of s xs m u some in
     let new = new_time s xs (next s xs m) u some (taken_follows s xs m u some) in
     let kind = accepted s xs no_counts m u some in
-    plain s (xs ++ next s xs m ∷ []) ∙ taken_by s xs m u own some (taken_follows s xs m u some) shut h
-    ∙ ap (λ l. closed_so_far s xs shut ++ l) (kept_text (kind_after s xs no_counts m) (ends_epoch s m) (is_pending s xs && not shut) (greatest_time xs) _ u kind.0 kind.1 new.0) where
-      kept_text : (k : Kind) (ends was : Bool) (before after : Option ℕ) (v : ℕ) → is_close_first k ≡ false → is_kept k ≡ true → after ≡ Some v
+    plain s (xs ++ next s xs m ∷ []) ∙ taken_by m own some (taken_follows s xs m u some) shut h
+    ∙ ap (λ l. closed_so_far s xs shut ++ l) (kept_text (kind_after s xs no_counts m) (ends_epoch s m) (is_pending s xs && not shut) (greatest_time xs) kind.0 kind.1 new.0) where
+      kept_text : (k : Kind) (ends was : Bool) (before : Option ℕ) {after : Option ℕ} {v : ℕ} → is_close_first k ≡ false → is_kept k ≡ true → after ≡ Some v
           → when ends v ≡ option_to_list (closed_of k ends was before after)
-      kept_text k ends was before after v other kept at = grind (arith, common_steps)
+      kept_text k ends was before other kept at = grind (arith, common_steps)
 
 pub closing : (s : GatherSetup) (xs : List Timed) (m : Heard) (shut : Bool) → closes_first s xs m ≡ shut
     → closed_so_far s (xs ++ next s xs m ∷ []) false ≡ closed_so_far s xs shut ++ option_to_list (closed_by (standing s xs shut) m)

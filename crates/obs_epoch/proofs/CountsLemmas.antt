@@ -101,31 +101,21 @@ record Sums (N n : CellCounts) (b a skipped known crowded : ℕ) : Type 0 where
   pub knows : N.repeated + N.kept ≡ (n.repeated + n.kept) + known
   pub crowds : N.crowded ≡ n.crowded + crowded
 
-same_as : (n : ℕ) → n ≡ n + 0
-same_as n = omega arith
-
-one_repeated : (r k : ℕ) → (r + 1) + k ≡ (r + k) + 1
-one_repeated r k = omega arith
-
-one_kept : (r k : ℕ) → r + (k + 1) ≡ (r + k) + 1
-one_kept r k = omega arith
-
-sum_by_one : (N n m : CellCounts) (b b' e k s r c skipped known crowded : ℕ) → Sums N m b' e skipped known crowded → b' ≡ b + k → m.kept ≡ n.kept + k → m.skipped ≡ n.skipped + s
-    → m.repeated + m.kept ≡ (n.repeated + n.kept) + r → m.crowded ≡ n.crowded + c → Sums N n b e (s + skipped) (r + known) (c + crowded)
-sum_by_one N n m b b' e k s r c skipped known crowded h g one two three four = grind (arith, common_steps)
+-- Counts that are added in two steps are added at once.
+both_sums : {N m n : CellCounts} {b b' e s r c skipped known crowded : ℕ} → Sums N m b' e skipped known crowded → Sums m n b b' s r c → Sums N n b e (s + skipped) (r + known) (c + crowded)
+both_sums h g = grind (arith, common_steps)
 
 -- One more cell at the beginning.
-one_sum : (N n : CellCounts) (p a f : Bool) (b b' e skipped known crowded : ℕ)
-    → Sums N (count_in (if p then (if a then Repeated else (if f then Crowded else Kept)) else Skipped) n) b' e skipped known crowded
+one_sum : {N n : CellCounts} (p a f : Bool) {b b' e skipped known crowded : ℕ} → Sums N (count_in (if p then (if a then Repeated else (if f then Crowded else Kept)) else Skipped) n) b' e skipped known crowded
     → b' ≡ b + (if p then (if not (a || f) then 1 else 0) else 0)
     → Sums N n b e ((if not p then 1 else 0) + skipped) ((if p then (if (a || not f) then 1 else 0) else 0) + known) ((if p then (if not (a || not f) then 1 else 0) else 0) + crowded)
-one_sum N n false a f b b' e skipped known crowded h g = grind (arith, common_steps, sum_by_one, same_as)
-one_sum N n true true f b b' e skipped known crowded h g = grind (arith, common_steps, sum_by_one, same_as, one_repeated)
-one_sum N n true false true b b' e skipped known crowded h g = grind (arith, common_steps, sum_by_one, same_as)
-one_sum N n true false false b b' e skipped known crowded h g = grind (arith, common_steps, sum_by_one, same_as, one_kept)
+one_sum false a f h g = both_sums h (record { kept = omega (arith, g); skips = refl; knows = omega arith; crowds = omega arith })
+one_sum true true f h g = both_sums h (record { kept = omega (arith, g); skips = omega arith; knows = omega arith; crowds = omega arith })
+one_sum true false true h g = both_sums h (record { kept = omega (arith, g); skips = omega arith; knows = omega arith; crowds = refl })
+one_sum true false false h g = both_sums h (record { kept = omega (arith, g); skips = omega arith; knows = omega arith; crowds = omega arith })
 
-change : (N n : CellCounts) (b e u v w u' v' w' : ℕ) → u ≡ u' → v ≡ v' → w ≡ w' → Sums N n b e u v w → Sums N n b e u' v' w'
-change N n b e u v w u' v' w' p q r h = record { kept = h.kept; skips = h.skips ∙ ap (λ k. n.skipped + k) p; knows = h.knows ∙ ap (λ k. (n.repeated + n.kept) + k) q; crowds = h.crowds ∙ ap (λ k. n.crowded + k) r }
+change : {N n : CellCounts} {b e u v w u' v' w' : ℕ} → u ≡ u' → v ≡ v' → w ≡ w' → Sums N n b e u v w → Sums N n b e u' v' w'
+change {n} p q r h = record { kept = h.kept; skips = h.skips ∙ ap (λ k. n.skipped + k) p; knows = h.knows ∙ ap (λ k. (n.repeated + n.kept) + k) q; crowds = h.crowds ∙ ap (λ k. n.crowded + k) r }
 
 abbrev planned : GatherSetup → List HeardCell → List HeardCell
 planned s ys = filter (is_planned s) ys
@@ -140,8 +130,8 @@ count_cons p x xs = sum_by-cons (λ y. cond (p y) 1 0) x xs
 
 tally_step : (s : GatherSetup) (xs : List HeardCell) (n : CellCounts) (y : HeardCell) (ys : List HeardCell) → Tally s (xs ++ planned_one s y) (count_in (outcome_after s xs y) n) ys → Tally s xs n (y ∷ ys)
 tally_step s xs n y ys h =
-    change (counts_after s (xs ++ planned_one s y) (count_in (outcome_after s xs y) n) ys) n (length (kept_of_both xs)) (length (kept_of_both (xs ++ planned s (y ∷ ys)))) _ _ _ _ _ _ (sym skips) (sym (knows (is_planned s y))) (sym (crowds (is_planned s y)))
-    (one_sum (counts_after s (xs ++ planned_one s y) (count_in (outcome_after s xs y) n) ys) n (is_planned s y) a f (length (kept_of_both xs)) (length (kept_of_both (xs ++ planned_one s y))) (length (kept_of_both (xs ++ planned s (y ∷ ys)))) _ _ _
+    change (sym skips) (sym (knows (is_planned s y))) (sym (crowds (is_planned s y)))
+    (one_sum (is_planned s y) a f
     (subst (λ w. Sums (counts_after s (xs ++ planned_one s y) (count_in (outcome_after s xs y) n) ys) (count_in (outcome_after s xs y) n) (length (kept_of_both (xs ++ planned_one s y))) (length (kept_of_both w)) (count_by (λ x. not (is_planned s x)) ys)
     (count_by (is_among (kept_of_both w)) (planned s ys)) (count_by (λ x. not (is_among (kept_of_both w) x)) (planned s ys))) (whole (is_planned s y)) h)
     (before (is_planned s y))) where

@@ -36,19 +36,19 @@ some_is : (a b : ℕ) → Some a ≡ Some b → a ≡ b
 some_is a b e = grind (arith, e)
 
 -- An epoch that a step closes wasn't closed before.
-new_open : (g : GathererValue) (s : GatherSetup) (ms : List Heard) (m : Heard) (shut : Bool) → HasTakenMessages g s ms shut → closes_first s (timed s ms) m ≡ shut
+new_open : {g : GathererValue} {s : GatherSetup} {ms : List Heard} (m : Heard) {shut : Bool} → HasTakenMessages g s ms shut → closes_first s (timed s ms) m ≡ shut
     → (t : ℕ) → closes g.clock m ≡ Some t → is_shut s (timed s ms) t ≡ false
-new_open g s ms m shut h early t e = by (taken_at s xs m) refl where
+new_open {g} {s} {ms} m {shut} h early t e = by (taken_at s xs m) refl where
   xs : List Timed
   xs = timed s ms
 
   now : greatest_time (timed s (ms ++ m ∷ [])) ≡ Some t
-  now = time_taken g s ms m shut h early t e
+  now = time_taken m h early t e
 
   by : (o : Option ℕ) → taken_at s xs m ≡ o → is_shut s xs t ≡ false
   by None none =
       let same : greatest_time xs ≡ Some t = sym (same_time s xs (next s xs m) none).0 ∙ ap greatest_time (sym (timed-push s ms m)) ∙ now in
-      pending_open s xs t same (pending_taken g s ms m shut h early none t e)
+      pending_open s xs t same (pending_taken m h early none t e)
   by (Some u) some =
       let follow = taken_follows s xs m u some in
       let is : u ≡ t = some_is u t (sym (new_time s xs (next s xs m) u some follow).0 ∙ ap greatest_time (sym (timed-push s ms m)) ∙ now) in
@@ -75,17 +75,17 @@ shut_new s ys before t grown =
     (each_back (is_shut s ys) before (t ∷ []) (subst (Each (is_shut s ys)) all (each_filter (is_shut s ys) (times ys)))).0
 
 -- The epoch that a step closes, as it is returned.
-new_closed : (g : GathererValue) (s : GatherSetup) (ms : List Heard) (m : Heard) (shut : Bool) → HasTakenMessages g s ms shut → closes_first s (timed s ms) m ≡ shut → IsSet m
+new_closed : {g : GathererValue} {s : GatherSetup} {ms : List Heard} (m : Heard) {shut : Bool} → HasTakenMessages g s ms shut → closes_first s (timed s ms) m ≡ shut → IsSet m
     → (o : Option ℕ) → closes g.clock m ≡ o → (take_step g m).state.just_closed ≡ is_some o
     → returned_epoch (take_step g m).state ≡ closed_list_at s (ms ++ m ∷ []) (option_to_list o)
-new_closed g s ms m shut h early given None e has = let v = (take_step g m).state in ap (λ b. closed_by (if b then Some (v.epoch) else None) v.values) has
-new_closed g s ms m shut h early given (Some t) e has =
+new_closed {g} m h early given None e has = let v = (take_step g m).state in ap (λ b. closed_by (if b then Some (v.epoch) else None) v.values) has
+new_closed {g} {s} {ms} m {shut} h early given (Some t) e has =
     let v = (take_step g m).state in
     let ns = ms ++ m ∷ [] in
     let ys = timed s ns in
     let t1 = taken g s ms m shut h early in
-    let now = time_taken g s ms m shut h early t e in
-    let open_still = new_open g s ms m shut h early t e in
+    let now = time_taken m h early t e in
+    let open_still = new_open m h early t e in
     let closed_now = shut_new s ys (closed_so_far s (timed s ms) shut) t (times_taken g s ms m shut h early ∙ ap (λ o. closed_so_far s (timed s ms) shut ++ option_to_list o) e) in
     let epoch : v.epoch ≡ epoch_at s ys t = t1.after.epoch ∙ ap (λ o. option_map_or (epoch_at s ys) o no_epoch) now in
     let values : v.values ≡ values_of s (before_closing s t ns) =
@@ -94,9 +94,9 @@ new_closed g s ms m shut h early given (Some t) e has =
     ∙ ap₂ (λ (a : EpochValue) w. record { epoch = a; values = w } ∷ []) epoch values
 
 -- The pending epoch, as it is returned.
-pending_closed : (v : GathererValue) (s : GatherSetup) (ms : List Heard) (t : ℕ) → greatest_time (timed s ms) ≡ Some t → is_pending s (timed s ms) ≡ true
+pending_closed : (v : GathererValue) (s : GatherSetup) (ms : List Heard) {t : ℕ} → greatest_time (timed s ms) ≡ Some t → is_pending s (timed s ms) ≡ true
     → v.epoch ≡ held_at s (timed s ms) → v.values ≡ values_of s ms → v.just_closed ≡ true → returned_epoch v ≡ closed_list_at s ms (option_to_list (greatest_time (timed s ms)))
-pending_closed v s ms t e p epoch values has = grind (arith, common_steps, before_all, pending_open)
+pending_closed v s ms e p epoch values has = grind (arith, common_steps, before_all, pending_open)
 
 -- ---- the calls
 
@@ -111,9 +111,9 @@ pub not_done : (v : GathererValue) (s : GatherSetup) (ms : List Heard) (again : 
 not_done v s ms again going = or_and (is_some again) v.has_ended (is_pending s (timed s ms)) going
 
 -- A message is processed.
-pub gathers_taken : (g : GathererValue) (s : GatherSetup) (ms : List Heard) (es : List Closed) (again : Option Heard) (m : Heard) → HasGatheredEpochs g s ms es again → g.has_ended ≡ false
+pub gathers_taken : {g : GathererValue} {s : GatherSetup} {ms : List Heard} {es : List Closed} {again : Option Heard} (m : Heard) → HasGatheredEpochs g s ms es again → g.has_ended ≡ false
     → closes_first s (timed s ms) m ≡ is_some again → IsSet m → HasGatheredEpochs (take_step g m).state s (ms ++ m ∷ []) (es ++ returned_epoch (take_step g m).state) None
-gathers_taken g s ms es again m h going early given =
+gathers_taken {g} {s} {ms} {es} {again} m h going early given =
     let v = (take_step g m).state in
     let ns = ms ++ m ∷ [] in
     let shut = is_some again in
@@ -123,7 +123,7 @@ gathers_taken g s ms es again m h going early given =
     let o = closes g.clock m in
     let grown = times_taken g s ms m shut standing early in
     let returned : es ++ returned_epoch v ≡ closed_list_at s ns (closed_so_far s (timed s ns) false) =
-    ap₂ (λ a b. a ++ b) was (new_closed g s ms m shut standing early given o refl (handed_is g m)) ∙ sym (keeps s ms m shut o early grown) in
+    ap₂ (λ a b. a ++ b) was (new_closed m standing early given o refl (handed_is g m)) ∙ sym (keeps s ms m shut o early grown) in
     let epochs : es ++ returned_epoch v ≡ known_epochs v.has_ended s ns =
     returned ∙ ap (closed_list_at s ns) (append-nil (closed_times s (timed s ns))) ∙ ap (λ b. known_epochs b s ns) (sym goes) in
     record {
@@ -136,9 +136,9 @@ gathers_taken g s ms es again m h going early given =
     }
 
 -- The pending epoch is closed first.
-pub gathers_first : (g : GathererValue) (s : GatherSetup) (ms : List Heard) (es : List Closed) (m : Heard) → HasGatheredEpochs g s ms es None → g.has_ended ≡ false
+pub gathers_first : {g : GathererValue} {s : GatherSetup} {ms : List Heard} {es : List Closed} (m : Heard) → HasGatheredEpochs g s ms es None → g.has_ended ≡ false
     → closes_first s (timed s ms) m ≡ true → m.point ≡ None → HasGatheredEpochs (take_step g m).state s ms (es ++ returned_epoch (take_step g m).state) (Some m)
-gathers_first g s ms es m h going early point = by (greatest_time (timed s ms)) refl where
+gathers_first {g} {s} {ms} {es} m h going early point = by (greatest_time (timed s ms)) refl where
   xs : List Timed
   xs = timed s ms
 
@@ -165,7 +165,7 @@ gathers_first g s ms es m h going early point = by (greatest_time (timed s ms)) 
       let f = closes_it g s ms m standing early point in
       let has : v.just_closed ≡ true = handed_is g m ∙ f.has in
       let returned : es ++ returned_epoch v ≡ closed_list_at s ms (closed_so_far s xs true) =
-      ap₂ (λ a b. a ++ b) (was ∙ ap (closed_list_at s ms) (append-nil (closed_times s xs))) (pending_closed v s ms t e pending f.after.epoch f.after.values has)
+      ap₂ (λ a b. a ++ b) (was ∙ ap (closed_list_at s ms) (append-nil (closed_times s xs))) (pending_closed v s ms e pending f.after.epoch f.after.values has)
       ∙ sym (map-append (closed_at s ms) (closed_times s xs) (option_to_list (greatest_time xs))) in
       let ns = ms ++ m ∷ [] in
       let o = closes (standing_at s xs true) m in
@@ -243,7 +243,7 @@ gathers_ended g s ms es h going = (
   last true p = by (greatest_time xs) refl where
     by : (o : Option ℕ) → greatest_time xs ≡ o → returned_epoch v ≡ closed_list_at s ms (option_to_list (greatest_time xs))
     by None e = absurd (grind (arith, e, p))
-    by (Some t) e = pending_closed v s ms t e p f.after.epoch f.after.values (has ∙ p)
+    by (Some t) e = pending_closed v s ms e p f.after.epoch f.after.values (has ∙ p)
 
   returned : es ++ returned_epoch v ≡ closed_list_at s ms (closed_so_far s xs (is_pending s xs))
   returned =

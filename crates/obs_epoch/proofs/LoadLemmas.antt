@@ -57,17 +57,15 @@ abbrev pub epoch_by : PlanValue → CellOutcome → (HeardCell → Option KnownL
 epoch_by p Kept f e x = with_more p e (kept_cell x (lli_with e.time x (f x)))
 epoch_by p _ f e x = e
 
-one_in : (system : System) (s : GatherSetup) (f : HeardCell → Option KnownLock) (t : ℕ) (xs : List HeardCell) (x : HeardCell) (p a n : Bool) → x.satellite.system ≡ system
-    → is_planned s x ≡ p → is_among (kept system xs) x ≡ a → nat_le most_cells (length (kept system xs)) ≡ n
-    → epoch_by s.plan (if p then (if a then Repeated else (if n then Crowded else Kept)) else Skipped) f (epoch_of s.plan f t xs) x ≡ epoch_of s.plan f t (xs ++ (if p then x ∷ [] else []))
-one_in system s f t xs x false a n g e h k = ap (epoch_of s.plan f t) (sym (append-nil xs))
-one_in Gps s f t xs x true a n g e h k = grind (arith, common_steps, kept-add, add_other, add_own, with_lli_by-push)
-one_in Galileo s f t xs x true a n g e h k = grind (arith, common_steps, kept-add, add_other, add_own, with_lli_by-push)
-
 -- After one more cell, the kept epoch is that of the longer list.
 one_more : (s : GatherSetup) (f : HeardCell → Option KnownLock) (t : ℕ) (xs : List HeardCell) (x : HeardCell)
     → epoch_by s.plan (outcome_after s xs x) f (epoch_of s.plan f t xs) x ≡ epoch_of s.plan f t (xs ++ planned_one s x)
-one_more s f t xs x = one_in x.satellite.system s f t xs x _ _ _ refl refl refl refl
+one_more s f t xs x = by x.satellite.system (is_planned s x) refl refl refl refl where
+  by : (system : System) (p : Bool) {a n : Bool} → x.satellite.system ≡ system → is_planned s x ≡ p → is_among (kept system xs) x ≡ a → nat_le most_cells (length (kept system xs)) ≡ n
+      → epoch_by s.plan (if p then (if a then Repeated else (if n then Crowded else Kept)) else Skipped) f (epoch_of s.plan f t xs) x ≡ epoch_of s.plan f t (xs ++ (if p then x ∷ [] else []))
+  by system false g e h k = ap (epoch_of s.plan f t) (sym (append-nil xs))
+  by Gps true g e h k = grind (arith, common_steps, kept-add, add_other, add_own, with_lli_by-push)
+  by Galileo true g e h k = grind (arith, common_steps, kept-add, add_other, add_own, with_lli_by-push)
 
 -- The counts after these cells, one by one.
 abbrev pub counts_after : GatherSetup → List HeardCell → CellCounts → List HeardCell → CellCounts

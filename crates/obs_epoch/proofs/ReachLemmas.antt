@@ -155,17 +155,15 @@ other_place : (system : System) (x y : HeardCell) (m n : ℕ) → is_of_system s
     → same_place (kept_cell x m) (kept_cell y n) ≡ false
 other_place system x y m n h k other = grind (arith, common_steps)
 
-all_other : (s : GatherSetup) (xs : List Timed) (t : ℕ) (system : System) (c : HeardCell) (m : ℕ) (cs : List HeardCell) → is_of_system system c ≡ true → AllByRecursion (IsKept s system) cs
-    → AllByRecursion (λ y. has_same_key c y ≡ false) cs
-    → AllByRecursion (λ y. same_place (kept_cell c m) y ≡ false) ((cells_with_lli s xs t cs))
-all_other s xs t system c m [] h k other = tt
-all_other s xs t system c m (y ∷ cs) h k other = (other_place system c y m (lli_of s xs t y) h k.0.1 other.0, all_other s xs t system c m cs h k.1 other.1)
-
 places_apart : (s : GatherSetup) (xs : List Timed) (t : ℕ) (system : System) (cs : List HeardCell) → AllByRecursion (IsKept s system) cs → IsDistinct has_same_key cs
     → IsDistinct same_place ((cells_with_lli s xs t cs))
 unfolding IsDistinct
 places_apart s xs t system [] h d = tt
-places_apart s xs t system (c ∷ cs) h d = (all_other s xs t system c (lli_of s xs t c) cs h.0.1 h.1 d.0, places_apart s xs t system cs h.1 d.1)
+places_apart s xs t system (c ∷ cs) h d = (all_other cs h.1 d.0, places_apart s xs t system cs h.1 d.1) where
+  all_other : (ys : List HeardCell) → AllByRecursion (IsKept s system) ys → AllByRecursion (λ y. has_same_key c y ≡ false) ys
+      → AllByRecursion (λ y. same_place (kept_cell c (lli_of s xs t c)) y ≡ false) (cells_with_lli s xs t ys)
+  all_other [] k other = tt
+  all_other (y ∷ ys) k other = (other_place system c y (lli_of s xs t c) (lli_of s xs t y) h.0.1 k.0.1 other.0, all_other ys k.1 other.1)
 
 cells_gathered : (s : GatherSetup) (xs : List Timed) (t : ℕ) (system : System) → AllByRecursion IsTimed xs
     → AreGathered system (planned_of system s.plan) ((cells_with_lli s xs t (kept_at s t xs system)))

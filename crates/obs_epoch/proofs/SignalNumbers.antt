@@ -209,15 +209,15 @@ first_number system left counts x n g is once =
 lengths : (c c' : SignalCountsValue) (s : System) → length c'.gps ≡ length c.gps → length c'.galileo ≡ length c.galileo → length (signal_counts s c') ≡ length (signal_counts s c)
 lengths c c' s e f = grind (arith, common_steps, e, f)
 
-join : (a b c d e f : ℕ) → a ≡ b + d → b ≡ c + e → f ≡ e + d → a ≡ c + f
-join a b c d e f x y z = omega (arith, x, y, z)
+join : {a b : ℕ} (c d e : ℕ) {f : ℕ} → a ≡ b + d → b ≡ c + e → f ≡ e + d → a ≡ c + f
+join c d e x y z = omega (arith, x, y, z)
 
 room : (b c e n : ℕ) → b ≡ c + e → c < 2 ^ 63 → e ≤ 64 → n ≤ 64 → b + n ≤ 2 ^ 64 - 1
 room b c e n x y z w = omega (arith, x, y, z, w)
 
-pub adds_some : (c c' after : SignalCountsValue) (system : System) (all left counts : List ℕ) (x n : ℕ) (g : SignalAt) → Adds c c' system all counts → all ≡ x ∷ left → signal_of_id system x ≡ Some g → n ≡ get_or counts (x - 1) 0 → ((i : ℕ) → get_or counts i 0 ≤ 64)
+pub adds_some : {c c' after : SignalCountsValue} {system : System} {all left counts : List ℕ} {x n : ℕ} {g : SignalAt} → Adds c c' system all counts → all ≡ x ∷ left → signal_of_id system x ≡ Some g → n ≡ get_or counts (x - 1) 0 → ((i : ℕ) → get_or counts i 0 ≤ 64)
     → has_id x left ≡ false → after ≡ counted_more g n c' → Adds c after system left counts
-adds_some c c' after system all left counts x n g a split some is few once made = rw made (record {
+adds_some {c} {c'} {system} {left} {counts} {x} {n} {g} a split some is few once made = rw made (record {
   gps = more_gps g.system g.index n c' ∙ a.gps;
   galileo = more_galileo g.system g.index n c' ∙ a.galileo;
   each = λ s i listed len small.
@@ -226,11 +226,11 @@ adds_some c c' after system all left counts x n g a split some is few once made 
       let within : i < length (signal_counts s c') = omega (arith, listed, len, lengths c c' s a.gps a.galileo) in
       let same = the_signal system x r g listed some in
       let step : number system left counts r ≡ number system (x ∷ left) counts r + (if is_system s g.system && (g.index == i) then n else 0) = first_number system left counts x n r is once ∙ rw same refl in
-      join _ _ _ _ _ _ (more_at g n c' s i within (room _ _ _ n before small (number_few _ _ (few (id_of r - 1))) (omega (arith, is, few (x - 1))))) before step;
+      join _ _ _ (more_at g n c' s i within (room _ _ _ n before small (number_few _ _ (few (id_of r - 1))) (omega (arith, is, few (x - 1))))) before step;
 })
 
-pub adds_none : (c c' : SignalCountsValue) (system : System) (all left counts : List ℕ) (x n : ℕ) → Adds c c' system all counts → all ≡ x ∷ left → signal_of_id system x ≡ None → n ≡ get_or counts (x - 1) 0 → has_id x left ≡ false → Adds c c' system left counts
-adds_none c c' system all left counts x n a split none is once = record {
+pub adds_none : {c c' : SignalCountsValue} {system : System} {all left counts : List ℕ} {x n : ℕ} → Adds c c' system all counts → all ≡ x ∷ left → signal_of_id system x ≡ None → n ≡ get_or counts (x - 1) 0 → has_id x left ≡ false → Adds c c' system left counts
+adds_none {c} {c'} {system} {left} {counts} {x} {n} a split none is once = record {
   gps = a.gps;
   galileo = a.galileo;
   each = λ s i listed len small.
@@ -242,8 +242,8 @@ adds_none c c' system all left counts x n a split none is once = record {
 
 -- ---- all numbers
 
-pub finished : (c c' : SignalCountsValue) (system : System) (left counts : List ℕ) (es : List Entry) → Adds c c' system left counts → left ≡ [] → ((i : ℕ) → i < 32 → get_or counts i 0 ≡ value_count (satellite_set system) (i + 1) es) → CountsEntries c c' system es
-finished c c' system left counts es a none numbers = λ field cells few h. record {
+pub finished : {c c' : SignalCountsValue} {system : System} {left counts : List ℕ} (es : List Entry) → Adds c c' system left counts → left ≡ [] → ((i : ℕ) → i < 32 → get_or counts i 0 ≡ value_count (satellite_set system) (i + 1) es) → CountsEntries c c' system es
+finished {c} {c'} {system} {counts} es a none numbers = λ field cells few h. record {
   gps = a.gps ∙ h.gps;
   galileo = a.galileo ∙ h.galileo;
   each = λ s i listed.
@@ -253,13 +253,13 @@ finished c c' system left counts es a none numbers = λ field cells few h. recor
       let small : counted c s i < 2 ^ 63 = below _ _ _ (length es) start (few_of r cells) few in
       let before : counted c' s i ≡ counted c s i + number system [] counts r = subst (λ (l : List ℕ). counted c' s i ≡ counted c s i + number system l counts r) none (a.each s i listed (listed_lengths c s h.gps h.galileo) small) in
       let total : count_of r more ≡ number system [] counts r = all_entries field system es r listed ∙ sym (last r listed (is_system system s)) in
-      ended _ _ _ _ _ _ before start (count_append r cells more) total;
+      ended before start (count_append r cells more) total;
 } where
   below : (a b l n : ℕ) → a ≡ b → b ≤ l → l + n < 2 ^ 63 → a < 2 ^ 63
   below a b l n x y z = omega (arith, x, y, z)
 
-  ended : (a b c d e f : ℕ) → a ≡ b + c → b ≡ d → e ≡ d + f → f ≡ c → a ≡ e
-  ended a b c d e f x y z w = omega (arith, x, y, z, w)
+  ended : {a b c d e f : ℕ} → a ≡ b + c → b ≡ d → e ≡ d + f → f ≡ c → a ≡ e
+  ended x y z w = omega (arith, x, y, z, w)
 
   listed_lengths : (c : SignalCountsValue) (s : System) → length c.gps ≡ length (table Gps) → length c.galileo ≡ length (table Galileo) → length (signal_counts s c) ≡ length (table s)
   listed_lengths c s e f = grind (arith, common_steps, e, f)

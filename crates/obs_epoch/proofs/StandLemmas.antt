@@ -12,23 +12,23 @@ use Rattle.std.proofs.lemmas.Grind.{common_steps}
 
 -- ---- one more cell
 
-of_place : (planned : List ℕ) (i j : ℕ) (a b : Option ℕ) → position (λ k. k == i) planned ≡ a → position (λ k. k == j) planned ≡ b → is_some a ≡ true → is_some b ≡ true
+of_place : (planned : List ℕ) {i j : ℕ} (a b : Option ℕ) → position (λ k. k == i) planned ≡ a → position (λ k. k == j) planned ≡ b → is_some a ≡ true → is_some b ≡ true
     → option_map_or (λ q. q) a 0 ≡ option_map_or (λ q. q) b 0 → i ≡ j
-of_place planned i j None b e f h k g = absurd (grind (arith, h))
-of_place planned i j (Some p) None e f h k g = absurd (grind (arith, k))
-of_place planned i j (Some p) (Some q) e f h k g =
+of_place planned None b e f h k g = absurd (grind (arith, h))
+of_place planned (Some p) None e f h k g = absurd (grind (arith, k))
+of_place planned {i} {j} (Some p) (Some q) e f h k g =
     let one = (position-Some (λ n. n == i) planned p 0 e).1 in
     let two = (position-Some (λ n. n == j) planned q 0 f).1 in
     let first : get_or planned p 0 ≡ i = grind (arith, one) in
     let second : get_or planned q 0 ≡ j = grind (arith, two) in
     sym first ∙ ap (λ n. get_or planned n 0) g ∙ second
 
-other_sort_key : (system : System) (planned : List ℕ) (x y : HeardCell) → x.satellite.system ≡ system → y.satellite.system ≡ system → is_some (place_in x.signal planned) ≡ true → is_some (place_in y.signal planned) ≡ true
+other_sort_key : (planned : List ℕ) (x y : HeardCell) → x.satellite.system ≡ y.satellite.system → is_some (place_in x.signal planned) ≡ true → is_some (place_in y.signal planned) ≡ true
     → has_same_key x y ≡ false → sort_key_of planned x ≡ sort_key_of planned y → ⊥
-other_sort_key system planned x y a b h k other same =
+other_sort_key planned x y a h k other same =
     let id : x.satellite.id ≡ y.satellite.id = ap (λ (s : SortKey). s.satellite) same in
-    let index : x.signal.index ≡ y.signal.index = of_place planned x.signal.index y.signal.index _ _ refl refl h k (ap (λ (s : SortKey). s.place) same) in
-    by system a b id index other where
+    let index : x.signal.index ≡ y.signal.index = of_place planned _ _ refl refl h k (ap (λ (s : SortKey). s.place) same) in
+    by y.satellite.system a refl id index other where
       by : (c : System) → x.satellite.system ≡ c → y.satellite.system ≡ c → x.satellite.id ≡ y.satellite.id → x.signal.index ≡ y.signal.index → has_same_key x y ≡ false → ⊥
       by c p q i j o = grind (arith, common_steps, p, q, i, j, o)
 
@@ -40,7 +40,7 @@ others system planned x (m ∷ ms) a h all none = by (has_same_key x (heard_cell
   by : (b : Bool) → has_same_key x (heard_cell m) ≡ b → (is_held ms x ≡ false → AllByRecursion (λ (n : Cell). sort_key_of planned x ≡ cell_sort_key planned n → ⊥) ms)
       → AllByRecursion (λ (n : Cell). sort_key_of planned x ≡ cell_sort_key planned n → ⊥) (m ∷ ms)
   by true e more = absurd (grind (arith, e, none))
-  by false e more = (other_sort_key system planned x (heard_cell m) a all.0.0 h all.0.1 e, more (ap (λ b. b || is_held ms x) (sym e) ∙ none))
+  by false e more = (other_sort_key planned x (heard_cell m) (a ∙ sym all.0.0) h all.0.1 e, more (ap (λ b. b || is_held ms x) (sym e) ∙ none))
 
 stand_more : (system : System) (planned : List ℕ) (m : Cell) (ms : List Cell) → m.satellite.system ≡ system → is_some (place_in m.signal planned) ≡ true
     → AreInPlanOrder system planned ms → is_held ms (heard_cell m) ≡ false → AreInPlanOrder system planned (insert_by (cell_sort_key planned) m ms)
@@ -113,16 +113,16 @@ hold_after added.Repeated g x lli e = refl
 hold_after added.Crowded g x lli e = refl
 
 -- A cell that arrives is held.
-pub held_is : (g : GathererValue) (e new : EpochValue) (x : HeardCell) (lli : ℕ) (k : Added) → g.epoch ≡ sorted_epoch g.clock.setup.plan e → is_planned g.clock.setup x ≡ true
+pub held_is : (g : GathererValue) {e new : EpochValue} (x : HeardCell) {lli : ℕ} {k : Added} → g.epoch ≡ sorted_epoch g.clock.setup.plan e → is_planned g.clock.setup x ≡ true
     → lli ≡ lli_with g.epoch.time x (lookup g.locks x) → IsAdded e (kept_cell x lli) k new → record g { epoch = sorted_epoch g.clock.setup.plan new } ≡ hold g x
-held_is g e new x lli k is planned mark added =
+held_is g {e} x {lli} {k} is planned mark added =
     let p = g.clock.setup.plan in
     ap (λ v. record g { epoch = v }) (ap (sorted_epoch p) added.epoch ∙ sorted_after k p e (kept_cell x lli) ∙ ap (λ v. epoch_after k p v (kept_cell x lli)) (sym is))
     ∙ hold_after k g x lli mark ∙ ap (λ o. hold_by o g x) (ap outcome_of_added added.outcome ∙ sym (outcome_added g p e x is planned))
 
-pub outcome_is : (g : GathererValue) (e new : EpochValue) (x : HeardCell) (lli : ℕ) (k : Added) → g.epoch ≡ sorted_epoch g.clock.setup.plan e → is_planned g.clock.setup x ≡ true
+pub outcome_is : (g : GathererValue) {e new : EpochValue} (x : HeardCell) (lli : ℕ) {k : Added} → g.epoch ≡ sorted_epoch g.clock.setup.plan e → is_planned g.clock.setup x ≡ true
     → IsAdded e (kept_cell x lli) k new → outcome_of_added k ≡ outcome_in g x
-outcome_is g e new x lli k is planned added = ap outcome_of_added added.outcome ∙ sym (outcome_added g g.clock.setup.plan e x is planned)
+outcome_is g {e} x lli is planned added = ap outcome_of_added added.outcome ∙ sym (outcome_added g g.clock.setup.plan e x is planned)
 
 order_after : (k : Added) (p : PlanValue) (e : EpochValue) (m : Cell) → is_some (place_in m.signal (planned_of m.satellite.system p)) ≡ true → AreInOrder p e
     → (k ≡ added.Kept → is_held (cells_of m.satellite.system e) (heard_cell m) ≡ false) → AreInOrder p (epoch_after k p e m)
@@ -153,10 +153,10 @@ abbrev parts : GathererValue → State → EpochValue → StationValues → Gath
 parts g clock e values = record { clock = clock; epoch = e; locks = g.locks; values = values; just_closed = false; has_ended = g.has_ended }
 
 -- The value after the time and the station values of a message.
-pub heard_is : (g : GathererValue) (e new : EpochValue) (clock : State) (v values : StationValues) (m : Heard) → g.epoch ≡ sorted_epoch g.clock.setup.plan e → clock ≡ step_by g.clock m → new ≡ e
+pub heard_is : (g : GathererValue) {e new : EpochValue} {clock : State} {v values : StationValues} (m : Heard) → g.epoch ≡ sorted_epoch g.clock.setup.plan e → clock ≡ step_by g.clock m → new ≡ e
     → v ≡ values → values ≡ values_after_message g.clock.setup g.values m
     → record { clock = clock; epoch = sorted_epoch clock.setup.plan new; locks = g.locks; values = v; just_closed = false; has_ended = g.has_ended } ≡ rested (with_time g m)
-heard_is g e new clock v values m is step same given by_m =
+heard_is g {new} {clock} {v} m is step same given by_m =
     ap (λ (c : State). parts g c (sorted_epoch c.setup.plan new) v) step
     ∙ ap₂ (λ f u. parts g (step_by g.clock m) f u)
     (ap (λ s. sorted_epoch s.plan new) (step_setup g.clock m) ∙ ap (sorted_epoch g.clock.setup.plan) same ∙ sym is) (given ∙ by_m)
@@ -181,19 +181,20 @@ closed_parts g e l v = record { clock = g.clock; epoch = e; locks = l; values = 
 abbrev noted_both : List (Option KnownLock) → ℕ → List Cell → List Cell → List (Option KnownLock)
 noted_both l n a b = note_all n (note_all n l a) b
 
+-- The locks of both systems' cells are recorded one system after the other.
+pub both_noted : (locks : List (Option KnownLock)) (e : EpochValue) {t : ℕ} {gps galileo : List Cell} {first second : List (Option KnownLock)} → t ≡ e.time → gps ≡ e.gps → galileo ≡ e.galileo
+    → first ≡ note_all t locks gps → second ≡ note_all t first galileo → second ≡ noted_both locks e.time e.gps e.galileo
+both_noted locks e time in_gps in_galileo one two = rw (two, one, time, in_gps, in_galileo) refl
+
 -- The locks of a closed epoch are recorded.
-pub noted_closed : (g : GathererValue) (q r : PendingValue) (t : ℕ) (gps galileo : List Cell) (first second : List (Option KnownLock)) → AreInOrder g.clock.setup.plan (sorted_epoch g.clock.setup.plan q.epoch)
-    → g.epoch ≡ sorted_epoch g.clock.setup.plan q.epoch → g.values ≡ q.values → r ≡ closed_value g.clock.setup.plan q → t ≡ r.epoch.time → gps ≡ r.epoch.gps → galileo ≡ r.epoch.galileo
-    → first ≡ note_all t g.locks gps → second ≡ note_all t first galileo
+pub noted_closed : (g : GathererValue) (q : PendingValue) {r : PendingValue} {second : List (Option KnownLock)} → AreInOrder g.clock.setup.plan (sorted_epoch g.clock.setup.plan q.epoch)
+    → g.epoch ≡ sorted_epoch g.clock.setup.plan q.epoch → g.values ≡ q.values → r ≡ closed_value g.clock.setup.plan q → second ≡ noted_both g.locks r.epoch.time r.epoch.gps r.epoch.galileo
     → record { clock = g.clock; epoch = sorted_epoch g.clock.setup.plan r.epoch; locks = second; values = r.values; just_closed = true; has_ended = g.has_ended } ≡ noted (just_closed_as true g)
-noted_closed g q r t gps galileo first second o epoch values is time in_gps in_galileo one two =
+noted_closed g q {r} {second} o epoch values is both =
     ap (λ v. closed_parts g v second r.values) (ap (λ (v : PendingValue). sorted_epoch g.clock.setup.plan v.epoch) is ∙ sorted_again g.clock.setup.plan q.epoch o ∙ sym epoch)
     ∙ ap₂ (λ l v. closed_parts g g.epoch l v) locks (ap (λ (v : PendingValue). v.values) is ∙ sym values) where
       same : r.epoch ≡ g.epoch
       same = ap (λ (v : PendingValue). v.epoch) is ∙ sym epoch
 
       locks : second ≡ noted_both g.locks g.epoch.time g.epoch.gps g.epoch.galileo
-      locks =
-          two ∙ ap (λ l. note_all t l galileo) one ∙ ap (λ n. noted_both g.locks n gps galileo) (time ∙ ap (λ (v : EpochValue). v.time) same)
-          ∙ ap (λ l. noted_both g.locks g.epoch.time l galileo) (in_gps ∙ ap (λ (v : EpochValue). v.gps) same)
-          ∙ ap (λ l. noted_both g.locks g.epoch.time g.epoch.gps l) (in_galileo ∙ ap (λ (v : EpochValue). v.galileo) same)
+      locks = both ∙ ap (λ (v : EpochValue). noted_both g.locks v.time v.gps v.galileo) same

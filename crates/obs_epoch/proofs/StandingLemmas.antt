@@ -48,7 +48,7 @@ before_taken s xs m u shut some h =
     let last = ends ys u new.0 in
     let closed : is_closed s u ys ≡ ends_epoch s m = not_same _ _ (ap (λ g. option_map_or (λ t. not (is_closed s t ys)) g false) (sym new.0) ∙ new.1) in
     let two : last.init ++ when (ends_epoch s m) u ≡ closed_so_far s xs shut ++ when (ends_epoch s m) u =
-    ap (λ b. last.init ++ when b u) (sym closed) ∙ sym (closed_is s ys u last.init new.0 last.is last.below) ∙ taken_by s xs m u own some follow shut h in
+    ap (λ b. last.init ++ when b u) (sym closed) ∙ sym (closed_is s ys u last.init new.0 last.is last.below) ∙ taken_by m own some follow shut h in
     let same = cancel_when last.init (closed_so_far s xs shut) (ends_epoch s m) u two in (
       ap (filter (λ v. nat_lt v u)) last.is ∙ filter-append (λ v. nat_lt v u) last.init (u ∷ [])
           ∙ ap₂ (λ a b. a ++ b) (passes_all (λ v. nat_lt v u) u last.init (λ t lt. less_true t u lt) last.below) (one_fails (λ v. nat_lt v u) u (less_false u u (omega arith)))
@@ -92,10 +92,10 @@ not_known : (t u : ℕ) → t < u → is_same (Some t) (Some u) ≡ false
 not_known t u h = grind arith
 
 -- The epoch in which the cells of an accepted message are kept.
-begun_is : (g : GathererValue) (s : GatherSetup) (xs : List Timed) (m : Heard) (u : ℕ) (shut : Bool) → taken_at s xs m ≡ Some u → closes_first s xs m ≡ shut
+begun_is : {g : GathererValue} {s : GatherSetup} {xs : List Timed} (m : Heard) {u : ℕ} {shut : Bool} → taken_at s xs m ≡ Some u → closes_first s xs m ≡ shut
     → g.epoch ≡ held_at s xs → Locked g s xs (closed_so_far s xs shut) → g.clock.latest ≡ Some u
     → epoch_begun (greatest_time xs) g ≡ record g { epoch = epoch_of s.plan (lookup g.locks) u (offered s u xs) }
-begun_is g s xs m u shut some h held locks now = ap (λ o. begun_to (greatest_time xs) o) now ∙ by (taken_follows s xs m u some) where
+begun_is {g} {s} {xs} m {u} {shut} some h held locks now = ap (λ o. begun_to (greatest_time xs) o) now ∙ by (taken_follows s xs m u some) where
   begun_to : Option ℕ → Option ℕ → GathererValue
   begun_to a b = if is_same a b then g else record g { epoch = record { time = option_map_or (λ t. t) b 0; gps = []; galileo = [] } }
 
@@ -119,11 +119,11 @@ begun_is g s xs m u shut some h held locks now = ap (λ o. begun_to (greatest_ti
 -- ---- the value after the step, before the closing
 
 -- An accepted message.
-pub loaded_taken : (g : GathererValue) (s : GatherSetup) (xs : List Timed) (m : Heard) (u : ℕ) (shut : Bool) → taken_at s xs m ≡ Some u → closes_first s xs m ≡ shut
+pub loaded_taken : {g : GathererValue} {s : GatherSetup} {xs : List Timed} (m : Heard) {u : ℕ} {shut : Bool} → taken_at s xs m ≡ Some u → closes_first s xs m ≡ shut
     → g.epoch ≡ held_at s xs → Locked g s xs (closed_so_far s xs shut) → g.clock ≡ standing s (xs ++ next s xs m ∷ []) false
     → load (record { state = epoch_begun (greatest_time xs) g; counts = no_counts }) m.cells
     ≡ record { state = record g { epoch = epoch_at s (xs ++ next s xs m ∷ []) u }; counts = counts_after s (offered s u xs) no_counts m.cells }
-loaded_taken g s xs m u shut some h held locks clock =
+loaded_taken {g} {s} {xs} m {u} {shut} some h held locks clock =
     let x = next s xs m in
     let ys = xs ++ x ∷ [] in
     let new = new_time s xs x u some (taken_follows s xs m u some) in
@@ -133,7 +133,7 @@ loaded_taken g s xs m u shut some h held locks clock =
     let later = locked-push g s xs x (closed_so_far s xs shut) (closed_later s xs m shut h) locks in
     let known : (key : HeardCell) → lookup g.locks key ≡ previous s ys u key =
     λ key. later.found key ∙ ap (λ ts. latest_in s ys ts key) (sym (before_taken s xs m u shut some h).0) in
-    ap (λ v. load (record { state = v; counts = no_counts }) m.cells) (begun_is g s xs m u shut some h held locks now)
+    ap (λ v. load (record { state = v; counts = no_counts }) m.cells) (begun_is m some h held locks now)
     ∙ load_is (record g { epoch = epoch_of s.plan f u (offered s u xs) }) no_counts u (offered s u xs) m.cells (ap (λ c. epoch_of c.plan f u (offered s u xs)) (sym setup))
     ∙ ap (λ c. record { state = record g { epoch = epoch_of c.plan f u (offered s u xs ++ filter (is_planned c) m.cells) }; counts = counts_after c (offered s u xs) no_counts m.cells }) setup
     ∙ ap (λ l. record { state = record g { epoch = epoch_of s.plan f u l }; counts = counts_after s (offered s u xs) no_counts m.cells }) (sym (offered-more s xs m u some))

@@ -31,11 +31,11 @@ pub record Mid (g : GathererValue) (s : GatherSetup) (ms : List Heard) (shut : B
   pub values : g.values ≡ values_of s ms
 
 -- After the closing.
-pub assemble : (g : GathererValue) (s : GatherSetup) (ms : List Heard) (shut : Bool) (ts : List ℕ) (o : Option ℕ) → Mid g s ms shut ts
+pub assemble : {g : GathererValue} {s : GatherSetup} {ms : List Heard} {shut : Bool} {ts : List ℕ} (o : Option ℕ) → Mid g s ms shut ts
     → ((t : ℕ) → o ≡ Some t → greatest_time (timed s ms) ≡ Some t) → closed_so_far s (timed s ms) shut ≡ ts ++ option_to_list o
     → HasTakenMessages (if is_some o then noted g else g) s ms shut
-assemble g s ms shut ts None h at closed = grind (arith, common_steps, append-nil)
-assemble g s ms shut ts (Some t) h at closed = record {
+assemble None h at closed = grind (arith, common_steps, append-nil)
+assemble {g} {s} {ms} {ts} (Some t) h at closed = record {
   clock = h.clock;
   epoch = h.epoch;
   locks = subst (Locked (noted g) s (timed s ms)) (sym closed)
@@ -104,7 +104,7 @@ reached g s ms m shut h early = by (taken_at s xs m) refl where
       let new = new_time s xs (next s xs m) u some (taken_follows s xs m u some) in
       let latest : g.clock.latest ≡ greatest_time xs = ap (λ (c : State). c.latest) was in
       let is = ap₂ (λ b o. loaded_if b o (with_time g m) m) (ap is_kept kind ∙ (accepted s xs no_counts m u some).1) latest
-      ∙ ap (with_unlisted m.unlisted) (loaded_taken (with_time g m) s xs m u shut some early h.epoch before now) in
+      ∙ ap (with_unlisted m.unlisted) (loaded_taken m some early h.epoch before now) in
       subst (λ l. Reached l s ms m shut) (sym is) (record {
         mid = moved (record (with_time g m) { epoch = epoch_at s (xs ++ next s xs m ∷ []) u }) now
             (ap (λ o. option_map_or (epoch_at s (xs ++ next s xs m ∷ [])) o no_epoch) (sym new.0)) (record { found = locks.found; tracks = locks.tracks }) values;
@@ -119,9 +119,9 @@ times_taken g s ms m shut h early =
     ∙ ap (λ c. closed_so_far s (timed s ms) shut ++ option_to_list (closed_by c m)) (sym (clock_is g.clock s ms shut h.clock))
 
 -- That time is the greatest then.
-pub time_taken : (g : GathererValue) (s : GatherSetup) (ms : List Heard) (m : Heard) (shut : Bool) → HasTakenMessages g s ms shut → closes_first s (timed s ms) m ≡ shut
+pub time_taken : {g : GathererValue} {s : GatherSetup} {ms : List Heard} (m : Heard) {shut : Bool} → HasTakenMessages g s ms shut → closes_first s (timed s ms) m ≡ shut
     → (t : ℕ) → closed_by g.clock m ≡ Some t → greatest_time (timed s (ms ++ m ∷ [])) ≡ Some t
-time_taken g s ms m shut h early t e =
+time_taken {g} {s} {ms} m {shut} h early t e =
     let xs = timed s ms in
     let was = clock_is g.clock s ms shut h.clock in
     let kind : (n : CellCounts) → kind_by g.clock n m ≡ kind_after s xs n m = λ n. ap (λ c. kind_by c n m) was ∙ (takes s xs n m shut early).0 in
@@ -146,20 +146,20 @@ taken g s ms m shut h early =
     record {
       kind = kind;
       counts = r.counts;
-      after = assemble l.state s (ms ++ m ∷ []) false (closed_so_far s xs shut) o r.mid (time_taken g s ms m shut h early) (times_taken g s ms m shut h early);
+      after = assemble o r.mid (time_taken m h early) (times_taken g s ms m shut h early);
     }
 
 -- An epoch that a message closes that isn't accepted was pending.
-was_pending : (k : Kind) (b p : Bool) (before after : Option ℕ) (t : ℕ) → is_close_first k ≡ false → is_kept k ≡ false → closed_of k b p before after ≡ Some t → p ≡ true
-was_pending k b p before after t other untaken e = grind (arith, common_steps)
+was_pending : (k : Kind) (b : Bool) {p : Bool} (before after : Option ℕ) {t : ℕ} → is_close_first k ≡ false → is_kept k ≡ false → closed_of k b p before after ≡ Some t → p ≡ true
+was_pending k b before after other untaken e = grind (arith, common_steps)
 
-pub pending_taken : (g : GathererValue) (s : GatherSetup) (ms : List Heard) (m : Heard) (shut : Bool) → HasTakenMessages g s ms shut → closes_first s (timed s ms) m ≡ shut
+pub pending_taken : {g : GathererValue} {s : GatherSetup} {ms : List Heard} (m : Heard) {shut : Bool} → HasTakenMessages g s ms shut → closes_first s (timed s ms) m ≡ shut
     → taken_at s (timed s ms) m ≡ None → (t : ℕ) → closed_by g.clock m ≡ Some t → is_pending s (timed s ms) ≡ true
-pending_taken g s ms m shut h early none t e =
+pending_taken {g} {s} {ms} m {shut} h early none t e =
     let xs = timed s ms in
     let was = clock_is g.clock s ms shut h.clock in
     let kind : (n : CellCounts) → kind_by g.clock n m ≡ kind_after s xs n m = λ n. ap (λ c. kind_by c n m) was ∙ (takes s xs n m shut early).0 in
-    let p : g.clock.pending ≡ true = was_pending (kind_by g.clock no_counts m) _ g.clock.pending _ _ t (ap is_close_first (kind no_counts) ∙ (refused s xs no_counts m none).0) (ap is_kept (kind no_counts) ∙ (refused s xs no_counts m none).1) e in
+    let p : g.clock.pending ≡ true = was_pending (kind_by g.clock no_counts m) _ _ _ (ap is_close_first (kind no_counts) ∙ (refused s xs no_counts m none).0) (ap is_kept (kind no_counts) ∙ (refused s xs no_counts m none).1) e in
     left_true (is_pending s xs) (not shut) (sym h.clock.pending ∙ p) where
       left_true : (a b : Bool) → (a && b) ≡ true → a ≡ true
       left_true a b e = grind (arith, common_steps, e)
@@ -234,7 +234,7 @@ closes_it g s ms m h early none = by (greatest_time (timed s ms)) refl where
         kind = kind;
         has = ap is_some is;
         after = subst (λ (l : Loaded). HasTakenMessages l.state s ms true) (sym to)
-            (assemble (with_time g m) s ms true (closed_so_far s xs false) (Some t) mid (λ u f. e ∙ f) more);
+            (assemble (Some t) mid (λ u f. e ∙ f) more);
       }
 
 pub record Ended (g : GathererValue) (s : GatherSetup) (ms : List Heard) (shut : Bool) : Type 0 where
@@ -274,7 +274,7 @@ ended_some g s ms h f = by (greatest_time (timed s ms)) refl where
       let more : closed_so_far s xs true ≡ closed_so_far s xs false ++ t ∷ [] =
       ap (λ o. closed_times s xs ++ option_to_list o) e ∙ ap (λ l. l ++ t ∷ []) (sym (append-nil (closed_times s xs))) in
       ended_by g s ms false true f h.clock.pending
-      (assemble (stopping g) s ms true (closed_so_far s xs false) (Some t) mid (λ u q. e ∙ q) more)
+      (assemble (Some t) mid (λ u q. e ∙ q) more)
 
 -- No message follows.
 pub ended : (g : GathererValue) (s : GatherSetup) (ms : List Heard) (shut : Bool) → HasTakenMessages g s ms shut → Ended g s ms shut

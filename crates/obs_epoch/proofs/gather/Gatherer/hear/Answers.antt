@@ -17,7 +17,7 @@ returns-clause-step c =
     let m = heard_summary c.args.said.now in
     let i = c.self.inside in
     let g : GathererValue = record { clock = i.clock; epoch = sorted_epoch i.clock.setup.plan i.pending.epoch; locks = i.locks; values = i.pending.values; just_closed = i.just_closed; has_ended = i.has_ended } in
-    heard_is g i.pending.epoch c.set_values.new.self.epoch c.step-kind.new.self c.set_values.new.self.values c.values_after-values.result m refl c.step-kind.ensures.step
+    heard_is g m refl c.step-kind.ensures.step
     (ap (λ (q : PendingValue). q.epoch) c.set_values.ensures) (ap (λ (q : PendingValue). q.values) c.set_values.ensures)
     (c.values_after-values.ensures ∙ ap (λ (v : GathererValue). values_after_message v.clock.setup v.values m) (sym c.self.view_is))
     ∙ ap (λ v. rested (with_time v m)) c.self.view_is

@@ -1,7 +1,7 @@
 use Rattle.std.proofs.Common.{◌≡◌, ◌∙◌, Bool, true, sym, ap, ap₂, arith, refl}
 use Rattle.std.proofs.lemmas.Grind.{common_steps}
 use Rattle.obs_epoch.specs.Names.{sorted_epoch, GathererValue, closed_noted, just_closed_as}
-use Rattle.obs_epoch.proofs.StandLemmas.{closed_value, noted_closed, pending_closed}
+use Rattle.obs_epoch.proofs.StandLemmas.{both_noted, closed_value, noted_closed, pending_closed}
 use Rattle.obs_epoch.proofs.gather.Gatherer.note_closed.Goals as goal
 
 pub invariant_of-self-2 : goal.invariant_of-self-2
@@ -19,6 +19,6 @@ returns c =
     let shut : c.args.closed ≡ true = grind (arith, common_steps, c.if-not-closed.false) in
     let made : Bool → GathererValue = λ b. record { clock = i.clock; epoch = sorted_epoch p r.epoch; locks = c.note_cells-2.new.locks; values = r.values; just_closed = b; has_ended = i.has_ended } in
     ap made shut
-    ∙ noted_closed g q r c.milliseconds-time.result c.cells-gps.result.now c.cells-galileo.result.now c.note_cells.new.locks c.note_cells-2.new.locks c.self.invariant.order refl refl
-    (c.close.ensures ∙ ap (λ p. closed_value p q) c.plan.ensures) (c.milliseconds-time.ensures.value ∙ c.time.ensures) c.cells-gps.ensures.cells c.cells-galileo.ensures.cells c.note_cells.ensures c.note_cells-2.ensures
+    ∙ noted_closed g q c.self.invariant.order refl refl (c.close.ensures ∙ ap (λ p. closed_value p q) c.plan.ensures)
+    (both_noted i.locks r.epoch (c.milliseconds-time.ensures.value ∙ c.time.ensures) c.cells-gps.ensures.cells c.cells-galileo.ensures.cells c.note_cells.ensures c.note_cells-2.ensures)
     ∙ ap₂ (λ b v. closed_noted (just_closed_as b v)) (sym shut) c.self.view_is

@@ -27,7 +27,7 @@ returns-clause-step c =
     let lli = c.lli.ensures.value ∙ ap₂ (λ t o. lli_with t x o) (c.milliseconds-time.ensures.value ∙ c.time.ensures) c.latest.ensures in
     let new = c.add.new.self in
     ap (with_values (record { clock = i.clock; epoch = sorted_epoch p new.epoch; locks = i.locks; values = new.values; just_closed = i.just_closed; has_ended = i.has_ended })) c.add.ensures.values
-    ∙ held_is g e new.epoch x c.lli.result c.add.result refl (planned_is g.clock.setup x c.requires.observed.key planned) lli c.add.ensures.epoch ∙ ap (λ v. hold v x) c.self.view_is
+    ∙ held_is g x refl (planned_is g.clock.setup x c.requires.observed.key planned) lli c.add.ensures.epoch ∙ ap (λ v. hold v x) c.self.view_is
 
 pub returns-clause-counts : goal.returns-clause-counts
 returns-clause-counts c =
@@ -37,4 +37,4 @@ returns-clause-counts c =
     let planned = subst (λ (v : GathererValue). is_some (place_in c.args.x.signal (planned_of c.args.x.satellite.system v.clock.setup.plan)) ≡ true) (sym c.self.view_is) c.requires.planned in
     c.count.ensures.counts
     ∙ ap (λ o. count_in o c.args.n.now)
-    (outcome_is g i.pending.epoch c.add.new.self.epoch x c.lli.result c.add.result refl (planned_is g.clock.setup x c.requires.observed.key planned) c.add.ensures.epoch ∙ ap (λ v. outcome_in v x) c.self.view_is)
+    (outcome_is g x c.lli.result refl (planned_is g.clock.setup x c.requires.observed.key planned) c.add.ensures.epoch ∙ ap (λ v. outcome_in v x) c.self.view_is)

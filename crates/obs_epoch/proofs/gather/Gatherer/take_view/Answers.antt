@@ -16,8 +16,8 @@ said_is c = ap heard_summary c.summary.ensures.value ∙ summary_heard (viewed_m
 kind_is : (c : goal.After-self-2) → c.hear-kind.result.0 ≡ kind_by c.args.self.now.clock no_counts (message c)
 kind_is c = c.hear-kind.ensures.kind ∙ ap (kind_by c.args.self.now.clock no_counts) (said_is c)
 
-same_loaded : (a b : Bool) (o p : Option ℕ) (g h : GathererValue) (m : Heard) → a ≡ b → o ≡ p → g ≡ h → loaded_if a o g m ≡ loaded_if b p h m
-same_loaded a b o p g h m d e f = ap (λ k. loaded_if k o g m) d ∙ ap₂ (λ k i. loaded_if b k i m) e f
+same_loaded : {a b : Bool} {o p : Option ℕ} {g h : GathererValue} (m : Heard) → a ≡ b → o ≡ p → g ≡ h → loaded_if a o g m ≡ loaded_if b p h m
+same_loaded {b} {o} {g} m d e f = ap (λ k. loaded_if k o g m) d ∙ ap₂ (λ k i. loaded_if b k i m) e f
 
 abbrev accepted : goal.After-self-2 → Bool
 accepted c = is_kept (kind_by c.args.self.now.clock no_counts (message c))
@@ -26,7 +26,7 @@ loaded_is : (c : goal.After-self-2)
     → record { state = c.load-counts.new.self; counts = c.load-counts.result } ≡ loaded_if (accepted c) c.args.self.now.clock.latest (rested (with_time c.args.self.now (message c))) (message c)
 loaded_is c =
     c.load-counts.ensures
-    ∙ same_loaded _ _ _ _ _ _ (message c) (c.is_kept.ensures ∙ ap is_kept (kind_is c)) (c.latest-before.ensures.value ∙ ap (λ (g : GathererValue). g.clock.latest) c.self.view_is)
+    ∙ same_loaded (message c) (c.is_kept.ensures ∙ ap is_kept (kind_is c)) (c.latest-before.ensures.value ∙ ap (λ (g : GathererValue). g.clock.latest) c.self.view_is)
     (c.hear-kind.ensures.step ∙ ap (λ m. rested (with_time c.args.self.now m)) (said_is c))
 
 counts_are : (c : goal.After-self-2) → c.load-counts.result ≡ (loaded_if (accepted c) c.args.self.now.clock.latest (with_time c.args.self.now (message c)) (message c)).counts
@@ -47,21 +47,21 @@ returns c =
     let step = step_is c in
     let same = ap is_close_first kind in
     let exactly : IsCloseFirstExactly now m c.with_counts.result = λ s ms es h.
-    same ∙ exactly_first now s ms es m (take_step now m).counts h c.requires (no_point s (timed s ms) read) in
+    same ∙ exactly_first m (take_step now m).counts h c.requires (no_point s (timed s ms) read) in
     record {
       exactly = exactly;
       first = λ s ms es h early.
           let first = sym (exactly s ms es h) ∙ early in
           subst (λ (g : GathererValue). HasGatheredEpochs g s ms (es ++ returned_epoch g) (Some m)) (sym step)
-          (gathers_first now s ms es m h c.requires first (no_point s (timed s ms) read first));
-      again = λ s ms es h. same ∙ again_taken now s ms es m (take_step now m).counts h c.requires;
+          (gathers_first m h c.requires first (no_point s (timed s ms) read first));
+      again = λ s ms es h. same ∙ again_taken (take_step now m).counts h c.requires;
       taken = λ s ms es again h fit other.
-          let early = fits_now now s ms es again m (take_step now m).counts h c.requires (no_point s (timed s ms) read) fit (sym same ∙ other) in
+          let early = fits_now again m (take_step now m).counts h c.requires (no_point s (timed s ms) read) fit (sym same ∙ other) in
           subst (λ (g : GathererValue). HasGatheredEpochs g s (ms ++ m ∷ []) (es ++ returned_epoch g) None) (sym step)
-          (gathers_taken now s ms es again m h c.requires early (given_alone read));
+          (gathers_taken m h c.requires early (given_alone read));
       kind = λ s ms es again h fit other.
-          let early = fits_now now s ms es again m (take_step now m).counts h c.requires (no_point s (timed s ms) read) fit (sym same ∙ other) in
-          kind ∙ kind_taken now s ms es again m h c.requires early;
+          let early = fits_now again m (take_step now m).counts h c.requires (no_point s (timed s ms) read) fit (sym same ∙ other) in
+          kind ∙ kind_taken m h c.requires early;
       closed = ap (λ (g : GathererValue). g.just_closed) c.self-2.view_is ∙ has_closed c.note_closed.new.self;
       going = ap (λ (g : GathererValue). g.has_ended) step ∙ ended_is now m ∙ c.requires;
     }

@@ -7,7 +7,7 @@ loop-id-preserved-in-Some-from_id c =
     let same = c.in-Some.ensures.same in
     let read = c.in-Some.ensures.some.1 ∙ ap (λ (l : List ℕ). get_or l (c.in-Some.id - 1) 0) (sym same) in
     record {
-      adds = adds_some c.args.self.now c.loop-id.self c.add.new.self c.args.system c.loop-id.counts.left c.next.new.self.left c.next.new.self.counts c.in-Some.id c.in-Some.count c.in-Some-from_id.signal
+      adds = adds_some
           (subst (λ (l : List ℕ). Adds c.args.self.now c.loop-id.self c.args.system c.loop-id.counts.left l) (sym same) c.loop-id.invariant.adds) c.in-Some.ensures.some.0 (sym c.from_id.ensures ∙ c.in-Some-from_id.is) read (λ i. rw same (c.loop-id.invariant.few i)) c.in-Some.ensures.once c.add.ensures;
       numbers = λ i h. rw same (c.loop-id.invariant.numbers i h);
       few = λ i. rw same (c.loop-id.invariant.few i);
@@ -18,11 +18,11 @@ loop-id-preserved c =
     let same = c.in-Some.ensures.same in
     let read = c.in-Some.ensures.some.1 ∙ ap (λ (l : List ℕ). get_or l (c.in-Some.id - 1) 0) (sym same) in
     record {
-      adds = adds_none c.args.self.now c.loop-id.self c.args.system c.loop-id.counts.left c.next.new.self.left c.next.new.self.counts c.in-Some.id c.in-Some.count
+      adds = adds_none
           (subst (λ (l : List ℕ). Adds c.args.self.now c.loop-id.self c.args.system c.loop-id.counts.left l) (sym same) c.loop-id.invariant.adds) c.in-Some.ensures.some.0 (sym c.from_id.ensures ∙ c.in_default-from_id.is) read c.in-Some.ensures.once;
       numbers = λ i h. rw same (c.loop-id.invariant.numbers i h);
       few = λ i. rw same (c.loop-id.invariant.few i);
     }
 
 pub returns-clause-counts : goal.returns-clause-counts
-returns-clause-counts c = finished c.args.self.now c.loop-id.self c.args.system c.loop-id.counts.left c.loop-id.counts.counts _ c.loop-id.invariant.adds c.in_default.ensures.none c.loop-id.invariant.numbers
+returns-clause-counts c = finished _ c.loop-id.invariant.adds c.in_default.ensures.none c.loop-id.invariant.numbers
