@@ -43,8 +43,8 @@ pub parts_of : (at : DateTime) (t : ℕ) → civil_nanos at ≡ pos 3657 *ℤ po
 unfolding civil_nanos
 parts_of at t e = days_by (epoch_day at.date) (time_nanos at.time) t (time_below at.time) e
 
-days_same : (a b : ℤ) (m n d e : ℕ) → b ≡ a → n ≡ m → e ≡ d → days_from_civil b n e ≡ days_from_civil a m d
-days_same a b m n d e y k l = rw (y, k, l) refl
+days_same : {a b : ℤ} {m n d e : ℕ} → b ≡ a → n ≡ m → e ≡ d → days_from_civil b n e ≡ days_from_civil a m d
+days_same y k l = rw (y, k, l) refl
 
 -- ---- the parts of a time
 
@@ -58,11 +58,16 @@ back_thousands z n e small = let fits : FitsSigned w16 (pos n) = omega (arith, s
 clock_is : (h m s f r : ℕ) → ((h * 3600 + m * 60 + s) * 1_000_000_000 + f) ≡ r * 1_000_000 → h * 3_600_000 + m * 60_000 + (s * 1_000 + f / 1_000_000) ≡ r
 clock_is h m s f r e = omega (arith, e)
 
-pub made_of : (at : DateTime) (t year month day hour minute second milli : ℕ) → civil_nanos at ≡ pos 3657 *ℤ pos day_nanos +ℤ pos t *ℤ pos 1_000_000
-    → pos year ≡ at.date.year → month ≡ at.date.month → day ≡ at.date.day → hour ≡ at.time.hour → minute ≡ at.time.minute → second ≡ at.time.second
-    → milli ≡ at.time.subsec_nanosecond / 1_000_000
-    → IsCivilOf t (record { year = year; month = month; day = day; hour = hour; minute = minute; millisecond = second * 1_000 + milli })
-made_of at t year month day hour minute second milli e y m d h i s f =
+-- The year, the month and the day of a date.
+pub record IsDateOf (date : Date) (y m d : ℕ) : Type 0 where
+  pub year : pos y ≡ date.year
+  pub month : m ≡ date.month
+  pub day : d ≡ date.day
+
+pub made_of : (at : DateTime) {t year month day hour minute second milli : ℕ} → civil_nanos at ≡ pos 3657 *ℤ pos day_nanos +ℤ pos t *ℤ pos 1_000_000
+    → IsDateOf at.date year month day → hour ≡ at.time.hour → minute ≡ at.time.minute → second ≡ at.time.second
+    → milli ≡ at.time.subsec_nanosecond / 1_000_000 → IsCivilOf t (record { year = year; month = month; day = day; hour = hour; minute = minute; millisecond = second * 1_000 + milli })
+made_of at {t} {year} {month} {day} {hour} {minute} {second} e is h i s f =
     let parts = parts_of at t e in
     let hours = at.time.hour_in in
     let minutes = at.time.minute_in in
@@ -70,19 +75,19 @@ made_of at t year month day hour minute second milli e y m d h i s f =
     let nanos = at.time.subsec_in in
     record {
       valid = record {
-        date = subst (λ (v : ℤ). IsCivilDate v month day) (sym y)
-            (subst (λ (n : ℕ). IsCivilDate at.date.year n day) (sym m) (subst (λ (n : ℕ). IsCivilDate at.date.year at.date.month n) (sym d) (valid_date at.date)));
+        date = subst (λ (v : ℤ). IsCivilDate v month day) (sym is.year)
+            (subst (λ (n : ℕ). IsCivilDate at.date.year n day) (sym is.month) (subst (λ (n : ℕ). IsCivilDate at.date.year at.date.month n) (sym is.day) (valid_date at.date)));
         hour = omega (arith, h, hours);
         minute = omega (arith, i, minutes);
         millisecond = omega (arith, s, f, seconds, nanos);
       };
-      days = same_days year month day at.date y m d t parts.0;
+      days = same_days at.date is t parts.0;
       clock = rw (h, i, s, f) (clock_is at.time.hour at.time.minute at.time.second at.time.subsec_nanosecond (t % 86_400_000) parts.1);
     } where
-      same_days : (year month day : ℕ) (date : Date) → pos year ≡ date.year → month ≡ date.month → day ≡ date.day → (t : ℕ) → epoch_day date -ℤ pos 3657 ≡ pos (t / 86_400_000)
+      same_days : {year month day : ℕ} (date : Date) → IsDateOf date year month day → (t : ℕ) → epoch_day date -ℤ pos 3657 ≡ pos (t / 86_400_000)
           → days_from_civil (pos year) month day -ℤ days_from_civil (pos 1980) 1 6 ≡ pos (t / 86_400_000)
-      same_days year month day date y m d t e =
-          let same : days_from_civil (pos year) month day ≡ epoch_day date = days_same date.year (pos year) date.month month date.day day y m d in
+      same_days {year} {month} {day} date is t e =
+          let same : days_from_civil (pos year) month day ≡ epoch_day date = days_same is.year is.month is.day in
           subst (λ z. days_from_civil (pos year) month day -ℤ z ≡ pos (t / 86_400_000)) (sym first_day) (ap (λ z. z -ℤ pos 3657) same ∙ e)
 
 pub day_below : (d : Date) → d.day < 128
@@ -138,9 +143,9 @@ pub small_time : (n : ℕ) → n < 60_480_000_000_000 → to_z w64 n ≡ pos n
 small_time n h = grind arith
 
 -- The date and time of day ms milliseconds after the first time.
-pub moment_of : (v b s : ℤ) (ms t : ℕ) → v ≡ b +ℤ s → b ≡ pos 3657 *ℤ pos day_nanos → s ≡ to_z w64 ms *ℤ pos 1_000_000 → ms < 60_480_000_000_000 → ms ≡ t
+pub moment_of : {v b s : ℤ} {ms t : ℕ} → v ≡ b +ℤ s → b ≡ pos 3657 *ℤ pos day_nanos → s ≡ to_z w64 ms *ℤ pos 1_000_000 → ms < 60_480_000_000_000 → ms ≡ t
     → v ≡ pos 3657 *ℤ pos day_nanos +ℤ pos t *ℤ pos 1_000_000
-moment_of v b s ms t e first more small is = e ∙ ap₂ (λ x y. x +ℤ y) first (more ∙ ap (λ z. z *ℤ pos 1_000_000) (small_time ms small ∙ ap pos is))
+moment_of {ms} e first more small is = e ∙ ap₂ (λ x y. x +ℤ y) first (more ∙ ap (λ z. z *ℤ pos 1_000_000) (small_time ms small ∙ ap pos is))
 
 -- ---- the parts of a date and time of day, passed to the calendar
 
@@ -165,9 +170,9 @@ nanos_to_z n h = grind (arith, common_steps)
 positive : (a b : ℕ) → pos a ≡ pos b → a ≡ b
 positive a b e = omega (arith, signed_arith, e)
 
-millis_of : (h m s f hour minute milli : ℕ) → h ≡ hour → m ≡ minute → s ≡ milli / 1_000 → f ≡ milli % 1_000 * 1_000_000
+millis_of : {h m s f hour minute : ℕ} (milli : ℕ) → h ≡ hour → m ≡ minute → s ≡ milli / 1_000 → f ≡ milli % 1_000 * 1_000_000
     → (h * 3600 + m * 60 + s) * 1_000_000_000 + f ≡ (hour * 3_600_000 + minute * 60_000 + milli) * 1_000_000
-millis_of h m s f hour minute milli a b c d = omega (arith, a, b, c, d)
+millis_of milli a b c d = omega (arith, a, b, c, d)
 
 pub is_at : (c : Civil) (at : DateTime) → IsSmall c → IsYmd (to_z w16 c.year) (to_z w8 c.month) (to_z w8 c.day) at.date
     → IsHms (to_z w8 c.hour) (to_z w8 c.minute) (to_z w8 (c.millisecond / 1_000)) (to_z w32 (of_z w32 (to_z w32 (c.millisecond % 1_000) *ℤ pos 1_000_000))) at.time
@@ -181,8 +186,8 @@ is_at c at small date time =
     let i : at.time.minute ≡ c.minute = positive _ _ (time.1 ∙ small_to_z c.minute (omega (arith, small.minute))) in
     let s : at.time.second ≡ c.millisecond / 1_000 = positive _ _ (time.2 ∙ small_to_z (c.millisecond / 1_000) (omega (arith, small.millisecond))) in
     let f : at.time.subsec_nanosecond ≡ c.millisecond % 1_000 * 1_000_000 = positive _ _ (time.3 ∙ nanos_to_z (c.millisecond % 1_000) (omega arith)) in
-    let nanos : time_nanos at.time ≡ clock_of c * 1_000_000 = millis_of at.time.hour at.time.minute at.time.second at.time.subsec_nanosecond c.hour c.minute c.millisecond h i s f in
-    let day : epoch_day at.date ≡ days_from_civil (pos c.year) c.month c.day = days_same (pos c.year) at.date.year c.month at.date.month c.day at.date.day y m d in (
+    let nanos : time_nanos at.time ≡ clock_of c * 1_000_000 = millis_of c.millisecond h i s f in
+    let day : epoch_day at.date ≡ days_from_civil (pos c.year) c.month c.day = days_same y m d in (
       record {
         date = subst (λ (n : ℕ). IsCivilDate (pos c.year) c.month n) d (subst (λ (n : ℕ). IsCivilDate (pos c.year) n at.date.day) m (subst (λ (z : ℤ). IsCivilDate z at.date.month at.date.day) y (valid_date at.date)));
         hour = omega (arith, small.hour);

@@ -6,10 +6,10 @@ use Rattle.std.proofs.lemmas.List.Elements.{All-head, All-tail}
 use Rattle.gnss_obs.specs.Names.{System, SignalAt, IsSignal, PlanFault, UnknownCode, RepeatedCode, Memory, indices, IsOf, IsUnfitAfter, IsUnfit, list_any, IsDistinct}
 
 -- The first signal that doesn't fit.
-pub unfit_at : (system : System) (ss before : List SignalAt) (k : ℕ) (s : SignalAt) (fault : PlanFault) → k < length ss → s ≡ get_or ss k s → before ≡ take k ss
+pub unfit_at : {system : System} (ss : List SignalAt) {before : List SignalAt} (k : ℕ) {s : SignalAt} {fault : PlanFault} → k < length ss → s ≡ get_or ss k s → before ≡ take k ss
     → IsOf system (take k ss) → (fault ≡ Memory) ⊎ IsUnfitAfter system before s fault → (fault ≡ Memory) ⊎ IsUnfit system ss fault
-unfit_at system ss before k s fault less is taken fits (inl e) = inl e
-unfit_at system ss before k s fault less is taken fits (inr u) = inr (record {
+unfit_at ss k less is taken fits (inl e) = inl e
+unfit_at {system} ss {before} k {s} {fault} less is taken fits (inr u) = inr (record {
   before = take k ss;
   signal = s;
   rest = drop (suc k) ss;

@@ -35,9 +35,9 @@ same_at a b false h k = by (nat_eq a b) refl where
 slots_length : (buffer : List Cell) (count : ℕ) → count ≤ length buffer → length (map slot (take count buffer)) ≡ count
 slots_length buffer count h = length-map (take count buffer) slot ∙ length-take-le count buffer h
 
-pub found_here : (table : List ℕ) (buffer : List Cell) (count s : ℕ) (c : Cell) → count ≤ length buffer → AreFound table (take count buffer) → get_or table s 0 < count
+pub found_here : (table : List ℕ) (buffer : List Cell) (count s : ℕ) {c : Cell} → count ≤ length buffer → AreFound table (take count buffer) → get_or table s 0 < count
     → c ≡ get_or buffer (get_or table s 0) c → nat_eq (slot c) s ≡ has_slot s (map slot (take count buffer))
-found_here table buffer count s c most all less is =
+found_here table buffer count s {c} most all less is =
     let slots = map slot (take count buffer) in
     let some = slots_length buffer count most in
     let n = get_or table s 0 in
@@ -84,9 +84,9 @@ pub slots_push : (buffer : List Cell) (count s : ℕ) (x : Cell) → count < len
 slots_push buffer count s x room is =
     ap (map slot) (take_more_set buffer count x room) ∙ map-append slot (take count buffer) (x ∷ []) ∙ ap (λ k. map slot (take count buffer) ++ k ∷ []) (sym is)
 
-pub found_push : (table : List ℕ) (buffer : List Cell) (count s : ℕ) (x : Cell) → count < length buffer → s ≡ slot x → s < length table → AreFound table (take count buffer)
+pub found_push : (table : List ℕ) (buffer : List Cell) (count : ℕ) {s : ℕ} (x : Cell) → count < length buffer → s ≡ slot x → s < length table → AreFound table (take count buffer)
     → AreFound (set table s count) (take (count + 1) (set buffer count x))
-found_push table buffer count s x room is within all =
+found_push table buffer count {s} x room is within all =
     let slots = map slot (take count buffer) in
     let some = slots_length buffer count (omega (arith, room)) in
     subst (λ l. AllByRecursion (IsFound (set table s count) l) l) (sym (slots_push buffer count s x room is))

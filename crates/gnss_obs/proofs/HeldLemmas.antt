@@ -39,16 +39,16 @@ held_slot system x is listed (c ∷ cells) all =
     (sym (same_is system x.satellite c.satellite x.signal c.signal is one.satellite ∙ slots_same x.satellite.id c.satellite.id x.signal.index c.signal.index (low_index x.signal listed) (low_index c.signal one.place)))
     (held_slot system x is listed cells (All-tail (IsHeld system) c cells all))
 
-pub held_added : (system : System) (old cells new : List Cell) (x : Cell) (k : Added) → x.satellite.system ≡ system → AreHeld system old → IsObserved (heard_cell x) → x.lli < 4
+pub held_added : {system : System} {old cells new : List Cell} {x : Cell} (k : Added) → x.satellite.system ≡ system → AreHeld system old → IsObserved (heard_cell x) → x.lli < 4
     → cells ≡ old → AddsCell cells x k new → AreHeld system new
-held_added system old cells new x Kept is held observed low same a =
+held_added {system} {cells} {x} Kept is held observed low same a =
     let h = subst (AreHeld system) (sym same) held in
     record { each = subst (All (IsHeld system)) (sym a.cells) (All-push (IsHeld system) cells x h.each (search rules)); few = grind (arith, common_steps, a.cells, a.outcome) }
-held_added system old cells new x _ is held observed low same a = subst (AreHeld system) (sym (a.cells ∙ same)) held
+held_added {system} {cells} _ is held observed low same a = subst (AreHeld system) (sym (a.cells ∙ same)) held
 
-pub is_added : (system : System) (old e : EpochValue) (cells new : List Cell) (x : Cell) (k : Added) → x.satellite.system ≡ system → AreHeld system (cells_of system e)
+pub is_added : {system : System} {old e : EpochValue} {cells new : List Cell} {x : Cell} {k : Added} → x.satellite.system ≡ system → AreHeld system (cells_of system e)
     → IsObserved (heard_cell x) → e ≡ old → cells ≡ cells_of system e → AddsCell cells x k new → IsAdded old x k (epoch_with system e new)
-is_added system old e cells new x k is held observed same at a =
+is_added {system} {e} {cells} {new} {x} {k} is held observed same at a =
     subst (λ v. IsAdded v x k (epoch_with system e new)) same (record {
       outcome = subst (λ s. k ≡ outcome_by (is_held (cells_of s e) (heard_cell x)) (length (cells_of s e))) (sym is)
           (a.outcome ∙ ap (λ l. outcome_by (has_slot (slot x) (map slot l)) (length l)) at ∙ ap (λ b. outcome_by b (length (cells_of system e))) (held_slot system x is observed.key.signal (cells_of system e) held.each));

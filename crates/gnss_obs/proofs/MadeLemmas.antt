@@ -26,19 +26,14 @@ made P Done (Err d) ss ts (Err e) is (inr none) = absurd (true≢false (sym none
 abbrev AreRead : List ℕ → List ℕ → List SignalAt → List SignalAt → Type 0
 AreRead gps galileo ss ts = (signals_of Gps gps ≡ Ok (indices ss)) × (signals_of Galileo galileo ≡ Ok (indices ts)) × IsOf Gps ss × IsOf Galileo ts
 
-pub both_read : {A : Type 0} (first second added : Result A PlanFault) (gps galileo : List ℕ) (ss ts : List SignalAt) → added ≡ result_and first second
-    → DoneOr (λ e. signals_of Gps gps ≡ Err e) (ArePlanned Gps (signals_of Gps gps) ss) first
+pub both_read : {A : Type 0} (first second : Result A PlanFault) (gps galileo : List ℕ) (ss ts : List SignalAt) → DoneOr (λ e. signals_of Gps gps ≡ Err e) (ArePlanned Gps (signals_of Gps gps) ss) first
     → DoneOr (λ e. signals_of Galileo galileo ≡ Err e) (ArePlanned Galileo (signals_of Galileo galileo) ts) second
-    → DoneOr (λ e. plan_of gps galileo ≡ Err e) (AreRead gps galileo ss ts) added
-both_read first second added gps galileo ss ts is f s = subst (DoneOr (λ e. plan_of gps galileo ≡ Err e) (AreRead gps galileo ss ts)) (sym is) (both first second f s) where
-  both : {A : Type 0} (first second : Result A PlanFault) → DoneOr (λ e. signals_of Gps gps ≡ Err e) (ArePlanned Gps (signals_of Gps gps) ss) first
-      → DoneOr (λ e. signals_of Galileo galileo ≡ Err e) (ArePlanned Galileo (signals_of Galileo galileo) ts) second
-      → DoneOr (λ e. plan_of gps galileo ≡ Err e) (AreRead gps galileo ss ts) (result_and first second)
-  both (Ok u) (Ok v) f s = (f.0, s.0, f.1, s.1)
-  both (Ok u) (Err d) f (inl m) = inl m
-  both (Ok u) (Err d) f (inr bad) = inr (rw (f.0, bad) refl)
-  both (Err d) r (inl m) s = inl m
-  both (Err d) r (inr bad) s = inr (rw bad refl)
+    → DoneOr (λ e. plan_of gps galileo ≡ Err e) (AreRead gps galileo ss ts) (result_and first second)
+both_read (Ok u) (Ok v) gps galileo ss ts f s = (f.0, s.0, f.1, s.1)
+both_read (Ok u) (Err d) gps galileo ss ts f (inl m) = inl m
+both_read (Ok u) (Err d) gps galileo ss ts f (inr bad) = inr (rw (f.0, bad) refl)
+both_read (Err d) r gps galileo ss ts (inl m) s = inl m
+both_read (Err d) r gps galileo ss ts (inr bad) s = inr (rw bad refl)
 
 none_in : (ss : List SignalAt) → indices ss ≡ [] → ss ≡ []
 none_in [] h = refl
@@ -90,17 +85,13 @@ unfit_second gps galileo (RepeatedCode Gps place) of u = absurd (apart (sym u.un
 unfit_second gps galileo (RepeatedCode Galileo place) of u = (of, u)
 unfit_second gps galileo _ of u = absurd u.unfit
 
-pub both_added : {A : Type 0} (first second added : Result A PlanFault) (gps galileo ss ts : List SignalAt) → added ≡ result_and first second
-    → DoneOr (IsUnfit Gps gps) ((ss ≡ gps) × IsOf Gps gps) first → DoneOr (IsUnfit Galileo galileo) ((ts ≡ galileo) × IsOf Galileo galileo) second
-    → DoneOr (IsUnplanned gps galileo) (AreAdded gps galileo ss ts) added
-both_added first second added gps galileo ss ts is f s = subst (DoneOr (IsUnplanned gps galileo) (AreAdded gps galileo ss ts)) (sym is) (both first second f s) where
-  both : {A : Type 0} (first second : Result A PlanFault) → DoneOr (IsUnfit Gps gps) ((ss ≡ gps) × IsOf Gps gps) first
-      → DoneOr (IsUnfit Galileo galileo) ((ts ≡ galileo) × IsOf Galileo galileo) second → DoneOr (IsUnplanned gps galileo) (AreAdded gps galileo ss ts) (result_and first second)
-  both (Ok u) (Ok v) f s = (f.0, s.0, f.1, s.1)
-  both (Ok u) (Err d) f (inl m) = inl m
-  both (Ok u) (Err d) f (inr bad) = inr (unfit_second gps galileo d f.1 bad)
-  both (Err d) r (inl m) s = inl m
-  both (Err d) r (inr bad) s = inr (unfit_first gps galileo d bad)
+pub both_added : {A : Type 0} (first second : Result A PlanFault) (gps galileo ss ts : List SignalAt) → DoneOr (IsUnfit Gps gps) ((ss ≡ gps) × IsOf Gps gps) first
+    → DoneOr (IsUnfit Galileo galileo) ((ts ≡ galileo) × IsOf Galileo galileo) second → DoneOr (IsUnplanned gps galileo) (AreAdded gps galileo ss ts) (result_and first second)
+both_added (Ok u) (Ok v) gps galileo ss ts f s = (f.0, s.0, f.1, s.1)
+both_added (Ok u) (Err d) gps galileo ss ts f (inl m) = inl m
+both_added (Ok u) (Err d) gps galileo ss ts f (inr bad) = inr (unfit_second gps galileo d f.1 bad)
+both_added (Err d) r gps galileo ss ts (inl m) s = inl m
+both_added (Err d) r gps galileo ss ts (inr bad) s = inr (unfit_first gps galileo d bad)
 
 some_of : (gps galileo : List SignalAt) → (gps ≡ [] → galileo ≡ [] → ⊥) → 0 < length gps + length galileo
 some_of gps galileo none = grind (arith, common_steps, none)

@@ -110,19 +110,19 @@ pub next_code : (system : System) (before after : List SignalAt) (text code rest
 next_code system before after text code rest split taken =
     sym (taken (λ l. signals_after system l (between_commas rest))) ∙ ap (λ l. signals_after system (indices before) l) (sym split)
 
-pub code_fault : (system : System) (before : List SignalAt) (text code : List ℕ) (codes : List (List ℕ)) (all : Result (List ℕ) PlanFault) (fault : PlanFault)
+pub code_fault : (system : System) (before : List SignalAt) (text : List ℕ) {code : List ℕ} {codes : List (List ℕ)} {all : Result (List ℕ) PlanFault} (fault : PlanFault)
     → between_commas text ≡ code ∷ codes → signals_after system (indices before) (between_commas text) ≡ all → IsMemoryFaultOr (RefusesCode system code before) fault
     → IsMemoryFaultOr (λ e. all ≡ Err e) fault
-code_fault system before text code codes all fault split same (inl m) = inl m
-code_fault system before text code codes all fault split same (inr bad) =
+code_fault system before text fault split same (inl m) = inl m
+code_fault system before text {codes} fault split same (inr bad) =
     inr (sym same ∙ ap (λ l. signals_after system (indices before) l) split ∙ bad (λ l. signals_after system l codes))
 
-pub last_code : {A : Type 0} (system : System) (before after : List SignalAt) (text : List ℕ) (all : Result (List ℕ) PlanFault) (result : Result A PlanFault)
+pub last_code : {A : Type 0} (system : System) (before after : List SignalAt) (text : List ℕ) {all : Result (List ℕ) PlanFault} (result : Result A PlanFault)
     → between_commas text ≡ text ∷ [] → signals_after system (indices before) (between_commas text) ≡ all
     → DoneOr (RefusesCode system text before) (TakesCode system text before after) result → DoneOr (λ e. all ≡ Err e) (ArePlanned system all after) result
-last_code system before after text all (Ok u) split same h =
+last_code system before after text (Ok u) split same h =
     (sym same ∙ ap (λ l. signals_after system (indices before) l) split ∙ h.0 (λ l. signals_after system l []), h.1)
-last_code system before after text all (Err e) split same h = code_fault system before text text [] all e split same h
+last_code system before after text (Err e) split same h = code_fault system before text e split same h
 
 -- The signal of a code is one of the system's table.
 pub of_where : (system : System) (test : ListedSignal → Bool) (s : SignalAt) → signal_where system test ≡ Some s → (s.system ≡ system) × IsSignal s
@@ -144,9 +144,9 @@ none_below (suc m) n le = grind (arith, common_steps, any-append, none_below m n
 below-more : (i : ℕ) → below (i + 1) ≡ below i ++ i ∷ []
 below-more i = let e : i + 1 ≡ suc i = omega arith in rw e refl
 
-pub one_index : (system : System) (i : ℕ) (s : SignalAt) (ss new : List SignalAt) → below i ≡ indices ss → IsOf system ss → signal_at system i ≡ Some s → new ≡ ss ++ s ∷ []
+pub one_index : {system : System} (i : ℕ) {s : SignalAt} {ss new : List SignalAt} → below i ≡ indices ss → IsOf system ss → signal_at system i ≡ Some s → new ≡ ss ++ s ∷ []
     → (below (i + 1) ≡ indices new) × IsOf system new
-one_index system i s ss new so of is e =
+one_index {system} i {s} {ss} so of is e =
     let at = at_index system i s is in (
       below-more i ∙ ap₂ (λ l n. l ++ n ∷ []) so (sym at.2) ∙ sym (indices-push ss s) ∙ ap indices (sym e),
       subst (IsOf system) (sym e) (is_of-push system ss s of at.0 at.1
@@ -154,15 +154,15 @@ one_index system i s ss new so of is e =
     )
 
 -- The next signal of a table is not among the earlier ones.
-pub index_added : {E : Type 0} (system : System) (i : ℕ) (s : SignalAt) (ss new : List SignalAt) (r : Result Bool E) → is_err r ≡ false → below i ≡ indices ss → IsOf system ss
+pub index_added : {E : Type 0} {system : System} (i : ℕ) {s : SignalAt} {ss new : List SignalAt} (r : Result Bool E) → is_err r ≡ false → below i ≡ indices ss → IsOf system ss
     → signal_at system i ≡ Some s → (r ≡ Ok true → (new ≡ ss ++ s ∷ []) × (list_any (λ (q : SignalAt). s.index == q.index) ss ≡ false) × IsOf s.system new)
     → (r ≡ Ok false → (new ≡ ss) × (list_any (λ (q : SignalAt). s.index == q.index) ss ≡ true)) → (below (i + 1) ≡ indices new) × IsOf system new
-index_added system i s ss new (Ok true) is so of at added there = one_index system i s ss new so of at (added refl).0
-index_added system i s ss new (Ok false) is so of at added there =
+index_added {system} i {s} {ss} {new} (Ok true) is so of at added there = one_index i so of at (added refl).0
+index_added {system} i {s} {ss} (Ok false) is so of at added there =
     let here = at_index system i s at in
     let none = any_index s.index ss ∙ ap₂ (λ n l. list_any (nat_eq n) l) here.2 (sym so) ∙ none_below i i (omega arith) in
     absurd (true≢false (sym (there refl).1 ∙ none))
-index_added system i s ss new (Err e) is so of at added there = absurd (true≢false is)
+index_added i (Err e) is so of at added there = absurd (true≢false is)
 
 pub when_none : (system : System) (text : List ℕ) (r : List SignalAt) → bytes_eq text (codes "all") ≡ false → bytes_eq text (codes "none") ≡ true → r ≡ []
     → (signals_of system text ≡ Ok (indices r)) × IsOf system r

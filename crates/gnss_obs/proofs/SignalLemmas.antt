@@ -26,26 +26,26 @@ not_false b e = grind (arith, common_steps, e)
 -- ---- signals of one system are the same if their indices in its table are
 
 -- The result of a set for a signal of the same system as the others.
-module _ (eq : SignalAt → SignalAt → Bool) (same : (a b : SignalAt) → a.system ≡ b.system → eq a b ≡ (a.index == b.index)) (s : SignalAt) where
+module _ {eq : SignalAt → SignalAt → Bool} (same : (a b : SignalAt) → a.system ≡ b.system → eq a b ≡ (a.index == b.index)) (s : SignalAt) where
   any_same : (ss : List SignalAt) → All (λ (r : SignalAt). (r.system ≡ s.system) × IsSignal r) ss → list_any (eq s) ss ≡ list_any (λ (r : SignalAt). s.index == r.index) ss
   any_same [] h = refl
   any_same (r ∷ ss) h =
       let here = All-head (λ (r : SignalAt). (r.system ≡ s.system) × IsSignal r) r ss h in
       ap₂ (λ a b. a || b) (same s r (sym here.0)) (any_same ss (All-tail (λ (r : SignalAt). (r.system ≡ s.system) × IsSignal r) r ss h))
 
-  pub was_new : (ss new : List SignalAt) (is_new : Bool) (place : ℕ) → IsDistinct eq new → IsOf s.system ss → IsSignal s → new ≡ (if list_any (eq s) ss then ss else ss ++ s ∷ [])
-      → is_new ≡ not (list_any (eq s) ss) → place ≡ position_or_len (eq s) ss → is_new ≡ true
+  pub was_new : {ss new : List SignalAt} {place : ℕ} → IsDistinct eq new → IsOf s.system ss → IsSignal s → new ≡ (if list_any (eq s) ss then ss else ss ++ s ∷ [])
+      → not (list_any (eq s) ss) ≡ true → place ≡ position_or_len (eq s) ss
       → (new ≡ ss ++ s ∷ []) × (list_any (λ (r : SignalAt). s.index == r.index) ss ≡ false) × IsOf s.system new × (place ≡ length ss)
-  was_new ss new is_new place unique of listed keys added at is =
-      let none : list_any (eq s) ss ≡ false = not_true (list_any (eq s) ss) (sym added ∙ is) in
+  was_new {ss} unique of listed keys added at =
+      let none : list_any (eq s) ss ≡ false = not_true (list_any (eq s) ss) added in
       let apart = sym (any_same ss of.each) ∙ none in
       let all = keys ∙ ap (λ b. if b then ss else ss ++ s ∷ []) none in
       (all, apart, subst (IsOf s.system) (sym all) (is_of-push s.system ss s of refl listed apart), at ∙ none_before (eq s) ss none)
 
-  pub was_there : (ss new : List SignalAt) (is_new : Bool) → IsDistinct eq new → IsOf s.system ss → new ≡ (if list_any (eq s) ss then ss else ss ++ s ∷ [])
-      → is_new ≡ not (list_any (eq s) ss) → is_new ≡ false → (new ≡ ss) × (list_any (λ (r : SignalAt). s.index == r.index) ss ≡ true)
-  was_there ss new is_new unique of keys added is =
-      let there : list_any (eq s) ss ≡ true = not_false (list_any (eq s) ss) (sym added ∙ is) in
+  pub was_there : {ss new : List SignalAt} → IsDistinct eq new → IsOf s.system ss → new ≡ (if list_any (eq s) ss then ss else ss ++ s ∷ [])
+      → not (list_any (eq s) ss) ≡ false → (new ≡ ss) × (list_any (λ (r : SignalAt). s.index == r.index) ss ≡ true)
+  was_there {ss} unique of keys added =
+      let there : list_any (eq s) ss ≡ true = not_false (list_any (eq s) ss) added in
       (keys ∙ ap (λ b. if b then ss else ss ++ s ∷ []) there, sym (any_same ss of.each) ∙ there)
 
 -- ---- one more number
@@ -63,9 +63,9 @@ any_flip : (i : ℕ) (xs : List ℕ) → list_any (λ j. j == i) xs ≡ list_any
 any_flip i [] = refl
 any_flip i (x ∷ xs) = grind (arith, common_steps, any_flip i xs)
 
-pub found_more : (places : List (Option ℕ)) (xs new : List ℕ) (i place : ℕ) → AreFound places xs → i < 19 → 19 ≤ length places → list_any (nat_eq i) xs ≡ false
+pub found_more : {places : List (Option ℕ)} {xs new : List ℕ} (i : ℕ) {place : ℕ} → AreFound places xs → i < 19 → 19 ≤ length places → list_any (nat_eq i) xs ≡ false
     → place ≡ length xs → new ≡ xs ++ i ∷ [] → AreFound (set places i (Some place)) new
-found_more places xs new i place found less room none at is = subst (AreFound (set places i (Some place))) (sym is) (record { each = λ n small. by n small (nat_eq i n) refl }) where
+found_more {places} {xs} i {place} found less room none at is = subst (AreFound (set places i (Some place))) (sym is) (record { each = λ n small. by n small (nat_eq i n) refl }) where
   apart : (n : ℕ) → nat_eq i n ≡ false → n ≢ i
   apart n e same = absurd (grind (arith, e, same))
 

@@ -70,10 +70,10 @@ next_rest planned k (y ∷ ys) few rise later =
     (All-weaker (IsFrom planned (cell_number planned y + 1)) (IsNext planned k (y ∷ ys)) (λ z far e. absurd (omega (arith, own, far, e))) ys (after_first planned y ys few rise.0))
 
 -- The cell of number k comes next.
-below_found : (planned : List ℕ) (k : ℕ) (cells first : List Cell) (at : ℕ) (x : Cell) → length planned ≤ 64 → SortKeysRise (map (cell_sort_key planned) (sorted_cells planned cells))
+below_found : {planned : List ℕ} {k : ℕ} {cells first : List Cell} (at : ℕ) {x : Cell} → length planned ≤ 64 → SortKeysRise (map (cell_sort_key planned) (sorted_cells planned cells))
     → at < length cells → get_or cells at x ≡ x → cell_number planned x ≡ k → AreBelow planned k cells first
     → (length first < length cells) × AreBelow planned (k + 1) cells (first ++ x ∷ [])
-below_found planned k cells first at x few rise less is number b = (
+below_found {planned} {k} {cells} {first} at {x} few rise less is number b = (
   room,
   record {
     rest = drop 1 b.rest;
@@ -133,8 +133,8 @@ placed planned c h = by (place_in c.signal planned) refl h where
 number_is : (planned : List ℕ) (c : Cell) (p : ℕ) → place_in c.signal planned ≡ Some p → cell_number planned c ≡ 64 * c.satellite.id + p
 number_is planned c p e = ap (λ o. 64 * c.satellite.id + option_map_or (λ n. n) o 0) e
 
-same_place : (planned : List ℕ) (i p a : ℕ) → IsDistinct nat_eq planned → i < length planned → p < length planned → get_or planned i 0 ≡ a → get_or planned p 0 ≡ a → p ≡ i
-same_place planned i p a apart h k e f = by (nat_lt i p) (nat_lt p i) refl refl where
+same_place : (planned : List ℕ) (i p : ℕ) {a : ℕ} → IsDistinct nat_eq planned → i < length planned → p < length planned → get_or planned i 0 ≡ a → get_or planned p 0 ≡ a → p ≡ i
+same_place planned i p {a} apart h k e f = by (nat_lt i p) (nat_lt p i) refl refl where
   clash : (b : Bool) → nat_eq a a ≡ b → b ≡ false → ⊥
   clash true e f = cc
   clash false e f = absurd (grind (arith, e))
@@ -144,48 +144,8 @@ same_place planned i p a apart h k e f = by (nat_lt i p) (nat_lt p i) refl refl 
   by false true x y = absurd (clash (nat_eq a a) refl (sym (ap₂ (λ n m. nat_eq n m) f e) ∙ apart_from_distinct nat_eq planned p i 0 apart (let l : p < i = grind (arith, y) in l) h))
   by false false x y = grind (arith, x, y)
 
--- The cell of an entry has the number of its satellite and its signal's index in the plan.
-number_at : (planned : List ℕ) (id i index : ℕ) (x : Cell) → IsDistinct nat_eq planned → i < length planned → get_or planned i 0 ≡ index → index < 32 → x.signal.index < 32
-    → is_some (place_in x.signal planned) ≡ true → slot x ≡ 32 * id + index → cell_number planned x ≡ 64 * id + i
-number_at planned id i index x apart less at low small some is =
-    let p = placed planned x some in
-    let same = both x.satellite.id x.signal.index id index small low is in
-    number_is planned x p.0 p.1.0 ∙ ap₂ (λ n m. 64 * n + m) same.0 (same_place planned i p.0 index apart less p.1.1 at (p.1.2 ∙ same.1)) where
-      both : (a b n m : ℕ) → b < 32 → m < 32 → 32 * a + b ≡ 32 * n + m → (a ≡ n) × (b ≡ m)
-      both a b n m h k e = (omega (arith, h, k, e), omega (arith, h, k, e))
-
 abbrev IsPlanned : List ℕ → Cell → Type 0
 IsPlanned planned c = is_some (place_in c.signal planned) ≡ true
-
--- Without a cell of an entry, no cell has the number of its satellite and signal.
-none_at : (planned : List ℕ) (id i index : ℕ) (cells : List Cell) → length planned ≤ 64 → i < length planned → get_or planned i 0 ≡ index → All (IsPlanned planned) cells
-    → has_slot (32 * id + index) (map slot cells) ≡ false → All (Gap planned (64 * id + i) (64 * id + (i + 1))) cells
-none_at planned id i index [] few less at all none = All-nil (Gap planned (64 * id + i) (64 * id + (i + 1)))
-none_at planned id i index (c ∷ cells) few less at all none =
-    by (slot c == 32 * id + index) refl none (none_at planned id i index cells few less at (All-tail (IsPlanned planned) c cells all)) where
-      at_plan : (p : ℕ) × IsPlaced planned c p
-      at_plan = placed planned c (All-head (IsPlanned planned) c cells all)
-
-      other : (a b n p q m : ℕ) → p < 64 → m < 64 → a ≡ 64 * b + p → (p ≡ m → 32 * b + q ≡ 32 * n + index → ⊥) → (p ≡ m → q ≡ index) → 64 * n + m ≤ a → 64 * n + (m + 1) ≤ a
-      other a b n p q m h k is differ same le = step (nat_eq a (64 * n + m)) refl where
-        step : (e : Bool) → nat_eq a (64 * n + m) ≡ e → 64 * n + (m + 1) ≤ a
-        step false e = grind (arith, e, le)
-        step true e =
-            let equal : a ≡ 64 * n + m = grind (arith, e) in
-            let place : p ≡ m = omega (arith, equal, is, h, k) in
-            let satellite : b ≡ n = omega (arith, equal, is, h, k) in
-            absurd (differ place (ap₂ (λ u v. 32 * u + v) satellite (same place)))
-
-      by : (b : Bool) → (slot c == 32 * id + index) ≡ b → (b || has_slot (32 * id + index) (map slot cells)) ≡ false
-          → (has_slot (32 * id + index) (map slot cells) ≡ false → All (Gap planned (64 * id + i) (64 * id + (i + 1))) cells)
-          → All (Gap planned (64 * id + i) (64 * id + (i + 1))) (c ∷ cells)
-      by true e f more = cc
-      by false e f more =
-          All-cons (Gap planned (64 * id + i) (64 * id + (i + 1))) c cells
-          (let within = at_plan.1.1 in
-          other (cell_number planned c) c.satellite.id id at_plan.0 c.signal.index i (omega (arith, within, few)) (omega (arith, less, few)) (number_is planned c at_plan.0 at_plan.1.0)
-          (λ place is. absurd (grind (arith, e, is))) (λ place. sym at_plan.1.2 ∙ ap (λ n. get_or planned n 0) place ∙ at))
-          (more f)
 
 abbrev IsOwn : System → List ℕ → Cell → Type 0
 IsOwn system planned c = (c.satellite.system ≡ system) × IsPlanned planned c
@@ -229,42 +189,96 @@ few_planned system signals of = let n = few_signals system signals of in let m =
 index_of : (signals : List SignalAt) (i : ℕ) (s : SignalAt) → i < length signals → s ≡ get_or signals i s → get_or (indices signals) i 0 ≡ s.index
 index_of signals i s less at = get_or-map (λ (r : SignalAt). r.index) signals i s 0 less ∙ ap (λ (r : SignalAt). r.index) (sym at)
 
-pub entry_found : (system : System) (signals : List SignalAt) (id i at : ℕ) (s : SignalAt) (x : Cell) (cells first : List Cell) → IsOf system signals → AreHeld system cells
-    → AreInPlanOrder system (indices signals) (sorted_cells (indices signals) cells) → i < length signals → s ≡ get_or signals i s → IsSignal s
+-- The kept cells of a system, for its planned signals.
+pub record AreCellsOf (system : System) (signals : List SignalAt) (cells : List Cell) : Type 0 where
+  pub plan : IsOf system signals
+  pub held : AreHeld system cells
+  pub order : AreInPlanOrder system (indices signals) (sorted_cells (indices signals) cells)
+
+-- Signal i of the planned ones.
+pub record IsEntry (signals : List SignalAt) (i : ℕ) (s : SignalAt) : Type 0 where
+  pub less : i < length signals
+  pub is : s ≡ get_or signals i s
+  pub listed : IsSignal s
+
+-- The cell of an entry has the number of its satellite and its signal's index in the plan.
+number_at : {system : System} {signals : List SignalAt} {i : ℕ} {s : SignalAt} (id : ℕ) (x : Cell) → IsOf system signals → IsEntry signals i s → IsPlanned (indices signals) x
+    → x.signal.index < 32 → slot x ≡ 32 * id + s.index → cell_number (indices signals) x ≡ 64 * id + i
+number_at {signals = signals} {i} {s} id x of e some small is =
+    let p = placed (indices signals) x some in
+    let within : i < length (indices signals) = subst (λ n. i < n) (sym (length_indices signals)) e.less in
+    let same = both x.satellite.id x.signal.index id s.index small (low_index s e.listed) is in
+    number_is (indices signals) x p.0 p.1.0 ∙ ap₂ (λ n m. 64 * n + m) same.0 (same_place (indices signals) i p.0 of.apart within p.1.1 (index_of signals i s e.less e.is) (p.1.2 ∙ same.1)) where
+      both : (a b n m : ℕ) → b < 32 → m < 32 → 32 * a + b ≡ 32 * n + m → (a ≡ n) × (b ≡ m)
+      both a b n m h k e = (omega (arith, h, k, e), omega (arith, h, k, e))
+
+-- Without a cell of an entry, no cell has the number of its satellite and signal.
+none_at : {system : System} {signals : List SignalAt} {i : ℕ} {s : SignalAt} (id : ℕ) (cells : List Cell) → IsOf system signals → IsEntry signals i s → All (IsPlanned (indices signals)) cells
+    → has_slot (32 * id + s.index) (map slot cells) ≡ false → All (Gap (indices signals) (64 * id + i) (64 * id + (i + 1))) cells
+none_at {signals = signals} {i} id [] of e all none = All-nil (Gap (indices signals) (64 * id + i) (64 * id + (i + 1)))
+none_at {system} {signals} {i} {s} id (c ∷ cells) of e all none =
+    by (slot c == 32 * id + s.index) refl none (none_at id cells of e (All-tail (IsPlanned planned) c cells all)) where
+      planned : List ℕ
+      planned = indices signals
+
+      at_plan : (p : ℕ) × IsPlaced planned c p
+      at_plan = placed planned c (All-head (IsPlanned planned) c cells all)
+
+      few : length planned ≤ 64
+      few = few_planned system signals of
+
+      small : i < 64
+      small = let n = length_indices signals in let less = e.less in omega (arith, n, less, few)
+
+      other : (b p : ℕ) {a : ℕ} → p < 64 → a ≡ 64 * b + p → (p ≡ i → b ≡ id → ⊥) → 64 * id + i ≤ a → 64 * id + (i + 1) ≤ a
+      other b p {a} h is differ le = step (nat_eq a (64 * id + i)) refl where
+        step : (t : Bool) → nat_eq a (64 * id + i) ≡ t → 64 * id + (i + 1) ≤ a
+        step false t = grind (arith, t, le)
+        step true t = let equal : a ≡ 64 * id + i = grind (arith, t) in absurd (differ (omega (arith, equal, is, h, small)) (omega (arith, equal, is, h, small)))
+
+      by : (b : Bool) → (slot c == 32 * id + s.index) ≡ b → (b || has_slot (32 * id + s.index) (map slot cells)) ≡ false
+          → (has_slot (32 * id + s.index) (map slot cells) ≡ false → All (Gap planned (64 * id + i) (64 * id + (i + 1))) cells)
+          → All (Gap planned (64 * id + i) (64 * id + (i + 1))) (c ∷ cells)
+      by true t f more = cc
+      by false t f more =
+          All-cons (Gap planned (64 * id + i) (64 * id + (i + 1))) c cells
+          (let within = at_plan.1.1 in
+          other c.satellite.id at_plan.0 (omega (arith, within, few)) (number_is planned c at_plan.0 at_plan.1.0) (λ place satellite.
+          let is = ap₂ (λ u v. 32 * u + v) satellite (sym at_plan.1.2 ∙ ap (λ n. get_or planned n 0) place ∙ index_of signals i s e.less e.is) in absurd (grind (arith, t, is))))
+          (more f)
+
+pub entry_found : {system : System} {signals : List SignalAt} {i : ℕ} {s : SignalAt} {x : Cell} {cells first : List Cell} (id at : ℕ) → AreCellsOf system signals cells → IsEntry signals i s
     → (at < length cells) × ((d : Cell) → slot (get_or cells at d) ≡ 32 * id + s.index) → x ≡ get_or cells at x → AreBelow (indices signals) (64 * id + i) cells first
     → (length first < length cells) × AreBelow (indices signals) (64 * id + (i + 1)) cells (first ++ x ∷ [])
-entry_found system signals id i at s x cells first of held order less is listed found here b =
+entry_found {system} {signals} {i} {x = x} {cells} {first} id at of e found here b =
     let planned = indices signals in
-    let within : i < length planned = subst (λ n. i < n) (sym (length_indices signals)) less in
-    let some = subst (IsPlanned planned) (sym here) (All-get_or (IsPlanned planned) cells at x found.0 (planned_cells system planned cells order)) in
-    let own = subst (IsHeld system) (sym here) (All-get_or (IsHeld system) cells at x found.0 held.each) in
-    let number = number_at planned id i s.index x of.apart within (index_of signals i s less is) (low_index s listed) (low_index x.signal own.place) some (ap slot here ∙ found.1 x) in
-    let next = below_found planned (64 * id + i) cells first at x (few_planned system signals of) order.rise found.0 (sym here) number b in
+    let some = subst (IsPlanned planned) (sym here) (All-get_or (IsPlanned planned) cells at x found.0 (planned_cells system planned cells of.order)) in
+    let own = subst (IsHeld system) (sym here) (All-get_or (IsHeld system) cells at x found.0 of.held.each) in
+    let number = number_at id x of.plan e some (low_index x.signal own.place) (ap slot here ∙ found.1 x) in
+    let next = below_found at (few_planned system signals of.plan) of.order.rise found.0 (sym here) number b in
     let end : 64 * id + i + 1 ≡ 64 * id + (i + 1) = omega arith in
     (next.0, subst (λ n. AreBelow planned n cells (first ++ x ∷ [])) end next.1)
 
-pub entry_none : (system : System) (signals : List SignalAt) (id i : ℕ) (s : SignalAt) (cells first : List Cell) → IsOf system signals → AreInPlanOrder system (indices signals) (sorted_cells (indices signals) cells)
-    → i < length signals → s ≡ get_or signals i s → has_slot (32 * id + s.index) (map slot cells) ≡ false → AreBelow (indices signals) (64 * id + i) cells first → AreBelow (indices signals) (64 * id + (i + 1)) cells first
-entry_none system signals id i s cells first of order less is none b =
-    let within : i < length (indices signals) = subst (λ n. i < n) (sym (length_indices signals)) less in
-    below_skip (indices signals) (64 * id + i) (64 * id + (i + 1)) cells first (omega arith)
-    (none_at (indices signals) id i s.index cells (few_planned system signals of) within (index_of signals i s less is) (planned_cells system (indices signals) cells order) none) b
+pub entry_none : {system : System} {signals : List SignalAt} {i : ℕ} {s : SignalAt} {cells first : List Cell} (id : ℕ) → AreCellsOf system signals cells → IsEntry signals i s
+    → has_slot (32 * id + s.index) (map slot cells) ≡ false → AreBelow (indices signals) (64 * id + i) cells first → AreBelow (indices signals) (64 * id + (i + 1)) cells first
+entry_none {system} {signals} {i} {cells = cells} {first} id of e none b =
+    below_skip (indices signals) (64 * id + i) (64 * id + (i + 1)) cells first (omega arith) (none_at id cells of.plan e (planned_cells system (indices signals) cells of.order) none) b
 
 -- No cell is of a place after the plan's.
-pub entries_end : (system : System) (signals : List SignalAt) (id n : ℕ) (cells first : List Cell) → IsOf system signals → AreInPlanOrder system (indices signals) (sorted_cells (indices signals) cells)
-    → n ≡ length signals → AreBelow (indices signals) (64 * id + n) cells first → AreBelow (indices signals) (64 * (id + 1)) cells first
-entries_end system signals id n cells first of order end b =
-    below_skip (indices signals) (64 * id + n) (64 * (id + 1)) cells first (omega (arith, most, end, length_indices signals)) (All-weaker (IsPlanned (indices signals)) (Gap (indices signals) (64 * id + n) (64 * (id + 1))) later cells (planned_cells system (indices signals) cells order)) b where
+pub entries_end : {system : System} {signals : List SignalAt} {n : ℕ} {cells first : List Cell} (id : ℕ) → AreCellsOf system signals cells → n ≡ length signals
+    → AreBelow (indices signals) (64 * id + n) cells first → AreBelow (indices signals) (64 * (id + 1)) cells first
+entries_end {system} {signals} {n} {cells} {first} id of end b =
+    below_skip (indices signals) (64 * id + n) (64 * (id + 1)) cells first (omega (arith, most, end, length_indices signals)) (All-weaker (IsPlanned (indices signals)) (Gap (indices signals) (64 * id + n) (64 * (id + 1))) later cells (planned_cells system (indices signals) cells of.order)) b where
       most : length (indices signals) ≤ 64
-      most = few_planned system signals of
+      most = few_planned system signals of.plan
 
-      far : (a b p k : ℕ) → a ≡ 64 * b + p → p < k → k ≤ 64 → k ≡ n → 64 * id + n ≤ a → 64 * (id + 1) ≤ a
-      far a b p k e h le is from = omega (arith, e, h, le, is, from)
+      far : {a : ℕ} (b p : ℕ) {k : ℕ} → a ≡ 64 * b + p → p < k → k ≤ 64 → k ≡ n → 64 * id + n ≤ a → 64 * (id + 1) ≤ a
+      far b p e h le is from = omega (arith, e, h, le, is, from)
 
       later : (c : Cell) → IsPlanned (indices signals) c → 64 * id + n ≤ cell_number (indices signals) c → 64 * (id + 1) ≤ cell_number (indices signals) c
       later c some =
           let p = placed (indices signals) c some in
-          far (cell_number (indices signals) c) c.satellite.id p.0 (length (indices signals)) (number_is (indices signals) c p.0 p.1.0) p.1.1 most (length_indices signals ∙ sym end)
+          far c.satellite.id p.0 (number_is (indices signals) c p.0 p.1.0) p.1.1 most (length_indices signals ∙ sym end)
 
 -- ---- cells in order
 
@@ -338,7 +352,7 @@ before_slot bound planned c d r h k less =
     let p = placed planned c h.0 in
     let q = placed planned d k.0 in
     ap₂ (λ o u. is_before (record { satellite = c.satellite.id; place = option_map_or (λ n. n) o 0 }) (record { satellite = d.satellite.id; place = option_map_or (λ n. n) u 0 })) p.1.0 q.1.0
-    ∙ compare c.satellite.id d.satellite.id p.0 q.0 c.signal.index d.signal.index h.1 k.1 less (places p.0 q.0 p.1 q.1) where
+    ∙ compare p.0 q.0 (places p.0 q.0 p.1 q.1) where
       places : (p q : ℕ) → IsPlaced planned c p → IsPlaced planned d q → c.signal.index < d.signal.index → p < q
       places p q at bt l = by (nat_lt p q) (nat_lt q p) refl refl where
         by : (e f : Bool) → nat_lt p q ≡ e → nat_lt q p ≡ f → p < q
@@ -346,13 +360,13 @@ before_slot bound planned c d r h k less =
         by false true x y = let back = rise_at bound planned q p r (grind (arith, y)) at.1 in absurd (omega (arith, back, at.2, bt.2, l))
         by false false x y = let same : p ≡ q = grind (arith, x, y) in let e = ap (λ n. get_or planned n 0) same in absurd (omega (arith, e, at.2, bt.2, l))
 
-      compare : (i j p q a b : ℕ) → a < 32 → b < 32 → 32 * i + a < 32 * j + b → (a < b → p < q) → is_before (record { satellite = i; place = p }) (record { satellite = j; place = q }) ≡ true
-      compare i j p q a b h k less more = by (nat_lt i j) refl where
-        by : (e : Bool) → nat_lt i j ≡ e → (e || ((i == j) && nat_lt p q)) ≡ true
+      compare : (p q : ℕ) → (c.signal.index < d.signal.index → p < q) → is_before (record { satellite = c.satellite.id; place = p }) (record { satellite = d.satellite.id; place = q }) ≡ true
+      compare p q more = by (nat_lt c.satellite.id d.satellite.id) refl where
+        by : (e : Bool) → nat_lt c.satellite.id d.satellite.id ≡ e → (e || ((c.satellite.id == d.satellite.id) && nat_lt p q)) ≡ true
         by true x = refl
         by false x =
-            let far : j ≤ i = grind (arith, x) in
-            let same : i ≡ j = omega (arith, far, less, h, k) in
+            let far : d.satellite.id ≤ c.satellite.id = grind (arith, x) in
+            let same : c.satellite.id ≡ d.satellite.id = omega (arith, far, less, h.1, k.1) in
             let next = more (omega (arith, same, less)) in
             grind (arith, same, next)
 

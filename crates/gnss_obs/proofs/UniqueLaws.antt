@@ -35,18 +35,24 @@ zero_times q = ap pos (none q) where
   none : (q : ℕ) → 0 * q ≡ 0
   none q = omega arith
 
+-- x is at most half of q from a, and if it is exactly half, further from zero.
+record IsClose (a : ℤ) (q : ℕ) (x : ℤ) : Type 0 where
+  near : 2 * unsigned_abs (x -ℤ a) ≤ q
+  tie : 2 * unsigned_abs (x -ℤ a) ≡ q → unsigned_abs a < unsigned_abs x
+
 -- x and y are adjacent and a is halfway: only one of them is further from zero than a
-clash : (x y a : ℤ) (q : ℕ) → 0 < q → (x +ℤ pos q) ≤ℤ y → 2 * unsigned_abs (x -ℤ a) ≤ q → 2 * unsigned_abs (y -ℤ a) ≤ q
-    → (2 * unsigned_abs (x -ℤ a) ≡ q → unsigned_abs a < unsigned_abs x) → (2 * unsigned_abs (y -ℤ a) ≡ q → unsigned_abs a < unsigned_abs y) → (pos 0 ≤ℤ x) ⊎ ((x +ℤ pos q) ≤ℤ pos 0) → ⊥
-clash x y a q some next near_x near_y tie_x tie_y side =
+clash : {a : ℤ} {q : ℕ} {x y : ℤ} → 0 < q → (x +ℤ pos q) ≤ℤ y → IsClose a q x → IsClose a q y → (pos 0 ≤ℤ x) ⊎ ((x +ℤ pos q) ≤ℤ pos 0) → ⊥
+clash {a} {q} {x} {y} some next p r side =
+    let near_x = p.near in
+    let near_y = r.near in
     let half_x : 2 * unsigned_abs (x -ℤ a) ≡ q = omega (arith, ints, next, near_x, near_y) in
     let half_y : 2 * unsigned_abs (y -ℤ a) ≡ q = omega (arith, ints, next, near_x, near_y) in
-    let far_x = tie_x half_x in
-    let far_y = tie_y half_y in
+    let far_x = p.tie half_x in
+    let far_y = r.tie half_y in
     elim side [ inl right ↦ omega (arith, ints, next, half_x, half_y, far_x, far_y, right, some) | inr left ↦ omega (arith, ints, next, half_x, half_y, far_x, far_y, left, some) ]
 
 one_side : (t u a : ℤ) (q : ℕ) → 0 < q → t <ℤ u → IsNearest a q t → IsNearest a q u → ⊥
-one_side t u a q some less p r = clash (t *ℤ pos q) (u *ℤ pos q) a q some (apart t u q less) p.near r.near p.tie r.tie (elim (order t (pos 0)) [
+one_side t u a q some less p r = clash some (apart t u q less) (record { near = p.near; tie = p.tie }) (record { near = r.near; tie = r.tie }) (elim (order t (pos 0)) [
   | inl e ↦ inl (rw (e, zero_times q) (omega (arith, ints)))
   | inr s ↦ elim s [ inl left ↦ inr (rw (zero_times q) at (apart t (pos 0) q left)) | inr right ↦ inl (positive t right) ]
 ]) where

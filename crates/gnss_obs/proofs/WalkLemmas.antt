@@ -14,21 +14,15 @@ record IsOn (d : YearMonthDay) (count : ℕ) : Type 0 where
   pub valid : IsCivilDate (pos d.year) d.month d.day
   pub here : day_count (pos d.year) d.month d.day ≡ count
 
-here_in : (y m days count : ℕ) → y ≤ 9999 → 1 ≤ m → m ≤ 12 → day_count (pos y) m 1 + days ≡ count → days < month_length y m
+here_in : (y m days : ℕ) {count : ℕ} → y ≤ 9999 → 1 ≤ m → m ≤ 12 → day_count (pos y) m 1 + days ≡ count → days < month_length y m
     → IsOn (record { year = y; month = m; day = days + 1 }) count
-here_in y m days count year low high e lt = grind (arith, common_steps, signed_arith, day_count-day)
+here_in y m days year low high e lt = grind (arith, common_steps, signed_arith, day_count-day)
 
 below : (a b : ℕ) → nat_lt a b ≡ true → a < b
 below a b e = grind (arith, e)
 
 above : (a b : ℕ) → nat_lt a b ≡ false → b ≤ a
 above a b e = grind (arith, e)
-
-by_month : (b : Bool) (months y m days count : ℕ) → nat_lt days (month_length y m) ≡ b → y ≤ 9999 → 1 ≤ m → m ≤ 12 → day_count (pos y) m 1 + days ≡ count
-    → (month_length y m ≤ days → IsOn (month_on months y (m + 1) (days - month_length y m)) count)
-    → IsOn (if b then record { year = y; month = m; day = days + 1 } else month_on months y (m + 1) (days - month_length y m)) count
-by_month true months y m days count test year low high e later = here_in y m days count year low high e (below days (month_length y m) test)
-by_month false months y m days count test year low high e later = later (above days (month_length y m) test)
 
 -- December has 31 days
 last_month : (y m days count : ℕ) → m ≡ 12 → day_count (pos y) m 1 + days ≡ count
@@ -38,25 +32,20 @@ last_month y m days count twelve e bound =
     let lt : days < 31 = omega (arith, e12, bound, day_count-last_of_year (pos y), day_count-day (pos y) 12 1 31 (omega arith) (omega arith)) in
     rw twelve lt
 
--- The date is in the months of the year that are left.
-month_on_is : (months y m days count : ℕ) → y ≤ 9999 → 1 ≤ m → m + months ≡ 12 → day_count (pos y) m 1 + days ≡ count
-    → count < day_count (pos y) 1 1 + days_in_year (pos y) → IsOn (month_on months y m days) count
-month_on_is zero y m days count year low whole e bound =
-    let twelve : m ≡ 12 = omega (arith, whole) in
-    here_in y m days count year low (omega (arith, twelve)) e
-    (last_month y m days count twelve e bound)
-month_on_is (suc months) y m days count year low whole e bound =
-    by_month (nat_lt days (month_length y m)) months y m days count refl year low (omega (arith, whole)) e
-    (λ le. month_on_is months y (m + 1) (days - month_length y m) count year (omega arith) (omega (arith, whole))
-    (omega (arith, e, le, day_count-next_month (pos y) m low)) bound)
-
-by_year : (b : Bool) (years y days count : ℕ) → nat_lt days (year_length y) ≡ b → y ≤ 9999 → day_count (pos y) 1 1 + days ≡ count
-    → (year_length y ≤ days → IsOn (year_on years (y + 1) (days - year_length y)) count)
-    → IsOn (if b then month_on 11 y 1 days else year_on years (y + 1) (days - year_length y)) count
-by_year true years y days count test year e later =
-    let lt : days < year_length y = below days (year_length y) test in
-    month_on_is 11 y 1 days count year (omega arith) refl e (omega (arith, e, lt))
-by_year false years y days count test year e later = later (above days (year_length y) test)
+-- The date is in the months of the year that are left, the first of which is k + 1.
+month_on_is : (months y k days : ℕ) {count : ℕ} → y ≤ 9999 → k + months ≡ 11 → day_count (pos y) (k + 1) 1 + days ≡ count
+    → count < day_count (pos y) 1 1 + days_in_year (pos y) → IsOn (month_on months y (k + 1) days) count
+month_on_is zero y k days {count} year whole e bound =
+    here_in y (k + 1) days year (omega arith) (omega (arith, whole)) e (last_month y (k + 1) days count (omega (arith, whole)) e bound)
+month_on_is (suc months) y k days {count} year whole e bound =
+    by (nat_lt days (month_length y (k + 1))) refl
+    (λ le. month_on_is months y (k + 1) (days - month_length y (k + 1)) year (omega (arith, whole))
+    (omega (arith, e, le, day_count-next_month (pos y) (k + 1) (omega arith))) bound)
+  where
+    by : (b : Bool) → nat_lt days (month_length y (k + 1)) ≡ b → (month_length y (k + 1) ≤ days → IsOn (month_on months y (k + 1 + 1) (days - month_length y (k + 1))) count)
+        → IsOn (if b then record { year = y; month = k + 1; day = days + 1 } else month_on months y (k + 1 + 1) (days - month_length y (k + 1))) count
+    by true test later = here_in y (k + 1) days year (omega arith) (omega (arith, whole)) e (below days (month_length y (k + 1)) test)
+    by false test later = later (above days (month_length y (k + 1)) test)
 
 year_long : (y : ℕ) → 365 ≤ year_length y
 year_long y = grind arith
@@ -65,18 +54,21 @@ next_year : (y : ℕ) → day_count (pos (y + 1)) 1 1 ≡ day_count (pos y) 1 1 
 next_year y = day_count-next_year (pos y) (pos (y + 1)) (omega (arith, signed_arith)) (omega (arith, signed_arith))
 
 year_on_is : (years y days count : ℕ) → y + years ≤ 9999 → days < 365 * (years + 1) → day_count (pos y) 1 1 + days ≡ count → IsOn (year_on years y days) count
-year_on_is zero y days count year lt e = month_on_is 11 y 1 days count (omega (arith, year)) (omega arith) refl e (omega (arith, e, lt, year_long y))
+year_on_is zero y days count year lt e = month_on_is 11 y 0 days (omega (arith, year)) refl e (omega (arith, e, lt, year_long y))
 year_on_is (suc years) y days count year lt e =
-    by_year (nat_lt days (year_length y)) years y days count refl (omega (arith, year)) e
+    by (nat_lt days (year_length y)) refl
     (λ le. year_on_is years (y + 1) (days - year_length y) count (omega (arith, year)) (omega (arith, lt, le, year_long y))
     (omega (arith, e, le, next_year y)))
+  where
+    by : (b : Bool) → nat_lt days (year_length y) ≡ b → (year_length y ≤ days → IsOn (year_on years (y + 1) (days - year_length y)) count)
+        → IsOn (if b then month_on 11 y 1 days else year_on years (y + 1) (days - year_length y)) count
+    by true test later =
+        let lt : days < year_length y = below days (year_length y) test in
+        month_on_is 11 y 0 days (omega (arith, year)) refl e (omega (arith, e, lt))
+    by false test later = later (above days (year_length y) test)
 
 abbrev date : (y : ℤ) (m d : ℕ) → IsCivilDate y m d → Date
 date y m d v = record { year = y; month = m; day = d; year_in = v.0; month_in = v.1; day_in = v.2 }
-
--- Two dates with the same number of days are the same.
-same_date : (y z : ℤ) (m n d e : ℕ) → IsCivilDate y m d → IsCivilDate z n e → days_from_civil y m d ≡ days_from_civil z n e → (y ≡ z) × (m ≡ n) × (d ≡ e)
-same_date y z m n d e a b same = epoch_day_injective (date y m d a) (date z n e b) same
 
 -- The date a number of days after 1980-01-06.
 pub date_of_is : (days : ℕ) → days < 700_000
@@ -86,16 +78,16 @@ date_of_is days lt =
     let on = year_on_is 1920 1980 (days + 5) _ (omega arith) (omega (arith, lt)) refl in
     let d = date_of days in (
       on.valid,
-      since_first (days_from_civil (pos d.year) d.month d.day) (days_from_civil (pos 1980) 1 6) (day_count (pos d.year) d.month d.day) (day_count (pos 1980) 1 1) (day_count (pos 1980) 1 6) days
+      since_first (days_from_civil (pos d.year) d.month d.day) (days_from_civil (pos 1980) 1 6) (day_count (pos 1980) 1 1) days
           (counted d) (counted (record { year = 1980; month = 1; day = 6 })) on.here (day_count-day (pos 1980) 1 1 6 (omega arith) (omega arith)),
     )
   where
     counted : (d : YearMonthDay) → days_from_civil (pos d.year) d.month d.day +ℤ pos 4_371_953 ≡ pos (day_count (pos d.year) d.month d.day)
     counted d = omega (arith, signed_arith, days_from_civil-day_count (pos d.year) d.month d.day)
 
-    since_first : (z w : ℤ) (here january sixth days : ℕ) → z +ℤ pos 4_371_953 ≡ pos here → w +ℤ pos 4_371_953 ≡ pos sixth
+    since_first : (z w : ℤ) {here : ℕ} (january : ℕ) {sixth : ℕ} (days : ℕ) → z +ℤ pos 4_371_953 ≡ pos here → w +ℤ pos 4_371_953 ≡ pos sixth
         → here ≡ january + (days + 5) → january + 6 ≡ sixth + 1 → z -ℤ w ≡ pos days
-    since_first z w here january sixth days a b e f = omega (arith, signed_arith, a, b, e, f)
+    since_first z w january days a b e f = omega (arith, signed_arith, a, b, e, f)
 
 same_civil : (c d : Civil) → c.year ≡ d.year → c.month ≡ d.month → c.day ≡ d.day → c.hour ≡ d.hour → c.minute ≡ d.minute → c.millisecond ≡ d.millisecond → c ≡ d
 same_civil c d year month day hour minute millisecond = rw (year, month, day, hour, minute, millisecond)
@@ -104,8 +96,8 @@ same_civil c d year month day hour minute millisecond = rw (year, month, day, ho
 pub walk_is : (t : ℕ) (c : Civil) → t < weeks * week → IsCivilOf t c → c ≡ civil_of t
 walk_is t c lt is =
     let there = date_of_is (t / 86_400_000) (omega (arith, lt)) in
-    let same = same_date (pos c.year) (pos (date_of (t / 86_400_000)).year) c.month (date_of (t / 86_400_000)).month c.day (date_of (t / 86_400_000)).day
-    is.valid.date there.0 (same_days _ _ _ _ is.days there.1) in
+    let same = epoch_day_injective (date (pos c.year) c.month c.day is.valid.date) (date (pos (date_of (t / 86_400_000)).year) (date_of (t / 86_400_000)).month (date_of (t / 86_400_000)).day there.0)
+    (same_days _ _ _ _ is.days there.1) in
     same_civil c (civil_of t) (plain _ _ same.0) same.1 same.2
     (hour_of c (t % 86_400_000) is.valid is.clock) (minute_of c (t % 86_400_000) is.valid is.clock) (millisecond_of c (t % 86_400_000) is.valid is.clock)
   where

@@ -13,12 +13,12 @@ refused system code ss s (RepeatedCode named place) is u = grind (arith, common_
 refused system code ss s (UnknownCode named place) is u = absurd (u.2 (of_where system _ s is).0)
 refused system code ss s _ is u = absurd u
 
-added : (A : Type 0) (system : System) (code : List ℕ) (ss new : List SignalAt) (s : SignalAt) (r : Result A PlanFault) → signal_of_code system code ≡ Some s
+added : {A : Type 0} (system : System) (code : List ℕ) (ss new : List SignalAt) {s : SignalAt} (r : Result A PlanFault) → signal_of_code system code ≡ Some s
     → MatchResult r (λ _. (new ≡ ss ++ s ∷ []) × IsOf system new) (IsMemoryFaultOr (IsUnfitAfter system ss s))
     → MatchResult r (λ _. TakesCode system code ss new) (IsMemoryFaultOr (RefusesCode system code ss))
-added A system code ss new s (Ok u) is h = grind (arith, common_steps, accepted, not_before)
-added A system code ss new s (Err e) is (inl m) = inl m
-added A system code ss new s (Err e) is (inr u) = inr (refused system code ss s e is u)
+added system code ss new (Ok u) is h = grind (arith, common_steps, accepted, not_before)
+added system code ss new (Err e) is (inl m) = inl m
+added system code ss new {s} (Err e) is (inr u) = inr (refused system code ss s e is u)
 
 pub returns-in-Some : goal.returns-in-Some
-returns-in-Some c = added _ c.args.system c.args.code.now c.args.signals.now _ c.in-Some.signal c.add_signal.result (sym c.from_code.ensures ∙ c.in-Some.is) c.add_signal.ensures
+returns-in-Some c = added c.args.system c.args.code.now c.args.signals.now _ c.add_signal.result (sym c.from_code.ensures ∙ c.in-Some.is) c.add_signal.ensures

@@ -8,5 +8,5 @@ loop-index-init c = (ap indices (sym c.requires), subst (IsOf c.args.system) (sy
 
 pub loop-index-preserved : goal.loop-index-preserved
 loop-index-preserved c =
-    index_added c.args.system c.loop-index.index c.in-Some.signal c.loop-index.signals c.add.new.self c.add.result (search rules)
+    index_added c.loop-index.index c.add.result (search rules)
     c.loop-index.invariant.0 c.loop-index.invariant.1 (sym c.from_index.ensures ∙ c.in-Some.is) c.add.ensures.new c.add.ensures.old

@@ -10,4 +10,4 @@ pub returns-in_err-add_signal : goal.returns-in_err-add_signal
 returns-in_err-add_signal c =
     let error = err_from_is_err_and c.from_residual.result c.from_residual.ensures.1 in
     rw (error.1, error.2)
-    (unfit_at c.args.system c.args.signals.now c.loop-i.added c.loop-i.i _ _ c.loop-i-test.true c.index-signals-i.is c.loop-i.invariant.0 c.loop-i.invariant.1 c.in_err-add_signal.ensures)
+    (unfit_at c.args.signals.now c.loop-i.i c.loop-i-test.true c.index-signals-i.is c.loop-i.invariant.0 c.loop-i.invariant.1 c.in_err-add_signal.ensures)

@@ -23,9 +23,9 @@ pub returns-in_err-add_code : goal.returns-in_err-add_code
 returns-in_err-add_code c =
     let split = first_some c.loop-code.rest.now c.split_once.result _ c.split_once.ensures.cases c.in-Some.is in
     let error = err_from_is_err_and c.from_residual.result c.from_residual.ensures.1 in
-    rw (error.1, error.2) (code_fault c.args.system c.loop-code.signals c.loop-code.rest.now _ _ _ _ split c.loop-code.invariant.1 c.in_err-add_code.ensures)
+    rw (error.1, error.2) (code_fault c.args.system c.loop-code.signals c.loop-code.rest.now _ split c.loop-code.invariant.1 c.in_err-add_code.ensures)
 
 pub returns : goal.returns
 returns c =
     let alone = first_none c.loop-code.rest.now c.split_once.result c.split_once.ensures.cases c.in_default.is in
-    last_code c.args.system c.loop-code.signals c.add_code-2.new.signals c.loop-code.rest.now _ c.add_code-2.result alone c.loop-code.invariant.1 c.add_code-2.ensures
+    last_code c.args.system c.loop-code.signals c.add_code-2.new.signals c.loop-code.rest.now c.add_code-2.result alone c.loop-code.invariant.1 c.add_code-2.ensures

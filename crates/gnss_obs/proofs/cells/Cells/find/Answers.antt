@@ -14,7 +14,7 @@ returns-then-slot-entry-clause-any c =
     let i = c.self.invariant in
     let e : true ≡ nat_eq c.slot.result c.args.entry = grind (arith, c.if-slot-entry.true) in
     e ∙ ap (λ n. nat_eq n c.args.entry) c.slot.ensures.entry ∙ ap (λ d. nat_eq (slot d) c.args.entry) (sym c.index-self-at.is)
-    ∙ found_here c.self.inside.table c.self.inside.buffer c.self.inside.count c.args.entry c.index-self-at.result (omega (arith, i.0, i.1)) i.3 c.if-at-self.false c.index-self-at.is
+    ∙ found_here c.self.inside.table c.self.inside.buffer c.self.inside.count c.args.entry (omega (arith, i.0, i.1)) i.3 c.if-at-self.false c.index-self-at.is
     ∙ ap (λ cells. has_slot c.args.entry (map slot cells)) c.self.view_is
 
 pub returns-else-slot-entry-clause-any : goal.returns-else-slot-entry-clause-any
@@ -22,5 +22,5 @@ returns-else-slot-entry-clause-any c =
     let i = c.self.invariant in
     let e : false ≡ nat_eq c.slot.result c.args.entry = grind (arith, c.if-slot-entry.false) in
     e ∙ ap (λ n. nat_eq n c.args.entry) c.slot.ensures.entry ∙ ap (λ d. nat_eq (slot d) c.args.entry) (sym c.index-self-at.is)
-    ∙ found_here c.self.inside.table c.self.inside.buffer c.self.inside.count c.args.entry c.index-self-at.result (omega (arith, i.0, i.1)) i.3 c.if-at-self.false c.index-self-at.is
+    ∙ found_here c.self.inside.table c.self.inside.buffer c.self.inside.count c.args.entry (omega (arith, i.0, i.1)) i.3 c.if-at-self.false c.index-self-at.is
     ∙ ap (λ cells. has_slot c.args.entry (map slot cells)) c.self.view_is

@@ -17,6 +17,6 @@ invariant_of-self c =
       omega (arith, i.1, room),
       length-set buffer count c.args.x ∙ i.1,
       length-set c.self.inside.table entry count ∙ i.2,
-      found_push c.self.inside.table buffer count entry c.args.x room is (omega (arith, c.slot-entry.ensures.bound, i.2)) i.3,
+      found_push c.self.inside.table buffer count c.args.x room is (omega (arith, c.slot-entry.ensures.bound, i.2)) i.3,
       subst (IsLeastNext c.least_next_after-self-inside.result) (sym (slots_push buffer count entry c.args.x room is)) (c.least_next_after-self-inside.ensures (map slot (take count buffer)) i.4),
     )

@@ -3,7 +3,7 @@ use Rattle.gnss_obs.proofs.plan.Plan.from_signals.Goals as goal
 
 pub returns-clause-cases : goal.returns-clause-cases
 returns-clause-cases c =
-    let added = both_added c.add_signals-added.result c.add_signals-also_added.result c.and.result c.args.gps.now c.args.galileo.now _ _ c.and.ensures c.add_signals-added.ensures c.add_signals-also_added.ensures in
+    let added = rw (← c.and.ensures) at (both_added c.add_signals-added.result c.add_signals-also_added.result c.args.gps.now c.args.galileo.now _ _ c.add_signals-added.ensures c.add_signals-also_added.ensures) in
     plan_added c.and.result c.args.gps.now c.args.galileo.now _ _ c.with.result added c.with.ensures
 
 pub returns-clause-planned : goal.returns-clause-planned

@@ -10,10 +10,10 @@ invariant_of-self c =
     let keys = c.self.inside.order.keys in
     let s = c.args.signal in
     let of = subst (IsOf s.system) (sym c.self.view_is) c.requires in
-    let a = was_new _ (λ a b e. grind arith) s keys _ _ c.in-Ok.place c.in-Ok.ensures.unique of c.index-index.ensures.listed c.in-Ok.ensures.keys c.in-Ok.ensures.added c.in-Ok.ensures.index c.if-is_new.true in
+    let a = was_new (λ a b e. grind arith) s c.in-Ok.ensures.unique of c.index-index.ensures.listed c.in-Ok.ensures.keys (sym c.in-Ok.ensures.added ∙ c.if-is_new.true) c.in-Ok.ensures.index in
     let room : 19 ≤ length c.self.inside.places = omega arith in
     let more = ap indices a.0 ∙ indices-push keys s ∙ ap (λ (n : ℕ). indices keys ++ n ∷ []) (sym c.index-index.ensures.value) in (
-      found_more c.self.inside.places (indices keys) _ c.index-index.result c.in-Ok.place c.self.invariant.0 (search rules) room
+      found_more c.index-index.result c.self.invariant.0 (search rules) room
           (ap (λ (n : ℕ). list_any (nat_eq n) (indices keys)) c.index-index.ensures.value ∙ sym (any_index s.index keys) ∙ a.1) (a.3 ∙ sym (length_indices keys))
           more,
       subst (IsLeastNext c.least_next_after-self-inside.result) (sym more) (c.least_next_after-self-inside.ensures (indices keys) c.self.invariant.1),
@@ -24,7 +24,7 @@ returns-then-is_new-clause-new c = λ e.
     let keys = c.self.inside.order.keys in
     let s = c.args.signal in
     let of = subst (IsOf s.system) (sym c.self.view_is) c.requires in
-    let a = was_new _ (λ a b e. grind arith) s keys _ _ c.in-Ok.place c.in-Ok.ensures.unique of c.index-index.ensures.listed c.in-Ok.ensures.keys c.in-Ok.ensures.added c.in-Ok.ensures.index c.if-is_new.true in
+    let a = was_new (λ a b e. grind arith) s c.in-Ok.ensures.unique of c.index-index.ensures.listed c.in-Ok.ensures.keys (sym c.in-Ok.ensures.added ∙ c.if-is_new.true) c.in-Ok.ensures.index in
     subst (λ (l : List SignalAt). (c.insert_full.new.self.keys ≡ l ++ s ∷ []) × (list_any (λ (r : SignalAt). s.index == r.index) l ≡ false) × IsOf s.system c.insert_full.new.self.keys) c.self.view_is (a.0, a.1, a.2)
 
 pub returns-else-is_new-clause-old : goal.returns-else-is_new-clause-old
@@ -33,4 +33,4 @@ returns-else-is_new-clause-old c = λ e.
     let s = c.args.signal in
     let of = subst (IsOf s.system) (sym c.self.view_is) c.requires in
     subst (λ (l : List SignalAt). (c.insert_full.new.self.keys ≡ l) × (list_any (λ (r : SignalAt). s.index == r.index) l ≡ true)) c.self.view_is
-    (was_there _ (λ a b e. grind arith) s keys _ _ c.in-Ok.ensures.unique of c.in-Ok.ensures.keys c.in-Ok.ensures.added c.if-is_new.false)
+    (was_there (λ a b e. grind arith) s c.in-Ok.ensures.unique of c.in-Ok.ensures.keys (sym c.in-Ok.ensures.added ∙ c.if-is_new.false))

@@ -1,7 +1,6 @@
 use Rattle.std.proofs.Common.{◌≤ℤ◌, ◌<◌, pos, arith, ◌∙◌, sym, subst}
 use Rattle.jiff_core.proofs.SignedLemmas.{signed_arith}
 use Rattle.jiff_core.specs.Date.{epoch_day}
-use Rattle.jiff_core.specs.DateTime.{civil_nanos}
 use Rattle.gnss_obs.proofs.WalkLemmas.{walk_is}
 use Rattle.gnss_obs.proofs.Days.{year_from, plain_year, casts}
 use Rattle.gnss_obs.proofs.CivilLemmas.{moment_of, parts_of, made_of, back, back_thousands, day_below}
@@ -10,7 +9,7 @@ use Rattle.gnss_obs.proofs.time.GpsTime.civil.Goals as goal
 pub overflow_cast-result : goal.overflow_cast-result
 overflow_cast-result c =
     let at = c.in-Ok.at in
-    let moment = moment_of (civil_nanos at) _ _ c.milliseconds.result c.args.self c.in-Ok.ensures.value c.beginning.ensures c.from_millis-since.ensures c.milliseconds.ensures.bound c.milliseconds.ensures.value in
+    let moment = moment_of c.in-Ok.ensures.value c.beginning.ensures c.from_millis-since.ensures c.milliseconds.ensures.bound c.milliseconds.ensures.value in
     let parts = parts_of at c.args.self moment in
     let after : pos 3657 ≤ℤ epoch_day at.date = omega (arith, signed_arith, parts.0) in
     let low = subst (λ z. pos 1980 ≤ℤ z) (sym c.year.ensures) (year_from at.date after) in
@@ -20,7 +19,7 @@ overflow_cast-result c =
 pub returns-clause-relation : goal.returns-clause-relation
 returns-clause-relation c =
     let at = c.in-Ok.at in
-    let moment = moment_of (civil_nanos at) _ _ c.milliseconds.result c.args.self c.in-Ok.ensures.value c.beginning.ensures c.from_millis-since.ensures c.milliseconds.ensures.bound c.milliseconds.ensures.value in
+    let moment = moment_of c.in-Ok.ensures.value c.beginning.ensures c.from_millis-since.ensures c.milliseconds.ensures.bound c.milliseconds.ensures.value in
     let parts = parts_of at c.args.self moment in
     let after : pos 3657 ≤ℤ epoch_day at.date = omega (arith, signed_arith, parts.0) in
     let low = subst (λ z. pos 1980 ≤ℤ z) (sym c.year.ensures) (year_from at.date after) in
@@ -29,8 +28,8 @@ returns-clause-relation c =
     let hour : at.time.hour < 128 = omega (arith, at.time.hour_in) in
     let minute : at.time.minute < 128 = omega (arith, at.time.minute_in) in
     let second : at.time.second < 128 = omega (arith, at.time.second_in) in
-    made_of at c.args.self _ _ _ _ _ _ _ moment
-    (plain_year c.year.result low high ∙ c.year.ensures) (back c.month.result _ c.month.ensures month) (back c.day.result _ c.day.ensures (day_below at.date))
+    made_of at moment
+    (record { year = plain_year c.year.result low high ∙ c.year.ensures; month = back c.month.result _ c.month.ensures month; day = back c.day.result _ c.day.ensures (day_below at.date) })
     (back c.hour.result _ c.hour.ensures hour) (back c.minute.result _ c.minute.ensures minute) (back c.second.result _ c.second.ensures second)
     (back_thousands c.millisecond.result _ c.millisecond.ensures (omega (arith, at.time.subsec_in)))
 
