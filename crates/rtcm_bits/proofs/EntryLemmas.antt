@@ -31,11 +31,13 @@ taken_in h m l a b c rest =
     ∙ ap (λ (t : List Bool). uint 8 (bit_xor m b) ++ t)
     (add_front-append (uint 8 l) (uint 8 c) rest (omega (arith, length-uint 8 l, length-uint 8 c)) ∙ ap (λ (t : List Bool). t ++ rest) (sym (uint-xor 8 l c))))
 
-pub into_bytes : (x h m l a b c : ℕ) (rest : List ℕ) → x ≡ h * 65536 + (m * 256 + l) → m < 256 → l < 256
-    → after_bits (uint 24 x) (bits_of (a ∷ b ∷ c ∷ rest)) ≡ uint 24 (crc (bit_xor h a ∷ bit_xor m b ∷ bit_xor l c ∷ rest))
+pub into_bytes : (x h a b c : ℕ) (rest : List ℕ) → x ≡ h * 65536 + (x / 256 % 256 * 256 + x % 256)
+    → after_bits (uint 24 x) (bits_of (a ∷ b ∷ c ∷ rest)) ≡ uint 24 (crc (bit_xor h a ∷ bit_xor (x / 256 % 256) b ∷ bit_xor (x % 256) c ∷ rest))
 unfolding bits_of
-into_bytes x h m l a b c rest e j k =
-    let s : uint 24 x ≡ uint 8 h ++ (uint 8 m ++ uint 8 l) = ap (uint 24) e ∙ three_bytes h m l j k in
+into_bytes x h a b c rest e =
+    let m : ℕ = x / 256 % 256 in
+    let l : ℕ = x % 256 in
+    let s : uint 24 x ≡ uint 8 h ++ (uint 8 m ++ uint 8 l) = ap (uint 24) e ∙ three_bytes h (x / 256 % 256) (x % 256) (omega arith) (omega arith) in
     let n : length (bits_of (a ∷ b ∷ c ∷ rest)) ≡ 24 + length (bits_of rest) =
     omega (arith, length-uint 8 a, length-uint 8 b, length-uint 8 c, length-append (uint 8 a) (uint 8 b ++ (uint 8 c ++ bits_of rest)), length-append (uint 8 b) (uint 8 c ++ bits_of rest), length-append (uint 8 c) (bits_of rest)) in
     into_front (uint 24 x) (bits_of (a ∷ b ∷ c ∷ rest)) (length-uint 24 x) (omega (arith, n))
@@ -90,14 +92,14 @@ entry_more xs k s e h p q =
     front_sum (get_or xs i 0) k s e (drop (length xs - k) xs) n p q
     ∙ sym (ap crc (ap (λ (t : ℕ). drop t xs) z ∙ drop_more xs i 0 (omega (arith, h)) ∙ ap (λ (t : ℕ). get_or xs i 0 ∷ drop t xs) j))
 
-pub some_right : (x : ℕ) (xs : List ℕ) (k s u v w : ℕ) → x < 2 ^ 24 → 3 ≤ length xs → k ≡ length xs - 3 → s ≡ crc (drop (length xs - k) xs)
+pub some_right : {x k s u v w : ℕ} (xs : List ℕ) → x < 2 ^ 24 → 3 ≤ length xs → k ≡ length xs - 3 → s ≡ crc (drop (length xs - k) xs)
     → u ≡ crc (bit_xor (x % 256) (get_or xs 2 0) ∷ replicate (length xs - 3) 0) → v ≡ crc (bit_xor (x / 256 % 256) (get_or xs 1 0) ∷ replicate (length xs - 2) 0)
     → w ≡ crc (bit_xor (x / 65536) (get_or xs 0 0) ∷ replicate (length xs - 1) 0)
     → (bit_xor (bit_xor (bit_xor s u) v) w < 2 ^ 24) × (uint 24 (bit_xor (bit_xor (bit_xor s u) v) w) ≡ after_bits (uint 24 x) (bits_of xs))
-some_right x [] k s u v w h l i p q r t = absurd (omega (arith, l))
-some_right x (a ∷ []) k s u v w h l i p q r t = absurd (omega (arith, l))
-some_right x (a ∷ b ∷ []) k s u v w h l i p q r t = absurd (omega (arith, l))
-some_right x (a ∷ b ∷ c ∷ rest) k s u v w h l i p q r t =
+some_right [] h l i p q r t = absurd (omega (arith, l))
+some_right (a ∷ []) h l i p q r t = absurd (omega (arith, l))
+some_right (a ∷ b ∷ []) h l i p q r t = absurd (omega (arith, l))
+some_right {x} {k} {s} {u} {v} {w} (a ∷ b ∷ c ∷ rest) h l i p q r t =
     let n : ℕ = length (a ∷ b ∷ c ∷ rest) in
     let d : length (a ∷ b ∷ c ∷ rest) - k ≡ 3 = omega (arith, i) in
     let hi : ℕ = bit_xor (x / 65536) a in
@@ -107,5 +109,5 @@ some_right x (a ∷ b ∷ c ∷ rest) k s u v w h l i p q r t =
     front_sum hi (n - 1) _ w (mid ∷ low ∷ rest) (omega arith) (front_sum mid (n - 2) _ v (low ∷ rest) (omega arith)
     (front_sum low (n - 3) s u rest (omega arith) (p ∙ ap (λ (m : ℕ). crc (drop m (a ∷ b ∷ c ∷ rest))) d) q) r) t in (
       rw g (check_below (hi ∷ mid ∷ low ∷ rest)),
-      ap (uint 24) g ∙ sym (into_bytes x (x / 65536) (x / 256 % 256) (x % 256) a b c rest (omega arith) (omega arith) (omega arith)),
+      ap (uint 24) g ∙ sym (into_bytes x (x / 65536) a b c rest (omega arith)),
     )

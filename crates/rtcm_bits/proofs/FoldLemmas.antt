@@ -1,5 +1,5 @@
 -- The CRC of folded bytes: a byte that is taken away and added to those 69, 71, 79, 85 and 96 places further on.
-use Rattle.rtcm_bits.proofs.Names.{◌≡◌, ℕ, ◌+◌, ◌-◌, ◌/◌, ◌%◌, ◌^◌, ◌<◌, ◌≤◌, Bool, true, false, eqb, List, [], ◌∷◌, ◌++◌, length, drop, take, get_or, replicate, refl, sym, ap, ◌∙◌, arith, suc, zero, bit_xor, length-append, lit<, lit≤, xor_assoc, xor_zero_r, drop-replicate, agree_below_at, eqb-true, append_assoc, length-replicate, replicate-append-replicate, length-drop, length-take-le, drop-drop, drop-append-le, take-append-drop, take-append-le, take_all, drop-append_seam, drop-append-add, drop-length, xor_lt, xor_comm, uint, number, number_from, bits_of, add_front, remainder, bits_remainder, crc, after_bits, add_bytes, fold_into, TABLES, length-uint, bits_of-append}
+use Rattle.rtcm_bits.proofs.Names.{◌≡◌, ℕ, ◌+◌, ◌-◌, ◌/◌, ◌%◌, ◌^◌, ◌<◌, ◌≤◌, Bool, true, false, eqb, List, [], ◌∷◌, ◌++◌, length, drop, take, get_or, replicate, refl, sym, ap, ◌∙◌, arith, suc, zero, bit_xor, length-append, lit<, lit≤, xor_assoc, xor_zero_r, drop-replicate, agree_below_at, eqb-true, append_assoc, length-replicate, replicate-append-replicate, length-drop, length-take-le, drop-drop, drop-append-le, take-append-drop, take-append-le, take_all, drop-append_seam, drop-append-add, drop-length, xor_lt, xor_comm, uint, number, number_from, bits_of, add_front, remainder, bits_remainder, crc, after_bits, add_bytes, fold_into, Sixes, TABLES, length-uint, bits_of-append}
 use Rattle.rtcm_bits.proofs.RegisterBits.{uint-xor, uint-mod}
 use Rattle.rtcm_bits.proofs.CheckLemmas.{divide_all, remainder_is, after_bits-append}
 use Rattle.rtcm_bits.proofs.RegisterLemmas.{check_is, check_below}
@@ -232,19 +232,20 @@ first_vector (o ∷ os) w b s h k =
     ap (zip2 bit_xor (take 16 (drop o w))) (first_vector os w b s.1 h k) ∙ zip_sum (take 16 (drop o w)) (take 16 (fold_at os w b)) (l ∙ sym m)
     ∙ sym (take-add_bytes 16 (drop o w) (fold_at os w b))
 
-pub vector_next : (f s t r b x1 x2 x3 x4 : List ℕ) → length f ≡ 16 → length s ≡ 16 → length t ≡ 16 → length b ≡ 16
+pub vector_next : {f s t u v x x1 x2 x3 x4 : List ℕ} (b : List ℕ) → Sixes f s t u v x → length b ≡ 16
     → x1 ≡ take 16 (drop 11 (s ++ t)) → x2 ≡ take 16 (drop 9 (s ++ t)) → x3 ≡ take 16 (drop 1 (s ++ t)) → x4 ≡ take 16 (drop 11 (f ++ s))
-    → zip2 bit_xor x1 (zip2 bit_xor x2 (zip2 bit_xor x3 (zip2 bit_xor x4 (zip2 bit_xor f (take 16 b))))) ≡ take 16 (fold_into (f ++ (s ++ (t ++ r))) b)
+    → zip2 bit_xor x1 (zip2 bit_xor x2 (zip2 bit_xor x3 (zip2 bit_xor x4 (zip2 bit_xor f (take 16 b))))) ≡ take 16 (fold_into (f ++ (s ++ (t ++ (u ++ (v ++ x))))) b)
 unfolding fold_into
-vector_next f s t r b x1 x2 x3 x4 hf hs ht hb p1 p2 p3 p4 =
-    let lst : length (s ++ t) ≡ 32 = length-append s t ∙ omega (arith, hs, ht) in
-    let lfs : length (f ++ s) ≡ 32 = length-append f s ∙ omega (arith, hf, hs) in
-    let lw : 43 ≤ length (f ++ (s ++ (t ++ r))) = omega (arith, hf, hs, ht, length-append f (s ++ (t ++ r)), length-append s (t ++ r), length-append t r) in
-    let q1 : take 16 (drop 27 (f ++ (s ++ (t ++ r)))) ≡ x1 = ap (take 16) (past_first 11 f (s ++ (t ++ r)) hf) ∙ within_two 11 s t r (omega (arith, lst)) ∙ sym p1 in
-    let q2 : take 16 (drop 25 (f ++ (s ++ (t ++ r)))) ≡ x2 = ap (take 16) (past_first 9 f (s ++ (t ++ r)) hf) ∙ within_two 9 s t r (omega (arith, lst)) ∙ sym p2 in
-    let q3 : take 16 (drop 17 (f ++ (s ++ (t ++ r)))) ≡ x3 = ap (take 16) (past_first 1 f (s ++ (t ++ r)) hf) ∙ within_two 1 s t r (omega (arith, lst)) ∙ sym p3 in
+vector_next {f} {s} {t} {u} {v} {x} {x1} {x2} {x3} {x4} b h hb p1 p2 p3 p4 =
+    let r : List ℕ = u ++ (v ++ x) in
+    let lst : length (s ++ t) ≡ 32 = length-append s t ∙ omega (arith, h.second, h.third) in
+    let lfs : length (f ++ s) ≡ 32 = length-append f s ∙ omega (arith, h.first, h.second) in
+    let lw : 43 ≤ length (f ++ (s ++ (t ++ r))) = omega (arith, h.first, h.second, h.third, length-append f (s ++ (t ++ r)), length-append s (t ++ r), length-append t r) in
+    let q1 : take 16 (drop 27 (f ++ (s ++ (t ++ r)))) ≡ x1 = ap (take 16) (past_first 11 f (s ++ (t ++ r)) h.first) ∙ within_two 11 s t r (omega (arith, lst)) ∙ sym p1 in
+    let q2 : take 16 (drop 25 (f ++ (s ++ (t ++ r)))) ≡ x2 = ap (take 16) (past_first 9 f (s ++ (t ++ r)) h.first) ∙ within_two 9 s t r (omega (arith, lst)) ∙ sym p2 in
+    let q3 : take 16 (drop 17 (f ++ (s ++ (t ++ r)))) ≡ x3 = ap (take 16) (past_first 1 f (s ++ (t ++ r)) h.first) ∙ within_two 1 s t r (omega (arith, lst)) ∙ sym p3 in
     let q4 : take 16 (drop 11 (f ++ (s ++ (t ++ r)))) ≡ x4 = within_two 11 f s (t ++ r) (omega (arith, lfs)) ∙ sym p4 in
-    let q5 : take 16 (f ++ (s ++ (t ++ r))) ≡ f = take-append-le 16 f (s ++ (t ++ r)) (omega (arith, hf)) ∙ take_all 16 f (omega (arith, hf)) in
+    let q5 : take 16 (f ++ (s ++ (t ++ r))) ≡ f = take-append-le 16 f (s ++ (t ++ r)) (omega (arith, h.first)) ∙ take_all 16 f (omega (arith, h.first)) in
     five_same q1 q2 q3 q4 q5 (take 16 b) ∙ first_vector offsets (f ++ (s ++ (t ++ r))) b small lw (omega (arith, hb))
   where
     five_same : {a b c d e p q r s t : List ℕ} → a ≡ p → b ≡ q → c ≡ r → d ≡ s → e ≡ t → (m : List ℕ)
@@ -275,7 +276,7 @@ start_folded x (a ∷ b ∷ c ∷ rest) h k =
     zeros_on 69 (add_bytes (replicate 71 0) (add_bytes (replicate 79 0) (add_bytes (replicate 85 0) y)))
     ∙ zeros_on 71 (add_bytes (replicate 79 0) (add_bytes (replicate 85 0) y)) ∙ zeros_on 79 (add_bytes (replicate 85 0) y) ∙ zeros_on 85 y
     ∙ ap (λ (l : List ℕ). front ++ l) (zeros_on 93 rest) in
-    into_bytes x (x / 65536 % 256) (x / 256 % 256) (x % 256) a b c rest (omega (arith, h)) (omega arith) (omega arith) ∙ ap (λ (l : List ℕ). uint 24 (crc l)) (sym z)
+    into_bytes x (x / 65536 % 256) a b c rest (omega (arith, h)) ∙ ap (λ (l : List ℕ). uint 24 (crc l)) (sym z)
 
 -- the last bytes, to which nothing but what was folded before is added
 fold_zeros : (os u : List ℕ) (k : ℕ) (m : List ℕ) → Small os → 27 ≤ length u → fold_at os (u ++ replicate k 0) m ≡ fold_at os u m

@@ -1,6 +1,12 @@
 -- The counts of looks of a window. Only the first ones are stored.
 use Rattle.rtcm_bits.proofs.Names.{◌≡◌, ℕ, ◌+◌, ◌-◌, ◌<◌, ◌≤◌, min, max, List, [], ◌∷◌, ◌++◌, length, drop, replicate, slice_index, slice_set, refl, sym, ap, ◌∙◌, arith, suc, zero, length-append, length-drop, append_assoc, ⊎_elim, ltb, get_or, Bool, true, false, drop-append-le, drop-replicate, drop-set-lt, get_or-append-add, get_or-append_right, get_or-drop, get_or_append_left, get_or-replicate, get_or-set_other, length-replicate, length-set, replicate-append-replicate, set-append_left, cases_lt, drop-append-add, get_or-append_seam, set-append_seam, Buffer, buffer, WindowValue, held_of, filled_up, counts_alone, looked_through, pushed_all, without_front, lt-ltb, le-ltb, get_or_default}
-use Rattle.rtcm_bits.proofs.WindowLemmas.{shifted, through_counts}
+use Rattle.rtcm_bits.proofs.WindowLemmas.{AgreeFrom, shifted, through_counts}
+
+-- the sums of a window before and after looks at k bytes: e and e' count all looks, m is the largest count after them
+pub record AreSums (e e' k m largest : ℕ) : Type 0 where
+  pub few : e ≤ 18446744073709551615
+  pub sum : e' ≡ min (e + k) 18446744073709551615
+  pub most : m ≡ largest
 
 -- more bytes without a look
 pub filled_more : (xs : List ℕ) (o n k : ℕ) → length xs + o ≤ n → filled_up xs o (n + k) ≡ filled_up xs o n ++ replicate k 0
@@ -38,15 +44,15 @@ first_look xs o p n i e f h =
     let t : xs ++ ((replicate o 1 ++ 1 ∷ []) ++ replicate (n - (length xs + (o + 1))) 0) ≡ (xs ++ replicate o 1) ++ (1 ∷ replicate (n - (length xs + (o + 1))) 0) = simp append_assoc in
     rw (f, z, r, s, t) a
 
-pub first_looks : (b xs : List ℕ) (o n e m k : ℕ) → length xs + o + k ≤ n → e ≤ 18446744073709551615
+pub first_looks : {e : ℕ} (b xs : List ℕ) (o n m k : ℕ) → length xs + o + k ≤ n → e ≤ 18446744073709551615
     → looked_through (held_of b (filled_up xs o n) e m) (length xs + o) k ≡ held_of b (filled_up xs (o + k) n) (min (e + k) 18446744073709551615) (max m (min k 1))
-first_looks b xs o n e m zero h g =
+first_looks {e} b xs o n m zero h g =
     let y : min (e + 0) 18446744073709551615 ≡ e = grind arith in
     let x : max m (min 0 1) ≡ m = grind arith in
     let z : o + 0 ≡ o = omega arith in
     rw (y, x, z) refl
-first_looks b xs o n e m (suc k) h g =
-    let r = first_looks b xs o n e m k (omega (arith, h)) g in
+first_looks {e} b xs o n m (suc k) h g =
+    let r = first_looks b xs o n m k (omega (arith, h)) g in
     let f = first_look xs (o + k) (o + suc k) n (length xs + o + k) (omega arith) (omega arith) (omega (arith, h)) in
     let y : min (min (e + k) 18446744073709551615 + 1) 18446744073709551615 ≡ min (e + suc k) 18446744073709551615 = grind arith in
     let x : max (max m (min k 1)) 1 ≡ max m (min (suc k) 1) = grind arith in
@@ -64,25 +70,22 @@ second_look xs p n =
     let t : (xs ++ 2 ∷ []) ++ (replicate p 1 ++ replicate (n - (length xs + suc p)) 0) ≡ xs ++ (2 ∷ (replicate p 1 ++ replicate (n - (length xs + suc p)) 0)) = simp append_assoc in
     rw (l, t) a
 
-pub second_look_at : (b xs ys : List ℕ) (f o q n e e' m m' s k : ℕ) (w : WindowValue) → held_of b (filled_up (drop f xs) o n) e m ≡ w
-    → f ≤ length xs → s ≡ length (drop f xs) → 0 < o → q ≡ o - 1 → k ≡ 1 → ys ≡ xs ++ 2 ∷ [] → e' ≡ min (e + k) 18446744073709551615 → m' ≡ max m 2
-    → held_of b (filled_up (drop f ys) q n) e' m' ≡ looked_through w s k
-second_look_at b xs ys f o q n e e' m m' s k w v h g p r z y t u =
-    let i : o ≡ suc q = omega (arith, p, r) in
-    let j : s + 0 ≡ length (drop f xs) = omega (arith, g) in
-    let d : drop f (xs ++ 2 ∷ []) ≡ drop f xs ++ 2 ∷ [] = drop-append-le f xs (2 ∷ []) h in
-    let a = second_look (drop f xs) q n in
-    rw (t, u, y, z, ← v, i, j, d, a.0, a.1) refl
+pub second_look_at : {b ys : List ℕ} {o q e e' m m' s k : ℕ} {w : WindowValue} (xs : List ℕ) → held_of b (filled_up xs o (length b)) e m ≡ w → s ≡ length xs → o ≡ suc q
+    → k ≡ 1 → ys ≡ xs ++ 2 ∷ [] → AreSums e e' k m' (max m 2) → held_of b (filled_up ys q (length b)) e' m' ≡ looked_through w s k
+second_look_at {b} {q = q} {s = s} xs v g i z y t =
+    let j : s + 0 ≡ length xs = omega (arith, g) in
+    let a = second_look xs q (length b) in
+    rw (t.sum, t.most, y, z, ← v, i, j, a.0, a.1) refl
 
 -- looks at the stored counts
 pub looked_length : (xs : List ℕ) (m s n : ℕ) → length (looked_through (counts_alone xs m) s n).looks ≡ length xs
 looked_length xs m s zero = refl
 looked_length xs m s (suc n) = length-set (looked_through (counts_alone xs m) s n).looks (s + n) _ ∙ looked_length xs m s n
 
-one_in_front : (zs xs ys : List ℕ) (i m k : ℕ) → zs ≡ xs ++ ys → i < length xs → k ≡ m
+one_in_front : {zs : List ℕ} {i m k : ℕ} (xs ys : List ℕ) → zs ≡ xs ++ ys → i < length xs → k ≡ m
     → (slice_set zs i (min (slice_index zs i + 1) 65535) ≡ slice_set xs i (min (slice_index xs i + 1) 65535) ++ ys)
     × (max k (min (slice_index zs i + 1) 65535) ≡ max m (min (slice_index xs i + 1) 65535))
-one_in_front zs xs ys i m k e h f =
+one_in_front {i = i} {m} xs ys e h f =
     let g : slice_index (xs ++ ys) i ≡ slice_index xs i = get_or_append_left xs ys 0 i h in
     let p : slice_set (xs ++ ys) i (min (slice_index xs i + 1) 65535) ≡ slice_set xs i (min (slice_index xs i + 1) 65535) ++ ys = set-append_left xs ys i (min (slice_index xs i + 1) 65535) h in
     rw (e, f, g) (p, refl)
@@ -94,21 +97,19 @@ in_front xs ys m s zero h = (refl, refl)
 in_front xs ys m s (suc n) h =
     let r = in_front xs ys m s n (omega (arith, h)) in
     let l : s + n < length (looked_through (counts_alone xs m) s n).looks = omega (arith, h, looked_length xs m s n) in
-    one_in_front (looked_through (counts_alone (xs ++ ys) m) s n).looks (looked_through (counts_alone xs m) s n).looks ys (s + n)
-    (looked_through (counts_alone xs m) s n).most (looked_through (counts_alone (xs ++ ys) m) s n).most r.0 l r.1
+    one_in_front (looked_through (counts_alone xs m) s n).looks ys r.0 l r.1
 
 -- looks at bytes whose counts are the first of the stored ones from f on
-pub later_looks : (b xs ys : List ℕ) (o n f e e' m m' s k : ℕ) (w : WindowValue) → held_of b (filled_up (drop f xs) o n) e m ≡ w
-    → f + s + k ≤ length xs → e ≤ 18446744073709551615
-    → ys ≡ (looked_through (counts_alone xs m) (f + s) k).looks → m' ≡ (looked_through (counts_alone xs m) (f + s) k).most
-    → e' ≡ min (e + k) 18446744073709551615
-    → held_of b (filled_up (drop f ys) o n) e' m' ≡ looked_through w s k
-later_looks b xs ys o n f e e' m m' s k w v h g p q r =
+pub later_looks : {b ys : List ℕ} {e e' m m' k : ℕ} {w : WindowValue} (xs : List ℕ) (o f s : ℕ) → held_of b (filled_up (drop f xs) o (length b)) e m ≡ w
+    → f + s + k ≤ length xs → ys ≡ (looked_through (counts_alone xs m) (f + s) k).looks → AreSums e e' k m' (looked_through (counts_alone xs m) (f + s) k).most
+    → held_of b (filled_up (drop f ys) o (length b)) e' m' ≡ looked_through w s k
+later_looks {b} {e = e} {m = m} {k = k} xs o f s v h p q =
+    let n = length b in
     let t = shifted xs f m s k in
     let l : s + k ≤ length (drop f xs) = omega (arith, h, length-drop f xs) in
     let i = in_front (drop f xs) (replicate o 1 ++ replicate (n - (length (drop f xs) + o)) 0) m s k l in
     let j : length (looked_through (counts_alone (drop f xs) m) s k).looks ≡ length (drop f xs) = looked_length (drop f xs) m s k in
-    rw (p, q, r, t.0, t.1, ← v, through_counts b (filled_up (drop f xs) o n) e m s k g, i.0, i.1, j) refl
+    rw (p, q.most, q.sum, t.0, t.1, ← v, through_counts b (filled_up (drop f xs) o n) e m s k q.few, i.0, i.1, j) refl
 
 -- without the first bytes
 drop_ones : (j o z : ℕ) → drop {A = ℕ} j (replicate o 1 ++ replicate z 0) ≡ replicate (o - j) 1 ++ replicate (z - (j - o)) 0
@@ -133,25 +134,23 @@ dropped_past xs o n d h =
     ∙ rw (z, y) refl
 
 -- first looks at the bytes from s on, of a window with the view w
-pub first_looks_at : (b xs : List ℕ) (o n e e' m m' s k : ℕ) (w : WindowValue) → held_of b (filled_up xs o n) e m ≡ w
-    → s ≡ length xs + o → s + k ≤ n → e ≤ 18446744073709551615 → e' ≡ min (e + k) 18446744073709551615 → m' ≡ max m (min k 1)
-    → held_of b (filled_up xs (o + k) n) e' m' ≡ looked_through w s k
-first_looks_at b xs o n e e' m m' s k w v h g f p q =
-    rw (p, q, h, ← v) (sym (first_looks b xs o n e m k (omega (arith, g, h)) f))
+pub first_looks_at : {b : List ℕ} {e e' m m' s k : ℕ} {w : WindowValue} (xs : List ℕ) (o : ℕ) → held_of b (filled_up xs o (length b)) e m ≡ w → s ≡ length xs + o
+    → s + k ≤ length b → AreSums e e' k m' (max m (min k 1)) → held_of b (filled_up xs (o + k) (length b)) e' m' ≡ looked_through w s k
+first_looks_at {b} {m = m} {k = k} xs o v h g t =
+    rw (t.sum, t.most, h, ← v) (sym (first_looks b xs o (length b) m k (omega (arith, g, h)) t.few))
 
 -- more bytes in the ring
-pub view_grown : (b b' : Buffer ℕ) (more xs : List ℕ) (o e m : ℕ) (w : WindowValue) → held_of b.items (filled_up xs o (length b.items)) e m ≡ w
+pub view_grown : {b' : Buffer ℕ} {e m : ℕ} {w : WindowValue} (b : Buffer ℕ) (more xs : List ℕ) (o : ℕ) → held_of b.items (filled_up xs o (length b.items)) e m ≡ w
     → b' ≡ buffer (b.items ++ more) b.capacity → length xs + o ≤ length b.items → held_of b'.items (filled_up xs o (length b'.items)) e m ≡ pushed_all w more
-view_grown b b' more xs o e m w v x h =
+view_grown b more xs o v x h =
     let l : length (b.items ++ more) ≡ length b.items + length more = length-append b.items more in
     rw (x, l, filled_more xs o (length b.items) (length more) h, ← v) refl
 
 -- the last bytes of the ring, when no count is stored
-pub view_dropped : (b b' : Buffer ℕ) (xs ys : List ℕ) (o p e m j n : ℕ) (w : WindowValue) → held_of b.items (filled_up xs o (length b.items)) e m ≡ w
-    → b' ≡ buffer (drop j b.items) b.capacity → j ≡ n → ys ≡ [] → p ≡ o - (n - length xs) → length xs ≤ n
-    → held_of b'.items (filled_up (drop 0 ys) p (length b'.items)) e m ≡ without_front w n
-view_dropped b b' xs ys o p e m j n w v x f y q h =
-    rw (x, f, y, q, length-drop n b.items, ← dropped_past xs o (length b.items) n h, ← v) refl
+pub view_dropped : {b b' ys : List ℕ} {p e m j n : ℕ} {w : WindowValue} (xs : List ℕ) (o : ℕ) → held_of b (filled_up xs o (length b)) e m ≡ w
+    → b' ≡ drop j b → j ≡ n → ys ≡ [] → p ≡ o - (n - length xs) → length xs ≤ n → held_of b' (filled_up (drop 0 ys) p (length b')) e m ≡ without_front w n
+view_dropped {b} {n = n} xs o v x f y q h =
+    rw (x, f, y, q, length-drop n b, ← dropped_past xs o (length b) n h, ← v) refl
 
 -- looks at bytes that are dropped next
 kept_past : (xs : List ℕ) (m s k d : ℕ) → s + k ≤ d → drop d (looked_through (counts_alone xs m) s k).looks ≡ drop d xs
@@ -167,12 +166,12 @@ pub most_more : (xs : List ℕ) (m s k p q : ℕ) → p ≡ (looked_through (cou
     → q ≡ (looked_through (counts_alone xs m) s (k + 1)).most
 most_more xs m s k p q e f = let z : k + 1 ≡ suc k = omega arith in rw (z, f, e, kept_at xs m s k (s + k) (omega arith)) refl
 
-pub last_stored : (b xs : List ℕ) (f o n e e' m m' s k : ℕ) (w : WindowValue) → held_of b (filled_up (drop f xs) o n) e m ≡ w → s + k ≤ length (drop f xs)
-    → e ≤ 18446744073709551615 → e' ≡ min (e + k) 18446744073709551615 → m' ≡ (looked_through (counts_alone xs m) (f + s) k).most
-    → (d : ℕ) → s + k ≤ d → without_front (held_of b (filled_up (drop f xs) o n) e' m') d ≡ without_front (looked_through w s k) d
-last_stored b xs f o n e e' m m' s k w v h g r q d l =
+pub last_stored : {b : List ℕ} {e e' m m' k : ℕ} {w : WindowValue} (xs : List ℕ) (f o s : ℕ) → held_of b (filled_up (drop f xs) o (length b)) e m ≡ w → s + k ≤ length (drop f xs)
+    → AreSums e e' k m' (looked_through (counts_alone xs m) (f + s) k).most → AgreeFrom (s + k) (held_of b (filled_up (drop f xs) o (length b)) e' m') (looked_through w s k)
+last_stored {b} {e = e} {m = m} {k = k} xs f o s v h t d l =
+    let n = length b in
     let i = in_front (drop f xs) (replicate o 1 ++ replicate (n - (length (drop f xs) + o)) 0) m s k h in
-    rw (r, q, (shifted xs f m s k).1, ← v, through_counts b (filled_up (drop f xs) o n) e m s k g, kept_past (filled_up (drop f xs) o n) m s k d l, i.1) refl
+    rw (t.sum, t.most, (shifted xs f m s k).1, ← v, through_counts b (filled_up (drop f xs) o n) e m s k t.few, kept_past (filled_up (drop f xs) o n) m s k d l, i.1) refl
 
 seen_twice : (xs : List ℕ) (m s k : ℕ) → slice_index xs s ≡ 1 → ((j : ℕ) → slice_index xs (s + j) ≤ 1) → (looked_through (counts_alone xs m) s (suc k)).most ≡ max m 2
 seen_twice xs m s zero f g = let z : s + 0 ≡ s = omega arith in rw (z, f) refl
@@ -204,17 +203,17 @@ at_most_once xs o z j = ⊎_elim
     (λ (h : o ≤ j). rw (not_once xs o z j h) (omega arith))
     (cases_lt j o)
 
-pub last_looks : (b xs : List ℕ) (o n e e' m m' s k : ℕ) (w : WindowValue) → held_of b (filled_up xs o n) e m ≡ w → length xs ≤ s → s < length xs + o
-    → 0 < k → e ≤ 18446744073709551615 → e' ≡ min (e + k) 18446744073709551615 → m' ≡ max m 2
-    → (d : ℕ) → s + k ≤ d → without_front (held_of b (filled_up xs o n) e' m') d ≡ without_front (looked_through w s k) d
-last_looks b xs o n e e' m m' s k w v h g p q r t d l =
+pub last_looks : {b : List ℕ} {e e' m m' s k : ℕ} {w : WindowValue} (xs : List ℕ) (o : ℕ) → held_of b (filled_up xs o (length b)) e m ≡ w → length xs ≤ s → s < length xs + o
+    → 0 < k → AreSums e e' k m' (max m 2) → AgreeFrom (s + k) (held_of b (filled_up xs o (length b)) e' m') (looked_through w s k)
+last_looks {b} {e = e} {m = m} {s = s} {k = k} xs o v h g p t d l =
+    let n = length b in
     let a : slice_index (filled_up xs o n) s ≡ 1 =
     ap (λ (i : ℕ). slice_index (filled_up xs o n) i) (sum_back (length xs) s 0 h) ∙ at_once xs o (n - (length xs + o)) (s - length xs + 0) (omega (arith, h, g)) in
     let c : (j : ℕ) → slice_index (filled_up xs o n) (s + j) ≤ 1 = λ j. rw (sum_on (length xs) s j h) (at_most_once xs o (n - (length xs + o)) (s - length xs + j)) in
     let i : k ≡ suc (k - 1) = omega (arith, p) in
     let f : (looked_through (counts_alone (filled_up xs o n) m) s k).most ≡ max m 2 =
     ap (λ (u : ℕ). (looked_through (counts_alone (filled_up xs o n) m) s u).most) i ∙ seen_twice (filled_up xs o n) m s (k - 1) a c in
-    rw (r, t, ← v, through_counts b (filled_up xs o n) e m s k q, kept_past (filled_up xs o n) m s k d l, f) refl
+    rw (t.sum, t.most, ← v, through_counts b (filled_up xs o n) e m s k t.few, kept_past (filled_up xs o n) m s k d l, f) refl
   where
     sum_on : (x s j : ℕ) → x ≤ s → s + j ≡ x + (s - x + j)
     sum_on x s j h = omega (arith, h)
@@ -223,14 +222,15 @@ last_looks b xs o n e e' m m' s k w v h g p q r t d l =
     sum_back x s j h = omega (arith, h)
 
 -- the number of looks at a byte with a stored count, and at one without
-pub looks_stored : (b xs : List ℕ) (f o n e m i r : ℕ) (w : WindowValue) → held_of b (filled_up (drop f xs) o n) e m ≡ w → i < length (drop f xs)
+pub looks_stored : {b : List ℕ} {e m i r : ℕ} {w : WindowValue} (xs : List ℕ) (f o : ℕ) → held_of b (filled_up (drop f xs) o (length b)) e m ≡ w → i < length (drop f xs)
     → r ≡ get_or xs (f + i) r → r ≡ slice_index w.looks i
-looks_stored b xs f o n e m i r w v h g =
-    rw (← v, get_or_append_left (drop f xs) (replicate o 1 ++ replicate (n - (length (drop f xs) + o)) 0) 0 i h, get_or_default (drop f xs) i 0 r h, get_or-drop f xs i r) g
+looks_stored {b} {i = i} {r = r} xs f o v h g =
+    rw (← v, get_or_append_left (drop f xs) (replicate o 1 ++ replicate (length b - (length (drop f xs) + o)) 0) 0 i h, get_or_default (drop f xs) i 0 r h, get_or-drop f xs i r) g
 
-pub looks_at_once : (b xs : List ℕ) (o n e m i r : ℕ) (f : Bool → ℕ) (w : WindowValue) → held_of b (filled_up xs o n) e m ≡ w → length xs ≤ i
+pub looks_at_once : {b : List ℕ} {e m i r : ℕ} {w : WindowValue} (xs : List ℕ) (o : ℕ) (f : Bool → ℕ) → held_of b (filled_up xs o (length b)) e m ≡ w → length xs ≤ i
     → r ≡ f (ltb i (length xs + o)) → f true ≡ 1 → f false ≡ 0 → r ≡ slice_index w.looks i
-looks_at_once b xs o n e m i r f w v h g p q =
+looks_at_once {b} {i = i} xs o f v h g p q =
+    let n = length b in
     let j : i ≡ length xs + (i - length xs) = omega (arith, h) in
     let z : ℕ = n - (length xs + o) in
     rw (← v) (g ∙ ⊎_elim

@@ -8,6 +8,7 @@ unfoldable pub use Rattle.rtcm_bits.specs.Crc.{add_front, bits_remainder, crc, g
 pub use Rattle.rtcm_bits.specs.Crc.{plus}
 pub use Rattle.rtcm_bits.specs.Device.{SendsBytes, failures_after_write}
 unfoldable pub use Rattle.rtcm_bits.specs.Folding.{add_bytes, fold_into}
+pub use Rattle.rtcm_bits.specs.Folding.{Sixes}
 pub use Rattle.rtcm_bits.specs.FrameOf.{frame_bytes}
 unfoldable pub use Rattle.rtcm_bits.specs.Register.{after_bit, after_bits}
 pub use Rattle.rtcm_bits.specs.Window.{WindowValue, counts_alone, filled_up, held_of, looked, looked_through, nothing_held, pushed, pushed_all, without_front}

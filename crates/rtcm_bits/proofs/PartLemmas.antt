@@ -31,9 +31,10 @@ part_of_byte byte skip n h =
     rw s (sym (rw e at p))
 
 -- the bits of one byte among those of all
-pub part_of_bytes : (xs : List ℕ) (q r n : ℕ) → q < length xs → r + n ≤ 8 → take n (drop (8 * q + r) (bits_of xs)) ≡ take n (drop r (uint 8 (get_or xs q 0)))
+pub part_of_bytes : (xs : List ℕ) (q r n : ℕ) → 8 * q + r + n ≤ 8 * length xs → r + n ≤ 8 → take n (drop (8 * q + r) (bits_of xs)) ≡ take n (drop r (uint 8 (get_or xs q 0)))
 unfolding bits_of uint
-part_of_bytes [] q r n h k = absurd (omega arith)
+part_of_bytes [] q r zero h k = refl
+part_of_bytes [] q r (suc n) h k = absurd (omega arith)
 part_of_bytes (x ∷ xs) zero r n h k =
     let l : length (uint 8 x) ≡ 8 = length-uint 8 x in
     let d : length (drop r (uint 8 x)) ≡ 8 - r = length-drop r (uint 8 x) ∙ ap (λ m. m - r) l in
@@ -58,29 +59,23 @@ short_fits l i h k =
     let p : 2 ^ i ≤ 2 ^ 64 = pow-le-pow_right (omega arith) h in
     omega (arith, p, number-take-fits l i k)
 
--- the part of one byte after the bits before it
-joined_part : (xs : List ℕ) (place at n value part : ℕ) → place ≤ at → at < 8 * length xs → at + n ≤ 8 * length xs → at % 8 + n ≤ 8 → value ≡ number (take (at - place) (drop place (bits_of xs)))
-    → part ≡ number (take n (drop (at % 8) (uint 8 (get_or xs (at / 8) 0)))) → value * 2 ^ n + part ≡ number (take (at + n - place) (drop place (bits_of xs)))
-joined_part xs place at n value part h b k r e f =
-    let i : place + (at - place) ≡ at = omega arith in
-    let j : at + n - place ≡ at - place + n = omega arith in
-    let split : 8 * (at / 8) + at % 8 ≡ at = omega arith in
-    let l : length (bits_of xs) ≡ 8 * length xs = length-bits_of xs in
-    let p : take n (drop at (bits_of xs)) ≡ take n (drop (at % 8) (uint 8 (get_or xs (at / 8) 0))) =
-    ap (λ m. take n (drop m (bits_of xs))) (sym split) ∙ part_of_bytes xs (at / 8) (at % 8) n (omega arith) r in
-    let m = number-more (bits_of xs) place (at - place) n (omega arith) in
-    rw (e, f, j, m, i, p) refl
-
 pub record Next (xs : List ℕ) (place at n before part : ℕ) : Type 0 where
   pub value : before * 2 ^ n % 2 ^ 64 + part ≡ number (take (at + n - place) (drop place (bits_of xs)))
   pub fits : before * 2 ^ n % 2 ^ 64 + part < 2 ^ 64
 
--- the same as the code computes it, in 64 bits
-pub next_part : (xs : List ℕ) (place at n value part : ℕ) → place ≤ at → at < 8 * length xs → at + n ≤ 8 * length xs → at % 8 + n ≤ 8 → at + n ≤ place + 64
+-- the part of one byte after the bits before it, as the code computes it in 64 bits
+pub next_part : {place at value part : ℕ} (xs : List ℕ) (n : ℕ) → place ≤ at → at + n ≤ 8 * length xs → at % 8 + n ≤ 8 → at + n ≤ place + 64
     → value ≡ number (take (at - place) (drop place (bits_of xs))) → part ≡ number (take n (drop (at % 8) (uint 8 (get_or xs (at / 8) 0)))) → Next xs place at n value part
-next_part xs place at n value part h b k r w e f =
+next_part {place} {at} {value} {part} xs n h k r w e f =
+    let i : place + (at - place) ≡ at = omega arith in
+    let j : at + n - place ≡ at - place + n = omega arith in
+    let split : 8 * (at / 8) + at % 8 ≡ at = omega arith in
+    let b : length (bits_of xs) ≡ 8 * length xs = length-bits_of xs in
+    let p : take n (drop at (bits_of xs)) ≡ take n (drop (at % 8) (uint 8 (get_or xs (at / 8) 0))) =
+    ap (λ m. take n (drop m (bits_of xs))) (sym split) ∙ part_of_bytes xs (at / 8) (at % 8) n (omega arith) r in
+    let more = number-more (bits_of xs) place (at - place) n (omega arith) in
+    let v : value * 2 ^ n + part ≡ number (take (at + n - place) (drop place (bits_of xs))) = rw (e, f, j, more, i, p) refl in
     let l : length (drop place (bits_of xs)) ≡ 8 * length xs - place = length-drop place (bits_of xs) ∙ ap (λ m. m - place) (length-bits_of xs) in
-    let v = joined_part xs place at n value part h b k r e f in
     let s : number (take (at + n - place) (drop place (bits_of xs))) < 2 ^ 64 = short_fits (drop place (bits_of xs)) (at + n - place) (omega arith) (omega arith) in
     let low : value * 2 ^ n < 2 ^ 64 = below (value * 2 ^ n) part _ v s in
     let m : value * 2 ^ n % 2 ^ 64 ≡ value * 2 ^ n = mod-eq_of_lt low in

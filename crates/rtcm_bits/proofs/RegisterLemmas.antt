@@ -29,14 +29,14 @@ unfolding crc bits_remainder Rattle.rtcm_bits.specs.Crc.remainder number_from bi
 check_nil = refl
 
 -- more bytes, one after the other
-pub steps_push : (r : List Bool) (bytes more : List ℕ) (x y b : ℕ) → more ≡ bytes ++ b ∷ [] → uint 24 x ≡ after_bits r (bits_of bytes) → uint 24 y ≡ after_bits (uint 24 x) (uint 8 b)
+pub steps_push : {more : List ℕ} (r : List Bool) (bytes : List ℕ) (x y b : ℕ) → more ≡ bytes ++ b ∷ [] → uint 24 x ≡ after_bits r (bits_of bytes) → uint 24 y ≡ after_bits (uint 24 x) (uint 8 b)
     → uint 24 y ≡ after_bits r (bits_of more)
-steps_push r bytes more x y b m e f =
+steps_push r bytes x y b m e f =
     f ∙ ap (λ t. after_bits t (uint 8 b)) e ∙ sym (after_bits-append r (bits_of bytes) (uint 8 b)) ∙ ap (after_bits r) (sym (bits_of-push bytes b) ∙ ap bits_of (sym m))
 
-pub steps_more : (r : List Bool) (bytes more all : List ℕ) (x y : ℕ) → all ≡ bytes ++ more → uint 24 x ≡ after_bits r (bits_of bytes) → uint 24 y ≡ after_bits (uint 24 x) (bits_of more)
+pub steps_more : {all : List ℕ} (r : List Bool) (bytes more : List ℕ) (x y : ℕ) → all ≡ bytes ++ more → uint 24 x ≡ after_bits r (bits_of bytes) → uint 24 y ≡ after_bits (uint 24 x) (bits_of more)
     → uint 24 y ≡ after_bits r (bits_of all)
-steps_more r bytes more all x y m e f =
+steps_more r bytes more x y m e f =
     f ∙ ap (λ t. after_bits t (bits_of more)) e ∙ sym (after_bits-append r (bits_of bytes) (bits_of more)) ∙ ap (after_bits r) (sym (bits_of-append bytes more) ∙ ap bits_of (sym m))
 
 -- several more bytes

@@ -12,10 +12,10 @@ through_counts b xs e m start (suc n) h =
     rw (r, z) refl
 
 -- one more look at the count at j, which is k after the first f
-one_more : (ys zs : List ℕ) (f j k m m' : ℕ) → j ≡ f + k → drop f ys ≡ zs → m ≡ m'
+one_more : {zs : List ℕ} {m m' : ℕ} (ys : List ℕ) (f j k : ℕ) → j ≡ f + k → drop f ys ≡ zs → m ≡ m'
     → (drop f (slice_set ys j (min (slice_index ys j + 1) 65535)) ≡ slice_set zs k (min (slice_index zs k + 1) 65535))
     × (max m (min (slice_index ys j + 1) 65535) ≡ max m' (min (slice_index zs k + 1) 65535))
-one_more ys zs f j k m m' e a b =
+one_more {zs} ys f j k e a b =
     let g : slice_index ys j ≡ slice_index zs k = ap (λ (n : ℕ). slice_index ys n) e ∙ sym (get_or-drop f ys k 0) ∙ ap (λ (t : List ℕ). slice_index t k) a in
     let c : ℕ = min (slice_index zs k + 1) 65535 in (
       ap (λ (n : ℕ). drop f (slice_set ys j (min (n + 1) 65535))) g ∙ ap (λ (n : ℕ). drop f (slice_set ys n c)) e ∙ drop-set-add f ys k c
@@ -30,8 +30,7 @@ pub shifted : (xs : List ℕ) (f m start n : ℕ)
 shifted xs f m start zero = (refl, refl)
 shifted xs f m start (suc n) =
     let r = shifted xs f m start n in
-    one_more (looked_through (counts_alone xs m) (f + start) n).looks (looked_through (counts_alone (drop f xs) m) start n).looks f (f + start + n) (start + n)
-    (looked_through (counts_alone xs m) (f + start) n).most (looked_through (counts_alone (drop f xs) m) start n).most (omega arith) r.0 r.1
+    one_more (looked_through (counts_alone xs m) (f + start) n).looks f (f + start + n) (start + n) (omega arith) r.0 r.1
 
 -- looks at consecutive ranges
 looked_on : (w : WindowValue) (s j k : ℕ) → looked_through (looked_through w s j) (s + j) k ≡ looked_through w s (j + k)
@@ -46,7 +45,7 @@ front_last : (w : WindowValue) (j k : ℕ) → looked_through (without_front w j
 front_last w j zero = refl
 front_last w j (suc k) =
     let v = looked_through w j k in
-    let a = one_more v.looks (drop j v.looks) j (j + k) (0 + k) v.most v.most (omega arith) refl refl in
+    let a = one_more {m = v.most} v.looks j (j + k) (0 + k) (omega arith) refl refl in
     rw (front_last w j k, a.0, a.1) refl
 
 pub looked_to : (w v : WindowValue) (n : ℕ) → v ≡ without_front (looked_through w 0 n) n → looked_through v 0 1 ≡ without_front (looked_through w 0 (n + 1)) n
@@ -54,12 +53,14 @@ looked_to w v n e =
     ap (λ (t : WindowValue). looked_through t 0 1) e ∙ front_last (looked_through w 0 n) n 1
     ∙ ap (λ (t : WindowValue). without_front t n) (ap (λ (i : ℕ). looked_through (looked_through w 0 n) i 1) (omega arith) ∙ looked_on w 0 n 1)
 
+-- the same window once n of its first bytes or more are dropped
+abbrev pub AgreeFrom : ℕ → WindowValue → WindowValue → Type 0
+AgreeFrom n v w = (d : ℕ) → n ≤ d → without_front v d ≡ without_front w d
+
 -- n bytes dropped after a look at the first j, and then at the others
-pub looked_dropped : (w u v x : WindowValue) (j n : ℕ) → j ≤ n
-    → ((d : ℕ) → 0 + j ≤ d → without_front u d ≡ without_front (looked_through w 0 j) d)
-    → ((d : ℕ) → j + (n - j) ≤ d → without_front v d ≡ without_front (looked_through u j (n - j)) d) → x ≡ without_front v n
-    → x ≡ without_front (looked_through w 0 n) n
-looked_dropped w u v x j n h e f g = g ∙ f n (omega (arith, h)) ∙ both (n - j) n (omega (arith, h))
+pub looked_dropped : {x : WindowValue} {j n : ℕ} (w u v : WindowValue) → j ≤ n → AgreeFrom (0 + j) u (looked_through w 0 j) → AgreeFrom (j + (n - j)) v (looked_through u j (n - j))
+    → x ≡ without_front v n → x ≡ without_front (looked_through w 0 n) n
+looked_dropped {j} {n} w u v h e f g = g ∙ f n (omega (arith, h)) ∙ both (n - j) n (omega (arith, h))
   where
     both : (k i : ℕ) → i ≡ j + k → without_front (looked_through u j k) i ≡ without_front (looked_through w 0 i) i
     both k i q =
@@ -70,29 +71,34 @@ looked_dropped w u v x j n h e f g = g ∙ f n (omega (arith, h)) ∙ both (n - 
         ∙ ap (λ (t : WindowValue). without_front t (j + k)) (ap (λ (i : ℕ). looked_through (looked_through w 0 j) i k) (omega arith) ∙ looked_on w 0 j k))
 
 -- a range of two consecutive lists: across both, inside the second
-range_seam : (f b : List ℕ) (s n u v w x : ℕ) → s ≤ length f → length f ≤ s + n → u ≡ s → v ≡ length f - s → w ≡ s + n - length f → x ≡ 0
-    → take v (drop u f) ++ take w (drop x b) ≡ take n (drop s (f ++ b))
-range_seam f b s n u v w x h g i j k l =
+range_seam : (f b : List ℕ) (s n u : ℕ) → s ≤ length f → length f ≤ s + n → u ≡ s
+    → take (length f - u) (drop u f) ++ take (s + n - length f - (s - u)) (drop (s - u) b) ≡ take n (drop s (f ++ b))
+range_seam f b s n u h g i =
+    let x : s - s ≡ 0 = omega arith in
+    let w : s + n - length f - 0 ≡ s + n - length f = omega arith in
     let d : drop s (f ++ b) ≡ drop s f ++ b = drop-append-le s f b h in
     let r : take (length f - s) (drop s f) ≡ drop s f = take_rest f s in
     let m : n ≡ length (drop s f) + (s + n - length f) = omega (arith, h, g, length-drop s f) in
     let t : take (length (drop s f) + (s + n - length f)) (drop s f ++ b) ≡ drop s f ++ take (s + n - length f) b = take-append-add (drop s f) b (s + n - length f) in
-    rw (i, j, k, l, d, r) (sym (ap (λ q. take q (drop s f ++ b)) m ∙ t))
+    rw (i, x, w, d, r) (sym (ap (λ q. take q (drop s f ++ b)) m ∙ t))
 
-range_second : (f b : List ℕ) (s n u v w x : ℕ) → length f ≤ s → v ≡ 0 → w ≡ n → x ≡ s - length f → take v (drop u f) ++ take w (drop x b) ≡ take n (drop s (f ++ b))
-range_second f b s n u v w x h i j k =
+range_second : (f b : List ℕ) (s n u : ℕ) → length f ≤ s → u ≡ length f
+    → take (length f - u) (drop u f) ++ take (s + n - length f - (s - u)) (drop (s - u) b) ≡ take n (drop s (f ++ b))
+range_second f b s n u h i =
+    let x : length f - length f ≡ 0 = omega arith in
+    let w : s + n - length f - (s - length f) ≡ n = omega (arith, h) in
     let m : s ≡ length f + (s - length f) = omega (arith, h) in
     let d : drop (length f + (s - length f)) (f ++ b) ≡ drop (s - length f) b = drop-append-add f b (s - length f) in
     let e : drop s (f ++ b) ≡ drop (s - length f) b = ap (λ q. drop q (f ++ b)) m ∙ d in
-    rw (i, j, k, e) refl
+    rw (i, x, w, e) refl
 
 pub range_past : (f b : List ℕ) (s n from : ℕ) → from ≡ min s (length f) → length f < s + n
     → take (length f - from) (drop from f) ++ take (s + n - length f - (s - from)) (drop (s - from) b) ≡ slice_range (f ++ b) s (s + n)
 range_past f b s n from e l =
     let z : s + n - s ≡ n = omega arith in
     rw z (⊎_elim
-    (λ (k : s < length f). range_seam f b s n from (length f - from) (s + n - length f - (s - from)) (s - from) (omega (arith, k)) (omega (arith, l)) (grind (arith, e, k)) (grind (arith, e, k)) (grind (arith, e, l, k)) (grind (arith, e, k)))
-    (λ (k : length f ≤ s). range_second f b s n from (length f - from) (s + n - length f - (s - from)) (s - from) k (grind (arith, e, l, k)) (grind (arith, e, l, k)) (grind (arith, e, k)))
+    (λ (k : s < length f). range_seam f b s n from (omega (arith, k)) (omega (arith, l)) (grind (arith, e, k)))
+    (λ (k : length f ≤ s). range_second f b s n from k (grind (arith, e, k)))
     (cases_lt s (length f)))
 
 -- a ring that has room takes all
@@ -112,8 +118,8 @@ pub all_bytes : (xs : List ℕ) → ((i : ℕ) → slice_index xs i < 256) → A
 all_bytes xs h k d l = rw (get_or_default xs k d 0 l) (h k)
 
 -- a search in two consecutive lists
-pub others_on : (f b w : List ℕ) (n byte : ℕ) → f ++ b ≡ w → n ≤ length f + length b → ((i : ℕ) → i < n → slice_index (f ++ b) i ≢ byte)
+pub others_on : {w : List ℕ} {n byte : ℕ} (f b : List ℕ) → f ++ b ≡ w → n ≤ length f + length b → ((i : ℕ) → i < n → slice_index (f ++ b) i ≢ byte)
     → (n < length f + length b → slice_index (f ++ b) n ≡ byte) → (n ≤ length w) × ((i : ℕ) → i < n → slice_index w i ≢ byte) × (n < length w → slice_index w n ≡ byte)
-others_on f b w n byte e h o s =
+others_on f b e h o s =
     let l : length (f ++ b) ≡ length f + length b = length-append f b in
     rw (← e, l) (h, o, s)

@@ -24,11 +24,11 @@ nothing_after : (a : ℕ) → number_from a [] ≡ a
 unfolding number_from
 nothing_after a = refl
 
-number_of_eight : (a b c d e f g h : ℕ) → a < 256 → b < 256 → c < 256 → d < 256 → e < 256 → f < 256 → g < 256 → h < 256
+number_of_eight : {a b c d e f g h : ℕ} → a < 256 → b < 256 → c < 256 → d < 256 → e < 256 → f < 256 → g < 256 → h < 256
     → number (bits_of (a ∷ b ∷ c ∷ d ∷ e ∷ f ∷ g ∷ h ∷ [])) ≡ from_be_bytes w64 (a ∷ b ∷ c ∷ d ∷ e ∷ f ∷ g ∷ h ∷ [])
 unfolding bits_of
-number_of_eight a b c d e f g h i j k l m n o p =
-    byte_after 0 a _ i ∙ byte_after _ b _ j ∙ byte_after _ c _ k ∙ byte_after _ d _ l ∙ byte_after _ e _ m ∙ byte_after _ f _ n ∙ byte_after _ g _ o ∙ byte_after _ h [] p ∙ nothing_after _ ∙ omega arith
+number_of_eight i j k l m n o p =
+    byte_after 0 _ _ i ∙ byte_after _ _ _ j ∙ byte_after _ _ _ k ∙ byte_after _ _ _ l ∙ byte_after _ _ _ m ∙ byte_after _ _ _ n ∙ byte_after _ _ _ o ∙ byte_after _ _ [] p ∙ nothing_after _ ∙ omega arith
 
 -- eight bytes, as one number
 word_bits : (xs : List ℕ) (n : ℕ) → length xs ≡ 8 → ((i : ℕ) → i < 8 → get_or xs i 0 < 256)
@@ -37,7 +37,7 @@ word_bits xs n h b e =
     let l : length (bits_of xs) ≡ 64 = omega (arith, length-bits_of xs, h) in
     let v : number (bits_of xs) ≡ n =
     ap (λ (t : List ℕ). number (bits_of t)) (eight_of xs h)
-    ∙ number_of_eight (get_or xs 0 0) (get_or xs 1 0) (get_or xs 2 0) (get_or xs 3 0) (get_or xs 4 0) (get_or xs 5 0) (get_or xs 6 0) (get_or xs 7 0) (b 0 (lit< tt)) (b 1 (lit< tt)) (b 2 (lit< tt)) (b 3 (lit< tt)) (b 4 (lit< tt)) (b 5 (lit< tt)) (b 6 (lit< tt)) (b 7 (lit< tt))
+    ∙ number_of_eight (b 0 (lit< tt)) (b 1 (lit< tt)) (b 2 (lit< tt)) (b 3 (lit< tt)) (b 4 (lit< tt)) (b 5 (lit< tt)) (b 6 (lit< tt)) (b 7 (lit< tt))
     ∙ sym e in
     ap (uint 64) (sym v) ∙ ap (λ (k : ℕ). uint k (number (bits_of xs))) (sym l) ∙ uint-number (bits_of xs) 0
 
@@ -75,18 +75,19 @@ within_word l at skip width place h e =
     ∙ take-take width (64 - skip) (drop skip (drop at l)) (omega arith) ∙ ap (take width) (drop-drop skip at l) ∙ ap (λ (n : ℕ). take width (drop n l)) (sym e)
 
 -- bits of nine bytes: those of a word, and the rest in the byte after it
-pub in_nine : (xs : List ℕ) (first skip width rest word high low : ℕ) → skip < 8 → 64 < skip + width → width ≤ 64 → 8 * first + (skip + width) ≤ 8 * length xs
-    → rest ≡ skip + width - 64 → uint 64 word ≡ take 64 (drop (8 * first) (bits_of xs)) → high ≡ number (take (64 - skip) (drop skip (uint 64 word)))
-    → low ≡ number (take rest (drop 0 (uint 8 (get_or xs (first + 8) 0)))) → Next xs (8 * first + skip) (8 * first + 64) rest high low
-in_nine xs first skip width rest word high low h i j k r w f g =
+pub in_nine : {skip width high low : ℕ} (xs : List ℕ) (first : ℕ) → skip < 8 → 64 < skip + width → width ≤ 64 → 8 * first + (skip + width) ≤ 8 * length xs
+    → high ≡ number (take (64 - skip) (drop skip (take 64 (drop (8 * first) (bits_of xs))))) → low ≡ number (take (skip + width - 64) (drop 0 (uint 8 (get_or xs (first + 8) 0))))
+    → Next xs (8 * first + skip) (8 * first + 64) (skip + width - 64) high low
+in_nine {skip} {width} {high} {low} xs first h i j k f g =
     let l : List Bool = bits_of xs in
+    let rest : ℕ = skip + width - 64 in
     let place : ℕ = 8 * first + skip in
     let at : ℕ = 8 * first + 64 in
     let e : at - place ≡ 64 - skip = omega arith in
     let m : at % 8 ≡ 0 = omega arith in
     let d : at / 8 ≡ first + 8 = omega arith in
     let v : high ≡ number (take (at - place) (drop place l)) =
-    f ∙ ap (λ (t : List Bool). number (take (64 - skip) (drop skip t))) w ∙ ap number (within_word l (8 * first) skip (64 - skip) place (omega arith) refl)
+    f ∙ ap number (within_word l (8 * first) skip (64 - skip) place (omega arith) refl)
     ∙ ap (λ (n : ℕ). number (take n (drop place l))) (sym e) in
     let p : low ≡ number (take rest (drop (at % 8) (uint 8 (get_or xs (at / 8) 0)))) = rw (m, d) g in
-    next_part xs place at rest high low (omega arith) (omega arith) (omega arith) (omega arith) (omega arith) v p
+    next_part {place = place} {at = at} xs rest (omega arith) (omega arith) (omega arith) (omega arith) v p

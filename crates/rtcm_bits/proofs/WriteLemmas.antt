@@ -21,18 +21,18 @@ part_is k n p b h f g =
     join p a b q f g = grind arith
 
 -- the bits with one more part, if the byte isn't full yet
-pub part_put : (xs : List ℕ) (k n p b : ℕ) (now : List Bool) → bits_of xs ++ uint k p ≡ now → b < 2 ^ n → Part k n p b
+pub part_put : {k n p b : ℕ} {now : List Bool} (xs : List ℕ) → bits_of xs ++ uint k p ≡ now → b < 2 ^ n → Part k n p b
     → bits_of xs ++ uint (k + n) (p * 2 ^ n % 65536 + b) ≡ now ++ uint n b
-part_put xs k n p b now v g t =
+part_put {k} {n} {p} {b} xs v g t =
     ap (λ x. bits_of xs ++ uint (k + n) x) t.whole ∙ ap (λ r. bits_of xs ++ r) (uint-split k n p b g) ∙ sym (append_assoc (bits_of xs) (uint k p) (uint n b)) ∙ ap (λ r. r ++ uint n b) v
 
 -- the bits with one more part that fills the byte
-pub byte_put : (xs : List ℕ) (k n p b : ℕ) (now : List Bool) → k + n ≡ 8 → bits_of xs ++ uint k p ≡ now → b < 2 ^ n → Part k n p b
+pub byte_put : {k n p b : ℕ} {now : List Bool} (xs : List ℕ) → k + n ≡ 8 → bits_of xs ++ uint k p ≡ now → b < 2 ^ n → Part k n p b
     → bits_of (xs ++ (p * 2 ^ n % 65536 + b) ∷ []) ++ uint 0 0 ≡ now ++ uint n b
 unfolding uint
-byte_put xs k n p b now e v g t =
+byte_put {n = n} {p} {b} xs e v g t =
     append-nil (bits_of (xs ++ (p * 2 ^ n % 65536 + b) ∷ [])) ∙ bits_of-push xs (p * 2 ^ n % 65536 + b)
-    ∙ ap (λ w. bits_of xs ++ uint w (p * 2 ^ n % 65536 + b)) (sym e) ∙ part_put xs k n p b now v g t
+    ∙ ap (λ w. bits_of xs ++ uint w (p * 2 ^ n % 65536 + b)) (sym e) ∙ part_put xs v g t
 
 -- the number of bits of the incomplete byte
 pub begun_is : (xs : List ℕ) (k p : ℕ) (now : List Bool) → bits_of xs ++ uint k p ≡ now → 8 * length xs + k ≡ length now
@@ -53,8 +53,8 @@ pub lengths : (now old : List Bool) (left width value : ℕ) → now ++ uint lef
 lengths now old left width value e = omega (arith, length-append now (uint left value), length-append old (uint width value), length-uint left value, length-uint width value, ap length e)
 
 -- one part put
-pub next_put : (now next all : List Bool) (left n value : ℕ) → n ≤ left → n ≤ 8 → now ++ uint left value ≡ all → next ≡ now ++ uint n (value / 2 ^ (left - n) % (1 * 2 ^ n % 2 ^ 64)) → next ++ uint (left - n) value ≡ all
-next_put now next all left n value h few inv is =
+pub next_put : {next all : List Bool} {left n : ℕ} (now : List Bool) (value : ℕ) → n ≤ left → n ≤ 8 → now ++ uint left value ≡ all → next ≡ now ++ uint n (value / 2 ^ (left - n) % (1 * 2 ^ n % 2 ^ 64)) → next ++ uint (left - n) value ≡ all
+next_put {next} {left = left} {n} now value h few inv is =
     let s : (1 * 2 ^ n) % 2 ^ 64 ≡ 2 ^ n = one_shl n 64 (omega arith) in
     let f : next ≡ now ++ uint n (value / 2 ^ (left - n) % 2 ^ n) = rw s at is in
     ap (λ r. r ++ uint (left - n) value) f ∙ append_assoc now (uint n (value / 2 ^ (left - n) % 2 ^ n)) (uint (left - n) value) ∙ ap (λ r. now ++ r) (first_part left n value h) ∙ inv

@@ -4,6 +4,6 @@ use Rattle.rtcm_bits.proofs.crc.after_fewer.Goals as goal
 
 pub returns-clause-steps : goal.returns-clause-steps
 returns-clause-steps c =
-    steps_more (uint 24 c.args.register) (take 8 c.args.bytes.now) _ c.args.bytes.now c.after_some.result c.after_each-2.result
+    steps_more (uint 24 c.args.register) (take 8 c.args.bytes.now) _ c.after_some.result c.after_each-2.result
     (sym (take-append-drop 8 c.args.bytes.now) ∙ ap (λ (l : List ℕ). take 8 c.args.bytes.now ++ l) (sym (take_rest c.args.bytes.now 8)))
     c.after_some.ensures.steps c.after_each-2.ensures.steps

@@ -1,6 +1,8 @@
-use Rattle.rtcm_bits.proofs.Names.{◌≡◌, ◌+◌, ◌-◌, ◌++◌, ◌≤◌, ℕ, List, length, drop, replicate, sym, ap, ◌∙◌, arith, length-append, append-nil, length-drop, length-replicate, take_rest, fold_into}
+use Rattle.rtcm_bits.proofs.Names.{◌≡◌, ◌+◌, ◌-◌, ◌++◌, ◌≤◌, ℕ, List, length, drop, replicate, sym, ap, ◌∙◌, arith, length-append, append-nil, length-drop, length-replicate, take_rest, fold_into, uint, bits_of, crc, after_bits}
 use Rattle.rtcm_bits.proofs.FoldLemmas.{last_start, last_window}
-use Rattle.rtcm_bits.proofs.LongLemmas.{last_more, last_right}
+use Rattle.rtcm_bits.proofs.LongLemmas.{last_more, last_left}
+use Rattle.rtcm_bits.proofs.RegisterLemmas.{check_below}
+use Rattle.rtcm_bits.proofs.SumLemmas.{number_is}
 use Rattle.rtcm_bits.proofs.crc.after_folded.Goals as goal
 
 pub loop-taken-init : goal.loop-taken-init
@@ -26,10 +28,13 @@ loop-taken-preserved c =
       bound = c.after_some-after.ensures.bound;
       window = c.moved-folded.ensures ∙ ap (λ (l : List ℕ). drop 16 l ++ replicate 16 0) c.loop-taken.invariant.window ∙ last_window c.args.start t (omega (arith, c.requires.whole, i));
       steps = c.loop-taken.invariant.steps
-          ∙ last_more c.loop-taken.folded c.args.bytes.now c.next-next.result c.moved-folded.result t (t + 16 - t) c.loop-taken.after c.after_some-after.result w (omega (arith, c.requires.long, i)) z c.next-next.ensures.added c.moved-folded.ensures c.after_some-after.ensures.steps;
+          ∙ last_more c.loop-taken.folded c.args.bytes.now t c.loop-taken.after c.after_some-after.result (omega (arith, c.requires.long, i))
+          (record { whole = w; size = z; added = c.next-next.ensures.added; moved = c.moved-folded.ensures }) c.after_some-after.ensures.steps;
     }
 
 pub returns-clause-value : goal.returns-clause-value
 returns-clause-value c =
-    last_right c.args.start c.loop-taken.folded c.args.bytes.now _ c.loop-taken.taken c.loop-taken.after c.after_fewer.result (omega (arith, c.loop-taken-test.false, c.loop-taken.invariant.within)) c.requires.whole
-    c.loop-taken.invariant.window c.loop-taken.invariant.steps (take_rest c.args.bytes.now 96) c.after_fewer.ensures.bound c.after_fewer.ensures.steps
+    let all : List ℕ = fold_into c.args.start c.args.bytes.now in
+    let g = last_left {t = c.loop-taken.taken} c.args.start c.args.bytes.now (omega (arith, c.loop-taken-test.false, c.loop-taken.invariant.within)) c.requires.whole c.loop-taken.invariant.window (take_rest c.args.bytes.now 96) in
+    number_is c.after_fewer.result (crc all) c.after_fewer.ensures.bound (check_below all)
+    (c.after_fewer.ensures.steps ∙ ap (λ (l : List ℕ). after_bits (uint 24 c.loop-taken.after) (bits_of l)) g ∙ sym c.loop-taken.invariant.steps)

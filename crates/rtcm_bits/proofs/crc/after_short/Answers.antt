@@ -12,7 +12,7 @@ loop-taken-preserved c =
     record {
       within = omega (arith, c.loop-taken-test.true, c.loop-taken.invariant.within);
       bound = c.after_some-after.ensures.bound;
-      steps = steps_more (uint 24 c.args.register) (take t c.args.bytes.now) _ (take (t + 16) c.args.bytes.now) c.loop-taken.after c.after_some-after.result
+      steps = steps_more (uint 24 c.args.register) (take t c.args.bytes.now) _ c.loop-taken.after c.after_some-after.result
           (take-add t 16 c.args.bytes.now ∙ ap (λ (n : ℕ). take t c.args.bytes.now ++ take n (drop t c.args.bytes.now)) (sym z))
           c.loop-taken.invariant.steps c.after_some-after.ensures.steps;
     }
@@ -20,6 +20,6 @@ loop-taken-preserved c =
 pub returns-clause-steps : goal.returns-clause-steps
 returns-clause-steps c =
     let t : ℕ = c.loop-taken.taken in
-    steps_more (uint 24 c.args.register) (take t c.args.bytes.now) _ c.args.bytes.now c.loop-taken.after c.after_fewer.result
+    steps_more (uint 24 c.args.register) (take t c.args.bytes.now) _ c.loop-taken.after c.after_fewer.result
     (sym (take-append-drop t c.args.bytes.now) ∙ ap (λ l. take t c.args.bytes.now ++ l) (sym (take_rest c.args.bytes.now t)))
     c.loop-taken.invariant.steps c.after_fewer.ensures.steps

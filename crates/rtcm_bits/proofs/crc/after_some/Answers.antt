@@ -12,9 +12,7 @@ pub loop-k-preserved : goal.loop-k-preserved
 loop-k-preserved c = entry_more c.args.bytes.now c.loop-k.k c.loop-k.sum c.entry-sum.result (omega arith) c.loop-k.invariant c.entry-sum.ensures.value
 
 pub returns-clause-bound : goal.returns-clause-bound
-returns-clause-bound c = (some_right c.args.register c.args.bytes.now c.loop-k.k c.loop-k.sum c.entry.result c.entry-2.result c.entry-3.result c.requires.below c.requires.some.0 (omega arith)
-    c.loop-k.invariant c.entry.ensures.value c.entry-2.ensures.value c.entry-3.ensures.value).0
+returns-clause-bound c = (some_right {k = c.loop-k.k} c.args.bytes.now c.requires.below c.requires.some.0 (omega arith) c.loop-k.invariant c.entry.ensures.value c.entry-2.ensures.value c.entry-3.ensures.value).0
 
 pub returns-clause-steps : goal.returns-clause-steps
-returns-clause-steps c = (some_right c.args.register c.args.bytes.now c.loop-k.k c.loop-k.sum c.entry.result c.entry-2.result c.entry-3.result c.requires.below c.requires.some.0 (omega arith)
-    c.loop-k.invariant c.entry.ensures.value c.entry-2.ensures.value c.entry-3.ensures.value).1
+returns-clause-steps c = (some_right {k = c.loop-k.k} c.args.bytes.now c.requires.below c.requires.some.0 (omega arith) c.loop-k.invariant c.entry.ensures.value c.entry-2.ensures.value c.entry-3.ensures.value).1

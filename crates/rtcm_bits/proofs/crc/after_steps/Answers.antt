@@ -14,6 +14,6 @@ loop-i-preserved c =
       whole = ap length c.moved-folded.ensures ∙ length-append (drop 16 c.loop-i.folded) c.next-next.result
           ∙ omega (arith, length-drop 16 c.loop-i.folded, c.loop-i.invariant.whole, c.next-next.ensures.long);
       same = c.loop-i.invariant.same
-          ∙ long_step c.loop-i.folded c.args.bytes.now c.next-next.result c.moved-folded.result t (t + 16 - t) c.loop-i.invariant.whole i z c.next-next.ensures.added c.moved-folded.ensures
+          ∙ long_step c.loop-i.folded c.args.bytes.now t i (record { whole = c.loop-i.invariant.whole; size = z; added = c.next-next.ensures.added; moved = c.moved-folded.ensures })
           ∙ ap (λ (n : ℕ). crc (fold_into c.moved-folded.result (drop n c.args.bytes.now))) (omega arith);
     }

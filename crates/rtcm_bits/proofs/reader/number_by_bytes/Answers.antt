@@ -7,17 +7,14 @@ loop-at-init c = record { from = omega arith; within = omega arith; value = noth
 
 pub overflow_add-value : goal.overflow_add-value
 overflow_add-value c =
-    let next = next_part c.args.bytes.now c.args.place c.loop-at.at c.min-n.result c.loop-at.value c.bits_in_byte.result c.loop-at.invariant.from (omega arith) (omega arith) (omega arith) (omega arith)
-    c.loop-at.invariant.value c.bits_in_byte.ensures in
+    let next = next_part c.args.bytes.now c.min-n.result c.loop-at.invariant.from (omega arith) (omega arith) (omega arith) c.loop-at.invariant.value c.bits_in_byte.ensures in
     omega (arith, next.fits)
 
 pub loop-at-preserved : goal.loop-at-preserved
 loop-at-preserved c = record {
   from = omega arith;
   within = omega arith;
-  value =
-      (next_part c.args.bytes.now c.args.place c.loop-at.at c.min-n.result c.loop-at.value c.bits_in_byte.result c.loop-at.invariant.from (omega arith) (omega arith) (omega arith) (omega arith)
-      c.loop-at.invariant.value c.bits_in_byte.ensures).value;
+  value = (next_part c.args.bytes.now c.min-n.result c.loop-at.invariant.from (omega arith) (omega arith) (omega arith) c.loop-at.invariant.value c.bits_in_byte.ensures).value;
 }
 
 pub returns-clause-fits : goal.returns-clause-fits

@@ -1,12 +1,11 @@
-use Rattle.rtcm_bits.proofs.Names.{◌++◌, ℕ, List, length, take, ap, ◌∙◌, arith, length-take-le, fold_into}
+use Rattle.rtcm_bits.proofs.Names.{ℕ, List, length, take, ap, ◌∙◌, arith, length-take-le, fold_into}
 use Rattle.rtcm_bits.proofs.FoldLemmas.{offsets, vector_next, length-fold}
 use Rattle.rtcm_bits.proofs.folding.Folded.next.Goals as goal
 
 abbrev whole : goal.returns-clause-added
 whole c =
-    vector_next c.self.inside.first c.self.inside.second c.self.inside.third (c.self.inside.fourth ++ (c.self.inside.fifth ++ c.self.inside.sixth)) c.args.bytes.now
-    c.at_eleven.result c.at_nine.result c.at_one.result c.at_eleven-2.result c.self.invariant.first c.self.invariant.second c.self.invariant.third c.requires
-    c.at_eleven.ensures c.at_nine.ensures c.at_one.ensures c.at_eleven-2.ensures ∙ ap (λ (l : List ℕ). take 16 (fold_into l c.args.bytes.now)) c.self.view_is
+    vector_next c.args.bytes.now c.self.invariant c.requires c.at_eleven.ensures c.at_nine.ensures c.at_one.ensures c.at_eleven-2.ensures
+    ∙ ap (λ (l : List ℕ). take 16 (fold_into l c.args.bytes.now)) c.self.view_is
 
 pub returns-clause-long : goal.returns-clause-long
 unfolding fold_into

@@ -1,6 +1,6 @@
 -- Four cases: bytes with an entry are counted there; bytes without a look are only numbered; a second look at the
 -- first byte without an entry adds one; else every byte gets its entry first.
-use Rattle.rtcm_bits.proofs.Names.{List, ℕ, ◌≡◌, ◌+◌, ◌-◌, drop, length, max, refl, ap, ◌∙◌, rules, arith, length-drop, with_items_is, places, vec_len, held_of, filled_up, looked_through, counts_alone}
+use Rattle.rtcm_bits.proofs.Names.{List, [], ◌∷◌, ℕ, ◌≡◌, ◌+◌, ◌-◌, drop, drop-append-le, length, max, ap, ◌∙◌, rules, arith, length-drop, with_items_is, places, vec_len, held_of, filled_up, looked_through, counts_alone}
 use Rattle.rtcm_bits.proofs.LookLemmas.{first_looks_at, second_look_at, later_looks, filled_out, looked_length}
 use Rattle.rtcm_bits.proofs.window.Window.count_looks.Goals as goal
 
@@ -9,9 +9,8 @@ returns-then-start-counted-clause-counted c =
     let i = c.self.inside in
     let l : length i.bytes.items ≡ length c.args.self.now.bytes = ap (λ w. length w.bytes) c.self.view_is in
     let v : vec_len i.counts ≡ length i.counts.items = i.counts.ok.0 in
-    first_looks_at i.bytes.items (drop i.first i.counts.items) i.once (length i.bytes.items) i.looks c.saturating_add-self-inside.result i.greatest c.raise.new.greatest
-    c.args.start c.args.n c.args.self.now c.self.view_is (omega (arith, v, length-drop i.first i.counts.items)) (omega (arith, l, c.requires)) (search rules) c.saturating_add-self-inside.ensures
-    (c.raise.ensures ∙ ap (λ (t : ℕ). max i.greatest t) c.min.ensures)
+    first_looks_at (drop i.first i.counts.items) i.once c.self.view_is (omega (arith, v, length-drop i.first i.counts.items)) (omega (arith, l, c.requires))
+    (record { few = search rules; sum = c.saturating_add-self-inside.ensures; most = c.raise.ensures ∙ ap (λ (t : ℕ). max i.greatest t) c.min.ensures })
 
 pub returns-then-start-n-clause-counted : goal.returns-then-start-n-clause-counted
 returns-then-start-n-clause-counted c =
@@ -21,20 +20,19 @@ returns-then-start-n-clause-counted c =
     let g = c.look_at_each-self-inside.result in
     let v : vec_len i.counts ≡ length i.counts.items = i.counts.ok.0 in
     ap (λ (t : List ℕ). held_of i.bytes.items (filled_up (drop i.first t) i.once (length i.bytes.items)) e g) (with_items_is i.counts ys (search (rules, places)))
-    ∙ later_looks i.bytes.items i.counts.items ys i.once (length i.bytes.items) i.first i.looks e i.greatest g c.args.start c.args.n c.args.self.now c.self.view_is
-    (omega (arith, v, c.self.invariant.4)) (search rules)
+    ∙ later_looks i.counts.items i.once i.first c.args.start c.self.view_is (omega (arith, v, c.self.invariant.4))
     (c.look_at_each-self-inside.ensures.counts ∙ ap (λ (t : List ℕ). (looked_through (counts_alone t i.greatest) (i.first + c.args.start) c.args.n).looks) c.as_mut_slice.ensures.value)
-    (c.look_at_each-self-inside.ensures.greatest ∙ ap (λ (t : List ℕ). (looked_through (counts_alone t i.greatest) (i.first + c.args.start) c.args.n).most) c.as_mut_slice.ensures.value)
-    c.saturating_add-self-inside.ensures
+    (record { few = search rules; sum = c.saturating_add-self-inside.ensures; most = c.look_at_each-self-inside.ensures.greatest ∙ ap (λ (t : List ℕ). (looked_through (counts_alone t i.greatest) (i.first + c.args.start) c.args.n).most) c.as_mut_slice.ensures.value })
 
 pub returns-then-len-lt-CAPACITY-clause-counted : goal.returns-then-len-lt-CAPACITY-clause-counted
 returns-then-len-lt-CAPACITY-clause-counted c =
     let i = c.self.inside in
     let v : vec_len i.counts ≡ length i.counts.items = i.counts.ok.0 in
     let k = length-drop i.first i.counts.items in
-    second_look_at i.bytes.items i.counts.items c.push.new.self.items i.first i.once (i.once - 1) (length i.bytes.items) i.looks c.saturating_add-self-inside.result i.greatest c.raise-then-len-lt-CAPACITY.new.greatest
-    c.args.start c.args.n c.args.self.now c.self.view_is (omega (arith, v, c.self.invariant)) (omega (arith, v, k, c.if-start-counted-2.true)) (omega (arith, v, c.if-start-n.false, c.if-start-counted.false, c.if-start-counted-2.true)) refl
-    c.if-n-eq1.true c.in-Ok.ensures.items c.saturating_add-self-inside.ensures c.raise-then-len-lt-CAPACITY.ensures
+    second_look_at {q = i.once - 1} (drop i.first i.counts.items) c.self.view_is (omega (arith, v, k, c.if-start-counted-2.true))
+    (omega (arith, v, c.if-start-n.false, c.if-start-counted.false, c.if-start-counted-2.true)) c.if-n-eq1.true
+    (ap (drop i.first) c.in-Ok.ensures.items ∙ drop-append-le i.first i.counts.items (2 ∷ []) (omega (arith, v, c.self.invariant)))
+    (record { few = search rules; sum = c.saturating_add-self-inside.ensures; most = c.raise-then-len-lt-CAPACITY.ensures })
 
 pub look_at_each-self-inside-requires-2 : goal.look_at_each-self-inside-requires-2
 look_at_each-self-inside-requires-2 c =
@@ -67,12 +65,9 @@ returns-clause-counted c =
     let o : filled_up (drop s.result cs) 0 n ≡ filled_up (drop i.first i.counts.items) i.once n =
     filled_out (drop i.first i.counts.items) (drop s.result cs) i.once n (max (c.args.start + c.args.n) (length i.counts.items - i.first + i.once)) s.ensures.counts (omega (arith, q)) (omega (arith, l, c.requires, c.self.invariant)) in
     ap (λ (t : List ℕ). held_of i.bytes.items (filled_up (drop s.result t) 0 n) e g) (with_items_is s.new.counts ys (search (rules, places)))
-    ∙ later_looks i.bytes.items cs ys 0 n s.result i.looks e i.greatest g c.args.start c.args.n c.args.self.now
-    (ap (λ (t : List ℕ). held_of i.bytes.items t i.looks i.greatest) o ∙ c.self.view_is)
-    (omega (arith, s.ensures.size)) (search rules)
+    ∙ later_looks cs 0 s.result c.args.start (ap (λ (t : List ℕ). held_of i.bytes.items t i.looks i.greatest) o ∙ c.self.view_is) (omega (arith, s.ensures.size))
     (c.look_at_each-self-inside-2.ensures.counts ∙ ap (λ (t : List ℕ). (looked_through (counts_alone t i.greatest) (s.result + c.args.start) c.args.n).looks) c.as_mut_slice-2.ensures.value)
-    (c.look_at_each-self-inside-2.ensures.greatest ∙ ap (λ (t : List ℕ). (looked_through (counts_alone t i.greatest) (s.result + c.args.start) c.args.n).most) c.as_mut_slice-2.ensures.value)
-    c.saturating_add-self-inside.ensures
+    (record { few = search rules; sum = c.saturating_add-self-inside.ensures; most = c.look_at_each-self-inside-2.ensures.greatest ∙ ap (λ (t : List ℕ). (looked_through (counts_alone t i.greatest) (s.result + c.args.start) c.args.n).most) c.as_mut_slice-2.ensures.value })
 
 pub invariant_of-self : goal.invariant_of-self
 invariant_of-self c =

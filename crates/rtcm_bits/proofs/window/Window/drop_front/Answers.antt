@@ -1,4 +1,4 @@
-use Rattle.rtcm_bits.proofs.Names.{◌≡◌, length, drop, ap, arith, length-drop, vec_len}
+use Rattle.rtcm_bits.proofs.Names.{◌≡◌, ℕ, Buffer, length, drop, ap, arith, length-drop, vec_len}
 use Rattle.rtcm_bits.proofs.LookLemmas.{view_dropped}
 use Rattle.rtcm_bits.proofs.window.Window.drop_front.Goals as goal
 
@@ -8,5 +8,4 @@ returns c =
     let l : length i.bytes.items ≡ length c.args.self.now.bytes = ap (λ w. length w.bytes) c.self.view_is in
     let v : vec_len i.counts ≡ length i.counts.items = i.counts.ok.0 in
     let k = length-drop i.first i.counts.items in
-    view_dropped i.bytes c.truncate_front.new.self (drop i.first i.counts.items) c.clear.new.self.items i.once c.saturating_sub-self-inside.result i.looks i.greatest _ c.args.n c.args.self.now
-    c.self.view_is c.truncate_front.ensures (omega (arith, l, c.requires)) c.clear.ensures.items (omega (arith, v, k)) (omega (arith, v, k))
+    view_dropped (drop i.first i.counts.items) i.once c.self.view_is (ap (λ (t : Buffer ℕ). t.items) c.truncate_front.ensures) (omega (arith, l, c.requires)) c.clear.ensures.items (omega (arith, v, k)) (omega (arith, v, k))

@@ -8,8 +8,8 @@ returns-then-held-gt0 c =
     let n = c.others_in-n.result in
     let x = c.drop_front.new.self in
     let s = c.as_slices.result in
-    let o = others_on s.0.now s.1.now w.bytes n c.args.byte (c.as_slices.ensures ∙ ap (λ (t : WindowValue). t.bytes) c.self.view_is) c.others_in-n.ensures.within c.others_in-n.ensures.others c.others_in-n.ensures.stops in
-    let e = looked_dropped w c.count_last_looks.new.self c.count_last_looks-2.new.self x c.min-stored.result n (grind (arith, c.min-stored.ensures)) c.count_last_looks.ensures.counted c.count_last_looks-2.ensures.counted c.drop_front.ensures in
+    let o = others_on s.0.now s.1.now (c.as_slices.ensures ∙ ap (λ (t : WindowValue). t.bytes) c.self.view_is) c.others_in-n.ensures.within c.others_in-n.ensures.others c.others_in-n.ensures.stops in
+    let e = looked_dropped w c.count_last_looks.new.self c.count_last_looks-2.new.self (grind (arith, c.min-stored.ensures)) c.count_last_looks.ensures.counted c.count_last_looks-2.ensures.counted c.drop_front.ensures in
     let l : length x.bytes ≡ length w.bytes - n =
     ap (λ (t : WindowValue). length t.bytes) c.drop_front.ensures ∙ length-drop n c.count_last_looks-2.new.self.bytes ∙ ap (λ (t : List ℕ). length t - n) (c.count_last_looks-2.ensures.same ∙ c.count_last_looks.ensures.same) in
     let m : n + 1 ≡ min (n + 1) (length w.bytes) = grind (arith, l, c.held.ensures.value, c.if-held-gt0.true) in
@@ -26,8 +26,8 @@ returns-else-held-gt0 c =
     let n = c.others_in-n.result in
     let x = c.drop_front.new.self in
     let s = c.as_slices.result in
-    let o = others_on s.0.now s.1.now w.bytes n c.args.byte (c.as_slices.ensures ∙ ap (λ (t : WindowValue). t.bytes) c.self.view_is) c.others_in-n.ensures.within c.others_in-n.ensures.others c.others_in-n.ensures.stops in
-    let e = looked_dropped w c.count_last_looks.new.self c.count_last_looks-2.new.self x c.min-stored.result n (grind (arith, c.min-stored.ensures)) c.count_last_looks.ensures.counted c.count_last_looks-2.ensures.counted c.drop_front.ensures in
+    let o = others_on s.0.now s.1.now (c.as_slices.ensures ∙ ap (λ (t : WindowValue). t.bytes) c.self.view_is) c.others_in-n.ensures.within c.others_in-n.ensures.others c.others_in-n.ensures.stops in
+    let e = looked_dropped w c.count_last_looks.new.self c.count_last_looks-2.new.self (grind (arith, c.min-stored.ensures)) c.count_last_looks.ensures.counted c.count_last_looks-2.ensures.counted c.drop_front.ensures in
     let l : length x.bytes ≡ length w.bytes - n =
     ap (λ (t : WindowValue). length t.bytes) c.drop_front.ensures ∙ length-drop n c.count_last_looks-2.new.self.bytes ∙ ap (λ (t : List ℕ). length t - n) (c.count_last_looks-2.ensures.same ∙ c.count_last_looks.ensures.same) in
     let k : n ≤ length w.bytes = o.0 in

@@ -6,13 +6,11 @@ pub returns-then-i-counted : goal.returns-then-i-counted
 returns-then-i-counted c =
     let i = c.self.inside in
     let v : vec_len i.counts ≡ length i.counts.items = i.counts.ok.0 in
-    looks_stored i.bytes.items i.counts.items i.first i.once (length i.bytes.items) i.looks i.greatest c.args.i c.index.result.now c.args.self.now c.self.view_is
-    (omega (arith, v, length-drop i.first i.counts.items)) c.index.ensures
+    looks_stored i.counts.items i.first i.once c.self.view_is (omega (arith, v, length-drop i.first i.counts.items)) c.index.ensures
 
 pub returns : goal.returns
 returns c =
     let i = c.self.inside in
     let v : vec_len i.counts ≡ length i.counts.items = i.counts.ok.0 in
     let k : c.len.result - i.first ≡ length (drop i.first i.counts.items) = omega (arith, v, length-drop i.first i.counts.items) in
-    looks_at_once i.bytes.items (drop i.first i.counts.items) i.once (length i.bytes.items) i.looks i.greatest c.args.i c.from.result bool_byte c.args.self.now c.self.view_is
-    (omega (arith, k)) (c.from.ensures ∙ ap (λ (n : ℕ). bool_byte (ltb c.args.i (n + i.once))) k) refl refl
+    looks_at_once (drop i.first i.counts.items) i.once bool_byte c.self.view_is (omega (arith, k)) (c.from.ensures ∙ ap (λ (n : ℕ). bool_byte (ltb c.args.i (n + i.once))) k) refl refl

@@ -5,5 +5,4 @@ use Rattle.rtcm_bits.proofs.window.Window.push.Goals as goal
 pub returns : goal.returns
 returns c =
     let i = c.self.inside in
-    view_grown i.bytes c.try_push_back.new.self (c.args.byte ∷ []) (drop i.first i.counts.items) i.once i.looks i.greatest c.args.self.now c.self.view_is c.in-Ok.ensures.ok
-    (omega (arith, length-drop i.first i.counts.items, c.self.invariant))
+    view_grown i.bytes (c.args.byte ∷ []) (drop i.first i.counts.items) i.once c.self.view_is c.in-Ok.ensures.ok (omega (arith, length-drop i.first i.counts.items, c.self.invariant))

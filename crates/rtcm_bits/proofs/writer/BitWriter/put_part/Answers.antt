@@ -33,11 +33,11 @@ invariant_of-self-else-self-n-eq8 c =
 pub returns-then-self-n-eq8 : goal.returns-then-self-n-eq8
 returns-then-self-n-eq8 c =
     let t : Part c.self.inside.part_bits c.args.n c.self.inside.part c.args.bits = part_is _ _ _ _ (omega arith) c.self.invariant.1 c.requires.fits in
-    rw c.push.ensures.items (byte_put c.self.inside.whole.items c.self.inside.part_bits c.args.n c.self.inside.part c.args.bits c.args.self.now c.if-self-n-eq8.true c.self.view_is c.requires.fits t)
+    rw c.push.ensures.items (byte_put c.self.inside.whole.items c.if-self-n-eq8.true c.self.view_is c.requires.fits t)
 
 pub returns-else-self-n-eq8 : goal.returns-else-self-n-eq8
 returns-else-self-n-eq8 c =
     let l = begun_is c.self.inside.whole.items c.self.inside.part_bits c.self.inside.part c.args.self.now c.self.view_is in
     let few : c.self.inside.part_bits + c.args.n ≤ 8 = omega (arith, l, c.requires.within, c.self.invariant.0) in
     let t : Part c.self.inside.part_bits c.args.n c.self.inside.part c.args.bits = part_is _ _ _ _ few c.self.invariant.1 c.requires.fits in
-    part_put c.self.inside.whole.items c.self.inside.part_bits c.args.n c.self.inside.part c.args.bits c.args.self.now c.self.view_is c.requires.fits t
+    part_put c.self.inside.whole.items c.self.view_is c.requires.fits t
