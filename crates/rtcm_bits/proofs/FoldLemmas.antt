@@ -151,11 +151,11 @@ length-fold (o ∷ os) w m = length-add (drop o w) (fold_at os w m) ∙ length-f
 fold_check : (os w m : List ℕ) (t : ℕ) → Small os → 27 ≤ length w → length w + t ≡ length m → crc (fold_at os w m) ≡ bit_xor (parts os w t) (crc m)
 fold_check [] w m t s h e = sym (xor_comm 0 (crc m) ∙ xor_zero_r (crc m))
 fold_check (o ∷ os) w m t s h e =
-    sum_check (drop o w) (fold_at os w m) (o + t) (size o w m (fold_at os w m) t s.0 h e (length-fold os w m))
+    sum_check (drop o w) (fold_at os w m) (o + t) (size w m t s.0 h e (length-fold os w m))
     ∙ ap (bit_xor (several (drop o w) (o + t))) (fold_check os w m t s.1 h e) ∙ sym (xor_assoc (several (drop o w) (o + t)) (parts os w t) (crc m))
   where
-    size : (o : ℕ) (w m n : List ℕ) (t : ℕ) → o ≤ 27 → 27 ≤ length w → length w + t ≡ length m → length n ≡ length m → length (drop o w) + (o + t) ≡ length n
-    size o w m n t g h e l = omega (arith, length-drop o w, g, h, e, l)
+    size : {o n : ℕ} (w m : List ℕ) (t : ℕ) → o ≤ 27 → 27 ≤ length w → length w + t ≡ length m → n ≡ length m → length (drop o w) + (o + t) ≡ n
+    size {o} w m t g h e l = omega (arith, length-drop o w, g, h, e, l)
 
 drop_swap : (k j : ℕ) (l : List ℕ) → drop k (drop j l) ≡ drop j (drop k l)
 drop_swap k j l = let e : j + k ≡ k + j = omega arith in drop-drop k j l ∙ ap (λ (n : ℕ). drop n l) e ∙ sym (drop-drop j k l)

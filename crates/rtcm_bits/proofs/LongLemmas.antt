@@ -50,5 +50,5 @@ last_more {v} {next} {n} w bytes t x y k h s =
 
 -- after six steps nothing is added to the bytes that are left
 pub last_left : {w rest : List ℕ} {t : ℕ} (start bytes : List ℕ) → t ≡ 96 → length start ≡ 96 → w ≡ drop t start ++ replicate t 0 → rest ≡ drop 96 bytes → rest ≡ fold_into w (drop t bytes)
-last_left {t = t} start bytes e h p d =
+last_left {t} start bytes e h p d =
     d ∙ sym (ap (λ (l : List ℕ). fold_into l (drop t bytes)) (p ∙ ap (λ (n : ℕ). drop n start ++ replicate n 0) e) ∙ ap (λ (n : ℕ). fold_into (drop 96 start ++ replicate 96 0) (drop n bytes)) e ∙ last_end start (drop 96 bytes) h)

@@ -72,7 +72,7 @@ second_look xs p n =
 
 pub second_look_at : {b ys : List ℕ} {o q e e' m m' s k : ℕ} {w : WindowValue} (xs : List ℕ) → held_of b (filled_up xs o (length b)) e m ≡ w → s ≡ length xs → o ≡ suc q
     → k ≡ 1 → ys ≡ xs ++ 2 ∷ [] → AreSums e e' k m' (max m 2) → held_of b (filled_up ys q (length b)) e' m' ≡ looked_through w s k
-second_look_at {b} {q = q} {s = s} xs v g i z y t =
+second_look_at {b} {q} {s} xs v g i z y t =
     let j : s + 0 ≡ length xs = omega (arith, g) in
     let a = second_look xs q (length b) in
     rw (t.sum, t.most, y, z, ← v, i, j, a.0, a.1) refl
@@ -85,7 +85,7 @@ looked_length xs m s (suc n) = length-set (looked_through (counts_alone xs m) s 
 one_in_front : {zs : List ℕ} {i m k : ℕ} (xs ys : List ℕ) → zs ≡ xs ++ ys → i < length xs → k ≡ m
     → (slice_set zs i (min (slice_index zs i + 1) 65535) ≡ slice_set xs i (min (slice_index xs i + 1) 65535) ++ ys)
     × (max k (min (slice_index zs i + 1) 65535) ≡ max m (min (slice_index xs i + 1) 65535))
-one_in_front {i = i} {m} xs ys e h f =
+one_in_front {i} {m} xs ys e h f =
     let g : slice_index (xs ++ ys) i ≡ slice_index xs i = get_or_append_left xs ys 0 i h in
     let p : slice_set (xs ++ ys) i (min (slice_index xs i + 1) 65535) ≡ slice_set xs i (min (slice_index xs i + 1) 65535) ++ ys = set-append_left xs ys i (min (slice_index xs i + 1) 65535) h in
     rw (e, f, g) (p, refl)
@@ -103,7 +103,7 @@ in_front xs ys m s (suc n) h =
 pub later_looks : {b ys : List ℕ} {e e' m m' k : ℕ} {w : WindowValue} (xs : List ℕ) (o f s : ℕ) → held_of b (filled_up (drop f xs) o (length b)) e m ≡ w
     → f + s + k ≤ length xs → ys ≡ (looked_through (counts_alone xs m) (f + s) k).looks → AreSums e e' k m' (looked_through (counts_alone xs m) (f + s) k).most
     → held_of b (filled_up (drop f ys) o (length b)) e' m' ≡ looked_through w s k
-later_looks {b} {e = e} {m = m} {k = k} xs o f s v h p q =
+later_looks {b} {e} {m} {k} xs o f s v h p q =
     let n = length b in
     let t = shifted xs f m s k in
     let l : s + k ≤ length (drop f xs) = omega (arith, h, length-drop f xs) in
@@ -136,7 +136,7 @@ dropped_past xs o n d h =
 -- first looks at the bytes from s on, of a window with the view w
 pub first_looks_at : {b : List ℕ} {e e' m m' s k : ℕ} {w : WindowValue} (xs : List ℕ) (o : ℕ) → held_of b (filled_up xs o (length b)) e m ≡ w → s ≡ length xs + o
     → s + k ≤ length b → AreSums e e' k m' (max m (min k 1)) → held_of b (filled_up xs (o + k) (length b)) e' m' ≡ looked_through w s k
-first_looks_at {b} {m = m} {k = k} xs o v h g t =
+first_looks_at {b} {m} {k} xs o v h g t =
     rw (t.sum, t.most, h, ← v) (sym (first_looks b xs o (length b) m k (omega (arith, g, h)) t.few))
 
 -- more bytes in the ring
@@ -149,7 +149,7 @@ view_grown b more xs o v x h =
 -- the last bytes of the ring, when no count is stored
 pub view_dropped : {b b' ys : List ℕ} {p e m j n : ℕ} {w : WindowValue} (xs : List ℕ) (o : ℕ) → held_of b (filled_up xs o (length b)) e m ≡ w
     → b' ≡ drop j b → j ≡ n → ys ≡ [] → p ≡ o - (n - length xs) → length xs ≤ n → held_of b' (filled_up (drop 0 ys) p (length b')) e m ≡ without_front w n
-view_dropped {b} {n = n} xs o v x f y q h =
+view_dropped {b} {n} xs o v x f y q h =
     rw (x, f, y, q, length-drop n b, ← dropped_past xs o (length b) n h, ← v) refl
 
 -- looks at bytes that are dropped next
@@ -168,7 +168,7 @@ most_more xs m s k p q e f = let z : k + 1 ≡ suc k = omega arith in rw (z, f, 
 
 pub last_stored : {b : List ℕ} {e e' m m' k : ℕ} {w : WindowValue} (xs : List ℕ) (f o s : ℕ) → held_of b (filled_up (drop f xs) o (length b)) e m ≡ w → s + k ≤ length (drop f xs)
     → AreSums e e' k m' (looked_through (counts_alone xs m) (f + s) k).most → AgreeFrom (s + k) (held_of b (filled_up (drop f xs) o (length b)) e' m') (looked_through w s k)
-last_stored {b} {e = e} {m = m} {k = k} xs f o s v h t d l =
+last_stored {b} {e} {m} {k} xs f o s v h t d l =
     let n = length b in
     let i = in_front (drop f xs) (replicate o 1 ++ replicate (n - (length (drop f xs) + o)) 0) m s k h in
     rw (t.sum, t.most, (shifted xs f m s k).1, ← v, through_counts b (filled_up (drop f xs) o n) e m s k t.few, kept_past (filled_up (drop f xs) o n) m s k d l, i.1) refl
@@ -205,7 +205,7 @@ at_most_once xs o z j = ⊎_elim
 
 pub last_looks : {b : List ℕ} {e e' m m' s k : ℕ} {w : WindowValue} (xs : List ℕ) (o : ℕ) → held_of b (filled_up xs o (length b)) e m ≡ w → length xs ≤ s → s < length xs + o
     → 0 < k → AreSums e e' k m' (max m 2) → AgreeFrom (s + k) (held_of b (filled_up xs o (length b)) e' m') (looked_through w s k)
-last_looks {b} {e = e} {m = m} {s = s} {k = k} xs o v h g p t d l =
+last_looks {b} {e} {m} {s} {k} xs o v h g p t d l =
     let n = length b in
     let a : slice_index (filled_up xs o n) s ≡ 1 =
     ap (λ (i : ℕ). slice_index (filled_up xs o n) i) (sum_back (length xs) s 0 h) ∙ at_once xs o (n - (length xs + o)) (s - length xs + 0) (omega (arith, h, g)) in
@@ -224,12 +224,12 @@ last_looks {b} {e = e} {m = m} {s = s} {k = k} xs o v h g p t d l =
 -- the number of looks at a byte with a stored count, and at one without
 pub looks_stored : {b : List ℕ} {e m i r : ℕ} {w : WindowValue} (xs : List ℕ) (f o : ℕ) → held_of b (filled_up (drop f xs) o (length b)) e m ≡ w → i < length (drop f xs)
     → r ≡ get_or xs (f + i) r → r ≡ slice_index w.looks i
-looks_stored {b} {i = i} {r = r} xs f o v h g =
+looks_stored {b} {i} {r} xs f o v h g =
     rw (← v, get_or_append_left (drop f xs) (replicate o 1 ++ replicate (length b - (length (drop f xs) + o)) 0) 0 i h, get_or_default (drop f xs) i 0 r h, get_or-drop f xs i r) g
 
 pub looks_at_once : {b : List ℕ} {e m i r : ℕ} {w : WindowValue} (xs : List ℕ) (o : ℕ) (f : Bool → ℕ) → held_of b (filled_up xs o (length b)) e m ≡ w → length xs ≤ i
     → r ≡ f (ltb i (length xs + o)) → f true ≡ 1 → f false ≡ 0 → r ≡ slice_index w.looks i
-looks_at_once {b} {i = i} xs o f v h g p q =
+looks_at_once {b} {i} xs o f v h g p q =
     let n = length b in
     let j : i ≡ length xs + (i - length xs) = omega (arith, h) in
     let z : ℕ = n - (length xs + o) in

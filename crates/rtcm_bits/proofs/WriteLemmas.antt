@@ -30,7 +30,7 @@ part_put {k} {n} {p} {b} xs v g t =
 pub byte_put : {k n p b : ℕ} {now : List Bool} (xs : List ℕ) → k + n ≡ 8 → bits_of xs ++ uint k p ≡ now → b < 2 ^ n → Part k n p b
     → bits_of (xs ++ (p * 2 ^ n % 65536 + b) ∷ []) ++ uint 0 0 ≡ now ++ uint n b
 unfolding uint
-byte_put {n = n} {p} {b} xs e v g t =
+byte_put {n} {p} {b} xs e v g t =
     append-nil (bits_of (xs ++ (p * 2 ^ n % 65536 + b) ∷ [])) ∙ bits_of-push xs (p * 2 ^ n % 65536 + b)
     ∙ ap (λ w. bits_of xs ++ uint w (p * 2 ^ n % 65536 + b)) (sym e) ∙ part_put xs v g t
 
@@ -54,7 +54,7 @@ lengths now old left width value e = omega (arith, length-append now (uint left 
 
 -- one part put
 pub next_put : {next all : List Bool} {left n : ℕ} (now : List Bool) (value : ℕ) → n ≤ left → n ≤ 8 → now ++ uint left value ≡ all → next ≡ now ++ uint n (value / 2 ^ (left - n) % (1 * 2 ^ n % 2 ^ 64)) → next ++ uint (left - n) value ≡ all
-next_put {next} {left = left} {n} now value h few inv is =
+next_put {next} {left} {n} now value h few inv is =
     let s : (1 * 2 ^ n) % 2 ^ 64 ≡ 2 ^ n = one_shl n 64 (omega arith) in
     let f : next ≡ now ++ uint n (value / 2 ^ (left - n) % 2 ^ n) = rw s at is in
     ap (λ r. r ++ uint (left - n) value) f ∙ append_assoc now (uint n (value / 2 ^ (left - n) % 2 ^ n)) (uint (left - n) value) ∙ ap (λ r. now ++ r) (first_part left n value h) ∙ inv

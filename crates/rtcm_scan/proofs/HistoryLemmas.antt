@@ -1,5 +1,5 @@
 -- What a framer has accepted after each of its steps.
-use Rattle.rtcm_scan.proofs.Names.{ℕ, ◌≡◌, ◌+◌, ◌-◌, ◌<◌, ◌≤◌, Bool, true, false, List, [], ◌∷◌, ◌++◌, length, drop, refl, ap, ◌∙◌, arith, length-append, sum_by, drop-append-le, length-drop, drop-drop, sum_by_push, begins_frame, message_length, frame_length, framed_message, Framed, IsFrameOf, WindowValue, pushed, without_front, FramerValue, scan_of, with_window, HasFramed, first_held, IsPassed, Scanned}
+use Rattle.rtcm_scan.proofs.Names.{ℕ, ◌≡◌, ◌+◌, ◌-◌, ◌<◌, ◌≤◌, Bool, true, false, List, [], ◌∷◌, ◌++◌, length, drop, ap, ◌∙◌, arith, length-append, sum_by, drop-append-le, length-drop, drop-drop, sum_by_push, begins_frame, message_length, frame_length, framed_message, Framed, IsFrameOf, WindowValue, pushed, without_front, FramerValue, scan_of, with_window, HasFramed, first_held, IsPassed, Scanned}
 use Rattle.rtcm_scan.proofs.FrameLemmas.{begins_parts, length-message}
 use Rattle.rtcm_scan.proofs.ScanLemmas.{scanned_skip, scanned_frame, scanned_longer, scanned_ended}
 use Rattle.rtcm_scan.proofs.PrefixLemmas.{known_first}
@@ -68,13 +68,13 @@ stands_take v b fs h s =
     (let x : first_held v + frame_length v.held ≡ v.taken - length (drop (frame_length v.held) v.held) = omega arith in
     ap (drop (frame_length v.held)) s.held ∙ drop-drop (frame_length v.held) (first_held v) b ∙ ap (λ q. drop q b) x)
     (omega arith)
-    (rw e (scanned_frame v.has_ended b 0 (first_held v) fs g s.scanned refl i))
+    (rw e (scanned_frame v.has_ended b 0 fs g s.scanned i))
     (rw (e, j) (omega arith))
 
 -- the framer's view after each change of its window
-pub view_pushed : (v : FramerValue) (limit place skipped tried : ℕ) (w w' : WindowValue) (ended ready : Bool) (x : ℕ) → scan_of limit place w ended ready skipped tried ≡ v → w' ≡ pushed w x
+pub view_pushed : {v : FramerValue} {limit skipped tried : ℕ} {w w' : WindowValue} {ended ready : Bool} (place x : ℕ) → scan_of limit place w ended ready skipped tried ≡ v → w' ≡ pushed w x
     → scan_of limit place w' ended false skipped tried ≡ record v { taken = v.taken + 1; held = v.held ++ x ∷ []; looks = v.looks ++ 0 ∷ []; is_ready = false }
-view_pushed v limit place skipped tried w w' ended ready x e f =
+view_pushed {limit} {skipped} {tried} {w} {ended} place x e f =
     let l : length (w.bytes ++ x ∷ []) ≡ length w.bytes + 1 = length-append w.bytes (x ∷ []) in
     let t : place + length (w.bytes ++ x ∷ []) ≡ place + length w.bytes + 1 = omega arith in
     rw (f, ← e) (ap (λ n. let r : FramerValue = record (scan_of limit place (pushed w x) ended false skipped tried) { taken = n } in r) t)
@@ -85,9 +85,9 @@ whole_frame held bytes size h e f =
     let l : length bytes ≡ length held = ap length f in
     (omega arith, omega arith)
 
-pub view_dropped : (v : FramerValue) (limit place skipped tried n : ℕ) (w u w' : WindowValue) (ended ready : Bool) → scan_of limit place w ended ready skipped tried ≡ v → u.bytes ≡ w.bytes
+pub view_dropped : {v : FramerValue} {limit skipped tried n : ℕ} {w w' : WindowValue} {ended ready : Bool} (place : ℕ) (u : WindowValue) → scan_of limit place w ended ready skipped tried ≡ v → u.bytes ≡ w.bytes
     → w' ≡ without_front u n → n ≤ length w.bytes → scan_of limit (place + n) w' ended ready skipped 0 ≡ with_window v (without_front u n) 0
-view_dropped v limit place skipped tried n w u w' ended ready e g f h =
+view_dropped {limit} {skipped} {n} {w} {ended} {ready} place u e g f h =
     let l : length (drop n u.bytes) ≡ length w.bytes - n = length-drop n u.bytes ∙ ap (λ b. length b - n) g in
     let t : place + n + length (drop n u.bytes) ≡ place + length w.bytes = omega arith in
     rw (f, ← e) (ap (λ q. let r : FramerValue = record (scan_of limit (place + n) (without_front u n) ended ready skipped 0) { taken = q } in r) t)

@@ -68,8 +68,14 @@ judge_missing c e s l t a h =
     let x : wanted_by (take c.count s) ≡ wanted_by s = wanted_take s c.count (omega arith) k in absurd (omega arith))
     (cases_lt (length s) (wanted_by s))
 
--- a candidate that needs no more bytes has exactly those that decide it
-whole : (c : Candidate) (s : List ℕ) → HasTaken c (take c.count s) → c.count ≡ asked s → (c.count < c.wanted → ⊥) → (c.count ≡ wanted_by s) × (c.wanted ≡ wanted_by s)
+-- a candidate has accepted exactly the bytes that decide it
+pub record IsWhole (c : Candidate) (s : List ℕ) : Type 0 where
+  pub taken : HasTaken c (take c.count s)
+  pub count : c.count ≡ wanted_by s
+  pub wanted : c.wanted ≡ wanted_by s
+  pub within : c.count ≤ length s
+
+pub whole : (c : Candidate) (s : List ℕ) → HasTaken c (take c.count s) → c.count ≡ asked s → (c.count < c.wanted → ⊥) → IsWhole c s
 whole c s t a h =
     let m : length (take c.count s) ≡ c.count = length-take-le c.count s (omega arith) in
     let w : c.wanted ≡ wanted_by (take c.count s) = t.wanted in
@@ -77,39 +83,32 @@ whole c s t a h =
     let x : wanted_by (take c.count s) ≡ length (take c.count s) = omega arith in
     let y : wanted_by (take c.count s ++ drop c.count s) ≡ wanted_by (take c.count s) = wanted_stays (take c.count s) (drop c.count s) x in
     let z : wanted_by s ≡ wanted_by (take c.count s) = ap wanted_by (sym (take-append-drop c.count s)) ∙ y in
-    (omega arith, omega arith)
+    record { taken = t; count = omega arith; wanted = omega arith; within = omega arith }
 
-pub judge_found : Residue → (c : Candidate) (e : Bool) (s : List ℕ) → AreBytes s → HasTaken c (take c.count s) → c.count ≡ asked s → (c.count < c.wanted → ⊥) → 1 < c.wanted → c.register ≡ 0 → Found c.count ≡ decision e s
-judge_found law c e s b t a h g r =
-    let w = whole c s t a h in
-    let w0 : c.count ≡ wanted_by s = w.0 in
-    let w1 : c.wanted ≡ wanted_by s = w.1 in
+pub judge_found : Residue → {c : Candidate} (e : Bool) (s : List ℕ) → AreBytes s → IsWhole c s → 1 < c.wanted → c.register ≡ 0 → Found c.count ≡ decision e s
+judge_found law {c} e s b w g r =
     ⊎_elim
     (λ (k : (slice_index s 0 ≡ 0xD3) × (wanted_by s ≡ frame_length s)).
     let d : wanted_by s ≡ frame_length s = k.1 in
     let n : c.count ≡ frame_length s = omega arith in
-    let z : crc (take (frame_length s) s) ≡ 0 = ap (λ q. crc (take q s)) (sym n) ∙ sym t.register ∙ r in
+    let z : crc (take (frame_length s) s) ≡ 0 = ap (λ q. crc (take q s)) (sym n) ∙ sym w.taken.register ∙ r in
     ap Found n ∙ decision_found e s k.0 (omega arith) (right_check law s b (omega arith) z))
     (λ (k : (slice_index s 0 ≡ 0xD3 → ⊥) × (wanted_by s ≡ 1)). let d : wanted_by s ≡ 1 = k.1 in absurd (omega arith))
     (wanted_cases s)
 
-pub judge_wrong : Residue → (c : Candidate) (e : Bool) (s : List ℕ) → AreBytes s → HasTaken c (take c.count s) → c.count ≡ asked s → (c.count < c.wanted → ⊥) → 1 < c.wanted → (c.register ≡ 0 → ⊥) → Passed ≡ decision e s
-judge_wrong law c e s b t a h g r =
-    let w = whole c s t a h in
-    let w0 : c.count ≡ wanted_by s = w.0 in
-    let w1 : c.wanted ≡ wanted_by s = w.1 in
+pub judge_wrong : Residue → {c : Candidate} (e : Bool) (s : List ℕ) → AreBytes s → IsWhole c s → 1 < c.wanted → (c.register ≡ 0 → ⊥) → Passed ≡ decision e s
+judge_wrong law {c} e s b w g r =
     ⊎_elim
     (λ (k : (slice_index s 0 ≡ 0xD3) × (wanted_by s ≡ frame_length s)).
     let d : wanted_by s ≡ frame_length s = k.1 in
     let n : c.count ≡ frame_length s = omega arith in
-    decision_wrong e s (omega arith) (λ q. r (t.register ∙ ap (λ q. crc (take q s)) n ∙ wrong_check law s b (omega arith) q)))
+    decision_wrong e s (omega arith) (λ q. r (w.taken.register ∙ ap (λ q. crc (take q s)) n ∙ wrong_check law s b (omega arith) q)))
     (λ (k : (slice_index s 0 ≡ 0xD3 → ⊥) × (wanted_by s ≡ 1)). let d : wanted_by s ≡ 1 = k.1 in absurd (omega arith))
     (wanted_cases s)
 
 pub judge_none : (c : Candidate) (e : Bool) (s : List ℕ) → HasTaken c (take c.count s) → c.count ≡ asked s → (c.count < c.wanted → ⊥) → (1 < c.wanted → ⊥) → Passed ≡ decision e s
 judge_none c e s t a h g =
-    let w = whole c s t a h in
-    let w1 : c.wanted ≡ wanted_by s = w.1 in
+    let w1 : c.wanted ≡ wanted_by s = (whole c s t a h).wanted in
     ⊎_elim
     (λ (k : (slice_index s 0 ≡ 0xD3) × (wanted_by s ≡ frame_length s)). let d : wanted_by s ≡ frame_length s = k.1 in absurd (g (omega arith)))
     (λ (k : (slice_index s 0 ≡ 0xD3 → ⊥) × (wanted_by s ≡ 1)). decision_without e s k.0)

@@ -50,9 +50,9 @@ frame_here pre m rest h =
     let d : drop (length pre) (pre ++ (frame_bytes m ++ rest)) ≡ frame_bytes m ++ rest = drop_at pre (frame_bytes m ++ rest) (length pre) refl in
     record { begins = ap begins_frame d ∙ frame_begins m rest h; message = sym (ap framed_message d ∙ frame_message m rest h) }
 
-scanned_list : (pre : List ℕ) (ms : List (List ℕ)) (b : List ℕ) (p n : ℕ) → b ≡ pre ++ flat_map frame_bytes ms → p ≡ length pre → n ≡ length b → All (λ m. length m ≤ 1023) ms → Scanned true b p n (placed p ms)
-scanned_list pre [] b p n e q r a = (let l : length b ≡ length pre = ap length (e ∙ append-nil pre) in omega arith, λ k i j. (let l : length b ≡ length pre = ap length (e ∙ append-nil pre) in absurd (omega arith)))
-scanned_list pre (m ∷ ms) b p n e q r a =
+scanned_list : (pre : List ℕ) (ms : List (List ℕ)) {b : List ℕ} {p n : ℕ} → b ≡ pre ++ flat_map frame_bytes ms → p ≡ length pre → n ≡ length b → All (λ m. length m ≤ 1023) ms → Scanned true b p n (placed p ms)
+scanned_list pre [] {b} e q r a = (let l : length b ≡ length pre = ap length (e ∙ append-nil pre) in omega arith, λ k i j. (let l : length b ≡ length pre = ap length (e ∙ append-nil pre) in absurd (omega arith)))
+scanned_list pre (m ∷ ms) {b} {p} {n} e q r a =
     let h : length m ≤ 1023 = All-head (λ x. length x ≤ 1023) m ms a in
     let f : IsFrameOf (pre ++ (frame_bytes m ++ flat_map frame_bytes ms)) (record { offset = length pre; message = m }) = frame_here pre m (flat_map frame_bytes ms) h in
     let v : IsFrameOf b (record { offset = p; message = m }) = (rw (e, q) f) in
@@ -60,17 +60,20 @@ scanned_list pre (m ∷ ms) b p n e q r a =
       omega arith,
       (λ k i j. absurd (omega arith)),
       v,
-      scanned_list (pre ++ frame_bytes m) ms b (p + (length m + 6)) n (e ∙ sym (append_assoc pre (frame_bytes m) (flat_map frame_bytes ms))) l r (All-tail (λ x. length x ≤ 1023) m ms a),
+      scanned_list (pre ++ frame_bytes m) ms (e ∙ sym (append_assoc pre (frame_bytes m) (flat_map frame_bytes ms))) l r (All-tail (λ x. length x ≤ 1023) m ms a),
     )
 
 -- a scan can be cut if no frame lies across
-scanned_cut : (b : List ℕ) (from x n : ℕ) (fs : List Framed) → from ≤ x → x ≤ n → ((f : Framed) → IsFrameOf b f → f.offset < x → x < frame_end f → ⊥) → Scanned true b from n fs
+abbrev NoneAcross : List ℕ → ℕ → Type 0
+NoneAcross b x = (f : Framed) → IsFrameOf b f → f.offset < x → x < frame_end f → ⊥
+
+scanned_cut : (b : List ℕ) (fs : List Framed) {from x n : ℕ} → from ≤ x → x ≤ n → NoneAcross b x → Scanned true b from n fs
     → (front : List Framed) × (rest : List Framed) × (fs ≡ front ++ rest) × Scanned true b x n rest
-scanned_cut b from x n [] h k c s = ([], [], refl, (k, λ q i j. s.1 q (omega arith) j))
-scanned_cut b from x n (f ∷ fs) h k c s = ⊎_elim
+scanned_cut b [] h k c s = ([], [], refl, (k, λ q i j. s.1 q (omega arith) j))
+scanned_cut b (f ∷ fs) {x} h k c s = ⊎_elim
     (λ (l : f.offset < x).
     let e : frame_end f ≤ x = ⊎_elim (λ (y : x < frame_end f). absurd (c f s.2 l y)) (λ (y : frame_end f ≤ x). y) (cases_lt x (frame_end f)) in
-    let r = scanned_cut b (frame_end f) x n fs e k c s.3 in
+    let r = scanned_cut b fs e k c s.3 in
     (f ∷ r.0, r.1, ap (λ t. f ∷ t) r.2, r.3))
     (λ (l : x ≤ f.offset). ([], f ∷ fs, refl, (l, (λ q i j. s.1 q (omega arith) j), s.2, s.3)))
     (cases_lt f.offset x)
@@ -122,19 +125,19 @@ frame_ends bytes ms i k h l =
     let d : drop i ms ≡ get_or ms i [] ∷ drop (i + 1) ms = drop_more ms i [] (omega arith) in
     let e : length (flat_map frame_bytes (take (suc (k - (i + 1))) (drop i ms))) ≡ length (frame_bytes (get_or ms i [])) + length (flat_map frame_bytes (take (k - (i + 1)) (drop (i + 1) ms))) =
     ap (λ x. length (flat_map frame_bytes (take (suc (k - (i + 1))) x))) d ∙ length-append (frame_bytes (get_or ms i [])) (flat_map frame_bytes (take (k - (i + 1)) (drop (i + 1) ms))) in
-    close _ _ _ _ _ _ (ap (frame_place bytes ms) (sym z) ∙ p) e (length-frame (get_or ms i []))
+    close _ _ _ (ap (frame_place bytes ms) (sym z) ∙ p) e (length-frame (get_or ms i []))
   where
-    close : (x y u w r m : ℕ) → x ≡ y + u → u ≡ w + r → w ≡ m + 6 → y + (m + 6) ≤ x
-    close x y u w r m a b c = omega arith
+    close : {x u w : ℕ} (y r m : ℕ) → x ≡ y + u → u ≡ w + r → w ≡ m + 6 → y + (m + 6) ≤ x
+    close y r m a b c = omega arith
 
 -- no frame lies across the beginning of a frame that is far enough after the bytes
 none_across : (bytes : List ℕ) (ms : List (List ℕ)) (k : ℕ) → All (λ m. length m ≤ 1023) ms → k < length ms → length bytes + 1028 ≤ frame_place bytes ms k → HasNoOtherFrame bytes ms k
-    → (f : Framed) → IsFrameOf (stream_after bytes ms) f → f.offset < frame_place bytes ms k → frame_place bytes ms k < frame_end f → ⊥
+    → NoneAcross (stream_after bytes ms) (frame_place bytes ms k)
 none_across bytes ms k a l far quiet f v h c = ⊎_elim
     (λ (x : f.offset < length bytes).
     let m : length f.message ≡ message_length (drop f.offset (stream_after bytes ms)) = ap length v.message ∙ length-message (drop f.offset (stream_after bytes ms)) v.begins in
     let n : frame_length (drop f.offset (stream_after bytes ms)) ≤ 1029 = frame_length_bound (drop f.offset (stream_after bytes ms)) in
-    short _ _ _ (length bytes) (frame_place bytes ms k) m n x far c)
+    short m n x far c)
     (λ (x : length bytes ≤ f.offset).
     let w = quiet f.offset x h v.begins in
     let g = frame_number bytes ms w.0 (omega (arith, w.1, l)) a in
@@ -143,8 +146,8 @@ none_across bytes ms k a l far quiet f v h c = ⊎_elim
     crossing _ _ _ t (frame_ends bytes ms w.0 k w.1 l) c)
     (cases_lt f.offset (length bytes))
   where
-    short : (o lm ml j p : ℕ) → lm ≡ ml → ml + 6 ≤ 1029 → o < j → j + 1028 ≤ p → p < o + (lm + 6) → ⊥
-    short o lm ml j p a b c d e = omega arith
+    short : {o lm ml j p : ℕ} → lm ≡ ml → ml + 6 ≤ 1029 → o < j → j + 1028 ≤ p → p < o + (lm + 6) → ⊥
+    short a b c d e = omega arith
 
     crossing : (e x p : ℕ) → e ≡ x → x ≤ p → p < e → ⊥
     crossing e x p a b c = omega arith
@@ -157,9 +160,9 @@ stays_local bytes ms k a l far quiet i hi li =
     let e : stream_after bytes ms ≡ stream_after bytes (take k ms) ++ flat_map frame_bytes (drop k ms) = cut_at bytes ms k in
     let within : frame_place bytes ms k ≤ length (stream_after bytes ms) = (let y : length (stream_after bytes ms) ≡ length (stream_after bytes (take k ms)) + length (flat_map frame_bytes (drop k ms)) = ap length e ∙ length-append (stream_after bytes (take k ms)) (flat_map frame_bytes (drop k ms)) in ends_within _ _ _ y) in
     let s : Scanned true b 0 (length b) (frames_from 0 0 b) = frames_scanned (length b) b 0 (omega arith) (omega arith) in
-    let c = scanned_cut b 0 (frame_place bytes ms k) (length b) (frames_from 0 0 b) (omega arith) within (none_across bytes ms k a l far quiet) s in
+    let c = scanned_cut b (frames_from 0 0 b) {from = 0} (omega arith) within (none_across bytes ms k a l far quiet) s in
     let t : Scanned true b (frame_place bytes ms k) (length b) (placed (frame_place bytes ms k) (drop k ms)) =
-    scanned_list (stream_after bytes (take k ms)) (drop k ms) b (frame_place bytes ms k) (length b) e refl refl (All-drop (λ m. length m ≤ 1023) k ms a) in
+    scanned_list (stream_after bytes (take k ms)) (drop k ms) e refl refl (All-drop (λ m. length m ≤ 1023) k ms a) in
     let r : c.1 ≡ placed (frame_place bytes ms k) (drop k ms) = scanned_one b (frame_place bytes ms k) c.1 (placed (frame_place bytes ms k) (drop k ms)) c.3 t in
     let z : k + (i - k) ≡ i = omega arith in
     let o : frame_place bytes ms k + length (flat_map frame_bytes (take (i - k) (drop k ms))) ≡ frame_place bytes ms i = sym (place_split bytes ms k (i - k)) ∙ ap (frame_place bytes ms) z in
@@ -176,4 +179,4 @@ stays_local bytes ms k a l far quiet i hi li =
 
 -- a stream of frames without other bytes has these frames
 pub joined : (ms : List (List ℕ)) → All (λ m. length m ≤ 1023) ms → frames_of (flat_map frame_bytes ms) ≡ placed 0 ms
-joined ms a = scanned_all true (flat_map frame_bytes ms) (placed 0 ms) (scanned_list [] ms (flat_map frame_bytes ms) 0 (length (flat_map frame_bytes ms)) refl refl refl a)
+joined ms a = scanned_all true (flat_map frame_bytes ms) (placed 0 ms) (scanned_list [] ms refl refl refl a)

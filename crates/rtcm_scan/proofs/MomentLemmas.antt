@@ -20,7 +20,7 @@ examined_moment v b fs h x =
     let f : length v.held ≤ v.taken = s.fits in
     let t : v.taken ≡ length b = s.taken in
     let e : v.examined ≡ all_looks (spans_at b fs (first_held v) v.tried) = x.counts.total in
-    let g : all_looks (spans_at b fs (first_held v) v.tried) ≤ 1030 * length b = all_bound v.has_ended b fs (first_held v) v.tried (length b) s.scanned (omega arith) (omega arith) in
+    let g : all_looks (spans_at b fs (first_held v) v.tried) ≤ 1030 * length b = all_bound v.has_ended b fs (first_held v) s.scanned (omega arith) (omega arith) in
     rw e g
 
 pub counts_end : (v : FramerValue) (b : List ℕ) (fs : List Framed) → HasExamined v b fs → HasExamined (record v { has_ended = true }) b fs

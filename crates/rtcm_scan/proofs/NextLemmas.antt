@@ -15,15 +15,15 @@ stands_looks v w t b fs s = record { taken = s.taken; held = s.held; fits = s.fi
 abbrev frame_taken : FramerValue → ℕ → FramerValue
 frame_taken u size = with_window u (without_front (looked_through (window_of u) 3 (size - 6)) size) 0
 
-pub step_passed : (v u w : FramerValue) (b : List ℕ) (fs : List Framed) → u ≡ with_candidate_examined v → w ≡ passed u → 0 < length v.held → IsPassed v.has_ended v.held
+pub step_passed : {u w : FramerValue} {b : List ℕ} {fs : List Framed} (v : FramerValue) → u ≡ with_candidate_examined v → w ≡ passed u → 0 < length v.held → IsPassed v.has_ended v.held
     → HasFramed v b fs → HasFramed w b fs
-step_passed v u w b fs e f h p s =
+step_passed {b} {fs} v e f h p s =
     let r = stands_give_up v b fs h p s in
     rw (f, e) (record { taken = r.taken; held = r.held; fits = r.fits; scanned = r.scanned; first = r.first; skipped = r.skipped })
 
-pub counts_passed : (v u w : FramerValue) (b : List ℕ) (fs : List Framed) → u ≡ with_candidate_examined v → w ≡ passed u → 0 < length v.held → IsPassed v.has_ended v.held → v.tried ≤ asked v.held
+pub counts_passed : {u w : FramerValue} {b : List ℕ} {fs : List Framed} (v : FramerValue) → u ≡ with_candidate_examined v → w ≡ passed u → 0 < length v.held → IsPassed v.has_ended v.held → v.tried ≤ asked v.held
     → HasExamined v b fs → HasExamined w b fs
-counts_passed v u w b fs e f h p t x = rw (f, e) (step_give_up (with_candidate_examined v) b fs h refl p (step_examined v b fs t x))
+counts_passed {b} {fs} v e f h p t x = rw (f, e) (step_give_up (with_candidate_examined v) b fs h refl p (step_examined v b fs t x))
 
 -- if a frame begins at the front
 pub found_begins : (v u : FramerValue) (size : ℕ) → u ≡ with_candidate_examined v → (begins_frame v.held ≡ true) × (size ≡ frame_length v.held)
@@ -33,17 +33,16 @@ found_begins v u size e f = rw e (f.0, f.1, refl)
 pub found_counts : (v u : FramerValue) (b : List ℕ) (fs : List Framed) → u ≡ with_candidate_examined v → v.tried ≤ asked v.held → HasExamined v b fs → HasExamined u b fs
 found_counts v u b fs e t x = rw e (step_examined v b fs t x)
 
-same_framed : (f g : Framed) → f.offset ≡ g.offset → f.message ≡ g.message → f ≡ g
+pub same_framed : (f g : Framed) → f.offset ≡ g.offset → f.message ≡ g.message → f ≡ g
 same_framed f g o m = ap (λ (p : ℕ). let r : Framed = record { offset = p; message = f.message } in r) o ∙ ap (λ (q : List ℕ). let r : Framed = record { offset = g.offset; message = q } in r) m
 
-abbrev found : FramerValue → Framed
+abbrev pub found : FramerValue → Framed
 found v = record { offset = first_held v; message = framed_message v.held }
 
 -- the frame at the front is returned
-pub step_found : (v w : FramerValue) (b : List ℕ) (fs : List Framed) (size : ℕ) (f : Framed) → w ≡ frame_taken v size → size ≡ frame_length v.held → begins_frame v.held ≡ true
-    → f.offset ≡ first_held v → f.message ≡ framed_message v.held → HasFramed v b fs → HasFramed w b (fs ++ f ∷ [])
-step_found v w b fs size f g z h o m s =
-    let x : f ≡ found v = same_framed f (found v) o m in
+pub step_found : {w : FramerValue} {b : List ℕ} {fs : List Framed} {size : ℕ} {f : Framed} (v : FramerValue) → w ≡ frame_taken v size → size ≡ frame_length v.held → begins_frame v.held ≡ true
+    → f ≡ found v → HasFramed v b fs → HasFramed w b (fs ++ f ∷ [])
+step_found {w} {b} {fs} v g z h x s =
     let n = stands_take v b fs h s in
     let d : drop (frame_length v.held) (looked_through (window_of v) 3 (frame_length v.held - 6)).bytes ≡ drop (frame_length v.held) v.held =
     ap (drop (frame_length v.held)) (looked_bytes (window_of v) 3 (frame_length v.held - 6)) in
@@ -59,10 +58,9 @@ less_found v w size g z h =
     let l : length w.held ≡ length v.held - size = left_found v w size g in
     omega arith
 
-pub counts_found : (v w : FramerValue) (b : List ℕ) (fs : List Framed) (size : ℕ) (f : Framed) → w ≡ frame_taken v size → size ≡ frame_length v.held → begins_frame v.held ≡ true
-    → f.offset ≡ first_held v → f.message ≡ framed_message v.held → v.tried ≡ asked v.held → HasExamined v b fs → HasExamined w b (fs ++ f ∷ []) × IsCountedTo w b f.offset (fs ++ f ∷ [])
-counts_found v w b fs size f g z h o m t x =
-    let y : f ≡ found v = same_framed f (found v) o m in
+pub counts_found : {w : FramerValue} {b : List ℕ} {fs : List Framed} {size : ℕ} {f : Framed} (v : FramerValue) → w ≡ frame_taken v size → size ≡ frame_length v.held → begins_frame v.held ≡ true
+    → f ≡ found v → v.tried ≡ asked v.held → HasExamined v b fs → HasExamined w b (fs ++ f ∷ []) × IsCountedTo w b f.offset (fs ++ f ∷ [])
+counts_found {w} {b} {fs} v g z h y t x =
     let r : HasExamined (frame_taken v (message_length v.held + 6)) b (fs ++ found v ∷ []) =
     (let q : message_length v.held ≡ message_length v.held + 6 - 6 = omega arith in
     subst (λ (k : ℕ). HasExamined (with_window v (without_front (looked_through (window_of v) 3 k) (frame_length v.held)) 0) b (fs ++ found v ∷ [])) q
@@ -85,28 +83,28 @@ finish d w b fs f s r = rw f (stands_ready d b fs true s, record { frames = r.fr
 counts_finish : (d w : FramerValue) (b : List ℕ) (fs : List Framed) → w ≡ record d { is_ready = true } → HasExamined d b fs → IsCountedExactly d b → HasExamined w b fs × IsCountedExactly w b
 counts_finish d w b fs f x r = rw f (record { history = stands_ready d b fs true x.history; limit = x.limit; within = x.within; each = x.each; tried = x.tried; counts = x.counts }, record { examined = r.examined; most = r.most })
 
-pub finish_empty : (v d w : FramerValue) (b : List ℕ) (fs : List Framed) → d ≡ v → w ≡ record d { is_ready = true } → length v.held ≡ 0 → HasFramed v b fs → HasFramed w b fs × IsDrained w b fs
-finish_empty v d w b fs e f h s =
+pub finish_empty : {v d w : FramerValue} {b : List ℕ} {fs : List Framed} → d ≡ v → w ≡ record d { is_ready = true } → length v.held ≡ 0 → HasFramed v b fs → HasFramed w b fs × IsDrained w b fs
+finish_empty {d} {w} {b} {fs} e f h s =
     let s' : HasFramed d b fs = rw e s in
     let n : d.held ≡ [] = nil_from_length d.held (ap (λ (y : FramerValue). length y.held) e ∙ h) in
     let l : length d.held ≡ 0 = ap length n in
     ⊎_elim (λ (t : d.has_ended ≡ true). finish d w b fs f s' (drained_ended d b fs t n s'))
     (λ (t : d.has_ended ≡ false). finish d w b fs f s' (drained_waiting d b fs t (λ i. absurd (omega arith)) s')) (cases_Bool d.has_ended)
 
-pub counts_empty : (v d w : FramerValue) (b : List ℕ) (fs : List Framed) → d ≡ v → w ≡ record d { is_ready = true } → length v.held ≡ 0 → HasExamined v b fs → HasExamined w b fs × IsCountedExactly w b
-counts_empty v d w b fs e f h x = let x' : HasExamined d b fs = rw e x in counts_finish d w b fs f x' (counted_empty d b fs (ap (λ (y : FramerValue). length y.held) e ∙ h) x')
+pub counts_empty : {v d w : FramerValue} {b : List ℕ} {fs : List Framed} → d ≡ v → w ≡ record d { is_ready = true } → length v.held ≡ 0 → HasExamined v b fs → HasExamined w b fs × IsCountedExactly w b
+counts_empty {d} {w} {b} {fs} e f h x = let x' : HasExamined d b fs = rw e x in counts_finish d w b fs f x' (counted_empty d b fs (ap (λ (y : FramerValue). length y.held) e ∙ h) x')
 
-pub finish_open : (v u d w : FramerValue) (b : List ℕ) (fs : List Framed) → u ≡ with_candidate_examined v → d ≡ u → w ≡ record d { is_ready = true } → v.has_ended ≡ false → is_open v.held ≡ true
+pub finish_open : {v u d w : FramerValue} {b : List ℕ} {fs : List Framed} → u ≡ with_candidate_examined v → d ≡ u → w ≡ record d { is_ready = true } → v.has_ended ≡ false → is_open v.held ≡ true
     → HasFramed v b fs → HasFramed w b fs × IsDrained w b fs
-finish_open v u d w b fs e g f t o s =
+finish_open {v} {d} {w} {b} {fs} e g f t o s =
     let s' : HasFramed d b fs = rw (g, e) (stands_looks v (looked_through (window_of v) v.tried (asked v.held - v.tried)) (asked v.held) b fs s) in
     let x : d.has_ended ≡ false = ap (λ (y : FramerValue). y.has_ended) (g ∙ e) ∙ t in
     let y : is_open d.held ≡ true = ap (λ (y : FramerValue). is_open y.held) (g ∙ e) ∙ o in
     finish d w b fs f s' (drained_waiting d b fs x (λ i. y) s')
 
-pub counts_open : (v u d w : FramerValue) (b : List ℕ) (fs : List Framed) → u ≡ with_candidate_examined v → d ≡ u → w ≡ record d { is_ready = true } → v.has_ended ≡ false → 0 < length v.held → is_open v.held ≡ true → v.tried ≤ asked v.held
+pub counts_open : {v u d w : FramerValue} {b : List ℕ} {fs : List Framed} → u ≡ with_candidate_examined v → d ≡ u → w ≡ record d { is_ready = true } → v.has_ended ≡ false → 0 < length v.held → is_open v.held ≡ true → v.tried ≤ asked v.held
     → HasExamined v b fs → HasExamined w b fs × IsCountedExactly w b
-counts_open v u d w b fs e g f t l o k x =
+counts_open {v} {d} {w} {b} {fs} e g f t l o k x =
     let c = with_candidate_examined v in
     let x' : HasExamined c b fs = step_examined v b fs k x in
     let r : IsCountedExactly c b = counted_open c b fs t l o refl x' in

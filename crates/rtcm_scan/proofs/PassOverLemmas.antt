@@ -65,7 +65,7 @@ over_stands v (suc n) b fs e l o s =
     let d : length (drop 1 v.held) ≡ length v.held - 1 = length-drop 1 v.held in
     let o' : (i : ℕ) → i < n → slice_index (drop 1 v.held) i ≢ 0xD3 = (λ i j q. let f : slice_index (drop 1 v.held) i ≡ slice_index v.held (1 + i) = get_or-drop 1 v.held i 0 in o (1 + i) (omega (arith, j)) (sym f ∙ q)) in
     rw (one_more v n e h k) (over_stands (passed (with_candidate_examined v)) n b fs refl (omega (arith, l, d)) o'
-    (step_passed v (with_candidate_examined v) (passed (with_candidate_examined v)) b fs refl refl k (all_passed v.held v.has_ended h) s))
+    (step_passed v refl refl k (all_passed v.held v.has_ended h) s))
 
 pub over_counts : (v : FramerValue) (n : ℕ) (b : List ℕ) (fs : List Framed) → v.tried ≡ 0 → n ≤ length v.held → ((i : ℕ) → i < n → slice_index v.held i ≢ 0xD3) → HasExamined v b fs → HasExamined (passed_over v n) b fs
 over_counts v zero b fs e l o s = rw (none_over v e) s
@@ -76,7 +76,7 @@ over_counts v (suc n) b fs e l o s =
     let d : length (drop 1 v.held) ≡ length v.held - 1 = length-drop 1 v.held in
     let o' : (i : ℕ) → i < n → slice_index (drop 1 v.held) i ≢ 0xD3 = (λ i j q. let f : slice_index (drop 1 v.held) i ≡ slice_index v.held (1 + i) = get_or-drop 1 v.held i 0 in o (1 + i) (omega (arith, j)) (sym f ∙ q)) in
     rw (one_more v n e h k) (over_counts (passed (with_candidate_examined v)) n b fs refl (omega (arith, l, d)) o'
-    (counts_passed v (with_candidate_examined v) (passed (with_candidate_examined v)) b fs refl refl k (all_passed v.held v.has_ended h) t s))
+    (counts_passed v refl refl k (all_passed v.held v.has_ended h) t s))
 
 -- looks at bytes after others that are dropped
 after_others : (w : WindowValue) (n start k : ℕ) → looked_through (without_front w n) start k ≡ without_front (looked_through w (n + start) k) n
@@ -99,46 +99,46 @@ passed_to v n k = with_looks (passed_over v n) (looked_through (window_of (passe
 left_held : (v : FramerValue) (n : ℕ) → length (passed_over v n).held ≡ length v.held - n
 left_held v n = length-drop n _ ∙ ap (λ b. length b - n) (looked_bytes (window_of v) 0 n)
 
-pub to_stands : (v : FramerValue) (n k : ℕ) (b : List ℕ) (fs : List Framed) → v.tried ≡ 0 → n ≤ length v.held → ((i : ℕ) → i < n → slice_index v.held i ≢ 0xD3) → HasFramed v b fs → HasFramed (passed_to v n k) b fs
-to_stands v n k b fs e l o s = stands_looks (passed_over v n) (looked_through (window_of (passed_over v n)) 0 k) k b fs (over_stands v n b fs e l o s)
+pub to_stands : {n : ℕ} {b : List ℕ} {fs : List Framed} (v : FramerValue) (k : ℕ) → v.tried ≡ 0 → n ≤ length v.held → ((i : ℕ) → i < n → slice_index v.held i ≢ 0xD3) → HasFramed v b fs → HasFramed (passed_to v n k) b fs
+to_stands {n} {b} {fs} v k e l o s = stands_looks (passed_over v n) (looked_through (window_of (passed_over v n)) 0 k) k b fs (over_stands v n b fs e l o s)
 
-pub to_counts : (v : FramerValue) (n k : ℕ) (b : List ℕ) (fs : List Framed) → v.tried ≡ 0 → n ≤ length v.held → ((i : ℕ) → i < n → slice_index v.held i ≢ 0xD3) → k ≡ min 1 (length v.held - n)
+pub to_counts : {n : ℕ} {b : List ℕ} {fs : List Framed} (v : FramerValue) (k : ℕ) → v.tried ≡ 0 → n ≤ length v.held → ((i : ℕ) → i < n → slice_index v.held i ≢ 0xD3) → k ≡ min 1 (length v.held - n)
     → HasExamined v b fs → HasExamined (passed_to v n k) b fs
-to_counts v n k b fs e l o m x =
+to_counts {n} {b} {fs} v k e l o m x =
     let d : length (passed_over v n).held ≡ length v.held - n = left_held v n in
     let z : k - 0 ≡ k = omega arith in
     subst (λ (q : ℕ). HasExamined (with_looks (passed_over v n) (looked_through (window_of (passed_over v n)) 0 q) k) b fs) z (step_examined_to (passed_over v n) k b fs (omega arith) (omega (arith, m)) (omega (arith, m, d)) (over_counts v n b fs e l o x))
 
 -- the framer's view afterwards
-view_over : (v : FramerValue) (limit place skipped tried n : ℕ) (w : WindowValue) (ended ready : Bool) → scan_of limit place w ended ready skipped tried ≡ v → n ≤ length w.bytes
+view_over : {v : FramerValue} {limit skipped tried n : ℕ} {w : WindowValue} {ended ready : Bool} (place : ℕ) → scan_of limit place w ended ready skipped tried ≡ v → n ≤ length w.bytes
     → scan_of limit (place + n) (without_front (looked_through w 0 n) n) ended ready (skipped + n) 0 ≡ passed_over v n
-view_over v limit place skipped tried n w ended ready e h =
+view_over {v} {skipped} {n} {w} place e h =
     let k : skipped ≡ v.skipped = ap (λ (x : FramerValue). x.skipped) e in
     let x : w ≡ window_of v = ap window_of e in
-    let d = view_dropped v limit place skipped tried n w (looked_through w 0 n) (without_front (looked_through w 0 n) n) ended ready e (looked_bytes w 0 n) refl h in
+    let d = view_dropped place (looked_through w 0 n) e (looked_bytes w 0 n) refl h in
     ap (λ (y : FramerValue). let r : FramerValue = record y { skipped = skipped + n } in r) d
     ∙ ap (λ (q : ℕ). with_given_up v (without_front (looked_through w 0 n) n) (q + n)) k ∙ ap (λ (y : WindowValue). with_given_up v (without_front (looked_through y 0 n) n) (v.skipped + n)) x
 
-pub view_passed : (v : FramerValue) (limit place skipped tried n k : ℕ) (w w' : WindowValue) (ended ready : Bool) → scan_of limit place w ended ready skipped tried ≡ v → w' ≡ without_front (looked_through w 0 (n + k)) n
+pub view_passed : {v : FramerValue} {limit skipped tried n : ℕ} {w w' : WindowValue} {ended ready : Bool} (place k : ℕ) → scan_of limit place w ended ready skipped tried ≡ v → w' ≡ without_front (looked_through w 0 (n + k)) n
     → n ≤ length w.bytes → scan_of limit (place + n) w' ended ready (skipped + n) k ≡ passed_to v n k
-view_passed v limit place skipped tried n k w w' ended ready e f h =
+view_passed {limit} {skipped} {n} {w} {ended} {ready} place k e f h =
     let u : WindowValue = without_front (looked_through w 0 n) n in
     ap (λ (y : WindowValue). scan_of limit (place + n) y ended ready (skipped + n) k) (f ∙ sym (through_others w n k))
     ∙ ap (λ (bs : List ℕ). let r : FramerValue = record (scan_of limit (place + n) (looked_through u 0 k) ended ready (skipped + n) k) { taken = place + n + length bs; held = bs } in r) (looked_bytes u 0 k)
-    ∙ ap (λ (y : FramerValue). with_looks y (looked_through (window_of y) 0 k) k) (view_over v limit place skipped tried n w ended ready e h)
+    ∙ ap (λ (y : FramerValue). with_looks y (looked_through (window_of y) 0 k) k) (view_over place e h)
 
 -- the same after the byte at the front, which is in no frame
-pub view_passed_on : (v : FramerValue) (limit place skipped tried n k : ℕ) (w u w' : WindowValue) (ended ready : Bool) → scan_of limit place w ended ready skipped tried ≡ v → 0 < length w.bytes
+pub view_passed_on : {v : FramerValue} {limit skipped tried n : ℕ} {w u w' : WindowValue} {ended ready : Bool} (place k : ℕ) → scan_of limit place w ended ready skipped tried ≡ v → 0 < length w.bytes
     → u ≡ without_front w 1 → w' ≡ without_front (looked_through u 0 (n + k)) n → n ≤ length u.bytes
     → scan_of limit (place + (1 + n)) w' ended ready (skipped + (1 + n)) k ≡ passed_to (passed v) n k
-view_passed_on v limit place skipped tried n k w u w' ended ready e h g f l =
+view_passed_on {v} {limit} {skipped} {n} {w} {u} {ended} {ready} place k e h g f l =
     let a : place + (1 + n) ≡ place + 1 + n = omega arith in
     let b : skipped + (1 + n) ≡ skipped + 1 + n = omega arith in
-    let d = view_dropped v limit place skipped tried 1 w w u ended ready e refl g h in
+    let d = view_dropped {n = 1} place w e refl g h in
     let s : scan_of limit (place + 1) u ended ready (skipped + 1) 0 ≡ passed v =
     ap (λ (y : FramerValue). let r : FramerValue = record y { skipped = skipped + 1 } in r) d
     ∙ ap (λ (y : FramerValue). let r : FramerValue = record (with_window v (without_front (window_of y) 1) 0) { skipped = y.skipped + 1 } in r) e in
-    rw (a, b) (view_passed (passed v) limit (place + 1) (skipped + 1) 0 n k u w' ended ready s f l)
+    rw (a, b) (view_passed (place + 1) k s f l)
 
 -- the content of the window is what the framer holds
 pub others_held : (v : FramerValue) (bytes : List ℕ) (n : ℕ) → bytes ≡ v.held → n ≤ length bytes → ((i : ℕ) → i < n → slice_index bytes i ≢ 0xD3) → (n ≤ length v.held) × ((i : ℕ) → i < n → slice_index v.held i ≢ 0xD3)
@@ -152,9 +152,9 @@ pub after_length : (w w' : WindowValue) (n m : ℕ) → w' ≡ without_front (lo
 after_length w w' n m f = ap length (after_bytes w w' n m f) ∙ length-drop n w.bytes
 
 -- a candidate that has read the preamble after them
-pub taken_preamble : (c : Candidate) (w w' : WindowValue) (n m : ℕ) → w' ≡ without_front (looked_through w 0 m) n → n < length w.bytes → slice_index w.bytes n ≡ 0xD3 → c.count ≡ 1
+pub taken_preamble : {c : Candidate} {w' : WindowValue} {n : ℕ} (w : WindowValue) (m : ℕ) → w' ≡ without_front (looked_through w 0 m) n → n < length w.bytes → slice_index w.bytes n ≡ 0xD3 → c.count ≡ 1
     → HasTaken c (0xD3 ∷ []) → HasTaken c (take c.count w'.bytes)
-taken_preamble c w w' n m f l e k t =
+taken_preamble {c} {w'} {n} w m f l e k t =
     let d : length w'.bytes ≡ length w.bytes - n = after_length w w' n m f in
     let z : n + 0 ≡ n = omega arith in
     let x : 0xD3 ≡ get_or w'.bytes 0 0 = sym (ap (λ (s : List ℕ). get_or s 0 0) (after_bytes w w' n m f) ∙ get_or-drop n w.bytes 0 0 ∙ ap (λ (i : ℕ). get_or w.bytes i 0) z ∙ e) in

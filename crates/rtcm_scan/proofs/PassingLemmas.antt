@@ -29,8 +29,8 @@ at_limit taken limit room some none within =
 
 -- a prefix of the frames that are known with the first n bytes of a piece is a prefix of those known with the whole
 -- piece
-pub prefix_later : (e u : Bool) (b piece : List ℕ) (n : ℕ) (fs : List Framed) → u ≡ e → (e ≡ true → length piece ≡ 0) → IsPrefix fs (known_frames u (b ++ take n piece)) → IsPrefix fs (known_frames e (b ++ piece))
-prefix_later e u b piece n fs same going q =
+pub prefix_later : {e u : Bool} (b piece : List ℕ) (n : ℕ) (fs : List Framed) → u ≡ e → (e ≡ true → length piece ≡ 0) → IsPrefix fs (known_frames u (b ++ take n piece)) → IsPrefix fs (known_frames e (b ++ piece))
+prefix_later {e} b piece n fs same going q =
     let p : IsPrefix fs (known_frames e (b ++ take n piece)) = subst (λ (x : Bool). IsPrefix fs (known_frames x (b ++ take n piece))) same q in
     let none : e ≡ true → length (drop n piece) ≡ 0 = λ h. omega (arith, going h, length-drop n piece) in
     let whole : (b ++ take n piece) ++ drop n piece ≡ b ++ piece = append_assoc b (take n piece) (drop n piece) ∙ ap (λ (l : List ℕ). b ++ l) (take-append-drop n piece) in
@@ -61,9 +61,9 @@ continues_same v v1 v2 n k ended same =
     }
 
 -- a block was accepted
-pub continues_block : (v v1 v2 : FramerValue) (n m : ℕ) (xs : List ℕ) → length xs ≡ m → Continues v v1 n → v2 ≡ with_bytes v1 xs → v2.taken ≤ v2.limit
+pub continues_block : {v v1 v2 : FramerValue} {n m : ℕ} (xs : List ℕ) → length xs ≡ m → Continues v v1 n → v2 ≡ with_bytes v1 xs → v2.taken ≤ v2.limit
     → ((b : List ℕ) (fs : List Framed) → HasExamined v1 b fs → HasExamined v2 (b ++ xs) fs) → Continues v v2 (n + m)
-continues_block v v1 v2 n m xs size k push within counts =
+continues_block {v} {v1} {v2} {n} xs size k push within counts =
     let taken : v2.taken ≡ v1.taken + length xs = ap (λ (w : FramerValue). w.taken) push in
     let limit : v2.limit ≡ v1.limit = ap (λ (w : FramerValue). w.limit) push in
     let least : v.taken ≤ v1.taken = k.least in
@@ -94,15 +94,15 @@ module _ {S O : Type 0} (took : Coming S O) where
       (fs, prefix_self fs, subst (λ (l : List ℕ). HasPassed took v s0 o0 ps s o l fs) (sym (append-nil b)) x.passed)
 
   -- their frames were passed on
-  pub part_drained : (v v' v2 : FramerValue) (s s' s2 : S) (o o' o2 : O) (next : List ℕ) → PassesPart v s o v' s' o' next → PassesKnown took v' s' o' v2 s2 o2
+  pub part_drained : {v v' v2 : FramerValue} {s s' s2 : S} {o o' o2 : O} (next : List ℕ) → PassesPart v s o v' s' o' next → PassesKnown took v' s' o' v2 s2 o2
       → Passes took v s o v2 s2 o2 next
-  part_drained v v' v2 s s' s2 o o' o2 next p k s0 o0 ps b x = let q = p s0 o0 ps b x in k s0 o0 ps (b ++ next) q.0 q.2
+  part_drained next p k s0 o0 ps b x = let q = p s0 o0 ps b x in k s0 o0 ps (b ++ next) q.0 q.2
 
   -- a block after the first n bytes of a piece was accepted
-  pub part_pushed : (v v1 v2 : FramerValue) (s s1 : S) (o o1 : O) (piece : List ℕ) (n m : ℕ) → (v.has_ended ≡ true → length piece ≡ 0) → v1.has_ended ≡ v.has_ended
+  pub part_pushed : {v v1 v2 : FramerValue} {s s1 : S} {o o1 : O} (piece : List ℕ) (n m : ℕ) → (v.has_ended ≡ true → length piece ≡ 0) → v1.has_ended ≡ v.has_ended
       → Passes took v s o v1 s1 o1 (take n piece) → ((b : List ℕ) (fs : List Framed) → HasExamined v1 b fs → HasExamined v2 (b ++ slice_range piece n (n + m)) fs)
       → PassesPart v s o v2 s1 o1 (take (n + m) piece)
-  part_pushed v v1 v2 s s1 o o1 piece n m going same p counts s0 o0 ps b x =
+  part_pushed {v} {v1} {v2} piece n m going same p counts s0 o0 ps b x =
       let e : Bool = v.has_ended in
       let k = p s0 o0 ps b x in
       let fs : List Framed = known_frames v1.has_ended (b ++ take n piece) in
@@ -111,9 +111,9 @@ module _ {S O : Type 0} (took : Coming S O) where
       (fs, first, record { framer = subst (λ (l : List ℕ). HasExamined v2 l fs) (take_block b piece n m) (counts (b ++ take n piece) fs k.passed.framer); taken = k.passed.taken })
 
   -- the sink failed at a frame of the first n bytes of a piece
-  pub part_breaks : (broke : Breaking S O) (v v1 : FramerValue) (s s1 s2 : S) (o o1 o2 : O) (piece : List ℕ) (n : ℕ) → (v.has_ended ≡ true → length piece ≡ 0)
+  pub part_breaks : {v v1 : FramerValue} {s s1 s2 : S} {o o1 o2 : O} (broke : Breaking S O) (piece : List ℕ) (n : ℕ) → (v.has_ended ≡ true → length piece ≡ 0)
       → v1.has_ended ≡ v.has_ended → PassesPart v s o v1 s1 o1 (take n piece) → BreaksKnown took broke v1.has_ended v1 s1 o1 s2 o2 → Breaks took broke v s o s2 o2 piece
-  part_breaks broke v v1 s s1 s2 o o1 o2 piece n going same p q s0 o0 ps b x =
+  part_breaks {v} broke piece n going same p q s0 o0 ps b x =
       let e : Bool = v.has_ended in
       let y = p s0 o0 ps b x in
       let k = q s0 o0 ps (b ++ take n piece) y.0 y.2 in
@@ -121,47 +121,47 @@ module _ {S O : Type 0} (took : Coming S O) where
         taken = k.taken;
         reached = k.reached;
         first = prefix_trans (known_frames e b) y.0 k.taken y.1 k.first;
-        known = prefix_later e v1.has_ended b piece n k.reached same going k.known;
+        known = prefix_later b piece n k.reached same going k.known;
         broken = k.broken;
       }
 
   -- the output was flushed
-  pub passes_sent : (v v' : FramerValue) (s s' : S) (o o1 o2 : O) (next : List ℕ) → ((s0 : S) (o0 : O) (ps fs : List Framed) → took s0 o0 ps s' o1 fs → took s0 o0 ps s' o2 fs)
+  pub passes_sent : {v v' : FramerValue} {s s' : S} {o o1 o2 : O} (next : List ℕ) → ((s0 : S) (o0 : O) (ps fs : List Framed) → took s0 o0 ps s' o1 fs → took s0 o0 ps s' o2 fs)
       → Passes took v s o v' s' o1 next → Passes took v s o v' s' o2 next
-  passes_sent v v' s s' o o1 o2 next send p s0 o0 ps b x =
+  passes_sent {v'} next send p s0 o0 ps b x =
       let d = p s0 o0 ps b x in
       record { passed = record { framer = d.passed.framer; taken = send s0 o0 ps (known_frames v'.has_ended (b ++ next)) d.passed.taken }; drained = d.drained; counted = d.counted }
 
-  pub limit_sent : (v v' : FramerValue) (s s' : S) (o o1 o2 : O) (piece : List ℕ) (n : ℕ) → ((s0 : S) (o0 : O) (ps fs : List Framed) → took s0 o0 ps s' o1 fs → took s0 o0 ps s' o2 fs)
+  pub limit_sent : {v v' : FramerValue} {s s' : S} {o o1 o2 : O} {piece : List ℕ} {n : ℕ} → ((s0 : S) (o0 : O) (ps fs : List Framed) → took s0 o0 ps s' o1 fs → took s0 o0 ps s' o2 fs)
       → TakesPiece took v s o v' s' o1 piece n → n < length piece → PassesToLimit took v s o v' s' o2 piece
-  limit_sent v v' s s' o o1 o2 piece n send t l =
+  limit_sent {v} {v'} {s} {s'} {o} {o2} {piece} {n} send t l =
       let full : v'.taken ≡ v.limit = t.full l in
       let size : n ≡ v.limit - v.taken = omega (arith, full, t.taken) in
       record {
-        passes = subst (λ (m : ℕ). Passes took v s o v' s' o2 (take m piece)) size (passes_sent v v' s s' o o1 o2 (take n piece) send t.passes);
+        passes = subst (λ (m : ℕ). Passes took v s o v' s' o2 (take m piece)) size (passes_sent (take n piece) send t.passes);
         full = full;
         over = omega (arith, full, t.taken, l);
       }
 
   -- the sink failed at the flush after the first n bytes of a piece
-  pub breaks_sent : (broke : Breaking S O) (v v' : FramerValue) (s s' : S) (o o1 o2 : O) (piece : List ℕ) (n : ℕ) → (v.has_ended ≡ true → length piece ≡ 0) → v'.has_ended ≡ v.has_ended
+  pub breaks_sent : {v v' : FramerValue} {s s' : S} {o o1 o2 : O} (broke : Breaking S O) (piece : List ℕ) (n : ℕ) → (v.has_ended ≡ true → length piece ≡ 0) → v'.has_ended ≡ v.has_ended
       → Passes took v s o v' s' o1 (take n piece) → ((s0 : S) (o0 : O) (ps fs : List Framed) → took s0 o0 ps s' o1 fs → broke s0 o0 ps s' o2 fs fs) → Breaks took broke v s o s' o2 piece
-  breaks_sent broke v v' s s' o o1 o2 piece n going same p send s0 o0 ps b x =
+  breaks_sent {v} {v'} broke piece n going same p send s0 o0 ps b x =
       let e : Bool = v.has_ended in
       let fs : List Framed = known_frames v'.has_ended (b ++ take n piece) in
       record {
         taken = fs;
         reached = fs;
         first = subst (λ (h : Bool). IsPrefix (known_frames e b) (known_frames h (b ++ take n piece))) (sym same) (known_later e b (take n piece) (λ h. omega (arith, going h, length-take n piece)));
-        known = prefix_later e v'.has_ended b piece n fs same going (prefix_self fs);
+        known = prefix_later b piece n fs same going (prefix_self fs);
         broken = send s0 o0 ps fs (p s0 o0 ps b x).passed.taken;
       }
 
   -- no more are decided
-  pub passes_known : (v v' v2 : FramerValue) (s s' : S) (o o' : O) → PassesSome v s o v' s' o'
+  pub passes_known : {v v' v2 : FramerValue} {s s' : S} {o o' : O} → PassesSome v s o v' s' o'
       → ((b : List ℕ) (fs : List Framed) → HasFramed v' b fs → HasFramed v2 b fs × IsDrained v2 b fs) → CountsKnown v' v2
       → PassesKnown took v s o v2 s' o'
-  passes_known v v' v2 s s' o o' p none counts s0 o0 ps b fs x =
+  passes_known {v2} {s'} {o'} p none counts s0 o0 ps b fs x =
       let k = p s0 o0 ps b fs x in
       let d : IsDrained v2 b k.0 = (none b k.0 k.2.framer.history).1 in
       let e : HasExamined v2 b k.0 × _ = counts b k.0 k.2.framer in
@@ -172,10 +172,10 @@ module _ {S O : Type 0} (took : Coming S O) where
       }
 
   -- the sink failed at the next frame
-  pub breaks_at : (broke : Breaking S O) (v v' v2 : FramerValue) (s s' s2 : S) (o o' o2 : O) (f : Framed) → PassesSome v s o v' s' o' → v2.has_ended ≡ v.has_ended
+  pub breaks_at : {v v' v2 : FramerValue} {s s' s2 : S} {o o' o2 : O} (broke : Breaking S O) (f : Framed) → PassesSome v s o v' s' o' → v2.has_ended ≡ v.has_ended
       → CountsFrame v' v2 f → ((s0 : S) (o0 : O) (ps fs : List Framed) → took s0 o0 ps s' o' fs → broke s0 o0 ps s2 o2 fs (fs ++ f ∷ []))
       → BreaksKnown took broke v.has_ended v s o s2 o2
-  breaks_at broke v v' v2 s s' s2 o o' o2 f p same counts broken s0 o0 ps b fs x =
+  breaks_at broke f p same counts broken s0 o0 ps b fs x =
       let k = p s0 o0 ps b fs x in
       record {
         taken = k.0;

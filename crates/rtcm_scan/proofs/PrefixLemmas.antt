@@ -32,13 +32,13 @@ scan_on (suc d) b from k h = ⊎_elim
     (λ (g : length b ≤ from). let r : ScannedOn b from = record { to = from; frames = []; scanned = scanned_none false b from; within = h; stops = λ l. absurd (omega arith) } in r)
     (cases_lt from (length b))
 
-passed_join : (e : Bool) (b : List ℕ) (from mid to : ℕ) → AllPassed e b from mid → AllPassed e b mid to → AllPassed e b from to
-passed_join e b from mid to p r = λ q i j. ⊎_elim (λ (l : q < mid). p q i l) (λ (l : mid ≤ q). r q l j) (cases_lt q mid)
+passed_join : (b : List ℕ) (from mid to : ℕ) → AllPassed false b from mid → AllPassed false b mid to → AllPassed false b from to
+passed_join b from mid to p r = λ q i j. ⊎_elim (λ (l : q < mid). p q i l) (λ (l : mid ≤ q). r q l j) (cases_lt q mid)
 
-scanned_join : (e : Bool) (b : List ℕ) (from mid to : ℕ) (fs gs : List Framed) → Scanned e b from mid fs → Scanned e b mid to gs → Scanned e b from to (fs ++ gs)
-scanned_join e b from mid to [] [] s r = (omega (arith, s.0, r.0), passed_join e b from mid to s.1 r.1)
-scanned_join e b from mid to [] (g ∷ gs) s r = (omega (arith, s.0, r.0), passed_join e b from mid g.offset s.1 r.1, r.2, r.3)
-scanned_join e b from mid to (f ∷ fs) gs s r = (s.0, s.1, s.2, scanned_join e b (frame_end f) mid to fs gs s.3 r)
+scanned_join : (b : List ℕ) (from mid to : ℕ) (fs gs : List Framed) → Scanned false b from mid fs → Scanned false b mid to gs → Scanned false b from to (fs ++ gs)
+scanned_join b from mid to [] [] s r = (omega (arith, s.0, r.0), passed_join b from mid to s.1 r.1)
+scanned_join b from mid to [] (g ∷ gs) s r = (omega (arith, s.0, r.0), passed_join b from mid g.offset s.1 r.1, r.2, r.3)
+scanned_join b from mid to (f ∷ fs) gs s r = (s.0, s.1, s.2, scanned_join b (frame_end f) mid to fs gs s.3 r)
 
 -- the decided frames of b are a prefix of the frames of each longer stream, decided or not
 pub stays_decided : (b t : List ℕ) → ((rest : List Framed) × (decided_frames (b ++ t) ≡ decided_frames b ++ rest)) × ((rest : List Framed) × (frames_of (b ++ t) ≡ decided_frames b ++ rest)) × (decided b ≤ decided (b ++ t))
@@ -51,7 +51,7 @@ stays_decided b t =
     let w : r.to ≤ length b = r.within in
     let s' : Scanned false (b ++ t) 0 r.to r.frames = scanned_longer b t 0 r.to r.frames r.within s in
     let u = scan_on (length (b ++ t)) (b ++ t) r.to (omega arith) (omega arith) in
-    let j : Scanned false (b ++ t) 0 u.to (r.frames ++ u.frames) = scanned_join false (b ++ t) 0 r.to u.to r.frames u.frames s' u.scanned in
+    let j : Scanned false (b ++ t) 0 u.to (r.frames ++ u.frames) = scanned_join (b ++ t) 0 r.to u.to r.frames u.frames s' u.scanned in
     let d' : decided (b ++ t) ≡ u.to = decided_is (b ++ t) u.to (r.frames ++ u.frames) u.within j u.stops in
     let e' : decided_frames (b ++ t) ≡ r.frames ++ u.frames = decided_frames_are (b ++ t) u.to (r.frames ++ u.frames) u.within j u.stops in
     let m : r.to ≤ u.to = scanned_le false (b ++ t) r.to u.to u.frames u.scanned in (
@@ -64,7 +64,7 @@ stays_decided b t =
 scanned_first : (b : List ℕ) (to : ℕ) (fs : List Framed) → to ≤ length b → Scanned false b 0 to fs → IsPrefix fs (decided_frames b)
 scanned_first b to fs h s =
     let u = scan_on (length b) b to (omega arith) h in
-    let j : Scanned false b 0 u.to (fs ++ u.frames) = scanned_join false b 0 to u.to fs u.frames s u.scanned in
+    let j : Scanned false b 0 u.to (fs ++ u.frames) = scanned_join b 0 to u.to fs u.frames s u.scanned in
     (u.frames, decided_frames_are b u.to (fs ++ u.frames) u.within j u.stops)
 
 -- the scanned frames are a prefix of the known frames

@@ -25,23 +25,23 @@ with_more v x xs =
 -- a property that each pushed byte keeps is kept by all of them
 push_each : (P : FramerValue → List ℕ → Type 0) → ((v : FramerValue) (b : List ℕ) → P v b → P (record v { is_ready = false }) b)
     → ((v : FramerValue) (b : List ℕ) (x : ℕ) → v.has_ended ≡ false → v.taken < v.limit → P v b → P (with_byte v x) (b ++ x ∷ []))
-    → (v : FramerValue) (b xs : List ℕ) → v.has_ended ≡ false → v.taken + length xs ≤ v.limit → P v b → P (with_bytes v xs) (b ++ xs)
-push_each P none one v b [] n l h = rw (with_none v, append-nil b) (none v b h)
-push_each P none one v b (x ∷ xs) n l h =
+    → (xs : List ℕ) {v : FramerValue} {b : List ℕ} → v.has_ended ≡ false → v.taken + length xs ≤ v.limit → P v b → P (with_bytes v xs) (b ++ xs)
+push_each P none one [] {v} {b} n l h = rw (with_none v, append-nil b) (none v b h)
+push_each P none one (x ∷ xs) {v} {b} n l h =
     let a : b ++ x ∷ [] ++ xs ≡ b ++ (x ∷ xs) = append_assoc b (x ∷ []) xs in
-    rw (← with_more v x xs, ← a) (push_each P none one (with_byte v x) (b ++ x ∷ []) xs n (omega (arith, l)) (one v b x n (omega (arith, l)) h))
+    rw (← with_more v x xs, ← a) (push_each P none one xs n (omega (arith, l)) (one v b x n (omega (arith, l)) h))
 
 pub stands_push_all : (v : FramerValue) (b xs : List ℕ) (fs : List Framed) → v.has_ended ≡ false → v.taken + length xs ≤ v.limit → HasFramed v b fs → HasFramed (with_bytes v xs) (b ++ xs) fs
-stands_push_all v b xs fs = push_each (λ v b. HasFramed v b fs) (λ v b s. stands_ready v b fs false s) (λ v b x n l s. stands_push v b fs x n s) v b xs
+stands_push_all v b xs fs = push_each (λ v b. HasFramed v b fs) (λ v b s. stands_ready v b fs false s) (λ v b x n l s. stands_push v b fs x n s) xs
 
 pub step_push_all : (v : FramerValue) (b xs : List ℕ) (fs : List Framed) → v.has_ended ≡ false → v.taken + length xs ≤ v.limit → HasExamined v b fs → HasExamined (with_bytes v xs) (b ++ xs) fs
 step_push_all v b xs fs = push_each (λ v b. HasExamined v b fs)
     (λ v b h. record { history = stands_ready v b fs false h.history; limit = h.limit; within = h.within; each = h.each; tried = h.tried; counts = h.counts })
-    (λ v b x n l h. step_push v b fs x n l h) v b xs
+    (λ v b x n l h. step_push v b fs x n l h) xs
 
 -- the framer's view after it
-pub view_pushed_all : (v : FramerValue) (limit place skipped tried : ℕ) (w w' : WindowValue) (ended ready : Bool) (xs : List ℕ) → scan_of limit place w ended ready skipped tried ≡ v → w' ≡ pushed_all w xs
+pub view_pushed_all : {v : FramerValue} {limit skipped tried : ℕ} {w w' : WindowValue} {ended ready : Bool} (place : ℕ) (xs : List ℕ) → scan_of limit place w ended ready skipped tried ≡ v → w' ≡ pushed_all w xs
     → scan_of limit place w' ended false skipped tried ≡ with_bytes v xs
-view_pushed_all v limit place skipped tried w w' ended ready xs e f =
+view_pushed_all {limit} {skipped} {tried} {w} {ended} place xs e f =
     let t : place + length (w.bytes ++ xs) ≡ place + length w.bytes + length xs = omega (arith, length-append w.bytes xs) in
     rw (f, ← e) (ap (λ n. let r : FramerValue = record (scan_of limit place (pushed_all w xs) ended false skipped tried) { taken = n } in r) t)

@@ -4,10 +4,10 @@ use Rattle.rtcm_scan.proofs.PassingLemmas.{prefix_self, passes_sent}
 use Rattle.rtcm_scan.proofs.PrefixLemmas.{decided_near}
 
 -- at each fault, one proposition implies another
-pub at_each : {F : Type 0} (f : StreamFault F) (P Q R P' Q' R' : Type 0) → (P → P') → (Q → Q') → (R → R') → AtFault f P Q R → AtFault f P' Q' R'
-at_each Read P Q R P' Q' R' p q r a = p a
-at_each TooLong P Q R P' Q' R' p q r a = q a
-at_each (Sink x) P Q R P' Q' R' p q r a = r a
+pub at_each : {F P Q R P' Q' R' : Type 0} (f : StreamFault F) → (P → P') → (Q → Q') → (R → R') → AtFault f P Q R → AtFault f P' Q' R'
+at_each Read p q r a = p a
+at_each TooLong p q r a = q a
+at_each (Sink x) p q r a = r a
 
 -- a fault that is not that of the reader
 pub not_read : {F : Type 0} (f : StreamFault F) (L B P Q : Type 0) → AtFault f ⊥ L B → Q → AtFault f P Q Q
@@ -16,8 +16,8 @@ not_read TooLong L B P Q a q = q
 not_read (Sink x) L B P Q a q = q
 
 -- one piece after others
-pub reading_more : {S : Type 0} (can : S → Type 0) (s s' : S) (v v' v2 : FramerValue) (n m k l : ℕ) → IsReadingOn can s v v' n m → can s' → Continues v' v2 l → k ≡ m → IsReadingOn can s' v v2 n k
-reading_more can s s' v v' v2 n m k l i c j e = record { can = c; limit = j.limit ∙ i.limit; ended = j.ended ∙ i.ended; some = λ h. j.some (i.some h); size = e ∙ i.size }
+pub reading_more : {S : Type 0} {can : S → Type 0} {s s' : S} {v v' v2 : FramerValue} {n m k l : ℕ} → IsReadingOn can s v v' n m → can s' → Continues v' v2 l → k ≡ m → IsReadingOn can s' v v2 n k
+reading_more i c j e = record { can = c; limit = j.limit ∙ i.limit; ended = j.ended ∙ i.ended; some = λ h. j.some (i.some h); size = e ∙ i.size }
 
 take_over : (front piece : List ℕ) (k n : ℕ) → n ≡ length front + k → take n (front ++ piece) ≡ front ++ take k piece
 take_over [] piece k n e = let z : n ≡ k = omega (arith, e) in ap (λ (m : ℕ). take m piece) z
@@ -28,19 +28,25 @@ take_over (x ∷ front) piece k n e =
 limit_after : (limit taken w : ℕ) (front piece : List ℕ) → w ≡ taken + length front → w ≤ limit → front ++ take (limit - w) piece ≡ take (limit - taken) (front ++ piece)
 limit_after limit taken w front piece e le = sym (take_over front piece (limit - w) (limit - taken) (omega (arith, e, le)))
 
--- what a read of at most `room` bytes to the front of a buffer of `size` bytes gives
-pub read_room : {E : Type 0} (res : Result ℕ E) (v : FramerValue) (r r' : Option (List ℕ)) (size room : ℕ) (buf rest : List ℕ) → ReadConsumes r r' res buf → ReadsAtMost res buf
-    → length buf ≡ room → 0 < room → length v.held + room ≤ max size (length v.held + 1) → MatchResult res (HasReadPiece v r r' size (buf ++ rest)) (λ _. Keeps r r')
-read_room (Ok n) v r r' size room buf rest read most len some near =
-    let few : n ≤ length buf = omega (arith, most) in
+-- a read to `buf`, the front of a buffer of `size` bytes: it has room, and fits beside the held bytes if there is room for one
+pub record IsRead {E : Type 0} (res : Result ℕ E) (v : FramerValue) (r r' : Option (List ℕ)) (size : ℕ) (buf : List ℕ) : Type 0 where
+  pub bytes : ReadConsumes r r' res buf
+  pub bound : ReadsAtMost res buf
+  pub some : 0 < length buf
+  pub near : length v.held + length buf ≤ max size (length v.held + 1)
+
+pub read_room : {E : Type 0} {v : FramerValue} {r r' : Option (List ℕ)} {size : ℕ} {buf : List ℕ} (res : Result ℕ E) (rest : List ℕ) → IsRead res v r r' size buf
+    → MatchResult res (HasReadPiece v r r' size (buf ++ rest)) (λ _. Keeps r r')
+read_room {r} {r'} {buf} (Ok n) rest read =
+    let few : n ≤ length buf = omega (arith, read.bound) in
     let all : length (buf ++ rest) ≡ length buf + length rest = length-append buf rest in
     record {
-      consumes = subst (λ (l : List ℕ). Consumes r r' l) (sym (take-append-le n buf rest few)) read.0;
-      at_end = λ z. read.1 z (omega (arith, len, some));
+      consumes = subst (λ (l : List ℕ). Consumes r r' l) (sym (take-append-le n buf rest few)) read.bytes.0;
+      at_end = λ z. read.bytes.1 z (omega (arith, read.some));
       within = omega (arith, few, all);
-      near = omega (arith, few, len, near);
+      near = omega (arith, few, read.near);
     }
-read_room (Err e) v r r' size room buf rest read most len some near = read
+read_room (Err e) rest read = read.bytes
 
 -- a piece that fits into the buffer beside the held bytes
 near_held : (v : FramerValue) (b : List ℕ) (n most : ℕ) → v.has_ended ≡ false → IsDrained v b (known_frames v.has_ended b) → length v.held + n ≤ max most (length v.held + 1)
@@ -53,71 +59,66 @@ near_held v b n most going d fits =
 module _ {S O : Type 0} (took : Coming S O) (broke : Breaking S O) where
   -- no byte was read, and the output was flushed
   pub reads_none : (v : FramerValue) (s : S) (o o' : O) (r : Option (List ℕ)) → ((s0 : S) (o0 : O) (ps fs : List Framed) → took s0 o0 ps s o fs → took s0 o0 ps s o' fs) → ReadsOn took v s o v s o' r r
-  reads_none v s o o' r send = ([], Consumes-nil r, (passes_sent took v v s s o o o' [] send (λ s0 o0 ps b x. subst (λ (l : List ℕ). HasPassedAll took v s0 o0 ps s o l) (sym (append-nil b)) x), sym (add-zero v.taken)))
+  reads_none v s o o' r send = ([], Consumes-nil r, (passes_sent took [] send (λ s0 o0 ps b x. subst (λ (l : List ℕ). HasPassedAll took v s0 o0 ps s o l) (sym (append-nil b)) x), sym (add-zero v.taken)))
 
   -- one piece after others
-  pub passes_more : (v v' v2 : FramerValue) (s s' s2 : S) (o o' o2 : O) (front piece : List ℕ) → Passes took v s o v' s' o' front → Passes took v' s' o' v2 s2 o2 piece → Passes took v s o v2 s2 o2 (front ++ piece)
-  passes_more v v' v2 s s' s2 o o' o2 front piece p q s0 o0 ps b x =
+  pub passes_more : {v v' v2 : FramerValue} {s s' s2 : S} {o o' o2 : O} (front piece : List ℕ) → Passes took v s o v' s' o' front → Passes took v' s' o' v2 s2 o2 piece → Passes took v s o v2 s2 o2 (front ++ piece)
+  passes_more {v2} {s2} {o2} front piece p q s0 o0 ps b x =
       subst (λ (l : List ℕ). HasPassedAll took v2 s0 o0 ps s2 o2 l) (append_assoc b front piece) (q s0 o0 ps (b ++ front) (p s0 o0 ps b x))
 
-  pub reads_more : (v v' v2 : FramerValue) (s s' s2 : S) (o o' o2 : O) (r r' r2 : Option (List ℕ)) → ReadsOn took v s o v' s' o' r r' → ReadsOn took v' s' o' v2 s2 o2 r' r2 → ReadsOn took v s o v2 s2 o2 r r2
-  reads_more v v' v2 s s' s2 o o' o2 r r' r2 p q =
+  pub reads_more : {v v' v2 : FramerValue} {s s' s2 : S} {o o' o2 : O} (r r' r2 : Option (List ℕ)) → ReadsOn took v s o v' s' o' r r' → ReadsOn took v' s' o' v2 s2 o2 r' r2 → ReadsOn took v s o v2 s2 o2 r r2
+  reads_more {v} {v'} {v2} r r' r2 p q =
       let l : length (p.0 ++ q.0) ≡ length p.0 + length q.0 = length-append p.0 q.0 in
       let a : v'.taken ≡ v.taken + length p.0 = p.2.1 in
       let t : v2.taken ≡ v'.taken + length q.0 = q.2.1 in
-      (p.0 ++ q.0, Consumes-trans r r' r2 p.0 q.0 p.1 q.1, (passes_more v v' v2 s s' s2 o o' o2 p.0 q.0 p.2.0 q.2.0, omega (arith, l, a, t)))
+      (p.0 ++ q.0, Consumes-trans r r' r2 p.0 q.0 p.1 q.1, (passes_more p.0 q.0 p.2.0 q.2.0, omega (arith, l, a, t)))
 
   -- a piece that goes over the limit, after others
-  limit_more : (v v' v2 : FramerValue) (s s' s2 : S) (o o' o2 : O) (r r' r2 : Option (List ℕ)) → v'.limit ≡ v.limit → v'.taken ≤ v.limit
-      → ReadsOn took v s o v' s' o' r r' → (piece : List ℕ) → Consumes r' r2 piece → PassesToLimit took v' s' o' v2 s2 o2 piece → Reads r r2 (PassesToLimit took v s o v2 s2 o2)
-  limit_more v v' v2 s s' s2 o o' o2 r r' r2 same within p piece read q =
+  pub limit_more : {can : S → Type 0} {v v' v2 : FramerValue} {s s' s2 : S} {o o' o2 : O} {r' r2 : Option (List ℕ)} {most size n : ℕ} {buffer : List ℕ} (r : Option (List ℕ))
+      → IsReadingOn can s' v v' most size → ReadsOn took v s o v' s' o' r r' → HasReadPiece v' r' r2 size buffer n → Continues v' v2 (length (take n buffer))
+      → PassesToLimit took v' s' o' v2 s2 o2 (take n buffer) → Reads r r2 (PassesToLimit took v s o v2 s2 o2)
+  limit_more {v} {v'} {v2} {s} {s2} {o} {o2} {r'} {r2} {n} {buffer} r on p read goes q =
       let front : List ℕ = p.0 in
+      let piece : List ℕ = take n buffer in
       let a : v'.taken ≡ v.taken + length front = p.2.1 in
       let l : length (front ++ piece) ≡ length front + length piece = length-append front piece in
       let over : v'.limit < v'.taken + length piece = q.over in
-      let cut : front ++ take (v'.limit - v'.taken) piece ≡ take (v.limit - v.taken) (front ++ piece) = ap (λ (n : ℕ). front ++ take (n - v'.taken) piece) same ∙ limit_after v.limit v.taken v'.taken front piece a within in (
+      let within : v'.taken ≤ v.limit = omega (arith, goes.least, goes.within, on.limit) in
+      let cut : front ++ take (v'.limit - v'.taken) piece ≡ take (v.limit - v.taken) (front ++ piece) = ap (λ (m : ℕ). front ++ take (m - v'.taken) piece) on.limit ∙ limit_after v.limit v.taken v'.taken front piece a within in (
         front ++ piece,
-        Consumes-trans r r' r2 front piece p.1 read,
+        Consumes-trans r r' r2 front piece p.1 read.consumes,
         record {
-          passes = subst (λ (l : List ℕ). Passes took v s o v2 s2 o2 l) cut (passes_more v v' v2 s s' s2 o o' o2 front (take (v'.limit - v'.taken) piece) p.2.0 q.passes);
-          full = q.full ∙ same;
-          over = omega (arith, l, a, over, same);
+          passes = subst (λ (l : List ℕ). Passes took v s o v2 s2 o2 l) cut (passes_more front (take (v'.limit - v'.taken) piece) p.2.0 q.passes);
+          full = q.full ∙ on.limit;
+          over = omega (arith, l, a, over, on.limit);
         },
       )
 
   -- the sink failed at a piece after others
-  breaks_more : (v v' v2 : FramerValue) (s s' s2 : S) (o o' o2 : O) (r r' r2 : Option (List ℕ)) (most : ℕ) → v'.has_ended ≡ false → v.has_ended ≡ false
-      → ReadsOn took v s o v' s' o' r r' → (piece : List ℕ) → Consumes r' r2 piece → Continues v' v2 (length piece) → length piece ≤ most → length v'.held + length piece ≤ max most (length v'.held + 1)
-      → Breaks took broke v' s' o' s2 o2 piece → BreaksAfter took broke v s o v2 s2 o2 most r r2
-  breaks_more v v' v2 s s' s2 o o' o2 r r' r2 most after before p piece read goes few fits q =
+  pub breaks_more : {can : S → Type 0} {v v' v2 : FramerValue} {s s' s2 : S} {o o' o2 : O} {r r' r2 : Option (List ℕ)} {most size n : ℕ} {buffer : List ℕ} → (v.has_ended ≡ false) × (length buffer ≡ size)
+      → IsReadingOn can s' v v' most size → ReadsOn took v s o v' s' o' r r' → HasReadPiece v' r' r2 size buffer n → Continues v' v2 (length (take n buffer))
+      → Breaks took broke v' s' o' s2 o2 (take n buffer) → BreaksAfter took broke v s o v2 s2 o2 most r r2
+  breaks_more {v} {v'} {s2} {o2} {r} {r'} {r2} {most} {n} {buffer} (going, len) on p read goes q =
+      let piece : List ℕ = take n buffer in
+      let l : length (take n buffer) ≡ n = length-take-le n buffer read.within in
       let taken : v'.taken ≡ v.taken + length p.0 = p.2.1 in
+      let fits : length v'.held + length (take n buffer) ≤ max most (length v'.held + 1) = omega (arith, l, read.near, on.size) in
       record {
         front = p.0;
         piece = piece;
-        consumes = Consumes-trans r r' r2 p.0 piece p.1 read;
+        consumes = Consumes-trans r r' r2 p.0 piece p.1 read.consumes;
         breaks = λ s0 o0 ps b x. (subst (λ (l : List ℕ). HasBroken broke v.has_ended s0 o0 ps s2 o2 (known_frames v.has_ended (b ++ p.0)) l) (append_assoc b p.0 piece)
-            (subst (λ (e : Bool). HasBroken broke e s0 o0 ps s2 o2 (known_frames e (b ++ p.0)) ((b ++ p.0) ++ piece)) (after ∙ sym before) (q s0 o0 ps (b ++ p.0) (p.2.0 s0 o0 ps b x))));
-        near = λ s0 o0 ps b x. near_held v' (b ++ p.0) (length piece) most after (p.2.0 s0 o0 ps b x).drained fits;
-        few = few;
+            (subst (λ (e : Bool). HasBroken broke e s0 o0 ps s2 o2 (known_frames e (b ++ p.0)) ((b ++ p.0) ++ piece)) on.ended (q s0 o0 ps (b ++ p.0) (p.2.0 s0 o0 ps b x))));
+        near = λ s0 o0 ps b x. near_held v' (b ++ p.0) (length piece) most (on.ended ∙ going) (p.2.0 s0 o0 ps b x).drained fits;
+        few = omega (arith, l, read.within, len, on.size);
         least = omega (arith, taken, goes.least);
         greatest = omega (arith, taken, goes.most);
       }
 
-  -- a fault of `feed` at a piece after others
-  pub fault_after : {F : Type 0} (f : StreamFault F) (v v' v2 : FramerValue) (s s' s2 : S) (o o' o2 : O) (r r' r2 : Option (List ℕ)) (most size n : ℕ) (buffer : List ℕ) → v'.limit ≡ v.limit
-      → v'.has_ended ≡ v.has_ended → v.has_ended ≡ false → length buffer ≡ size → size ≡ most → ReadsOn took v s o v' s' o' r r' → HasReadPiece v' r' r2 size buffer n
-      → Continues v' v2 (length (take n buffer)) → AtFault f ⊥ (PassesToLimit took v' s' o' v2 s2 o2 (take n buffer)) (Breaks took broke v' s' o' s2 o2 (take n buffer))
-      → AtFault f (ReadsOn took v s o v2 s2 o2 r r2) (Reads r r2 (PassesToLimit took v s o v2 s2 o2)) (BreaksAfter took broke v s o v2 s2 o2 most r r2)
-  fault_after Read v v' v2 s s' s2 o o' o2 r r' r2 most size n buffer limit ended going len same came read goes a = absurd a
-  fault_after TooLong v v' v2 s s' s2 o o' o2 r r' r2 most size n buffer limit ended going len same came read goes a = limit_more v v' v2 s s' s2 o o' o2 r r' r2 limit (omega (arith, goes.least, goes.within, limit)) came (take n buffer) read.consumes a
-  fault_after (Sink x) v v' v2 s s' s2 o o' o2 r r' r2 most size n buffer limit ended going len same came read goes a =
-      let l : length (take n buffer) ≡ n = length-take-le n buffer read.within in
-      breaks_more v v' v2 s s' s2 o o' o2 r r' r2 most (ended ∙ going) going came (take n buffer) read.consumes goes (omega (arith, l, read.within, len, same)) (omega (arith, l, read.near, same)) a
-
   -- the sink failed before any byte was read
-  pub breaks_first : (v : FramerValue) (s : S) (o o' : O) (r : Option (List ℕ)) (most : ℕ) → ((s0 : S) (o0 : O) (ps fs : List Framed) → took s0 o0 ps s o fs → broke s0 o0 ps s o' fs fs)
+  pub breaks_first : {v : FramerValue} {r : Option (List ℕ)} {most : ℕ} (s : S) (o o' : O) → ((s0 : S) (o0 : O) (ps fs : List Framed) → took s0 o0 ps s o fs → broke s0 o0 ps s o' fs fs)
       → BreaksAfter took broke v s o v s o' most r r
-  breaks_first v s o o' r most send = record {
+  breaks_first {v} {r} s o o' send = record {
     front = [];
     piece = [];
     consumes = Consumes-nil r;
@@ -135,8 +136,8 @@ module _ {S O : Type 0} (took : Coming S O) (broke : Breaking S O) where
   }
 
   -- the same for a stream that was to be ended
-  pub breaks_reading : (v v' : FramerValue) (s s' : S) (o o' : O) (r r' : Option (List ℕ)) (most : ℕ) → v.has_ended ≡ false → BreaksAfter took broke v s o v' s' o' most r r' → BreaksReading took broke v s o s' o' most r r'
-  breaks_reading v v' s s' o o' r r' most going q = record {
+  pub breaks_reading : {v v' : FramerValue} {s s' : S} {o o' : O} {r r' : Option (List ℕ)} {most : ℕ} → v.has_ended ≡ false → BreaksAfter took broke v s o v' s' o' most r r' → BreaksReading took broke v s o s' o' most r r'
+  breaks_reading {v} going q = record {
     front = q.front;
     piece = q.piece;
     ended = v.has_ended;
@@ -147,17 +148,17 @@ module _ {S O : Type 0} (took : Coming S O) (broke : Breaking S O) where
   }
 
   -- all was read, and the remaining frames were passed on
-  pub passes_end : (v v' v2 : FramerValue) (s s' s2 : S) (o o' o2 : O) (r r' : Option (List ℕ)) → IsAtEnd r'
+  pub passes_end : {v v' v2 : FramerValue} {s s' s2 : S} {o o' o2 : O} (r r' : Option (List ℕ)) → IsAtEnd r'
       → ReadsOn took v s o v' s' o' r r' → PassesKnown took v' s' o' v2 s2 o2 → PassesAll took v s o v2 s2 o2 r r'
-  passes_end v v' v2 s s' s2 o o' o2 r r' e p k = (
+  passes_end {v'} r r' e p k = (
     (p.0, p.1, λ s0 o0 ps b x. (let d = p.2.0 s0 o0 ps b x in k s0 o0 ps (b ++ p.0) (known_frames v'.has_ended (b ++ p.0)) d.passed)),
     e,
   )
 
   -- the sink failed at one of them
-  pub breaks_end : (v v' : FramerValue) (s s' s2 : S) (o o' o2 : O) (r r' : Option (List ℕ)) (most : ℕ) → v'.has_ended ≡ v.has_ended → IsAtEnd r'
+  pub breaks_end : {v v' : FramerValue} {s s' s2 : S} {o o' o2 : O} (r r' : Option (List ℕ)) (most : ℕ) → v'.has_ended ≡ v.has_ended → IsAtEnd r'
       → ReadsOn took v s o v' s' o' r r' → BreaksKnown took broke true v' s' o' s2 o2 → BreaksReading took broke v s o s2 o2 most r r'
-  breaks_end v v' s s' s2 o o' o2 r r' most same e p k = record {
+  breaks_end {v} {v'} {s2} {o2} r r' most same e p k = record {
     front = p.0;
     piece = [];
     ended = true;

@@ -44,9 +44,9 @@ none_from q p zero (x ∷ s) h =
     ]
 
 -- both counts over one frame
-over_frame : (before ahead inside after all bytes from offset size to : ℕ) → ahead ≡ before + (offset - from) → inside ≡ ahead → after + bytes ≡ inside + (to - (offset + size))
-    → all ≡ size + bytes → from ≤ offset → offset + size ≤ to → after + all ≡ before + (to - from)
-over_frame before ahead inside after all bytes from offset size to a b c d e f = omega arith
+over_frame : {inside from offset to : ℕ} (before after bytes size : ℕ) → inside ≡ before + (offset - from) → after + bytes ≡ inside + (to - (offset + size))
+    → from ≤ offset → offset + size ≤ to → after + (size + bytes) ≡ before + (to - from)
+over_frame before after bytes size a c e f = omega arith
 
 -- between two places, those in none of the frames there
 count_left : (e : Bool) (b : List ℕ) (from to : ℕ) (fs : List Framed) (t : ℕ → Bool) → Scanned e b from to fs → ((q : ℕ) → from ≤ q → q < to → t q ≡ not (list_any (is_within q) fs))
@@ -73,8 +73,8 @@ count_left e b from to (f ∷ fs) t s h =
     let r : count_by t (places to) + sum_by (λ f. length f.message + 6) fs ≡ count_by t (places (frame_end f)) + (to - frame_end f) = count_left e b (frame_end f) to fs t s.3 (λ q j k.
     let n : (leb f.offset q && ltb q (frame_end f)) ≡ false = and_right (leb f.offset q) _ (le-ltb q (frame_end f) j) in
     h q (omega arith) k ∙ rw n refl) in
-    over_frame (count_by t (places from)) (count_by t (places f.offset)) (count_by t (places (frame_end f))) (count_by t (places to)) _ (sum_by (λ f. length f.message + 6) fs)
-    from f.offset (length f.message + 6) to a' c r (sum_by-cons (λ f. length f.message + 6) f fs) i l
+    ap (λ n. count_by t (places to) + n) (sum_by-cons (λ f. length f.message + 6) f fs)
+    ∙ over_frame (count_by t (places from)) (count_by t (places to)) (sum_by (λ f. length f.message + 6) fs) (length f.message + 6) (c ∙ a') r i l
 
 pub given_up_is : (e : Bool) (b : List ℕ) (p : ℕ) (fs : List Framed) → p ≤ length b → Scanned e b 0 p fs → skipped_before p (frames_of b) + sum_by (λ f. length f.message + 6) fs ≡ p
 unfolding places

@@ -2,7 +2,7 @@
 use Rattle.rtcm_scan.proofs.Names.{ℕ, ◌≡◌, ◌+◌, ◌-◌, ◌*◌, ◌<◌, ◌≤◌, ◌^◌, min, max, Bool, true, false, not, cond, ◌&&◌, ltb, leb, List, [], ◌∷◌, ◌++◌, length, map, drop, set, get_or, refl, sym, ap, ◌∙◌, arith, suc, zero, ⊎_elim, subst, length-set, length-append, length-drop, filter, list_any, cases_lt, lt-ltb, le-ltb, get_or-set_same, map-append, filter-append, WindowValue, looked, looked_through, without_front, begins_frame, message_length, frame_length, has_preamble, framed_message, Framed, IsFrameOf, frame_end, places, is_inside, cost, FramerValue, HasFramed, first_held, IsPassed, Scanned, window_of, with_window, with_looks, asked, with_candidate_examined, Span, span, covers, looks_at, all_looks, tried_before, spans_at, CountsLooks, HasExamined}
 use Rattle.std.specs.List.{AllByRecursion as ByRecursion}
 use Rattle.rtcm_scan.proofs.LooksLemmas.{one_if, looks_push, all_push, counts_look, counts_push, none_cover, greatest_same}
-use Rattle.rtcm_scan.proofs.TriedLemmas.{counts_skip, counts_frame, looks_frame, all_frame, empty_covers}
+use Rattle.rtcm_scan.proofs.TriedLemmas.{sum_empty, counts_skip, counts_frame, looks_frame, all_frame, empty_covers}
 use Rattle.rtcm_scan.proofs.CostLemmas.{spans_longer, cost_within}
 use Rattle.rtcm_scan.proofs.BoundLemmas.{looks_bound, all_bound}
 use Rattle.rtcm_scan.proofs.CandidateLemmas.{wanted_bound}
@@ -62,18 +62,24 @@ pub looked_length : (w : WindowValue) (start m : ℕ) → length (looked_through
 looked_length w start zero = refl
 looked_length w start (suc m) = length-set (looked_through w start m).looks (start + m) _ ∙ looked_length w start m
 
--- one look, if no count is full
-counts_looked : (xs : List Span) (q k p n j : ℕ) (w : WindowValue) → q + k ≡ p + j → j < length w.looks → p + j < n → Fit (xs ++ span q (k + 1) ∷ [])
-    → Counted (xs ++ span q k ∷ []) p n w → Counted (xs ++ span q (k + 1) ∷ []) p n (looked w j)
-counts_looked xs q k p n j w e l h f c =
+-- the last span, of k bytes, can grow by m looks from `start` on: each at a byte of the stream that has a count, which is not full
+record CanGrow (xs : List Span) (q k p n start m : ℕ) (w : WindowValue) : Type 0 where
+  pub meets : q + k ≡ p + start
+  pub kept : start + m ≤ length w.looks
+  pub within : p + (start + m) ≤ n
+  pub fit : Fit (xs ++ span q (k + m) ∷ [])
+
+counts_looked : {q k p n j : ℕ} (xs : List Span) (w : WindowValue) → CanGrow xs q k p n j 1 w → Counted (xs ++ span q k ∷ []) p n w → Counted (xs ++ span q (k + 1) ∷ []) p n (looked w j)
+counts_looked {q} {k} {p} {n} {j} xs w g c =
+    let l : j < length w.looks = omega (arith, g.kept) in
     let d : CountsLooks (xs ++ span q (k + 1) ∷ []) p n (set w.looks j (get_or w.looks j 0 + 1)) (w.examined + 1) (max w.most (get_or w.looks j 0 + 1)) =
-    counts_look xs q k p n j w.looks w.examined w.most e l h c in
-    let g : get_or (set w.looks j (get_or w.looks j 0 + 1)) j 0 ≡ get_or w.looks j 0 + 1 = get_or-set_same w.looks j (get_or w.looks j 0 + 1) 0 l in
+    counts_look xs q k g.meets l (omega (arith, g.within)) c in
+    let s : get_or (set w.looks j (get_or w.looks j 0 + 1)) j 0 ≡ get_or w.looks j 0 + 1 = get_or-set_same w.looks j (get_or w.looks j 0 + 1) 0 l in
     let a : get_or (set w.looks j (get_or w.looks j 0 + 1)) j 0 ≡ looks_at (xs ++ span q (k + 1) ∷ []) (p + j) = d.each j (omega (arith, l, length-set w.looks j (get_or w.looks j 0 + 1))) in
-    let b : looks_at (xs ++ span q (k + 1) ∷ []) (p + j) ≤ 65535 = f.looks (p + j) in
-    let m : min (get_or w.looks j 0 + 1) 65535 ≡ get_or w.looks j 0 + 1 = fits _ _ _ g a b in
+    let b : looks_at (xs ++ span q (k + 1) ∷ []) (p + j) ≤ 65535 = g.fit.looks (p + j) in
+    let m : min (get_or w.looks j 0 + 1) 65535 ≡ get_or w.looks j 0 + 1 = fits _ _ _ s a b in
     let t : w.examined + 1 ≡ all_looks (xs ++ span q (k + 1) ∷ []) = d.total in
-    let u : all_looks (xs ++ span q (k + 1) ∷ []) ≤ 18446744073709551615 = f.all in
+    let u : all_looks (xs ++ span q (k + 1) ∷ []) ≤ 18446744073709551615 = g.fit.all in
     let z : min (w.examined + 1) 18446744073709551615 ≡ w.examined + 1 = fits_all _ _ t u in
     rw (m, z) d
   where
@@ -83,24 +89,25 @@ counts_looked xs q k p n j w e l h f c =
     fits_all : (x y : ℕ) → x ≡ y → y ≤ 18446744073709551615 → min x 18446744073709551615 ≡ x
     fits_all x y a b = omega arith
 
-counts_through : (xs : List Span) (q k p n start m : ℕ) (w : WindowValue) → q + k ≡ p + start → start + m ≤ length w.looks → p + (start + m) ≤ n → Fit (xs ++ span q (k + m) ∷ [])
+counts_through : {q k p n start : ℕ} (xs : List Span) (m : ℕ) (w : WindowValue) → CanGrow xs q k p n start m w
     → Counted (xs ++ span q k ∷ []) p n w → Counted (xs ++ span q (k + m) ∷ []) p n (looked_through w start m)
-counts_through xs q k p n start zero w e l h f c =
+counts_through {q} {k} {p} {n} xs zero w g c =
     let z : k ≡ k + 0 = omega arith in subst (λ (t : ℕ). Counted (xs ++ span q t ∷ []) p n w) z c
-counts_through xs q k p n start (suc m) w e l h f c =
+counts_through {q} {k} {p} {n} {start} xs (suc m) w g c =
     let z : k + m + 1 ≡ k + suc m = omega arith in
-    let g : Fit (xs ++ span q (k + m) ∷ []) = fit_less xs q (k + m) (k + suc m) (omega arith) f in
-    let g' : Fit (xs ++ span q (k + m + 1) ∷ []) = subst (λ (t : ℕ). Fit (xs ++ span q t ∷ [])) (sym z) f in
-    let r : Counted (xs ++ span q (k + m) ∷ []) p n (looked_through w start m) = counts_through xs q k p n start m w e (omega arith) (omega arith) g c in
+    let f : Fit (xs ++ span q (k + m) ∷ []) = fit_less xs q (k + m) (k + suc m) (omega arith) g.fit in
+    let f' : Fit (xs ++ span q (k + m + 1) ∷ []) = subst (λ (t : ℕ). Fit (xs ++ span q t ∷ [])) (sym z) g.fit in
+    let r : Counted (xs ++ span q (k + m) ∷ []) p n (looked_through w start m) =
+    counts_through xs m w (record { meets = g.meets; kept = omega (arith, g.kept); within = omega (arith, g.within); fit = f }) c in
     let b : length (looked_through w start m).looks ≡ length w.looks = looked_length w start m in
     subst (λ (t : ℕ). Counted (xs ++ span q t ∷ []) p n (looked_through w start (suc m))) z
-    (counts_looked xs q (k + m) p n (start + m) (looked_through w start m) (omega arith) (omega arith) (omega arith) g' r)
+    (counts_looked xs (looked_through w start m) (record { meets = omega (arith, g.meets); kept = omega (arith, g.kept, b); within = omega (arith, g.within); fit = f' }) r)
 
 -- at every moment the counts fit
-bound_fits : (e : Bool) (b : List ℕ) (fs : List Framed) (p k : ℕ) → Scanned e b 0 p fs → k ≤ 1029 → p + k ≤ length b → length b ≤ 2 ^ 48 → Fit (spans_at b fs p k)
-bound_fits e b fs p k s h l t = record {
+bound_fits : {k : ℕ} (e : Bool) (b : List ℕ) (fs : List Framed) (p : ℕ) → Scanned e b 0 p fs → k ≤ 1029 → p + k ≤ length b → length b ≤ 2 ^ 48 → Fit (spans_at b fs p k)
+bound_fits {k} e b fs p s h l t = record {
   looks = λ i. (let r : looks_at (spans_at b fs p k) i ≤ 1030 = looks_bound e b fs p k i s h in small _ r);
-  all = (let r : all_looks (spans_at b fs p k) ≤ 1030 * length b = all_bound e b fs p k (length b) s h l in small_all _ (length b) r t);
+  all = (let r : all_looks (spans_at b fs p k) ≤ 1030 * length b = all_bound e b fs p s h l in small_all _ (length b) r t);
 }
   where
     small : (x : ℕ) → x ≤ 1030 → x ≤ 65535
@@ -127,10 +134,9 @@ step_examined_to v n b fs h a0 a1 x =
     let z : v.tried + (n - v.tried) ≡ n = omega arith in
     let lim : v.limit ≤ 2 ^ 48 = x.limit in
     let wit : v.taken ≤ v.limit = x.within in
-    let k : Fit (spans_at b fs (first_held v) n) = bound_fits v.has_ended b fs (first_held v) n sc a0 (omega arith) (omega arith) in
+    let k : Fit (spans_at b fs (first_held v) n) = bound_fits v.has_ended b fs (first_held v) sc a0 (omega arith) (omega arith) in
     let c : Counted (spans_at b fs (first_held v) (v.tried + (n - v.tried))) (first_held v) (length b) (looked_through (window_of v) v.tried (n - v.tried)) =
-    counts_through _ (first_held v) v.tried (first_held v) (length b) v.tried (n - v.tried) (window_of v) refl (omega arith) (omega arith)
-    (subst (λ (q : ℕ). Fit (spans_at b fs (first_held v) q)) (sym z) k) x.counts in
+    counts_through _ (n - v.tried) (window_of v) (record { meets = refl; kept = omega arith; within = omega arith; fit = subst (λ (q : ℕ). Fit (spans_at b fs (first_held v) q)) (sym z) k }) x.counts in
     record {
       history = record { taken = s.taken; held = s.held; fits = s.fits; scanned = s.scanned; first = s.first; skipped = s.skipped };
       limit = x.limit;
@@ -160,7 +166,7 @@ step_give_up v b fs h a p x =
     let c : CountsLooks (spans_at b fs (first_held v) (cost b (first_held v))) (first_held v) (length b) v.looks v.examined v.most =
     subst (λ (q : ℕ). CountsLooks (spans_at b fs (first_held v) q) (first_held v) (length b) v.looks v.examined v.most) k x.counts in
     let d : CountsLooks (spans_at b fs (first_held v + 1) 0) (first_held v + 1) (length b) (drop 1 v.looks) v.examined v.most =
-    counts_skip v.has_ended b fs (first_held v) (length b) v.looks v.examined v.most s.scanned (omega arith) c in
+    counts_skip v.has_ended b fs (first_held v) s.scanned (omega arith) c in
     record {
       history = record { taken = n.taken; held = n.held; fits = n.fits; scanned = n.scanned; first = n.first; skipped = n.skipped };
       limit = x.limit;
@@ -171,24 +177,18 @@ step_give_up v b fs h a p x =
     }
 
 -- spans with equal looks
-pub counts_same : (xs ys : List Span) (p n : ℕ) (looks : List ℕ) (all most : ℕ) → ((i : ℕ) → looks_at xs i ≡ looks_at ys i) → all_looks xs ≡ all_looks ys → CountsLooks xs p n looks all most → CountsLooks ys p n looks all most
-counts_same xs ys p n looks all most e t c = record {
+pub counts_same : {p n : ℕ} {looks : List ℕ} {all most : ℕ} (xs ys : List Span) → ((i : ℕ) → looks_at xs i ≡ looks_at ys i) → all_looks xs ≡ all_looks ys → CountsLooks xs p n looks all most → CountsLooks ys p n looks all most
+counts_same {p} {n} xs ys e t c = record {
   each = λ j l. c.each j l ∙ e (p + j);
   total = c.total ∙ t;
   greatest_is = c.greatest_is ∙ greatest_same (looks_at xs) (looks_at ys) n (λ i l. e i);
 }
 
 pub looks_empty : (xs : List Span) (p i : ℕ) → looks_at xs i ≡ looks_at (xs ++ span p 0 ∷ []) i
-looks_empty xs p i = join _ _ _ (looks_push xs (span p 0) i) (empty_covers i p)
-  where
-    join : (u x c : ℕ) → u ≡ x + c → c ≡ 0 → x ≡ u
-    join u x c e z = omega arith
+looks_empty xs p i = sum_empty (λ x. one_if (covers i x)) xs (span p 0) (empty_covers i p)
 
 pub all_empty : (xs : List Span) (p : ℕ) → all_looks xs ≡ all_looks (xs ++ span p 0 ∷ [])
-all_empty xs p = let a : all_looks (xs ++ span p 0 ∷ []) ≡ all_looks xs + 0 = all_push xs (span p 0) in sym (join _ _ a)
-  where
-    join : (u x : ℕ) → u ≡ x + 0 → u ≡ x
-    join u x e = omega arith
+all_empty xs p = sum_empty (λ x. x.size) xs (span p 0) refl
 
 -- a frame is passed on
 pub step_take : (v : FramerValue) (b : List ℕ) (fs : List Framed) → begins_frame v.held ≡ true → v.tried ≡ asked v.held → HasExamined v b fs
@@ -216,10 +216,10 @@ step_take v b fs h a x =
     subst (λ (q : ℕ). CountsLooks (spans_at b fs (first_held v) q) (first_held v) (length b) v.looks v.examined v.most) k x.counts in
     let xs = spans_at b fs (first_held v) (cost b (first_held v)) in
     let c0 : Counted (spans_at b fs (first_held v) (cost b (first_held v)) ++ span (first_held v + 3) 0 ∷ []) (first_held v) (length b) (window_of v) =
-    counts_same xs (xs ++ span (first_held v + 3) 0 ∷ []) (first_held v) (length b) v.looks v.examined v.most (λ j. looks_empty xs (first_held v + 3) j) (all_empty xs (first_held v + 3)) c in
+    counts_same xs (xs ++ span (first_held v + 3) 0 ∷ []) (λ j. looks_empty xs (first_held v + 3) j) (all_empty xs (first_held v + 3)) c in
     let v' : IsFrameOf b g = record { begins = (let r = s.held in rw r at h); message = ap framed_message s.held } in
-    let sc' : Scanned v.has_ended b 0 (frame_end g) (fs ++ g ∷ []) = scanned_frame v.has_ended b 0 (first_held v) fs g sc refl v' in
-    let k' : Fit (spans_at b (fs ++ g ∷ []) (frame_end g) 0) = bound_fits v.has_ended b (fs ++ g ∷ []) (frame_end g) 0 sc' (omega arith) (omega arith) (omega arith) in
+    let sc' : Scanned v.has_ended b 0 (frame_end g) (fs ++ g ∷ []) = scanned_frame v.has_ended b 0 fs g sc v' in
+    let k' : Fit (spans_at b (fs ++ g ∷ []) (frame_end g) 0) = bound_fits {k = 0} v.has_ended b (fs ++ g ∷ []) (frame_end g) sc' (omega arith) (omega arith) (omega arith) in
     let fit : Fit (spans_at b fs (first_held v) (cost b (first_held v)) ++ span (first_held v + 3) (length g.message) ∷ []) = record {
       looks = λ j. (let r : looks_at (spans_at b fs (first_held v) (cost b (first_held v)) ++ span (first_held v + 3) (length g.message) ∷ []) j ≡ looks_at (spans_at b (fs ++ g ∷ []) (frame_end g) 0) j = looks_frame b fs g j o in
           let u : looks_at (spans_at b (fs ++ g ∷ []) (frame_end g) 0) j ≤ 65535 = k'.looks j in rw r u);
@@ -229,14 +229,14 @@ step_take v b fs h a x =
     let fit' : Fit (spans_at b fs (first_held v) (cost b (first_held v)) ++ span (first_held v + 3) (0 + message_length v.held) ∷ []) =
     (let z : length g.message ≡ 0 + message_length v.held = omega arith in subst (λ (q : ℕ). Fit (spans_at b fs (first_held v) (cost b (first_held v)) ++ span (first_held v + 3) q ∷ [])) z fit) in
     let c1 : Counted (spans_at b fs (first_held v) (cost b (first_held v)) ++ span (first_held v + 3) (0 + message_length v.held) ∷ []) (first_held v) (length b) (looked_through (window_of v) 3 (message_length v.held)) =
-    counts_through xs (first_held v + 3) 0 (first_held v) (length b) 3 (message_length v.held) (window_of v) (omega arith) (omega arith) (omega arith) fit' c0 in
+    counts_through xs (message_length v.held) (window_of v) (record { meets = omega arith; kept = omega arith; within = omega arith; fit = fit' }) c0 in
     let u = looked_through (window_of v) 3 (message_length v.held) in
     let c2 : CountsLooks (spans_at b fs g.offset (cost b g.offset) ++ span (g.offset + 3) (length g.message) ∷ []) g.offset (length b) u.looks u.examined u.most =
     (let z : 0 + message_length v.held ≡ length g.message = omega arith in
     subst (λ (q : ℕ). CountsLooks (spans_at b fs (first_held v) (cost b (first_held v)) ++ span (first_held v + 3) q ∷ []) (first_held v) (length b) u.looks u.examined u.most) z c1) in
     let j : length u.looks ≡ length v.looks = looked_length (window_of v) 3 (message_length v.held) in
     let c3 : CountsLooks (spans_at b (fs ++ g ∷ []) (frame_end g) 0) (frame_end g) (length b) (drop (length g.message + 6) u.looks) u.examined u.most =
-    counts_frame v.has_ended b fs g (length b) u.looks u.examined u.most sc (omega arith) c2 in
+    counts_frame v.has_ended b fs g sc (omega arith) c2 in
     let d : drop (length g.message + 6) u.looks ≡ drop (frame_length v.held) u.looks = ap (λ z. drop (z + 6) u.looks) q in
     let bs : drop (frame_length v.held) u.bytes ≡ drop (frame_length v.held) v.held = ap (drop (frame_length v.held)) (looked_bytes (window_of v) 3 (message_length v.held)) in
     let lb : length (drop (frame_length v.held) u.bytes) ≡ length (drop (frame_length v.held) v.held) = ap length bs in
@@ -257,11 +257,11 @@ rec_both P [] ys a c = c
 rec_both P (x ∷ xs) ys a c = (a.0, rec_both P xs ys a.1 c)
 
 -- a byte follows
-spans_end : (e : Bool) (b : List ℕ) (fs : List Framed) (p : ℕ) → Scanned e b 0 p fs → p ≤ length b → (t : ℕ → Bool) (n : ℕ) → n ≤ length b → ByRecursion (λ (s : Span). s.start + s.size ≤ length b) (map (λ q. span q (cost b q)) (filter t (places n)))
+spans_end : (b : List ℕ) (t : ℕ → Bool) (n : ℕ) → n ≤ length b → ByRecursion (λ (s : Span). s.start + s.size ≤ length b) (map (λ q. span q (cost b q)) (filter t (places n)))
 unfolding places
-spans_end e b fs p s h t zero l = tt
-spans_end e b fs p s h t (suc n) l =
-    let a : ByRecursion (λ (s : Span). s.start + s.size ≤ length b) (map (λ q. span q (cost b q)) (filter t (places n))) = spans_end e b fs p s h t n (omega arith) in
+spans_end b t zero l = tt
+spans_end b t (suc n) l =
+    let a : ByRecursion (λ (s : Span). s.start + s.size ≤ length b) (map (λ q. span q (cost b q)) (filter t (places n))) = spans_end b t n (omega arith) in
     let d : length (drop n b) ≡ length b - n = length-drop n b in
     let c : cost b n ≤ length (drop n b) = cost_within (drop n b) (omega arith) in
     let g : map (λ q. span q (cost b q)) (filter t (places n ++ n ∷ [])) ≡ map (λ q. span q (cost b q)) (filter t (places n)) ++ map (λ q. span q (cost b q)) (filter t (n ∷ [])) =
@@ -290,9 +290,9 @@ step_push v b fs x n lt h =
     let ll : length (v.looks ++ 0 ∷ []) ≡ length v.looks + 1 = length-append v.looks (0 ∷ []) in
     let e : first_held v ≡ v.taken + 1 - length (v.held ++ x ∷ []) = omega arith in
     let z : looks_at (spans_at b fs (first_held v) v.tried) (length b) ≡ 0 = none_cover (spans_at b fs (first_held v) v.tried) (length b)
-    (rec_both _ _ _ (rec_both _ _ _ (spans_end false b fs (first_held v) sc (omega arith) (λ q. not (list_any (is_inside q) fs)) (first_held v) (omega arith)) (messages_end false b 0 (first_held v) fs sc (omega arith))) (omega arith, tt)) in
+    (rec_both _ _ _ (rec_both _ _ _ (spans_end b (λ q. not (list_any (is_inside q) fs)) (first_held v) (omega arith)) (messages_end false b 0 (first_held v) fs sc (omega arith))) (omega arith, tt)) in
     let c : CountsLooks (spans_at b fs (first_held v) v.tried) (first_held v) (length b + 1) (v.looks ++ 0 ∷ []) v.examined v.most =
-    counts_push (spans_at b fs (first_held v) v.tried) (first_held v) (length b) v.looks v.examined v.most (omega arith) z h.counts in
+    counts_push (spans_at b fs (first_held v) v.tried) (omega arith) z h.counts in
     let w : spans_at (b ++ x ∷ []) fs (first_held v) v.tried ≡ spans_at b fs (first_held v) v.tried = spans_longer b (x ∷ []) (first_held v) v.tried fs (omega arith) sc in
     let d : CountsLooks (spans_at (b ++ x ∷ []) fs (first_held v) v.tried) (first_held v) (length (b ++ x ∷ [])) (v.looks ++ 0 ∷ []) v.examined v.most =
     subst (λ (q : ℕ). CountsLooks (spans_at (b ++ x ∷ []) fs (first_held v) v.tried) (first_held v) q (v.looks ++ 0 ∷ []) v.examined v.most) (sym m)

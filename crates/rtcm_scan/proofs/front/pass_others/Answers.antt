@@ -7,7 +7,7 @@ returns-then-held-gt0-clause-taken c =
     let o = c.drop_others-n.ensures in
     let l : length c.drop_others-n.new.self.bytes ≡ length c.args.window.now.bytes - c.drop_others-n.result = after_length c.args.window.now c.drop_others-n.new.self c.drop_others-n.result _ o.dropped in
     let n : c.drop_others-n.result < length c.args.window.now.bytes = omega (arith, l, c.held.ensures.value, c.if-held-gt0.true) in
-    taken_preamble c.take.new.self c.args.window.now c.drop_others-n.new.self c.drop_others-n.result _ o.dropped n (o.stops n) (c.take.ensures.count ∙ ap (λ (k : ℕ). k + 1) c.new-begun.ensures.taken.count) (c.take.ensures.taken _ c.new-begun.ensures.taken)
+    taken_preamble c.args.window.now _ o.dropped n (o.stops n) (c.take.ensures.count ∙ ap (λ (k : ℕ). k + 1) c.new-begun.ensures.taken.count) (c.take.ensures.taken _ c.new-begun.ensures.taken)
 
 pub returns-then-held-gt0-clause-count : goal.returns-then-held-gt0-clause-count
 returns-then-held-gt0-clause-count c =

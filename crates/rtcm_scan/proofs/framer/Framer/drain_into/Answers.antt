@@ -34,7 +34,7 @@ returns-in-Err g c =
     record {
       goes = c.take.ensures.goes;
       whole = tt;
-      part = (breaks_at g.S.FrameSink.took g.S.FrameSink.broke c.args.self.now c.loop-offset.self c.next_into.new.self c.args.sink.now c.loop-offset.sink c.take.new.self c.args.out.now c.loop-offset.out c.take.new.out _
+      part = (breaks_at g.S.FrameSink.took g.S.FrameSink.broke _
           c.loop-offset.invariant.passed (c.in-Some.ensures.same.ended ∙ c.loop-offset.invariant.ended) c.in-Some.ensures.some_counts c.in-Err.ensures.part);
       ready = tt;
       ended = n.same.ended ∙ i.ended;
@@ -47,7 +47,7 @@ returns g c =
     let n = c.in_default.ensures in
     record {
       goes = i.can;
-      whole = (passes_known g.S.FrameSink.took c.args.self.now c.loop-offset.self c.next_into.new.self c.args.sink.now c.loop-offset.sink c.args.out.now c.loop-offset.out
+      whole = (passes_known g.S.FrameSink.took
           c.loop-offset.invariant.passed c.in_default.ensures.none c.in_default.ensures.none_counts);
       part = tt;
       ready = n.ready;

@@ -1,18 +1,15 @@
 use Rattle.rtcm_scan.proofs.Names.{ap, ◌∙◌, arith, refl, frame_at, FramerValue}
-use Rattle.rtcm_scan.proofs.NextLemmas.{step_found, counts_found, less_found}
+use Rattle.rtcm_scan.proofs.NextLemmas.{found, same_framed, step_found, counts_found, less_found}
 use Rattle.rtcm_scan.proofs.framer.Framer.next_into.Goals as goal
 
 pub returns-in-Some : goal.returns-in-Some
 returns-in-Some c =
     let f = c.in-Some.ensures.begins in
+    let is = same_framed (frame_at c.take_frame.result c.take_frame.new.message.items) (found c.seek.new.self) c.take_frame.ensures.offset c.take_frame.ensures.message in
     record {
-      some = (λ b fs s.
-          step_found c.seek.new.self c.take_frame.new.self b fs c.in-Some.size (frame_at c.take_frame.result c.take_frame.new.message.items) c.take_frame.ensures.taken f.1 f.0 c.take_frame.ensures.offset c.take_frame.ensures.message
-          (c.in-Some.ensures.history b fs s));
+      some = λ b fs s. step_found c.seek.new.self c.take_frame.ensures.taken f.1 f.0 is (c.in-Some.ensures.history b fs s);
       none = tt;
-      some_counts = (λ b fs s.
-          counts_found c.seek.new.self c.take_frame.new.self b fs c.in-Some.size (frame_at c.take_frame.result c.take_frame.new.message.items) c.take_frame.ensures.taken f.1 f.0 c.take_frame.ensures.offset c.take_frame.ensures.message
-          f.2 (c.in-Some.ensures.counts b fs s));
+      some_counts = λ b fs s. counts_found c.seek.new.self c.take_frame.ensures.taken f.1 f.0 is f.2 (c.in-Some.ensures.counts b fs s);
       none_counts = tt;
       ready = tt;
       room = tt;

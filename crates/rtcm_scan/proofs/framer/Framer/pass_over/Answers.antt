@@ -7,22 +7,20 @@ returns-clause-history c = λ b fs s.
     let o = c.pass_others.ensures in
     let i = c.self.inside in
     let l : length i.window.bytes ≡ length c.args.self.now.held = ap (λ (v : FramerValue). length v.held) c.self.view_is in
-    let e = view_passed_on c.args.self.now i.limit i.place i.given_up i.candidate.count c.pass_others.result c.pass_others.new.candidate.count i.window c.drop_front.new.self c.pass_others.new.window
-    i.ended i.drained c.self.view_is (omega (arith, l, c.requires)) c.drop_front.ensures o.window o.within in
+    let e = view_passed_on i.place c.pass_others.new.candidate.count c.self.view_is (omega (arith, l, c.requires)) c.drop_front.ensures o.window o.within in
     let h = others_held (passed c.args.self.now) c.drop_front.new.self.bytes c.pass_others.result (ap (λ w. w.bytes) c.drop_front.ensures ∙ ap (λ (v : FramerValue). drop 1 v.held) c.self.view_is) o.within o.others in
-    rw e (to_stands (passed c.args.self.now) c.pass_others.result c.pass_others.new.candidate.count b fs refl h.0 h.1 s)
+    rw e (to_stands (passed c.args.self.now) c.pass_others.new.candidate.count refl h.0 h.1 s)
 
 pub returns-clause-counts : goal.returns-clause-counts
 returns-clause-counts c = λ b fs s.
     let o = c.pass_others.ensures in
     let i = c.self.inside in
     let l : length i.window.bytes ≡ length c.args.self.now.held = ap (λ (v : FramerValue). length v.held) c.self.view_is in
-    let e = view_passed_on c.args.self.now i.limit i.place i.given_up i.candidate.count c.pass_others.result c.pass_others.new.candidate.count i.window c.drop_front.new.self c.pass_others.new.window
-    i.ended i.drained c.self.view_is (omega (arith, l, c.requires)) c.drop_front.ensures o.window o.within in
+    let e = view_passed_on i.place c.pass_others.new.candidate.count c.self.view_is (omega (arith, l, c.requires)) c.drop_front.ensures o.window o.within in
     let held : c.drop_front.new.self.bytes ≡ drop 1 c.args.self.now.held = ap (λ w. w.bytes) c.drop_front.ensures ∙ ap (λ (v : FramerValue). drop 1 v.held) c.self.view_is in
     let h = others_held (passed c.args.self.now) c.drop_front.new.self.bytes c.pass_others.result held o.within o.others in
     let k : length c.drop_front.new.self.bytes ≡ length (drop 1 c.args.self.now.held) = ap length held in
-    rw e (to_counts (passed c.args.self.now) c.pass_others.result c.pass_others.new.candidate.count b fs refl h.0 h.1 (omega (arith, o.count, k)) s)
+    rw e (to_counts (passed c.args.self.now) c.pass_others.new.candidate.count refl h.0 h.1 (omega (arith, o.count, k)) s)
 
 pub returns-clause-same : goal.returns-clause-same
 returns-clause-same c =

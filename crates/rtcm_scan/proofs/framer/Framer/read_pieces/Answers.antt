@@ -1,14 +1,14 @@
 -- What was read so far was fed, so the framer, the sink and its output are those of these bytes; the loop ends at a
 -- fault, or when the reader has no byte.
-use Rattle.rtcm_scan.proofs.Names.{◌∙◌, ap, arith, refl, sym, true≢false, length, take, Consumes-kept, one_more}
-use Rattle.rtcm_scan.proofs.ReadLemmas.{not_read, reading_more, reads_none, reads_more, fault_after, breaks_first}
+use Rattle.rtcm_scan.proofs.Names.{◌∙◌, ap, arith, refl, sym, true≢false, take, Consumes-kept, one_more}
+use Rattle.rtcm_scan.proofs.ReadLemmas.{not_read, reading_more, at_each, reads_none, reads_more, limit_more, breaks_more, breaks_first}
 use Rattle.rtcm_scan.proofs.framer.Framer.read_pieces.Goals as goal
 
 pub returns-in-Err : goal.returns-in-Err
 returns-in-Err g c = record {
   whole = tt;
   end = tt;
-  fault = breaks_first g.S.FrameSink.took g.S.FrameSink.broke c.args.self.now c.args.sink.now c.args.out.now c.send.new.out _ _ c.in-Err.ensures.part;
+  fault = breaks_first g.S.FrameSink.took g.S.FrameSink.broke c.args.sink.now c.args.out.now c.send.new.out c.in-Err.ensures.part;
   sent = tt;
   reader = (refl, tt, omega arith);
   same = record { can = c.requires.can; limit = refl; ended = refl; some = λ h. h; size = refl };
@@ -47,34 +47,34 @@ returns-in-Err-feed g c =
     record {
       whole = tt;
       end = tt;
-      fault = (fault_after g.S.FrameSink.took g.S.FrameSink.broke c.in-Err-feed.fault c.args.self.now c.loop-n.self c.feed.new.self c.args.sink.now c.loop-n.sink c.feed.new.sink c.args.out.now c.loop-n.out c.feed.new.out
-          _ _ _ (length c.args.buffer.now) (length c.loop-n.buffer) c.in-Ok.n c.read_piece.new.buffer i.same.limit i.same.ended c.requires.going c.read_piece.ensures.size i.same.size i.came
-          c.in-Ok.ensures.piece c.feed.ensures.same c.in-Err-feed.ensures.fault);
+      fault = at_each c.in-Err-feed.fault (λ a. absurd a)
+          (limit_more g.S.FrameSink.took g.S.FrameSink.broke _ i.same i.came c.in-Ok.ensures.piece c.feed.ensures.same)
+          (breaks_more g.S.FrameSink.took g.S.FrameSink.broke (c.requires.going, c.read_piece.ensures.size) i.same i.came c.in-Ok.ensures.piece c.feed.ensures.same) c.in-Err-feed.ensures.fault;
       sent = c.in-Err-feed.ensures.sent;
       reader = (not_read c.in-Err-feed.fault _ _ _ _ c.in-Err-feed.ensures.fault (c.in-Ok.ensures.failures ∙ i.reader), tt, omega (arith, c.read_piece.ensures.widest, i.widest, i.same.size));
-      same = reading_more _ _ _ _ _ _ _ _ _ _ c.loop-n.invariant.same c.feed.ensures.goes c.feed.ensures.same c.read_piece.ensures.size;
+      same = reading_more c.loop-n.invariant.same c.feed.ensures.goes c.feed.ensures.same c.read_piece.ensures.size;
     }
 
 pub returns-then-n-eq0 : goal.returns-then-n-eq0
 returns-then-n-eq0 g c =
     let i = c.loop-n.invariant in
     record {
-      whole = (reads_more g.S.FrameSink.took g.S.FrameSink.broke c.args.self.now c.loop-n.self c.feed.new.self c.args.sink.now c.loop-n.sink c.feed.new.sink c.args.out.now c.loop-n.out c.feed.new.out
+      whole = (reads_more g.S.FrameSink.took g.S.FrameSink.broke
           _ _ _ c.loop-n.invariant.came (take c.in-Ok.n c.read_piece.new.buffer, c.in-Ok.ensures.piece.consumes, (c.in_default-feed.ensures.whole, c.in_default-feed.ensures.taken)));
       end = (c.in-Ok.ensures.piece.at_end (omega (arith, c.if-n-eq0.true)), c.in_default-feed.ensures.ready);
       fault = tt;
       sent = c.in_default-feed.ensures.sent;
       reader = (tt, c.in-Ok.ensures.failures ∙ i.reader, omega (arith, c.read_piece.ensures.widest, i.widest, i.same.size));
-      same = reading_more _ _ _ _ _ _ _ _ _ _ c.loop-n.invariant.same c.feed.ensures.goes c.feed.ensures.same c.read_piece.ensures.size;
+      same = reading_more c.loop-n.invariant.same c.feed.ensures.goes c.feed.ensures.same c.read_piece.ensures.size;
     }
 
 pub loop-n-preserved : goal.loop-n-preserved
 loop-n-preserved g c =
     let i = c.loop-n.invariant in
     record {
-      came = reads_more g.S.FrameSink.took g.S.FrameSink.broke c.args.self.now c.loop-n.self c.feed.new.self c.args.sink.now c.loop-n.sink c.feed.new.sink c.args.out.now c.loop-n.out c.feed.new.out
+      came = reads_more g.S.FrameSink.took g.S.FrameSink.broke
           _ _ _ i.came (take c.in-Ok.n c.read_piece.new.buffer, c.in-Ok.ensures.piece.consumes, (c.in_default-feed.ensures.whole, c.in_default-feed.ensures.taken));
-      same = reading_more _ _ _ _ _ _ _ _ _ _ i.same c.feed.ensures.goes c.feed.ensures.same c.read_piece.ensures.size;
+      same = reading_more i.same c.feed.ensures.goes c.feed.ensures.same c.read_piece.ensures.size;
       sent = c.in_default-feed.ensures.sent;
       reader = c.in-Ok.ensures.failures ∙ i.reader;
       widest = omega (arith, c.read_piece.ensures.widest, i.widest, i.same.size);

@@ -11,9 +11,9 @@ loop-self-preserved c =
     let h : 0 < length c.loop-self.self.held = omega (arith, c.held.ensures.value, c.loop-self-test.true) in
     let o = c.pass_over.ensures in
     record {
-      history = λ b fs s. o.history b fs (step_passed c.loop-self.self c.decide.new.self (passed c.decide.new.self) b fs c.in-Passed.ensures.examined refl h
+      history = λ b fs s. o.history b fs (step_passed c.loop-self.self c.in-Passed.ensures.examined refl h
           (from_passed c.loop-self.self.has_ended c.loop-self.self.held c.in-Passed.ensures.decision) (c.loop-self.invariant.history b fs s));
-      counts = λ b fs s. o.counts b fs (counts_passed c.loop-self.self c.decide.new.self (passed c.decide.new.self) b fs c.in-Passed.ensures.examined refl h
+      counts = λ b fs s. o.counts b fs (counts_passed c.loop-self.self c.in-Passed.ensures.examined refl h
           (from_passed c.loop-self.self.has_ended c.loop-self.self.held c.in-Passed.ensures.decision) c.in-Passed.ensures.tried (c.loop-self.invariant.counts b fs s));
       same = record {
         held = (let d : length (passed c.decide.new.self).held ≡ length c.loop-self.self.held - 1 = length-drop 1 c.decide.new.self.held ∙ ap (λ (y : FramerValue). length y.held - 1) c.in-Passed.ensures.examined in omega (arith, d, o.same.held, c.loop-self.invariant.same.held));
@@ -59,16 +59,16 @@ returns-clause-room c =
 -- what is known when the loop is left
 finished : (c : goal.After-self-1) (w : FramerValue) (b : List ℕ) (fs : List Framed) → w ≡ with_ready c.loop-self-test.self → HasFramed c.args.self.now b fs → HasFramed w b fs × IsDrained w b fs
 finished c v b fs e s = elim c.loop-self-test.branch [
-  | else-loop-self-test w ↦ finish_empty c.loop-self.self c.loop-self-test.self v b fs w.self-is e (omega (arith, c.held.ensures.value, w.loop-self-test.false)) (c.loop-self.invariant.history b fs s)
+  | else-loop-self-test w ↦ finish_empty w.self-is e (omega (arith, c.held.ensures.value, w.loop-self-test.false)) (c.loop-self.invariant.history b fs s)
   | then-loop-self-test+in-Open w ↦ (let o = from_open c.loop-self.self.has_ended c.loop-self.self.held w.in-Open.ensures.decision in
-      finish_open c.loop-self.self w.decide.new.self c.loop-self-test.self v b fs w.in-Open.ensures.examined w.self-is e o.2 o.1 (c.loop-self.invariant.history b fs s))
+      finish_open w.in-Open.ensures.examined w.self-is e o.2 o.1 (c.loop-self.invariant.history b fs s))
 ]
 
 finished_counts : (c : goal.After-self-1) (w : FramerValue) (b : List ℕ) (fs : List Framed) → w ≡ with_ready c.loop-self-test.self → HasExamined c.args.self.now b fs → HasExamined w b fs × IsCountedExactly w b
 finished_counts c v b fs e s = elim c.loop-self-test.branch [
-  | else-loop-self-test w ↦ counts_empty c.loop-self.self c.loop-self-test.self v b fs w.self-is e (omega (arith, c.held.ensures.value, w.loop-self-test.false)) (c.loop-self.invariant.counts b fs s)
+  | else-loop-self-test w ↦ counts_empty w.self-is e (omega (arith, c.held.ensures.value, w.loop-self-test.false)) (c.loop-self.invariant.counts b fs s)
   | then-loop-self-test+in-Open w ↦ (let o = from_open c.loop-self.self.has_ended c.loop-self.self.held w.in-Open.ensures.decision in
-      counts_open c.loop-self.self w.decide.new.self c.loop-self-test.self v b fs w.in-Open.ensures.examined w.self-is e o.2
+      counts_open w.in-Open.ensures.examined w.self-is e o.2
       (omega (arith, c.held.ensures.value, w.loop-self-test.true)) o.1 w.in-Open.ensures.tried (c.loop-self.invariant.counts b fs s))
 ]
 
