@@ -156,9 +156,9 @@ module _ {S O : Type 0} (took : Coming S O) (broke : Breaking S O) where
   )
 
   -- the sink failed at one of them
-  pub breaks_end : {v v' : FramerValue} {s s' s2 : S} {o o' o2 : O} (r r' : Option (List ℕ)) (most : ℕ) → v'.has_ended ≡ v.has_ended → IsAtEnd r'
+  pub breaks_end : {v v' : FramerValue} {s s' s2 : S} {o o' o2 : O} {r r' : Option (List ℕ)} {most : ℕ} → v'.has_ended ≡ v.has_ended → IsAtEnd r'
       → ReadsOn took v s o v' s' o' r r' → BreaksKnown took broke true v' s' o' s2 o2 → BreaksReading took broke v s o s2 o2 most r r'
-  breaks_end {v} {v'} {s2} {o2} r r' most same e p k = record {
+  breaks_end {v} {v'} {s2} {o2} {r} {r'} same e p k = record {
     front = p.0;
     piece = [];
     ended = true;

@@ -20,6 +20,5 @@ loop-taken-preserved c =
 pub returns-clause-steps : goal.returns-clause-steps
 returns-clause-steps c =
     let t : ℕ = c.loop-taken.taken in
-    steps_more (uint 24 c.args.register) (take t c.args.bytes.now) _ c.loop-taken.after c.after_fewer.result
-    (sym (take-append-drop t c.args.bytes.now) ∙ ap (λ l. take t c.args.bytes.now ++ l) (sym (take_rest c.args.bytes.now t)))
+    steps_more (uint 24 c.args.register) (take t c.args.bytes.now) _ c.loop-taken.after c.after_fewer.result (sym (take-append-drop t c.args.bytes.now) ∙ ap (λ l. take t c.args.bytes.now ++ l) (sym (take_rest c.args.bytes.now t)))
     c.loop-taken.invariant.steps c.after_fewer.ensures.steps

@@ -18,7 +18,6 @@ loop-candidate-preserved c =
           (c.look-byte.ensures.byte ∙ ap (λ b. slice_index b k) c.loop-candidate.invariant.bytes);
       within = omega (arith, n, l);
       more = omega (arith, n, c.loop-candidate.invariant.more);
-      window = looked_more c.args.window.now c.loop-candidate.invariant.more n
-          c.loop-candidate.invariant.window c.look-byte.ensures.counted;
+      window = looked_more c.args.window.now c.loop-candidate.invariant.more n c.loop-candidate.invariant.window c.look-byte.ensures.counted;
       bytes = ap (λ w. w.bytes) c.look-byte.ensures.counted ∙ c.loop-candidate.invariant.bytes;
     }

@@ -4,8 +4,7 @@ use Rattle.rtcm_bits.proofs.folding.Folded.next.Goals as goal
 
 abbrev whole : goal.returns-clause-added
 whole c =
-    vector_next c.args.bytes.now c.self.invariant c.requires c.at_eleven.ensures c.at_nine.ensures c.at_one.ensures c.at_eleven-2.ensures
-    ∙ ap (λ (l : List ℕ). take 16 (fold_into l c.args.bytes.now)) c.self.view_is
+    vector_next c.args.bytes.now c.self.invariant c.requires c.at_eleven.ensures c.at_nine.ensures c.at_one.ensures c.at_eleven-2.ensures ∙ ap (λ (l : List ℕ). take 16 (fold_into l c.args.bytes.now)) c.self.view_is
 
 pub returns-clause-long : goal.returns-clause-long
 unfolding fold_into

@@ -7,8 +7,7 @@ returns-then-start-counted-clause-counted c =
     let i = c.self.inside in
     let v : vec_len i.counts ≡ length i.counts.items = i.counts.ok.0 in
     let k = length-drop i.first i.counts.items in
-    last_looks (drop i.first i.counts.items) i.once c.self.view_is (omega (arith, v, k)) (omega (arith, v, k)) (omega arith)
-    (record { few = search rules; sum = c.saturating_add-self-inside.ensures; most = c.raise.ensures })
+    last_looks (drop i.first i.counts.items) i.once c.self.view_is (omega (arith, v, k)) (omega (arith, v, k)) (omega arith) (record { few = search rules; sum = c.saturating_add-self-inside.ensures; most = c.raise.ensures })
 
 pub returns-then-start-n-clause-counted : goal.returns-then-start-n-clause-counted
 returns-then-start-n-clause-counted c =

@@ -34,8 +34,7 @@ returns-in-Err g c =
     record {
       goes = c.take.ensures.goes;
       whole = tt;
-      part = (breaks_at g.S.FrameSink.took g.S.FrameSink.broke _
-          c.loop-offset.invariant.passed (c.in-Some.ensures.same.ended ∙ c.loop-offset.invariant.ended) c.in-Some.ensures.some_counts c.in-Err.ensures.part);
+      part = (breaks_at g.S.FrameSink.took g.S.FrameSink.broke _ c.loop-offset.invariant.passed (c.in-Some.ensures.same.ended ∙ c.loop-offset.invariant.ended) c.in-Some.ensures.some_counts c.in-Err.ensures.part);
       ready = tt;
       ended = n.same.ended ∙ i.ended;
       same = record { limit = n.same.limit ∙ i.limit; taken = n.same.taken ∙ i.taken; some = λ h. (let m = i.some h in (m.0, _, (n.some_counts m.0 m.1 m.2).0)) };
@@ -47,8 +46,7 @@ returns g c =
     let n = c.in_default.ensures in
     record {
       goes = i.can;
-      whole = (passes_known g.S.FrameSink.took
-          c.loop-offset.invariant.passed c.in_default.ensures.none c.in_default.ensures.none_counts);
+      whole = (passes_known g.S.FrameSink.took c.loop-offset.invariant.passed c.in_default.ensures.none c.in_default.ensures.none_counts);
       part = tt;
       ready = n.ready;
       ended = n.same.ended ∙ i.ended;

@@ -17,8 +17,7 @@ pub returns-in-Err-send : goal.returns-in-Err-send
 returns-in-Err-send g c = record {
   goes = c.take_piece.ensures.goes;
   whole = tt;
-  fault = (breaks_sent g.S.FrameSink.took g.S.FrameSink.broke c.args.piece.now c.in-Ok.taken
-      c.requires.going c.take_piece.ensures.same.ended c.in-Ok.ensures.whole.passes c.in-Err-send.ensures.part);
+  fault = (breaks_sent g.S.FrameSink.took g.S.FrameSink.broke c.args.piece.now c.in-Ok.taken c.requires.going c.take_piece.ensures.same.ended c.in-Ok.ensures.whole.passes c.in-Err-send.ensures.part);
   sent = tt;
   taken = tt;
   ready = tt;
@@ -29,8 +28,7 @@ pub returns-then-taken-piece : goal.returns-then-taken-piece
 returns-then-taken-piece g c = record {
   goes = c.take_piece.ensures.goes;
   whole = tt;
-  fault = (limit_sent g.S.FrameSink.took
-      c.in_default.ensures.whole c.in-Ok.ensures.whole c.if-taken-piece.true);
+  fault = (limit_sent g.S.FrameSink.took c.in_default.ensures.whole c.in-Ok.ensures.whole c.if-taken-piece.true);
   sent = c.in_default.ensures.sent;
   taken = tt;
   ready = tt;
@@ -41,8 +39,7 @@ pub returns : goal.returns
 returns g c = record {
   goes = c.take_piece.ensures.goes;
   whole = (subst (λ (l : List ℕ). Passes g.S.FrameSink.took c.args.self.now c.args.sink.now c.args.out.now c.take_piece.new.self c.take_piece.new.sink c.send.new.out l) (take_all c.in-Ok.taken c.args.piece.now c.if-taken-piece.false)
-      (passes_sent g.S.FrameSink.took (take c.in-Ok.taken c.args.piece.now) c.in_default.ensures.whole
-      c.in-Ok.ensures.whole.passes));
+      (passes_sent g.S.FrameSink.took (take c.in-Ok.taken c.args.piece.now) c.in_default.ensures.whole c.in-Ok.ensures.whole.passes));
   fault = tt;
   sent = c.in_default.ensures.sent;
   taken = omega (arith, c.in-Ok.ensures.whole.taken, c.in-Ok.ensures.whole.bound, c.if-taken-piece.false);

@@ -33,8 +33,7 @@ returns-else-self-taken-clause-history c = λ b fs s.
     let l : c.args.self.now.limit ≡ c.self.inside.limit = ap (λ (v : FramerValue). v.limit) (sym c.self.view_is) in
     let i : c.self.inside.place + length c.self.inside.window.bytes ≤ c.self.inside.limit = c.self.invariant.0 in
     let w : c.args.self.now.taken + length c.args.bytes.now ≤ c.args.self.now.limit = omega (arith, t, l, i, c.taken.ensures.value, c.if-self-taken.false) in
-    rw (view_pushed_all c.self.inside.place c.args.bytes.now c.self.view_is c.push_all.ensures)
-    (stands_push_all c.args.self.now b c.args.bytes.now fs n w s)
+    rw (view_pushed_all c.self.inside.place c.args.bytes.now c.self.view_is c.push_all.ensures) (stands_push_all c.args.self.now b c.args.bytes.now fs n w s)
 
 pub returns-else-self-taken-clause-counts : goal.returns-else-self-taken-clause-counts
 returns-else-self-taken-clause-counts c = λ b fs s.
@@ -43,5 +42,4 @@ returns-else-self-taken-clause-counts c = λ b fs s.
     let l : c.args.self.now.limit ≡ c.self.inside.limit = ap (λ (v : FramerValue). v.limit) (sym c.self.view_is) in
     let i : c.self.inside.place + length c.self.inside.window.bytes ≤ c.self.inside.limit = c.self.invariant.0 in
     let w : c.args.self.now.taken + length c.args.bytes.now ≤ c.args.self.now.limit = omega (arith, t, l, i, c.taken.ensures.value, c.if-self-taken.false) in
-    rw (view_pushed_all c.self.inside.place c.args.bytes.now c.self.view_is c.push_all.ensures)
-    (step_push_all c.args.self.now b c.args.bytes.now fs n w s)
+    rw (view_pushed_all c.self.inside.place c.args.bytes.now c.self.view_is c.push_all.ensures) (step_push_all c.args.self.now b c.args.bytes.now fs n w s)

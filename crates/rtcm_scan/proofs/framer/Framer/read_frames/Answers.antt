@@ -16,7 +16,7 @@ returns-in-Ok-finish g c = record {
 pub returns-in-Err-finish : goal.returns-in-Err-finish
 returns-in-Err-finish g c = record {
   whole = tt;
-  fault = (breaks_end g.S.FrameSink.took g.S.FrameSink.broke _ _ _ c.in-Ok.ensures.same.ended c.in-Ok.ensures.end.0 c.in-Ok.ensures.whole c.in-Err-finish.ensures.part);
+  fault = (breaks_end g.S.FrameSink.took g.S.FrameSink.broke c.in-Ok.ensures.same.ended c.in-Ok.ensures.end.0 c.in-Ok.ensures.whole c.in-Err-finish.ensures.part);
   sent = tt;
   reader = (c.in-Ok.ensures.reader.1, tt, c.in-Ok.ensures.reader.2);
   ended = tt;

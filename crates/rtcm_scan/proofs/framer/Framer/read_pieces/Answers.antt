@@ -72,8 +72,7 @@ pub loop-n-preserved : goal.loop-n-preserved
 loop-n-preserved g c =
     let i = c.loop-n.invariant in
     record {
-      came = reads_more g.S.FrameSink.took g.S.FrameSink.broke
-          _ _ _ i.came (take c.in-Ok.n c.read_piece.new.buffer, c.in-Ok.ensures.piece.consumes, (c.in_default-feed.ensures.whole, c.in_default-feed.ensures.taken));
+      came = reads_more g.S.FrameSink.took g.S.FrameSink.broke _ _ _ i.came (take c.in-Ok.n c.read_piece.new.buffer, c.in-Ok.ensures.piece.consumes, (c.in_default-feed.ensures.whole, c.in_default-feed.ensures.taken));
       same = reading_more i.same c.feed.ensures.goes c.feed.ensures.same c.read_piece.ensures.size;
       sent = c.in_default-feed.ensures.sent;
       reader = c.in-Ok.ensures.failures ∙ i.reader;

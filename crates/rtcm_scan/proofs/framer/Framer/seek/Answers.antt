@@ -68,8 +68,7 @@ finished_counts : (c : goal.After-self-1) (w : FramerValue) (b : List ℕ) (fs :
 finished_counts c v b fs e s = elim c.loop-self-test.branch [
   | else-loop-self-test w ↦ counts_empty w.self-is e (omega (arith, c.held.ensures.value, w.loop-self-test.false)) (c.loop-self.invariant.counts b fs s)
   | then-loop-self-test+in-Open w ↦ (let o = from_open c.loop-self.self.has_ended c.loop-self.self.held w.in-Open.ensures.decision in
-      counts_open w.in-Open.ensures.examined w.self-is e o.2
-      (omega (arith, c.held.ensures.value, w.loop-self-test.true)) o.1 w.in-Open.ensures.tried (c.loop-self.invariant.counts b fs s))
+      counts_open w.in-Open.ensures.examined w.self-is e o.2 (omega (arith, c.held.ensures.value, w.loop-self-test.true)) o.1 w.in-Open.ensures.tried (c.loop-self.invariant.counts b fs s))
 ]
 
 pub returns-clause-history : goal.returns-clause-history

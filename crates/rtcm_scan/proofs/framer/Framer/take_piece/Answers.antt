@@ -23,8 +23,7 @@ loop-fault-init g c = record {
 pub returns-in-Err-clause-part : goal.returns-in-Err-clause-part
 returns-in-Err-clause-part g c =
     let i = c.loop-fault.invariant in
-    part_breaks g.S.FrameSink.took g.S.FrameSink.broke
-    c.args.piece.now c.loop-fault.taken c.requires.going i.same.ended i.passes c.in-Err.ensures.part
+    part_breaks g.S.FrameSink.took g.S.FrameSink.broke c.args.piece.now c.loop-fault.taken c.requires.going i.same.ended i.passes c.in-Err.ensures.part
 
 pub returns-in-Err-clause-same : goal.returns-in-Err-clause-same
 returns-in-Err-clause-same g c =
@@ -36,8 +35,7 @@ returns-then-next-taken-clause-whole g c =
     let i = c.loop-fault.invariant in
     let d = c.in_default.ensures in
     record {
-      passes = part_drained g.S.FrameSink.took
-          (take c.loop-fault.taken c.args.piece.now) i.passes d.whole;
+      passes = part_drained g.S.FrameSink.took (take c.loop-fault.taken c.args.piece.now) i.passes d.whole;
       bound = i.bound;
       taken = c.drain_into.ensures.same.taken ∙ i.taken;
       full = λ l. (let none : c.room.result ≡ 0 = omega (arith, c.if-next-taken.true, c.min.ensures, l) in
@@ -59,10 +57,8 @@ loop-fault-preserved g c =
     let size : length (slice_range c.args.piece.now c.loop-fault.taken (c.loop-fault.taken + c.min.result)) ≡ c.min.result = omega (arith, c.min.ensures, i.bound) in
     let taken : c.push_all.new.self.taken ≡ c.drain_into.new.self.taken + length (slice_range c.args.piece.now c.loop-fault.taken (c.loop-fault.taken + c.min.result)) = ap (λ (v : FramerValue). v.taken) push.ok in
     record {
-      passes = part_pushed g.S.FrameSink.took
-          c.args.piece.now c.loop-fault.taken c.min.result c.requires.going same.ended
-          (part_drained g.S.FrameSink.took
-          (take c.loop-fault.taken c.args.piece.now) i.passes d.whole) push.counts;
+      passes = part_pushed g.S.FrameSink.took c.args.piece.now c.loop-fault.taken c.min.result c.requires.going same.ended
+          (part_drained g.S.FrameSink.took (take c.loop-fault.taken c.args.piece.now) i.passes d.whole) push.counts;
       can = c.drain_into.ensures.goes;
       bound = omega (arith, c.min.ensures, i.bound);
       taken = omega (arith, taken, size, c.drain_into.ensures.same.taken, i.taken);
