@@ -35,16 +35,19 @@ after_galileo true k r n low some high h = omega (arith, low, some, high, h)
 after_galileo false k r n low some high h = omega (arith, low, some, high, h)
 
 -- a satellite has one of the ranks that are left
-one_less : (gps galileo k r n : ℕ) (system : System) → 0 < of_system system gps galileo → (1 ≤ r) × (r ≤ satellites system) → k ≤ of_system system r (100 + r)
-    → n ≤ room (nat_lt 0 gps) (nat_lt 0 galileo) (of_system system r (100 + r) + 1) → suc n ≤ room (nat_lt 0 gps) (nat_lt 0 galileo) k
-one_less gps galileo k r n Gps planned number low h =
-    let is = lt-ltb 0 gps planned in
-    let left : n ≤ room true (nat_lt 0 galileo) (r + 1) = subst (λ b. n ≤ room b (nat_lt 0 galileo) (r + 1)) is h in
-    subst (λ b. suc n ≤ room b (nat_lt 0 galileo) k) (sym is) (after_gps (nat_lt 0 galileo) k r n low number.1 left)
-one_less gps galileo k r n Galileo planned number low h =
-    let is = lt-ltb 0 galileo planned in
-    let left : n ≤ room (nat_lt 0 gps) true ((100 + r) + 1) = subst (λ b. n ≤ room (nat_lt 0 gps) b ((100 + r) + 1)) is h in
-    subst (λ b. suc n ≤ room (nat_lt 0 gps) b k) (sym is) (after_galileo (nat_lt 0 gps) k r n low number.0 number.1 left)
+one_less : {gps galileo : ℕ} (k n : ℕ) {s : SatelliteRow} → IsSatelliteRow gps galileo s → k ≤ rank_of s
+    → n ≤ room (nat_lt 0 gps) (nat_lt 0 galileo) (rank_of s + 1) → suc n ≤ room (nat_lt 0 gps) (nat_lt 0 galileo) k
+one_less {gps} {galileo} k n {s} is low h = by s.system s.row.satellite is.planned is.row.satellite low h where
+  by : (system : System) (r : ℕ) → 0 < of_system system gps galileo → (1 ≤ r) × (r ≤ satellites system) → k ≤ of_system system r (100 + r)
+      → n ≤ room (nat_lt 0 gps) (nat_lt 0 galileo) (of_system system r (100 + r) + 1) → suc n ≤ room (nat_lt 0 gps) (nat_lt 0 galileo) k
+  by Gps r planned number low h =
+      let is = lt-ltb 0 gps planned in
+      let left : n ≤ room true (nat_lt 0 galileo) (r + 1) = subst (λ b. n ≤ room b (nat_lt 0 galileo) (r + 1)) is h in
+      subst (λ b. suc n ≤ room b (nat_lt 0 galileo) k) (sym is) (after_gps (nat_lt 0 galileo) k r n low number.1 left)
+  by Galileo r planned number low h =
+      let is = lt-ltb 0 galileo planned in
+      let left : n ≤ room (nat_lt 0 gps) true ((100 + r) + 1) = subst (λ b. n ≤ room (nat_lt 0 gps) b ((100 + r) + 1)) is h in
+      subst (λ b. suc n ≤ room (nat_lt 0 gps) b k) (sym is) (after_galileo (nat_lt 0 gps) k r n low number.0 number.1 left)
 
 -- the first number, if there is one, is at least k
 FromFirst : ℕ → List ℕ → Type 0
@@ -63,7 +66,7 @@ few_from gps galileo k (s ∷ rows) each rise low =
     let is = All-head (IsSatelliteRow gps galileo) s rows each in
     let others = few_from gps galileo (rank_of s + 1) rows (All-tail (IsSatelliteRow gps galileo) s rows each) (rise-tail (rank_of s) (map rank_of rows) rise)
     (λ h. let less : rank_of s < slice_index (map rank_of rows) 0 = rise 0 (omega (arith, h)) in omega (arith, less)) in
-    one_less gps galileo k s.row.satellite (length rows) s.system is.planned is.row.satellite (low (omega arith)) others
+    one_less k (length rows) is (low (omega arith)) others
 
 from_one : (gps galileo : Bool) → room gps galileo 1 ≡ (if gps then 32 else 0) + (if galileo then 36 else 0)
 unfolding room

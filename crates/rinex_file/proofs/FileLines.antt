@@ -117,16 +117,16 @@ lines_of_epochs gps galileo v (e ∷ es) are changes few less =
     All-append IsFileLine (stamped_lines e) (flat_map stamped_lines es) (lines_of_stamped gps galileo v e (All-head (IsStamped gps galileo) e es are) changes.0 few less)
     (lines_of_epochs gps galileo (changed_by v e.change) es (All-tail (IsStamped gps galileo) e es are) changes.1 few less)
 
-file_lines_are : (x : HeaderLists) (p : PlanValue) (v : StationValues) (es : List Stamped) → AreTexts x → IsPlan p → AreValues v
+file_lines_are : {x : HeaderLists} {p : PlanValue} {v : StationValues} (es : List Stamped) → AreTexts x → IsPlan p → AreValues v
     → All (IsStamped (length p.gps) (length p.galileo)) es → AreChanges v es → All IsFileLine (lines_of_file x p v es)
-file_lines_are x p v [] texts plan values are changes = All-nil IsFileLine
-file_lines_are x p v (e ∷ es) texts plan values are changes =
+file_lines_are [] texts plan values are changes = All-nil IsFileLine
+file_lines_are {x} {p} {v} (e ∷ es) texts plan values are changes =
     let first = All-head (IsStamped (length p.gps) (length p.galileo)) e es are in
     All-append IsFileLine (header_lines x p v (civil_of e.time)) (flat_map stamped_lines (e ∷ es)) (lines_of_header x p v (civil_of e.time) texts plan values (short_time e.time first.time))
     (lines_of_epochs (length p.gps) (length p.galileo) v (e ∷ es) are changes (few_signals_of p plan Gps) (few_signals_of p plan Galileo))
 
 all_are : (v : FileValue) → IsFileValue v → All IsFileLine (file_lines v)
-all_are v is = file_lines_are v.texts v.plan v.values v.epochs is.texts is.plan is.values is.epochs is.changes
+all_are v is = file_lines_are v.epochs is.texts is.plan is.values is.epochs is.changes
 
 pub lines_are_lines : (v : FileValue) → IsFileValue v → All IsLine (file_lines v)
 lines_are_lines v is = λ k d h. (all_are v is k d h).line

@@ -44,24 +44,24 @@ no_value v a b c d h e =
     let blank : has 46 (take 14 (replicate 16 32)) ≡ true = ap (λ t. has 46 (take 14 t)) (no_field a b ∙ e) ∙ ap (has 46) (field_parts v c d h).0 ∙ point v in
     cc
 
-pub field_once : (v w : Option ℤ) (a b c d : ℕ) → IfSome v FitsColumns → IfSome w FitsColumns → field v a b ≡ field w c d → v ≡ w
-field_once None None a b c d h k e = refl
-field_once None (Some w) a b c d h k e = absurd (no_value w a b c d k e)
-field_once (Some v) None a b c d h k e = absurd (no_value v c d a b h (sym e))
-field_once (Some v) (Some w) a b c d h k e =
+pub field_once : {v w : Option ℤ} (a b c d : ℕ) → IfSome v FitsColumns → IfSome w FitsColumns → field v a b ≡ field w c d → v ≡ w
+field_once {v = None} {w = None} a b c d h k e = refl
+field_once {v = None} {w = Some w} a b c d h k e = absurd (no_value w a b c d k e)
+field_once {v = Some v} {w = None} a b c d h k e = absurd (no_value v c d a b h (sym e))
+field_once {v = Some v} {w = Some w} a b c d h k e =
     let same : right 14 (fixed 3 v) ≡ right 14 (fixed 3 w) = sym (field_parts v a b h).0 ∙ ap (take 14) e ∙ (field_parts w c d k).0 in
     ap Some (sym (number_in-fixed 14 3 v (omega arith) (small_value v h)) ∙ ap number_in same ∙ number_in-fixed 14 3 w (omega arith) (small_value w k))
 
 pub value_once : (v w : ℤ) (a b : ℕ) → FitsColumns v → FitsColumns w → field (Some v) a b ≡ field (Some w) a b → v ≡ w
-value_once v w a b h k e = inside v w (field_once (Some v) (Some w) a b a b h k e) where
+value_once v w a b h k e = inside v w (field_once a b a b h k e) where
   inside : (v w : ℤ) → Some v ≡ Some w → v ≡ w
   inside v w e = cc
 
 -- columns that are not all blank are those of a value
-pub value_of : (xs : List ℕ) (w : Option ℤ) (lost strength n : ℕ) → IfSome w FitsColumns → xs ≡ field w lost strength → n ≡ blanks xs → (n ≡ 16 → ⊥)
+pub value_of : {xs : List ℕ} (w : Option ℤ) (lost strength : ℕ) {n : ℕ} → IfSome w FitsColumns → xs ≡ field w lost strength → n ≡ blanks xs → (n ≡ 16 → ⊥)
     → (v : ℤ) × FitsColumns v × (xs ≡ field (Some v) lost strength) × (get_or xs 14 0 ≡ lost) × (get_or xs 15 0 ≡ strength)
-value_of xs None lost strength n h is count some = absurd (some (count ∙ ap blanks (is ∙ sym (no_field lost strength))))
-value_of xs (Some v) lost strength n h is count some =
+value_of None lost strength h is count some = absurd (some (count ∙ ap blanks (is ∙ sym (no_field lost strength))))
+value_of (Some v) lost strength h is count some =
     let (columns, first, second) = field_parts v lost strength h in
     (v, h, is, ap (λ r. get_or r 14 0) is ∙ first, ap (λ r. get_or r 15 0) is ∙ second)
 
@@ -72,19 +72,20 @@ abbrev pub HasFields : List ℕ → SignalValues → Type 0
 HasFields text e = (take 16 text ≡ field e.c 32 (strength_byte e.s)) × (take 16 (drop 16 text) ≡ field e.l (lli_byte e.lli) (strength_byte e.s))
     × (take 16 (drop 32 text) ≡ field e.d 32 32) × (take 16 (drop 48 text) ≡ field e.s 32 32)
 
-four : (x a b c d : List ℕ) → x ≡ a ++ (b ++ (c ++ d)) → length a ≡ 16 → length b ≡ 16 → length c ≡ 16 → length d ≡ 16
-    → (take 16 x ≡ a) × (take 16 (drop 16 x) ≡ b) × (take 16 (drop 32 x) ≡ c) × (take 16 (drop 48 x) ≡ d)
-four x a b c d is k l m n =
+four : {x : List ℕ} (a b c d : List ℕ) → x ≡ a ++ (b ++ (c ++ d)) → length a ≡ 16 → length b ≡ 16 → length c ≡ 16
+    → (take 16 x ≡ a) × (take 16 (drop 16 x) ≡ b) × (take 16 (drop 32 x) ≡ c) × (drop 48 x ≡ d)
+four {x} a b c d is k l m =
     let one : drop 16 x ≡ b ++ (c ++ d) = ap (drop 16) is ∙ drop_at a (b ++ (c ++ d)) 16 k in
     let two : drop 32 x ≡ c ++ d = sym (drop-drop 16 16 x) ∙ ap (drop 16) one ∙ drop_at b (c ++ d) 16 l in
     let three : drop 48 x ≡ d = sym (drop-drop 16 32 x) ∙ ap (drop 16) two ∙ drop_at c d 16 m in
-    (ap (take 16) is ∙ take_at a (b ++ (c ++ d)) 16 k, ap (take 16) one ∙ take_at b (c ++ d) 16 l, ap (take 16) two ∙ take_at c d 16 m, ap (take 16) three ∙ take_all 16 d (omega (arith, n)))
+    (ap (take 16) is ∙ take_at a (b ++ (c ++ d)) 16 k, ap (take 16) one ∙ take_at b (c ++ d) 16 l, ap (take 16) two ∙ take_at c d 16 m, three)
 
 pub has_fields : (text : List ℕ) (e : SignalValues) → AreSignalValues e → text ≡ signal_text e → HasFields text e
 unfolding signal_text
 has_fields text e is shown =
     let fits = values_fit e is in
-    four text _ _ _ _ shown (length-field e.c 32 (strength_byte e.s) fits.c) (length-field e.l (lli_byte e.lli) (strength_byte e.s) fits.l) (length-field e.d 32 32 fits.d) (length-field e.s 32 32 fits.s)
+    let (c, l, d, s) = four _ _ _ (field e.s 32 32) shown (length-field e.c 32 (strength_byte e.s) fits.c) (length-field e.l (lli_byte e.lli) (strength_byte e.s) fits.l) (length-field e.d 32 32 fits.d) in
+    (c, l, d, ap (take 16) s ∙ take_all 16 (field e.s 32 32) (omega (arith, (length-field e.s 32 32 fits.s))))
 
 -- the LLI column of a phase, or a blank
 lli_at : (l : Option ℤ) (lli strength : ℕ) → IfSome l FitsColumns → (l ≡ None → lli ≡ 0) → get_or (field l (lli_byte lli) strength) 14 0 ≡ lli_byte lli
@@ -107,10 +108,10 @@ signal_once e f is also same =
     let a = has_fields text e is (sym same) in
     let b = has_fields text f also refl in
     same_values e f
-    (field_once e.c f.c 32 (strength_byte e.s) 32 (strength_byte f.s) is.c also.c (sym a.0 ∙ b.0))
-    (field_once e.l f.l (lli_byte e.lli) (strength_byte e.s) (lli_byte f.lli) (strength_byte f.s) is.l also.l (sym a.1 ∙ b.1))
-    (field_once e.d f.d 32 32 32 32 is.d also.d (sym a.2 ∙ b.2))
-    (field_once e.s f.s 32 32 32 32 (strength_fits e.s is.s) (strength_fits f.s also.s) (sym a.3 ∙ b.3))
+    (field_once 32 (strength_byte e.s) 32 (strength_byte f.s) is.c also.c (sym a.0 ∙ b.0))
+    (field_once (lli_byte e.lli) (strength_byte e.s) (lli_byte f.lli) (strength_byte f.s) is.l also.l (sym a.1 ∙ b.1))
+    (field_once 32 32 32 32 is.d also.d (sym a.2 ∙ b.2))
+    (field_once 32 32 32 32 (strength_fits e.s is.s) (strength_fits f.s also.s) (sym a.3 ∙ b.3))
     (lli_once e.lli f.lli is.lli also.lli (sym (lli_column text e is a) ∙ lli_column text f also b))
 
 -- these values are read, and no others
@@ -212,8 +213,8 @@ text_of_line system signals v line (same, is) e =
 same_row : (v w : SatelliteRow) → v.system ≡ w.system → v.row.satellite ≡ w.row.satellite → v.row.signal_values ≡ w.row.signal_values → v ≡ w
 same_row v w s n es = ap₂ (λ a b. satellite_row a b v.row.signal_values) s n ∙ ap (satellite_row w.system w.row.satellite) es
 
-pub line_once : (system : System) (signals : ℕ) (v w : SatelliteRow) (line : List ℕ) → IsRowOf system signals v → IsRowOf system signals w → line ≡ satellite_line v → line ≡ satellite_line w → v ≡ w
-line_once system signals v w line is also e f =
+pub line_once : (system : System) (signals : ℕ) {v w : SatelliteRow} {line : List ℕ} → IsRowOf system signals v → IsRowOf system signals w → line ≡ satellite_line v → line ≡ satellite_line w → v ≡ w
+line_once system signals {v} {w} {line} is also e f =
     let a = text_of_line system signals v line is e in
     let b = text_of_line system signals w line also f in
     same_row v w (is.0 ∙ sym also.0) (number_once v.row.satellite w.row.satellite a.small b.small (sym a.number ∙ b.number))

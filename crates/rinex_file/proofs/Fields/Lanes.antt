@@ -10,22 +10,25 @@ abbrev pub pairs_l : ℕ → ℕ → ℕ → ℕ → ℕ → List ℕ
 pairs_l width factor part zero w = []
 pairs_l width factor part (suc k) w = (w % width * factor % width / part) ∷ pairs_l width factor part k (w / width)
 
-pairs_by : (byte base width factor part : ℕ)
-    → ((a b w : ℕ) → a < base → b < base → ((a + byte * (b + byte * w)) % width * factor % width / part ≡ a * base + b) × ((a + byte * (b + byte * w)) / width ≡ w))
-    → (k : ℕ) (xs : List ℕ) → length xs ≡ 2 * k → AreBelow base xs → pairs_l width factor part k (number_l byte xs) ≡ twos_of base xs
-pairs_by byte base width factor part lane zero [] l h = refl
-pairs_by byte base width factor part lane zero (a ∷ xs) l h = absurd (omega (arith, l))
-pairs_by byte base width factor part lane (suc k) [] l h = absurd (omega (arith, l))
-pairs_by byte base width factor part lane (suc k) (a ∷ []) l h = absurd (omega (arith, l))
-pairs_by byte base width factor part lane (suc k) (a ∷ b ∷ xs) l h =
-    let (one, on) = lane a b (number_l byte xs) h.0 h.1.0 in
-    (λ i. one i ∷ pairs_l width factor part k (on i)) ∙ ap (λ t. (a * base + b) ∷ t) (pairs_by byte base width factor part lane k xs (omega (arith, l)) h.1.1)
+-- the numbers by which the digits of two neighbouring lanes become one number
+record ArePaired (byte base width factor part : ℕ) : Type 0 where
+  lane : (a b w : ℕ) → a < base → b < base → ((a + byte * (b + byte * w)) % width * factor % width / part ≡ a * base + b) × ((a + byte * (b + byte * w)) / width ≡ w)
+
+pairs_by : {byte base width factor part : ℕ} → ArePaired byte base width factor part → (k : ℕ) (xs : List ℕ) → length xs ≡ 2 * k → AreBelow base xs
+    → pairs_l width factor part k (number_l byte xs) ≡ twos_of base xs
+pairs_by are zero [] l h = refl
+pairs_by are zero (a ∷ xs) l h = absurd (omega (arith, l))
+pairs_by are (suc k) [] l h = absurd (omega (arith, l))
+pairs_by are (suc k) (a ∷ []) l h = absurd (omega (arith, l))
+pairs_by {byte} {base} {width} {factor} {part} are (suc k) (a ∷ b ∷ xs) l h =
+    let (one, on) = are.lane a b (number_l byte xs) h.0 h.1.0 in
+    (λ i. one i ∷ pairs_l width factor part k (on i)) ∙ ap (λ t. (a * base + b) ∷ t) (pairs_by are k xs (omega (arith, l)) h.1.1)
 
 pub pairs_are : (k : ℕ) (xs : List ℕ) → length xs ≡ 2 * k → AreBelow 10 xs → pairs_l 65536 2561 256 k (number_l 256 xs) ≡ twos_of 10 xs
-pairs_are k xs l h = pairs_by 256 10 65536 2561 256 (λ a b w p q. (omega (arith, p, q), omega (arith, p, q))) k xs l h
+pairs_are k xs l h = pairs_by {byte = 256} {base = 10} {width = 65536} {factor = 2561} {part = 256} (record { lane = λ a b w p q. (omega (arith, p, q), omega (arith, p, q)) }) k xs l h
 
 fours_are : (k : ℕ) (xs : List ℕ) → length xs ≡ 2 * k → AreBelow 100 xs → pairs_l 4294967296 6553601 65536 k (number_l 65536 xs) ≡ twos_of 100 xs
-fours_are k xs l h = pairs_by 65536 100 4294967296 6553601 65536 (λ a b w p q. (omega (arith, p, q), omega (arith, p, q))) k xs l h
+fours_are k xs l h = pairs_by {byte = 65536} {base = 100} {width = 4294967296} {factor = 6553601} {part = 65536} (record { lane = λ a b w p q. (omega (arith, p, q), omega (arith, p, q)) }) k xs l h
 
 -- the bytes of a number
 bytes_of : (k n : ℕ) → n < 256 ^ k → number_l 256 (digits_l 256 k n) ≡ n
@@ -71,10 +74,10 @@ twos_below base n small (a ∷ []) h = tt
 twos_below base n small (a ∷ b ∷ xs) h = (small a b h.0 h.1.0, twos_below base n small xs h.1.1)
 
 -- the digits of a number
-digits_are : (s a b c d e f g h i j l m n y z : ℕ) → AreBelow 10 (a ∷ b ∷ c ∷ d ∷ e ∷ f ∷ g ∷ h ∷ i ∷ j ∷ l ∷ m ∷ n ∷ [])
+digits_are : {s a b c d e f g h i j k l m n y z : ℕ} → AreBelow 10 (a ∷ b ∷ c ∷ d ∷ e ∷ f ∷ g ∷ h ∷ i ∷ j ∷ l ∷ m ∷ n ∷ []) → k ≡ 0
     → s ≡ a * 1_000_000_000_000 + b * 100_000_000_000 + c * 10_000_000_000 + d * 1_000_000_000 + e * 100_000_000 + f * 10_000_000 + g * 1_000_000 + h * 100_000 + i * 10_000 + j * 1000 + l * 100 + m * 10 + n
-    → (a ∷ b ∷ c ∷ d ∷ e ∷ f ∷ g ∷ h ∷ i ∷ j ∷ 0 ∷ l ∷ m ∷ n ∷ y ∷ z ∷ [] ≡ digit_columns s y z) × (s < 10 ^ 13)
-digits_are s a b c d e f g h i j l m n y z (ha, (hb, (hc, (hd, (he, (hf, (hg, (hh, (hi, (hj, (hl, (hm, (hn, t))))))))))))) is =
+    → (a ∷ b ∷ c ∷ d ∷ e ∷ f ∷ g ∷ h ∷ i ∷ j ∷ k ∷ l ∷ m ∷ n ∷ y ∷ z ∷ [] ≡ digit_columns s y z) × (s < 10 ^ 13)
+digits_are {s} {a} {b} {c} {d} {e} {f} {g} {h} {i} {j} {k} {l} {m} {n} {y} {z} (ha, (hb, (hc, (hd, (he, (hf, (hg, (hh, (hi, (hj, (hl, (hm, (hn, t))))))))))))) point is =
     let qn : n ≡ s % 10 = omega (arith, is, hn) in
     let qm : m ≡ s / 10 % 10 = omega (arith, is, hn, hm) in
     let ql : l ≡ s / 100 % 10 = omega (arith, is, hn, hm, hl) in
@@ -88,7 +91,7 @@ digits_are s a b c d e f g h i j l m n y z (ha, (hb, (hc, (hd, (he, (hf, (hg, (h
     let qc : c ≡ s / 10_000_000_000 % 10 = omega (arith, is, hn, hm, hl, hj, hi, hh, hg, hf, he, hd, hc) in
     let qb : b ≡ s / 100_000_000_000 % 10 = omega (arith, is, hn, hm, hl, hj, hi, hh, hg, hf, he, hd, hc, hb) in
     let qa : a ≡ s / 1_000_000_000_000 = omega (arith, is, hn, hm, hl, hj, hi, hh, hg, hf, he, hd, hc, hb) in
-    (λ o. qa o ∷ qb o ∷ qc o ∷ qd o ∷ qe o ∷ qf o ∷ qg o ∷ qh o ∷ qi o ∷ qj o ∷ 0 ∷ ql o ∷ qm o ∷ qn o ∷ y ∷ z ∷ [], omega (arith, qa, ha))
+    (λ o. qa o ∷ qb o ∷ qc o ∷ qd o ∷ qe o ∷ qf o ∷ qg o ∷ qh o ∷ qi o ∷ qj o ∷ point o ∷ ql o ∷ qm o ∷ qn o ∷ y ∷ z ∷ [], omega (arith, qa, ha))
 
 -- the size of the digits in lanes
 abbrev pub size_l : List ℕ → ℕ
@@ -97,15 +100,8 @@ size_l ds = let es = twos_of 10_000 (twos_of 100 (twos_of 10 (ordered ds))) in g
 abbrev pub IsSize : List ℕ → Type 0
 IsSize ds = AreWithin LIMITS ds → (s : ℕ) → s ≡ size_l ds → (ds ≡ digit_columns s (get_or ds 14 0) (get_or ds 15 0)) × (s < 10 ^ 13)
 
-one_size : (a b c d e f g h i j k l m n y z : ℕ) → IsSize (a ∷ b ∷ c ∷ d ∷ e ∷ f ∷ g ∷ h ∷ i ∷ j ∷ k ∷ l ∷ m ∷ n ∷ y ∷ z ∷ [])
-one_size a b c d e f g h i j k l m n y z are s is =
-    let below : AreBelow 10 (a ∷ b ∷ c ∷ d ∷ e ∷ f ∷ g ∷ h ∷ i ∷ j ∷ l ∷ m ∷ n ∷ []) = omega (arith, are) in
-    let point : k ≡ 0 = omega (arith, are) in
-    let (text, bound) = digits_are s a b c d e f g h i j l m n y z below (omega (arith, is)) in
-    (ap (λ x. a ∷ b ∷ c ∷ d ∷ e ∷ f ∷ g ∷ h ∷ i ∷ j ∷ x ∷ l ∷ m ∷ n ∷ y ∷ z ∷ []) point ∙ text, bound)
-
 pub size_is : (ds : List ℕ) → length ds ≡ 16 → IsSize ds
-size_is ds size = sixteen IsSize one_size ds size
+size_is ds size = sixteen IsSize (λ a b c d e f g h i j k l m n y z are s is. digits_are (omega (arith, are)) (omega (arith, are)) (omega (arith, is))) ds size
 
 -- ---- columns of which digits are taken
 

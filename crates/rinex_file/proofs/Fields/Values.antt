@@ -171,9 +171,9 @@ end_back y h = omega (arith, h)
 digits_below : (s y z : ℕ) → s < 10 ^ 13 → y < 256 → z < 256 → AreBelow 256 (digit_columns s y z)
 digits_below s y z h k l = omega (arith, h, k, l)
 
-pub shown : (columns ts : List ℕ) (start : ℕ) (b : Bool) (v : ℤ) → AreBelow 256 columns → FitsColumns v → columns ≡ field (Some v) (get_or columns 14 0) (get_or columns 15 0)
+pub shown : {columns ts : List ℕ} {start : ℕ} {b : Bool} {v : ℤ} → AreBelow 256 columns → FitsColumns v → columns ≡ field (Some v) (get_or columns 14 0) (get_or columns 15 0)
     → b ≡ has_minus columns → start ≡ (if b then blanks columns + 1 else blanks columns) → (start ≤ 9 → (b ≡ true → 1 ≤ start) → ts ≡ template b 9 start) → IsShown (zip2 taken columns ts) start b v
-shown columns ts start b v below fits is minus at rows =
+shown {columns} {ts} {start} {b} {v} below fits is minus at rows =
     let n = unsigned_abs v in
     let y = get_or columns 14 0 in
     let z = get_or columns 15 0 in
@@ -207,8 +207,8 @@ within ds start b v is =
       digits_within s y z h k l = omega (arith, h, k, l)
 
 -- a negative value has a digit other than zero
-pub no_zero : (ds : List ℕ) (start s y z : ℕ) (b : Bool) (v : ℤ) → IsShown ds start b v → b ≡ true → s ≡ 0 → ds ≡ digit_columns s y z → ⊥
-no_zero ds start s y z b v is minus none digits =
+pub no_zero : {ds : List ℕ} {start s y z : ℕ} {b : Bool} {v : ℤ} → IsShown ds start b v → b ≡ true → s ≡ 0 → ds ≡ digit_columns s y z → ⊥
+no_zero {y} {z} {b} {v} is minus none digits =
     some v (is.sign ∙ minus) (zero_size (unsigned_abs v) is.lost is.strength y z (sym (digits ∙ ap (λ n. digit_columns n y z) none) ∙ is.digits)) where
       zero_size : (n a b y z : ℕ) → digit_columns 0 y z ≡ digit_columns n a b → n ≡ 0
       zero_size n a b y z e =
@@ -253,28 +253,35 @@ zeros_before b (suc n) (suc start) rest few small some =
     ap (λ d. leading (d ∷ take n (zip2 taken (empty_columns b start ++ rest) (template b n start)))) (empty_taken b start)
     ∙ ap (λ (k : ℕ). suc k) (zeros_before b n start rest (omega (arith, few)) small (λ h. some (omega (arith, h))))
 
-pub first_is : (columns : List ℕ) (b : Bool) (start : ℕ) → length columns ≡ 16 → AreBelow 256 columns → blanks columns ≤ 9 → Begins columns b start → start ≤ 9 → (start < 9 → get_or columns start 0 ≡ 48 → ⊥)
+-- sixteen columns of a field, of which at most nine are blank before the value
+pub record AreColumns (columns : List ℕ) : Type 0 where
+  pub size : length columns ≡ 16
+  pub below : AreBelow 256 columns
+  pub few : blanks columns ≤ 9
+
+pub first_is : {columns : List ℕ} (b : Bool) (start : ℕ) → AreColumns columns → Begins columns b start → start ≤ 9 → (start < 9 → get_or columns start 0 ≡ 48 → ⊥)
     → leading (take 9 (zip2 taken columns (template b 9 start))) ≡ start
-first_is columns b start size below few begin less some =
+first_is {columns} b start are begin less some =
     let first : get_or (drop start columns) 0 0 ≡ get_or columns start 0 = get_or-drop start columns 0 0 ∙ ap (λ n. get_or columns n 0) (omega arith) in
-    ap (λ l. leading (take 9 (zip2 taken l (template b 9 start)))) (begin_as b start columns size few begin)
-    ∙ zeros_before b 9 start (drop start columns) less (subst (λ (d : ℕ). d < 256) (sym first) (below_at 256 columns (omega arith) below start)) (λ h zero. some h (sym first ∙ zero))
+    ap (λ l. leading (take 9 (zip2 taken l (template b 9 start)))) (begin_as b start columns are.size are.few begin)
+    ∙ zeros_before b 9 start (drop start columns) less (subst (λ (d : ℕ). d < 256) (sym first) (below_at 256 columns (omega arith) are.below start)) (λ h zero. some h (sym first ∙ zero))
 
 -- no minus is in the column of the last whole digit
-pub within_nine : (columns ts : List ℕ) (start : ℕ) (b : Bool) → length columns ≡ 16 → length ts ≡ 16 → blanks columns ≤ 9 → Begins columns b start → (start ≡ 10 → get_or ts 9 0 ≡ 48) → AreWithin LIMITS (zip2 taken columns ts) → start ≤ 9
-within_nine columns ts start false size long few (sign, at) last are = omega (arith, at, few)
-within_nine columns ts start true size long few (sign, at) last are =
-    let minus : start ≡ 10 → get_or (zip2 taken columns ts) 9 0 ≡ 253 = λ ten. get_or-zip2 taken columns ts 9 0 0 0 (omega (arith, size)) (omega (arith, long))
+pub within_nine : {columns : List ℕ} (ts : List ℕ) (start : ℕ) (b : Bool) → AreColumns columns → length ts ≡ 16 → Begins columns b start → (start ≡ 10 → get_or ts 9 0 ≡ 48)
+    → AreWithin LIMITS (zip2 taken columns ts) → start ≤ 9
+within_nine ts start false are long (sign, at) last within = omega (arith, at, are.few)
+within_nine {columns} ts start true are long (sign, at) last within =
+    let minus : start ≡ 10 → get_or (zip2 taken columns ts) 9 0 ≡ 253 = λ ten. get_or-zip2 taken columns ts 9 0 0 0 (omega (arith, are.size)) (omega (arith, long))
     ∙ ap₂ taken (ap (λ n. get_or columns n 0) (omega (arith, at, ten)) ∙ eqb-true (get_or columns (blanks columns) 0) 45 sign) (last ten) in
-    let digit = tenth_below (zip2 taken columns ts) (length-zip2 taken columns ts (size ∙ sym long) ∙ size) are in
-    grind (arith, at, few, minus, digit)
+    let digit = tenth_below (zip2 taken columns ts) (length-zip2 taken columns ts (are.size ∙ sym long) ∙ are.size) within in
+    grind (arith, at, are.few, minus, digit)
 
 -- the digits of a zero begin with one
-pub zero_first : (columns ts : List ℕ) (b : Bool) (start s y z : ℕ) → length columns ≡ 16 → AreBelow 256 columns → start ≡ leading (front s) → ts ≡ template b 9 start → zip2 taken columns ts ≡ digit_columns s y z → s ≡ 0 → get_or columns start 0 ≡ 48
-zero_first columns ts b start s y z size below lead row digits none =
+pub zero_first : {columns ts : List ℕ} (b : Bool) {start s y z : ℕ} → AreColumns columns → start ≡ leading (front s) → ts ≡ template b 9 start → zip2 taken columns ts ≡ digit_columns s y z → s ≡ 0 → get_or columns start 0 ≡ 48
+zero_first {columns} b {start} are lead row digits none =
     let nine : start ≡ 9 = lead ∙ ap (λ n. leading (front n)) none in
-    let h = below_at 256 columns (omega arith) below 9 in
-    let lane = sym (get_or-zip2 taken columns (template b 9 9) 9 0 0 0 (omega (arith, size)) (omega arith)) ∙ ap (λ l. get_or (zip2 taken columns l) 9 0) (ap (template b 9) (sym nine) ∙ sym row) ∙ ap (λ l. get_or l 9 0) digits in
+    let h = below_at 256 columns (omega arith) are.below 9 in
+    let lane = sym (get_or-zip2 taken columns (template b 9 9) 9 0 0 0 (omega (arith, are.size)) (omega arith)) ∙ ap (λ l. get_or (zip2 taken columns l) 9 0) (ap (template b 9) (sym nine) ∙ sym row) ∙ ap (λ l. get_or l 9 0) digits in
     ap (λ n. get_or columns n 0) nine ∙ omega (arith, h, lane, none)
 
 -- no value with more than one whole digit begins with a zero
@@ -306,18 +313,18 @@ signed_is (suc m) true small before some =
       first_zero s h = let zeros = none (s / 1_000_000_000_000) _ h in omega (arith, zeros)
 
 -- these are the columns of the value whose digits are left
-pub value_is : (columns ts : List ℕ) (s start : ℕ) (b : Bool) → length columns ≡ 16 → AreBelow 256 columns → s < 10 ^ 13 → start ≡ leading (front s) → (b ≡ true → 1 ≤ start) → (b ≡ true → s ≡ 0 → ⊥)
+pub value_is : {columns ts : List ℕ} (s : ℕ) {start : ℕ} (b : Bool) → AreColumns columns → s < 10 ^ 13 → start ≡ leading (front s) → (b ≡ true → (1 ≤ start) × (s ≡ 0 → ⊥))
     → ts ≡ template b 9 start → zip2 taken columns ts ≡ digit_columns s (get_or (zip2 taken columns ts) 14 0) (get_or (zip2 taken columns ts) 15 0) → IsValue columns (if b then neg_ℤ (pos s) else pos s)
-value_is columns ts s start b l h small lead before some is digits =
+value_is {columns} {ts} s {start} b are small lead minus is digits =
     let v : ℤ = if b then neg_ℤ (pos s) else pos s in
     let y = added (get_or (zip2 taken columns ts) 14 0) 32 in
     let z = added (get_or (zip2 taken columns ts) 15 0) 32 in
-    let (fits, sign, size) = signed_is s b small (λ is. subst (λ (n : ℕ). 1 ≤ n) lead (before is)) some in
+    let (fits, sign, size) = signed_is s b small (λ is. subst (λ (n : ℕ). 1 ≤ n) lead (minus is).0) (λ is. (minus is).1) in
     let long : length ts ≡ 16 = ap length is ∙ length-template b 9 start in
     let below : AreBelow 256 ts = subst (AreBelow 256) (sym is) (template_below b 9 start) in
     let shown = value_columns v (get_or (zip2 taken columns ts) 14 0) (get_or (zip2 taken columns ts) 15 0) fits in
     let text : columns ≡ field (Some v) y z =
-    sym (added_back columns ts (l ∙ sym long) h below)
+    sym (added_back columns ts (are.size ∙ sym long) are.below below)
     ∙ ap₂ (zip2 added) (digits ∙ ap (λ n. digit_columns n (get_or (zip2 taken columns ts) 14 0) (get_or (zip2 taken columns ts) 15 0)) (sym size))
     (is ∙ ap₂ (λ t n. template t 9 n) (sym sign) (lead ∙ ap (λ n. leading (front n)) (sym size))) ∙ shown in
     let (_, lost, strength) = field_parts v y z fits in

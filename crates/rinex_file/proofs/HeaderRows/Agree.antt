@@ -6,7 +6,7 @@ use Rattle.rinex_file.proofs.Reading.Epochs.{cons_parts}
 use Rattle.rinex_file.proofs.Entries.{few_signals}
 use Rattle.rinex_file.proofs.Reading.Dates.{IsField, AreFields, field_at}
 use Rattle.rinex_file.proofs.HeaderRows.Texts.{equal_or}
-use Rattle.rinex_file.proofs.HeaderRows.Types.{code_here, count_read, few_types, listed_at, signal_at, column_of, code_reads_back, content_first}
+use Rattle.rinex_file.proofs.HeaderRows.Types.{IsInLine, code_here, count_read, few_types, listed_at, signal_at, code_reads_back, content_first}
 use Rattle.rinex_file.proofs.Names.{◌&&◌, arith, ◌≡◌, ◌∙◌, refl, sym, ap, ℕ, ◌+◌, ◌/◌, ◌<◌, ◌≤◌, ◌^◌, List, [], ◌∷◌, ◌++◌, length, take, drop, get_or, replicate, append_assoc, append-nil, length-append, Bool, true, false, ℤ, pos, neg_ℤ, ◌≤ℤ◌, unsigned_abs, subst, zero, suc, lit<, ◌*◌, min, IsTrue, ◌↔◌, not, ◌||◌, ◌==◌, codes, if◌then◌else◌, flat_map, nat_lt, slice_index, is_negative, digits, sign_text, nat_tests, ints, take_more, take-append-drop, take_min, take_more_same, drop-cons, SignalAt, code_of, signal_of_code, System, Gps, Galileo, passes_at, is_equal, civil_of, PlanValue, planned_of, StationValues, Civil, joined, left, right, fixed, digits_in, number_in, header_line, lengths, height_line, row_line, row_lines, has_line, header_lines, all_rows, row_count, row_at, row_place, lines_from, first_types, type_rows, version_line, version_with, Shown, shown_rows, lines_before, lines_after, IsShown, shown_line, AreTypes, types_line, is_some_planned, signals_begun, IsCoordinate, End, Version, Types, First, Shift, lines_of_header, HeaderLists, HeaderRow, drop-append-le, same_Some}
 
 -- ---- version
@@ -44,9 +44,9 @@ is_letter : (a : Bool) (letter : List ℕ) (x y : ℕ) → letter ≡ x ∷ [] �
 is_letter a letter x y e is = grind (arith, nat_tests)
 
 -- E, or else signals of GPS are planned; G, or else of Galileo
-pub version_read : (line : List ℕ) (w : Bool × Bool) (a b : Bool) (letter : List ℕ) → letter ≡ take 1 (drop 40 line) → (IsTrue a ↔ (letter ≡ 69 ∷ [])) → (IsTrue b ↔ (letter ≡ 71 ∷ []))
+pub version_read : {line : List ℕ} {w : Bool × Bool} (a b : Bool) {letter : List ℕ} → letter ≡ take 1 (drop 40 line) → (IsTrue a ↔ (letter ≡ 69 ∷ [])) → (IsTrue b ↔ (letter ≡ 71 ∷ []))
     → (w.0 || w.1) ≡ true → line ≡ version_with w.0 w.1 → w ≡ (not a, not b)
-version_read line w a b letter at gps galileo some e =
+version_read {w} a b {letter} at gps galileo some e =
     let l = letter_with w.0 w.1 in
     let here : letter ≡ l ∷ [] = at ∙ ap (λ t. take 1 (drop 40 t)) e ∙ letter_at l in
     sym (planned_back w some) ∙ sym (ap (λ x. (not x, not b)) (is_letter a letter l 69 here gps) ∙ ap (λ x. (not (l == 69), not x)) (is_letter b letter l 71 here galileo))
@@ -91,8 +91,8 @@ lengths-back x y z label a b c =
     let ps : List (ℕ × ℤ) = (14, x) ∷ (14, y) ∷ (14, z) ∷ [] in
     let (rest, shape) = content_first (joined fs) label in
     let are : AreFields number_in fs ps = (is_length x a, (is_length y b, (is_length z c, tt))) in
-    let at = λ (k : ℕ) (less : k < 3). field_at number_in fs ps k (0, pos 0) rest (header_line (lengths x y z) label) are less shape in
-    (at 0 (lit< tt), at 1 (lit< tt), at 2 (lit< tt))
+    let at = λ (k : ℕ) (less : k < 3). field_at number_in fs ps k (0, pos 0) rest are less in
+    (ap (number_at 0) shape ∙ at 0 (lit< tt), ap (number_at 14) shape ∙ at 1 (lit< tt), ap (number_at 28) shape ∙ at 2 (lit< tt))
 
 is_height : (h : ℕ) → h < 2 ^ 16 → IsField digits_in (right 14 (fixed 4 (pos h))) (14, h)
 is_height h small = (length-column (pos h) (omega (arith, small)), digits_in-right 14 (fixed 4 (pos h)) ∙ digits_in-fixed 4 (pos h) (omega arith) (omega (arith, small)))
@@ -104,7 +104,7 @@ height-back h small =
     let none = right 14 (fixed 4 (pos 0)) in
     let (rest, shape) = content_first (joined (f ∷ none ∷ none ∷ [])) (codes "ANTENNA: DELTA H/E/N") in
     let zero = is_height 0 (lit< tt) in
-    field_at digits_in (f ∷ none ∷ none ∷ []) ((14, h) ∷ (14, 0) ∷ (14, 0) ∷ []) 0 (0, 0) rest (height_line h) (is_height h small, (zero, (zero, tt))) (lit< tt) shape
+    ap (λ l. digits_in (take 14 (drop 0 l))) shape ∙ field_at digits_in (f ∷ none ∷ none ∷ []) ((14, h) ∷ (14, 0) ∷ (14, 0) ∷ []) 0 (0, 0) rest (is_height h small, (zero, (zero, tt))) (lit< tt)
 
 size_within : (z : ℤ) → neg_ℤ (pos 137_438_953_472) ≤ℤ z → z ≤ℤ pos 137_438_953_471 → unsigned_abs z < 10 ^ 12
 size_within z low high = omega (arith, ints)
@@ -234,7 +234,7 @@ types_there (suc row) count (suc n) b planned counted = let e = counted (omega a
 abbrev systems_of : Shown → Bool × Bool
 systems_of h = (is_some_planned h.plan.gps, is_some_planned h.plan.galileo)
 
-module _ (h g : Shown) (a : IsShown h) (b : IsShown g) where
+module _ {h g : Shown} (a : IsShown h) (b : IsShown g) where
   systems_same : shown_rows h Version ≡ shown_rows g Version → (s : System) → is_some_planned (planned_of s h.plan) ≡ is_some_planned (planned_of s g.plan)
   unfolding row_line
   systems_same e = by where
@@ -265,15 +265,15 @@ module _ (h g : Shown) (a : IsShown h) (b : IsShown g) where
 
   -- ---- the signals of a system
 
-  same_signal : (s : System) (x y : List ℕ) (m : ℕ) → AreTypes s x → AreTypes s y → m < length x → m < length y → types_line s x (4 * m / 13) ≡ types_line s y (4 * m / 13) → slice_index x m ≡ slice_index y m
-  same_signal s x y m ax ay lx ly e =
+  same_signal : {s : System} {x y : List ℕ} {m : ℕ} → AreTypes s x → AreTypes s y → m < length x → m < length y → types_line s x (4 * m / 13) ≡ types_line s y (4 * m / 13) → slice_index x m ≡ slice_index y m
+  same_signal {s} {x} {y} {m} ax ay lx ly e =
       let r = 4 * m / 13 in
       let fx = few_types s x ax in
       let fy = few_types s y ay in
       let most = few_signals s in
-      let at : take 2 (drop (column_of r m) (types_line s y r)) ≡ code_of (signal_at s x m) = code_here s x (types_line s y r) r m ax (omega (arith, fx, most)) (sym e) (omega arith) (omega arith) lx in
-      let also : take 2 (drop (column_of r m) (types_line s y r)) ≡ code_of (signal_at s y m) = code_here s y (types_line s y r) r m ay (omega (arith, fy, most)) refl (omega arith) (omega arith) ly in
-      ap (λ (t : SignalAt). t.index) (same_Some (signal_at s x m) (signal_at s y m) (sym (code_reads_back (signal_at s x m) (listed_at s x m ax lx)) ∙ ap (signal_of_code s) (sym at ∙ also) ∙ code_reads_back (signal_at s y m) (listed_at s y m ay ly)))
+      let at : IsInLine s x (types_line s y r) r m = record { are = ax; few = omega (arith, fx, most); is = sym e; low = omega arith; high = omega arith; less = lx } in
+      let also : IsInLine s y (types_line s y r) r m = record { are = ay; few = omega (arith, fy, most); is = refl; low = omega arith; high = omega arith; less = ly } in
+      ap (λ (t : SignalAt). t.index) (same_Some (signal_at s x m) (signal_at s y m) (sym (code_reads_back (signal_at s x m) (listed_at s x m ax lx)) ∙ ap (signal_of_code s) (sym (code_here at) ∙ code_here also) ∙ code_reads_back (signal_at s y m) (listed_at s y m ay ly)))
 
   module _ (s : System) (size : length (planned_of s h.plan) ≡ length (planned_of s g.plan)) (row : ℕ) (few : row ≤ 6)
       (rows : (r : ℕ) → r < row → shown_rows h (Types s r) ≡ shown_rows g (Types s r)) where
@@ -290,8 +290,7 @@ module _ (h g : Shown) (a : IsShown h) (b : IsShown g) where
         (sym (types_in h s r (omega (arith, lh))) ∙ rows r (omega (arith, low)) ∙ types_in g s r (omega (arith, lg))) in
         ap (λ n. take n hs) next
         ∙ take_more_same hs gs m 0 lh lg (first_same m (omega (arith, low)) (omega (arith, less)))
-        (same_signal s hs gs m (types_shown s h a (omega (arith, lh))) (types_shown s g b (omega (arith, lg))) lh lg same)
-        ∙ ap (λ n. take n gs) (sym next)
+        (same_signal (types_shown s h a (omega (arith, lh))) (types_shown s g b (omega (arith, lg))) lh lg same) ∙ ap (λ n. take n gs) (sym next)
 
     pub signals_same : take (signals_begun row) (planned_of s h.plan) ≡ take (signals_begun row) (planned_of s g.plan)
     signals_same =

@@ -43,11 +43,11 @@ module _ (h g : Shown) (a : IsShown h) (b : IsShown g) (agree : Agree h g (row_p
   signals : (s : System) → planned_of s h.plan ≡ planned_of s g.plan
   signals s =
       let high = types_high s in
-      let size = agree_count h g a b (row_place End) agree s (omega (arith, high)) in
+      let size = agree_count a b (row_place End) agree s (omega (arith, high)) in
       let few = few_signals_of h.plan a.plan s in
       let also = few_signals_of g.plan b.plan s in
       sym (take_all (signals_begun 6) (planned_of s h.plan) (omega (arith, few)))
-      ∙ signals_same h g a b s size 6 (lit≤ tt) (λ r less. agree_types h g a b (row_place End) agree s r less (omega (arith, less, high)))
+      ∙ signals_same a b s size 6 (lit≤ tt) (λ r less. agree_types a b (row_place End) agree s r less (omega (arith, less, high)))
       ∙ take_all (signals_begun 6) (planned_of s g.plan) (omega (arith, also))
 
   values : h.values ≡ g.values
@@ -73,15 +73,15 @@ module _ (h g : Shown) (a : IsShown h) (b : IsShown g) (agree : Agree h g (row_p
 module _ (k : Known) (at : IsHeadAt k (row_place End)) where
   all_read : (p : PlanValue) → MayPlan k p → (s : System) → planned_of s k.shown.plan ≡ planned_of s p
   all_read p may s = by (announced k s).planned refl where
-    all_of : (n c : ℕ) (xs ys : List ℕ) → c ≤ 19 → 20 ≤ n → length xs ≡ min n c → c ≡ length ys → xs ≡ take (length xs) ys → xs ≡ ys
-    all_of n c xs ys few many size is e = e ∙ take_all (length xs) ys (omega (arith, few, many, size, is))
+    all_of : (n : ℕ) {c : ℕ} {xs ys : List ℕ} → c ≤ 19 → 20 ≤ n → length xs ≡ min n c → c ≡ length ys → xs ≡ take (length xs) ys → xs ≡ ys
+    all_of n {xs = xs} {ys} few many size is e = e ∙ take_all (length xs) ys (omega (arith, few, many, size, is))
 
     by : (c : Bool) → (announced k s).planned ≡ c → planned_of s k.shown.plan ≡ planned_of s p
     by true e =
         let high = types_high s in
         let counted = (may.each s).count ((at.read.each s).counted.1 (e, omega (arith, high))) in
         let few = few_signals_of p may.is s in
-        all_of (signals_begun (row_place End - first_types s)) (announced k s).count (planned_of s k.shown.plan) (planned_of s p) (omega (arith, few, counted)) (omega (arith, high)) (at.read.each s).size counted (may.each s).begins
+        all_of (signals_begun (row_place End - first_types s)) (omega (arith, few, counted)) (omega (arith, high)) (at.read.each s).size counted (may.each s).begins
     by false e =
         let none : planned_of s p ≡ [] = none_planned (planned_of s p) (sym ((may.each s).planned (at.read.systems (lit< tt))) ∙ e) in
         (may.each s).begins ∙ ap (take (length (planned_of s k.shown.plan))) none ∙ take_all (length (planned_of s k.shown.plan)) [] (omega arith) ∙ sym none
@@ -108,9 +108,9 @@ no_end_line line never h is e = never (sym e)
 pub listed_by : (system : System) (ss : List SignalAt) → All (λ s. (s.system ≡ system) × IsSignal s) ss → All (λ i. i < length (table system)) (indices ss)
 listed_by system ss all = All-map (λ i. i < length (table system)) (λ s. s.index) ss (All-weaker (λ s. (s.system ≡ system) × IsSignal s) (λ s. s.index < length (table system)) (λ (s : SignalAt) (is : (s.system ≡ system) × IsSignal s). subst (λ t. s.index < length (table t)) is.0 is.1) ss all)
 
-pub valid_by : (k made : Known) → made ≡ k → AreTexts made.shown.texts → (gps galileo : List SignalAt) → IsOf Gps gps → IsOf Galileo galileo → AreValues made.shown.values → IsTime made.shown.first
+pub valid_by : {k made : Known} {gps galileo : List SignalAt} → made ≡ k → AreTexts made.shown.texts → IsOf Gps gps → IsOf Galileo galileo → AreValues made.shown.values → IsTime made.shown.first
     → made.shown.plan ≡ record { gps = indices gps; galileo = indices galileo } → AreValid k
-valid_by k made e texts gps galileo g l values first plan = subst AreValid e (record { texts = texts; listed = listed; apart = apart; values = values; first = first }) where
+valid_by {made = made} {gps} {galileo} e texts g l values first plan = subst AreValid e (record { texts = texts; listed = listed; apart = apart; values = values; first = first }) where
   listed : (system : System) → All (λ i. i < length (table system)) (planned_of system made.shown.plan)
   listed Gps = subst (λ (p : PlanValue). All (λ i. i < length (table Gps)) p.gps) (sym plan) (listed_by Gps gps g.each)
   listed Galileo = subst (λ (p : PlanValue). All (λ i. i < length (table Galileo)) p.galileo) (sym plan) (listed_by Galileo galileo l.each)

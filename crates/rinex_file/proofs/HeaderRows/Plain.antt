@@ -181,17 +181,17 @@ line_of_delta v values = three_lengths (pos v.height) (pos 0) (pos 0) (codes "AN
 
 -- ---- rows
 
-line_in : (x : HeaderLists) (p : PlanValue) (v : StationValues) (t : Civil) → AreTexts x → IsPlan p → AreValues v → IsShort t → (r : HeaderRow) → IsFileLine (row_line x p v t r)
+line_in : {x : HeaderLists} {p : PlanValue} {v : StationValues} {t : Civil} → AreTexts x → IsPlan p → AreValues v → IsShort t → (r : HeaderRow) → IsFileLine (row_line x p v t r)
 unfolding row_line
-line_in x p v t texts plan values time Version = version p
-line_in x p v t texts plan values time (Texts r) = line_of_texts x texts r
-line_in x p v t texts plan values time Position = line_of_position v values
-line_in x p v t texts plan values time Delta = line_of_delta v values
-line_in x p v t texts plan values time (Types s row) = one_of_types s (planned_of s p) row (few_signals_of p plan s)
-line_in x p v t texts plan values time StrengthUnit = header 4 (codes "DBHZ") (codes "SIGNAL STRENGTH UNIT") (record { clean = refl; short = lit≤ tt }) (plain 20 _ refl (lit≤ tt)) (lit≤ tt)
-line_in x p v t texts plan values time First = line_of_first t time
-line_in x p v t texts plan values time (Shift s) = header 1 (letter_of s ∷ []) (codes "SYS / PHASE SHIFT") (plain 1 _ (ap (λ c. c || false) (no_letter s)) (lit≤ tt)) (plain 20 _ refl (lit≤ tt)) (lit≤ tt)
-line_in x p v t texts plan values time End = header 0 [] (codes "END OF HEADER") (record { clean = refl; short = lit≤ tt }) (plain 20 _ refl (lit≤ tt)) (lit≤ tt)
+line_in {p} texts plan values time Version = version p
+line_in {x} texts plan values time (Texts r) = line_of_texts x texts r
+line_in {v} texts plan values time Position = line_of_position v values
+line_in {v} texts plan values time Delta = line_of_delta v values
+line_in {p} texts plan values time (Types s row) = one_of_types s (planned_of s p) row (few_signals_of p plan s)
+line_in texts plan values time StrengthUnit = header 4 (codes "DBHZ") (codes "SIGNAL STRENGTH UNIT") (record { clean = refl; short = lit≤ tt }) (plain 20 _ refl (lit≤ tt)) (lit≤ tt)
+line_in {t} texts plan values time First = line_of_first t time
+line_in texts plan values time (Shift s) = header 1 (letter_of s ∷ []) (codes "SYS / PHASE SHIFT") (plain 1 _ (ap (λ c. c || false) (no_letter s)) (lit≤ tt)) (plain 20 _ refl (lit≤ tt)) (lit≤ tt)
+line_in texts plan values time End = header 0 [] (codes "END OF HEADER") (record { clean = refl; short = lit≤ tt }) (plain 20 _ refl (lit≤ tt)) (lit≤ tt)
 
 lines_of_rows : (x : HeaderLists) (p : PlanValue) (v : StationValues) (t : Civil) → ((r : HeaderRow) → IsFileLine (row_line x p v t r)) → (rows : List HeaderRow) → All IsFileLine (flat_map (row_lines x p v t) rows)
 lines_of_rows x p v t each [] = All-nil IsFileLine
@@ -201,4 +201,4 @@ lines_of_rows x p v t each (r ∷ rows) =
 
 pub lines_of_header : (x : HeaderLists) (p : PlanValue) (v : StationValues) (t : Civil) → AreTexts x → IsPlan p → AreValues v → IsShort t → All IsFileLine (header_lines x p v t)
 unfolding header_lines
-lines_of_header x p v t texts plan values time = lines_of_rows x p v t (line_in x p v t texts plan values time) all_rows
+lines_of_header x p v t texts plan values time = lines_of_rows x p v t (line_in texts plan values time) all_rows

@@ -18,12 +18,12 @@ begun_in_front old new all row grows size is = grind (arith, take-take, begun_mo
 grows_indices : (old new : List SignalAt) → take (length old) new ≡ old → take (length (indices old)) (indices new) ≡ indices old
 grows_indices old new e = grind (arith, length_indices, take-map)
 
-pub row_taken : (system : System) (count before row : ℕ) (line : List ℕ) (old new : List SignalAt)
+pub row_taken : {system : System} {count before row : ℕ} {line : List ℕ} {old : List SignalAt} (new : List SignalAt)
     → count ≤ length (table system) → row < type_rows count → (0 < row → before ≡ count)
     → take (length old) new ≡ old → length old ≡ signals_begun row → length new ≡ min (signals_begun (row + 1)) count
     → ((all : List ℕ) → AreTypes system all → AreBegun count row (indices old) all → (line ≡ types_line system all row) ↔ (indices new ≡ take (signals_begun (row + 1)) all))
     → TakesTypes system row line before (indices old) count (indices new)
-row_taken system count before row line old new few rows later grows begun size taken = grind (arith, length_indices, begun_in_front, grows_indices)
+row_taken new few rows later grows begun size taken = grind (arith, length_indices, begun_in_front, grows_indices)
 
 -- the signals that begin before an expected line were read
 pub begun_here : (s : System) (row : ℕ) (a : Announced) (signals : List ℕ) → (0 < row → row < type_rows a.count) → AreTypesRead s a signals (first_types s + row) → length signals ≡ signals_begun row
@@ -127,7 +127,7 @@ module _ (k : Known) (s : System) (row : ℕ) (line : List ℕ) (few : row < 6) 
         let a = announced k s in
         let g = shown_with k p in
         let gs = with_is k (first_types s + row) at.valid at.read p may in
-        let f = follows (first_types s + row) line k at (ap (known_line k) (types_row s row few) ∙ has) p h others left may shown e in
+        let f = follows at (ap (known_line k) (types_row s row few) ∙ has) may shown e in
         let hs = planned_of s h.plan in
         let there : nat_lt row (type_rows (length hs)) ≡ true = sym (ap (has_line h.plan) (types_row s row few)) ∙ f.there in
         let less : row < type_rows (length hs) = is_less row (type_rows (length hs)) there in
@@ -135,12 +135,12 @@ module _ (k : Known) (s : System) (row : ℕ) (line : List ℕ) (few : row < 6) 
         let shows : line ≡ types_line s hs row = sym f.shows ∙ ap (shown_line h) (types_row s row few) in
         let read = at.read.each s in
         let count : 0 < row → a.count ≡ length (planned_of s p) = λ far. (may.each s).count (read.counted.1 (planned_there a row has, omega (arith, far))) in
-        let same : 0 < row → length hs ≡ length (planned_of s p) = λ far. agree_count h g shown gs (first_types s + row) f.agree s (omega (arith, far)) in
+        let same : 0 < row → length hs ≡ length (planned_of s p) = λ far. agree_count shown gs (first_types s + row) f.agree s (omega (arith, far)) in
         refuses hs (types_shown s h shown some) (λ far. count far ∙ sym (same far))
         (less_or (planned_of s k.shown.plan ≡ take (signals_begun row) hs) 0 row
         (λ far. all_by (signals_begun row) a.count (planned_of s k.shown.plan) (planned_of s p) (may.each s).begins
         (read.size ∙ ap (λ m. min (signals_begun m) a.count) (row_number (first_types s) row)) (count far)
-        ∙ sym (signals_same h g shown gs s (same far) row (omega (arith, few)) (λ i l. agree_types h g shown gs (first_types s + row) f.agree s i (omega (arith, l, few)) (omega (arith, l)))))
+        ∙ sym (signals_same shown gs s (same far) row (omega (arith, few)) (λ i l. agree_types shown gs (first_types s + row) f.agree s i (omega (arith, l, few)) (omega (arith, l)))))
         (λ none. nothing (planned_of s k.shown.plan) hs (begun_here s row a (planned_of s k.shown.plan) (rows_there a row has) read) none))
         shows where
           nothing : (xs hs : List ℕ) → length xs ≡ signals_begun row → row ≤ 0 → xs ≡ take (signals_begun row) hs
@@ -152,16 +152,16 @@ abbrev with_parts : Known → HeaderLists → StationValues → ℕ → Known
 with_parts k x v t = record k { shown = record k.shown { texts = x; values = v; first = t } }
 
 -- a row without a part of the plan was read, and the lines before it are the same
-module _ (r : HeaderRow) (line : List ℕ) (k : Known) (x : HeaderLists) (v : StationValues) (t : ℕ) (out : IsOutside (row_place r)) (some : 0 < row_place r) where
-  row_read : ((p : PlanValue) → lines_before (shown_with (with_parts k x v t) p) (row_place r) ≡ lines_before (shown_with k p) (row_place r))
-      → ((h : Shown) → h.texts ≡ x → h.values ≡ v → h.first ≡ t → shown_line h r ≡ line) → (row_place First < suc (row_place r) → HasReadRows k (row_place r) → IsOnlyTime t)
-      → ReadsHeaderLine r line k (with_parts k x v t)
-  row_read before shows only rows known = record {
-    plans = λ p may. may;
-    before = before;
-    shows = λ p may. rows_when (shown_with (with_parts k x v t) p) r true (present r k p may rows ∙ known) ∙ ap (λ l. l ∷ []) (shows (shown_with (with_parts k x v t) p) refl refl refl);
-    reads = reads_next k.gps k.galileo k.shown.plan k.shown.first t (row_place r) out (rows.systems some) (λ l. only l rows) rows;
-  }
+row_read : (r : HeaderRow) {line : List ℕ} {k : Known} {x : HeaderLists} {v : StationValues} {t : ℕ} → IsOutside (row_place r) → 0 < row_place r
+    → ((p : PlanValue) → lines_before (shown_with (with_parts k x v t) p) (row_place r) ≡ lines_before (shown_with k p) (row_place r))
+    → ((h : Shown) → h.texts ≡ x → h.values ≡ v → h.first ≡ t → shown_line h r ≡ line) → (row_place First < suc (row_place r) → HasReadRows k (row_place r) → IsOnlyTime t)
+    → ReadsHeaderLine r line k (with_parts k x v t)
+row_read r {k = k} {x} {v} {t} out some before shows only rows known = record {
+  plans = λ p may. may;
+  before = before;
+  shows = λ p may. rows_when (shown_with (with_parts k x v t) p) r true (present r k p may rows ∙ known) ∙ ap (λ l. l ∷ []) (shows (shown_with (with_parts k x v t) p) refl refl refl);
+  reads = reads_next out (rows.systems some) (λ l. only l rows) rows;
+}
 
 -- ---- texts
 
@@ -196,8 +196,8 @@ pub line_texts : (r : TextRow) (line : List ℕ) (k : Known) (x : HeaderLists) �
 unfolding row_line
 line_texts r line k x read =
     let low = text_low r in
-    let same = kept_texts (start_of r) (fields_of r) (length (front_of r)) line k.shown.texts x (own_texts r) read.read in
-    row_read (Texts r) line k x k.shown.values k.shown.first (outside_low (1 + text_row_index r) (omega (arith, low))) (omega arith)
+    let same = kept_texts (start_of r) (fields_of r) (length (front_of r)) line k.shown.texts (own_texts r) read.read in
+    row_read (Texts r) (outside_low (1 + text_row_index r) (omega (arith, low))) (omega arith)
     (λ p. front_lines (shown_with (with_texts k x) p) r
     ∙ ap (λ l. version_line p ∷ l) (same_rows x k.shown.texts (start_of r) same (take (text_row_index r) text_rows) (rows_in_front r))
     ∙ sym (front_lines (shown_with k p) r))
@@ -213,8 +213,7 @@ pub line_position : (k : Known) (v : StationValues) (line : List ℕ) → ReadsE
     → ReadsHeaderLine Position line k (with_values k (record v { height = k.shown.values.height }))
 unfolding row_line
 line_position k v line r =
-    row_read Position line k k.shown.texts (record v { height = k.shown.values.height }) k.shown.first (outside_low (row_place Position) (lit≤ tt)) (lit≤ tt)
-    (λ p. refl) (λ h e f g. ap position_line f ∙ sym r.1) (λ l rows. absurd (omega (arith, l)))
+    row_read Position (outside_low (row_place Position) (lit≤ tt)) (lit≤ tt) (λ p. refl) (λ h e f g. ap position_line f ∙ sym r.1) (λ l rows. absurd (omega (arith, l)))
 
 pub refuse_position : (line : List ℕ) → ReadsExactly IsPosition position_line line None → RefusesHeaderLine Position line
 unfolding row_line
@@ -227,8 +226,7 @@ pub line_delta : (k : Known) (height : ℕ) (line : List ℕ) → Height line (S
     → ReadsHeaderLine Delta line k (with_values k (record k.shown.values { height = height }))
 unfolding row_line
 line_delta k height line r =
-    row_read Delta line k k.shown.texts (record k.shown.values { height = height }) k.shown.first (outside_low (row_place Delta) (lit≤ tt)) (lit≤ tt)
-    (λ p. refl) (λ h e f g. ap (λ (v : StationValues). height_line v.height) f ∙ sym r.1) (λ l rows. absurd (omega (arith, l)))
+    row_read Delta (outside_low (row_place Delta) (lit≤ tt)) (lit≤ tt) (λ p. refl) (λ h e f g. ap (λ (v : StationValues). height_line v.height) f ∙ sym r.1) (λ l rows. absurd (omega (arith, l)))
 
 pub refuse_delta : (line : List ℕ) → Height line None → RefusesHeaderLine Delta line
 unfolding row_line
@@ -239,8 +237,7 @@ refuse_delta line r h is e = r h.values.height is.values.height (sym e)
 pub line_first : (k : Known) (t : ℕ) (line : List ℕ) → ReadsExactly IsTime (λ t. first_line (civil_of t)) line (Some t) → ReadsHeaderLine First line k (with_first k t)
 unfolding row_line
 line_first k t line r =
-    row_read First line k k.shown.texts k.shown.values t (outside_high (row_place First) (lit≤ tt)) (lit≤ tt)
-    (λ p. refl) (λ h e f g. ap (λ t. first_line (civil_of t)) g ∙ sym r.1) (λ l rows u is e. r.2 u is (r.1 ∙ sym e))
+    row_read First (outside_high (row_place First) (lit≤ tt)) (lit≤ tt) (λ p. refl) (λ h e f g. ap (λ t. first_line (civil_of t)) g ∙ sym r.1) (λ l rows u is e. r.2 u is (r.1 ∙ sym e))
 
 pub refuse_first : (line : List ℕ) → ReadsExactly IsTime (λ t. first_line (civil_of t)) line None → RefusesHeaderLine First line
 unfolding row_line
@@ -248,24 +245,22 @@ refuse_first line r h is e = r h.first is.first (sym e)
 
 -- ---- lines that are always the same
 
-line_fixed : (r : HeaderRow) (text line : List ℕ) (k : Known) (b : Bool) → ((h : Shown) → shown_line h r ≡ text) → row_place StrengthUnit ≤ row_place r → row_place r ≢ row_place First
+line_fixed : (r : HeaderRow) {text line : List ℕ} (k : Known) (b : Bool) → ((h : Shown) → shown_line h r ≡ text) → row_place StrengthUnit ≤ row_place r → row_place r ≢ row_place First
     → (IsTrue b ↔ (line ≡ text)) → ReadsOrRefuses r line k k b
-line_fixed r text line k true shows far other is =
-    row_read r line k k.shown.texts k.shown.values k.shown.first (outside_high (row_place r) far) (omega (arith, far))
-    (λ p. refl) (λ h e f g. shows h ∙ sym (is.0 refl)) (λ l rows. rows.only (omega (arith, l, other)))
-line_fixed r text line k false shows far other is = λ h shown l. let e = is.1 (sym l ∙ shows h) in cc
+line_fixed r {line} k true shows far other is =
+    row_read r (outside_high (row_place r) far) (omega (arith, far)) (λ p. refl) (λ h e f g. shows h ∙ sym (is.0 refl)) (λ l rows. rows.only (omega (arith, l, other)))
+line_fixed r k false shows far other is = λ h shown l. let e = is.1 (sym l ∙ shows h) in cc
 
 pub line_unit : (k : Known) (line : List ℕ) (b : Bool) → (IsTrue b ↔ (line ≡ strength_line)) → ReadsOrRefuses StrengthUnit line k k b
 unfolding row_line
-line_unit k line b is = line_fixed StrengthUnit strength_line line k b (λ h. refl) (lit≤ tt) (λ e. absurd (omega (arith, e))) is
+line_unit k line b is = line_fixed StrengthUnit k b (λ h. refl) (lit≤ tt) (λ e. absurd (omega (arith, e))) is
 
 pub line_shift : (system : System) (letter : ℕ) (k : Known) (line : List ℕ) (b : Bool) → letter ≡ letter_of system
     → (IsTrue b ↔ (line ≡ header_line (letter ∷ []) (codes "SYS / PHASE SHIFT"))) → ReadsOrRefuses (Shift system) line k k b
 unfolding row_line
 line_shift system letter k line b e is =
     let far = shift_far system in
-    line_fixed (Shift system) (shift_line system) line k b (λ h. refl) (omega (arith, far)) (λ same. omega (arith, far, same))
-    (subst (λ l. IsTrue b ↔ (line ≡ header_line (l ∷ []) (codes "SYS / PHASE SHIFT"))) e is)
+    line_fixed (Shift system) k b (λ h. refl) (omega (arith, far)) (λ same. omega (arith, far, same)) (subst (λ l. IsTrue b ↔ (line ≡ header_line (l ∷ []) (codes "SYS / PHASE SHIFT"))) e is)
 
 -- ---- version and systems
 

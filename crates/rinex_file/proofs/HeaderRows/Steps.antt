@@ -62,15 +62,14 @@ record Choice (n : ℕ) (planned : Bool) (count : ℕ) (read : List ℕ) : Type 
   size : 0 < count → count ≡ length all
   begins : read ≡ take (length read) all
 
-choose : (n : ℕ) (planned : Bool) (count : ℕ) (read : List ℕ) → 0 < n → AreBelow n read → IsDistinct nat_eq read → length read ≤ count → count ≤ n → (0 < count → planned ≡ true)
-    → Choice n planned count read
+choose : {n : ℕ} (planned : Bool) (count : ℕ) (read : List ℕ) → 0 < n → AreBelow n read → IsDistinct nat_eq read → (length read ≤ count) × (count ≤ n) → (0 < count → planned ≡ true) → Choice n planned count read
 unfolding IsDistinct
-choose n false zero [] some below apart fits few is = grind (arith, All-nil)
-choose n true zero [] some below apart fits few is =
+choose false zero [] some below apart few is = grind (arith, All-nil)
+choose {n} true zero [] some below apart few is =
     record { all = 0 ∷ []; below = All-cons (λ i. i < n) 0 [] some (All-nil (λ i. i < n)); apart = (tt, tt); some = refl; size = λ l. absurd (omega (arith, l)); begins = refl }
-choose n planned zero (x ∷ xs) some below apart fits few is = absurd (omega (arith, fits))
-choose n planned (suc c) read some below apart fits few is =
-    let made = complete (suc c - length read) n (suc c) read below apart (omega (arith, fits)) few in
+choose planned zero (x ∷ xs) some below apart few is = absurd (omega (arith, few))
+choose {n} planned (suc c) read some below apart few is =
+    let made = complete (suc c - length read) n (suc c) read below apart (omega (arith, few)) few.1 in
     let size = made.size in
     record { all = made.all; below = made.below; apart = made.apart; some = is (omega arith) ∙ more_planned made.all (omega (arith, size)); size = λ l. sym size; begins = made.begins }
 
@@ -97,8 +96,8 @@ module _ (k : Known) (place : ℕ) (valid : AreValid k) (read : HasReadRows k pl
   choice : (s : System) → Choice (length (table s)) (picked (k.gps.planned || k.galileo.planned) (announced k s).planned) (announced k s).count (planned_of s k.shown.plan)
   choice s =
       let size = (read.each s).size in
-      choose (length (table s)) _ (announced k s).count (planned_of s k.shown.plan) (table_some s) (valid.listed s) (valid.apart s)
-      (omega (arith, size)) (read.each s).few (λ l. ap (picked (k.gps.planned || k.galileo.planned)) ((read.each s).counted.0 l).0)
+      choose _ (announced k s).count (planned_of s k.shown.plan) (table_some s) (valid.listed s) (valid.apart s)
+      (omega (arith, size), (read.each s).few) (λ l. ap (picked (k.gps.planned || k.galileo.planned)) ((read.each s).counted.0 l).0)
 
   pub some_plan : SomePlan k
   some_plan = record {
@@ -172,15 +171,15 @@ next_read s a signals n other fits r = record {
 pub still_read : (s : System) (a : Announced) (signals : List ℕ) (n : ℕ) → (first_types s ≤ n → n < first_types s + 6 → ⊥) → AreTypesRead s a signals n → AreTypesRead s a signals (suc n)
 still_read s a signals n out r = next_read s a signals n (λ p e. out (omega (arith, e)) (omega (arith, e))) (λ more less. absurd (out more less)) r
 
-module _ (gps galileo : Announced) (plan : PlanValue) (first after n : ℕ) where
-  -- a row without a part of the plan
-  pub reads_next : IsOutside n → (gps.planned || galileo.planned) ≡ true → (row_place First < suc n → IsOnlyTime after) → IsReadTo gps galileo plan first n → IsReadTo gps galileo plan after (suc n)
-  reads_next out some only r = record {
-    systems = λ l. some;
-    fresh = λ e. absurd (omega (arith, e));
-    each = λ s. still_read s (of_system s gps galileo) (planned_of s plan) n (out s) (r.each s);
-    only = only;
-  }
+-- a row without a part of the plan
+pub reads_next : {gps galileo : Announced} {plan : PlanValue} {first after n : ℕ} → IsOutside n → (gps.planned || galileo.planned) ≡ true → (row_place First < suc n → IsOnlyTime after)
+    → IsReadTo gps galileo plan first n → IsReadTo gps galileo plan after (suc n)
+reads_next {gps} {galileo} {plan} {n = n} out some only r = record {
+  systems = λ l. some;
+  fresh = λ e. absurd (omega (arith, e));
+  each = λ s. still_read s (of_system s gps galileo) (planned_of s plan) n (out s) (r.each s);
+  only = only;
+}
 
 -- ---- which rows have a line
 
@@ -258,7 +257,7 @@ skip_row : (r : HeaderRow) (k : Known) → is_row r ≡ true → known_line k r 
 skip_row (Types s i) k row lacks read = skip_types s i k (is_less i 6 row) lacks read
 skip_row (Shift s) k row lacks read =
     let far = shift_far s in
-    reads_next k.gps k.galileo k.shown.plan k.shown.first k.shown.first (row_place (Shift s)) (outside_high (row_place (Shift s)) (omega (arith, far))) (read.systems (omega (arith, far))) (λ l. read.only (omega (arith, far))) read
+    reads_next (outside_high (row_place (Shift s)) (omega (arith, far))) (read.systems (omega (arith, far))) (λ l. read.only (omega (arith, far))) read
 skip_row other k row lacks read = cc
 
 not_last : (n : ℕ) (k : Known) → n < row_count → known_line k (row_at n) ≡ false → suc n < row_count
@@ -296,8 +295,8 @@ same_on k a b c s t = record { lines = λ p may. s.lines p may ∙ t.lines p may
 before_last : (n : ℕ) (r : HeaderRow) → n < row_count → row_at n ≡ r → r ≢ End → n + 1 < row_count
 before_last n r less is other = grind (arith, less_or)
 
-pub step_at : (n : ℕ) (line : List ℕ) (old new : Known) (r : HeaderRow) → IsHeadAt old n → known_line old (row_at n) ≡ true → row_at n ≡ r → r ≢ End → ReadsHeaderLine r line old new → AreValid new → GoesTo old n line new (n + 1)
-step_at n line old new r at has is other line_read valid =
+pub step_at : {n : ℕ} {line : List ℕ} {old new : Known} {r : HeaderRow} → IsHeadAt old n → known_line old (row_at n) ≡ true → row_at n ≡ r → r ≢ End → ReadsHeaderLine r line old new → AreValid new → GoesTo old n line new (n + 1)
+step_at {n} {old} {new} {r} at has is other line_read valid =
     let place : row_place r ≡ n = sym (ap row_place is) ∙ placed n at.expected in
     let reads_header_line = line_read (subst (HasReadRows old) (sym place) at.read) (sym (ap (known_line old) is) ∙ has) in
     let next : suc n ≡ n + 1 = omega arith in
@@ -320,19 +319,19 @@ pub record Follows (g h : Shown) (n : ℕ) (line : List ℕ) (others left : List
   pub shows : shown_line h (row_at n) ≡ line
   pub rest : left ≡ lines_after h (suc n) ++ others
 
-pub follows : (n : ℕ) (line : List ℕ) (k : Known) → IsHeadAt k n → known_line k (row_at n) ≡ true → (p : PlanValue) (h : Shown) (others left : List (List ℕ)) → MayPlan k p → IsShown h
+pub follows : {n : ℕ} {line : List ℕ} {k : Known} {p : PlanValue} {h : Shown} {others left : List (List ℕ)} → IsHeadAt k n → known_line k (row_at n) ≡ true → MayPlan k p → IsShown h
     → lines_of_header h ++ others ≡ lines_before (shown_with k p) n ++ line ∷ left → Follows (shown_with k p) h n line others left
-follows n line k at has p h others left may is e =
+follows {n} {line} {k} {p} {h} {others} {left} at has may is e =
     let g = shown_with k p in
-    let same = agreed h g is (with_is k n at.valid at.read p may) n (let less = at.expected in omega (arith, less)) others (line ∷ left) e in
-    let there : has_line h.plan (row_at n) ≡ true = same_there h g is (with_is k n at.valid at.read p may) n at.expected same.agree ∙ present_at n k p at.expected may at.read ∙ has in
+    let same = agreed is (with_is k n at.valid at.read p may) n (let less = at.expected in omega (arith, less)) others (line ∷ left) e in
+    let there : has_line h.plan (row_at n) ≡ true = same_there is (with_is k n at.valid at.read p may) n at.expected same.agree ∙ present_at n k p at.expected may at.read ∙ has in
     let next = line_next h.texts h.plan h.values (civil_of h.first) n at.expected there in
     let both = cons_parts line (shown_line h (row_at n)) left (lines_after h (suc n) ++ others) (same.rest ∙ ap (λ l. l ++ others) next) in
     record { agree = same.agree; there = there; shows = sym both.0; rest = both.1 }
 
 pub none_at : (n : ℕ) (line : List ℕ) (k : Known) (r : HeaderRow) → IsHeadAt k n → known_line k (row_at n) ≡ true → row_at n ≡ r → RefusesHeaderLine r line → NoneGoesOn k n line
 none_at n line k r at has is refuses p h others left may shown e =
-    refuses h shown (ap (shown_line h) (sym is) ∙ (follows n line k at has p h others left may shown e).shows)
+    refuses h shown (ap (shown_line h) (sym is) ∙ (follows at has may shown e).shows)
 
 pub types_few : (n : ℕ) (s : System) (row : ℕ) → n < row_count → row_at n ≡ Types s row → row < 6
 types_few n s row less at = is_less row 6 (sym (ap is_row at) ∙ are_rows n less)

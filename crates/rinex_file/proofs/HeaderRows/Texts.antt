@@ -80,10 +80,10 @@ pub record Back (x : HeaderLists) (fs : List HeaderField) (column : ℕ) (line :
   pub same : SameTexts new x fs
   pub stays : (g : HeaderField) → text_of old g ≡ text_of x g → text_of new g ≡ text_of x g
 
-read_back : (x : HeaderLists) → AreTexts x → (fs : List HeaderField) (column : ℕ) (front rest line : List ℕ) (old : HeaderLists) → length old ≡ text_count → length front ≡ column
+read_back : {x : HeaderLists} (fs : List HeaderField) {column : ℕ} (front rest : List ℕ) {line : List ℕ} {old : HeaderLists} → AreTexts x → length old ≡ text_count → length front ≡ column
     → line ≡ front ++ (flat_map (text_columns x) fs ++ rest) → Back x fs column line old
-read_back x are [] column front rest line old size at shape = record { new = old; read = refl; same = tt; stays = λ g e. e }
-read_back x are (f ∷ fs) column front rest line old size at shape =
+read_back [] front rest {old = old} are size at shape = record { new = old; read = refl; same = tt; stays = λ g e. e }
+read_back {x} (f ∷ fs) {column} front rest {line} {old} are size at shape =
     let w = width_of f in
     let own = text_columns x f in
     let more = flat_map (text_columns x) fs in
@@ -92,7 +92,7 @@ read_back x are (f ∷ fs) column front rest line old size at shape =
     ap (λ l. take w (drop column l)) shape ∙ ap (take w) (drop_at front ((own ++ more) ++ rest) column at ∙ append_assoc own more rest) ∙ take_at own (more ++ rest) w wide in
     let text = trimmed (take w (drop column line)) in
     let is : text ≡ text_of x f = ap trimmed columns ∙ cut_left w (text_of x f) (are.each f) in
-    let next = read_back x are fs (column + w) (front ++ own) rest line (set old (place_of f) text) (length-set old (place_of f) text ∙ size)
+    let next = read_back fs (front ++ own) rest {old = set old (place_of f) text} are (length-set old (place_of f) text ∙ size)
     (length-append front own ∙ ap (λ n. n + length own) at ∙ ap (λ n. column + n) wide)
     (shape ∙ ap (λ l. front ++ l) (append_assoc own more rest) ∙ sym (append_assoc front own (more ++ rest))) in
     record {
@@ -107,7 +107,7 @@ pub texts_back : (x : HeaderLists) → AreTexts x → (r : TextRow) (line : List
 texts_back x are r line old size e =
     let texts = flat_map (text_columns x) (fields_of r) in
     let first = content_first (front_of r ++ texts) (label_of r) in
-    read_back x are (fields_of r) (length (front_of r)) (front_of r) first.0 line old size refl (sym e ∙ first.1 ∙ append_assoc (front_of r) texts first.0)
+    read_back (fields_of r) (front_of r) first.0 are size refl (sym e ∙ first.1 ∙ append_assoc (front_of r) texts first.0)
 
 same_columns : (x y : HeaderLists) (fs : List HeaderField) → SameTexts x y fs → flat_map (text_columns x) fs ≡ flat_map (text_columns y) fs
 same_columns x y [] same = refl
@@ -150,28 +150,28 @@ not_fine : (fault : Option HeadFault) (r : Option HeaderLists) → (fault ≡ No
 not_fine None r some = absurd (some refl)
 not_fine (Some fault) r some = refl
 
+-- the field at an index and those after it
+pub fields_from : {items fs : List HeaderField} (i : ℕ) (d : HeaderField) → items ≡ fs → i < length items → drop i fs ≡ get_or items i d ∷ drop (i + 1) fs
+fields_from {items} i d same less = subst (λ l. drop i l ≡ get_or items i d ∷ drop (i + 1) l) same (rw (add-one i) (drop-cons items i d less))
+
 -- a text that is left has a fault
-pub refused_text : (items fs : List HeaderField) (i : ℕ) (d : HeaderField) (column width : ℕ) (line columns : List ℕ) (x : HeaderLists) (fault : Option HeadFault) → items ≡ fs → i < length items
-    → width ≡ width_of (get_or items i d) → columns ≡ take width (drop column line) → fault ≡ fault_of (get_or items i d) columns → (fault ≡ None → ⊥) → texts_in (drop i fs) column line x ≡ None
-refused_text items fs i d column width line columns x fault same less w at is some =
-    let f = get_or items i d in
-    ap (λ l. texts_in l column line x) (ap (drop i) (sym same) ∙ drop-cons items i d less)
-    ∙ not_fine _ _ (λ e. some (is ∙ ap (fault_of f) (at ∙ ap (λ n. take n (drop column line)) w) ∙ e))
+pub refused_text : {fs rest : List HeaderField} {f : HeaderField} {width : ℕ} {columns : List ℕ} (column : ℕ) (line : List ℕ) (x : HeaderLists) → fs ≡ f ∷ rest
+    → width ≡ width_of f → columns ≡ take width (drop column line) → (fault_of f columns ≡ None → ⊥) → texts_in fs column line x ≡ None
+refused_text {f = f} column line x next w at some =
+    ap (λ l. texts_in l column line x) next ∙ not_fine _ _ (λ e. some (ap (fault_of f) (at ∙ ap (λ n. take n (drop column line)) w) ∙ e))
 
 fine : (fault : Option HeadFault) (r : Option HeaderLists) → fault ≡ None → if_fine fault r ≡ r
 fine None r none = refl
 fine (Some fault) r none = cc
 
 -- the texts from one without a fault on are it and those after it
-pub added_text : (items fs : List HeaderField) (i : ℕ) (d : HeaderField) (column width : ℕ) (line columns : List ℕ) (x new : HeaderLists) → items ≡ fs → i < length items
-    → width ≡ width_of (get_or items i d) → columns ≡ take width (drop column line) → None ≡ fault_of (get_or items i d) columns → new ≡ set x (place_of (get_or items i d)) (trimmed columns)
-    → texts_in (drop (i + 1) fs) (column + width) line new ≡ texts_in (drop i fs) column line x
-added_text items fs i d column width line columns x new same less w at is set_is =
-    let f = get_or items i d in
-    let cut : drop i items ≡ f ∷ drop (i + 1) items = rw (add-one i) (drop-cons items i d less) in
+pub added_text : {fs rest : List HeaderField} {f : HeaderField} {width : ℕ} {columns : List ℕ} {new : HeaderLists} (column : ℕ) (line : List ℕ) (x : HeaderLists) → fs ≡ f ∷ rest
+    → width ≡ width_of f → columns ≡ take width (drop column line) → None ≡ fault_of f columns → new ≡ set x (place_of f) (trimmed columns)
+    → texts_in rest (column + width) line new ≡ texts_in fs column line x
+added_text {fs} {rest} {f} {width} {columns} column line x next w at is set_is =
     let text : columns ≡ take (width_of f) (drop column line) = at ∙ ap (λ n. take n (drop column line)) w in
-    let all : texts_in (drop i items) column line x ≡ texts_in (drop (i + 1) items) (column + width_of f) line (set x (place_of f) (trimmed (take (width_of f) (drop column line)))) =
-    ap (λ l. texts_in l column line x) cut ∙ fine _ _ (ap (fault_of f) (sym text) ∙ sym is) in
+    let all : texts_in fs column line x ≡ texts_in rest (column + width_of f) line (set x (place_of f) (trimmed (take (width_of f) (drop column line)))) =
+    ap (λ l. texts_in l column line x) next ∙ fine _ _ (ap (fault_of f) (sym text) ∙ sym is) in
     cc
 
 fine_read : (fault : Option HeadFault) (r : Option HeaderLists) (new : HeaderLists) → if_fine fault r ≡ Some new → r ≡ Some new
@@ -182,12 +182,15 @@ far_place : (i n place : ℕ) → i < n → nat_le n place ≡ true → i ≢ pl
 far_place i n place less far = grind (arith, far)
 
 -- the texts before those that are read are unchanged
-pub kept_texts : (n : ℕ) (fs : List HeaderField) (column : ℕ) (line : List ℕ) (old new : HeaderLists) → list_all (λ f. nat_le n (place_of f)) fs ≡ true → texts_in fs column line old ≡ Some new
-    → (i : ℕ) → i < n → get_or new i [] ≡ get_or old i []
-kept_texts n [] column line old new all read i less = ap (λ x. get_or x i []) (sym (same_Some old new read))
-kept_texts n (f ∷ fs) column line old new all read i less =
+abbrev pub StayBefore : ℕ → HeaderLists → HeaderLists → Type 0
+StayBefore n old new = (i : ℕ) → i < n → get_or new i [] ≡ get_or old i []
+
+pub kept_texts : (n : ℕ) (fs : List HeaderField) (column : ℕ) (line : List ℕ) (old : HeaderLists) {new : HeaderLists} → list_all (λ f. nat_le n (place_of f)) fs ≡ true
+    → texts_in fs column line old ≡ Some new → StayBefore n old new
+kept_texts n [] column line old {new} all read = λ i less. ap (λ x. get_or x i []) (sym (same_Some old new read))
+kept_texts n (f ∷ fs) column line old {new} all read = λ i less.
     let parts = both (nat_le n (place_of f)) (list_all (λ f. nat_le n (place_of f)) fs) all in
-    kept_texts n fs (column + width_of f) line _ new parts.1 (fine_read _ _ new read) i less
+    kept_texts n fs (column + width_of f) line _ parts.1 (fine_read _ _ new read) i less
     ∙ get_or-set_other old (place_of f) i (trimmed (take (width_of f) (drop column line))) [] (far_place i n (place_of f) less parts.0)
 
 -- ---- texts are printable without trailing blanks
@@ -235,9 +238,9 @@ one_cut i t x size few cut j less = equal_or _ j i
     (λ e. subst (λ k. get_or (set x i (trimmed (get_or t i []))) k [] ≡ trimmed (get_or t k [])) (sym e) (get_or-set_same x i (trimmed (get_or t i [])) [] (subst (λ n. i < n) (sym size) few)))
     (λ other. get_or-set_other x i j (trimmed (get_or t i [])) [] other ∙ cut j (omega (arith, less, other)))
 
-pub one_stored : (t x new : HeaderLists) (i : ℕ) (d : HeaderField) (text : List ℕ) → i < text_count → length x ≡ text_count → AreCut i t x → text ≡ text_of t (get_or fields i d)
-    → new ≡ set x (place_of (get_or fields i d)) (trimmed text) → AreCut (i + 1) t new × (length new ≡ text_count)
-one_stored t x new i d text less size cut is value =
+pub one_stored : (t x : HeaderLists) {new : HeaderLists} {i : ℕ} (d : HeaderField) {text : List ℕ} → i < text_count → length x ≡ text_count → AreCut i t x
+    → text ≡ text_of t (get_or fields i d) → new ≡ set x (place_of (get_or fields i d)) (trimmed text) → AreCut (i + 1) t new × (length new ≡ text_count)
+one_stored t x {new} {i} d less size cut is value =
     let place : place_of (get_or fields i d) ≡ i = ap place_of (get_or_default fields i d AntType less) ∙ place_back i less in
     let stored : new ≡ set x i (trimmed (get_or t i [])) = value ∙ ap₂ (λ n b. set x n (trimmed b)) place (is ∙ ap (λ n. get_or t n []) place) in
     (subst (AreCut (i + 1) t) (sym stored) (one_cut i t x size less cut), ap length stored ∙ length-set x i (trimmed (get_or t i [])) ∙ size)

@@ -88,10 +88,10 @@ next_place : (start i : ℕ) → start ≤ i → (i + 1) - start ≡ (i - start)
 next_place start i h = omega (arith, h)
 
 -- one more type
-pub type_more : (types : List (List ℕ)) (start i : ℕ) (x front text new : List ℕ) → start ≤ i → i < length types → x ≡ get_or types i []
+pub type_more : (types : List (List ℕ)) {start i : ℕ} {x : List ℕ} (front : List ℕ) {text new : List ℕ} → start ≤ i → i < length types → x ≡ get_or types i []
     → text ≡ front ++ columns (take (i - start) (drop start types)) → new ≡ text ++ 32 ∷ x
     → new ≡ front ++ columns (take ((i + 1) - start) (drop start types))
-type_more types start i x front text new low high is before more =
+type_more types {start} {i} {x} front low high is before more =
     let k = i - start in
     let rest = drop start types in
     let less : k < length rest = simp length-drop (omega (arith, low, high)) in
@@ -109,9 +109,9 @@ full_or_all : (types : List (List ℕ)) (row i : ℕ) → 13 * row ≤ i → i �
 full_or_all types row i low high end = grind (arith, cases_lt, length-drop, same_take)
 
 -- the line is full, or all types are in it
-pub types_done : (types : List (List ℕ)) (row i : ℕ) (front text : List ℕ) → 13 * row ≤ i → i ≤ 13 * row + 13 → (i < 13 * row + 13 → length types ≤ i)
+pub types_done : (types : List (List ℕ)) (row i : ℕ) (front : List ℕ) {text : List ℕ} → 13 * row ≤ i → i ≤ 13 * row + 13 → (i < 13 * row + 13 → length types ≤ i)
     → text ≡ front ++ columns (take (i - 13 * row) (drop (13 * row) types)) → text ≡ front ++ type_columns types row
-types_done types row i front text low high end is = grind (arith, full_or_all)
+types_done types row i front low high end is = grind (arith, full_or_all)
 
 -- ---- signals of a system, at their indices
 
@@ -190,16 +190,17 @@ three_bytes system all row are i less =
     ap length (type_in system all row i w.0 w.1) ∙ ap suc (length-code system (slice_index all k) listed)
 
 -- the code of a signal is in the line in which its types begin
-pub code_in_line : (system : System) (all line : List ℕ) (row q k : ℕ) → AreTypes system all → 4 * length all < 1000 → line ≡ types_line system all row
-    → q < 13 → 13 * row + q ≡ 4 * k → k < length all → take 2 (drop (6 + 4 * q + 2) line) ≡ code_of (signal_at system all k)
-code_in_line system all line row q k are few is within place less =
+code_in_line : {system : System} {all : List ℕ} (row q k : ℕ) → AreTypes system all → 4 * length all < 1000 → q < 13 → 13 * row + q ≡ 4 * k → k < length all
+    → take 2 (drop (6 + 4 * q + 2) (types_line system all row)) ≡ code_of (signal_at system all k)
+code_in_line {system} {all} row q k are few within place less =
+    let line = types_line system all row in
     let types = types_of (codes_of system all) in
     let front = type_front (letter_of system) (length types) row in
     let ts = here system all row in
     let s = signal_at system all k in
     let size : length types < 1000 = rw (length-system_types system all) few in
     let first = content_first (front ++ columns ts) (codes "SYS / # / OBS TYPES") in
-    let shape : line ≡ front ++ (columns ts ++ first.0) = is ∙ first.1 ∙ append_assoc front (columns ts) first.0 in
+    let shape : line ≡ front ++ (columns ts ++ first.0) = first.1 ∙ append_assoc front (columns ts) first.0 in
     let many : q < length ts = rw (length-here system all row) (omega (arith, within, place, less)) in
     let column = column_at ts q first.0 (three_bytes system all row are) many in
     let at : drop (6 + 4 * q) line ≡ 32 ∷ (get_or ts q [] ++ column.0) =
@@ -263,32 +264,37 @@ in_row row place high = omega (arith, high)
 abbrev pub column_of : ℕ → ℕ → ℕ
 column_of row place = 6 + 4 * (4 * place - 13 * row) + 2
 
-pub code_here : (system : System) (all line : List ℕ) (row place : ℕ) → AreTypes system all → 4 * length all < 1000 → line ≡ types_line system all row
-    → signals_begun row ≤ place → place < signals_begun (row + 1) → place < length all → take 2 (drop (column_of row place) line) ≡ code_of (signal_at system all place)
-code_here system all line row place are few is low high less = grind (arith, code_in_line, in_row, same_place)
+-- the signal at an index begins in a line of types
+pub record IsInLine (system : System) (all line : List ℕ) (row place : ℕ) : Type 0 where
+  pub are : AreTypes system all
+  pub few : 4 * length all < 1000
+  pub is : line ≡ types_line system all row
+  pub low : signals_begun row ≤ place
+  pub high : place < signals_begun (row + 1)
+  pub less : place < length all
+
+pub code_here : {system : System} {all line : List ℕ} {row place : ℕ} → IsInLine system all line row place → take 2 (drop (column_of row place) line) ≡ code_of (signal_at system all place)
+code_here {row = row} {place} at =
+    ap (λ l. take 2 (drop (column_of row place) l)) at.is ∙ code_in_line row (4 * place - 13 * row) place at.are at.few (in_row row place at.high) (same_place row place at.low) at.less
 
 not_both : (b : Bool) → b ≡ true → b ≡ false → ⊥
 not_both b h k = grind (arith, h, k)
 
--- the signal that is read from the column of the next one
-module _ (system : System) (all line : List ℕ) (row place : ℕ) (are : AreTypes system all) (few : 4 * length all < 1000) (is : line ≡ types_line system all row)
-    (low : signals_begun row ≤ place) (high : place < signals_begun (row + 1)) (less : place < length all) (found : Option SignalAt)
-    (read : (s : SignalAt) → HasSignalAt system line (column_of row place) s → found ≡ Some s) where
-  read_here : found ≡ Some (signal_at system all place)
-  read_here = read (signal_at system all place) (listed_at system all place are less, refl, code_here system all line row place are few is low high less)
+-- the signal that is read from its column
+pub read_here : {system : System} {all line : List ℕ} {row place : ℕ} {found : Option SignalAt} → IsInLine system all line row place
+    → ((s : SignalAt) → HasSignalAt system line (column_of row place) s → found ≡ Some s) → found ≡ Some (signal_at system all place)
+read_here {system} {all} {place = place} at read = read (signal_at system all place) (listed_at system all place at.are at.less, refl, code_here at)
 
-  pub not_read : found ≡ None → ⊥
-  not_read none = let e = read_here in cc
+pub index_read : {found : Option SignalAt} {s t : SignalAt} → found ≡ Some t → found ≡ Some s → s.index ≡ t.index
+index_read {s = s} {t} here e = ap (λ (x : SignalAt). x.index) (same_Some s t (sym e ∙ here))
 
-  pub taken_more : (s : SignalAt) (old : List SignalAt) → found ≡ Some s → indices old ≡ take place all → indices (old ++ s ∷ []) ≡ take (place + 1) all
-  taken_more s old e before =
-      let same : s.index ≡ slice_index all place = ap (λ (t : SignalAt). t.index) (same_Some s (signal_at system all place) (sym e ∙ read_here)) in
-      indices-push old s ∙ ap₂ (λ l i. l ++ i ∷ []) before same ∙ sym (take_more all place 0 less)
+pub taken_more : (all : List ℕ) (place : ℕ) (s : SignalAt) (old : List SignalAt) → s.index ≡ slice_index all place → place < length all → indices old ≡ take place all
+    → indices (old ++ s ∷ []) ≡ take (place + 1) all
+taken_more all place s old same less before = indices-push old s ∙ ap₂ (λ l i. l ++ i ∷ []) before same ∙ sym (take_more all place 0 less)
 
-  pub taken_before : (s : SignalAt) (old : List SignalAt) → found ≡ Some s → list_any (λ (r : SignalAt). s.index == r.index) old ≡ true → indices old ≡ take place all → ⊥
-  taken_before s old e twice before =
-      let same : s.index ≡ slice_index all place = ap (λ (t : SignalAt). t.index) (same_Some s (signal_at system all place) (sym e ∙ read_here)) in
-      not_both _ twice (any_index s.index old ∙ ap₂ (λ i l. list_any (nat_eq i) l) same before ∙ not_before all place are.apart less)
+pub taken_before : {system : System} {all : List ℕ} (place : ℕ) (s : SignalAt) (old : List SignalAt) → AreTypes system all → s.index ≡ slice_index all place → place < length all → list_any (λ (r : SignalAt). s.index == r.index) old ≡ true
+    → indices old ≡ take place all → ⊥
+taken_before {all} place s old are same less twice before = not_both _ twice (any_index s.index old ∙ ap₂ (λ i l. list_any (nat_eq i) l) same before ∙ not_before all place are.apart less)
 
 -- ---- the whole line
 

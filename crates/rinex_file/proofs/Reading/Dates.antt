@@ -27,15 +27,15 @@ skip : (f rest : List ℕ) (w n : ℕ) → length f ≡ w → drop (w + n) (f ++
 skip f rest w n e = sym (drop-drop n w (f ++ rest)) ∙ ap (drop n) (drop_at f rest w e)
 
 -- a field is read from its columns
-pub field_at : {X : Type 0} (read : List ℕ → X) (fs : List (List ℕ)) (ps : List (ℕ × X)) (k : ℕ) (d : ℕ × X) (tail line : List ℕ) → AreFields read fs ps → k < length ps → line ≡ joined fs ++ tail
-    → read (take (get_or ps k d).0 (drop (start_of ps k) line)) ≡ (get_or ps k d).1
-field_at read fs [] k d tail line are less e = absurd (omega (arith, less))
-field_at read [] (p ∷ ps) k d tail line are less e = absurd are
-field_at read (f ∷ fs) ((w, x) ∷ ps) zero d tail line ((size, is), are) less e =
-    ap (λ t. read (take w t)) (e ∙ append_assoc f (joined fs) tail) ∙ ap read (take_at f (joined fs ++ tail) w size) ∙ is
-field_at read (f ∷ fs) ((w, x) ∷ ps) (suc k) d tail line ((size, is), are) less e =
-    ap (λ t. read (take (get_or ps k d).0 t)) (ap (drop (w + start_of ps k)) (e ∙ append_assoc f (joined fs) tail) ∙ skip f (joined fs ++ tail) w (start_of ps k) size)
-    ∙ field_at read fs ps k d tail (joined fs ++ tail) are (omega (arith, less)) refl
+pub field_at : {X : Type 0} (read : List ℕ → X) (fs : List (List ℕ)) (ps : List (ℕ × X)) (k : ℕ) (d : ℕ × X) (tail : List ℕ) → AreFields read fs ps → k < length ps
+    → read (take (get_or ps k d).0 (drop (start_of ps k) (joined fs ++ tail))) ≡ (get_or ps k d).1
+field_at read fs [] k d tail are less = absurd (omega (arith, less))
+field_at read [] (p ∷ ps) k d tail are less = absurd are
+field_at read (f ∷ fs) ((w, x) ∷ ps) zero d tail ((size, is), are) less =
+    ap (λ t. read (take w t)) (append_assoc f (joined fs) tail) ∙ ap read (take_at f (joined fs ++ tail) w size) ∙ is
+field_at read (f ∷ fs) ((w, x) ∷ ps) (suc k) d tail ((size, is), are) less =
+    ap (λ t. read (take (get_or ps k d).0 t)) (ap (drop (w + start_of ps k)) (append_assoc f (joined fs) tail) ∙ skip f (joined fs ++ tail) w (start_of ps k) size)
+    ∙ field_at read fs ps k d tail are (omega (arith, less))
 
 -- ---- the lines with a date and time of day
 
@@ -81,10 +81,11 @@ pub record ShowDate (t : Civil) (w k : ℕ) (line : List ℕ) : Type 0 where
 abbrev date_fields : Civil → ℕ → ℕ → List (ℕ × ℕ) → List (ℕ × ℕ)
 date_fields t w k more = (6, t.year) ∷ (w, t.month) ∷ (w, t.day) ∷ (w, t.hour) ∷ (w, t.minute) ∷ (k, t.millisecond * 10_000) ∷ more
 
-date_shown : (t : Civil) (w k : ℕ) (fs : List (List ℕ)) (more : List (ℕ × ℕ)) (tail line : List ℕ) → AreFields digits_in fs (date_fields t w k more) → line ≡ joined fs ++ tail → ShowDate t w k line
-date_shown t w k fs more tail line are e =
+date_shown : (t : Civil) (w k : ℕ) (fs : List (List ℕ)) (more : List (ℕ × ℕ)) (tail : List ℕ) → AreFields digits_in fs (date_fields t w k more) → ShowDate t w k (joined fs ++ tail)
+date_shown t w k fs more tail are =
+    let line = joined fs ++ tail in
     let ps = date_fields t w k more in
-    let at : (j : ℕ) → j < 6 → digits_in (take (get_or ps j (0, 0)).0 (drop (start_of ps j) line)) ≡ (get_or ps j (0, 0)).1 = λ j less. field_at digits_in fs ps j (0, 0) tail line are (omega (arith, less)) e in
+    let at : (j : ℕ) → j < 6 → digits_in (take (get_or ps j (0, 0)).0 (drop (start_of ps j) line)) ≡ (get_or ps j (0, 0)).1 = λ j less. field_at digits_in fs ps j (0, 0) tail are (omega (arith, less)) in
     record {
       year = at 0 (lit< tt);
       month = at 1 (lit< tt);
@@ -122,8 +123,8 @@ epoch_shown t n line is few e =
     let same = e ∙ in_parts t n in
     let are = epoch_are t n is few in
     let more : List (ℕ × ℕ) = (3, 0) ∷ (3, n) ∷ [] in (
-      date_shown t 3 11 (epoch_parts t n) more (10 ∷ []) line are same,
-      field_at digits_in (epoch_parts t n) (date_fields t 3 11 more) 7 (0, 0) (10 ∷ []) line are (lit< tt) same,
+      subst (ShowDate t 3 11) (sym same) (date_shown t 3 11 (epoch_parts t n) more (10 ∷ []) are),
+      ap (λ l. digits_in (take 3 (drop 32 l))) same ∙ field_at digits_in (epoch_parts t n) (date_fields t 3 11 more) 7 (0, 0) (10 ∷ []) are (lit< tt),
     )
 
 -- ---- the header's line of the first epoch
@@ -140,7 +141,7 @@ first_shown t line is e =
     let hour = is_six t.hour (omega (arith, is.hour)) in
     let minute = is_six t.minute (omega (arith, is.minute)) in
     let second = is_second 13 t.millisecond (omega arith) is.millisecond in
-    date_shown t 6 13 fs ((8, 0) ∷ []) tail line (year, (month, (day, (hour, (minute, (second, ((refl, refl), tt))))))) (e ∙ shape)
+    subst (ShowDate t 6 13) (sym (e ∙ shape)) (date_shown t 6 13 fs ((8, 0) ∷ []) tail (year, (month, (day, (hour, (minute, (second, ((refl, refl), tt))))))))
 
 -- ---- one time has a date and time of day
 
@@ -157,23 +158,18 @@ one_time t u c is also =
 pub has_columns : (t : ℕ) → IsCivilOf t (civil_of t) → ((civil_of t).year ≤ 9999) × ((civil_of t).month ≤ 12) × ((civil_of t).day ≤ 31) → HasColumns (civil_of t)
 has_columns t is (year, month, day) = record { year = year; month = month; day = day; hour = is.valid.hour; minute = is.valid.minute; millisecond = is.valid.millisecond }
 
-kept : (number most digits value : ℕ) → number ≡ min digits most → digits ≡ value → value ≤ most → number ≡ value
-kept number most digits value e f small = grind arith
+-- a number of a date is read back although it is limited to the largest value of its type
+pub kept : {number digits value : ℕ} (most : ℕ) → number ≡ min digits most → digits ≡ value → value ≤ most → number ≡ value
+kept most e f small = grind arith
 
-kept_second : (number digits value : ℕ) → number ≡ min (digits / 10_000) 65_535 → digits ≡ value * 10_000 → value < 60_000 → number ≡ value
-kept_second number digits value e f small = let d : digits / 10_000 ≡ value = omega (arith, f) in kept number 65_535 (digits / 10_000) value e d (omega (arith, small))
+pub kept_second : {number digits value : ℕ} → number ≡ min (digits / 10_000) 65_535 → digits ≡ value * 10_000 → value < 60_000 → number ≡ value
+kept_second {digits = digits} {value} e f small = let d : digits / 10_000 ≡ value = omega (arith, f) in kept 65_535 e d (omega (arith, small))
 
 abbrev pub of_numbers : ℕ → ℕ → ℕ → ℕ → ℕ → ℕ → Civil
 of_numbers a b c d e f = record { year = a; month = b; day = c; hour = d; minute = e; millisecond = f }
 
-same_civil : (t u : Civil) → t.year ≡ u.year → t.month ≡ u.month → t.day ≡ u.day → t.hour ≡ u.hour → t.minute ≡ u.minute → t.millisecond ≡ u.millisecond → t ≡ u
+pub same_civil : (t u : Civil) → t.year ≡ u.year → t.month ≡ u.month → t.day ≡ u.day → t.hour ≡ u.hour → t.minute ≡ u.minute → t.millisecond ≡ u.millisecond → t ≡ u
 same_civil t u p q r s v w = grind arith
-
--- a date is read back although each number is limited to the largest value of its type
-pub are_read : (t : Civil) (a b c d e f year month day hour minute second : ℕ) → HasColumns t
-    → a ≡ min year 65_535 → b ≡ min month 255 → c ≡ min day 255 → d ≡ min hour 255 → e ≡ min minute 255 → f ≡ min (second / 10_000) 65_535
-    → year ≡ t.year → month ≡ t.month → day ≡ t.day → hour ≡ t.hour → minute ≡ t.minute → second ≡ t.millisecond * 10_000 → of_numbers a b c d e f ≡ t
-are_read t a b c d e f year month day hour minute second has p q r s u v y m d' h n s' = grind (arith, same_civil, kept, kept_second)
 
 -- the date and time of day that was read is that of a time whose line this is
 pub found : (civil : Civil) (v : ℕ) → civil ≡ civil_of v → IsCivilOf v (civil_of v) → IsCivilOf v civil

@@ -94,10 +94,10 @@ pub record EpochNext (s : Progress) (c : Option StationValues) (v : FileValue) (
   pub shown : line ≡ epoch_line (civil_of e.time) (length e.rows)
   pub rest : left ≡ map satellite_line e.rows ++ flat_map stamped_lines es
 
-next_with : (s : Progress) (c : Option StationValues) (v : FileValue) (line : List ℕ) (left : List (List ℕ)) (e : Stamped) (es : List Stamped) → IsFileValue v
+next_with : {s : Progress} {c : Option StationValues} {v : FileValue} {line : List ℕ} {left : List (List ℕ)} (e : Stamped) (es : List Stamped) → IsFileValue v
     → v ≡ file_with s (s.epochs ++ e ∷ es) → StartsAt s.known.shown.first (s.epochs ++ e ∷ es) → e.change ≡ c
     → line ∷ left ≡ (epoch_line (civil_of e.time) (length e.rows) ∷ map satellite_line e.rows) ++ flat_map stamped_lines es → EpochNext s c v line left
-next_with s c v line left e es is value starts change text =
+next_with {s} e es is value starts change text =
     let valid : IsFileValue (file_with s (s.epochs ++ e ∷ es)) = subst IsFileValue value is in
     record {
       e = e;
@@ -119,12 +119,12 @@ some_epochs (x ∷ xs) others e w first is = omega arith
 abbrev pub NoEvent : Progress → List ℕ → Type 0
 NoEvent s line = (0 < length s.epochs) × (line ≡ event_line) → ⊥
 
-from_others : (s : Progress) (v : FileValue) (line : List ℕ) (left : List (List ℕ)) (others : List Stamped) → NoEvent s line → IsFileValue v → v ≡ file_with s (s.epochs ++ others)
+from_others : {s : Progress} {v : FileValue} {line : List ℕ} {left : List (List ℕ)} (others : List Stamped) → NoEvent s line → IsFileValue v → v ≡ file_with s (s.epochs ++ others)
     → StartsAt s.known.shown.first (s.epochs ++ others) → line ∷ left ≡ flat_map stamped_lines others → EpochNext s None v line left
-from_others s v line left [] never is value starts rest = cc
-from_others s v line left (e ∷ es) never is value starts rest = by e.change refl where
+from_others [] never is value starts rest = cc
+from_others {s} {v} {line} {left} (e ∷ es) never is value starts rest = by e.change refl where
   by : (c : Option StationValues) → e.change ≡ c → EpochNext s None v line left
-  by None h = next_with s None v line left e es is value starts h (rest ∙ ap (λ l. l ++ flat_map stamped_lines es) (lines_are e None h))
+  by None h = next_with e es is value starts h (rest ∙ ap (λ l. l ++ flat_map stamped_lines es) (lines_are e None h))
   by (Some w) h =
       let valid : IsFileValue (file_with s (s.epochs ++ e ∷ es)) = subst IsFileValue value is in
       let text : line ∷ left ≡ lines_with (Some w) e ++ flat_map stamped_lines es = rest ∙ ap (λ l. l ++ flat_map stamped_lines es) (lines_are e (Some w) h) in
@@ -134,12 +134,11 @@ pub epoch_next : (s : Progress) (c : Option StationValues) (v : FileValue) (line
 unfolding HasLinesLeft
 epoch_next s None v line left expected never (is, at) =
     let here : IsBetween s v (line ∷ left) = subst (λ d. IsAt s d v (line ∷ left)) expected at in
-    from_others s v line left here.others (never refl) is here.value here.starts here.rest
+    from_others here.others (never refl) is here.value here.starts here.rest
 epoch_next s (Some w) v line left expected never (is, at) =
     let here : IsInEvent s 3 (λ x. x ≡ w) v (line ∷ left) = subst (λ d. IsAt s d v (line ∷ left)) expected at in
     let change : here.next.change ≡ Some w = here.change ∙ ap Some here.shown in
-    next_with s (Some w) v line left here.next here.others is here.value here.starts change
-    (here.rest ∙ ap (λ l. drop 3 l ++ flat_map stamped_lines here.others) (lines_are here.next (Some w) change))
+    next_with here.next here.others is here.value here.starts change (here.rest ∙ ap (λ l. drop 3 l ++ flat_map stamped_lines here.others) (lines_are here.next (Some w) change))
 
 few_of : (b c : Bool) → (if b then 32 else 0) + (if c then 36 else 0) ≤ 999
 few_of b c = grind arith
@@ -171,12 +170,12 @@ abbrev pub begin_line : ℕ × ℕ → List ℕ
 begin_line w = epoch_line (civil_of w.0) w.1
 
 -- no epoch may begin with the line
-pub no_epoch : (s : Progress) (c : Option StationValues) (line : List ℕ) → s.expected ≡ epoch_after c → (c ≡ None → NoEvent s line) → ((w : ℕ × ℕ) → Begins s w → line ≡ begin_line w → ⊥) → (v : FileValue) (left : List (List ℕ)) → HasLinesLeft s v (line ∷ left) → ⊥
-no_epoch s c line expected never none v left on =
+pub no_epoch : (s : Progress) (c : Option StationValues) (line : List ℕ) → s.expected ≡ epoch_after c → (c ≡ None → NoEvent s line) → ((w : ℕ × ℕ) → Begins s w → line ≡ begin_line w → ⊥) → RefusesLine s line
+no_epoch s c line expected never none = λ v left on.
     let next = epoch_next s c v line left expected never on in
     none (next.e.time, length next.e.rows) (may_begin s c v line left next) next.shown
 
-module _ (s : Progress) (c : Option StationValues) (t n : ℕ) (line : List ℕ) (none : s.rows ≡ []) (shown : line ≡ epoch_line (civil_of t) n)
+module _ (s : Progress) (c : Option StationValues) {t n : ℕ} {line : List ℕ} (none : s.rows ≡ []) (shown : line ≡ epoch_line (civil_of t) n)
     (only : (w : ℕ × ℕ) → Begins s w → line ≡ begin_line w → w ≡ (t, n)) where
   -- the epoch that the line begins
   to_within : (v : FileValue) (left : List (List ℕ)) → EpochNext s c v line left → IsInEpoch (begun_at s c t n) n v left
@@ -198,18 +197,18 @@ module _ (s : Progress) (c : Option StationValues) (t n : ℕ) (line : List ℕ)
   epoch_taken expected never v left on = (on.0, to_within v left (epoch_next s c v line left expected never on))
 
 -- the lines with that of an epoch
-begun_lines : (whole taken before : List (List ℕ)) (line : List ℕ) (t n : ℕ) (c : Option StationValues) (rows : List SatelliteRow) → rows ≡ [] → taken ≡ whole ++ before → before ≡ change_lines c
+begun_lines : (whole : List (List ℕ)) {taken before : List (List ℕ)} {line : List ℕ} (t n : ℕ) (c : Option StationValues) {rows : List SatelliteRow} → rows ≡ [] → taken ≡ whole ++ before → before ≡ change_lines c
     → line ≡ epoch_line (civil_of t) n → taken ++ line ∷ [] ≡ whole ++ part_lines (at_time c t rows) (length rows + n)
-begun_lines whole taken before line t n c rows none e same shown =
+begun_lines whole {before} {line} t n c none e same shown =
     ap (λ l. l ++ line ∷ []) e ∙ append_assoc whole before (line ∷ []) ∙ ap (λ l. whole ++ (l ++ line ∷ [])) same ∙ ap (λ l. whole ++ (change_lines c ++ l ∷ [])) shown
     ∙ ap (λ (k : ℕ). whole ++ part_lines (at_time c t []) k) (sym (zero-add n)) ∙ sym (ap (λ (r : List SatelliteRow). whole ++ part_lines (at_time c t r) (length r + n)) none)
 
 pub epoch_shows : (s : Progress) (c : Option StationValues) (t n : ℕ) (line : List ℕ) → s.expected ≡ epoch_after c → s.rows ≡ [] → line ≡ epoch_line (civil_of t) n → ShowsLine s (begun_at s c t n) line
 epoch_shows s None t n line expected none shown taken are =
     let whole = whole_lines s.known.shown s.epochs in
-    begun_lines whole taken [] line t n None s.rows none (subst (λ d. AreLinesAt s d taken) expected are ∙ sym (append-nil whole)) refl shown
+    begun_lines whole t n None none (subst (λ d. AreLinesAt s d taken) expected are ∙ sym (append-nil whole)) refl shown
 epoch_shows s (Some w) t n line expected none shown taken are =
-    begun_lines (whole_lines s.known.shown s.epochs) taken (change_lines (Some w)) line t n (Some w) s.rows none (subst (λ d. AreLinesAt s d taken) expected are) refl shown
+    begun_lines (whole_lines s.known.shown s.epochs) t n (Some w) none (subst (λ d. AreLinesAt s d taken) expected are) refl shown
 
 -- ---- what holds after the first line of an epoch is accepted
 
@@ -229,9 +228,9 @@ sound_epoch s (Some w) expected sound =
 room_left : (rows : List SatelliteRow) (n most : ℕ) → rows ≡ [] → n ≤ most → length rows + n ≤ most
 room_left rows n most none room = let size : length rows ≡ 0 = ap length none in omega (arith, size, room)
 
-pub sound_begun : (s : Progress) (c : Option StationValues) (t n : ℕ) → AreRead s → s.rows ≡ [] → MayBegin s t n → IsTime t → IsChange (values_now s) c → (s.epochs ≡ [] → c ≡ None)
+pub sound_begun : {s : Progress} {c : Option StationValues} {t n : ℕ} → AreRead s → s.rows ≡ [] → MayBegin s t n → IsTime t → IsChange (values_now s) c → (s.epochs ≡ [] → c ≡ None)
     → IsSound (begun_at s c t n)
-sound_begun s c t n read none may time change same =
+sound_begun {s} {n} read none may time change same =
     let rows : AreSatelliteRows (length s.known.shown.plan.gps) (length s.known.shown.plan.galileo) s.rows = subst (AreSatelliteRows (length s.known.shown.plan.gps) (length s.known.shown.plan.galileo)) (sym none) (no_rows _ _) in
     (read, record { time = time; later = may.later; rows = rows; first = may.first; change = change; same = same }, may.some, room_left s.rows n _ none may.room)
 
@@ -250,11 +249,11 @@ pub record RowNext (s : Progress) (n : ℕ) (v : FileValue) (line : List ℕ) (l
   pub shown : line ≡ satellite_line seen
   pub rest : left ≡ map satellite_line more ++ flat_map stamped_lines others
 
-from_more : (s : Progress) (n : ℕ) (v : FileValue) (line : List ℕ) (left : List (List ℕ)) (more : List SatelliteRow) (others : List Stamped) → IsFileValue v → length more ≡ suc n
+from_more : {s : Progress} {n : ℕ} {v : FileValue} {line : List ℕ} {left : List (List ℕ)} (more : List SatelliteRow) (others : List Stamped) → IsFileValue v → length more ≡ suc n
     → v ≡ file_with s (s.epochs ++ stamped s (s.rows ++ more) ∷ others) → StartsAt s.known.shown.first (s.epochs ++ stamped s (s.rows ++ more) ∷ others)
     → line ∷ left ≡ map satellite_line more ++ flat_map stamped_lines others → RowNext s n v line left
-from_more s n v line left [] others is count value starts rest = absurd (omega (arith, count))
-from_more s n v line left (m ∷ ms) others is count value starts rest =
+from_more [] others is count value starts rest = absurd (omega (arith, count))
+from_more {s} (m ∷ ms) others is count value starts rest =
     let valid : IsFileValue (file_with s (s.epochs ++ stamped s (s.rows ++ m ∷ ms) ∷ others)) = subst IsFileValue value is in
     let one : IsStamped (length s.known.shown.plan.gps) (length s.known.shown.plan.galileo) (stamped s (s.rows ++ m ∷ ms)) =
     All-midst (IsStamped (length s.known.shown.plan.gps) (length s.known.shown.plan.galileo)) s.epochs others (stamped s (s.rows ++ m ∷ ms)) valid.epochs in
@@ -275,15 +274,14 @@ pub row_next : (s : Progress) (n : ℕ) (v : FileValue) (line : List ℕ) (left 
 unfolding HasLinesLeft
 row_next s n v line left expected (is, at) =
     let here : IsInEpoch s (suc n) v (line ∷ left) = subst (λ d. IsAt s d v (line ∷ left)) expected at in
-    from_more s n v line left here.more here.others is here.count here.value here.starts here.rest
+    from_more here.more here.others is here.count here.value here.starts here.rest
 
 module _ (s : Progress) (n : ℕ) (line : List ℕ) (expected : s.expected ≡ Satellite (suc n)) where
-  pub no_row : ((w : SatelliteRow) → IsSatelliteRow (length s.known.shown.plan.gps) (length s.known.shown.plan.galileo) w → line ≡ satellite_line w → ⊥)
-      → (v : FileValue) (left : List (List ℕ)) → HasLinesLeft s v (line ∷ left) → ⊥
+  pub no_row : ((w : SatelliteRow) → IsSatelliteRow (length s.known.shown.plan.gps) (length s.known.shown.plan.galileo) w → line ≡ satellite_line w → ⊥) → RefusesLine s line
   no_row none v left on = let next = row_next s n v line left expected on in none next.seen next.is next.shown
 
   pub bad_row : (seen : SatelliteRow) → ((w : SatelliteRow) → IsSatelliteRow (length s.known.shown.plan.gps) (length s.known.shown.plan.galileo) w → line ≡ satellite_line w → w ≡ seen)
-      → (IsStrictlyIncreasing (map rank_of s.rows ++ rank_of seen ∷ []) → ⊥) → (v : FileValue) (left : List (List ℕ)) → HasLinesLeft s v (line ∷ left) → ⊥
+      → (IsStrictlyIncreasing (map rank_of s.rows ++ rank_of seen ∷ []) → ⊥) → RefusesLine s line
   bad_row seen only never v left on =
       let next = row_next s n v line left expected on in
       let same : next.seen ≡ seen = only next.seen next.is next.shown in
@@ -312,9 +310,9 @@ module _ (s : Progress) (n : ℕ) (line : List ℕ) (expected : s.expected ≡ S
       )
 
 -- the lines with that of a satellite
-row_lines : (whole taken : List (List ℕ)) (line : List ℕ) (c : Option StationValues) (t k n : ℕ) (rows : List SatelliteRow) (seen : SatelliteRow) → taken ≡ whole ++ part_lines (at_time c t rows) k
+row_lines : (whole : List (List ℕ)) {taken : List (List ℕ)} {line : List ℕ} (c : Option StationValues) (t : ℕ) {k n : ℕ} (rows : List SatelliteRow) (seen : SatelliteRow) → taken ≡ whole ++ part_lines (at_time c t rows) k
     → line ≡ satellite_line seen → k ≡ n → taken ++ line ∷ [] ≡ whole ++ part_lines (at_time c t (rows ++ seen ∷ [])) n
-row_lines whole taken line c t k n rows seen e shown same =
+row_lines whole {line} c t {k} rows seen e shown same =
     let front = change_lines c in
     let first = epoch_line (civil_of t) k in
     ap (λ l. l ++ line ∷ []) e ∙ append_assoc whole (front ++ first ∷ map satellite_line rows) (line ∷ [])
@@ -326,8 +324,7 @@ one_fewer rows seen n = let size : length (rows ++ seen ∷ []) ≡ length rows 
 
 pub row_shows : (s : Progress) (n : ℕ) (line : List ℕ) → s.expected ≡ Satellite (suc n) → (seen : SatelliteRow) → line ≡ satellite_line seen → ShowsLine s (with_row s seen n) line
 row_shows s n line expected seen shown taken are =
-    row_lines (whole_lines s.known.shown s.epochs) taken line s.change s.time (length s.rows + suc n) (length (s.rows ++ seen ∷ []) + n) s.rows seen (subst (λ d. AreLinesAt s d taken) expected are) shown
-    (one_fewer s.rows seen n)
+    row_lines (whole_lines s.known.shown s.epochs) s.change s.time s.rows seen (subst (λ d. AreLinesAt s d taken) expected are) shown (one_fewer s.rows seen n)
 
 -- the last satellite makes the epoch whole
 pub last_shows : (s : Progress) (line : List ℕ) → s.expected ≡ Satellite 1 → (seen : SatelliteRow) → line ≡ satellite_line seen → ShowsLine s (with_epoch (with_row s seen 0)) line
@@ -339,11 +336,11 @@ last_shows s line expected seen shown taken are =
     all ∙ ap (λ (m : ℕ). whole_lines s.known.shown s.epochs ++ part_lines e m) n ∙ append_assoc head (flat_map stamped_lines s.epochs) (stamped_lines e)
     ∙ ap (λ l. head ++ l) (ap (λ l. flat_map stamped_lines s.epochs ++ l) (sym (append-nil (stamped_lines e))) ∙ sym (flat_map-append stamped_lines s.epochs (e ∷ [])))
 
-from_none : (s : Progress) (v : FileValue) (left : List (List ℕ)) (more : List SatelliteRow) (others : List Stamped) → length more ≡ 0
+from_none : (s : Progress) {v : FileValue} {left : List (List ℕ)} (more : List SatelliteRow) (others : List Stamped) → length more ≡ 0
     → v ≡ file_with s (s.epochs ++ stamped s (s.rows ++ more) ∷ others) → StartsAt s.known.shown.first (s.epochs ++ stamped s (s.rows ++ more) ∷ others)
     → left ≡ map satellite_line more ++ flat_map stamped_lines others → IsBetween (with_epoch s) v left
-from_none s v left (m ∷ ms) others count value starts rest = absurd (omega (arith, count))
-from_none s v left [] others count value starts rest = grind (arith, append-nil, append_assoc)
+from_none s (m ∷ ms) others count value starts rest = absurd (omega (arith, count))
+from_none s [] others count value starts rest = grind (arith, append-nil, append_assoc)
 
 -- ---- what holds after the line of a satellite is accepted
 
@@ -367,7 +364,7 @@ seen_more gps galileo rows seen these is rise =
 starts_more : (first : ℕ) (es : List Stamped) (x : Stamped) → StartsAt first es → (es ≡ [] → first ≡ x.time) → StartsAt first (es ++ x ∷ [])
 starts_more first v1 x starts none = grind arith
 
-module _ (s : Progress) (n left : ℕ) (expected : s.expected ≡ Satellite left) (sound : IsSound s) (seen : SatelliteRow)
+module _ (s : Progress) (n : ℕ) {left : ℕ} (expected : s.expected ≡ Satellite left) (sound : IsSound s) {seen : SatelliteRow}
     (is : IsSatelliteRow (length s.known.shown.plan.gps) (length s.known.shown.plan.galileo) seen) (rise : IsStrictlyIncreasing (map rank_of s.rows ++ rank_of seen ∷ [])) where
   rows_more : AreSatelliteRows (length s.known.shown.plan.gps) (length s.known.shown.plan.galileo) (s.rows ++ seen ∷ [])
   rows_more = seen_more (length s.known.shown.plan.gps) (length s.known.shown.plan.galileo) s.rows seen (sound_open s left expected sound).1.rows is rise
@@ -408,7 +405,7 @@ pub last_taken : (s : Progress) (line : List ℕ) → s.expected ≡ Satellite 1
 unfolding HasLinesLeft
 last_taken s line expected seen shown only v left on =
     let here : IsInEpoch (with_row s seen 0) 0 v left = (row_taken s 0 line expected seen shown only v left on).1 in
-    (on.0, from_none (with_row s seen 0) v left here.more here.others here.count here.value here.starts here.rest)
+    (on.0, from_none (with_row s seen 0) here.more here.others here.count here.value here.starts here.rest)
 
 -- ---- a line that adds nothing
 
@@ -416,10 +413,10 @@ last_taken s line expected seen shown only v left on =
 abbrev pub state_with : ParserState → Expected → Known → Option StationValues → ℕ → ParserState
 state_with c e k change t = record c { expected = e; head = k; change = change; time = t }
 
-pub goes_on : (c : ParserState) (h : History) (e : Expected) (k : Known) (change : Option StationValues) (t : ℕ) (line : List ℕ) → FollowsHistory c h
+pub goes_on : {c : ParserState} {h : History} (e : Expected) (k : Known) (change : Option StationValues) (t : ℕ) {line : List ℕ} → FollowsHistory c h
     → IsSound (progress_at (state_with c e k change t) h) → GoesOnWithLine (progress_at c h) (progress_at (state_with c e k change t) h) line
     → ShowsLine (progress_at c h) (progress_at (state_with c e k change t) h) line → IsNext c (state_with c e k change t) NoRow line h
-goes_on c h e k change t line history sound follows shows = record {
+goes_on e k change t history sound follows shows = record {
   history = record { sound = sound; counted = history.counted };
   follows = follows;
   shows = shows;

@@ -37,10 +37,10 @@ not_epoch t n e = grind (arith, has_point, no_point)
 abbrev Others : List Stamped → List (List ℕ)
 Others es = flat_map stamped_lines es
 
-event_begins : (s : Progress) (v : FileValue) (line : List ℕ) (left : List (List ℕ)) (others : List Stamped) → line ≡ event_line → v ≡ file_with s (s.epochs ++ others)
+event_begins : (s : Progress) {v : FileValue} {line : List ℕ} {left : List (List ℕ)} (others : List Stamped) → line ≡ event_line → v ≡ file_with s (s.epochs ++ others)
     → StartsAt s.known.shown.first (s.epochs ++ others) → line ∷ left ≡ Others others → IsInEvent (expected_next s EventPosition) 1 (λ w. ⊤) v left
-event_begins s v line left [] shown value starts rest = cc
-event_begins s v line left (e ∷ es) shown value starts rest = by e.change refl where
+event_begins s [] shown value starts rest = cc
+event_begins s {v} {line} {left} (e ∷ es) shown value starts rest = by e.change refl where
   by : (c : Option StationValues) → e.change ≡ c → IsInEvent (expected_next s EventPosition) 1 (λ w. ⊤) v left
   by None h =
       let text : line ∷ left ≡ lines_with None e ++ Others es = rest ∙ ap (λ l. l ++ Others es) (lines_are e None h) in
@@ -61,16 +61,16 @@ event_begins s v line left (e ∷ es) shown value starts rest = by e.change refl
       }
 
 -- the event with another line expected and other knowledge of its station values
-abbrev event_with : (s : Progress) (d : Expected) (k n : ℕ) (P Q : StationValues → Type 0) (v : FileValue) (all left : List (List ℕ)) (h : IsInEvent s k P v all) → Q h.values
+abbrev event_with : {s : Progress} {d : Expected} {k n : ℕ} {P Q : StationValues → Type 0} {v : FileValue} {all left : List (List ℕ)} (h : IsInEvent s k P v all) → Q h.values
     → left ≡ drop n (stamped_lines h.next) ++ Others h.others → IsInEvent (expected_next s d) n Q v left
-event_with s d k n P Q v all left h shown rest =
+event_with h shown rest =
     record { next = h.next; values = h.values; others = h.others; value = h.value; starts = h.starts; change = h.change; shown = shown; rest = rest }
 
 pub event_taken : (s : Progress) (line : List ℕ) → s.expected ≡ Epoch → line ≡ event_line → GoesOnWithLine s (expected_next s EventPosition) line
 unfolding HasLinesLeft
 event_taken s line expected shown v left on =
     let here : IsBetween s v (line ∷ left) = subst (λ d. IsAt s d v (line ∷ left)) expected on.1 in
-    (on.0, event_begins s v line left here.others shown here.value here.starts here.rest)
+    (on.0, event_begins s here.others shown here.value here.starts here.rest)
 
 pub event_shows : (s : Progress) (line : List ℕ) → s.expected ≡ Epoch → line ≡ event_line → ShowsLine s (expected_next s EventPosition) line
 event_shows s line expected shown taken are =
@@ -92,16 +92,16 @@ record EventNext (s : Progress) (d : Expected) (k : ℕ) (P : StationValues → 
   pub shown : line ≡ get_or (lines_with (Some event.values) event.next) k []
   pub change : IsChange (values_now s) (Some event.values)
 
-event_next : (s : Progress) (d : Expected) (k : ℕ) (P : StationValues → Type 0) (v : FileValue) (line : List ℕ) (left : List (List ℕ)) → k < 4 → IsFileValue v
+event_next : {s : Progress} {d : Expected} {k : ℕ} {P : StationValues → Type 0} {v : FileValue} {line : List ℕ} {left : List (List ℕ)} → k < 4 → IsFileValue v
     → IsInEvent s k P v (line ∷ left) → EventNext s d k P v line left
-event_next s d k P v line left few is here =
+event_next {s} {d} {k} {P} {v} {line} {left} few is here =
     let all = lines_with (Some here.values) here.next in
     let lines = lines_are here.next (Some here.values) here.change in
     let text : line ∷ left ≡ (get_or all k [] ∷ drop (suc k) all) ++ Others here.others =
     here.rest ∙ ap (λ l. drop k l ++ Others here.others) lines ∙ ap (λ l. l ++ Others here.others) (drop-cons all k [] (omega (arith, few))) in
     let (first, rest) = cons_parts line (get_or all k []) left (drop (suc k) all ++ Others here.others) text in
     record {
-      event = event_with s d k (suc k) P P v (line ∷ left) left here here.shown (rest ∙ ap (λ l. drop (suc k) l ++ Others here.others) (sym lines));
+      event = event_with here here.shown (rest ∙ ap (λ l. drop (suc k) l ++ Others here.others) (sym lines));
       shown = first;
       change = values_in_range s v here.next here.others here.values is here.value here.change;
     }
@@ -109,7 +109,7 @@ event_next s d k P v line left few is here =
 -- ---- the position
 
 position_next : (s : Progress) (d : Expected) (v : FileValue) (line : List ℕ) (left : List (List ℕ)) → s.expected ≡ EventPosition → HasLinesLeft s v (line ∷ left) → EventNext s d 1 (λ w. ⊤) v line left
-position_next s d v line left expected on = event_next s d 1 (λ w. ⊤) v line left (lit< tt) (file_value s v (line ∷ left) on) (at_expected s EventPosition expected v (line ∷ left) on)
+position_next s d v line left expected on = event_next (lit< tt) (file_value s v (line ∷ left) on) (at_expected s EventPosition expected v (line ∷ left) on)
 
 pub no_position : (s : Progress) (line : List ℕ) → s.expected ≡ EventPosition → ((p : StationValues) → IsPosition p → line ≡ position_line p → ⊥) → (v : FileValue) (left : List (List ℕ)) → HasLinesLeft s v (line ∷ left) → ⊥
 no_position s line expected none v left on =
@@ -124,8 +124,7 @@ position_taken s p line expected only v left on =
     let next = position_next s d v line left expected on in
     let here = next.event in (
       on.0,
-      event_with (expected_next s d) d 2 2 (λ w. ⊤) (λ w. position_of w ≡ p) v left left here
-          (only (position_of here.values) (let are = next.change.0 in (are.x, are.y, are.z, refl)) next.shown) here.rest,
+      event_with here (only (position_of here.values) (let are = next.change.0 in (are.x, are.y, are.z, refl)) next.shown) here.rest,
     )
 
 pub position_shows : (s : Progress) (p : StationValues) (line : List ℕ) → s.expected ≡ EventPosition → line ≡ position_line p → ShowsLine s (expected_next s (EventHeight p)) line
@@ -148,7 +147,7 @@ HeightNext s d p v line left = EventNext s d 2 (λ w. position_of w ≡ p) v lin
 
 height_next : (s : Progress) (d : Expected) (p : StationValues) (v : FileValue) (line : List ℕ) (left : List (List ℕ)) → s.expected ≡ EventHeight p → HasLinesLeft s v (line ∷ left) → HeightNext s d p v line left
 height_next s d p v line left expected on =
-    event_next s d 2 (λ w. position_of w ≡ p) v line left (lit< tt) (file_value s v (line ∷ left) on) (at_expected s (EventHeight p) expected v (line ∷ left) on)
+    event_next (lit< tt) (file_value s v (line ∷ left) on) (at_expected s (EventHeight p) expected v (line ∷ left) on)
 
 module _ (s : Progress) (p : StationValues) (line : List ℕ) (expected : s.expected ≡ EventHeight p) where
   pub no_height : ((h : ℕ) → h < 2 ^ 16 → line ≡ height_line h → ⊥) → (v : FileValue) (left : List (List ℕ)) → HasLinesLeft s v (line ∷ left) → ⊥
@@ -171,7 +170,7 @@ module _ (s : Progress) (p : StationValues) (line : List ℕ) (expected : s.expe
     height_taken v left on =
         let d = EventEpoch (with_height p h) in
         let next = height_next s d p v line left expected on in
-        (on.0, event_with (expected_next s d) d 3 3 (λ w. position_of w ≡ p) (λ u. u ≡ with_height p h) v left left next.event (same_next d v left next) next.event.rest)
+        (on.0, event_with next.event (same_next d v left next) next.event.rest)
 
 pub height_shows : (s : Progress) (p : StationValues) (h : ℕ) (line : List ℕ) → s.expected ≡ EventHeight p → line ≡ height_line h → ShowsLine s (expected_next s (EventEpoch (with_height p h))) line
 height_shows s p h line expected shown taken are =

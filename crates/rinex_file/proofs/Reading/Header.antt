@@ -4,7 +4,7 @@ use Rattle.rinex_file.proofs.HeaderRows.Steps.{some_plan, with_is}
 use Rattle.rinex_file.proofs.HeaderRows.End.{zero_values, same_header}
 use Rattle.rinex_file.proofs.Reading.Lines.{consumed}
 use Rattle.rinex_file.proofs.Reading.Epochs.{lines_with, lines_are, sound_open, sound_between, at_expected, file_value}
-use Rattle.rinex_file.proofs.Names.{arith, ◌≡◌, ◌∙◌, sym, ap, refl, ℕ, zero, suc, ◌+◌, ◌<◌, pos, List, [], ◌∷◌, ◌++◌, length, Option, IfSome, lit<, subst, take, drop, append-nil, append_assoc, None, Some, ⊤, map, flat_map, All-head, All-nil, length-map, nil_from_length, StationValues, civil_of, ParserState, Expected, Header, Epoch, EventPosition, EventHeight, EventEpoch, Satellite, IsChange, IsFileValue, AreBegun, IsEventBegun, lines_of_header, whole_lines, AreBefore, IsExpectedAt, Progress, IsPosition, shown_with, lines_after, stamped, Known, Shown, IsShown, IsHeadAt, lines_before, file_with, StartsAt, IsInHeader, IsAt, IsBetween, IsInEvent, position_of, IsInEpoch, HasLinesLeft, IsSound, IsSoundAt, IsEventExpected, AreLinesAt, values_now, AreRead, AreLinesOf, History, FollowsHistory, progress_at, GoesOnWithLine, ShowsLine, IsTaken, SatelliteRow, Stamped, FileValue, header_lines, row_count, satellite_line, event_lines, stamped_lines, file_lines, lines_of_parts, GoesTo, EndsHeader, NoneGoesOn}
+use Rattle.rinex_file.proofs.Names.{arith, ◌≡◌, ◌∙◌, sym, ap, refl, ℕ, zero, suc, ◌+◌, ◌<◌, pos, List, [], ◌∷◌, ◌++◌, length, Option, IfSome, lit<, subst, take, drop, append-nil, append_assoc, None, Some, ⊤, map, flat_map, All-head, All-nil, length-map, nil_from_length, StationValues, civil_of, ParserState, Expected, Header, Epoch, EventPosition, EventHeight, EventEpoch, Satellite, IsChange, IsFileValue, AreBegun, IsEventBegun, lines_of_header, whole_lines, AreBefore, IsExpectedAt, Progress, IsPosition, shown_with, lines_after, stamped, Known, Shown, IsShown, IsHeadAt, lines_before, file_with, StartsAt, IsInHeader, IsAt, IsBetween, IsInEvent, position_of, IsInEpoch, HasLinesLeft, RefusesLine, IsSound, IsSoundAt, IsEventExpected, AreLinesAt, values_now, AreRead, AreLinesOf, History, FollowsHistory, progress_at, GoesOnWithLine, ShowsLine, IsTaken, SatelliteRow, Stamped, FileValue, header_lines, row_count, satellite_line, event_lines, stamped_lines, file_lines, lines_of_parts, GoesTo, EndsHeader, NoneGoesOn}
 
 some_lines : (xs : List (List ℕ)) → (xs ≡ [] → ⊥) → 0 < length xs
 some_lines [] some = absurd (some refl)
@@ -72,8 +72,8 @@ are_begun v0 lines h = grind arith
 pub begun : (s : Progress) (n : ℕ) (a b : Option (List ℕ)) (t : IsTaken s n a b) → IsSound s → AreBegun t.lines
 begun s n a b t sound = are_begun s.expected t.lines (are_before s s.expected t.lines sound t.history.are)
 
-pub expected_at : (c : ParserState) (h : History) (expected : Expected) (n : ℕ) (a b : Option (List ℕ)) → IsTaken (progress_at c h) n a b → expected ≡ c.expected → FollowsHistory c h → IfSome a (λ input. IsExpectedAt expected input (n + 1))
-expected_at c h expected n a b t same history = grind (arith, consumed, are_before)
+pub expected_at : {c : ParserState} {h : History} {expected : Expected} {n : ℕ} {a b : Option (List ℕ)} → IsTaken (progress_at c h) n a b → expected ≡ c.expected → FollowsHistory c h → IfSome a (λ input. IsExpectedAt expected input (n + 1))
+expected_at t same history = grind (arith, consumed, are_before)
 
 -- the contents of the header of a file whose first epoch is at this time
 abbrev shown_of : FileValue → ℕ → Shown
@@ -107,15 +107,15 @@ begins v is = by v.epochs refl where
   by [] e = let size = ap length e in let some = is.some in absurd (omega (arith, size, some))
   by (first ∷ others) e = record { first = first; others = others; epochs = e; is = shown_is v first others e is; lines = ap (lines_of_parts v.texts v.plan v.values) e }
 
-module _ (s : Progress) (place : ℕ) (line : List ℕ) (expected : s.expected ≡ Header place) where
-  pub no_header : IsHeadAt s.known place → NoneGoesOn s.known place line → (v : FileValue) (left : List (List ℕ)) → HasLinesLeft s v (line ∷ left) → ⊥
+module _ (s : Progress) {place : ℕ} (line : List ℕ) (expected : s.expected ≡ Header place) where
+  pub no_header : IsHeadAt s.known place → NoneGoesOn s.known place line → RefusesLine s line
   no_header at never v left on =
       let here = in_header s place v (line ∷ left) expected on in
       let b = begins v here.0 in
       let one = some_plan s.known place at.valid at.read in
       never one.p (shown_of v b.first.time) (flat_map stamped_lines (b.first ∷ b.others)) left one.may b.is (sym b.lines ∙ here.1 one.p one.may)
 
-  module _ (k : Known) (place' : ℕ) (goes : GoesTo s.known place line k place') where
+  module _ {k : Known} {place' : ℕ} (goes : GoesTo s.known place line k place') where
     pub header_taken : GoesOnWithLine s (known_as s k (Header place')) line
     unfolding HasLinesLeft
     header_taken v left on =
@@ -125,7 +125,7 @@ module _ (s : Progress) (place : ℕ) (line : List ℕ) (expected : s.expected �
     pub header_shows : ShowsLine s (known_as s k (Header place')) line
     header_shows taken are p may = ap (λ l. l ++ line ∷ []) (subst (λ d. AreLinesAt s d taken) expected are p (goes.plans p may)) ∙ sym (goes.lines p may)
 
-  module _ (k : Known) (none : s.epochs ≡ []) (at : IsHeadAt s.known place) (end : EndsHeader s.known place line k) where
+  module _ {k : Known} (none : s.epochs ≡ []) (at : IsHeadAt s.known place) (end : EndsHeader s.known place line k) where
     ended : (v : FileValue) (left : List (List ℕ)) → IsFileValue v → IsInHeader s place v (line ∷ left) → IsBetween (known_as s k Epoch) v left
     unfolding header_lines
     ended v left is here =
@@ -134,7 +134,7 @@ module _ (s : Progress) (place : ℕ) (line : List ℕ) (expected : s.expected �
         let one = some_plan s.known place at.valid at.read in
         let all : lines_of_header h ++ flat_map stamped_lines (b.first ∷ b.others) ≡ lines_of_header k.shown ++ left =
         sym b.lines ∙ here one.p one.may ∙ sym (append_assoc (lines_before (shown_with s.known one.p) place) (line ∷ []) left) ∙ ap (λ l. l ++ left) (sym (end.lines one.p one.may)) in
-        let same = agreed h k.shown b.is end.is row_count (omega arith) (flat_map stamped_lines (b.first ∷ b.others)) left all in
+        let same = agreed b.is end.is row_count (omega arith) (flat_map stamped_lines (b.first ∷ b.others)) left all in
         let header : h ≡ k.shown = same_header h k.shown b.is end.is (λ i l. same.agree i (omega (arith, l))) end.only in
         let epochs : b.first ∷ b.others ≡ s.epochs ++ b.first ∷ b.others = ap (λ x. x ++ b.first ∷ b.others) (sym none) in
         let file = λ (g : Shown) (es : List Stamped). record v { texts = g.texts; plan = g.plan; values = g.values; epochs = es } in
@@ -186,7 +186,7 @@ header_unfinished s place expected sound v on =
     let h = shown_of v b.first.time in
     let one = some_plan s.known place at.valid at.read in
     let body = flat_map stamped_lines (b.first ∷ b.others) in
-    let same = agreed h (shown_with s.known one.p) b.is (with_is s.known place at.valid at.read one.p one.may) place (omega (arith, less)) body [] (sym b.lines ∙ here.1 one.p one.may) in
+    let same = agreed b.is (with_is s.known place at.valid at.read one.p one.may) place (omega (arith, less)) body [] (sym b.lines ∙ here.1 one.p one.may) in
     some_after h place at.expected (no_lines (lines_after h place) body same.rest)
 
 no_rows_left : (n : ℕ) (more : List SatelliteRow) (others : List Stamped) → 0 < n → length more ≡ n → [] ≡ map satellite_line more ++ flat_map stamped_lines others → ⊥

@@ -6,15 +6,19 @@ use Rattle.rinex_file.proofs.Names.{arith, ◌≡◌, ◌∙◌, sym, ap, subst,
 
 -- ---- bytes that are moved to a line
 
-moved_are : (near : List ℕ) (feed count room : ℕ) (b : Bool) → nat_lt feed room ≡ b → length near ≡ room → has 10 (take feed near) ≡ false → (feed < length near → take 1 (drop feed near) ≡ 10 ∷ [])
-    → feed ≤ length near → count ≡ min (feed + 1) room → AreMoved b (take count near)
-moved_are near feed count room true is size none found bound e = grind (arith, min-eq_left, take-add)
-moved_are near feed count room false is size none found bound e = grind (arith, min-eq_right)
+-- the index of the first line feed, or the number of bytes if there is none
+pub record IsFeed (near : List ℕ) (feed : ℕ) : Type 0 where
+  pub bound : feed ≤ length near
+  pub none : has 10 (take feed near) ≡ false
+  pub found : feed < length near → take 1 (drop feed near) ≡ 10 ∷ []
 
-pub moved : (held near new line line' : List ℕ) (room feed count : ℕ) → near ≡ take room held → room ≡ min (length held) (1220 - length line) → feed ≤ length near
-    → has 10 (take feed near) ≡ false → (feed < length near → take 1 (drop feed near) ≡ 10 ∷ []) → count ≡ min (feed + 1) room → new ≡ drop count held → line' ≡ line ++ take count near
-    → length line ≤ 1220 → MovesBytes (nat_lt feed room) held new line line'
-moved held near new line line' room feed count is most bound none found e rest pushed short = grind (arith, min-le_left, min-le_right, length-take-le, take-take, take-append-drop, moved_are, le-min, length-append)
+moved_are : {near : List ℕ} {feed count room : ℕ} (b : Bool) → IsFeed near feed → nat_lt feed room ≡ b → length near ≡ room → count ≡ min (feed + 1) room → AreMoved b (take count near)
+moved_are true at is size e = grind (arith, min-eq_left, take-add)
+moved_are false at is size e = grind (arith, min-eq_right)
+
+pub moved : {held near new line line' : List ℕ} {room feed count : ℕ} → IsFeed near feed → near ≡ take room held → room ≡ min (length held) (1220 - length line)
+    → count ≡ min (feed + 1) room → new ≡ drop count held → line' ≡ line ++ take count near → length line ≤ 1220 → MovesBytes (nat_lt feed room) held new line line'
+moved at is most e rest pushed short = grind (arith, min-le_left, min-le_right, length-take-le, take-take, take-append-drop, moved_are, le-min, length-append)
 
 pub moved_of : (b : Bool) (held old new line line' : List ℕ) → held ≡ old → MovesBytes b held new line line' → MovesBytes b old new line line'
 moved_of b held old new line line' e m = subst (λ (o : List ℕ). MovesBytes b o new line line') e m
@@ -33,9 +37,9 @@ consumed_none a b c bytes first next = subst (Consumes a c) (append-nil bytes) (
 pub ahead_moved : (r : Option (List ℕ)) (old new bytes : List ℕ) → old ≡ bytes ++ new → Consumes (prepend_known old r) (prepend_known new r) bytes
 ahead_moved v0 old new bytes e = grind (arith, append_assoc)
 
-pub moved_taken : (a b r : Option (List ℕ)) (whole : Bool) (old new line line' : List ℕ) → Consumes a b line → Consumes b (prepend_known old r) [] → MovesBytes whole old new line line'
+pub moved_taken : (a b r : Option (List ℕ)) {whole : Bool} {old new line line' : List ℕ} → Consumes a b line → Consumes b (prepend_known old r) [] → MovesBytes whole old new line line'
     → Consumes a (prepend_known new r) line'
-moved_taken a b r whole old new line line' first none m = grind (arith, Consumes-trans, consumed_none, ahead_moved)
+moved_taken a b r first none m = grind (arith, Consumes-trans, consumed_none, ahead_moved)
 
 -- the line feed is the last byte of the line
 pub line_whole : (old new line line' : List ℕ) → has 10 line ≡ false → MovesBytes true old new line line' → IsLine line'
@@ -142,17 +146,18 @@ after_all P (l ∷ ls) more all = after_all P ls more (All-tail P l (ls ++ more)
 abbrev IsShort : List ℕ → Type 0
 IsShort l = length l ≤ 1220
 
-not_front : (m x long rest : List ℕ) → IsLine m → IsShort m → length long ≡ 1220 → has 10 long ≡ false → m ++ x ≡ long ++ rest → ⊥
-not_front m x long rest (body, e, endless) short size none same = grind (arith, length-append, not_within, append_assoc)
+not_front : (m x long rest : List ℕ) → IsLine m → length m ≤ length long → has 10 long ≡ false → m ++ x ≡ long ++ rest → ⊥
+not_front m x long rest (body, e, endless) short none same = grind (arith, length-append, not_within, append_assoc)
 
 not_first : (more : List (List ℕ)) (long rest : List ℕ) → All IsLine more → All IsShort more → length long ≡ 1220 → has 10 long ≡ false → long ++ rest ≡ joined more → ⊥
 not_first [] long rest are short size endless e = grind (arith, length-append, (ap length e), (length-append long rest))
-not_first (m ∷ ms) long rest are short size endless e = grind (arith, not_front, All-head)
+not_first (m ∷ ms) long rest are short size endless e =
+    not_front m (joined ms) long rest (All-head IsLine m ms are) (omega (arith, (All-head IsShort m ms short), size)) endless (sym e)
 
 -- bytes after the largest number of lines are no lines of a file
-no_more : (lines more all : List (List ℕ)) (rest : List ℕ) → all ≡ lines ++ more → rest ≡ joined more → length lines ≡ most_lines → length all ≤ most_lines → 0 < length rest → ⊥
-no_more lines [] all rest split text many few some = grind arith
-no_more lines (m ∷ ms) all rest split text many few some = grind (arith, length-append)
+no_more : (lines more : List (List ℕ)) {all : List (List ℕ)} {rest : List ℕ} → all ≡ lines ++ more → rest ≡ joined more → length lines ≡ most_lines → length all ≤ most_lines → 0 < length rest → ⊥
+no_more lines [] split text many few some = grind arith
+no_more lines (m ∷ ms) split text many few some = grind (arith, length-append)
 
 -- ---- what a reader returned
 
@@ -177,18 +182,18 @@ stands_more : (old new : Progress) (taken : List (List ℕ)) (line : List ℕ) �
 stands_more old new taken line history more shows = grind (arith, append_assoc)
 
 -- one more line was read
-pub one_more : (old new : Progress) (n : ℕ) (a b c : Option (List ℕ)) (line : List ℕ) → IsTaken old n a b → IsLine line → Consumes b c line → GoesOnWithLine old new line → ShowsLine old new line
+pub one_more : {old new : Progress} {n : ℕ} {a b c : Option (List ℕ)} (line : List ℕ) → IsTaken old n a b → IsLine line → Consumes b c line → GoesOnWithLine old new line → ShowsLine old new line
     → IsTaken new (n + 1) a c
-one_more old new n a b c line t is next more shows = grind (arith, are_more, length_push, taken_more, stands_more)
+one_more line t is next more shows = grind (arith, are_more, length_push, taken_more, stands_more)
 
 -- the next line has too many bytes
-pub over_long : (s : Progress) (n : ℕ) (a b c : Option (List ℕ)) (bytes : List ℕ) → IsTaken s n a b → length bytes ≡ 1220 → has 10 bytes ≡ false → Consumes b c bytes
+pub over_long : {s : Progress} {n : ℕ} {a b : Option (List ℕ)} (c : Option (List ℕ)) (bytes : List ℕ) → IsTaken s n a b → length bytes ≡ 1220 → has 10 bytes ≡ false → Consumes b c bytes
     → IfSome a (λ input. IsFaulty input (n + 1))
-over_long s n a b c bytes t size endless next = grind (arith, consumed, Consumes-trans, append_assoc)
+over_long c bytes t size endless next = grind (arith, consumed, Consumes-trans, append_assoc)
 
 -- a byte follows the largest number of lines
-pub too_long : (s : Progress) (n : ℕ) (a b c : Option (List ℕ)) (bytes : List ℕ) → IsTaken s n a b → n ≡ most_lines → 0 < length bytes → Consumes b c bytes → IfSome a IsTooLong
-too_long s n a b c bytes t most some next =
+pub too_long : {s : Progress} {n : ℕ} {a b : Option (List ℕ)} (c : Option (List ℕ)) (bytes : List ℕ) → IsTaken s n a b → n ≡ most_lines → 0 < length bytes → Consumes b c bytes → IfSome a IsTooLong
+too_long {a} {b} c bytes t most some next =
     consumed a c (joined t.lines ++ bytes) IsTooLong (Consumes-trans a b c (joined t.lines) bytes t.taken next) (λ rest. record {
       lines = t.lines;
       rest = bytes ++ rest;
@@ -204,8 +209,8 @@ module _ (are_lines : (v : FileValue) → IsFileValue v → All IsLine (file_lin
       bad v more (history.goes v (line ∷ more) is (lines ∙ append_assoc taken (line ∷ []) more))
 
   -- the line is refused
-  pub refused : (s : Progress) (n : ℕ) (a b c : Option (List ℕ)) (line : List ℕ) → IsTaken s n a b → IsLine line → Consumes b c line → RefusesLine s line → IfSome a (λ input. IsFaulty input (n + 1))
-  refused s n a b c line t is next bad =
+  pub refused : {s : Progress} {n : ℕ} {a b : Option (List ℕ)} (c : Option (List ℕ)) (line : List ℕ) → IsTaken s n a b → IsLine line → Consumes b c line → RefusesLine s line → IfSome a (λ input. IsFaulty input (n + 1))
+  refused {s} {n} {a} {b} c line t is next bad =
       let all = are_more t.lines line t.are is in
       consumed a c (joined (t.lines ++ line ∷ [])) (λ input. IsFaulty input (n + 1)) (taken_more a b c t.lines line t.taken next) (λ rest. inl (record {
         lines = t.lines ++ line ∷ [];
@@ -223,9 +228,9 @@ module _ (are_lines : (v : FileValue) → IsFileValue v → All IsLine (file_lin
       lines ∙ ap (λ l. taken ++ l) none ∙ append-nil taken
 
   -- the input ends before the next line's line feed; if no byte of the line was read, more lines are expected
-  pub cut : (s : Progress) (n : ℕ) (a b c : Option (List ℕ)) (bytes : List ℕ) (t : IsTaken s n a b) → AreBegun t.lines → has 10 bytes ≡ false → length bytes < 1220 → IsAtEnd c → Consumes b c bytes
+  pub cut : {s : Progress} {n : ℕ} {a b : Option (List ℕ)} (c : Option (List ℕ)) {bytes : List ℕ} (t : IsTaken s n a b) → AreBegun t.lines → has 10 bytes ≡ false → length bytes < 1220 → IsAtEnd c → Consumes b c bytes
       → (bytes ≡ [] → (v : FileValue) → HasLinesLeft s v [] → ⊥) → IfSome a (λ input. IsCutShort input (n + 1))
-  cut s n a b c bytes t begun endless few end next never =
+  cut {s} {n} {a} {b} c {bytes} t begun endless few end next never =
       consumed_all a c (joined t.lines ++ bytes) (λ input. IsCutShort input (n + 1)) (Consumes-trans a b c (joined t.lines) bytes t.taken next) end (record {
         lines = t.lines;
         rest = bytes;
@@ -240,9 +245,9 @@ module _ (are_lines : (v : FileValue) → IsFileValue v → All IsLine (file_lin
       })
 
   -- the input is the text of the file that was read
-  pub whole : (s : Progress) (n : ℕ) (a b c : Option (List ℕ)) (bytes : List ℕ) (f : FileValue) (t : IsTaken s n a b) → file_lines f ≡ t.lines → bytes ≡ [] → IsAtEnd c → Consumes b c bytes
+  pub whole : {s : Progress} {n : ℕ} {a b : Option (List ℕ)} (c : Option (List ℕ)) {bytes : List ℕ} {f : FileValue} (t : IsTaken s n a b) → file_lines f ≡ t.lines → bytes ≡ [] → IsAtEnd c → Consumes b c bytes
       → ((v : FileValue) → HasLinesLeft s v [] → v ≡ f) → IfSome a (IsTextOfOnly f)
-  whole s n a b c bytes f t lines none end next only =
+  whole {s} {n} {a} {b} c {bytes} {f} t lines none end next only =
       let endless : has 10 bytes ≡ false = ap (has 10) none in
       consumed_all a c (joined t.lines ++ bytes) (IsTextOfOnly f) (Consumes-trans a b c (joined t.lines) bytes t.taken next) end (record {
         same = ap (λ l. joined t.lines ++ l) none ∙ append-nil (joined t.lines) ∙ sym (ap joined lines);
@@ -253,27 +258,27 @@ module _ (are_lines : (v : FileValue) → IsFileValue v → All IsLine (file_lin
 
   module _ (are_short : (v : FileValue) → IsFileValue v → All (λ l. length l ≤ 1220) (file_lines v)) where
     -- the lines after those that were accepted are short, too
-    not_long : (v : FileValue) (lines : List (List ℕ)) (long rest : List ℕ) → IsFileValue v → All IsLine lines → length long ≡ 1220 → has 10 long ≡ false
+    not_long : {v : FileValue} (lines : List (List ℕ)) (long rest : List ℕ) → IsFileValue v → All IsLine lines → length long ≡ 1220 → has 10 long ≡ false
         → file_text v ≡ joined lines ++ (long ++ rest) → ⊥
-    not_long v lines long rest is are size endless e =
+    not_long {v} lines long rest is are size endless e =
         let (more, split, text) = splits (file_lines v) lines (long ++ rest) (are_lines v is) are e in
         not_first more long rest (after_all IsLine lines more (subst (All IsLine) split (are_lines v is))) (after_all IsShort lines more (subst (All (λ l. length l ≤ 1220)) split (are_short v is)))
         size endless text
 
-    not_many : (v : FileValue) (lines : List (List ℕ)) (rest : List ℕ) → IsFileValue v → All IsLine lines → length lines ≡ most_lines → 0 < length rest → length (file_lines v) ≤ most_lines
+    not_many : {v : FileValue} (lines : List (List ℕ)) (rest : List ℕ) → IsFileValue v → All IsLine lines → length lines ≡ most_lines → 0 < length rest → length (file_lines v) ≤ most_lines
         → file_text v ≡ joined lines ++ rest → ⊥
-    not_many v lines rest is are many some few e = grind (arith, splits, no_more, (splits (file_lines v) lines rest (are_lines v is) are e))
+    not_many {v} lines rest is are many some few e = grind (arith, splits, no_more, (splits (file_lines v) lines rest (are_lines v is) are e))
 
     faulty_not : (v : FileValue) (input : List ℕ) (k : ℕ) → IsFileValue v → IsFaulty input k → input ≡ file_text v → ⊥
     faulty_not v input k is (inl r) e = r.none v r.rest is (sym e ∙ r.first.first)
-    faulty_not v input k is (inr l) e = not_long v l.lines l.long l.rest is l.first.are l.size l.endless (sym e ∙ l.first.first)
+    faulty_not v input k is (inr l) e = not_long l.lines l.long l.rest is l.first.are l.size l.endless (sym e ∙ l.first.first)
 
     -- a fault that is explained isn't that of a file's text
     not_explained : (v : FileValue) (input : List ℕ) (fault : ReadFault) → IsFileValue v → length (file_lines v) ≤ most_lines → ExplainsFault input fault → input ≡ file_text v → IsNoFault fault
     not_explained v input Memory is few why e = tt
     not_explained v input Read is few why e = tt
     not_explained v input (CutShort k) is few why e = why.none v is e
-    not_explained v input TooLong is few why e = not_many v why.lines why.rest is why.first.are why.count why.more few (sym e ∙ why.first.first)
+    not_explained v input TooLong is few why e = not_many why.lines why.rest is why.first.are why.count why.more few (sym e ∙ why.first.first)
     not_explained v input other is few why e = faulty_not v input _ is why.0 e
 
     pub only_faults : (a : Option (List ℕ)) (fault : ReadFault) (v : FileValue) → IfSome a (λ input. ExplainsFault input fault) → IsFileValue v → length (file_lines v) ≤ most_lines
@@ -305,9 +310,9 @@ line_some bytes (body, is, endless) = let size = ap length is ∙ length-append 
 
 -- ---- a step, by its result
 
-pub added_more : (old new : Reading) (h : History) (input left : Option (List ℕ)) (o : Option Added) (added : Added) → o ≡ Some added → ReadsNextLine old new h input left (Ok o)
+pub added_more : (old new : Reading) (h : History) (input left : Option (List ℕ)) {o : Option Added} {added : Added} → o ≡ Some added → ReadsNextLine old new h input left (Ok o)
     → HasRead new (with_line added new.parser_state h) input left × (new.count ≡ old.count + 1)
-added_more old new h input left o added e goes = subst (λ (x : Option Added). ReadsNextLine old new h input left (Ok x)) e goes
+added_more old new h input left e goes = subst (λ (x : Option Added). ReadsNextLine old new h input left (Ok x)) e goes
 
 pub the_end : (old new : Reading) (h : History) (input left : Option (List ℕ)) (o : Option Added) → is_some o ≡ false → ReadsNextLine old new h input left (Ok o) → IsWhole new.parser_state h input
 the_end old new h input left None none goes = goes

@@ -13,7 +13,7 @@ some_times (e ∷ es) None are some = cc
 pub has_times : (c : ParserState) (h : History) (input : Option (List ℕ)) → IsWhole c h input → is_some c.times ≡ true
 has_times c h input whole = some_times h.epochs c.times whole.history.counted.times whole.is.some
 
-module _ (c : ParserState) (s : FileSummary) (counts : s.counts ≡ c.counts) (times : c.times ≡ Some s.times) (h : History) (input : Option (List ℕ)) (whole : IsWhole c h input) where
+module _ {c : ParserState} (s : FileSummary) (counts : s.counts ≡ c.counts) (times : c.times ≡ Some s.times) {h : History} {input : Option (List ℕ)} (whole : IsWhole c h input) where
   summed : IsSummary s (file_at c h)
   summed = let counted = whole.history.counted in grind (arith, no_rows_more, subst (AreTimesOrNone (map time_stamped h.epochs)) times counted.times)
 

@@ -29,15 +29,15 @@ no_place index signals f g e same =
     map_same f g signals (λ k d less. same (get_or signals k d) (eqb-false (get_or signals k d) index (fails_before_first (λ i. i == index) signals k d (omega (arith, less, none)))))
 
 -- a list of values with the one at a signal's index replaced
-set_place : (p index : ℕ) (signals : List ℕ) (f g : ℕ → SignalValues) → p < length signals → get_or signals p 0 ≡ index → IsDistinct nat_eq signals → ((other : ℕ) → other ≢ index → f other ≡ g other)
+set_place : (p : ℕ) {index : ℕ} (signals : List ℕ) {f g : ℕ → SignalValues} → p < length signals → get_or signals p 0 ≡ index → IsDistinct nat_eq signals → ((other : ℕ) → other ≢ index → f other ≡ g other)
     → slice_set (map g signals) p (f index) ≡ map f signals
 unfolding IsDistinct
-set_place p index [] f g within here apart same = absurd (omega (arith, within))
-set_place zero index (s ∷ signals) f g within here apart same =
+set_place p [] within here apart same = absurd (omega (arith, within))
+set_place zero (s ∷ signals) {f} {g} within here apart same =
     ap₂ (λ a l. a ∷ l) (ap f (sym here)) (sym (map_same f g signals (λ k d less. same (get_or signals k d) (λ e. eqb-false s (get_or signals k d) (All-from_recursion (λ y. nat_eq s y ≡ false) signals apart.0 k d less) (here ∙ sym e)))))
-set_place (suc p) index (s ∷ signals) f g within here apart same =
+set_place (suc p) {index} (s ∷ signals) {f} {g} within here apart same =
     let other = All-from_recursion (λ y. nat_eq s y ≡ false) signals apart.0 p 0 (omega (arith, within)) in
-    ap₂ (λ a l. a ∷ l) (sym (same s (λ e. eqb-false s (get_or signals p 0) other (e ∙ sym here)))) (set_place p index signals f g (omega (arith, within)) here apart.1 same)
+    ap₂ (λ a l. a ∷ l) (sym (same s (λ e. eqb-false s (get_or signals p 0) other (e ∙ sym here)))) (set_place p signals (omega (arith, within)) here apart.1 same)
 
 -- ---- a satellite's cells
 
@@ -53,7 +53,7 @@ cell_put signals id p c rest apart is own =
     let (within, here, none) = position-Some (λ i. i == c.signal.index) signals p 0 is in
     let key = and_from (c.satellite.id == id) (c.signal.index == c.signal.index) (eq-eqb c.satellite.id id own) (eq-eqb c.signal.index c.signal.index refl) in
     ap (λ b. slice_set (map (signal_values_at rest id) signals) p (option_map_or signal_values_of (if b then Some c else find (is_of_key id c.signal.index) rest) no_signal_values)) (sym key)
-    ∙ set_place p c.signal.index signals (signal_values_at (c ∷ rest) id) (signal_values_at rest id) within (eqb-true (get_or signals p 0) c.signal.index here) apart (others_stay c rest id)
+    ∙ set_place p signals within (eqb-true (get_or signals p 0) c.signal.index here) apart (others_stay c rest id)
 
 -- the values of cells fit their columns
 none_fit : HaveRoom no_signal_values
@@ -84,21 +84,26 @@ replaced (x ∷ values) (suc p) v all h =
     ∙ append_assoc (signal_text x) (take (64 * p) (flat_map signal_text values)) (signal_text v ++ drop 64 (drop (64 * p) (flat_map signal_text values)))
     ∙ ap (λ t. signal_text x ++ t) (replaced values p v (All-tail HaveRoom x values all) (omega (arith, h)))
 
+-- the place of a signal in a line that begins with three columns
+pub record HasPlace (front : List ℕ) (values : List SignalValues) (p : ℕ) : Type 0 where
+  pub three : length front ≡ 3
+  pub room : All HaveRoom values
+  pub within : p < length values
+
 -- a line of which some columns are replaced, with blanks at its end
-pub put_signal : (front line blank : List ℕ) (values : List SignalValues) (p : ℕ) (v : SignalValues) → length front ≡ 3 → All HaveRoom values → p < length values
-    → 3 + 64 * p + 64 ≤ length line → line ++ blank ≡ front ++ flat_map signal_text values
-    → (take (3 + 64 * p) line ++ (signal_text v ++ drop 64 (drop (3 + 64 * p) line))) ++ blank ≡ front ++ flat_map signal_text (slice_set values p v)
-put_signal front line blank values p v l all h within is =
+pub put_signal : {front : List ℕ} (line blank : List ℕ) {values : List SignalValues} {p : ℕ} (v : SignalValues) → HasPlace front values p → 3 + 64 * p + 64 ≤ length line
+    → line ++ blank ≡ front ++ flat_map signal_text values → (take (3 + 64 * p) line ++ (signal_text v ++ drop 64 (drop (3 + 64 * p) line))) ++ blank ≡ front ++ flat_map signal_text (slice_set values p v)
+put_signal {front} line blank {values} {p} v place within is =
     let n = 3 + 64 * p in
     let f = flat_map signal_text values in
-    let size : n ≡ length front + 64 * p = omega (arith, l) in
+    let size : n ≡ length front + 64 * p = omega (arith, place.three) in
     let a : take n line ≡ front ++ take (64 * p) f = sym (take-append-le n line blank (omega (arith, within))) ∙ ap₂ take size is ∙ take-append-add front f (64 * p) in
     let long : 64 ≤ length (drop n line) = rw length-drop (omega (arith, within)) in
     let b : drop 64 (drop n line) ++ blank ≡ drop 64 (drop (64 * p) f) =
     sym (drop-append-le 64 (drop n line) blank long) ∙ ap (drop 64) (sym (drop-append-le n line blank (omega (arith, within))) ∙ ap₂ drop size is ∙ drop-append-add front f (64 * p)) in
     append_assoc (take n line) (signal_text v ++ drop 64 (drop n line)) blank
     ∙ ap₂ (λ x y. x ++ y) a (append_assoc (signal_text v) (drop 64 (drop n line)) blank ∙ ap (λ t. signal_text v ++ t) b)
-    ∙ append_assoc front (take (64 * p) f) (signal_text v ++ drop 64 (drop (64 * p) f)) ∙ ap (λ t. front ++ t) (replaced values p v all h)
+    ∙ append_assoc front (take (64 * p) f) (signal_text v ++ drop 64 (drop (64 * p) f)) ∙ ap (λ t. front ++ t) (replaced values p v place.room place.within)
 
 length-columns_put : (x text : List ℕ) (n : ℕ) → n + 64 ≤ length x → length text ≡ 64 → length (take n x ++ (text ++ drop 64 (drop n x))) ≡ length x
 length-columns_put x text n h l = grind (arith, length-take-le, length-drop, length-append, (length-drop 64 (drop n x) ∙ ap (λ k. k - 64) (length-drop n x)))
@@ -117,24 +122,24 @@ more_blanks : (line front : List ℕ) (values : List SignalValues) (m : ℕ) →
 more_blanks line front values m is few = grind (arith, length-append, length-replicate, append_assoc, replicate-append-replicate)
 
 -- the columns of a signal are written into a line
-put_row : (old y text front : List ℕ) (others : List SignalValues) (p m : ℕ) (v : SignalValues) → length front ≡ 3 → All HaveRoom others → p < length others
-    → HasSignals old front others → HaveRoom v → m ≡ 3 + 64 * p + 64 - length old → y ≡ old ++ replicate m 32 → text ≡ signal_text v → 3 + 64 * p + 64 ≤ length y
+pub put_row : (old : List ℕ) {y text front : List ℕ} {others : List SignalValues} {p : ℕ} (v : SignalValues) → HasPlace front others p → HasSignals old front others
+    → HaveRoom v → y ≡ old ++ replicate (3 + 64 * p + 64 - length old) 32 → text ≡ signal_text v → 3 + 64 * p + 64 ≤ length y
     → HasSignals (take (3 + 64 * p) y ++ (text ++ drop 64 (drop (3 + 64 * p) y))) front (slice_set others p v)
-put_row old y text front others p m v l all h is room is_m is_y is_text far =
+put_row old {y} {text} {front} {others} {p} v place is room is_y is_text far =
+    let m : ℕ = 3 + 64 * p + 64 - length old in
     let width = 3 + 64 * length others in
     let blanks : ℕ = width - length y in
     let text_size : length text ≡ 64 = ap length is_text ∙ length-room v room in
-    let short = short_line old front others l all is in
+    let short = short_line old front others place.three place.room is in
     let size : length y ≡ length old + m = ap length is_y ∙ length-append old (replicate m 32) ∙ ap (λ k. length old + k) (length-replicate m 32) in
-    let before : HasSignals y front others = subst (λ (t : List ℕ). HasSignals t front others) (sym is_y) (more_blanks old front others m is (omega (arith, is_m, short, h))) in
+    let before : HasSignals y front others = subst (λ (t : List ℕ). HasSignals t front others) (sym is_y) (more_blanks old front others m is (omega (arith, short, place.within))) in
     let same : length (take (3 + 64 * p) y ++ (text ++ drop 64 (drop (3 + 64 * p) y))) ≡ length y = length-columns_put y text (3 + 64 * p) far text_size in
     let count : 3 + 64 * length (slice_set others p v) - length (take (3 + 64 * p) y ++ (text ++ drop 64 (drop (3 + 64 * p) y))) ≡ blanks = ap₂ (λ a b. 3 + 64 * a - b) (length-set others p v) same in
     ap (λ k. (take (3 + 64 * p) y ++ (text ++ drop 64 (drop (3 + 64 * p) y))) ++ replicate k 32) count
-    ∙ ap (λ t. (take (3 + 64 * p) y ++ (t ++ drop 64 (drop (3 + 64 * p) y))) ++ replicate blanks 32) is_text
-    ∙ put_signal front y (replicate blanks 32) others p v l all h far before
+    ∙ ap (λ t. (take (3 + 64 * p) y ++ (t ++ drop 64 (drop (3 + 64 * p) y))) ++ replicate blanks 32) is_text ∙ put_signal y (replicate blanks 32) v place far before
 
 -- the first n columns of a row of which 64 are replaced
-first_columns : (row text : List ℕ) (s n : ℕ) → length text ≡ 64 → s + 64 ≤ n → n ≤ length row
+pub first_columns : (row text : List ℕ) (s n : ℕ) → length text ≡ 64 → s + 64 ≤ n → n ≤ length row
     → take n (take s row ++ (text ++ drop 64 (drop s row))) ≡ take s (take n row) ++ (text ++ drop 64 (drop s (take n row)))
 first_columns row text zero n l h within =
     let size : n ≡ 64 + (n - 64) = omega (arith, h) in
@@ -144,17 +149,6 @@ first_columns row text zero n l h within =
 first_columns [] text (suc s) n l h within = absurd (omega (arith, h, within))
 first_columns (x ∷ row) text (suc s) zero l h within = absurd (omega (arith, h))
 first_columns (x ∷ row) text (suc s) (suc n) l h within = ap (λ t. x ∷ t) (first_columns row text s n l (omega (arith, h)) (omega (arith, within)))
-
--- the columns of a signal are written into a row
-pub put_first : (old row text front : List ℕ) (others : List SignalValues) (p m k n : ℕ) (v : SignalValues) → length front ≡ 3 → All HaveRoom others → p < length others
-    → HasSignals old front others → HaveRoom v → m ≡ 3 + 64 * p + 64 - length old → take n row ≡ old ++ replicate m 32 → text ≡ signal_text v → k ≡ 64 → 3 + 64 * p + 64 ≤ n → n ≤ length row
-    → HasSignals (take n (take (3 + 64 * p) row ++ (text ++ drop k (drop (3 + 64 * p) row)))) front (slice_set others p v)
-put_first old row text front others p m k n v l all h is room is_m is_row is_text is_k far within =
-    let text_size : length text ≡ 64 = ap length is_text ∙ length-room v room in
-    let size : length (take n row) ≡ n = length-take-le n row within in
-    subst (λ (j : ℕ). HasSignals (take n (take (3 + 64 * p) row ++ (text ++ drop j (drop (3 + 64 * p) row)))) front (slice_set others p v)) (sym is_k)
-    (subst (λ (t : List ℕ). HasSignals t front (slice_set others p v)) (sym (first_columns row text (3 + 64 * p) n text_size far within))
-    (put_row old (take n row) text front others p m v l all h is room is_m is_row is_text (omega (arith, size, far))))
 
 -- a line and the blanks at its end
 pub trimmed_line : (line front : List ℕ) (values : List SignalValues) → HasSignals line front values → trimmed line ≡ trimmed (front ++ flat_map signal_text values)
@@ -176,12 +170,12 @@ begun front n l =
     let size : 3 + 64 * length (replicate n no_signal_values) - length front ≡ 64 * n = omega (arith, l, count) in
     ap (λ k. front ++ replicate k 32) size ∙ ap (λ t. front ++ t) (sym (none_text n))
 
-pub begun_entries : (line front : List ℕ) (cells : List Cell) (id n : ℕ) (signals : List ℕ) → line ≡ front → length front ≡ 3 → n ≡ length cells → HasSignals line front (map (signal_values_at (drop n cells) id) signals)
-begun_entries line front cells id n signals is l size = rw (is, drop_all n cells (omega (arith, size)), none_put id signals) (begun front (length signals) l)
+pub begun_entries : {line front : List ℕ} (cells : List Cell) (id : ℕ) {n : ℕ} (signals : List ℕ) → line ≡ front → length front ≡ 3 → n ≡ length cells → HasSignals line front (map (signal_values_at (drop n cells) id) signals)
+begun_entries {front} cells id {n} signals is l size = rw (is, drop_all n cells (omega (arith, size)), none_put id signals) (begun front (length signals) l)
 
 -- a signal is written after others
-pub signal_after : (row text front more : List ℕ) (n k : ℕ) → length text ≡ 64 → k ≡ 64 → n + 64 ≤ length row → take n row ≡ front → more ≡ take n row ++ (text ++ drop k (drop n row)) → take (n + 64) more ≡ front ++ text
-signal_after row text front more n k size width within is put =
+pub signal_after : (row text : List ℕ) {front more : List ℕ} (n : ℕ) {k : ℕ} → length text ≡ 64 → k ≡ 64 → n + 64 ≤ length row → take n row ≡ front → more ≡ take n row ++ (text ++ drop k (drop n row)) → take (n + 64) more ≡ front ++ text
+signal_after row text n {k} size width within is put =
     let first = length-take-le n row (omega (arith, within)) in
     let long : length (take n row ++ text) ≡ n + 64 = length-append (take n row) text ∙ omega (arith, first, size) in
     ap (take (n + 64)) (put ∙ sym (append_assoc (take n row) text (drop k (drop n row)))) ∙ take_at (take n row ++ text) (drop k (drop n row)) (n + 64) long ∙ ap (λ l. l ++ text) is

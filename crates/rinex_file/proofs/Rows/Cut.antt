@@ -107,10 +107,10 @@ entries_read n text values false size each is shows = λ es are e.
       no_value e = cc
 
 -- all signals were read
-pub all_read : (n i : ℕ) (text : List ℕ) (values : List SignalValues) (some : Bool) → length values ≡ n → n ≤ i → length text ≤ 64 * n → All AreSignalValues (take i values)
+pub all_read : {n i : ℕ} (text : List ℕ) (values : List SignalValues) {some : Bool} → length values ≡ n → n ≤ i → length text ≤ 64 * n → All AreSignalValues (take i values)
     → some ≡ list_any has_some_value (take i values) → flat_map signal_text (take i values) ≡ take (64 * i) (filled_to (64 * n) text)
     → ReadsExactly (AreEntries n) (flat_map signal_text) (filled_to (64 * n) text) (some_if some values)
-all_read n i text values some size end short each is shown =
+all_read {n} {i} text values {some} size end short each is shown =
     let all : take i values ≡ values = take_all i values (omega (arith, size, end)) in
     let whole = length-filled (64 * n) text short in
     entries_read n (filled_to (64 * n) text) values some size (subst (All AreSignalValues) all each) (is ∙ ap (list_any has_some_value) all)
@@ -126,18 +126,17 @@ filled_line line text n t cut is =
     ap (filled_to n) same
 
 -- letter, number and signals
-row_is : (text : List ℕ) (letter tens ones id n : ℕ) (es : List SignalValues) → 3 ≤ length text → get_or text 0 0 ≡ letter → get_or text 1 0 ≡ tens → get_or text 2 0 ≡ ones
-    → padded 2 id ≡ tens ∷ ones ∷ [] → filled_to n (drop 3 text) ≡ flat_map signal_text es → filled_to (3 + n) text ≡ row_text letter (record { satellite = id; signal_values = es })
-row_is (a ∷ b ∷ c ∷ rest) letter tens ones id n es long first second third number signals =
+row_is : (text : List ℕ) {letter : ℕ} (id n : ℕ) (es : List SignalValues) → 3 ≤ length text → get_or text 0 0 ≡ letter → padded 2 id ≡ get_or text 1 0 ∷ get_or text 2 0 ∷ []
+    → filled_to n (drop 3 text) ≡ flat_map signal_text es → filled_to (3 + n) text ≡ row_text letter (record { satellite = id; signal_values = es })
+row_is (a ∷ b ∷ c ∷ rest) id n es long first number signals =
     let missing : 3 + n - length (a ∷ b ∷ c ∷ rest) ≡ n - length rest = omega arith in
-    ap (λ (k : ℕ). a ∷ b ∷ c ∷ (rest ++ replicate k 32)) missing ∙ text_is (a ∷ b ∷ c ∷ filled_to n rest) letter tens ones id es (omega arith) first second third number signals
-row_is (a ∷ b ∷ []) letter tens ones id n es long first second third number signals = absurd (omega (arith, long))
-row_is (a ∷ []) letter tens ones id n es long first second third number signals = absurd (omega (arith, long))
-row_is [] letter tens ones id n es long first second third number signals = absurd (omega (arith, long))
+    ap (λ (k : ℕ). a ∷ b ∷ c ∷ (rest ++ replicate k 32)) missing ∙ text_is (a ∷ b ∷ c ∷ filled_to n rest) id es (omega arith) first number signals
+row_is (a ∷ b ∷ []) id n es long first number signals = absurd (omega (arith, long))
+row_is (a ∷ []) id n es long first number signals = absurd (omega (arith, long))
+row_is [] id n es long first number signals = absurd (omega (arith, long))
 
-pub cut_line_is : (v : SatelliteRow) (line text : List ℕ) (tens ones n : ℕ) → IsEnded line → text ≡ take (length line - 1) line → 3 ≤ length text
-    → get_or text 0 0 ≡ letter_of v.system → get_or text 1 0 ≡ tens → get_or text 2 0 ≡ ones → padded 2 v.row.satellite ≡ tens ∷ ones ∷ []
+pub cut_line_is : (v : SatelliteRow) {line text : List ℕ} (n : ℕ) → IsEnded line → text ≡ take (length line - 1) line → 3 ≤ length text
+    → get_or text 0 0 ≡ letter_of v.system → padded 2 v.row.satellite ≡ get_or text 1 0 ∷ get_or text 2 0 ∷ []
     → filled_to n (drop 3 text) ≡ flat_map signal_text v.row.signal_values → line ≡ satellite_line v
-cut_line_is v line text tens ones n ended cut long first second third number signals =
-    line_is v line (filled_to (3 + n) text) (3 + n) ended (λ t is. filled_line line text (3 + n) t cut is)
-    (row_is text (letter_of v.system) tens ones v.row.satellite n v.row.signal_values long first second third number signals)
+cut_line_is v {line} {text} n ended cut long first number signals =
+    line_is v line (filled_to (3 + n) text) (3 + n) ended (λ t is. filled_line line text (3 + n) t cut is) (row_is text v.row.satellite n v.row.signal_values long first number signals)

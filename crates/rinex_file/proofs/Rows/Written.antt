@@ -23,12 +23,11 @@ unfolding signal_text
 signal_is text e size c l d s = four_parts text size ∙ ap₂ (λ a b. a ++ b) c (ap₂ (λ a b. a ++ b) l (ap₂ (λ a b. a ++ b) d s))
 
 -- one more signal
-pub signals_more : (text : List ℕ) (i k at : ℕ) (es new : List SignalValues) (e : SignalValues) → k ≡ 64 → at ≡ 64 * i → new ≡ es ++ e ∷ []
-    → flat_map signal_text es ≡ take (64 * i) text → take k (drop at text) ≡ signal_text e → flat_map signal_text new ≡ take (64 * (i + 1)) text
-signals_more text i k at es new e size place pushed before here =
+pub signals_more : (text : List ℕ) (i : ℕ) (es : List SignalValues) {new : List SignalValues} (e : SignalValues) → new ≡ es ++ e ∷ []
+    → flat_map signal_text es ≡ take (64 * i) text → take 64 (drop (64 * i) text) ≡ signal_text e → flat_map signal_text new ≡ take (64 * (i + 1)) text
+signals_more text i es e pushed before here =
     let next : 64 * i + 64 ≡ 64 * (i + 1) = omega arith in
-    ap (flat_map signal_text) pushed ∙ flat_map-append signal_text es (e ∷ [])
-    ∙ ap₂ (λ a b. a ++ b) before (append-nil (signal_text e) ∙ sym here ∙ ap₂ (λ m n. take m (drop n text)) size place)
+    ap (flat_map signal_text) pushed ∙ flat_map-append signal_text es (e ∷ []) ∙ ap₂ (λ a b. a ++ b) before (append-nil (signal_text e) ∙ sym here)
     ∙ sym (take-add (64 * i) 64 text) ∙ ap (λ n. take n text) next
 
 or_none : (b : Bool) → (b || false) ≡ b
@@ -97,10 +96,10 @@ line_is v line text width (t, is, some, whole) filled shown =
     is ∙ ap (λ l. l ++ 10 ∷ []) (sym whole ∙ sym (trimmed-blanks (width - length t) t) ∙ ap trimmed (sym (filled t is) ∙ shown))
 
 -- letter, number and signals
-pub text_is : (text : List ℕ) (letter tens ones id : ℕ) (es : List SignalValues) → 3 ≤ length text → get_or text 0 0 ≡ letter → get_or text 1 0 ≡ tens → get_or text 2 0 ≡ ones
-    → padded 2 id ≡ tens ∷ ones ∷ [] → drop 3 text ≡ flat_map signal_text es → text ≡ row_text letter (record { satellite = id; signal_values = es })
-text_is (a ∷ b ∷ c ∷ rest) letter tens ones id es long first second third number signals =
-    ap₂ (λ x y. x ∷ b ∷ c ∷ y) first signals ∙ ap₂ (λ x y. letter ∷ x ∷ y ∷ flat_map signal_text es) second third ∙ ap (λ l. letter ∷ (l ++ flat_map signal_text es)) (sym number)
-text_is (a ∷ b ∷ []) letter tens ones id es long first second third number signals = absurd (omega (arith, long))
-text_is (a ∷ []) letter tens ones id es long first second third number signals = absurd (omega (arith, long))
-text_is [] letter tens ones id es long first second third number signals = absurd (omega (arith, long))
+pub text_is : (text : List ℕ) {letter : ℕ} (id : ℕ) (es : List SignalValues) → 3 ≤ length text → get_or text 0 0 ≡ letter → padded 2 id ≡ get_or text 1 0 ∷ get_or text 2 0 ∷ []
+    → drop 3 text ≡ flat_map signal_text es → text ≡ row_text letter (record { satellite = id; signal_values = es })
+text_is (a ∷ b ∷ c ∷ rest) {letter} id es long first number signals =
+    ap₂ (λ x y. x ∷ b ∷ c ∷ y) first signals ∙ ap (λ l. letter ∷ (l ++ flat_map signal_text es)) (sym number)
+text_is (a ∷ b ∷ []) id es long first number signals = absurd (omega (arith, long))
+text_is (a ∷ []) id es long first number signals = absurd (omega (arith, long))
+text_is [] id es long first number signals = absurd (omega (arith, long))

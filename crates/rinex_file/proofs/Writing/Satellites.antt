@@ -19,9 +19,9 @@ none_above : (n : ℕ) (cells : List Cell) → Above n cells → filter (is_of_s
 none_above n [] h = refl
 none_above n (c ∷ cells) h = grind (arith, (none_above n cells h.1))
 
-parted_by : (n id : ℕ) (c : Cell) (cells : List Cell) (b : Bool) → is_of_satellite id c ≡ b → n < c.satellite.id → id ≡ suc n → AllByRecursion (λ (d : Cell). c.satellite.id ≤ d.satellite.id) cells
+parted_by : {n id : ℕ} {c : Cell} {cells : List Cell} (b : Bool) → is_of_satellite id c ≡ b → n < c.satellite.id → id ≡ suc n → AllByRecursion (λ (d : Cell). c.satellite.id ≤ d.satellite.id) cells
     → Parted id cells → Parted id (c ∷ cells)
-parted_by n id c cells true e lt is up h = record {
+parted_by {id} {c} {cells} true e lt is up h = record {
   group = ap₂ (λ b k. cond b (c ∷ filter (is_of_satellite id) cells) (filter (is_of_satellite id) cells)) e (refl {a = zero}) ∙ ap (λ l. c ∷ l) h.group ∙ ap (λ k. take k (c ∷ cells)) (sym one);
   above = subst (λ k. Above id (drop k (c ∷ cells))) (sym one) h.above;
   rest = λ later l. ap (λ b. cond b (c ∷ filter (is_of_satellite later) cells) (filter (is_of_satellite later) cells)) (other later l) ∙ h.rest later l ∙ ap (λ k. filter (is_of_satellite later) (drop k (c ∷ cells))) (sym one);
@@ -31,7 +31,7 @@ parted_by n id c cells true e lt is up h = record {
 
   other : (later : ℕ) → id < later → is_of_satellite later c ≡ false
   other later l = grind (arith, e, l)
-parted_by n id c cells false e lt is up h = record {
+parted_by {id} {c} {cells} false e lt is up h = record {
   group = none_above id (c ∷ cells) all ∙ ap (λ k. take k (c ∷ cells)) (sym none);
   above = subst (λ k. Above id (drop k (c ∷ cells))) (sym none) all;
   rest = λ later l. ap (λ k. filter (is_of_satellite later) (drop k (c ∷ cells))) (sym none);
@@ -48,7 +48,7 @@ parted_by n id c cells false e lt is up h = record {
 -- The cells of a satellite come first if no cell of a lower number does.
 pub parted : (n id : ℕ) (cells : List Cell) → id ≡ suc n → Climb cells → Above n cells → Parted id cells
 parted n id [] is up h = record { group = refl; above = tt; rest = λ later l. refl }
-parted n id (c ∷ cells) is up h = parted_by n id c cells (is_of_satellite id c) refl h.0 is up.0 (parted n id cells is up.1 h.1)
+parted n id (c ∷ cells) is up h = parted_by (is_of_satellite id c) refl h.0 is up.0 (parted n id cells is up.1 h.1)
 
 -- Whether a satellite is written depends on its own cells only.
 pub any_from : (id : ℕ) (cells : List Cell) → is_written (filter (is_of_satellite id) cells) id ≡ is_written cells id
@@ -60,5 +60,5 @@ pub record Further (n from to id : ℕ) (cells : List Cell) : Type 0 where
   pub group : filter (is_of_satellite id) cells ≡ take (to - from) (drop from cells)
   pub left : Left id to cells
 
-pub further : (n from to id : ℕ) (cells : List Cell) → id ≡ suc n → to ≡ from + run id (drop from cells) → to ≤ length cells → Climb cells → Left n from cells → Further n from to id cells
-further n from to id cells is at within climb h = grind (arith, parted, climb-drop, drop-drop)
+pub further : {n from to id : ℕ} {cells : List Cell} → id ≡ suc n → to ≡ from + run id (drop from cells) → to ≤ length cells → Climb cells → Left n from cells → Further n from to id cells
+further is at within climb h = grind (arith, parted, climb-drop, drop-drop)

@@ -4,13 +4,13 @@ use Rattle.gnss_obs.specs.Satellites.{satellites as satellites_in}
 use Rattle.rinex_file.proofs.Entries.{flat_map-append}
 use Rattle.rinex_file.proofs.Names.{arith, ◌≡◌, ◌∙◌, sym, ap, ap₂, refl, subst, ℕ, zero, suc, ◌+◌, ◌-◌, ◌≤◌, List, [], ◌∷◌, ◌++◌, length, append_assoc, append-nil, length-append, Option, Bool, true, false, Result, Ok, Err, OnOk, OnErr, map, if◌then◌else◌, IfErr, Appends, Appends-trans, Appends-nil, map-append, length-map, filter-append, AppendsPrefix, Device, FailsWith, HasFailed, System, Gps, Galileo, Cell, civil_of, PlanValue, EpochValue, is_written, written_among, satellites_written, joined, written_satellites, row_among, row_in_epoch, rows_of, satellite_line, epoch_line, StationValues, position_line, delta_line, event_line, event_text, line_among, line_or_none, lines_up_to, epoch_text}
 
--- a part of the rest, after what was written
-pub part_after : (a b c : Option (List ℕ)) (text done next rest : List ℕ) → text ≡ done ++ (next ++ rest) → Appends a b done → AppendsPrefix b c next → AppendsPrefix a c text
-part_after a b c text done next rest is out (left, (sent, split, more)) = grind (arith, append_assoc, Appends-trans)
-
 -- a part of the first is a part of both
-pub part_first : (a c : Option (List ℕ)) (text next rest : List ℕ) → text ≡ next ++ rest → AppendsPrefix a c next → AppendsPrefix a c text
-part_first a c text next rest is part = part_after a a c text [] next rest is (Appends-nil a) part
+pub part_first : (a c : Option (List ℕ)) {text : List ℕ} (next rest : List ℕ) → text ≡ next ++ rest → AppendsPrefix a c next → AppendsPrefix a c text
+part_first a c next rest is (left, (sent, split, more)) = grind (arith, append_assoc)
+
+-- a part of the rest, after what was written
+pub part_after : (a b c : Option (List ℕ)) {text : List ℕ} (done rest : List ℕ) → text ≡ done ++ rest → Appends a b done → AppendsPrefix b c rest → AppendsPrefix a c text
+part_after a b c done rest is out (left, (sent, split, more)) = grind (arith, append_assoc, Appends-trans)
 
 pub joined-append : (xs ys : List (List ℕ)) → joined (xs ++ ys) ≡ joined xs ++ joined ys
 joined-append xs ys = flat_map-append (λ l. l) xs ys
@@ -24,15 +24,15 @@ event_parts v = refl
 -- its lines, one after the other
 module _ (v : StationValues) (a b c d : Option (List ℕ)) where
   pub event_first : AppendsPrefix a b event_line → AppendsPrefix a b (event_text v)
-  event_first part = part_first a b (event_text v) event_line (position_line v ++ (delta_line v ++ [])) (event_parts v) part
+  event_first part = part_first a b event_line (position_line v ++ (delta_line v ++ [])) (event_parts v) part
 
   pub event_second : Appends a b event_line → AppendsPrefix b c (position_line v) → AppendsPrefix a c (event_text v)
-  event_second first part = part_after a b c (event_text v) event_line (position_line v) (delta_line v ++ []) (event_parts v) first part
+  event_second first part = part_after a b c event_line (position_line v ++ (delta_line v ++ [])) (event_parts v) first (part_first b c (position_line v) (delta_line v ++ []) refl part)
 
   pub event_third : Appends a b event_line → Appends b c (position_line v) → AppendsPrefix c d (delta_line v) → AppendsPrefix a d (event_text v)
   event_third first second part =
-      part_after a c d (event_text v) (event_line ++ position_line v) (delta_line v) [] (event_parts v ∙ sym (append_assoc event_line (position_line v) (delta_line v ++ [])))
-      (Appends-trans a b c event_line (position_line v) first second) part
+      part_after a c d (event_line ++ position_line v) (delta_line v ++ []) (event_parts v ∙ sym (append_assoc event_line (position_line v) (delta_line v ++ [])))
+      (Appends-trans a b c event_line (position_line v) first second) (part_first c d (delta_line v) [] refl part)
 
   pub event_whole : Appends a b event_line → Appends b c (position_line v) → Appends c d (delta_line v) → Appends a d (event_text v)
   event_whole first second third = grind (arith, event_parts, append-nil, Appends-trans)
@@ -47,7 +47,7 @@ lines_suc : (p : PlanValue) (e : EpochValue) (s : System) (n : ℕ) → lines_up
 unfolding lines_up_to line_among
 lines_suc p e s n = grind (arith, filter-append, map-append, joined-append, one_of)
 
-lines_more : (p : PlanValue) (e : EpochValue) (s : System) (n m : ℕ) → m ≡ suc n → lines_up_to p e s m ≡ lines_up_to p e s n ++ line_or_none p e s m
+pub lines_more : (p : PlanValue) (e : EpochValue) (s : System) (n m : ℕ) → m ≡ suc n → lines_up_to p e s m ≡ lines_up_to p e s n ++ line_or_none p e s m
 lines_more p e s n m is = subst (λ k. lines_up_to p e s k ≡ lines_up_to p e s n ++ line_or_none p e s k) (sym is) (lines_suc p e s n)
 
 pub no_lines : (p : PlanValue) (e : EpochValue) (s : System) → lines_up_to p e s 0 ≡ []
@@ -62,11 +62,6 @@ pub is_shown : (p : PlanValue) (s : System) (cells : List Cell) (id : ℕ) → i
 unfolding line_among
 is_shown p s cells id h = ap (λ b. if b then satellite_line (row_among p s cells id) else []) h
 
--- one more satellite was written
-pub grown_lines : (a b c : Option (List ℕ)) (p : PlanValue) (e : EpochValue) (s : System) (n m : ℕ) → m ≡ suc n → Appends a b (lines_up_to p e s n) → Appends b c (line_or_none p e s m)
-    → Appends a c (lines_up_to p e s m)
-grown_lines a b c p e s n m is out more = grind (arith, lines_more, Appends-trans)
-
 -- what follows the lines up to a number
 lines_rest : (p : PlanValue) (e : EpochValue) (s : System) (n k m : ℕ) → m ≡ n + k → (rest : List ℕ) × (lines_up_to p e s m ≡ lines_up_to p e s n ++ rest)
 lines_rest p e s n zero m is = grind (arith, append-nil)
@@ -78,13 +73,12 @@ lines_rest p e s n (suc k) m is =
           ∙ append_assoc (lines_up_to p e s n) rest (line_or_none p e s (suc (n + k))),
     )
 
--- a part of one satellite's line is a part of all
-pub part_lines : (a b c : Option (List ℕ)) (p : PlanValue) (e : EpochValue) (s : System) (n m most : ℕ) → m ≡ suc n → m ≤ most → Appends a b (lines_up_to p e s n)
-    → AppendsPrefix b c (line_or_none p e s m) → AppendsPrefix a c (lines_up_to p e s most)
-part_lines a b c p e s n m most is h out part =
+-- the lines are those up to a number, that of the next one, and those after it
+pub lines_around : (p : PlanValue) (e : EpochValue) (s : System) {n m : ℕ} (most : ℕ) → m ≡ suc n → m ≤ most
+    → (rest : List ℕ) × (lines_up_to p e s most ≡ lines_up_to p e s n ++ (line_or_none p e s m ++ rest))
+lines_around p e s {n} {m} most is h =
     let (rest, split) = lines_rest p e s m (most - m) most (omega (arith, h)) in
-    part_after a b c (lines_up_to p e s most) (lines_up_to p e s n) (line_or_none p e s m) rest
-    (split ∙ ap (λ l. l ++ rest) (lines_more p e s n m is) ∙ append_assoc (lines_up_to p e s n) (line_or_none p e s m) rest) out part
+    (rest, split ∙ ap (λ l. l ++ rest) (lines_more p e s n m is) ∙ append_assoc (lines_up_to p e s n) (line_or_none p e s m) rest)
 
 -- ---- an epoch
 
@@ -111,29 +105,30 @@ epoch_parts p e =
     ∙ ap (λ l. epoch_line (civil_of e.time) (satellites_written e) ++ l) (joined-append (map satellite_line (rows_of p e Gps)) (map satellite_line (rows_of p e Galileo)))
 
 -- its lines, one after the other
-module _ (p : PlanValue) (e : EpochValue) (a b c d : Option (List ℕ)) (line : List ℕ) (is : line ≡ epoch_line (civil_of e.time) (satellites_written e)) where
+module _ (p : PlanValue) (e : EpochValue) where
   abbrev gps : List ℕ
   gps = lines_up_to p e Gps (satellites_in Gps)
 
   abbrev galileo : List ℕ
   galileo = lines_up_to p e Galileo (satellites_in Galileo)
 
-  parts : epoch_text p e ≡ line ++ (gps ++ galileo)
-  parts = epoch_parts p e ∙ ap (λ l. l ++ (gps ++ galileo)) (sym is)
+  parts : {line : List ℕ} → line ≡ epoch_line (civil_of e.time) (satellites_written e) → epoch_text p e ≡ line ++ (gps ++ galileo)
+  parts is = epoch_parts p e ∙ ap (λ l. l ++ (gps ++ galileo)) (sym is)
 
-  pub epoch_first : AppendsPrefix a b line → AppendsPrefix a b (epoch_text p e)
-  epoch_first part = part_first a b (epoch_text p e) line (gps ++ galileo) parts part
+  pub epoch_first : (a b : Option (List ℕ)) {line : List ℕ} → line ≡ epoch_line (civil_of e.time) (satellites_written e) → AppendsPrefix a b line → AppendsPrefix a b (epoch_text p e)
+  epoch_first a b {line} is part = part_first a b line (gps ++ galileo) (parts is) part
 
-  pub epoch_second : Appends a b line → AppendsPrefix b c (lines_up_to p e Gps (satellites_in Gps)) → AppendsPrefix a c (epoch_text p e)
-  epoch_second first part = part_after a b c (epoch_text p e) line gps galileo parts first part
+  pub epoch_second : (a b c : Option (List ℕ)) {line : List ℕ} → line ≡ epoch_line (civil_of e.time) (satellites_written e) → Appends a b line → AppendsPrefix b c gps → AppendsPrefix a c (epoch_text p e)
+  epoch_second a b c {line} is first part = part_after a b c line (gps ++ galileo) (parts is) first (part_first b c gps galileo refl part)
 
-  pub epoch_third : Appends a b line → Appends b c (lines_up_to p e Gps (satellites_in Gps)) → AppendsPrefix c d (lines_up_to p e Galileo (satellites_in Galileo)) → AppendsPrefix a d (epoch_text p e)
-  epoch_third first second part =
-      part_after a c d (epoch_text p e) (line ++ gps) galileo [] (parts ∙ sym (append_assoc line gps galileo) ∙ ap (λ l. (line ++ gps) ++ l) (sym (append-nil galileo)))
-      (Appends-trans a b c line gps first second) part
+  both : {line : List ℕ} → line ≡ epoch_line (civil_of e.time) (satellites_written e) → epoch_text p e ≡ (line ++ gps) ++ galileo
+  both {line} is = parts is ∙ sym (append_assoc line gps galileo)
 
-  pub epoch_whole : Appends a b line → Appends b c (lines_up_to p e Gps (satellites_in Gps)) → Appends c d (lines_up_to p e Galileo (satellites_in Galileo)) → Appends a d (epoch_text p e)
-  epoch_whole first second third = subst (λ l. Appends a d l) (sym parts) (Appends-trans a b d line (gps ++ galileo) first (Appends-trans b c d gps galileo second third))
+  pub epoch_third : (a b c : Option (List ℕ)) {line : List ℕ} → line ≡ epoch_line (civil_of e.time) (satellites_written e) → Appends a b (line ++ gps) → AppendsPrefix b c galileo → AppendsPrefix a c (epoch_text p e)
+  epoch_third a b c {line} is before part = part_after a b c (line ++ gps) galileo (both is) before part
+
+  pub epoch_whole : (a b c : Option (List ℕ)) {line : List ℕ} → line ≡ epoch_line (civil_of e.time) (satellites_written e) → Appends a b (line ++ gps) → Appends b c galileo → Appends a c (epoch_text p e)
+  epoch_whole a b c {line} is before last = subst (λ l. Appends a c l) (sym (both is)) (Appends-trans a b c (line ++ gps) galileo before last)
 
 -- ---- what holds of a call that failed
 
@@ -151,8 +146,7 @@ only_fault Q (Ok x) h = absurd h
 only_fault Q (Err e) h = h
 
 -- the device failed after calls that didn't
-pub fails_after : {A E T : Type 0} (Q : E → Type 0) (r : Result A E) (a b c : Device T) → IsErrAnd r Q → b.failures ≡ a.failures → b.widest ≡ a.widest
-    → HasFailed b.failures c.failures → c.widest ≡ b.widest → FailsWith r a c
-fails_after Q r a b c h fine wide more wider = (where_failed r _ (subst (λ n. HasFailed n c.failures) fine more), failed Q r _ h, wider ∙ wide)
+pub failed_after : {A E : Type 0} (Q : E → Type 0) (r : Result A E) (first before after : ℕ) → IsErrAnd r Q → before ≡ first → HasFailed before after → OnErr r (HasFailed first after)
+failed_after Q r first before after h fine more = where_failed r _ (subst (λ n. HasFailed n after) fine more)
 
-pub ruleset failures = (failed, only_fault, fails_after)
+pub ruleset failures = (failed, only_fault, failed_after)

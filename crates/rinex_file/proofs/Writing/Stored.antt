@@ -23,19 +23,19 @@ joined_parts [] = refl
 joined_parts (e ∷ es) = joined-append (stamped_lines e) (flat_map stamped_lines es) ∙ ap (λ l. joined (stamped_lines e) ++ l) (joined_parts es)
 
 -- the text of one more was appended
-pub one_more : {A : Type 0} (f : A → List ℕ) (xs : List A) (i : ℕ) (x : A) (front old new : List ℕ) → i < length xs → x ≡ get_or xs i x
+pub one_more : {A : Type 0} (f : A → List ℕ) (xs : List A) (i : ℕ) {x : A} (front : List ℕ) {old new : List ℕ} → i < length xs → x ≡ get_or xs i x
     → old ≡ front ++ flat_map f (take i xs) → new ≡ old ++ f x → new ≡ front ++ flat_map f (take (i + 1) xs)
-one_more f xs i x front old new less at before after =
+one_more f xs i {x} front less at before after =
     let so_far = flat_map f (take i xs) in
     let all : flat_map f (take (i + 1) xs) ≡ so_far ++ f x =
     ap (flat_map f) (take_more xs i x less) ∙ flat_map-append f (take i xs) (get_or xs i x ∷ []) ∙ ap (λ t. so_far ++ t) (append-nil (f (get_or xs i x)) ∙ ap f (sym at)) in
     after ∙ ap (λ l. l ++ f x) before ∙ append_assoc front so_far (f x) ∙ ap (λ t. front ++ t) (sym all)
 
 -- change, epoch line and satellites were appended
-pub epoch_whole : (v e : Stamped) (rows : List SatelliteRow) (old mid line text new : List ℕ) → v ≡ e → rows ≡ v.rows → mid ≡ old ++ joined (change_lines v.change) → line ≡ epoch_line (civil_of v.time) (length rows)
+pub epoch_whole : {v e : Stamped} {rows : List SatelliteRow} (old : List ℕ) {mid line text new : List ℕ} → v ≡ e → rows ≡ v.rows → mid ≡ old ++ joined (change_lines v.change) → line ≡ epoch_line (civil_of v.time) (length rows)
     → text ≡ mid ++ line → new ≡ text ++ flat_map satellite_line rows → new ≡ old ++ stamped_text e
 unfolding stamped_text
-epoch_whole v e rows old mid line text new is same changed begun more last =
+epoch_whole {v} {rows} old {mid} is same changed begun more last =
     let own : joined (epoch_line (civil_of v.time) (length v.rows) ∷ map satellite_line v.rows) ≡ epoch_line (civil_of v.time) (length v.rows) ++ flat_map satellite_line v.rows =
     ap (λ l. epoch_line (civil_of v.time) (length v.rows) ++ l) (flat_map-map (λ l. l) satellite_line v.rows) in
     last ∙ ap (λ l. l ++ flat_map satellite_line rows) (more ∙ ap (λ l. mid ++ l) begun ∙ ap (λ l. l ++ epoch_line (civil_of v.time) (length rows)) changed)
@@ -54,6 +54,6 @@ parts v first (e ∷ es) some at =
     ∙ sym (joined-append (header_lines v.texts v.plan v.values (civil_of e.time)) (flat_map stamped_lines (e ∷ es)))
 
 -- header and epochs were written
-pub all_written : (v w : FileValue) (first : Stamped) (es : List Stamped) (old new : List ℕ) (n : ℕ) → v ≡ w → IsFileValue v → es ≡ v.epochs → first ≡ get_or es 0 first → length es ≤ n
+pub all_written : {v w : FileValue} {first : Stamped} {es : List Stamped} (old : List ℕ) {new : List ℕ} (n : ℕ) → v ≡ w → IsFileValue v → es ≡ v.epochs → first ≡ get_or es 0 first → length es ≤ n
     → new ≡ (old ++ header_text w.texts w.plan w.values first.time) ++ flat_map stamped_text (take n es) → new ≡ old ++ file_text w
-all_written v w first es old new n same is those at all written = grind (arith, parts, take_all, append_assoc)
+all_written old n same is those at all written = grind (arith, parts, take_all, append_assoc)

@@ -1,4 +1,4 @@
-use Rattle.rinex_file.proofs.Writing.Sent.{part_after, where_failed}
+use Rattle.rinex_file.proofs.Writing.Sent.{part_after, part_first, where_failed}
 use Rattle.rinex_file.proofs.Names.{arith, ◌∙◌, sym, ap, subst, refl, [], ◌++◌, append_assoc, append-nil, Appends, Appends-nil, Appends-trans, AppendsPrefix, joined, header_text}
 use Rattle.rinex_file.proofs.write.write_header.Goals as goal
 
@@ -34,9 +34,8 @@ returns-in_err-write_whole-clause-part g c =
     let a = contents c.args.writer.now.inner in
     let b = contents c.loop-line.writer.inner in
     let d = contents c.write_whole.new.self.inner in
-    where_failed c.from_residual.result _
-    (part_after a b d (header_text h.texts.now h.plan.now h.values h.first) done line (joined c.next.new.self)
-    (text ∙ ap (λ l. done ++ joined l) c.in-Some.ensures.steps) out (subst (λ l. AppendsPrefix b d l) c.as_slice.ensures.value c.in_err-write_whole.ensures.part))
+    where_failed c.from_residual.result _ (part_after a b d done (line ++ joined c.next.new.self) (text ∙ ap (λ l. done ++ joined l) c.in-Some.ensures.steps) out
+    (part_first b d line (joined c.next.new.self) refl (subst (λ l. AppendsPrefix b d l) c.as_slice.ensures.value c.in_err-write_whole.ensures.part)))
 
 pub returns-clause-whole : goal.returns-clause-whole
 returns-clause-whole g c = grind (arith, append-nil)

@@ -11,4 +11,4 @@ returns-clause-text c =
     let inv = c.loop-i.invariant in
     let count = length-system_types c.args.system (indices c.args.signals.now) in
     let size = length_indices c.args.signals.now in
-    types_done types c.args.row c.loop-i.i c.args.content.now.items c.loop-i.content.items inv.from inv.to (λ less. omega (arith, less, count, size)) inv.text
+    types_done types c.args.row c.loop-i.i c.args.content.now.items inv.from inv.to (λ less. omega (arith, less, count, size)) inv.text

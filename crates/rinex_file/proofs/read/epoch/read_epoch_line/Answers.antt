@@ -22,7 +22,7 @@ returns-in_err-time c = rw c.from_residual.ensures (λ v is e. none-some v.0 (sy
 
 pub returns : goal.returns
 returns c =
-    exactly (λ (e : ℕ × ℕ). IsTime e.0 × e.1 ≤ 999) (λ (e : ℕ × ℕ). epoch_line (civil_of e.0) e.1) c.args.line.now _ (c.in_ok-time.time, c.digits_in-count.result) c.is_same.result _
+    exactly (λ (e : ℕ × ℕ). IsTime e.0 × e.1 ≤ 999) (λ (e : ℕ × ℕ). epoch_line (civil_of e.0) e.1) (c.in_ok-time.time, c.digits_in-count.result)
     c.then_some.ensures (search rules, small _ _ c.columns.ensures.bound c.digits_in-count.ensures.digits)
     (λ w is e. same_pair w c.in_ok-time.time c.digits_in-count.result
     (same_Some w.0 c.in_ok-time.time (sym (c.time_in.ensures.epoch w.0 w.1 is.0 is.1 refl refl e) ∙ c.in_ok-time.was))

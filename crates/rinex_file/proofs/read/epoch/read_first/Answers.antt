@@ -7,6 +7,6 @@ returns-in_err-time c = rw c.from_residual.ensures (λ v is e. none-some v (sym 
 
 pub returns : goal.returns
 returns c =
-    exactly IsTime (λ t. first_line (civil_of t)) c.args.line.now _ c.in_ok-time.time c.is_same.result _ c.then_some.ensures (search rules)
+    exactly IsTime (λ t. first_line (civil_of t)) c.in_ok-time.time c.then_some.ensures (search rules)
     (λ w is e. same_Some w c.in_ok-time.time (sym (c.time_in.ensures.first w is refl refl e) ∙ c.in_ok-time.was))
     (c.as_slice.ensures.value ∙ c.first_line.ensures) c.is_same.ensures

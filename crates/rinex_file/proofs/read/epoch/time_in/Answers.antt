@@ -1,4 +1,4 @@
-use Rattle.rinex_file.proofs.Reading.Dates.{ShowDate, HasColumns, epoch_shown, first_shown, has_columns, are_read, of_numbers, found, one_time}
+use Rattle.rinex_file.proofs.Reading.Dates.{ShowDate, HasColumns, epoch_shown, first_shown, has_columns, kept, kept_second, same_civil, of_numbers, found, one_time}
 use Rattle.rinex_file.proofs.read.epoch.time_in.Goals.{After-from_civil}
 use Rattle.rinex_file.proofs.Names.{arith, ◌≡◌, ◌∙◌, ◌<◌, ◌*◌, ap, subst, sym, ℕ, Option, Some, None, IfSome, IfNone, Civil, IsCivilOf, civil_of, week, weeks, IsTime, digits_in}
 use Rattle.rinex_file.proofs.read.epoch.time_in.Goals as goal
@@ -10,12 +10,13 @@ room c t is = has_columns t (c.calendar.ensures.civil t is) (c.calendar.ensures.
 read : (c : After-from_civil) (t : ℕ) → IsTime t → ShowDate (civil_of t) c.args.width c.args.second c.args.line.now
     → of_numbers c.min.result c.min-2.result c.min-3.result c.min-4.result c.min-5.result c.min-6.result ≡ civil_of t
 read c t is s =
-    are_read (civil_of t) c.min.result c.min-2.result c.min-3.result c.min-4.result c.min-5.result c.min-6.result
-    c.digits_in.result c.digits_in-2.result c.digits_in-3.result c.digits_in-4.result c.digits_in-5.result c.digits_in-6.result (room c t is)
-    c.min.ensures c.min-2.ensures c.min-3.ensures c.min-4.ensures c.min-5.ensures c.min-6.ensures
-    (c.digits_in.ensures.value ∙ ap digits_in c.columns.ensures.value ∙ s.year) (c.digits_in-2.ensures.value ∙ ap digits_in c.columns-2.ensures.value ∙ s.month)
-    (c.digits_in-3.ensures.value ∙ ap digits_in c.columns-3.ensures.value ∙ s.day) (c.digits_in-4.ensures.value ∙ ap digits_in c.columns-4.ensures.value ∙ s.hour)
-    (c.digits_in-5.ensures.value ∙ ap digits_in c.columns-5.ensures.value ∙ s.minute) (c.digits_in-6.ensures.value ∙ ap digits_in c.columns-6.ensures.value ∙ s.second)
+    let has = room c t is in
+    same_civil _ (civil_of t) (kept 65_535 c.min.ensures (c.digits_in.ensures.value ∙ ap digits_in c.columns.ensures.value ∙ s.year) (omega (arith, has.year)))
+    (kept 255 c.min-2.ensures (c.digits_in-2.ensures.value ∙ ap digits_in c.columns-2.ensures.value ∙ s.month) (omega (arith, has.month)))
+    (kept 255 c.min-3.ensures (c.digits_in-3.ensures.value ∙ ap digits_in c.columns-3.ensures.value ∙ s.day) (omega (arith, has.day)))
+    (kept 255 c.min-4.ensures (c.digits_in-4.ensures.value ∙ ap digits_in c.columns-4.ensures.value ∙ s.hour) (omega (arith, has.hour)))
+    (kept 255 c.min-5.ensures (c.digits_in-5.ensures.value ∙ ap digits_in c.columns-5.ensures.value ∙ s.minute) (omega (arith, has.minute)))
+    (kept_second c.min-6.ensures (c.digits_in-6.ensures.value ∙ ap digits_in c.columns-6.ensures.value ∙ s.second) has.millisecond)
 
 -- a date and time of day is that of its time
 timed : (r : Option ℕ) (civil : Civil) (t : ℕ) → civil ≡ civil_of t → IsCivilOf t (civil_of t) → t < weeks * week → IfSome r (λ u. IsCivilOf u civil)

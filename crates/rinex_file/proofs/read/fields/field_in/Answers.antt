@@ -13,13 +13,13 @@ value : (c : After-blanks_in-empty) → (c.blanks_in-empty.result ≡ 16 → ⊥
     → (v : ℤ) × FitsColumns v × (take 16 (drop c.args.at c.args.text.now) ≡ field (Some v) c.args.lost c.args.strength)
     × (get_or c.args.text.now (c.args.at + 14) 0 ≡ c.args.lost) × (get_or c.args.text.now (c.args.at + 15) 0 ≡ c.args.strength)
 value c some w fits is =
-    let (v, small, shows, lost, strength) = value_of _ w _ _ _ fits is (counted c) some in
+    let (v, small, shows, lost, strength) = value_of w _ _ fits is (counted c) some in
     (v, small, shows, sym (lane_is c.args.text.now c.args.at 14 (omega arith)) ∙ lost, sym (lane_is c.args.text.now c.args.at 15 (omega arith)) ∙ strength)
 
 pub returns-then-empty-eq16 : goal.returns-then-empty-eq16
 returns-then-empty-eq16 c =
     let blank = sixteen_blank _ _ (sixteen_long c.args.text.now c.args.at c.requires) (counted ((goal.at.returns-then-empty-eq16 c).After-blanks_in-empty)) c.if-empty-eq16.true ∙ no_field c.args.lost c.args.strength in
-    (tt, blank, λ w fits is. field_once w None _ _ c.args.lost c.args.strength fits tt (sym is ∙ blank))
+    (tt, blank, λ w fits is. field_once _ _ c.args.lost c.args.strength fits tt (sym is ∙ blank))
 
 pub returns-else-empty-eq16 : goal.returns-else-empty-eq16
 returns-else-empty-eq16 c = λ w fits is.
@@ -56,10 +56,10 @@ returns-in-Some c =
     let lost = ap (λ r. get_or r 14 0) is ∙ lane_is c.args.text.now c.args.at 14 (omega arith) ∙ c.if-text-at.false in
     let strength = ap (λ r. get_or r 15 0) is ∙ lane_is c.args.text.now c.args.at 15 (omega arith) ∙ c.if-text-at-2.false in
     let shows = sym is ∙ c.in-Some.ensures.1 ∙ ap₂ (λ a b. field (Some c.in-Some.value) a b) lost strength in
-    (c.in-Some.ensures.0, shows, λ w fits e. field_once w (Some c.in-Some.value) _ _ c.args.lost c.args.strength fits c.in-Some.ensures.0 (sym e ∙ shows))
+    (c.in-Some.ensures.0, shows, λ w fits e. field_once _ _ c.args.lost c.args.strength fits c.in-Some.ensures.0 (sym e ∙ shows))
 
 pub returns-in-None : goal.returns-in-None
 returns-in-None c = λ w fits e.
     let is = lanes_are c.args.text.now c.args.at in
-    let (v, small, shows, lost, strength) = value_of _ w _ _ _ fits e (counted ((goal.at.returns-in-None c).After-blanks_in-empty)) (λ all. omega (arith, all, c.if-empty-gt9.false)) in
+    let (v, small, shows, lost, strength) = value_of w _ _ fits e (counted ((goal.at.returns-in-None c).After-blanks_in-empty)) (λ all. omega (arith, all, c.if-empty-gt9.false)) in
     c.in-None.ensures v small (is ∙ shows ∙ ap₂ (λ a b. field (Some v) a b) (sym (ap (λ r. get_or r 14 0) is ∙ lost)) (sym (ap (λ r. get_or r 15 0) is ∙ strength)))

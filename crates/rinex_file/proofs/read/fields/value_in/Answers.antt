@@ -1,5 +1,5 @@
 use Rattle.rinex_file.proofs.Fields.Lanes.{bytes_below, taken}
-use Rattle.rinex_file.proofs.Fields.Values.{Begins, IsShown, IsValue, shown, value_is, within, no_zero, no_zero_first, first_is, within_nine, zero_first}
+use Rattle.rinex_file.proofs.Fields.Values.{AreColumns, Begins, IsShown, IsValue, shown, value_is, within, no_zero, no_zero_first, first_is, within_nine, zero_first}
 use Rattle.rinex_file.proofs.Judged.{refused}
 use Rattle.rinex_file.proofs.Fields.Templates.{front}
 use Rattle.rinex_file.proofs.OneReading.{value_once}
@@ -12,7 +12,7 @@ use Rattle.rinex_file.proofs.read.fields.value_in.Goals as goal
 -- the digits that are left of the columns of a value
 left : (c : After-template) (v : ℤ) → FitsColumns v → c.args.columns ≡ field (Some v) (slice_index c.args.columns 14) (slice_index c.args.columns 15)
     → IsShown (zip2 taken c.args.columns c.template.result) c.args.start c.args.negative v
-left c v fits is = shown c.args.columns c.template.result c.args.start c.args.negative v (bytes_below c.args.columns c.fits-columns.1) fits is c.requires.sign c.requires.start c.template.ensures.text
+left c v fits is = shown (bytes_below c.args.columns c.fits-columns.1) fits is c.requires.sign c.requires.start c.template.ensures.text
 
 pub returns-then-not-are_digits : goal.returns-then-not-are_digits
 returns-then-not-are_digits c = λ v fits is.
@@ -31,7 +31,7 @@ returns-then-start-lt9 c = λ v fits is.
 
 pub returns-then-size-eq0 : goal.returns-then-size-eq0
 returns-then-size-eq0 c = λ v fits is.
-    no_zero _ _ _ _ _ _ v (left ((goal.at.returns-then-size-eq0 c).After-template) v fits is) c.if-negative.true c.if-size-eq0.true c.size_of-size.ensures.digits
+    no_zero (left ((goal.at.returns-then-size-eq0 c).After-template) v fits is) c.if-negative.true c.if-size-eq0.true c.size_of-size.ensures.digits
 
 pub returns : goal.returns
 returns c =
@@ -39,9 +39,9 @@ returns c =
     let negative = c.args.negative in
     let start = c.args.start in
     let size = c.size_of-size.result in
-    let below = bytes_below columns c.fits-columns.1 in
+    let are : AreColumns columns = record { size = c.fits-columns.0; below = bytes_below columns c.fits-columns.1; few = c.requires.few } in
     let begin : Begins columns negative start = (sym c.requires.sign, sym c.requires.start) in
-    let few = within_nine columns c.template.result start negative c.fits-columns.0 c.template.ensures.lanes c.requires.few begin c.template.ensures.last (c.are_digits.ensures.0 c.if-not-are_digits.false) in
+    let few = within_nine c.template.result start negative are c.template.ensures.lanes begin c.template.ensures.last (c.are_digits.ensures.0 c.if-not-are_digits.false) in
     let sign = before ((goal.at.returns c).Start) in
     let row = c.template.ensures.text few sign in
     let other : (start < 9 → get_or columns start 0 ≡ 48 → ⊥) × (negative ≡ true → size ≡ 0 → get_or columns start 0 ≡ 48 → ⊥) = elim c.if-first-eq48.branch [
@@ -55,8 +55,8 @@ returns c =
       )
     ] in
     let lead : start ≡ leading (front size) =
-    sym (first_is columns negative start c.fits-columns.0 below c.requires.few begin few other.0) ∙ ap (λ ts. leading (take 9 (zip2 taken columns ts))) (sym row) ∙ ap (λ l. leading (take 9 l)) c.size_of-size.ensures.digits in
-    let some : negative ≡ true → size ≡ 0 → ⊥ = λ is none. other.1 is none (zero_first columns c.template.result negative start size _ _ c.fits-columns.0 below lead row c.size_of-size.ensures.digits none) in
-    let value = value_is columns c.template.result size start negative c.fits-columns.0 below c.size_of-size.ensures.bound lead sign some row c.size_of-size.ensures.digits in
+    sym (first_is negative start are begin few other.0) ∙ ap (λ ts. leading (take 9 (zip2 taken columns ts))) (sym row) ∙ ap (λ l. leading (take 9 l)) c.size_of-size.ensures.digits in
+    let some : negative ≡ true → size ≡ 0 → ⊥ = λ is none. other.1 is none (zero_first negative are lead row c.size_of-size.ensures.digits none) in
+    let value = value_is size negative are c.size_of-size.ensures.bound lead (λ is. (sign is, some is)) row c.size_of-size.ensures.digits in
     let (fits, is) = subst (IsValue columns) (sym (c.new.ensures ∙ ap (λ (z : ℤ). to_z w64 (of_z w64 z)) c.signed.ensures ∙ stays _ value.0)) value in
     (fits, is, λ w also shows. value_once w _ _ _ also fits (sym shows ∙ is))

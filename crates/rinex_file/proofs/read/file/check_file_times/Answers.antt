@@ -11,10 +11,10 @@ pub unwrap-times-requires : goal.unwrap-times-requires
 unwrap-times-requires g c = let (h, whole, stores) = c.in-Ok.ensures.found in has_times _ h _ whole
 
 pub returns-in-Ok-clause-found : goal.returns-in-Ok-clause-found
-returns-in-Ok-clause-found g c = let (h, whole, stores) = c.in-Ok.ensures.found in summary_found _ _ refl c.unwrap-times.ensures h _ whole
+returns-in-Ok-clause-found g c = let (h, whole, stores) = c.in-Ok.ensures.found in summary_found _ refl c.unwrap-times.ensures whole
 
 pub returns-in-Ok-clause-only : goal.returns-in-Ok-clause-only
-returns-in-Ok-clause-only g c = λ v is few. let (h, whole, stores) = c.in-Ok.ensures.found in summary_only _ _ refl c.unwrap-times.ensures h _ whole v is
+returns-in-Ok-clause-only g c = λ v is few. let (h, whole, stores) = c.in-Ok.ensures.found in summary_only _ refl c.unwrap-times.ensures whole v is
 
 pub returns-in-Err-clause-only : goal.returns-in-Err-clause-only
 returns-in-Err-clause-only g c = λ v is few. only_faults lines_are_lines lines_are_short _ c.in-Err.fault v c.in-Err.ensures.fault is few

@@ -25,7 +25,7 @@ loop-added-preserved g c =
       | else-is_stored-via-else-is_stored w ↦ let e : true ≡ false = sym on ∙ w.if-is_stored.false in cc
     ] in
     record {
-      read = (k, (added_more c.loop-added.reading c.next.new.self h _ _ c.in-Ok-Some.field-0 c.in-Ok-Some.added c.in-Ok-Some.field-0-is (c.in-Ok-Some.ensures.goes h _ read)).0, stored);
+      read = (k, (added_more c.loop-added.reading c.next.new.self h _ _ c.in-Ok-Some.field-0-is (c.in-Ok-Some.ensures.goes h _ read)).0, stored);
       left = leaves_more _ _ _ inv.left c.in-Ok-Some.ensures.left;
       same = c.in-Ok-Some.ensures.same (λ e. cc) ∙ inv.same;
     }
@@ -33,7 +33,7 @@ loop-added-preserved g c =
 pub loop-added-smaller : goal.loop-added-smaller
 loop-added-smaller g c =
     let (h, read, stores) = c.loop-added.invariant.read in
-    let counted = (added_more c.loop-added.reading c.next.new.self h _ _ c.in-Ok-Some.field-0 c.in-Ok-Some.added c.in-Ok-Some.field-0-is (c.in-Ok-Some.ensures.goes h _ read)).1 in
+    let counted = (added_more c.loop-added.reading c.next.new.self h _ _ c.in-Ok-Some.field-0-is (c.in-Ok-Some.ensures.goes h _ read)).1 in
     let few = read.within.1 in
     omega (arith, counted, few)
 

@@ -19,6 +19,6 @@ same_min n height h is same small = omega (arith, is, same, small)
 pub returns : goal.returns
 returns c =
     let small = small_min _ c.min-height.result c.min-height.ensures in
-    exactly (λ h. h < 2 ^ 16) height_line c.args.line.now _ c.min-height.result c.is_same.result _ c.then_some.ensures small
+    exactly (λ h. h < 2 ^ 16) height_line c.min-height.result c.then_some.ensures small
     (λ h fits e. same_min _ _ h c.min-height.ensures (c.digits_in.ensures.value ∙ ap digits_in c.columns.ensures.value ∙ there c.args.line.now h fits e) fits)
     (c.as_slice.ensures.value ∙ c.three_lengths-again.ensures ∙ widened c.min-height.result small) c.is_same.ensures

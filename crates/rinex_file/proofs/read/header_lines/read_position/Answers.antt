@@ -30,7 +30,7 @@ returns c =
     let y = c.coordinate_in-2.ensures in
     let z = c.coordinate_in-3.ensures in
     let kept = all_stay c.coordinate_in.result c.coordinate_in-2.result c.coordinate_in-3.result x.fits y.fits z.fits in
-    exactly IsPosition position_line c.args.line.now _ (at c.coordinate_in.result c.coordinate_in-2.result c.coordinate_in-3.result) c.is_same.result _ (c.then_some.ensures ∙ ap (then_some c.is_same.result) kept)
+    exactly IsPosition position_line (at c.coordinate_in.result c.coordinate_in-2.result c.coordinate_in-3.result) (c.then_some.ensures ∙ ap (then_some c.is_same.result) kept)
     (x.fits, y.fits, z.fits, refl)
     (λ w is e.
     let all = there c.args.line.now w is e in

@@ -4,11 +4,11 @@ use Rattle.rinex_file.proofs.Names.{arith, ◌≡◌, ◌∙◌, refl, subst, �
 use Rattle.rinex_file.proofs.read.lines.next_line.Goals as goal
 
 -- what was found in the place of more bytes is found after those so far
-found_after : (f : Found) (bytes : List ℕ) (left : Option (List ℕ)) (first old new : ℕ) → has 10 bytes ≡ false → length bytes < 1220 → old ≡ first → IsFound f [] left old new → IsFound f bytes left first new
-found_after Line bytes left first old new endless few same ((body, shape, none), fine) = absurd (not_nil _ [] (body, shape, none) refl)
-found_after End bytes left first old new endless few same (none, end, fine, empty) = (endless, end, fine ∙ same, few)
-found_after Long bytes left first old new endless few same (size, none, fine) = absurd (omega (arith, size))
-found_after Failed bytes left first old new endless few same failed = subst (λ (n : ℕ). HasFailed n new) same failed
+found_after : (f : Found) (bytes : List ℕ) (left : Option (List ℕ)) {first old : ℕ} (new : ℕ) → has 10 bytes ≡ false → length bytes < 1220 → old ≡ first → IsFound f [] left old new → IsFound f bytes left first new
+found_after Line bytes left new endless few same ((body, shape, none), fine) = absurd (not_nil _ [] (body, shape, none) refl)
+found_after End bytes left new endless few same (none, end, fine, empty) = (endless, end, fine ∙ same, few)
+found_after Long bytes left new endless few same (size, none, fine) = absurd (omega (arith, size))
+found_after Failed bytes left new endless few same failed = subst (λ (n : ℕ). HasFailed n new) same failed
 
 not_full : (n m : ℕ) → false ≡ nat_eq n m → n ≤ m → n < m
 not_full n m h most = grind arith
@@ -18,7 +18,7 @@ returns-in-Some-clause-taken g c = (consumed_none _ _ _ _ c.loop-block.invariant
 
 pub returns-then-move_to-clause-taken : goal.returns-then-move_to-clause-taken
 returns-then-move_to-clause-taken g c =
-    (moved_taken _ _ _ _ _ _ _ _ c.loop-block.invariant.taken c.fill.ensures.same c.move_to.ensures, leaves_more _ _ _ c.loop-block.invariant.left c.fill.ensures.left)
+    (moved_taken _ _ _ c.loop-block.invariant.taken c.fill.ensures.same c.move_to.ensures, leaves_more _ _ _ c.loop-block.invariant.left c.fill.ensures.left)
 
 pub returns-then-move_to-clause-found : goal.returns-then-move_to-clause-found
 returns-then-move_to-clause-found g c = (
@@ -31,7 +31,7 @@ loop-block-preserved g c =
     let inv = c.loop-block.invariant in
     let moves = subst (λ (b : Bool). MovesBytes b c.fill.new.self c.move_to.new.self c.loop-block.line.items c.move_to.new.line.items) c.if-move_to.false c.move_to.ensures in
     record {
-      taken = moved_taken _ _ _ false _ _ _ _ inv.taken c.fill.ensures.same moves;
+      taken = moved_taken _ _ _ inv.taken c.fill.ensures.same moves;
       endless = still_endless _ _ _ _ inv.endless moves;
       within = moves.short;
       left = leaves_more _ _ _ inv.left c.fill.ensures.left;
@@ -42,7 +42,7 @@ pub loop-block-init : goal.loop-block-init
 loop-block-init g c = grind (arith, Consumes-nil, leaves_all)
 
 pub returns-in-Some-clause-found : goal.returns-in-Some-clause-found
-returns-in-Some-clause-found g c = found_after c.in-Some.found _ _ _ _ _ c.loop-block.invariant.endless
+returns-in-Some-clause-found g c = found_after c.in-Some.found _ _ _ c.loop-block.invariant.endless
     (not_full _ _ (sym c.loop-block-test.true ∙ c.is_full.ensures.value) c.loop-block.invariant.within) c.loop-block.invariant.same c.in-Some.ensures.none
 
 pub returns-clause-taken : goal.returns-clause-taken

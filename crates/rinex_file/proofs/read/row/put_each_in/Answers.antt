@@ -17,7 +17,7 @@ loop-i-preserved c =
     record {
       each = subst (All AreSignalValues) (sym pushed) (All-push AreSignalValues (take i old) entry c.loop-i.invariant.each c.in-Some.ensures.0);
       some = some_more (take i old) new entry c.loop-i.some c.has_value-some.result pushed c.loop-i.invariant.some c.has_value-some.ensures;
-      text = signals_more (filled_to (64 * n) text) i 64 (64 * i) (take i old) new entry refl refl pushed c.loop-i.invariant.text
+      text = signals_more (filled_to (64 * n) text) i (take i old) entry pushed c.loop-i.invariant.text
           (filled_part (64 * n) (64 * i) text (omega (arith, c.loop-i-test.true)) c.requires.room ∙ c.in-Some.ensures.1);
     }
 
@@ -32,5 +32,5 @@ returns-in-None-clause-read c = λ es are shows.
 
 pub returns-clause-read : goal.returns-clause-read
 returns-clause-read c =
-    all_read (length c.args.values.now) c.loop-i.i c.args.text.now c.loop-i.values c.loop-i.some c.loop-i.auto.values c.loop-i-test.false c.requires.room c.loop-i.invariant.each
+    all_read c.args.text.now c.loop-i.values c.loop-i.auto.values c.loop-i-test.false c.requires.room c.loop-i.invariant.each
     c.loop-i.invariant.some c.loop-i.invariant.text

@@ -43,14 +43,14 @@ returns-then-text-letter_of c = λ v is e.
     ]
 
 -- the line of a satellite is read if its columns are
-row_read : (all : Bool) (system : System) (signals : ℕ) (line columns : List ℕ) (seen : SatelliteRow) → seen.system ≡ system → (1 ≤ seen.row.satellite) × (seen.row.satellite ≤ satellites system)
+row_read : (all : Bool) {system : System} (signals : ℕ) {line columns : List ℕ} (seen : SatelliteRow) → seen.system ≡ system → (1 ≤ seen.row.satellite) × (seen.row.satellite ≤ satellites system)
     → (columns ≡ flat_map signal_text seen.row.signal_values → line ≡ satellite_line seen)
     → ((v : SatelliteRow) → IsRowOf system signals v → line ≡ satellite_line v → columns ≡ flat_map signal_text v.row.signal_values)
     → ReadsExactly (AreEntries signals) (flat_map signal_text) columns (some_if all seen.row.signal_values) → ReadsExactly (IsRowOf system signals) satellite_line line (some_if all seen)
-row_read true system signals line columns seen same number shown columns_of (are, is, only) =
+row_read true {system} signals {line} seen same number shown columns_of (are, is, only) =
     let row : IsRowOf system signals seen = (same, record { satellite = number; signal_values = are.each; whole = are.whole; some = are.some }) in
-    (row, shown is, λ v also e. line_once system signals v seen line also row e (shown is))
-row_read false system signals line columns seen same number shown columns_of none = λ v is e.
+    (row, shown is, λ v also e. line_once system signals also row e (shown is))
+row_read false signals seen same number shown columns_of none = λ v is e.
     none v.row.signal_values (record { each = is.1.signal_values; whole = is.1.whole; some = is.1.some }) (columns_of v is e)
 
 -- a list after all its elements were lent
@@ -77,9 +77,9 @@ returns c =
     let new = c.put_each_in.new.values in
     let count : length c.as_mut_slice.result.now ≡ c.args.signals = ap length c.as_mut_slice.ensures.value ∙ c.resize.ensures in
     let read = subst (λ (k : ℕ). ReadsExactly (AreEntries k) (flat_map signal_text) (filled_to (64 * k) (take (length text - 3) (drop 3 text))) (some_if all new)) count c.put_each_in.ensures.read in
-    row_read all c.args.system c.args.signals line _ _ refl (omega arith, omega arith)
-    (λ is. cut_line_is _ line text _ _ n (c.is_ended.ensures.0 c.if-not-is_ended.false) (ap (λ (k : ℕ). take k line) c.saturating_sub.ensures) (omega arith)
-    (c.if-text-letter_of.false ∙ c.letter_of.ensures) refl refl (sym c.in-Some.ensures.1) (ap (filled_to n) (sym rest) ∙ is))
+    row_read all c.args.signals _ refl (omega arith, omega arith)
+    (λ is. cut_line_is _ {text = text} n (c.is_ended.ensures.0 c.if-not-is_ended.false) (ap (λ (k : ℕ). take k line) c.saturating_sub.ensures) (omega arith)
+    (c.if-text-letter_of.false ∙ c.letter_of.ensures) (sym c.in-Some.ensures.1) (ap (filled_to n) (sym rest) ∙ is))
     (λ v is e. ap (filled_to n) rest ∙ (parts ((goal.at.returns c).After-saturating_sub) v is e).columns)
     (subst (λ (es : List SignalValues). ReadsExactly (AreEntries c.args.signals) (flat_map signal_text) (filled_to n (take (length text - 3) (drop 3 text))) (some_if all es))
     (sym (lent c.resize.new.values.items new (c.put_each_in.ensures.size ∙ ap length c.as_mut_slice.ensures.value))) read)

@@ -1,23 +1,25 @@
 use Rattle.rinex_file.proofs.Entries.{few_signals}
 use Rattle.rinex_file.proofs.Judged.{at_some}
-use Rattle.rinex_file.proofs.HeaderRows.Types.{still_grows, not_read, taken_more, taken_before}
-use Rattle.rinex_file.proofs.Names.{arith, ◌≡◌, ◌∙◌, ap, refl, subst, ℕ, List, [], ◌∷◌, ◌++◌, length-append, length, take, min, ◌+◌, ◌*◌, ◌<◌, ◌≤◌, Ok, take_at, take_min, common_steps, System, SignalAt, IsSignal, table, indices, IsAdded, IsOf}
+use Rattle.rinex_file.proofs.HeaderRows.Types.{IsInLine, still_grows, read_here, index_read, taken_more, taken_before}
+use Rattle.rinex_file.proofs.Names.{arith, ◌≡◌, ◌∙◌, sym, ap, refl, subst, none-some, ℕ, List, [], ◌∷◌, ◌++◌, length-append, length, take, min, ◌+◌, ◌*◌, ◌<◌, ◌≤◌, Ok, take_at, take_min, common_steps, System, SignalAt, IsSignal, AreTypes, types_line, signals_begun, table, indices, IsAdded, IsOf}
 use Rattle.rinex_file.proofs.read.types.take_signals.Goals as goal
 
 -- the index of the signal is below that of the first one of the next line, and there are that many
-there : (system : System) (all : List ℕ) (end a begun_next count place : ℕ) → place < end → end ≡ min a count → a ≡ begun_next → length all ≡ count → count ≤ length (table system)
-    → (4 * length all < 1000) × (place < begun_next) × (place < length all)
-there system all end a begun_next count place less least next is bound = let most = few_signals system in (omega (arith, is, bound, most), omega (arith, less, least, next), omega (arith, less, least, is))
+there : {system : System} {all line : List ℕ} {row place end a count : ℕ} → AreTypes system all → line ≡ types_line system all row → signals_begun row ≤ place → place < end → end ≡ min a count → a ≡ signals_begun (row + 1)
+    → length all ≡ count → count ≤ length (table system) → IsInLine system all line row place
+there {system} are is low less least next size bound =
+    let most = few_signals system in
+    record { are = are; few = omega (arith, size, bound, most); is = is; low = low; high = omega (arith, less, least, next); less = omega (arith, less, least, size) }
 
 pub returns-in_default-clause-bad : goal.returns-in_default-clause-bad
 returns-in_default-clause-bad c = λ refused all are begun is.
-    let b = there c.args.system all _ _ _ _ _ c.loop-place-test.true c.min-end.ensures c.signals_begun.ensures begun.0 c.requires.count in
-    not_read c.args.system all c.args.line.now c.args.row c.loop-place.place are b.0 is c.loop-place.invariant.from b.1 b.2 _ c.signal_in.ensures.read c.in_default.is
+    let here = there are is c.loop-place.invariant.from c.loop-place-test.true c.min-end.ensures c.signals_begun.ensures begun.0 c.requires.count in
+    none-some _ (sym c.in_default.is ∙ read_here here c.signal_in.ensures.read)
 
 pub returns-in-Ok-false-clause-bad : goal.returns-in-Ok-false-clause-bad
 returns-in-Ok-false-clause-bad c = λ refused all are begun is.
-    let b = there c.args.system all _ _ _ _ _ c.loop-place-test.true c.min-end.ensures c.signals_begun.ensures begun.0 c.requires.count in
-    taken_before c.args.system all c.args.line.now c.args.row c.loop-place.place are b.0 is c.loop-place.invariant.from b.1 b.2 _ c.signal_in.ensures.read c.in-Some.signal c.loop-place.signals c.in-Some.is
+    let here = there are is c.loop-place.invariant.from c.loop-place-test.true c.min-end.ensures c.signals_begun.ensures begun.0 c.requires.count in
+    taken_before c.loop-place.place c.in-Some.signal c.loop-place.signals are (index_read (read_here here c.signal_in.ensures.read) c.in-Some.is) here.less
     (c.add.ensures.old (c.in-Ok-false.is ∙ ap Ok c.in-Ok-false.field-0-test)).1 (c.loop-place.invariant.read all are begun is)
 
 one_more : (old : List SignalAt) (s : SignalAt) (new : List SignalAt) → new ≡ old ++ s ∷ [] → length new ≡ length old + 1
@@ -38,13 +40,12 @@ loop-place-preserved c =
       from = omega (arith, inv.from);
       to = omega arith;
       read = λ all are begun is.
-          let b = there c.args.system all _ _ _ _ _ c.loop-place-test.true c.min-end.ensures c.signals_begun.ensures begun.0 c.requires.count in
-          ap indices added.0 ∙ taken_more c.args.system all c.args.line.now c.args.row c.loop-place.place are b.0 is inv.from b.1 b.2 _ c.signal_in.ensures.read s c.loop-place.signals c.in-Some.is
-          (inv.read all are begun is);
+          let here = there are is inv.from c.loop-place-test.true c.min-end.ensures c.signals_begun.ensures begun.0 c.requires.count in
+          ap indices added.0 ∙ taken_more all c.loop-place.place s c.loop-place.signals (index_read (read_here here c.signal_in.ensures.read) c.in-Some.is) here.less (inv.read all are begun is);
     }
 
-whole : (all : List ℕ) (place end a next count : ℕ) → place ≤ end → end ≤ place → end ≡ min a count → a ≡ next → length all ≡ count → take place all ≡ take next all
-whole all place end a next count low high is same size = grind (arith, take_min)
+whole : (all : List ℕ) (place : ℕ) {end a next count : ℕ} → place ≤ end → end ≤ place → end ≡ min a count → a ≡ next → length all ≡ count → take place all ≡ take next all
+whole all place low high is same size = grind (arith, take_min)
 
 pub returns-clause-taken : goal.returns-clause-taken
 returns-clause-taken c = grind (arith, whole)

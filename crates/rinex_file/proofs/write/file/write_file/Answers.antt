@@ -10,7 +10,7 @@ write_stored-requires c =
 pub returns : goal.returns
 returns c =
     let (first, at, written) = c.loop-epoch.invariant in
-    all_written _ c.args.file.now first c.as_slice-epochs.result.now c.args.text.now.inner.items _ c.loop-epoch.epoch-index c.file.view_is c.file.invariant.0 c.as_slice-epochs.ensures.value at
+    all_written c.args.text.now.inner.items c.loop-epoch.epoch-index c.file.view_is c.file.invariant.0 c.as_slice-epochs.ensures.value at
     c.loop-epoch-test.false written
 
 pub loop-epoch-init : goal.loop-epoch-init
@@ -24,4 +24,4 @@ pub loop-epoch-preserved : goal.loop-epoch-preserved
 loop-epoch-preserved c =
     let (first, at, written) = c.loop-epoch.invariant in
     let epochs = c.as_slice-epochs.result.now in
-    (first, at, one_more stamped_text epochs c.loop-epoch.epoch-index c.epoch-item.result _ _ _ c.loop-epoch-test.true c.epoch-item.is written c.in_ok-write_stored.ensures)
+    (first, at, one_more stamped_text epochs c.loop-epoch.epoch-index _ c.loop-epoch-test.true c.epoch-item.is written c.in_ok-write_stored.ensures)

@@ -33,12 +33,12 @@ put_values-size-requires-clause-few c =
 pub loop-stored-preserved : goal.loop-stored-preserved
 loop-stored-preserved c =
     let row = ap (λ (es : List SignalValues). satellite_line (satellite_row c.stored.inside.system c.stored.inside.satellite es)) c.as_slice-values.ensures.value ∙ ap satellite_line c.stored.view_is in
-    one_more satellite_line c.as_slice-rows.result.now c.loop-stored.stored-index c.stored-item.result _ _ _ c.loop-stored-test.true c.stored-item.is c.loop-stored.invariant
+    one_more satellite_line c.as_slice-rows.result.now c.loop-stored.stored-index _ c.loop-stored-test.true c.stored-item.is c.loop-stored.invariant
     (c.in_ok-write_whole-2.ensures.whole ∙ ap (λ l. c.loop-stored.text.inner.items ++ l) (c.put_values-size.ensures.text ∙ row))
 
 pub returns : goal.returns
 returns c =
     let rows = c.as_slice-rows.result.now in
     let e = c.args.epoch.now in
-    epoch_whole e e rows c.args.text.now.inner.items _ _ _ c.loop-stored.text.inner.items refl (c.as_slice-rows.ensures.value ∙ ap (λ (e : Stamped). e.rows) c.epoch.view_is) refl refl refl
+    epoch_whole c.args.text.now.inner.items refl (c.as_slice-rows.ensures.value ∙ ap (λ (e : Stamped). e.rows) c.epoch.view_is) refl refl refl
     (c.loop-stored.invariant ∙ ap (λ (r : List SatelliteRow). ((c.args.text.now.inner.items ++ joined (change_lines e.change)) ++ epoch_line (civil_of e.time) (length rows)) ++ flat_map satellite_line r) (take_all c.loop-stored.stored-index rows c.loop-stored-test.false))

@@ -21,7 +21,7 @@ few c =
 
 pub loop-at-init : goal.loop-at-init
 loop-at-init c = record {
-  shown = begun_entries _ _ c.args.cells.now c.args.id _ (planned_of c.args.system c.args.plan.now) c.begin_columns.ensures (front_length (letter_of c.args.system) c.args.id c.requires.id) refl;
+  shown = begun_entries c.args.cells.now c.args.id (planned_of c.args.system c.args.plan.now) c.begin_columns.ensures (front_length (letter_of c.args.system) c.args.id c.requires.id) refl;
   within = omega arith;
   bound = omega arith;
 }

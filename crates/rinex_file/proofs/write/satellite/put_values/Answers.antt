@@ -11,8 +11,8 @@ loop-value-preserved c =
     let size : length c.put_signal.new.columns ≡ 64 = c.put_signal.ensures.size in
     let room : length c.loop-value.row ≡ 1220 = omega arith in
     record {
-      shown = one_more signal_text c.args.values.now c.loop-value.value-index c.value-item.result (letter_of c.args.system ∷ padded 2 c.args.id) (take c.loop-value.size c.loop-value.row) _ less c.value-item.is inv.shown
-          (signal_after c.loop-value.row c.put_signal.new.columns (take c.loop-value.size c.loop-value.row) _ c.loop-value.size _ size (omega arith) (omega (arith, less, inv.size, room, c.requires.few)) refl refl ∙ ap (λ t. take c.loop-value.size c.loop-value.row ++ t) text);
+      shown = one_more signal_text c.args.values.now c.loop-value.value-index (letter_of c.args.system ∷ padded 2 c.args.id) less c.value-item.is inv.shown
+          (signal_after c.loop-value.row c.put_signal.new.columns c.loop-value.size size (omega arith) (omega (arith, less, inv.size, room, c.requires.few)) refl refl ∙ ap (λ t. take c.loop-value.size c.loop-value.row ++ t) text);
       size = omega (arith, inv.size);
     }
 

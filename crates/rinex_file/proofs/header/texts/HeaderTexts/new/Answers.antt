@@ -7,7 +7,7 @@ loop-field-preserved c =
     let t = lists_of c.args.texts.now in
     let i = c.loop-field.field-index in
     let text = c.as_bytes.ensures.value ∙ c.of.ensures in
-    let stored = one_stored t c.loop-field.taken c.set.new.self i _ _ c.loop-field-test.true c.loop-field.invariant.count c.loop-field.invariant.cut text c.in_ok-set.ensures.value in
+    let stored = one_stored t c.loop-field.taken _ c.loop-field-test.true c.loop-field.invariant.count c.loop-field.invariant.cut text c.in_ok-set.ensures.value in
     record {
       faultless = c.loop-field.invariant.faultless ∙ fine_here t i _ c.loop-field-test.true (sym (c.in_ok-set.ensures.fault ∙ ap (fault_of _) text));
       cut = stored.0;

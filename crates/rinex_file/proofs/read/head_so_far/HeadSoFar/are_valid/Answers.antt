@@ -5,4 +5,4 @@ use Rattle.rinex_file.proofs.read.head_so_far.HeadSoFar.are_valid.Goals as goal
 pub returns : goal.returns
 returns c =
     let held = c.self.invariant in
-    valid_by c.args.self.now _ c.self.view_is c.are_texts.ensures c.self.inside.gps.signals c.self.inside.galileo.signals held.0 held.1 held.2 held.3 refl
+    valid_by c.self.view_is c.are_texts.ensures held.0 held.1 held.2 held.3 refl

@@ -3,9 +3,9 @@ use Rattle.rinex_file.proofs.Names.{arith, ap, Option, Some, ◌≡◌, subst, r
 use Rattle.rinex_file.proofs.read.head_so_far.HeadSoFar.read_header_line.Goals as goal
 
 -- the row, what was known before it and what was returned, by other names
-of_row : (r t : HeaderRow) (line : List ℕ) (old k new : Known) (taken : Bool) (result : Option ⊤) → is_some result ≡ taken → r ≡ t → k ≡ old → ReadsOrRefuses t line k new taken
+of_row : {r t : HeaderRow} (line : List ℕ) {old k : Known} (new : Known) {taken : Bool} (result : Option ⊤) → is_some result ≡ taken → r ≡ t → k ≡ old → ReadsOrRefuses t line k new taken
     → ReadsOrRefuses r line old new (is_some result)
-of_row r t line old k new taken result e is same l = rw (e, is) (subst (λ o. ReadsOrRefuses t line o new taken) same l)
+of_row {t} line new {taken} result e is same l = rw (e, is) (subst (λ o. ReadsOrRefuses t line o new taken) same l)
 
 is_taken : (b : Bool) (result : Option ⊤) → result ≡ then_some b tt → is_some result ≡ b
 is_taken b result e = grind (arith, e)
@@ -15,43 +15,43 @@ of_texts r line k x true read = line_texts r line k x read
 of_texts r line k x false refuses = refuse_texts r line refuses
 
 pub returns-in_err-gps-in-Version : goal.returns-in_err-gps-in-Version
-returns-in_err-gps-in-Version c = of_row c.args.row _ c.args.line.now c.args.self.now c.args.self.now c.args.self.now false _ (ap is_some c.from_residual.ensures) c.in-Version.is refl (refuse_version c.args.line.now c.in_err-gps-in-Version.ensures)
+returns-in_err-gps-in-Version c = of_row c.args.line.now c.args.self.now _ (ap is_some c.from_residual.ensures) c.in-Version.is refl (refuse_version c.args.line.now c.in_err-gps-in-Version.ensures)
 
 pub returns-in_ok-gps-in-Version : goal.returns-in_ok-gps-in-Version
-returns-in_ok-gps-in-Version c = of_row c.args.row _ c.args.line.now c.args.self.now _ _ true (Some tt) refl c.in-Version.is c.self.view_is (line_version _ c.in_ok-gps-in-Version.gps c.in_ok-gps-in-Version.galileo c.args.line.now c.in_ok-gps-in-Version.ensures)
+returns-in_ok-gps-in-Version c = of_row c.args.line.now _ (Some tt) refl c.in-Version.is c.self.view_is (line_version _ c.in_ok-gps-in-Version.gps c.in_ok-gps-in-Version.galileo c.args.line.now c.in_ok-gps-in-Version.ensures)
 
 pub returns-in-Texts : goal.returns-in-Texts
 returns-in-Texts c =
-    of_row c.args.row _ c.args.line.now c.args.self.now _ _ c.read_texts.result _ (is_taken _ _ c.then_some.ensures) c.in-Texts.is c.self.view_is
+    of_row c.args.line.now _ _ (is_taken _ _ c.then_some.ensures) c.in-Texts.is c.self.view_is
     (of_texts c.in-Texts.row c.args.line.now _ c.read_texts.new.texts c.read_texts.result c.read_texts.ensures)
 
 pub returns-in_err-values-in-Position : goal.returns-in_err-values-in-Position
-returns-in_err-values-in-Position c = of_row c.args.row _ c.args.line.now c.args.self.now c.args.self.now c.args.self.now false _ (ap is_some c.from_residual-in_err-values-in-Position.ensures) c.in-Position.is refl (refuse_position c.args.line.now c.in_err-values-in-Position.ensures)
+returns-in_err-values-in-Position c = of_row c.args.line.now c.args.self.now _ (ap is_some c.from_residual-in_err-values-in-Position.ensures) c.in-Position.is refl (refuse_position c.args.line.now c.in_err-values-in-Position.ensures)
 
 pub returns-in_ok-values-in-Position : goal.returns-in_ok-values-in-Position
-returns-in_ok-values-in-Position c = of_row c.args.row _ c.args.line.now c.args.self.now _ _ true (Some tt) refl c.in-Position.is c.self.view_is (line_position _ _ c.args.line.now c.in_ok-values-in-Position.ensures)
+returns-in_ok-values-in-Position c = of_row c.args.line.now _ (Some tt) refl c.in-Position.is c.self.view_is (line_position _ _ c.args.line.now c.in_ok-values-in-Position.ensures)
 
 pub returns-in_err-self-inside-in-Delta : goal.returns-in_err-self-inside-in-Delta
-returns-in_err-self-inside-in-Delta c = of_row c.args.row _ c.args.line.now c.args.self.now c.args.self.now c.args.self.now false _ (ap is_some c.from_residual-in_err-self-inside-in-Delta.ensures) c.in-Delta.is refl (refuse_delta c.args.line.now c.in_err-self-inside-in-Delta.ensures)
+returns-in_err-self-inside-in-Delta c = of_row c.args.line.now c.args.self.now _ (ap is_some c.from_residual-in_err-self-inside-in-Delta.ensures) c.in-Delta.is refl (refuse_delta c.args.line.now c.in_err-self-inside-in-Delta.ensures)
 
 pub returns-in_ok-self-inside-in-Delta : goal.returns-in_ok-self-inside-in-Delta
-returns-in_ok-self-inside-in-Delta c = of_row c.args.row _ c.args.line.now c.args.self.now _ _ true (Some tt) refl c.in-Delta.is c.self.view_is (line_delta _ _ c.args.line.now c.in_ok-self-inside-in-Delta.ensures)
+returns-in_ok-self-inside-in-Delta c = of_row c.args.line.now _ (Some tt) refl c.in-Delta.is c.self.view_is (line_delta _ _ c.args.line.now c.in_ok-self-inside-in-Delta.ensures)
 
 pub returns-in-StrengthUnit : goal.returns-in-StrengthUnit
 returns-in-StrengthUnit c =
-    of_row c.args.row _ c.args.line.now c.args.self.now c.args.self.now c.args.self.now _ _ (is_taken _ _ c.then_some-in-StrengthUnit.ensures) c.in-StrengthUnit.is refl
+    of_row c.args.line.now c.args.self.now _ (is_taken _ _ c.then_some-in-StrengthUnit.ensures) c.in-StrengthUnit.is refl
     (line_unit c.args.self.now c.args.line.now c.is_header_line.result c.is_header_line.ensures)
 
 pub returns-in_err-self-inside-in-First : goal.returns-in_err-self-inside-in-First
-returns-in_err-self-inside-in-First c = of_row c.args.row _ c.args.line.now c.args.self.now c.args.self.now c.args.self.now false _ (ap is_some c.from_residual-in_err-self-inside-in-First.ensures) c.in-First.is refl (refuse_first c.args.line.now c.in_err-self-inside-in-First.ensures)
+returns-in_err-self-inside-in-First c = of_row c.args.line.now c.args.self.now _ (ap is_some c.from_residual-in_err-self-inside-in-First.ensures) c.in-First.is refl (refuse_first c.args.line.now c.in_err-self-inside-in-First.ensures)
 
 pub returns-in_ok-self-inside-in-First : goal.returns-in_ok-self-inside-in-First
-returns-in_ok-self-inside-in-First c = of_row c.args.row _ c.args.line.now c.args.self.now _ _ true (Some tt) refl c.in-First.is c.self.view_is (line_first _ _ c.args.line.now c.in_ok-self-inside-in-First.ensures)
+returns-in_ok-self-inside-in-First c = of_row c.args.line.now _ (Some tt) refl c.in-First.is c.self.view_is (line_first _ _ c.args.line.now c.in_ok-self-inside-in-First.ensures)
 
 pub returns-in-Shift : goal.returns-in-Shift
 returns-in-Shift c =
     let same = c.is_header_line-in-Shift in
-    of_row c.args.row _ c.args.line.now c.args.self.now c.args.self.now c.args.self.now _ _ (is_taken _ _ c.then_some-in-Shift.ensures) c.in-Shift.is refl
+    of_row c.args.line.now c.args.self.now _ (is_taken _ _ c.then_some-in-Shift.ensures) c.in-Shift.is refl
     (line_shift c.in-Shift.system c.letter_of.result c.args.self.now c.args.line.now same.result c.letter_of.ensures same.ensures)
 
 pub returns-in-Types : goal.returns-in-Types

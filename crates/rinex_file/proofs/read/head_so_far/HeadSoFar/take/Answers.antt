@@ -37,7 +37,7 @@ not_end s row e = cc
 pub returns-in_ok-take_types-in-Types : goal.returns-in_ok-take_types-in-Types
 returns-in_ok-take_types-in-Types c =
     steps_from c.args.self.now c.take_types.new.self c.args.from c.place_from-place.result c.args.line.now (Header (c.place_from-place.result + 1)) c.place_from-place.ensures.same
-    (step_at c.place_from-place.result c.args.line.now c.args.self.now c.take_types.new.self (Types c.in-Types.system c.in-Types.row) c.place_from-place.ensures.same.at c.place_from-place.ensures.here (sym c.row_at.ensures ∙ c.in-Types.is)
+    (step_at c.place_from-place.ensures.same.at c.place_from-place.ensures.here (sym c.row_at.ensures ∙ c.in-Types.is)
     (not_end c.in-Types.system c.in-Types.row) (read (types_few c.place_from-place.result c.in-Types.system c.in-Types.row c.place_from-place.ensures.same.at.expected (sym c.row_at.ensures ∙ c.in-Types.is))) c.are_valid.ensures) where
       read : c.in-Types.row < 6 → ReadsHeaderLine (Types c.in-Types.system c.in-Types.row) c.args.line.now c.args.self.now c.take_types.new.self
       read few =
@@ -78,7 +78,7 @@ returns-in_default-read_header_line c =
 pub returns-in-Some : goal.returns-in-Some
 returns-in-Some c =
     steps_from c.args.self.now c.read_header_line.new.self c.args.from c.place_from-place.result c.args.line.now (Header (c.place_from-place.result + 1)) c.place_from-place.ensures.same
-    (step_at c.place_from-place.result c.args.line.now c.args.self.now c.read_header_line.new.self c.row_at.result c.place_from-place.ensures.same.at c.place_from-place.ensures.here (sym c.row_at.ensures) c.in_default.not-End
+    (step_at c.place_from-place.ensures.same.at c.place_from-place.ensures.here (sym c.row_at.ensures) c.in_default.not-End
     c.in-Some.ensures c.are_valid-in_default.ensures)
 
 sole : (r : HeaderRow) → ((s : System) (i : ℕ) → r ≡ Types s i → ⊥) → (r ≡ End → ⊥) → IsOnly r

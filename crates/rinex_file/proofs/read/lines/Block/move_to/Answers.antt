@@ -1,4 +1,4 @@
-use Rattle.rinex_file.proofs.Reading.Lines.{moved, moved_of, left_ahead, no_feed}
+use Rattle.rinex_file.proofs.Reading.Lines.{IsFeed, moved, moved_of, left_ahead, no_feed}
 use Rattle.rinex_file.proofs.Names.{arith, ◌≡◌, ◌∙◌, ap, ◌<◌, ◌≤◌, ℕ, List, [], ◌∷◌, length, take, drop, get_or, Option, Some, None, unwrap_or, ◌==◌, true, false, min, min-le_left, drop-cons, length-take-le, eqb-true, IsFirstByte, is_byte, has}
 use Rattle.rinex_file.proofs.read.lines.Block.move_to.Goals as goal
 
@@ -7,13 +7,11 @@ feed_at : (near : List ℕ) (n : ℕ) → n < length near → (get_or near n 0 =
 feed_at near n less is = ap (take 1) (drop-cons near n 0 less) ∙ ap (λ b. b ∷ []) (eqb-true _ _ is)
 
 -- no line feed is before the first one
-first_feed : (near : List ℕ) (r : Option ℕ) (room feed : ℕ) → IsFirstByte (is_byte 10) near r → length near ≡ room → feed ≡ unwrap_or r room
-    → (feed ≤ length near) × (has 10 (take feed near) ≡ false) × (feed < length near → take 1 (drop feed near) ≡ 10 ∷ [])
+first_feed : (near : List ℕ) (r : Option ℕ) (room feed : ℕ) → IsFirstByte (is_byte 10) near r → length near ≡ room → feed ≡ unwrap_or r room → IsFeed near feed
 first_feed near None room feed first size is = grind (arith, no_feed)
 first_feed near (Some n) room feed first size is = grind (arith, no_feed, feed_at)
 
-in_room : (held : List ℕ) (r : Option ℕ) (most room feed : ℕ) → IsFirstByte (is_byte 10) (take room held) r → room ≡ min (length held) most → feed ≡ unwrap_or r room
-    → (feed ≤ length (take room held)) × (has 10 (take feed (take room held)) ≡ false) × (feed < length (take room held) → take 1 (drop feed (take room held)) ≡ 10 ∷ [])
+in_room : (held : List ℕ) (r : Option ℕ) (most room feed : ℕ) → IsFirstByte (is_byte 10) (take room held) r → room ≡ min (length held) most → feed ≡ unwrap_or r room → IsFeed (take room held) feed
 in_room held r most room feed first least is =
     let low = min-le_left (length held) most in
     first_feed (take room held) r room feed first (length-take-le room held (omega (arith, least, low))) is

@@ -7,33 +7,32 @@ use Rattle.rinex_file.proofs.read.parser_state.ParserState.take.Goals as goal
 pub returns-in_err-self-in-Header : goal.returns-in_err-self-in-Header
 returns-in_err-self-in-Header c = stopped c.args.self.now _ c.args.line.now _ c.from_residual.ensures.1 (λ e same bad h history.
     let s = progress_at c.args.self.now h in
-    no_header s c.in-Header.place c.args.line.now c.in-Header.is (sound_header s c.in-Header.place c.in-Header.is history.sound).2 (subst (λ (r : Refusal). TakesHeaderLine c.args.self.now.head c.in-Header.place c.args.line.now c.take.new.self (Err r)) (sym same ∙ bad) c.in_err-self-in-Header.ensures))
+    no_header s c.args.line.now c.in-Header.is (sound_header s c.in-Header.place c.in-Header.is history.sound).2 (subst (λ (r : Refusal). TakesHeaderLine c.args.self.now.head c.in-Header.place c.args.line.now c.take.new.self (Err r)) (sym same ∙ bad) c.in_err-self-in-Header.ensures))
 
 abbrev at_head : ParserState → Known → Expected → ParserState
 at_head c k expected = record c { expected = expected; head = k }
 
 -- the header continues, or it ends
-headed : (c : ParserState) (h : History) (place : ℕ) (line : List ℕ) (k : Known) (next : Expected) → c.expected ≡ Header place → FollowsHistory c h → StepsTo c.head place line k next
+headed : {c : ParserState} {h : History} {place : ℕ} {line : List ℕ} (k : Known) (next : Expected) → c.expected ≡ Header place → FollowsHistory c h → StepsTo c.head place line k next
     → IsNext c (at_head c k next) NoRow line h
-headed c h place line k (Header next) expected history goes =
+headed {c} {h} {place} {line} k (Header next) expected history goes =
     let s = progress_at c h in
     let (epochs, rows, here) = sound_header s place expected history.sound in
-    goes_on c h (Header next) k c.change c.time line history (epochs, rows, goes.at) (header_taken s place line expected k next goes) (header_shows s place line expected k next goes)
-headed c h place line k Epoch expected history end =
+    goes_on (Header next) k c.change c.time history (epochs, rows, goes.at) (header_taken s line expected goes) (header_shows s line expected goes)
+headed {c} {h} {place} {line} k Epoch expected history end =
     let s = progress_at c h in
     let (epochs, rows, here) = sound_header s place expected history.sound in
-    goes_on c h Epoch k c.change c.time line history (sound_start s k end.is epochs, rows) (header_ended s place line expected k epochs here end)
-    (ended_shows s place line expected k epochs here end)
-headed c h place line k other expected history goes = absurd goes
+    goes_on Epoch k c.change c.time history (sound_start s k end.is epochs, rows) (header_ended s line expected epochs here end) (ended_shows s line expected epochs here end)
+headed k other expected history goes = absurd goes
 
 pub returns-in_ok-self-in-Header : goal.returns-in_ok-self-in-Header
-returns-in_ok-self-in-Header c = λ h history. headed c.args.self.now h c.in-Header.place c.args.line.now c.take.new.self _ c.in-Header.is history c.in_ok-self-in-Header.ensures
+returns-in_ok-self-in-Header c = λ h history. headed c.take.new.self _ c.in-Header.is history c.in_ok-self-in-Header.ensures
 
 pub returns-in-Epoch : goal.returns-in-Epoch
 returns-in-Epoch c = λ h history.
     let s = progress_at c.args.self.now h in
     let shown = c.is_same.ensures.0 c.if-is_same.true ∙ c.event_line.ensures in
-    goes_on c.args.self.now h EventPosition c.args.self.now.head c.args.self.now.change c.args.self.now.time c.args.line.now history
+    goes_on EventPosition c.args.self.now.head c.args.self.now.change c.args.self.now.time history
     (sound_event s c.in-Epoch.is history.sound (subst (λ (n : ℕ). 0 < n) history.counted.epochs c.if-self-gt0.true)) (event_taken s c.args.line.now c.in-Epoch.is shown)
     (event_shows s c.args.line.now c.in-Epoch.is shown)
 
@@ -45,5 +44,5 @@ returns-in-Some c = λ h history.
     let s = progress_at c.args.self.now h in
     let p = c.in-Some.position in
     let (is, shown, only) = c.in-Some.ensures in
-    goes_on c.args.self.now h (EventHeight p) c.args.self.now.head c.args.self.now.change c.args.self.now.time c.args.line.now history
+    goes_on (EventHeight p) c.args.self.now.head c.args.self.now.change c.args.self.now.time history
     (sound_position s p c.in-EventPosition.is history.sound is) (position_taken s p c.args.line.now c.in-EventPosition.is only) (position_shows s p c.args.line.now c.in-EventPosition.is shown)

@@ -31,7 +31,7 @@ returns-in-Some c = λ h history.
     let time = c.in-Some.begun.0 in
     let n = c.in-Some.begun.1 in
     let may = (c.may_begin.ensures h history).0 c.if-may_begin.true in
-    goes_on c.args.self.now h (Satellite n) c.args.self.now.head c.args.change time c.args.line.now history (sound_begun s c.args.change time n read rows may is.0 change same)
-    (epoch_taken s c.args.change time n c.args.line.now rows shown (λ w begins. only w (fits s w begins)) c.requires.expected
+    goes_on (Satellite n) c.args.self.now.head c.args.change time history (sound_begun read rows may is.0 change same)
+    (epoch_taken s c.args.change rows shown (λ w begins. only w (fits s w begins)) c.requires.expected
     (λ none both. c.requires.event none (subst (λ (k : ℕ). 0 < k) (sym history.counted.epochs) both.0, both.1)))
     (epoch_shows s c.args.change time n c.args.line.now c.requires.expected rows shown)

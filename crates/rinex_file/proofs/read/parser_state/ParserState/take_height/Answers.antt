@@ -35,6 +35,6 @@ returns c = λ h history.
     let (small, shown, only) = c.in-Some.ensures in
     let now = current _ c.args.self.now c.unwrap_or.result c.self.view_is c.unwrap_or.ensures ∙ history.counted.values c.args.self.now.head.shown.values in
     next_of _ c.args.self.now (EventEpoch (record p { height = height })) c.args.line.now h c.self.view_is
-    (goes_on c.args.self.now h (EventEpoch (record p { height = height })) c.args.self.now.head c.args.self.now.change c.args.self.now.time c.args.line.now history
+    (goes_on (EventEpoch (record p { height = height })) c.args.self.now.head c.args.self.now.change c.args.self.now.time history
     (sound_height s p height c.requires.expected history.sound small (λ other. refused c.is_same.result _ c.is_same.ensures.exact c.if-is_same.false (other ∙ sym now)))
     (height_taken s p c.args.line.now c.requires.expected height only) (height_shows s p height c.args.line.now c.requires.expected shown))

@@ -24,13 +24,13 @@ one_expected left s expected some = let n : left ≡ suc (left - 1) = omega (ari
 abbrev Shows : ℕ → ℕ → List ℕ → Bool → SatelliteRow → Type 0
 Shows gps galileo line b seen = ReadsExactly (IsSatelliteRow gps galileo) satellite_line line (some_if b seen)
 
-shows : (g e gps galileo : ℕ) (line : List ℕ) (r b : Bool) (seen : SatelliteRow) → g ≡ gps → e ≡ galileo → r ≡ b → Shows g e line r seen → Shows gps galileo line b seen
-shows g e gps galileo line r b seen x y z h = grind arith
+shows : {g e gps galileo : ℕ} (line : List ℕ) {r b : Bool} (seen : SatelliteRow) → g ≡ gps → e ≡ galileo → r ≡ b → Shows g e line r seen → Shows gps galileo line b seen
+shows line seen x y z h = grind arith
 
 -- the ranks and a greater one are increasing, and those alone
-increasing : (gps galileo : ℕ) (rows : List SatelliteRow) (seen : SatelliteRow) (last rank : ℕ) → IsLast (map rank_of rows) last → IsSatelliteRow gps galileo seen → rank ≡ rank_of seen
+increasing : {gps galileo : ℕ} (rows : List SatelliteRow) {seen : SatelliteRow} (last : ℕ) {rank : ℕ} → IsLast (map rank_of rows) last → IsSatelliteRow gps galileo seen → rank ≡ rank_of seen
     → (last < rank) ↔ IsStrictlyIncreasing (map rank_of rows ++ rank_of seen ∷ [])
-increasing gps galileo rows seen last rank is row same =
+increasing {gps} {galileo} rows {seen} last is row same =
     subst (λ (n : ℕ). (last < n) ↔ IsStrictlyIncreasing (map rank_of rows ++ rank_of seen ∷ [])) (sym same) (is (rank_of seen) (some_rank gps galileo seen row))
 
 last_rank : (rows : List SatelliteRow) (seen : SatelliteRow) (n : ℕ) → n ≡ rank_of seen → IsStrictlyIncreasing (map rank_of rows ++ rank_of seen ∷ []) → IsLast (map rank_of (rows ++ seen ∷ [])) n
@@ -47,12 +47,11 @@ returns-then-not-is_read c = λ h history.
     let one = one_expected c.args.left s c.requires.expected some in
     elim c.then-not-is_read.branch [
       | then-not-is_read-via-then-not-is_read w ↦
-          no_row s (c.args.left - 1) c.args.line.now one
-          (shows _ _ _ _ c.args.line.now _ false seen c.planned-gps.ensures c.planned-galileo.ensures w.if-not-is_read.true c.read_seen-is_read.ensures)
+          no_row s (c.args.left - 1) c.args.line.now one (shows c.args.line.now seen c.planned-gps.ensures c.planned-galileo.ensures w.if-not-is_read.true c.read_seen-is_read.ensures)
       | then-not-is_read-via-else-not-is_read+then-rank-self w ↦
-          let shown = shows _ _ _ _ c.args.line.now _ true seen c.planned-gps.ensures c.planned-galileo.ensures w.if-not-is_read.false c.read_seen-is_read.ensures in
+          let shown = shows c.args.line.now seen c.planned-gps.ensures c.planned-galileo.ensures w.if-not-is_read.false c.read_seen-is_read.ensures in
           bad_row s (c.args.left - 1) c.args.line.now one seen shown.2
-          (λ rise. let more = (increasing _ _ h.rows seen _ _ history.counted.rank shown.0 c.rank_of-rank.ensures).1 rise in omega (arith, more, w.if-rank-self.true))
+          (λ rise. let more = (increasing h.rows _ history.counted.rank shown.0 c.rank_of-rank.ensures).1 rise in omega (arith, more, w.if-rank-self.true))
     ]
 
 last_before : (all : List ℕ) (times : Option EpochTimes) (time : ℕ) → AreTimesOrNone all times → IsStrictlyIncreasing (all ++ time ∷ []) → IfSome times (λ t. t.last < time)
@@ -82,12 +81,12 @@ returns-then-left-gt1 c = λ h history.
     let s = progress_at c.args.self.now h in
     let seen = c.read_seen-is_read.new.seen in
     let (read, begun, some, room) = sound_open s c.args.left c.requires.expected history.sound in
-    let shown = shows _ _ _ _ c.args.line.now _ true seen c.planned-gps.ensures c.planned-galileo.ensures c.if-not-is_read.false c.read_seen-is_read.ensures in
-    let rise = (increasing _ _ h.rows seen _ _ history.counted.rank shown.0 c.rank_of-rank.ensures).0 c.if-rank-self.false in
+    let shown = shows c.args.line.now seen c.planned-gps.ensures c.planned-galileo.ensures c.if-not-is_read.false c.read_seen-is_read.ensures in
+    let rise = (increasing h.rows _ history.counted.rank shown.0 c.rank_of-rank.ensures).0 c.if-rank-self.false in
     let more : 0 < c.args.left - 1 = let n = c.if-left-gt1.true in omega (arith, n) in
     record {
       history = record {
-        sound = sound_row s (c.args.left - 1) c.args.left c.requires.expected history.sound seen shown.0 rise more (omega (arith, some));
+        sound = sound_row s (c.args.left - 1) c.requires.expected history.sound shown.0 rise more (omega (arith, some));
         counted =
             let old = history.counted in
             record {
@@ -123,13 +122,13 @@ returns c = λ h history.
     let s = progress_at c.args.self.now h in
     let seen = c.read_seen-is_read.new.seen in
     let (read, begun, some, room) = sound_open s c.args.left c.requires.expected history.sound in
-    let shown = shows _ _ _ _ c.args.line.now _ true seen c.planned-gps.ensures c.planned-galileo.ensures c.if-not-is_read.false c.read_seen-is_read.ensures in
-    let rise = (increasing _ _ h.rows seen _ _ history.counted.rank shown.0 c.rank_of-rank.ensures).0 c.if-rank-self.false in
+    let shown = shows c.args.line.now seen c.planned-gps.ensures c.planned-galileo.ensures c.if-not-is_read.false c.read_seen-is_read.ensures in
+    let rise = (increasing h.rows _ history.counted.rank shown.0 c.rank_of-rank.ensures).0 c.if-rank-self.false in
     let last : c.args.left ≡ suc 0 = let n = c.if-left-gt1.false in omega (arith, n, some) in
     let epoch = stamped_at c.args.self.now.change c.args.self.now.time (h.rows ++ seen ∷ []) in
     record {
       history = record {
-        sound = sound_closed s 0 c.args.left c.requires.expected history.sound seen shown.0 rise;
+        sound = sound_closed s 0 c.requires.expected history.sound shown.0 rise;
         counted =
             let old = history.counted in
             record {

@@ -13,8 +13,7 @@ few_lines lines taken n same size few = subst (λ (k : ℕ). k ≤ 2 ^ 32) (sym 
 
 pub returns-in_default-clause-goes : goal.returns-in_default-clause-goes
 returns-in_default-clause-goes g c = λ h input read.
-    too_long (progress_at c.args.self.now.parser_state h) c.args.self.now.count input _ _ c.next.new.self.line read.taken c.if-self-eq-MOST_LINES.true
-    (not_empty _ (sym c.if-not-is_empty.true ∙ c.is_empty.ensures)) c.next.ensures.taken.0
+    too_long _ c.next.new.self.line read.taken c.if-self-eq-MOST_LINES.true (not_empty _ (sym c.if-not-is_empty.true ∙ c.is_empty.ensures)) c.next.ensures.taken.0
 
 pub returns-in-End-clause-goes : goal.returns-in-End-clause-goes
 returns-in-End-clause-goes g c = λ h input read.
@@ -26,7 +25,7 @@ returns-in-End-clause-goes g c = λ h input read.
     record {
       is = file_read s expected read.history.sound some;
       few = few_lines _ read.taken.lines _ lines read.taken.many read.within.1;
-      text = whole lines_are_lines s c.args.self.now.count input _ _ c.next.new.self.line _ read.taken lines (is_empty _ c.if-is_empty.ensures) end.found.1 end.taken.0 (only_file s expected);
+      text = whole lines_are_lines _ read.taken lines (is_empty _ c.if-is_empty.ensures) end.found.1 end.taken.0 (only_file s expected);
       history = read.history;
       none = sound_rows s expected read.history.sound;
     }
@@ -35,20 +34,19 @@ pub returns-in-End-2-clause-goes : goal.returns-in-End-2-clause-goes
 returns-in-End-2-clause-goes g c = λ h input read.
     let parser_state = c.args.self.now.parser_state in
     let end = c.in-End.ensures in
-    cut lines_are_lines (progress_at parser_state h) c.args.self.now.count input _ _ c.next.new.self.line read.taken (begun _ _ _ _ read.taken read.history.sound) end.found.0 end.found.3 end.found.1 end.taken.0
+    cut lines_are_lines _ {bytes = c.next.new.self.line} read.taken (begun _ _ _ _ read.taken read.history.sound) end.found.0 end.found.3 end.found.1 end.taken.0
     (λ none. unfinished parser_state h read.history (judged c.may_end.result _ c.may_end.ensures c.if-may_end.false))
 
 pub returns-in-End-2-2-clause-goes : goal.returns-in-End-2-2-clause-goes
 returns-in-End-2-2-clause-goes g c = λ h input read.
     let end = c.in-End.ensures in
-    cut lines_are_lines (progress_at c.args.self.now.parser_state h) c.args.self.now.count input _ _ c.next.new.self.line read.taken (begun _ _ _ _ read.taken read.history.sound) end.found.0 end.found.3 end.found.1 end.taken.0
+    cut lines_are_lines _ {bytes = c.next.new.self.line} read.taken (begun _ _ _ _ read.taken read.history.sound) end.found.0 end.found.3 end.found.1 end.taken.0
     (λ none. let some = not_empty _ c.if-is_empty.ensures in let size = ap length none in absurd (omega (arith, some, size)))
 
 pub returns-in-Long-clause-goes : goal.returns-in-Long-clause-goes
 returns-in-Long-clause-goes g c = λ h input read.
     let long = c.in-Long.ensures in
-    both_said input _ _ _ c.fault_at-fault.ensures.faulty (over_long (progress_at c.args.self.now.parser_state h) c.args.self.now.count input _ _ c.next.new.self.line read.taken long.found.0 long.found.1 long.taken.0)
-    (expected_at c.args.self.now.parser_state h c.args.self.now.parser_state.expected c.args.self.now.count input _ read.taken refl read.history)
+    both_said input _ _ _ c.fault_at-fault.ensures.faulty (over_long _ c.next.new.self.line read.taken long.found.0 long.found.1 long.taken.0) (expected_at read.taken refl read.history)
 
 pub returns-in-Ok-clause-goes : goal.returns-in-Ok-clause-goes
 returns-in-Ok-clause-goes g c = λ h input read.
@@ -65,7 +63,7 @@ returns-in-Ok-clause-goes g c = λ h input read.
       | else-self-eq-MOST_LINES w ↦ omega (arith, few, w.if-self-eq-MOST_LINES.false)
     ] in (
       record {
-        taken = one_more old new c.args.self.now.count input _ _ line read.taken c.in-Line.ensures.found.0 c.in-Line.ensures.taken.0 (subst (GoesOnWithLine old new) c.line.ensures.line next.follows)
+        taken = one_more line read.taken c.in-Line.ensures.found.0 c.in-Line.ensures.taken.0 (subst (GoesOnWithLine old new) c.line.ensures.line next.follows)
             (subst (ShowsLine old new) c.line.ensures.line next.shows);
         history = next.history;
         within = (next.room _ room, less);
@@ -78,8 +76,8 @@ returns-in-Err-Bad-clause-goes g c = λ h input read.
     let s = progress_at c.args.self.now.parser_state h in
     let takes = subst (λ (r : Refusal). TakesLine c.args.self.now.parser_state c.take.new.self c.line.result.now (Err r)) c.in-Err-Bad.field-0-is c.in-Err-Bad.ensures in
     both_said input _ _ _ c.fault_at-fault.ensures.faulty
-    (refused lines_are_lines s c.args.self.now.count input _ _ c.next.new.self.line read.taken c.in-Line.ensures.found.0 c.in-Line.ensures.taken.0 (subst (RefusesLine s) c.line.ensures.line (takes h read.history)))
-    (expected_at c.args.self.now.parser_state h c.args.self.now.parser_state.expected c.args.self.now.count input _ read.taken refl read.history)
+    (refused lines_are_lines _ c.next.new.self.line read.taken c.in-Line.ensures.found.0 c.in-Line.ensures.taken.0 (subst (RefusesLine s) c.line.ensures.line (takes h read.history)))
+    (expected_at read.taken refl read.history)
 
 pub overflow_add-number : goal.overflow_add-number
 overflow_add-number g c = let (h, input, read) = c.requires in let few = read.within.1 in omega (arith, few)

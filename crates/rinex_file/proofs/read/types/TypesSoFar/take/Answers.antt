@@ -26,7 +26,7 @@ pub returns-then-is_same-clause-taken : goal.returns-then-is_same-clause-taken
 returns-then-is_same-clause-taken c =
     let count = c.in-Some.count in
     let read = c.in-Some.is in
-    row_taken c.args.system count c.args.self.now.count c.args.row c.args.line.now c.args.self.now.signals c.take_signals.new.signals
+    row_taken c.take_signals.new.signals
     (at_some _ count _ read c.read_count.ensures.few) (at_some _ count _ read c.read_count.ensures.rows) (at_some _ count _ read c.read_count.ensures.later) c.in_ok-take_signals.ensures.grows c.requires.begun c.in_ok-take_signals.ensures.size
     (λ all are begun. (
       λ is. c.in_ok-take_signals.ensures.taken all are begun is,
