@@ -2,7 +2,7 @@
 use Rattle.std.specs.Prelude.{IsErrAnd}
 use Rattle.gnss_obs.specs.Satellites.{satellites as satellites_in}
 use Rattle.rinex_file.proofs.Entries.{flat_map-append}
-use Rattle.rinex_file.proofs.Names.{arith, ◌≡◌, ◌∙◌, sym, ap, ap₂, refl, subst, ℕ, zero, suc, ◌+◌, ◌-◌, ◌≤◌, List, [], ◌∷◌, ◌++◌, length, append_assoc, append-nil, length-append, Option, Bool, true, false, Result, Ok, Err, OnOk, OnErr, map, if◌then◌else◌, IfErr, Appends, Appends-trans, Appends-nil, map-append, length-map, filter-append, AppendsPrefix, Device, FailsWith, HasFailed, System, Gps, Galileo, Cell, civil_of, PlanValue, EpochValue, is_written, written_among, satellites_written, joined, written_satellites, row_among, row_in_epoch, rows_of, satellite_line, epoch_line, StationValues, position_line, delta_line, event_line, event_text, line_among, line_or_none, lines_up_to, epoch_text}
+use Rattle.rinex_file.proofs.Names.{arith, ◌≡◌, ◌∙◌, sym, ap, ap₂, refl, subst, ℕ, zero, suc, ◌+◌, ◌-◌, ◌≤◌, List, [], ◌∷◌, ◌++◌, length, append_assoc, append-nil, length-append, Option, Bool, true, false, Result, Ok, Err, OnOk, OnErr, map, if◌then◌else◌, IfErr, Appends, Appends-trans, map-append, length-map, filter-append, AppendsPrefix, HasFailed, System, Gps, Galileo, Cell, civil_of, PlanValue, EpochValue, is_written, written_among, satellites_written, joined, written_satellites, row_among, row_in_epoch, rows_of, satellite_line, epoch_line, StationValues, position_line, delta_line, event_line, event_text, line_among, line_or_none, lines_up_to, epoch_text}
 
 -- a part of the first is a part of both
 pub part_first : (a c : Option (List ℕ)) {text : List ℕ} (next rest : List ℕ) → text ≡ next ++ rest → AppendsPrefix a c next → AppendsPrefix a c text

@@ -1,7 +1,7 @@
 use Rattle.rinex_file.proofs.Rows.Written.{signals_more, some_more}
 use Rattle.rinex_file.proofs.Rows.Cut.{filled_part, all_read}
 use Rattle.rinex_file.proofs.OneReading.{signal_at}
-use Rattle.rinex_file.proofs.Names.{arith, ◌≡◌, ◌∙◌, refl, sym, subst, ◌+◌, ◌*◌, ◌<◌, take, length, [], ◌∷◌, ◌++◌, All, slice_set, ap, get_or, drop, take_more_set, All-push, AreSignalValues, filled_to, no_signal_values}
+use Rattle.rinex_file.proofs.Names.{arith, ◌≡◌, ◌∙◌, sym, subst, ◌+◌, ◌*◌, ◌<◌, take, length, [], ◌∷◌, ◌++◌, All, slice_set, ap, get_or, drop, take_more_set, All-push, AreSignalValues, filled_to, no_signal_values}
 use Rattle.rinex_file.proofs.read.row.put_each_in.Goals as goal
 
 pub loop-i-preserved : goal.loop-i-preserved

@@ -1,6 +1,6 @@
 use Rattle.rinex_file.proofs.Rows.Cells.{HasPlace, first_columns, put_row}
 use Rattle.rinex_file.proofs.Rows.Sizes.{length-room}
-use Rattle.rinex_file.proofs.Names.{arith, ◌≡◌, ◌∙◌, ◌*◌, ◌-◌, ◌+◌, ◌++◌, ℕ, List, ap, sym, subst, length, take, drop, replicate, slice_set, length-take-le, HasSignals, signal_text}
+use Rattle.rinex_file.proofs.Names.{arith, ◌≡◌, ◌∙◌, ◌*◌, ◌-◌, ◌+◌, ◌++◌, ℕ, List, ap, sym, subst, length, take, drop, replicate, slice_set, length-take-le, HasSignals}
 use Rattle.rinex_file.proofs.write.satellite.put_columns.Goals as goal
 
 pub returns-clause-text : goal.returns-clause-text
