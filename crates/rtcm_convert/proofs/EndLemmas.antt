@@ -40,7 +40,7 @@ module _ {W : Type 0} (c : W → Option (List ℕ)) (v v' : FramerValue) (w w' :
       let l : v.taken ≤ v.limit = d.framer.within in
       record {
         over = after;
-        out = goes_on-trans (c o.inner) (c o'.inner) e _ _ _ p.1 q.0;
+        out = goes_on-trans p.1 q.0;
         epochs = q.1 ∙ whole_epochs (epochs_in s (frames_of bytes)) (length (frames_of bytes)) (length bytes) (epochs_few s (frames_of bytes)) (few bytes) (within v w s bytes d);
         tally = tally ∙ p.0.tally ∙ tally_whole (outcomes s (frames_of bytes)) (length bytes) p.0.few (subst (λ (k : ℕ). 6 * k ≤ length bytes) (sym n) (few bytes)) (within v w s bytes d);
         taken = taken ∙ t;
@@ -55,7 +55,7 @@ module _ {W : Type 0} (c : W → Option (List ℕ)) (v v' : FramerValue) (w w' :
       → (s : SetupValue) (bytes : List ℕ) → Drained v w s bytes → AppendsPrefixOfRest (c o.inner) e s bytes bytes
   ended_part e before after k rest s bytes d =
       let p = filed_all before after k s bytes d in
-      breaks_off-after (c o.inner) (c o'.inner) e _ _ _ p.1 (rest s (frames_of bytes) p.0)
+      breaks_off-after p.1 (rest s (frames_of bytes) p.0)
 
   -- no call of the device failed
   pub ended_fine : PassesKnown (Files c) v w o v' w' o' → (b : List ℕ) → HasPassedAll (Files c) v w o (known_frames v.has_ended b) w o b → (o'.failures ≡ o.failures) × (o'.widest ≡ o.widest)
@@ -65,19 +65,19 @@ so_far-file : FiledStays → (s : SetupValue) (fs : List Framed) → IsPrefix (s
 so_far-file stays s fs = subst (λ (l : List Framed). IsPrefix (so_far s fs) (file s l)) (append-nil fs) (stays s fs [])
 
 -- the device failed before
-pub drain_part : {W : Type 0} → (c : W → Option (List ℕ)) (v : FramerValue) (w w' : FileWriter) (o o' : Device W) → FiledStays → FiledGrows → v.has_ended ≡ false → BreaksKnown (Files c) (BreaksFiling c) true v w o w' o'
+pub drain_part : {W : Type 0} → (c : W → Option (List ℕ)) {v : FramerValue} {w w' : FileWriter} {o o' : Device W} → FiledStays → FiledGrows → v.has_ended ≡ false → BreaksKnown (Files c) (BreaksFiling c) true v w o w' o'
     → (s : SetupValue) (bytes : List ℕ) → Drained v w s bytes → AppendsPrefixOfRest (c o.inner) (c o'.inner) s bytes bytes
-drain_part c v w w' o o' stays grows before k s bytes d =
+drain_part c {v} {w} {w'} {o} {o'} stays grows before k s bytes d =
     let p : HasBroken (BreaksFiling c) true w o (known_frames v.has_ended bytes) w' o' (known_frames v.has_ended bytes) bytes =
     k w o (known_frames v.has_ended bytes) bytes (known_frames v.has_ended bytes) (record { framer = d.framer; taken = files_self c w o (known_frames v.has_ended bytes) }) in
     let j : known_frames v.has_ended bytes ≡ decided_frames bytes = ap (λ h. known_frames h bytes) before in
     let out : AppendsPrefixBetween (c o.inner) (c o'.inner) (so_far s (decided_frames bytes)) (so_far s p.reached) =
-    subst (λ (l : List Framed). AppendsPrefixBetween (c o.inner) (c o'.inner) (so_far s l) (so_far s p.reached)) j (up_to_whole (c o.inner) (c o'.inner) _ _ _ (p.broken.part s d.file_writer)) in
-    breaks_off-before (c o.inner) (c o'.inner) _ _ _ (breaks_off-before (c o.inner) (c o'.inner) _ _ _ out (so_far-front grows s p.reached (frames_of bytes) p.known)) (so_far-file stays s (frames_of bytes))
+    subst (λ (l : List Framed). AppendsPrefixBetween (c o.inner) (c o'.inner) (so_far s l) (so_far s p.reached)) j (up_to_whole (p.broken.part s d.file_writer)) in
+    breaks_off-before (breaks_off-before out (so_far-front grows s p.reached (frames_of bytes) p.known)) (so_far-file stays s (frames_of bytes))
 
-pub drain_failed : {W : Type 0} → (c : W → Option (List ℕ)) (v : FramerValue) (w w' : FileWriter) (o o' : Device W) → BreaksKnown (Files c) (BreaksFiling c) true v w o w' o' → (b : List ℕ)
+pub drain_failed : {W : Type 0} → (c : W → Option (List ℕ)) {v : FramerValue} {w w' : FileWriter} {o o' : Device W} → BreaksKnown (Files c) (BreaksFiling c) true v w o w' o' → (b : List ℕ)
     → HasPassedAll (Files c) v w o (known_frames v.has_ended b) w o b → HasFailed o.failures o'.failures × (o'.widest ≡ o.widest)
-drain_failed c v w w' o o' k b x = let p = k w o (known_frames v.has_ended b) b (known_frames v.has_ended b) x.passed in (p.broken.failed, p.broken.widest)
+drain_failed c {v} {w} {o = o} k b x = let p = k w o (known_frames v.has_ended b) b (known_frames v.has_ended b) x.passed in (p.broken.failed, p.broken.widest)
 
 -- the decided frames of some bytes are a prefix of the frames of more bytes, and of their decided frames
 abbrev pub FramesStay : Type 0

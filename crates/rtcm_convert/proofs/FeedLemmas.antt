@@ -75,8 +75,8 @@ some (suc n) m e h = omega (arith, e)
 abbrev pub KeepsAtEnd : Conversion → Type 0
 KeepsAtEnd x = (s : SetupValue) (b : List ℕ) → HasFinished x s b → IsKeptAtEnd s b (kept_of x)
 
-same_report : (m n k l : ℕ) (t u : Report) (d e : ℕ) → m ≡ n → k ≡ l → t ≡ u → d ≡ e → report_with m k t d ≡ report_with n l u e
-same_report m n k l t u d e p q r s = rw (p, q, r, s) refl
+same_report : {m n k l : ℕ} {t u : Report} {d e : ℕ} → m ≡ n → k ≡ l → t ≡ u → d ≡ e → report_with m k t d ≡ report_with n l u e
+same_report p q r s = rw (p, q, r, s) refl
 
 module _ (failed over : Bool) (v v' : FramerValue) (w w' : FileWriter) (a b : Option (List ℕ)) (ends : EndsBytes v w v' w' a b)
     (keeps : KeepsAtEnd (with_flags failed true v' w')) (within : IsWithinBounds v'.taken (kept_of (with_flags failed true v' w')))
@@ -108,7 +108,7 @@ module _ (failed over : Bool) (v v' : FramerValue) (w w' : FileWriter) (a b : Op
         out = p.out;
         sent = empty;
         some = some _ _ p.epochs not_empty;
-        report_is = is ∙ same_report _ _ _ _ _ _ _ _ (taken ∙ p.taken) (passed_over ∙ skipped) p.tally p.epochs;
+        report_is = is ∙ same_report (taken ∙ p.taken) (passed_over ∙ skipped) p.tally p.epochs;
         finished = f;
         kept = keeps s bytes f;
         bounds = subst (λ (k : ℕ). IsWithinBounds k (kept_of (with_flags failed true v' w'))) p.taken within;

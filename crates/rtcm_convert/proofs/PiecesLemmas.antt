@@ -22,25 +22,25 @@ pieces_split bytes pieces i = ap (flat_map bytes) (sym (take-append-drop i piece
 abbrev pub HasTaken : Conversion → Conversion → Option (List ℕ) → Option (List ℕ) → List ℕ → Type 0
 HasTaken v w a b front = (s : SetupValue) (bytes : List ℕ) → HasConverted v s bytes → HasConverted w s (bytes ++ front) × AppendsDecided a b s bytes (bytes ++ front)
 
-pub taken_then : (v w x : Conversion) (a b c : Option (List ℕ)) (front piece all : List ℕ) → front ++ piece ≡ all → HasTaken v w a b front → TakesPiece w x b c piece → HasTaken v x a c all
-taken_then v w x a b c front piece all more f g s bytes y =
+pub taken_then : {v w x : Conversion} {a b c : Option (List ℕ)} (front piece : List ℕ) {all : List ℕ} → front ++ piece ≡ all → HasTaken v w a b front → TakesPiece w x b c piece → HasTaken v x a c all
+taken_then {x} {a} {c} front piece {all} more f g s bytes y =
     let i = f s bytes y in
     let j = g s (bytes ++ front) i.0 in
     let e : (bytes ++ front) ++ piece ≡ bytes ++ all = append_assoc bytes front piece ∙ ap (λ l. bytes ++ l) more in
-    (subst (λ (l : List ℕ). HasConverted x s l) e j.converted, subst (λ (l : List ℕ). AppendsDecided a c s bytes l) e (goes_on-trans a b c _ _ _ i.1 j.out))
+    (subst (λ (l : List ℕ). HasConverted x s l) e j.converted, subst (λ (l : List ℕ). AppendsDecided a c s bytes l) e (goes_on-trans i.1 j.out))
 
-pub longer_by : (u v w : ℕ) (front piece all : List ℕ) → front ++ piece ≡ all → v ≡ u + length front → w ≡ v + length piece → w ≡ u + length all
-longer_by u v w front piece all more d e = let l : length all ≡ length front + length piece = ap length (sym more) ∙ length-append front piece in omega (arith, d, e, l)
+pub longer_by : (u : ℕ) {v w : ℕ} (front piece : List ℕ) {all : List ℕ} → front ++ piece ≡ all → v ≡ u + length front → w ≡ v + length piece → w ≡ u + length all
+longer_by u front piece {all} more d e = let l : length all ≡ length front + length piece = ap length (sym more) ∙ length-append front piece in omega (arith, d, e, l)
 
 module _ (v w x : Conversion) (a b c : Option (List ℕ)) (front : List ℕ) (came : HasTaken v w a b front) where
   -- ---- the end
 
   pub pieces_whole : {E : Type 0} (n all : List ℕ) (result : Result Report E) → front ≡ all → IfOk result (λ report. FinishesNow w x n b c report) → IfOk result (λ report. CompletesFile v x n a c report all)
-  pieces_whole n all (Ok report) e f = subst (CompletesFile v x n a c report) e (λ s bytes y. (let i = came s bytes y in completed_after x n a b c s bytes (bytes ++ front) report i.1 (f s (bytes ++ front) i.0)))
+  pieces_whole n all (Ok report) e f = subst (CompletesFile v x n a c report) e (λ s bytes y. (let i = came s bytes y in completed_after i.1 (f s (bytes ++ front) i.0)))
   pieces_whole n all (Err d) e f = tt
 
   pub pieces_empty : (n all : List ℕ) → front ≡ all → FinishesEmptyNow w x n b c → CompletesEmptyFile v x n a c all
-  pieces_empty n all e f = subst (CompletesEmptyFile v x n a c) e (λ s bytes y. (let i = came s bytes y in empty_after x n a b c s bytes (bytes ++ front) i.1 (f s (bytes ++ front) i.0)))
+  pieces_empty n all e f = subst (CompletesEmptyFile v x n a c) e (λ s bytes y. (let i = came s bytes y in empty_after i.1 (f s (bytes ++ front) i.0)))
 
   pub pieces_broke_at_end : {Z : Type 0} → (pieces : List (Vec ℕ Z)) → front ≡ joined_pieces pieces → StopsAtEnd w b c → StopsInPieces v a c pieces
   pieces_broke_at_end pieces e stop = inr (λ s bytes y.
@@ -55,7 +55,7 @@ module _ (v w x : Conversion) (a b c : Option (List ℕ)) (front : List ℕ) (ca
   pieces_long piece all rest same taken e q = record {
     adds = λ s bytes y.
         (let i = came s bytes y in
-        let out = goes_on-trans a b c _ _ _ i.1 (q.adds s (bytes ++ front) i.0) in
+        let out = goes_on-trans i.1 (q.adds s (bytes ++ front) i.0) in
         let whole : bytes ++ all ≡ ((bytes ++ front) ++ piece) ++ rest =
         ap (λ l. bytes ++ l) e ∙ sym (append_assoc bytes (front ++ piece) rest) ∙ ap (λ l. l ++ rest) (sym (append_assoc bytes front piece)) in
         let had : w.scan.taken ≡ length (bytes ++ front) = i.0.drained.framer.history.taken in
@@ -78,9 +78,9 @@ pub pieces_rest : {X : Type 0} (bytes : X → List ℕ) (pieces : List X) (i : �
 pieces_rest bytes pieces i piece more = pieces_split bytes pieces (i + 1) ∙ ap (λ l. l ++ flat_map bytes (drop (i + 1) pieces)) (sym more)
 
 -- the writer failed at a piece
-pub pieces_broke : {Z : Type 0} → (v w : Conversion) (a b c : Option (List ℕ)) (pieces : List (Vec ℕ Z)) (i : ℕ) (piece : List ℕ) → HasTaken v w a b (joined_pieces (take i pieces)) → i < length pieces
+pub pieces_broke : {Z : Type 0} {v w : Conversion} {a b c : Option (List ℕ)} (pieces : List (Vec ℕ Z)) (i : ℕ) (piece : List ℕ) → HasTaken v w a b (joined_pieces (take i pieces)) → i < length pieces
     → joined_pieces (take i pieces) ++ piece ≡ joined_pieces (take (i + 1) pieces) → WritesPrefixOfAdded w b c piece → StopsInPieces v a c pieces
-pieces_broke v w a b c pieces i piece came less more stop = inl (
+pieces_broke {b} {c} pieces i piece came less more stop = inl (
   i,
   less,
   λ s bytes y.

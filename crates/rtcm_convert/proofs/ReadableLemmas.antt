@@ -67,16 +67,16 @@ front plan es all p h =
 
 -- ---- their text
 
-text_valued : Known → (texts : HeaderLists) (plan : PlanValue) (es : List Closed) → AreTexts texts → AreSignals plan → AreGatheredEpochs plan es → AllByRecursion HasSatellite es
+text_valued : Known → {texts : HeaderLists} {plan : PlanValue} (es : List Closed) → AreTexts texts → AreSignals plan → AreGatheredEpochs plan es → AllByRecursion HasSatellite es
     → 0 < length es → HasValue (text_of_epochs texts plan es)
 unfolding text_of_epochs
-text_valued k texts plan [] x p h some none = absurd (omega (arith, none))
-text_valued k texts plan (e ∷ es) x p h some none =
+text_valued k [] x p h some none = absurd (omega (arith, none))
+text_valued k {texts} {plan} (e ∷ es) x p h some none =
     (gathered texts plan e.values (e ∷ es), record { is = k.gathered texts plan e es x p h some; same = k.text texts plan e es })
 
 with_valued : Known → (s : SetupValue) (es : List Closed) → AreSound s → AreGatheredEpochs s.gather.plan es → 0 < length (written_epochs es) → HasValue (text_with s es)
 with_valued k s es sound h =
-    text_valued k s.texts s.gather.plan (written_epochs es) sound.texts sound.plan
+    text_valued k (written_epochs es) sound.texts sound.plan
     (record { each = all_filter (IsGatheredEpoch s.gather.plan) (λ e. nat_lt 0 (satellites_written e.epoch)) es h.each; rise = rise_filter (λ e. nat_lt 0 (satellites_written e.epoch)) es h.rise })
     (written_some es)
 

@@ -2,7 +2,7 @@
 use Rattle.rtcm_convert.proofs.FeedLemmas.{with_flags, fed_whole, fed_long}
 use Rattle.rtcm_convert.proofs.PartLemmas.{goes_on-trans, up_to_earlier, up_to_later}
 use Rattle.rtcm_convert.proofs.StreamLemmas.{passed_here, piece_whole, so_far-front}
-use Rattle.rtcm_convert.proofs.Names.{◌≡◌, ℕ, List, ◌++◌, sym, ap, subst, ◌∙◌, Option, append_assoc, length, ◌+◌, ◌<◌, refl, Bool, true, false, true≢false, None, Some, arith, length-append, Result, Ok, Err, IfOk, IfSome, if◌then◌else◌, Consumes, IsAtEnd, Consumes-whole, Device, HasFailed, IsPrefix, decided_frames, Framed, known_frames, PassesToLimit, BreaksAfter, Reads, ReadsOn, FramerValue, SetupValue, so_far, AppendsUpTo, FiledGrows, FileWriter, Report, AppendsDecided, AppendsPrefixOfRest, BreaksFiling, Files, HasDrainedSome, Conversion, KeepsNow, IsGoing, refusal, HasConverted, TakesFromReader, IsPastLimit, CutsAtLimit, RanToFault, RanToLimit, Completed, CompletedEmpty, FinishesNow, FinishesEmptyNow, CompletesFile, CompletesEmptyFile, FailsFeeding, FailsFinishing, Failed, Finished}
+use Rattle.rtcm_convert.proofs.Names.{◌≡◌, ℕ, List, ◌++◌, ap, subst, ◌∙◌, Option, append_assoc, length, ◌+◌, ◌<◌, refl, Bool, true, false, None, Some, arith, length-append, IfSome, if◌then◌else◌, Consumes, IsAtEnd, Consumes-whole, Device, HasFailed, IsPrefix, decided_frames, Framed, known_frames, PassesToLimit, BreaksAfter, Reads, ReadsOn, FramerValue, SetupValue, so_far, AppendsUpTo, FiledGrows, FileWriter, Report, AppendsDecided, AppendsPrefixOfRest, BreaksFiling, Files, HasDrainedSome, Conversion, KeepsNow, IsGoing, refusal, HasConverted, TakesFromReader, IsPastLimit, CutsAtLimit, RanToFault, RanToLimit, Completed, CompletedEmpty, FinishesNow, FinishesEmptyNow, CompletesFile, CompletesEmptyFile, FailsFeeding, FailsFinishing, Failed, Finished}
 
 flags : (ended failed : Bool) → None ≡ (if ended then Some Finished else if failed then Some Failed else None) → (failed ≡ false) × (ended ≡ false)
 flags true failed e = absurd cc
@@ -13,28 +13,26 @@ flags false false e = (refl, refl)
 pub going_on : (v : Conversion) → None ≡ refusal v → IsGoing v
 going_on v e = let p = flags v.has_ended v.has_failed e in record { fine = p.0; more = p.1 }
 
-pub completed_after : (w : Conversion) (n : List ℕ) (a b c : Option (List ℕ)) (s : SetupValue) (x y : List ℕ) (report : Report) → AppendsDecided a b s x y → Completed w n b c s y y report → Completed w n a c s x y report
-completed_after w n a b c s x y report e f = record { out = goes_on-trans a b c _ _ _ e f.out; sent = f.sent; some = f.some; report_is = f.report_is; finished = f.finished; kept = f.kept; bounds = f.bounds }
+pub completed_after : {w : Conversion} {n : List ℕ} {a b c : Option (List ℕ)} {s : SetupValue} {x y : List ℕ} {report : Report} → AppendsDecided a b s x y → Completed w n b c s y y report → Completed w n a c s x y report
+completed_after e f = record { out = goes_on-trans e f.out; sent = f.sent; some = f.some; report_is = f.report_is; finished = f.finished; kept = f.kept; bounds = f.bounds }
 
-pub empty_after : (w : Conversion) (n : List ℕ) (a b c : Option (List ℕ)) (s : SetupValue) (x y : List ℕ) → AppendsDecided a b s x y → CompletedEmpty w n b c s y y → CompletedEmpty w n a c s x y
-empty_after w n a b c s x y e f = record { none = f.none; out = goes_on-trans a b c _ _ _ e f.out; sent = f.sent; finished = f.finished; kept = f.kept; bounds = f.bounds }
+pub empty_after : {w : Conversion} {n : List ℕ} {a b c : Option (List ℕ)} {s : SetupValue} {x y : List ℕ} → AppendsDecided a b s x y → CompletedEmpty w n b c s y y → CompletedEmpty w n a c s x y
+empty_after e f = record { none = f.none; out = goes_on-trans e f.out; sent = f.sent; finished = f.finished; kept = f.kept; bounds = f.bounds }
 
-pub ran_whole : {E : Type 0} (v w x : Conversion) (n : List ℕ) (r r' a b c : Option (List ℕ)) (result : Result Report E) → TakesFromReader v w r r' a b → IsAtEnd r' → IfOk result (λ report. FinishesNow w x n b c report)
-    → IfOk result (λ report. IfSome r (CompletesFile v x n a c report))
-ran_whole v w x n r r' a b c (Ok report) p e f =
+pub ran_whole : {v w x : Conversion} {n : List ℕ} {a b c : Option (List ℕ)} {report : Report} (r r' : Option (List ℕ)) → TakesFromReader v w r r' a b → IsAtEnd r' → FinishesNow w x n b c report → IfSome r (CompletesFile v x n a c report)
+ran_whole {v} {x = x} {n} {a} {c = c} {report} r r' p e f =
     Consumes-whole r r' p.0 (CompletesFile v x n a c report) p.1 e
-    (λ s bytes y. let i = p.3 s bytes y in completed_after x n a b c s bytes (bytes ++ p.0) report i.out (f s (bytes ++ p.0) i.converted))
-ran_whole v w x n r r' a b c (Err d) p e f = tt
+    (λ s bytes y. let i = p.3 s bytes y in completed_after i.out (f s (bytes ++ p.0) i.converted))
 
-pub run_finishing : (v w x : Conversion) (r r' a b c : Option (List ℕ)) → TakesFromReader v w r r' a b → IsAtEnd r' → x.scan.taken ≡ w.scan.taken
+pub run_finishing : {v w : Conversion} (x : Conversion) (r r' : Option (List ℕ)) {a b c : Option (List ℕ)} → TakesFromReader v w r r' a b → IsAtEnd r' → x.scan.taken ≡ w.scan.taken
     → ((s : SetupValue) (bytes : List ℕ) → HasConverted w s bytes → AppendsPrefixOfRest b c s bytes bytes) → FailsFinishing v x r r' a c
-run_finishing v w x r r' a b c p e same f =
+run_finishing x r r' {b} p e same f =
     (p.0, p.1, e, same ∙ p.2, λ s bytes y. let i = p.3 s bytes y in record { mid = b; before = i.out; last = f s (bytes ++ p.0) i.converted })
 
-pub ran_empty : (v w x : Conversion) (n : List ℕ) (r r' a b c : Option (List ℕ)) → TakesFromReader v w r r' a b → IsAtEnd r' → FinishesEmptyNow w x n b c → IfSome r (CompletesEmptyFile v x n a c)
-ran_empty v w x n r r' a b c p e f =
+pub ran_empty : {v w x : Conversion} {n : List ℕ} (r r' : Option (List ℕ)) {a b c : Option (List ℕ)} → TakesFromReader v w r r' a b → IsAtEnd r' → FinishesEmptyNow w x n b c → IfSome r (CompletesEmptyFile v x n a c)
+ran_empty {v} {x} {n} r r' {a} {c} p e f =
     Consumes-whole r r' p.0 (CompletesEmptyFile v x n a c) p.1 e
-    (λ s bytes y. let i = p.3 s bytes y in empty_after x n a b c s bytes (bytes ++ p.0) i.out (f s (bytes ++ p.0) i.converted))
+    (λ s bytes y. let i = p.3 s bytes y in empty_after i.out (f s (bytes ++ p.0) i.converted))
 
 longer : (n : ℕ) (bytes xs front ys : List ℕ) → n < length (bytes ++ front) → xs ≡ front ++ ys → n < length (bytes ++ xs)
 longer n bytes xs front ys lt e =
@@ -49,8 +47,8 @@ above (Some xs) None front P c f = absurd c
 above (Some xs) (Some ys) front P c f = f xs ys c
 
 -- the bytes read go over the limit
-pub ran_long : (v w : Conversion) (r r' a b : Option (List ℕ)) (front : List ℕ) → Consumes r r' front → CutsAtLimit v w a b front → RanToLimit v w r r' a b
-ran_long v w r r' a b front e k = record {
+pub ran_long : {v w : Conversion} (r r' : Option (List ℕ)) {a b : Option (List ℕ)} {front : List ℕ} → Consumes r r' front → CutsAtLimit v w a b front → RanToLimit v w r r' a b
+ran_long {v} r r' {front} e k = record {
   front = front;
   consumes = e;
   adds = k.adds;
@@ -62,14 +60,13 @@ ran_long v w r r' a b front e k = record {
       longer v.scan.limit bytes xs front ys (omega (arith, taken, all, over)) f);
 }
 
-failing_at : (a b : Option (List ℕ)) → FiledGrows → ((b t : List ℕ) → IsPrefix (decided_frames b) (decided_frames (b ++ t))) → (s : SetupValue) (bytes front piece : List ℕ) (e : Bool) (taken : List Framed)
-    → e ≡ false → IsPrefix (known_frames e (bytes ++ front)) taken
-    → AppendsUpTo a b (so_far s (known_frames e bytes)) (so_far s taken) (so_far s (known_frames e (bytes ++ (front ++ piece))))
+-- the known frames before the end are the decided ones
+failing_at : {a b : Option (List ℕ)} {m : List ℕ} {e : Bool} (s : SetupValue) (bytes front piece : List ℕ) → e ≡ false → IsPrefix (so_far s (decided_frames bytes)) (so_far s (decided_frames (bytes ++ front)))
+    → IsPrefix (so_far s (known_frames e (bytes ++ front))) m → AppendsUpTo a b (so_far s (known_frames e bytes)) m (so_far s (known_frames e (bytes ++ (front ++ piece))))
     → AppendsUpTo a b (so_far s (decided_frames bytes)) (so_far s (decided_frames (bytes ++ front))) (so_far s (decided_frames ((bytes ++ front) ++ piece)))
-failing_at a b grows frames s bytes front piece true taken before first f = absurd (true≢false before)
-failing_at a b grows frames s bytes front piece false taken before first f =
-    subst (λ (l : List ℕ). AppendsUpTo a b (so_far s (decided_frames bytes)) (so_far s (decided_frames (bytes ++ front))) (so_far s (decided_frames l))) (sym (append_assoc bytes front piece))
-    (up_to_earlier a b _ _ _ _ (so_far-front grows s (decided_frames bytes) (decided_frames (bytes ++ front)) (frames bytes front)) (so_far-front grows s (decided_frames (bytes ++ front)) taken first) f)
+failing_at {a} {b} {m} s bytes front piece before grows first f =
+    let first' : IsPrefix (so_far s (decided_frames (bytes ++ front))) m = subst (λ (e : Bool). IsPrefix (so_far s (known_frames e (bytes ++ front))) m) before first in
+    rw append_assoc (up_to_earlier grows first' (subst (λ (e : Bool). AppendsUpTo a b (so_far s (known_frames e bytes)) m (so_far s (known_frames e (bytes ++ (front ++ piece))))) before f))
 
 module _ {W : Type 0} (c : W → Option (List ℕ)) (failed over : Bool) (v v' : FramerValue) (w w' : FileWriter) (o o' : Device W) (r r' : Option (List ℕ)) where
   pub rest_taken : KeepsNow (with_flags failed over v' w') → v.has_ended ≡ false → v'.has_ended ≡ false → ReadsOn (Files c) v w o v' w' o' r r' → TakesFromReader (with_flags failed over v w) (with_flags failed over v' w') r r' (c o.inner) (c o'.inner)
@@ -79,7 +76,7 @@ module _ {W : Type 0} (c : W → Option (List ℕ)) (failed over : Bool) (v v' :
   rest_faulty before after p = (p.0, p.1, p.2.1, λ s bytes h. (piece_whole c v v' w w' o o' p.0 before after p.2.0 s bytes h.drained).1)
 
   pub rest_long : v.has_ended ≡ false → v'.has_ended ≡ false → Reads r r' (PassesToLimit (Files c) v w o v' w' o') → RanToLimit (with_flags failed over v w) (with_flags true over v' w') r r' (c o.inner) (c o'.inner)
-  rest_long before after p = ran_long (with_flags failed over v w) (with_flags true over v' w') r r' (c o.inner) (c o'.inner) p.0 p.1 (fed_long c failed over v v' w w' o o' p.0 before after p.2)
+  rest_long before after p = ran_long r r' p.1 (fed_long c failed over v v' w w' o o' p.0 before after p.2)
 
   pub rest_part : FiledGrows → ((b t : List ℕ) → IsPrefix (decided_frames b) (decided_frames (b ++ t))) → v.has_ended ≡ false → BreaksAfter (Files c) (BreaksFiling c) v w o v' w' o' 1029 r r'
       → FailsFeeding (with_flags failed over v w) (with_flags true over v' w') r r' (c o.inner) (c o'.inner)
@@ -92,8 +89,8 @@ module _ {W : Type 0} (c : W → Option (List ℕ)) (failed over : Bool) (v v' :
         let ps : List Framed = known_frames v.has_ended bytes in
         let here = passed_here c v w o bytes (record { framer = h.drained.framer; drained = h.drained.drained; counted = h.drained.counted }) in
         let k = p.breaks w o ps bytes here in
-        let f = up_to_later (c o.inner) (c o'.inner) _ _ _ _ (so_far-front grows s k.reached (known_frames v.has_ended (bytes ++ (p.front ++ p.piece))) k.known) (k.broken.part s h.drained.file_writer) in
-        let g = failing_at (c o.inner) (c o'.inner) grows frames s bytes p.front p.piece v.has_ended k.taken before k.first f in
+        let f = up_to_later (so_far-front grows s k.reached (known_frames v.has_ended (bytes ++ (p.front ++ p.piece))) k.known) (k.broken.part s h.drained.file_writer) in
+        let g = failing_at s bytes p.front p.piece before (so_far-front grows s (decided_frames bytes) (decided_frames (bytes ++ p.front)) (frames bytes p.front)) (so_far-front grows s (known_frames v.has_ended (bytes ++ p.front)) k.taken k.first) f in
         record { mid = g.mid; before = g.before; last = g.last; near = p.near w o ps bytes here },
   )
 

@@ -20,10 +20,10 @@ pub record Wrote (old new : FileWriter) (now : GathererValue) (a b : Option (Lis
   pub values : new.values ≡ values_after old.values (closed_in now) now.values
   pub out : Appends a b (added old.texts (plan_in now) old.values (closed_in now) now.values)
 
-pub wrote_all : (v w : FileWriter) (g : GathererValue) (a b : Option (List ℕ)) (s : SetupValue) (ms ms' : List Heard) (es : List Closed) (again again' : Option Heard)
+pub wrote_all : {v w : FileWriter} {g : GathererValue} {a b : Option (List ℕ)} {s : SetupValue} {ms ms' : List Heard} {es : List Closed} {again again' : Option Heard}
     → Wrote v w g a b → HasFiledEpochs v s ms es again → HasGatheredEpochs g s.gather ms' (es ++ closed_by (closed_in g) g.values) again'
     → (all : List Closed) × HasFiledEpochs w s ms' all again' × AppendsBetween a b (text_with s es) (text_with s all)
-wrote_all v w g a b s ms ms' es again again' o x y =
+wrote_all {w} {g} {a} {b} {s} {es} o x y =
     let out : Appends a b (added s.texts s.gather.plan (last es) (closed_in g) g.values) = rw (← x.texts, ← y.plan, ← x.values) o.out in (
       es ++ closed_by (closed_in g) g.values,
       record {
@@ -46,27 +46,27 @@ front_none : (g : GathererValue) (s : GatherSetup) (ms : List Heard) (es : List 
 front_none g s ms es going x = subst (λ (l : List Heard). Front g s l es) (append-nil ms) (front g s ms es None going x)
 
 -- the closed epochs are a prefix of those that the messages close
-closed_front : (v g : GathererValue) (k : Kind) (m : Heard) (s : GatherSetup) (ms : List Heard) (es : List Closed) (again : Option Heard)
+closed_front : {v g : GathererValue} {k : Kind} {m : Heard} {s : GatherSetup} {ms : List Heard} {es : List Closed} (again : Option Heard)
     → Took v g k m → IsAwaited again m → HasGatheredEpochs v s ms es again → Front g s (ms ++ m ∷ []) (es ++ closed_by (closed_in g) g.values)
-closed_front v g k m s ms es None t f x = elim (cases_Bool (is_close_first k)) [
+closed_front {g} {k} {m} {s} {ms} {es} None t f x = elim (cases_Bool (is_close_first k)) [
   | inl shut ↦ front g s ms _ (Some m) t.ended (t.first s ms es x shut)
   | inr kept ↦ front_none g s (ms ++ m ∷ []) _ t.ended (t.taken s ms es None x f kept)
 ]
-closed_front v g k m s ms es (Some n) t f x =
+closed_front {v} {g} {m} {s} {ms} {es} (Some n) t f x =
     let y : HasGatheredEpochs v s ms es (Some m) = subst (λ (q : Heard). HasGatheredEpochs v s ms es (Some q)) (sym f) x in
     front_none g s (ms ++ m ∷ []) _ t.ended (t.taken s ms es (Some n) x f (t.again s ms es y))
 
 -- the part added, in the terms of the definitions
-pub part_of : (v : FileWriter) (g : GathererValue) (a b : Option (List ℕ)) (s : SetupValue) (ms : List Heard) (es : List Closed) (again : Option Heard) → HasFiledEpochs v s ms es again → plan_in g ≡ s.gather.plan
+pub part_of : {v : FileWriter} (g : GathererValue) (a b : Option (List ℕ)) {s : SetupValue} {ms : List Heard} {es : List Closed} {again : Option Heard} → HasFiledEpochs v s ms es again → plan_in g ≡ s.gather.plan
     → AppendsPrefix a b (added v.texts (plan_in g) v.values (closed_in g) g.values) → AppendsPrefix a b (added s.texts s.gather.plan (last es) (closed_in g) g.values)
-part_of v g a b s ms es again x plan p = rw (← x.texts, ← plan, ← x.values) p
+part_of g a b x plan p = rw (← x.texts, ← plan, ← x.values) p
 
-pub wrote_part : (v : FileWriter) (g : GathererValue) (k : Kind) (m : Heard) (a b : Option (List ℕ))
+pub wrote_part : {v : FileWriter} {g : GathererValue} {k : Kind} {m : Heard} {a b : Option (List ℕ)}
     → Took v.gatherer g k m → AppendsPrefix a b (added v.texts (plan_in g) v.values (closed_in g) g.values)
     → (s : SetupValue) (ms : List Heard) (es : List Closed) (again : Option Heard) → IsAwaited again m → HasFiledEpochs v s ms es again
     → AppendsPrefixBetween a b (text_with s es) (text_with s (closed_epochs s.gather (ms ++ m ∷ [])))
-wrote_part v g k m a b t p s ms es again f x =
-    let c = closed_front v.gatherer g k m s.gather ms es again t f x.gatherer in
-    let out : AppendsPrefix a b (added s.texts s.gather.plan (last es) (closed_in g) g.values) = part_of v g a b s ms es again x c.0 p in
-    breaks_off-before a b _ (text_with s (es ++ closed_by (closed_in g) g.values)) _ (breaks_off-by a b _ _ _ (text-closed s es (closed_in g) g.values) out)
+wrote_part {g} {a} {b} t p s ms es again f x =
+    let c = closed_front again t f x.gatherer in
+    let out : AppendsPrefix a b (added s.texts s.gather.plan (last es) (closed_in g) g.values) = part_of g a b x c.0 p in
+    breaks_off-before (breaks_off-by a b _ _ _ (text-closed s es (closed_in g) g.values) out)
     (text-more s _ _ c.1)

@@ -15,7 +15,7 @@ module _ {W : Type 0} (c : W → Option (List ℕ)) where
   files_more v v' o o' f t fine widest v0 o0 ps fs x = record {
     fine = fine ∙ x.fine;
     widest = widest ∙ x.widest;
-    files = λ s y. (let p = x.files s y in let q = t s fs p.0 in (q.0, goes_on-trans (c o0.inner) (c o.inner) (c o'.inner) _ _ _ p.1 q.1));
+    files = λ s y. (let p = x.files s y in let q = t s fs p.0 in (q.0, goes_on-trans p.1 q.1));
   }
 
   pub files_part : (v v' : FileWriter) (o o' : Device W) (f : Framed) → BreaksInFrame v f (c o.inner) (c o'.inner) → HasFailed o.failures o'.failures → o'.widest ≡ o.widest
@@ -31,7 +31,7 @@ module _ {W : Type 0} (c : W → Option (List ℕ)) where
   files_unsent v0 v o0 o o' ps fs k failed widest x = record {
     failed = subst (λ (n : ℕ). HasFailed n o'.failures) x.fine failed;
     widest = widest ∙ x.widest;
-    part = λ s y. record { mid = c o'.inner; before = goes_on-kept (c o0.inner) (c o.inner) (c o'.inner) _ _ (x.files s y).1 k; last = goes_on-front (c o'.inner) (c o'.inner) _ _ (goes_on-refl (c o'.inner) (so_far s fs)) };
+    part = λ s y. record { mid = c o'.inner; before = goes_on-kept (x.files s y).1 k; last = goes_on-front (goes_on-refl (c o'.inner) (so_far s fs)) };
   }
 
   -- all known frames were passed on
@@ -61,7 +61,7 @@ module _ {W : Type 0} (c : W → Option (List ℕ)) where
       → (s : SetupValue) (bytes : List ℕ) → Drained v w s bytes → AppendsPrefixOfDecided (c o.inner) (c o'.inner) s bytes (bytes ++ piece)
   piece_part grows v w w' o o' piece before k s bytes d =
       let p = k w o (known_frames v.has_ended bytes) bytes (passed_here v w o bytes (scan_of v w s bytes d)) in
-      let q = breaks_off-before (c o.inner) (c o'.inner) _ _ _ (up_to_whole (c o.inner) (c o'.inner) _ _ _ (p.broken.part s d.file_writer)) (so_far-front grows s p.reached (known_frames v.has_ended (bytes ++ piece)) p.known) in
+      let q = breaks_off-before (up_to_whole (p.broken.part s d.file_writer)) (so_far-front grows s p.reached (known_frames v.has_ended (bytes ++ piece)) p.known) in
       subst (λ (e : Bool). AppendsPrefixBetween (c o.inner) (c o'.inner) (so_far s (known_frames e bytes)) (so_far s (known_frames e (bytes ++ piece)))) before q
 
   -- the device after a piece, of which all known frames were passed on

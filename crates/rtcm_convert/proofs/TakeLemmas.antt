@@ -19,24 +19,24 @@ Goes a b s ms ns = AppendsBetween a b (text_with s (closed_epochs s.gather ms)) 
 abbrev pub Breaks : Option (List ℕ) → Option (List ℕ) → SetupValue → List Heard → List Heard → Type 0
 Breaks a b s ms ns = AppendsPrefixBetween a b (text_with s (closed_epochs s.gather ms)) (text_with s (closed_epochs s.gather ns))
 
-pub settle : (w : FileWriter) (s : SetupValue) (ms : List Heard) (a b : Option (List ℕ)) (es : List Closed) → w.gatherer.has_ended ≡ false
+pub settle : {w : FileWriter} {s : SetupValue} {ms : List Heard} {a b : Option (List ℕ)} (es : List Closed) → w.gatherer.has_ended ≡ false
     → Written w s ms None a b es → Settled w s ms × AppendsBetween a b (text_with s es) (text_with s (closed_epochs s.gather ms))
-settle w s ms a b es going p =
+settle {w} {s} {ms} {a} {b} es going p =
     let e : p.0 ≡ closed_epochs s.gather ms = p.1.gatherer.epochs refl ∙ ap (λ e. known_epochs e s.gather ms) going in
     (subst (λ (all : List Closed). HasFiledEpochs w s ms all None) e p.1, subst (λ (all : List Closed). AppendsBetween a b (text_with s es) (text_with s all)) e p.2)
 
-pub settle_again : (v w x : FileWriter) (s : SetupValue) (ms ns : List Heard) (m : Heard) (a b c : Option (List ℕ)) → x.gatherer.has_ended ≡ false
+pub settle_again : {w x : FileWriter} {s : SetupValue} {ms ns : List Heard} {m : Heard} {a b c : Option (List ℕ)} → x.gatherer.has_ended ≡ false
     → (first : Written w s ms (Some m) a b (closed_epochs s.gather ms)) → Written x s ns None b c first.0 → Settled x s ns × Goes a c s ms ns
-settle_again v w x s ms ns m a b c going first p =
-    let q = settle x s ns b c first.0 going p in
-    (q.0, goes_on-trans a b c _ _ _ first.2 q.1)
+settle_again going first p =
+    let q = settle first.0 going p in
+    (q.0, goes_on-trans first.2 q.1)
 
-pub part_alone : (v : FileWriter) (m : Heard) (a b : Option (List ℕ)) → IsPart v m a b → (s : SetupValue) (ms : List Heard) → Settled v s ms → Breaks a b s ms (ms ++ m ∷ [])
-part_alone v m a b p s ms x = p s ms (closed_epochs s.gather ms) None tt x
+pub part_alone : {v : FileWriter} {m : Heard} {a b : Option (List ℕ)} → IsPart v m a b → (s : SetupValue) (ms : List Heard) → Settled v s ms → Breaks a b s ms (ms ++ m ∷ [])
+part_alone p s ms x = p s ms (closed_epochs s.gather ms) None tt x
 
-pub part_again : (w : FileWriter) (m : Heard) (a b c : Option (List ℕ)) (s : SetupValue) (ms : List Heard)
+pub part_again : {w : FileWriter} {m : Heard} {a b c : Option (List ℕ)} {s : SetupValue} {ms : List Heard}
     → Written w s ms (Some m) a b (closed_epochs s.gather ms) → IsPart w m b c → Breaks a c s ms (ms ++ m ∷ [])
-part_again w m a b c s ms first p = breaks_off-after a b c _ _ _ first.2 (p s ms first.0 (Some m) refl first.1)
+part_again {m} {s} {ms} first p = breaks_off-after first.2 (p s ms first.0 (Some m) refl first.1)
 
 -- the messages of one more frame
 messages_more : (fs : List Framed) (f : Framed) (m : Message) → message_at f.message ≡ Ok m → messages_of (fs ++ f ∷ []) ≡ messages_of fs ++ heard m ∷ []
@@ -78,8 +78,8 @@ tally_more os o =
     let crowded = total_one (λ t. t.crowded) os o in
     cc
 
-tally_one : (s : SetupValue) (fs : List Framed) (f : Framed) (r r' : Report) (o : Option Kind) → o ≡ outcome s fs f → r ≡ capped_tally (tally_of (outcomes s fs)) → r' ≡ tallies_added r (tally_of_one o) → r' ≡ capped_tally (tally_of (outcomes s (fs ++ f ∷ [])))
-tally_one s fs f r r' o is old new =
+tally_one : (s : SetupValue) (fs : List Framed) (f : Framed) {r r' : Report} {o : Option Kind} → o ≡ outcome s fs f → r ≡ capped_tally (tally_of (outcomes s fs)) → r' ≡ tallies_added r (tally_of_one o) → r' ≡ capped_tally (tally_of (outcomes s (fs ++ f ∷ [])))
+tally_one s fs f {o} is old new =
     new ∙ ap (λ x. tallies_added x (tally_of_one o)) old ∙ tally_more (outcomes s fs) o ∙ ap (λ x. capped_tally (tally_of (outcomes s fs ++ x ∷ []))) is ∙ ap (λ l. capped_tally (tally_of l)) (sym (outcomes_after-one s [] fs f))
 
 -- one more frame has few cells, too, so that no count is capped
@@ -93,40 +93,40 @@ outcome_ok s fs f m k e is = rw e (ap Some is)
 outcome_err : (s : SetupValue) (fs : List Framed) (f : Framed) (d : MsgFault) → message_at f.message ≡ Err d → None ≡ outcome s fs f
 outcome_err s fs f d e = rw e refl
 
-pub files_more : (v w x : FileWriter) (s : SetupValue) (fs : List Framed) (f : Framed) (m : Message) (k : Kind) (a b : Option (List ℕ)) → message_at f.message ≡ Ok m → IsMessage m
+pub files_more : {v w x : FileWriter} {s : SetupValue} {fs : List Framed} (f : Framed) {m : Message} {k : Kind} {a b : Option (List ℕ)} → message_at f.message ≡ Ok m → IsMessage m
     → ((s : SetupValue) (ms : List Heard) → Settled v s ms → Settled w s (ms ++ heard m ∷ []) × Goes a b s ms (ms ++ heard m ∷ []))
     → ((s : SetupValue) (ms : List Heard) → Settled v s ms → k ≡ kind_of s.gather ms (heard m))
     → w.tally ≡ v.tally → x ≡ record w { tally = tallies_added w.tally (tally_of_one (Some k)) }
     → HasFiledFrames v s fs → HasFiledFrames x s (fs ++ f ∷ []) × AppendsBetween a b (so_far s fs) (so_far s (fs ++ f ∷ []))
-files_more v w x s fs f m k a b e valid t kind same now y =
+files_more {w} {s} {fs} f {m} {k} {a} {b} e valid t kind same now y =
     let p = t s (messages_of fs) y.settled in
     let ms = sym (messages_more fs f m e) in
     let z : Settled w s (messages_of (fs ++ f ∷ [])) = subst (λ (ms : List Heard). Settled w s ms) ms p.0 in (
       rw now record {
         settled = record { texts = z.texts; gatherer = z.gatherer; epochs = z.epochs; values = z.values };
-        tally = tally_one s fs f w.tally _ (Some k) (outcome_ok s fs f m k e (kind s (messages_of fs) y.settled)) (same ∙ y.tally) refl;
+        tally = tally_one s fs f (outcome_ok s fs f m k e (kind s (messages_of fs) y.settled)) (same ∙ y.tally) refl;
         few = few_one s fs f (Some (kind_of s.gather (messages_of fs) (heard m))) (outcome_ok s fs f m _ e refl) y.few (message_few s.gather (messages_of fs) m valid);
       },
       subst (λ (ns : List Heard). Goes a b s (messages_of fs) ns) ms p.1,
     )
 
-pub files_same : (v x : FileWriter) (s : SetupValue) (fs : List Framed) (f : Framed) (d : MsgFault) (a : Option (List ℕ)) → message_at f.message ≡ Err d → x ≡ record v { tally = tallies_added v.tally (tally_of_one None) }
+pub files_same : {v x : FileWriter} {s : SetupValue} {fs : List Framed} (f : Framed) {d : MsgFault} {a : Option (List ℕ)} → message_at f.message ≡ Err d → x ≡ record v { tally = tallies_added v.tally (tally_of_one None) }
     → HasFiledFrames v s fs → HasFiledFrames x s (fs ++ f ∷ []) × AppendsBetween a a (so_far s fs) (so_far s (fs ++ f ∷ []))
-files_same v x s fs f d a e now y =
+files_same {v} {s} {fs} f {d} {a} e now y =
     let ms = sym (messages_same fs f d e) in
     let z : Settled v s (messages_of (fs ++ f ∷ [])) = subst (λ (ms : List Heard). Settled v s ms) ms y.settled in (
       rw now record {
         settled = record { texts = z.texts; gatherer = z.gatherer; epochs = z.epochs; values = z.values };
-        tally = tally_one s fs f v.tally _ None (outcome_err s fs f d e) y.tally refl;
+        tally = tally_one s fs f (outcome_err s fs f d e) y.tally refl;
         few = few_one s fs f None (outcome_err s fs f d e) y.few refused_few;
       },
       subst (λ (ns : List Heard). Goes a a s (messages_of fs) ns) ms (goes_on-refl a _),
     )
 
-pub files_part : (v : FileWriter) (f : Framed) (m : Message) (a b : Option (List ℕ)) → message_at f.message ≡ Ok m
+pub files_part : {v : FileWriter} (f : Framed) {m : Message} {a b : Option (List ℕ)} → message_at f.message ≡ Ok m
     → ((s : SetupValue) (ms : List Heard) → Settled v s ms → Breaks a b s ms (ms ++ heard m ∷ []))
     → (s : SetupValue) (fs : List Framed) → HasFiledFrames v s fs → AppendsPrefixBetween a b (so_far s fs) (so_far s (fs ++ f ∷ []))
-files_part v f m a b e t s fs x =
+files_part f {m} {a} {b} e t s fs x =
     subst (λ (ns : List Heard). Breaks a b s (messages_of fs) ns) (sym (messages_more fs f m e)) (t s (messages_of fs) x.settled)
 
 -- the rest of the file
@@ -137,7 +137,7 @@ file_whole v w g a b o over t s fs x =
     let ms = messages_of fs in
     let es = closed_epochs s.gather ms in
     let now = t s.gather ms es x.settled.gatherer in
-    let p = wrote_all v w g a b s ms ms es None None o x.settled now in
+    let p = wrote_all o x.settled now in
     let e : p.0 ≡ all_epochs s.gather ms = p.1.gatherer.epochs refl ∙ ap (λ (h : GathererValue). known_epochs h.has_ended s.gather ms) o.gatherer ∙ ap (λ h. known_epochs h s.gather ms) over in (
       subst (λ (all : List Closed). AppendsBetween a b (so_far s fs) (text_with s all)) e p.2,
       p.1.epochs ∙ ap count e,
@@ -148,34 +148,34 @@ file_whole v w g a b o over t s fs x =
       },
     )
 
-pub file_part : (v : FileWriter) (g : GathererValue) (a b : Option (List ℕ)) → AppendsPrefix a b (added v.texts (plan_in g) v.values (closed_in g) g.values) → g.has_ended ≡ true
+pub file_part : {v : FileWriter} {g : GathererValue} {a b : Option (List ℕ)} → AppendsPrefix a b (added v.texts (plan_in g) v.values (closed_in g) g.values) → g.has_ended ≡ true
     → ((s : GatherSetup) (ms : List Heard) (es : List Closed) → HasGatheredEpochs v.gatherer s ms es None → HasGatheredEpochs g s ms (es ++ closed_by (closed_in g) g.values) None)
     → (s : SetupValue) (fs : List Framed) → HasFiledFrames v s fs → AppendsPrefixBetween a b (so_far s fs) (file s fs)
-file_part v g a b p over t s fs x =
+file_part {g} {a} {b} p over t s fs x =
     let ms = messages_of fs in
     let es = closed_epochs s.gather ms in
     let now = t s.gather ms es x.settled.gatherer in
     let e : es ++ closed_by (closed_in g) g.values ≡ all_epochs s.gather ms = now.epochs refl ∙ ap (λ h. known_epochs h s.gather ms) over in
-    let out : AppendsPrefix a b (added s.texts s.gather.plan (last es) (closed_in g) g.values) = part_of v g a b s ms es None x.settled now.plan p in
+    let out : AppendsPrefix a b (added s.texts s.gather.plan (last es) (closed_in g) g.values) = part_of g a b x.settled now.plan p in
     subst (λ (all : List Closed). AppendsPrefixBetween a b (so_far s fs) (text_with s all)) e (breaks_off-by a b _ _ _ (text-closed s es (closed_in g) g.values) out)
 
 -- a message that is passed twice
-pub taken_again : {E : Type 0} (v w x : FileWriter) (m : Heard) (a b c : Option (List ℕ)) (r : Result Kind E) → x.gatherer.has_ended ≡ false
+pub taken_again : {E : Type 0} {v w : FileWriter} (x : FileWriter) {m : Heard} {a b : Option (List ℕ)} (c : Option (List ℕ)) (r : Result Kind E) → x.gatherer.has_ended ≡ false
     → ((s : SetupValue) (ms : List Heard) (es : List Closed) → HasFiledEpochs v s ms es None → Written w s ms (Some m) a b es)
     → IfOk r (λ k. is_close_first k ≡ false → (s : SetupValue) (ms : List Heard) (es : List Closed) (again : Option Heard) → IsAwaited again m → HasFiledEpochs w s ms es again → Written x s (ms ++ m ∷ []) None b c es)
     → IfOk r (λ k. (s : SetupValue) (ms : List Heard) (es : List Closed) → HasFiledEpochs w s ms es (Some m) → is_close_first k ≡ false)
     → OnOk r ((s : SetupValue) (ms : List Heard) → Settled v s ms → Settled x s (ms ++ m ∷ []) × Goes a c s ms (ms ++ m ∷ []))
-taken_again v w x m a b c (Ok k) going first taken again = λ s ms y.
+taken_again {v} {w} x {m} {a} {b} c (Ok k) going first taken again = λ s ms y.
     let one : Written w s ms (Some m) a b (closed_epochs s.gather ms) = first s ms (closed_epochs s.gather ms) y in
-    settle_again v w x s ms (ms ++ m ∷ []) m a b c going one (taken (again s ms one.0 one.1) s ms one.0 (Some m) refl one.1)
-taken_again v w x m a b c (Err e) going first taken again = tt
+    settle_again going one (taken (again s ms one.0 one.1) s ms one.0 (Some m) refl one.1)
+taken_again x c (Err e) going first taken again = tt
 
-pub kind_again : {E : Type 0} (v w : FileWriter) (m : Heard) (a b : Option (List ℕ)) (r : Result Kind E)
+pub kind_again : {E : Type 0} {v w : FileWriter} {m : Heard} {a b : Option (List ℕ)} (r : Result Kind E)
     → ((s : SetupValue) (ms : List Heard) (es : List Closed) → HasFiledEpochs v s ms es None → Written w s ms (Some m) a b es)
     → IfOk r (λ k. is_close_first k ≡ false → (s : SetupValue) (ms : List Heard) (es : List Closed) (again : Option Heard) → IsAwaited again m → HasFiledEpochs w s ms es again → k ≡ kind_of s.gather ms m)
     → IfOk r (λ k. (s : SetupValue) (ms : List Heard) (es : List Closed) → HasFiledEpochs w s ms es (Some m) → is_close_first k ≡ false)
     → IfOk r (λ k. (s : SetupValue) (ms : List Heard) → Settled v s ms → k ≡ kind_of s.gather ms m)
-kind_again v w m a b (Ok k) first kind again = λ s ms y.
+kind_again {w} {m} {a} {b} (Ok k) first kind again = λ s ms y.
     let one : Written w s ms (Some m) a b (closed_epochs s.gather ms) = first s ms (closed_epochs s.gather ms) y in
     kind (again s ms one.0 one.1) s ms one.0 (Some m) refl one.1
-kind_again v w m a b (Err e) first kind again = tt
+kind_again (Err e) first kind again = tt

@@ -1,6 +1,5 @@
 -- The text of a file, epoch by epoch.
-use Rattle.rtcm_convert.proofs.PartLemmas.{prefix_more, prefix_after}
-use Rattle.rtcm_convert.proofs.Names.{◌≡◌, ℕ, List, [], ◌∷◌, ◌++◌, Bool, true, false, refl, sym, ap, subst, ◌∙◌, arith, Option, Some, None, append_assoc, append-nil, nat_lt, length, length-append, ◌+◌, ◌==◌, if◌then◌else◌, int_eq_equiv, filter-append, filter_map-append, Appends, AppendsPrefix, Framed, IsPrefix, PlanValue, EpochValue, Closed, same_values, satellites_written, StationValues, GatherSetup, Heard, closed_epochs, all_epochs, closed_by, HeaderLists, header_text, epoch_text, event_text, change_text, closed_text, file_text, gathered, SetupValue, messages_of, written_epochs, text_of_epochs, text_with, so_far, file, capped, opening, added, epochs_after, values_after, values_following_closed, last_values}
+use Rattle.rtcm_convert.proofs.Names.{◌≡◌, ℕ, List, [], ◌∷◌, ◌++◌, Bool, true, false, refl, sym, ap, subst, ◌∙◌, arith, Option, Some, None, append_assoc, append-nil, nat_lt, length, length-append, ◌+◌, ◌==◌, if◌then◌else◌, int_eq_equiv, filter-append, filter_map-append, Framed, IsPrefix, PlanValue, EpochValue, Closed, same_values, satellites_written, StationValues, GatherSetup, Heard, closed_epochs, all_epochs, closed_by, HeaderLists, header_text, epoch_text, event_text, change_text, closed_text, file_text, gathered, SetupValue, messages_of, written_epochs, text_of_epochs, text_with, so_far, file, capped, opening, added, epochs_after, values_after, values_following_closed, last_values}
 
 -- a capped count that is increased
 pub cap_more : (n k : ℕ) → capped (capped n + k) ≡ capped (n + k)
@@ -117,34 +116,22 @@ so_far-all stay s fs more =
     (rw filter_map-append (stay s.gather (messages_of fs) (messages_of more)))
 
 -- the text before an epoch: the header
-pub opening_first : (P : List ℕ → Type 0) (t : HeaderLists) (p q : PlanValue) (n : Option StationValues) (e : EpochValue) (v w : StationValues) (k : ℕ)
+pub opening_first : {p q : PlanValue} {n : Option StationValues} {v w : StationValues} {k : ℕ} (P : List ℕ → Type 0) (t : HeaderLists) (e : EpochValue)
     → n ≡ None → q ≡ p → w ≡ v → k ≡ e.time → P (header_text t q w k) → P (opening t p n e v)
-opening_first P t p q n e v w k none plan values time x =
+opening_first {p} {v = v} P t e none plan values time x =
     subst (λ (o : Option StationValues). P (opening t p o e v)) (sym none) (rw (← plan, ← values, ← time) x)
 
 -- the same: an event, or nothing
-pub opening_later : (P : List ℕ → Type 0) (t : HeaderLists) (p : PlanValue) (n : Option StationValues) (e : EpochValue) (v before w : StationValues) (b : Bool)
+pub opening_later : {n : Option StationValues} {v before w : StationValues} {b : Bool} (P : List ℕ → Type 0) (t : HeaderLists) (p : PlanValue) (e : EpochValue)
     → n ≡ Some before → w ≡ v → same_values before w ≡ b → P (if b then [] else event_text w) → P (opening t p n e v)
-opening_later P t p n e v before w b last values same x =
+opening_later {v = v} {before} {w} P t p e last values same x =
     subst (λ (o : Option StationValues). P (opening t p o e v)) (sym last) (subst (λ (u : StationValues). P (change_text before u)) values
     (subst (λ (s : Bool). P (if s then [] else event_text w)) (sym same) x))
 
 -- what an epoch with a satellite adds
-added_is : (t : HeaderLists) (p : PlanValue) (n : Option StationValues) (o : Option EpochValue) (e : EpochValue) (v : StationValues) → Some e ≡ o → nat_lt 0 (satellites_written e) ≡ true
+added_is : {e : EpochValue} {o : Option EpochValue} (t : HeaderLists) (p : PlanValue) (n : Option StationValues) (v : StationValues) → Some e ≡ o → nat_lt 0 (satellites_written e) ≡ true
     → added t p n o v ≡ opening t p n e v ++ epoch_text p e
-added_is t p n o e v is some = sym (ap (λ q. added t p n q v) is) ∙ ap (λ (b : Bool). if b then opening t p n e v ++ epoch_text p e else []) some
-
--- the writer failed in the text before the epoch
-part_open : (a b : Option (List ℕ)) (t : HeaderLists) (p : PlanValue) (n : Option StationValues) (o : Option EpochValue) (e : EpochValue) (v : StationValues) → Some e ≡ o → nat_lt 0 (satellites_written e) ≡ true
-    → AppendsPrefix a b (opening t p n e v) → AppendsPrefix a b (added t p n o v)
-part_open a b t p n o e v is some x = rw (added_is t p n o e v is some) (prefix_more a b (opening t p n e v) (epoch_text p e) x)
-
--- the writer failed in the epoch
-part_epoch : (a b c : Option (List ℕ)) (t : HeaderLists) (p q : PlanValue) (n : Option StationValues) (o : Option EpochValue) (e : EpochValue) (v : StationValues) → Some e ≡ o → nat_lt 0 (satellites_written e) ≡ true → q ≡ p
-    → Appends a b (opening t p n e v) → AppendsPrefix b c (epoch_text q e) → AppendsPrefix a c (added t p n o v)
-part_epoch a b c t p q n o e v is some same first x =
-    let y : AppendsPrefix b c (epoch_text p e) = subst (λ (r : PlanValue). AppendsPrefix b c (epoch_text r e)) same x in
-    rw (added_is t p n o e v is some) (prefix_after a b c (opening t p n e v) (epoch_text p e) first y)
+added_is {e} t p n v is some = sym (ap (λ q. added t p n q v) is) ∙ ap (λ (b : Bool). if b then opening t p n e v ++ epoch_text p e else []) some
 
 -- the epoch that the gatherer returns is the one that it closed last, with the known station values
 lent : (e : Closed) (o : Option EpochValue) (v : StationValues) → e ∷ [] ≡ closed_by o v → (Some e.epoch ≡ o) × (e.values ≡ v)
@@ -153,17 +140,12 @@ lent e (Some x) v h = same h where
   same : e ∷ [] ≡ record { epoch = x; values = v } ∷ [] → (Some e.epoch ≡ Some x) × (e.values ≡ v)
   same h = let is : e ≡ record { epoch = x; values = v } = cc in (ap (λ (c : Closed). Some c.epoch) is, ap (λ (c : Closed). c.values) is)
 
--- the same for the epoch that the gatherer returns
-module _ (t : HeaderLists) (p : PlanValue) (n : Option StationValues) (o : Option EpochValue) (e : Closed) (v : StationValues) (is : e ∷ [] ≡ closed_by o v) (some : nat_lt 0 (satellites_written e.epoch) ≡ true) where
-  pub open_lent : (a b : Option (List ℕ)) → AppendsPrefix a b (opening t p n e.epoch e.values) → AppendsPrefix a b (added t p n o v)
-  open_lent a b x =
-      let l = lent e o v is in
-      subst (λ (w : StationValues). AppendsPrefix a b (added t p n o w)) l.1 (part_open a b t p n o e.epoch e.values l.0 some x)
-
-  pub part_lent : (a b c : Option (List ℕ)) (q : PlanValue) → q ≡ p → Appends a b (opening t p n e.epoch e.values) → AppendsPrefix b c (epoch_text q e.epoch) → AppendsPrefix a c (added t p n o v)
-  part_lent a b c q same first x =
-      let l = lent e o v is in
-      subst (λ (w : StationValues). AppendsPrefix a c (added t p n o w)) l.1 (part_epoch a b c t p q n o e.epoch e.values l.0 some same first x)
+-- what the epoch that the gatherer returns adds
+pub added_lent : {p q : PlanValue} {e : Closed} (t : HeaderLists) (n : Option StationValues) (o : Option EpochValue) (v : StationValues) → q ≡ p → e ∷ [] ≡ closed_by o v → nat_lt 0 (satellites_written e.epoch) ≡ true
+    → added t p n o v ≡ opening t p n e.epoch e.values ++ epoch_text q e.epoch
+added_lent {p} {q} {e} t n o v same is some =
+    let l = lent e o v is in
+    ap (λ w. added t p n o w) (sym l.1) ∙ added_is t p n e.values l.0 some ∙ ap (λ r. opening t p n e.epoch e.values ++ epoch_text r e.epoch) (sym same)
 
 -- no frames have an empty text
 pub so_far-none : ((s : GatherSetup) → closed_epochs s [] ≡ []) → (s : SetupValue) → so_far s [] ≡ []

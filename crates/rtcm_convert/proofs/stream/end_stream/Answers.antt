@@ -23,8 +23,8 @@ returns-in-Err g c =
     let x = c.requires.some in
     record {
       whole = tt;
-      part = drain_part g.W.Write.contents c.args.framer.now c.args.file_writer.now c.finish.new.sink c.args.writer.now c.finish.new.out c.filed.ensures.file c.filed.ensures.grows c.requires.listening c.in-Err.ensures.part;
-      device = (let f = drain_failed g.W.Write.contents c.args.framer.now c.args.file_writer.now c.finish.new.sink c.args.writer.now c.finish.new.out c.in-Err.ensures.part x.0 (passed_here g.W.Write.contents c.args.framer.now c.args.file_writer.now c.args.writer.now x.0 x.1) in (refl, (f.0, tt, f.1)));
+      part = drain_part g.W.Write.contents c.filed.ensures.file c.filed.ensures.grows c.requires.listening c.in-Err.ensures.part;
+      device = (let f = drain_failed g.W.Write.contents c.in-Err.ensures.part x.0 (passed_here g.W.Write.contents c.args.framer.now c.args.file_writer.now c.args.writer.now x.0 x.1) in (refl, (f.0, tt, f.1)));
       sent = tt;
       some = n.same.some (x.0, _, x.1.framer);
       same = (n.same.limit, n.same.taken);

@@ -1,7 +1,7 @@
 use Rattle.rtcm_convert.proofs.FaultLemmas.{of_pieces, pieces_known, never, not_of_setup, not_err, setup_only, setup_sent, setup_writer}
 use Rattle.rtcm_convert.proofs.PartLemmas.{same_fault}
-use Rattle.rtcm_convert.proofs.WholeLemmas.{run_made, run_empty, pieces_cut, pieces_failed}
-use Rattle.rtcm_convert.proofs.Names.{Some, refl, no_values, LeftBy, IsPiecesFault, BadSetup, Read, TooLong, Write, NoEpoch, Failed, Finished, joined_pieces, setup_value, start_zero}
+use Rattle.rtcm_convert.proofs.WholeLemmas.{BeganNew, run_made, run_empty, pieces_cut, pieces_failed}
+use Rattle.rtcm_convert.proofs.Names.{Some, refl, no_values, LeftBy, IsPiecesFault, BadSetup, Read, TooLong, Write, NoEpoch, Failed, Finished, joined_pieces, start_zero}
 use Rattle.rtcm_convert.proofs.whole.convert_pieces.Goals as goal
 
 pub returns-in-Ok : goal.returns-in-Ok
@@ -12,14 +12,14 @@ returns-in-Ok g c =
     let w = c.take_pieces-answer.new.self in
     let r = c.take_pieces-answer.result in
     let n = c.take_pieces-answer.ensures in
-    let none = c.prefix.ensures.nothing in
+    let new : BeganNew v w x = record { nothing = c.prefix.ensures.nothing; history = h.history; same = n.left.0.0; limit = h.fresh.0 } in
     let left = n.left.0.1 h.history.going in
     let no = never IsPiecesFault (λ f. LeftBy f w) of_pieces pieces_known r left in
     record {
-      made = run_made v w _ x (Some (joined_pieces c.args.pieces.now)) _ _ r none (c.read_back.ensures.some no_values c.read_back.ensures.zero) h.history n.left.0.0 h.fresh.0 n.whole;
-      no_epoch = λ e. run_empty v w _ x (Some (joined_pieces c.args.pieces.now)) _ _ none h.history n.left.0.0 h.fresh.0 (n.no_epoch e);
-      long = λ e. pieces_cut v w x _ _ c.args.pieces.now none h.history h.fresh.0 h.fresh.1 (n.long e);
-      write = λ e. pieces_failed v (setup_value c.args.setup) _ _ c.args.pieces.now none h.history (n.write e);
+      made = run_made _ (Some (joined_pieces c.args.pieces.now)) _ _ r new (c.read_back.ensures.some no_values c.read_back.ensures.zero) n.whole;
+      no_epoch = λ e. run_empty _ (Some (joined_pieces c.args.pieces.now)) _ _ new (n.no_epoch e);
+      long = λ e. pieces_cut c.args.pieces.now new h.fresh.1 (n.long e);
+      write = λ e. pieces_failed c.args.pieces.now new (n.write e);
       sent = n.sent;
       writer = n.device;
       bad_setup = (λ e. absurd (no BadSetup refl e), λ b. absurd (not_err v BadSetup (h.bad.1 b)));

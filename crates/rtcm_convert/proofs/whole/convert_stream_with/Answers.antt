@@ -1,7 +1,7 @@
 use Rattle.rtcm_convert.proofs.FaultLemmas.{of_run, run_known, never, not_of_setup, not_err, setup_only, setup_sent, setup_reader, setup_writer}
 use Rattle.rtcm_convert.proofs.PartLemmas.{same_fault}
-use Rattle.rtcm_convert.proofs.WholeLemmas.{run_made, run_empty, run_read, run_long, run_write}
-use Rattle.rtcm_convert.proofs.Names.{refl, LeftBy, IsRunFault, BadSetup, Read, TooLong, Write, NoEpoch, Failed, Finished, start_value, start_at}
+use Rattle.rtcm_convert.proofs.WholeLemmas.{BeganNew, run_made, run_empty, run_read, run_long, run_write}
+use Rattle.rtcm_convert.proofs.Names.{refl, LeftBy, IsRunFault, BadSetup, Read, TooLong, Write, NoEpoch, Failed, Finished, start_at}
 use Rattle.rtcm_convert.proofs.whole.convert_stream_with.Goals as goal
 
 pub returns-in-Ok : goal.returns-in-Ok
@@ -13,15 +13,15 @@ returns-in-Ok g c =
     let r = c.run-answer.result in
     let n = c.run-answer.ensures in
     let from = g.R.Read.remaining c.args.reader.now.inner in
-    let none = c.prefix.ensures.nothing in
+    let new : BeganNew v w x = record { nothing = c.prefix.ensures.nothing; history = h.history; same = n.left.0.0; limit = h.fresh.0 } in
     let left = n.left.0.1 h.history.going in
     let no = never IsRunFault (λ f. LeftBy f w) of_run run_known r left in
     record {
-      made = run_made v w _ x from _ _ r none (c.read_back.ensures.some c.args.initial h.fits) h.history n.left.0.0 h.fresh.0 n.whole;
-      no_epoch = λ e. run_empty v w _ x from _ _ none h.history n.left.0.0 h.fresh.0 (n.no_epoch e);
-      long = λ e. run_long v w x from _ _ _ none h.history h.fresh.0 (n.long e);
-      read = λ e. run_read v w (start_value x) from _ _ _ none h.history (n.read e);
-      write = λ e. run_write v w (start_value x) from _ _ _ none h.history (n.write e);
+      made = run_made _ from _ _ r new (c.read_back.ensures.some c.args.initial h.fits) n.whole;
+      no_epoch = λ e. run_empty _ from _ _ new (n.no_epoch e);
+      long = λ e. run_long new (n.long e);
+      read = λ e. run_read from _ new (n.read e);
+      write = λ e. run_write from _ new (n.write e);
       sent = n.sent;
       devices = (n.reader, n.writer);
       bad_setup = (λ e. absurd (no BadSetup refl e), λ b. absurd (not_err v BadSetup (h.bad.1 b)));

@@ -5,7 +5,7 @@ use Rattle.rtcm_convert.proofs.FeedLemmas.{with_flags, read_of, long_of, sink_of
 use Rattle.rtcm_convert.proofs.RefusalLemmas.{refused_going, refused_is, refused_only, refused_sent, refused_writer, refused_reader, not_refused}
 use Rattle.rtcm_convert.proofs.RunLemmas.{going_on, ran_whole, ran_empty, run_finishing, rest_taken, rest_faulty, rest_long, rest_part, rest_device}
 use Rattle.rtcm_convert.proofs.StreamLemmas.{piece_fine}
-use Rattle.rtcm_convert.proofs.Names.{◌∙◌, IfOk, ap, sym, subst, refl, inl, inr, true, up_to_limit, CompletesEmptyFile, CompletesFile, Conversion, FailsFeeding, FailsFinishing, IfSome, RanToFault, RanToLimit, IsGoing, LeftBy, IsFinishFault, IsRunFault, NoEpoch, TooLong, Read, Write}
+use Rattle.rtcm_convert.proofs.Names.{◌∙◌, IfOk, IfOk-weaker, ap, sym, subst, refl, inl, inr, true, up_to_limit, CompletesEmptyFile, CompletesFile, Conversion, FailsFeeding, FailsFinishing, IfSome, RanToFault, RanToLimit, IsGoing, LeftBy, IsFinishFault, IsRunFault, NoEpoch, TooLong, Read, Write}
 use Rattle.rtcm_convert.proofs.converter.Converter.run.Goals as goal
 
 pub returns-in-Some : goal.returns-in-Some
@@ -46,11 +46,11 @@ returns-in-Ok g c =
     let r = c.finish.result in
     record {
       refused = not_refused c.args.self.now _ c.in_default.ensures;
-      whole = subst (λ (x : Conversion). IfOk r (λ report. IfSome (g.R.Read.remaining c.args.reader.now.inner) (CompletesFile x c.finish.new.self (g.W.Deliver.waiting c.finish.new.writer.inner) (g.W.Write.contents c.args.writer.now.inner) (g.W.Write.contents c.finish.new.writer.inner) report))) c.self.view_is (ran_whole v w c.finish.new.self _ _ _ _ _ _ r p c.in-Ok.ensures.end.0 n.whole);
-      no_epoch = λ h. subst (λ (x : Conversion). IfSome (g.R.Read.remaining c.args.reader.now.inner) (CompletesEmptyFile x c.finish.new.self (g.W.Deliver.waiting c.finish.new.writer.inner) (g.W.Write.contents c.args.writer.now.inner) (g.W.Write.contents c.finish.new.writer.inner))) c.self.view_is (ran_empty v w c.finish.new.self _ _ _ _ _ _ p c.in-Ok.ensures.end.0 (n.no_epoch h));
+      whole = subst (λ (x : Conversion). IfOk r (λ report. IfSome (g.R.Read.remaining c.args.reader.now.inner) (CompletesFile x c.finish.new.self (g.W.Deliver.waiting c.finish.new.writer.inner) (g.W.Write.contents c.args.writer.now.inner) (g.W.Write.contents c.finish.new.writer.inner) report))) c.self.view_is (IfOk-weaker r _ _ (λ _. ran_whole _ _ p c.in-Ok.ensures.end.0) n.whole);
+      no_epoch = λ h. subst (λ (x : Conversion). IfSome (g.R.Read.remaining c.args.reader.now.inner) (CompletesEmptyFile x c.finish.new.self (g.W.Deliver.waiting c.finish.new.writer.inner) (g.W.Write.contents c.args.writer.now.inner) (g.W.Write.contents c.finish.new.writer.inner))) c.self.view_is (ran_empty _ _ p c.in-Ok.ensures.end.0 (n.no_epoch h));
       long = λ h. absurd (never IsFinishFault (λ x. LeftBy x c.finish.new.self) of_finish finish_known r l TooLong refl h);
       read = λ h. absurd (never IsFinishFault (λ x. LeftBy x c.finish.new.self) of_finish finish_known r l Read refl h);
-      write = λ h. inr (subst (λ (x : Conversion). FailsFinishing x c.finish.new.self (g.R.Read.remaining c.args.reader.now.inner) (g.R.Read.remaining c.read_pieces.new.reader.inner) (g.W.Write.contents c.args.writer.now.inner) (g.W.Write.contents c.finish.new.writer.inner)) c.self.view_is (run_finishing v w c.finish.new.self _ _ _ _ _ p c.in-Ok.ensures.end.0 n.taken (n.part h)));
+      write = λ h. inr (subst (λ (x : Conversion). FailsFinishing x c.finish.new.self (g.R.Read.remaining c.args.reader.now.inner) (g.R.Read.remaining c.read_pieces.new.reader.inner) (g.W.Write.contents c.args.writer.now.inner) (g.W.Write.contents c.finish.new.writer.inner)) c.self.view_is (run_finishing c.finish.new.self _ _ p c.in-Ok.ensures.end.0 n.taken (n.part h)));
       sent = sent_finished _ r _ _ _ l n.sent;
       reader = finish_reader _ r c.args.reader.now c.read_pieces.new.reader l c.in-Ok.ensures.reader.1 c.in-Ok.ensures.reader.2;
       writer = writer_after r c.args.writer.now c.read_pieces.new.out c.finish.new.writer d.1 d.2 n.device;

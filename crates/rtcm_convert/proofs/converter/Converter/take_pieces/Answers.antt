@@ -29,8 +29,8 @@ loop-piece-preserved g c =
     let i = c.loop-piece.invariant in
     let n = c.in_default-feed.ensures in
     record {
-      came = taken_then c.args.self.now c.loop-piece.self c.feed.new.self _ _ _ _ c.deref.result.now _ more i.came n.whole;
-      taken = longer_by c.args.self.now.scan.taken c.loop-piece.self.scan.taken c.feed.new.self.scan.taken _ c.deref.result.now _ more i.taken n.going.2;
+      came = taken_then _ c.deref.result.now more i.came n.whole;
+      taken = longer_by c.args.self.now.scan.taken _ c.deref.result.now more i.taken n.going.2;
       going = n.going.0;
       limit = n.left.0 ∙ i.limit;
       fine = n.device.1 ∙ i.fine;
@@ -47,7 +47,7 @@ returns-in-Err g c =
       whole = tt;
       no_epoch = λ e. absurd (not_empty c.in-Err.fault (c.in-Err.ensures.left.1 c.loop-piece.invariant.going).0 e);
       long = λ e. pieces_long c.args.self.now c.loop-piece.self c.feed.new.self _ _ _ _ i.came c.deref.result.now _ _ i.limit i.taken (pieces_rest (λ piece. piece.items) c.args.pieces.now c.loop-piece.piece-index c.deref.result.now more) (c.in-Err.ensures.long (same_fault _ _ e));
-      write = λ e. pieces_broke c.args.self.now c.loop-piece.self _ _ _ c.args.pieces.now c.loop-piece.piece-index c.deref.result.now c.loop-piece.invariant.came c.loop-piece-test.true more (c.in-Err.ensures.part (same_fault _ _ e));
+      write = λ e. pieces_broke c.args.pieces.now c.loop-piece.piece-index c.deref.result.now c.loop-piece.invariant.came c.loop-piece-test.true more (c.in-Err.ensures.part (same_fault _ _ e));
       sent = sent_fed c.in-Err.fault _ _ _ (n.left.1 i.going).0 n.sent;
       device = writer_after {A = Report} (Err c.in-Err.fault) c.args.writer.now c.loop-piece.writer c.feed.new.writer i.fine i.unread n.device;
       left = ((n.left.0 ∙ i.limit, λ _. (let l = n.left.1 i.going in (feed_pieces c.in-Err.fault l.0, l.1))), tt);

@@ -6,8 +6,7 @@ use Rattle.rtcm_convert.proofs.file_writer.FileWriter.end.Goals as goal
 pub returns-in-Err : goal.returns-in-Err
 returns-in-Err g c =
     let e = c.in-Err.ensures in
-    let part = file_part c.args.self.now c.end.new.self _ _ e.part c.end.ensures.ended (λ s ms es x. (c.end.ensures.closes s ms es x c.requires).1) in
-    record { whole = tt; same = e.same.2; part = part; device = (refl, e.device); sent = tt; ended = ap (λ (v : GathererValue). v.has_ended) e.same.0 ∙ c.end.ensures.ended }
+    record { whole = tt; same = e.same.2; part = file_part e.part c.end.ensures.ended (λ s ms es x. (c.end.ensures.closes s ms es x c.requires).1); device = (refl, e.device); sent = tt; ended = ap (λ (v : GathererValue). v.has_ended) e.same.0 ∙ c.end.ensures.ended }
 
 pub returns-in-Err-flush_whole : goal.returns-in-Err-flush_whole
 returns-in-Err-flush_whole g c =
@@ -16,7 +15,7 @@ returns-in-Err-flush_whole g c =
     let whole = file_whole c.args.self.now c.write_closed.new.self c.end.new.self _ _ (record { gatherer = e.same.0; texts = e.same.1; epochs = e.now.0; values = e.now.1; out = e.whole }) c.end.ensures.ended (λ s ms es x. (c.end.ensures.closes s ms es x c.requires).1) in
     let failed = subst (λ (n : ℕ). HasFailed n c.flush_whole.new.self.failures) e.device.1 d.0 in
     let ended = ap (λ (v : GathererValue). v.has_ended) e.same.0 ∙ c.end.ensures.ended in
-    record { whole = tt; same = e.same.2; part = λ s fs x. goes_on-front _ _ _ _ (goes_on-kept _ _ _ _ _ (whole s fs x).0 c.flush_whole.ensures.kept); device = (refl, (failed, tt, d.2 ∙ e.device.2)); sent = tt; ended = ended }
+    record { whole = tt; same = e.same.2; part = λ s fs x. goes_on-front (goes_on-kept (whole s fs x).0 c.flush_whole.ensures.kept); device = (refl, (failed, tt, d.2 ∙ e.device.2)); sent = tt; ended = ended }
 
 pub returns : goal.returns
 returns g c =
@@ -24,4 +23,4 @@ returns g c =
     let d = c.in_default-flush_whole.ensures in
     let whole = file_whole c.args.self.now c.write_closed.new.self c.end.new.self _ _ (record { gatherer = e.same.0; texts = e.same.1; epochs = e.now.0; values = e.now.1; out = e.whole }) c.end.ensures.ended (λ s ms es x. (c.end.ensures.closes s ms es x c.requires).1) in
     let ended = ap (λ (v : GathererValue). v.has_ended) e.same.0 ∙ c.end.ensures.ended in
-    record { whole = λ s fs x. (let p = whole s fs x in (goes_on-kept _ _ _ _ _ p.0 d.kept, p.1, p.2)); same = e.same.2; part = tt; device = (tt, (tt, d.device.1 ∙ e.device.1, d.device.2 ∙ e.device.2)); sent = d.sent; ended = ended }
+    record { whole = λ s fs x. (let p = whole s fs x in (goes_on-kept p.0 d.kept, p.1, p.2)); same = e.same.2; part = tt; device = (tt, (tt, d.device.1 ∙ e.device.1, d.device.2 ∙ e.device.2)); sent = d.sent; ended = ended }

@@ -8,9 +8,8 @@ returns-in-Err g c =
     let e = c.in-Err.ensures in
     let took : Took c.args.self.now.gatherer c.take_view-taken.new.self c.take_view-taken.result.kind (heard (viewed_message c.args.message.now)) =
     record { first = t.first; taken = t.taken; again = t.again; ended = t.going } in
-    let part = wrote_part c.args.self.now c.take_view-taken.new.self c.take_view-taken.result.kind (heard (viewed_message c.args.message.now)) _ _ took e.part in
     let ended = ap (λ (v : GathererValue). v.has_ended) e.same.0 ∙ t.going in
-    record { first = tt; taken = tt; again = tt; kind = tt; same = e.same.2; part = part; device = (refl, e.device); ended = ended }
+    record { first = tt; taken = tt; again = tt; kind = tt; same = e.same.2; part = wrote_part took e.part; device = (refl, e.device); ended = ended }
 
 pub returns-in-Ok : goal.returns-in-Ok
 returns-in-Ok g c =
@@ -18,8 +17,8 @@ returns-in-Ok g c =
     let e = c.in-Ok.ensures in
     let o : Wrote c.args.self.now c.write_closed.new.self c.take_view-taken.new.self _ _ = record { gatherer = e.same.0; texts = e.same.1; epochs = e.now.0; values = e.now.1; out = e.whole } in
     record {
-      first = λ shut s ms es x. wrote_all _ _ _ _ _ s ms ms es _ _ o x (t.first s.gather ms es x.gatherer shut);
-      taken = λ kept s ms es again f x. wrote_all _ _ _ _ _ s ms _ es again _ o x (t.taken s.gather ms es again x.gatherer f kept);
+      first = λ shut s ms es x. wrote_all o x (t.first s.gather ms es x.gatherer shut);
+      taken = λ kept s ms es again f x. wrote_all o x (t.taken s.gather ms es again x.gatherer f kept);
       again = λ s ms es x. t.again s.gather ms es x.gatherer;
       kind = λ kept s ms es again f x. t.kind s.gather ms es again x.gatherer f kept;
       same = e.same.2;
