@@ -1,14 +1,14 @@
 -- The end of a check of a file.
 use Rattle.rinex_file.specs.declared.read.file.Counts.{Counts}
-use Rattle.rtcm_inspect.proofs.PrintingLemmas.{passed}
+use Rattle.rtcm_inspect.proofs.PrintingLemmas.{passed, Printed}
 use Rattle.rtcm_inspect.proofs.LineLemmas.{add_count, add_text, add_word, end_line}
-use Rattle.rtcm_inspect.proofs.Names.{◌≡◌, ◌∙◌, ◌∷◌, ◌++◌, [], ap, inl, inr, codes, decimal, length, refl, sym, subst, ℕ, List, Option, Some, None, Result, Ok, Err, IfSome, Device, HasFailed, IsNoFault, FileValue, file_text, IsFileValue, AreCounts, ReadFault, Memory, Read, BadHeader, BadEpoch, BadEvent, BadSatellite, CutShort, TooLong, ⊤, IsErrAnd, Keeps, InspectFault, Ends, ReadFailures, EndsPrinting, rows_in, line, check_line, ChecksWhole, IsCheckedOr, StopsAnyCheck}
+use Rattle.rtcm_inspect.proofs.Names.{◌≡◌, ◌∙◌, ◌∷◌, ◌++◌, [], ap, inl, inr, codes, decimal, length, refl, sym, subst, ℕ, List, Option, Some, None, Result, Ok, Err, IfSome, Device, HasFailed, IsNoFault, FileValue, file_text, IsFileValue, AreCounts, ReadFault, Memory, Read, ⊤, IsErrAnd, Keeps, InspectFault, Ends, ReadFailures, rows_in, line, check_line, ChecksWhole, IsCheckedOr, StopsAnyCheck}
 use Rattle.rtcm_inspect.specs.declared.fault.InspectFault.TheVariants as faults
 
--- a property of known bytes
-pub where_known : (P Q : List ℕ → Type 0) (r : Option (List ℕ)) → ((input : List ℕ) → P input → Q input) → IfSome r P → IfSome r Q
-where_known P Q None step h = tt
-where_known P Q (Some input) step h = step input h
+-- what holds for all bytes holds for known ones
+pub where_known : (Q : List ℕ → Type 0) (r : Option (List ℕ)) → ((input : List ℕ) → Q input) → IfSome r Q
+where_known Q None step = tt
+where_known Q (Some input) step = step input
 
 -- a fault of reading is one of checking
 pub refused : (IsOutput : FileValue → List ℕ → Type 0) (v : FileValue) (e : ReadFault) (w w' : Option (List ℕ)) → IsNoFault e → IsCheckedOr IsOutput v (Err (faults.Check e)) w w'
@@ -25,11 +25,11 @@ abbrev count_words : (epochs satellites events : ℕ) → List (List ℕ)
 count_words epochs satellites events = decimal epochs ∷ codes "satellites" ∷ decimal satellites ∷ codes "events" ∷ decimal events ∷ []
 
 -- the line of the counts is that of the file
-pub line_built : (counts : Counts) (v : FileValue) {none start epochs satellites events text : List ℕ} → none ≡ [] → start ≡ none ++ codes "epochs" → epochs ≡ start ++ 0x20 ∷ decimal counts.epochs
+pub line_built : {counts : Counts} {v : FileValue} {none start epochs satellites events text : List ℕ} → none ≡ [] → start ≡ none ++ codes "epochs" → epochs ≡ start ++ 0x20 ∷ decimal counts.epochs
     → satellites ≡ (epochs ++ 0x20 ∷ codes "satellites") ++ 0x20 ∷ decimal counts.satellites → events ≡ (satellites ++ 0x20 ∷ codes "events") ++ 0x20 ∷ decimal counts.events
     → text ≡ events ++ 0x0A ∷ [] → AreCounts counts v → text ≡ check_line v
 unfolding check_line
-line_built counts v none start epochs satellites events text are =
+line_built {counts} {v} none start epochs satellites events text are =
     let first = add_word epochs (add_text start none refl) refl in
     let second = add_count (codes "satellites") (decimal counts.satellites) satellites first in
     let third = add_count (codes "events") (decimal counts.events) events second in
@@ -39,23 +39,22 @@ line_built counts v none start epochs satellites events text are =
     ∙ ap (λ (n : ℕ). line (codes "epochs" ∷ count_words (length v.epochs) (rows_in v.epochs) n)) are.events
 
 -- the output of a file was written, or a part of it
-pub checked : {R W : Type 0} (IsOutput : FileValue → List ℕ → Type 0) (left : R → Option (List ℕ)) (held : W → Option (List ℕ)) (waits : W → List ℕ) (r r2 : Device R) (w w2 : Device W) (ended : Result ⊤ InspectFault) (v : FileValue) (out : List ℕ)
-    → IsFileValue v → IfSome (left r.inner) (λ input. input ≡ file_text v) → IsOutput v out → r2.failures ≡ r.failures → EndsPrinting ended held waits w w2 out
+pub checked : {R W : Type 0} {held : W → Option (List ℕ)} {waits : W → List ℕ} {w w2 : Device W} {out : List ℕ} (IsOutput : FileValue → List ℕ → Type 0) (left : R → Option (List ℕ)) (r r2 : Device R) (ended : Result ⊤ InspectFault)
+    → ((v : FileValue) × IsFileValue v × IfSome (left r.inner) (λ input. input ≡ file_text v) × IsOutput v out) → r2.failures ≡ r.failures → Printed ended held waits w w2 out
     → Ends ended r r2 waits w w2 (λ _. ChecksWhole IsOutput (left r.inner) (held w.inner) (held w2.inner)) (StopsAnyCheck IsOutput left r r2 held waits w w2)
-checked IsOutput left held waits r r2 w w2 (Ok u) v out is text of same p = ((same, p.0, p.1), (v, is, text, (out, of, p.2)))
-checked IsOutput left held waits r r2 w w2 (Err fault) v out is text of same p =
-    subst (λ (f : InspectFault). Ends (Err f) r r2 waits w w2 (λ (u : ⊤). ChecksWhole IsOutput (left r.inner) (held w.inner) (held w2.inner)) (StopsAnyCheck IsOutput left r r2 held waits w w2)) (sym p.0)
-    ((same, p.1.0), inr (v, is, text, (out, of, p.1.1)))
+checked {out = out} IsOutput left r r2 (Ok u) f same p = ((same, p.ends.0, p.ends.1), (f.0, f.1, f.2, (out, f.3, p.ends.2)))
+checked {held = held} {waits} {w} {w2} {out} IsOutput left r r2 (Err fault) f same p =
+    subst (λ (f : InspectFault). Ends (Err f) r r2 waits w w2 (λ (u : ⊤). ChecksWhole IsOutput (left r.inner) (held w.inner) (held w2.inner)) (StopsAnyCheck IsOutput left r r2 held waits w w2)) (sym p.ends.0)
+    ((same, p.ends.1.0), inr (f.0, f.1, f.2, (out, f.3, p.ends.1.1)))
 
 -- the same for each file value that was read
-pub checked_or : {W : Type 0} (IsOutput : FileValue → List ℕ → Type 0) (held : W → Option (List ℕ)) (waits : W → List ℕ) (w w2 : Device W) (ended : Result ⊤ InspectFault) (v : FileValue) (out : List ℕ) → IsOutput v out
-    → EndsPrinting ended held waits w w2 out → IsCheckedOr IsOutput v ended (held w.inner) (held w2.inner)
-checked_or IsOutput held waits w w2 (Ok u) v out of p = (out, of, p.2)
-checked_or IsOutput held waits w w2 (Err fault) v out of p = subst (λ (f : InspectFault). IsCheckedOr IsOutput v (Err f) (held w.inner) (held w2.inner)) (sym p.0) (inr (out, of, p.1.1))
+pub checked_or : {W : Type 0} {held : W → Option (List ℕ)} {waits : W → List ℕ} {w w2 : Device W} {out : List ℕ} (IsOutput : FileValue → List ℕ → Type 0) (ended : Result ⊤ InspectFault) (v : FileValue) → IsOutput v out
+    → Printed ended held waits w w2 out → IsCheckedOr IsOutput v ended (held w.inner) (held w2.inner)
+checked_or {out = out} IsOutput (Ok u) v of p = (out, of, p.ends.2)
+checked_or {held = held} {w = w} {w2} {out} IsOutput (Err fault) v of p = subst (λ (f : InspectFault). IsCheckedOr IsOutput v (Err f) (held w.inner) (held w2.inner)) (sym p.ends.0) (inr (out, of, p.ends.1.1))
 
 -- the same if the writer failed before anything was read
-pub kept_first : (IsOutput : FileValue → List ℕ → Type 0) (r w w2 : Option (List ℕ)) (ended : Result ⊤ InspectFault) (fault : InspectFault) (v : FileValue) → IsErrAnd ended (λ y. y ≡ fault) → fault ≡ faults.Write → Keeps w w2
-    → IfSome r (λ input. input ≡ file_text v → IsCheckedOr IsOutput v ended w w2)
-kept_first IsOutput None w w2 ended fault v is write kept = tt
-kept_first IsOutput (Some input) w w2 ended fault v is write kept = λ same.
+pub kept_first : {fault : InspectFault} (IsOutput : FileValue → List ℕ → Type 0) (w w2 : Option (List ℕ)) (ended : Result ⊤ InspectFault) (v : FileValue) → IsErrAnd ended (λ y. y ≡ fault) → fault ≡ faults.Write → Keeps w w2
+    → IsCheckedOr IsOutput v ended w w2
+kept_first {fault} IsOutput w w2 ended v is write kept =
     passed ended fault (λ (q : Result ⊤ InspectFault). IsCheckedOr IsOutput v q w w2) is (subst (λ (f : InspectFault). IsCheckedOr IsOutput v (Err f) w w2) (sym write) (inl kept))

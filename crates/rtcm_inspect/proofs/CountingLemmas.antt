@@ -1,5 +1,7 @@
 -- Signal counts as a consumer of frames.
-use Rattle.rtcm_inspect.proofs.Names.{◌≡◌, ◌∙◌, ap, inr, ◌*◌, ◌<◌, ◌≤◌, ◌^◌, sym, subst, arith, Bool, true, ℕ, List, [], ◌∷◌, ◌++◌, Option, Result, Ok, Err, length, length-append, append-nil, refl, Framed, frames_of, known_frames, Device, HasFailed, StreamFault, ⊤, InspectFault, EndsPrinting, ReadFailures, stream_fault, AtFault, Passes, BreaksReading, HasPassedAll, PassesAll, PassesToLimit, Reads, FramerValue, AreSignalCounts, CountsMessage, SignalCountsValue, valued, heard, HeardCell, heard_of, message_at, MsgFault, Message, valued_in, valued_of, flat_map-append, AreFirst, AreOptionsOf, EndsOptions, EndsSignals, ReadsTooMuch, SignalText, Counts, StopsCounting, HasCounted, IsCounted, AreSignals, NeverFails, option_map_or, StreamSignals}
+use Rattle.rtcm_inspect.proofs.PrintingLemmas.{Printed}
+use Rattle.rtcm_inspect.proofs.StreamLemmas.{Began}
+use Rattle.rtcm_inspect.proofs.Names.{◌≡◌, ◌∙◌, ap, inr, ◌*◌, ◌<◌, ◌≤◌, ◌^◌, sym, subst, arith, Bool, true, ℕ, List, [], ◌∷◌, ◌++◌, Option, Result, Ok, Err, length, length-append, append-nil, refl, Framed, frames_of, known_frames, Device, HasFailed, StreamFault, ⊤, InspectFault, ReadFailures, stream_fault, AtFault, Passes, BreaksReading, PassesAll, PassesToLimit, Reads, FramerValue, AreSignalCounts, CountsMessage, SignalCountsValue, valued, heard, HeardCell, heard_of, message_at, MsgFault, Message, valued_in, valued_of, flat_map-append, AreFirst, AreOptionsOf, EndsOptions, EndsSignals, ReadsTooMuch, signals_text, Counts, StopsCounting, HasCounted, IsCounted, AreSignals, NeverFails, option_map_or, StreamSignals}
 use Rattle.rtcm_scan.specs.declared.feed.StreamFault.TheVariants as stream
 
 valued_more : (wanted : Option ℕ) (fs : List Framed) (f : Framed) (cells : List HeardCell) → valued_of wanted f ≡ cells → valued_in wanted (fs ++ f ∷ []) ≡ valued_in wanted fs ++ cells
@@ -7,9 +9,9 @@ valued_more wanted fs f cells is =
     flat_map-append (valued_of wanted) fs (f ∷ []) ∙ ap (λ (l : List HeardCell). valued_in wanted fs ++ l) (append-nil (valued_of wanted f) ∙ is)
 
 -- the cells of one more message that was read
-pub read_counted : (c c2 : SignalCountsValue) (wanted : Option ℕ) (fs : List Framed) (f : Framed) (m : Message) → message_at f.message ≡ Ok m → CountsMessage c c2 wanted (heard m)
+pub read_counted : {c c2 : SignalCountsValue} {wanted : Option ℕ} {fs : List Framed} (f : Framed) {m : Message} → message_at f.message ≡ Ok m → CountsMessage c c2 wanted (heard m)
     → length fs < 2 ^ 56 → IsCounted c wanted fs → IsCounted c2 wanted (fs ++ f ∷ [])
-read_counted c c2 wanted fs f m is step small h =
+read_counted {c2} {wanted} {fs} f {m} is step small h =
     let cells : List HeardCell = valued_in wanted fs in
     let more : List HeardCell = valued wanted (heard m) in
     let own : valued_of wanted f ≡ more = ap (λ (r : Result Message MsgFault). option_map_or (valued wanted) (heard_of r) []) is in
@@ -20,8 +22,8 @@ read_counted c c2 wanted fs f m is step small h =
     }
 
 -- a message that was refused has no cells
-pub refused_counted : (c : SignalCountsValue) (wanted : Option ℕ) (fs : List Framed) (f : Framed) (e : MsgFault) → message_at f.message ≡ Err e → IsCounted c wanted fs → IsCounted c wanted (fs ++ f ∷ [])
-refused_counted c wanted fs f e is h =
+pub refused_counted : {c : SignalCountsValue} {wanted : Option ℕ} {fs : List Framed} (f : Framed) {e : MsgFault} → message_at f.message ≡ Err e → IsCounted c wanted fs → IsCounted c wanted (fs ++ f ∷ [])
+refused_counted {c} {wanted} {fs} f is h =
     let cells : List HeardCell = valued_in wanted fs in
     let own : valued_of wanted f ≡ [] = ap (λ (r : Result Message MsgFault). option_map_or (valued wanted) (heard_of r) []) is in
     let all = valued_more wanted fs f [] own ∙ append-nil cells in
@@ -38,11 +40,11 @@ pub new_counts : (c : StreamSignals) → Counts c tt [] c tt []
 new_counts c = record { same = refl; counts = λ few begun. begun }
 
 -- one more frame was counted
-pub one_more_counted : (c0 c c2 : StreamSignals) (ps fs : List Framed) (f : Framed) → c2.station ≡ c.station
+pub one_more_counted : {c0 : StreamSignals} (c : StreamSignals) {c2 : StreamSignals} {ps fs : List Framed} (f : Framed) → c2.station ≡ c.station
     → ((gs : List Framed) → length gs < 2 ^ 56 → IsCounted c.signal_counts c.station gs → IsCounted c2.signal_counts c.station (gs ++ f ∷ []))
     → ((gs : List Framed) → AreFirst c.first c.station gs → AreFirst c2.first c.station (gs ++ f ∷ []))
     → Counts c0 tt ps c tt fs → Counts c0 tt ps c2 tt (fs ++ f ∷ [])
-one_more_counted c0 c c2 ps fs f kept step first s = record {
+one_more_counted c {c2} {fs} f kept step first s = record {
   same = kept ∙ s.same;
   counts = λ few begun.
       let fewer : length fs < 2 ^ 56 = omega (arith, length-append fs (f ∷ []), few) in
@@ -52,35 +54,34 @@ one_more_counted c0 c c2 ps fs f kept step first s = record {
 
 -- ---- a stream that is counted from its start
 
-module _ (v v2 : FramerValue) (c c2 : StreamSignals) (r r2 : Option (List ℕ)) (new : HasPassedAll Counts v c tt [] c tt []) where
+module _ {v : FramerValue} {c : StreamSignals} {limit : ℕ} (v2 : FramerValue) (c2 : StreamSignals) (r r2 : Option (List ℕ)) (began : Began Counts v c tt limit) where
   -- to its end
   pub counted_all : v2.has_ended ≡ true → AreSignals c c.station [] → ((b : List ℕ) → 6 * length (frames_of b) ≤ length b)
       → PassesAll Counts v c tt v2 c2 tt r r2 → HasCounted c2 c.station r r2
   counted_all ended begun law p =
       let b : List ℕ = p.0.0 in
-      let all = p.0.2 c tt [] [] new in
+      let all = p.0.2 c tt [] [] began.new in
       let counts = subst (λ (e : Bool). length (known_frames e b) < 2 ^ 56 → AreSignals c c.station [] → AreSignals c2 c.station (known_frames e b)) ended all.passed.taken.counts in
       let few : length (frames_of b) < 2 ^ 56 = omega (arith, law b, all.passed.framer.history.taken, all.passed.framer.within, all.passed.framer.limit) in
       (b, p.0.1, p.1, all.passed.taken.same, counts few begun)
 
   -- over the limit
-  pub counted_too_much : v.limit ≡ 2 ^ 48 → v.taken ≡ 0 → Reads r r2 (PassesToLimit Counts v c tt v2 c2 tt) → ReadsTooMuch (2 ^ 48) r r2
-  counted_too_much is none p =
-      let over : 2 ^ 48 < length p.0 = omega (arith, is, none, p.2.over) in
+  pub counted_too_much : Reads r r2 (PassesToLimit Counts v c tt v2 c2 tt) → ReadsTooMuch limit r r2
+  counted_too_much p =
+      let over : limit < length p.0 = omega (arith, began.limit_is, began.none, p.2.over) in
       (p.0, p.1, over)
 
   pub counter_fails : {n : ℕ} → BreaksReading Counts NeverFails v c tt c2 tt n r r2 → ⊥
-  counter_fails p = (p.breaks c tt [] [] new).broken
+  counter_fails p = (p.breaks c tt [] [] began.new).broken
 
 -- the counting was stopped by a fault
-pub counting_stopped : {R F : Type 0} (left : R → Option (List ℕ)) (v v2 : FramerValue) (c c2 : StreamSignals) (rd rd2 : Device R) (n : ℕ) (fault : StreamFault F) → v.limit ≡ 2 ^ 48 → v.taken ≡ 0
-    → HasPassedAll Counts v c tt [] c tt []
+pub counting_stopped : {R F : Type 0} {v : FramerValue} {c : StreamSignals} (left : R → Option (List ℕ)) (v2 : FramerValue) (c2 : StreamSignals) (rd rd2 : Device R) (fault : StreamFault F) → Began Counts v c tt (2 ^ 48)
     → AtFault fault (Reads (left rd.inner) (left rd2.inner) (Passes Counts v c tt v2 c2 tt)) (Reads (left rd.inner) (left rd2.inner) (PassesToLimit Counts v c tt v2 c2 tt))
-    (BreaksReading Counts NeverFails v c tt c2 tt n (left rd.inner) (left rd2.inner))
+    (BreaksReading Counts NeverFails v c tt c2 tt 65536 (left rd.inner) (left rd2.inner))
     → StopsCounting left rd rd2 (stream_fault fault)
-counting_stopped left v v2 c c2 rd rd2 n stream.Read is none new passed = tt
-counting_stopped left v v2 c c2 rd rd2 n stream.TooLong is none new passed = counted_too_much v v2 c c2 (left rd.inner) (left rd2.inner) new is none passed
-counting_stopped left v v2 c c2 rd rd2 n (stream.Sink fault) is none new broke = absurd (counter_fails v v2 c c2 (left rd.inner) (left rd2.inner) new broke)
+counting_stopped left v2 c2 rd rd2 stream.Read began passed = tt
+counting_stopped left v2 c2 rd rd2 stream.TooLong began passed = counted_too_much v2 c2 (left rd.inner) (left rd2.inner) began passed
+counting_stopped left v2 c2 rd rd2 (stream.Sink fault) began broke = absurd (counter_fails v2 c2 (left rd.inner) (left rd2.inner) began broke)
 
 pub counted_reads : {F : Type 0} (fault : StreamFault F) (before after : ℕ) → AtFault fault (HasFailed before after) (after ≡ before) (after ≡ before) → ReadFailures (stream_fault fault) before after
 counted_reads stream.Read before after h = h
@@ -88,17 +89,17 @@ counted_reads stream.TooLong before after h = h
 counted_reads (stream.Sink fault) before after h = h
 
 -- the signals of a stream were printed, or a part of their text
-pub signals_printed : {R W : Type 0} (left : R → Option (List ℕ)) (held : W → Option (List ℕ)) (waits : W → List ℕ) (text : SignalText) (wanted : Option ℕ) (r r2 : Device R) (w w2 : Device W) (ended : Result ⊤ InspectFault)
-    (s : StreamSignals) (h : HasCounted s wanted (left r.inner) (left r2.inner)) → 0 < length (valued_in wanted (frames_of h.0)) → r2.failures ≡ r.failures → EndsPrinting ended held waits w w2 (text wanted (frames_of h.0))
-    → EndsSignals ended text wanted left r r2 held waits w w2
-signals_printed left held waits text wanted r r2 w w2 (Ok u) s h some same p = ((same, p.0, p.1), (h.0, h.1, h.2, some, p.2))
-signals_printed left held waits text wanted r r2 w w2 (Err fault) s h some same p =
-    subst (λ (f : InspectFault). EndsSignals {A = ⊤} (Err f) text wanted left r r2 held waits w w2) (sym p.0) ((same, p.1.0), inr (h.0, h.1, h.2, some, p.1.1))
+pub signals_printed : {R W : Type 0} {held : W → Option (List ℕ)} {waits : W → List ℕ} {wanted : Option ℕ} {w w2 : Device W} {s : StreamSignals} (left : R → Option (List ℕ)) (r r2 : Device R) (ended : Result ⊤ InspectFault)
+    (h : HasCounted s wanted (left r.inner) (left r2.inner)) → 0 < length (valued_in wanted (frames_of h.0)) → r2.failures ≡ r.failures → Printed ended held waits w w2 (signals_text wanted (frames_of h.0))
+    → EndsSignals ended signals_text wanted left r r2 held waits w w2
+signals_printed left r r2 (Ok u) h some same p = ((same, p.ends.0, p.ends.1), (h.0, h.1, h.2, some, p.ends.2))
+signals_printed {held = held} {waits} {wanted} {w} {w2} left r r2 (Err fault) h some same p =
+    subst (λ (f : InspectFault). EndsSignals {A = ⊤} (Err f) signals_text wanted left r r2 held waits w w2) (sym p.ends.0) ((same, p.ends.1.0), inr (h.0, h.1, h.2, some, p.ends.1.1))
 
 -- the options of a stream were printed, or a part of their text
-pub options_printed : {R W : Type 0} (left : R → Option (List ℕ)) (held : W → Option (List ℕ)) (waits : W → List ℕ) (near wanted : Option ℕ) (r r2 : Device R) (w w2 : Device W) (ended : Result ⊤ InspectFault) (text : List ℕ)
-    (s : StreamSignals) (h : HasCounted s wanted (left r.inner) (left r2.inner)) → AreOptionsOf near wanted (frames_of h.0) text → r2.failures ≡ r.failures → EndsPrinting ended held waits w w2 text
+pub options_printed : {R W : Type 0} {held : W → Option (List ℕ)} {waits : W → List ℕ} {wanted : Option ℕ} {w w2 : Device W} {text : List ℕ} (left : R → Option (List ℕ)) (near : Option ℕ) (r r2 : Device R) (ended : Result ⊤ InspectFault)
+    → ((s : StreamSignals) × (h : HasCounted s wanted (left r.inner) (left r2.inner)) × AreOptionsOf near wanted (frames_of h.0) text) → r2.failures ≡ r.failures → Printed ended held waits w w2 text
     → EndsOptions ended near wanted left r r2 held waits w w2
-options_printed left held waits near wanted r r2 w w2 (Ok u) text s h are same p = ((same, p.0, p.1), (h.0, h.1, h.2, (text, are, p.2)))
-options_printed left held waits near wanted r r2 w w2 (Err fault) text s h are same p =
-    subst (λ (f : InspectFault). EndsOptions {A = ⊤} (Err f) near wanted left r r2 held waits w w2) (sym p.0) ((same, p.1.0), inr (h.0, h.1, h.2, (text, are, p.1.1)))
+options_printed {text = text} left near r r2 (Ok u) x same p = ((same, p.ends.0, p.ends.1), (x.1.0, x.1.1, x.1.2, (text, x.2, p.ends.2)))
+options_printed {held = held} {waits} {wanted} {w} {w2} {text} left near r r2 (Err fault) x same p =
+    subst (λ (f : InspectFault). EndsOptions {A = ⊤} (Err f) near wanted left r r2 held waits w w2) (sym p.ends.0) ((same, p.ends.1.0), inr (x.1.0, x.1.1, x.1.2, (text, x.2, p.ends.1.1)))

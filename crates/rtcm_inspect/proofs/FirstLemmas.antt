@@ -29,10 +29,10 @@ stations_after : (fs : List Framed) (f : Framed) (r : Result Message MsgFault) �
 stations_after fs f r is = stations_more fs f ∙ ap (λ (r : Result Message MsgFault). stations_of fs ++ one_of (option_and_then sender (heard_of r))) is
 
 -- a message that was read
-pub first_read : (x y : FirstMessages) (wanted : Option ℕ) (fs : List Framed) (f : Framed) (m : Message) → message_at f.message ≡ Ok m → y.point ≡ option_or x.point (point_of wanted (heard m))
+pub first_read : {x y : FirstMessages} {wanted : Option ℕ} {fs : List Framed} (f : Framed) {m : Message} → message_at f.message ≡ Ok m → y.point ≡ option_or x.point (point_of wanted (heard m))
     → y.tow ≡ option_or x.tow (tow_of wanted (heard m)) → (x.stations ≡ stations_in (stations_of fs) → y.stations ≡ stations_in (stations_of fs ++ one_of (sender (heard m))))
     → (IfSome x.point InRange → IfSome y.point InRange) → AreFirst x wanted fs → AreFirst y wanted (fs ++ f ∷ [])
-first_read x y wanted fs f m is point tow stations range h = record {
+first_read {wanted} {fs} f {m} is point tow stations range h = record {
   point = point ∙ ap (λ (o : Option StationParts). option_or o (point_of wanted (heard m))) h.point ∙ sym (first_after (point_of wanted) fs f (Ok m) is);
   tow = tow ∙ ap (λ (o : Option ℕ). option_or o (tow_of wanted (heard m))) h.tow ∙ sym (first_after (tow_of wanted) fs f (Ok m) is);
   stations = stations h.stations ∙ ap stations_in (sym (stations_after fs f (Ok m) is));
@@ -40,8 +40,8 @@ first_read x y wanted fs f m is point tow stations range h = record {
 }
 
 -- a message that was refused
-pub first_refused : (x : FirstMessages) (wanted : Option ℕ) (fs : List Framed) (f : Framed) (e : MsgFault) → message_at f.message ≡ Err e → AreFirst x wanted fs → AreFirst x wanted (fs ++ f ∷ [])
-first_refused x wanted fs f e is h = record {
+pub first_refused : {x : FirstMessages} {wanted : Option ℕ} {fs : List Framed} (f : Framed) {e : MsgFault} → message_at f.message ≡ Err e → AreFirst x wanted fs → AreFirst x wanted (fs ++ f ∷ [])
+first_refused {wanted} {fs} f {e} is h = record {
   point = h.point ∙ sym (first_after (point_of wanted) fs f (Err e) is ∙ or_none (first_station wanted fs));
   tow = h.tow ∙ sym (first_after (tow_of wanted) fs f (Err e) is ∙ or_none (first_tow wanted fs));
   stations = h.stations ∙ ap stations_in (sym (stations_after fs f (Err e) is ∙ append-nil (stations_of fs)));

@@ -180,13 +180,13 @@ pub metres_whole : (z : ℤ) → FitsInt 38 z → list_all (λ x. not (x == 0x2C
 metres_whole (pos n) fits = size_whole n (omega (arith, fits))
 metres_whole (negsuc n) fits = size_whole (n + 1) (omega (arith, fits))
 
-position_by_parts : (text rest a b c : List ℕ) (x y z : ℤ) → cut 0x2C text ≡ Some (a, rest) → cut 0x2C rest ≡ Some (b, c) → coordinate_of a ≡ Some x → coordinate_of b ≡ Some y
+position_by_parts : (text : List ℕ) {rest a b c : List ℕ} {x y z : ℤ} → cut 0x2C text ≡ Some (a, rest) → cut 0x2C rest ≡ Some (b, c) → coordinate_of a ≡ Some x → coordinate_of b ≡ Some y
     → coordinate_of c ≡ Some z → position_of text ≡ Some (x, y, z)
-position_by_parts text rest a b c x y z first second p q r = rw (first, second, p, q, r) refl
+position_by_parts text first second p q r = rw (first, second, p, q, r) refl
 
 pub position_read : (s : StationParts) → InRange s → position_of (position_text s) ≡ Some (s.x, s.y, s.z)
 position_read s are =
-    position_by_parts (position_text s) (metres s.y ++ 0x2C ∷ metres s.z) (metres s.x) (metres s.y) (metres s.z) s.x s.y s.z
+    position_by_parts (position_text s)
     (cut_first 0x2C (metres s.x) (metres s.y ++ 0x2C ∷ metres s.z) (metres_whole s.x are.x)) (cut_first 0x2C (metres s.y) (metres s.z) (metres_whole s.y are.y))
     (coordinate_read s.x are.x) (coordinate_read s.y are.y) (coordinate_read s.z are.z)
 

@@ -1,5 +1,6 @@
 -- A listing as a consumer of frames.
-use Rattle.rtcm_inspect.proofs.Names.{◌≡◌, ◌∙◌, ◌-◌, ◌<◌, ap, sym, subst, refl, arith, Bool, true, false, ℕ, List, [], ◌∷◌, ◌++◌, Option, append_assoc, append-nil, length, take, Appends, Keeps, flat_map-append, Appends-nil, Appends-trans, Appends-kept, AppendsPrefix, Device, HasFailed, IsPrefix, Framed, decided_frames, known_frames, ⊤, StreamFault, HaveFailedBy, stream_fault, AtFault, BreaksReading, HasPassedAll, Passes, PassesAll, PassesToLimit, Reads, FramerValue, Listing, Lists, ListsAll, ListsDecided, StopsListing, ListsPart, ListsToLimit, ListsUpTo, listing_line, listing_lines}
+use Rattle.rtcm_inspect.proofs.StreamLemmas.{Began}
+use Rattle.rtcm_inspect.proofs.Names.{◌≡◌, ◌∙◌, ◌-◌, ◌<◌, ap, sym, subst, refl, arith, Bool, true, false, ℕ, List, [], ◌∷◌, ◌++◌, Option, append_assoc, append-nil, length, take, Appends, Keeps, flat_map-append, Appends-nil, Appends-trans, Appends-kept, AppendsPrefix, Device, HasFailed, IsPrefix, Framed, decided_frames, known_frames, ⊤, StreamFault, HaveFailedBy, stream_fault, AtFault, BreaksReading, Passes, PassesAll, PassesToLimit, Reads, FramerValue, Listing, Lists, ListsAll, ListsDecided, StopsListing, ListsPart, ListsToLimit, ListsUpTo, listing_line, listing_lines}
 use Rattle.rtcm_scan.specs.declared.feed.StreamFault.TheVariants as stream
 
 -- the lines of one more frame
@@ -72,48 +73,50 @@ module _ {W : Type 0} (held : W → Option (List ℕ)) (k0 : Listing) (o0 : Devi
 pub new_listing : {W : Type 0} (held : W → Option (List ℕ)) (k : Listing) (o : Device W) → Lists held k o [] k o []
 new_listing held k o = record { same = refl; out = λ w a. a; fine = refl }
 
-module _ {W : Type 0} (held : W → Option (List ℕ)) (v v2 : FramerValue) (k k2 : Listing) (o o2 : Device W) (r r2 : Option (List ℕ)) (new : HasPassedAll (Lists held) v k o [] k o []) where
+module _ {W : Type 0} {held : W → Option (List ℕ)} {v : FramerValue} {k : Listing} {o : Device W} {limit : ℕ} (v2 : FramerValue) (k2 : Listing) (o2 : Device W) (r r2 : Option (List ℕ)) (began : Began (Lists held) v k o limit) where
   written : (b : List ℕ) → Passes (Lists held) v k o v2 k2 o2 b → Appends (held o.inner) (held o2.inner) (listing_lines k (known_frames v2.has_ended b))
-  written b passes = (passes k o [] [] new).passed.taken.out (held o.inner) (Appends-nil (held o.inner))
+  written b passes = (passes k o [] [] began.new).passed.taken.out (held o.inner) (Appends-nil (held o.inner))
 
   -- to its end
   pub listed_all : v2.has_ended ≡ true → PassesAll (Lists held) v k o v2 k2 o2 r r2 → ListsAll (listing_lines k) r r2 (held o.inner) (held o2.inner) × (o2.failures ≡ o.failures)
   listed_all ended p =
       let b : List ℕ = p.0.0 in
       let out = subst (λ (e : Bool). Appends (held o.inner) (held o2.inner) (listing_lines k (known_frames e b))) ended (written b p.0.2) in
-      ((b, p.0.1, p.1, out), (p.0.2 k o [] [] new).passed.taken.fine)
+      ((b, p.0.1, p.1, out), (p.0.2 k o [] [] began.new).passed.taken.fine)
 
   -- up to a failed read
   pub listed_some : v2.has_ended ≡ false → Reads r r2 (Passes (Lists held) v k o v2 k2 o2) → ListsDecided (listing_lines k) r r2 (held o.inner) (held o2.inner) × (o2.failures ≡ o.failures)
   listed_some going p =
       let out = subst (λ (e : Bool). Appends (held o.inner) (held o2.inner) (listing_lines k (known_frames e p.0))) going (written p.0 p.2) in
-      ((p.0, p.1, out), (p.2 k o [] [] new).passed.taken.fine)
+      ((p.0, p.1, out), (p.2 k o [] [] began.new).passed.taken.fine)
 
   -- up to the limit
-  pub listed_to_limit : (limit : ℕ) → v.limit ≡ limit → v.taken ≡ 0 → v2.has_ended ≡ false → Reads r r2 (PassesToLimit (Lists held) v k o v2 k2 o2)
+  pub listed_to_limit : v2.has_ended ≡ false → Reads r r2 (PassesToLimit (Lists held) v k o v2 k2 o2)
       → ListsToLimit limit (listing_lines k) r r2 (held o.inner) (held o2.inner) × (o2.failures ≡ o.failures)
-  listed_to_limit limit is none going p =
+  listed_to_limit going p =
+      let is : v.limit ≡ limit = began.limit_is in
+      let none : v.taken ≡ 0 = began.none in
       let front : List ℕ = take (v.limit - v.taken) p.0 in
       let out = subst (λ (e : Bool). Appends (held o.inner) (held o2.inner) (listing_lines k (known_frames e front))) going (written front p.2.passes) in
       let size : v.limit - v.taken ≡ limit = omega (arith, is, none) in
       let over : limit < length p.0 = omega (arith, is, none, p.2.over) in (
         (p.0, p.1, over, subst (λ (n : ℕ). Appends (held o.inner) (held o2.inner) (listing_lines k (decided_frames (take n p.0)))) size out),
-        (p.2.passes k o [] [] new).passed.taken.fine,
+        (p.2.passes k o [] [] began.new).passed.taken.fine,
       )
 
   -- up to a piece at which the writer failed
-  pub listed_part : {n : ℕ} → n ≡ 65536 → v.has_ended ≡ false → BreaksReading (Lists held) (ListsUpTo held) v k o k2 o2 n r r2
+  pub listed_part : BreaksReading (Lists held) (ListsUpTo held) v k o k2 o2 65536 r r2
       → ListsPart (listing_lines k) r r2 (held o.inner) (held o2.inner) × HasFailed o.failures o2.failures
-  listed_part size going p =
-      let broke = p.breaks k o [] [] new in
+  listed_part p =
+      let broke = p.breaks k o [] [] began.new in
       let between = broke.broken.out (held o.inner) (Appends-nil (held o.inner)) in
-      let least = subst (λ (e : Bool). IsPrefix (listing_lines k (known_frames e p.front)) (listing_lines k broke.taken)) going (first_lines k (known_frames v.has_ended p.front) broke.taken broke.first) in (
+      let least = subst (λ (e : Bool). IsPrefix (listing_lines k (known_frames e p.front)) (listing_lines k broke.taken)) began.going (first_lines k (known_frames v.has_ended p.front) broke.taken broke.first) in (
         record {
           front = p.front;
           piece = p.piece;
           ended = p.ended;
           consumes = p.consumes;
-          few = omega (arith, size, p.few);
+          few = p.few;
           at_end = p.at_end;
           between = record {
             out = between.out;
@@ -126,19 +129,15 @@ module _ {W : Type 0} (held : W → Option (List ℕ)) (v v2 : FramerValue) (k k
       )
 
 -- the listing was stopped by a fault
-pub listing_stopped : {R W F : Type 0} (left : R → Option (List ℕ)) (held : W → Option (List ℕ)) (waits : W → List ℕ) (v v2 : FramerValue) (k k2 : Listing) (o o2 : Device W) (rd rd2 : Device R)
-    (n limit : ℕ) (fault : StreamFault F) → n ≡ 65536 → v.limit ≡ limit → v.taken ≡ 0 → v.has_ended ≡ false → HasPassedAll (Lists held) v k o [] k o []
-    → AtFault fault (Reads (left rd.inner) (left rd2.inner) (Passes (Lists held) v k o v2 k2 o2)) (Reads (left rd.inner) (left rd2.inner) (PassesToLimit (Lists held) v k o v2 k2 o2))
-    (BreaksReading (Lists held) (ListsUpTo held) v k o k2 o2 n (left rd.inner) (left rd2.inner))
-    → AtFault fault (v2.has_ended ≡ false) (v2.has_ended ≡ false) ⊤ → AtFault fault (waits o2.inner ≡ []) (waits o2.inner ≡ []) ⊤
-    → AtFault fault (HasFailed rd.failures rd2.failures) (rd2.failures ≡ rd.failures) (rd2.failures ≡ rd.failures)
-    → HaveFailedBy (stream_fault fault) rd rd2 o o2 × StopsListing limit (listing_lines k) left rd rd2 held waits o o2 (stream_fault fault)
-listing_stopped left held waits v v2 k k2 o o2 rd rd2 n limit stream.Read size is none going new passed still sent failed =
-    let listed = listed_some held v v2 k k2 o o2 (left rd.inner) (left rd2.inner) new still passed in
-    ((failed, listed.1), (listed.0, sent))
-listing_stopped left held waits v v2 k k2 o o2 rd rd2 n limit stream.TooLong size is none going new passed still sent failed =
-    let listed = listed_to_limit held v v2 k k2 o o2 (left rd.inner) (left rd2.inner) new limit is none still passed in
-    ((failed, listed.1), (listed.0, sent))
-listing_stopped left held waits v v2 k k2 o o2 rd rd2 n limit (stream.Sink fault) size is none going new broke still sent failed =
-    let listed = listed_part held v v2 k k2 o o2 (left rd.inner) (left rd2.inner) new size going broke in
-    ((failed, listed.1), listed.0)
+pub record Stopped {R W F : Type 0} (left : R → Option (List ℕ)) (held : W → Option (List ℕ)) (waits : W → List ℕ) (v v2 : FramerValue) (k k2 : Listing) (o o2 : Device W) (r r2 : Device R) (fault : StreamFault F) : Type 0 where
+  pub passed : AtFault fault (Reads (left r.inner) (left r2.inner) (Passes (Lists held) v k o v2 k2 o2)) (Reads (left r.inner) (left r2.inner) (PassesToLimit (Lists held) v k o v2 k2 o2))
+      (BreaksReading (Lists held) (ListsUpTo held) v k o k2 o2 65536 (left r.inner) (left r2.inner))
+  pub still : AtFault fault (v2.has_ended ≡ false) (v2.has_ended ≡ false) ⊤
+  pub sent : AtFault fault (waits o2.inner ≡ []) (waits o2.inner ≡ []) ⊤
+  pub failed : AtFault fault (HasFailed r.failures r2.failures) (r2.failures ≡ r.failures) (r2.failures ≡ r.failures)
+
+pub listing_stopped : {R W F : Type 0} {left : R → Option (List ℕ)} {held : W → Option (List ℕ)} {waits : W → List ℕ} {v v2 : FramerValue} {k k2 : Listing} {o o2 : Device W} {r r2 : Device R} {limit : ℕ} (fault : StreamFault F)
+    → Began (Lists held) v k o limit → Stopped left held waits v v2 k k2 o o2 r r2 fault → HaveFailedBy (stream_fault fault) r r2 o o2 × StopsListing limit (listing_lines k) left r r2 held waits o o2 (stream_fault fault)
+listing_stopped {left = left} {v2 = v2} {k2 = k2} {o2 = o2} {r} {r2} stream.Read began s = let listed = listed_some v2 k2 o2 (left r.inner) (left r2.inner) began s.still s.passed in ((s.failed, listed.1), (listed.0, s.sent))
+listing_stopped {left = left} {v2 = v2} {k2 = k2} {o2 = o2} {r} {r2} stream.TooLong began s = let listed = listed_to_limit v2 k2 o2 (left r.inner) (left r2.inner) began s.still s.passed in ((s.failed, listed.1), (listed.0, s.sent))
+listing_stopped {left = left} {v2 = v2} {k2 = k2} {o2 = o2} {r} {r2} (stream.Sink fault) began s = let listed = listed_part v2 k2 o2 (left r.inner) (left r2.inner) began s.passed in ((s.failed, listed.1), listed.0)

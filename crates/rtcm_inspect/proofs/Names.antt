@@ -35,7 +35,7 @@ pub use Rattle.rtcm_inspect.specs.Checking.{AreLinesOf, ChecksWhole, IsCheckedOr
 pub use Rattle.rtcm_inspect.specs.Counting.{AreSignals, Counts, HasCounted, IsCounted, NeverFails, StopsCounting}
 unfoldable pub use Rattle.rtcm_inspect.specs.DateTexts.{time_line}
 pub use Rattle.rtcm_inspect.specs.DateTexts.{clock_text, date_text, times_lines}
-pub use Rattle.rtcm_inspect.specs.Devices.{Ends, HaveFailedBy, ReadFailures, stream_fault}
+pub use Rattle.rtcm_inspect.specs.Devices.{Ends, HaveFailedBy, IsDelivered, ReadFailures, stream_fault}
 pub use Rattle.rtcm_inspect.specs.FirstMessages.{AreFirst, first_in, first_station, first_tow, mixed_of, one_of, point_of, sender, stations_in, stations_of, tow_of, with_other}
 unfoldable pub use Rattle.rtcm_inspect.specs.Fitting.{options_line}
 pub use Rattle.rtcm_inspect.specs.Fitting.{antenna_words, height_text, number_start, number_words, position_text, position_word, station_words}
@@ -84,7 +84,7 @@ pub use Rattle.rtcm_scan.specs.Frames.{AreFrames, Framed, frames_of}
 pub use Rattle.rtcm_scan.specs.Known.{known_frames}
 pub use Rattle.rtcm_scan.specs.Local.{placed}
 pub use Rattle.rtcm_scan.specs.Passing.{AtFault, BreaksReading, Coming, HasPassedAll, Passes, PassesAll, PassesToLimit, Reads}
-pub use Rattle.rtcm_scan.specs.Results.{framed}
+pub use Rattle.rtcm_scan.specs.Results.{framed, new_scan}
 pub use Rattle.rtcm_scan.specs.Scan.{FramerValue}
 pub use Rattle.rtcm_scan.specs.declared.feed.StreamFault.{StreamFault}
 pub use Rattle.std.proofs.KnownBytes.{Appends-kept, Appends-nil, Appends-trans}
@@ -97,7 +97,7 @@ pub use Rattle.std.proofs.lemmas.List.{drop_at, get_or_append_left, get_or_at, l
 pub use Rattle.std.proofs.lemmas.List.Elements.{All-append, All-cons, All-filter, All-head, All-nil, All-tail, filter-append, filter_map-append}
 pub use Rattle.std.proofs.lemmas.List.Folds.{find-append, list_all-append, list_any-append}
 pub use Rattle.std.proofs.lemmas.List.Sums.{AllPass-from_list_all, count_by-le-length, length-filter, position_or_len_is, sum_by-cons}
-pub use Rattle.std.proofs.lemmas.Option.{slice_get-get_or}
+pub use Rattle.std.proofs.lemmas.Option.{IfSome_then, slice_get-get_or}
 pub use Rattle.std.specs.Io.KnownBytes.{Appends, Keeps}
 pub use Rattle.std.specs.List.{after_first, before_first, cons_option, count_by, flat_map, join_with_byte, list_all, list_any, position_or_len, slice_get}
 pub use Rattle.std.specs.Option.{option_map, option_map_or, option_or}

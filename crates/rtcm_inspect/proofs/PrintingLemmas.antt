@@ -1,5 +1,5 @@
 -- Texts written in one call, and failed calls.
-use Rattle.rtcm_inspect.proofs.Names.{◌≡◌, ◌∙◌, inl, inr, sym, subst, append-nil, ℕ, List, [], Option, Result, Ok, Err, OnErr, OnOk, Appends, Keeps, Appends-kept, Appends-nil, Appends-trans, AppendsPrefix, Device, FailsWith, HasFailed, DeviceFailed, ⊤, IsErrAnd, WritesLine, EndsPrinting, PrintsLine, InspectFault}
+use Rattle.rtcm_inspect.proofs.Names.{◌≡◌, ◌∙◌, inl, inr, sym, subst, append-nil, ℕ, List, [], Option, Result, Ok, Err, OnErr, OnOk, Appends, Keeps, Appends-kept, Appends-nil, Appends-trans, AppendsPrefix, Device, FailsWith, HasFailed, IsDelivered, DeviceFailed, ⊤, IsErrAnd, WritesLine, EndsPrinting, PrintsLine, InspectFault}
 
 pub on_err : {A E : Type 0} (r : Result A E) (P Q : Type 0) → (P → Q) → OnErr r P → OnErr r Q
 on_err (Ok x) P Q f p = p
@@ -30,17 +30,20 @@ line_printed (Err failed) told e e2 text whole part device = inr (device.0, part
 kept_appends : (a b c : Option (List ℕ)) (text : List ℕ) → Keeps a b → Appends b c text → Appends a c text
 kept_appends a b c text k h = Appends-trans a b c [] text (Appends-kept a a b [] (Appends-nil a) k) h
 
--- a text that was written after a delivery
-pub printed_later : {A W : Type 0} (r : Result A InspectFault) (held : W → Option (List ℕ)) (waits : W → List ℕ) (w w1 w2 : Device W) (text : List ℕ) → w1.failures ≡ w.failures → Keeps (held w.inner) (held w1.inner)
-    → EndsPrinting r held waits w1 w2 text → EndsPrinting r held waits w w2 text
-printed_later (Ok x) held waits w w1 w2 text same kept h = (h.0 ∙ same, h.1, kept_appends _ _ _ text kept h.2)
-printed_later (Err fault) held waits w w1 w2 text same kept h =
-    let prefix = h.1.1 in
-    (h.0, (subst (λ (n : ℕ). HasFailed n w2.failures) same h.1.0, (prefix.0, (prefix.1.0, prefix.1.1, kept_appends _ _ _ prefix.1.0 kept prefix.1.2))))
+-- how the printing of a text ended
+pub record Printed {A W : Type 0} (r : Result A InspectFault) (held : W → Option (List ℕ)) (waits : W → List ℕ) (w w2 : Device W) (text : List ℕ) : Type 0 where
+  pub ends : EndsPrinting r held waits w w2 text
 
--- the same text in other terms
-pub same_text : {A W : Type 0} (r : Result A InspectFault) (held : W → Option (List ℕ)) (waits : W → List ℕ) (w w2 : Device W) (x y : List ℕ) → x ≡ y → EndsPrinting r held waits w w2 x → EndsPrinting r held waits w w2 y
-same_text r held waits w w2 x y e h = subst (EndsPrinting r held waits w w2) e h
+-- a text, given in other terms, that was written after a delivery
+pub printed_later : {A W : Type 0} {w : Device W} {x text : List ℕ} (r : Result A InspectFault) (held : W → Option (List ℕ)) (waits : W → List ℕ) (w1 w2 : Device W)
+    → (w1.failures ≡ w.failures) × IsDelivered held waits w w1 → x ≡ text → EndsPrinting r held waits w1 w2 x → Printed r held waits w w2 text
+printed_later {text = text} (Ok u) held waits w1 w2 kept same x =
+    let h : EndsPrinting (Ok u) held waits w1 w2 text = subst (EndsPrinting (Ok u) held waits w1 w2) same x in
+    record { ends = (h.0 ∙ kept.0, h.1, kept_appends _ _ _ text kept.1.0 h.2) }
+printed_later {A} {text = text} (Err fault) held waits w1 w2 kept same x =
+    let h : EndsPrinting {A = A} (Err fault) held waits w1 w2 text = subst (EndsPrinting {A = A} (Err fault) held waits w1 w2) same x in
+    let prefix = h.1.1 in
+    record { ends = (h.0, (subst (λ (n : ℕ). HasFailed n w2.failures) kept.0 h.1.0, (prefix.0, (prefix.1.0, prefix.1.1, kept_appends _ _ _ prefix.1.0 kept.1.0 prefix.1.2)))) }
 
 pub line_written : {W : Type 0} (r : Result ⊤ DeviceFailed) (held : W → Option (List ℕ)) (w w2 : Device W) (x y : List ℕ) → x ≡ y → WritesLine r held w w2 x → WritesLine r held w w2 y
 line_written r held w w2 x y e h = subst (WritesLine r held w w2) e h

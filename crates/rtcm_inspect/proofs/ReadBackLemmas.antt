@@ -33,7 +33,7 @@ encoding_short eight few bytes v is e =
     whole_bytes : (k n : ℕ) → 8 * k ≡ n + missing n → n ≤ 8184 → k ≤ 1023
     whole_bytes k n e h = omega arith
 
-encodings_short : EightBits → FewBits → (es : List (List ℕ)) (vs : List Message) → AreEncoded es vs → (k : ℕ) (d : List ℕ) → k < length es → length (get_or es k d) ≤ 1023
+pub encodings_short : EightBits → FewBits → (es : List (List ℕ)) (vs : List Message) → AreEncoded es vs → (k : ℕ) (d : List ℕ) → k < length es → length (get_or es k d) ≤ 1023
 encodings_short eight few [] vs h k d less = absurd (omega arith)
 encodings_short eight few (e ∷ es) [] h k d less = absurd h
 encodings_short eight few (e ∷ es) (v ∷ vs) h zero d less = encoding_short eight few e v h.0.0 h.1
@@ -51,11 +51,11 @@ read_as back one p (e ∷ es) (v ∷ vs) h =
     let reads : ReadsMessage (bits_of e) v = subst (λ (bits : List Bool). ReadsMessage bits v) (sym h.1) (back v h.0.0 h.0.1) in
     (record { reads = reads; only = λ w r. one (bits_of e) w v r reads }, read_as back one (p + (length e + 6)) es vs h.2)
 
-pub reads_back : EightBits → FewBits → IsReadBack → OneValue → ((b : List ℕ) → AreFrames b (frames_of b))
+pub reads_back : ((es : List (List ℕ)) (vs : List Message) → AreEncoded es vs → All (λ (m : List ℕ). length m ≤ 1023) es) → IsReadBack → OneValue → ((b : List ℕ) → AreFrames b (frames_of b))
     → ((messages : List (List ℕ)) → All (λ (m : List ℕ). length m ≤ 1023) messages → frames_of (flat_map frame_bytes messages) ≡ placed 0 messages)
     → (es : List (List ℕ)) (vs : List Message) → AreEncoded es vs → ReadsBack es vs
-reads_back eight few back one frames joined es vs h =
-    let are : AreFrames (flat_map frame_bytes es) (placed 0 es) = subst (λ (fs : List Framed). AreFrames (flat_map frame_bytes es) fs) (joined es (encodings_short eight few es vs h)) (frames (flat_map frame_bytes es)) in
+reads_back short back one frames joined es vs h =
+    let are : AreFrames (flat_map frame_bytes es) (placed 0 es) = subst (λ (fs : List Framed). AreFrames (flat_map frame_bytes es) fs) (joined es (short es vs h)) (frames (flat_map frame_bytes es)) in
     (are, messages_placed 0 es, read_as back one 0 es vs h)
 
 -- the bytes of 8 k bits

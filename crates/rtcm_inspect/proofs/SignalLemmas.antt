@@ -4,12 +4,18 @@ use Rattle.rtcm_inspect.proofs.Names.{◌≡◌, ℕ, zero, suc, ◌+◌, ◌<�
 below-more : (i : ℕ) → below (i + 1) ≡ below i ++ i ∷ []
 below-more i = let e : i + 1 ≡ suc i = omega arith in rw e refl
 
+-- the number of cells of a signal of the table
+pub record IsCount (c : SignalCountsValue) (cells : List HeardCell) (system : System) (i n : ℕ) : Type 0 where
+  pub counts : AreSignalCounts c cells
+  pub within : i < length (table system)
+  pub is : n ≡ counted c system i
+
 -- one more signal of the table: it is in the list if it has cells
-had_more : (c : SignalCountsValue) (cells : List HeardCell) (system : System) (i n : ℕ) → AreSignalCounts c cells → i < length (table system) → n ≡ counted c system i
+had_more : {c : SignalCountsValue} {cells : List HeardCell} {system : System} {i n : ℕ} → IsCount c cells system i n
     → had_below cells system (i + 1) ≡ had_below cells system i ++ cond (nat_lt 0 n) (i ∷ []) []
-had_more c cells system i n h within is =
+had_more {cells = cells} {system} {i} {n} h =
     ap (filter (λ i. nat_lt 0 (count_of (signal_in system i) cells))) (below-more i) ∙ filter-append (λ i. nat_lt 0 (count_of (signal_in system i) cells)) (below i) (i ∷ [])
-    ∙ ap (λ (m : ℕ). had_below cells system i ++ cond (nat_lt 0 m) (i ∷ []) []) (sym (is ∙ h.each system i within))
+    ∙ ap (λ (m : ℕ). had_below cells system i ++ cond (nat_lt 0 m) (i ∷ []) []) (sym (h.is ∙ h.counts.each system i h.within))
 
 positive : (n : ℕ) → 0 < n → nat_lt 0 n ≡ true
 positive n h = grind (arith, h)
@@ -17,14 +23,12 @@ positive n h = grind (arith, h)
 zero_count : (n : ℕ) → n ≤ 0 → nat_lt 0 n ≡ false
 zero_count n h = grind (arith, h)
 
-pub had_one : (c : SignalCountsValue) (cells : List HeardCell) (system : System) (i n : ℕ) → AreSignalCounts c cells → i < length (table system) → n ≡ counted c system i → 0 < n
-    → had_below cells system (i + 1) ≡ had_below cells system i ++ i ∷ []
-had_one c cells system i n h within is some = had_more c cells system i n h within is ∙ ap (λ (b : Bool). had_below cells system i ++ cond b (i ∷ []) []) (positive n some)
+pub had_one : {c : SignalCountsValue} {cells : List HeardCell} {system : System} {i n : ℕ} → IsCount c cells system i n → 0 < n → had_below cells system (i + 1) ≡ had_below cells system i ++ i ∷ []
+had_one {cells = cells} {system} {i} {n} h some = had_more h ∙ ap (λ (b : Bool). had_below cells system i ++ cond b (i ∷ []) []) (positive n some)
 
-pub had_none : (c : SignalCountsValue) (cells : List HeardCell) (system : System) (i n : ℕ) → AreSignalCounts c cells → i < length (table system) → n ≡ counted c system i → n ≤ 0
-    → had_below cells system (i + 1) ≡ had_below cells system i
-had_none c cells system i n h within is none =
-    had_more c cells system i n h within is ∙ ap (λ (b : Bool). had_below cells system i ++ cond b (i ∷ []) []) (zero_count n none) ∙ append-nil (had_below cells system i)
+pub had_none : {c : SignalCountsValue} {cells : List HeardCell} {system : System} {i n : ℕ} → IsCount c cells system i n → n ≤ 0 → had_below cells system (i + 1) ≡ had_below cells system i
+had_none {cells = cells} {system} {i} {n} h none =
+    had_more h ∙ ap (λ (b : Bool). had_below cells system i ++ cond b (i ∷ []) []) (zero_count n none) ∙ append-nil (had_below cells system i)
 
 -- ---- the codes of a system
 
@@ -43,13 +47,12 @@ codes-push system i is j =
     ∙ join-push (code_of (signal_in system i)) (map (λ i. code_of (signal_in system i)) is) (code_of (signal_in system j))
 
 -- one more code
-pub partly_more : (start text more code : List ℕ) (separator : ℕ) (system : System) (is : List ℕ) (j : ℕ) → IsPartly start text separator system is → more ≡ text ++ separator ∷ code
-    → code ≡ code_of (signal_in system j) → IsPartly start more 0x2C system (is ++ j ∷ [])
-partly_more start text more code separator system [] j h e same =
-    (e ∙ ap₂ (λ (l : List ℕ) (s : ℕ). l ++ s ∷ code) h.0 h.1 ∙ ap (λ (l : List ℕ). start ++ 0x20 ∷ l) same, refl)
-partly_more start text more code separator system (i ∷ is) j h e same = (
-  e ∙ ap₂ (λ (l : List ℕ) (s : ℕ). l ++ s ∷ code) h.0 h.1 ∙ append_assoc start (0x20 ∷ code_list system (i ∷ is)) (0x2C ∷ code)
-      ∙ ap (λ (l : List ℕ). start ++ 0x20 ∷ (code_list system (i ∷ is) ++ 0x2C ∷ l)) same ∙ ap (λ (l : List ℕ). start ++ 0x20 ∷ l) (sym (codes-push system i is j)),
+pub partly_more : {more : List ℕ} (start text : List ℕ) (separator : ℕ) (system : System) (is : List ℕ) (j : ℕ) → IsPartly start text separator system is → more ≡ text ++ separator ∷ code_of (signal_in system j)
+    → IsPartly start more 0x2C system (is ++ j ∷ [])
+partly_more start text separator system [] j h e = (e ∙ ap₂ (λ (l : List ℕ) (s : ℕ). l ++ s ∷ code_of (signal_in system j)) h.0 h.1, refl)
+partly_more start text separator system (i ∷ is) j h e = (
+  e ∙ ap₂ (λ (l : List ℕ) (s : ℕ). l ++ s ∷ code_of (signal_in system j)) h.0 h.1 ∙ append_assoc start (0x20 ∷ code_list system (i ∷ is)) (0x2C ∷ code_of (signal_in system j))
+      ∙ ap (λ (l : List ℕ). start ++ 0x20 ∷ l) (sym (codes-push system i is j)),
   refl,
 )
 
@@ -58,25 +61,25 @@ pub word_some : (start text : List ℕ) (separator : ℕ) (system : System) (is 
 word_some start text separator system [] h other = absurd (other h.1)
 word_some start text separator system (i ∷ is) h other = h.0
 
-pub word_none : (start text more : List ℕ) (separator : ℕ) (system : System) (is : List ℕ) → IsPartly start text separator system is → separator ≡ 0x20 → more ≡ text ++ 0x20 ∷ codes "none"
+pub word_none : (start text : List ℕ) {more : List ℕ} {separator : ℕ} (system : System) (is : List ℕ) → IsPartly start text separator system is → separator ≡ 0x20 → more ≡ text ++ 0x20 ∷ codes "none"
     → more ≡ start ++ 0x20 ∷ codes_word system is
-word_none start text more separator system [] h blank e = e ∙ ap (λ (l : List ℕ). l ++ 0x20 ∷ codes "none") h.0
-word_none start text more separator system (i ∷ is) h blank e = absurd (let bad : 0x2C ≡ 0x20 = sym h.1 ∙ blank in omega (arith, bad))
+word_none start text system [] h blank e = e ∙ ap (λ (l : List ℕ). l ++ 0x20 ∷ codes "none") h.0
+word_none start text system (i ∷ is) h blank e = absurd (let bad : 0x2C ≡ 0x20 = sym h.1 ∙ blank in omega (arith, bad))
 
 -- ---- a line for each signal
 
-pub lines_one : (c : SignalCountsValue) (cells : List HeardCell) (system : System) (i n : ℕ) (start text more line : List ℕ) → AreSignalCounts c cells → i < length (table system) → n ≡ counted c system i → 0 < n
+pub lines_one : {c : SignalCountsValue} {cells : List HeardCell} {system : System} {i n : ℕ} {text more line : List ℕ} (start : List ℕ) → IsCount c cells system i n → 0 < n
     → text ≡ start ++ lines_below cells system i → more ≡ text ++ line → line ≡ count_line (signal_in system i) n → more ≡ start ++ lines_below cells system (i + 1)
-lines_one c cells system i n start text more line h within is some before e same =
+lines_one {cells = cells} {system} {i} {line = line} start h some before e same =
     let f = λ (i : ℕ). count_line (signal_in system i) (count_of (signal_in system i) cells) in
-    let last : line ≡ f i ++ [] = same ∙ ap (count_line (signal_in system i)) (is ∙ h.each system i within) ∙ sym (append-nil (f i)) in
+    let last : line ≡ f i ++ [] = same ∙ ap (count_line (signal_in system i)) (h.is ∙ h.counts.each system i h.within) ∙ sym (append-nil (f i)) in
     e ∙ ap₂ (λ (a b : List ℕ). a ++ b) before last ∙ append_assoc start (lines_below cells system i) (f i ++ [])
-    ∙ ap (λ (l : List ℕ). start ++ l) (sym (flat_map-append f (had_below cells system i) (i ∷ [])) ∙ ap (flat_map f) (sym (had_one c cells system i n h within is some)))
+    ∙ ap (λ (l : List ℕ). start ++ l) (sym (flat_map-append f (had_below cells system i) (i ∷ [])) ∙ ap (flat_map f) (sym (had_one h some)))
 
-pub lines_none : (c : SignalCountsValue) (cells : List HeardCell) (system : System) (i n : ℕ) (start text : List ℕ) → AreSignalCounts c cells → i < length (table system) → n ≡ counted c system i → n ≤ 0
+pub lines_none : {c : SignalCountsValue} {cells : List HeardCell} {system : System} {i n : ℕ} {text : List ℕ} (start : List ℕ) → IsCount c cells system i n → n ≤ 0
     → text ≡ start ++ lines_below cells system i → text ≡ start ++ lines_below cells system (i + 1)
-lines_none c cells system i n start text h within is none before =
-    before ∙ ap (λ (l : List ℕ). start ++ flat_map (λ (i : ℕ). count_line (signal_in system i) (count_of (signal_in system i) cells)) l) (sym (had_none c cells system i n h within is none))
+lines_none {cells = cells} {system} start h none before =
+    before ∙ ap (λ (l : List ℕ). start ++ flat_map (λ (i : ℕ). count_line (signal_in system i) (count_of (signal_in system i) cells)) l) (sym (had_none h none))
 
 -- at the end of the table, all its signals were processed
 pub at_end : (system : System) (cells : List HeardCell) (i n : ℕ) → n ≡ length (table system) → i ≤ n → n ≤ i → had_below cells system i ≡ had cells system

@@ -120,20 +120,22 @@ not_past : (w tow : ℕ) → w < weeks → tow < week → is_past (w * week + to
 not_past w tow within small = let h : w * week + tow < weeks * week = omega (arith, within, small) in grind (arith, h)
 
 -- the first MSM is accepted in the start week
-taken_first : (s : GatherSetup) (earlier : List Timed) (m : Heard) (tow : ℕ) → s.start_week < weeks → tow < week → greatest_time earlier ≡ None → is_own s m ≡ true → m.tow ≡ Some tow
+taken_first : {tow : ℕ} (s : GatherSetup) (earlier : List Timed) (m : Heard) → is_past (s.start_week * week + tow) ≡ false → greatest_time earlier ≡ None → is_own s m ≡ true → m.tow ≡ Some tow
     → taken_at s earlier m ≡ Some (s.start_week * week + tow)
-taken_first s earlier m tow within small none own is =
+taken_first {tow} s earlier m now none own is =
     ap₂ (λ (b : Bool) (o : Option ℕ). if b then option_and_then (placed s earlier (greatest_time earlier)) o else None) own is
     ∙ ap (λ (g : Option ℕ). placed s earlier g tow) none
-    ∙ ap (λ (b : Bool). if b then None else Some (s.start_week * week + tow)) (not_past s.start_week tow within small)
+    ∙ ap (λ (b : Bool). if b then None else Some (s.start_week * week + tow)) now
+
+-- if this is the first time of week, these messages have the first time of all
+abbrev Dated : GatherSetup → ℕ → Option ℕ → List Heard → Type 0
+Dated s tow first ms = (earlier : List Timed) → first_time earlier ≡ None → first ≡ Some tow → first_time (timed_after s earlier ms) ≡ Some (s.start_week * week + tow)
 
 -- one more frame, whose message is o
-dated_step : (s : GatherSetup) (tow : ℕ) (earlier : List Timed) (o : Option Heard) (ms : List Heard) (rest : Option ℕ) → s.start_week < weeks → tow < week
-    → ((earlier : List Timed) → first_time earlier ≡ None → rest ≡ Some tow → first_time (timed_after s earlier ms) ≡ Some (s.start_week * week + tow))
-    → ((m : Heard) (t : ℕ) → o ≡ Some m → m.tow ≡ Some t → (n : ℕ) × (m.station ≡ Some n)) → first_time earlier ≡ None → option_or (option_and_then (tow_of s.station) o) rest ≡ Some tow
-    → first_time (timed_after s earlier (cons_option o ms)) ≡ Some (s.start_week * week + tow)
-dated_step s tow earlier None ms rest within small more station none first = more earlier none first
-dated_step s tow earlier (Some m) ms rest within small more station none first = by (tow_of s.station m) refl first where
+dated_step : {tow : ℕ} {rest : Option ℕ} (s : GatherSetup) (o : Option Heard) (ms : List Heard) → is_past (s.start_week * week + tow) ≡ false → Dated s tow rest ms
+    → ((m : Heard) (t : ℕ) → o ≡ Some m → m.tow ≡ Some t → (n : ℕ) × (m.station ≡ Some n)) → Dated s tow (option_or (option_and_then (tow_of s.station) o) rest) (cons_option o ms)
+dated_step s None ms now more station earlier none first = more earlier none first
+dated_step {tow} {rest} s (Some m) ms now more station earlier none first = by (tow_of s.station m) refl first where
   x : Timed
   x = record { message = m; time = taken_at s earlier m }
 
@@ -144,14 +146,11 @@ dated_step s tow earlier (Some m) ms rest within small more station none first =
       let is : m.tow ≡ Some tow = parts.1 ∙ first in
       let from = station m tow refl is in
       let own = counts_own s m from.0 from.1 parts.0 in
-      first_stays s (s.start_week * week + tow) (earlier ++ x ∷ []) ms (now_first earlier x (s.start_week * week + tow) (taken_first s earlier m tow within small (none_greatest earlier none) own is) none)
+      first_stays s (s.start_week * week + tow) (earlier ++ x ∷ []) ms (now_first earlier x (s.start_week * week + tow) (taken_first s earlier m now (none_greatest earlier none) own is) none)
 
-dated_after : (s : GatherSetup) (tow : ℕ) (fs : List Framed) → s.start_week < weeks → tow < week → first_tow s.station fs ≡ Some tow → (earlier : List Timed) → first_time earlier ≡ None
-    → first_time (timed_after s earlier (filter_map heard_in fs)) ≡ Some (s.start_week * week + tow)
-dated_after s tow [] within small first earlier none = absurd (no_tow first)
-dated_after s tow (f ∷ fs) within small first earlier none =
-    dated_step s tow earlier (heard_in f) (filter_map heard_in fs) (first_tow s.station fs) within small (λ earlier none first. dated_after s tow fs within small first earlier none)
-    (λ m t is h. has_station (message_at f.message) m t is h) none first
+dated_after : (s : GatherSetup) (tow : ℕ) (fs : List Framed) → is_past (s.start_week * week + tow) ≡ false → Dated s tow (first_tow s.station fs) (filter_map heard_in fs)
+dated_after s tow [] now = λ earlier none first. absurd (no_tow first)
+dated_after s tow (f ∷ fs) now = dated_step s (heard_in f) (filter_map heard_in fs) now (dated_after s tow fs now) (λ m t is h. has_station (message_at f.message) m t is h)
 
 pub dated : (s : GatherSetup) (fs : List Framed) (tow : ℕ) → s.start_week < weeks → tow < week → first_tow s.station fs ≡ Some tow → first_time (timed_after s [] (filter_map heard_in fs)) ≡ Some (s.start_week * week + tow)
-dated s fs tow within small first = dated_after s tow fs within small first [] refl
+dated s fs tow within small first = dated_after s tow fs (not_past s.start_week tow within small) [] refl first

@@ -3,4 +3,4 @@ use Rattle.rtcm_inspect.proofs.check.counts_line.Goals as goal
 
 pub returns-clause-line : goal.returns-clause-line
 returns-clause-line c = λ v are.
-    line_built c.args.counts.now v c.new-line.ensures c.put.ensures c.add_number.ensures.text c.add_count.ensures.text c.add_count-2.ensures.text c.finish.ensures are
+    line_built c.new-line.ensures c.put.ensures c.add_number.ensures.text c.add_count.ensures.text c.add_count-2.ensures.text c.finish.ensures are

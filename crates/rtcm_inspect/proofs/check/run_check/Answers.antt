@@ -1,23 +1,19 @@
 use Rattle.rtcm_inspect.proofs.CheckLemmas.{checked, checked_or, kept_first, read_failures, refused, where_known}
-use Rattle.rtcm_inspect.proofs.PrintingLemmas.{printed_later, same_text}
-use Rattle.rtcm_inspect.proofs.Names.{◌≡◌, ap, Err, file_text, AreCounts, IsLineOf}
+use Rattle.rtcm_inspect.proofs.PrintingLemmas.{printed_later}
+use Rattle.rtcm_inspect.proofs.Names.{ap, Err, IfSome_then, IsLineOf}
 use Rattle.rtcm_inspect.proofs.check.run_check.Goals as goal
 
 pub returns-in-Ok-clause-ends : goal.returns-in-Ok-clause-ends
 returns-in-Ok-clause-ends g c =
     let found = c.in-Ok.ensures.found in
-    checked IsLineOf g.R.Read.remaining g.W.Write.contents g.W.Deliver.waiting c.args.reader.now c.check_file.new.reader c.args.writer.now c.print_text.new.writer c.print_text.result found.v c.counts_line-line.result found.is found.text
-    (c.counts_line-line.ensures.line found.v found.holds) (c.in-Ok.ensures.same (λ e. cc))
-    (printed_later c.print_text.result g.W.Write.contents g.W.Deliver.waiting c.args.writer.now c.deliver_waiting.new.writer c.print_text.new.writer _ c.in_ok-deliver_waiting.ensures.0 c.in_ok-deliver_waiting.ensures.1.0
-    (same_text c.print_text.result g.W.Write.contents g.W.Deliver.waiting c.deliver_waiting.new.writer c.print_text.new.writer _ _ c.as_bytes.ensures.text c.print_text.ensures))
+    checked IsLineOf g.R.Read.remaining c.args.reader.now c.check_file.new.reader c.print_text.result (found.v, found.is, found.text, c.counts_line-line.ensures.line found.v found.holds) (c.in-Ok.ensures.same (λ e. cc))
+    (printed_later c.print_text.result g.W.Write.contents g.W.Deliver.waiting c.deliver_waiting.new.writer c.print_text.new.writer c.in_ok-deliver_waiting.ensures c.as_bytes.ensures.text c.print_text.ensures)
 
 pub returns-in-Ok-clause-only : goal.returns-in-Ok-clause-only
 returns-in-Ok-clause-only g c = λ v is few.
-    where_known (λ input. input ≡ file_text v → AreCounts c.in-Ok.counts v) _ (g.R.Read.remaining c.args.reader.now.inner)
-    (λ input h same. checked_or IsLineOf g.W.Write.contents g.W.Deliver.waiting c.args.writer.now c.print_text.new.writer c.print_text.result v c.counts_line-line.result (c.counts_line-line.ensures.line v (h same))
-    (printed_later c.print_text.result g.W.Write.contents g.W.Deliver.waiting c.args.writer.now c.deliver_waiting.new.writer c.print_text.new.writer _ c.in_ok-deliver_waiting.ensures.0 c.in_ok-deliver_waiting.ensures.1.0
-    (same_text c.print_text.result g.W.Write.contents g.W.Deliver.waiting c.deliver_waiting.new.writer c.print_text.new.writer _ _ c.as_bytes.ensures.text c.print_text.ensures)))
-    (c.in-Ok.ensures.only v is few)
+    IfSome_then (g.R.Read.remaining c.args.reader.now.inner) (c.in-Ok.ensures.only v is few)
+    (λ input h same. checked_or IsLineOf c.print_text.result v (c.counts_line-line.ensures.line v (h same))
+    (printed_later {w = c.args.writer.now} c.print_text.result g.W.Write.contents g.W.Deliver.waiting c.deliver_waiting.new.writer c.print_text.new.writer c.in_ok-deliver_waiting.ensures c.as_bytes.ensures.text c.print_text.ensures))
 
 pub returns-in-Err-clause-ends : goal.returns-in-Err-clause-ends
 returns-in-Err-clause-ends g c =
@@ -26,9 +22,9 @@ returns-in-Err-clause-ends g c =
 
 pub returns-in-Err-clause-only : goal.returns-in-Err-clause-only
 returns-in-Err-clause-only g c = λ v is few.
-    where_known _ _ (g.R.Read.remaining c.args.reader.now.inner) (λ input h same. refused IsLineOf v c.in-Err.fault _ _ (h same)) (c.in-Err.ensures.only v is few)
+    IfSome_then (g.R.Read.remaining c.args.reader.now.inner) (c.in-Err.ensures.only v is few) (λ input h same. refused IsLineOf v c.in-Err.fault _ _ (h same))
 
 pub returns-in_err-deliver_waiting-clause-only : goal.returns-in_err-deliver_waiting-clause-only
 returns-in_err-deliver_waiting-clause-only g c = λ v is few.
     let end = c.in_err-deliver_waiting.ensures in
-    kept_first IsLineOf (g.R.Read.remaining c.args.reader.now.inner) _ _ c.from_residual.result c.in_err-deliver_waiting.field-0.0 v c.from_residual.ensures.1 end.0 end.2
+    where_known _ (g.R.Read.remaining c.args.reader.now.inner) (λ input same. kept_first IsLineOf _ _ c.from_residual.result v c.from_residual.ensures.1 end.0 end.2)

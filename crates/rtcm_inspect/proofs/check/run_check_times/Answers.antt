@@ -1,6 +1,6 @@
 use Rattle.rtcm_inspect.proofs.CheckLemmas.{checked, checked_or, kept_first, read_failures, refused, where_known}
-use Rattle.rtcm_inspect.proofs.PrintingLemmas.{printed_later, same_text}
-use Rattle.rtcm_inspect.proofs.Names.{◌≡◌, ◌∙◌, ◌++◌, List, ℕ, ap, Err, file_text, AreCounts, IsSummary, FileValue, AreLinesOf, check_line, times_lines, FileSummary}
+use Rattle.rtcm_inspect.proofs.PrintingLemmas.{printed_later}
+use Rattle.rtcm_inspect.proofs.Names.{◌≡◌, ◌∙◌, ◌++◌, List, ℕ, ap, Err, AreCounts, IfSome_then, IsSummary, FileValue, AreLinesOf, check_line, times_lines, FileSummary}
 use Rattle.rtcm_inspect.proofs.check.run_check_times.Goals as goal
 
 -- the lines of the counts and of the times
@@ -10,18 +10,14 @@ lines s v counts all is line e = (s.times, is.times, e ∙ ap (λ (l : List ℕ)
 pub returns-in-Ok-clause-ends : goal.returns-in-Ok-clause-ends
 returns-in-Ok-clause-ends g c =
     let found = c.in-Ok.ensures.found in
-    checked AreLinesOf g.R.Read.remaining g.W.Write.contents g.W.Deliver.waiting c.args.reader.now c.check_file_times.new.reader c.args.writer.now c.print_text.new.writer c.print_text.result found.v c.add_times.new.text found.is found.text
-    (lines c.in-Ok.summary found.v c.counts_line-text.result c.add_times.new.text found.holds c.counts_line-text.ensures.line c.add_times.ensures) (c.in-Ok.ensures.same (λ e. cc))
-    (printed_later c.print_text.result g.W.Write.contents g.W.Deliver.waiting c.args.writer.now c.deliver_waiting.new.writer c.print_text.new.writer _ c.in_ok-deliver_waiting.ensures.0 c.in_ok-deliver_waiting.ensures.1.0
-    (same_text c.print_text.result g.W.Write.contents g.W.Deliver.waiting c.deliver_waiting.new.writer c.print_text.new.writer _ _ c.as_bytes.ensures.text c.print_text.ensures))
+    checked AreLinesOf g.R.Read.remaining c.args.reader.now c.check_file_times.new.reader c.print_text.result (found.v, found.is, found.text, lines c.in-Ok.summary found.v c.counts_line-text.result c.add_times.new.text found.holds c.counts_line-text.ensures.line c.add_times.ensures) (c.in-Ok.ensures.same (λ e. cc))
+    (printed_later c.print_text.result g.W.Write.contents g.W.Deliver.waiting c.deliver_waiting.new.writer c.print_text.new.writer c.in_ok-deliver_waiting.ensures c.as_bytes.ensures.text c.print_text.ensures)
 
 pub returns-in-Ok-clause-only : goal.returns-in-Ok-clause-only
 returns-in-Ok-clause-only g c = λ v is few.
-    where_known (λ input. input ≡ file_text v → IsSummary c.in-Ok.summary v) _ (g.R.Read.remaining c.args.reader.now.inner)
-    (λ input h same. checked_or AreLinesOf g.W.Write.contents g.W.Deliver.waiting c.args.writer.now c.print_text.new.writer c.print_text.result v c.add_times.new.text (lines c.in-Ok.summary v c.counts_line-text.result c.add_times.new.text (h same) c.counts_line-text.ensures.line c.add_times.ensures)
-    (printed_later c.print_text.result g.W.Write.contents g.W.Deliver.waiting c.args.writer.now c.deliver_waiting.new.writer c.print_text.new.writer _ c.in_ok-deliver_waiting.ensures.0 c.in_ok-deliver_waiting.ensures.1.0
-    (same_text c.print_text.result g.W.Write.contents g.W.Deliver.waiting c.deliver_waiting.new.writer c.print_text.new.writer _ _ c.as_bytes.ensures.text c.print_text.ensures)))
-    (c.in-Ok.ensures.only v is few)
+    IfSome_then (g.R.Read.remaining c.args.reader.now.inner) (c.in-Ok.ensures.only v is few)
+    (λ input h same. checked_or AreLinesOf c.print_text.result v (lines c.in-Ok.summary v c.counts_line-text.result c.add_times.new.text (h same) c.counts_line-text.ensures.line c.add_times.ensures)
+    (printed_later {w = c.args.writer.now} c.print_text.result g.W.Write.contents g.W.Deliver.waiting c.deliver_waiting.new.writer c.print_text.new.writer c.in_ok-deliver_waiting.ensures c.as_bytes.ensures.text c.print_text.ensures))
 
 pub returns-in-Err-clause-ends : goal.returns-in-Err-clause-ends
 returns-in-Err-clause-ends g c =
@@ -30,9 +26,9 @@ returns-in-Err-clause-ends g c =
 
 pub returns-in-Err-clause-only : goal.returns-in-Err-clause-only
 returns-in-Err-clause-only g c = λ v is few.
-    where_known _ _ (g.R.Read.remaining c.args.reader.now.inner) (λ input h same. refused AreLinesOf v c.in-Err.refusal _ _ (h same)) (c.in-Err.ensures.only v is few)
+    IfSome_then (g.R.Read.remaining c.args.reader.now.inner) (c.in-Err.ensures.only v is few) (λ input h same. refused AreLinesOf v c.in-Err.refusal _ _ (h same))
 
 pub returns-in_err-deliver_waiting-clause-only : goal.returns-in_err-deliver_waiting-clause-only
 returns-in_err-deliver_waiting-clause-only g c = λ v is few.
     let end = c.in_err-deliver_waiting.ensures in
-    kept_first AreLinesOf (g.R.Read.remaining c.args.reader.now.inner) _ _ c.from_residual.result c.in_err-deliver_waiting.field-0.0 v c.from_residual.ensures.1 end.0 end.2
+    where_known _ (g.R.Read.remaining c.args.reader.now.inner) (λ input same. kept_first AreLinesOf _ _ c.from_residual.result v c.from_residual.ensures.1 end.0 end.2)

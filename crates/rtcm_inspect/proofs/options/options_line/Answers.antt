@@ -18,18 +18,14 @@ two_options first second n (Some m) w ws =
     append_assoc (number_start first n) (number_start second (Some m)) (line (w ∷ ws)) ∙ ap (λ (l : List ℕ). number_start first n ++ l) (first_option second (Some m) w ws)
     ∙ first_option first n second (decimal m ∷ w ∷ ws)
 
--- the line, text by text
-line_made : (week own : Option ℕ) (p : PlanValue) (point : Option StationParts) {none start numbers name gps next galileo station all : List ℕ} → none ≡ []
-    → start ≡ none ++ number_start (codes "--week") week → numbers ≡ start ++ number_start (codes "--station") own → name ≡ numbers ++ codes "--gps" → gps ≡ name ++ 0x20 ∷ codes_word Gps p.gps
-    → next ≡ gps ++ 0x20 ∷ codes "--galileo" → galileo ≡ next ++ 0x20 ∷ codes_word Galileo p.galileo → station ≡ with_words galileo (station_words point) → all ≡ station ++ 0x0A ∷ []
+-- the line, after the texts up to its first word
+line_made : (week own : Option ℕ) (p : PlanValue) (point : Option StationParts) {text all : List ℕ} → all ≡ text ++ 0x0A ∷ []
+    → text ≡ with_words ((number_start (codes "--week") week ++ number_start (codes "--station") own) ++ codes "--gps") (codes_word Gps p.gps ∷ codes "--galileo" ∷ codes_word Galileo p.galileo ∷ station_words point)
     → all ≡ options_line week own p point
 unfolding options_line
-line_made week own p point none start numbers name gps next galileo station all =
-    let words = station_words point in
-    let first = add_text name (add_text numbers (add_text start none refl) refl) refl in
-    let third = add_word galileo (add_word next (add_word gps first refl) refl) refl in
-    let rest = codes_word Gps p.gps ∷ codes "--galileo" ∷ codes_word Galileo p.galileo ∷ words in
-    end_line (number_start (codes "--week") week ++ number_start (codes "--station") own) (codes "--gps") rest all (station ∙ ap (λ (t : List ℕ). with_words t words) third)
+line_made week own p point all text =
+    let rest = codes_word Gps p.gps ∷ codes "--galileo" ∷ codes_word Galileo p.galileo ∷ station_words point in
+    end_line (number_start (codes "--week") week ++ number_start (codes "--station") own) (codes "--gps") rest all text
     ∙ two_options (codes "--week") (codes "--station") week own (codes "--gps") rest
 
 pub returns : goal.returns
@@ -37,7 +33,7 @@ returns c = λ fs h.
     let s = c.args.signals.now in
     let counts = h.counted.signal_counts in
     let cells = valued_in s.station fs in
-    line_made c.args.week s.station (plan_had cells) s.first.point c.new-line.ensures c.add_number.ensures.text
-    (c.add_number-2.ensures.text ∙ ap (λ (n : Option ℕ). c.add_number.new.line ++ number_start (codes "--station") n) (search rules)) c.put.ensures (c.add_codes.ensures.text cells counts)
-    c.add_word.ensures.text (c.add_codes-2.ensures.text cells counts) c.add_station.ensures.text c.finish.ensures
-    ∙ ap (options_line c.args.week s.station (plan_had cells)) h.first.point
+    let numbers = c.add_number-2.ensures.text ∙ ap (λ (n : Option ℕ). c.add_number.new.line ++ number_start (codes "--station") n) (search rules) in
+    let first = add_text c.put.ensures (add_text numbers (add_text c.add_number.ensures.text c.new-line.ensures refl) refl) refl in
+    let third = add_word (c.add_codes-2.ensures.text cells counts) (add_word c.add_word.ensures.text (add_word (c.add_codes.ensures.text cells counts) first refl) refl) refl in
+    line_made c.args.week s.station (plan_had cells) s.first.point c.finish.ensures (c.add_station.ensures.text ∙ ap (λ (t : List ℕ). with_words t (station_words s.first.point)) third) ∙ ap (options_line c.args.week s.station (plan_had cells)) h.first.point

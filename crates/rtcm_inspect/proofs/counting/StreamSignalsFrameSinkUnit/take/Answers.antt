@@ -9,13 +9,13 @@ returns-in-Ok-clause-whole c = λ c0 o ps fs took.
     let f = framed c.args.frame.now in
     let m = viewed_message c.in-Ok.view in
     let is = ap message_at (sym c.as_slice.ensures.value) ∙ c.in-Ok.ensures.exact in
-    one_more_counted c0 s (record s { signal_counts = c.count_view.new.self; first = c.with-self.result }) ps fs f refl
-    (λ gs few h. read_counted s.signal_counts c.count_view.new.self s.station gs f m is c.count_view.ensures few h) (λ gs h. c.with-self.ensures gs f is h) took
+    one_more_counted s f refl
+    (λ gs few h. read_counted f is c.count_view.ensures few h) (λ gs h. c.with-self.ensures gs f is h) took
 
 pub returns-in-Err-clause-whole : goal.returns-in-Err-clause-whole
 returns-in-Err-clause-whole c = λ c0 o ps fs took.
     let s = c.args.self.now in
     let f = framed c.args.frame.now in
     let is = ap message_at (sym c.as_slice.ensures.value) ∙ c.in-Err.ensures.exact in
-    one_more_counted c0 s s ps fs f refl (λ gs few h. refused_counted s.signal_counts s.station gs f c.in-Err.field-0 is h)
-    (λ gs h. first_refused s.first s.station gs f c.in-Err.field-0 is h) took
+    one_more_counted s f refl (λ gs few h. refused_counted f is h)
+    (λ gs h. first_refused f is h) took
