@@ -2,7 +2,7 @@
 use Rattle.rtcm_convert.proofs.ExactLemmas.{tally_whole, whole_epochs, epochs_few, outcomes_length}
 use Rattle.rtcm_convert.proofs.PartLemmas.{goes_on-trans, breaks_off-after, breaks_off-before, up_to_whole}
 use Rattle.rtcm_convert.proofs.StreamLemmas.{files_self, so_far-front}
-use Rattle.rtcm_convert.proofs.Names.{◌≡◌, ℕ, List, ◌++◌, true, false, sym, ap, subst, ◌∙◌, Option, append-nil, [], arith, length, ◌*◌, ◌≤◌, ◌^◌, Device, HasFailed, IsPrefix, Framed, frames_of, decided_frames, IsDrained, known_frames, PassesKnown, BreaksKnown, HasPassedAll, HasBroken, FramerValue, SetupValue, so_far, file, epochs_in, AppendsBetween, AppendsPrefixBetween, HasFiledFrames, FiledStays, FiledGrows, WrittenStays, WrittenGrows, outcomes, EndsFile, BreaksInRest, Drained, Files, BreaksFiling, IsEnded, AppendsPrefixOfRest, FileWriter}
+use Rattle.rtcm_convert.proofs.Names.{◌≡◌, ℕ, List, ◌++◌, true, false, sym, ap, subst, ◌∙◌, Option, append-nil, [], arith, length, ◌*◌, ◌≤◌, ◌^◌, Device, HasFailed, IsPrefix, Framed, frames_of, decided_frames, IsDrained, known_frames, PassesKnown, BreaksKnown, HasPassedAll, HasBroken, FramerValue, SetupValue, so_far, file, epochs_in, AppendsBetween, AppendsPrefixBetween, HasFiledFrames, FiledStays, FiledGrows, WrittenStays, WrittenGrows, outcomes, EndsFile, BreaksInRest, BreaksAtEndOf, EndsBytes, Drained, Files, BreaksFiling, AppendsPrefixOfRest, FileWriter}
 
 -- at most 2^48 bytes were accepted
 within : (v : FramerValue) (w : FileWriter) (s : SetupValue) (bytes : List ℕ) → Drained v w s bytes → length bytes ≤ 2 ^ 48
@@ -11,7 +11,7 @@ within v w s bytes d = let t = d.framer.history.taken in let a = d.framer.within
 abbrev pub Few : Type 0
 Few = (b : List ℕ) → 6 * length (frames_of b) ≤ length b
 
-module _ {W : Type 0} (c : W → Option (List ℕ)) (v v' : FramerValue) (w w' : FileWriter) (o o' : Device W) where
+module _ {W : Type 0} {c : W → Option (List ℕ)} {v v' : FramerValue} {w w' : FileWriter} {o o' : Device W} where
   -- the remaining frames were passed on
   passed_all : PassesKnown (Files c) v w o v' w' o' → (s : SetupValue) (bytes : List ℕ) → Drained v w s bytes → HasPassedAll (Files c) v' w o (known_frames v.has_ended bytes) w' o' bytes
   passed_all k s bytes d = k w o (known_frames v.has_ended bytes) bytes (known_frames v.has_ended bytes) (record { framer = d.framer; taken = files_self c w o (known_frames v.has_ended bytes) })
@@ -28,10 +28,9 @@ module _ {W : Type 0} (c : W → Option (List ℕ)) (v v' : FramerValue) (w w' :
       )
 
   -- then the rest of the file was written
-  pub ended : Few → (w2 : FileWriter) (e : Option (List ℕ)) → v.has_ended ≡ false → v'.has_ended ≡ true → v'.limit ≡ v.limit → v'.taken ≡ v.taken → PassesKnown (Files c) v w o v' w' o'
-      → EndsFile w' w2 (c o'.inner) e → w2.tally ≡ w'.tally
-      → (s : SetupValue) (bytes : List ℕ) → Drained v w s bytes → IsEnded v' w2 (c o.inner) e s bytes
-  ended few w2 e before after limit taken k rest tally s bytes d =
+  pub ended : {w2 : FileWriter} {e : Option (List ℕ)} → Few → v.has_ended ≡ false → v'.has_ended ≡ true → v'.limit ≡ v.limit → v'.taken ≡ v.taken → PassesKnown (Files c) v w o v' w' o'
+      → EndsFile w' w2 (c o'.inner) e → w2.tally ≡ w'.tally → EndsBytes v w v' w2 (c o.inner) e
+  ended few before after limit taken k rest tally s bytes d =
       let p = filed_all before after k s bytes d in
       let q = rest s (frames_of bytes) p.0 in
       let a = passed_all k s bytes d in
@@ -51,9 +50,8 @@ module _ {W : Type 0} (c : W → Option (List ℕ)) (v v' : FramerValue) (w w' :
       }
 
   -- a prefix of it was written
-  pub ended_part : (e : Option (List ℕ)) → v.has_ended ≡ false → v'.has_ended ≡ true → PassesKnown (Files c) v w o v' w' o' → BreaksInRest w' (c o'.inner) e
-      → (s : SetupValue) (bytes : List ℕ) → Drained v w s bytes → AppendsPrefixOfRest (c o.inner) e s bytes bytes
-  ended_part e before after k rest s bytes d =
+  pub ended_part : {e : Option (List ℕ)} → v.has_ended ≡ false → v'.has_ended ≡ true → PassesKnown (Files c) v w o v' w' o' → BreaksInRest w' (c o'.inner) e → BreaksAtEndOf v w (c o.inner) e
+  ended_part before after k rest s bytes d =
       let p = filed_all before after k s bytes d in
       breaks_off-after p.1 (rest s (frames_of bytes) p.0)
 
@@ -65,9 +63,9 @@ so_far-file : FiledStays → (s : SetupValue) (fs : List Framed) → IsPrefix (s
 so_far-file stays s fs = subst (λ (l : List Framed). IsPrefix (so_far s fs) (file s l)) (append-nil fs) (stays s fs [])
 
 -- the device failed before
-pub drain_part : {W : Type 0} → (c : W → Option (List ℕ)) {v : FramerValue} {w w' : FileWriter} {o o' : Device W} → FiledStays → FiledGrows → v.has_ended ≡ false → BreaksKnown (Files c) (BreaksFiling c) true v w o w' o'
+pub drain_part : {W : Type 0} {c : W → Option (List ℕ)} {v : FramerValue} {w w' : FileWriter} {o o' : Device W} → FiledStays → FiledGrows → v.has_ended ≡ false → BreaksKnown (Files c) (BreaksFiling c) true v w o w' o'
     → (s : SetupValue) (bytes : List ℕ) → Drained v w s bytes → AppendsPrefixOfRest (c o.inner) (c o'.inner) s bytes bytes
-drain_part c {v} {w} {w'} {o} {o'} stays grows before k s bytes d =
+drain_part {c = c} {v} {w} {w'} {o} {o'} stays grows before k s bytes d =
     let p : HasBroken (BreaksFiling c) true w o (known_frames v.has_ended bytes) w' o' (known_frames v.has_ended bytes) bytes =
     k w o (known_frames v.has_ended bytes) bytes (known_frames v.has_ended bytes) (record { framer = d.framer; taken = files_self c w o (known_frames v.has_ended bytes) }) in
     let j : known_frames v.has_ended bytes ≡ decided_frames bytes = ap (λ h. known_frames h bytes) before in
@@ -75,9 +73,9 @@ drain_part c {v} {w} {w'} {o} {o'} stays grows before k s bytes d =
     subst (λ (l : List Framed). AppendsPrefixBetween (c o.inner) (c o'.inner) (so_far s l) (so_far s p.reached)) j (up_to_whole (p.broken.part s d.file_writer)) in
     breaks_off-before (breaks_off-before out (so_far-front grows s p.reached (frames_of bytes) p.known)) (so_far-file stays s (frames_of bytes))
 
-pub drain_failed : {W : Type 0} → (c : W → Option (List ℕ)) {v : FramerValue} {w w' : FileWriter} {o o' : Device W} → BreaksKnown (Files c) (BreaksFiling c) true v w o w' o' → (b : List ℕ)
+pub drain_failed : {W : Type 0} {c : W → Option (List ℕ)} {v : FramerValue} {w w' : FileWriter} {o o' : Device W} → BreaksKnown (Files c) (BreaksFiling c) true v w o w' o' → (b : List ℕ)
     → HasPassedAll (Files c) v w o (known_frames v.has_ended b) w o b → HasFailed o.failures o'.failures × (o'.widest ≡ o.widest)
-drain_failed c {v} {w} {o = o} k b x = let p = k w o (known_frames v.has_ended b) b (known_frames v.has_ended b) x.passed in (p.broken.failed, p.broken.widest)
+drain_failed {v = v} {w} {o = o} k b x = let p = k w o (known_frames v.has_ended b) b (known_frames v.has_ended b) x.passed in (p.broken.failed, p.broken.widest)
 
 -- the decided frames of some bytes are a prefix of the frames of more bytes, and of their decided frames
 abbrev pub FramesStay : Type 0

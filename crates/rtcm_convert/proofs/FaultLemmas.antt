@@ -55,7 +55,7 @@ pub unlike : {A P : Type 0} (f g : Fault) → is f f ≡ true → is f g ≡ fal
 unlike f g same other h = absurd (apart_err (is f) f g same other h)
 
 -- a call whose faults are of one kind returns no other
-module _ (K L : Fault → Type 0) (test : Fault → Bool) (known : (f : Fault) → K f → test f ≡ true) where
+module _ {K : Fault → Type 0} {test : Fault → Bool} (L : Fault → Type 0) (known : (f : Fault) → K f → test f ≡ true) where
   pub never : {A : Type 0} (r : Result A Fault) → IfErr r (λ f. K f × L f) → (g : Fault) → test g ≡ false → IsErrOf r g → ⊥
   never (Ok x) left g fails e = not_err x g e
   never (Err f) left g fails e = apart_err test f g (known f left.0) fails e
@@ -137,7 +137,7 @@ module _ {A : Type 0} (E : Type 0) where
   no_epoch_of (Err f) none h = none.1
 
   pub no_epoch_only : (r : Result A Fault) → IfErr r (λ f. (f ≡ NoEpoch) × E) → IsErrOf r Write → ⊥
-  no_epoch_only r none h = never (λ f. f ≡ NoEpoch) (λ _. E) (is NoEpoch) (λ f e. ap (is NoEpoch) e) r none Write refl h
+  no_epoch_only r none h = never {K = λ f. f ≡ NoEpoch} {test = is NoEpoch} (λ _. E) (λ f e. ap (is NoEpoch) e) r none Write refl h
 
   pub no_epoch_sent : (r : Result A Fault) (before after : List ℕ) → IfErr r (λ f. (f ≡ NoEpoch) × E) → after ≡ [] → IsSentAfter r before after
   no_epoch_sent (Ok x) before after none e = e

@@ -1,7 +1,7 @@
 -- A piece that a converter accepts, and the end of its stream.
 use Rattle.rtcm_scan.specs.declared.feed.StreamFault.TheVariants.{Read, TooLong}
 use Rattle.rtcm_convert.proofs.StreamLemmas.{piece_whole, piece_part, piece_fine, to_limit}
-use Rattle.rtcm_convert.proofs.Names.{◌≡◌, ◌≢◌, ℕ, ◌<◌, ◌++◌, List, length, Bool, true, false, sym, subst, ◌∙◌, [], Option, suc, zero, arith, refl, true≢false, Result, Ok, Err, IfOk, Device, HasExaminedSome, Passes, Breaks, PassesToLimit, AtFault, up_to_limit, FramerValue, StreamFault, Sink, Conversion, kept_of, KeepsNow, IsGoing, IsFit, HasConverted, HasFinished, TakesPiece, CutsAtLimit, WritesPrefixOfAdded, FinishesNow, FinishesEmptyNow, SetupValue, IsKeptAtEnd, IsWithinBounds, skipped_before, frames_of, known_place, report_with, Report, FiledGrows, Files, BreaksFiling, EndsBytes, AppendsDecided, FileWriter}
+use Rattle.rtcm_convert.proofs.Names.{◌≡◌, ◌≢◌, ℕ, ◌<◌, ◌++◌, List, length, Bool, true, false, sym, subst, ◌∙◌, [], Option, suc, zero, arith, refl, true≢false, Device, HasExaminedSome, Passes, Breaks, PassesToLimit, AtFault, up_to_limit, FramerValue, StreamFault, Sink, Conversion, kept_of, KeepsNow, IsGoing, IsFit, HasConverted, HasFinished, TakesPiece, CutsAtLimit, WritesPrefixOfAdded, FinishesNow, FinishesEmptyNow, SetupValue, IsKeptAtEnd, IsWithinBounds, skipped_before, frames_of, known_place, report_with, Report, FiledGrows, Files, BreaksFiling, EndsBytes, AppendsDecided, FileWriter}
 
 pub read_of : {F : Type 0} (f : StreamFault F) (P Q R : Type 0) → f ≡ Read → AtFault f P Q R → P
 read_of f P Q R e a = subst (λ (x : StreamFault _). AtFault x P Q R) e a
@@ -34,10 +34,10 @@ ended_fit failed v w some = record {
   examined = some;
 }
 
-module _ {W : Type 0} (c : W → Option (List ℕ)) (failed over : Bool) (v v' : FramerValue) (w w' : FileWriter) (o o' : Device W) (piece : List ℕ) where
+module _ {W : Type 0} {failed over : Bool} {v v' : FramerValue} {w w' : FileWriter} {o o' : Device W} {c : W → Option (List ℕ)} (piece : List ℕ) where
   pub fed_whole : KeepsNow (with_flags failed over v' w') → v.has_ended ≡ false → v'.has_ended ≡ false → Passes (Files c) v w o v' w' o' piece → TakesPiece (with_flags failed over v w) (with_flags failed over v' w') (c o.inner) (c o'.inner) piece
   fed_whole keeps before after k s bytes h =
-      let p = piece_whole c v v' w w' o o' piece before after k s bytes h.drained in
+      let p = piece_whole c piece before after k s bytes h.drained in
       let now : HasConverted (with_flags failed over v' w') s (bytes ++ piece) = record { going = record { fine = h.going.fine; more = h.going.more }; drained = p.0 } in
       record {
         converted = now;
@@ -52,20 +52,21 @@ module _ {W : Type 0} (c : W → Option (List ℕ)) (failed over : Bool) (v v' :
     going = λ _. goes;
     listening = λ _. ended ∙ fit.listening go;
     ready = λ _. ready;
-    drained = λ _. (piece_fine c v v' w w' o o' piece k (fit.drained go)).0;
+    drained = λ _. (piece_fine c piece k (fit.drained go)).0;
     examined = some fit.examined;
   }
 
   pub fed_long : v.has_ended ≡ false → v'.has_ended ≡ false → PassesToLimit (Files c) v w o v' w' o' piece → CutsAtLimit (with_flags failed over v w) (with_flags true over v' w') (c o.inner) (c o'.inner) piece
   fed_long before after k = record {
     adds = λ s bytes h. (subst (λ (l : List ℕ). AppendsDecided (c o.inner) (c o'.inner) s bytes l) (to_limit v bytes piece h.drained.framer.history.taken h.drained.framer.within)
-        (piece_whole c v v' w w' o o' (up_to_limit v piece) before after k.passes s bytes h.drained).1);
+        (piece_whole c (up_to_limit v piece) before after k.passes s bytes h.drained).1);
     full = k.full;
     over = k.over;
   }
 
-  pub fed_part : FiledGrows → v.has_ended ≡ false → Breaks (Files c) (BreaksFiling c) v w o w' o' piece → WritesPrefixOfAdded (with_flags failed over v w) (c o.inner) (c o'.inner) piece
-  fed_part grows before k s bytes h = piece_part c grows v w w' o o' piece before k s bytes h.drained
+pub fed_part : {W : Type 0} {failed over : Bool} {v : FramerValue} {w w' : FileWriter} {o o' : Device W} {c : W → Option (List ℕ)} (piece : List ℕ) → FiledGrows → v.has_ended ≡ false → Breaks (Files c) (BreaksFiling c) v w o w' o' piece
+    → WritesPrefixOfAdded (with_flags failed over v w) (c o.inner) (c o'.inner) piece
+fed_part {c = c} piece grows before k s bytes h = piece_part c grows piece before k s bytes h.drained
 
 some : (n m : ℕ) → n ≡ m → (n ≡ 0 → ⊥) → 0 < m
 some zero m e h = absurd (h refl)
@@ -78,9 +79,8 @@ KeepsAtEnd x = (s : SetupValue) (b : List ℕ) → HasFinished x s b → IsKeptA
 same_report : {m n k l : ℕ} {t u : Report} {d e : ℕ} → m ≡ n → k ≡ l → t ≡ u → d ≡ e → report_with m k t d ≡ report_with n l u e
 same_report p q r s = rw (p, q, r, s) refl
 
-module _ (failed over : Bool) (v v' : FramerValue) (w w' : FileWriter) (a b : Option (List ℕ)) (ends : EndsBytes v w v' w' a b)
-    (keeps : KeepsAtEnd (with_flags failed true v' w')) (within : IsWithinBounds v'.taken (kept_of (with_flags failed true v' w')))
-    (n : List ℕ) (empty : n ≡ []) where
+module _ {failed over : Bool} {v v' : FramerValue} {w w' : FileWriter} {a b : Option (List ℕ)} {n : List ℕ} (ends : EndsBytes v w v' w' a b)
+    (keeps : KeepsAtEnd (with_flags failed true v' w')) (within : IsWithinBounds v'.taken (kept_of (with_flags failed true v' w'))) (empty : n ≡ []) where
   finished : (s : SetupValue) (bytes : List ℕ) → HasConverted (with_flags failed over v w) s bytes → HasFinished (with_flags failed true v' w') s bytes
   finished s bytes h =
       let p = ends s bytes h.drained in
@@ -99,22 +99,17 @@ module _ (failed over : Bool) (v v' : FramerValue) (w w' : FileWriter) (a b : Op
         bounds = subst (λ (k : ℕ). IsWithinBounds k (kept_of (with_flags failed true v' w'))) p.taken within;
       }
 
-  pub finishes : (report : Report) (m k : ℕ) → report ≡ report_with m k w'.tally w'.epochs → m ≡ v'.taken → k ≡ v'.skipped → (w'.epochs ≡ 0 → ⊥) → FinishesNow (with_flags failed over v w) (with_flags failed true v' w') n a b report
-  finishes report m k is taken passed_over not_empty s bytes h =
+  pub finishes : {report : Report} → (w'.epochs ≢ 0) × (report ≡ report_with v'.taken v'.skipped w'.tally w'.epochs) → FinishesNow (with_flags failed over v w) (with_flags failed true v' w') n a b report
+  finishes given s bytes h =
       let p = ends s bytes h.drained in
       let f = finished s bytes h in
       let skipped : v'.skipped ≡ skipped_before (length bytes) (frames_of bytes) = subst (λ (e : Bool). v'.skipped ≡ skipped_before (known_place e bytes) (frames_of bytes)) p.over p.drained.skipped in
       record {
         out = p.out;
         sent = empty;
-        some = some _ _ p.epochs not_empty;
-        report_is = is ∙ same_report (taken ∙ p.taken) (passed_over ∙ skipped) p.tally p.epochs;
+        some = some _ _ p.epochs given.0;
+        report_is = given.1 ∙ same_report p.taken skipped p.tally p.epochs;
         finished = f;
         kept = keeps s bytes f;
         bounds = subst (λ (k : ℕ). IsWithinBounds k (kept_of (with_flags failed true v' w'))) p.taken within;
       }
-
-  pub finishes_with : {E : Type 0} (r : Result Report E) → IfOk r (λ report. (w'.epochs ≢ 0) × (report ≡ report_with v'.taken v'.skipped w'.tally w'.epochs))
-      → IfOk r (λ report. FinishesNow (with_flags failed over v w) (with_flags failed true v' w') n a b report)
-  finishes_with (Ok report) p = finishes report v'.taken v'.skipped p.1 refl refl p.0
-  finishes_with (Err e) p = tt

@@ -40,7 +40,7 @@ pub use Rattle.rtcm_convert.specs.Pieces.{StopsInPieces}
 pub use Rattle.rtcm_convert.specs.Readable.{AreSound, HasValue, IsReadable}
 pub use Rattle.rtcm_convert.specs.SetupValues.{IsBadAt, IsBadStart, Start, setup_value, setup_value_at, start_at, start_value, start_zero}
 pub use Rattle.rtcm_convert.specs.Steps.{BreaksInFrame, BreaksInRest, EndsFile, TakesFrame}
-pub use Rattle.rtcm_convert.specs.Stream.{AppendsDecided, AppendsPrefixOfDecided, AppendsPrefixOfRest, BreaksFiling, Drained, EndsBytes, Files, HasDrained, HasDrainedSome, IsEnded}
+pub use Rattle.rtcm_convert.specs.Stream.{AppendsDecided, AppendsPrefixOfDecided, AppendsPrefixOfRest, BreaksAtEndOf, BreaksFiling, Drained, EndsBytes, Files, HasDrained, HasDrainedSome, IsEnded}
 pub use Rattle.rtcm_convert.specs.declared.fault.Fault.{Fault}
 pub use Rattle.rtcm_convert.specs.declared.fault.Fault.TheVariants.{BadSetup, Failed, Finished, Memory, NoEpoch, Read, TooLong, Write}
 pub use Rattle.rtcm_convert.specs.declared.file_writer.FileWriter.{FileWriter}

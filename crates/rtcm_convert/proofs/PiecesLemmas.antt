@@ -1,7 +1,7 @@
 -- Pieces that a converter accepts up to the end of its stream.
 use Rattle.rtcm_convert.proofs.PartLemmas.{goes_on-trans}
 use Rattle.rtcm_convert.proofs.RunLemmas.{completed_after, empty_after}
-use Rattle.rtcm_convert.proofs.Names.{◌≡◌, ℕ, ◌+◌, ◌<◌, ◌≤◌, inl, inr, List, [], ◌∷◌, ◌++◌, sym, ap, subst, ◌∙◌, arith, Option, Result, Ok, Err, IfOk, append-nil, append_assoc, length, length-append, take, drop, get_or, IsErrOf, flat_map, Vec, take_more, take-append-drop, take-append-le, flat_map-append, take-length, joined_pieces, SetupValue, AppendsDecided, AppendsPrefixOfDecided, Conversion, HasConverted, TakesPiece, CutsAtLimit, WritesPrefixOfAdded, StopsAtEnd, FinishesNow, FinishesEmptyNow, CompletesFile, CompletesEmptyFile, FailsAtEnd, StopsInPieces, IsFeedFault, Fault, NoEpoch, Report}
+use Rattle.rtcm_convert.proofs.Names.{◌≡◌, ℕ, ◌+◌, ◌<◌, ◌≤◌, inl, inr, List, [], ◌∷◌, ◌++◌, sym, ap, subst, ◌∙◌, arith, Option, Err, append-nil, append_assoc, length, length-append, take, drop, get_or, IsErrOf, flat_map, Vec, take_more, take-append-drop, take-append-le, flat_map-append, take-length, joined_pieces, SetupValue, AppendsDecided, AppendsPrefixOfDecided, Conversion, HasConverted, TakesPiece, CutsAtLimit, WritesPrefixOfAdded, StopsAtEnd, FinishesNow, FinishesEmptyNow, CompletesFile, CompletesEmptyFile, FailsAtEnd, StopsInPieces, IsFeedFault, Fault, NoEpoch, Report}
 
 -- ---- the first pieces
 
@@ -32,18 +32,17 @@ taken_then {x} {a} {c} front piece {all} more f g s bytes y =
 pub longer_by : (u : ℕ) {v w : ℕ} (front piece : List ℕ) {all : List ℕ} → front ++ piece ≡ all → v ≡ u + length front → w ≡ v + length piece → w ≡ u + length all
 longer_by u front piece {all} more d e = let l : length all ≡ length front + length piece = ap length (sym more) ∙ length-append front piece in omega (arith, d, e, l)
 
-module _ (v w x : Conversion) (a b c : Option (List ℕ)) (front : List ℕ) (came : HasTaken v w a b front) where
+module _ {v w : Conversion} {a b : Option (List ℕ)} (front : List ℕ) (came : HasTaken v w a b front) where
   -- ---- the end
 
-  pub pieces_whole : {E : Type 0} (n all : List ℕ) (result : Result Report E) → front ≡ all → IfOk result (λ report. FinishesNow w x n b c report) → IfOk result (λ report. CompletesFile v x n a c report all)
-  pieces_whole n all (Ok report) e f = subst (CompletesFile v x n a c report) e (λ s bytes y. (let i = came s bytes y in completed_after i.1 (f s (bytes ++ front) i.0)))
-  pieces_whole n all (Err d) e f = tt
+  pub pieces_whole : {x : Conversion} {c : Option (List ℕ)} {n all : List ℕ} {report : Report} → front ≡ all → FinishesNow w x n b c report → CompletesFile v x n a c report all
+  pieces_whole {x} {c} {n} {report = report} e f = subst (CompletesFile v x n a c report) e (λ s bytes y. (let i = came s bytes y in completed_after i.1 (f s (bytes ++ front) i.0)))
 
-  pub pieces_empty : (n all : List ℕ) → front ≡ all → FinishesEmptyNow w x n b c → CompletesEmptyFile v x n a c all
-  pieces_empty n all e f = subst (CompletesEmptyFile v x n a c) e (λ s bytes y. (let i = came s bytes y in empty_after i.1 (f s (bytes ++ front) i.0)))
+  pub pieces_empty : {x : Conversion} {c : Option (List ℕ)} {n all : List ℕ} → front ≡ all → FinishesEmptyNow w x n b c → CompletesEmptyFile v x n a c all
+  pieces_empty {x} {c} {n} e f = subst (CompletesEmptyFile v x n a c) e (λ s bytes y. (let i = came s bytes y in empty_after i.1 (f s (bytes ++ front) i.0)))
 
-  pub pieces_broke_at_end : {Z : Type 0} → (pieces : List (Vec ℕ Z)) → front ≡ joined_pieces pieces → StopsAtEnd w b c → StopsInPieces v a c pieces
-  pieces_broke_at_end pieces e stop = inr (λ s bytes y.
+  pub pieces_broke_at_end : {Z : Type 0} {c : Option (List ℕ)} (pieces : List (Vec ℕ Z)) → front ≡ joined_pieces pieces → StopsAtEnd w b c → StopsInPieces v a c pieces
+  pieces_broke_at_end {c = c} pieces e stop = inr (λ s bytes y.
       let i = came s bytes y in
       let at : bytes ++ front ≡ bytes ++ joined_pieces pieces = ap (λ l. bytes ++ l) e in
       subst (λ (l : List ℕ). FailsAtEnd a c s bytes l) at (record { mid = b; before = i.1; last = stop s (bytes ++ front) i.0 }))
@@ -51,8 +50,8 @@ module _ (v w x : Conversion) (a b c : Option (List ℕ)) (front : List ℕ) (ca
   -- ---- a piece
 
   -- a piece that goes over the limit: the bytes written are those of all pieces up to the limit
-  pub pieces_long : (piece all rest : List ℕ) → w.scan.limit ≡ v.scan.limit → w.scan.taken ≡ v.scan.taken + length front → all ≡ (front ++ piece) ++ rest → CutsAtLimit w x b c piece → CutsAtLimit v x a c all
-  pieces_long piece all rest same taken e q = record {
+  pub pieces_long : {x : Conversion} {c : Option (List ℕ)} {all : List ℕ} (piece rest : List ℕ) → w.scan.limit ≡ v.scan.limit → w.scan.taken ≡ v.scan.taken + length front → all ≡ (front ++ piece) ++ rest → CutsAtLimit w x b c piece → CutsAtLimit v x a c all
+  pieces_long {c = c} {all} piece rest same taken e q = record {
     adds = λ s bytes y.
         (let i = came s bytes y in
         let out = goes_on-trans i.1 (q.adds s (bytes ++ front) i.0) in

@@ -68,15 +68,15 @@ failing_at {a} {b} {m} s bytes front piece before grows first f =
     let first' : IsPrefix (so_far s (decided_frames (bytes ++ front))) m = subst (λ (e : Bool). IsPrefix (so_far s (known_frames e (bytes ++ front))) m) before first in
     rw append_assoc (up_to_earlier grows first' (subst (λ (e : Bool). AppendsUpTo a b (so_far s (known_frames e bytes)) m (so_far s (known_frames e (bytes ++ (front ++ piece))))) before f))
 
-module _ {W : Type 0} (c : W → Option (List ℕ)) (failed over : Bool) (v v' : FramerValue) (w w' : FileWriter) (o o' : Device W) (r r' : Option (List ℕ)) where
+module _ {W : Type 0} {failed over : Bool} {v v' : FramerValue} {w w' : FileWriter} {o o' : Device W} (c : W → Option (List ℕ)) (r r' : Option (List ℕ)) where
   pub rest_taken : KeepsNow (with_flags failed over v' w') → v.has_ended ≡ false → v'.has_ended ≡ false → ReadsOn (Files c) v w o v' w' o' r r' → TakesFromReader (with_flags failed over v w) (with_flags failed over v' w') r r' (c o.inner) (c o'.inner)
-  rest_taken keeps before after p = (p.0, p.1, p.2.1, fed_whole c failed over v v' w w' o o' p.0 keeps before after p.2.0)
+  rest_taken keeps before after p = (p.0, p.1, p.2.1, fed_whole p.0 keeps before after p.2.0)
 
   pub rest_faulty : v.has_ended ≡ false → v'.has_ended ≡ false → ReadsOn (Files c) v w o v' w' o' r r' → RanToFault (with_flags failed over v w) (with_flags true over v' w') r r' (c o.inner) (c o'.inner)
-  rest_faulty before after p = (p.0, p.1, p.2.1, λ s bytes h. (piece_whole c v v' w w' o o' p.0 before after p.2.0 s bytes h.drained).1)
+  rest_faulty before after p = (p.0, p.1, p.2.1, λ s bytes h. (piece_whole c p.0 before after p.2.0 s bytes h.drained).1)
 
   pub rest_long : v.has_ended ≡ false → v'.has_ended ≡ false → Reads r r' (PassesToLimit (Files c) v w o v' w' o') → RanToLimit (with_flags failed over v w) (with_flags true over v' w') r r' (c o.inner) (c o'.inner)
-  rest_long before after p = ran_long r r' p.1 (fed_long c failed over v v' w w' o o' p.0 before after p.2)
+  rest_long before after p = ran_long r r' p.1 (fed_long p.0 before after p.2)
 
   pub rest_part : FiledGrows → ((b t : List ℕ) → IsPrefix (decided_frames b) (decided_frames (b ++ t))) → v.has_ended ≡ false → BreaksAfter (Files c) (BreaksFiling c) v w o v' w' o' 1029 r r'
       → FailsFeeding (with_flags failed over v w) (with_flags true over v' w') r r' (c o.inner) (c o'.inner)
@@ -94,5 +94,6 @@ module _ {W : Type 0} (c : W → Option (List ℕ)) (failed over : Bool) (v v' :
         record { mid = g.mid; before = g.before; last = g.last; near = p.near w o ps bytes here },
   )
 
-  pub rest_device : BreaksAfter (Files c) (BreaksFiling c) v w o v' w' o' 1029 r r' → HasDrainedSome v → HasFailed o.failures o'.failures × (o'.widest ≡ o.widest)
-  rest_device p d = let k = p.breaks w o (known_frames v.has_ended d.0) d.0 (passed_here c v w o d.0 d.1) in (k.broken.failed, k.broken.widest)
+pub rest_device : {W : Type 0} {c : W → Option (List ℕ)} {v v' : FramerValue} {w w' : FileWriter} {o o' : Device W} {r r' : Option (List ℕ)} → BreaksAfter (Files c) (BreaksFiling c) v w o v' w' o' 1029 r r' → HasDrainedSome v
+    → HasFailed o.failures o'.failures × (o'.widest ≡ o.widest)
+rest_device {c = c} {v} {w = w} {o = o} p d = let k = p.breaks w o (known_frames v.has_ended d.0) d.0 (passed_here c v w o d.0 d.1) in (k.broken.failed, k.broken.widest)

@@ -10,25 +10,25 @@ module _ {W : Type 0} (c : W → Option (List ℕ)) where
   files_self w o ps = record { fine = refl; widest = refl; files = λ s x. (x, goes_on-refl (c o.inner) (so_far s ps)) }
 
   -- one more frame
-  pub files_more : (v v' : FileWriter) (o o' : Device W) (f : Framed) → TakesFrame v v' f (c o.inner) (c o'.inner) → o'.failures ≡ o.failures → o'.widest ≡ o.widest
+  pub files_more : {v v' : FileWriter} {o o' : Device W} (f : Framed) → TakesFrame v v' f (c o.inner) (c o'.inner) → o'.failures ≡ o.failures → o'.widest ≡ o.widest
       → (v0 : FileWriter) (o0 : Device W) (ps fs : List Framed) → Files c v0 o0 ps v o fs → Files c v0 o0 ps v' o' (fs ++ f ∷ [])
-  files_more v v' o o' f t fine widest v0 o0 ps fs x = record {
+  files_more f t fine widest v0 o0 ps fs x = record {
     fine = fine ∙ x.fine;
     widest = widest ∙ x.widest;
     files = λ s y. (let p = x.files s y in let q = t s fs p.0 in (q.0, goes_on-trans p.1 q.1));
   }
 
-  pub files_part : (v v' : FileWriter) (o o' : Device W) (f : Framed) → BreaksInFrame v f (c o.inner) (c o'.inner) → HasFailed o.failures o'.failures → o'.widest ≡ o.widest
+  pub files_part : {v v' : FileWriter} {o o' : Device W} (f : Framed) → BreaksInFrame v f (c o.inner) (c o'.inner) → HasFailed o.failures o'.failures → o'.widest ≡ o.widest
       → (v0 : FileWriter) (o0 : Device W) (ps fs : List Framed) → Files c v0 o0 ps v o fs → BreaksFiling c v0 o0 ps v' o' fs (fs ++ f ∷ [])
-  files_part v v' o o' f t failed widest v0 o0 ps fs x = record {
+  files_part {o = o} {o'} f t failed widest v0 o0 ps fs x = record {
     failed = subst (λ (n : ℕ). HasFailed n o'.failures) x.fine failed;
     widest = widest ∙ x.widest;
     part = λ s y. (let p = x.files s y in record { mid = c o.inner; before = p.1; last = t s fs p.0 });
   }
 
-  pub files_unsent : (v0 v : FileWriter) (o0 o o' : Device W) (ps fs : List Framed) → Keeps (c o.inner) (c o'.inner) → HasFailed o.failures o'.failures → o'.widest ≡ o.widest → Files c v0 o0 ps v o fs
+  pub files_unsent : {v0 v : FileWriter} {o0 o o' : Device W} {ps fs : List Framed} → Keeps (c o.inner) (c o'.inner) → HasFailed o.failures o'.failures → o'.widest ≡ o.widest → Files c v0 o0 ps v o fs
       → BreaksFiling c v0 o0 ps v o' fs fs
-  files_unsent v0 v o0 o o' ps fs k failed widest x = record {
+  files_unsent {o' = o'} {fs = fs} k failed widest x = record {
     failed = subst (λ (n : ℕ). HasFailed n o'.failures) x.fine failed;
     widest = widest ∙ x.widest;
     part = λ s y. record { mid = c o'.inner; before = goes_on-kept (x.files s y).1 k; last = goes_on-front (goes_on-refl (c o'.inner) (so_far s fs)) };
@@ -46,9 +46,9 @@ module _ {W : Type 0} (c : W → Option (List ℕ)) where
   scan_of v w s b d = record { framer = d.framer; drained = d.drained; counted = d.counted }
 
   -- a piece was accepted
-  pub piece_whole : (v v' : FramerValue) (w w' : FileWriter) (o o' : Device W) (piece : List ℕ) → v.has_ended ≡ false → v'.has_ended ≡ false → Passes (Files c) v w o v' w' o' piece
+  pub piece_whole : {v v' : FramerValue} {w w' : FileWriter} {o o' : Device W} (piece : List ℕ) → v.has_ended ≡ false → v'.has_ended ≡ false → Passes (Files c) v w o v' w' o' piece
       → (s : SetupValue) (bytes : List ℕ) → Drained v w s bytes → Drained v' w' s (bytes ++ piece) × AppendsDecided (c o.inner) (c o'.inner) s bytes (bytes ++ piece)
-  piece_whole v v' w w' o o' piece before after k s bytes d =
+  piece_whole {v} {v'} {w} {o = o} {o'} piece before after k s bytes d =
       let p = k w o (known_frames v.has_ended bytes) bytes (passed_here v w o bytes (scan_of v w s bytes d)) in
       let q = p.passed.taken.files s d.file_writer in (
         record { framer = p.passed.framer; drained = p.drained; counted = p.counted; file_writer = q.0 },
@@ -57,23 +57,23 @@ module _ {W : Type 0} (c : W → Option (List ℕ)) where
       )
 
   -- the device failed at it
-  pub piece_part : FiledGrows → (v : FramerValue) (w w' : FileWriter) (o o' : Device W) (piece : List ℕ) → v.has_ended ≡ false → Breaks (Files c) (BreaksFiling c) v w o w' o' piece
+  pub piece_part : {v : FramerValue} {w w' : FileWriter} {o o' : Device W} → FiledGrows → (piece : List ℕ) → v.has_ended ≡ false → Breaks (Files c) (BreaksFiling c) v w o w' o' piece
       → (s : SetupValue) (bytes : List ℕ) → Drained v w s bytes → AppendsPrefixOfDecided (c o.inner) (c o'.inner) s bytes (bytes ++ piece)
-  piece_part grows v w w' o o' piece before k s bytes d =
+  piece_part {v} {w} {o = o} {o'} grows piece before k s bytes d =
       let p = k w o (known_frames v.has_ended bytes) bytes (passed_here v w o bytes (scan_of v w s bytes d)) in
       let q = breaks_off-before (up_to_whole (p.broken.part s d.file_writer)) (so_far-front grows s p.reached (known_frames v.has_ended (bytes ++ piece)) p.known) in
       subst (λ (e : Bool). AppendsPrefixBetween (c o.inner) (c o'.inner) (so_far s (known_frames e bytes)) (so_far s (known_frames e (bytes ++ piece)))) before q
 
   -- the device after a piece, of which all known frames were passed on
-  pub piece_fine : (v v' : FramerValue) (w w' : FileWriter) (o o' : Device W) (piece : List ℕ) → Passes (Files c) v w o v' w' o' piece → HasDrainedSome v
+  pub piece_fine : {v v' : FramerValue} {w w' : FileWriter} {o o' : Device W} (piece : List ℕ) → Passes (Files c) v w o v' w' o' piece → HasDrainedSome v
       → HasDrainedSome v' × (o'.failures ≡ o.failures) × (o'.widest ≡ o.widest)
-  piece_fine v v' w w' o o' piece k d =
+  piece_fine {v} {w = w} {o = o} piece k d =
       let p = k w o (known_frames v.has_ended d.0) d.0 (passed_here v w o d.0 d.1) in
       ((d.0 ++ piece, record { framer = p.passed.framer; drained = p.drained; counted = p.counted }), p.passed.taken.fine, p.passed.taken.widest)
 
-  pub piece_failed : (v : FramerValue) (w w' : FileWriter) (o o' : Device W) (piece : List ℕ) → Breaks (Files c) (BreaksFiling c) v w o w' o' piece → HasDrainedSome v
+  pub piece_failed : {v : FramerValue} {w w' : FileWriter} {o o' : Device W} (piece : List ℕ) → Breaks (Files c) (BreaksFiling c) v w o w' o' piece → HasDrainedSome v
       → HasFailed o.failures o'.failures × (o'.widest ≡ o.widest)
-  piece_failed v w w' o o' piece k d = let p = k w o (known_frames v.has_ended d.0) d.0 (passed_here v w o d.0 d.1) in (p.broken.failed, p.broken.widest)
+  piece_failed {v} {w} {o = o} piece k d = let p = k w o (known_frames v.has_ended d.0) d.0 (passed_here v w o d.0 d.1) in (p.broken.failed, p.broken.widest)
 
 take_over : (front piece : List ℕ) (k n : ℕ) → n ≡ length front + k → take n (front ++ piece) ≡ front ++ take k piece
 take_over [] piece k n e = let z : n ≡ k = omega (arith, e) in ap (λ (m : ℕ). take m piece) z

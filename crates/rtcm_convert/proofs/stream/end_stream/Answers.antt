@@ -9,9 +9,9 @@ returns-in-Ok g c =
     let n = c.finish.ensures in
     let x = c.requires.some in
     record {
-      whole = on_ok_weaker c.end.result (λ rest. ended g.W.Write.contents c.args.framer.now c.finish.new.self c.args.file_writer.now c.finish.new.sink c.args.writer.now c.finish.new.out c.prefix.ensures.few c.end.new.self _ c.requires.listening c.in-Ok.ensures.ended n.same.limit n.same.taken c.in-Ok.ensures.whole rest e.same) e.whole;
-      part = on_err_weaker c.end.result (ended_part g.W.Write.contents c.args.framer.now c.finish.new.self c.args.file_writer.now c.finish.new.sink c.args.writer.now c.finish.new.out _ c.requires.listening c.in-Ok.ensures.ended c.in-Ok.ensures.whole) c.end.ensures.part;
-      device = (let d = c.end.ensures.device in let f = ended_fine g.W.Write.contents c.args.framer.now c.finish.new.self c.args.file_writer.now c.finish.new.sink c.args.writer.now c.finish.new.out c.in-Ok.ensures.whole x.0 (passed_here g.W.Write.contents c.args.framer.now c.args.file_writer.now c.args.writer.now x.0 x.1) in (d.0, (on_err_weaker c.end.result (λ h. subst (λ (n : ℕ). HasFailed n c.end.new.writer.failures) f.0 h) d.1.0, on_ok_weaker c.end.result (λ h. h ∙ f.0) d.1.1, d.1.2 ∙ f.1)));
+      whole = on_ok_weaker c.end.result (λ rest. ended c.prefix.ensures.few c.requires.listening c.in-Ok.ensures.ended n.same.limit n.same.taken c.in-Ok.ensures.whole rest e.same) e.whole;
+      part = on_err_weaker c.end.result (ended_part c.requires.listening c.in-Ok.ensures.ended c.in-Ok.ensures.whole) c.end.ensures.part;
+      device = (let d = c.end.ensures.device in let f = ended_fine c.in-Ok.ensures.whole x.0 (passed_here g.W.Write.contents c.args.framer.now c.args.file_writer.now c.args.writer.now x.0 x.1) in (d.0, (on_err_weaker c.end.result (λ h. subst (λ (n : ℕ). HasFailed n c.end.new.writer.failures) f.0 h) d.1.0, on_ok_weaker c.end.result (λ h. h ∙ f.0) d.1.1, d.1.2 ∙ f.1)));
       sent = e.sent;
       some = n.same.some (x.0, _, x.1.framer);
       same = (n.same.limit, n.same.taken);
@@ -23,8 +23,8 @@ returns-in-Err g c =
     let x = c.requires.some in
     record {
       whole = tt;
-      part = drain_part g.W.Write.contents c.filed.ensures.file c.filed.ensures.grows c.requires.listening c.in-Err.ensures.part;
-      device = (let f = drain_failed g.W.Write.contents c.in-Err.ensures.part x.0 (passed_here g.W.Write.contents c.args.framer.now c.args.file_writer.now c.args.writer.now x.0 x.1) in (refl, (f.0, tt, f.1)));
+      part = drain_part c.filed.ensures.file c.filed.ensures.grows c.requires.listening c.in-Err.ensures.part;
+      device = (let f = drain_failed c.in-Err.ensures.part x.0 (passed_here g.W.Write.contents c.args.framer.now c.args.file_writer.now c.args.writer.now x.0 x.1) in (refl, (f.0, tt, f.1)));
       sent = tt;
       some = n.same.some (x.0, _, x.1.framer);
       same = (n.same.limit, n.same.taken);

@@ -1,7 +1,7 @@
-use Rattle.rtcm_convert.proofs.FaultLemmas.{of_pieces, pieces_known, never, not_of_setup, not_err, setup_only, setup_sent, setup_writer}
+use Rattle.rtcm_convert.proofs.FaultLemmas.{pieces_known, never, not_of_setup, not_err, setup_only, setup_sent, setup_writer}
 use Rattle.rtcm_convert.proofs.PartLemmas.{same_fault}
 use Rattle.rtcm_convert.proofs.WholeLemmas.{BeganNew, run_made, run_empty, pieces_cut, pieces_failed}
-use Rattle.rtcm_convert.proofs.Names.{Some, refl, no_values, LeftBy, IsPiecesFault, BadSetup, Read, TooLong, Write, NoEpoch, Failed, Finished, joined_pieces, start_zero}
+use Rattle.rtcm_convert.proofs.Names.{Some, refl, no_values, LeftBy, BadSetup, Read, TooLong, Write, NoEpoch, Failed, Finished, joined_pieces, start_zero}
 use Rattle.rtcm_convert.proofs.whole.convert_pieces.Goals as goal
 
 pub returns-in-Ok : goal.returns-in-Ok
@@ -14,7 +14,7 @@ returns-in-Ok g c =
     let n = c.take_pieces-answer.ensures in
     let new : BeganNew v w x = record { nothing = c.prefix.ensures.nothing; history = h.history; same = n.left.0.0; limit = h.fresh.0 } in
     let left = n.left.0.1 h.history.going in
-    let no = never IsPiecesFault (λ f. LeftBy f w) of_pieces pieces_known r left in
+    let no = never (λ f. LeftBy f w) pieces_known r left in
     record {
       made = run_made _ (Some (joined_pieces c.args.pieces.now)) _ _ r new (c.read_back.ensures.some no_values c.read_back.ensures.zero) n.whole;
       no_epoch = λ e. run_empty _ (Some (joined_pieces c.args.pieces.now)) _ _ new (n.no_epoch e);
@@ -23,7 +23,7 @@ returns-in-Ok g c =
       sent = n.sent;
       writer = n.device;
       bad_setup = (λ e. absurd (no BadSetup refl e), λ b. absurd (not_err v BadSetup (h.bad.1 b)));
-      untouched = not_of_setup IsPiecesFault (λ f. LeftBy f w) of_pieces pieces_known _ r left refl refl;
+      untouched = not_of_setup (λ f. LeftBy f w) pieces_known _ r left refl refl;
       only = (no Failed refl, no Finished refl, no Read refl);
     }
 

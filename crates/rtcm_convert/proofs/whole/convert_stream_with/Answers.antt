@@ -1,7 +1,7 @@
-use Rattle.rtcm_convert.proofs.FaultLemmas.{of_run, run_known, never, not_of_setup, not_err, setup_only, setup_sent, setup_reader, setup_writer}
+use Rattle.rtcm_convert.proofs.FaultLemmas.{run_known, never, not_of_setup, not_err, setup_only, setup_sent, setup_reader, setup_writer}
 use Rattle.rtcm_convert.proofs.PartLemmas.{same_fault}
 use Rattle.rtcm_convert.proofs.WholeLemmas.{BeganNew, run_made, run_empty, run_read, run_long, run_write}
-use Rattle.rtcm_convert.proofs.Names.{refl, LeftBy, IsRunFault, BadSetup, Read, TooLong, Write, NoEpoch, Failed, Finished, start_at}
+use Rattle.rtcm_convert.proofs.Names.{refl, LeftBy, BadSetup, Read, TooLong, Write, NoEpoch, Failed, Finished, start_at}
 use Rattle.rtcm_convert.proofs.whole.convert_stream_with.Goals as goal
 
 pub returns-in-Ok : goal.returns-in-Ok
@@ -15,7 +15,7 @@ returns-in-Ok g c =
     let from = g.R.Read.remaining c.args.reader.now.inner in
     let new : BeganNew v w x = record { nothing = c.prefix.ensures.nothing; history = h.history; same = n.left.0.0; limit = h.fresh.0 } in
     let left = n.left.0.1 h.history.going in
-    let no = never IsRunFault (λ f. LeftBy f w) of_run run_known r left in
+    let no = never (λ f. LeftBy f w) run_known r left in
     record {
       made = run_made _ from _ _ r new (c.read_back.ensures.some c.args.initial h.fits) n.whole;
       no_epoch = λ e. run_empty _ from _ _ new (n.no_epoch e);
@@ -25,7 +25,7 @@ returns-in-Ok g c =
       sent = n.sent;
       devices = (n.reader, n.writer);
       bad_setup = (λ e. absurd (no BadSetup refl e), λ b. absurd (not_err v BadSetup (h.bad.1 b)));
-      untouched = not_of_setup IsRunFault (λ f. LeftBy f w) of_run run_known _ r left refl refl;
+      untouched = not_of_setup (λ f. LeftBy f w) run_known _ r left refl refl;
       only = (no Failed refl, no Finished refl);
     }
 

@@ -35,7 +35,7 @@ pub invariant_of-self : goal.invariant_of-self
 invariant_of-self g c =
     let f = c.self.inside in
     let go : IsGoing (with_flags f.failed f.finished f.framer f.file_writer) = subst (λ (x : Conversion). IsGoing x) (sym c.self.view_is) (going_on c.args.self.now c.in_default.ensures) in
-    fed_fit g.W.Write.contents f.failed f.finished f.framer c.feed.new.self f.file_writer c.feed.new.sink c.args.writer.now c.feed.new.out c.args.piece.now c.self.invariant go c.in-Ok.ensures.goes c.in-Ok.ensures.ready c.feed.ensures.same.ended c.feed.ensures.same.some c.in-Ok.ensures.whole
+    fed_fit c.args.piece.now c.self.invariant go c.in-Ok.ensures.goes c.in-Ok.ensures.ready c.feed.ensures.same.ended c.feed.ensures.same.some c.in-Ok.ensures.whole
 
 pub invariant_of-self-in-Err-TooLong : goal.invariant_of-self-in-Err-TooLong
 invariant_of-self-in-Err-TooLong g c = failed_fit c.self.inside.finished c.feed.new.self c.feed.new.sink (c.feed.ensures.same.some c.self.invariant.examined)
@@ -49,14 +49,14 @@ returns-in-Ok g c =
     let go : IsGoing (with_flags f.failed f.finished f.framer f.file_writer) = subst (λ (x : Conversion). IsGoing x) (sym c.self.view_is) (going_on c.args.self.now c.in_default.ensures) in
     record {
       refused = not_refused c.args.self.now _ c.in_default.ensures;
-      whole = subst (λ (x : Conversion). TakesPiece x (with_flags f.failed f.finished c.feed.new.self c.feed.new.sink) (g.W.Write.contents c.args.writer.now.inner) (g.W.Write.contents c.feed.new.out.inner) c.args.piece.now) c.self.view_is (fed_whole g.W.Write.contents f.failed f.finished f.framer c.feed.new.self f.file_writer c.feed.new.sink c.args.writer.now c.feed.new.out c.args.piece.now (record { bounds = c.kept.ensures.bounds; values = c.kept.ensures.now }) (c.self.invariant.listening go) (c.feed.ensures.same.ended ∙ c.self.invariant.listening go) c.in-Ok.ensures.whole);
+      whole = subst (λ (x : Conversion). TakesPiece x (with_flags f.failed f.finished c.feed.new.self c.feed.new.sink) (g.W.Write.contents c.args.writer.now.inner) (g.W.Write.contents c.feed.new.out.inner) c.args.piece.now) c.self.view_is (fed_whole c.args.piece.now (record { bounds = c.kept.ensures.bounds; values = c.kept.ensures.now }) (c.self.invariant.listening go) (c.feed.ensures.same.ended ∙ c.self.invariant.listening go) c.in-Ok.ensures.whole);
       going = (let n = c.feed.ensures.same in (record { fine = go.fine; more = go.more }, n.limit ∙ ap (λ (x : Conversion). x.scan.limit) c.self.view_is, c.in-Ok.ensures.taken ∙ ap (λ (x : Conversion). x.scan.taken + length c.args.piece.now) c.self.view_is, λ _. subst (λ (k : ℕ). c.feed.new.self.taken ≤ k) (sym n.limit) n.within));
       taken = subst (λ (x : Conversion). (x.scan.taken ≤ c.feed.new.self.taken) × (c.feed.new.self.taken ≤ x.scan.taken + length c.args.piece.now)) c.self.view_is (c.feed.ensures.same.least, c.feed.ensures.same.most);
       keeps = record { bounds = c.kept.ensures.bounds; values = c.kept.ensures.now };
       part = λ h. absurd (not_err _ Write h);
       long = λ h. absurd (not_err _ TooLong h);
       sent = c.in-Ok.ensures.sent;
-      device = (let d = piece_fine g.W.Write.contents f.framer c.feed.new.self f.file_writer c.feed.new.sink c.args.writer.now c.feed.new.out c.args.piece.now c.in-Ok.ensures.whole (c.self.invariant.drained go) in (tt, d.1, d.2));
+      device = (let d = piece_fine g.W.Write.contents c.args.piece.now c.in-Ok.ensures.whole (c.self.invariant.drained go) in (tt, d.1, d.2));
       left = (c.feed.ensures.same.limit ∙ ap (λ (x : Conversion). x.scan.limit) c.self.view_is, λ _. tt);
     }
 
@@ -72,9 +72,9 @@ returns-in-Err-TooLong g c =
       taken = subst (λ (x : Conversion). (x.scan.taken ≤ c.feed.new.self.taken) × (c.feed.new.self.taken ≤ x.scan.taken + length c.args.piece.now)) c.self.view_is (c.feed.ensures.same.least, c.feed.ensures.same.most);
       keeps = tt;
       part = λ h. unlike TooLong Write refl refl h;
-      long = λ _. subst (λ (x : Conversion). CutsAtLimit x (with_flags true f.finished c.feed.new.self c.feed.new.sink) (g.W.Write.contents c.args.writer.now.inner) (g.W.Write.contents c.feed.new.out.inner) c.args.piece.now) c.self.view_is (fed_long g.W.Write.contents f.failed f.finished f.framer c.feed.new.self f.file_writer c.feed.new.sink c.args.writer.now c.feed.new.out c.args.piece.now (c.self.invariant.listening go) (c.feed.ensures.same.ended ∙ c.self.invariant.listening go) k);
+      long = λ _. subst (λ (x : Conversion). CutsAtLimit x (with_flags true f.finished c.feed.new.self c.feed.new.sink) (g.W.Write.contents c.args.writer.now.inner) (g.W.Write.contents c.feed.new.out.inner) c.args.piece.now) c.self.view_is (fed_long c.args.piece.now (c.self.invariant.listening go) (c.feed.ensures.same.ended ∙ c.self.invariant.listening go) k);
       sent = long_of c.in-Err-TooLong.field-0 _ _ _ c.in-Err-TooLong.field-0-is c.in-Err-TooLong.ensures.sent;
-      device = (let d = piece_fine g.W.Write.contents f.framer c.feed.new.self f.file_writer c.feed.new.sink c.args.writer.now c.feed.new.out (up_to_limit f.framer c.args.piece.now) k.passes (c.self.invariant.drained go) in (d.1, tt, d.2));
+      device = (let d = piece_fine g.W.Write.contents (up_to_limit f.framer c.args.piece.now) k.passes (c.self.invariant.drained go) in (d.1, tt, d.2));
       left = (c.feed.ensures.same.limit ∙ ap (λ (x : Conversion). x.scan.limit) c.self.view_is, λ _. (inl refl, (refl, go.more)));
     }
 
@@ -89,9 +89,9 @@ returns-in-Err-Sink g c =
       going = tt;
       taken = subst (λ (x : Conversion). (x.scan.taken ≤ c.feed.new.self.taken) × (c.feed.new.self.taken ≤ x.scan.taken + length c.args.piece.now)) c.self.view_is (c.feed.ensures.same.least, c.feed.ensures.same.most);
       keeps = tt;
-      part = λ _. subst (λ (x : Conversion). WritesPrefixOfAdded x (g.W.Write.contents c.args.writer.now.inner) (g.W.Write.contents c.feed.new.out.inner) c.args.piece.now) c.self.view_is (fed_part g.W.Write.contents f.failed f.finished f.framer c.feed.new.self f.file_writer c.feed.new.sink c.args.writer.now c.feed.new.out c.args.piece.now c.filed.ensures.grows (c.self.invariant.listening go) k);
+      part = λ _. subst (λ (x : Conversion). WritesPrefixOfAdded x (g.W.Write.contents c.args.writer.now.inner) (g.W.Write.contents c.feed.new.out.inner) c.args.piece.now) c.self.view_is (fed_part c.args.piece.now c.filed.ensures.grows (c.self.invariant.listening go) k);
       long = λ h. unlike Write TooLong refl refl h;
       sent = tt;
-      device = (let d = piece_failed g.W.Write.contents f.framer f.file_writer c.feed.new.sink c.args.writer.now c.feed.new.out c.args.piece.now k (c.self.invariant.drained go) in (d.0, tt, d.1));
+      device = (let d = piece_failed g.W.Write.contents c.args.piece.now k (c.self.invariant.drained go) in (d.0, tt, d.1));
       left = (c.feed.ensures.same.limit ∙ ap (λ (x : Conversion). x.scan.limit) c.self.view_is, λ _. (inr refl, (refl, go.more)));
     }

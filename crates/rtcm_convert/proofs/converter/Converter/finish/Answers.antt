@@ -1,8 +1,8 @@
 use Rattle.rtcm_convert.proofs.FaultLemmas.{unlike, on_no_epoch, no_epoch_of, no_epoch_only, no_epoch_sent, ok_always}
-use Rattle.rtcm_convert.proofs.FeedLemmas.{with_flags, failed_fit, ended_fit, finishes_with, finishes_empty}
+use Rattle.rtcm_convert.proofs.FeedLemmas.{with_flags, failed_fit, ended_fit, finishes, finishes_empty}
 use Rattle.rtcm_convert.proofs.RefusalLemmas.{refused_going, refused_is, refused_only, refused_sent, refused_writer, not_refused}
 use Rattle.rtcm_convert.proofs.RunLemmas.{going_on}
-use Rattle.rtcm_convert.proofs.Names.{◌∙◌, IfOk, ap, subst, sym, refl, true, inl, inr, Conversion, IsGoing, FinishesEmptyNow, FinishesNow, StopsAtEnd, LeftBy, IsFinishFault, WriterFailures, Write, NoEpoch}
+use Rattle.rtcm_convert.proofs.Names.{◌∙◌, IfOk, IfOk-weaker, ap, subst, sym, refl, true, inl, inr, Conversion, IsGoing, FinishesEmptyNow, FinishesNow, StopsAtEnd, LeftBy, IsFinishFault, WriterFailures, Write, NoEpoch}
 use Rattle.rtcm_convert.proofs.converter.Converter.finish.Goals as goal
 
 pub returns-in-Some : goal.returns-in-Some
@@ -37,8 +37,8 @@ returns-in-Ok g c =
     let r = c.ended_report.result in
     record {
       refused = not_refused c.args.self.now _ c.in_default.ensures;
-      whole = subst (λ (x : Conversion). IfOk r (FinishesNow x (with_flags f.failed true c.end_stream.new.framer c.end_stream.new.file_writer) (g.W.Deliver.waiting c.end_stream.new.writer.inner) (g.W.Write.contents c.args.writer.now.inner) (g.W.Write.contents c.end_stream.new.writer.inner))) c.self.view_is (finishes_with f.failed f.finished f.framer c.end_stream.new.framer f.file_writer c.end_stream.new.file_writer _ _ c.in-Ok.ensures.whole c.kept.ensures.all c.kept.ensures.bounds _ c.in-Ok.ensures.sent r c.ended_report.ensures.some);
-      no_epoch = λ h. subst (λ (x : Conversion). FinishesEmptyNow x (with_flags f.failed true c.end_stream.new.framer c.end_stream.new.file_writer) (g.W.Deliver.waiting c.end_stream.new.writer.inner) (g.W.Write.contents c.args.writer.now.inner) (g.W.Write.contents c.end_stream.new.writer.inner)) c.self.view_is (finishes_empty f.failed f.finished f.framer c.end_stream.new.framer f.file_writer c.end_stream.new.file_writer _ _ c.in-Ok.ensures.whole c.kept.ensures.all c.kept.ensures.bounds _ c.in-Ok.ensures.sent (no_epoch_of _ r n h));
+      whole = subst (λ (x : Conversion). IfOk r (FinishesNow x (with_flags f.failed true c.end_stream.new.framer c.end_stream.new.file_writer) (g.W.Deliver.waiting c.end_stream.new.writer.inner) (g.W.Write.contents c.args.writer.now.inner) (g.W.Write.contents c.end_stream.new.writer.inner))) c.self.view_is (IfOk-weaker r _ _ (λ _. finishes c.in-Ok.ensures.whole c.kept.ensures.all c.kept.ensures.bounds c.in-Ok.ensures.sent) c.ended_report.ensures.some);
+      no_epoch = λ h. subst (λ (x : Conversion). FinishesEmptyNow x (with_flags f.failed true c.end_stream.new.framer c.end_stream.new.file_writer) (g.W.Deliver.waiting c.end_stream.new.writer.inner) (g.W.Write.contents c.args.writer.now.inner) (g.W.Write.contents c.end_stream.new.writer.inner)) c.self.view_is (finishes_empty c.in-Ok.ensures.whole c.kept.ensures.all c.kept.ensures.bounds c.in-Ok.ensures.sent (no_epoch_of _ r n h));
       part = λ h. absurd (no_epoch_only _ r n h);
       sent = no_epoch_sent _ r _ _ n c.in-Ok.ensures.sent;
       device = (on_no_epoch _ (λ x. WriterFailures x c.args.writer.now.failures c.end_stream.new.writer.failures) r n d.1.1, ok_always _ r d.1.1, d.1.2);

@@ -1,10 +1,10 @@
 -- Each piece that was fed keeps the record of what was made from the pieces so far; the loop ends at the first
 -- fault.
 use Rattle.rtcm_convert.proofs.RefusalLemmas.{refused_going, refused_is, refused_only, refused_sent, refused_writer, not_refused}
-use Rattle.rtcm_convert.proofs.FaultLemmas.{never, of_finish, finish_known, sent_fed, sent_finished, writer_after, left_as, feed_pieces}
+use Rattle.rtcm_convert.proofs.FaultLemmas.{never, finish_known, sent_fed, sent_finished, writer_after, left_as, feed_pieces}
 use Rattle.rtcm_convert.proofs.PartLemmas.{same_fault}
 use Rattle.rtcm_convert.proofs.PiecesLemmas.{not_empty, taken_then, longer_by, pieces_more, pieces_all, pieces_rest, pieces_whole, pieces_empty, pieces_long, pieces_broke, pieces_broke_at_end}
-use Rattle.rtcm_convert.proofs.Names.{◌∙◌, ap, refl, inr, Err, NoEpoch, TooLong, Write, LeftBy, IsFinishFault, IsPiecesFault, Report}
+use Rattle.rtcm_convert.proofs.Names.{◌∙◌, ap, refl, inr, IfOk-weaker, Err, NoEpoch, TooLong, Write, LeftBy, IsFinishFault, IsPiecesFault, Report}
 use Rattle.rtcm_convert.proofs.converter.Converter.take_pieces.Goals as goal
 
 pub returns-in-Some : goal.returns-in-Some
@@ -46,7 +46,7 @@ returns-in-Err g c =
       refused = not_refused c.args.self.now _ c.in_default.ensures;
       whole = tt;
       no_epoch = λ e. absurd (not_empty c.in-Err.fault (c.in-Err.ensures.left.1 c.loop-piece.invariant.going).0 e);
-      long = λ e. pieces_long c.args.self.now c.loop-piece.self c.feed.new.self _ _ _ _ i.came c.deref.result.now _ _ i.limit i.taken (pieces_rest (λ piece. piece.items) c.args.pieces.now c.loop-piece.piece-index c.deref.result.now more) (c.in-Err.ensures.long (same_fault _ _ e));
+      long = λ e. pieces_long _ i.came c.deref.result.now _ i.limit i.taken (pieces_rest (λ piece. piece.items) c.args.pieces.now c.loop-piece.piece-index c.deref.result.now more) (c.in-Err.ensures.long (same_fault _ _ e));
       write = λ e. pieces_broke c.args.pieces.now c.loop-piece.piece-index c.deref.result.now c.loop-piece.invariant.came c.loop-piece-test.true more (c.in-Err.ensures.part (same_fault _ _ e));
       sent = sent_fed c.in-Err.fault _ _ _ (n.left.1 i.going).0 n.sent;
       device = writer_after {A = Report} (Err c.in-Err.fault) c.args.writer.now c.loop-piece.writer c.feed.new.writer i.fine i.unread n.device;
@@ -62,10 +62,10 @@ returns g c =
     let all = pieces_all (λ piece. piece.items) c.args.pieces.now c.loop-piece.piece-index c.loop-piece.auto.piece-index-end c.loop-piece-test.false in
     record {
       refused = not_refused c.args.self.now _ c.in_default.ensures;
-      whole = pieces_whole c.args.self.now c.loop-piece.self c.finish.new.self _ _ _ _ c.loop-piece.invariant.came _ _ c.finish.result all c.finish.ensures.whole;
-      no_epoch = λ e. pieces_empty c.args.self.now c.loop-piece.self c.finish.new.self _ _ _ _ c.loop-piece.invariant.came _ _ all (c.finish.ensures.no_epoch e);
-      long = λ h. absurd (never IsFinishFault (λ x. LeftBy x c.finish.new.self) of_finish finish_known r l TooLong refl h);
-      write = λ e. pieces_broke_at_end c.args.self.now c.loop-piece.self c.finish.new.self _ _ _ _ c.loop-piece.invariant.came c.args.pieces.now all (c.finish.ensures.part e);
+      whole = IfOk-weaker r _ _ (λ _. pieces_whole _ i.came all) n.whole;
+      no_epoch = λ e. pieces_empty _ i.came all (n.no_epoch e);
+      long = λ h. absurd (never (λ x. LeftBy x c.finish.new.self) finish_known r l TooLong refl h);
+      write = λ e. pieces_broke_at_end _ i.came c.args.pieces.now all (n.part e);
       sent = sent_finished _ r _ _ _ l n.sent;
       device = writer_after r c.args.writer.now c.loop-piece.writer c.finish.new.writer i.fine i.unread n.device;
       left = ((n.left.0.0 ∙ i.limit, λ _. left_as IsFinishFault IsPiecesFault _ (λ f k. inr k) r l), n.left.1);

@@ -4,4 +4,4 @@ use Rattle.rtcm_convert.proofs.stream.FileWriterFrameSinkCounted.send.Goals as g
 pub returns-in-Err-clause-part : goal.returns-in-Err-clause-part
 returns-in-Err-clause-part g c = λ s o ps fs x.
     let n = c.in-Err.ensures in
-    files_unsent g.W.Write.contents s c.args.self.now o c.args.out.now c.send.new.self ps fs n.kept n.device.0 n.device.2 x
+    files_unsent g.W.Write.contents n.kept n.device.0 n.device.2 x
