@@ -4,9 +4,9 @@ use Rattle.std.proofs.lemmas.Bool.{true≢false}
 use Rattle.std.proofs.lemmas.List.{take-append-le, take_all, length-take-le, length-drop}
 
 -- the bytes that a read returns and leaves: at least one if there is room and a byte is left
-pub read_gives : (old now buf given after : List ℕ) (n most : ℕ) → now ≡ old → given ≡ take n now → after ≡ drop n now → n ≡ min (min (length buf) most) (length now)
+pub read_gives : {old now given after : List ℕ} {n : ℕ} (buf : List ℕ) (most : ℕ) → now ≡ old → given ≡ take n now → after ≡ drop n now → n ≡ min (min (length buf) most) (length now)
     → 0 < most → 0 < length now → (old ≡ take n (given ++ drop n buf) ++ after) × (n ≡ 0 → 0 < length (given ++ drop n buf) → after ≡ [])
-read_gives old now buf given after n most o g b m some left =
+read_gives {now = now} {given} {n = n} buf most o g b m some left =
     let l : length (take n now) ≡ n = length-take-le n now (omega arith) in
     let t : take n (take n now ++ drop n buf) ≡ take n (take n now) = take-append-le n (take n now) (drop n buf) (omega (arith, l)) in
     let a : take n (take n now) ≡ take n now = take_all n (take n now) (omega (arith, l)) in (
