@@ -17,11 +17,11 @@ longer_prefix a b c p q = (p.0 ++ q.0, q.1 ∙ ap (λ (l : List ℕ). l ++ q.0) 
 whole_prefix : (a : List ℕ) → IsPrefix a a
 whole_prefix a = ([], sym (append-nil a))
 
-module _ {W : Type 0} (held : W → Option (List ℕ)) (k0 : Listing) (o0 : Device W) (ps : List Framed) where
+module _ {W : Type 0} {held : W → Option (List ℕ)} {k0 k : Listing} {o0 o o2 : Device W} {ps fs : List Framed} where
   -- a frame's line was written
-  pub one_more_listed : (k : Listing) (o o2 : Device W) (fs : List Framed) (f : Framed) → Appends (held o.inner) (held o2.inner) (listing_line k f) → o2.failures ≡ o.failures
+  pub one_more_listed : (f : Framed) → Appends (held o.inner) (held o2.inner) (listing_line k f) → o2.failures ≡ o.failures
       → Lists held k0 o0 ps k o fs → Lists held k0 o0 ps k o2 (fs ++ f ∷ [])
-  one_more_listed k o o2 fs f line fine s =
+  one_more_listed f line fine s =
       let same : Appends (held o.inner) (held o2.inner) (listing_line k0 f) = subst (λ (x : Listing). Appends (held o.inner) (held o2.inner) (listing_line x f)) s.same line in
       record {
         same = s.same;
@@ -31,9 +31,9 @@ module _ {W : Type 0} (held : W → Option (List ℕ)) (k0 : Listing) (o0 : Devi
       }
 
   -- a prefix of the line was written
-  pub stopped_at_line : (k : Listing) (o o2 : Device W) (fs : List Framed) (f : Framed) → AppendsPrefix (held o.inner) (held o2.inner) (listing_line k f) → HasFailed o.failures o2.failures
+  pub stopped_at_line : (f : Framed) → AppendsPrefix (held o.inner) (held o2.inner) (listing_line k f) → HasFailed o.failures o2.failures
       → Lists held k0 o0 ps k o fs → ListsUpTo held k0 o0 ps k o2 fs (fs ++ f ∷ [])
-  stopped_at_line k o o2 fs f line failed s =
+  stopped_at_line f line failed s =
       let part : AppendsPrefix (held o.inner) (held o2.inner) (listing_line k0 f) = subst (λ (x : Listing). AppendsPrefix (held o.inner) (held o2.inner) (listing_line x f)) s.same line in
       let rest : List ℕ = part.0 in
       let sent : List ℕ = part.1.0 in
@@ -47,18 +47,10 @@ module _ {W : Type 0} (held : W → Option (List ℕ)) (k0 : Listing) (o0 : Devi
         failed = subst (λ (n : ℕ). HasFailed n o2.failures) s.fine failed;
       }
 
-  -- the writer was flushed
-  pub sent_listed : (k : Listing) (o o2 : Device W) (fs : List Framed) → Keeps (held o.inner) (held o2.inner) → o2.failures ≡ o.failures → Lists held k0 o0 ps k o fs → Lists held k0 o0 ps k o2 fs
-  sent_listed k o o2 fs kept fine s = record {
-    same = s.same;
-    out = λ w a. Appends-kept w (held o.inner) (held o2.inner) (listing_lines k0 fs) (s.out w a) kept;
-    fine = fine ∙ s.fine;
-  }
-
   -- the writer couldn't be flushed
-  pub unsent_listed : (k : Listing) (o o2 : Device W) (fs : List Framed) → Keeps (held o.inner) (held o2.inner) → HasFailed o.failures o2.failures → Lists held k0 o0 ps k o fs
+  pub unsent_listed : Keeps (held o.inner) (held o2.inner) → HasFailed o.failures o2.failures → Lists held k0 o0 ps k o fs
       → ListsUpTo held k0 o0 ps k o2 fs fs
-  unsent_listed k o o2 fs kept failed s = record {
+  unsent_listed kept failed s = record {
     out = λ w a. record {
       out = listing_lines k0 fs;
       went = Appends-kept w (held o.inner) (held o2.inner) (listing_lines k0 fs) (s.out w a) kept;

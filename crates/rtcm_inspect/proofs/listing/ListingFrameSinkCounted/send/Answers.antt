@@ -4,4 +4,4 @@ use Rattle.rtcm_inspect.proofs.listing.ListingFrameSinkCounted.send.Goals as goa
 
 pub returns-clause-part : goal.returns-clause-part
 returns-clause-part g c = on_err c.send.result _ _
-    (λ failed k o ps fs took. unsent_listed g.W.Write.contents k o ps c.args.self.now c.args.out.now c.send.new.self fs c.send.ensures.kept failed took) c.send.ensures.device.0
+    (λ failed k o ps fs took. unsent_listed c.send.ensures.kept failed took) c.send.ensures.device.0

@@ -10,7 +10,7 @@ returns-clause-whole g c =
     (c.as_bytes.ensures.text ∙ c.add_line.ensures ∙ ap (λ (l : List ℕ). l ++ listing_line c.args.self.now f) c.new-line.ensures)
     (c.write_whole.ensures.whole, c.write_whole.ensures.part, c.write_whole.ensures.device) in
     on_ok c.write_whole.result _ _
-    (λ line k o ps fs took. one_more_listed g.W.Write.contents k o ps c.args.self.now c.args.out.now c.write_whole.new.self fs f line.0 line.1 took)
+    (λ line k o ps fs took. one_more_listed f line.0 line.1 took)
     (both_ok c.write_whole.result _ _ written.0 written.2.1)
 
 pub returns-clause-part : goal.returns-clause-part
@@ -20,5 +20,5 @@ returns-clause-part g c =
     (c.as_bytes.ensures.text ∙ c.add_line.ensures ∙ ap (λ (l : List ℕ). l ++ listing_line c.args.self.now f) c.new-line.ensures)
     (c.write_whole.ensures.whole, c.write_whole.ensures.part, c.write_whole.ensures.device) in
     on_err c.write_whole.result _ _
-    (λ stopped k o ps fs took. stopped_at_line g.W.Write.contents k o ps c.args.self.now c.args.out.now c.write_whole.new.self fs f stopped.0 stopped.1 took)
+    (λ stopped k o ps fs took. stopped_at_line f stopped.0 stopped.1 took)
     (both_err c.write_whole.result _ _ written.1 written.2.0)
