@@ -89,20 +89,22 @@ isnt_help : (b : Bool) (kinds : Kinds) → (if b && not false then kinds else []
 isnt_help true kinds e some = absurd (some e)
 isnt_help false kinds e some = refl
 
--- the name of a subcommand that this word meets
-met_name : (s : Shape) (names : Names) (w : Walk) (word : Text) (t : Bool) (m : Option Text) (p : Text × List Text) → s.disable_help_subcommand ≡ false
-    → w.stopped ≡ None → (if t then [] else other_fault s m word w.held) ≡ []
-    → (let met = if t then (w.held, value) else subcommand_or_other s.rules m w.waiting w.position word w.held in (after_step s.rules word w met.0 met.1).stopped) ≡ Some p
-    → bytes_eq p.0 (codes "help") ≡ false
+-- the subcommand at which a walk stops, if it does, isn't `help`
+abbrev IsNotHelp : Option (Text × List Text) → Type 0
+IsNotHelp stop = (p : Text × List Text) → stop ≡ Some p → bytes_eq p.0 (codes "help") ≡ false
+
+-- a subcommand that this word meets isn't `help`
+met_name : (s : Shape) (w : Walk) (word : Text) (t : Bool) (m : Option Text) → s.disable_help_subcommand ≡ false → w.stopped ≡ None → (if t then [] else other_fault s m word w.held) ≡ []
+    → IsNotHelp (let met = if t then (w.held, value) else subcommand_or_other s.rules m w.waiting w.position word w.held in (after_step s.rules word w met.0 met.1).stopped)
 unfolding IsOther
-met_name s names w word true m p free none fault stops =
+met_name s w word true m free none fault p stops =
     let bad : None ≡ Some p = sym (goes_on s.rules word w w.held value none tt) ∙ stops in
     cc
-met_name s names w word false None p free none fault stops =
+met_name s w word false None free none fault p stops =
     let met = subcommand_or_other s.rules None w.waiting w.position word w.held in
     let bad : None ≡ Some p = sym (goes_on s.rules word w met.0 met.1 none (word_other s.rules w.waiting w.position word w.held)) ∙ stops in
     cc
-met_name s names w word false (Some name) p free none fault stops =
+met_name s w word false (Some name) free none fault p stops =
     let same : name ≡ p.0 = ap (λ (o : Option (Text × List Text)). option_map_or (λ q. q.0) o name) stops in
     let quiet : (if bytes_eq name (codes "help") && not false then kind.DisplayHelp ∷ kind.InvalidSubcommand ∷ [] else []) ≡ [] =
     subst (λ (b : Bool). (if bytes_eq name (codes "help") && not b then kind.DisplayHelp ∷ kind.InvalidSubcommand ∷ [] else []) ≡ []) free fault in
@@ -115,12 +117,11 @@ TurnFault s names w word stopped =
     if is_some stopped then [] else or_else (word_fault s names w.is_trailing w.waiting word w.held) (step_fault s w.position met.0 met.1)
 
 -- one more word
-turn_name : (s : Shape) (names : Names) (w : Walk) (word : Text) (p : Text × List Text) → s.disable_help_subcommand ≡ false → w.stopped ≡ None
-    → turn_fault s names w word ≡ [] → (walked s.rules names w word).stopped ≡ Some p → bytes_eq p.0 (codes "help") ≡ false
+turn_name : (s : Shape) (names : Names) (w : Walk) (word : Text) → s.disable_help_subcommand ≡ false → w.stopped ≡ None → turn_fault s names w word ≡ [] → IsNotHelp (walked s.rules names w word).stopped
 unfolding walked TurnFault
-turn_name s names w word p free none fault stops =
-    met_name s names w word w.is_trailing (subcommand_met names w.waiting word) p free none
-    (first_none _ _ (subst (λ (o : Option (Text × List Text)). TurnFault s names w word o ≡ []) none fault))
+turn_name s names w word free none fault p stops =
+    met_name s w word w.is_trailing (subcommand_met names w.waiting word) free none
+    (first_none _ _ (subst (λ (o : Option (Text × List Text)). TurnFault s names w word o ≡ []) none fault)) p
     (subst (λ (o : Option (Text × List Text)). (walked_from s.rules names o w word).stopped ≡ Some p) none stops)
 
 -- after a subcommand the walk keeps its name
@@ -132,25 +133,19 @@ kept_name s names (word ∷ rest) w q p at stops =
     kept_name s names rest (walked s.rules names w word) (q.0, q.1 ++ word ∷ []) p
     (ap (λ (o : Option (Text × List Text)). (walked_from s.rules names o w word).stopped) at) stops
 
--- the name after one more word, if the rest is known
-word_name : (s : Shape) (names : Names) (w : Walk) (word : Text) (rest : List Text) (p : Text × List Text) (o : Option (Text × List Text)) → s.disable_help_subcommand ≡ false
-    → w.stopped ≡ None → turn_fault s names w word ≡ [] → (walked s.rules names w word).stopped ≡ o
-    → ((walked s.rules names w word).stopped ≡ None → bytes_eq p.0 (codes "help") ≡ false)
-    → (fold (walked s.rules names) (walked s.rules names w word) rest).stopped ≡ Some p → bytes_eq p.0 (codes "help") ≡ false
-word_name s names w word rest p None free none fault at later stops = later at
-word_name s names w word rest p (Some q) free none fault at later stops =
-    subst (λ (n : Text). bytes_eq n (codes "help") ≡ false) (kept_name s names rest (walked s.rules names w word) q p at stops)
-    (turn_name s names w word q free none fault at)
+-- the subcommand after more words isn't `help`, if the walk stopped at none before or at none of that name
+word_name : (s : Shape) (names : Names) (w : Walk) (rest : List Text) (o : Option (Text × List Text)) → w.stopped ≡ o → IsNotHelp w.stopped
+    → (w.stopped ≡ None → IsNotHelp (fold (walked s.rules names) w rest).stopped) → IsNotHelp (fold (walked s.rules names) w rest).stopped
+word_name s names w rest None at this later p stops = later at p stops
+word_name s names w rest (Some q) at this later p stops = subst (λ (n : Text). bytes_eq n (codes "help") ≡ false) (kept_name s names rest w q p at stops) (this q at)
 
-stop_name : (s : Shape) (names : Names) (words : List Text) (w : Walk) (p : Text × List Text) → s.disable_help_subcommand ≡ false → w.stopped ≡ None
-    → walk_fault s names w words ≡ [] → (fold (walked s.rules names) w words).stopped ≡ Some p → bytes_eq p.0 (codes "help") ≡ false
+stop_name : (s : Shape) (names : Names) (words : List Text) (w : Walk) → s.disable_help_subcommand ≡ false → w.stopped ≡ None → walk_fault s names w words ≡ []
+    → IsNotHelp (fold (walked s.rules names) w words).stopped
 unfolding walk_fault
-stop_name s names [] w p free none fault stops =
-    let bad : None ≡ Some p = sym none ∙ stops in
-    cc
-stop_name s names (word ∷ rest) w p free none fault stops =
-    word_name s names w word rest p (walked s.rules names w word).stopped free none (first_none _ _ fault) refl
-    (λ (still : (walked s.rules names w word).stopped ≡ None). stop_name s names rest (walked s.rules names w word) p free still (next_none _ _ fault) stops) stops
+stop_name s names [] w free none fault = λ p stops. (let bad : None ≡ Some p = sym none ∙ stops in cc)
+stop_name s names (word ∷ rest) w free none fault =
+    word_name s names (walked s.rules names w word) rest (walked s.rules names w word).stopped refl (turn_name s names w word free none (first_none _ _ fault))
+    (λ (still : (walked s.rules names w word).stopped ≡ None). stop_name s names rest (walked s.rules names w word) free still (next_none _ _ fault))
 
 -- ---- the name of the subcommand that is entered
 
@@ -189,7 +184,7 @@ name_asked : (P : Text → Type 0) (a : App) (words : List Text) → (built a).t
 name_asked P a words wanted free all none =
     let stop : Option (Text × List Text) = (walk (built a).top.rules (names_of (built a)) nothing_held (argument_words a words)).stopped in
     entered_name P (built a) stop
-    (λ p e. all p.0 (stop_name (built a).top (names_of (built a)) (argument_words a words) (walk_from nothing_held) p free refl (first_none _ _ none) e))
+    (λ p e. all p.0 (stop_name (built a).top (names_of (built a)) (argument_words a words) (walk_from nothing_held) free refl (first_none _ _ none) p e))
     (enters_wanted (built a).top (names_of (built a)) nothing_held (argument_words a words) (is_some (entered (built a) stop)) (entered_fault (built a) stop) wanted none)
 
 isnt_answered : (name : Text) → bytes_eq name (codes "help") ≡ false → (bytes_eq (codes "help") name || false) ≡ true → ⊥

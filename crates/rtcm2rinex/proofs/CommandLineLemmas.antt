@@ -1,6 +1,6 @@
 -- A command after an option or a command is added.
 use Rattle.rtcm2rinex.specs.CommandLine.{rows_of}
-use Rattle.rtcm2rinex.proofs.Names.{◌≡◌, ◌+◌, ◌<◌, ◌&&◌, ◌∷◌, [], ℕ, Bool, Result, Ok, Err, IfErr, List, Option, Some, true, false, not, is_some, length, map, take, get_or, inl, inr, refl, sym, subst, ap, ap₂, ◌∙◌, map_more, fold-append, Rule, Text, is_empty, rule_of, App, app_of, built, app_of_fields, is_simple, new_app, on_top, with_rule, with_subcommand, AddsArg, AddsSubcommand, is_free_app, is_simple_and_free, clap_on_literals, FailsBy, HasKind, Kinds, Error, Bor, CommandRow, OptionRow, Tables, FailsParsing, RefusesWords, command_set, more_of, option_set, program, with_commands, with_options, kind_of, Arg, Command, out-Command}
+use Rattle.rtcm2rinex.proofs.Names.{◌≡◌, ◌+◌, ◌<◌, ◌&&◌, ◌∷◌, [], ℕ, Bool, Result, Ok, Err, IfErr, List, Some, true, false, not, is_some, length, map, take, get_or, inl, inr, refl, sym, subst, ap, ap₂, ◌∙◌, map_more, fold-append, Rule, Text, is_empty, rule_of, App, app_of, built, app_of_fields, is_simple, new_app, on_top, with_rule, with_subcommand, AddsArg, AddsSubcommand, is_free_app, is_simple_and_free, clap_on_literals, FailsBy, HasKind, Kinds, Error, Bor, CommandRow, OptionRow, Tables, FailsParsing, RefusesWords, command_set, more_of, option_set, program, with_commands, with_options, kind_of, Arg, Command, out-Command}
 use Rattle.rtcm2rinex.specs.declared.commands.Options.TheVariants as options
 use Rattle.clap.specs.declared.builder.value_parser.ValueParser.TheVariants as value
 use Rattle.clap.specs.declared.error.kind.ErrorKind.TheVariants as kind
@@ -18,15 +18,13 @@ isnt : (a : Bool) → not a ≡ true → a ≡ false
 isnt true e = cc
 isnt false e = refl
 
-tenth : (a b c d e f g h i j : Bool) → (a && (b && (c && (d && (e && (f && (g && (h && (i && j))))))))) ≡ true → j ≡ true
-tenth a b c d e f g h i j s =
-    second i j (second h _ (second g _ (second f _ (second e _ (second d _ (second c _ (second b _ (second a _ s))))))))
-
 -- an option that clap's definitions read belongs to its command alone
 local : (a : Arg) (r : Rule) → rule_of a ≡ r → r.is_simple ≡ true → a.global ≡ false
-local a r is simple = isnt a.global (tenth (is_empty a.overrides.items) (is_empty a.default_vals_ifs.items) (is_empty a.groups.items)
-    (not (is_some a.val_delim)) (not (is_some a.terminator)) (not a.allow_hyphen_values) (not a.allow_negative_numbers)
-    (not a.require_equals) (not a.last) (not a.global) (ap (λ (x : Rule). x.is_simple) is ∙ simple))
+local a r is simple = isnt a.global (second (not a.last) _ (second (not a.require_equals) _
+    (second (not a.allow_negative_numbers) _ (second (not a.allow_hyphen_values) _
+    (second (not (is_some a.terminator)) _ (second (not (is_some a.val_delim)) _
+    (second (is_empty a.groups.items) _ (second (is_empty a.default_vals_ifs.items) _
+    (second (is_empty a.overrides.items) _ (ap (λ (x : Rule). x.is_simple) is ∙ simple))))))))))
 
 has_local : (c : Command) (a : App) → app_of c ≡ a → a.top.is_plain ≡ true → (out-Command c).has_globals ≡ false
 has_local c a is plain =
@@ -34,23 +32,18 @@ has_local c a is plain =
     isnt f.has_globals (first_half (not f.has_globals) _ (second (not f.allow_external_subcommands) _
     (second (is_empty f.groups.items) _ (ap (λ (x : App). x.top.is_plain) is ∙ plain))))
 
--- help texts don't change how words are read
-pub described : (c d e : Command) (a : App) (t u : Option (Bor Text)) → out-Command d ≡ record (out-Command c) { about = t }
-    → out-Command e ≡ record (out-Command d) { after_help = u } → app_of c ≡ a → app_of e ≡ a
-described c d e a t u about after was = ap app_of_fields after ∙ ap app_of_fields about ∙ was
-
 -- a command with a version that requires a subcommand
-pub versioned : (c d e : Command) (a : App) (t : Bor Text) → out-Command d ≡ record (out-Command c) { version = Some t }
+pub versioned : (c d e : Command) {a : App} {t : Bor Text} → out-Command d ≡ record (out-Command c) { version = Some t }
     → out-Command e ≡ record (out-Command d) { subcommand_required = true } → app_of c ≡ a
     → app_of e ≡ on_top (λ s. record s { subcommand_required = true; has_version = true }) a
-versioned c d e a t version wants was =
+versioned c d e version wants was =
     ap app_of_fields wants ∙ ap (λ f. app_of_fields (record f { subcommand_required = true })) version
     ∙ ap (on_top (λ s. record s { subcommand_required = true; has_version = true })) was
 
 -- one more option
-pub with_option : (old new : Command) (a : Arg) (app : App) (r : Rule) → AddsArg old a new → app_of old ≡ app → rule_of a ≡ r → r.is_simple ≡ true
+pub with_option : {old new : Command} {a : Arg} {app : App} {r : Rule} → AddsArg old a new → app_of old ≡ app → rule_of a ≡ r → r.is_simple ≡ true
     → app_of new ≡ with_rule app r
-with_option old new a app r added was is simple = added.shape (local a r is simple) ∙ ap₂ with_rule was is
+with_option {a} {r} added was is simple = added.shape (local a r is simple) ∙ ap₂ with_rule was is
 
 -- an option of a row is read by clap's definitions
 pub simple_given : (row : OptionRow) → (option_set row).is_simple ≡ true
@@ -68,9 +61,9 @@ plain_given tables row =
     plain first (map option_set (more_of tables row.options)) ∙ plain (new_app row.name.now) (map option_set (rows_of tables row.options))
 
 -- one more command
-pub with_command : (old sub new : Command) (app below : App) → AddsSubcommand old sub new → app_of old ≡ app → app_of sub ≡ below → below.top.is_plain ≡ true
+pub with_command : {old sub new : Command} {app below : App} → AddsSubcommand old sub new → app_of old ≡ app → app_of sub ≡ below → below.top.is_plain ≡ true
     → app_of new ≡ with_subcommand app below.top
-with_command old sub new app below added was is plain =
+with_command {sub} {below} added was is plain =
     added.shape (has_local sub below is plain) ∙ ap₂ with_subcommand was (ap (λ (x : App). x.top) is)
 
 -- clap's definitions read the words by these commands and options

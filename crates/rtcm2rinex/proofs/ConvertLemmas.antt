@@ -1,26 +1,31 @@
 -- A conversion that is stopped by a fault.
-use Rattle.rtcm2rinex.proofs.Names.{◌≡◌, ◌∙◌, ap, sym, subst, refl, rules, ℕ, ℤ, List, Option, Some, None, Result, Ok, Err, IsErrOf, IfSome, inl, inr, ◌≢◌, ◌↔◌, ◌⊎◌, Device, IsSentAfter, IsSetupFault, IsUntouched, IsMadeEmpty, IsMadeSoFar, IsMadeInPart, IsMadeToLimit, IsBad, IsBadAt, Start, start_zero, Setup, no_values, AreStationValues, Fault, Memory, BadSetup, TooLong, Read, Write, Failed, Finished, NoEpoch, Report, ToolFault, Row, StationValues, values_by, HasSetupFault, IsFirstFault, IsSetupRefused, IsWeekRefused, IsWeekSet, values_set, StopsConversion, StopsConverting, HaveFailedBy}
+use Rattle.rtcm2rinex.proofs.CommandLemmas.{Devices}
+use Rattle.rtcm2rinex.proofs.Names.{◌≡◌, ◌∙◌, ap, sym, subst, refl, rules, ℕ, ℤ, List, Option, Some, None, Result, Ok, Err, IsErrOf, IfSome, inl, inr, ◌≢◌, ◌↔◌, ◌⊎◌, IsSentAfter, IsSetupFault, IsUntouched, IsMadeEmpty, IsMadeSoFar, IsMadeInPart, IsMadeToLimit, IsBad, IsBadAt, Start, start_zero, Setup, no_values, AreStationValues, Fault, Memory, BadSetup, TooLong, Read, Write, Failed, Finished, NoEpoch, Report, ToolFault, Row, StationValues, values_by, HasSetupFault, IsFirstFault, IsSetupRefused, IsWeekRefused, IsWeekSet, values_set, StopsConversion, StopsConverting, HaveFailedBy}
 use Rattle.rtcm2rinex.specs.declared.fault.ToolFault.TheVariants as faults
 
-module _ {R W : Type 0} (left : R → Option (List ℕ)) (held : W → Option (List ℕ)) (waits : W → List ℕ) (x : Start) (rd rd2 : Device R) (o o2 : Device W) where
-  abbrev Result-of : Fault → Result Report Fault
-  Result-of fault = Err fault
+abbrev Result-of : Fault → Result Report Fault
+Result-of fault = Err fault
 
-  pub conversion_stopped : (fault : Fault) → IsSentAfter (Result-of fault) (waits o.inner) (waits o2.inner)
-      → (IsErrOf (Result-of fault) NoEpoch → IfSome (left rd.inner) (IsMadeEmpty x (held o.inner) (held o2.inner)))
-      → (IsErrOf (Result-of fault) TooLong → IsMadeToLimit x (left rd.inner) (left rd2.inner) (held o.inner) (held o2.inner))
-      → (IsErrOf (Result-of fault) Read → IsMadeSoFar x (left rd.inner) (left rd2.inner) (held o.inner) (held o2.inner))
-      → (IsErrOf (Result-of fault) Write → IsMadeInPart x (left rd.inner) (left rd2.inner) (held o.inner) (held o2.inner))
-      → (Result-of fault ≡ Err BadSetup ↔ IsBadAt x) → (IsSetupFault fault → IsUntouched rd rd2 o o2) → (Result-of fault ≢ Err Failed) × (Result-of fault ≢ Err Finished)
-      → StopsConversion x left rd rd2 held waits o o2 fault
-  conversion_stopped Memory sent none long read write bad untouched only = untouched (inr refl)
-  conversion_stopped BadSetup sent none long read write bad untouched only = (bad.0 refl, untouched (inl refl))
-  conversion_stopped TooLong sent none long read write bad untouched only = (long refl, sent)
-  conversion_stopped Read sent none long read write bad untouched only = (read refl, sent)
-  conversion_stopped Write sent none long read write bad untouched only = write refl
-  conversion_stopped Failed sent none long read write bad untouched only = absurd (only.0 refl)
-  conversion_stopped Finished sent none long read write bad untouched only = absurd (only.1 refl)
-  conversion_stopped NoEpoch sent none long read write bad untouched only = (none refl, sent)
+-- what a conversion that returned this fault did
+pub record Faulted {R W : Type 0} (x : Start) (d : Devices R W) (fault : Fault) : Type 0 where
+  pub sent : IsSentAfter (Result-of fault) (d.waits d.w.inner) (d.waits d.w2.inner)
+  pub no_epoch : IsErrOf (Result-of fault) NoEpoch → IfSome (d.left d.r.inner) (IsMadeEmpty x (d.held d.w.inner) (d.held d.w2.inner))
+  pub long : IsErrOf (Result-of fault) TooLong → IsMadeToLimit x (d.left d.r.inner) (d.left d.r2.inner) (d.held d.w.inner) (d.held d.w2.inner)
+  pub read : IsErrOf (Result-of fault) Read → IsMadeSoFar x (d.left d.r.inner) (d.left d.r2.inner) (d.held d.w.inner) (d.held d.w2.inner)
+  pub write : IsErrOf (Result-of fault) Write → IsMadeInPart x (d.left d.r.inner) (d.left d.r2.inner) (d.held d.w.inner) (d.held d.w2.inner)
+  pub bad : Result-of fault ≡ Err BadSetup ↔ IsBadAt x
+  pub untouched : IsSetupFault fault → IsUntouched d.r d.r2 d.w d.w2
+  pub only : (Result-of fault ≢ Err Failed) × (Result-of fault ≢ Err Finished)
+
+pub conversion_stopped : {R W : Type 0} {x : Start} {d : Devices R W} (fault : Fault) → Faulted x d fault → StopsConversion x d.left d.r d.r2 d.held d.waits d.w d.w2 fault
+conversion_stopped Memory s = s.untouched (inr refl)
+conversion_stopped BadSetup s = (s.bad.0 refl, s.untouched (inl refl))
+conversion_stopped TooLong s = (s.long refl, s.sent)
+conversion_stopped Read s = (s.read refl, s.sent)
+conversion_stopped Write s = s.write refl
+conversion_stopped Failed s = absurd (s.only.0 refl)
+conversion_stopped Finished s = absurd (s.only.1 refl)
+conversion_stopped NoEpoch s = (s.no_epoch refl, s.sent)
 
 -- a bad start is the fault of the conversion and of the command
 pub given_bad : (fault : Fault) (Bad : Type 0) → (◌≡◌ {A = Result Report Fault} (Err fault) (Err BadSetup) ↔ Bad)
@@ -42,9 +47,9 @@ only_two None h e is = inl (sym (ap err_of is))
 only_two (Some (x, y, z)) None e is = inr (sym (ap err_of is))
 only_two (Some (x, y, z)) (Some h) e is = cc
 
-module _ {R W : Type 0} (left : R → Option (List ℕ)) (held : W → Option (List ℕ)) (waits : W → List ℕ) (options : List Row) (rd : Device R) (o : Device W) where
+module _ {R W : Type 0} (d : Devices R W) (options : List Row) where
   abbrev Refuses : ToolFault → Type 0
-  Refuses e = HaveFailedBy e rd rd o o × StopsConverting options left rd rd held waits o o e
+  Refuses e = HaveFailedBy e d.r d.r d.w d.w × StopsConverting options d.left d.r d.r d.held d.waits d.w d.w e
 
   -- a week that is invalid
   pub week_refused : (e : ToolFault) → IsWeekRefused options e → Refuses e

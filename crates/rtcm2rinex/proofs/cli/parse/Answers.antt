@@ -7,7 +7,7 @@ pub returns-in-Ok : goal.returns-in-Ok
 returns-in-Ok c =
     let program = app_of c.in-Ok.program in
     let same = c.in-Ok.ensures (start_of c.program_tables-tables.result.program.name.now)
-    (versioned _ _ _ _ _ c.version.ensures c.subcommand_required-start.ensures c.described.ensures) in
+    (versioned _ _ _ c.version.ensures c.subcommand_required-start.ensures c.described.ensures) in
     let is : IsProgram program = subst IsProgram (sym same) c.program_tables-tables.ensures in
     let parse = c.try_get_matches_from in
     let read : is_simple_and_free program ≡ true = ap is_simple_and_free is.2 ∙ is_read is.0 in

@@ -10,7 +10,7 @@ loop-row-preserved c = λ a made.
     let before = with_commands a (map (command_set tables) (take c.loop-row.row-index rows)) in
     elim c.match-program.branch [
       | in-Ok+in-Ok-command w ↦ rw w.program-is (IfOk-weaker w.subcommand.result _ _ (λ new added.
-          with_command w.in-Ok.program w.in-Ok-command.command new before _ added (subst (λ r. Makes r before) w.in-Ok.is (c.loop-row.invariant a made))
+          with_command added (subst (λ r. Makes r before) w.in-Ok.is (c.loop-row.invariant a made))
           w.in-Ok-command.ensures (plain_given tables (get_or rows c.loop-row.row-index no_command))
           ∙ one_command_more tables a rows c.loop-row.row-index no_command c.loop-row-test.true) w.subcommand.ensures)
       | in-Ok+in-Err-command w ↦ rw w.program-is tt

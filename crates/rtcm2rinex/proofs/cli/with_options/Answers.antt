@@ -8,7 +8,7 @@ loop-row-preserved c = λ a made.
     let before = with_options a (map option_set (take c.loop-row.row-index c.args.rows.now)) in
     elim c.match-command.branch [
       | in-Ok w ↦ rw w.command-is (IfOk-weaker w.arg.result _ _ (λ new added.
-          with_option w.in-Ok.command new w.option.result before _ added (subst (λ r. Makes r before) w.in-Ok.is (c.loop-row.invariant a made)) w.option.ensures
+          with_option added (subst (λ r. Makes r before) w.in-Ok.is (c.loop-row.invariant a made)) w.option.ensures
           (simple_given (get_or c.args.rows.now c.loop-row.row-index no_option))
           ∙ one_option_more a c.args.rows.now c.loop-row.row-index no_option c.loop-row-test.true) w.arg.ensures)
       | in-Err w ↦ rw w.command-is tt

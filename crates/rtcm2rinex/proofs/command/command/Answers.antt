@@ -1,5 +1,5 @@
 use Rattle.rtcm2rinex.proofs.CommandLineLemmas.{is_version}
-use Rattle.rtcm2rinex.proofs.CommandLemmas.{answered_in_part, failed_to_serve, has_command, refused_at_two, refused_words, served}
+use Rattle.rtcm2rinex.proofs.CommandLemmas.{Devices, answered_in_part, failed_to_serve, has_command, refused_at_two, refused_words, served}
 use Rattle.rtcm2rinex.proofs.Names.{inr, refl, texts}
 use Rattle.rtcm2rinex.proofs.command.command.Goals as goal
 
@@ -8,18 +8,18 @@ run-ended-requires g c = has_command (texts c.args.words.now) c.in-Ok.matches c.
 
 pub returns-in-Ok-clause-good : goal.returns-in-Ok-clause-good
 returns-in-Ok-clause-good g c =
-    served g.R.Read.remaining g.W.Write.contents g.W.Deliver.waiting g.E.Write.contents c.args.reader.now c.run-ended.new.reader c.args.writer.now c.run-ended.new.writer c.args.faults.now c.run-ended.new.faults c.exit_status.new.faults (texts c.args.words.now)
-    c.in-Ok.matches c.run-ended.result c.exit_status.result c.exit_status.ensures.value c.exit_status.ensures.line c.in-Ok.ensures.asked c.run-ended.ensures
+    let d : Devices _ _ = record { left = g.R.Read.remaining; held = g.W.Write.contents; waits = g.W.Deliver.waiting; r = c.args.reader.now; r2 = c.run-ended.new.reader; w = c.args.writer.now; w2 = c.run-ended.new.writer } in
+    served {d = d} {m = c.in-Ok.matches} c.run-ended.result (record { is = c.exit_status.ensures.value; line = c.exit_status.ensures.line; found = c.in-Ok.ensures.asked; end = c.run-ended.ensures })
 
 pub returns-in-Ok-clause-stopped : goal.returns-in-Ok-clause-stopped
 returns-in-Ok-clause-stopped g c =
-    failed_to_serve g.R.Read.remaining g.W.Write.contents g.W.Deliver.waiting g.E.Write.contents c.args.reader.now c.run-ended.new.reader c.args.writer.now c.run-ended.new.writer c.args.faults.now c.run-ended.new.faults c.exit_status.new.faults (texts c.args.words.now)
-    c.in-Ok.matches c.run-ended.result c.exit_status.result c.exit_status.ensures.value c.exit_status.ensures.line c.in-Ok.ensures.asked c.run-ended.ensures
+    let d : Devices _ _ = record { left = g.R.Read.remaining; held = g.W.Write.contents; waits = g.W.Deliver.waiting; r = c.args.reader.now; r2 = c.run-ended.new.reader; w = c.args.writer.now; w2 = c.run-ended.new.writer } in
+    failed_to_serve {d = d} {m = c.in-Ok.matches} c.run-ended.result (record { is = c.exit_status.ensures.value; line = c.exit_status.ensures.line; found = c.in-Ok.ensures.asked; end = c.run-ended.ensures })
 
 pub returns-in-Ok-clause-refused : goal.returns-in-Ok-clause-refused
 returns-in-Ok-clause-refused g c =
-    refused_at_two g.R.Read.remaining g.W.Write.contents g.W.Deliver.waiting g.E.Write.contents c.args.reader.now c.run-ended.new.reader c.args.writer.now c.run-ended.new.writer c.args.faults.now c.run-ended.new.faults c.exit_status.new.faults (texts c.args.words.now)
-    c.in-Ok.matches c.run-ended.result c.exit_status.result c.exit_status.ensures.value c.exit_status.ensures.line c.in-Ok.ensures.asked c.run-ended.ensures
+    let d : Devices _ _ = record { left = g.R.Read.remaining; held = g.W.Write.contents; waits = g.W.Deliver.waiting; r = c.args.reader.now; r2 = c.run-ended.new.reader; w = c.args.writer.now; w2 = c.run-ended.new.writer } in
+    refused_at_two {d = d} {m = c.in-Ok.matches} c.run-ended.result (record { is = c.exit_status.ensures.value; line = c.exit_status.ensures.line; found = c.in-Ok.ensures.asked; end = c.run-ended.ensures })
 
 pub returns-in-Err-clause-good : goal.returns-in-Err-clause-good
 returns-in-Err-clause-good g c = λ e. (let good = c.answer-status.ensures.good e in
@@ -27,8 +27,8 @@ returns-in-Err-clause-good g c = λ e. (let good = c.answer-status.ensures.good 
 
 pub returns-in-Err-clause-stopped : goal.returns-in-Err-clause-stopped
 returns-in-Err-clause-stopped g c = λ e.
-    answered_in_part g.R.Read.remaining g.W.Write.contents g.W.Deliver.waiting g.E.Write.contents c.args.reader.now c.args.reader.now c.args.writer.now c.answer-status.new.writer c.args.faults.now c.args.faults.now c.answer-status.new.faults (texts c.args.words.now)
-    c.in-Err.error c.in-Err.ensures.refused (c.answer-status.ensures.stopped e) (refl {a = c.args.reader.now})
+    let d : Devices _ _ = record { left = g.R.Read.remaining; held = g.W.Write.contents; waits = g.W.Deliver.waiting; r = c.args.reader.now; r2 = c.args.reader.now; w = c.args.writer.now; w2 = c.answer-status.new.writer } in
+    answered_in_part d g.E.Write.contents c.args.faults.now c.answer-status.new.faults (texts c.args.words.now) c.in-Err.error c.in-Err.ensures.refused (c.answer-status.ensures.stopped e)
 
 pub returns-in-Err-clause-refused : goal.returns-in-Err-clause-refused
 returns-in-Err-clause-refused g c = λ e. (let refused = c.answer-status.ensures.refused e in

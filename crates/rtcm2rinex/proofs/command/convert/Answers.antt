@@ -1,3 +1,4 @@
+use Rattle.rtcm2rinex.proofs.CommandLemmas.{Devices}
 use Rattle.rtcm2rinex.proofs.ConvertLemmas.{setup_refused, values_refused, week_refused}
 use Rattle.rtcm2rinex.proofs.Names.{◌≡◌, ◌∙◌, inr, refl, subst, sym, ℕ, List, Result, Ok, Err, start_at, BadSetup, Report, EndsConverting, PrintsLine, options_of, ToolFault, passed}
 use Rattle.rtcm2rinex.specs.declared.fault.ToolFault.TheVariants as faults
@@ -8,7 +9,8 @@ returns-in_err-start_week g c =
     passed c.from_residual.result c.in_err-start_week.field-0.0
     (λ r. EndsConverting r (options_of c.args.options.now) g.R.Read.remaining c.args.reader.now c.args.reader.now g.W.Write.contents g.W.Deliver.waiting c.args.writer.now c.args.writer.now
     g.E.Write.contents c.args.faults.now c.args.faults.now) c.from_residual.ensures.1
-    (let end = week_refused g.R.Read.remaining g.W.Write.contents g.W.Deliver.waiting (options_of c.args.options.now) c.args.reader.now c.args.writer.now c.in_err-start_week.field-0.0 c.in_err-start_week.ensures in
+    (let d : Devices _ _ = record { left = g.R.Read.remaining; held = g.W.Write.contents; waits = g.W.Deliver.waiting; r = c.args.reader.now; r2 = c.args.reader.now; w = c.args.writer.now; w2 = c.args.writer.now } in
+    let end = week_refused d (options_of c.args.options.now) c.in_err-start_week.field-0.0 c.in_err-start_week.ensures in
     (end.0, (end.1, refl)))
 
 pub returns-in_err-initial : goal.returns-in_err-initial
@@ -16,7 +18,8 @@ returns-in_err-initial g c =
     passed c.from_residual-in_err-initial.result c.in_err-initial.field-0.0
     (λ r. EndsConverting r (options_of c.args.options.now) g.R.Read.remaining c.args.reader.now c.args.reader.now g.W.Write.contents g.W.Deliver.waiting c.args.writer.now c.args.writer.now
     g.E.Write.contents c.args.faults.now c.args.faults.now) c.from_residual-in_err-initial.ensures.1
-    (let end = values_refused g.R.Read.remaining g.W.Write.contents g.W.Deliver.waiting (options_of c.args.options.now) c.args.reader.now c.args.writer.now c.in_ok-start_week.start_week c.in_ok-start_week.ensures c.in_err-initial.field-0.0 (sym c.values_of.ensures ∙ c.in_err-initial.was) in
+    (let d : Devices _ _ = record { left = g.R.Read.remaining; held = g.W.Write.contents; waits = g.W.Deliver.waiting; r = c.args.reader.now; r2 = c.args.reader.now; w = c.args.writer.now; w2 = c.args.writer.now } in
+    let end = values_refused d (options_of c.args.options.now) c.in_ok-start_week.start_week c.in_ok-start_week.ensures c.in_err-initial.field-0.0 (sym c.values_of.ensures ∙ c.in_err-initial.was) in
     (end.0, (end.1, refl)))
 
 pub returns-in_err-setup : goal.returns-in_err-setup
@@ -24,7 +27,8 @@ returns-in_err-setup g c =
     passed c.from_residual-in_err-setup.result c.in_err-setup.field-0.0
     (λ r. EndsConverting r (options_of c.args.options.now) g.R.Read.remaining c.args.reader.now c.args.reader.now g.W.Write.contents g.W.Deliver.waiting c.args.writer.now c.args.writer.now
     g.E.Write.contents c.args.faults.now c.args.faults.now) c.from_residual-in_err-setup.ensures.1
-    (let end = setup_refused g.R.Read.remaining g.W.Write.contents g.W.Deliver.waiting (options_of c.args.options.now) c.args.reader.now c.args.writer.now c.in_ok-start_week.start_week c.in_ok-start_week.ensures c.in_err-setup.field-0.0 c.in_ok-initial.initial (sym c.values_of.ensures ∙ c.in_ok-initial.was) c.in_err-setup.ensures in
+    (let d : Devices _ _ = record { left = g.R.Read.remaining; held = g.W.Write.contents; waits = g.W.Deliver.waiting; r = c.args.reader.now; r2 = c.args.reader.now; w = c.args.writer.now; w2 = c.args.writer.now } in
+    let end = setup_refused d (options_of c.args.options.now) c.in_ok-start_week.start_week c.in_ok-start_week.ensures c.in_err-setup.field-0.0 c.in_ok-initial.initial (sym c.values_of.ensures ∙ c.in_ok-initial.was) c.in_err-setup.ensures in
     (end.0, (end.1, refl)))
 
 pub returns-in-Ok : goal.returns-in-Ok
