@@ -5,26 +5,27 @@ use Rattle.rtcm_convert.proofs.Names.{◌≡◌, ℕ, List, [], ◌∷◌, ◌++
 pub so_far-front : FiledGrows → (s : SetupValue) (fs gs : List Framed) → IsPrefix fs gs → IsPrefix (so_far s fs) (so_far s gs)
 so_far-front grows s fs gs p = subst (λ (l : List Framed). IsPrefix (so_far s fs) (so_far s l)) (sym p.1) (grows s fs p.0)
 
-module _ {W : Type 0} (c : W → Option (List ℕ)) where
-  pub files_self : (w : FileWriter) (o : Device W) (ps : List Framed) → Files c w o ps w o ps
-  files_self w o ps = record { fine = refl; widest = refl; files = λ s x. (x, goes_on-refl (c o.inner) (so_far s ps)) }
-
+module _ {W : Type 0} {c : W → Option (List ℕ)} where
   -- one more frame
-  pub files_more : {v v' : FileWriter} {o o' : Device W} (f : Framed) → TakesFrame v v' f (c o.inner) (c o'.inner) → o'.failures ≡ o.failures → o'.widest ≡ o.widest
+  pub files_more : {v v' : FileWriter} {o o' : Device W} (f : Framed) → TakesFrame v v' f (c o.inner) (c o'.inner) → (o'.failures ≡ o.failures) × (o'.widest ≡ o.widest)
       → (v0 : FileWriter) (o0 : Device W) (ps fs : List Framed) → Files c v0 o0 ps v o fs → Files c v0 o0 ps v' o' (fs ++ f ∷ [])
-  files_more f t fine widest v0 o0 ps fs x = record {
-    fine = fine ∙ x.fine;
-    widest = widest ∙ x.widest;
+  files_more f t same v0 o0 ps fs x = record {
+    fine = same.0 ∙ x.fine;
+    widest = same.1 ∙ x.widest;
     files = λ s y. (let p = x.files s y in let q = t s fs p.0 in (q.0, goes_on-trans p.1 q.1));
   }
 
-  pub files_part : {v v' : FileWriter} {o o' : Device W} (f : Framed) → BreaksInFrame v f (c o.inner) (c o'.inner) → HasFailed o.failures o'.failures → o'.widest ≡ o.widest
+  pub files_part : {v v' : FileWriter} {o o' : Device W} (f : Framed) → BreaksInFrame v f (c o.inner) (c o'.inner) → HasFailed o.failures o'.failures × (o'.widest ≡ o.widest)
       → (v0 : FileWriter) (o0 : Device W) (ps fs : List Framed) → Files c v0 o0 ps v o fs → BreaksFiling c v0 o0 ps v' o' fs (fs ++ f ∷ [])
-  files_part {o = o} {o'} f t failed widest v0 o0 ps fs x = record {
-    failed = subst (λ (n : ℕ). HasFailed n o'.failures) x.fine failed;
-    widest = widest ∙ x.widest;
+  files_part {o = o} {o'} f t failed v0 o0 ps fs x = record {
+    failed = subst (λ (n : ℕ). HasFailed n o'.failures) x.fine failed.0;
+    widest = failed.1 ∙ x.widest;
     part = λ s y. (let p = x.files s y in record { mid = c o.inner; before = p.1; last = t s fs p.0 });
   }
+
+module _ {W : Type 0} (c : W → Option (List ℕ)) where
+  pub files_self : (w : FileWriter) (o : Device W) (ps : List Framed) → Files c w o ps w o ps
+  files_self w o ps = record { fine = refl; widest = refl; files = λ s x. (x, goes_on-refl (c o.inner) (so_far s ps)) }
 
   pub files_unsent : {v0 v : FileWriter} {o0 o o' : Device W} {ps fs : List Framed} → Keeps (c o.inner) (c o'.inner) → HasFailed o.failures o'.failures → o'.widest ≡ o.widest → Files c v0 o0 ps v o fs
       → BreaksFiling c v0 o0 ps v o' fs fs

@@ -54,7 +54,7 @@ one_more_counted c {c2} {fs} f kept step first s = record {
 
 -- ---- a stream that is counted from its start
 
-module _ {v : FramerValue} {c : StreamSignals} {limit : ℕ} (v2 : FramerValue) (c2 : StreamSignals) (r r2 : Option (List ℕ)) (began : Began Counts v c tt limit) where
+module _ {v : FramerValue} {c c2 : StreamSignals} {limit : ℕ} (v2 : FramerValue) (r r2 : Option (List ℕ)) (began : Began Counts v c tt limit) where
   -- to its end
   pub counted_all : v2.has_ended ≡ true → AreSignals c c.station [] → ((b : List ℕ) → 6 * length (frames_of b) ≤ length b)
       → PassesAll Counts v c tt v2 c2 tt r r2 → HasCounted c2 c.station r r2
@@ -80,8 +80,8 @@ pub counting_stopped : {R F : Type 0} {v : FramerValue} {c : StreamSignals} (lef
     (BreaksReading Counts NeverFails v c tt c2 tt 65536 (left rd.inner) (left rd2.inner))
     → StopsCounting left rd rd2 (stream_fault fault)
 counting_stopped left v2 c2 rd rd2 stream.Read began passed = tt
-counting_stopped left v2 c2 rd rd2 stream.TooLong began passed = counted_too_much v2 c2 (left rd.inner) (left rd2.inner) began passed
-counting_stopped left v2 c2 rd rd2 (stream.Sink fault) began broke = absurd (counter_fails v2 c2 (left rd.inner) (left rd2.inner) began broke)
+counting_stopped left v2 c2 rd rd2 stream.TooLong began passed = counted_too_much v2 (left rd.inner) (left rd2.inner) began passed
+counting_stopped left v2 c2 rd rd2 (stream.Sink fault) began broke = absurd (counter_fails v2 (left rd.inner) (left rd2.inner) began broke)
 
 pub counted_reads : {F : Type 0} (fault : StreamFault F) (before after : ℕ) → AtFault fault (HasFailed before after) (after ≡ before) (after ≡ before) → ReadFailures (stream_fault fault) before after
 counted_reads stream.Read before after h = h

@@ -7,7 +7,7 @@ pub returns-in-Ok-read-clause-whole : goal.returns-in-Ok-read-clause-whole
 returns-in-Ok-read-clause-whole g c =
     let signals : StreamSignals = record { station = c.args.station; signal_counts = c.new-2.result; first = c.new-3.result } in
     let began = started Counts c.in-Ok.ensures.new c.prefix.ensures.empty c.in-Ok.ensures.counts c.in-Ok.ensures.drained c.in-Ok.ensures.counted (new_counts signals) in
-    counted_all c.read_frames-read.new.self c.read_frames-read.new.sink _ _ began c.in-Ok-read.ensures.ended (none_counted signals c.args.station c.new-2.ensures (c.new-3.ensures c.args.station)) c.prefix.ensures.few c.in-Ok-read.ensures.whole
+    counted_all c.read_frames-read.new.self _ _ began c.in-Ok-read.ensures.ended (none_counted signals c.args.station c.new-2.ensures (c.new-3.ensures c.args.station)) c.prefix.ensures.few c.in-Ok-read.ensures.whole
 
 pub returns-in-Err-clause-fault : goal.returns-in-Err-clause-fault
 returns-in-Err-clause-fault g c =
