@@ -3,6 +3,7 @@ use crate::fault::{Field, first_of};
 use crate::field::{short_to, signed_to};
 use crate::grid::{Grid, HasFields, ReadGrid, range_joined, scaled, tested};
 use crate::last_bits::LastBits;
+use crate::system::System;
 use crate::view::Form;
 use rtcm_bits::{raw_of, signed_of};
 
@@ -93,7 +94,7 @@ impl Grid for Grid4 {
     ghost number_of = { grid4.message_number };
 
     fn number_of(is_galileo: bool) -> u16 {
-        if is_galileo { 1094 } else { 1074 }
+        System::with(is_galileo).row().msm4
     }
 
     ghost satellite_fault_of = { grid4.satellite_fault };

@@ -20,6 +20,7 @@ mod msm;
 mod pairs;
 mod station;
 mod summary;
+mod system;
 mod value_counts;
 mod view;
 mod writing;

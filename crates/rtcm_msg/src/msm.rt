@@ -11,6 +11,7 @@ use crate::fault::{Field, ValueFault};
 use crate::grid::{Grid, ReadGrid};
 use crate::header::{MsmHeader, WEEK, header_fault};
 use crate::masks::{MOST_PAIRS, Masks};
+use crate::system::System;
 use crate::view::{Data, Form, MsmView};
 use crate::writing::{write_columns, write_head};
 use arrayvec::ArrayVec;
@@ -22,7 +23,7 @@ use std::marker::{Model, PhantomData};
 // The fields of each satellite and of each cell are packed into one number.
 #[derive(Drop)]
 pub struct Msm<G: Grid> {
-    is_galileo: bool,
+    system: System,
     header: MsmHeader,
     masks: Masks,
     satellites: ArrayVec<u128, MOST_PAIRS>,
@@ -32,13 +33,14 @@ pub struct Msm<G: Grid> {
 
 impl<G: Grid> Model for Msm<G> {
     ghost use Rattle.rtcm_msg.specs.Msm.{MsmValue, IsValue, msm_of_parts};
+    ghost use Rattle.rtcm_msg.specs.Systems.{has_galileo};
 
     ghost Value = { MsmValue };
 
-    ghost view = { λ m. msm_of_parts m.is_galileo m.header m.masks m.satellites.items m.cells.items };
+    ghost view = { λ m. msm_of_parts (has_galileo m.system) m.header m.masks m.satellites.items m.cells.items };
 
     ghost invariant = { λ m. IsValue G.satellite_widths G.cell_widths
-        (msm_of_parts m.is_galileo m.header m.masks m.satellites.items m.cells.items) };
+        (msm_of_parts (has_galileo m.system) m.header m.masks m.satellites.items m.cells.items) };
 }
 
 impl<G: Grid> Msm<G> {
@@ -68,7 +70,7 @@ impl<G: Grid> Msm<G> {
         match msm_fault(&header, &masks, satellites.len(), cells.len(), faults) {
             Some(fault) => Err(fault),
             None => Ok(Msm {
-                is_galileo,
+                system: System::with(is_galileo),
                 header,
                 masks,
                 satellites: pack_satellites::<G>(satellites),
@@ -82,7 +84,7 @@ impl<G: Grid> Msm<G> {
     pub fn is_galileo(&self) -> bool
         ensures { result ≡ self.now.is_galileo }
     {
-        self.is_galileo
+        self.system.row().is_galileo
     }
 
     /// Returns the message number, DF002: 1074 or 1094 in MSM4, 1077 or 1097 in MSM7.
@@ -90,7 +92,7 @@ impl<G: Grid> Msm<G> {
         ensures value { result ≡ G.number_of self.now.is_galileo }
         ensures bound { result < 2 ^ 12 }
     {
-        G::number_of(self.is_galileo)
+        G::number_of(self.is_galileo())
     }
 
     /// Returns the header fields.
@@ -200,7 +202,7 @@ pub(crate) fn view_of<G: Grid>(msm: &Msm<G>, form: Form) -> MsmView<'_>
 {
     MsmView {
         form,
-        is_galileo: msm.is_galileo,
+        system: msm.system,
         header: msm.header,
         masks: msm.masks,
         satellites: msm.satellites.len(),
@@ -218,7 +220,7 @@ pub(crate) fn msm_of<G: ReadGrid>(view: &MsmView<'_>) -> Msm<G>
     // Brings the invariant of the view into the proof.
     let _ = view.form();
     Msm {
-        is_galileo: view.is_galileo(),
+        system: view.system,
         header: view.header(),
         masks: view.masks(),
         satellites: satellites_of::<G>(view),
@@ -234,7 +236,7 @@ pub(crate) fn write_msm<G: Grid>(writer: &mut BitWriter, msm: &Msm<G>)
     ensures bits { writer.new ≡ writer.old
         ++ msm_bits G.satellite_widths G.cell_widths (G.number_of msm.now.is_galileo) msm.now 0 }
 {
-    let number = G::number_of(msm.is_galileo);
+    let number = G::number_of(msm.is_galileo());
     write_head(writer, number, &msm.header, &msm.masks);
     write_columns(writer, G::satellite_widths(), msm.satellites.as_slice());
     write_columns(writer, G::cell_widths(), msm.cells.as_slice());

@@ -9,6 +9,7 @@ ghost use Rattle.rtcm_msg.specs.Decoding.{message_at, body_at};
 ghost use Rattle.rtcm_msg.specs.Viewed.{viewed_message, entry_in, lock_field, rough, Keeps};
 ghost use Rattle.rtcm_msg.specs.Entries.{IsEntry, entries};
 ghost use Rattle.rtcm_msg.specs.Encoding.{IsMessage};
+ghost use Rattle.rtcm_msg.specs.Systems.{has_galileo};
 ghost use Rattle.rtcm_msg.specs.Views as views;
 
 use crate::entry::{Entry, LockField, entry_of};
@@ -24,6 +25,7 @@ use crate::message::{Message, read_set};
 use crate::msm::msm_of;
 use crate::pairs::{CellsLeft, Pair, split_cells};
 use crate::station::{Station, view_station};
+use crate::system::System;
 use rtcm_bits::{LONGEST_MESSAGE, number_at};
 use std::marker::Model;
 
@@ -74,7 +76,7 @@ pub(crate) enum Data<'a> {
 #[derive(Drop)]
 pub struct MsmView<'a> {
     pub(crate) form: Form,
-    pub(crate) is_galileo: bool,
+    pub(crate) system: System,
     pub(crate) header: MsmHeader,
     pub(crate) masks: Masks,
     pub(crate) satellites: usize,
@@ -86,13 +88,14 @@ impl<'a> Model for MsmView<'a> {
     ghost use Rattle.rtcm_msg.specs.Views.{FormedMsm, AreDataOf, satellite_rows, cell_rows};
     ghost use Rattle.rtcm_msg.specs.Views.{satellite_widths, cell_widths};
     ghost use Rattle.rtcm_msg.specs.Msm.{IsValue};
+    ghost use Rattle.rtcm_msg.specs.Systems.{has_galileo};
 
     ghost Value = { FormedMsm };
 
     ghost view = { λ v. record {
       form = v.form;
       msm = record {
-        is_galileo = v.is_galileo;
+        is_galileo = has_galileo v.system;
         header = v.header;
         sets = v.masks;
         satellites = satellite_rows v.form v.satellites v.rows;
@@ -102,7 +105,7 @@ impl<'a> Model for MsmView<'a> {
 
     ghost invariant = { λ v. IsValue (satellite_widths v.form) (cell_widths v.form)
         (record {
-          is_galileo = v.is_galileo;
+          is_galileo = has_galileo v.system;
           header = v.header;
           sets = v.masks;
           satellites = satellite_rows v.form v.satellites v.rows;
@@ -124,7 +127,7 @@ impl<'a> MsmView<'a> {
     pub fn is_galileo(&self) -> bool
         ensures { result ≡ self.now.msm.is_galileo }
     {
-        self.is_galileo
+        self.system.row().is_galileo
     }
 
     /// Returns the message number, DF002: 1074, 1077, 1094 or 1097.
@@ -133,8 +136,8 @@ impl<'a> MsmView<'a> {
         ensures bound { result < 2 ^ 12 }
     {
         match self.form {
-            Form::Msm4 => Grid4::number_of(self.is_galileo),
-            Form::Msm7 => Grid7::number_of(self.is_galileo),
+            Form::Msm4 => Grid4::number_of(self.is_galileo()),
+            Form::Msm7 => Grid7::number_of(self.is_galileo()),
         }
     }
 
@@ -346,10 +349,10 @@ impl<'a> View<'a> {
 }
 
 /// Reads the header and masks of an MSM after its message number.
-fn view_msm<'a>(bytes: &'a [u8], form: Form, is_galileo: bool) -> Result<View<'a>, MsgFault>
+fn view_msm<'a>(bytes: &'a [u8], form: Form, system: System) -> Result<View<'a>, MsgFault>
     requires small { length bytes.now ≤ longest_message }
     requires number { 12 ≤ 8 * length bytes.now }
-    ensures { GivesViewed viewed_message result (views.formed_at form is_galileo (cursor_at (bits_of bytes.now) 12)) }
+    ensures { GivesViewed viewed_message result (views.formed_at form (has_galileo system) (cursor_at (bits_of bytes.now) 12)) }
 {
     let (header, masks, satellites_at) = read_head(bytes)?;
     let satellites = masks.satellites().count_ones() as usize;
@@ -359,7 +362,7 @@ fn view_msm<'a>(bytes: &'a [u8], form: Form, is_galileo: bool) -> Result<View<'a
     end_of_fields(bytes, cell_widths, cells, cells_at)?;
     Ok(View::Msm(MsmView {
         form,
-        is_galileo,
+        system,
         header,
         masks,
         satellites,
@@ -377,8 +380,10 @@ fn view_body(number: u16, bytes: &[u8]) -> Result<View<'_>, MsgFault>
 {
     match number {
         1005 | 1006 => view_station(bytes, number == 1006),
-        1074 | 1094 => view_msm(bytes, Form::Msm4, number == 1094),
-        1077 | 1097 => view_msm(bytes, Form::Msm7, number == 1097),
+        1074 => view_msm(bytes, Form::Msm4, System::Gps),
+        1077 => view_msm(bytes, Form::Msm7, System::Gps),
+        1094 => view_msm(bytes, Form::Msm4, System::Galileo),
+        1097 => view_msm(bytes, Form::Msm7, System::Galileo),
         _ => Ok(View::Other {
             number,
             set: read_set(number, bytes),
