@@ -20,21 +20,17 @@ is_close_first _ = false
 
 -- The observations were accepted.
 abbrev pub is_kept : Kind → Bool
-is_kept (kinds.Kept kept skipped repeated crowded) = true
+is_kept (kinds.Kept n) = true
 is_kept _ = false
-
--- The outcome of accepted observations.
-abbrev pub kept_kind : CellCounts → Kind
-kept_kind n = kinds.Kept n.kept n.skipped n.repeated n.crowded
 
 -- The outcome with these counts, if the observations were accepted.
 abbrev pub with_counts : CellCounts → Kind → Kind
-with_counts n kind = if is_kept kind then kept_kind n else kind
+with_counts n kind = if is_kept kind then kinds.Kept n else kind
 
 -- The outcome of observations of the wanted station with this time of week.
 abbrev pub kind_at : GatherSetup → List Timed → CellCounts → ℕ → Kind
 kind_at s xs n tow =
-    if is_late s xs tow then kinds.Late else (if is_past (time_of s xs tow) then kinds.PastWeeks else kept_kind n)
+    if is_late s xs tow then kinds.Late else (if is_past (time_of s xs tow) then kinds.PastWeeks else kinds.Kept n)
 
 -- The outcome of a message with these counts of its cells: observations have a time of week, a station message has a
 -- point.

@@ -3,10 +3,11 @@ use Rattle.std.specs.Prelude.{ℕ, ◌+◌, ◌*◌, ◌==◌, ◌&&◌, ◌||�
 use Rattle.std.specs.Prelude.{is_some, if◌then◌else◌}
 use Rattle.std.specs.Option.{option_map_or}
 use Rattle.obs_epoch.specs.declared.taken.Kind.{Kind}
-use Rattle.obs_epoch.specs.declared.taken.Kind.TheVariants.{CloseFirst, Ignored, Late, OtherStation, PastWeeks, Station}
+use Rattle.obs_epoch.specs.declared.taken.Kind.TheVariants.{CloseFirst, Ignored, Kept, Late}
+use Rattle.obs_epoch.specs.declared.taken.Kind.TheVariants.{OtherStation, PastWeeks, Station}
 use Rattle.obs_epoch.specs.declared.taken.CellCounts.{CellCounts}
 use Rattle.obs_epoch.specs.Cells.{no_counts}
-use Rattle.obs_epoch.specs.Kinds.{is_close_first, is_kept, kept_kind}
+use Rattle.obs_epoch.specs.Kinds.{is_close_first, is_kept}
 use Rattle.obs_epoch.specs.Heard.{Heard, ends_epoch, is_own}
 use Rattle.rtcm_msg.specs.Msm.{week}
 use Rattle.obs_epoch.specs.Times.{ahead, is_past}
@@ -25,7 +26,7 @@ is_first_at g tow = g.pending && option_map_or (λ t. not (ahead t tow == 0)) g.
 abbrev pub kind_now : State → CellCounts → ℕ → Kind
 kind_now g n tow =
     if is_late_at g tow then Late
-    else (if is_past (time_at g tow) then PastWeeks else (if is_first_at g tow then CloseFirst else kept_kind n))
+    else (if is_past (time_at g tow) then PastWeeks else (if is_first_at g tow then CloseFirst else Kept n))
 
 abbrev pub step_at : State → ℕ → State
 step_at g tow =

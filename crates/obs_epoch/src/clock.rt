@@ -115,7 +115,7 @@ impl Clock {
         }
         let closed = match kind {
             Kind::CloseFirst => before,
-            Kind::Kept { .. } if is_mark => self.latest,
+            Kind::Kept(_) if is_mark => self.latest,
             _ if is_mark && was => self.latest,
             _ => None,
         };
@@ -170,6 +170,6 @@ impl Clock {
         }
         self.latest = Some(time);
         self.pending = true;
-        Kind::kept(CellCounts::default())
+        Kind::Kept(CellCounts::default())
     }
 }

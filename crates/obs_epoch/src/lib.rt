@@ -16,4 +16,4 @@ pub use gather::Gatherer;
 // The benchmark imports it from here.
 pub use gnss_obs::Plan;
 pub use signal_counts::SignalCounts;
-pub use taken::{Gather, Kind, Taken};
+pub use taken::{CellCounts, Gather, Kind, Taken};

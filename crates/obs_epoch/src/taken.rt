@@ -1,6 +1,6 @@
 //! The outcome of a message.
 ghost use Rattle.std.specs.Prelude.{◌≡◌};
-ghost use Rattle.obs_epoch.specs.Kinds.{is_close_first, is_kept, kept_kind, with_counts};
+ghost use Rattle.obs_epoch.specs.Kinds.{is_close_first, is_kept, with_counts};
 
 /// How the epochs of a station are closed.
 #[derive(Clone, Copy)]
@@ -26,26 +26,21 @@ pub enum Kind {
     /// Observations of week 100,000 or later.
     PastWeeks,
     /// Observations that were accepted, with the number of cells of each outcome.
-    Kept {
-        /// Cells that were kept.
-        kept: usize,
-        /// Cells of an unlisted satellite or signal, or of a signal that isn't planned.
-        skipped: usize,
-        /// Cells of a satellite and signal of which the epoch has a cell already.
-        repeated: usize,
-        /// Cells of a system of which the epoch has 256 cells already.
-        crowded: usize,
-    },
+    Kept(CellCounts),
     /// Observations of a later epoch: the pending epoch was closed. Pass the message again.
     CloseFirst,
 }
 
 /// The number of cells of a message with each outcome.
-#[derive(Clone, Copy, Default)]
+#[derive(Clone, Copy, Default, PartialEq)]
 pub struct CellCounts {
+    /// Cells that were kept.
     pub kept: usize,
+    /// Cells of an unlisted satellite or signal, or of a signal that isn't planned.
     pub skipped: usize,
+    /// Cells of a satellite and signal of which the epoch has a cell already.
     pub repeated: usize,
+    /// Cells of a system of which the epoch has 256 cells already.
     pub crowded: usize,
 }
 
@@ -70,25 +65,13 @@ impl Kind {
     pub(crate) fn is_kept(self) -> bool
         ensures { result ≡ is_kept self }
     {
-        matches!(self, Kind::Kept { .. })
-    }
-
-    // Returns the outcome of an accepted message with these counts of its cells.
-    pub(crate) fn kept(n: CellCounts) -> Kind
-        ensures { result ≡ kept_kind n }
-    {
-        Kind::Kept {
-            kept: n.kept,
-            skipped: n.skipped,
-            repeated: n.repeated,
-            crowded: n.crowded,
-        }
+        matches!(self, Kind::Kept(_))
     }
 
     // Returns the outcome with these counts if the message was accepted.
     pub(crate) fn with_counts(self, n: CellCounts) -> Kind
         ensures { result ≡ with_counts n self }
     {
-        if self.is_kept() { Kind::kept(n) } else { self }
+        if self.is_kept() { Kind::Kept(n) } else { self }
     }
 }

@@ -34,7 +34,7 @@ one_each (Some kind.Station) e = refl
 one_each (Some kind.OtherStation) e = refl
 one_each (Some kind.Late) e = refl
 one_each (Some kind.PastWeeks) e = refl
-one_each (Some (kind.Kept kept skipped repeated crowded)) e = refl
+one_each (Some (kind.Kept n)) e = refl
 one_each (Some kind.CloseFirst) e = absurd (grind (arith, e))
 
 abbrev sum : (Report → ℕ) → List (Option Kind) → ℕ
@@ -67,7 +67,7 @@ one_frame (Some kind.Station) = refl
 one_frame (Some kind.OtherStation) = refl
 one_frame (Some kind.Late) = refl
 one_frame (Some kind.PastWeeks) = refl
-one_frame (Some (kind.Kept kept skipped repeated crowded)) = refl
+one_frame (Some (kind.Kept n)) = refl
 one_frame (Some kind.CloseFirst) = refl
 
 sum_frames : (os : List (Option Kind)) → sum (λ t. t.frames) os ≡ length os

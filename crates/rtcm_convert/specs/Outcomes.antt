@@ -51,8 +51,8 @@ tally_by kind.OtherStation = record one_frame { other = 1 }
 tally_by kind.Ignored = record one_frame { ignored = 1 }
 tally_by kind.Late = record one_frame { late = 1 }
 tally_by kind.PastWeeks = record one_frame { past = 1 }
-tally_by (kind.Kept kept skipped repeated crowded) =
-    record one_frame { taken = 1; skipped = skipped; repeated = repeated; crowded = crowded }
+tally_by (kind.Kept n) =
+    record one_frame { taken = 1; skipped = n.skipped; repeated = n.repeated; crowded = n.crowded }
 tally_by kind.CloseFirst = one_frame
 
 -- what one frame adds to each count

@@ -53,18 +53,11 @@ impl Report {
             Some(Kind::Ignored) => one.ignored = 1,
             Some(Kind::Late) => one.late = 1,
             Some(Kind::PastWeeks) => one.past = 1,
-            Some(
-                Kind::Kept {
-                    skipped,
-                    repeated,
-                    crowded,
-                    ..
-                },
-            ) => {
+            Some(Kind::Kept(n)) => {
                 one.taken = 1;
-                one.skipped = skipped as u64;
-                one.repeated = repeated as u64;
-                one.crowded = crowded as u64;
+                one.skipped = n.skipped as u64;
+                one.repeated = n.repeated as u64;
+                one.crowded = n.crowded as u64;
             }
             Some(Kind::CloseFirst) => {}
         }

@@ -12,7 +12,7 @@ mod signal_counts;
 
 use gnss_obs::{Cell, Epoch, Plan, PlanFault, StationValues, System};
 use messages::{Heard, message};
-use obs_epoch::{Gather, Gatherer, Kind, Taken};
+use obs_epoch::{CellCounts, Gather, Gatherer, Kind, Taken};
 use std::alloc::Global;
 use std::test::*;
 
@@ -207,21 +207,21 @@ fn goes_by_bit(alloc: Global, steps: &[Step]) -> bool {
 }
 
 fn counts(kept: usize, repeated: usize, crowded: usize) -> Kind {
-    Kind::Kept {
+    Kind::Kept(CellCounts {
         kept,
         skipped: 0,
         repeated,
         crowded,
-    }
+    })
 }
 
 /// One cell, and it is kept.
-const KEPT: Kind = Kind::Kept {
+const KEPT: Kind = Kind::Kept(CellCounts {
     kept: 1,
     skipped: 0,
     repeated: 0,
     crowded: 0,
-};
+});
 
 #[test]
 fn times_pass_the_week_and_half_a_week(rt: HostRuntime) {
