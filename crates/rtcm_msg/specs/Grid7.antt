@@ -112,8 +112,12 @@ satellite_fault xs = find (λ f. list_any (is_bad_satellite f) xs) satellite_fie
 abbrev pub cell_fault : List Cell7 → Option Field
 cell_fault xs = find (λ f. list_any (is_bad_cell f) xs) cell_fields
 
+-- The fine pseudorange DF405 of a cell that has none.
+abbrev pub invalid_range : ℤ
+invalid_range = negsuc 524287
+
 abbrev pub range_of : Satellite7 → Cell7 → Option ℤ
-range_of s c = range_joined s.whole s.fraction (scaled (negsuc 524287) 4 c.range)
+range_of s c = range_joined s.whole s.fraction (scaled invalid_range 4 c.range)
 
 abbrev pub phase_of : Satellite7 → Cell7 → Option ℤ
 phase_of s c = range_joined s.whole s.fraction (scaled (negsuc 8388607) 1 c.phase)

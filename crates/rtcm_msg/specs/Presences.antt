@@ -1,5 +1,5 @@
 -- Whether a cell of a message has a value.
-use Rattle.std.specs.Prelude.{ℕ, ◌||◌, Bool, is_some, not, negsuc}
+use Rattle.std.specs.Prelude.{ℕ, ◌||◌, Bool, is_some, not}
 use Rattle.std.specs.Ordering.{int_eq}
 use Rattle.rtcm_msg.specs.declared.entry.Entry.{Entry}
 use Rattle.rtcm_msg.specs.declared.view.Form.{Form}
@@ -17,5 +17,5 @@ has_value e = is_some e.range || has_rest e
 
 -- The fine pseudorange of a cell, whose fields are packed in the number, is valid.
 abbrev pub has_fine_range : Form → ℕ → Bool
-has_fine_range forms.Msm4 n = not (int_eq (grid4.cell_data n).range (negsuc 16383))
-has_fine_range forms.Msm7 n = not (int_eq (grid7.cell_data n).range (negsuc 524287))
+has_fine_range forms.Msm4 n = not (int_eq (grid4.cell_data n).range grid4.invalid_range)
+has_fine_range forms.Msm7 n = not (int_eq (grid7.cell_data n).range grid7.invalid_range)
