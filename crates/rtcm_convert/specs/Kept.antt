@@ -12,6 +12,7 @@ use Rattle.obs_epoch.specs.Times.{Timed, timed}
 use Rattle.obs_epoch.specs.Cells.{firsts}
 use Rattle.obs_epoch.specs.Loss.{times}
 use Rattle.obs_epoch.specs.Epochs.{closed_times}
+use Rattle.obs_epoch.specs.Held.{most_locks}
 use Rattle.obs_epoch.specs.GathererAfter.{locked_in, held_at}
 use Rattle.rtcm_convert.specs.Converted.{SetupValue, messages_of}
 use Rattle.gnss_obs.specs.Values.{cells_of}
@@ -44,7 +45,7 @@ pub record IsWithinBounds (taken : ℕ) (k : Kept) : Type 0 where
   pub held : k.held ≤ longest_frame
   pub gps_cells : k.gps_cells ≤ most_cells
   pub galileo_cells : k.galileo_cells ≤ most_cells
-  pub locks : k.locks ≤ 1_164
+  pub locks : k.locks ≤ most_locks
   pub examined : k.examined ≤ most_looks * taken
   pub most : k.most ≤ most_looks
 

@@ -7,7 +7,7 @@ ghost use Rattle.rtcm_scan.specs.Decided.{decided, decided_frames, most_undecide
 ghost use Rattle.rtcm_bits.specs.FrameOf.{longest_frame};
 ghost use Rattle.rtcm_scan.specs.Looks.{examined, examined_now, most, most_looks, most_now};
 ghost use Rattle.gnss_obs.specs.Values.{cells_of};
-ghost use Rattle.obs_epoch.specs.Held.{recorded};
+ghost use Rattle.obs_epoch.specs.Held.{most_locks, recorded};
 ghost use Rattle.gnss_obs.specs.Values.{most_cells};
 ghost use Rattle.rtcm_convert.specs.Kept.{cells_kept, locks_kept, locks_in_all, IsWithinBounds, IsKeptNow, IsKeptAtEnd};
 ghost use Rattle.rtcm_convert.specs.Moves.{Moves};
@@ -425,7 +425,7 @@ impl Converter {
         ensures now { (s : SetupValue) (b : List ℕ) → HasConverted self.now s b
             → result ≡ locks_kept s (decided_frames b) }
         ensures all { (s : SetupValue) (b : List ℕ) → HasFinished self.now s b → result ≡ locks_in_all s (frames_of b) }
-        ensures bound { result ≤ 1_164 }
+        ensures bound { result ≤ most_locks }
     {
         self.file_writer.gatherer.locks()
     }
