@@ -168,6 +168,7 @@ fn answer<W: Deliver, E: Deliver>(
         }
         ErrorKind::OutOfMemory => exit_status(Err(ToolFault::Memory), faults),
         _ => {
+            // Nothing is left to report a failed write to.
             let _ = write!(faults, "{error}");
             2
         }

@@ -100,6 +100,7 @@ impl HeadSoFar {
     fn are_valid(&self)
         ensures { AreValid self.now }
     {
+        // The prover knows the invariant of a type once a field is read.
         let _ = &self.gps;
         self.texts.are_texts();
     }

@@ -1,5 +1,5 @@
-//! Numbers in the columns of a line, read without validation: the caller writes them again and
-//! compares.
+//! Numbers in the columns of a line, read without validation. A caller that must know whether the
+//! columns are a number writes it again and compares.
 ghost use Rattle.std.specs.Prelude.{◌≡◌, ◌↔◌, IsTrue, ◌^◌, ◌≤◌, ◌<◌, length, pos, neg_ℤ, if◌then◌else◌};
 ghost use Rattle.rinex_file.specs.Read.Fields.{digits_in};
 

@@ -29,6 +29,7 @@ pub(crate) fn put<const N: usize>(line: &mut ArrayVec<u8, N>, bytes: &[u8])
     ensures text { line.new.items ≡ line.old.items ++ bytes.now }
     ensures size { array_vec_len line.new ≡ array_vec_len line.old + length bytes.now }
 {
+    // Never fails: the contract requires room for the bytes.
     let _ = line.try_extend_from_slice(bytes);
 }
 
