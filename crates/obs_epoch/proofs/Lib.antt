@@ -8,15 +8,15 @@ pub mod TimesLemmas
 pub mod CellsLemmas
 pub mod CountsLemmas
 pub mod ClosedLemmas
-pub mod StandingLemmas
+pub mod OneStepLemmas
 pub mod ClockLemmas
 pub mod Rows
 pub mod EntryLemmas
 pub mod HistoryLemmas
-pub mod HandingLemmas
+pub mod ReturnedLemmas
 pub mod KindLemmas
 mod OrderLemmas
-mod StandLemmas
+mod ValueLemmas
 mod ReachLemmas
 mod SignalCountsLemmas
 pub mod SignalNumbers

@@ -1,5 +1,6 @@
 -- The counts of the cells with a value, and of those of a message.
-use Rattle.obs_epoch.specs.Names.{LockField, System, Satellite, SignalAt, IsSignal, signal_of_id, LockTime, Entry, Heard, seen_in, observed, HeardCell, SignalCountsValue, brings_value, valued, is_of_signal, count_of, AreSignalCounts, entry_value, cons_option, list_any}
+use Rattle.obs_epoch.specs.Names.{LockField, System, Satellite, SignalAt, IsSignal, signal_of_id, LockTime, Entry, Heard, seen_in, observed, HeardCell, SignalCountsValue, brings_value, valued, is_of_signal, count_of, AreSignalCounts, cons_option, list_any}
+use Rattle.rtcm_msg.specs.Presences.{has_value}
 use Rattle.std.proofs.Common.{◌≡◌, ℕ, zero, suc, nat_lt, nat_eq, not, replicate, ◌≤◌, Bool, List, [], ◌∷◌, ◌++◌, length, refl, sym, subst, arith, Option, Some, filter, is_some, filter_map, unwrap_or, option_map}
 use lib.Pointwise.{pointwise}
 use Rattle.std.proofs.lemmas.List.Sums.{length-filter, count_by-le-length}
@@ -36,7 +37,7 @@ listed_of system id g h = grind (arith, common_steps)
 is_some-map : {X Y : Type 0} (f : X → Y) (o : Option X) → is_some (option_map f o) ≡ is_some o
 is_some-map f o = grind (arith, common_steps)
 
-pub value_same : (lock : LockTime) (e : Entry) (s : Satellite) (g : SignalAt) → brings_value (observed lock e s g) ≡ entry_value e
+pub value_same : (lock : LockTime) (e : Entry) (s : Satellite) (g : SignalAt) → brings_value (observed lock e s g) ≡ has_value e
 value_same lock e s g = grind (arith, common_steps, is_some-map)
 
 -- The cells of one entry and of the entries after it.

@@ -108,9 +108,6 @@ in_set Galileo id = elim (cases_lt id 65) [
 
 -- ---- the entries of a signal
 
-either : (a b c d : Bool) → (a || (b || c || d)) ≡ (a || b || c || d)
-either a b c d = grind (arith, common_steps)
-
 in_middle : (a b c : Bool) → (a && (b && c)) ≡ (b && (a && c))
 in_middle a b c = grind (arith, common_steps)
 
@@ -135,7 +132,7 @@ one_entry field system e g listed =
         rw (in_middle (is_system system g.system) (is_some e.range || (is_some e.phase || is_some e.rate || is_some e.strength)) (e.signal == id_of g)) (zero_case (is_some e.range || (is_some e.phase || is_some e.rate || is_some e.strength)) _ (none refl))
     by (Some s) (Some x) none some =
         one_cell (is_of_signal g) brings_value (observed (lock_by field e.lock) e s x)
-        ∙ rw (value_same (lock_by field e.lock) e s x, ← either (is_some e.range) (is_some e.phase) (is_some e.rate) (is_some e.strength), in_middle (is_system system g.system) (is_some e.range || (is_some e.phase || is_some e.rate || is_some e.strength)) (e.signal == id_of g), some x refl) refl
+        ∙ rw (value_same (lock_by field e.lock) e s x, in_middle (is_system system g.system) (is_some e.range || (is_some e.phase || is_some e.rate || is_some e.strength)) (e.signal == id_of g), some x refl) refl
 
 count_append : (g : SignalAt) (xs ys : List HeardCell) → count_of g (xs ++ ys) ≡ count_of g xs + count_of g ys
 count_append g xs ys = grind (arith, common_steps)

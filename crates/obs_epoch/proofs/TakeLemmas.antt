@@ -11,7 +11,7 @@ use Rattle.obs_epoch.proofs.ClosingLemmas.{accepted, closing, refused}
 use Rattle.obs_epoch.proofs.CountsLemmas.{counts_are}
 use Rattle.obs_epoch.proofs.LoadLemmas.{hold_is}
 use Rattle.obs_epoch.proofs.NotingLemmas.{noted_locked}
-use Rattle.obs_epoch.proofs.StandingLemmas.{locked-push, closed_later, loaded_taken, held_same}
+use Rattle.obs_epoch.proofs.OneStepLemmas.{locked-push, closed_later, loaded_taken, held_same}
 use Rattle.std.proofs.lemmas.Grind.{common_steps}
 
 pub clock_is : (g : State) (s : GatherSetup) (ms : List Heard) (shut : Bool) → HasHeardMessages g s ms shut → g ≡ standing s (timed s ms) shut

@@ -55,10 +55,6 @@ counted c system i = get_or (signal_counts system c) i 0
 abbrev pub has_any : SignalCountsValue → Bool
 has_any c = list_any (λ n. nat_lt 0 n) c.gps || list_any (λ n. nat_lt 0 n) c.galileo
 
--- The cell has a value.
-abbrev pub entry_value : Entry → Bool
-entry_value e = is_some e.range || is_some e.phase || is_some e.rate || is_some e.strength
-
 -- ---- more cells of a signal
 
 -- A count saturates at the largest 64-bit number, which no stream comes near.

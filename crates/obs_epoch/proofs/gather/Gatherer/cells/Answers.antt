@@ -1,6 +1,6 @@
 use Rattle.std.proofs.Common.{◌∙◌, sym, ap, length, List}
 use Rattle.obs_epoch.specs.Names.{Cell, EpochValue, cells_of, GathererValue}
-use Rattle.obs_epoch.proofs.StandLemmas.{count_same}
+use Rattle.obs_epoch.proofs.ValueLemmas.{count_same}
 use Rattle.obs_epoch.proofs.gather.Gatherer.cells.Goals as goal
 
 pub returns-clause-count : goal.returns-clause-count

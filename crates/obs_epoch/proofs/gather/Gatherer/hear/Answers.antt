@@ -1,6 +1,6 @@
 use Rattle.std.proofs.Common.{◌∙◌, sym, ap, subst, refl, false}
 use Rattle.obs_epoch.specs.Names.{AreInOrder, sorted_epoch, PendingValue, State, values_after_message, GathererValue, rested, with_time, heard_summary}
-use Rattle.obs_epoch.proofs.StandLemmas.{heard_is, never_both, step_setup}
+use Rattle.obs_epoch.proofs.ValueLemmas.{gathered_of, heard_is, never_both, step_setup}
 use Rattle.obs_epoch.proofs.gather.Gatherer.hear.Goals as goal
 
 pub invariant_of-self : goal.invariant_of-self
@@ -16,7 +16,7 @@ pub returns-clause-step : goal.returns-clause-step
 returns-clause-step c =
     let m = heard_summary c.args.said.now in
     let i = c.self.inside in
-    let g : GathererValue = record { clock = i.clock; epoch = sorted_epoch i.clock.setup.plan i.pending.epoch; locks = i.locks; values = i.pending.values; just_closed = i.just_closed; has_ended = i.has_ended } in
+    let g : GathererValue = gathered_of i.clock i.pending i.locks i.just_closed i.has_ended in
     heard_is g m refl c.step-kind.ensures.step
     (ap (λ (q : PendingValue). q.epoch) c.set_values.ensures) (ap (λ (q : PendingValue). q.values) c.set_values.ensures)
     (c.values_after-values.ensures ∙ ap (λ (v : GathererValue). values_after_message v.clock.setup v.values m) (sym c.self.view_is))

@@ -1,6 +1,6 @@
 use Rattle.std.proofs.Common.{◌≡◌, ◌∙◌, sym, ap, ap₂, subst, refl, true, is_some}
-use Rattle.obs_epoch.specs.Names.{Cell, StationValues, planned_of, heard_cell, kept_cell, place_in, sorted_epoch, GathererValue, hold, outcome_in, count_in, lli_with}
-use Rattle.obs_epoch.proofs.StandLemmas.{held_is, never_both, order_added, outcome_is, planned_is}
+use Rattle.obs_epoch.specs.Names.{Cell, StationValues, planned_of, heard_cell, kept_cell, place_in, GathererValue, hold, outcome_in, count_in, lli_with}
+use Rattle.obs_epoch.proofs.ValueLemmas.{gathered_of, held_is, never_both, order_added, outcome_is, planned_is}
 use Rattle.obs_epoch.proofs.gather.Gatherer.take_cell.Goals as goal
 
 pub invariant_of-self : goal.invariant_of-self
@@ -20,20 +20,18 @@ pub returns-clause-step : goal.returns-clause-step
 returns-clause-step c =
     let x = heard_cell c.args.x in
     let i = c.self.inside in
-    let e = i.pending.epoch in
-    let p = i.clock.setup.plan in
-    let g : GathererValue = record { clock = i.clock; epoch = sorted_epoch p e; locks = i.locks; values = i.pending.values; just_closed = i.just_closed; has_ended = i.has_ended } in
+    let g : GathererValue = gathered_of i.clock i.pending i.locks i.just_closed i.has_ended in
     let planned = subst (λ (v : GathererValue). is_some (place_in c.args.x.signal (planned_of c.args.x.satellite.system v.clock.setup.plan)) ≡ true) (sym c.self.view_is) c.requires.planned in
     let lli = c.lli.ensures.value ∙ ap₂ (λ t o. lli_with t x o) (c.milliseconds-time.ensures.value ∙ c.time.ensures) c.latest.ensures in
     let new = c.add.new.self in
-    ap (with_values (record { clock = i.clock; epoch = sorted_epoch p new.epoch; locks = i.locks; values = new.values; just_closed = i.just_closed; has_ended = i.has_ended })) c.add.ensures.values
+    ap (with_values (gathered_of i.clock new i.locks i.just_closed i.has_ended)) c.add.ensures.values
     ∙ held_is g x refl (planned_is g.clock.setup x c.requires.observed.key planned) lli c.add.ensures.epoch ∙ ap (λ v. hold v x) c.self.view_is
 
 pub returns-clause-counts : goal.returns-clause-counts
 returns-clause-counts c =
     let x = heard_cell c.args.x in
     let i = c.self.inside in
-    let g : GathererValue = record { clock = i.clock; epoch = sorted_epoch i.clock.setup.plan i.pending.epoch; locks = i.locks; values = i.pending.values; just_closed = i.just_closed; has_ended = i.has_ended } in
+    let g : GathererValue = gathered_of i.clock i.pending i.locks i.just_closed i.has_ended in
     let planned = subst (λ (v : GathererValue). is_some (place_in c.args.x.signal (planned_of c.args.x.satellite.system v.clock.setup.plan)) ≡ true) (sym c.self.view_is) c.requires.planned in
     c.count.ensures.counts
     ∙ ap (λ o. count_in o c.args.n.now)

@@ -1,7 +1,9 @@
+-- A message that closes the epoch is to be passed again; any other is the next one of the list, and its cells are
+-- loaded if it is accepted.
 use Rattle.std.proofs.Common.{◌++◌, ◌∷◌, [], sym, ap, ◌∙◌, subst, Some, None, ◌≡◌, ℕ, Bool, ap₂, Option, is_some}
 use Rattle.obs_epoch.specs.Names.{viewed_message, heard, Heard, heard_summary, without_cells, timed, GathererValue, take_step, Loaded, loaded_if, rested, with_time, is_close_first, is_kept, with_counts, IsCloseFirstExactly, HasGatheredEpochs, returned_epoch, no_counts}
 use Rattle.obs_epoch.proofs.TakeLemmas.{no_point, given_alone, closed_is, ended_is, loaded_rested}
-use Rattle.obs_epoch.proofs.HandingLemmas.{gathers_first, gathers_taken, has_closed}
+use Rattle.obs_epoch.proofs.ReturnedLemmas.{gathers_first, gathers_taken, has_closed}
 use Rattle.obs_epoch.proofs.KindLemmas.{counted_kind, exactly_first, again_taken, fits_now, kind_taken}
 use Rattle.obs_epoch.specs.Step.{kind_by, closed_by}
 use Rattle.obs_epoch.proofs.ViewLemmas.{summary_heard}

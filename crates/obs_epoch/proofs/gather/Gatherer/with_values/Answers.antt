@@ -1,6 +1,6 @@
 use Rattle.std.proofs.Common.{[], refl, ap, subst, rules, false}
 use Rattle.obs_epoch.specs.Names.{HasHeardMessages, GatherSetup, sorted_epoch, PendingValue}
-use Rattle.obs_epoch.proofs.StandingLemmas.{none_locked}
+use Rattle.obs_epoch.proofs.OneStepLemmas.{none_locked}
 use Rattle.obs_epoch.proofs.gather.Gatherer.with_values.Goals as goal
 
 pub returns-in-Ok-clause-history : goal.returns-in-Ok-clause-history

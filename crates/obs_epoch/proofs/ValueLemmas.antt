@@ -1,4 +1,4 @@
--- The order of an epoch's cells, and one more cell.
+-- The value of a gatherer: with one more cell, after a message, and when its epoch is closed.
 use Rattle.std.proofs.Common.{◌≡◌, ℕ, ◌==◌, Bool, true, false, ◌||◌, List, [], ◌∷◌, ◌++◌, refl, sym, ap, ap₂, ◌∙◌, subst, arith, length, get_or, Option, Some, None, is_some, if◌then◌else◌, position}
 use Rattle.std.proofs.lemmas.List.Quantifiers.{position-Some}
 use Rattle.obs_epoch.specs.Names.{System, Gps, Galileo, Cell, EpochValue, PlanValue, planned_of, cells_of, PendingValue, note_all, KnownLock, place_in, is_planned, has_same_key, GatherSetup, Heard, IsKey, HeardCell, kept_cell, heard_cell, SortKey, insert_by, sort_key_of, cell_sort_key, Crowded, Kept, Repeated, lookup, outcome_of_added, values_after_message, StationValues, is_held, GathererValue, with_more_in, with_more, outcome_in, hold, hold_by, just_closed_as, noted, rested, with_time, IsPending, AreInPlanOrder, AreInOrder, Added, IsAdded, cells_after, epoch_with, outcome_by, sorted_cells, sorted_epoch, State, step_by, lli_with, option_map_or, AllByRecursion}
@@ -148,6 +148,11 @@ step_setup g m = grind (arith, common_steps)
 
 pub never_both : (b : Bool) → b ≡ false → b ≡ true → ⊥
 never_both b e f = cc
+
+-- The value of a gatherer with these parts inside.
+abbrev pub gathered_of : State → PendingValue → List (Option KnownLock) → Bool → Bool → GathererValue
+gathered_of clock pending locks just_closed has_ended =
+    record { clock = clock; epoch = sorted_epoch clock.setup.plan pending.epoch; locks = locks; values = pending.values; just_closed = just_closed; has_ended = has_ended }
 
 abbrev parts : GathererValue → State → EpochValue → StationValues → GathererValue
 parts g clock e values = record { clock = clock; epoch = e; locks = g.locks; values = values; just_closed = false; has_ended = g.has_ended }

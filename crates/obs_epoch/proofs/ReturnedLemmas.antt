@@ -9,7 +9,7 @@ use Rattle.obs_epoch.proofs.TimesLemmas.{next, timed-push, greater-absent, none-
 use Rattle.obs_epoch.proofs.ClockLemmas.{Follows, first, greater, equal, new_time, same_time, standing as standing_at}
 use Rattle.obs_epoch.proofs.ClosedLemmas.{taken_follows}
 use Rattle.obs_epoch.proofs.ClosingLemmas.{closing}
-use Rattle.obs_epoch.proofs.StandingLemmas.{closed_later}
+use Rattle.obs_epoch.proofs.OneStepLemmas.{closed_later}
 use Rattle.obs_epoch.proofs.TakeLemmas.{taken, closes_it, ended, Ended, times_taken, time_taken, pending_taken, IsSet, no_point_given, same_values, handed_is, ended_is}
 use Rattle.obs_epoch.proofs.HistoryLemmas.{Each, each_filter, each_front, each_back, list-push, before_all, before-push, pending_open, with_pending, prefix_self}
 use Rattle.std.proofs.lemmas.Grind.{common_steps}
