@@ -1,3 +1,5 @@
+-- The signals that a text of codes adds to earlier ones are those that its codes name, each once; a plan is the two
+-- lists that are added to none.
 use Rattle.std.proofs.Common.{◌≡◌, ℕ, length, Bool, true, false, List, [], ◌∷◌, ◌++◌, nat_eq, refl, sym, ap, ◌∙◌, subst, arith, append_assoc, append-nil, Option, Some, None, Result, Ok, Err, if◌then◌else◌}
 use Rattle.std.specs.List.{list_any, IsDistinct}
 use Rattle.std.proofs.lemmas.Cmp.{nat_eq_equiv}

@@ -1,3 +1,5 @@
+-- The counts in the order of the line: `add_count-K` adds the K-th after `bytes`, so that a new count moves the
+-- numbers after it by one.
 use Rattle.rtcm2rinex.proofs.Names.{[], codes, decimal, refl, counts_named, report_line, add_count, add_text, add_word, end_line}
 use Rattle.rtcm2rinex.proofs.convert.report_line.Goals as goal
 

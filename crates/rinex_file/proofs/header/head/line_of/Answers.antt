@@ -1,3 +1,4 @@
+-- Each row's line is the one that the row's own function makes; a row that has no line for this plan has none here.
 use Rattle.rinex_file.proofs.HeaderRows.Agree.{version_same}
 use Rattle.rinex_file.proofs.HeaderRows.Types.{length-system_types}
 use Rattle.rinex_file.proofs.Names.{arith, ◌≡◌, ◌∙◌, sym, ap, ℕ, [], ◌∷◌, length, codes, nat_lt, not, ◌==◌, PlanValue, civil_of, row_line, header_line, version_line, version_with, ◌++◌, ◌*◌, indices, length_indices, few_signals, letter_of, type_front, type_columns, type_line, types_of, codes_of}

@@ -1,3 +1,5 @@
+-- The columns of a value are blank, or the number of blanks before them gives the template that they must match; a
+-- value is read from those that do, and no value's text matches otherwise.
 use Rattle.rinex_file.proofs.Fields.Lanes.{lanes_are, lane_is, sixteen_long}
 use Rattle.rinex_file.proofs.Fields.Values.{few_before, sixteen_blank}
 use Rattle.rinex_file.proofs.OneReading.{no_field, field_once, value_of}

@@ -1,3 +1,5 @@
+-- Columns that are not digits, begin with a zero too many, or are a negative zero are no value's text; else they are
+-- the text of the value of their digits.
 use Rattle.rinex_file.proofs.Fields.Lanes.{bytes_below, taken}
 use Rattle.rinex_file.proofs.Fields.Values.{AreColumns, Begins, IsShown, IsValue, shown, value_is, within, no_zero, no_zero_first, first_is, within_nine, zero_first}
 use Rattle.rinex_file.proofs.Judged.{refused}

@@ -1,3 +1,5 @@
+-- A refused call changes nothing. Else the framer ends, and the file is completed, is left without an epoch, or a
+-- write failed; each is one of the ways that the contract lists.
 use Rattle.rtcm_convert.proofs.FaultLemmas.{unlike, on_no_epoch, no_epoch_of, no_epoch_only, no_epoch_sent, ok_always}
 use Rattle.rtcm_convert.proofs.FeedLemmas.{with_flags, failed_fit, ended_fit, finishes, finishes_empty}
 use Rattle.rtcm_convert.proofs.RefusalLemmas.{refused_going, refused_is, refused_only, refused_sent, refused_writer, not_refused}
