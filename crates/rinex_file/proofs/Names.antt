@@ -29,7 +29,7 @@ pub use Rattle.rinex_file.specs.File.{change_lines, change_text, closed_text, ev
 pub use Rattle.rinex_file.specs.FileValues.{AreChanges, AreSatelliteRows, AreSignalValues, AreTexts, AreValues, FitsColumns, HaveRoom, IsChange, IsCoordinate, IsFileValue, IsFirstSame, IsFrom, IsPlan, IsRow, IsSatelliteRow, IsStamped, IsText, IsTime, changed_by, has_some_value, most_rows, of_system, rank_of, time_stamped, values_following}
 pub use Rattle.rinex_file.specs.Gathered.{AreSignals, HasSatellite}
 unfoldable pub use Rattle.rinex_file.specs.Header.{header_line, header_lines, row_line}
-pub use Rattle.rinex_file.specs.Header.{all_rows, codes_of, delta_line, end_line, file_system, first_line, first_types, has_line, height_line, lengths, lines_from, position_line, row_at, row_count, row_lines, row_place, shift_line, strength_line, text_columns, texts_line, type_columns, type_front, type_line, type_of, type_rows, types_of, version_line}
+pub use Rattle.rinex_file.specs.Header.{all_rows, codes_of, delta_line, end_line, file_system, first_line, first_types, most_type_rows, has_line, height_line, lengths, lines_from, position_line, row_at, row_count, row_lines, row_place, shift_line, strength_line, text_columns, texts_line, type_columns, type_front, type_line, type_of, type_rows, types_of, version_line}
 pub use Rattle.rinex_file.specs.Limits.{most_line}
 unfoldable pub use Rattle.rinex_file.specs.Lines.{epoch_line, field, satellite_line, signal_text}
 pub use Rattle.rinex_file.specs.Lines.{epoch_fields, letter_of, lli_byte, row_text, strength_byte}

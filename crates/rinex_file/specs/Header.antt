@@ -153,6 +153,10 @@ header_lines x p v t = flat_map (row_lines x p v t) all_rows
 abbrev pub row_at : ℕ → HeaderRow
 row_at place = get_or all_rows place End
 
+-- the number of rows of a system's types
+abbrev pub most_type_rows : ℕ
+most_type_rows = 6
+
 -- the index of the first row of a system's types
 abbrev pub first_types : System → ℕ
 first_types Gps = 9

@@ -7,7 +7,7 @@ use Rattle.rinex_file.proofs.Entries.{few_signals}
 use Rattle.rinex_file.proofs.Reading.Dates.{IsField, AreFields, field_at}
 use Rattle.rinex_file.proofs.HeaderRows.Texts.{equal_or}
 use Rattle.rinex_file.proofs.HeaderRows.Types.{IsInLine, code_here, count_read, few_types, listed_at, signal_at, code_reads_back, content_first}
-use Rattle.rinex_file.proofs.Names.{◌&&◌, arith, ◌≡◌, ◌∙◌, refl, sym, ap, ℕ, ◌+◌, ◌/◌, ◌<◌, ◌≤◌, ◌^◌, List, [], ◌∷◌, ◌++◌, length, take, drop, get_or, replicate, append_assoc, append-nil, length-append, Bool, true, false, ℤ, pos, neg_ℤ, ◌≤ℤ◌, unsigned_abs, subst, zero, suc, lit<, ◌*◌, min, IsTrue, ◌↔◌, not, ◌||◌, ◌==◌, codes, if◌then◌else◌, flat_map, nat_lt, slice_index, is_negative, digits, sign_text, nat_tests, ints, take_more, take-append-drop, take_min, take_more_same, drop-cons, SignalAt, signal_of_code, System, Gps, Galileo, passes_at, is_equal, civil_of, PlanValue, planned_of, StationValues, Civil, joined, left, right, fixed, digits_in, number_in, header_line, lengths, height_line, row_line, row_lines, has_line, header_lines, all_rows, row_count, row_at, row_place, lines_from, first_types, type_rows, version_line, version_with, Shown, shown_rows, lines_before, lines_after, IsShown, shown_line, AreTypes, types_line, is_some_planned, signals_begun, IsCoordinate, End, Version, Types, First, Shift, lines_of_header, HeaderLists, HeaderRow, drop-append-le, same_Some}
+use Rattle.rinex_file.proofs.Names.{◌&&◌, arith, ◌≡◌, ◌∙◌, refl, sym, ap, ℕ, ◌+◌, ◌/◌, ◌<◌, ◌≤◌, ◌^◌, List, [], ◌∷◌, ◌++◌, length, take, drop, get_or, replicate, append_assoc, append-nil, length-append, Bool, true, false, ℤ, pos, neg_ℤ, ◌≤ℤ◌, unsigned_abs, subst, zero, suc, lit<, ◌*◌, min, IsTrue, ◌↔◌, not, ◌||◌, ◌==◌, codes, if◌then◌else◌, flat_map, nat_lt, slice_index, is_negative, digits, sign_text, nat_tests, ints, take_more, take-append-drop, take_min, take_more_same, drop-cons, SignalAt, signal_of_code, System, Gps, Galileo, passes_at, is_equal, civil_of, PlanValue, planned_of, StationValues, Civil, joined, left, right, fixed, digits_in, number_in, header_line, lengths, height_line, row_line, row_lines, has_line, header_lines, all_rows, row_count, row_at, row_place, lines_from, first_types, most_type_rows, type_rows, version_line, version_with, Shown, shown_rows, lines_before, lines_after, IsShown, shown_line, AreTypes, types_line, is_some_planned, signals_begun, IsCoordinate, End, Version, Types, First, Shift, lines_of_header, HeaderLists, HeaderRow, drop-append-le, same_Some}
 
 -- ---- version
 
@@ -183,7 +183,7 @@ types_high s = grind arith
 pub shift_far : (s : System) → row_place First < row_place (Shift s)
 shift_far s = grind arith
 
-pub types_row : (s : System) (r : ℕ) → r < 6 → row_at (first_types s + r) ≡ Types s r
+pub types_row : (s : System) (r : ℕ) → r < most_type_rows → row_at (first_types s + r) ≡ Types s r
 types_row s (suc (suc (suc (suc (suc (suc r)))))) less = absurd (omega (arith, less))
 types_row Gps r less = refl
 types_row Galileo r less = refl
@@ -275,7 +275,7 @@ module _ {h g : Shown} (a : IsShown h) (b : IsShown g) where
       let also : IsInLine s y (types_line s y r) r m = record { are = ay; few = omega (arith, fy, most); is = refl; low = omega arith; high = omega arith; less = ly } in
       ap (λ (t : SignalAt). t.index) (same_Some (signal_at s x m) (signal_at s y m) (sym (code_reads_back (signal_at s x m) (listed_at s x m ax lx)) ∙ ap (signal_of_code s) (sym (code_here at) ∙ code_here also) ∙ code_reads_back (signal_at s y m) (listed_at s y m ay ly)))
 
-  module _ (s : System) (size : length (planned_of s h.plan) ≡ length (planned_of s g.plan)) (row : ℕ) (few : row ≤ 6)
+  module _ (s : System) (size : length (planned_of s h.plan) ≡ length (planned_of s g.plan)) (row : ℕ) (few : row ≤ most_type_rows)
       (rows : (r : ℕ) → r < row → shown_rows h (Types s r) ≡ shown_rows g (Types s r)) where
     first_same : (m : ℕ) → m ≤ signals_begun row → m ≤ length (planned_of s h.plan) → take m (planned_of s h.plan) ≡ take m (planned_of s g.plan)
     first_same zero low less = refl
@@ -303,7 +303,7 @@ module _ {h g : Shown} (a : IsShown h) (b : IsShown g) where
   pub agree_systems : (n : ℕ) → 0 < n → Agree h g n → (s : System) → is_some_planned (planned_of s h.plan) ≡ is_some_planned (planned_of s g.plan)
   agree_systems n some agree = systems_same (agree 0 some)
 
-  pub agree_types : (n : ℕ) → Agree h g n → (s : System) (r : ℕ) → r < 6 → first_types s + r < n → shown_rows h (Types s r) ≡ shown_rows g (Types s r)
+  pub agree_types : (n : ℕ) → Agree h g n → (s : System) (r : ℕ) → r < most_type_rows → first_types s + r < n → shown_rows h (Types s r) ≡ shown_rows g (Types s r)
   agree_types n agree s r few less = subst (λ x. shown_rows h x ≡ shown_rows g x) (types_row s r few) (agree (first_types s + r) less)
 
   pub agree_count : (n : ℕ) → Agree h g n → (s : System) → first_types s < n → length (planned_of s h.plan) ≡ length (planned_of s g.plan)

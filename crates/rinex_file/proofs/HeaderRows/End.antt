@@ -3,7 +3,7 @@ use Rattle.rinex_file.proofs.Reading.Epochs.{few_signals_of}
 use Rattle.rinex_file.proofs.HeaderRows.Agree.{Agree, single, types_high, agree_types, agree_count, signals_same, none_planned, split_at, lengths-back, height-back, number_at, coordinate-fits}
 use Rattle.rinex_file.proofs.HeaderRows.Steps.{some_plan, with_is, unread}
 use Rattle.rinex_file.proofs.HeaderRows.Texts.{place_back, same_at, same_rows, texts_back, same_texts, SameTexts, text_low}
-use Rattle.rinex_file.proofs.Names.{arith, ◌≡◌, ◌∙◌, sym, ap, ap₂, map, refl, subst, ℕ, ℤ, pos, suc, lit<, lit≤, ◌-◌, ◌<◌, ◌≤◌, Bool, true, false, ◌||◌, min, List, [], ◌∷◌, ◌++◌, length, get_or, take, replicate, All, nat_eq, AllOfLen, IsDistinct, take_all, ext_get_or, All-map, All-weaker, codes, SignalAt, IsSignal, table, System, Gps, Galileo, indices, IsOf, PlanValue, planned_of, StationValues, civil_of, TextRow, Texts, Position, Delta, First, End, trimmed, HeaderLists, text_count, text_of, width_of, fields, fields_of, text_rows, HeaderField, AntType, IsText, AreTexts, AreValues, IsTime, row_line, row_place, end_line, first_line, first_types, texts_line, position_line, delta_line, digits_in, Known, Shown, AreTypesRead, IsShown, AreValid, MayPlan, IsHeadAt, IsOnlyTime, shown_with, lines_before, announced, signals_begun, RefusesHeaderLine, EndsHeader, none_of, row_at, shown_rows, same_Some}
+use Rattle.rinex_file.proofs.Names.{arith, ◌≡◌, ◌∙◌, sym, ap, ap₂, map, refl, subst, ℕ, ℤ, pos, suc, lit<, lit≤, ◌-◌, ◌<◌, ◌≤◌, Bool, true, false, ◌||◌, min, List, [], ◌∷◌, ◌++◌, length, get_or, take, replicate, All, nat_eq, AllOfLen, IsDistinct, take_all, ext_get_or, All-map, All-weaker, codes, SignalAt, IsSignal, table, System, Gps, Galileo, indices, IsOf, PlanValue, planned_of, StationValues, civil_of, TextRow, Texts, Position, Delta, First, End, trimmed, HeaderLists, text_count, text_of, width_of, fields, fields_of, text_rows, HeaderField, AntType, IsText, AreTexts, AreValues, IsTime, row_line, row_place, end_line, first_line, first_types, most_type_rows, texts_line, position_line, delta_line, digits_in, Known, Shown, AreTypesRead, IsShown, AreValid, MayPlan, IsHeadAt, IsOnlyTime, shown_with, lines_before, announced, signals_begun, RefusesHeaderLine, EndsHeader, none_of, row_at, shown_rows, same_Some}
 
 -- ---- headers with the same lines are the same
 
@@ -46,9 +46,9 @@ module _ (h g : Shown) (a : IsShown h) (b : IsShown g) (agree : Agree h g (row_p
       let size = agree_count a b (row_place End) agree s (omega (arith, high)) in
       let few = few_signals_of h.plan a.plan s in
       let also = few_signals_of g.plan b.plan s in
-      sym (take_all (signals_begun 6) (planned_of s h.plan) (omega (arith, few)))
-      ∙ signals_same a b s size 6 (lit≤ tt) (λ r less. agree_types a b (row_place End) agree s r less (omega (arith, less, high)))
-      ∙ take_all (signals_begun 6) (planned_of s g.plan) (omega (arith, also))
+      sym (take_all (signals_begun most_type_rows) (planned_of s h.plan) (omega (arith, few)))
+      ∙ signals_same a b s size most_type_rows (lit≤ tt) (λ r less. agree_types a b (row_place End) agree s r less (omega (arith, less, high)))
+      ∙ take_all (signals_begun most_type_rows) (planned_of s g.plan) (omega (arith, also))
 
   values : h.values ≡ g.values
   unfolding row_line

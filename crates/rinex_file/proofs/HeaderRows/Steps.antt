@@ -3,7 +3,7 @@ use Rattle.rinex_file.proofs.Reading.Epochs.{cons_parts}
 use Rattle.rinex_file.proofs.Entries.{few_signals}
 use Rattle.rinex_file.proofs.HeaderRows.Agree.{types_there, Agree, agreed, less_or, planned_is, rows_when, same_there, types_low, types_high, shift_far, is_lt, placed, line_next, before_next}
 use Rattle.rinex_file.proofs.HeaderRows.Texts.{equal_or}
-use Rattle.rinex_file.proofs.Names.{arith, ◌≡◌, ◌∙◌, sym, ap, refl, subst, ℕ, zero, suc, ◌+◌, ◌-◌, ◌<◌, ◌≤◌, Bool, true, false, eqb, nat_eq, List, [], ◌∷◌, ◌++◌, length, take, append-nil, length-append, All, not, take_all, take-take, ◌≢◌, ap₂, ◌==◌, ◌&&◌, min, ◌↔◌, ◌||◌, nat_lt, list_any, IsDistinct, take-append_seam, nat_eq_equiv, IsDistinct-push, le-length_from_below, nat_tests, All-nil, All-cons, All-push, table, System, Gps, Galileo, passes_at, is_less, PlanValue, planned_of, civil_of, Known, MayBeAll, announced, IsShown, AreValid, MayPlan, HasReadRows, is_some_planned, shown_with, Announced, Shown, AreTypesRead, IsReadTo, IsHeadAt, IsOnlyTime, shown_rows, shown_line, lines_before, lines_after, signals_begun, HeaderRow, Types, StrengthUnit, First, Shift, End, Expected, Header, Epoch, lines_of_header, of_system, has_line, row_at, row_count, row_place, first_types, type_rows, has_types, known_line, ReadsHeaderLine, RefusesHeaderLine, GoesTo, NoneGoesOn, SameFrom, StepsTo}
+use Rattle.rinex_file.proofs.Names.{arith, ◌≡◌, ◌∙◌, sym, ap, refl, subst, ℕ, zero, suc, ◌+◌, ◌-◌, ◌<◌, ◌≤◌, Bool, true, false, eqb, nat_eq, List, [], ◌∷◌, ◌++◌, length, take, append-nil, length-append, All, not, take_all, take-take, ◌≢◌, ap₂, ◌==◌, ◌&&◌, min, ◌↔◌, ◌||◌, nat_lt, list_any, IsDistinct, take-append_seam, nat_eq_equiv, IsDistinct-push, le-length_from_below, nat_tests, All-nil, All-cons, All-push, table, System, Gps, Galileo, passes_at, is_less, PlanValue, planned_of, civil_of, Known, MayBeAll, announced, IsShown, AreValid, MayPlan, HasReadRows, is_some_planned, shown_with, Announced, Shown, AreTypesRead, IsReadTo, IsHeadAt, IsOnlyTime, shown_rows, shown_line, lines_before, lines_after, signals_begun, HeaderRow, Types, StrengthUnit, First, Shift, End, Expected, Header, Epoch, lines_of_header, of_system, has_line, row_at, row_count, row_place, first_types, most_type_rows, type_rows, has_types, known_line, ReadsHeaderLine, RefusesHeaderLine, GoesTo, NoneGoesOn, SameFrom, StepsTo}
 
 -- ---- signals of a system, with others up to a number
 
@@ -134,7 +134,7 @@ module _ (k : Known) (place : ℕ) (valid : AreValid k) (read : HasReadRows k pl
 
 -- an index outside the rows of types
 abbrev pub IsOutside : ℕ → Type 0
-IsOutside n = (s : System) → first_types s ≤ n → n < first_types s + 6 → ⊥
+IsOutside n = (s : System) → first_types s ≤ n → n < first_types s + most_type_rows → ⊥
 
 pub outside_low : (n : ℕ) → n < first_types Gps → IsOutside n
 outside_low n less s more few = let low = types_low s in omega (arith, less, more, low)
@@ -143,7 +143,7 @@ pub outside_high : (n : ℕ) → row_place StrengthUnit ≤ n → IsOutside n
 outside_high n far s more few = let high = types_high s in omega (arith, far, few, high)
 
 -- the signals that begin before a row are those that begin before the next
-pub still_size : (n b c : ℕ) → c ≤ 19 → (b ≤ n → n < b + 6 → c ≤ signals_begun (n - b)) → min (signals_begun (n - b)) c ≡ min (signals_begun (suc n - b)) c
+pub still_size : (n b c : ℕ) → c ≤ 19 → (b ≤ n → n < b + most_type_rows → c ≤ signals_begun (n - b)) → min (signals_begun (n - b)) c ≡ min (signals_begun (suc n - b)) c
 still_size n b c few within = grind (arith, less_or)
 
 -- no line of types was read, nor is one before this row
@@ -160,7 +160,7 @@ few_counted : (s : System) (c : ℕ) → c ≤ length (table s) → c ≤ 19
 few_counted s c few = let most = few_signals s in omega (arith, few, most)
 
 -- what was read of a system is the same after a row in which none of its signals begins
-next_read : (s : System) (a : Announced) (signals : List ℕ) (n : ℕ) → (a.planned ≡ true → first_types s ≡ n → ⊥) → (first_types s ≤ n → n < first_types s + 6 → a.count ≤ signals_begun (n - first_types s))
+next_read : (s : System) (a : Announced) (signals : List ℕ) (n : ℕ) → (a.planned ≡ true → first_types s ≡ n → ⊥) → (first_types s ≤ n → n < first_types s + most_type_rows → a.count ≤ signals_begun (n - first_types s))
     → AreTypesRead s a signals n → AreTypesRead s a signals (suc n)
 next_read s a signals n other fits r = record {
   few = r.few;
@@ -168,7 +168,7 @@ next_read s a signals n other fits r = record {
   size = r.size ∙ still_size n (first_types s) a.count (few_counted s a.count r.few) fits;
 }
 
-pub still_read : (s : System) (a : Announced) (signals : List ℕ) (n : ℕ) → (first_types s ≤ n → n < first_types s + 6 → ⊥) → AreTypesRead s a signals n → AreTypesRead s a signals (suc n)
+pub still_read : (s : System) (a : Announced) (signals : List ℕ) (n : ℕ) → (first_types s ≤ n → n < first_types s + most_type_rows → ⊥) → AreTypesRead s a signals n → AreTypesRead s a signals (suc n)
 still_read s a signals n out r = next_read s a signals n (λ p e. out (omega (arith, e)) (omega (arith, e))) (λ more less. absurd (out more less)) r
 
 -- a row without a part of the plan
@@ -212,7 +212,7 @@ either_system P Gps a b Galileo = b
 either_system P Galileo a b Gps = b
 either_system P Galileo a b Galileo = a
 
-pub far_other : (s : System) (row : ℕ) → row < 6 → first_types (other s) ≤ first_types s + row → first_types s + row < first_types (other s) + 6 → ⊥
+pub far_other : (s : System) (row : ℕ) → row < most_type_rows → first_types (other s) ≤ first_types s + row → first_types s + row < first_types (other s) + most_type_rows → ⊥
 far_other Gps row less more few = omega (arith, less, more)
 far_other Galileo row less more few = omega (arith, few)
 
@@ -243,7 +243,7 @@ skip_own s a signals row lacks r = next_read s a signals (first_types s + row) (
       here true e = (none_left a.planned row a.count lacks e).1
       here false e = let none = uncounted a.count a.planned _ r.counted e in omega (arith, none)
 
-skip_types : (s : System) (row : ℕ) (k : Known) → row < 6 → known_line k (Types s row) ≡ false → HasReadRows k (first_types s + row) → HasReadRows k (suc (first_types s + row))
+skip_types : (s : System) (row : ℕ) (k : Known) → row < most_type_rows → known_line k (Types s row) ≡ false → HasReadRows k (first_types s + row) → HasReadRows k (suc (first_types s + row))
 skip_types s row k few lacks r = record {
   systems = λ l. r.systems (let low = types_low s in omega (arith, low));
   fresh = λ e. absurd (omega (arith, e));
@@ -254,7 +254,7 @@ skip_types s row k few lacks r = record {
 }
 
 skip_row : (r : HeaderRow) (k : Known) → is_row r ≡ true → known_line k r ≡ false → HasReadRows k (row_place r) → HasReadRows k (suc (row_place r))
-skip_row (Types s i) k row lacks read = skip_types s i k (is_less i 6 row) lacks read
+skip_row (Types s i) k row lacks read = skip_types s i k (is_less i most_type_rows row) lacks read
 skip_row (Shift s) k row lacks read =
     let far = shift_far s in
     reads_next (outside_high (row_place (Shift s)) (omega (arith, far))) (read.systems (omega (arith, far))) (λ l. read.only (omega (arith, far))) read
@@ -333,8 +333,8 @@ pub none_at : (n : ℕ) (line : List ℕ) (k : Known) (r : HeaderRow) → IsHead
 none_at n line k r at has is refuses p h others left may shown e =
     refuses h shown (ap (shown_line h) (sym is) ∙ (follows at has may shown e).shows)
 
-pub types_few : (n : ℕ) (s : System) (row : ℕ) → n < row_count → row_at n ≡ Types s row → row < 6
-types_few n s row less at = is_less row 6 (sym (ap is_row at) ∙ are_rows n less)
+pub types_few : (n : ℕ) (s : System) (row : ℕ) → n < row_count → row_at n ≡ Types s row → row < most_type_rows
+types_few n s row less at = is_less row most_type_rows (sym (ap is_row at) ∙ are_rows n less)
 
 pub place_at : (n : ℕ) (r : HeaderRow) → n < row_count → row_at n ≡ r → n ≡ row_place r
 place_at n r less at = sym (placed n less) ∙ ap row_place at

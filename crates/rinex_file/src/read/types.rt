@@ -3,7 +3,7 @@ ghost use Rattle.std.specs.Prelude.{◌≡◌, ◌≤◌, ◌<◌, ◌+◌, [], 
 ghost use Rattle.std.specs.Prelude.{OnOk, Err, Some};
 ghost use Rattle.gnss_obs.specs.Signals.{SignalAt, IsSignal, table};
 ghost use Rattle.gnss_obs.specs.SignalLists.{indices, IsOf};
-ghost use Rattle.rinex_file.specs.Header.{type_rows};
+ghost use Rattle.rinex_file.specs.Header.{most_type_rows, type_rows};
 ghost use Rattle.rinex_file.specs.Read.Progress.{AreTypes, types_line, signals_begun};
 ghost use Rattle.rinex_file.specs.Read.HeaderSteps.{ReadsRow, RefusesRow, TakesTypes, RefusesTypes, HasSignalAt};
 
@@ -126,7 +126,7 @@ fn take_signals(
 
 /// Returns the number of signals whose types begin in the lines before `row`.
 pub(crate) fn signals_begun(row: usize) -> usize
-    requires { row ≤ 6 }
+    requires { row ≤ most_type_rows }
     ensures { result ≡ signals_begun row }
 {
     (TYPES_IN_LINE * row + 3) / 4

@@ -4,7 +4,7 @@ use Rattle.rinex_file.proofs.HeaderRows.End.{ends, no_end_line}
 use Rattle.rinex_file.proofs.HeaderRows.Read.{begun_here, line_types, none_taken, rows_there}
 use Rattle.rinex_file.proofs.HeaderRows.Steps.{step_at, steps_from, none_at, none_from, types_few, place_at}
 use Rattle.rinex_file.proofs.Judged.{refused}
-use Rattle.rinex_file.proofs.Names.{◌≡◌, ◌∙◌, ◌+◌, ◌<◌, sym, ap, subst, refl, ℕ, List, Result, Ok, Err, IsErrAnd, System, HeaderRow, Expected, Header, Epoch, Refusal, Memory, Bad, Types, End, planned_of, end_line, first_types, row_at, row_place, Known, IsHeadAt, announced, IsOnly, known_line, EndsHeader, NoneGoesOn, ReadsHeaderLine, TakesHeaderLine}
+use Rattle.rinex_file.proofs.Names.{◌≡◌, ◌∙◌, ◌+◌, ◌<◌, sym, ap, subst, refl, ℕ, List, Result, Ok, Err, IsErrAnd, System, HeaderRow, Expected, Header, Epoch, Refusal, Memory, Bad, Types, End, planned_of, end_line, first_types, most_type_rows, row_at, row_place, Known, IsHeadAt, announced, IsOnly, known_line, EndsHeader, NoneGoesOn, ReadsHeaderLine, TakesHeaderLine}
 use Rattle.rinex_file.proofs.read.head_so_far.HeadSoFar.take.Goals as goal
 
 -- a refusal that was passed on
@@ -39,7 +39,7 @@ returns-in_ok-take_types-in-Types c =
     steps_from c.args.self.now c.take_types.new.self c.args.from c.place_from-place.result c.args.line.now (Header (c.place_from-place.result + 1)) c.place_from-place.ensures.same
     (step_at c.place_from-place.ensures.same.at c.place_from-place.ensures.here (sym c.row_at.ensures ∙ c.in-Types.is)
     (not_end c.in-Types.system c.in-Types.row) (read (types_few c.place_from-place.result c.in-Types.system c.in-Types.row c.place_from-place.ensures.same.at.expected (sym c.row_at.ensures ∙ c.in-Types.is))) c.are_valid.ensures) where
-      read : c.in-Types.row < 6 → ReadsHeaderLine (Types c.in-Types.system c.in-Types.row) c.args.line.now c.args.self.now c.take_types.new.self
+      read : c.in-Types.row < most_type_rows → ReadsHeaderLine (Types c.in-Types.system c.in-Types.row) c.args.line.now c.args.self.now c.take_types.new.self
       read few =
           let s = c.in-Types.system in
           let new = c.take_types.new.self in
