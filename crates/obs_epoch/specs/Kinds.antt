@@ -50,13 +50,13 @@ is_by_bit gathers.Bit = true
 is_by_bit gathers.Time = false
 
 -- The setup of a gatherer with these arguments.
-abbrev pub setup_at : PlanValue → ℕ → Option ℕ → Gather → StationValues → GatherSetup
-setup_at plan start_week station gather initial =
+abbrev pub setup_with : PlanValue → ℕ → Option ℕ → Gather → StationValues → GatherSetup
+setup_with plan start_week station gather initial =
     record { plan = plan; start_week = start_week; station = station; by_bit = is_by_bit gather; initial = initial }
 
 -- The same setup with station values of 0.
 abbrev pub setup_of : PlanValue → ℕ → Option ℕ → Gather → GatherSetup
-setup_of plan start_week station gather = setup_at plan start_week station gather no_values
+setup_of plan start_week station gather = setup_with plan start_week station gather no_values
 
 -- The number of the station does not fit the 12 bits of DF003.
 abbrev pub is_no_station : Option ℕ → Bool

@@ -3,7 +3,7 @@ ghost use Rattle.std.specs.Prelude.{◌==◌, ◌≡◌, ◌<◌, ◌*◌, [], t
 ghost use Rattle.std.specs.Option.{ForSome};
 ghost use Rattle.rtcm_msg.specs.Msm.{week};
 ghost use Rattle.obs_epoch.specs.Heard.{heard_summary, is_own};
-ghost use Rattle.obs_epoch.specs.Kinds.{setup_at};
+ghost use Rattle.obs_epoch.specs.Kinds.{setup_with};
 ghost use Rattle.gnss_obs.specs.Weeks.{weeks};
 
 use crate::taken::{CellCounts, Gather, Kind};
@@ -59,7 +59,7 @@ impl Clock {
         initial: StationValues,
     ) -> Clock
         requires { start_week < weeks }
-        ensures setup { result.setup ≡ setup_at plan start_week station gather initial }
+        ensures setup { result.setup ≡ setup_with plan start_week station gather initial }
         ensures history { HasHeardMessages result result.setup [] false }
     {
         Clock {

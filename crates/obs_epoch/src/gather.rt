@@ -14,7 +14,7 @@ ghost use Rattle.obs_epoch.specs.Epochs.{values_after_message, values_of};
 ghost use Rattle.obs_epoch.specs.Held.{count_in, most_locks, no_locks, outcome_of_added, recorded};
 ghost use Rattle.obs_epoch.specs.Step.{kind_by, closed_by as closed_at};
 ghost use Rattle.gnss_obs.specs.Values.{Closed, cells_of, most_cells, planned_of};
-ghost use Rattle.obs_epoch.specs.Kinds.{is_no_station, setup_at, setup_of, with_counts};
+ghost use Rattle.obs_epoch.specs.Kinds.{is_no_station, setup_with, setup_of, with_counts};
 ghost use Rattle.obs_epoch.specs.GathererHistory.{HasGatheredEpochs, closed_by, closed_in, plan_in};
 ghost use Rattle.obs_epoch.specs.Calls.{TakesMessage, EndsPendingEpoch, StaysEnded, HoldsCells, HoldsLockedKeys};
 ghost use Rattle.gnss_obs.specs.declared.fault.PlanFault.{PlanFault};
@@ -105,7 +105,7 @@ impl Gatherer {
         initial: StationValues,
     ) -> Result<Gatherer, PlanFault>
         ensures history { IfOk result
-            (λ g. HasGatheredEpochs g (setup_at plan start_week station gather initial) [] [] None) }
+            (λ g. HasGatheredEpochs g (setup_with plan start_week station gather initial) [] [] None) }
         ensures going { IfOk result (λ g. g.has_ended ≡ false) }
         ensures none { IfOk result (λ g. closed_in g ≡ None) }
         ensures accepted { IsOk result → (start_week < weeks) × (is_no_station station ≡ false) }

@@ -1,6 +1,6 @@
 -- A conversion that is stopped by a fault.
 use Rattle.rtcm2rinex.proofs.CommandLemmas.{Devices}
-use Rattle.rtcm2rinex.proofs.Names.{◌≡◌, ◌∙◌, ap, sym, subst, refl, rules, ℕ, ℤ, List, Option, Some, None, Result, Ok, Err, IsErrOf, IfSome, inl, inr, ◌≢◌, ◌↔◌, ◌⊎◌, IsSentAfter, IsSetupFault, IsUntouched, IsMadeEmpty, IsMadeSoFar, IsMadeInPart, IsMadeToLimit, IsBad, IsBadAt, Start, start_zero, Setup, no_values, AreStationValues, Fault, Memory, BadSetup, TooLong, Read, Write, Failed, Finished, NoEpoch, Report, ToolFault, Row, StationValues, values_by, HasSetupFault, IsFirstFault, IsSetupRefused, IsWeekRefused, IsWeekSet, values_set, StopsConversion, StopsConverting, HaveFailedBy}
+use Rattle.rtcm2rinex.proofs.Names.{◌≡◌, ◌∙◌, ap, sym, subst, refl, rules, ℕ, ℤ, List, Option, Some, None, Result, Ok, Err, IsErrOf, IfSome, inl, inr, ◌≢◌, ◌↔◌, ◌⊎◌, IsSentAfter, IsSetupFault, IsUntouched, IsMadeEmpty, IsMadeSoFar, IsMadeInPart, IsMadeToLimit, IsBad, IsBadWith, Start, start_zero, Setup, no_values, AreStationValues, Fault, Memory, BadSetup, TooLong, Read, Write, Failed, Finished, NoEpoch, Report, ToolFault, Row, StationValues, values_by, HasSetupFault, IsFirstFault, IsSetupRefused, IsWeekRefused, IsWeekSet, values_set, StopsConversion, StopsConverting, HaveFailedBy}
 use Rattle.rtcm2rinex.specs.declared.fault.ToolFault.TheVariants as faults
 
 abbrev Result-of : Fault → Result Report Fault
@@ -13,7 +13,7 @@ pub record Faulted {R W : Type 0} (x : Start) (d : Devices R W) (fault : Fault) 
   pub long : IsErrOf (Result-of fault) TooLong → IsMadeToLimit x (d.left d.r.inner) (d.left d.r2.inner) (d.held d.w.inner) (d.held d.w2.inner)
   pub read : IsErrOf (Result-of fault) Read → IsMadeSoFar x (d.left d.r.inner) (d.left d.r2.inner) (d.held d.w.inner) (d.held d.w2.inner)
   pub write : IsErrOf (Result-of fault) Write → IsMadeInPart x (d.left d.r.inner) (d.left d.r2.inner) (d.held d.w.inner) (d.held d.w2.inner)
-  pub bad : Result-of fault ≡ Err BadSetup ↔ IsBadAt x
+  pub bad : Result-of fault ≡ Err BadSetup ↔ IsBadWith x
   pub untouched : IsSetupFault fault → IsUntouched d.r d.r2 d.w d.w2
   pub only : (Result-of fault ≢ Err Failed) × (Result-of fault ≢ Err Finished)
 
@@ -80,6 +80,6 @@ module _ {R W : Type 0} (d : Devices R W) (options : List Row) where
 zero_values : AreStationValues no_values
 zero_values = search rules
 
-pub zero_bad : (x : Setup) → IsBadAt (start_zero x) → IsBad x
+pub zero_bad : (x : Setup) → IsBadWith (start_zero x) → IsBad x
 zero_bad x (inl not) = absurd (not zero_values)
 zero_bad x (inr bad) = bad

@@ -48,7 +48,7 @@ pub use Rattle.rtcm_bits.specs.Bits.{FitsInt}
 pub use Rattle.rtcm_bits.specs.Device.{Device}
 pub use Rattle.rtcm_convert.specs.Faults.{IsSentAfter, IsSetupFault, IsUntouched}
 pub use Rattle.rtcm_convert.specs.Made.{IsMadeEmpty, IsMadeInPart, IsMadeSoFar, IsMadeToLimit}
-pub use Rattle.rtcm_convert.specs.SetupValues.{IsBad, IsBadAt, Start, start_at, start_zero}
+pub use Rattle.rtcm_convert.specs.SetupValues.{IsBad, IsBadWith, Start, start_with, start_zero}
 pub use Rattle.rtcm_convert.specs.declared.fault.Fault.{Fault}
 pub use Rattle.rtcm_convert.specs.declared.fault.Fault.TheVariants.{BadSetup, Failed, Finished, Memory, NoEpoch, Read, TooLong, Write}
 pub use Rattle.rtcm_convert.specs.declared.report.Report.{Report}

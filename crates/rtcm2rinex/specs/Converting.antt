@@ -1,6 +1,6 @@
 -- What the command `convert` has read and written.
 use Rattle.std.specs.Prelude.{◌≡◌, ◌⊎◌, ℕ, List, Option, Result, IfSome, []}
-use Rattle.rtcm_convert.specs.SetupValues.{Start, IsBadAt}
+use Rattle.rtcm_convert.specs.SetupValues.{Start, IsBadWith}
 use Rattle.rtcm_convert.specs.Made.{IsMadeEmpty, IsMadeWith, IsMadeToLimit, IsMadeSoFar, IsMadeInPart}
 use Rattle.rtcm_convert.specs.Faults.{IsUntouched}
 use Rattle.rtcm_convert.specs.Moves.{Moves}
@@ -20,7 +20,7 @@ use Rattle.rtcm2rinex.specs.SetupOptions.{IsStartOf, IsSetupRefused}
 abbrev pub IsConverted : {E : Type 0} → List Row → (r w w' : Option (List ℕ)) → (E → Option (List ℕ))
     → (e e' : Device E) → Type 0
 IsConverted options r w w' told e e' =
-    (x : Start) × (report : Report) × IsStartOf options x × (IsBadAt x → ⊥) × IfSome r (IsMadeWith x report w w')
+    (x : Start) × (report : Report) × IsStartOf options x × (IsBadWith x → ⊥) × IfSome r (IsMadeWith x report w w')
     × PrintsLine told e e' (report_line report)
 
 -- the file of the bytes that the reader had left has no epoch and is empty
@@ -39,7 +39,7 @@ StopsConversion x left r r' held waits w w' convert.TooLong =
     Moves left r r' held w w' (IsMadeToLimit x) × (waits w'.inner ≡ [])
 StopsConversion x left r r' held waits w w' convert.NoEpoch =
     Moves left r r' held w w' (MakesNoEpoch x) × (waits w'.inner ≡ [])
-StopsConversion x left r r' held waits w w' convert.BadSetup = IsBadAt x × IsUntouched r r' w w'
+StopsConversion x left r r' held waits w w' convert.BadSetup = IsBadWith x × IsUntouched r r' w w'
 StopsConversion x left r r' held waits w w' convert.Memory = IsUntouched r r' w w'
 StopsConversion x left r r' held waits w w' other = ⊥
 

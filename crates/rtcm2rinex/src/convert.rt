@@ -1,7 +1,7 @@
 //! The command `convert`: the observation file of a stream.
 ghost use Rattle.std.specs.Prelude.{◌≡◌, ◌≤◌, ◌↔◌, Err, max};
 ghost use Rattle.rtcm_bits.specs.FrameOf.{longest_frame};
-ghost use Rattle.rtcm_convert.specs.SetupValues.{IsBad, IsBadAt, start_at, start_zero};
+ghost use Rattle.rtcm_convert.specs.SetupValues.{IsBad, IsBadWith, start_with, start_zero};
 ghost use Rattle.rtcm2rinex.specs.Converting.{EndsConversion};
 ghost use Rattle.rtcm2rinex.specs.Reports.{report_line};
 
@@ -48,9 +48,9 @@ pub fn run_convert_with<R: Read, W: Deliver>(
     reader: &mut Counted<R>,
     writer: &mut Counted<W>,
 ) -> Result<Report, ToolFault>
-    ensures ends { EndsConversion result (start_at setup initial)
+    ensures ends { EndsConversion result (start_with setup initial)
         R.remaining reader.old reader.new W.contents W.waiting writer.old writer.new }
-    ensures bad_setup { result ≡ Err (ToolFault.Convert Fault.BadSetup) ↔ IsBadAt (start_at setup initial) }
+    ensures bad_setup { result ≡ Err (ToolFault.Convert Fault.BadSetup) ↔ IsBadWith (start_with setup initial) }
     ensures widest { reader.new.widest ≤ max reader.old.widest longest_frame }
 {
     match convert_stream_with(alloc, setup, initial, reader, writer) {

@@ -38,7 +38,7 @@ pub use Rattle.rtcm_convert.specs.Made.{AreMadeToLimit, IsMade, IsMadeEmpty, IsM
 pub use Rattle.rtcm_convert.specs.Outcomes.{AreFew, IsFew, capped, capped_tally, outcome, outcomes, outcomes_after, report_of, report_with, sum_of_counts, tallies_added, tally_of, tally_of_one}
 pub use Rattle.rtcm_convert.specs.Pieces.{StopsInPieces}
 pub use Rattle.rtcm_convert.specs.Readable.{AreSound, HasValue, IsReadable}
-pub use Rattle.rtcm_convert.specs.SetupValues.{IsBadAt, IsBadStart, Start, setup_value, setup_value_at, start_at, start_value, start_zero}
+pub use Rattle.rtcm_convert.specs.SetupValues.{IsBadWith, IsBadStart, Start, setup_value, setup_value_with, start_with, start_value, start_zero}
 pub use Rattle.rtcm_convert.specs.Steps.{BreaksInFrame, BreaksInRest, EndsFile, TakesFrame}
 pub use Rattle.rtcm_convert.specs.Stream.{AppendsDecided, AppendsPrefixOfDecided, AppendsPrefixOfRest, BreaksAtEndOf, BreaksFiling, Drained, EndsBytes, Files, HasDrained, HasDrainedSome, IsEnded}
 pub use Rattle.rtcm_convert.specs.declared.fault.Fault.{Fault}

@@ -14,7 +14,7 @@ ghost use Rattle.rtcm_convert.specs.Moves.{Moves};
 ghost use Rattle.rtcm_convert.specs.Outcomes.{report_with};
 ghost use Rattle.rtcm_convert.specs.Faults.{FailsWithReader, FailsWithWriter, IsSentAfter, IsUntouched, IsSetupFault};
 ghost use Rattle.rtcm_convert.specs.Faults.{IsFeedFault, IsFinishFault, IsPiecesFault, IsRunFault};
-ghost use Rattle.rtcm_convert.specs.SetupValues.{setup_value, setup_value_at, start_at, IsBad, IsBadAt};
+ghost use Rattle.rtcm_convert.specs.SetupValues.{setup_value, setup_value_with, start_with, IsBad, IsBadWith};
 ghost use Rattle.rtcm_convert.specs.Converted.{SetupValue};
 ghost use Rattle.rtcm_convert.specs.Conversion.{kept_of, KeepsNow, HasConverted, HasFinished, IsGoing, GoesOnBy};
 ghost use Rattle.rtcm_convert.specs.Conversion.{TakesPiece, CutsAtLimit, WritesPrefixOfAdded, StopsAtEnd, IsLeft};
@@ -91,9 +91,9 @@ impl Converter {
         setup: Setup,
         initial: StationValues,
     ) -> Result<Converter, Fault>
-        ensures history { IfOk result (λ c. HasConverted c (setup_value_at setup initial) []) }
+        ensures history { IfOk result (λ c. HasConverted c (setup_value_with setup initial) []) }
         ensures fresh { IfOk result (λ c. (c.scan.limit ≡ setup.limit) × (c.scan.taken ≡ 0)) }
-        ensures bad { result ≡ Err Fault.BadSetup ↔ IsBadAt (start_at setup initial) }
+        ensures bad { result ≡ Err Fault.BadSetup ↔ IsBadWith (start_with setup initial) }
         ensures fits { IfOk result (λ c. AreStationValues initial) }
         ensures only { IfErr result IsSetupFault }
     {

@@ -5,7 +5,7 @@ ghost use Rattle.rtcm_bits.specs.Device.{AppendsPrefix, FailsWith};
 ghost use Rattle.rtcm_msg.specs.Viewed.{viewed_message};
 ghost use Rattle.obs_epoch.specs.Heard.{heard};
 ghost use Rattle.rtcm_convert.specs.Faults.{FailsToWrite, IsSetupFault};
-ghost use Rattle.rtcm_convert.specs.SetupValues.{setup_value_at, IsBadStart};
+ghost use Rattle.rtcm_convert.specs.SetupValues.{setup_value_with, IsBadStart};
 ghost use Rattle.rtcm_convert.specs.Filed.{HasFiledFrames, opening_of, added_by, HasCountedClosed};
 ghost use Rattle.rtcm_convert.specs.Steps.{IsCloseFirst, IsFinalKind, WritesFirst, TakesMessage, IsTakenAgain};
 ghost use Rattle.rtcm_convert.specs.Steps.{IsKindOf, BreaksInMessage, TakesNext, IsKindOfNext, BreaksInNext};
@@ -43,7 +43,7 @@ impl FileWriter {
         setup: Setup,
         initial: StationValues,
     ) -> Result<FileWriter, Fault>
-        ensures history { IfOk result (λ file_writer. HasFiledFrames file_writer (setup_value_at setup initial) []) }
+        ensures history { IfOk result (λ file_writer. HasFiledFrames file_writer (setup_value_with setup initial) []) }
         ensures going { IfOk result (λ file_writer. file_writer.gatherer.has_ended ≡ false) }
         ensures bad { result ≡ Err Fault.BadSetup ↔ IsBadStart setup }
         ensures only { IfErr result IsSetupFault }

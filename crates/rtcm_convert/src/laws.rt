@@ -5,7 +5,7 @@ ghost use Rattle.std.specs.Prelude.{ℕ, ◌<◌, List};
 ghost use Rattle.rtcm_scan.specs.Frames.{frames_of};
 ghost use Rattle.rtcm_scan.specs.Decided.{decided_frames};
 ghost use Rattle.rtcm_convert.specs.Converted.{so_far, file, epochs_in};
-ghost use Rattle.rtcm_convert.specs.SetupValues.{setup_value_at};
+ghost use Rattle.rtcm_convert.specs.SetupValues.{setup_value_with};
 ghost use Rattle.gnss_obs.specs.Values.{no_values};
 ghost use Rattle.gnss_obs.specs.GatheredEpochs.{AreStationValues};
 ghost use Rattle.gnss_obs.specs.declared.cell.StationValues.{StationValues};
@@ -66,12 +66,12 @@ pub fn readable()
 /// file value, which [`read_file`](rinex_file::read_file) reads as that value.
 pub fn read_back(setup: &Setup)
     ensures file { (v : StationValues) → AreStationValues v → (b : List ℕ)
-        → IsReadable (file (setup_value_at setup.now v) (frames_of b)) }
+        → IsReadable (file (setup_value_with setup.now v) (frames_of b)) }
     ensures some { (v : StationValues) → AreStationValues v → (b : List ℕ)
-        → 0 < epochs_in (setup_value_at setup.now v) (frames_of b)
-        → HasValue (file (setup_value_at setup.now v) (frames_of b)) }
+        → 0 < epochs_in (setup_value_with setup.now v) (frames_of b)
+        → HasValue (file (setup_value_with setup.now v) (frames_of b)) }
     ensures so_far { (v : StationValues) → AreStationValues v → (b : List ℕ)
-        → IsReadable (so_far (setup_value_at setup.now v) (decided_frames b)) }
+        → IsReadable (so_far (setup_value_with setup.now v) (decided_frames b)) }
     ensures zero { AreStationValues no_values }
 {
     readable();

@@ -5,7 +5,7 @@ ghost use Rattle.rtcm_convert.specs.Faults.{FailsWithDevices, FailsWithWriter, I
 ghost use Rattle.rtcm_convert.specs.Broken.{BrokeInPieces, joined_pieces};
 ghost use Rattle.rtcm_convert.specs.Made.{IsMadeWith, IsMadeEmpty, IsMadeToLimit, AreMadeToLimit, IsMadeSoFar};
 ghost use Rattle.rtcm_convert.specs.Made.{IsMadeInPart};
-ghost use Rattle.rtcm_convert.specs.SetupValues.{setup_value, start_at, start_zero, IsBad, IsBadAt};
+ghost use Rattle.rtcm_convert.specs.SetupValues.{setup_value, start_with, start_zero, IsBad, IsBadWith};
 
 use crate::converter::Converter;
 use crate::fault::Fault;
@@ -82,27 +82,27 @@ pub fn convert_stream_with<R: Read, W: Deliver>(
     // the text of a file value; and that is its report.
     ensures made { IfOk result (λ report.
         IfSome (R.remaining reader.old.inner)
-        (IsMadeWith (start_at setup initial) report (W.contents writer.old.inner) (W.contents writer.new.inner))) }
+        (IsMadeWith (start_with setup initial) report (W.contents writer.old.inner) (W.contents writer.new.inner))) }
     // The file has no epoch, and is empty.
     ensures no_epoch { IsErrOf result Fault.NoEpoch
         → IfSome (R.remaining reader.old.inner)
-        (IsMadeEmpty (start_at setup initial) (W.contents writer.old.inner) (W.contents writer.new.inner)) }
+        (IsMadeEmpty (start_with setup initial) (W.contents writer.old.inner) (W.contents writer.new.inner)) }
     // The stream is longer than the limit; the bytes up to it were accepted, and the file of the
     // epochs that they close was written.
     ensures long { IsErrOf result Fault.TooLong
         → Moves R.remaining reader.old reader.new W.contents writer.old writer.new
-        (IsMadeToLimit (start_at setup initial)) }
+        (IsMadeToLimit (start_with setup initial)) }
     // The file of the epochs that the bytes read close was written.
     ensures read { IsErrOf result Fault.Read → Moves R.remaining reader.old reader.new W.contents writer.old writer.new
-        (IsMadeSoFar (start_at setup initial)) }
+        (IsMadeSoFar (start_with setup initial)) }
     // The writer failed at one of the pieces read, or when all was read.
     ensures write { IsErrOf result Fault.Write
         → Moves R.remaining reader.old reader.new W.contents writer.old writer.new
-        (IsMadeInPart (start_at setup initial)) }
+        (IsMadeInPart (start_with setup initial)) }
     // Nothing waits in the writer, unless it failed.
     ensures sent { IsSentAfter result (W.waiting writer.old.inner) (W.waiting writer.new.inner) }
     ensures devices { FailsWithDevices result reader.old reader.new writer.old writer.new }
-    ensures bad_setup { result ≡ Err Fault.BadSetup ↔ IsBadAt (start_at setup initial) }
+    ensures bad_setup { result ≡ Err Fault.BadSetup ↔ IsBadWith (start_with setup initial) }
     ensures untouched { IfErr result (λ fault. IsSetupFault fault
         → IsUntouched reader.old reader.new writer.old writer.new) }
     ensures only { (result ≢ Err Fault.Failed) × (result ≢ Err Fault.Finished) }

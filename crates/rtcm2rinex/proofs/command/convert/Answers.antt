@@ -1,6 +1,6 @@
 use Rattle.rtcm2rinex.proofs.CommandLemmas.{Devices}
 use Rattle.rtcm2rinex.proofs.ConvertLemmas.{setup_refused, values_refused, week_refused}
-use Rattle.rtcm2rinex.proofs.Names.{◌≡◌, ◌∙◌, inr, refl, subst, sym, ℕ, List, Result, Ok, Err, start_at, BadSetup, Report, EndsConverting, PrintsLine, options_of, ToolFault, passed}
+use Rattle.rtcm2rinex.proofs.Names.{◌≡◌, ◌∙◌, inr, refl, subst, sym, ℕ, List, Result, Ok, Err, start_with, BadSetup, Report, EndsConverting, PrintsLine, options_of, ToolFault, passed}
 use Rattle.rtcm2rinex.specs.declared.fault.ToolFault.TheVariants as faults
 use Rattle.rtcm2rinex.proofs.command.convert.Goals as goal
 
@@ -34,7 +34,7 @@ returns-in_err-setup g c =
 pub returns-in-Ok : goal.returns-in-Ok
 returns-in-Ok g c =
     let end = c.in-Ok.ensures in
-    let x = start_at c.in_ok-setup.setup c.in_ok-initial.initial in (
+    let x = start_with c.in_ok-setup.setup c.in_ok-initial.initial in (
       end.ends.0,
       (
         x,
@@ -49,4 +49,4 @@ returns-in-Ok g c =
 pub returns-in-Err : goal.returns-in-Err
 returns-in-Err g c =
     let end = c.in-Err.ensures.ends in
-    (end.0, (inr (start_at c.in_ok-setup.setup c.in_ok-initial.initial, (c.in_ok-setup.ensures, sym c.values_of.ensures ∙ c.in_ok-initial.was), end.1), refl {a = c.args.faults.now}))
+    (end.0, (inr (start_with c.in_ok-setup.setup c.in_ok-initial.initial, (c.in_ok-setup.ensures, sym c.values_of.ensures ∙ c.in_ok-initial.was), end.1), refl {a = c.args.faults.now}))

@@ -1,12 +1,12 @@
 use Rattle.rtcm_convert.proofs.FaultLemmas.{run_known, never, not_of_setup, not_err, setup_only, setup_sent, setup_reader, setup_writer}
 use Rattle.rtcm_convert.proofs.PartLemmas.{same_fault}
 use Rattle.rtcm_convert.proofs.WholeLemmas.{BeganNew, run_made, run_empty, run_read, run_long, run_write}
-use Rattle.rtcm_convert.proofs.Names.{refl, LeftBy, BadSetup, Read, TooLong, Write, NoEpoch, Failed, Finished, start_at}
+use Rattle.rtcm_convert.proofs.Names.{refl, LeftBy, BadSetup, Read, TooLong, Write, NoEpoch, Failed, Finished, start_with}
 use Rattle.rtcm_convert.proofs.whole.convert_stream_with.Goals as goal
 
 pub returns-in-Ok : goal.returns-in-Ok
 returns-in-Ok g c =
-    let x = start_at c.args.setup c.args.initial in
+    let x = start_with c.args.setup c.args.initial in
     let v = c.in-Ok.converter in
     let h = c.in-Ok.ensures in
     let w = c.run-answer.new.self in

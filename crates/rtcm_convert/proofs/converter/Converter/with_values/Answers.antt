@@ -1,10 +1,10 @@
 -- A setup that is refused has the fault of its first bad value; a new converter has examined, counted and written
 -- nothing.
 use Rattle.rtcm_convert.proofs.converter.Converter.with_values.Goals.{then-setup-gt-MOST_BYTES-via-then-setup-gt-MOST_BYTES, then-setup-gt-MOST_BYTES-via-else-setup-gt-MOST_BYTES+then-not-fits_message}
-use Rattle.rtcm_convert.proofs.Names.{◌≡◌, ◌≤◌, ◌^◌, ℕ, List, [], subst, refl, sym, inl, inr, arith, true≢false, ap, Result, Ok, Err, AreStationValues, Start, start_at, start_value, IsBadAt, IsBadStart, decided_frames, frames_before, IsDrained, HasExamined, IsCountedExactly, Framed, frames_of, frames_from, known_frames, new_scan, FramerValue, HasFiledFrames, HasDrained}
+use Rattle.rtcm_convert.proofs.Names.{◌≡◌, ◌≤◌, ◌^◌, ℕ, List, [], subst, refl, sym, inl, inr, arith, true≢false, ap, Result, Ok, Err, AreStationValues, Start, start_with, start_value, IsBadWith, IsBadStart, decided_frames, frames_before, IsDrained, HasExamined, IsCountedExactly, Framed, frames_of, frames_from, known_frames, new_scan, FramerValue, HasFiledFrames, HasDrained}
 use Rattle.rtcm_convert.proofs.converter.Converter.with_values.Goals as goal
 
-bad_start : (x : Start) → AreStationValues x.initial → x.setup.limit ≤ 2 ^ 48 → IsBadAt x → IsBadStart x.setup
+bad_start : (x : Start) → AreStationValues x.initial → x.setup.limit ≤ 2 ^ 48 → IsBadWith x → IsBadStart x.setup
 bad_start x fits within (inl unfit) = absurd (unfit fits)
 bad_start x fits within (inr (inl over)) = absurd (omega (arith, within, over))
 bad_start x fits within (inr (inr start)) = start
@@ -43,7 +43,7 @@ returns-then-setup-gt-MOST_BYTES c = record {
 
 pub returns-in-Err-new : goal.returns-in-Err-new
 returns-in-Err-new c =
-    let x = start_at c.args.setup c.args.initial in
+    let x = start_with c.args.setup c.args.initial in
     record {
       history = tt;
       fresh = tt;
@@ -54,7 +54,7 @@ returns-in-Err-new c =
 
 pub returns-in-Err : goal.returns-in-Err
 returns-in-Err c =
-    let x = start_at c.args.setup c.args.initial in
+    let x = start_with c.args.setup c.args.initial in
     record {
       history = tt;
       fresh = tt;
@@ -68,7 +68,7 @@ returns-in-Err c =
 
 pub returns-in-Ok-new : goal.returns-in-Ok-new
 returns-in-Ok-new c =
-    let x = start_at c.args.setup c.args.initial in
+    let x = start_with c.args.setup c.args.initial in
     let n = c.in-Ok-new.ensures in
     let d = new_drained c.in-Ok-new.framer _ n.new n.counts n.drained n.counted in
     let fits = c.if-not-fits_message.ensures.0 refl in
