@@ -1,5 +1,5 @@
 -- Satellites.
-use Rattle.std.specs.Prelude.{ℕ, ◌≤◌, ◌&&◌, Bool, true, false, not, nat_le, if◌then◌else◌, Option, Some, None}
+use Rattle.std.specs.Prelude.{ℕ, ◌-◌, ◌^◌, ◌≤◌, ◌&&◌, Bool, true, false, not, nat_le, if◌then◌else◌, Option, Some, None}
 use Rattle.gnss_obs.specs.declared.system.System.{System}
 use Rattle.gnss_obs.specs.declared.system.System.TheVariants.{Gps, Galileo}
 
@@ -22,6 +22,10 @@ satellites Galileo = galileo_satellites
 -- the largest number of satellites of a system
 abbrev pub most_satellites : ℕ
 most_satellites = galileo_satellites
+
+-- the satellites of a system as a set, in which the most significant of 64 bits is ID 1
+abbrev pub satellite_set : System → ℕ
+satellite_set system = 2 ^ 64 - 2 ^ (64 - satellites system)
 
 -- the satellites of a system are numbered from 1
 abbrev pub IsSatellite : Satellite → Type 0

@@ -1,11 +1,10 @@
 //! Signals of a system, found by signal ID, by RINEX code or by index.
 ghost use Rattle.std.specs.Prelude.{◌≡◌, ◌<◌, ◌≤◌};
-ghost use Rattle.gnss_obs.specs.Signals.{SignalAt, IsSignal, table, signal_at, signal_of_id, signal_of_code, code_of};
+ghost use Rattle.gnss_obs.specs.Signals.{SignalAt, IsSignal, signal_at, signal_of_id, signal_of_code, code_of};
 ghost use Rattle.gnss_obs.specs.Signals.{hertz_of};
-ghost use Rattle.gnss_obs.specs.SignalRows.{rows};
 
 use crate::System;
-use crate::tables::{GALILEO_ROWS, GALILEO_SIGNALS, GPS_ROWS, GPS_SIGNALS, ListedSignal, NO_ROW};
+use crate::tables::NO_ROW;
 use std::marker::Model;
 
 /// A signal of a system: a row of the table of its signals.
@@ -35,33 +34,18 @@ impl Default for Signal {
     }
 }
 
-/// Returns the table of a system.
-fn listed(system: System) -> &'static [ListedSignal]
-    ensures { result.now ≡ table system }
-{
-    match system {
-        System::Gps => &GPS_SIGNALS,
-        System::Galileo => &GALILEO_SIGNALS,
-    }
-}
-
-/// Returns, for each signal ID of a system, its row in the table.
-fn rows(system: System) -> &'static [u8]
-    ensures { result.now ≡ rows system }
-{
-    match system {
-        System::Gps => &GPS_ROWS,
-        System::Galileo => &GALILEO_ROWS,
-    }
-}
-
 impl Signal {
     /// Returns the signal with this signal ID, the position in the signal mask DF395 of RTCM
     /// 10403.3 counted from 1, or `None` if the system has none.
     pub fn from_id(system: System, id: u8) -> Option<Signal>
         ensures { result ≡ signal_of_id system id }
     {
-        let index = rows(system).get(id as usize).copied().unwrap_or(NO_ROW);
+        let index = system
+            .row()
+            .rows_by_id
+            .get(id as usize)
+            .copied()
+            .unwrap_or(NO_ROW);
         if index == NO_ROW {
             None
         } else {
@@ -73,7 +57,7 @@ impl Signal {
     pub fn from_code(system: System, code: &str) -> Option<Signal>
         ensures { result ≡ signal_of_code system code.now }
     {
-        let entries = listed(system);
+        let entries = system.row().signals;
         let wanted = code.as_bytes();
         for index in 0..entries.len() {
             if entries[index].1.as_slice() == wanted {
@@ -102,7 +86,7 @@ impl Signal {
     pub fn code(self) -> [u8; 2]
         ensures { result ≡ code_of self }
     {
-        listed(self.system)[self.index as usize].1
+        self.system.row().signals[self.index as usize].1
     }
 
     /// Returns the carrier frequency, in hertz: at most 1,575,420,000.
@@ -111,7 +95,7 @@ impl Signal {
         ensures positive { 0 < result }
         ensures bound { result ≤ 1575420000 }
     {
-        listed(self.system)[self.index as usize].2
+        self.system.row().signals[self.index as usize].2
     }
 
     /// Returns the system of the signal.

@@ -1,13 +1,44 @@
 //! The satellite systems GPS and Galileo.
 ghost use Rattle.std.specs.Prelude.{◌≡◌, ◌≤◌, length};
 
-use crate::tables::{GALILEO_SIGNAL_COUNT, GPS_SIGNAL_COUNT};
+use crate::tables::{GALILEO_ROWS, GALILEO_SIGNALS, GPS_ROWS, GPS_SIGNALS, ListedSignal};
 
 /// Number of GPS satellites.
 pub const GPS_SATELLITES: u8 = 32;
 
 /// Number of Galileo satellites.
 pub const GALILEO_SATELLITES: u8 = 36;
+
+/// What differs between the systems in RINEX 3.05 and RTCM 10403.3.
+#[derive(Clone, Copy)]
+pub(crate) struct SystemRow {
+    /// The letter in RINEX, in ASCII.
+    letter: u8,
+    /// The number of satellites.
+    satellites: u8,
+    /// The satellites as a satellite mask, DF394, whose most significant bit is ID 1.
+    satellite_mask: u64,
+    /// The signals, by rising signal ID.
+    pub(crate) signals: &'static [ListedSignal],
+    /// For each signal ID from 0 to 32, its row in `signals`, or `NO_ROW`.
+    pub(crate) rows_by_id: &'static [u8],
+}
+
+const GPS: SystemRow = SystemRow {
+    letter: b'G',
+    satellites: GPS_SATELLITES,
+    satellite_mask: 0xFFFF_FFFF_0000_0000,
+    signals: &GPS_SIGNALS,
+    rows_by_id: &GPS_ROWS,
+};
+
+const GALILEO: SystemRow = SystemRow {
+    letter: b'E',
+    satellites: GALILEO_SATELLITES,
+    satellite_mask: 0xFFFF_FFFF_F000_0000,
+    signals: &GALILEO_SIGNALS,
+    rows_by_id: &GALILEO_ROWS,
+};
 
 /// A satellite system.
 #[derive(Clone, Copy, PartialEq, Eq, Hash)]
@@ -19,17 +50,31 @@ pub enum System {
 }
 
 impl System {
-    ghost use Rattle.gnss_obs.specs.Satellites.{satellites, most_satellites, letter};
+    ghost use Rattle.gnss_obs.specs.Satellites.{satellites, most_satellites, satellite_set, letter};
     ghost use Rattle.gnss_obs.specs.Signals.{table, signal_count, most_signals};
+    ghost use Rattle.gnss_obs.specs.SignalRows.{rows};
+
+    // Returns the row of the system.
+    #[inline(always)]
+    pub(crate) fn row(self) -> SystemRow
+        ensures letter { result.letter ≡ letter self }
+        ensures mask { result.satellite_mask ≡ satellite_set self }
+        ensures signals { result.signals.now ≡ table self }
+        ensures count { length result.signals.now ≡ signal_count self }
+        ensures bound { length result.signals.now ≤ most_signals }
+        ensures rows { result.rows_by_id.now ≡ rows self }
+    {
+        match self {
+            System::Gps => GPS,
+            System::Galileo => GALILEO,
+        }
+    }
 
     /// Returns the letter of the system in RINEX, in ASCII.
     pub fn letter(self) -> u8
         ensures { result ≡ letter self }
     {
-        match self {
-            System::Gps => b'G',
-            System::Galileo => b'E',
-        }
+        self.row().letter
     }
 
     /// Returns the number of satellites of the system, which are numbered from 1.
@@ -37,10 +82,19 @@ impl System {
         ensures value { result ≡ satellites self }
         ensures bound { result ≤ most_satellites }
     {
+        // A match of its own: through `row`, `convert` executes 3 % more instructions.
         match self {
-            System::Gps => GPS_SATELLITES,
-            System::Galileo => GALILEO_SATELLITES,
+            System::Gps => GPS.satellites,
+            System::Galileo => GALILEO.satellites,
         }
+    }
+
+    /// Returns the satellites of the system as a satellite mask, DF394 of RTCM 10403.3, whose most
+    /// significant bit is ID 1.
+    pub fn satellite_mask(self) -> u64
+        ensures { result ≡ satellite_set self }
+    {
+        self.row().satellite_mask
     }
 
     /// Returns the number of signals of the system, whose indices count from 0.
@@ -49,9 +103,6 @@ impl System {
         ensures count { result ≡ signal_count self }
         ensures bound { result ≤ most_signals }
     {
-        match self {
-            System::Gps => GPS_SIGNAL_COUNT,
-            System::Galileo => GALILEO_SIGNAL_COUNT,
-        }
+        self.row().signals.len()
     }
 }

@@ -7,7 +7,7 @@ pub use Rattle.gnss_obs.specs.PlanOrder.{AreInPlanOrder}
 pub use Rattle.gnss_obs.specs.LockTimes.{LockTime}
 pub use Rattle.gnss_obs.specs.Names.{AreInOrder, Closed, EpochValue, IsAdded, IsHeld, IsSignal, PendingValue, PlanValue, Satellite, SignalAt, SortKey, SortKeysRise, cell_sort_key, cells_after, cells_of, epoch_with, heard_cell, hertz_of, id_of, insert_by, is_before, is_held, nearest_doppler, nearest_phase, nearest_pseudorange, nearest_strength, outcome_by, place_in, planned_of, signal_of_id, sorted_cells, sorted_epoch, table, weeks}
 pub use Rattle.gnss_obs.specs.Order.{sort_key_of, sorted}
-pub use Rattle.gnss_obs.specs.Satellites.{is_system, satellite_of_id}
+pub use Rattle.gnss_obs.specs.Satellites.{is_system, satellite_of_id, satellite_set}
 pub use Rattle.gnss_obs.specs.Values.{HasTwelveDigits, most_cells, no_values}
 pub use Rattle.gnss_obs.specs.declared.arrivals.Added.{Added}
 pub use Rattle.gnss_obs.specs.declared.cell.Cell.{Cell}
@@ -27,7 +27,7 @@ pub use Rattle.obs_epoch.specs.Held.{CellOutcome, Crowded, Kept, Repeated, Skipp
 pub use Rattle.obs_epoch.specs.Kinds.{is_close_first, is_kept, kind_after, kind_of, with_counts}
 pub use Rattle.obs_epoch.specs.Loss.{has_lost, is_locked, last_of, latest_in, lli_of, lli_with, lock_of, locked_at, previous, times}
 pub use Rattle.obs_epoch.specs.Reach.{IsHeard, IsHeardCell}
-pub use Rattle.obs_epoch.specs.SignalCounts.{AreSignalCounts, CountsEntries, SignalCountsValue, brings_value, count_of, counted, counted_more, counted_more_in, is_of_signal, satellite_set, signal_counts, signal_in, up_by, valued}
+pub use Rattle.obs_epoch.specs.SignalCounts.{AreSignalCounts, CountsEntries, SignalCountsValue, brings_value, count_of, counted, counted_more, counted_more_in, is_of_signal, signal_counts, signal_in, up_by, valued}
 pub use Rattle.obs_epoch.specs.Step.{ended_where, is_first_at, is_late_at, kind_by, step_by}
 pub use Rattle.obs_epoch.specs.Times.{Timed, ahead, from_first, greatest_time, is_at, is_closed, is_late, is_past, max_known, taken_at, time_of, timed, timed_after}
 pub use Rattle.obs_epoch.specs.declared.locks.KnownLock.{KnownLock}

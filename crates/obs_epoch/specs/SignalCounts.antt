@@ -68,11 +68,6 @@ counted_more_in Galileo i n c = record c { galileo = up_by n c.galileo i }
 abbrev pub counted_more : SignalAt → ℕ → SignalCountsValue → SignalCountsValue
 counted_more g n c = counted_more_in g.system g.index n c
 
--- The satellites of a system as a set, in which the most significant of 64 bits is ID 1.
-abbrev pub satellite_set : System → ℕ
-satellite_set Gps = 18446744069414584320
-satellite_set Galileo = 18446744073441116160
-
 -- ---- all cells so far
 
 -- The counts are those of these cells.

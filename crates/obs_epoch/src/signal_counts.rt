@@ -2,7 +2,7 @@
 ghost use Rattle.std.specs.Prelude.{◌≡◌, ◌<◌, ◌≤◌, [], length};
 ghost use Rattle.gnss_obs.specs.Signals.{table};
 ghost use Rattle.obs_epoch.specs.Heard.{heard};
-ghost use Rattle.obs_epoch.specs.SignalCounts.{counted, has_any, counted_more, satellite_set, CountsEntries};
+ghost use Rattle.obs_epoch.specs.SignalCounts.{counted, has_any, counted_more, CountsEntries};
 ghost use Rattle.obs_epoch.specs.SignalCounts.{CountsMessage, AreSignalCounts};
 ghost use Rattle.rtcm_msg.specs.Entries.{entries};
 ghost use Rattle.rtcm_msg.specs.Msm.{most_pairs};
@@ -82,7 +82,7 @@ impl SignalCounts {
         ensures counts { CountsEntries self.old self.new system (entries (views.formed view.now)) }
         ensures few { length (entries (views.formed view.now)) ≤ most_pairs }
     {
-        let mut counts = view.value_counts(satellites_of(system));
+        let mut counts = view.value_counts(system.satellite_mask());
         while let Some((id, count)) = counts.next() {
             if let Some(signal) = Signal::from_id(system, id) {
                 self.add(signal, count as u64);
@@ -99,15 +99,5 @@ impl SignalCounts {
             System::Gps => self.gps[place] = self.gps[place].saturating_add(count),
             System::Galileo => self.galileo[place] = self.galileo[place].saturating_add(count),
         }
-    }
-}
-
-// Returns the set of the satellites of a system, in which the most significant bit is ID 1.
-fn satellites_of(system: System) -> u64
-    ensures { result ≡ satellite_set system }
-{
-    match system {
-        System::Gps => 0xFFFF_FFFF_0000_0000,
-        System::Galileo => 0xFFFF_FFFF_F000_0000,
     }
 }

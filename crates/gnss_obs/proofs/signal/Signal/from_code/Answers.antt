@@ -12,20 +12,20 @@ at_row code rows i b less is = rw (drop-cons rows i (record { 0 = 0; 1 = []; 2 =
 
 pub loop-index-init : goal.loop-index-init
 loop-index-init c =
-    sym (position_from-zero (λ e. bytes_eq e.1 c.as_bytes-wanted.result.now) c.listed-entries.result.now) ∙ ap (position (λ e. bytes_eq e.1 c.as_bytes-wanted.result.now)) c.listed-entries.ensures
+    sym (position_from-zero (λ e. bytes_eq e.1 c.as_bytes-wanted.result.now) c.row.result.signals.now) ∙ ap (position (λ e. bytes_eq e.1 c.as_bytes-wanted.result.now)) c.row.ensures.signals
 
 pub loop-index-preserved : goal.loop-index-preserved
 loop-index-preserved c =
-    sym (at_row c.as_bytes-wanted.result.now c.listed-entries.result.now c.loop-index.index false c.loop-index-test.true (cc)) ∙ c.loop-index.invariant
+    sym (at_row c.as_bytes-wanted.result.now c.row.result.signals.now c.loop-index.index false c.loop-index-test.true (cc)) ∙ c.loop-index.invariant
 
 pub returns-then-eq : goal.returns-then-eq
 returns-then-eq c =
-    let at = sym c.loop-index.invariant ∙ at_row c.as_bytes-wanted.result.now c.listed-entries.result.now c.loop-index.index true c.loop-index-test.true (cc) in
-    let less : c.loop-index.index < length (table c.args.system) = subst (λ (l : List ListedSignal). c.loop-index.index < length l) c.listed-entries.ensures c.loop-index-test.true in
+    let at = sym c.loop-index.invariant ∙ at_row c.as_bytes-wanted.result.now c.row.result.signals.now c.loop-index.index true c.loop-index-test.true (cc) in
+    let less : c.loop-index.index < length (table c.args.system) = subst (λ (l : List ListedSignal). c.loop-index.index < length l) c.row.ensures.signals c.loop-index-test.true in
     let listed : nat_lt c.loop-index.index (length (table c.args.system)) ≡ true = grind (arith, less) in
     rw (c.from_index.ensures, listed, ← c.as_bytes-wanted.ensures.value, at) refl
 
 pub returns : goal.returns
 returns c =
-    let none = ap (position_from (λ e. bytes_eq e.1 c.as_bytes-wanted.result.now) c.loop-index.index) (sym (drop_all c.loop-index.index c.listed-entries.result.now c.loop-index-test.false)) ∙ c.loop-index.invariant in
+    let none = ap (position_from (λ e. bytes_eq e.1 c.as_bytes-wanted.result.now) c.loop-index.index) (sym (drop_all c.loop-index.index c.row.result.signals.now c.loop-index-test.false)) ∙ c.loop-index.invariant in
     ap (option_map (λ i. record { system = c.args.system; index = i })) none ∙ ap (signal_of_code c.args.system) c.as_bytes-wanted.ensures.value
