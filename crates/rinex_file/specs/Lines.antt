@@ -3,8 +3,7 @@ use Rattle.std.specs.Prelude.{ℕ, ℤ, pos, ◌+◌, ◌*◌, ◌==◌, List, [
 use Rattle.std.specs.Prelude.{if◌then◌else◌, Option, Some, None}
 use Rattle.std.specs.Option.{option_map_or}
 use Rattle.gnss_obs.specs.Observables.{strength_digit}
-use Rattle.gnss_obs.specs.declared.system.System.{System}
-use Rattle.gnss_obs.specs.declared.system.System.TheVariants.{Gps, Galileo}
+pub use Rattle.gnss_obs.specs.Satellites.{letter as letter_of}
 use Rattle.gnss_obs.specs.declared.civil.Civil.{Civil}
 use Rattle.rinex_file.specs.Numbers.{joined, right, fixed, padded}
 use Rattle.rinex_file.specs.Blanks.{trimmed}
@@ -44,11 +43,6 @@ unfoldable pub signal_text : SignalValues → List ℕ
 signal_text e =
     field e.c 32 (strength_byte e.s)
     ++ (field e.l (lli_byte e.lli) (strength_byte e.s) ++ (field e.d 32 32 ++ field e.s 32 32))
-
--- the letter of a system
-abbrev pub letter_of : System → ℕ
-letter_of Gps = 71
-letter_of Galileo = 69
 
 -- letter and number of a satellite, and the columns of its signals
 abbrev pub row_text : ℕ → Row → List ℕ

@@ -15,7 +15,6 @@ use crate::header::rows::{HeaderRow, ROW_COUNT, row_at};
 use crate::header::texts::HeaderTexts;
 use crate::header::types::{type_rows, types_with};
 use crate::write::line::Line;
-use crate::write::satellite::letter_of;
 use gnss_obs::{GpsTime, Plan, StationValues, System};
 use std::marker::Model;
 
@@ -81,7 +80,7 @@ fn line_of(head: &Head, row: HeaderRow) -> Line
         }
         HeaderRow::StrengthUnit => labelled(UNIT, STRENGTH_UNIT),
         HeaderRow::First => first_line(head.first),
-        HeaderRow::Shift(system) => labelled(&[letter_of(system)], SHIFT),
+        HeaderRow::Shift(system) => labelled(&[system.letter()], SHIFT),
         HeaderRow::End => labelled(b"", END),
     }
 }

@@ -10,7 +10,6 @@ ghost use Rattle.rinex_file.specs.Limits.{most_line};
 
 use crate::header::lines::labelled;
 use crate::write::line::{Line, put, put_whole};
-use crate::write::satellite::letter_of;
 use gnss_obs::{Signal, System};
 
 /// Largest number of types in a line.
@@ -83,7 +82,7 @@ pub(crate) fn types_with(system: System, count: usize, signals: &[Signal], row: 
         (codes "SYS / # / OBS TYPES") }
 {
     let mut content = Line::new();
-    put_front(&mut content, letter_of(system), 4 * count, row);
+    put_front(&mut content, system.letter(), 4 * count, row);
     put_types(&mut content, system, signals, row);
     labelled(content.as_slice(), b"SYS / # / OBS TYPES")
 }

@@ -18,7 +18,6 @@ use crate::read::header_lines::{
     is_header_line, read_delta, read_position, read_texts, read_version,
 };
 use crate::read::types::TypesSoFar;
-use crate::write::satellite::letter_of;
 use gnss_obs::{GpsTime, StationValues, System};
 use std::alloc::Global;
 use std::marker::Model;
@@ -179,7 +178,7 @@ impl HeadSoFar {
                 Some(())
             }
             HeaderRow::Shift(system) => {
-                is_header_line(line, &[letter_of(system)], SHIFT).then_some(())
+                is_header_line(line, &[system.letter()], SHIFT).then_some(())
             }
             HeaderRow::Types(_, _) | HeaderRow::End => None,
         }

@@ -15,7 +15,7 @@ ghost use Rattle.rinex_file.specs.Limits.{signal_columns, most_signals};
 use crate::read::fields::{field_in, is_blank_at};
 use crate::values::{SatelliteRow, SignalValues};
 use crate::write::line::{MOST_SIGNALS, SIGNAL_COLUMNS};
-use crate::write::satellite::{letter_of, strength_column};
+use crate::write::satellite::strength_column;
 use arrayvec::ArrayVec;
 use gnss_obs::System;
 
@@ -186,7 +186,7 @@ fn read_of(line: &[u8], system: System, signals: usize, seen: &mut SatelliteRow)
     let Some(id) = two_digits_in(text[1], text[2]) else {
         return false;
     };
-    if text[0] != letter_of(system) || id == 0 || id > system.satellites() {
+    if text[0] != system.letter() || id == 0 || id > system.satellites() {
         return false;
     }
     seen.system = system;

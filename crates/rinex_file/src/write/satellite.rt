@@ -148,23 +148,13 @@ pub(crate) fn trimmed_len(text: &[u8]) -> usize
     end
 }
 
-/// Returns the letter of a system: `G` or `E`.
-pub(crate) fn letter_of(system: System) -> u8
-    ensures { result ≡ letter_of system }
-{
-    match system {
-        System::Gps => b'G',
-        System::Galileo => b'E',
-    }
-}
-
 /// Writes the letter and number of a satellite into the first columns of a row.
 #[inline(always)]
 fn begin_columns(row: &mut [u8; MOST_LINE], system: System, id: u8)
     requires { id < 100 }
     ensures { take 3 row.new ≡ letter_of system ∷ padded 2 id }
 {
-    row[0] = letter_of(system);
+    row[0] = system.letter();
     row[1] = b'0' + id / 10;
     row[2] = b'0' + id % 10;
 }

@@ -61,5 +61,5 @@ pub returns-in-Shift : goal.returns-in-Shift
 unfolding row_line
 returns-in-Shift c =
     let h = c.args.head.now in
-    c.labelled-in-Shift.ensures ∙ ap (λ b. header_line (b ∷ []) (codes "SYS / PHASE SHIFT")) c.letter_of.ensures
+    c.labelled-in-Shift.ensures ∙ ap (λ b. header_line (b ∷ []) (codes "SYS / PHASE SHIFT")) c.letter.ensures
     ∙ ap (row_line h.texts.now h.plan.now h.values (civil_of h.first)) (sym c.in-Shift.is)

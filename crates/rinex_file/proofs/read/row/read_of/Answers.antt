@@ -3,7 +3,7 @@
 use Rattle.rinex_file.proofs.Judged.{refused}
 use Rattle.rinex_file.proofs.Rows.Cut.{cut_line_is, filled_over}
 use Rattle.rinex_file.proofs.OneReading.{IsTextOf, line_ended, line_once, text_of_line}
-use Rattle.rinex_file.proofs.read.row.read_of.Goals.{After-saturating_sub, then-text-lt3-via-then-text-lt3, then-text-lt3-via-else-text-lt3+then-text-signals, then-text-letter_of-via-then-text-letter_of, then-text-letter_of-via-else-text-letter_of+then-id-eq0, then-text-letter_of-via-else-text-letter_of+else-id-eq0+then-id-satellites}
+use Rattle.rinex_file.proofs.read.row.read_of.Goals.{After-saturating_sub, then-text-lt3-via-then-text-lt3, then-text-lt3-via-else-text-lt3+then-text-signals, then-text-letter-via-then-text-letter, then-text-letter-via-else-text-letter+then-id-eq0, then-text-letter-via-else-text-letter+else-id-eq0+then-id-satellites}
 use Rattle.rinex_file.proofs.Names.{arith, ◌≡◌, ◌∙◌, sym, ap, refl, subst, ℕ, ◌*◌, ◌≤◌, List, Bool, true, false, ◌-◌, ◌++◌, append-nil, length, take, drop, replicate, ◌/◌, flat_map, SignalValues, drop_all, take_all, take_rest, System, satellites, SatelliteRow, letter_of, satellite_line, signal_text, filled_to, ReadsExactly, some_if, AreEntries, IsRowOf}
 use Rattle.rinex_file.proofs.read.row.read_of.Goals as goal
 
@@ -28,15 +28,15 @@ returns-in_default c = λ v is e.
     let p = parts ((goal.at.returns-in_default c).After-saturating_sub) v is e in
     c.in_default.ensures v.row.satellite p.small p.number
 
-pub returns-then-text-letter_of : goal.returns-then-text-letter_of
-returns-then-text-letter_of c = λ v is e.
-    let p = parts ((goal.at.returns-then-text-letter_of c).After-saturating_sub) v is e in
+pub returns-then-text-letter : goal.returns-then-text-letter
+returns-then-text-letter c = λ v is e.
+    let p = parts ((goal.at.returns-then-text-letter c).After-saturating_sub) v is e in
     let id = c.in-Some.ensures.2 v.row.satellite p.small p.number in
     let (least, most) = is.1.satellite in
-    elim c.then-text-letter_of.branch [
-      | then-text-letter_of-via-then-text-letter_of w ↦ w.if-text-letter_of.true (p.letter ∙ ap letter_of is.0 ∙ sym c.letter_of.ensures)
-      | then-text-letter_of-via-else-text-letter_of+then-id-eq0 w ↦ let none = w.if-id-eq0.true in omega (arith, none, id, least)
-      | then-text-letter_of-via-else-text-letter_of+else-id-eq0+then-id-satellites w ↦
+    elim c.then-text-letter.branch [
+      | then-text-letter-via-then-text-letter w ↦ w.if-text-letter.true (p.letter ∙ ap letter_of is.0 ∙ sym c.letter.ensures)
+      | then-text-letter-via-else-text-letter+then-id-eq0 w ↦ let none = w.if-id-eq0.true in omega (arith, none, id, least)
+      | then-text-letter-via-else-text-letter+else-id-eq0+then-id-satellites w ↦
           let more = w.if-id-satellites.true in
           let count = w.satellites.ensures.value in
           omega (arith, more, count, id, most)
@@ -79,7 +79,7 @@ returns c =
     let read = subst (λ (k : ℕ). ReadsExactly (AreEntries k) (flat_map signal_text) (filled_to (64 * k) (take (length text - 3) (drop 3 text))) (some_if all new)) count c.put_each_in.ensures.read in
     row_read all c.args.signals _ refl (omega arith, omega arith)
     (λ is. cut_line_is _ {text = text} n (c.is_ended.ensures.0 c.if-not-is_ended.false) (ap (λ (k : ℕ). take k line) c.saturating_sub.ensures) (omega arith)
-    (c.if-text-letter_of.false ∙ c.letter_of.ensures) (sym c.in-Some.ensures.1) (ap (filled_to n) (sym rest) ∙ is))
+    (c.if-text-letter.false ∙ c.letter.ensures) (sym c.in-Some.ensures.1) (ap (filled_to n) (sym rest) ∙ is))
     (λ v is e. ap (filled_to n) rest ∙ (parts ((goal.at.returns c).After-saturating_sub) v is e).columns)
     (subst (λ (es : List SignalValues). ReadsExactly (AreEntries c.args.signals) (flat_map signal_text) (filled_to n (take (length text - 3) (drop 3 text))) (some_if all es))
     (sym (lent c.resize.new.values.items new (c.put_each_in.ensures.size ∙ ap length c.as_mut_slice.ensures.value))) read)

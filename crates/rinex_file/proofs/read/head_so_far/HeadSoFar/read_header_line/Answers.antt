@@ -54,7 +54,7 @@ pub returns-in-Shift : goal.returns-in-Shift
 returns-in-Shift c =
     let same = c.is_header_line-in-Shift in
     of_row c.args.line.now c.args.self.now _ (is_taken _ _ c.then_some-in-Shift.ensures) c.in-Shift.is refl
-    (line_shift c.in-Shift.system c.letter_of.result c.args.self.now c.args.line.now same.result c.letter_of.ensures same.ensures)
+    (line_shift c.in-Shift.system c.letter.result c.args.self.now c.args.line.now same.result c.letter.ensures same.ensures)
 
 pub returns-in-Types : goal.returns-in-Types
 returns-in-Types c = elim c.in-Types.is [
