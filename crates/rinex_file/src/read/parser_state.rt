@@ -46,10 +46,7 @@ pub(crate) struct ParserState {
 fn rank_of(seen: &SatelliteRow) -> u64
     ensures { result ≡ rank_of seen.now }
 {
-    match seen.system {
-        System::Gps => seen.satellite as u64,
-        System::Galileo => 100 + seen.satellite as u64,
-    }
+    100 * seen.system as u64 + seen.satellite as u64
 }
 
 impl ParserState {
