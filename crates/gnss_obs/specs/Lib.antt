@@ -7,6 +7,7 @@ pub mod Observables
 pub mod LockTimes
 pub mod Weeks
 pub mod Dates
+pub mod SystemValues
 pub mod Values
 pub mod Plans
 pub mod SignalLists

@@ -5,6 +5,7 @@ ghost use Rattle.gnss_obs.specs.Arriving.{IsAdded, AddsCell, sorted_cells, sorte
 ghost use Rattle.gnss_obs.specs.PlanOrder.{AreInOrder, AreInPlanOrder};
 ghost use Rattle.gnss_obs.specs.Values.{AreHeld, cells_of, planned_of};
 
+use crate::by_system::BySystem;
 use crate::cell::{Cell, StationValues};
 use crate::cells::Cells;
 use crate::epoch::{Epoch, MOST_CELLS};
@@ -33,8 +34,7 @@ pub enum Added {
 pub struct Arrivals {
     time: GpsTime,
     // On the heap, so that a move is short.
-    gps: Box<Cells>,
-    galileo: Box<Cells>,
+    cells: BySystem<Box<Cells>>,
     values: StationValues,
 }
 
@@ -46,11 +46,11 @@ impl Model for Arrivals {
 
     ghost view = { λ e.
         record {
-          epoch = record { time = e.time; gps = e.gps.value; galileo = e.galileo.value };
+          epoch = record { time = e.time; gps = e.cells.gps.value; galileo = e.cells.galileo.value };
           values = e.values;
         } };
 
-    ghost invariant = { λ e. AreHeld Gps e.gps.value × AreHeld Galileo e.galileo.value };
+    ghost invariant = { λ e. AreHeld Gps e.cells.gps.value × AreHeld Galileo e.cells.galileo.value };
 }
 
 impl Arrivals {
@@ -65,8 +65,10 @@ impl Arrivals {
     {
         Ok(Arrivals {
             time: GpsTime::within(0),
-            gps: no_cells(alloc)?,
-            galileo: no_cells(alloc)?,
+            cells: BySystem {
+                gps: no_cells(alloc)?,
+                galileo: no_cells(alloc)?,
+            },
             values,
         })
     }
@@ -77,8 +79,8 @@ impl Arrivals {
             ≡ record { epoch = record { time = time; gps = []; galileo = [] }; values = self.old.values } }
     {
         self.time = time;
-        self.gps.clear();
-        self.galileo.clear();
+        self.cells.gps.clear();
+        self.cells.galileo.clear();
     }
 
     /// Sets the station values.
@@ -93,10 +95,7 @@ impl Arrivals {
         ensures cells { result.now ≡ cells_of system self.now.epoch }
         ensures held { AreHeld system result.now }
     {
-        match system {
-            System::Gps => self.gps.as_slice(),
-            System::Galileo => self.galileo.as_slice(),
-        }
+        self.cells.of(system).as_slice()
     }
 
     /// Returns the station values.
@@ -121,9 +120,10 @@ impl Arrivals {
         ensures epoch { IsAdded self.old.epoch x result self.new.epoch }
         ensures values { self.new.values ≡ self.old.values }
     {
+        // A match of its own: through `of_mut`, `convert` executes 3 % more instructions.
         match x.satellite.system() {
-            System::Gps => add(&mut self.gps, x),
-            System::Galileo => add(&mut self.galileo, x),
+            System::Gps => add(&mut self.cells.gps, x),
+            System::Galileo => add(&mut self.cells.galileo, x),
         }
     }
 
@@ -132,8 +132,8 @@ impl Arrivals {
         requires { AreInOrder plan.now (sorted_epoch plan.now self.old.epoch) }
         ensures { self.new ≡ record { epoch = sorted_epoch plan.now self.old.epoch; values = self.old.values } }
     {
-        sort(&mut self.gps, plan, System::Gps, spare);
-        sort(&mut self.galileo, plan, System::Galileo, spare);
+        sort(&mut self.cells.gps, plan, System::Gps, spare);
+        sort(&mut self.cells.galileo, plan, System::Galileo, spare);
     }
 }
 

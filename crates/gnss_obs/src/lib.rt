@@ -6,6 +6,7 @@
 #![tactic(auto)]
 
 mod arrivals;
+mod by_system;
 mod cell;
 mod cells;
 mod civil;
@@ -27,6 +28,7 @@ mod thousandths;
 mod time;
 
 pub use arrivals::Added;
+pub use by_system::BySystem;
 pub use cell::{Cell, StationValues};
 pub use civil::Civil;
 pub use epoch::{Epoch, MOST_CELLS, end_of, is_written};

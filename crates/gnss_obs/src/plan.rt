@@ -9,6 +9,7 @@ ghost use Rattle.gnss_obs.specs.SignalLists.{indices, IsOf, ArePlanned, HasEvery
 ghost use Rattle.gnss_obs.specs.SignalLists.{TakesCode, RefusesCode, IsDefined, DoneOr, IsUnfitAfter, IsUnfit};
 ghost use Rattle.gnss_obs.specs.SignalLists.{IsMade, IsPlanResult};
 
+use crate::by_system::BySystem;
 use crate::fault::PlanFault;
 use crate::signal::Signal;
 use crate::signals::Signals;
@@ -20,8 +21,7 @@ use std::marker::Model;
 /// in all.
 #[derive(Drop)]
 pub struct Plan {
-    gps: Signals,
-    galileo: Signals,
+    signals: BySystem<Signals>,
 }
 
 impl Model for Plan {
@@ -31,9 +31,9 @@ impl Model for Plan {
 
     ghost Value = { PlanValue };
 
-    ghost view = { λ p. record { gps = indices p.gps; galileo = indices p.galileo } };
+    ghost view = { λ p. record { gps = indices p.signals.gps; galileo = indices p.signals.galileo } };
 
-    ghost invariant = { λ p. IsOf Gps p.gps × IsOf Galileo p.galileo };
+    ghost invariant = { λ p. IsOf Gps p.signals.gps × IsOf Galileo p.signals.galileo };
 }
 
 impl Plan {
@@ -88,7 +88,10 @@ impl Plan {
         let fault = match added {
             Err(fault) => fault,
             Ok(()) if gps.is_empty() && galileo.is_empty() => PlanFault::NothingPlanned,
-            Ok(()) => return Ok(Plan { gps, galileo }),
+            Ok(()) => {
+                let signals = BySystem { gps, galileo };
+                return Ok(Plan { signals });
+            }
         };
         // A call drops a list with less proof than the end of its scope.
         drop(gps);
@@ -149,10 +152,7 @@ impl Plan {
         ensures indices { indices result.now ≡ planned_of system self.now }
         ensures system { IsOf system result.now }
     {
-        match system {
-            System::Gps => &self.gps,
-            System::Galileo => &self.galileo,
-        }
+        self.signals.of(system)
     }
 }
 

@@ -97,11 +97,11 @@ impl FileBuilder {
         ensures { IfSome result (λ f. f ≡ file_at parser_state (history_of self)) }
     {
         let head = parser_state.head;
-        let gps = head.gps.signals.as_slice();
-        let plan = Plan::from_signals(self.alloc, gps, head.galileo.signals.as_slice());
+        let gps = head.types.gps.signals.as_slice();
+        let galileo = head.types.galileo.signals.as_slice();
+        let plan = Plan::from_signals(self.alloc, gps, galileo);
         drop(parser_state.seen);
-        drop(head.gps);
-        drop(head.galileo);
+        drop(head.types);
         drop(self.rows);
         let Ok(plan) = plan else {
             drop(self.epochs);

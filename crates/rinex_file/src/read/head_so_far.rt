@@ -18,7 +18,7 @@ use crate::read::header_lines::{
     is_header_line, read_delta, read_position, read_texts, read_version,
 };
 use crate::read::types::TypesSoFar;
-use gnss_obs::{GpsTime, StationValues, System};
+use gnss_obs::{BySystem, GpsTime, StationValues, System};
 use std::alloc::Global;
 use std::marker::Model;
 
@@ -26,8 +26,7 @@ use std::marker::Model;
 #[derive(Drop)]
 pub(crate) struct HeadSoFar {
     pub(crate) texts: HeaderTexts,
-    pub(crate) gps: TypesSoFar,
-    pub(crate) galileo: TypesSoFar,
+    pub(crate) types: BySystem<TypesSoFar>,
     pub(crate) values: StationValues,
     pub(crate) first: GpsTime,
 }
@@ -46,17 +45,17 @@ impl Model for HeadSoFar {
       shown =
           record {
             texts = h.texts;
-            plan = record { gps = indices h.gps.signals; galileo = indices h.galileo.signals };
+            plan = record { gps = indices h.types.gps.signals; galileo = indices h.types.galileo.signals };
             values = h.values;
             first = h.first;
           };
-      gps = record { planned = h.gps.is_planned; count = h.gps.count };
-      galileo = record { planned = h.galileo.is_planned; count = h.galileo.count };
+      gps = record { planned = h.types.gps.is_planned; count = h.types.gps.count };
+      galileo = record { planned = h.types.galileo.is_planned; count = h.types.galileo.count };
     } };
 
-    ghost invariant = { λ h. IsOf Gps h.gps.signals × IsOf Galileo h.galileo.signals
+    ghost invariant = { λ h. IsOf Gps h.types.gps.signals × IsOf Galileo h.types.galileo.signals
         × AreValues h.values × IsTime h.first
-        × (h.gps.count ≤ length (table Gps)) × (h.galileo.count ≤ length (table Galileo)) };
+        × (h.types.gps.count ≤ length (table Gps)) × (h.types.galileo.count ≤ length (table Galileo)) };
 }
 
 impl HeadSoFar {
@@ -66,8 +65,10 @@ impl HeadSoFar {
     {
         let head = HeadSoFar {
             texts: HeaderTexts::blank(),
-            gps: TypesSoFar::new(alloc),
-            galileo: TypesSoFar::new(alloc),
+            types: BySystem {
+                gps: TypesSoFar::new(alloc),
+                galileo: TypesSoFar::new(alloc),
+            },
             values: StationValues::zero(),
             first: GpsTime::new(0).unwrap(),
         };
@@ -82,10 +83,7 @@ impl HeadSoFar {
         ensures signals { indices result.now.signals ≡ planned_of system self.now.shown.plan }
         ensures few { result.now.count ≤ length (table system) }
     {
-        match system {
-            System::Gps => &self.gps,
-            System::Galileo => &self.galileo,
-        }
+        self.types.of(system)
     }
 
     /// Returns the number of signals of a system that were read.
@@ -100,7 +98,7 @@ impl HeadSoFar {
         ensures { AreValid self.now }
     {
         // The prover knows the invariant of a type once a field is read.
-        let _ = &self.gps;
+        let _ = &self.types;
         self.texts.are_texts();
     }
 
@@ -143,10 +141,7 @@ impl HeadSoFar {
         ensures bad { result ≡ Err Refusal.Bad → RefusesTypes system row line.now (announced self.old system).count
             (planned_of system self.old.shown.plan) }
     {
-        match system {
-            System::Gps => self.gps.take(System::Gps, row, line),
-            System::Galileo => self.galileo.take(System::Galileo, row, line),
-        }
+        self.types.of_mut(system).take(system, row, line)
     }
 
     /// Reads the line of a row, or returns None if no header has it.
@@ -157,8 +152,8 @@ impl HeadSoFar {
         match row {
             HeaderRow::Version => {
                 let (gps, galileo) = read_version(line)?;
-                self.gps.is_planned = gps;
-                self.galileo.is_planned = galileo;
+                self.types.gps.is_planned = gps;
+                self.types.galileo.is_planned = galileo;
                 Some(())
             }
             HeaderRow::Texts(row) => read_texts(&mut self.texts, row, line).then_some(()),
