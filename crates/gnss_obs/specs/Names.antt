@@ -22,7 +22,7 @@ pub use Rattle.gnss_obs.specs.declared.arrivals.Added.{Added}
 pub use Rattle.gnss_obs.specs.declared.cell.Cell.{Cell}
 pub use Rattle.gnss_obs.specs.declared.civil.Civil.{Civil}
 pub use Rattle.gnss_obs.specs.declared.fault.PlanFault.{PlanFault}
-pub use Rattle.gnss_obs.specs.declared.fault.PlanFault.TheVariants.{BadStation, BadWeek, Memory, NothingPlanned, RepeatedCode, UnknownCode}
+pub use Rattle.gnss_obs.specs.declared.fault.PlanFault.TheVariants.{Memory, NothingPlanned, RepeatedCode, UnknownCode}
 pub use Rattle.gnss_obs.specs.declared.system.System.{System}
 pub use Rattle.gnss_obs.specs.declared.system.System.TheVariants.{Galileo, Gps}
 pub use Rattle.gnss_obs.specs.declared.tables.ListedSignal.{ListedSignal}

@@ -3,7 +3,7 @@ pub use Rattle.arrayvec.specs.ArrayVec.{array_vec_len}
 pub use Rattle.gnss_obs.proofs.Checked.{is_equal, is_less, passes_at}
 pub use Rattle.gnss_obs.proofs.GroupLemmas.{Above, Climb, Left, left_all, sorted_climbs}
 pub use Rattle.gnss_obs.proofs.PlanLemmas.{any_index, few_signals, indices-push, length_indices, none_of}
-pub use Rattle.gnss_obs.specs.Dates.{IsCivilOf, YearMonthDay, civil_of, civil_with, date_of, month_length, month_on, year_length, year_on}
+pub use Rattle.gnss_obs.specs.Dates.{IsCivilOf, civil_of}
 pub use Rattle.gnss_obs.specs.GatheredEpochs.{AreGathered, AreGatheredEpochs, AreStationValues, IsGathered, IsGatheredEpoch, TimesRise, same_place}
 pub use Rattle.gnss_obs.specs.Plans.{place_in}
 pub use Rattle.gnss_obs.specs.Satellites.{satellites}
@@ -29,7 +29,7 @@ pub use Rattle.rinex_file.specs.File.{change_lines, change_text, closed_text, ev
 pub use Rattle.rinex_file.specs.FileValues.{AreChanges, AreSatelliteRows, AreSignalValues, AreTexts, AreValues, FitsColumns, HaveRoom, IsChange, IsCoordinate, IsFileValue, IsFirstSame, IsFrom, IsPlan, IsRow, IsSatelliteRow, IsStamped, IsText, IsTime, changed_by, has_some_value, most_rows, of_system, rank_of, time_stamped, values_following}
 pub use Rattle.rinex_file.specs.Gathered.{AreSignals, HasSatellite}
 unfoldable pub use Rattle.rinex_file.specs.Header.{header_line, header_lines, row_line}
-pub use Rattle.rinex_file.specs.Header.{all_rows, codes_of, delta_line, end_line, file_system, first_line, first_types, most_type_rows, has_line, height_line, lengths, lines_from, position_line, row_at, row_count, row_lines, row_place, shift_line, strength_line, text_columns, texts_line, type_columns, type_front, type_line, type_of, type_rows, types_of, version_line}
+pub use Rattle.rinex_file.specs.Header.{all_rows, codes_of, delta_line, end_line, file_system, first_line, first_types, most_type_rows, has_line, height_line, lengths, lines_from, position_line, row_at, row_count, row_lines, row_place, strength_line, text_columns, texts_line, type_columns, type_front, type_line, type_of, type_rows, types_of, version_line}
 pub use Rattle.rinex_file.specs.Limits.{most_line}
 unfoldable pub use Rattle.rinex_file.specs.Lines.{epoch_line, field, satellite_line, signal_text}
 pub use Rattle.rinex_file.specs.Lines.{epoch_fields, letter_of, lli_byte, row_text, strength_byte}
@@ -63,7 +63,7 @@ pub use Rattle.rinex_file.specs.declared.read.expected.Expected.TheVariants.{Epo
 pub use Rattle.rinex_file.specs.declared.read.expected.Refusal.{Refusal}
 pub use Rattle.rinex_file.specs.declared.read.expected.Refusal.TheVariants.{Bad, Memory}
 pub use Rattle.rinex_file.specs.declared.read.fault.ReadFault.{ReadFault}
-pub use Rattle.rinex_file.specs.declared.read.fault.ReadFault.TheVariants.{BadEpoch, BadEvent, BadHeader, BadSatellite, CutShort, Read, TooLong}
+pub use Rattle.rinex_file.specs.declared.read.fault.ReadFault.TheVariants.{CutShort, Read, TooLong}
 pub use Rattle.rinex_file.specs.declared.read.fields.TheConstants.{LIMITS}
 pub use Rattle.rinex_file.specs.declared.read.file.FileBuilder.{FileBuilder}
 pub use Rattle.rinex_file.specs.declared.read.file.FileSummary.{FileSummary}
@@ -73,12 +73,12 @@ pub use Rattle.rinex_file.specs.declared.read.parser_state.ParserState.{ParserSt
 pub use Rattle.rinex_file.specs.declared.read.reading.Reading.{Reading}
 pub use Rattle.rinex_file.specs.declared.read.times.EpochTimes.{EpochTimes}
 pub use Rattle.rinex_file.specs.declared.write.digits.TheConstants.{PAIRS}
-pub use Rattle.rtcm_bits.specs.Device.{AppendsPrefix, Device, FailsWith, HasFailed}
+pub use Rattle.rtcm_bits.specs.Device.{AppendsPrefix, HasFailed}
 pub use Rattle.std.proofs.Common.{Fits, List, None, OnErr, Option, [], add-one, ap, append-nil, append_assoc, ap₂, arith, decimal, drop, eqb, filter, get_or, inl, inr, length, length-append, lit<, lit≤, negsuc, of_z, refl, replicate, rules, slice_index_or, subst, suc, sym, take, to_z, unsigned_abs, w64, w8, zero, zero-add, ℕ, ℤ, ◌%◌, ◌*◌, ◌++◌, ◌+◌, ◌/◌, ◌<◌, ◌^◌, ◌∙◌, ◌∷◌, ◌≡◌, ◌≤ℤ◌}
 pub use Rattle.std.proofs.KnownBytes.{Appends-nil, Appends-trans, Consumes-nil, Consumes-trans}
-pub use Rattle.std.proofs.Math.Nat.{div-le_self, le-min, min-eq_left, min-eq_right, min-le_left, min-le_right, mod-le, mod-lt, one-le-pow, pow-le-pow_right, pow-suc}
+pub use Rattle.std.proofs.Math.Nat.{div-le_self, le-min, min-eq_left, min-eq_right, min-le_left, min-le_right, mod-le, mod-lt, pow-le-pow_right, pow-suc}
 pub use Rattle.std.proofs.Math.Seq.{drop-append-add, drop-cons, take-add, take-append-add, take-append_seam}
-pub use Rattle.std.proofs.lemmas.Bool.{agree_below_at, and_from, and_parts, and_right, cases_Bool, cases_lt, cond_both, eq-eqb, eqb-false, eqb-true, false_from_ne_true, le-leb, leb-true, lt-leb, lt-ltb, ltb-true, ne_eqb, or_parts, or_right}
+pub use Rattle.std.proofs.lemmas.Bool.{agree_below_at, and_from, and_parts, and_right, cases_Bool, cases_lt, cond_both, eq-eqb, eqb-false, eqb-true, false_from_ne_true, leb-true, lt-ltb, ltb-true, ne_eqb, or_parts, or_right}
 pub use Rattle.std.proofs.lemmas.Bool.Decides.{Decides-int_eq, nat_tests}
 pub use Rattle.std.proofs.lemmas.Cmp.{nat_eq_equiv}
 pub use Rattle.std.proofs.lemmas.Fmt.{decimal_by_steps, decimal_digit, decimal_step, first_decimal, length-decimal-le}
@@ -110,6 +110,6 @@ unfoldable pub use Rattle.std.specs.List.{IsDistinct}
 pub use Rattle.std.specs.List.{AllByRecursion, list_all, list_any, position_or_len, prefix_len, reduce}
 pub use Rattle.std.specs.List.Sorted.{IsStrictlyIncreasing}
 pub use Rattle.std.specs.Option.{ok_or, option_map_or, option_or}
-pub use Rattle.std.specs.Prelude.{All, Any, Bool, Err, IfErr, IfNone, IfOk, IfSome, IsTrue, Ok, OnOk, Result, Some, codes, cond, false, find, flat_map, if◌then◌else◌, is_some, leb, map, min, nat_eq, nat_le, nat_lt, neg_ℤ, not, option_copied, pos, position, set, slice_get, slice_index, slice_set, true, unwrap_or, ⊤, ◌&&◌, ◌-◌, ◌==◌, ◌||◌, ◌↔◌, ◌≢◌, ◌≤◌, ◌⊎◌}
+pub use Rattle.std.specs.Prelude.{All, Any, Bool, Err, IfErr, IfNone, IfOk, IfSome, IsTrue, Ok, OnOk, Result, Some, codes, cond, false, find, flat_map, if◌then◌else◌, is_some, leb, map, min, nat_eq, nat_le, nat_lt, neg_ℤ, not, option_copied, pos, position, set, slice_get, slice_index, slice_set, true, unwrap_or, ⊤, ◌&&◌, ◌-◌, ◌==◌, ◌||◌, ◌↔◌, ◌≢◌, ◌≤◌}
 pub use Rattle.std.specs.Result.{IsErrAnd, is_err, result_err}
 pub use Rattle.std.specs.Str.{IsAscii, IsUtf8}

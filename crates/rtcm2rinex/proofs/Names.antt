@@ -1,5 +1,4 @@
 -- The names that proofs cite, passed on from one place. Declares nothing.
-pub use Rattle.clap.proofs.CutLemmas.{Lacks, after_first-at, before_first-at}
 unfoldable pub use Rattle.clap.proofs.OnLiterals.{clap_on_literals}
 pub use Rattle.clap.proofs.WalkLemmas.{first_value-rows, one_text-rows}
 pub use Rattle.clap.specs.Built.{AddsArg, AddsSubcommand}
@@ -7,8 +6,8 @@ pub use Rattle.clap.specs.Facts.{explicit_source}
 unfoldable pub use Rattle.clap.specs.Faults.{walk_fault}
 pub use Rattle.clap.specs.Faults.{check_fault, defaults_fault, entered_fault, fault_of, is_free_app, is_simple_and_free, level_fault, other_fault, settle_fault, step_fault, turn_fault, word_fault}
 pub use Rattle.clap.specs.Kinds.{FailsBy, HasKind, Kinds, check_kinds, or_else}
-pub use Rattle.clap.specs.Lexer.{is_digit, long_of, short_of, strip_byte}
-pub use Rattle.clap.specs.Matches.{ReadsOne, first_value, found_of, one_text, subcommand_name_of}
+pub use Rattle.clap.specs.Lexer.{long_of, short_of}
+pub use Rattle.clap.specs.Matches.{ReadsOne, first_value, found_of, one_text}
 pub use Rattle.clap.specs.Simple.{App, HasMatchesOf, Shape, app_of, app_of_fields, argument_words, built, entered, is_simple, label_of, names_of, new_app, on_top, rows_at, subcommand_of, subcommand_rows, subcommand_rows_of, with_rule, with_subcommand}
 pub use Rattle.clap.specs.Takes.{is_given}
 pub use Rattle.clap.specs.Values.{kind_of}
@@ -19,13 +18,13 @@ pub use Rattle.clap.specs.declared.builder.command.Command.{Command}
 pub use Rattle.clap.specs.declared.builder.command.Command.TheViews.{out-Command}
 pub use Rattle.clap.specs.declared.error.Error.{Error}
 pub use Rattle.clap.specs.declared.parser.matches.ArgMatches.{ArgMatches}
-pub use Rattle.clap.specs.declared.parser.matches.ArgMatches.TheViews.{out-ArgMatches, out-SubCommand}
+pub use Rattle.clap.specs.declared.parser.matches.ArgMatches.TheViews.{out-SubCommand}
 pub use Rattle.clap.specs.declared.parser.matches.Found.{Found}
 pub use Rattle.clap.specs.declared.parser.matches.SubCommand.{SubCommand}
 pub use Rattle.gnss_obs.specs.GatheredEpochs.{AreStationValues}
 pub use Rattle.gnss_obs.specs.Values.{no_values}
 pub use Rattle.gnss_obs.specs.declared.cell.StationValues.{StationValues}
-pub use Rattle.rtcm2rinex.specs.Asked.{EndsCheck, EndsOptionsAsked, PrintsOptionsAsked, RefusesDate, StopsOptionsAsked}
+pub use Rattle.rtcm2rinex.specs.Asked.{EndsCheck, EndsOptionsAsked, RefusesDate, StopsOptionsAsked}
 pub use Rattle.rtcm2rinex.specs.CommandLine.{FailsParsing, IsCommand, IsFoundIn, IsProgram, Makes, RefusesWords, SelectsCommand, command_set, more_of, option_set, program, start_of, with_commands, with_options}
 pub use Rattle.rtcm2rinex.specs.Commands.{AreRefused, AreRefusedBy, EndsCommand, EndsFound, HasCommand, HasCompleted, HasDone, HasPrinted, HasStopped, HasStoppedEarly, HasStoppedPrinting, StopsPrinting, fault_status, status_of}
 pub use Rattle.rtcm2rinex.specs.Converting.{EndsConversion, EndsConverting, StopsConversion, StopsConverting}
@@ -41,10 +40,8 @@ pub use Rattle.rtcm2rinex.specs.SetupOptions.{HasSetupFault, IsFirstFault, IsNea
 pub use Rattle.rtcm2rinex.specs.declared.commands.CommandRow.{CommandRow}
 pub use Rattle.rtcm2rinex.specs.declared.commands.OptionRow.{OptionRow}
 pub use Rattle.rtcm2rinex.specs.declared.commands.Tables.{Tables}
-pub use Rattle.rtcm2rinex.specs.declared.fault.DateOption.{DateOption}
 pub use Rattle.rtcm2rinex.specs.declared.fault.ToolFault.{ToolFault}
 pub use Rattle.rtcm2rinex.specs.declared.fault.ToolFault.TheVariants.{Convert}
-pub use Rattle.rtcm_bits.specs.Bits.{FitsInt}
 pub use Rattle.rtcm_bits.specs.Device.{Device}
 pub use Rattle.rtcm_convert.specs.Faults.{IsSentAfter, IsSetupFault, IsUntouched}
 pub use Rattle.rtcm_convert.specs.Made.{IsMadeEmpty, IsMadeInPart, IsMadeSoFar, IsMadeToLimit}
@@ -57,25 +54,18 @@ pub use Rattle.rtcm_inspect.proofs.LineLemmas.{add_count, add_text, add_word, en
 pub use Rattle.rtcm_inspect.proofs.PrintingLemmas.{passed}
 pub use Rattle.rtcm_inspect.specs.Fitting.{height_text, position_text}
 pub use Rattle.rtcm_inspect.specs.Lines.{with_words}
-pub use Rattle.rtcm_inspect.specs.Metres.{digit, four_digits, metres, size_text}
-pub use Rattle.rtcm_inspect.specs.OptionOutput.{EndsOptions, PrintsOptions, StopsOptions}
+pub use Rattle.rtcm_inspect.specs.OptionOutput.{EndsOptions}
 pub use Rattle.rtcm_inspect.specs.Printing.{PrintsLine}
 pub use Rattle.rtcm_inspect.specs.declared.fault.InspectFault.{InspectFault}
-pub use Rattle.rtcm_msg.specs.Station.{InRange}
-pub use Rattle.rtcm_msg.specs.declared.station.StationParts.{StationParts}
-pub use Rattle.std.proofs.lemmas.Bool.Decides.{nat_tests}
-pub use Rattle.std.proofs.lemmas.List.{length-take, map_more}
-pub use Rattle.std.proofs.lemmas.List.Folds.{list_all-append}
-pub use Rattle.std.proofs.lemmas.List.Sums.{AllPass-from_list_all, fold-append}
+pub use Rattle.std.proofs.lemmas.List.{map_more}
+pub use Rattle.std.proofs.lemmas.List.Sums.{fold-append}
 pub use Rattle.std.proofs.lemmas.Result.{IfErr-weaker, IfOk-weaker}
 pub use Rattle.std.proofs.lemmas.Slice.Eq.{bytes_eq-Decides}
-pub use Rattle.std.proofs.lemmas.Str.Parse.{IsNumeralModel, digits_value_short, not_in_digits, numerals_by_fold, parse_plain}
 pub use Rattle.std.specs.Borrow.{Bor}
 pub use Rattle.std.specs.Box.{box_value}
-pub use Rattle.std.specs.List.{after_first, before_first, list_all, list_any, position_or_len}
+pub use Rattle.std.specs.List.{list_any}
 pub use Rattle.std.specs.Option.{option_map_or}
-pub use Rattle.std.specs.Result.{result_ok}
-pub use Rattle.std.specs.Prelude.{Box, Err, MatchOption, if◌then◌else◌, nat_le, nat_lt, not, option_and_then, ⊤, ◌*◌, ◌<◌, ◌↔◌, ◌≡◌, ◌≢◌, ◌⊎◌}
+pub use Rattle.std.specs.Prelude.{Box, Err, if◌then◌else◌, not, ⊤, ◌<◌, ◌↔◌, ◌≡◌, ◌≢◌, ◌⊎◌}
 pub use Rattle.std.specs.Str.{bytes_eq}
 pub use Rattle.std.specs.Str.Parse.{ExplainsUnsignedError, HasUnsignedDigitsIfOk, ParsesUnsigned}
 pub use Rattle.std.proofs.Common.{Bool, IfErr, IfOk, IfSome, IsErrAnd, IsErrOf, List, MatchResult, None, Ok, Option, Result, Some, [], ap, ap₂, arith, codes, decimal, false, find, fold, get_or, inl, inr, is_some, length, map, option_map, refl, rules, subst, sym, take, true, unwrap_or, ℕ, ℤ, ◌&&◌, ◌++◌, ◌+◌, ◌^◌, ◌||◌, ◌∙◌, ◌∷◌}

@@ -19,10 +19,10 @@ pub use Rattle.std.proofs.Math.Nat.{add-mul-mod_self_left, mod-eq_of_lt, mod-lt,
 pub use Rattle.std.proofs.Math.Seq.{drop-append-add, drop-append_seam, drop-length, get_or-append_seam, set-append_seam, take-add, take-append-add, take-append_seam}
 pub use Rattle.std.proofs.lemmas.Bool.{agree_below_at, cases_eq, cases_lt, eqb-true, le-ltb, lt-ltb, true≢false}
 pub use Rattle.std.proofs.lemmas.Int.{ints, of_z-to_z, to_z-of_z}
-pub use Rattle.std.proofs.lemmas.List.{append-nil, append_assoc, drop-append-le, drop-drop, drop-replicate, drop-set-add, drop-set-lt, drop-take, drop_all, drop_more, get_or-append-add, get_or-append_right, get_or-drop, get_or-map, get_or-replicate, get_or-set_other, get_or-take, get_or_append_left, get_or_default, get_or_push, length-drop, length-replicate, length-set, length-take-le, places, replicate-append-replicate, set-append_left, take-append-drop, take-append-le, take-take, take_all, take_more, take_rest, with_items_is}
+pub use Rattle.std.proofs.lemmas.List.{append-nil, append_assoc, drop-append-le, drop-drop, drop-replicate, drop-set-add, drop-set-lt, drop-take, drop_all, drop_more, get_or-append-add, get_or-append_right, get_or-drop, get_or-map, get_or-replicate, get_or-set_other, get_or-take, get_or_append_left, get_or_default, get_or_push, length-drop, length-replicate, length-set, length-take-le, replicate-append-replicate, set-append_left, take-append-drop, take-append-le, take-take, take_all, take_more, take_rest, with_items_is}
 pub use Rattle.std.proofs.lemmas.Nat.{and_mask, div-add-mod', div-mul-add, field_of, one_shl, pow-add, pow_pos, shl-shr, shl_whole, shr-shr, xor_comm, xor_lt}
 pub use Rattle.std.proofs.lemmas.Nat.Bits.{bit_at-lt, bit_at_cat_high, bit_at_cat_low, bit_at_xor}
-pub use Rattle.std.proofs.lemmas.Simd.{pick_l-range_with_len, pick_l_whole}
+pub use Rattle.std.proofs.lemmas.Simd.{pick_l-range_with_len}
 pub use Rattle.std.specs.Int.{bit_at, from_be_bytes, w64}
 pub use Rattle.std.specs.Int.Bits.{xor_assoc, xor_zero_r}
 pub use Rattle.std.specs.Int.Signed.{shr_z}

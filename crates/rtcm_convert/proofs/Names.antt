@@ -25,7 +25,7 @@ unfoldable pub use Rattle.rtcm_bits.specs.Bits.{uint}
 pub use Rattle.rtcm_bits.specs.Device.{AppendsPrefix, Device, HasFailed}
 pub use Rattle.rtcm_bits.specs.FrameOf.{longest_frame}
 pub use Rattle.rtcm_bits.specs.Prefix.{IsPrefix}
-pub use Rattle.rtcm_convert.specs.Broken.{BrokeInPieces, FailedWriting, FailedWritingAtEnd, IsBetween, IsBetweenDecidedAndWhole, IsBroken, joined_pieces, of_first}
+pub use Rattle.rtcm_convert.specs.Broken.{BrokeInPieces, FailedWriting, FailedWritingAtEnd, IsBetween, IsBroken, joined_pieces}
 pub use Rattle.rtcm_convert.specs.Conversion.{Completed, CompletedEmpty, CompletesEmptyFile, CompletesFile, Conversion, CutsAtLimit, FailsAtEnd, FailsAtPiece, FailsFeeding, FailsFinishing, FinishesEmptyNow, FinishesNow, HasConverted, HasFinished, IsFit, IsGoing, IsPastLimit, KeepsNow, LeftBy, RanToFault, RanToLimit, StopsAtEnd, TakesFromReader, TakesPiece, WritesAdded, WritesPrefixOfAdded, kept_of, refusal}
 unfoldable pub use Rattle.rtcm_convert.specs.Converted.{text_of_epochs}
 pub use Rattle.rtcm_convert.specs.Converted.{SetupValue, epochs_in, file, heard_in, heard_of, messages_of, so_far, text_with, written_epochs}
@@ -38,9 +38,9 @@ pub use Rattle.rtcm_convert.specs.Made.{AreMadeToLimit, IsMade, IsMadeEmpty, IsM
 pub use Rattle.rtcm_convert.specs.Outcomes.{AreFew, IsFew, capped, capped_tally, outcome, outcomes, outcomes_after, report_of, report_with, sum_of_counts, tallies_added, tally_of, tally_of_one}
 pub use Rattle.rtcm_convert.specs.Pieces.{StopsInPieces}
 pub use Rattle.rtcm_convert.specs.Readable.{AreSound, HasValue, IsReadable}
-pub use Rattle.rtcm_convert.specs.SetupValues.{IsBadWith, IsBadStart, Start, setup_value, setup_value_with, start_with, start_value, start_zero}
+pub use Rattle.rtcm_convert.specs.SetupValues.{IsBadWith, IsBadStart, Start, setup_value_with, start_with, start_value, start_zero}
 pub use Rattle.rtcm_convert.specs.Steps.{BreaksInFrame, BreaksInRest, EndsFile, TakesFrame}
-pub use Rattle.rtcm_convert.specs.Stream.{AppendsDecided, AppendsPrefixOfDecided, AppendsPrefixOfRest, BreaksAtEndOf, BreaksFiling, Drained, EndsBytes, Files, HasDrained, HasDrainedSome, IsEnded}
+pub use Rattle.rtcm_convert.specs.Stream.{AppendsDecided, AppendsPrefixOfDecided, AppendsPrefixOfRest, BreaksAtEndOf, BreaksFiling, Drained, EndsBytes, Files, HasDrained, HasDrainedSome}
 pub use Rattle.rtcm_convert.specs.declared.fault.Fault.{Fault}
 pub use Rattle.rtcm_convert.specs.declared.fault.Fault.TheVariants.{BadSetup, Failed, Finished, Memory, NoEpoch, Read, TooLong, Write}
 pub use Rattle.rtcm_convert.specs.declared.file_writer.FileWriter.{FileWriter}

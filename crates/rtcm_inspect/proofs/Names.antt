@@ -21,7 +21,7 @@ pub use Rattle.rinex_file.specs.FileValues.{IsFileValue}
 pub use Rattle.rinex_file.specs.ParserState.{rows_in}
 pub use Rattle.rinex_file.specs.Value.{FileValue}
 pub use Rattle.rinex_file.specs.declared.read.fault.ReadFault.{ReadFault}
-pub use Rattle.rinex_file.specs.declared.read.fault.ReadFault.TheVariants.{BadEpoch, BadEvent, BadHeader, BadSatellite, CutShort, Memory, Read, TooLong}
+pub use Rattle.rinex_file.specs.declared.read.fault.ReadFault.TheVariants.{Memory, Read}
 pub use Rattle.rinex_file.specs.declared.read.file.FileSummary.{FileSummary}
 unfoldable pub use Rattle.rtcm_bits.specs.Bits.{bits_of}
 pub use Rattle.rtcm_bits.specs.Bits.{FitsInt, bit, filled, missing, number, uint}
@@ -51,7 +51,7 @@ pub use Rattle.rtcm_inspect.specs.ReadBack.{AreEncoded, AreKnown, AreReadAs, Rea
 unfoldable pub use Rattle.rtcm_inspect.specs.ShowLines.{fault_line, msm_line, show_line, station_line}
 pub use Rattle.rtcm_inspect.specs.ShowLines.{fault_words, height_words, read_line}
 pub use Rattle.rtcm_inspect.specs.SignalLaws.{SkipsOnly}
-pub use Rattle.rtcm_inspect.specs.SignalOutput.{EndsSignals, ReadsTooMuch, SignalText}
+pub use Rattle.rtcm_inspect.specs.SignalOutput.{EndsSignals, ReadsTooMuch}
 unfoldable pub use Rattle.rtcm_inspect.specs.Signals.{count_line}
 pub use Rattle.rtcm_inspect.specs.Signals.{code_list, codes_word, count_lines, had, had_below, lines_below, plan_had, signals_text, valued_in, valued_of}
 pub use Rattle.rtcm_inspect.specs.WeekLaws.{first_time}
@@ -107,7 +107,7 @@ pub use Rattle.std.specs.Str.{bytes_eq}
 pub use Rattle.std.proofs.Common.{All, Bool, Err, FitsSigned, IfSome, List, None, Ok, OnErr, OnOk, Option, Result, Some, [], ap, append-nil, append_assoc, ap₂, arith, count_ones, decimal, drop, false, filter, find, get_or, inl, inr, is_some, length, length-append, length-drop, length-take, lit≤, map, nat_eq, negsuc, not, of_z, pos, refl, replicate, rules, subst, suc, sym, take, take-append-drop, to_z, true, w64, zero, ℕ, ℤ, ◌&&◌, ◌*◌, ◌++◌, ◌+◌, ◌-◌, ◌/◌, ◌<◌, ◌==◌, ◌^◌, ◌||◌, ◌∙◌, ◌∷◌, ◌≡◌, ◌≤◌}
 pub use Rattle.gnss_obs.specs.declared.civil.Civil.{Civil}
 pub use Rattle.rinex_file.specs.Read.Fields.{digits_from, digits_in, next_digit}
-pub use Rattle.rtcm_inspect.specs.Dates.{IsHourOf, IsWeekOf, civil_in}
+pub use Rattle.rtcm_inspect.specs.Dates.{IsHourOf, civil_in}
 pub use Rattle.rtcm_inspect.specs.Lengths.{after_byte, coordinate_by, coordinate_of, cut, decimals_of, is_digit, length_below, length_by, length_of, number_of, position_of}
 pub use Rattle.std.proofs.lemmas.Str.Parse.{IsNumeralModel, digits_value_short, numerals_by_fold, parse_plain}
 pub use Rattle.std.proofs.lemmas.Str.Pattern.{starts_char, strip_prefix_char}

@@ -1,17 +1,17 @@
 -- The names that proofs cite, passed on from one place. Declares nothing.
-pub use Rattle.rtcm_bits.specs.Bits.{FitsInt, filled, missing, number, odd, raw, signed}
+pub use Rattle.rtcm_bits.specs.Bits.{FitsInt, filled, missing, number, odd}
 unfoldable pub use Rattle.rtcm_bits.specs.Bits.{bits_of, uint}
 pub use Rattle.rtcm_bits.specs.Cursors.{Cursor, advanced, unsigned_at}
-pub use Rattle.rtcm_msg.specs.Bounds.{IsCoordinate, IsMeasured, IsPoint}
+pub use Rattle.rtcm_msg.specs.Bounds.{IsMeasured}
 pub use Rattle.rtcm_msg.specs.Columns.{EachBelow}
 unfoldable pub use Rattle.rtcm_msg.specs.Columns.{column_at, columns_at}
-pub use Rattle.rtcm_msg.specs.Decoding.{is_any_msm, message_at, other_at, set_at, set_in, start, station_message_at}
+pub use Rattle.rtcm_msg.specs.Decoding.{is_any_msm, message_at, other_at, set_at, set_in, start}
 unfoldable pub use Rattle.rtcm_msg.specs.Decoding.{body_at, message_of}
 pub use Rattle.rtcm_msg.specs.Encoding.{IsFault, IsMessage, ReadsMessage, has_bad_time, has_too_many, is_other, is_read}
 pub use Rattle.rtcm_msg.specs.Encoding.{is_read_msm, layout, layout_of, message_bits, repeated, reserved_width, set_of}
 pub use Rattle.rtcm_msg.specs.Entries.{IsEntry, Rising, all_pairs, cell_pairs, entries, entry4, entry7, ids, pair}
 unfoldable pub use Rattle.rtcm_msg.specs.Entries.{chosen, up_from}
-pub use Rattle.rtcm_msg.specs.Fields.{GivesViewed, cursor_at, field_at, fields_width, reading, ◌>>=◌}
+pub use Rattle.rtcm_msg.specs.Fields.{cursor_at, field_at, fields_width, reading, ◌>>=◌}
 unfoldable pub use Rattle.rtcm_msg.specs.Fields.{field_bits, first_past, number_at}
 pub use Rattle.rtcm_msg.specs.Fractions.{range_joined, rate_joined, scaled, strength_of}
 pub use Rattle.rtcm_msg.specs.LastBits.{AreLast}
@@ -37,11 +37,10 @@ pub use Rattle.rtcm_msg.specs.Station.{parts_in, station_contents, station_field
 unfoldable pub use Rattle.rtcm_msg.specs.Station.{station_at}
 pub use Rattle.rtcm_msg.specs.ValueCounts.{AddsCounts, AreAtMost, AreCells, SignalCounts, entries_left, has_id}
 pub use Rattle.rtcm_msg.specs.ValueCounts.{has_listed_value, value_count}
-pub use Rattle.rtcm_msg.specs.Viewed.{Unread, entry_in, lock_field, viewed_message}
+pub use Rattle.rtcm_msg.specs.Viewed.{Unread, entry_in, lock_field}
 pub use Rattle.rtcm_msg.specs.Views.{AreDataOf, AreWithin, FormedMsm, cell_rows, cell_widths, formed, formed_at}
 pub use Rattle.rtcm_msg.specs.Views.{message_in, message_number, satellite_rows, satellite_widths}
 pub use Rattle.rtcm_msg.specs.declared.entry.Entry.{Entry}
-pub use Rattle.rtcm_msg.specs.declared.fault.Field.{Field}
 pub use Rattle.rtcm_msg.specs.declared.fault.MsgFault.{MsgFault}
 pub use Rattle.rtcm_msg.specs.declared.fault.MsgFault.TheVariants.{BadTime, Short, TooManyCells}
 pub use Rattle.rtcm_msg.specs.declared.header.MsmHeader.{MsmHeader}
@@ -54,4 +53,3 @@ pub use Rattle.rtcm_msg.specs.declared.station.StationParts.{StationParts}
 pub use Rattle.rtcm_msg.specs.declared.pairs.CellsLeft.{CellsLeft}
 pub use Rattle.rtcm_msg.specs.declared.view.Data.{Data}
 pub use Rattle.rtcm_msg.specs.declared.view.Form.{Form}
-pub use Rattle.rtcm_msg.specs.declared.view.View.{View}
