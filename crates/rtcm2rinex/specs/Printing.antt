@@ -7,5 +7,5 @@ use Rattle.rtcm2rinex.specs.declared.fault.ToolFault.{ToolFault}
 
 -- nothing was written after success, and the line of the fault at a fault
 abbrev pub PrintsFault : {A E : Type 0} → Result A ToolFault → (E → Option (List ℕ)) → (e e' : Device E) → Type 0
-PrintsFault (Ok x) told e e' = e' ≡ e
-PrintsFault (Err fault) told e e' = PrintsLine told e e' (error_line fault)
+PrintsFault (Ok x) printed e e' = e' ≡ e
+PrintsFault (Err fault) printed e e' = PrintsLine printed e e' (error_line fault)

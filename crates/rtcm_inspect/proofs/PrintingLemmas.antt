@@ -22,10 +22,10 @@ pub kept_front : (a b c : Option (List ℕ)) (text : List ℕ) → Appends a b t
 kept_front a b c text h k = ([], (text, sym (append-nil text), Appends-kept a b c text h k))
 
 -- a line that was written, in whole or in part
-pub line_printed : {E : Type 0} (r : Result ⊤ DeviceFailed) (told : E → Option (List ℕ)) (e e2 : Device E) (text : List ℕ) → OnOk r (Appends (told e.inner) (told e2.inner) text)
-    → OnErr r (AppendsPrefix (told e.inner) (told e2.inner) text) → FailsWith r e e2 → PrintsLine told e e2 text
-line_printed (Ok u) told e e2 text whole part device = inl (device.1, whole)
-line_printed (Err failed) told e e2 text whole part device = inr (device.0, part)
+pub line_printed : {E : Type 0} (r : Result ⊤ DeviceFailed) (printed : E → Option (List ℕ)) (e e2 : Device E) (text : List ℕ) → OnOk r (Appends (printed e.inner) (printed e2.inner) text)
+    → OnErr r (AppendsPrefix (printed e.inner) (printed e2.inner) text) → FailsWith r e e2 → PrintsLine printed e e2 text
+line_printed (Ok u) printed e e2 text whole part device = inl (device.1, whole)
+line_printed (Err failed) printed e e2 text whole part device = inr (device.0, part)
 
 kept_appends : (a b c : Option (List ℕ)) (text : List ℕ) → Keeps a b → Appends b c text → Appends a c text
 kept_appends a b c text k h = Appends-trans a b c [] text (Appends-kept a a b [] (Appends-nil a) k) h

@@ -25,5 +25,5 @@ EndsPrinting (Err fault) held waits w w' text = (fault ≡ Write) × PrintsPart 
 
 -- the line was written; or the writer failed once, and accepted a prefix of it
 abbrev pub PrintsLine : {E : Type 0} → (E → Option (List ℕ)) → (e e' : Device E) → List ℕ → Type 0
-PrintsLine told e e' text =
-    ((e'.failures ≡ e.failures) × Appends (told e.inner) (told e'.inner) text) ⊎ PrintsPart told e e' text
+PrintsLine printed e e' text =
+    ((e'.failures ≡ e.failures) × Appends (printed e.inner) (printed e'.inner) text) ⊎ PrintsPart printed e e' text
