@@ -5,7 +5,7 @@ use Rattle.std.specs.Ordering.{int_eq}
 use Rattle.std.specs.List.{AllByRecursion, zip}
 use Rattle.std.proofs.lemmas.Int.{ints, unsigned_abs-mul}
 use Rattle.std.proofs.lemmas.Nat.{mul-le}
-use Rattle.rtcm_msg.specs.Names.{FitsInt, Message, Station, Msm4, Msm7, Other, Pair, unpacked_fit, scaled, range_joined, rate_joined, strength_of, MsmValue, entry4, entry7, cell_pairs, entries, IsMeasured}
+use Rattle.rtcm_msg.specs.Names.{FitsInt, Message, Station, Msm4, Msm7, Other, Pair, unpacked_fit, scaled, invalid_range, range_joined, invalid_rough_rate, invalid_fine_rate, rate_joined, strength_of, MsmValue, entry4, entry7, cell_pairs, entries, IsMeasured}
 use Rattle.rtcm_msg.specs.declared.grid4.Satellite4.{Satellite4}
 use Rattle.rtcm_msg.specs.declared.grid4.Cell4.{Cell4}
 use Rattle.rtcm_msg.specs.declared.grid7.Satellite7.{Satellite7}
@@ -32,7 +32,7 @@ fine_within invalid k m z h room = by (int_eq z invalid) where
 
 joined_within : (whole fraction : ℕ) (fine : Option ℤ) → whole < 2 ^ 8 → fraction < 2 ^ 10 → IfSome fine Small → IfSome (range_joined whole fraction fine) Far
 joined_within whole fraction None w f s = tt
-joined_within whole fraction (Some fine) w f s = by (whole == 255) where
+joined_within whole fraction (Some fine) w f s = by (whole == invalid_range) where
   by : (b : Bool) → IfSome (if b then None else Some (pos (whole * 2 ^ 31 + fraction * 2 ^ 21) +ℤ fine)) Far
   by true = tt
   by false = omega (arith, ints, w, f, s)
@@ -41,7 +41,7 @@ pub rate_small : (rough fine : ℤ) → unsigned_abs rough ≤ 2 ^ 13 → unsign
 rate_small rough fine r f = omega (arith, ints, r, f)
 
 rate_within : (rough fine : ℤ) → unsigned_abs rough ≤ 2 ^ 13 → unsigned_abs fine ≤ 2 ^ 14 → IfSome (rate_joined rough fine) (λ v. unsigned_abs v ≤ 10 ^ 8)
-rate_within rough fine r f = by (int_eq rough (negsuc 8191)) (int_eq fine (negsuc 16383)) where
+rate_within rough fine r f = by (int_eq rough invalid_rough_rate) (int_eq fine invalid_fine_rate) where
   by : (a b : Bool) → IfSome (if a then None else (if b then None else Some ((rough *ℤ pos 10000) +ℤ fine))) (λ v. unsigned_abs v ≤ 10 ^ 8)
   by true b = tt
   by false true = tt
@@ -62,8 +62,8 @@ signed_within w m (negsuc n) h k = omega (arith, h, k)
 measured4 : (v : MsmValue) (x : Pair × ℕ) (s : Satellite4) (c : Cell4) → grid4.IsSatelliteData s → grid4.IsCellData c
     → IsMeasured (record { satellite = x.0.satellite; signal = x.0.signal; range = grid4.range_of s c; phase = grid4.phase_of s c; rate = grid4.rate_of s c; strength = grid4.strength_of c; lock = c.lock; half_cycle = c.half_cycle })
 measured4 v x s c a b = record {
-  range = joined_within s.whole s.fraction _ a.whole a.fraction (fine_within (negsuc 16383) 128 (2 ^ 14) c.range (signed_within 15 (2 ^ 14) c.range b.range (lit≤ tt)) (lit≤ tt));
-  phase = joined_within s.whole s.fraction _ a.whole a.fraction (fine_within (negsuc 2097151) 4 (2 ^ 21) c.phase (signed_within 22 (2 ^ 21) c.phase b.phase (lit≤ tt)) (lit≤ tt));
+  range = joined_within s.whole s.fraction _ a.whole a.fraction (fine_within grid4.invalid_range 128 (2 ^ 14) c.range (signed_within 15 (2 ^ 14) c.range b.range (lit≤ tt)) (lit≤ tt));
+  phase = joined_within s.whole s.fraction _ a.whole a.fraction (fine_within grid4.invalid_phase 4 (2 ^ 21) c.phase (signed_within 22 (2 ^ 21) c.phase b.phase (lit≤ tt)) (lit≤ tt));
   rate = tt;
   strength = strength_within c.strength 16 (omega arith) (let few = b.strength in omega (arith, few));
 }
@@ -71,8 +71,8 @@ measured4 v x s c a b = record {
 measured7 : (v : MsmValue) (x : Pair × ℕ) (s : Satellite7) (c : Cell7) → grid7.IsSatelliteData s → grid7.IsCellData c
     → IsMeasured (record { satellite = x.0.satellite; signal = x.0.signal; range = grid7.range_of s c; phase = grid7.phase_of s c; rate = grid7.rate_of s c; strength = grid7.strength_of c; lock = c.lock; half_cycle = c.half_cycle })
 measured7 v x s c a b = record {
-  range = joined_within s.whole s.fraction _ a.whole a.fraction (fine_within (negsuc 524287) 4 (2 ^ 19) c.range (signed_within 20 (2 ^ 19) c.range b.range (lit≤ tt)) (lit≤ tt));
-  phase = joined_within s.whole s.fraction _ a.whole a.fraction (fine_within (negsuc 8388607) 1 (2 ^ 23) c.phase (signed_within 24 (2 ^ 23) c.phase b.phase (lit≤ tt)) (lit≤ tt));
+  range = joined_within s.whole s.fraction _ a.whole a.fraction (fine_within grid7.invalid_range 4 (2 ^ 19) c.range (signed_within 20 (2 ^ 19) c.range b.range (lit≤ tt)) (lit≤ tt));
+  phase = joined_within s.whole s.fraction _ a.whole a.fraction (fine_within grid7.invalid_phase 1 (2 ^ 23) c.phase (signed_within 24 (2 ^ 23) c.phase b.phase (lit≤ tt)) (lit≤ tt));
   rate = rate_within s.rate c.rate (signed_within 14 (2 ^ 13) s.rate a.rate (lit≤ tt)) (signed_within 15 (2 ^ 14) c.rate b.rate (lit≤ tt));
   strength = strength_within c.strength 1 (omega arith) (let few = b.strength in omega (arith, few));
 }

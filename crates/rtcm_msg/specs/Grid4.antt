@@ -102,15 +102,18 @@ satellite_fault xs = find (λ f. list_any (is_bad_satellite f) xs) satellite_fie
 abbrev pub cell_fault : List Cell4 → Option Field
 cell_fault xs = find (λ f. list_any (is_bad_cell f) xs) cell_fields
 
--- The fine pseudorange DF400 of a cell that has none.
+-- The fine pseudorange DF400 and the fine phase range DF401 of a cell that has none.
 abbrev pub invalid_range : ℤ
 invalid_range = negsuc 16383
+
+abbrev pub invalid_phase : ℤ
+invalid_phase = negsuc 2097151
 
 abbrev pub range_of : Satellite4 → Cell4 → Option ℤ
 range_of s c = range_joined s.whole s.fraction (scaled invalid_range 128 c.range)
 
 abbrev pub phase_of : Satellite4 → Cell4 → Option ℤ
-phase_of s c = range_joined s.whole s.fraction (scaled (negsuc 2097151) 4 c.phase)
+phase_of s c = range_joined s.whole s.fraction (scaled invalid_phase 4 c.phase)
 
 abbrev pub rate_of : Satellite4 → Cell4 → Option ℤ
 rate_of s c = None

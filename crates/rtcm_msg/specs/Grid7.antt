@@ -112,15 +112,18 @@ satellite_fault xs = find (λ f. list_any (is_bad_satellite f) xs) satellite_fie
 abbrev pub cell_fault : List Cell7 → Option Field
 cell_fault xs = find (λ f. list_any (is_bad_cell f) xs) cell_fields
 
--- The fine pseudorange DF405 of a cell that has none.
+-- The fine pseudorange DF405 and the fine phase range DF406 of a cell that has none.
 abbrev pub invalid_range : ℤ
 invalid_range = negsuc 524287
+
+abbrev pub invalid_phase : ℤ
+invalid_phase = negsuc 8388607
 
 abbrev pub range_of : Satellite7 → Cell7 → Option ℤ
 range_of s c = range_joined s.whole s.fraction (scaled invalid_range 4 c.range)
 
 abbrev pub phase_of : Satellite7 → Cell7 → Option ℤ
-phase_of s c = range_joined s.whole s.fraction (scaled (negsuc 8388607) 1 c.phase)
+phase_of s c = range_joined s.whole s.fraction (scaled invalid_phase 1 c.phase)
 
 abbrev pub rate_of : Satellite7 → Cell7 → Option ℤ
 rate_of s c = rate_joined s.rate c.rate

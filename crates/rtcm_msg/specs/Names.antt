@@ -13,7 +13,8 @@ pub use Rattle.rtcm_msg.specs.Entries.{IsEntry, Rising, all_pairs, cell_pairs, e
 unfoldable pub use Rattle.rtcm_msg.specs.Entries.{chosen, up_from}
 pub use Rattle.rtcm_msg.specs.Fields.{cursor_at, field_at, fields_width, reading, ◌>>=◌}
 unfoldable pub use Rattle.rtcm_msg.specs.Fields.{field_bits, first_past, number_at}
-pub use Rattle.rtcm_msg.specs.Fractions.{range_joined, rate_joined, scaled, strength_of}
+pub use Rattle.rtcm_msg.specs.Fractions.{invalid_fine_rate, invalid_range, invalid_rough_rate, range_joined}
+pub use Rattle.rtcm_msg.specs.Fractions.{rate_joined, scaled, strength_of}
 pub use Rattle.rtcm_msg.specs.LastBits.{AreLast}
 pub use Rattle.rtcm_msg.specs.Layout.{Contents, FieldKind, Table, content, fields_of, width, widths}
 pub use Rattle.rtcm_msg.specs.LayoutLaws.{FitAll, content-number, content_fits, has_sign, have_signs, number-content}

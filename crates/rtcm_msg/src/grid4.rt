@@ -31,8 +31,11 @@ pub struct Cell4 {
     pub strength: u8,
 }
 
-/// The value of DF400 for an invalid fine pseudorange.
+/// The value of DF400 for an invalid fine pseudorange, the least that fits its bits.
 pub(crate) const INVALID_RANGE4: i16 = -16384;
+
+/// The value of DF401 for an invalid fine phase range, the least that fits its bits.
+const INVALID_PHASE4: i32 = -2097152;
 
 /// The precision of MSM4: messages 1074 and 1094.
 pub struct Grid4;
@@ -58,8 +61,8 @@ impl HasFields for Cell4 {
 
     fn is_bad(&self, field: Field) -> bool {
         match field {
-            Field::FineRange => self.range < -16384 || self.range >= 16384,
-            Field::FinePhase => self.phase < -2097152 || self.phase >= 2097152,
+            Field::FineRange => self.range < INVALID_RANGE4 || self.range >= 16384,
+            Field::FinePhase => self.phase < INVALID_PHASE4 || self.phase >= 2097152,
             Field::Lock => self.lock >= 16,
             _ => self.strength >= 64,
         }
@@ -137,7 +140,7 @@ impl Grid for Grid4 {
     }
 
     fn phase(satellite: &Satellite4, cell: &Cell4) -> Option<i64> {
-        let fine = scaled(cell.phase, -2097152, 4);
+        let fine = scaled(cell.phase, INVALID_PHASE4, 4);
         range_joined(satellite.whole, satellite.fraction, fine)
     }
 

@@ -37,8 +37,17 @@ pub struct Cell7 {
     pub rate: i16,
 }
 
-/// The value of DF405 for an invalid fine pseudorange.
+/// The value of DF399 for an invalid rough phase range rate, the least that fits its bits.
+const INVALID_ROUGH_RATE: i16 = -8192;
+
+/// The value of DF405 for an invalid fine pseudorange, the least that fits its bits.
 pub(crate) const INVALID_RANGE7: i32 = -524288;
+
+/// The value of DF406 for an invalid fine phase range, the least that fits its bits.
+const INVALID_PHASE7: i32 = -8388608;
+
+/// The value of DF404 for an invalid fine phase range rate, the least that fits its bits.
+const INVALID_FINE_RATE: i16 = -16384;
 
 /// The precision of MSM7: messages 1077 and 1097.
 pub struct Grid7;
@@ -54,7 +63,7 @@ impl HasFields for Satellite7 {
             Field::RangeWhole => self.whole as u16 >= 256,
             Field::Extended => self.extended >= 16,
             Field::RangeFraction => self.fraction >= 1024,
-            _ => self.rate < -8192 || self.rate >= 8192,
+            _ => self.rate < INVALID_ROUGH_RATE || self.rate >= 8192,
         }
     }
 }
@@ -66,11 +75,11 @@ impl HasFields for Cell7 {
 
     fn is_bad(&self, field: Field) -> bool {
         match field {
-            Field::FineRange => self.range < -524288 || self.range >= 524288,
-            Field::FinePhase => self.phase < -8388608 || self.phase >= 8388608,
+            Field::FineRange => self.range < INVALID_RANGE7 || self.range >= 524288,
+            Field::FinePhase => self.phase < INVALID_PHASE7 || self.phase >= 8388608,
             Field::Lock => self.lock >= 1024,
             Field::Strength => self.strength >= 1024,
-            _ => self.rate < -16384 || self.rate >= 16384,
+            _ => self.rate < INVALID_FINE_RATE || self.rate >= 16384,
         }
     }
 }
@@ -149,12 +158,12 @@ impl Grid for Grid7 {
     }
 
     fn phase(satellite: &Satellite7, cell: &Cell7) -> Option<i64> {
-        let fine = scaled(cell.phase, -8388608, 1);
+        let fine = scaled(cell.phase, INVALID_PHASE7, 1);
         range_joined(satellite.whole, satellite.fraction, fine)
     }
 
     fn rate(satellite: &Satellite7, cell: &Cell7) -> Option<i32> {
-        if satellite.rate == -8192 || cell.rate == -16384 {
+        if satellite.rate == INVALID_ROUGH_RATE || cell.rate == INVALID_FINE_RATE {
             return None;
         }
         Some(satellite.rate as i32 * 10000 + cell.rate as i32)

@@ -1,9 +1,9 @@
-use Rattle.std.proofs.Common.{ℤ, pos, negsuc, ◌≡◌, ◌*ℤ◌, ◌+ℤ◌, Some, Bool, true, false, refl, ap, arith, rules, w16, w32, to_z, of_z, FitsSigned, lit≤}
+use Rattle.std.proofs.Common.{ℤ, pos, ◌≡◌, ◌*ℤ◌, ◌+ℤ◌, Some, Bool, true, false, refl, ap, arith, rules, w16, w32, to_z, of_z, FitsSigned, lit≤}
 use Rattle.std.proofs.lemmas.Int.{ints, to_z-of_z}
 use Rattle.std.proofs.lemmas.Bool.Decides.{Decides-int_eq}
 use Rattle.std.specs.Bool.{Decides}
 use Rattle.std.specs.Ordering.{int_eq}
-use Rattle.rtcm_msg.specs.Names.{rate_joined}
+use Rattle.rtcm_msg.specs.Names.{invalid_rough_rate, invalid_fine_rate, rate_joined}
 use Rattle.rtcm_msg.proofs.BoundsLaws.{rate_small, signed_within}
 use Rattle.rtcm_msg.proofs.SignedLaws.{wider}
 use Rattle.rtcm_msg.proofs.grid7.Grid7Grid.rate.Goals as goal
@@ -24,8 +24,8 @@ sum_is s c f g = rw (wider w16 w32 s f (lit≤ tt), wider w16 w32 c g (lit≤ tt
 
 joined : (s c r : ℤ) → (of_z w16 s ≡ 57344 → ⊥) → (of_z w16 c ≡ 49152 → ⊥) → r ≡ (s *ℤ pos 10000) +ℤ c → Some r ≡ rate_joined s c
 joined s c r a b e =
-    let rough = not_that (int_eq s (negsuc 8191)) (Decides-int_eq s (negsuc 8191)) (λ h. a (ap (of_z w16) h)) in
-    let fine = not_that (int_eq c (negsuc 16383)) (Decides-int_eq c (negsuc 16383)) (λ h. b (ap (of_z w16) h)) in
+    let rough = not_that (int_eq s invalid_rough_rate) (Decides-int_eq s invalid_rough_rate) (λ h. a (ap (of_z w16) h)) in
+    let fine = not_that (int_eq c invalid_fine_rate) (Decides-int_eq c invalid_fine_rate) (λ h. b (ap (of_z w16) h)) in
     rw (rough, fine, e) refl
 
 pub returns-clause-value : goal.returns-clause-value
