@@ -21,19 +21,31 @@ pub(crate) struct SystemRow {
     pub(crate) msm7: u16,
 }
 
+/// The message number of MSM4 of GPS, DF002.
+pub(crate) const GPS_MSM4: u16 = 1074;
+
+/// The message number of MSM7 of GPS.
+pub(crate) const GPS_MSM7: u16 = 1077;
+
+/// The message number of MSM4 of Galileo.
+pub(crate) const GALILEO_MSM4: u16 = 1094;
+
+/// The message number of MSM7 of Galileo.
+pub(crate) const GALILEO_MSM7: u16 = 1097;
+
 /// The rows of the systems, in the order of `System`.
 // A table: LLVM then knows the flag to be 0 or 1. By a match `convert` executes 1 % more
 // instructions.
 const SYSTEMS: [SystemRow; 2] = [
     SystemRow {
         is_galileo: false,
-        msm4: 1074,
-        msm7: 1077,
+        msm4: GPS_MSM4,
+        msm7: GPS_MSM7,
     },
     SystemRow {
         is_galileo: true,
-        msm4: 1094,
-        msm7: 1097,
+        msm4: GALILEO_MSM4,
+        msm7: GALILEO_MSM7,
     },
 ];
 

@@ -25,7 +25,7 @@ use crate::message::{Message, read_set};
 use crate::msm::msm_of;
 use crate::pairs::{CellsLeft, Pair, split_cells};
 use crate::station::{Station, view_station};
-use crate::system::System;
+use crate::system::{GALILEO_MSM4, GALILEO_MSM7, GPS_MSM4, GPS_MSM7, System};
 use rtcm_bits::{LONGEST_MESSAGE, number_at};
 use std::marker::Model;
 
@@ -380,10 +380,10 @@ fn view_body(number: u16, bytes: &[u8]) -> Result<View<'_>, MsgFault>
 {
     match number {
         1005 | 1006 => view_station(bytes, number == 1006),
-        1074 => view_msm(bytes, Form::Msm4, System::Gps),
-        1077 => view_msm(bytes, Form::Msm7, System::Gps),
-        1094 => view_msm(bytes, Form::Msm4, System::Galileo),
-        1097 => view_msm(bytes, Form::Msm7, System::Galileo),
+        GPS_MSM4 => view_msm(bytes, Form::Msm4, System::Gps),
+        GPS_MSM7 => view_msm(bytes, Form::Msm7, System::Gps),
+        GALILEO_MSM4 => view_msm(bytes, Form::Msm4, System::Galileo),
+        GALILEO_MSM7 => view_msm(bytes, Form::Msm7, System::Galileo),
         _ => Ok(View::Other {
             number,
             set: read_set(number, bytes),
