@@ -136,8 +136,8 @@ impl<'a> MsmView<'a> {
         ensures bound { result < 2 ^ 12 }
     {
         match self.form {
-            Form::Msm4 => Grid4::number_of(self.is_galileo()),
-            Form::Msm7 => Grid7::number_of(self.is_galileo()),
+            Form::Msm4 => self.system.row().msm4,
+            Form::Msm7 => self.system.row().msm7,
         }
     }
 
