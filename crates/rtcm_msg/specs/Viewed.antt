@@ -42,9 +42,9 @@ abbrev pub rough : Form → ℕ → Satellite7
 rough forms.Msm4 n = widened (grid4.satellite_data n)
 rough forms.Msm7 n = grid7.satellite_data n
 
--- The data of the satellite at an index are kept, if there is one.
-abbrev pub Keeps : Form → List ℕ → ℕ → Satellite7 → Type 0
-Keeps form satellites i kept = i < length satellites → kept ≡ rough form (slice_index satellites i)
+-- The cached data are those of the satellite at an index, if there is one.
+abbrev pub IsCached : Form → List ℕ → ℕ → Satellite7 → Type 0
+IsCached form satellites i cached = i < length satellites → cached ≡ rough form (slice_index satellites i)
 
 -- An iteration over the cells of a message of this form: the data of the cells that are left.
 pub record Unread : Type 0 where

@@ -6,7 +6,7 @@ ghost use Rattle.rtcm_bits.specs.FrameOf.{longest_message};
 ghost use Rattle.rtcm_msg.specs.Fields.{GivesViewed, cursor_at};
 ghost use Rattle.rtcm_msg.specs.Msm.{codes_of, IsHeader, IsValue, satellite_mask_bits, most_pairs};
 ghost use Rattle.rtcm_msg.specs.Decoding.{message_at, body_at};
-ghost use Rattle.rtcm_msg.specs.Viewed.{viewed_message, entry_in, lock_field, rough, Keeps};
+ghost use Rattle.rtcm_msg.specs.Viewed.{viewed_message, entry_in, lock_field, rough, IsCached};
 ghost use Rattle.rtcm_msg.specs.Entries.{IsEntry, entries};
 ghost use Rattle.rtcm_msg.specs.Encoding.{IsMessage};
 ghost use Rattle.rtcm_msg.specs.Systems.{has_galileo};
@@ -204,15 +204,19 @@ impl<'a> MsmView<'a> {
         }
     }
 
-    /// Returns the data of satellite `i` in the form of MSM7: `kept` if `i` is `index`, otherwise
+    /// Returns the data of satellite `i` in the form of MSM7: `cached` if `i` is `index`, otherwise
     /// read from the message.
     #[inline(always)]
-    fn rough(&self, i: usize, index: usize, kept: Satellite7) -> Satellite7
+    fn rough(&self, i: usize, index: usize, cached: Satellite7) -> Satellite7
         requires there { i < length self.now.msm.satellites }
-        requires keeps { Keeps self.now.form self.now.msm.satellites index kept }
+        requires keeps { IsCached self.now.form self.now.msm.satellites index cached }
         ensures { result ≡ rough self.now.form (slice_index self.now.msm.satellites i) }
     {
-        if i == index { kept } else { self.read_rough(i) }
+        if i == index {
+            cached
+        } else {
+            self.read_rough(i)
+        }
     }
 
     /// Reads the data of satellite `i` in the form of MSM7. MSM4 has no rate and no extended
@@ -264,7 +268,7 @@ impl<'a> MsmView<'a> {
             view: self,
             cells: CellsLeft::of(&self.masks()),
             index: self.satellites(),
-            satellite: Satellite7::default(),
+            cached: Satellite7::default(),
         }
     }
 }
@@ -272,23 +276,26 @@ impl<'a> MsmView<'a> {
 /// Iterator over the cells of an MSM, read one by one in the order of the cell mask.
 #[derive(Drop)]
 pub struct Entries<'a> {
+    /// The message.
     view: &'a MsmView<'a>,
+    /// The cells that are left.
     cells: CellsLeft,
     /// The index of the satellite whose data were read last, or the number of satellites.
     index: usize,
-    satellite: Satellite7,
+    /// The data of that satellite in the form of MSM7.
+    cached: Satellite7,
 }
 
 impl<'a> Model for Entries<'a> {
     ghost use Rattle.rtcm_msg.specs.ValueCounts.{AreCells, entries_left};
-    ghost use Rattle.rtcm_msg.specs.Viewed.{Unread, Keeps};
+    ghost use Rattle.rtcm_msg.specs.Viewed.{Unread, IsCached};
 
     ghost Value = { Unread };
 
     ghost view = { λ e. record { form = e.view.now.form; left = entries_left e.view.now e.cells } };
 
     ghost invariant = { λ e. AreCells e.view.now e.cells
-        × Keeps e.view.now.form e.view.now.msm.satellites e.index e.satellite };
+        × IsCached e.view.now.form e.view.now.msm.satellites e.index e.cached };
 }
 
 impl<'a> Entries<'a> {
@@ -307,13 +314,13 @@ impl<'a> Entries<'a> {
         )?;
         // Brings the numbers of satellites and cells into the proof.
         let _ = (self.view.satellites(), self.view.cells());
-        let satellite = self.view.rough(pair.index, self.index, self.satellite);
+        let satellite = self.view.rough(pair.index, self.index, self.cached);
         let entry = self.view.entry(pair, &satellite, self.cells.next);
         self.cells.pairs = pairs;
         self.cells.left = left;
         self.cells.next += 1;
         self.index = pair.index;
-        self.satellite = satellite;
+        self.cached = satellite;
         Some(entry)
     }
 }
