@@ -3,6 +3,7 @@ use Rattle.std.proofs.Common.{ℕ, ◌≡◌, ◌+◌, ◌*◌, ◌/◌, ◌^◌
 use Rattle.std.specs.List.{flat_map}
 use Rattle.std.proofs.lemmas.Nat.{mul-le, ones-le}
 use Rattle.rtcm_msg.specs.Names.{uint, Message, field_bits, fields_width, total_width, columns, station_fields, MsmValue, IsValue, pair_count, msm_bits, header_fields, mask_fields, IsMessage, message_bits}
+use Rattle.rtcm_bits.specs.FrameOf.{longest_message_bits}
 use Rattle.rtcm_bits.specs.BitLaws.{length-uint}
 use Rattle.rtcm_msg.specs.declared.message.Message.TheVariants as messages
 use Rattle.rtcm_msg.specs.Grid4 as grid4
@@ -25,7 +26,7 @@ length-columns (w ∷ ws) ns = length-append (flat_map (λ p. uint w (p / 2 ^ to
     both : (w t n : ℕ) → w * n + t * n ≡ (w + t) * n
     both w t n = omega arith
 
-msm_short : (sw cw : List ℕ) (number : ℕ) (v : MsmValue) → total_width sw + total_width cw ≤ 124 → IsValue sw cw v → length (msm_bits sw cw number v 0) ≤ 8184
+msm_short : (sw cw : List ℕ) (number : ℕ) (v : MsmValue) → total_width sw + total_width cw ≤ 124 → IsValue sw cw v → length (msm_bits sw cw number v 0) ≤ longest_message_bits
 msm_short sw cw number v few h =
     let p = pair_count v.sets.satellites v.sets.signals in
     let head : length (field_bits (header_fields number v.header 0)) ≡ 73 = length-field_bits (header_fields number v.header 0) in
@@ -41,10 +42,10 @@ msm_short sw cw number v few h =
     few_cells : (p c : ℕ) → p ≤ 64 → count_ones c ≤ p → count_ones c ≤ 64
     few_cells p c h k = omega (arith, h, k)
 
-pub message_short : (v : Message) → IsMessage v → length (message_bits v 0) ≤ 8184
+pub message_short : (v : Message) → IsMessage v → length (message_bits v 0) ≤ longest_message_bits
 message_short (messages.Station s) h = rw (length-field_bits (station_fields s 0)) (by_height s.height)
   where
-    by_height : (x : Option ℕ) → fields_width (station_fields (record s { height = x }) 0) ≤ 8184
+    by_height : (x : Option ℕ) → fields_width (station_fields (record s { height = x }) 0) ≤ longest_message_bits
     by_height None = lit≤ tt
     by_height (Some k) = lit≤ tt
 message_short (messages.Msm4 m) h = msm_short grid4.satellite_widths grid4.cell_widths (grid4.message_number m.is_galileo) m (lit≤ tt) h

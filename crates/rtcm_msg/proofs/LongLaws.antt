@@ -4,6 +4,7 @@ use Rattle.std.proofs.lemmas.Bool.{cases_lt, le-leb, lt-ltb}
 use Rattle.std.proofs.lemmas.Nat.{ones-le, mul-le}
 use Rattle.std.proofs.lemmas.List.{length-drop, take-append-le, drop-append-le, take-append-drop, length-take-le}
 use Rattle.rtcm_msg.specs.Names.{bits_of, number, MsgFault, BadTime, TooManyCells, Short, Message, first_past, total_width, message_of, message_at, ReadsMessage, IsFault, is_read_msm, is_read, set_of, layout, layout_of, has_bad_time, has_too_many, repeated, Form, satellite_widths, cell_widths}
+use Rattle.rtcm_bits.specs.FrameOf.{longest_message, longest_message_bits}
 use Rattle.rtcm_bits.specs.BitLaws.{bits_of-append, length-bits_of, number-take-fits}
 use Rattle.rtcm_msg.specs.Encoding.{number_of}
 use Rattle.rtcm_msg.proofs.FieldLaws.{past_none, field_at}
@@ -20,7 +21,7 @@ field_more a b place w h = ap number (ap (take w) (drop-append-le place a b (ome
 le_more : (k : ℕ) (a b : List Bool) → k ≤ length a → nat_le k (length (a ++ b)) ≡ nat_le k (length a)
 le_more k a b h = le-leb k (length (a ++ b)) (omega (arith, length-append a b, h)) ∙ sym (le-leb k (length a) h)
 
-module _ (a b : List Bool) (long : 8184 ≤ length a) where
+module _ (a b : List Bool) (long : longest_message_bits ≤ length a) where
   number_more : number_of (a ++ b) ≡ number_of a
   number_more = field_more a b 0 12 (omega (arith, long))
 
@@ -43,7 +44,7 @@ ones_few bits place w few h =
     let most : count_ones (field_at bits place w) ≤ w = ones-le w (field_at bits place w) fits in
     omega (arith, most, few)
 
-pairs_are : (bits : List Bool) → is_read_msm (number_of bits) ≡ true → 8184 ≤ length bits → has_too_many bits ≡ false → pair_count_of bits ≤ 64
+pairs_are : (bits : List Bool) → is_read_msm (number_of bits) ≡ true → longest_message_bits ≤ length bits → has_too_many bits ≡ false → pair_count_of bits ≤ 64
 pairs_are bits msm long few = elim (cases_lt 64 (pair_count_of bits)) [
   | inl over ↦ absurd (not_true (has_too_many bits) few (and_all (is_read_msm (number_of bits)) (nat_le 169 (length bits)) (nat_lt 64 (pair_count_of bits)) msm (le-leb 169 (length bits) (omega (arith, long))) (lt-ltb 64 (pair_count_of bits) over)))
   | inr fine ↦ fine
@@ -54,7 +55,7 @@ narrow forms.Msm4 = (lit≤ tt, lit≤ tt)
 narrow forms.Msm7 = (lit≤ tt, lit≤ tt)
 
 -- The largest number of bits of a message.
-total_few : (form : Form) (s c p : ℕ) → s ≤ 64 → c ≤ 64 → p ≤ 64 → total_width (12 ∷ 12 ∷ 30 ∷ 1 ∷ 3 ∷ 7 ∷ 2 ∷ 2 ∷ 1 ∷ 3 ∷ 64 ∷ 32 ∷ p ∷ (repeated s (satellite_widths form) ++ repeated c (cell_widths form))) ≤ 8184
+total_few : (form : Form) (s c p : ℕ) → s ≤ 64 → c ≤ 64 → p ≤ 64 → total_width (12 ∷ 12 ∷ 30 ∷ 1 ∷ 3 ∷ 7 ∷ 2 ∷ 2 ∷ 1 ∷ 3 ∷ 64 ∷ 32 ∷ p ∷ (repeated s (satellite_widths form) ++ repeated c (cell_widths form))) ≤ longest_message_bits
 total_few form s c p hs hc hp =
     let sw = satellite_widths form in
     let cw = cell_widths form in
@@ -62,10 +63,10 @@ total_few form s c p hs hc hp =
     let two : total_width cw * c ≤ 80 * 64 = mul-le (total_width cw) c 80 64 (narrow form).1 hc in
     rw (total-append (repeated s sw) (repeated c cw), total-repeated s sw, total-repeated c cw) (omega (arith, one, two, hp))
 
-layout_few : (bits : List Bool) (n : ℕ) → Kind n → number_of bits ≡ n → 8184 ≤ length bits → has_too_many bits ≡ false → total_width (layout bits) ≤ 8184
+layout_few : (bits : List Bool) (n : ℕ) → Kind n → number_of bits ≡ n → longest_message_bits ≤ length bits → has_too_many bits ≡ false → total_width (layout bits) ≤ longest_message_bits
 layout_few bits n (station has e) is long few = rw (ap (λ (k : ℕ). layout_of k bits) (is ∙ e) ∙ layout_station has bits) (short has)
   where
-    short : (has : Bool) → total_width (12 ∷ (station_widths ++ height_widths has)) ≤ 8184
+    short : (has : Bool) → total_width (12 ∷ (station_widths ++ height_widths has)) ≤ longest_message_bits
     short true = lit≤ tt
     short false = lit≤ tt
 layout_few bits n (of_form form g e) is long few =
@@ -74,16 +75,16 @@ layout_few bits n (of_form form g e) is long few =
     (total_few form (count_ones (field_at bits 73 64)) (count_ones (field_at bits 169 (pair_count_of bits))) (pair_count_of bits) (ones_few bits 73 64 (lit≤ tt) (omega (arith, long))) (ones_few bits 169 (pair_count_of bits) pairs_few (omega (arith, long, pairs_few))) pairs_few)
 layout_few bits n (other unread no_msm empty body) is long few = rw (ap (λ (k : ℕ). layout_of k bits) is ∙ empty bits) (lit≤ tt)
 
-fault_more : (a b : List Bool) (e : MsgFault) → 8184 ≤ length a → IsFault a e → IsFault (a ++ b) e
+fault_more : (a b : List Bool) (e : MsgFault) → longest_message_bits ≤ length a → IsFault a e → IsFault (a ++ b) e
 fault_more a b BadTime long f = time_more a b long ∙ f
 fault_more a b TooManyCells long f = (time_more a b long ∙ f.0, few_more a b long ∙ f.1)
 fault_more a b (Short k) long (time, few, inl x) = absurd (omega (arith, long, x.0))
 fault_more a b (Short k) long (time, few, inr x) = absurd (some_none (first_past (length a) 0 (layout a)) k x.1 (past_none (layout a) (length a) 0 (le_all (total_width (layout a)) (length a) (layout_few a (number_of a) (kind_of (number_of a)) refl long few) long)))
   where
-    le_all : (t n : ℕ) → t ≤ 8184 → 8184 ≤ n → 0 + t ≤ n
+    le_all : (t n : ℕ) → t ≤ longest_message_bits → longest_message_bits ≤ n → 0 + t ≤ n
     le_all t n h k = omega arith
 
-message_more : (a b : List Bool) → 8184 ≤ length a → message_of a ≡ message_of (a ++ b)
+message_more : (a b : List Bool) → longest_message_bits ≤ length a → message_of a ≡ message_of (a ++ b)
 message_more a b long = go (message_of a) refl
   where
     go : (r : Result Message MsgFault) → message_of a ≡ r → message_of a ≡ message_of (a ++ b)
@@ -91,12 +92,12 @@ message_more a b long = go (message_of a) refl
     go (Err f) e = e ∙ sym (message_only_fault (a ++ b) f (fault_more a b f long (message_fault a f e)))
 
 -- The first 1,023 bytes determine the message.
-pub message_prefix : (bytes : List ℕ) → 1023 ≤ length bytes → message_at (take 1023 bytes) ≡ message_at bytes
+pub message_prefix : (bytes : List ℕ) → longest_message ≤ length bytes → message_at (take longest_message bytes) ≡ message_at bytes
 message_prefix bytes h =
-    let prefix = take 1023 bytes in
-    let len : length (bits_of prefix) ≡ 8 * 1023 = length-bits_of prefix ∙ ap (λ (n : ℕ). 8 * n) (length-take-le 1023 bytes h) in
-    let whole : bits_of bytes ≡ bits_of prefix ++ bits_of (drop 1023 bytes) = ap bits_of (sym (take-append-drop 1023 bytes)) ∙ bits_of-append prefix (drop 1023 bytes) in
-    message_more (bits_of prefix) (bits_of (drop 1023 bytes)) (exact_long _ len) ∙ ap message_of (sym whole)
+    let prefix = take longest_message bytes in
+    let len : length (bits_of prefix) ≡ 8 * longest_message = length-bits_of prefix ∙ ap (λ (n : ℕ). 8 * n) (length-take-le longest_message bytes h) in
+    let whole : bits_of bytes ≡ bits_of prefix ++ bits_of (drop longest_message bytes) = ap bits_of (sym (take-append-drop longest_message bytes)) ∙ bits_of-append prefix (drop longest_message bytes) in
+    message_more (bits_of prefix) (bits_of (drop longest_message bytes)) (exact_long _ len) ∙ ap message_of (sym whole)
   where
-    exact_long : (n : ℕ) → n ≡ 8 * 1023 → 8184 ≤ n
+    exact_long : (n : ℕ) → n ≡ 8 * longest_message → longest_message_bits ≤ n
     exact_long n e = omega arith

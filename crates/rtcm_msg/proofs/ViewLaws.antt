@@ -1,6 +1,7 @@
 -- The message of a view is the one that `decode` returns.
 use Rattle.std.proofs.Common.{ℕ, ◌≡◌, ◌+◌, ◌*◌, ◌^◌, ◌<◌, ◌≤◌, Bool, List, length, slice_index, Result, Ok, Err, refl, sym, ap, subst, ◌∙◌, arith, replicate, count_ones}
 use Rattle.rtcm_msg.specs.Names.{bits_of, Cursor, MsgFault, MsmHeader, Form, cursor_at, total_width, columns_at, EachBelow, MasksValue, IsHeader, AreMasks, IsValue, header_at, masks_at, msm_at, LastBits, AreLast, rows_at, row_at, end_of_rows, Data, satellite_widths, cell_widths, satellite_rows, cell_rows, message_in, formed_at, AreWithin, AreDataOf}
+use Rattle.rtcm_bits.specs.FrameOf.{longest_message}
 use Rattle.rtcm_bits.specs.BitLaws.{length-bits_of}
 use Rattle.rtcm_msg.specs.declared.view.Data.TheVariants as datas
 use Rattle.rtcm_msg.proofs.ColumnSteps.{columns_fit}
@@ -134,7 +135,7 @@ whole {form} {g} {bytes} {s} {n} {m} {p} {at} {end} head sizes first room second
     }
 
 -- The bounds of the data, counted in bytes.
-pub are_within : {form : Form} (bytes : List ℕ) {n place m : ℕ} {b : LastBits} → length bytes ≤ 1023 → 64 ≤ place → place ≤ b.place → place + n * total_width (satellite_widths form) ≤ length (bits_of bytes) → b.place + m * total_width (cell_widths form) ≤ length (bits_of bytes)
+pub are_within : {form : Form} (bytes : List ℕ) {n place m : ℕ} {b : LastBits} → length bytes ≤ longest_message → 64 ≤ place → place ≤ b.place → place + n * total_width (satellite_widths form) ≤ length (bits_of bytes) → b.place + m * total_width (cell_widths form) ≤ length (bits_of bytes)
     → b.count ≡ m → AreLast (cell_widths form) b → AreWithin form (length bytes) n place m b
 are_within bytes small after order first second count last = record {
   small = small;

@@ -56,7 +56,7 @@ pub(crate) fn header_in(bytes: &[u8], time: u32) -> MsmHeader
 /// was checked before.
 pub(crate) fn header_fault(header: &MsmHeader) -> Option<Field>
     ensures first { result ≡ header_fault header.now }
-    ensures none { header.now.time < 604800000 → IfNone result (IsHeader header.now) }
+    ensures none { header.now.time < week → IfNone result (IsHeader header.now) }
 {
     first_of(&[
         (header.station >= 1 << 12, Field::Station),
