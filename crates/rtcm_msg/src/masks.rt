@@ -30,8 +30,11 @@ pub(crate) const MOST_PAIRS: usize = MOST_CELL_MASK_BITS as usize;
 /// are at most 64 pairs.
 #[derive(Clone, Copy)]
 pub struct Masks {
+    /// The satellite mask, DF394: the most significant bit is ID 1.
     satellites: u64,
+    /// The signal mask, DF395: the most significant bit is ID 1.
     signals: u32,
+    /// The cell mask, DF396, with the last pair in the least significant bit.
     cells: u64,
 }
 

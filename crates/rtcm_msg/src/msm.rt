@@ -20,14 +20,19 @@ use std::marker::{Model, PhantomData};
 
 /// A multiple signal message of GPS or Galileo in the precision `G`: a header, the satellites and
 /// signals of the masks, data for each satellite, and a cell for each pair in the cell mask.
-// The fields of each satellite and of each cell are packed into one number.
 #[derive(Drop)]
 pub struct Msm<G: Grid> {
+    /// The satellite system.
     system: System,
+    /// The header fields.
     header: MsmHeader,
+    /// The masks.
     masks: Masks,
+    /// The fields of each satellite, packed into one number.
     satellites: ArrayVec<u128, MOST_PAIRS>,
+    /// The fields of each cell, packed into one number.
     cells: ArrayVec<u128, MOST_PAIRS>,
+    /// The precision.
     grid: PhantomData<G>,
 }
 

@@ -48,6 +48,7 @@ pub struct StationParts {
 /// A station message, 1005 or 1006, whose fields are all in range.
 #[derive(Clone, Copy)]
 pub struct Station {
+    /// The fields.
     parts: StationParts,
 }
 

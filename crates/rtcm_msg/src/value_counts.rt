@@ -20,7 +20,7 @@ use crate::pairs::{CellsLeft, Pair, split_first, split_signal, with_signals};
 use crate::view::{Form, MsmView};
 use std::marker::Model;
 
-/// Number of signal IDs.
+/// Number of signal IDs, one for each bit of the signal mask, as the length of an array.
 const SIGNALS: usize = SIGNAL_MASK_BITS as usize;
 
 impl<'a> MsmView<'a> {

@@ -75,12 +75,19 @@ pub(crate) enum Data<'a> {
 /// one by one.
 #[derive(Drop)]
 pub struct MsmView<'a> {
+    /// The layout and precision.
     pub(crate) form: Form,
+    /// The satellite system.
     pub(crate) system: System,
+    /// The header fields.
     pub(crate) header: MsmHeader,
+    /// The masks.
     pub(crate) masks: Masks,
+    /// The number of satellites.
     pub(crate) satellites: usize,
+    /// The number of cells.
     pub(crate) cells: usize,
+    /// The data of the satellites and cells.
     pub(crate) rows: Data<'a>,
 }
 
