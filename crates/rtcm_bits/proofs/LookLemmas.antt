@@ -153,31 +153,31 @@ view_dropped {b} {n} xs o v x f y q h =
     rw (x, f, y, q, length-drop n b, ← dropped_past xs o (length b) n h, ← v) refl
 
 -- looks at bytes that are dropped next
-kept_past : (xs : List ℕ) (m s k d : ℕ) → s + k ≤ d → drop d (looked_through (counts_alone xs m) s k).looks ≡ drop d xs
-kept_past xs m s zero d h = refl
-kept_past xs m s (suc k) d h = drop-set-lt d (looked_through (counts_alone xs m) s k).looks (s + k) _ (omega (arith, h)) ∙ kept_past xs m s k d (omega (arith, h))
+same_from : (xs : List ℕ) (m s k d : ℕ) → s + k ≤ d → drop d (looked_through (counts_alone xs m) s k).looks ≡ drop d xs
+same_from xs m s zero d h = refl
+same_from xs m s (suc k) d h = drop-set-lt d (looked_through (counts_alone xs m) s k).looks (s + k) _ (omega (arith, h)) ∙ same_from xs m s k d (omega (arith, h))
 
-kept_at : (xs : List ℕ) (m s k j : ℕ) → s + k ≤ j → slice_index (looked_through (counts_alone xs m) s k).looks j ≡ slice_index xs j
-kept_at xs m s zero j h = refl
-kept_at xs m s (suc k) j h = get_or-set_other (looked_through (counts_alone xs m) s k).looks (s + k) j _ 0 (omega (arith, h)) ∙ kept_at xs m s k j (omega (arith, h))
+same_at : (xs : List ℕ) (m s k j : ℕ) → s + k ≤ j → slice_index (looked_through (counts_alone xs m) s k).looks j ≡ slice_index xs j
+same_at xs m s zero j h = refl
+same_at xs m s (suc k) j h = get_or-set_other (looked_through (counts_alone xs m) s k).looks (s + k) j _ 0 (omega (arith, h)) ∙ same_at xs m s k j (omega (arith, h))
 
 -- the greatest count after one look more
 pub most_more : (xs : List ℕ) (m s k p q : ℕ) → p ≡ (looked_through (counts_alone xs m) s k).most → q ≡ max p (min (slice_index xs (s + k) + 1) 65535)
     → q ≡ (looked_through (counts_alone xs m) s (k + 1)).most
-most_more xs m s k p q e f = let z : k + 1 ≡ suc k = omega arith in rw (z, f, e, kept_at xs m s k (s + k) (omega arith)) refl
+most_more xs m s k p q e f = let z : k + 1 ≡ suc k = omega arith in rw (z, f, e, same_at xs m s k (s + k) (omega arith)) refl
 
 pub last_stored : {b : List ℕ} {e e' m m' k : ℕ} {w : WindowValue} (xs : List ℕ) (f o s : ℕ) → held_of b (filled_up (drop f xs) o (length b)) e m ≡ w → s + k ≤ length (drop f xs)
     → AreSums e e' k m' (looked_through (counts_alone xs m) (f + s) k).most → AgreeFrom (s + k) (held_of b (filled_up (drop f xs) o (length b)) e' m') (looked_through w s k)
 last_stored {b} {e} {m} {k} xs f o s v h t d l =
     let n = length b in
     let i = in_front (drop f xs) (replicate o 1 ++ replicate (n - (length (drop f xs) + o)) 0) m s k h in
-    rw (t.sum, t.most, (shifted xs f m s k).1, ← v, through_counts b (filled_up (drop f xs) o n) e m s k t.few, kept_past (filled_up (drop f xs) o n) m s k d l, i.1) refl
+    rw (t.sum, t.most, (shifted xs f m s k).1, ← v, through_counts b (filled_up (drop f xs) o n) e m s k t.few, same_from (filled_up (drop f xs) o n) m s k d l, i.1) refl
 
 seen_twice : (xs : List ℕ) (m s k : ℕ) → slice_index xs s ≡ 1 → ((j : ℕ) → slice_index xs (s + j) ≤ 1) → (looked_through (counts_alone xs m) s (suc k)).most ≡ max m 2
 seen_twice xs m s zero f g = let z : s + 0 ≡ s = omega arith in rw (z, f) refl
 seen_twice xs m s (suc k) f g =
     let i = seen_twice xs m s k f g in
-    let a = kept_at xs m s (suc k) (s + suc k) (omega arith) in
+    let a = same_at xs m s (suc k) (s + suc k) (omega arith) in
     let b = g (suc k) in
     rw (i, a) (at_most m (slice_index xs (s + suc k)) b)
   where
@@ -213,7 +213,7 @@ last_looks {b} {e} {m} {s} {k} xs o v h g p t d l =
     let i : k ≡ suc (k - 1) = omega (arith, p) in
     let f : (looked_through (counts_alone (filled_up xs o n) m) s k).most ≡ max m 2 =
     ap (λ (u : ℕ). (looked_through (counts_alone (filled_up xs o n) m) s u).most) i ∙ seen_twice (filled_up xs o n) m s (k - 1) a c in
-    rw (t.sum, t.most, ← v, through_counts b (filled_up xs o n) e m s k t.few, kept_past (filled_up xs o n) m s k d l, f) refl
+    rw (t.sum, t.most, ← v, through_counts b (filled_up xs o n) e m s k t.few, same_from (filled_up xs o n) m s k d l, f) refl
   where
     sum_on : (x s j : ℕ) → x ≤ s → s + j ≡ x + (s - x + j)
     sum_on x s j h = omega (arith, h)

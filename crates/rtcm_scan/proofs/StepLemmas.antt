@@ -65,13 +65,13 @@ looked_length w start (suc m) = length-set (looked_through w start m).looks (sta
 -- the last span, of k bytes, can grow by m looks from `start` on: each at a byte of the stream that has a count, which is not full
 record CanGrow (xs : List Span) (q k p n start m : ℕ) (w : WindowValue) : Type 0 where
   pub meets : q + k ≡ p + start
-  pub kept : start + m ≤ length w.looks
+  pub counted : start + m ≤ length w.looks
   pub within : p + (start + m) ≤ n
   pub fit : Fit (xs ++ span q (k + m) ∷ [])
 
 counts_looked : {q k p n j : ℕ} (xs : List Span) (w : WindowValue) → CanGrow xs q k p n j 1 w → Counted (xs ++ span q k ∷ []) p n w → Counted (xs ++ span q (k + 1) ∷ []) p n (looked w j)
 counts_looked {q} {k} {p} {n} {j} xs w g c =
-    let l : j < length w.looks = omega (arith, g.kept) in
+    let l : j < length w.looks = omega (arith, g.counted) in
     let d : CountsLooks (xs ++ span q (k + 1) ∷ []) p n (set w.looks j (get_or w.looks j 0 + 1)) (w.examined + 1) (max w.most (get_or w.looks j 0 + 1)) =
     counts_look xs q k g.meets l (omega (arith, g.within)) c in
     let s : get_or (set w.looks j (get_or w.looks j 0 + 1)) j 0 ≡ get_or w.looks j 0 + 1 = get_or-set_same w.looks j (get_or w.looks j 0 + 1) 0 l in
@@ -98,10 +98,10 @@ counts_through {q} {k} {p} {n} {start} xs (suc m) w g c =
     let f : Fit (xs ++ span q (k + m) ∷ []) = fit_less xs q (k + m) (k + suc m) (omega arith) g.fit in
     let f' : Fit (xs ++ span q (k + m + 1) ∷ []) = subst (λ (t : ℕ). Fit (xs ++ span q t ∷ [])) (sym z) g.fit in
     let r : Counted (xs ++ span q (k + m) ∷ []) p n (looked_through w start m) =
-    counts_through xs m w (record { meets = g.meets; kept = omega (arith, g.kept); within = omega (arith, g.within); fit = f }) c in
+    counts_through xs m w (record { meets = g.meets; counted = omega (arith, g.counted); within = omega (arith, g.within); fit = f }) c in
     let b : length (looked_through w start m).looks ≡ length w.looks = looked_length w start m in
     subst (λ (t : ℕ). Counted (xs ++ span q t ∷ []) p n (looked_through w start (suc m))) z
-    (counts_looked xs (looked_through w start m) (record { meets = omega (arith, g.meets); kept = omega (arith, g.kept, b); within = omega (arith, g.within); fit = f' }) r)
+    (counts_looked xs (looked_through w start m) (record { meets = omega (arith, g.meets); counted = omega (arith, g.counted, b); within = omega (arith, g.within); fit = f' }) r)
 
 -- at every moment the counts fit
 bound_fits : {k : ℕ} (e : Bool) (b : List ℕ) (fs : List Framed) (p : ℕ) → Scanned e b 0 p fs → k ≤ 1029 → p + k ≤ length b → length b ≤ 2 ^ 48 → Fit (spans_at b fs p k)
@@ -136,7 +136,7 @@ step_examined_to v n b fs h a0 a1 x =
     let wit : v.taken ≤ v.limit = x.within in
     let k : Fit (spans_at b fs (first_held v) n) = bound_fits v.has_ended b fs (first_held v) sc a0 (omega arith) (omega arith) in
     let c : Counted (spans_at b fs (first_held v) (v.tried + (n - v.tried))) (first_held v) (length b) (looked_through (window_of v) v.tried (n - v.tried)) =
-    counts_through _ (n - v.tried) (window_of v) (record { meets = refl; kept = omega arith; within = omega arith; fit = subst (λ (q : ℕ). Fit (spans_at b fs (first_held v) q)) (sym z) k }) x.counts in
+    counts_through _ (n - v.tried) (window_of v) (record { meets = refl; counted = omega arith; within = omega arith; fit = subst (λ (q : ℕ). Fit (spans_at b fs (first_held v) q)) (sym z) k }) x.counts in
     record {
       history = record { taken = s.taken; held = s.held; fits = s.fits; scanned = s.scanned; first = s.first; skipped = s.skipped };
       limit = x.limit;
@@ -229,7 +229,7 @@ step_take v b fs h a x =
     let fit' : Fit (spans_at b fs (first_held v) (cost b (first_held v)) ++ span (first_held v + 3) (0 + message_length v.held) ∷ []) =
     (let z : length g.message ≡ 0 + message_length v.held = omega arith in subst (λ (q : ℕ). Fit (spans_at b fs (first_held v) (cost b (first_held v)) ++ span (first_held v + 3) q ∷ [])) z fit) in
     let c1 : Counted (spans_at b fs (first_held v) (cost b (first_held v)) ++ span (first_held v + 3) (0 + message_length v.held) ∷ []) (first_held v) (length b) (looked_through (window_of v) 3 (message_length v.held)) =
-    counts_through xs (message_length v.held) (window_of v) (record { meets = omega arith; kept = omega arith; within = omega arith; fit = fit' }) c0 in
+    counts_through xs (message_length v.held) (window_of v) (record { meets = omega arith; counted = omega arith; within = omega arith; fit = fit' }) c0 in
     let u = looked_through (window_of v) 3 (message_length v.held) in
     let c2 : CountsLooks (spans_at b fs g.offset (cost b g.offset) ++ span (g.offset + 3) (length g.message) ∷ []) g.offset (length b) u.looks u.examined u.most =
     (let z : 0 + message_length v.held ≡ length g.message = omega arith in
