@@ -17,8 +17,8 @@ use Rattle.std.proofs.lemmas.Grind.{common_steps}
 pub clock_is : (g : State) (s : GatherSetup) (ms : List Heard) (shut : Bool) → HasHeardMessages g s ms shut → g ≡ standing s (timed s ms) shut
 clock_is g s ms shut h = same_state g s _ _ h.setup h.latest h.pending
 
-pub clock_stands : (g : State) (s : GatherSetup) (ms : List Heard) (xs : List Timed) (shut : Bool) → timed s ms ≡ xs → g ≡ standing s xs shut → HasHeardMessages g s ms shut
-clock_stands g s ms xs shut same e = grind (arith, common_steps)
+pub clock_has_heard : (g : State) (s : GatherSetup) (ms : List Heard) (xs : List Timed) (shut : Bool) → timed s ms ≡ xs → g ≡ standing s xs shut → HasHeardMessages g s ms shut
+clock_has_heard g s ms xs shut same e = grind (arith, common_steps)
 
 values-push : (s : GatherSetup) (ms : List Heard) (m : Heard) → values_of s (ms ++ m ∷ []) ≡ values_after_message s (values_of s ms) m
 values-push s ms m = fold-append (values_after_message s) s.initial ms (m ∷ [])
@@ -87,7 +87,7 @@ reached g s ms m shut h early = by (taken_at s xs m) refl where
   moved : (v : GathererValue) → v.clock ≡ standing s (xs ++ next s xs m ∷ []) false → v.epoch ≡ held_at s (xs ++ next s xs m ∷ [])
       → Locked v s (xs ++ next s xs m ∷ []) (closed_so_far s xs shut) → v.values ≡ values_of s (ms ++ m ∷ []) → Mid v s (ms ++ m ∷ []) false (closed_so_far s xs shut)
   moved v a b c d = record {
-    clock = clock_stands v.clock s (ms ++ m ∷ []) _ false same a;
+    clock = clock_has_heard v.clock s (ms ++ m ∷ []) _ false same a;
     epoch = b ∙ ap (held_at s) (sym same);
     locks = subst (λ l. Locked v s l (closed_so_far s xs shut)) (sym same) c;
     values = d;
@@ -223,7 +223,7 @@ closes_it g s ms m h early none = by (greatest_time (timed s ms)) refl where
       let to : take_step g m ≡ record { state = noted (with_time g m); counts = no_counts } =
       step ∙ ap (λ o. closed_if (is_some o) (record { state = with_time g m; counts = no_counts })) is in
       let mid : Mid (with_time g m) s ms true (closed_so_far s xs false) = record {
-        clock = clock_stands (step_by g.clock m) s ms xs true refl now;
+        clock = clock_has_heard (step_by g.clock m) s ms xs true refl now;
         epoch = h.epoch;
         locks = record { found = h.locks.found; tracks = h.locks.tracks };
         values = unchanged;

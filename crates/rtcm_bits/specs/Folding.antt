@@ -1,5 +1,5 @@
 -- The bytes of a long message, folded: the CRC stays the same if each of the first bytes is taken away and added to
--- those that stand 69, 71, 79, 85 and 96 places further on, since the generator divides the polynomial
+-- those 69, 71, 79, 85 and 96 places further on, since the generator divides the polynomial
 -- x^768 + x^216 + x^200 + x^136 + x^88 + 1.
 use Rattle.std.specs.Prelude.{◌≡◌, ℕ, List, [], ◌∷◌, drop, length, bit_xor}
 

@@ -26,7 +26,7 @@ impl Model for Folded {
 }
 
 impl Folded {
-    /// Returns the three bytes of a register, which stand at the first bytes of the message.
+    /// Returns the three bytes of a register, which are added to the first bytes of the message.
     pub fn new(register: u32) -> Folded
         ensures { result ≡ register / 65536 % 256 ∷ register / 256 % 256 ∷ register % 256 ∷ replicate 93 0 }
     {

@@ -1,7 +1,7 @@
 -- What holds at every moment.
 use Rattle.rtcm_scan.proofs.Names.{ℕ, ◌≡◌, ◌*◌, ◌≤◌, ◌^◌, true, false, List, [], length, refl, arith, Framed, frames_of, frames_from, WindowValue, nothing_held, FramerValue, scan_of, HasFramed, first_held, new_scan, places, tried, decided, decided_frames, frames_before, IsDrained, greatest_below, spans_now, looks_at, all_looks, spans_at, tried_before, HasExamined, IsCountedExactly}
 use Rattle.rtcm_scan.proofs.BoundLemmas.{looks_bound, all_bound, greatest_bound}
-use Rattle.rtcm_scan.proofs.HistoryLemmas.{stands_end, stands_by}
+use Rattle.rtcm_scan.proofs.HistoryLemmas.{history_end, history_from}
 use Rattle.rtcm_scan.proofs.ScanLemmas.{scanned_none}
 
 pub most_moment : (v : FramerValue) (b : List ℕ) (fs : List Framed) → length v.held ≤ 1029 → HasExamined v b fs → v.most ≤ 1030
@@ -24,10 +24,10 @@ examined_moment v b fs h x =
     rw e g
 
 pub counts_end : (v : FramerValue) (b : List ℕ) (fs : List Framed) → HasExamined v b fs → HasExamined (record v { has_ended = true }) b fs
-counts_end v b fs x = record { history = stands_end v b fs x.history; limit = x.limit; within = x.within; each = x.each; tried = x.tried; counts = x.counts }
+counts_end v b fs x = record { history = history_end v b fs x.history; limit = x.limit; within = x.within; each = x.each; tried = x.tried; counts = x.counts }
 
-stands_new : (limit : ℕ) → HasFramed (new_scan limit) [] []
-stands_new limit = stands_by (new_scan limit) [] [] refl refl (omega arith) (scanned_none false [] 0) refl
+history_new : (limit : ℕ) → HasFramed (new_scan limit) [] []
+history_new limit = history_from (new_scan limit) [] [] refl refl (omega arith) (scanned_none false [] 0) refl
 
 counts_empty : (limit : ℕ) → limit ≤ 2 ^ 48 → HasFramed (new_scan limit) [] [] → HasExamined (new_scan limit) [] []
 unfolding tried_before places greatest_below
@@ -41,7 +41,7 @@ counts_empty limit h s = record {
 }
 
 pub counts_new : (limit tried : ℕ) (w : WindowValue) → limit ≤ 2 ^ 48 → w ≡ nothing_held → tried ≡ 0 → HasExamined (scan_of limit 0 w false true 0 tried) [] []
-counts_new limit tried w h e z = rw (e, z) (counts_empty limit h (stands_new limit))
+counts_new limit tried w h e z = rw (e, z) (counts_empty limit h (history_new limit))
 
 pub drained_new : (limit tried : ℕ) (w : WindowValue) → w ≡ nothing_held → IsDrained (scan_of limit 0 w false true 0 tried) [] []
 unfolding decided decided_frames frames_of frames_before frames_from places

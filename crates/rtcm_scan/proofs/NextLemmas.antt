@@ -4,12 +4,12 @@ use Rattle.rtcm_scan.proofs.StepLemmas.{step_examined, step_give_up, step_take, 
 use Rattle.rtcm_scan.proofs.KnownLemmas.{counted_empty, counted_open, counted_frame}
 use Rattle.rtcm_scan.proofs.FrameLemmas.{length-message, begins_parts}
 use Rattle.rtcm_scan.proofs.DecidedLemmas.{none_past}
-use Rattle.rtcm_scan.proofs.HistoryLemmas.{stands_give_up, stands_take, stands_ready}
+use Rattle.rtcm_scan.proofs.HistoryLemmas.{history_give_up, history_take, history_ready}
 use Rattle.rtcm_scan.proofs.DrainedLemmas.{drained_ended, drained_waiting}
 
 -- other counts don't change what a framer has accepted
-pub stands_looks : (v : FramerValue) (w : WindowValue) (t : ℕ) (b : List ℕ) (fs : List Framed) → HasFramed v b fs → HasFramed (with_looks v w t) b fs
-stands_looks v w t b fs s = record { taken = s.taken; held = s.held; fits = s.fits; scanned = s.scanned; first = s.first; skipped = s.skipped }
+pub history_looks : (v : FramerValue) (w : WindowValue) (t : ℕ) (b : List ℕ) (fs : List Framed) → HasFramed v b fs → HasFramed (with_looks v w t) b fs
+history_looks v w t b fs s = record { taken = s.taken; held = s.held; fits = s.fits; scanned = s.scanned; first = s.first; skipped = s.skipped }
 
 -- the state after take_frame
 abbrev frame_taken : FramerValue → ℕ → FramerValue
@@ -18,7 +18,7 @@ frame_taken u size = with_window u (without_front (looked_through (window_of u) 
 pub step_passed : {u w : FramerValue} {b : List ℕ} {fs : List Framed} (v : FramerValue) → u ≡ with_candidate_examined v → w ≡ passed u → 0 < length v.held → IsPassed v.has_ended v.held
     → HasFramed v b fs → HasFramed w b fs
 step_passed {b} {fs} v e f h p s =
-    let r = stands_give_up v b fs h p s in
+    let r = history_give_up v b fs h p s in
     rw (f, e) (record { taken = r.taken; held = r.held; fits = r.fits; scanned = r.scanned; first = r.first; skipped = r.skipped })
 
 pub counts_passed : {u w : FramerValue} {b : List ℕ} {fs : List Framed} (v : FramerValue) → u ≡ with_candidate_examined v → w ≡ passed u → 0 < length v.held → IsPassed v.has_ended v.held → v.tried ≤ asked v.held
@@ -43,7 +43,7 @@ found v = record { offset = first_held v; message = framed_message v.held }
 pub step_found : {w : FramerValue} {b : List ℕ} {fs : List Framed} {size : ℕ} {f : Framed} (v : FramerValue) → w ≡ frame_taken v size → size ≡ frame_length v.held → begins_frame v.held ≡ true
     → f ≡ found v → HasFramed v b fs → HasFramed w b (fs ++ f ∷ [])
 step_found {w} {b} {fs} v g z h x s =
-    let n = stands_take v b fs h s in
+    let n = history_take v b fs h s in
     let d : drop (frame_length v.held) (looked_through (window_of v) 3 (frame_length v.held - 6)).bytes ≡ drop (frame_length v.held) v.held =
     ap (drop (frame_length v.held)) (looked_bytes (window_of v) 3 (frame_length v.held - 6)) in
     rw (g, z, x) (subst (λ (r : List ℕ). HasFramed (record (frame_taken v (frame_length v.held)) { held = r }) b (fs ++ found v ∷ [])) (sym d)
@@ -78,10 +78,10 @@ counts_found {w} {b} {fs} v g z h y t x =
     rw y (r', counted_frame w b fs (found v) i tr (none_past v.has_ended b 0 (first_held v) fs s.scanned) r')
 
 finish : (d w : FramerValue) (b : List ℕ) (fs : List Framed) → w ≡ record d { is_ready = true } → HasFramed d b fs → IsDrained d b fs → HasFramed w b fs × IsDrained w b fs
-finish d w b fs f s r = rw f (stands_ready d b fs true s, record { frames = r.frames; held = r.held; skipped = r.skipped })
+finish d w b fs f s r = rw f (history_ready d b fs true s, record { frames = r.frames; held = r.held; skipped = r.skipped })
 
 counts_finish : (d w : FramerValue) (b : List ℕ) (fs : List Framed) → w ≡ record d { is_ready = true } → HasExamined d b fs → IsCountedExactly d b → HasExamined w b fs × IsCountedExactly w b
-counts_finish d w b fs f x r = rw f (record { history = stands_ready d b fs true x.history; limit = x.limit; within = x.within; each = x.each; tried = x.tried; counts = x.counts }, record { examined = r.examined; most = r.most })
+counts_finish d w b fs f x r = rw f (record { history = history_ready d b fs true x.history; limit = x.limit; within = x.within; each = x.each; tried = x.tried; counts = x.counts }, record { examined = r.examined; most = r.most })
 
 pub finish_empty : {v d w : FramerValue} {b : List ℕ} {fs : List Framed} → d ≡ v → w ≡ record d { is_ready = true } → length v.held ≡ 0 → HasFramed v b fs → HasFramed w b fs × IsDrained w b fs
 finish_empty {d} {w} {b} {fs} e f h s =
@@ -97,7 +97,7 @@ counts_empty {d} {w} {b} {fs} e f h x = let x' : HasExamined d b fs = rw e x in 
 pub finish_open : {v u d w : FramerValue} {b : List ℕ} {fs : List Framed} → u ≡ with_candidate_examined v → d ≡ u → w ≡ record d { is_ready = true } → v.has_ended ≡ false → is_open v.held ≡ true
     → HasFramed v b fs → HasFramed w b fs × IsDrained w b fs
 finish_open {v} {d} {w} {b} {fs} e g f t o s =
-    let s' : HasFramed d b fs = rw (g, e) (stands_looks v (looked_through (window_of v) v.tried (asked v.held - v.tried)) (asked v.held) b fs s) in
+    let s' : HasFramed d b fs = rw (g, e) (history_looks v (looked_through (window_of v) v.tried (asked v.held - v.tried)) (asked v.held) b fs s) in
     let x : d.has_ended ≡ false = ap (λ (y : FramerValue). y.has_ended) (g ∙ e) ∙ t in
     let y : is_open d.held ≡ true = ap (λ (y : FramerValue). is_open y.held) (g ∙ e) ∙ o in
     finish d w b fs f s' (drained_waiting d b fs x (λ i. y) s')

@@ -2,7 +2,7 @@
 use Rattle.rtcm_scan.proofs.Names.{ℕ, ◌≡◌, ◌≢◌, ◌+◌, ◌-◌, ◌<◌, ◌≤◌, ◌^◌, min, Bool, false, List, [], ◌∷◌, length, take, drop, get_or, refl, sym, ap, ◌∙◌, arith, suc, zero, slice_index, slice_set, subst, drop-drop, length-drop, get_or-drop, ne_eqb, WindowValue, looked, looked_through, without_front, has_preamble, Candidate, HasTaken, Framed, FramerValue, HasFramed, IsPassed, scan_of, window_of, with_window, with_looks, asked, with_candidate_examined, passed, HasExamined}
 use Rattle.rtcm_scan.proofs.FrameLemmas.{none_without}
 use Rattle.rtcm_scan.proofs.CandidateLemmas.{looked_twice, taken_more}
-use Rattle.rtcm_scan.proofs.NextLemmas.{step_passed, counts_passed, stands_looks}
+use Rattle.rtcm_scan.proofs.NextLemmas.{step_passed, counts_passed, history_looks}
 use Rattle.rtcm_scan.proofs.HistoryLemmas.{view_dropped}
 use Rattle.rtcm_scan.proofs.StepLemmas.{looked_bytes, step_examined_to}
 
@@ -56,15 +56,15 @@ one_more v n e h k =
 all_passed : (s : List ℕ) (e : Bool) → has_preamble s ≡ false → IsPassed e s
 all_passed s e h = let n = none_without s h in record { none = n.0; closed = λ r. n.1 }
 
-pub over_stands : (v : FramerValue) (n : ℕ) (b : List ℕ) (fs : List Framed) → v.tried ≡ 0 → n ≤ length v.held → ((i : ℕ) → i < n → slice_index v.held i ≢ 0xD3) → HasFramed v b fs → HasFramed (passed_over v n) b fs
-over_stands v zero b fs e l o s = rw (none_over v e) s
-over_stands v (suc n) b fs e l o s =
+pub over_history : (v : FramerValue) (n : ℕ) (b : List ℕ) (fs : List Framed) → v.tried ≡ 0 → n ≤ length v.held → ((i : ℕ) → i < n → slice_index v.held i ≢ 0xD3) → HasFramed v b fs → HasFramed (passed_over v n) b fs
+over_history v zero b fs e l o s = rw (none_over v e) s
+over_history v (suc n) b fs e l o s =
     let h : has_preamble v.held ≡ false = ne_eqb (slice_index v.held 0) 0xD3 (o 0 (omega arith)) in
     let k : 0 < length v.held = omega (arith, l) in
     let w : FramerValue = passed (with_candidate_examined v) in
     let d : length (drop 1 v.held) ≡ length v.held - 1 = length-drop 1 v.held in
     let o' : (i : ℕ) → i < n → slice_index (drop 1 v.held) i ≢ 0xD3 = (λ i j q. let f : slice_index (drop 1 v.held) i ≡ slice_index v.held (1 + i) = get_or-drop 1 v.held i 0 in o (1 + i) (omega (arith, j)) (sym f ∙ q)) in
-    rw (one_more v n e h k) (over_stands (passed (with_candidate_examined v)) n b fs refl (omega (arith, l, d)) o'
+    rw (one_more v n e h k) (over_history (passed (with_candidate_examined v)) n b fs refl (omega (arith, l, d)) o'
     (step_passed v refl refl k (all_passed v.held v.has_ended h) s))
 
 pub over_counts : (v : FramerValue) (n : ℕ) (b : List ℕ) (fs : List Framed) → v.tried ≡ 0 → n ≤ length v.held → ((i : ℕ) → i < n → slice_index v.held i ≢ 0xD3) → HasExamined v b fs → HasExamined (passed_over v n) b fs
@@ -99,8 +99,8 @@ passed_to v n k = with_looks (passed_over v n) (looked_through (window_of (passe
 left_held : (v : FramerValue) (n : ℕ) → length (passed_over v n).held ≡ length v.held - n
 left_held v n = length-drop n _ ∙ ap (λ b. length b - n) (looked_bytes (window_of v) 0 n)
 
-pub to_stands : {n : ℕ} {b : List ℕ} {fs : List Framed} (v : FramerValue) (k : ℕ) → v.tried ≡ 0 → n ≤ length v.held → ((i : ℕ) → i < n → slice_index v.held i ≢ 0xD3) → HasFramed v b fs → HasFramed (passed_to v n k) b fs
-to_stands {n} {b} {fs} v k e l o s = stands_looks (passed_over v n) (looked_through (window_of (passed_over v n)) 0 k) k b fs (over_stands v n b fs e l o s)
+pub to_history : {n : ℕ} {b : List ℕ} {fs : List Framed} (v : FramerValue) (k : ℕ) → v.tried ≡ 0 → n ≤ length v.held → ((i : ℕ) → i < n → slice_index v.held i ≢ 0xD3) → HasFramed v b fs → HasFramed (passed_to v n k) b fs
+to_history {n} {b} {fs} v k e l o s = history_looks (passed_over v n) (looked_through (window_of (passed_over v n)) 0 k) k b fs (over_history v n b fs e l o s)
 
 pub to_counts : {n : ℕ} {b : List ℕ} {fs : List Framed} (v : FramerValue) (k : ℕ) → v.tried ≡ 0 → n ≤ length v.held → ((i : ℕ) → i < n → slice_index v.held i ≢ 0xD3) → k ≡ min 1 (length v.held - n)
     → HasExamined v b fs → HasExamined (passed_to v n k) b fs

@@ -1,6 +1,6 @@
 -- What a framer has accepted after many bytes.
 use Rattle.rtcm_scan.proofs.Names.{ℕ, ◌≡◌, ◌+◌, ◌<◌, ◌≤◌, Bool, false, List, [], ◌∷◌, ◌++◌, length, replicate, refl, ap, arith, suc, length-append, append-nil, append_assoc, WindowValue, pushed_all, Framed, FramerValue, scan_of, with_bytes, HasFramed, HasExamined}
-use Rattle.rtcm_scan.proofs.HistoryLemmas.{stands_push, stands_ready}
+use Rattle.rtcm_scan.proofs.HistoryLemmas.{history_push, history_ready}
 use Rattle.rtcm_scan.proofs.StepLemmas.{step_push}
 
 -- the state after one byte is pushed
@@ -31,12 +31,12 @@ push_each P none one (x ∷ xs) {v} {b} n l h =
     let a : b ++ x ∷ [] ++ xs ≡ b ++ (x ∷ xs) = append_assoc b (x ∷ []) xs in
     rw (← with_more v x xs, ← a) (push_each P none one xs n (omega (arith, l)) (one v b x n (omega (arith, l)) h))
 
-pub stands_push_all : (v : FramerValue) (b xs : List ℕ) (fs : List Framed) → v.has_ended ≡ false → v.taken + length xs ≤ v.limit → HasFramed v b fs → HasFramed (with_bytes v xs) (b ++ xs) fs
-stands_push_all v b xs fs = push_each (λ v b. HasFramed v b fs) (λ v b s. stands_ready v b fs false s) (λ v b x n l s. stands_push v b fs x n s) xs
+pub history_push_all : (v : FramerValue) (b xs : List ℕ) (fs : List Framed) → v.has_ended ≡ false → v.taken + length xs ≤ v.limit → HasFramed v b fs → HasFramed (with_bytes v xs) (b ++ xs) fs
+history_push_all v b xs fs = push_each (λ v b. HasFramed v b fs) (λ v b s. history_ready v b fs false s) (λ v b x n l s. history_push v b fs x n s) xs
 
 pub step_push_all : (v : FramerValue) (b xs : List ℕ) (fs : List Framed) → v.has_ended ≡ false → v.taken + length xs ≤ v.limit → HasExamined v b fs → HasExamined (with_bytes v xs) (b ++ xs) fs
 step_push_all v b xs fs = push_each (λ v b. HasExamined v b fs)
-    (λ v b h. record { history = stands_ready v b fs false h.history; limit = h.limit; within = h.within; each = h.each; tried = h.tried; counts = h.counts })
+    (λ v b h. record { history = history_ready v b fs false h.history; limit = h.limit; within = h.within; each = h.each; tried = h.tried; counts = h.counts })
     (λ v b x n l h. step_push v b fs x n l h) xs
 
 -- the framer's view after it

@@ -8,7 +8,7 @@ use Rattle.rtcm_scan.proofs.BoundLemmas.{looks_bound, all_bound}
 use Rattle.rtcm_scan.proofs.CandidateLemmas.{wanted_bound}
 use Rattle.rtcm_scan.proofs.DecidedLemmas.{none_past}
 use Rattle.rtcm_scan.proofs.ScanLemmas.{scanned_le, scanned_frame}
-use Rattle.rtcm_scan.proofs.HistoryLemmas.{stands_push, stands_give_up, stands_take}
+use Rattle.rtcm_scan.proofs.HistoryLemmas.{history_push, history_give_up, history_take}
 use Rattle.rtcm_scan.proofs.FrameLemmas.{begins_parts, length-message}
 
 -- a longer span covers no less
@@ -155,7 +155,7 @@ pub step_give_up : (v : FramerValue) (b : List ℕ) (fs : List Framed) → 0 < l
     → HasExamined (record (with_window v (without_front (window_of v) 1) 0) { skipped = v.skipped + 1 }) b fs
 step_give_up v b fs h a p x =
     let s : HasFramed v b fs = x.history in
-    let n : HasFramed (record v { held = drop 1 v.held; skipped = v.skipped + 1 }) b fs = stands_give_up v b fs h p s in
+    let n : HasFramed (record v { held = drop 1 v.held; skipped = v.skipped + 1 }) b fs = history_give_up v b fs h p s in
     let l : length (drop 1 v.held) ≡ length v.held - 1 = length-drop 1 v.held in
     let f : length v.held ≤ v.taken = s.fits in
     let t : v.taken ≡ length b = s.taken in
@@ -198,7 +198,7 @@ step_take v b fs h a x =
     let m : ℕ = message_length v.held in
     let g : Framed = record { offset = first_held v; message = framed_message v.held } in
     let s : HasFramed v b fs = x.history in
-    let n : HasFramed (record v { held = drop (frame_length v.held) v.held }) b (fs ++ g ∷ []) = stands_take v b fs h s in
+    let n : HasFramed (record v { held = drop (frame_length v.held) v.held }) b (fs ++ g ∷ []) = history_take v b fs h s in
     let w : frame_length v.held ≤ length v.held = (begins_parts v.held h).1 in
     let q : length (framed_message v.held) ≡ message_length v.held = length-message v.held h in
     let l : length (drop (frame_length v.held) v.held) ≡ length v.held - frame_length v.held = length-drop (frame_length v.held) v.held in
@@ -279,7 +279,7 @@ unfolding tried_before
 step_push v b fs x n lt h =
     let p = first_held v in
     let s : HasFramed v b fs = h.history in
-    let r = stands_push v b fs x n s in
+    let r = history_push v b fs x n s in
     let f : length v.held ≤ v.taken = s.fits in
     let t : v.taken ≡ length b = s.taken in
     let g : length v.looks ≡ length v.held = h.each in

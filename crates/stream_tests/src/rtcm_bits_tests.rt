@@ -41,7 +41,7 @@ fn has_check(frame: &[u8]) -> bool {
     crc24q(frame.get(..22).unwrap_or(&[])) == 0x36_0B98 && crc24q(frame) == 0
 }
 
-/// Whether the CRC of the message is that of its frame, in two pieces, however it is cut.
+/// Whether the CRC of the message is that of its frame, in two pieces, for every cut.
 fn is_check_of_two() -> bool {
     for cut in 0..23usize {
         let mut register = CheckRegister::new();

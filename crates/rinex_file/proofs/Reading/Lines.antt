@@ -178,13 +178,13 @@ taken_more a b c taken line first next = subst (Consumes a c) (sym (joined-appen
 pub start : (s : Progress) (a : Option (List ℕ)) → ((v : FileValue) → IsFileValue v → HasLinesLeft s v (file_lines v)) → AreLinesOf s [] → IsTaken s 0 a a
 start s a new are = grind (arith, Consumes-nil)
 
-stands_more : (old new : Progress) (taken : List (List ℕ)) (line : List ℕ) → HasReadLines old taken → GoesOnWithLine old new line → ShowsLine old new line → HasReadLines new (taken ++ line ∷ [])
-stands_more old new taken line history more shows = grind (arith, append_assoc)
+history_more : (old new : Progress) (taken : List (List ℕ)) (line : List ℕ) → HasReadLines old taken → GoesOnWithLine old new line → ShowsLine old new line → HasReadLines new (taken ++ line ∷ [])
+history_more old new taken line history more shows = grind (arith, append_assoc)
 
 -- one more line was read
 pub one_more : {old new : Progress} {n : ℕ} {a b c : Option (List ℕ)} (line : List ℕ) → IsTaken old n a b → IsLine line → Consumes b c line → GoesOnWithLine old new line → ShowsLine old new line
     → IsTaken new (n + 1) a c
-one_more line t is next more shows = grind (arith, are_more, length_push, taken_more, stands_more)
+one_more line t is next more shows = grind (arith, are_more, length_push, taken_more, history_more)
 
 -- the next line has too many bytes
 pub over_long : {s : Progress} {n : ℕ} {a b : Option (List ℕ)} (c : Option (List ℕ)) (bytes : List ℕ) → IsTaken s n a b → length bytes ≡ 1220 → has 10 bytes ≡ false → Consumes b c bytes

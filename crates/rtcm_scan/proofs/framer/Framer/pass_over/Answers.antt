@@ -1,5 +1,5 @@
 use Rattle.rtcm_scan.proofs.Names.{◌≡◌, ◌+◌, ◌-◌, ◌≤◌, ◌<◌, ap, ◌∙◌, length, drop, refl, arith, length-drop, FramerValue, passed}
-use Rattle.rtcm_scan.proofs.PassOverLemmas.{to_stands, to_counts, view_passed_on, others_held, after_length}
+use Rattle.rtcm_scan.proofs.PassOverLemmas.{to_history, to_counts, view_passed_on, others_held, after_length}
 use Rattle.rtcm_scan.proofs.framer.Framer.pass_over.Goals as goal
 
 pub returns-clause-history : goal.returns-clause-history
@@ -9,7 +9,7 @@ returns-clause-history c = λ b fs s.
     let l : length i.window.bytes ≡ length c.args.self.now.held = ap (λ (v : FramerValue). length v.held) c.self.view_is in
     let e = view_passed_on i.place c.pass_others.new.candidate.count c.self.view_is (omega (arith, l, c.requires)) c.drop_front.ensures o.window o.within in
     let h = others_held (passed c.args.self.now) c.drop_front.new.self.bytes c.pass_others.result (ap (λ w. w.bytes) c.drop_front.ensures ∙ ap (λ (v : FramerValue). drop 1 v.held) c.self.view_is) o.within o.others in
-    rw e (to_stands (passed c.args.self.now) c.pass_others.new.candidate.count refl h.0 h.1 s)
+    rw e (to_history (passed c.args.self.now) c.pass_others.new.candidate.count refl h.0 h.1 s)
 
 pub returns-clause-counts : goal.returns-clause-counts
 returns-clause-counts c = λ b fs s.

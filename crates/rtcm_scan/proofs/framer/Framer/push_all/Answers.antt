@@ -1,5 +1,5 @@
 use Rattle.rtcm_scan.proofs.Names.{sym, ap, ◌∙◌, ◌≡◌, ◌+◌, ◌≤◌, length, arith, false, refl, rules, true≢false, FramerValue}
-use Rattle.rtcm_scan.proofs.PushLemmas.{stands_push_all, step_push_all, view_pushed_all}
+use Rattle.rtcm_scan.proofs.PushLemmas.{history_push_all, step_push_all, view_pushed_all}
 use Rattle.rtcm_scan.proofs.framer.Framer.push_all.Goals as goal
 
 pub returns-then-self : goal.returns-then-self
@@ -33,7 +33,7 @@ returns-else-self-taken-clause-history c = λ b fs s.
     let l : c.args.self.now.limit ≡ c.self.inside.limit = ap (λ (v : FramerValue). v.limit) (sym c.self.view_is) in
     let i : c.self.inside.place + length c.self.inside.window.bytes ≤ c.self.inside.limit = c.self.invariant.0 in
     let w : c.args.self.now.taken + length c.args.bytes.now ≤ c.args.self.now.limit = omega (arith, t, l, i, c.taken.ensures.value, c.if-self-taken.false) in
-    rw (view_pushed_all c.self.inside.place c.args.bytes.now c.self.view_is c.push_all.ensures) (stands_push_all c.args.self.now b c.args.bytes.now fs n w s)
+    rw (view_pushed_all c.self.inside.place c.args.bytes.now c.self.view_is c.push_all.ensures) (history_push_all c.args.self.now b c.args.bytes.now fs n w s)
 
 pub returns-else-self-taken-clause-counts : goal.returns-else-self-taken-clause-counts
 returns-else-self-taken-clause-counts c = λ b fs s.
