@@ -70,7 +70,7 @@ impl<W> Buffered<W> {
 
 impl<W: Write> Buffered<W> {
     /// Writes the bytes in the buffer, up to a failure. Fails if the device has failed before.
-    fn send(&mut self) -> io::Result<()>
+    fn write_out(&mut self) -> io::Result<()>
         ensures bytes { Keeps (contents_of W.contents self.old) (contents_of W.contents self.new) }
         ensures all { OnOk result ((self.new.waiting ≡ []) × (self.new.has_failed ≡ false)) }
         ensures failed { OnErr result (self.new.has_failed ≡ true) }
@@ -108,7 +108,7 @@ impl<W: Deliver> Write for Buffered<W> {
             → result ≡ Ok (min (length buf.now) (65536 - length self.old.waiting)) }
     {
         if self.failed || self.bytes.len() == BUFFER_BYTES {
-            self.send()?;
+            self.write_out()?;
         }
         let n = buf.len().min(BUFFER_BYTES - self.bytes.len());
         let Ok(()) = self.bytes.extend_from_slice(&buf[..n]) else {
@@ -125,7 +125,7 @@ impl<W: Deliver> Write for Buffered<W> {
         ensures failed { OnErr result (self.new.has_failed ≡ true) }
         ensures over { self.old.has_failed ≡ true → IsErr result × (self.new ≡ self.old) }
     {
-        self.send()?;
+        self.write_out()?;
         let result = self.device.deliver();
         self.failed = result.is_err();
         result
