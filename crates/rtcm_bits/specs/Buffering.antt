@@ -2,6 +2,10 @@
 use Rattle.std.specs.Prelude.{ℕ, Bool, List, ◌++◌, Option}
 use Rattle.std.specs.Io.KnownBytes.{append_known}
 
+-- the capacity of the buffer, in bytes
+abbrev pub buffer_bytes : ℕ
+buffer_bytes = 65536
+
 -- device: the writer; waiting: the bytes that weren't passed to it yet, or that it didn't accept; has_failed: a call of
 -- it failed
 pub record Buffering (W : Type 0) : Type 0 where

@@ -3,7 +3,7 @@ ghost use Rattle.std.specs.Prelude.{◌≡◌, ◌+◌, ◌-◌, ◌<◌, ◌≤
 ghost use Rattle.std.specs.Prelude.{IfOk, IsErr, vec_len, vec_capacity};
 ghost use Rattle.std.specs.Io.{WritesAtMost};
 ghost use Rattle.std.specs.Io.KnownBytes.{Keeps, Appends, WriteAppends};
-ghost use Rattle.rtcm_bits.specs.Buffering.{contents_of, waiting_of};
+ghost use Rattle.rtcm_bits.specs.Buffering.{buffer_bytes, contents_of, waiting_of};
 
 use crate::deliver::Deliver;
 use std::alloc::{AllocError, Global};
@@ -29,13 +29,13 @@ pub struct Buffered<W> {
 
 impl<W> Model for Buffered<W> {
     ghost use Rattle.std.specs.Prelude.{◌≡◌, ◌≤◌, false, drop, length, vec_capacity};
-    ghost use Rattle.rtcm_bits.specs.Buffering.{Buffering};
+    ghost use Rattle.rtcm_bits.specs.Buffering.{Buffering, buffer_bytes};
 
     ghost Value = { Buffering W };
 
     ghost view = { λ b. record { device = b.device; waiting = drop b.sent b.bytes.items; has_failed = b.failed } };
 
-    ghost invariant = { λ b. (length b.bytes.items ≤ 65536) × (65536 ≤ vec_capacity b.bytes)
+    ghost invariant = { λ b. (length b.bytes.items ≤ buffer_bytes) × (buffer_bytes ≤ vec_capacity b.bytes)
         × (b.failed ≡ false → b.sent ≡ 0) };
 }
 
@@ -104,8 +104,8 @@ impl<W: Deliver> Write for Buffered<W> {
         ensures fine { OnOk result (self.new.has_failed ≡ false) }
         ensures failed { OnErr result (self.new.has_failed ≡ true) }
         ensures over { self.old.has_failed ≡ true → IsErr result × (self.new ≡ self.old) }
-        ensures room { self.old.has_failed ≡ false → length self.old.waiting < 65536
-            → result ≡ Ok (min (length buf.now) (65536 - length self.old.waiting)) }
+        ensures room { self.old.has_failed ≡ false → length self.old.waiting < buffer_bytes
+            → result ≡ Ok (min (length buf.now) (buffer_bytes - length self.old.waiting)) }
     {
         if self.failed || self.bytes.len() == BUFFER_BYTES {
             self.write_out()?;
