@@ -1,5 +1,5 @@
 -- The decision about a candidate.
-use Rattle.rtcm_scan.proofs.Names.{ℕ, ◌≡◌, ◌+◌, ◌*◌, ◌<◌, ◌≤◌, ◌↔◌, Bool, true, false, cond, eqb, List, [], ◌∷◌, ◌++◌, length, take, drop, get_or, slice_index, refl, sym, ap, ◌∙◌, arith, ◌⊎◌, ⊎_elim, inl, inr, take-append-drop, append_assoc, cases_lt, cases_eq, eq-eqb, ne_eqb, length-take-le, take_more, crc, message_length, frame_length, has_preamble, sent_check, Candidate, wanted_by, HasTaken, asked, decision, if_missing, Passed, Found}
+use Rattle.rtcm_scan.proofs.Names.{ℕ, ◌≡◌, ◌+◌, ◌*◌, ◌<◌, ◌≤◌, ◌↔◌, Bool, true, false, cond, eqb, List, [], ◌∷◌, ◌++◌, length, take, drop, get_or, slice_index, refl, sym, ap, ◌∙◌, arith, ◌⊎◌, ⊎_elim, inl, inr, take-append-drop, append_assoc, cases_lt, cases_eq, eq-eqb, ne_eqb, length-take-le, take_more, crc, message_length, frame_length, has_preamble, sent_check, Candidate, wanted_by, HasTaken, asked, decision, if_missing, Passed, Found, preamble}
 use Rattle.rtcm_scan.proofs.FrameLemmas.{length_stays, preamble_stays}
 use Rattle.rtcm_scan.proofs.CandidateLemmas.{wanted_stays, wanted_bound}
 use Rattle.rtcm_scan.proofs.DecisionLemmas.{decision_without, decision_short, decision_found, decision_wrong}
@@ -12,11 +12,11 @@ abbrev pub Residue : Type 0
 Residue = (bytes : List ℕ) (x y z : ℕ) → x < 256 → y < 256 → z < 256 → ((crc (bytes ++ x ∷ y ∷ z ∷ []) ≡ 0) ↔ (x * 65536 + y * 256 + z ≡ crc bytes))
 
 -- a place that is decided by more than one byte begins with the preamble
-pub wanted_cases : (s : List ℕ) → ((slice_index s 0 ≡ 0xD3) × (wanted_by s ≡ frame_length s)) ⊎ ((slice_index s 0 ≡ 0xD3 → ⊥) × (wanted_by s ≡ 1))
+pub wanted_cases : (s : List ℕ) → ((slice_index s 0 ≡ preamble) × (wanted_by s ≡ frame_length s)) ⊎ ((slice_index s 0 ≡ preamble → ⊥) × (wanted_by s ≡ 1))
 wanted_cases s = ⊎_elim
-    (λ (e : slice_index s 0 ≡ 0xD3). let p : eqb (slice_index s 0) 0xD3 ≡ true = eq-eqb _ _ e in inl (e, rw p refl))
-    (λ (n : slice_index s 0 ≡ 0xD3 → ⊥). let p : eqb (slice_index s 0) 0xD3 ≡ false = ne_eqb _ _ n in inr (n, rw p refl))
-    (cases_eq (slice_index s 0) 0xD3)
+    (λ (e : slice_index s 0 ≡ preamble). let p : eqb (slice_index s 0) preamble ≡ true = eq-eqb _ _ e in inl (e, rw p refl))
+    (λ (n : slice_index s 0 ≡ preamble → ⊥). let p : eqb (slice_index s 0) preamble ≡ false = ne_eqb _ _ n in inr (n, rw p refl))
+    (cases_eq (slice_index s 0) preamble)
 
 wanted_take : (s : List ℕ) (k : ℕ) → k ≤ length s → k ≡ wanted_by s → wanted_by (take k s) ≡ wanted_by s
 wanted_take s k h e =
@@ -25,10 +25,10 @@ wanted_take s k h e =
     let b = wanted_bound s in
     let p : has_preamble s ≡ has_preamble (take k s) = ap has_preamble (sym t) ∙ preamble_stays (take k s) (drop k s) (omega arith) in
     ⊎_elim
-    (λ (c : (slice_index s 0 ≡ 0xD3) × (wanted_by s ≡ frame_length s)).
+    (λ (c : (slice_index s 0 ≡ preamble) × (wanted_by s ≡ frame_length s)).
     let f : message_length s ≡ message_length (take k s) = ap message_length (sym t) ∙ length_stays (take k s) (drop k s) (let d : wanted_by s ≡ frame_length s = c.1 in omega arith) in
     ap (λ q. cond q (frame_length (take k s)) 1) (sym p) ∙ ap (λ n. cond (has_preamble s) (n + 6) 1) (sym f))
-    (λ (c : (slice_index s 0 ≡ 0xD3 → ⊥) × (wanted_by s ≡ 1)).
+    (λ (c : (slice_index s 0 ≡ preamble → ⊥) × (wanted_by s ≡ 1)).
     let q : has_preamble s ≡ false = ne_eqb _ _ c.0 in
     ap (λ q. cond q (frame_length (take k s)) 1) (sym p ∙ q) ∙ sym c.1)
     (wanted_cases s)
@@ -60,8 +60,8 @@ judge_missing c e s l t a h =
     let w : c.wanted ≡ wanted_by (take c.count s) = t.wanted in
     ⊎_elim
     (λ (g : length s < wanted_by s). ⊎_elim
-    (λ (k : (slice_index s 0 ≡ 0xD3) × (wanted_by s ≡ frame_length s)). let d : wanted_by s ≡ frame_length s = k.1 in decision_short e s k.0 (omega arith))
-    (λ (k : (slice_index s 0 ≡ 0xD3 → ⊥) × (wanted_by s ≡ 1)). let d : wanted_by s ≡ 1 = k.1 in absurd (omega arith))
+    (λ (k : (slice_index s 0 ≡ preamble) × (wanted_by s ≡ frame_length s)). let d : wanted_by s ≡ frame_length s = k.1 in decision_short e s k.0 (omega arith))
+    (λ (k : (slice_index s 0 ≡ preamble → ⊥) × (wanted_by s ≡ 1)). let d : wanted_by s ≡ 1 = k.1 in absurd (omega arith))
     (wanted_cases s))
     (λ (g : wanted_by s ≤ length s).
     let k : c.count ≡ wanted_by s = omega arith in
@@ -88,28 +88,28 @@ whole c s t a h =
 pub judge_found : Residue → {c : Candidate} (e : Bool) (s : List ℕ) → AreBytes s → IsWhole c s → 1 < c.wanted → c.register ≡ 0 → Found c.count ≡ decision e s
 judge_found law {c} e s b w g r =
     ⊎_elim
-    (λ (k : (slice_index s 0 ≡ 0xD3) × (wanted_by s ≡ frame_length s)).
+    (λ (k : (slice_index s 0 ≡ preamble) × (wanted_by s ≡ frame_length s)).
     let d : wanted_by s ≡ frame_length s = k.1 in
     let n : c.count ≡ frame_length s = omega arith in
     let z : crc (take (frame_length s) s) ≡ 0 = ap (λ q. crc (take q s)) (sym n) ∙ sym w.taken.register ∙ r in
     ap Found n ∙ decision_found e s k.0 (omega arith) (right_check law s b (omega arith) z))
-    (λ (k : (slice_index s 0 ≡ 0xD3 → ⊥) × (wanted_by s ≡ 1)). let d : wanted_by s ≡ 1 = k.1 in absurd (omega arith))
+    (λ (k : (slice_index s 0 ≡ preamble → ⊥) × (wanted_by s ≡ 1)). let d : wanted_by s ≡ 1 = k.1 in absurd (omega arith))
     (wanted_cases s)
 
 pub judge_wrong : Residue → {c : Candidate} (e : Bool) (s : List ℕ) → AreBytes s → IsWhole c s → 1 < c.wanted → (c.register ≡ 0 → ⊥) → Passed ≡ decision e s
 judge_wrong law {c} e s b w g r =
     ⊎_elim
-    (λ (k : (slice_index s 0 ≡ 0xD3) × (wanted_by s ≡ frame_length s)).
+    (λ (k : (slice_index s 0 ≡ preamble) × (wanted_by s ≡ frame_length s)).
     let d : wanted_by s ≡ frame_length s = k.1 in
     let n : c.count ≡ frame_length s = omega arith in
     decision_wrong e s (omega arith) (λ q. r (w.taken.register ∙ ap (λ q. crc (take q s)) n ∙ wrong_check law s b (omega arith) q)))
-    (λ (k : (slice_index s 0 ≡ 0xD3 → ⊥) × (wanted_by s ≡ 1)). let d : wanted_by s ≡ 1 = k.1 in absurd (omega arith))
+    (λ (k : (slice_index s 0 ≡ preamble → ⊥) × (wanted_by s ≡ 1)). let d : wanted_by s ≡ 1 = k.1 in absurd (omega arith))
     (wanted_cases s)
 
 pub judge_none : (c : Candidate) (e : Bool) (s : List ℕ) → HasTaken c (take c.count s) → c.count ≡ asked s → (c.count < c.wanted → ⊥) → (1 < c.wanted → ⊥) → Passed ≡ decision e s
 judge_none c e s t a h g =
     let w1 : c.wanted ≡ wanted_by s = (whole c s t a h).wanted in
     ⊎_elim
-    (λ (k : (slice_index s 0 ≡ 0xD3) × (wanted_by s ≡ frame_length s)). let d : wanted_by s ≡ frame_length s = k.1 in absurd (g (omega arith)))
-    (λ (k : (slice_index s 0 ≡ 0xD3 → ⊥) × (wanted_by s ≡ 1)). decision_without e s k.0)
+    (λ (k : (slice_index s 0 ≡ preamble) × (wanted_by s ≡ frame_length s)). let d : wanted_by s ≡ frame_length s = k.1 in absurd (g (omega arith)))
+    (λ (k : (slice_index s 0 ≡ preamble → ⊥) × (wanted_by s ≡ 1)). decision_without e s k.0)
     (wanted_cases s)

@@ -2,7 +2,7 @@
 unfoldable pub use Rattle.rtcm_bits.specs.Bits.{bits_of, number_from, uint}
 unfoldable pub use Rattle.rtcm_bits.specs.Crc.{add_front, bits_remainder, crc, generator, remainder}
 pub use Rattle.rtcm_bits.specs.Device.{one_more}
-pub use Rattle.rtcm_bits.specs.FrameOf.{frame_bytes, frame_header, longest_frame, three_bytes}
+pub use Rattle.rtcm_bits.specs.FrameOf.{frame_bytes, frame_header, longest_frame, preamble, three_bytes}
 pub use Rattle.rtcm_bits.specs.Prefix.{IsPrefix}
 pub use Rattle.rtcm_bits.specs.Window.{WindowValue, looked, looked_through, nothing_held, pushed, pushed_all, without_front}
 pub use Rattle.rtcm_scan.specs.Candidate.{HasTaken, wanted_by}

@@ -1,5 +1,5 @@
 -- Bytes that begin no frame are dropped together, as if one by one.
-use Rattle.rtcm_scan.proofs.Names.{ℕ, ◌≡◌, ◌≢◌, ◌+◌, ◌-◌, ◌<◌, ◌≤◌, ◌^◌, min, Bool, false, List, [], ◌∷◌, length, take, drop, get_or, refl, sym, ap, ◌∙◌, arith, suc, zero, slice_index, slice_set, subst, drop-drop, length-drop, get_or-drop, ne_eqb, WindowValue, looked, looked_through, without_front, has_preamble, Candidate, HasTaken, Framed, FramerValue, HasFramed, IsPassed, scan_of, window_of, with_window, with_looks, asked, with_candidate_examined, passed, HasExamined}
+use Rattle.rtcm_scan.proofs.Names.{ℕ, ◌≡◌, ◌≢◌, ◌+◌, ◌-◌, ◌<◌, ◌≤◌, ◌^◌, min, Bool, false, List, [], ◌∷◌, length, take, drop, get_or, refl, sym, ap, ◌∙◌, arith, suc, zero, slice_index, slice_set, subst, drop-drop, length-drop, get_or-drop, ne_eqb, WindowValue, looked, looked_through, without_front, has_preamble, Candidate, HasTaken, Framed, FramerValue, HasFramed, IsPassed, scan_of, window_of, with_window, with_looks, asked, with_candidate_examined, passed, HasExamined, preamble}
 use Rattle.rtcm_scan.proofs.FrameLemmas.{none_without}
 use Rattle.rtcm_scan.proofs.CandidateLemmas.{looked_twice, taken_more}
 use Rattle.rtcm_scan.proofs.NextLemmas.{step_passed, counts_passed, history_looks}
@@ -56,25 +56,25 @@ one_more v n e h k =
 all_passed : (s : List ℕ) (e : Bool) → has_preamble s ≡ false → IsPassed e s
 all_passed s e h = let n = none_without s h in record { none = n.0; closed = λ r. n.1 }
 
-pub over_history : (v : FramerValue) (n : ℕ) (b : List ℕ) (fs : List Framed) → v.tried ≡ 0 → n ≤ length v.held → ((i : ℕ) → i < n → slice_index v.held i ≢ 0xD3) → HasFramed v b fs → HasFramed (passed_over v n) b fs
+pub over_history : (v : FramerValue) (n : ℕ) (b : List ℕ) (fs : List Framed) → v.tried ≡ 0 → n ≤ length v.held → ((i : ℕ) → i < n → slice_index v.held i ≢ preamble) → HasFramed v b fs → HasFramed (passed_over v n) b fs
 over_history v zero b fs e l o s = rw (none_over v e) s
 over_history v (suc n) b fs e l o s =
-    let h : has_preamble v.held ≡ false = ne_eqb (slice_index v.held 0) 0xD3 (o 0 (omega arith)) in
+    let h : has_preamble v.held ≡ false = ne_eqb (slice_index v.held 0) preamble (o 0 (omega arith)) in
     let k : 0 < length v.held = omega (arith, l) in
     let w : FramerValue = passed (with_candidate_examined v) in
     let d : length (drop 1 v.held) ≡ length v.held - 1 = length-drop 1 v.held in
-    let o' : (i : ℕ) → i < n → slice_index (drop 1 v.held) i ≢ 0xD3 = (λ i j q. let f : slice_index (drop 1 v.held) i ≡ slice_index v.held (1 + i) = get_or-drop 1 v.held i 0 in o (1 + i) (omega (arith, j)) (sym f ∙ q)) in
+    let o' : (i : ℕ) → i < n → slice_index (drop 1 v.held) i ≢ preamble = (λ i j q. let f : slice_index (drop 1 v.held) i ≡ slice_index v.held (1 + i) = get_or-drop 1 v.held i 0 in o (1 + i) (omega (arith, j)) (sym f ∙ q)) in
     rw (one_more v n e h k) (over_history (passed (with_candidate_examined v)) n b fs refl (omega (arith, l, d)) o'
     (step_passed v refl refl k (all_passed v.held v.has_ended h) s))
 
-pub over_counts : (v : FramerValue) (n : ℕ) (b : List ℕ) (fs : List Framed) → v.tried ≡ 0 → n ≤ length v.held → ((i : ℕ) → i < n → slice_index v.held i ≢ 0xD3) → HasExamined v b fs → HasExamined (passed_over v n) b fs
+pub over_counts : (v : FramerValue) (n : ℕ) (b : List ℕ) (fs : List Framed) → v.tried ≡ 0 → n ≤ length v.held → ((i : ℕ) → i < n → slice_index v.held i ≢ preamble) → HasExamined v b fs → HasExamined (passed_over v n) b fs
 over_counts v zero b fs e l o s = rw (none_over v e) s
 over_counts v (suc n) b fs e l o s =
-    let h : has_preamble v.held ≡ false = ne_eqb (slice_index v.held 0) 0xD3 (o 0 (omega arith)) in
+    let h : has_preamble v.held ≡ false = ne_eqb (slice_index v.held 0) preamble (o 0 (omega arith)) in
     let k : 0 < length v.held = omega (arith, l) in
     let t : v.tried ≤ asked v.held = omega (arith, e) in
     let d : length (drop 1 v.held) ≡ length v.held - 1 = length-drop 1 v.held in
-    let o' : (i : ℕ) → i < n → slice_index (drop 1 v.held) i ≢ 0xD3 = (λ i j q. let f : slice_index (drop 1 v.held) i ≡ slice_index v.held (1 + i) = get_or-drop 1 v.held i 0 in o (1 + i) (omega (arith, j)) (sym f ∙ q)) in
+    let o' : (i : ℕ) → i < n → slice_index (drop 1 v.held) i ≢ preamble = (λ i j q. let f : slice_index (drop 1 v.held) i ≡ slice_index v.held (1 + i) = get_or-drop 1 v.held i 0 in o (1 + i) (omega (arith, j)) (sym f ∙ q)) in
     rw (one_more v n e h k) (over_counts (passed (with_candidate_examined v)) n b fs refl (omega (arith, l, d)) o'
     (counts_passed v refl refl k (all_passed v.held v.has_ended h) t s))
 
@@ -99,10 +99,10 @@ passed_to v n k = with_looks (passed_over v n) (looked_through (window_of (passe
 left_held : (v : FramerValue) (n : ℕ) → length (passed_over v n).held ≡ length v.held - n
 left_held v n = length-drop n _ ∙ ap (λ b. length b - n) (looked_bytes (window_of v) 0 n)
 
-pub to_history : {n : ℕ} {b : List ℕ} {fs : List Framed} (v : FramerValue) (k : ℕ) → v.tried ≡ 0 → n ≤ length v.held → ((i : ℕ) → i < n → slice_index v.held i ≢ 0xD3) → HasFramed v b fs → HasFramed (passed_to v n k) b fs
+pub to_history : {n : ℕ} {b : List ℕ} {fs : List Framed} (v : FramerValue) (k : ℕ) → v.tried ≡ 0 → n ≤ length v.held → ((i : ℕ) → i < n → slice_index v.held i ≢ preamble) → HasFramed v b fs → HasFramed (passed_to v n k) b fs
 to_history {n} {b} {fs} v k e l o s = history_looks (passed_over v n) (looked_through (window_of (passed_over v n)) 0 k) k b fs (over_history v n b fs e l o s)
 
-pub to_counts : {n : ℕ} {b : List ℕ} {fs : List Framed} (v : FramerValue) (k : ℕ) → v.tried ≡ 0 → n ≤ length v.held → ((i : ℕ) → i < n → slice_index v.held i ≢ 0xD3) → k ≡ min 1 (length v.held - n)
+pub to_counts : {n : ℕ} {b : List ℕ} {fs : List Framed} (v : FramerValue) (k : ℕ) → v.tried ≡ 0 → n ≤ length v.held → ((i : ℕ) → i < n → slice_index v.held i ≢ preamble) → k ≡ min 1 (length v.held - n)
     → HasExamined v b fs → HasExamined (passed_to v n k) b fs
 to_counts {n} {b} {fs} v k e l o m x =
     let d : length (passed_over v n).held ≡ length v.held - n = left_held v n in
@@ -141,7 +141,7 @@ view_passed_on {v} {limit} {skipped} {n} {w} {u} {ended} {ready} place k e h g f
     rw (a, b) (view_passed (place + 1) k s f l)
 
 -- the content of the window is what the framer holds
-pub others_held : (v : FramerValue) (bytes : List ℕ) (n : ℕ) → bytes ≡ v.held → n ≤ length bytes → ((i : ℕ) → i < n → slice_index bytes i ≢ 0xD3) → (n ≤ length v.held) × ((i : ℕ) → i < n → slice_index v.held i ≢ 0xD3)
+pub others_held : (v : FramerValue) (bytes : List ℕ) (n : ℕ) → bytes ≡ v.held → n ≤ length bytes → ((i : ℕ) → i < n → slice_index bytes i ≢ preamble) → (n ≤ length v.held) × ((i : ℕ) → i < n → slice_index v.held i ≢ preamble)
 others_held v bytes n e l o = rw (← e) (l, o)
 
 -- the bytes left after the dropped ones
@@ -152,10 +152,10 @@ pub after_length : (w w' : WindowValue) (n m : ℕ) → w' ≡ without_front (lo
 after_length w w' n m f = ap length (after_bytes w w' n m f) ∙ length-drop n w.bytes
 
 -- a candidate that has read the preamble after them
-pub taken_preamble : {c : Candidate} {w' : WindowValue} {n : ℕ} (w : WindowValue) (m : ℕ) → w' ≡ without_front (looked_through w 0 m) n → n < length w.bytes → slice_index w.bytes n ≡ 0xD3 → c.count ≡ 1
-    → HasTaken c (0xD3 ∷ []) → HasTaken c (take c.count w'.bytes)
+pub taken_preamble : {c : Candidate} {w' : WindowValue} {n : ℕ} (w : WindowValue) (m : ℕ) → w' ≡ without_front (looked_through w 0 m) n → n < length w.bytes → slice_index w.bytes n ≡ preamble → c.count ≡ 1
+    → HasTaken c (preamble ∷ []) → HasTaken c (take c.count w'.bytes)
 taken_preamble {c} {w'} {n} w m f l e k t =
     let d : length w'.bytes ≡ length w.bytes - n = after_length w w' n m f in
     let z : n + 0 ≡ n = omega arith in
-    let x : 0xD3 ≡ get_or w'.bytes 0 0 = sym (ap (λ (s : List ℕ). get_or s 0 0) (after_bytes w w' n m f) ∙ get_or-drop n w.bytes 0 0 ∙ ap (λ (i : ℕ). get_or w.bytes i 0) z ∙ e) in
-    taken_more c w'.bytes 0 0xD3 t k (omega (arith, d, l)) x
+    let x : preamble ≡ get_or w'.bytes 0 0 = sym (ap (λ (s : List ℕ). get_or s 0 0) (after_bytes w w' n m f) ∙ get_or-drop n w.bytes 0 0 ∙ ap (λ (i : ℕ). get_or w.bytes i 0) z ∙ e) in
+    taken_more c w'.bytes 0 preamble t k (omega (arith, d, l)) x

@@ -1,6 +1,7 @@
 //! The candidate at the front of the held bytes: its held bytes are read, and then it is decided.
 ghost use Rattle.std.specs.Prelude.{◌≡◌, ◌≢◌, ◌+◌, ◌-◌, ◌<◌, ◌≤◌, ℕ, [], min, length, slice_index, take};
 ghost use Rattle.rtcm_scan.specs.Candidate.{HasTaken, wanted_by};
+ghost use Rattle.rtcm_bits.specs.FrameOf.{preamble};
 ghost use Rattle.rtcm_bits.specs.Window.{looked_through, without_front};
 ghost use Rattle.rtcm_scan.specs.Results.{ComesTo};
 
@@ -71,7 +72,7 @@ fn examine_header(window: &mut Window, candidate: &mut Candidate)
 pub(crate) fn pass_others(window: &mut Window, candidate: &mut Candidate) -> usize
     requires { HasTaken candidate.old [] }
     ensures within { result ≤ length window.old.bytes }
-    ensures others { (i : ℕ) → i < result → slice_index window.old.bytes i ≢ 0xD3 }
+    ensures others { (i : ℕ) → i < result → slice_index window.old.bytes i ≢ preamble }
     ensures taken { HasTaken candidate.new (take candidate.new.count window.new.bytes) }
     ensures count { candidate.new.count ≡ min 1 (length window.old.bytes - result) }
     ensures window { window.new ≡ without_front (looked_through window.old 0 (result + candidate.new.count)) result }
