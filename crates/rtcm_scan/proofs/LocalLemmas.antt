@@ -1,5 +1,5 @@
 -- Damage stays local.
-use Rattle.rtcm_scan.proofs.Names.{ℕ, ◌≡◌, ◌+◌, ◌-◌, ◌/◌, ◌%◌, ◌<◌, ◌≤◌, true, List, [], ◌∷◌, ◌++◌, length, take, drop, get_or, refl, sym, ap, ◌∙◌, arith, suc, zero, ⊎_elim, subst, eq-eqb, append_assoc, length-append, take-add, All, Contains, flat_map, cases_lt, and_from, le-leb, append-nil, take_at, drop_at, length-drop, drop_all, get_or-drop, take-append-drop, drop_more, All-head, All-tail, All-drop, Contains-append_right, flat_map-append, crc, frame_bytes, frame_header, three_bytes, begins_frame, message_length, frame_length, sent_check, framed_message, Framed, IsFrameOf, frame_end, frames_from, frames_of, stream_after, frame_place, HasNoOtherFrame, StaysLocal, placed, Scanned}
+use Rattle.rtcm_scan.proofs.Names.{ℕ, ◌≡◌, ◌+◌, ◌-◌, ◌/◌, ◌%◌, ◌<◌, ◌≤◌, true, List, [], ◌∷◌, ◌++◌, length, take, drop, get_or, refl, sym, ap, ◌∙◌, arith, suc, zero, ⊎_elim, subst, eq-eqb, append_assoc, length-append, take-add, All, Contains, flat_map, cases_lt, and_from, le-leb, append-nil, take_at, drop_at, length-drop, drop_all, get_or-drop, take-append-drop, drop_more, All-head, All-tail, All-drop, Contains-append_right, flat_map-append, crc, frame_bytes, frame_header, three_bytes, begins_frame, message_length, frame_length, sent_check, framed_message, Framed, IsFrameOf, frame_end, frames_from, frames_of, stream_after, frame_place, HasNoOtherFrame, StaysLocal, placed, Scanned, longest_frame, longest_message, most_undecided}
 use Rattle.rtcm_scan.proofs.ScanLemmas.{scanned_frames, scanned_all}
 use Rattle.rtcm_scan.proofs.FrameLemmas.{length-message}
 use Rattle.rtcm_scan.proofs.DecisionLemmas.{frame_length_bound}
@@ -9,10 +9,10 @@ use Rattle.rtcm_scan.proofs.LawLemmas.{frames_scanned, same_frame}
 spread : (m rest : List ℕ) → frame_bytes m ++ rest ≡ (frame_header m ++ m) ++ (three_bytes (crc (frame_header m ++ m)) ++ rest)
 spread m rest = append_assoc (frame_header m ++ m) (three_bytes (crc (frame_header m ++ m))) rest
 
-length_claimed : (m rest : List ℕ) → length m ≤ 1023 → message_length (frame_bytes m ++ rest) ≡ length m
+length_claimed : (m rest : List ℕ) → length m ≤ longest_message → message_length (frame_bytes m ++ rest) ≡ length m
 length_claimed m rest h = omega arith
 
-pub frame_begins : (m rest : List ℕ) → length m ≤ 1023 → begins_frame (frame_bytes m ++ rest) ≡ true
+pub frame_begins : (m rest : List ℕ) → length m ≤ longest_message → begins_frame (frame_bytes m ++ rest) ≡ true
 unfolding begins_frame
 frame_begins m rest h =
     let s : List ℕ = frame_bytes m ++ rest in
@@ -34,7 +34,7 @@ frame_begins m rest h =
         let e : get_or s (n + 2) 0 ≡ c % 256 = sym (get_or-drop n s 2 0) ∙ ap (λ x. get_or x 2 0) d in
         rw (a, b, e) (omega arith)
 
-pub frame_message : (m rest : List ℕ) → length m ≤ 1023 → framed_message (frame_bytes m ++ rest) ≡ m
+pub frame_message : (m rest : List ℕ) → length m ≤ longest_message → framed_message (frame_bytes m ++ rest) ≡ m
 frame_message m rest h =
     let l : message_length (frame_bytes m ++ rest) ≡ length m = length_claimed m rest h in
     ap (λ n. take n (drop 3 (frame_bytes m ++ rest))) l
@@ -45,22 +45,22 @@ frame_message m rest h =
 length-frame : (m : List ℕ) → length (frame_bytes m) ≡ length m + 6
 length-frame m = length-append (frame_header m ++ m) (three_bytes (crc (frame_header m ++ m))) ∙ (omega arith)
 
-frame_here : (pre m : List ℕ) (rest : List ℕ) → length m ≤ 1023 → IsFrameOf (pre ++ (frame_bytes m ++ rest)) (record { offset = length pre; message = m })
+frame_here : (pre m : List ℕ) (rest : List ℕ) → length m ≤ longest_message → IsFrameOf (pre ++ (frame_bytes m ++ rest)) (record { offset = length pre; message = m })
 frame_here pre m rest h =
     let d : drop (length pre) (pre ++ (frame_bytes m ++ rest)) ≡ frame_bytes m ++ rest = drop_at pre (frame_bytes m ++ rest) (length pre) refl in
     record { begins = ap begins_frame d ∙ frame_begins m rest h; message = sym (ap framed_message d ∙ frame_message m rest h) }
 
-scanned_list : (pre : List ℕ) (ms : List (List ℕ)) {b : List ℕ} {p n : ℕ} → b ≡ pre ++ flat_map frame_bytes ms → p ≡ length pre → n ≡ length b → All (λ m. length m ≤ 1023) ms → Scanned true b p n (placed p ms)
+scanned_list : (pre : List ℕ) (ms : List (List ℕ)) {b : List ℕ} {p n : ℕ} → b ≡ pre ++ flat_map frame_bytes ms → p ≡ length pre → n ≡ length b → All (λ m. length m ≤ longest_message) ms → Scanned true b p n (placed p ms)
 scanned_list pre [] {b} e q r a = (let l : length b ≡ length pre = ap length (e ∙ append-nil pre) in omega arith, λ k i j. (let l : length b ≡ length pre = ap length (e ∙ append-nil pre) in absurd (omega arith)))
 scanned_list pre (m ∷ ms) {b} {p} {n} e q r a =
-    let h : length m ≤ 1023 = All-head (λ x. length x ≤ 1023) m ms a in
+    let h : length m ≤ longest_message = All-head (λ x. length x ≤ longest_message) m ms a in
     let f : IsFrameOf (pre ++ (frame_bytes m ++ flat_map frame_bytes ms)) (record { offset = length pre; message = m }) = frame_here pre m (flat_map frame_bytes ms) h in
     let v : IsFrameOf b (record { offset = p; message = m }) = (rw (e, q) f) in
     let l : p + (length m + 6) ≡ length (pre ++ frame_bytes m) = (let x = length-append pre (frame_bytes m) in let y = length-frame m in omega (arith, x, y)) in (
       omega arith,
       (λ k i j. absurd (omega arith)),
       v,
-      scanned_list (pre ++ frame_bytes m) ms (e ∙ sym (append_assoc pre (frame_bytes m) (flat_map frame_bytes ms))) l r (All-tail (λ x. length x ≤ 1023) m ms a),
+      scanned_list (pre ++ frame_bytes m) ms (e ∙ sym (append_assoc pre (frame_bytes m) (flat_map frame_bytes ms))) l r (All-tail (λ x. length x ≤ longest_message) m ms a),
     )
 
 -- a scan can be cut if no frame lies across
@@ -111,7 +111,7 @@ place_split bytes ms k d =
     ∙ ap length (sym (append_assoc bytes (flat_map frame_bytes (take k ms)) (flat_map frame_bytes (take d (drop k ms))))) ∙ length-append (stream_after bytes (take k ms)) (flat_map frame_bytes (take d (drop k ms)))
 
 -- the frame with number i
-frame_number : (bytes : List ℕ) (ms : List (List ℕ)) (i : ℕ) → i < length ms → All (λ m. length m ≤ 1023) ms → IsFrameOf (stream_after bytes ms) (record { offset = frame_place bytes ms i; message = get_or ms i [] })
+frame_number : (bytes : List ℕ) (ms : List (List ℕ)) (i : ℕ) → i < length ms → All (λ m. length m ≤ longest_message) ms → IsFrameOf (stream_after bytes ms) (record { offset = frame_place bytes ms i; message = get_or ms i [] })
 frame_number bytes ms i h a =
     let d : drop i ms ≡ get_or ms i [] ∷ drop (i + 1) ms = drop_more ms i [] h in
     let e : stream_after bytes ms ≡ stream_after bytes (take i ms) ++ (frame_bytes (get_or ms i []) ++ flat_map frame_bytes (drop (i + 1) ms)) = cut_at bytes ms i ∙ ap (λ x. stream_after bytes (take i ms) ++ flat_map frame_bytes x) d in
@@ -131,12 +131,12 @@ frame_ends bytes ms i k h l =
     close y r m a b c = omega arith
 
 -- no frame lies across the beginning of a frame that is far enough after the bytes
-none_across : (bytes : List ℕ) (ms : List (List ℕ)) (k : ℕ) → All (λ m. length m ≤ 1023) ms → k < length ms → length bytes + 1028 ≤ frame_place bytes ms k → HasNoOtherFrame bytes ms k
+none_across : (bytes : List ℕ) (ms : List (List ℕ)) (k : ℕ) → All (λ m. length m ≤ longest_message) ms → k < length ms → length bytes + most_undecided ≤ frame_place bytes ms k → HasNoOtherFrame bytes ms k
     → NoneAcross (stream_after bytes ms) (frame_place bytes ms k)
 none_across bytes ms k a l far quiet f v h c = ⊎_elim
     (λ (x : f.offset < length bytes).
     let m : length f.message ≡ message_length (drop f.offset (stream_after bytes ms)) = ap length v.message ∙ length-message (drop f.offset (stream_after bytes ms)) v.begins in
-    let n : frame_length (drop f.offset (stream_after bytes ms)) ≤ 1029 = frame_length_bound (drop f.offset (stream_after bytes ms)) in
+    let n : frame_length (drop f.offset (stream_after bytes ms)) ≤ longest_frame = frame_length_bound (drop f.offset (stream_after bytes ms)) in
     short m n x far c)
     (λ (x : length bytes ≤ f.offset).
     let w = quiet f.offset x h v.begins in
@@ -146,7 +146,7 @@ none_across bytes ms k a l far quiet f v h c = ⊎_elim
     crossing _ _ _ t (frame_ends bytes ms w.0 k w.1 l) c)
     (cases_lt f.offset (length bytes))
   where
-    short : {o lm ml j p : ℕ} → lm ≡ ml → ml + 6 ≤ 1029 → o < j → j + 1028 ≤ p → p < o + (lm + 6) → ⊥
+    short : {o lm ml j p : ℕ} → lm ≡ ml → ml + 6 ≤ longest_frame → o < j → j + most_undecided ≤ p → p < o + (lm + 6) → ⊥
     short a b c d e = omega arith
 
     crossing : (e x p : ℕ) → e ≡ x → x ≤ p → p < e → ⊥
@@ -162,7 +162,7 @@ stays_local bytes ms k a l far quiet i hi li =
     let s : Scanned true b 0 (length b) (frames_from 0 0 b) = frames_scanned (length b) b 0 (omega arith) (omega arith) in
     let c = scanned_cut b (frames_from 0 0 b) {from = 0} (omega arith) within (none_across bytes ms k a l far quiet) s in
     let t : Scanned true b (frame_place bytes ms k) (length b) (placed (frame_place bytes ms k) (drop k ms)) =
-    scanned_list (stream_after bytes (take k ms)) (drop k ms) e refl refl (All-drop (λ m. length m ≤ 1023) k ms a) in
+    scanned_list (stream_after bytes (take k ms)) (drop k ms) e refl refl (All-drop (λ m. length m ≤ longest_message) k ms a) in
     let r : c.1 ≡ placed (frame_place bytes ms k) (drop k ms) = scanned_one b (frame_place bytes ms k) c.1 (placed (frame_place bytes ms k) (drop k ms)) c.3 t in
     let z : k + (i - k) ≡ i = omega arith in
     let o : frame_place bytes ms k + length (flat_map frame_bytes (take (i - k) (drop k ms))) ≡ frame_place bytes ms i = sym (place_split bytes ms k (i - k)) ∙ ap (frame_place bytes ms) z in
@@ -178,5 +178,5 @@ stays_local bytes ms k a l far quiet i hi li =
     ends_within x y z e = omega arith
 
 -- a stream of frames without other bytes has these frames
-pub joined : (ms : List (List ℕ)) → All (λ m. length m ≤ 1023) ms → frames_of (flat_map frame_bytes ms) ≡ placed 0 ms
+pub joined : (ms : List (List ℕ)) → All (λ m. length m ≤ longest_message) ms → frames_of (flat_map frame_bytes ms) ≡ placed 0 ms
 joined ms a = scanned_all true (flat_map frame_bytes ms) (placed 0 ms) (scanned_list [] ms refl refl refl a)

@@ -1,26 +1,26 @@
 -- What holds at every moment.
-use Rattle.rtcm_scan.proofs.Names.{ℕ, ◌≡◌, ◌*◌, ◌≤◌, ◌^◌, true, false, List, [], length, refl, arith, Framed, frames_of, frames_from, WindowValue, nothing_held, FramerValue, scan_of, HasFramed, first_held, new_scan, places, tried, decided, decided_frames, frames_before, IsDrained, greatest_below, spans_now, looks_at, all_looks, spans_at, tried_before, HasExamined, IsCountedExactly}
+use Rattle.rtcm_scan.proofs.Names.{ℕ, ◌≡◌, ◌*◌, ◌≤◌, ◌^◌, true, false, List, [], length, refl, arith, Framed, frames_of, frames_from, WindowValue, nothing_held, FramerValue, scan_of, HasFramed, first_held, new_scan, places, tried, decided, decided_frames, frames_before, IsDrained, greatest_below, spans_now, looks_at, all_looks, spans_at, tried_before, HasExamined, IsCountedExactly, longest_frame, most_looks}
 use Rattle.rtcm_scan.proofs.BoundLemmas.{looks_bound, all_bound, greatest_bound}
 use Rattle.rtcm_scan.proofs.HistoryLemmas.{history_end, history_from}
 use Rattle.rtcm_scan.proofs.ScanLemmas.{scanned_none}
 
-pub most_moment : (v : FramerValue) (b : List ℕ) (fs : List Framed) → length v.held ≤ 1029 → HasExamined v b fs → v.most ≤ 1030
+pub most_moment : (v : FramerValue) (b : List ℕ) (fs : List Framed) → length v.held ≤ longest_frame → HasExamined v b fs → v.most ≤ most_looks
 most_moment v b fs h x =
     let s : HasFramed v b fs = x.history in
     let k : v.tried ≤ length v.held = x.tried in
     let e : v.most ≡ greatest_below (looks_at (spans_at b fs (first_held v) v.tried)) (length b) = x.counts.greatest_is in
-    let g : greatest_below (looks_at (spans_at b fs (first_held v) v.tried)) (length b) ≤ 1030 =
-    greatest_bound (looks_at (spans_at b fs (first_held v) v.tried)) (length b) 1030 (λ i. looks_bound v.has_ended b fs (first_held v) v.tried i s.scanned (omega arith)) in
+    let g : greatest_below (looks_at (spans_at b fs (first_held v) v.tried)) (length b) ≤ most_looks =
+    greatest_bound (looks_at (spans_at b fs (first_held v) v.tried)) (length b) most_looks (λ i. looks_bound v.has_ended b fs (first_held v) v.tried i s.scanned (omega arith)) in
     rw e g
 
-pub examined_moment : (v : FramerValue) (b : List ℕ) (fs : List Framed) → length v.held ≤ 1029 → HasExamined v b fs → v.examined ≤ 1030 * length b
+pub examined_moment : (v : FramerValue) (b : List ℕ) (fs : List Framed) → length v.held ≤ longest_frame → HasExamined v b fs → v.examined ≤ most_looks * length b
 examined_moment v b fs h x =
     let s : HasFramed v b fs = x.history in
     let k : v.tried ≤ length v.held = x.tried in
     let f : length v.held ≤ v.taken = s.fits in
     let t : v.taken ≡ length b = s.taken in
     let e : v.examined ≡ all_looks (spans_at b fs (first_held v) v.tried) = x.counts.total in
-    let g : all_looks (spans_at b fs (first_held v) v.tried) ≤ 1030 * length b = all_bound v.has_ended b fs (first_held v) s.scanned (omega arith) (omega arith) in
+    let g : all_looks (spans_at b fs (first_held v) v.tried) ≤ most_looks * length b = all_bound v.has_ended b fs (first_held v) s.scanned (omega arith) (omega arith) in
     rw e g
 
 pub counts_end : (v : FramerValue) (b : List ℕ) (fs : List Framed) → HasExamined v b fs → HasExamined (record v { has_ended = true }) b fs

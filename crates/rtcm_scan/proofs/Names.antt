@@ -2,12 +2,12 @@
 unfoldable pub use Rattle.rtcm_bits.specs.Bits.{bits_of, number_from, uint}
 unfoldable pub use Rattle.rtcm_bits.specs.Crc.{add_front, bits_remainder, crc, generator, remainder}
 pub use Rattle.rtcm_bits.specs.Device.{one_more}
-pub use Rattle.rtcm_bits.specs.FrameOf.{frame_bytes, frame_header, longest_frame, preamble, three_bytes}
+pub use Rattle.rtcm_bits.specs.FrameOf.{frame_bytes, frame_header, longest_frame, longest_message, preamble, three_bytes}
 pub use Rattle.rtcm_bits.specs.Prefix.{IsPrefix}
 pub use Rattle.rtcm_bits.specs.Window.{WindowValue, looked, looked_through, nothing_held, pushed, pushed_all, without_front}
 pub use Rattle.rtcm_scan.specs.Candidate.{HasTaken, wanted_by}
 unfoldable pub use Rattle.rtcm_scan.specs.Decided.{decided, decided_frames, frames_before, is_tried, places, tried}
-pub use Rattle.rtcm_scan.specs.Decided.{cost, is_inside, is_within, skipped_before}
+pub use Rattle.rtcm_scan.specs.Decided.{cost, is_inside, is_within, most_undecided, skipped_before}
 pub use Rattle.rtcm_scan.specs.Drained.{IsDrained}
 pub use Rattle.rtcm_scan.specs.Examined.{CountsFrame, CountsKnown, HasExamined, HasExaminedSome, IsCountedExactly, IsCountedTo}
 unfoldable pub use Rattle.rtcm_scan.specs.Frame.{begins_frame, is_open}
@@ -17,7 +17,7 @@ pub use Rattle.rtcm_scan.specs.Frames.{AreFrames, Framed, IsFrameOf, IsInside, f
 pub use Rattle.rtcm_scan.specs.Known.{known_frames, known_place}
 pub use Rattle.rtcm_scan.specs.Local.{HasNoOtherFrame, StaysLocal, frame_place, placed, stream_after}
 unfoldable pub use Rattle.rtcm_scan.specs.Looks.{greatest_below, spans_now, spans_of, tried_before}
-pub use Rattle.rtcm_scan.specs.Looks.{CountsLooks, Span, all_looks, covers, examined, examined_now, examined_spans, looks_at, most, most_now, span, spans_at}
+pub use Rattle.rtcm_scan.specs.Looks.{CountsLooks, Span, all_looks, covers, examined, examined_now, examined_spans, looks_at, most, most_looks, most_now, span, spans_at}
 pub use Rattle.rtcm_scan.specs.Passing.{AtFault, Breaking, Breaks, BreaksAfter, BreaksKnown, BreaksReading, Coming, Continues, HasBroken, HasPassed, HasPassedAll, HasReadPiece, IsReadingOn, IsSameStream, Passes, PassesAll, PassesKnown, PassesToLimit, Reads, ReadsOn, TakesPiece}
 pub use Rattle.rtcm_scan.specs.Pending.{asked, passed, with_candidate_examined}
 unfoldable pub use Rattle.rtcm_scan.specs.Results.{decision}

@@ -1,5 +1,5 @@
 -- A stream that is read piece by piece.
-use Rattle.rtcm_scan.proofs.Names.{◌≡◌, ℕ, ◌+◌, ◌-◌, ◌<◌, ◌≤◌, Bool, true, false, List, [], ◌∷◌, ◌++◌, ◌∙◌, ap, sym, refl, arith, length, suc, take, drop, max, append_assoc, append-nil, subst, length-append, Option, true≢false, add-zero, Result, Ok, Err, MatchResult, Consumes, Keeps, IsAtEnd, ReadConsumes, ReadsAtMost, Consumes-trans, Consumes-nil, Framed, length-drop, take-append-le, length-take-le, longest_frame, decided, IsDrained, known_frames, known_place, FramerValue, HasReadPiece, Coming, Breaking, HasPassedAll, HasBroken, Passes, Breaks, Continues, BreaksKnown, PassesKnown, PassesToLimit, PassesAll, BreaksAfter, BreaksReading, Reads, ReadsOn, IsReadingOn, AtFault, StreamFault, Read, TooLong, Sink}
+use Rattle.rtcm_scan.proofs.Names.{◌≡◌, ℕ, ◌+◌, ◌-◌, ◌<◌, ◌≤◌, Bool, true, false, List, [], ◌∷◌, ◌++◌, ◌∙◌, ap, sym, refl, arith, length, suc, take, drop, max, append_assoc, append-nil, subst, length-append, Option, true≢false, add-zero, Result, Ok, Err, MatchResult, Consumes, Keeps, IsAtEnd, ReadConsumes, ReadsAtMost, Consumes-trans, Consumes-nil, Framed, length-drop, take-append-le, length-take-le, longest_frame, decided, IsDrained, known_frames, known_place, FramerValue, HasReadPiece, Coming, Breaking, HasPassedAll, HasBroken, Passes, Breaks, Continues, BreaksKnown, PassesKnown, PassesToLimit, PassesAll, BreaksAfter, BreaksReading, Reads, ReadsOn, IsReadingOn, AtFault, StreamFault, Read, TooLong, Sink, most_undecided}
 use Rattle.rtcm_scan.proofs.PassingLemmas.{prefix_self, passes_sent}
 use Rattle.rtcm_scan.proofs.PrefixLemmas.{decided_near}
 
@@ -53,7 +53,7 @@ near_held : (v : FramerValue) (b : List ℕ) (n most : ℕ) → v.has_ended ≡ 
     → (length b - decided b) + n ≤ max most longest_frame
 near_held v b n most going d fits =
     let e : length v.held ≡ length b - decided b = ap length d.held ∙ ap (λ (h : Bool). length (drop (known_place h b) b)) going ∙ length-drop (decided b) b in
-    let u : length b ≤ decided b + 1028 = (decided_near b).1 in
+    let u : length b ≤ decided b + most_undecided = (decided_near b).1 in
     omega (arith, e, u, fits)
 
 module _ {S O : Type 0} (took : Coming S O) (broke : Breaking S O) where
@@ -129,7 +129,7 @@ module _ {S O : Type 0} (took : Coming S O) (broke : Breaking S O) where
       known = prefix_self (known_frames v.has_ended b);
       broken = send s0 o0 ps (known_frames v.has_ended b) x.passed.taken;
     }));
-    near = λ s0 o0 ps b x. (let u : length (b ++ []) ≤ decided (b ++ []) + 1028 = (decided_near (b ++ [])).1 in omega (arith, u));
+    near = λ s0 o0 ps b x. (let u : length (b ++ []) ≤ decided (b ++ []) + most_undecided = (decided_near (b ++ [])).1 in omega (arith, u));
     few = omega arith;
     least = omega arith;
     greatest = omega arith;

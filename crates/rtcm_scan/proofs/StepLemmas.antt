@@ -1,5 +1,5 @@
 -- The counts of a framer, step by step.
-use Rattle.rtcm_scan.proofs.Names.{ℕ, ◌≡◌, ◌+◌, ◌-◌, ◌*◌, ◌<◌, ◌≤◌, ◌^◌, min, max, Bool, true, false, not, cond, ◌&&◌, ltb, leb, List, [], ◌∷◌, ◌++◌, length, map, drop, set, get_or, refl, sym, ap, ◌∙◌, arith, suc, zero, ⊎_elim, subst, length-set, length-append, length-drop, filter, list_any, cases_lt, lt-ltb, le-ltb, get_or-set_same, map-append, filter-append, WindowValue, looked, looked_through, without_front, begins_frame, message_length, frame_length, has_preamble, framed_message, Framed, IsFrameOf, frame_end, places, is_inside, cost, FramerValue, HasFramed, first_held, IsPassed, Scanned, window_of, with_window, with_looks, asked, with_candidate_examined, Span, span, covers, looks_at, all_looks, tried_before, spans_at, CountsLooks, HasExamined}
+use Rattle.rtcm_scan.proofs.Names.{ℕ, ◌≡◌, ◌+◌, ◌-◌, ◌*◌, ◌<◌, ◌≤◌, ◌^◌, min, max, Bool, true, false, not, cond, ◌&&◌, ltb, leb, List, [], ◌∷◌, ◌++◌, length, map, drop, set, get_or, refl, sym, ap, ◌∙◌, arith, suc, zero, ⊎_elim, subst, length-set, length-append, length-drop, filter, list_any, cases_lt, lt-ltb, le-ltb, get_or-set_same, map-append, filter-append, WindowValue, looked, looked_through, without_front, begins_frame, message_length, frame_length, has_preamble, framed_message, Framed, IsFrameOf, frame_end, places, is_inside, cost, FramerValue, HasFramed, first_held, IsPassed, Scanned, window_of, with_window, with_looks, asked, with_candidate_examined, Span, span, covers, looks_at, all_looks, tried_before, spans_at, CountsLooks, HasExamined, longest_frame, most_looks}
 use Rattle.std.specs.List.{AllByRecursion as ByRecursion}
 use Rattle.rtcm_scan.proofs.LooksLemmas.{one_if, looks_push, all_push, counts_look, counts_push, none_cover, greatest_same}
 use Rattle.rtcm_scan.proofs.TriedLemmas.{sum_empty, counts_skip, counts_frame, looks_frame, all_frame, empty_covers}
@@ -104,26 +104,26 @@ counts_through {q} {k} {p} {n} {start} xs (suc m) w g c =
     (counts_looked xs (looked_through w start m) (record { meets = omega (arith, g.meets); counted = omega (arith, g.counted, b); within = omega (arith, g.within); fit = f' }) r)
 
 -- at every moment the counts fit
-bound_fits : {k : ℕ} (e : Bool) (b : List ℕ) (fs : List Framed) (p : ℕ) → Scanned e b 0 p fs → k ≤ 1029 → p + k ≤ length b → length b ≤ 2 ^ 48 → Fit (spans_at b fs p k)
+bound_fits : {k : ℕ} (e : Bool) (b : List ℕ) (fs : List Framed) (p : ℕ) → Scanned e b 0 p fs → k ≤ longest_frame → p + k ≤ length b → length b ≤ 2 ^ 48 → Fit (spans_at b fs p k)
 bound_fits {k} e b fs p s h l t = record {
-  looks = λ i. (let r : looks_at (spans_at b fs p k) i ≤ 1030 = looks_bound e b fs p k i s h in small _ r);
-  all = (let r : all_looks (spans_at b fs p k) ≤ 1030 * length b = all_bound e b fs p s h l in small_all _ (length b) r t);
+  looks = λ i. (let r : looks_at (spans_at b fs p k) i ≤ most_looks = looks_bound e b fs p k i s h in small _ r);
+  all = (let r : all_looks (spans_at b fs p k) ≤ most_looks * length b = all_bound e b fs p s h l in small_all _ (length b) r t);
 }
   where
-    small : (x : ℕ) → x ≤ 1030 → x ≤ 65535
+    small : (x : ℕ) → x ≤ most_looks → x ≤ 65535
     small x h = omega arith
 
-    small_all : (x n : ℕ) → x ≤ 1030 * n → n ≤ 2 ^ 48 → x ≤ 18446744073709551615
+    small_all : (x n : ℕ) → x ≤ most_looks * n → n ≤ 2 ^ 48 → x ≤ 18446744073709551615
     small_all x n h k = omega arith
 
-asked_bound : (s : List ℕ) → (asked s ≤ 1029) × (asked s ≤ length s)
+asked_bound : (s : List ℕ) → (asked s ≤ longest_frame) × (asked s ≤ length s)
 asked_bound s = let h = (wanted_bound s).1 in (omega arith, omega arith)
 
 pub cost_asked : (b : List ℕ) (p : ℕ) → 0 < length (drop p b) → cost b p ≡ asked (drop p b)
 cost_asked b p h = elim (has_preamble (drop p b)) as (λ v. cond v (min (frame_length (drop p b)) (length (drop p b))) 1 ≡ min (cond v (frame_length (drop p b)) 1) (length (drop p b))) [ true ↦ refl | false ↦ omega arith ]
 
 -- the candidate at the front is examined up to n of its bytes
-pub step_examined_to : (v : FramerValue) (n : ℕ) (b : List ℕ) (fs : List Framed) → v.tried ≤ n → n ≤ 1029 → n ≤ length v.held → HasExamined v b fs
+pub step_examined_to : (v : FramerValue) (n : ℕ) (b : List ℕ) (fs : List Framed) → v.tried ≤ n → n ≤ longest_frame → n ≤ length v.held → HasExamined v b fs
     → HasExamined (with_looks v (looked_through (window_of v) v.tried (n - v.tried)) n) b fs
 step_examined_to v n b fs h a0 a1 x =
     let s : HasFramed v b fs = x.history in

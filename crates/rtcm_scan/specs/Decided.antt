@@ -1,7 +1,8 @@
 -- The part of a stream that is decided by the bytes accepted.
-use Rattle.std.specs.Prelude.{ℕ, zero, suc, ◌&&◌, min, not, nat_lt, nat_le, Bool, List, [], ◌∷◌, ◌++◌, length, drop}
-use Rattle.std.specs.Prelude.{if◌then◌else◌}
+use Rattle.std.specs.Prelude.{ℕ, zero, suc, ◌-◌, ◌&&◌, min, not, nat_lt, nat_le, Bool, List, [], ◌∷◌, ◌++◌, length}
+use Rattle.std.specs.Prelude.{drop, if◌then◌else◌}
 use Rattle.std.specs.List.{filter, list_any, position_or_len, count_by}
+use Rattle.rtcm_bits.specs.FrameOf.{longest_frame}
 use Rattle.rtcm_scan.specs.Frame.{has_preamble, frame_length, is_open}
 use Rattle.rtcm_scan.specs.Frames.{Framed, frame_end, frames_of}
 
@@ -28,7 +29,7 @@ decided b = position_or_len (λ p. is_tried b p && is_open (drop p b)) (places (
 
 -- the largest number of undecided bytes, one fewer than the longest frame has
 abbrev pub most_undecided : ℕ
-most_undecided = 1028
+most_undecided = longest_frame - 1
 
 -- the frames that begin before a place
 unfoldable pub frames_before : ℕ → List Framed → List Framed

@@ -1,4 +1,4 @@
-use Rattle.rtcm_scan.proofs.Names.{◌≡◌, ◌+◌, ◌-◌, ◌≤◌, ◌<◌, ap, ◌∙◌, length, drop, refl, arith, length-drop, FramerValue, passed}
+use Rattle.rtcm_scan.proofs.Names.{◌≡◌, ◌+◌, ◌-◌, ◌≤◌, ◌<◌, ap, ◌∙◌, length, drop, refl, arith, length-drop, FramerValue, passed, longest_frame}
 use Rattle.rtcm_scan.proofs.PassOverLemmas.{to_history, to_counts, view_passed_on, others_held, after_length}
 use Rattle.rtcm_scan.proofs.framer.Framer.pass_over.Goals as goal
 
@@ -45,7 +45,7 @@ invariant_of-self c =
     let l : length c.self.inside.window.bytes ≡ length c.args.self.now.held = ap (λ (v : FramerValue). length v.held) c.self.view_is in
     let i : c.self.inside.place + length c.self.inside.window.bytes ≤ c.self.inside.limit = c.self.invariant.0 in
     let g : c.self.inside.given_up ≤ c.self.inside.place = c.self.invariant.2 in
-    let m : length c.self.inside.window.bytes ≤ 1029 = c.self.invariant.3 in
+    let m : length c.self.inside.window.bytes ≤ longest_frame = c.self.invariant.3 in
     let some : 0 < length c.self.inside.window.bytes = omega (arith, l, c.requires) in (
       omega (arith, d, k, i, some, o.within),
       c.self.invariant.1,

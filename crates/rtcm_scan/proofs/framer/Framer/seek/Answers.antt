@@ -1,6 +1,6 @@
 -- Dropping a byte that begins no frame keeps the history and the counts. When the loop is left without a frame, none
 -- of the held bytes is decided, fewer than the longest frame are held, and the framer is marked as drained.
-use Rattle.rtcm_scan.proofs.Names.{List, ℕ, true, ◌≡◌, ◌-◌, ◌<◌, ap, ◌∙◌, length, refl, arith, length-drop, FramerValue, passed, Framed, HasFramed, HasExamined, IsDrained, IsCountedExactly}
+use Rattle.rtcm_scan.proofs.Names.{List, ℕ, true, ◌≡◌, ◌-◌, ◌<◌, ap, ◌∙◌, length, refl, arith, length-drop, FramerValue, passed, Framed, HasFramed, HasExamined, IsDrained, IsCountedExactly, longest_frame}
 use Rattle.rtcm_scan.proofs.DecisionLemmas.{from_found, from_passed, from_open, open_bound}
 use Rattle.rtcm_scan.proofs.NextLemmas.{step_passed, counts_passed, found_begins, found_counts, finish_empty, finish_open, counts_empty, counts_open}
 use Rattle.rtcm_scan.proofs.framer.Framer.seek.Goals.{else-loop-self-test, then-loop-self-test+in-Open}
@@ -36,13 +36,13 @@ abbrev with_ready : FramerValue → FramerValue
 with_ready v = record v { is_ready = true }
 
 -- the bytes that are held when the loop is left
-room : (c : goal.After-self-1) → length c.loop-self-test.self.held < 1029
+room : (c : goal.After-self-1) → length c.loop-self-test.self.held < longest_frame
 room c = elim c.loop-self-test.branch [
   | else-loop-self-test w ↦ (let e : length c.loop-self-test.self.held ≡ length c.loop-self.self.held = ap (λ (y : FramerValue). length y.held) w.self-is in
       omega (arith, e, c.held.ensures.value, w.loop-self-test.false))
   | then-loop-self-test+in-Open w ↦ (let e : length c.loop-self-test.self.held ≡ length c.loop-self.self.held = ap (λ (y : FramerValue). length y.held) (w.self-is ∙ w.in-Open.ensures.examined) in
       let o = from_open c.loop-self.self.has_ended c.loop-self.self.held w.in-Open.ensures.decision in
-      let l : length c.loop-self.self.held < 1029 = open_bound c.loop-self.self.held o.1 in omega (arith, e, l))
+      let l : length c.loop-self.self.held < longest_frame = open_bound c.loop-self.self.held o.1 in omega (arith, e, l))
 ]
 
 pub invariant_of-self : goal.invariant_of-self
