@@ -1,5 +1,5 @@
 -- Bounds of the values in the epochs of decoded messages.
-use Rattle.std.specs.Prelude.{◌≡◌, ℕ, ℤ, pos, neg_ℤ, ◌*◌, ◌^◌, ◌<◌, ◌≤◌, ◌≤ℤ◌, ◌==◌, ◌&&◌, Bool, true, List, [], ◌∷◌}
+use Rattle.std.specs.Prelude.{◌≡◌, ℕ, ℤ, pos, neg_ℤ, ◌-◌, ◌*◌, ◌^◌, ◌<◌, ◌≤◌, ◌≤ℤ◌, ◌==◌, ◌&&◌, Bool, true, List, [], ◌∷◌}
 use Rattle.std.specs.Prelude.{IfSome, None, is_some, ⊤}
 use Rattle.std.specs.List.{AllByRecursion, IsDistinct}
 use Rattle.gnss_obs.specs.declared.system.System.{System}
@@ -10,9 +10,13 @@ use Rattle.gnss_obs.specs.Weeks.{week, weeks}
 use Rattle.gnss_obs.specs.Values.{PlanValue, Closed, HasTwelveDigits, cells_of, planned_of}
 use Rattle.gnss_obs.specs.Plans.{place_in}
 
+-- A coordinate is at least the negative of this number, and less than it.
+abbrev pub coordinate_bound : ℕ
+coordinate_bound = 2 ^ 37
+
 -- A coordinate of 38 bits (DF025 to DF027), in 0.0001 m.
 abbrev pub IsCoordinate : ℤ → Type 0
-IsCoordinate z = (neg_ℤ (pos 137_438_953_472) ≤ℤ z) × (z ≤ℤ pos 137_438_953_471)
+IsCoordinate z = (neg_ℤ (pos coordinate_bound) ≤ℤ z) × (z ≤ℤ pos (coordinate_bound - 1))
 
 -- A strength in thousandths of a dB-Hz.
 abbrev pub IsStrength : ℤ → Type 0

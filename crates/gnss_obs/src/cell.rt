@@ -7,6 +7,13 @@ use crate::satellite::Sat;
 use crate::signal::Signal;
 use crate::thousandths::Thousandths;
 
+/// Least coordinate of an antenna reference point, in 0.0001 m: that of 38 bits with a sign
+/// (RTCM 10403.3 DF025 to DF027).
+pub const LEAST_COORDINATE: i64 = -(1 << 37);
+
+/// Greatest coordinate of an antenna reference point, in 0.0001 m (DF025 to DF027).
+pub const GREATEST_COORDINATE: i64 = (1 << 37) - 1;
+
 /// The observations of one signal of one satellite.
 #[derive(Clone, Copy, Default)]
 pub struct Cell {
@@ -61,7 +68,7 @@ impl Cell {
 fn is_coordinate(v: &i64) -> bool
     ensures { IsTrue result ↔ IsCoordinate v.now }
 {
-    -137_438_953_472 <= *v && *v <= 137_438_953_471
+    LEAST_COORDINATE <= *v && *v <= GREATEST_COORDINATE
 }
 
 impl StationValues {

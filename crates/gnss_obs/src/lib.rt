@@ -29,7 +29,7 @@ mod time;
 
 pub use arrivals::Added;
 pub use by_system::BySystem;
-pub use cell::{Cell, StationValues};
+pub use cell::{Cell, GREATEST_COORDINATE, LEAST_COORDINATE, StationValues};
 pub use civil::Civil;
 pub use epoch::{Epoch, MOST_CELLS, end_of, is_written};
 pub use fault::PlanFault;

@@ -9,6 +9,7 @@ use Rattle.gnss_obs.specs.declared.system.System.TheVariants.{Gps, Galileo}
 use Rattle.gnss_obs.specs.Satellites.{satellites}
 use Rattle.gnss_obs.specs.Signals.{table}
 use Rattle.gnss_obs.specs.declared.cell.StationValues.{StationValues}
+use Rattle.gnss_obs.specs.GatheredEpochs.{IsCoordinate}
 use Rattle.gnss_obs.specs.Values.{PlanValue, planned_of}
 use Rattle.gnss_obs.specs.Weeks.{week, weeks}
 use Rattle.rinex_file.specs.declared.header.fields.HeaderField.{HeaderField}
@@ -38,10 +39,6 @@ pub record IsPlan (p : PlanValue) : Type 0 where
 -- z is at least `low` and at most `high`
 abbrev pub IsFrom : ℤ → ℤ → ℤ → Type 0
 IsFrom low high z = (low ≤ℤ z) × (z ≤ℤ high)
-
--- a coordinate in units of 0.0001 m that fits the field of a station message: 38 bits, signed
-abbrev pub IsCoordinate : ℤ → Type 0
-IsCoordinate z = IsFrom (neg_ℤ (pos 137_438_953_472)) (pos 137_438_953_471) z
 
 pub record AreValues (v : StationValues) : Type 0 where
   pub x : IsCoordinate v.x

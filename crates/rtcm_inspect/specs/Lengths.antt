@@ -3,6 +3,7 @@ use Rattle.std.specs.Prelude.{ℕ, ℤ, pos, neg_ℤ, nat_le, nat_lt, ◌+◌, �
 use Rattle.std.specs.Prelude.{length, Option, Some, None, option_map, option_and_then, position}
 use Rattle.std.specs.Prelude.{if◌then◌else◌}
 use Rattle.std.specs.List.{list_all}
+use Rattle.gnss_obs.specs.GatheredEpochs.{coordinate_bound}
 use Rattle.rinex_file.specs.Read.Fields.{digits_in}
 
 abbrev pub is_digit : ℕ → Bool
@@ -43,8 +44,8 @@ after_byte c (x ∷ xs) = if x == c then Some xs else None
 
 -- a length that fits 38 bits, after a minus sign (0x2D) if there is one
 abbrev pub coordinate_by : List ℕ → Option (List ℕ) → Option ℤ
-coordinate_by text None = option_map pos (length_below (2 ^ 37) text)
-coordinate_by text (Some size) = option_map (λ n. neg_ℤ (pos n)) (length_below (2 ^ 37 + 1) size)
+coordinate_by text None = option_map pos (length_below coordinate_bound text)
+coordinate_by text (Some size) = option_map (λ n. neg_ℤ (pos n)) (length_below (coordinate_bound + 1) size)
 
 abbrev pub coordinate_of : List ℕ → Option ℤ
 coordinate_of text = coordinate_by text (after_byte 0x2D text)

@@ -4,7 +4,7 @@ ghost use Rattle.rtcm_inspect.specs.Dates.{IsHourOf, IsWeekNumber, IsWeekOf, civ
 ghost use Rattle.rtcm_inspect.specs.Lengths.{coordinate_of, cut, decimals_of};
 ghost use Rattle.rtcm_inspect.specs.Lengths.{length_below, length_of, number_of, position_of};
 
-use gnss_obs::{Civil, GpsTime, WEEK, WEEKS};
+use gnss_obs::{Civil, GREATEST_COORDINATE, GpsTime, LEAST_COORDINATE, WEEK, WEEKS};
 
 /// Returns the GPS week of a text: a number from 0 to 99,999, with or without a sign, or a GPS date
 /// `yyyy-mm-dd` in it. `None` for any other text.
@@ -101,8 +101,8 @@ fn coordinate_of(text: &str) -> Option<i64>
     ensures { result ≡ coordinate_of text.now }
 {
     match text.strip_prefix('-') {
-        Some(size) => Some(-(length_below(size, (1 << 37) + 1)? as i64)),
-        None => Some(length_below(text, 1 << 37)? as i64),
+        Some(size) => Some(-(length_below(size, -LEAST_COORDINATE as u64 + 1)? as i64)),
+        None => Some(length_below(text, GREATEST_COORDINATE as u64 + 1)? as i64),
     }
 }
 

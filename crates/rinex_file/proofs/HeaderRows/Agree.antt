@@ -7,7 +7,7 @@ use Rattle.rinex_file.proofs.Entries.{few_signals}
 use Rattle.rinex_file.proofs.Reading.Dates.{IsField, AreFields, field_at}
 use Rattle.rinex_file.proofs.HeaderRows.Texts.{equal_or}
 use Rattle.rinex_file.proofs.HeaderRows.Types.{IsInLine, code_here, count_read, few_types, listed_at, signal_at, code_reads_back, content_first}
-use Rattle.rinex_file.proofs.Names.{◌&&◌, arith, ◌≡◌, ◌∙◌, refl, sym, ap, ℕ, ◌+◌, ◌/◌, ◌<◌, ◌≤◌, ◌^◌, List, [], ◌∷◌, ◌++◌, length, take, drop, get_or, replicate, append_assoc, append-nil, length-append, Bool, true, false, ℤ, pos, neg_ℤ, ◌≤ℤ◌, unsigned_abs, subst, zero, suc, lit<, ◌*◌, min, IsTrue, ◌↔◌, not, ◌||◌, ◌==◌, codes, if◌then◌else◌, flat_map, nat_lt, slice_index, is_negative, digits, sign_text, nat_tests, ints, take_more, take-append-drop, take_min, take_more_same, drop-cons, SignalAt, signal_of_code, System, Gps, Galileo, passes_at, is_equal, civil_of, PlanValue, planned_of, StationValues, Civil, joined, left, right, fixed, digits_in, number_in, header_line, lengths, height_line, row_line, row_lines, has_line, header_lines, all_rows, row_count, row_at, row_place, lines_from, first_types, most_type_rows, type_rows, version_line, version_with, Shown, shown_rows, lines_before, lines_after, IsShown, shown_line, AreTypes, types_line, is_some_planned, signals_begun, IsCoordinate, End, Version, Types, First, Shift, lines_of_header, HeaderLists, HeaderRow, drop-append-le, same_Some}
+use Rattle.rinex_file.proofs.Names.{◌&&◌, arith, ◌≡◌, ◌∙◌, refl, sym, ap, ℕ, ◌+◌, ◌/◌, ◌<◌, ◌≤◌, ◌^◌, List, [], ◌∷◌, ◌++◌, length, take, drop, get_or, replicate, append_assoc, append-nil, length-append, Bool, true, false, ℤ, pos, unsigned_abs, subst, zero, suc, lit<, ◌*◌, min, IsTrue, ◌↔◌, not, ◌||◌, ◌==◌, codes, if◌then◌else◌, flat_map, nat_lt, slice_index, is_negative, digits, sign_text, nat_tests, ints, take_more, take-append-drop, take_min, take_more_same, drop-cons, SignalAt, signal_of_code, System, Gps, Galileo, passes_at, is_equal, civil_of, PlanValue, planned_of, StationValues, Civil, joined, left, right, fixed, digits_in, number_in, header_line, lengths, height_line, row_line, row_lines, has_line, header_lines, all_rows, row_count, row_at, row_place, lines_from, first_types, most_type_rows, type_rows, version_line, version_with, Shown, shown_rows, lines_before, lines_after, IsShown, shown_line, AreTypes, types_line, is_some_planned, signals_begun, IsCoordinate, End, Version, Types, First, Shift, lines_of_header, HeaderLists, HeaderRow, drop-append-le, same_Some}
 
 -- ---- version
 
@@ -106,12 +106,9 @@ height-back h small =
     let zero = is_height 0 (lit< tt) in
     ap (λ l. digits_in (take 14 (drop 0 l))) shape ∙ field_at digits_in (f ∷ none ∷ none ∷ []) ((14, h) ∷ (14, 0) ∷ (14, 0) ∷ []) 0 (0, 0) rest (is_height h small, (zero, (zero, tt))) (lit< tt)
 
-size_within : (z : ℤ) → neg_ℤ (pos 137_438_953_472) ≤ℤ z → z ≤ℤ pos 137_438_953_471 → unsigned_abs z < 10 ^ 12
-size_within z low high = omega (arith, ints)
-
 -- a coordinate fits its columns
 pub coordinate-fits : (z : ℤ) → IsCoordinate z → Fits14 z
-coordinate-fits z is = size_within z is.0 is.1
+coordinate-fits z is = grind (arith, ints)
 
 -- a row is at its index
 pub placed : (n : ℕ) → n < row_count → row_place (row_at n) ≡ n

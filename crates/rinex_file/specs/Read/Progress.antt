@@ -13,7 +13,8 @@ use Rattle.rinex_file.specs.declared.read.expected.Expected.TheVariants.{Header,
 use Rattle.rinex_file.specs.declared.read.expected.Expected.TheVariants.{EventEpoch, Satellite}
 use Rattle.rinex_file.specs.Texts.{HeaderLists}
 use Rattle.rinex_file.specs.Value.{SatelliteRow, Stamped, FileValue}
-use Rattle.rinex_file.specs.FileValues.{AreTexts, IsPlan, AreValues, IsCoordinate, IsTime, IsFileValue, of_system}
+use Rattle.gnss_obs.specs.GatheredEpochs.{IsCoordinate}
+use Rattle.rinex_file.specs.FileValues.{AreTexts, IsPlan, AreValues, IsTime, IsFileValue, of_system}
 use Rattle.rinex_file.specs.Header.{row_line, row_lines, lines_from, all_rows, row_count, row_place, first_types}
 use Rattle.rinex_file.specs.Header.{first_line, header_line, type_line, types_of, codes_of}
 use Rattle.rinex_file.specs.Limits.{types_in_line}

@@ -1,7 +1,7 @@
 //! The lines of a header, read back.
 ghost use Rattle.std.specs.Prelude.{◌≡◌, ◌↔◌, ◌+◌, ◌≤◌, ◌<◌, ◌^◌, ◌||◌, IsTrue, Bool, true};
 ghost use Rattle.std.specs.Prelude.{length, take, drop};
-ghost use Rattle.rinex_file.specs.FileValues.{IsCoordinate};
+ghost use Rattle.gnss_obs.specs.GatheredEpochs.{IsCoordinate};
 ghost use Rattle.rinex_file.specs.Header.{header_line, height_line, position_line};
 ghost use Rattle.rinex_file.specs.Read.Fields.{number_in, ReadsExactly};
 ghost use Rattle.rinex_file.specs.Read.HeaderSteps.{ReadsOrRefusesTexts};
@@ -13,7 +13,7 @@ use crate::header::lines::{
 };
 use crate::header::texts::HeaderTexts;
 use crate::read::numbers::{digits_in, is_same, signed};
-use gnss_obs::StationValues;
+use gnss_obs::{GREATEST_COORDINATE, LEAST_COORDINATE, StationValues};
 
 /// Returns up to `width` columns of a line, from column `from` on, counted from 0.
 pub(crate) fn columns(line: &[u8], from: usize, width: usize) -> &[u8]
@@ -44,7 +44,7 @@ fn coordinate_in(line: &[u8], from: usize) -> i64
         → result ≡ number_in (take 14 (drop from line.now)) }
 {
     let text = columns(line, from, 14);
-    signed(digits_in(text), text.contains(&b'-')).clamp(-137_438_953_472, 137_438_953_471)
+    signed(digits_in(text), text.contains(&b'-')).clamp(LEAST_COORDINATE, GREATEST_COORDINATE)
 }
 
 /// Returns the position of the antenna in 0.0001 m, with height zero, by its line, or None for any
