@@ -27,6 +27,10 @@ pub record EpochValue : Type 0 where
   pub gps : List Cell
   pub galileo : List Cell
 
+-- An epoch without cells.
+abbrev pub empty_epoch : ℕ → EpochValue
+empty_epoch time = record { time = time; gps = []; galileo = [] }
+
 abbrev pub cells_of : System → EpochValue → List Cell
 cells_of Gps e = e.gps
 cells_of Galileo e = e.galileo

@@ -3,7 +3,7 @@ ghost use Rattle.std.specs.Prelude.{◌≡◌, ◌<◌, [], IfOk};
 ghost use Rattle.gnss_obs.specs.HeardCells.{heard_cell, IsObserved};
 ghost use Rattle.gnss_obs.specs.Arriving.{IsAdded, AddsCell, sorted_cells, sorted_epoch};
 ghost use Rattle.gnss_obs.specs.PlanOrder.{AreInOrder, AreInPlanOrder};
-ghost use Rattle.gnss_obs.specs.Values.{AreHeld, cells_of, planned_of};
+ghost use Rattle.gnss_obs.specs.Values.{AreHeld, cells_of, empty_epoch, planned_of};
 
 use crate::by_system::BySystem;
 use crate::cell::{Cell, StationValues};
@@ -60,8 +60,7 @@ impl Arrivals {
     ///
     /// `AllocError` if an allocation failed.
     pub fn new(alloc: Global, values: StationValues) -> Result<Arrivals, AllocError>
-        ensures { IfOk result
-            (λ e. e ≡ record { epoch = record { time = 0; gps = []; galileo = [] }; values = values }) }
+        ensures { IfOk result (λ e. e ≡ record { epoch = empty_epoch 0; values = values }) }
     {
         Ok(Arrivals {
             time: GpsTime::within(0),
@@ -75,8 +74,7 @@ impl Arrivals {
 
     /// Begins the epoch of another time, without cells.
     pub fn begin(&mut self, time: GpsTime)
-        ensures { self.new
-            ≡ record { epoch = record { time = time; gps = []; galileo = [] }; values = self.old.values } }
+        ensures { self.new ≡ record { epoch = empty_epoch time; values = self.old.values } }
     {
         self.time = time;
         self.cells.gps.clear();

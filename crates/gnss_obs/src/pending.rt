@@ -1,9 +1,9 @@
 //! The epoch that is pending, or was closed last.
-ghost use Rattle.std.specs.Prelude.{◌≡◌, ◌<◌, [], true, false, IfOk, if◌then◌else◌, Some, None, option_map};
+ghost use Rattle.std.specs.Prelude.{◌≡◌, ◌<◌, true, false, IfOk, if◌then◌else◌, Some, None, option_map};
 ghost use Rattle.gnss_obs.specs.HeardCells.{heard_cell, IsObserved};
 ghost use Rattle.gnss_obs.specs.Arriving.{IsAdded, sorted_epoch};
 ghost use Rattle.gnss_obs.specs.PlanOrder.{AreInOrder};
-ghost use Rattle.gnss_obs.specs.Values.{AreHeld, cells_of};
+ghost use Rattle.gnss_obs.specs.Values.{AreHeld, cells_of, empty_epoch};
 ghost use Rattle.gnss_obs.specs.Stages.{IsStage, stage_value};
 
 use crate::arrivals::{Added, Arrivals, no_cells};
@@ -57,11 +57,7 @@ impl Pending {
     ///
     /// `AllocError` if an allocation failed.
     pub fn new(alloc: Global, values: StationValues) -> Result<Pending, AllocError>
-        ensures { IfOk result (λ p. p ≡ record {
-          epoch = record { time = 0; gps = []; galileo = [] };
-          values = values;
-          is_open = true;
-        }) }
+        ensures { IfOk result (λ p. p ≡ record { epoch = empty_epoch 0; values = values; is_open = true }) }
     {
         Ok(Pending {
             spare: no_cells(alloc)?,
@@ -72,11 +68,7 @@ impl Pending {
 
     /// Begins the epoch of another time, without cells.
     pub fn begin(&mut self, time: GpsTime)
-        ensures { self.new ≡ record {
-          epoch = record { time = time; gps = []; galileo = [] };
-          values = self.old.values;
-          is_open = true;
-        } }
+        ensures { self.new ≡ record { epoch = empty_epoch time; values = self.old.values; is_open = true } }
     {
         let mut cells = into_arrivals(mem::replace(&mut self.stage, Stage::Moving));
         cells.begin(time);

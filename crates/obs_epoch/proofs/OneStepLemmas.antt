@@ -1,7 +1,7 @@
 -- A step of the gatherer adds one message to the list.
 use Rattle.std.proofs.Common.{◌≡◌, ℕ, zero, suc, replicate, ◌<◌, Bool, true, false, not, ◌||◌, List, [], ◌∷◌, ◌++◌, filter, refl, sym, ap, ap₂, ◌∙◌, subst, arith, length, append-nil, Option, Some, None, nat_lt, if◌then◌else◌, cond, filter_map, flat_map}
 use Rattle.std.proofs.lemmas.List.Elements.{filter-append}
-use Rattle.obs_epoch.specs.Names.{Gps, Galileo, GatherSetup, Heard, ends_epoch, HeardCell, kept_cell, Timed, is_at, greatest_time, is_closed, taken_at, no_counts, kept_at, offered, is_planned, locked_at, latest_in, previous, times, lli_with, cells_with_lli, epoch_at, closed_so_far, lookup, no_locks, State, closes_first, GathererValue, no_epoch, load, epoch_begun, is_same, locked_in, held_at, Locked, KnownLock, option_map_or, list_any}
+use Rattle.obs_epoch.specs.Names.{Gps, Galileo, GatherSetup, Heard, ends_epoch, HeardCell, kept_cell, Timed, is_at, greatest_time, is_closed, taken_at, no_counts, kept_at, offered, is_planned, locked_at, latest_in, previous, times, lli_with, cells_with_lli, epoch_at, closed_so_far, lookup, no_locks, State, closes_first, GathererValue, empty_epoch, load, epoch_begun, is_same, locked_in, held_at, Locked, KnownLock, option_map_or, list_any}
 use Rattle.obs_epoch.proofs.TimesLemmas.{next, greater-absent, none-absent}
 use Rattle.obs_epoch.proofs.ClockLemmas.{standing, same_time, Follows, first, greater, equal, new_time}
 use Rattle.obs_epoch.proofs.ClosedLemmas.{Below, when, ends, closed_is, passes_all, one_fails, less_true, less_false, taken_follows, times-push_same}
@@ -97,11 +97,11 @@ begun_is : {g : GathererValue} {s : GatherSetup} {xs : List Timed} (m : Heard) {
     → epoch_begun (greatest_time xs) g ≡ record g { epoch = epoch_of s.plan (lookup g.locks) u (offered s u xs) }
 begun_is {g} {s} {xs} m {u} {shut} some h held locks now = ap (λ o. begun_to (greatest_time xs) o) now ∙ by (taken_follows s xs m u some) where
   begun_to : Option ℕ → Option ℕ → GathererValue
-  begun_to a b = if is_same a b then g else record g { epoch = record { time = option_map_or (λ t. t) b 0; gps = []; galileo = [] } }
+  begun_to a b = if is_same a b then g else record g { epoch = empty_epoch (option_map_or (λ t. t) b 0) }
 
   fresh : is_same (greatest_time xs) (Some u) ≡ false → list_any (is_at u) xs ≡ false → begun_to (greatest_time xs) (Some u) ≡ record g { epoch = epoch_of s.plan (lookup g.locks) u (offered s u xs) }
   fresh other none =
-      ap (λ b. if b then g else record g { epoch = record { time = u; gps = []; galileo = [] } }) other
+      ap (λ b. if b then g else record g { epoch = empty_epoch u }) other
       ∙ ap (λ l. record g { epoch = epoch_of s.plan (lookup g.locks) u l }) (sym (none_offered s xs u none))
 
   by : Follows s xs u → begun_to (greatest_time xs) (Some u) ≡ record g { epoch = epoch_of s.plan (lookup g.locks) u (offered s u xs) }
@@ -113,8 +113,8 @@ begun_is {g} {s} {xs} m {u} {shut} some h held locks now = ap (λ o. begun_to (g
       ap (filter (λ v. nat_lt v u)) (sym (times-push_same xs (next s xs m) u some e)) ∙ (before_taken s xs m u shut some h).0 in
       let known : (key : HeardCell) → lookup g.locks key ≡ previous s xs u key =
       λ key. locks.found key ∙ ap (λ ts. latest_in s xs ts key) (sym at) in
-      ap (λ b. if b then g else record g { epoch = record { time = u; gps = []; galileo = [] } }) same
-      ∙ ap (λ v. record g { epoch = v }) (held ∙ ap (λ o. option_map_or (epoch_at s xs) o no_epoch) e ∙ sym (epoch_is s xs (lookup g.locks) u known))
+      ap (λ b. if b then g else record g { epoch = empty_epoch u }) same
+      ∙ ap (λ v. record g { epoch = v }) (held ∙ ap (λ o. option_map_or (epoch_at s xs) o (empty_epoch 0)) e ∙ sym (epoch_is s xs (lookup g.locks) u known))
 
 -- ---- the value after the step, before the closing
 
@@ -142,11 +142,11 @@ loaded_taken {g} {s} {xs} m {u} {shut} some h held locks clock =
 -- A message that isn't accepted doesn't change the epoch.
 pub held_same : (s : GatherSetup) (xs : List Timed) (m : Heard) → taken_at s xs m ≡ None → held_at s (xs ++ next s xs m ∷ []) ≡ held_at s xs
 held_same s xs m none =
-    ap (λ o. option_map_or (epoch_at s (xs ++ next s xs m ∷ [])) o no_epoch) (same_time s xs (next s xs m) none).0 ∙ by (greatest_time xs) where
+    ap (λ o. option_map_or (epoch_at s (xs ++ next s xs m ∷ [])) o (empty_epoch 0)) (same_time s xs (next s xs m) none).0 ∙ by (greatest_time xs) where
       later : (t : ℕ) → IsLater t (taken_at s xs m)
       later t = subst (IsLater t) (sym none) tt
 
-      by : (g : Option ℕ) → option_map_or (epoch_at s (xs ++ next s xs m ∷ [])) g no_epoch ≡ option_map_or (epoch_at s xs) g no_epoch
+      by : (g : Option ℕ) → option_map_or (epoch_at s (xs ++ next s xs m ∷ [])) g (empty_epoch 0) ≡ option_map_or (epoch_at s xs) g (empty_epoch 0)
       by None = refl
       by (Some t) = epoch_at-push s xs (next s xs m) t (later t) (times_before s xs (next s xs m) t (λ u e. taken_follows s xs m u e) (later t))
 

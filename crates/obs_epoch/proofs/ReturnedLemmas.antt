@@ -1,7 +1,7 @@
 -- A call of the gatherer returns the epoch that the longer list closes.
 use Rattle.std.proofs.Common.{◌≡◌, ℕ, Bool, true, false, ◌||◌, ◌&&◌, List, [], ◌∷◌, ◌++◌, refl, sym, ap, ap₂, ◌∙◌, subst, arith, Option, Some, None, is_some, nat_lt, append-nil, if◌then◌else◌, option_to_list}
 use Rattle.std.proofs.lemmas.List.{map-append}
-use Rattle.obs_epoch.specs.Names.{GatherSetup, Heard, ends_epoch, Closed, EpochValue, Timed, is_at, greatest_time, from_first, is_closed, taken_at, timed, times, is_shut, closed_times, closed_so_far, epoch_at, values_of, is_pending, closes_first, GathererValue, no_epoch, take_step, end_step, noted, HasTakenMessages, held_at, option_map_or, list_any}
+use Rattle.obs_epoch.specs.Names.{GatherSetup, Heard, ends_epoch, Closed, EpochValue, Timed, is_at, greatest_time, from_first, is_closed, taken_at, timed, times, is_shut, closed_times, closed_so_far, epoch_at, values_of, is_pending, closes_first, GathererValue, empty_epoch, take_step, end_step, noted, HasTakenMessages, held_at, option_map_or, list_any}
 use Rattle.obs_epoch.specs.Step.{closed_by as closes}
 use Rattle.rtcm_bits.specs.Prefix.{IsPrefix}
 use Rattle.obs_epoch.specs.GathererHistory.{before_closing, closed_at, closed_list_at, known_epochs, closed_by, closed_in, returned_epoch, is_done, HasGatheredEpochs}
@@ -87,7 +87,7 @@ new_closed {g} {s} {ms} m {shut} h early given (Some t) e has =
     let now = time_taken m h early t e in
     let open_still = new_open m h early t e in
     let closed_now = shut_new s ys (closed_so_far s (timed s ms) shut) t (times_taken g s ms m shut h early ∙ ap (λ o. closed_so_far s (timed s ms) shut ++ option_to_list o) e) in
-    let epoch : v.epoch ≡ epoch_at s ys t = t1.after.epoch ∙ ap (λ o. option_map_or (epoch_at s ys) o no_epoch) now in
+    let epoch : v.epoch ≡ epoch_at s ys t = t1.after.epoch ∙ ap (λ o. option_map_or (epoch_at s ys) o (empty_epoch 0)) now in
     let values : v.values ≡ values_of s (before_closing s t ns) =
     t1.after.values ∙ same_values s ms m (no_point_given g.clock m t given e) ∙ ap (values_of s) (sym (before-push s t ms m closed_now ∙ before_all s t ms open_still)) in
     ap (λ b. closed_by (if b then Some (v.epoch) else None) v.values) has

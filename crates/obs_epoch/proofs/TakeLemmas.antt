@@ -1,7 +1,7 @@
 -- The whole step: a property of the list before holds for the list after one more message.
 use Rattle.std.proofs.Common.{◌≡◌, ℕ, Bool, true, false, not, ◌||◌, ◌&&◌, List, [], ◌∷◌, ◌++◌, refl, sym, ap, ap₂, ◌∙◌, subst, arith, append-nil, Option, Some, None, is_some, ◌⊎◌, inl, inr, if◌then◌else◌, option_to_list}
 use Rattle.std.proofs.lemmas.List.Sums.{fold-append}
-use Rattle.obs_epoch.specs.Names.{Message, Kind, CloseFirst, CellCounts, GatherSetup, Heard, heard, is_own, ends_epoch, HeardCell, Timed, greatest_time, taken_at, timed, no_counts, with_skipped, offered, counts_of, counts_of_message, epoch_at, closed_so_far, closed_times, values_of, values_after_message, State, HasHeardMessages, is_pending, closes_first, is_close_first, is_kept, kind_after, with_unlisted, GathererValue, Loaded, no_epoch, noted, load, loaded_if, outcome_in, load_one, with_time, closed_if, closed_noted, epoch_begun, just_closed_as, rested, take_step, end_step, is_same, count_in, KnownLock, held_at, Locked, HasTakenMessages, EpochValue, option_map_or}
+use Rattle.obs_epoch.specs.Names.{Message, Kind, CloseFirst, CellCounts, GatherSetup, Heard, heard, is_own, ends_epoch, HeardCell, Timed, greatest_time, taken_at, timed, no_counts, with_skipped, offered, counts_of, counts_of_message, epoch_at, closed_so_far, closed_times, values_of, values_after_message, State, HasHeardMessages, is_pending, closes_first, is_close_first, is_kept, kind_after, with_unlisted, GathererValue, Loaded, empty_epoch, noted, load, loaded_if, outcome_in, load_one, with_time, closed_if, closed_noted, epoch_begun, just_closed_as, rested, take_step, end_step, is_same, count_in, KnownLock, held_at, Locked, HasTakenMessages, EpochValue, option_map_or}
 use Rattle.rtcm_msg.specs.declared.message.Message.TheVariants as message
 use Rattle.obs_epoch.specs.Step.{kind_by, step_by, closed_by, closed_of}
 use Rattle.obs_epoch.proofs.TimesLemmas.{next, timed-push}
@@ -39,7 +39,7 @@ assemble {g} {s} {ms} {ts} (Some t) h at closed = record {
   clock = h.clock;
   epoch = h.epoch;
   locks = subst (Locked (noted g) s (timed s ms)) (sym closed)
-      (noted_locked g s (timed s ms) ts t (h.epoch ∙ ap (λ o. option_map_or (epoch_at s (timed s ms)) o no_epoch) (at t refl)) h.locks);
+      (noted_locked g s (timed s ms) ts t (h.epoch ∙ ap (λ o. option_map_or (epoch_at s (timed s ms)) o (empty_epoch 0)) (at t refl)) h.locks);
   values = h.values;
 }
 
@@ -107,7 +107,7 @@ reached g s ms m shut h early = by (taken_at s xs m) refl where
       ∙ ap (with_unlisted m.unlisted) (loaded_taken m some early h.epoch before now) in
       subst (λ l. Reached l s ms m shut) (sym is) (record {
         mid = moved (record (with_time g m) { epoch = epoch_at s (xs ++ next s xs m ∷ []) u }) now
-            (ap (λ o. option_map_or (epoch_at s (xs ++ next s xs m ∷ [])) o no_epoch) (sym new.0)) (record { found = locks.found; tracks = locks.tracks }) values;
+            (ap (λ o. option_map_or (epoch_at s (xs ++ next s xs m ∷ [])) o (empty_epoch 0)) (sym new.0)) (record { found = locks.found; tracks = locks.tracks }) values;
         counts = ap (with_skipped m.unlisted) (counts_are s (offered s u xs) m.cells) ∙ ap (λ o. option_map_or (λ v. with_skipped m.unlisted (counts_of s (offered s v xs) m.cells)) o no_counts) (sym some);
       })
 
@@ -300,7 +300,7 @@ load_apart f apart l (x ∷ xs) = load_apart f apart (load_one l x) xs ∙ ap f 
 
 loaded_apart : (f : GathererValue → Bool) → IsApart f → (accepted : Bool) (before : Option ℕ) (g : GathererValue) (m : Heard) → f (loaded_if accepted before g m).state ≡ f g
 loaded_apart f apart true before g m = load_apart f apart _ m.cells ∙ begun (is_same before g.clock.latest) where
-  begun : (b : Bool) → f (if b then g else record g { epoch = record { time = option_map_or (λ t. t) g.clock.latest 0; gps = []; galileo = [] } }) ≡ f g
+  begun : (b : Bool) → f (if b then g else record g { epoch = empty_epoch (option_map_or (λ t. t) g.clock.latest 0) }) ≡ f g
   begun true = refl
   begun false = apart g _ g.locks
 loaded_apart f apart false before g m = refl
@@ -345,8 +345,8 @@ pub loaded_rested : (accepted : Bool) (before : Option ℕ) (g : GathererValue) 
 loaded_rested true before g m =
     ap (λ v. with_unlisted m.unlisted (load (record { state = v; counts = no_counts }) m.cells)) (begun (is_same before g.clock.latest))
     ∙ ap (with_unlisted m.unlisted) (load_rested (record { state = epoch_begun before g; counts = no_counts }) m.cells) where
-      begun : (b : Bool) → (if b then rested g else record (rested g) { epoch = record { time = option_map_or (λ t. t) g.clock.latest 0; gps = []; galileo = [] } })
-          ≡ rested (if b then g else record g { epoch = record { time = option_map_or (λ t. t) g.clock.latest 0; gps = []; galileo = [] } })
+      begun : (b : Bool) → (if b then rested g else record (rested g) { epoch = empty_epoch (option_map_or (λ t. t) g.clock.latest 0) })
+          ≡ rested (if b then g else record g { epoch = empty_epoch (option_map_or (λ t. t) g.clock.latest 0) })
       begun b = grind (arith, common_steps)
 loaded_rested false before g m = refl
 

@@ -10,8 +10,8 @@ use Rattle.obs_epoch.specs.Loss.{is_locked, latest_in}
 use Rattle.obs_epoch.specs.Epochs.{epoch_at, closed_so_far, values_of}
 use Rattle.obs_epoch.specs.Held.{lookup, TracksLocks}
 use Rattle.obs_epoch.specs.Clock.{HasHeardMessages}
-use Rattle.obs_epoch.specs.GathererSteps.{GathererValue, no_epoch}
-use Rattle.gnss_obs.specs.Values.{EpochValue}
+use Rattle.obs_epoch.specs.GathererSteps.{GathererValue}
+use Rattle.gnss_obs.specs.Values.{EpochValue, empty_epoch}
 
 -- The locked cells of the epochs of these times.
 abbrev pub locked_in : GatherSetup → List Timed → List ℕ → List HeardCell
@@ -19,7 +19,7 @@ locked_in s xs ts = flat_map (λ t. filter is_locked (kept_at s t xs Gps ++ kept
 
 -- The epoch of the greatest time.
 abbrev pub held_at : GatherSetup → List Timed → EpochValue
-held_at s xs = option_map_or (epoch_at s xs) (greatest_time xs) no_epoch
+held_at s xs = option_map_or (epoch_at s xs) (greatest_time xs) (empty_epoch 0)
 
 -- The lock records are the latest locks of their keys in the epochs of these times, one record for each key.
 pub record Locked (g : GathererValue) (s : GatherSetup) (xs : List Timed) (ts : List ℕ) : Type 0 where

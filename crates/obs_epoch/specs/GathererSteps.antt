@@ -12,7 +12,7 @@ use Rattle.obs_epoch.specs.Heard.{Heard, seen_in}
 use Rattle.gnss_obs.specs.HeardCells.{HeardCell, kept_cell}
 use Rattle.obs_epoch.specs.Cells.{no_counts, with_skipped}
 use Rattle.obs_epoch.specs.Kinds.{is_kept}
-use Rattle.gnss_obs.specs.Values.{PlanValue, planned_of, EpochValue, cells_of}
+use Rattle.gnss_obs.specs.Values.{PlanValue, planned_of, EpochValue, cells_of, empty_epoch}
 use Rattle.gnss_obs.specs.PlanOrder.{AreInOrder}
 use Rattle.gnss_obs.specs.Arriving.{sorted_epoch}
 use Rattle.gnss_obs.specs.Stages.{PendingValue}
@@ -28,11 +28,8 @@ use Rattle.obs_epoch.specs.declared.taken.CellCounts.{CellCounts}
 
 -- ---- the kept epoch
 
-abbrev pub no_epoch : EpochValue
-no_epoch = record { time = 0; gps = []; galileo = [] }
-
 abbrev pub no_pending : StationValues → PendingValue
-no_pending values = record { epoch = no_epoch; values = values; is_open = true }
+no_pending values = record { epoch = empty_epoch 0; values = values; is_open = true }
 
 -- Once sorted, the cells are in the order of the plan. An epoch that was just closed is sorted.
 pub record IsPending (p : PlanValue) (now : PendingValue) (just_closed : Bool) : Type 0 where
@@ -121,7 +118,7 @@ is_same (Some a) (Some b) = a == b
 abbrev pub epoch_begun : Option ℕ → GathererValue → GathererValue
 epoch_begun before g =
     if is_same before g.clock.latest then g
-    else record g { epoch = record { time = option_map_or (λ t. t) g.clock.latest 0; gps = []; galileo = [] } }
+    else record g { epoch = empty_epoch (option_map_or (λ t. t) g.clock.latest 0) }
 
 -- The cells of a message are kept if it is accepted.
 abbrev pub loaded_if : Bool → Option ℕ → GathererValue → Heard → Loaded

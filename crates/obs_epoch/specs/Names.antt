@@ -8,7 +8,7 @@ pub use Rattle.gnss_obs.specs.LockTimes.{LockTime}
 pub use Rattle.gnss_obs.specs.Names.{AreInOrder, Closed, EpochValue, IsAdded, IsHeld, IsSignal, PendingValue, PlanValue, Satellite, SignalAt, SortKey, SortKeysRise, cell_sort_key, cells_after, cells_of, epoch_with, heard_cell, hertz_of, id_of, insert_by, is_before, is_held, nearest_doppler, nearest_phase, nearest_pseudorange, nearest_strength, outcome_by, place_in, planned_of, signal_of_id, sorted_cells, sorted_epoch, table, weeks}
 pub use Rattle.gnss_obs.specs.Order.{sort_key_of, sorted}
 pub use Rattle.gnss_obs.specs.Satellites.{is_system, satellite_of_id, satellite_set}
-pub use Rattle.gnss_obs.specs.Values.{HasTwelveDigits, most_cells, no_values}
+pub use Rattle.gnss_obs.specs.Values.{HasTwelveDigits, empty_epoch, most_cells, no_values}
 pub use Rattle.gnss_obs.specs.declared.arrivals.Added.{Added}
 pub use Rattle.gnss_obs.specs.declared.cell.Cell.{Cell}
 pub use Rattle.gnss_obs.specs.declared.cell.StationValues.{StationValues}
@@ -19,7 +19,7 @@ pub use Rattle.obs_epoch.specs.Calls.{IsCloseFirstExactly}
 pub use Rattle.obs_epoch.specs.Cells.{add, cells_counted, counts_of, counts_of_message, firsts, firsts_after, has_listed_key, is_among, is_of_system, is_planned, kept, kept_at, kept_of_both, no_counts, offered, with_skipped}
 pub use Rattle.obs_epoch.specs.Clock.{HasHeardMessages, State, closes_first, is_pending}
 pub use Rattle.obs_epoch.specs.Epochs.{cells_with_lli, closed_so_far, closed_times, epoch_at, is_shut, values_after_message, values_of}
-pub use Rattle.obs_epoch.specs.GathererSteps.{GathererValue, IsPending, Loaded, closed_if, closed_noted, end_step, epoch_begun, hold, hold_by, is_same, just_closed_as, load, load_entries, load_one, loaded_if, no_epoch, noted, outcome_in, planned_cell, rested, take_step, with_more, with_more_in, with_time, with_unlisted}
+pub use Rattle.obs_epoch.specs.GathererSteps.{GathererValue, IsPending, Loaded, closed_if, closed_noted, end_step, epoch_begun, hold, hold_by, is_same, just_closed_as, load, load_entries, load_one, loaded_if, noted, outcome_in, planned_cell, rested, take_step, with_more, with_more_in, with_time, with_unlisted}
 pub use Rattle.obs_epoch.specs.GathererAfter.{HasTakenMessages, Locked, held_at, locked_in}
 pub use Rattle.obs_epoch.specs.GathererHistory.{HasGatheredEpochs, IsAwaited, all_epochs, before_closing, closed_list_at, open_after, returned_epoch}
 pub use Rattle.obs_epoch.specs.Heard.{GatherSetup, Heard, ends_epoch, heard, heard_msm, heard_summary, is_own, lock_by, observed, seen_in, system_of, unlisted_in, without_cells}
