@@ -8,6 +8,7 @@ use Rattle.gnss_obs.specs.declared.system.System.TheVariants.{Gps, Galileo}
 use Rattle.gnss_obs.specs.declared.cell.Cell.{Cell}
 use Rattle.gnss_obs.specs.declared.arrivals.Added.{Added}
 use Rattle.gnss_obs.specs.declared.arrivals.Added.TheVariants.{Kept, Repeated, Crowded}
+use Rattle.gnss_obs.specs.Satellites.{most_satellites}
 use Rattle.gnss_obs.specs.HeardCells.{heard_cell}
 use Rattle.gnss_obs.specs.Values.{PlanValue, EpochValue, cells_of, most_cells}
 use Rattle.gnss_obs.specs.Plans.{place_in}
@@ -38,12 +39,16 @@ pub record IsAdded (old : EpochValue) (x : Cell) (added : Added) (new : EpochVal
 
 -- ---- the table that finds the cell of a key
 
+-- The number of entries of each satellite.
+abbrev pub satellite_slots : ℕ
+satellite_slots = 32
+
 abbrev pub most_slots : ℕ
-most_slots = 1184
+most_slots = satellite_slots * (most_satellites + 1)
 
 -- The index of the entry of a cell's key.
 abbrev pub slot : Cell → ℕ
-slot c = 32 * c.satellite.id + c.signal.index
+slot c = satellite_slots * c.satellite.id + c.signal.index
 
 -- A cell of this entry's key.
 abbrev pub has_slot : ℕ → List ℕ → Bool

@@ -8,14 +8,17 @@ ghost use Rattle.gnss_obs.specs.Values.{most_cells};
 use crate::cell::Cell;
 use crate::epoch::MOST_CELLS;
 use crate::order::{UNSORTED, least_next_after};
+use crate::system::GALILEO_SATELLITES;
 use std::marker::Model;
 
-/// Number of entries of the table that finds a cell by its satellite and signal: 32 for each
-/// satellite, of the 36 of Galileo and a number 0.
-const SLOTS: usize = 1_184;
+/// Number of entries for each satellite in the table that finds a cell by its satellite and signal.
+pub(crate) const SATELLITE_SLOTS: usize = 32;
 
-/// A list of at most 256 cells of one system, and a table that finds a cell by its key, its
-/// satellite and signal.
+/// Number of entries of the table: those of the satellites of Galileo, and of a number 0.
+const SLOTS: usize = SATELLITE_SLOTS * (GALILEO_SATELLITES as usize + 1);
+
+/// A list of at most `MOST_CELLS` cells of one system, and a table that finds a cell by its key:
+/// its satellite and signal.
 #[derive(Drop)]
 pub struct Cells {
     buffer: [Cell; MOST_CELLS],
@@ -39,7 +42,7 @@ impl Model for Cells {
     ghost view = { λ c. take c.count c.buffer };
 
     ghost invariant = { λ c.
-        (c.count ≤ most_cells) × (length c.buffer ≡ 256) × (length c.table ≡ most_slots)
+        (c.count ≤ most_cells) × (length c.buffer ≡ most_cells) × (length c.table ≡ most_slots)
         × AreFound c.table (take c.count c.buffer) × IsLeastNext c.least_next (map slot (take c.count c.buffer)) };
 }
 
@@ -52,7 +55,7 @@ impl Cells {
             buffer: [Cell::default(); MOST_CELLS],
             count: 0,
             // Most epochs have fewer cells, so that one comparison shows that there is none.
-            table: [255; SLOTS],
+            table: [u8::MAX; SLOTS],
             least_next: 0,
         }
     }
@@ -131,5 +134,5 @@ fn slot(x: &Cell) -> usize
     ensures entry { result ≡ slot x.now }
     ensures bound { result < most_slots }
 {
-    32 * x.satellite.id() as usize + x.signal.index()
+    SATELLITE_SLOTS * x.satellite.id() as usize + x.signal.index()
 }

@@ -7,7 +7,7 @@ ghost use Rattle.gnss_obs.specs.Satellites.{satellites};
 ghost use Rattle.gnss_obs.specs.SignalLists.{indices, IsOf};
 ghost use Rattle.gnss_obs.specs.Values.{AreHeld, planned_of};
 
-use crate::cells::Cells;
+use crate::cells::{Cells, SATELLITE_SLOTS};
 use crate::plan::Plan;
 use crate::signal::Signal;
 use crate::system::System;
@@ -54,7 +54,7 @@ fn copy_satellite(sorted: &mut Cells, cells: &Cells, signals: &[Signal], system:
     ensures { AreBelow (indices signals.now) (64 * (id + 1)) cells.now sorted.new }
 {
     for i in 0..signals.len() {
-        if let Some(at) = cells.find(32 * id as usize + signals[i].index()) {
+        if let Some(at) = cells.find(SATELLITE_SLOTS * id as usize + signals[i].index()) {
             sorted.push(cells.as_slice()[at]);
         }
     }

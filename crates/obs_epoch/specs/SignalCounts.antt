@@ -6,6 +6,7 @@ use Rattle.std.specs.List.{list_any}
 use Rattle.gnss_obs.specs.declared.system.System.{System}
 use Rattle.gnss_obs.specs.declared.system.System.TheVariants.{Gps, Galileo}
 use Rattle.gnss_obs.specs.Signals.{SignalAt, table}
+use Rattle.rtcm_msg.specs.Msm.{most_pairs}
 use Rattle.rtcm_msg.specs.declared.entry.Entry.{Entry}
 use Rattle.rtcm_msg.specs.declared.entry.LockField.{LockField}
 use Rattle.obs_epoch.specs.Heard.{Heard, seen_in}
@@ -88,4 +89,4 @@ CountsEntries c c' system entries =
 pub record CountsMessage (c c' : SignalCountsValue) (wanted : Option ℕ) (m : Heard) : Type 0 where
   pub counts : (cells : List HeardCell) → length cells < 2 ^ 62 → AreSignalCounts c cells
       → AreSignalCounts c' (cells ++ valued wanted m)
-  pub few : length (valued wanted m) ≤ 64
+  pub few : length (valued wanted m) ≤ most_pairs
