@@ -1,6 +1,6 @@
 -- The epoch that a step closes is the one that the longer list closes.
 use Rattle.std.proofs.Common.{◌≡◌, ℕ, ◌<◌, Bool, true, false, not, ◌&&◌, List, [], ◌∷◌, ◌++◌, refl, sym, ap, ap₂, ◌∙◌, arith, Option, Some, None, nat_lt, append-nil, if◌then◌else◌, option_to_list}
-use Rattle.obs_epoch.specs.Names.{Kind, CellCounts, GatherSetup, Heard, ends_epoch, is_own, Timed, greatest_time, is_closed, taken_at, State, is_pending, closes_first, no_counts, is_close_first, is_kept, kind_after, closed_times, closed_so_far, option_map_or}
+use Rattle.obs_epoch.specs.Names.{Kind, CellCounts, GatherSetup, Heard, ends_epoch, is_own, Timed, greatest_time, is_closed, taken_at, State, is_pending, closes_first, no_counts, is_close_first, is_accepted, kind_after, closed_times, closed_so_far, option_map_or}
 use Rattle.obs_epoch.specs.Step.{closed_of, closed_by}
 use Rattle.obs_epoch.proofs.TimesLemmas.{next}
 use Rattle.obs_epoch.proofs.ClockLemmas.{standing, takes, same_time, Follows, first, greater, equal, new_time}
@@ -66,11 +66,11 @@ closed_in_is s xs m shut h = ap₂ (λ k (g : State). closed_of k (ends_epoch s 
 
 -- The outcome of a message that isn't accepted, and of one that is.
 pub refused : (s : GatherSetup) (xs : List Timed) (n : CellCounts) (m : Heard) → taken_at s xs m ≡ None
-    → (is_close_first (kind_after s xs n m) ≡ false) × (is_kept (kind_after s xs n m) ≡ false)
+    → (is_close_first (kind_after s xs n m) ≡ false) × (is_accepted (kind_after s xs n m) ≡ false)
 refused s xs n m none = grind (arith, common_steps)
 
 pub accepted : (s : GatherSetup) (xs : List Timed) (n : CellCounts) (m : Heard) (u : ℕ) → taken_at s xs m ≡ Some u
-    → (is_close_first (kind_after s xs n m) ≡ false) × (is_kept (kind_after s xs n m) ≡ true)
+    → (is_close_first (kind_after s xs n m) ≡ false) × (is_accepted (kind_after s xs n m) ≡ true)
 accepted s xs n m u some = grind (arith, common_steps)
 
 closing_none : (s : GatherSetup) (xs : List Timed) (m : Heard) (shut : Bool) → taken_at s xs m ≡ None → closes_first s xs m ≡ shut
@@ -81,7 +81,7 @@ closing_none s xs m shut none h =
       open_still : shut ≡ false
       open_still = grind (arith, none, h)
 
-      by : (k : Kind) (ends p : Bool) {sh : Bool} (before : Option ℕ) {after : Option ℕ} → is_close_first k ≡ false → is_kept k ≡ false → sh ≡ false → after ≡ before
+      by : (k : Kind) (ends p : Bool) {sh : Bool} (before : Option ℕ) {after : Option ℕ} → is_close_first k ≡ false → is_accepted k ≡ false → sh ≡ false → after ≡ before
           → (if ends && p then before else None) ≡ closed_of k ends (p && not sh) before after
       by k ends p before other untaken still same = grind (arith, common_steps)
 
@@ -98,7 +98,7 @@ closing_some s xs m u shut some h =
     let kind = accepted s xs no_counts m u some in
     plain s (xs ++ next s xs m ∷ []) ∙ taken_by m own some (taken_follows s xs m u some) shut h
     ∙ ap (λ l. closed_so_far s xs shut ++ l) (kept_text (kind_after s xs no_counts m) (ends_epoch s m) (is_pending s xs && not shut) (greatest_time xs) kind.0 kind.1 new.0) where
-      kept_text : (k : Kind) (ends was : Bool) (before : Option ℕ) {after : Option ℕ} {v : ℕ} → is_close_first k ≡ false → is_kept k ≡ true → after ≡ Some v
+      kept_text : (k : Kind) (ends was : Bool) (before : Option ℕ) {after : Option ℕ} {v : ℕ} → is_close_first k ≡ false → is_accepted k ≡ true → after ≡ Some v
           → when ends v ≡ option_to_list (closed_of k ends was before after)
       kept_text k ends was before other kept at = grind (arith, common_steps)
 

@@ -1,7 +1,7 @@
 -- A closed epoch is the same after every message.
 use Rattle.std.proofs.Common.{◌≡◌, ℕ, ◌<◌, Bool, true, false, List, [], ◌∷◌, ◌++◌, filter, refl, sym, ap, ◌∙◌, subst, arith, Option, Some, None, nat_lt, append-nil, cond, filter_map}
 use Rattle.std.proofs.lemmas.List.Elements.{filter-append}
-use Rattle.obs_epoch.specs.Names.{System, GatherSetup, HeardCell, Timed, greatest_time, offered, kept, kept_at, sorted, planned_of, times, locked_at, previous, lli_of, cells_with_lli, epoch_at, closed_times, is_closed, is_shut}
+use Rattle.obs_epoch.specs.Names.{System, GatherSetup, HeardCell, Timed, greatest_time, offered, kept, cells_at, sorted, planned_of, times, locked_at, previous, lli_of, cells_with_lli, epoch_at, closed_times, is_closed, is_shut}
 use Rattle.obs_epoch.proofs.ClockLemmas.{Follows, first, greater, equal}
 use Rattle.obs_epoch.proofs.ClosedLemmas.{Below, IsLess, when, one_fails, less_false, times-push_new, times-push_same, times-push_none, no_times, ends, closed_is}
 use Rattle.std.proofs.lemmas.Grind.{common_steps}
@@ -14,8 +14,8 @@ IsLater t (Some u) = t < u
 pub offered-push : (s : GatherSetup) (t : ℕ) (xs : List Timed) (x : Timed) → IsLater t x.time → offered s t (xs ++ x ∷ []) ≡ offered s t xs
 offered-push s t xs x h = grind (arith, common_steps)
 
-pub kept_at-push : (s : GatherSetup) (t : ℕ) (xs : List Timed) (x : Timed) (system : System) → IsLater t x.time → kept_at s t (xs ++ x ∷ []) system ≡ kept_at s t xs system
-kept_at-push s t xs x system h = ap (λ l. sorted (planned_of system s.plan) (kept system l)) (offered-push s t xs x h)
+pub cells_at-push : (s : GatherSetup) (t : ℕ) (xs : List Timed) (x : Timed) (system : System) → IsLater t x.time → cells_at s t (xs ++ x ∷ []) system ≡ cells_at s t xs system
+cells_at-push s t xs x system h = ap (λ l. sorted (planned_of system s.plan) (kept system l)) (offered-push s t xs x h)
 
 earlier : (u t : ℕ) (time : Option ℕ) → u < t → IsLater t time → IsLater u time
 earlier u t None lt h = tt
@@ -24,7 +24,7 @@ earlier u t (Some v) lt h = omega (arith, lt, h)
 locked_all : (s : GatherSetup) (xs : List Timed) (x : Timed) (key : HeardCell) (t : ℕ) (us : List ℕ) → IsLater t x.time → Below t us
     → filter_map (locked_at s (xs ++ x ∷ []) key) us ≡ filter_map (locked_at s xs key) us
 locked_all s xs x key t [] h b = refl
-locked_all s xs x key t (u ∷ us) h b = grind (arith, common_steps, kept_at-push, earlier, locked_all s xs x key t us h b.1)
+locked_all s xs x key t (u ∷ us) h b = grind (arith, common_steps, cells_at-push, earlier, locked_all s xs x key t us h b.1)
 
 below_cond : (t u : ℕ) (us : List ℕ) (b : Bool) → nat_lt u t ≡ b → Below t us → Below t (cond b (u ∷ us) us)
 below_cond t u us true e h = (grind (arith, e), h)
@@ -50,7 +50,7 @@ with_lli-push s xs x t (c ∷ cs) h same = grind (arith, common_steps, lli_of-pu
 -- The epoch of time t doesn't change.
 pub epoch_at-push : (s : GatherSetup) (xs : List Timed) (x : Timed) (t : ℕ) → IsLater t x.time
     → filter (λ u. nat_lt u t) (times (xs ++ x ∷ [])) ≡ filter (λ u. nat_lt u t) (times xs) → epoch_at s (xs ++ x ∷ []) t ≡ epoch_at s xs t
-epoch_at-push s xs x t h same = grind (arith, common_steps, kept_at-push, with_lli-push)
+epoch_at-push s xs x t h same = grind (arith, common_steps, cells_at-push, with_lli-push)
 
 -- ---- all closed epochs
 

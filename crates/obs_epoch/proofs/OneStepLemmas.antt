@@ -1,12 +1,12 @@
 -- A step of the gatherer adds one message to the list.
 use Rattle.std.proofs.Common.{◌≡◌, ℕ, zero, suc, replicate, ◌<◌, Bool, true, false, not, ◌||◌, List, [], ◌∷◌, ◌++◌, filter, refl, sym, ap, ap₂, ◌∙◌, subst, arith, length, append-nil, Option, Some, None, nat_lt, if◌then◌else◌, cond, filter_map, flat_map}
 use Rattle.std.proofs.lemmas.List.Elements.{filter-append}
-use Rattle.obs_epoch.specs.Names.{Gps, Galileo, GatherSetup, Heard, ends_epoch, HeardCell, kept_cell, Timed, is_at, greatest_time, is_closed, taken_at, no_counts, kept_at, offered, is_planned, locked_at, latest_in, previous, times, lli_with, cells_with_lli, epoch_at, closed_so_far, lookup, no_locks, State, closes_first, GathererValue, empty_epoch, load, epoch_begun, is_same, locked_in, held_at, Locked, KnownLock, option_map_or, list_any}
+use Rattle.obs_epoch.specs.Names.{Gps, Galileo, GatherSetup, Heard, ends_epoch, HeardCell, kept_cell, Timed, is_at, greatest_time, is_closed, taken_at, no_counts, cells_at, offered, is_planned, locked_at, latest_in, previous, times, lli_with, cells_with_lli, epoch_at, closed_so_far, lookup, no_locks, State, closes_first, GathererValue, empty_epoch, load, epoch_begun, is_same, locked_in, held_at, Locked, KnownLock, option_map_or, list_any}
 use Rattle.obs_epoch.proofs.TimesLemmas.{next, greater-absent, none-absent}
 use Rattle.obs_epoch.proofs.ClockLemmas.{standing, same_time, Follows, first, greater, equal, new_time}
 use Rattle.obs_epoch.proofs.ClosedLemmas.{Below, when, ends, closed_is, passes_all, one_fails, less_true, less_false, taken_follows, times-push_same}
 use Rattle.obs_epoch.proofs.ClosingLemmas.{taken_by, own_of}
-use Rattle.obs_epoch.proofs.EpochLemmas.{IsLater, AllLater, all_none, all_below, kept_at-push, times_before, epoch_at-push}
+use Rattle.obs_epoch.proofs.EpochLemmas.{IsLater, AllLater, all_none, all_below, cells_at-push, times_before, epoch_at-push}
 use Rattle.obs_epoch.proofs.LockLemmas.{none_found, none_recorded}
 use Rattle.obs_epoch.proofs.LoadLemmas.{with_lli_by, epoch_of, load_is, counts_after}
 use Rattle.std.proofs.lemmas.Grind.{common_steps}
@@ -15,11 +15,11 @@ use Rattle.std.proofs.lemmas.Grind.{common_steps}
 
 latest-push : (s : GatherSetup) (xs : List Timed) (x : Timed) (ts : List ℕ) (key : HeardCell) → AllLater x.time ts → filter_map (locked_at s (xs ++ x ∷ []) key) ts ≡ filter_map (locked_at s xs key) ts
 latest-push s xs x [] key h = refl
-latest-push s xs x (t ∷ ts) key h = grind (arith, common_steps, kept_at-push, latest-push s xs x ts key h.1)
+latest-push s xs x (t ∷ ts) key h = grind (arith, common_steps, cells_at-push, latest-push s xs x ts key h.1)
 
 locked_in-push : (s : GatherSetup) (xs : List Timed) (x : Timed) (ts : List ℕ) → AllLater x.time ts → locked_in s (xs ++ x ∷ []) ts ≡ locked_in s xs ts
 locked_in-push s xs x [] h = refl
-locked_in-push s xs x (t ∷ ts) h = grind (arith, common_steps, kept_at-push, locked_in-push s xs x ts h.1)
+locked_in-push s xs x (t ∷ ts) h = grind (arith, common_steps, cells_at-push, locked_in-push s xs x ts h.1)
 
 pub locked-push : (g : GathererValue) (s : GatherSetup) (xs : List Timed) (x : Timed) (ts : List ℕ) → AllLater x.time ts → Locked g s xs ts → Locked g s (xs ++ x ∷ []) ts
 locked-push g s xs x ts later h = grind (arith, common_steps, latest-push, locked_in-push)
@@ -70,7 +70,7 @@ with_lli_is s xs f t [] h = refl
 with_lli_is s xs f t (k ∷ ks) h = ap₂ (λ o l. (kept_cell k (lli_with t k o)) ∷ l) (h k) (with_lli_is s xs f t ks h)
 
 epoch_is : (s : GatherSetup) (xs : List Timed) (f : HeardCell → Option KnownLock) (t : ℕ) → ((key : HeardCell) → f key ≡ previous s xs t key) → epoch_of s.plan f t (offered s t xs) ≡ epoch_at s xs t
-epoch_is s xs f t h = ap₂ (λ a b. record { time = t; gps = a; galileo = b }) (with_lli_is s xs f t (kept_at s t xs Gps) h) (with_lli_is s xs f t (kept_at s t xs Galileo) h)
+epoch_is s xs f t h = ap₂ (λ a b. record { time = t; gps = a; galileo = b }) (with_lli_is s xs f t (cells_at s t xs Gps) h) (with_lli_is s xs f t (cells_at s t xs Galileo) h)
 
 offered-more : (s : GatherSetup) (xs : List Timed) (m : Heard) (u : ℕ) → taken_at s xs m ≡ Some u → offered s u (xs ++ next s xs m ∷ []) ≡ offered s u xs ++ filter (is_planned s) m.cells
 offered-more s xs m u some = grind (arith, common_steps)

@@ -1,5 +1,5 @@
 -- Bounds of the values of epochs.
-use Rattle.obs_epoch.specs.Names.{LockField, Df402, Df407, System, Gps, Galileo, Satellite, satellite_of_id, SignalAt, signal_of_id, hertz_of, nearest_pseudorange, nearest_phase, nearest_doppler, nearest_strength, LockTime, Entry, Message, Station, Msm4, Msm7, Other, IsMessage, IsMeasured, EntriesAreMeasured, PointsAreInRange, entries, StationValues, weeks, Closed, HasTwelveDigits, cells_of, planned_of, most_cells, GatherSetup, Heard, heard, observed, seen_in, lock_by, HeardCell, kept_cell, Timed, is_at, timed, timed_after, taken_at, is_of_system, is_planned, offered, firsts_after, firsts, kept, kept_at, has_same_key, times, lli_with, lli_of, has_lost, cells_with_lli, epoch_at, values_after_message, is_shut, open_after, before_closing, closed_list_at, all_epochs, IsHeardCell, IsHeard, IsStrength, IsGathered, same_place, AreGathered, AreStationValues, IsGatheredEpoch, TimesRise, AreGatheredEpochs, KnownLock}
+use Rattle.obs_epoch.specs.Names.{LockField, Df402, Df407, System, Gps, Galileo, Satellite, satellite_of_id, SignalAt, signal_of_id, hertz_of, nearest_pseudorange, nearest_phase, nearest_doppler, nearest_strength, LockTime, Entry, Message, Station, Msm4, Msm7, Other, IsMessage, IsMeasured, EntriesAreMeasured, PointsAreInRange, entries, StationValues, weeks, Closed, HasTwelveDigits, cells_of, planned_of, most_cells, GatherSetup, Heard, heard, observed, seen_in, lock_by, HeardCell, kept_cell, Timed, is_at, timed, timed_after, taken_at, is_of_system, is_planned, offered, firsts_after, firsts, kept, cells_at, has_same_key, times, lli_with, lli_of, has_lost, cells_with_lli, epoch_at, values_after_message, is_shut, open_after, before_closing, closed_list_at, all_epochs, IsHeardCell, IsHeard, IsStrength, IsGathered, same_place, AreGathered, AreStationValues, IsGatheredEpoch, TimesRise, AreGatheredEpochs, KnownLock}
 use Rattle.std.proofs.Common.{◌≡◌, ℕ, zero, suc, ℤ, pos, ◌+◌, ◌*◌, ◌^◌, ◌<◌, ◌≤◌, ◌≤ℤ◌, Bool, true, false, List, [], ◌∷◌, ◌++◌, filter, take, ap, arith, Option, Some, None, nat_lt, is_some, unsigned_abs, if◌then◌else◌, flat_map, filter_map, option_map, option_and_then, IfSome, fold}
 use Rattle.std.specs.List.{AllByRecursion, IsDistinct, cons_option}
 use Rattle.rtcm_msg.specs.Msm.{week}
@@ -129,7 +129,7 @@ all_firsts P earlier (x ∷ xs) h = grind (arith, common_steps, all_firsts P (ea
 abbrev IsKept : GatherSetup → System → HeardCell → Type 0
 IsKept s system x = IsOffered s x × (is_of_system system x ≡ true)
 
-all_kept : (s : GatherSetup) (t : ℕ) (xs : List Timed) (system : System) → AllByRecursion IsTimed xs → AllByRecursion (IsKept s system) (kept_at s t xs system)
+all_kept : (s : GatherSetup) (t : ℕ) (xs : List Timed) (system : System) → AllByRecursion IsTimed xs → AllByRecursion (IsKept s system) (cells_at s t xs system)
 all_kept s t xs system h =
     all-sorted (IsKept s system) (planned_of system s.plan) (kept system (offered s t xs))
     (all_take (IsKept s system) most_cells (filter (is_of_system system) (firsts (offered s t xs)))
@@ -166,12 +166,12 @@ places_apart s xs t system (c ∷ cs) h d = (all_other cs h.1 d.0, places_apart 
   all_other (y ∷ ys) k other = (other_place system c y (lli_of s xs t c) (lli_of s xs t y) h.0.1 k.0.1 other.0, all_other ys k.1 other.1)
 
 cells_gathered : (s : GatherSetup) (xs : List Timed) (t : ℕ) (system : System) → AllByRecursion IsTimed xs
-    → AreGathered system (planned_of system s.plan) ((cells_with_lli s xs t (kept_at s t xs system)))
+    → AreGathered system (planned_of system s.plan) ((cells_with_lli s xs t (cells_at s t xs system)))
 cells_gathered s xs t system h = grind (arith, common_steps, all_kept, each_gathered, places_apart, distinct-sorted, kept_distinct)
 
-cells_at : (s : GatherSetup) (xs : List Timed) (t : ℕ) → AllByRecursion IsTimed xs → (system : System) → AreGathered system (planned_of system s.plan) (cells_of system ((epoch_at s xs t)))
-cells_at s xs t h Gps = cells_gathered s xs t Gps h
-cells_at s xs t h Galileo = cells_gathered s xs t Galileo h
+gathered_at : (s : GatherSetup) (xs : List Timed) (t : ℕ) → AllByRecursion IsTimed xs → (system : System) → AreGathered system (planned_of system s.plan) (cells_of system ((epoch_at s xs t)))
+gathered_at s xs t h Gps = cells_gathered s xs t Gps h
+gathered_at s xs t h Galileo = cells_gathered s xs t Galileo h
 
 -- ---- station values
 
@@ -196,7 +196,7 @@ each_epoch s ms [] v h w = tt
 each_epoch s ms (t ∷ ts) v h w = (
   record {
     time = w.0;
-    cells = cells_at s (timed s ms) t (timed_all s ms h);
+    cells = gathered_at s (timed s ms) t (timed_all s ms h);
     values = values_from s s.initial (before_closing s t ms) (open_heard s t [] ms tt h) v;
   },
   each_epoch s ms ts v h w.1,

@@ -1,7 +1,7 @@
 -- The whole step: a property of the list before holds for the list after one more message.
 use Rattle.std.proofs.Common.{◌≡◌, ℕ, Bool, true, false, not, ◌||◌, ◌&&◌, List, [], ◌∷◌, ◌++◌, refl, sym, ap, ap₂, ◌∙◌, subst, arith, append-nil, Option, Some, None, is_some, ◌⊎◌, inl, inr, if◌then◌else◌, option_to_list}
 use Rattle.std.proofs.lemmas.List.Sums.{fold-append}
-use Rattle.obs_epoch.specs.Names.{Message, Kind, CloseFirst, CellCounts, GatherSetup, Heard, heard, is_own, ends_epoch, HeardCell, Timed, greatest_time, taken_at, timed, no_counts, with_skipped, offered, counts_of, counts_of_message, epoch_at, closed_so_far, closed_times, values_of, values_after_message, State, HasHeardMessages, is_pending, closes_first, is_close_first, is_kept, kind_after, with_unlisted, GathererValue, Loaded, empty_epoch, noted, load, loaded_if, outcome_in, load_one, with_time, closed_if, closed_noted, epoch_begun, just_closed_as, rested, take_step, end_step, is_same, count_in, KnownLock, held_at, Locked, HasTakenMessages, EpochValue, option_map_or}
+use Rattle.obs_epoch.specs.Names.{Message, Kind, CloseFirst, CellCounts, GatherSetup, Heard, heard, is_own, ends_epoch, HeardCell, Timed, greatest_time, taken_at, timed, no_counts, with_skipped, offered, counts_of, counts_of_message, epoch_at, closed_so_far, closed_times, values_of, values_after_message, State, HasHeardMessages, is_pending, closes_first, is_close_first, is_accepted, kind_after, with_unlisted, GathererValue, Loaded, empty_epoch, noted, load, loaded_if, outcome_in, load_one, with_time, closed_if, closed_noted, epoch_begun, just_closed_as, rested, take_step, end_step, is_same, count_in, KnownLock, held_at, Locked, HasTakenMessages, EpochValue, option_map_or}
 use Rattle.rtcm_msg.specs.declared.message.Message.TheVariants as message
 use Rattle.obs_epoch.specs.Step.{kind_by, step_by, closed_by, closed_of}
 use Rattle.obs_epoch.proofs.TimesLemmas.{next, timed-push}
@@ -56,7 +56,7 @@ pub record Reached (l : Loaded) (s : GatherSetup) (ms : List Heard) (m : Heard) 
   pub counts : l.counts ≡ counts_of_message s (timed s ms) m
 
 reached : (g : GathererValue) (s : GatherSetup) (ms : List Heard) (m : Heard) (shut : Bool) → HasTakenMessages g s ms shut → closes_first s (timed s ms) m ≡ shut
-    → Reached (loaded_if (is_kept (kind_by g.clock no_counts m)) g.clock.latest (with_time g m) m) s ms m shut
+    → Reached (loaded_if (is_accepted (kind_by g.clock no_counts m)) g.clock.latest (with_time g m) m) s ms m shut
 reached g s ms m shut h early = by (taken_at s xs m) refl where
   xs : List Timed
   xs = timed s ms
@@ -93,9 +93,9 @@ reached g s ms m shut h early = by (taken_at s xs m) refl where
     values = d;
   }
 
-  by : (o : Option ℕ) → taken_at s xs m ≡ o → Reached (loaded_if (is_kept (kind_by g.clock no_counts m)) g.clock.latest (with_time g m) m) s ms m shut
+  by : (o : Option ℕ) → taken_at s xs m ≡ o → Reached (loaded_if (is_accepted (kind_by g.clock no_counts m)) g.clock.latest (with_time g m) m) s ms m shut
   by None none =
-      let is = ap (λ b. loaded_if b g.clock.latest (with_time g m) m) (ap is_kept kind ∙ (refused s xs no_counts m none).1) in
+      let is = ap (λ b. loaded_if b g.clock.latest (with_time g m) m) (ap is_accepted kind ∙ (refused s xs no_counts m none).1) in
       subst (λ l. Reached l s ms m shut) (sym is) (record {
         mid = moved (with_time g m) now (h.epoch ∙ sym (held_same s xs m none)) locks values;
         counts = ap (λ o. option_map_or (λ u. with_skipped m.unlisted (counts_of s (offered s u xs) m.cells)) o no_counts) (sym none);
@@ -103,7 +103,7 @@ reached g s ms m shut h early = by (taken_at s xs m) refl where
   by (Some u) some =
       let new = new_time s xs (next s xs m) u some (taken_follows s xs m u some) in
       let latest : g.clock.latest ≡ greatest_time xs = ap (λ (c : State). c.latest) was in
-      let is = ap₂ (λ b o. loaded_if b o (with_time g m) m) (ap is_kept kind ∙ (accepted s xs no_counts m u some).1) latest
+      let is = ap₂ (λ b o. loaded_if b o (with_time g m) m) (ap is_accepted kind ∙ (accepted s xs no_counts m u some).1) latest
       ∙ ap (with_unlisted m.unlisted) (loaded_taken m some early h.epoch before now) in
       subst (λ l. Reached l s ms m shut) (sym is) (record {
         mid = moved (record (with_time g m) { epoch = epoch_at s (xs ++ next s xs m ∷ []) u }) now
@@ -142,7 +142,7 @@ taken g s ms m shut h early =
     let was = clock_is g.clock s ms shut h.clock in
     let kind : (n : CellCounts) → kind_by g.clock n m ≡ kind_after s xs n m = λ n. ap (λ c. kind_by c n m) was ∙ (takes s xs n m shut early).0 in
     let r = reached g s ms m shut h early in
-    let l = loaded_if (is_kept (kind_by g.clock no_counts m)) g.clock.latest (with_time g m) m in
+    let l = loaded_if (is_accepted (kind_by g.clock no_counts m)) g.clock.latest (with_time g m) m in
     record {
       kind = kind;
       counts = r.counts;
@@ -150,7 +150,7 @@ taken g s ms m shut h early =
     }
 
 -- An epoch that a message closes that isn't accepted was pending.
-was_pending : (k : Kind) (b : Bool) {p : Bool} (before after : Option ℕ) {t : ℕ} → is_close_first k ≡ false → is_kept k ≡ false → closed_of k b p before after ≡ Some t → p ≡ true
+was_pending : (k : Kind) (b : Bool) {p : Bool} (before after : Option ℕ) {t : ℕ} → is_close_first k ≡ false → is_accepted k ≡ false → closed_of k b p before after ≡ Some t → p ≡ true
 was_pending k b before after other untaken e = grind (arith, common_steps)
 
 pub pending_taken : {g : GathererValue} {s : GatherSetup} {ms : List Heard} (m : Heard) {shut : Bool} → HasTakenMessages g s ms shut → closes_first s (timed s ms) m ≡ shut
@@ -159,7 +159,7 @@ pending_taken {g} {s} {ms} m {shut} h early none t e =
     let xs = timed s ms in
     let was = clock_is g.clock s ms shut h.clock in
     let kind : (n : CellCounts) → kind_by g.clock n m ≡ kind_after s xs n m = λ n. ap (λ c. kind_by c n m) was ∙ (takes s xs n m shut early).0 in
-    let p : g.clock.pending ≡ true = was_pending (kind_by g.clock no_counts m) _ _ _ (ap is_close_first (kind no_counts) ∙ (refused s xs no_counts m none).0) (ap is_kept (kind no_counts) ∙ (refused s xs no_counts m none).1) e in
+    let p : g.clock.pending ≡ true = was_pending (kind_by g.clock no_counts m) _ _ _ (ap is_close_first (kind no_counts) ∙ (refused s xs no_counts m none).0) (ap is_accepted (kind no_counts) ∙ (refused s xs no_counts m none).1) e in
     left_true (is_pending s xs) (not shut) (sym h.clock.pending ∙ p) where
       left_true : (a b : Bool) → (a && b) ≡ true → a ≡ true
       left_true a b e = grind (arith, common_steps, e)
@@ -214,7 +214,7 @@ closes_it g s ms m h early none = by (greatest_time (timed s ms)) refl where
     by_own b = grind (arith, common_steps)
 
   step : take_step g m ≡ closed_if (is_some (closed_by g.clock m)) (record { state = with_time g m; counts = no_counts })
-  step = ap (λ k. closed_if (is_some (closed_by g.clock m)) (loaded_if (is_kept k) g.clock.latest (with_time g m) m)) (kind no_counts)
+  step = ap (λ k. closed_if (is_some (closed_by g.clock m)) (loaded_if (is_accepted k) g.clock.latest (with_time g m) m)) (kind no_counts)
 
   by : (o : Option ℕ) → greatest_time xs ≡ o → First g s ms m
   by None e = absurd (grind (arith, early, e))
@@ -309,17 +309,17 @@ closed_loaded : (accepted : Bool) (before : Option ℕ) (g : GathererValue) (m :
 closed_loaded accepted before g m = loaded_apart (λ v. v.just_closed) (λ v e locks. refl) accepted before (with_time g m) m
 
 step_apart : (f : GathererValue → Bool) → IsApart f → (g : GathererValue) (m : Heard) → f (take_step g m).state ≡ f (with_time g m)
-step_apart f apart g m = closed (is_some (closed_by g.clock m)) (loaded_if kept g.clock.latest (with_time g m) m) ∙ loaded_apart f apart kept g.clock.latest (with_time g m) m where
-  kept : Bool
-  kept = is_kept (kind_by g.clock no_counts m)
+step_apart f apart g m = closed (is_some (closed_by g.clock m)) (loaded_if accepted g.clock.latest (with_time g m) m) ∙ loaded_apart f apart accepted g.clock.latest (with_time g m) m where
+  accepted : Bool
+  accepted = is_accepted (kind_by g.clock no_counts m)
 
   closed : (b : Bool) (l : Loaded) → f (closed_if b l).state ≡ f l.state
   closed true l = apart l.state l.state.epoch _
   closed false l = refl
 
 -- The step of the gatherer, from what its message loads.
-pub noted_is : (g : GathererValue) (m : Heard) → closed_noted (loaded_if (is_kept (kind_by g.clock no_counts m)) g.clock.latest (with_time g m) m).state ≡ (take_step g m).state
-noted_is g m = let v = (loaded_if (is_kept (kind_by g.clock no_counts m)) g.clock.latest (with_time g m) m).state in ap (λ b. if b then noted v else v) (closed_loaded _ _ g m)
+pub noted_is : (g : GathererValue) (m : Heard) → closed_noted (loaded_if (is_accepted (kind_by g.clock no_counts m)) g.clock.latest (with_time g m) m).state ≡ (take_step g m).state
+noted_is g m = let v = (loaded_if (is_accepted (kind_by g.clock no_counts m)) g.clock.latest (with_time g m) m).state in ap (λ b. if b then noted v else v) (closed_loaded _ _ g m)
 
 pub handed_is : (g : GathererValue) (m : Heard) → (take_step g m).state.just_closed ≡ is_some (closed_by g.clock m)
 handed_is g m = step_apart (λ v. v.just_closed) (λ v e locks. refl) g m
@@ -351,9 +351,9 @@ loaded_rested true before g m =
 loaded_rested false before g m = refl
 
 -- The step of the gatherer, from what its message loads and whether the epoch is closed then.
-pub closed_is : (g : GathererValue) (m : Heard) (l : Loaded) (closed : Bool) → l ≡ loaded_if (is_kept (kind_by g.clock no_counts m)) g.clock.latest (rested (with_time g m)) m
+pub closed_is : (g : GathererValue) (m : Heard) (l : Loaded) (closed : Bool) → l ≡ loaded_if (is_accepted (kind_by g.clock no_counts m)) g.clock.latest (rested (with_time g m)) m
     → closed ≡ is_some (closed_by g.clock m) → closed_noted (just_closed_as closed l.state) ≡ (take_step g m).state
 closed_is g m l closed e is =
-    let accepted = is_kept (kind_by g.clock no_counts m) in
+    let accepted = is_accepted (kind_by g.clock no_counts m) in
     ap (λ (v : Loaded). closed_noted (just_closed_as closed v.state)) (e ∙ loaded_rested accepted g.clock.latest (with_time g m) m)
     ∙ ap (λ b. closed_noted (just_closed_as b (loaded_if accepted g.clock.latest (with_time g m) m).state)) (is ∙ sym (closed_loaded accepted g.clock.latest g m)) ∙ noted_is g m

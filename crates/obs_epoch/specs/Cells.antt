@@ -57,8 +57,8 @@ add system ks y =
     if is_of_system system y && not (is_among ks y || nat_le most_cells (length ks)) then ks ++ y ∷ [] else ks
 
 -- The kept cells of a system in the epoch of time t, by satellite, then by the order of the plan.
-abbrev pub kept_at : GatherSetup → ℕ → List Timed → System → List HeardCell
-kept_at s t xs system = sorted (planned_of system s.plan) (kept system (offered s t xs))
+abbrev pub cells_at : GatherSetup → ℕ → List Timed → System → List HeardCell
+cells_at s t xs system = sorted (planned_of system s.plan) (kept system (offered s t xs))
 
 abbrev pub kept_of_both : List HeardCell → List HeardCell
 kept_of_both xs = kept Gps xs ++ kept Galileo xs

@@ -8,7 +8,7 @@ use Rattle.gnss_obs.specs.declared.cell.StationValues.{StationValues}
 use Rattle.obs_epoch.specs.Heard.{GatherSetup, Heard, is_own}
 use Rattle.gnss_obs.specs.HeardCells.{HeardCell, kept_cell}
 use Rattle.obs_epoch.specs.Times.{Timed, greatest_time, is_closed}
-use Rattle.obs_epoch.specs.Cells.{kept_at}
+use Rattle.obs_epoch.specs.Cells.{cells_at}
 use Rattle.obs_epoch.specs.Loss.{times, lli_of}
 use Rattle.gnss_obs.specs.declared.cell.Cell.{Cell}
 use Rattle.gnss_obs.specs.Values.{EpochValue}
@@ -21,8 +21,8 @@ cells_with_lli s xs t (c ∷ cs) = kept_cell c (lli_of s xs t c) ∷ cells_with_
 abbrev pub epoch_at : GatherSetup → List Timed → ℕ → EpochValue
 epoch_at s xs t = record {
   time = t;
-  gps = cells_with_lli s xs t (kept_at s t xs Gps);
-  galileo = cells_with_lli s xs t (kept_at s t xs Galileo);
+  gps = cells_with_lli s xs t (cells_at s t xs Gps);
+  galileo = cells_with_lli s xs t (cells_at s t xs Galileo);
 }
 
 -- All epochs, closed or not.

@@ -5,7 +5,7 @@ use Rattle.gnss_obs.specs.declared.system.System.TheVariants.{Gps, Galileo}
 use Rattle.obs_epoch.specs.Heard.{GatherSetup, Heard}
 use Rattle.gnss_obs.specs.HeardCells.{HeardCell}
 use Rattle.obs_epoch.specs.Times.{Timed, greatest_time, timed}
-use Rattle.obs_epoch.specs.Cells.{kept_at}
+use Rattle.obs_epoch.specs.Cells.{cells_at}
 use Rattle.obs_epoch.specs.Loss.{is_locked, latest_in}
 use Rattle.obs_epoch.specs.Epochs.{epoch_at, closed_so_far, values_of}
 use Rattle.obs_epoch.specs.Held.{lookup, TracksLocks}
@@ -15,7 +15,7 @@ use Rattle.gnss_obs.specs.Values.{EpochValue, empty_epoch}
 
 -- The locked cells of the epochs of these times.
 abbrev pub locked_in : GatherSetup → List Timed → List ℕ → List HeardCell
-locked_in s xs ts = flat_map (λ t. filter is_locked (kept_at s t xs Gps ++ kept_at s t xs Galileo)) ts
+locked_in s xs ts = flat_map (λ t. filter is_locked (cells_at s t xs Gps ++ cells_at s t xs Galileo)) ts
 
 -- The epoch of the greatest time.
 abbrev pub held_at : GatherSetup → List Timed → EpochValue

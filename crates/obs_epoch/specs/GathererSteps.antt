@@ -11,7 +11,7 @@ use Rattle.rtcm_msg.specs.declared.entry.LockField.{LockField}
 use Rattle.obs_epoch.specs.Heard.{Heard, seen_in}
 use Rattle.gnss_obs.specs.HeardCells.{HeardCell, kept_cell}
 use Rattle.obs_epoch.specs.Cells.{no_counts, with_skipped}
-use Rattle.obs_epoch.specs.Kinds.{is_kept}
+use Rattle.obs_epoch.specs.Kinds.{is_accepted}
 use Rattle.gnss_obs.specs.Values.{PlanValue, planned_of, EpochValue, cells_of, empty_epoch}
 use Rattle.gnss_obs.specs.PlanOrder.{AreInOrder}
 use Rattle.gnss_obs.specs.Arriving.{sorted_epoch}
@@ -141,7 +141,7 @@ closed_if b l = record { state = if b then noted l.state else l.state; counts = 
 abbrev pub take_step : GathererValue → Heard → Loaded
 take_step g m =
     closed_if (is_some (closed_by g.clock m))
-    (loaded_if (is_kept (kind_by g.clock no_counts m)) g.clock.latest (with_time g m) m)
+    (loaded_if (is_accepted (kind_by g.clock no_counts m)) g.clock.latest (with_time g m) m)
 
 abbrev pub just_closed_as : Bool → GathererValue → GathererValue
 just_closed_as closed g = record g { just_closed = closed }

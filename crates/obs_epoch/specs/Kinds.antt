@@ -19,13 +19,13 @@ is_close_first kinds.CloseFirst = true
 is_close_first _ = false
 
 -- The observations were accepted.
-abbrev pub is_kept : Kind → Bool
-is_kept (kinds.Kept n) = true
-is_kept _ = false
+abbrev pub is_accepted : Kind → Bool
+is_accepted (kinds.Kept n) = true
+is_accepted _ = false
 
 -- The outcome with these counts, if the observations were accepted.
 abbrev pub with_counts : CellCounts → Kind → Kind
-with_counts n kind = if is_kept kind then kinds.Kept n else kind
+with_counts n kind = if is_accepted kind then kinds.Kept n else kind
 
 -- The outcome of observations of the wanted station with this time of week.
 abbrev pub kind_at : GatherSetup → List Timed → CellCounts → ℕ → Kind

@@ -6,7 +6,7 @@ use Rattle.gnss_obs.specs.LockTimes.{lost}
 use Rattle.obs_epoch.specs.Heard.{GatherSetup}
 use Rattle.gnss_obs.specs.HeardCells.{HeardCell}
 use Rattle.obs_epoch.specs.Times.{Timed}
-use Rattle.obs_epoch.specs.Cells.{kept_at}
+use Rattle.obs_epoch.specs.Cells.{cells_at}
 use Rattle.gnss_obs.specs.HeardCells.{has_same_key}
 use Rattle.obs_epoch.specs.declared.locks.KnownLock.{KnownLock}
 
@@ -25,7 +25,7 @@ lock_of t x = if is_locked x then Some (record { time = t; lock = x.lock }) else
 
 -- The lock of the kept cell of that key at time t, if it is locked.
 abbrev pub locked_at : GatherSetup → List Timed → HeardCell → ℕ → Option KnownLock
-locked_at s xs key t = option_and_then (lock_of t) (find (has_same_key key) (kept_at s t xs key.satellite.system))
+locked_at s xs key t = option_and_then (lock_of t) (find (has_same_key key) (cells_at s t xs key.satellite.system))
 
 abbrev pub last_of : {A : Type 0} → List A → Option A
 last_of [] = None

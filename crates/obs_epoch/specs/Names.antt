@@ -16,7 +16,7 @@ pub use Rattle.gnss_obs.specs.declared.system.System.TheVariants.{Galileo, Gps}
 pub use Rattle.gnss_obs.specs.declared.system.System.{System}
 pub use Rattle.gnss_obs.specs.declared.tables.ListedSignal.{ListedSignal}
 pub use Rattle.obs_epoch.specs.Calls.{IsCloseFirstExactly}
-pub use Rattle.obs_epoch.specs.Cells.{add, cells_counted, counts_of, counts_of_message, firsts, firsts_after, has_listed_key, is_among, is_of_system, is_planned, kept, kept_at, kept_of_both, no_counts, offered, with_skipped}
+pub use Rattle.obs_epoch.specs.Cells.{add, cells_at, cells_counted, counts_of, counts_of_message, firsts, firsts_after, has_listed_key, is_among, is_of_system, is_planned, kept, kept_of_both, no_counts, offered, with_skipped}
 pub use Rattle.obs_epoch.specs.Clock.{HasHeardMessages, State, closes_first, is_pending}
 pub use Rattle.obs_epoch.specs.Epochs.{cells_with_lli, closed_so_far, closed_times, epoch_at, is_shut, values_after_message, values_of}
 pub use Rattle.obs_epoch.specs.GathererSteps.{GathererValue, IsPending, Loaded, closed_if, closed_noted, end_step, epoch_begun, hold, hold_by, is_same, just_closed_as, load, load_entries, load_one, loaded_if, noted, outcome_in, planned_cell, rested, take_step, with_more, with_more_in, with_time, with_unlisted}
@@ -24,7 +24,7 @@ pub use Rattle.obs_epoch.specs.GathererAfter.{HasTakenMessages, Locked, held_at,
 pub use Rattle.obs_epoch.specs.GathererHistory.{HasGatheredEpochs, IsAwaited, all_epochs, before_closing, closed_list_at, open_after, returned_epoch}
 pub use Rattle.obs_epoch.specs.Heard.{GatherSetup, Heard, ends_epoch, heard, heard_msm, heard_summary, is_own, lock_by, observed, seen_in, system_of, unlisted_in, without_cells}
 pub use Rattle.obs_epoch.specs.Held.{CellOutcome, Crowded, Kept, Repeated, Skipped, TracksLocks, count_in, lock_place, lookup, most_locks, no_locks, note, note_all, outcome_of, outcome_of_added, put, recorded}
-pub use Rattle.obs_epoch.specs.Kinds.{is_close_first, is_kept, kind_after, kind_of, with_counts}
+pub use Rattle.obs_epoch.specs.Kinds.{is_accepted, is_close_first, kind_after, kind_of, with_counts}
 pub use Rattle.obs_epoch.specs.Loss.{has_lost, is_locked, last_of, latest_in, lli_of, lli_with, lock_of, locked_at, previous, times}
 pub use Rattle.obs_epoch.specs.Reach.{IsHeard, IsHeardCell}
 pub use Rattle.obs_epoch.specs.SignalCounts.{AreSignalCounts, CountsEntries, SignalCountsValue, brings_value, count_of, counted, counted_more, counted_more_in, is_of_signal, signal_counts, signal_in, up_by, valued}

@@ -7,7 +7,7 @@ use Rattle.obs_epoch.specs.declared.taken.Kind.TheVariants.{CloseFirst, Ignored,
 use Rattle.obs_epoch.specs.declared.taken.Kind.TheVariants.{OtherStation, PastWeeks, Station}
 use Rattle.obs_epoch.specs.declared.taken.CellCounts.{CellCounts}
 use Rattle.obs_epoch.specs.Cells.{no_counts}
-use Rattle.obs_epoch.specs.Kinds.{is_close_first, is_kept}
+use Rattle.obs_epoch.specs.Kinds.{is_accepted, is_close_first}
 use Rattle.obs_epoch.specs.Heard.{Heard, ends_epoch, is_own}
 use Rattle.rtcm_msg.specs.Msm.{week}
 use Rattle.obs_epoch.specs.Times.{ahead, is_past}
@@ -56,7 +56,7 @@ step_by g m = ended_where (ends_epoch g.setup m) (timed_by g m)
 -- pending, and the greatest times before and after.
 abbrev pub closed_of : Kind → Bool → Bool → Option ℕ → Option ℕ → Option ℕ
 closed_of kind ends_epoch was before after =
-    if is_close_first kind then before else (if ends_epoch && (is_kept kind || was) then after else None)
+    if is_close_first kind then before else (if ends_epoch && (is_accepted kind || was) then after else None)
 
 abbrev pub closed_by : State → Heard → Option ℕ
 closed_by g m = closed_of (kind_by g no_counts m) (ends_epoch g.setup m) g.pending g.latest (step_by g m).latest

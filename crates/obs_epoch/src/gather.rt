@@ -151,7 +151,7 @@ impl Gatherer {
     {
         let before = self.clock.latest();
         let (kind, closed) = self.hear(&view.summary());
-        let counts = self.load(kind.is_kept(), before, view);
+        let counts = self.load(kind.is_accepted(), before, view);
         self.note_closed(closed);
         Taken {
             kind: kind.with_counts(counts),
@@ -287,12 +287,12 @@ impl Gatherer {
     // Processes the cells of a message if it is accepted, and returns their outcomes. It is not
     // inlined, so that the loop over them is compiled by itself.
     #[inline(never)]
-    fn load(&mut self, is_kept: bool, before: Option<u64>, view: &View<'_>) -> CellCounts
+    fn load(&mut self, is_accepted: bool, before: Option<u64>, view: &View<'_>) -> CellCounts
         requires { self.old.just_closed ≡ false }
         ensures { record { state = self.new; counts = result }
-            ≡ loaded_if is_kept before self.old (heard (viewed_message view.now)) }
+            ≡ loaded_if is_accepted before self.old (heard (viewed_message view.now)) }
     {
-        if !is_kept {
+        if !is_accepted {
             return CellCounts::default();
         }
         self.begin(before);

@@ -1,6 +1,6 @@
 //! The outcome of a message.
 ghost use Rattle.std.specs.Prelude.{◌≡◌};
-ghost use Rattle.obs_epoch.specs.Kinds.{is_close_first, is_kept, with_counts};
+ghost use Rattle.obs_epoch.specs.Kinds.{is_accepted, is_close_first, with_counts};
 
 /// How the epochs of a station are closed.
 #[derive(Clone, Copy)]
@@ -62,8 +62,8 @@ impl Kind {
     }
 
     // Returns whether the message was accepted.
-    pub(crate) fn is_kept(self) -> bool
-        ensures { result ≡ is_kept self }
+    pub(crate) fn is_accepted(self) -> bool
+        ensures { result ≡ is_accepted self }
     {
         matches!(self, Kind::Kept(_))
     }
@@ -72,6 +72,10 @@ impl Kind {
     pub(crate) fn with_counts(self, n: CellCounts) -> Kind
         ensures { result ≡ with_counts n self }
     {
-        if self.is_kept() { Kind::Kept(n) } else { self }
+        if self.is_accepted() {
+            Kind::Kept(n)
+        } else {
+            self
+        }
     }
 }

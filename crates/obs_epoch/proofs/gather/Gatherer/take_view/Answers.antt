@@ -1,7 +1,7 @@
 -- A message that closes the epoch is to be passed again; any other is the next one of the list, and its cells are
 -- loaded if it is accepted.
 use Rattle.std.proofs.Common.{◌++◌, ◌∷◌, [], sym, ap, ◌∙◌, subst, Some, None, ◌≡◌, ℕ, Bool, ap₂, Option, is_some}
-use Rattle.obs_epoch.specs.Names.{viewed_message, heard, Heard, heard_summary, without_cells, timed, GathererValue, take_step, Loaded, loaded_if, rested, with_time, is_close_first, is_kept, with_counts, IsCloseFirstExactly, HasGatheredEpochs, returned_epoch, no_counts}
+use Rattle.obs_epoch.specs.Names.{viewed_message, heard, Heard, heard_summary, without_cells, timed, GathererValue, take_step, Loaded, loaded_if, rested, with_time, is_close_first, is_accepted, with_counts, IsCloseFirstExactly, HasGatheredEpochs, returned_epoch, no_counts}
 use Rattle.obs_epoch.proofs.TakeLemmas.{no_point, given_alone, closed_is, ended_is, loaded_rested}
 use Rattle.obs_epoch.proofs.ReturnedLemmas.{gathers_first, gathers_taken, has_closed}
 use Rattle.obs_epoch.proofs.KindLemmas.{counted_kind, exactly_first, again_taken, fits_now, kind_taken}
@@ -22,13 +22,13 @@ same_loaded : {a b : Bool} {o p : Option ℕ} {g h : GathererValue} (m : Heard) 
 same_loaded {b} {o} {g} m d e f = ap (λ k. loaded_if k o g m) d ∙ ap₂ (λ k i. loaded_if b k i m) e f
 
 abbrev accepted : goal.After-self-2 → Bool
-accepted c = is_kept (kind_by c.args.self.now.clock no_counts (message c))
+accepted c = is_accepted (kind_by c.args.self.now.clock no_counts (message c))
 
 loaded_is : (c : goal.After-self-2)
     → record { state = c.load-counts.new.self; counts = c.load-counts.result } ≡ loaded_if (accepted c) c.args.self.now.clock.latest (rested (with_time c.args.self.now (message c))) (message c)
 loaded_is c =
     c.load-counts.ensures
-    ∙ same_loaded (message c) (c.is_kept.ensures ∙ ap is_kept (kind_is c)) (c.latest-before.ensures.value ∙ ap (λ (g : GathererValue). g.clock.latest) c.self.view_is)
+    ∙ same_loaded (message c) (c.is_accepted.ensures ∙ ap is_accepted (kind_is c)) (c.latest-before.ensures.value ∙ ap (λ (g : GathererValue). g.clock.latest) c.self.view_is)
     (c.hear-kind.ensures.step ∙ ap (λ m. rested (with_time c.args.self.now m)) (said_is c))
 
 counts_are : (c : goal.After-self-2) → c.load-counts.result ≡ (loaded_if (accepted c) c.args.self.now.clock.latest (with_time c.args.self.now (message c)) (message c)).counts
