@@ -135,7 +135,8 @@ impl Arrivals {
     }
 }
 
-// Returns an empty list of cells. It isn't inlined, so that the stack has room for one at most.
+/// Returns an empty list of cells.
+// It isn't inlined, so that the stack has room for one at most.
 #[inline(never)]
 pub(crate) fn no_cells(alloc: Global) -> Result<Box<Cells>, AllocError>
     ensures { IfOk result (λ cells. cells.value ≡ []) }

@@ -35,7 +35,7 @@ impl Model for Epoch {
 }
 
 impl Epoch {
-    // Returns the epoch of these cells.
+    /// Returns the epoch of these cells.
     pub(crate) fn of(cells: Arrivals) -> Epoch
         requires gps { AreSorted cells.epoch.gps }
         requires galileo { AreSorted cells.epoch.galileo }
@@ -44,14 +44,14 @@ impl Epoch {
         Epoch { cells }
     }
 
-    // Returns the cells, so that more can be added.
+    /// Returns the cells, so that more can be added.
     pub(crate) fn into_arrivals(self) -> Arrivals
         ensures { result ≡ self }
     {
         self.cells
     }
 
-    // Sets the station values.
+    /// Sets the station values.
     pub(crate) fn set_values(&mut self, values: StationValues)
         ensures { self.new ≡ record { epoch = self.old.epoch; values = values } }
     {

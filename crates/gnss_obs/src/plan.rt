@@ -140,7 +140,7 @@ impl Plan {
         self.list(system).place(signal)
     }
 
-    // Returns `true` only if the wanted signals of a system are in the order of its table.
+    /// Returns `true` only if the wanted signals of a system are in the order of its table.
     pub(crate) fn is_in_table_order(&self, system: System) -> bool
         ensures { result ≡ true → Rise (planned_of system self.now) }
     {

@@ -103,7 +103,7 @@ impl Signals {
         self.places[signal.index()]
     }
 
-    // Returns `true` only if the signals are in the order of the table.
+    /// Returns `true` only if the signals are in the order of the table.
     pub(crate) fn is_in_table_order(&self) -> bool
         ensures { result ≡ true → Rise (indices self.now) }
     {

@@ -54,7 +54,7 @@ impl System {
     ghost use Rattle.gnss_obs.specs.Signals.{table, signal_count, most_signals};
     ghost use Rattle.gnss_obs.specs.SignalRows.{rows};
 
-    // Returns the row of the system.
+    /// Returns the row of the system.
     #[inline(always)]
     pub(crate) fn row(self) -> SystemRow
         ensures letter { result.letter ≡ letter self }

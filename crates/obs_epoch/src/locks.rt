@@ -25,7 +25,9 @@ pub const MOST_LOCKS: usize = GPS_KEYS + GALILEO_KEYS;
 /// A known lock, and the time of its epoch in milliseconds since 1980-01-06 00:00:00.
 #[derive(Clone, Copy)]
 pub struct KnownLock {
+    /// The time of the epoch.
     pub time: u64,
+    /// The lock of the phase.
     pub lock: Lock,
 }
 

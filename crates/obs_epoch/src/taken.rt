@@ -61,14 +61,14 @@ impl Kind {
         matches!(self, Kind::CloseFirst)
     }
 
-    // Returns whether the message was accepted.
+    /// Returns whether the message was accepted.
     pub(crate) fn is_accepted(self) -> bool
         ensures { result ≡ is_accepted self }
     {
         matches!(self, Kind::Kept(_))
     }
 
-    // Returns the outcome with these counts if the message was accepted.
+    /// Returns the outcome with these counts if the message was accepted.
     pub(crate) fn with_counts(self, n: CellCounts) -> Kind
         ensures { result ≡ with_counts n self }
     {
