@@ -8,10 +8,11 @@ pub record LockTime : Type 0 where
   pub least : Option ℕ
   pub upper : Option ℕ
 
--- the word stored for a time, and the time stored as a word: 2^32 - 1 is none
+-- the word stored in place of a time if there is none
 abbrev pub no_time : ℕ
-no_time = 4294967295
+no_time = 2 ^ 32 - 1
 
+-- the word stored for a time, and the time stored as a word
 abbrev pub word_of : Option ℕ → ℕ
 word_of t = unwrap_or t no_time
 

@@ -1,5 +1,5 @@
 -- A step of the clock adds one message to the list.
-use Rattle.std.proofs.Common.{◌≡◌, ℕ, zero, suc, ◌+◌, ◌*◌, ◌<◌, Bool, true, false, not, ◌||◌, ◌&&◌, List, [], ◌∷◌, ◌++◌, refl, ap, ap₂, ◌∙◌, subst, arith, Option, Some, None, nat_lt, ◌==◌}
+use Rattle.std.proofs.Common.{◌≡◌, ℕ, zero, suc, ◌+◌, ◌*◌, ◌/◌, ◌<◌, Bool, true, false, not, ◌||◌, ◌&&◌, List, [], ◌∷◌, ◌++◌, refl, ap, ap₂, ◌∙◌, subst, arith, Option, Some, None, nat_lt, ◌==◌}
 use Rattle.obs_epoch.specs.Names.{CloseFirst, CellCounts, GatherSetup, Heard, ends_epoch, is_own, Timed, is_at, max_known, greatest_time, is_closed, taken_at, ahead, is_late, is_past, time_of, State, is_pending, closes_first, kind_after, kind_by, step_by, is_late_at, is_first_at, ended_where, option_map_or}
 use Rattle.rtcm_msg.specs.Msm.{week}
 use Rattle.obs_epoch.proofs.TimesLemmas.{next, greatest-push, greatest-present, greater-absent, none-absent, closed-push, closed-new}
@@ -91,7 +91,7 @@ not_later s xs m some at closes none = grind (arith, some, at, closes, none)
 
 late_by : (s : GatherSetup) (xs : List Timed) (m : Heard) {tow : ℕ} {shut : Bool} (g : Option ℕ) → greatest_time xs ≡ g → m.tow ≡ Some tow → closes_first s xs m ≡ shut
     → is_late_at (record { setup = s; latest = g; pending = is_pending s xs && not shut }) tow
-    ≡ option_map_or (λ t. nat_lt 302_400_000 (ahead t tow) || ((ahead t tow == 0) && is_closed s t xs)) g false
+    ≡ option_map_or (λ t. nat_lt (week / 2) (ahead t tow) || ((ahead t tow == 0) && is_closed s t xs)) g false
 late_by s xs m None at some closes = refl
 late_by s xs m (Some t) at some closes = grind (arith, common_steps, not_later, closes)
 
@@ -107,11 +107,11 @@ not_taken s xs n m own some closes bad = grind (arith, common_steps, same_time, 
 
 pub follows : (s : GatherSetup) (xs : List Timed) (tow : ℕ) → is_late s xs tow ≡ false → Follows s xs (time_of s xs tow)
 follows s xs tow early = by (greatest_time xs) refl early where
-  at_once : (t u : ℕ) (d : ℕ) → greatest_time xs ≡ Some t → u ≡ t + d → (nat_lt 302_400_000 d || ((d == 0) && is_closed s t xs)) ≡ false → Follows s xs u
+  at_once : (t u : ℕ) (d : ℕ) → greatest_time xs ≡ Some t → u ≡ t + d → (nat_lt (week / 2) d || ((d == 0) && is_closed s t xs)) ≡ false → Follows s xs u
   at_once t u zero at e early = let same : t ≡ u = omega (arith, e) in subst (λ v. Follows s xs v) same (equal at early)
   at_once t u (suc d) at e early = greater t at (omega (arith, e))
 
-  by : (g : Option ℕ) → greatest_time xs ≡ g → option_map_or (λ t. nat_lt 302_400_000 (ahead t tow) || ((ahead t tow == 0) && is_closed s t xs)) g false ≡ false
+  by : (g : Option ℕ) → greatest_time xs ≡ g → option_map_or (λ t. nat_lt (week / 2) (ahead t tow) || ((ahead t tow == 0) && is_closed s t xs)) g false ≡ false
       → Follows s xs (option_map_or (λ t. t + ahead t tow) g (s.start_week * week + tow))
   by None at early = first at
   by (Some t) at early = at_once t (t + ahead t tow) (ahead t tow) at refl early

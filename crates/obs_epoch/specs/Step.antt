@@ -1,5 +1,5 @@
 -- One step of the clock, computed from its fields.
-use Rattle.std.specs.Prelude.{ℕ, ◌+◌, ◌*◌, ◌==◌, ◌&&◌, ◌||◌, Bool, true, false, not, nat_lt, Option, Some, None}
+use Rattle.std.specs.Prelude.{ℕ, ◌+◌, ◌*◌, ◌/◌, ◌==◌, ◌&&◌, ◌||◌, Bool, true, false, not, nat_lt, Option, Some, None}
 use Rattle.std.specs.Prelude.{is_some, if◌then◌else◌}
 use Rattle.std.specs.Option.{option_map_or}
 use Rattle.obs_epoch.specs.declared.taken.Kind.{Kind}
@@ -18,7 +18,7 @@ time_at g tow = option_map_or (λ t. t + ahead t tow) g.latest (g.setup.start_we
 
 abbrev pub is_late_at : State → ℕ → Bool
 is_late_at g tow =
-    option_map_or (λ t. nat_lt 302_400_000 (ahead t tow) || ((ahead t tow == 0) && not g.pending)) g.latest false
+    option_map_or (λ t. nat_lt (week / 2) (ahead t tow) || ((ahead t tow == 0) && not g.pending)) g.latest false
 
 abbrev pub is_first_at : State → ℕ → Bool
 is_first_at g tow = g.pending && option_map_or (λ t. not (ahead t tow == 0)) g.latest false

@@ -1,5 +1,5 @@
 -- The time of each message, and which messages are accepted.
-use Rattle.std.specs.Prelude.{ℕ, ◌+◌, ◌-◌, ◌*◌, ◌%◌, ◌==◌, ◌&&◌, ◌||◌, Bool, false, not, max, nat_lt, List, [], ◌∷◌}
+use Rattle.std.specs.Prelude.{ℕ, ◌+◌, ◌-◌, ◌*◌, ◌/◌, ◌%◌, ◌==◌, ◌&&◌, ◌||◌, Bool, false, not, max, nat_lt, List, [], ◌∷◌}
 use Rattle.std.specs.Prelude.{◌++◌, if◌then◌else◌, Option, Some, None, option_and_then}
 use Rattle.std.specs.Option.{option_map_or}
 use Rattle.std.specs.List.{list_any}
@@ -47,7 +47,7 @@ time_of s earlier tow = option_map_or (λ t. t + ahead t tow) (greatest_time ear
 -- More than half a week ahead, so before the greatest time; or equal to the greatest time, if its epoch is closed.
 abbrev pub is_late : GatherSetup → List Timed → ℕ → Bool
 is_late s earlier tow =
-    option_map_or (λ t. nat_lt 302_400_000 (ahead t tow) || ((ahead t tow == 0) && is_closed s t earlier))
+    option_map_or (λ t. nat_lt (week / 2) (ahead t tow) || ((ahead t tow == 0) && is_closed s t earlier))
     (greatest_time earlier) false
 
 -- After the last week.
