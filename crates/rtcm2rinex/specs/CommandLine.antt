@@ -16,6 +16,7 @@ use Rattle.clap.specs.declared.builder.action.ArgAction.TheVariants as action
 use Rattle.clap.specs.declared.builder.command.Command.{Command}
 use Rattle.clap.specs.declared.builder.value_parser.ValueParser.{ValueParser}
 use Rattle.clap.specs.declared.builder.value_parser.ValueParser.TheVariants as value
+use Rattle.rtcm_scan.specs.Scan.{most_bytes}
 use Rattle.rtcm2rinex.specs.declared.commands.CommandRow.{CommandRow}
 use Rattle.rtcm2rinex.specs.declared.commands.OptionRow.{OptionRow}
 use Rattle.rtcm2rinex.specs.declared.commands.Options.{Options}
@@ -79,9 +80,9 @@ AreRules names = map (λ s. s.now) names.now ≡ codes "bit" ∷ codes "time" �
 abbrev pub gather : Bor (List (Bor Text)) → Rule
 gather names = read_by (value.Names names) (or_else (codes "bit") (option (codes "gather")))
 
--- at most 2^48 bytes
+-- at most the largest number of bytes of a stream
 abbrev pub limit : Rule
-limit = read_by (value.Unsigned 0 281474976710656) (or_else (codes "281474976710656") (option (codes "limit")))
+limit = read_by (value.Unsigned 0 most_bytes) (or_else (codes "281474976710656") (option (codes "limit")))
 
 abbrev pub text : Text → Rule
 text name = or_else [] (option name)

@@ -1,12 +1,13 @@
 -- What the program has read and written when it ends: the reader was r and is r', the writer was w and is w', and the
 -- writer for faults was e and is e'.
-use Rattle.std.specs.Prelude.{◌≡◌, ◌⊎◌, ◌^◌, ℕ, List, Option, Some, Result, Ok, Err, codes}
+use Rattle.std.specs.Prelude.{◌≡◌, ◌⊎◌, ℕ, List, Option, Some, Result, Ok, Err, codes}
 use Rattle.clap.specs.Simple.{subcommand_rows_of}
 use Rattle.clap.specs.Walk.{Row, Text}
 use Rattle.clap.specs.declared.error.kind.ErrorKind.TheVariants.{DisplayVersion, OutOfMemory}
 use Rattle.clap.specs.declared.error.kind.ErrorKind.{ErrorKind}
 use Rattle.clap.specs.declared.parser.matches.ArgMatches.{ArgMatches}
 use Rattle.rtcm_bits.specs.Device.{Device}
+use Rattle.rtcm_scan.specs.Scan.{most_bytes}
 use Rattle.rtcm_convert.specs.Faults.{IsUntouched}
 use Rattle.rtcm_convert.specs.Moves.{Moves}
 use Rattle.rtcm_inspect.specs.FrameLines.{frame_lines}
@@ -50,8 +51,8 @@ HasDone left r r' held w w' printed e e' name options =
 abbrev pub HasStoppedPrinting : {R W : Type 0} → (R → Option (List ℕ)) → (r r' : Device R) → (W → Option (List ℕ))
     → (W → List ℕ) → (w w' : Device W) → Text → List Row → InspectFault → Type 0
 HasStoppedPrinting left r r' held waits w w' name options fault =
-    ((name ≡ codes "frames") × StopsListing (2 ^ 48) frame_lines left r r' held waits w w' fault)
-    ⊎ ((name ≡ codes "show") × StopsListing (2 ^ 48) show_lines left r r' held waits w w' fault)
+    ((name ≡ codes "frames") × StopsListing most_bytes frame_lines left r r' held waits w w' fault)
+    ⊎ ((name ≡ codes "show") × StopsListing most_bytes show_lines left r r' held waits w w' fault)
     ⊎ ((name ≡ codes "signals") × StopsSignalsAsked options left r r' held waits w w' fault)
     ⊎ ((name ≡ codes "options") × StopsOptionsAsked options left r r' held waits w w' fault)
     ⊎ ((name ≡ codes "check") × StopsChecksBy (has_times options) left r r' held waits w w' fault)

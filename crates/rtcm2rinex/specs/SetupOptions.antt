@@ -6,6 +6,7 @@ use Rattle.std.specs.Str.Parse.{IsNumeral, digits_value, without_leading_plus}
 use Rattle.clap.specs.Walk.{Row, first_of, one_of, rows_of}
 use Rattle.clap.specs.Matches.{found_of}
 use Rattle.clap.specs.declared.parser.matches.ArgMatches.{ArgMatches}
+use Rattle.rtcm_scan.specs.Scan.{most_bytes}
 use Rattle.obs_epoch.specs.Kinds.{is_by_bit}
 use Rattle.gnss_obs.specs.Plans.{plan_of}
 use Rattle.gnss_obs.specs.declared.fault.PlanFault.TheVariants as plans
@@ -82,7 +83,7 @@ pub record IsSetupOf (options : List Row) (x : Setup) : Type 0 where
   pub week : IsWeekSet options x.start_week
   pub station : IsNumberOf 16 (one_of (codes "station") options) x.station
   pub gather : is_by_bit x.gather ≡ not (bytes_eq (text_set options (codes "gather")) (codes "time"))
-  pub limit : IsNumberOr 64 (2 ^ 48) (one_of (codes "limit") options) x.limit
+  pub limit : IsNumberOr 64 most_bytes (one_of (codes "limit") options) x.limit
 
 -- the station values of a position and an antenna height, or the fault of the text that isn't one
 abbrev pub values_by : Option (ℤ × ℤ × ℤ) → Option ℕ → Result StationValues ToolFault

@@ -5,6 +5,7 @@ ghost use Rattle.rtcm2rinex.specs.CommandLine.{AreTables, more_of, rows_of};
 use crate::cli::VERSION;
 use clap::ArgAction;
 use clap::builder::ValueParser;
+use rtcm_scan::MOST_BYTES;
 
 /// A command.
 #[derive(Clone, Copy)]
@@ -211,7 +212,7 @@ const CONVERT: &[OptionRow<'static>] = option_rows! {
          also the last message of a set by its DF393\n\
          bit";
     "limit", "BYTES", false, &["281474976710656"],
-        ValueParser::Unsigned(0, 281_474_976_710_656),
+        ValueParser::Unsigned(0, MOST_BYTES),
         "Most bytes of the stream; a longer one is a\n\
          fault";
 };

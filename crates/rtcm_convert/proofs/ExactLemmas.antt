@@ -1,7 +1,7 @@
 -- No count of a stream reaches the greatest number that is counted: a frame has at least six bytes and at most 64
 -- cells.
 use Rattle.obs_epoch.specs.Cells.{kept_of_both as kept_both}
-use Rattle.rtcm_convert.proofs.Names.{◌≡◌, ◌||◌, ℕ, ◌+◌, ◌*◌, ◌≤◌, ◌^◌, List, [], ◌∷◌, ◌++◌, Bool, true, false, refl, sym, ap, subst, arith, rules, length, length-append, add-zero, suc, zero, nat_lt, Option, Some, None, is_some, not, LockField, Df402, Df407, count_by, filter, filter_map, if◌then◌else◌, cons_option, zip, option_map_or, length-map, sum_by-cons, length-filter, count_by-le-length, System, uint, Framed, Message, Entry, MasksValue, MsmValue, AreMasks, pair_count, IsMessage, chosen, cell_pairs, all_pairs, entries, entry4, entry7, Kind, GatherSetup, Heard, heard, heard_msm, is_own, seen_in, system_of, unlisted_in, HeardCell, Timed, timed, timed_after, taken_at, is_late, is_past, time_of, times, counts_of, counts_of_message, no_counts, with_skipped, is_planned, is_among, offered, kind_of, kind_at, all_epochs, closed_at, satellites_written, SetupValue, messages_of, heard_in, epochs_in, outcomes_after, capped, capped_tally, sum_of_counts, tally_of, tally_of_one, IsFew, AreFew, Report, CellCounts}
+use Rattle.rtcm_convert.proofs.Names.{◌≡◌, ◌||◌, ℕ, ◌+◌, ◌*◌, ◌≤◌, most_bytes, List, [], ◌∷◌, ◌++◌, Bool, true, false, refl, sym, ap, subst, arith, rules, length, length-append, add-zero, suc, zero, nat_lt, Option, Some, None, is_some, not, LockField, Df402, Df407, count_by, filter, filter_map, if◌then◌else◌, cons_option, zip, option_map_or, length-map, sum_by-cons, length-filter, count_by-le-length, System, uint, Framed, Message, Entry, MasksValue, MsmValue, AreMasks, pair_count, IsMessage, chosen, cell_pairs, all_pairs, entries, entry4, entry7, Kind, GatherSetup, Heard, heard, heard_msm, is_own, seen_in, system_of, unlisted_in, HeardCell, Timed, timed, timed_after, taken_at, is_late, is_past, time_of, times, counts_of, counts_of_message, no_counts, with_skipped, is_planned, is_among, offered, kind_of, kind_at, all_epochs, closed_at, satellites_written, SetupValue, messages_of, heard_in, epochs_in, outcomes_after, capped, capped_tally, sum_of_counts, tally_of, tally_of_one, IsFew, AreFew, Report, CellCounts}
 use Rattle.rtcm_msg.specs.declared.message.Message.TheVariants as message
 use Rattle.obs_epoch.specs.declared.taken.Kind.TheVariants as kind
 
@@ -133,10 +133,10 @@ total_few count below [] h = omega arith
 total_few count below (o ∷ os) h =
     omega (arith, sum_by-cons (λ o. count (tally_of_one o)) o os, below (tally_of_one o) h.0, total_few count below os h.1)
 
-whole_count : (n k most : ℕ) → n ≤ 128 * k → 6 * k ≤ most → most ≤ 2 ^ 48 → capped n ≡ n
+whole_count : (n k most : ℕ) → n ≤ 128 * k → 6 * k ≤ most → most ≤ most_bytes → capped n ≡ n
 whole_count n k most a b c = omega arith
 
-pub tally_whole : (os : List (Option Kind)) (most : ℕ) → AreFew os → 6 * length os ≤ most → most ≤ 2 ^ 48 → capped_tally (tally_of os) ≡ tally_of os
+pub tally_whole : (os : List (Option Kind)) (most : ℕ) → AreFew os → 6 * length os ≤ most → most ≤ most_bytes → capped_tally (tally_of os) ≡ tally_of os
 tally_whole os most few short small =
     let frames_is = whole_count (sum_of_counts (λ t. t.frames) os) (length os) most (total_few (λ t. t.frames) (λ t h. h.frames) os few) short small in
     let faulty_is = whole_count (sum_of_counts (λ t. t.faulty) os) (length os) most (total_few (λ t. t.faulty) (λ t h. h.faulty) os few) short small in
@@ -181,5 +181,5 @@ epochs_few s fs =
     let written = length-filter (λ e. nat_lt 0 (satellites_written e.epoch)) all in
     omega (arith, written, count_by-le-length (λ e. nat_lt 0 (satellites_written e.epoch)) all, length-map (times (timed g ms)) (closed_at g ms), times_few (timed g ms), timed_length g [] ms, filter_map_few heard_in fs)
 
-pub whole_epochs : (n k most : ℕ) → n ≤ k → 6 * k ≤ most → most ≤ 2 ^ 48 → capped n ≡ n
+pub whole_epochs : (n k most : ℕ) → n ≤ k → 6 * k ≤ most → most ≤ most_bytes → capped n ≡ n
 whole_epochs n k most a b c = omega arith

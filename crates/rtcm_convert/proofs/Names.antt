@@ -65,7 +65,7 @@ pub use Rattle.rtcm_scan.specs.Frames.{Framed}
 pub use Rattle.rtcm_scan.specs.Known.{known_frames, known_place}
 pub use Rattle.rtcm_scan.specs.Passing.{AtFault, Breaks, BreaksAfter, BreaksKnown, HasBroken, HasPassedAll, Passes, PassesKnown, PassesToLimit, Reads, ReadsOn, up_to_limit}
 pub use Rattle.rtcm_scan.specs.Results.{framed, new_scan}
-pub use Rattle.rtcm_scan.specs.Scan.{FramerValue}
+pub use Rattle.rtcm_scan.specs.Scan.{FramerValue, most_bytes}
 pub use Rattle.rtcm_scan.specs.declared.feed.StreamFault.{StreamFault}
 pub use Rattle.rtcm_scan.specs.declared.feed.StreamFault.TheVariants.{Sink}
 pub use Rattle.std.proofs.KnownBytes.{Appends-kept, Appends-nil, Appends-trans, Consumes-whole}

@@ -1,7 +1,8 @@
 -- The settings of a conversion that its definitions cite.
-use Rattle.std.specs.Prelude.{◌≡◌, ◌^◌, ◌<◌, ◌≤◌, ◌⊎◌, true}
+use Rattle.std.specs.Prelude.{◌≡◌, ◌<◌, ◌≤◌, ◌⊎◌, true}
 use Rattle.gnss_obs.specs.Weeks.{weeks}
 use Rattle.gnss_obs.specs.Values.{no_values}
+use Rattle.rtcm_scan.specs.Scan.{most_bytes}
 use Rattle.obs_epoch.specs.Kinds.{setup_with, is_no_station}
 use Rattle.gnss_obs.specs.GatheredEpochs.{AreStationValues}
 use Rattle.gnss_obs.specs.declared.cell.StationValues.{StationValues}
@@ -21,9 +22,9 @@ setup_value x = setup_value_with x no_values
 abbrev pub IsBadStart : Setup → Type 0
 IsBadStart x = (weeks ≤ x.start_week) ⊎ (is_no_station x.station ≡ true)
 
--- a limit above 2^48 bytes, or a week or a station out of range
+-- a limit above the largest number of bytes of a stream, or a week or a station out of range
 abbrev pub IsBad : Setup → Type 0
-IsBad x = (2 ^ 48 < x.limit) ⊎ IsBadStart x
+IsBad x = (most_bytes < x.limit) ⊎ IsBadStart x
 
 -- what a conversion starts from: a setup, and the station values that hold until a station message has others
 pub record Start : Type 0 where

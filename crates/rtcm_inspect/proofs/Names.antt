@@ -85,7 +85,7 @@ pub use Rattle.rtcm_scan.specs.Known.{known_frames}
 pub use Rattle.rtcm_scan.specs.Local.{placed}
 pub use Rattle.rtcm_scan.specs.Passing.{AtFault, BreaksReading, Coming, HasPassedAll, Passes, PassesAll, PassesToLimit, Reads}
 pub use Rattle.rtcm_scan.specs.Results.{framed, new_scan}
-pub use Rattle.rtcm_scan.specs.Scan.{FramerValue}
+pub use Rattle.rtcm_scan.specs.Scan.{FramerValue, most_bytes}
 pub use Rattle.rtcm_scan.specs.declared.feed.StreamFault.{StreamFault}
 pub use Rattle.std.proofs.KnownBytes.{Appends-kept, Appends-nil, Appends-trans}
 pub use Rattle.std.proofs.lemmas.Bool.{le-leb, lt-leb}

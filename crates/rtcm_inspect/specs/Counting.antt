@@ -3,6 +3,7 @@ use Rattle.std.specs.Prelude.{◌≡◌, ℕ, ◌*◌, ◌<◌, ◌≤◌, ◌^�
 use Rattle.std.specs.Io.KnownBytes.{Consumes, IsAtEnd}
 use Rattle.rtcm_bits.specs.Device.{Device}
 use Rattle.rtcm_scan.specs.Frames.{Framed, frames_of}
+use Rattle.rtcm_scan.specs.Scan.{most_bytes}
 use Rattle.rtcm_scan.specs.declared.framer.ScanFault.TheVariants as scan
 use Rattle.obs_epoch.specs.SignalCounts.{SignalCountsValue, AreSignalCounts}
 use Rattle.rtcm_inspect.specs.FirstMessages.{AreFirst}
@@ -30,7 +31,7 @@ HasCounted s wanted r r' =
 -- what was read when the counting was stopped by a fault
 abbrev pub StopsCounting : {R : Type 0} → (R → Option (List ℕ)) → (r r' : Device R) → InspectFault → Type 0
 StopsCounting left r r' faults.Read = ⊤
-StopsCounting left r r' (faults.Scan scan.TooLong) = ReadsTooMuch (2 ^ 48) (left r.inner) (left r'.inner)
+StopsCounting left r r' (faults.Scan scan.TooLong) = ReadsTooMuch most_bytes (left r.inner) (left r'.inner)
 StopsCounting left r r' (faults.Scan scan.Memory) = r' ≡ r
 StopsCounting left r r' other = ⊥
 

@@ -1,9 +1,10 @@
 -- What the command `signals` has read and written. The reader had r left and now has r', and the writer
 -- had written w and now has written w'. `text` is the output for the frames of a stream, for one station or for all.
-use Rattle.std.specs.Prelude.{◌≡◌, ◌⊎◌, ℕ, ◌<◌, ◌^◌, List, [], length, Option, Result}
+use Rattle.std.specs.Prelude.{◌≡◌, ◌⊎◌, ℕ, ◌<◌, List, [], length, Option, Result}
 use Rattle.std.specs.Io.KnownBytes.{Appends, Consumes, IsAtEnd}
 use Rattle.rtcm_bits.specs.Device.{AppendsPrefix, Device}
 use Rattle.rtcm_scan.specs.Frames.{Framed, frames_of}
+use Rattle.rtcm_scan.specs.Scan.{most_bytes}
 use Rattle.rtcm_scan.specs.declared.framer.ScanFault.TheVariants as scan
 use Rattle.rtcm_inspect.specs.Devices.{Moves}
 use Rattle.rtcm_inspect.specs.Devices.{Ends, IsDelivered, IsUnread}
@@ -40,7 +41,7 @@ abbrev pub StopsReading : {R W : Type 0} → (R → Option (List ℕ)) → (r r'
     → (W → List ℕ) → (w w' : Device W) → InspectFault → Type 0
 StopsReading left r r' held waits w w' faults.Read = IsDelivered held waits w w'
 StopsReading left r r' held waits w w' (faults.Scan scan.TooLong) =
-    ReadsTooMuch (2 ^ 48) (left r.inner) (left r'.inner) × IsDelivered held waits w w'
+    ReadsTooMuch most_bytes (left r.inner) (left r'.inner) × IsDelivered held waits w w'
 StopsReading left r r' held waits w w' (faults.Scan scan.Memory) = (r' ≡ r) × IsDelivered held waits w w'
 StopsReading left r r' held waits w w' other = ⊥
 

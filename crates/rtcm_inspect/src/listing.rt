@@ -1,7 +1,8 @@
 //! The commands `frames` and `show`: a line for each frame, or for each message, of a stream.
-ghost use Rattle.std.specs.Prelude.{◌≡◌, ◌+◌, ◌≤◌, ◌^◌, ◌∷◌, ◌++◌, length};
+ghost use Rattle.std.specs.Prelude.{◌≡◌, ◌+◌, ◌≤◌, ◌∷◌, ◌++◌, length};
 ghost use Rattle.rtcm_bits.specs.FrameOf.{longest_message};
 ghost use Rattle.rtcm_scan.specs.Results.{framed};
+ghost use Rattle.rtcm_scan.specs.Scan.{most_bytes};
 ghost use Rattle.rtcm_msg.specs.Station.{InRange};
 ghost use Rattle.rtcm_msg.specs.Views.{message_number};
 ghost use Rattle.rtcm_inspect.specs.FrameLines.{frame_line, frame_lines, number_word};
@@ -75,7 +76,7 @@ pub fn run_frames<R: Read, W: Deliver>(
     reader: &mut Counted<R>,
     writer: &mut Counted<W>,
 ) -> Result<(), InspectFault>
-    ensures { EndsListing result (2 ^ 48) frame_lines
+    ensures { EndsListing result most_bytes frame_lines
         R.remaining reader.old reader.new W.contents W.waiting writer.old writer.new }
 {
     list(alloc, Listing::Frames, MOST_BYTES, reader, writer)
@@ -92,7 +93,7 @@ pub fn run_show<R: Read, W: Deliver>(
     reader: &mut Counted<R>,
     writer: &mut Counted<W>,
 ) -> Result<(), InspectFault>
-    ensures { EndsListing result (2 ^ 48) show_lines
+    ensures { EndsListing result most_bytes show_lines
         R.remaining reader.old reader.new W.contents W.waiting writer.old writer.new }
 {
     list(alloc, Listing::Messages, MOST_BYTES, reader, writer)
@@ -112,7 +113,7 @@ pub fn list<R: Read, W: Deliver>(
     reader: &mut Counted<R>,
     writer: &mut Counted<W>,
 ) -> Result<(), InspectFault>
-    requires { limit ≤ 2 ^ 48 }
+    requires { limit ≤ most_bytes }
     ensures { EndsListing result limit (listing_lines listing)
         R.remaining reader.old reader.new W.contents W.waiting writer.old writer.new }
 {

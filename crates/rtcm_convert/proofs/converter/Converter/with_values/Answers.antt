@@ -1,10 +1,10 @@
 -- A setup that is refused has the fault of its first bad value; a new converter has examined, counted and written
 -- nothing.
 use Rattle.rtcm_convert.proofs.converter.Converter.with_values.Goals.{then-setup-gt-MOST_BYTES-via-then-setup-gt-MOST_BYTES, then-setup-gt-MOST_BYTES-via-else-setup-gt-MOST_BYTES+then-not-fits_message}
-use Rattle.rtcm_convert.proofs.Names.{◌≡◌, ◌≤◌, ◌^◌, ℕ, List, [], subst, refl, sym, inl, inr, arith, true≢false, ap, Result, Ok, Err, AreStationValues, Start, start_with, start_value, IsBadWith, IsBadStart, decided_frames, frames_before, IsDrained, HasExamined, IsCountedExactly, Framed, frames_of, frames_from, known_frames, new_scan, FramerValue, HasFiledFrames, HasDrained}
+use Rattle.rtcm_convert.proofs.Names.{◌≡◌, ◌≤◌, most_bytes, ℕ, List, [], subst, refl, sym, inl, inr, arith, true≢false, ap, Result, Ok, Err, AreStationValues, Start, start_with, start_value, IsBadWith, IsBadStart, decided_frames, frames_before, IsDrained, HasExamined, IsCountedExactly, Framed, frames_of, frames_from, known_frames, new_scan, FramerValue, HasFiledFrames, HasDrained}
 use Rattle.rtcm_convert.proofs.converter.Converter.with_values.Goals as goal
 
-bad_start : (x : Start) → AreStationValues x.initial → x.setup.limit ≤ 2 ^ 48 → IsBadWith x → IsBadStart x.setup
+bad_start : (x : Start) → AreStationValues x.initial → x.setup.limit ≤ most_bytes → IsBadWith x → IsBadStart x.setup
 bad_start x fits within (inl unfit) = absurd (unfit fits)
 bad_start x fits within (inr (inl over)) = absurd (omega (arith, within, over))
 bad_start x fits within (inr (inr start)) = start
