@@ -1,6 +1,7 @@
 -- The setup of a gatherer, and the parts of a message that it uses.
 use Rattle.std.specs.Prelude.{ℕ, ◌==◌, ◌&&◌, Bool, true, false, not, List, [], ◌∷◌, if◌then◌else◌}
 use Rattle.std.specs.Prelude.{Option, Some, None, option_map, option_and_then, filter_map, ◌+◌, is_some}
+use Rattle.std.specs.Prelude.{Result, Ok, Err}
 use Rattle.std.specs.Option.{option_map_or}
 use Rattle.gnss_obs.specs.declared.system.System.{System}
 use Rattle.gnss_obs.specs.declared.system.System.TheVariants.{Gps, Galileo}
@@ -16,6 +17,8 @@ use Rattle.rtcm_msg.specs.Msm.{MsmValue}
 use Rattle.rtcm_msg.specs.declared.entry.LockField.{LockField}
 use Rattle.rtcm_msg.specs.declared.entry.LockField.TheVariants.{Df402, Df407}
 use Rattle.rtcm_msg.specs.declared.summary.Summary.{Summary}
+use Rattle.rtcm_msg.specs.declared.fault.MsgFault.{MsgFault}
+use Rattle.rtcm_msg.specs.Decoding.{message_at}
 use Rattle.rtcm_msg.specs.Entries.{entries}
 use Rattle.gnss_obs.specs.Values.{PlanValue}
 use Rattle.gnss_obs.specs.declared.cell.StationValues.{StationValues}
@@ -117,3 +120,12 @@ is_own s m = option_map_or (λ from. option_map_or (λ wanted. from == wanted) s
 -- An own message after which no more messages of its time follow, if the multiple message bit is used.
 abbrev pub ends_epoch : GatherSetup → Heard → Bool
 ends_epoch s m = s.by_bit && is_own s m && option_map_or not m.more false
+
+-- The parts of a message that was read; none of one that was refused.
+abbrev pub heard_of : Result Message MsgFault → Option Heard
+heard_of (Ok m) = Some (heard m)
+heard_of (Err e) = None
+
+-- The parts of the message in these bytes.
+abbrev pub heard_at : List ℕ → Option Heard
+heard_at bytes = heard_of (message_at bytes)

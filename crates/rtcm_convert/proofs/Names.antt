@@ -9,7 +9,7 @@ pub use Rattle.obs_epoch.specs.Epochs.{closed_so_far, closed_times}
 pub use Rattle.obs_epoch.specs.GathererSteps.{GathererValue}
 pub use Rattle.obs_epoch.specs.GathererAfter.{locked_in}
 pub use Rattle.obs_epoch.specs.GathererHistory.{HasGatheredEpochs, IsAwaited, all_epochs, closed_at, closed_by, closed_epochs, closed_in, closed_list_at, is_done, known_epochs, plan_in}
-pub use Rattle.obs_epoch.specs.Heard.{GatherSetup, Heard, heard, heard_msm, is_own, seen_in, system_of, unlisted_in}
+pub use Rattle.obs_epoch.specs.Heard.{GatherSetup, Heard, heard, heard_at, heard_msm, heard_of, is_own, seen_in, system_of, unlisted_in}
 pub use Rattle.obs_epoch.specs.Kinds.{is_close_first, kind_at, kind_of}
 pub use Rattle.obs_epoch.specs.Laws.{ClosedComeFirst}
 pub use Rattle.obs_epoch.specs.Loss.{times}
@@ -28,7 +28,7 @@ pub use Rattle.rtcm_bits.specs.Prefix.{IsPrefix}
 pub use Rattle.rtcm_convert.specs.Broken.{BrokeInPieces, FailedWriting, FailedWritingAtEnd, IsBetween, IsBroken, joined_pieces}
 pub use Rattle.rtcm_convert.specs.Conversion.{Completed, CompletedEmpty, CompletesEmptyFile, CompletesFile, Conversion, CutsAtLimit, FailsAtEnd, FailsAtPiece, FailsFeeding, FailsFinishing, FinishesEmptyNow, FinishesNow, HasConverted, HasFinished, IsFit, IsGoing, IsPastLimit, KeepsNow, LeftBy, RanToFault, RanToLimit, StopsAtEnd, TakesFromReader, TakesPiece, WritesAdded, WritesPrefixOfAdded, kept_of, refusal}
 unfoldable pub use Rattle.rtcm_convert.specs.Converted.{text_of_epochs}
-pub use Rattle.rtcm_convert.specs.Converted.{SetupValue, epochs_in, file, heard_in, heard_of, messages_of, so_far, text_with, written_epochs}
+pub use Rattle.rtcm_convert.specs.Converted.{SetupValue, epochs_in, file, messages_of, so_far, text_with, written_epochs}
 pub use Rattle.rtcm_convert.specs.Faults.{FailsToWrite, FailsWithReader, FailsWithWriter, IsFeedFault, IsFinishFault, IsPiecesFault, IsRunFault, IsSentAfter, IsSentAtFault, IsSetupFault, ReaderFailures, WriterFailures}
 pub use Rattle.rtcm_convert.specs.Fed.{AppendsBetween, AppendsPrefixBetween, AppendsUpTo}
 pub use Rattle.rtcm_convert.specs.Filed.{HasFiledEpochs, HasFiledFrames, Settled, added, epochs_after, last_values, opening, values_after, values_following_closed}

@@ -1,12 +1,9 @@
 -- The file that frames make.
-use Rattle.std.specs.Prelude.{ℕ, nat_lt, List, [], ◌∷◌, ◌++◌, length, filter, Option, Some, None, Result, Ok, Err}
+use Rattle.std.specs.Prelude.{ℕ, nat_lt, List, [], ◌∷◌, ◌++◌, length, filter}
 use Rattle.std.specs.List.{filter_map}
 use Rattle.rtcm_scan.specs.Frames.{Framed}
-use Rattle.rtcm_msg.specs.declared.message.Message.{Message}
-use Rattle.rtcm_msg.specs.declared.fault.MsgFault.{MsgFault}
-use Rattle.rtcm_msg.specs.Decoding.{message_at}
 use Rattle.gnss_obs.specs.Values.{PlanValue, Closed, satellites_written}
-use Rattle.obs_epoch.specs.Heard.{GatherSetup, Heard, heard}
+use Rattle.obs_epoch.specs.Heard.{GatherSetup, Heard, heard_at}
 use Rattle.obs_epoch.specs.GathererHistory.{all_epochs, closed_epochs}
 use Rattle.rinex_file.specs.Texts.{HeaderLists}
 use Rattle.rinex_file.specs.File.{header_text, closed_text}
@@ -16,18 +13,9 @@ pub record SetupValue : Type 0 where
   pub gather : GatherSetup
   pub texts : HeaderLists
 
--- the content of a message that was read; none of one that was refused
-abbrev pub heard_of : Result Message MsgFault → Option Heard
-heard_of (Ok m) = Some (heard m)
-heard_of (Err e) = None
-
--- the content of a frame's message
-abbrev pub heard_in : Framed → Option Heard
-heard_in f = heard_of (message_at f.message)
-
 -- the messages of these frames in order, without refused ones
 abbrev pub messages_of : List Framed → List Heard
-messages_of fs = filter_map heard_in fs
+messages_of fs = filter_map (λ f. heard_at f.message) fs
 
 -- the epochs in which a satellite has a value
 abbrev pub written_epochs : List Closed → List Closed

@@ -4,7 +4,6 @@ pub mod Metres
 pub mod FrameLines
 pub mod ShowLines
 pub mod Devices
-pub mod Messages
 pub mod Listing
 pub mod ReadBack
 pub mod DateTexts
