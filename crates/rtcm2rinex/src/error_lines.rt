@@ -1,7 +1,7 @@
 //! The lines of errors, on standard error.
 ghost use Rattle.std.specs.Prelude.{◌≡◌, ◌+◌, ◌≤◌, ◌∷◌, codes, length};
 ghost use Rattle.rtcm2rinex.specs.ErrorLines.{conversion_word, date_words, error_line, error_words};
-ghost use Rattle.rtcm_inspect.specs.Lines.{with_words};
+ghost use Rattle.rtcm_inspect.specs.Lines.{longest_error, longest_fault_name, longest_start, with_words};
 
 use crate::fault::{DateOption, ToolFault};
 use rtcm_convert::Fault;
@@ -21,9 +21,9 @@ pub fn error_line(fault: ToolFault) -> OutputLine
 
 /// Adds the name of a fault and what follows it.
 fn add_error(line: &mut OutputLine, fault: ToolFault)
-    requires { length line.old ≤ 100 }
+    requires { length line.old ≤ longest_start }
     ensures text { line.new ≡ with_words line.old (error_words fault) }
-    ensures short { length line.new ≤ length line.old + 120 }
+    ensures short { length line.new ≤ length line.old + longest_error }
 {
     match fault {
         ToolFault::Memory => line.add_word("Memory"),
@@ -46,9 +46,9 @@ fn add_error(line: &mut OutputLine, fault: ToolFault)
 
 /// Adds the name of an invalid date, its option and the forms that this accepts.
 fn add_bad_date(line: &mut OutputLine, option: DateOption)
-    requires { length line.old ≤ 100 }
+    requires { length line.old ≤ longest_start }
     ensures text { line.new ≡ with_words line.old (codes "BadDate" ∷ date_words option) }
-    ensures short { length line.new ≤ length line.old + 120 }
+    ensures short { length line.new ≤ length line.old + longest_error }
 {
     line.add_word("BadDate");
     match option {
@@ -65,7 +65,7 @@ fn add_bad_date(line: &mut OutputLine, option: DateOption)
 /// Returns the name of a fault of a conversion.
 fn conversion_name(fault: Fault) -> &'static str
     ensures name { result.now ≡ conversion_word fault }
-    ensures short { length result.now ≤ 20 }
+    ensures short { length result.now ≤ longest_fault_name }
 {
     match fault {
         Fault::Memory => "Memory",

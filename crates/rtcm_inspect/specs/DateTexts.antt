@@ -1,5 +1,5 @@
 -- GPS times as text, and the lines of `check --times`.
-use Rattle.std.specs.Prelude.{ℕ, ◌/◌, List, [], ◌∷◌, ◌++◌, codes, decimal, Option, Some, None}
+use Rattle.std.specs.Prelude.{ℕ, ◌+◌, ◌*◌, ◌/◌, List, [], ◌∷◌, ◌++◌, codes, decimal, Option, Some, None}
 use Rattle.gnss_obs.specs.Dates.{civil_of}
 use Rattle.gnss_obs.specs.declared.civil.Civil.{Civil}
 use Rattle.rinex_file.specs.declared.read.times.EpochTimes.{EpochTimes}
@@ -22,6 +22,10 @@ abbrev pub clock_text : Civil → List ℕ
 clock_text c =
     two_digits c.hour ++ codes ":" ++ two_digits c.minute ++ codes ":" ++ two_digits (c.millisecond / 1000) ++ codes "."
     ++ three_digits c.millisecond
+
+-- the bytes of such a text and of a separator before it
+abbrev pub clock_bytes : ℕ
+clock_bytes = 3 * (1 + 2) + 1 + 3
 
 -- a number of milliseconds, in seconds with three decimals
 abbrev pub seconds_text : ℕ → List ℕ

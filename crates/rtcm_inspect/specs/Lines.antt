@@ -1,10 +1,40 @@
 -- Lines of text.
-use Rattle.std.specs.Prelude.{ℕ, List, [], ◌∷◌, ◌++◌}
+use Rattle.std.specs.Prelude.{ℕ, ◌+◌, ◌*◌, List, [], ◌∷◌, ◌++◌}
 use Rattle.std.specs.List.{join_with_byte}
 
--- room for a line, the longest of which is the report of a conversion
+-- the most digits of a number of 64 bits
+abbrev pub longest_number : ℕ
+longest_number = 20
+
+-- Room for a line. The longest is the report of a conversion: 14 names of 90 letters in all, 14 numbers, 27 blanks and
+-- a line feed. The last 2 make it a multiple of 8.
 abbrev pub longest_line : ℕ
-longest_line = 400
+longest_line = 90 + 14 * longest_number + 27 + 1 + 2
+
+-- the most bytes before the line of a frame or a message
+abbrev pub longest_prefix : ℕ
+longest_prefix = 80
+
+-- the most bytes before the words of an error, and of these words, each after a blank
+abbrev pub longest_start : ℕ
+longest_start = 100
+
+abbrev pub longest_error : ℕ
+longest_error = 120
+
+-- the most bytes of the name of a fault, and of this name and the field or the code in which the fault is
+abbrev pub longest_fault_name : ℕ
+longest_fault_name = 20
+
+abbrev pub longest_fault : ℕ
+longest_fault = 60
+
+-- the most bytes of the name of an option that has a number, and of the option: name, blank, number and blank
+abbrev pub longest_name : ℕ
+longest_name = 10
+
+abbrev pub longest_option : ℕ
+longest_option = longest_name + 1 + longest_number + 1
 
 -- the words with single blanks between them and a line feed after the last
 abbrev pub line : List (List ℕ) → List ℕ

@@ -4,7 +4,7 @@ ghost use Rattle.gnss_obs.specs.Satellites.{letter};
 ghost use Rattle.rinex_file.specs.Texts.{field_name};
 ghost use Rattle.rtcm_inspect.specs.FaultWords.{file_words, header_words, inspection_words, named};
 ghost use Rattle.rtcm_inspect.specs.FaultWords.{plan_words, scan_word};
-ghost use Rattle.rtcm_inspect.specs.Lines.{with_words};
+ghost use Rattle.rtcm_inspect.specs.Lines.{longest_error, longest_fault, longest_fault_name, longest_start, with_words};
 
 use crate::fault::InspectFault;
 use crate::line::OutputLine;
@@ -15,9 +15,9 @@ use rtcm_scan::ScanFault;
 /// Adds the name of a fault of an inspection, with the number of the line or the numbers of the
 /// stations, if any.
 pub fn add_inspection_error(line: &mut OutputLine, fault: InspectFault)
-    requires { length line.old ≤ 100 }
+    requires { length line.old ≤ longest_start }
     ensures text { line.new ≡ with_words line.old (inspection_words fault) }
-    ensures short { length line.new ≤ length line.old + 120 }
+    ensures short { length line.new ≤ length line.old + longest_error }
 {
     match fault {
         InspectFault::Read => line.add_word("Read"),
@@ -40,9 +40,9 @@ pub fn add_inspection_error(line: &mut OutputLine, fault: InspectFault)
 
 /// Adds the name of a fault of the texts of the header, and that of the text.
 pub fn add_header_error(line: &mut OutputLine, fault: HeadFault)
-    requires { length line.old ≤ 100 }
+    requires { length line.old ≤ longest_start }
     ensures text { line.new ≡ with_words line.old (header_words fault) }
-    ensures short { length line.new ≤ length line.old + 120 }
+    ensures short { length line.new ≤ length line.old + longest_error }
 {
     match fault {
         HeadFault::TooLong(field) => add_field(line, "TooLong", field),
@@ -54,9 +54,9 @@ pub fn add_header_error(line: &mut OutputLine, fault: HeadFault)
 /// Adds the name of a fault of the plan, with the letter of the system and the place of the code,
 /// counted from 0.
 pub fn add_plan_error(line: &mut OutputLine, fault: PlanFault)
-    requires { length line.old ≤ 100 }
+    requires { length line.old ≤ longest_start }
     ensures text { line.new ≡ with_words line.old (plan_words fault) }
-    ensures short { length line.new ≤ length line.old + 120 }
+    ensures short { length line.new ≤ length line.old + longest_error }
 {
     match fault {
         PlanFault::UnknownCode(system, place) => add_code(line, "UnknownCode", system, place),
@@ -71,7 +71,7 @@ pub fn add_plan_error(line: &mut OutputLine, fault: PlanFault)
 /// Returns the name of a fault of a file, and the number of the line.
 fn file_name(fault: ReadFault) -> (&'static str, Option<u64>)
     ensures words { file_words fault ≡ named result.0.now result.1 }
-    ensures short { length result.0.now ≤ 20 }
+    ensures short { length result.0.now ≤ longest_fault_name }
 {
     match fault {
         ReadFault::Memory => ("Memory", None),
@@ -88,7 +88,7 @@ fn file_name(fault: ReadFault) -> (&'static str, Option<u64>)
 /// Returns the name of a fault of the framer.
 fn scan_name(fault: ScanFault) -> &'static str
     ensures name { result.now ≡ scan_word fault }
-    ensures short { length result.now ≤ 20 }
+    ensures short { length result.now ≤ longest_fault_name }
 {
     match fault {
         ScanFault::Memory => "Memory",
@@ -100,10 +100,10 @@ fn scan_name(fault: ScanFault) -> &'static str
 
 /// Adds a name and that of a text of the header.
 fn add_field(line: &mut OutputLine, name: &str, field: HeaderField)
-    requires room { length line.old ≤ 100 }
-    requires short { length name.now ≤ 20 }
+    requires room { length line.old ≤ longest_start }
+    requires short { length name.now ≤ longest_fault_name }
     ensures text { line.new ≡ with_words line.old (name.now ∷ field_name field ∷ []) }
-    ensures short { length line.new ≤ length line.old + 60 }
+    ensures short { length line.new ≤ length line.old + longest_fault }
 {
     line.add_word(name);
     line.add_word(field.name());
@@ -111,10 +111,10 @@ fn add_field(line: &mut OutputLine, name: &str, field: HeaderField)
 
 /// Adds a name, the letter of a system and a place.
 fn add_code(line: &mut OutputLine, name: &str, system: System, place: usize)
-    requires room { length line.old ≤ 100 }
-    requires short { length name.now ≤ 20 }
+    requires room { length line.old ≤ longest_start }
+    requires short { length name.now ≤ longest_fault_name }
     ensures text { line.new ≡ with_words line.old (name.now ∷ (letter system ∷ []) ∷ decimal place ∷ []) }
-    ensures short { length line.new ≤ length line.old + 60 }
+    ensures short { length line.new ≤ length line.old + longest_fault }
 {
     line.add_word(name);
     line.add_part(b' ', &[system.letter()]);

@@ -1,7 +1,7 @@
 //! A line of output.
 ghost use Rattle.std.specs.Prelude.{◌≡◌, ◌+◌, ◌<◌, ◌≤◌, [], ◌∷◌, ◌++◌, length, decimal};
 ghost use Rattle.rtcm_inspect.specs.Devices.{EndsDelivery};
-ghost use Rattle.rtcm_inspect.specs.Lines.{longest_line};
+ghost use Rattle.rtcm_inspect.specs.Lines.{longest_line, longest_number};
 ghost use Rattle.rtcm_inspect.specs.DateTexts.{three_digits, two_digits};
 ghost use Rattle.rtcm_inspect.specs.Metres.{digit, four_digits, size_text, metres};
 ghost use Rattle.rtcm_inspect.specs.Printing.{EndsPrinting, PrintsLine};
@@ -13,9 +13,9 @@ use rtcm_bits::{Counted, Deliver};
 use std::io::Write;
 use std::marker::Model;
 
-/// Room for a line. The longest is the report of a conversion, of at most 398 bytes: 14 names of 90
-/// letters in all, 14 numbers of at most 20 digits, 27 blanks and a line feed.
-const LINE_BYTES: usize = 400;
+/// Room for a line. The longest is the report of a conversion: 14 names of 90 letters in all, 14
+/// numbers of at most 20 digits, 27 blanks and a line feed. The last 2 make it a multiple of 8.
+const LINE_BYTES: usize = 90 + 14 * 20 + 27 + 1 + 2;
 
 /// A line of output, built word by word with single blanks between the words.
 #[derive(Drop)]
@@ -54,9 +54,9 @@ impl OutputLine {
 
     /// Appends a number.
     pub fn put_number(&mut self, number: u64)
-        requires { length self.old + 20 ≤ longest_line }
+        requires { length self.old + longest_number ≤ longest_line }
         ensures text { self.new ≡ self.old ++ decimal number }
-        ensures short { length self.new ≤ length self.old + 20 }
+        ensures short { length self.new ≤ length self.old + longest_number }
     {
         if number < 10 {
             self.put(&[digit(number)]);
@@ -67,9 +67,9 @@ impl OutputLine {
 
     /// Appends a blank and a number.
     pub fn add_number(&mut self, number: u64)
-        requires { length self.old + 21 ≤ longest_line }
+        requires { length self.old + 1 + longest_number ≤ longest_line }
         ensures text { self.new ≡ self.old ++ 0x20 ∷ decimal number }
-        ensures short { length self.new ≤ length self.old + 21 }
+        ensures short { length self.new ≤ length self.old + 1 + longest_number }
     {
         self.put(b" ");
         self.put_number(number);
@@ -87,9 +87,9 @@ impl OutputLine {
 
     /// Appends a blank, a name, a blank and a number.
     pub fn add_count(&mut self, name: &str, number: u64)
-        requires { length self.old + length name.now + 22 ≤ longest_line }
+        requires { length self.old + length name.now + 2 + longest_number ≤ longest_line }
         ensures text { self.new ≡ (self.old ++ 0x20 ∷ name.now) ++ 0x20 ∷ decimal number }
-        ensures short { length self.new ≤ length self.old + length name.now + 22 }
+        ensures short { length self.new ≤ length self.old + length name.now + 2 + longest_number }
     {
         self.add_word(name);
         self.add_number(number);
@@ -107,9 +107,9 @@ impl OutputLine {
 
     /// Appends a separator and a length, given in units of 0.0001 m, in metres with four decimals.
     pub fn add_metres(&mut self, separator: u8, value: i64)
-        requires { length self.old + 27 ≤ longest_line }
+        requires { length self.old + longest_number + 7 ≤ longest_line }
         ensures text { self.new ≡ self.old ++ separator ∷ metres value }
-        ensures short { length self.new ≤ length self.old + 27 }
+        ensures short { length self.new ≤ length self.old + longest_number + 7 }
     {
         self.put(&[separator]);
         self.put(if value < 0 { b"-" } else { b"" });
@@ -117,9 +117,9 @@ impl OutputLine {
     }
 
     fn put_size(&mut self, size: u64)
-        requires { length self.old + 25 ≤ longest_line }
+        requires { length self.old + longest_number + 5 ≤ longest_line }
         ensures text { self.new ≡ self.old ++ size_text size }
-        ensures short { length self.new ≤ length self.old + 25 }
+        ensures short { length self.new ≤ length self.old + longest_number + 5 }
     {
         self.put_number(size / 10_000);
         self.add_four(b'.', size);

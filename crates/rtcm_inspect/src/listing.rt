@@ -6,7 +6,7 @@ ghost use Rattle.rtcm_scan.specs.Scan.{most_bytes};
 ghost use Rattle.rtcm_msg.specs.Station.{InRange};
 ghost use Rattle.rtcm_msg.specs.Views.{message_number};
 ghost use Rattle.rtcm_inspect.specs.FrameLines.{frame_line, frame_lines, number_word};
-ghost use Rattle.rtcm_inspect.specs.Lines.{with_words};
+ghost use Rattle.rtcm_inspect.specs.Lines.{longest_prefix, with_words};
 ghost use Rattle.rtcm_inspect.specs.ShowLines.{fault_words, height_words};
 ghost use Rattle.rtcm_inspect.specs.ShowLines.{msm_line, show_line, show_lines, station_line};
 ghost use Rattle.rtcm_inspect.specs.Listing.{EndsListing, listing_line, listing_lines};
@@ -56,7 +56,7 @@ impl<W: Deliver> FrameSink<Counted<W>> for Listing {
 
 /// Adds the line of a frame, if it has one.
 fn add_line(line: &mut OutputLine, listing: Listing, frame: &Frame)
-    requires { length line.old ≤ 80 }
+    requires { length line.old ≤ longest_prefix }
     ensures { line.new ≡ line.old ++ listing_line listing (framed frame.now) }
 {
     match listing {
@@ -135,7 +135,7 @@ pub fn list<R: Read, W: Deliver>(
 /// Adds the line of a frame: its offset and the length of its message in bytes, and the message
 /// number (DF002).
 fn add_frame(line: &mut OutputLine, frame: &Frame)
-    requires { length line.old ≤ 80 }
+    requires { length line.old ≤ longest_prefix }
     ensures { line.new ≡ line.old ++ frame_line (framed frame.now) }
 {
     line.put_number(frame.offset);
@@ -149,7 +149,7 @@ fn add_frame(line: &mut OutputLine, frame: &Frame)
 // Inlined into the loop of `frames`, its buffers would be cleared for every frame.
 #[inline(never)]
 fn add_message(line: &mut OutputLine, frame: &Frame)
-    requires { length line.old ≤ 80 }
+    requires { length line.old ≤ longest_prefix }
     ensures { line.new ≡ line.old ++ show_line (framed frame.now) }
 {
     let message = frame.message.as_slice();
@@ -184,7 +184,7 @@ fn add_message_number(line: &mut OutputLine, message: &[u8])
 /// Adds the line of a station message: offset, number, station, X, Y and Z in metres, and the
 /// height of a 1006 in metres.
 fn add_station(line: &mut OutputLine, offset: u64, station: StationParts)
-    requires room { length line.old ≤ 80 }
+    requires room { length line.old ≤ longest_prefix }
     requires in_range { InRange station }
     ensures { line.new ≡ line.old ++ station_line offset station }
 {
@@ -212,7 +212,7 @@ fn add_height(line: &mut OutputLine, height: Option<u16>)
 /// Adds the line of an MSM: offset, number, station, epoch time, DF393, and the numbers of
 /// satellites, signals and cells.
 fn add_msm(line: &mut OutputLine, offset: u64, msm: &MsmView<'_>)
-    requires { length line.old ≤ 80 }
+    requires { length line.old ≤ longest_prefix }
     ensures { line.new
         ≡ line.old ++ msm_line offset (message_number msm.now.form msm.now.msm.is_galileo) msm.now.msm }
 {

@@ -8,7 +8,7 @@ ghost use Rattle.rtcm_scan.specs.Frames.{Framed};
 ghost use Rattle.obs_epoch.specs.SignalCounts.{AreSignalCounts};
 ghost use Rattle.rtcm_inspect.specs.Counting.{AreSignals};
 ghost use Rattle.rtcm_inspect.specs.Fitting.{number_start, options_text, station_words};
-ghost use Rattle.rtcm_inspect.specs.Lines.{with_words};
+ghost use Rattle.rtcm_inspect.specs.Lines.{longest_name, longest_option, with_words};
 ghost use Rattle.rtcm_inspect.specs.NearWeek.{IsWeekFor, IsWeekNear};
 ghost use Rattle.rtcm_inspect.specs.OptionOutput.{AreOptionsOf, AreOptionsRefused, EndsOptions};
 ghost use Rattle.rtcm_inspect.specs.Signals.{codes_word, had};
@@ -114,9 +114,9 @@ fn week_near(noon: u64, tow: u32) -> u32
 /// Adds an option with a number, if there is one, and a blank.
 fn add_number(line: &mut OutputLine, option: &str, number: Option<u32>)
     requires room { length line.old ≤ 100 }
-    requires short { length option.now ≤ 10 }
+    requires short { length option.now ≤ longest_name }
     ensures text { line.new ≡ line.old ++ number_start option.now number }
-    ensures short { length line.new ≤ length line.old + 32 }
+    ensures short { length line.new ≤ length line.old + longest_option }
 {
     if let Some(number) = number {
         line.put(option.as_bytes());

@@ -1,6 +1,6 @@
 //! Times as text, and the lines of `check --times`.
 ghost use Rattle.std.specs.Prelude.{◌≡◌, ◌+◌, ◌≤◌, ◌∷◌, ◌++◌, length};
-ghost use Rattle.rtcm_inspect.specs.DateTexts.{clock_text, date_text, step_line};
+ghost use Rattle.rtcm_inspect.specs.DateTexts.{clock_bytes, clock_text, date_text, step_line};
 ghost use Rattle.rtcm_inspect.specs.DateTexts.{time_line, times_lines};
 
 use crate::line::OutputLine;
@@ -46,7 +46,7 @@ fn add_date(text: &mut OutputLine, civil: &Civil)
 fn add_clock(text: &mut OutputLine, civil: &Civil)
     requires { length text.old ≤ 300 }
     ensures text { text.new ≡ text.old ++ 0x20 ∷ clock_text civil.now }
-    ensures short { length text.new ≤ length text.old + 13 }
+    ensures short { length text.new ≤ length text.old + clock_bytes }
 {
     let millisecond = u64::from(civil.millisecond);
     text.add_two(b' ', u64::from(civil.hour));
