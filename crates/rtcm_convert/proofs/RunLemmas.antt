@@ -2,7 +2,7 @@
 use Rattle.rtcm_convert.proofs.FeedLemmas.{with_flags, fed_whole, fed_long}
 use Rattle.rtcm_convert.proofs.PartLemmas.{goes_on-trans, up_to_earlier, up_to_later}
 use Rattle.rtcm_convert.proofs.StreamLemmas.{passed_here, piece_whole, so_far-front}
-use Rattle.rtcm_convert.proofs.Names.{◌≡◌, ℕ, List, ◌++◌, ap, subst, ◌∙◌, Option, append_assoc, length, ◌+◌, ◌<◌, refl, Bool, true, false, None, Some, arith, length-append, IfSome, if◌then◌else◌, Consumes, IsAtEnd, Consumes-whole, Device, HasFailed, IsPrefix, decided_frames, Framed, known_frames, PassesToLimit, BreaksAfter, Reads, ReadsOn, FramerValue, SetupValue, so_far, AppendsUpTo, FiledGrows, FileWriter, Report, AppendsDecided, AppendsPrefixOfRest, BreaksFiling, Files, HasDrainedSome, Conversion, KeepsNow, IsGoing, refusal, HasConverted, TakesFromReader, IsPastLimit, CutsAtLimit, RanToFault, RanToLimit, Completed, CompletedEmpty, FinishesNow, FinishesEmptyNow, CompletesFile, CompletesEmptyFile, FailsFeeding, FailsFinishing, Failed, Finished}
+use Rattle.rtcm_convert.proofs.Names.{◌≡◌, ℕ, List, ◌++◌, ap, subst, ◌∙◌, Option, append_assoc, length, ◌+◌, ◌<◌, refl, Bool, true, false, None, Some, arith, length-append, IfSome, if◌then◌else◌, Consumes, IsAtEnd, Consumes-whole, Device, HasFailed, IsPrefix, longest_frame, decided_frames, Framed, known_frames, PassesToLimit, BreaksAfter, Reads, ReadsOn, FramerValue, SetupValue, so_far, AppendsUpTo, FiledGrows, FileWriter, Report, AppendsDecided, AppendsPrefixOfRest, BreaksFiling, Files, HasDrainedSome, Conversion, KeepsNow, IsGoing, refusal, HasConverted, TakesFromReader, IsPastLimit, CutsAtLimit, RanToFault, RanToLimit, Completed, CompletedEmpty, FinishesNow, FinishesEmptyNow, CompletesFile, CompletesEmptyFile, FailsFeeding, FailsFinishing, Failed, Finished}
 
 flags : (ended failed : Bool) → None ≡ (if ended then Some Finished else if failed then Some Failed else None) → (failed ≡ false) × (ended ≡ false)
 flags true failed e = absurd cc
@@ -78,7 +78,7 @@ module _ {W : Type 0} {failed over : Bool} {v v' : FramerValue} {w w' : FileWrit
   pub rest_long : v.has_ended ≡ false → v'.has_ended ≡ false → Reads r r' (PassesToLimit (Files c) v w o v' w' o') → RanToLimit (with_flags failed over v w) (with_flags true over v' w') r r' (c o.inner) (c o'.inner)
   rest_long before after p = ran_long r r' p.1 (fed_long p.0 before after p.2)
 
-  pub rest_part : FiledGrows → ((b t : List ℕ) → IsPrefix (decided_frames b) (decided_frames (b ++ t))) → v.has_ended ≡ false → BreaksAfter (Files c) (BreaksFiling c) v w o v' w' o' 1029 r r'
+  pub rest_part : FiledGrows → ((b t : List ℕ) → IsPrefix (decided_frames b) (decided_frames (b ++ t))) → v.has_ended ≡ false → BreaksAfter (Files c) (BreaksFiling c) v w o v' w' o' longest_frame r r'
       → FailsFeeding (with_flags failed over v w) (with_flags true over v' w') r r' (c o.inner) (c o'.inner)
   rest_part grows frames before p = (
     p.front,
@@ -94,6 +94,6 @@ module _ {W : Type 0} {failed over : Bool} {v v' : FramerValue} {w w' : FileWrit
         record { mid = g.mid; before = g.before; last = g.last; near = p.near w o ps bytes here },
   )
 
-pub rest_device : {W : Type 0} {c : W → Option (List ℕ)} {v v' : FramerValue} {w w' : FileWriter} {o o' : Device W} {r r' : Option (List ℕ)} → BreaksAfter (Files c) (BreaksFiling c) v w o v' w' o' 1029 r r' → HasDrainedSome v
+pub rest_device : {W : Type 0} {c : W → Option (List ℕ)} {v v' : FramerValue} {w w' : FileWriter} {o o' : Device W} {r r' : Option (List ℕ)} → BreaksAfter (Files c) (BreaksFiling c) v w o v' w' o' longest_frame r r' → HasDrainedSome v
     → HasFailed o.failures o'.failures × (o'.widest ≡ o.widest)
 rest_device {c = c} {v} {w = w} {o = o} p d = let k = p.breaks w o (known_frames v.has_ended d.0) d.0 (passed_here c v w o d.0 d.1) in (k.broken.failed, k.broken.widest)

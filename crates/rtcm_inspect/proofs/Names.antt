@@ -27,7 +27,7 @@ unfoldable pub use Rattle.rtcm_bits.specs.Bits.{bits_of}
 pub use Rattle.rtcm_bits.specs.Bits.{FitsInt, bit, filled, missing, number, uint}
 pub use Rattle.rtcm_bits.specs.Cursors.{Cursor}
 pub use Rattle.rtcm_bits.specs.Device.{AppendsPrefix, Device, FailsWith, HasFailed}
-pub use Rattle.rtcm_bits.specs.FrameOf.{frame_bytes}
+pub use Rattle.rtcm_bits.specs.FrameOf.{frame_bytes, longest_message, longest_message_bits}
 pub use Rattle.rtcm_bits.specs.Prefix.{IsPrefix}
 pub use Rattle.rtcm_bits.specs.declared.counted.DeviceFailed.{DeviceFailed}
 unfoldable pub use Rattle.rtcm_inspect.specs.Checking.{check_line}

@@ -1,5 +1,5 @@
 -- Messages, their encodings in frames, and the messages read back.
-use Rattle.rtcm_inspect.proofs.Names.{◌≡◌, ◌∙◌, sym, ap, subst, refl, arith, ℕ, suc, zero, ◌+◌, ◌*◌, ◌/◌, ◌<◌, ◌≤◌, Bool, false, List, [], ◌∷◌, ◌++◌, length, take, drop, map, replicate, All, get_or, flat_map, length-append, length-take, length-drop, take-append-drop, bits_of, filled, missing, uint, number, frame_bytes, Framed, AreFrames, frames_of, placed, Message, IsEncoding, IsMessage, ReadsMessage, is_other, message_bits, AreEncoded, AreReadAs, ReadsBack, AreKnown}
+use Rattle.rtcm_inspect.proofs.Names.{◌≡◌, ◌∙◌, sym, ap, subst, refl, arith, ℕ, suc, zero, ◌+◌, ◌*◌, ◌/◌, ◌<◌, ◌≤◌, Bool, false, List, [], ◌∷◌, ◌++◌, length, take, drop, map, replicate, All, get_or, flat_map, length-append, length-take, length-drop, take-append-drop, bits_of, filled, missing, uint, number, frame_bytes, longest_message, longest_message_bits, Framed, AreFrames, frames_of, placed, Message, IsEncoding, IsMessage, ReadsMessage, is_other, message_bits, AreEncoded, AreReadAs, ReadsBack, AreKnown}
 
 -- laws of the layers below
 abbrev pub EightBits : Type 0
@@ -9,7 +9,7 @@ abbrev pub SpelledBack : Type 0
 SpelledBack = (bits : List Bool) → uint (length bits) (number bits) ≡ bits
 
 abbrev pub FewBits : Type 0
-FewBits = (v : Message) → IsMessage v → length (message_bits v 0) ≤ 8184
+FewBits = (v : Message) → IsMessage v → length (message_bits v 0) ≤ longest_message_bits
 
 abbrev pub IsReadBack : Type 0
 IsReadBack = (v : Message) → IsMessage v → is_other v ≡ false → ReadsMessage (filled (message_bits v 0)) v
@@ -25,15 +25,15 @@ length-filled bits = length-append bits (replicate (missing (length bits)) false
     length-zeros (suc n) = ap suc (length-zeros n)
 
 -- an encoding fits in a frame
-encoding_short : EightBits → FewBits → (bytes : List ℕ) (v : Message) → IsMessage v → IsEncoding bytes v → length bytes ≤ 1023
+encoding_short : EightBits → FewBits → (bytes : List ℕ) (v : Message) → IsMessage v → IsEncoding bytes v → length bytes ≤ longest_message
 encoding_short eight few bytes v is e =
     let bits : 8 * length bytes ≡ length (message_bits v 0) + missing (length (message_bits v 0)) = sym (eight bytes) ∙ ap length e ∙ length-filled (message_bits v 0) in
     whole_bytes (length bytes) (length (message_bits v 0)) bits (few v is)
   where
-    whole_bytes : (k n : ℕ) → 8 * k ≡ n + missing n → n ≤ 8184 → k ≤ 1023
+    whole_bytes : (k n : ℕ) → 8 * k ≡ n + missing n → n ≤ longest_message_bits → k ≤ longest_message
     whole_bytes k n e h = omega arith
 
-pub encodings_short : EightBits → FewBits → (es : List (List ℕ)) (vs : List Message) → AreEncoded es vs → (k : ℕ) (d : List ℕ) → k < length es → length (get_or es k d) ≤ 1023
+pub encodings_short : EightBits → FewBits → (es : List (List ℕ)) (vs : List Message) → AreEncoded es vs → (k : ℕ) (d : List ℕ) → k < length es → length (get_or es k d) ≤ longest_message
 encodings_short eight few [] vs h k d less = absurd (omega arith)
 encodings_short eight few (e ∷ es) [] h k d less = absurd h
 encodings_short eight few (e ∷ es) (v ∷ vs) h zero d less = encoding_short eight few e v h.0.0 h.1
@@ -51,8 +51,8 @@ read_as back one p (e ∷ es) (v ∷ vs) h =
     let reads : ReadsMessage (bits_of e) v = subst (λ (bits : List Bool). ReadsMessage bits v) (sym h.1) (back v h.0.0 h.0.1) in
     (record { reads = reads; only = λ w r. one (bits_of e) w v r reads }, read_as back one (p + (length e + 6)) es vs h.2)
 
-pub reads_back : ((es : List (List ℕ)) (vs : List Message) → AreEncoded es vs → All (λ (m : List ℕ). length m ≤ 1023) es) → IsReadBack → OneValue → ((b : List ℕ) → AreFrames b (frames_of b))
-    → ((messages : List (List ℕ)) → All (λ (m : List ℕ). length m ≤ 1023) messages → frames_of (flat_map frame_bytes messages) ≡ placed 0 messages)
+pub reads_back : ((es : List (List ℕ)) (vs : List Message) → AreEncoded es vs → All (λ (m : List ℕ). length m ≤ longest_message) es) → IsReadBack → OneValue → ((b : List ℕ) → AreFrames b (frames_of b))
+    → ((messages : List (List ℕ)) → All (λ (m : List ℕ). length m ≤ longest_message) messages → frames_of (flat_map frame_bytes messages) ≡ placed 0 messages)
     → (es : List (List ℕ)) (vs : List Message) → AreEncoded es vs → ReadsBack es vs
 reads_back short back one frames joined es vs h =
     let are : AreFrames (flat_map frame_bytes es) (placed 0 es) = subst (λ (fs : List Framed). AreFrames (flat_map frame_bytes es) fs) (joined es (short es vs h)) (frames (flat_map frame_bytes es)) in
