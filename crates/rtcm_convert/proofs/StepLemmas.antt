@@ -50,7 +50,7 @@ closed_front : {v g : GathererValue} {k : Kind} {m : Heard} {s : GatherSetup} {m
     → Took v g k m → IsAwaited again m → HasGatheredEpochs v s ms es again → Front g s (ms ++ m ∷ []) (es ++ closed_by (closed_in g) g.values)
 closed_front {g} {k} {m} {s} {ms} {es} None t f x = elim (cases_Bool (is_close_first k)) [
   | inl shut ↦ front g s ms _ (Some m) t.ended (t.first s ms es x shut)
-  | inr kept ↦ front_none g s (ms ++ m ∷ []) _ t.ended (t.taken s ms es None x f kept)
+  | inr stays ↦ front_none g s (ms ++ m ∷ []) _ t.ended (t.taken s ms es None x f stays)
 ]
 closed_front {v} {g} {m} {s} {ms} {es} (Some n) t f x =
     let y : HasGatheredEpochs v s ms es (Some m) = subst (λ (q : Heard). HasGatheredEpochs v s ms es (Some q)) (sym f) x in

@@ -6,7 +6,7 @@ from_nothing {a} {b} {y} nothing s g =
     let e : y ≡ g.part = g.text ∙ ap (λ l. l ++ g.part) (nothing s) in
     subst (λ (l : List ℕ). Appends a b l) (sym e) g.out
 
--- a call began with a new converter of that setup, and kept its limit
+-- a call began with a new converter of that setup, and has the same limit at its end
 pub record BeganNew (v w : Conversion) (x : Start) : Type 0 where
   pub nothing : NothingYet
   pub history : HasConverted v (start_value x) []

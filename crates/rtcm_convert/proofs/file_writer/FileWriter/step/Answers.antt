@@ -18,9 +18,9 @@ returns-in-Ok g c =
     let o : Wrote c.args.self.now c.write_closed.new.self c.take_view-taken.new.self _ _ = record { gatherer = e.same.0; texts = e.same.1; epochs = e.now.0; values = e.now.1; out = e.whole } in
     record {
       first = λ shut s ms es x. wrote_all o x (t.first s.gather ms es x.gatherer shut);
-      taken = λ kept s ms es again f x. wrote_all o x (t.taken s.gather ms es again x.gatherer f kept);
+      taken = λ stays s ms es again f x. wrote_all o x (t.taken s.gather ms es again x.gatherer f stays);
       again = λ s ms es x. t.again s.gather ms es x.gatherer;
-      kind = λ kept s ms es again f x. t.kind s.gather ms es again x.gatherer f kept;
+      kind = λ stays s ms es again f x. t.kind s.gather ms es again x.gatherer f stays;
       same = e.same.2;
       part = tt;
       device = (tt, e.device);

@@ -9,10 +9,10 @@ returns-in-Err g c = record { whole = tt; kind = tt; same = c.step.ensures.same;
 pub returns-then-not-is_close_first : goal.returns-then-not-is_close_first
 returns-then-not-is_close_first g c =
     let n = c.in-Ok.ensures in
-    let kept = sym c.if-not-is_close_first.ensures in
+    let stays = sym c.if-not-is_close_first.ensures in
     record {
-      whole = λ s ms x. settle (closed_epochs s.gather ms) n.ended (n.taken kept s ms (closed_epochs s.gather ms) None tt x);
-      kind = λ s ms x. n.kind kept s ms (closed_epochs s.gather ms) None tt x;
+      whole = λ s ms x. settle (closed_epochs s.gather ms) n.ended (n.taken stays s ms (closed_epochs s.gather ms) None tt x);
+      kind = λ s ms x. n.kind stays s ms (closed_epochs s.gather ms) None tt x;
       same = n.same;
       part = tt;
       device = n.device;
