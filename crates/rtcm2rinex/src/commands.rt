@@ -10,17 +10,20 @@ use rtcm_scan::MOST_BYTES;
 /// A command.
 #[derive(Clone, Copy)]
 pub struct CommandRow<'a> {
+    /// The word that selects it.
     pub name: &'a str,
     /// What it does.
     pub about: &'a str,
     /// How it is called, and the meaning of the lines that it prints.
     pub examples: &'a str,
+    /// The options that it has.
     pub options: Options,
 }
 
 /// The options of a command.
 #[derive(Clone, Copy)]
 pub enum Options {
+    /// No options.
     None,
     /// The station.
     Station,
@@ -35,9 +38,11 @@ pub enum Options {
 /// An option of a command.
 #[derive(Clone, Copy)]
 pub struct OptionRow<'a> {
+    /// Its name, without the two hyphens.
     pub name: &'a str,
     /// The name of its value in the help text.
     pub value: &'a str,
+    /// Whether the command is refused without it.
     pub required: bool,
     /// Its value if it isn't given, if there is one.
     pub defaults: &'a [&'a str],
@@ -45,6 +50,7 @@ pub struct OptionRow<'a> {
     pub parser: ValueParser<'a>,
     /// Whether it has a value or is a flag.
     pub action: ArgAction,
+    /// Its help text.
     pub help: &'a str,
 }
 
@@ -54,11 +60,17 @@ pub struct OptionRow<'a> {
 pub struct Tables<'a> {
     /// The name and the help of the program itself.
     pub program: CommandRow<'a>,
+    /// The text that `--version` prints.
     pub version: &'a str,
+    /// The commands, in the order of the help text.
     pub commands: &'a [CommandRow<'a>],
+    /// The station.
     pub station: &'a [OptionRow<'a>],
+    /// A date near the first observations.
     pub near: &'a [OptionRow<'a>],
+    /// Whether times are printed.
     pub times: &'a [OptionRow<'a>],
+    /// The options of a conversion.
     pub convert: &'a [OptionRow<'a>],
     /// The texts of the header.
     pub texts: &'a [OptionRow<'a>],
@@ -160,6 +172,7 @@ const COMMANDS: &[CommandRow<'static>] = &[
 /// A reference station (DF003).
 const STATIONS: ValueParser<'static> = ValueParser::Signed(0, 4_095);
 
+/// The option of the station.
 const STATION: &[OptionRow<'static>] = option_rows! {
     "station", "NUMBER", false, &[], STATIONS,
         "Reference station (DF003), 0 to 4095: no other counts";
@@ -168,12 +181,14 @@ const STATION: &[OptionRow<'static>] = option_rows! {
 /// Any text.
 const TEXT: ValueParser<'static> = ValueParser::String;
 
+/// The option of a date near the first observations.
 const NEAR: &[OptionRow<'static>] = option_rows! {
     "near", "DATE", false, &[], TEXT,
         "GPS date within half a week of the first\n\
          observations, as 2024-02-04: prints --week too";
 };
 
+/// The flag that prints times.
 const TIMES: &[OptionRow<'static>] = &[OptionRow {
     name: "times",
     value: "",

@@ -25,7 +25,9 @@ use std::io::Write;
 /// Gathers the messages of frames in order, and writes the epochs that they close.
 #[derive(Drop)]
 pub(crate) struct FileWriter {
+    /// Gathers the cells of the messages into epochs.
     pub(crate) gatherer: Gatherer,
+    /// The texts of the header.
     pub(crate) texts: HeaderTexts,
     /// The station values that were written last: in the header, or in an event.
     pub(crate) values: Option<StationValues>,

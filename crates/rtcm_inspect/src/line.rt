@@ -116,6 +116,7 @@ impl OutputLine {
         self.put_size(value.unsigned_abs());
     }
 
+    /// Appends a length in metres with four decimals.
     fn put_size(&mut self, size: u64)
         requires { length self.old + longest_number + 5 ≤ longest_line }
         ensures text { self.new ≡ self.old ++ size_text size }
