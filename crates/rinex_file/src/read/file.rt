@@ -36,7 +36,9 @@ pub struct Counts {
 /// Counts of a file, and the times of its epochs.
 #[derive(Clone, Copy)]
 pub struct FileSummary {
+    /// The counts.
     pub counts: Counts,
+    /// The times.
     pub times: EpochTimes,
 }
 
