@@ -29,7 +29,7 @@ pub use Rattle.rinex_file.specs.File.{change_lines, change_text, closed_text, ev
 pub use Rattle.rinex_file.specs.FileValues.{AreChanges, AreSatelliteRows, AreSignalValues, AreTexts, AreValues, FitsColumns, HaveRoom, IsChange, IsFileValue, IsFirstSame, IsFrom, IsPlan, IsRow, IsSatelliteRow, IsStamped, IsText, IsTime, changed_by, has_some_value, most_rows, of_system, rank_of, time_stamped, values_following}
 pub use Rattle.rinex_file.specs.Gathered.{AreSignals, HasSatellite}
 unfoldable pub use Rattle.rinex_file.specs.Header.{header_line, header_lines, row_line}
-pub use Rattle.rinex_file.specs.Header.{all_rows, codes_of, delta_line, end_line, file_system, first_line, first_types, most_type_rows, has_line, height_line, lengths, lines_from, position_line, row_at, row_count, row_lines, row_place, strength_line, text_columns, texts_line, type_columns, type_front, type_line, type_of, type_rows, types_of, version_line}
+pub use Rattle.rinex_file.specs.Header.{all_rows, codes_of, delta_line, end_line, file_system, first_line, first_types, most_type_rows, has_line, height_line, is_some_planned, lengths, lines_from, position_line, row_at, row_count, row_lines, row_place, strength_line, text_columns, texts_line, type_columns, type_front, type_line, type_of, type_rows, types_of, version_fields, version_line, version_with}
 pub use Rattle.rinex_file.specs.Limits.{most_line}
 unfoldable pub use Rattle.rinex_file.specs.Lines.{epoch_line, field, satellite_line, signal_text}
 pub use Rattle.rinex_file.specs.Lines.{epoch_fields, letter_of, lli_byte, row_text, strength_byte}
@@ -40,7 +40,7 @@ pub use Rattle.rinex_file.specs.Read.HeaderSteps.{EndsHeader, GoesTo, HasSignalA
 unfoldable pub use Rattle.rinex_file.specs.Read.Keeping.{stamped_text}
 pub use Rattle.rinex_file.specs.Read.Keeping.{HasReadWhole, HasRoom, HaveRowsRoom, Stores, history_of}
 unfoldable pub use Rattle.rinex_file.specs.Read.Progress.{HasLinesLeft}
-pub use Rattle.rinex_file.specs.Read.Progress.{Announced, AreTypes, AreTypesRead, AreValid, HasReadRows, IsAt, IsBetween, IsHeadAt, IsInEpoch, IsInEvent, IsInHeader, IsOnlyTime, IsPosition, IsReadTo, IsShown, Known, MayBeAll, MayPlan, Progress, Shown, StartsAt, announced, begun_at, epoch_after, expected_next, file_with, is_some_planned, lines_after, lines_before, position_of, shown_line, shown_rows, shown_with, signals_begun, stamped, types_line, version_with, with_epoch, with_row}
+pub use Rattle.rinex_file.specs.Read.Progress.{Announced, AreTypes, AreTypesRead, AreValid, HasReadRows, IsAt, IsBetween, IsHeadAt, IsInEpoch, IsInEvent, IsInHeader, IsOnlyTime, IsPosition, IsReadTo, IsShown, Known, MayBeAll, MayPlan, Progress, Shown, StartsAt, announced, begun_at, epoch_after, expected_next, file_with, lines_after, lines_before, position_of, shown_line, shown_rows, shown_with, signals_begun, stamped, types_line, with_epoch, with_row}
 pub use Rattle.rinex_file.specs.Read.Row.{AreEntries, IsRowOf}
 pub use Rattle.rinex_file.specs.Read.Sound.{AreLinesAt, AreLinesOf, AreRead, HasReadLines, IsBegun, IsEventExpected, IsSound, IsSoundAt, MayBegin, values_now}
 pub use Rattle.rinex_file.specs.Read.Steps.{HasRead, IsTaken, IsTextOfOnly, IsWhole, ReadsNextLine, file_at}

@@ -1,6 +1,6 @@
 -- The lines of a header, RINEX 3.05, table A2: content in columns 1 to 60, the label from column 61 on.
 use Rattle.std.specs.Prelude.{ℕ, zero, suc, ℤ, pos, ◌+◌, ◌*◌, ◌/◌, ◌==◌, if◌then◌else◌, List, [], ◌∷◌, ◌++◌, length}
-use Rattle.std.specs.Prelude.{take, drop, map, flat_map, replicate, decimal, codes, get_or, Bool, true, nat_lt}
+use Rattle.std.specs.Prelude.{take, drop, map, flat_map, replicate, decimal, codes, get_or, Bool, true, not, nat_lt}
 use Rattle.gnss_obs.specs.Signals.{code_of}
 use Rattle.gnss_obs.specs.declared.system.System.{System}
 use Rattle.gnss_obs.specs.declared.system.System.TheVariants.{Gps, Galileo}
@@ -27,16 +27,25 @@ lengths a b c = joined (right 14 (fixed 4 a) ∷ right 14 (fixed 4 b) ∷ right 
 
 -- ---- version and texts
 
--- G, E, or M if both systems are planned
-abbrev pub file_system : PlanValue → ℕ
-file_system p = if length p.gps == 0 then 69 else (if length p.galileo == 0 then 71 else 77)
+-- some signal is planned
+abbrev pub is_some_planned : List ℕ → Bool
+is_some_planned signals = not (length signals == 0)
+
+-- the letter of the systems that are planned: G, E, or M if both are
+abbrev pub file_system : Bool → Bool → ℕ
+file_system gps galileo = if gps then (if galileo then 77 else 71) else 69
+
+-- the fields of the first line of a file in which these systems are planned
+abbrev pub version_fields : Bool → Bool → List (List ℕ)
+version_fields gps galileo =
+    right 9 (fixed 2 (pos 305)) ∷ replicate 11 32 ∷ left 20 (codes "OBSERVATION DATA")
+    ∷ (file_system gps galileo ∷ []) ∷ []
+
+abbrev pub version_with : Bool → Bool → List ℕ
+version_with gps galileo = header_line (joined (version_fields gps galileo)) (codes "RINEX VERSION / TYPE")
 
 abbrev pub version_line : PlanValue → List ℕ
-version_line p = header_line
-    (joined
-    (right 9 (fixed 2 (pos 305)) ∷ replicate 11 32 ∷ left 20 (codes "OBSERVATION DATA") ∷ (file_system p ∷ [])
-    ∷ []))
-    (codes "RINEX VERSION / TYPE")
+version_line p = version_with (is_some_planned p.gps) (is_some_planned p.galileo)
 
 -- the text of a field, in its columns
 abbrev pub text_columns : HeaderLists → HeaderField → List ℕ

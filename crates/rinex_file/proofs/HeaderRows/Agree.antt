@@ -7,36 +7,26 @@ use Rattle.rinex_file.proofs.Entries.{few_signals}
 use Rattle.rinex_file.proofs.Reading.Dates.{IsField, AreFields, field_at}
 use Rattle.rinex_file.proofs.HeaderRows.Texts.{equal_or}
 use Rattle.rinex_file.proofs.HeaderRows.Types.{IsInLine, code_here, count_read, few_types, listed_at, signal_at, code_reads_back, content_first}
-use Rattle.rinex_file.proofs.Names.{◌&&◌, arith, ◌≡◌, ◌∙◌, refl, sym, ap, ℕ, ◌+◌, ◌/◌, ◌<◌, ◌≤◌, ◌^◌, List, [], ◌∷◌, ◌++◌, length, take, drop, get_or, replicate, append_assoc, append-nil, length-append, Bool, true, false, ℤ, pos, unsigned_abs, subst, zero, suc, lit<, ◌*◌, min, IsTrue, ◌↔◌, not, ◌||◌, ◌==◌, codes, if◌then◌else◌, flat_map, nat_lt, slice_index, is_negative, digits, sign_text, nat_tests, ints, take_more, take-append-drop, take_min, take_more_same, drop-cons, SignalAt, signal_of_code, System, Gps, Galileo, passes_at, is_equal, civil_of, PlanValue, planned_of, StationValues, Civil, joined, left, right, fixed, digits_in, number_in, header_line, lengths, height_line, row_line, row_lines, has_line, header_lines, all_rows, row_count, row_at, row_place, lines_from, first_types, most_type_rows, type_rows, version_line, version_with, Shown, shown_rows, lines_before, lines_after, IsShown, shown_line, AreTypes, types_line, is_some_planned, signals_begun, IsCoordinate, End, Version, Types, First, Shift, lines_of_header, HeaderLists, HeaderRow, drop-append-le, same_Some}
+use Rattle.rinex_file.proofs.Names.{◌&&◌, arith, ◌≡◌, ◌∙◌, refl, sym, ap, ℕ, ◌+◌, ◌/◌, ◌<◌, ◌≤◌, ◌^◌, List, [], ◌∷◌, ◌++◌, length, take, drop, get_or, append_assoc, append-nil, length-append, Bool, true, false, ℤ, pos, unsigned_abs, subst, zero, suc, lit<, ◌*◌, min, IsTrue, ◌↔◌, not, ◌||◌, ◌==◌, codes, if◌then◌else◌, flat_map, nat_lt, slice_index, is_negative, digits, sign_text, nat_tests, ints, take_more, take-append-drop, take_min, take_more_same, drop-cons, SignalAt, signal_of_code, System, Gps, Galileo, passes_at, is_equal, civil_of, PlanValue, planned_of, StationValues, Civil, joined, left, right, fixed, digits_in, number_in, header_line, lengths, height_line, row_line, row_lines, has_line, header_lines, all_rows, row_count, row_at, row_place, lines_from, first_types, most_type_rows, type_rows, file_system, version_line, version_with, Shown, shown_rows, lines_before, lines_after, IsShown, shown_line, AreTypes, types_line, is_some_planned, signals_begun, IsCoordinate, End, Version, Types, First, Shift, lines_of_header, HeaderLists, HeaderRow, drop-append-le, same_Some}
 
 -- ---- version
 
--- the first line, by the letter of its systems
-abbrev version_of : ℕ → List ℕ
-version_of letter = header_line
-    (joined (right 9 (fixed 2 (pos 305)) ∷ replicate 11 32 ∷ left 20 (codes "OBSERVATION DATA") ∷ (letter ∷ []) ∷ []))
-    (codes "RINEX VERSION / TYPE")
-
--- the letter of the planned systems
-abbrev pub letter_with : Bool → Bool → ℕ
-letter_with gps galileo = if gps then (if galileo then 77 else 71) else 69
-
-letter_at : (letter : ℕ) → take 1 (drop 40 (version_of letter)) ≡ letter ∷ []
+letter_at : (gps galileo : Bool) → take 1 (drop 40 (version_with gps galileo)) ≡ file_system gps galileo ∷ []
 unfolding header_line digits
-letter_at letter = refl
+letter_at gps galileo = refl
 
 -- the systems that a letter means
 abbrev planned_by : ℕ → Bool × Bool
 planned_by letter = (not (letter == 69), not (letter == 71))
 
-planned_back : (p : Bool × Bool) → (p.0 || p.1) ≡ true → planned_by (letter_with p.0 p.1) ≡ p
+planned_back : (p : Bool × Bool) → (p.0 || p.1) ≡ true → planned_by (file_system p.0 p.1) ≡ p
 planned_back p some = grind arith
 
 -- the systems are read back from the first line
 pub version_determines : (line : List ℕ) (p q : Bool × Bool) → (p.0 || p.1) ≡ true → (q.0 || q.1) ≡ true
     → line ≡ version_with p.0 p.1 → line ≡ version_with q.0 q.1 → q ≡ p
 version_determines line p q a b e f =
-    let same = sym (letter_at (letter_with q.0 q.1)) ∙ ap (λ l. take 1 (drop 40 l)) (sym f ∙ e) ∙ letter_at (letter_with p.0 p.1) in
+    let same = sym (letter_at q.0 q.1) ∙ ap (λ l. take 1 (drop 40 l)) (sym f ∙ e) ∙ letter_at p.0 p.1 in
     sym (planned_back q b) ∙ ap (λ t. planned_by (get_or t 0 0)) same ∙ planned_back p a
 
 -- a byte as the letter of the systems that aren't planned
@@ -47,8 +37,8 @@ is_letter a letter x y e is = grind (arith, nat_tests)
 pub version_read : {line : List ℕ} {w : Bool × Bool} (a b : Bool) {letter : List ℕ} → letter ≡ take 1 (drop 40 line) → (IsTrue a ↔ (letter ≡ 69 ∷ [])) → (IsTrue b ↔ (letter ≡ 71 ∷ []))
     → (w.0 || w.1) ≡ true → line ≡ version_with w.0 w.1 → w ≡ (not a, not b)
 version_read {w} a b {letter} at gps galileo some e =
-    let l = letter_with w.0 w.1 in
-    let here : letter ≡ l ∷ [] = at ∙ ap (λ t. take 1 (drop 40 t)) e ∙ letter_at l in
+    let l = file_system w.0 w.1 in
+    let here : letter ≡ l ∷ [] = at ∙ ap (λ t. take 1 (drop 40 t)) e ∙ letter_at w.0 w.1 in
     sym (planned_back w some) ∙ sym (ap (λ x. (not x, not b)) (is_letter a letter l 69 here gps) ∙ ap (λ x. (not (l == 69), not x)) (is_letter b letter l 71 here galileo))
 
 pub letters_differ : (a b : Bool) (letter : List ℕ) → (IsTrue a ↔ (letter ≡ 69 ∷ [])) → (IsTrue b ↔ (letter ≡ 71 ∷ [])) → (not a || not b) ≡ true
@@ -200,12 +190,6 @@ types_in h s r less = rows_when h (Types s r) true (is_lt r (type_rows (length (
 
 -- ---- the systems
 
-same_letter : (a b : Bool) → (if a then 69 else (if b then 71 else 77)) ≡ letter_with (not a) (not b)
-same_letter a b = grind arith
-
-pub version_same : (p : PlanValue) → version_line p ≡ version_with (is_some_planned p.gps) (is_some_planned p.galileo)
-version_same p = grind (arith, same_letter)
-
 either_planned : (a b : ℕ) → 0 < a + b → (not (a == 0) || not (b == 0)) ≡ true
 either_planned a b some = grind (arith, nat_tests)
 
@@ -237,7 +221,7 @@ module _ {h g : Shown} (a : IsShown h) (b : IsShown g) where
   systems_same e = by where
     same : systems_of h ≡ systems_of g
     same = version_determines (version_line g.plan) (systems_of g) (systems_of h)
-        (some_in g b) (some_in h a) (version_same g.plan) (sym (single (version_line h.plan) (version_line g.plan) e) ∙ version_same h.plan)
+        (some_in g b) (some_in h a) refl (sym (single (version_line h.plan) (version_line g.plan) e))
 
     by : (s : System) → is_some_planned (planned_of s h.plan) ≡ is_some_planned (planned_of s g.plan)
     by Gps = ap (λ (p : Bool × Bool). p.0) same

@@ -1,6 +1,6 @@
 -- What is known after each line of a header.
 use Rattle.rinex_file.specs.Read.HeaderSteps.{AreBegun}
-use Rattle.rinex_file.proofs.HeaderRows.Agree.{agree_count, agree_types, signals_same, less_or, types_in, types_row, types_low, types_high, types_shown, rows_when, version_same, some_in, shift_far}
+use Rattle.rinex_file.proofs.HeaderRows.Agree.{agree_count, agree_types, signals_same, less_or, types_in, types_row, types_low, types_high, types_shown, rows_when, some_in, shift_far}
 use Rattle.rinex_file.proofs.HeaderRows.Steps.{follows, other, either_system, far_other, still_read, with_is, IsOutside, outside_low, outside_high, reads_next, present, unread}
 use Rattle.rinex_file.proofs.HeaderRows.Texts.{same_line, kept_texts, SameTexts, text_low}
 use Rattle.rinex_file.proofs.PlainTexts.{both}
@@ -283,8 +283,7 @@ unfolding row_line
 line_version k gps galileo line r rows known = record {
   plans = λ p may. record { is = may.is; each = before p may };
   before = λ p. refl;
-  shows = λ p may. ap (λ l. l ∷ []) (version_same p
-      ∙ ap (λ g. version_with g (is_some_planned p.galileo)) (sym ((may.each Gps).planned r.0)) ∙ ap (λ g. version_with gps g) (sym ((may.each Galileo).planned r.0)) ∙ sym r.1);
+  shows = λ p may. ap (λ l. l ∷ []) (ap₂ version_with (sym ((may.each Gps).planned r.0)) (sym ((may.each Galileo).planned r.0)) ∙ sym r.1);
   reads = record { systems = λ l. r.0; fresh = λ e. absurd (omega (arith, e)); each = each; only = λ l. absurd (omega (arith, l)) };
 } where
   before : (p : PlanValue) → MayPlan (with_systems k gps galileo) p → (s : System) → MayBeAll (k.gps.planned || k.galileo.planned) (announced k s) (planned_of s k.shown.plan) (planned_of s p)
@@ -297,4 +296,4 @@ line_version k gps galileo line r rows known = record {
 
 pub refuse_version : (line : List ℕ) → Systems line None → RefusesHeaderLine Version line
 unfolding row_line
-refuse_version line r h is e = r (is_some_planned h.plan.gps, is_some_planned h.plan.galileo) (some_in h is) (sym e ∙ version_same h.plan)
+refuse_version line r h is e = r (is_some_planned h.plan.gps, is_some_planned h.plan.galileo) (some_in h is) (sym e)

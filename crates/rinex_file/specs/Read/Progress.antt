@@ -1,7 +1,7 @@
 -- What is known of a file while it is read line by line, and which files are still possible.
-use Rattle.std.specs.Prelude.{◌≡◌, ℕ, ◌+◌, ◌-◌, ◌*◌, ◌/◌, ◌<◌, ◌≤◌, ◌==◌, ◌||◌, ◌↔◌, not, true, false, min, Bool}
-use Rattle.std.specs.Prelude.{List, [], ◌∷◌, ◌++◌, length, take, drop, map, All, replicate, codes, pos, nat_eq}
-use Rattle.std.specs.Prelude.{if◌then◌else◌, flat_map, Option, Some, None, ⊤}
+use Rattle.std.specs.Prelude.{◌≡◌, ℕ, ◌+◌, ◌-◌, ◌*◌, ◌/◌, ◌<◌, ◌≤◌, ◌||◌, ◌↔◌, true, false, min, Bool}
+use Rattle.std.specs.Prelude.{List, [], ◌∷◌, ◌++◌, length, take, drop, map, All, nat_eq}
+use Rattle.std.specs.Prelude.{flat_map, Option, Some, None, ⊤}
 use Rattle.gnss_obs.specs.declared.system.System.{System}
 use Rattle.gnss_obs.specs.declared.cell.StationValues.{StationValues}
 use Rattle.gnss_obs.specs.Values.{PlanValue, planned_of}
@@ -16,10 +16,9 @@ use Rattle.rinex_file.specs.Value.{SatelliteRow, Stamped, FileValue}
 use Rattle.gnss_obs.specs.GatheredEpochs.{IsCoordinate}
 use Rattle.rinex_file.specs.FileValues.{AreTexts, IsPlan, AreValues, IsTime, IsFileValue, of_system}
 use Rattle.rinex_file.specs.Header.{row_line, row_lines, lines_from, all_rows, row_count, row_place, first_types}
-use Rattle.rinex_file.specs.Header.{first_line, header_line, type_line, types_of, codes_of}
+use Rattle.rinex_file.specs.Header.{first_line, is_some_planned, type_line, types_of, codes_of}
 use Rattle.rinex_file.specs.Limits.{types_in_line}
 use Rattle.rinex_file.specs.Lines.{satellite_line, letter_of}
-use Rattle.rinex_file.specs.Numbers.{joined, left, right, fixed}
 use Rattle.gnss_obs.specs.Signals.{table}
 use Rattle.std.specs.List.{IsDistinct}
 use Rattle.rinex_file.specs.File.{stamped_lines, file_lines}
@@ -70,19 +69,7 @@ pub record Known : Type 0 where
 abbrev pub announced : Known → System → Announced
 announced k system = of_system system k.gps k.galileo
 
--- some signal is planned
-abbrev pub is_some_planned : List ℕ → Bool
-is_some_planned signals = not (length signals == 0)
-
 -- ---- signals
-
--- the first line of a file in which these systems are planned
-abbrev pub version_with : Bool → Bool → List ℕ
-version_with gps galileo = header_line
-    (joined
-    (right 9 (fixed 2 (pos 305)) ∷ replicate 11 32 ∷ left 20 (codes "OBSERVATION DATA")
-    ∷ ((if gps then (if galileo then 77 else 71) else 69) ∷ []) ∷ []))
-    (codes "RINEX VERSION / TYPE")
 
 -- signals of a system: listed, none of them twice, and at least one
 pub record AreTypes (system : System) (all : List ℕ) : Type 0 where

@@ -2,8 +2,7 @@
 ghost use Rattle.std.specs.Prelude.{◌≡◌, ◌+◌, ◌≤◌, length};
 ghost use Rattle.gnss_obs.specs.Dates.{civil_of};
 ghost use Rattle.rinex_file.specs.Header.{header_line, lengths, texts_line, position_line, delta_line};
-ghost use Rattle.rinex_file.specs.Header.{first_line};
-ghost use Rattle.rinex_file.specs.Read.Progress.{version_with};
+ghost use Rattle.rinex_file.specs.Header.{first_line, version_with};
 
 use crate::header::fields::TextRow;
 use crate::header::texts::HeaderTexts;

@@ -2,10 +2,10 @@
 ghost use Rattle.std.specs.Prelude.{◌≡◌, ◌↔◌, ◌+◌, ◌≤◌, ◌<◌, ◌^◌, ◌||◌, IsTrue, Bool, true};
 ghost use Rattle.std.specs.Prelude.{length, take, drop};
 ghost use Rattle.gnss_obs.specs.GatheredEpochs.{IsCoordinate};
-ghost use Rattle.rinex_file.specs.Header.{header_line, height_line, position_line};
+ghost use Rattle.rinex_file.specs.Header.{header_line, height_line, position_line, version_with};
 ghost use Rattle.rinex_file.specs.Read.Fields.{number_in, ReadsExactly};
 ghost use Rattle.rinex_file.specs.Read.HeaderSteps.{ReadsOrRefusesTexts};
-ghost use Rattle.rinex_file.specs.Read.Progress.{IsPosition, version_with};
+ghost use Rattle.rinex_file.specs.Read.Progress.{IsPosition};
 
 use crate::header::fields::TextRow;
 use crate::header::lines::{

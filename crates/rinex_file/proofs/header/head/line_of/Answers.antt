@@ -1,14 +1,11 @@
 -- Each row's line is the one that the row's own function makes; a row that has no line for this plan has none here.
-use Rattle.rinex_file.proofs.HeaderRows.Agree.{version_same}
+use Rattle.rinex_file.proofs.HeaderRows.Agree.{planned_is}
 use Rattle.rinex_file.proofs.HeaderRows.Types.{length-system_types}
-use Rattle.rinex_file.proofs.Names.{arith, ◌≡◌, ◌∙◌, sym, ap, ℕ, [], ◌∷◌, length, codes, nat_lt, not, ◌==◌, PlanValue, civil_of, row_line, header_line, version_line, version_with, ◌++◌, ◌*◌, indices, length_indices, few_signals, letter_of, type_front, type_columns, type_line, types_of, codes_of}
+use Rattle.rinex_file.proofs.Names.{◌≡◌, ◌∙◌, sym, ap, ap₂, ℕ, [], ◌∷◌, length, codes, nat_lt, PlanValue, civil_of, row_line, header_line, version_line, version_with, ◌++◌, ◌*◌, indices, length_indices, few_signals, letter_of, type_front, type_columns, type_line, types_of, codes_of}
 use Rattle.rinex_file.proofs.header.head.line_of.Goals as goal
 
-some_test : (n : ℕ) → nat_lt 0 n ≡ not (n == 0)
-some_test n = grind arith
-
 version_of : (p : PlanValue) (gps galileo : ℕ) → gps ≡ length p.gps → galileo ≡ length p.galileo → version_with (nat_lt 0 gps) (nat_lt 0 galileo) ≡ version_line p
-version_of p gps galileo g e = rw (g, e, some_test (length p.gps), some_test (length p.galileo)) (sym (version_same p))
+version_of p gps galileo g e = ap₂ version_with (ap (nat_lt 0) g ∙ planned_is p.gps) (ap (nat_lt 0) e ∙ planned_is p.galileo)
 
 pub returns-in-Version : goal.returns-in-Version
 unfolding row_line
