@@ -1,5 +1,6 @@
 -- The largest sizes of a line of a file and of its parts.
-use Rattle.std.specs.Prelude.{ℕ}
+use Rattle.std.specs.Prelude.{ℕ, ◌+◌, ◌*◌}
+use Rattle.gnss_obs.specs.Signals.{most_signals}
 
 -- a value: F14.3 plus the LLI and SSI columns
 abbrev pub value_columns : ℕ
@@ -8,10 +9,6 @@ value_columns = 16
 -- a signal: pseudorange, phase, Doppler shift and strength
 abbrev pub signal_columns : ℕ
 signal_columns = 64
-
--- the largest number of signals of a system: those of Galileo
-abbrev pub most_signals : ℕ
-most_signals = 19
 
 -- a header line: its content, and the label after it
 abbrev pub content_columns : ℕ
@@ -26,4 +23,4 @@ types_in_line = 13
 
 -- a line with its line feed: three columns for a satellite, and those of its signals
 abbrev pub most_line : ℕ
-most_line = 1220
+most_line = 3 + signal_columns * most_signals + 1

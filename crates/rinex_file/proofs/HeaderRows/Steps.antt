@@ -216,9 +216,9 @@ pub far_other : (s : System) (row : ℕ) → row < most_type_rows → first_type
 far_other Gps row less more few = omega (arith, less, more)
 far_other Galileo row less more few = omega (arith, few)
 
--- a row of types has a number below six
+-- a row of types has a number below `most_type_rows`
 abbrev is_row : HeaderRow → Bool
-is_row (Types s part) = nat_lt part 6
+is_row (Types s part) = nat_lt part most_type_rows
 is_row other = true
 
 are_rows : (n : ℕ) → n < row_count → is_row (row_at n) ≡ true

@@ -2,6 +2,7 @@
 ghost use Rattle.std.specs.Prelude.{◌≡◌, ◌<◌, ◌≤◌, length};
 ghost use Rattle.rinex_file.specs.Texts.{field_name, fields_of, front_of, label_of, place_of, text_count};
 ghost use Rattle.rinex_file.specs.Texts.{width_of};
+ghost use Rattle.rinex_file.specs.Limits.{label_columns};
 
 use HeaderField::*;
 use std::fmt::{self, Debug, Formatter, Write};
@@ -119,7 +120,7 @@ impl TextRow {
     /// Returns the label, in columns 61 to 80.
     pub(crate) fn label(self) -> &'static [u8]
         ensures value { result.now ≡ label_of self }
-        ensures bound { length result.now ≤ 20 }
+        ensures bound { length result.now ≤ label_columns }
     {
         ROWS[self as usize].0
     }

@@ -3,11 +3,18 @@ ghost use Rattle.std.specs.Prelude.{◌≡◌, ◌+◌, ◌≤◌, length};
 ghost use Rattle.gnss_obs.specs.Dates.{civil_of};
 ghost use Rattle.rinex_file.specs.Header.{header_line, lengths, texts_line, position_line, delta_line};
 ghost use Rattle.rinex_file.specs.Header.{first_line, version_with};
+ghost use Rattle.rinex_file.specs.Limits.{label_columns};
 
 use crate::header::fields::TextRow;
 use crate::header::texts::HeaderTexts;
 use crate::write::line::{Line, put, put_fixed, put_left, put_seconds, put_whole};
 use gnss_obs::{GpsTime, StationValues};
+
+/// Width of the content of a line, in columns.
+pub(crate) const CONTENT_COLUMNS: usize = 60;
+
+/// Width of the label after it, in columns.
+const LABEL_COLUMNS: usize = 20;
 
 // The labels, in columns 61 to 80, of the rows that are read and written by `labelled`.
 
@@ -30,15 +37,15 @@ pub(crate) fn labelled(content: &[u8], label: &[u8]) -> Line
     ensures { result.items ≡ header_line content.now label.now }
 {
     let mut line = Line::new();
-    put_left(&mut line, 60, content);
-    put_left(&mut line, 20, label);
+    put_left(&mut line, CONTENT_COLUMNS, content);
+    put_left(&mut line, LABEL_COLUMNS, label);
     line.push(b'\n');
     line
 }
 
 /// Returns a line with three lengths, which are given in 0.0001 m and written as F14.4.
 pub(crate) fn three_lengths(a: i64, b: i64, c: i64, label: &[u8]) -> Line
-    requires { length label.now ≤ 20 }
+    requires { length label.now ≤ label_columns }
     ensures { result.items ≡ header_line (lengths a b c) label.now }
 {
     let mut content = Line::new();

@@ -7,9 +7,11 @@ ghost use Rattle.rinex_file.specs.Texts.{fields, text_of, text_count, place_of, 
 ghost use Rattle.rinex_file.specs.Texts.{trimmed_texts, is_printable};
 ghost use Rattle.rinex_file.specs.TextsOf.{lists_of};
 ghost use Rattle.rinex_file.specs.FileValues.{AreTexts};
+ghost use Rattle.rinex_file.specs.Limits.{content_columns};
 
 use crate::header::fault::HeadFault;
 use crate::header::fields::HeaderField;
+use crate::header::lines::CONTENT_COLUMNS;
 use crate::write::line::put;
 use crate::write::satellite::trimmed_len;
 use arrayvec::ArrayVec;
@@ -45,7 +47,7 @@ pub struct Texts<'a> {
 /// The texts of a header: each printable, within its columns, and without trailing blanks.
 #[derive(Drop)]
 pub struct HeaderTexts {
-    texts: [ArrayVec<u8, 60>; HeaderField::ALL.len()],
+    texts: [ArrayVec<u8, CONTENT_COLUMNS>; HeaderField::ALL.len()],
 }
 
 impl Model for HeaderTexts {
@@ -146,7 +148,7 @@ impl HeaderTexts {
     /// Returns the bytes of a text, at most 60, without trailing blanks.
     pub fn text(&self, field: HeaderField) -> &[u8]
         ensures value { result.now ≡ text_of self.now field }
-        ensures bound { length result.now ≤ 60 }
+        ensures bound { length result.now ≤ content_columns }
     {
         self.texts[field.place()].as_slice()
     }

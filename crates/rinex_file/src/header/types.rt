@@ -5,7 +5,7 @@ ghost use Rattle.gnss_obs.specs.Signals.{table, code_of};
 ghost use Rattle.gnss_obs.specs.SignalLists.{indices, IsOf};
 ghost use Rattle.rinex_file.specs.Lines.{letter_of};
 ghost use Rattle.rinex_file.specs.Header.{header_line, type_front, type_columns, type_rows, types_of};
-ghost use Rattle.rinex_file.specs.Header.{codes_of, type_of};
+ghost use Rattle.rinex_file.specs.Header.{codes_of, most_type_rows, type_of};
 ghost use Rattle.rinex_file.specs.Limits.{most_line};
 
 use crate::header::lines::labelled;
@@ -56,7 +56,7 @@ fn put_type(content: &mut Line, signal: Signal, kind: usize)
 /// Appends the types of a line, up to the last type of these signals.
 fn put_types(content: &mut Line, system: System, signals: &[Signal], row: usize)
     requires of { IsOf system signals.now }
-    requires row { row ≤ 5 }
+    requires row { row < most_type_rows }
     requires room { array_vec_len content.old ≤ 100 }
     ensures text { content.new.items ≡ content.old.items
         ++ type_columns (types_of (codes_of system (indices signals.now))) row }

@@ -3,6 +3,7 @@ ghost use Rattle.std.specs.Prelude.{◌≡◌, ◌↔◌, ℕ, ◌+◌, ◌*◌,
 ghost use Rattle.std.specs.Prelude.{length, pos, None, IfSome, IsTrue};
 ghost use Rattle.arrayvec.specs.ArrayVec.{array_vec_len};
 ghost use Rattle.gnss_obs.specs.declared.system.System.{System};
+ghost use Rattle.gnss_obs.specs.Signals.{most_signals};
 ghost use Rattle.rinex_file.specs.FileValues.{IsFrom, AreSignalValues, IsSatelliteRow};
 ghost use Rattle.rinex_file.specs.Blanks.{IsEnded, filled_to};
 ghost use Rattle.rinex_file.specs.Lines.{satellite_line, signal_text, lli_byte};
@@ -10,7 +11,7 @@ ghost use Rattle.rinex_file.specs.Numbers.{padded};
 ghost use Rattle.rinex_file.specs.Value.{no_signal_values};
 ghost use Rattle.rinex_file.specs.Read.Fields.{ReadsExactly, some_if};
 ghost use Rattle.rinex_file.specs.Read.Row.{AreEntries, IsRowOf, signal_from, last_signal};
-ghost use Rattle.rinex_file.specs.Limits.{signal_columns, most_signals};
+ghost use Rattle.rinex_file.specs.Limits.{signal_columns};
 
 use crate::read::fields::{field_in, is_blank_at};
 use crate::values::{SatelliteRow, SignalValues};

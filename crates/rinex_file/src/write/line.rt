@@ -5,6 +5,7 @@ ghost use Rattle.arrayvec.specs.ArrayVec.{array_vec_len};
 ghost use Rattle.rinex_file.specs.Limits.{most_line};
 
 use arrayvec::ArrayVec;
+use gnss_obs::GALILEO_SIGNAL_COUNT;
 use itoa::Buffer;
 
 /// Width of a value field, in columns: F14.3 plus the LLI and SSI columns.
@@ -14,11 +15,11 @@ pub(crate) const VALUE_COLUMNS: usize = 16;
 pub(crate) const SIGNAL_COLUMNS: usize = 64;
 
 /// Largest number of signals of a system: those of Galileo.
-pub(crate) const MOST_SIGNALS: usize = 19;
+pub(crate) const MOST_SIGNALS: usize = GALILEO_SIGNAL_COUNT;
 
 /// Largest size of a line with its line feed, in bytes: three columns for a satellite, and
 /// those of its signals.
-pub(crate) const MOST_LINE: usize = 1220;
+pub(crate) const MOST_LINE: usize = 3 + SIGNAL_COLUMNS * MOST_SIGNALS + 1;
 
 /// A line of a file, its line feed included: at most 1,220 bytes.
 pub type Line = ArrayVec<u8, MOST_LINE>;

@@ -2,6 +2,7 @@
 ghost use Rattle.std.specs.Prelude.{◌≡◌, ◌≤◌, ◌<◌, ◌++◌, ℕ, [], ◌∷◌, length, take, All, List, IfSome, Some};
 ghost use Rattle.std.specs.Prelude.{◌-◌, replicate, slice_set};
 ghost use Rattle.gnss_obs.specs.declared.cell.Cell.{Cell};
+ghost use Rattle.gnss_obs.specs.Signals.{most_signals};
 ghost use Rattle.gnss_obs.specs.Values.{AreHeld};
 ghost use Rattle.rinex_file.specs.FileValues.{FitsColumns, HaveRoom};
 ghost use Rattle.rinex_file.specs.Value.{signal_values_of, satellite_row, row_among, row_in_epoch};
@@ -9,7 +10,7 @@ ghost use Rattle.rinex_file.specs.Numbers.{padded};
 ghost use Rattle.rinex_file.specs.Blanks.{trimmed};
 ghost use Rattle.rinex_file.specs.Lines.{field, lli_byte, strength_byte, signal_text, letter_of, satellite_line};
 ghost use Rattle.rinex_file.specs.Rows.{HasSignals};
-ghost use Rattle.rinex_file.specs.Limits.{most_line, signal_columns, value_columns, most_signals};
+ghost use Rattle.rinex_file.specs.Limits.{most_line, signal_columns, value_columns};
 
 use crate::values::SignalValues;
 use crate::write::digits::columns_of;
