@@ -3,7 +3,8 @@ ghost use Rattle.std.specs.Prelude.{◌≡◌, ◌<◌};
 ghost use Rattle.rinex_file.specs.Header.{row_at, row_count};
 
 use crate::header::fields::TextRow::{self, *};
-use gnss_obs::System;
+use HeaderRow::*;
+use gnss_obs::System::{self, *};
 
 /// The content of the line of a row.
 #[derive(Clone, Copy)]
@@ -28,29 +29,43 @@ pub enum HeaderRow {
     End,
 }
 
-/// The rows of texts, in order.
-const TEXT_ROWS: [TextRow; 6] = [Program, Marker, MarkerType, Observer, Receiver, Antenna];
-
 /// The number of rows.
 pub(crate) const ROW_COUNT: usize = 26;
 
-/// Returns the row at an index, counted from 0. The signals of a system have at most six lines of
-/// types.
+/// The rows in order. The signals of a system have at most six lines of types.
+static ROWS: [HeaderRow; ROW_COUNT] = [
+    Version,
+    Texts(Program),
+    Texts(Marker),
+    Texts(MarkerType),
+    Texts(Observer),
+    Texts(Receiver),
+    Texts(Antenna),
+    Position,
+    Delta,
+    Types(Gps, 0),
+    Types(Gps, 1),
+    Types(Gps, 2),
+    Types(Gps, 3),
+    Types(Gps, 4),
+    Types(Gps, 5),
+    Types(Galileo, 0),
+    Types(Galileo, 1),
+    Types(Galileo, 2),
+    Types(Galileo, 3),
+    Types(Galileo, 4),
+    Types(Galileo, 5),
+    StrengthUnit,
+    First,
+    Shift(Gps),
+    Shift(Galileo),
+    End,
+];
+
+/// Returns the row at an index, counted from 0.
 pub(crate) fn row_at(place: usize) -> HeaderRow
     requires { place < row_count }
     ensures { result ≡ row_at place }
 {
-    match place {
-        0 => HeaderRow::Version,
-        1..=6 => HeaderRow::Texts(TEXT_ROWS[place - 1]),
-        7 => HeaderRow::Position,
-        8 => HeaderRow::Delta,
-        9..=14 => HeaderRow::Types(System::Gps, place - 9),
-        15..=20 => HeaderRow::Types(System::Galileo, place - 15),
-        21 => HeaderRow::StrengthUnit,
-        22 => HeaderRow::First,
-        23 => HeaderRow::Shift(System::Gps),
-        24 => HeaderRow::Shift(System::Galileo),
-        _ => HeaderRow::End,
-    }
+    ROWS[place]
 }
