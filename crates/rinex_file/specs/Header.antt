@@ -33,7 +33,7 @@ is_some_planned signals = not (length signals == 0)
 
 -- the letter of the systems that are planned: G, E, or M if both are
 abbrev pub file_system : Bool → Bool → ℕ
-file_system gps galileo = if gps then (if galileo then 77 else 71) else 69
+file_system gps galileo = if gps then (if galileo then 77 else letter_of Gps) else letter_of Galileo
 
 -- the fields of the first line of a file in which these systems are planned
 abbrev pub version_fields : Bool → Bool → List (List ℕ)

@@ -8,7 +8,7 @@ ghost use Rattle.rinex_file.specs.Limits.{label_columns};
 use crate::header::fields::TextRow;
 use crate::header::texts::HeaderTexts;
 use crate::write::line::{Line, put, put_fixed, put_left, put_seconds, put_whole};
-use gnss_obs::{GpsTime, StationValues};
+use gnss_obs::{GpsTime, StationValues, System};
 
 /// Width of the content of a line, in columns.
 pub(crate) const CONTENT_COLUMNS: usize = 60;
@@ -61,8 +61,8 @@ pub(crate) fn version_with(gps: bool, galileo: bool) -> Line
     ensures { result.items ≡ version_with gps galileo }
 {
     let letter = match (gps, galileo) {
-        (false, _) => b'E',
-        (true, false) => b'G',
+        (false, _) => System::Galileo.letter(),
+        (true, false) => System::Gps.letter(),
         (true, true) => b'M',
     };
     let mut content = Line::new();

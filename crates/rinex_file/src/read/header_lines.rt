@@ -13,7 +13,7 @@ use crate::header::lines::{
 };
 use crate::header::texts::HeaderTexts;
 use crate::read::numbers::{digits_in, is_same, signed};
-use gnss_obs::{GREATEST_COORDINATE, LEAST_COORDINATE, StationValues};
+use gnss_obs::{GREATEST_COORDINATE, LEAST_COORDINATE, StationValues, System};
 
 /// Returns up to `width` columns of a line, from column `from` on, counted from 0.
 pub(crate) fn columns(line: &[u8], from: usize, width: usize) -> &[u8]
@@ -31,8 +31,8 @@ pub(crate) fn read_version(line: &[u8]) -> Option<(bool, bool)>
         line.now result }
 {
     let letter = columns(line, 40, 1);
-    let gps = !is_same(letter, b"E");
-    let galileo = !is_same(letter, b"G");
+    let gps = !is_same(letter, &[System::Galileo.letter()]);
+    let galileo = !is_same(letter, &[System::Gps.letter()]);
     is_same(line, version_with(gps, galileo).as_slice()).then_some((gps, galileo))
 }
 
