@@ -56,8 +56,8 @@ pub use Rattle.rinex_file.specs.declared.header.fields.HeaderField.TheVariants.{
 pub use Rattle.rinex_file.specs.declared.header.fields.TextRow.{TextRow}
 pub use Rattle.rinex_file.specs.declared.header.rows.HeaderRow.{HeaderRow}
 pub use Rattle.rinex_file.specs.declared.header.rows.HeaderRow.TheVariants.{Delta, End, First, Position, Shift, StrengthUnit, Texts, Types, Version}
-pub use Rattle.rinex_file.specs.declared.read.expected.Added.{Added}
-pub use Rattle.rinex_file.specs.declared.read.expected.Added.TheVariants.{NoRow}
+pub use Rattle.rinex_file.specs.declared.read.expected.AddedRow.{AddedRow}
+pub use Rattle.rinex_file.specs.declared.read.expected.AddedRow.TheVariants.{NoRow}
 pub use Rattle.rinex_file.specs.declared.read.expected.Expected.{Expected}
 pub use Rattle.rinex_file.specs.declared.read.expected.Expected.TheVariants.{Epoch, EventEpoch, EventHeight, EventPosition, Header, Satellite}
 pub use Rattle.rinex_file.specs.declared.read.expected.Refusal.{Refusal}

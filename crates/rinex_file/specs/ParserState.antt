@@ -7,8 +7,8 @@ use Rattle.rinex_file.specs.declared.read.parser_state.ParserState.{ParserState}
 use Rattle.rinex_file.specs.declared.read.file.Counts.{Counts}
 use Rattle.rinex_file.specs.declared.read.times.EpochTimes.{EpochTimes}
 use Rattle.rinex_file.specs.Times.{AreTimesOrNone}
-use Rattle.rinex_file.specs.declared.read.expected.Added.{Added}
-use Rattle.rinex_file.specs.declared.read.expected.Added.TheVariants.{NoRow, OneRow, LastRow}
+use Rattle.rinex_file.specs.declared.read.expected.AddedRow.{AddedRow}
+use Rattle.rinex_file.specs.declared.read.expected.AddedRow.TheVariants.{NoRow, OneRow, LastRow}
 use Rattle.rinex_file.specs.declared.read.expected.Refusal.{Refusal}
 use Rattle.rinex_file.specs.declared.read.expected.Refusal.TheVariants.{Memory, Bad}
 use Rattle.rinex_file.specs.Value.{SatelliteRow, Stamped, FileValue}
@@ -67,17 +67,17 @@ stamped_at change time rows = record { change = change; time = time; rows = rows
 
 -- a history with one satellite more
 abbrev pub with_satellite : History → SatelliteRow → History
-with_satellite h seen = record { epochs = h.epochs; rows = h.rows ++ seen ∷ [] }
+with_satellite h row = record { epochs = h.epochs; rows = h.rows ++ row ∷ [] }
 
 -- a history in which the epoch that was begun, after this change and at this time, has all its satellites
-abbrev pub with_epoch : History → Option StationValues → ℕ → History
-with_epoch h change time = record { epochs = h.epochs ++ stamped_at change time h.rows ∷ []; rows = [] }
+abbrev pub with_whole_epoch : History → Option StationValues → ℕ → History
+with_whole_epoch h change time = record { epochs = h.epochs ++ stamped_at change time h.rows ∷ []; rows = [] }
 
 -- the history with what a line added
-abbrev pub with_line : Added → ParserState → History → History
+abbrev pub with_line : AddedRow → ParserState → History → History
 with_line NoRow c h = h
-with_line OneRow c h = with_satellite h c.seen
-with_line LastRow c h = with_epoch (with_satellite h c.seen) c.change c.time
+with_line OneRow c h = with_satellite h c.last_read
+with_line LastRow c h = with_whole_epoch (with_satellite h c.last_read) c.change c.time
 
 -- a file that has the line next has these lines left after it
 abbrev pub GoesOnWithLine : Progress → Progress → List ℕ → Type 0
@@ -98,14 +98,14 @@ HasRoom c lines = (c.counts.epochs ≤ lines) × (c.counts.satellites ≤ lines)
 
 -- a line was accepted: it may follow what was read, the state has the history with what the line adds, and no count grows
 -- by more than one
-pub record IsNext (old new : ParserState) (added : Added) (line : List ℕ) (h : History) : Type 0 where
+pub record IsNext (old new : ParserState) (added : AddedRow) (line : List ℕ) (h : History) : Type 0 where
   pub history : FollowsHistory new (with_line added new h)
   pub follows : GoesOnWithLine (progress_at old h) (progress_at new (with_line added new h)) line
   pub shows : ShowsLine (progress_at old h) (progress_at new (with_line added new h)) line
   pub room : (n : ℕ) → HasRoom old n → HasRoom new (n + 1)
 
 -- the result of a line
-abbrev pub TakesLine : ParserState → ParserState → List ℕ → Result Added Refusal → Type 0
+abbrev pub TakesLine : ParserState → ParserState → List ℕ → Result AddedRow Refusal → Type 0
 TakesLine old new line (Ok added) = (h : History) → FollowsHistory old h → IsNext old new added line h
 TakesLine old new line (Err Bad) = (h : History) → FollowsHistory old h → RefusesLine (progress_at old h) line
 TakesLine old new line (Err Memory) = ⊤

@@ -2,7 +2,7 @@
 use Rattle.rinex_file.specs.declared.read.fault.ReadFault.TheVariants.{Memory}
 use Rattle.rinex_file.proofs.Digits.Numbers.{has-append, lacks-append}
 use Rattle.rinex_file.proofs.Writing.Sent.{joined-append}
-use Rattle.rinex_file.proofs.Names.{arith, ◌≡◌, ◌∙◌, sym, ap, subst, refl, ℕ, zero, suc, ◌+◌, ◌-◌, ◌<◌, ◌≤◌, true, false, List, [], ◌∷◌, ◌++◌, length, take, drop, get_or, length-append, take-add, append_assoc, append-nil, Option, Some, None, IfSome, inl, inr, is_some, ◌||◌, ◌==◌, nat_eq, nat_lt, min, All, ⊤, Bool, Ok, Consumes, IsAtEnd, prepend_known, min-eq_left, min-eq_right, min-le_left, min-le_right, le-min, false_from_ne_true, or_parts, or_right, append_cancel_left, length-take-le, take-append-drop, length_push, drop-take, drop-drop, take-take, Consumes-nil, Consumes-trans, All-head, All-tail, All-push, has, LeavesRest, AreMoved, MovesBytes, IsLine, IsTextOf, NoFileBegins, IsCutShort, IsTooLong, IsFaulty, ExplainsFault, IsNoFault, most_lines, ParserState, Added, Reading, FileValue, IsFileValue, file_text, file_lines, History, with_line, GoesOnWithLine, ShowsLine, RefusesLine, ReadsNextLine, HasRead, IsWhole, IsTextOfOnly, file_at, IsTaken, FileBuilder, history_of, HasReadWhole, joined, ReadFault, Read, CutShort, TooLong, AreBegun, Progress, HasLinesLeft, AreLinesOf, HasReadLines}
+use Rattle.rinex_file.proofs.Names.{arith, ◌≡◌, ◌∙◌, sym, ap, subst, refl, ℕ, zero, suc, ◌+◌, ◌-◌, ◌<◌, ◌≤◌, true, false, List, [], ◌∷◌, ◌++◌, length, take, drop, get_or, length-append, take-add, append_assoc, append-nil, Option, Some, None, IfSome, inl, inr, is_some, ◌||◌, ◌==◌, nat_eq, nat_lt, min, All, ⊤, Bool, Ok, Consumes, IsAtEnd, prepend_known, min-eq_left, min-eq_right, min-le_left, min-le_right, le-min, false_from_ne_true, or_parts, or_right, append_cancel_left, length-take-le, take-append-drop, length_push, drop-take, drop-drop, take-take, Consumes-nil, Consumes-trans, All-head, All-tail, All-push, has, LeavesRest, AreMoved, MovesBytes, IsLine, IsTextOf, NoFileBegins, IsCutShort, IsTooLong, IsFaulty, ExplainsFault, IsNoFault, most_lines, ParserState, AddedRow, Reading, FileValue, IsFileValue, file_text, file_lines, History, with_line, GoesOnWithLine, ShowsLine, RefusesLine, ReadsNextLine, HasRead, IsWhole, IsTextOfOnly, file_at, IsTaken, FileBuilder, history_of, HasReadWhole, joined, ReadFault, Read, CutShort, TooLong, AreBegun, Progress, HasLinesLeft, AreLinesOf, HasReadLines}
 
 -- ---- bytes that are moved to a line
 
@@ -310,11 +310,11 @@ line_some bytes (body, is, endless) = let size = ap length is ∙ length-append 
 
 -- ---- a step, by its result
 
-pub added_more : (old new : Reading) (h : History) (input left : Option (List ℕ)) {o : Option Added} {added : Added} → o ≡ Some added → ReadsNextLine old new h input left (Ok o)
+pub added_more : (old new : Reading) (h : History) (input left : Option (List ℕ)) {o : Option AddedRow} {added : AddedRow} → o ≡ Some added → ReadsNextLine old new h input left (Ok o)
     → HasRead new (with_line added new.parser_state h) input left × (new.count ≡ old.count + 1)
-added_more old new h input left e goes = subst (λ (x : Option Added). ReadsNextLine old new h input left (Ok x)) e goes
+added_more old new h input left e goes = subst (λ (x : Option AddedRow). ReadsNextLine old new h input left (Ok x)) e goes
 
-pub the_end : (old new : Reading) (h : History) (input left : Option (List ℕ)) (o : Option Added) → is_some o ≡ false → ReadsNextLine old new h input left (Ok o) → IsWhole new.parser_state h input
+pub the_end : (old new : Reading) (h : History) (input left : Option (List ℕ)) (o : Option AddedRow) → is_some o ≡ false → ReadsNextLine old new h input left (Ok o) → IsWhole new.parser_state h input
 the_end old new h input left None none goes = goes
 the_end old new h input left (Some added) none goes = cc
 

@@ -102,14 +102,14 @@ pub record MayBeAll (is_begun : Bool) (a : Announced) (signals all : List ℕ) :
   pub count : 0 < a.count → a.count ≡ length all
   pub begins : signals ≡ take (length signals) all
 
--- the plan `p` has what was read of it
-pub record IsPlanOf (gps galileo : Announced) (plan p : PlanValue) : Type 0 where
+-- the plan `p` continues what was read of it
+pub record ContinuesPlan (gps galileo : Announced) (plan p : PlanValue) : Type 0 where
   pub is : IsPlan p
   pub each : (s : System)
       → MayBeAll (gps.planned || galileo.planned) (of_system s gps galileo) (planned_of s plan) (planned_of s p)
 
 abbrev pub MayPlan : Known → PlanValue → Type 0
-MayPlan k p = IsPlanOf k.gps k.galileo k.shown.plan p
+MayPlan k p = ContinuesPlan k.gps k.galileo k.shown.plan p
 
 -- the header that was read, with this plan
 abbrev pub shown_with : Known → PlanValue → Shown
@@ -238,7 +238,7 @@ begun_at s c t n = record s { expected = Satellite n; change = c; time = t }
 
 -- what was read after the line of a satellite, if n satellites are left
 abbrev pub with_row : Progress → SatelliteRow → ℕ → Progress
-with_row s seen n = record s { expected = Satellite n; rows = s.rows ++ seen ∷ [] }
+with_row s row n = record s { expected = Satellite n; rows = s.rows ++ row ∷ [] }
 
 -- what was read after the line of an epoch's last satellite
 abbrev pub with_epoch : Progress → Progress

@@ -1,7 +1,7 @@
 -- What a reading means for all the lines that it accepted.
 use Rattle.std.specs.Prelude.{◌≡◌, ℕ, ◌+◌, ◌≤◌, List, [], length, All, Option, Some, None, Result, Ok, Err, IfSome}
 use Rattle.std.specs.Io.KnownBytes.{Consumes, prepend_known}
-use Rattle.rinex_file.specs.declared.read.expected.Added.{Added}
+use Rattle.rinex_file.specs.declared.read.expected.AddedRow.{AddedRow}
 use Rattle.rinex_file.specs.declared.read.fault.ReadFault.{ReadFault}
 use Rattle.rinex_file.specs.declared.read.reading.Reading.{Reading}
 use Rattle.rinex_file.specs.declared.read.parser_state.ParserState.{ParserState}
@@ -50,15 +50,15 @@ pub record IsWhole (c : ParserState) (h : History) (input : Option (List ℕ)) :
   pub none : h.rows ≡ []
 
 -- the result of the next line: a history with what the line adds, and one line more; the end; or a fault
-abbrev pub ReadsNextLine : Reading → Reading → History → Option (List ℕ) → Option (List ℕ) → Result (Option Added) ReadFault
-    → Type 0
+abbrev pub ReadsNextLine : Reading → Reading → History → Option (List ℕ) → Option (List ℕ)
+    → Result (Option AddedRow) ReadFault → Type 0
 ReadsNextLine old new h input left (Ok (Some added)) =
     HasRead new (with_line added new.parser_state h) input left × (new.count ≡ old.count + 1)
 ReadsNextLine old new h input left (Ok None) = IsWhole new.parser_state h input
 ReadsNextLine old new h input left (Err fault) = IfSome input (λ bytes. ExplainsFault bytes fault)
 
 -- for every history that was read, the reading continues with the next line
-abbrev pub GoesOnReading : Reading → Option (List ℕ) → Reading → Option (List ℕ) → Result (Option Added) ReadFault
+abbrev pub GoesOnReading : Reading → Option (List ℕ) → Reading → Option (List ℕ) → Result (Option AddedRow) ReadFault
     → Type 0
 GoesOnReading old before new after result =
     (h : History) (input : Option (List ℕ)) → HasRead old h input before → ReadsNextLine old new h input after result

@@ -29,7 +29,7 @@ pub(crate) enum Refusal {
 
 /// What an accepted line adds to the epochs of a file.
 #[derive(Clone, Copy)]
-pub(crate) enum Added {
+pub(crate) enum AddedRow {
     /// Nothing: it is a line of the header or of an event, or begins an epoch.
     NoRow,
     /// A satellite of the epoch.

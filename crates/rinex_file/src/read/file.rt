@@ -9,7 +9,7 @@ ghost use Rattle.rinex_file.specs.ParserState.{FollowsHistory, nothing, with_lin
 ghost use Rattle.rinex_file.specs.Read.Steps.{file_at, HasRead};
 ghost use Rattle.rinex_file.specs.Read.Keeping.{history_of, HasReadWhole};
 
-use crate::read::expected::Added;
+use crate::read::expected::AddedRow;
 use crate::read::fault::ReadFault;
 use crate::read::head_so_far::HeadSoFar;
 use crate::read::parser_state::ParserState;
@@ -65,22 +65,22 @@ impl FileBuilder {
     /// Stores what a line added.
     pub(crate) fn keep(
         &mut self,
-        added: Added,
+        added: AddedRow,
         parser_state: &ParserState,
     ) -> Result<(), AllocError>
         ensures { OnOk result (history_of self.new ≡ with_line added parser_state.now (history_of self.old)) }
     {
-        if let Added::NoRow = added {
+        if let AddedRow::NoRow = added {
             return Ok(());
         }
-        let seen = &parser_state.seen;
-        let signal_values = Vec::from_slice(self.alloc, seen.signal_values.as_slice())?;
+        let row = &parser_state.last_read;
+        let signal_values = Vec::from_slice(self.alloc, row.signal_values.as_slice())?;
         self.rows.push(StoredRow {
-            system: seen.system,
-            satellite: seen.satellite,
+            system: row.system,
+            satellite: row.satellite,
             signal_values,
         })?;
-        if let Added::LastRow = added {
+        if let AddedRow::LastRow = added {
             let rows = mem::replace(&mut self.rows, Vec::new(self.alloc));
             self.epochs.push(StoredEpoch {
                 change: parser_state.change,
@@ -102,7 +102,7 @@ impl FileBuilder {
         let gps = head.types.gps.signals.as_slice();
         let galileo = head.types.galileo.signals.as_slice();
         let plan = Plan::from_signals(self.alloc, gps, galileo);
-        drop(parser_state.seen);
+        drop(parser_state.last_read);
         drop(head.types);
         drop(self.rows);
         let Ok(plan) = plan else {

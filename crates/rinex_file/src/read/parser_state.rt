@@ -11,12 +11,12 @@ ghost use Rattle.rinex_file.specs.ParserState.{nothing, progress_at};
 ghost use Rattle.rinex_file.specs.Read.Sound.{AreLinesOf, AreRead, MayBegin};
 
 use crate::read::epoch::read_epoch_line;
-use crate::read::expected::{Added, Expected, Refusal};
+use crate::read::expected::{AddedRow, Expected, Refusal};
 use crate::read::file::Counts;
 use crate::read::head_so_far::HeadSoFar;
 use crate::read::header_lines::{read_delta, read_position};
 use crate::read::numbers::is_same;
-use crate::read::row::read_seen;
+use crate::read::row::read_row;
 use crate::read::times::{EpochTimes, with_later};
 use crate::values::SatelliteRow;
 use crate::write::epoch::event_line;
@@ -37,16 +37,16 @@ pub(crate) struct ParserState {
     pub(crate) times: Option<EpochTimes>,
     pub(crate) values: Option<StationValues>,
     // The satellite that was read last, and its rank if it is of the epoch that was begun, or 0.
-    pub(crate) seen: SatelliteRow,
+    pub(crate) last_read: SatelliteRow,
     pub(crate) rank: u64,
     pub(crate) counts: Counts,
 }
 
 /// Returns a satellite's rank among all: those of GPS come first.
-fn rank_of(seen: &SatelliteRow) -> u64
-    ensures { result ≡ rank_of seen.now }
+fn rank_of(row: &SatelliteRow) -> u64
+    ensures { result ≡ rank_of row.now }
 {
-    100 * seen.system as u64 + seen.satellite as u64
+    100 * row.system as u64 + row.satellite as u64
 }
 
 impl ParserState {
@@ -66,7 +66,7 @@ impl ParserState {
             time,
             times: None,
             values: None,
-            seen: SatelliteRow {
+            last_read: SatelliteRow {
                 system: System::Gps,
                 satellite: 0,
                 signal_values: ArrayVec::new(),
@@ -77,7 +77,7 @@ impl ParserState {
     }
 
     /// Processes the next line; the buffer is for the line as it would be written.
-    pub(crate) fn take(&mut self, line: &[u8], again: &mut Line) -> Result<Added, Refusal>
+    pub(crate) fn take(&mut self, line: &[u8], again: &mut Line) -> Result<AddedRow, Refusal>
         requires history { (h : History) × FollowsHistory self.old h }
         requires room { HasRoom self.old (2 ^ 40) }
         ensures { TakesLine self.old self.new line.now result }
@@ -85,18 +85,18 @@ impl ParserState {
         match self.expected {
             Expected::Header(place) => {
                 self.expected = self.head.take(place, line)?;
-                Ok(Added::NoRow)
+                Ok(AddedRow::NoRow)
             }
             // No event precedes the first epoch.
             Expected::Epoch if self.counts.epochs > 0 && is_same(line, event_line()) => {
                 self.expected = Expected::EventPosition;
-                Ok(Added::NoRow)
+                Ok(AddedRow::NoRow)
             }
             Expected::Epoch => self.take_epoch(None, line, again),
             Expected::EventPosition => match read_position(line) {
                 Some(position) => {
                     self.expected = Expected::EventHeight(position);
-                    Ok(Added::NoRow)
+                    Ok(AddedRow::NoRow)
                 }
                 None => Err(Refusal::Bad),
             },
@@ -130,7 +130,7 @@ impl ParserState {
         change: Option<StationValues>,
         line: &[u8],
         again: &mut Line,
-    ) -> Result<Added, Refusal>
+    ) -> Result<AddedRow, Refusal>
         requires expected { self.old.expected ≡ epoch_after change }
         requires event { change ≡ None → (0 < self.old.counts.epochs) × (line.now ≡ event_line) → ⊥ }
         ensures { TakesLine self.old self.new line.now result }
@@ -140,7 +140,7 @@ impl ParserState {
                 self.change = change;
                 self.time = begun.0;
                 self.expected = Expected::Satellite(begun.1);
-                Ok(Added::NoRow)
+                Ok(AddedRow::NoRow)
             }
             _ => Err(Refusal::Bad),
         }
@@ -148,7 +148,7 @@ impl ParserState {
 
     /// Processes the height in an event, after this position. Refuses the line if neither differs
     /// from the current station values.
-    fn take_height(&mut self, position: StationValues, line: &[u8]) -> Result<Added, Refusal>
+    fn take_height(&mut self, position: StationValues, line: &[u8]) -> Result<AddedRow, Refusal>
         requires expected { self.old.expected ≡ Expected.EventHeight position }
         ensures { TakesLine self.old self.new line.now result }
     {
@@ -161,11 +161,11 @@ impl ParserState {
             return Err(Refusal::Bad);
         }
         self.expected = Expected::EventEpoch(values);
-        Ok(Added::NoRow)
+        Ok(AddedRow::NoRow)
     }
 
     /// Processes the line of a satellite, of which this number is left.
-    fn take_satellite(&mut self, left: usize, line: &[u8]) -> Result<Added, Refusal>
+    fn take_satellite(&mut self, left: usize, line: &[u8]) -> Result<AddedRow, Refusal>
         requires history { (h : History) × FollowsHistory self.old h }
         requires room { HasRoom self.old (2 ^ 40) }
         requires expected { self.old.expected ≡ Expected.Satellite left }
@@ -173,8 +173,8 @@ impl ParserState {
     {
         let gps = self.head.planned(System::Gps);
         let galileo = self.head.planned(System::Galileo);
-        let is_read = read_seen(line, gps, galileo, &mut self.seen);
-        let rank = rank_of(&self.seen);
+        let is_read = read_row(line, gps, galileo, &mut self.last_read);
+        let rank = rank_of(&self.last_read);
         if !is_read || rank <= self.rank {
             return Err(Refusal::Bad);
         }
@@ -182,7 +182,7 @@ impl ParserState {
         if left > 1 {
             self.rank = rank;
             self.expected = Expected::Satellite(left - 1);
-            return Ok(Added::OneRow);
+            return Ok(AddedRow::OneRow);
         }
         self.counts.epochs += 1;
         self.counts.events += self.change.is_some() as u64;
@@ -190,7 +190,7 @@ impl ParserState {
         self.times = Some(with_later(self.times, self.time));
         self.rank = 0;
         self.expected = Expected::Epoch;
-        Ok(Added::LastRow)
+        Ok(AddedRow::LastRow)
     }
 
     /// Returns whether the file may end here.

@@ -6,7 +6,7 @@ ghost use Rattle.rinex_file.specs.Blocks.{LeavesRest};
 ghost use Rattle.rinex_file.specs.ParserState.{History, nothing};
 ghost use Rattle.rinex_file.specs.Read.Steps.{GoesOnReading, HasRead};
 
-use crate::read::expected::{Added, Expected, Refusal};
+use crate::read::expected::{AddedRow, Expected, Refusal};
 use crate::read::fault::ReadFault;
 use crate::read::lines::{Found, Lines};
 use crate::read::parser_state::ParserState;
@@ -58,7 +58,7 @@ impl Reading {
     pub(crate) fn next<R: Read>(
         &mut self,
         reader: &mut Counted<R>,
-    ) -> Result<Option<Added>, ReadFault>
+    ) -> Result<Option<AddedRow>, ReadFault>
         requires { (h : History) × (input : Option (List ℕ)) × HasRead self.old h input (R.remaining reader.old.inner) }
         ensures goes { GoesOnReading self.old (R.remaining reader.old.inner) self.new (R.remaining reader.new.inner)
             result }

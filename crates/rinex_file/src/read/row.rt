@@ -173,9 +173,9 @@ fn is_ended(line: &[u8]) -> bool
 }
 
 /// Reads the satellite of this system in a line. Returns whether the line is that of one.
-fn read_of(line: &[u8], system: System, signals: usize, seen: &mut SatelliteRow) -> bool
+fn read_of(line: &[u8], system: System, signals: usize, row: &mut SatelliteRow) -> bool
     requires few { signals ≤ most_signals }
-    ensures { ReadsExactly (IsRowOf system signals) satellite_line line.now (some_if result seen.new) }
+    ensures { ReadsExactly (IsRowOf system signals) satellite_line line.now (some_if result row.new) }
 {
     if !is_ended(line) {
         return false;
@@ -190,26 +190,26 @@ fn read_of(line: &[u8], system: System, signals: usize, seen: &mut SatelliteRow)
     if text[0] != system.letter() || id == 0 || id > system.satellites() {
         return false;
     }
-    seen.system = system;
-    seen.satellite = id;
-    resize(&mut seen.signal_values, signals);
+    row.system = system;
+    row.satellite = id;
+    resize(&mut row.signal_values, signals);
     let columns = &text[3..];
     // Those of a signal that is not whole in the line, padded with blanks.
     let mut last = [b' '; SIGNAL_COLUMNS];
     let cut = &columns[SIGNAL_COLUMNS * (columns.len() / SIGNAL_COLUMNS)..];
     last[..cut.len()].copy_from_slice(cut);
-    put_each_in(columns, &last, seen.signal_values.as_mut_slice())
+    put_each_in(columns, &last, row.signal_values.as_mut_slice())
 }
 
 /// Reads the satellite in a line, given the number of planned signals of each system. Returns
 /// whether the line is that of a satellite.
-pub(crate) fn read_seen(line: &[u8], gps: usize, galileo: usize, seen: &mut SatelliteRow) -> bool
+pub(crate) fn read_row(line: &[u8], gps: usize, galileo: usize, row: &mut SatelliteRow) -> bool
     requires few { (gps ≤ most_signals) × (galileo ≤ most_signals) }
-    ensures { ReadsExactly (IsSatelliteRow gps galileo) satellite_line line.now (some_if result seen.new) }
+    ensures { ReadsExactly (IsSatelliteRow gps galileo) satellite_line line.now (some_if result row.new) }
 {
     match line.first() {
-        Some(b'G') => read_of(line, System::Gps, gps, seen),
-        Some(b'E') => read_of(line, System::Galileo, galileo, seen),
+        Some(b'G') => read_of(line, System::Gps, gps, row),
+        Some(b'E') => read_of(line, System::Galileo, galileo, row),
         _ => false,
     }
 }

@@ -87,7 +87,7 @@ fn put_doppler_and_strength(
 
 /// The values of a signal, borrowed, so that each is read when its columns are written.
 #[derive(Drop)]
-struct Shown<'a> {
+struct ValueRefs<'a> {
     c: &'a Option<Thousandths>,
     l: &'a Option<Thousandths>,
     d: &'a Option<Thousandths>,
@@ -95,7 +95,7 @@ struct Shown<'a> {
     lli: &'a u8,
 }
 
-impl<'a> Model for Shown<'a> {
+impl<'a> Model for ValueRefs<'a> {
     ghost use Rattle.rinex_file.specs.Value.{SignalValues};
 
     ghost Value = { SignalValues };
@@ -103,12 +103,12 @@ impl<'a> Model for Shown<'a> {
     ghost view = { λ v. record { c = v.c.now; l = v.l.now; d = v.d.now; s = v.s.now; lli = v.lli.now } };
 }
 
-impl<'a> Shown<'a> {
+impl<'a> ValueRefs<'a> {
     /// Returns the values of a cell.
-    fn of(cell: &'a Cell) -> Shown<'a>
+    fn of(cell: &'a Cell) -> ValueRefs<'a>
         ensures { result ≡ signal_values_of cell.now }
     {
-        Shown {
+        ValueRefs {
             c: &cell.c,
             l: &cell.l,
             d: &cell.d,
@@ -121,7 +121,7 @@ impl<'a> Shown<'a> {
 /// Writes the columns of a signal.
 #[inline(always)]
 #[tactic(auto, unfolding(crate::specs::Lines::signal_text))]
-fn put_signal(columns: &mut [u8], values: &Shown)
+fn put_signal(columns: &mut [u8], values: &ValueRefs)
     requires fits { HaveRoom values.now }
     requires room { length columns.old ≡ signal_columns }
     ensures text { columns.new ≡ signal_text values.now }
@@ -180,7 +180,7 @@ fn reach(row: &mut [u8; MOST_LINE], size: usize, end: usize) -> usize
 /// Writes the columns of the signal at this index into a row that has `size` columns. Returns their
 /// number then.
 #[inline(always)]
-fn put_columns(row: &mut [u8; MOST_LINE], size: usize, place: usize, values: &Shown) -> usize
+fn put_columns(row: &mut [u8; MOST_LINE], size: usize, place: usize, values: &ValueRefs) -> usize
     requires fits { HaveRoom values.now }
     requires few { place < most_signals }
     requires within { size < most_line }
@@ -234,7 +234,7 @@ pub(crate) fn put_satellite_line(
         if cell.satellite.id() == id
             && let Some(place) = plan.place_among(system, cell.signal)
         {
-            size = put_columns(row, size, place, &Shown::of(cell));
+            size = put_columns(row, size, place, &ValueRefs::of(cell));
         }
     }
     end_columns(row, size)
@@ -258,8 +258,8 @@ pub(crate) fn put_values(
     let mut size = 3;
     for value in values {
         let SignalValues { c, l, d, s, lli } = value;
-        let shown = Shown { c, l, d, s, lli };
-        put_signal(&mut row[size..size + SIGNAL_COLUMNS], &shown);
+        let refs = ValueRefs { c, l, d, s, lli };
+        put_signal(&mut row[size..size + SIGNAL_COLUMNS], &refs);
         size += SIGNAL_COLUMNS;
     }
     end_columns(row, size)

@@ -8,8 +8,8 @@ use Rattle.rinex_file.proofs.Names.{arith, ◌≡◌, ◌∙◌, ◌+◌, ◌-�
 use mir.Val.{bool_byte}
 use Rattle.rinex_file.proofs.read.parser_state.ParserState.take_satellite.Goals as goal
 
-pub read_seen-is_read-requires : goal.read_seen-is_read-requires
-read_seen-is_read-requires c =
+pub read_row-is_read-requires : goal.read_row-is_read-requires
+read_row-is_read-requires c =
     let (h, history) = c.requires.history in
     let (gps, galileo) = few_at (progress_at c.args.self.now h) c.args.left c.requires.expected history.sound in
     let g = c.planned-gps.ensures in
@@ -42,14 +42,14 @@ last_rank rows seen n same rise m some =
 pub returns-then-not-is_read : goal.returns-then-not-is_read
 returns-then-not-is_read c = λ h history.
     let s = progress_at c.args.self.now h in
-    let seen = c.read_seen-is_read.new.seen in
+    let seen = c.read_row-is_read.new.row in
     let (read, begun, some, room) = sound_open s c.args.left c.requires.expected history.sound in
     let one = one_expected c.args.left s c.requires.expected some in
     elim c.then-not-is_read.branch [
       | then-not-is_read-via-then-not-is_read w ↦
-          no_row s (c.args.left - 1) c.args.line.now one (shows c.args.line.now seen c.planned-gps.ensures c.planned-galileo.ensures w.if-not-is_read.true c.read_seen-is_read.ensures)
+          no_row s (c.args.left - 1) c.args.line.now one (shows c.args.line.now seen c.planned-gps.ensures c.planned-galileo.ensures w.if-not-is_read.true c.read_row-is_read.ensures)
       | then-not-is_read-via-else-not-is_read+then-rank-self w ↦
-          let shown = shows c.args.line.now seen c.planned-gps.ensures c.planned-galileo.ensures w.if-not-is_read.false c.read_seen-is_read.ensures in
+          let shown = shows c.args.line.now seen c.planned-gps.ensures c.planned-galileo.ensures w.if-not-is_read.false c.read_row-is_read.ensures in
           bad_row s (c.args.left - 1) c.args.line.now one seen shown.2
           (λ rise. let more = (increasing h.rows _ history.counted.rank shown.0 c.rank_of-rank.ensures).1 rise in omega (arith, more, w.if-rank-self.true))
     ]
@@ -79,9 +79,9 @@ event_counted es e n k one all = grind (arith, sum_by-append)
 pub returns-then-left-gt1 : goal.returns-then-left-gt1
 returns-then-left-gt1 c = λ h history.
     let s = progress_at c.args.self.now h in
-    let seen = c.read_seen-is_read.new.seen in
+    let seen = c.read_row-is_read.new.row in
     let (read, begun, some, room) = sound_open s c.args.left c.requires.expected history.sound in
-    let shown = shows c.args.line.now seen c.planned-gps.ensures c.planned-galileo.ensures c.if-not-is_read.false c.read_seen-is_read.ensures in
+    let shown = shows c.args.line.now seen c.planned-gps.ensures c.planned-galileo.ensures c.if-not-is_read.false c.read_row-is_read.ensures in
     let rise = (increasing h.rows _ history.counted.rank shown.0 c.rank_of-rank.ensures).0 c.if-rank-self.false in
     let more : 0 < c.args.left - 1 = let n = c.if-left-gt1.true in omega (arith, n) in
     record {
@@ -120,9 +120,9 @@ changed (Some v) b is = ap bool_byte is
 pub returns : goal.returns
 returns c = λ h history.
     let s = progress_at c.args.self.now h in
-    let seen = c.read_seen-is_read.new.seen in
+    let seen = c.read_row-is_read.new.row in
     let (read, begun, some, room) = sound_open s c.args.left c.requires.expected history.sound in
-    let shown = shows c.args.line.now seen c.planned-gps.ensures c.planned-galileo.ensures c.if-not-is_read.false c.read_seen-is_read.ensures in
+    let shown = shows c.args.line.now seen c.planned-gps.ensures c.planned-galileo.ensures c.if-not-is_read.false c.read_row-is_read.ensures in
     let rise = (increasing h.rows _ history.counted.rank shown.0 c.rank_of-rank.ensures).0 c.if-rank-self.false in
     let last : c.args.left ≡ suc 0 = let n = c.if-left-gt1.false in omega (arith, n, some) in
     let epoch = stamped_at c.args.self.now.change c.args.self.now.time (h.rows ++ seen ∷ []) in

@@ -1,6 +1,6 @@
 use Rattle.rinex_file.proofs.Rows.Sizes.{front_line}
 use Rattle.rinex_file.proofs.Names.{arith, ◌≡◌, ◌≢◌, ◌∙◌, sym, ap, refl, ℕ, ◌<◌, List, Option, Some, None, slice_get, option_copied, System, Gps, Galileo, Row, SatelliteRow, IsSatelliteRow, IsRow, of_system, satellite_line, letter_of, ReadsExactly, IsRowOf}
-use Rattle.rinex_file.proofs.read.row.read_seen.Goals as goal
+use Rattle.rinex_file.proofs.read.row.read_row.Goals as goal
 
 -- a row with a value has a signal
 has_signal : (most signals : ℕ) (r : Row) → IsRow most signals r → 0 < signals
