@@ -6,7 +6,7 @@ pub use Rattle.gnss_obs.proofs.PlanLemmas.{any_index, few_signals, indices-push,
 pub use Rattle.gnss_obs.specs.Dates.{IsCivilOf, civil_of}
 pub use Rattle.gnss_obs.specs.GatheredEpochs.{AreGathered, AreGatheredEpochs, AreStationValues, IsCoordinate, IsGathered, IsGatheredEpoch, TimesRise, same_place}
 pub use Rattle.gnss_obs.specs.Plans.{place_in}
-pub use Rattle.gnss_obs.specs.Satellites.{satellites}
+pub use Rattle.gnss_obs.specs.Satellites.{letter, satellites}
 pub use Rattle.gnss_obs.specs.SignalLists.{IsAdded, IsOf, indices}
 pub use Rattle.gnss_obs.specs.Signals.{IsSignal, SignalAt, code_of, signal_of_code, table}
 unfoldable pub use Rattle.gnss_obs.specs.Values.{written_among}
@@ -32,7 +32,7 @@ unfoldable pub use Rattle.rinex_file.specs.Header.{header_line, header_lines, ro
 pub use Rattle.rinex_file.specs.Header.{all_rows, codes_of, delta_line, end_line, file_system, first_line, first_types, most_type_rows, has_line, height_line, is_some_planned, lengths, lines_from, position_line, row_at, row_count, row_lines, row_place, strength_line, text_columns, texts_line, type_columns, type_front, type_line, type_of, type_rows, types_of, version_fields, version_line, version_with}
 pub use Rattle.rinex_file.specs.Limits.{most_line}
 unfoldable pub use Rattle.rinex_file.specs.Lines.{epoch_line, field, satellite_line, signal_text}
-pub use Rattle.rinex_file.specs.Lines.{epoch_fields, letter_of, lli_byte, row_text, strength_byte}
+pub use Rattle.rinex_file.specs.Lines.{epoch_fields, lli_byte, row_text, strength_byte}
 pub use Rattle.rinex_file.specs.Numbers.{fixed, joined, left, padded, right}
 pub use Rattle.rinex_file.specs.ParserState.{FollowsHistory, GoesOnWithLine, History, IsLast, IsNext, RefusesLine, ShowsLine, TakesLine, changes_of, events_in, nothing, progress_at, rows_in, stamped_at, with_line}
 pub use Rattle.rinex_file.specs.Read.Fields.{ReadsExactly, digits_from, digits_in, has, next_digit, number_in, some_if}

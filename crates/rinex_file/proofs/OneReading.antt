@@ -5,7 +5,7 @@ use Rattle.rinex_file.proofs.Digits.Padded.{two_digits}
 use Rattle.rinex_file.proofs.Fields.Lanes.{lane_is}
 use Rattle.rinex_file.proofs.HeaderRows.Texts.{trimmed-trimmed}
 use Rattle.rinex_file.proofs.Rows.Sizes.{length-value, length-field, length-room, length-signals, small_value, strength_fits, values_fit, all_values_fit, few_satellites, front_line}
-use Rattle.rinex_file.proofs.Names.{arith, ◌≡◌, ◌∙◌, sym, ap, ap₂, refl, subst, ℕ, zero, suc, ◌+◌, ◌-◌, ◌*◌, ◌/◌, ◌%◌, ◌<◌, ◌≤◌, List, [], ◌∷◌, ◌++◌, length, take, drop, replicate, get_or, ℤ, unsigned_abs, decimal, true, false, Option, Some, None, IfSome, flat_map, All, Bool, ◌||◌, is_negative, sign_text, take_at, drop_at, take_all, drop-drop, get_or_at, get_or-append-add, length_push, All-head, All-tail, take-append_seam, System, SignalValues, SatelliteRow, satellite_row, no_signal_values, FitsColumns, AreSignalValues, trimmed, filled_to, IsEnded, right, padded, fixed, field, signal_text, lli_byte, strength_byte, letter_of, row_text, satellite_line, has, number_in, ReadsExactly, IsRowOf, blanks}
+use Rattle.rinex_file.proofs.Names.{arith, ◌≡◌, ◌∙◌, sym, ap, ap₂, refl, subst, ℕ, zero, suc, ◌+◌, ◌-◌, ◌*◌, ◌/◌, ◌%◌, ◌<◌, ◌≤◌, List, [], ◌∷◌, ◌++◌, length, take, drop, replicate, get_or, ℤ, unsigned_abs, decimal, true, false, Option, Some, None, IfSome, flat_map, All, Bool, ◌||◌, is_negative, sign_text, take_at, drop_at, take_all, drop-drop, get_or_at, get_or-append-add, length_push, All-head, All-tail, take-append_seam, System, SignalValues, SatelliteRow, satellite_row, no_signal_values, FitsColumns, AreSignalValues, trimmed, filled_to, IsEnded, right, padded, fixed, field, signal_text, lli_byte, strength_byte, letter, row_text, satellite_line, has, number_in, ReadsExactly, IsRowOf, blanks}
 
 -- ---- a field
 
@@ -172,7 +172,7 @@ pub record IsTextOf (text : List ℕ) (signals : ℕ) (v : SatelliteRow) : Type 
   pub small : v.row.satellite < 100
   pub long : 3 ≤ length text
   pub short : length text ≤ 3 + 64 * signals
-  pub letter : get_or text 0 0 ≡ letter_of v.system
+  pub letter : get_or text 0 0 ≡ letter v.system
   pub number : get_or text 1 0 ∷ get_or text 2 0 ∷ [] ≡ padded 2 v.row.satellite
   pub columns : filled_to (64 * signals) (drop 3 text) ≡ flat_map signal_text v.row.signal_values
 
@@ -197,11 +197,11 @@ text_of_line system signals v line (same, is) e =
     let columns = flat_map signal_text v.row.signal_values in
     let id = v.row.satellite in
     let small : id < 100 = omega (arith, is.satellite.1, few_satellites system) in
-    let letter = letter_of v.system in
-    let text = letter ∷ (48 + id / 10) ∷ (48 + id % 10) ∷ trimmed columns in
+    let first = letter v.system in
+    let text = first ∷ (48 + id / 10) ∷ (48 + id % 10) ∷ trimmed columns in
     let size : length columns ≡ 64 * signals = length-signals v.row.signal_values (all_values_fit v.row.signal_values is.signal_values) ∙ ap (λ (n : ℕ). 64 * n) is.whole in
     let less = length-trimmed columns in
-    subst (λ (t : List ℕ). IsTextOf t signals v) (sym (feed_cut line text (e ∙ front_line v ∙ ap (λ t. letter ∷ (t ++ 10 ∷ [])) (three_kept id columns small)))) (record {
+    subst (λ (t : List ℕ). IsTextOf t signals v) (sym (feed_cut line text (e ∙ front_line v ∙ ap (λ t. first ∷ (t ++ 10 ∷ [])) (three_kept id columns small)))) (record {
       small = small;
       long = omega arith;
       short = omega (arith, size, less);
@@ -224,7 +224,7 @@ line_once system signals {v} {w} {line} is also e f =
 pub line_ended : (v : SatelliteRow) (line : List ℕ) → line ≡ satellite_line v → IsEnded line
 unfolding satellite_line
 line_ended v line e =
-    let text = row_text (letter_of v.system) v.row in
+    let text = row_text (letter v.system) v.row in
     let front = front_line v in
     (trimmed text, e, some (trimmed text) _ _ front, trimmed-trimmed text) where
       some : (text rest : List ℕ) (b : ℕ) → text ++ 10 ∷ [] ≡ b ∷ (rest ++ 10 ∷ []) → 0 < length text

@@ -1,6 +1,7 @@
 -- The lines of a header, RINEX 3.05, table A2: content in columns 1 to 60, the label from column 61 on.
 use Rattle.std.specs.Prelude.{ℕ, zero, suc, ℤ, pos, ◌+◌, ◌*◌, ◌/◌, ◌==◌, if◌then◌else◌, List, [], ◌∷◌, ◌++◌, length}
 use Rattle.std.specs.Prelude.{take, drop, map, flat_map, replicate, decimal, codes, get_or, Bool, true, not, nat_lt}
+use Rattle.gnss_obs.specs.Satellites.{letter}
 use Rattle.gnss_obs.specs.Signals.{code_of}
 use Rattle.gnss_obs.specs.declared.system.System.{System}
 use Rattle.gnss_obs.specs.declared.system.System.TheVariants.{Gps, Galileo}
@@ -15,7 +16,6 @@ use Rattle.rinex_file.specs.declared.header.rows.HeaderRow.TheVariants.{Strength
 use Rattle.rinex_file.specs.Numbers.{joined, left, right, fixed}
 use Rattle.rinex_file.specs.Limits.{content_columns, label_columns, types_in_line}
 use Rattle.rinex_file.specs.Texts.{HeaderLists, width_of, text_of, fields_of, text_rows, text_row_index, front_of, label_of}
-use Rattle.rinex_file.specs.Lines.{letter_of}
 
 -- content, label and a line feed
 unfoldable pub header_line : List ℕ → List ℕ → List ℕ
@@ -33,7 +33,7 @@ is_some_planned signals = not (length signals == 0)
 
 -- the letter of the systems that are planned: G, E, or M if both are
 abbrev pub file_system : Bool → Bool → ℕ
-file_system gps galileo = if gps then (if galileo then 77 else letter_of Gps) else letter_of Galileo
+file_system gps galileo = if gps then (if galileo then 77 else letter Gps) else letter Galileo
 
 -- the fields of the first line of a file in which these systems are planned
 abbrev pub version_fields : Bool → Bool → List (List ℕ)
@@ -78,16 +78,16 @@ types_of signals = flat_map (λ code. type_of 0 code ∷ type_of 1 code ∷ type
 
 -- the columns before the types of a line: on the first, the system's letter and the number of types
 abbrev pub type_front : ℕ → ℕ → ℕ → List ℕ
-type_front letter types zero = letter ∷ 32 ∷ 32 ∷ right 3 (decimal types)
-type_front letter types (suc line) = replicate 6 32
+type_front byte types zero = byte ∷ 32 ∷ 32 ∷ right 3 (decimal types)
+type_front byte types (suc line) = replicate 6 32
 
 -- the types in a line, each after a blank: 13 in a full line, and the rest in the last
 abbrev pub type_columns : List (List ℕ) → ℕ → List ℕ
 type_columns types line = flat_map (λ t. 32 ∷ t) (take types_in_line (drop (types_in_line * line) types))
 
 abbrev pub type_line : ℕ → List (List ℕ) → ℕ → List ℕ
-type_line letter types line =
-    header_line (type_front letter (length types) line ++ type_columns types line) (codes "SYS / # / OBS TYPES")
+type_line byte types line =
+    header_line (type_front byte (length types) line ++ type_columns types line) (codes "SYS / # / OBS TYPES")
 
 -- the number of lines that the types of a number of signals need; the last may not be full
 abbrev pub type_rows : ℕ → ℕ
@@ -98,7 +98,7 @@ codes_of system signals = map (λ index. code_of (record { system = system; inde
 
 -- the line of a system without phase shifts
 abbrev pub shift_line : System → List ℕ
-shift_line system = header_line (letter_of system ∷ []) (codes "SYS / PHASE SHIFT")
+shift_line system = header_line (letter system ∷ []) (codes "SYS / PHASE SHIFT")
 
 -- ---- units, time and end
 
@@ -126,7 +126,7 @@ row_line x p v t (Texts row) = texts_line x row
 row_line x p v t Position = position_line v
 row_line x p v t Delta = delta_line v
 row_line x p v t (Types system row) =
-    type_line (letter_of system) (types_of (codes_of system (planned_of system p))) row
+    type_line (letter system) (types_of (codes_of system (planned_of system p))) row
 row_line x p v t StrengthUnit = strength_line
 row_line x p v t First = first_line t
 row_line x p v t (Shift system) = shift_line system

@@ -3,7 +3,7 @@ use Rattle.std.specs.Prelude.{ℕ, ℤ, pos, ◌+◌, ◌*◌, ◌==◌, List, [
 use Rattle.std.specs.Prelude.{if◌then◌else◌, Option, Some, None}
 use Rattle.std.specs.Option.{option_map_or}
 use Rattle.gnss_obs.specs.Observables.{strength_digit}
-pub use Rattle.gnss_obs.specs.Satellites.{letter as letter_of}
+use Rattle.gnss_obs.specs.Satellites.{letter}
 use Rattle.gnss_obs.specs.declared.civil.Civil.{Civil}
 use Rattle.rinex_file.specs.Numbers.{joined, right, fixed, padded}
 use Rattle.rinex_file.specs.Blanks.{trimmed}
@@ -46,8 +46,8 @@ signal_text e =
 
 -- letter and number of a satellite, and the columns of its signals
 abbrev pub row_text : ℕ → Row → List ℕ
-row_text letter r = letter ∷ padded 2 r.satellite ++ flat_map signal_text r.signal_values
+row_text byte r = byte ∷ padded 2 r.satellite ++ flat_map signal_text r.signal_values
 
 -- the line of a satellite, without trailing blanks
 unfoldable pub satellite_line : SatelliteRow → List ℕ
-satellite_line s = trimmed (row_text (letter_of s.system) s.row) ++ 10 ∷ []
+satellite_line s = trimmed (row_text (letter s.system) s.row) ++ 10 ∷ []

@@ -7,7 +7,7 @@ use Rattle.rinex_file.proofs.Reading.Epochs.{few_signals_of}
 use Rattle.rinex_file.proofs.HeaderRows.Texts.{few_columns}
 use Rattle.rinex_file.proofs.HeaderRows.Types.{length-system_types}
 use Rattle.rinex_file.proofs.PlainTexts.{both, IsPlain, plain-wider, plain-append, plain-left, plain-right, plain-decimal, plain-fixed, plain, plain-flat_map, plain-joined, also, plain-text}
-use Rattle.rinex_file.proofs.Names.{arith, lit≤, lit<, ◌≡◌, ap, refl, subst, ℕ, zero, suc, ◌+◌, ◌*◌, ◌/◌, ◌%◌, ◌^◌, ◌<◌, ◌≤◌, ℤ, pos, unsigned_abs, Bool, true, false, List, [], ◌∷◌, ◌++◌, length, take, drop, decimal, get_or, append_assoc, length-append, ◌==◌, ◌||◌, ◌&&◌, not, if◌then◌else◌, nat_le, flat_map, All, codes, slice_get, AllByRecursion, list_all, option_map_or, cond_both, ints, length-take, All-nil, All-head, All-tail, All-cons, All-append, All-map, All-take, All-drop, All-replicate, code_of, System, StationValues, Civil, civil_of, PlanValue, planned_of, HeaderField, TextRow, HeaderRow, Version, Texts, Position, Delta, Types, StrengthUnit, First, Shift, End, IsLine, AreTexts, IsPlan, AreValues, IsTime, IsCoordinate, header_line, is_some_planned, version_fields, version_line, lengths, first_line, text_columns, texts_line, types_of, type_front, type_columns, type_line, codes_of, row_line, row_lines, has_line, all_rows, header_lines, position_line, delta_line, letter_of, joined, left, right, fixed, has, HeaderLists, width_of, text_of, fields_of, label_of, front_of, common_steps}
+use Rattle.rinex_file.proofs.Names.{arith, lit≤, lit<, ◌≡◌, ap, refl, subst, ℕ, zero, suc, ◌+◌, ◌*◌, ◌/◌, ◌%◌, ◌^◌, ◌<◌, ◌≤◌, ℤ, pos, unsigned_abs, Bool, true, false, List, [], ◌∷◌, ◌++◌, length, take, drop, decimal, get_or, append_assoc, length-append, ◌==◌, ◌||◌, ◌&&◌, not, if◌then◌else◌, nat_le, flat_map, All, codes, slice_get, AllByRecursion, list_all, option_map_or, cond_both, ints, length-take, All-nil, All-head, All-tail, All-cons, All-append, All-map, All-take, All-drop, All-replicate, code_of, System, StationValues, Civil, civil_of, PlanValue, planned_of, HeaderField, TextRow, HeaderRow, Version, Texts, Position, Delta, Types, StrengthUnit, First, Shift, End, IsLine, AreTexts, IsPlan, AreValues, IsTime, IsCoordinate, header_line, is_some_planned, version_fields, version_line, lengths, first_line, text_columns, texts_line, types_of, type_front, type_columns, type_line, codes_of, row_line, row_lines, has_line, all_rows, header_lines, position_line, delta_line, letter, joined, left, right, fixed, has, HeaderLists, width_of, text_of, fields_of, label_of, front_of, common_steps}
 
 -- ---- a line of a file
 
@@ -108,14 +108,14 @@ line_of_types letter types line other few are =
     (plain_columns (drop (13 * line) types) (All-drop (IsPlain 3) (13 * line) types are)))
     (plain 20 (codes "SYS / # / OBS TYPES") refl (lit≤ tt)) (lit≤ tt)
 
-pub no_letter : (system : System) → (letter_of system == 10) ≡ false
+pub no_letter : (system : System) → (letter system == 10) ≡ false
 no_letter system = grind arith
 
-one_of_types : (system : System) (signals : List ℕ) (row : ℕ) → length signals ≤ 19 → IsFileLine (type_line (letter_of system) (types_of (codes_of system signals)) row)
+one_of_types : (system : System) (signals : List ℕ) (row : ℕ) → length signals ≤ 19 → IsFileLine (type_line (letter system) (types_of (codes_of system signals)) row)
 one_of_types system signals row few =
     let types = types_of (codes_of system signals) in
     let count : length types ≡ 4 * length signals = length-system_types system signals in
-    line_of_types (letter_of system) types row (no_letter system) (omega (arith, count, few)) (types_are_plain (codes_of system signals)
+    line_of_types (letter system) types row (no_letter system) (omega (arith, count, few)) (types_are_plain (codes_of system signals)
     (All-map (IsPlain 2) (λ index. code_of (record { system = system; index = index })) signals (λ k d h. code_of_signal system (get_or signals k d))))
 
 -- ---- times
@@ -190,7 +190,7 @@ line_in {v} texts plan values time Delta = line_of_delta v values
 line_in {p} texts plan values time (Types s row) = one_of_types s (planned_of s p) row (few_signals_of p plan s)
 line_in texts plan values time StrengthUnit = header 4 (codes "DBHZ") (codes "SIGNAL STRENGTH UNIT") (record { clean = refl; short = lit≤ tt }) (plain 20 _ refl (lit≤ tt)) (lit≤ tt)
 line_in {t} texts plan values time First = line_of_first t time
-line_in texts plan values time (Shift s) = header 1 (letter_of s ∷ []) (codes "SYS / PHASE SHIFT") (plain 1 _ (ap (λ c. c || false) (no_letter s)) (lit≤ tt)) (plain 20 _ refl (lit≤ tt)) (lit≤ tt)
+line_in texts plan values time (Shift s) = header 1 (letter s ∷ []) (codes "SYS / PHASE SHIFT") (plain 1 _ (ap (λ c. c || false) (no_letter s)) (lit≤ tt)) (plain 20 _ refl (lit≤ tt)) (lit≤ tt)
 line_in texts plan values time End = header 0 [] (codes "END OF HEADER") (record { clean = refl; short = lit≤ tt }) (plain 20 _ refl (lit≤ tt)) (lit≤ tt)
 
 lines_of_rows : (x : HeaderLists) (p : PlanValue) (v : StationValues) (t : Civil) → ((r : HeaderRow) → IsFileLine (row_line x p v t r)) → (rows : List HeaderRow) → All IsFileLine (flat_map (row_lines x p v t) rows)

@@ -4,7 +4,7 @@ use Rattle.rinex_file.proofs.HeaderRows.Agree.{agree_count, agree_types, signals
 use Rattle.rinex_file.proofs.HeaderRows.Steps.{follows, other, either_system, far_other, still_read, with_is, IsOutside, outside_low, outside_high, reads_next, present, unread}
 use Rattle.rinex_file.proofs.HeaderRows.Texts.{same_line, kept_texts, SameTexts, text_low}
 use Rattle.rinex_file.proofs.PlainTexts.{both}
-use Rattle.rinex_file.proofs.Names.{arith, ◌≡◌, ◌∙◌, sym, ap, ap₂, refl, subst, ℕ, suc, ◌+◌, ◌-◌, ◌<◌, ◌≤◌, ◌==◌, Bool, true, false, List, [], ◌∷◌, length, take, min, ◌↔◌, ◌≢◌, lit≤, ◌^◌, map, get_or, Option, Some, None, IsTrue, nat_lt, codes, ◌||◌, nat_le, list_all, nat_tests, take-take, take-map, take_min, length-take, SignalAt, table, System, Gps, Galileo, is_less, indices, PlanValue, planned_of, civil_of, StationValues, length_indices, Types, Version, Texts, Position, Delta, StrengthUnit, First, Shift, row_line, has_line, first_types, most_type_rows, type_rows, position_line, row_place, header_line, height_line, first_line, strength_line, version_line, texts_line, Announced, Known, MayBeAll, MayPlan, AreTypesRead, IsHeadAt, announced, shown_with, shown_line, AreTypes, types_line, signals_begun, IsPosition, position_of, Shown, IsOnlyTime, HasReadRows, lines_before, version_with, is_some_planned, has_types, known_line, ReadsHeaderLine, NoneGoesOn, TakesTypes, RefusesTypes, with_types, RefusesHeaderLine, ReadsOrRefuses, ReadsTexts, RefusesTexts, with_texts, with_values, with_first, with_systems, TextRow, HeaderRow, HeaderLists, text_rows, text_row_index, fields_of, place_of, front_of, HeaderField, AntType, IsTime, letter_of, ReadsExactly, nil_from_length}
+use Rattle.rinex_file.proofs.Names.{arith, ◌≡◌, ◌∙◌, sym, ap, ap₂, refl, subst, ℕ, suc, ◌+◌, ◌-◌, ◌<◌, ◌≤◌, ◌==◌, Bool, true, false, List, [], ◌∷◌, length, take, min, ◌↔◌, ◌≢◌, lit≤, ◌^◌, map, get_or, Option, Some, None, IsTrue, nat_lt, codes, ◌||◌, nat_le, list_all, nat_tests, take-take, take-map, take_min, length-take, SignalAt, table, System, Gps, Galileo, is_less, indices, PlanValue, planned_of, civil_of, StationValues, length_indices, Types, Version, Texts, Position, Delta, StrengthUnit, First, Shift, row_line, has_line, first_types, most_type_rows, type_rows, position_line, row_place, header_line, height_line, first_line, strength_line, version_line, texts_line, Announced, Known, MayBeAll, MayPlan, AreTypesRead, IsHeadAt, announced, shown_with, shown_line, AreTypes, types_line, signals_begun, IsPosition, position_of, Shown, IsOnlyTime, HasReadRows, lines_before, version_with, is_some_planned, has_types, known_line, ReadsHeaderLine, NoneGoesOn, TakesTypes, RefusesTypes, with_types, RefusesHeaderLine, ReadsOrRefuses, ReadsTexts, RefusesTexts, with_texts, with_values, with_first, with_systems, TextRow, HeaderRow, HeaderLists, text_rows, text_row_index, fields_of, place_of, front_of, HeaderField, AntType, IsTime, letter, ReadsExactly, nil_from_length}
 
 -- ---- numbers of signals
 
@@ -255,10 +255,10 @@ pub line_unit : (k : Known) (line : List ℕ) (b : Bool) → (IsTrue b ↔ (line
 unfolding row_line
 line_unit k line b is = line_fixed StrengthUnit k b (λ h. refl) (lit≤ tt) (λ e. absurd (omega (arith, e))) is
 
-pub line_shift : (system : System) (letter : ℕ) (k : Known) (line : List ℕ) (b : Bool) → letter ≡ letter_of system
-    → (IsTrue b ↔ (line ≡ header_line (letter ∷ []) (codes "SYS / PHASE SHIFT"))) → ReadsOrRefuses (Shift system) line k k b
+pub line_shift : (system : System) (byte : ℕ) (k : Known) (line : List ℕ) (b : Bool) → byte ≡ letter system
+    → (IsTrue b ↔ (line ≡ header_line (byte ∷ []) (codes "SYS / PHASE SHIFT"))) → ReadsOrRefuses (Shift system) line k k b
 unfolding row_line
-line_shift system letter k line b e is =
+line_shift system byte k line b e is =
     let far = shift_far system in
     line_fixed (Shift system) k b (λ h. refl) (omega (arith, far)) (λ same. omega (arith, far, same)) (subst (λ l. IsTrue b ↔ (line ≡ header_line (l ∷ []) (codes "SYS / PHASE SHIFT"))) e is)
 

@@ -6,7 +6,7 @@ use Rattle.std.proofs.lemmas.List.Concat.{get_or-flat_map}
 use Rattle.std.proofs.lemmas.List.{get_or-map}
 use Rattle.rinex_file.proofs.Entries.{flat_map-append}
 use Rattle.rinex_file.proofs.Digits.Numbers.{length-right, digits_in-whole}
-use Rattle.rinex_file.proofs.Names.{min, ◌-◌, length-take, length-drop, arith, rules, ◌≡◌, ◌∙◌, ap, refl, ℕ, zero, suc, ◌+◌, ◌<◌, ◌≤◌, ◌==◌, Bool, true, false, List, [], ◌∷◌, length, take, drop, Some, Option, nat_lt, sym, ◌*◌, ◌/◌, ◌%◌, ◌++◌, get_or, append_assoc, append-nil, ap₂, subst, ◌^◌, ◌||◌, replicate, decimal, nat_eq, IsAscii, IsUtf8, flat_map, slice_index, codes, All, list_any, IsDistinct, IsUtf8-from_ascii, cases_lt, length-map, take_more, get_or-drop, take_all, take_at, take-take, take-map, drop_at, drop-drop, drop-take, get_or-take, All-get_or, apart_from_distinct, IsDistinct-tail, length-le_from_distinct_below, length-decimal-le, System, Gps, Galileo, SignalAt, IsSignal, table, code_of, signal_of_code, passes_at, is_less, is_equal, indices, IsOf, any_index, indices-push, type_of, types_of, codes_of, type_columns, header_line, type_front, joined, left, right, letter_of, digits_in, AreTypes, types_line, signals_begun, HasSignalAt, same_Some, list_all, All-weaker, eqb-true}
+use Rattle.rinex_file.proofs.Names.{min, ◌-◌, length-take, length-drop, arith, rules, ◌≡◌, ◌∙◌, ap, refl, ℕ, zero, suc, ◌+◌, ◌<◌, ◌≤◌, ◌==◌, Bool, true, false, List, [], ◌∷◌, length, take, drop, Some, Option, nat_lt, sym, ◌*◌, ◌/◌, ◌%◌, ◌++◌, get_or, append_assoc, append-nil, ap₂, subst, ◌^◌, ◌||◌, replicate, decimal, nat_eq, IsAscii, IsUtf8, flat_map, slice_index, codes, All, list_any, IsDistinct, IsUtf8-from_ascii, cases_lt, length-map, take_more, get_or-drop, take_all, take_at, take-take, take-map, drop_at, drop-drop, drop-take, get_or-take, All-get_or, apart_from_distinct, IsDistinct-tail, length-le_from_distinct_below, length-decimal-le, System, Gps, Galileo, SignalAt, IsSignal, table, code_of, signal_of_code, passes_at, is_less, is_equal, indices, IsOf, any_index, indices-push, type_of, types_of, codes_of, type_columns, header_line, type_front, joined, left, right, letter, digits_in, AreTypes, types_line, signals_begun, HasSignalAt, same_Some, list_all, All-weaker, eqb-true}
 
 abbrev signal : System → ℕ → SignalAt
 signal system index = record { system = system; index = index }
@@ -195,7 +195,7 @@ code_in_line : {system : System} {all : List ℕ} (row q k : ℕ) → AreTypes s
 code_in_line {system} {all} row q k are few within place less =
     let line = types_line system all row in
     let types = types_of (codes_of system all) in
-    let front = type_front (letter_of system) (length types) row in
+    let front = type_front (letter system) (length types) row in
     let ts = here system all row in
     let s = signal_at system all k in
     let size : length types < 1000 = rw (length-system_types system all) few in
@@ -205,7 +205,7 @@ code_in_line {system} {all} row q k are few within place less =
     let column = column_at ts q first.0 (three_bytes system all row are) many in
     let at : drop (6 + 4 * q) line ≡ 32 ∷ (get_or ts q [] ++ column.0) =
     sym (drop-drop (4 * q) 6 line) ∙ ap (λ l. drop (4 * q) (drop 6 l)) shape
-    ∙ ap (drop (4 * q)) (drop_at front (columns ts ++ first.0) 6 (length-front (letter_of system) (length types) row size)) ∙ column.1 in
+    ∙ ap (drop (4 * q)) (drop_at front (columns ts ++ first.0) 6 (length-front (letter system) (length types) row size)) ∙ column.1 in
     let letter : get_or ts q [] ≡ 67 ∷ code_of s = type_in system all row q within (omega (arith, place, less)) ∙ ap (λ (n : ℕ). type_of (n % 4) (code_of (signal_at system all (n / 4)))) place
     ∙ ap₂ (λ (m n : ℕ). type_of m (code_of (signal_at system all n))) (none_left k) (fourth k) in
     let wide : length (code_of s) ≡ 2 = length-code system (slice_index all k) (listed_at system all k are less) in
@@ -300,7 +300,7 @@ taken_before {all} place s old are same less twice before = not_both _ twice (an
 
 -- a line with the number of all types and with the types of the signals so far is that of all signals
 pub shown_line : (system : System) (all so_far : List ℕ) (row count : ℕ) → length all ≡ count → so_far ≡ take (signals_begun (row + 1)) all
-    → header_line (type_front (letter_of system) (4 * count) row ++ type_columns (types_of (codes_of system so_far)) row) (codes "SYS / # / OBS TYPES") ≡ types_line system all row
+    → header_line (type_front (letter system) (4 * count) row ++ type_columns (types_of (codes_of system so_far)) row) (codes "SYS / # / OBS TYPES") ≡ types_line system all row
 shown_line system all so_far row count size is = grind (arith, length-system_types, row_shown)
 
 -- ---- the number of signals
@@ -322,8 +322,8 @@ count_shown system all line are bound is =
     let few = few_types system all are in
     let size : length types < 1000 = rw (length-system_types system all) (omega (arith, few, bound)) in
     let digits : length (decimal (length types)) ≤ 3 = length-decimal-le 3 (length types) (omega arith) (omega (arith, size)) (omega (arith, size)) in
-    let first = content_first (type_front (letter_of system) (length types) 0 ++ type_columns types 0) (codes "SYS / # / OBS TYPES") in
-    ap (λ l. take 3 (drop 3 l)) (is ∙ first.1 ∙ append_assoc (letter_of system ∷ 32 ∷ 32 ∷ number) (type_columns types 0) first.0)
+    let first = content_first (type_front (letter system) (length types) 0 ++ type_columns types 0) (codes "SYS / # / OBS TYPES") in
+    ap (λ l. take 3 (drop 3 l)) (is ∙ first.1 ∙ append_assoc (letter system ∷ 32 ∷ 32 ∷ number) (type_columns types 0) first.0)
     ∙ take_at number (type_columns types 0 ++ first.0) 3 (length-right 3 (decimal (length types)) digits)
     ∙ ap (λ (n : ℕ). right 3 (decimal n)) (length-system_types system all)
 

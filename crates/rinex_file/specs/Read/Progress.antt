@@ -18,7 +18,8 @@ use Rattle.rinex_file.specs.FileValues.{AreTexts, IsPlan, AreValues, IsTime, IsF
 use Rattle.rinex_file.specs.Header.{row_line, row_lines, lines_from, all_rows, row_count, row_place, first_types}
 use Rattle.rinex_file.specs.Header.{first_line, is_some_planned, type_line, types_of, codes_of}
 use Rattle.rinex_file.specs.Limits.{types_in_line}
-use Rattle.rinex_file.specs.Lines.{satellite_line, letter_of}
+use Rattle.rinex_file.specs.Lines.{satellite_line}
+use Rattle.gnss_obs.specs.Satellites.{letter}
 use Rattle.gnss_obs.specs.Signals.{table}
 use Rattle.std.specs.List.{IsDistinct}
 use Rattle.rinex_file.specs.File.{stamped_lines, file_lines}
@@ -79,7 +80,7 @@ pub record AreTypes (system : System) (all : List ℕ) : Type 0 where
 
 -- a line of the types of these signals of a system
 abbrev pub types_line : System → List ℕ → ℕ → List ℕ
-types_line system all row = type_line (letter_of system) (types_of (codes_of system all)) row
+types_line system all row = type_line (letter system) (types_of (codes_of system all)) row
 
 -- the number of signals that begin in the lines before a line of types
 abbrev pub signals_begun : ℕ → ℕ

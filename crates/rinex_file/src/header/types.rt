@@ -1,9 +1,9 @@
 //! The observation types of a header: RINEX 3.05, table A2, "SYS / # / OBS TYPES".
 ghost use Rattle.std.specs.Prelude.{◌≡◌, ◌+◌, ◌*◌, ◌≤◌, ◌<◌, ◌++◌, ◌∷◌, length, codes};
 ghost use Rattle.arrayvec.specs.ArrayVec.{array_vec_len};
+ghost use Rattle.gnss_obs.specs.Satellites.{letter};
 ghost use Rattle.gnss_obs.specs.Signals.{table, code_of};
 ghost use Rattle.gnss_obs.specs.SignalLists.{indices, IsOf};
-ghost use Rattle.rinex_file.specs.Lines.{letter_of};
 ghost use Rattle.rinex_file.specs.Header.{header_line, type_front, type_columns, type_rows, types_of};
 ghost use Rattle.rinex_file.specs.Header.{codes_of, most_type_rows, type_of};
 ghost use Rattle.rinex_file.specs.Limits.{most_line};
@@ -77,7 +77,7 @@ pub(crate) fn types_with(system: System, count: usize, signals: &[Signal], row: 
     requires count { count ≤ length (table system) }
     requires row { row < type_rows count }
     ensures { result.items ≡ header_line
-        (type_front (letter_of system) (4 * count) row
+        (type_front (letter system) (4 * count) row
         ++ type_columns (types_of (codes_of system (indices signals.now))) row)
         (codes "SYS / # / OBS TYPES") }
 {

@@ -2,13 +2,14 @@
 ghost use Rattle.std.specs.Prelude.{◌≡◌, ◌≤◌, ◌<◌, ◌++◌, ℕ, [], ◌∷◌, length, take, All, List, IfSome, Some};
 ghost use Rattle.std.specs.Prelude.{◌-◌, replicate, slice_set};
 ghost use Rattle.gnss_obs.specs.declared.cell.Cell.{Cell};
+ghost use Rattle.gnss_obs.specs.Satellites.{letter};
 ghost use Rattle.gnss_obs.specs.Signals.{most_signals};
 ghost use Rattle.gnss_obs.specs.Values.{AreHeld};
 ghost use Rattle.rinex_file.specs.FileValues.{FitsColumns, HaveRoom};
 ghost use Rattle.rinex_file.specs.Value.{signal_values_of, satellite_row, row_among, row_in_epoch};
 ghost use Rattle.rinex_file.specs.Numbers.{padded};
 ghost use Rattle.rinex_file.specs.Blanks.{trimmed};
-ghost use Rattle.rinex_file.specs.Lines.{field, lli_byte, strength_byte, signal_text, letter_of, satellite_line};
+ghost use Rattle.rinex_file.specs.Lines.{field, lli_byte, strength_byte, signal_text, satellite_line};
 ghost use Rattle.rinex_file.specs.Rows.{HasSignals};
 ghost use Rattle.rinex_file.specs.Limits.{most_line, signal_columns, value_columns};
 
@@ -153,7 +154,7 @@ pub(crate) fn trimmed_len(text: &[u8]) -> usize
 #[inline(always)]
 fn begin_columns(row: &mut [u8; MOST_LINE], system: System, id: u8)
     requires { id < 100 }
-    ensures { take 3 row.new ≡ letter_of system ∷ padded 2 id }
+    ensures { take 3 row.new ≡ letter system ∷ padded 2 id }
 {
     row[0] = system.letter();
     row[1] = b'0' + id / 10;

@@ -1,7 +1,7 @@
 -- Each row's line is the one that the row's own function makes; a row that has no line for this plan has none here.
 use Rattle.rinex_file.proofs.HeaderRows.Agree.{planned_is}
 use Rattle.rinex_file.proofs.HeaderRows.Types.{length-system_types}
-use Rattle.rinex_file.proofs.Names.{◌≡◌, ◌∙◌, sym, ap, ap₂, ℕ, [], ◌∷◌, length, codes, nat_lt, PlanValue, civil_of, row_line, header_line, version_line, version_with, ◌++◌, ◌*◌, indices, length_indices, few_signals, letter_of, type_front, type_columns, type_line, types_of, codes_of}
+use Rattle.rinex_file.proofs.Names.{◌≡◌, ◌∙◌, sym, ap, ap₂, ℕ, [], ◌∷◌, length, codes, nat_lt, PlanValue, civil_of, row_line, header_line, version_line, version_with, ◌++◌, ◌*◌, indices, length_indices, few_signals, letter, type_front, type_columns, type_line, types_of, codes_of}
 use Rattle.rinex_file.proofs.header.head.line_of.Goals as goal
 
 version_of : (p : PlanValue) (gps galileo : ℕ) → gps ≡ length p.gps → galileo ≡ length p.galileo → version_with (nat_lt 0 gps) (nat_lt 0 galileo) ≡ version_line p
@@ -38,8 +38,8 @@ returns-in-Types c =
     let signals = c.of-signals.result.now in
     let types = types_of (codes_of system (indices signals)) in
     let count = ap (λ (n : ℕ). 4 * n) (sym (length_indices signals)) ∙ sym (length-system_types system (indices signals)) in
-    c.types_with.ensures ∙ ap (λ (n : ℕ). header_line (type_front (letter_of system) n row ++ type_columns types row) (codes "SYS / # / OBS TYPES")) count
-    ∙ ap (λ l. type_line (letter_of system) (types_of (codes_of system l)) row) c.of-signals.ensures.indices
+    c.types_with.ensures ∙ ap (λ (n : ℕ). header_line (type_front (letter system) n row ++ type_columns types row) (codes "SYS / # / OBS TYPES")) count
+    ∙ ap (λ l. type_line (letter system) (types_of (codes_of system l)) row) c.of-signals.ensures.indices
     ∙ ap (row_line h.texts.now h.plan.now h.values (civil_of h.first)) (sym c.in-Types.is)
 
 pub returns-in-StrengthUnit : goal.returns-in-StrengthUnit

@@ -4,7 +4,7 @@ use Rattle.rinex_file.proofs.Judged.{refused}
 use Rattle.rinex_file.proofs.Rows.Cut.{cut_line_is, filled_over}
 use Rattle.rinex_file.proofs.OneReading.{IsTextOf, line_ended, line_once, text_of_line}
 use Rattle.rinex_file.proofs.read.row.read_of.Goals.{After-saturating_sub, then-text-lt3-via-then-text-lt3, then-text-lt3-via-else-text-lt3+then-text-signals, then-text-letter-via-then-text-letter, then-text-letter-via-else-text-letter+then-id-eq0, then-text-letter-via-else-text-letter+else-id-eq0+then-id-satellites}
-use Rattle.rinex_file.proofs.Names.{arith, ◌≡◌, ◌∙◌, sym, ap, refl, subst, ℕ, ◌*◌, ◌≤◌, List, Bool, true, false, ◌-◌, ◌++◌, append-nil, length, take, drop, replicate, ◌/◌, flat_map, SignalValues, drop_all, take_all, take_rest, System, satellites, SatelliteRow, letter_of, satellite_line, signal_text, filled_to, ReadsExactly, some_if, AreEntries, IsRowOf}
+use Rattle.rinex_file.proofs.Names.{arith, ◌≡◌, ◌∙◌, sym, ap, refl, subst, ℕ, ◌*◌, ◌≤◌, List, Bool, true, false, ◌-◌, ◌++◌, append-nil, length, take, drop, replicate, ◌/◌, flat_map, SignalValues, drop_all, take_all, take_rest, System, satellites, SatelliteRow, letter, satellite_line, signal_text, filled_to, ReadsExactly, some_if, AreEntries, IsRowOf}
 use Rattle.rinex_file.proofs.read.row.read_of.Goals as goal
 
 pub returns-then-not-is_ended : goal.returns-then-not-is_ended
@@ -34,7 +34,7 @@ returns-then-text-letter c = λ v is e.
     let id = c.in-Some.ensures.2 v.row.satellite p.small p.number in
     let (least, most) = is.1.satellite in
     elim c.then-text-letter.branch [
-      | then-text-letter-via-then-text-letter w ↦ w.if-text-letter.true (p.letter ∙ ap letter_of is.0 ∙ sym c.letter.ensures)
+      | then-text-letter-via-then-text-letter w ↦ w.if-text-letter.true (p.letter ∙ ap letter is.0 ∙ sym c.letter.ensures)
       | then-text-letter-via-else-text-letter+then-id-eq0 w ↦ let none = w.if-id-eq0.true in omega (arith, none, id, least)
       | then-text-letter-via-else-text-letter+else-id-eq0+then-id-satellites w ↦
           let more = w.if-id-satellites.true in

@@ -3,7 +3,7 @@
 use Rattle.rinex_file.proofs.Entries.{few_signals as short_table}
 use Rattle.rinex_file.proofs.Rows.Cells.{begun_entries, no_place, others_stay, other_stays, cell_put, all_fit, trimmed_line, front_length}
 use Rattle.rinex_file.proofs.write.satellite.put_satellite_line.Goals.{After-of, After-loop-at, else-id-via-else-id, else-id-via-then-id+in-None-1}
-use Rattle.rinex_file.proofs.Names.{arith, ◌≡◌, ◌∙◌, refl, sym, ap, ap₂, subst, ◌+◌, ◌-◌, ◌<◌, ◌≤◌, [], ◌∷◌, ◌++◌, ℕ, List, length, take, drop, false, slice_index_or, ◌==◌, slice_set, nat_eq, IsDistinct, drop_more, length-map, All-drop, position-Some, Cell, SignalAt, IsHeld, planned_of, few_signals, padded, letter_of, satellite_line, SignalValues, signal_values_at, entries_of, HasSignals}
+use Rattle.rinex_file.proofs.Names.{arith, ◌≡◌, ◌∙◌, refl, sym, ap, ap₂, subst, ◌+◌, ◌-◌, ◌<◌, ◌≤◌, [], ◌∷◌, ◌++◌, ℕ, List, length, take, drop, false, slice_index_or, ◌==◌, slice_set, nat_eq, IsDistinct, drop_more, length-map, All-drop, position-Some, Cell, SignalAt, IsHeld, planned_of, few_signals, padded, letter, satellite_line, SignalValues, signal_values_at, entries_of, HasSignals}
 use Rattle.rinex_file.proofs.write.satellite.put_satellite_line.Goals as goal
 
 more : (cells : List Cell) (at : ℕ) (cell : Cell) → 0 < at → at ≤ length cells → cell ≡ slice_index_or cells (at - 1) cell → drop (at - 1) cells ≡ cell ∷ drop at cells
@@ -21,7 +21,7 @@ few c =
 
 pub loop-at-init : goal.loop-at-init
 loop-at-init c = record {
-  shown = begun_entries c.args.cells.now c.args.id (planned_of c.args.system c.args.plan.now) c.begin_columns.ensures (front_length (letter_of c.args.system) c.args.id c.requires.id) refl;
+  shown = begun_entries c.args.cells.now c.args.id (planned_of c.args.system c.args.plan.now) c.begin_columns.ensures (front_length (letter c.args.system) c.args.id c.requires.id) refl;
   within = omega arith;
   bound = omega arith;
 }
@@ -35,7 +35,7 @@ put_columns-size-requires-clause-few c =
 pub loop-at-preserved-in-loop-at : goal.loop-at-preserved-in-loop-at
 loop-at-preserved-in-loop-at c =
     let cells = c.args.cells.now in
-    let front : List ℕ = letter_of c.args.system ∷ padded 2 c.args.id in
+    let front : List ℕ = letter c.args.system ∷ padded 2 c.args.id in
     let at = c.loop-at.at in
     let id = c.args.id in
     let cell = c.index-cells-at.result in
@@ -54,7 +54,7 @@ loop-at-preserved-in-loop-at c =
           (subst (λ (xs : List SignalValues). HasSignals (take c.put_columns-size.result c.put_columns-size.new.row) front xs)
           (ap (λ (v : SignalValues). slice_set (entries_of c.args.plan.now c.args.system id rest) c.in-Some.place v) c.of-in-loop-at.ensures
           ∙ cell_put signals id c.in-Some.place cell rest apart place own)
-          (c.put_columns-size.ensures.text front (entries_of c.args.plan.now c.args.system id rest) (front_length (letter_of c.args.system) id c.requires.id) (all_fit c.args.system rest id signals held)
+          (c.put_columns-size.ensures.text front (entries_of c.args.plan.now c.args.system id rest) (front_length (letter c.args.system) id c.requires.id) (all_fit c.args.system rest id signals held)
           (subst (λ (n : ℕ). c.in-Some.place < n) (sym size) within) inv.shown));
       within = omega (arith, inv.within);
       bound = c.put_columns-size.ensures.bound;
@@ -77,22 +77,22 @@ loop-at-preserved c =
           no_place cell.signal.index signals (signal_values_at (cell ∷ rest) id) (signal_values_at rest id) (grind (arith, w)) (others_stay cell rest id)
     ] in
     record {
-      shown = subst (λ (xs : List SignalValues). HasSignals (take c.loop-at.size c.loop-at.row) (letter_of c.args.system ∷ padded 2 id) xs)
+      shown = subst (λ (xs : List SignalValues). HasSignals (take c.loop-at.size c.loop-at.row) (letter c.args.system ∷ padded 2 id) xs)
           (sym (ap (entries_of c.args.plan.now c.args.system id) (more cells at cell c.loop-at-test.true inv.within c.index-cells-at.is) ∙ same)) inv.shown;
       within = omega (arith, inv.within);
       bound = inv.bound;
     }
 
 -- the line has the values of all cells
-whole : (c : After-loop-at) → HasSignals (take c.loop-at.size c.loop-at.row) (letter_of c.args.system ∷ padded 2 c.args.id) (entries_of c.args.plan.now c.args.system c.args.id c.args.cells.now)
+whole : (c : After-loop-at) → HasSignals (take c.loop-at.size c.loop-at.row) (letter c.args.system ∷ padded 2 c.args.id) (entries_of c.args.plan.now c.args.system c.args.id c.args.cells.now)
 whole c =
     let none : c.loop-at.at ≡ 0 = omega (arith, c.loop-at-test.false) in
-    subst (λ (k : ℕ). HasSignals (take c.loop-at.size c.loop-at.row) (letter_of c.args.system ∷ padded 2 c.args.id) (entries_of c.args.plan.now c.args.system c.args.id (drop k c.args.cells.now))) none
+    subst (λ (k : ℕ). HasSignals (take c.loop-at.size c.loop-at.row) (letter c.args.system ∷ padded 2 c.args.id) (entries_of c.args.plan.now c.args.system c.args.id (drop k c.args.cells.now))) none
     c.loop-at.invariant.shown
 
 pub returns-clause-text : goal.returns-clause-text
 unfolding satellite_line
 returns-clause-text c =
     c.end_columns.ensures.text
-    ∙ ap (λ t. t ++ 10 ∷ []) (trimmed_line (take c.loop-at.size c.loop-at.row) (letter_of c.args.system ∷ padded 2 c.args.id) (entries_of c.args.plan.now c.args.system c.args.id c.args.cells.now)
+    ∙ ap (λ t. t ++ 10 ∷ []) (trimmed_line (take c.loop-at.size c.loop-at.row) (letter c.args.system ∷ padded 2 c.args.id) (entries_of c.args.plan.now c.args.system c.args.id c.args.cells.now)
     (whole ((goal.at.returns-clause-text c).After-loop-at)))
