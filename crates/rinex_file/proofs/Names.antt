@@ -8,7 +8,7 @@ pub use Rattle.gnss_obs.specs.GatheredEpochs.{AreGathered, AreGatheredEpochs, Ar
 pub use Rattle.gnss_obs.specs.Plans.{place_in}
 pub use Rattle.gnss_obs.specs.Satellites.{letter, satellites}
 pub use Rattle.gnss_obs.specs.SignalLists.{IsAdded, IsOf, indices}
-pub use Rattle.gnss_obs.specs.Signals.{IsSignal, SignalAt, code_of, signal_of_code, table}
+pub use Rattle.gnss_obs.specs.Signals.{IsSignal, SignalAt, code_of, most_signals, signal_of_code, table}
 unfoldable pub use Rattle.gnss_obs.specs.Values.{written_among}
 pub use Rattle.gnss_obs.specs.Values.{Closed, EpochValue, HasTwelveDigits, IsHeld, PlanValue, cells_of, has_value, is_of_satellite, is_written, planned_of, run, same_values, satellites_written}
 pub use Rattle.gnss_obs.specs.Weeks.{week, weeks}
@@ -29,7 +29,7 @@ pub use Rattle.rinex_file.specs.File.{change_lines, change_text, closed_text, ev
 pub use Rattle.rinex_file.specs.FileValues.{AreChanges, AreSatelliteRows, AreSignalValues, AreTexts, AreValues, FitsColumns, HaveRoom, IsChange, IsFileValue, IsFirstSame, IsFrom, IsPlan, IsRow, IsSatelliteRow, IsStamped, IsText, IsTime, changed_by, has_some_value, most_rows, of_system, rank_of, time_stamped, values_following}
 pub use Rattle.rinex_file.specs.Gathered.{AreSignals, HasSatellite}
 unfoldable pub use Rattle.rinex_file.specs.Header.{header_line, header_lines, row_line}
-pub use Rattle.rinex_file.specs.Header.{all_rows, codes_of, delta_line, end_line, file_system, first_line, first_types, most_type_rows, has_line, height_line, is_some_planned, lengths, lines_from, position_line, row_at, row_count, row_lines, row_place, strength_line, text_columns, texts_line, type_columns, type_front, type_line, type_of, type_rows, types_of, version_fields, version_line, version_with}
+pub use Rattle.rinex_file.specs.Header.{all_rows, codes_of, delta_line, end_line, file_system, first_line, first_types, has_line, height_line, is_some_planned, lengths, lines_from, most_type_rows, position_line, row_at, row_count, row_lines, row_place, strength_line, text_columns, texts_line, type_columns, type_front, type_line, type_of, type_rows, types_of, version_fields, version_line, version_with}
 pub use Rattle.rinex_file.specs.Limits.{most_line}
 unfoldable pub use Rattle.rinex_file.specs.Lines.{epoch_line, field, satellite_line, signal_text}
 pub use Rattle.rinex_file.specs.Lines.{epoch_fields, lli_byte, row_text, strength_byte}

@@ -24,3 +24,7 @@ types_in_line = 13
 -- a line with its line feed: three columns for a satellite, and those of its signals
 abbrev pub most_line : ℕ
 most_line = 3 + signal_columns * most_signals + 1
+
+-- the bytes of a file that are read ahead, at most
+abbrev pub block_bytes : ℕ
+block_bytes = 65536

@@ -1,7 +1,7 @@
 -- Signal counts as a consumer of frames.
 use Rattle.rtcm_inspect.proofs.PrintingLemmas.{Printed}
 use Rattle.rtcm_inspect.proofs.StreamLemmas.{Began}
-use Rattle.rtcm_inspect.proofs.Names.{◌≡◌, ◌∙◌, ap, inr, ◌*◌, ◌<◌, ◌≤◌, ◌^◌, sym, subst, arith, Bool, true, ℕ, List, [], ◌∷◌, ◌++◌, Option, Result, Ok, Err, length, length-append, append-nil, refl, Framed, frames_of, known_frames, Device, HasFailed, StreamFault, ⊤, InspectFault, ReadFailures, stream_fault, AtFault, Passes, BreaksReading, PassesAll, PassesToLimit, Reads, FramerValue, most_bytes, AreSignalCounts, CountsMessage, SignalCountsValue, valued, heard, HeardCell, heard_of, message_at, MsgFault, Message, valued_in, valued_of, flat_map-append, AreFirst, AreOptionsOf, EndsOptions, EndsSignals, ReadsTooMuch, signals_text, Counts, StopsCounting, HasCounted, IsCounted, AreSignals, NeverFails, option_map_or, StreamSignals}
+use Rattle.rtcm_inspect.proofs.Names.{◌≡◌, ◌∙◌, ap, inr, ◌*◌, ◌<◌, ◌≤◌, ◌^◌, sym, subst, arith, Bool, true, ℕ, List, [], ◌∷◌, ◌++◌, Option, Result, Ok, Err, length, length-append, append-nil, refl, Framed, frames_of, known_frames, Device, HasFailed, StreamFault, ⊤, InspectFault, ReadFailures, stream_fault, AtFault, Passes, BreaksReading, PassesAll, PassesToLimit, Reads, FramerValue, most_bytes, AreSignalCounts, CountsMessage, SignalCountsValue, valued, heard, HeardCell, heard_of, message_at, MsgFault, Message, valued_in, valued_of, flat_map-append, AreFirst, AreOptionsOf, EndsOptions, EndsSignals, ReadsTooMuch, signals_text, Counts, StopsCounting, HasCounted, IsCounted, AreSignals, NeverFails, option_map_or, StreamSignals, piece_bytes}
 use Rattle.rtcm_scan.specs.declared.feed.StreamFault.TheVariants as stream
 
 valued_more : (wanted : Option ℕ) (fs : List Framed) (f : Framed) (cells : List HeardCell) → valued_of wanted f ≡ cells → valued_in wanted (fs ++ f ∷ []) ≡ valued_in wanted fs ++ cells
@@ -77,7 +77,7 @@ module _ {v : FramerValue} {c c2 : StreamSignals} {limit : ℕ} (v2 : FramerValu
 -- the counting was stopped by a fault
 pub counting_stopped : {R F : Type 0} {v : FramerValue} {c : StreamSignals} (left : R → Option (List ℕ)) (v2 : FramerValue) (c2 : StreamSignals) (rd rd2 : Device R) (fault : StreamFault F) → Began Counts v c tt most_bytes
     → AtFault fault (Reads (left rd.inner) (left rd2.inner) (Passes Counts v c tt v2 c2 tt)) (Reads (left rd.inner) (left rd2.inner) (PassesToLimit Counts v c tt v2 c2 tt))
-    (BreaksReading Counts NeverFails v c tt c2 tt 65536 (left rd.inner) (left rd2.inner))
+    (BreaksReading Counts NeverFails v c tt c2 tt piece_bytes (left rd.inner) (left rd2.inner))
     → StopsCounting left rd rd2 (stream_fault fault)
 counting_stopped left v2 c2 rd rd2 stream.Read began passed = tt
 counting_stopped left v2 c2 rd rd2 stream.TooLong began passed = counted_too_much v2 (left rd.inner) (left rd2.inner) began passed

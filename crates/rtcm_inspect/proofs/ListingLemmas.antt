@@ -1,6 +1,6 @@
 -- A listing as a consumer of frames.
 use Rattle.rtcm_inspect.proofs.StreamLemmas.{Began}
-use Rattle.rtcm_inspect.proofs.Names.{◌≡◌, ◌∙◌, ◌-◌, ◌<◌, ap, sym, subst, refl, arith, Bool, true, false, ℕ, List, [], ◌∷◌, ◌++◌, Option, append_assoc, append-nil, length, take, Appends, Keeps, flat_map-append, Appends-nil, Appends-trans, Appends-kept, AppendsPrefix, Device, HasFailed, IsPrefix, Framed, decided_frames, known_frames, ⊤, StreamFault, HaveFailedBy, stream_fault, AtFault, BreaksReading, Passes, PassesAll, PassesToLimit, Reads, FramerValue, Listing, Lists, ListsAll, ListsDecided, StopsListing, ListsPart, ListsToLimit, ListsUpTo, listing_line, listing_lines}
+use Rattle.rtcm_inspect.proofs.Names.{◌≡◌, ◌∙◌, ◌-◌, ◌<◌, ap, sym, subst, refl, arith, Bool, true, false, ℕ, List, [], ◌∷◌, ◌++◌, Option, append_assoc, append-nil, length, take, Appends, Keeps, flat_map-append, Appends-nil, Appends-trans, Appends-kept, AppendsPrefix, Device, HasFailed, IsPrefix, Framed, decided_frames, known_frames, ⊤, StreamFault, HaveFailedBy, stream_fault, AtFault, BreaksReading, Passes, PassesAll, PassesToLimit, Reads, FramerValue, Listing, Lists, ListsAll, ListsDecided, StopsListing, ListsPart, ListsToLimit, ListsUpTo, listing_line, listing_lines, piece_bytes}
 use Rattle.rtcm_scan.specs.declared.feed.StreamFault.TheVariants as stream
 
 -- the lines of one more frame
@@ -97,7 +97,7 @@ module _ {W : Type 0} {held : W → Option (List ℕ)} {v : FramerValue} {k : Li
       )
 
   -- up to a piece at which the writer failed
-  pub listed_part : BreaksReading (Lists held) (ListsUpTo held) v k o k2 o2 65536 r r2
+  pub listed_part : BreaksReading (Lists held) (ListsUpTo held) v k o k2 o2 piece_bytes r r2
       → ListsPart (listing_lines k) r r2 (held o.inner) (held o2.inner) × HasFailed o.failures o2.failures
   listed_part p =
       let broke = p.breaks k o [] [] began.new in
@@ -123,7 +123,7 @@ module _ {W : Type 0} {held : W → Option (List ℕ)} {v : FramerValue} {k : Li
 -- the listing was stopped by a fault
 pub record Stopped {R W F : Type 0} (left : R → Option (List ℕ)) (held : W → Option (List ℕ)) (waits : W → List ℕ) (v v2 : FramerValue) (k k2 : Listing) (o o2 : Device W) (r r2 : Device R) (fault : StreamFault F) : Type 0 where
   pub passed : AtFault fault (Reads (left r.inner) (left r2.inner) (Passes (Lists held) v k o v2 k2 o2)) (Reads (left r.inner) (left r2.inner) (PassesToLimit (Lists held) v k o v2 k2 o2))
-      (BreaksReading (Lists held) (ListsUpTo held) v k o k2 o2 65536 (left r.inner) (left r2.inner))
+      (BreaksReading (Lists held) (ListsUpTo held) v k o k2 o2 piece_bytes (left r.inner) (left r2.inner))
   pub still : AtFault fault (v2.has_ended ≡ false) (v2.has_ended ≡ false) ⊤
   pub sent : AtFault fault (waits o2.inner ≡ []) (waits o2.inner ≡ []) ⊤
   pub failed : AtFault fault (HasFailed r.failures r2.failures) (r2.failures ≡ r.failures) (r2.failures ≡ r.failures)

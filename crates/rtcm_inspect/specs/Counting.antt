@@ -5,6 +5,7 @@ use Rattle.rtcm_bits.specs.Device.{Device}
 use Rattle.rtcm_scan.specs.Frames.{Framed, frames_of}
 use Rattle.rtcm_scan.specs.Scan.{most_bytes}
 use Rattle.rtcm_scan.specs.declared.framer.ScanFault.TheVariants as scan
+use Rattle.rtcm_msg.specs.Msm.{most_pairs}
 use Rattle.obs_epoch.specs.SignalCounts.{SignalCountsValue, AreSignalCounts}
 use Rattle.rtcm_inspect.specs.FirstMessages.{AreFirst}
 use Rattle.rtcm_inspect.specs.Signals.{valued_in}
@@ -13,10 +14,10 @@ use Rattle.rtcm_inspect.specs.declared.fault.InspectFault.{InspectFault}
 use Rattle.rtcm_inspect.specs.declared.fault.InspectFault.TheVariants as faults
 use Rattle.rtcm_inspect.specs.declared.counting.StreamSignals.{StreamSignals}
 
--- the counts are those of the cells of these frames, each of which has at most 64
+-- the counts are those of the cells of these frames, each of which has at most `most_pairs`
 pub record IsCounted (c : SignalCountsValue) (wanted : Option ℕ) (fs : List Framed) : Type 0 where
   pub signal_counts : AreSignalCounts c (valued_in wanted fs)
-  pub few : length (valued_in wanted fs) ≤ 64 * length fs
+  pub few : length (valued_in wanted fs) ≤ most_pairs * length fs
 
 -- the signals of these frames
 pub record AreSignals (s : StreamSignals) (wanted : Option ℕ) (fs : List Framed) : Type 0 where

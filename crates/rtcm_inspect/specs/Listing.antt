@@ -45,14 +45,18 @@ abbrev pub ListsToLimit : ℕ → (List Framed → List ℕ) → (r r' w w' : Op
 ListsToLimit limit lines r r' w w' =
     (b : List ℕ) × Consumes r r' b × (limit < length b) × Appends w w' (lines (decided_frames (take limit b)))
 
--- The bytes read end in a piece of at most 65,536. At least the lines of the frames that the bytes before it decide
+-- the largest number of bytes read at a time
+abbrev pub piece_bytes : ℕ
+piece_bytes = 65536
+
+-- The bytes read end in one such piece. At least the lines of the frames that the bytes before it decide
 -- were written, and at most those of the frames that all bytes read decide or, at the end of the stream, have.
 pub record ListsPart (lines : List Framed → List ℕ) (r r' w w' : Option (List ℕ)) : Type 0 where
   pub front : List ℕ
   pub piece : List ℕ
   pub ended : Bool
   pub consumes : Consumes r r' (front ++ piece)
-  pub few : length piece ≤ 65536
+  pub few : length piece ≤ piece_bytes
   pub at_end : ended ≡ true → IsAtEnd r'
   pub between : IsBetween w w' (lines (decided_frames front)) (lines (known_frames ended (front ++ piece)))
 

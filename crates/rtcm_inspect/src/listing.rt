@@ -6,7 +6,7 @@ ghost use Rattle.rtcm_scan.specs.Scan.{most_bytes};
 ghost use Rattle.rtcm_msg.specs.Station.{InRange};
 ghost use Rattle.rtcm_msg.specs.Views.{message_number};
 ghost use Rattle.rtcm_inspect.specs.FrameLines.{frame_line, frame_lines, number_word};
-ghost use Rattle.rtcm_inspect.specs.Lines.{longest_prefix, with_words};
+ghost use Rattle.rtcm_inspect.specs.Lines.{longest_number, longest_prefix, with_words};
 ghost use Rattle.rtcm_inspect.specs.ShowLines.{fault_words, height_words};
 ghost use Rattle.rtcm_inspect.specs.ShowLines.{msm_line, show_line, show_lines, station_line};
 ghost use Rattle.rtcm_inspect.specs.Listing.{EndsListing, listing_line, listing_lines};
@@ -202,7 +202,7 @@ fn add_station(line: &mut OutputLine, offset: u64, station: StationParts)
 fn add_height(line: &mut OutputLine, height: Option<u16>)
     requires { length line.old ≤ 229 }
     ensures text { line.new ≡ with_words line.old (height_words height) }
-    ensures short { length line.new ≤ length line.old + 27 }
+    ensures short { length line.new ≤ length line.old + longest_number + 7 }
 {
     if let Some(height) = height {
         line.add_metres(b' ', i64::from(height));

@@ -1,5 +1,5 @@
 -- What holds at every moment.
-use Rattle.rtcm_scan.proofs.Names.{ℕ, ◌≡◌, ◌*◌, ◌≤◌, ◌^◌, true, false, List, [], length, refl, arith, Framed, frames_of, frames_from, WindowValue, nothing_held, FramerValue, scan_of, HasFramed, first_held, new_scan, places, tried, decided, decided_frames, frames_before, IsDrained, greatest_below, spans_now, looks_at, all_looks, spans_at, tried_before, HasExamined, IsCountedExactly, longest_frame, most_looks}
+use Rattle.rtcm_scan.proofs.Names.{ℕ, ◌≡◌, ◌*◌, ◌≤◌, true, false, List, [], length, refl, arith, Framed, frames_of, frames_from, WindowValue, nothing_held, FramerValue, scan_of, HasFramed, first_held, new_scan, places, tried, decided, decided_frames, frames_before, IsDrained, greatest_below, spans_now, looks_at, all_looks, spans_at, tried_before, HasExamined, IsCountedExactly, longest_frame, most_looks, most_bytes}
 use Rattle.rtcm_scan.proofs.BoundLemmas.{looks_bound, all_bound, greatest_bound}
 use Rattle.rtcm_scan.proofs.HistoryLemmas.{history_end, history_from}
 use Rattle.rtcm_scan.proofs.ScanLemmas.{scanned_none}
@@ -29,7 +29,7 @@ counts_end v b fs x = record { history = history_end v b fs x.history; limit = x
 history_new : (limit : ℕ) → HasFramed (new_scan limit) [] []
 history_new limit = history_from (new_scan limit) [] [] refl refl (omega arith) (scanned_none false [] 0) refl
 
-counts_empty : (limit : ℕ) → limit ≤ 2 ^ 48 → HasFramed (new_scan limit) [] [] → HasExamined (new_scan limit) [] []
+counts_empty : (limit : ℕ) → limit ≤ most_bytes → HasFramed (new_scan limit) [] [] → HasExamined (new_scan limit) [] []
 unfolding tried_before places greatest_below
 counts_empty limit h s = record {
   history = s;
@@ -40,7 +40,7 @@ counts_empty limit h s = record {
   counts = record { each = λ j l. absurd (omega arith); total = refl; greatest_is = refl };
 }
 
-pub counts_new : (limit tried : ℕ) (w : WindowValue) → limit ≤ 2 ^ 48 → w ≡ nothing_held → tried ≡ 0 → HasExamined (scan_of limit 0 w false true 0 tried) [] []
+pub counts_new : (limit tried : ℕ) (w : WindowValue) → limit ≤ most_bytes → w ≡ nothing_held → tried ≡ 0 → HasExamined (scan_of limit 0 w false true 0 tried) [] []
 counts_new limit tried w h e z = rw (e, z) (counts_empty limit h (history_new limit))
 
 pub drained_new : (limit tried : ℕ) (w : WindowValue) → w ≡ nothing_held → IsDrained (scan_of limit 0 w false true 0 tried) [] []

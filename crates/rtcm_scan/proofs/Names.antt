@@ -22,7 +22,7 @@ pub use Rattle.rtcm_scan.specs.Passing.{AtFault, Breaking, Breaks, BreaksAfter, 
 pub use Rattle.rtcm_scan.specs.Pending.{asked, passed, with_candidate_examined}
 unfoldable pub use Rattle.rtcm_scan.specs.Results.{decision}
 pub use Rattle.rtcm_scan.specs.Results.{frame_at, if_missing, new_scan}
-pub use Rattle.rtcm_scan.specs.Scan.{AllPassed, FramerValue, HasFramed, IsPassed, IsScannedOn, Scanned, first_held, scan_of, window_of, with_bytes, with_looks, with_window}
+pub use Rattle.rtcm_scan.specs.Scan.{AllPassed, FramerValue, HasFramed, IsPassed, IsScannedOn, Scanned, first_held, most_bytes, scan_of, window_of, with_bytes, with_looks, with_window}
 pub use Rattle.rtcm_scan.specs.declared.candidate.Candidate.{Candidate}
 pub use Rattle.rtcm_scan.specs.declared.feed.StreamFault.{StreamFault}
 pub use Rattle.rtcm_scan.specs.declared.feed.StreamFault.TheVariants.{Read, Sink, TooLong}

@@ -1,5 +1,5 @@
 -- The counts of a framer, step by step.
-use Rattle.rtcm_scan.proofs.Names.{ℕ, ◌≡◌, ◌+◌, ◌-◌, ◌*◌, ◌<◌, ◌≤◌, ◌^◌, min, max, Bool, true, false, not, cond, ◌&&◌, ltb, leb, List, [], ◌∷◌, ◌++◌, length, map, drop, set, get_or, refl, sym, ap, ◌∙◌, arith, suc, zero, ⊎_elim, subst, length-set, length-append, length-drop, filter, list_any, cases_lt, lt-ltb, le-ltb, get_or-set_same, map-append, filter-append, WindowValue, looked, looked_through, without_front, begins_frame, message_length, frame_length, has_preamble, framed_message, Framed, IsFrameOf, frame_end, places, is_inside, cost, FramerValue, HasFramed, first_held, IsPassed, Scanned, window_of, with_window, with_looks, asked, with_candidate_examined, Span, span, covers, looks_at, all_looks, tried_before, spans_at, CountsLooks, HasExamined, longest_frame, most_looks}
+use Rattle.rtcm_scan.proofs.Names.{ℕ, ◌≡◌, ◌+◌, ◌-◌, ◌*◌, ◌<◌, ◌≤◌, min, max, Bool, true, false, not, cond, ◌&&◌, ltb, leb, List, [], ◌∷◌, ◌++◌, length, map, drop, set, get_or, refl, sym, ap, ◌∙◌, arith, suc, zero, ⊎_elim, subst, length-set, length-append, length-drop, filter, list_any, cases_lt, lt-ltb, le-ltb, get_or-set_same, map-append, filter-append, WindowValue, looked, looked_through, without_front, begins_frame, message_length, frame_length, has_preamble, framed_message, Framed, IsFrameOf, frame_end, places, is_inside, cost, FramerValue, HasFramed, first_held, IsPassed, Scanned, window_of, with_window, with_looks, asked, with_candidate_examined, Span, span, covers, looks_at, all_looks, tried_before, spans_at, CountsLooks, HasExamined, longest_frame, most_looks, most_bytes}
 use Rattle.std.specs.List.{AllByRecursion as ByRecursion}
 use Rattle.rtcm_scan.proofs.LooksLemmas.{one_if, looks_push, all_push, counts_look, counts_push, none_cover, greatest_same}
 use Rattle.rtcm_scan.proofs.TriedLemmas.{sum_empty, counts_skip, counts_frame, looks_frame, all_frame, empty_covers}
@@ -104,7 +104,7 @@ counts_through {q} {k} {p} {n} {start} xs (suc m) w g c =
     (counts_looked xs (looked_through w start m) (record { meets = omega (arith, g.meets); counted = omega (arith, g.counted, b); within = omega (arith, g.within); fit = f' }) r)
 
 -- at every moment the counts fit
-bound_fits : {k : ℕ} (e : Bool) (b : List ℕ) (fs : List Framed) (p : ℕ) → Scanned e b 0 p fs → k ≤ longest_frame → p + k ≤ length b → length b ≤ 2 ^ 48 → Fit (spans_at b fs p k)
+bound_fits : {k : ℕ} (e : Bool) (b : List ℕ) (fs : List Framed) (p : ℕ) → Scanned e b 0 p fs → k ≤ longest_frame → p + k ≤ length b → length b ≤ most_bytes → Fit (spans_at b fs p k)
 bound_fits {k} e b fs p s h l t = record {
   looks = λ i. (let r : looks_at (spans_at b fs p k) i ≤ most_looks = looks_bound e b fs p k i s h in small _ r);
   all = (let r : all_looks (spans_at b fs p k) ≤ most_looks * length b = all_bound e b fs p s h l in small_all _ (length b) r t);
@@ -113,7 +113,7 @@ bound_fits {k} e b fs p s h l t = record {
     small : (x : ℕ) → x ≤ most_looks → x ≤ 65535
     small x h = omega arith
 
-    small_all : (x n : ℕ) → x ≤ most_looks * n → n ≤ 2 ^ 48 → x ≤ 18446744073709551615
+    small_all : (x n : ℕ) → x ≤ most_looks * n → n ≤ most_bytes → x ≤ 18446744073709551615
     small_all x n h k = omega arith
 
 asked_bound : (s : List ℕ) → (asked s ≤ longest_frame) × (asked s ≤ length s)
@@ -132,7 +132,7 @@ step_examined_to v n b fs h a0 a1 x =
     let f : length v.held ≤ v.taken = s.fits in
     let e : length v.looks ≡ length v.held = x.each in
     let z : v.tried + (n - v.tried) ≡ n = omega arith in
-    let lim : v.limit ≤ 2 ^ 48 = x.limit in
+    let lim : v.limit ≤ most_bytes = x.limit in
     let wit : v.taken ≤ v.limit = x.within in
     let k : Fit (spans_at b fs (first_held v) n) = bound_fits v.has_ended b fs (first_held v) sc a0 (omega arith) (omega arith) in
     let c : Counted (spans_at b fs (first_held v) (v.tried + (n - v.tried))) (first_held v) (length b) (looked_through (window_of v) v.tried (n - v.tried)) =
@@ -206,7 +206,7 @@ step_take v b fs h a x =
     let t : v.taken ≡ length b = s.taken in
     let e : frame_end g ≡ v.taken - length (drop (frame_length v.held) v.held) = omega arith in
     let i : length v.looks ≡ length v.held = x.each in
-    let lim : v.limit ≤ 2 ^ 48 = x.limit in
+    let lim : v.limit ≤ most_bytes = x.limit in
     let wit : v.taken ≤ v.limit = x.within in
     let y : v.held ≡ drop (first_held v) b = s.held in
     let sc : Scanned v.has_ended b 0 (first_held v) fs = s.scanned in

@@ -3,7 +3,7 @@ use Rattle.rinex_file.proofs.Reading.Epochs.{few_signals_of}
 use Rattle.rinex_file.proofs.HeaderRows.Agree.{Agree, single, types_high, agree_types, agree_count, signals_same, none_planned, split_at, lengths-back, height-back, number_at, coordinate-fits}
 use Rattle.rinex_file.proofs.HeaderRows.Steps.{some_plan, with_is, unread}
 use Rattle.rinex_file.proofs.HeaderRows.Texts.{place_back, same_at, same_rows, texts_back, same_texts, SameTexts, text_low}
-use Rattle.rinex_file.proofs.Names.{arith, ◌≡◌, ◌∙◌, sym, ap, ap₂, map, refl, subst, ℕ, ℤ, pos, suc, lit<, lit≤, ◌-◌, ◌<◌, ◌≤◌, Bool, true, false, ◌||◌, min, List, [], ◌∷◌, ◌++◌, length, get_or, take, replicate, All, nat_eq, AllOfLen, IsDistinct, take_all, ext_get_or, All-map, All-weaker, codes, SignalAt, IsSignal, table, System, Gps, Galileo, indices, IsOf, PlanValue, planned_of, StationValues, civil_of, TextRow, Texts, Position, Delta, First, End, trimmed, HeaderLists, text_count, text_of, width_of, fields, fields_of, text_rows, HeaderField, AntType, IsText, AreTexts, AreValues, IsTime, row_line, row_place, end_line, first_line, first_types, most_type_rows, texts_line, position_line, delta_line, digits_in, Known, Shown, AreTypesRead, IsShown, AreValid, MayPlan, IsHeadAt, IsOnlyTime, shown_with, lines_before, announced, signals_begun, RefusesHeaderLine, EndsHeader, none_of, row_at, shown_rows, same_Some}
+use Rattle.rinex_file.proofs.Names.{arith, ◌≡◌, ◌∙◌, sym, ap, ap₂, map, refl, subst, ℕ, ℤ, pos, suc, lit<, lit≤, ◌-◌, ◌<◌, ◌≤◌, Bool, true, false, ◌||◌, min, List, [], ◌∷◌, ◌++◌, length, get_or, take, replicate, All, nat_eq, AllOfLen, IsDistinct, take_all, ext_get_or, All-map, All-weaker, codes, SignalAt, IsSignal, table, System, Gps, Galileo, indices, IsOf, PlanValue, planned_of, StationValues, civil_of, TextRow, Texts, Position, Delta, First, End, trimmed, HeaderLists, text_count, text_of, width_of, fields, fields_of, text_rows, HeaderField, AntType, IsText, AreTexts, AreValues, IsTime, row_line, row_place, end_line, first_line, first_types, most_type_rows, texts_line, position_line, delta_line, digits_in, Known, Shown, AreTypesRead, IsShown, AreValid, MayPlan, IsHeadAt, IsOnlyTime, shown_with, lines_before, announced, signals_begun, RefusesHeaderLine, EndsHeader, none_of, row_at, shown_rows, same_Some, most_signals}
 
 -- ---- headers with the same lines are the same
 
@@ -73,7 +73,7 @@ module _ (h g : Shown) (a : IsShown h) (b : IsShown g) (agree : Agree h g (row_p
 module _ (k : Known) (at : IsHeadAt k (row_place End)) where
   all_read : (p : PlanValue) → MayPlan k p → (s : System) → planned_of s k.shown.plan ≡ planned_of s p
   all_read p may s = by (announced k s).planned refl where
-    all_of : (n : ℕ) {c : ℕ} {xs ys : List ℕ} → c ≤ 19 → 20 ≤ n → length xs ≡ min n c → c ≡ length ys → xs ≡ take (length xs) ys → xs ≡ ys
+    all_of : (n : ℕ) {c : ℕ} {xs ys : List ℕ} → c ≤ most_signals → 20 ≤ n → length xs ≡ min n c → c ≡ length ys → xs ≡ take (length xs) ys → xs ≡ ys
     all_of n {xs = xs} {ys} few many size is e = e ∙ take_all (length xs) ys (omega (arith, few, many, size, is))
 
     by : (c : Bool) → (announced k s).planned ≡ c → planned_of s k.shown.plan ≡ planned_of s p

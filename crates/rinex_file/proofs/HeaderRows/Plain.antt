@@ -7,13 +7,13 @@ use Rattle.rinex_file.proofs.Reading.Epochs.{few_signals_of}
 use Rattle.rinex_file.proofs.HeaderRows.Texts.{few_columns}
 use Rattle.rinex_file.proofs.HeaderRows.Types.{length-system_types}
 use Rattle.rinex_file.proofs.PlainTexts.{both, IsPlain, plain-wider, plain-append, plain-left, plain-right, plain-decimal, plain-fixed, plain, plain-flat_map, plain-joined, also, plain-text}
-use Rattle.rinex_file.proofs.Names.{arith, lit≤, lit<, ◌≡◌, ap, refl, subst, ℕ, zero, suc, ◌+◌, ◌*◌, ◌/◌, ◌%◌, ◌^◌, ◌<◌, ◌≤◌, ℤ, pos, unsigned_abs, Bool, true, false, List, [], ◌∷◌, ◌++◌, length, take, drop, decimal, get_or, append_assoc, length-append, ◌==◌, ◌||◌, ◌&&◌, not, if◌then◌else◌, nat_le, flat_map, All, codes, slice_get, AllByRecursion, list_all, option_map_or, cond_both, ints, length-take, All-nil, All-head, All-tail, All-cons, All-append, All-map, All-take, All-drop, All-replicate, code_of, System, StationValues, Civil, civil_of, PlanValue, planned_of, HeaderField, TextRow, HeaderRow, Version, Texts, Position, Delta, Types, StrengthUnit, First, Shift, End, IsLine, AreTexts, IsPlan, AreValues, IsTime, IsCoordinate, header_line, is_some_planned, version_fields, version_line, lengths, first_line, text_columns, texts_line, types_of, type_front, type_columns, type_line, codes_of, row_line, row_lines, has_line, all_rows, header_lines, position_line, delta_line, letter, joined, left, right, fixed, has, HeaderLists, width_of, text_of, fields_of, label_of, front_of, common_steps}
+use Rattle.rinex_file.proofs.Names.{arith, lit≤, lit<, ◌≡◌, ap, refl, subst, ℕ, zero, suc, ◌+◌, ◌*◌, ◌/◌, ◌%◌, ◌^◌, ◌<◌, ◌≤◌, ℤ, pos, unsigned_abs, Bool, true, false, List, [], ◌∷◌, ◌++◌, length, take, drop, decimal, get_or, append_assoc, length-append, ◌==◌, ◌||◌, ◌&&◌, not, if◌then◌else◌, nat_le, flat_map, All, codes, slice_get, AllByRecursion, list_all, option_map_or, cond_both, ints, length-take, All-nil, All-head, All-tail, All-cons, All-append, All-map, All-take, All-drop, All-replicate, code_of, System, StationValues, Civil, civil_of, PlanValue, planned_of, HeaderField, TextRow, HeaderRow, Version, Texts, Position, Delta, Types, StrengthUnit, First, Shift, End, IsLine, AreTexts, IsPlan, AreValues, IsTime, IsCoordinate, header_line, is_some_planned, version_fields, version_line, lengths, first_line, text_columns, texts_line, types_of, type_front, type_columns, type_line, codes_of, row_line, row_lines, has_line, all_rows, header_lines, position_line, delta_line, letter, joined, left, right, fixed, has, HeaderLists, width_of, text_of, fields_of, label_of, front_of, common_steps, most_line, most_signals}
 
 -- ---- a line of a file
 
 pub record IsFileLine (l : List ℕ) : Type 0 where
   pub line : IsLine l
-  pub short : length l ≤ 1220
+  pub short : length l ≤ most_line
 
 -- the line that a text without a line feed makes with one after it
 pub as_line : (n : ℕ) (body : List ℕ) → IsPlain n body → n ≤ 1219 → IsFileLine (body ++ 10 ∷ [])
@@ -111,7 +111,7 @@ line_of_types letter types line other few are =
 pub no_letter : (system : System) → (letter system == 10) ≡ false
 no_letter system = grind arith
 
-one_of_types : (system : System) (signals : List ℕ) (row : ℕ) → length signals ≤ 19 → IsFileLine (type_line (letter system) (types_of (codes_of system signals)) row)
+one_of_types : (system : System) (signals : List ℕ) (row : ℕ) → length signals ≤ most_signals → IsFileLine (type_line (letter system) (types_of (codes_of system signals)) row)
 one_of_types system signals row few =
     let types = types_of (codes_of system signals) in
     let count : length types ≡ 4 * length signals = length-system_types system signals in

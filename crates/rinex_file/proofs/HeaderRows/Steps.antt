@@ -1,9 +1,9 @@
--- Some plan has what was read of it; and from a row of a header to the next.
+-- Some plan continues what was read of it; and the steps from a row of a header to the next.
 use Rattle.rinex_file.proofs.Reading.Epochs.{cons_parts}
 use Rattle.rinex_file.proofs.Entries.{few_signals}
 use Rattle.rinex_file.proofs.HeaderRows.Agree.{types_there, Agree, agreed, less_or, planned_is, rows_when, same_there, types_low, types_high, shift_far, is_lt, placed, line_next, before_next}
 use Rattle.rinex_file.proofs.HeaderRows.Texts.{equal_or}
-use Rattle.rinex_file.proofs.Names.{arith, ◌≡◌, ◌∙◌, sym, ap, refl, subst, ℕ, zero, suc, ◌+◌, ◌-◌, ◌<◌, ◌≤◌, Bool, true, false, eqb, nat_eq, List, [], ◌∷◌, ◌++◌, length, take, append-nil, length-append, All, not, take_all, take-take, ◌≢◌, ap₂, ◌==◌, ◌&&◌, min, ◌↔◌, ◌||◌, nat_lt, list_any, IsDistinct, take-append_seam, nat_eq_equiv, IsDistinct-push, le-length_from_below, nat_tests, All-nil, All-cons, All-push, table, System, Gps, Galileo, passes_at, is_less, PlanValue, planned_of, civil_of, Known, MayBeAll, announced, IsShown, AreValid, MayPlan, HasReadRows, is_some_planned, shown_with, Announced, Shown, AreTypesRead, IsReadTo, IsHeadAt, IsOnlyTime, shown_rows, shown_line, lines_before, lines_after, signals_begun, HeaderRow, Types, StrengthUnit, First, Shift, End, Expected, Header, Epoch, lines_of_header, of_system, has_line, row_at, row_count, row_place, first_types, most_type_rows, type_rows, has_types, known_line, ReadsHeaderLine, RefusesHeaderLine, GoesTo, NoneGoesOn, SameFrom, StepsTo}
+use Rattle.rinex_file.proofs.Names.{arith, ◌≡◌, ◌∙◌, sym, ap, refl, subst, ℕ, zero, suc, ◌+◌, ◌-◌, ◌<◌, ◌≤◌, Bool, true, false, eqb, nat_eq, List, [], ◌∷◌, ◌++◌, length, take, append-nil, length-append, All, not, take_all, take-take, ◌≢◌, ap₂, ◌==◌, ◌&&◌, min, ◌↔◌, ◌||◌, nat_lt, list_any, IsDistinct, take-append_seam, nat_eq_equiv, IsDistinct-push, le-length_from_below, nat_tests, All-nil, All-cons, All-push, table, System, Gps, Galileo, passes_at, is_less, PlanValue, planned_of, civil_of, Known, MayBeAll, announced, IsShown, AreValid, MayPlan, HasReadRows, is_some_planned, shown_with, Announced, Shown, AreTypesRead, IsReadTo, IsHeadAt, IsOnlyTime, shown_rows, shown_line, lines_before, lines_after, signals_begun, HeaderRow, Types, StrengthUnit, First, Shift, End, Expected, Header, Epoch, lines_of_header, of_system, has_line, row_at, row_count, row_place, first_types, most_type_rows, type_rows, has_types, known_line, ReadsHeaderLine, RefusesHeaderLine, GoesTo, NoneGoesOn, SameFrom, StepsTo, most_signals}
 
 -- ---- signals of a system, with others up to a number
 
@@ -143,7 +143,7 @@ pub outside_high : (n : ℕ) → row_place StrengthUnit ≤ n → IsOutside n
 outside_high n far s more few = let high = types_high s in omega (arith, far, few, high)
 
 -- the signals that begin before a row are those that begin before the next
-pub still_size : (n b c : ℕ) → c ≤ 19 → (b ≤ n → n < b + most_type_rows → c ≤ signals_begun (n - b)) → min (signals_begun (n - b)) c ≡ min (signals_begun (suc n - b)) c
+pub still_size : (n b c : ℕ) → c ≤ most_signals → (b ≤ n → n < b + most_type_rows → c ≤ signals_begun (n - b)) → min (signals_begun (n - b)) c ≡ min (signals_begun (suc n - b)) c
 still_size n b c few within = grind (arith, less_or)
 
 -- no line of types was read, nor is one before this row
@@ -156,7 +156,7 @@ unread s a signals n low none empty = record {
   nothing : (a c : ℕ) → c ≡ 0 → 0 ≡ min a c
   nothing a c e = omega (arith, e)
 
-few_counted : (s : System) (c : ℕ) → c ≤ length (table s) → c ≤ 19
+few_counted : (s : System) (c : ℕ) → c ≤ length (table s) → c ≤ most_signals
 few_counted s c few = let most = few_signals s in omega (arith, few, most)
 
 -- what was read of a system is the same after a row in which none of its signals begins

@@ -6,7 +6,7 @@ use Rattle.std.proofs.lemmas.List.Concat.{get_or-flat_map}
 use Rattle.std.proofs.lemmas.List.{get_or-map}
 use Rattle.rinex_file.proofs.Entries.{flat_map-append}
 use Rattle.rinex_file.proofs.Digits.Numbers.{length-right, digits_in-whole}
-use Rattle.rinex_file.proofs.Names.{min, ◌-◌, length-take, length-drop, arith, rules, ◌≡◌, ◌∙◌, ap, refl, ℕ, zero, suc, ◌+◌, ◌<◌, ◌≤◌, ◌==◌, Bool, true, false, List, [], ◌∷◌, length, take, drop, Some, Option, nat_lt, sym, ◌*◌, ◌/◌, ◌%◌, ◌++◌, get_or, append_assoc, append-nil, ap₂, subst, ◌^◌, ◌||◌, replicate, decimal, nat_eq, IsAscii, IsUtf8, flat_map, slice_index, codes, All, list_any, IsDistinct, IsUtf8-from_ascii, cases_lt, length-map, take_more, get_or-drop, take_all, take_at, take-take, take-map, drop_at, drop-drop, drop-take, get_or-take, All-get_or, apart_from_distinct, IsDistinct-tail, length-le_from_distinct_below, length-decimal-le, System, Gps, Galileo, SignalAt, IsSignal, table, code_of, signal_of_code, passes_at, is_less, is_equal, indices, IsOf, any_index, indices-push, type_of, types_of, codes_of, type_columns, header_line, type_front, joined, left, right, letter, digits_in, AreTypes, types_line, signals_begun, HasSignalAt, same_Some, list_all, All-weaker, eqb-true}
+use Rattle.rinex_file.proofs.Names.{min, ◌-◌, length-take, length-drop, arith, rules, ◌≡◌, ◌∙◌, ap, refl, ℕ, zero, suc, ◌+◌, ◌<◌, ◌≤◌, ◌==◌, Bool, true, false, List, [], ◌∷◌, length, take, drop, Some, Option, nat_lt, sym, ◌*◌, ◌/◌, ◌%◌, ◌++◌, get_or, append_assoc, append-nil, ap₂, subst, ◌^◌, ◌||◌, replicate, decimal, nat_eq, IsAscii, IsUtf8, flat_map, slice_index, codes, All, list_any, IsDistinct, IsUtf8-from_ascii, cases_lt, length-map, take_more, get_or-drop, take_all, take_at, take-take, take-map, drop_at, drop-drop, drop-take, get_or-take, All-get_or, apart_from_distinct, IsDistinct-tail, length-le_from_distinct_below, length-decimal-le, System, Gps, Galileo, SignalAt, IsSignal, table, code_of, signal_of_code, passes_at, is_less, is_equal, indices, IsOf, any_index, indices-push, type_of, types_of, codes_of, type_columns, header_line, type_front, joined, left, right, letter, digits_in, AreTypes, types_line, signals_begun, HasSignalAt, same_Some, list_all, All-weaker, eqb-true, most_signals}
 
 abbrev signal : System → ℕ → SignalAt
 signal system index = record { system = system; index = index }
@@ -314,7 +314,7 @@ pub few_types : (system : System) (all : List ℕ) → AreTypes system all → l
 few_types system all are = length-le_from_distinct_below all (length (table system)) are.apart (among_listed (length (table system)) all are.listed)
 
 -- the first line has the number in its columns
-pub count_shown : (system : System) (all line : List ℕ) → AreTypes system all → length (table system) ≤ 19 → line ≡ types_line system all 0
+pub count_shown : (system : System) (all line : List ℕ) → AreTypes system all → length (table system) ≤ most_signals → line ≡ types_line system all 0
     → take 3 (drop 3 line) ≡ right 3 (decimal (4 * length all))
 count_shown system all line are bound is =
     let types = types_of (codes_of system all) in
@@ -327,7 +327,7 @@ count_shown system all line are bound is =
     ∙ take_at number (type_columns types 0 ++ first.0) 3 (length-right 3 (decimal (length types)) digits)
     ∙ ap (λ (n : ℕ). right 3 (decimal n)) (length-system_types system all)
 
-pub count_read : (system : System) (all line : List ℕ) → AreTypes system all → length (table system) ≤ 19 → line ≡ types_line system all 0
+pub count_read : (system : System) (all line : List ℕ) → AreTypes system all → length (table system) ≤ most_signals → line ≡ types_line system all 0
     → digits_in (take 3 (drop 3 line)) / 4 ≡ length all
 count_read system all line are bound is =
     let few = few_types system all are in

@@ -1,7 +1,7 @@
 -- The steps of a reading from one line of an epoch to the next.
 use Rattle.rinex_file.proofs.FewRows.{few_rows, few_planned}
 use Rattle.rinex_file.proofs.Entries.{few_signals}
-use Rattle.rinex_file.proofs.Names.{arith, ◌≡◌, refl, ℕ, ◌<◌, List, [], ◌∷◌, ◌++◌, length, length-append, suc, ◌+◌, ◌≤◌, sym, ap, ap₂, subst, ◌∙◌, append_assoc, append-nil, zero-add, drop, get_or, Option, Some, None, Bool, Expected, IsStrictlyIncreasing, All, map, flat_map, if◌then◌else◌, nat_lt, Result, Ok, Err, IsErrAnd, get_or_append_left, map-append, common_steps, All-head, All-tail, All-nil, All-push, flat_map-append, System, Gps, Galileo, PlanValue, planned_of, civil_of, StationValues, Stamped, SatelliteRow, FileValue, time_stamped, IsFileValue, IsPlan, IsStamped, IsSatelliteRow, AreSatelliteRows, IsTime, IsChange, AreChanges, IsFirstSame, changed_by, values_following, rank_of, most_rows, Epoch, Satellite, epoch_line, satellite_line, stamped_lines, change_lines, event_line, Progress, file_with, stamped, StartsAt, IsAt, IsBetween, IsInEvent, IsInEpoch, HasLinesLeft, epoch_after, begun_at, with_row, with_epoch, AreRead, IsBegun, IsEventExpected, IsSoundAt, IsSound, MayBegin, values_now, AreLinesAt, lines_of_header, whole_lines, part_lines, AddedRow, Refusal, Memory, Bad, ParserState, History, FollowsHistory, GoesOnWithLine, ShowsLine, RefusesLine, TakesLine, progress_at, Known, NoRow, IsNext}
+use Rattle.rinex_file.proofs.Names.{arith, ◌≡◌, refl, ℕ, ◌<◌, List, [], ◌∷◌, ◌++◌, length, length-append, suc, ◌+◌, ◌≤◌, sym, ap, ap₂, subst, ◌∙◌, append_assoc, append-nil, zero-add, drop, get_or, Option, Some, None, Bool, Expected, IsStrictlyIncreasing, All, map, flat_map, if◌then◌else◌, nat_lt, Result, Ok, Err, IsErrAnd, get_or_append_left, map-append, common_steps, All-head, All-tail, All-nil, All-push, flat_map-append, System, Gps, Galileo, PlanValue, planned_of, civil_of, StationValues, Stamped, SatelliteRow, FileValue, time_stamped, IsFileValue, IsPlan, IsStamped, IsSatelliteRow, AreSatelliteRows, IsTime, IsChange, AreChanges, IsFirstSame, changed_by, values_following, rank_of, most_rows, Epoch, Satellite, epoch_line, satellite_line, stamped_lines, change_lines, event_line, Progress, file_with, stamped, StartsAt, IsAt, IsBetween, IsInEvent, IsInEpoch, HasLinesLeft, epoch_after, begun_at, with_row, with_epoch, AreRead, IsBegun, IsEventExpected, IsSoundAt, IsSound, MayBegin, values_now, AreLinesAt, lines_of_header, whole_lines, part_lines, AddedRow, Refusal, Memory, Bad, ParserState, History, FollowsHistory, GoesOnWithLine, ShowsLine, RefusesLine, TakesLine, progress_at, Known, NoRow, IsNext, most_signals}
 
 -- a line was refused: memory ran out, or no file continues with it
 pub stopped : {Q : Refusal → Type 0} (old new : ParserState) (line : List ℕ) (r : Result AddedRow Refusal) → IsErrAnd r Q → ((e : Refusal) → Q e → e ≡ Bad → (h : History) → FollowsHistory old h → RefusesLine (progress_at old h) line)
@@ -238,15 +238,15 @@ sound_begun {s} {n} read none may time change same =
 
 -- what follows if satellites are expected and a line is next
 pub record RowNext (s : Progress) (n : ℕ) (v : FileValue) (line : List ℕ) (left : List (List ℕ)) : Type 0 where
-  pub seen : SatelliteRow
+  pub row : SatelliteRow
   pub more : List SatelliteRow
   pub others : List Stamped
   pub count : length more ≡ n
-  pub value : v ≡ file_with s (s.epochs ++ stamped s (s.rows ++ seen ∷ more) ∷ others)
-  pub starts : StartsAt s.known.shown.first (s.epochs ++ stamped s (s.rows ++ seen ∷ more) ∷ others)
-  pub is : IsSatelliteRow (length s.known.shown.plan.gps) (length s.known.shown.plan.galileo) seen
-  pub rising : IsStrictlyIncreasing (map rank_of s.rows ++ rank_of seen ∷ map rank_of more)
-  pub shown : line ≡ satellite_line seen
+  pub value : v ≡ file_with s (s.epochs ++ stamped s (s.rows ++ row ∷ more) ∷ others)
+  pub starts : StartsAt s.known.shown.first (s.epochs ++ stamped s (s.rows ++ row ∷ more) ∷ others)
+  pub is : IsSatelliteRow (length s.known.shown.plan.gps) (length s.known.shown.plan.galileo) row
+  pub rising : IsStrictlyIncreasing (map rank_of s.rows ++ rank_of row ∷ map rank_of more)
+  pub shown : line ≡ satellite_line row
   pub rest : left ≡ map satellite_line more ++ flat_map stamped_lines others
 
 from_more : {s : Progress} {n : ℕ} {v : FileValue} {line : List ℕ} {left : List (List ℕ)} (more : List SatelliteRow) (others : List Stamped) → IsFileValue v → length more ≡ suc n
@@ -258,7 +258,7 @@ from_more {s} (m ∷ ms) others is count value starts rest =
     let one : IsStamped (length s.known.shown.plan.gps) (length s.known.shown.plan.galileo) (stamped s (s.rows ++ m ∷ ms)) =
     All-midst (IsStamped (length s.known.shown.plan.gps) (length s.known.shown.plan.galileo)) s.epochs others (stamped s (s.rows ++ m ∷ ms)) valid.epochs in
     record {
-      seen = m;
+      row = m;
       more = ms;
       others = others;
       count = omega (arith, count);
@@ -278,26 +278,26 @@ row_next s n v line left expected (is, at) =
 
 module _ (s : Progress) (n : ℕ) (line : List ℕ) (expected : s.expected ≡ Satellite (suc n)) where
   pub no_row : ((w : SatelliteRow) → IsSatelliteRow (length s.known.shown.plan.gps) (length s.known.shown.plan.galileo) w → line ≡ satellite_line w → ⊥) → RefusesLine s line
-  no_row none v left on = let next = row_next s n v line left expected on in none next.seen next.is next.shown
+  no_row none v left on = let next = row_next s n v line left expected on in none next.row next.is next.shown
 
-  pub bad_row : (seen : SatelliteRow) → ((w : SatelliteRow) → IsSatelliteRow (length s.known.shown.plan.gps) (length s.known.shown.plan.galileo) w → line ≡ satellite_line w → w ≡ seen)
-      → (IsStrictlyIncreasing (map rank_of s.rows ++ rank_of seen ∷ []) → ⊥) → RefusesLine s line
-  bad_row seen only never v left on =
+  pub bad_row : (row : SatelliteRow) → ((w : SatelliteRow) → IsSatelliteRow (length s.known.shown.plan.gps) (length s.known.shown.plan.galileo) w → line ≡ satellite_line w → w ≡ row)
+      → (IsStrictlyIncreasing (map rank_of s.rows ++ rank_of row ∷ []) → ⊥) → RefusesLine s line
+  bad_row row only never v left on =
       let next = row_next s n v line left expected on in
-      let same : next.seen ≡ seen = only next.seen next.is next.shown in
-      let rise : IsStrictlyIncreasing (map rank_of s.rows ++ rank_of next.seen ∷ []) =
-      rise_front (map rank_of s.rows ++ rank_of next.seen ∷ []) (map rank_of next.more)
-      (subst IsStrictlyIncreasing (sym (append_assoc (map rank_of s.rows) (rank_of next.seen ∷ []) (map rank_of next.more))) next.rising) in
+      let same : next.row ≡ row = only next.row next.is next.shown in
+      let rise : IsStrictlyIncreasing (map rank_of s.rows ++ rank_of next.row ∷ []) =
+      rise_front (map rank_of s.rows ++ rank_of next.row ∷ []) (map rank_of next.more)
+      (subst IsStrictlyIncreasing (sym (append_assoc (map rank_of s.rows) (rank_of next.row ∷ []) (map rank_of next.more))) next.rising) in
       never (subst (λ w. IsStrictlyIncreasing (map rank_of s.rows ++ rank_of w ∷ [])) same rise)
 
-  pub row_taken : (seen : SatelliteRow) → line ≡ satellite_line seen → ((w : SatelliteRow) → IsSatelliteRow (length s.known.shown.plan.gps) (length s.known.shown.plan.galileo) w → line ≡ satellite_line w → w ≡ seen)
-      → GoesOnWithLine s (with_row s seen n) line
+  pub row_taken : (row : SatelliteRow) → line ≡ satellite_line row → ((w : SatelliteRow) → IsSatelliteRow (length s.known.shown.plan.gps) (length s.known.shown.plan.galileo) w → line ≡ satellite_line w → w ≡ row)
+      → GoesOnWithLine s (with_row s row n) line
   unfolding HasLinesLeft
-  row_taken seen shown only v left on =
+  row_taken row shown only v left on =
       let next = row_next s n v line left expected on in
-      let same : next.seen ≡ seen = only next.seen next.is next.shown in
-      let rows : s.rows ++ next.seen ∷ next.more ≡ (s.rows ++ seen ∷ []) ++ next.more =
-      ap (λ w. s.rows ++ w ∷ next.more) same ∙ sym (append_assoc s.rows (seen ∷ []) next.more) in (
+      let same : next.row ≡ row = only next.row next.is next.shown in
+      let rows : s.rows ++ next.row ∷ next.more ≡ (s.rows ++ row ∷ []) ++ next.more =
+      ap (λ w. s.rows ++ w ∷ next.more) same ∙ sym (append_assoc s.rows (row ∷ []) next.more) in (
         on.0,
         record {
           more = next.more;
@@ -310,28 +310,28 @@ module _ (s : Progress) (n : ℕ) (line : List ℕ) (expected : s.expected ≡ S
       )
 
 -- the lines with that of a satellite
-row_lines : (whole : List (List ℕ)) {taken : List (List ℕ)} {line : List ℕ} (c : Option StationValues) (t : ℕ) {k n : ℕ} (rows : List SatelliteRow) (seen : SatelliteRow) → taken ≡ whole ++ part_lines (at_time c t rows) k
-    → line ≡ satellite_line seen → k ≡ n → taken ++ line ∷ [] ≡ whole ++ part_lines (at_time c t (rows ++ seen ∷ [])) n
-row_lines whole {line} c t {k} rows seen e shown same =
+row_lines : (whole : List (List ℕ)) {taken : List (List ℕ)} {line : List ℕ} (c : Option StationValues) (t : ℕ) {k n : ℕ} (rows : List SatelliteRow) (row : SatelliteRow) → taken ≡ whole ++ part_lines (at_time c t rows) k
+    → line ≡ satellite_line row → k ≡ n → taken ++ line ∷ [] ≡ whole ++ part_lines (at_time c t (rows ++ row ∷ [])) n
+row_lines whole {line} c t {k} rows row e shown same =
     let front = change_lines c in
     let first = epoch_line (civil_of t) k in
     ap (λ l. l ++ line ∷ []) e ∙ append_assoc whole (front ++ first ∷ map satellite_line rows) (line ∷ [])
     ∙ ap (λ l. whole ++ l) (append_assoc front (first ∷ map satellite_line rows) (line ∷ []) ∙ ap (λ l. front ++ (first ∷ (map satellite_line rows ++ l ∷ []))) shown
-    ∙ ap (λ l. front ++ first ∷ l) (sym (map-append satellite_line rows (seen ∷ []))) ∙ ap (λ (m : ℕ). part_lines (at_time c t (rows ++ seen ∷ [])) m) same)
+    ∙ ap (λ l. front ++ first ∷ l) (sym (map-append satellite_line rows (row ∷ []))) ∙ ap (λ (m : ℕ). part_lines (at_time c t (rows ++ row ∷ [])) m) same)
 
-one_fewer : (rows : List SatelliteRow) (seen : SatelliteRow) (n : ℕ) → length rows + suc n ≡ length (rows ++ seen ∷ []) + n
-one_fewer rows seen n = let size : length (rows ++ seen ∷ []) ≡ length rows + 1 = length-append rows (seen ∷ []) in omega (arith, size)
+one_fewer : (rows : List SatelliteRow) (row : SatelliteRow) (n : ℕ) → length rows + suc n ≡ length (rows ++ row ∷ []) + n
+one_fewer rows row n = let size : length (rows ++ row ∷ []) ≡ length rows + 1 = length-append rows (row ∷ []) in omega (arith, size)
 
-pub row_shows : (s : Progress) (n : ℕ) (line : List ℕ) → s.expected ≡ Satellite (suc n) → (seen : SatelliteRow) → line ≡ satellite_line seen → ShowsLine s (with_row s seen n) line
-row_shows s n line expected seen shown taken are =
-    row_lines (whole_lines s.known.shown s.epochs) s.change s.time s.rows seen (subst (λ d. AreLinesAt s d taken) expected are) shown (one_fewer s.rows seen n)
+pub row_shows : (s : Progress) (n : ℕ) (line : List ℕ) → s.expected ≡ Satellite (suc n) → (row : SatelliteRow) → line ≡ satellite_line row → ShowsLine s (with_row s row n) line
+row_shows s n line expected row shown taken are =
+    row_lines (whole_lines s.known.shown s.epochs) s.change s.time s.rows row (subst (λ d. AreLinesAt s d taken) expected are) shown (one_fewer s.rows row n)
 
 -- the last satellite makes the epoch whole
-pub last_shows : (s : Progress) (line : List ℕ) → s.expected ≡ Satellite 1 → (seen : SatelliteRow) → line ≡ satellite_line seen → ShowsLine s (with_epoch (with_row s seen 0)) line
-last_shows s line expected seen shown taken are =
-    let e = stamped s (s.rows ++ seen ∷ []) in
-    let all = row_shows s 0 line expected seen shown taken are in
-    let n : length (s.rows ++ seen ∷ []) + 0 ≡ length (s.rows ++ seen ∷ []) = omega arith in
+pub last_shows : (s : Progress) (line : List ℕ) → s.expected ≡ Satellite 1 → (row : SatelliteRow) → line ≡ satellite_line row → ShowsLine s (with_epoch (with_row s row 0)) line
+last_shows s line expected row shown taken are =
+    let e = stamped s (s.rows ++ row ∷ []) in
+    let all = row_shows s 0 line expected row shown taken are in
+    let n : length (s.rows ++ row ∷ []) + 0 ≡ length (s.rows ++ row ∷ []) = omega arith in
     let head = lines_of_header s.known.shown in
     all ∙ ap (λ (m : ℕ). whole_lines s.known.shown s.epochs ++ part_lines e m) n ∙ append_assoc head (flat_map stamped_lines s.epochs) (stamped_lines e)
     ∙ ap (λ l. head ++ l) (ap (λ l. flat_map stamped_lines s.epochs ++ l) (sym (append-nil (stamped_lines e))) ∙ sym (flat_map-append stamped_lines s.epochs (e ∷ [])))
@@ -347,65 +347,65 @@ from_none s [] others count value starts rest = grind (arith, append-nil, append
 pub sound_open : (s : Progress) (n : ℕ) → s.expected ≡ Satellite n → IsSound s → AreRead s × IsBegun s × (0 < n) × (length s.rows + n ≤ most_rows (length s.known.shown.plan.gps) (length s.known.shown.plan.galileo))
 sound_open s n expected sound = subst (λ d. IsSoundAt s d) expected sound
 
-pub few_signals_of : (p : PlanValue) → IsPlan p → (system : System) → length (planned_of system p) ≤ 19
+pub few_signals_of : (p : PlanValue) → IsPlan p → (system : System) → length (planned_of system p) ≤ most_signals
 few_signals_of p is system = let few = few_planned p is system in let most = few_signals system in omega (arith, few, most)
 
-pub few_at : (s : Progress) (n : ℕ) → s.expected ≡ Satellite n → IsSound s → (length s.known.shown.plan.gps ≤ 19) × (length s.known.shown.plan.galileo ≤ 19)
+pub few_at : (s : Progress) (n : ℕ) → s.expected ≡ Satellite n → IsSound s → (length s.known.shown.plan.gps ≤ most_signals) × (length s.known.shown.plan.galileo ≤ most_signals)
 few_at s n expected sound = let plan = (sound_open s n expected sound).0.shown.plan in (few_signals_of s.known.shown.plan plan Gps, few_signals_of s.known.shown.plan plan Galileo)
 
-seen_more : (gps galileo : ℕ) (rows : List SatelliteRow) (seen : SatelliteRow) → AreSatelliteRows gps galileo rows → IsSatelliteRow gps galileo seen → IsStrictlyIncreasing (map rank_of rows ++ rank_of seen ∷ [])
-    → AreSatelliteRows gps galileo (rows ++ seen ∷ [])
-seen_more gps galileo rows seen these is rise =
+seen_more : (gps galileo : ℕ) (rows : List SatelliteRow) (row : SatelliteRow) → AreSatelliteRows gps galileo rows → IsSatelliteRow gps galileo row → IsStrictlyIncreasing (map rank_of rows ++ rank_of row ∷ [])
+    → AreSatelliteRows gps galileo (rows ++ row ∷ [])
+seen_more gps galileo rows row these is rise =
     record {
-      each = All-push (IsSatelliteRow gps galileo) rows seen these.each is;
-      rise = subst IsStrictlyIncreasing (sym (map-append rank_of rows (seen ∷ []))) rise;
+      each = All-push (IsSatelliteRow gps galileo) rows row these.each is;
+      rise = subst IsStrictlyIncreasing (sym (map-append rank_of rows (row ∷ []))) rise;
     }
 
 starts_more : (first : ℕ) (es : List Stamped) (x : Stamped) → StartsAt first es → (es ≡ [] → first ≡ x.time) → StartsAt first (es ++ x ∷ [])
 starts_more first v1 x starts none = grind arith
 
-module _ (s : Progress) (n : ℕ) {left : ℕ} (expected : s.expected ≡ Satellite left) (sound : IsSound s) {seen : SatelliteRow}
-    (is : IsSatelliteRow (length s.known.shown.plan.gps) (length s.known.shown.plan.galileo) seen) (rise : IsStrictlyIncreasing (map rank_of s.rows ++ rank_of seen ∷ [])) where
-  rows_more : AreSatelliteRows (length s.known.shown.plan.gps) (length s.known.shown.plan.galileo) (s.rows ++ seen ∷ [])
-  rows_more = seen_more (length s.known.shown.plan.gps) (length s.known.shown.plan.galileo) s.rows seen (sound_open s left expected sound).1.rows is rise
+module _ (s : Progress) (n : ℕ) {left : ℕ} (expected : s.expected ≡ Satellite left) (sound : IsSound s) {row : SatelliteRow}
+    (is : IsSatelliteRow (length s.known.shown.plan.gps) (length s.known.shown.plan.galileo) row) (rise : IsStrictlyIncreasing (map rank_of s.rows ++ rank_of row ∷ [])) where
+  rows_more : AreSatelliteRows (length s.known.shown.plan.gps) (length s.known.shown.plan.galileo) (s.rows ++ row ∷ [])
+  rows_more = seen_more (length s.known.shown.plan.gps) (length s.known.shown.plan.galileo) s.rows row (sound_open s left expected sound).1.rows is rise
 
-  pub sound_row : 0 < n → left ≡ suc n → IsSound (with_row s seen n)
+  pub sound_row : 0 < n → left ≡ suc n → IsSound (with_row s row n)
   sound_row some one =
       let (read, begun, all, room) = sound_open s left expected sound in
-      let size : length s.rows + left ≡ length (s.rows ++ seen ∷ []) + n = ap (λ (k : ℕ). length s.rows + k) one ∙ one_fewer s.rows seen n in (
+      let size : length s.rows + left ≡ length (s.rows ++ row ∷ []) + n = ap (λ (k : ℕ). length s.rows + k) one ∙ one_fewer s.rows row n in (
         read,
         record { time = begun.time; later = begun.later; rows = rows_more; first = begun.first; change = begun.change; same = begun.same },
         some,
         subst (λ (k : ℕ). k ≤ most_rows (length s.known.shown.plan.gps) (length s.known.shown.plan.galileo)) size room,
       )
 
-  pub sound_closed : IsSound (with_epoch (with_row s seen n))
+  pub sound_closed : IsSound (with_epoch (with_row s row n))
   sound_closed =
       let (read, begun, all, room) = sound_open s left expected sound in
-      let size : length (s.rows ++ seen ∷ []) ≡ length s.rows + 1 = length-append s.rows (seen ∷ []) in (
+      let size : length (s.rows ++ row ∷ []) ≡ length s.rows + 1 = length-append s.rows (row ∷ []) in (
         record {
           shown = read.shown;
-          epochs = All-push (IsStamped (length s.known.shown.plan.gps) (length s.known.shown.plan.galileo)) s.epochs (stamped s (s.rows ++ seen ∷ [])) read.epochs (record {
+          epochs = All-push (IsStamped (length s.known.shown.plan.gps) (length s.known.shown.plan.galileo)) s.epochs (stamped s (s.rows ++ row ∷ [])) read.epochs (record {
             time = begun.time;
             rows = rows_more;
             some = omega (arith, size);
           });
-          rising = subst IsStrictlyIncreasing (sym (map-append time_stamped s.epochs (stamped s (s.rows ++ seen ∷ []) ∷ []))) begun.later;
-          starts = starts_more s.known.shown.first s.epochs (stamped s (s.rows ++ seen ∷ [])) read.starts begun.first;
-          first = first_more s.epochs (stamped s (s.rows ++ seen ∷ [])) read.first begun.same;
-          changes = changes_more s.known.shown.values s.epochs (stamped s (s.rows ++ seen ∷ [])) read.changes begun.change;
+          rising = subst IsStrictlyIncreasing (sym (map-append time_stamped s.epochs (stamped s (s.rows ++ row ∷ []) ∷ []))) begun.later;
+          starts = starts_more s.known.shown.first s.epochs (stamped s (s.rows ++ row ∷ [])) read.starts begun.first;
+          first = first_more s.epochs (stamped s (s.rows ++ row ∷ [])) read.first begun.same;
+          changes = changes_more s.known.shown.values s.epochs (stamped s (s.rows ++ row ∷ [])) read.changes begun.change;
         },
         refl,
       )
 
 -- the last line of an epoch's satellites
-pub last_taken : (s : Progress) (line : List ℕ) → s.expected ≡ Satellite 1 → (seen : SatelliteRow) → line ≡ satellite_line seen
-    → ((w : SatelliteRow) → IsSatelliteRow (length s.known.shown.plan.gps) (length s.known.shown.plan.galileo) w → line ≡ satellite_line w → w ≡ seen)
-    → GoesOnWithLine s (with_epoch (with_row s seen 0)) line
+pub last_taken : (s : Progress) (line : List ℕ) → s.expected ≡ Satellite 1 → (row : SatelliteRow) → line ≡ satellite_line row
+    → ((w : SatelliteRow) → IsSatelliteRow (length s.known.shown.plan.gps) (length s.known.shown.plan.galileo) w → line ≡ satellite_line w → w ≡ row)
+    → GoesOnWithLine s (with_epoch (with_row s row 0)) line
 unfolding HasLinesLeft
-last_taken s line expected seen shown only v left on =
-    let here : IsInEpoch (with_row s seen 0) 0 v left = (row_taken s 0 line expected seen shown only v left on).1 in
-    (on.0, from_none (with_row s seen 0) here.more here.others here.count here.value here.starts here.rest)
+last_taken s line expected row shown only v left on =
+    let here : IsInEpoch (with_row s row 0) 0 v left = (row_taken s 0 line expected row shown only v left on).1 in
+    (on.0, from_none (with_row s row 0) here.more here.others here.count here.value here.starts here.rest)
 
 -- ---- a line that adds nothing
 

@@ -2,7 +2,7 @@
 use Rattle.rinex_file.specs.declared.read.fault.ReadFault.TheVariants.{Memory}
 use Rattle.rinex_file.proofs.Digits.Numbers.{has-append, lacks-append}
 use Rattle.rinex_file.proofs.Writing.Sent.{joined-append}
-use Rattle.rinex_file.proofs.Names.{arith, ◌≡◌, ◌∙◌, sym, ap, subst, refl, ℕ, zero, suc, ◌+◌, ◌-◌, ◌<◌, ◌≤◌, true, false, List, [], ◌∷◌, ◌++◌, length, take, drop, get_or, length-append, take-add, append_assoc, append-nil, Option, Some, None, IfSome, inl, inr, is_some, ◌||◌, ◌==◌, nat_eq, nat_lt, min, All, ⊤, Bool, Ok, Consumes, IsAtEnd, prepend_known, min-eq_left, min-eq_right, min-le_left, min-le_right, le-min, false_from_ne_true, or_parts, or_right, append_cancel_left, length-take-le, take-append-drop, length_push, drop-take, drop-drop, take-take, Consumes-nil, Consumes-trans, All-head, All-tail, All-push, has, LeavesRest, AreMoved, MovesBytes, IsLine, IsTextOf, NoFileBegins, IsCutShort, IsTooLong, IsFaulty, ExplainsFault, IsNoFault, most_lines, ParserState, AddedRow, Reading, FileValue, IsFileValue, file_text, file_lines, History, with_line, GoesOnWithLine, ShowsLine, RefusesLine, ReadsNextLine, HasRead, IsWhole, IsTextOfOnly, file_at, IsTaken, FileBuilder, history_of, HasReadWhole, joined, ReadFault, Read, CutShort, TooLong, AreBegun, Progress, HasLinesLeft, AreLinesOf, HasReadLines}
+use Rattle.rinex_file.proofs.Names.{arith, ◌≡◌, ◌∙◌, sym, ap, subst, refl, ℕ, zero, suc, ◌+◌, ◌-◌, ◌<◌, ◌≤◌, true, false, List, [], ◌∷◌, ◌++◌, length, take, drop, get_or, length-append, take-add, append_assoc, append-nil, Option, Some, None, IfSome, inl, inr, is_some, ◌||◌, ◌==◌, nat_eq, nat_lt, min, All, ⊤, Bool, Ok, Consumes, IsAtEnd, prepend_known, min-eq_left, min-eq_right, min-le_left, min-le_right, le-min, false_from_ne_true, or_parts, or_right, append_cancel_left, length-take-le, take-append-drop, length_push, drop-take, drop-drop, take-take, Consumes-nil, Consumes-trans, All-head, All-tail, All-push, has, LeavesRest, AreMoved, MovesBytes, IsLine, IsTextOf, NoFileBegins, IsCutShort, IsTooLong, IsFaulty, ExplainsFault, IsNoFault, most_lines, ParserState, AddedRow, Reading, FileValue, IsFileValue, file_text, file_lines, History, with_line, GoesOnWithLine, ShowsLine, RefusesLine, ReadsNextLine, HasRead, IsWhole, IsTextOfOnly, file_at, IsTaken, FileBuilder, history_of, HasReadWhole, joined, ReadFault, Read, CutShort, TooLong, AreBegun, Progress, HasLinesLeft, AreLinesOf, HasReadLines, most_line}
 
 -- ---- bytes that are moved to a line
 
@@ -16,8 +16,8 @@ moved_are : {near : List ℕ} {feed count room : ℕ} (b : Bool) → IsFeed near
 moved_are true at is size e = grind (arith, min-eq_left, take-add)
 moved_are false at is size e = grind (arith, min-eq_right)
 
-pub moved : {held near new line line' : List ℕ} {room feed count : ℕ} → IsFeed near feed → near ≡ take room held → room ≡ min (length held) (1220 - length line)
-    → count ≡ min (feed + 1) room → new ≡ drop count held → line' ≡ line ++ take count near → length line ≤ 1220 → MovesBytes (nat_lt feed room) held new line line'
+pub moved : {held near new line line' : List ℕ} {room feed count : ℕ} → IsFeed near feed → near ≡ take room held → room ≡ min (length held) (most_line - length line)
+    → count ≡ min (feed + 1) room → new ≡ drop count held → line' ≡ line ++ take count near → length line ≤ most_line → MovesBytes (nat_lt feed room) held new line line'
 moved at is most e rest pushed short = grind (arith, min-le_left, min-le_right, length-take-le, take-take, take-append-drop, moved_are, le-min, length-append)
 
 pub moved_of : (b : Bool) (held old new line line' : List ℕ) → held ≡ old → MovesBytes b held new line line' → MovesBytes b old new line line'
@@ -50,7 +50,7 @@ line_whole old new line line' endless m =
 pub still_endless : (old new line line' : List ℕ) → has 10 line ≡ false → MovesBytes false old new line line' → has 10 line' ≡ false
 still_endless old new line line' endless m = ap (has 10) m.to ∙ lacks-append 10 line m.bytes endless m.are
 
-pub longer : (old new line line' : List ℕ) → MovesBytes false old new line line' → 0 < length old → length line < 1220 → length line < length line'
+pub longer : (old new line line' : List ℕ) → MovesBytes false old new line line' → 0 < length old → length line < most_line → length line < length line'
 longer old new line line' m some less = grind (arith, length-append)
 
 pub leaves_more : (a b c : Option (List ℕ)) → LeavesRest a b → LeavesRest b c → LeavesRest a c
@@ -144,12 +144,12 @@ after_all P [] more all = all
 after_all P (l ∷ ls) more all = after_all P ls more (All-tail P l (ls ++ more) all)
 
 abbrev IsShort : List ℕ → Type 0
-IsShort l = length l ≤ 1220
+IsShort l = length l ≤ most_line
 
 not_front : (m x long rest : List ℕ) → IsLine m → length m ≤ length long → has 10 long ≡ false → m ++ x ≡ long ++ rest → ⊥
 not_front m x long rest (body, e, endless) short none same = grind (arith, length-append, not_within, append_assoc)
 
-not_first : (more : List (List ℕ)) (long rest : List ℕ) → All IsLine more → All IsShort more → length long ≡ 1220 → has 10 long ≡ false → long ++ rest ≡ joined more → ⊥
+not_first : (more : List (List ℕ)) (long rest : List ℕ) → All IsLine more → All IsShort more → length long ≡ most_line → has 10 long ≡ false → long ++ rest ≡ joined more → ⊥
 not_first [] long rest are short size endless e = grind (arith, length-append, (ap length e), (length-append long rest))
 not_first (m ∷ ms) long rest are short size endless e =
     not_front m (joined ms) long rest (All-head IsLine m ms are) (omega (arith, (All-head IsShort m ms short), size)) endless (sym e)
@@ -187,7 +187,7 @@ pub one_more : {old new : Progress} {n : ℕ} {a b c : Option (List ℕ)} (line 
 one_more line t is next more shows = grind (arith, are_more, length_push, taken_more, history_more)
 
 -- the next line has too many bytes
-pub over_long : {s : Progress} {n : ℕ} {a b : Option (List ℕ)} (c : Option (List ℕ)) (bytes : List ℕ) → IsTaken s n a b → length bytes ≡ 1220 → has 10 bytes ≡ false → Consumes b c bytes
+pub over_long : {s : Progress} {n : ℕ} {a b : Option (List ℕ)} (c : Option (List ℕ)) (bytes : List ℕ) → IsTaken s n a b → length bytes ≡ most_line → has 10 bytes ≡ false → Consumes b c bytes
     → IfSome a (λ input. IsFaulty input (n + 1))
 over_long c bytes t size endless next = grind (arith, consumed, Consumes-trans, append_assoc)
 
@@ -228,7 +228,7 @@ module _ (are_lines : (v : FileValue) → IsFileValue v → All IsLine (file_lin
       lines ∙ ap (λ l. taken ++ l) none ∙ append-nil taken
 
   -- the input ends before the next line's line feed; if no byte of the line was read, more lines are expected
-  pub cut : {s : Progress} {n : ℕ} {a b : Option (List ℕ)} (c : Option (List ℕ)) {bytes : List ℕ} (t : IsTaken s n a b) → AreBegun t.lines → has 10 bytes ≡ false → length bytes < 1220 → IsAtEnd c → Consumes b c bytes
+  pub cut : {s : Progress} {n : ℕ} {a b : Option (List ℕ)} (c : Option (List ℕ)) {bytes : List ℕ} (t : IsTaken s n a b) → AreBegun t.lines → has 10 bytes ≡ false → length bytes < most_line → IsAtEnd c → Consumes b c bytes
       → (bytes ≡ [] → (v : FileValue) → HasLinesLeft s v [] → ⊥) → IfSome a (λ input. IsCutShort input (n + 1))
   cut {s} {n} {a} {b} c {bytes} t begun endless few end next never =
       consumed_all a c (joined t.lines ++ bytes) (λ input. IsCutShort input (n + 1)) (Consumes-trans a b c (joined t.lines) bytes t.taken next) end (record {
@@ -256,13 +256,13 @@ module _ (are_lines : (v : FileValue) → IsFileValue v → All IsLine (file_lin
 
   -- ---- a text of a file is no fault
 
-  module _ (are_short : (v : FileValue) → IsFileValue v → All (λ l. length l ≤ 1220) (file_lines v)) where
+  module _ (are_short : (v : FileValue) → IsFileValue v → All (λ l. length l ≤ most_line) (file_lines v)) where
     -- the lines after those that were accepted are short, too
-    not_long : {v : FileValue} (lines : List (List ℕ)) (long rest : List ℕ) → IsFileValue v → All IsLine lines → length long ≡ 1220 → has 10 long ≡ false
+    not_long : {v : FileValue} (lines : List (List ℕ)) (long rest : List ℕ) → IsFileValue v → All IsLine lines → length long ≡ most_line → has 10 long ≡ false
         → file_text v ≡ joined lines ++ (long ++ rest) → ⊥
     not_long {v} lines long rest is are size endless e =
         let (more, split, text) = splits (file_lines v) lines (long ++ rest) (are_lines v is) are e in
-        not_first more long rest (after_all IsLine lines more (subst (All IsLine) split (are_lines v is))) (after_all IsShort lines more (subst (All (λ l. length l ≤ 1220)) split (are_short v is)))
+        not_first more long rest (after_all IsLine lines more (subst (All IsLine) split (are_lines v is))) (after_all IsShort lines more (subst (All (λ l. length l ≤ most_line)) split (are_short v is)))
         size endless text
 
     not_many : {v : FileValue} (lines : List (List ℕ)) (rest : List ℕ) → IsFileValue v → All IsLine lines → length lines ≡ most_lines → 0 < length rest → length (file_lines v) ≤ most_lines

@@ -2,13 +2,13 @@
 use Rattle.rinex_file.proofs.Reading.Epochs.{few_signals_of}
 use Rattle.rinex_file.proofs.Rows.Sizes.{few_satellites}
 use Rattle.rinex_file.proofs.Writing.Sent.{joined-append}
-use Rattle.rinex_file.proofs.Names.{arith, ◌≡◌, ◌∙◌, sym, ap, ap₂, refl, ℕ, ◌+◌, ◌<◌, ◌≤◌, List, [], ◌∷◌, ◌++◌, length, take, get_or, append_assoc, append-nil, All, map, flat_map, take_all, take_more, flat_map-append, flat_map-map, System, Gps, Galileo, civil_of, SatelliteRow, Stamped, FileValue, IsSatelliteRow, IsFileValue, of_system, header_lines, joined, epoch_line, satellite_line, header_text, change_lines, stamped_lines, file_text, lines_of_parts, HasRoom, HaveRowsRoom, stamped_text}
+use Rattle.rinex_file.proofs.Names.{arith, ◌≡◌, ◌∙◌, sym, ap, ap₂, refl, ℕ, ◌+◌, ◌<◌, ◌≤◌, List, [], ◌∷◌, ◌++◌, length, take, get_or, append_assoc, append-nil, All, map, flat_map, take_all, take_more, flat_map-append, flat_map-map, System, Gps, Galileo, civil_of, SatelliteRow, Stamped, FileValue, IsSatelliteRow, IsFileValue, of_system, header_lines, joined, epoch_line, satellite_line, header_text, change_lines, stamped_lines, file_text, lines_of_parts, HasRoom, HaveRowsRoom, stamped_text, most_signals}
 
-pub either_few : (s : System) (gps galileo : ℕ) → gps ≤ 19 → galileo ≤ 19 → of_system s gps galileo ≤ 19
+pub either_few : (s : System) (gps galileo : ℕ) → gps ≤ most_signals → galileo ≤ most_signals → of_system s gps galileo ≤ most_signals
 either_few Gps gps galileo few less = few
 either_few Galileo gps galileo few less = less
 
-has_room : (gps galileo : ℕ) (s : SatelliteRow) → gps ≤ 19 → galileo ≤ 19 → IsSatelliteRow gps galileo s → HasRoom s
+has_room : (gps galileo : ℕ) (s : SatelliteRow) → gps ≤ most_signals → galileo ≤ most_signals → IsSatelliteRow gps galileo s → HasRoom s
 has_room gps galileo s g e is = grind (arith, few_satellites, either_few)
 
 -- each line has room for its satellite

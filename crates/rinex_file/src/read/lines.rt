@@ -27,12 +27,13 @@ struct Block {
 
 impl Model for Block {
     ghost use Rattle.std.specs.Prelude.{◌≤◌, ◌-◌, List, ℕ, take, drop};
+    ghost use Rattle.rinex_file.specs.Limits.{block_bytes};
 
     ghost Value = { List ℕ };
 
     ghost view = { λ b. take (b.end - b.at) (drop b.at b.bytes) };
 
-    ghost invariant = { λ b. (b.at ≤ b.end) × (b.end ≤ 65536) };
+    ghost invariant = { λ b. (b.at ≤ b.end) × (b.end ≤ block_bytes) };
 }
 
 /// What was found when the next line was read.

@@ -1,10 +1,10 @@
 use Rattle.rinex_file.specs.declared.read.lines.Found.TheVariants.{End}
 use Rattle.rinex_file.proofs.Reading.Lines.{not_nil, consumed_none, moved_taken, line_whole, still_endless, leaves_more, leaves_all}
-use Rattle.rinex_file.proofs.Names.{arith, ◌≡◌, ◌∙◌, refl, subst, ℕ, ◌≤◌, ◌<◌, [], Bool, false, nat_eq, List, length, Option, HasFailed, Found, Line, Long, Failed, IsFound, has, MovesBytes, sym, Consumes-nil}
+use Rattle.rinex_file.proofs.Names.{arith, ◌≡◌, ◌∙◌, refl, subst, ℕ, ◌≤◌, ◌<◌, [], Bool, false, nat_eq, List, length, Option, HasFailed, Found, Line, Long, Failed, IsFound, has, MovesBytes, sym, Consumes-nil, most_line}
 use Rattle.rinex_file.proofs.read.lines.next_line.Goals as goal
 
 -- what was found in the place of more bytes is found after those so far
-found_after : (f : Found) (bytes : List ℕ) (left : Option (List ℕ)) {first old : ℕ} (new : ℕ) → has 10 bytes ≡ false → length bytes < 1220 → old ≡ first → IsFound f [] left old new → IsFound f bytes left first new
+found_after : (f : Found) (bytes : List ℕ) (left : Option (List ℕ)) {first old : ℕ} (new : ℕ) → has 10 bytes ≡ false → length bytes < most_line → old ≡ first → IsFound f [] left old new → IsFound f bytes left first new
 found_after Line bytes left new endless few same ((body, shape, none), fine) = absurd (not_nil _ [] (body, shape, none) refl)
 found_after End bytes left new endless few same (none, end, fine, empty) = (endless, end, fine ∙ same, few)
 found_after Long bytes left new endless few same (size, none, fine) = absurd (omega (arith, size))

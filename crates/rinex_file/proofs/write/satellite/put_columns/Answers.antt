@@ -1,6 +1,6 @@
 use Rattle.rinex_file.proofs.Rows.Cells.{HasPlace, first_columns, put_row}
 use Rattle.rinex_file.proofs.Rows.Sizes.{length-room}
-use Rattle.rinex_file.proofs.Names.{arith, ◌≡◌, ◌∙◌, ◌*◌, ◌-◌, ◌+◌, ◌++◌, ℕ, List, ap, sym, subst, length, take, drop, replicate, slice_set, length-take-le, HasSignals}
+use Rattle.rinex_file.proofs.Names.{arith, ◌≡◌, ◌∙◌, ◌*◌, ◌-◌, ◌+◌, ◌++◌, ℕ, List, ap, sym, subst, length, take, drop, replicate, slice_set, length-take-le, HasSignals, most_line}
 use Rattle.rinex_file.proofs.write.satellite.put_columns.Goals as goal
 
 pub returns-clause-text : goal.returns-clause-text
@@ -11,8 +11,8 @@ returns-clause-text c front others l all h is =
     let start : ℕ = 3 + 64 * c.args.place in
     let now = slice_set others c.args.place c.args.values.now in
     let old = take c.args.size c.args.row.now in
-    let before : length c.args.row.now ≡ 1220 = omega arith in
-    let after : length row ≡ 1220 = omega arith in
+    let before : length c.args.row.now ≡ most_line = omega arith in
+    let after : length row ≡ most_line = omega arith in
     let old_size : length old ≡ c.args.size = length-take-le c.args.size c.args.row.now (omega (arith, before, c.requires.within)) in
     let size : length (take n row) ≡ n = length-take-le n row (omega (arith, after, c.reach-size.ensures.bound)) in
     let wide : start + 64 - start ≡ 64 = omega arith in

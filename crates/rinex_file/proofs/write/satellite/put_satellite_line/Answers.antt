@@ -3,7 +3,7 @@
 use Rattle.rinex_file.proofs.Entries.{few_signals as short_table}
 use Rattle.rinex_file.proofs.Rows.Cells.{begun_entries, no_place, others_stay, other_stays, cell_put, all_fit, trimmed_line, front_length}
 use Rattle.rinex_file.proofs.write.satellite.put_satellite_line.Goals.{After-of, After-loop-at, else-id-via-else-id, else-id-via-then-id+in-None-1}
-use Rattle.rinex_file.proofs.Names.{arith, ◌≡◌, ◌∙◌, refl, sym, ap, ap₂, subst, ◌+◌, ◌-◌, ◌<◌, ◌≤◌, [], ◌∷◌, ◌++◌, ℕ, List, length, take, drop, false, slice_index_or, ◌==◌, slice_set, nat_eq, IsDistinct, drop_more, length-map, All-drop, position-Some, Cell, SignalAt, IsHeld, planned_of, few_signals, padded, letter, satellite_line, SignalValues, signal_values_at, entries_of, HasSignals}
+use Rattle.rinex_file.proofs.Names.{arith, ◌≡◌, ◌∙◌, refl, sym, ap, ap₂, subst, ◌+◌, ◌-◌, ◌<◌, ◌≤◌, [], ◌∷◌, ◌++◌, ℕ, List, length, take, drop, false, slice_index_or, ◌==◌, slice_set, nat_eq, IsDistinct, drop_more, length-map, All-drop, position-Some, Cell, SignalAt, IsHeld, planned_of, few_signals, padded, letter, satellite_line, SignalValues, signal_values_at, entries_of, HasSignals, most_signals}
 use Rattle.rinex_file.proofs.write.satellite.put_satellite_line.Goals as goal
 
 more : (cells : List Cell) (at : ℕ) (cell : Cell) → 0 < at → at ≤ length cells → cell ≡ slice_index_or cells (at - 1) cell → drop (at - 1) cells ≡ cell ∷ drop at cells
@@ -11,7 +11,7 @@ more cells at cell some within is =
     let back : at - 1 + 1 ≡ at = omega (arith, some) in
     drop_more cells (at - 1) cell (omega (arith, within, some)) ∙ ap₂ (λ x n. x ∷ drop n cells) (sym is) back
 
-few : (c : After-of) → length (planned_of c.args.system c.args.plan.now) ≤ 19
+few : (c : After-of) → length (planned_of c.args.system c.args.plan.now) ≤ most_signals
 few c =
     let size = ap length c.of.ensures.indices in
     let own = length-map c.of.result.now (λ (s : SignalAt). s.index) in
