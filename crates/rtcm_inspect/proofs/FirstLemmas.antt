@@ -1,5 +1,5 @@
 -- What the first messages contain, after one more frame.
-use Rattle.rtcm_inspect.proofs.Names.{◌≡◌, ◌∙◌, ◌==◌, ◌++◌, ℕ, true, false, not, List, [], ◌∷◌, Option, Some, None, Result, Ok, Err, IfSome, refl, sym, ap, find, append-nil, arith, option_and_then, option_or, filter_map-append, find-append, Framed, message_at, InRange, StationParts, MsgFault, Message, Heard, heard, AreFirst, first_in, first_station, first_tow, one_of, point_of, sender, stations_in, stations_of, tow_of, with_other, heard_at, heard_of, FirstMessages, Unknown, One, Several}
+use Rattle.rtcm_inspect.proofs.Names.{◌≡◌, ◌∙◌, ◌==◌, ◌++◌, ℕ, true, false, not, List, [], ◌∷◌, Option, Some, None, Result, Ok, Err, IfSome, refl, sym, ap, find, append-nil, arith, option_and_then, option_or, filter_map-append, find-append, Framed, message_at, InRange, StationParts, MsgFault, Message, Heard, heard, AreFirst, first_in, first_station, first_tow, one_of, point_of, sender, stations_in, stations_of, tow_of, with_other, heard_in, heard_of, FirstMessages, Unknown, One, Several}
 
 or_more : {A : Type 0} (a b c : Option A) → option_or a (option_or b c) ≡ option_or (option_or a b) c
 or_more None b c = refl
@@ -10,18 +10,18 @@ or_none None = refl
 or_none (Some x) = refl
 
 -- one more frame
-first_more : {A : Type 0} (has : Heard → Option A) (fs : List Framed) (f : Framed) → first_in has (fs ++ f ∷ []) ≡ option_or (first_in has fs) (option_and_then has (heard_at f.message))
-first_more has [] f = or_none (option_and_then has (heard_at f.message))
-first_more has (g ∷ fs) f = ap (option_or (option_and_then has (heard_at g.message))) (first_more has fs f) ∙ or_more (option_and_then has (heard_at g.message)) (first_in has fs) (option_and_then has (heard_at f.message))
+first_more : {A : Type 0} (has : Heard → Option A) (fs : List Framed) (f : Framed) → first_in has (fs ++ f ∷ []) ≡ option_or (first_in has fs) (option_and_then has (heard_in f.message))
+first_more has [] f = or_none (option_and_then has (heard_in f.message))
+first_more has (g ∷ fs) f = ap (option_or (option_and_then has (heard_in g.message))) (first_more has fs f) ∙ or_more (option_and_then has (heard_in g.message)) (first_in has fs) (option_and_then has (heard_in f.message))
 
 -- a frame with this message, if it was read
 first_after : {A : Type 0} (has : Heard → Option A) (fs : List Framed) (f : Framed) (r : Result Message MsgFault) → message_at f.message ≡ r
     → first_in has (fs ++ f ∷ []) ≡ option_or (first_in has fs) (option_and_then has (heard_of r))
 first_after has fs f r is = first_more has fs f ∙ ap (λ (r : Result Message MsgFault). option_or (first_in has fs) (option_and_then has (heard_of r))) is
 
-stations_more : (fs : List Framed) (f : Framed) → stations_of (fs ++ f ∷ []) ≡ stations_of fs ++ one_of (option_and_then sender (heard_at f.message))
-stations_more fs f = filter_map-append (λ g. option_and_then sender (heard_at g.message)) fs (f ∷ []) ∙ ap (λ (l : List ℕ). stations_of fs ++ l) (by (option_and_then sender (heard_at f.message)) refl) where
-  by : (o : Option ℕ) → option_and_then sender (heard_at f.message) ≡ o → stations_of (f ∷ []) ≡ one_of (option_and_then sender (heard_at f.message))
+stations_more : (fs : List Framed) (f : Framed) → stations_of (fs ++ f ∷ []) ≡ stations_of fs ++ one_of (option_and_then sender (heard_in f.message))
+stations_more fs f = filter_map-append (λ g. option_and_then sender (heard_in g.message)) fs (f ∷ []) ∙ ap (λ (l : List ℕ). stations_of fs ++ l) (by (option_and_then sender (heard_in f.message)) refl) where
+  by : (o : Option ℕ) → option_and_then sender (heard_in f.message) ≡ o → stations_of (f ∷ []) ≡ one_of (option_and_then sender (heard_in f.message))
   by None e = grind (arith, e)
   by (Some n) e = grind (arith, e)
 

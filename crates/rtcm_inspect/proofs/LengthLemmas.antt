@@ -1,6 +1,6 @@
 -- Numbers, dates and lengths that are read from text, and lengths that were written.
 use Rattle.std.proofs.Common.{◌≡◌, ◌≢◌, ◌∙◌, ◌≤◌, ◌<◌, ◌+◌, ◌-◌, ◌*◌, ◌/◌, ◌%◌, ◌^◌, ◌&&◌, ◌==◌, ◌++◌, ℕ, ℤ, pos, negsuc, neg_ℤ, suc, Bool, true, false, not, List, [], ◌∷◌, Option, Some, None, Result, Ok, Err, IfSome, Bor, option_map, unwrap_or, length, length-append, get_or, drop, decimal, codes, append_assoc, arith, rules, refl, sym, ap, subst, lit≤}
-use Rattle.rtcm_inspect.proofs.Names.{ParsesUnsigned, IsCivilOf, week, weeks, Civil, IsHourOf, civil_in, if◌then◌else◌, option_and_then, option_map_or, nat_le, nat_lt, nat_tests, common_steps, list_all, result_ok, is_digit, digits_from, digits_in, next_digit, number_of as digits_number, number_of, MatchOption, IsNumeralModel, numerals_by_fold, parse_plain, digits_value_short, position_or_len, position_or_len_is, get_or_append_left, get_or_at, take_at, drop_at, length_push, decimal_nonempty, digits_decimal, digits_value-decimal, length-decimal-le, list_all-append, AllPass-from_list_all, FitsInt, InRange, StationParts, height_text, position_text, after_byte, coordinate_by, coordinate_of, cut, decimals_of, length_below, length_by, length_of, position_of, four_digits, metres, size_text}
+use Rattle.rtcm_inspect.proofs.Names.{ParsesUnsigned, IsCivilOf, week, weeks, Civil, IsHourOf, civil_in, if◌then◌else◌, option_and_then, option_map_or, nat_le, nat_lt, nat_tests, common_steps, list_all, result_ok, is_digit, digits_from, digits_in, next_digit, number_of as digits_number, number_of, MatchOption, IsNumeralModel, numerals_by_fold, parse_plain, digits_value_short, position_or_len, position_or_len_is, get_or_append_left, get_or_at, take_at, drop_at, length_push, decimal_nonempty, digits_decimal, digits_value-decimal, length-decimal-le, list_all-append, AllPass-from_list_all, FitsInt, InRange, StationParts, height_text, position_text, after_byte, coordinate_by, coordinate_of, cut, decimals_of, length_below, length_by, length_of, position_of, four_digits, metres, size_text, coordinate_bound}
 
 -- ---- numbers of digits alone
 
@@ -168,11 +168,11 @@ module _ (n : ℕ) (small : n < 10 ^ 12) where
 pub coordinate_read : (z : ℤ) → FitsInt 38 z → coordinate_of (metres z) ≡ Some z
 coordinate_read (pos n) fits =
     let small : n < 10 ^ 12 = omega (arith, fits) in
-    ap (coordinate_by (size_text n)) (size_unsigned n small) ∙ ap (option_map pos) (size_below n small (2 ^ 37) fits)
+    ap (coordinate_by (size_text n)) (size_unsigned n small) ∙ ap (option_map pos) (size_below n small coordinate_bound fits)
 coordinate_read (negsuc n) fits =
     let small : n + 1 < 10 ^ 12 = omega (arith, fits) in
-    let less : n + 1 < 2 ^ 37 + 1 = omega (arith, fits) in
-    ap (option_map (λ k. neg_ℤ (pos k))) (size_below (n + 1) small (2 ^ 37 + 1) less) ∙ ap (λ (k : ℕ). Some (neg_ℤ (pos k))) (next n) where
+    let less : n + 1 < coordinate_bound + 1 = omega (arith, fits) in
+    ap (option_map (λ k. neg_ℤ (pos k))) (size_below (n + 1) small (coordinate_bound + 1) less) ∙ ap (λ (k : ℕ). Some (neg_ℤ (pos k))) (next n) where
       next : (k : ℕ) → k + 1 ≡ suc k
       next k = omega arith
 

@@ -1,4 +1,5 @@
 -- The names that proofs cite, passed on from one place. Declares nothing.
+pub use Rattle.gnss_obs.specs.GatheredEpochs.{coordinate_bound}
 pub use Rattle.gnss_obs.specs.Dates.{IsCivilOf, civil_of}
 pub use Rattle.gnss_obs.specs.HeardCells.{HeardCell, IsKey}
 pub use Rattle.gnss_obs.specs.Plans.{below, between_commas, one_signal_more, onto_first, place_in, plan_of, signals_after, signals_of}
@@ -11,7 +12,7 @@ pub use Rattle.gnss_obs.specs.declared.fault.PlanFault.TheVariants.{RepeatedCode
 pub use Rattle.gnss_obs.specs.declared.system.System.{System}
 pub use Rattle.gnss_obs.specs.declared.system.System.TheVariants.{Galileo, Gps}
 pub use Rattle.obs_epoch.specs.Cells.{counts_of, counts_of_message, has_listed_key, is_planned, no_counts, offered, with_skipped}
-pub use Rattle.obs_epoch.specs.Heard.{GatherSetup, Heard, heard, heard_at, heard_of, is_own, lock_by, observed, seen_in, system_of}
+pub use Rattle.obs_epoch.specs.Heard.{GatherSetup, Heard, heard, heard_in, heard_of, is_own, lock_by, observed, seen_in, system_of}
 pub use Rattle.obs_epoch.specs.SignalCounts.{AreSignalCounts, CountsMessage, SignalCountsValue, brings_value, count_of, counted, has_any, is_of_signal, is_of_station, signal_in, valued}
 pub use Rattle.obs_epoch.specs.Times.{Timed, ahead, greatest_time, is_closed, is_past, max_known, taken_at, timed_after}
 pub use Rattle.rinex_file.specs.Counting.{AreCounts, IsSummary}
@@ -41,7 +42,7 @@ unfoldable pub use Rattle.rtcm_inspect.specs.Fitting.{options_line}
 pub use Rattle.rtcm_inspect.specs.Fitting.{antenna_words, height_text, number_start, number_words, position_text, position_word, station_words}
 unfoldable pub use Rattle.rtcm_inspect.specs.FrameLines.{frame_line, number_word}
 pub use Rattle.rtcm_inspect.specs.Lines.{line, with_words}
-pub use Rattle.rtcm_inspect.specs.Listing.{EndsListing, Lists, ListsAll, ListsDecided, ListsPart, ListsToLimit, ListsUpTo, StopsListing, WritesLine, listing_line, listing_lines}
+pub use Rattle.rtcm_inspect.specs.Listing.{EndsListing, Lists, ListsAll, ListsDecided, ListsPart, ListsToLimit, ListsUpTo, StopsListing, WritesLine, listing_line, listing_lines, piece_bytes}
 pub use Rattle.rtcm_inspect.specs.Metres.{four_digits, metres, size_text}
 pub use Rattle.rtcm_inspect.specs.NearWeek.{IsNearestWeek, IsWeekFor, half_week}
 pub use Rattle.rtcm_inspect.specs.OptionOutput.{AreOptionsOf, EndsOptions}

@@ -1,5 +1,5 @@
 -- The nearest week, and the time of the first MSM.
-use Rattle.rtcm_inspect.proofs.Names.{◌≡◌, ◌∙◌, ◌+◌, ◌-◌, ◌*◌, ◌/◌, ◌<◌, ◌≤◌, ◌==◌, ◌&&◌, ◌||◌, ◌++◌, ℕ, Bool, true, false, List, [], ◌∷◌, Option, Some, None, Result, Ok, Err, refl, sym, ap, ap₂, arith, cons_option, filter_map, nat_lt, option_and_then, if◌then◌else◌, option_or, option_map_or, week, weeks, Framed, message_at, MsgFault, Message, Station, Msm4, Msm7, Other, GatherSetup, Heard, is_own, is_of_station, Timed, ahead, greatest_time, is_closed, is_past, max_known, taken_at, timed_after, first_tow, tow_of, heard_at, heard_of, IsNearestWeek, half_week, first_time}
+use Rattle.rtcm_inspect.proofs.Names.{◌≡◌, ◌∙◌, ◌+◌, ◌-◌, ◌*◌, ◌/◌, ◌<◌, ◌≤◌, ◌==◌, ◌&&◌, ◌||◌, ◌++◌, ℕ, Bool, true, false, List, [], ◌∷◌, Option, Some, None, Result, Ok, Err, refl, sym, ap, ap₂, arith, cons_option, filter_map, nat_lt, option_and_then, if◌then◌else◌, option_or, option_map_or, week, weeks, Framed, message_at, MsgFault, Message, Station, Msm4, Msm7, Other, GatherSetup, Heard, is_own, is_of_station, Timed, ahead, greatest_time, is_closed, is_past, max_known, taken_at, timed_after, first_tow, tow_of, heard_in, heard_of, IsNearestWeek, half_week, first_time}
 
 -- ---- the nearest week, by its quotient q: n = q * week + r
 
@@ -112,7 +112,7 @@ not_taken s earlier m none = choose (is_own s m) _ m.tow (λ own. no_parts s.sta
 -- the time of an accepted message, by the greatest time before it
 abbrev placed : GatherSetup → List Timed → Option ℕ → ℕ → Option ℕ
 placed s earlier greatest tow =
-    if option_map_or (λ t. nat_lt 302_400_000 (ahead t tow) || ((ahead t tow == 0) && is_closed s t earlier)) greatest false
+    if option_map_or (λ t. nat_lt half_week (ahead t tow) || ((ahead t tow == 0) && is_closed s t earlier)) greatest false
     || is_past (option_map_or (λ t. t + ahead t tow) greatest (s.start_week * week + tow))
     then None else Some (option_map_or (λ t. t + ahead t tow) greatest (s.start_week * week + tow))
 
@@ -148,9 +148,9 @@ dated_step {tow} {rest} s (Some m) ms now more station earlier none first = by (
       let own = counts_own s m from.0 from.1 parts.0 in
       first_stays s (s.start_week * week + tow) (earlier ++ x ∷ []) ms (now_first earlier x (s.start_week * week + tow) (taken_first s earlier m now (none_greatest earlier none) own is) none)
 
-dated_after : (s : GatherSetup) (tow : ℕ) (fs : List Framed) → is_past (s.start_week * week + tow) ≡ false → Dated s tow (first_tow s.station fs) (filter_map (λ (f : Framed). heard_at f.message) fs)
+dated_after : (s : GatherSetup) (tow : ℕ) (fs : List Framed) → is_past (s.start_week * week + tow) ≡ false → Dated s tow (first_tow s.station fs) (filter_map (λ (f : Framed). heard_in f.message) fs)
 dated_after s tow [] now = λ earlier none first. absurd (no_tow first)
-dated_after s tow (f ∷ fs) now = dated_step s (heard_at f.message) (filter_map (λ (f : Framed). heard_at f.message) fs) now (dated_after s tow fs now) (λ m t is h. has_station (message_at f.message) m t is h)
+dated_after s tow (f ∷ fs) now = dated_step s (heard_in f.message) (filter_map (λ (f : Framed). heard_in f.message) fs) now (dated_after s tow fs now) (λ m t is h. has_station (message_at f.message) m t is h)
 
-pub dated : (s : GatherSetup) (fs : List Framed) (tow : ℕ) → s.start_week < weeks → tow < week → first_tow s.station fs ≡ Some tow → first_time (timed_after s [] (filter_map (λ (f : Framed). heard_at f.message) fs)) ≡ Some (s.start_week * week + tow)
+pub dated : (s : GatherSetup) (fs : List Framed) (tow : ℕ) → s.start_week < weeks → tow < week → first_tow s.station fs ≡ Some tow → first_time (timed_after s [] (filter_map (λ (f : Framed). heard_in f.message) fs)) ≡ Some (s.start_week * week + tow)
 dated s fs tow within small first = dated_after s tow fs (not_past s.start_week tow within small) [] refl first

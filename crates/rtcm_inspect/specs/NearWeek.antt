@@ -1,9 +1,9 @@
 -- The week of a time of week near a date. Times are in milliseconds.
-use Rattle.std.specs.Prelude.{◌≡◌, ◌⊎◌, ℕ, ◌+◌, ◌-◌, ◌*◌, ◌<◌, ◌≤◌, Option, Some, None}
+use Rattle.std.specs.Prelude.{◌≡◌, ◌⊎◌, ℕ, ◌+◌, ◌-◌, ◌*◌, ◌/◌, ◌<◌, ◌≤◌, Option, Some, None}
 use Rattle.gnss_obs.specs.Weeks.{week, weeks}
 
 abbrev pub half_week : ℕ
-half_week = 302_400_000
+half_week = week / 2
 
 -- In week w this time of week is less than half a week from noon, or half a week before it.
 abbrev pub IsNearestWeek : (noon tow w : ℕ) → Type 0

@@ -1,5 +1,5 @@
 -- Bounds of the values of a message.
-use Rattle.std.specs.Prelude.{ℤ, pos, neg_ℤ, ◌^◌, ◌<◌, ◌≤◌, ◌≤ℤ◌, IfSome, unsigned_abs}
+use Rattle.std.specs.Prelude.{ℤ, pos, neg_ℤ, ◌-◌, ◌^◌, ◌<◌, ◌≤◌, ◌≤ℤ◌, IfSome, unsigned_abs}
 use Rattle.std.specs.List.{AllByRecursion}
 use Rattle.rtcm_msg.specs.declared.message.Message.{Message}
 use Rattle.rtcm_msg.specs.declared.entry.Entry.{Entry}
@@ -20,7 +20,7 @@ EntriesAreMeasured = (m : Message) → AllByRecursion IsMeasured (entries m)
 
 -- A coordinate of 38 bits, in 0.0001 m.
 abbrev pub IsCoordinate : ℤ → Type 0
-IsCoordinate z = (neg_ℤ (pos 137_438_953_472) ≤ℤ z) × (z ≤ℤ pos 137_438_953_471)
+IsCoordinate z = (neg_ℤ (pos (2 ^ 37)) ≤ℤ z) × (z ≤ℤ pos (2 ^ 37 - 1))
 
 -- The point of a station message, and the height of the antenna.
 pub record IsPoint (p : StationParts) : Type 0 where
