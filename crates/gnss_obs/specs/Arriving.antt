@@ -39,10 +39,11 @@ pub record IsAdded (old : EpochValue) (x : Cell) (added : Added) (new : EpochVal
 
 -- ---- the table that finds the cell of a key
 
--- The number of entries of each satellite.
+-- The number of entries of each satellite: more than a system has signals.
 abbrev pub satellite_slots : ℕ
 satellite_slots = 32
 
+-- Those of each number of a satellite, and of 0, which no satellite has.
 abbrev pub most_slots : ℕ
 most_slots = satellite_slots * (most_satellites + 1)
 

@@ -57,7 +57,7 @@ abbrev pub epoch_by : PlanValue → CellOutcome → (HeardCell → Option KnownL
 epoch_by p Kept f e x = with_more p e (kept_cell x (lli_with e.time x (f x)))
 epoch_by p _ f e x = e
 
--- After one more cell, the kept epoch is that of the longer list.
+-- After one more cell, the pending epoch is that of the longer list.
 one_more : (s : GatherSetup) (f : HeardCell → Option KnownLock) (t : ℕ) (xs : List HeardCell) (x : HeardCell)
     → epoch_by s.plan (outcome_after s xs x) f (epoch_of s.plan f t xs) x ≡ epoch_of s.plan f t (xs ++ planned_one s x)
 one_more s f t xs x = by x.satellite.system (is_planned s x) refl refl refl refl where

@@ -1,4 +1,4 @@
--- A closing: the locks of the kept epoch are recorded.
+-- A closing: the locks of the pending epoch are recorded.
 use Rattle.std.proofs.Common.{◌≡◌, ℕ, true, false, List, [], ◌∷◌, ◌++◌, filter, refl, sym, ap, ap₂, ◌∙◌, subst, arith, length, append_assoc, append-nil, Option, Some, None, flat_map, find, option_and_then, filter_map, unwrap_or}
 use Rattle.std.specs.Option.{option_or}
 use Rattle.std.specs.List.{IsDistinct, cons_option}
@@ -138,7 +138,7 @@ noted_tracks s xs ts t rs h =
     ∙ sym (flat_map-append (λ u. filter is_locked (cells_at s u xs Gps ++ cells_at s u xs Galileo)) ts (t ∷ [])) in
     subst (TracksLocks (note_all t (note_all t rs (cells_with_lli s xs t gps)) (cells_with_lli s xs t galileo))) is second
 
--- The kept epoch is closed.
+-- The pending epoch is closed.
 pub noted_locked : (g : GathererValue) (s : GatherSetup) (xs : List Timed) (ts : List ℕ) (t : ℕ) → g.epoch ≡ epoch_at s xs t → Locked g s xs ts → Locked (noted g) s xs (ts ++ t ∷ [])
 noted_locked g s xs ts t e h =
     let is : (noted g).locks ≡ note_all t (note_all t g.locks (cells_with_lli s xs t (cells_at s t xs Gps))) (cells_with_lli s xs t (cells_at s t xs Galileo)) =

@@ -288,7 +288,7 @@ ended g s ms false h = by g.clock.pending refl where
 pub no_point : (s : GatherSetup) (xs : List Timed) (m : Message) → closes_first s xs (heard m) ≡ true → (heard m).point ≡ None
 no_point s xs m h = grind (arith, common_steps, h)
 
--- ---- what neither the kept epoch nor the lock records change
+-- ---- what neither the pending epoch nor the lock records change
 
 -- A field that doesn't depend on them.
 abbrev IsApart : (GathererValue → Bool) → Type 0

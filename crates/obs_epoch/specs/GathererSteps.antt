@@ -26,7 +26,7 @@ use Rattle.gnss_obs.specs.declared.cell.Cell.{Cell}
 use Rattle.obs_epoch.specs.declared.locks.KnownLock.{KnownLock}
 use Rattle.obs_epoch.specs.declared.taken.CellCounts.{CellCounts}
 
--- ---- the kept epoch
+-- ---- the pending epoch
 
 abbrev pub no_pending : StationValues → PendingValue
 no_pending values = record { epoch = empty_epoch 0; values = values; is_open = true }
@@ -98,7 +98,7 @@ load_entries field system l (e ∷ es) = load_entries field system (load_entry f
 abbrev pub load_heard : Loaded → Heard → Loaded
 load_heard l m = with_unlisted m.unlisted (load l m.cells)
 
--- The locks of the kept epoch are recorded.
+-- The locks of the pending epoch are recorded.
 abbrev pub noted : GathererValue → GathererValue
 noted g = record g { locks = note_all g.epoch.time (note_all g.epoch.time g.locks g.epoch.gps) g.epoch.galileo }
 

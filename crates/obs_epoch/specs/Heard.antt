@@ -121,11 +121,11 @@ is_own s m = option_map_or (λ from. option_map_or (λ wanted. from == wanted) s
 abbrev pub ends_epoch : GatherSetup → Heard → Bool
 ends_epoch s m = s.by_bit && is_own s m && option_map_or not m.more false
 
--- The parts of a message that was read; none of one that was refused.
+-- The parts of a message, or `None` if it was refused.
 abbrev pub heard_of : Result Message MsgFault → Option Heard
 heard_of (Ok m) = Some (heard m)
 heard_of (Err e) = None
 
 -- The parts of the message in these bytes.
-abbrev pub heard_at : List ℕ → Option Heard
-heard_at bytes = heard_of (message_at bytes)
+abbrev pub heard_in : List ℕ → Option Heard
+heard_in bytes = heard_of (message_at bytes)

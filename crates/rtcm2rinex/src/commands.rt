@@ -64,15 +64,15 @@ pub struct Tables<'a> {
     pub version: &'a str,
     /// The commands, in the order of the help text.
     pub commands: &'a [CommandRow<'a>],
-    /// The station.
+    /// The option of the station.
     pub station: &'a [OptionRow<'a>],
-    /// A date near the first observations.
+    /// The option of a date near the first observations.
     pub near: &'a [OptionRow<'a>],
-    /// Whether times are printed.
+    /// The flag that prints times.
     pub times: &'a [OptionRow<'a>],
     /// The options of a conversion.
     pub convert: &'a [OptionRow<'a>],
-    /// The texts of the header.
+    /// The options of the header's texts.
     pub texts: &'a [OptionRow<'a>],
 }
 

@@ -1,5 +1,5 @@
 -- The bytes written are the text of a file value.
-use Rattle.rtcm_convert.proofs.Names.{◌≡◌, ℕ, ◌<◌, inl, inr, Bool, true, false, List, [], ◌∷◌, ◌++◌, length, filter, refl, sym, subst, arith, Option, Some, None, Result, Ok, Err, nat_lt, append-nil, cond, IfSome, AllByRecursion, cons_option, Framed, Message, MsgFault, IsMessage, message_at, PlanValue, Closed, satellites_written, Heard, IsPrefix, all_epochs, closed_epochs, ClosedComeFirst, IsHeard, MessagesAreHeard, EpochsAreGathered, IsGatheredEpoch, TimesRise, AreGatheredEpochs, HeaderLists, AreTexts, gathered, AreSignals, HasSatellite, IsGatheredFile, SetupValue, heard_of, heard_at, messages_of, written_epochs, text_of_epochs, text_with, file, so_far, epochs_in, IsFileText, HasValue, IsReadable, AreSound}
+use Rattle.rtcm_convert.proofs.Names.{◌≡◌, ℕ, ◌<◌, inl, inr, Bool, true, false, List, [], ◌∷◌, ◌++◌, length, filter, refl, sym, subst, arith, Option, Some, None, Result, Ok, Err, nat_lt, append-nil, cond, IfSome, AllByRecursion, cons_option, Framed, Message, MsgFault, IsMessage, message_at, PlanValue, Closed, satellites_written, Heard, IsPrefix, all_epochs, closed_epochs, ClosedComeFirst, IsHeard, MessagesAreHeard, EpochsAreGathered, IsGatheredEpoch, TimesRise, AreGatheredEpochs, HeaderLists, AreTexts, gathered, AreSignals, HasSatellite, IsGatheredFile, SetupValue, heard_of, heard_in, messages_of, written_epochs, text_of_epochs, text_with, file, so_far, epochs_in, IsFileText, HasValue, IsReadable, AreSound}
 
 -- the laws of the crates below on messages, epochs and files
 pub record Known : Type 0 where
@@ -21,7 +21,7 @@ message_heard k bytes (Err fault) e = tt
 
 messages_heard : Known → (fs : List Framed) → AllByRecursion IsHeard (messages_of fs)
 messages_heard k [] = tt
-messages_heard k (f ∷ fs) = by (heard_at f.message) (message_heard k f.message (message_at f.message) refl) (messages_heard k fs) where
+messages_heard k (f ∷ fs) = by (heard_in f.message) (message_heard k f.message (message_at f.message) refl) (messages_heard k fs) where
   by : (o : Option Heard) → IfSome o IsHeard → AllByRecursion IsHeard (messages_of fs) → AllByRecursion IsHeard (cons_option o (messages_of fs))
   by None h l = l
   by (Some m) h l = (h, l)

@@ -3,7 +3,7 @@ use Rattle.rtcm_convert.proofs.PartLemmas.{goes_on-refl, goes_on-trans, breaks_o
 use Rattle.rtcm_convert.proofs.TextLemmas.{cap_more, count, last, text-closed}
 use Rattle.rtcm_convert.proofs.ExactLemmas.{few_more, message_few, refused_few}
 use Rattle.rtcm_convert.proofs.StepLemmas.{Wrote, wrote_all, part_of}
-use Rattle.rtcm_convert.proofs.Names.{◌≡◌, ℕ, List, [], ◌∷◌, ◌++◌, true, false, refl, sym, ap, subst, ◌∙◌, Option, Some, None, Result, Ok, Err, IfOk, OnOk, append-nil, append_assoc, ◌+◌, arith, sum_by, common_steps, filter_map-append, sum_by-append, AppendsPrefix, Framed, Message, MsgFault, message_at, IsMessage, Kind, Closed, GatherSetup, Heard, heard, is_close_first, kind_of, GathererValue, HasGatheredEpochs, IsAwaited, closed_by, closed_in, plan_in, closed_epochs, all_epochs, known_epochs, SetupValue, text_with, so_far, file, messages_of, heard_at, outcome, outcomes, outcomes_after, capped, capped_tally, tallies_added, sum_of_counts, tally_of, tally_of_one, IsFew, AreFew, AppendsBetween, AppendsPrefixBetween, added, HasFiledEpochs, Settled, HasFiledFrames, EndsFile, Report, FileWriter}
+use Rattle.rtcm_convert.proofs.Names.{◌≡◌, ℕ, List, [], ◌∷◌, ◌++◌, true, false, refl, sym, ap, subst, ◌∙◌, Option, Some, None, Result, Ok, Err, IfOk, OnOk, append-nil, append_assoc, ◌+◌, arith, sum_by, common_steps, filter_map-append, sum_by-append, AppendsPrefix, Framed, Message, MsgFault, message_at, IsMessage, Kind, Closed, GatherSetup, Heard, heard, is_close_first, kind_of, GathererValue, HasGatheredEpochs, IsAwaited, closed_by, closed_in, plan_in, closed_epochs, all_epochs, known_epochs, SetupValue, text_with, so_far, file, messages_of, heard_in, outcome, outcomes, outcomes_after, capped, capped_tally, tallies_added, sum_of_counts, tally_of, tally_of_one, IsFew, AreFew, AppendsBetween, AppendsPrefixBetween, added, HasFiledEpochs, Settled, HasFiledFrames, EndsFile, Report, FileWriter}
 
 -- the epochs written after these, and their text
 abbrev pub Written : FileWriter → SetupValue → List Heard → Option Heard → Option (List ℕ) → Option (List ℕ) → List Closed → Type 0
@@ -42,12 +42,12 @@ part_again {m} {s} {ms} first p = breaks_off-after first.2 (p s ms first.0 (Some
 messages_more : (fs : List Framed) (f : Framed) (m : Message) → message_at f.message ≡ Ok m → messages_of (fs ++ f ∷ []) ≡ messages_of fs ++ heard m ∷ []
 messages_more fs f m e =
     let one : messages_of (f ∷ []) ≡ heard m ∷ [] = rw e refl in
-    filter_map-append (λ (f : Framed). heard_at f.message) fs (f ∷ []) ∙ ap (λ l. messages_of fs ++ l) one
+    filter_map-append (λ (f : Framed). heard_in f.message) fs (f ∷ []) ∙ ap (λ l. messages_of fs ++ l) one
 
 messages_same : (fs : List Framed) (f : Framed) (d : MsgFault) → message_at f.message ≡ Err d → messages_of (fs ++ f ∷ []) ≡ messages_of fs
 messages_same fs f d e =
     let none : messages_of (f ∷ []) ≡ [] = rw e refl in
-    filter_map-append (λ (f : Framed). heard_at f.message) fs (f ∷ []) ∙ ap (λ l. messages_of fs ++ l) none ∙ append-nil (messages_of fs)
+    filter_map-append (λ (f : Framed). heard_in f.message) fs (f ∷ []) ∙ ap (λ l. messages_of fs ++ l) none ∙ append-nil (messages_of fs)
 
 -- one more outcome
 outcomes_after-one : (s : SetupValue) (before fs : List Framed) (f : Framed) → outcomes_after s before (fs ++ f ∷ []) ≡ outcomes_after s before fs ++ outcome s (before ++ fs) f ∷ []

@@ -3,7 +3,7 @@ use Rattle.std.specs.Prelude.{ℕ, nat_lt, List, [], ◌∷◌, ◌++◌, length
 use Rattle.std.specs.List.{filter_map}
 use Rattle.rtcm_scan.specs.Frames.{Framed}
 use Rattle.gnss_obs.specs.Values.{PlanValue, Closed, satellites_written}
-use Rattle.obs_epoch.specs.Heard.{GatherSetup, Heard, heard_at}
+use Rattle.obs_epoch.specs.Heard.{GatherSetup, Heard, heard_in}
 use Rattle.obs_epoch.specs.GathererHistory.{all_epochs, closed_epochs}
 use Rattle.rinex_file.specs.Texts.{HeaderLists}
 use Rattle.rinex_file.specs.File.{header_text, closed_text}
@@ -15,7 +15,7 @@ pub record SetupValue : Type 0 where
 
 -- the messages of these frames in order, without refused ones
 abbrev pub messages_of : List Framed → List Heard
-messages_of fs = filter_map (λ f. heard_at f.message) fs
+messages_of fs = filter_map (λ f. heard_in f.message) fs
 
 -- the epochs in which a satellite has a value
 abbrev pub written_epochs : List Closed → List Closed

@@ -5,7 +5,7 @@ use Rattle.std.specs.Option.{option_or}
 use Rattle.rtcm_scan.specs.Frames.{Framed}
 use Rattle.rtcm_msg.specs.Station.{InRange}
 use Rattle.rtcm_msg.specs.declared.station.StationParts.{StationParts}
-use Rattle.obs_epoch.specs.Heard.{Heard, heard_at}
+use Rattle.obs_epoch.specs.Heard.{Heard, heard_in}
 use Rattle.obs_epoch.specs.SignalCounts.{is_of_station}
 use Rattle.rtcm_inspect.specs.declared.first_messages.FirstMessages.{FirstMessages}
 use Rattle.rtcm_inspect.specs.declared.first_messages.Stations.{Stations}
@@ -14,7 +14,7 @@ use Rattle.rtcm_inspect.specs.declared.first_messages.Stations.TheVariants.{Unkn
 -- what the first message contains that has it
 abbrev pub first_in : {A : Type 0} → (Heard → Option A) → List Framed → Option A
 first_in has [] = None
-first_in has (f ∷ fs) = option_or (option_and_then has (heard_at f.message)) (first_in has fs)
+first_in has (f ∷ fs) = option_or (option_and_then has (heard_in f.message)) (first_in has fs)
 
 -- the content of a station message (1005 or 1006) of the wanted station; if none is given, of any station
 abbrev pub point_of : Option ℕ → Heard → Option StationParts
@@ -44,7 +44,7 @@ one_of (Some n) = n ∷ []
 
 -- the stations of the MSMs and station messages in these frames, in order
 abbrev pub stations_of : List Framed → List ℕ
-stations_of fs = filter_map (λ f. option_and_then sender (heard_at f.message)) fs
+stations_of fs = filter_map (λ f. option_and_then sender (heard_in f.message)) fs
 
 -- none, one, or the first and the first other one
 abbrev pub with_other : ℕ → Option ℕ → Stations

@@ -7,7 +7,7 @@ abbrev pub longest_number : ℕ
 longest_number = 20
 
 -- Room for a line. The longest is the report of a conversion: 14 names of 90 letters in all, 14 numbers, 27 blanks and
--- a line feed. The last 2 make it a multiple of 8.
+-- a line feed. The last 2 are spare.
 abbrev pub longest_line : ℕ
 longest_line = 90 + 14 * longest_number + 27 + 1 + 2
 

@@ -5,7 +5,7 @@ use Rattle.gnss_obs.specs.declared.system.System.TheVariants.{Gps, Galileo}
 use Rattle.rtcm_scan.specs.Frames.{Framed}
 use Rattle.obs_epoch.specs.Cells.{counts_of_message, is_planned}
 use Rattle.obs_epoch.specs.SignalCounts.{brings_value}
-use Rattle.obs_epoch.specs.Heard.{GatherSetup, Heard, heard_at}
+use Rattle.obs_epoch.specs.Heard.{GatherSetup, Heard, heard_in}
 use Rattle.obs_epoch.specs.Times.{Timed}
 use Rattle.gnss_obs.specs.Plans.{plan_of}
 use Rattle.rtcm_inspect.specs.Signals.{valued_in, had, plan_had, codes_word}
@@ -14,7 +14,7 @@ use Rattle.rtcm_inspect.specs.Signals.{valued_in, had, plan_had, codes_word}
 -- of unlisted satellites or signals
 abbrev pub SkipsOnly : GatherSetup → List Timed → Framed → Type 0
 SkipsOnly s earlier f =
-    (m : Heard) → heard_at f.message ≡ Some m
+    (m : Heard) → heard_in f.message ≡ Some m
     → (counts_of_message s earlier m).skipped ≤ m.unlisted + count_by (λ x. not (brings_value x)) m.cells
 
 -- a conversion with this plan has a column for each value of the frames' cells of listed satellites and signals

@@ -7,7 +7,7 @@ use Rattle.gnss_obs.specs.declared.system.System.{System}
 use Rattle.gnss_obs.specs.declared.system.System.TheVariants.{Gps, Galileo}
 use Rattle.gnss_obs.specs.Satellites.{letter}
 use Rattle.gnss_obs.specs.Signals.{SignalAt, table, code_of}
-use Rattle.obs_epoch.specs.Heard.{heard_at}
+use Rattle.obs_epoch.specs.Heard.{heard_in}
 use Rattle.obs_epoch.specs.SignalCounts.{valued, count_of, signal_in}
 use Rattle.gnss_obs.specs.Plans.{below}
 use Rattle.gnss_obs.specs.Values.{PlanValue}
@@ -18,7 +18,7 @@ use Rattle.gnss_obs.specs.HeardCells.{HeardCell}
 
 -- the cells of a frame that have a value and are of listed satellites and signals; the message may be refused
 abbrev pub valued_of : Option ℕ → Framed → List HeardCell
-valued_of wanted f = option_map_or (valued wanted) (heard_at f.message) []
+valued_of wanted f = option_map_or (valued wanted) (heard_in f.message) []
 
 -- the same for a list of frames in order, regardless of their times
 abbrev pub valued_in : Option ℕ → List Framed → List HeardCell

@@ -3,7 +3,7 @@ use Rattle.std.specs.Prelude.{◌≡◌, ℕ, ◌+◌, ◌*◌, ◌<◌, ◌≤�
 use Rattle.std.specs.Option.{option_or}
 use Rattle.gnss_obs.specs.Weeks.{week, weeks}
 use Rattle.rtcm_scan.specs.Frames.{Framed}
-use Rattle.obs_epoch.specs.Heard.{GatherSetup, heard_at}
+use Rattle.obs_epoch.specs.Heard.{GatherSetup, heard_in}
 use Rattle.obs_epoch.specs.Times.{Timed, timed}
 use Rattle.rtcm_inspect.specs.FirstMessages.{first_tow}
 use Rattle.rtcm_inspect.specs.NearWeek.{IsNearestWeek, half_week}
@@ -22,4 +22,4 @@ first_time (x ∷ xs) = option_or x.time (first_time xs)
 abbrev pub IsDatedByWeek : Type 0
 IsDatedByWeek = (s : GatherSetup) (fs : List Framed) (tow : ℕ) → s.start_week < weeks → tow < week
     → first_tow s.station fs ≡ Some tow
-    → first_time (timed s (filter_map (λ f. heard_at f.message) fs)) ≡ Some (s.start_week * week + tow)
+    → first_time (timed s (filter_map (λ f. heard_in f.message) fs)) ≡ Some (s.start_week * week + tow)

@@ -216,7 +216,7 @@ impl<'a> MsmView<'a> {
     #[inline(always)]
     fn rough(&self, i: usize, index: usize, cached: Satellite7) -> Satellite7
         requires there { i < length self.now.msm.satellites }
-        requires keeps { IsCached self.now.form self.now.msm.satellites index cached }
+        requires cached { IsCached self.now.form self.now.msm.satellites index cached }
         ensures { result ≡ rough self.now.form (slice_index self.now.msm.satellites i) }
     {
         if i == index {

@@ -30,7 +30,7 @@ overflow_add-self c =
 
 pub rough-satellite-requires : goal.rough-satellite-requires
 rough-satellite-requires c =
-    record { there = index_below c.in_ok-pair.pair.index _ _ _ (c.in_ok-pair.ensures.indices (count_ones c.self.inside.view.now.msm.sets.satellites) c.self.invariant.0.left.3).0 c.satellites.ensures.count c.satellites.ensures.set; keeps = c.self.invariant.1 }
+    record { there = index_below c.in_ok-pair.pair.index _ _ _ (c.in_ok-pair.ensures.indices (count_ones c.self.inside.view.now.msm.sets.satellites) c.self.invariant.0.left.3).0 c.satellites.ensures.count c.satellites.ensures.set; cached = c.self.invariant.1 }
 
 pub invariant_of-self : goal.invariant_of-self
 invariant_of-self c =
