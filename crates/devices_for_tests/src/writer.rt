@@ -94,7 +94,11 @@ impl<W: Deliver> Write for ShortWriter<W> {
 }
 
 impl<W: Deliver> Deliver for ShortWriter<W> {
+    ghost passed = { W.passed };
+
     ghost waiting = { W.waiting };
+
+    ghost parts = { W.parts };
 
     fn deliver(&mut self) -> io::Result<()> {
         self.flush()

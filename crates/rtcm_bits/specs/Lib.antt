@@ -9,3 +9,4 @@ pub mod Window
 pub mod Device
 pub mod Buffering
 pub mod Folding
+pub mod Delivering

@@ -4,6 +4,7 @@ ghost use Rattle.std.specs.Prelude.{IfOk, IsErr, vec_len, vec_capacity};
 ghost use Rattle.std.specs.Io.{WritesAtMost};
 ghost use Rattle.std.specs.Io.KnownBytes.{Keeps, Appends, WriteAppends};
 ghost use Rattle.rtcm_bits.specs.Buffering.{buffer_bytes, contents_of, waiting_of};
+ghost use Rattle.rtcm_bits.specs.Delivering.{more_waits};
 
 use crate::deliver::Deliver;
 use std::alloc::{AllocError, Global};
@@ -133,9 +134,18 @@ impl<W: Deliver> Write for Buffered<W> {
 }
 
 impl<W: Deliver> Deliver for Buffered<W> {
+    ghost passed = { λ b. W.passed b.device };
+
     ghost waiting = { waiting_of W.waiting };
 
-    fn deliver(&mut self) -> io::Result<()> {
+    ghost parts = { λ b. more_waits _ _ _ b.waiting (W.parts b.device) };
+
+    fn deliver(&mut self) -> io::Result<()>
+        ensures bytes { Keeps (contents_of W.contents self.old) (contents_of W.contents self.new) }
+        ensures all { OnOk result (waiting_of W.waiting self.new ≡ []) }
+        ensures fine { OnOk result (self.new.has_failed ≡ false) }
+        ensures failed { OnErr result (self.new.has_failed ≡ true) }
+    {
         self.flush()
     }
 }

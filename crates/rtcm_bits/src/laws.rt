@@ -3,6 +3,7 @@
 ghost use Rattle.std.specs.Prelude.{◌≡◌, ◌+◌, ◌*◌, ◌%◌, ◌^◌, ◌<◌, ◌↔◌, ℕ, ℤ, Bool, List, [], ◌∷◌, ◌++◌, length, Some};
 ghost use Rattle.rtcm_bits.specs.Bits.{uint, number, bits_of, signed, raw, FitsInt};
 ghost use Rattle.rtcm_bits.specs.Crc.{crc};
+ghost use Rattle.std.specs.Io.KnownBytes.{append_known};
 ghost use Rattle.rtcm_bits.specs.Buffering.{Buffering};
 
 use crate::buffered::Buffered;
@@ -39,9 +40,10 @@ pub fn residue()
         → ((crc (bytes ++ x ∷ y ∷ z ∷ []) ≡ 0) ↔ (x * 65536 + y * 256 + z ≡ crc bytes)) }
 {}
 
-/// The contents of a buffer are the bytes that its device has passed on, followed by those that
-/// wait.
+/// The contents of a writer are the bytes that it has passed on, followed by those that wait. Of a
+/// buffer these are the bytes that its device has passed on.
 pub fn waiting<W: Deliver>()
-    ensures { (b : Buffering W) (passed : List ℕ) → W.contents b.device ≡ Some (passed ++ W.waiting b.device)
+    ensures each { (w : W) → W.contents w ≡ append_known (W.passed w) (W.waiting w) }
+    ensures buffer { (b : Buffering W) (passed : List ℕ) → W.contents b.device ≡ Some (passed ++ W.waiting b.device)
         → ⟦<Buffered<W> as Write>⟧.contents b ≡ Some (passed ++ ⟦<Buffered<W> as Deliver>⟧.waiting b) }
 {}

@@ -39,7 +39,7 @@ impl<W: Deliver> FrameSink<Counted<W>> for FileWriter {
     }
 
     fn send(&self, out: &mut Counted<W>) -> Result<(), Fault> {
-        match out.send() {
+        match out.flush_whole() {
             Ok(()) => Ok(()),
             Err(_) => Err(Fault::Write),
         }

@@ -187,7 +187,7 @@ impl OutputLine {
 pub fn deliver_waiting<W: Deliver>(writer: &mut Counted<W>) -> Result<(), InspectFault>
     ensures { EndsDelivery result W.contents W.waiting writer.old writer.new }
 {
-    match writer.send() {
+    match writer.flush_whole() {
         Ok(()) => Ok(()),
         Err(_) => Err(InspectFault::Write),
     }

@@ -50,7 +50,7 @@ impl<W: Deliver> FrameSink<Counted<W>> for Listing {
     }
 
     fn send(&self, out: &mut Counted<W>) -> Result<(), DeviceFailed> {
-        out.send()
+        out.flush_whole()
     }
 }
 

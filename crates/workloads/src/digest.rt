@@ -1,5 +1,5 @@
 //! A digest of all that a job computes.
-ghost use Rattle.std.specs.Prelude.{[]};
+ghost use Rattle.std.specs.Prelude.{[], None, refl};
 
 use rtcm_bits::Deliver;
 use std::io;
@@ -65,7 +65,11 @@ impl Write for Digest {
 }
 
 impl Deliver for Digest {
+    ghost passed = { λ _. None };
+
     ghost waiting = { λ _. [] };
+
+    ghost parts = { λ _. refl };
 
     fn deliver(&mut self) -> io::Result<()> {
         self.flush()

@@ -1,6 +1,6 @@
 //! A writer that keeps the bytes of its writes until they are delivered: what it has passed on when
 //! a read fails, and when a delivery fails.
-ghost use Rattle.std.specs.Prelude.{◌≡◌, [], OnOk};
+ghost use Rattle.std.specs.Prelude.{◌≡◌, [], None, OnOk, refl};
 
 use super::by_definition::Text;
 use super::script::{OPTIONS, convert, stream_of};
@@ -51,7 +51,11 @@ impl Write for Holding {
 }
 
 impl Deliver for Holding {
+    ghost passed = { λ _. None };
+
     ghost waiting = { λ h. h.kept.items };
+
+    ghost parts = { λ _. refl };
 
     fn deliver(&mut self) -> io::Result<()> {
         self.flush()

@@ -1,4 +1,6 @@
 //! Devices that fail after each byte.
+ghost use Rattle.std.specs.Prelude.{None, refl};
+
 use super::scenario::{FAULTLESS, READ, Room, Setting, WRITE, ends, run};
 use super::texts::{Text, front};
 use crate::command::command;
@@ -152,7 +154,11 @@ impl Write for Unflushed {
 }
 
 impl Deliver for Unflushed {
+    ghost passed = { λ _. None };
+
     ghost waiting = { λ w. w.bytes.items };
+
+    ghost parts = { λ _. refl };
 
     fn deliver(&mut self) -> io::Result<()> {
         if self.bytes.is_empty() {

@@ -1,5 +1,5 @@
 //! The calls that a buffer makes of its device.
-ghost use Rattle.std.specs.Prelude.{[]};
+ghost use Rattle.std.specs.Prelude.{[], None, refl};
 
 use rtcm_bits::{Buffered, Deliver};
 use std::alloc::Global;
@@ -50,7 +50,11 @@ impl Write for Stumbles {
 }
 
 impl Deliver for Stumbles {
+    ghost passed = { λ _. None };
+
     ghost waiting = { λ _. [] };
+
+    ghost parts = { λ _. refl };
 
     fn deliver(&mut self) -> io::Result<()> {
         self.flush()
