@@ -1,12 +1,13 @@
--- The station values that `options` prints are read back.
-use Rattle.std.specs.Prelude.{◌≡◌, List, None, Ok, codes}
-use Rattle.clap.specs.Walk.{Row}
+-- The week, the station and its values that `options` prints are read back.
+use Rattle.std.specs.Prelude.{◌≡◌, ◌↔◌, ◌<◌, ◌^◌, ℕ, List, Option, Some, None, Ok, codes, decimal}
+use Rattle.clap.specs.Walk.{Row, one_of}
 use Rattle.rtcm_msg.specs.Station.{InRange}
 use Rattle.rtcm_msg.specs.declared.station.StationParts.{StationParts}
 use Rattle.gnss_obs.specs.Values.{no_values}
+use Rattle.gnss_obs.specs.Weeks.{weeks}
 use Rattle.obs_epoch.specs.Epochs.{values_by}
 use Rattle.rtcm_inspect.specs.Fitting.{height_text, position_text}
-use Rattle.rtcm2rinex.specs.SetupOptions.{text_set, values_set}
+use Rattle.rtcm2rinex.specs.SetupOptions.{IsNumberOf, IsWeekSet, text_set, values_set}
 
 -- With the position and the height of a station message in range, the station values are those that the message brings.
 abbrev pub AreReadAsStation : Type 0
@@ -19,3 +20,14 @@ AreReadAsStation = (options : List Row) (s : StationParts) → InRange s
 abbrev pub AreZeroByDefault : Type 0
 AreZeroByDefault = (options : List Row) → text_set options (codes "position") ≡ codes "0,0,0"
     → text_set options (codes "antenna-height") ≡ height_text None → values_set options ≡ Ok no_values
+
+-- with the number of a week, this week is the one that the options give
+abbrev pub IsWeekRead : Type 0
+IsWeekRead = (options : List Row) (n m : ℕ) → n < weeks → text_set options (codes "week") ≡ decimal n
+    → (IsWeekSet options m ↔ (m ≡ n))
+
+-- with the number of a station, its messages count
+abbrev pub IsStationRead : Type 0
+IsStationRead = (options : List Row) (n : ℕ) (found : Option ℕ) → n < 2 ^ 16
+    → one_of (codes "station") options ≡ Some (decimal n)
+    → IsNumberOf 16 (one_of (codes "station") options) found → found ≡ Some n

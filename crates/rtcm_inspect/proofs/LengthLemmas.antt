@@ -1,6 +1,6 @@
 -- Numbers, dates and lengths that are read from text, and lengths that were written.
 use Rattle.std.proofs.Common.{◌≡◌, ◌≢◌, ◌∙◌, ◌≤◌, ◌<◌, ◌+◌, ◌-◌, ◌*◌, ◌/◌, ◌%◌, ◌^◌, ◌&&◌, ◌==◌, ◌++◌, ℕ, ℤ, pos, negsuc, neg_ℤ, suc, Bool, true, false, not, List, [], ◌∷◌, Option, Some, None, Result, Ok, Err, IfSome, Bor, option_map, unwrap_or, length, length-append, get_or, drop, decimal, codes, append_assoc, arith, rules, refl, sym, ap, subst, lit≤}
-use Rattle.rtcm_inspect.proofs.Names.{ParsesUnsigned, IsCivilOf, week, weeks, Civil, IsHourOf, civil_in, if◌then◌else◌, option_and_then, option_map_or, nat_le, nat_lt, nat_tests, common_steps, list_all, result_ok, is_digit, digits_from, digits_in, next_digit, number_of as digits_number, number_of, MatchOption, IsNumeralModel, numerals_by_fold, parse_plain, digits_value_short, position_or_len, position_or_len_is, get_or_append_left, get_or_at, take_at, drop_at, length_push, decimal_nonempty, digits_decimal, digits_value-decimal, length-decimal-le, list_all-append, AllPass-from_list_all, FitsInt, InRange, StationParts, height_text, position_text, after_byte, coordinate_by, coordinate_of, cut, decimals_of, length_below, length_by, length_of, position_of, four_digits, metres, size_text, coordinate_bound}
+use Rattle.rtcm_inspect.proofs.Names.{inl, inr, ◌↔◌, IsNumeral, digits_value, signed_digits_value, without_leading_sign, decimal_is_IsNumeral, ParsesUnsigned, IsCivilOf, week, weeks, Civil, IsHourOf, IsWeekNumber, IsWeekOf, civil_in, if◌then◌else◌, option_and_then, option_map_or, nat_le, nat_lt, nat_tests, common_steps, list_all, result_ok, is_digit, digits_from, digits_in, next_digit, number_of as digits_number, number_of, MatchOption, IsNumeralModel, numerals_by_fold, parse_plain, digits_value_short, position_or_len, position_or_len_is, get_or_append_left, get_or_at, take_at, drop_at, length_push, decimal_nonempty, digits_decimal, digits_value-decimal, length-decimal-le, list_all-append, AllPass-from_list_all, FitsInt, InRange, StationParts, height_text, position_text, after_byte, coordinate_by, coordinate_of, cut, decimals_of, length_below, length_by, length_of, position_of, four_digits, metres, size_text, coordinate_bound}
 
 -- ---- numbers of digits alone
 
@@ -86,6 +86,53 @@ four_read n = rw (next_of 0 (n / 1000 % 10) (omega arith), next_of _ (n / 100 % 
 no_byte : (c : ℕ) (ds : List ℕ) → c < 48 → list_all is_digit ds ≡ true → list_all (λ x. not (x == c)) ds ≡ true
 no_byte c [] low h = refl
 no_byte c (x ∷ xs) low h = both (not (x == c)) _ (grind (arith, nat_tests)) (no_byte c xs low (rest_of (is_digit x) (list_all is_digit xs) h))
+
+-- ---- weeks
+
+unsigned : (ds : List ℕ) → list_all is_digit ds ≡ true → (without_leading_sign ds ≡ ds) × (signed_digits_value 10 ds ≡ pos (digits_value 10 ds))
+unsigned [] h = (refl, refl)
+unsigned (x ∷ xs) h =
+    let plus : (x == 43) ≡ false = grind (arith, nat_tests) in
+    let minus : (x == 45) ≡ false = grind (arith, nat_tests) in
+    rw (plus, minus) (refl, refl)
+
+-- none of the bytes is this one
+none_at : (c : ℕ) (ds : List ℕ) → c < 48 → list_all is_digit ds ≡ true → position_or_len (λ x. x == c) ds ≡ length ds
+none_at c [] low h = refl
+none_at c (x ∷ xs) low h =
+    let other : (x == c) ≡ false = grind (arith, nat_tests) in
+    rw other (omega (arith, none_at c xs low (rest_of (is_digit x) (list_all is_digit xs) h)))
+
+not_less : (n : ℕ) → nat_lt n n ≡ false
+not_less n = grind (arith, nat_tests)
+
+uncut : (c : ℕ) (ds : List ℕ) → c < 48 → list_all is_digit ds ≡ true → cut c ds ≡ None
+uncut c ds low h = rw (none_at c ds low h, not_less (length ds)) refl
+
+-- a number isn't a date
+no_date : (ds : List ℕ) (t : ℕ) → list_all is_digit ds ≡ true → IsHourOf 0 ds t → ⊥
+no_date ds t all h = let none : civil_in 0 ds ≡ None = rw (uncut 45 ds (omega arith) all) refl in let bad = sym h.1 ∙ none in cc
+
+pub week_read : (n m : ℕ) → n < weeks → IsWeekOf (decimal n) m ↔ (m ≡ n)
+week_read n m small = (λ h. elim h [ inl number ↦ is number | inr date ↦ absurd (no_date (decimal n) date.0 all date.1) ], λ e. inl (rw e read))
+  where
+    fits : n < 2 ^ 64
+    fits = omega (arith, small)
+
+    all : list_all is_digit (decimal n) ≡ true
+    all = digits_decimal own n fits
+
+    numeral : IsNumeral 10 (decimal n) × (digits_value 10 (decimal n) ≡ n)
+    numeral = decimal_is_IsNumeral n fits
+
+    value : signed_digits_value 10 (decimal n) ≡ pos n
+    value = (unsigned (decimal n) all).1 ∙ ap pos numeral.1
+
+    read : IsWeekNumber (decimal n) n
+    read = (subst (IsNumeral 10) (sym (unsigned (decimal n) all).0) numeral.0, value, small)
+
+    is : IsWeekNumber (decimal n) m → m ≡ n
+    is h = let e : pos m ≡ pos n = sym h.1 ∙ value in cc
 
 -- ---- separators
 

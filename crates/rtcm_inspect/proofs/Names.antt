@@ -36,7 +36,7 @@ pub use Rattle.rtcm_inspect.specs.Checking.{AreLinesOf, ChecksWhole, IsCheckedOr
 pub use Rattle.rtcm_inspect.specs.Counting.{AreSignals, Counts, HasCounted, IsCounted, NeverFails, StopsCounting}
 unfoldable pub use Rattle.rtcm_inspect.specs.DateTexts.{time_line}
 pub use Rattle.rtcm_inspect.specs.DateTexts.{clock_text, date_text, times_lines}
-pub use Rattle.rtcm_inspect.specs.Devices.{Ends, HaveFailedBy, IsDelivered, ReadFailures, stream_fault}
+pub use Rattle.rtcm_inspect.specs.Devices.{Ends, EndsDelivery, HaveFailedBy, IsDelivered, ReadFailures, stream_fault}
 pub use Rattle.rtcm_inspect.specs.FirstMessages.{AreFirst, first_in, first_station, first_tow, mixed_of, one_of, point_of, sender, stations_in, stations_of, tow_of, with_other}
 unfoldable pub use Rattle.rtcm_inspect.specs.Fitting.{options_line}
 pub use Rattle.rtcm_inspect.specs.Fitting.{antenna_words, height_text, number_start, number_words, position_text, position_word, station_words}
@@ -44,7 +44,7 @@ unfoldable pub use Rattle.rtcm_inspect.specs.FrameLines.{frame_line, number_word
 pub use Rattle.rtcm_inspect.specs.Lines.{line, with_words}
 pub use Rattle.rtcm_inspect.specs.Listing.{EndsListing, Lists, ListsAll, ListsDecided, ListsPart, ListsToLimit, ListsUpTo, StopsListing, WritesLine, listing_line, listing_lines, piece_bytes}
 pub use Rattle.rtcm_inspect.specs.Metres.{four_digits, metres, size_text}
-pub use Rattle.rtcm_inspect.specs.NearWeek.{IsNearestWeek, IsWeekFor, half_week}
+pub use Rattle.rtcm_inspect.specs.NearWeek.{IsNearestWeek, IsWeekFor, IsWeekNear, half_week}
 pub use Rattle.rtcm_inspect.specs.OptionOutput.{AreOptionsOf, EndsOptions}
 pub use Rattle.rtcm_inspect.specs.Printing.{EndsPrinting, PrintsLine}
 pub use Rattle.rtcm_inspect.specs.ReadBack.{AreEncoded, AreKnown, AreReadAs, ReadsBack}
@@ -90,7 +90,7 @@ pub use Rattle.rtcm_scan.specs.declared.feed.StreamFault.{StreamFault}
 pub use Rattle.std.proofs.KnownBytes.{Appends-kept, Appends-nil, Appends-trans}
 pub use Rattle.std.proofs.lemmas.Bool.{le-leb, lt-leb}
 pub use Rattle.std.proofs.lemmas.Bool.Decides.{nat_tests}
-pub use Rattle.std.proofs.lemmas.Fmt.{decimal_digit, decimal_nonempty, digits_decimal, digits_value-decimal, length-decimal-le}
+pub use Rattle.std.proofs.lemmas.Fmt.{decimal_digit, decimal_is_IsNumeral, decimal_nonempty, digits_decimal, digits_value-decimal, length-decimal-le}
 pub use Rattle.std.proofs.lemmas.Grind.{common_steps, flat_map-append}
 pub use Rattle.std.proofs.lemmas.Int.{to_z-of_z}
 pub use Rattle.std.proofs.lemmas.List.{drop_at, get_or_append_left, get_or_at, length_push, map-append, take_at}
@@ -101,14 +101,14 @@ pub use Rattle.std.proofs.lemmas.Option.{IfSome_then, slice_get-get_or}
 pub use Rattle.std.specs.Io.KnownBytes.{Appends, Keeps}
 pub use Rattle.std.specs.List.{after_first, before_first, cons_option, count_by, flat_map, join_with_byte, list_all, list_any, position_or_len, slice_get}
 pub use Rattle.std.specs.Option.{option_map, option_map_or, option_or}
-pub use Rattle.std.specs.Prelude.{MatchOption, codes, cond, filter_map, if◌then◌else◌, nat_le, nat_lt, option_and_then, position, ⊤, ◌≢◌}
+pub use Rattle.std.specs.Prelude.{MatchOption, codes, cond, filter_map, if◌then◌else◌, nat_le, nat_lt, option_and_then, position, ⊤, ◌↔◌, ◌≢◌}
 pub use Rattle.std.specs.Result.{IsErrAnd, result_ok}
 pub use Rattle.std.specs.Str.{bytes_eq}
 pub use Rattle.std.proofs.Common.{All, Bool, Err, FitsSigned, IfSome, List, None, Ok, OnErr, OnOk, Option, Result, Some, [], ap, append-nil, append_assoc, ap₂, arith, count_ones, decimal, drop, false, filter, find, get_or, inl, inr, is_some, length, length-append, length-drop, length-take, lit≤, map, nat_eq, negsuc, not, of_z, pos, refl, replicate, rules, subst, suc, sym, take, take-append-drop, to_z, true, w64, zero, ℕ, ℤ, ◌&&◌, ◌*◌, ◌++◌, ◌+◌, ◌-◌, ◌/◌, ◌<◌, ◌==◌, ◌^◌, ◌||◌, ◌∙◌, ◌∷◌, ◌≡◌, ◌≤◌}
 pub use Rattle.gnss_obs.specs.declared.civil.Civil.{Civil}
 pub use Rattle.rinex_file.specs.Read.Fields.{digits_from, digits_in, next_digit}
-pub use Rattle.rtcm_inspect.specs.Dates.{IsHourOf, civil_in}
+pub use Rattle.rtcm_inspect.specs.Dates.{IsHourOf, IsWeekNumber, IsWeekOf, civil_in}
 pub use Rattle.rtcm_inspect.specs.Lengths.{after_byte, coordinate_by, coordinate_of, cut, decimals_of, is_digit, length_below, length_by, length_of, number_of, position_of}
 pub use Rattle.std.proofs.lemmas.Str.Parse.{IsNumeralModel, digits_value_short, numerals_by_fold, parse_plain}
 pub use Rattle.std.proofs.lemmas.Str.Pattern.{starts_char, strip_prefix_char}
-pub use Rattle.std.specs.Str.Parse.{ParsesUnsigned}
+pub use Rattle.std.specs.Str.Parse.{IsNumeral, ParsesUnsigned, digits_value, signed_digits_value, without_leading_sign}

@@ -1,5 +1,5 @@
 -- The nearest week, and the time of the first MSM.
-use Rattle.rtcm_inspect.proofs.Names.{◌≡◌, ◌∙◌, ◌+◌, ◌-◌, ◌*◌, ◌/◌, ◌<◌, ◌≤◌, ◌==◌, ◌&&◌, ◌||◌, ◌++◌, ℕ, Bool, true, false, List, [], ◌∷◌, Option, Some, None, Result, Ok, Err, refl, sym, ap, ap₂, arith, cons_option, filter_map, nat_lt, option_and_then, if◌then◌else◌, option_or, option_map_or, week, weeks, Framed, message_at, MsgFault, Message, Station, Msm4, Msm7, Other, GatherSetup, Heard, is_own, is_of_station, Timed, ahead, greatest_time, is_closed, is_past, max_known, taken_at, timed_after, first_tow, tow_of, heard_in, heard_of, IsNearestWeek, half_week, first_time}
+use Rattle.rtcm_inspect.proofs.Names.{◌≡◌, ◌∙◌, ◌+◌, ◌-◌, ◌*◌, ◌/◌, ◌<◌, ◌≤◌, ◌==◌, ◌&&◌, ◌||◌, ◌++◌, ℕ, Bool, true, false, List, [], ◌∷◌, Option, Some, None, Result, Ok, Err, refl, sym, ap, ap₂, arith, cons_option, filter_map, nat_lt, option_and_then, if◌then◌else◌, option_or, option_map_or, week, weeks, Framed, message_at, MsgFault, Message, Station, Msm4, Msm7, Other, GatherSetup, Heard, is_own, is_of_station, Timed, ahead, greatest_time, is_closed, is_past, max_known, taken_at, timed_after, first_tow, tow_of, heard_in, heard_of, IsNearestWeek, IsWeekNear, half_week, first_time, inl, inr}
 
 -- ---- the nearest week, by its quotient q: n = q * week + r
 
@@ -20,6 +20,11 @@ one_week noon tow late small = (q, (omega (arith, d.0, d.1, late, small), omega 
 
     same : (v : ℕ) → IsNearestWeek noon tow v → v ≡ q
     same v h = omega (arith, d.0, d.1, late, small, h.0, h.1)
+
+pub nearest_printed : (noon tow w v : ℕ) → IsWeekNear noon tow w → v < weeks → IsNearestWeek noon tow v → w ≡ v
+nearest_printed noon tow w v (inl (small, near)) less h = omega (arith, near.0, near.1, h.0, h.1)
+nearest_printed noon tow w v (inr (inl (zero, late))) less h = absurd (omega (arith, late, h.1))
+nearest_printed noon tow w v (inr (inr (last, early))) less h = absurd (omega (arith, last, early, less, h.0))
 
 -- ---- the first MSM
 

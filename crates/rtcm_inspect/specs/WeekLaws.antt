@@ -1,17 +1,26 @@
 -- The week that `options` prints dates the first MSM of a conversion.
-use Rattle.std.specs.Prelude.{◌≡◌, ℕ, ◌+◌, ◌*◌, ◌<◌, ◌≤◌, List, [], ◌∷◌, Option, Some, None, filter_map}
+use Rattle.std.specs.Prelude.{◌≡◌, ◌↔◌, ℕ, ◌+◌, ◌*◌, ◌<◌, ◌≤◌, List, [], ◌∷◌, Option, Some, None, decimal, filter_map}
 use Rattle.std.specs.Option.{option_or}
 use Rattle.gnss_obs.specs.Weeks.{week, weeks}
 use Rattle.rtcm_scan.specs.Frames.{Framed}
 use Rattle.obs_epoch.specs.Heard.{GatherSetup, heard_in}
 use Rattle.obs_epoch.specs.Times.{Timed, timed}
+use Rattle.rtcm_inspect.specs.Dates.{IsWeekOf}
 use Rattle.rtcm_inspect.specs.FirstMessages.{first_tow}
-use Rattle.rtcm_inspect.specs.NearWeek.{IsNearestWeek, half_week}
+use Rattle.rtcm_inspect.specs.NearWeek.{IsNearestWeek, IsWeekNear, half_week}
 
 -- from 1980-01-09 12:00 on exactly one week is the nearest
 abbrev pub HasOneWeek : Type 0
 HasOneWeek = (noon tow : ℕ) → half_week ≤ noon → tow < week
     → (w : ℕ) × IsNearestWeek noon tow w × ((v : ℕ) → IsNearestWeek noon tow v → v ≡ w)
+
+-- the week that is printed is the nearest one, if one of the weeks from 0 to 99,999 is
+abbrev pub IsNearestPrinted : Type 0
+IsNearestPrinted = (noon tow w v : ℕ) → IsWeekNear noon tow w → v < weeks → IsNearestWeek noon tow v → w ≡ v
+
+-- the number of a week that is printed is read as this week, and as no other
+abbrev pub AreWeeksRead : Type 0
+AreWeeksRead = (n m : ℕ) → n < weeks → (IsWeekOf (decimal n) m ↔ (m ≡ n))
 
 -- the time of the first accepted message
 abbrev pub first_time : List Timed → Option ℕ

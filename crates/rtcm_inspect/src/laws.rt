@@ -3,7 +3,7 @@ ghost use Rattle.std.specs.Prelude.{List, ℕ};
 ghost use Rattle.rtcm_msg.specs.declared.message.Message.{Message};
 ghost use Rattle.rtcm_inspect.specs.ReadBack.{AreKnown, AreEncoded, ReadsBack};
 ghost use Rattle.rtcm_inspect.specs.SignalLaws.{LeavesNoneOut, AreReadAsPlan, SkipsNoValue};
-ghost use Rattle.rtcm_inspect.specs.WeekLaws.{HasOneWeek, IsDatedByWeek};
+ghost use Rattle.rtcm_inspect.specs.WeekLaws.{AreWeeksRead, HasOneWeek, IsDatedByWeek, IsNearestPrinted};
 ghost use Rattle.rtcm_inspect.specs.LengthLaws.{AreHeightsRead, ArePositionsRead};
 
 /// Every list of messages of known layouts has encodings. For every choice of these, their frames,
@@ -32,10 +32,13 @@ pub fn signals()
 }
 
 /// The week that `run_options` prints for a date. From 1980-01-09 on exactly one week puts a time
-/// of week at most half a week before noon, or less than half a week after it. A conversion with a
+/// of week at most half a week before noon, or less than half a week after it, and it is printed if
+/// it is one from 0 to 99,999. The printed number is read as this week, and a conversion with a
 /// start week gives the first MSM, of the station or of any, its time in that week.
 pub fn near()
     ensures one { HasOneWeek }
+    ensures printed { IsNearestPrinted }
+    ensures read { AreWeeksRead }
     ensures dated { IsDatedByWeek }
 {}
 
