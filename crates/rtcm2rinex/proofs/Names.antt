@@ -55,7 +55,7 @@ pub use Rattle.rtcm_inspect.proofs.PrintingLemmas.{passed}
 pub use Rattle.rtcm_inspect.specs.Fitting.{height_text, position_text}
 pub use Rattle.rtcm_inspect.specs.Lines.{with_words}
 pub use Rattle.rtcm_inspect.specs.OptionOutput.{EndsOptions}
-pub use Rattle.rtcm_inspect.specs.Printing.{PrintsLine}
+pub use Rattle.rtcm_inspect.specs.Printing.{PrintsLine, PrintsSome}
 pub use Rattle.rtcm_inspect.specs.declared.fault.InspectFault.{InspectFault}
 pub use Rattle.std.proofs.lemmas.List.{map_more}
 pub use Rattle.std.proofs.lemmas.List.Sums.{fold-append}
@@ -68,4 +68,4 @@ pub use Rattle.std.specs.Option.{option_map_or}
 pub use Rattle.std.specs.Prelude.{Box, Err, if◌then◌else◌, not, ⊤, ◌<◌, ◌↔◌, ◌≡◌, ◌≢◌, ◌⊎◌}
 pub use Rattle.std.specs.Str.{bytes_eq}
 pub use Rattle.std.specs.Str.Parse.{ExplainsUnsignedError, HasUnsignedDigitsIfOk, ParsesUnsigned}
-pub use Rattle.std.proofs.Common.{Bool, IfErr, IfOk, IfSome, IsErrAnd, IsErrOf, List, MatchResult, None, Ok, Option, Result, Some, [], ap, ap₂, arith, codes, decimal, false, find, fold, get_or, inl, inr, is_some, length, map, option_map, refl, rules, subst, sym, take, true, unwrap_or, ℕ, ℤ, ◌&&◌, ◌++◌, ◌+◌, ◌^◌, ◌||◌, ◌∙◌, ◌∷◌}
+pub use Rattle.std.proofs.Common.{Bool, IfErr, IfOk, IfSome, IsErrAnd, IsErrOf, List, MatchResult, None, Ok, Option, Result, Some, [], ap, ap₂, arith, codes, decimal, false, find, fold, get_or, inl, inr, is_some, length, lit<, map, option_map, refl, rules, subst, sym, take, true, unwrap_or, ℕ, ℤ, ◌&&◌, ◌++◌, ◌+◌, ◌^◌, ◌||◌, ◌∙◌, ◌∷◌}

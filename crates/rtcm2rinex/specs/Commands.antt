@@ -18,7 +18,7 @@ use Rattle.rtcm2rinex.specs.Asked.{ChecksBy, PrintsOptionsAsked, PrintsSignalsAs
 use Rattle.rtcm2rinex.specs.Asked.{StopsOptionsAsked, StopsSignalsAsked}
 use Rattle.rtcm2rinex.specs.CommandLine.{SelectsCommand, FailsParsing, IsCommand}
 use Rattle.rtcm_inspect.specs.Devices.{AreFine}
-use Rattle.rtcm_inspect.specs.Printing.{PrintsLine, PrintsPart, PrintsText}
+use Rattle.rtcm_inspect.specs.Printing.{PrintsLine, PrintsPart, PrintsSome, PrintsText}
 use Rattle.rtcm2rinex.specs.Devices.{Ends, HaveFailedBy, IsInspected}
 use Rattle.rtcm2rinex.specs.ErrorLines.{error_line}
 use Rattle.rtcm2rinex.specs.SetupOptions.{IsNearRefused, IsSetupRefused, has_times}
@@ -42,9 +42,9 @@ HasPrinted left r r' held w w' name options =
 -- The command of this name completed: the file of the stream was written, which has an epoch, and its report was
 -- printed; or any other command, and nothing was written to standard error.
 abbrev pub HasDone : {R W E : Type 0} → (R → Option (List ℕ)) → (r r' : Device R) → (W → Option (List ℕ))
-    → (w w' : Device W) → (E → Option (List ℕ)) → (e e' : Device E) → Text → List Row → Type 0
-HasDone left r r' held w w' printed e e' name options =
-    ((name ≡ codes "convert") × IsConverted options (left r.inner) (held w.inner) (held w'.inner) printed e e')
+    → (w w' : Device W) → (E → Option (List ℕ)) → (E → List ℕ) → (e e' : Device E) → Text → List Row → Type 0
+HasDone left r r' held w w' printed unsent e e' name options =
+    ((name ≡ codes "convert") × IsConverted options (left r.inner) (held w.inner) (held w'.inner) printed unsent e e')
     ⊎ (HasPrinted left r r' held w w' name options × (e' ≡ e))
 
 -- a command other than `convert` was stopped by a fault
@@ -67,10 +67,10 @@ HasStopped left r r' held waits w w' name options fault =
 
 -- how the command ended; it prints no fault
 abbrev pub EndsCommand : {A R W E : Type 0} → Result A ToolFault → (R → Option (List ℕ)) → (r r' : Device R)
-    → (W → Option (List ℕ)) → (W → List ℕ) → (w w' : Device W) → (E → Option (List ℕ)) → (e e' : Device E) → Text
+    → (W → Option (List ℕ)) → (W → List ℕ) → (w w' : Device W) → (E → Option (List ℕ)) → (E → List ℕ) → (e e' : Device E) → Text
     → List Row → Type 0
-EndsCommand result left r r' held waits w w' printed e e' name options =
-    Ends result r r' waits w w' (λ _. HasDone left r r' held w w' printed e e' name options)
+EndsCommand result left r r' held waits w w' printed unsent e e' name options =
+    Ends result r r' waits w w' (λ _. HasDone left r r' held w w' printed unsent e e' name options)
     (λ fault. HasStopped left r r' held waits w w' name options fault × (e' ≡ e))
 
 -- a command of the program was found in words
@@ -79,11 +79,11 @@ HasCommand m = (name : Text) × (options : List Row) × IsCommand name × (subco
 
 -- how the command that was found ended
 abbrev pub EndsFound : {A R W E : Type 0} → Result A ToolFault → Option (Text × List Row) → (R → Option (List ℕ))
-    → (r r' : Device R) → (W → Option (List ℕ)) → (W → List ℕ) → (w w' : Device W) → (E → Option (List ℕ))
+    → (r r' : Device R) → (W → Option (List ℕ)) → (W → List ℕ) → (w w' : Device W) → (E → Option (List ℕ)) → (E → List ℕ)
     → (e e' : Device E) → Type 0
-EndsFound result found left r r' held waits w w' printed e e' =
+EndsFound result found left r r' held waits w w' printed unsent e e' =
     (name : Text) × (options : List Row) × (found ≡ Some (name, options))
-    × EndsCommand result left r r' held waits w w' printed e e' name options
+    × EndsCommand result left r r' held waits w w' printed unsent e e' name options
 
 -- ---- the exit status
 
@@ -102,32 +102,32 @@ status_of (Err fault) = fault_status fault
 -- The command that the words ask for completed with the options that they give; or they ask for the version, which was
 -- written, and nothing was written to standard error.
 abbrev pub HasCompleted : {R W E : Type 0} → (R → Option (List ℕ)) → (r r' : Device R) → (W → Option (List ℕ))
-    → (W → List ℕ) → (w w' : Device W) → (E → Option (List ℕ)) → (e e' : Device E) → List Text → Type 0
-HasCompleted left r r' held waits w w' printed e e' words =
+    → (W → List ℕ) → (w w' : Device W) → (E → Option (List ℕ)) → (E → List ℕ) → (e e' : Device E) → List Text → Type 0
+HasCompleted left r r' held waits w w' printed unsent e e' words =
     ((name : Text) × (options : List Row) × SelectsCommand words name options × AreFine r r' waits w w'
-    × HasDone left r r' held w w' printed e e' name options)
+    × HasDone left r r' held w w' printed unsent e e' name options)
     ⊎ (FailsParsing words DisplayVersion × (r' ≡ r) × PrintsText held waits w w' VERSION.now × (e' ≡ e))
 
 -- The command that the words ask for was stopped by a fault, or the writer failed in the output of the version, and the
 -- line of that fault was printed; or memory ran out before anything was read or written, and the line of `Memory` was
 -- printed.
 abbrev pub HasStoppedEarly : {R W E : Type 0} → (R → Option (List ℕ)) → (r r' : Device R) → (W → Option (List ℕ))
-    → (W → List ℕ) → (w w' : Device W) → (E → Option (List ℕ)) → (e e' : Device E) → List Text → Type 0
-HasStoppedEarly left r r' held waits w w' printed e e' words =
+    → (W → List ℕ) → (w w' : Device W) → (E → Option (List ℕ)) → (E → List ℕ) → (e e' : Device E) → List Text → Type 0
+HasStoppedEarly left r r' held waits w w' printed unsent e e' words =
     ((name : Text) × (options : List Row) × (fault : ToolFault) × SelectsCommand words name options
     × (fault_status fault ≡ 1) × HaveFailedBy fault r r' w w'
-    × HasStopped left r r' held waits w w' name options fault × PrintsLine printed e e' (error_line fault))
+    × HasStopped left r r' held waits w w' name options fault × PrintsLine printed unsent e e' (error_line fault))
     ⊎ (FailsParsing words DisplayVersion × (r' ≡ r) × PrintsPart held w w' VERSION.now
-    × PrintsLine printed e e' (error_line (faults.Inspect inspect.Write)))
-    ⊎ (IsUntouched r r' w w' × PrintsLine printed e e' (error_line faults.Memory))
+    × PrintsLine printed unsent e e' (error_line (faults.Inspect inspect.Write)))
+    ⊎ (IsUntouched r r' w w' × PrintsLine printed unsent e e' (error_line faults.Memory))
 
 -- Memory ran out and nothing was written, or the version's text was written in part. The line of that fault was printed.
 abbrev pub StopsPrinting : {W E : Type 0} → ErrorKind → (W → Option (List ℕ)) → (w w' : Device W)
-    → (E → Option (List ℕ)) → (e e' : Device E) → Type 0
-StopsPrinting k held w w' printed e e' =
-    ((k ≡ OutOfMemory) × (w' ≡ w) × PrintsLine printed e e' (error_line faults.Memory))
+    → (E → Option (List ℕ)) → (E → List ℕ) → (e e' : Device E) → Type 0
+StopsPrinting k held w w' printed unsent e e' =
+    ((k ≡ OutOfMemory) × (w' ≡ w) × PrintsLine printed unsent e e' (error_line faults.Memory))
     ⊎ ((k ≡ DisplayVersion) × PrintsPart held w w' VERSION.now
-    × PrintsLine printed e e' (error_line (faults.Inspect inspect.Write)))
+    × PrintsLine printed unsent e e' (error_line (faults.Inspect inspect.Write)))
 
 -- these options of a command are refused with this fault
 abbrev pub AreRefusedBy : Text → List Row → ToolFault → Type 0
@@ -135,10 +135,10 @@ AreRefusedBy name options fault =
     ((name ≡ codes "convert") × IsSetupRefused options fault)
     ⊎ ((name ≡ codes "options") × IsNearRefused options fault)
 
--- The words lead to an error other than the version's text; or they ask for a command with an option whose date,
--- position or antenna height is invalid, and the line of that fault was printed.
-abbrev pub AreRefused : {E : Type 0} → (E → Option (List ℕ)) → (e e' : Device E) → List Text → Type 0
-AreRefused printed e e' words =
-    ((k : ErrorKind) × FailsParsing words k × (k ≡ DisplayVersion → ⊥))
+-- The words lead to an error other than the version's text, and a text was printed; or they ask for a command with an
+-- option whose date, position or antenna height is invalid, and the line of that fault was printed.
+abbrev pub AreRefused : {E : Type 0} → (E → Option (List ℕ)) → (E → List ℕ) → (e e' : Device E) → List Text → Type 0
+AreRefused printed unsent e e' words =
+    ((k : ErrorKind) × FailsParsing words k × (k ≡ DisplayVersion → ⊥) × PrintsSome printed unsent e e')
     ⊎ ((name : Text) × (options : List Row) × (fault : ToolFault) × SelectsCommand words name options
-    × AreRefusedBy name options fault × (fault_status fault ≡ 2) × PrintsLine printed e e' (error_line fault))
+    × AreRefusedBy name options fault × (fault_status fault ≡ 2) × PrintsLine printed unsent e e' (error_line fault))

@@ -17,11 +17,11 @@ use Rattle.rtcm2rinex.specs.SetupOptions.{IsStartOf, IsSetupRefused}
 
 -- A conversion with the start that these options give, which is in range, read everything that the reader had, and
 -- wrote the file of its frames, which has an epoch. Its report was printed.
-abbrev pub IsConverted : {E : Type 0} → List Row → (r w w' : Option (List ℕ)) → (E → Option (List ℕ))
+abbrev pub IsConverted : {E : Type 0} → List Row → (r w w' : Option (List ℕ)) → (E → Option (List ℕ)) → (E → List ℕ)
     → (e e' : Device E) → Type 0
-IsConverted options r w w' printed e e' =
+IsConverted options r w w' printed unsent e e' =
     (x : Start) × (report : Report) × IsStartOf options x × (IsBadWith x → ⊥) × IfSome r (IsMadeWith x report w w')
-    × PrintsLine printed e e' (report_line report)
+    × PrintsLine printed unsent e e' (report_line report)
 
 -- the file of the bytes that the reader had left has no epoch and is empty
 abbrev pub MakesNoEpoch : Start → (r r' w w' : Option (List ℕ)) → Type 0
@@ -60,8 +60,8 @@ StopsConverting options left r r' held waits w w' fault =
 
 -- how such a command ended; it prints no fault
 abbrev pub EndsConverting : {A R W E : Type 0} → Result A ToolFault → List Row → (R → Option (List ℕ))
-    → (r r' : Device R) → (W → Option (List ℕ)) → (W → List ℕ) → (w w' : Device W) → (E → Option (List ℕ))
+    → (r r' : Device R) → (W → Option (List ℕ)) → (W → List ℕ) → (w w' : Device W) → (E → Option (List ℕ)) → (E → List ℕ)
     → (e e' : Device E) → Type 0
-EndsConverting result options left r r' held waits w w' printed e e' =
-    Ends result r r' waits w w' (λ _. IsConverted options (left r.inner) (held w.inner) (held w'.inner) printed e e')
+EndsConverting result options left r r' held waits w w' printed unsent e e' =
+    Ends result r r' waits w w' (λ _. IsConverted options (left r.inner) (held w.inner) (held w'.inner) printed unsent e e')
     (λ fault. StopsConverting options left r r' held waits w w' fault × (e' ≡ e))

@@ -6,6 +6,6 @@ use Rattle.rtcm2rinex.specs.ErrorLines.{error_line}
 use Rattle.rtcm2rinex.specs.declared.fault.ToolFault.{ToolFault}
 
 -- nothing was written after success, and the line of the fault at a fault
-abbrev pub PrintsFault : {A E : Type 0} → Result A ToolFault → (E → Option (List ℕ)) → (e e' : Device E) → Type 0
-PrintsFault (Ok x) printed e e' = e' ≡ e
-PrintsFault (Err fault) printed e e' = PrintsLine printed e e' (error_line fault)
+abbrev pub PrintsFault : {A E : Type 0} → Result A ToolFault → (E → Option (List ℕ)) → (E → List ℕ) → (e e' : Device E) → Type 0
+PrintsFault (Ok x) printed unsent e e' = e' ≡ e
+PrintsFault (Err fault) printed unsent e e' = PrintsLine printed unsent e e' (error_line fault)

@@ -12,7 +12,7 @@ ghost use Rattle.rtcm2rinex.specs.Commands.{AreRefused, EndsFound, HasCommand};
 ghost use Rattle.rtcm2rinex.specs.Commands.{HasStoppedEarly, HasCompleted, StopsPrinting, status_of};
 ghost use Rattle.rtcm2rinex.specs.Devices.{of_inspection};
 ghost use Rattle.rtcm2rinex.specs.ErrorLines.{error_line, not_text_line};
-ghost use Rattle.rtcm_inspect.specs.Printing.{PrintsLine, PrintsText};
+ghost use Rattle.rtcm_inspect.specs.Printing.{PrintsLine, PrintsSome, PrintsText};
 ghost use Rattle.rtcm2rinex.specs.Printing.{PrintsFault};
 ghost use Rattle.rtcm2rinex.specs.declared.cli.TheConstants.{VERSION};
 ghost use Rattle.rtcm2rinex.specs.Converting.{EndsConverting};
@@ -32,7 +32,7 @@ use rtcm_inspect::{
 };
 use std::alloc::Global;
 use std::io;
-use std::io::{Read, Write};
+use std::io::Read;
 
 /// Runs the command that the words ask for, the first of which is the program's name, and returns
 /// the exit status: 0 after success, 1 after a fault, and 2 if the words aren't accepted, ask for
@@ -48,18 +48,18 @@ pub fn command<R: Read, W: Deliver, E: Deliver>(
 
     // By clap's definitions under the program's options, the words ask for a command, which
     // completed with these options; or they ask for the version, which was written. Only the report
-    // of `convert` was written to `faults`, where it may wait.
+    // of `convert` was written to `faults`.
     ensures good { result ≡ 0 → HasCompleted R.remaining reader.old reader.new W.contents W.waiting writer.old
-        writer.new E.contents faults.old faults.new (texts words.now) }
+        writer.new E.contents E.waiting faults.old faults.new (texts words.now) }
 
     // They ask for a command that was stopped by a fault, whose line was written to `faults`; or
-    // memory ran out before anything was read or written. The line may wait in `faults`.
+    // memory ran out before anything was read or written.
     ensures stopped { result ≡ 1 → HasStoppedEarly R.remaining reader.old reader.new W.contents W.waiting writer.old
-        writer.new E.contents faults.old faults.new (texts words.now) }
+        writer.new E.contents E.waiting faults.old faults.new (texts words.now) }
 
-    // They aren't accepted, ask for help, or have an invalid date, position or height. Nothing was
-    // read, and nothing was written to the output.
-    ensures refused { result ≡ 2 → AreRefused E.contents faults.old faults.new (texts words.now)
+    // They aren't accepted, ask for help, or have an invalid date, position or height, and a text
+    // was written to `faults`. Nothing was read, and nothing was written to the output.
+    ensures refused { result ≡ 2 → AreRefused E.contents E.waiting faults.old faults.new (texts words.now)
         × IsUntouched reader.old reader.new writer.old writer.new }
 {
     match parse(alloc, words) {
@@ -69,7 +69,7 @@ pub fn command<R: Read, W: Deliver, E: Deliver>(
             exit_status(ended, faults)
         }
         Err(error) => {
-            let status = answer(&error, writer, faults);
+            let status = answer(alloc, &error, writer, faults);
             drop(error);
             status
         }
@@ -77,7 +77,7 @@ pub fn command<R: Read, W: Deliver, E: Deliver>(
 }
 
 /// Runs the command that was found in the words.
-fn run<R: Read, W: Deliver, E: Write>(
+fn run<R: Read, W: Deliver, E: Deliver>(
     alloc: Global,
     matches: &ArgMatches,
     reader: &mut Counted<R>,
@@ -86,7 +86,7 @@ fn run<R: Read, W: Deliver, E: Write>(
 ) -> Result<(), ToolFault>
     requires { HasCommand matches.now }
     ensures { EndsFound result (subcommand_rows_of matches.now) R.remaining reader.old reader.new
-        W.contents W.waiting writer.old writer.new E.contents faults.old faults.new }
+        W.contents W.waiting writer.old writer.new E.contents E.waiting faults.old faults.new }
 {
     let Some((name, options)) = matches.subcommand() else {
         unreachable!()
@@ -125,7 +125,7 @@ fn print_options<R: Read, W: Deliver>(
 
 /// Converts the stream as the options ask, and prints the report. A failure of its writer is
 /// ignored, since the file is already written.
-fn convert<R: Read, W: Deliver, E: Write>(
+fn convert<R: Read, W: Deliver, E: Deliver>(
     alloc: Global,
     options: &ArgMatches,
     reader: &mut Counted<R>,
@@ -133,7 +133,7 @@ fn convert<R: Read, W: Deliver, E: Write>(
     faults: &mut Counted<E>,
 ) -> Result<(), ToolFault>
     ensures { EndsConverting result (options_of options.now) R.remaining reader.old reader.new
-        W.contents W.waiting writer.old writer.new E.contents faults.old faults.new }
+        W.contents W.waiting writer.old writer.new E.contents E.waiting faults.old faults.new }
 {
     let start_week = start_week_of(options)?;
     let initial = values_of(options)?;
@@ -149,6 +149,7 @@ fn convert<R: Read, W: Deliver, E: Write>(
 
 /// Prints the version if the words ask for it, else clap's error. Returns the exit status.
 fn answer<W: Deliver, E: Deliver>(
+    alloc: Global,
     error: &clap::Error,
     writer: &mut Counted<W>,
     faults: &mut Counted<E>,
@@ -157,9 +158,10 @@ fn answer<W: Deliver, E: Deliver>(
     ensures good { result ≡ 0 → (kind_of error.now ≡ DisplayVersion)
         × PrintsText W.contents W.waiting writer.old writer.new VERSION.now × (faults.new ≡ faults.old) }
     ensures stopped { result ≡ 1 → StopsPrinting (kind_of error.now) W.contents writer.old writer.new
-        E.contents faults.old faults.new }
+        E.contents E.waiting faults.old faults.new }
     ensures refused { result ≡ 2
-        → (kind_of error.now ≢ DisplayVersion) × (kind_of error.now ≢ OutOfMemory) × (writer.new ≡ writer.old) }
+        → (kind_of error.now ≢ DisplayVersion) × (kind_of error.now ≢ OutOfMemory) × (writer.new ≡ writer.old)
+        × PrintsSome E.contents E.waiting faults.old faults.new }
 {
     match error.kind() {
         ErrorKind::DisplayVersion => {
@@ -168,20 +170,29 @@ fn answer<W: Deliver, E: Deliver>(
         }
         ErrorKind::OutOfMemory => exit_status(Err(ToolFault::Memory), faults),
         _ => {
-            // Nothing is left to report a failed write to.
-            let _ = write!(faults, "{error}");
+            print_refusal(alloc, error, faults);
             2
         }
     }
 }
 
+/// Prints clap's text of an error, or the line of `Memory` if there is no memory for that text.
+fn print_refusal<E: Deliver>(alloc: Global, error: &clap::Error, faults: &mut Counted<E>)
+    ensures { PrintsSome E.contents E.waiting faults.old faults.new }
+{
+    match format!(in alloc; "{error}") {
+        Ok(text) if !text.is_empty() => print_line(text.as_bytes(), faults),
+        _ => print_line(error_line(ToolFault::Memory).as_bytes(), faults),
+    }
+}
+
 /// Prints why the words of the command line can't be read, and returns the exit status: memory ran
 /// out, or a word isn't UTF-8.
-pub fn refuse_words<E: Write>(error: &io::Error, faults: &mut Counted<E>) -> u8
+pub fn refuse_words<E: Deliver>(error: &io::Error, faults: &mut Counted<E>) -> u8
     ensures memory { error_kind error.now ≡ kinds.OutOfMemory
-        → (result ≡ 1) × PrintsLine E.contents faults.old faults.new (error_line ToolFault.Memory) }
+        → (result ≡ 1) × PrintsLine E.contents E.waiting faults.old faults.new (error_line ToolFault.Memory) }
     ensures words { error_kind error.now ≢ kinds.OutOfMemory
-        → (result ≡ 2) × PrintsLine E.contents faults.old faults.new not_text_line }
+        → (result ≡ 2) × PrintsLine E.contents E.waiting faults.old faults.new not_text_line }
 {
     match error.kind() {
         io::ErrorKind::OutOfMemory => exit_status(Err(ToolFault::Memory), faults),
@@ -195,10 +206,10 @@ pub fn refuse_words<E: Write>(error: &io::Error, faults: &mut Counted<E>) -> u8
 /// Prints the fault of a command, if any, on one line, and returns the exit status: 0 after
 /// success, 2 if a date, the position or the height is invalid, else 1. A failure of this writer is
 /// ignored.
-fn exit_status<E: Write>(ended: Result<(), ToolFault>, faults: &mut Counted<E>) -> u8
+fn exit_status<E: Deliver>(ended: Result<(), ToolFault>, faults: &mut Counted<E>) -> u8
     ensures value { result ≡ status_of ended }
     ensures range { result ≤ 2 }
-    ensures line { PrintsFault ended E.contents faults.old faults.new }
+    ensures line { PrintsFault ended E.contents E.waiting faults.old faults.new }
 {
     let Err(fault) = ended else { return 0 };
     print_line(error_line(fault).as_bytes(), faults);

@@ -1,5 +1,5 @@
 -- Texts written in one call, and failed calls.
-use Rattle.rtcm_inspect.proofs.Names.{◌≡◌, ◌∙◌, inl, inr, sym, subst, append-nil, ℕ, List, [], Option, Result, Ok, Err, OnErr, OnOk, Appends, Keeps, Appends-kept, Appends-nil, Appends-trans, AppendsPrefix, Device, FailsWith, HasFailed, IsDelivered, DeviceFailed, ⊤, IsErrAnd, WritesLine, EndsPrinting, PrintsLine, InspectFault}
+use Rattle.rtcm_inspect.proofs.Names.{◌≡◌, ◌∙◌, inl, inr, sym, subst, append-nil, ℕ, List, [], Option, Result, Ok, Err, OnErr, OnOk, Appends, Keeps, Appends-kept, Appends-nil, Appends-trans, Device, HasFailed, EndsDelivery, IsDelivered, DeviceFailed, ⊤, IsErrAnd, WritesLine, EndsPrinting, PrintsLine, InspectFault}
 
 pub on_err : {A E : Type 0} (r : Result A E) (P Q : Type 0) → (P → Q) → OnErr r P → OnErr r Q
 on_err (Ok x) P Q f p = p
@@ -17,15 +17,20 @@ pub both_err : {A E : Type 0} (r : Result A E) (P Q : Type 0) → OnErr r P → 
 both_err (Ok x) P Q p q = tt
 both_err (Err e) P Q p q = (p, q)
 
--- a text that was written but couldn't be flushed
-pub kept_front : (a b c : Option (List ℕ)) (text : List ℕ) → Appends a b text → Keeps b c → AppendsPrefix a c text
-kept_front a b c text h k = ([], (text, sym (append-nil text), Appends-kept a b c text h k))
+-- a text that was written, and then delivered or not
+pub then_delivered : {A W : Type 0} (r : Result A InspectFault) (held : W → Option (List ℕ)) (waits : W → List ℕ) (w w1 w2 : Device W) (text : List ℕ) → w1.failures ≡ w.failures
+    → Appends (held w.inner) (held w1.inner) text → EndsDelivery r held waits w1 w2 → EndsPrinting r held waits w w2 text
+then_delivered (Ok u) held waits w w1 w2 text fine went h = (h.0 ∙ fine, h.1.1, Appends-kept _ _ _ text went h.1.0)
+then_delivered (Err fault) held waits w w1 w2 text fine went h = (
+  h.0,
+  (subst (λ (n : ℕ). HasFailed n w2.failures) fine h.1, ([], (text, sym (append-nil text), Appends-kept _ _ _ text went h.2))),
+)
 
 -- a line that was written, in whole or in part
-pub line_printed : {E : Type 0} (r : Result ⊤ DeviceFailed) (printed : E → Option (List ℕ)) (e e2 : Device E) (text : List ℕ) → OnOk r (Appends (printed e.inner) (printed e2.inner) text)
-    → OnErr r (AppendsPrefix (printed e.inner) (printed e2.inner) text) → FailsWith r e e2 → PrintsLine printed e e2 text
-line_printed (Ok u) printed e e2 text whole part device = inl (device.1, whole)
-line_printed (Err failed) printed e e2 text whole part device = inr (device.0, part)
+pub line_printed : {A E : Type 0} (r : Result A InspectFault) (printed : E → Option (List ℕ)) (unsent : E → List ℕ) (e e2 : Device E) (text : List ℕ) → EndsPrinting r printed unsent e e2 text
+    → PrintsLine printed unsent e e2 text
+line_printed (Ok u) printed unsent e e2 text h = inl h
+line_printed (Err fault) printed unsent e e2 text h = inr h.1
 
 kept_appends : (a b c : Option (List ℕ)) (text : List ℕ) → Keeps a b → Appends b c text → Appends a c text
 kept_appends a b c text k h = Appends-trans a b c [] text (Appends-kept a a b [] (Appends-nil a) k) h

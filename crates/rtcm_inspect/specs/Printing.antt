@@ -1,5 +1,5 @@
 -- Texts written in one call: `held w` are the bytes written before, and `held w'` those after.
-use Rattle.std.specs.Prelude.{◌≡◌, ◌⊎◌, ℕ, List, Option, Result, Ok, Err, []}
+use Rattle.std.specs.Prelude.{◌≡◌, ◌⊎◌, ◌<◌, ℕ, List, Option, Result, Ok, Err, [], length}
 use Rattle.std.specs.Io.KnownBytes.{Appends}
 use Rattle.rtcm_bits.specs.Device.{Device, HasFailed, AppendsPrefix}
 use Rattle.rtcm_inspect.specs.declared.fault.InspectFault.{InspectFault}
@@ -23,7 +23,10 @@ EndsPrinting (Err fault) held waits w w' text = (fault ≡ Write) × PrintsPart 
 
 -- ---- standard error, whose failures are ignored: it was e, and is e'
 
--- the line was written; or the writer failed once, and accepted a prefix of it
-abbrev pub PrintsLine : {E : Type 0} → (E → Option (List ℕ)) → (e e' : Device E) → List ℕ → Type 0
-PrintsLine printed e e' text =
-    ((e'.failures ≡ e.failures) × Appends (printed e.inner) (printed e'.inner) text) ⊎ PrintsPart printed e e' text
+-- the line was written, and nothing waits; or the writer failed once, and accepted a prefix of it
+abbrev pub PrintsLine : {E : Type 0} → (E → Option (List ℕ)) → (E → List ℕ) → (e e' : Device E) → List ℕ → Type 0
+PrintsLine printed unsent e e' text = PrintsText printed unsent e e' text ⊎ PrintsPart printed e e' text
+
+-- the same of a text of one byte or more
+abbrev pub PrintsSome : {E : Type 0} → (E → Option (List ℕ)) → (E → List ℕ) → (e e' : Device E) → Type 0
+PrintsSome printed unsent e e' = (text : List ℕ) × (0 < length text) × PrintsLine printed unsent e e' text

@@ -10,7 +10,6 @@ use crate::fault::InspectFault;
 use arrayvec::ArrayVec;
 use itoa::Buffer;
 use rtcm_bits::{Counted, Deliver};
-use std::io::Write;
 use std::marker::Model;
 
 /// Room for a line. The longest is the report of a conversion: 14 names of 90 letters in all, 14
@@ -202,19 +201,16 @@ pub fn print_text<W: Deliver>(text: &[u8], writer: &mut Counted<W>) -> Result<()
     ensures { EndsPrinting result W.contents W.waiting writer.old writer.new text.now }
 {
     match writer.write_whole(text) {
-        Ok(()) => match writer.flush_whole() {
-            Ok(()) => Ok(()),
-            Err(_) => Err(InspectFault::Write),
-        },
+        Ok(()) => deliver_waiting(writer),
         Err(_) => Err(InspectFault::Write),
     }
 }
 
-/// Writes a line to standard error. A failure of the writer is ignored.
-pub fn print_line<E: Write>(text: &[u8], faults: &mut Counted<E>)
-    ensures { PrintsLine E.contents faults.old faults.new text.now }
+/// Writes a line to standard error, and delivers it. A failure of the writer is ignored.
+pub fn print_line<E: Deliver>(text: &[u8], faults: &mut Counted<E>)
+    ensures { PrintsLine E.contents E.waiting faults.old faults.new text.now }
 {
-    let _ = faults.write_whole(text);
+    let _ = print_text(text, faults);
 }
 
 /// Returns the last decimal digit of a number, in ASCII.

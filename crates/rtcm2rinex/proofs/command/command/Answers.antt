@@ -28,8 +28,8 @@ returns-in-Err-clause-good g c = λ e. (let good = c.answer-status.ensures.good 
 pub returns-in-Err-clause-stopped : goal.returns-in-Err-clause-stopped
 returns-in-Err-clause-stopped g c = λ e.
     let d : Devices _ _ = record { left = g.R.Read.remaining; held = g.W.Write.contents; waits = g.W.Deliver.waiting; r = c.args.reader.now; r2 = c.args.reader.now; w = c.args.writer.now; w2 = c.answer-status.new.writer } in
-    answered_in_part d g.E.Write.contents c.args.faults.now c.answer-status.new.faults (texts c.args.words.now) c.in-Err.error c.in-Err.ensures.refused (c.answer-status.ensures.stopped e)
+    answered_in_part d g.E.Write.contents g.E.Deliver.waiting c.args.faults.now c.answer-status.new.faults (texts c.args.words.now) c.in-Err.error c.in-Err.ensures.refused (c.answer-status.ensures.stopped e)
 
 pub returns-in-Err-clause-refused : goal.returns-in-Err-clause-refused
 returns-in-Err-clause-refused g c = λ e. (let refused = c.answer-status.ensures.refused e in
-    (refused_words g.E.Write.contents c.args.faults.now c.answer-status.new.faults (texts c.args.words.now) c.in-Err.error c.in-Err.ensures.refused refused.0 refused.1, (refl {a = c.args.reader.now}, refused.2)))
+    (refused_words g.E.Write.contents g.E.Deliver.waiting c.args.faults.now c.answer-status.new.faults (texts c.args.words.now) c.in-Err.error c.in-Err.ensures.refused refused.0 refused.1 refused.3, (refl {a = c.args.reader.now}, refused.2)))

@@ -8,7 +8,7 @@ pub returns-in_err-start_week : goal.returns-in_err-start_week
 returns-in_err-start_week g c =
     passed c.from_residual.result c.in_err-start_week.field-0.0
     (λ r. EndsConverting r (options_of c.args.options.now) g.R.Read.remaining c.args.reader.now c.args.reader.now g.W.Write.contents g.W.Deliver.waiting c.args.writer.now c.args.writer.now
-    g.E.Write.contents c.args.faults.now c.args.faults.now) c.from_residual.ensures.1
+    g.E.Write.contents g.E.Deliver.waiting c.args.faults.now c.args.faults.now) c.from_residual.ensures.1
     (let d : Devices _ _ = record { left = g.R.Read.remaining; held = g.W.Write.contents; waits = g.W.Deliver.waiting; r = c.args.reader.now; r2 = c.args.reader.now; w = c.args.writer.now; w2 = c.args.writer.now } in
     let end = week_refused d (options_of c.args.options.now) c.in_err-start_week.field-0.0 c.in_err-start_week.ensures in
     (end.0, (end.1, refl)))
@@ -17,7 +17,7 @@ pub returns-in_err-initial : goal.returns-in_err-initial
 returns-in_err-initial g c =
     passed c.from_residual-in_err-initial.result c.in_err-initial.field-0.0
     (λ r. EndsConverting r (options_of c.args.options.now) g.R.Read.remaining c.args.reader.now c.args.reader.now g.W.Write.contents g.W.Deliver.waiting c.args.writer.now c.args.writer.now
-    g.E.Write.contents c.args.faults.now c.args.faults.now) c.from_residual-in_err-initial.ensures.1
+    g.E.Write.contents g.E.Deliver.waiting c.args.faults.now c.args.faults.now) c.from_residual-in_err-initial.ensures.1
     (let d : Devices _ _ = record { left = g.R.Read.remaining; held = g.W.Write.contents; waits = g.W.Deliver.waiting; r = c.args.reader.now; r2 = c.args.reader.now; w = c.args.writer.now; w2 = c.args.writer.now } in
     let end = values_refused d (options_of c.args.options.now) c.in_ok-start_week.start_week c.in_ok-start_week.ensures c.in_err-initial.field-0.0 (sym c.values_of.ensures ∙ c.in_err-initial.was) in
     (end.0, (end.1, refl)))
@@ -26,7 +26,7 @@ pub returns-in_err-setup : goal.returns-in_err-setup
 returns-in_err-setup g c =
     passed c.from_residual-in_err-setup.result c.in_err-setup.field-0.0
     (λ r. EndsConverting r (options_of c.args.options.now) g.R.Read.remaining c.args.reader.now c.args.reader.now g.W.Write.contents g.W.Deliver.waiting c.args.writer.now c.args.writer.now
-    g.E.Write.contents c.args.faults.now c.args.faults.now) c.from_residual-in_err-setup.ensures.1
+    g.E.Write.contents g.E.Deliver.waiting c.args.faults.now c.args.faults.now) c.from_residual-in_err-setup.ensures.1
     (let d : Devices _ _ = record { left = g.R.Read.remaining; held = g.W.Write.contents; waits = g.W.Deliver.waiting; r = c.args.reader.now; r2 = c.args.reader.now; w = c.args.writer.now; w2 = c.args.writer.now } in
     let end = setup_refused d (options_of c.args.options.now) c.in_ok-start_week.start_week c.in_ok-start_week.ensures c.in_err-setup.field-0.0 c.in_ok-initial.initial (sym c.values_of.ensures ∙ c.in_ok-initial.was) c.in_err-setup.ensures in
     (end.0, (end.1, refl)))
@@ -42,7 +42,7 @@ returns-in-Ok g c =
         (c.in_ok-setup.ensures, sym c.values_of.ensures ∙ c.in_ok-initial.was),
         (λ bad. let no : ◌≡◌ {A = Result Report ToolFault} (Ok c.in-Ok.report) (Err (faults.Convert BadSetup)) = end.bad_setup.1 bad in cc),
         end.ends.1,
-        subst (λ (t : List ℕ). PrintsLine g.E.Write.contents c.args.faults.now c.print_line.new.faults t) (c.as_bytes.ensures.text ∙ c.report_line.ensures) c.print_line.ensures,
+        subst (λ (t : List ℕ). PrintsLine g.E.Write.contents g.E.Deliver.waiting c.args.faults.now c.print_line.new.faults t) (c.as_bytes.ensures.text ∙ c.report_line.ensures) c.print_line.ensures,
       ),
     )
 

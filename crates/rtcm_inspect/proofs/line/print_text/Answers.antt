@@ -1,12 +1,7 @@
-use Rattle.rtcm_inspect.proofs.PrintingLemmas.{kept_front}
-use Rattle.rtcm_inspect.proofs.Names.{ℕ, refl, subst, HasFailed}
+use Rattle.rtcm_inspect.proofs.PrintingLemmas.{then_delivered}
 use Rattle.rtcm_inspect.proofs.line.print_text.Goals as goal
 
-pub returns-in-Err-flush_whole : goal.returns-in-Err-flush_whole
-returns-in-Err-flush_whole g c = (
-  refl,
-  (
-    subst (λ (n : ℕ). HasFailed n c.flush_whole.new.self.failures) c.in-Ok.ensures.device.1 c.in-Err-flush_whole.ensures.device.0,
-    kept_front _ _ _ c.args.text.now c.in-Ok.ensures.whole c.flush_whole.ensures.kept,
-  ),
-)
+pub returns-in-Ok : goal.returns-in-Ok
+returns-in-Ok g c =
+    then_delivered c.deliver_waiting.result g.W.Write.contents g.W.Deliver.waiting c.args.writer.now c.write_whole.new.self c.deliver_waiting.new.writer c.args.text.now c.in-Ok.ensures.device.1
+    c.in-Ok.ensures.whole c.deliver_waiting.ensures
