@@ -27,13 +27,13 @@ for _byte in range(256):
 
 @dataclass(frozen=True)
 class Form:
-    """What an epoch has of each system, and how it is split into messages.
+    """What an epoch has of each system, a number of random satellites or their IDs, and how it is split into messages.
 
     A message has at most `per` satellites and `group` signals, and 64 pairs of them. The messages of a system rise by
     groups, then by satellites, or fall, or are in a random order. Each is sent `times` times, with other values.
     """
 
-    satellites: dict[str, int] = field(default_factory=lambda: SATELLITES)
+    satellites: dict[str, int | tuple[int, ...]] = field(default_factory=lambda: SATELLITES)
     signals: dict[str, tuple[int, ...]] = field(default_factory=lambda: SIGNALS)
     per: int = 64
     group: int = 32
@@ -86,7 +86,8 @@ class System:
 
     def __init__(self, system: str, form: Form, draw: random.Random) -> None:
         self.system, self.form, self.draw = system, form, draw
-        ids = sorted(draw.sample(range(1, IDS[system] + 1), form.satellites[system]))
+        given = form.satellites[system]
+        ids = sorted(draw.sample(range(1, IDS[system] + 1), given)) if isinstance(given, int) else given
         low, high = RANGES[system]
         self.start = {satellite: draw.randrange(low, high) for satellite in ids}
         # m/s in units of 0.0001
