@@ -47,7 +47,7 @@ rise_rest planned [] ys h = h
 rise_rest planned (x ∷ xs) ys h = rise_rest planned xs ys h.1
 
 -- Its number is n or more.
-abbrev IsFrom : List ℕ → ℕ → Cell → Type 0
+abbrev pub IsFrom : List ℕ → ℕ → Cell → Type 0
 IsFrom planned n c = n ≤ cell_number planned c
 
 after_first : (planned : List ℕ) (y : Cell) (ys : List Cell) → length planned ≤ 64 → AllByRecursion (λ t. is_before (cell_sort_key planned y) t ≡ true) (map (cell_sort_key planned) ys)
@@ -105,10 +105,10 @@ below_found {planned} {k} {cells} {first} at {x} few rise less is number b = (
       omega (arith, n, m)
 
 -- A cell of a number from k on has one from n on.
-abbrev Gap : List ℕ → ℕ → ℕ → Cell → Type 0
+abbrev pub Gap : List ℕ → ℕ → ℕ → Cell → Type 0
 Gap planned k n c = k ≤ cell_number planned c → n ≤ cell_number planned c
 
-below_skip : (planned : List ℕ) (k n : ℕ) (cells first : List Cell) → k ≤ n → All (Gap planned k n) cells → AreBelow planned k cells first → AreBelow planned n cells first
+pub below_skip : (planned : List ℕ) (k n : ℕ) (cells first : List Cell) → k ≤ n → All (Gap planned k n) cells → AreBelow planned k cells first → AreBelow planned n cells first
 below_skip planned k n cells first le none b = record {
   rest = b.rest;
   split = b.split;
@@ -154,32 +154,18 @@ planned_cells : (system : System) (planned : List ℕ) (cells : List Cell) → A
 planned_cells system planned cells h =
     All-weaker (IsOwn system planned) (IsPlanned planned) (λ c both. both.1) cells (of_sorted (IsOwn system planned) planned cells (All-from_recursion (IsOwn system planned) (sorted_cells planned cells) h.each))
 
-pub below_first : (system : System) (planned : List ℕ) (cells : List Cell) → AreHeld system cells → AreBelow planned 64 cells []
-below_first system planned cells h =
-    record { rest = sorted_cells planned cells; split = refl; earlier = All-nil (λ c. cell_number planned c < 64); later = to_sorted (IsFrom planned 64) planned cells (All-weaker (IsHeld system) (IsFrom planned 64) from cells h.each) } where
-      from : (c : Cell) → IsHeld system c → IsFrom planned 64 c
-      from c held = let one = held.number.0 in omega (arith, one)
+pub below_first : (planned : List ℕ) (n : ℕ) (cells : List Cell) → All (IsFrom planned n) cells → AreBelow planned n cells []
+below_first planned n cells from = record { rest = sorted_cells planned cells; split = refl; earlier = All-nil (λ c. cell_number planned c < n); later = to_sorted (IsFrom planned n) planned cells from }
 
-pub below_all : (system : System) (planned : List ℕ) (cells first : List Cell) → length planned ≤ 64 → AreHeld system cells → AreBelow planned (64 * (satellites system + 1)) cells first → first ≡ sorted_cells planned cells
-below_all system planned cells first few h b = sym (b.split ∙ ap (λ l. first ++ l) (none b.rest b.later (rest_of (IsHeld system) first b.rest (subst (All (IsHeld system)) b.split (held_sorted system planned cells h).each))) ∙ append-nil first) where
-  none : (rest : List Cell) → All (IsFrom planned (64 * (satellites system + 1))) rest → All (IsHeld system) rest → rest ≡ []
-  none [] later held = refl
-  none (c ∷ rest) later held =
-      let own = All-head (IsHeld system) c rest held in
-      let low = place_less (place_in c.signal planned) _ planned refl few in
-      let most = subst (λ s. c.satellite.id ≤ satellites s) own.satellite own.number.1 in
-      let from = All-head (IsFrom planned (64 * (satellites system + 1))) c rest later in
-      absurd (omega (arith, low, most, from))
+abbrev IsBelow : List ℕ → ℕ → Cell → Type 0
+IsBelow planned n c = cell_number planned c < n
 
--- All cells are among the first ones if these are as many.
-pub below_whole : (planned : List ℕ) (n : ℕ) (cells first : List Cell) → length first ≡ length cells → AreBelow planned n cells first → first ≡ sorted_cells planned cells
-below_whole planned n cells first whole b =
-    let moved = length_permutation cells (sorted_cells planned cells) (sort_moves (cell_sort_key planned) cells) in
-    let parts : length (sorted_cells planned cells) ≡ length first + length b.rest = ap length b.split ∙ length-append first b.rest in
-    sym (b.split ∙ ap (λ l. first ++ l) (none b.rest (omega (arith, whole, moved, parts))) ∙ append-nil first) where
-      none : (rest : List Cell) → length rest ≡ 0 → rest ≡ []
-      none [] e = refl
-      none (c ∷ rest) e = absurd (omega (arith, e))
+-- All cells are among the first ones if none has a greater number.
+pub below_all : (planned : List ℕ) (n : ℕ) (cells first : List Cell) → All (IsBelow planned n) cells → AreBelow planned n cells first → first ≡ sorted_cells planned cells
+below_all planned n cells first lower b = sym (b.split ∙ ap (λ l. first ++ l) (none b.rest b.later (rest_of (IsBelow planned n) first b.rest (subst (All (IsBelow planned n)) b.split (to_sorted (IsBelow planned n) planned cells lower)))) ∙ append-nil first) where
+  none : (rest : List Cell) → All (IsFrom planned n) rest → All (IsBelow planned n) rest → rest ≡ []
+  none [] later low = refl
+  none (c ∷ rest) later low = let from = All-head (IsFrom planned n) c rest later in let less = All-head (IsBelow planned n) c rest low in absurd (omega (arith, from, less))
 
 -- ---- the entries of a satellite
 

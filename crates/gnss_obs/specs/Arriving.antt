@@ -2,6 +2,7 @@
 use Rattle.std.specs.Prelude.{ℕ, ◌+◌, ◌*◌, ◌≡◌, ◌<◌, ◌≤◌, ◌==◌, Bool, nat_le, List, [], ◌∷◌, ◌++◌, length, get_or}
 use Rattle.std.specs.Prelude.{map, fold, if◌then◌else◌}
 use Rattle.std.specs.Option.{option_map_or}
+use Rattle.std.specs.Int.{bit_at}
 use Rattle.std.specs.List.{All, AllByRecursion, list_any}
 use Rattle.gnss_obs.specs.declared.system.System.{System}
 use Rattle.gnss_obs.specs.declared.system.System.TheVariants.{Gps, Galileo}
@@ -87,3 +88,8 @@ pub record AreBelow (planned : List ℕ) (n : ℕ) (cells first : List Cell) : T
   pub split : sorted_cells planned cells ≡ first ++ rest
   pub earlier : All (λ c. cell_number planned c < n) first
   pub later : All (λ c. n ≤ cell_number planned c) rest
+
+-- Bit n of the set is satellite n: it has no satellite above this one, and each that has a cell.
+pub record HasSatellites (most : ℕ) (cells : List Cell) (set : ℕ) : Type 0 where
+  pub listed : (n : ℕ) → bit_at set n ≡ 1 → n ≤ most
+  pub each : All (λ c. bit_at set c.satellite.id ≡ 1) cells

@@ -1,12 +1,13 @@
 //! Cells in the order of their satellites and of a plan.
 ghost use Rattle.std.specs.Prelude.{◌≡◌, ◌+◌, ◌*◌, ◌<◌, ◌≤◌, ◌++◌, ◌∷◌, [], List, ℕ};
-ghost use Rattle.gnss_obs.specs.Arriving.{sorted_cells, AreBelow};
+ghost use Rattle.gnss_obs.specs.Arriving.{sorted_cells, AreBelow, HasSatellites};
 ghost use Rattle.gnss_obs.specs.PlanOrder.{AreInPlanOrder};
 ghost use Rattle.gnss_obs.specs.Order.{IsLeastNext, unsorted};
 ghost use Rattle.gnss_obs.specs.Satellites.{satellites};
 ghost use Rattle.gnss_obs.specs.SignalLists.{indices, IsOf};
 ghost use Rattle.gnss_obs.specs.Values.{AreHeld, planned_of};
 
+use crate::cell::Cell;
 use crate::cells::{Cells, SATELLITE_SLOTS};
 use crate::plan::Plan;
 use crate::signal::Signal;
@@ -36,12 +37,24 @@ pub(crate) fn sort_into(sorted: &mut Cells, cells: &Cells, plan: &Plan, system: 
 {
     let signals = plan.of(system);
     sorted.clear();
-    for before in 0..system.satellites() {
-        if sorted.as_slice().len() == cells.as_slice().len() {
-            return;
-        }
-        copy_satellite(sorted, cells, signals, system, before + 1);
+    let mut left = satellites_of(cells.as_slice(), system);
+    while left != 0 {
+        let id = left.trailing_zeros();
+        copy_satellite(sorted, cells, signals, system, id as u8);
+        left &= !(1 << id);
     }
+}
+
+// Returns the set of the satellites that have a cell: bit n is satellite n.
+fn satellites_of(cells: &[Cell], system: System) -> u64
+    requires held { AreHeld system cells.now }
+    ensures { HasSatellites (satellites system) cells.now result }
+{
+    let mut set = 0;
+    for i in 0..cells.len() {
+        set |= 1 << cells[i].satellite.id();
+    }
+    set
 }
 
 // Copies the cells of a satellite in the order of the plan, after those of the satellites before.

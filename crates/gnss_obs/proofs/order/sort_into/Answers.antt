@@ -1,22 +1,39 @@
-use Rattle.std.proofs.Common.{◌≡◌, ◌≤◌, ◌+◌, ◌*◌, ◌∙◌, ap, sym, arith, subst, length}
+use Rattle.std.proofs.Common.{◌≡◌, ◌≤◌, ◌<◌, ◌+◌, ◌*◌, sym, arith, subst, length}
 use Rattle.gnss_obs.specs.Names.{AreBelow, planned_of, satellites}
-use Rattle.gnss_obs.proofs.SortLemmas.{below_all, below_first, below_whole, few_planned}
+use Rattle.gnss_obs.specs.Arriving.{HasSatellites}
+use Rattle.gnss_obs.proofs.SetLemmas.{AreSortedTo, all_sorted, few_satellites, lowest, lowest_bit, lowest_rises, lowest_sorted, none_sorted}
+use Rattle.gnss_obs.proofs.SortLemmas.{few_planned}
 use Rattle.gnss_obs.proofs.order.sort_into.Goals as goal
 
-pub loop-before-init : goal.loop-before-init
-loop-before-init c =
+pub loop-left-init : goal.loop-left-init
+loop-left-init c =
     let planned = planned_of c.args.system c.args.plan.now in
-    subst (AreBelow planned 64 c.args.cells.now) (sym c.clear.ensures) (below_first c.args.system planned c.args.cells.now c.requires.held)
+    let set = c.satellites_of-left.result in
+    subst (AreSortedTo (satellites c.args.system) planned c.args.cells.now set) (sym c.clear.ensures)
+    (none_sorted (satellites c.args.system) planned c.args.cells.now set (omega arith) (subst (λ l. HasSatellites (satellites c.args.system) l set) c.as_slice.ensures.cells c.satellites_of-left.ensures))
 
-pub returns-then-as_slice : goal.returns-then-as_slice
-returns-then-as_slice c =
-    below_whole (planned_of c.args.system c.args.plan.now) (64 * (c.loop-before.before + 1)) c.args.cells.now c.loop-before.sorted
-    (ap length (sym c.as_slice.ensures.cells) ∙ c.if-as_slice.true ∙ ap length c.as_slice-in-loop-before.ensures.cells) c.loop-before.invariant
+pub copy_satellite-requires-clause-id : goal.copy_satellite-requires-clause-id
+copy_satellite-requires-clause-id c = c.loop-left.invariant.listed (lowest c.loop-left.left) (lowest_bit c.loop-left.left (omega (arith, c.loop-left-test.true)) (omega arith)).1
+
+pub loop-left-smaller : goal.loop-left-smaller
+loop-left-smaller c =
+    let some : 0 < c.loop-left.left = omega (arith, c.loop-left-test.true) in
+    let low = (lowest_bit c.loop-left.left some (omega arith)).0 in
+    let rises = lowest_rises c.loop-left.left some (omega arith) in
+    omega (arith, low, rises)
+
+pub loop-left-preserved : goal.loop-left-preserved
+loop-left-preserved c =
+    let planned = planned_of c.args.system c.args.plan.now in
+    let signals = c.of-signals in
+    lowest_sorted (satellites c.args.system) planned c.args.cells.now c.loop-left.left (omega (arith, c.loop-left-test.true)) (omega arith)
+    (subst (λ l. length l ≤ 64) signals.ensures.indices (few_planned c.args.system signals.result.now signals.ensures.system)) (few_satellites c.args.system) c.loop-left.invariant
+    (subst (λ l. AreBelow l (64 * (lowest c.loop-left.left + 1)) c.args.cells.now c.copy_satellite.new.sorted) signals.ensures.indices c.copy_satellite.ensures)
 
 pub returns : goal.returns
 returns c =
     let planned = planned_of c.args.system c.args.plan.now in
-    let few : length planned ≤ 64 = subst (λ l. length l ≤ 64) c.of-signals.ensures.indices (few_planned c.args.system c.of-signals.result.now c.of-signals.ensures.system) in
-    let end : c.loop-before.before ≡ satellites c.args.system = omega (arith, c.loop-before-test.false, c.loop-before.auto.before-end, c.satellites-before-end.ensures.value) in
-    below_all c.args.system planned c.args.cells.now c.loop-before.sorted few c.requires.held
-    (subst (λ n. AreBelow planned (64 * (n + 1)) c.args.cells.now c.loop-before.sorted) end c.loop-before.invariant)
+    let signals = c.of-signals in
+    let end : c.loop-left.left ≡ 0 = omega (arith, c.loop-left-test.false) in
+    all_sorted (satellites c.args.system) planned c.args.cells.now c.loop-left.sorted (subst (λ l. length l ≤ 64) signals.ensures.indices (few_planned c.args.system signals.result.now signals.ensures.system))
+    (subst (λ set. AreSortedTo (satellites c.args.system) planned c.args.cells.now set c.loop-left.sorted) end c.loop-left.invariant)

@@ -1,6 +1,10 @@
-use Rattle.std.proofs.Common.{◌+◌, ◌*◌}
-use Rattle.gnss_obs.specs.Names.{AreBelow, planned_of}
+use Rattle.std.proofs.Common.{◌-◌}
+use Rattle.gnss_obs.specs.Names.{planned_of, satellites}
+use Rattle.gnss_obs.proofs.SetLemmas.{AreSortedTo, lowest}
 use Rattle.gnss_obs.proofs.order.sort_into.Given as goal
 
-abbrev pub invariant-loop-before : goal.invariant-loop-before
-invariant-loop-before l = AreBelow (planned_of l.fn.system l.plan) (64 * (l.before + 1)) l.cells l.sorted
+abbrev pub invariant-loop-left : goal.invariant-loop-left
+invariant-loop-left l = AreSortedTo (satellites l.fn.system) (planned_of l.fn.system l.plan) l.cells l.left l.sorted
+
+abbrev pub decreases-loop-left : goal.decreases-loop-left
+decreases-loop-left l = 64 - lowest l.left
