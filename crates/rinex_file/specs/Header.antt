@@ -1,7 +1,7 @@
 -- The lines of a header, RINEX 3.05, table A2: content in columns 1 to 60, the label from column 61 on.
-use Rattle.std.specs.Prelude.{ℕ, zero, suc, ℤ, pos, ◌+◌, ◌*◌, ◌/◌, ◌==◌, if◌then◌else◌, List, [], ◌∷◌, ◌++◌, length}
-use Rattle.std.specs.Prelude.{take, drop, map, flat_map, replicate, decimal, codes, get_or, Bool, true, not, nat_lt}
-use Rattle.gnss_obs.specs.Satellites.{letter}
+use Rattle.std.specs.Prelude.{◌≡◌, ◌⊎◌, ℕ, zero, suc, ℤ, pos, ◌+◌, ◌*◌, ◌/◌, ◌==◌, if◌then◌else◌, List, [], ◌∷◌, ◌++◌, length}
+use Rattle.std.specs.Prelude.{take, drop, map, flat_map, replicate, decimal, codes, get_or, Bool, true, false, not, nat_lt}
+use Rattle.gnss_obs.specs.Satellites.{letter, is_system}
 use Rattle.gnss_obs.specs.Signals.{code_of}
 use Rattle.gnss_obs.specs.declared.system.System.{System}
 use Rattle.gnss_obs.specs.declared.system.System.TheVariants.{Gps, Galileo}
@@ -11,11 +11,12 @@ use Rattle.gnss_obs.specs.Values.{PlanValue, planned_of}
 use Rattle.rinex_file.specs.declared.header.fields.HeaderField.{HeaderField}
 use Rattle.rinex_file.specs.declared.header.fields.TextRow.{TextRow}
 use Rattle.rinex_file.specs.declared.header.rows.HeaderRow.{HeaderRow}
+use Rattle.rinex_file.specs.declared.header.rows.TheConstants.{ROWS}
 use Rattle.rinex_file.specs.declared.header.rows.HeaderRow.TheVariants.{Version, Texts, Position, Delta, Types}
 use Rattle.rinex_file.specs.declared.header.rows.HeaderRow.TheVariants.{StrengthUnit, First, Shift, End}
 use Rattle.rinex_file.specs.Numbers.{joined, left, right, fixed}
 use Rattle.rinex_file.specs.Limits.{content_columns, label_columns, types_in_line}
-use Rattle.rinex_file.specs.Texts.{HeaderLists, width_of, text_of, fields_of, text_rows, text_row_index, front_of, label_of}
+use Rattle.rinex_file.specs.Texts.{HeaderLists, width_of, text_of, fields_of, text_row_index, front_of, label_of}
 
 -- content, label and a line feed
 unfoldable pub header_line : List ℕ → List ℕ → List ℕ
@@ -35,14 +36,22 @@ is_some_planned signals = not (length signals == 0)
 abbrev pub file_system : Bool → Bool → ℕ
 file_system gps galileo = if gps then (if galileo then 77 else letter Gps) else letter Galileo
 
--- the fields of the first line of a file in which these systems are planned
-abbrev pub version_fields : Bool → Bool → List (List ℕ)
-version_fields gps galileo =
-    right 9 (fixed 2 (pos 305)) ∷ replicate 11 32 ∷ left 20 (codes "OBSERVATION DATA")
-    ∷ (file_system gps galileo ∷ []) ∷ []
+-- the letter of one system or of several
+abbrev pub IsSystemsLetter : ℕ → Type 0
+IsSystemsLetter letter = (letter ≡ 77) ⊎ (letter ≡ 71) ⊎ (letter ≡ 69)
 
+-- the fields of the first line of a file with this letter of its systems
+abbrev pub version_fields : ℕ → List (List ℕ)
+version_fields letter =
+    right 9 (fixed 2 (pos 305)) ∷ replicate 11 32 ∷ left 20 (codes "OBSERVATION DATA")
+    ∷ (letter ∷ []) ∷ []
+
+abbrev pub version_by : ℕ → List ℕ
+version_by letter = header_line (joined (version_fields letter)) (codes "RINEX VERSION / TYPE")
+
+-- if these systems are planned
 abbrev pub version_with : Bool → Bool → List ℕ
-version_with gps galileo = header_line (joined (version_fields gps galileo)) (codes "RINEX VERSION / TYPE")
+version_with gps galileo = version_by (file_system gps galileo)
 
 abbrev pub version_line : PlanValue → List ℕ
 version_line p = version_with (is_some_planned p.gps) (is_some_planned p.galileo)
@@ -141,13 +150,9 @@ has_line p other = true
 abbrev pub row_lines : HeaderLists → PlanValue → StationValues → Civil → HeaderRow → List (List ℕ)
 row_lines x p v t row = if has_line p row then row_line x p v t row ∷ [] else []
 
--- the rows in order; the signals of a system have at most six lines of types
+-- the rows in order
 abbrev pub all_rows : List HeaderRow
-all_rows =
-    Version ∷ map Texts text_rows ++ Position ∷ Delta
-    ∷ Types Gps 0 ∷ Types Gps 1 ∷ Types Gps 2 ∷ Types Gps 3 ∷ Types Gps 4 ∷ Types Gps 5
-    ∷ Types Galileo 0 ∷ Types Galileo 1 ∷ Types Galileo 2 ∷ Types Galileo 3 ∷ Types Galileo 4 ∷ Types Galileo 5
-    ∷ StrengthUnit ∷ First ∷ Shift Gps ∷ Shift Galileo ∷ End ∷ []
+all_rows = ROWS
 
 abbrev pub row_count : ℕ
 row_count = length all_rows
@@ -166,23 +171,36 @@ row_at place = get_or all_rows place End
 abbrev pub most_type_rows : ℕ
 most_type_rows = 6
 
+-- the index of the first row that passes a test
+abbrev pub index_where : (HeaderRow → Bool) → List HeaderRow → ℕ
+index_where test [] = 0
+index_where test (row ∷ rows) = if test row then 0 else 1 + index_where test rows
+
+-- the rows of the same kind and system
+abbrev pub is_alike : HeaderRow → HeaderRow → Bool
+is_alike Version Version = true
+is_alike (Texts a) (Texts b) = true
+is_alike Position Position = true
+is_alike Delta Delta = true
+is_alike (Types s a) (Types t b) = is_system s t
+is_alike StrengthUnit StrengthUnit = true
+is_alike First First = true
+is_alike (Shift s) (Shift t) = is_system s t
+is_alike End End = true
+is_alike other row = false
+
 -- the index of the first row of a system's types
 abbrev pub first_types : System → ℕ
-first_types Gps = 9
-first_types Galileo = 15
+first_types Gps = index_where (is_alike (Types Gps 0)) all_rows
+first_types Galileo = index_where (is_alike (Types Galileo 0)) all_rows
 
 -- the index of a row
 abbrev pub row_place : HeaderRow → ℕ
-row_place Version = 0
-row_place (Texts row) = 1 + text_row_index row
-row_place Position = 7
-row_place Delta = 8
+row_place (Texts row) = index_where (is_alike (Texts row)) all_rows + text_row_index row
 row_place (Types system row) = first_types system + row
-row_place StrengthUnit = 21
-row_place First = 22
-row_place (Shift Gps) = 23
-row_place (Shift Galileo) = 24
-row_place End = 25
+row_place (Shift Gps) = index_where (is_alike (Shift Gps)) all_rows
+row_place (Shift Galileo) = index_where (is_alike (Shift Galileo)) all_rows
+row_place other = index_where (is_alike other) all_rows
 
 -- the lines of the rows from an index on
 abbrev pub lines_from : HeaderLists → PlanValue → StationValues → Civil → ℕ → List (List ℕ)

@@ -1,11 +1,11 @@
 -- The last line of a header, the header that was read, and the start.
 use Rattle.rinex_file.proofs.Reading.Epochs.{few_signals_of}
-use Rattle.rinex_file.proofs.HeaderRows.Agree.{Agree, single, types_high, agree_types, agree_count, signals_same, none_planned, split_at, lengths-back, height-back, number_at, coordinate-fits}
-use Rattle.rinex_file.proofs.HeaderRows.Steps.{some_plan, with_is, unread}
-use Rattle.rinex_file.proofs.HeaderRows.Texts.{place_back, same_at, same_rows, texts_back, same_texts, SameTexts, text_low}
-use Rattle.rinex_file.proofs.Names.{arith, ◌≡◌, ◌∙◌, sym, ap, ap₂, map, refl, subst, ℕ, ℤ, pos, suc, lit<, lit≤, ◌-◌, ◌<◌, ◌≤◌, Bool, true, false, ◌||◌, min, List, [], ◌∷◌, ◌++◌, length, get_or, take, replicate, All, nat_eq, AllOfLen, IsDistinct, take_all, ext_get_or, All-map, All-weaker, codes, SignalAt, IsSignal, table, System, Gps, Galileo, indices, IsOf, PlanValue, planned_of, StationValues, civil_of, TextRow, Texts, Position, Delta, First, End, trimmed, HeaderLists, text_count, text_of, width_of, fields, fields_of, text_rows, HeaderField, AntType, IsText, AreTexts, AreValues, IsTime, row_line, row_place, end_line, first_line, first_types, most_type_rows, texts_line, position_line, delta_line, digits_in, Known, Shown, AreTypesRead, IsShown, AreValid, MayPlan, IsHeadAt, IsOnlyTime, shown_with, lines_before, announced, signals_begun, RefusesHeaderLine, EndsHeader, none_of, row_at, shown_rows, same_Some, most_signals}
+use Rattle.rinex_file.proofs.HeaderRows.Agree.{split_at, less_or}
+use Rattle.rinex_file.proofs.HeaderRows.Steps.{SomeShown, some_shown, rest_next}
+use Rattle.rinex_file.proofs.HeaderRows.Texts.{place_back, same_at, same_rows}
+use Rattle.rinex_file.proofs.Names.{nat_lt, ◌&&◌, letter, file_system, arith, ◌≡◌, ◌∙◌, sym, ap, ap₂, map, refl, subst, ℕ, ℤ, pos, suc, lit<, lit≤, ◌<◌, Bool, true, ◌||◌, min, List, [], ◌∷◌, ◌++◌, length, get_or, replicate, All, nat_eq, AllOfLen, IsDistinct, take_all, ext_get_or, All-map, All-weaker, SignalAt, IsSignal, table, System, Gps, Galileo, indices, IsOf, PlanValue, planned_of, StationValues, TextRow, Texts, Position, Delta, First, End, trimmed, HeaderLists, text_count, text_of, width_of, fields, fields_of, text_rows, HeaderField, AntType, IsText, AreTexts, AreValues, IsTime, row_line, row_place, end_line, most_type_rows, Known, Shown, IsShown, AreValid, IsHeadAt, shown_with, lines_before, signals_begun, RefusesHeaderLine, EndsHeader, none_of, row_at, AreSized, AreTypesOf, AreSameTexts, Has, HasRow, fits, counted, types_before, StrengthUnit, SameFrom, position_of, ◌==◌}
 
--- ---- headers with the same lines are the same
+-- ---- a header with all that was read is the one that was read
 
 same_plan : (p q : PlanValue) → p.gps ≡ q.gps → p.galileo ≡ q.galileo → p ≡ q
 same_plan p q a b = grind arith
@@ -22,82 +22,87 @@ same_shown g h a b c d = grind arith
 text_here : (r : TextRow) → row_at (row_place (Texts r)) ≡ Texts r
 text_here r = grind arith
 
-module _ (h g : Shown) (a : IsShown h) (b : IsShown g) (agree : Agree h g (row_place End)) where
-  text_lines : (r : TextRow) → texts_line h.texts r ≡ texts_line g.texts r
-  unfolding row_line
-  text_lines r =
-      let low = text_low r in
-      single (texts_line h.texts r) (texts_line g.texts r) (subst (λ x. shown_rows h x ≡ shown_rows g x) (text_here r) (agree (row_place (Texts r)) (omega (arith, low))))
+text_far : (r : TextRow) → row_place (Texts r) < row_place End
+text_far r = grind arith
 
-  texts : h.texts ≡ g.texts
-  texts = ext_get_or [] h.texts g.texts (a.texts.count ∙ sym b.texts.count) (λ i less. at i (subst (λ n. i < n) a.texts.count less)) where
-    row_of : (r : TextRow) → SameTexts h.texts g.texts (fields_of r)
-    row_of r =
-        let p = texts_back h.texts a.texts r (texts_line h.texts r) h.texts a.texts.count refl in
-        let q = texts_back g.texts b.texts r (texts_line h.texts r) h.texts a.texts.count (sym (text_lines r)) in
-        same_texts p.new h.texts g.texts (fields_of r) p.same (subst (λ x. SameTexts x g.texts (fields_of r)) (same_Some q.new p.new (sym q.read ∙ p.read)) q.same)
+all_rows_before : (s : System) → types_before s (row_place End) ≡ most_type_rows
+all_rows_before Gps = refl
+all_rows_before Galileo = refl
 
-    at : (i : ℕ) → i < text_count → get_or h.texts i [] ≡ get_or g.texts i []
-    at i less = subst (λ j. get_or h.texts j [] ≡ get_or g.texts j []) (place_back i less) (same_at h.texts g.texts fields i AntType less (same_rows h.texts g.texts row_of text_rows))
+module _ (k : Known) (h : Shown) (is : IsShown h) (valid : AreValid k) (has : Has k (row_place End) h) where
+  texts : h.texts ≡ k.shown.texts
+  texts = ext_get_or [] h.texts k.shown.texts (is.texts.count ∙ sym valid.texts.count) (λ i less. at i (subst (λ n. i < n) is.texts.count less)) where
+    row_of : (r : TextRow) → AreSameTexts h.texts k.shown.texts (fields_of r)
+    row_of r = subst (HasRow k h) (text_here r) (has.rows (row_place (Texts r)) (text_far r))
 
-  signals : (s : System) → planned_of s h.plan ≡ planned_of s g.plan
+    at : (i : ℕ) → i < text_count → get_or h.texts i [] ≡ get_or k.shown.texts i []
+    at i less = subst (λ j. get_or h.texts j [] ≡ get_or k.shown.texts j []) (place_back i less) (same_at h.texts k.shown.texts fields i AntType less (same_rows h.texts k.shown.texts row_of text_rows))
+
+  signals : (s : System) → planned_of s h.plan ≡ planned_of s k.shown.plan
   signals s =
-      let high = types_high s in
-      let size = agree_count a b (row_place End) agree s (omega (arith, high)) in
-      let few = few_signals_of h.plan a.plan s in
-      let also = few_signals_of g.plan b.plan s in
-      sym (take_all (signals_begun most_type_rows) (planned_of s h.plan) (omega (arith, few)))
-      ∙ signals_same a b s size most_type_rows (lit≤ tt) (λ r less. agree_types a b (row_place End) agree s r less (omega (arith, less, high)))
-      ∙ take_all (signals_begun most_type_rows) (planned_of s g.plan) (omega (arith, also))
+      let few = few_signals_of h.plan is.plan s in
+      let types : AreTypesOf most_type_rows (counted k s) (planned_of s k.shown.plan) (planned_of s h.plan) =
+      subst (λ m. AreTypesOf m (counted k s) (planned_of s k.shown.plan) (planned_of s h.plan)) (all_rows_before s) (has.types s) in
+      sym (types.begun ∙ take_all (signals_begun most_type_rows) (planned_of s h.plan) (omega (arith, few)))
 
-  values : h.values ≡ g.values
-  unfolding row_line
+  values : h.values ≡ k.shown.values
   values =
-      let e : position_line h.values ≡ position_line g.values = single (position_line h.values) (position_line g.values) (agree (row_place Position) (lit< tt)) in
-      let f : delta_line h.values ≡ delta_line g.values = single (delta_line h.values) (delta_line g.values) (agree (row_place Delta) (lit< tt)) in
-      let label = codes "APPROX POSITION XYZ" in
-      let p = lengths-back h.values.x h.values.y h.values.z label (coordinate-fits h.values.x a.values.x) (coordinate-fits h.values.y a.values.y) (coordinate-fits h.values.z a.values.z) in
-      let q = lengths-back g.values.x g.values.y g.values.z label (coordinate-fits g.values.x b.values.x) (coordinate-fits g.values.y b.values.y) (coordinate-fits g.values.z b.values.z) in
-      same_values h.values g.values (sym p.0 ∙ ap (number_at 0) e ∙ q.0) (sym p.1 ∙ ap (number_at 14) e ∙ q.1) (sym p.2 ∙ ap (number_at 28) e ∙ q.2)
-      (sym (height-back h.values.height a.values.height) ∙ ap (λ l. digits_in (take 14 (Rattle.std.specs.Prelude.drop 0 l))) f
-      ∙ height-back g.values.height b.values.height)
+      let position : position_of h.values ≡ position_of k.shown.values = has.rows (row_place Position) (lit< tt) in
+      same_values h.values k.shown.values (ap (λ (v : StationValues). v.x) position) (ap (λ (v : StationValues). v.y) position) (ap (λ (v : StationValues). v.z) position) (has.rows (row_place Delta) (lit< tt))
 
-  pub same_header : IsOnlyTime g.first → h ≡ g
-  unfolding row_line
-  same_header only =
-      same_shown h g texts (same_plan h.plan g.plan (signals Gps) (signals Galileo)) values
-      (only h.first a.first (single (first_line (civil_of h.first)) (first_line (civil_of g.first)) (agree (row_place First) (lit< tt))))
+  pub same_header : h ≡ k.shown
+  same_header = same_shown h k.shown texts (same_plan h.plan k.shown.plan (signals Gps) (signals Galileo)) values (has.rows (row_place First) (lit< tt))
 
 -- ---- the last line
 
-module _ (k : Known) (at : IsHeadAt k (row_place End)) where
-  all_read : (p : PlanValue) → MayPlan k p → (s : System) → planned_of s k.shown.plan ≡ planned_of s p
-  all_read p may s = by (announced k s).planned refl where
-    all_of : (n : ℕ) {c : ℕ} {xs ys : List ℕ} → c ≤ most_signals → 20 ≤ n → length xs ≡ min n c → c ≡ length ys → xs ≡ take (length xs) ys → xs ≡ ys
-    all_of n {xs = xs} {ys} few many size is e = e ∙ take_all (length xs) ys (omega (arith, few, many, size, is))
+-- what fits at a row after the types fits at the last
+abbrev chosen_at : Known → ℕ → System → Bool
+chosen_at k rows s = (rows == 0 || nat_lt 0 (counted k s)) && (k.letter == 77 || k.letter == letter s)
 
-    by : (c : Bool) → (announced k s).planned ≡ c → planned_of s k.shown.plan ≡ planned_of s p
-    by true e =
-        let high = types_high s in
-        let counted = (may.each s).count ((at.read.each s).counted.1 (e, omega (arith, high))) in
-        let few = few_signals_of p may.is s in
-        all_of (signals_begun (row_place End - first_types s)) (omega (arith, few, counted)) (omega (arith, high)) (at.read.each s).size counted (may.each s).begins
-    by false e =
-        let none : planned_of s p ≡ [] = none_planned (planned_of s p) (sym ((may.each s).planned (at.read.systems (lit< tt))) ∙ e) in
-        (may.each s).begins ∙ ap (take (length (planned_of s k.shown.plan))) none ∙ take_all (length (planned_of s k.shown.plan)) [] (omega arith) ∙ sym none
+abbrev fits_at : Known → ℕ → ℕ → Bool
+fits_at k a b = (file_system (chosen_at k a Gps) (chosen_at k b Galileo) == k.letter)
+    && (chosen_at k a Gps || chosen_at k b Galileo) && (k.gps == 0 || chosen_at k a Gps) && (k.galileo == 0 || chosen_at k b Galileo)
 
-  whole : (p : PlanValue) → MayPlan k p → p ≡ k.shown.plan
-  whole p may = same_plan p k.shown.plan (sym (all_read p may Gps)) (sym (all_read p may Galileo))
+still_fits : (k : Known) (from : ℕ) → row_place StrengthUnit < from → fits k from ≡ true → fits k (row_place End) ≡ true
+still_fits k from far e = sym (ap₂ (fits_at k) gps galileo) ∙ e where
+  gps : types_before Gps from ≡ 6
+  gps = omega (arith, far)
 
-  pub ends : (line : List ℕ) → line ≡ end_line → EndsHeader k (row_place End) line k
+  galileo : types_before Galileo from ≡ 6
+  galileo = omega (arith, far)
+
+module _ (k : Known) (line : List ℕ) (from : ℕ) (at : IsHeadAt k from) (same : SameFrom k line from (row_place End)) where
+  at_end : IsHeadAt k (row_place End)
+  at_end = record {
+    valid = at.valid;
+    sized = same.sized;
+    fitting = λ l. less_or (fits k (row_place End) ≡ true) (row_place StrengthUnit) from
+        (λ far. still_fits k from far (at.fitting (omega (arith, far)))) (λ low. let e = same.none (row_place StrengthUnit) low (lit< tt) in cc);
+    expected = lit< tt;
+  }
+
+  some : SomeShown k (row_place End)
+  some = some_shown k (row_place End) at_end
+
+  whole : shown_with k some.p ≡ k.shown
+  whole = same_header k (shown_with k some.p) some.is at.valid some.has
+
+  has_all : Has k (row_place End) k.shown
+  has_all = subst (Has k (row_place End)) whole some.has
+
+  is_shown : IsShown k.shown
+  is_shown = subst IsShown whole some.is
+
+  pub ends : line ≡ end_line → EndsHeader k from line k
   unfolding row_line
-  ends line e =
-      let one = some_plan k (row_place End) at.valid at.read in
-      record {
-        is = subst (λ p. IsShown (shown_with k p)) (whole one.p one.may) (with_is k (row_place End) at.valid at.read one.p one.may);
-        only = at.read.only (lit< tt);
-        lines = λ p may. split_at k.shown (row_place End) ∙ ap (λ p. lines_before (shown_with k p) (row_place End) ++ end_line ∷ []) (sym (whole p may)) ∙ ap (λ l. lines_before (shown_with k p) (row_place End) ++ l ∷ []) (sym e);
-      }
+  ends e = record {
+    is = is_shown;
+    goes = λ h others left on.
+        let b = same.goes h others left on in
+        (same_header k h b.is at.valid b.has, rest_next (lit< tt) b refl);
+    has = same.back k.shown is_shown has_all;
+    lines = split_at k.shown (row_place End) ∙ ap (λ l. l ++ end_line ∷ []) (same.lines k.shown is_shown has_all) ∙ ap (λ l. lines_before k.shown from ++ l ∷ []) (sym e);
+  }
 
 pub no_end_line : (line : List ℕ) → (line ≡ end_line → ⊥) → RefusesHeaderLine End line
 unfolding row_line
@@ -120,15 +125,16 @@ valid_by {made = made} {gps} {galileo} e texts g l values first plan = subst Are
   apart Galileo = subst (λ (p : PlanValue). IsDistinct nat_eq p.galileo) (sym plan) l.apart
 
 -- nothing was read
-pub begins : (k : Known) → AreValid k → k.gps.planned ≡ false → k.galileo.planned ≡ false → k.gps.count ≡ 0 → k.galileo.count ≡ 0 → k.shown.plan.gps ≡ [] → k.shown.plan.galileo ≡ [] → IsHeadAt k 0
-begins k valid g l m n gps galileo = record {
-  valid = valid;
-  read = record { systems = λ l. absurd (omega (arith, l)); fresh = λ e. ap₂ (λ a b. a || b) g l; each = each; only = λ l. absurd (omega (arith, l)) };
-  expected = lit≤ tt;
-} where
-  each : (s : System) → AreTypesRead s (announced k s) (planned_of s k.shown.plan) 0
-  each Gps = unread Gps k.gps k.shown.plan.gps 0 (omega arith) m gps
-  each Galileo = unread Galileo k.galileo k.shown.plan.galileo 0 (omega arith) n galileo
+pub begins : (k : Known) → AreValid k → k.gps ≡ 0 → k.galileo ≡ 0 → k.shown.plan.gps ≡ [] → k.shown.plan.galileo ≡ [] → IsHeadAt k 0
+begins k valid m n gps galileo = record { valid = valid; sized = sized; fitting = λ l. absurd (omega (arith, l)); expected = lit≤ tt } where
+  none : (s : System) (count : ℕ) (signals : List ℕ) → count ≡ 0 → signals ≡ [] → AreSized s 0 count signals
+  none s count signals e f = record { few = omega (arith, e); none = λ z. e; size = ap length f ∙ zero_min count e } where
+    zero_min : (c : ℕ) → c ≡ 0 → 0 ≡ min (signals_begun 0) c
+    zero_min c e = omega (arith, e)
+
+  sized : (s : System) → AreSized s (types_before s 0) (counted k s) (planned_of s k.shown.plan)
+  sized Gps = none Gps k.gps k.shown.plan.gps m gps
+  sized Galileo = none Galileo k.galileo k.shown.plan.galileo n galileo
 
 blank_text : (f : HeaderField) → IsText (width_of f) (text_of (replicate text_count []) f)
 unfolding trimmed

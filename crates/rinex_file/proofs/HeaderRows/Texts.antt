@@ -3,7 +3,7 @@ use Rattle.std.proofs.Math.ListN.{get_or-map, set, length-set}
 use Rattle.rinex_file.proofs.Rows.Trimmed.{filled, trimmed-blank}
 use Rattle.rinex_file.proofs.PlainTexts.{both}
 use Rattle.rinex_file.proofs.HeaderRows.Types.{content_first}
-use Rattle.rinex_file.proofs.Names.{arith, ◌≡◌, ◌∙◌, refl, sym, ap, ap₂, subst, ℕ, Option, suc, ◌+◌, ◌<◌, ◌≤◌, ◌≢◌, List, [], ◌∷◌, length, drop, get_or, add-one, true, Some, None, zero, ◌-◌, ◌++◌, take, replicate, append_assoc, append-nil, length-append, if◌then◌else◌, nat_le, ◌==◌, map, flat_map, ⊤, list_all, drop-cons, length-map, length-replicate, take_at, drop_at, get_or-set_same, get_or-set_other, get_or_default, ext_get_or, list_all-append, passes_at, is_equal, HeaderField, HeadFault, AntType, trimmed, before_cut, HeaderLists, text_count, width_of, text_of, is_printable, fault_of, first_fault, fields, fields_of, trimmed_texts, place_of, front_of, label_of, IsText, AreTexts, TextRow, left, header_line, text_columns, texts_line, texts_in, if_fine, RefusesTexts, text_rows, text_row_index, same_Some}
+use Rattle.rinex_file.proofs.Names.{AreSameTexts, arith, ◌≡◌, ◌∙◌, refl, sym, ap, ap₂, subst, ℕ, Option, suc, ◌+◌, ◌<◌, ◌≤◌, ◌≢◌, List, [], ◌∷◌, length, drop, get_or, add-one, true, Some, None, zero, ◌-◌, ◌++◌, take, replicate, append_assoc, append-nil, length-append, if◌then◌else◌, nat_le, ◌==◌, map, flat_map, list_all, drop-cons, length-map, length-replicate, take_at, drop_at, get_or-set_same, get_or-set_other, get_or_default, ext_get_or, list_all-append, passes_at, is_equal, HeaderField, HeadFault, AntType, trimmed, before_cut, HeaderLists, text_count, width_of, text_of, is_printable, fault_of, first_fault, fields, fields_of, trimmed_texts, place_of, front_of, label_of, IsText, AreTexts, TextRow, left, header_line, text_columns, texts_line, texts_in, if_fine, RefusesTexts, same_Some}
 
 pub trimmed-blanks : (k : ℕ) (text : List ℕ) → trimmed (text ++ replicate k 32) ≡ trimmed text
 trimmed-blanks zero text = ap trimmed (append-nil text)
@@ -32,9 +32,6 @@ field_less field = grind arith
 
 pub place_back : (i : ℕ) → i < text_count → place_of (field_at i) ≡ i
 place_back i less = is_equal (place_of (field_at i)) i (passes_at (λ j. place_of (field_at j) == j) text_count i refl less)
-
-pub text_low : (r : TextRow) → text_row_index r < length text_rows
-text_low r = grind arith
 
 pub few_columns : (f : HeaderField) → width_of f ≤ 60
 few_columns f = grind arith
@@ -69,15 +66,11 @@ no_fault f text is = grind (arith, list_all-append, blanks_printable, trimmed-bl
 cut_left : (width : ℕ) (text : List ℕ) → IsText width text → trimmed (left width text) ≡ text
 cut_left width text is = trimmed-blanks (width - length text) text ∙ is.cut
 
-abbrev pub SameTexts : HeaderLists → HeaderLists → List HeaderField → Type 0
-SameTexts x y [] = ⊤
-SameTexts x y (f ∷ fs) = (text_of x f ≡ text_of y f) × SameTexts x y fs
-
 -- texts that are read from the columns of those of `x`: in these fields they are the same, and what was the same stays so
 pub record Back (x : HeaderLists) (fs : List HeaderField) (column : ℕ) (line : List ℕ) (old : HeaderLists) : Type 0 where
   pub new : HeaderLists
   pub read : texts_in fs column line old ≡ Some new
-  pub same : SameTexts new x fs
+  pub same : AreSameTexts new x fs
   pub stays : (g : HeaderField) → text_of old g ≡ text_of x g → text_of new g ≡ text_of x g
 
 read_back : {x : HeaderLists} (fs : List HeaderField) {column : ℕ} (front rest : List ℕ) {line : List ℕ} {old : HeaderLists} → AreTexts x → length old ≡ text_count → length front ≡ column
@@ -109,28 +102,28 @@ texts_back x are r line old size e =
     let first = content_first (front_of r ++ texts) (label_of r) in
     read_back (fields_of r) (front_of r) first.0 are size refl (sym e ∙ first.1 ∙ append_assoc (front_of r) texts first.0)
 
-same_columns : (x y : HeaderLists) (fs : List HeaderField) → SameTexts x y fs → flat_map (text_columns x) fs ≡ flat_map (text_columns y) fs
+same_columns : (x y : HeaderLists) (fs : List HeaderField) → AreSameTexts x y fs → flat_map (text_columns x) fs ≡ flat_map (text_columns y) fs
 same_columns x y [] same = refl
 same_columns x y (f ∷ fs) same = ap₂ (λ t l. left (width_of f) t ++ l) same.0 (same_columns x y fs same.1)
 
-pub same_line : (x y : HeaderLists) (r : TextRow) → SameTexts x y (fields_of r) → texts_line x r ≡ texts_line y r
+pub same_line : (x y : HeaderLists) (r : TextRow) → AreSameTexts x y (fields_of r) → texts_line x r ≡ texts_line y r
 same_line x y r same = ap (λ l. header_line (front_of r ++ l) (label_of r)) (same_columns x y (fields_of r) same)
 
 -- two headers with what was read have the same texts
-pub same_texts : (new x y : HeaderLists) (fs : List HeaderField) → SameTexts new x fs → SameTexts new y fs → SameTexts x y fs
+pub same_texts : (new x y : HeaderLists) (fs : List HeaderField) → AreSameTexts new x fs → AreSameTexts new y fs → AreSameTexts x y fs
 same_texts new x y [] a b = tt
 same_texts new x y (f ∷ fs) a b = (sym a.0 ∙ b.0, same_texts new x y fs a.1 b.1)
 
-same_append : (x y : HeaderLists) (fs gs : List HeaderField) → SameTexts x y fs → SameTexts x y gs → SameTexts x y (fs ++ gs)
+same_append : (x y : HeaderLists) (fs gs : List HeaderField) → AreSameTexts x y fs → AreSameTexts x y gs → AreSameTexts x y (fs ++ gs)
 same_append x y [] gs a b = b
 same_append x y (f ∷ fs) gs a b = (a.0, same_append x y fs gs a.1 b)
 
 -- texts that are the same in each row
-pub same_rows : (x y : HeaderLists) → ((r : TextRow) → SameTexts x y (fields_of r)) → (rows : List TextRow) → SameTexts x y (flat_map fields_of rows)
+pub same_rows : (x y : HeaderLists) → ((r : TextRow) → AreSameTexts x y (fields_of r)) → (rows : List TextRow) → AreSameTexts x y (flat_map fields_of rows)
 same_rows x y each [] = tt
 same_rows x y each (r ∷ rows) = same_append x y (fields_of r) (flat_map fields_of rows) (each r) (same_rows x y each rows)
 
-pub same_at : (x y : HeaderLists) (fs : List HeaderField) (i : ℕ) (d : HeaderField) → i < length fs → SameTexts x y fs → text_of x (get_or fs i d) ≡ text_of y (get_or fs i d)
+pub same_at : (x y : HeaderLists) (fs : List HeaderField) (i : ℕ) (d : HeaderField) → i < length fs → AreSameTexts x y fs → text_of x (get_or fs i d) ≡ text_of y (get_or fs i d)
 same_at x y [] i d less same = absurd (omega (arith, less))
 same_at x y (f ∷ fs) zero d less same = same.0
 same_at x y (f ∷ fs) (suc i) d less same = same_at x y fs i d (omega (arith, less)) same.1

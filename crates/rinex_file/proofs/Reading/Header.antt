@@ -1,10 +1,10 @@
 -- The steps of a reading from the header to the epochs, and its end.
-use Rattle.rinex_file.proofs.HeaderRows.Agree.{some_after, split_at, agreed}
-use Rattle.rinex_file.proofs.HeaderRows.Steps.{some_plan, with_is}
-use Rattle.rinex_file.proofs.HeaderRows.End.{zero_values, same_header}
+use Rattle.rinex_file.proofs.HeaderRows.Agree.{some_after, split_at}
+use Rattle.rinex_file.proofs.HeaderRows.Steps.{some_shown}
+use Rattle.rinex_file.proofs.HeaderRows.End.{zero_values}
 use Rattle.rinex_file.proofs.Reading.Lines.{consumed}
 use Rattle.rinex_file.proofs.Reading.Epochs.{lines_with, lines_are, sound_open, sound_between, at_expected, file_value}
-use Rattle.rinex_file.proofs.Names.{arith, ◌≡◌, ◌∙◌, sym, ap, refl, ℕ, zero, suc, ◌+◌, ◌<◌, pos, List, [], ◌∷◌, ◌++◌, length, Option, IfSome, lit<, subst, take, drop, append-nil, append_assoc, None, Some, ⊤, map, flat_map, All-head, All-nil, length-map, nil_from_length, StationValues, civil_of, ParserState, Expected, Header, Epoch, EventPosition, EventHeight, EventEpoch, Satellite, IsChange, IsFileValue, AreBegun, IsEventBegun, lines_of_header, whole_lines, AreBefore, IsExpectedAt, Progress, IsPosition, shown_with, lines_after, stamped, Known, Shown, IsShown, IsHeadAt, lines_before, file_with, StartsAt, IsInHeader, IsAt, IsBetween, IsInEvent, position_of, IsInEpoch, HasLinesLeft, RefusesLine, IsSound, IsSoundAt, IsEventExpected, AreLinesAt, values_now, AreRead, AreLinesOf, History, FollowsHistory, progress_at, GoesOnWithLine, ShowsLine, IsTaken, SatelliteRow, Stamped, FileValue, header_lines, row_count, satellite_line, event_lines, stamped_lines, file_lines, lines_of_parts, GoesTo, EndsHeader, NoneGoesOn}
+use Rattle.rinex_file.proofs.Names.{Has, GoesOn, AreSized, AreTypesOf, types_before, counted, planned_of, System, Gps, Galileo, shown_of, arith, ◌≡◌, ◌∙◌, sym, ap, refl, ℕ, zero, suc, ◌+◌, ◌<◌, pos, List, [], ◌∷◌, ◌++◌, length, Option, IfSome, lit<, subst, take, drop, append-nil, None, Some, ⊤, map, flat_map, All-head, All-nil, length-map, nil_from_length, StationValues, civil_of, ParserState, Expected, Header, Epoch, EventPosition, EventHeight, EventEpoch, Satellite, IsChange, IsFileValue, AreBegun, IsEventBegun, lines_of_header, whole_lines, AreBefore, IsExpectedAt, Progress, IsPosition, shown_with, lines_after, stamped, Known, Shown, IsShown, IsHeadAt, file_with, StartsAt, IsInHeader, IsAt, IsBetween, IsInEvent, position_of, IsInEpoch, HasLinesLeft, RefusesLine, IsSound, IsSoundAt, IsEventExpected, AreLinesAt, values_now, AreRead, AreLinesOf, History, FollowsHistory, progress_at, GoesOnWithLine, ShowsLine, IsTaken, SatelliteRow, Stamped, FileValue, header_lines, satellite_line, event_lines, stamped_lines, file_lines, lines_of_parts, GoesTo, EndsHeader, NoneGoesOn}
 
 some_lines : (xs : List (List ℕ)) → (xs ≡ [] → ⊥) → 0 < length xs
 some_lines [] some = absurd (some refl)
@@ -40,14 +40,14 @@ event_before s k values lines sound change are = record { h = s.known.shown; es 
 are_before : (s : Progress) (expected : Expected) (lines : List (List ℕ)) → IsSoundAt s expected → AreLinesAt s expected lines → AreBefore expected lines
 are_before s (Header place) lines sound are =
     let at = sound.2 in
-    let one = some_plan s.known place at.valid at.read in
+    let one = some_shown s.known place at in
     let h = shown_with s.known one.p in
     record {
       h = h;
       left = lines_after h place;
-      is = with_is s.known place at.valid at.read one.p one.may;
+      is = one.is;
       some = some_lines (lines_after h place) (some_after h place at.expected);
-      are = split_at h place ∙ ap (λ l. l ++ lines_after h place) (sym (are one.p one.may));
+      are = split_at h place ∙ ap (λ l. l ++ lines_after h place) (sym (are h one.is one.has));
     }
 are_before s Epoch lines sound are = record { h = s.known.shown; es = s.epochs; whole = sound.0; are = are }
 are_before s EventPosition lines sound are =
@@ -74,10 +74,6 @@ begun s n a b t sound = are_begun s.expected t.lines (are_before s s.expected t.
 
 pub expected_at : {c : ParserState} {h : History} {expected : Expected} {n : ℕ} {a b : Option (List ℕ)} → IsTaken (progress_at c h) n a b → expected ≡ c.expected → FollowsHistory c h → IfSome a (λ input. IsExpectedAt expected input (n + 1))
 expected_at t same history = grind (arith, consumed, are_before)
-
--- the contents of the header of a file whose first epoch is at this time
-abbrev shown_of : FileValue → ℕ → Shown
-shown_of v first = record { texts = v.texts; plan = v.plan; values = v.values; first = first }
 
 -- the header of a file value is a header
 pub shown_is : (v : FileValue) (e : Stamped) (es : List Stamped) → v.epochs ≡ e ∷ es → IsFileValue v → IsShown (shown_of v e.time)
@@ -107,45 +103,36 @@ begins v is = by v.epochs refl where
   by [] e = let size = ap length e in let some = is.some in absurd (omega (arith, size, some))
   by (first ∷ others) e = record { first = first; others = others; epochs = e; is = shown_is v first others e is; lines = ap (lines_of_parts v.texts v.plan v.values) e }
 
+-- a file with what was read is a header that goes on
+goes_on_with : {s : Progress} {place : ℕ} {v : FileValue} {left : List (List ℕ)} → IsFileValue v → (here : IsInHeader s place v left)
+    → GoesOn s.known place (shown_of v here.first.time) (flat_map stamped_lines (here.first ∷ here.others)) left
+goes_on_with {v = v} is here = record { is = shown_is v here.first here.others here.epochs is; has = here.has; rest = here.rest }
+
 module _ (s : Progress) {place : ℕ} (line : List ℕ) (expected : s.expected ≡ Header place) where
-  pub no_header : IsHeadAt s.known place → NoneGoesOn s.known place line → RefusesLine s line
-  no_header at never v left on =
-      let here = in_header s place v (line ∷ left) expected on in
-      let b = begins v here.0 in
-      let one = some_plan s.known place at.valid at.read in
-      never one.p (shown_of v b.first.time) (flat_map stamped_lines (b.first ∷ b.others)) left one.may b.is (sym b.lines ∙ here.1 one.p one.may)
+  pub no_header : NoneGoesOn s.known place line → RefusesLine s line
+  no_header never v left on = let here = in_header s place v (line ∷ left) expected on in never _ _ left (goes_on_with here.0 here.1)
 
   module _ {k : Known} {place' : ℕ} (goes : GoesTo s.known place line k place') where
     pub header_taken : GoesOnWithLine s (known_as s k (Header place')) line
     unfolding HasLinesLeft
     header_taken v left on =
-        let here = in_header s place v (line ∷ left) expected on in
-        (here.0, λ p may. here.1 p (goes.plans p may) ∙ sym (append_assoc (lines_before (shown_with s.known p) place) (line ∷ []) left) ∙ ap (λ l. l ++ left) (sym (goes.lines p may)))
+        let (is, here) = in_header s place v (line ∷ left) expected on in
+        let b = goes.takes.goes _ _ left (goes_on_with is here) in
+        (is, record { first = here.first; others = here.others; epochs = here.epochs; has = b.has; rest = b.rest })
 
     pub header_shows : ShowsLine s (known_as s k (Header place')) line
-    header_shows taken are p may = ap (λ l. l ++ line ∷ []) (subst (λ d. AreLinesAt s d taken) expected are p (goes.plans p may)) ∙ sym (goes.lines p may)
+    header_shows taken are h is has = ap (λ l. l ++ line ∷ []) (subst (λ d. AreLinesAt s d taken) expected are h is (goes.takes.back h is has)) ∙ sym (goes.takes.lines h is has)
 
-  module _ {k : Known} (none : s.epochs ≡ []) (at : IsHeadAt s.known place) (end : EndsHeader s.known place line k) where
+  module _ {k : Known} (none : s.epochs ≡ []) (end : EndsHeader s.known place line k) where
     ended : (v : FileValue) (left : List (List ℕ)) → IsFileValue v → IsInHeader s place v (line ∷ left) → IsBetween (known_as s k Epoch) v left
-    unfolding header_lines
     ended v left is here =
-        let b = begins v is in
-        let h = shown_of v b.first.time in
-        let one = some_plan s.known place at.valid at.read in
-        let all : lines_of_header h ++ flat_map stamped_lines (b.first ∷ b.others) ≡ lines_of_header k.shown ++ left =
-        sym b.lines ∙ here one.p one.may ∙ sym (append_assoc (lines_before (shown_with s.known one.p) place) (line ∷ []) left) ∙ ap (λ l. l ++ left) (sym (end.lines one.p one.may)) in
-        let same = agreed b.is end.is row_count (omega arith) (flat_map stamped_lines (b.first ∷ b.others)) left all in
-        let header : h ≡ k.shown = same_header h k.shown b.is end.is (λ i l. same.agree i (omega (arith, l))) end.only in
-        let epochs : b.first ∷ b.others ≡ s.epochs ++ b.first ∷ b.others = ap (λ x. x ++ b.first ∷ b.others) (sym none) in
+        let (header, rest) = end.goes _ _ left (goes_on_with is here) in
+        let all = here.first ∷ here.others in
+        let epochs : all ≡ s.epochs ++ all = ap (λ x. x ++ all) (sym none) in
         let file = λ (g : Shown) (es : List Stamped). record v { texts = g.texts; plan = g.plan; values = g.values; epochs = es } in
-        let value : v ≡ file k.shown (s.epochs ++ b.first ∷ b.others) = ap (λ g. file g v.epochs) header ∙ ap (file k.shown) (b.epochs ∙ epochs) in
-        let first : k.shown.first ≡ b.first.time = sym (ap (λ g. g.first) header) in
-        record {
-          others = b.first ∷ b.others;
-          value = value;
-          starts = subst (StartsAt k.shown.first) epochs first;
-          rest = same.rest;
-        }
+        let value : v ≡ file k.shown (s.epochs ++ all) = ap (λ g. file g v.epochs) header ∙ ap (file k.shown) (here.epochs ∙ epochs) in
+        let first : k.shown.first ≡ here.first.time = sym (ap (λ g. g.first) header) in
+        record { others = all; value = value; starts = subst (StartsAt k.shown.first) epochs first; rest = sym rest }
 
     pub header_ended : GoesOnWithLine s (known_as s k Epoch) line
     unfolding HasLinesLeft
@@ -153,10 +140,8 @@ module _ (s : Progress) {place : ℕ} (line : List ℕ) (expected : s.expected �
 
     pub ended_shows : ShowsLine s (known_as s k Epoch) line
     ended_shows taken are =
-        let head = lines_of_header k.shown in
-        let one = some_plan s.known place at.valid at.read in
-        ap (λ l. l ++ line ∷ []) (subst (λ d. AreLinesAt s d taken) expected are one.p one.may) ∙ sym (end.lines one.p one.may)
-        ∙ sym (append-nil head) ∙ ap (λ (es : List Stamped). whole_lines k.shown es) (sym none)
+        ap (λ l. l ++ line ∷ []) (subst (λ d. AreLinesAt s d taken) expected are k.shown end.is end.has) ∙ sym end.lines
+        ∙ sym (append-nil (lines_of_header k.shown)) ∙ ap (λ (es : List Stamped). whole_lines k.shown es) (sym none)
 
 -- the header was read, and nothing more
 pub sound_start : (s : Progress) (k : Known) → IsShown k.shown → s.epochs ≡ [] → AreRead (known_as s k Epoch)
@@ -167,9 +152,22 @@ sound_header s place expected sound = subst (λ d. IsSoundAt s d) expected sound
 
 -- ---- the first line
 
-pub header_starts : (s : Progress) → s.expected ≡ Header 0 → (v : FileValue) → IsFileValue v → HasLinesLeft s v (file_lines v)
-unfolding HasLinesLeft
-header_starts s expected v is = (is, subst (λ d. IsAt s d v (file_lines v)) (sym expected) (λ p may. refl))
+-- every header has what is known before the first line
+has_nothing : (k : Known) (h : Shown) → IsHeadAt k 0 → Has k 0 h
+has_nothing k h at = record { rows = λ i l. absurd (omega (arith, l)); types = types } where
+  unread : (s : System) (rows count : ℕ) (signals all : List ℕ) → rows ≡ 0 → AreSized s rows count signals → AreTypesOf rows count signals all
+  unread s zero count signals all e sized = let size = sized.size in record { number = sized.none refl; begun = nil_from_length signals (omega (arith, size)) }
+  unread s (suc rows) count signals all e sized = absurd (omega (arith, e))
+
+  types : (s : System) → AreTypesOf (types_before s 0) (counted k s) (planned_of s k.shown.plan) (planned_of s h.plan)
+  types Gps = unread Gps (types_before Gps 0) k.gps k.shown.plan.gps h.plan.gps refl (at.sized Gps)
+  types Galileo = unread Galileo (types_before Galileo 0) k.galileo k.shown.plan.galileo h.plan.galileo refl (at.sized Galileo)
+
+pub header_starts : (s : Progress) → s.expected ≡ Header 0 → IsHeadAt s.known 0 → (v : FileValue) → IsFileValue v → HasLinesLeft s v (file_lines v)
+unfolding HasLinesLeft header_lines
+header_starts s expected at v is =
+    let b = begins v is in
+    (is, subst (λ d. IsAt s d v (file_lines v)) (sym expected) (record { first = b.first; others = b.others; epochs = b.epochs; has = has_nothing s.known (shown_of v b.first.time) at; rest = sym b.lines }))
 
 -- ---- the end
 
@@ -179,15 +177,9 @@ no_lines (x ∷ xs) ys e = cc
 
 pub header_unfinished : (s : Progress) (place : ℕ) → s.expected ≡ Header place → IsSound s → (v : FileValue) → HasLinesLeft s v [] → ⊥
 header_unfinished s place expected sound v on =
-    let here = in_header s place v [] expected on in
-    let at = (sound_header s place expected sound).2 in
-    let less = at.expected in
-    let b = begins v here.0 in
-    let h = shown_of v b.first.time in
-    let one = some_plan s.known place at.valid at.read in
-    let body = flat_map stamped_lines (b.first ∷ b.others) in
-    let same = agreed b.is (with_is s.known place at.valid at.read one.p one.may) place (omega (arith, less)) body [] (sym b.lines ∙ here.1 one.p one.may) in
-    some_after h place at.expected (no_lines (lines_after h place) body same.rest)
+    let (is, here) = in_header s place v [] expected on in
+    let h = shown_of v here.first.time in
+    some_after h place (sound_header s place expected sound).2.expected (no_lines (lines_after h place) (flat_map stamped_lines (here.first ∷ here.others)) (sym here.rest))
 
 no_rows_left : (n : ℕ) (more : List SatelliteRow) (others : List Stamped) → 0 < n → length more ≡ n → [] ≡ map satellite_line more ++ flat_map stamped_lines others → ⊥
 no_rows_left n [] others some count rest = omega (arith, some, count)

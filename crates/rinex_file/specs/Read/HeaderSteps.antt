@@ -1,11 +1,12 @@
 -- From one line of a header to the next while its lines are read.
-use Rattle.std.specs.Prelude.{◌≡◌, ℕ, suc, ◌+◌, ◌<◌, ◌≤◌, ◌==◌, ◌||◌, ◌&&◌, nat_lt, Bool, true, false, List, [], ◌∷◌, ◌++◌, length}
+use Rattle.std.specs.Prelude.{◌≡◌, ℕ, zero, suc, ◌+◌, ◌<◌, ◌≤◌, ◌==◌, nat_lt, Bool, true, false, List, [], ◌∷◌, ◌++◌, length}
 use Rattle.std.specs.Prelude.{set, take, drop, min, Option, Some, None, Result, Ok, Err, ⊤, ◌↔◌}
 use Rattle.gnss_obs.specs.declared.cell.StationValues.{StationValues}
 use Rattle.gnss_obs.specs.Signals.{SignalAt, IsSignal, code_of, table}
 use Rattle.gnss_obs.specs.declared.system.System.{System}
 use Rattle.gnss_obs.specs.declared.system.System.TheVariants.{Gps, Galileo}
-use Rattle.gnss_obs.specs.Values.{PlanValue}
+use Rattle.gnss_obs.specs.Values.{PlanValue, planned_of}
+use Rattle.gnss_obs.specs.Satellites.{letter}
 use Rattle.rinex_file.specs.declared.header.fault.HeadFault.{HeadFault}
 use Rattle.rinex_file.specs.declared.header.fields.HeaderField.{HeaderField}
 use Rattle.rinex_file.specs.declared.header.fields.TextRow.{TextRow}
@@ -17,11 +18,11 @@ use Rattle.rinex_file.specs.declared.read.expected.Refusal.{Refusal}
 use Rattle.rinex_file.specs.declared.read.expected.Refusal.TheVariants.{Memory, Bad}
 use Rattle.rinex_file.specs.Begun.{lines_of_header}
 use Rattle.rinex_file.specs.Blanks.{trimmed}
-use Rattle.rinex_file.specs.Texts.{HeaderLists, place_of, width_of, fault_of, fields_of, front_of}
+use Rattle.rinex_file.specs.Texts.{HeaderLists, place_of, width_of, fault_of, fields_of, front_of, text_count}
 use Rattle.rinex_file.specs.FileValues.{AreTexts, of_system}
-use Rattle.rinex_file.specs.Header.{row_place, texts_line, type_rows}
-use Rattle.rinex_file.specs.Read.Progress.{Announced, Known, Shown, IsShown, MayPlan, HasReadRows, IsHeadAt, IsOnlyTime}
-use Rattle.rinex_file.specs.Read.Progress.{shown_with, shown_rows, lines_before, announced, shown_line}
+use Rattle.rinex_file.specs.Header.{row_at, row_place, row_count, texts_line, type_rows}
+use Rattle.rinex_file.specs.Read.Progress.{Known, Shown, IsShown, IsHeadAt, Has, HasRow, AreSized, types_before, lines_after}
+use Rattle.rinex_file.specs.Read.Progress.{lines_before, counted, shown_line}
 use Rattle.rinex_file.specs.Read.Progress.{AreTypes, types_line, signals_begun}
 
 -- a row other than those of types and the last
@@ -30,27 +31,25 @@ IsOnly (Types system row) = ⊥
 IsOnly End = ⊥
 IsOnly other = ⊤
 
--- whether a system has a line of types with this number, counted from 0
-abbrev pub has_types : Announced → ℕ → Bool
-has_types a row = a.planned && (row == 0 || nat_lt row (type_rows a.count))
+-- a text begins with this byte
+abbrev pub begins_with : ℕ → List ℕ → Bool
+begins_with byte [] = false
+begins_with byte (b ∷ bs) = b == byte
 
--- whether a row has a line, by the first line of the file and a system's first line of types
-abbrev pub known_line : Known → HeaderRow → Bool
-known_line k (Types system row) = has_types (announced k system) row
-known_line k (Shift system) = (announced k system).planned
-known_line k other = true
+-- whether a row has a line, if this line comes next: a system is planned if its letter comes where its types begin
+abbrev pub known_line : Known → List ℕ → HeaderRow → Bool
+known_line k line (Types system zero) = begins_with (letter system) line
+known_line k line (Types system (suc row)) = nat_lt (suc row) (type_rows (counted k system))
+known_line k line (Shift system) = nat_lt 0 (counted k system)
+known_line k line other = true
 
--- The line is that of a row, by what is known after it; the rows before and what was known of the plan are unchanged.
+-- The line of a row, apart from types, was read: a header has the line if it has what is known after it; what the rows
+-- before said is unchanged.
 pub record IsHeaderLineRead (row : HeaderRow) (line : List ℕ) (old new : Known) : Type 0 where
-  pub plans : (p : PlanValue) → MayPlan new p → MayPlan old p
-  pub before : (p : PlanValue)
-      → lines_before (shown_with new p) (row_place row) ≡ lines_before (shown_with old p) (row_place row)
-  pub shows : (p : PlanValue) → MayPlan new p → shown_rows (shown_with new p) row ≡ line ∷ []
-  pub reads : HasReadRows new (suc (row_place row))
-
-abbrev pub ReadsHeaderLine : HeaderRow → List ℕ → Known → Known → Type 0
-ReadsHeaderLine row line old new =
-    HasReadRows old (row_place row) → known_line old row ≡ true → IsHeaderLineRead row line old new
+  pub plan : new.shown.plan ≡ old.shown.plan
+  pub counts : (s : System) → counted new s ≡ counted old s
+  pub own : (h : Shown) → IsShown h → (shown_line h row ≡ line) ↔ HasRow new h row
+  pub kept : (h : Shown) (r : HeaderRow) → row_place r < row_place row → HasRow old h r ↔ HasRow new h r
 
 -- no header has this line in a row
 abbrev pub RefusesHeaderLine : HeaderRow → List ℕ → Type 0
@@ -58,22 +57,35 @@ RefusesHeaderLine row line = (h : Shown) → IsShown h → shown_line h row ≡ 
 
 -- the line was accepted, and this is known after it; or no header has it in this row
 abbrev pub ReadsOrRefuses : HeaderRow → List ℕ → Known → Known → Bool → Type 0
-ReadsOrRefuses row line old new true = ReadsHeaderLine row line old new
+ReadsOrRefuses row line old new true = IsHeaderLineRead row line old new
 ReadsOrRefuses row line old new false = RefusesHeaderLine row line
+
+-- a header has what was read, and its lines from an index on, with others after them, are these
+pub record GoesOn (k : Known) (place : ℕ) (h : Shown) (others lines : List (List ℕ)) : Type 0 where
+  pub is : IsShown h
+  pub has : Has k place h
+  pub rest : lines_after h place ++ others ≡ lines
+
+-- a header that goes on with the line has what is known after it, and goes on there; and the line is that of each
+-- header with what is known after it
+pub record Takes (old : Known) (place : ℕ) (line : List ℕ) (new : Known) (next : ℕ) : Type 0 where
+  pub goes : (h : Shown) (others left : List (List ℕ)) → GoesOn old place h others (line ∷ left)
+      → GoesOn new next h others left
+  pub back : (h : Shown) → IsShown h → Has new next h → Has old place h
+  pub lines : (h : Shown) → IsShown h → Has new next h → lines_before h next ≡ lines_before h place ++ line ∷ []
 
 -- the line follows those before a row, and the row at `next` follows it
 pub record GoesTo (old : Known) (place : ℕ) (line : List ℕ) (new : Known) (next : ℕ) : Type 0 where
-  pub plans : (p : PlanValue) → MayPlan new p → MayPlan old p
-  pub lines : (p : PlanValue) → MayPlan new p
-      → lines_before (shown_with new p) next ≡ lines_before (shown_with old p) place ++ line ∷ []
+  pub takes : Takes old place line new next
   pub at : IsHeadAt new next
 
 -- the line is the last of the header that was read
 pub record EndsHeader (old : Known) (place : ℕ) (line : List ℕ) (new : Known) : Type 0 where
   pub is : IsShown new.shown
-  pub only : IsOnlyTime new.shown.first
-  pub lines : (p : PlanValue) → MayPlan old p
-      → lines_of_header new.shown ≡ lines_before (shown_with old p) place ++ line ∷ []
+  pub goes : (h : Shown) (others left : List (List ℕ)) → GoesOn old place h others (line ∷ left)
+      → (h ≡ new.shown) × (others ≡ left)
+  pub has : Has old place new.shown
+  pub lines : lines_of_header new.shown ≡ lines_before new.shown place ++ line ∷ []
 
 abbrev pub StepsTo : Known → ℕ → List ℕ → Known → Expected → Type 0
 StepsTo old place line new (Header next) = GoesTo old place line new next
@@ -82,8 +94,7 @@ StepsTo old place line new other = ⊥
 
 -- no header continues with this line
 abbrev pub NoneGoesOn : Known → ℕ → List ℕ → Type 0
-NoneGoesOn k place line = (p : PlanValue) (h : Shown) (others left : List (List ℕ)) → MayPlan k p → IsShown h
-    → lines_of_header h ++ others ≡ lines_before (shown_with k p) place ++ line ∷ left → ⊥
+NoneGoesOn k place line = (h : Shown) (others left : List (List ℕ)) → GoesOn k place h others (line ∷ left) → ⊥
 
 -- the result of a line: what is expected after it, or no header continues with it
 abbrev pub TakesHeaderLine : Known → ℕ → List ℕ → Known → Result Expected Refusal → Type 0
@@ -91,10 +102,20 @@ TakesHeaderLine old place line new (Ok next) = StepsTo old place line new next
 TakesHeaderLine old place line new (Err Bad) = NoneGoesOn old place line
 TakesHeaderLine old place line new (Err Memory) = ⊤
 
--- no row from an index up to another has a line
-pub record SameFrom (k : Known) (place next : ℕ) : Type 0 where
-  pub lines : (p : PlanValue) → MayPlan k p → lines_before (shown_with k p) place ≡ lines_before (shown_with k p) next
-  pub at : IsHeadAt k next
+-- the row at an index is expected, if some plan fits
+abbrev pub expected_if : Bool → ℕ → Result Expected Refusal
+expected_if true place = Ok (Header place)
+expected_if false place = Err Bad
+
+-- no row from an index up to another has a line, if this line comes next
+pub record SameFrom (k : Known) (line : List ℕ) (place next : ℕ) : Type 0 where
+  pub goes : (h : Shown) (others left : List (List ℕ)) → GoesOn k place h others (line ∷ left)
+      → GoesOn k next h others (line ∷ left)
+  pub back : (h : Shown) → IsShown h → Has k next h → Has k place h
+  pub lines : (h : Shown) → IsShown h → Has k next h → lines_before h next ≡ lines_before h place
+  pub none : (i : ℕ) → place ≤ i → i < next → known_line k line (row_at i) ≡ false
+  pub sized : (s : System) → AreSized s (types_before s next) (counted k s) (planned_of s k.shown.plan)
+  pub expected : next < row_count
 
 -- ---- texts
 
@@ -115,6 +136,7 @@ RefusesTexts row line = (x : HeaderLists) → AreTexts x → texts_line x row �
 
 -- the texts of a row were read: the line is that of these texts
 pub record ReadsTexts (row : TextRow) (line : List ℕ) (old new : HeaderLists) : Type 0 where
+  pub size : length old ≡ text_count
   pub read : texts_in (fields_of row) (length (front_of row)) line old ≡ Some new
   pub shown : texts_line new row ≡ line
 
@@ -134,10 +156,8 @@ with_values k values = record k { shown = record k.shown { values = values } }
 abbrev pub with_first : Known → ℕ → Known
 with_first k first = record k { shown = record k.shown { first = first } }
 
--- what was read, with the systems of the first line
-abbrev pub with_systems : Known → Bool → Bool → Known
-with_systems k gps galileo =
-    record k { gps = record k.gps { planned = gps }; galileo = record k.galileo { planned = galileo } }
+abbrev pub with_letter : Known → ℕ → Known
+with_letter k letter = record k { letter = letter }
 
 -- the same plan with the signals of a system
 abbrev pub plan_with : System → PlanValue → List ℕ → PlanValue
@@ -148,8 +168,8 @@ plan_with Galileo p signals = record p { galileo = signals }
 abbrev pub with_types : System → Known → ℕ → List ℕ → Known
 with_types system k count signals = record k {
   shown = record k.shown { plan = plan_with system k.shown.plan signals };
-  gps = record k.gps { count = of_system system count k.gps.count };
-  galileo = record k.galileo { count = of_system system k.galileo.count count };
+  gps = of_system system count k.gps;
+  galileo = of_system system k.galileo count;
 }
 
 -- ---- lines of types
@@ -165,6 +185,8 @@ pub record TakesTypes (system : System) (row : ℕ) (line : List ℕ) (before : 
   pub few : count ≤ length (table system)
   pub rows : row < type_rows count
   pub later : 0 < row → before ≡ count
+  pub counts : (all : List ℕ) → AreTypes system all → (0 < row → before ≡ length all)
+      → line ≡ types_line system all row → length all ≡ count
   pub taken : (all : List ℕ) → AreTypes system all → (AreBegun count row old all × (line ≡ types_line system all row))
       ↔ AreBegun count (row + 1) new all
   pub size : length new ≡ min (signals_begun (row + 1)) count

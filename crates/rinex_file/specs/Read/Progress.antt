@@ -1,5 +1,5 @@
 -- What is known of a file while it is read line by line, and which files are still possible.
-use Rattle.std.specs.Prelude.{◌≡◌, ℕ, ◌+◌, ◌-◌, ◌*◌, ◌/◌, ◌<◌, ◌≤◌, ◌||◌, ◌↔◌, true, false, min, Bool}
+use Rattle.std.specs.Prelude.{◌≡◌, ℕ, zero, suc, ◌+◌, ◌-◌, ◌*◌, ◌/◌, ◌<◌, ◌≤◌, ◌==◌, ◌||◌, ◌&&◌, true, min, Bool, nat_lt}
 use Rattle.std.specs.Prelude.{List, [], ◌∷◌, ◌++◌, length, take, drop, map, All, nat_eq}
 use Rattle.std.specs.Prelude.{flat_map, Option, Some, None, ⊤}
 use Rattle.gnss_obs.specs.declared.system.System.{System}
@@ -7,22 +7,25 @@ use Rattle.gnss_obs.specs.declared.cell.StationValues.{StationValues}
 use Rattle.gnss_obs.specs.Values.{PlanValue, planned_of}
 use Rattle.gnss_obs.specs.Dates.{civil_of}
 use Rattle.rinex_file.specs.declared.header.rows.HeaderRow.{HeaderRow}
-use Rattle.rinex_file.specs.declared.header.rows.HeaderRow.TheVariants.{First}
+use Rattle.rinex_file.specs.declared.header.rows.HeaderRow.TheVariants.{Version, Texts, Position, Delta, First}
 use Rattle.rinex_file.specs.declared.read.expected.Expected.{Expected}
 use Rattle.rinex_file.specs.declared.read.expected.Expected.TheVariants.{Header, Epoch, EventPosition, EventHeight}
 use Rattle.rinex_file.specs.declared.read.expected.Expected.TheVariants.{EventEpoch, Satellite}
-use Rattle.rinex_file.specs.Texts.{HeaderLists}
+use Rattle.rinex_file.specs.Texts.{HeaderLists, text_of, fields_of}
+use Rattle.rinex_file.specs.declared.header.fields.HeaderField.{HeaderField}
+use Rattle.gnss_obs.specs.declared.system.System.TheVariants.{Gps, Galileo}
 use Rattle.rinex_file.specs.Value.{SatelliteRow, Stamped, FileValue}
 use Rattle.gnss_obs.specs.GatheredEpochs.{IsCoordinate}
 use Rattle.rinex_file.specs.FileValues.{AreTexts, IsPlan, AreValues, IsTime, IsFileValue, of_system}
-use Rattle.rinex_file.specs.Header.{row_line, row_lines, lines_from, all_rows, row_count, row_place, first_types}
-use Rattle.rinex_file.specs.Header.{first_line, is_some_planned, type_line, types_of, codes_of}
+use Rattle.rinex_file.specs.Header.{row_line, row_lines, lines_from, all_rows, row_at, row_count, first_types, file_system}
+use Rattle.rinex_file.specs.Header.{most_type_rows}
+use Rattle.rinex_file.specs.Header.{is_some_planned, type_line, types_of, codes_of}
 use Rattle.rinex_file.specs.Limits.{types_in_line}
 use Rattle.rinex_file.specs.Lines.{satellite_line}
 use Rattle.gnss_obs.specs.Satellites.{letter}
 use Rattle.gnss_obs.specs.Signals.{table}
 use Rattle.std.specs.List.{IsDistinct}
-use Rattle.rinex_file.specs.File.{stamped_lines, file_lines}
+use Rattle.rinex_file.specs.File.{stamped_lines}
 
 -- ---- the header
 
@@ -55,20 +58,16 @@ lines_before h place = flat_map (shown_rows h) (take place all_rows)
 abbrev pub lines_after : Shown → ℕ → List (List ℕ)
 lines_after h place = lines_from h.texts h.plan h.values (civil_of h.first) place
 
--- what the lines of a header have of a system: whether it is planned, by the first line, and the number of its
--- signals, by its first line of types
-pub record Announced : Type 0 where
-  pub planned : Bool
-  pub count : ℕ
-
--- what was read of a header: its parts, each with its initial value until its line is read
+-- What was read of a header: its parts, each with its initial value until its line is read; the letter in the first
+-- line; and the number of a system's signals, by its first line of types, or 0 without one.
 pub record Known : Type 0 where
   pub shown : Shown
-  pub gps : Announced
-  pub galileo : Announced
+  pub letter : ℕ
+  pub gps : ℕ
+  pub galileo : ℕ
 
-abbrev pub announced : Known → System → Announced
-announced k system = of_system system k.gps k.galileo
+abbrev pub counted : Known → System → ℕ
+counted k system = of_system system k.gps k.galileo
 
 -- ---- signals
 
@@ -96,55 +95,82 @@ pub record AreValid (k : Known) : Type 0 where
   pub values : AreValues k.shown.values
   pub first : IsTime k.shown.first
 
--- A system has these signals in all: it is planned or not, by the first line if that was read, they are as many as its
--- first line of types has, and those that were read are the first of them.
-pub record MayBeAll (is_begun : Bool) (a : Announced) (signals all : List ℕ) : Type 0 where
-  pub planned : is_begun ≡ true → a.planned ≡ is_some_planned all
-  pub count : 0 < a.count → a.count ≡ length all
-  pub begins : signals ≡ take (length signals) all
+-- the number of lines of a system's types, present or not, whose rows are before an index
+abbrev pub types_before : System → ℕ → ℕ
+types_before s place = min most_type_rows (place - first_types s)
 
--- the plan `p` continues what was read of it
-pub record ContinuesPlan (gps galileo : Announced) (plan p : PlanValue) : Type 0 where
-  pub is : IsPlan p
-  pub each : (s : System)
-      → MayBeAll (gps.planned || galileo.planned) (of_system s gps galileo) (planned_of s plan) (planned_of s p)
+-- the number of a system's signals is known by its first line of types
+abbrev pub AreCounted : ℕ → ℕ → List ℕ → Type 0
+AreCounted zero count all = count ≡ 0
+AreCounted (suc rows) count all = count ≡ length all
 
-abbrev pub MayPlan : Known → PlanValue → Type 0
-MayPlan k p = ContinuesPlan k.gps k.galileo k.shown.plan p
+-- of the types of these signals of a system, this number of lines was read, present or not
+pub record AreTypesOf (rows count : ℕ) (signals all : List ℕ) : Type 0 where
+  pub number : AreCounted rows count all
+  pub begun : signals ≡ take (signals_begun rows) all
+
+-- the letter of the systems that a plan has
+abbrev pub systems_letter : PlanValue → ℕ
+systems_letter p = file_system (is_some_planned p.gps) (is_some_planned p.galileo)
+
+-- these texts are the same in these fields
+abbrev pub AreSameTexts : HeaderLists → HeaderLists → List HeaderField → Type 0
+AreSameTexts x y [] = ⊤
+AreSameTexts x y (f ∷ fs) = (text_of x f ≡ text_of y f) × AreSameTexts x y fs
+
+abbrev pub position_of : StationValues → StationValues
+position_of v = record v { height = 0 }
+
+-- a header has what the line of a row said, apart from types
+abbrev pub HasRow : Known → Shown → HeaderRow → Type 0
+HasRow k h Version = systems_letter h.plan ≡ k.letter
+HasRow k h (Texts row) = AreSameTexts h.texts k.shown.texts (fields_of row)
+HasRow k h Position = position_of h.values ≡ position_of k.shown.values
+HasRow k h Delta = h.values.height ≡ k.shown.values.height
+HasRow k h First = h.first ≡ k.shown.first
+HasRow k h other = ⊤
+
+-- a header has what the rows before an index said
+pub record Has (k : Known) (place : ℕ) (h : Shown) : Type 0 where
+  pub rows : (i : ℕ) → i < place → HasRow k h (row_at i)
+  pub types : (s : System)
+      → AreTypesOf (types_before s place) (counted k s) (planned_of s k.shown.plan) (planned_of s h.plan)
 
 -- the header that was read, with this plan
 abbrev pub shown_with : Known → PlanValue → Shown
 shown_with k p = record k.shown { plan = p }
 
--- no other time has the same line
-abbrev pub IsOnlyTime : ℕ → Type 0
-IsOnlyTime time = (t : ℕ) → IsTime t → first_line (civil_of t) ≡ first_line (civil_of time) → t ≡ time
+-- the signals that begin in a number of lines of types, present or not, were read
+pub record AreSized (s : System) (rows count : ℕ) (signals : List ℕ) : Type 0 where
+  pub few : count ≤ length (table s)
+  pub none : rows ≡ 0 → count ≡ 0
+  pub size : length signals ≡ min (signals_begun rows) count
 
--- the lines of a system's types before an index were read: the signals that begin in them, at most its count
-pub record AreTypesRead (s : System) (a : Announced) (signals : List ℕ) (place : ℕ) : Type 0 where
-  pub few : a.count ≤ length (table s)
-  pub counted : (0 < a.count) ↔ ((a.planned ≡ true) × (first_types s < place))
-  pub size : length signals ≡ min (signals_begun (place - first_types s)) a.count
+-- signals of a system may be planned, by the rows before an index: its first line of types may follow, or was there
+abbrev pub may_have : Known → ℕ → System → Bool
+may_have k place s = types_before s place == 0 || nat_lt 0 (counted k s)
 
--- the rows before an index were read
-pub record IsReadTo (gps galileo : Announced) (plan : PlanValue) (first place : ℕ) : Type 0 where
-  pub systems : 0 < place → (gps.planned || galileo.planned) ≡ true
-  pub fresh : place ≡ 0 → (gps.planned || galileo.planned) ≡ false
-  pub each : (s : System) → AreTypesRead s (of_system s gps galileo) (planned_of s plan) place
-  pub only : row_place First < place → IsOnlyTime first
+-- and by the first line: `M` is for two or more systems, another letter for its own
+abbrev pub is_chosen : Known → ℕ → System → Bool
+is_chosen k place s = may_have k place s && (k.letter == 77 || k.letter == letter s)
 
-abbrev pub HasReadRows : Known → ℕ → Type 0
-HasReadRows k place = IsReadTo k.gps k.galileo k.shown.plan k.shown.first place
+-- the systems that may be planned have the letter of the first line, and each that is planned is among them
+abbrev pub fits : Known → ℕ → Bool
+fits k place =
+    (file_system (is_chosen k place Gps) (is_chosen k place Galileo) == k.letter)
+    && (is_chosen k place Gps || is_chosen k place Galileo)
+    && (k.gps == 0 || is_chosen k place Gps) && (k.galileo == 0 || is_chosen k place Galileo)
 
 -- a line of a header is expected, that of the row at an index or of a later one
 pub record IsHeadAt (k : Known) (place : ℕ) : Type 0 where
   pub valid : AreValid k
-  pub read : HasReadRows k place
+  pub sized : (s : System) → AreSized s (types_before s place) (counted k s) (planned_of s k.shown.plan)
+  pub fitting : 0 < place → fits k place ≡ true
   pub expected : place < row_count
 
--- these are the lines of the rows before an index, for every plan with what was read
+-- these are the lines of the rows before an index, for every header with what was read
 abbrev pub AreHeadLines : Known → ℕ → List (List ℕ) → Type 0
-AreHeadLines k place lines = (p : PlanValue) → MayPlan k p → lines ≡ lines_before (shown_with k p) place
+AreHeadLines k place lines = (h : Shown) → IsShown h → Has k place h → lines ≡ lines_before h place
 
 -- ---- the file
 
@@ -172,10 +198,17 @@ abbrev pub StartsAt : ℕ → List Stamped → Type 0
 StartsAt first [] = ⊤
 StartsAt first (e ∷ es) = first ≡ e.time
 
--- a line of the header is expected: the file has the lines that were read, and then these
-abbrev pub IsInHeader : Progress → ℕ → FileValue → List (List ℕ) → Type 0
-IsInHeader s place v left =
-    (p : PlanValue) → MayPlan s.known p → file_lines v ≡ lines_before (shown_with s.known p) place ++ left
+-- the contents of the header of a file whose first epoch is at this time
+abbrev pub shown_of : FileValue → ℕ → Shown
+shown_of v first = record { texts = v.texts; plan = v.plan; values = v.values; first = first }
+
+-- a line of the header is expected: the file has what was read, and these lines after it
+pub record IsInHeader (s : Progress) (place : ℕ) (v : FileValue) (left : List (List ℕ)) : Type 0 where
+  pub first : Stamped
+  pub others : List Stamped
+  pub epochs : v.epochs ≡ first ∷ others
+  pub has : Has s.known place (shown_of v first.time)
+  pub rest : lines_after (shown_of v first.time) place ++ flat_map stamped_lines (first ∷ others) ≡ left
 
 -- an epoch is expected, or the end
 pub record IsBetween (s : Progress) (v : FileValue) (left : List (List ℕ)) : Type 0 where
@@ -199,9 +232,6 @@ pub record IsInEvent (s : Progress) (taken : ℕ) (Show : StationValues → Type
 -- a position: coordinates, and no height
 abbrev pub IsPosition : StationValues → Type 0
 IsPosition v = IsCoordinate v.x × IsCoordinate v.y × IsCoordinate v.z × (v.height ≡ 0)
-
-abbrev pub position_of : StationValues → StationValues
-position_of v = record v { height = 0 }
 
 -- this number of satellites is expected
 pub record IsInEpoch (s : Progress) (satellites : ℕ) (v : FileValue) (left : List (List ℕ)) : Type 0 where

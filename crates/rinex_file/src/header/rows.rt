@@ -1,6 +1,6 @@
 //! The rows of a header in their order, each of one line or none: RINEX 3.05, table A2.
 ghost use Rattle.std.specs.Prelude.{◌≡◌, ◌<◌};
-ghost use Rattle.rinex_file.specs.Header.{row_at, row_count};
+ghost use Rattle.rinex_file.specs.Header.{row_at, row_count, first_types};
 
 use crate::header::fields::TextRow::{self, *};
 use HeaderRow::*;
@@ -33,7 +33,7 @@ pub enum HeaderRow {
 pub(crate) const ROW_COUNT: usize = 26;
 
 /// The rows in order. The signals of a system have at most six lines of types.
-static ROWS: [HeaderRow; ROW_COUNT] = [
+pub(crate) const ROWS: [HeaderRow; ROW_COUNT] = [
     Version,
     Texts(Program),
     Texts(Marker),
@@ -68,4 +68,14 @@ pub(crate) fn row_at(place: usize) -> HeaderRow
     ensures { result ≡ row_at place }
 {
     ROWS[place]
+}
+
+/// Returns the index of the first row of a system's types.
+pub(crate) fn first_types(system: System) -> usize
+    ensures { result ≡ first_types system }
+{
+    match system {
+        Gps => 9,
+        Galileo => 15,
+    }
 }

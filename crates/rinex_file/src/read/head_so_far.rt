@@ -4,12 +4,12 @@ ghost use Rattle.gnss_obs.specs.Signals.{table};
 ghost use Rattle.gnss_obs.specs.SignalLists.{indices};
 ghost use Rattle.gnss_obs.specs.Values.{planned_of};
 ghost use Rattle.rinex_file.specs.Header.{type_rows, row_at};
-ghost use Rattle.rinex_file.specs.Read.Progress.{AreValid, IsHeadAt, announced, signals_begun};
-ghost use Rattle.rinex_file.specs.Read.HeaderSteps.{known_line, SameFrom, TakesHeaderLine};
+ghost use Rattle.rinex_file.specs.Read.Progress.{AreValid, IsHeadAt, counted, signals_begun, is_chosen, fits};
+ghost use Rattle.rinex_file.specs.Read.HeaderSteps.{begins_with, expected_if, known_line, SameFrom, TakesHeaderLine};
 ghost use Rattle.rinex_file.specs.Read.HeaderSteps.{TakesTypes, RefusesTypes, with_types, IsOnly, ReadsOrRefuses};
 
-use crate::header::lines::{END, SHIFT, STRENGTH_UNIT, UNIT};
-use crate::header::rows::{HeaderRow, row_at};
+use crate::header::lines::{END, SHIFT, STRENGTH_UNIT, UNIT, file_system};
+use crate::header::rows::{HeaderRow, first_types, row_at};
 use crate::header::texts::HeaderTexts;
 use crate::header::types::type_rows;
 use crate::read::epoch::read_first;
@@ -25,6 +25,8 @@ use std::marker::Model;
 /// What was read of a header.
 #[derive(Drop)]
 pub(crate) struct HeadSoFar {
+    /// The letter in the first line, or 0 before it is read.
+    pub(crate) letter: u8,
     pub(crate) texts: HeaderTexts,
     pub(crate) types: BySystem<TypesSoFar>,
     pub(crate) values: StationValues,
@@ -49,8 +51,9 @@ impl Model for HeadSoFar {
             values = h.values;
             first = h.first;
           };
-      gps = record { planned = h.types.gps.is_planned; count = h.types.gps.count };
-      galileo = record { planned = h.types.galileo.is_planned; count = h.types.galileo.count };
+      letter = h.letter;
+      gps = h.types.gps.count;
+      galileo = h.types.galileo.count;
     } };
 
     ghost invariant = { λ h. IsOf Gps h.types.gps.signals × IsOf Galileo h.types.galileo.signals
@@ -64,6 +67,7 @@ impl HeadSoFar {
         ensures { IsHeadAt result 0 }
     {
         let head = HeadSoFar {
+            letter: 0,
             texts: HeaderTexts::blank(),
             types: BySystem {
                 gps: TypesSoFar::new(alloc),
@@ -78,8 +82,7 @@ impl HeadSoFar {
 
     /// Returns what was read of the types of a system.
     fn of(&self, system: System) -> &TypesSoFar
-        ensures planned { result.now.is_planned ≡ (announced self.now system).planned }
-        ensures count { result.now.count ≡ (announced self.now system).count }
+        ensures count { result.now.count ≡ counted self.now system }
         ensures signals { indices result.now.signals ≡ planned_of system self.now.shown.plan }
         ensures few { result.now.count ≤ length (table system) }
     {
@@ -102,43 +105,65 @@ impl HeadSoFar {
         self.texts.are_texts();
     }
 
-    /// Returns whether a row has a line, by the lines before.
-    fn has_line(&self, row: HeaderRow) -> bool
-        ensures { result ≡ known_line self.now row }
+    /// Returns whether a row has a line, if this line comes next.
+    fn has_line(&self, row: HeaderRow, line: &[u8]) -> bool
+        ensures { result ≡ known_line self.now line.now row }
     {
         match row {
-            HeaderRow::Types(system, row) => {
-                let types = self.of(system);
-                types.is_planned && (row == 0 || row < type_rows(types.count))
-            }
-            HeaderRow::Shift(system) => self.of(system).is_planned,
+            HeaderRow::Types(system, 0) => begins_with(line, system.letter()),
+            HeaderRow::Types(system, row) => row < type_rows(self.of(system).count),
+            HeaderRow::Shift(system) => self.of(system).count > 0,
             _ => true,
         }
     }
 
-    /// Returns the index of the first row with a line, at `from` or later.
-    fn place_from(&self, from: usize) -> usize
+    /// Returns the index of the first row with a line, at `from` or later, if this line comes next.
+    fn place_from(&self, from: usize, line: &[u8]) -> usize
         requires { IsHeadAt self.now from }
-        ensures here { known_line self.now (row_at result) ≡ true }
-        ensures same { SameFrom self.now from result }
+        ensures here { known_line self.now line.now (row_at result) ≡ true }
+        ensures same { SameFrom self.now line.now from result }
     {
         let mut place = from;
-        while !self.has_line(row_at(place)) {
+        while !self.has_line(row_at(place), line) {
             place += 1;
         }
         place
     }
 
+    /// Returns whether signals of a system may be planned, by the rows before an index and by the
+    /// first line.
+    fn is_chosen(&self, place: usize, system: System) -> bool
+        ensures { result ≡ is_chosen self.now place system }
+    {
+        if place > first_types(system) && self.of(system).count == 0 {
+            return false;
+        }
+        self.letter == b'M' || self.letter == system.letter()
+    }
+
+    /// Returns whether some plan has the first line's letter and what the rows before an index
+    /// said.
+    fn fits(&self, place: usize) -> bool
+        ensures { result ≡ fits self.now place }
+    {
+        let gps = self.is_chosen(place, System::Gps);
+        let galileo = self.is_chosen(place, System::Galileo);
+        file_system(gps, galileo) == self.letter
+            && (gps || galileo)
+            && (self.types.gps.count == 0 || gps)
+            && (self.types.galileo.count == 0 || galileo)
+    }
+
     /// Processes a line of the types of a system.
     fn take_types(&mut self, system: System, row: usize, line: &[u8]) -> Result<(), Refusal>
-        requires rows { 0 < row → row < type_rows (announced self.old system).count }
+        requires rows { 0 < row → row < type_rows (counted self.old system) }
         requires begun { length (planned_of system self.old.shown.plan) ≡ signals_begun row }
         ensures kept { OnOk result (self.new
-            ≡ with_types system self.old (announced self.new system).count (planned_of system self.new.shown.plan)) }
+            ≡ with_types system self.old (counted self.new system) (planned_of system self.new.shown.plan)) }
         ensures taken { OnOk result
-            (TakesTypes system row line.now (announced self.old system).count (planned_of system self.old.shown.plan)
-            (announced self.new system).count (planned_of system self.new.shown.plan)) }
-        ensures bad { result ≡ Err Refusal.Bad → RefusesTypes system row line.now (announced self.old system).count
+            (TakesTypes system row line.now (counted self.old system) (planned_of system self.old.shown.plan)
+            (counted self.new system) (planned_of system self.new.shown.plan)) }
+        ensures bad { result ≡ Err Refusal.Bad → RefusesTypes system row line.now (counted self.old system)
             (planned_of system self.old.shown.plan) }
     {
         self.types.of_mut(system).take(system, row, line)
@@ -151,9 +176,7 @@ impl HeadSoFar {
     {
         match row {
             HeaderRow::Version => {
-                let (gps, galileo) = read_version(line)?;
-                self.types.gps.is_planned = gps;
-                self.types.galileo.is_planned = galileo;
+                self.letter = read_version(line)?;
                 Some(())
             }
             HeaderRow::Texts(row) => read_texts(&mut self.texts, row, line).then_some(()),
@@ -185,12 +208,12 @@ impl HeadSoFar {
         requires { IsHeadAt self.old from }
         ensures { TakesHeaderLine self.old from line.now self.new result }
     {
-        let place = self.place_from(from);
+        let place = self.place_from(from, line);
         match row_at(place) {
             HeaderRow::Types(system, row) => {
                 self.take_types(system, row, line)?;
                 self.are_valid();
-                Ok(Expected::Header(place + 1))
+                self.expected_at(place + 1)
             }
             HeaderRow::End if is_header_line(line, b"", END) => Ok(Expected::Epoch),
             HeaderRow::End => Err(Refusal::Bad),
@@ -199,8 +222,26 @@ impl HeadSoFar {
                     return Err(Refusal::Bad);
                 };
                 self.are_valid();
-                Ok(Expected::Header(place + 1))
+                self.expected_at(place + 1)
             }
         }
     }
+
+    /// Returns that the row at an index is expected, unless no plan fits.
+    fn expected_at(&self, place: usize) -> Result<Expected, Refusal>
+        ensures { result ≡ expected_if (fits self.now place) place }
+    {
+        if self.fits(place) {
+            Ok(Expected::Header(place))
+        } else {
+            Err(Refusal::Bad)
+        }
+    }
+}
+
+/// Returns whether a text begins with this byte.
+fn begins_with(text: &[u8], byte: u8) -> bool
+    ensures { result ≡ begins_with byte text.now }
+{
+    text.len() > 0 && text[0] == byte
 }

@@ -1,19 +1,17 @@
 //! The lines of a header, read back.
-ghost use Rattle.std.specs.Prelude.{◌≡◌, ◌↔◌, ◌+◌, ◌≤◌, ◌<◌, ◌^◌, ◌||◌, IsTrue, Bool, true};
+ghost use Rattle.std.specs.Prelude.{◌≡◌, ◌↔◌, ◌+◌, ◌≤◌, ◌<◌, ◌^◌, IsTrue};
 ghost use Rattle.std.specs.Prelude.{length, take, drop};
 ghost use Rattle.gnss_obs.specs.GatheredEpochs.{IsCoordinate};
-ghost use Rattle.rinex_file.specs.Header.{header_line, height_line, position_line, version_with};
+ghost use Rattle.rinex_file.specs.Header.{header_line, height_line, position_line, version_by, IsSystemsLetter};
 ghost use Rattle.rinex_file.specs.Read.Fields.{number_in, ReadsExactly};
 ghost use Rattle.rinex_file.specs.Read.HeaderSteps.{ReadsOrRefusesTexts};
 ghost use Rattle.rinex_file.specs.Read.Progress.{IsPosition};
 
 use crate::header::fields::TextRow;
-use crate::header::lines::{
-    DELTA, labelled, position_line, texts_line, three_lengths, version_with,
-};
+use crate::header::lines::{DELTA, labelled, position_line, texts_line, three_lengths, version_by};
 use crate::header::texts::HeaderTexts;
 use crate::read::numbers::{digits_in, is_same, signed};
-use gnss_obs::{GREATEST_COORDINATE, LEAST_COORDINATE, StationValues, System};
+use gnss_obs::{GREATEST_COORDINATE, LEAST_COORDINATE, StationValues};
 
 /// Returns up to `width` columns of a line, from column `from` on, counted from 0.
 pub(crate) fn columns(line: &[u8], from: usize, width: usize) -> &[u8]
@@ -24,16 +22,25 @@ pub(crate) fn columns(line: &[u8], from: usize, width: usize) -> &[u8]
     &rest[..width.min(rest.len())]
 }
 
-/// Returns whether signals of GPS and of Galileo are planned, by the first line, or None for any
-/// other line.
-pub(crate) fn read_version(line: &[u8]) -> Option<(bool, bool)>
-    ensures { ReadsExactly (λ (p : Bool × Bool). (p.0 || p.1) ≡ true) (λ (p : Bool × Bool). version_with p.0 p.1)
-        line.now result }
+/// Returns the letter of a file's systems by the first line, or None for any other line.
+pub(crate) fn read_version(line: &[u8]) -> Option<u8>
+    ensures { ReadsExactly IsSystemsLetter version_by line.now result }
 {
-    let letter = columns(line, 40, 1);
-    let gps = !is_same(letter, &[System::Galileo.letter()]);
-    let galileo = !is_same(letter, &[System::Gps.letter()]);
-    is_same(line, version_with(gps, galileo).as_slice()).then_some((gps, galileo))
+    if line.len() <= 40 {
+        return None;
+    }
+    let letter = line[40];
+    if !is_systems_letter(letter) {
+        return None;
+    }
+    is_same(line, version_by(letter).as_slice()).then_some(letter)
+}
+
+/// Returns whether this is the letter of one system or of several.
+fn is_systems_letter(letter: u8) -> bool
+    ensures { IsTrue result ↔ IsSystemsLetter letter }
+{
+    letter == b'M' || letter == b'G' || letter == b'E'
 }
 
 /// Returns the number in the 14 columns of a line that begin at `from`, in 0.0001 m, limited to

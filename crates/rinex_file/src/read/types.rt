@@ -17,8 +17,6 @@ use std::alloc::Global;
 /// What was read of the types of a system.
 #[derive(Drop)]
 pub(crate) struct TypesSoFar {
-    /// Whether signals are planned, by the first line of the file.
-    pub(crate) is_planned: bool,
     /// The number of planned signals, by the first line of types; zero before it is read.
     pub(crate) count: usize,
     /// The signals whose types begin in the lines that were read.
@@ -28,12 +26,10 @@ pub(crate) struct TypesSoFar {
 impl TypesSoFar {
     /// Returns the types of a system of which nothing was read.
     pub(crate) fn new(alloc: Global) -> TypesSoFar
-        ensures planned { result.is_planned ≡ false }
         ensures count { result.count ≡ 0 }
         ensures signals { result.signals ≡ [] }
     {
         TypesSoFar {
-            is_planned: false,
             count: 0,
             signals: Signals::new(alloc),
         }
@@ -68,7 +64,6 @@ impl TypesSoFar {
         requires begun { length self.old.signals ≡ signals_begun row }
         ensures few { self.new.count ≤ length (table system) }
         ensures signals { IsOf system self.new.signals }
-        ensures planned { self.new.is_planned ≡ self.old.is_planned }
         ensures taken { OnOk result (TakesTypes system row line.now self.old.count (indices self.old.signals)
             self.new.count (indices self.new.signals)) }
         ensures bad { result ≡ Err Refusal.Bad

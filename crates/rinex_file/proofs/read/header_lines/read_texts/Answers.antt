@@ -5,7 +5,7 @@ use Rattle.rinex_file.proofs.read.header_lines.read_texts.Goals as goal
 
 compared : (r : TextRow) {line again : List ℕ} (old : HeaderLists) {new : HeaderLists} (b : Bool) → length old ≡ text_count → texts_in (fields_of r) (length (front_of r)) line old ≡ Some new
     → again ≡ texts_line new r → (IsTrue b ↔ (line ≡ again)) → ReadsOrRefusesTexts r line old new b
-compared r old true size read is says = record { read = read; shown = sym is ∙ sym (says.0 refl) }
+compared r old true size read is says = record { size = size; read = read; shown = sym is ∙ sym (says.0 refl) }
 compared r {line} {again} old {new} false size read is says = not_same r line old new size read (λ h. refused false (line ≡ again) says refl (h ∙ sym is))
 
 few_more : (column width i : ℕ) (f : HeaderField) → column ≤ 20 + 60 * i → width ≡ width_of f → column + width ≤ 20 + 60 * (i + 1)

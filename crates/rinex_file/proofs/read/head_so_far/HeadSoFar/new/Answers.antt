@@ -7,7 +7,7 @@ pub returns : goal.returns
 returns c =
     let g = c.new.ensures in
     let e = c.new-2.ensures in
-    begins _ c.are_valid.ensures g.planned e.planned g.count e.count (ap indices g.signals) (ap indices e.signals)
+    begins _ c.are_valid.ensures g.count e.count (ap indices g.signals) (ap indices e.signals)
 
 pub invariant_of-head : goal.invariant_of-head
 invariant_of-head c =

@@ -16,11 +16,11 @@ of_texts : (r : TextRow) (line : List ℕ) (k : Known) (x : HeaderLists) (b : Bo
 of_texts r line k x true read = line_texts r line k x read
 of_texts r line k x false refuses = refuse_texts r line refuses
 
-pub returns-in_err-gps-in-Version : goal.returns-in_err-gps-in-Version
-returns-in_err-gps-in-Version c = of_row c.args.line.now c.args.self.now _ (ap is_some c.from_residual.ensures) c.in-Version.is refl (refuse_version c.args.line.now c.in_err-gps-in-Version.ensures)
+pub returns-in_err-self-inside-in-Version : goal.returns-in_err-self-inside-in-Version
+returns-in_err-self-inside-in-Version c = of_row c.args.line.now c.args.self.now _ (ap is_some c.from_residual.ensures) c.in-Version.is refl (refuse_version c.args.line.now c.in_err-self-inside-in-Version.ensures)
 
-pub returns-in_ok-gps-in-Version : goal.returns-in_ok-gps-in-Version
-returns-in_ok-gps-in-Version c = of_row c.args.line.now _ (Some tt) refl c.in-Version.is c.self.view_is (line_version _ c.in_ok-gps-in-Version.gps c.in_ok-gps-in-Version.galileo c.args.line.now c.in_ok-gps-in-Version.ensures)
+pub returns-in_ok-self-inside-in-Version : goal.returns-in_ok-self-inside-in-Version
+returns-in_ok-self-inside-in-Version c = of_row c.args.line.now _ (Some tt) refl c.in-Version.is c.self.view_is (line_version _ _ c.args.line.now c.in_ok-self-inside-in-Version.ensures)
 
 pub returns-in-Texts : goal.returns-in-Texts
 returns-in-Texts c =

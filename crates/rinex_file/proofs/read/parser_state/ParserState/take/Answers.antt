@@ -7,7 +7,7 @@ use Rattle.rinex_file.proofs.read.parser_state.ParserState.take.Goals as goal
 pub returns-in_err-self-in-Header : goal.returns-in_err-self-in-Header
 returns-in_err-self-in-Header c = stopped c.args.self.now _ c.args.line.now _ c.from_residual.ensures.1 (λ e same bad h history.
     let s = progress_at c.args.self.now h in
-    no_header s c.args.line.now c.in-Header.is (sound_header s c.in-Header.place c.in-Header.is history.sound).2 (subst (λ (r : Refusal). TakesHeaderLine c.args.self.now.head c.in-Header.place c.args.line.now c.take.new.self (Err r)) (sym same ∙ bad) c.in_err-self-in-Header.ensures))
+    no_header s c.args.line.now c.in-Header.is (subst (λ (r : Refusal). TakesHeaderLine c.args.self.now.head c.in-Header.place c.args.line.now c.take.new.self (Err r)) (sym same ∙ bad) c.in_err-self-in-Header.ensures))
 
 abbrev at_head : ParserState → Known → Expected → ParserState
 at_head c k expected = record c { expected = expected; head = k }
@@ -22,7 +22,7 @@ headed {c} {h} {place} {line} k (Header next) expected history goes =
 headed {c} {h} {place} {line} k Epoch expected history end =
     let s = progress_at c h in
     let (epochs, rows, here) = sound_header s place expected history.sound in
-    goes_on Epoch k c.change c.time history (sound_start s k end.is epochs, rows) (header_ended s line expected epochs here end) (ended_shows s line expected epochs here end)
+    goes_on Epoch k c.change c.time history (sound_start s k end.is epochs, rows) (header_ended s line expected epochs end) (ended_shows s line expected epochs end)
 headed k other expected history goes = absurd goes
 
 pub returns-in_ok-self-in-Header : goal.returns-in_ok-self-in-Header

@@ -28,6 +28,7 @@ returns-then-is_same-clause-taken c =
     let read = c.in-Some.is in
     row_taken c.take_signals.new.signals
     (at_some _ count _ read c.read_count.ensures.few) (at_some _ count _ read c.read_count.ensures.rows) (at_some _ count _ read c.read_count.ensures.later) c.in_ok-take_signals.ensures.grows c.requires.begun c.in_ok-take_signals.ensures.size
+    (λ all are later is. sym (same_Some _ _ (sym read ∙ c.read_count.ensures.count all are later is)))
     (λ all are begun. (
       λ is. c.in_ok-take_signals.ensures.taken all are begun is,
       λ is. c.is_same.ensures.0 c.if-is_same.true ∙ c.as_slice-2.ensures.value ∙ c.types_with-again.ensures ∙ shown_line c.args.system all _ c.args.row count begun.0 (ap indices c.as_slice.ensures ∙ is),
