@@ -1,14 +1,20 @@
 -- Signals in a set, and the indices of a table's signals in it.
-use Rattle.std.proofs.Common.{◌≡◌, ◌≢◌, ℕ, suc, ◌+◌, ◌<◌, ◌≤◌, ◌==◌, ◌||◌, Bool, true, false, not, List, [], ◌∷◌, ◌++◌, length, All, set, get_or, nat_eq, nat_lt, refl, sym, ap, ap₂, ◌∙◌, subst, arith, Option, Some, None, if◌then◌else◌, cond, position}
+use Rattle.std.proofs.Common.{◌≡◌, ◌≢◌, ℕ, suc, ◌+◌, ◌<◌, ◌≤◌, ◌==◌, ◌||◌, Bool, true, false, not, List, [], ◌∷◌, ◌++◌, length, All, set, get_or, nat_eq, nat_lt, refl, sym, ap, ap₂, ◌∙◌, subst, arith, Option, Some, None, if◌then◌else◌, cond, position, is_some, option_map, option_and_then}
 use Rattle.std.proofs.lemmas.List.{get_or-set_other, length_push}
 use Rattle.std.proofs.lemmas.List.Folds.{position_or_len_push}
 use Rattle.std.proofs.lemmas.Grind.{get_or-set_at}
 use Rattle.std.proofs.lemmas.List.Elements.{All-head, All-tail}
 use Rattle.std.specs.List.{list_any, position_or_len, IsDistinct}
 use Rattle.gnss_obs.specs.Signals.{SignalAt, IsSignal}
-use Rattle.gnss_obs.specs.SignalLists.{AreFound, IsOf}
-use Rattle.gnss_obs.proofs.PlanLemmas.{is_of-push}
+use Rattle.gnss_obs.specs.SignalLists.{AreFound, AreRows, IsOf}
+use Rattle.gnss_obs.proofs.PlanLemmas.{indices-push, is_of-push}
 use Rattle.std.proofs.lemmas.Grind.{common_steps}
+use Rattle.std.proofs.lemmas.List.Quantifiers.{position-Some}
+use Rattle.std.proofs.lemmas.Option.{slice_get-get_or}
+use Rattle.gnss_obs.specs.Names.{Gps, Galileo, System, ListedSignal, table, id_of, indices, signal_at, signal_of_id, option_map_or}
+use Rattle.gnss_obs.specs.Plans.{if_planned, planned_signal}
+use Rattle.gnss_obs.proofs.TableLaws.{id_back, ids_within}
+use Rattle.gnss_obs.proofs.Checked.{is_equal}
 
 pub none_before : {X : Type 0} (p : X → Bool) (xs : List X) → list_any p xs ≡ false → position_or_len p xs ≡ length xs
 none_before p [] h = refl
@@ -77,3 +83,82 @@ found_more {places} {xs} i {place} found less room none at is = subst (AreFound 
       get_or-set_at places i n (Some place) None (alike n e) (omega (arith, less, room)) ∙ ap Some at
       ∙ sym (first_here (λ j. j == n) xs i e (subst (λ (m : ℕ). list_any (λ j. j == m) xs ≡ false) (sym (alike n e)) (any_flip i xs ∙ none)))
   by n small false e = get_or-set_other places i n (Some place) None (apart n e) ∙ found.each n small ∙ sym (first_skip (λ j. j == n) xs i e)
+
+-- ---- the row of each ID
+
+-- A signal found by its ID is listed, and has that ID.
+pub id_found : (system : System) (id : ℕ) (s : SignalAt) → signal_of_id system id ≡ Some s → (s.system ≡ system) × IsSignal s × (id_of s ≡ id)
+id_found system id s e = by (position (λ e. e.0 == id) (table system)) refl e where
+  by : (o : Option ℕ) → position (λ e. e.0 == id) (table system) ≡ o → option_map (λ i. record { system = system; index = i }) o ≡ Some s → (s.system ≡ system) × IsSignal s × (id_of s ≡ id)
+  by None at e = cc
+  by (Some i) at e =
+      let first : ListedSignal = record { 0 = 0; 1 = []; 2 = 0 } in
+      let (within, here, others) = position-Some (λ (e : ListedSignal). e.0 == id) (table system) i first at in
+      let own = ap (λ o. option_map_or (λ (e : ListedSignal). e.0) o 0) (slice_get-get_or (table system) i first within) ∙ is_equal _ id here in
+      let is : record { system = system; index = i } ≡ s = cc in
+      subst (λ (t : SignalAt). (t.system ≡ system) × IsSignal t × (id_of t ≡ id)) is (refl, within, own)
+
+listed_at : (system : System) (i : ℕ) → i < length (table system) → signal_at system i ≡ Some (record { system = system; index = i })
+listed_at system i within = grind (arith, common_steps, within)
+
+-- No signal has this index.
+pub no_signal : (system : System) → signal_at system 255 ≡ None
+no_signal Gps = refl
+no_signal Galileo = refl
+
+pub none_planned : (system : System) (id : ℕ) → planned_signal system [] id ≡ None
+none_planned system id = by (signal_of_id system id) where
+  by : (o : Option SignalAt) → option_and_then (if_planned []) o ≡ None
+  by None = refl
+  by (Some s) = refl
+
+-- No signal has an ID above the greatest one.
+pub unlisted : (system : System) (planned : List ℕ) (id : ℕ) → 32 < id → planned_signal system planned id ≡ None
+unlisted system planned id above = by (signal_of_id system id) refl where
+  by : (o : Option SignalAt) → signal_of_id system id ≡ o → option_and_then (if_planned planned) o ≡ None
+  by None e = refl
+  by (Some s) e = let found = id_found system id s e in let most = ids_within s found.1 in absurd (omega (arith, above, most.1, found.2))
+
+last_of : (system : System) (ss : List SignalAt) (s : SignalAt) → All (λ (r : SignalAt). (r.system ≡ system) × IsSignal r) (ss ++ s ∷ []) → s.system ≡ system
+last_of system [] s h = (All-head (λ (r : SignalAt). (r.system ≡ system) × IsSignal r) s [] h).0
+last_of system (r ∷ ss) s h = last_of system ss s (All-tail (λ (r : SignalAt). (r.system ≡ system) × IsSignal r) r (ss ++ s ∷ []) h)
+
+-- One more signal.
+module _ (s : SignalAt) (listed : IsSignal s) (ss : List SignalAt) (apart : list_any (nat_eq s.index) (indices ss) ≡ false) where
+  own_row : planned_signal s.system (indices (ss ++ s ∷ [])) (id_of s) ≡ Some s
+  own_row =
+      let placed = ap is_some (first_here (λ i. i == s.index) (indices ss) s.index (same s.index) (any_flip s.index (indices ss) ∙ apart)) in
+      ap (option_and_then (if_planned (indices (ss ++ s ∷ [])))) (id_back s listed)
+      ∙ ap (λ l. if_planned l s) (indices-push ss s) ∙ ap (λ b. if b then Some s else None) placed
+    where
+      same : (n : ℕ) → (n == n) ≡ true
+      same n = grind (arith)
+
+  other_row : (id : ℕ) → id ≢ id_of s → planned_signal s.system (indices (ss ++ s ∷ [])) id ≡ planned_signal s.system (indices ss) id
+  other_row id apart = ap (λ l. planned_signal s.system l id) (indices-push ss s) ∙ by (signal_of_id s.system id) refl where
+    by : (o : Option SignalAt) → signal_of_id s.system id ≡ o → option_and_then (if_planned (indices ss ++ s.index ∷ [])) o ≡ option_and_then (if_planned (indices ss)) o
+    by None e = refl
+    by (Some t) e =
+        let found = id_found s.system id t e in
+        let other : (s.index == t.index) ≡ false = unlike (λ i. apart (sym found.2 ∙ ap id_of (alike t found.0 i))) in
+        ap (λ o. if is_some o then Some t else None) (first_skip (λ i. i == t.index) (indices ss) s.index other)
+      where
+        alike : (t : SignalAt) → t.system ≡ s.system → s.index ≡ t.index → t ≡ s
+        alike t a b = ap₂ (λ (c : System) (i : ℕ). record { system = c; index = i }) a (sym b)
+
+        unlike : {m n : ℕ} → (m ≡ n → ⊥) → (m == n) ≡ false
+        unlike h = grind (arith, h)
+
+  pub rows_more : (rows : List ℕ) {new : List SignalAt} {row id : ℕ} → AreRows rows ss → IsOf s.system ss → length rows ≡ 33 → row ≡ s.index → id ≡ id_of s → new ≡ ss ++ s ∷ []
+      → AreRows (set rows id row) new
+  rows_more rows {new} {row} {id} all of size at own is = subst (AreRows (set rows id row)) (sym is) (λ system more n small.
+      rw (← last_of system ss s more.each) (by n small (nat_eq id n) refl)) where
+        by : (n : ℕ) → n ≤ 32 → (b : Bool) → nat_eq id n ≡ b → signal_at s.system (get_or (set rows id row) n 0) ≡ planned_signal s.system (indices (ss ++ s ∷ [])) n
+        by n small true e =
+            let same : n ≡ id = grind (arith, e) in
+            ap (signal_at s.system) (get_or-set_at rows id n row 0 same (omega (arith, small, size, same)) ∙ at) ∙ listed_at s.system s.index listed
+            ∙ sym (ap (planned_signal s.system (indices (ss ++ s ∷ []))) (same ∙ own) ∙ own_row)
+        by n small false e =
+            let other : n ≢ id = grind (arith, e) in
+            ap (signal_at s.system) (get_or-set_other rows id n row 0 other) ∙ all s.system of n small
+            ∙ sym (other_row n (λ is. other (is ∙ sym own)))

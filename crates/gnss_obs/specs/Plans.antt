@@ -1,11 +1,11 @@
 -- The plan of two texts.
 use Rattle.std.specs.Prelude.{◌≡◌, ℕ, zero, suc, ◌==◌, List, [], ◌∷◌, ◌++◌, length, codes, nat_eq, if◌then◌else◌}
-use Rattle.std.specs.Prelude.{Option, Some, None, Result, Ok, Err, position}
+use Rattle.std.specs.Prelude.{Option, Some, None, Result, Ok, Err, position, is_some, option_and_then}
 use Rattle.std.specs.List.{list_any, IsDistinct}
 use Rattle.std.specs.Str.{bytes_eq}
 use Rattle.gnss_obs.specs.declared.system.System.{System}
 use Rattle.gnss_obs.specs.declared.system.System.TheVariants.{Gps, Galileo}
-use Rattle.gnss_obs.specs.Signals.{SignalAt, table, signal_of_code}
+use Rattle.gnss_obs.specs.Signals.{SignalAt, table, signal_of_code, signal_of_id}
 use Rattle.gnss_obs.specs.Values.{PlanValue}
 use Rattle.gnss_obs.specs.declared.fault.PlanFault.{PlanFault}
 use Rattle.gnss_obs.specs.declared.fault.PlanFault.TheVariants.{UnknownCode, RepeatedCode, NothingPlanned}
@@ -13,6 +13,13 @@ use Rattle.gnss_obs.specs.declared.fault.PlanFault.TheVariants.{UnknownCode, Rep
 -- The index of a signal among the planned signals of its system.
 abbrev pub place_in : SignalAt → List ℕ → Option ℕ
 place_in signal planned = position (λ i. i == signal.index) planned
+
+-- The planned signal of a system with this ID, if there is one.
+abbrev pub if_planned : List ℕ → SignalAt → Option SignalAt
+if_planned planned s = if is_some (place_in s planned) then Some s else None
+
+abbrev pub planned_signal : System → List ℕ → ℕ → Option SignalAt
+planned_signal system planned id = option_and_then (if_planned planned) (signal_of_id system id)
 
 -- The texts between commas; an empty text is one empty code.
 abbrev pub onto_first : ℕ → List (List ℕ) → List (List ℕ)

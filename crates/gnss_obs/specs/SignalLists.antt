@@ -1,12 +1,12 @@
 -- The signals of a plan.
-use Rattle.std.specs.Prelude.{◌≡◌, ℕ, ◌+◌, ◌<◌, List, [], ◌∷◌, ◌++◌, map, length, All, Option, None, true, false}
+use Rattle.std.specs.Prelude.{◌≡◌, ℕ, ◌+◌, ◌<◌, ◌≤◌, List, [], ◌∷◌, ◌++◌, map, length, All, Option, None, true, false}
 use Rattle.std.specs.Prelude.{◌==◌, ◌⊎◌, get_or, position, Result, Ok, Err, IsOk, MatchResult}
 use Rattle.gnss_obs.specs.declared.system.System.{System}
-use Rattle.gnss_obs.specs.Signals.{SignalAt, IsSignal, table, signal_of_code}
+use Rattle.gnss_obs.specs.Signals.{SignalAt, IsSignal, table, signal_of_code, signal_at, greatest_signal_id}
 use Rattle.gnss_obs.specs.declared.system.System.TheVariants.{Gps, Galileo}
 use Rattle.std.specs.List.{IsDistinct, list_any}
 use Rattle.std.specs.Prelude.{nat_eq}
-use Rattle.gnss_obs.specs.Plans.{below, IsTaken, IsRefused}
+use Rattle.gnss_obs.specs.Plans.{below, planned_signal, IsTaken, IsRefused}
 use Rattle.gnss_obs.specs.declared.fault.PlanFault.{PlanFault}
 use Rattle.gnss_obs.specs.declared.fault.PlanFault.TheVariants.{UnknownCode, RepeatedCode, NothingPlanned, Memory}
 use Rattle.gnss_obs.specs.Values.{PlanValue}
@@ -28,6 +28,12 @@ IsAdded before s after =
 -- For each index in the longest table, that of Galileo: the index of that signal among the planned ones.
 pub record AreFound (places : List (Option ℕ)) (planned : List ℕ) : Type 0 where
   pub each : (n : ℕ) → n < length (table Galileo) → get_or places n None ≡ position (λ i. i == n) planned
+
+-- For each ID: the index in the table of the planned signal with that ID, or that of no signal.
+abbrev pub AreRows : List ℕ → List SignalAt → Type 0
+AreRows rows ss =
+    (system : System) → IsOf system ss → (id : ℕ) → id ≤ greatest_signal_id
+    → signal_at system (get_or rows id 0) ≡ planned_signal system (indices ss) id
 
 -- The signals of a system are those of a text.
 abbrev pub ArePlanned : System → Result (List ℕ) PlanFault → List SignalAt → Type 0

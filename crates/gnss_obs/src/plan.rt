@@ -4,7 +4,7 @@ ghost use Rattle.gnss_obs.specs.declared.system.System.TheVariants.{Gps, Galileo
 ghost use Rattle.gnss_obs.specs.Signals.{table};
 ghost use Rattle.gnss_obs.specs.Order.{Rise};
 ghost use Rattle.gnss_obs.specs.Values.{planned_of};
-ghost use Rattle.gnss_obs.specs.Plans.{plan_of, signals_of, signals_coded, place_in};
+ghost use Rattle.gnss_obs.specs.Plans.{plan_of, planned_signal, signals_of, signals_coded, place_in};
 ghost use Rattle.gnss_obs.specs.SignalLists.{indices, IsOf, ArePlanned, HasEvery, IsPushed};
 ghost use Rattle.gnss_obs.specs.SignalLists.{TakesCode, RefusesCode, IsDefined, DoneOr, IsUnfitAfter, IsUnfit};
 ghost use Rattle.gnss_obs.specs.SignalLists.{IsMade, IsPlanResult};
@@ -140,6 +140,14 @@ impl Plan {
         self.list(system).place(signal)
     }
 
+    /// Returns the wanted signal of a system with this ID, or `None` if there is none.
+    #[inline(always)]
+    pub fn wanted(&self, system: System, id: u8) -> Option<Signal>
+        ensures { result ≡ planned_signal system (planned_of system self.now) id }
+    {
+        Signal::from_index(system, self.list(system).row_of(id))
+    }
+
     /// Returns `true` only if the wanted signals of a system are in the order of its table.
     pub(crate) fn is_in_table_order(&self, system: System) -> bool
         ensures { result ≡ true → Rise (planned_of system self.now) }
@@ -148,6 +156,7 @@ impl Plan {
     }
 
     // Returns the list of the wanted signals of a system.
+    #[inline(always)]
     fn list(&self, system: System) -> &Signals
         ensures indices { indices result.now ≡ planned_of system self.now }
         ensures system { IsOf system result.now }

@@ -1,7 +1,7 @@
 //! Signals of a system, found by signal ID, by RINEX code or by index.
 ghost use Rattle.std.specs.Prelude.{◌≡◌, ◌<◌, ◌≤◌};
 ghost use Rattle.gnss_obs.specs.Signals.{SignalAt, IsSignal, signal_at, signal_of_id, signal_of_code, code_of};
-ghost use Rattle.gnss_obs.specs.Signals.{hertz_of};
+ghost use Rattle.gnss_obs.specs.Signals.{hertz_of, id_of, greatest_signal_id};
 
 use crate::System;
 use crate::tables::NO_ROW;
@@ -80,6 +80,14 @@ impl Signal {
         } else {
             None
         }
+    }
+
+    /// Returns the signal ID.
+    pub fn id(self) -> u8
+        ensures value { result ≡ id_of self }
+        ensures bound { result ≤ greatest_signal_id }
+    {
+        self.system.row().signals[self.index as usize].0
     }
 
     /// Returns the RINEX code in ASCII: the digit of the band and the letter of the attribute.

@@ -1,14 +1,15 @@
 //! Lists of distinct signals of one system.
 ghost use Rattle.std.specs.Prelude.{◌≡◌, ◌↔◌, ◌==◌, [], IsTrue, length, true, false, Ok, OnErr};
 ghost use Rattle.std.specs.List.{list_any};
-ghost use Rattle.gnss_obs.specs.Signals.{SignalAt};
+ghost use Rattle.gnss_obs.specs.declared.system.System.{System};
+ghost use Rattle.gnss_obs.specs.Signals.{SignalAt, signal_at};
 ghost use Rattle.gnss_obs.specs.Order.{Rise};
-ghost use Rattle.gnss_obs.specs.Plans.{place_in};
+ghost use Rattle.gnss_obs.specs.Plans.{place_in, planned_signal};
 ghost use Rattle.gnss_obs.specs.SignalLists.{indices, IsAdded, IsOf};
 
 use crate::order::{UNSORTED, least_next_after};
 use crate::signal::Signal;
-use crate::tables::GALILEO_SIGNAL_COUNT;
+use crate::tables::{GALILEO_SIGNAL_COUNT, NO_ROW};
 use indexmap::IndexSet;
 use std::alloc::{AllocError, Global};
 use std::marker::Model;
@@ -20,21 +21,24 @@ pub struct Signals {
     // The index of each signal in `order`, by its index in the table of its system, so that no
     // search asks the set. The table of Galileo is the longest.
     places: [Option<usize>; GALILEO_SIGNAL_COUNT],
+    // The index of each signal in the table of its system, by its ID, or `NO_ROW`.
+    rows_by_id: [u8; 33],
     // The least index in the table that may follow if the signals' indices rise, or `UNSORTED`.
     least_next: usize,
 }
 
 impl Model for Signals {
-    ghost use Rattle.std.specs.Prelude.{List};
+    ghost use Rattle.std.specs.Prelude.{List, ◌≡◌, length};
     ghost use Rattle.gnss_obs.specs.Signals.{SignalAt};
     ghost use Rattle.gnss_obs.specs.Order.{IsLeastNext};
-    ghost use Rattle.gnss_obs.specs.SignalLists.{indices, AreFound};
+    ghost use Rattle.gnss_obs.specs.SignalLists.{indices, AreFound, AreRows};
 
     ghost Value = { List SignalAt };
 
     ghost view = { λ s. s.order.keys };
 
-    ghost invariant = { λ s. AreFound s.places (indices s.order.keys) × IsLeastNext s.least_next (indices s.order.keys) };
+    ghost invariant = { λ s. AreFound s.places (indices s.order.keys) × IsLeastNext s.least_next (indices s.order.keys)
+        × (length s.rows_by_id ≡ 33) × AreRows s.rows_by_id s.order.keys };
 }
 
 impl Signals {
@@ -45,6 +49,7 @@ impl Signals {
         Signals {
             order: IndexSet::new(alloc),
             places: [None; GALILEO_SIGNAL_COUNT],
+            rows_by_id: [NO_ROW; 33],
             least_next: 0,
         }
     }
@@ -67,6 +72,7 @@ impl Signals {
             Ok((place, is_new)) => {
                 if is_new {
                     self.places[index] = Some(place);
+                    self.rows_by_id[signal.id() as usize] = index as u8;
                     self.least_next = least_next_after(self.least_next, index);
                 }
                 Ok(is_new)
@@ -101,6 +107,20 @@ impl Signals {
         ensures { result ≡ place_in signal (indices self.now) }
     {
         self.places[signal.index()]
+    }
+
+    /// Returns the index in the table of the signal with this ID, or an index that the table does
+    /// not have if the list does not contain it.
+    #[inline(always)]
+    pub(crate) fn row_of(&self, id: u8) -> usize
+        ensures { (system : System) → IsOf system self.now
+            → signal_at system result ≡ planned_signal system (indices self.now) id }
+    {
+        if id < 33 {
+            self.rows_by_id[id as usize] as usize
+        } else {
+            NO_ROW as usize
+        }
     }
 
     /// Returns `true` only if the signals are in the order of the table.

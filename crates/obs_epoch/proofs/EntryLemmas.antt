@@ -1,6 +1,7 @@
 -- The cells of a message, one by one: those that are listed, and the number of others.
-use Rattle.obs_epoch.specs.Names.{LockField, Cell, System, Entry, CellOutcome, Skipped, count_in, seen_in, unlisted_in, HeardCell, kept_cell, heard_cell, has_listed_key, with_skipped, PlanValue, Loaded, load, load_one, load_entries, with_unlisted, outcome_in, hold, hold_by, planned_cell, CellCounts, option_map_or, cons_option}
-use Rattle.std.proofs.Common.{◌≡◌, ℕ, ◌+◌, Bool, ◌&&◌, List, [], ◌∷◌, refl, ap, ◌∙◌, arith, Option, Some, None, is_some, filter_map, cond, option_and_then, if◌then◌else◌}
+use Rattle.gnss_obs.specs.Plans.{if_planned, place_in}
+use Rattle.obs_epoch.specs.Names.{SignalAt, LockField, Cell, System, Entry, CellOutcome, Skipped, count_in, seen_in, unlisted_in, HeardCell, kept_cell, heard_cell, has_listed_key, with_skipped, PlanValue, Loaded, load, load_one, load_entries, with_unlisted, outcome_in, hold, hold_by, planned_cell, CellCounts, option_map_or, cons_option}
+use Rattle.std.proofs.Common.{◌≡◌, ℕ, ◌+◌, Bool, ◌&&◌, List, [], ◌∷◌, refl, sym, ap, subst, true, false, ◌∙◌, arith, Option, Some, None, is_some, filter_map, cond, option_and_then, if◌then◌else◌}
 use Rattle.std.proofs.lemmas.Grind.{common_steps}
 
 later_count : (k : CellOutcome) (n : ℕ) (c : CellCounts) → count_in k (with_skipped n c) ≡ with_skipped n (count_in k c)
@@ -52,3 +53,11 @@ unplanned_entry p (Some h) l same e = one_skipped (has_listed_key h) _ l h _ (e 
 -- A planned entry is that of its cell.
 pub planned_entry : (p : PlanValue) (o : Option HeardCell) (x : Cell) → Some x ≡ option_and_then (planned_cell p) o → Some (heard_cell x) ≡ o
 planned_entry p o x e = grind (arith, common_steps, e)
+
+-- A planned signal of an ID is the signal of that ID, and planned.
+pub signal_planned : (planned : List ℕ) (o : Option SignalAt) (s : SignalAt) → Some s ≡ option_and_then (if_planned planned) o → (o ≡ Some s) × (is_some (place_in s planned) ≡ true)
+signal_planned planned None s e = cc
+signal_planned planned (Some t) s e = by (is_some (place_in t planned)) refl e where
+  by : (b : Bool) → is_some (place_in t planned) ≡ b → Some s ≡ (if b then Some t else None) → (Some t ≡ Some s) × (is_some (place_in s planned) ≡ true)
+  by true placed e = let is : t ≡ s = cc in (sym e, subst (λ (r : SignalAt). is_some (place_in r planned) ≡ true) is placed)
+  by false placed e = cc

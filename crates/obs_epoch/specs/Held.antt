@@ -13,6 +13,7 @@ use Rattle.obs_epoch.specs.Cells.{is_among, firsts, is_planned, has_listed_key}
 use Rattle.gnss_obs.specs.Values.{most_cells}
 use Rattle.obs_epoch.specs.Loss.{lock_of}
 use Rattle.obs_epoch.specs.declared.locks.KnownLock.{KnownLock}
+use Rattle.obs_epoch.specs.declared.locks.Keys.{Keys}
 use Rattle.obs_epoch.specs.declared.taken.CellCounts.{CellCounts}
 use Rattle.gnss_obs.specs.PlanOrder.{is_held}
 use Rattle.gnss_obs.specs.declared.arrivals.Added.{Added}
@@ -38,6 +39,10 @@ lock_place_in Galileo id index = keys_of Gps + (length (table Galileo) * (id - 1
 
 abbrev pub lock_place : HeardCell → ℕ
 lock_place x = lock_place_in x.satellite.system x.satellite.id x.signal.index
+
+-- These are the entries of the keys of a system: they begin at the first one, and each satellite has that many.
+abbrev pub AreKeysOf : System → Keys → Type 0
+AreKeysOf system keys = (keys.first ≡ lock_place_in system 1 0) × (keys.signals ≡ length (table system))
 
 -- The record of a key.
 abbrev pub lookup : List (Option KnownLock) → HeardCell → Option KnownLock

@@ -3,8 +3,9 @@ ghost use Rattle.std.specs.Prelude.{[], ◌≡◌, ◌↔◌, ◌⊎◌, ◌+◌
 ghost use Rattle.std.specs.Prelude.{IfErr, IfSome, IsOk, Err, option_map, option_to_list, List, Option};
 ghost use Rattle.std.specs.Option.{ForSome};
 ghost use Rattle.rtcm_msg.specs.Msm.{codes_of, most_pairs, week};
-ghost use Rattle.rtcm_msg.specs.Entries.{IsEntry};
-ghost use Rattle.rtcm_msg.specs.Viewed.{viewed_message, lock_field};
+ghost use Rattle.rtcm_msg.specs.Entries.{IsEntry, entries};
+ghost use Rattle.rtcm_msg.specs.Viewed.{viewed_message, form_as, lock_field};
+ghost use Rattle.rtcm_msg.specs.Views.{formed};
 ghost use Rattle.gnss_obs.specs.Weeks.{weeks};
 ghost use Rattle.obs_epoch.specs.Heard.{GatherSetup, Heard, heard, heard_summary, system_of};
 ghost use Rattle.gnss_obs.specs.Order.{AreSortedByPlan};
@@ -19,17 +20,18 @@ ghost use Rattle.obs_epoch.specs.GathererHistory.{HasGatheredEpochs, closed_by, 
 ghost use Rattle.obs_epoch.specs.Calls.{TakesMessage, EndsPendingEpoch, StaysEnded, HoldsCells, HoldsLockedKeys};
 ghost use Rattle.gnss_obs.specs.declared.fault.PlanFault.{PlanFault};
 ghost use Rattle.obs_epoch.specs.GathererSteps.{closed_noted, loaded_if, load_entry, load_entries, epoch_begun};
-ghost use Rattle.obs_epoch.specs.GathererSteps.{load, rested, outcome_in, hold, no_pending, just_closed_as, with_time};
+ghost use Rattle.obs_epoch.specs.GathererSteps.{load, field_as, system_as, rested, outcome_in, hold, no_pending};
+ghost use Rattle.obs_epoch.specs.GathererSteps.{just_closed_as, with_time};
 ghost use Rattle.obs_epoch.specs.Cells.{cells_counted, no_counts};
 
 use crate::clock::Clock;
 use crate::locks::{Locks, lli, note_cells};
-use crate::observe::{observe, system_of};
+use crate::observe::observe;
 use crate::taken::{CellCounts, Gather, Kind, Taken};
 use gnss_obs::{
     Added, Cell, Epoch, GpsTime, Pending, Plan, PlanFault, StationValues, System, WEEKS,
 };
-use rtcm_msg::{Entries, Entry, LockField, Message, Summary, View};
+use rtcm_msg::{Entries, Entry, Form, LockField, Message, MsmView, Summary, View};
 use std::alloc::Global;
 use std::marker::Model;
 
@@ -284,8 +286,7 @@ impl Gatherer {
         }
     }
 
-    // Processes the cells of a message if it is accepted, and returns their outcomes. It is not
-    // inlined, so that the loop over them is compiled by itself.
+    // Processes the cells of a message if it is accepted, and returns their outcomes.
     #[inline(never)]
     fn load(&mut self, is_accepted: bool, before: Option<u64>, view: &View<'_>) -> CellCounts
         requires { self.old.just_closed ≡ false }
@@ -297,12 +298,28 @@ impl Gatherer {
         }
         self.begin(before);
         match view {
-            View::Msm(m) => {
-                let system = system_of(m.is_galileo());
-                self.take_all(m.form().lock_field(), system, &mut m.entries())
-            }
+            View::Msm(m) => match (m.form(), m.is_galileo()) {
+                (Form::Msm4, false) => self.load_as::<0, 0>(m),
+                (Form::Msm4, true) => self.load_as::<1, 0>(m),
+                (Form::Msm7, false) => self.load_as::<0, 1>(m),
+                (Form::Msm7, true) => self.load_as::<1, 1>(m),
+            },
             View::Station(_) | View::Other { number: _, set: _ } => CellCounts::default(),
         }
+    }
+
+    // Processes the cells of a message of system `S`, 0 for GPS, and form `F`, 0 for MSM4. It isn't
+    // inlined, so that the loop over them is compiled by itself for each system and form.
+    #[inline(never)]
+    fn load_as<const S: usize, const F: usize>(&mut self, m: &MsmView<'_>) -> CellCounts
+        requires form { form_as F m.now.form ≡ m.now.form }
+        requires field { field_as F ≡ lock_field m.now.form }
+        requires rested { self.old.just_closed ≡ false }
+        ensures { record { state = self.new; counts = result }
+            ≡ load_entries (lock_field m.now.form) (system_as S) (record { state = self.old; counts = no_counts })
+            (entries (formed m.now)) }
+    {
+        self.take_all::<S, F>(&mut m.entries())
     }
 
     fn begin(&mut self, before: Option<u64>)
@@ -319,8 +336,9 @@ impl Gatherer {
     // Keeps a cell of a planned signal, unless a cell of its key is kept or there is no room, and
     // counts its outcome.
     #[inline(always)]
-    fn take_cell(&mut self, mut x: Cell, n: &mut CellCounts)
+    fn take_cell(&mut self, system: System, mut x: Cell, n: &mut CellCounts)
         requires observed { IsObserved (heard_cell x) }
+        requires system { x.satellite.system ≡ system }
         requires planned { is_some (place_in x.signal (planned_of x.satellite.system self.old.clock.setup.plan))
             ≡ true }
         requires rested { self.old.just_closed ≡ false }
@@ -331,20 +349,22 @@ impl Gatherer {
         ensures one { cells_counted n.new ≡ cells_counted n.old + 1 }
     {
         let time = self.pending.time().milliseconds();
-        x.lli = lli(&x, time, self.locks.latest(&x));
+        x.lli = lli(&x, time, self.locks.latest(system, &x));
         count(self.pending.add(x), n);
     }
 
-    // Processes the cells of a message, and returns their outcomes.
-    fn take_all(&mut self, field: LockField, system: System, cells: &mut Entries<'_>) -> CellCounts
-        requires form { field ≡ lock_field cells.old.form }
+    // Processes the cells of a message of system `S` and form `F`, and returns their outcomes.
+    fn take_all<const S: usize, const F: usize>(&mut self, cells: &mut Entries<'_>) -> CellCounts
+        requires form { form_as F cells.old.form ≡ cells.old.form }
+        requires field { field_as F ≡ lock_field cells.old.form }
         requires rested { self.old.just_closed ≡ false }
         requires few { length cells.old.left ≤ most_pairs }
         ensures { record { state = self.new; counts = result }
-            ≡ load_entries field system (record { state = self.old; counts = no_counts }) cells.old.left }
+            ≡ load_entries (field_as F) (system_as S) (record { state = self.old; counts = no_counts }) cells.old.left }
     {
+        let (field, system) = (field_as::<F>(), system_as::<S>());
         let mut counts = CellCounts::default();
-        while let Some(entry) = cells.next() {
+        while let Some(entry) = cells.next_in::<F>() {
             self.take_entry(field, system, &entry, &mut counts);
         }
         counts
@@ -363,8 +383,28 @@ impl Gatherer {
     {
         match observe(self.clock.plan(), field, system, entry) {
             None => n.skipped += 1,
-            Some(x) => self.take_cell(x, n),
+            Some(x) => self.take_cell(system, x, n),
         }
+    }
+}
+
+// Returns the system with this number.
+#[inline(always)]
+fn system_as<const S: usize>() -> System
+    ensures { result ≡ system_as S }
+{
+    if S == 0 { System::Gps } else { System::Galileo }
+}
+
+// Returns the field of the lock time indicators of the form with this number.
+#[inline(always)]
+fn field_as<const F: usize>() -> LockField
+    ensures { result ≡ field_as F }
+{
+    if F == 0 {
+        LockField::Df402
+    } else {
+        LockField::Df407
     }
 }
 

@@ -1,7 +1,7 @@
 //! Lock records: for each satellite and signal, the latest known lock in a closed epoch. The loss
 //! of lock indicators of the next epoch are computed from them.
 ghost use Rattle.std.specs.Prelude.{◌≡◌, ◌+◌, ◌<◌, ◌≤◌, length, IfOk};
-ghost use Rattle.obs_epoch.specs.Held.{lock_place, lookup, most_locks, no_locks, note, note_all, recorded};
+ghost use Rattle.obs_epoch.specs.Held.{AreKeysOf, lock_place, lookup, most_locks, no_locks, note, note_all, recorded};
 ghost use Rattle.gnss_obs.specs.HeardCells.{IsKey, heard_cell};
 ghost use Rattle.obs_epoch.specs.Loss.{lli_with};
 ghost use Rattle.gnss_obs.specs.Values.{AreHeld};
@@ -71,21 +71,26 @@ impl Locks {
         self.count
     }
 
-    /// Returns the record of the key of a cell: its satellite and signal.
-    pub fn latest(&self, x: &Cell) -> Option<KnownLock>
-        requires { IsKey (heard_cell x.now) }
+    /// Returns the record of the key of a cell of this system: its satellite and signal.
+    #[inline(always)]
+    pub fn latest(&self, system: System, x: &Cell) -> Option<KnownLock>
+        requires key { IsKey (heard_cell x.now) }
+        requires system { x.now.satellite.system ≡ system }
         ensures { result ≡ lookup self.now (heard_cell x.now) }
     {
-        self.records[lock_place(x)]
+        self.records[lock_place(keys_of(system), x)]
     }
 
-    /// Records the lock of a kept cell, if it is known, when its epoch of this time is closed.
-    pub fn note(&mut self, time: u64, x: &Cell)
-        requires { IsKey (heard_cell x.now) }
+    /// Records the lock of a kept cell of the system of these keys, if it is known, when its epoch
+    /// of this time is closed.
+    #[inline(always)]
+    pub fn note(&mut self, keys: Keys, time: u64, x: &Cell)
+        requires key { IsKey (heard_cell x.now) }
+        requires system { AreKeysOf x.now.satellite.system keys }
         ensures { self.new ≡ note time self.old (heard_cell x.now) }
     {
         if x.l.is_some() && x.lock.least().is_some() {
-            let entry = lock_place(x);
+            let entry = lock_place(keys, x);
             let is_new = self.records[entry].is_none();
             self.records[entry] = Some(KnownLock { time, lock: x.lock });
             if is_new {
@@ -100,24 +105,46 @@ pub fn note_cells(locks: &mut Locks, time: u64, system: System, cells: &[Cell])
     requires held { AreHeld system cells.now }
     ensures { locks.new ≡ note_all time locks.old cells.now }
 {
+    let keys = keys_of(system);
     for i in 0..cells.len() {
-        locks.note(time, &cells[i]);
+        locks.note(keys, time, &cells[i]);
+    }
+}
+
+/// The entries of the keys of a system: the index of the first one, and the number of entries of
+/// each satellite. They are found once for all cells of a message.
+#[derive(Clone, Copy)]
+pub struct Keys {
+    first: usize,
+    signals: usize,
+}
+
+// Returns the entries of the keys of a system.
+#[inline(always)]
+fn keys_of(system: System) -> Keys
+    ensures { AreKeysOf system result }
+{
+    match system {
+        System::Gps => Keys {
+            first: 0,
+            signals: GPS_SIGNAL_COUNT,
+        },
+        System::Galileo => Keys {
+            first: GPS_KEYS,
+            signals: GALILEO_SIGNAL_COUNT,
+        },
     }
 }
 
 // Returns the index of the entry of the key of a cell.
-fn lock_place(x: &Cell) -> usize
-    requires { IsKey (heard_cell x.now) }
+#[inline(always)]
+fn lock_place(keys: Keys, x: &Cell) -> usize
+    requires key { IsKey (heard_cell x.now) }
+    requires system { AreKeysOf x.now.satellite.system keys }
     ensures entry { result ≡ lock_place (heard_cell x.now) }
     ensures bound { result < most_locks }
 {
-    let id = x.satellite.id() as usize;
-    let index = x.signal.index();
-    // A match: by the system's numbers of signals `convert` executes 1 % more instructions.
-    match x.satellite.system() {
-        System::Gps => GPS_SIGNAL_COUNT * (id - 1) + index,
-        System::Galileo => GPS_KEYS + GALILEO_SIGNAL_COUNT * (id - 1) + index,
-    }
+    keys.first + keys.signals * (x.satellite.id() as usize - 1) + x.signal.index()
 }
 
 /// Returns the loss of lock indicator (LLI) of RINEX for a cell: bit 0 if lock was lost since

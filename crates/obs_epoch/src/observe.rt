@@ -6,7 +6,7 @@ ghost use Rattle.obs_epoch.specs.Heard.{seen_in, system_of};
 ghost use Rattle.gnss_obs.specs.HeardCells.{heard_cell, IsObserved};
 ghost use Rattle.obs_epoch.specs.GathererSteps.{planned_cell};
 
-use gnss_obs::{Cell, Lock, Plan, Sat, Signal, System, doppler, phase, pseudorange, strength};
+use gnss_obs::{Cell, Lock, Plan, Sat, System, doppler, phase, pseudorange, strength};
 use rtcm_msg::{Entry, LockField};
 
 /// Returns the cell of an entry if its satellite is listed and its signal is planned, else `None`.
@@ -16,12 +16,13 @@ pub fn observe(plan: &Plan, field: LockField, system: System, entry: &Entry) -> 
     requires { IsEntry (codes_of field) entry.now }
     ensures value { result ≡ option_and_then (planned_cell plan.now) (seen_in field system entry.now) }
     ensures observed { IfSome result (λ x. IsObserved (heard_cell x)) }
+    ensures system { IfSome result (λ x. x.satellite.system ≡ system) }
 {
     match (
         Sat::new(system, entry.satellite),
-        Signal::from_id(system, entry.signal),
+        plan.wanted(system, entry.signal),
     ) {
-        (Some(satellite), Some(signal)) if plan.place(signal).is_some() => Some(Cell {
+        (Some(satellite), Some(signal)) => Some(Cell {
             satellite,
             signal,
             c: pseudorange(entry.range),

@@ -38,7 +38,7 @@ pub use Rattle.rtcm_msg.specs.Station.{parts_in, station_contents, station_field
 unfoldable pub use Rattle.rtcm_msg.specs.Station.{station_at}
 pub use Rattle.rtcm_msg.specs.ValueCounts.{AddsCounts, AreAtMost, AreCells, SignalCounts, entries_left, has_id}
 pub use Rattle.rtcm_msg.specs.ValueCounts.{has_listed_value, value_count}
-pub use Rattle.rtcm_msg.specs.Viewed.{Unread, entry_in, lock_field}
+pub use Rattle.rtcm_msg.specs.Viewed.{Unread, entry_in, form_as, lock_field}
 pub use Rattle.rtcm_msg.specs.Views.{AreDataOf, AreWithin, FormedMsm, cell_rows, cell_widths, formed, formed_at}
 pub use Rattle.rtcm_msg.specs.Views.{message_in, message_number, satellite_rows, satellite_widths}
 pub use Rattle.rtcm_msg.specs.declared.entry.Entry.{Entry}

@@ -1,5 +1,5 @@
 -- The message of a view, and its cells.
-use Rattle.std.specs.Prelude.{◌≡◌, ℕ, pos, ◌<◌, List, length, slice_index}
+use Rattle.std.specs.Prelude.{◌≡◌, ℕ, ◌==◌, if◌then◌else◌, pos, ◌<◌, List, length, slice_index}
 use Rattle.rtcm_msg.specs.declared.message.Message.{Message}
 use Rattle.rtcm_msg.specs.declared.message.Message.TheVariants as messages
 use Rattle.rtcm_msg.specs.declared.view.View.{View}
@@ -27,6 +27,10 @@ viewed_message (views.Other number set) = messages.Other number set
 abbrev pub lock_field : Form → LockField
 lock_field forms.Msm4 = Df402
 lock_field forms.Msm7 = Df407
+
+-- The form with this number: 0 for MSM4, 1 for MSM7. Any other number is that of any form.
+abbrev pub form_as : ℕ → Form → Form
+form_as number form = if number == 0 then forms.Msm4 else (if number == 1 then forms.Msm7 else form)
 
 -- The data of a cell, by the form of its message.
 abbrev pub entry_in : Form → MsmValue → Pair × ℕ → Entry

@@ -66,7 +66,7 @@ impl<'a> MsmView<'a> {
             signal: 1,
             index,
         };
-        let entry = self.entry(pair, &self.read_rough(index), i);
+        let entry = self.entry::<2>(pair, &self.read_rough(index), i);
         entry.phase.is_some() || entry.rate.is_some() || entry.strength.is_some()
     }
 

@@ -6,7 +6,7 @@ ghost use Rattle.rtcm_bits.specs.FrameOf.{longest_message};
 ghost use Rattle.rtcm_msg.specs.Fields.{GivesViewed, cursor_at};
 ghost use Rattle.rtcm_msg.specs.Msm.{codes_of, IsHeader, IsValue, satellite_mask_bits, most_pairs};
 ghost use Rattle.rtcm_msg.specs.Decoding.{message_at, body_at};
-ghost use Rattle.rtcm_msg.specs.Viewed.{viewed_message, entry_in, lock_field, rough, IsCached};
+ghost use Rattle.rtcm_msg.specs.Viewed.{viewed_message, entry_in, form_as, lock_field, rough, IsCached};
 ghost use Rattle.rtcm_msg.specs.Entries.{IsEntry, entries};
 ghost use Rattle.rtcm_msg.specs.Encoding.{IsMessage};
 ghost use Rattle.rtcm_msg.specs.Systems.{has_galileo};
@@ -248,13 +248,19 @@ impl<'a> MsmView<'a> {
 
     /// Returns the entry of cell `i`, which is of the satellite and the signal of `pair`.
     #[inline(always)]
-    pub(crate) fn entry(&self, pair: Pair, satellite: &Satellite7, i: usize) -> Entry
+    pub(crate) fn entry<const F: usize>(
+        &self,
+        pair: Pair,
+        satellite: &Satellite7,
+        i: usize,
+    ) -> Entry
+        requires form { form_as F self.now.form ≡ self.now.form }
         requires rough { satellite.now ≡ rough self.now.form (slice_index self.now.msm.satellites pair.index) }
         requires cell { i < length self.now.msm.cells }
         ensures value { result ≡ entry_in self.now.form self.now.msm (pair, slice_index self.now.msm.cells i) }
         ensures bounds { IsEntry (codes_of (lock_field self.now.form)) result }
     {
-        match self.form() {
+        match form_as::<F>(self.form()) {
             Form::Msm4 => {
                 let (whole, fraction) = (satellite.whole, satellite.fraction);
                 let cell = self.cell::<Grid4>(i);
@@ -277,6 +283,20 @@ impl<'a> MsmView<'a> {
             index: self.satellites(),
             cached: Satellite7::default(),
         }
+    }
+}
+
+// Returns the form with number `F`, which is known when the program is compiled, or `form`.
+#[inline(always)]
+fn form_as<const F: usize>(form: Form) -> Form
+    ensures { result ≡ form_as F form }
+{
+    if F == 0 {
+        Form::Msm4
+    } else if F == 1 {
+        Form::Msm7
+    } else {
+        form
     }
 }
 
@@ -314,6 +334,19 @@ impl<'a> Entries<'a> {
         ensures none { IfNone result ((self.old.left ≡ []) × (self.new.left ≡ [])) }
         ensures same { self.new.form ≡ self.old.form }
     {
+        self.next_in::<2>()
+    }
+
+    /// Returns the next cell of a message of form `F`: 0 for MSM4, 1 for MSM7, 2 for either. A loop
+    /// over the cells is faster if it is compiled for a form.
+    #[inline(always)]
+    pub fn next_in<const F: usize>(&mut self) -> Option<Entry>
+        requires form { form_as F self.old.form ≡ self.old.form }
+        ensures some { IfSome result (λ e. (self.old.left ≡ e ∷ self.new.left)
+            × IsEntry (codes_of (lock_field self.old.form)) e) }
+        ensures none { IfNone result ((self.old.left ≡ []) × (self.new.left ≡ [])) }
+        ensures same { self.new.form ≡ self.old.form }
+    {
         let (pair, pairs, left) = split_cells(
             self.cells.pairs,
             self.view.masks().cells(),
@@ -322,7 +355,7 @@ impl<'a> Entries<'a> {
         // Brings the numbers of satellites and cells into the proof.
         let _ = (self.view.satellites(), self.view.cells());
         let satellite = self.view.rough(pair.index, self.index, self.cached);
-        let entry = self.view.entry(pair, &satellite, self.cells.next);
+        let entry = self.view.entry::<F>(pair, &satellite, self.cells.next);
         self.cells.pairs = pairs;
         self.cells.left = left;
         self.cells.next += 1;

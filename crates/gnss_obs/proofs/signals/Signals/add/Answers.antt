@@ -2,7 +2,7 @@ use Rattle.std.proofs.Common.{◌≡◌, ℕ, nat_eq, ◌==◌, ◌++◌, ◌∷
 use Rattle.gnss_obs.specs.Order.{IsLeastNext}
 use Rattle.gnss_obs.specs.Names.{SignalAt, indices, IsOf, list_any}
 use Rattle.gnss_obs.proofs.PlanLemmas.{any_index, indices-push, length_indices}
-use Rattle.gnss_obs.proofs.SignalLemmas.{was_new, was_there, found_more}
+use Rattle.gnss_obs.proofs.SignalLemmas.{was_new, was_there, found_more, rows_more}
 use Rattle.gnss_obs.proofs.signals.Signals.add.Goals as goal
 
 pub invariant_of-self : goal.invariant_of-self
@@ -17,6 +17,8 @@ invariant_of-self c =
           (ap (λ (n : ℕ). list_any (nat_eq n) (indices keys)) c.index-index.ensures.value ∙ sym (any_index s.index keys) ∙ a.1) (a.3 ∙ sym (length_indices keys))
           more,
       subst (IsLeastNext c.least_next_after-self-inside.result) (sym more) (c.least_next_after-self-inside.ensures (indices keys) c.self.invariant.1),
+      search rules,
+      rows_more s c.index-index.ensures.listed keys (sym (any_index s.index keys) ∙ a.1) c.self.inside.rows_by_id c.self.invariant.3 of c.self.invariant.2 c.index-index.ensures.value c.id.ensures.value a.0,
     )
 
 pub returns-then-is_new-clause-new : goal.returns-then-is_new-clause-new

@@ -3,7 +3,7 @@ use Rattle.obs_epoch.specs.Names.{cells_counted, no_counts, load_entries}
 use Rattle.obs_epoch.proofs.gather.Gatherer.take_all.Given as goal
 
 abbrev pub invariant-loop-entry : goal.invariant-loop-entry
-invariant-loop-entry l = record {
+invariant-loop-entry g l = record {
   same : load_entries l.field l.system (record { state = l.self; counts = l.counts }) l.cells.left
       ≡ load_entries l.field l.system (record { state = l.fn.self; counts = no_counts }) l.fn.cells.left;
   rested : l.self.just_closed ≡ false;
@@ -12,4 +12,4 @@ invariant-loop-entry l = record {
 }
 
 abbrev pub decreases-loop-entry : goal.decreases-loop-entry
-decreases-loop-entry l = length l.cells.left
+decreases-loop-entry g l = length l.cells.left

@@ -2,9 +2,9 @@
 use Rattle.std.proofs.Common.{ℕ, ◌≡◌, ◌+◌, ◌<◌, ◌≤◌, List, ◌∷◌, ◌∙◌, length, map, drop, slice_index, count_ones, refl, sym, ap, subst, arith}
 use Rattle.std.proofs.lemmas.List.{drop_more}
 use Rattle.std.specs.List.{zip}
-use Rattle.rtcm_msg.specs.Names.{Entry, Pair, MasksValue, codes_of, IsEntry, Unread, entry_in, lock_field}
+use Rattle.rtcm_msg.specs.Names.{Entry, Pair, MasksValue, codes_of, IsEntry, Unread, entry_in, form_as, lock_field}
 use Rattle.rtcm_msg.proofs.NextLaws.{index_below, one_less}
-use Rattle.rtcm_msg.proofs.view.Entries.next.Goals as goal
+use Rattle.rtcm_msg.proofs.view.Entries.next_in.Goals as goal
 
 one_there : {ps qs : List Pair} {p : Pair} (next : ℕ) {cells : ℕ} → ps ≡ p ∷ qs → length ps + next ≡ cells → next < cells
 one_there next split count = let more = ap length split in omega (arith, more, count)
@@ -13,27 +13,28 @@ next_fits : (next cells n : ℕ) → next < cells → n ≡ cells → n ≤ 64 �
 next_fits next cells n h same few = omega (arith, h, same, few)
 
 pub split_cells-requires : goal.split_cells-requires
-split_cells-requires c = let left = c.self.invariant.0.left in record { few = left.1; count = left.0; in_range = left.2 }
+split_cells-requires g c = let left = c.self.invariant.0.left in record { few = left.1; count = left.0; in_range = left.2 }
 
 pub entry-entry-requires : goal.entry-entry-requires
-entry-entry-requires c =
+entry-entry-requires g c =
     let v = c.self.inside.view.now in
     let split = rw (c.cells.ensures.value ∙ ap (λ (s : MasksValue). s.cells) c.masks.ensures) at c.in_ok-pair.ensures.some.0 in
-    record { rough = c.rough-satellite.ensures; cell = one_there c.self.inside.cells.next split c.self.invariant.0.next }
+    let form = subst (λ (u : Unread). form_as g.row.F u.form ≡ u.form) (sym c.self.view_is) c.requires.form in
+    record { form = form; rough = c.rough-satellite.ensures; cell = one_there c.self.inside.cells.next split c.self.invariant.0.next }
 
 pub overflow_add-self : goal.overflow_add-self
-overflow_add-self c =
+overflow_add-self g c =
     let v = c.self.inside.view.now in
     let split = rw (c.cells.ensures.value ∙ ap (λ (s : MasksValue). s.cells) c.masks.ensures) at c.in_ok-pair.ensures.some.0 in
     let there = one_there c.self.inside.cells.next split c.self.invariant.0.next in
     record { fits = next_fits c.self.inside.cells.next (length v.msm.cells) c.cells-2.result there c.cells-2.ensures.count c.cells-2.ensures.few }
 
 pub rough-satellite-requires : goal.rough-satellite-requires
-rough-satellite-requires c =
+rough-satellite-requires g c =
     record { there = index_below c.in_ok-pair.pair.index _ _ _ (c.in_ok-pair.ensures.indices (count_ones c.self.inside.view.now.msm.sets.satellites) c.self.invariant.0.left.3).0 c.satellites.ensures.count c.satellites.ensures.set; cached = c.self.invariant.1 }
 
 pub invariant_of-self : goal.invariant_of-self
-invariant_of-self c =
+invariant_of-self g c =
     let some = c.in_ok-pair.ensures.some in
     let sets = c.self.inside.view.now.msm.sets in (
       record {
@@ -51,7 +52,7 @@ taken f cells next split count value =
     rw (split, drop_more cells next 0 (omega (arith, more, count)), value) refl
 
 pub returns-clause-some : goal.returns-clause-some
-returns-clause-some c =
+returns-clause-some g c =
     let v = c.self.inside.view.now in
     let split = rw (c.cells.ensures.value ∙ ap (λ (s : MasksValue). s.cells) c.masks.ensures) at c.in_ok-pair.ensures.some.0 in
     let first = taken (entry_in v.form v.msm) v.msm.cells c.self.inside.cells.next split c.self.invariant.0.next c.entry-entry.ensures.value in
