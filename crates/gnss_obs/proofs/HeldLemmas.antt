@@ -4,7 +4,10 @@ use Rattle.std.proofs.lemmas.List.Elements.{All-head, All-push, All-tail}
 use Rattle.std.proofs.lemmas.List.Sorted.{All-permutation, length_permutation}
 use Rattle.gnss_obs.proofs.OrderLemmas.{sort_moves}
 use Rattle.gnss_obs.specs.declared.arrivals.Added.TheVariants.{Kept}
-use Rattle.gnss_obs.specs.Names.{System, Gps, Galileo, Cell, Added, Satellite, SignalAt, IsSignal, AreHeld, EpochValue, IsHeld, cells_of, IsObserved, heard_cell, same_key, cell_sort_key, is_held, AddsCell, IsAdded, slot, has_slot, sorted_cells, outcome_by, cells_after, epoch_with}
+use Rattle.std.specs.Prelude.{true, nat_le}
+use Rattle.gnss_system.proofs.SystemLaws.{each_system}
+use Rattle.gnss_system.specs.Signals.{table}
+use Rattle.gnss_obs.specs.Names.{System, Cell, Added, Satellite, SignalAt, IsSignal, AreHeld, EpochValue, IsHeld, cells_of, IsObserved, heard_cell, same_key, cell_sort_key, is_held, AddsCell, IsAdded, slot, has_slot, sorted_cells, outcome_by, cells_after, epoch_with}
 use Rattle.std.proofs.lemmas.Grind.{common_steps}
 
 -- ---- sorted cells
@@ -19,10 +22,9 @@ held_sorted system planned cells h =
 -- ---- one more cell
 
 pub low_index : (s : SignalAt) → IsSignal s → s.index < 32
-low_index s h = by s.system h where
-  by : (system : System) → IsSignal (record { system = system; index = s.index }) → s.index < 32
-  by Gps h = omega (arith, h)
-  by Galileo h = omega (arith, h)
+low_index s h = by _ (each_system (λ system. nat_le (length (table system)) 32) s.system refl) h where
+  by : (n : ℕ) → nat_le n 32 ≡ true → s.index < n → s.index < 32
+  by n few h = grind (arith, few, h)
 
 slots_same : (i j p q : ℕ) → p < 32 → q < 32 → ((i == j) && (p == q)) ≡ (32 * j + q == 32 * i + p)
 slots_same i j p q h k = grind (arith, common_steps, h, k)

@@ -1,7 +1,7 @@
 -- The test for a loss of lock.
 use Rattle.std.proofs.Common.{ℕ, ◌≡◌, ◌<◌, ◌≤◌, arith, refl, ◌+◌, ◌*◌, ◌^◌, ◌==◌, ◌||◌, nat_lt}
 use Rattle.gnss_obs.specs.LockTimes.{doublings, least4, least7, no_time}
-use Rattle.gnss_obs.proofs.Checked.{passes_at, is_less, is_equal, unless_less}
+use Rattle.gnss_system.proofs.Checked.{passes_at, is_less, is_equal, unless_less}
 
 -- the steps of the indicators, each computed
 pub rising4 : (i : ℕ) → i < 15 → least4 i < least4 (i + 1)

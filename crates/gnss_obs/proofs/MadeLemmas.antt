@@ -1,7 +1,14 @@
--- The plan of two lists of signals, or its fault.
-use Rattle.std.proofs.Common.{◌≡◌, ℕ, ◌+◌, ◌<◌, true≢false, List, [], ◌∷◌, length, refl, sym, ap, ap₂, ◌∙◌, subst, arith, ◌⊎◌, inl, inr, Result, Ok, Err, IfErr, MatchResult, is_ok}
-use Rattle.std.specs.Result.{result_and}
-use Rattle.gnss_obs.specs.Names.{Gps, Galileo, PlanFault, UnknownCode, RepeatedCode, NothingPlanned, Memory, SignalAt, PlanValue, plan_of, signals_of, indices, IsOf, ArePlanned, DoneOr, IsDefined, IsMade, IsMemoryFaultOr, IsPlanResult, IsUnfit, IsUnplanned}
+-- The plan of lists of signals, or its fault.
+use Rattle.std.proofs.Common.{◌≡◌, ℕ, ◌<◌, true≢false, true, false, List, [], ◌∷◌, ◌++◌, length, refl, sym, ap, ap₂, ◌∙◌, subst, arith, ◌⊎◌, inl, inr, Result, Ok, Err, Some, None, IfErr, MatchResult, if◌then◌else◌, is_ok, Bor, eqb, nat_lt, append-nil}
+use Rattle.std.specs.List.{list_all, sum_by}
+use Rattle.std.proofs.lemmas.List.Folds.{sum_by-zero}
+use Rattle.gnss_system.specs.Systems.{systems, index_of, before, after}
+use Rattle.gnss_system.specs.SystemValues.{value_of, tabulate, map_by}
+use Rattle.gnss_system.specs.declared.by_system.BySystem.{BySystem}
+use Rattle.gnss_obs.specs.Plans.{first_fault, signals_or_none, plan_unless, is_nil, plan_by, signals_in, is_none_planned}
+use Rattle.gnss_obs.specs.SignalLists.{AreRead, AreAdded, IsUnplannedAt}
+use Rattle.gnss_obs.specs.Names.{System, Gps, Galileo, PlanFault, UnknownCode, RepeatedCode, NothingPlanned, Memory, SignalAt, PlanValue, plan_of, indices, IsOf, DoneOr, IsDefined, IsMade, IsMemoryFaultOr, IsPlanResult, IsUnfit, IsUnplanned}
+use Rattle.gnss_system.proofs.SystemLaws.{Below, below_list, all_list, same_all, each_system, systems_split, index_less, equal_values, value_tabulated, value_mapped, sum_none}
 use Rattle.gnss_obs.proofs.FitLemmas.{unfit_not_of}
 use Rattle.std.proofs.lemmas.Grind.{common_steps}
 
@@ -9,119 +16,122 @@ abbrev fault_of : {A : Type 0} → Result A PlanFault → PlanFault
 fault_of (Ok u) = Memory
 fault_of (Err e) = e
 
-made : {A : Type 0} (P : PlanFault → Type 0) (Done : Type 0) (added : Result A PlanFault) (ss ts : List SignalAt) (result : Result PlanValue PlanFault) → DoneOr P Done added
-    → IsMade added ss ts result
-    → MatchResult result (λ p. Done × (ss ≡ [] → ts ≡ [] → ⊥) × (p ≡ record { gps = indices ss; galileo = indices ts }))
-    (λ e. IsMemoryFaultOr P e ⊎ (Done × (ss ≡ []) × (ts ≡ []) × (e ≡ NothingPlanned)))
-made P Done (Ok u) ss ts (Ok p) is m = (is, m.1, m.2)
-made P Done (Ok u) ss ts (Err e) is (inl bad) = absurd (true≢false (ap is_ok bad))
-made P Done (Ok u) ss ts (Err e) is (inr none) = inr (is, none.1, none.2, none.3)
-made P Done (Err d) ss ts (Ok p) is m = absurd (true≢false (sym m.0))
-made P Done (Err d) ss ts (Err e) is (inl same) = inl (subst (IsMemoryFaultOr P) (ap fault_of same) is)
-made P Done (Err d) ss ts (Err e) is (inr none) = absurd (true≢false (sym none.0))
+made : {A : Type 0} (P : PlanFault → Type 0) (Done : Type 0) (added : Result A PlanFault) (lists : BySystem (List SignalAt)) (result : Result PlanValue PlanFault) → DoneOr P Done added
+    → IsMade added lists result
+    → MatchResult result (λ p. Done × (is_none_planned lists ≡ false) × (p ≡ map_by indices lists))
+    (λ e. IsMemoryFaultOr P e ⊎ (Done × (is_none_planned lists ≡ true) × (e ≡ NothingPlanned)))
+made P Done (Ok u) lists (Ok p) is m = (is, m.1, m.2)
+made P Done (Ok u) lists (Err e) is (inl bad) = absurd (true≢false (ap is_ok bad))
+made P Done (Ok u) lists (Err e) is (inr none) = inr (is, none.1, none.2)
+made P Done (Err d) lists (Ok p) is m = absurd (true≢false (sym m.0))
+made P Done (Err d) lists (Err e) is (inl same) = inl (subst (IsMemoryFaultOr P) (ap fault_of same) is)
+made P Done (Err d) lists (Err e) is (inr none) = absurd (true≢false (sym none.0))
 
--- ---- of two texts
+-- ---- the first fault
 
--- Both lists are those of their texts.
-abbrev AreRead : List ℕ → List ℕ → List SignalAt → List SignalAt → Type 0
-AreRead gps galileo ss ts = (signals_of Gps gps ≡ Ok (indices ss)) × (signals_of Galileo galileo ≡ Ok (indices ts)) × IsOf Gps ss × IsOf Galileo ts
+after_ok : {A : Type 0} (f : System → Result A PlanFault) (xs ys : List System) → list_all (λ s. is_ok (f s)) xs ≡ true → first_fault f (xs ++ ys) ≡ first_fault f ys
+after_ok f [] ys all = refl
+after_ok f (x ∷ xs) ys all = grind (arith, common_steps, all, (after_ok f xs ys))
 
-pub both_read : {A : Type 0} (first second : Result A PlanFault) (gps galileo : List ℕ) (ss ts : List SignalAt) → DoneOr (λ e. signals_of Gps gps ≡ Err e) (ArePlanned Gps (signals_of Gps gps) ss) first
-    → DoneOr (λ e. signals_of Galileo galileo ≡ Err e) (ArePlanned Galileo (signals_of Galileo galileo) ts) second
-    → DoneOr (λ e. plan_of gps galileo ≡ Err e) (AreRead gps galileo ss ts) (result_and first second)
-both_read (Ok u) (Ok v) gps galileo ss ts f s = (f.0, s.0, f.1, s.1)
-both_read (Ok u) (Err d) gps galileo ss ts f (inl m) = inl m
-both_read (Ok u) (Err d) gps galileo ss ts f (inr bad) = inr (rw (f.0, bad) refl)
-both_read (Err d) r gps galileo ss ts (inl m) s = inl m
-both_read (Err d) r gps galileo ss ts (inr bad) s = inr (rw bad refl)
+pub fault_at : (f : System → Result (List ℕ) PlanFault) (s : System) (e : PlanFault) → Below (λ t. is_ok (f t) ≡ true) (index_of s) → f s ≡ Err e → plan_by f ≡ Err e
+fault_at f s e below is = rw first refl where
+  few : index_of s < length systems
+  few = index_less s
 
-none_in : (ss : List SignalAt) → indices ss ≡ [] → ss ≡ []
-none_in [] h = refl
-none_in (s ∷ ss) h = absurd (no_item s.index (indices ss) h) where
-  no_item : (i : ℕ) (is : List ℕ) → i ∷ is ≡ [] → ⊥
-  no_item i is h = cc
+  first : first_fault f systems ≡ Some e
+  first =
+      ap (first_fault f) (systems_split s)
+      ∙ after_ok f (before s) (s ∷ after s) (below_list (λ t. is_ok (f t)) (index_of s) (omega (arith, few)) below)
+      ∙ rw is refl
 
-both_planned : (gps galileo : List ℕ) (ss ts : List ℕ) → signals_of Gps gps ≡ Ok ss → signals_of Galileo galileo ≡ Ok ts → (ss ≡ [] → ts ≡ [] → ⊥)
-    → plan_of gps galileo ≡ Ok (record { gps = ss; galileo = ts })
-both_planned gps galileo [] [] p q some = absurd (some refl refl)
-both_planned gps galileo [] (t ∷ ts) p q some = rw (p, q) refl
-both_planned gps galileo (s ∷ ss) ts p q some = rw (p, q) refl
+-- The text of the system at an index is refused, and those of the systems before are not.
+pub refused_at : (texts : BySystem (List ℕ)) (n : ℕ) (s : System) (e : PlanFault) → index_of s ≡ n → Below (λ t. is_ok (signals_in texts t) ≡ true) n
+    → IsMemoryFaultOr (λ e. signals_in texts s ≡ Err e) e → IsMemoryFaultOr (λ e. plan_of texts ≡ Err e) e
+refused_at texts n s e at below (inl m) = inl m
+refused_at texts n s e at below (inr is) = inr (fault_at (signals_in texts) s e (subst (Below (λ t. is_ok (signals_in texts t) ≡ true)) (sym at) below) is)
 
-none_planned : (gps galileo : List ℕ) → signals_of Gps gps ≡ Ok [] → signals_of Galileo galileo ≡ Ok [] → plan_of gps galileo ≡ Err NothingPlanned
-none_planned gps galileo p q = rw (p, q) refl
+no_fault : {A : Type 0} (f : System → Result A PlanFault) → ((s : System) → is_ok (f s) ≡ true) → first_fault f systems ≡ None
+no_fault f each = ap (first_fault f) (sym (append-nil systems)) ∙ after_ok f systems [] (all_list (λ s. is_ok (f s)) each)
 
-pub plan_read : {A : Type 0} (added : Result A PlanFault) (gps galileo : List ℕ) (ss ts : List SignalAt) (result : Result PlanValue PlanFault)
-    → DoneOr (λ e. plan_of gps galileo ≡ Err e) (AreRead gps galileo ss ts) added → IsMade added ss ts result → IsDefined (plan_of gps galileo) result
-plan_read added gps galileo ss ts result is m = by result (made (λ e. plan_of gps galileo ≡ Err e) (AreRead gps galileo ss ts) added ss ts result is m) where
+-- ---- of texts
+
+none_alike : (lists : BySystem (List SignalAt)) → is_none_planned (map_by indices lists) ≡ is_none_planned lists
+none_alike lists = same_all _ _ (λ s. ap is_nil (value_mapped s indices lists) ∙ alike (value_of s lists)) systems where
+  alike : (ss : List SignalAt) → is_nil (indices ss) ≡ is_nil ss
+  alike [] = refl
+  alike (s ∷ ss) = refl
+
+read_plan : (f : System → Result (List ℕ) PlanFault) (plan : PlanValue) → ((s : System) → f s ≡ Ok (value_of s plan)) → plan_by f ≡ (if is_none_planned plan then Err NothingPlanned else Ok plan)
+read_plan f plan each = ap₂ plan_unless (no_fault f (λ s. ap is_ok (each s))) same where
+  same : tabulate (λ s. signals_or_none (f s)) ≡ plan
+  same = equal_values _ _ (λ s. value_tabulated s (λ t. signals_or_none (f t)) ∙ ap signals_or_none (each s))
+
+pub plan_read : {A : Type 0} (added : Result A PlanFault) (texts : BySystem (List ℕ)) (lists : BySystem (List SignalAt)) (result : Result PlanValue PlanFault)
+    → DoneOr (λ e. plan_of texts ≡ Err e) (AreRead texts lists) added → IsMade added lists result → IsDefined (plan_of texts) result
+plan_read added texts lists result is m = by result (made (λ e. plan_of texts ≡ Err e) (AreRead texts lists) added lists result is m) where
+  plan : AreRead texts lists → plan_of texts ≡ (if is_none_planned lists then Err NothingPlanned else Ok (map_by indices lists))
+  plan read = read_plan (signals_in texts) (map_by indices lists) (λ s. (read s).0 ∙ ap Ok (sym (value_mapped s indices lists))) ∙ ap (λ b. if b then Err NothingPlanned else Ok (map_by indices lists)) (none_alike lists)
+
   by : (result : Result PlanValue PlanFault)
-      → MatchResult result (λ p. AreRead gps galileo ss ts × (ss ≡ [] → ts ≡ [] → ⊥) × (p ≡ record { gps = indices ss; galileo = indices ts }))
-      (λ e. IsMemoryFaultOr (λ e. plan_of gps galileo ≡ Err e) e ⊎ (AreRead gps galileo ss ts × (ss ≡ []) × (ts ≡ []) × (e ≡ NothingPlanned)))
-      → IsDefined (plan_of gps galileo) result
-  by (Ok p) h = both_planned gps galileo (indices ss) (indices ts) h.0.0 h.0.1 (λ a b. h.1 (none_in ss a) (none_in ts b)) ∙ ap Ok (sym h.2)
+      → MatchResult result (λ p. AreRead texts lists × (is_none_planned lists ≡ false) × (p ≡ map_by indices lists))
+      (λ e. IsMemoryFaultOr (λ e. plan_of texts ≡ Err e) e ⊎ (AreRead texts lists × (is_none_planned lists ≡ true) × (e ≡ NothingPlanned)))
+      → IsDefined (plan_of texts) result
+  by (Ok p) h = plan h.0 ∙ rw (h.1, h.2) refl
   by (Err e) (inl bad) = bad
-  by (Err e) (inr none) =
-      inr (none_planned gps galileo (none.0.0 ∙ ap (λ l. Ok (indices l)) none.1) (none.0.1 ∙ ap (λ l. Ok (indices l)) none.2) ∙ ap Err (sym none.3))
+  by (Err e) (inr none) = inr (plan none.0 ∙ rw (none.1, none.2) refl)
 
--- ---- of two lists
+-- ---- of lists
 
--- Both lists are those of a plan.
-abbrev AreAdded : List SignalAt → List SignalAt → List SignalAt → List SignalAt → Type 0
-AreAdded gps galileo ss ts = (ss ≡ gps) × (ts ≡ galileo) × IsOf Gps gps × IsOf Galileo galileo
+pub unplanned_at : (s : System) (lists : BySystem (List SignalAt)) (fault : PlanFault) → Below (λ t. IsOf t (value_of t lists)) (index_of s) → IsUnfit s (value_of s lists) fault → IsUnplanned lists fault
+unplanned_at s lists (UnknownCode t place) below u = subst (λ r. IsUnplannedAt r lists (UnknownCode t place)) (sym u.unfit.0) (below, u)
+unplanned_at s lists (RepeatedCode t place) below u = subst (λ r. IsUnplannedAt r lists (RepeatedCode t place)) (sym u.unfit.0) (below, u)
+unplanned_at s lists _ below u = absurd u.unfit
 
-apart : Galileo ≡ Gps → ⊥
-apart e = cc
+nil_at : {A : Type 0} (lists : BySystem (List A)) → is_none_planned lists ≡ true → (s : System) → value_of s lists ≡ []
+nil_at lists none s = by (value_of s lists) (each_system (λ s. is_nil (value_of s lists)) s none) where
+  by : {A : Type 0} (xs : List A) → is_nil xs ≡ true → xs ≡ []
+  by [] h = refl
+  by (x ∷ xs) h = absurd (true≢false (sym h))
 
-unfit_first : (gps galileo : List SignalAt) (fault : PlanFault) → IsUnfit Gps gps fault → IsUnplanned gps galileo fault
-unfit_first gps galileo (UnknownCode Gps place) u = u
-unfit_first gps galileo (UnknownCode Galileo place) u = absurd (apart u.unfit.0)
-unfit_first gps galileo (RepeatedCode Gps place) u = u
-unfit_first gps galileo (RepeatedCode Galileo place) u = absurd (apart u.unfit.0)
-unfit_first gps galileo _ u = absurd u.unfit
+some_of : (lists : BySystem (List SignalAt)) → is_none_planned lists ≡ false → 0 < sum_by (λ s. length (value_of s lists)) systems
+some_of lists none = by _ (sum_by-zero (λ s. length (value_of s lists)) systems ∙ same_all _ _ (λ s. alike (value_of s lists)) systems ∙ none) where
+  alike : (ss : List SignalAt) → eqb (length ss) 0 ≡ is_nil ss
+  alike [] = refl
+  alike (s ∷ ss) = grind (arith, common_steps)
 
-unfit_second : (gps galileo : List SignalAt) (fault : PlanFault) → IsOf Gps gps → IsUnfit Galileo galileo fault → IsUnplanned gps galileo fault
-unfit_second gps galileo (UnknownCode Gps place) of u = absurd (apart (sym u.unfit.0))
-unfit_second gps galileo (UnknownCode Galileo place) of u = (of, u)
-unfit_second gps galileo (RepeatedCode Gps place) of u = absurd (apart (sym u.unfit.0))
-unfit_second gps galileo (RepeatedCode Galileo place) of u = (of, u)
-unfit_second gps galileo _ of u = absurd u.unfit
+  by : (n : ℕ) → eqb n 0 ≡ false → 0 < n
+  by n h = grind (arith, h)
 
-pub both_added : {A : Type 0} (first second : Result A PlanFault) (gps galileo ss ts : List SignalAt) → DoneOr (IsUnfit Gps gps) ((ss ≡ gps) × IsOf Gps gps) first
-    → DoneOr (IsUnfit Galileo galileo) ((ts ≡ galileo) × IsOf Galileo galileo) second → DoneOr (IsUnplanned gps galileo) (AreAdded gps galileo ss ts) (result_and first second)
-both_added (Ok u) (Ok v) gps galileo ss ts f s = (f.0, s.0, f.1, s.1)
-both_added (Ok u) (Err d) gps galileo ss ts f (inl m) = inl m
-both_added (Ok u) (Err d) gps galileo ss ts f (inr bad) = inr (unfit_second gps galileo d f.1 bad)
-both_added (Err d) r gps galileo ss ts (inl m) s = inl m
-both_added (Err d) r gps galileo ss ts (inr bad) s = inr (unfit_first gps galileo d bad)
+-- The signals of two systems, and none of the others.
+pub two_of : (lists : BySystem (Bor (List SignalAt))) → IsOf Gps lists.gps.now → IsOf Galileo lists.galileo.now → (s : System) → IsOf s (value_of s lists).now
+two_of lists gps galileo Gps = gps
+two_of lists gps galileo Galileo = galileo
 
-some_of : (gps galileo : List SignalAt) → (gps ≡ [] → galileo ≡ [] → ⊥) → 0 < length gps + length galileo
-some_of gps galileo none = grind (arith, common_steps, none)
-
-pub plan_added : {A : Type 0} (added : Result A PlanFault) (gps galileo ss ts : List SignalAt) (result : Result PlanValue PlanFault)
-    → DoneOr (IsUnplanned gps galileo) (AreAdded gps galileo ss ts) added → IsMade added ss ts result → IsPlanResult gps galileo result
-plan_added added gps galileo ss ts result is m = by result (made (IsUnplanned gps galileo) (AreAdded gps galileo ss ts) added ss ts result is m) where
+pub plan_added : {A : Type 0} (added : Result A PlanFault) (signals lists : BySystem (List SignalAt)) (result : Result PlanValue PlanFault)
+    → DoneOr (IsUnplanned signals) (AreAdded signals lists) added → IsMade added lists result → IsPlanResult signals result
+plan_added added signals lists result is m = by result (made (IsUnplanned signals) (AreAdded signals lists) added lists result is m) where
   by : (result : Result PlanValue PlanFault)
-      → MatchResult result (λ p. AreAdded gps galileo ss ts × (ss ≡ [] → ts ≡ [] → ⊥) × (p ≡ record { gps = indices ss; galileo = indices ts }))
-      (λ e. IsMemoryFaultOr (IsUnplanned gps galileo) e ⊎ (AreAdded gps galileo ss ts × (ss ≡ []) × (ts ≡ []) × (e ≡ NothingPlanned)))
-      → IsPlanResult gps galileo result
+      → MatchResult result (λ p. AreAdded signals lists × (is_none_planned lists ≡ false) × (p ≡ map_by indices lists))
+      (λ e. IsMemoryFaultOr (IsUnplanned signals) e ⊎ (AreAdded signals lists × (is_none_planned lists ≡ true) × (e ≡ NothingPlanned)))
+      → IsPlanResult signals result
   by (Ok p) h = record {
-    first = h.0.2;
-    second = h.0.3;
-    some = some_of gps galileo (λ a b. h.1 (h.0.0 ∙ a) (h.0.1 ∙ b));
-    value = h.2 ∙ ap₂ (λ (a b : List SignalAt). record { gps = indices a; galileo = indices b }) h.0.0 h.0.1;
+    each = h.0.1;
+    some = some_of signals (ap is_none_planned (sym h.0.0) ∙ h.1);
+    value = h.2 ∙ ap (map_by indices) h.0.0;
   }
   by (Err e) (inl bad) = bad
-  by (Err e) (inr none) = inr (subst (IsUnplanned gps galileo) (sym none.3) (sym none.0.0 ∙ none.1, sym none.0.1 ∙ none.2))
+  by (Err e) (inr none) = inr (subst (IsUnplanned signals) (sym none.2) (nil_at signals (ap is_none_planned (sym none.0.0) ∙ none.1)))
 
 -- If signals are those of their systems, and there is one, the only fault is `Memory`.
-pub memory_alone : (gps galileo : List SignalAt) (result : Result PlanValue PlanFault) → IsPlanResult gps galileo result → IsOf Gps gps → IsOf Galileo galileo
-    → 0 < length gps + length galileo → IfErr result (λ e. e ≡ Memory)
-memory_alone gps galileo (Ok p) is first second some = tt
-memory_alone gps galileo (Err e) (inl m) first second some = m
-memory_alone gps galileo (Err e) (inr bad) first second some = absurd (by e bad) where
-  by : (e : PlanFault) → IsUnplanned gps galileo e → ⊥
-  by (UnknownCode Gps place) u = unfit_not_of Gps gps _ u first
-  by (UnknownCode Galileo place) u = unfit_not_of Galileo galileo _ u.1 second
-  by (RepeatedCode Gps place) u = unfit_not_of Gps gps _ u first
-  by (RepeatedCode Galileo place) u = unfit_not_of Galileo galileo _ u.1 second
-  by NothingPlanned u = let n = ap length u.0 in let m = ap length u.1 in omega (arith, some, n, m)
+pub memory_alone : (lists : BySystem (List SignalAt)) (result : Result PlanValue PlanFault) → IsPlanResult lists result → ((s : System) → IsOf s (value_of s lists))
+    → 0 < sum_by (λ s. length (value_of s lists)) systems → IfErr result (λ e. e ≡ Memory)
+memory_alone lists (Ok p) is each some = tt
+memory_alone lists (Err e) (inl m) each some = m
+memory_alone lists (Err e) (inr bad) each some = absurd (by e bad) where
+  by : (e : PlanFault) → IsUnplanned lists e → ⊥
+  by (UnknownCode s place) u = unfit_not_of s (value_of s lists) _ u.1 (each s)
+  by (RepeatedCode s place) u = unfit_not_of s (value_of s lists) _ u.1 (each s)
+  by NothingPlanned u = clash _ some (sum_none (λ s. length (value_of s lists)) (λ s. ap length (u s))) where
+    clash : (n : ℕ) → 0 < n → nat_lt 0 n ≡ false → ⊥
+    clash n h e = absurd (grind (arith, h, e))
   by _ u = u

@@ -5,7 +5,7 @@ use Rattle.std.proofs.lemmas.List.Folds.{position_or_len_push}
 use Rattle.std.proofs.lemmas.Grind.{get_or-set_at}
 use Rattle.std.proofs.lemmas.List.Elements.{All-head, All-tail}
 use Rattle.std.specs.List.{list_any, position_or_len, IsDistinct}
-use Rattle.gnss_obs.specs.Signals.{SignalAt, IsSignal}
+use Rattle.gnss_system.specs.Signals.{SignalAt, IsSignal, most_signals}
 use Rattle.gnss_obs.specs.SignalLists.{AreFound, AreRows, IsOf}
 use Rattle.gnss_obs.proofs.PlanLemmas.{indices-push, is_of-push}
 use Rattle.std.proofs.lemmas.Grind.{common_steps}
@@ -14,7 +14,7 @@ use Rattle.std.proofs.lemmas.Option.{slice_get-get_or}
 use Rattle.gnss_obs.specs.Names.{Gps, Galileo, System, ListedSignal, table, id_of, indices, signal_at, signal_of_id, option_map_or}
 use Rattle.gnss_obs.specs.Plans.{if_planned, planned_signal}
 use Rattle.gnss_obs.proofs.TableLaws.{id_back, ids_within}
-use Rattle.gnss_obs.proofs.Checked.{is_equal}
+use Rattle.gnss_system.proofs.Checked.{is_equal}
 
 pub none_before : {X : Type 0} (p : X → Bool) (xs : List X) → list_any p xs ≡ false → position_or_len p xs ≡ length xs
 none_before p [] h = refl
@@ -69,7 +69,7 @@ any_flip : (i : ℕ) (xs : List ℕ) → list_any (λ j. j == i) xs ≡ list_any
 any_flip i [] = refl
 any_flip i (x ∷ xs) = grind (arith, common_steps, any_flip i xs)
 
-pub found_more : {places : List (Option ℕ)} {xs new : List ℕ} (i : ℕ) {place : ℕ} → AreFound places xs → i < 19 → 19 ≤ length places → list_any (nat_eq i) xs ≡ false
+pub found_more : {places : List (Option ℕ)} {xs new : List ℕ} (i : ℕ) {place : ℕ} → AreFound places xs → i < most_signals → most_signals ≤ length places → list_any (nat_eq i) xs ≡ false
     → place ≡ length xs → new ≡ xs ++ i ∷ [] → AreFound (set places i (Some place)) new
 found_more {places} {xs} i {place} found less room none at is = subst (AreFound (set places i (Some place))) (sym is) (record { each = λ n small. by n small (nat_eq i n) refl }) where
   apart : (n : ℕ) → nat_eq i n ≡ false → n ≢ i

@@ -1,26 +1,24 @@
 -- The range of the values of a message.
-use Rattle.std.proofs.Common.{ℕ, ℤ, pos, ◌≡◌, ◌+◌, ◌*◌, ◌^◌, ◌<◌, ◌≤◌, ◌==◌, ◌*ℤ◌, ◌-ℤ◌, ◌≤ℤ◌, ◌<ℤ◌, Bool, List, [], ◌∷◌, unsigned_abs, arith, le_trans, lit<, lit≤, w64, to_z, of_z, if◌then◌else◌}
+use Rattle.std.proofs.Common.{ℕ, ℤ, pos, ◌≡◌, ◌+◌, ◌*◌, ◌^◌, ◌<◌, ◌≤◌, ◌*ℤ◌, ◌-ℤ◌, ◌≤ℤ◌, ◌<ℤ◌, List, [], ◌∷◌, unsigned_abs, arith, le_trans, lit<, lit≤, w64, to_z, of_z}
 use Rattle.std.proofs.lemmas.Int.{ints}
 use Rattle.std.proofs.lemmas.Nat.{mul-le}
-use Rattle.gnss_obs.specs.Names.{System, Gps, Galileo, carrier_of, band_of, SignalAt, carriers, code_of, hertz_of, light, nearest_pseudorange, nearest_phase, nearest_doppler, nearest_strength, AllByRecursion}
+use Rattle.std.specs.Prelude.{true, nat_le}
+use Rattle.std.proofs.Common.{refl}
+use Rattle.gnss_system.specs.Signals.{most_hertz}
+use Rattle.std.specs.List.{list_all}
+use Rattle.gnss_system.proofs.SystemLaws.{each_system}
+use Rattle.gnss_obs.specs.Names.{System, carrier_of, band_of, SignalAt, carriers, code_of, hertz_of, light, nearest_pseudorange, nearest_phase, nearest_doppler, nearest_strength}
 use Rattle.gnss_obs.proofs.NearestLaws.{nearest_is, nearest_bound, product_within}
 use Rattle.std.proofs.lemmas.Grind.{common_steps}
 
 -- ---- carriers
 
-abbrev most_hertz : ℕ
-most_hertz = 1575420000
-
-this_or : (b : Bool) (h rest most : ℕ) → h ≤ most → rest ≤ most → (if b then h else rest) ≤ most
-this_or b h rest most a c = grind (arith, common_steps, a, c)
-
-carrier_within : (band : ℕ) (cs : List (ℕ × ℕ)) → AllByRecursion (λ c. c.1 ≤ most_hertz) cs → carrier_of cs band ≤ most_hertz
+carrier_within : (band : ℕ) (cs : List (ℕ × ℕ)) → list_all (λ c. nat_le c.1 most_hertz) cs ≡ true → carrier_of cs band ≤ most_hertz
 carrier_within band [] h = lit≤ tt
-carrier_within band (c ∷ cs) h = this_or (c.0 == band) c.1 (carrier_of cs band) most_hertz h.0 (carrier_within band cs h.1)
+carrier_within band (c ∷ cs) h = grind (arith, common_steps, h, (carrier_within band cs))
 
-carriers_within : (system : System) → AllByRecursion (λ c. c.1 ≤ most_hertz) (carriers system)
-carriers_within Gps = (lit≤ tt, (lit≤ tt, (lit≤ tt, tt)))
-carriers_within Galileo = (lit≤ tt, (lit≤ tt, (lit≤ tt, (lit≤ tt, (lit≤ tt, tt)))))
+carriers_within : (system : System) → list_all (λ c. nat_le c.1 most_hertz) (carriers system) ≡ true
+carriers_within system = each_system (λ system. list_all (λ c. nat_le c.1 most_hertz) (carriers system)) system refl
 
 pub hertz_within : (s : SignalAt) → hertz_of s ≤ most_hertz
 hertz_within s = carrier_within (band_of (code_of s)) (carriers s.system) (carriers_within s.system)

@@ -7,10 +7,11 @@ use Rattle.std.proofs.lemmas.List.Quantifiers.{position-Some}
 use Rattle.std.proofs.lemmas.List.Sorted.{All-permutation, IsPermutation-sym, length_permutation}
 use Rattle.std.proofs.lemmas.Map.Keys.{apart_from_distinct}
 use Rattle.gnss_obs.specs.Order.{Rise, RiseTo}
-use Rattle.gnss_obs.specs.Names.{AreBelow, AreHeld, AreInPlanOrder, Cell, IsHeld, IsOf, IsSignal, SignalAt, System, has_slot, indices, IsDistinct, satellites, slot, table, place_in, SortKey, is_before, SortKeysRise, insert_by, cell_sort_key, sorted_cells, sorted_epoch, cell_number, EpochValue, PlanValue, AreInOrder, option_map_or, AllByRecursion}
-use Rattle.gnss_obs.proofs.HeldLemmas.{held_sorted, low_index}
+use Rattle.gnss_obs.specs.Names.{AreBelow, AreHeld, AreInPlanOrder, Cell, IsHeld, IsOf, IsSignal, SignalAt, System, has_slot, indices, IsDistinct, slot, table, place_in, SortKey, is_before, SortKeysRise, insert_by, cell_sort_key, sorted_cells, sorted_epoch, cell_number, EpochValue, PlanValue, planned_of, cells_of, AreInOrder, option_map_or, AllByRecursion}
+use Rattle.gnss_obs.proofs.HeldLemmas.{low_index}
 use Rattle.gnss_obs.proofs.OrderLemmas.{Before, sort_moves}
 use Rattle.gnss_obs.proofs.PlanLemmas.{few_signals, length_indices}
+use Rattle.gnss_system.proofs.SystemLaws.{equal_values, value_tabulated}
 use Rattle.std.proofs.lemmas.Grind.{common_steps}
 
 -- ---- numbers of cells
@@ -304,7 +305,9 @@ sorted_same planned cells rise = rise_onto (cell_sort_key planned) [] cells (non
 -- Sorting again changes nothing.
 pub sorted_again : (p : PlanValue) (e : EpochValue) → AreInOrder p (sorted_epoch p e) → sorted_epoch p (sorted_epoch p e) ≡ sorted_epoch p e
 sorted_again p e h =
-    ap₂ (λ gps galileo. record { time = e.time; gps = gps; galileo = galileo }) (sorted_same p.gps (sorted_cells p.gps e.gps) h.gps.rise) (sorted_same p.galileo (sorted_cells p.galileo e.galileo) h.galileo.rise)
+    ap (λ cells. record { time = e.time; cells = cells }) (equal_values _ _ (λ s.
+    value_tabulated s (λ t. sorted_cells (planned_of t p) (cells_of t (sorted_epoch p e)))
+    ∙ sorted_same (planned_of s p) (cells_of s (sorted_epoch p e)) (h s).rise))
 
 -- ---- cells in the order of their slots
 

@@ -1,27 +1,32 @@
 -- The signal tables: their IDs rise row by row, each ID and each code has one row, and each ID the row that is listed
 -- for it.
-use Rattle.std.proofs.Common.{ℕ, ◌≡◌, ◌+◌, ◌<◌, ◌≤◌, ◌==◌, ◌&&◌, true≢false, Bool, true, false, nat_lt, length, position, List, Option, Some, None, Bor, slice_index_or, refl, sym, ap, ◌∙◌, arith, slice_get, unwrap_or, option_copied, option_map, is_some, IfSome}
+use Rattle.std.proofs.Common.{ℕ, ◌≡◌, ◌+◌, ◌-◌, ◌<◌, ◌≤◌, ◌==◌, ◌&&◌, true≢false, Bool, true, false, nat_lt, length, position, List, Option, Some, None, Bor, slice_index_or, refl, sym, ap, ◌∙◌, arith, slice_get, unwrap_or, option_copied, option_map, is_some, IfSome}
 use Rattle.std.proofs.lemmas.Option.{slice_get_past, slice_get_read}
-use Rattle.gnss_obs.specs.Names.{System, Gps, Galileo, SignalAt, IsSignal, after, greatest_signal_id, id_of, signal_of_id, table, rows}
+use Rattle.std.specs.List.{list_all}
+use Rattle.gnss_system.specs.Systems.{systems}
+use Rattle.gnss_system.proofs.SystemLaws.{each_system}
+use Rattle.gnss_obs.specs.Names.{System, SignalAt, IsSignal, after, greatest_signal_id, id_of, signal_of_id, table, rows}
 use Rattle.std.proofs.lemmas.Grind.{common_steps}
 use Rattle.gnss_obs.proofs.SortLemmas.{table_few}
-use Rattle.gnss_obs.proofs.Checked.{passes_at, passes_below, is_less, is_equal, both_first, both_second}
+use Rattle.gnss_system.proofs.Checked.{passes_at, passes_below, is_less, is_equal, both_first, both_second}
 
 -- the ID of a row is below the next one
 abbrev rises_at : System → ℕ → Bool
 rises_at system i = nat_lt (id_of (record { system = system; index = i })) (id_of (record { system = system; index = i + 1 }))
 
+-- a test passes at each number below a bound of the system
+abbrev passes : (System → ℕ → Bool) → (System → ℕ) → Bool
+passes test bound = list_all (λ system. passes_below (test system) (bound system)) systems
+
+below_each : (test : System → ℕ → Bool) (bound : System → ℕ) → passes test bound ≡ true → (system : System) (i : ℕ) → i < bound system → test system i ≡ true
+below_each test bound all system i below = passes_at (test system) (bound system) i (each_system (λ system. passes_below (test system) (bound system)) system all) below
+
 pub ids_rise : (s : SignalAt) → IsSignal (after s) → id_of s < id_of (after s)
-ids_rise s listed = is_less _ _ (line s.system s.index listed) where
-  line : (system : System) (i : ℕ) → i + 1 < length (table system) → rises_at system i ≡ true
-  line Gps i listed = passes_at (rises_at Gps) 14 i refl (omega (arith, listed))
-  line Galileo i listed = passes_at (rises_at Galileo) 18 i refl (omega (arith, listed))
+ids_rise s listed = is_less _ _ (below_each rises_at (λ system. length (table system) - 1) refl s.system s.index (omega (arith, listed)))
 
 -- a test passes at each row
-at_each : (test : System → ℕ → Bool) → passes_below (test Gps) 15 ≡ true → passes_below (test Galileo) 19 ≡ true → (system : System) (i : ℕ) → i < length (table system)
-    → test system i ≡ true
-at_each test gps galileo Gps i listed = passes_at (test Gps) 15 i gps listed
-at_each test gps galileo Galileo i listed = passes_at (test Galileo) 19 i galileo listed
+at_each : (test : System → ℕ → Bool) → passes test (λ system. length (table system)) ≡ true → (system : System) (i : ℕ) → i < length (table system) → test system i ≡ true
+at_each test all system i listed = below_each test (λ system. length (table system)) all system i listed
 
 abbrev signal : System → ℕ → SignalAt
 signal system i = record { system = system; index = i }
@@ -31,7 +36,7 @@ id_at system i = nat_lt 0 (id_of (signal system i)) && nat_lt (id_of (signal sys
 
 pub ids_within : (s : SignalAt) → IsSignal s → (1 ≤ id_of s) × (id_of s ≤ greatest_signal_id)
 ids_within s listed =
-    let within = at_each id_at refl refl s.system s.index listed in
+    let within = at_each id_at refl s.system s.index listed in
     let low = is_less 0 (id_of s) (both_first _ _ within) in
     let high = is_less (id_of s) 33 (both_second (nat_lt 0 (id_of s)) _ within) in
     (omega (arith, low), omega (arith, high))
@@ -51,7 +56,7 @@ has_first_id system i = is_at (position (λ e. e.0 == id_of (signal system i)) (
 
 pub id_back : (s : SignalAt) → IsSignal s → signal_of_id s.system (id_of s) ≡ Some s
 unfolding is_at
-id_back s listed = ap (option_map (signal s.system)) (from_at _ s.index (at_each has_first_id refl refl s.system s.index listed))
+id_back s listed = ap (option_map (signal s.system)) (from_at _ s.index (at_each has_first_id refl s.system s.index listed))
 
 -- a listed row is the first one with the ID
 is_row : ℕ → Option ℕ → ℕ → Bool
@@ -63,8 +68,7 @@ row_at system id = is_row (length (table system)) (position (λ e. e.0 == id) (t
 
 rows_fit : (system : System) (id : ℕ) → id < 256 → row_at system id ≡ true
 unfolding row_at is_row
-rows_fit Gps id below = passes_at (row_at Gps) 256 id refl below
-rows_fit Galileo id below = passes_at (row_at Galileo) 256 id refl below
+rows_fit system id below = below_each row_at (λ system. 256) refl system id below
 
 same_row : (n : ℕ) (o : Option ℕ) (row : ℕ) → is_row n o row ≡ true → (row == 255) ≡ false → (Some row ≡ o) × (row < n)
 unfolding is_row

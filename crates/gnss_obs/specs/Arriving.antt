@@ -4,14 +4,14 @@ use Rattle.std.specs.Prelude.{map, fold, if◌then◌else◌}
 use Rattle.std.specs.Option.{option_map_or}
 use Rattle.std.specs.Int.{bit_at}
 use Rattle.std.specs.List.{All, AllByRecursion, list_any}
-use Rattle.gnss_obs.specs.declared.system.System.{System}
-use Rattle.gnss_obs.specs.declared.system.System.TheVariants.{Gps, Galileo}
+use Rattle.gnss_system.specs.declared.system.System.{System}
 use Rattle.gnss_obs.specs.declared.cell.Cell.{Cell}
 use Rattle.gnss_obs.specs.declared.arrivals.Added.{Added}
 use Rattle.gnss_obs.specs.declared.arrivals.Added.TheVariants.{Kept, Repeated, Crowded}
-use Rattle.gnss_obs.specs.Satellites.{most_satellites}
+use Rattle.gnss_system.specs.Satellites.{most_satellites}
 use Rattle.gnss_obs.specs.HeardCells.{heard_cell}
-use Rattle.gnss_obs.specs.Values.{PlanValue, EpochValue, cells_of, most_cells}
+use Rattle.gnss_obs.specs.Values.{PlanValue, EpochValue, planned_of, cells_of, most_cells}
+use Rattle.gnss_system.specs.SystemValues.{with_value_of, tabulate}
 use Rattle.gnss_obs.specs.Plans.{place_in}
 use Rattle.gnss_obs.specs.Order.{insert_by, cell_sort_key}
 use Rattle.gnss_obs.specs.PlanOrder.{is_held}
@@ -28,8 +28,7 @@ cells_after Kept cells x = cells ++ x ∷ []
 cells_after _ cells x = cells
 
 abbrev pub epoch_with : System → EpochValue → List Cell → EpochValue
-epoch_with Gps e cells = record e { gps = cells }
-epoch_with Galileo e cells = record e { galileo = cells }
+epoch_with s e cells = record e { cells = with_value_of s e.cells cells }
 
 -- One more cell is kept, unless one of its key is kept, or there is no room.
 pub record IsAdded (old : EpochValue) (x : Cell) (added : Added) (new : EpochValue) : Type 0 where
@@ -76,7 +75,7 @@ sorted_cells planned cells = fold (λ ys c. insert_by (cell_sort_key planned) c 
 
 abbrev pub sorted_epoch : PlanValue → EpochValue → EpochValue
 sorted_epoch p e =
-    record { time = e.time; gps = sorted_cells p.gps e.gps; galileo = sorted_cells p.galileo e.galileo }
+    record { time = e.time; cells = tabulate (λ s. sorted_cells (planned_of s p) (cells_of s e)) }
 
 -- A number that rises with the sort key.
 abbrev pub cell_number : List ℕ → Cell → ℕ

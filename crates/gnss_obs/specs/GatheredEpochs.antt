@@ -2,8 +2,8 @@
 use Rattle.std.specs.Prelude.{◌≡◌, ℕ, ℤ, pos, neg_ℤ, ◌-◌, ◌*◌, ◌^◌, ◌<◌, ◌≤◌, ◌≤ℤ◌, ◌==◌, ◌&&◌, Bool, true, List, []}
 use Rattle.std.specs.Prelude.{◌∷◌, IfSome, None, is_some, ⊤}
 use Rattle.std.specs.List.{AllByRecursion, IsDistinct}
-use Rattle.gnss_obs.specs.declared.system.System.{System}
-use Rattle.gnss_obs.specs.Satellites.{satellites}
+use Rattle.gnss_system.specs.declared.system.System.{System}
+use Rattle.gnss_system.specs.Satellites.{satellites}
 use Rattle.gnss_obs.specs.declared.cell.Cell.{Cell}
 use Rattle.gnss_obs.specs.declared.cell.StationValues.{StationValues}
 use Rattle.gnss_obs.specs.Weeks.{week, weeks}

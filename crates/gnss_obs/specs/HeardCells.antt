@@ -1,7 +1,8 @@
 -- The cells of messages.
 use Rattle.std.specs.Prelude.{ℕ, ℤ, ◌≡◌, ◌==◌, ◌&&◌, Bool, Option, IfSome}
-use Rattle.gnss_obs.specs.Satellites.{Satellite, IsSatellite, is_system}
-use Rattle.gnss_obs.specs.Signals.{SignalAt, IsSignal}
+use Rattle.gnss_system.specs.Satellites.{Satellite, IsSatellite}
+use Rattle.gnss_system.specs.Systems.{is_system}
+use Rattle.gnss_system.specs.Signals.{SignalAt, IsSignal}
 use Rattle.gnss_obs.specs.LockTimes.{LockTime}
 use Rattle.gnss_obs.specs.Values.{HasTwelveDigits}
 use Rattle.gnss_obs.specs.declared.cell.Cell.{Cell}

@@ -1,13 +1,8 @@
-pub mod Satellites
-pub mod SignalTables
-pub mod Signals
-pub mod SignalRows
 pub mod Rounding
 pub mod Observables
 pub mod LockTimes
 pub mod Weeks
 pub mod Dates
-pub mod SystemValues
 pub mod Values
 pub mod Plans
 pub mod SignalLists

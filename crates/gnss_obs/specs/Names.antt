@@ -10,11 +10,11 @@ pub use Rattle.gnss_obs.specs.Observables.{light, nearest_doppler, nearest_phase
 pub use Rattle.gnss_obs.specs.Order.{AreOrderedBy, AreSorted, SortKey, SortKeysRise, cell_sort_key, insert_by, is_before}
 pub use Rattle.gnss_obs.specs.Plans.{CodesNameSignals, IsTaken, below, between_commas, one_signal_more, onto_first, place_in, plan_of, signals_after, signals_of}
 pub use Rattle.gnss_obs.specs.Rounding.{IsNearest, nearest}
-pub use Rattle.gnss_obs.specs.Satellites.{Satellite, satellites}
+pub use Rattle.gnss_system.specs.Satellites.{Satellite, satellites}
 pub use Rattle.gnss_obs.specs.SignalLists.{ArePlanned, DoneOr, IsDefined, IsMade, IsMemoryFaultOr, IsOf, IsPlanResult, IsUnfit, IsUnfitAfter, IsUnplanned, RefusesCode, TakesCode, indices}
-pub use Rattle.gnss_obs.specs.SignalRows.{rows}
-pub use Rattle.gnss_obs.specs.SignalTables.{band_of, carrier_of}
-pub use Rattle.gnss_obs.specs.Signals.{IsSignal, SignalAt, after, carriers, code_of, greatest_signal_id, hertz_of, id_of, signal_at, signal_of_code, signal_of_id, signal_where, table}
+pub use Rattle.gnss_system.specs.SignalRows.{rows}
+pub use Rattle.gnss_system.specs.SignalTables.{band_of, carrier_of}
+pub use Rattle.gnss_system.specs.Signals.{IsSignal, SignalAt, after, carriers, code_of, greatest_signal_id, hertz_of, id_of, signal_at, signal_of_code, signal_of_id, signal_where, table}
 pub use Rattle.gnss_obs.specs.Stages.{PendingValue, stage_value}
 pub use Rattle.gnss_obs.specs.Values.{AreHeld, Closed, EpochValue, IsHeld, PlanValue, cells_of, planned_of}
 pub use Rattle.gnss_obs.specs.Weeks.{weeks}
@@ -23,6 +23,6 @@ pub use Rattle.gnss_obs.specs.declared.cell.Cell.{Cell}
 pub use Rattle.gnss_obs.specs.declared.civil.Civil.{Civil}
 pub use Rattle.gnss_obs.specs.declared.fault.PlanFault.{PlanFault}
 pub use Rattle.gnss_obs.specs.declared.fault.PlanFault.TheVariants.{Memory, NothingPlanned, RepeatedCode, UnknownCode}
-pub use Rattle.gnss_obs.specs.declared.system.System.{System}
-pub use Rattle.gnss_obs.specs.declared.system.System.TheVariants.{Galileo, Gps}
-pub use Rattle.gnss_obs.specs.declared.tables.ListedSignal.{ListedSignal}
+pub use Rattle.gnss_system.specs.declared.system.System.{System}
+pub use Rattle.gnss_system.specs.declared.system.System.TheVariants.{Galileo, Gps}
+pub use Rattle.gnss_system.specs.declared.tables.ListedSignal.{ListedSignal}

@@ -3,10 +3,11 @@ use Rattle.std.specs.Prelude.{ℕ, ◌≡◌, ◌<◌, ◌==◌, ◌&&◌, ◌||
 use Rattle.std.specs.Prelude.{if◌then◌else◌}
 use Rattle.std.specs.Option.{option_map_or}
 use Rattle.std.specs.List.{AllByRecursion}
-use Rattle.gnss_obs.specs.Satellites.{Satellite}
-use Rattle.gnss_obs.specs.Signals.{SignalAt}
+use Rattle.gnss_system.specs.Satellites.{Satellite}
+use Rattle.gnss_system.specs.Signals.{SignalAt}
 use Rattle.gnss_obs.specs.declared.cell.Cell.{Cell}
-use Rattle.gnss_obs.specs.Values.{PlanValue, EpochValue}
+use Rattle.gnss_obs.specs.Values.{PlanValue, EpochValue, planned_of, cells_of}
+use Rattle.gnss_system.specs.declared.system.System.{System}
 use Rattle.gnss_obs.specs.Plans.{place_in}
 use Rattle.gnss_obs.specs.HeardCells.{HeardCell}
 
@@ -70,7 +71,7 @@ AreOrderedBy planned cells = SortKeysRise (map (cell_sort_key planned) cells)
 
 -- The cells of each system are in the order of the plan.
 abbrev pub AreSortedByPlan : PlanValue → EpochValue → Type 0
-AreSortedByPlan p e = AreOrderedBy p.gps e.gps × AreOrderedBy p.galileo e.galileo
+AreSortedByPlan p e = (s : System) → AreOrderedBy (planned_of s p) (cells_of s e)
 
 -- Cells in the order of satellites, then in some order of signals.
 abbrev pub AreSorted : List Cell → Type 0

@@ -1,11 +1,10 @@
 -- The kept cells of an epoch, in the order of a plan.
 use Rattle.std.specs.Prelude.{ℕ, ◌≡◌, Bool, true, List, is_some, map}
 use Rattle.std.specs.List.{AllByRecursion, list_any}
-use Rattle.gnss_obs.specs.declared.system.System.{System}
-use Rattle.gnss_obs.specs.declared.system.System.TheVariants.{Gps, Galileo}
+use Rattle.gnss_system.specs.declared.system.System.{System}
 use Rattle.gnss_obs.specs.declared.cell.Cell.{Cell}
 use Rattle.gnss_obs.specs.HeardCells.{HeardCell, has_same_key, heard_cell}
-use Rattle.gnss_obs.specs.Values.{PlanValue, EpochValue}
+use Rattle.gnss_obs.specs.Values.{PlanValue, EpochValue, planned_of, cells_of}
 use Rattle.gnss_obs.specs.Plans.{place_in}
 use Rattle.gnss_obs.specs.Order.{SortKeysRise, cell_sort_key}
 
@@ -18,6 +17,6 @@ pub record AreInPlanOrder (system : System) (planned : List ℕ) (ms : List Cell
   pub each : AllByRecursion (λ m. (m.satellite.system ≡ system) × (is_some (place_in m.signal planned) ≡ true)) ms
   pub rise : SortKeysRise (map (cell_sort_key planned) ms)
 
-pub record AreInOrder (p : PlanValue) (e : EpochValue) : Type 0 where
-  pub gps : AreInPlanOrder Gps p.gps e.gps
-  pub galileo : AreInPlanOrder Galileo p.galileo e.galileo
+-- The cells of each system are in the order of the plan.
+abbrev pub AreInOrder : PlanValue → EpochValue → Type 0
+AreInOrder p e = (s : System) → AreInPlanOrder s (planned_of s p) (cells_of s e)

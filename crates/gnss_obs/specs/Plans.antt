@@ -1,11 +1,13 @@
--- The plan of two texts.
+-- The plan of a text for each system.
 use Rattle.std.specs.Prelude.{◌≡◌, ℕ, zero, suc, ◌==◌, List, [], ◌∷◌, ◌++◌, length, codes, nat_eq, if◌then◌else◌}
-use Rattle.std.specs.Prelude.{Option, Some, None, Result, Ok, Err, position, is_some, option_and_then}
-use Rattle.std.specs.List.{list_any, IsDistinct}
+use Rattle.std.specs.Prelude.{Option, Some, None, Result, Ok, Err, position, is_some, option_and_then, Bool, true, false}
+use Rattle.std.specs.List.{list_any, list_all, IsDistinct}
 use Rattle.std.specs.Str.{bytes_eq}
-use Rattle.gnss_obs.specs.declared.system.System.{System}
-use Rattle.gnss_obs.specs.declared.system.System.TheVariants.{Gps, Galileo}
-use Rattle.gnss_obs.specs.Signals.{SignalAt, table, signal_of_code, signal_of_id}
+use Rattle.gnss_system.specs.declared.system.System.{System}
+use Rattle.gnss_system.specs.Systems.{systems}
+use Rattle.gnss_system.specs.SystemValues.{value_of, tabulate}
+use Rattle.gnss_system.specs.declared.by_system.BySystem.{BySystem}
+use Rattle.gnss_system.specs.Signals.{SignalAt, table, signal_of_code, signal_of_id}
 use Rattle.gnss_obs.specs.Values.{PlanValue}
 use Rattle.gnss_obs.specs.declared.fault.PlanFault.{PlanFault}
 use Rattle.gnss_obs.specs.declared.fault.PlanFault.TheVariants.{UnknownCode, RepeatedCode, NothingPlanned}
@@ -72,22 +74,42 @@ signals_of system text =
     else (if bytes_eq text (codes "none") then Ok []
     else signals_coded system text)
 
-abbrev some_planned : List ℕ → List ℕ → Result PlanValue PlanFault
-some_planned [] [] = Err NothingPlanned
-some_planned [] (g ∷ gs) = Ok (record { gps = []; galileo = g ∷ gs })
-some_planned (p ∷ ps) gs = Ok (record { gps = p ∷ ps; galileo = gs })
+abbrev pub is_nil : {A : Type 0} → List A → Bool
+is_nil [] = true
+is_nil (x ∷ xs) = false
 
-abbrev with_galileo : List ℕ → Result (List ℕ) PlanFault → Result PlanValue PlanFault
-with_galileo gps (Err e) = Err e
-with_galileo gps (Ok galileo) = some_planned gps galileo
+-- The first fault of the results for these systems.
+abbrev fault_or : {A : Type 0} → Result A PlanFault → Option PlanFault → Option PlanFault
+fault_or (Err e) others = Some e
+fault_or (Ok x) others = others
 
-abbrev with_gps : Result (List ℕ) PlanFault → Result (List ℕ) PlanFault → Result PlanValue PlanFault
-with_gps (Err e) galileo = Err e
-with_gps (Ok gps) galileo = with_galileo gps galileo
+abbrev pub first_fault : {A : Type 0} → (System → Result A PlanFault) → List System → Option PlanFault
+first_fault f [] = None
+first_fault f (s ∷ ss) = fault_or (f s) (first_fault f ss)
 
--- The plan of two texts, or their first fault.
-abbrev pub plan_of : List ℕ → List ℕ → Result PlanValue PlanFault
-plan_of gps galileo = with_gps (signals_of Gps gps) (signals_of Galileo galileo)
+abbrev pub signals_or_none : Result (List ℕ) PlanFault → List ℕ
+signals_or_none (Ok signals) = signals
+signals_or_none (Err e) = []
+
+-- There is no signal of a system.
+abbrev pub is_none_planned : {A : Type 0} → BySystem (List A) → Bool
+is_none_planned lists = list_all (λ s. is_nil (value_of s lists)) systems
+
+-- The plan of results for each system, or their first fault.
+abbrev pub plan_unless : Option PlanFault → PlanValue → Result PlanValue PlanFault
+plan_unless (Some e) plan = Err e
+plan_unless None plan = if is_none_planned plan then Err NothingPlanned else Ok plan
+
+abbrev pub plan_by : (System → Result (List ℕ) PlanFault) → Result PlanValue PlanFault
+plan_by f = plan_unless (first_fault f systems) (tabulate (λ s. signals_or_none (f s)))
+
+-- The signals of the text of a system.
+abbrev pub signals_in : BySystem (List ℕ) → System → Result (List ℕ) PlanFault
+signals_in texts s = signals_of s (value_of s texts)
+
+-- The plan of a text for each system, or their first fault.
+abbrev pub plan_of : BySystem (List ℕ) → Result PlanValue PlanFault
+plan_of texts = plan_by (signals_in texts)
 
 -- These are the signals of the codes of a system, one by one.
 abbrev pub CodesNameSignals : System → List (List ℕ) → List ℕ → Type 0

@@ -1,12 +1,14 @@
 -- The signals of a plan.
 use Rattle.std.specs.Prelude.{◌≡◌, ℕ, ◌+◌, ◌<◌, ◌≤◌, List, [], ◌∷◌, ◌++◌, map, length, All, Option, None, true, false}
 use Rattle.std.specs.Prelude.{◌==◌, ◌⊎◌, get_or, position, Result, Ok, Err, IsOk, MatchResult}
-use Rattle.gnss_obs.specs.declared.system.System.{System}
-use Rattle.gnss_obs.specs.Signals.{SignalAt, IsSignal, table, signal_of_code, signal_at, greatest_signal_id}
-use Rattle.gnss_obs.specs.declared.system.System.TheVariants.{Gps, Galileo}
-use Rattle.std.specs.List.{IsDistinct, list_any}
+use Rattle.gnss_system.specs.declared.system.System.{System}
+use Rattle.gnss_system.specs.Signals.{SignalAt, IsSignal, table, most_signals, signal_of_code, signal_at, greatest_signal_id}
+use Rattle.std.specs.List.{IsDistinct, list_any, sum_by}
 use Rattle.std.specs.Prelude.{nat_eq}
-use Rattle.gnss_obs.specs.Plans.{below, planned_signal, IsTaken, IsRefused}
+use Rattle.gnss_obs.specs.Plans.{below, planned_signal, IsTaken, IsRefused, is_none_planned, signals_in}
+use Rattle.gnss_system.specs.Systems.{systems, index_of}
+use Rattle.gnss_system.specs.SystemValues.{value_of, map_by}
+use Rattle.gnss_system.specs.declared.by_system.BySystem.{BySystem}
 use Rattle.gnss_obs.specs.declared.fault.PlanFault.{PlanFault}
 use Rattle.gnss_obs.specs.declared.fault.PlanFault.TheVariants.{UnknownCode, RepeatedCode, NothingPlanned, Memory}
 use Rattle.gnss_obs.specs.Values.{PlanValue}
@@ -25,9 +27,9 @@ abbrev pub IsAdded : List SignalAt → SignalAt → List SignalAt → Type 0
 IsAdded before s after =
     (after ≡ before ++ s ∷ []) × (list_any (λ r. s.index == r.index) before ≡ false) × IsOf s.system after
 
--- For each index in the longest table, that of Galileo: the index of that signal among the planned ones.
+-- For each index in the longest table: the index of that signal among the planned ones.
 pub record AreFound (places : List (Option ℕ)) (planned : List ℕ) : Type 0 where
-  pub each : (n : ℕ) → n < length (table Galileo) → get_or places n None ≡ position (λ i. i == n) planned
+  pub each : (n : ℕ) → n < most_signals → get_or places n None ≡ position (λ i. i == n) planned
 
 -- For each ID: the index in the table of the planned signal with that ID, or that of no signal.
 abbrev pub AreRows : List ℕ → List SignalAt → Type 0
@@ -87,30 +89,38 @@ pub record IsUnfit (system : System) (ss : List SignalAt) (fault : PlanFault) : 
   pub fits : IsOf system before
   pub unfit : IsUnfitAfter system before signal fault
 
--- The fault for which signals are refused: GPS comes first.
-abbrev pub IsUnplanned : List SignalAt → List SignalAt → PlanFault → Type 0
-IsUnplanned gps galileo (UnknownCode Gps place) = IsUnfit Gps gps (UnknownCode Gps place)
-IsUnplanned gps galileo (UnknownCode Galileo place) = IsOf Gps gps × IsUnfit Galileo galileo (UnknownCode Galileo place)
-IsUnplanned gps galileo (RepeatedCode Gps place) = IsUnfit Gps gps (RepeatedCode Gps place)
-IsUnplanned gps galileo (RepeatedCode Galileo place) =
-    IsOf Gps gps × IsUnfit Galileo galileo (RepeatedCode Galileo place)
-IsUnplanned gps galileo NothingPlanned = (gps ≡ []) × (galileo ≡ [])
-IsUnplanned gps galileo other = ⊥
+-- The signals of the systems before one fit, and the fault is one of its own.
+abbrev pub IsUnplannedAt : System → BySystem (List SignalAt) → PlanFault → Type 0
+IsUnplannedAt s lists fault =
+    ((t : System) → index_of t < index_of s → IsOf t (value_of t lists)) × IsUnfit s (value_of s lists) fault
+
+-- The fault for which signals are refused: that of the first system that has one.
+abbrev pub IsUnplanned : BySystem (List SignalAt) → PlanFault → Type 0
+IsUnplanned lists (UnknownCode s place) = IsUnplannedAt s lists (UnknownCode s place)
+IsUnplanned lists (RepeatedCode s place) = IsUnplannedAt s lists (RepeatedCode s place)
+IsUnplanned lists NothingPlanned = (s : System) → value_of s lists ≡ []
+IsUnplanned lists other = ⊥
 
 -- The plan of signals in their order.
-pub record IsPlanOf (gps galileo : List SignalAt) (p : PlanValue) : Type 0 where
-  pub first : IsOf Gps gps
-  pub second : IsOf Galileo galileo
-  pub some : 0 < length gps + length galileo
-  pub value : p ≡ record { gps = indices gps; galileo = indices galileo }
+pub record IsPlanOf (lists : BySystem (List SignalAt)) (p : PlanValue) : Type 0 where
+  pub each : (s : System) → IsOf s (value_of s lists)
+  pub some : 0 < sum_by (λ s. length (value_of s lists)) systems
+  pub value : p ≡ map_by indices lists
 
 -- The result for these signals is their plan, or a fault.
-abbrev pub IsPlanResult : List SignalAt → List SignalAt → Result PlanValue PlanFault → Type 0
-IsPlanResult gps galileo result = MatchResult result (IsPlanOf gps galileo) (IsMemoryFaultOr (IsUnplanned gps galileo))
+abbrev pub IsPlanResult : BySystem (List SignalAt) → Result PlanValue PlanFault → Type 0
+IsPlanResult lists result = MatchResult result (IsPlanOf lists) (IsMemoryFaultOr (IsUnplanned lists))
 
 -- The plan of these signals, if they were added without a fault and there is one.
-abbrev pub IsMade : {A : Type 0} → Result A PlanFault → List SignalAt → List SignalAt → Result PlanValue PlanFault → Type 0
-IsMade added gps galileo result =
-    MatchResult result
-    (λ p. IsOk added × (gps ≡ [] → galileo ≡ [] → ⊥) × (p ≡ record { gps = indices gps; galileo = indices galileo }))
-    (λ e. (added ≡ Err e) ⊎ (IsOk added × (gps ≡ []) × (galileo ≡ []) × (e ≡ NothingPlanned)))
+abbrev pub IsMade : {A : Type 0} → Result A PlanFault → BySystem (List SignalAt) → Result PlanValue PlanFault → Type 0
+IsMade added lists result =
+    MatchResult result (λ p. IsOk added × (is_none_planned lists ≡ false) × (p ≡ map_by indices lists))
+    (λ e. (added ≡ Err e) ⊎ (IsOk added × (is_none_planned lists ≡ true) × (e ≡ NothingPlanned)))
+
+-- The signals of each system are those of its text.
+abbrev pub AreRead : BySystem (List ℕ) → BySystem (List SignalAt) → Type 0
+AreRead texts lists = (s : System) → ArePlanned s (signals_in texts s) (value_of s lists)
+
+-- The signals of each system are those of a list.
+abbrev pub AreAdded : BySystem (List SignalAt) → BySystem (List SignalAt) → Type 0
+AreAdded signals lists = (lists ≡ signals) × ((s : System) → IsOf s (value_of s signals))

@@ -2,38 +2,36 @@
 use Rattle.std.specs.Prelude.{◌≡◌, ℕ, zero, suc, ℤ, ◌+◌, ◌<◌, ◌≤◌, ◌^◌, ◌==◌, ◌&&◌, ◌||◌, Bool, List, [], ◌∷◌, length}
 use Rattle.std.specs.Prelude.{All, IfSome, is_some, pos, unsigned_abs, if◌then◌else◌}
 use Rattle.std.specs.Ordering.{int_eq}
-use Rattle.std.specs.List.{list_any}
-use Rattle.gnss_obs.specs.Satellites.{satellites as satellites_in, IsSatellite}
-use Rattle.gnss_obs.specs.Signals.{IsSignal}
-use Rattle.gnss_obs.specs.declared.system.System.{System}
-use Rattle.gnss_obs.specs.declared.system.System.TheVariants.{Gps, Galileo}
+use Rattle.std.specs.List.{list_any, sum_by}
+use Rattle.gnss_system.specs.Systems.{systems}
+use Rattle.gnss_system.specs.SystemValues.{value_of, tabulate}
+use Rattle.gnss_system.specs.declared.by_system.BySystem.{BySystem}
+use Rattle.gnss_system.specs.Satellites.{satellites as satellites_in, IsSatellite}
+use Rattle.gnss_system.specs.Signals.{IsSignal}
+use Rattle.gnss_system.specs.declared.system.System.{System}
 use Rattle.gnss_obs.specs.declared.cell.Cell.{Cell}
 use Rattle.gnss_obs.specs.declared.cell.StationValues.{StationValues}
 
 -- ---- plans: the wanted signals of each system, in order, by their indices in the system's table
 
-pub record PlanValue : Type 0 where
-  pub gps : List ℕ
-  pub galileo : List ℕ
+abbrev pub PlanValue : Type 0
+PlanValue = BySystem (List ℕ)
 
 abbrev pub planned_of : System → PlanValue → List ℕ
-planned_of Gps p = p.gps
-planned_of Galileo p = p.galileo
+planned_of s p = value_of s p
 
 -- ---- epochs: the time in milliseconds since 1980-01-06 00:00:00, and the kept cells of each system
 
 pub record EpochValue : Type 0 where
   pub time : ℕ
-  pub gps : List Cell
-  pub galileo : List Cell
+  pub cells : BySystem (List Cell)
 
 -- An epoch without cells.
 abbrev pub empty_epoch : ℕ → EpochValue
-empty_epoch time = record { time = time; gps = []; galileo = [] }
+empty_epoch time = record { time = time; cells = tabulate (λ s. []) }
 
 abbrev pub cells_of : System → EpochValue → List Cell
-cells_of Gps e = e.gps
-cells_of Galileo e = e.galileo
+cells_of s e = value_of s e.cells
 
 -- The largest number of kept cells of a system.
 abbrev pub most_cells : ℕ
@@ -83,11 +81,11 @@ written_among cells (suc n) = written_among cells n + (if is_written cells (suc 
 
 -- The number of satellites to write: those with a cell that has a value.
 abbrev pub satellites_written : EpochValue → ℕ
-satellites_written e = written_among e.gps (satellites_in Gps) + written_among e.galileo (satellites_in Galileo)
+satellites_written e = sum_by (λ s. written_among (cells_of s e) (satellites_in s)) systems
 
 -- The largest number of satellites to write.
 abbrev pub most_written : ℕ
-most_written = satellites_in Gps + satellites_in Galileo
+most_written = sum_by satellites_in systems
 
 -- All four values are equal.
 abbrev pub same_values : StationValues → StationValues → Bool

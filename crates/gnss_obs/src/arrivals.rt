@@ -3,16 +3,17 @@ ghost use Rattle.std.specs.Prelude.{◌≡◌, ◌<◌, [], IfOk};
 ghost use Rattle.gnss_obs.specs.HeardCells.{heard_cell, IsObserved};
 ghost use Rattle.gnss_obs.specs.Arriving.{IsAdded, AddsCell, sorted_cells, sorted_epoch};
 ghost use Rattle.gnss_obs.specs.PlanOrder.{AreInOrder, AreInPlanOrder};
+ghost use Rattle.gnss_system.specs.declared.system.System.{System};
+ghost use Rattle.gnss_system.specs.SystemValues.{value_of, with_value_of};
 ghost use Rattle.gnss_obs.specs.Values.{AreHeld, cells_of, empty_epoch, planned_of};
 
-use crate::by_system::BySystem;
 use crate::cell::{Cell, StationValues};
 use crate::cells::Cells;
 use crate::epoch::{Epoch, MOST_CELLS};
 use crate::order::sort_into;
 use crate::plan::Plan;
-use crate::system::System;
 use crate::time::GpsTime;
+use gnss_system::{BySystem, SYSTEMS, System};
 use std::alloc::{AllocError, Global};
 use std::boxed::Box;
 use std::marker::Model;
@@ -39,18 +40,19 @@ pub struct Arrivals {
 }
 
 impl Model for Arrivals {
-    ghost use Rattle.gnss_obs.specs.declared.system.System.TheVariants.{Gps, Galileo};
+    ghost use Rattle.gnss_system.specs.declared.system.System.{System};
+    ghost use Rattle.gnss_system.specs.SystemValues.{value_of, map_by};
     ghost use Rattle.gnss_obs.specs.Values.{AreHeld, Closed};
 
     ghost Value = { Closed };
 
     ghost view = { λ e.
         record {
-          epoch = record { time = e.time; gps = e.cells.gps.value; galileo = e.cells.galileo.value };
+          epoch = record { time = e.time; cells = map_by (λ c. c.value) e.cells };
           values = e.values;
         } };
 
-    ghost invariant = { λ e. AreHeld Gps e.cells.gps.value × AreHeld Galileo e.cells.galileo.value };
+    ghost invariant = { λ e. (s : System) → AreHeld s (value_of s e.cells).value };
 }
 
 impl Arrivals {
@@ -118,11 +120,7 @@ impl Arrivals {
         ensures epoch { IsAdded self.old.epoch x result self.new.epoch }
         ensures values { self.new.values ≡ self.old.values }
     {
-        // A match of its own: through `of_mut`, `convert` executes 3 % more instructions.
-        match x.satellite.system() {
-            System::Gps => add(&mut self.cells.gps, x),
-            System::Galileo => add(&mut self.cells.galileo, x),
-        }
+        add_to(&mut self.cells, x.satellite.system(), x)
     }
 
     /// Sorts the cells of each system by satellite and then by the order of a plan.
@@ -130,8 +128,21 @@ impl Arrivals {
         requires { AreInOrder plan.now (sorted_epoch plan.now self.old.epoch) }
         ensures { self.new ≡ record { epoch = sorted_epoch plan.now self.old.epoch; values = self.old.values } }
     {
-        sort(&mut self.cells.gps, plan, System::Gps, spare);
-        sort(&mut self.cells.galileo, plan, System::Galileo, spare);
+        sort_all(&mut self.cells, plan, spare);
+    }
+}
+
+// Sorts the cells of each system.
+fn sort_all(cells: &mut BySystem<Box<Cells>>, plan: &Plan, spare: &mut Box<Cells>)
+    requires held { (s : System) → AreHeld s (value_of s cells.old).value }
+    requires order { (s : System) → AreInPlanOrder s (planned_of s plan.now)
+        (sorted_cells (planned_of s plan.now) (value_of s cells.old).value) }
+    ensures { (s : System) → (value_of s cells.new).value
+        ≡ sorted_cells (planned_of s plan.now) (value_of s cells.old).value }
+{
+    for i in 0..SYSTEMS.len() {
+        let system = System::at(i);
+        sort(cells.of_mut(system), plan, system, spare);
     }
 }
 
@@ -142,6 +153,19 @@ pub(crate) fn no_cells(alloc: Global) -> Result<Box<Cells>, AllocError>
     ensures { IfOk result (λ cells. cells.value ≡ []) }
 {
     Box::new(alloc, Cells::new()).map_err(|_| AllocError)
+}
+
+// Appends a cell to those of a system.
+#[inline(always)]
+fn add_to(cells: &mut BySystem<Box<Cells>>, system: System, x: Cell) -> Added
+    ensures own { AddsCell (value_of system cells.old).value x result (value_of system cells.new).value }
+    ensures others { cells.new ≡ with_value_of system cells.old (value_of system cells.new) }
+{
+    // A match of its own: through `of_mut`, `convert` executes 3 % more instructions.
+    match system {
+        System::Gps => add(&mut cells.gps, x),
+        System::Galileo => add(&mut cells.galileo, x),
+    }
 }
 
 // Appends a cell, unless one of its key is kept or there is no room.

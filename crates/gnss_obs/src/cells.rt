@@ -8,16 +8,16 @@ ghost use Rattle.gnss_obs.specs.Values.{most_cells};
 use crate::cell::Cell;
 use crate::epoch::MOST_CELLS;
 use crate::order::{UNSORTED, least_next_after};
-use crate::system::GALILEO_SATELLITES;
+use gnss_system::MOST_SATELLITES;
 use std::marker::Model;
 
 /// Number of entries for each satellite in the table that finds a cell by its satellite and signal:
 /// more than a system has signals.
 pub(crate) const SATELLITE_SLOTS: usize = 32;
 
-/// Number of entries of the table: those of each number of a Galileo satellite, and of 0, which no
+/// Number of entries of the table: those of each number of a satellite, and of 0, which no
 /// satellite has.
-const SLOTS: usize = SATELLITE_SLOTS * (GALILEO_SATELLITES as usize + 1);
+const SLOTS: usize = SATELLITE_SLOTS * (MOST_SATELLITES as usize + 1);
 
 /// A list of at most `MOST_CELLS` cells of one system, and a table that finds a cell by its key:
 /// its satellite and signal.

@@ -5,12 +5,13 @@ ghost use Rattle.std.specs.List.{list_any};
 ghost use Rattle.gnss_obs.specs.Values.{AreHeld, cells_of, has_value, satellites_written, is_written, written_among};
 ghost use Rattle.gnss_obs.specs.Values.{most_written, run};
 ghost use Rattle.gnss_obs.specs.Order.{AreSorted};
-ghost use Rattle.gnss_obs.specs.Satellites.{satellites as satellites_in};
+ghost use Rattle.gnss_system.specs.declared.system.System.{System};
+ghost use Rattle.gnss_system.specs.Satellites.{satellites as satellites_in};
 
 use crate::arrivals::Arrivals;
 use crate::cell::{Cell, StationValues};
-use crate::system::System;
 use crate::time::GpsTime;
+use gnss_system::{SYSTEMS, System};
 use std::marker::Model;
 
 /// Largest number of cells of one system that an epoch keeps.
@@ -24,21 +25,21 @@ pub struct Epoch {
 }
 
 impl Model for Epoch {
-    ghost use Rattle.gnss_obs.specs.Values.{Closed};
+    ghost use Rattle.gnss_system.specs.declared.system.System.{System};
+    ghost use Rattle.gnss_obs.specs.Values.{Closed, cells_of};
     ghost use Rattle.gnss_obs.specs.Order.{AreSorted};
 
     ghost Value = { Closed };
 
     ghost view = { λ e. e.cells };
 
-    ghost invariant = { λ e. AreSorted e.cells.epoch.gps × AreSorted e.cells.epoch.galileo };
+    ghost invariant = { λ e. (s : System) → AreSorted (cells_of s e.cells.epoch) };
 }
 
 impl Epoch {
     /// Returns the epoch of these cells.
     pub(crate) fn of(cells: Arrivals) -> Epoch
-        requires gps { AreSorted cells.epoch.gps }
-        requires galileo { AreSorted cells.epoch.galileo }
+        requires { (s : System) → AreSorted (cells_of s cells.epoch) }
         ensures { result ≡ cells }
     {
         Epoch { cells }
@@ -97,7 +98,12 @@ impl Epoch {
     pub fn has_satellites(&self) -> bool
         ensures { result ≡ nat_lt 0 (satellites_written self.now.epoch) }
     {
-        has_value(self.cells(System::Gps)) || has_value(self.cells(System::Galileo))
+        for i in 0..SYSTEMS.len() {
+            if has_value(self.cells(System::at(i))) {
+                return true;
+            }
+        }
+        false
     }
 }
 

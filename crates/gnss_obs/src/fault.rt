@@ -1,5 +1,5 @@
 //! The reasons why a plan or a gatherer is refused.
-use crate::system::System;
+use gnss_system::System;
 use std::fmt::{self, Debug, Display, Formatter, Write};
 use thiserror::Error;
 
@@ -13,7 +13,7 @@ pub enum PlanFault {
     /// The code or signal of this system at this index, from 0 on, is repeated.
     #[error("RepeatedCode {} {}", char::from(.0.letter()), .1)]
     RepeatedCode(System, usize),
-    /// No signal of either system is wanted.
+    /// No signal of any system is wanted.
     #[error("NothingPlanned")]
     NothingPlanned,
     /// The start week is greater than 99,999.

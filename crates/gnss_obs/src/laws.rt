@@ -3,8 +3,8 @@ ghost use Rattle.std.specs.Prelude.{◌≡◌, ◌+◌, ◌*◌, ◌^◌, ◌<�
 ghost use Rattle.gnss_obs.specs.LockTimes.{last4, last7, least4, least7};
 ghost use Rattle.gnss_obs.specs.Rounding.{IsNearest, nearest};
 ghost use Rattle.gnss_obs.specs.Observables.{nearest_pseudorange, nearest_phase, nearest_doppler, nearest_strength};
-ghost use Rattle.gnss_obs.specs.Signals.{SignalAt, IsSignal, greatest_signal_id, after, id_of, code_of, hertz_of};
-ghost use Rattle.gnss_obs.specs.Signals.{signal_of_id, signal_of_code};
+ghost use Rattle.gnss_system.specs.Signals.{SignalAt, IsSignal, greatest_signal_id, after, id_of, code_of, hertz_of};
+ghost use Rattle.gnss_system.specs.Signals.{signal_of_id, signal_of_code};
 ghost use Rattle.gnss_obs.specs.Weeks.{week, weeks};
 ghost use Rattle.gnss_obs.specs.Dates.{IsCivilOf, civil_of};
 ghost use Rattle.gnss_obs.specs.Plans.{CodesNameTheirSignals};

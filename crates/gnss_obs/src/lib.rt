@@ -6,7 +6,6 @@
 #![tactic(auto)]
 
 mod arrivals;
-mod by_system;
 mod cell;
 mod cells;
 mod civil;
@@ -22,17 +21,17 @@ mod rounding;
 mod satellite;
 mod signal;
 mod signals;
-mod system;
-mod tables;
 mod thousandths;
 mod time;
 
 pub use arrivals::Added;
-pub use by_system::BySystem;
 pub use cell::{Cell, GREATEST_COORDINATE, LEAST_COORDINATE, StationValues};
 pub use civil::Civil;
 pub use epoch::{Epoch, MOST_CELLS, end_of, is_written};
 pub use fault::PlanFault;
+pub use gnss_system::{
+    BySystem, GALILEO_SATELLITES, GALILEO_SIGNAL_COUNT, GPS_SATELLITES, GPS_SIGNAL_COUNT, System,
+};
 pub use lock::{Lock, is_lost};
 pub use observables::{doppler, phase, pseudorange, strength, strength_digit};
 pub use pending::Pending;
@@ -40,7 +39,5 @@ pub use plan::Plan;
 pub use satellite::Sat;
 pub use signal::Signal;
 pub use signals::Signals;
-pub use system::{GALILEO_SATELLITES, GPS_SATELLITES, System};
-pub use tables::{GALILEO_SIGNAL_COUNT, GPS_SIGNAL_COUNT};
 pub use thousandths::Thousandths;
 pub use time::{GpsTime, WEEK, WEEKS};

@@ -4,7 +4,7 @@ ghost use Rattle.std.specs.Option.{option_map, ForSome};
 ghost use Rattle.gnss_obs.specs.Rounding.{IsRounded};
 ghost use Rattle.gnss_obs.specs.Observables.{light, nearest_pseudorange, nearest_phase, nearest_doppler};
 ghost use Rattle.gnss_obs.specs.Observables.{nearest_strength, strength_digit};
-ghost use Rattle.gnss_obs.specs.Signals.{hertz_of};
+ghost use Rattle.gnss_system.specs.Signals.{hertz_of};
 
 use crate::rounding::nearest_whole;
 use crate::{Signal, Thousandths};

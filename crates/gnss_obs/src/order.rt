@@ -3,7 +3,7 @@ ghost use Rattle.std.specs.Prelude.{◌≡◌, ◌+◌, ◌*◌, ◌<◌, ◌≤
 ghost use Rattle.gnss_obs.specs.Arriving.{sorted_cells, AreBelow, HasSatellites};
 ghost use Rattle.gnss_obs.specs.PlanOrder.{AreInPlanOrder};
 ghost use Rattle.gnss_obs.specs.Order.{IsLeastNext, unsorted};
-ghost use Rattle.gnss_obs.specs.Satellites.{satellites};
+ghost use Rattle.gnss_system.specs.Satellites.{satellites};
 ghost use Rattle.gnss_obs.specs.SignalLists.{indices, IsOf};
 ghost use Rattle.gnss_obs.specs.Values.{AreHeld, planned_of};
 
@@ -11,7 +11,7 @@ use crate::cell::Cell;
 use crate::cells::{Cells, SATELLITE_SLOTS};
 use crate::plan::Plan;
 use crate::signal::Signal;
-use crate::system::System;
+use gnss_system::System;
 
 /// Kept in place of the least next number if the numbers so far don't rise.
 pub(crate) const UNSORTED: usize = 2_048;

@@ -1,19 +1,23 @@
 //! Plans: the wanted signals of each system.
-ghost use Rattle.std.specs.Prelude.{◌≡◌, ◌<◌, ◌≤◌, ◌+◌, [], true, length, slice_index, IfErr, IsOk, Err};
-ghost use Rattle.gnss_obs.specs.declared.system.System.TheVariants.{Gps, Galileo};
-ghost use Rattle.gnss_obs.specs.Signals.{table};
+ghost use Rattle.std.specs.Prelude.{◌≡◌, ◌<◌, ◌≤◌, ◌+◌, [], true, length, slice_index, codes, IfErr, IsOk, Err};
+ghost use Rattle.gnss_system.specs.declared.system.System.{System};
+ghost use Rattle.gnss_system.specs.declared.system.System.TheVariants.{Gps, Galileo};
+ghost use Rattle.gnss_system.specs.Systems.{systems};
+ghost use Rattle.gnss_system.specs.SystemValues.{value_of, tabulate, map_by, of_two};
+ghost use Rattle.std.specs.List.{sum_by};
+ghost use Rattle.gnss_system.specs.Signals.{table};
 ghost use Rattle.gnss_obs.specs.Order.{Rise};
 ghost use Rattle.gnss_obs.specs.Values.{planned_of};
 ghost use Rattle.gnss_obs.specs.Plans.{plan_of, planned_signal, signals_of, signals_coded, place_in};
+ghost use Rattle.gnss_obs.specs.Plans.{is_none_planned};
 ghost use Rattle.gnss_obs.specs.SignalLists.{indices, IsOf, ArePlanned, HasEvery, IsPushed};
 ghost use Rattle.gnss_obs.specs.SignalLists.{TakesCode, RefusesCode, IsDefined, DoneOr, IsUnfitAfter, IsUnfit};
-ghost use Rattle.gnss_obs.specs.SignalLists.{IsMade, IsPlanResult};
+ghost use Rattle.gnss_obs.specs.SignalLists.{IsMade, IsPlanResult, IsUnplanned, AreRead, AreAdded};
 
-use crate::by_system::BySystem;
 use crate::fault::PlanFault;
 use crate::signal::Signal;
 use crate::signals::Signals;
-use crate::system::System;
+use gnss_system::{BySystem, SYSTEMS, System};
 use std::alloc::Global;
 use std::marker::Model;
 
@@ -25,77 +29,94 @@ pub struct Plan {
 }
 
 impl Model for Plan {
-    ghost use Rattle.gnss_obs.specs.declared.system.System.TheVariants.{Gps, Galileo};
+    ghost use Rattle.gnss_system.specs.declared.system.System.{System};
+    ghost use Rattle.gnss_system.specs.SystemValues.{value_of, map_by};
     ghost use Rattle.gnss_obs.specs.Values.{PlanValue};
     ghost use Rattle.gnss_obs.specs.SignalLists.{indices, IsOf};
 
     ghost Value = { PlanValue };
 
-    ghost view = { λ p. record { gps = indices p.signals.gps; galileo = indices p.signals.galileo } };
+    ghost view = { λ p. map_by indices p.signals };
 
-    ghost invariant = { λ p. IsOf Gps p.signals.gps × IsOf Galileo p.signals.galileo };
+    ghost invariant = { λ p. (s : System) → IsOf s (value_of s p.signals) };
 }
 
 impl Plan {
-    /// Parses a plan from one text for each system. A text is `all` for all signals in the order of
+    /// Parses a plan from a text for GPS and one for Galileo, as `parse_all` does.
+    ///
+    /// # Errors
+    ///
+    /// As of `parse_all`.
+    pub fn parse(alloc: Global, gps: &str, galileo: &str) -> Result<Plan, PlanFault>
+        ensures { IsDefined (plan_of (of_two gps.now galileo.now (codes "none"))) result }
+    {
+        Plan::parse_all(alloc, &BySystem { gps, galileo })
+    }
+
+    /// Parses a plan from a text for each system. A text is `all` for all signals in the order of
     /// the system's table, `none`, or a list of signal codes separated by single commas, such as
-    /// `1C,2W`. An empty text is a list of one unknown code. The GPS text is parsed first, each
-    /// text from the left.
+    /// `1C,2W`. An empty text is a list of one unknown code. The texts are parsed in the order of
+    /// the systems, each from the left.
     ///
     /// # Errors
     ///
     /// The first fault: `UnknownCode` for a code that isn't in the system's table, `RepeatedCode`
-    /// for a repeated code, `NothingPlanned` if both texts are `none`, `Memory` if an allocation
+    /// for a repeated code, `NothingPlanned` if all texts are `none`, `Memory` if an allocation
     /// failed.
-    pub fn parse(alloc: Global, gps: &str, galileo: &str) -> Result<Plan, PlanFault>
-        ensures { IsDefined (plan_of gps.now galileo.now) result }
+    pub fn parse_all(alloc: Global, texts: &BySystem<&str>) -> Result<Plan, PlanFault>
+        ensures { IsDefined (plan_of (map_by (λ t. t.now) texts.now)) result }
     {
-        let mut first = Signals::new(alloc);
-        let mut second = Signals::new(alloc);
-        let read = read_signals(&mut first, System::Gps, gps);
-        let also_read = read_signals(&mut second, System::Galileo, galileo);
-        Plan::with(read.and(also_read), first, second)
+        let mut lists = no_signals(alloc);
+        let read = read_all(&mut lists, texts);
+        Plan::with(read, lists)
     }
 
-    /// Returns the plan of these signals in this order.
+    /// Returns the plan of these signals of GPS and Galileo in this order, as `from_lists` does.
     ///
     /// # Errors
     ///
-    /// `NothingPlanned` if there is no signal, else the first fault, GPS before Galileo and from
-    /// the left: `UnknownCode` for a signal of the other system, `RepeatedCode` for a repeated
-    /// signal, `Memory` if an allocation failed.
+    /// As of `from_lists`.
     pub fn from_signals(
         alloc: Global,
         gps: &[Signal],
         galileo: &[Signal],
     ) -> Result<Plan, PlanFault>
-        ensures cases { IsPlanResult gps.now galileo.now result }
+        ensures cases { IsPlanResult (of_two gps.now galileo.now []) result }
         ensures planned { IsOf Gps gps.now → IsOf Galileo galileo.now → 0 < length gps.now + length galileo.now
             → IfErr result (λ e. e ≡ PlanFault.Memory) }
     {
-        let mut first = Signals::new(alloc);
-        let mut second = Signals::new(alloc);
-        let added = add_signals(&mut first, System::Gps, gps);
-        let also_added = add_signals(&mut second, System::Galileo, galileo);
-        Plan::with(added.and(also_added), first, second)
+        Plan::from_lists(alloc, &BySystem { gps, galileo })
+    }
+
+    /// Returns the plan of these signals of each system in this order.
+    ///
+    /// # Errors
+    ///
+    /// `NothingPlanned` if there is no signal, else the first fault, in the order of the systems
+    /// and from the left: `UnknownCode` for a signal of another system, `RepeatedCode` for a
+    /// repeated signal, `Memory` if an allocation failed.
+    pub fn from_lists(alloc: Global, signals: &BySystem<&[Signal]>) -> Result<Plan, PlanFault>
+        ensures cases { IsPlanResult (map_by (λ l. l.now) signals.now) result }
+        ensures planned { ((s : System) → IsOf s (value_of s signals.now).now)
+            → 0 < sum_by (λ s. length (value_of s signals.now).now) systems → IfErr result (λ e. e ≡ PlanFault.Memory) }
+    {
+        let mut lists = no_signals(alloc);
+        let added = add_all(&mut lists, signals);
+        Plan::with(added, lists)
     }
 
     // Returns the plan of these signals, if they were added without a fault and there is one.
-    fn with(added: Added, gps: Signals, galileo: Signals) -> Result<Plan, PlanFault>
-        requires { IsOk added → IsOf Gps gps × IsOf Galileo galileo }
-        ensures { IsMade added gps galileo result }
+    fn with(added: Added, lists: BySystem<Signals>) -> Result<Plan, PlanFault>
+        requires { IsOk added → (s : System) → IsOf s (value_of s lists) }
+        ensures { IsMade added lists result }
     {
         let fault = match added {
             Err(fault) => fault,
-            Ok(()) if gps.is_empty() && galileo.is_empty() => PlanFault::NothingPlanned,
-            Ok(()) => {
-                let signals = BySystem { gps, galileo };
-                return Ok(Plan { signals });
-            }
+            Ok(()) if is_none_planned(&lists) => PlanFault::NothingPlanned,
+            Ok(()) => return Ok(Plan { signals: lists }),
         };
         // A call drops a list with less proof than the end of its scope.
-        drop(gps);
-        drop(galileo);
+        drop(lists);
         Err(fault)
     }
 
@@ -168,7 +189,55 @@ impl Plan {
 // The functions that can fail append to lists of the caller, so none of them has to free a list.
 type Added = Result<(), PlanFault>;
 
-// Appends these signals of a system: none of the other system, none twice.
+// Returns an empty list for each system.
+fn no_signals(alloc: Global) -> BySystem<Signals>
+    ensures { result ≡ tabulate (λ s. []) }
+{
+    BySystem {
+        gps: Signals::new(alloc),
+        galileo: Signals::new(alloc),
+    }
+}
+
+// Returns whether there is no signal of a system.
+fn is_none_planned(lists: &BySystem<Signals>) -> bool
+    ensures { result ≡ is_none_planned lists.now }
+{
+    for i in 0..SYSTEMS.len() {
+        if !lists.of(System::at(i)).is_empty() {
+            return false;
+        }
+    }
+    true
+}
+
+// Appends the signals of the text of each system.
+fn read_all(lists: &mut BySystem<Signals>, texts: &BySystem<&str>) -> Added
+    requires { lists.old ≡ tabulate (λ s. []) }
+    ensures { DoneOr (λ e. plan_of (map_by (λ t. t.now) texts.now) ≡ Err e)
+        (AreRead (map_by (λ t. t.now) texts.now) lists.new) result }
+{
+    for i in 0..SYSTEMS.len() {
+        let system = System::at(i);
+        read_signals(lists.of_mut(system), system, texts.of(system))?;
+    }
+    Ok(())
+}
+
+// Appends the signals of each system.
+fn add_all(lists: &mut BySystem<Signals>, signals: &BySystem<&[Signal]>) -> Added
+    requires { lists.old ≡ tabulate (λ s. []) }
+    ensures { DoneOr (IsUnplanned (map_by (λ l. l.now) signals.now))
+        (AreAdded (map_by (λ l. l.now) signals.now) lists.new) result }
+{
+    for i in 0..SYSTEMS.len() {
+        let system = System::at(i);
+        add_signals(lists.of_mut(system), system, signals.of(system))?;
+    }
+    Ok(())
+}
+
+// Appends these signals of a system: none of another system, none twice.
 fn add_signals(added: &mut Signals, system: System, signals: &[Signal]) -> Added
     requires { added.old ≡ [] }
     ensures { DoneOr (IsUnfit system signals.now) ((added.new ≡ signals.now) × IsOf system signals.now) result }

@@ -1,8 +1,8 @@
 //! Satellites of a system, by their numbers.
 ghost use Rattle.std.specs.Prelude.{◌≡◌, ◌≤◌, ◌↔◌, IsSome};
-ghost use Rattle.gnss_obs.specs.Satellites.{Satellite, IsSatellite, satellites, satellite_of_id};
+ghost use Rattle.gnss_system.specs.Satellites.{Satellite, IsSatellite, satellites, satellite_of_id};
 
-use crate::System;
+use gnss_system::System;
 use std::marker::Model;
 
 /// A satellite: GPS 1 to 32 or Galileo 1 to 36.

@@ -1,10 +1,9 @@
 //! Signals of a system, found by signal ID, by RINEX code or by index.
 ghost use Rattle.std.specs.Prelude.{◌≡◌, ◌<◌, ◌≤◌};
-ghost use Rattle.gnss_obs.specs.Signals.{SignalAt, IsSignal, signal_at, signal_of_id, signal_of_code, code_of};
-ghost use Rattle.gnss_obs.specs.Signals.{hertz_of, id_of, greatest_signal_id};
+ghost use Rattle.gnss_system.specs.Signals.{SignalAt, IsSignal, signal_at, signal_of_id, signal_of_code, code_of};
+ghost use Rattle.gnss_system.specs.Signals.{hertz_of, most_hertz, id_of, greatest_signal_id};
 
-use crate::System;
-use crate::tables::NO_ROW;
+use gnss_system::{NO_ROW, System};
 use std::marker::Model;
 
 /// A signal of a system: a row of the table of its signals.
@@ -101,7 +100,7 @@ impl Signal {
     pub fn hertz(self) -> u32
         ensures value { result ≡ hertz_of self }
         ensures positive { 0 < result }
-        ensures bound { result ≤ 1575420000 }
+        ensures bound { result ≤ most_hertz }
     {
         self.system.row().signals[self.index as usize].2
     }

@@ -1,15 +1,15 @@
 //! Lists of distinct signals of one system.
 ghost use Rattle.std.specs.Prelude.{◌≡◌, ◌↔◌, ◌==◌, [], IsTrue, length, true, false, Ok, OnErr};
 ghost use Rattle.std.specs.List.{list_any};
-ghost use Rattle.gnss_obs.specs.declared.system.System.{System};
-ghost use Rattle.gnss_obs.specs.Signals.{SignalAt, signal_at};
+ghost use Rattle.gnss_system.specs.declared.system.System.{System};
+ghost use Rattle.gnss_system.specs.Signals.{SignalAt, signal_at};
 ghost use Rattle.gnss_obs.specs.Order.{Rise};
 ghost use Rattle.gnss_obs.specs.Plans.{place_in, planned_signal};
 ghost use Rattle.gnss_obs.specs.SignalLists.{indices, IsAdded, IsOf};
 
 use crate::order::{UNSORTED, least_next_after};
 use crate::signal::Signal;
-use crate::tables::{GALILEO_SIGNAL_COUNT, NO_ROW};
+use gnss_system::{MOST_SIGNALS, NO_ROW};
 use indexmap::IndexSet;
 use std::alloc::{AllocError, Global};
 use std::marker::Model;
@@ -19,8 +19,8 @@ use std::marker::Model;
 pub struct Signals {
     order: IndexSet<Signal>,
     // The index of each signal in `order`, by its index in the table of its system, so that no
-    // search asks the set. The table of Galileo is the longest.
-    places: [Option<usize>; GALILEO_SIGNAL_COUNT],
+    // search asks the set.
+    places: [Option<usize>; MOST_SIGNALS],
     // The index of each signal in the table of its system, by its ID, or `NO_ROW`.
     rows_by_id: [u8; 33],
     // The least index in the table that may follow if the signals' indices rise, or `UNSORTED`.
@@ -29,7 +29,7 @@ pub struct Signals {
 
 impl Model for Signals {
     ghost use Rattle.std.specs.Prelude.{List, ◌≡◌, length};
-    ghost use Rattle.gnss_obs.specs.Signals.{SignalAt};
+    ghost use Rattle.gnss_system.specs.Signals.{SignalAt};
     ghost use Rattle.gnss_obs.specs.Order.{IsLeastNext};
     ghost use Rattle.gnss_obs.specs.SignalLists.{indices, AreFound, AreRows};
 
@@ -48,7 +48,7 @@ impl Signals {
     {
         Signals {
             order: IndexSet::new(alloc),
-            places: [None; GALILEO_SIGNAL_COUNT],
+            places: [None; MOST_SIGNALS],
             rows_by_id: [NO_ROW; 33],
             least_next: 0,
         }

@@ -1,8 +1,11 @@
 -- Counting cell by cell gives the counts of the whole message.
-use Rattle.std.proofs.Common.{◌≡◌, ℕ, ◌+◌, ◌≤◌, Bool, true, false, not, ◌||◌, ◌&&◌, List, [], ◌∷◌, ◌++◌, filter, refl, sym, ap, ap₂, ◌∙◌, subst, arith, length, append_assoc, append-nil, length-append, nat_le, if◌then◌else◌, cond, count_by, length-take-le, take_all}
+use Rattle.std.proofs.Common.{◌≡◌, ℕ, ◌+◌, ◌≤◌, Bool, true, false, not, ◌||◌, ◌&&◌, List, [], ◌∷◌, ◌++◌, filter, refl, sym, ap, ap₂, ◌∙◌, subst, arith, length, append_assoc, append-nil, length-append, nat_le, if◌then◌else◌, cond, count_by, length-take-le, take_all, flat_map, ◌==◌}
+use Rattle.std.proofs.lemmas.List.Concat.{length-flat_map}
+use Rattle.gnss_system.specs.Systems.{systems}
+use Rattle.gnss_system.proofs.SystemLaws.{system_same, any_system, sum_grown}
 use Rattle.std.proofs.lemmas.List.Sums.{sum_by-cons}
 use Rattle.std.proofs.lemmas.List.Folds.{list_any-append}
-use Rattle.obs_epoch.specs.Names.{System, Gps, Galileo, Crowded, Kept, Repeated, Skipped, count_in, GatherSetup, HeardCell, no_counts, counts_of, is_of_system, is_among, kept, kept_of_both, is_planned, has_same_key, most_cells, CellCounts}
+use Rattle.obs_epoch.specs.Names.{System, is_system, list_any, Crowded, Kept, Repeated, Skipped, count_in, GatherSetup, HeardCell, no_counts, counts_of, is_of_system, is_among, kept, kept_of_all, is_planned, has_same_key, most_cells, CellCounts}
 use Rattle.obs_epoch.proofs.CellsLemmas.{kept-add, mine, mine-among, among-push, same_key_laws, key_system}
 use Rattle.obs_epoch.proofs.NotingLemmas.{kept_apart}
 use Rattle.obs_epoch.proofs.LoadLemmas.{counts_after, outcome_after, planned_one}
@@ -11,13 +14,25 @@ use Rattle.std.proofs.lemmas.Grind.{common_steps}
 or_false : (a : Bool) → (a || false) ≡ a
 or_false a = grind (arith, common_steps)
 
--- A key is among the kept cells of both systems exactly if it is among those of its system.
-both-among : (xs : List HeardCell) (p : HeardCell) → is_among (kept_of_both xs) p ≡ is_among (kept p.satellite.system xs) p
-both-among xs p = list_any-append (has_same_key p) (kept Gps xs) (kept Galileo xs) ∙ by p.satellite.system refl where
-  by : (system : System) → p.satellite.system ≡ system → (is_among (kept Gps xs) p || is_among (kept Galileo xs) p) ≡ is_among (kept p.satellite.system xs) p
-  by Gps e =
-      ap (λ b. is_among (kept Gps xs) p || b) (kept_apart Galileo xs p (grind (arith, e))) ∙ or_false (is_among (kept Gps xs) p) ∙ ap (λ c. is_among (kept c xs) p) (sym e)
-  by Galileo e = ap (λ b. b || is_among (kept Galileo xs) p) (kept_apart Gps xs p (grind (arith, e))) ∙ ap (λ c. is_among (kept c xs) p) (sym e)
+-- A key is among the kept cells of all systems exactly if it is among those of its system.
+among_over : (ss : List System) (xs : List HeardCell) (p : HeardCell) → is_among (flat_map (λ s. kept s xs) ss) p ≡ (list_any (is_system p.satellite.system) ss && is_among (kept p.satellite.system xs) p)
+among_over [] xs p = refl
+among_over (c ∷ ss) xs p =
+    list_any-append (has_same_key p) (kept c xs) (flat_map (λ s. kept s xs) ss) ∙ ap (λ b. is_among (kept c xs) p || b) (among_over ss xs p)
+    ∙ by (is_system p.satellite.system c) (list_any (is_system p.satellite.system) ss) refl where
+      once : (a b : Bool) → (a || (b && a)) ≡ ((true || b) && a)
+      once a b = grind (arith, common_steps)
+
+      turned : (a b : ℕ) → (a == b) ≡ false → (b == a) ≡ false
+      turned a b e = grind (arith, e)
+
+      by : (a b : Bool) → is_system p.satellite.system c ≡ a → (is_among (kept c xs) p || (b && is_among (kept p.satellite.system xs) p)) ≡ ((a || b) && is_among (kept p.satellite.system xs) p)
+      by true b e =
+          ap (λ (d : System). is_among (kept d xs) p || (b && is_among (kept p.satellite.system xs) p)) (sym (system_same p.satellite.system c e)) ∙ once (is_among (kept p.satellite.system xs) p) b
+      by false b e = ap (λ a. a || (b && is_among (kept p.satellite.system xs) p)) (kept_apart c xs p (turned _ _ e))
+
+both-among : (xs : List HeardCell) (p : HeardCell) → is_among (kept_of_all xs) p ≡ is_among (kept p.satellite.system xs) p
+both-among xs p = among_over systems xs p ∙ ap (λ b. b && is_among (kept p.satellite.system xs) p) (any_system p.satellite.system)
 
 own : (system : System) (x : HeardCell) → x.satellite.system ≡ system → is_of_system system x ≡ true
 own system x e = grind (arith, common_steps, e)
@@ -45,40 +60,37 @@ length-add : (system : System) (xs : List HeardCell) (y : HeardCell) (b : Bool) 
     → length (kept system (xs ++ y ∷ [])) ≡ length (kept system xs) + (if b then 1 else 0)
 length-add system xs y b e = grind (arith, common_steps, kept-add, length-append)
 
-not_own : (here other : System) (y : HeardCell) → y.satellite.system ≡ here → (is_of_system other y ≡ false) → (a n : Bool) → (is_of_system other y && not (a || n)) ≡ false
-not_own here other y e f a n = ap (λ b. b && not (a || n)) f
-
-not_galileo : (y : HeardCell) → y.satellite.system ≡ Gps → is_of_system Galileo y ≡ false
-not_galileo y e = grind (arith, e)
-
-not_gps : (y : HeardCell) → y.satellite.system ≡ Galileo → is_of_system Gps y ≡ false
-not_gps y e = grind (arith, e)
+not_own : (other : System) (y : HeardCell) → (is_of_system other y ≡ false) → (a n : Bool) → (is_of_system other y && not (a || n)) ≡ false
+not_own other y f a n = ap (λ b. b && not (a || n)) f
 
 -- The number of kept cells after one more cell.
 both-length : (xs : List HeardCell) (y : HeardCell) (a n : Bool) → is_among (kept y.satellite.system xs) y ≡ a → nat_le most_cells (length (kept y.satellite.system xs)) ≡ n
-    → length (kept_of_both (xs ++ y ∷ [])) ≡ length (kept_of_both xs) + (if not (a || n) then 1 else 0)
+    → length (kept_of_all (xs ++ y ∷ [])) ≡ length (kept_of_all xs) + (if not (a || n) then 1 else 0)
 both-length xs y a n e f =
-    length-append (kept Gps (xs ++ y ∷ [])) (kept Galileo (xs ++ y ∷ [])) ∙ by y.satellite.system refl
-    ∙ ap (λ k. k + (if not (a || n) then 1 else 0)) (sym (length-append (kept Gps xs) (kept Galileo xs))) where
-      -- The kept cells of its system, and those of the other one.
+    length-flat_map (λ s. kept s (xs ++ y ∷ [])) systems
+    ∙ sum_grown (λ s. length (kept s xs)) (λ s. length (kept s (xs ++ y ∷ []))) y.satellite.system (if not (a || n) then 1 else 0) (λ t. by t (is_system y.satellite.system t) refl)
+    ∙ ap (λ k. k + (if not (a || n) then 1 else 0)) (sym (length-flat_map (λ s. kept s xs) systems)) where
+      -- The kept cells of its system, and those of another one.
       own_length : (system : System) → y.satellite.system ≡ system → length (kept system (xs ++ y ∷ [])) ≡ length (kept system xs) + (if not (a || n) then 1 else 0)
       own_length system s = length-add system xs y (not (a || n)) (ap₂ (λ b c. b && c) (own system y s)
           (ap not (ap₂ (λ b c. b || c) (ap (λ c. is_among (kept c xs) y) (sym s) ∙ e) (ap (λ c. nat_le most_cells (length (kept c xs))) (sym s) ∙ f))))
 
-      other_length : (here system : System) → y.satellite.system ≡ here → is_of_system system y ≡ false → length (kept system (xs ++ y ∷ [])) ≡ length (kept system xs) + 0
-      other_length here system s other = length-add system xs y false (not_own here system y s other (is_among (kept system xs) y) (nat_le most_cells (length (kept system xs))))
+      other_length : (system : System) → is_of_system system y ≡ false → length (kept system (xs ++ y ∷ [])) ≡ length (kept system xs) + 0
+      other_length system other = length-add system xs y false (not_own system y other (is_among (kept system xs) y) (nat_le most_cells (length (kept system xs))))
 
-      by : (system : System) → y.satellite.system ≡ system
-          → length (kept Gps (xs ++ y ∷ [])) + length (kept Galileo (xs ++ y ∷ [])) ≡ (length (kept Gps xs) + length (kept Galileo xs)) + (if not (a || n) then 1 else 0)
-      by Gps s = let p = own_length Gps s in let q = other_length Gps Galileo s (not_galileo y s) in omega (arith, p, q)
-      by Galileo s = let p = own_length Galileo s in let q = other_length Galileo Gps s (not_gps y s) in omega (arith, p, q)
+      turned : (a b : ℕ) → (a == b) ≡ false → (b == a) ≡ false
+      turned a b e = grind (arith, e)
+
+      by : (t : System) (b : Bool) → is_system y.satellite.system t ≡ b → length (kept t (xs ++ y ∷ [])) ≡ length (kept t xs) + (if b then (if not (a || n) then 1 else 0) else 0)
+      by t true h = own_length t (system_same y.satellite.system t h)
+      by t false h = other_length t (turned _ _ h)
 
 self_system : (y : HeardCell) → is_of_system y.satellite.system y ≡ true
 self_system y = grind (arith, common_steps)
 
 -- Whether the key of the new cell is kept then.
 now-among : (xs ys : List HeardCell) (y : HeardCell) (a n : Bool) → is_among (kept y.satellite.system xs) y ≡ a → nat_le most_cells (length (kept y.satellite.system xs)) ≡ n
-    → is_among (kept_of_both ((xs ++ y ∷ []) ++ ys)) y ≡ (a || not n)
+    → is_among (kept_of_all ((xs ++ y ∷ []) ++ ys)) y ≡ (a || not n)
 now-among xs ys y a n e f =
     both-among ((xs ++ y ∷ []) ++ ys) y ∙ known-more y.satellite.system (xs ++ y ∷ []) ys y (self_system y) (among-push xs y y ∙ ap (λ b. is_among xs y || b) (same_key_laws.refl y) ∙ or_true (is_among xs y))
     ∙ ap (λ l. is_among l y) (kept-add y.satellite.system xs y)
@@ -122,8 +134,8 @@ planned s ys = filter (is_planned s) ys
 
 abbrev Tally : GatherSetup → List HeardCell → CellCounts → List HeardCell → Type 0
 Tally s xs n ys =
-    Sums (counts_after s xs n ys) n (length (kept_of_both xs)) (length (kept_of_both (xs ++ planned s ys))) (count_by (λ x. not (is_planned s x)) ys)
-    (count_by (is_among (kept_of_both (xs ++ planned s ys))) (planned s ys)) (count_by (λ x. not (is_among (kept_of_both (xs ++ planned s ys)) x)) (planned s ys))
+    Sums (counts_after s xs n ys) n (length (kept_of_all xs)) (length (kept_of_all (xs ++ planned s ys))) (count_by (λ x. not (is_planned s x)) ys)
+    (count_by (is_among (kept_of_all (xs ++ planned s ys))) (planned s ys)) (count_by (λ x. not (is_among (kept_of_all (xs ++ planned s ys)) x)) (planned s ys))
 
 count_cons : (p : HeardCell → Bool) (x : HeardCell) (xs : List HeardCell) → count_by p (x ∷ xs) ≡ (if p x then 1 else 0) + count_by p xs
 count_cons p x xs = sum_by-cons (λ y. cond (p y) 1 0) x xs
@@ -132,8 +144,8 @@ tally_step : (s : GatherSetup) (xs : List HeardCell) (n : CellCounts) (y : Heard
 tally_step s xs n y ys h =
     change (sym skips) (sym (knows (is_planned s y))) (sym (crowds (is_planned s y)))
     (one_sum (is_planned s y) a f
-    (subst (λ w. Sums (counts_after s (xs ++ planned_one s y) (count_in (outcome_after s xs y) n) ys) (count_in (outcome_after s xs y) n) (length (kept_of_both (xs ++ planned_one s y))) (length (kept_of_both w)) (count_by (λ x. not (is_planned s x)) ys)
-    (count_by (is_among (kept_of_both w)) (planned s ys)) (count_by (λ x. not (is_among (kept_of_both w) x)) (planned s ys))) (whole (is_planned s y)) h)
+    (subst (λ w. Sums (counts_after s (xs ++ planned_one s y) (count_in (outcome_after s xs y) n) ys) (count_in (outcome_after s xs y) n) (length (kept_of_all (xs ++ planned_one s y))) (length (kept_of_all w)) (count_by (λ x. not (is_planned s x)) ys)
+    (count_by (is_among (kept_of_all w)) (planned s ys)) (count_by (λ x. not (is_among (kept_of_all w) x)) (planned s ys))) (whole (is_planned s y)) h)
     (before (is_planned s y))) where
       a : Bool
       a = is_among (kept y.satellite.system xs) y
@@ -145,28 +157,28 @@ tally_step s xs n y ys h =
       whole true = append_assoc xs (y ∷ []) (planned s ys)
       whole false = append_assoc xs [] (planned s ys)
 
-      before : (b : Bool) → length (kept_of_both (xs ++ (if b then y ∷ [] else []))) ≡ length (kept_of_both xs) + (if b then (if not (a || f) then 1 else 0) else 0)
+      before : (b : Bool) → length (kept_of_all (xs ++ (if b then y ∷ [] else []))) ≡ length (kept_of_all xs) + (if b then (if not (a || f) then 1 else 0) else 0)
       before true = both-length xs y a f refl refl
-      before false = ap (λ l. length (kept_of_both l)) (append-nil xs) ∙ (let none : length (kept_of_both xs) ≡ length (kept_of_both xs) + 0 = omega arith in none)
+      before false = ap (λ l. length (kept_of_all l)) (append-nil xs) ∙ (let none : length (kept_of_all xs) ≡ length (kept_of_all xs) + 0 = omega arith in none)
 
       skips : count_by (λ x. not (is_planned s x)) (y ∷ ys) ≡ (if not (is_planned s y) then 1 else 0) + count_by (λ x. not (is_planned s x)) ys
       skips = count_cons (λ x. not (is_planned s x)) y ys
 
-      now : is_among (kept_of_both (xs ++ y ∷ planned s ys)) y ≡ (a || not f)
-      now = ap (λ l. is_among (kept_of_both l) y) (sym (append_assoc xs (y ∷ []) (planned s ys))) ∙ now-among xs (planned s ys) y a f refl refl
+      now : is_among (kept_of_all (xs ++ y ∷ planned s ys)) y ≡ (a || not f)
+      now = ap (λ l. is_among (kept_of_all l) y) (sym (append_assoc xs (y ∷ []) (planned s ys))) ∙ now-among xs (planned s ys) y a f refl refl
 
-      knows : (b : Bool) → count_by (is_among (kept_of_both (xs ++ cond b (y ∷ planned s ys) (planned s ys)))) (cond b (y ∷ planned s ys) (planned s ys))
-          ≡ (if b then (if (a || not f) then 1 else 0) else 0) + count_by (is_among (kept_of_both (xs ++ cond b (y ∷ planned s ys) (planned s ys)))) (planned s ys)
+      knows : (b : Bool) → count_by (is_among (kept_of_all (xs ++ cond b (y ∷ planned s ys) (planned s ys)))) (cond b (y ∷ planned s ys) (planned s ys))
+          ≡ (if b then (if (a || not f) then 1 else 0) else 0) + count_by (is_among (kept_of_all (xs ++ cond b (y ∷ planned s ys) (planned s ys)))) (planned s ys)
       knows true =
-          count_cons (is_among (kept_of_both (xs ++ y ∷ planned s ys))) y (planned s ys)
-          ∙ ap (λ b. (if b then 1 else 0) + count_by (is_among (kept_of_both (xs ++ y ∷ planned s ys))) (planned s ys)) now
+          count_cons (is_among (kept_of_all (xs ++ y ∷ planned s ys))) y (planned s ys)
+          ∙ ap (λ b. (if b then 1 else 0) + count_by (is_among (kept_of_all (xs ++ y ∷ planned s ys))) (planned s ys)) now
       knows false = let none : (n : ℕ) → n ≡ 0 + n = λ n. omega arith in none _
 
-      crowds : (b : Bool) → count_by (λ x. not (is_among (kept_of_both (xs ++ cond b (y ∷ planned s ys) (planned s ys))) x)) (cond b (y ∷ planned s ys) (planned s ys))
-          ≡ (if b then (if not (a || not f) then 1 else 0) else 0) + count_by (λ x. not (is_among (kept_of_both (xs ++ cond b (y ∷ planned s ys) (planned s ys))) x)) (planned s ys)
+      crowds : (b : Bool) → count_by (λ x. not (is_among (kept_of_all (xs ++ cond b (y ∷ planned s ys) (planned s ys))) x)) (cond b (y ∷ planned s ys) (planned s ys))
+          ≡ (if b then (if not (a || not f) then 1 else 0) else 0) + count_by (λ x. not (is_among (kept_of_all (xs ++ cond b (y ∷ planned s ys) (planned s ys))) x)) (planned s ys)
       crowds true =
-          count_cons (λ x. not (is_among (kept_of_both (xs ++ y ∷ planned s ys)) x)) y (planned s ys)
-          ∙ ap (λ b. (if not b then 1 else 0) + count_by (λ x. not (is_among (kept_of_both (xs ++ y ∷ planned s ys)) x)) (planned s ys)) now
+          count_cons (λ x. not (is_among (kept_of_all (xs ++ y ∷ planned s ys)) x)) y (planned s ys)
+          ∙ ap (λ b. (if not b then 1 else 0) + count_by (λ x. not (is_among (kept_of_all (xs ++ y ∷ planned s ys)) x)) (planned s ys)) now
       crowds false = let none : (n : ℕ) → n ≡ 0 + n = λ n. omega arith in none _
 
 tally : (s : GatherSetup) (xs : List HeardCell) (n : CellCounts) (ys : List HeardCell) → Tally s xs n ys

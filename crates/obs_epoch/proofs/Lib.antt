@@ -21,3 +21,4 @@ mod ReachLemmas
 mod SignalCountsLemmas
 pub mod SignalNumbers
 pub mod ViewLemmas
+mod PlaceLemmas

@@ -1,6 +1,9 @@
 -- The cells of one more message, kept one by one, are the kept cells of the longer list.
-use Rattle.std.proofs.Common.{[], ◌≡◌, ℕ, suc, Bool, true, false, not, ◌||◌, ◌&&◌, List, ◌∷◌, ◌++◌, filter, refl, sym, ap, ap₂, ◌∙◌, arith, length, append_assoc, append-nil, Option, nat_le, if◌then◌else◌, cond}
-use Rattle.obs_epoch.specs.Names.{System, Gps, Galileo, CellOutcome, Crowded, Kept, Repeated, Skipped, count_in, lookup, outcome_of, is_held, GatherSetup, HeardCell, kept_cell, is_of_system, is_among, kept, add, is_planned, has_same_key, lli_with, GathererValue, with_more, outcome_in, hold, hold_by, load, PlanValue, planned_of, most_cells, EpochValue, cells_of, insert_by, sort_key_of, sorted, cell_sort_key, Cell, KnownLock, CellCounts}
+use Rattle.std.proofs.Common.{[], ◌≡◌, ℕ, suc, Bool, true, false, not, ◌||◌, ◌&&◌, List, ◌∷◌, ◌++◌, filter, refl, sym, ap, ap₂, ◌∙◌, subst, ◌==◌, arith, length, append_assoc, append-nil, Option, nat_le, if◌then◌else◌, cond}
+use Rattle.obs_epoch.specs.Names.{System, is_system, CellOutcome, Crowded, Kept, Repeated, Skipped, count_in, lookup, outcome_of, is_held, GatherSetup, HeardCell, kept_cell, is_of_system, is_among, kept, add, is_planned, has_same_key, lli_with, GathererValue, with_more, outcome_in, hold, hold_by, load, PlanValue, planned_of, most_cells, EpochValue, cells_of, insert_by, sort_key_of, sorted, cell_sort_key, Cell, KnownLock, CellCounts}
+use Rattle.gnss_system.specs.SystemValues.{value_of, with_value_of, tabulate}
+use Rattle.gnss_system.specs.declared.by_system.BySystem.{BySystem}
+use Rattle.gnss_system.proofs.SystemLaws.{equal_values, value_tabulated, value_after, value_of_other, system_same, system_self}
 use Rattle.obs_epoch.proofs.CellsLemmas.{kept-add}
 use Rattle.obs_epoch.proofs.OrderLemmas.{sorted-push, among-sorted, length-sorted}
 use Rattle.std.proofs.lemmas.Grind.{common_steps}
@@ -30,7 +33,7 @@ with_lli_by-held f t (x ∷ xs) y = ap (λ b. has_same_key y x || b) (with_lli_b
 
 -- The epoch of time t after these cells.
 abbrev pub epoch_of : PlanValue → (HeardCell → Option KnownLock) → ℕ → List HeardCell → EpochValue
-epoch_of p f t xs = record { time = t; gps = with_lli_by f t (sorted p.gps (kept Gps xs)); galileo = with_lli_by f t (sorted p.galileo (kept Galileo xs)) }
+epoch_of p f t xs = record { time = t; cells = tabulate (λ system. with_lli_by f t (sorted (planned_of system p) (kept system xs))) }
 
 -- The outcome of a cell after these cells.
 abbrev pub outcome_after : GatherSetup → List HeardCell → HeardCell → CellOutcome
@@ -41,12 +44,12 @@ abbrev pub planned_one : GatherSetup → HeardCell → List HeardCell
 planned_one s x = if is_planned s x then x ∷ [] else []
 
 cells_in_of : (system : System) (p : PlanValue) (f : HeardCell → Option KnownLock) (t : ℕ) (xs : List HeardCell) → cells_of system (epoch_of p f t xs) ≡ with_lli_by f t (sorted (planned_of system p) (kept system xs))
-cells_in_of system p f t xs = grind (arith, common_steps)
+cells_in_of system p f t xs = value_tabulated system (λ system. with_lli_by f t (sorted (planned_of system p) (kept system xs)))
 
 pub outcome_is : (s : GatherSetup) (f : HeardCell → Option KnownLock) (t : ℕ) (xs : List HeardCell) (x : HeardCell) → outcome_of s (cells_of x.satellite.system (epoch_of s.plan f t xs)) x ≡ outcome_after s xs x
 outcome_is s f t xs x = grind (arith, common_steps, cells_in_of, with_lli_by-held, among-sorted, with_lli_by-length, length-sorted)
 
--- The cells of the other system don't change.
+-- The cells of another system don't change.
 add_other : (system : System) (ks : List HeardCell) (x : HeardCell) → is_of_system system x ≡ false → add system ks x ≡ ks
 add_other system ks x h = ap (λ b. if b && not (is_among ks x || nat_le most_cells (length ks)) then ks ++ x ∷ [] else ks) h
 
@@ -57,15 +60,60 @@ abbrev pub epoch_by : PlanValue → CellOutcome → (HeardCell → Option KnownL
 epoch_by p Kept f e x = with_more p e (kept_cell x (lli_with e.time x (f x)))
 epoch_by p _ f e x = e
 
+-- The same kept cells give the same epoch.
+same_epoch : (p : PlanValue) (f : HeardCell → Option KnownLock) (t : ℕ) (xs ys : List HeardCell) → ((system : System) → kept system xs ≡ kept system ys) → epoch_of p f t xs ≡ epoch_of p f t ys
+same_epoch p f t xs ys same = ap (λ cells. record { time = t; cells = cells }) (equal_values _ _ (λ system.
+    cells_in_of system p f t xs ∙ ap (λ ks. with_lli_by f t (sorted (planned_of system p) ks)) (same system) ∙ sym (cells_in_of system p f t ys)))
+
+turned : (a b : ℕ) → (a == b) ≡ false → (b == a) ≡ false
+turned a b e = grind (arith, e)
+
+-- A cell that isn't kept changes no system's kept cells.
+kept_same : (xs : List HeardCell) (x : HeardCell) → (is_among (kept x.satellite.system xs) x || nat_le most_cells (length (kept x.satellite.system xs))) ≡ true → (system : System) → kept system xs ≡ kept system (xs ++ x ∷ [])
+kept_same xs x full system = sym (kept-add system xs x ∙ by (is_system x.satellite.system system) refl) where
+  by : (b : Bool) → is_system x.satellite.system system ≡ b → add system (kept system xs) x ≡ kept system xs
+  by true e = subst (λ (s : System). add s (kept s xs) x ≡ kept s xs) (system_same x.satellite.system system e)
+      (add_own x.satellite.system (kept x.satellite.system xs) x (system_self x.satellite.system x.satellite.system refl) ∙ ap (λ b. if b then kept x.satellite.system xs else kept x.satellite.system xs ++ x ∷ []) full)
+  by false e = add_other system (kept system xs) x (turned _ _ e)
+
+-- A cell that is kept is inserted into the cells of its system.
+kept_more : (p : PlanValue) (f : HeardCell → Option KnownLock) (t : ℕ) (xs : List HeardCell) (x : HeardCell) → (is_among (kept x.satellite.system xs) x || nat_le most_cells (length (kept x.satellite.system xs))) ≡ false
+    → epoch_by p Kept f (epoch_of p f t xs) x ≡ epoch_of p f t (xs ++ x ∷ [])
+kept_more p f t xs x room = ap (λ cells. record { time = t; cells = cells }) (equal_values _ _ (λ system. by system (is_system x.satellite.system system) refl)) where
+  own : System
+  own = x.satellite.system
+
+  before : BySystem (List Cell)
+  before = (epoch_of p f t xs).cells
+
+  more : List Cell
+  more = insert_by (cell_sort_key (planned_of own p)) (kept_cell x (lli_with t x (f x))) (cells_of own (epoch_of p f t xs))
+
+  at_own : value_of own (with_value_of own before more) ≡ with_lli_by f t (sorted (planned_of own p) (kept own (xs ++ x ∷ [])))
+  at_own =
+      value_after own before more ∙ ap (insert_by (cell_sort_key (planned_of own p)) (kept_cell x (lli_with t x (f x)))) (cells_in_of own p f t xs)
+      ∙ sym (with_lli_by-push (planned_of own p) f t (kept own xs) x)
+      ∙ ap (λ ks. with_lli_by f t (sorted (planned_of own p) ks))
+      (sym (kept-add own xs x ∙ add_own own (kept own xs) x (system_self own own refl) ∙ ap (λ b. if b then kept own xs else kept own xs ++ x ∷ []) room))
+
+  by : (system : System) (b : Bool) → is_system own system ≡ b → value_of system (with_value_of own before more) ≡ cells_of system (epoch_of p f t (xs ++ x ∷ []))
+  by system true e =
+      subst (λ (s : System). value_of s (with_value_of own before more) ≡ with_lli_by f t (sorted (planned_of s p) (kept s (xs ++ x ∷ [])))) (system_same own system e) at_own ∙ sym (cells_in_of system p f t (xs ++ x ∷ []))
+  by system false e =
+      value_of_other own system before more e ∙ cells_in_of system p f t xs
+      ∙ ap (λ ks. with_lli_by f t (sorted (planned_of system p) ks)) (sym (kept-add system xs x ∙ add_other system (kept system xs) x (turned _ _ e)))
+      ∙ sym (cells_in_of system p f t (xs ++ x ∷ []))
+
 -- After one more cell, the pending epoch is that of the longer list.
 one_more : (s : GatherSetup) (f : HeardCell → Option KnownLock) (t : ℕ) (xs : List HeardCell) (x : HeardCell)
     → epoch_by s.plan (outcome_after s xs x) f (epoch_of s.plan f t xs) x ≡ epoch_of s.plan f t (xs ++ planned_one s x)
-one_more s f t xs x = by x.satellite.system (is_planned s x) refl refl refl refl where
-  by : (system : System) (p : Bool) {a n : Bool} → x.satellite.system ≡ system → is_planned s x ≡ p → is_among (kept system xs) x ≡ a → nat_le most_cells (length (kept system xs)) ≡ n
+one_more s f t xs x = by (is_planned s x) (is_among (kept x.satellite.system xs) x) (nat_le most_cells (length (kept x.satellite.system xs))) refl refl where
+  by : (p a n : Bool) → is_among (kept x.satellite.system xs) x ≡ a → nat_le most_cells (length (kept x.satellite.system xs)) ≡ n
       → epoch_by s.plan (if p then (if a then Repeated else (if n then Crowded else Kept)) else Skipped) f (epoch_of s.plan f t xs) x ≡ epoch_of s.plan f t (xs ++ (if p then x ∷ [] else []))
-  by system false g e h k = ap (epoch_of s.plan f t) (sym (append-nil xs))
-  by Gps true g e h k = grind (arith, common_steps, kept-add, add_other, add_own, with_lli_by-push)
-  by Galileo true g e h k = grind (arith, common_steps, kept-add, add_other, add_own, with_lli_by-push)
+  by false a n h k = ap (epoch_of s.plan f t) (sym (append-nil xs))
+  by true true n h k = same_epoch s.plan f t xs (xs ++ x ∷ []) (kept_same xs x (ap (λ b. b || nat_le most_cells (length (kept x.satellite.system xs))) h))
+  by true false true h k = same_epoch s.plan f t xs (xs ++ x ∷ []) (kept_same xs x (ap₂ (λ a b. a || b) h k))
+  by true false false h k = kept_more s.plan f t xs x (ap₂ (λ a b. a || b) h k)
 
 -- The counts after these cells, one by one.
 abbrev pub counts_after : GatherSetup → List HeardCell → CellCounts → List HeardCell → CellCounts

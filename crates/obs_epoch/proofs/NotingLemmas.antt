@@ -1,11 +1,14 @@
 -- A closing: the locks of the pending epoch are recorded.
-use Rattle.std.proofs.Common.{◌≡◌, ℕ, true, false, List, [], ◌∷◌, ◌++◌, filter, refl, sym, ap, ap₂, ◌∙◌, subst, arith, length, append_assoc, append-nil, Option, Some, None, flat_map, find, option_and_then, filter_map, unwrap_or}
+use Rattle.std.proofs.Common.{◌≡◌, ℕ, true, false, List, [], ◌∷◌, ◌++◌, filter, refl, sym, ap, ap₂, ◌∙◌, subst, arith, length, append_assoc, append-nil, Option, Some, None, flat_map, find, option_and_then, filter_map, unwrap_or, fold, ◌==◌, ◌||◌, Bool, if◌then◌else◌}
 use Rattle.std.specs.Option.{option_or}
-use Rattle.std.specs.List.{IsDistinct, cons_option}
+use Rattle.std.specs.List.{IsDistinct, cons_option, list_any}
+use Rattle.gnss_system.specs.Systems.{systems}
+use Rattle.gnss_system.proofs.SystemLaws.{system_same, any_system}
+use Rattle.obs_epoch.specs.Held.{note_systems}
 use Rattle.std.proofs.lemmas.List.Elements.{filter-append}
 use Rattle.std.proofs.lemmas.Grind.{flat_map-append}
 use Rattle.std.proofs.lemmas.Map.Keys.{IsDistinct-push}
-use Rattle.obs_epoch.specs.Names.{System, Gps, Galileo, GatherSetup, HeardCell, Timed, is_at, is_of_system, has_listed_key, is_planned, is_among, kept, cells_at, add, offered, has_same_key, planned_of, EpochValue, lock_of, locked_at, latest_in, last_of, is_locked, cells_with_lli, epoch_at, lookup, note_all, most_locks, TracksLocks, GathererValue, noted, locked_in, Locked, Cell, KnownLock}
+use Rattle.obs_epoch.specs.Names.{System, is_system, GatherSetup, HeardCell, Timed, is_at, is_of_system, has_listed_key, is_planned, is_among, kept, cells_at, add, offered, has_same_key, planned_of, EpochValue, lock_of, locked_at, latest_in, last_of, is_locked, cells_with_lli, epoch_at, lookup, note_all, most_locks, TracksLocks, GathererValue, noted, locked_in, Locked, Cell, KnownLock}
 use Rattle.obs_epoch.proofs.OrderLemmas.{among-sorted, all-sorted, distinct-sorted}
 use Rattle.obs_epoch.proofs.CellsLemmas.{kept-add, same_key_laws}
 use Rattle.obs_epoch.proofs.LockLemmas.{seens, lookup-note_all, note_all_size, tracks_all, locked, find_none, AllListed}
@@ -94,56 +97,63 @@ seens_with_lli : (s : GatherSetup) (xs : List Timed) (t : ℕ) (ks : List HeardC
 seens_with_lli s xs t [] = refl
 seens_with_lli s xs t (k ∷ ks) = ap (λ l. k ∷ l) (seens_with_lli s xs t ks)
 
--- The records after an epoch is recorded.
-noted_found : (s : GatherSetup) (xs : List Timed) (ts : List ℕ) (t : ℕ) (rs : List (Option KnownLock)) (key : HeardCell) → length rs ≡ most_locks → lookup rs key ≡ latest_in s xs ts key
-    → lookup (note_all t (note_all t rs (cells_with_lli s xs t (cells_at s t xs Gps))) (cells_with_lli s xs t (cells_at s t xs Galileo))) key ≡ latest_in s xs (ts ++ t ∷ []) key
-noted_found s xs ts t rs key size h =
-    lookup-note_all t (note_all t rs gps) galileo key (subst (IsDistinct has_same_key) (sym (seens_with_lli s xs t (cells_at s t xs Galileo))) (at_distinct s t xs Galileo))
-    (are_listed Galileo) (note_all_size t rs gps ∙ size)
-    ∙ ap₂ (λ l o. option_or (option_and_then (lock_of t) (find (has_same_key key) l)) o) (seens_with_lli s xs t (cells_at s t xs Galileo))
-    (lookup-note_all t rs gps key (subst (IsDistinct has_same_key) (sym (seens_with_lli s xs t (cells_at s t xs Gps))) (at_distinct s t xs Gps)) (are_listed Gps) size
-    ∙ ap₂ (λ l o. option_or (option_and_then (lock_of t) (find (has_same_key key) l)) o) (seens_with_lli s xs t (cells_at s t xs Gps)) h)
-    ∙ by key.satellite.system refl ∙ sym (latest_in-push s xs ts t key) where
-      gps : List Cell
-      gps = cells_with_lli s xs t (cells_at s t xs Gps)
+abbrev cells_in : GatherSetup → List Timed → ℕ → System → List Cell
+cells_in s xs t system = cells_with_lli s xs t (cells_at s t xs system)
 
-      galileo : List Cell
-      galileo = cells_with_lli s xs t (cells_at s t xs Galileo)
+-- The records after the cells of these systems are recorded.
+abbrev noting : GatherSetup → List Timed → ℕ → List (Option KnownLock) → List System → List (Option KnownLock)
+noting s xs t rs ss = fold (λ l system. note_all t l (cells_in s xs t system)) rs ss
 
-      are_listed : (system : System) → AllListed (seens (cells_with_lli s xs t (cells_at s t xs system)))
-      are_listed system = subst AllListed (sym (seens_with_lli s xs t (cells_at s t xs system))) (kept_listed s t xs system)
+are_listed : (s : GatherSetup) (xs : List Timed) (t : ℕ) (system : System) → AllListed (seens (cells_in s xs t system))
+are_listed s xs t system = subst AllListed (sym (seens_with_lli s xs t (cells_at s t xs system))) (kept_listed s t xs system)
 
-      by : (system : System) → key.satellite.system ≡ system
-          → option_or (option_and_then (lock_of t) (find (has_same_key key) (cells_at s t xs Galileo))) (option_or (option_and_then (lock_of t) (find (has_same_key key) (cells_at s t xs Gps))) (latest_in s xs ts key))
-          ≡ option_or (option_and_then (lock_of t) (find (has_same_key key) (cells_at s t xs key.satellite.system))) (latest_in s xs ts key)
-      by Gps e =
-          ap (λ o. option_or (option_and_then (lock_of t) o) (option_or (option_and_then (lock_of t) (find (has_same_key key) (cells_at s t xs Gps))) (latest_in s xs ts key)))
-          (find_none key (cells_at s t xs Galileo) (at_apart s t xs Galileo key (grind (arith, e))))
-          ∙ ap (λ c. option_or (option_and_then (lock_of t) (find (has_same_key key) (cells_at s t xs c))) (latest_in s xs ts key)) (sym e)
-      by Galileo e =
-          ap (λ o. option_or (option_and_then (lock_of t) (find (has_same_key key) (cells_at s t xs Galileo))) (option_or (option_and_then (lock_of t) o) (latest_in s xs ts key)))
-          (find_none key (cells_at s t xs Gps) (at_apart s t xs Gps key (grind (arith, e))))
-          ∙ ap (λ c. option_or (option_and_then (lock_of t) (find (has_same_key key) (cells_at s t xs c))) (latest_in s xs ts key)) (sym e)
+found_over : (s : GatherSetup) (xs : List Timed) (t : ℕ) (key : HeardCell) (rs : List (Option KnownLock)) (ss : List System) → length rs ≡ most_locks
+    → lookup (noting s xs t rs ss) key ≡ option_or (if list_any (is_system key.satellite.system) ss then locked_at s xs key t else None) (lookup rs key)
+found_over s xs t key rs [] size = refl
+found_over s xs t key rs (c ∷ ss) size =
+    found_over s xs t key (note_all t rs (cells_in s xs t c)) ss (note_all_size t rs (cells_in s xs t c) ∙ size)
+    ∙ ap (option_or (if list_any (is_system key.satellite.system) ss then locked_at s xs key t else None)) one
+    ∙ by (is_system key.satellite.system c) (list_any (is_system key.satellite.system) ss) refl where
+      one : lookup (note_all t rs (cells_in s xs t c)) key ≡ option_or (option_and_then (lock_of t) (find (has_same_key key) (cells_at s t xs c))) (lookup rs key)
+      one =
+          lookup-note_all t rs (cells_in s xs t c) key (subst (IsDistinct has_same_key) (sym (seens_with_lli s xs t (cells_at s t xs c))) (at_distinct s t xs c)) (are_listed s xs t c) size
+          ∙ ap (λ l. option_or (option_and_then (lock_of t) (find (has_same_key key) l)) (lookup rs key)) (seens_with_lli s xs t (cells_at s t xs c))
 
-noted_tracks : (s : GatherSetup) (xs : List Timed) (ts : List ℕ) (t : ℕ) (rs : List (Option KnownLock)) → TracksLocks rs (locked_in s xs ts)
-    → TracksLocks (note_all t (note_all t rs (cells_with_lli s xs t (cells_at s t xs Gps))) (cells_with_lli s xs t (cells_at s t xs Galileo))) (locked_in s xs (ts ++ t ∷ []))
-noted_tracks s xs ts t rs h =
-    let gps = cells_at s t xs Gps in
-    let galileo = cells_at s t xs Galileo in
-    let first = tracks_all t rs (locked_in s xs ts) (cells_with_lli s xs t gps) (subst AllListed (sym (seens_with_lli s xs t gps)) (kept_listed s t xs Gps)) h in
-    let second = tracks_all t _ _ (cells_with_lli s xs t galileo) (subst AllListed (sym (seens_with_lli s xs t galileo)) (kept_listed s t xs Galileo)) first in
-    let is : (locked_in s xs ts ++ locked (seens (cells_with_lli s xs t gps))) ++ locked (seens (cells_with_lli s xs t galileo)) ≡ locked_in s xs (ts ++ t ∷ []) =
-    ap₂ (λ a b. (locked_in s xs ts ++ locked a) ++ locked b) (seens_with_lli s xs t gps) (seens_with_lli s xs t galileo)
-    ∙ append_assoc (locked_in s xs ts) (locked gps) (locked galileo) ∙ ap (λ l. locked_in s xs ts ++ l) (sym (filter-append is_locked gps galileo) ∙ sym (append-nil _))
-    ∙ sym (flat_map-append (λ u. filter is_locked (cells_at s u xs Gps ++ cells_at s u xs Galileo)) ts (t ∷ [])) in
-    subst (TracksLocks (note_all t (note_all t rs (cells_with_lli s xs t gps)) (cells_with_lli s xs t galileo))) is second
+      twice : (b : Bool) (l o : Option KnownLock) → option_or (if b then l else None) (option_or l o) ≡ option_or l o
+      twice b l o = grind (arith, common_steps)
+
+      turned : (a b : ℕ) → (a == b) ≡ false → (b == a) ≡ false
+      turned a b e = grind (arith, e)
+
+      by : (a b : Bool) → is_system key.satellite.system c ≡ a
+          → option_or (if b then locked_at s xs key t else None) (option_or (option_and_then (lock_of t) (find (has_same_key key) (cells_at s t xs c))) (lookup rs key))
+          ≡ option_or (if (a || b) then locked_at s xs key t else None) (lookup rs key)
+      by true b e =
+          ap (λ (d : System). option_or (if b then locked_at s xs key t else None) (option_or (option_and_then (lock_of t) (find (has_same_key key) (cells_at s t xs d))) (lookup rs key))) (sym (system_same key.satellite.system c e))
+          ∙ twice b (locked_at s xs key t) (lookup rs key)
+      by false b e =
+          ap (λ o. option_or (if b then locked_at s xs key t else None) (option_or (option_and_then (lock_of t) o) (lookup rs key)))
+          (find_none key (cells_at s t xs c) (at_apart s t xs c key (turned _ _ e)))
+
+tracks_over : (s : GatherSetup) (xs : List Timed) (t : ℕ) (rs : List (Option KnownLock)) (noted : List HeardCell) (ss : List System) → TracksLocks rs noted
+    → TracksLocks (noting s xs t rs ss) (noted ++ filter is_locked (flat_map (cells_at s t xs) ss))
+tracks_over s xs t rs noted [] h = subst (TracksLocks rs) (sym (append-nil noted)) h
+tracks_over s xs t rs noted (c ∷ ss) h =
+    subst (TracksLocks (noting s xs t (note_all t rs (cells_in s xs t c)) ss))
+    (ap (λ l. (noted ++ locked l) ++ filter is_locked (flat_map (cells_at s t xs) ss)) (seens_with_lli s xs t (cells_at s t xs c))
+    ∙ append_assoc noted (locked (cells_at s t xs c)) (filter is_locked (flat_map (cells_at s t xs) ss))
+    ∙ ap (λ l. noted ++ l) (sym (filter-append is_locked (cells_at s t xs c) (flat_map (cells_at s t xs) ss))))
+    (tracks_over s xs t (note_all t rs (cells_in s xs t c)) (noted ++ locked (seens (cells_in s xs t c))) ss (tracks_all t rs noted (cells_in s xs t c) (are_listed s xs t c) h))
 
 -- The pending epoch is closed.
 pub noted_locked : (g : GathererValue) (s : GatherSetup) (xs : List Timed) (ts : List ℕ) (t : ℕ) → g.epoch ≡ epoch_at s xs t → Locked g s xs ts → Locked (noted g) s xs (ts ++ t ∷ [])
 noted_locked g s xs ts t e h =
-    let is : (noted g).locks ≡ note_all t (note_all t g.locks (cells_with_lli s xs t (cells_at s t xs Gps))) (cells_with_lli s xs t (cells_at s t xs Galileo)) =
-    ap (λ (v : EpochValue). note_all v.time (note_all v.time g.locks v.gps) v.galileo) e in
+    let is : (noted g).locks ≡ noting s xs t g.locks systems = ap (λ (v : EpochValue). note_systems v g.locks systems) e in
     record {
-      found = λ key. ap (λ l. lookup l key) is ∙ noted_found s xs ts t g.locks key h.tracks.size (h.found key);
-      tracks = subst (λ l. TracksLocks l (locked_in s xs (ts ++ t ∷ []))) (sym is) (noted_tracks s xs ts t g.locks h.tracks);
+      found = λ key.
+          ap (λ l. lookup l key) is ∙ found_over s xs t key g.locks systems h.tracks.size
+          ∙ ap₂ (λ b o. option_or (if b then locked_at s xs key t else None) o) (any_system key.satellite.system) (h.found key) ∙ sym (latest_in-push s xs ts t key);
+      tracks = subst (λ l. TracksLocks l (locked_in s xs (ts ++ t ∷ []))) (sym is) (subst (TracksLocks (noting s xs t g.locks systems))
+          (ap (λ l. locked_in s xs ts ++ l) (sym (append-nil _)) ∙ sym (flat_map-append (λ u. filter is_locked (flat_map (cells_at s u xs) systems)) ts (t ∷ [])))
+          (tracks_over s xs t g.locks (locked_in s xs ts) systems h.tracks));
     }

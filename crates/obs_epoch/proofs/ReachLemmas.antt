@@ -1,11 +1,13 @@
 -- Bounds of the values of epochs.
-use Rattle.obs_epoch.specs.Names.{LockField, Df402, Df407, System, Gps, Galileo, Satellite, satellite_of_id, SignalAt, signal_of_id, hertz_of, nearest_pseudorange, nearest_phase, nearest_doppler, nearest_strength, LockTime, Entry, Message, Station, Msm4, Msm7, Other, IsMessage, IsMeasured, EntriesAreMeasured, PointsAreInRange, entries, StationValues, weeks, Closed, HasTwelveDigits, cells_of, planned_of, most_cells, GatherSetup, Heard, heard, observed, seen_in, lock_by, HeardCell, kept_cell, Timed, is_at, timed, timed_after, taken_at, is_of_system, is_planned, offered, firsts_after, firsts, kept, cells_at, has_same_key, times, lli_with, lli_of, has_lost, cells_with_lli, epoch_at, values_after_message, is_shut, open_after, before_closing, closed_list_at, all_epochs, IsHeardCell, IsHeard, IsStrength, IsGathered, same_place, AreGathered, AreStationValues, IsGatheredEpoch, TimesRise, AreGatheredEpochs, KnownLock}
+use Rattle.obs_epoch.specs.Names.{LockField, Df402, Df407, System, Satellite, satellite_of_id, SignalAt, signal_of_id, hertz_of, nearest_pseudorange, nearest_phase, nearest_doppler, nearest_strength, LockTime, Entry, Message, Station, Msm4, Msm7, Other, IsMessage, IsMeasured, EntriesAreMeasured, PointsAreInRange, entries, StationValues, weeks, Closed, HasTwelveDigits, cells_of, planned_of, most_cells, GatherSetup, Heard, heard, observed, seen_in, lock_by, HeardCell, kept_cell, Timed, is_at, timed, timed_after, taken_at, is_of_system, is_planned, offered, firsts_after, firsts, kept, cells_at, has_same_key, times, lli_with, lli_of, has_lost, cells_with_lli, epoch_at, values_after_message, is_shut, open_after, before_closing, closed_list_at, all_epochs, IsHeardCell, IsHeard, IsStrength, IsGathered, same_place, AreGathered, AreStationValues, IsGatheredEpoch, TimesRise, AreGatheredEpochs, KnownLock}
 use Rattle.std.proofs.Common.{◌≡◌, ℕ, zero, suc, ℤ, pos, ◌+◌, ◌*◌, ◌^◌, ◌<◌, ◌≤◌, ◌≤ℤ◌, Bool, true, false, List, [], ◌∷◌, ◌++◌, filter, take, ap, arith, Option, Some, None, nat_lt, is_some, unsigned_abs, if◌then◌else◌, flat_map, filter_map, option_map, option_and_then, IfSome, fold}
 use Rattle.std.specs.List.{AllByRecursion, IsDistinct, cons_option}
 use Rattle.rtcm_msg.specs.Msm.{week}
 use Rattle.obs_epoch.proofs.OrderLemmas.{all-sorted, distinct-sorted}
 use Rattle.obs_epoch.proofs.NotingLemmas.{kept_distinct}
 use Rattle.std.proofs.lemmas.Grind.{common_steps}
+use Rattle.gnss_system.proofs.SystemLaws.{value_tabulated}
+use Rattle.std.proofs.Common.{subst, sym}
 
 -- ---- properties of each item
 
@@ -170,8 +172,7 @@ cells_gathered : (s : GatherSetup) (xs : List Timed) (t : ℕ) (system : System)
 cells_gathered s xs t system h = grind (arith, common_steps, all_kept, each_gathered, places_apart, distinct-sorted, kept_distinct)
 
 gathered_at : (s : GatherSetup) (xs : List Timed) (t : ℕ) → AllByRecursion IsTimed xs → (system : System) → AreGathered system (planned_of system s.plan) (cells_of system ((epoch_at s xs t)))
-gathered_at s xs t h Gps = cells_gathered s xs t Gps h
-gathered_at s xs t h Galileo = cells_gathered s xs t Galileo h
+gathered_at s xs t h system = subst (AreGathered system (planned_of system s.plan)) (sym (value_tabulated system (λ c. cells_with_lli s xs t (cells_at s t xs c)))) (cells_gathered s xs t system h)
 
 -- ---- station values
 

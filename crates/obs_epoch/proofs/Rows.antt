@@ -44,7 +44,7 @@ cell l least = record {
 }
 
 abbrev small_lli : List EpochValue → List (List ℕ)
-small_lli es = map (λ (e : EpochValue). map (λ (m : Cell). m.lli) e.gps) es
+small_lli es = map (λ (e : EpochValue). map (λ (m : Cell). m.lli) e.cells.gps) es
 
 -- A lock of 4,096 ms, then an invalid phase, then a lock of 2,048 ms.
 abbrev three : List Heard

@@ -1,8 +1,7 @@
 -- The counts of the cells with a value, and of those of a message.
-use Rattle.obs_epoch.specs.Names.{LockField, System, Satellite, SignalAt, IsSignal, signal_of_id, LockTime, Entry, Heard, seen_in, observed, HeardCell, SignalCountsValue, brings_value, valued, is_of_signal, count_of, AreSignalCounts, cons_option, list_any}
+use Rattle.obs_epoch.specs.Names.{LockField, System, Satellite, SignalAt, IsSignal, signal_of_id, LockTime, Entry, Heard, seen_in, observed, HeardCell, SignalCountsValue, brings_value, valued, is_of_signal, count_of, AreSignalCounts, cons_option}
 use Rattle.rtcm_msg.specs.Presences.{has_value}
-use Rattle.std.proofs.Common.{◌≡◌, ℕ, zero, suc, nat_lt, nat_eq, not, replicate, ◌≤◌, Bool, List, [], ◌∷◌, ◌++◌, length, refl, sym, subst, arith, Option, Some, filter, is_some, filter_map, unwrap_or, option_map}
-use lib.Pointwise.{pointwise}
+use Rattle.std.proofs.Common.{◌≡◌, ℕ, ◌≤◌, Bool, List, [], ◌∷◌, ◌++◌, length, sym, subst, arith, Option, Some, filter, is_some, filter_map, unwrap_or, option_map}
 use Rattle.std.proofs.lemmas.List.Sums.{length-filter, count_by-le-length}
 use Rattle.std.proofs.lemmas.Grind.{common_steps}
 
@@ -14,15 +13,6 @@ few_passed p xs = omega (arith, length-filter p xs, count_by-le-length p xs)
 length-filter_map : {X Y : Type 0} (f : X → Option Y) (xs : List X) → length (filter_map f xs) ≤ length xs
 length-filter_map f [] = omega arith
 length-filter_map f (x ∷ xs) = grind (arith, common_steps, length-filter_map f xs)
-
--- ---- counts that are not all 0
-
-pub any_not_zero : (n : ℕ) (xs : List ℕ) → length xs ≡ n → list_any (λ x. nat_lt 0 x) xs ≡ not (pointwise nat_eq xs (replicate n 0))
-any_not_zero zero [] h = refl
-any_not_zero zero (x ∷ xs) h = grind arith
-any_not_zero (suc n) [] h = grind arith
-any_not_zero (suc n) (zero ∷ xs) h = any_not_zero n xs (omega (arith, h))
-any_not_zero (suc n) (suc x ∷ xs) h = grind (arith, common_steps)
 
 -- ---- the cells of a signal
 

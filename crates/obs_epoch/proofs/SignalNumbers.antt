@@ -2,12 +2,18 @@
 use Rattle.std.proofs.Common.{◌≡◌, ℕ, zero, suc, ◌+◌, ◌-◌, ◌<◌, ◌≤◌, ◌^◌, ◌==◌, ◌&&◌, ◌||◌, not, nat_le, List, [], ◌∷◌, ◌++◌, length, get_or, filter, Bool, true, false, Option, Some, None, refl, sym, ap, ◌∙◌, subst, arith, is_some, inl, inr, position, if◌then◌else◌, cond, filter_map, option_map, option_and_then, slice_get, length-set}
 use Rattle.std.proofs.lemmas.Bool.{cases_lt}
 use Rattle.std.proofs.lemmas.Grind.{common_steps}
+use Rattle.std.proofs.lemmas.List.{get_or-set_other}
 use Rattle.std.proofs.lemmas.List.Quantifiers.{position-Some}
-use Rattle.obs_epoch.specs.Names.{System, Gps, Galileo, ListedSignal, Satellite, is_system, satellite_of_id, SignalAt, IsSignal, id_of, table, signal_of_id, HeardCell, Entry, LockField, has_id, is_in, has_listed_value, value_count, seen_in, lock_by, observed, SignalCountsValue, signal_counts, counted, signal_in, counted_more, counted_more_in, satellite_set, up_by, brings_value, is_of_signal, count_of, CountsEntries, cons_option, option_map_or}
-use Rattle.gnss_obs.proofs.Checked.{passes_at, is_equal}
+use Rattle.obs_epoch.specs.Names.{System, ListedSignal, Satellite, is_system, satellite_of_id, SignalAt, IsSignal, id_of, table, signal_of_id, HeardCell, Entry, LockField, has_id, is_in, has_listed_value, value_count, seen_in, lock_by, observed, SignalCountsValue, signal_counts, counted, signal_in, counted_more, satellite_set, up_by, brings_value, is_of_signal, count_of, CountsEntries, cons_option, option_map_or}
+use Rattle.gnss_system.proofs.Checked.{passes_at, passes_below, is_equal}
 use Rattle.gnss_obs.proofs.TableLaws.{id_back, ids_within}
 use Rattle.rtcm_msg.proofs.ValueLaws.{count_first}
 use Rattle.obs_epoch.proofs.SignalCountsLemmas.{listed_of, value_same, one_first, few_of}
+use Rattle.gnss_system.proofs.SystemLaws.{each_system, value_after, value_of_other, system_same}
+use Rattle.rtcm_bits.specs.Bits.{odd}
+use Rattle.std.proofs.Common.{◌/◌}
+use Rattle.gnss_system.specs.Signals.{most_signals}
+use Rattle.gnss_system.specs.Satellites.{satellites}
 
 -- ---- signals and their IDs
 
@@ -22,9 +28,6 @@ one_way false false there back = refl
 both_of : (a b : Bool) → (a && b) ≡ true → (a ≡ true) × (b ≡ true)
 both_of true b h = (refl, h)
 both_of false b h = grind (arith, h)
-
-system_same : (a b : System) → is_system a b ≡ true → a ≡ b
-system_same a b h = grind (arith, common_steps, h)
 
 system_self : (a b : System) → a ≡ b → is_system a b ≡ true
 system_self a b h = grind (arith, common_steps, h)
@@ -95,16 +98,22 @@ from_same false false h = refl
 abbrev is_right : System → ℕ → Bool
 is_right system id = same (is_in (satellite_set system) id) (is_some (satellite_of_id system id))
 
+untrue : (b : Bool) → not b ≡ true → b ≡ false
+untrue true h = sym h
+untrue false h = refl
+
 in_set : (system : System) (id : ℕ) → is_in (satellite_set system) id ≡ is_some (satellite_of_id system id)
 unfolding same
-in_set Gps id = elim (cases_lt id 65) [
-  | inl below ↦ from_same _ _ (passes_at (is_right Gps) 65 id refl below)
-  | inr above ↦ let e : 64 - id ≡ 0 = omega (arith, above) in let f : nat_le id 32 ≡ false = grind (arith, above) in let g : nat_le 1 id ≡ true = grind (arith, above) in rw (e, f, g) refl
-]
-in_set Galileo id = elim (cases_lt id 65) [
-  | inl below ↦ from_same _ _ (passes_at (is_right Galileo) 65 id refl below)
-  | inr above ↦ let e : 64 - id ≡ 0 = omega (arith, above) in let f : nat_le id 36 ≡ false = grind (arith, above) in let g : nat_le 1 id ≡ true = grind (arith, above) in rw (e, f, g) refl
-]
+in_set system id = elim (cases_lt id 65) [
+  | inl below ↦ from_same _ _ (passes_at (is_right system) 65 id (each_system (λ s. passes_below (is_right s) 65) system refl) below)
+  | inr above ↦ past system id above (64 - id) (omega (arith, above))
+] where
+  past : (system : System) (id : ℕ) → 65 ≤ id → (n : ℕ) → n ≡ 0 → odd (satellite_set system / 2 ^ n) ≡ is_some (satellite_of_id system id)
+  past system id above n e =
+      let few = each_system (λ s. nat_le (satellites s) 63) system refl in
+      let f : nat_le id (satellites system) ≡ false = grind (arith, above, few) in
+      let g : nat_le 1 id ≡ true = grind (arith, above) in
+      rw (e, f, g) (untrue _ (each_system (λ s. not (odd (satellite_set s / 2 ^ 0))) system refl))
 
 -- ---- the entries of a signal
 
@@ -160,32 +169,62 @@ number system left counts g = if is_system system g.system && not (has_id (id_of
 
 -- From c to c' the numbers of the signals were added that are not left, unless a count is very large.
 pub record Adds (c c' : SignalCountsValue) (system : System) (left counts : List ℕ) : Type 0 where
-  pub gps : length c'.gps ≡ length c.gps
-  pub galileo : length c'.galileo ≡ length c.galileo
-  pub each : (s : System) (i : ℕ) → i < length (table s) → length (signal_counts s c) ≡ length (table s)
+  pub size : (s : System) → length (signal_counts s c') ≡ length (signal_counts s c)
+  pub each : (s : System) (i : ℕ) → i < length (table s) → length (signal_counts s c) ≡ most_signals
       → counted c s i < 2 ^ 63 → counted c' s i ≡ counted c s i + number system left counts (signal_in s i)
+  pub past : (s : System) (i : ℕ) → length (table s) ≤ i → counted c' s i ≡ counted c s i
+
+-- At the beginning a signal whose ID isn't among those left has no cell.
+pub number_none : (b h : Bool) (m n : ℕ) → (h ≡ false → m ≡ 0) → n ≡ n + (if b && not h then m else 0)
+number_none true false m n f = omega (arith, f refl)
+number_none true true m n f = omega arith
+number_none false h m n f = omega arith
 
 -- ---- one number more
+
+table_below : (s : System) → length (table s) ≤ most_signals
+table_below s = few _ (each_system (λ s. nat_le (length (table s)) most_signals) s refl) where
+  few : (n : ℕ) → nat_le n most_signals ≡ true → n ≤ most_signals
+  few n e = grind (arith, e)
 
 up_by_at : (n g i : ℕ) (xs : List ℕ) → i < length xs → get_or xs i 0 + n ≤ 2 ^ 64 - 1 → get_or (up_by n xs g) i 0 ≡ get_or xs i 0 + (if g == i then n else 0)
 up_by_at n g i xs within few = grind (arith, common_steps)
 
 more_at : (g : SignalAt) (n : ℕ) (c : SignalCountsValue) (s : System) (i : ℕ) → i < length (signal_counts s c) → counted c s i + n ≤ 2 ^ 64 - 1
     → counted (counted_more g n c) s i ≡ counted c s i + (if is_system s g.system && (g.index == i) then n else 0)
-more_at g n c s i within few = by g.system s within few where
-  by : (t s : System) → i < length (signal_counts s c) → counted c s i + n ≤ 2 ^ 64 - 1 → counted (counted_more_in t g.index n c) s i ≡ counted c s i + (if is_system s t && (g.index == i) then n else 0)
-  by Gps Gps within few = up_by_at n g.index i c.gps within few
-  by Gps Galileo within few = omega arith
-  by Galileo Gps within few = omega arith
-  by Galileo Galileo within few = up_by_at n g.index i c.galileo within few
+more_at g n c s i within few = by (is_system g.system s) refl where
+  turned : (a b : ℕ) (o : Bool) → (a == b) ≡ o → (b == a) ≡ o
+  turned a b o e = grind (arith, e)
 
-more_gps : (t : System) (j n : ℕ) (c : SignalCountsValue) → length (counted_more_in t j n c).gps ≡ length c.gps
-more_gps Gps j n c = length-set c.gps j _
-more_gps Galileo j n c = refl
+  by : (b : Bool) → is_system g.system s ≡ b → counted (counted_more g n c) s i ≡ counted c s i + (if is_system s g.system && (g.index == i) then n else 0)
+  by true e =
+      subst (λ (r : System). counted (counted_more g n c) r i ≡ counted c r i + (if (g.index == i) then n else 0)) (system_same g.system s e)
+      (ap (λ (l : List ℕ). get_or l i 0) (value_after g.system c (up_by n (signal_counts g.system c) g.index))
+      ∙ up_by_at n g.index i (signal_counts g.system c) (subst (λ (r : System). i < length (signal_counts r c)) (sym (system_same g.system s e)) within) (subst (λ (r : System). counted c r i + n ≤ 2 ^ 64 - 1) (sym (system_same g.system s e)) few))
+      ∙ ap (λ b. counted c s i + (if b && (g.index == i) then n else 0)) (sym (turned _ _ true e))
+  by false e =
+      ap (λ (l : List ℕ). get_or l i 0) (value_of_other g.system s c (up_by n (signal_counts g.system c) g.index) e)
+      ∙ more (counted c s i) ∙ ap (λ b. counted c s i + (if b && (g.index == i) then n else 0)) (sym (turned _ _ false e)) where
+        more : (n : ℕ) → n ≡ n + 0
+        more n = omega arith
 
-more_galileo : (t : System) (j n : ℕ) (c : SignalCountsValue) → length (counted_more_in t j n c).galileo ≡ length c.galileo
-more_galileo Gps j n c = refl
-more_galileo Galileo j n c = length-set c.galileo j _
+more_size : (g : SignalAt) (n : ℕ) (c : SignalCountsValue) (s : System) → length (signal_counts s (counted_more g n c)) ≡ length (signal_counts s c)
+more_size g n c s = by (is_system g.system s) refl where
+  by : (b : Bool) → is_system g.system s ≡ b → length (signal_counts s (counted_more g n c)) ≡ length (signal_counts s c)
+  by true e =
+      subst (λ (r : System). length (signal_counts r (counted_more g n c)) ≡ length (signal_counts r c)) (system_same g.system s e)
+      (ap (λ (l : List ℕ). length l) (value_after g.system c (up_by n (signal_counts g.system c) g.index)) ∙ length-set (signal_counts g.system c) g.index _)
+  by false e = ap (λ (l : List ℕ). length l) (value_of_other g.system s c (up_by n (signal_counts g.system c) g.index) e)
+
+-- The counts past the end of a table don't change.
+more_past : (g : SignalAt) (n : ℕ) (c : SignalCountsValue) (s : System) (i : ℕ) → IsSignal g → length (table s) ≤ i → counted (counted_more g n c) s i ≡ counted c s i
+more_past g n c s i listed past = by (is_system g.system s) refl where
+  by : (b : Bool) → is_system g.system s ≡ b → counted (counted_more g n c) s i ≡ counted c s i
+  by true e =
+      let own : length (table g.system) ≤ i = subst (λ (r : System). length (table r) ≤ i) (sym (system_same g.system s e)) past in
+      subst (λ (r : System). counted (counted_more g n c) r i ≡ counted c r i) (system_same g.system s e)
+      (ap (λ (l : List ℕ). get_or l i 0) (value_after g.system c (up_by n (signal_counts g.system c) g.index)) ∙ get_or-set_other (signal_counts g.system c) g.index i _ 0 (λ e. absurd (omega (arith, listed, own, e))))
+  by false e = ap (λ (l : List ℕ). get_or l i 0) (value_of_other g.system s c (up_by n (signal_counts g.system c) g.index) e)
 
 number_step : (b w h : Bool) (m n : ℕ) → (w ≡ true → (h ≡ false) × (m ≡ n)) → (if b && not h then m else 0) ≡ (if b && not (w || h) then m else 0) + (if b && w then n else 0)
 number_step false w h m n f = omega arith
@@ -203,9 +242,6 @@ first_number system left counts x n g is once =
     let e : x ≡ id_of g = is_equal x (id_of g) h in
     (subst (λ (y : ℕ). has_id y left ≡ false) e once, sym (is ∙ ap (λ (y : ℕ). get_or counts (y - 1) 0) e)))
 
-lengths : (c c' : SignalCountsValue) (s : System) → length c'.gps ≡ length c.gps → length c'.galileo ≡ length c.galileo → length (signal_counts s c') ≡ length (signal_counts s c)
-lengths c c' s e f = grind (arith, common_steps, e, f)
-
 join : {a b : ℕ} (c d e : ℕ) {f : ℕ} → a ≡ b + d → b ≡ c + e → f ≡ e + d → a ≡ c + f
 join c d e x y z = omega (arith, x, y, z)
 
@@ -215,12 +251,12 @@ room b c e n x y z w = omega (arith, x, y, z, w)
 pub adds_some : {c c' after : SignalCountsValue} {system : System} {all left counts : List ℕ} {x n : ℕ} {g : SignalAt} → Adds c c' system all counts → all ≡ x ∷ left → signal_of_id system x ≡ Some g → n ≡ get_or counts (x - 1) 0 → ((i : ℕ) → get_or counts i 0 ≤ 64)
     → has_id x left ≡ false → after ≡ counted_more g n c' → Adds c after system left counts
 adds_some {c} {c'} {system} {left} {counts} {x} {n} {g} a split some is few once made = rw made (record {
-  gps = more_gps g.system g.index n c' ∙ a.gps;
-  galileo = more_galileo g.system g.index n c' ∙ a.galileo;
+  size = λ s. more_size g n c' s ∙ a.size s;
+  past = λ s i out. more_past g n c' s i (listed_of system x g some).1 out ∙ a.past s i out;
   each = λ s i listed len small.
       let r = signal_in s i in
       let before : counted c' s i ≡ counted c s i + number system (x ∷ left) counts r = subst (λ (l : List ℕ). counted c' s i ≡ counted c s i + number system l counts r) split (a.each s i listed len small) in
-      let within : i < length (signal_counts s c') = omega (arith, listed, len, lengths c c' s a.gps a.galileo) in
+      let within : i < length (signal_counts s c') = omega (arith, listed, len, table_below s, a.size s) in
       let same = the_signal system x r g listed some in
       let step : number system left counts r ≡ number system (x ∷ left) counts r + (if is_system s g.system && (g.index == i) then n else 0) = first_number system left counts x n r is once ∙ rw same refl in
       join _ _ _ (more_at g n c' s i within (room _ _ _ n before small (number_few _ _ (few (id_of r - 1))) (omega (arith, is, few (x - 1))))) before step;
@@ -228,8 +264,8 @@ adds_some {c} {c'} {system} {left} {counts} {x} {n} {g} a split some is few once
 
 pub adds_none : {c c' : SignalCountsValue} {system : System} {all left counts : List ℕ} {x n : ℕ} → Adds c c' system all counts → all ≡ x ∷ left → signal_of_id system x ≡ None → n ≡ get_or counts (x - 1) 0 → has_id x left ≡ false → Adds c c' system left counts
 adds_none {c} {c'} {system} {left} {counts} {x} {n} a split none is once = record {
-  gps = a.gps;
-  galileo = a.galileo;
+  size = a.size;
+  past = a.past;
   each = λ s i listed len small.
       let r = signal_in s i in
       let before : counted c' s i ≡ counted c s i + number system (x ∷ left) counts r = subst (λ (l : List ℕ). counted c' s i ≡ counted c s i + number system l counts r) split (a.each s i listed len small) in
@@ -241,14 +277,14 @@ adds_none {c} {c'} {system} {left} {counts} {x} {n} a split none is once = recor
 
 pub finished : {c c' : SignalCountsValue} {system : System} {left counts : List ℕ} (es : List Entry) → Adds c c' system left counts → left ≡ [] → ((i : ℕ) → i < 32 → get_or counts i 0 ≡ value_count (satellite_set system) (i + 1) es) → CountsEntries c c' system es
 finished {c} {c'} {system} {counts} es a none numbers = λ field cells few h. record {
-  gps = a.gps ∙ h.gps;
-  galileo = a.galileo ∙ h.galileo;
+  size = λ s. a.size s ∙ h.size s;
+  past = λ s i out. a.past s i out ∙ h.past s i out;
   each = λ s i listed.
       let r = signal_in s i in
       let more : List HeardCell = filter brings_value (filter_map (seen_in field system) es) in
       let start : counted c s i ≡ count_of r cells = h.each s i listed in
       let small : counted c s i < 2 ^ 63 = below _ _ _ (length es) start (few_of r cells) few in
-      let before : counted c' s i ≡ counted c s i + number system [] counts r = subst (λ (l : List ℕ). counted c' s i ≡ counted c s i + number system l counts r) none (a.each s i listed (listed_lengths c s h.gps h.galileo) small) in
+      let before : counted c' s i ≡ counted c s i + number system [] counts r = subst (λ (l : List ℕ). counted c' s i ≡ counted c s i + number system l counts r) none (a.each s i listed (h.size s) small) in
       let total : count_of r more ≡ number system [] counts r = all_entries field system es r listed ∙ sym (last r listed (is_system system s)) in
       ended before start (count_append r cells more) total;
 } where
@@ -257,9 +293,6 @@ finished {c} {c'} {system} {counts} es a none numbers = λ field cells few h. re
 
   ended : {a b c d e f : ℕ} → a ≡ b + c → b ≡ d → e ≡ d + f → f ≡ c → a ≡ e
   ended x y z w = omega (arith, x, y, z, w)
-
-  listed_lengths : (c : SignalCountsValue) (s : System) → length c.gps ≡ length (table Gps) → length c.galileo ≡ length (table Galileo) → length (signal_counts s c) ≡ length (table s)
-  listed_lengths c s e f = grind (arith, common_steps, e, f)
 
   last : (r : SignalAt) → IsSignal r → (b : Bool) → (if b && true then get_or counts (id_of r - 1) 0 else 0) ≡ (if b then value_count (satellite_set system) (id_of r) es else 0)
   last r listed true =

@@ -1,7 +1,11 @@
 -- The value of a gatherer: with one more cell, after a message, and when its epoch is closed.
 use Rattle.std.proofs.Common.{◌≡◌, ℕ, ◌==◌, Bool, true, false, ◌||◌, List, [], ◌∷◌, ◌++◌, refl, sym, ap, ap₂, ◌∙◌, subst, arith, length, get_or, Option, Some, None, is_some, if◌then◌else◌, position}
 use Rattle.std.proofs.lemmas.List.Quantifiers.{position-Some}
-use Rattle.obs_epoch.specs.Names.{System, Gps, Galileo, Cell, EpochValue, PlanValue, planned_of, cells_of, PendingValue, note_all, KnownLock, place_in, is_planned, has_same_key, GatherSetup, Heard, IsKey, HeardCell, kept_cell, heard_cell, SortKey, insert_by, sort_key_of, cell_sort_key, Crowded, Kept, Repeated, lookup, outcome_of_added, values_after_message, StationValues, is_held, GathererValue, with_more_in, with_more, outcome_in, hold, hold_by, just_closed_as, noted, rested, with_time, IsPending, AreInPlanOrder, AreInOrder, Added, IsAdded, cells_after, epoch_with, outcome_by, sorted_cells, sorted_epoch, State, step_by, lli_with, option_map_or, AllByRecursion}
+use Rattle.obs_epoch.specs.Names.{System, Cell, EpochValue, PlanValue, planned_of, cells_of, PendingValue, KnownLock, place_in, is_planned, has_same_key, GatherSetup, Heard, IsKey, HeardCell, kept_cell, heard_cell, SortKey, insert_by, sort_key_of, cell_sort_key, Crowded, Kept, Repeated, lookup, outcome_of_added, values_after_message, StationValues, is_held, GathererValue, with_more_in, with_more, outcome_in, hold, hold_by, just_closed_as, noted, rested, with_time, IsPending, AreInPlanOrder, AreInOrder, Added, IsAdded, cells_after, epoch_with, outcome_by, sorted_cells, sorted_epoch, State, step_by, lli_with, option_map_or, AllByRecursion}
+use Rattle.gnss_system.specs.Systems.{systems}
+use Rattle.gnss_system.specs.SystemValues.{with_value_of, tabulate}
+use Rattle.gnss_system.proofs.SystemLaws.{each_after, value_tabulated, tabulated_after, with_same as same_after}
+use Rattle.obs_epoch.specs.Held.{note_systems}
 use Rattle.gnss_obs.proofs.SortLemmas.{sorted_again}
 use Rattle.gnss_obs.specs.declared.arrivals.Added.TheVariants as added
 use Rattle.std.proofs.lemmas.List.Sums.{fold-append}
@@ -52,7 +56,9 @@ stand_more system planned m ms a h s none = record {
 -- The epoch with one more cell is in order.
 pub order_more : (p : PlanValue) (e : EpochValue) (m : Cell) → is_some (place_in m.signal (planned_of m.satellite.system p)) ≡ true → AreInOrder p e
     → is_held (cells_of m.satellite.system e) (heard_cell m) ≡ false → AreInOrder p (with_more p e m)
-order_more p e m h o none = grind (arith, common_steps, stand_more)
+order_more p e m h o none =
+    each_after (λ s cells. AreInPlanOrder s (planned_of s p) cells) m.satellite.system e.cells (insert_by (cell_sort_key (planned_of m.satellite.system p)) m (cells_of m.satellite.system e)) o
+    (stand_more m.satellite.system (planned_of m.satellite.system p) m (cells_of m.satellite.system e) refl h (o m.satellite.system) none)
 
 -- A listed cell of a signal that has an index in the plan is planned.
 pub planned_is : (s : GatherSetup) (x : HeardCell) → IsKey x → is_some (place_in x.signal (planned_of x.satellite.system s.plan)) ≡ true → is_planned s x ≡ true
@@ -61,7 +67,7 @@ planned_is s x key h = grind (arith, common_steps)
 -- ---- cells as they arrive
 
 cells_sorted : (system : System) (p : PlanValue) (e : EpochValue) → cells_of system (sorted_epoch p e) ≡ sorted_cells (planned_of system p) (cells_of system e)
-cells_sorted system p e = grind (arith, common_steps)
+cells_sorted system p e = value_tabulated system (λ s. sorted_cells (planned_of s p) (cells_of s e))
 
 held_any : (system : System) (p : PlanValue) (e : EpochValue) (x : HeardCell) → is_held (cells_of system (sorted_epoch p e)) x ≡ is_held (cells_of system e) x
 held_any system p e x =
@@ -89,11 +95,14 @@ outcome_added g p e x is planned =
 
 -- Sorting a list with one more cell is inserting it into the sorted one.
 sorted_push : (system : System) (p : PlanValue) (e : EpochValue) (m : Cell) → sorted_epoch p (epoch_with system e (cells_of system e ++ m ∷ [])) ≡ with_more_in system p (sorted_epoch p e) m
-sorted_push Gps p e m = ap (λ l. record { time = e.time; gps = l; galileo = sorted_cells p.galileo e.galileo }) (fold-append (λ ys c. insert_by (cell_sort_key p.gps) c ys) [] e.gps (m ∷ []))
-sorted_push Galileo p e m = ap (λ l. record { time = e.time; gps = sorted_cells p.gps e.gps; galileo = l }) (fold-append (λ ys c. insert_by (cell_sort_key p.galileo) c ys) [] e.galileo (m ∷ []))
+sorted_push system p e m =
+    ap (λ cells. record { time = e.time; cells = cells })
+    (tabulated_after (λ s cells. sorted_cells (planned_of s p) cells) system e.cells (cells_of system e ++ m ∷ [])
+    ∙ ap (with_value_of system (tabulate (λ s. sorted_cells (planned_of s p) (cells_of s e))))
+    (fold-append (λ ys c. insert_by (cell_sort_key (planned_of system p)) c ys) [] (cells_of system e) (m ∷ []) ∙ ap (insert_by (cell_sort_key (planned_of system p)) m) (sym (cells_sorted system p e))))
 
 with_same : (system : System) (e : EpochValue) → epoch_with system e (cells_of system e) ≡ e
-with_same system e = grind (arith, common_steps)
+with_same system e = ap (λ cells. record { time = e.time; cells = cells }) (same_after system e.cells)
 
 -- The value after a cell that arrives, by its outcome.
 abbrev epoch_after : Added → PlanValue → EpochValue → Cell → EpochValue
@@ -183,17 +192,9 @@ pending_closed p q r b o is =
 abbrev closed_parts : GathererValue → EpochValue → List (Option KnownLock) → StationValues → GathererValue
 closed_parts g e l v = record { clock = g.clock; epoch = e; locks = l; values = v; just_closed = true; has_ended = g.has_ended }
 
-abbrev noted_both : List (Option KnownLock) → ℕ → List Cell → List Cell → List (Option KnownLock)
-noted_both l n a b = note_all n (note_all n l a) b
-
--- The locks of both systems' cells are recorded one system after the other.
-pub both_noted : (locks : List (Option KnownLock)) (e : EpochValue) {t : ℕ} {gps galileo : List Cell} {first second : List (Option KnownLock)} → t ≡ e.time → gps ≡ e.gps → galileo ≡ e.galileo
-    → first ≡ note_all t locks gps → second ≡ note_all t first galileo → second ≡ noted_both locks e.time e.gps e.galileo
-both_noted locks e time in_gps in_galileo one two = rw (two, one, time, in_gps, in_galileo) refl
-
 -- The locks of a closed epoch are recorded.
 pub noted_closed : (g : GathererValue) (q : PendingValue) {r : PendingValue} {second : List (Option KnownLock)} → AreInOrder g.clock.setup.plan (sorted_epoch g.clock.setup.plan q.epoch)
-    → g.epoch ≡ sorted_epoch g.clock.setup.plan q.epoch → g.values ≡ q.values → r ≡ closed_value g.clock.setup.plan q → second ≡ noted_both g.locks r.epoch.time r.epoch.gps r.epoch.galileo
+    → g.epoch ≡ sorted_epoch g.clock.setup.plan q.epoch → g.values ≡ q.values → r ≡ closed_value g.clock.setup.plan q → second ≡ note_systems r.epoch g.locks systems
     → record { clock = g.clock; epoch = sorted_epoch g.clock.setup.plan r.epoch; locks = second; values = r.values; just_closed = true; has_ended = g.has_ended } ≡ noted (just_closed_as true g)
 noted_closed g q {r} {second} o epoch values is both =
     ap (λ v. closed_parts g v second r.values) (ap (λ (v : PendingValue). sorted_epoch g.clock.setup.plan v.epoch) is ∙ sorted_again g.clock.setup.plan q.epoch o ∙ sym epoch)
@@ -201,5 +202,5 @@ noted_closed g q {r} {second} o epoch values is both =
       same : r.epoch ≡ g.epoch
       same = ap (λ (v : PendingValue). v.epoch) is ∙ sym epoch
 
-      locks : second ≡ noted_both g.locks g.epoch.time g.epoch.gps g.epoch.galileo
-      locks = both ∙ ap (λ (v : EpochValue). noted_both g.locks v.time v.gps v.galileo) same
+      locks : second ≡ note_systems g.epoch g.locks systems
+      locks = both ∙ ap (λ (v : EpochValue). note_systems v g.locks systems) same

@@ -1,6 +1,6 @@
 -- The result of a call of a gatherer, for every setup and history.
 use Rattle.std.specs.Prelude.{ℕ, ◌≡◌, Bool, true, false, List, [], ◌∷◌, ◌++◌, length, Option, Some, None, is_some}
-use Rattle.gnss_obs.specs.declared.system.System.{System}
+use Rattle.gnss_system.specs.declared.system.System.{System}
 use Rattle.obs_epoch.specs.declared.taken.Kind.{Kind}
 use Rattle.obs_epoch.specs.declared.taken.Taken.{Taken}
 use Rattle.obs_epoch.specs.Heard.{GatherSetup, Heard}

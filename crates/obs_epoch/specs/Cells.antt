@@ -3,10 +3,10 @@ use Rattle.std.specs.Prelude.{ℕ, ◌+◌, ◌-◌, ◌&&◌, ◌||◌, Bool, n
 use Rattle.std.specs.Prelude.{◌++◌, filter, flat_map, take, length, count_by, is_some, if◌then◌else◌}
 use Rattle.std.specs.Option.{option_map_or}
 use Rattle.std.specs.List.{list_any}
-use Rattle.gnss_obs.specs.declared.system.System.{System}
-use Rattle.gnss_obs.specs.declared.system.System.TheVariants.{Gps, Galileo}
-use Rattle.gnss_obs.specs.Satellites.{satellites}
-use Rattle.gnss_obs.specs.Signals.{table}
+use Rattle.gnss_system.specs.declared.system.System.{System}
+use Rattle.gnss_system.specs.Systems.{systems}
+use Rattle.gnss_system.specs.Satellites.{satellites}
+use Rattle.gnss_system.specs.Signals.{table}
 use Rattle.gnss_obs.specs.Values.{planned_of, most_cells}
 use Rattle.gnss_obs.specs.Plans.{place_in}
 use Rattle.gnss_obs.specs.Order.{sorted}
@@ -15,7 +15,7 @@ use Rattle.gnss_obs.specs.HeardCells.{HeardCell}
 use Rattle.obs_epoch.specs.Times.{Timed, is_at, taken_at}
 use Rattle.obs_epoch.specs.declared.taken.CellCounts.{CellCounts}
 use Rattle.gnss_obs.specs.HeardCells.{has_same_key}
-use Rattle.gnss_obs.specs.Satellites.{is_system}
+use Rattle.gnss_system.specs.Systems.{is_system}
 
 abbrev pub is_of_system : System → HeardCell → Bool
 is_of_system system x = is_system system x.satellite.system
@@ -60,8 +60,8 @@ add system ks y =
 abbrev pub cells_at : GatherSetup → ℕ → List Timed → System → List HeardCell
 cells_at s t xs system = sorted (planned_of system s.plan) (kept system (offered s t xs))
 
-abbrev pub kept_of_both : List HeardCell → List HeardCell
-kept_of_both xs = kept Gps xs ++ kept Galileo xs
+abbrev pub kept_of_all : List HeardCell → List HeardCell
+kept_of_all xs = flat_map (λ s. kept s xs) systems
 
 abbrev pub no_counts : CellCounts
 no_counts = record { kept = 0; skipped = 0; repeated = 0; crowded = 0 }
@@ -74,8 +74,8 @@ cells_counted n = n.kept + n.skipped + n.repeated + n.crowded
 abbrev pub counts_of : GatherSetup → List HeardCell → List HeardCell → CellCounts
 counts_of s before cells =
     let planned = filter (is_planned s) cells in
-    let all = kept_of_both (before ++ planned) in
-    let newly = length all - length (kept_of_both before) in
+    let all = kept_of_all (before ++ planned) in
+    let newly = length all - length (kept_of_all before) in
     record {
       kept = newly;
       skipped = count_by (λ x. not (is_planned s x)) cells;

@@ -2,7 +2,7 @@
 use Rattle.std.specs.Prelude.{ℕ, ◌||◌, Bool, false, nat_lt, List, [], ◌∷◌, ◌++◌, filter, fold, map, if◌then◌else◌}
 use Rattle.std.specs.Prelude.{option_to_list}
 use Rattle.std.specs.Option.{option_map_or}
-use Rattle.gnss_obs.specs.declared.system.System.TheVariants.{Gps, Galileo}
+use Rattle.gnss_system.specs.SystemValues.{tabulate}
 use Rattle.rtcm_msg.specs.declared.station.StationParts.{StationParts}
 use Rattle.gnss_obs.specs.declared.cell.StationValues.{StationValues}
 use Rattle.obs_epoch.specs.Heard.{GatherSetup, Heard, is_own}
@@ -21,8 +21,7 @@ cells_with_lli s xs t (c ∷ cs) = kept_cell c (lli_of s xs t c) ∷ cells_with_
 abbrev pub epoch_at : GatherSetup → List Timed → ℕ → EpochValue
 epoch_at s xs t = record {
   time = t;
-  gps = cells_with_lli s xs t (cells_at s t xs Gps);
-  galileo = cells_with_lli s xs t (cells_at s t xs Galileo);
+  cells = tabulate (λ system. cells_with_lli s xs t (cells_at s t xs system));
 }
 
 -- All epochs, closed or not.

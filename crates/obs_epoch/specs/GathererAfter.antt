@@ -1,7 +1,7 @@
 -- The value of a gatherer after a list of messages.
-use Rattle.std.specs.Prelude.{ℕ, ◌≡◌, Bool, List, ◌++◌, filter, flat_map}
+use Rattle.std.specs.Prelude.{ℕ, ◌≡◌, Bool, List, filter, flat_map}
 use Rattle.std.specs.Option.{option_map_or}
-use Rattle.gnss_obs.specs.declared.system.System.TheVariants.{Gps, Galileo}
+use Rattle.gnss_system.specs.Systems.{systems}
 use Rattle.obs_epoch.specs.Heard.{GatherSetup, Heard}
 use Rattle.gnss_obs.specs.HeardCells.{HeardCell}
 use Rattle.obs_epoch.specs.Times.{Timed, greatest_time, timed}
@@ -15,7 +15,7 @@ use Rattle.gnss_obs.specs.Values.{EpochValue, empty_epoch}
 
 -- The locked cells of the epochs of these times.
 abbrev pub locked_in : GatherSetup → List Timed → List ℕ → List HeardCell
-locked_in s xs ts = flat_map (λ t. filter is_locked (cells_at s t xs Gps ++ cells_at s t xs Galileo)) ts
+locked_in s xs ts = flat_map (λ t. filter is_locked (flat_map (cells_at s t xs) systems)) ts
 
 -- The epoch of the greatest time.
 abbrev pub held_at : GatherSetup → List Timed → EpochValue

@@ -2,10 +2,11 @@
 use Rattle.std.specs.Prelude.{ℕ, ◌≡◌, ◌==◌, Bool, true, false, List, [], ◌∷◌, if◌then◌else◌, Option, Some}
 use Rattle.std.specs.Prelude.{None, is_some}
 use Rattle.std.specs.Option.{option_map_or}
-use Rattle.gnss_obs.specs.declared.system.System.{System}
-use Rattle.gnss_obs.specs.declared.system.System.TheVariants.{Gps, Galileo}
+use Rattle.gnss_system.specs.declared.system.System.{System}
+use Rattle.gnss_system.specs.declared.system.System.TheVariants.{Gps, Galileo}
+use Rattle.gnss_system.specs.Systems.{systems}
 use Rattle.gnss_obs.specs.declared.cell.StationValues.{StationValues}
-use Rattle.obs_epoch.specs.Held.{CellOutcome, Kept, count_in, lookup, note_all, outcome_of}
+use Rattle.obs_epoch.specs.Held.{CellOutcome, Kept, count_in, lookup, note_systems, outcome_of}
 use Rattle.rtcm_msg.specs.declared.entry.Entry.{Entry}
 use Rattle.rtcm_msg.specs.declared.entry.LockField.{LockField}
 use Rattle.rtcm_msg.specs.declared.entry.LockField.TheVariants.{Df402, Df407}
@@ -15,7 +16,7 @@ use Rattle.obs_epoch.specs.Cells.{no_counts, with_skipped}
 use Rattle.obs_epoch.specs.Kinds.{is_accepted}
 use Rattle.gnss_obs.specs.Values.{PlanValue, planned_of, EpochValue, cells_of, empty_epoch}
 use Rattle.gnss_obs.specs.PlanOrder.{AreInOrder}
-use Rattle.gnss_obs.specs.Arriving.{sorted_epoch}
+use Rattle.gnss_obs.specs.Arriving.{sorted_epoch, epoch_with}
 use Rattle.gnss_obs.specs.Stages.{PendingValue}
 use Rattle.gnss_obs.specs.Plans.{place_in}
 use Rattle.gnss_obs.specs.Order.{insert_by, cell_sort_key}
@@ -39,8 +40,7 @@ pub record IsPending (p : PlanValue) (now : PendingValue) (just_closed : Bool) :
 
 -- One more cell, inserted in the order of a plan.
 abbrev pub with_more_in : System → PlanValue → EpochValue → Cell → EpochValue
-with_more_in Gps p e m = record e { gps = insert_by (cell_sort_key p.gps) m e.gps }
-with_more_in Galileo p e m = record e { galileo = insert_by (cell_sort_key p.galileo) m e.galileo }
+with_more_in s p e m = epoch_with s e (insert_by (cell_sort_key (planned_of s p)) m (cells_of s e))
 
 abbrev pub with_more : PlanValue → EpochValue → Cell → EpochValue
 with_more p e m = with_more_in m.satellite.system p e m
@@ -108,7 +108,7 @@ load_heard l m = with_unlisted m.unlisted (load l m.cells)
 
 -- The locks of the pending epoch are recorded.
 abbrev pub noted : GathererValue → GathererValue
-noted g = record g { locks = note_all g.epoch.time (note_all g.epoch.time g.locks g.epoch.gps) g.epoch.galileo }
+noted g = record g { locks = note_systems g.epoch g.locks systems }
 
 -- The same if the epoch was just closed.
 abbrev pub closed_noted : GathererValue → GathererValue

@@ -3,10 +3,10 @@ use Rattle.std.specs.Prelude.{ℕ, ◌==◌, ◌&&◌, Bool, true, false, not, L
 use Rattle.std.specs.Prelude.{Option, Some, None, option_map, option_and_then, filter_map, ◌+◌, is_some}
 use Rattle.std.specs.Prelude.{Result, Ok, Err}
 use Rattle.std.specs.Option.{option_map_or}
-use Rattle.gnss_obs.specs.declared.system.System.{System}
-use Rattle.gnss_obs.specs.declared.system.System.TheVariants.{Gps, Galileo}
-use Rattle.gnss_obs.specs.Satellites.{Satellite, satellite_of_id}
-use Rattle.gnss_obs.specs.Signals.{SignalAt, signal_of_id, hertz_of}
+use Rattle.gnss_system.specs.declared.system.System.{System}
+use Rattle.gnss_system.specs.declared.system.System.TheVariants.{Gps, Galileo}
+use Rattle.gnss_system.specs.Satellites.{Satellite, satellite_of_id}
+use Rattle.gnss_system.specs.Signals.{SignalAt, signal_of_id, hertz_of}
 use Rattle.gnss_obs.specs.Observables.{nearest_pseudorange, nearest_phase, nearest_doppler, nearest_strength}
 use Rattle.gnss_obs.specs.LockTimes.{LockTime, times4, times7}
 use Rattle.rtcm_msg.specs.declared.station.StationParts.{StationParts}

@@ -1,11 +1,13 @@
 -- The kept cells and the lock records, and one step of each.
 use Rattle.std.specs.Prelude.{[], ℕ, ◌+◌, ◌-◌, ◌*◌, ◌≡◌, nat_le, List, ◌∷◌, length, get_or, set, replicate}
-use Rattle.std.specs.Prelude.{count_by, if◌then◌else◌, Option, Some, None, is_some}
+use Rattle.std.specs.Prelude.{count_by, fold, if◌then◌else◌, Option, Some, None, is_some}
 use Rattle.std.specs.Option.{option_map_or}
-use Rattle.gnss_obs.specs.declared.system.System.{System}
-use Rattle.gnss_obs.specs.declared.system.System.TheVariants.{Gps, Galileo}
-use Rattle.gnss_obs.specs.Satellites.{satellites}
-use Rattle.gnss_obs.specs.Signals.{table}
+use Rattle.gnss_system.specs.declared.system.System.{System}
+use Rattle.gnss_system.specs.Systems.{systems, before}
+use Rattle.gnss_obs.specs.Values.{EpochValue, cells_of}
+use Rattle.std.specs.List.{sum_by}
+use Rattle.gnss_system.specs.Satellites.{satellites}
+use Rattle.gnss_system.specs.Signals.{table}
 use Rattle.gnss_obs.specs.declared.cell.Cell.{Cell}
 use Rattle.obs_epoch.specs.Heard.{GatherSetup}
 use Rattle.gnss_obs.specs.HeardCells.{HeardCell, heard_cell}
@@ -19,14 +21,18 @@ use Rattle.gnss_obs.specs.PlanOrder.{is_held}
 use Rattle.gnss_obs.specs.declared.arrivals.Added.{Added}
 use Rattle.gnss_obs.specs.declared.arrivals.Added.TheVariants as added
 
--- ---- lock records: an entry for each key, those of GPS first
+-- ---- lock records: an entry for each key, system after system
 
 -- The number of keys of a system: one for each of its satellites with each signal of its table.
 abbrev pub keys_of : System → ℕ
 keys_of system = satellites system * length (table system)
 
 abbrev pub most_locks : ℕ
-most_locks = keys_of Gps + keys_of Galileo
+most_locks = sum_by keys_of systems
+
+-- The number of keys of the systems before a system.
+abbrev pub base_of : System → ℕ
+base_of system = sum_by keys_of (before system)
 
 -- No key has a record.
 abbrev pub no_locks : List (Option KnownLock)
@@ -34,8 +40,7 @@ no_locks = replicate most_locks None
 
 -- The index of the entry of a key.
 abbrev pub lock_place_in : System → ℕ → ℕ → ℕ
-lock_place_in Gps id index = length (table Gps) * (id - 1) + index
-lock_place_in Galileo id index = keys_of Gps + (length (table Galileo) * (id - 1) + index)
+lock_place_in system id index = base_of system + (length (table system) * (id - 1) + index)
 
 abbrev pub lock_place : HeardCell → ℕ
 lock_place x = lock_place_in x.satellite.system x.satellite.id x.signal.index
@@ -62,6 +67,10 @@ note t locks x = option_map_or (put locks x) (lock_of t x) locks
 abbrev pub note_all : ℕ → List (Option KnownLock) → List Cell → List (Option KnownLock)
 note_all t locks [] = locks
 note_all t locks (m ∷ ms) = note_all t (note t locks (heard_cell m)) ms
+
+-- Records the locks of the cells of an epoch, one system after the other.
+abbrev pub note_systems : EpochValue → List (Option KnownLock) → List System → List (Option KnownLock)
+note_systems e locks systems = fold (λ l s. note_all e.time l (cells_of s e)) locks systems
 
 -- Exactly the keys of these cells have records.
 pub record TracksLocks (locks : List (Option KnownLock)) (noted : List HeardCell) : Type 0 where

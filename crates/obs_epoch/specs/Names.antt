@@ -7,16 +7,17 @@ pub use Rattle.gnss_obs.specs.PlanOrder.{AreInPlanOrder}
 pub use Rattle.gnss_obs.specs.LockTimes.{LockTime}
 pub use Rattle.gnss_obs.specs.Names.{AreInOrder, Closed, EpochValue, IsAdded, IsHeld, IsSignal, PendingValue, PlanValue, Satellite, SignalAt, SortKey, SortKeysRise, cell_sort_key, cells_after, cells_of, epoch_with, heard_cell, hertz_of, id_of, insert_by, is_before, is_held, nearest_doppler, nearest_phase, nearest_pseudorange, nearest_strength, outcome_by, place_in, planned_of, signal_of_id, sorted_cells, sorted_epoch, table, weeks}
 pub use Rattle.gnss_obs.specs.Order.{sort_key_of, sorted}
-pub use Rattle.gnss_obs.specs.Satellites.{is_system, satellite_of_id, satellite_set}
+pub use Rattle.gnss_system.specs.Satellites.{satellite_of_id, satellite_set}
+pub use Rattle.gnss_system.specs.Systems.{is_system}
 pub use Rattle.gnss_obs.specs.Values.{HasTwelveDigits, empty_epoch, most_cells, no_values}
 pub use Rattle.gnss_obs.specs.declared.arrivals.Added.{Added}
 pub use Rattle.gnss_obs.specs.declared.cell.Cell.{Cell}
 pub use Rattle.gnss_obs.specs.declared.cell.StationValues.{StationValues}
-pub use Rattle.gnss_obs.specs.declared.system.System.TheVariants.{Galileo, Gps}
-pub use Rattle.gnss_obs.specs.declared.system.System.{System}
-pub use Rattle.gnss_obs.specs.declared.tables.ListedSignal.{ListedSignal}
+pub use Rattle.gnss_system.specs.declared.system.System.TheVariants.{Galileo, Gps}
+pub use Rattle.gnss_system.specs.declared.system.System.{System}
+pub use Rattle.gnss_system.specs.declared.tables.ListedSignal.{ListedSignal}
 pub use Rattle.obs_epoch.specs.Calls.{IsCloseFirstExactly}
-pub use Rattle.obs_epoch.specs.Cells.{add, cells_at, cells_counted, counts_of, counts_of_message, firsts, firsts_after, has_listed_key, is_among, is_of_system, is_planned, kept, kept_of_both, no_counts, offered, with_skipped}
+pub use Rattle.obs_epoch.specs.Cells.{add, cells_at, cells_counted, counts_of, counts_of_message, firsts, firsts_after, has_listed_key, is_among, is_of_system, is_planned, kept, kept_of_all, no_counts, offered, with_skipped}
 pub use Rattle.obs_epoch.specs.Clock.{HasHeardMessages, State, closes_first, is_pending}
 pub use Rattle.obs_epoch.specs.Epochs.{cells_with_lli, closed_so_far, closed_times, epoch_at, is_shut, values_after_message, values_of}
 pub use Rattle.obs_epoch.specs.GathererSteps.{GathererValue, IsPending, Loaded, closed_if, closed_noted, end_step, epoch_begun, hold, hold_by, is_same, just_closed_as, load, load_entries, load_one, loaded_if, noted, outcome_in, planned_cell, rested, take_step, with_more, with_more_in, with_time, with_unlisted}

@@ -3,15 +3,17 @@ use Rattle.std.specs.Prelude.{◌≡◌, ℕ, ◌+◌, ◌-◌, ◌<◌, ◌≤�
 use Rattle.std.specs.Prelude.{[], ◌++◌, length, get_or, set, filter, filter_map, Option, is_some, if◌then◌else◌}
 use Rattle.std.specs.Option.{option_map_or}
 use Rattle.std.specs.List.{list_any}
-use Rattle.gnss_obs.specs.declared.system.System.{System}
-use Rattle.gnss_obs.specs.declared.system.System.TheVariants.{Gps, Galileo}
-use Rattle.gnss_obs.specs.Signals.{SignalAt, table}
+use Rattle.gnss_system.specs.declared.system.System.{System}
+use Rattle.gnss_system.specs.Systems.{systems}
+use Rattle.gnss_system.specs.SystemValues.{value_of, with_value_of}
+use Rattle.gnss_system.specs.declared.by_system.BySystem.{BySystem}
+use Rattle.gnss_system.specs.Signals.{SignalAt, table, most_signals}
 use Rattle.rtcm_msg.specs.Msm.{most_pairs}
 use Rattle.rtcm_msg.specs.declared.entry.Entry.{Entry}
 use Rattle.rtcm_msg.specs.declared.entry.LockField.{LockField}
 use Rattle.obs_epoch.specs.Heard.{Heard, seen_in}
 use Rattle.gnss_obs.specs.HeardCells.{HeardCell}
-use Rattle.gnss_obs.specs.Satellites.{is_system}
+use Rattle.gnss_system.specs.Systems.{is_system}
 
 -- ---- the cells that are counted
 
@@ -41,20 +43,18 @@ signal_in system i = record { system = system; index = i }
 
 -- ---- the counts by signal: the number of counted cells of each signal, by its index in its system's table
 
-pub record SignalCountsValue : Type 0 where
-  pub gps : List ℕ
-  pub galileo : List ℕ
+abbrev pub SignalCountsValue : Type 0
+SignalCountsValue = BySystem (List ℕ)
 
 abbrev pub signal_counts : System → SignalCountsValue → List ℕ
-signal_counts Gps c = c.gps
-signal_counts Galileo c = c.galileo
+signal_counts s c = value_of s c
 
 abbrev pub counted : SignalCountsValue → System → ℕ → ℕ
 counted c system i = get_or (signal_counts system c) i 0
 
 -- A cell of any signal was counted.
 abbrev pub has_any : SignalCountsValue → Bool
-has_any c = list_any (λ n. nat_lt 0 n) c.gps || list_any (λ n. nat_lt 0 n) c.galileo
+has_any c = list_any (λ s. list_any (λ n. nat_lt 0 n) (signal_counts s c)) systems
 
 -- ---- more cells of a signal
 
@@ -63,8 +63,7 @@ abbrev pub up_by : ℕ → List ℕ → ℕ → List ℕ
 up_by n counts i = set counts i (min (get_or counts i 0 + n) (2 ^ 64 - 1))
 
 abbrev pub counted_more_in : System → ℕ → ℕ → SignalCountsValue → SignalCountsValue
-counted_more_in Gps i n c = record c { gps = up_by n c.gps i }
-counted_more_in Galileo i n c = record c { galileo = up_by n c.galileo i }
+counted_more_in s i n c = with_value_of s c (up_by n (signal_counts s c) i)
 
 abbrev pub counted_more : SignalAt → ℕ → SignalCountsValue → SignalCountsValue
 counted_more g n c = counted_more_in g.system g.index n c
@@ -73,10 +72,10 @@ counted_more g n c = counted_more_in g.system g.index n c
 
 -- The counts are those of these cells.
 pub record AreSignalCounts (c : SignalCountsValue) (cells : List HeardCell) : Type 0 where
-  pub gps : length c.gps ≡ length (table Gps)
-  pub galileo : length c.galileo ≡ length (table Galileo)
+  pub size : (system : System) → length (signal_counts system c) ≡ most_signals
   pub each : (system : System) (i : ℕ) → i < length (table system)
       → counted c system i ≡ count_of (signal_in system i) cells
+  pub past : (system : System) (i : ℕ) → length (table system) ≤ i → counted c system i ≡ 0
 
 -- From c to c' the cells of these entries that have a value were counted, regardless of the earlier cells and for every
 -- lock field.

@@ -25,7 +25,7 @@ ghost use Rattle.obs_epoch.specs.GathererSteps.{just_closed_as, with_time};
 ghost use Rattle.obs_epoch.specs.Cells.{cells_counted, no_counts};
 
 use crate::clock::Clock;
-use crate::locks::{Locks, lli, note_cells};
+use crate::locks::{Locks, lli, note_systems};
 use crate::observe::observe;
 use crate::taken::{CellCounts, Gather, Kind, Taken};
 use gnss_obs::{
@@ -264,10 +264,7 @@ impl Gatherer {
         }
         self.pending.close(self.clock.plan());
         let time = self.pending.time().milliseconds();
-        let gps = self.pending.cells(System::Gps);
-        note_cells(&mut self.locks, time, System::Gps, gps);
-        let galileo = self.pending.cells(System::Galileo);
-        note_cells(&mut self.locks, time, System::Galileo, galileo);
+        note_systems(&mut self.locks, time, &self.pending);
     }
 
     // Returns the station values after a message.

@@ -1,15 +1,18 @@
 //! Lock records: for each satellite and signal, the latest known lock in a closed epoch. The loss
 //! of lock indicators of the next epoch are computed from them.
 ghost use Rattle.std.specs.Prelude.{◌≡◌, ◌+◌, ◌<◌, ◌≤◌, length, IfOk};
-ghost use Rattle.obs_epoch.specs.Held.{AreKeysOf, lock_place, lookup, most_locks, no_locks, note, note_all, recorded};
+ghost use Rattle.obs_epoch.specs.Held.{AreKeysOf, lock_place, lookup, most_locks, no_locks, note, note_all};
+ghost use Rattle.obs_epoch.specs.Held.{note_systems, recorded};
 ghost use Rattle.gnss_obs.specs.HeardCells.{IsKey, heard_cell};
 ghost use Rattle.obs_epoch.specs.Loss.{lli_with};
 ghost use Rattle.gnss_obs.specs.Values.{AreHeld};
+ghost use Rattle.gnss_system.specs.Systems.{systems};
 
 use gnss_obs::{
-    Cell, GALILEO_SATELLITES, GALILEO_SIGNAL_COUNT, GPS_SATELLITES, GPS_SIGNAL_COUNT, Lock, System,
-    is_lost,
+    Cell, GALILEO_SATELLITES, GALILEO_SIGNAL_COUNT, GPS_SATELLITES, GPS_SIGNAL_COUNT, Lock,
+    Pending, is_lost,
 };
+use gnss_system::{SYSTEMS, System};
 use std::alloc::{AllocError, Global};
 use std::marker::Model;
 
@@ -19,7 +22,7 @@ const GPS_KEYS: usize = GPS_SATELLITES as usize * GPS_SIGNAL_COUNT;
 /// Number of keys of Galileo: one for each pair of a satellite and a signal of the table.
 const GALILEO_KEYS: usize = GALILEO_SATELLITES as usize * GALILEO_SIGNAL_COUNT;
 
-/// Largest number of lock records: one for each key of both systems.
+/// Largest number of lock records: one for each key of all systems.
 pub const MOST_LOCKS: usize = GPS_KEYS + GALILEO_KEYS;
 
 /// A known lock, and the time of its epoch in milliseconds since 1980-01-06 00:00:00.
@@ -133,6 +136,17 @@ fn keys_of(system: System) -> Keys
             first: GPS_KEYS,
             signals: GALILEO_SIGNAL_COUNT,
         },
+    }
+}
+
+/// Records the locks of the cells of an epoch, one system after the other.
+pub fn note_systems(locks: &mut Locks, time: u64, epoch: &Pending)
+    requires { time ≡ epoch.now.epoch.time }
+    ensures { locks.new ≡ note_systems epoch.now.epoch locks.old systems }
+{
+    for i in 0..SYSTEMS.len() {
+        let system = System::at(i);
+        note_cells(locks, time, system, epoch.cells(system));
     }
 }
 

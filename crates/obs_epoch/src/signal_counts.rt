@@ -1,6 +1,7 @@
 //! The number of cells with a value, by signal.
-ghost use Rattle.std.specs.Prelude.{◌≡◌, ◌<◌, ◌≤◌, [], length};
-ghost use Rattle.gnss_obs.specs.Signals.{table};
+ghost use Rattle.std.specs.Prelude.{◌≡◌, ◌<◌, ◌≤◌, [], length, nat_lt};
+ghost use Rattle.std.specs.List.{list_any};
+ghost use Rattle.gnss_system.specs.Signals.{table};
 ghost use Rattle.obs_epoch.specs.Heard.{heard};
 ghost use Rattle.obs_epoch.specs.SignalCounts.{counted, has_any, counted_more, CountsEntries};
 ghost use Rattle.obs_epoch.specs.SignalCounts.{CountsMessage, AreSignalCounts};
@@ -10,15 +11,15 @@ ghost use Rattle.rtcm_msg.specs.Viewed.{viewed_message};
 ghost use Rattle.rtcm_msg.specs.Views as views;
 
 use crate::observe::system_of;
-use gnss_obs::{GALILEO_SIGNAL_COUNT, GPS_SIGNAL_COUNT, Signal, System};
+use gnss_obs::Signal;
+use gnss_system::{BySystem, MOST_SIGNALS, SYSTEMS, System};
 use rtcm_msg::{Message, MsmView, View};
 use std::marker::Model;
 
 /// The number of cells with a value, for each signal of the tables.
 #[derive(Drop)]
 pub struct SignalCounts {
-    gps: [u64; GPS_SIGNAL_COUNT],
-    galileo: [u64; GALILEO_SIGNAL_COUNT],
+    counts: BySystem<[u64; MOST_SIGNALS]>,
 }
 
 impl Model for SignalCounts {
@@ -26,7 +27,7 @@ impl Model for SignalCounts {
 
     ghost Value = { SignalCountsValue };
 
-    ghost view = { λ c. record { gps = c.gps; galileo = c.galileo } };
+    ghost view = { λ c. c.counts };
 }
 
 impl SignalCounts {
@@ -35,8 +36,10 @@ impl SignalCounts {
         ensures { AreSignalCounts result [] }
     {
         SignalCounts {
-            gps: [0; GPS_SIGNAL_COUNT],
-            galileo: [0; GALILEO_SIGNAL_COUNT],
+            counts: BySystem {
+                gps: [0; MOST_SIGNALS],
+                galileo: [0; MOST_SIGNALS],
+            },
         }
     }
 
@@ -45,17 +48,19 @@ impl SignalCounts {
         requires { index < length (table system) }
         ensures { result ≡ counted self.now system index }
     {
-        match system {
-            System::Gps => self.gps[index],
-            System::Galileo => self.galileo[index],
-        }
+        self.counts.of(system)[index]
     }
 
     /// Returns whether a cell of any signal was counted.
     pub fn has_any(&self) -> bool
         ensures { result ≡ has_any self.now }
     {
-        self.gps != [0; GPS_SIGNAL_COUNT] || self.galileo != [0; GALILEO_SIGNAL_COUNT]
+        for i in 0..SYSTEMS.len() {
+            if has_one(self.counts.of(System::at(i))) {
+                return true;
+            }
+        }
+        false
     }
 
     /// Counts the cells of a message of this station; with `None`, of any station.
@@ -95,9 +100,14 @@ impl SignalCounts {
         ensures { self.new ≡ counted_more signal count self.old }
     {
         let place = signal.index();
-        match signal.system() {
-            System::Gps => self.gps[place] = self.gps[place].saturating_add(count),
-            System::Galileo => self.galileo[place] = self.galileo[place].saturating_add(count),
-        }
+        let counts = self.counts.of_mut(signal.system());
+        counts[place] = counts[place].saturating_add(count);
     }
+}
+
+// Returns whether one of these counts isn't 0.
+fn has_one(counts: &[u64]) -> bool
+    ensures { result ≡ list_any (λ n. nat_lt 0 n) counts.now }
+{
+    counts.iter().any(|n| *n > 0)
 }

@@ -1,5 +1,10 @@
 -- A plan has no more signals than the tables, and an epoch no more satellites than the planned systems.
-use Rattle.rinex_file.proofs.Names.{arith, ◌≡◌, refl, sym, subst, ℕ, suc, ◌+◌, ◌-◌, ◌<◌, ◌≤◌, Bool, true, false, eqb, List, [], ◌∷◌, length, ◌||◌, if◌then◌else◌, All, map, nat_lt, slice_index, list_any, IsStrictlyIncreasing, eqb-true, lt-ltb, All-head, All-tail, length-le_from_distinct_below, table, System, Gps, Galileo, PlanValue, planned_of, satellites, SatelliteRow, IsPlan, IsSatelliteRow, AreSatelliteRows, of_system, rank_of, most_rows}
+use Rattle.rinex_file.proofs.Names.{arith, ◌≡◌, refl, sym, subst, ℕ, suc, ◌+◌, ◌-◌, ◌<◌, ◌≤◌, Bool, true, false, eqb, List, [], ◌∷◌, length, ◌||◌, if◌then◌else◌, All, map, nat_lt, slice_index, list_any, IsStrictlyIncreasing, eqb-true, lt-ltb, All-head, All-tail, length-le_from_distinct_below, table, System, PlanValue, planned_of, satellites, SatelliteRow, IsPlan, IsSatelliteRow, AreSatelliteRows, rank_of, most_rows}
+use Rattle.std.specs.List.{sum_by}
+use Rattle.std.proofs.Common.{◌*◌, le_trans, lit≤}
+use Rattle.gnss_system.specs.Systems.{systems, index_of, is_system}
+use Rattle.gnss_system.proofs.SystemLaws.{sum_at_most, sum_less, system_same}
+use Rattle.std.proofs.lemmas.Grind.{common_steps}
 
 -- ---- signals
 
@@ -17,37 +22,31 @@ few_planned p is system =
 
 -- ---- satellites
 
--- the ranks from k on that the planned systems have
-room : Bool → Bool → ℕ → ℕ
-room true true k = (33 - k) + (36 - (k - 101))
-room true false k = 33 - k
-room false true k = 36 - (k - 101)
-room false false k = 0
+-- the ranks from k on of a system, and those of the planned systems
+ranks : ℕ → System → ℕ
+ranks k s = satellites s - (k - (100 * index_of s + 1))
 
-after_gps : (galileo : Bool) (k r n : ℕ) → k ≤ r → r ≤ 32 → n ≤ room true galileo (r + 1) → suc n ≤ room true galileo k
-unfolding room
-after_gps true k r n low high h = omega (arith, low, high, h)
-after_gps false k r n low high h = omega (arith, low, high, h)
+abbrev room : (System → ℕ) → ℕ → ℕ
+room signals k = sum_by (λ s. if nat_lt 0 (signals s) then ranks k s else 0) systems
 
-after_galileo : (gps : Bool) (k r n : ℕ) → k ≤ 100 + r → 1 ≤ r → r ≤ 36 → n ≤ room gps true ((100 + r) + 1) → suc n ≤ room gps true k
-unfolding room
-after_galileo true k r n low some high h = omega (arith, low, some, high, h)
-after_galileo false k r n low some high h = omega (arith, low, some, high, h)
+fewer : (b own : Bool) (i j r k m : ℕ) → (own ≡ true → (b ≡ true) × (i ≡ j) × (r ≤ m)) → 1 ≤ r → k ≤ 100 * j + r
+    → (if b then m - ((100 * j + r) + 1 - (100 * i + 1)) else 0) + (if own then 1 else 0) ≤ (if b then m - (k - (100 * i + 1)) else 0)
+fewer false false i j r k m f some low = omega arith
+fewer true false i j r k m f some low = omega (arith, some, low)
+fewer b true i j r k m f some low = let h = f refl in rw (h.0, h.1) (less (h.2)) where
+  less : r ≤ m → m - ((100 * j + r) + 1 - (100 * j + 1)) + 1 ≤ m - (k - (100 * j + 1))
+  less few = omega (arith, few, some, low)
 
 -- a satellite has one of the ranks that are left
-one_less : {gps galileo : ℕ} (k n : ℕ) {s : SatelliteRow} → IsSatelliteRow gps galileo s → k ≤ rank_of s
-    → n ≤ room (nat_lt 0 gps) (nat_lt 0 galileo) (rank_of s + 1) → suc n ≤ room (nat_lt 0 gps) (nat_lt 0 galileo) k
-one_less {gps} {galileo} k n {s} is low h = by s.system s.row.satellite is.planned is.row.satellite low h where
-  by : (system : System) (r : ℕ) → 0 < of_system system gps galileo → (1 ≤ r) × (r ≤ satellites system) → k ≤ of_system system r (100 + r)
-      → n ≤ room (nat_lt 0 gps) (nat_lt 0 galileo) (of_system system r (100 + r) + 1) → suc n ≤ room (nat_lt 0 gps) (nat_lt 0 galileo) k
-  by Gps r planned number low h =
-      let is = lt-ltb 0 gps planned in
-      let left : n ≤ room true (nat_lt 0 galileo) (r + 1) = subst (λ b. n ≤ room b (nat_lt 0 galileo) (r + 1)) is h in
-      subst (λ b. suc n ≤ room b (nat_lt 0 galileo) k) (sym is) (after_gps (nat_lt 0 galileo) k r n low number.1 left)
-  by Galileo r planned number low h =
-      let is = lt-ltb 0 galileo planned in
-      let left : n ≤ room (nat_lt 0 gps) true ((100 + r) + 1) = subst (λ b. n ≤ room (nat_lt 0 gps) b ((100 + r) + 1)) is h in
-      subst (λ b. suc n ≤ room (nat_lt 0 gps) b k) (sym is) (after_galileo (nat_lt 0 gps) k r n low number.0 number.1 left)
+one_less : {signals : System → ℕ} (k n : ℕ) {s : SatelliteRow} → IsSatelliteRow signals s → k ≤ rank_of s → n ≤ room signals (rank_of s + 1) → suc n ≤ room signals k
+unfolding ranks
+one_less {signals} k n {s} is low h =
+    let less = sum_less (λ t. if nat_lt 0 (signals t) then ranks (rank_of s + 1) t else 0) (λ t. if nat_lt 0 (signals t) then ranks k t else 0) s.system
+    (λ t. fewer (nat_lt 0 (signals t)) (is_system s.system t) (index_of t) (index_of s.system) s.row.satellite k (satellites t) (own t) is.row.satellite.0 low) in
+    omega (arith, less, h)
+  where
+    own : (t : System) → is_system s.system t ≡ true → (nat_lt 0 (signals t) ≡ true) × (index_of t ≡ index_of s.system) × (s.row.satellite ≤ satellites t)
+    own t e = subst (λ (r : System). (nat_lt 0 (signals r) ≡ true) × (index_of r ≡ index_of s.system) × (s.row.satellite ≤ satellites r)) (system_same s.system t e) (lt-ltb 0 (signals s.system) is.planned, refl, is.row.satellite.1)
 
 -- the first number, if there is one, is at least k
 FromFirst : ℕ → List ℕ → Type 0
@@ -58,31 +57,37 @@ rise-tail x xs rise k h =
     let next : suc k + 1 ≡ suc (k + 1) = omega arith in
     subst (λ (n : ℕ). slice_index xs k < slice_index (x ∷ xs) n) next (rise (suc k) (omega (arith, h)))
 
-few_from : (gps galileo k : ℕ) (rows : List SatelliteRow) → All (IsSatelliteRow gps galileo) rows → IsStrictlyIncreasing (map rank_of rows) → FromFirst k (map rank_of rows)
-    → length rows ≤ room (nat_lt 0 gps) (nat_lt 0 galileo) k
+few_from : (signals : System → ℕ) (k : ℕ) (rows : List SatelliteRow) → All (IsSatelliteRow signals) rows → IsStrictlyIncreasing (map rank_of rows) → FromFirst k (map rank_of rows) → length rows ≤ room signals k
 unfolding FromFirst
-few_from gps galileo k [] each rise low = omega arith
-few_from gps galileo k (s ∷ rows) each rise low =
-    let is = All-head (IsSatelliteRow gps galileo) s rows each in
-    let others = few_from gps galileo (rank_of s + 1) rows (All-tail (IsSatelliteRow gps galileo) s rows each) (rise-tail (rank_of s) (map rank_of rows) rise)
+few_from signals k [] each rise low = omega arith
+few_from signals k (s ∷ rows) each rise low =
+    let is = All-head (IsSatelliteRow signals) s rows each in
+    let others = few_from signals (rank_of s + 1) rows (All-tail (IsSatelliteRow signals) s rows each) (rise-tail (rank_of s) (map rank_of rows) rise)
     (λ h. let less : rank_of s < slice_index (map rank_of rows) 0 = rise 0 (omega (arith, h)) in omega (arith, less)) in
     one_less k (length rows) is (low (omega arith)) others
 
-from_one : (gps galileo : Bool) → room gps galileo 1 ≡ (if gps then 32 else 0) + (if galileo then 36 else 0)
-unfolding room
-from_one true true = refl
-from_one true false = refl
-from_one false true = refl
-from_one false false = refl
+from_one : (signals : System → ℕ) → room signals 1 ≤ most_rows signals
+unfolding ranks
+from_one signals = sum_at_most _ (λ s. if nat_lt 0 (signals s) then satellites s else 0) (λ s. less (nat_lt 0 (signals s)) (satellites s) (1 - (100 * index_of s + 1))) systems where
+  less : (b : Bool) (m n : ℕ) → (if b then m - n else 0) ≤ (if b then m else 0)
+  less b m n = grind arith
 
-pub some_rank : (gps galileo : ℕ) (s : SatelliteRow) → IsSatelliteRow gps galileo s → 0 < rank_of s
-some_rank gps galileo s is = grind arith
+-- they fit the columns of an epoch's line
+pub few_most : (signals : System → ℕ) → most_rows signals ≤ 999
+few_most signals = le_trans (sum_at_most (λ s. if nat_lt 0 (signals s) then satellites s else 0) satellites (λ s. part (nat_lt 0 (signals s)) (satellites s)) systems) (lit≤ tt) where
+  part : (b : Bool) (m : ℕ) → (if b then m else 0) ≤ m
+  part b m = grind arith
 
-low_first : (gps galileo : ℕ) (rows : List SatelliteRow) → All (IsSatelliteRow gps galileo) rows → FromFirst 1 (map rank_of rows)
+pub some_rank : (signals : System → ℕ) (s : SatelliteRow) → IsSatelliteRow signals s → 0 < rank_of s
+some_rank signals s is = let h = is.row.satellite.0 in omega (arith, h)
+
+low_first : (signals : System → ℕ) (rows : List SatelliteRow) → All (IsSatelliteRow signals) rows → FromFirst 1 (map rank_of rows)
 unfolding FromFirst
-low_first gps galileo [] each h = absurd (omega (arith, h))
-low_first gps galileo (s ∷ rows) each h = some_rank gps galileo s (All-head (IsSatelliteRow gps galileo) s rows each)
+low_first signals [] each h = absurd (omega (arith, h))
+low_first signals (s ∷ rows) each h = some_rank signals s (All-head (IsSatelliteRow signals) s rows each)
 
-pub few_rows : (gps galileo : ℕ) (rows : List SatelliteRow) → AreSatelliteRows gps galileo rows → length rows ≤ most_rows gps galileo
-few_rows gps galileo rows are =
-    subst (λ n. length rows ≤ n) (from_one (nat_lt 0 gps) (nat_lt 0 galileo)) (few_from gps galileo 1 rows are.each are.rise (low_first gps galileo rows are.each))
+pub few_rows : (signals : System → ℕ) (rows : List SatelliteRow) → AreSatelliteRows signals rows → length rows ≤ most_rows signals
+few_rows signals rows are =
+    let few = few_from signals 1 rows are.each are.rise (low_first signals rows are.each) in
+    let most = from_one signals in
+    omega (arith, few, most)

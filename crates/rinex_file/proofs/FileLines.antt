@@ -1,14 +1,13 @@
 -- The lines of a file value are lines, and none is longer than the largest line that is read.
 use Rattle.rinex_file.specs.File.{lines_of_parts as lines_of_file}
 use Rattle.rinex_file.proofs.Rows.Sizes.{small_value, length-value, strength_fits, few_satellites}
-use Rattle.rinex_file.proofs.Writing.Stored.{either_few}
 use Rattle.rinex_file.proofs.Rows.Trimmed.{filled, length-trimmed}
 use Rattle.rinex_file.proofs.Digits.Numbers.{has-append, has-right, lacks-padded, length-right, length-padded}
-use Rattle.rinex_file.proofs.FewRows.{few_rows}
+use Rattle.rinex_file.proofs.FewRows.{few_most, few_rows}
 use Rattle.rinex_file.proofs.PlainTexts.{clean-fixed, IsPlain, plain-append, plain-padded, plain, plain-flat_map, plain-joined, also}
 use Rattle.rinex_file.proofs.Reading.Epochs.{few_signals_of}
 use Rattle.rinex_file.proofs.HeaderRows.Plain.{IsFileLine, as_line, of_80, whole_field, second_field, no_letter, IsShort, short_time, line_of_position, line_of_delta, lines_of_header}
-use Rattle.rinex_file.proofs.Names.{arith, lit≤, ◌≡◌, ◌∙◌, ap, refl, sym, subst, ℕ, ◌+◌, ◌*◌, ◌^◌, ◌<◌, ◌≤◌, ℤ, pos, false, Option, Some, None, IfSome, List, [], ◌∷◌, ◌++◌, length, replicate, decimal, get_or, append_assoc, ◌==◌, ◌||◌, map, flat_map, All, codes, AllByRecursion, or_parts, All-nil, All-head, All-tail, All-cons, All-append, All-map, satellites, Gps, Galileo, StationValues, Civil, civil_of, PlanValue, trimmed, IsLine, event_line, stamped_lines, change_lines, file_lines, AreTexts, IsPlan, AreValues, FitsColumns, AreSignalValues, IsRow, IsSatelliteRow, IsStamped, IsChange, AreChanges, IsFileValue, changed_by, of_system, most_rows, header_lines, position_line, delta_line, epoch_line, field, lli_byte, strength_byte, signal_text, letter, row_text, satellite_line, joined, right, padded, fixed, has, HeaderLists, SignalValues, Row, SatelliteRow, Stamped, FileValue, most_line, most_signals}
+use Rattle.rinex_file.proofs.Names.{arith, lit≤, ◌≡◌, ◌∙◌, ap, refl, sym, subst, ℕ, ◌+◌, ◌*◌, ◌^◌, ◌<◌, ◌≤◌, ℤ, pos, false, Option, Some, None, IfSome, List, [], ◌∷◌, ◌++◌, length, replicate, decimal, get_or, append_assoc, ◌==◌, ◌||◌, map, flat_map, All, codes, AllByRecursion, or_parts, All-nil, All-head, All-tail, All-cons, All-append, All-map, satellites, System, StationValues, Civil, civil_of, PlanValue, trimmed, IsLine, event_line, stamped_lines, change_lines, file_lines, AreTexts, IsPlan, AreValues, FitsColumns, AreSignalValues, IsRow, IsSatelliteRow, IsStamped, IsChange, AreChanges, IsFileValue, changed_by, most_rows, most_satellites, planned_in, header_lines, position_line, delta_line, epoch_line, field, lli_byte, strength_byte, signal_text, letter, row_text, satellite_line, joined, right, padded, fixed, has, HeaderLists, SignalValues, Row, SatelliteRow, Stamped, FileValue, most_line, most_signals}
 
 -- ---- epochs
 
@@ -76,7 +75,7 @@ plain_trimmed n text is = grind (arith, filled, has-append, length-trimmed, or_p
 plain_number : (n : ℕ) → n < 100 → IsPlain 2 (padded 2 n)
 plain_number n h = grind (arith, length-padded, lacks-padded)
 
-line_of_row : (letter signals most : ℕ) (r : Row) → IsRow most signals r → (letter == 10) ≡ false → most ≤ 36 → signals ≤ most_signals → IsFileLine (trimmed (row_text letter r) ++ 10 ∷ [])
+line_of_row : (letter signals most : ℕ) (r : Row) → IsRow most signals r → (letter == 10) ≡ false → most ≤ most_satellites → signals ≤ most_signals → IsFileLine (trimmed (row_text letter r) ++ 10 ∷ [])
 line_of_row letter signals most r is other few less =
     let count = is.whole in
     let number = is.satellite.1 in
@@ -86,10 +85,9 @@ line_of_row letter signals most r is other few less =
     (record { clean = ap (λ c. c || false) other; short = lit≤ tt }) columns in
     as_line (1 + (2 + length r.signal_values * 64)) (trimmed (row_text letter r)) (plain_trimmed (1 + (2 + length r.signal_values * 64)) (row_text letter r) all) (omega (arith, count, less))
 
-line_of_seen : (gps galileo : ℕ) (s : SatelliteRow) → IsSatelliteRow gps galileo s → gps ≤ most_signals → galileo ≤ most_signals → IsFileLine (satellite_line s)
+line_of_seen : (signals : System → ℕ) (s : SatelliteRow) → IsSatelliteRow signals s → ((t : System) → signals t ≤ most_signals) → IsFileLine (satellite_line s)
 unfolding satellite_line
-line_of_seen gps galileo s is few less =
-    line_of_row (letter s.system) (of_system s.system gps galileo) (satellites s.system) s.row is.row (no_letter s.system) (few_satellites s.system) (either_few s.system gps galileo few less)
+line_of_seen signals s is few = line_of_row (letter s.system) (signals s.system) (satellites s.system) s.row is.row (no_letter s.system) (few_satellites s.system) (few s.system)
 
 -- ---- the whole
 
@@ -102,28 +100,28 @@ lines_of_change v (Some w) is =
     (All-cons IsFileLine (position_line w) (delta_line w ∷ []) (line_of_position w is.0)
     (All-cons IsFileLine (delta_line w) [] (line_of_delta w is.0) (All-nil IsFileLine)))
 
-lines_of_stamped : (gps galileo : ℕ) (v : StationValues) (e : Stamped) → IsStamped gps galileo e → IsChange v e.change → gps ≤ most_signals → galileo ≤ most_signals → All IsFileLine (stamped_lines e)
-lines_of_stamped gps galileo v e is change few less =
-    let rows = few_rows gps galileo e.rows is.rows in
-    let top : most_rows gps galileo ≤ 68 = grind arith in
+lines_of_stamped : (signals : System → ℕ) (v : StationValues) (e : Stamped) → IsStamped signals e → IsChange v e.change → ((t : System) → signals t ≤ most_signals) → All IsFileLine (stamped_lines e)
+lines_of_stamped signals v e is change few =
+    let rows = few_rows signals e.rows is.rows in
+    let top = few_most signals in
     let count : length e.rows < 2 ^ 64 = omega (arith, rows, top) in
     All-append IsFileLine (change_lines e.change) (epoch_line (civil_of e.time) (length e.rows) ∷ map satellite_line e.rows) (lines_of_change v e.change change)
     (All-cons IsFileLine (epoch_line (civil_of e.time) (length e.rows)) (map satellite_line e.rows) (line_of_epoch (civil_of e.time) (length e.rows) (short_time e.time is.time) count)
-    (All-map IsFileLine satellite_line e.rows (λ k d h. line_of_seen gps galileo (get_or e.rows k d) (is.rows.each k d h) few less)))
+    (All-map IsFileLine satellite_line e.rows (λ k d h. line_of_seen signals (get_or e.rows k d) (is.rows.each k d h) few)))
 
-lines_of_epochs : (gps galileo : ℕ) (v : StationValues) (es : List Stamped) → All (IsStamped gps galileo) es → AreChanges v es → gps ≤ most_signals → galileo ≤ most_signals → All IsFileLine (flat_map stamped_lines es)
-lines_of_epochs gps galileo v [] are changes few less = All-nil IsFileLine
-lines_of_epochs gps galileo v (e ∷ es) are changes few less =
-    All-append IsFileLine (stamped_lines e) (flat_map stamped_lines es) (lines_of_stamped gps galileo v e (All-head (IsStamped gps galileo) e es are) changes.0 few less)
-    (lines_of_epochs gps galileo (changed_by v e.change) es (All-tail (IsStamped gps galileo) e es are) changes.1 few less)
+lines_of_epochs : (signals : System → ℕ) (v : StationValues) (es : List Stamped) → All (IsStamped signals) es → AreChanges v es → ((t : System) → signals t ≤ most_signals) → All IsFileLine (flat_map stamped_lines es)
+lines_of_epochs signals v [] are changes few = All-nil IsFileLine
+lines_of_epochs signals v (e ∷ es) are changes few =
+    All-append IsFileLine (stamped_lines e) (flat_map stamped_lines es) (lines_of_stamped signals v e (All-head (IsStamped signals) e es are) changes.0 few)
+    (lines_of_epochs signals (changed_by v e.change) es (All-tail (IsStamped signals) e es are) changes.1 few)
 
 file_lines_are : {x : HeaderLists} {p : PlanValue} {v : StationValues} (es : List Stamped) → AreTexts x → IsPlan p → AreValues v
-    → All (IsStamped (length p.gps) (length p.galileo)) es → AreChanges v es → All IsFileLine (lines_of_file x p v es)
+    → All (IsStamped (planned_in p)) es → AreChanges v es → All IsFileLine (lines_of_file x p v es)
 file_lines_are [] texts plan values are changes = All-nil IsFileLine
 file_lines_are {x} {p} {v} (e ∷ es) texts plan values are changes =
-    let first = All-head (IsStamped (length p.gps) (length p.galileo)) e es are in
+    let first = All-head (IsStamped (planned_in p)) e es are in
     All-append IsFileLine (header_lines x p v (civil_of e.time)) (flat_map stamped_lines (e ∷ es)) (lines_of_header x p v (civil_of e.time) texts plan values (short_time e.time first.time))
-    (lines_of_epochs (length p.gps) (length p.galileo) v (e ∷ es) are changes (few_signals_of p plan Gps) (few_signals_of p plan Galileo))
+    (lines_of_epochs (planned_in p) v (e ∷ es) are changes (few_signals_of p plan))
 
 all_are : (v : FileValue) → IsFileValue v → All IsFileLine (file_lines v)
 all_are v is = file_lines_are v.epochs is.texts is.plan is.values is.epochs is.changes

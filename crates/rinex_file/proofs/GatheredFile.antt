@@ -1,10 +1,12 @@
 -- Epochs that were gathered from messages make a file value.
-use Rattle.gnss_obs.specs.Satellites.{satellites as satellites_in}
-use Rattle.rinex_file.proofs.Rows.Sizes.{if_fits}
+use Rattle.gnss_system.specs.Systems.{systems, index_of}
+use Rattle.gnss_system.specs.Satellites.{satellites as satellites_in}
+use Rattle.gnss_system.proofs.SystemLaws.{index_back, system_at, systems_taken}
+use Rattle.rinex_file.proofs.Rows.Sizes.{few_satellites, if_fits}
 use Rattle.rinex_file.proofs.Rows.Cells.{found_as}
 use Rattle.rinex_file.proofs.FewRows.{rise-tail}
 use Rattle.rinex_file.proofs.Writing.Sent.{length-rows}
-use Rattle.rinex_file.proofs.Names.{◌≡◌, ℕ, zero, suc, ◌+◌, ◌<◌, ◌≤◌, ◌==◌, Bool, true, false, ◌||◌, ◌&&◌, List, [], ◌∷◌, ◌++◌, map, length, get_or, refl, sym, ap, ap₂, ◌∙◌, subst, arith, Option, Some, None, is_some, inl, inr, if◌then◌else◌, find, IsTrue, Any, All, option_map_or, AllByRecursion, IsDistinct, IsStrictlyIncreasing, and_parts, eqb-true, cases_Bool, map-append, map-id, get_or-map, length-map, All-from_recursion, All-nil, All-cons, All-head, All-tail, All-append, All-push, All-map, All-weaker, All-filter, All-replicate, filter_passes, IsStrictlyIncreasing-filter, map-map, position-Some, System, Gps, Galileo, Cell, PlanValue, EpochValue, Closed, same_values, cells_of, planned_of, has_value, is_written, place_in, IsGathered, AreGathered, IsGatheredEpoch, AreGatheredEpochs, TimesRise, AreStationValues, same_place, Decides-int_eq, StationValues, HeaderLists, numbers, written_satellites, no_signal_values, signal_values_of, is_of_key, signal_values_at, row_of, row_among, row_in_epoch, rows_of, change_from, stamped_after, all_stamped, AreTexts, AreValues, has_some_value, AreSignalValues, IsRow, of_system, rank_of, IsSatelliteRow, IsStamped, IsChange, AreChanges, changed_by, time_stamped, IsFileValue, gathered, AreSignals, HasSatellite}
+use Rattle.rinex_file.proofs.Names.{◌≡◌, ℕ, zero, suc, ◌+◌, ◌*◌, ◌<◌, ◌≤◌, ◌==◌, Bool, true, false, ◌||◌, ◌&&◌, List, [], ◌∷◌, ◌++◌, map, length, get_or, refl, sym, ap, ap₂, ◌∙◌, subst, arith, Option, Some, None, is_some, inl, inr, if◌then◌else◌, find, IsTrue, Any, All, option_map_or, AllByRecursion, IsDistinct, IsStrictlyIncreasing, and_parts, eqb-true, cases_Bool, map-append, flat_map-append, append-nil, flat_map, take, get_or-map, length-map, All-from_recursion, All-nil, All-cons, All-head, All-tail, All-append, All-push, All-map, All-weaker, All-filter, All-replicate, filter_passes, IsStrictlyIncreasing-filter, map-map, position-Some, System, Gps, Galileo, Cell, PlanValue, EpochValue, Closed, same_values, cells_of, planned_of, has_value, is_written, place_in, IsGathered, AreGathered, IsGatheredEpoch, AreGatheredEpochs, TimesRise, AreStationValues, same_place, Decides-int_eq, StationValues, HeaderLists, numbers, written_satellites, no_signal_values, signal_values_of, is_of_key, signal_values_at, row_of, row_among, row_in_epoch, rows_of, change_from, stamped_after, all_stamped, AreTexts, AreValues, has_some_value, AreSignalValues, IsRow, planned_in, rank_of, IsSatelliteRow, IsStamped, IsChange, AreChanges, changed_by, time_stamped, IsFileValue, gathered, AreSignals, HasSatellite}
 
 -- ---- numbers in ascending order
 
@@ -102,61 +104,88 @@ row_is system signals cells id h n =
     )
 
 row_seen : (plan : PlanValue) (system : System) (cells : List Cell) (id : ℕ) → AreGathered system (planned_of system plan) cells → IsNumber cells (satellites_in system) id
-    → IsSatelliteRow (length plan.gps) (length plan.galileo) (row_among plan system cells id)
-row_seen plan Gps cells id h n = let r = row_is Gps plan.gps cells id h n in record { planned = r.0; row = r.1 }
-row_seen plan Galileo cells id h n = let r = row_is Galileo plan.galileo cells id h n in record { planned = r.0; row = r.1 }
+    → IsSatelliteRow (planned_in plan) (row_among plan system cells id)
+row_seen plan system cells id h n = let r = row_is system (planned_of system plan) cells id h n in record { planned = r.0; row = r.1 }
 
 numbers_of : (cells : List Cell) (most : ℕ) → All (IsNumber cells most) (written_satellites cells most)
 numbers_of cells most k d less =
     (All-filter (is_written cells) (IsUpTo most) (numbers most) (numbers_within most) k d less, filter_passes (is_written cells) (numbers most) k d less)
 
-rows_seen : (plan : PlanValue) (e : EpochValue) (system : System) → AreGathered system (planned_of system plan) (cells_of system e) → All (IsSatelliteRow (length plan.gps) (length plan.galileo)) (rows_of plan e system)
+rows_seen : (plan : PlanValue) (e : EpochValue) (system : System) → AreGathered system (planned_of system plan) (cells_of system e) → All (IsSatelliteRow (planned_in plan)) (rows_of plan e system)
 rows_seen plan e system h =
     let cells = cells_of system e in
-    All-map (IsSatelliteRow (length plan.gps) (length plan.galileo)) (row_in_epoch plan e system) (written_satellites cells (satellites_in system))
+    All-map (IsSatelliteRow (planned_in plan)) (row_in_epoch plan e system) (written_satellites cells (satellites_in system))
     (λ k d less. row_seen plan system cells (get_or (written_satellites cells (satellites_in system)) k d) h (numbers_of cells (satellites_in system) k d less))
 
-all_seen : (plan : PlanValue) (c : Closed) → IsGatheredEpoch plan c → All (IsSatelliteRow (length plan.gps) (length plan.galileo)) (rows_of plan c.epoch Gps ++ rows_of plan c.epoch Galileo)
-all_seen plan c h =
-    All-append (IsSatelliteRow (length plan.gps) (length plan.galileo)) (rows_of plan c.epoch Gps) (rows_of plan c.epoch Galileo) (rows_seen plan c.epoch Gps (h.cells Gps)) (rows_seen plan c.epoch Galileo (h.cells Galileo))
+all_seen : (plan : PlanValue) (c : Closed) → IsGatheredEpoch plan c → (ss : List System) → All (IsSatelliteRow (planned_in plan)) (flat_map (rows_of plan c.epoch) ss)
+all_seen plan c h [] = All-nil (IsSatelliteRow (planned_in plan))
+all_seen plan c h (s ∷ ss) = All-append (IsSatelliteRow (planned_in plan)) (rows_of plan c.epoch s) (flat_map (rows_of plan c.epoch) ss) (rows_seen plan c.epoch s (h.cells s)) (all_seen plan c h ss)
 
 -- ---- ranks
 
 written_rise : (cells : List Cell) (most : ℕ) → IsStrictlyIncreasing (written_satellites cells most)
 written_rise cells most = IsStrictlyIncreasing-filter (is_written cells) (numbers most) (numbers_rise most)
 
-rise_higher : (ids : List ℕ) → IsStrictlyIncreasing ids → IsStrictlyIncreasing (map (λ id. 100 + id) ids)
-rise_higher ids h k less =
-    let size : length (map (λ id. 100 + id) ids) ≡ length ids = length-map ids (λ id. 100 + id) in
-    let low = get_or-map (λ id. 100 + id) ids k 0 0 (omega (arith, size, less)) in
-    let high = get_or-map (λ id. 100 + id) ids (k + 1) 0 0 (omega (arith, size, less)) in
+rise_higher : (base : ℕ) (ids : List ℕ) → IsStrictlyIncreasing ids → IsStrictlyIncreasing (map (λ id. base + id) ids)
+rise_higher base ids h k less =
+    let size : length (map (λ id. base + id) ids) ≡ length ids = length-map ids (λ id. base + id) in
+    let low = get_or-map (λ id. base + id) ids k 0 0 (omega (arith, size, less)) in
+    let high = get_or-map (λ id. base + id) ids (k + 1) 0 0 (omega (arith, size, less)) in
     let more = h k (omega (arith, size, less)) in
     omega (arith, low, high, more)
 
-ranks_rise : (plan : PlanValue) (e : EpochValue) → IsStrictlyIncreasing (map rank_of (rows_of plan e Gps ++ rows_of plan e Galileo))
-ranks_rise plan e =
-    let gps = written_satellites e.gps (satellites_in Gps) in
-    let galileo = written_satellites e.galileo (satellites_in Galileo) in
-    let is : map rank_of (rows_of plan e Gps ++ rows_of plan e Galileo) ≡ gps ++ map (λ id. 100 + id) galileo =
-    map-append rank_of (rows_of plan e Gps) (rows_of plan e Galileo) ∙ ap₂ (λ a b. a ++ b) (map-map rank_of (row_in_epoch plan e Gps) gps ∙ map-id gps) (map-map rank_of (row_in_epoch plan e Galileo) galileo) in
-    subst IsStrictlyIncreasing (sym is)
-    (below_all 100 gps (map (λ id. 100 + id) galileo) (All-weaker (IsNumber e.gps 32) (λ x. x < 100) (λ x h. let most = h.0.1 in omega (arith, most)) gps (numbers_of e.gps (satellites_in Gps)))
-    (All-map (λ y. 100 ≤ y) (λ id. 100 + id) galileo (λ k d less. omega arith)) (written_rise e.gps (satellites_in Gps)) (rise_higher galileo (written_rise e.galileo (satellites_in Galileo))))
+abbrev ranks : PlanValue → EpochValue → List System → List ℕ
+ranks plan e ss = map rank_of (flat_map (rows_of plan e) ss)
+
+-- the ranks of one more system
+ranks_next : (plan : PlanValue) (e : EpochValue) (n : ℕ) (s : System) → index_of s ≡ n
+    → ranks plan e (take (suc n) systems) ≡ ranks plan e (take n systems) ++ map (λ id. 100 * n + id) (written_satellites (cells_of s e) (satellites_in s))
+ranks_next plan e n s at =
+    let next : n + 1 ≡ suc n = omega arith in
+    let ids = written_satellites (cells_of s e) (satellites_in s) in
+    ap (ranks plan e) (subst (λ m. take m systems ≡ take n systems ++ s ∷ []) next (systems_taken n s at))
+    ∙ ap (map rank_of) (flat_map-append (rows_of plan e) (take n systems) (s ∷ []) ∙ ap (λ l. flat_map (rows_of plan e) (take n systems) ++ l) (append-nil (rows_of plan e s)))
+    ∙ map-append rank_of (flat_map (rows_of plan e) (take n systems)) (rows_of plan e s)
+    ∙ ap (λ l. ranks plan e (take n systems) ++ l) (map-map rank_of (row_in_epoch plan e s) ids ∙ ap (λ (m : ℕ). map (λ id. 100 * m + id) ids) at)
+
+-- the ranks of the first systems rise, below that of each later one
+ranks_below : (plan : PlanValue) (e : EpochValue) (n : ℕ) → n ≤ length systems
+    → All (λ x. x < 100 * n + 1) (ranks plan e (take n systems)) × IsStrictlyIncreasing (ranks plan e (take n systems))
+ranks_below plan e zero few = (All-nil (λ x. x < 1), λ k less. absurd (omega (arith, less)))
+ranks_below plan e (suc n) few =
+    let less : n < length systems = omega (arith, few) in
+    let s = system_at n in
+    let at = index_back n less in
+    let cells = cells_of s e in
+    let ids = written_satellites cells (satellites_in s) in
+    let before = ranks_below plan e n (omega (arith, few)) in
+    let number = numbers_of cells (satellites_in s) in
+    let most = few_satellites s in
+    let is = sym (ranks_next plan e n s at) in (
+      subst (All (λ x. x < 100 * suc n + 1)) is (All-append (λ x. x < 100 * suc n + 1) (ranks plan e (take n systems)) (map (λ id. 100 * n + id) ids)
+          (All-weaker (λ x. x < 100 * n + 1) (λ x. x < 100 * suc n + 1) (λ x h. omega (arith, h)) (ranks plan e (take n systems)) before.0)
+          (All-map (λ x. x < 100 * suc n + 1) (λ id. 100 * n + id) ids (λ k d h. let last = (number k d h).0.1 in omega (arith, last, most)))),
+      subst IsStrictlyIncreasing is (below_all (100 * n + 1) (ranks plan e (take n systems)) (map (λ id. 100 * n + id) ids) before.0
+          (All-map (λ y. 100 * n + 1 ≤ y) (λ id. 100 * n + id) ids (λ k d h. let first = (number k d h).0.0 in omega (arith, first))) before.1 (rise_higher (100 * n) ids (written_rise cells (satellites_in s)))),
+    )
+
+ranks_rise : (plan : PlanValue) (e : EpochValue) → IsStrictlyIncreasing (ranks plan e systems)
+ranks_rise plan e = (ranks_below plan e (length systems) (omega arith)).1
 
 -- ---- epochs
 
-epoch_is : (plan : PlanValue) (v : StationValues) (c : Closed) → IsGatheredEpoch plan c → HasSatellite c → IsStamped (length plan.gps) (length plan.galileo) (stamped_after plan v c)
+epoch_is : (plan : PlanValue) (v : StationValues) (c : Closed) → IsGatheredEpoch plan c → HasSatellite c → IsStamped (planned_in plan) (stamped_after plan v c)
 epoch_is plan v c h some = record {
   time = h.time;
-  rows = record { each = all_seen plan c h; rise = ranks_rise plan c.epoch };
+  rows = record { each = all_seen plan c h systems; rise = ranks_rise plan c.epoch };
   some = subst (λ n. 0 < n) (sym (length-rows plan c.epoch)) some;
 }
 
 epochs_are : (plan : PlanValue) (v : StationValues) (es : List Closed) → AllByRecursion (IsGatheredEpoch plan) es → AllByRecursion HasSatellite es
-    → All (IsStamped (length plan.gps) (length plan.galileo)) (all_stamped plan v es)
-epochs_are plan v [] h k = All-nil (IsStamped (length plan.gps) (length plan.galileo))
+    → All (IsStamped (planned_in plan)) (all_stamped plan v es)
+epochs_are plan v [] h k = All-nil (IsStamped (planned_in plan))
 epochs_are plan v (e ∷ es) h k =
-    All-cons (IsStamped (length plan.gps) (length plan.galileo)) (stamped_after plan v e) (all_stamped plan e.values es) (epoch_is plan v e h.0 k.0) (epochs_are plan e.values es h.1 k.1)
+    All-cons (IsStamped (planned_in plan)) (stamped_after plan v e) (all_stamped plan e.values es) (epoch_is plan v e h.0 k.0) (epochs_are plan e.values es h.1 k.1)
 
 times_rise : (plan : PlanValue) (v : StationValues) (es : List Closed) → TimesRise es → IsStrictlyIncreasing (map time_stamped (all_stamped plan v es))
 times_rise plan v [] h k less = absurd (omega (arith, less))
@@ -189,16 +218,17 @@ changes_are plan v [] h = tt
 changes_are plan v (e ∷ es) h = grind (arith, changes, (changes_are plan e.values es h.1))
 
 -- if a satellite is written, a signal is planned
-planned_by : (gps galileo : ℕ) (system : System) → 0 < of_system system gps galileo → 0 < gps + galileo
-planned_by gps galileo system some = grind arith
+planned_by : (signals : System → ℕ) (system : System) → 0 < signals system → 0 < signals Gps + signals Galileo
+planned_by signals Gps some = omega (arith, some)
+planned_by signals Galileo some = omega (arith, some)
 
 pub gathered_file : (texts : HeaderLists) (plan : PlanValue) (e : Closed) (es : List Closed) → AreTexts texts → AreSignals plan → AreGatheredEpochs plan (e ∷ es)
     → AllByRecursion HasSatellite (e ∷ es) → IsFileValue (gathered texts plan e.values (e ∷ es))
 gathered_file texts plan e es x p h some =
-    let seen = all_seen plan e h.each.0 0 (row_in_epoch plan e.epoch Gps 0) (subst (λ n. 0 < n) (sym (length-rows plan e.epoch)) some.0) in
+    let seen = all_seen plan e h.each.0 systems 0 (row_in_epoch plan e.epoch Gps 0) (subst (λ n. 0 < n) (sym (length-rows plan e.epoch)) some.0) in
     record {
       texts = x;
-      plan = record { listed = p.listed; apart = p.apart; some = planned_by (length plan.gps) (length plan.galileo) _ seen.planned };
+      plan = record { listed = p.listed; apart = p.apart; some = planned_by (planned_in plan) _ seen.planned };
       values = values_fit e.values h.each.0.values;
       some = omega arith;
       epochs = epochs_are plan e.values (e ∷ es) h.each some;

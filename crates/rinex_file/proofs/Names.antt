@@ -1,22 +1,23 @@
 -- The names that proofs cite, passed on from one place. Declares nothing.
 pub use Rattle.arrayvec.specs.ArrayVec.{array_vec_len}
-pub use Rattle.gnss_obs.proofs.Checked.{is_equal, is_less, passes_at}
+pub use Rattle.gnss_system.proofs.Checked.{is_equal, is_less, passes_at}
 pub use Rattle.gnss_obs.proofs.GroupLemmas.{Above, Climb, Left, left_all, sorted_climbs}
 pub use Rattle.gnss_obs.proofs.PlanLemmas.{any_index, few_signals, indices-push, length_indices, none_of}
 pub use Rattle.gnss_obs.specs.Dates.{IsCivilOf, civil_of}
 pub use Rattle.gnss_obs.specs.GatheredEpochs.{AreGathered, AreGatheredEpochs, AreStationValues, IsCoordinate, IsGathered, IsGatheredEpoch, TimesRise, same_place}
 pub use Rattle.gnss_obs.specs.Plans.{place_in}
-pub use Rattle.gnss_obs.specs.Satellites.{is_system, letter, satellites}
+pub use Rattle.gnss_system.specs.Satellites.{letter, most_satellites, satellites}
+pub use Rattle.gnss_system.specs.Systems.{is_system}
 pub use Rattle.gnss_obs.specs.SignalLists.{IsAdded, IsOf, indices}
-pub use Rattle.gnss_obs.specs.Signals.{IsSignal, SignalAt, code_of, most_signals, signal_of_code, table}
+pub use Rattle.gnss_system.specs.Signals.{IsSignal, SignalAt, code_of, most_signals, signal_of_code, table}
 unfoldable pub use Rattle.gnss_obs.specs.Values.{written_among}
 pub use Rattle.gnss_obs.specs.Values.{Closed, EpochValue, HasTwelveDigits, IsHeld, PlanValue, cells_of, has_value, is_of_satellite, is_written, planned_of, run, same_values, satellites_written}
 pub use Rattle.gnss_obs.specs.Weeks.{week, weeks}
 pub use Rattle.gnss_obs.specs.declared.cell.Cell.{Cell}
 pub use Rattle.gnss_obs.specs.declared.cell.StationValues.{StationValues}
 pub use Rattle.gnss_obs.specs.declared.civil.Civil.{Civil}
-pub use Rattle.gnss_obs.specs.declared.system.System.{System}
-pub use Rattle.gnss_obs.specs.declared.system.System.TheVariants.{Galileo, Gps}
+pub use Rattle.gnss_system.specs.declared.system.System.{System}
+pub use Rattle.gnss_system.specs.declared.system.System.TheVariants.{Galileo, Gps}
 pub use Rattle.memchr.specs.Find.{IsFirstByte, is_byte}
 pub use Rattle.rinex_file.specs.Begun.{AreBegun, IsEventBegun, lines_of_header, part_lines, whole_lines}
 unfoldable pub use Rattle.rinex_file.specs.Blanks.{trimmed}
@@ -26,7 +27,8 @@ pub use Rattle.rinex_file.specs.Counting.{IsSummary, IsTextWith}
 pub use Rattle.rinex_file.specs.Exact.{AreBefore, ExplainsFault, IsCutShort, IsExpectedAt, IsFaulty, IsFound, IsLine, IsNoFault, IsReadOr, IsTextOf, IsTooLong, NoFileBegins, most_lines}
 unfoldable pub use Rattle.rinex_file.specs.File.{epoch_text, event_line, event_text, header_text, line_among, lines_up_to}
 pub use Rattle.rinex_file.specs.File.{change_lines, change_text, closed_text, event_lines, file_lines, file_text, gathered, line_or_none, lines_of_parts, stamped_lines}
-pub use Rattle.rinex_file.specs.FileValues.{AreChanges, AreSatelliteRows, AreSignalValues, AreTexts, AreValues, FitsColumns, HaveRoom, IsChange, IsFileValue, IsFirstSame, IsFrom, IsPlan, IsRow, IsSatelliteRow, IsStamped, IsText, IsTime, changed_by, has_some_value, most_rows, of_system, rank_of, time_stamped, values_following}
+pub use Rattle.rinex_file.specs.File.{lines_of_systems}
+pub use Rattle.rinex_file.specs.FileValues.{AreChanges, AreSatelliteRows, AreSignalValues, AreTexts, AreValues, FitsColumns, HaveRoom, IsChange, IsFileValue, IsFirstSame, IsFrom, IsPlan, IsRow, IsSatelliteRow, IsStamped, IsText, IsTime, changed_by, has_some_value, most_rows, of_system, planned_in, rank_of, time_stamped, values_following}
 pub use Rattle.rinex_file.specs.Gathered.{AreSignals, HasSatellite}
 unfoldable pub use Rattle.rinex_file.specs.Header.{header_line, header_lines, row_line}
 pub use Rattle.rinex_file.specs.Header.{IsSystemsLetter, all_rows, codes_of, delta_line, end_line, file_system, first_line, first_types, has_line, height_line, is_some_planned, lengths, lines_from, most_type_rows, position_line, row_at, row_count, row_lines, row_place, strength_line, text_columns, texts_line, type_columns, type_front, type_line, type_of, type_rows, types_of, version_fields, version_by, version_line, version_with}

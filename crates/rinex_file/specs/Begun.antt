@@ -7,7 +7,7 @@ use Rattle.gnss_obs.specs.declared.cell.StationValues.{StationValues}
 use Rattle.gnss_obs.specs.Dates.{civil_of}
 use Rattle.rinex_file.specs.Value.{Stamped}
 use Rattle.rinex_file.specs.FileValues.{IsTime, IsStamped, AreSatelliteRows, IsChange, AreChanges, IsFirstSame}
-use Rattle.rinex_file.specs.FileValues.{values_following, time_stamped, most_rows}
+use Rattle.rinex_file.specs.FileValues.{values_following, time_stamped, most_rows, planned_in}
 use Rattle.rinex_file.specs.Header.{header_lines}
 use Rattle.rinex_file.specs.Lines.{epoch_line, satellite_line}
 use Rattle.rinex_file.specs.File.{stamped_lines, change_lines, event_lines}
@@ -16,7 +16,7 @@ use Rattle.rinex_file.specs.Read.Progress.{Shown, IsShown, StartsAt}
 -- a header, and whole epochs that may follow it
 pub record AreWhole (h : Shown) (es : List Stamped) : Type 0 where
   pub shown : IsShown h
-  pub epochs : All (IsStamped (length h.plan.gps) (length h.plan.galileo)) es
+  pub epochs : All (IsStamped (planned_in h.plan)) es
   pub rising : IsStrictlyIncreasing (map time_stamped es)
   pub starts : StartsAt h.first es
   pub first : IsFirstSame es
@@ -26,7 +26,7 @@ pub record AreWhole (h : Shown) (es : List Stamped) : Type 0 where
 pub record IsPartOfNext (h : Shown) (es : List Stamped) (e : Stamped) : Type 0 where
   pub time : IsTime e.time
   pub later : IsStrictlyIncreasing (map time_stamped es ++ e.time ∷ [])
-  pub rows : AreSatelliteRows (length h.plan.gps) (length h.plan.galileo) e.rows
+  pub rows : AreSatelliteRows (planned_in h.plan) e.rows
   pub first : es ≡ [] → h.first ≡ e.time
   pub change : IsChange (values_following h.values es) e.change
   pub same : es ≡ [] → e.change ≡ None
@@ -75,7 +75,7 @@ pub record IsEpochBegun (lines : List (List ℕ)) : Type 0 where
   pub whole : AreWhole h es
   pub next : IsPartOfNext h es e
   pub fewer : length e.rows < n
-  pub room : n ≤ most_rows (length h.plan.gps) (length h.plan.galileo)
+  pub room : n ≤ most_rows (planned_in h.plan)
   pub are : lines ≡ whole_lines h es ++ part_lines e n
 
 abbrev pub AreBegun : List (List ℕ) → Type 0

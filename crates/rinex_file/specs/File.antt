@@ -1,7 +1,8 @@
 -- The text of a file.
 use Rattle.std.specs.Prelude.{◌≡◌, ℕ, List, [], ◌∷◌, ◌++◌, length, map, flat_map, replicate, codes, Option, Some, None}
 use Rattle.std.specs.Prelude.{if◌then◌else◌}
-use Rattle.gnss_obs.specs.declared.system.System.{System}
+use Rattle.gnss_system.specs.declared.system.System.{System}
+use Rattle.gnss_system.specs.Satellites.{satellites}
 use Rattle.gnss_obs.specs.declared.cell.StationValues.{StationValues}
 use Rattle.gnss_obs.specs.Values.{EpochValue, PlanValue, Closed, same_values, cells_of, is_written}
 use Rattle.gnss_obs.specs.Dates.{civil_of}
@@ -52,6 +53,10 @@ line_or_none plan epoch system id = line_among plan system (cells_of system epoc
 unfoldable pub lines_up_to : PlanValue → EpochValue → System → ℕ → List ℕ
 lines_up_to plan epoch system most =
     joined (map satellite_line (map (row_in_epoch plan epoch system) (written_satellites (cells_of system epoch) most)))
+
+-- the lines of these systems
+abbrev pub lines_of_systems : PlanValue → EpochValue → List System → List ℕ
+lines_of_systems plan epoch ss = flat_map (λ s. lines_up_to plan epoch s (satellites s)) ss
 
 -- header and epochs; nothing if there is no epoch
 abbrev pub lines_of_parts : HeaderLists → PlanValue → StationValues → List Stamped → List (List ℕ)

@@ -2,12 +2,13 @@
 use Rattle.std.specs.Prelude.{◌≡◌, ◌≢◌, ⊤, ℕ, ℤ, pos, neg_ℤ, ◌+◌, ◌*◌, ◌^◌, ◌<◌, ◌≤◌, ◌≤ℤ◌, ◌||◌, Bool, true, List, []}
 use Rattle.std.specs.Prelude.{◌∷◌, length, All, Any, map, Option, Some, None, is_some, nat_eq, nat_lt, if◌then◌else◌}
 use Rattle.std.specs.Prelude.{IfSome, IsTrue}
-use Rattle.std.specs.List.{IsDistinct, list_all}
+use Rattle.std.specs.List.{IsDistinct, list_all, sum_by}
 use Rattle.std.specs.List.Sorted.{IsStrictlyIncreasing}
-use Rattle.gnss_obs.specs.declared.system.System.{System}
-use Rattle.gnss_obs.specs.declared.system.System.TheVariants.{Gps, Galileo}
-use Rattle.gnss_obs.specs.Satellites.{satellites}
-use Rattle.gnss_obs.specs.Signals.{table}
+use Rattle.gnss_system.specs.declared.system.System.{System}
+use Rattle.gnss_system.specs.declared.system.System.TheVariants.{Gps, Galileo}
+use Rattle.gnss_system.specs.Systems.{systems, index_of}
+use Rattle.gnss_system.specs.Satellites.{satellites}
+use Rattle.gnss_system.specs.Signals.{table}
 use Rattle.gnss_obs.specs.declared.cell.StationValues.{StationValues}
 use Rattle.gnss_obs.specs.GatheredEpochs.{IsCoordinate}
 use Rattle.gnss_obs.specs.Values.{PlanValue, planned_of}
@@ -83,34 +84,37 @@ pub record IsRow (most signals : ℕ) (r : Row) : Type 0 where
   pub whole : length r.signal_values ≡ signals
   pub some : Any (λ e. IsTrue (has_some_value e)) r.signal_values
 
+-- the number of planned signals of each system
+abbrev pub planned_in : PlanValue → System → ℕ
+planned_in p s = length (planned_of s p)
+
 -- the first value for GPS, the second for Galileo
 abbrev pub of_system : {X : Type 0} → System → X → X → X
 of_system Gps gps galileo = gps
 of_system Galileo gps galileo = galileo
 
--- a satellite's rank among all: those of GPS come first
+-- a satellite's rank among all: by system, and then by its number, which has two digits
 abbrev pub rank_of : SatelliteRow → ℕ
-rank_of s = of_system s.system s.row.satellite (100 + s.row.satellite)
+rank_of s = 100 * index_of s.system + s.row.satellite
 
--- a row of a system of which some signal is planned, if `gps` and `galileo` signals are planned
-pub record IsSatelliteRow (gps galileo : ℕ) (s : SatelliteRow) : Type 0 where
-  pub planned : 0 < of_system s.system gps galileo
-  pub row : IsRow (satellites s.system) (of_system s.system gps galileo) s.row
+-- a row of a system of which some signal is planned, if these numbers of signals are planned
+pub record IsSatelliteRow (signals : System → ℕ) (s : SatelliteRow) : Type 0 where
+  pub planned : 0 < signals s.system
+  pub row : IsRow (satellites s.system) (signals s.system) s.row
 
 -- satellites in ascending order
-pub record AreSatelliteRows (gps galileo : ℕ) (rows : List SatelliteRow) : Type 0 where
-  pub each : All (IsSatelliteRow gps galileo) rows
+pub record AreSatelliteRows (signals : System → ℕ) (rows : List SatelliteRow) : Type 0 where
+  pub each : All (IsSatelliteRow signals) rows
   pub rise : IsStrictlyIncreasing (map rank_of rows)
 
 -- the number of satellites of the systems of which some signal is planned
-abbrev pub most_rows : ℕ → ℕ → ℕ
-most_rows gps galileo =
-    (if nat_lt 0 gps then satellites Gps else 0) + (if nat_lt 0 galileo then satellites Galileo else 0)
+abbrev pub most_rows : (System → ℕ) → ℕ
+most_rows signals = sum_by (λ s. if nat_lt 0 (signals s) then satellites s else 0) systems
 
 -- an epoch of at least one satellite
-pub record IsStamped (gps galileo : ℕ) (e : Stamped) : Type 0 where
+pub record IsStamped (signals : System → ℕ) (e : Stamped) : Type 0 where
   pub time : IsTime e.time
-  pub rows : AreSatelliteRows gps galileo e.rows
+  pub rows : AreSatelliteRows signals e.rows
   pub some : 0 < length e.rows
 
 abbrev pub time_stamped : Stamped → ℕ
@@ -150,7 +154,7 @@ pub record IsFileValue (v : FileValue) : Type 0 where
   pub plan : IsPlan v.plan
   pub values : AreValues v.values
   pub some : 0 < length v.epochs
-  pub epochs : All (IsStamped (length v.plan.gps) (length v.plan.galileo)) v.epochs
+  pub epochs : All (IsStamped (planned_in v.plan)) v.epochs
   pub rising : IsStrictlyIncreasing (map time_stamped v.epochs)
   pub first : IsFirstSame v.epochs
   pub changes : AreChanges v.values v.epochs

@@ -1,8 +1,8 @@
 -- When epochs that were gathered from messages make a file value.
 use Rattle.std.specs.Prelude.{◌<◌, List, ◌∷◌, length, All, nat_eq}
 use Rattle.std.specs.List.{AllByRecursion, IsDistinct}
-use Rattle.gnss_obs.specs.declared.system.System.{System}
-use Rattle.gnss_obs.specs.Signals.{table}
+use Rattle.gnss_system.specs.declared.system.System.{System}
+use Rattle.gnss_system.specs.Signals.{table}
 use Rattle.gnss_obs.specs.Values.{PlanValue, Closed, planned_of, satellites_written}
 use Rattle.gnss_obs.specs.GatheredEpochs.{AreGatheredEpochs}
 use Rattle.rinex_file.specs.Texts.{HeaderLists}

@@ -1,10 +1,11 @@
 -- The lines of a header, RINEX 3.05, table A2: content in columns 1 to 60, the label from column 61 on.
 use Rattle.std.specs.Prelude.{◌≡◌, ◌⊎◌, ℕ, zero, suc, ℤ, pos, ◌+◌, ◌*◌, ◌/◌, ◌==◌, if◌then◌else◌, List, [], ◌∷◌, ◌++◌, length}
 use Rattle.std.specs.Prelude.{take, drop, map, flat_map, replicate, decimal, codes, get_or, Bool, true, false, not, nat_lt}
-use Rattle.gnss_obs.specs.Satellites.{letter, is_system}
-use Rattle.gnss_obs.specs.Signals.{code_of}
-use Rattle.gnss_obs.specs.declared.system.System.{System}
-use Rattle.gnss_obs.specs.declared.system.System.TheVariants.{Gps, Galileo}
+use Rattle.gnss_system.specs.Satellites.{letter}
+use Rattle.gnss_system.specs.Systems.{is_system}
+use Rattle.gnss_system.specs.Signals.{code_of}
+use Rattle.gnss_system.specs.declared.system.System.{System}
+use Rattle.gnss_system.specs.declared.system.System.TheVariants.{Gps, Galileo}
 use Rattle.gnss_obs.specs.declared.cell.StationValues.{StationValues}
 use Rattle.gnss_obs.specs.declared.civil.Civil.{Civil}
 use Rattle.gnss_obs.specs.Values.{PlanValue, planned_of}

@@ -1,6 +1,6 @@
 -- The largest sizes of a line of a file and of its parts.
 use Rattle.std.specs.Prelude.{ℕ, ◌+◌, ◌*◌}
-use Rattle.gnss_obs.specs.Signals.{most_signals}
+use Rattle.gnss_system.specs.Signals.{most_signals}
 
 -- a value: F14.3 plus the LLI and SSI columns
 abbrev pub value_columns : ℕ

@@ -3,7 +3,7 @@ use Rattle.std.specs.Prelude.{ℕ, ℤ, pos, ◌+◌, ◌*◌, ◌==◌, List, [
 use Rattle.std.specs.Prelude.{if◌then◌else◌, Option, Some, None}
 use Rattle.std.specs.Option.{option_map_or}
 use Rattle.gnss_obs.specs.Observables.{strength_digit}
-use Rattle.gnss_obs.specs.Satellites.{letter}
+use Rattle.gnss_system.specs.Satellites.{letter}
 use Rattle.gnss_obs.specs.declared.civil.Civil.{Civil}
 use Rattle.rinex_file.specs.Numbers.{joined, right, fixed, padded}
 use Rattle.rinex_file.specs.Blanks.{trimmed}

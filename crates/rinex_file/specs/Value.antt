@@ -1,10 +1,10 @@
 -- The contents of a file.
-use Rattle.std.specs.Prelude.{ℕ, ℤ, ◌==◌, ◌&&◌, Bool, List, [], ◌∷◌, ◌++◌, zero, suc, map, filter, find, if◌then◌else◌}
+use Rattle.std.specs.Prelude.{ℕ, ℤ, ◌==◌, ◌&&◌, Bool, List, [], ◌∷◌, ◌++◌, zero, suc, map, flat_map, filter, find, if◌then◌else◌}
 use Rattle.std.specs.Prelude.{Option, Some, None}
 use Rattle.std.specs.Option.{option_map_or}
-use Rattle.gnss_obs.specs.declared.system.System.{System}
-use Rattle.gnss_obs.specs.declared.system.System.TheVariants.{Gps, Galileo}
-use Rattle.gnss_obs.specs.Satellites.{satellites}
+use Rattle.gnss_system.specs.declared.system.System.{System}
+use Rattle.gnss_system.specs.Systems.{systems}
+use Rattle.gnss_system.specs.Satellites.{satellites}
 use Rattle.gnss_obs.specs.declared.cell.Cell.{Cell}
 use Rattle.gnss_obs.specs.declared.cell.StationValues.{StationValues}
 use Rattle.gnss_obs.specs.Values.{EpochValue, PlanValue, Closed, same_values, cells_of, planned_of, is_written}
@@ -35,7 +35,7 @@ abbrev pub satellite_row : System → ℕ → List SignalValues → SatelliteRow
 satellite_row system satellite signal_values =
     record { system = system; row = record { satellite = satellite; signal_values = signal_values } }
 
--- An epoch: a map from satellites to entries, as a list of satellites in ascending order, those of GPS first. `change`
+-- An epoch: a map from satellites to entries, as a list of satellites in ascending order. `change`
 -- are the station values that hold from this epoch on, if they differ from those before.
 pub record Stamped : Type 0 where
   pub change : Option StationValues
@@ -97,7 +97,7 @@ rows_of plan epoch system =
 
 abbrev pub stamped_of : PlanValue → EpochValue → Stamped
 stamped_of plan epoch =
-    record { change = None; time = epoch.time; rows = rows_of plan epoch Gps ++ rows_of plan epoch Galileo }
+    record { change = None; time = epoch.time; rows = flat_map (rows_of plan epoch) systems }
 
 -- the station values now, if they differ from those before
 abbrev pub change_from : StationValues → StationValues → Option StationValues

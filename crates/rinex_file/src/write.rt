@@ -2,8 +2,9 @@
 ghost use Rattle.std.specs.Prelude.{◌≡◌, ◌<◌, OnOk, OnErr, IfErr};
 ghost use Rattle.std.specs.Io.KnownBytes.{Appends};
 ghost use Rattle.rtcm_bits.specs.Device.{AppendsPrefix, FailsWith};
-ghost use Rattle.gnss_obs.specs.Satellites.{satellites};
-ghost use Rattle.rinex_file.specs.File.{event_text, epoch_text, lines_up_to};
+ghost use Rattle.gnss_system.specs.Satellites.{satellites};
+ghost use Rattle.gnss_system.specs.Systems.{systems};
+ghost use Rattle.rinex_file.specs.File.{event_text, epoch_text, lines_of_systems, lines_up_to};
 ghost use Rattle.rinex_file.specs.Heads.{head_text};
 
 pub(crate) mod digits;
@@ -19,7 +20,8 @@ use crate::header::lines::{delta_line, position_line};
 use crate::write::epoch::{epoch_line, event_line};
 use crate::write::line::{Line, MOST_LINE};
 use crate::write::satellite::put_satellite_line;
-use gnss_obs::{Epoch, Plan, StationValues, System, end_of, is_written};
+use gnss_obs::{Epoch, Plan, StationValues, end_of, is_written};
+use gnss_system::{SYSTEMS, System};
 use rtcm_bits::{Counted, DeviceFailed};
 use std::io::Write;
 
@@ -96,8 +98,28 @@ fn write_system<W: Write>(
     Ok(())
 }
 
-/// Writes an epoch: its line, and a line for each satellite that has a value, GPS first and in
-/// ascending order of the satellites' numbers.
+/// Writes the lines of each system, one system after the other.
+#[tactic(auto, using(crate::proofs::Writing::Sent::failures))]
+fn write_systems<W: Write>(
+    epoch: &Epoch,
+    plan: &Plan,
+    writer: &mut Counted<W>,
+) -> Result<(), DeviceFailed>
+    ensures whole { OnOk result (Appends (W.contents writer.old.inner) (W.contents writer.new.inner)
+        (lines_of_systems plan.now epoch.now.epoch systems)) }
+    ensures part { OnErr result (AppendsPrefix (W.contents writer.old.inner) (W.contents writer.new.inner)
+        (lines_of_systems plan.now epoch.now.epoch systems)) }
+    ensures device { FailsWith result writer.old writer.new }
+{
+    let mut row = [b' '; MOST_LINE];
+    for i in 0..SYSTEMS.len() {
+        write_system(epoch, plan, System::at(i), &mut row, writer)?;
+    }
+    Ok(())
+}
+
+/// Writes an epoch: its line, and a line for each satellite that has a value, in the order of
+/// the systems and of the satellites' numbers.
 ///
 /// # Errors
 ///
@@ -119,8 +141,6 @@ pub fn write_epoch<W: Write>(
     let mut line = Line::new();
     epoch_line(epoch.time(), epoch.satellites(), &mut line);
     writer.write_whole(line.as_slice())?;
-    let mut row = [b' '; MOST_LINE];
-    write_system(epoch, plan, System::Gps, &mut row, writer)?;
-    write_system(epoch, plan, System::Galileo, &mut row, writer)?;
+    write_systems(epoch, plan, writer)?;
     Ok(())
 }

@@ -8,7 +8,10 @@ use Rattle.clap.specs.Matches.{found_of}
 use Rattle.clap.specs.declared.parser.matches.ArgMatches.{ArgMatches}
 use Rattle.rtcm_scan.specs.Scan.{most_bytes}
 use Rattle.obs_epoch.specs.Kinds.{is_by_bit}
+use Rattle.gnss_system.specs.SystemValues.{of_two}
 use Rattle.gnss_obs.specs.Plans.{plan_of}
+use Rattle.gnss_obs.specs.Values.{PlanValue}
+use Rattle.gnss_obs.specs.declared.fault.PlanFault.{PlanFault}
 use Rattle.gnss_obs.specs.declared.fault.PlanFault.TheVariants as plans
 use Rattle.rinex_file.specs.Texts.{HeaderLists, trimmed_texts, first_fault, fields}
 use Rattle.gnss_obs.specs.declared.cell.StationValues.{StationValues}
@@ -76,10 +79,15 @@ IsNearRefused options fault = (fault ≡ faults.BadDate dated.Near) × ((near : 
 abbrev pub has_times : List Row → Bool
 has_times options = bytes_eq (text_set options (codes "times")) (codes "true")
 
+-- The plan of the options for it, or its fault.
+abbrev pub plan_set : List Row → Result PlanValue PlanFault
+plan_set options =
+    plan_of (of_two (text_set options (codes "gps")) (text_set options (codes "galileo")) (codes "none"))
+
 -- The setup of a conversion has the value of each option, by its name.
 pub record IsSetupOf (options : List Row) (x : Setup) : Type 0 where
   pub texts : x.texts ≡ trimmed_texts (texts_set options)
-  pub plan : plan_of (text_set options (codes "gps")) (text_set options (codes "galileo")) ≡ Ok x.plan
+  pub plan : plan_set options ≡ Ok x.plan
   pub week : IsWeekSet options x.start_week
   pub station : IsNumberOf 16 (one_of (codes "station") options) x.station
   pub gather : is_by_bit x.gather ≡ not (bytes_eq (text_set options (codes "gather")) (codes "time"))
@@ -107,7 +115,7 @@ IsStartOf options x = IsSetupOf options x.setup × (values_set options ≡ Ok x.
 abbrev pub HasSetupFault : List Row → ToolFault → Type 0
 HasSetupFault options (faults.Header e) = first_fault (texts_set options) None fields ≡ Some e
 HasSetupFault options (faults.Plan e) = (first_fault (texts_set options) None fields ≡ None)
-    × ((e ≡ plans.Memory) ⊎ (plan_of (text_set options (codes "gps")) (text_set options (codes "galileo")) ≡ Err e))
+    × ((e ≡ plans.Memory) ⊎ (plan_set options ≡ Err e))
 HasSetupFault options other = ⊥
 
 -- the fault of the position or the height comes before that of another option

@@ -3,7 +3,7 @@ pub use Rattle.gnss_obs.specs.GatheredEpochs.{AreGatheredEpochs, AreStationValue
 pub use Rattle.gnss_obs.specs.HeardCells.{HeardCell}
 pub use Rattle.gnss_obs.specs.Values.{Closed, EpochValue, PlanValue, no_values, same_values, satellites_written}
 pub use Rattle.gnss_obs.specs.declared.cell.StationValues.{StationValues}
-pub use Rattle.gnss_obs.specs.declared.system.System.{System}
+pub use Rattle.gnss_system.specs.declared.system.System.{System}
 pub use Rattle.obs_epoch.specs.Cells.{counts_of, counts_of_message, firsts, is_among, is_planned, no_counts, offered, with_skipped}
 pub use Rattle.obs_epoch.specs.Epochs.{closed_so_far, closed_times}
 pub use Rattle.obs_epoch.specs.GathererSteps.{GathererValue}

@@ -8,7 +8,7 @@ use Rattle.rtcm_scan.specs.Decided.{decided}
 use Rattle.rtcm_scan.specs.Scan.{FramerValue}
 use Rattle.rtcm_scan.specs.Drained.{IsDrained}
 use Rattle.rtcm_convert.specs.Converted.{SetupValue, epochs_in}
-use Rattle.gnss_obs.specs.declared.system.System.TheVariants.{Gps, Galileo}
+use Rattle.gnss_system.specs.declared.system.System.TheVariants.{Gps, Galileo}
 use Rattle.gnss_obs.specs.Values.{cells_of}
 use Rattle.obs_epoch.specs.Held.{recorded}
 use Rattle.rtcm_convert.specs.Kept.{IsWithinBounds, IsKeptNow, IsKeptAtEnd}

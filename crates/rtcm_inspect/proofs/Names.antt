@@ -3,17 +3,18 @@ pub use Rattle.gnss_obs.specs.GatheredEpochs.{coordinate_bound}
 pub use Rattle.gnss_obs.specs.Dates.{IsCivilOf, civil_of}
 pub use Rattle.gnss_obs.specs.HeardCells.{HeardCell, IsKey}
 pub use Rattle.gnss_obs.specs.Plans.{below, between_commas, one_signal_more, onto_first, place_in, plan_of, signals_after, signals_of}
-pub use Rattle.gnss_obs.specs.Satellites.{IsSatellite, Satellite, is_system, satellite_of_id, satellites}
-pub use Rattle.gnss_obs.specs.Signals.{IsSignal, SignalAt, code_of, signal_of_code, signal_of_id, table}
+pub use Rattle.gnss_system.specs.Satellites.{IsSatellite, Satellite, satellite_of_id, satellites}
+pub use Rattle.gnss_system.specs.Systems.{is_system}
+pub use Rattle.gnss_system.specs.Signals.{IsSignal, SignalAt, code_of, signal_of_code, signal_of_id, table}
 pub use Rattle.gnss_obs.specs.Values.{PlanValue, planned_of}
 pub use Rattle.gnss_obs.specs.Weeks.{week, weeks}
 pub use Rattle.gnss_obs.specs.declared.fault.PlanFault.{PlanFault}
 pub use Rattle.gnss_obs.specs.declared.fault.PlanFault.TheVariants.{RepeatedCode}
-pub use Rattle.gnss_obs.specs.declared.system.System.{System}
-pub use Rattle.gnss_obs.specs.declared.system.System.TheVariants.{Galileo, Gps}
+pub use Rattle.gnss_system.specs.declared.system.System.{System}
+pub use Rattle.gnss_system.specs.declared.system.System.TheVariants.{Galileo, Gps}
 pub use Rattle.obs_epoch.specs.Cells.{counts_of, counts_of_message, has_listed_key, is_planned, no_counts, offered, with_skipped}
 pub use Rattle.obs_epoch.specs.Heard.{GatherSetup, Heard, heard, heard_in, heard_of, is_own, lock_by, observed, seen_in, system_of}
-pub use Rattle.obs_epoch.specs.SignalCounts.{AreSignalCounts, CountsMessage, SignalCountsValue, brings_value, count_of, counted, has_any, is_of_signal, is_of_station, signal_in, valued}
+pub use Rattle.obs_epoch.specs.SignalCounts.{AreSignalCounts, CountsMessage, SignalCountsValue, brings_value, count_of, counted, has_any, is_of_signal, is_of_station, signal_counts, signal_in, valued}
 pub use Rattle.obs_epoch.specs.Times.{Timed, ahead, greatest_time, is_closed, is_past, max_known, taken_at, timed_after}
 pub use Rattle.rinex_file.specs.Counting.{AreCounts, IsSummary}
 pub use Rattle.rinex_file.specs.Exact.{IsNoFault}

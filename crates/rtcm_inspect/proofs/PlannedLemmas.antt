@@ -1,7 +1,13 @@
 -- The plan of the signals of a stream has a column for each of its values, and their line is parsed as that plan.
 use Rattle.rtcm_inspect.proofs.SignalLemmas.{own_signal}
-use Rattle.gnss_obs.specs.declared.tables.ListedSignal as tables
-use Rattle.rtcm_inspect.proofs.Names.{◌≡◌, ℕ, zero, suc, ◌+◌, ◌<◌, ◌≤◌, ◌==◌, ◌&&◌, ◌||◌, Bool, true, false, not, List, [], ◌∷◌, ◌++◌, length, refl, sym, ap, ap₂, ◌∙◌, subst, arith, filter, map, All, Some, Result, Ok, Err, nat_eq, get_or, append-nil, append_assoc, is_some, ◌≢◌, AllPass-from_list_all, common_steps, list_all, nat_tests, option_map_or, slice_get, slice_get-get_or, cond, nat_lt, position, list_any, position_or_len, bytes_eq, filter-append, list_any-append, System, Gps, Galileo, SignalAt, IsSignal, table, code_of, signal_of_code, PlanFault, RepeatedCode, is_planned, has_listed_key, GatherSetup, HeardCell, IsKey, below, place_in, between_commas, onto_first, one_signal_more, signals_after, signals_of, plan_of, planned_of, is_of_signal, count_of, signal_in, had, plan_had, code_list, codes_word}
+use Rattle.gnss_system.specs.declared.tables.ListedSignal as tables
+use Rattle.rtcm_inspect.proofs.Names.{◌≡◌, ℕ, zero, suc, ◌+◌, ◌<◌, ◌≤◌, ◌==◌, ◌&&◌, ◌||◌, Bool, true, false, not, List, [], ◌∷◌, ◌++◌, length, refl, sym, ap, ap₂, ◌∙◌, subst, arith, filter, map, All, Some, Result, Ok, Err, nat_eq, get_or, append-nil, append_assoc, is_some, ◌≢◌, AllPass-from_list_all, common_steps, list_all, nat_tests, option_map_or, slice_get, slice_get-get_or, cond, nat_lt, position, list_any, position_or_len, bytes_eq, filter-append, list_any-append, System, SignalAt, IsSignal, table, code_of, signal_of_code, PlanFault, RepeatedCode, is_planned, has_listed_key, GatherSetup, HeardCell, IsKey, below, place_in, between_commas, onto_first, one_signal_more, signals_after, signals_of, plan_of, planned_of, is_of_signal, count_of, signal_in, had, plan_had, code_list, codes_word}
+use Rattle.std.proofs.Common.{None, if◌then◌else◌}
+use Rattle.gnss_system.specs.Systems.{systems}
+use Rattle.gnss_system.specs.SystemValues.{tabulate, value_of}
+use Rattle.gnss_system.proofs.SystemLaws.{each_system, not_all, tabulated_same, value_tabulated}
+use Rattle.gnss_obs.specs.Plans.{first_fault, is_nil, plan_by, plan_unless, signals_in, signals_or_none}
+use Rattle.gnss_obs.specs.declared.fault.PlanFault.TheVariants.{NothingPlanned}
 
 -- ---- rising indices
 
@@ -42,8 +48,7 @@ abbrev code_at : System → ℕ → List ℕ
 code_at system i = code_of (signal_in system i)
 
 all_plain : (system : System) → list_all (λ e. is_plain e.1) (table system) ≡ true
-all_plain Gps = refl
-all_plain Galileo = refl
+all_plain system = each_system (λ s. list_all (λ e. is_plain e.1) (table s)) system refl
 
 plain_at : (system : System) (i : ℕ) → i < length (table system) → is_plain (code_at system i) ≡ true
 plain_at system i within = by (table system) (all_plain system) within where
@@ -156,8 +161,7 @@ key_listed x key =
     grind (arith, nat_tests, key.satellite.0, key.satellite.1)
 
 had_in : (cells : List HeardCell) (system : System) → planned_of system (plan_had cells) ≡ had cells system
-had_in cells Gps = refl
-had_in cells Galileo = refl
+had_in cells system = value_tabulated system (had cells)
 
 planned_one : (s : GatherSetup) (cells : List HeardCell) (x : HeardCell) → s.plan ≡ plan_had cells → IsKey x → 0 < count_of x.signal cells → is_planned s x ≡ true
 planned_one s cells x plan key some =
@@ -175,21 +179,23 @@ some_had : (xs : List ℕ) (k : ℕ) → list_any (λ i. i == k) xs ≡ true →
 some_had [] k h e = absurd (grind (arith, h))
 some_had (x ∷ xs) k h e = absurd (let bad : suc (length xs) ≡ 0 = ap length e in omega (arith, bad))
 
-plan_from : (g e gps galileo : List ℕ) → signals_of Gps g ≡ Ok gps → signals_of Galileo e ≡ Ok galileo → (gps ≡ [] → galileo ≡ [] → ⊥) → plan_of g e ≡ Ok (record { gps = gps; galileo = galileo })
-plan_from g e [] [] a b h = absurd (h refl refl)
-plan_from g e [] (x ∷ xs) a b h = rw (a, b) refl
-plan_from g e (p ∷ ps) gs a b h = rw (a, b) refl
+no_fault : (f : System → Result (List ℕ) PlanFault) (g : System → List ℕ) → ((s : System) → f s ≡ Ok (g s)) → (ss : List System) → first_fault f ss ≡ None
+no_fault f g each [] = refl
+no_fault f g each (s ∷ ss) = rw (each s) (no_fault f g each ss)
 
-pub plan_read : CodesReadBack → (cells : List HeardCell) → 0 < length cells → All IsKey cells → plan_of (codes_word Gps (had cells Gps)) (codes_word Galileo (had cells Galileo)) ≡ Ok (plan_had cells)
+plan_from : (f : System → Result (List ℕ) PlanFault) (g : System → List ℕ) → ((s : System) → f s ≡ Ok (g s)) → (s : System) → (g s ≡ [] → ⊥) → plan_by f ≡ Ok (tabulate g)
+plan_from f g each s some =
+    ap₂ plan_unless (no_fault f g each systems) (tabulated_same (λ s. signals_or_none (f s)) g (λ s. ap signals_or_none (each s)))
+    ∙ ap (λ (b : Bool). if b then Err NothingPlanned else Ok (tabulate g)) (not_all (λ t. is_nil (value_of t (tabulate g))) s (ap is_nil (value_tabulated s g) ∙ not_nil (g s) some)) where
+      not_nil : (xs : List ℕ) → (xs ≡ [] → ⊥) → is_nil xs ≡ false
+      not_nil [] some = absurd (some refl)
+      not_nil (x ∷ xs) some = refl
+
+pub plan_read : CodesReadBack → (cells : List HeardCell) → 0 < length cells → All IsKey cells → plan_of (tabulate (λ s. codes_word s (had cells s))) ≡ Ok (plan_had cells)
 plan_read law [] some keys = absurd (omega (arith, some))
 plan_read law (x ∷ xs) some keys =
     let cells : List HeardCell = x ∷ xs in
     let key : IsKey x = keys 0 x (omega arith) in
     let among = own_among cells x.signal key.signal (count_in x.signal cells 0 x (omega arith) (own_signal x)) in
-    plan_from (codes_word Gps (had cells Gps)) (codes_word Galileo (had cells Galileo)) (had cells Gps) (had cells Galileo)
-    (word_read law Gps (had cells Gps) (filter-climbs (λ i. nat_lt 0 (count_of (signal_in Gps i) cells)) (length (table Gps))))
-    (word_read law Galileo (had cells Galileo) (filter-climbs (λ i. nat_lt 0 (count_of (signal_in Galileo i) cells)) (length (table Galileo)))) (none x.signal.system x.signal.index among)
-  where
-    none : (s : System) (k : ℕ) → list_any (λ i. i == k) (had (x ∷ xs) s) ≡ true → had (x ∷ xs) Gps ≡ [] → had (x ∷ xs) Galileo ≡ [] → ⊥
-    none Gps k h a b = some_had (had (x ∷ xs) Gps) k h a
-    none Galileo k h a b = some_had (had (x ∷ xs) Galileo) k h b
+    plan_from (signals_in (tabulate (λ s. codes_word s (had cells s)))) (had cells) (λ s. ap (signals_of s) (value_tabulated s (λ s. codes_word s (had cells s)))
+    ∙ word_read law s (had cells s) (filter-climbs (λ i. nat_lt 0 (count_of (signal_in s i) cells)) (length (table s)))) x.signal.system (some_had (had cells x.signal.system) x.signal.index among)

@@ -1,5 +1,8 @@
 -- The text of the signals of a stream, signal by signal.
-use Rattle.rtcm_inspect.proofs.Names.{◌≡◌, ℕ, zero, suc, ◌+◌, ◌<◌, ◌≤◌, ◌==◌, ◌&&◌, ◌||◌, All, Result, Ok, OnOk, Bool, true, false, List, [], ◌∷◌, ◌++◌, length, get_or, refl, sym, ap, ap₂, ◌∙◌, subst, arith, filter, map, append-nil, append_assoc, map-append, flat_map-append, cond, nat_lt, codes, list_any, All-head, filter-append, length-filter, count_by-le-length, is_system, Gps, Galileo, flat_map, join_with_byte, System, table, code_of, below, SignalCountsValue, AreSignalCounts, counted, has_any, signal_in, count_of, is_of_signal, had_below, had, code_list, codes_word, count_line, lines_below, IsKey, HeardCell}
+use Rattle.rtcm_inspect.proofs.Names.{◌≡◌, ℕ, zero, suc, ◌+◌, ◌<◌, ◌≤◌, ◌==◌, ◌&&◌, ◌||◌, All, Result, Ok, OnOk, Bool, true, false, List, [], ◌∷◌, ◌++◌, length, get_or, refl, sym, ap, ap₂, ◌∙◌, subst, arith, filter, map, append-nil, append_assoc, map-append, flat_map-append, cond, nat_lt, codes, list_any, All-head, filter-append, length-filter, count_by-le-length, flat_map, join_with_byte, System, table, code_of, below, SignalCountsValue, AreSignalCounts, common_steps, counted, signal_counts, has_any, signal_in, count_of, is_of_signal, had_below, had, code_list, codes_word, count_line, lines_below, IsKey, HeardCell}
+use Rattle.gnss_system.specs.Systems.{systems, index_of}
+use Rattle.gnss_system.proofs.Checked.{is_less}
+use Rattle.gnss_system.proofs.SystemLaws.{none_any, some_system}
 
 below-more : (i : ℕ) → below (i + 1) ≡ below i ++ i ∷ []
 below-more i = let e : i + 1 ≡ suc i = omega arith in rw e refl
@@ -108,37 +111,34 @@ any_none (x ∷ xs) h i = by (nat_lt 0 x) refl h (λ rest i. any_none xs rest i)
 
 -- if some signal has a cell, there is a cell
 pub some_cells : (c : SignalCountsValue) (cells : List HeardCell) → AreSignalCounts c cells → has_any c ≡ true → 0 < length cells
-some_cells c cells h any = by (list_any (λ n. nat_lt 0 n) c.gps) refl any where
-  found : (system : System) (i : ℕ) → i < length (table system) → 0 < counted c system i → 0 < length cells
-  found system i within some = omega (arith, h.each system i within, some, length-filter (is_of_signal (signal_in system i)) cells, count_by-le-length (is_of_signal (signal_in system i)) cells)
+some_cells c cells h any =
+    let m = some_system (λ s. list_any (λ n. nat_lt 0 n) (signal_counts s c)) systems any in
+    let n = any_some (signal_counts m.0 c) m.1 in
+    by m.0 n.0 n.2 (nat_lt n.0 (length (table m.0))) refl
+  where
+    not_less : (a b : ℕ) → nat_lt a b ≡ false → b ≤ a
+    not_less a b e = grind (arith, e)
 
-  by : (b : Bool) → list_any (λ n. nat_lt 0 n) c.gps ≡ b → (b || list_any (λ n. nat_lt 0 n) c.galileo) ≡ true → 0 < length cells
-  by true t any = let m = any_some c.gps t in (let within : m.0 < length (table Gps) = omega (arith, m.1, h.gps) in found Gps m.0 within m.2)
-  by false t any = let m = any_some c.galileo any in (let within : m.0 < length (table Galileo) = omega (arith, m.1, h.galileo) in found Galileo m.0 within m.2)
+    by : (s : System) (i : ℕ) → 0 < counted c s i → (b : Bool) → nat_lt i (length (table s)) ≡ b → 0 < length cells
+    by s i some true t =
+        let within : i < length (table s) = is_less _ _ t in
+        omega (arith, h.each s i within, some, length-filter (is_of_signal (signal_in s i)) cells, count_by-le-length (is_of_signal (signal_in s i)) cells)
+    by s i some false t = absurd (omega (arith, some, h.past s i (not_less _ _ t)))
 
 pub own_signal : (x : HeardCell) → is_of_signal x.signal x ≡ true
-own_signal x = by x.signal.system where
-  same : (n : ℕ) → (n == n) ≡ true
-  same n = grind arith
-
-  by : (s : System) → (is_system s s && (x.signal.index == x.signal.index)) ≡ true
-  by Gps = same x.signal.index
-  by Galileo = same x.signal.index
+own_signal x = same (index_of x.signal.system) x.signal.index where
+  same : (m n : ℕ) → ((m == m) && (n == n)) ≡ true
+  same m n = grind (arith, common_steps)
 
 -- if no signal has a cell, there is no cell
 pub no_cells : (c : SignalCountsValue) (cells : List HeardCell) → AreSignalCounts c cells → All IsKey cells → has_any c ≡ false → cells ≡ []
 no_cells c [] h keys none = refl
-no_cells c (x ∷ xs) h keys none = by (list_any (λ n. nat_lt 0 n) c.gps) refl none where
+no_cells c (x ∷ xs) h keys none = absurd (omega (arith, h.each x.signal.system x.signal.index key.signal, counts, zero)) where
   key : IsKey x
   key = All-head IsKey x xs keys
 
   counts : count_of x.signal (x ∷ xs) ≡ suc (count_of x.signal xs)
   counts = ap (λ (b : Bool). length (cond b (x ∷ filter (is_of_signal x.signal) xs) (filter (is_of_signal x.signal) xs))) (own_signal x)
 
-  zeros : list_any (λ n. nat_lt 0 n) c.gps ≡ false → list_any (λ n. nat_lt 0 n) c.galileo ≡ false → (s : System) (i : ℕ) → counted c s i ≡ 0
-  zeros a b Gps i = any_none c.gps a i
-  zeros a b Galileo i = any_none c.galileo b i
-
-  by : (b : Bool) → list_any (λ n. nat_lt 0 n) c.gps ≡ b → (b || list_any (λ n. nat_lt 0 n) c.galileo) ≡ false → x ∷ xs ≡ []
-  by true t none = absurd (grind (arith, none))
-  by false t none = absurd (omega (arith, h.each x.signal.system x.signal.index key.signal, counts, zeros t none x.signal.system x.signal.index))
+  zero : counted c x.signal.system x.signal.index ≡ 0
+  zero = any_none (signal_counts x.signal.system c) (none_any (λ s. list_any (λ n. nat_lt 0 n) (signal_counts s c)) none x.signal.system) x.signal.index

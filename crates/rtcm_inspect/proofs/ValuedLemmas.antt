@@ -1,7 +1,7 @@
 -- The cells with a value are of listed satellites and signals.
 use Rattle.std.specs.Option.{option_and_then}
 use Rattle.rtcm_inspect.proofs.Names.{◌≡◌, ℕ, ◌<◌, ◌≤◌, ◌==◌, ◌&&◌, Bool, true, false, List, [], ◌∷◌, length, refl, sym, ap, ◌∙◌, subst, arith, filter, All, Option, Some, None, Result, Ok, Err, LockField, Df402, Df407, filter_map, cond, nat_lt, nat_le, option_map, option_map_or, cons_option, position_or_len, All-nil, All-cons, All-append, All-filter, System, Satellite, IsSatellite, satellites, satellite_of_id, SignalAt, IsSignal, table, signal_of_id, Entry, Message, Station, Msm4, Msm7, Other, entries, MsgFault, message_at, Framed, Heard, heard, seen_in, lock_by, observed, system_of, HeardCell, IsKey, heard_of, brings_value, is_of_station, valued, signal_in, valued_of, valued_in}
-use Rattle.gnss_obs.specs.declared.tables.ListedSignal as tables
+use Rattle.gnss_system.specs.declared.tables.ListedSignal as tables
 
 some_same : {X : Type 0} (x y : X) → Some x ≡ Some y → x ≡ y
 some_same x y e = ap (λ o. option_map_or (λ z. z) o x) e

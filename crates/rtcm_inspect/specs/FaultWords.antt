@@ -1,6 +1,6 @@
 -- The names of faults, and what they carry, as words. They agree with the manual page.
 use Rattle.std.specs.Prelude.{ℕ, List, [], ◌∷◌, Option, Some, None, codes, decimal}
-use Rattle.gnss_obs.specs.Satellites.{letter}
+use Rattle.gnss_system.specs.Satellites.{letter}
 use Rattle.gnss_obs.specs.declared.fault.PlanFault.{PlanFault}
 use Rattle.gnss_obs.specs.declared.fault.PlanFault.TheVariants as plans
 use Rattle.rtcm_scan.specs.declared.framer.ScanFault.{ScanFault}

@@ -1,7 +1,7 @@
 -- The plan of the signals printed for a stream loses no value.
 use Rattle.std.specs.Prelude.{◌≡◌, ℕ, ◌+◌, ◌<◌, ◌≤◌, true, not, List, length, Option, Some, Ok}
 use Rattle.std.specs.List.{All, count_by}
-use Rattle.gnss_obs.specs.declared.system.System.TheVariants.{Gps, Galileo}
+use Rattle.gnss_system.specs.SystemValues.{tabulate}
 use Rattle.rtcm_scan.specs.Frames.{Framed}
 use Rattle.obs_epoch.specs.Cells.{counts_of_message, is_planned}
 use Rattle.obs_epoch.specs.SignalCounts.{brings_value}
@@ -22,11 +22,10 @@ abbrev pub LeavesNoneOut : Type 0
 LeavesNoneOut = (s : GatherSetup) (fs : List Framed) → s.plan ≡ plan_had (valued_in s.station fs)
     → All (λ x. is_planned s x ≡ true) (valued_in s.station fs)
 
--- the two words of the options are parsed as this plan
+-- the words of the options are parsed as this plan
 abbrev pub AreReadAsPlan : Type 0
 AreReadAsPlan = (wanted : Option ℕ) (fs : List Framed) → 0 < length (valued_in wanted fs)
-    → plan_of (codes_word Gps (had (valued_in wanted fs) Gps)) (codes_word Galileo (had (valued_in wanted fs) Galileo))
-    ≡ Ok (plan_had (valued_in wanted fs))
+    → plan_of (tabulate (λ s. codes_word s (had (valued_in wanted fs) s))) ≡ Ok (plan_had (valued_in wanted fs))
 
 -- Of a message of these frames, a conversion with this plan counts as skipped only cells of unlisted satellites or
 -- signals and cells without a value, for every list of messages before.

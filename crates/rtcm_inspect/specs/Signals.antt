@@ -3,10 +3,11 @@ use Rattle.std.specs.Prelude.{ℕ, nat_lt, List, [], ◌∷◌, ◌++◌, map, f
 use Rattle.std.specs.Option.{option_map_or}
 use Rattle.std.specs.List.{join_with_byte}
 use Rattle.rtcm_scan.specs.Frames.{Framed}
-use Rattle.gnss_obs.specs.declared.system.System.{System}
-use Rattle.gnss_obs.specs.declared.system.System.TheVariants.{Gps, Galileo}
-use Rattle.gnss_obs.specs.Satellites.{letter}
-use Rattle.gnss_obs.specs.Signals.{SignalAt, table, code_of}
+use Rattle.gnss_system.specs.declared.system.System.{System}
+use Rattle.gnss_system.specs.Systems.{systems}
+use Rattle.gnss_system.specs.SystemValues.{tabulate}
+use Rattle.gnss_system.specs.Satellites.{letter}
+use Rattle.gnss_system.specs.Signals.{SignalAt, table, code_of}
 use Rattle.obs_epoch.specs.Heard.{heard_in}
 use Rattle.obs_epoch.specs.SignalCounts.{valued, count_of, signal_in}
 use Rattle.gnss_obs.specs.Plans.{below}
@@ -35,7 +36,7 @@ had cells system = had_below cells system (length (table system))
 
 -- the plan of these signals, in the order of the tables
 abbrev pub plan_had : List HeardCell → PlanValue
-plan_had cells = record { gps = had cells Gps; galileo = had cells Galileo }
+plan_had cells = tabulate (had cells)
 
 -- ---- the text
 
@@ -61,4 +62,4 @@ count_lines cells system = lines_below cells system (length (table system))
 
 -- the output of `signals` for these frames
 abbrev pub signals_text : Option ℕ → List Framed → List ℕ
-signals_text wanted fs = count_lines (valued_in wanted fs) Gps ++ count_lines (valued_in wanted fs) Galileo
+signals_text wanted fs = flat_map (count_lines (valued_in wanted fs)) systems

@@ -1,6 +1,6 @@
 //! The names of faults, and what they carry, as words of a line.
 ghost use Rattle.std.specs.Prelude.{◌≡◌, ◌+◌, ◌≤◌, [], ◌∷◌, decimal, length};
-ghost use Rattle.gnss_obs.specs.Satellites.{letter};
+ghost use Rattle.gnss_system.specs.Satellites.{letter};
 ghost use Rattle.rinex_file.specs.Texts.{field_name};
 ghost use Rattle.rtcm_inspect.specs.FaultWords.{file_words, header_words, inspection_words, named};
 ghost use Rattle.rtcm_inspect.specs.FaultWords.{plan_words, scan_word};

@@ -2,7 +2,7 @@
 ghost use Rattle.std.specs.Prelude.{◌≡◌, ◌+◌, ◌*◌, ◌<◌, ◌≤◌, ◌∷◌, ◌++◌, List, Option, IfOk, IfErr, IfSome, length};
 ghost use Rattle.gnss_obs.specs.HeardCells.{HeardCell};
 ghost use Rattle.gnss_obs.specs.Weeks.{week, weeks};
-ghost use Rattle.gnss_obs.specs.declared.system.System.TheVariants.{Gps, Galileo};
+ghost use Rattle.gnss_system.specs.declared.system.System.TheVariants.{Gps, Galileo};
 ghost use Rattle.rtcm_msg.specs.Station.{InRange};
 ghost use Rattle.rtcm_scan.specs.Frames.{Framed};
 ghost use Rattle.obs_epoch.specs.SignalCounts.{AreSignalCounts};

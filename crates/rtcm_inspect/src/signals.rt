@@ -1,7 +1,8 @@
 //! The command `signals`: the signals of a stream as a table.
-ghost use Rattle.std.specs.Prelude.{◌≡◌, ◌+◌, ◌*◌, ◌<◌, ◌≤◌, ◌++◌, List, length};
+ghost use Rattle.std.specs.Prelude.{◌≡◌, ◌+◌, ◌*◌, ◌<◌, ◌≤◌, ◌++◌, [], List, flat_map, length};
 ghost use Rattle.gnss_obs.specs.HeardCells.{HeardCell};
-ghost use Rattle.gnss_obs.specs.Signals.{table, code_of};
+ghost use Rattle.gnss_system.specs.Signals.{table, code_of};
+ghost use Rattle.gnss_system.specs.Systems.{systems};
 ghost use Rattle.obs_epoch.specs.SignalCounts.{AreSignalCounts, signal_in};
 ghost use Rattle.rtcm_inspect.specs.SignalOutput.{EndsSignals};
 ghost use Rattle.rtcm_inspect.specs.Signals.{count_line, count_lines, signals_text};
@@ -10,13 +11,14 @@ use crate::counting::read_signals;
 use crate::fault::InspectFault;
 use crate::line::{OutputLine, deliver_waiting, print_text};
 use arrayvec::ArrayVec;
-use gnss_obs::{Signal, System};
+use gnss_obs::Signal;
+use gnss_system::{SYSTEMS, System};
 use obs_epoch::SignalCounts;
 use rtcm_bits::{Counted, Deliver};
 use std::alloc::Global;
 use std::io::Read;
 
-/// Room for a line of each signal: 34 of at most 26 bytes.
+/// Room for a line of each signal, of at most 26 bytes.
 const TEXT_BYTES: usize = 1_024;
 
 /// Delivers what waits in the writer, reads a stream, and writes the table of its signals that have
@@ -40,14 +42,24 @@ pub fn run_signals<R: Read, W: Deliver>(
         return Err(InspectFault::NoSignal);
     }
     let mut text = ArrayVec::new();
-    add_lines(&mut text, &signals.signal_counts, System::Gps);
-    add_lines(&mut text, &signals.signal_counts, System::Galileo);
+    add_systems(&mut text, &signals.signal_counts);
     print_text(text.as_slice(), writer)
+}
+
+/// Adds the lines of each system.
+fn add_systems(text: &mut ArrayVec<u8, TEXT_BYTES>, signal_counts: &SignalCounts)
+    requires { text.old.items ≡ [] }
+    ensures { (cells : List HeardCell) → AreSignalCounts signal_counts.now cells
+        → text.new.items ≡ flat_map (count_lines cells) systems }
+{
+    for i in 0..SYSTEMS.len() {
+        add_lines(text, signal_counts, System::at(i));
+    }
 }
 
 /// Adds a line for each signal of a system that has a cell.
 fn add_lines(text: &mut ArrayVec<u8, TEXT_BYTES>, signal_counts: &SignalCounts, system: System)
-    requires { length text.old.items ≤ 512 }
+    requires { length text.old.items + 26 * length (table system) ≤ 1_024 }
     ensures text { (cells : List HeardCell) → AreSignalCounts signal_counts.now cells
         → text.new.items ≡ text.old.items ++ count_lines cells system }
     ensures short { length text.new.items ≤ length text.old.items + 26 * length (table system) }

@@ -1,5 +1,5 @@
 -- The lines of a header are lines, and none is longer than the largest line that is read.
-use Rattle.gnss_obs.specs.declared.tables.ListedSignal.{ListedSignal as TableEntry}
+use Rattle.gnss_system.specs.declared.tables.ListedSignal.{ListedSignal as TableEntry}
 use Rattle.gnss_obs.specs.Weeks.{day as day_length}
 use Rattle.gnss_obs.proofs.WalkLemmas.{date_of_is}
 use Rattle.gnss_obs.specs.Dates.{IsCivil}

@@ -1,7 +1,8 @@
 -- The steps of a reading from one line of an epoch to the next.
-use Rattle.rinex_file.proofs.FewRows.{few_rows, few_planned}
+use Rattle.rinex_file.proofs.FewRows.{few_most, few_rows, few_planned}
 use Rattle.rinex_file.proofs.Entries.{few_signals}
-use Rattle.rinex_file.proofs.Names.{arith, ◌≡◌, refl, ℕ, ◌<◌, List, [], ◌∷◌, ◌++◌, length, length-append, suc, ◌+◌, ◌≤◌, sym, ap, ap₂, subst, ◌∙◌, append_assoc, append-nil, zero-add, drop, get_or, Option, Some, None, Bool, Expected, IsStrictlyIncreasing, All, map, flat_map, if◌then◌else◌, nat_lt, Result, Ok, Err, IsErrAnd, get_or_append_left, map-append, common_steps, All-head, All-tail, All-nil, All-push, flat_map-append, System, Gps, Galileo, PlanValue, planned_of, civil_of, StationValues, Stamped, SatelliteRow, FileValue, time_stamped, IsFileValue, IsPlan, IsStamped, IsSatelliteRow, AreSatelliteRows, IsTime, IsChange, AreChanges, IsFirstSame, changed_by, values_following, rank_of, most_rows, Epoch, Satellite, epoch_line, satellite_line, stamped_lines, change_lines, event_line, Progress, file_with, stamped, StartsAt, IsAt, IsBetween, IsInEvent, IsInEpoch, HasLinesLeft, epoch_after, begun_at, with_row, with_epoch, AreRead, IsBegun, IsEventExpected, IsSoundAt, IsSound, MayBegin, values_now, AreLinesAt, lines_of_header, whole_lines, part_lines, AddedRow, Refusal, Memory, Bad, ParserState, History, FollowsHistory, GoesOnWithLine, ShowsLine, RefusesLine, TakesLine, progress_at, Known, NoRow, IsNext, most_signals}
+use Rattle.std.proofs.Common.{le_trans}
+use Rattle.rinex_file.proofs.Names.{arith, ◌≡◌, refl, ℕ, ◌<◌, List, [], ◌∷◌, ◌++◌, length, length-append, suc, ◌+◌, ◌≤◌, sym, ap, ap₂, subst, ◌∙◌, append_assoc, append-nil, zero-add, drop, get_or, Option, Some, None, Bool, Expected, IsStrictlyIncreasing, All, map, flat_map, if◌then◌else◌, nat_lt, Result, Ok, Err, IsErrAnd, get_or_append_left, map-append, common_steps, All-head, All-tail, All-nil, All-push, flat_map-append, System, PlanValue, planned_of, civil_of, StationValues, Stamped, SatelliteRow, FileValue, time_stamped, IsFileValue, IsPlan, IsStamped, IsSatelliteRow, AreSatelliteRows, IsTime, IsChange, AreChanges, IsFirstSame, changed_by, values_following, rank_of, most_rows, planned_in, Epoch, Satellite, epoch_line, satellite_line, stamped_lines, change_lines, event_line, Progress, file_with, stamped, StartsAt, IsAt, IsBetween, IsInEvent, IsInEpoch, HasLinesLeft, epoch_after, begun_at, with_row, with_epoch, AreRead, IsBegun, IsEventExpected, IsSoundAt, IsSound, MayBegin, values_now, AreLinesAt, lines_of_header, whole_lines, part_lines, AddedRow, Refusal, Memory, Bad, ParserState, History, FollowsHistory, GoesOnWithLine, ShowsLine, RefusesLine, TakesLine, progress_at, Known, NoRow, IsNext, most_signals}
 
 -- a line was refused: memory ran out, or no file continues with it
 pub stopped : {Q : Refusal → Type 0} (old new : ParserState) (line : List ℕ) (r : Result AddedRow Refusal) → IsErrAnd r Q → ((e : Refusal) → Q e → e ≡ Bad → (h : History) → FollowsHistory old h → RefusesLine (progress_at old h) line)
@@ -88,7 +89,7 @@ pub record EpochNext (s : Progress) (c : Option StationValues) (v : FileValue) (
   pub es : List Stamped
   pub value : v ≡ file_with s (s.epochs ++ e ∷ es)
   pub starts : StartsAt s.known.shown.first (s.epochs ++ e ∷ es)
-  pub is : IsStamped (length s.known.shown.plan.gps) (length s.known.shown.plan.galileo) e
+  pub is : IsStamped (planned_in s.known.shown.plan) e
   pub rising : IsStrictlyIncreasing (map time_stamped s.epochs ++ e.time ∷ map time_stamped es)
   pub change : e.change ≡ c
   pub shown : line ≡ epoch_line (civil_of e.time) (length e.rows)
@@ -104,7 +105,7 @@ next_with {s} e es is value starts change text =
       es = es;
       value = value;
       starts = starts;
-      is = All-midst (IsStamped (length s.known.shown.plan.gps) (length s.known.shown.plan.galileo)) s.epochs es e valid.epochs;
+      is = All-midst (IsStamped (planned_in s.known.shown.plan)) s.epochs es e valid.epochs;
       rising = subst IsStrictlyIncreasing (map-append time_stamped s.epochs (e ∷ es)) valid.rising;
       change = change;
       shown = (cons_parts _ _ _ _ text).0;
@@ -140,12 +141,9 @@ epoch_next s (Some w) v line left expected never (is, at) =
     let change : here.next.change ≡ Some w = here.change ∙ ap Some here.shown in
     next_with here.next here.others is here.value here.starts change (here.rest ∙ ap (λ l. drop 3 l ++ flat_map stamped_lines here.others) (lines_are here.next (Some w) change))
 
-few_of : (b c : Bool) → (if b then 32 else 0) + (if c then 36 else 0) ≤ 999
-few_of b c = grind arith
-
 -- as many satellites as the planned systems have fit their columns
-pub few_satellites : (gps galileo n : ℕ) → n ≤ most_rows gps galileo → n ≤ 999
-few_satellites gps galileo n room = let few = few_of (nat_lt 0 gps) (nat_lt 0 galileo) in omega (arith, room, few)
+pub few_satellites : (signals : System → ℕ) (n : ℕ) → n ≤ most_rows signals → n ≤ 999
+few_satellites signals n room = le_trans room (few_most signals)
 
 -- an epoch whose line follows may begin
 may_begin : (s : Progress) (c : Option StationValues) (v : FileValue) (line : List ℕ) (left : List (List ℕ)) (next : EpochNext s c v line left)
@@ -158,7 +156,7 @@ may_begin s c v line left next = (
         (subst IsStrictlyIncreasing (sym (append_assoc (map time_stamped s.epochs) (next.e.time ∷ []) (map time_stamped next.es))) next.rising);
     first = λ none. subst (λ x. StartsAt s.known.shown.first (x ++ next.e ∷ next.es)) none next.starts;
     some = next.is.some;
-    room = few_rows (length s.known.shown.plan.gps) (length s.known.shown.plan.galileo) next.e.rows next.is.rows;
+    room = few_rows (planned_in s.known.shown.plan) next.e.rows next.is.rows;
   },
 )
 
@@ -212,8 +210,8 @@ epoch_shows s (Some w) t n line expected none shown taken are =
 
 -- ---- what holds after the first line of an epoch is accepted
 
-no_rows : (gps galileo : ℕ) → AreSatelliteRows gps galileo []
-no_rows gps galileo = record { each = All-nil (IsSatelliteRow gps galileo); rise = λ k h. absurd (omega (arith, h)) }
+no_rows : (signals : System → ℕ) → AreSatelliteRows signals []
+no_rows signals = record { each = All-nil (IsSatelliteRow signals); rise = λ k h. absurd (omega (arith, h)) }
 
 pub sound_between : (s : Progress) → s.expected ≡ Epoch → IsSound s → AreRead s × (s.rows ≡ [])
 sound_between s expected sound = subst (λ d. IsSoundAt s d) expected sound
@@ -231,7 +229,7 @@ room_left rows n most none room = let size : length rows ≡ 0 = ap length none 
 pub sound_begun : {s : Progress} {c : Option StationValues} {t n : ℕ} → AreRead s → s.rows ≡ [] → MayBegin s t n → IsTime t → IsChange (values_now s) c → (s.epochs ≡ [] → c ≡ None)
     → IsSound (begun_at s c t n)
 sound_begun {s} {n} read none may time change same =
-    let rows : AreSatelliteRows (length s.known.shown.plan.gps) (length s.known.shown.plan.galileo) s.rows = subst (AreSatelliteRows (length s.known.shown.plan.gps) (length s.known.shown.plan.galileo)) (sym none) (no_rows _ _) in
+    let rows : AreSatelliteRows (planned_in s.known.shown.plan) s.rows = subst (AreSatelliteRows (planned_in s.known.shown.plan)) (sym none) (no_rows _) in
     (read, record { time = time; later = may.later; rows = rows; first = may.first; change = change; same = same }, may.some, room_left s.rows n _ none may.room)
 
 -- ---- the line of a satellite
@@ -244,7 +242,7 @@ pub record RowNext (s : Progress) (n : ℕ) (v : FileValue) (line : List ℕ) (l
   pub count : length more ≡ n
   pub value : v ≡ file_with s (s.epochs ++ stamped s (s.rows ++ row ∷ more) ∷ others)
   pub starts : StartsAt s.known.shown.first (s.epochs ++ stamped s (s.rows ++ row ∷ more) ∷ others)
-  pub is : IsSatelliteRow (length s.known.shown.plan.gps) (length s.known.shown.plan.galileo) row
+  pub is : IsSatelliteRow (planned_in s.known.shown.plan) row
   pub rising : IsStrictlyIncreasing (map rank_of s.rows ++ rank_of row ∷ map rank_of more)
   pub shown : line ≡ satellite_line row
   pub rest : left ≡ map satellite_line more ++ flat_map stamped_lines others
@@ -255,8 +253,8 @@ from_more : {s : Progress} {n : ℕ} {v : FileValue} {line : List ℕ} {left : L
 from_more [] others is count value starts rest = absurd (omega (arith, count))
 from_more {s} (m ∷ ms) others is count value starts rest =
     let valid : IsFileValue (file_with s (s.epochs ++ stamped s (s.rows ++ m ∷ ms) ∷ others)) = subst IsFileValue value is in
-    let one : IsStamped (length s.known.shown.plan.gps) (length s.known.shown.plan.galileo) (stamped s (s.rows ++ m ∷ ms)) =
-    All-midst (IsStamped (length s.known.shown.plan.gps) (length s.known.shown.plan.galileo)) s.epochs others (stamped s (s.rows ++ m ∷ ms)) valid.epochs in
+    let one : IsStamped (planned_in s.known.shown.plan) (stamped s (s.rows ++ m ∷ ms)) =
+    All-midst (IsStamped (planned_in s.known.shown.plan)) s.epochs others (stamped s (s.rows ++ m ∷ ms)) valid.epochs in
     record {
       row = m;
       more = ms;
@@ -264,7 +262,7 @@ from_more {s} (m ∷ ms) others is count value starts rest =
       count = omega (arith, count);
       value = value;
       starts = starts;
-      is = All-midst (IsSatelliteRow (length s.known.shown.plan.gps) (length s.known.shown.plan.galileo)) s.rows ms m one.rows.each;
+      is = All-midst (IsSatelliteRow (planned_in s.known.shown.plan)) s.rows ms m one.rows.each;
       rising = subst IsStrictlyIncreasing (map-append rank_of s.rows (m ∷ ms)) one.rows.rise;
       shown = (cons_parts _ _ _ _ rest).0;
       rest = (cons_parts _ _ _ _ rest).1;
@@ -277,10 +275,10 @@ row_next s n v line left expected (is, at) =
     from_more here.more here.others is here.count here.value here.starts here.rest
 
 module _ (s : Progress) (n : ℕ) (line : List ℕ) (expected : s.expected ≡ Satellite (suc n)) where
-  pub no_row : ((w : SatelliteRow) → IsSatelliteRow (length s.known.shown.plan.gps) (length s.known.shown.plan.galileo) w → line ≡ satellite_line w → ⊥) → RefusesLine s line
+  pub no_row : ((w : SatelliteRow) → IsSatelliteRow (planned_in s.known.shown.plan) w → line ≡ satellite_line w → ⊥) → RefusesLine s line
   no_row none v left on = let next = row_next s n v line left expected on in none next.row next.is next.shown
 
-  pub bad_row : (row : SatelliteRow) → ((w : SatelliteRow) → IsSatelliteRow (length s.known.shown.plan.gps) (length s.known.shown.plan.galileo) w → line ≡ satellite_line w → w ≡ row)
+  pub bad_row : (row : SatelliteRow) → ((w : SatelliteRow) → IsSatelliteRow (planned_in s.known.shown.plan) w → line ≡ satellite_line w → w ≡ row)
       → (IsStrictlyIncreasing (map rank_of s.rows ++ rank_of row ∷ []) → ⊥) → RefusesLine s line
   bad_row row only never v left on =
       let next = row_next s n v line left expected on in
@@ -290,7 +288,7 @@ module _ (s : Progress) (n : ℕ) (line : List ℕ) (expected : s.expected ≡ S
       (subst IsStrictlyIncreasing (sym (append_assoc (map rank_of s.rows) (rank_of next.row ∷ []) (map rank_of next.more))) next.rising) in
       never (subst (λ w. IsStrictlyIncreasing (map rank_of s.rows ++ rank_of w ∷ [])) same rise)
 
-  pub row_taken : (row : SatelliteRow) → line ≡ satellite_line row → ((w : SatelliteRow) → IsSatelliteRow (length s.known.shown.plan.gps) (length s.known.shown.plan.galileo) w → line ≡ satellite_line w → w ≡ row)
+  pub row_taken : (row : SatelliteRow) → line ≡ satellite_line row → ((w : SatelliteRow) → IsSatelliteRow (planned_in s.known.shown.plan) w → line ≡ satellite_line w → w ≡ row)
       → GoesOnWithLine s (with_row s row n) line
   unfolding HasLinesLeft
   row_taken row shown only v left on =
@@ -344,20 +342,20 @@ from_none s [] others count value starts rest = grind (arith, append-nil, append
 
 -- ---- what holds after the line of a satellite is accepted
 
-pub sound_open : (s : Progress) (n : ℕ) → s.expected ≡ Satellite n → IsSound s → AreRead s × IsBegun s × (0 < n) × (length s.rows + n ≤ most_rows (length s.known.shown.plan.gps) (length s.known.shown.plan.galileo))
+pub sound_open : (s : Progress) (n : ℕ) → s.expected ≡ Satellite n → IsSound s → AreRead s × IsBegun s × (0 < n) × (length s.rows + n ≤ most_rows (planned_in s.known.shown.plan))
 sound_open s n expected sound = subst (λ d. IsSoundAt s d) expected sound
 
 pub few_signals_of : (p : PlanValue) → IsPlan p → (system : System) → length (planned_of system p) ≤ most_signals
 few_signals_of p is system = let few = few_planned p is system in let most = few_signals system in omega (arith, few, most)
 
-pub few_at : (s : Progress) (n : ℕ) → s.expected ≡ Satellite n → IsSound s → (length s.known.shown.plan.gps ≤ most_signals) × (length s.known.shown.plan.galileo ≤ most_signals)
-few_at s n expected sound = let plan = (sound_open s n expected sound).0.shown.plan in (few_signals_of s.known.shown.plan plan Gps, few_signals_of s.known.shown.plan plan Galileo)
+pub few_at : (s : Progress) (n : ℕ) → s.expected ≡ Satellite n → IsSound s → ((t : System) → planned_in s.known.shown.plan t ≤ most_signals)
+few_at s n expected sound = few_signals_of s.known.shown.plan (sound_open s n expected sound).0.shown.plan
 
-seen_more : (gps galileo : ℕ) (rows : List SatelliteRow) (row : SatelliteRow) → AreSatelliteRows gps galileo rows → IsSatelliteRow gps galileo row → IsStrictlyIncreasing (map rank_of rows ++ rank_of row ∷ [])
-    → AreSatelliteRows gps galileo (rows ++ row ∷ [])
-seen_more gps galileo rows row these is rise =
+seen_more : (signals : System → ℕ) (rows : List SatelliteRow) (row : SatelliteRow) → AreSatelliteRows signals rows → IsSatelliteRow signals row → IsStrictlyIncreasing (map rank_of rows ++ rank_of row ∷ [])
+    → AreSatelliteRows signals (rows ++ row ∷ [])
+seen_more signals rows row these is rise =
     record {
-      each = All-push (IsSatelliteRow gps galileo) rows row these.each is;
+      each = All-push (IsSatelliteRow signals) rows row these.each is;
       rise = subst IsStrictlyIncreasing (sym (map-append rank_of rows (row ∷ []))) rise;
     }
 
@@ -365,9 +363,9 @@ starts_more : (first : ℕ) (es : List Stamped) (x : Stamped) → StartsAt first
 starts_more first v1 x starts none = grind arith
 
 module _ (s : Progress) (n : ℕ) {left : ℕ} (expected : s.expected ≡ Satellite left) (sound : IsSound s) {row : SatelliteRow}
-    (is : IsSatelliteRow (length s.known.shown.plan.gps) (length s.known.shown.plan.galileo) row) (rise : IsStrictlyIncreasing (map rank_of s.rows ++ rank_of row ∷ [])) where
-  rows_more : AreSatelliteRows (length s.known.shown.plan.gps) (length s.known.shown.plan.galileo) (s.rows ++ row ∷ [])
-  rows_more = seen_more (length s.known.shown.plan.gps) (length s.known.shown.plan.galileo) s.rows row (sound_open s left expected sound).1.rows is rise
+    (is : IsSatelliteRow (planned_in s.known.shown.plan) row) (rise : IsStrictlyIncreasing (map rank_of s.rows ++ rank_of row ∷ [])) where
+  rows_more : AreSatelliteRows (planned_in s.known.shown.plan) (s.rows ++ row ∷ [])
+  rows_more = seen_more (planned_in s.known.shown.plan) s.rows row (sound_open s left expected sound).1.rows is rise
 
   pub sound_row : 0 < n → left ≡ suc n → IsSound (with_row s row n)
   sound_row some one =
@@ -376,7 +374,7 @@ module _ (s : Progress) (n : ℕ) {left : ℕ} (expected : s.expected ≡ Satell
         read,
         record { time = begun.time; later = begun.later; rows = rows_more; first = begun.first; change = begun.change; same = begun.same },
         some,
-        subst (λ (k : ℕ). k ≤ most_rows (length s.known.shown.plan.gps) (length s.known.shown.plan.galileo)) size room,
+        subst (λ (k : ℕ). k ≤ most_rows (planned_in s.known.shown.plan)) size room,
       )
 
   pub sound_closed : IsSound (with_epoch (with_row s row n))
@@ -385,7 +383,7 @@ module _ (s : Progress) (n : ℕ) {left : ℕ} (expected : s.expected ≡ Satell
       let size : length (s.rows ++ row ∷ []) ≡ length s.rows + 1 = length-append s.rows (row ∷ []) in (
         record {
           shown = read.shown;
-          epochs = All-push (IsStamped (length s.known.shown.plan.gps) (length s.known.shown.plan.galileo)) s.epochs (stamped s (s.rows ++ row ∷ [])) read.epochs (record {
+          epochs = All-push (IsStamped (planned_in s.known.shown.plan)) s.epochs (stamped s (s.rows ++ row ∷ [])) read.epochs (record {
             time = begun.time;
             rows = rows_more;
             some = omega (arith, size);
@@ -400,7 +398,7 @@ module _ (s : Progress) (n : ℕ) {left : ℕ} (expected : s.expected ≡ Satell
 
 -- the last line of an epoch's satellites
 pub last_taken : (s : Progress) (line : List ℕ) → s.expected ≡ Satellite 1 → (row : SatelliteRow) → line ≡ satellite_line row
-    → ((w : SatelliteRow) → IsSatelliteRow (length s.known.shown.plan.gps) (length s.known.shown.plan.galileo) w → line ≡ satellite_line w → w ≡ row)
+    → ((w : SatelliteRow) → IsSatelliteRow (planned_in s.known.shown.plan) w → line ≡ satellite_line w → w ≡ row)
     → GoesOnWithLine s (with_epoch (with_row s row 0)) line
 unfolding HasLinesLeft
 last_taken s line expected row shown only v left on =

@@ -1,7 +1,7 @@
 -- The sizes of the parts of a satellite's line, and its first letter.
 use Rattle.rinex_file.proofs.Digits.Numbers.{length-fixed, length-right, not_negative}
 use Rattle.rinex_file.proofs.Rows.Trimmed.{trimmed-front}
-use Rattle.rinex_file.proofs.Names.{arith, ◌≡◌, ℕ, suc, ◌*◌, ◌^◌, ◌<◌, ◌≤◌, List, [], ◌∷◌, ◌++◌, length, refl, ap, length-append, ℤ, pos, negsuc, unsigned_abs, to_z, of_z, w64, Option, Some, None, IfSome, flat_map, All, sign_text, ints, to_z-of_z, fits_signed_from_abs, All-head, All-tail, All-weaker, padded, fixed, satellites, System, HasTwelveDigits, SignalValues, SatelliteRow, FitsColumns, HaveRoom, AreSignalValues, IsFrom, trimmed, field, signal_text, satellite_line, letter}
+use Rattle.rinex_file.proofs.Names.{arith, ◌≡◌, ℕ, suc, ◌*◌, ◌^◌, ◌<◌, ◌≤◌, List, [], ◌∷◌, ◌++◌, length, refl, ap, length-append, ℤ, pos, negsuc, unsigned_abs, to_z, of_z, w64, Option, Some, None, IfSome, flat_map, All, sign_text, ints, to_z-of_z, fits_signed_from_abs, All-head, All-tail, All-weaker, padded, fixed, most_satellites, satellites, System, HasTwelveDigits, SignalValues, SatelliteRow, FitsColumns, HaveRoom, AreSignalValues, IsFrom, trimmed, field, signal_text, satellite_line, letter}
 
 most : (n : ℕ) → FitsColumns (pos n) → n ≤ 9_999_999_999_999
 most n h = let high = h.1 in omega (arith, ints)
@@ -67,5 +67,5 @@ pub front_line : (s : SatelliteRow) → satellite_line s ≡ letter s.system ∷
 unfolding satellite_line
 front_line s = ap (λ t. t ++ 10 ∷ []) (trimmed-front (letter s.system) (padded 2 s.row.satellite ++ flat_map signal_text s.row.signal_values) (letter_is s.system))
 
-pub few_satellites : (s : System) → satellites s ≤ 36
+pub few_satellites : (s : System) → satellites s ≤ most_satellites
 few_satellites s = grind arith

@@ -1,8 +1,12 @@
 -- Lines that were written, and a part of them.
 use Rattle.std.specs.Prelude.{IsErrAnd}
-use Rattle.gnss_obs.specs.Satellites.{satellites as satellites_in}
+use Rattle.std.specs.List.{sum_by}
+use Rattle.std.proofs.lemmas.List.Sums.{sum_by-cons}
+use Rattle.gnss_system.specs.Systems.{systems, index_of, before, after}
+use Rattle.gnss_system.specs.Satellites.{satellites as satellites_in}
+use Rattle.gnss_system.proofs.SystemLaws.{systems_split, systems_taken}
 use Rattle.rinex_file.proofs.Entries.{flat_map-append}
-use Rattle.rinex_file.proofs.Names.{arith, ◌≡◌, ◌∙◌, sym, ap, ap₂, refl, subst, ℕ, zero, suc, ◌+◌, ◌-◌, ◌≤◌, List, [], ◌∷◌, ◌++◌, length, append_assoc, append-nil, length-append, Option, Bool, true, false, Result, Ok, Err, OnOk, OnErr, map, if◌then◌else◌, IfErr, Appends, Appends-trans, map-append, length-map, filter-append, AppendsPrefix, HasFailed, System, Gps, Galileo, Cell, civil_of, PlanValue, EpochValue, is_written, written_among, satellites_written, joined, written_satellites, row_among, row_in_epoch, rows_of, satellite_line, epoch_line, StationValues, position_line, delta_line, event_line, event_text, line_among, line_or_none, lines_up_to, epoch_text}
+use Rattle.rinex_file.proofs.Names.{arith, ◌≡◌, ◌∙◌, sym, ap, ap₂, refl, subst, ℕ, zero, suc, ◌+◌, ◌-◌, ◌≤◌, List, [], ◌∷◌, ◌++◌, length, append_assoc, append-nil, length-append, Option, Bool, true, false, Result, Ok, Err, OnOk, OnErr, map, if◌then◌else◌, IfErr, Appends, Appends-trans, map-append, length-map, filter-append, AppendsPrefix, HasFailed, System, Cell, cells_of, flat_map, take, take_all, civil_of, PlanValue, EpochValue, is_written, written_among, satellites_written, joined, written_satellites, row_among, row_in_epoch, rows_of, satellite_line, epoch_line, StationValues, position_line, delta_line, event_line, event_text, line_among, line_or_none, lines_up_to, lines_of_systems, epoch_text}
 
 -- a part of the first is a part of both
 pub part_first : (a c : Option (List ℕ)) {text : List ℕ} (next rest : List ℕ) → text ≡ next ++ rest → AppendsPrefix a c next → AppendsPrefix a c text
@@ -90,45 +94,57 @@ unfolding written_among
 length-written cells zero = refl
 length-written cells (suc n) = grind (arith, filter-append, length-append, one_more, (length-written cells n))
 
-pub length-rows : (p : PlanValue) (e : EpochValue) → length (rows_of p e Gps ++ rows_of p e Galileo) ≡ satellites_written e
-length-rows p e =
-    length-append (rows_of p e Gps) (rows_of p e Galileo)
-    ∙ ap₂ (λ m n. m + n) (length-map (written_satellites e.gps (satellites_in Gps)) (row_in_epoch p e Gps) ∙ length-written e.gps (satellites_in Gps))
-    (length-map (written_satellites e.galileo (satellites_in Galileo)) (row_in_epoch p e Galileo) ∙ length-written e.galileo (satellites_in Galileo))
+length-over : (p : PlanValue) (e : EpochValue) (ss : List System) → length (flat_map (rows_of p e) ss) ≡ sum_by (λ s. written_among (cells_of s e) (satellites_in s)) ss
+length-over p e [] = refl
+length-over p e (s ∷ ss) =
+    length-append (rows_of p e s) (flat_map (rows_of p e) ss)
+    ∙ ap₂ (λ m n. m + n) (length-map (written_satellites (cells_of s e) (satellites_in s)) (row_in_epoch p e s) ∙ length-written (cells_of s e) (satellites_in s)) (length-over p e ss)
+    ∙ sym (sum_by-cons (λ s. written_among (cells_of s e) (satellites_in s)) s ss)
 
--- the lines of an epoch: its own, those of GPS and those of Galileo
-pub epoch_parts : (p : PlanValue) (e : EpochValue) → epoch_text p e ≡ epoch_line (civil_of e.time) (satellites_written e) ++ (lines_up_to p e Gps (satellites_in Gps) ++ lines_up_to p e Galileo (satellites_in Galileo))
-unfolding epoch_text lines_up_to
+pub length-rows : (p : PlanValue) (e : EpochValue) → length (flat_map (rows_of p e) systems) ≡ satellites_written e
+length-rows p e = length-over p e systems
+
+lines_over : (p : PlanValue) (e : EpochValue) (ss : List System) → joined (map satellite_line (flat_map (rows_of p e) ss)) ≡ lines_of_systems p e ss
+unfolding lines_up_to
+lines_over p e [] = refl
+lines_over p e (s ∷ ss) =
+    ap joined (map-append satellite_line (rows_of p e s) (flat_map (rows_of p e) ss))
+    ∙ joined-append (map satellite_line (rows_of p e s)) (map satellite_line (flat_map (rows_of p e) ss)) ∙ ap (λ l. joined (map satellite_line (rows_of p e s)) ++ l) (lines_over p e ss)
+
+-- the lines of an epoch: its own, and those of the systems
+pub epoch_parts : (p : PlanValue) (e : EpochValue) → epoch_text p e ≡ epoch_line (civil_of e.time) (satellites_written e) ++ lines_of_systems p e systems
+unfolding epoch_text
 epoch_parts p e =
-    ap (λ n. epoch_line (civil_of e.time) n ++ joined (map satellite_line (rows_of p e Gps ++ rows_of p e Galileo))) (length-rows p e)
-    ∙ ap (λ l. epoch_line (civil_of e.time) (satellites_written e) ++ joined l) (map-append satellite_line (rows_of p e Gps) (rows_of p e Galileo))
-    ∙ ap (λ l. epoch_line (civil_of e.time) (satellites_written e) ++ l) (joined-append (map satellite_line (rows_of p e Gps)) (map satellite_line (rows_of p e Galileo)))
+    ap (λ n. epoch_line (civil_of e.time) n ++ joined (map satellite_line (flat_map (rows_of p e) systems))) (length-rows p e)
+    ∙ ap (λ l. epoch_line (civil_of e.time) (satellites_written e) ++ l) (lines_over p e systems)
 
 -- its lines, one after the other
 module _ (p : PlanValue) (e : EpochValue) where
-  abbrev gps : List ℕ
-  gps = lines_up_to p e Gps (satellites_in Gps)
+  -- those of one more system, and those of the others after them
+  pub lines_next : (n : ℕ) (s : System) → index_of s ≡ n → lines_of_systems p e (take (n + 1) systems) ≡ lines_of_systems p e (take n systems) ++ lines_up_to p e s (satellites_in s)
+  lines_next n s at =
+      ap (lines_of_systems p e) (systems_taken n s at) ∙ flat_map-append (λ s. lines_up_to p e s (satellites_in s)) (take n systems) (s ∷ [])
+      ∙ ap (λ l. lines_of_systems p e (take n systems) ++ l) (append-nil (lines_up_to p e s (satellites_in s)))
 
-  abbrev galileo : List ℕ
-  galileo = lines_up_to p e Galileo (satellites_in Galileo)
+  pub lines_after : (n : ℕ) (s : System) → index_of s ≡ n → lines_of_systems p e systems ≡ lines_of_systems p e (take n systems) ++ (lines_up_to p e s (satellites_in s) ++ lines_of_systems p e (after s))
+  lines_after n s at =
+      ap (lines_of_systems p e) (systems_split s) ∙ flat_map-append (λ s. lines_up_to p e s (satellites_in s)) (before s) (s ∷ after s)
+      ∙ ap (λ (m : ℕ). lines_of_systems p e (take m systems) ++ (lines_up_to p e s (satellites_in s) ++ lines_of_systems p e (after s))) at
 
-  parts : {line : List ℕ} → line ≡ epoch_line (civil_of e.time) (satellites_written e) → epoch_text p e ≡ line ++ (gps ++ galileo)
-  parts is = epoch_parts p e ∙ ap (λ l. l ++ (gps ++ galileo)) (sym is)
+  pub lines_all : (n : ℕ) → length systems ≤ n → lines_of_systems p e (take n systems) ≡ lines_of_systems p e systems
+  lines_all n h = ap (lines_of_systems p e) (take_all n systems h)
+
+  parts : {line : List ℕ} → line ≡ epoch_line (civil_of e.time) (satellites_written e) → epoch_text p e ≡ line ++ lines_of_systems p e systems
+  parts is = epoch_parts p e ∙ ap (λ l. l ++ lines_of_systems p e systems) (sym is)
 
   pub epoch_first : (a b : Option (List ℕ)) {line : List ℕ} → line ≡ epoch_line (civil_of e.time) (satellites_written e) → AppendsPrefix a b line → AppendsPrefix a b (epoch_text p e)
-  epoch_first a b {line} is part = part_first a b line (gps ++ galileo) (parts is) part
+  epoch_first a b {line} is part = part_first a b line (lines_of_systems p e systems) (parts is) part
 
-  pub epoch_second : (a b c : Option (List ℕ)) {line : List ℕ} → line ≡ epoch_line (civil_of e.time) (satellites_written e) → Appends a b line → AppendsPrefix b c gps → AppendsPrefix a c (epoch_text p e)
-  epoch_second a b c {line} is first part = part_after a b c line (gps ++ galileo) (parts is) first (part_first b c gps galileo refl part)
+  pub epoch_second : (a b c : Option (List ℕ)) {line : List ℕ} → line ≡ epoch_line (civil_of e.time) (satellites_written e) → Appends a b line → AppendsPrefix b c (lines_of_systems p e systems) → AppendsPrefix a c (epoch_text p e)
+  epoch_second a b c {line} is first part = part_after a b c line (lines_of_systems p e systems) (parts is) first part
 
-  both : {line : List ℕ} → line ≡ epoch_line (civil_of e.time) (satellites_written e) → epoch_text p e ≡ (line ++ gps) ++ galileo
-  both {line} is = parts is ∙ sym (append_assoc line gps galileo)
-
-  pub epoch_third : (a b c : Option (List ℕ)) {line : List ℕ} → line ≡ epoch_line (civil_of e.time) (satellites_written e) → Appends a b (line ++ gps) → AppendsPrefix b c galileo → AppendsPrefix a c (epoch_text p e)
-  epoch_third a b c {line} is before part = part_after a b c (line ++ gps) galileo (both is) before part
-
-  pub epoch_whole : (a b c : Option (List ℕ)) {line : List ℕ} → line ≡ epoch_line (civil_of e.time) (satellites_written e) → Appends a b (line ++ gps) → Appends b c galileo → Appends a c (epoch_text p e)
-  epoch_whole a b c {line} is before last = subst (λ l. Appends a c l) (sym (both is)) (Appends-trans a b c (line ++ gps) galileo before last)
+  pub epoch_whole : (a b c : Option (List ℕ)) {line : List ℕ} → line ≡ epoch_line (civil_of e.time) (satellites_written e) → Appends a b line → Appends b c (lines_of_systems p e systems) → Appends a c (epoch_text p e)
+  epoch_whole a b c {line} is first last = subst (λ l. Appends a c l) (sym (parts is)) (Appends-trans a b c line (lines_of_systems p e systems) first last)
 
 -- ---- what holds of a call that failed
 

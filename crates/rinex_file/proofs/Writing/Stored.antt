@@ -2,20 +2,15 @@
 use Rattle.rinex_file.proofs.Reading.Epochs.{few_signals_of}
 use Rattle.rinex_file.proofs.Rows.Sizes.{few_satellites}
 use Rattle.rinex_file.proofs.Writing.Sent.{joined-append}
-use Rattle.rinex_file.proofs.Names.{arith, ◌≡◌, ◌∙◌, sym, ap, ap₂, refl, ℕ, ◌+◌, ◌<◌, ◌≤◌, List, [], ◌∷◌, ◌++◌, length, take, get_or, append_assoc, append-nil, All, map, flat_map, take_all, take_more, flat_map-append, flat_map-map, System, Gps, Galileo, civil_of, SatelliteRow, Stamped, FileValue, IsSatelliteRow, IsFileValue, of_system, header_lines, joined, epoch_line, satellite_line, header_text, change_lines, stamped_lines, file_text, lines_of_parts, HasRoom, HaveRowsRoom, stamped_text, most_signals}
+use Rattle.rinex_file.proofs.Names.{arith, ◌≡◌, ◌∙◌, sym, ap, ap₂, refl, ℕ, ◌+◌, ◌<◌, ◌≤◌, List, [], ◌∷◌, ◌++◌, length, take, get_or, append_assoc, append-nil, All, map, flat_map, take_all, take_more, flat_map-append, flat_map-map, System, civil_of, SatelliteRow, Stamped, FileValue, IsSatelliteRow, IsFileValue, planned_in, header_lines, joined, epoch_line, satellite_line, header_text, change_lines, stamped_lines, file_text, lines_of_parts, HasRoom, HaveRowsRoom, stamped_text, most_signals}
 
-pub either_few : (s : System) (gps galileo : ℕ) → gps ≤ most_signals → galileo ≤ most_signals → of_system s gps galileo ≤ most_signals
-either_few Gps gps galileo few less = few
-either_few Galileo gps galileo few less = less
-
-has_room : (gps galileo : ℕ) (s : SatelliteRow) → gps ≤ most_signals → galileo ≤ most_signals → IsSatelliteRow gps galileo s → HasRoom s
-has_room gps galileo s g e is = grind (arith, few_satellites, either_few)
+has_room : (signals : System → ℕ) (s : SatelliteRow) → ((t : System) → signals t ≤ most_signals) → IsSatelliteRow signals s → HasRoom s
+has_room signals s few is = grind (arith, few_satellites, (few s.system))
 
 -- each line has room for its satellite
 pub lines_have_room : (v : FileValue) → IsFileValue v → All HaveRowsRoom v.epochs
 lines_have_room v is =
-    λ i d less k x here. has_room (length v.plan.gps) (length v.plan.galileo) (get_or (get_or v.epochs i d).rows k x) (few_signals_of v.plan is.plan Gps) (few_signals_of v.plan is.plan Galileo)
-    ((is.epochs i d less).rows.each k x here)
+    λ i d less k x here. has_room (planned_in v.plan) (get_or (get_or v.epochs i d).rows k x) (few_signals_of v.plan is.plan) ((is.epochs i d less).rows.each k x here)
 
 joined_parts : (es : List Stamped) → joined (flat_map stamped_lines es) ≡ flat_map stamped_text es
 unfolding stamped_text

@@ -2,11 +2,11 @@
 use Rattle.std.specs.Prelude.{◌≡◌, ℕ, zero, suc, ◌+◌, ◌<◌, ◌≤◌, ◌==◌, nat_lt, Bool, true, false, List, [], ◌∷◌, ◌++◌, length}
 use Rattle.std.specs.Prelude.{set, take, drop, min, Option, Some, None, Result, Ok, Err, ⊤, ◌↔◌}
 use Rattle.gnss_obs.specs.declared.cell.StationValues.{StationValues}
-use Rattle.gnss_obs.specs.Signals.{SignalAt, IsSignal, code_of, table}
-use Rattle.gnss_obs.specs.declared.system.System.{System}
-use Rattle.gnss_obs.specs.declared.system.System.TheVariants.{Gps, Galileo}
+use Rattle.gnss_system.specs.Signals.{SignalAt, IsSignal, code_of, table}
+use Rattle.gnss_system.specs.declared.system.System.{System}
+use Rattle.gnss_system.specs.declared.system.System.TheVariants.{Gps, Galileo}
 use Rattle.gnss_obs.specs.Values.{PlanValue, planned_of}
-use Rattle.gnss_obs.specs.Satellites.{letter}
+use Rattle.gnss_system.specs.Satellites.{letter}
 use Rattle.rinex_file.specs.declared.header.fault.HeadFault.{HeadFault}
 use Rattle.rinex_file.specs.declared.header.fields.HeaderField.{HeaderField}
 use Rattle.rinex_file.specs.declared.header.fields.TextRow.{TextRow}

@@ -7,7 +7,7 @@ use Rattle.rinex_file.specs.declared.read.parser_state.ParserState.{ParserState}
 use Rattle.rinex_file.specs.ParserState.{History}
 use Rattle.rinex_file.specs.Numbers.{joined}
 use Rattle.rinex_file.specs.File.{stamped_lines}
-use Rattle.gnss_obs.specs.Signals.{most_signals}
+use Rattle.gnss_system.specs.Signals.{most_signals}
 use Rattle.rinex_file.specs.Read.Steps.{IsWhole}
 
 -- the history that is stored

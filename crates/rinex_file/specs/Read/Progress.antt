@@ -2,7 +2,7 @@
 use Rattle.std.specs.Prelude.{◌≡◌, ℕ, zero, suc, ◌+◌, ◌-◌, ◌*◌, ◌/◌, ◌<◌, ◌≤◌, ◌==◌, ◌||◌, ◌&&◌, true, min, Bool, nat_lt}
 use Rattle.std.specs.Prelude.{List, [], ◌∷◌, ◌++◌, length, take, drop, map, All, nat_eq}
 use Rattle.std.specs.Prelude.{flat_map, Option, Some, None, ⊤}
-use Rattle.gnss_obs.specs.declared.system.System.{System}
+use Rattle.gnss_system.specs.declared.system.System.{System}
 use Rattle.gnss_obs.specs.declared.cell.StationValues.{StationValues}
 use Rattle.gnss_obs.specs.Values.{PlanValue, planned_of}
 use Rattle.gnss_obs.specs.Dates.{civil_of}
@@ -13,7 +13,7 @@ use Rattle.rinex_file.specs.declared.read.expected.Expected.TheVariants.{Header,
 use Rattle.rinex_file.specs.declared.read.expected.Expected.TheVariants.{EventEpoch, Satellite}
 use Rattle.rinex_file.specs.Texts.{HeaderLists, text_of, fields_of}
 use Rattle.rinex_file.specs.declared.header.fields.HeaderField.{HeaderField}
-use Rattle.gnss_obs.specs.declared.system.System.TheVariants.{Gps, Galileo}
+use Rattle.gnss_system.specs.declared.system.System.TheVariants.{Gps, Galileo}
 use Rattle.rinex_file.specs.Value.{SatelliteRow, Stamped, FileValue}
 use Rattle.gnss_obs.specs.GatheredEpochs.{IsCoordinate}
 use Rattle.rinex_file.specs.FileValues.{AreTexts, IsPlan, AreValues, IsTime, IsFileValue, of_system}
@@ -22,8 +22,8 @@ use Rattle.rinex_file.specs.Header.{most_type_rows}
 use Rattle.rinex_file.specs.Header.{is_some_planned, type_line, types_of, codes_of}
 use Rattle.rinex_file.specs.Limits.{types_in_line}
 use Rattle.rinex_file.specs.Lines.{satellite_line}
-use Rattle.gnss_obs.specs.Satellites.{letter}
-use Rattle.gnss_obs.specs.Signals.{table}
+use Rattle.gnss_system.specs.Satellites.{letter}
+use Rattle.gnss_system.specs.Signals.{table}
 use Rattle.std.specs.List.{IsDistinct}
 use Rattle.rinex_file.specs.File.{stamped_lines}
 

@@ -1,7 +1,7 @@
 -- The line of a satellite while it is read.
 use Rattle.std.specs.Prelude.{◌≡◌, ℕ, length, ◌*◌, ◌/◌, List, take, drop, All, Any, IsTrue}
-use Rattle.gnss_obs.specs.declared.system.System.{System}
-use Rattle.gnss_obs.specs.Satellites.{satellites}
+use Rattle.gnss_system.specs.declared.system.System.{System}
+use Rattle.gnss_system.specs.Satellites.{satellites}
 use Rattle.rinex_file.specs.Value.{SignalValues, SatelliteRow}
 use Rattle.rinex_file.specs.FileValues.{AreSignalValues, IsRow, has_some_value}
 use Rattle.rinex_file.specs.Blanks.{filled_to}

@@ -5,7 +5,7 @@ use Rattle.rinex_file.specs.declared.read.expected.Expected.{Expected}
 use Rattle.rinex_file.specs.declared.read.expected.Expected.TheVariants.{Header, Epoch, EventPosition, EventHeight}
 use Rattle.rinex_file.specs.declared.read.expected.Expected.TheVariants.{EventEpoch, Satellite}
 use Rattle.gnss_obs.specs.declared.cell.StationValues.{StationValues}
-use Rattle.rinex_file.specs.FileValues.{IsChange, values_following, time_stamped, most_rows}
+use Rattle.rinex_file.specs.FileValues.{IsChange, values_following, time_stamped, most_rows, planned_in}
 use Rattle.rinex_file.specs.Begun.{AreWhole, IsPartOfNext, whole_lines, part_lines}
 use Rattle.rinex_file.specs.File.{file_lines, event_line, event_lines}
 use Rattle.rinex_file.specs.Header.{position_line}
@@ -36,7 +36,7 @@ IsSoundAt s EventPosition = IsEventExpected s
 IsSoundAt s (EventHeight position) = IsEventExpected s × IsPosition position
 IsSoundAt s (EventEpoch values) = IsEventExpected s × IsChange (values_now s) (Some values)
 IsSoundAt s (Satellite n) = AreRead s × IsBegun s × (0 < n)
-    × (length s.rows + n ≤ most_rows (length s.known.shown.plan.gps) (length s.known.shown.plan.galileo))
+    × (length s.rows + n ≤ most_rows (planned_in s.known.shown.plan))
 
 abbrev pub IsSound : Progress → Type 0
 IsSound s = IsSoundAt s s.expected
@@ -47,7 +47,7 @@ pub record MayBegin (s : Progress) (t n : ℕ) : Type 0 where
   pub later : IsStrictlyIncreasing (map time_stamped s.epochs ++ t ∷ [])
   pub first : s.epochs ≡ [] → s.known.shown.first ≡ t
   pub some : 0 < n
-  pub room : n ≤ most_rows (length s.known.shown.plan.gps) (length s.known.shown.plan.galileo)
+  pub room : n ≤ most_rows (planned_in s.known.shown.plan)
 
 -- ---- the lines that were read
 

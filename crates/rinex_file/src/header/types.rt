@@ -1,8 +1,8 @@
 //! The observation types of a header: RINEX 3.05, table A2, "SYS / # / OBS TYPES".
 ghost use Rattle.std.specs.Prelude.{◌≡◌, ◌+◌, ◌*◌, ◌≤◌, ◌<◌, ◌++◌, ◌∷◌, length, codes};
 ghost use Rattle.arrayvec.specs.ArrayVec.{array_vec_len};
-ghost use Rattle.gnss_obs.specs.Satellites.{letter};
-ghost use Rattle.gnss_obs.specs.Signals.{table, code_of};
+ghost use Rattle.gnss_system.specs.Satellites.{letter};
+ghost use Rattle.gnss_system.specs.Signals.{table, code_of};
 ghost use Rattle.gnss_obs.specs.SignalLists.{indices, IsOf};
 ghost use Rattle.rinex_file.specs.Header.{header_line, type_front, type_columns, type_rows, types_of};
 ghost use Rattle.rinex_file.specs.Header.{codes_of, most_type_rows, type_of};

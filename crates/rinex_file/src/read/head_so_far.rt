@@ -1,6 +1,6 @@
 //! What was read of a header.
 ghost use Rattle.std.specs.Prelude.{◌≡◌, ◌<◌, ◌≤◌, ◌+◌, true, length, is_some, Err, OnOk};
-ghost use Rattle.gnss_obs.specs.Signals.{table};
+ghost use Rattle.gnss_system.specs.Signals.{table};
 ghost use Rattle.gnss_obs.specs.SignalLists.{indices};
 ghost use Rattle.gnss_obs.specs.Values.{planned_of};
 ghost use Rattle.rinex_file.specs.Header.{type_rows, row_at};
@@ -35,9 +35,9 @@ pub(crate) struct HeadSoFar {
 
 impl Model for HeadSoFar {
     ghost use Rattle.std.specs.Prelude.{◌≤◌, length};
-    ghost use Rattle.gnss_obs.specs.Signals.{table};
+    ghost use Rattle.gnss_system.specs.Signals.{table};
     ghost use Rattle.gnss_obs.specs.SignalLists.{indices, IsOf};
-    ghost use Rattle.gnss_obs.specs.declared.system.System.TheVariants.{Gps, Galileo};
+    ghost use Rattle.gnss_system.specs.declared.system.System.TheVariants.{Gps, Galileo};
     ghost use Rattle.rinex_file.specs.Read.Progress.{Known};
     ghost use Rattle.rinex_file.specs.FileValues.{AreValues, IsTime};
 

@@ -1,9 +1,11 @@
 //! The state of the parser of a file: what the next line has to fit, and counts. It doesn't grow
 //! with the file.
 ghost use Rattle.std.specs.Prelude.{◌≡◌, ◌<◌, ◌≤◌, ◌^◌, ◌↔◌, [], None, true, IsTrue};
+ghost use Rattle.gnss_system.specs.declared.system.System.{System};
+ghost use Rattle.gnss_system.specs.SystemValues.{value_of};
 ghost use Rattle.rinex_file.specs.Value.{FileValue};
 ghost use Rattle.gnss_obs.specs.declared.cell.StationValues.{StationValues};
-ghost use Rattle.rinex_file.specs.FileValues.{IsFileValue, rank_of};
+ghost use Rattle.rinex_file.specs.FileValues.{IsFileValue, most_rows, planned_in, rank_of};
 ghost use Rattle.rinex_file.specs.File.{event_line, file_lines};
 ghost use Rattle.rinex_file.specs.Read.Progress.{HasLinesLeft, epoch_after};
 ghost use Rattle.rinex_file.specs.ParserState.{History, HasRoom, FollowsHistory, TakesLine};
@@ -22,7 +24,8 @@ use crate::values::SatelliteRow;
 use crate::write::epoch::event_line;
 use crate::write::line::Line;
 use arrayvec::ArrayVec;
-use gnss_obs::{GpsTime, StationValues, System};
+use gnss_obs::{GpsTime, StationValues};
+use gnss_system::{BySystem, SYSTEMS, System};
 use std::alloc::Global;
 
 /// The state of the parser of a file.
@@ -42,11 +45,35 @@ pub(crate) struct ParserState {
     pub(crate) counts: Counts,
 }
 
-/// Returns a satellite's rank among all: those of GPS come first.
+/// Returns a satellite's rank among all: by system, and then by its number.
 fn rank_of(row: &SatelliteRow) -> u64
     ensures { result ≡ rank_of row.now }
 {
     100 * row.system as u64 + row.satellite as u64
+}
+
+/// Returns the number of planned signals of each system.
+fn planned_signals(head: &HeadSoFar) -> BySystem<usize>
+    ensures { (s : System) → value_of s result ≡ planned_in head.now.shown.plan s }
+{
+    BySystem {
+        gps: head.planned(System::Gps),
+        galileo: head.planned(System::Galileo),
+    }
+}
+
+/// Returns the number of satellites of the systems of which some signal is planned.
+fn most_rows(head: &HeadSoFar) -> usize
+    ensures { result ≡ most_rows (planned_in head.now.shown.plan) }
+{
+    let mut most = 0;
+    for i in 0..SYSTEMS.len() {
+        let system = System::at(i);
+        if head.planned(system) > 0 {
+            most += system.satellites() as usize;
+        }
+    }
+    most
 }
 
 impl ParserState {
@@ -112,10 +139,7 @@ impl ParserState {
         ensures { (h : History) → FollowsHistory self.now h → IsTrue result
             ↔ MayBegin (progress_at self.now h) time satellites }
     {
-        let gps = self.head.planned(System::Gps).min(1) * System::Gps.satellites() as usize;
-        let galileo = self.head.planned(System::Galileo).min(1)
-            * System::Galileo.satellites() as usize;
-        if satellites == 0 || satellites > gps + galileo {
+        if satellites == 0 || satellites > most_rows(&self.head) {
             return false;
         }
         match self.times {
@@ -171,9 +195,8 @@ impl ParserState {
         requires expected { self.old.expected ≡ Expected.Satellite left }
         ensures { TakesLine self.old self.new line.now result }
     {
-        let gps = self.head.planned(System::Gps);
-        let galileo = self.head.planned(System::Galileo);
-        let is_read = read_row(line, gps, galileo, &mut self.last_read);
+        let planned = planned_signals(&self.head);
+        let is_read = read_row(line, &planned, &mut self.last_read);
         let rank = rank_of(&self.last_read);
         if !is_read || rank <= self.rank {
             return Err(Refusal::Bad);

@@ -2,8 +2,9 @@
 ghost use Rattle.std.specs.Prelude.{◌≡◌, ◌↔◌, ℕ, ◌+◌, ◌*◌, ◌%◌, ◌≤◌, ◌<◌, [], ◌∷◌, flat_map};
 ghost use Rattle.std.specs.Prelude.{length, pos, None, IfSome, IsTrue};
 ghost use Rattle.arrayvec.specs.ArrayVec.{array_vec_len};
-ghost use Rattle.gnss_obs.specs.declared.system.System.{System};
-ghost use Rattle.gnss_obs.specs.Signals.{most_signals};
+ghost use Rattle.gnss_system.specs.declared.system.System.{System};
+ghost use Rattle.gnss_system.specs.Signals.{most_signals};
+ghost use Rattle.gnss_system.specs.SystemValues.{value_of};
 ghost use Rattle.rinex_file.specs.FileValues.{IsFrom, AreSignalValues, IsSatelliteRow};
 ghost use Rattle.rinex_file.specs.Blanks.{IsEnded, filled_to};
 ghost use Rattle.rinex_file.specs.Lines.{satellite_line, signal_text, lli_byte};
@@ -18,7 +19,7 @@ use crate::values::{SatelliteRow, SignalValues};
 use crate::write::line::{MOST_SIGNALS, SIGNAL_COLUMNS};
 use crate::write::satellite::strength_column;
 use arrayvec::ArrayVec;
-use gnss_obs::System;
+use gnss_system::{BySystem, System};
 
 /// Returns the loss-of-lock indicator in the LLI column of a phase, or None if it is no such
 /// column.
@@ -203,13 +204,16 @@ fn read_of(line: &[u8], system: System, signals: usize, row: &mut SatelliteRow) 
 
 /// Reads the satellite in a line, given the number of planned signals of each system. Returns
 /// whether the line is that of a satellite.
-pub(crate) fn read_row(line: &[u8], gps: usize, galileo: usize, row: &mut SatelliteRow) -> bool
-    requires few { (gps ≤ most_signals) × (galileo ≤ most_signals) }
-    ensures { ReadsExactly (IsSatelliteRow gps galileo) satellite_line line.now (some_if result row.new) }
+pub(crate) fn read_row(line: &[u8], planned: &BySystem<usize>, row: &mut SatelliteRow) -> bool
+    requires few { (s : System) → value_of s planned.now ≤ most_signals }
+    ensures { ReadsExactly (IsSatelliteRow (λ s. value_of s planned.now)) satellite_line line.now
+        (some_if result row.new) }
 {
-    match line.first() {
-        Some(b'G') => read_of(line, System::Gps, gps, row),
-        Some(b'E') => read_of(line, System::Galileo, galileo, row),
-        _ => false,
-    }
+    let Some(letter) = line.first() else {
+        return false;
+    };
+    let Some(system) = System::from_letter(*letter) else {
+        return false;
+    };
+    read_of(line, system, *planned.of(system), row)
 }

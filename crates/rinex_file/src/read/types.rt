@@ -1,7 +1,7 @@
 //! The observation types in a header, read back.
 ghost use Rattle.std.specs.Prelude.{◌≡◌, ◌≤◌, ◌<◌, ◌+◌, [], ◌==◌, ℕ, List, take, length, min, true, false, IfSome};
 ghost use Rattle.std.specs.Prelude.{OnOk, Err, Some};
-ghost use Rattle.gnss_obs.specs.Signals.{SignalAt, IsSignal, table};
+ghost use Rattle.gnss_system.specs.Signals.{SignalAt, IsSignal, table};
 ghost use Rattle.gnss_obs.specs.SignalLists.{indices, IsOf};
 ghost use Rattle.rinex_file.specs.Header.{most_type_rows, type_rows};
 ghost use Rattle.rinex_file.specs.Read.Progress.{AreTypes, types_line, signals_begun};

@@ -2,8 +2,8 @@
 ghost use Rattle.std.specs.Prelude.{◌≡◌, ◌≤◌, ◌<◌, ◌++◌, ℕ, [], ◌∷◌, length, take, All, List, IfSome, Some};
 ghost use Rattle.std.specs.Prelude.{◌-◌, replicate, slice_set};
 ghost use Rattle.gnss_obs.specs.declared.cell.Cell.{Cell};
-ghost use Rattle.gnss_obs.specs.Satellites.{letter};
-ghost use Rattle.gnss_obs.specs.Signals.{most_signals};
+ghost use Rattle.gnss_system.specs.Satellites.{letter};
+ghost use Rattle.gnss_system.specs.Signals.{most_signals};
 ghost use Rattle.gnss_obs.specs.Values.{AreHeld};
 ghost use Rattle.rinex_file.specs.FileValues.{FitsColumns, HaveRoom};
 ghost use Rattle.rinex_file.specs.Value.{signal_values_of, satellite_row, row_among, row_in_epoch};

@@ -1,20 +1,25 @@
-use Rattle.std.proofs.Common.{◌∙◌, sym, ap}
-use Rattle.gnss_obs.specs.Names.{Closed}
+use Rattle.gnss_system.specs.declared.by_system.BySystem.{BySystem}
+use Rattle.gnss_obs.specs.declared.cells.Cells.{Cells}
+use Rattle.std.proofs.Common.{Box, Global, ◌∙◌, refl, sym, ap, subst}
+use Rattle.gnss_system.specs.SystemValues.{value_of, map_by}
+use Rattle.gnss_obs.specs.Names.{AreHeld, Closed, IsAdded}
 use Rattle.gnss_obs.proofs.HeldLemmas.{held_added, is_added}
+use Rattle.gnss_system.proofs.SystemLaws.{each_after, value_mapped, mapped_after}
 use Rattle.gnss_obs.proofs.arrivals.Arrivals.add.Goals as goal
 
-pub returns-in-Gps-clause-epoch : goal.returns-in-Gps-clause-epoch
-returns-in-Gps-clause-epoch c =
-    is_added (sym c.system.ensures ∙ c.in-Gps.is) c.self.invariant.0 c.requires.observed (ap (λ (v : Closed). v.epoch) c.self.view_is) c.deref_mut.ensures.value c.add.ensures
-
-pub returns-in-Galileo-clause-epoch : goal.returns-in-Galileo-clause-epoch
-returns-in-Galileo-clause-epoch c =
-    is_added (sym c.system.ensures ∙ c.in-Galileo.is) c.self.invariant.1 c.requires.observed (ap (λ (v : Closed). v.epoch) c.self.view_is) c.deref_mut-in-Galileo.ensures.value c.add-in-Galileo.ensures
+pub returns-clause-epoch : goal.returns-clause-epoch
+returns-clause-epoch c =
+    let system = c.system.result in
+    let cells = c.self.inside.cells in
+    let new = c.add_to.new.cells in
+    subst (λ lists. IsAdded c.args.self.now.epoch c.args.x c.add_to.result (record { time = c.self.inside.time; cells = lists }))
+    (sym (ap (map_by (λ list. list.value)) c.add_to.ensures.others ∙ mapped_after (λ list. list.value) system cells (value_of system new)))
+    (is_added (sym c.system.ensures) (subst (AreHeld system) (sym (value_mapped system (λ list. list.value) cells)) (c.self.invariant system)) c.requires.observed (ap (λ (v : Closed). v.epoch) c.self.view_is)
+    (sym (value_mapped system (λ list. list.value) cells)) c.add_to.ensures.own)
 
 pub invariant_of-self : goal.invariant_of-self
-invariant_of-self c =
-    (held_added _ (sym c.system.ensures ∙ c.in-Gps.is) c.self.invariant.0 c.requires.observed c.requires.indicator c.deref_mut.ensures.value c.add.ensures, c.self.invariant.1)
-
-pub invariant_of-self-in-Galileo : goal.invariant_of-self-in-Galileo
-invariant_of-self-in-Galileo c =
-    (c.self.invariant.0, held_added _ (sym c.system.ensures ∙ c.in-Galileo.is) c.self.invariant.1 c.requires.observed c.requires.indicator c.deref_mut-in-Galileo.ensures.value c.add-in-Galileo.ensures)
+invariant_of-self c = λ s.
+    let system = c.system.result in
+    subst (λ (lists : BySystem (Box Cells Global)). AreHeld s (value_of s lists).value) (sym c.add_to.ensures.others)
+    (each_after (λ s list. AreHeld s list.value) system c.self.inside.cells (value_of system c.add_to.new.cells) c.self.invariant
+    (held_added c.add_to.result (sym c.system.ensures) (c.self.invariant system) c.requires.observed c.requires.indicator refl c.add_to.ensures.own) s)

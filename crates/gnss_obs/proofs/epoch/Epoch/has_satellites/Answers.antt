@@ -1,13 +1,25 @@
-use Rattle.std.proofs.Common.{arith}
-use Rattle.gnss_obs.specs.declared.system.System.TheVariants.{Gps, Galileo}
+use Rattle.std.proofs.Common.{ℕ, ◌≡◌, ◌∙◌, false, nat_lt, sym, arith}
+use Rattle.gnss_obs.specs.Names.{cells_of}
+use Rattle.gnss_obs.specs.Values.{written_among}
+use Rattle.gnss_system.specs.Satellites.{satellites as satellites_in}
 use Rattle.gnss_obs.proofs.GroupLemmas.{some_counted}
+use Rattle.gnss_system.proofs.SystemLaws.{below_next, below_all, sum_none, sum_some}
 use Rattle.gnss_obs.proofs.epoch.Epoch.has_satellites.Goals as goal
 
 pub returns-then-has_value : goal.returns-then-has_value
-returns-then-has_value c = grind (arith, (some_counted Gps c.cells.result.now c.args.self.now.epoch.gps c.cells.ensures.cells c.cells.ensures.held c.cells.ensures.order))
+returns-then-has_value c =
+    sym (sum_some (λ s. written_among (cells_of s c.args.self.now.epoch) (satellites_in s)) c.at.result
+    (sym (some_counted c.at.result c.cells.result.now _ c.cells.ensures.cells c.cells.ensures.held c.cells.ensures.order) ∙ sym c.has_value.ensures ∙ c.if-has_value.true))
 
-pub returns-else-has_value : goal.returns-else-has_value
-returns-else-has_value c =
-    let gps = some_counted Gps c.cells.result.now c.args.self.now.epoch.gps c.cells.ensures.cells c.cells.ensures.held c.cells.ensures.order in
-    let cells = c.cells-else-has_value in
-    grind (arith, gps, (some_counted Galileo cells.result.now c.args.self.now.epoch.galileo cells.ensures.cells cells.ensures.held cells.ensures.order))
+pub loop-i-preserved : goal.loop-i-preserved
+loop-i-preserved c =
+    below_next (λ s. nat_lt 0 (written_among (cells_of s c.args.self.now.epoch) (satellites_in s)) ≡ false) c.loop-i.i c.at.result c.at.ensures c.loop-i.invariant
+    (sym (some_counted c.at.result c.cells.result.now _ c.cells.ensures.cells c.cells.ensures.held c.cells.ensures.order) ∙ sym c.has_value.ensures ∙ c.if-has_value.false)
+
+pub returns : goal.returns
+returns c =
+    let end = c.loop-i-test.false in
+    sym (sum_none (λ s. written_among (cells_of s c.args.self.now.epoch) (satellites_in s)) (λ s.
+    zero_from _ (below_all (λ s. nat_lt 0 (written_among (cells_of s c.args.self.now.epoch) (satellites_in s)) ≡ false) c.loop-i.i (omega (arith, end)) c.loop-i.invariant s))) where
+      zero_from : (n : ℕ) → nat_lt 0 n ≡ false → n ≡ 0
+      zero_from n h = grind (arith, h)

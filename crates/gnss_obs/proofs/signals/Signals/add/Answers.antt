@@ -1,5 +1,6 @@
 use Rattle.std.proofs.Common.{◌≡◌, ℕ, nat_eq, ◌==◌, ◌++◌, ◌∷◌, [], ◌≤◌, true, false, List, length, sym, ap, ◌∙◌, subst, arith, rules}
 use Rattle.gnss_obs.specs.Order.{IsLeastNext}
+use Rattle.gnss_system.specs.Signals.{most_signals}
 use Rattle.gnss_obs.specs.Names.{SignalAt, indices, IsOf, list_any}
 use Rattle.gnss_obs.proofs.PlanLemmas.{any_index, indices-push, length_indices}
 use Rattle.gnss_obs.proofs.SignalLemmas.{was_new, was_there, found_more, rows_more}
@@ -11,7 +12,7 @@ invariant_of-self c =
     let s = c.args.signal in
     let of = subst (IsOf s.system) (sym c.self.view_is) c.requires in
     let a = was_new (λ a b e. grind arith) s c.in-Ok.ensures.unique of c.index-index.ensures.listed c.in-Ok.ensures.keys (sym c.in-Ok.ensures.added ∙ c.if-is_new.true) c.in-Ok.ensures.index in
-    let room : 19 ≤ length c.self.inside.places = omega arith in
+    let room : most_signals ≤ length c.self.inside.places = omega arith in
     let more = ap indices a.0 ∙ indices-push keys s ∙ ap (λ (n : ℕ). indices keys ++ n ∷ []) (sym c.index-index.ensures.value) in (
       found_more c.index-index.result c.self.invariant.0 (search rules) room
           (ap (λ (n : ℕ). list_any (nat_eq n) (indices keys)) c.index-index.ensures.value ∙ sym (any_index s.index keys) ∙ a.1) (a.3 ∙ sym (length_indices keys))

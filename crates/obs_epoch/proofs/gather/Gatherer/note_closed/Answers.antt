@@ -1,7 +1,7 @@
 use Rattle.std.proofs.Common.{◌≡◌, ◌∙◌, Bool, true, sym, ap, ap₂, arith, refl}
 use Rattle.std.proofs.lemmas.Grind.{common_steps}
 use Rattle.obs_epoch.specs.Names.{GathererValue, closed_noted, just_closed_as}
-use Rattle.obs_epoch.proofs.ValueLemmas.{both_noted, closed_value, gathered_of, noted_closed, pending_closed}
+use Rattle.obs_epoch.proofs.ValueLemmas.{closed_value, gathered_of, noted_closed, pending_closed}
 use Rattle.obs_epoch.proofs.gather.Gatherer.note_closed.Goals as goal
 
 pub invariant_of-self-2 : goal.invariant_of-self-2
@@ -17,8 +17,8 @@ returns c =
     let p = i.clock.setup.plan in
     let g : GathererValue = gathered_of i.clock q i.locks i.just_closed i.has_ended in
     let shut : c.args.closed ≡ true = grind (arith, common_steps, c.if-not-closed.false) in
-    let made : Bool → GathererValue = λ b. gathered_of i.clock r c.note_cells-2.new.locks b i.has_ended in
+    let made : Bool → GathererValue = λ b. gathered_of i.clock r c.note_systems.new.locks b i.has_ended in
     ap made shut
     ∙ noted_closed g q c.self.invariant.order refl refl (c.close.ensures ∙ ap (λ p. closed_value p q) c.plan.ensures)
-    (both_noted i.locks r.epoch (c.milliseconds-time.ensures.value ∙ c.time.ensures) c.cells-gps.ensures.cells c.cells-galileo.ensures.cells c.note_cells.ensures c.note_cells-2.ensures)
+    c.note_systems.ensures
     ∙ ap₂ (λ b v. closed_noted (just_closed_as b v)) (sym shut) c.self.view_is

@@ -1,6 +1,28 @@
-use Rattle.std.proofs.Common.{ℕ, ◌-◌, ◌∙◌, List, get_or, ap, sym, subst}
-use Rattle.obs_epoch.proofs.SignalNumbers.{Adds, adds_some, adds_none, finished}
+use Rattle.std.proofs.Common.{◌≡◌, ◌+◌, ◌<◌, false, arith, refl, rules, ℕ, ◌-◌, ◌∙◌, List, get_or, ap, sym, subst}
+use Rattle.obs_epoch.proofs.SignalNumbers.{number_none, Adds, adds_some, adds_none, finished}
+use Rattle.gnss_obs.proofs.TableLaws.{ids_within}
+use Rattle.obs_epoch.specs.Names.{entries, formed, value_count, satellite_set, has_id, id_of, signal_in, is_system}
 use Rattle.obs_epoch.proofs.signal_counts.SignalCounts.count_cells.Goals as goal
+
+pub loop-id-init : goal.loop-id-init
+loop-id-init c =
+    let counts = c.value_counts-counts.result.counts in
+    let es = entries (formed c.args.view.now) in
+    let numbers : (i : ℕ) → i < 32 → get_or counts i 0 ≡ value_count (satellite_set c.args.system) (i + 1) es = search rules in
+    let others : (id : ℕ) → has_id id c.value_counts-counts.result.left ≡ false → value_count (satellite_set c.args.system) id es ≡ 0 = search rules in
+    record {
+      adds = record {
+        size = λ s. refl;
+        past = λ s i out. refl;
+        each = λ s i listed len small.
+            let r = signal_in s i in
+            let within = ids_within r listed in
+            number_none (is_system c.args.system s) (has_id (id_of r) c.value_counts-counts.result.left) (get_or counts (id_of r - 1) 0) _ (λ none.
+            numbers (id_of r - 1) (omega (arith, within.0, within.1)) ∙ ap (λ (k : ℕ). value_count (satellite_set c.args.system) k es) (omega (arith, within.0)) ∙ others (id_of r) none);
+      };
+      numbers = numbers;
+      few = search rules;
+    }
 
 pub loop-id-preserved-in-Some-from_id : goal.loop-id-preserved-in-Some-from_id
 loop-id-preserved-in-Some-from_id c =

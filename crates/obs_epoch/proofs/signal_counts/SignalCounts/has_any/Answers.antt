@@ -1,13 +1,20 @@
-use Rattle.std.proofs.Common.{arith}
-use Rattle.std.proofs.lemmas.Grind.{common_steps}
-use Rattle.obs_epoch.proofs.SignalCountsLemmas.{any_not_zero}
+use Rattle.std.proofs.Common.{ℕ, ◌≡◌, ◌∙◌, false, List, nat_lt, sym, ap, arith}
+use Rattle.gnss_system.specs.Systems.{systems}
+use Rattle.gnss_system.proofs.SystemLaws.{any_none, below_all, below_next, one_any}
+use Rattle.obs_epoch.specs.Names.{list_any, signal_counts, SignalCountsValue}
+use Rattle.gnss_system.specs.SystemValues.{value_of}
 use Rattle.obs_epoch.proofs.signal_counts.SignalCounts.has_any.Goals as goal
 
-pub returns-then-ne : goal.returns-then-ne
-returns-then-ne c = let gps = any_not_zero 15 c.self.inside.gps c.self.told.0 in grind (arith, common_steps, gps)
+pub returns-then-has_one : goal.returns-then-has_one
+returns-then-has_one c = sym (one_any (λ s. list_any (λ n. nat_lt 0 n) (signal_counts s c.args.self.now)) c.at.result
+    (ap (λ (l : List ℕ). list_any (λ n. nat_lt 0 n) l) (sym (c.of.ensures ∙ ap (λ (v : SignalCountsValue). value_of c.at.result v) c.self.view_is)) ∙ sym c.has_one.ensures ∙ c.if-has_one.true))
 
-pub returns-else-ne : goal.returns-else-ne
-returns-else-ne c =
-    let gps = any_not_zero 15 c.self.inside.gps c.self.told.0 in
-    let galileo = any_not_zero 19 c.self.inside.galileo c.self.told.1 in
-    grind (arith, common_steps, gps, galileo)
+pub loop-i-preserved : goal.loop-i-preserved
+loop-i-preserved c =
+    below_next (λ s. list_any (λ n. nat_lt 0 n) (signal_counts s c.args.self.now) ≡ false) c.loop-i.i c.at.result c.at.ensures c.loop-i.invariant
+    (ap (λ (l : List ℕ). list_any (λ n. nat_lt 0 n) l) (sym (c.of.ensures ∙ ap (λ (v : SignalCountsValue). value_of c.at.result v) c.self.view_is)) ∙ sym c.has_one.ensures ∙ c.if-has_one.false)
+
+pub returns : goal.returns
+returns c =
+    let end = c.loop-i-test.false in
+    sym (any_none (λ s. list_any (λ n. nat_lt 0 n) (signal_counts s c.args.self.now)) (below_all (λ s. list_any (λ n. nat_lt 0 n) (signal_counts s c.args.self.now) ≡ false) c.loop-i.i (omega (arith, end)) c.loop-i.invariant) systems)

@@ -1,57 +1,60 @@
 use Rattle.rinex_file.proofs.Rows.Sizes.{front_line}
-use Rattle.rinex_file.proofs.Names.{arith, ◌≡◌, ◌≢◌, ◌∙◌, sym, ap, refl, ℕ, ◌<◌, List, Option, Some, None, slice_get, option_copied, System, Gps, Galileo, Row, SatelliteRow, IsSatelliteRow, IsRow, of_system, satellite_line, letter, ReadsExactly, IsRowOf}
+use Rattle.rinex_file.proofs.Names.{arith, ◌≡◌, ◌∙◌, sym, ap, subst, ℕ, ◌<◌, List, Option, Some, None, slice_get, option_copied, System, Row, SatelliteRow, IsSatelliteRow, IsRow, satellites, satellite_line, letter, ReadsExactly, some_if, IsRowOf}
+use Rattle.gnss_system.specs.Satellites.{system_of_letter}
+use Rattle.gnss_system.specs.SystemValues.{value_of}
+use Rattle.gnss_system.proofs.SystemLaws.{letter_back, letter_found}
 use Rattle.rinex_file.proofs.read.row.read_row.Goals as goal
 
 -- a row with a value has a signal
 has_signal : (most signals : ℕ) (r : Row) → IsRow most signals r → 0 < signals
 has_signal most signals r is = let (k, d, less, at, value) = is.some in omega (arith, less, is.whole)
 
-is_seen : (gps galileo : ℕ) (system : System) (s : SatelliteRow) → IsRowOf system (of_system system gps galileo) s → IsSatelliteRow gps galileo s
-is_seen gps galileo system s (same, is) = grind (arith, has_signal)
+is_seen : (signals : System → ℕ) (system : System) (s : SatelliteRow) → IsRowOf system (signals system) s → IsSatelliteRow signals s
+is_seen signals system s (same, is) = record {
+  planned = subst (λ (r : System). 0 < signals r) (sym same) (has_signal (satellites system) (signals system) s.row is);
+  row = subst (λ (r : System). IsRow (satellites r) (signals r) s.row) (sym same) is;
+}
 
-is_of : (gps galileo : ℕ) (system : System) (s : SatelliteRow) → s.system ≡ system → IsSatelliteRow gps galileo s → IsRowOf system (of_system system gps galileo) s
-is_of gps galileo system s same is = grind arith
+is_of : (signals : System → ℕ) (system : System) (s : SatelliteRow) → s.system ≡ system → IsSatelliteRow signals s → IsRowOf system (signals system) s
+is_of signals system s same is = (same, subst (λ (r : System). IsRow (satellites r) (signals r) s.row) same is.row)
 
-inside : (a b : ℕ) → Some a ≡ Some b → a ≡ b
+inside : {A : Type 0} (a b : A) → Some a ≡ Some b → a ≡ b
 inside a b e = cc
 
 one_letter : (s t : System) → letter s ≡ letter t → s ≡ t
-one_letter Gps Gps e = refl
-one_letter Galileo Galileo e = refl
-one_letter Gps Galileo e = absurd (omega (arith, e))
-one_letter Galileo Gps e = absurd (omega (arith, e))
+one_letter s t e = inside s t (sym (letter_back s) ∙ ap system_of_letter e ∙ letter_back t)
 
 -- the first byte of a line
 first_is : (line : List ℕ) (v : SatelliteRow) → line ≡ satellite_line v → slice_get line 0 ≡ Some (letter v.system)
 first_is line v e = ap (λ l. slice_get l 0) (e ∙ front_line v)
 
 -- if the line begins with the letter of a system, each satellite is one of this system
-of_both : (gps galileo : ℕ) (system : System) (line : List ℕ) (r : Option SatelliteRow) → slice_get line 0 ≡ Some (letter system)
-    → ReadsExactly (IsRowOf system (of_system system gps galileo)) satellite_line line r → ReadsExactly (IsSatelliteRow gps galileo) satellite_line line r
-of_both gps galileo system line None letter read =
-    λ v is e. read v (is_of gps galileo system v (one_letter v.system system (inside _ _ (sym (first_is line v e) ∙ letter))) is) e
-of_both gps galileo system line (Some s) letter (is, text, only) =
-    (is_seen gps galileo system s is, text, λ v also e. only v (is_of gps galileo system v (one_letter v.system system (inside _ _ (sym (first_is line v e) ∙ letter))) also) e)
+of_all : (signals : System → ℕ) (system : System) (line : List ℕ) (r : Option SatelliteRow) → slice_get line 0 ≡ Some (letter system)
+    → ReadsExactly (IsRowOf system (signals system)) satellite_line line r → ReadsExactly (IsSatelliteRow signals) satellite_line line r
+of_all signals system line None letter read =
+    λ v is e. read v (is_of signals system v (one_letter v.system system (inside _ _ (sym (first_is line v e) ∙ letter))) is) e
+of_all signals system line (Some s) letter (is, text, only) =
+    (is_seen signals system s is, text, λ v also e. only v (is_of signals system v (one_letter v.system system (inside _ _ (sym (first_is line v e) ∙ letter))) also) e)
 
 -- a line with another first byte is that of no satellite
-no_letter : (line : List ℕ) (b : ℕ) (v : SatelliteRow) → Some b ≡ slice_get line 0 → b ≢ 71 → b ≢ 69 → line ≡ satellite_line v → ⊥
-no_letter line b v at h k e = other b v.system h k (inside _ _ (at ∙ first_is line v e)) where
-  other : (b : ℕ) (system : System) → b ≢ 71 → b ≢ 69 → b ≡ letter system → ⊥
-  other b Gps h k e = h e
-  other b Galileo h k e = k e
+no_letter : (line : List ℕ) (b : ℕ) (v : SatelliteRow) → Some b ≡ slice_get line 0 → system_of_letter b ≡ None → line ≡ satellite_line v → ⊥
+no_letter line b v at none e =
+    let is : b ≡ letter v.system = inside _ _ (at ∙ first_is line v e) in
+    let clash : None ≡ Some v.system = sym none ∙ ap system_of_letter is ∙ letter_back v.system in
+    cc
 
 no_byte : (line : List ℕ) (v : SatelliteRow) → None ≡ slice_get line 0 → line ≡ satellite_line v → ⊥
 no_byte line v at e = let same : None ≡ Some (letter v.system) = at ∙ first_is line v e in cc
 
-pub returns-in-Some-eq71 : goal.returns-in-Some-eq71
-returns-in-Some-eq71 c = of_both c.args.gps c.args.galileo Gps c.args.line.now _ (sym c.in-Some-eq71.ensures.value ∙ ap Some c.in-Some-eq71.field-0-test) c.read_of.ensures
-
-pub returns-in-Some-eq69 : goal.returns-in-Some-eq69
-returns-in-Some-eq69 c =
-    of_both c.args.gps c.args.galileo Galileo c.args.line.now _ (sym c.in-Some-eq69.ensures.value ∙ ap Some c.in-Some-eq69.field-0-test) c.read_of-in-Some-eq69.ensures
-
 pub returns-in_default : goal.returns-in_default
-returns-in_default c = grind (arith, no_letter)
+returns-in_default c = λ v is e. no_byte c.args.line.now v (ap option_copied (sym c.in_default.is) ∙ c.first.ensures.value) e
 
-pub returns-in_default-2 : goal.returns-in_default-2
-returns-in_default-2 c = λ v is e. no_byte c.args.line.now v (ap option_copied (sym c.in_default.is) ∙ c.first.ensures.value) e
+pub returns-in_default-from_letter : goal.returns-in_default-from_letter
+returns-in_default-from_letter c = λ v is e. no_letter c.args.line.now c.in-Some.letter.now v c.in-Some.ensures.value (sym c.from_letter.ensures ∙ c.in_default-from_letter.is) e
+
+pub returns : goal.returns
+returns c =
+    let system = c.in-Some-from_letter.system in
+    let found = letter_found c.in-Some.letter.now system (sym c.from_letter.ensures ∙ c.in-Some-from_letter.is) in
+    of_all (λ s. value_of s c.args.planned.now) system c.args.line.now _ (sym c.in-Some.ensures.value ∙ ap Some (sym found))
+    (subst (λ (n : ℕ). ReadsExactly (IsRowOf system n) satellite_line c.args.line.now (some_if c.read_of.result c.read_of.new.row)) c.of.ensures c.read_of.ensures)

@@ -1,6 +1,6 @@
 use Rattle.rinex_file.proofs.Reading.Epochs.{Begins, goes_on, epoch_taken, epoch_shows, few_satellites, no_epoch, sound_begun, sound_epoch}
 use Rattle.rinex_file.proofs.Judged.{refused}
-use Rattle.rinex_file.proofs.Names.{◌<◌, ◌≤◌, ℕ, subst, sym, IsTime, progress_at, Progress, MayBegin, Satellite}
+use Rattle.rinex_file.proofs.Names.{planned_in, ◌<◌, ◌≤◌, ℕ, subst, sym, IsTime, progress_at, Progress, MayBegin, Satellite}
 use Rattle.rinex_file.proofs.read.parser_state.ParserState.take_epoch.Goals as goal
 
 pub may_begin-requires : goal.may_begin-requires
@@ -8,7 +8,7 @@ may_begin-requires c = record { between = λ h history. (sound_epoch (progress_a
 
 -- the line of an epoch that may begin has room for its number of satellites
 fits : (s : Progress) (w : ℕ × ℕ) → Begins s w → IsTime w.0 × w.1 ≤ 999
-fits s w (time, may) = (time, few_satellites _ _ w.1 may.room)
+fits s w (time, may) = (time, few_satellites (planned_in s.known.shown.plan) w.1 may.room)
 
 pub returns-in_default-2 : goal.returns-in_default-2
 returns-in_default-2 c = λ h history.

@@ -4,34 +4,32 @@ use Rattle.std.specs.Option.{is_some}
 use Rattle.rinex_file.proofs.Reading.Epochs.{rise_after, rise_last, values_more, row_taken, row_shows, last_shows, no_row, bad_row, last_taken, sound_open, few_at, sound_row, sound_closed}
 use Rattle.rinex_file.proofs.FewRows.{some_rank}
 use Rattle.rinex_file.proofs.read.parser_state.ParserState.take_satellite.Goals.{then-not-is_read-via-then-not-is_read, then-not-is_read-via-else-not-is_read+then-rank-self}
-use Rattle.rinex_file.proofs.Names.{arith, ◌≡◌, ◌∙◌, ◌+◌, ◌-◌, ◌<◌, ◌∷◌, ◌++◌, [], ℕ, suc, List, sym, ap, subst, refl, length, length-append, Bool, true, false, Option, Some, None, IfSome, option_or, map, ◌≤◌, ◌↔◌, IsStrictlyIncreasing, map-append, sum_by-append, Satellite, SatelliteRow, Stamped, StationValues, IsSatelliteRow, changed_by, rank_of, time_stamped, satellite_line, Progress, ReadsExactly, some_if, EpochTimes, AreTimes, AreTimesOrNone, IsLast, changes_of, stamped_at, events_in, progress_at, rows_in}
+use Rattle.rinex_file.proofs.Names.{arith, ◌≡◌, ◌∙◌, ◌+◌, ◌-◌, ◌<◌, ◌∷◌, ◌++◌, [], ℕ, suc, List, sym, ap, subst, refl, length, length-append, Bool, true, false, Option, Some, None, IfSome, option_or, map, ◌≤◌, ◌↔◌, IsStrictlyIncreasing, map-append, sum_by-append, System, Satellite, SatelliteRow, Stamped, StationValues, IsSatelliteRow, changed_by, rank_of, time_stamped, satellite_line, Progress, ReadsExactly, some_if, EpochTimes, AreTimes, AreTimesOrNone, IsLast, changes_of, stamped_at, events_in, progress_at, rows_in}
 use mir.Val.{bool_byte}
 use Rattle.rinex_file.proofs.read.parser_state.ParserState.take_satellite.Goals as goal
 
 pub read_row-is_read-requires : goal.read_row-is_read-requires
 read_row-is_read-requires c =
     let (h, history) = c.requires.history in
-    let (gps, galileo) = few_at (progress_at c.args.self.now h) c.args.left c.requires.expected history.sound in
-    let g = c.planned-gps.ensures in
-    let e = c.planned-galileo.ensures in
-    record { few = (omega (arith, gps, g), omega (arith, galileo, e)) }
+    let few = few_at (progress_at c.args.self.now h) c.args.left c.requires.expected history.sound in
+    record { few = λ s. let most = few s in let is = c.planned_signals-planned.ensures s in omega (arith, most, is) }
 
 -- at least one of the lines is expected
 one_expected : (left : ℕ) (s : Progress) → s.expected ≡ Satellite left → 0 < left → s.expected ≡ Satellite (suc (left - 1))
 one_expected left s expected some = let n : left ≡ suc (left - 1) = omega (arith, some) in expected ∙ ap Satellite n
 
 -- the satellite of a line, if these numbers of signals are planned
-abbrev Shows : ℕ → ℕ → List ℕ → Bool → SatelliteRow → Type 0
-Shows gps galileo line b seen = ReadsExactly (IsSatelliteRow gps galileo) satellite_line line (some_if b seen)
+abbrev Shows : (System → ℕ) → List ℕ → Bool → SatelliteRow → Type 0
+Shows signals line b seen = ReadsExactly (IsSatelliteRow signals) satellite_line line (some_if b seen)
 
-shows : {g e gps galileo : ℕ} (line : List ℕ) {r b : Bool} (seen : SatelliteRow) → g ≡ gps → e ≡ galileo → r ≡ b → Shows g e line r seen → Shows gps galileo line b seen
-shows line seen x y z h = grind arith
+shows : {read signals : System → ℕ} (line : List ℕ) {r b : Bool} (seen : SatelliteRow) → ((s : System) → read s ≡ signals s) → r ≡ b → Shows read line r seen → Shows signals line b seen
+shows {read} {signals} line {b = b} seen same y h = subst (λ (f : System → ℕ). Shows f line b seen) (λ i s. same s i) (subst (λ (r : Bool). Shows read line r seen) y h)
 
 -- the ranks and a greater one are increasing, and those alone
-increasing : {gps galileo : ℕ} (rows : List SatelliteRow) {seen : SatelliteRow} (last : ℕ) {rank : ℕ} → IsLast (map rank_of rows) last → IsSatelliteRow gps galileo seen → rank ≡ rank_of seen
+increasing : {signals : System → ℕ} (rows : List SatelliteRow) {seen : SatelliteRow} (last : ℕ) {rank : ℕ} → IsLast (map rank_of rows) last → IsSatelliteRow signals seen → rank ≡ rank_of seen
     → (last < rank) ↔ IsStrictlyIncreasing (map rank_of rows ++ rank_of seen ∷ [])
-increasing {gps} {galileo} rows {seen} last is row same =
-    subst (λ (n : ℕ). (last < n) ↔ IsStrictlyIncreasing (map rank_of rows ++ rank_of seen ∷ [])) (sym same) (is (rank_of seen) (some_rank gps galileo seen row))
+increasing {signals} rows {seen} last is row same =
+    subst (λ (n : ℕ). (last < n) ↔ IsStrictlyIncreasing (map rank_of rows ++ rank_of seen ∷ [])) (sym same) (is (rank_of seen) (some_rank signals seen row))
 
 last_rank : (rows : List SatelliteRow) (seen : SatelliteRow) (n : ℕ) → n ≡ rank_of seen → IsStrictlyIncreasing (map rank_of rows ++ rank_of seen ∷ []) → IsLast (map rank_of (rows ++ seen ∷ [])) n
 last_rank rows seen n same rise m some =
@@ -47,9 +45,9 @@ returns-then-not-is_read c = λ h history.
     let one = one_expected c.args.left s c.requires.expected some in
     elim c.then-not-is_read.branch [
       | then-not-is_read-via-then-not-is_read w ↦
-          no_row s (c.args.left - 1) c.args.line.now one (shows c.args.line.now seen c.planned-gps.ensures c.planned-galileo.ensures w.if-not-is_read.true c.read_row-is_read.ensures)
+          no_row s (c.args.left - 1) c.args.line.now one (shows c.args.line.now seen c.planned_signals-planned.ensures w.if-not-is_read.true c.read_row-is_read.ensures)
       | then-not-is_read-via-else-not-is_read+then-rank-self w ↦
-          let shown = shows c.args.line.now seen c.planned-gps.ensures c.planned-galileo.ensures w.if-not-is_read.false c.read_row-is_read.ensures in
+          let shown = shows c.args.line.now seen c.planned_signals-planned.ensures w.if-not-is_read.false c.read_row-is_read.ensures in
           bad_row s (c.args.left - 1) c.args.line.now one seen shown.2
           (λ rise. let more = (increasing h.rows _ history.counted.rank shown.0 c.rank_of-rank.ensures).1 rise in omega (arith, more, w.if-rank-self.true))
     ]
@@ -81,7 +79,7 @@ returns-then-left-gt1 c = λ h history.
     let s = progress_at c.args.self.now h in
     let seen = c.read_row-is_read.new.row in
     let (read, begun, some, room) = sound_open s c.args.left c.requires.expected history.sound in
-    let shown = shows c.args.line.now seen c.planned-gps.ensures c.planned-galileo.ensures c.if-not-is_read.false c.read_row-is_read.ensures in
+    let shown = shows c.args.line.now seen c.planned_signals-planned.ensures c.if-not-is_read.false c.read_row-is_read.ensures in
     let rise = (increasing h.rows _ history.counted.rank shown.0 c.rank_of-rank.ensures).0 c.if-rank-self.false in
     let more : 0 < c.args.left - 1 = let n = c.if-left-gt1.true in omega (arith, n) in
     record {
@@ -122,7 +120,7 @@ returns c = λ h history.
     let s = progress_at c.args.self.now h in
     let seen = c.read_row-is_read.new.row in
     let (read, begun, some, room) = sound_open s c.args.left c.requires.expected history.sound in
-    let shown = shows c.args.line.now seen c.planned-gps.ensures c.planned-galileo.ensures c.if-not-is_read.false c.read_row-is_read.ensures in
+    let shown = shows c.args.line.now seen c.planned_signals-planned.ensures c.if-not-is_read.false c.read_row-is_read.ensures in
     let rise = (increasing h.rows _ history.counted.rank shown.0 c.rank_of-rank.ensures).0 c.if-rank-self.false in
     let last : c.args.left ≡ suc 0 = let n = c.if-left-gt1.false in omega (arith, n, some) in
     let epoch = stamped_at c.args.self.now.change c.args.self.now.time (h.rows ++ seen ∷ []) in

@@ -1,7 +1,8 @@
 -- Satellites.
-use Rattle.std.specs.Prelude.{ℕ, ◌-◌, ◌^◌, ◌≤◌, ◌&&◌, Bool, true, false, not, nat_le, if◌then◌else◌, Option, Some, None}
-use Rattle.gnss_obs.specs.declared.system.System.{System}
-use Rattle.gnss_obs.specs.declared.system.System.TheVariants.{Gps, Galileo}
+use Rattle.std.specs.Prelude.{ℕ, ◌-◌, ◌^◌, ◌≤◌, ◌==◌, ◌&&◌, find, nat_le, if◌then◌else◌, Option, Some, None}
+use Rattle.gnss_system.specs.declared.system.System.{System}
+use Rattle.gnss_system.specs.declared.system.System.TheVariants.{Gps, Galileo}
+use Rattle.gnss_system.specs.Systems.{systems}
 
 -- a satellite of a system
 pub record Satellite : Type 0 where
@@ -38,15 +39,16 @@ satellite_of_id system id =
     then Some (record { system = system; id = id })
     else None
 
+-- the number of the first satellite of a system in RINEX
+abbrev pub first_number : System → ℕ
+first_number Gps = 1
+first_number Galileo = 1
+
 -- the letter of a system in RINEX, in ASCII
 abbrev pub letter : System → ℕ
 letter Gps = 71
 letter Galileo = 69
 
-abbrev pub is_gps : System → Bool
-is_gps Gps = true
-is_gps Galileo = false
-
-abbrev pub is_system : System → System → Bool
-is_system Gps s = is_gps s
-is_system Galileo s = not (is_gps s)
+-- the system with this letter, if there is one
+abbrev pub system_of_letter : ℕ → Option System
+system_of_letter byte = find (λ s. letter s == byte) systems

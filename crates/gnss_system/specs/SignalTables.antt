@@ -3,7 +3,7 @@
 -- standard's tables of signal IDs of GPS and Galileo. Codes: the observation codes of RINEX 3.05 for each system,
 -- without the letter of the observation type.
 use Rattle.std.specs.Prelude.{ℕ, List, [], ◌∷◌, ◌-◌, ◌==◌, if◌then◌else◌, codes}
-use Rattle.gnss_obs.specs.declared.tables.ListedSignal.{ListedSignal}
+use Rattle.gnss_system.specs.declared.tables.ListedSignal.{ListedSignal}
 
 -- the bands of a system by the digit that a code begins with, each with its carrier in hertz
 abbrev pub gps_carriers : List (ℕ × ℕ)

@@ -15,6 +15,9 @@ pub const GPS_SIGNAL_COUNT: usize = 15;
 /// Number of Galileo signals.
 pub const GALILEO_SIGNAL_COUNT: usize = 19;
 
+/// Largest number of signals of a system.
+pub const MOST_SIGNALS: usize = GALILEO_SIGNAL_COUNT;
+
 // Carrier frequencies in hertz. E5 is E5a and E5b together.
 const L1: u32 = 1_575_420_000;
 

@@ -1,10 +1,10 @@
-//! A pair of values, one for each satellite system.
+//! A value for each satellite system.
 ghost use Rattle.std.specs.Prelude.{◌≡◌};
-ghost use Rattle.gnss_obs.specs.SystemValues.{value_of, lends_value_of};
+ghost use Rattle.gnss_system.specs.SystemValues.{value_of, lends_value_of};
 
 use crate::system::System;
 
-/// A pair of values, one for each satellite system.
+/// A value for each satellite system.
 #[derive(Drop)]
 pub struct BySystem<T> {
     /// The value of GPS.

@@ -3,11 +3,11 @@ use Rattle.std.specs.Prelude.{ℕ, List, [], ◌+◌, Bool, ◌==◌, ◌<◌, n
 use Rattle.std.specs.Prelude.{length, position, slice_get}
 use Rattle.std.specs.Option.{option_map_or}
 use Rattle.std.specs.Str.{bytes_eq}
-use Rattle.gnss_obs.specs.declared.tables.ListedSignal.{ListedSignal}
-use Rattle.gnss_obs.specs.declared.system.System.{System}
-use Rattle.gnss_obs.specs.declared.system.System.TheVariants.{Gps, Galileo}
-use Rattle.gnss_obs.specs.SignalTables.{gps_signals, galileo_signals, gps_carriers, galileo_carriers, band_of}
-use Rattle.gnss_obs.specs.SignalTables.{carrier_of}
+use Rattle.gnss_system.specs.declared.tables.ListedSignal.{ListedSignal}
+use Rattle.gnss_system.specs.declared.system.System.{System}
+use Rattle.gnss_system.specs.declared.system.System.TheVariants.{Gps, Galileo}
+use Rattle.gnss_system.specs.SignalTables.{gps_signals, galileo_signals, gps_carriers, galileo_carriers, band_of}
+use Rattle.gnss_system.specs.SignalTables.{carrier_of}
 
 -- the table of a system
 abbrev pub table : System → List ListedSignal
@@ -77,6 +77,10 @@ code_of s = option_map_or (λ e. e.1) (slice_get (table s.system) s.index) []
 abbrev pub carriers : System → List (ℕ × ℕ)
 carriers Gps = gps_carriers
 carriers Galileo = galileo_carriers
+
+-- the largest carrier frequency, in hertz
+abbrev pub most_hertz : ℕ
+most_hertz = 1575420000
 
 -- the carrier frequency of a signal, in hertz
 abbrev pub hertz_of : SignalAt → ℕ

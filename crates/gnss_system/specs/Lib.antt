@@ -1,0 +1,6 @@
+pub mod Systems
+pub mod SystemValues
+pub mod Satellites
+pub mod SignalTables
+pub mod SignalRows
+pub mod Signals

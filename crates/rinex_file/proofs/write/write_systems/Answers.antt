@@ -1,0 +1,38 @@
+use Rattle.rinex_file.proofs.Writing.Sent.{lines_next, lines_after, lines_all, part_after, part_first, where_failed}
+use Rattle.rinex_file.proofs.Names.{arith, ◌≡◌, ◌∙◌, ℕ, sym, subst, refl, take, Appends, Appends-nil, Appends-trans, AppendsPrefix, lines_of_systems, lines_up_to, satellites}
+use Rattle.gnss_system.specs.Systems.{systems, after}
+use Rattle.rinex_file.proofs.write.write_systems.Goals as goal
+
+pub loop-i-init : goal.loop-i-init
+loop-i-init g c = record { out = Appends-nil (g.W.Write.contents c.args.writer.now.inner); fine = refl; widest = refl }
+
+pub loop-i-preserved : goal.loop-i-preserved
+loop-i-preserved g c =
+    let contents = g.W.Write.contents in
+    let a = contents c.args.writer.now.inner in
+    let d = contents c.write_system.new.writer.inner in
+    let inv = c.loop-i.invariant in
+    record {
+      out = subst (λ l. Appends a d l) (sym (lines_next c.args.plan.now c.args.epoch.now.epoch c.loop-i.i c.at.result c.at.ensures))
+          (Appends-trans a (contents c.loop-i.writer.inner) d _ _ inv.out c.in_ok-write_system.ensures.whole);
+      fine = grind (arith, c.in_ok-write_system.ensures, inv.fine);
+      widest = grind (arith, c.in_ok-write_system.ensures, inv.widest);
+    }
+
+pub returns-in_err-write_system-clause-part : goal.returns-in_err-write_system-clause-part
+returns-in_err-write_system-clause-part g c =
+    let contents = g.W.Write.contents in
+    let a = contents c.args.writer.now.inner in
+    let b = contents c.loop-i.writer.inner in
+    let d = contents c.write_system.new.writer.inner in
+    let p = c.args.plan.now in
+    let e = c.args.epoch.now.epoch in
+    let s = c.at.result in
+    where_failed c.from_residual.result _ (part_after a b d _ _ (lines_after p e c.loop-i.i s c.at.ensures) c.loop-i.invariant.out
+    (part_first b d (lines_up_to p e s (satellites s)) (lines_of_systems p e (after s)) refl c.in_err-write_system.ensures.part))
+
+pub returns-clause-whole : goal.returns-clause-whole
+returns-clause-whole g c =
+    let contents = g.W.Write.contents in
+    subst (λ l. Appends (contents c.args.writer.now.inner) (contents c.loop-i.writer.inner) l)
+    (lines_all c.args.plan.now c.args.epoch.now.epoch c.loop-i.i (let end = c.loop-i-test.false in omega (arith, end))) c.loop-i.invariant.out

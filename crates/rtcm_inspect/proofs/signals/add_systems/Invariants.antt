@@ -1,0 +1,12 @@
+use Rattle.rtcm_inspect.proofs.Names.{◌≡◌, ◌*◌, ◌≤◌, List, length, flat_map, table, AreSignalCounts, HeardCell, count_lines}
+use Rattle.std.specs.Prelude.{take}
+use Rattle.std.specs.List.{sum_by}
+use Rattle.gnss_system.specs.Systems.{systems}
+use Rattle.rtcm_inspect.proofs.signals.add_systems.Given as goal
+
+abbrev pub invariant-loop-i : goal.invariant-loop-i
+invariant-loop-i l =
+    record {
+      text : (cells : List HeardCell) → AreSignalCounts l.signal_counts cells → l.text.items ≡ flat_map (count_lines cells) (take l.i systems);
+      short : length l.text.items ≤ 26 * sum_by (λ s. length (table s)) (take l.i systems);
+    }
