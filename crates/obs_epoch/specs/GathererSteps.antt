@@ -9,7 +9,6 @@ use Rattle.gnss_obs.specs.declared.cell.StationValues.{StationValues}
 use Rattle.obs_epoch.specs.Held.{CellOutcome, Kept, count_in, lookup, note_systems, outcome_of}
 use Rattle.rtcm_msg.specs.declared.entry.Entry.{Entry}
 use Rattle.rtcm_msg.specs.declared.entry.LockField.{LockField}
-use Rattle.rtcm_msg.specs.declared.entry.LockField.TheVariants.{Df402, Df407}
 use Rattle.obs_epoch.specs.Heard.{Heard, seen_in}
 use Rattle.gnss_obs.specs.HeardCells.{HeardCell, kept_cell}
 use Rattle.obs_epoch.specs.Cells.{no_counts, with_skipped}
@@ -90,12 +89,9 @@ with_unlisted n l = record { state = l.state; counts = with_skipped n l.counts }
 abbrev pub load_entry : LockField → System → Loaded → Entry → Loaded
 load_entry field system l e = option_map_or (load_one l) (seen_in field system e) (with_unlisted 1 l)
 
--- The system with this number, and the field of the lock time indicators of the form with this number.
+-- The system with this number.
 abbrev pub system_as : ℕ → System
 system_as number = if number == 0 then Gps else Galileo
-
-abbrev pub field_as : ℕ → LockField
-field_as number = if number == 0 then Df402 else Df407
 
 -- The entries of a message, one by one.
 abbrev pub load_entries : LockField → System → Loaded → List Entry → Loaded

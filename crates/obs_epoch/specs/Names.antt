@@ -41,7 +41,8 @@ pub use Rattle.rtcm_msg.specs.Entries.{entries}
 pub use Rattle.rtcm_msg.specs.Msm.{MsmValue}
 pub use Rattle.rtcm_msg.specs.Summaries.{summary}
 pub use Rattle.rtcm_msg.specs.ValueCounts.{has_id, has_listed_value, is_in, value_count}
-pub use Rattle.rtcm_msg.specs.Viewed.{lock_field, viewed_message}
+pub use Rattle.rtcm_msg.specs.Viewed.{viewed_message}
+pub use Rattle.rtcm_msg.specs.Forms.{lock_field}
 pub use Rattle.rtcm_msg.specs.Views.{FormedMsm, formed, message_in}
 pub use Rattle.rtcm_msg.specs.declared.entry.Entry.{Entry}
 pub use Rattle.rtcm_msg.specs.declared.entry.LockField.TheVariants.{Df402, Df407}

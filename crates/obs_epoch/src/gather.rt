@@ -4,7 +4,8 @@ ghost use Rattle.std.specs.Prelude.{IfErr, IfSome, IsOk, Err, option_map, option
 ghost use Rattle.std.specs.Option.{ForSome};
 ghost use Rattle.rtcm_msg.specs.Msm.{codes_of, most_pairs, week};
 ghost use Rattle.rtcm_msg.specs.Entries.{IsEntry, entries};
-ghost use Rattle.rtcm_msg.specs.Viewed.{viewed_message, form_as, lock_field};
+ghost use Rattle.rtcm_msg.specs.Viewed.{viewed_message};
+ghost use Rattle.rtcm_msg.specs.Forms.{lock_field};
 ghost use Rattle.rtcm_msg.specs.Views.{formed};
 ghost use Rattle.gnss_obs.specs.Weeks.{weeks};
 ghost use Rattle.obs_epoch.specs.Heard.{GatherSetup, Heard, heard, heard_summary, system_of};
@@ -20,7 +21,7 @@ ghost use Rattle.obs_epoch.specs.GathererHistory.{HasGatheredEpochs, closed_by, 
 ghost use Rattle.obs_epoch.specs.Calls.{TakesMessage, EndsPendingEpoch, StaysEnded, HoldsCells, HoldsLockedKeys};
 ghost use Rattle.gnss_obs.specs.declared.fault.PlanFault.{PlanFault};
 ghost use Rattle.obs_epoch.specs.GathererSteps.{closed_noted, loaded_if, load_entry, load_entries, epoch_begun};
-ghost use Rattle.obs_epoch.specs.GathererSteps.{load, field_as, system_as, rested, outcome_in, hold, no_pending};
+ghost use Rattle.obs_epoch.specs.GathererSteps.{load, system_as, rested, outcome_in, hold, no_pending};
 ghost use Rattle.obs_epoch.specs.GathererSteps.{just_closed_as, with_time};
 ghost use Rattle.obs_epoch.specs.Cells.{cells_counted, no_counts};
 
@@ -31,7 +32,9 @@ use crate::taken::{CellCounts, Gather, Kind, Taken};
 use gnss_obs::{
     Added, Cell, Epoch, GpsTime, Pending, Plan, PlanFault, StationValues, System, WEEKS,
 };
-use rtcm_msg::{Entries, Entry, Form, LockField, Message, MsmView, Summary, View};
+use rtcm_msg::{
+    Entries, Entry, Form, Grid, Grid4, Grid7, LockField, Message, MsmView, Summary, View,
+};
 use std::alloc::Global;
 use std::marker::Model;
 
@@ -296,27 +299,26 @@ impl Gatherer {
         self.begin(before);
         match view {
             View::Msm(m) => match (m.form(), m.is_galileo()) {
-                (Form::Msm4, false) => self.load_as::<0, 0>(m),
-                (Form::Msm4, true) => self.load_as::<1, 0>(m),
-                (Form::Msm7, false) => self.load_as::<0, 1>(m),
-                (Form::Msm7, true) => self.load_as::<1, 1>(m),
+                (Form::Msm4, false) => self.load_as::<0, Grid4>(m),
+                (Form::Msm4, true) => self.load_as::<1, Grid4>(m),
+                (Form::Msm7, false) => self.load_as::<0, Grid7>(m),
+                (Form::Msm7, true) => self.load_as::<1, Grid7>(m),
             },
             View::Station(_) | View::Other { number: _, set: _ } => CellCounts::default(),
         }
     }
 
-    // Processes the cells of a message of system `S`, 0 for GPS, and form `F`, 0 for MSM4. It isn't
-    // inlined, so that the loop over them is compiled by itself for each system and form.
+    // Processes the cells of a message of system `S`, 0 for GPS, and form `G`. It isn't inlined, so
+    // that the loop over them is compiled by itself for each system and form.
     #[inline(never)]
-    fn load_as<const S: usize, const F: usize>(&mut self, m: &MsmView<'_>) -> CellCounts
-        requires form { form_as F m.now.form ≡ m.now.form }
-        requires field { field_as F ≡ lock_field m.now.form }
+    fn load_as<const S: usize, G: Grid>(&mut self, m: &MsmView<'_>) -> CellCounts
+        requires form { G.form ≡ m.now.form }
         requires rested { self.old.just_closed ≡ false }
         ensures { record { state = self.new; counts = result }
             ≡ load_entries (lock_field m.now.form) (system_as S) (record { state = self.old; counts = no_counts })
             (entries (formed m.now)) }
     {
-        self.take_all::<S, F>(&mut m.entries())
+        self.take_all::<S, G>(&mut m.entries())
     }
 
     fn begin(&mut self, before: Option<u64>)
@@ -350,18 +352,18 @@ impl Gatherer {
         count(self.pending.add(x), n);
     }
 
-    // Processes the cells of a message of system `S` and form `F`, and returns their outcomes.
-    fn take_all<const S: usize, const F: usize>(&mut self, cells: &mut Entries<'_>) -> CellCounts
-        requires form { form_as F cells.old.form ≡ cells.old.form }
-        requires field { field_as F ≡ lock_field cells.old.form }
+    // Processes the cells of a message of system `S` and form `G`, and returns their outcomes.
+    fn take_all<const S: usize, G: Grid>(&mut self, cells: &mut Entries<'_>) -> CellCounts
+        requires form { G.form ≡ cells.old.form }
         requires rested { self.old.just_closed ≡ false }
         requires few { length cells.old.left ≤ most_pairs }
         ensures { record { state = self.new; counts = result }
-            ≡ load_entries (field_as F) (system_as S) (record { state = self.old; counts = no_counts }) cells.old.left }
+            ≡ load_entries (lock_field cells.old.form) (system_as S) (record { state = self.old; counts = no_counts })
+            cells.old.left }
     {
-        let (field, system) = (field_as::<F>(), system_as::<S>());
+        let (field, system) = (G::form().lock_field(), system_as::<S>());
         let mut counts = CellCounts::default();
-        while let Some(entry) = cells.next_in::<F>() {
+        while let Some(entry) = cells.next_in::<G>() {
             self.take_entry(field, system, &entry, &mut counts);
         }
         counts
@@ -391,18 +393,6 @@ fn system_as<const S: usize>() -> System
     ensures { result ≡ system_as S }
 {
     if S == 0 { System::Gps } else { System::Galileo }
-}
-
-// Returns the field of the lock time indicators of the form with this number.
-#[inline(always)]
-fn field_as<const F: usize>() -> LockField
-    ensures { result ≡ field_as F }
-{
-    if F == 0 {
-        LockField::Df402
-    } else {
-        LockField::Df407
-    }
 }
 
 // Counts the outcome of a cell of a planned signal.

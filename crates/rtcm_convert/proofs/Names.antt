@@ -48,7 +48,7 @@ pub use Rattle.rtcm_convert.specs.declared.report.Report.{Report}
 pub use Rattle.rtcm_msg.specs.Decoding.{message_at}
 pub use Rattle.rtcm_msg.specs.Encoding.{IsMessage}
 unfoldable pub use Rattle.rtcm_msg.specs.Entries.{chosen}
-pub use Rattle.rtcm_msg.specs.Entries.{all_pairs, cell_pairs, entries, entry4, entry7}
+pub use Rattle.rtcm_msg.specs.Entries.{all_pairs, cell_pairs, entries, entry_in}
 pub use Rattle.rtcm_msg.specs.Msm.{AreMasks, MasksValue, MsmValue, pair_count}
 pub use Rattle.rtcm_msg.specs.Viewed.{viewed_message}
 pub use Rattle.rtcm_msg.specs.declared.entry.Entry.{Entry}

@@ -68,7 +68,8 @@ pub use Rattle.rtcm_msg.specs.Entries.{entries}
 pub use Rattle.rtcm_msg.specs.Msm.{MasksValue, MsmValue}
 pub use Rattle.rtcm_msg.specs.Station.{InRange}
 pub use Rattle.rtcm_msg.specs.Viewed.{viewed_message}
-pub use Rattle.rtcm_msg.specs.Views.{FormedMsm, formed, message_in, message_number}
+pub use Rattle.rtcm_msg.specs.Views.{FormedMsm, formed, message_in}
+pub use Rattle.rtcm_msg.specs.Numbers.{message_number}
 pub use Rattle.rtcm_msg.specs.declared.entry.Entry.{Entry}
 pub use Rattle.rtcm_msg.specs.declared.entry.LockField.{LockField}
 pub use Rattle.rtcm_msg.specs.declared.entry.LockField.TheVariants.{Df402, Df407}

@@ -11,8 +11,8 @@ use Rattle.rtcm_msg.specs.declared.message.Message.TheVariants.{Station, Msm4, M
 use Rattle.rtcm_msg.specs.declared.station.StationParts.{StationParts}
 use Rattle.rtcm_msg.specs.Msm.{MsmValue}
 use Rattle.rtcm_msg.specs.Decoding.{message_at}
-use Rattle.rtcm_msg.specs.Grid4 as grid4
-use Rattle.rtcm_msg.specs.Grid7 as grid7
+use Rattle.rtcm_msg.specs.Numbers.{message_number}
+use Rattle.rtcm_msg.specs.declared.view.Form.TheVariants as forms
 use Rattle.rtcm_inspect.specs.FrameLines.{number_word}
 use Rattle.rtcm_inspect.specs.Lines.{line}
 use Rattle.rtcm_inspect.specs.Metres.{metres}
@@ -51,8 +51,8 @@ fault_line offset message fault = line (decimal offset ∷ number_word message �
 -- a message that isn't read has no line
 abbrev pub read_line : Framed → Result Message MsgFault → List ℕ
 read_line f (Ok (Station s)) = station_line f.offset s
-read_line f (Ok (Msm4 m)) = msm_line f.offset (grid4.message_number m.is_galileo) m
-read_line f (Ok (Msm7 m)) = msm_line f.offset (grid7.message_number m.is_galileo) m
+read_line f (Ok (Msm4 m)) = msm_line f.offset (message_number forms.Msm4 m.is_galileo) m
+read_line f (Ok (Msm7 m)) = msm_line f.offset (message_number forms.Msm7 m.is_galileo) m
 read_line f (Ok (Other n set)) = []
 read_line f (Err fault) = fault_line f.offset f.message fault
 

@@ -4,7 +4,7 @@ ghost use Rattle.rtcm_bits.specs.FrameOf.{longest_message};
 ghost use Rattle.rtcm_scan.specs.Results.{framed};
 ghost use Rattle.rtcm_scan.specs.Scan.{most_bytes};
 ghost use Rattle.rtcm_msg.specs.Station.{InRange};
-ghost use Rattle.rtcm_msg.specs.Views.{message_number};
+ghost use Rattle.rtcm_msg.specs.Numbers.{message_number};
 ghost use Rattle.rtcm_inspect.specs.FrameLines.{frame_line, frame_lines, number_word};
 ghost use Rattle.rtcm_inspect.specs.Lines.{longest_number, longest_prefix, with_words};
 ghost use Rattle.rtcm_inspect.specs.ShowLines.{fault_words, height_words};

@@ -2,16 +2,15 @@
 use Rattle.std.proofs.Common.{ℕ, ℤ, pos, negsuc, ◌≡◌, ◌+◌, ◌*◌, ◌-◌, ◌^◌, ◌<◌, ◌≤◌, ◌==◌, ◌+ℤ◌, ◌*ℤ◌, Bool, true, false, List, [], ◌∷◌, map, Option, Some, None, unsigned_abs, arith, lit≤, refl}
 use Rattle.std.specs.Prelude.{if◌then◌else◌, IfSome}
 use Rattle.std.specs.Ordering.{int_eq}
-use Rattle.std.specs.List.{AllByRecursion, zip}
+use Rattle.std.specs.List.{AllByRecursion}
 use Rattle.std.proofs.lemmas.Int.{ints, unsigned_abs-mul}
 use Rattle.std.proofs.lemmas.Nat.{mul-le}
-use Rattle.rtcm_msg.specs.Names.{FitsInt, Message, Station, Msm4, Msm7, Other, Pair, unpacked_fit, scaled, invalid_range, range_joined, invalid_rough_rate, invalid_fine_rate, rate_joined, strength_of, MsmValue, entry4, entry7, cell_pairs, entries, IsMeasured}
-use Rattle.rtcm_msg.specs.declared.grid4.Satellite4.{Satellite4}
-use Rattle.rtcm_msg.specs.declared.grid4.Cell4.{Cell4}
-use Rattle.rtcm_msg.specs.declared.grid7.Satellite7.{Satellite7}
-use Rattle.rtcm_msg.specs.declared.grid7.Cell7.{Cell7}
-use Rattle.rtcm_msg.specs.Grid4 as grid4
-use Rattle.rtcm_msg.specs.Grid7 as grid7
+use Rattle.rtcm_msg.specs.Names.{FitsInt, Message, Station, Msm4, Msm7, Other, Pair, Form, scaled, invalid_range, range_joined, invalid_rough_rate, invalid_fine_rate, rate_joined, strength_of, MsmValue, entry_in, entries, IsMeasured}
+use Rattle.rtcm_msg.specs.declared.view.Form.TheVariants as forms
+use Rattle.rtcm_msg.specs.declared.data.Satellite.{Satellite}
+use Rattle.rtcm_msg.specs.declared.data.Cell.{Cell}
+use Rattle.rtcm_msg.specs.Forms.{is_fine, has_rates, precision, least, entry, IsSatelliteData, IsCellData, FitsIf}
+use Rattle.rtcm_msg.specs.FormLaws.{satellite_in_range, cell_in_range}
 
 abbrev Small : ℤ → Type 0
 Small z = unsigned_abs z ≤ 2 ^ 26
@@ -59,47 +58,40 @@ signed_within w m (negsuc n) h k = omega (arith, h, k)
 
 -- ---- cells
 
-measured4 : (v : MsmValue) (x : Pair × ℕ) (s : Satellite4) (c : Cell4) → grid4.IsSatelliteData s → grid4.IsCellData c
-    → IsMeasured (record { satellite = x.0.satellite; signal = x.0.signal; range = grid4.range_of s c; phase = grid4.phase_of s c; rate = grid4.rate_of s c; strength = grid4.strength_of c; lock = c.lock; half_cycle = c.half_cycle })
-measured4 v x s c a b = record {
-  range = joined_within s.whole s.fraction _ a.whole a.fraction (fine_within grid4.invalid_range 128 (2 ^ 14) c.range (signed_within 15 (2 ^ 14) c.range b.range (lit≤ tt)) (lit≤ tt));
-  phase = joined_within s.whole s.fraction _ a.whole a.fraction (fine_within grid4.invalid_phase 4 (2 ^ 21) c.phase (signed_within 22 (2 ^ 21) c.phase b.phase (lit≤ tt)) (lit≤ tt));
-  rate = tt;
-  strength = strength_within c.strength 16 (omega arith) (let few = b.strength in omega (arith, few));
+range_small : (fine : Bool) (z : ℤ) → FitsInt (precision fine).range z → IfSome (scaled (least (precision fine).range) (precision fine).range_unit z) Small
+range_small false z h = fine_within _ 128 (2 ^ 14) z (signed_within 15 (2 ^ 14) z h (lit≤ tt)) (lit≤ tt)
+range_small true z h = fine_within _ 4 (2 ^ 19) z (signed_within 20 (2 ^ 19) z h (lit≤ tt)) (lit≤ tt)
+
+phase_small : (fine : Bool) (z : ℤ) → FitsInt (precision fine).phase z → IfSome (scaled (least (precision fine).phase) (precision fine).phase_unit z) Small
+phase_small false z h = fine_within _ 4 (2 ^ 21) z (signed_within 22 (2 ^ 21) z h (lit≤ tt)) (lit≤ tt)
+phase_small true z h = fine_within _ 1 (2 ^ 23) z (signed_within 24 (2 ^ 23) z h (lit≤ tt)) (lit≤ tt)
+
+strength_small : (fine : Bool) (n : ℕ) → n < 2 ^ (precision fine).strength → IfSome (strength_of n (precision fine).strength_unit) (λ s. (0 < s) × (s < 1024))
+strength_small false n h = strength_within n 16 (omega arith) (omega (arith, h))
+strength_small true n h = strength_within n 1 (omega arith) (omega (arith, h))
+
+pub rough_rate_small : (there : Bool) (z : ℤ) → FitsIf there 14 invalid_rough_rate z → unsigned_abs z ≤ 2 ^ 13
+rough_rate_small false z h = rw h (lit≤ tt)
+rough_rate_small true z h = signed_within 14 (2 ^ 13) z h (lit≤ tt)
+
+pub fine_rate_small : (there : Bool) (z : ℤ) → FitsIf there 15 invalid_fine_rate z → unsigned_abs z ≤ 2 ^ 14
+fine_rate_small false z h = rw h (lit≤ tt)
+fine_rate_small true z h = signed_within 15 (2 ^ 14) z h (lit≤ tt)
+
+measured : (f : Form) (x : Pair) (s : Satellite) (c : Cell) → IsSatelliteData f s → IsCellData f c → IsMeasured (entry f x s c)
+measured f x s c a b = record {
+  range = joined_within s.whole s.fraction _ a.whole a.fraction (range_small (is_fine f) c.range b.range);
+  phase = joined_within s.whole s.fraction _ a.whole a.fraction (phase_small (is_fine f) c.phase b.phase);
+  rate = rate_within s.rate c.rate (rough_rate_small (has_rates f) s.rate a.rate) (fine_rate_small (has_rates f) c.rate b.rate);
+  strength = strength_small (is_fine f) c.strength b.strength;
 }
 
-measured7 : (v : MsmValue) (x : Pair × ℕ) (s : Satellite7) (c : Cell7) → grid7.IsSatelliteData s → grid7.IsCellData c
-    → IsMeasured (record { satellite = x.0.satellite; signal = x.0.signal; range = grid7.range_of s c; phase = grid7.phase_of s c; rate = grid7.rate_of s c; strength = grid7.strength_of c; lock = c.lock; half_cycle = c.half_cycle })
-measured7 v x s c a b = record {
-  range = joined_within s.whole s.fraction _ a.whole a.fraction (fine_within grid7.invalid_range 4 (2 ^ 19) c.range (signed_within 20 (2 ^ 19) c.range b.range (lit≤ tt)) (lit≤ tt));
-  phase = joined_within s.whole s.fraction _ a.whole a.fraction (fine_within grid7.invalid_phase 1 (2 ^ 23) c.phase (signed_within 24 (2 ^ 23) c.phase b.phase (lit≤ tt)) (lit≤ tt));
-  rate = rate_within s.rate c.rate (signed_within 14 (2 ^ 13) s.rate a.rate (lit≤ tt)) (signed_within 15 (2 ^ 14) c.rate b.rate (lit≤ tt));
-  strength = strength_within c.strength 1 (omega arith) (let few = b.strength in omega (arith, few));
-}
-
--- The fields of every number fit.
-satellite4 : (n : ℕ) → grid4.IsSatelliteData (grid4.satellite_data n)
-satellite4 n = let h = unpacked_fit grid4.satellite_table n refl in record { whole = h.0; fraction = h.1.0 }
-
-cell4 : (n : ℕ) → grid4.IsCellData (grid4.cell_data n)
-cell4 n = let h = unpacked_fit grid4.cell_table n refl in record { range = h.0; phase = h.1.0; lock = h.1.1.0; strength = h.1.1.1.1.0 }
-
-satellite7 : (n : ℕ) → grid7.IsSatelliteData (grid7.satellite_data n)
-satellite7 n = let h = unpacked_fit grid7.satellite_table n refl in record { whole = h.0; extended = h.1.0; fraction = h.1.1.0; rate = h.1.1.1.0 }
-
-cell7 : (n : ℕ) → grid7.IsCellData (grid7.cell_data n)
-cell7 n = let h = unpacked_fit grid7.cell_table n refl in record { range = h.0; phase = h.1.0; lock = h.1.1.0; strength = h.1.1.1.1.0; rate = h.1.1.1.1.1.0 }
-
-each4 : (v : MsmValue) (xs : List (Pair × ℕ)) → AllByRecursion IsMeasured (map (entry4 v) xs)
-each4 v [] = tt
-each4 v (x ∷ xs) = (measured4 v x _ _ (satellite4 _) (cell4 x.1), each4 v xs)
-
-each7 : (v : MsmValue) (xs : List (Pair × ℕ)) → AllByRecursion IsMeasured (map (entry7 v) xs)
-each7 v [] = tt
-each7 v (x ∷ xs) = (measured7 v x _ _ (satellite7 _) (cell7 x.1), each7 v xs)
+each : (f : Form) (v : MsmValue) (xs : List (Pair × ℕ)) → AllByRecursion IsMeasured (map (entry_in f v) xs)
+each f v [] = tt
+each f v (x ∷ xs) = (measured f x.0 _ _ (satellite_in_range f _) (cell_in_range f x.1), each f v xs)
 
 pub entries_measured : (m : Message) → AllByRecursion IsMeasured (entries m)
 entries_measured (Station s) = tt
-entries_measured (Msm4 v) = each4 v (zip (cell_pairs v.sets) v.cells)
-entries_measured (Msm7 v) = each7 v (zip (cell_pairs v.sets) v.cells)
+entries_measured (Msm4 v) = each forms.Msm4 v _
+entries_measured (Msm7 v) = each forms.Msm7 v _
 entries_measured (Other n set) = tt

@@ -1,9 +1,15 @@
 -- The data of one satellite or cell, read field by field.
-use Rattle.std.proofs.Common.{ℕ, ◌≡◌, ◌+◌, ◌*◌, ◌/◌, ◌%◌, ◌^◌, ◌<◌, ◌≤◌, Bool, List, [], ◌∷◌, length, take, drop, refl, ap, ap₂, ◌∙◌, arith, lit<}
+use Rattle.std.proofs.Common.{ℕ, ℤ, ◌≡◌, ◌+◌, ◌*◌, ◌/◌, ◌%◌, ◌^◌, ◌<◌, ◌≤◌, ◌==◌, Bool, true, false, List, [], ◌∷◌, length, take, drop, refl, sym, ap, ap₂, subst, ◌∙◌, arith, lit<}
 use Rattle.std.proofs.lemmas.Nat.{mod_low, shr_high, pow-add}
 use Rattle.std.proofs.lemmas.List.{length-take}
 use Rattle.rtcm_bits.specs.BitLaws.{number-fits, pow_mono}
-use Rattle.rtcm_msg.specs.Names.{Table, FieldKind, width, widths, Contents, content, total_width, unpacked, field_at, row_at}
+use Rattle.rtcm_bits.specs.Bits.{signed}
+use Rattle.rtcm_msg.specs.Names.{Table, FieldKind, width, widths, Contents, content, total_width, unpacked, field_at, row_at, Form, LastBits, AreLast, satellite_widths, cell_widths}
+use Rattle.rtcm_msg.specs.Packed.{packed}
+use Rattle.rtcm_msg.specs.LastBits.{EndWith}
+use Rattle.rtcm_msg.specs.declared.data.Satellite.{Satellite}
+use Rattle.rtcm_msg.specs.declared.data.Cell.{Cell}
+use Rattle.rtcm_msg.specs.Forms.{Precision, precision, is_fine, has_rates, satellite_table_by, satellite_of, satellite_data, satellite_contents, satellite_number, cell_table, cell_of, cell_data, cell_number, rate_table, rate_in}
 
 -- The contents of item i, when the data of n items begin at a bit; the fields before them have k bits.
 abbrev pub contents_after : (t : Table) → ℕ → List Bool → ℕ → ℕ → ℕ → Contents t
@@ -63,3 +69,69 @@ pub unpacked_row : (t : Table) (n : ℕ) (bits : List Bool) (p i m : ℕ) → un
 unfolding row_at
 unpacked_row [] n bits p i m = refl
 unpacked_row (f ∷ fs) n bits p i m = first_unpacked f fs n bits p i m (unpacked_after fs n bits p (width f.1) i _)
+
+-- ---- of a form
+
+-- Satellite i of n in the bits from p on.
+pub satellite_read : (f : Form) (rates : Bool) (n : ℕ) (bits : List Bool) (p i : ℕ) (s : Satellite) → has_rates f ≡ rates → s ≡ satellite_of rates (contents_at (satellite_table_by rates) n bits p i)
+    → s ≡ satellite_data f (row_at (satellite_widths f) n bits p i 0)
+satellite_read f rates n bits p i s is e =
+    let u : (b : Bool) → has_rates f ≡ b → s ≡ satellite_of b (contents_at (satellite_table_by b) n bits p i) → s ≡ satellite_of (has_rates f) (contents_at (satellite_table_by (has_rates f)) n bits p i) =
+    λ b is e. subst (λ (b : Bool). s ≡ satellite_of b (contents_at (satellite_table_by b) n bits p i)) (sym is) e in
+    u rates is e ∙ sym (ap (satellite_of (has_rates f)) (unpacked_row (satellite_table_by (has_rates f)) n bits p i 0))
+
+-- Cell i of n in the bits from p on, with its rate.
+pub cell_read : (f : Form) (w : Precision) (n : ℕ) (bits : List Bool) (p i : ℕ) {range phase rate : ℤ} {lock strength : ℕ} {half_cycle : Bool} → precision (is_fine f) ≡ w
+    → range ≡ signed w.range (field_at bits (p + i * w.range) w.range)
+    → phase ≡ signed w.phase (field_at bits (p + n * w.range + i * w.phase) w.phase)
+    → lock ≡ field_at bits (p + n * (w.range + w.phase) + i * w.lock) w.lock
+    → half_cycle ≡ (field_at bits (p + n * (w.range + w.phase + w.lock) + i * 1) 1 == 1)
+    → strength ≡ field_at bits (p + n * (w.range + w.phase + w.lock + 1) + i * w.strength) w.strength
+    → rate ≡ (cell_data f (row_at (cell_widths f) n bits p i 0)).rate
+    → record { range = range; phase = phase; lock = lock; half_cycle = half_cycle; strength = strength; rate = rate } ≡ cell_data f (row_at (cell_widths f) n bits p i 0)
+cell_read f w n bits p i is range phase lock half_cycle strength rate =
+    let u = ap (cell_of (is_fine f) (has_rates f)) (unpacked_row (cell_table f) n bits p i 0) in
+    rw (range, phase, lock, half_cycle, strength, ← is, rate)
+    (ap (λ (r : ℤ). record (cell_of (is_fine f) (has_rates f) (contents_at (cell_table f) n bits p i)) { rate = r }) (ap (λ (c : Cell). c.rate) u) ∙ sym u)
+
+-- Where the fields of the first cell end, up to its rate.
+pub first_ends : (f : Form) (b : LastBits) {w : Precision} → precision (is_fine f) ≡ w → AreLast (cell_widths f) b → AreLast (w.range ∷ w.phase ∷ w.lock ∷ 1 ∷ w.strength ∷ []) b
+first_ends f b e ends = rw (← e) (ends.0, (ends.1.0, (ends.1.1.0, (ends.1.1.1.0, (ends.1.1.1.1.0, tt)))))
+
+-- The rate of a form that has rates.
+rate_by : (rates : Bool) (n : ℕ) (bits : List Bool) (p k i : ℕ) → rates ≡ true → signed 15 (field_at bits (p + n * k + i * 15) 15) ≡ rate_in rates (contents_after (rate_table rates) n bits p k i)
+rate_by true n bits p k i e = refl
+rate_by false n bits p k i e = cc
+
+places : (p n a b c d : ℕ) → p + n * a + n * b + n * c + n * 1 + n * d ≡ p + n * (a + b + c + 1 + d)
+places p n a b c d = grind arith
+
+-- Where the rate of the first cell ends.
+pub rate_ends : (f : Form) (b : LastBits) → has_rates f ≡ true → AreLast (cell_widths f) b
+    → b.rate + 1 ≡ b.place + b.count * ((precision (is_fine f)).range + (precision (is_fine f)).phase + (precision (is_fine f)).lock + 1 + (precision (is_fine f)).strength) + 15
+rate_ends f b has ends =
+    let w = precision (is_fine f) in
+    let e : EndWith (widths (rate_table true)) b.count (b.place + b.count * w.range + b.count * w.phase + b.count * w.lock + b.count * 1 + b.count * w.strength) (b.rate ∷ []) =
+    subst (λ (r : Bool). EndWith (widths (rate_table r)) b.count (b.place + b.count * w.range + b.count * w.phase + b.count * w.lock + b.count * 1 + b.count * w.strength) (b.rate ∷ [])) has ends.1.1.1.1.1 in
+    e.0 ∙ ap (λ (n : ℕ). n + 15) (places b.place b.count w.range w.phase w.lock w.strength)
+
+pub rate_read : (f : Form) (n : ℕ) (bits : List Bool) (p i : ℕ) {rate : ℤ} → has_rates f ≡ true
+    → rate ≡ signed 15 (field_at bits (p + n * ((precision (is_fine f)).range + (precision (is_fine f)).phase + (precision (is_fine f)).lock + 1 + (precision (is_fine f)).strength) + i * 15) 15)
+    → rate ≡ (cell_data f (row_at (cell_widths f) n bits p i 0)).rate
+rate_read f n bits p i has e =
+    let u = ap (λ (c : Cell). c.rate) (ap (cell_of (is_fine f) (has_rates f)) (unpacked_row (cell_table f) n bits p i 0)) in
+    e ∙ (rate_by (has_rates f) n bits p _ i has ∙ sym u)
+
+-- The satellite that is packed in a number, and back.
+pub satellite_unpacked : (f : Form) (rates : Bool) (n : ℕ) (s : Satellite) → has_rates f ≡ rates → s ≡ satellite_of rates (unpacked (satellite_table_by rates) n) → s ≡ satellite_data f n
+satellite_unpacked f rates n s is e = subst (λ (b : Bool). s ≡ satellite_of b (unpacked (satellite_table_by b) n)) (sym is) e
+
+pub satellite_packed : (f : Form) (rates : Bool) (s : Satellite) (n : ℕ) → has_rates f ≡ rates → n ≡ packed (satellite_table_by rates) (satellite_contents rates s) → n ≡ satellite_number f s
+satellite_packed f rates s n is e = subst (λ (b : Bool). n ≡ packed (satellite_table_by b) (satellite_contents b s)) (sym is) e
+
+-- The same of a cell, in a known form.
+pub cell_unpacked : (f k : Form) (n : ℕ) (c : Cell) → f ≡ k → c ≡ cell_data k n → c ≡ cell_data f n
+cell_unpacked f k n c is e = subst (λ (g : Form). c ≡ cell_data g n) (sym is) e
+
+pub cell_packed : (f k : Form) (c : Cell) (n : ℕ) → f ≡ k → n ≡ cell_number k c → n ≡ cell_number f c
+cell_packed f k c n is e = subst (λ (g : Form). n ≡ cell_number g c) (sym is) e

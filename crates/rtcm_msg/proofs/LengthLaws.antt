@@ -2,12 +2,11 @@
 use Rattle.std.proofs.Common.{ℕ, ◌≡◌, ◌+◌, ◌*◌, ◌/◌, ◌^◌, ◌≤◌, List, [], ◌∷◌, ◌++◌, length, refl, ◌∙◌, arith, lit≤, length-append, count_ones, Option, Some, None}
 use Rattle.std.specs.List.{flat_map}
 use Rattle.std.proofs.lemmas.Nat.{mul-le, ones-le}
-use Rattle.rtcm_msg.specs.Names.{uint, Message, field_bits, fields_width, total_width, columns, station_fields, MsmValue, IsValue, pair_count, msm_bits, header_fields, mask_fields, IsMessage, message_bits}
+use Rattle.rtcm_msg.specs.Names.{uint, Message, field_bits, fields_width, total_width, columns, station_fields, MsmValue, IsValue, pair_count, msm_bits, header_fields, mask_fields, IsMessage, message_bits, message_number, satellite_widths, cell_widths}
 use Rattle.rtcm_bits.specs.FrameOf.{longest_message_bits}
 use Rattle.rtcm_bits.specs.BitLaws.{length-uint}
 use Rattle.rtcm_msg.specs.declared.message.Message.TheVariants as messages
-use Rattle.rtcm_msg.specs.Grid4 as grid4
-use Rattle.rtcm_msg.specs.Grid7 as grid7
+use Rattle.rtcm_msg.specs.declared.view.Form.TheVariants as forms
 
 length-field_bits : (fs : List (ℕ × ℕ)) → length (field_bits fs) ≡ fields_width fs
 unfolding field_bits
@@ -48,6 +47,6 @@ message_short (messages.Station s) h = rw (length-field_bits (station_fields s 0
     by_height : (x : Option ℕ) → fields_width (station_fields (record s { height = x }) 0) ≤ longest_message_bits
     by_height None = lit≤ tt
     by_height (Some k) = lit≤ tt
-message_short (messages.Msm4 m) h = msm_short grid4.satellite_widths grid4.cell_widths (grid4.message_number m.is_galileo) m (lit≤ tt) h
-message_short (messages.Msm7 m) h = msm_short grid7.satellite_widths grid7.cell_widths (grid7.message_number m.is_galileo) m (lit≤ tt) h
+message_short (messages.Msm4 m) h = msm_short (satellite_widths forms.Msm4) (cell_widths forms.Msm4) (message_number forms.Msm4 m.is_galileo) m (lit≤ tt) h
+message_short (messages.Msm7 m) h = msm_short (satellite_widths forms.Msm7) (cell_widths forms.Msm7) (message_number forms.Msm7 m.is_galileo) m (lit≤ tt) h
 message_short (messages.Other n set) h = lit≤ tt

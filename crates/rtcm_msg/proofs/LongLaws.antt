@@ -3,16 +3,15 @@ use Rattle.std.proofs.Common.{ℕ, ◌≡◌, ◌+◌, ◌*◌, ◌≤◌, Bool,
 use Rattle.std.proofs.lemmas.Bool.{cases_lt, le-leb, lt-ltb}
 use Rattle.std.proofs.lemmas.Nat.{ones-le, mul-le}
 use Rattle.std.proofs.lemmas.List.{length-drop, take-append-le, drop-append-le, take-append-drop, length-take-le}
-use Rattle.rtcm_msg.specs.Names.{bits_of, number, MsgFault, BadTime, TooManyCells, Short, Message, first_past, total_width, message_of, message_at, ReadsMessage, IsFault, is_read_msm, is_read, set_of, layout, layout_of, has_bad_time, has_too_many, repeated, Form, satellite_widths, cell_widths}
+use Rattle.rtcm_msg.specs.Names.{bits_of, number, MsgFault, BadTime, TooManyCells, Short, Message, first_past, total_width, message_of, message_at, ReadsMessage, IsFault, is_read_msm, set_of, layout, layout_by, Kind, OfStation, OfMsm, OfOther, kind_of, is_msm_kind, has_bad_time, has_too_many, repeated, Form, satellite_widths, cell_widths}
 use Rattle.rtcm_bits.specs.FrameOf.{longest_message, longest_message_bits}
 use Rattle.rtcm_bits.specs.BitLaws.{bits_of-append, length-bits_of, number-take-fits}
 use Rattle.rtcm_msg.specs.Encoding.{number_of}
 use Rattle.rtcm_msg.proofs.FieldLaws.{past_none, field_at}
 use Rattle.rtcm_msg.proofs.FaultLaws.{total-append, total-repeated, pair_count_of}
-use Rattle.rtcm_msg.proofs.MessageLaws.{Kind, station, of_form, other, kind_of, read_again, message_found, message_fault, message_only_fault, layout_station, layout_msm, form_is_msm, and_all, not_true, some_none}
-use Rattle.rtcm_msg.proofs.StationLaws.{station_widths, height_widths}
+use Rattle.rtcm_msg.proofs.MessageLaws.{read_again, message_found, message_fault, message_only_fault, and_all, not_true, some_none}
 use Rattle.rtcm_msg.specs.declared.message.Message.TheVariants as messages
-use Rattle.rtcm_msg.specs.declared.view.Form.TheVariants as forms
+use Rattle.rtcm_msg.specs.FormLaws.{narrow}
 
 -- A field is the same if more bits follow.
 field_more : (a b : List Bool) (place w : ℕ) → place + w ≤ length a → field_at (a ++ b) place w ≡ field_at a place w
@@ -30,7 +29,7 @@ module _ (a b : List Bool) (long : longest_message_bits ≤ length a) where
 
   reads_more : (v : Message) → ReadsMessage a v → ReadsMessage (a ++ b) v
   reads_more v (inl r) = inl (record { is_value = r.is_value; known = r.known; prefix = r.prefix; rest = r.rest ++ b; joined = ap (λ t. t ++ b) r.joined ∙ append_assoc r.prefix r.rest b; encodes = r.encodes })
-  reads_more v (inr r) = inr (record { number_there = omega (arith, long, length-append a b); unread = ap is_read number_more ∙ r.unread; value = r.value ∙ (ap (λ (n : ℕ). messages.Other n (set_of a)) (sym number_more) ∙ ap (λ (s : Option (ℕ × Bool)). messages.Other (number_of (a ++ b)) s) (sym set_more)) })
+  reads_more v (inr r) = inr (record { number_there = omega (arith, long, length-append a b); unread = ap kind_of number_more ∙ r.unread; value = r.value ∙ (ap (λ (n : ℕ). messages.Other n (set_of a)) (sym number_more) ∙ ap (λ (s : Option (ℕ × Bool)). messages.Other (number_of (a ++ b)) s) (sym set_more)) })
 
   time_more : has_bad_time (a ++ b) ≡ has_bad_time a
   time_more = rw (number_more, le_more 54 a b (omega (arith, long)), field_more a b 24 30 (omega (arith, long))) refl
@@ -50,10 +49,6 @@ pairs_are bits msm long few = elim (cases_lt 64 (pair_count_of bits)) [
   | inr fine ↦ fine
 ]
 
-narrow : (form : Form) → (total_width (satellite_widths form) ≤ 36) × (total_width (cell_widths form) ≤ 80)
-narrow forms.Msm4 = (lit≤ tt, lit≤ tt)
-narrow forms.Msm7 = (lit≤ tt, lit≤ tt)
-
 -- The largest number of bits of a message.
 total_few : (form : Form) (s c p : ℕ) → s ≤ 64 → c ≤ 64 → p ≤ 64 → total_width (12 ∷ 12 ∷ 30 ∷ 1 ∷ 3 ∷ 7 ∷ 2 ∷ 2 ∷ 1 ∷ 3 ∷ 64 ∷ 32 ∷ p ∷ (repeated s (satellite_widths form) ++ repeated c (cell_widths form))) ≤ longest_message_bits
 total_few form s c p hs hc hp =
@@ -63,23 +58,19 @@ total_few form s c p hs hc hp =
     let two : total_width cw * c ≤ 80 * 64 = mul-le (total_width cw) c 80 64 (narrow form).1 hc in
     rw (total-append (repeated s sw) (repeated c cw), total-repeated s sw, total-repeated c cw) (omega (arith, one, two, hp))
 
-layout_few : (bits : List Bool) (n : ℕ) → Kind n → number_of bits ≡ n → longest_message_bits ≤ length bits → has_too_many bits ≡ false → total_width (layout bits) ≤ longest_message_bits
-layout_few bits n (station has e) is long few = rw (ap (λ (k : ℕ). layout_of k bits) (is ∙ e) ∙ layout_station has bits) (short has)
-  where
-    short : (has : Bool) → total_width (12 ∷ (station_widths ++ height_widths has)) ≤ longest_message_bits
-    short true = lit≤ tt
-    short false = lit≤ tt
-layout_few bits n (of_form form g e) is long few =
-    let pairs_few = pairs_are bits (ap is_read_msm (is ∙ e) ∙ form_is_msm form g) long few in
-    rw (ap (λ (k : ℕ). layout_of k bits) (is ∙ e) ∙ layout_msm form g bits)
-    (total_few form (count_ones (field_at bits 73 64)) (count_ones (field_at bits 169 (pair_count_of bits))) (pair_count_of bits) (ones_few bits 73 64 (lit≤ tt) (omega (arith, long))) (ones_few bits 169 (pair_count_of bits) pairs_few (omega (arith, long, pairs_few))) pairs_few)
-layout_few bits n (other unread no_msm empty body) is long few = rw (ap (λ (k : ℕ). layout_of k bits) is ∙ empty bits) (lit≤ tt)
+layout_few : (bits : List Bool) (k : Kind) → kind_of (number_of bits) ≡ k → longest_message_bits ≤ length bits → has_too_many bits ≡ false → total_width (layout_by k bits) ≤ longest_message_bits
+layout_few bits (OfStation true) e long few = lit≤ tt
+layout_few bits (OfStation false) e long few = lit≤ tt
+layout_few bits (OfMsm form g) e long few =
+    let pairs_few = pairs_are bits (ap is_msm_kind e) long few in
+    total_few form (count_ones (field_at bits 73 64)) (count_ones (field_at bits 169 (pair_count_of bits))) (pair_count_of bits) (ones_few bits 73 64 (lit≤ tt) (omega (arith, long))) (ones_few bits 169 (pair_count_of bits) pairs_few (omega (arith, long, pairs_few))) pairs_few
+layout_few bits OfOther e long few = lit≤ tt
 
 fault_more : (a b : List Bool) (e : MsgFault) → longest_message_bits ≤ length a → IsFault a e → IsFault (a ++ b) e
 fault_more a b BadTime long f = time_more a b long ∙ f
 fault_more a b TooManyCells long f = (time_more a b long ∙ f.0, few_more a b long ∙ f.1)
 fault_more a b (Short k) long (time, few, inl x) = absurd (omega (arith, long, x.0))
-fault_more a b (Short k) long (time, few, inr x) = absurd (some_none (first_past (length a) 0 (layout a)) k x.1 (past_none (layout a) (length a) 0 (le_all (total_width (layout a)) (length a) (layout_few a (number_of a) (kind_of (number_of a)) refl long few) long)))
+fault_more a b (Short k) long (time, few, inr x) = absurd (some_none (first_past (length a) 0 (layout a)) k x.1 (past_none (layout a) (length a) 0 (le_all (total_width (layout a)) (length a) (layout_few a _ refl long few) long)))
   where
     le_all : (t n : ℕ) → t ≤ longest_message_bits → longest_message_bits ≤ n → 0 + t ≤ n
     le_all t n h k = omega arith

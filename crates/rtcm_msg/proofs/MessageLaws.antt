@@ -1,9 +1,10 @@
 -- Reading a message: the bits that were read, reading an encoding, and the fault.
 use Rattle.std.proofs.Common.{ℕ, ◌≡◌, ◌+◌, ◌==◌, ◌^◌, ◌<◌, ◌≤◌, ◌&&◌, Bool, true, false, List, [], ◌∷◌, ◌++◌, length, drop, Result, Ok, Err, Option, Some, None, refl, sym, ap, subst, ◌∙◌, arith, lit<, ◌⊎◌, inl, inr, append_assoc, nat_lt, nat_le, if◌then◌else◌, is_some, IsTrue, replicate}
-use Rattle.std.proofs.lemmas.Bool.{cases_lt, cases_eq, lt-leb, le-leb, lt-ltb, le-ltb}
+use Rattle.std.specs.List.{AllByRecursion}
+use Rattle.std.proofs.lemmas.Bool.{cases_lt, lt-leb, le-leb, lt-ltb, le-ltb}
 use Rattle.std.proofs.lemmas.Nat.{pow_pos}
 use Rattle.std.proofs.lemmas.List.{length-drop, drop-drop}
-use Rattle.rtcm_msg.specs.Names.{uint, filled, missing, Cursor, MsgFault, BadTime, TooManyCells, Short, StationParts, Message, ◌>>=◌, field_bits, first_past, total_width, columns, station_at, station_table, station_parts, msm_at, msm_bits, MsmValue, IsValue, week, mask_fields, message_of, body_at, start, other_at, set_at, ReadsMessage, IsMessage, IsFault, message_bits, reserved_width, is_other, is_read, is_read_msm, set_of, layout, layout_of, has_bad_time, has_too_many, Form, satellite_widths, cell_widths, message_number, message_in, formed_at}
+use Rattle.rtcm_msg.specs.Names.{uint, filled, missing, Cursor, MsgFault, BadTime, TooManyCells, Short, StationParts, Message, ◌>>=◌, field_bits, first_past, total_width, columns, station_at, station_table, station_parts, msm_at, msm_bits, MsmValue, IsValue, week, mask_fields, message_of, body_at, start, other_at, set_at, body_by, Kind, OfStation, OfMsm, OfOther, kind_in, kind_of, kind_table, is_msm_kind, station_number, ReadsMessage, IsMessage, IsFault, message_bits, reserved_width, is_other, is_read_msm, set_of, layout, layout_by, has_bad_time, has_too_many, Form, satellite_widths, cell_widths, message_number, message_in}
 use Rattle.rtcm_msg.specs.Encoding.{number_of}
 use Rattle.rtcm_msg.proofs.Binds.{bind_ok, ok_inj, of_read, number_consumed, number_short}
 use Rattle.rtcm_msg.proofs.Combine.{cursor, number_again, ok_err, past_here, past_next}
@@ -16,57 +17,37 @@ use Rattle.rtcm_msg.specs.declared.view.Form.TheVariants as forms
 
 -- ---- the message number
 
-abbrev pub station_number : Bool → ℕ
-station_number has = if has then 1006 else 1005
+-- The number of a kind.
+abbrev pub IsNumber : Kind → ℕ → Type 0
+IsNumber (OfStation has) n = n ≡ station_number has
+IsNumber (OfMsm form g) n = n ≡ message_number form g
+IsNumber OfOther n = Unit {0}
 
-eq_other : (a b : ℕ) → (a ≡ b → ⊥) → (a == b) ≡ false
-eq_other a b h = grind arith
+row_is : (b : Bool) (n m : ℕ) (k j : Kind) → (n == m) ≡ b → IsNumber k m → IsNumber j n → IsNumber (if b then k else j) n
+row_is true n m k j e h t = let same : n ≡ m = grind (arith, e) in rw same h
+row_is false n m k j e h t = t
 
-pub data Kind (n : ℕ) : Type 0 where
-  station : (has : Bool) → n ≡ station_number has → Kind n
-  of_form : (form : Form) (g : Bool) → n ≡ message_number form g → Kind n
-  other : is_read n ≡ false → is_read_msm n ≡ false → ((bits : List Bool) → layout_of n bits ≡ []) → ((c : Cursor) → body_at n c ≡ Ok (other_at n c)) → Kind n
+rows_are : (n : ℕ) (rows : List (ℕ × Kind)) → AllByRecursion (λ r. IsNumber r.1 r.0) rows → IsNumber (kind_in rows n) n
+rows_are n [] h = tt
+rows_are n (r ∷ rows) h = row_is (n == r.0) n r.0 r.1 (kind_in rows n) refl h.0 (rows_are n rows h.1)
 
-pub kind_of : (n : ℕ) → Kind n
+pub number_is : (n : ℕ) (k : Kind) → kind_of n ≡ k → IsNumber k n
+number_is n k e = subst (λ (k : Kind). IsNumber k n) e (rows_are n kind_table (refl, (refl, (refl, (refl, (refl, (refl, tt)))))))
+
+of_station : (has : Bool) → (kind_of (station_number has) ≡ OfStation has) × (station_number has < 2 ^ 12)
+of_station true = (refl, lit< tt)
+of_station false = (refl, lit< tt)
+
+of_msm : (form : Form) (g : Bool) → (kind_of (message_number form g) ≡ OfMsm form g) × (message_number form g < 2 ^ 12)
+of_msm forms.Msm4 true = (refl, lit< tt)
+of_msm forms.Msm4 false = (refl, lit< tt)
+of_msm forms.Msm7 true = (refl, lit< tt)
+of_msm forms.Msm7 false = (refl, lit< tt)
+
+-- The value of a message of a known kind.
+read_by : (n : ℕ) (k : Kind) (c : Cursor) → kind_of n ≡ k → body_at n c ≡ body_by k n c
 unfolding body_at
-kind_of n = elim (cases_eq n 1005) [
-  | inl e ↦ station false e
-  | inr a ↦ elim (cases_eq n 1006) [
-    | inl e ↦ station true e
-    | inr b ↦ elim (cases_eq n 1074) [
-      | inl e ↦ of_form forms.Msm4 false e
-      | inr c ↦ elim (cases_eq n 1077) [
-        | inl e ↦ of_form forms.Msm7 false e
-        | inr d ↦ elim (cases_eq n 1094) [
-          | inl e ↦ of_form forms.Msm4 true e
-          | inr f ↦ elim (cases_eq n 1097) [
-            | inl e ↦ of_form forms.Msm7 true e
-            | inr g ↦
-                let a' = eq_other n 1005 a in
-                let b' = eq_other n 1006 b in
-                let c' = eq_other n 1074 c in
-                let d' = eq_other n 1077 d in
-                let f' = eq_other n 1094 f in
-                let g' = eq_other n 1097 g in
-                other (rw (a', b', c', d', f', g') refl) (rw (c', d', f', g') refl) (λ bits. rw (a', b', c', d', f', g') refl) (λ k. rw (a', b', c', d', f', g') refl)
-          ]
-        ]
-      ]
-    ]
-  ]
-]
-
-body_station : (has : Bool) (c : Cursor) → body_at (station_number has) c ≡ (station_at has c >>= λ s. Ok (messages.Station s.0))
-unfolding body_at
-body_station true c = refl
-body_station false c = refl
-
-body_msm : (form : Form) (g : Bool) (c : Cursor) → body_at (message_number form g) c ≡ formed_at form g c
-unfolding body_at
-body_msm forms.Msm4 true c = refl
-body_msm forms.Msm4 false c = refl
-body_msm forms.Msm7 true c = refl
-body_msm forms.Msm7 false c = refl
+read_by n k c e = ap (λ (k : Kind). body_by k n c) e
 
 pub message_there : (bits : List Bool) → 12 ≤ length bits → message_of bits ≡ body_at (number_of bits) (cursor_at bits 12)
 unfolding message_of
@@ -109,45 +90,22 @@ msm_again_by form bits rest m reserved h small is =
     let n = message_number form m.is_galileo in
     let tail = msm_tail sw cw m reserved in
     let read = msm_again sw cw m reserved 12 rest h small in
-    again bits n tail rest (few_number form m.is_galileo) (is ∙ ap (λ t. t ++ rest) (append_assoc (uint 12 n) (field_bits (header_tail m.header reserved)) (field_bits (mask_fields m.sets) ++ (columns sw m.satellites ++ columns cw m.cells))))
-    ∙ (body_msm form m.is_galileo (cursor 12 (tail ++ rest)) ∙ rw read.1 refl)
-  where
-    few_number : (form : Form) (g : Bool) → message_number form g < 2 ^ 12
-    few_number forms.Msm4 true = lit< tt
-    few_number forms.Msm4 false = lit< tt
-    few_number forms.Msm7 true = lit< tt
-    few_number forms.Msm7 false = lit< tt
+    again bits n tail rest (of_msm form m.is_galileo).1 (is ∙ ap (λ t. t ++ rest) (append_assoc (uint 12 n) (field_bits (header_tail m.header reserved)) (field_bits (mask_fields m.sets) ++ (columns sw m.satellites ++ columns cw m.cells))))
+    ∙ (read_by n _ (cursor 12 (tail ++ rest)) (of_msm form m.is_galileo).0 ∙ rw read.1 refl)
 
 pub message_again : (bits rest : List Bool) (v : Message) (reserved : ℕ) → IsMessage v → is_other v ≡ false → reserved < 2 ^ reserved_width v → bits ≡ message_bits v reserved ++ rest → message_of bits ≡ Ok v
 unfolding field_bits
 message_again bits rest (messages.Station s) reserved h known small is =
     let n = station_number (is_some s.height) in
-    let few : n < 2 ^ 12 = few_number (is_some s.height) in
-    again bits n (field_bits (station_tail s reserved)) rest few is ∙ (body_station (is_some s.height) (cursor 12 (field_bits (station_tail s reserved) ++ rest)) ∙ rw (station_again s reserved 12 rest h small) refl)
-  where
-    few_number : (has : Bool) → station_number has < 2 ^ 12
-    few_number true = lit< tt
-    few_number false = lit< tt
+    again bits n (field_bits (station_tail s reserved)) rest (of_station (is_some s.height)).1 is ∙ (read_by n _ (cursor 12 (field_bits (station_tail s reserved) ++ rest)) (of_station (is_some s.height)).0 ∙ rw (station_again s reserved 12 rest h small) refl)
 message_again bits rest (messages.Msm4 m) reserved h known small is = msm_again_by forms.Msm4 bits rest m reserved h small is
 message_again bits rest (messages.Msm7 m) reserved h known small is = msm_again_by forms.Msm7 bits rest m reserved h small is
 message_again bits rest (messages.Other n set) reserved h known small is = cc
 
-true_false : (b : Bool) → b ≡ true → b ≡ false → ⊥
-true_false b p q = cc
-
 -- Bits that begin with the encoding of a value are read as the value.
 pub read_again : (bits : List Bool) (v : Message) → ReadsMessage bits v → message_of bits ≡ Ok v
 read_again bits v (inl b) = message_again bits b.rest v b.encodes.reserved b.is_value b.known b.encodes.fits (b.joined ∙ ap (λ t. t ++ b.rest) b.encodes.bits_are)
-read_again bits v (inr o) = message_there bits o.number_there ∙ go (number_of bits) (kind_of (number_of bits)) o.unread (cursor_at bits 12) ∙ ap Ok (other_is bits o.number_there ∙ sym o.value)
-  where
-    go : (n : ℕ) → Kind n → is_read n ≡ false → (c : Cursor) → body_at n c ≡ Ok (other_at n c)
-    go n (station true e) un c = absurd (true_false _ (rw e refl) un)
-    go n (station false e) un c = absurd (true_false _ (rw e refl) un)
-    go n (of_form forms.Msm4 true e) un c = absurd (true_false _ (rw e refl) un)
-    go n (of_form forms.Msm4 false e) un c = absurd (true_false _ (rw e refl) un)
-    go n (of_form forms.Msm7 true e) un c = absurd (true_false _ (rw e refl) un)
-    go n (of_form forms.Msm7 false e) un c = absurd (true_false _ (rw e refl) un)
-    go n (other unread no_msm empty is) un c = is c
+read_again bits v (inr o) = message_there bits o.number_there ∙ (read_by (number_of bits) OfOther (cursor_at bits 12) o.unread ∙ ap Ok (other_is bits o.number_there ∙ sym o.value))
 
 -- ---- what was read
 
@@ -186,23 +144,22 @@ found_msm form bits g m d prefix r =
     begins_msm form bits m r.reserved d.rest r.is_value r.small (with_number bits n (msm_tail (satellite_widths form) (cell_widths form) m r.reserved) d.rest (prefix ∙ ap (λ (n : ℕ). uint 12 n ++ drop 12 bits) number) r.bits
     ∙ ap (λ (t : List Bool). t ++ d.rest) (sym (append_assoc (uint 12 n) (field_bits (header_tail m.header r.reserved)) (field_bits (mask_fields m.sets) ++ content))))
 
-body_found : (bits : List Bool) (n : ℕ) (v : Message) → 12 ≤ length bits → number_of bits ≡ n → Kind n → body_at n (cursor_at bits 12) ≡ Ok v → Found bits v
-body_found bits n v h is (station has e) read =
-    let body = bind_ok (station_at has (cursor_at bits 12)) _ v (sym (body_station has (cursor_at bits 12)) ∙ (rw e at read)) in
+body_found : (bits : List Bool) (v : Message) → 12 ≤ length bits → (k : Kind) → kind_of (number_of bits) ≡ k → body_by k (number_of bits) (cursor_at bits 12) ≡ Ok v → Found bits v
+body_found bits v h (OfStation has) e read =
+    let body = bind_ok (station_at has (cursor_at bits 12)) _ v read in
     let x : Message = messages.Station body.0.0 in
-    of_read (Found bits) x v body.2 (found_station bits has body.0.0 body.0.1 (begins_with_number bits h ∙ ap (λ (k : ℕ). uint 12 k ++ drop 12 bits) (is ∙ e)) (station_consumed has (cursor_at bits 12) body.0 body.1))
-body_found bits n v h is (of_form form g e) read =
-    let body = bind_ok (msm_at (satellite_widths form) (cell_widths form) g (cursor_at bits 12)) _ v (sym (body_msm form g (cursor_at bits 12)) ∙ (rw e at read)) in
-    of_read (Found bits) (message_in form body.0.0) v body.2 (found_msm form bits g body.0.0 body.0.1 (begins_with_number bits h ∙ ap (λ (k : ℕ). uint 12 k ++ drop 12 bits) (is ∙ e)) (msm_consumed (satellite_widths form) (cell_widths form) g (cursor_at bits 12) body.0 body.1))
-body_found bits n v h is (other unread no_msm empty body) read =
-    let value : v ≡ messages.Other (number_of bits) (set_of bits) = ok_inj v (other_at n (cursor_at bits 12)) _ read (body (cursor_at bits 12)) ∙ (ap (λ (k : ℕ). other_at k (cursor_at bits 12)) (sym is) ∙ other_is bits h) in
-    let unread' : is_read (number_of bits) ≡ false = ap is_read is ∙ unread in
-    subst (Found bits) (sym value) (record { is_message = tt; reads = inr (record { number_there = h; unread = unread'; value = refl }) })
+    of_read (Found bits) x v body.2 (found_station bits has body.0.0 body.0.1 (begins_with_number bits h ∙ ap (λ (k : ℕ). uint 12 k ++ drop 12 bits) (number_is _ _ e)) (station_consumed has (cursor_at bits 12) body.0 body.1))
+body_found bits v h (OfMsm form g) e read =
+    let body = bind_ok (msm_at (satellite_widths form) (cell_widths form) g (cursor_at bits 12)) _ v read in
+    of_read (Found bits) (message_in form body.0.0) v body.2 (found_msm form bits g body.0.0 body.0.1 (begins_with_number bits h ∙ ap (λ (k : ℕ). uint 12 k ++ drop 12 bits) (number_is _ _ e)) (msm_consumed (satellite_widths form) (cell_widths form) g (cursor_at bits 12) body.0 body.1))
+body_found bits v h OfOther e read =
+    let value : v ≡ messages.Other (number_of bits) (set_of bits) = ok_inj v _ _ refl (sym read) ∙ other_is bits h in
+    subst (Found bits) (sym value) (record { is_message = tt; reads = inr (record { number_there = h; unread = e; value = refl }) })
 
 pub message_found : (bits : List Bool) (v : Message) → message_of bits ≡ Ok v → Found bits v
 message_found bits v read = elim (cases_lt (length bits) 12) [
   | inl few ↦ absurd (ok_err v (Short 0) (message_of bits) read (message_none bits few))
-  | inr there ↦ body_found bits (number_of bits) v there refl (kind_of (number_of bits)) (sym (message_there bits there) ∙ read)
+  | inr there ↦ body_found bits v there _ refl (sym (message_there bits there ∙ read_by (number_of bits) _ (cursor_at bits 12) refl) ∙ read)
 ]
 
 -- ---- the fault
@@ -268,25 +225,9 @@ station_end bits has h = elim (fields_read station_table bits 12 h) [
       | inr all ↦ inr ((station_parts (contents_at station_table bits 12) (Some (field_at bits 152 16)), cursor_at bits 168), station_chain true (cursor_at bits 12) ∙ rw (read, number_there_at 16 bits 152 all) refl, past_none (station_widths ++ (16 ∷ [])) (length bits) 12 all)
     ]
 
-pub layout_station : (has : Bool) (bits : List Bool) → layout_of (station_number has) bits ≡ 12 ∷ (station_widths ++ height_widths has)
+pub layout_station : (has : Bool) (bits : List Bool) → layout_by (OfStation has) bits ≡ 12 ∷ (station_widths ++ height_widths has)
 layout_station true bits = refl
 layout_station false bits = refl
-
-pub layout_msm : (form : Form) (g : Bool) (bits : List Bool) → layout_of (message_number form g) bits ≡ 12 ∷ msm_widths (satellite_widths form) (cell_widths form) bits
-layout_msm forms.Msm4 true bits = refl
-layout_msm forms.Msm4 false bits = refl
-layout_msm forms.Msm7 true bits = refl
-layout_msm forms.Msm7 false bits = refl
-
-station_no_msm : (has : Bool) → is_read_msm (station_number has) ≡ false
-station_no_msm true = refl
-station_no_msm false = refl
-
-pub form_is_msm : (form : Form) (g : Bool) → is_read_msm (message_number form g) ≡ true
-form_is_msm forms.Msm4 true = refl
-form_is_msm forms.Msm4 false = refl
-form_is_msm forms.Msm7 true = refl
-form_is_msm forms.Msm7 false = refl
 
 -- The result of reading a multiple signal message, for the widths of either grid.
 msm_message_end : {bits : List Bool} {sw cw : List ℕ} {g : Bool} (wrap : MsmValue → Message) → 12 ≤ length bits → is_read_msm (number_of bits) ≡ true → layout bits ≡ 12 ∷ msm_widths sw cw bits
@@ -310,6 +251,18 @@ msm_message_end {bits} {sw} {cw} {g} wrap h msm lay read end = go end
     go (short e early few s is) = faulty e (short_fault bits (msm_widths sw cw bits) e h (record { time = early_is early; few = few_is few }) lay s) (read ∙ rw is refl)
     go (good v early few none is) = sound (wrap v.0) (no_fault bits h (record { time = early_is early; few = few_is few }) (past_all bits (msm_widths sw cw bits) h lay none)) (read ∙ rw is refl)
 
+end_by : (bits : List Bool) → 12 ≤ length bits → (k : Kind) → layout bits ≡ layout_by k bits → is_read_msm (number_of bits) ≡ is_msm_kind k → message_of bits ≡ body_by k (number_of bits) (cursor_at bits 12) → MessageEnd bits
+unfolding first_past
+end_by bits h (OfStation has) lay msm read =
+    let lay : layout bits ≡ 12 ∷ (station_widths ++ height_widths has) = lay ∙ layout_station has bits in
+    let clean = no_msm_in_time bits msm in
+    elim (station_end bits has h) [
+      | inl bad ↦ faulty bad.0 (short_fault bits (station_widths ++ height_widths has) bad.0 h clean lay bad.2) (read ∙ rw bad.1 refl)
+      | inr fine ↦ sound (messages.Station fine.0.0) (no_fault bits h clean (past_all bits (station_widths ++ height_widths has) h lay fine.2)) (read ∙ rw fine.1 refl)
+    ]
+end_by bits h (OfMsm form g) lay msm read = msm_message_end (message_in form) h msm lay read (msm_end (satellite_widths form) (cell_widths form) g bits h)
+end_by bits h OfOther lay msm read = sound _ (no_fault bits h (no_msm_in_time bits msm) (ap (first_past (length bits) 0) lay)) read
+
 message_end : (bits : List Bool) → MessageEnd bits
 unfolding first_past
 message_end bits = elim (cases_lt (length bits) 12) [
@@ -318,22 +271,8 @@ message_end bits = elim (cases_lt (length bits) 12) [
     and_second (is_read_msm (number_of bits)) (nat_le 169 (length bits)) (nat_lt 64 (pair_count_of bits)) (lt-leb 169 (length bits) (omega (arith, few))),
     inl (few, refl),
   ) (message_none bits few)
-  | inr there ↦ go (number_of bits) refl there (kind_of (number_of bits))
+  | inr there ↦ end_by bits there _ refl refl (message_there bits there ∙ read_by (number_of bits) _ (cursor_at bits 12) refl)
 ]
-  where
-    go : (n : ℕ) → number_of bits ≡ n → 12 ≤ length bits → Kind n → MessageEnd bits
-    go n is h (station has e) =
-        let lay : layout bits ≡ 12 ∷ (station_widths ++ height_widths has) = ap (λ (k : ℕ). layout_of k bits) (is ∙ e) ∙ layout_station has bits in
-        let clean = no_msm_in_time bits (ap is_read_msm (is ∙ e) ∙ station_no_msm has) in
-        let read : message_of bits ≡ (station_at has (cursor_at bits 12) >>= λ s. Ok (messages.Station s.0)) = message_there bits h ∙ (ap (λ (k : ℕ). body_at k (cursor_at bits 12)) (is ∙ e) ∙ body_station has (cursor_at bits 12)) in
-        elim (station_end bits has h) [
-          | inl bad ↦ faulty bad.0 (short_fault bits (station_widths ++ height_widths has) bad.0 h clean lay bad.2) (read ∙ rw bad.1 refl)
-          | inr fine ↦ sound (messages.Station fine.0.0) (no_fault bits h clean (past_all bits (station_widths ++ height_widths has) h lay fine.2)) (read ∙ rw fine.1 refl)
-        ]
-    go n is h (of_form form g e) = msm_message_end (message_in form) h (ap is_read_msm (is ∙ e) ∙ form_is_msm form g) (ap (λ (k : ℕ). layout_of k bits) (is ∙ e) ∙ layout_msm form g bits)
-        (message_there bits h ∙ (ap (λ (k : ℕ). body_at k (cursor_at bits 12)) (is ∙ e) ∙ body_msm form g (cursor_at bits 12))) (msm_end (satellite_widths form) (cell_widths form) g bits h)
-    go n is h (other unread no_msm empty body) = sound (other_at n (cursor_at bits 12)) (no_fault bits h (no_msm_in_time bits (ap is_read_msm is ∙ no_msm)) (ap (first_past (length bits) 0) (ap (λ (k : ℕ). layout_of k bits) is ∙ empty bits)))
-        (message_there bits h ∙ (ap (λ (k : ℕ). body_at k (cursor_at bits 12)) is ∙ body (cursor_at bits 12)))
 
 pub message_fault : (bits : List Bool) (e : MsgFault) → message_of bits ≡ Err e → IsFault bits e
 message_fault bits e read = go (message_end bits)

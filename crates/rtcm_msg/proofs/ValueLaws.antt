@@ -71,13 +71,6 @@ pub none_left : (v : FormedMsm) (c : CellsLeft) → c.left ≡ 0 → entries_lef
 unfolding chosen uint
 none_left v c e = rw e refl
 
-pub few_entries : (v : FormedMsm) (n : ℕ) → n ≡ length v.msm.cells → n ≤ 64 → length (entries (formed v)) ≤ 64
-few_entries v n same few = by v.form v.msm (omega (arith, same, few))
-  where
-    by : (form : Form) (v : MsmValue) → length v.cells ≤ 64 → length (entries (message_in form v)) ≤ 64
-    by forms.Msm4 v h = omega (arith, h, no_more (entry_in forms.Msm4 v) (cell_pairs v.sets) v.cells)
-    by forms.Msm7 v h = omega (arith, h, no_more (entry_in forms.Msm7 v) (cell_pairs v.sets) v.cells)
-
 -- The entries of a message, from the pairs that have a cell.
 entries_are : (v : FormedMsm) (ps : List Pair) → ps ≡ cell_pairs v.msm.sets → entries (formed v) ≡ map (entry_in v.form v.msm) (zip ps v.msm.cells)
 entries_are v ps e = rw e (same v.form v.msm)
@@ -85,6 +78,9 @@ entries_are v ps e = rw e (same v.form v.msm)
     same : (form : Form) (v : MsmValue) → entries (message_in form v) ≡ map (entry_in form v) (zip (cell_pairs v.sets) v.cells)
     same forms.Msm4 v = refl
     same forms.Msm7 v = refl
+
+pub few_entries : (v : FormedMsm) (n : ℕ) → n ≡ length v.msm.cells → n ≤ 64 → length (entries (formed v)) ≤ 64
+few_entries v n same few = rw (entries_are v _ refl) (let h = no_more (entry_in v.form v.msm) (cell_pairs v.msm.sets) v.msm.cells in omega (arith, same, few, h))
 
 -- Before the first cell all are left.
 pub all_entries : (v : FormedMsm) (c : CellsLeft) → AreAll v.msm.sets c.left c.pairs → c.next ≡ 0 → entries_left v c ≡ entries (formed v)
@@ -101,10 +97,6 @@ zeros (suc n) (suc i) = zeros n i
 pub entries_first : (f : Pair × ℕ → Entry) (ps qs : List Pair) (x : Pair) (cells : List ℕ) (next : ℕ) → ps ≡ x ∷ qs → next < length cells
     → map f (zip ps (drop next cells)) ≡ f (x, get_or cells next 0) ∷ map f (zip qs (drop (next + 1) cells))
 entries_first f ps qs x cells next e h = let s : next + 1 ≡ suc next = omega arith in rw (e, drop-cons cells next 0 h, s) refl
-
-pub entry_signal : (form : Form) (v : MsmValue) (x : Pair) (n : ℕ) → (entry_in form v (x, n)).signal ≡ x.signal
-entry_signal forms.Msm4 v x n = refl
-entry_signal forms.Msm7 v x n = refl
 
 -- ---- counts
 
@@ -163,15 +155,11 @@ none_of listed g form v (x ∷ xs) (n ∷ cells) h =
     let here : (x.signal == g) ≡ false = grind (arith, common_steps) in
     let later : list_any (is_of g) xs ≡ false = grind (arith, common_steps) in
     count_first (λ e. has_listed_value listed e && (e.signal == g)) (entry_in form v (x, n)) (map (entry_in form v) (zip xs cells))
-    ∙ rw (and_none (has_listed_value listed (entry_in form v (x, n))) ((entry_in form v (x, n)).signal == g) (ap (λ (s : ℕ). s == g) (entry_signal form v x n) ∙ here), none_of listed g form v xs cells later) refl
+    ∙ rw (and_none (has_listed_value listed (entry_in form v (x, n))) ((entry_in form v (x, n)).signal == g) here, none_of listed g form v xs cells later) refl
 
 -- A signal that is not in the message has no cell.
 pub no_cells : (listed g : ℕ) (v : FormedMsm) → has_id g (ids 32 v.msm.sets.signals) ≡ false → value_count listed g (entries (formed v)) ≡ zero
-no_cells listed g v h = by v.form v.msm h
-  where
-    by : (form : Form) (v : MsmValue) → has_id g (ids 32 v.sets.signals) ≡ false → value_count listed g (entries (message_in form v)) ≡ zero
-    by forms.Msm4 v h = none_of listed g forms.Msm4 v _ v.cells (chosen_none (is_of g) _ (all_pairs v.sets) (rows_none g (ids 32 v.sets.signals) _ h))
-    by forms.Msm7 v h = none_of listed g forms.Msm7 v _ v.cells (chosen_none (is_of g) _ (all_pairs v.sets) (rows_none g (ids 32 v.sets.signals) _ h))
+no_cells listed g v h = rw (entries_are v _ refl) (none_of listed g v.form v.msm _ v.msm.cells (chosen_none (is_of g) _ (all_pairs v.msm.sets) (rows_none g (ids 32 v.msm.sets.signals) _ h)))
 
 -- ---- IDs
 

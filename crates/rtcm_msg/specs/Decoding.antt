@@ -1,5 +1,5 @@
 -- The message that bits are decoded to.
-use Rattle.std.specs.Prelude.{ℕ, ◌%◌, ◌==◌, ◌&&◌, nat_lt, nat_le, if◌then◌else◌, Bool, true, false, List, length}
+use Rattle.std.specs.Prelude.{ℕ, ◌%◌, ◌==◌, ◌&&◌, nat_lt, nat_le, if◌then◌else◌, Bool, List, length}
 use Rattle.std.specs.Prelude.{Option, Some, None, Result, Ok}
 use Rattle.rtcm_bits.specs.Bits.{bits_of}
 use Rattle.rtcm_bits.specs.Cursors.{Cursor, advanced, unsigned_at}
@@ -7,10 +7,9 @@ use Rattle.rtcm_msg.specs.declared.fault.MsgFault.{MsgFault}
 use Rattle.rtcm_msg.specs.declared.message.Message.{Message}
 use Rattle.rtcm_msg.specs.Fields.{number_at, ◌>>=◌}
 use Rattle.rtcm_msg.specs.Station.{station_at}
-use Rattle.rtcm_msg.specs.Msm.{msm_at}
 use Rattle.rtcm_msg.specs.declared.message.Message.TheVariants as messages
-use Rattle.rtcm_msg.specs.Grid4 as grid4
-use Rattle.rtcm_msg.specs.Grid7 as grid7
+use Rattle.rtcm_msg.specs.Numbers.{Kind, OfStation, OfMsm, OfOther, kind_of}
+use Rattle.rtcm_msg.specs.Views.{formed_at}
 
 -- The message numbers of the MSMs of GPS, GLONASS, Galileo, SBAS, QZSS and BeiDou.
 abbrev pub is_any_msm : ℕ → Bool
@@ -35,15 +34,13 @@ abbrev pub start : List Bool → Cursor
 start bits = record { place = 0; rest = bits }
 
 -- The value, after the message number n.
+abbrev pub body_by : Kind → ℕ → Cursor → Result Message MsgFault
+body_by (OfStation has_height) n c = station_message_at has_height c
+body_by (OfMsm form is_galileo) n c = formed_at form is_galileo c
+body_by OfOther n c = Ok (other_at n c)
+
 unfoldable pub body_at : ℕ → Cursor → Result Message MsgFault
-body_at n c =
-    if n == 1005 then (station_at false c >>= λ s. Ok (messages.Station s.0))
-    else (if n == 1006 then (station_at true c >>= λ s. Ok (messages.Station s.0))
-    else (if n == 1074 then (msm_at grid4.satellite_widths grid4.cell_widths false c >>= λ m. Ok (messages.Msm4 m.0))
-    else (if n == 1077 then (msm_at grid7.satellite_widths grid7.cell_widths false c >>= λ m. Ok (messages.Msm7 m.0))
-    else (if n == 1094 then (msm_at grid4.satellite_widths grid4.cell_widths true c >>= λ m. Ok (messages.Msm4 m.0))
-    else (if n == 1097 then (msm_at grid7.satellite_widths grid7.cell_widths true c >>= λ m. Ok (messages.Msm7 m.0))
-    else Ok (other_at n c))))))
+body_at n c = body_by (kind_of n) n c
 
 -- The value that bits are decoded to.
 unfoldable pub message_of : List Bool → Result Message MsgFault

@@ -1,5 +1,5 @@
 -- The encodings of messages, the messages of bits, and the faults of bits.
-use Rattle.std.specs.Prelude.{◌≡◌, ℕ, ◌^◌, ◌<◌, ◌≤◌, ◌==◌, ◌||◌, ◌&&◌, nat_lt, nat_le, if◌then◌else◌, Bool, true, false}
+use Rattle.std.specs.Prelude.{◌≡◌, ℕ, ◌^◌, ◌<◌, ◌≤◌, ◌==◌, ◌&&◌, nat_lt, nat_le, if◌then◌else◌, Bool, true, false}
 use Rattle.std.specs.Prelude.{List, [], ◌∷◌, ◌++◌, length, Option, Some, None, replicate, count_ones, IsTrue, ◌⊎◌}
 use Rattle.rtcm_bits.specs.Bits.{bits_of, filled}
 use Rattle.rtcm_msg.specs.declared.fault.MsgFault.{MsgFault}
@@ -8,12 +8,14 @@ use Rattle.rtcm_msg.specs.declared.message.Message.{Message}
 use Rattle.rtcm_msg.specs.declared.message.Message.TheVariants.{Station, Msm4, Msm7, Other}
 use Rattle.rtcm_msg.specs.Fields.{field_bits, first_past, field_at}
 use Rattle.rtcm_msg.specs.Station.{station_fields, InRange, station_table, height_table}
-use Rattle.rtcm_msg.specs.Msm.{msm_bits, IsValue, week, time_table, header_table, mask_table, cell_mask_table}
+use Rattle.rtcm_msg.specs.Msm.{MsmValue, msm_bits, IsValue, week, time_table, header_table, mask_table, cell_mask_table}
 use Rattle.rtcm_msg.specs.Msm.{satellite_mask_bits, signal_mask_bits, pair_count, most_pairs}
 use Rattle.rtcm_msg.specs.Layout.{widths, number_table}
 use Rattle.rtcm_msg.specs.Decoding.{is_any_msm}
-use Rattle.rtcm_msg.specs.Grid4 as grid4
-use Rattle.rtcm_msg.specs.Grid7 as grid7
+use Rattle.rtcm_msg.specs.declared.view.Form.{Form}
+use Rattle.rtcm_msg.specs.declared.view.Form.TheVariants as forms
+use Rattle.rtcm_msg.specs.Forms.{satellite_widths, cell_widths}
+use Rattle.rtcm_msg.specs.Numbers.{Kind, OfStation, OfMsm, OfOther, kind_of, message_number}
 
 abbrev pub is_other : Message → Bool
 is_other (Station s) = false
@@ -21,11 +23,18 @@ is_other (Msm4 m) = false
 is_other (Msm7 m) = false
 is_other (Other n set) = true
 
+-- A value of this form, and its bits.
+abbrev pub IsMsm : Form → MsmValue → Type 0
+IsMsm f m = IsValue (satellite_widths f) (cell_widths f) m
+
+abbrev pub form_bits : Form → MsmValue → ℕ → List Bool
+form_bits f m reserved = msm_bits (satellite_widths f) (cell_widths f) (message_number f m.is_galileo) m reserved
+
 -- A value.
 abbrev pub IsMessage : Message → Type 0
 IsMessage (Station s) = InRange s
-IsMessage (Msm4 m) = IsValue grid4.satellite_widths grid4.cell_widths m
-IsMessage (Msm7 m) = IsValue grid7.satellite_widths grid7.cell_widths m
+IsMessage (Msm4 m) = IsMsm forms.Msm4 m
+IsMessage (Msm7 m) = IsMsm forms.Msm7 m
 IsMessage (Other n set) = Unit {0}
 
 -- The number of reserved bits.
@@ -38,10 +47,8 @@ reserved_width (Other n set) = 0
 -- The bits of a message with the given reserved bits.
 abbrev pub message_bits : Message → ℕ → List Bool
 message_bits (Station s) reserved = field_bits (station_fields s reserved)
-message_bits (Msm4 m) reserved =
-    msm_bits grid4.satellite_widths grid4.cell_widths (grid4.message_number m.is_galileo) m reserved
-message_bits (Msm7 m) reserved =
-    msm_bits grid7.satellite_widths grid7.cell_widths (grid7.message_number m.is_galileo) m reserved
+message_bits (Msm4 m) reserved = form_bits forms.Msm4 m reserved
+message_bits (Msm7 m) reserved = form_bits forms.Msm7 m reserved
 message_bits (Other n set) reserved = []
 
 -- The bytes encode the message with reserved bits of 0, padded with zero bits to a byte.
@@ -57,11 +64,13 @@ pub record IsEncodedBy (v : Message) (bits : List Bool) : Type 0 where
 abbrev pub number_of : List Bool → ℕ
 number_of bits = field_at bits 0 12
 
-abbrev pub is_read_msm : ℕ → Bool
-is_read_msm n = n == 1074 || n == 1077 || n == 1094 || n == 1097
+abbrev pub is_msm_kind : Kind → Bool
+is_msm_kind (OfStation has_height) = false
+is_msm_kind (OfMsm form is_galileo) = true
+is_msm_kind OfOther = false
 
-abbrev pub is_read : ℕ → Bool
-is_read n = n == 1005 || n == 1006 || is_read_msm n
+abbrev pub is_read_msm : ℕ → Bool
+is_read_msm n = is_msm_kind (kind_of n)
 
 -- The station and DF393 of a message that isn't decoded.
 abbrev pub set_of : List Bool → Option (ℕ × Bool)
@@ -71,7 +80,7 @@ set_of bits = if is_any_msm (number_of bits)
 -- A message that isn't decoded.
 pub record IsOther (bits : List Bool) (v : Message) : Type 0 where
   pub number_there : 12 ≤ length bits
-  pub unread : is_read (number_of bits) ≡ false
+  pub unread : kind_of (number_of bits) ≡ OfOther
   pub value : v ≡ Other (number_of bits) (set_of bits)
 
 -- The bits begin with an encoding of the value.
@@ -102,16 +111,15 @@ msm_layout satellite_widths cell_widths bits =
     ++ (repeated (count_ones satellites) satellite_widths
     ++ repeated (count_ones (field_at bits 169 width)) cell_widths)
 
--- The widths for a message with this number.
-abbrev pub layout_of : ℕ → List Bool → List ℕ
-layout_of n bits =
-    if n == 1005 then widths (number_table ++ station_table)
-    else (if n == 1006 then widths (number_table ++ (station_table ++ height_table))
-    else (if n == 1074 || n == 1094 then msm_layout grid4.satellite_widths grid4.cell_widths bits
-    else (if n == 1077 || n == 1097 then msm_layout grid7.satellite_widths grid7.cell_widths bits else [])))
+-- The widths for a message of this kind.
+abbrev pub layout_by : Kind → List Bool → List ℕ
+layout_by (OfStation has_height) bits =
+    widths (number_table ++ (station_table ++ (if has_height then height_table else [])))
+layout_by (OfMsm form is_galileo) bits = msm_layout (satellite_widths form) (cell_widths form) bits
+layout_by OfOther bits = []
 
 abbrev pub layout : List Bool → List ℕ
-layout bits = layout_of (number_of bits) bits
+layout bits = layout_by (kind_of (number_of bits)) bits
 
 abbrev pub has_bad_time : List Bool → Bool
 has_bad_time bits = is_read_msm (number_of bits) && nat_le 54 (length bits) && nat_le week (field_at bits 24 30)

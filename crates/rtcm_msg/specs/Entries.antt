@@ -1,6 +1,6 @@
 -- The cells of a message, as entries.
-use Rattle.std.specs.Prelude.{◌<◌, ◌^◌, IfSome, unsigned_abs, ◌≤◌, ℕ, ℤ, ◌+◌, if◌then◌else◌, Bool, List, [], ◌∷◌, map}
-use Rattle.std.specs.Prelude.{slice_index, Option}
+use Rattle.std.specs.Prelude.{◌<◌, ◌^◌, IfSome, unsigned_abs, ◌≤◌, ℕ, ◌+◌, if◌then◌else◌, Bool, List, [], ◌∷◌, map}
+use Rattle.std.specs.Prelude.{slice_index}
 use Rattle.std.specs.List.{flat_map, zip, enumerate_from}
 use Rattle.rtcm_bits.specs.Bits.{uint}
 use Rattle.rtcm_msg.specs.declared.message.Message.{Message}
@@ -8,8 +8,9 @@ use Rattle.rtcm_msg.specs.declared.message.Message.TheVariants.{Station, Msm4, M
 use Rattle.rtcm_msg.specs.declared.pairs.Pair.{Pair}
 use Rattle.rtcm_msg.specs.declared.entry.Entry.{Entry}
 use Rattle.rtcm_msg.specs.Msm.{MsmValue, MasksValue, pair_count, satellite_mask_bits, signal_mask_bits}
-use Rattle.rtcm_msg.specs.Grid4 as grid4
-use Rattle.rtcm_msg.specs.Grid7 as grid7
+use Rattle.rtcm_msg.specs.declared.view.Form.{Form}
+use Rattle.rtcm_msg.specs.declared.view.Form.TheVariants as forms
+use Rattle.rtcm_msg.specs.Forms.{entry, satellite_data, cell_data}
 
 -- The items whose bit is set.
 unfoldable pub chosen : {X : Type 0} → List Bool → List X → List X
@@ -53,36 +54,16 @@ pub record IsEntry (codes : ℕ) (e : Entry) : Type 0 where
   pub strength : IfSome e.strength (λ s. s < 2 ^ 10)
   pub lock : e.lock < codes
 
--- The entry of a cell, for the functions of a grid.
-abbrev pub entry_by : {S C : Type 0} → (ℕ → S) → (ℕ → C) → (S → C → Option ℤ) → (S → C → Option ℤ) → (S → C → Option ℤ)
-    → (C → Option ℕ) → (C → ℕ) → (C → Bool) → List ℕ → Pair × ℕ → Entry
-entry_by satellite_at cell_at range_of phase_of rate_of strength_of lock_of half_cycle_of satellites x =
-    let s = satellite_at (slice_index satellites x.0.index) in
-    let c = cell_at x.1 in
-    record {
-      satellite = x.0.satellite;
-      signal = x.0.signal;
-      range = range_of s c;
-      phase = phase_of s c;
-      rate = rate_of s c;
-      strength = strength_of c;
-      lock = lock_of c;
-      half_cycle = half_cycle_of c;
-    }
+-- The entry of a cell of a message of this form.
+abbrev pub entry_in : Form → MsmValue → Pair × ℕ → Entry
+entry_in f v x = entry f x.0 (satellite_data f (slice_index v.satellites x.0.index)) (cell_data f x.1)
 
-abbrev pub entry4 : MsmValue → Pair × ℕ → Entry
-entry4 v =
-    entry_by grid4.satellite_data grid4.cell_data grid4.range_of grid4.phase_of grid4.rate_of grid4.strength_of
-    (λ c. c.lock) (λ c. c.half_cycle) v.satellites
-
-abbrev pub entry7 : MsmValue → Pair × ℕ → Entry
-entry7 v =
-    entry_by grid7.satellite_data grid7.cell_data grid7.range_of grid7.phase_of grid7.rate_of grid7.strength_of
-    (λ c. c.lock) (λ c. c.half_cycle) v.satellites
+abbrev pub entries_in : Form → MsmValue → List Entry
+entries_in f v = map (entry_in f v) (zip (cell_pairs v.sets) v.cells)
 
 -- The cells of a message in order.
 abbrev pub entries : Message → List Entry
 entries (Station s) = []
-entries (Msm4 v) = map (entry4 v) (zip (cell_pairs v.sets) v.cells)
-entries (Msm7 v) = map (entry7 v) (zip (cell_pairs v.sets) v.cells)
+entries (Msm4 v) = entries_in forms.Msm4 v
+entries (Msm7 v) = entries_in forms.Msm7 v
 entries (Other n set) = []

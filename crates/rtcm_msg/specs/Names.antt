@@ -5,11 +5,11 @@ pub use Rattle.rtcm_bits.specs.Cursors.{Cursor, advanced, unsigned_at}
 pub use Rattle.rtcm_msg.specs.Bounds.{IsMeasured}
 pub use Rattle.rtcm_msg.specs.Columns.{EachBelow}
 unfoldable pub use Rattle.rtcm_msg.specs.Columns.{column_at, columns_at}
-pub use Rattle.rtcm_msg.specs.Decoding.{is_any_msm, message_at, other_at, set_at, set_in, start}
+pub use Rattle.rtcm_msg.specs.Decoding.{body_by, is_any_msm, message_at, other_at, set_at, set_in, start}
 unfoldable pub use Rattle.rtcm_msg.specs.Decoding.{body_at, message_of}
-pub use Rattle.rtcm_msg.specs.Encoding.{IsFault, IsMessage, ReadsMessage, has_bad_time, has_too_many, is_other, is_read}
-pub use Rattle.rtcm_msg.specs.Encoding.{is_read_msm, layout, layout_of, message_bits, repeated, reserved_width, set_of}
-pub use Rattle.rtcm_msg.specs.Entries.{IsEntry, Rising, all_pairs, cell_pairs, entries, entry4, entry7, ids, pair}
+pub use Rattle.rtcm_msg.specs.Encoding.{IsFault, IsMessage, ReadsMessage, has_bad_time, has_too_many, is_msm_kind, is_other}
+pub use Rattle.rtcm_msg.specs.Encoding.{is_read_msm, layout, layout_by, message_bits, repeated, reserved_width, set_of}
+pub use Rattle.rtcm_msg.specs.Entries.{IsEntry, Rising, all_pairs, cell_pairs, entries, entries_in, entry_in, ids, pair}
 unfoldable pub use Rattle.rtcm_msg.specs.Entries.{chosen, up_from}
 pub use Rattle.rtcm_msg.specs.Fields.{cursor_at, field_at, fields_width, reading, ◌>>=◌}
 unfoldable pub use Rattle.rtcm_msg.specs.Fields.{field_bits, first_past, number_at}
@@ -38,9 +38,12 @@ pub use Rattle.rtcm_msg.specs.Station.{parts_in, station_contents, station_field
 unfoldable pub use Rattle.rtcm_msg.specs.Station.{station_at}
 pub use Rattle.rtcm_msg.specs.ValueCounts.{AddsCounts, AreAtMost, AreCells, SignalCounts, entries_left, has_id}
 pub use Rattle.rtcm_msg.specs.ValueCounts.{has_listed_value, value_count}
-pub use Rattle.rtcm_msg.specs.Viewed.{Unread, entry_in, form_as, lock_field}
-pub use Rattle.rtcm_msg.specs.Views.{AreDataOf, AreWithin, FormedMsm, cell_rows, cell_widths, formed, formed_at}
-pub use Rattle.rtcm_msg.specs.Views.{message_in, message_number, satellite_rows, satellite_widths}
+pub use Rattle.rtcm_msg.specs.Viewed.{Unread}
+pub use Rattle.rtcm_msg.specs.Views.{AreDataOf, AreWithin, FormedMsm, cell_rows, formed, formed_at}
+pub use Rattle.rtcm_msg.specs.Views.{message_in, satellite_rows}
+pub use Rattle.rtcm_msg.specs.Forms.{cell_widths, lock_field, satellite_widths}
+pub use Rattle.rtcm_msg.specs.Numbers.{Kind, OfMsm, OfOther, OfStation, kind_in, kind_of, kind_table, message_number}
+pub use Rattle.rtcm_msg.specs.Numbers.{station_number}
 pub use Rattle.rtcm_msg.specs.declared.entry.Entry.{Entry}
 pub use Rattle.rtcm_msg.specs.declared.fault.MsgFault.{MsgFault}
 pub use Rattle.rtcm_msg.specs.declared.fault.MsgFault.TheVariants.{BadTime, Short, TooManyCells}

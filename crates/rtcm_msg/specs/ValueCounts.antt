@@ -8,7 +8,7 @@ use Rattle.rtcm_msg.specs.declared.pairs.CellsLeft.{CellsLeft}
 use Rattle.rtcm_msg.specs.Msm.{signal_mask_bits, satellite_mask_bits}
 use Rattle.rtcm_msg.specs.Pairs.{cell_pairs_left, AreLeft}
 use Rattle.rtcm_msg.specs.Presences.{has_value}
-use Rattle.rtcm_msg.specs.Viewed.{entry_in}
+use Rattle.rtcm_msg.specs.Entries.{entry_in}
 use Rattle.rtcm_msg.specs.Views.{FormedMsm}
 
 -- The satellite is in the set, whose most significant of 64 bits is ID 1.

@@ -16,28 +16,13 @@ use Rattle.rtcm_msg.specs.declared.fault.MsgFault.{MsgFault}
 use Rattle.rtcm_msg.specs.Fields.{◌>>=◌}
 use Rattle.rtcm_msg.specs.Msm.{MsmValue, msm_at, satellite_mask_bits, most_pairs}
 use Rattle.rtcm_msg.specs.Packed.{total_width}
-use Rattle.rtcm_msg.specs.Grid4 as grid4
-use Rattle.rtcm_msg.specs.Grid7 as grid7
+use Rattle.rtcm_msg.specs.Forms.{satellite_widths, cell_widths}
 
--- ---- the differences of the two forms
-
-abbrev pub satellite_widths : Form → List ℕ
-satellite_widths forms.Msm4 = grid4.satellite_widths
-satellite_widths forms.Msm7 = grid7.satellite_widths
-
-abbrev pub cell_widths : Form → List ℕ
-cell_widths forms.Msm4 = grid4.cell_widths
-cell_widths forms.Msm7 = grid7.cell_widths
-
-abbrev pub message_number : Form → Bool → ℕ
-message_number forms.Msm4 is_galileo = grid4.message_number is_galileo
-message_number forms.Msm7 is_galileo = grid7.message_number is_galileo
+-- ---- a multiple signal message of a form
 
 abbrev pub message_in : Form → MsmValue → Message
 message_in forms.Msm4 v = messages.Msm4 v
 message_in forms.Msm7 v = messages.Msm7 v
-
--- ---- a multiple signal message of one of them
 
 pub record FormedMsm : Type 0 where
   pub form : Form

@@ -1,11 +1,6 @@
-//! The cells of MSM4 and MSM7 as exact fractions.
-ghost use Rattle.std.specs.Prelude.{◌≡◌};
-ghost use Rattle.rtcm_msg.specs.Entries.{IsEntry};
+//! The cells of MSMs as exact fractions.
 
-use crate::grid::Grid;
-use crate::pairs::Pair;
-
-/// The data of a cell of MSM4 or MSM7, as exact fractions.
+/// The data of a cell of an MSM, as exact fractions.
 #[derive(Clone, Copy, PartialEq)]
 pub struct Entry {
     /// Satellite ID, 1 to 64: the index of its bit in DF394, counted from 1.
@@ -36,32 +31,4 @@ pub enum LockField {
     Df402,
     /// DF407, lock time indicator with extended range and resolution: 10 bits.
     Df407,
-}
-
-/// Returns the entry of a cell from its data and those of its satellite.
-pub(crate) fn entry_of<G: Grid>(pair: Pair, satellite: &G::Satellite, cell: &G::Cell) -> Entry
-    requires satellite { G.is_satellite satellite.now }
-    requires cell { G.is_cell cell.now }
-    ensures value { result ≡ record {
-      satellite = pair.satellite;
-      signal = pair.signal;
-      range = G.range_of satellite.now cell.now;
-      phase = G.phase_of satellite.now cell.now;
-      rate = G.rate_of satellite.now cell.now;
-      strength = G.strength_of cell.now;
-      lock = G.lock_code_of cell.now;
-      half_cycle = G.half_cycle_of cell.now;
-    } }
-    ensures bounds { IsEntry G.lock_codes result }
-{
-    Entry {
-        satellite: pair.satellite,
-        signal: pair.signal,
-        range: G::range(satellite, cell),
-        phase: G::phase(satellite, cell),
-        rate: G::rate(satellite, cell),
-        strength: G::strength(cell),
-        lock: G::lock_code(cell),
-        half_cycle: G::half_cycle(cell),
-    }
 }

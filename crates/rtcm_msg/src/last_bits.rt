@@ -3,7 +3,7 @@ ghost use Rattle.std.specs.Prelude.{◌≡◌, ◌*◌, ◌≤◌};
 ghost use Rattle.rtcm_bits.specs.FrameOf.{longest_message};
 ghost use Rattle.rtcm_msg.specs.Msm.{most_pairs};
 ghost use Rattle.rtcm_msg.specs.LastBits.{AreLast};
-ghost use Rattle.rtcm_msg.specs.Views as views;
+ghost use Rattle.rtcm_msg.specs.Forms as forms;
 
 use crate::view::Form;
 
@@ -25,7 +25,7 @@ pub(crate) struct LastBits {
     pub half_cycle: usize,
     /// The last bit of its carrier to noise ratio.
     pub strength: usize,
-    /// The last bit of its fine phase range rate, which MSM4 doesn't have.
+    /// The last bit of its fine phase range rate, if the form has one.
     pub rate: usize,
 }
 
@@ -36,7 +36,7 @@ impl Form {
         requires small { place ≤ 8 * longest_message }
         ensures count { result.count ≡ count }
         ensures place { result.place ≡ place }
-        ensures last { AreLast (views.cell_widths self) result }
+        ensures last { AreLast (forms.cell_widths self) result }
     {
         let (range, phase, lock, strength) = match self {
             Form::Msm4 => (15, 22, 4, 6),

@@ -5,12 +5,12 @@
 //! cells of an MSM one by one from its bytes, each as an [`Entry`].
 #![tactic(auto)]
 
+mod data;
 mod entry;
 mod fault;
 mod field;
+mod fractions;
 mod grid;
-mod grid4;
-mod grid7;
 mod header;
 mod last_bits;
 pub mod laws;
@@ -25,11 +25,10 @@ mod value_counts;
 mod view;
 mod writing;
 
+pub use data::{Cell, INVALID_FINE_RATE, INVALID_ROUGH_RATE, Satellite};
 pub use entry::{Entry, LockField};
 pub use fault::{Field, MsgFault, ValueFault};
-pub use grid::Grid;
-pub use grid4::{Cell4, Grid4, Satellite4};
-pub use grid7::{Cell7, Grid7, Satellite7};
+pub use grid::{Grid, Grid4, Grid7};
 pub use header::{MsmHeader, WEEK};
 pub use masks::Masks;
 pub use message::{Message, decode, encode};

@@ -12,11 +12,10 @@ ghost use Rattle.rtcm_msg.specs.declared.message.Message.TheVariants as messages
 
 use crate::fault::MsgFault;
 use crate::field::flag_at;
-use crate::grid4::Grid4;
-use crate::grid7::Grid7;
+use crate::grid::{Grid4, Grid7};
 use crate::msm::{Msm, view_of, write_msm};
 use crate::station::Station;
-use crate::view::{Form, View, look};
+use crate::view::{View, look};
 use crate::writing::write_station;
 use arrayvec::ArrayVec;
 use rtcm_bits::{BitWriter, LONGEST_MESSAGE, number_at};
@@ -82,8 +81,8 @@ impl Message {
     {
         match self {
             Message::Station(station) => View::Station(*station),
-            Message::Msm4(msm) => View::Msm(view_of(msm, Form::Msm4)),
-            Message::Msm7(msm) => View::Msm(view_of(msm, Form::Msm7)),
+            Message::Msm4(msm) => View::Msm(view_of(msm)),
+            Message::Msm7(msm) => View::Msm(view_of(msm)),
             Message::Other { number, set } => View::Other {
                 number: *number,
                 set: *set,

@@ -5,10 +5,14 @@ ghost use Rattle.rtcm_msg.specs.Msm.{IsHeader, msm_bits, msm_of_parts, IsValue, 
 ghost use Rattle.rtcm_msg.specs.Packed.{total_width};
 ghost use Rattle.rtcm_msg.specs.Refusals.{data_refusal, msm_refusal};
 ghost use Rattle.rtcm_msg.specs.Columns.{EachBelow};
-ghost use Rattle.rtcm_msg.specs.Views as views;
+ghost use Rattle.rtcm_msg.specs.Forms.{satellite_widths, cell_widths, IsSatelliteData, IsCellData};
+ghost use Rattle.rtcm_msg.specs.Forms.{satellite_number, satellite_data, cell_number, cell_data};
+ghost use Rattle.rtcm_msg.specs.Forms.{satellite_fault, cell_fault};
+ghost use Rattle.rtcm_msg.specs.Numbers.{message_number};
 
+use crate::data::{Cell, HasFields, Satellite};
 use crate::fault::{Field, ValueFault};
-use crate::grid::{Grid, ReadGrid};
+use crate::grid::Grid;
 use crate::header::{MsmHeader, WEEK, header_fault};
 use crate::masks::{MOST_PAIRS, Masks};
 use crate::system::System;
@@ -18,7 +22,7 @@ use arrayvec::ArrayVec;
 use rtcm_bits::BitWriter;
 use std::marker::{Model, PhantomData};
 
-/// A multiple signal message of GPS or Galileo in the precision `G`: a header, the satellites and
+/// A multiple signal message of GPS or Galileo in the form `G`: a header, the satellites and
 /// signals of the masks, data for each satellite, and a cell for each pair in the cell mask.
 #[derive(Drop)]
 pub struct Msm<G: Grid> {
@@ -32,19 +36,20 @@ pub struct Msm<G: Grid> {
     satellites: ArrayVec<u128, MOST_PAIRS>,
     /// The fields of each cell, packed into one number.
     cells: ArrayVec<u128, MOST_PAIRS>,
-    /// The precision.
+    /// The form.
     grid: PhantomData<G>,
 }
 
 impl<G: Grid> Model for Msm<G> {
     ghost use Rattle.rtcm_msg.specs.Msm.{MsmValue, IsValue, msm_of_parts};
     ghost use Rattle.rtcm_msg.specs.Systems.{has_galileo};
+    ghost use Rattle.rtcm_msg.specs.Forms.{satellite_widths, cell_widths};
 
     ghost Value = { MsmValue };
 
     ghost view = { λ m. msm_of_parts (has_galileo m.system) m.header m.masks m.satellites.items m.cells.items };
 
-    ghost invariant = { λ m. IsValue G.satellite_widths G.cell_widths
+    ghost invariant = { λ m. IsValue (satellite_widths G.form) (cell_widths G.form)
         (msm_of_parts (has_galileo m.system) m.header m.masks m.satellites.items m.cells.items) };
 }
 
@@ -61,25 +66,26 @@ impl<G: Grid> Msm<G> {
         is_galileo: bool,
         header: MsmHeader,
         masks: Masks,
-        satellites: &[G::Satellite],
-        cells: &[G::Cell],
+        satellites: &[Satellite],
+        cells: &[Cell],
     ) -> Result<Msm<G>, ValueFault>
         ensures refused { IfErr result (λ e.
-            data_refusal header masks G.satellite_fault_of satellites.now G.cell_fault_of cells.now ≡ Some e) }
+            data_refusal header masks (satellite_fault G.form) satellites.now (cell_fault G.form) cells.now ≡ Some e) }
         ensures accepted { IfOk result (λ _.
-            data_refusal header masks G.satellite_fault_of satellites.now G.cell_fault_of cells.now ≡ None) }
+            data_refusal header masks (satellite_fault G.form) satellites.now (cell_fault G.form) cells.now ≡ None) }
         ensures made { IfOk result (λ m. m ≡ msm_of_parts is_galileo header masks
-            (map G.satellite_packed satellites.now) (map G.cell_packed cells.now)) }
+            (map (satellite_number G.form) satellites.now) (map (cell_number G.form) cells.now)) }
     {
-        let faults = (G::satellite_fault(satellites), G::cell_fault(cells));
+        let form = G::form();
+        let faults = (form.satellite_fault(satellites), form.cell_fault(cells));
         match msm_fault(&header, &masks, satellites.len(), cells.len(), faults) {
             Some(fault) => Err(fault),
             None => Ok(Msm {
                 system: System::with(is_galileo),
                 header,
                 masks,
-                satellites: pack_satellites::<G>(satellites),
-                cells: pack_cells::<G>(cells),
+                satellites: pack(form, satellites),
+                cells: pack(form, cells),
                 grid: PhantomData,
             }),
         }
@@ -92,12 +98,12 @@ impl<G: Grid> Msm<G> {
         self.system.row().is_galileo
     }
 
-    /// Returns the message number, DF002: 1074 or 1094 in MSM4, 1077 or 1097 in MSM7.
+    /// Returns the message number, DF002: 1074 to 1077 or 1094 to 1097.
     pub fn number(&self) -> u16
-        ensures value { result ≡ G.number_of self.now.is_galileo }
+        ensures value { result ≡ message_number G.form self.now.is_galileo }
         ensures bound { result < 2 ^ 12 }
     {
-        G::number_of(self.is_galileo())
+        self.system.number(G::form())
     }
 
     /// Returns the header fields.
@@ -132,21 +138,23 @@ impl<G: Grid> Msm<G> {
     }
 
     /// Returns the data of satellite `i`, counted from 0 in rising order of the IDs.
-    pub fn satellite(&self, i: usize) -> G::Satellite
+    #[tactic(auto, using(crate::specs::FormLaws::satellite_in_range))]
+    pub fn satellite(&self, i: usize) -> Satellite
         requires { i < length self.now.satellites }
-        ensures value { result ≡ G.satellite_at (slice_index self.now.satellites i) }
-        ensures in_range { G.is_satellite result }
+        ensures value { result ≡ satellite_data G.form (slice_index self.now.satellites i) }
+        ensures in_range { IsSatelliteData G.form result }
     {
-        G::satellite_of(self.satellites[i] as u64)
+        G::form().satellite_of(self.satellites[i] as u64)
     }
 
     /// Returns the data of cell `i`, counted from 0 in the order of the cell mask.
-    pub fn cell(&self, i: usize) -> G::Cell
+    #[tactic(auto, using(crate::specs::FormLaws::cell_in_range))]
+    pub fn cell(&self, i: usize) -> Cell
         requires { i < length self.now.cells }
-        ensures value { result ≡ G.cell_at (slice_index self.now.cells i) }
-        ensures in_range { G.is_cell result }
+        ensures value { result ≡ cell_data G.form (slice_index self.now.cells i) }
+        ensures in_range { IsCellData G.form result }
     {
-        G::cell_of(self.cells[i])
+        G::form().cell_of(self.cells[i])
     }
 }
 
@@ -175,38 +183,36 @@ fn msm_fault(
     field.map(|field| ValueFault::OutOfRange(field))
 }
 
-/// Returns the satellites of a view, the fields of each packed in one number.
-fn satellites_of<G: ReadGrid>(view: &MsmView<'_>) -> ArrayVec<u128, MOST_PAIRS>
-    requires { G.satellite_widths ≡ views.satellite_widths view.now.form }
+/// Returns the satellites of a view, the fields of each in one number.
+fn satellites_of(view: &MsmView<'_>) -> ArrayVec<u128, MOST_PAIRS>
     ensures { result.items ≡ view.now.msm.satellites }
 {
+    let form = view.form();
     let mut satellites = ArrayVec::new();
     for i in 0..view.satellites() {
-        satellites.push(G::satellite_number(&view.satellite::<G>(i)) as u128);
+        satellites.push(form.satellite_number(&view.satellite(form, i)) as u128);
     }
     satellites
 }
 
-/// Returns the cells of a view, the fields of each packed in one number.
-fn cells_of<G: ReadGrid>(view: &MsmView<'_>) -> ArrayVec<u128, MOST_PAIRS>
-    requires { G.cell_widths ≡ views.cell_widths view.now.form }
+/// Returns the cells of a view, the fields of each in one number.
+fn cells_of(view: &MsmView<'_>) -> ArrayVec<u128, MOST_PAIRS>
     ensures { result.items ≡ view.now.msm.cells }
 {
+    let form = view.form();
     let mut cells = ArrayVec::new();
     for i in 0..view.cells() {
-        cells.push(G::cell_number(&view.cell::<G>(i)));
+        cells.push(form.cell_number(&view.cell(form, i)));
     }
     cells
 }
 
 /// Returns a view of the message.
-pub(crate) fn view_of<G: Grid>(msm: &Msm<G>, form: Form) -> MsmView<'_>
-    requires satellites { G.satellite_widths ≡ views.satellite_widths form }
-    requires cells { G.cell_widths ≡ views.cell_widths form }
-    ensures { result ≡ record { form = form; msm = msm.now } }
+pub(crate) fn view_of<G: Grid>(msm: &Msm<G>) -> MsmView<'_>
+    ensures { result ≡ record { form = G.form; msm = msm.now } }
 {
     MsmView {
-        form,
+        form: G::form(),
         system: msm.system,
         header: msm.header,
         masks: msm.masks,
@@ -216,10 +222,9 @@ pub(crate) fn view_of<G: Grid>(msm: &Msm<G>, form: Form) -> MsmView<'_>
     }
 }
 
-/// Returns the message of a view in the precision `G`.
-pub(crate) fn msm_of<G: ReadGrid>(view: &MsmView<'_>) -> Msm<G>
-    requires satellites { G.satellite_widths ≡ views.satellite_widths view.now.form }
-    requires cells { G.cell_widths ≡ views.cell_widths view.now.form }
+/// Returns the message of a view in the form `G`.
+pub(crate) fn msm_of<G: Grid>(view: &MsmView<'_>) -> Msm<G>
+    requires { G.form ≡ view.now.form }
     ensures { result ≡ view.now.msm }
 {
     // Brings the invariant of the view into the proof.
@@ -228,8 +233,8 @@ pub(crate) fn msm_of<G: ReadGrid>(view: &MsmView<'_>) -> Msm<G>
         system: view.system,
         header: view.header(),
         masks: view.masks(),
-        satellites: satellites_of::<G>(view),
-        cells: cells_of::<G>(view),
+        satellites: satellites_of(view),
+        cells: cells_of(view),
         grid: PhantomData,
     }
 }
@@ -237,40 +242,26 @@ pub(crate) fn msm_of<G: ReadGrid>(view: &MsmView<'_>) -> Msm<G>
 /// Writes an MSM with its message number, with reserved bits of zero.
 pub(crate) fn write_msm<G: Grid>(writer: &mut BitWriter, msm: &Msm<G>)
     requires { length writer.old ≡ 0 }
-    ensures value { IsValue G.satellite_widths G.cell_widths msm.now }
+    ensures value { IsValue (satellite_widths G.form) (cell_widths G.form) msm.now }
     ensures bits { writer.new ≡ writer.old
-        ++ msm_bits G.satellite_widths G.cell_widths (G.number_of msm.now.is_galileo) msm.now 0 }
+        ++ msm_bits (satellite_widths G.form) (cell_widths G.form) (message_number G.form msm.now.is_galileo) msm.now 0 }
 {
-    let number = G::number_of(msm.is_galileo());
-    write_head(writer, number, &msm.header, &msm.masks);
-    write_columns(writer, G::satellite_widths(), msm.satellites.as_slice());
-    write_columns(writer, G::cell_widths(), msm.cells.as_slice());
+    let (satellite_widths, cell_widths) = G::form().widths();
+    write_head(writer, msm.number(), &msm.header, &msm.masks);
+    write_columns(writer, satellite_widths, msm.satellites.as_slice());
+    write_columns(writer, cell_widths, msm.cells.as_slice());
 }
 
-/// Packs the fields of each satellite into one number.
-fn pack_satellites<G: Grid>(satellites: &[G::Satellite]) -> ArrayVec<u128, MOST_PAIRS>
-    requires few { length satellites.now ≤ satellite_mask_bits }
-    requires in_range { All G.is_satellite satellites.now }
-    ensures items { result.items ≡ map G.satellite_packed satellites.now }
-    ensures fit { EachBelow (total_width G.satellite_widths) result.items }
+/// Returns the fields of each item in one number.
+fn pack<T: HasFields>(form: Form, items: &[T]) -> ArrayVec<u128, MOST_PAIRS>
+    requires few { length items.now ≤ most_pairs }
+    requires in_range { All (T.fit form) items.now }
+    ensures items { result.items ≡ map (T.number form) items.now }
+    ensures fit { EachBelow (T.width form) result.items }
 {
     let mut packed = ArrayVec::new();
-    for satellite in satellites {
-        packed.push(G::satellite_number(satellite) as u128);
-    }
-    packed
-}
-
-/// Packs the fields of each cell into one number.
-fn pack_cells<G: Grid>(cells: &[G::Cell]) -> ArrayVec<u128, MOST_PAIRS>
-    requires few { length cells.now ≤ most_pairs }
-    requires in_range { All G.is_cell cells.now }
-    ensures items { result.items ≡ map G.cell_packed cells.now }
-    ensures fit { EachBelow (total_width G.cell_widths) result.items }
-{
-    let mut packed = ArrayVec::new();
-    for cell in cells {
-        packed.push(G::cell_number(cell));
+    for item in items {
+        packed.push(item.number(form));
     }
     packed
 }

@@ -1,8 +1,10 @@
 //! The satellite systems of MSMs. gnss_obs, which isn't below this crate, has its own `System`.
-ghost use Rattle.std.specs.Prelude.{◌≡◌};
+ghost use Rattle.std.specs.Prelude.{◌≡◌, ◌<◌, ◌^◌};
+ghost use Rattle.rtcm_msg.specs.declared.view.Form.TheVariants.{Msm4};
 ghost use Rattle.rtcm_msg.specs.Systems.{has_galileo};
-ghost use Rattle.rtcm_msg.specs.Grid4 as grid4;
-ghost use Rattle.rtcm_msg.specs.Grid7 as grid7;
+ghost use Rattle.rtcm_msg.specs.Numbers.{message_number};
+
+use crate::view::Form;
 
 /// A satellite system with MSMs.
 #[derive(Clone, Copy)]
@@ -15,23 +17,9 @@ pub(crate) enum System {
 pub(crate) struct SystemRow {
     /// Whether the system is Galileo.
     pub(crate) is_galileo: bool,
-    /// The message number of MSM4, DF002.
+    /// The message number of MSM4, DF002; those of MSM5, MSM6 and MSM7 follow.
     pub(crate) msm4: u16,
-    /// The message number of MSM7, DF002.
-    pub(crate) msm7: u16,
 }
-
-/// The message number of MSM4 of GPS, DF002.
-pub(crate) const GPS_MSM4: u16 = 1074;
-
-/// The message number of MSM7 of GPS.
-pub(crate) const GPS_MSM7: u16 = 1077;
-
-/// The message number of MSM4 of Galileo.
-pub(crate) const GALILEO_MSM4: u16 = 1094;
-
-/// The message number of MSM7 of Galileo.
-pub(crate) const GALILEO_MSM7: u16 = 1097;
 
 /// The rows of the systems, in the order of `System`.
 // A table: LLVM then knows the flag to be 0 or 1. By a match `convert` executes 1 % more
@@ -39,13 +27,11 @@ pub(crate) const GALILEO_MSM7: u16 = 1097;
 const SYSTEMS: [SystemRow; 2] = [
     SystemRow {
         is_galileo: false,
-        msm4: GPS_MSM4,
-        msm7: GPS_MSM7,
+        msm4: 1074,
     },
     SystemRow {
         is_galileo: true,
-        msm4: GALILEO_MSM4,
-        msm7: GALILEO_MSM7,
+        msm4: 1094,
     },
 ];
 
@@ -64,9 +50,20 @@ impl System {
     /// Returns the row of the system.
     pub(crate) fn row(self) -> &'static SystemRow
         ensures galileo { result.now.is_galileo ≡ has_galileo self }
-        ensures msm4 { result.now.msm4 ≡ grid4.message_number (has_galileo self) }
-        ensures msm7 { result.now.msm7 ≡ grid7.message_number (has_galileo self) }
+        ensures msm4 { result.now.msm4 ≡ message_number Msm4 (has_galileo self) }
     {
         &SYSTEMS[self as usize]
+    }
+
+    /// Returns the message number of a form, DF002.
+    pub(crate) fn number(self, form: Form) -> u16
+        ensures value { result ≡ message_number form (has_galileo self) }
+        ensures bound { result < 2 ^ 12 }
+    {
+        let msm4 = self.row().msm4;
+        match form {
+            Form::Msm4 => msm4,
+            Form::Msm7 => msm4 + 3,
+        }
     }
 }

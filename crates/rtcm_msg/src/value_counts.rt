@@ -3,18 +3,17 @@ ghost use Rattle.std.specs.Prelude.{[], ◌∷◌, ◌≡◌, ◌≢◌, ℕ, �
 ghost use Rattle.std.specs.Prelude.{◌<◌, ◌≤◌, false, length, slice_index};
 ghost use Rattle.std.specs.Prelude.{IfSome, IfNone};
 ghost use Rattle.rtcm_msg.specs.Msm.{satellite_mask_bits, signal_mask_bits, most_pairs};
-ghost use Rattle.rtcm_msg.specs.Entries.{entries, ids};
+ghost use Rattle.rtcm_msg.specs.Entries.{entries, entry_in, ids};
 ghost use Rattle.rtcm_msg.specs.Pairs.{HasFirst};
-ghost use Rattle.rtcm_msg.specs.Viewed.{entry_in, rough};
 ghost use Rattle.rtcm_msg.specs.Views as views;
+ghost use Rattle.rtcm_msg.specs.Forms.{satellite_data};
 ghost use Rattle.rtcm_msg.specs.Presences.{has_rest, has_value, has_fine_range};
 ghost use Rattle.rtcm_msg.specs.declared.pairs.Pair.{Pair};
 ghost use Rattle.rtcm_msg.specs.ValueCounts.{has_listed_value, value_count, has_id};
 ghost use Rattle.rtcm_msg.specs.ValueCounts.{entries_left, AreCells, AreAtMost, AddsCounts};
 
-use crate::grid::{INVALID_RANGE, ReadGrid};
-use crate::grid4::{Grid4, INVALID_RANGE4};
-use crate::grid7::{Grid7, INVALID_RANGE7};
+use crate::fractions::INVALID_RANGE;
+use crate::grid::{Grid, Grid4, Grid7};
 use crate::masks::SIGNAL_MASK_BITS;
 use crate::pairs::{CellsLeft, Pair, split_first, split_signal, with_signals};
 use crate::view::{Form, MsmView};
@@ -26,28 +25,22 @@ const SIGNALS: usize = SIGNAL_MASK_BITS as usize;
 impl<'a> MsmView<'a> {
     /// Returns the whole milliseconds of the rough range of satellite `i`, DF397.
     #[inline(always)]
-    fn read_whole<G: ReadGrid>(&self, i: usize) -> u8
+    fn read_whole<G: Grid>(&self, i: usize) -> u8
         requires form { G.form ≡ self.now.form }
         requires satellite { i < length self.now.msm.satellites }
-        ensures { result ≡ (rough self.now.form (slice_index self.now.msm.satellites i)).whole }
+        ensures { result ≡ (satellite_data self.now.form (slice_index self.now.msm.satellites i)).whole }
     {
-        match G::form() {
-            Form::Msm4 => self.satellite::<Grid4>(i).whole,
-            Form::Msm7 => self.satellite::<Grid7>(i).whole,
-        }
+        self.satellite(G::form(), i).whole
     }
 
     /// Returns whether cell `i` has a valid fine pseudorange.
     #[inline(always)]
-    fn has_fine_range<G: ReadGrid>(&self, i: usize) -> bool
+    fn has_fine_range<G: Grid>(&self, i: usize) -> bool
         requires form { G.form ≡ self.now.form }
         requires cell { i < length self.now.msm.cells }
         ensures { result ≡ has_fine_range self.now.form (slice_index self.now.msm.cells i) }
     {
-        match G::form() {
-            Form::Msm4 => self.cell::<Grid4>(i).range != INVALID_RANGE4,
-            Form::Msm7 => self.cell::<Grid7>(i).range != INVALID_RANGE7,
-        }
+        G::form().has_fine_range(&self.cell(G::form(), i))
     }
 
     /// Returns whether cell `i`, which is of the satellite at `index`, has a value other than a
@@ -66,17 +59,17 @@ impl<'a> MsmView<'a> {
             signal: 1,
             index,
         };
-        let entry = self.entry::<2>(pair, &self.read_rough(index), i);
+        let entry = self.entry(self.form(), pair, &self.read_satellite(index), i);
         entry.phase.is_some() || entry.rate.is_some() || entry.strength.is_some()
     }
 
     /// Returns whether cell `i`, which is of the satellite and the signal of `pair`, has a value.
     /// Most cells have a pseudorange, so that no other field is read.
     #[inline(always)]
-    fn has_value<G: ReadGrid>(&self, pair: Pair, whole: u8, i: usize) -> bool
+    fn has_value<G: Grid>(&self, pair: Pair, whole: u8, i: usize) -> bool
         requires form { G.form ≡ self.now.form }
         requires satellite { pair.index < length self.now.msm.satellites }
-        requires whole { whole ≡ (rough self.now.form (slice_index self.now.msm.satellites pair.index)).whole }
+        requires whole { whole ≡ (satellite_data self.now.form (slice_index self.now.msm.satellites pair.index)).whole }
         requires cell { i < length self.now.msm.cells }
         ensures { result ≡ has_value (entry_in self.now.form self.now.msm (pair, slice_index self.now.msm.cells i)) }
     {
@@ -86,10 +79,10 @@ impl<'a> MsmView<'a> {
     /// Returns whether cell `i`, which is of the satellite and the signal of `pair`, has a value
     /// and its satellite is in a set.
     #[inline(always)]
-    fn has_listed_value<G: ReadGrid>(&self, listed: u64, pair: Pair, whole: u8, i: usize) -> bool
+    fn has_listed_value<G: Grid>(&self, listed: u64, pair: Pair, whole: u8, i: usize) -> bool
         requires form { G.form ≡ self.now.form }
         requires satellite { pair.index < length self.now.msm.satellites }
-        requires whole { whole ≡ (rough self.now.form (slice_index self.now.msm.satellites pair.index)).whole }
+        requires whole { whole ≡ (satellite_data self.now.form (slice_index self.now.msm.satellites pair.index)).whole }
         requires cell { i < length self.now.msm.cells }
         requires id { (1 ≤ pair.satellite) × (pair.satellite ≤ satellite_mask_bits) }
         ensures { result ≡ has_listed_value listed
@@ -100,7 +93,7 @@ impl<'a> MsmView<'a> {
 
     /// Counts the cell of the first pair, if it has one, and returns the cells that are left.
     #[inline(always)]
-    fn count_pair<G: ReadGrid>(
+    fn count_pair<G: Grid>(
         &self,
         listed: u64,
         whole: u8,
@@ -110,7 +103,7 @@ impl<'a> MsmView<'a> {
         requires form { G.form ≡ self.now.form }
         requires cells { AreCells self.now cells }
         requires first { HasFirst cells.pairs }
-        requires whole { whole ≡ (rough self.now.form (slice_index self.now.msm.satellites cells.pairs.index)).whole }
+        requires whole { whole ≡ (satellite_data self.now.form (slice_index self.now.msm.satellites cells.pairs.index)).whole }
         requires small { AreAtMost cells.next counts.old }
         ensures counts { AddsCounts listed counts.old counts.new (entries_left self.now cells)
             (entries_left self.now result) }
@@ -155,7 +148,7 @@ impl<'a> MsmView<'a> {
 
     /// Counts the cells of the first satellite, and returns the cells that are left.
     #[inline(always)]
-    fn count_row<G: ReadGrid>(
+    fn count_row<G: Grid>(
         &self,
         listed: u64,
         mut cells: CellsLeft,
@@ -183,7 +176,7 @@ impl<'a> MsmView<'a> {
 
     /// Returns what `value_counts` does, by the loop that is compiled for the form.
     #[inline(always)]
-    fn count_all<G: ReadGrid>(&self, listed: u64) -> ValueCounts
+    fn count_all<G: Grid>(&self, listed: u64) -> ValueCounts
         requires form { G.form ≡ self.now.form }
         ensures signals { result.left ≡ ids signal_mask_bits self.now.msm.sets.signals }
         ensures counts { (i : ℕ) → i < signal_mask_bits

@@ -6,18 +6,21 @@ ghost use Rattle.rtcm_bits.specs.FrameOf.{longest_message};
 ghost use Rattle.rtcm_msg.specs.Fields.{GivesViewed, cursor_at};
 ghost use Rattle.rtcm_msg.specs.Msm.{codes_of, IsHeader, IsValue, satellite_mask_bits, most_pairs};
 ghost use Rattle.rtcm_msg.specs.Decoding.{message_at, body_at};
-ghost use Rattle.rtcm_msg.specs.Viewed.{viewed_message, entry_in, form_as, lock_field, rough, IsCached};
-ghost use Rattle.rtcm_msg.specs.Entries.{IsEntry, entries};
+ghost use Rattle.rtcm_msg.specs.Viewed.{viewed_message, IsCached};
+ghost use Rattle.rtcm_msg.specs.Forms as forms;
+ghost use Rattle.rtcm_msg.specs.Forms.{lock_field, satellite_data, satellite_number, cell_data, cell_number};
+ghost use Rattle.rtcm_msg.specs.Forms.{IsSatelliteData, IsCellData};
+ghost use Rattle.rtcm_msg.specs.Numbers.{message_number};
+ghost use Rattle.rtcm_msg.specs.Entries.{IsEntry, entries, entry_in};
 ghost use Rattle.rtcm_msg.specs.Encoding.{IsMessage};
 ghost use Rattle.rtcm_msg.specs.Systems.{has_galileo};
 ghost use Rattle.rtcm_msg.specs.Views as views;
 
-use crate::entry::{Entry, LockField, entry_of};
+use crate::data::{Cell, Satellite};
+use crate::entry::{Entry, LockField};
 use crate::fault::MsgFault;
 use crate::field::end_of_fields;
-use crate::grid::{Grid, ReadGrid};
-use crate::grid4::{Grid4, Satellite4};
-use crate::grid7::{Grid7, Satellite7};
+use crate::grid::{Grid, Grid4, Grid7};
 use crate::header::MsmHeader;
 use crate::last_bits::LastBits;
 use crate::masks::{Masks, read_head};
@@ -25,7 +28,7 @@ use crate::message::{Message, read_set};
 use crate::msm::msm_of;
 use crate::pairs::{CellsLeft, Pair, split_cells};
 use crate::station::{Station, view_station};
-use crate::system::{GALILEO_MSM4, GALILEO_MSM7, GPS_MSM4, GPS_MSM7, System};
+use crate::system::System;
 use rtcm_bits::{LONGEST_MESSAGE, number_at};
 use std::marker::Model;
 
@@ -39,9 +42,25 @@ pub enum Form {
 }
 
 impl Form {
+    /// Returns whether the cells have the finer units and the wider fields of MSM6 and MSM7.
+    #[inline(always)]
+    pub fn is_fine(self) -> bool
+        ensures { result ≡ forms.is_fine self }
+    {
+        matches!(self, Form::Msm7)
+    }
+
+    /// Returns whether there are phase range rates, and extended satellite information.
+    #[inline(always)]
+    pub fn has_rates(self) -> bool
+        ensures { result ≡ forms.has_rates self }
+    {
+        matches!(self, Form::Msm7)
+    }
+
     /// Returns the field of the lock time indicators.
     pub fn lock_field(self) -> LockField
-        ensures { result ≡ lock_field self }
+        ensures { result ≡ forms.lock_field self }
     {
         match self {
             Form::Msm4 => LockField::Df402,
@@ -51,13 +70,13 @@ impl Form {
 
     /// Returns the widths in bits of the fields of a satellite and of a cell, in the order of the
     /// layout.
-    fn widths(self) -> (&'static [u32], &'static [u32])
-        ensures satellites { result.0.now ≡ views.satellite_widths self }
-        ensures cells { result.1.now ≡ views.cell_widths self }
+    pub(crate) fn widths(self) -> (&'static [u32], &'static [u32])
+        ensures satellites { result.0.now ≡ forms.satellite_widths self }
+        ensures cells { result.1.now ≡ forms.cell_widths self }
     {
         match self {
-            Form::Msm4 => (Grid4::satellite_widths(), Grid4::cell_widths()),
-            Form::Msm7 => (Grid7::satellite_widths(), Grid7::cell_widths()),
+            Form::Msm4 => (&[8, 10], &[15, 22, 4, 1, 6]),
+            Form::Msm7 => (&[8, 4, 10, 14], &[20, 24, 10, 1, 10, 15]),
         }
     }
 }
@@ -93,7 +112,7 @@ pub struct MsmView<'a> {
 
 impl<'a> Model for MsmView<'a> {
     ghost use Rattle.rtcm_msg.specs.Views.{FormedMsm, AreDataOf, satellite_rows, cell_rows};
-    ghost use Rattle.rtcm_msg.specs.Views.{satellite_widths, cell_widths};
+    ghost use Rattle.rtcm_msg.specs.Forms.{satellite_widths, cell_widths};
     ghost use Rattle.rtcm_msg.specs.Msm.{IsValue};
     ghost use Rattle.rtcm_msg.specs.Systems.{has_galileo};
 
@@ -125,7 +144,7 @@ impl<'a> MsmView<'a> {
     /// Returns the layout and precision.
     pub fn form(&self) -> Form
         ensures form { result ≡ self.now.form }
-        ensures value { IsValue (views.satellite_widths self.now.form) (views.cell_widths self.now.form) self.now.msm }
+        ensures value { IsValue (forms.satellite_widths self.now.form) (forms.cell_widths self.now.form) self.now.msm }
     {
         self.form
     }
@@ -139,13 +158,10 @@ impl<'a> MsmView<'a> {
 
     /// Returns the message number, DF002: 1074, 1077, 1094 or 1097.
     pub fn number(&self) -> u16
-        ensures value { result ≡ views.message_number self.now.form self.now.msm.is_galileo }
+        ensures value { result ≡ message_number self.now.form self.now.msm.is_galileo }
         ensures bound { result < 2 ^ 12 }
     {
-        match self.form {
-            Form::Msm4 => self.system.row().msm4,
-            Form::Msm7 => self.system.row().msm7,
-        }
+        self.system.number(self.form)
     }
 
     /// Returns the header fields.
@@ -181,93 +197,72 @@ impl<'a> MsmView<'a> {
         self.cells
     }
 
-    /// Returns the data of satellite `i`, counted from 0 in rising order of the IDs.
+    /// Returns the data of satellite `i`, counted from 0 in rising order of the IDs. Code that is
+    /// given a constant form is compiled for it.
     #[inline(always)]
-    pub(crate) fn satellite<G: ReadGrid>(&self, i: usize) -> G::Satellite
+    pub(crate) fn satellite(&self, form: Form, i: usize) -> Satellite
         requires there { i < length self.now.msm.satellites }
-        requires widths { G.satellite_widths ≡ views.satellite_widths self.now.form }
-        ensures value { result ≡ G.satellite_at (slice_index self.now.msm.satellites i) }
-        ensures in_range { G.is_satellite result }
-        ensures same { G.satellite_packed result ≡ slice_index self.now.msm.satellites i }
+        requires form { form ≡ self.now.form }
+        ensures value { result ≡ satellite_data form (slice_index self.now.msm.satellites i) }
+        ensures in_range { IsSatelliteData form result }
+        ensures same { satellite_number form result ≡ slice_index self.now.msm.satellites i }
     {
         match &self.rows {
-            Data::Bits(bytes, place, _) => G::satellite_in(bytes, self.satellites, *place, i),
-            Data::Packed(satellites, _) => G::satellite_of(satellites[i] as u64),
+            Data::Bits(bytes, place, _) => form.satellite_in(bytes, self.satellites, *place, i),
+            Data::Packed(satellites, _) => form.satellite_of(satellites[i] as u64),
         }
     }
 
     /// Returns the data of cell `i`, counted from 0 in the order of the cell mask.
     #[inline(always)]
-    pub(crate) fn cell<G: ReadGrid>(&self, i: usize) -> G::Cell
+    pub(crate) fn cell(&self, form: Form, i: usize) -> Cell
         requires there { i < length self.now.msm.cells }
-        requires widths { G.cell_widths ≡ views.cell_widths self.now.form }
-        ensures value { result ≡ G.cell_at (slice_index self.now.msm.cells i) }
-        ensures in_range { G.is_cell result }
-        ensures same { G.cell_packed result ≡ slice_index self.now.msm.cells i }
+        requires form { form ≡ self.now.form }
+        ensures value { result ≡ cell_data form (slice_index self.now.msm.cells i) }
+        ensures in_range { IsCellData form result }
+        ensures same { cell_number form result ≡ slice_index self.now.msm.cells i }
     {
         match &self.rows {
-            Data::Bits(bytes, _, cells) => G::cell_in(bytes, cells, i),
-            Data::Packed(_, cells) => G::cell_of(cells[i]),
+            Data::Bits(bytes, _, cells) => form.cell_in(bytes, cells, i),
+            Data::Packed(_, cells) => form.cell_of(cells[i]),
         }
     }
 
-    /// Returns the data of satellite `i` in the form of MSM7: `cached` if `i` is `index`, otherwise
-    /// read from the message.
+    /// Returns the data of satellite `i`: `cached` if `i` is `index`, otherwise read from the
+    /// message.
     #[inline(always)]
-    fn rough(&self, i: usize, index: usize, cached: Satellite7) -> Satellite7
+    fn satellite_or(&self, i: usize, index: usize, cached: Satellite) -> Satellite
         requires there { i < length self.now.msm.satellites }
         requires cached { IsCached self.now.form self.now.msm.satellites index cached }
-        ensures { result ≡ rough self.now.form (slice_index self.now.msm.satellites i) }
+        ensures { result ≡ satellite_data self.now.form (slice_index self.now.msm.satellites i) }
     {
         if i == index {
             cached
         } else {
-            self.read_rough(i)
+            self.read_satellite(i)
         }
     }
 
-    /// Reads the data of satellite `i` in the form of MSM7. MSM4 has no rate and no extended
-    /// information: both are 0.
+    /// Reads the data of satellite `i`.
     #[inline(never)]
-    pub(crate) fn read_rough(&self, i: usize) -> Satellite7
+    pub(crate) fn read_satellite(&self, i: usize) -> Satellite
         requires { i < length self.now.msm.satellites }
-        ensures { result ≡ rough self.now.form (slice_index self.now.msm.satellites i) }
+        ensures { result ≡ satellite_data self.now.form (slice_index self.now.msm.satellites i) }
     {
-        match self.form() {
-            Form::Msm4 => {
-                let Satellite4 { whole, fraction } = self.satellite::<Grid4>(i);
-                Satellite7 {
-                    whole,
-                    fraction,
-                    ..Satellite7::default()
-                }
-            }
-            Form::Msm7 => self.satellite::<Grid7>(i),
-        }
+        self.satellite(self.form(), i)
     }
 
     /// Returns the entry of cell `i`, which is of the satellite and the signal of `pair`.
     #[inline(always)]
-    pub(crate) fn entry<const F: usize>(
-        &self,
-        pair: Pair,
-        satellite: &Satellite7,
-        i: usize,
-    ) -> Entry
-        requires form { form_as F self.now.form ≡ self.now.form }
-        requires rough { satellite.now ≡ rough self.now.form (slice_index self.now.msm.satellites pair.index) }
+    #[tactic(auto, using(crate::specs::FormLaws::satellite_in_range))]
+    pub(crate) fn entry(&self, form: Form, pair: Pair, satellite: &Satellite, i: usize) -> Entry
+        requires form { form ≡ self.now.form }
+        requires satellite { satellite.now ≡ satellite_data self.now.form (slice_index self.now.msm.satellites pair.index) }
         requires cell { i < length self.now.msm.cells }
         ensures value { result ≡ entry_in self.now.form self.now.msm (pair, slice_index self.now.msm.cells i) }
         ensures bounds { IsEntry (codes_of (lock_field self.now.form)) result }
     {
-        match form_as::<F>(self.form()) {
-            Form::Msm4 => {
-                let (whole, fraction) = (satellite.whole, satellite.fraction);
-                let cell = self.cell::<Grid4>(i);
-                entry_of::<Grid4>(pair, &Satellite4 { whole, fraction }, &cell)
-            }
-            Form::Msm7 => entry_of::<Grid7>(pair, satellite, &self.cell::<Grid7>(i)),
-        }
+        form.entry_of(pair, satellite, &self.cell(form, i))
     }
 
     /// Returns an iterator over the cells, in the order of the cell mask.
@@ -281,22 +276,8 @@ impl<'a> MsmView<'a> {
             view: self,
             cells: CellsLeft::of(&self.masks()),
             index: self.satellites(),
-            cached: Satellite7::default(),
+            cached: Satellite::default(),
         }
-    }
-}
-
-// Returns the form with number `F`, which is known when the program is compiled, or `form`.
-#[inline(always)]
-fn form_as<const F: usize>(form: Form) -> Form
-    ensures { result ≡ form_as F form }
-{
-    if F == 0 {
-        Form::Msm4
-    } else if F == 1 {
-        Form::Msm7
-    } else {
-        form
     }
 }
 
@@ -309,8 +290,8 @@ pub struct Entries<'a> {
     cells: CellsLeft,
     /// The index of the satellite whose data were read last, or the number of satellites.
     index: usize,
-    /// The data of that satellite in the form of MSM7.
-    cached: Satellite7,
+    /// The data of that satellite.
+    cached: Satellite,
 }
 
 impl<'a> Model for Entries<'a> {
@@ -327,21 +308,23 @@ impl<'a> Model for Entries<'a> {
 
 impl<'a> Entries<'a> {
     /// Returns the next cell, or `None` after the last one.
-    #[inline(always)]
     pub fn next(&mut self) -> Option<Entry>
         ensures some { IfSome result (λ e. (self.old.left ≡ e ∷ self.new.left)
             × IsEntry (codes_of (lock_field self.old.form)) e) }
         ensures none { IfNone result ((self.old.left ≡ []) × (self.new.left ≡ [])) }
         ensures same { self.new.form ≡ self.old.form }
     {
-        self.next_in::<2>()
+        match self.view.form() {
+            Form::Msm4 => self.next_in::<Grid4>(),
+            Form::Msm7 => self.next_in::<Grid7>(),
+        }
     }
 
-    /// Returns the next cell of a message of form `F`: 0 for MSM4, 1 for MSM7, 2 for either. A loop
-    /// over the cells is faster if it is compiled for a form.
+    /// Returns the next cell of a message in the form `G`, as `next` does. A loop over the cells is
+    /// faster if it is compiled for a form.
     #[inline(always)]
-    pub fn next_in<const F: usize>(&mut self) -> Option<Entry>
-        requires form { form_as F self.old.form ≡ self.old.form }
+    pub fn next_in<G: Grid>(&mut self) -> Option<Entry>
+        requires form { G.form ≡ self.old.form }
         ensures some { IfSome result (λ e. (self.old.left ≡ e ∷ self.new.left)
             × IsEntry (codes_of (lock_field self.old.form)) e) }
         ensures none { IfNone result ((self.old.left ≡ []) × (self.new.left ≡ [])) }
@@ -354,8 +337,10 @@ impl<'a> Entries<'a> {
         )?;
         // Brings the numbers of satellites and cells into the proof.
         let _ = (self.view.satellites(), self.view.cells());
-        let satellite = self.view.rough(pair.index, self.index, self.cached);
-        let entry = self.view.entry::<F>(pair, &satellite, self.cells.next);
+        let satellite = self.view.satellite_or(pair.index, self.index, self.cached);
+        let entry = self
+            .view
+            .entry(G::form(), pair, &satellite, self.cells.next);
         self.cells.pairs = pairs;
         self.cells.left = left;
         self.cells.next += 1;
@@ -427,10 +412,10 @@ fn view_body(number: u16, bytes: &[u8]) -> Result<View<'_>, MsgFault>
 {
     match number {
         1005 | 1006 => view_station(bytes, number == 1006),
-        GPS_MSM4 => view_msm(bytes, Form::Msm4, System::Gps),
-        GPS_MSM7 => view_msm(bytes, Form::Msm7, System::Gps),
-        GALILEO_MSM4 => view_msm(bytes, Form::Msm4, System::Galileo),
-        GALILEO_MSM7 => view_msm(bytes, Form::Msm7, System::Galileo),
+        1074 => view_msm(bytes, Form::Msm4, System::Gps),
+        1077 => view_msm(bytes, Form::Msm7, System::Gps),
+        1094 => view_msm(bytes, Form::Msm4, System::Galileo),
+        1097 => view_msm(bytes, Form::Msm7, System::Galileo),
         _ => Ok(View::Other {
             number,
             set: read_set(number, bytes),

@@ -8,8 +8,8 @@ mod values;
 use arrayvec::ArrayVec;
 use known::{Known, bytes_of};
 use rtcm_msg::{
-    Cell7, Entry, Form, Grid7, Message, MsgFault, Msm, MsmHeader, MsmView, Satellite7,
-    StationParts, View, decode, encode, look,
+    Cell, Entry, Form, Grid7, Message, MsgFault, Msm, MsmHeader, MsmView, Satellite, StationParts,
+    View, decode, encode, look,
 };
 use std::test::*;
 
@@ -43,14 +43,14 @@ pub const HEADER: MsmHeader = MsmHeader {
 
 static HEAD: MsmHeader = HEADER;
 
-pub const SATELLITE: Satellite7 = Satellite7 {
+pub const SATELLITE: Satellite = Satellite {
     whole: 70,
     extended: 0,
     fraction: 0,
     rate: 100,
 };
 
-pub const CELL: Cell7 = Cell7 {
+pub const CELL: Cell = Cell {
     range: 0,
     phase: 0,
     lock: 0,

@@ -1,6 +1,7 @@
 //! The messages of the tests of a gatherer.
 use rtcm_msg::{
-    Cell4, Cell7, Masks, Message, Msm, MsmHeader, Satellite4, Satellite7, Station, StationParts,
+    Cell, INVALID_FINE_RATE, INVALID_ROUGH_RATE, Masks, Message, Msm, MsmHeader, Satellite,
+    Station, StationParts,
 };
 
 /// A message of station 7, with its time in milliseconds of the week and its multiple message bit.
@@ -11,7 +12,7 @@ pub enum Heard {
     /// The same of a Galileo satellite.
     Galileo(u32, bool, u16),
     /// The short form of GPS 5, with or without a phase, and the lock time indicator.
-    Short(u32, bool, bool, u8),
+    Short(u32, bool, bool, u16),
     /// The long form of several GPS satellites and signals, by their masks, at 1,000.
     Wide(bool, u64, u32),
     /// The long form of all listed satellites of GPS or of Galileo, with the signals of a mask, a
@@ -78,7 +79,7 @@ fn long(is_galileo: bool, header: MsmHeader, satellites: u64, signals: u32, lock
         return nothing();
     };
     let satellites = SATELLITES.get(..count).unwrap_or(&[]);
-    let data = [Cell7 {
+    let data = [Cell {
         range: 0,
         phase: 0,
         lock,
@@ -92,7 +93,7 @@ fn long(is_galileo: bool, header: MsmHeader, satellites: u64, signals: u32, lock
     }
 }
 
-static SATELLITES: [Satellite7; 36] = [Satellite7 {
+static SATELLITES: [Satellite; 36] = [Satellite {
     whole: 70,
     extended: 0,
     fraction: 0,
@@ -100,13 +101,14 @@ static SATELLITES: [Satellite7; 36] = [Satellite7 {
 }; 36];
 
 /// A message of the short form: GPS 5 with the signal 1C.
-fn short(header: MsmHeader, has_phase: bool, lock: u8) -> Message {
-    let cell = Cell4 {
+fn short(header: MsmHeader, has_phase: bool, lock: u16) -> Message {
+    let cell = Cell {
         range: 0,
         phase: if has_phase { 0 } else { -2_097_152 },
         lock,
         half_cycle: false,
         strength: 45,
+        rate: INVALID_FINE_RATE,
     };
     let Ok(masks) = Masks::new(1 << 59, 1 << 30, 1) else {
         return nothing();
@@ -117,9 +119,11 @@ fn short(header: MsmHeader, has_phase: bool, lock: u8) -> Message {
     }
 }
 
-static COARSE: [Satellite4; 1] = [Satellite4 {
+static COARSE: [Satellite; 1] = [Satellite {
     whole: 70,
+    extended: 0,
     fraction: 0,
+    rate: INVALID_ROUGH_RATE,
 }];
 
 static PARTS: StationParts = StationParts {

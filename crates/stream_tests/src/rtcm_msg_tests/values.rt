@@ -3,8 +3,8 @@ use super::known::{Known, bytes_of};
 use super::{CELL, HEADER, SATELLITE, STATION_PARTS, is_written_back};
 use arrayvec::ArrayVec;
 use rtcm_msg::{
-    Cell4, Cell7, Field, Grid, Grid4, Grid7, Masks, Message, Msm, MsmHeader, Satellite4,
-    Satellite7, Station, StationParts, ValueFault, View, encode, look,
+    Cell, Field, Grid, Grid4, Grid7, INVALID_FINE_RATE, INVALID_ROUGH_RATE, Masks, Message, Msm,
+    MsmHeader, Satellite, Station, StationParts, ValueFault, View, encode, look,
 };
 use std::test::*;
 
@@ -62,11 +62,7 @@ fn masks_are_judged(rt: HostRuntime) {
 }
 
 /// The fault of these parts of a message whose masks have one satellite and one cell.
-fn msm_fault<G: Grid>(
-    time: u32,
-    satellites: &[G::Satellite],
-    cells: &[G::Cell],
-) -> Option<ValueFault> {
+fn msm_fault<G: Grid>(time: u32, satellites: &[Satellite], cells: &[Cell]) -> Option<ValueFault> {
     let header = MsmHeader { time, ..HEADER };
     // satellite 5 and signal 2
     match Masks::new(1 << 59, 1 << 30, 1) {
@@ -75,7 +71,7 @@ fn msm_fault<G: Grid>(
     }
 }
 
-static WIDE: Cell7 = Cell7 {
+static WIDE: Cell = Cell {
     range: 0,
     phase: 1 << 23,
     lock: 0,
@@ -84,27 +80,39 @@ static WIDE: Cell7 = Cell7 {
     rate: 0,
 };
 
-static COARSE_SATELLITE: Satellite4 = Satellite4 {
+/// Data of MSM4: the satellite and the cell of the coarse message.
+const COARSE_SATELLITE: Satellite = Satellite {
     whole: 70,
-    fraction: 1024,
+    extended: 0,
+    fraction: 1023,
+    rate: INVALID_ROUGH_RATE,
 };
 
-static COARSE_CELL: Cell4 = Cell4 {
+const COARSE_CELL: Cell = Cell {
     range: -1,
     phase: 1,
-    lock: 16,
+    lock: 15,
     half_cycle: true,
     strength: 45,
+    rate: INVALID_FINE_RATE,
 };
 
 /// Whether the fault is this one, of a message of a fine grid with the data of one satellite.
-fn has_fault(time: u32, cells: &[Cell7], fault: ValueFault) -> bool {
+fn has_fault(time: u32, cells: &[Cell], fault: ValueFault) -> bool {
     msm_fault::<Grid7>(time, &[SATELLITE], cells) == Some(fault)
 }
 
 #[test]
 fn parts_are_judged(rt: HostRuntime) {
-    let coarse = msm_fault::<Grid4>(1000, &[COARSE_SATELLITE], &[COARSE_CELL]);
+    let far = Satellite {
+        fraction: 1024,
+        ..COARSE_SATELLITE
+    };
+    let long = Cell {
+        lock: 16,
+        ..COARSE_CELL
+    };
+    let coarse = msm_fault::<Grid4>(1000, &[far], &[long]);
     assert!(rt;
         has_fault(604_800_000, &[], ValueFault::BadTime)
             && has_fault(1000, &[], ValueFault::CellCount)
@@ -113,11 +121,81 @@ fn parts_are_judged(rt: HostRuntime) {
     );
 }
 
+/// Whether MSM4 refuses a satellite or a cell with a field that only MSM7 has, or that is wider
+/// there, and accepts it without.
+#[test]
+fn msm4_has_no_field_of_msm7(rt: HostRuntime) {
+    let cells: [(Cell, Field); 5] = [
+        (
+            Cell {
+                range: 1 << 14,
+                ..COARSE_CELL
+            },
+            Field::FineRange,
+        ),
+        (
+            Cell {
+                phase: 1 << 21,
+                ..COARSE_CELL
+            },
+            Field::FinePhase,
+        ),
+        (
+            Cell {
+                lock: 16,
+                ..COARSE_CELL
+            },
+            Field::Lock,
+        ),
+        (
+            Cell {
+                strength: 64,
+                ..COARSE_CELL
+            },
+            Field::Strength,
+        ),
+        (
+            Cell {
+                rate: 0,
+                ..COARSE_CELL
+            },
+            Field::FineRate,
+        ),
+    ];
+    for (cell, field) in &cells {
+        let fault = msm_fault::<Grid4>(1000, &[COARSE_SATELLITE], &[*cell]);
+        assert!(rt; fault == Some(ValueFault::OutOfRange(*field)));
+        assert!(rt; msm_fault::<Grid7>(1000, &[SATELLITE], &[*cell]) == None);
+    }
+    let satellites: [(Satellite, Field); 2] = [
+        (
+            Satellite {
+                extended: 1,
+                ..COARSE_SATELLITE
+            },
+            Field::Extended,
+        ),
+        (
+            Satellite {
+                rate: 0,
+                ..COARSE_SATELLITE
+            },
+            Field::RoughRate,
+        ),
+    ];
+    for (satellite, field) in &satellites {
+        let fault = msm_fault::<Grid4>(1000, &[*satellite], &[COARSE_CELL]);
+        assert!(rt; fault == Some(ValueFault::OutOfRange(*field)));
+        assert!(rt; msm_fault::<Grid7>(1000, &[*satellite], &[CELL]) == None);
+    }
+    assert!(rt; msm_fault::<Grid4>(1000, &[COARSE_SATELLITE], &[COARSE_CELL]) == None);
+}
+
 /// Writes the message 1077 of these masks and data.
 fn write(
     masks: (u64, u32, u64),
-    satellites: &[Satellite7],
-    cells: &[Cell7],
+    satellites: &[Satellite],
+    cells: &[Cell],
     bytes: &mut ArrayVec<u8, 1023>,
 ) {
     if let Ok(masks) = Masks::new(masks.0, masks.1, masks.2) {
@@ -127,9 +205,9 @@ fn write(
     }
 }
 
-static SATELLITES: [Satellite7; 64] = [SATELLITE; 64];
+static SATELLITES: [Satellite; 64] = [SATELLITE; 64];
 
-static CELL_DATA: [Cell7; 64] = [CELL; 64];
+static CELL_DATA: [Cell; 64] = [CELL; 64];
 
 /// Whether the message of 64 satellites with one signal has its size, and is written back.
 fn is_largest() -> bool {

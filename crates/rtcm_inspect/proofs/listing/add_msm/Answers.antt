@@ -1,4 +1,4 @@
-use Rattle.rtcm_msg.specs.Views.{message_number as number_of}
+use Rattle.rtcm_msg.specs.Numbers.{message_number as number_of}
 use Rattle.rtcm_inspect.proofs.LineLemmas.{add_word, end_line}
 use Rattle.rtcm_inspect.proofs.Names.{◌∙◌, [], ◌∷◌, ap, decimal, count_ones, bit, MsmHeader, MasksValue, msm_line}
 use Rattle.rtcm_inspect.proofs.listing.add_msm.Goals as goal

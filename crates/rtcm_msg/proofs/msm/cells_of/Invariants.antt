@@ -2,4 +2,4 @@ use Rattle.std.proofs.Common.{◌≡◌, take}
 use Rattle.rtcm_msg.proofs.msm.cells_of.Given as goal
 
 abbrev pub invariant-loop-i : goal.invariant-loop-i
-invariant-loop-i g l = l.cells.items ≡ take l.i l.view.msm.cells
+invariant-loop-i l = l.cells.items ≡ take l.i l.view.msm.cells

@@ -10,7 +10,7 @@ appended old d e a b x y z =
 
 pub returns-clause-bits : goal.returns-clause-bits
 returns-clause-bits g c =
-    let h = rw (c.number_of-number.ensures.value, c.is_galileo.ensures, ← c.msm.view_is) at c.write_head.ensures.bits in
-    let s = rw (c.satellite_widths.ensures, c.as_slice.ensures.value) at c.write_columns.ensures.bits in
-    let t = rw (c.cell_widths.ensures, c.as_slice-2.ensures.value) at c.write_columns-2.ensures.bits in
+    let h = rw (c.number.ensures.value, ← c.msm.view_is) at c.write_head.ensures.bits in
+    let s = rw (c.widths.ensures.satellites, c.form.ensures, c.as_slice.ensures.value) at c.write_columns.ensures.bits in
+    let t = rw (c.widths.ensures.cells, c.form.ensures, c.as_slice-2.ensures.value) at c.write_columns-2.ensures.bits in
     rw (← c.msm.view_is) (appended c.args.writer.now _ _ _ _ h s t)

@@ -1,11 +1,12 @@
 use Rattle.std.proofs.Common.{◌≡◌, ◌+◌, ◌≤◌, false, length}
-use Rattle.obs_epoch.specs.Names.{cells_counted, no_counts, load_entries}
+use Rattle.obs_epoch.specs.Names.{cells_counted, no_counts, load_entries, lock_field}
 use Rattle.obs_epoch.proofs.gather.Gatherer.take_all.Given as goal
 
 abbrev pub invariant-loop-entry : goal.invariant-loop-entry
 invariant-loop-entry g l = record {
-  same : load_entries l.field l.system (record { state = l.self; counts = l.counts }) l.cells.left
-      ≡ load_entries l.field l.system (record { state = l.fn.self; counts = no_counts }) l.fn.cells.left;
+  field : l.field ≡ lock_field l.fn.cells.form;
+  same : load_entries (lock_field l.fn.cells.form) l.system (record { state = l.self; counts = l.counts }) l.cells.left
+      ≡ load_entries (lock_field l.fn.cells.form) l.system (record { state = l.fn.self; counts = no_counts }) l.fn.cells.left;
   rested : l.self.just_closed ≡ false;
   form : l.cells.form ≡ l.fn.cells.form;
   counted : cells_counted l.counts + length l.cells.left ≤ 64;

@@ -2,7 +2,7 @@
 use Rattle.std.proofs.Common.{ℕ, ◌≡◌, ◌+◌, ◌<◌, ◌≤◌, List, ◌∷◌, ◌∙◌, length, map, drop, slice_index, count_ones, refl, sym, ap, subst, arith}
 use Rattle.std.proofs.lemmas.List.{drop_more}
 use Rattle.std.specs.List.{zip}
-use Rattle.rtcm_msg.specs.Names.{Entry, Pair, MasksValue, codes_of, IsEntry, Unread, entry_in, form_as, lock_field}
+use Rattle.rtcm_msg.specs.Names.{Entry, Pair, MasksValue, codes_of, IsEntry, Unread, entry_in, lock_field}
 use Rattle.rtcm_msg.proofs.NextLaws.{index_below, one_less}
 use Rattle.rtcm_msg.proofs.view.Entries.next_in.Goals as goal
 
@@ -19,8 +19,7 @@ pub entry-entry-requires : goal.entry-entry-requires
 entry-entry-requires g c =
     let v = c.self.inside.view.now in
     let split = rw (c.cells.ensures.value ∙ ap (λ (s : MasksValue). s.cells) c.masks.ensures) at c.in_ok-pair.ensures.some.0 in
-    let form = subst (λ (u : Unread). form_as g.row.F u.form ≡ u.form) (sym c.self.view_is) c.requires.form in
-    record { form = form; rough = c.rough-satellite.ensures; cell = one_there c.self.inside.cells.next split c.self.invariant.0.next }
+    record { form = c.form.ensures ∙ (c.requires.form ∙ sym (ap (λ (u : Unread). u.form) c.self.view_is)); satellite = c.satellite_or-satellite.ensures; cell = one_there c.self.inside.cells.next split c.self.invariant.0.next }
 
 pub overflow_add-self : goal.overflow_add-self
 overflow_add-self g c =
@@ -29,8 +28,8 @@ overflow_add-self g c =
     let there = one_there c.self.inside.cells.next split c.self.invariant.0.next in
     record { fits = next_fits c.self.inside.cells.next (length v.msm.cells) c.cells-2.result there c.cells-2.ensures.count c.cells-2.ensures.few }
 
-pub rough-satellite-requires : goal.rough-satellite-requires
-rough-satellite-requires g c =
+pub satellite_or-satellite-requires : goal.satellite_or-satellite-requires
+satellite_or-satellite-requires g c =
     record { there = index_below c.in_ok-pair.pair.index _ _ _ (c.in_ok-pair.ensures.indices (count_ones c.self.inside.view.now.msm.sets.satellites) c.self.invariant.0.left.3).0 c.satellites.ensures.count c.satellites.ensures.set; cached = c.self.invariant.1 }
 
 pub invariant_of-self : goal.invariant_of-self
@@ -41,7 +40,7 @@ invariant_of-self g c =
         left = (some.1, some.2, some.3, (c.in_ok-pair.ensures.indices (count_ones sets.satellites) c.self.invariant.0.left.3).1);
         next = one_less c.self.inside.cells.next (rw (c.cells.ensures.value ∙ ap (λ (s : MasksValue). s.cells) c.masks.ensures) at some.0) c.self.invariant.0.next;
       },
-      λ h. c.rough-satellite.ensures,
+      λ h. c.satellite_or-satellite.ensures,
     )
 
 -- The entries that are left begin with the one of the first pair and the first cell.

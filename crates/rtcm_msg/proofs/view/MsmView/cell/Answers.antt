@@ -1,33 +1,35 @@
 use Rattle.std.proofs.Common.{ℕ, ◌≡◌, ◌∙◌, ap, sym, subst, slice_index}
 use Rattle.rtcm_msg.specs.Names.{bits_of, row_at, Data, FormedMsm, AreDataOf, cell_widths, cell_rows}
+use Rattle.rtcm_msg.specs.Forms.{cell_data, cell_number, IsCellData}
+use Rattle.rtcm_msg.specs.FormLaws.{cell_in_range, cell_same}
 use Rattle.rtcm_msg.proofs.ViewLaws.{row_value, below, fits, cells_counted}
 use Rattle.rtcm_msg.proofs.view.MsmView.cell.Goals as goal
 
 pub cell_in-requires-clause-there : goal.cell_in-requires-clause-there
-cell_in-requires-clause-there g c =
+cell_in-requires-clause-there c =
     let there = subst (AreDataOf c.self.inside.form c.self.inside.satellites c.self.inside.cells) c.in-Bits.is c.self.invariant.1 in
     rw there.there.cell_count (below c.args.i c.self.inside.cells _ _ (cells_counted c.self.inside.form c.self.inside.satellites c.self.inside.cells c.self.inside.rows c.self.invariant.1) (ap (λ (v : FormedMsm). v.msm.cells) c.self.view_is) c.requires.there)
 
 pub returns-in-Bits : goal.returns-in-Bits
-returns-in-Bits g c =
+returns-in-Bits c =
     let there = subst (AreDataOf c.self.inside.form c.self.inside.satellites c.self.inside.cells) c.in-Bits.is c.self.invariant.1 in
     let h = below c.args.i c.self.inside.cells _ _ (cells_counted c.self.inside.form c.self.inside.satellites c.self.inside.cells c.self.inside.rows c.self.invariant.1) (ap (λ (v : FormedMsm). v.msm.cells) c.self.view_is) c.requires.there in
-    let widths = c.requires.widths ∙ sym (ap (λ (v : FormedMsm). cell_widths v.form) c.self.view_is) in
-    let small = fits _ (slice_index c.args.self.now.msm.cells c.args.i) g.G.Grid.cell_widths (cell_widths c.self.inside.form) (ap (λ (v : FormedMsm). slice_index v.msm.cells c.args.i) c.self.view_is) widths (c.self.invariant.0.cells c.args.i) in
-    let value : c.cell_in.result ≡ g.G.Grid.cell_at (slice_index c.args.self.now.msm.cells c.args.i) =
+    let widths : cell_widths c.args.form ≡ cell_widths c.self.inside.form = ap cell_widths (c.requires.form ∙ sym (ap (λ (v : FormedMsm). v.form) c.self.view_is)) in
+    let small = fits _ (slice_index c.args.self.now.msm.cells c.args.i) (cell_widths c.args.form) (cell_widths c.self.inside.form) (ap (λ (v : FormedMsm). slice_index v.msm.cells c.args.i) c.self.view_is) widths (c.self.invariant.0.cells c.args.i) in
+    let value : c.cell_in.result ≡ (cell_data c.args.form) (slice_index c.args.self.now.msm.cells c.args.i) =
     c.cell_in.ensures
-    ∙ ap (λ (n : ℕ). g.G.Grid.cell_at (row_at g.G.Grid.cell_widths n (bits_of c.in-Bits.bytes.now) c.in-Bits.cells.place c.args.i 0)) there.there.cell_count
-    ∙ ap g.G.Grid.cell_at (row_value c.in-Bits.bytes.now c.self.inside.cells c.in-Bits.cells.place c.args.i widths there.there.cells_there h ∙ (ap (λ (d : Data). slice_index (cell_rows c.self.inside.form c.self.inside.cells d) c.args.i) (sym c.in-Bits.is) ∙ ap (λ (v : FormedMsm). slice_index v.msm.cells c.args.i) c.self.view_is)) in
-    record { value = value; in_range = subst g.G.Grid.is_cell (sym value) (g.met.G.Grid.cell_in_range _ small); same = ap g.G.Grid.cell_packed value ∙ g.met.G.Grid.cell_same _ small }
+    ∙ ap (λ (n : ℕ). (cell_data c.args.form) (row_at (cell_widths c.args.form) n (bits_of c.in-Bits.bytes.now) c.in-Bits.cells.place c.args.i 0)) there.there.cell_count
+    ∙ ap (cell_data c.args.form) (row_value c.in-Bits.bytes.now c.self.inside.cells c.in-Bits.cells.place c.args.i widths there.there.cells_there h ∙ (ap (λ (d : Data). slice_index (cell_rows c.self.inside.form c.self.inside.cells d) c.args.i) (sym c.in-Bits.is) ∙ ap (λ (v : FormedMsm). slice_index v.msm.cells c.args.i) c.self.view_is)) in
+    record { value = value; in_range = subst (IsCellData c.args.form) (sym value) (cell_in_range c.args.form _); same = ap (cell_number c.args.form) value ∙ cell_same c.args.form _ small }
 
 pub cell_of-requires : goal.cell_of-requires
-cell_of-requires g c =
-    let widths = c.requires.widths ∙ sym (ap (λ (v : FormedMsm). cell_widths v.form) c.self.view_is) in
-    rw (ap (λ (d : Data). slice_index (cell_rows c.self.inside.form c.self.inside.cells d) c.args.i) (sym c.in-Packed.is) ∙ ap (λ (v : FormedMsm). slice_index v.msm.cells c.args.i) c.self.view_is) (fits _ (slice_index c.args.self.now.msm.cells c.args.i) g.G.Grid.cell_widths (cell_widths c.self.inside.form) (ap (λ (v : FormedMsm). slice_index v.msm.cells c.args.i) c.self.view_is) widths (c.self.invariant.0.cells c.args.i))
+cell_of-requires c =
+    let widths : cell_widths c.args.form ≡ cell_widths c.self.inside.form = ap cell_widths (c.requires.form ∙ sym (ap (λ (v : FormedMsm). v.form) c.self.view_is)) in
+    rw (ap (λ (d : Data). slice_index (cell_rows c.self.inside.form c.self.inside.cells d) c.args.i) (sym c.in-Packed.is) ∙ ap (λ (v : FormedMsm). slice_index v.msm.cells c.args.i) c.self.view_is) (fits _ (slice_index c.args.self.now.msm.cells c.args.i) (cell_widths c.args.form) (cell_widths c.self.inside.form) (ap (λ (v : FormedMsm). slice_index v.msm.cells c.args.i) c.self.view_is) widths (c.self.invariant.0.cells c.args.i))
 
 pub returns-in-Packed : goal.returns-in-Packed
-returns-in-Packed g c =
-    let widths = c.requires.widths ∙ sym (ap (λ (v : FormedMsm). cell_widths v.form) c.self.view_is) in
-    let small = fits _ (slice_index c.args.self.now.msm.cells c.args.i) g.G.Grid.cell_widths (cell_widths c.self.inside.form) (ap (λ (v : FormedMsm). slice_index v.msm.cells c.args.i) c.self.view_is) widths (c.self.invariant.0.cells c.args.i) in
-    let value : c.cell_of.result ≡ g.G.Grid.cell_at (slice_index c.args.self.now.msm.cells c.args.i) = c.cell_of.ensures ∙ ap g.G.Grid.cell_at (ap (λ (d : Data). slice_index (cell_rows c.self.inside.form c.self.inside.cells d) c.args.i) (sym c.in-Packed.is) ∙ ap (λ (v : FormedMsm). slice_index v.msm.cells c.args.i) c.self.view_is) in
-    record { value = value; in_range = subst g.G.Grid.is_cell (sym value) (g.met.G.Grid.cell_in_range _ small); same = ap g.G.Grid.cell_packed value ∙ g.met.G.Grid.cell_same _ small }
+returns-in-Packed c =
+    let widths : cell_widths c.args.form ≡ cell_widths c.self.inside.form = ap cell_widths (c.requires.form ∙ sym (ap (λ (v : FormedMsm). v.form) c.self.view_is)) in
+    let small = fits _ (slice_index c.args.self.now.msm.cells c.args.i) (cell_widths c.args.form) (cell_widths c.self.inside.form) (ap (λ (v : FormedMsm). slice_index v.msm.cells c.args.i) c.self.view_is) widths (c.self.invariant.0.cells c.args.i) in
+    let value : c.cell_of.result ≡ (cell_data c.args.form) (slice_index c.args.self.now.msm.cells c.args.i) = c.cell_of.ensures ∙ ap (cell_data c.args.form) (ap (λ (d : Data). slice_index (cell_rows c.self.inside.form c.self.inside.cells d) c.args.i) (sym c.in-Packed.is) ∙ ap (λ (v : FormedMsm). slice_index v.msm.cells c.args.i) c.self.view_is) in
+    record { value = value; in_range = subst (IsCellData c.args.form) (sym value) (cell_in_range c.args.form _); same = ap (cell_number c.args.form) value ∙ cell_same c.args.form _ small }

@@ -1,7 +1,7 @@
-use Rattle.std.proofs.Common.{◌∙◌, ap, sym, arith}
+use Rattle.std.proofs.Common.{◌∙◌, ap, sym, refl, arith}
 use Rattle.std.specs.Prelude.{slice_index}
 use Rattle.rtcm_msg.specs.Names.{MasksValue, entry_in}
-use Rattle.rtcm_msg.proofs.ValueLaws.{cell_there, cell_none, next_there, after_cell, after_none, entries_first, entries_same, entry_signal, counted, not_counted}
+use Rattle.rtcm_msg.proofs.ValueLaws.{cell_there, cell_none, next_there, after_cell, after_none, entries_first, entries_same, counted, not_counted}
 use Rattle.rtcm_msg.proofs.view.MsmView.count_pair.Goals as goal
 use Rattle.rtcm_msg.proofs.view.MsmView.count_pair.Goals.{then-has_listed_value, else-has_listed_value}
 
@@ -28,7 +28,7 @@ returns-after-has_listed_value-clause-counts g c = λ i h.
     let first = entries_first (entry_in v.form v.msm) _ _ x v.msm.cells c.args.cells.next there (next_there c.args.cells.next _ _ _ _ there c.requires.cells.next) in
     elim c.if-has_listed_value.branch [
       | then-has_listed_value w ↦
-          rw w.counts-is (counted c.args.listed i c.args.counts.now first (entry_signal v.form v.msm x _) c.split_signal.ensures.signal.0 (omega (arith, c.split_signal.ensures.signal.1, c.told-counts)) (sym c.has_listed_value.ensures ∙ w.if-has_listed_value.true))
+          rw w.counts-is (counted c.args.listed i c.args.counts.now first refl c.split_signal.ensures.signal.0 (omega (arith, c.split_signal.ensures.signal.1, c.told-counts)) (sym c.has_listed_value.ensures ∙ w.if-has_listed_value.true))
       | else-has_listed_value w ↦ rw w.counts-is (not_counted c.args.listed i c.args.counts.now _ _ _ first (sym c.has_listed_value.ensures ∙ w.if-has_listed_value.false))
     ]
 

@@ -1,30 +1,32 @@
 use Rattle.std.proofs.Common.{◌≡◌, ◌∙◌, ap, sym, subst, slice_index}
 use Rattle.rtcm_msg.specs.Names.{Data, FormedMsm, AreDataOf, satellite_widths, satellite_rows}
+use Rattle.rtcm_msg.specs.Forms.{satellite_data, satellite_number, IsSatelliteData}
+use Rattle.rtcm_msg.specs.FormLaws.{satellite_in_range, satellite_same}
 use Rattle.rtcm_msg.proofs.ViewLaws.{row_value, below, fits, satellites_counted}
 use Rattle.rtcm_msg.proofs.view.MsmView.satellite.Goals as goal
 
 pub satellite_in-requires-clause-there : goal.satellite_in-requires-clause-there
-satellite_in-requires-clause-there g c = below c.args.i c.self.inside.satellites _ _ (satellites_counted c.self.inside.form c.self.inside.satellites c.self.inside.cells c.self.inside.rows c.self.invariant.1) (ap (λ (v : FormedMsm). v.msm.satellites) c.self.view_is) c.requires.there
+satellite_in-requires-clause-there c = below c.args.i c.self.inside.satellites _ _ (satellites_counted c.self.inside.form c.self.inside.satellites c.self.inside.cells c.self.inside.rows c.self.invariant.1) (ap (λ (v : FormedMsm). v.msm.satellites) c.self.view_is) c.requires.there
 
 pub returns-in-Bits : goal.returns-in-Bits
-returns-in-Bits g c =
+returns-in-Bits c =
     let there = subst (AreDataOf c.self.inside.form c.self.inside.satellites c.self.inside.cells) c.in-Bits.is c.self.invariant.1 in
     let h = below c.args.i c.self.inside.satellites _ _ (satellites_counted c.self.inside.form c.self.inside.satellites c.self.inside.cells c.self.inside.rows c.self.invariant.1) (ap (λ (v : FormedMsm). v.msm.satellites) c.self.view_is) c.requires.there in
-    let widths = c.requires.widths ∙ sym (ap (λ (v : FormedMsm). satellite_widths v.form) c.self.view_is) in
-    let small = fits _ (slice_index c.args.self.now.msm.satellites c.args.i) g.G.Grid.satellite_widths (satellite_widths c.self.inside.form) (ap (λ (v : FormedMsm). slice_index v.msm.satellites c.args.i) c.self.view_is) widths (c.self.invariant.0.satellites c.args.i) in
-    let value : c.satellite_in.result ≡ g.G.Grid.satellite_at (slice_index c.args.self.now.msm.satellites c.args.i) =
+    let widths : satellite_widths c.args.form ≡ satellite_widths c.self.inside.form = ap satellite_widths (c.requires.form ∙ sym (ap (λ (v : FormedMsm). v.form) c.self.view_is)) in
+    let small = fits _ (slice_index c.args.self.now.msm.satellites c.args.i) (satellite_widths c.args.form) (satellite_widths c.self.inside.form) (ap (λ (v : FormedMsm). slice_index v.msm.satellites c.args.i) c.self.view_is) widths (c.self.invariant.0.satellites c.args.i) in
+    let value : c.satellite_in.result ≡ (satellite_data c.args.form) (slice_index c.args.self.now.msm.satellites c.args.i) =
     c.satellite_in.ensures
-    ∙ ap g.G.Grid.satellite_at (row_value c.in-Bits.bytes.now c.self.inside.satellites c.in-Bits.place c.args.i widths there.there.satellites_there h ∙ (ap (λ (d : Data). slice_index (satellite_rows c.self.inside.form c.self.inside.satellites d) c.args.i) (sym c.in-Bits.is) ∙ ap (λ (v : FormedMsm). slice_index v.msm.satellites c.args.i) c.self.view_is)) in
-    record { value = value; in_range = subst g.G.Grid.is_satellite (sym value) (g.met.G.Grid.satellite_in_range _ small); same = ap g.G.Grid.satellite_packed value ∙ g.met.G.Grid.satellite_same _ small }
+    ∙ ap (satellite_data c.args.form) (row_value c.in-Bits.bytes.now c.self.inside.satellites c.in-Bits.place c.args.i widths there.there.satellites_there h ∙ (ap (λ (d : Data). slice_index (satellite_rows c.self.inside.form c.self.inside.satellites d) c.args.i) (sym c.in-Bits.is) ∙ ap (λ (v : FormedMsm). slice_index v.msm.satellites c.args.i) c.self.view_is)) in
+    record { value = value; in_range = subst (IsSatelliteData c.args.form) (sym value) (satellite_in_range c.args.form _); same = ap (satellite_number c.args.form) value ∙ satellite_same c.args.form _ small }
 
 pub satellite_of-requires : goal.satellite_of-requires
-satellite_of-requires g c =
-    let widths = c.requires.widths ∙ sym (ap (λ (v : FormedMsm). satellite_widths v.form) c.self.view_is) in
-    rw (ap (λ (d : Data). slice_index (satellite_rows c.self.inside.form c.self.inside.satellites d) c.args.i) (sym c.in-Packed.is) ∙ ap (λ (v : FormedMsm). slice_index v.msm.satellites c.args.i) c.self.view_is) (fits _ (slice_index c.args.self.now.msm.satellites c.args.i) g.G.Grid.satellite_widths (satellite_widths c.self.inside.form) (ap (λ (v : FormedMsm). slice_index v.msm.satellites c.args.i) c.self.view_is) widths (c.self.invariant.0.satellites c.args.i))
+satellite_of-requires c =
+    let widths : satellite_widths c.args.form ≡ satellite_widths c.self.inside.form = ap satellite_widths (c.requires.form ∙ sym (ap (λ (v : FormedMsm). v.form) c.self.view_is)) in
+    rw (ap (λ (d : Data). slice_index (satellite_rows c.self.inside.form c.self.inside.satellites d) c.args.i) (sym c.in-Packed.is) ∙ ap (λ (v : FormedMsm). slice_index v.msm.satellites c.args.i) c.self.view_is) (fits _ (slice_index c.args.self.now.msm.satellites c.args.i) (satellite_widths c.args.form) (satellite_widths c.self.inside.form) (ap (λ (v : FormedMsm). slice_index v.msm.satellites c.args.i) c.self.view_is) widths (c.self.invariant.0.satellites c.args.i))
 
 pub returns-in-Packed : goal.returns-in-Packed
-returns-in-Packed g c =
-    let widths = c.requires.widths ∙ sym (ap (λ (v : FormedMsm). satellite_widths v.form) c.self.view_is) in
-    let small = fits _ (slice_index c.args.self.now.msm.satellites c.args.i) g.G.Grid.satellite_widths (satellite_widths c.self.inside.form) (ap (λ (v : FormedMsm). slice_index v.msm.satellites c.args.i) c.self.view_is) widths (c.self.invariant.0.satellites c.args.i) in
-    let value : c.satellite_of.result ≡ g.G.Grid.satellite_at (slice_index c.args.self.now.msm.satellites c.args.i) = c.satellite_of.ensures ∙ ap g.G.Grid.satellite_at (ap (λ (d : Data). slice_index (satellite_rows c.self.inside.form c.self.inside.satellites d) c.args.i) (sym c.in-Packed.is) ∙ ap (λ (v : FormedMsm). slice_index v.msm.satellites c.args.i) c.self.view_is) in
-    record { value = value; in_range = subst g.G.Grid.is_satellite (sym value) (g.met.G.Grid.satellite_in_range _ small); same = ap g.G.Grid.satellite_packed value ∙ g.met.G.Grid.satellite_same _ small }
+returns-in-Packed c =
+    let widths : satellite_widths c.args.form ≡ satellite_widths c.self.inside.form = ap satellite_widths (c.requires.form ∙ sym (ap (λ (v : FormedMsm). v.form) c.self.view_is)) in
+    let small = fits _ (slice_index c.args.self.now.msm.satellites c.args.i) (satellite_widths c.args.form) (satellite_widths c.self.inside.form) (ap (λ (v : FormedMsm). slice_index v.msm.satellites c.args.i) c.self.view_is) widths (c.self.invariant.0.satellites c.args.i) in
+    let value : c.satellite_of.result ≡ (satellite_data c.args.form) (slice_index c.args.self.now.msm.satellites c.args.i) = c.satellite_of.ensures ∙ ap (satellite_data c.args.form) (ap (λ (d : Data). slice_index (satellite_rows c.self.inside.form c.self.inside.satellites d) c.args.i) (sym c.in-Packed.is) ∙ ap (λ (v : FormedMsm). slice_index v.msm.satellites c.args.i) c.self.view_is) in
+    record { value = value; in_range = subst (IsSatelliteData c.args.form) (sym value) (satellite_in_range c.args.form _); same = ap (satellite_number c.args.form) value ∙ satellite_same c.args.form _ small }
