@@ -4,7 +4,6 @@ use Rattle.std.specs.Prelude.{Option, Some, None, option_map, option_and_then, f
 use Rattle.std.specs.Prelude.{Result, Ok, Err}
 use Rattle.std.specs.Option.{option_map_or}
 use Rattle.gnss_system.specs.declared.system.System.{System}
-use Rattle.gnss_system.specs.declared.system.System.TheVariants.{Gps, Galileo}
 use Rattle.gnss_system.specs.Satellites.{Satellite, satellite_of_id}
 use Rattle.gnss_system.specs.Signals.{SignalAt, signal_of_id, hertz_of}
 use Rattle.gnss_obs.specs.Observables.{nearest_pseudorange, nearest_phase, nearest_doppler, nearest_strength}
@@ -63,9 +62,6 @@ seen_by lock system e =
     option_and_then (λ satellite. option_map (observed lock e satellite) (signal_of_id system e.signal))
     (satellite_of_id system e.satellite)
 
-abbrev pub system_of : Bool → System
-system_of is_galileo = if is_galileo then Galileo else Gps
-
 -- The lock of a lock time indicator of this field.
 abbrev pub lock_by : LockField → ℕ → LockTime
 lock_by Df402 code = times4 code
@@ -85,8 +81,8 @@ heard_msm field m es = record {
   station = Some m.header.station;
   tow = Some m.header.time;
   more = Some m.header.more;
-  cells = filter_map (seen_in field (system_of m.is_galileo)) es;
-  unlisted = unlisted_in field (system_of m.is_galileo) es;
+  cells = filter_map (seen_in field m.system) es;
+  unlisted = unlisted_in field m.system es;
   point = None;
 }
 

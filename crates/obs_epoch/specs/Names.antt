@@ -23,7 +23,7 @@ pub use Rattle.obs_epoch.specs.Epochs.{cells_with_lli, closed_so_far, closed_tim
 pub use Rattle.obs_epoch.specs.GathererSteps.{GathererValue, IsPending, Loaded, closed_if, closed_noted, end_step, epoch_begun, hold, hold_by, is_same, just_closed_as, load, load_entries, load_one, loaded_if, noted, outcome_in, planned_cell, rested, take_step, with_more, with_more_in, with_time, with_unlisted}
 pub use Rattle.obs_epoch.specs.GathererAfter.{HasTakenMessages, Locked, held_at, locked_in}
 pub use Rattle.obs_epoch.specs.GathererHistory.{HasGatheredEpochs, IsAwaited, all_epochs, before_closing, closed_list_at, open_after, returned_epoch}
-pub use Rattle.obs_epoch.specs.Heard.{GatherSetup, Heard, ends_epoch, heard, heard_msm, heard_summary, is_own, lock_by, observed, seen_in, system_of, unlisted_in, without_cells}
+pub use Rattle.obs_epoch.specs.Heard.{GatherSetup, Heard, ends_epoch, heard, heard_msm, heard_summary, is_own, lock_by, observed, seen_in, unlisted_in, without_cells}
 pub use Rattle.obs_epoch.specs.Held.{CellOutcome, Crowded, Kept, Repeated, Skipped, TracksLocks, count_in, lock_place, lookup, most_locks, no_locks, note, note_all, outcome_of, outcome_of_added, put, recorded}
 pub use Rattle.obs_epoch.specs.Kinds.{is_accepted, is_close_first, kind_after, kind_of, with_counts}
 pub use Rattle.obs_epoch.specs.Loss.{has_lost, is_locked, last_of, latest_in, lli_of, lli_with, lock_of, locked_at, previous, times}

@@ -8,7 +8,7 @@ ghost use Rattle.rtcm_msg.specs.Viewed.{viewed_message};
 ghost use Rattle.rtcm_msg.specs.Forms.{lock_field};
 ghost use Rattle.rtcm_msg.specs.Views.{formed};
 ghost use Rattle.gnss_obs.specs.Weeks.{weeks};
-ghost use Rattle.obs_epoch.specs.Heard.{GatherSetup, Heard, heard, heard_summary, system_of};
+ghost use Rattle.obs_epoch.specs.Heard.{GatherSetup, Heard, heard, heard_summary};
 ghost use Rattle.gnss_obs.specs.Order.{AreSortedByPlan};
 ghost use Rattle.gnss_obs.specs.Plans.{place_in};
 ghost use Rattle.gnss_obs.specs.HeardCells.{heard_cell, IsObserved};
@@ -298,11 +298,11 @@ impl Gatherer {
         }
         self.begin(before);
         match view {
-            View::Msm(m) => match (m.form(), m.is_galileo()) {
-                (Form::Msm4, false) => self.load_as::<0, Grid4>(m),
-                (Form::Msm4, true) => self.load_as::<1, Grid4>(m),
-                (Form::Msm7, false) => self.load_as::<0, Grid7>(m),
-                (Form::Msm7, true) => self.load_as::<1, Grid7>(m),
+            View::Msm(m) => match (m.form(), m.system()) {
+                (Form::Msm4, System::Gps) => self.load_as::<0, Grid4>(m),
+                (Form::Msm4, System::Galileo) => self.load_as::<1, Grid4>(m),
+                (Form::Msm7, System::Gps) => self.load_as::<0, Grid7>(m),
+                (Form::Msm7, System::Galileo) => self.load_as::<1, Grid7>(m),
             },
             View::Station(_) | View::Other { number: _, set: _ } => CellCounts::default(),
         }

@@ -2,7 +2,7 @@
 ghost use Rattle.std.specs.Prelude.{◌≡◌, IfSome, option_and_then};
 ghost use Rattle.rtcm_msg.specs.Entries.{IsEntry};
 ghost use Rattle.rtcm_msg.specs.Msm.{codes_of};
-ghost use Rattle.obs_epoch.specs.Heard.{seen_in, system_of};
+ghost use Rattle.obs_epoch.specs.Heard.{seen_in};
 ghost use Rattle.gnss_obs.specs.HeardCells.{heard_cell, IsObserved};
 ghost use Rattle.obs_epoch.specs.GathererSteps.{planned_cell};
 
@@ -37,16 +37,5 @@ pub fn observe(plan: &Plan, field: LockField, system: System, entry: &Entry) -> 
             half_cycle: entry.half_cycle,
         }),
         _ => None,
-    }
-}
-
-/// Returns the system of a message with observations.
-pub fn system_of(is_galileo: bool) -> System
-    ensures { result ≡ system_of is_galileo }
-{
-    if is_galileo {
-        System::Galileo
-    } else {
-        System::Gps
     }
 }

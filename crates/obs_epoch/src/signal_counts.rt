@@ -10,7 +10,6 @@ ghost use Rattle.rtcm_msg.specs.Msm.{most_pairs};
 ghost use Rattle.rtcm_msg.specs.Viewed.{viewed_message};
 ghost use Rattle.rtcm_msg.specs.Views as views;
 
-use crate::observe::system_of;
 use gnss_obs::Signal;
 use gnss_system::{BySystem, MOST_SIGNALS, SYSTEMS, System};
 use rtcm_msg::{Message, MsmView, View};
@@ -77,7 +76,7 @@ impl SignalCounts {
         if let View::Msm(m) = view {
             let own = m.header().station;
             if station.unwrap_or(own) == own {
-                self.count_cells(system_of(m.is_galileo()), m);
+                self.count_cells(m.system(), m);
             }
         }
     }

@@ -2,7 +2,7 @@
 -- cells.
 use Rattle.obs_epoch.specs.Cells.{kept_of_all as kept_both}
 use Rattle.rtcm_msg.specs.declared.view.Form.TheVariants as forms
-use Rattle.rtcm_convert.proofs.Names.{◌≡◌, ◌||◌, ℕ, ◌+◌, ◌*◌, ◌≤◌, most_bytes, List, [], ◌∷◌, ◌++◌, Bool, true, false, refl, sym, ap, subst, arith, rules, length, length-append, add-zero, suc, zero, nat_lt, Option, Some, None, is_some, not, LockField, Df402, Df407, count_by, filter, filter_map, if◌then◌else◌, cons_option, zip, option_map_or, length-map, sum_by-cons, length-filter, count_by-le-length, System, uint, Framed, Message, Entry, MasksValue, MsmValue, AreMasks, pair_count, IsMessage, chosen, cell_pairs, all_pairs, entries, entry_in, Kind, GatherSetup, Heard, heard, heard_msm, is_own, seen_in, system_of, unlisted_in, HeardCell, Timed, timed, timed_after, taken_at, is_late, is_past, time_of, times, counts_of, counts_of_message, no_counts, with_skipped, is_planned, is_among, offered, kind_of, kind_at, all_epochs, closed_at, satellites_written, SetupValue, messages_of, heard_in, epochs_in, outcomes_after, capped, capped_tally, sum_of_counts, tally_of, tally_of_one, IsFew, AreFew, Report, CellCounts}
+use Rattle.rtcm_convert.proofs.Names.{◌≡◌, ◌||◌, ℕ, ◌+◌, ◌*◌, ◌≤◌, most_bytes, List, [], ◌∷◌, ◌++◌, Bool, true, false, refl, sym, ap, subst, arith, rules, length, length-append, add-zero, suc, zero, nat_lt, Option, Some, None, is_some, not, LockField, Df402, Df407, count_by, filter, filter_map, if◌then◌else◌, cons_option, zip, option_map_or, length-map, sum_by-cons, length-filter, count_by-le-length, System, uint, Framed, Message, Entry, MasksValue, MsmValue, AreMasks, pair_count, IsMessage, chosen, cell_pairs, all_pairs, entries, entry_in, Kind, GatherSetup, Heard, heard, heard_msm, is_own, seen_in, unlisted_in, HeardCell, Timed, timed, timed_after, taken_at, is_late, is_past, time_of, times, counts_of, counts_of_message, no_counts, with_skipped, is_planned, is_among, offered, kind_of, kind_at, all_epochs, closed_at, satellites_written, SetupValue, messages_of, heard_in, epochs_in, outcomes_after, capped, capped_tally, sum_of_counts, tally_of, tally_of_one, IsFew, AreFew, Report, CellCounts}
 use Rattle.rtcm_msg.specs.declared.message.Message.TheVariants as message
 use Rattle.obs_epoch.specs.declared.taken.Kind.TheVariants as kind
 
@@ -61,8 +61,8 @@ record HasFew (m : Heard) : Type 0 where
 
 heard_msm_few : (field : LockField) (v : MsmValue) (es : List Entry) → length es ≤ 64 → HasFew (heard_msm field v es)
 heard_msm_few field v es le = record {
-  cells = omega (arith, filter_map_few (seen_in field (system_of v.is_galileo)) es, le);
-  unlisted = omega (arith, unlisted_few field (system_of v.is_galileo) es, le);
+  cells = omega (arith, filter_map_few (seen_in field v.system) es, le);
+  unlisted = omega (arith, unlisted_few field v.system es, le);
 }
 
 heard_few : (m : Message) → IsMessage m → HasFew (heard m)

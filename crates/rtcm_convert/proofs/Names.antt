@@ -9,7 +9,7 @@ pub use Rattle.obs_epoch.specs.Epochs.{closed_so_far, closed_times}
 pub use Rattle.obs_epoch.specs.GathererSteps.{GathererValue}
 pub use Rattle.obs_epoch.specs.GathererAfter.{locked_in}
 pub use Rattle.obs_epoch.specs.GathererHistory.{HasGatheredEpochs, IsAwaited, all_epochs, closed_at, closed_by, closed_epochs, closed_in, closed_list_at, is_done, known_epochs, plan_in}
-pub use Rattle.obs_epoch.specs.Heard.{GatherSetup, Heard, heard, heard_in, heard_msm, heard_of, is_own, seen_in, system_of, unlisted_in}
+pub use Rattle.obs_epoch.specs.Heard.{GatherSetup, Heard, heard, heard_in, heard_msm, heard_of, is_own, seen_in, unlisted_in}
 pub use Rattle.obs_epoch.specs.Kinds.{is_close_first, kind_at, kind_of}
 pub use Rattle.obs_epoch.specs.Laws.{ClosedComeFirst}
 pub use Rattle.obs_epoch.specs.Loss.{times}

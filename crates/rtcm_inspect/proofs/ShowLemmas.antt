@@ -10,10 +10,10 @@ pub shown_value : (f : Framed) (v m : Message) {bytes : List ℕ} → bytes ≡ 
 shown_value f v m e h same = shown f (Ok m) e (h ∙ ap (λ (x : Message). Ok x) same)
 
 -- the line of an MSM of either form
-pub shown_msm : (f : Framed) (m : FormedMsm) → read_line f (Ok (formed m)) ≡ msm_line f.offset (message_number m.form m.msm.is_galileo) m.msm
+pub shown_msm : (f : Framed) (m : FormedMsm) → read_line f (Ok (formed m)) ≡ msm_line f.offset (message_number m.form m.msm.system) m.msm
 shown_msm f m = by_form m.form m.msm
   where
-    by_form : (form : Form) (v : MsmValue) → read_line f (Ok (message_in form v)) ≡ msm_line f.offset (message_number form v.is_galileo) v
+    by_form : (form : Form) (v : MsmValue) → read_line f (Ok (message_in form v)) ≡ msm_line f.offset (message_number form v.system) v
     by_form forms.Msm4 v = refl
     by_form forms.Msm7 v = refl
 

@@ -1,6 +1,6 @@
 -- The cells with a value are of listed satellites and signals.
 use Rattle.std.specs.Option.{option_and_then}
-use Rattle.rtcm_inspect.proofs.Names.{◌≡◌, ℕ, ◌<◌, ◌≤◌, ◌==◌, ◌&&◌, Bool, true, false, List, [], ◌∷◌, length, refl, sym, ap, ◌∙◌, subst, arith, filter, All, Option, Some, None, Result, Ok, Err, LockField, Df402, Df407, filter_map, cond, nat_lt, nat_le, option_map, option_map_or, cons_option, position_or_len, All-nil, All-cons, All-append, All-filter, System, Satellite, IsSatellite, satellites, satellite_of_id, SignalAt, IsSignal, table, signal_of_id, Entry, Message, Station, Msm4, Msm7, Other, entries, MsgFault, message_at, Framed, Heard, heard, seen_in, lock_by, observed, system_of, HeardCell, IsKey, heard_of, brings_value, is_of_station, valued, signal_in, valued_of, valued_in}
+use Rattle.rtcm_inspect.proofs.Names.{◌≡◌, ℕ, ◌<◌, ◌≤◌, ◌==◌, ◌&&◌, Bool, true, false, List, [], ◌∷◌, length, refl, sym, ap, ◌∙◌, subst, arith, filter, All, Option, Some, None, Result, Ok, Err, LockField, Df402, Df407, filter_map, cond, nat_lt, nat_le, option_map, option_map_or, cons_option, position_or_len, All-nil, All-cons, All-append, All-filter, System, Satellite, IsSatellite, satellites, satellite_of_id, SignalAt, IsSignal, table, signal_of_id, Entry, Message, Station, Msm4, Msm7, Other, entries, MsgFault, message_at, Framed, Heard, heard, seen_in, lock_by, observed, HeardCell, IsKey, heard_of, brings_value, is_of_station, valued, signal_in, valued_of, valued_in}
 use Rattle.gnss_system.specs.declared.tables.ListedSignal as tables
 
 some_same : {X : Type 0} (x y : X) → Some x ≡ Some y → x ≡ y
@@ -55,8 +55,8 @@ all_seen field system (e ∷ es) = by (seen_in field system e) (seen_key field s
 
 all_heard : (m : Message) → All IsKey (heard m).cells
 all_heard (Station p) = All-nil IsKey
-all_heard (Msm4 m) = all_seen Df402 (system_of m.is_galileo) (entries (Msm4 m))
-all_heard (Msm7 m) = all_seen Df407 (system_of m.is_galileo) (entries (Msm7 m))
+all_heard (Msm4 m) = all_seen Df402 m.system (entries (Msm4 m))
+all_heard (Msm7 m) = all_seen Df407 m.system (entries (Msm7 m))
 all_heard (Other n set) = All-nil IsKey
 
 all_valued : (wanted : Option ℕ) (m : Heard) → All IsKey m.cells → All IsKey (valued wanted m)

@@ -51,8 +51,8 @@ fault_line offset message fault = line (decimal offset ∷ number_word message �
 -- a message that isn't read has no line
 abbrev pub read_line : Framed → Result Message MsgFault → List ℕ
 read_line f (Ok (Station s)) = station_line f.offset s
-read_line f (Ok (Msm4 m)) = msm_line f.offset (message_number forms.Msm4 m.is_galileo) m
-read_line f (Ok (Msm7 m)) = msm_line f.offset (message_number forms.Msm7 m.is_galileo) m
+read_line f (Ok (Msm4 m)) = msm_line f.offset (message_number forms.Msm4 m.system) m
+read_line f (Ok (Msm7 m)) = msm_line f.offset (message_number forms.Msm7 m.system) m
 read_line f (Ok (Other n set)) = []
 read_line f (Err fault) = fault_line f.offset f.message fault
 

@@ -214,7 +214,7 @@ fn add_height(line: &mut OutputLine, height: Option<u16>)
 fn add_msm(line: &mut OutputLine, offset: u64, msm: &MsmView<'_>)
     requires { length line.old ≤ longest_prefix }
     ensures { line.new
-        ≡ line.old ++ msm_line offset (message_number msm.now.form msm.now.msm.is_galileo) msm.now.msm }
+        ≡ line.old ++ msm_line offset (message_number msm.now.form msm.now.msm.system) msm.now.msm }
 {
     let header = msm.header();
     line.put_number(offset);

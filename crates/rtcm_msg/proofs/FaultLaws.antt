@@ -2,6 +2,7 @@
 use Rattle.std.proofs.Common.{ℕ, zero, suc, ◌≡◌, ◌+◌, ◌*◌, ◌^◌, ◌<◌, ◌≤◌, Bool, List, [], ◌∷◌, ◌++◌, length, Result, Ok, Err, None, refl, ap, ◌∙◌, arith, ◌⊎◌, inl, inr, replicate, count_ones}
 use Rattle.std.proofs.lemmas.Bool.{cases_lt}
 use Rattle.std.proofs.lemmas.List.{length-replicate, length-drop}
+use Rattle.gnss_system.specs.declared.system.System.{System}
 use Rattle.rtcm_msg.specs.Names.{Cursor, MsgFault, BadTime, TooManyCells, Short, MsmHeader, number_at, ◌>>=◌, first_past, total_width, column_at, columns_at, repeated, time_table, header_table, mask_table, header_of, header_at, masks_at, msm_at, week, MsmValue, pair_count}
 use Rattle.rtcm_msg.proofs.FieldLaws.{contents_at, fields_at, cursor_at, field_at, number_there_at, ShortAt, short_at_more, short_at_after, fields_read, past_none, past_through}
 use Rattle.rtcm_msg.proofs.Binds.{number_short}
@@ -78,7 +79,7 @@ abbrev pub pair_count_of : List Bool → ℕ
 pair_count_of bits = pair_count (field_at bits 73 64) (field_at bits 137 32)
 
 -- The cases of the result.
-pub data MsmEnd (sw cw : List ℕ) (g : Bool) (bits : List Bool) : Type 0 where
+pub data MsmEnd (sw cw : List ℕ) (g : System) (bits : List Bool) : Type 0 where
   no_time : (e : MsgFault) → length bits < 54 → ShortAt bits 12 (msm_widths sw cw bits) e → msm_at sw cw g (cursor_at bits 12) ≡ Err e → MsmEnd sw cw g bits
   late : 54 ≤ length bits → week ≤ field_at bits 24 30 → msm_at sw cw g (cursor_at bits 12) ≡ Err BadTime → MsmEnd sw cw g bits
   no_masks : (e : MsgFault) → field_at bits 24 30 < week → length bits < 169 → ShortAt bits 12 (msm_widths sw cw bits) e → msm_at sw cw g (cursor_at bits 12) ≡ Err e → MsmEnd sw cw g bits
@@ -154,7 +155,7 @@ data_end sw cw satellites cells bits place h = elim (columns_read sw satellites 
 abbrev header_widths : List ℕ
 header_widths = head_widths ++ tail_widths
 
-pub msm_end : (sw cw : List ℕ) (g : Bool) (bits : List Bool) → 12 ≤ length bits → MsmEnd sw cw g bits
+pub msm_end : (sw cw : List ℕ) (g : System) (bits : List Bool) → 12 ≤ length bits → MsmEnd sw cw g bits
 unfolding msm_at
 msm_end sw cw g bits h = by_header (header_end bits h)
   where
@@ -173,10 +174,10 @@ msm_end sw cw g bits h = by_header (header_end bits h)
     by_data : (v : MsmHeader) → field_at bits 24 30 < week → header_at (cursor_at bits 12) ≡ Ok (v, cursor_at bits 73) → 73 ≤ length bits → p ≤ 64 → 169 + p ≤ length bits
         → masks_at (cursor_at bits 73) ≡ Ok (record { satellites = field_at bits 73 64; signals = field_at bits 137 32; cells = field_at bits 169 p }, cursor_at bits (169 + p)) → DataEnd sw cw (count_ones (field_at bits 73 64)) (count_ones (field_at bits 169 p)) bits (169 + p) → MsmEnd sw cw g bits
     by_data v early header room few there sets (short e s is) = short e early few (short_at_after (header_widths ++ (64 ∷ 32 ∷ p ∷ [])) data_widths bits 12 e (long p there) (rw (place p) s))
-        (rw (header, sets) (is (λ s c. Ok (record { is_galileo = g; header = v; sets = record { satellites = field_at bits 73 64; signals = field_at bits 137 32; cells = field_at bits 169 p }; satellites = s; cells = c.0 }, c.1))))
-    by_data v early header room few there sets (good s c all is) = good (record { is_galileo = g; header = v; sets = record { satellites = field_at bits 73 64; signals = field_at bits 137 32; cells = field_at bits 169 p }; satellites = s; cells = c.0 }, c.1) early few
+        (rw (header, sets) (is (λ s c. Ok (record { system = g; header = v; sets = record { satellites = field_at bits 73 64; signals = field_at bits 137 32; cells = field_at bits 169 p }; satellites = s; cells = c.0 }, c.1))))
+    by_data v early header room few there sets (good s c all is) = good (record { system = g; header = v; sets = record { satellites = field_at bits 73 64; signals = field_at bits 137 32; cells = field_at bits 169 p }; satellites = s; cells = c.0 }, c.1) early few
         (past_through (header_widths ++ (64 ∷ 32 ∷ p ∷ [])) data_widths (length bits) 12 (long p there) ∙ past_none data_widths (length bits) (12 + total_width (header_widths ++ (64 ∷ 32 ∷ p ∷ []))) (rw (place p) all))
-        (rw (header, sets) (is (λ s c. Ok (record { is_galileo = g; header = v; sets = record { satellites = field_at bits 73 64; signals = field_at bits 137 32; cells = field_at bits 169 p }; satellites = s; cells = c.0 }, c.1))))
+        (rw (header, sets) (is (λ s c. Ok (record { system = g; header = v; sets = record { satellites = field_at bits 73 64; signals = field_at bits 137 32; cells = field_at bits 169 p }; satellites = s; cells = c.0 }, c.1))))
 
     by_sets : (v : MsmHeader) → field_at bits 24 30 < week → header_at (cursor_at bits 12) ≡ Ok (v, cursor_at bits 73) → 73 ≤ length bits → SetsEnd bits → MsmEnd sw cw g bits
     by_sets v early header room (no_masks e few s is) = no_masks e early few (short_at_after header_widths (mask_widths ++ (p ∷ data_widths)) bits 12 e room (short_at_more mask_widths (p ∷ data_widths) bits 73 e s)) (rw (header, is) refl)

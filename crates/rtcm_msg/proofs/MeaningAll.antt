@@ -167,7 +167,7 @@ value_all sw cw m h =
     let k = masked a g (keys m.cells) one.1 two.1 few h.cells each in
     let s : MasksValue = record { satellites = a; signals = g; cells = k.cells } in
     let are : AreMasks s = record { satellites = one.1; signals = two.1; few = few; cells = k.fits } in
-    let v : MsmValue = record { is_galileo = m.is_galileo; header = m.header; sets = s; satellites = data_of m.satellites; cells = data_of m.cells } in
+    let v : MsmValue = record { system = m.system; header = m.header; sets = s; satellites = data_of m.satellites; cells = data_of m.cells } in
     let value : IsValue sw cw v = record {
       header = h.header;
       sets = are;
@@ -180,5 +180,5 @@ value_all sw cw m h =
     let y : zip (cell_ids s) (data_of m.cells) ≡ m.cells = ap (λ (ps : List (ℕ × ℕ)). zip ps (data_of m.cells)) k.are ∙ zip_back m.cells in
     (v, value, meant m (zip (ids 64 a) (data_of m.satellites)) (ids 32 g) (zip (cell_ids s) (data_of m.cells)) x two.2 y)
   where
-    meant : (m : Meaning) (xs : List (ℕ × ℕ)) (gs : List ℕ) (cs : List ((ℕ × ℕ) × ℕ)) → xs ≡ m.satellites → gs ≡ m.signals → cs ≡ m.cells → Path Meaning (record { is_galileo = m.is_galileo; header = m.header; satellites = xs; signals = gs; cells = cs }) m
+    meant : (m : Meaning) (xs : List (ℕ × ℕ)) (gs : List ℕ) (cs : List ((ℕ × ℕ) × ℕ)) → xs ≡ m.satellites → gs ≡ m.signals → cs ≡ m.cells → Path Meaning (record { system = m.system; header = m.header; satellites = xs; signals = gs; cells = cs }) m
     meant m xs gs cs x y z = rw (x, y, z) refl

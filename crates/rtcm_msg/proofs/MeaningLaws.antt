@@ -126,9 +126,9 @@ cell_keys sw cw v h = zip_firsts (cell_ids v.sets) v.cells (cells_count sw cw v 
 
 pub value_one : (sw cw : List ℕ) (v w : MsmValue) → IsValue sw cw v → IsValue sw cw w → meaning v ≡ meaning w → v ≡ w
 value_one sw cw v w h k e =
-    let galileo : v.is_galileo ≡ w.is_galileo = ap (λ (m : Meaning). m.is_galileo) e in
+    let system : v.system ≡ w.system = ap (λ (m : Meaning). m.system) e in
     let header = ap (λ (m : Meaning). m.header) e in
     let one = zip_one (ids 64 v.sets.satellites) (ids 64 w.sets.satellites) v.satellites w.satellites (satellites_count sw cw v h) (satellites_count sw cw w k) (ap (λ (m : Meaning). m.satellites) e) in
     let two = zip_one (cell_ids v.sets) (cell_ids w.sets) v.cells w.cells (cells_count sw cw v h) (cells_count sw cw w k) (ap (λ (m : Meaning). m.cells) e) in
     let sets = sets_one v.sets w.sets h.sets k.sets one.0 (ap (λ (m : Meaning). m.signals) e) two.0 in
-    rw (galileo, header, sets, one.1, two.1) refl
+    rw (system, header, sets, one.1, two.1) refl

@@ -4,6 +4,8 @@ use Rattle.std.specs.List.{AllByRecursion}
 use Rattle.std.proofs.lemmas.Bool.{cases_lt, lt-leb, le-leb, lt-ltb, le-ltb}
 use Rattle.std.proofs.lemmas.Nat.{pow_pos}
 use Rattle.std.proofs.lemmas.List.{length-drop, drop-drop}
+use Rattle.gnss_system.specs.declared.system.System.{System}
+use Rattle.gnss_system.specs.declared.system.System.TheVariants.{Gps, Galileo}
 use Rattle.rtcm_msg.specs.Names.{uint, filled, missing, Cursor, MsgFault, BadTime, TooManyCells, Short, StationParts, Message, ◌>>=◌, field_bits, first_past, total_width, columns, station_at, station_table, station_parts, msm_at, msm_bits, MsmValue, IsValue, week, mask_fields, message_of, body_at, start, other_at, set_at, body_by, Kind, OfStation, OfMsm, OfOther, kind_in, kind_of, kind_table, is_msm_kind, station_number, ReadsMessage, IsMessage, IsFault, message_bits, reserved_width, is_other, is_read_msm, set_of, layout, layout_by, has_bad_time, has_too_many, Form, satellite_widths, cell_widths, message_number, message_in}
 use Rattle.rtcm_msg.specs.Encoding.{number_of}
 use Rattle.rtcm_msg.proofs.Binds.{bind_ok, ok_inj, of_read, number_consumed, number_short}
@@ -38,11 +40,11 @@ of_station : (has : Bool) → (kind_of (station_number has) ≡ OfStation has) �
 of_station true = (refl, lit< tt)
 of_station false = (refl, lit< tt)
 
-of_msm : (form : Form) (g : Bool) → (kind_of (message_number form g) ≡ OfMsm form g) × (message_number form g < 2 ^ 12)
-of_msm forms.Msm4 true = (refl, lit< tt)
-of_msm forms.Msm4 false = (refl, lit< tt)
-of_msm forms.Msm7 true = (refl, lit< tt)
-of_msm forms.Msm7 false = (refl, lit< tt)
+of_msm : (form : Form) (g : System) → (kind_of (message_number form g) ≡ OfMsm form g) × (message_number form g < 2 ^ 12)
+of_msm forms.Msm4 Galileo = (refl, lit< tt)
+of_msm forms.Msm4 Gps = (refl, lit< tt)
+of_msm forms.Msm7 Galileo = (refl, lit< tt)
+of_msm forms.Msm7 Gps = (refl, lit< tt)
 
 -- The value of a message of a known kind.
 read_by : (n : ℕ) (k : Kind) (c : Cursor) → kind_of n ≡ k → body_at n c ≡ body_by k n c
@@ -82,16 +84,16 @@ unfolding message_of
 again bits n tail rest small is = rw (is, append_assoc (uint 12 n) tail rest, number_again 12 n 0 (tail ++ rest) small) refl
 
 msm_again_by : (form : Form) (bits rest : List Bool) (m : MsmValue) (reserved : ℕ) → IsValue (satellite_widths form) (cell_widths form) m → reserved < 128
-    → bits ≡ msm_bits (satellite_widths form) (cell_widths form) (message_number form m.is_galileo) m reserved ++ rest → message_of bits ≡ Ok (message_in form m)
+    → bits ≡ msm_bits (satellite_widths form) (cell_widths form) (message_number form m.system) m reserved ++ rest → message_of bits ≡ Ok (message_in form m)
 unfolding field_bits
 msm_again_by form bits rest m reserved h small is =
     let sw = satellite_widths form in
     let cw = cell_widths form in
-    let n = message_number form m.is_galileo in
+    let n = message_number form m.system in
     let tail = msm_tail sw cw m reserved in
     let read = msm_again sw cw m reserved 12 rest h small in
-    again bits n tail rest (of_msm form m.is_galileo).1 (is ∙ ap (λ t. t ++ rest) (append_assoc (uint 12 n) (field_bits (header_tail m.header reserved)) (field_bits (mask_fields m.sets) ++ (columns sw m.satellites ++ columns cw m.cells))))
-    ∙ (read_by n _ (cursor 12 (tail ++ rest)) (of_msm form m.is_galileo).0 ∙ rw read.1 refl)
+    again bits n tail rest (of_msm form m.system).1 (is ∙ ap (λ t. t ++ rest) (append_assoc (uint 12 n) (field_bits (header_tail m.header reserved)) (field_bits (mask_fields m.sets) ++ (columns sw m.satellites ++ columns cw m.cells))))
+    ∙ (read_by n _ (cursor 12 (tail ++ rest)) (of_msm form m.system).0 ∙ rw read.1 refl)
 
 pub message_again : (bits rest : List Bool) (v : Message) (reserved : ℕ) → IsMessage v → is_other v ≡ false → reserved < 2 ^ reserved_width v → bits ≡ message_bits v reserved ++ rest → message_of bits ≡ Ok v
 unfolding field_bits
@@ -131,16 +133,16 @@ found_station bits has s d prefix r =
     begins bits (messages.Station s) r.reserved d.rest r.in_range refl r.one (with_number bits (station_number (is_some s.height)) (field_bits (station_tail s r.reserved)) d.rest (prefix ∙ ap (λ (n : ℕ). uint 12 n ++ drop 12 bits) number) r.bits)
 
 begins_msm : (form : Form) (bits : List Bool) (m : MsmValue) (reserved : ℕ) (rest : List Bool) → IsValue (satellite_widths form) (cell_widths form) m → reserved < 128
-    → bits ≡ msm_bits (satellite_widths form) (cell_widths form) (message_number form m.is_galileo) m reserved ++ rest → Found bits (message_in form m)
+    → bits ≡ msm_bits (satellite_widths form) (cell_widths form) (message_number form m.system) m reserved ++ rest → Found bits (message_in form m)
 begins_msm forms.Msm4 bits m reserved rest h small is = begins bits (messages.Msm4 m) reserved rest h refl small is
 begins_msm forms.Msm7 bits m reserved rest h small is = begins bits (messages.Msm7 m) reserved rest h refl small is
 
-found_msm : (form : Form) (bits : List Bool) (g : Bool) (m : MsmValue) (d : Cursor) → bits ≡ uint 12 (message_number form g) ++ drop 12 bits → IsMsmRead (satellite_widths form) (cell_widths form) g m (cursor_at bits 12) d → Found bits (message_in form m)
+found_msm : (form : Form) (bits : List Bool) (g : System) (m : MsmValue) (d : Cursor) → bits ≡ uint 12 (message_number form g) ++ drop 12 bits → IsMsmRead (satellite_widths form) (cell_widths form) g m (cursor_at bits 12) d → Found bits (message_in form m)
 unfolding field_bits
 found_msm form bits g m d prefix r =
-    let n = message_number form m.is_galileo in
+    let n = message_number form m.system in
     let content = columns (satellite_widths form) m.satellites ++ columns (cell_widths form) m.cells in
-    let number : message_number form g ≡ n = ap (message_number form) (sym r.galileo) in
+    let number : message_number form g ≡ n = ap (message_number form) (sym r.system) in
     begins_msm form bits m r.reserved d.rest r.is_value r.small (with_number bits n (msm_tail (satellite_widths form) (cell_widths form) m r.reserved) d.rest (prefix ∙ ap (λ (n : ℕ). uint 12 n ++ drop 12 bits) number) r.bits
     ∙ ap (λ (t : List Bool). t ++ d.rest) (sym (append_assoc (uint 12 n) (field_bits (header_tail m.header r.reserved)) (field_bits (mask_fields m.sets) ++ content))))
 
@@ -230,7 +232,7 @@ layout_station true bits = refl
 layout_station false bits = refl
 
 -- The result of reading a multiple signal message, for the widths of either grid.
-msm_message_end : {bits : List Bool} {sw cw : List ℕ} {g : Bool} (wrap : MsmValue → Message) → 12 ≤ length bits → is_read_msm (number_of bits) ≡ true → layout bits ≡ 12 ∷ msm_widths sw cw bits
+msm_message_end : {bits : List Bool} {sw cw : List ℕ} {g : System} (wrap : MsmValue → Message) → 12 ≤ length bits → is_read_msm (number_of bits) ≡ true → layout bits ≡ 12 ∷ msm_widths sw cw bits
     → message_of bits ≡ (msm_at sw cw g (cursor_at bits 12) >>= λ m. Ok (wrap m.0)) → MsmEnd sw cw g bits → MessageEnd bits
 msm_message_end {bits} {sw} {cw} {g} wrap h msm lay read end = go end
   where

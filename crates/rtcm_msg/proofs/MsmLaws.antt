@@ -2,6 +2,7 @@
 use Rattle.std.proofs.Common.{ℕ, ◌≡◌, ◌+◌, ◌*◌, ◌^◌, ◌<◌, ◌≤◌, Bool, List, [], ◌∷◌, ◌++◌, length, Result, Ok, Err, refl, sym, ap, ◌∙◌, arith, inl, inr, append_assoc, replicate, count_ones, ◌/◌}
 use Rattle.std.proofs.lemmas.Bool.{cases_lt}
 use Rattle.std.proofs.lemmas.List.{length-map, length-replicate}
+use Rattle.gnss_system.specs.declared.system.System.{System}
 use Rattle.rtcm_msg.specs.Names.{uint, Cursor, MsgFault, BadTime, TooManyCells, MsmHeader, number_at, reading, ◌>>=◌, field_bits, total_width, columns, columns_at, EachBelow, masks_after, header_at, masks_at, msm_at, checked_time, week, IsHeader, AreMasks, IsValue, MasksValue, MsmValue, pair_count, mask_fields, time_table, header_table, mask_table, time_contents, header_contents, header_of, widths, Contents, fields_of}
 use Rattle.rtcm_msg.proofs.Binds.{of_read, bind_ok, number_consumed}
 use Rattle.rtcm_msg.proofs.Combine.{ok_err, cursor, number_again}
@@ -145,27 +146,27 @@ sets_again v place rest h =
 abbrev pub msm_tail : List ℕ → List ℕ → MsmValue → ℕ → List Bool
 msm_tail sw cw v reserved = field_bits (header_tail v.header reserved) ++ (field_bits (mask_fields v.sets) ++ (columns sw v.satellites ++ columns cw v.cells))
 
-pub record IsMsmRead (sw cw : List ℕ) (g : Bool) (v : MsmValue) (c d : Cursor) : Type 0 where
+pub record IsMsmRead (sw cw : List ℕ) (g : System) (v : MsmValue) (c d : Cursor) : Type 0 where
   pub reserved : ℕ
   pub small : reserved < 128
   pub is_value : IsValue sw cw v
-  pub galileo : v.is_galileo ≡ g
+  pub system : v.system ≡ g
   pub bits : c.rest ≡ msm_tail sw cw v reserved ++ d.rest
 
 -- The number of numbers read from columns is the one requested.
 columns_count : (ws : List ℕ) (n : ℕ) (c : Cursor) (x : List ℕ × Cursor) → ColumnsConsumed ws (replicate n 0) c x → length x.0 ≡ n
 columns_count ws n c x t = sym (length-map x.0 (λ k. k / 2 ^ total_width ws)) ∙ (ap length t.high ∙ length-replicate n 0)
 
-msm_done : {sw cw : List ℕ} {g : Bool} {c : Cursor} {h : MsmHeader × Cursor} {s : MasksValue × Cursor} {x y : List ℕ × Cursor} → IsHeaderRead h.0 c h.1 → AreSetsRead s.0 h.1 s.1
+msm_done : {sw cw : List ℕ} {g : System} {c : Cursor} {h : MsmHeader × Cursor} {s : MasksValue × Cursor} {x y : List ℕ × Cursor} → IsHeaderRead h.0 c h.1 → AreSetsRead s.0 h.1 s.1
     → columns_at sw (replicate (count_ones s.0.satellites) 0) s.1 ≡ Ok x → columns_at cw (replicate (count_ones s.0.cells) 0) x.1 ≡ Ok y
-    → IsMsmRead sw cw g (record { is_galileo = g; header = h.0; sets = s.0; satellites = x.0; cells = y.0 }) c y.1
+    → IsMsmRead sw cw g (record { system = g; header = h.0; sets = s.0; satellites = x.0; cells = y.0 }) c y.1
 msm_done {sw} {cw} {c} {h} {s} {x} {y} a b e f =
     let xs = columns_consumed sw (replicate (count_ones s.0.satellites) 0) s.1 x e in
     let ys = columns_consumed cw (replicate (count_ones s.0.cells) 0) x.1 y f in
     record {
       reserved = a.reserved;
       small = a.small;
-      galileo = refl;
+      system = refl;
       is_value = record {
         header = a.is_header;
         sets = b.are_sets;
@@ -184,18 +185,18 @@ msm_done {sw} {cw} {c} {h} {s} {x} {y} a b e f =
 columns_same : (ws ns : List ℕ) (count place : ℕ) (rest : List Bool) → length ns ≡ count → EachBelow (total_width ws) ns → columns_at ws (replicate count 0) (cursor place (columns ws ns ++ rest)) ≡ Ok (ns, cursor (place + total_width ws * length ns) rest)
 columns_same ws ns count place rest len below = rw (← len, ← highs_zero (total_width ws) ns below) (columns_again ws ns place rest)
 
-pub msm_consumed : (sw cw : List ℕ) (g : Bool) (c : Cursor) (v : MsmValue × Cursor) → msm_at sw cw g c ≡ Ok v → IsMsmRead sw cw g v.0 c v.1
+pub msm_consumed : (sw cw : List ℕ) (g : System) (c : Cursor) (v : MsmValue × Cursor) → msm_at sw cw g c ≡ Ok v → IsMsmRead sw cw g v.0 c v.1
 unfolding msm_at
 msm_consumed sw cw g c v e =
     let header = bind_ok (header_at c) _ v e in
     let sets = bind_ok (masks_at header.0.1) _ v header.2 in
     let satellites = bind_ok (columns_at sw (replicate (count_ones sets.0.0.satellites) 0) sets.0.1) _ v sets.2 in
     let cells = bind_ok (columns_at cw (replicate (count_ones sets.0.0.cells) 0) satellites.0.1) _ v satellites.2 in
-    let x : MsmValue × Cursor = (record { is_galileo = g; header = header.0.0; sets = sets.0.0; satellites = satellites.0.0; cells = cells.0.0 }, cells.0.1) in
+    let x : MsmValue × Cursor = (record { system = g; header = header.0.0; sets = sets.0.0; satellites = satellites.0.0; cells = cells.0.0 }, cells.0.1) in
     of_read (λ (w : MsmValue × Cursor). IsMsmRead sw cw g w.0 c w.1) x v cells.2
     (msm_done (header_consumed c header.0 header.1) (sets_consumed header.0.1 sets.0 sets.1) satellites.1 cells.1)
 
-pub msm_again : (sw cw : List ℕ) (v : MsmValue) (reserved place : ℕ) (rest : List Bool) → IsValue sw cw v → reserved < 128 → (d : Cursor) × (msm_at sw cw v.is_galileo (cursor place (msm_tail sw cw v reserved ++ rest)) ≡ Ok (v, d))
+pub msm_again : (sw cw : List ℕ) (v : MsmValue) (reserved place : ℕ) (rest : List Bool) → IsValue sw cw v → reserved < 128 → (d : Cursor) × (msm_at sw cw v.system (cursor place (msm_tail sw cw v reserved ++ rest)) ≡ Ok (v, d))
 unfolding msm_at
 msm_again sw cw v reserved place rest h small =
     let p = pair_count v.sets.satellites v.sets.signals in

@@ -1,5 +1,6 @@
 -- The message of a view is the one that `decode` returns.
 use Rattle.std.proofs.Common.{ℕ, ◌≡◌, ◌+◌, ◌*◌, ◌^◌, ◌<◌, ◌≤◌, Bool, List, length, slice_index, Result, Ok, Err, refl, sym, ap, subst, ◌∙◌, arith, replicate, count_ones}
+use Rattle.gnss_system.specs.declared.system.System.{System}
 use Rattle.rtcm_msg.specs.Names.{bits_of, Cursor, MsgFault, MsmHeader, Form, cursor_at, total_width, columns_at, EachBelow, MasksValue, IsHeader, AreMasks, IsValue, header_at, masks_at, msm_at, LastBits, AreLast, rows_at, row_at, end_of_rows, Data, satellite_widths, cell_widths, satellite_rows, cell_rows, message_in, formed_at, AreWithin, AreDataOf}
 use Rattle.rtcm_bits.specs.FrameOf.{longest_message}
 use Rattle.rtcm_bits.specs.BitLaws.{length-bits_of}
@@ -9,26 +10,26 @@ use Rattle.rtcm_msg.proofs.RowLaws.{Ends, rows_end, rows_count, end_is, row_is}
 
 -- ---- reading in parts
 
-pub msm_good : (sw cw : List ℕ) (g : Bool) (c0 : Cursor) {c1 c2 c3 c4 : Cursor} {h : MsmHeader} {s : MasksValue} {xs ys : List ℕ} → header_at c0 ≡ Ok (h, c1) → masks_at c1 ≡ Ok (s, c2)
+pub msm_good : (sw cw : List ℕ) (g : System) (c0 : Cursor) {c1 c2 c3 c4 : Cursor} {h : MsmHeader} {s : MasksValue} {xs ys : List ℕ} → header_at c0 ≡ Ok (h, c1) → masks_at c1 ≡ Ok (s, c2)
     → columns_at sw (replicate (count_ones s.satellites) 0) c2 ≡ Ok (xs, c3) → columns_at cw (replicate (count_ones s.cells) 0) c3 ≡ Ok (ys, c4)
-    → msm_at sw cw g c0 ≡ Ok (record { is_galileo = g; header = h; sets = s; satellites = xs; cells = ys }, c4)
+    → msm_at sw cw g c0 ≡ Ok (record { system = g; header = h; sets = s; satellites = xs; cells = ys }, c4)
 unfolding msm_at
 msm_good sw cw g c0 e f i j = rw (e, f, i, j) refl
 
-pub no_header : (form : Form) (g : Bool) (c : Cursor) (x : MsgFault) → header_at c ≡ Err x → formed_at form g c ≡ Err x
+pub no_header : (form : Form) (g : System) (c : Cursor) (x : MsgFault) → header_at c ≡ Err x → formed_at form g c ≡ Err x
 unfolding msm_at
 no_header form g c x e = rw e refl
 
-pub no_masks : (form : Form) (g : Bool) (c d : Cursor) (h : MsmHeader) (x : MsgFault) → header_at c ≡ Ok (h, d) → masks_at d ≡ Err x → formed_at form g c ≡ Err x
+pub no_masks : (form : Form) (g : System) (c d : Cursor) (h : MsmHeader) (x : MsgFault) → header_at c ≡ Ok (h, d) → masks_at d ≡ Err x → formed_at form g c ≡ Err x
 unfolding msm_at
 no_masks form g c d h x e f = rw (e, f) refl
 
-pub msm_first : (sw cw : List ℕ) (g : Bool) (c0 : Cursor) {c1 c2 : Cursor} {h : MsmHeader} {s : MasksValue} {x : MsgFault} → header_at c0 ≡ Ok (h, c1) → masks_at c1 ≡ Ok (s, c2)
+pub msm_first : (sw cw : List ℕ) (g : System) (c0 : Cursor) {c1 c2 : Cursor} {h : MsmHeader} {s : MasksValue} {x : MsgFault} → header_at c0 ≡ Ok (h, c1) → masks_at c1 ≡ Ok (s, c2)
     → columns_at sw (replicate (count_ones s.satellites) 0) c2 ≡ Err x → msm_at sw cw g c0 ≡ Err x
 unfolding msm_at
 msm_first sw cw g c0 e f i = rw (e, f, i) refl
 
-pub msm_second : (sw cw : List ℕ) (g : Bool) (c0 : Cursor) {c1 c2 c3 : Cursor} {h : MsmHeader} {s : MasksValue} {xs : List ℕ} {x : MsgFault} → header_at c0 ≡ Ok (h, c1) → masks_at c1 ≡ Ok (s, c2)
+pub msm_second : (sw cw : List ℕ) (g : System) (c0 : Cursor) {c1 c2 c3 : Cursor} {h : MsmHeader} {s : MasksValue} {xs : List ℕ} {x : MsgFault} → header_at c0 ≡ Ok (h, c1) → masks_at c1 ≡ Ok (s, c2)
     → columns_at sw (replicate (count_ones s.satellites) 0) c2 ≡ Ok (xs, c3) → columns_at cw (replicate (count_ones s.cells) 0) c3 ≡ Err x → msm_at sw cw g c0 ≡ Err x
 unfolding msm_at
 msm_second sw cw g c0 e f i j = rw (e, f, i, j) refl
@@ -42,7 +43,7 @@ ends bits r read x e h = subst (λ (y : Result ℕ MsgFault). Ends bits y read) 
 abbrev pub data_read : (ws : List ℕ) (bits : List Bool) {n m : ℕ} (place : ℕ) {x : Result ℕ MsgFault} → n ≡ m → place ≤ length bits → x ≡ end_of_rows ws n (length bits) place → Ends bits x (columns_at ws (replicate m 0) (cursor_at bits place))
 data_read ws bits {n} {m} place {x} same h e = ends bits (end_of_rows ws m (length bits) place) _ x (e ∙ ap (λ (k : ℕ). end_of_rows ws k (length bits) place) same) (rows_end ws bits m place h)
 
-pub formed_short : (form : Form) (g : Bool) (c0 : Cursor) (x : MsgFault) → msm_at (satellite_widths form) (cell_widths form) g c0 ≡ Err x → formed_at form g c0 ≡ Err x
+pub formed_short : (form : Form) (g : System) (c0 : Cursor) (x : MsgFault) → msm_at (satellite_widths form) (cell_widths form) g c0 ≡ Err x → formed_at form g c0 ≡ Err x
 formed_short form g c0 x e = rw e refl
 
 -- The position of the data of satellites, after the header and the masks.
@@ -62,7 +63,7 @@ pub record AreSizes (form : Form) (s : MasksValue) (sw cw : List ℕ) (n m : ℕ
 counted : {x : Result ℕ MsgFault} {vs ws : List ℕ} (bytes : List ℕ) (n place : ℕ) → x ≡ end_of_rows vs n (8 * length bytes) place → vs ≡ ws → x ≡ end_of_rows ws n (length (bits_of bytes)) place
 counted bytes n place e same = e ∙ rw (same, length-bits_of bytes) refl
 
-pub first_short : (form : Form) (g : Bool) {bytes sw : List ℕ} {h : MsmHeader} {s : MasksValue} {n p : ℕ} {x : MsgFault} → AfterMasks bytes h s p → sw ≡ satellite_widths form → n ≡ s.satellites
+pub first_short : (form : Form) (g : System) {bytes sw : List ℕ} {h : MsmHeader} {s : MasksValue} {n p : ℕ} {x : MsgFault} → AfterMasks bytes h s p → sw ≡ satellite_widths form → n ≡ s.satellites
     → Err x ≡ end_of_rows sw (count_ones n) (8 * length bytes) p → formed_at form g (cursor_at (bits_of bytes) 12) ≡ Err x
 first_short form g {bytes} {s} {n} {p} {x} head sws ns short =
     let bits = bits_of bytes in
@@ -71,7 +72,7 @@ first_short form g {bytes} {s} {n} {p} {x} head sws ns short =
     formed_short form g (cursor_at bits 12) x (msm_first ws (cell_widths form) g (cursor_at bits 12) head.header head.masks
     (data_read ws bits p (ap count_ones ns) there (counted bytes (count_ones n) p short sws)))
 
-pub second_short : {form : Form} (g : Bool) {bytes sw cw : List ℕ} {h : MsmHeader} {s : MasksValue} {n m p at : ℕ} {x : MsgFault} → AfterMasks bytes h s p → AreSizes form s sw cw n m
+pub second_short : {form : Form} (g : System) {bytes sw cw : List ℕ} {h : MsmHeader} {s : MasksValue} {n m p at : ℕ} {x : MsgFault} → AfterMasks bytes h s p → AreSizes form s sw cw n m
     → Ok at ≡ end_of_rows sw (count_ones n) (8 * length bytes) p → at ≤ 8 * length bytes → Err x ≡ end_of_rows cw (count_ones m) (8 * length bytes) at → formed_at form g (cursor_at (bits_of bytes) 12) ≡ Err x
 second_short {form} g {bytes} {s} {n} {m} {p} {at} {x} head sizes first room short =
     let bits = bits_of bytes in
@@ -90,15 +91,15 @@ pub row_value : {vs ws : List ℕ} (bytes : List ℕ) (n place i : ℕ) → vs �
 row_value {ws} bytes n place i same h there = ap (λ (us : List ℕ). row_at us n (bits_of bytes) place i 0) same ∙ sym (row_is ws (bits_of bytes) n place i (rw (length-bits_of bytes) h) there)
 
 -- A message whose data are within the bits.
-pub record Found (form : Form) (g : Bool) (bits : List Bool) (c0 : Cursor) (h : MsmHeader) (s : MasksValue) (n place m at : ℕ) : Type 0 where
-  pub read : formed_at form g c0 ≡ Ok (message_in form (record { is_galileo = g; header = h; sets = s; satellites = rows_at (satellite_widths form) n bits place; cells = rows_at (cell_widths form) m bits at }))
-  pub value : IsValue (satellite_widths form) (cell_widths form) (record { is_galileo = g; header = h; sets = s; satellites = rows_at (satellite_widths form) n bits place; cells = rows_at (cell_widths form) m bits at })
+pub record Found (form : Form) (g : System) (bits : List Bool) (c0 : Cursor) (h : MsmHeader) (s : MasksValue) (n place m at : ℕ) : Type 0 where
+  pub read : formed_at form g c0 ≡ Ok (message_in form (record { system = g; header = h; sets = s; satellites = rows_at (satellite_widths form) n bits place; cells = rows_at (cell_widths form) m bits at }))
+  pub value : IsValue (satellite_widths form) (cell_widths form) (record { system = g; header = h; sets = s; satellites = rows_at (satellite_widths form) n bits place; cells = rows_at (cell_widths form) m bits at })
   pub order : place ≤ at
   pub satellites_there : place + n * total_width (satellite_widths form) ≤ length bits
   pub cells_there : at + m * total_width (cell_widths form) ≤ length bits
 
 -- The message whose data end within the bits.
-pub whole : {form : Form} {g : Bool} {bytes sw cw : List ℕ} {h : MsmHeader} {s : MasksValue} {n m p at end : ℕ} → AfterMasks bytes h s p → AreSizes form s sw cw n m
+pub whole : {form : Form} {g : System} {bytes sw cw : List ℕ} {h : MsmHeader} {s : MasksValue} {n m p at end : ℕ} → AfterMasks bytes h s p → AreSizes form s sw cw n m
     → Ok at ≡ end_of_rows sw (count_ones n) (8 * length bytes) p → at ≤ 8 * length bytes → Ok end ≡ end_of_rows cw (count_ones m) (8 * length bytes) at → end ≤ 8 * length bytes
     → IsHeader h → AreMasks s → Found form g (bits_of bytes) (cursor_at (bits_of bytes) 12) h s (count_ones n) p (count_ones m) at
 whole {form} {g} {bytes} {s} {n} {m} {p} {at} {end} head sizes first room second last is_header are_sets =

@@ -36,7 +36,7 @@ start bits = record { place = 0; rest = bits }
 -- The value, after the message number n.
 abbrev pub body_by : Kind → ℕ → Cursor → Result Message MsgFault
 body_by (OfStation has_height) n c = station_message_at has_height c
-body_by (OfMsm form is_galileo) n c = formed_at form is_galileo c
+body_by (OfMsm form system) n c = formed_at form system c
 body_by OfOther n c = Ok (other_at n c)
 
 unfoldable pub body_at : ℕ → Cursor → Result Message MsgFault

@@ -28,7 +28,7 @@ abbrev pub IsMsm : Form → MsmValue → Type 0
 IsMsm f m = IsValue (satellite_widths f) (cell_widths f) m
 
 abbrev pub form_bits : Form → MsmValue → ℕ → List Bool
-form_bits f m reserved = msm_bits (satellite_widths f) (cell_widths f) (message_number f m.is_galileo) m reserved
+form_bits f m reserved = msm_bits (satellite_widths f) (cell_widths f) (message_number f m.system) m reserved
 
 -- A value.
 abbrev pub IsMessage : Message → Type 0
@@ -66,7 +66,7 @@ number_of bits = field_at bits 0 12
 
 abbrev pub is_msm_kind : Kind → Bool
 is_msm_kind (OfStation has_height) = false
-is_msm_kind (OfMsm form is_galileo) = true
+is_msm_kind (OfMsm form system) = true
 is_msm_kind OfOther = false
 
 abbrev pub is_read_msm : ℕ → Bool
@@ -115,7 +115,7 @@ msm_layout satellite_widths cell_widths bits =
 abbrev pub layout_by : Kind → List Bool → List ℕ
 layout_by (OfStation has_height) bits =
     widths (number_table ++ (station_table ++ (if has_height then height_table else [])))
-layout_by (OfMsm form is_galileo) bits = msm_layout (satellite_widths form) (cell_widths form) bits
+layout_by (OfMsm form system) bits = msm_layout (satellite_widths form) (cell_widths form) bits
 layout_by OfOther bits = []
 
 abbrev pub layout : List Bool → List ℕ

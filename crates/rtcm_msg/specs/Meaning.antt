@@ -1,5 +1,6 @@
 -- The meaning of a multiple signal message: a header, the satellites with their data, the signals, and the cells of
 -- pairs of both.
+use Rattle.gnss_system.specs.declared.system.System.{System}
 use Rattle.std.specs.Prelude.{ℕ, ◌≡◌, ◌+◌, ◌*◌, ◌≤◌, ◌⊎◌, Bool, List, [], ◌∷◌, map, length}
 use Rattle.std.specs.List.{zip}
 use Rattle.rtcm_msg.specs.declared.header.MsmHeader.{MsmHeader}
@@ -12,7 +13,7 @@ use Rattle.rtcm_msg.specs.Entries.{ids, cell_pairs, Rising}
 -- For each satellite its ID and its data, in rising order of the IDs; the IDs of the signals, rising; for each cell the
 -- IDs of its satellite and its signal, and its data, ordered by satellite, then by signal.
 pub record Meaning : Type 0 where
-  pub is_galileo : Bool
+  pub system : System
   pub header : MsmHeader
   pub satellites : List (ℕ × ℕ)
   pub signals : List ℕ
@@ -38,7 +39,7 @@ last_pair = 4128
 
 abbrev pub meaning : MsmValue → Meaning
 meaning v = record {
-  is_galileo = v.is_galileo;
+  system = v.system;
   header = v.header;
   satellites = zip (ids satellite_mask_bits v.sets.satellites) v.satellites;
   signals = ids signal_mask_bits v.sets.signals;

@@ -1,4 +1,5 @@
 -- The values of multiple signal messages.
+use Rattle.gnss_system.specs.declared.system.System.{System}
 use Rattle.std.specs.Prelude.{[], ◌≡◌, ℕ, ◌==◌, ◌*◌, ◌^◌, ◌<◌, ◌≤◌, nat_lt, nat_le, if◌then◌else◌, Bool, List, ◌∷◌, ◌++◌}
 use Rattle.std.specs.Prelude.{length, Result, Ok, Err, replicate, count_ones}
 use Rattle.rtcm_bits.specs.Cursors.{Cursor}
@@ -46,7 +47,7 @@ pair_count satellites signals = count_ones satellites * count_ones signals
 
 -- A message, with the fields of each satellite and of each cell packed in one number.
 pub record MsmValue : Type 0 where
-  pub is_galileo : Bool
+  pub system : System
   pub header : MsmHeader
   pub sets : MasksValue
   pub satellites : List ℕ
@@ -67,9 +68,9 @@ pub record AreMasks (s : MasksValue) : Type 0 where
   pub cells : s.cells < 2 ^ pair_count s.satellites s.signals
 
 -- A message with these parts.
-abbrev pub msm_of_parts : Bool → MsmHeader → MasksValue → List ℕ → List ℕ → MsmValue
-msm_of_parts is_galileo header sets satellites cells =
-    record { is_galileo = is_galileo; header = header; sets = sets; satellites = satellites; cells = cells }
+abbrev pub msm_of_parts : System → MsmHeader → MasksValue → List ℕ → List ℕ → MsmValue
+msm_of_parts system header sets satellites cells =
+    record { system = system; header = header; sets = sets; satellites = satellites; cells = cells }
 
 -- A value whose fields have these widths.
 pub record IsValue (satellite_widths cell_widths : List ℕ) (v : MsmValue) : Type 0 where
@@ -186,13 +187,13 @@ masks_after satellites signals c =
 unfoldable pub masks_at : Cursor → Result (MasksValue × Cursor) MsgFault
 masks_at c = reading mask_table c (λ m. masks_after m.0.0 m.0.1.0 m.1)
 
-unfoldable pub msm_at : List ℕ → List ℕ → Bool → Cursor → Result (MsmValue × Cursor) MsgFault
-msm_at satellite_widths cell_widths is_galileo c = do
+unfoldable pub msm_at : List ℕ → List ℕ → System → Cursor → Result (MsmValue × Cursor) MsgFault
+msm_at satellite_widths cell_widths system c = do
   header ← header_at c
   sets ← masks_at header.1
   satellites ← columns_at satellite_widths (replicate (count_ones sets.0.satellites) 0) sets.1
   cells ← columns_at cell_widths (replicate (count_ones sets.0.cells) 0) satellites.1
   Ok (
-    record { is_galileo = is_galileo; header = header.0; sets = sets.0; satellites = satellites.0; cells = cells.0 },
+    record { system = system; header = header.0; sets = sets.0; satellites = satellites.0; cells = cells.0 },
     cells.1,
   )

@@ -1,5 +1,6 @@
 -- Messages that are read from their bytes.
 use Rattle.std.specs.Prelude.{◌≡◌, ℕ, ◌+◌, ◌*◌, ◌≤◌, Bool, List, length, Result, Ok}
+use Rattle.gnss_system.specs.declared.system.System.{System}
 use Rattle.rtcm_msg.specs.declared.message.Message.{Message}
 use Rattle.rtcm_msg.specs.declared.message.Message.TheVariants as messages
 use Rattle.rtcm_msg.specs.declared.view.Form.{Form}
@@ -32,9 +33,9 @@ abbrev pub formed : FormedMsm → Message
 formed m = message_in m.form m.msm
 
 -- The result of reading after the message number.
-abbrev pub formed_at : Form → Bool → Cursor → Result Message MsgFault
-formed_at form is_galileo c =
-    msm_at (satellite_widths form) (cell_widths form) is_galileo c >>= λ m. Ok (message_in form m.0)
+abbrev pub formed_at : Form → System → Cursor → Result Message MsgFault
+formed_at form system c =
+    msm_at (satellite_widths form) (cell_widths form) system c >>= λ m. Ok (message_in form m.0)
 
 -- The data of n satellites or cells, the fields of each packed in one number.
 abbrev pub satellite_rows : Form → ℕ → Data → List ℕ

@@ -1,5 +1,6 @@
 //! The masks of an MSM: its satellites, its signals and its cells.
-ghost use Rattle.std.specs.Prelude.{◌≡◌, ◌*◌, ◌≤◌, Bool, Ok, Err, IfOk, IfErr, length};
+ghost use Rattle.std.specs.Prelude.{◌≡◌, ◌*◌, ◌≤◌, Ok, Err, IfOk, IfErr, length};
+ghost use Rattle.gnss_system.specs.declared.system.System.{System};
 ghost use Rattle.rtcm_bits.specs.Bits.{bits_of};
 ghost use Rattle.rtcm_bits.specs.FrameOf.{longest_message};
 ghost use Rattle.rtcm_msg.specs.Fields.{cursor_at};
@@ -123,7 +124,7 @@ pub(crate) fn read_head(bytes: &[u8]) -> Result<(MsmHeader, Masks, usize), MsgFa
         × (masks_at (cursor_at (bits_of bytes.now) 73) ≡ Ok (x.1, cursor_at (bits_of bytes.now) x.2))) }
     ensures is_header { IfOk result (λ x. IsHeader x.0) }
     ensures within { IfOk result (λ x. (169 ≤ x.2) × (x.2 ≤ 8 * length bytes.now)) }
-    ensures fault { IfErr result (λ e. (form : Form) → (g : Bool)
+    ensures fault { IfErr result (λ e. (form : Form) → (g : System)
         → formed_at form g (cursor_at (bits_of bytes.now) 12) ≡ Err e) }
 {
     end_of_fields(bytes, TIME_WIDTHS, 1, 12)?;

@@ -15,10 +15,11 @@ use crate::fault::{Field, ValueFault};
 use crate::grid::Grid;
 use crate::header::{MsmHeader, WEEK, header_fault};
 use crate::masks::{MOST_PAIRS, Masks};
-use crate::system::System;
+use crate::number::message_number;
 use crate::view::{Data, Form, MsmView};
 use crate::writing::{write_columns, write_head};
 use arrayvec::ArrayVec;
+use gnss_system::System;
 use rtcm_bits::BitWriter;
 use std::marker::{Model, PhantomData};
 
@@ -42,15 +43,14 @@ pub struct Msm<G: Grid> {
 
 impl<G: Grid> Model for Msm<G> {
     ghost use Rattle.rtcm_msg.specs.Msm.{MsmValue, IsValue, msm_of_parts};
-    ghost use Rattle.rtcm_msg.specs.Systems.{has_galileo};
     ghost use Rattle.rtcm_msg.specs.Forms.{satellite_widths, cell_widths};
 
     ghost Value = { MsmValue };
 
-    ghost view = { λ m. msm_of_parts (has_galileo m.system) m.header m.masks m.satellites.items m.cells.items };
+    ghost view = { λ m. msm_of_parts m.system m.header m.masks m.satellites.items m.cells.items };
 
     ghost invariant = { λ m. IsValue (satellite_widths G.form) (cell_widths G.form)
-        (msm_of_parts (has_galileo m.system) m.header m.masks m.satellites.items m.cells.items) };
+        (msm_of_parts m.system m.header m.masks m.satellites.items m.cells.items) };
 }
 
 impl<G: Grid> Msm<G> {
@@ -63,7 +63,7 @@ impl<G: Grid> Msm<G> {
     /// satellites or cells isn't the number in the masks; `OutOfRange` with the first field, in the
     /// order of the layout, that does not fit its bits.
     pub fn new(
-        is_galileo: bool,
+        system: System,
         header: MsmHeader,
         masks: Masks,
         satellites: &[Satellite],
@@ -73,7 +73,7 @@ impl<G: Grid> Msm<G> {
             data_refusal header masks (satellite_fault G.form) satellites.now (cell_fault G.form) cells.now ≡ Some e) }
         ensures accepted { IfOk result (λ _.
             data_refusal header masks (satellite_fault G.form) satellites.now (cell_fault G.form) cells.now ≡ None) }
-        ensures made { IfOk result (λ m. m ≡ msm_of_parts is_galileo header masks
+        ensures made { IfOk result (λ m. m ≡ msm_of_parts system header masks
             (map (satellite_number G.form) satellites.now) (map (cell_number G.form) cells.now)) }
     {
         let form = G::form();
@@ -81,7 +81,7 @@ impl<G: Grid> Msm<G> {
         match msm_fault(&header, &masks, satellites.len(), cells.len(), faults) {
             Some(fault) => Err(fault),
             None => Ok(Msm {
-                system: System::with(is_galileo),
+                system,
                 header,
                 masks,
                 satellites: pack(form, satellites),
@@ -91,19 +91,19 @@ impl<G: Grid> Msm<G> {
         }
     }
 
-    /// Returns whether the satellites are of Galileo; otherwise they are of GPS.
-    pub fn is_galileo(&self) -> bool
-        ensures { result ≡ self.now.is_galileo }
+    /// Returns the satellite system.
+    pub fn system(&self) -> System
+        ensures { result ≡ self.now.system }
     {
-        self.system.row().is_galileo
+        self.system
     }
 
     /// Returns the message number, DF002: 1074 to 1077 or 1094 to 1097.
     pub fn number(&self) -> u16
-        ensures value { result ≡ message_number G.form self.now.is_galileo }
+        ensures value { result ≡ message_number G.form self.now.system }
         ensures bound { result < 2 ^ 12 }
     {
-        self.system.number(G::form())
+        message_number(G::form(), self.system)
     }
 
     /// Returns the header fields.
@@ -244,7 +244,7 @@ pub(crate) fn write_msm<G: Grid>(writer: &mut BitWriter, msm: &Msm<G>)
     requires { length writer.old ≡ 0 }
     ensures value { IsValue (satellite_widths G.form) (cell_widths G.form) msm.now }
     ensures bits { writer.new ≡ writer.old
-        ++ msm_bits (satellite_widths G.form) (cell_widths G.form) (message_number G.form msm.now.is_galileo) msm.now 0 }
+        ++ msm_bits (satellite_widths G.form) (cell_widths G.form) (message_number G.form msm.now.system) msm.now 0 }
 {
     let (satellite_widths, cell_widths) = G::form().widths();
     write_head(writer, msm.number(), &msm.header, &msm.masks);

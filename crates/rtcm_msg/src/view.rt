@@ -13,7 +13,6 @@ ghost use Rattle.rtcm_msg.specs.Forms.{IsSatelliteData, IsCellData};
 ghost use Rattle.rtcm_msg.specs.Numbers.{message_number};
 ghost use Rattle.rtcm_msg.specs.Entries.{IsEntry, entries, entry_in};
 ghost use Rattle.rtcm_msg.specs.Encoding.{IsMessage};
-ghost use Rattle.rtcm_msg.specs.Systems.{has_galileo};
 ghost use Rattle.rtcm_msg.specs.Views as views;
 
 use crate::data::{Cell, Satellite};
@@ -26,9 +25,10 @@ use crate::last_bits::LastBits;
 use crate::masks::{Masks, read_head};
 use crate::message::{Message, read_set};
 use crate::msm::msm_of;
+use crate::number::message_number;
 use crate::pairs::{CellsLeft, Pair, split_cells};
 use crate::station::{Station, view_station};
-use crate::system::System;
+use gnss_system::System;
 use rtcm_bits::{LONGEST_MESSAGE, number_at};
 use std::marker::Model;
 
@@ -114,14 +114,13 @@ impl<'a> Model for MsmView<'a> {
     ghost use Rattle.rtcm_msg.specs.Views.{FormedMsm, AreDataOf, satellite_rows, cell_rows};
     ghost use Rattle.rtcm_msg.specs.Forms.{satellite_widths, cell_widths};
     ghost use Rattle.rtcm_msg.specs.Msm.{IsValue};
-    ghost use Rattle.rtcm_msg.specs.Systems.{has_galileo};
 
     ghost Value = { FormedMsm };
 
     ghost view = { λ v. record {
       form = v.form;
       msm = record {
-        is_galileo = has_galileo v.system;
+        system = v.system;
         header = v.header;
         sets = v.masks;
         satellites = satellite_rows v.form v.satellites v.rows;
@@ -131,7 +130,7 @@ impl<'a> Model for MsmView<'a> {
 
     ghost invariant = { λ v. IsValue (satellite_widths v.form) (cell_widths v.form)
         (record {
-          is_galileo = has_galileo v.system;
+          system = v.system;
           header = v.header;
           sets = v.masks;
           satellites = satellite_rows v.form v.satellites v.rows;
@@ -149,19 +148,19 @@ impl<'a> MsmView<'a> {
         self.form
     }
 
-    /// Returns whether the satellites are of Galileo; otherwise they are of GPS.
-    pub fn is_galileo(&self) -> bool
-        ensures { result ≡ self.now.msm.is_galileo }
+    /// Returns the satellite system.
+    pub fn system(&self) -> System
+        ensures { result ≡ self.now.msm.system }
     {
-        self.system.row().is_galileo
+        self.system
     }
 
     /// Returns the message number, DF002: 1074, 1077, 1094 or 1097.
     pub fn number(&self) -> u16
-        ensures value { result ≡ message_number self.now.form self.now.msm.is_galileo }
+        ensures value { result ≡ message_number self.now.form self.now.msm.system }
         ensures bound { result < 2 ^ 12 }
     {
-        self.system.number(self.form)
+        message_number(self.form, self.system)
     }
 
     /// Returns the header fields.
@@ -384,7 +383,7 @@ impl<'a> View<'a> {
 fn view_msm<'a>(bytes: &'a [u8], form: Form, system: System) -> Result<View<'a>, MsgFault>
     requires small { length bytes.now ≤ longest_message }
     requires number { 12 ≤ 8 * length bytes.now }
-    ensures { GivesViewed viewed_message result (views.formed_at form (has_galileo system) (cursor_at (bits_of bytes.now) 12)) }
+    ensures { GivesViewed viewed_message result (views.formed_at form system (cursor_at (bits_of bytes.now) 12)) }
 {
     let (header, masks, satellites_at) = read_head(bytes)?;
     let satellites = masks.satellites().count_ones() as usize;

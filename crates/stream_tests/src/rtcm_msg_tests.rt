@@ -9,7 +9,7 @@ use arrayvec::ArrayVec;
 use known::{Known, bytes_of};
 use rtcm_msg::{
     Cell, Entry, Form, Grid7, Message, MsgFault, Msm, MsmHeader, MsmView, Satellite, StationParts,
-    View, decode, encode, look,
+    System, View, decode, encode, look,
 };
 use std::test::*;
 
@@ -164,36 +164,41 @@ fn has_known_head(msm: &MsmView<'_>) -> bool {
         && msm.cells() == 1
 }
 
-/// Whether a multiple signal message has this form, this number and a known head, and is of
-/// Galileo.
-fn has_head(bytes: &[u8], form: Form, number: u16, is_galileo: bool) -> bool {
+/// Whether a multiple signal message has this form, this number and a known head, and is of this
+/// system.
+fn has_head(bytes: &[u8], form: Form, number: u16, system: System) -> bool {
     match look(bytes) {
         Ok(View::Msm(msm)) => {
             msm.form() == form
                 && msm.number() == number
-                && msm.is_galileo() == is_galileo
+                && msm.system() == system
                 && has_known_head(&msm)
         }
         _ => false,
     }
 }
 
-static HEADS: [(Sent, Form, u16, bool); 3] = [
-    (Sent(Known::Fine, 36, &[]), Form::Msm7, 1077, false),
+static HEADS: [(Sent, Form, u16, System); 3] = [
+    (Sent(Known::Fine, 36, &[]), Form::Msm7, 1077, System::Gps),
     (
         Sent(Known::Fine, 36, &[(0, 0x44), (1, 0x97)]),
         Form::Msm7,
         1097,
-        true,
+        System::Galileo,
     ),
-    (Sent(Known::Galileo, 30, &[]), Form::Msm4, 1094, true),
+    (
+        Sent(Known::Galileo, 30, &[]),
+        Form::Msm4,
+        1094,
+        System::Galileo,
+    ),
 ];
 
 /// Whether a message of a fine grid has this number, the known header, and the known data of its
-/// first satellite and cell, and is of Galileo.
-fn is_known(msm: &Msm<Grid7>, number: u16, is_galileo: bool) -> bool {
+/// first satellite and cell, and is of this system.
+fn is_known(msm: &Msm<Grid7>, number: u16, system: System) -> bool {
     msm.number() == number
-        && msm.is_galileo() == is_galileo
+        && msm.system() == system
         && msm.header() == HEAD
         && msm.satellites() > 0
         && msm.satellite(0) == SATELLITE
@@ -202,9 +207,9 @@ fn is_known(msm: &Msm<Grid7>, number: u16, is_galileo: bool) -> bool {
 }
 
 fn have_data() -> bool {
-    for (sent, _, number, is_galileo) in &HEADS[..2] {
+    for (sent, _, number, system) in &HEADS[..2] {
         match &decode(sent.bytes().as_slice()) {
-            Ok(Message::Msm7(msm)) if is_known(msm, *number, *is_galileo) => {}
+            Ok(Message::Msm7(msm)) if is_known(msm, *number, *system) => {}
             _ => return false,
         }
     }
@@ -217,8 +222,8 @@ fn data_are_read(rt: HostRuntime) {
 }
 
 fn have_heads() -> bool {
-    for (sent, form, number, is_galileo) in &HEADS {
-        if !has_head(sent.bytes().as_slice(), *form, *number, *is_galileo) {
+    for (sent, form, number, system) in &HEADS {
+        if !has_head(sent.bytes().as_slice(), *form, *number, *system) {
             return false;
         }
     }

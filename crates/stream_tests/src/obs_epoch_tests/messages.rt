@@ -1,7 +1,7 @@
 //! The messages of the tests of a gatherer.
 use rtcm_msg::{
     Cell, INVALID_FINE_RATE, INVALID_ROUGH_RATE, Masks, Message, Msm, MsmHeader, Satellite,
-    Station, StationParts,
+    Station, StationParts, System,
 };
 
 /// A message of station 7, with its time in milliseconds of the week and its multiple message bit.
@@ -29,17 +29,27 @@ pub enum Heard {
 
 pub fn message(heard: Heard) -> Message {
     match heard {
-        Heard::Long(time, more, lock) => long(false, header(time, more), 1 << 59, 1 << 30, lock),
-        Heard::Galileo(time, more, lock) => long(true, header(time, more), 1 << 59, 1 << 30, lock),
+        Heard::Long(time, more, lock) => {
+            long(System::Gps, header(time, more), 1 << 59, 1 << 30, lock)
+        }
+        Heard::Galileo(time, more, lock) => {
+            long(System::Galileo, header(time, more), 1 << 59, 1 << 30, lock)
+        }
         Heard::Short(time, more, has_phase, lock) => short(header(time, more), has_phase, lock),
         Heard::Wide(more, satellites, signals) => {
-            long(false, header(1_000, more), satellites, signals, 64)
+            long(System::Gps, header(1_000, more), satellites, signals, 64)
         }
         Heard::All(is_galileo, time, more, signals) => {
-            let satellites = u64::MAX << if is_galileo { 28 } else { 32 };
-            long(is_galileo, header(time, more), satellites, signals, 64)
+            let (system, others) = if is_galileo {
+                (System::Galileo, 28)
+            } else {
+                (System::Gps, 32)
+            };
+            long(system, header(time, more), u64::MAX << others, signals, 64)
         }
-        Heard::Last(time, lock) => long(true, header(time, false), 1 << 28, 1 << 8, lock),
+        Heard::Last(time, lock) => {
+            long(System::Galileo, header(time, false), 1 << 28, 1 << 8, lock)
+        }
         Heard::Unread(station, more) => Message::Other {
             number: 1127,
             set: Some((station, more)),
@@ -69,7 +79,7 @@ fn header(time: u32, more: bool) -> MsmHeader {
 }
 
 /// A message of the long form: each of the satellites with each of the signals, by their masks.
-fn long(is_galileo: bool, header: MsmHeader, satellites: u64, signals: u32, lock: u16) -> Message {
+fn long(system: System, header: MsmHeader, satellites: u64, signals: u32, lock: u16) -> Message {
     let count = satellites.count_ones() as usize;
     let cells = count * signals.count_ones() as usize;
     if count > 36 || cells > 64 || cells == 0 {
@@ -87,7 +97,7 @@ fn long(is_galileo: bool, header: MsmHeader, satellites: u64, signals: u32, lock
         strength: 721,
         rate: 0,
     }; 64];
-    match Msm::new(is_galileo, header, masks, satellites, &data[..cells]) {
+    match Msm::new(system, header, masks, satellites, &data[..cells]) {
         Ok(msm) => Message::Msm7(msm),
         Err(_) => nothing(),
     }
@@ -113,7 +123,7 @@ fn short(header: MsmHeader, has_phase: bool, lock: u16) -> Message {
     let Ok(masks) = Masks::new(1 << 59, 1 << 30, 1) else {
         return nothing();
     };
-    match Msm::new(false, header, masks, &COARSE, &[cell]) {
+    match Msm::new(System::Gps, header, masks, &COARSE, &[cell]) {
         Ok(msm) => Message::Msm4(msm),
         Err(_) => nothing(),
     }

@@ -4,7 +4,7 @@ use super::{CELL, HEADER, SATELLITE, STATION_PARTS, is_written_back};
 use arrayvec::ArrayVec;
 use rtcm_msg::{
     Cell, Field, Grid, Grid4, Grid7, INVALID_FINE_RATE, INVALID_ROUGH_RATE, Masks, Message, Msm,
-    MsmHeader, Satellite, Station, StationParts, ValueFault, View, encode, look,
+    MsmHeader, Satellite, Station, StationParts, System, ValueFault, View, encode, look,
 };
 use std::test::*;
 
@@ -66,7 +66,7 @@ fn msm_fault<G: Grid>(time: u32, satellites: &[Satellite], cells: &[Cell]) -> Op
     let header = MsmHeader { time, ..HEADER };
     // satellite 5 and signal 2
     match Masks::new(1 << 59, 1 << 30, 1) {
-        Ok(masks) => Msm::<G>::new(false, header, masks, satellites, cells).err(),
+        Ok(masks) => Msm::<G>::new(System::Gps, header, masks, satellites, cells).err(),
         Err(_) => None,
     }
 }
@@ -199,7 +199,7 @@ fn write(
     bytes: &mut ArrayVec<u8, 1023>,
 ) {
     if let Ok(masks) = Masks::new(masks.0, masks.1, masks.2) {
-        if let Ok(msm) = Msm::<Grid7>::new(false, HEADER, masks, satellites, cells) {
+        if let Ok(msm) = Msm::<Grid7>::new(System::Gps, HEADER, masks, satellites, cells) {
             encode(&Message::Msm7(msm), bytes);
         }
     }

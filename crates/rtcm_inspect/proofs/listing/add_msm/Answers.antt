@@ -16,5 +16,5 @@ returns c =
     let satellites = add_word c.add_number-5.ensures.text more (ap decimal c.satellites.ensures.set) in
     let signals = add_word c.add_number-6.ensures.text satellites (ap decimal (ap count_ones (c.signals.ensures ∙ ap (λ (x : MasksValue). x.signals) c.masks.ensures))) in
     let cells = add_word c.add_number-7.ensures.text signals (ap decimal c.cells.ensures.set) in
-    end_line c.args.line.now (decimal c.args.offset) (decimal (number_of form m.is_galileo) ∷ decimal m.header.station ∷ decimal m.header.time ∷ decimal (bit m.header.more)
+    end_line c.args.line.now (decimal c.args.offset) (decimal (number_of form m.system) ∷ decimal m.header.station ∷ decimal m.header.time ∷ decimal (bit m.header.more)
     ∷ decimal (count_ones m.sets.satellites) ∷ decimal (count_ones m.sets.signals) ∷ decimal (count_ones m.sets.cells) ∷ []) c.finish.ensures cells

@@ -1,31 +1,31 @@
 use Rattle.std.proofs.Common.{ℕ, ◌≡◌, Bool, List, arith, sym, subst}
 use Rattle.std.proofs.lemmas.Nat.{ones-le}
 use Rattle.std.proofs.lemmas.Result.{err_from_is_err_and}
+use Rattle.gnss_system.specs.declared.system.System.{System}
 use Rattle.rtcm_msg.specs.Names.{Cursor, MsmHeader, Form, MasksValue, pair_count}
-use Rattle.rtcm_msg.specs.Systems.{has_galileo}
 use Rattle.rtcm_msg.proofs.ViewLaws.{AfterMasks, Found, first_short, second_short, whole, are_within}
 use Rattle.rtcm_msg.proofs.view.view_msm.Goals as goal
 
 -- The message by the place of its cells in the view.
-abbrev placed : {form : Form} {g : Bool} {bits : List Bool} {c : Cursor} {h : MsmHeader} {s : MasksValue} {n place m at q : ℕ} → q ≡ at → Found form g bits c h s n place m at → Found form g bits c h s n place m q
+abbrev placed : {form : Form} {g : System} {bits : List Bool} {c : Cursor} {h : MsmHeader} {s : MasksValue} {n place m at q : ℕ} → q ≡ at → Found form g bits c h s n place m at → Found form g bits c h s n place m q
 placed {form} {g} {bits} {c} {h} {s} {n} {place} {m} e f = subst (λ (x : ℕ). Found form g bits c h s n place m x) (sym e) f
 
 pub returns-in_err-header : goal.returns-in_err-header
 returns-in_err-header c =
     let p = err_from_is_err_and c.from_residual.result c.from_residual.ensures.1 in
-    rw (p.1, p.2) (c.in_err-header.ensures.fault c.args.form (has_galileo c.args.system))
+    rw (p.1, p.2) (c.in_err-header.ensures.fault c.args.form c.args.system)
 
 pub returns-in_err-cells_at : goal.returns-in_err-cells_at
 returns-in_err-cells_at c =
     let p = err_from_is_err_and c.from_residual-in_err-cells_at.result c.from_residual-in_err-cells_at.ensures.1 in
     let head : AfterMasks c.args.bytes.now c.in_ok-header.header c.in_ok-header.masks c.in_ok-header.satellites_at = record { header = c.in_ok-header.ensures.read.0; masks = c.in_ok-header.ensures.read.1; there = c.in_ok-header.ensures.within.1 } in
-    rw (p.1, p.2) (first_short c.args.form (has_galileo c.args.system) head c.widths.ensures.satellites c.satellites.ensures c.in_err-cells_at.ensures.exact)
+    rw (p.1, p.2) (first_short c.args.form c.args.system head c.widths.ensures.satellites c.satellites.ensures c.in_err-cells_at.ensures.exact)
 
 pub returns-in_err-end_of_fields : goal.returns-in_err-end_of_fields
 returns-in_err-end_of_fields c =
     let p = err_from_is_err_and c.from_residual-in_err-end_of_fields.result c.from_residual-in_err-end_of_fields.ensures.1 in
     let head : AfterMasks c.args.bytes.now c.in_ok-header.header c.in_ok-header.masks c.in_ok-header.satellites_at = record { header = c.in_ok-header.ensures.read.0; masks = c.in_ok-header.ensures.read.1; there = c.in_ok-header.ensures.within.1 } in
-    rw (p.1, p.2) (second_short (has_galileo c.args.system) head (record { satellite_fields = c.widths.ensures.satellites; cell_fields = c.widths.ensures.cells; satellites = c.satellites.ensures; cells = c.cells.ensures.value })
+    rw (p.1, p.2) (second_short c.args.system head (record { satellite_fields = c.widths.ensures.satellites; cell_fields = c.widths.ensures.cells; satellites = c.satellites.ensures; cells = c.cells.ensures.value })
     c.in_ok-cells_at.ensures.exact c.in_ok-cells_at.ensures.within c.in_err-end_of_fields.ensures.exact)
 
 pub invariant_of-result : goal.invariant_of-result
