@@ -1,10 +1,9 @@
 -- A plan has no more signals than the tables, and an epoch no more satellites than the planned systems.
-use Rattle.rinex_file.proofs.Names.{arith, ◌≡◌, refl, sym, subst, ℕ, suc, ◌+◌, ◌-◌, ◌<◌, ◌≤◌, Bool, true, false, eqb, List, [], ◌∷◌, length, ◌||◌, if◌then◌else◌, All, map, nat_lt, slice_index, list_any, IsStrictlyIncreasing, eqb-true, lt-ltb, All-head, All-tail, length-le_from_distinct_below, table, System, PlanValue, planned_of, satellites, SatelliteRow, IsPlan, IsSatelliteRow, AreSatelliteRows, rank_of, most_rows}
+use Rattle.rinex_file.proofs.Names.{arith, ◌≡◌, refl, subst, ℕ, suc, ◌+◌, ◌-◌, ◌<◌, ◌≤◌, Bool, true, false, eqb, List, [], ◌∷◌, length, ◌||◌, if◌then◌else◌, All, map, nat_lt, slice_index, list_any, IsStrictlyIncreasing, eqb-true, lt-ltb, All-head, All-tail, length-le_from_distinct_below, table, System, PlanValue, planned_of, satellites, SatelliteRow, IsPlan, IsSatelliteRow, AreSatelliteRows, rank_of, most_rows}
 use Rattle.std.specs.List.{sum_by}
 use Rattle.std.proofs.Common.{◌*◌, le_trans, lit≤}
 use Rattle.gnss_system.specs.Systems.{systems, index_of, is_system}
 use Rattle.gnss_system.proofs.SystemLaws.{sum_at_most, sum_less, system_same}
-use Rattle.std.proofs.lemmas.Grind.{common_steps}
 
 -- ---- signals
 

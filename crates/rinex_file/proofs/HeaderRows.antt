@@ -2,6 +2,8 @@
 pub mod Texts
 pub mod Types
 pub mod Agree
+pub mod Letters
+pub mod Some
 pub mod Steps
 pub mod Read
 pub mod End

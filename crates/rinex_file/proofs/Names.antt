@@ -7,9 +7,10 @@ pub use Rattle.gnss_obs.specs.Dates.{IsCivilOf, civil_of}
 pub use Rattle.gnss_obs.specs.GatheredEpochs.{AreGathered, AreGatheredEpochs, AreStationValues, IsCoordinate, IsGathered, IsGatheredEpoch, TimesRise, same_place}
 pub use Rattle.gnss_obs.specs.Plans.{place_in}
 pub use Rattle.gnss_system.specs.Satellites.{letter, most_satellites, satellites}
-pub use Rattle.gnss_system.specs.Systems.{is_system}
+pub use Rattle.gnss_system.specs.Systems.{index_of, is_system, systems}
 pub use Rattle.gnss_obs.specs.SignalLists.{IsAdded, IsOf, indices}
 pub use Rattle.gnss_system.specs.Signals.{IsSignal, SignalAt, code_of, most_signals, signal_of_code, table}
+pub use Rattle.gnss_system.specs.SystemValues.{value_of}
 unfoldable pub use Rattle.gnss_obs.specs.Values.{written_among}
 pub use Rattle.gnss_obs.specs.Values.{Closed, EpochValue, HasTwelveDigits, IsHeld, PlanValue, cells_of, has_value, is_of_satellite, is_written, planned_of, run, same_values, satellites_written}
 pub use Rattle.gnss_obs.specs.Weeks.{week, weeks}
@@ -28,21 +29,21 @@ pub use Rattle.rinex_file.specs.Exact.{AreBefore, ExplainsFault, IsCutShort, IsE
 unfoldable pub use Rattle.rinex_file.specs.File.{epoch_text, event_line, event_text, header_text, line_among, lines_up_to}
 pub use Rattle.rinex_file.specs.File.{change_lines, change_text, closed_text, event_lines, file_lines, file_text, gathered, line_or_none, lines_of_parts, stamped_lines}
 pub use Rattle.rinex_file.specs.File.{lines_of_systems}
-pub use Rattle.rinex_file.specs.FileValues.{AreChanges, AreSatelliteRows, AreSignalValues, AreTexts, AreValues, FitsColumns, HaveRoom, IsChange, IsFileValue, IsFirstSame, IsFrom, IsPlan, IsRow, IsSatelliteRow, IsStamped, IsText, IsTime, changed_by, has_some_value, most_rows, of_system, planned_in, rank_of, time_stamped, values_following}
+pub use Rattle.rinex_file.specs.FileValues.{AreChanges, AreSatelliteRows, AreSignalValues, AreTexts, AreValues, FitsColumns, HaveRoom, IsChange, IsFileValue, IsFirstSame, IsFrom, IsPlan, IsRow, IsSatelliteRow, IsStamped, IsText, IsTime, changed_by, has_some_value, most_rows, planned_in, rank_of, time_stamped, values_following}
 pub use Rattle.rinex_file.specs.Gathered.{AreSignals, HasSatellite}
 unfoldable pub use Rattle.rinex_file.specs.Header.{header_line, header_lines, row_line}
-pub use Rattle.rinex_file.specs.Header.{IsSystemsLetter, all_rows, codes_of, delta_line, end_line, file_system, first_line, first_types, has_line, height_line, is_some_planned, lengths, lines_from, most_type_rows, position_line, row_at, row_count, row_lines, row_place, strength_line, text_columns, texts_line, type_columns, type_front, type_line, type_of, type_rows, types_of, version_fields, version_by, version_line, version_with}
+pub use Rattle.rinex_file.specs.Header.{all_rows, codes_of, delta_line, end_line, flagged_letter, first_line, first_types, has_line, height_line, is_planned, letter_of, lengths, lines_from, most_type_rows, position_line, row_at, row_count, row_lines, row_place, strength_line, systems_letter, text_columns, texts_line, type_columns, type_front, type_line, type_of, type_rows, types_of, version_fields, version_by, version_line}
 pub use Rattle.rinex_file.specs.Limits.{most_line}
 unfoldable pub use Rattle.rinex_file.specs.Lines.{epoch_line, field, satellite_line, signal_text}
 pub use Rattle.rinex_file.specs.Lines.{epoch_fields, lli_byte, row_text, strength_byte}
 pub use Rattle.rinex_file.specs.Numbers.{fixed, joined, left, padded, right}
 pub use Rattle.rinex_file.specs.ParserState.{FollowsHistory, GoesOnWithLine, History, IsLast, IsNext, RefusesLine, ShowsLine, TakesLine, changes_of, events_in, nothing, progress_at, rows_in, stamped_at, with_line}
 pub use Rattle.rinex_file.specs.Read.Fields.{ReadsExactly, digits_from, digits_in, has, next_digit, number_in, some_if}
-pub use Rattle.rinex_file.specs.Read.HeaderSteps.{EndsHeader, GoesOn, GoesTo, HasSignalAt, IsHeaderLineRead, IsOnly, NoneGoesOn, ReadsOrRefuses, ReadsOrRefusesTexts, ReadsTexts, RefusesHeaderLine, RefusesTexts, RefusesTypes, SameFrom, StepsTo, Takes, TakesHeaderLine, TakesTypes, begins_with, expected_if, if_fine, known_line, plan_with, texts_in, with_first, with_letter, with_texts, with_types, with_values}
+pub use Rattle.rinex_file.specs.Read.HeaderSteps.{EndsHeader, GoesOn, GoesTo, HasSignalAt, IsHeaderLineRead, IsOnly, NoneGoesOn, ReadsOrRefuses, ReadsOrRefusesTexts, ReadsTexts, RefusesHeaderLine, RefusesTexts, RefusesTypes, SameFrom, StepsTo, Takes, TakesHeaderLine, TakesTypes, begins_with, expected_if, if_fine, known_line, texts_in, with_first, with_letter, with_texts, with_types, with_values}
 unfoldable pub use Rattle.rinex_file.specs.Read.Keeping.{stamped_text}
 pub use Rattle.rinex_file.specs.Read.Keeping.{HasReadWhole, HasRoom, HaveRowsRoom, Stores, history_of}
 unfoldable pub use Rattle.rinex_file.specs.Read.Progress.{HasLinesLeft}
-pub use Rattle.rinex_file.specs.Read.Progress.{AreCounted, AreSameTexts, AreSized, AreTypes, AreTypesOf, AreValid, Has, HasRow, IsAt, IsBetween, IsHeadAt, IsInEpoch, IsInEvent, IsInHeader, IsPosition, IsShown, Known, Progress, Shown, StartsAt, counted, fits, is_chosen, may_have, shown_of, systems_letter, types_before, begun_at, epoch_after, expected_next, file_with, lines_after, lines_before, position_of, shown_line, shown_rows, shown_with, signals_begun, stamped, types_line, with_epoch, with_row}
+pub use Rattle.rinex_file.specs.Read.Progress.{AreCounted, AreSameTexts, AreSized, AreTypes, AreTypesOf, AreValid, Has, HasRow, IsAt, IsBetween, IsHeadAt, IsInEpoch, IsInEvent, IsInHeader, IsPosition, IsShown, Known, Progress, Shown, StartsAt, counted, fits, is_chosen, shown_of, types_before, begun_at, epoch_after, expected_next, file_with, lines_after, lines_before, position_of, shown_line, shown_rows, shown_with, signals_begun, stamped, types_line, with_epoch, with_row}
 pub use Rattle.rinex_file.specs.Read.Row.{AreEntries, IsRowOf}
 pub use Rattle.rinex_file.specs.Read.Sound.{AreLinesAt, AreLinesOf, AreRead, HasReadLines, IsBegun, IsEventExpected, IsSound, IsSoundAt, MayBegin, values_now}
 pub use Rattle.rinex_file.specs.Read.Steps.{HasRead, IsTaken, IsTextOfOnly, IsWhole, ReadsNextLine, file_at}

@@ -5,7 +5,6 @@ use Rattle.std.specs.Prelude.{IfSome, IsTrue}
 use Rattle.std.specs.List.{IsDistinct, list_all, sum_by}
 use Rattle.std.specs.List.Sorted.{IsStrictlyIncreasing}
 use Rattle.gnss_system.specs.declared.system.System.{System}
-use Rattle.gnss_system.specs.declared.system.System.TheVariants.{Gps, Galileo}
 use Rattle.gnss_system.specs.Systems.{systems, index_of}
 use Rattle.gnss_system.specs.Satellites.{satellites}
 use Rattle.gnss_system.specs.Signals.{table}
@@ -87,11 +86,6 @@ pub record IsRow (most signals : ℕ) (r : Row) : Type 0 where
 -- the number of planned signals of each system
 abbrev pub planned_in : PlanValue → System → ℕ
 planned_in p s = length (planned_of s p)
-
--- the first value for GPS, the second for Galileo
-abbrev pub of_system : {X : Type 0} → System → X → X → X
-of_system Gps gps galileo = gps
-of_system Galileo gps galileo = galileo
 
 -- a satellite's rank among all: by system, and then by its number, which has two digits
 abbrev pub rank_of : SatelliteRow → ℕ

@@ -1,8 +1,9 @@
 -- The lines of a header, RINEX 3.05, table A2: content in columns 1 to 60, the label from column 61 on.
-use Rattle.std.specs.Prelude.{◌≡◌, ◌⊎◌, ℕ, zero, suc, ℤ, pos, ◌+◌, ◌*◌, ◌/◌, ◌==◌, if◌then◌else◌, List, [], ◌∷◌, ◌++◌, length}
-use Rattle.std.specs.Prelude.{take, drop, map, flat_map, replicate, decimal, codes, get_or, Bool, true, false, not, nat_lt}
+use Rattle.std.specs.Prelude.{ℕ, zero, suc, ℤ, pos, ◌+◌, ◌*◌, ◌/◌, ◌==◌, if◌then◌else◌, List, [], ◌∷◌, ◌++◌, length}
+use Rattle.std.specs.Prelude.{take, drop, map, flat_map, replicate, decimal, codes, get_or, Bool, true, false, nat_lt}
+use Rattle.std.specs.List.{filter}
 use Rattle.gnss_system.specs.Satellites.{letter}
-use Rattle.gnss_system.specs.Systems.{is_system}
+use Rattle.gnss_system.specs.Systems.{systems, is_system}
 use Rattle.gnss_system.specs.Signals.{code_of}
 use Rattle.gnss_system.specs.declared.system.System.{System}
 use Rattle.gnss_system.specs.declared.system.System.TheVariants.{Gps, Galileo}
@@ -29,17 +30,23 @@ lengths a b c = joined (right 14 (fixed 4 a) ∷ right 14 (fixed 4 b) ∷ right 
 
 -- ---- version and texts
 
--- some signal is planned
-abbrev pub is_some_planned : List ℕ → Bool
-is_some_planned signals = not (length signals == 0)
+-- some signal of a system is planned
+abbrev pub is_planned : PlanValue → System → Bool
+is_planned p system = nat_lt 0 (length (planned_of system p))
 
--- the letter of the systems that are planned: G, E, or M if both are
-abbrev pub file_system : Bool → Bool → ℕ
-file_system gps galileo = if gps then (if galileo then 77 else letter Gps) else letter Galileo
+-- the letter of these systems: that of one, or M for several
+abbrev pub letter_of : List System → ℕ
+letter_of [] = 0
+letter_of (s ∷ []) = letter s
+letter_of (s ∷ t ∷ ss) = 77
 
--- the letter of one system or of several
-abbrev pub IsSystemsLetter : ℕ → Type 0
-IsSystemsLetter letter = (letter ≡ 77) ⊎ (letter ≡ 71) ⊎ (letter ≡ 69)
+-- the letter of the systems with a flag
+abbrev pub flagged_letter : (System → Bool) → ℕ
+flagged_letter flags = letter_of (filter flags systems)
+
+-- the letter of the systems that are planned
+abbrev pub systems_letter : PlanValue → ℕ
+systems_letter p = flagged_letter (is_planned p)
 
 -- the fields of the first line of a file with this letter of its systems
 abbrev pub version_fields : ℕ → List (List ℕ)
@@ -50,12 +57,8 @@ version_fields letter =
 abbrev pub version_by : ℕ → List ℕ
 version_by letter = header_line (joined (version_fields letter)) (codes "RINEX VERSION / TYPE")
 
--- if these systems are planned
-abbrev pub version_with : Bool → Bool → List ℕ
-version_with gps galileo = version_by (file_system gps galileo)
-
 abbrev pub version_line : PlanValue → List ℕ
-version_line p = version_with (is_some_planned p.gps) (is_some_planned p.galileo)
+version_line p = version_by (systems_letter p)
 
 -- the text of a field, in its columns
 abbrev pub text_columns : HeaderLists → HeaderField → List ℕ
@@ -145,7 +148,7 @@ row_line x p v t End = end_line
 -- whether a row is in the header: types and phase shifts are those of a planned system
 abbrev pub has_line : PlanValue → HeaderRow → Bool
 has_line p (Types system row) = nat_lt row (type_rows (length (planned_of system p)))
-has_line p (Shift system) = nat_lt 0 (length (planned_of system p))
+has_line p (Shift system) = is_planned p system
 has_line p other = true
 
 abbrev pub row_lines : HeaderLists → PlanValue → StationValues → Civil → HeaderRow → List (List ℕ)

@@ -2,6 +2,7 @@
 pub(crate) mod fault;
 pub(crate) mod fields;
 pub(crate) mod head;
+pub(crate) mod letters;
 pub(crate) mod lines;
 pub(crate) mod rows;
 pub(crate) mod texts;

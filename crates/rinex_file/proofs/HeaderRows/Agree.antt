@@ -3,17 +3,13 @@ use Rattle.std.proofs.lemmas.Grind.{flat_map-append}
 use Rattle.rinex_file.proofs.Digits.Numbers.{number_in-fixed, digits_in-right, digits_in-fixed, length-fixed, length-right}
 use Rattle.rinex_file.proofs.Reading.Dates.{IsField, AreFields, field_at}
 use Rattle.rinex_file.proofs.HeaderRows.Types.{content_first}
-use Rattle.rinex_file.proofs.Names.{arith, ◌≡◌, ◌∙◌, refl, sym, ap, ℕ, ◌+◌, ◌/◌, ◌<◌, ◌≤◌, ◌^◌, List, [], ◌∷◌, ◌++◌, length, take, drop, append-nil, length-append, Bool, true, false, ℤ, pos, unsigned_abs, suc, lit<, ◌==◌, codes, if◌then◌else◌, flat_map, nat_lt, slice_index, is_negative, digits, sign_text, nat_tests, ints, take_more, take-append-drop, drop-cons, System, passes_at, is_equal, civil_of, PlanValue, planned_of, StationValues, Civil, joined, right, fixed, digits_in, number_in, header_line, lengths, height_line, row_line, row_lines, has_line, header_lines, all_rows, row_count, row_at, row_place, lines_from, type_rows, version_by, Shown, shown_rows, lines_before, lines_after, IsShown, shown_line, AreTypes, types_line, is_some_planned, IsCoordinate, End, Types, lines_of_header, HeaderLists, HeaderRow, drop-append-le}
+use Rattle.rinex_file.proofs.Names.{arith, ◌≡◌, ◌∙◌, refl, sym, ap, ℕ, ◌+◌, ◌/◌, ◌<◌, ◌≤◌, ◌^◌, List, [], ◌∷◌, ◌++◌, length, take, drop, append-nil, length-append, Bool, true, false, ℤ, pos, unsigned_abs, suc, lit<, ◌==◌, codes, if◌then◌else◌, flat_map, nat_lt, slice_get, unwrap_or, is_negative, digits, sign_text, ints, take_more, take-append-drop, drop-cons, System, passes_at, is_equal, civil_of, PlanValue, planned_of, StationValues, Civil, joined, right, fixed, digits_in, number_in, header_line, lengths, height_line, row_line, row_lines, has_line, header_lines, all_rows, row_count, row_at, row_place, lines_from, type_rows, version_by, Shown, shown_rows, lines_before, lines_after, IsShown, shown_line, AreTypes, types_line, IsCoordinate, End, Types, lines_of_header, HeaderLists, HeaderRow, drop-append-le}
 
 -- ---- version
 
-pub letter_at : (letter : ℕ) → slice_index (version_by letter) 40 ≡ letter
+pub letter_at : (letter : ℕ) → unwrap_or (slice_get (take 1 (drop 40 (version_by letter))) 0) 0 ≡ letter
 unfolding header_line digits
 letter_at letter = refl
-
-pub version_size : (letter : ℕ) → length (version_by letter) ≡ 81
-unfolding header_line digits
-version_size letter = refl
 
 -- ---- position and height
 
@@ -127,9 +123,3 @@ rows_when h r b e = ap (λ c. if c then shown_line h r ∷ [] else []) e
 pub types_in : (h : Shown) (s : System) (r : ℕ) → r < type_rows (length (planned_of s h.plan)) → shown_rows h (Types s r) ≡ types_line s (planned_of s h.plan) r ∷ []
 unfolding row_line
 types_in h s r less = rows_when h (Types s r) true (is_lt r (type_rows (length (planned_of s h.plan))) less)
-
-pub some_planned : (xs : List ℕ) → is_some_planned xs ≡ true → 0 < length xs
-some_planned v0 e = grind arith
-
-pub planned_is : (xs : List ℕ) → nat_lt 0 (length xs) ≡ is_some_planned xs
-planned_is v0 = grind (arith, nat_tests)

@@ -1,14 +1,14 @@
 -- The last line of a header, the header that was read, and the start.
 use Rattle.rinex_file.proofs.Reading.Epochs.{few_signals_of}
 use Rattle.rinex_file.proofs.HeaderRows.Agree.{split_at, less_or}
-use Rattle.rinex_file.proofs.HeaderRows.Steps.{SomeShown, some_shown, rest_next}
+use Rattle.gnss_system.proofs.SystemLaws.{each_system, equal_values}
+use Rattle.rinex_file.proofs.HeaderRows.Letters.{same_flags}
+use Rattle.rinex_file.proofs.HeaderRows.Some.{SomeShown, some_shown}
+use Rattle.rinex_file.proofs.HeaderRows.Steps.{rest_next}
 use Rattle.rinex_file.proofs.HeaderRows.Texts.{place_back, same_at, same_rows}
-use Rattle.rinex_file.proofs.Names.{nat_lt, ◌&&◌, letter, file_system, arith, ◌≡◌, ◌∙◌, sym, ap, ap₂, map, refl, subst, ℕ, ℤ, pos, suc, lit<, lit≤, ◌<◌, Bool, true, ◌||◌, min, List, [], ◌∷◌, ◌++◌, length, get_or, replicate, All, nat_eq, AllOfLen, IsDistinct, take_all, ext_get_or, All-map, All-weaker, SignalAt, IsSignal, table, System, Gps, Galileo, indices, IsOf, PlanValue, planned_of, StationValues, TextRow, Texts, Position, Delta, First, End, trimmed, HeaderLists, text_count, text_of, width_of, fields, fields_of, text_rows, HeaderField, AntType, IsText, AreTexts, AreValues, IsTime, row_line, row_place, end_line, most_type_rows, Known, Shown, IsShown, AreValid, IsHeadAt, shown_with, lines_before, signals_begun, RefusesHeaderLine, EndsHeader, none_of, row_at, AreSized, AreTypesOf, AreSameTexts, Has, HasRow, fits, counted, types_before, StrengthUnit, SameFrom, position_of, ◌==◌}
+use Rattle.rinex_file.proofs.Names.{nat_lt, ◌&&◌, letter, arith, ◌≡◌, ◌∙◌, sym, ap, ap₂, map, refl, subst, ℕ, ℤ, pos, suc, lit<, lit≤, ◌<◌, true, ◌||◌, min, List, [], ◌∷◌, ◌++◌, length, get_or, replicate, All, nat_eq, AllOfLen, IsDistinct, take_all, ext_get_or, All-map, All-weaker, SignalAt, IsSignal, table, System, Gps, Galileo, indices, IsOf, PlanValue, planned_of, StationValues, TextRow, Texts, Position, Delta, First, End, trimmed, HeaderLists, text_count, text_of, width_of, fields, fields_of, text_rows, HeaderField, AntType, IsText, AreTexts, AreValues, IsTime, row_line, row_place, end_line, most_type_rows, Known, Shown, IsShown, AreValid, IsHeadAt, shown_with, lines_before, signals_begun, RefusesHeaderLine, EndsHeader, none_of, row_at, AreSized, AreTypesOf, AreSameTexts, Has, HasRow, fits, counted, types_before, StrengthUnit, SameFrom, position_of, ◌==◌, is_chosen, is_less, first_types, ◌+◌, ◌-◌}
 
 -- ---- a header with all that was read is the one that was read
-
-same_plan : (p q : PlanValue) → p.gps ≡ q.gps → p.galileo ≡ q.galileo → p ≡ q
-same_plan p q a b = grind arith
 
 abbrev made_values : ℤ → ℤ → ℤ → ℕ → StationValues
 made_values x y z height = record { x = x; y = y; z = z; height = height }
@@ -25,9 +25,11 @@ text_here r = grind arith
 text_far : (r : TextRow) → row_place (Texts r) < row_place End
 text_far r = grind arith
 
-all_rows_before : (s : System) → types_before s (row_place End) ≡ most_type_rows
-all_rows_before Gps = refl
-all_rows_before Galileo = refl
+-- all types are before the rows after the unit's
+all_before : (s : System) (from : ℕ) → row_place StrengthUnit < from → types_before s from ≡ most_type_rows
+all_before s from far = by (first_types s) (is_less _ _ (each_system (λ s. nat_lt (first_types s + 5) (row_place StrengthUnit)) s refl)) where
+  by : (f : ℕ) → f + 5 < row_place StrengthUnit → min most_type_rows (from - f) ≡ most_type_rows
+  by f few = omega (arith, few, far)
 
 module _ (k : Known) (h : Shown) (is : IsShown h) (valid : AreValid k) (has : Has k (row_place End) h) where
   texts : h.texts ≡ k.shown.texts
@@ -42,7 +44,7 @@ module _ (k : Known) (h : Shown) (is : IsShown h) (valid : AreValid k) (has : Ha
   signals s =
       let few = few_signals_of h.plan is.plan s in
       let types : AreTypesOf most_type_rows (counted k s) (planned_of s k.shown.plan) (planned_of s h.plan) =
-      subst (λ m. AreTypesOf m (counted k s) (planned_of s k.shown.plan) (planned_of s h.plan)) (all_rows_before s) (has.types s) in
+      subst (λ m. AreTypesOf m (counted k s) (planned_of s k.shown.plan) (planned_of s h.plan)) (all_before s (row_place End) (lit< tt)) (has.types s) in
       sym (types.begun ∙ take_all (signals_begun most_type_rows) (planned_of s h.plan) (omega (arith, few)))
 
   values : h.values ≡ k.shown.values
@@ -51,25 +53,14 @@ module _ (k : Known) (h : Shown) (is : IsShown h) (valid : AreValid k) (has : Ha
       same_values h.values k.shown.values (ap (λ (v : StationValues). v.x) position) (ap (λ (v : StationValues). v.y) position) (ap (λ (v : StationValues). v.z) position) (has.rows (row_place Delta) (lit< tt))
 
   pub same_header : h ≡ k.shown
-  same_header = same_shown h k.shown texts (same_plan h.plan k.shown.plan (signals Gps) (signals Galileo)) values (has.rows (row_place First) (lit< tt))
+  same_header = same_shown h k.shown texts (equal_values h.plan k.shown.plan signals) values (has.rows (row_place First) (lit< tt))
 
 -- ---- the last line
 
 -- what fits at a row after the types fits at the last
-abbrev chosen_at : Known → ℕ → System → Bool
-chosen_at k rows s = (rows == 0 || nat_lt 0 (counted k s)) && (k.letter == 77 || k.letter == letter s)
-
-abbrev fits_at : Known → ℕ → ℕ → Bool
-fits_at k a b = (file_system (chosen_at k a Gps) (chosen_at k b Galileo) == k.letter)
-    && (chosen_at k a Gps || chosen_at k b Galileo) && (k.gps == 0 || chosen_at k a Gps) && (k.galileo == 0 || chosen_at k b Galileo)
-
 still_fits : (k : Known) (from : ℕ) → row_place StrengthUnit < from → fits k from ≡ true → fits k (row_place End) ≡ true
-still_fits k from far e = sym (ap₂ (fits_at k) gps galileo) ∙ e where
-  gps : types_before Gps from ≡ 6
-  gps = omega (arith, far)
-
-  galileo : types_before Galileo from ≡ 6
-  galileo = omega (arith, far)
+still_fits k from far e = ap (λ m. (m == k.letter) && nat_lt 0 k.letter) (same_flags (is_chosen k (row_place End)) (is_chosen k from) (λ s. ap (λ m. nat_lt 0 (counted k s) || (m == 0 && (k.letter == 77 || k.letter == letter s)))
+    (all_before s (row_place End) (lit< tt) ∙ sym (all_before s from far)))) ∙ e
 
 module _ (k : Known) (line : List ℕ) (from : ℕ) (at : IsHeadAt k from) (same : SameFrom k line from (row_place End)) where
   at_end : IsHeadAt k (row_place End)
@@ -125,7 +116,7 @@ valid_by {made = made} {gps} {galileo} e texts g l values first plan = subst Are
   apart Galileo = subst (λ (p : PlanValue). IsDistinct nat_eq p.galileo) (sym plan) l.apart
 
 -- nothing was read
-pub begins : (k : Known) → AreValid k → k.gps ≡ 0 → k.galileo ≡ 0 → k.shown.plan.gps ≡ [] → k.shown.plan.galileo ≡ [] → IsHeadAt k 0
+pub begins : (k : Known) → AreValid k → k.counts.gps ≡ 0 → k.counts.galileo ≡ 0 → k.shown.plan.gps ≡ [] → k.shown.plan.galileo ≡ [] → IsHeadAt k 0
 begins k valid m n gps galileo = record { valid = valid; sized = sized; fitting = λ l. absurd (omega (arith, l)); expected = lit≤ tt } where
   none : (s : System) (count : ℕ) (signals : List ℕ) → count ≡ 0 → signals ≡ [] → AreSized s 0 count signals
   none s count signals e f = record { few = omega (arith, e); none = λ z. e; size = ap length f ∙ zero_min count e } where
@@ -133,8 +124,8 @@ begins k valid m n gps galileo = record { valid = valid; sized = sized; fitting 
     zero_min c e = omega (arith, e)
 
   sized : (s : System) → AreSized s (types_before s 0) (counted k s) (planned_of s k.shown.plan)
-  sized Gps = none Gps k.gps k.shown.plan.gps m gps
-  sized Galileo = none Galileo k.galileo k.shown.plan.galileo n galileo
+  sized Gps = none Gps k.counts.gps k.shown.plan.gps m gps
+  sized Galileo = none Galileo k.counts.galileo k.shown.plan.galileo n galileo
 
 blank_text : (f : HeaderField) → IsText (width_of f) (text_of (replicate text_count []) f)
 unfolding trimmed

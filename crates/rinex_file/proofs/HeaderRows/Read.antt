@@ -1,10 +1,11 @@
 -- What is known after each line of a header.
 use Rattle.rinex_file.specs.Read.HeaderSteps.{AreBegun}
+use Rattle.gnss_system.proofs.SystemLaws.{value_after, value_of_other}
 use Rattle.rinex_file.proofs.HeaderRows.Agree.{types_in, types_shown, rows_when}
 use Rattle.rinex_file.proofs.HeaderRows.Steps.{Law, known_count, own_before, other_before, either, single, present, shows_next}
-use Rattle.rinex_file.proofs.HeaderRows.Texts.{equal_or, same_line, kept_texts, same_texts, texts_back}
+use Rattle.rinex_file.proofs.HeaderRows.Texts.{equal_or, same_here, same_line, kept_texts, same_texts, texts_back}
 use Rattle.rinex_file.proofs.PlainTexts.{both}
-use Rattle.rinex_file.proofs.Names.{arith, ◌≡◌, ◌∙◌, sym, ap, refl, subst, ℕ, zero, suc, ◌+◌, ◌<◌, ◌≤◌, Bool, true, false, List, [], ◌∷◌, length, take, min, ◌↔◌, ◌^◌, get_or, Option, Some, None, IsTrue, nat_lt, codes, nat_le, list_all, take-take, take-map, SignalAt, table, System, Gps, Galileo, is_less, is_system, indices, planned_of, civil_of, StationValues, length_indices, Types, Version, Texts, Position, Delta, StrengthUnit, First, Shift, row_line, row_count, row_at, has_line, type_rows, position_line, row_place, header_line, height_line, first_line, strength_line, version_by, file_system, IsSystemsLetter, is_some_planned, Known, Has, HasRow, AreSized, AreTypesOf, AreCounted, AreSameTexts, counted, types_before, systems_letter, shown_line, shown_rows, AreTypes, types_line, signals_begun, IsPosition, position_of, Shown, IsShown, known_line, NoneGoesOn, TakesTypes, RefusesTypes, with_types, IsHeaderLineRead, RefusesHeaderLine, ReadsOrRefuses, ReadsTexts, RefusesTexts, with_texts, with_values, with_first, with_letter, TextRow, HeaderRow, HeaderLists, text_row_index, fields_of, place_of, front_of, HeaderField, AntType, IsTime, letter, ReadsExactly, same_Some}
+use Rattle.rinex_file.proofs.Names.{arith, ◌≡◌, ◌∙◌, sym, ap, refl, subst, ℕ, zero, suc, ◌+◌, ◌<◌, ◌≤◌, Bool, true, false, List, [], ◌∷◌, length, take, min, ◌↔◌, ◌^◌, get_or, Option, Some, None, IsTrue, nat_lt, codes, nat_le, list_all, take-take, take-map, SignalAt, table, System, is_less, is_system, indices, planned_of, civil_of, StationValues, length_indices, Types, Version, Texts, Position, Delta, StrengthUnit, First, Shift, row_line, row_count, row_at, has_line, type_rows, position_line, row_place, header_line, height_line, first_line, strength_line, version_by, Known, Has, HasRow, AreSized, AreTypesOf, AreCounted, AreSameTexts, counted, types_before, systems_letter, shown_line, shown_rows, AreTypes, types_line, signals_begun, IsPosition, position_of, Shown, IsShown, known_line, NoneGoesOn, TakesTypes, RefusesTypes, with_types, IsHeaderLineRead, RefusesHeaderLine, ReadsOrRefuses, ReadsTexts, RefusesTexts, with_texts, with_values, with_first, with_letter, TextRow, HeaderRow, HeaderLists, text_row_index, fields_of, place_of, front_of, HeaderField, AntType, IsTime, letter, ReadsExactly, same_Some, ⊤}
 
 -- ---- numbers of signals
 
@@ -52,17 +53,16 @@ same_rows_known : (s : System) (k : Known) (count : ℕ) (signals : List ℕ) (h
 same_rows_known s k count signals h Version = (λ e. e, λ e. e)
 same_rows_known s k count signals h other = (λ e. e, λ e. e)
 
+same_made : (P : ℕ → List ℕ → Type 0) {a b : ℕ} {xs ys : List ℕ} → a ≡ b → xs ≡ ys → P a xs ↔ P b ys
+same_made P {a} {b} {xs} {ys} e f = (λ p. subst (λ n. P n ys) e (subst (P a) f p), λ p. subst (P a) (sym f) (subst (λ n. P n ys) (sym e) p))
+
 -- what was read of a system is new, and what was read of another is the same
 own_made : (P : ℕ → List ℕ → Type 0) (s : System) (k : Known) (count : ℕ) (signals : List ℕ) → P count signals ↔ P (counted (with_types s k count signals) s) (planned_of s (with_types s k count signals).shown.plan)
-own_made P Gps k count signals = (λ p. p, λ p. p)
-own_made P Galileo k count signals = (λ p. p, λ p. p)
+own_made P s k count signals = same_made P (sym (value_after s k.counts count)) (sym (value_after s k.shown.plan signals))
 
 other_made : (P : ℕ → List ℕ → Type 0) (s t : System) (k : Known) (count : ℕ) (signals : List ℕ) → is_system s t ≡ false
     → P (counted k t) (planned_of t k.shown.plan) ↔ P (counted (with_types s k count signals) t) (planned_of t (with_types s k count signals).shown.plan)
-other_made P Gps Gps k count signals e = cc
-other_made P Gps Galileo k count signals e = (λ p. p, λ p. p)
-other_made P Galileo Gps k count signals e = (λ p. p, λ p. p)
-other_made P Galileo Galileo k count signals e = cc
+other_made P s t k count signals e = same_made P (sym (value_of_other s t k.counts count e)) (sym (value_of_other s t k.shown.plan signals e))
 
 next_row : (row : ℕ) → row + 1 ≡ suc row
 next_row row = omega arith
@@ -181,10 +181,6 @@ same_in : (x y : HeaderLists) (n : ℕ) → ((i : ℕ) → i < n → get_or x i 
 same_in x y n same [] all = tt
 same_in x y n same (f ∷ fs) all = let parts = both (nat_lt (place_of f) n) (list_all (λ f. nat_lt (place_of f) n) fs) all in (same (place_of f) (is_less (place_of f) n parts.0), same_in x y n same fs parts.1)
 
-same_here : (x : HeaderLists) (fs : List HeaderField) → AreSameTexts x x fs
-same_here x [] = tt
-same_here x (f ∷ fs) = (refl, same_here x fs)
-
 turned : (x y : HeaderLists) (fs : List HeaderField) → AreSameTexts x y fs → AreSameTexts y x fs
 turned x y fs a = same_texts x y x fs a (same_here x fs)
 
@@ -286,21 +282,10 @@ line_shift system byte k line b e is =
 
 -- ---- version and systems
 
-abbrev Systems : List ℕ → Option ℕ → Type 0
-Systems line r = ReadsExactly IsSystemsLetter version_by line r
-
-letter_is : (a b : Bool) → IsSystemsLetter (file_system a b)
-letter_is a b = grind arith
-
-pub line_version : (k : Known) (l : ℕ) (line : List ℕ) → Systems line (Some l) → IsHeaderLineRead Version line k (with_letter k l)
+pub line_version : (k : Known) (l : ℕ) (line : List ℕ) → ReadsExactly (λ byte. ⊤) version_by line (Some l) → IsHeaderLineRead Version line k (with_letter k l)
 unfolding row_line
-line_version k l line r = record {
-  plan = refl;
-  counts = λ s. refl;
-  own = λ h is. exact {Is = IsSystemsLetter} {text = version_by} r (systems_letter h.plan) (letter_is (is_some_planned h.plan.gps) (is_some_planned h.plan.galileo));
-  kept = λ h q less. absurd (omega (arith, less));
-}
+line_version k l line r = record { plan = refl; counts = λ s. refl; own = λ h is. exact {Is = λ byte. ⊤} {text = version_by} r (systems_letter h.plan) tt; kept = λ h q less. absurd (omega (arith, less)) }
 
-pub refuse_version : (line : List ℕ) → Systems line None → RefusesHeaderLine Version line
+pub refuse_version : (line : List ℕ) → ReadsExactly (λ byte. ⊤) version_by line None → RefusesHeaderLine Version line
 unfolding row_line
-refuse_version line r h is e = r (systems_letter h.plan) (letter_is (is_some_planned h.plan.gps) (is_some_planned h.plan.galileo)) (sym e)
+refuse_version line r h is e = r (systems_letter h.plan) tt (sym e)

@@ -1,53 +1,13 @@
--- Some header has what was read; and the steps from a row of a header to the next.
+-- The steps from a row of a header to the next.
 use Rattle.rinex_file.proofs.Reading.Epochs.{cons_parts}
-use Rattle.rinex_file.proofs.HeaderRows.Agree.{less_or, planned_is, rows_when, placed, line_next, line_none, before_next, is_lt}
+use Rattle.rinex_file.proofs.HeaderRows.Agree.{less_or, rows_when, placed, line_next, line_none, before_next}
+use Rattle.gnss_system.proofs.Checked.{passes_below}
+use Rattle.gnss_system.proofs.SystemLaws.{each_system, system_same, system_self}
+use Rattle.rinex_file.proofs.HeaderRows.Letters.{has_fits}
 use Rattle.rinex_file.proofs.HeaderRows.Texts.{equal_or}
 use Rattle.rinex_file.proofs.HeaderRows.Types.{content_first}
 use Rattle.rinex_file.proofs.PlainTexts.{both}
-use Rattle.rinex_file.proofs.Names.{Result, Refusal, TakesHeaderLine, expected_if, take_min, nil_from_length, if◌then◌else◌, drop, all_rows, arith, ◌≡◌, ◌∙◌, sym, ap, refl, subst, ℕ, zero, suc, ◌+◌, ◌-◌, ◌<◌, ◌≤◌, Bool, true, false, eqb, nat_eq, List, [], ◌∷◌, ◌++◌, length, take, append-nil, length-append, All, not, take_all, take-take, ◌≢◌, ◌==◌, ◌&&◌, min, ◌↔◌, ◌||◌, nat_lt, list_any, IsDistinct, take-append_seam, nat_eq_equiv, IsDistinct-push, le-length_from_below, nat_tests, All-nil, All-cons, All-push, table, System, Gps, Galileo, passes_at, is_less, PlanValue, planned_of, civil_of, Known, IsShown, AreValid, is_some_planned, shown_with, Shown, IsHeadAt, shown_rows, shown_line, lines_before, lines_after, signals_begun, HeaderRow, Types, StrengthUnit, First, Shift, End, Expected, has_line, row_at, row_count, row_place, most_type_rows, type_rows, known_line, RefusesHeaderLine, NoneGoesOn, SameFrom, AreCounted, AreSameTexts, AreSized, AreTypesOf, Has, HasRow, counted, fits, is_chosen, may_have, systems_letter, types_before, begins_with, IsHeaderLineRead, GoesOn, Takes, is_system, flat_map, Texts, HeaderLists, HeaderField, Version, Position, Delta, row_line, header_line, letter, codes, file_system, is_equal, fields_of}
-
--- ---- signals of a system, with others up to a number
-
--- a number below n that isn't in a list
-record Fresh (n : ℕ) (xs : List ℕ) : Type 0 where
-  i : ℕ
-  below : i < n
-  isnt : list_any (eqb i) xs ≡ false
-
--- there is one, unless the list has them all
-fresh_unless : (n : ℕ) (xs : List ℕ) → (((i : ℕ) → i < n → list_any (eqb i) xs ≡ true) → ⊥) → Fresh n xs
-fresh_unless zero xs some = absurd (some (λ i less. absurd (omega (arith, less))))
-fresh_unless (suc n) xs some = by (list_any (eqb n) xs) refl (fresh_unless n xs) where
-  by : (t : Bool) → list_any (eqb n) xs ≡ t → ((((i : ℕ) → i < n → list_any (eqb i) xs ≡ true) → ⊥) → Fresh n xs) → Fresh (suc n) xs
-  by false e rest = record { i = n; below = omega arith; isnt = e }
-  by true e rest =
-      let one = rest (λ all. some (λ i less. equal_or (list_any (eqb i) xs ≡ true) i n (λ same. subst (λ j. list_any (eqb j) xs ≡ true) (sym same) e) (λ other. all i (omega (arith, less, other))))) in
-      let less = one.below in record { i = one.i; below = omega (arith, less); isnt = one.isnt }
-
-fresh : (n : ℕ) (xs : List ℕ) → length xs < n → Fresh n xs
-fresh n xs few = fresh_unless n xs (λ all. let many = le-length_from_below xs n all in omega (arith, few, many))
-
-abbrev AreBelow : ℕ → List ℕ → Type 0
-AreBelow n xs = All (λ i. i < n) xs
-
--- a list of c numbers below n that begins with these
-record Completed (n c : ℕ) (xs : List ℕ) : Type 0 where
-  all : List ℕ
-  size : length all ≡ c
-  below : AreBelow n all
-  apart : IsDistinct nat_eq all
-  begins : xs ≡ take (length xs) all
-
-in_front : (xs all : List ℕ) (i : ℕ) → xs ++ i ∷ [] ≡ take (length (xs ++ i ∷ [])) all → xs ≡ take (length xs) all
-in_front xs all i e = sym (take-append_seam xs (i ∷ [])) ∙ ap (take (length xs)) e ∙ take-take (length xs) (length (xs ++ i ∷ [])) all (omega (arith, length-append xs (i ∷ [])))
-
-complete : (d n c : ℕ) (xs : List ℕ) → AreBelow n xs → IsDistinct nat_eq xs → length xs + d ≡ c → c ≤ n → Completed n c xs
-complete zero n c xs below apart whole room = record { all = xs; size = omega (arith, whole); below = below; apart = apart; begins = sym (take_all (length xs) xs (omega arith)) }
-complete (suc d) n c xs below apart whole room =
-    let one = fresh n xs (omega (arith, whole, room)) in
-    let longer : length (xs ++ one.i ∷ []) ≡ length xs + 1 = length-append xs (one.i ∷ []) in
-    let rest = complete d n c (xs ++ one.i ∷ []) (All-push (λ i. i < n) xs one.i below one.below) (IsDistinct-push nat_eq_equiv xs one.i apart one.isnt) (omega (arith, whole, longer)) room in
-    record { all = rest.all; size = rest.size; below = rest.below; apart = rest.apart; begins = in_front xs rest.all one.i rest.begins }
+use Rattle.rinex_file.proofs.Names.{Result, Refusal, TakesHeaderLine, expected_if, if◌then◌else◌, drop, all_rows, arith, ◌≡◌, ◌∙◌, sym, ap, refl, subst, ℕ, zero, suc, ◌+◌, ◌<◌, ◌≤◌, Bool, true, false, List, [], ◌∷◌, ◌++◌, length, take, append-nil, not, take_all, ◌≢◌, ◌==◌, ◌&&◌, min, ◌↔◌, nat_lt, nat_tests, System, passes_at, planned_of, civil_of, Known, IsShown, AreValid, Shown, IsHeadAt, shown_rows, shown_line, lines_before, lines_after, signals_begun, HeaderRow, Types, StrengthUnit, Shift, End, Expected, has_line, row_at, row_count, row_place, most_type_rows, type_rows, known_line, RefusesHeaderLine, NoneGoesOn, SameFrom, AreCounted, AreSized, AreTypesOf, Has, HasRow, counted, fits, types_before, begins_with, IsHeaderLineRead, GoesOn, Takes, is_system, flat_map, row_line, header_line, letter, codes, is_equal, index_of}
 
 -- ---- the rows of types before an index
 
@@ -62,8 +22,7 @@ step_ok s n (Shift t) = (types_before s (suc n) == types_before s n) && (types_b
 step_ok s n other = types_before s (suc n) == types_before s n
 
 steps_ok : (s : System) (n : ℕ) → n < row_count → step_ok s n (row_at n) ≡ true
-steps_ok Gps n less = passes_at (λ i. step_ok Gps i (row_at i)) row_count n refl less
-steps_ok Galileo n less = passes_at (λ i. step_ok Galileo i (row_at i)) row_count n refl less
+steps_ok s n less = passes_at (λ i. step_ok s i (row_at i)) row_count n (each_system (λ s. passes_below (λ i. step_ok s i (row_at i)) row_count) s refl) less
 
 module _ {n : ℕ} (less : n < row_count) where
   step_is : {r : HeaderRow} (s : System) → row_at n ≡ r → step_ok s n r ≡ true
@@ -78,26 +37,22 @@ module _ {n : ℕ} (less : n < row_count) where
   all_before s at = is_equal (types_before s n) most_type_rows (both (types_before s (suc n) == types_before s n) (types_before s n == most_type_rows) (step_is s at)).1
 
   pub own_before : (s : System) (row : ℕ) → row_at n ≡ Types s row → (types_before s n ≡ row) × (types_before s (suc n) ≡ suc row)
-  own_before s row at = let two = both (types_before s n == row) (types_before s (suc n) == suc row) (own s (step_is s at)) in (is_equal (types_before s n) row two.0, is_equal (types_before s (suc n)) (suc row) two.1) where
-    own : (s : System) → step_ok s n (Types s row) ≡ true → ((types_before s n == row) && (types_before s (suc n) == suc row)) ≡ true
-    own Gps e = e
-    own Galileo e = e
+  own_before s row at = let two = both (types_before s n == row) (types_before s (suc n) == suc row) (sym (ap (λ b. if b then (types_before s n == row) && (types_before s (suc n) == suc row) else types_before s (suc n) == types_before s n) (system_self s s refl)) ∙ step_is s at) in (is_equal (types_before s n) row two.0, is_equal (types_before s (suc n)) (suc row) two.1)
 
   pub other_before : (s t : System) (row : ℕ) → row_at n ≡ Types t row → is_system t s ≡ false → types_before s (suc n) ≡ types_before s n
   other_before s t row at other = is_equal (types_before s (suc n)) (types_before s n) (sym (ap (λ b. if b then (types_before s n == row) && (types_before s (suc n) == suc row) else types_before s (suc n) == types_before s n) other) ∙ step_is s at)
 
 -- the same system, or another
 pub either : (P : Type 0) (s t : System) → (t ≡ s → P) → (is_system s t ≡ false → P) → P
-either P Gps Gps same other = same refl
-either P Gps Galileo same other = other refl
-either P Galileo Gps same other = other refl
-either P Galileo Galileo same other = same refl
+either P s t same other = by (is_system s t) refl where
+  by : (b : Bool) → is_system s t ≡ b → P
+  by true e = same (sym (system_same s t e))
+  by false e = other e
 
 flipped : (s t : System) → is_system s t ≡ false → is_system t s ≡ false
-flipped Gps Galileo e = refl
-flipped Galileo Gps e = refl
-flipped Gps Gps e = e
-flipped Galileo Galileo e = e
+flipped s t e = turn (index_of s) (index_of t) e where
+  turn : (a b : ℕ) → (a == b) ≡ false → (b == a) ≡ false
+  turn a b e = grind (arith, nat_tests, e)
 
 pub place_at : (n : ℕ) (r : HeaderRow) → n < row_count → row_at n ≡ r → n ≡ row_place r
 place_at n r less at = sym (placed n less) ∙ ap row_place at
@@ -108,11 +63,9 @@ pub known_count : (rows count : ℕ) (all : List ℕ) → 0 < rows → AreCounte
 known_count zero count all some are = absurd (omega (arith, some))
 known_count (suc rows) count all some are = are
 
-moved : {a b c d : ℕ} {xs ys : List ℕ} {all : List ℕ} → a ≡ b → c ≡ d → xs ≡ ys → AreTypesOf a c xs all → AreTypesOf b d ys all
-moved {a} {b} {c} {d} {xs} {ys} {all} e f g are = subst (λ n. AreTypesOf n d ys all) e (subst (λ n. AreTypesOf a n ys all) f (subst (λ l. AreTypesOf a c l all) g are))
-
-resized : {s : System} {a b c d : ℕ} {xs ys : List ℕ} → a ≡ b → c ≡ d → xs ≡ ys → AreSized s a c xs → AreSized s b d ys
-resized {s} {a} {b} {c} {d} {xs} {ys} e f g are = subst (λ n. AreSized s n d ys) e (subst (λ n. AreSized s a n ys) f (subst (λ l. AreSized s a c l) g are))
+-- what holds of a number of lines, a number of signals and signals holds of equal ones
+moved : (P : ℕ → ℕ → List ℕ → Type 0) {a b c d : ℕ} {xs ys : List ℕ} → a ≡ b → c ≡ d → xs ≡ ys → P a c xs → P b d ys
+moved P {a} {b} {c} {d} {xs} {ys} e f g p = subst (λ n. P n d ys) e (subst (λ n. P a n ys) f (subst (P a c) g p))
 
 -- ---- a row apart from types
 
@@ -127,20 +80,20 @@ module _ {n : ℕ} {r : HeaderRow} {line : List ℕ} {old new : Known} (less : n
       rows = λ i l. equal_or (HasRow new h (row_at i)) i n
           (λ same. subst (HasRow new h) (sym at ∙ ap row_at (sym same)) ((read.own h is).0 e))
           (λ far. let l' : i < n = omega (arith, l, far) in (read.kept h (row_at i) (before i l')).0 (a.rows i l'));
-      types = λ s. moved (sym (plain_before less r s at plain)) (sym (read.counts s)) (ap (planned_of s) (sym read.plan)) (a.types s);
+      types = λ s. moved (λ rows c xs. AreTypesOf rows c xs (planned_of s h.plan)) (sym (plain_before less r s at plain)) (sym (read.counts s)) (ap (planned_of s) (sym read.plan)) (a.types s);
     }
 
     from : Has new (suc n) h → Has old n h × (shown_line h r ≡ line)
     from a = (
       record {
         rows = λ i l. (read.kept h (row_at i) (before i l)).1 (a.rows i (omega (arith, l)));
-        types = λ s. moved (plain_before less r s at plain) (read.counts s) (ap (planned_of s) read.plan) (a.types s);
+        types = λ s. moved (λ rows c xs. AreTypesOf rows c xs (planned_of s h.plan)) (plain_before less r s at plain) (read.counts s) (ap (planned_of s) read.plan) (a.types s);
       },
       (read.own h is).1 (subst (HasRow new h) at (a.rows n (omega arith))),
     )
 
   pub row_sized : ((s : System) → AreSized s (types_before s n) (counted old s) (planned_of s old.shown.plan)) → (s : System) → AreSized s (types_before s (suc n)) (counted new s) (planned_of s new.shown.plan)
-  row_sized sized s = resized (sym (plain_before less r s at plain)) (sym (read.counts s)) (ap (planned_of s) (sym read.plan)) (sized s)
+  row_sized sized s = moved (AreSized s) (sym (plain_before less r s at plain)) (sym (read.counts s)) (ap (planned_of s) (sym read.plan)) (sized s)
 
 -- ---- which rows have a line
 
@@ -198,14 +151,11 @@ begins_apart h byte (r ∷ rows) others left line e same = cc
 
 -- no line of the rows after a system's first line of types begins with its letter, up to the unit's
 after_types : (n : ℕ) (s : System) → n < row_count → row_at n ≡ Types s 0 → apart_from (letter s) (drop (suc n) all_rows) ≡ true
-after_types n s less at = let place = place_at n (Types s 0) less at in subst (λ m. apart_from (letter s) (drop (suc m) all_rows) ≡ true) (sym place) (by s) where
-  by : (s : System) → apart_from (letter s) (drop (suc (row_place (Types s 0))) all_rows) ≡ true
-  by Gps = refl
-  by Galileo = refl
+after_types n s less at = let place = place_at n (Types s 0) less at in subst (λ m. apart_from (letter s) (drop (suc m) all_rows) ≡ true) (sym place)
+    (each_system (λ s. apart_from (letter s) (drop (suc (row_place (Types s 0))) all_rows)) s refl)
 
 same_letter : (s : System) → (letter s == letter s) ≡ true
-same_letter Gps = refl
-same_letter Galileo = refl
+same_letter s = each_system (λ s. letter s == letter s) s refl
 
 module _ {n : ℕ} (less : n < row_count) {k : Known} {line : List ℕ} {h : Shown} {others left : List (List ℕ)} (on : GoesOn k n h others (line ∷ left)) where
   pub shows_next : has_line h.plan (row_at n) ≡ true → shown_line h (row_at n) ≡ line
@@ -410,199 +360,6 @@ plain_law {n} {r} {line} {old} {new} less at plain has read h is = (to, from) wh
 
 before_last : (n : ℕ) (r : HeaderRow) → n < row_count → row_at n ≡ r → r ≢ End → n + 1 < row_count
 before_last n r less is other = grind (arith, less_or)
-
--- ---- whether some plan fits
-
-flag_may : (rows count : ℕ) (all : List ℕ) → AreCounted rows count all → is_some_planned all ≡ true → (rows == 0 || nat_lt 0 count) ≡ true
-flag_may zero count all are some = refl
-flag_may (suc rows) count all are some = or_right (suc rows == 0) (nat_lt 0 count) (ap (nat_lt 0) are ∙ planned_is all ∙ some) where
-  or_right : (a b : Bool) → b ≡ true → (a || b) ≡ true
-  or_right a b e = grind (arith, e)
-
-none_or_flag : (rows count : ℕ) (all : List ℕ) → AreCounted rows count all → (count == 0 || is_some_planned all) ≡ true
-none_or_flag zero count all are = ap (λ c. c == 0 || is_some_planned all) are
-none_or_flag (suc rows) count [] are = ap (λ c. c == 0 || is_some_planned []) are
-none_or_flag (suc rows) count (x ∷ all) are = grind (arith, nat_tests)
-
-abbrev chosen_by : ℕ → Bool → System → Bool
-chosen_by letter_read may s = may && (letter_read == 77 || letter_read == letter s)
-
-fits_flags : (a b m n : Bool) (c d : ℕ) → (a || b) ≡ true → (a ≡ true → m ≡ true) → (b ≡ true → n ≡ true) → (c == 0 || a) ≡ true → (d == 0 || b) ≡ true
-    → ((file_system (chosen_by (file_system a b) m Gps) (chosen_by (file_system a b) n Galileo) == file_system a b)
-    && (chosen_by (file_system a b) m Gps || chosen_by (file_system a b) n Galileo)
-    && (c == 0 || chosen_by (file_system a b) m Gps) && (d == 0 || chosen_by (file_system a b) n Galileo)) ≡ true
-fits_flags true true true true c d some f g e h = grind (arith, e, h)
-fits_flags true false true true c d some f g e h = grind (arith, e, h)
-fits_flags true false true false c d some f g e h = grind (arith, e, h)
-fits_flags false true true true c d some f g e h = grind (arith, e, h)
-fits_flags false true false true c d some f g e h = grind (arith, e, h)
-fits_flags false false m n c d some f g e h = cc
-fits_flags true b false n c d some f g e h = let x = f refl in cc
-fits_flags a true m false c d some f g e h = let x = g refl in cc
-
--- a header with what was read has a plan that fits
-pub has_fits : (k : Known) (n : ℕ) (h : Shown) → 0 < n → IsShown h → Has k n h → fits k n ≡ true
-has_fits k n h some is has =
-    let a = is_some_planned h.plan.gps in
-    let b = is_some_planned h.plan.galileo in
-    let letter : file_system a b ≡ k.letter = has.rows 0 some in
-    subst (λ l. fits (record k { letter = l }) n ≡ true) letter
-    (fits_flags a b (may_have k n Gps) (may_have k n Galileo) k.gps k.galileo (either_planned (length h.plan.gps) (length h.plan.galileo) is.plan.some)
-    (flag_may (types_before Gps n) k.gps h.plan.gps (has.types Gps).number) (flag_may (types_before Galileo n) k.galileo h.plan.galileo (has.types Galileo).number)
-    (none_or_flag (types_before Gps n) k.gps h.plan.gps (has.types Gps).number) (none_or_flag (types_before Galileo n) k.galileo h.plan.galileo (has.types Galileo).number)) where
-      either_planned : (a b : ℕ) → 0 < a + b → (not (a == 0) || not (b == 0)) ≡ true
-      either_planned a b some = grind (arith, nat_tests)
-
--- ---- some header has what was read
-
--- signals of a system, with others up to their number
-record Choice (s : System) (rows count : ℕ) (signals : List ℕ) (chosen : Bool) : Type 0 where
-  all : List ℕ
-  below : AreBelow (length (table s)) all
-  apart : IsDistinct nat_eq all
-  some : is_some_planned all ≡ chosen
-  types : AreTypesOf rows count signals all
-
-all_by : (n count : ℕ) (xs all : List ℕ) → xs ≡ take (length xs) all → length xs ≡ min n count → count ≡ length all → xs ≡ take n all
-all_by n count xs all e size is = e ∙ ap (λ m. take m all) (size ∙ ap (min n) is) ∙ take_min n all
-
-no_signals : (signals : List ℕ) (m count : ℕ) → length signals ≡ min m count → count ≡ 0 → signals ≡ []
-no_signals signals m count size none = nil_from_length signals (omega (arith, size, none))
-
-table_some : (s : System) → 0 < length (table s)
-table_some s = grind arith
-
-choose : (s : System) (chosen : Bool) (rows count : ℕ) (signals : List ℕ) → AreBelow (length (table s)) signals → IsDistinct nat_eq signals → AreSized s rows count signals
-    → (chosen ≡ true → (rows == 0 || nat_lt 0 count) ≡ true) → (count == 0 || chosen) ≡ true → Choice s rows count signals chosen
-unfolding IsDistinct
-choose s false rows count signals below apart sized may none = record {
-  all = [];
-  below = All-nil (λ i. i < length (table s));
-  apart = tt;
-  some = refl;
-  types = record { number = number rows; begun = no_signals signals (signals_begun rows) count sized.size zero_count ∙ sym (take_all (signals_begun rows) [] (omega arith)) };
-} where
-  zero_count : count ≡ 0
-  zero_count = is_equal count 0 (drop_false (count == 0) none) where
-    drop_false : (b : Bool) → (b || false) ≡ true → b ≡ true
-    drop_false b e = grind (arith, e)
-
-  number : (rows : ℕ) → AreCounted rows count []
-  number zero = zero_count
-  number (suc rows) = zero_count
-choose s true zero count signals below apart sized may none = record {
-  all = 0 ∷ [];
-  below = All-cons (λ i. i < length (table s)) 0 [] (table_some s) (All-nil (λ i. i < length (table s)));
-  apart = (tt, tt);
-  some = refl;
-  types = record { number = sized.none refl; begun = no_signals signals (signals_begun 0) count sized.size (sized.none refl) };
-}
-choose s true (suc rows) count signals below apart sized may none =
-    let some : 0 < count = is_less 0 count (right (suc rows == 0) (nat_lt 0 count) (not_zero rows) (may refl)) in
-    let size = sized.size in
-    let few = sized.few in
-    let made = complete (count - length signals) (length (table s)) count signals below apart (omega (arith, size)) few in
-    let made_size = made.size in
-    record {
-      all = made.all;
-      below = made.below;
-      apart = made.apart;
-      some = some_all made.all (omega (arith, made_size, some));
-      types = record { number = sym made_size; begun = all_by (signals_begun (suc rows)) count signals made.all made.begins size (sym made_size) };
-    } where
-      right : (a b : Bool) → a ≡ false → (a || b) ≡ true → b ≡ true
-      right a b e f = grind (arith, e, f)
-
-      not_zero : (m : ℕ) → (suc m == 0) ≡ false
-      not_zero m = grind (arith, nat_tests)
-
-      some_all : (xs : List ℕ) → 0 < length xs → is_some_planned xs ≡ true
-      some_all xs l = sym (planned_is xs) ∙ is_lt 0 (length xs) l
-
-pub record SomeShown (k : Known) (n : ℕ) : Type 0 where
-  pub p : PlanValue
-  pub is : IsShown (shown_with k p)
-  pub has : Has k n (shown_with k p)
-
-same_texts_here : (x : HeaderLists) (fs : List HeaderField) → AreSameTexts x x fs
-same_texts_here x [] = tt
-same_texts_here x (f ∷ fs) = (refl, same_texts_here x fs)
-
-own_rows : (k : Known) (p : PlanValue) (r : HeaderRow) → systems_letter p ≡ k.letter → HasRow k (shown_with k p) r
-own_rows k p Version e = e
-own_rows k p (Texts row) e = same_texts_here k.shown.texts (fields_of row)
-own_rows k p Position e = refl
-own_rows k p Delta e = refl
-own_rows k p First e = refl
-own_rows k p other e = tt
-
-module _ (k : Known) (n : ℕ) (at : IsHeadAt k n) (flags : System → Bool) (letter : 0 < n → file_system (flags Gps) (flags Galileo) ≡ k.letter) (some : (flags Gps || flags Galileo) ≡ true)
-    (may : (s : System) → flags s ≡ true → may_have k n s ≡ true) (none : (s : System) → (counted k s == 0 || flags s) ≡ true) where
-  choice : (s : System) → Choice s (types_before s n) (counted k s) (planned_of s k.shown.plan) (flags s)
-  choice s = choose s (flags s) (types_before s n) (counted k s) (planned_of s k.shown.plan) (at.valid.listed s) (at.valid.apart s) (at.sized s) (may s) (none s)
-
-  made : SomeShown k n
-  made = record {
-    p = p;
-    is = record { texts = at.valid.texts; values = at.valid.values; first = at.valid.first; plan = record { listed = listed; apart = apart; some = some_signals (flags Gps) (flags Galileo) (choice Gps).all (choice Galileo).all some (choice Gps).some (choice Galileo).some } };
-    has = record {
-      rows = λ i l. own_row i (row_at i) refl l;
-      types = types;
-    };
-  } where
-    p : PlanValue
-    p = record { gps = (choice Gps).all; galileo = (choice Galileo).all }
-
-    own_row : (i : ℕ) (r : HeaderRow) → row_at i ≡ r → i < n → HasRow k (shown_with k p) (row_at i)
-    own_row i r at l = own_rows k p (row_at i) (ap (λ a. file_system a (is_some_planned (choice Galileo).all)) (choice Gps).some ∙ ap (file_system (flags Gps)) (choice Galileo).some ∙ letter (omega (arith, l)))
-
-    some_signals : (a b : Bool) (xs ys : List ℕ) → (a || b) ≡ true → is_some_planned xs ≡ a → is_some_planned ys ≡ b → 0 < length xs + length ys
-    some_signals a b (x ∷ xs) ys e f g = omega arith
-    some_signals a b [] (y ∷ ys) e f g = omega arith
-    some_signals a b [] [] e f g = absurd (grind (arith, e, f, g))
-
-    listed : (s : System) → AreBelow (length (table s)) (planned_of s p)
-    listed Gps = (choice Gps).below
-    listed Galileo = (choice Galileo).below
-
-    apart : (s : System) → IsDistinct nat_eq (planned_of s p)
-    apart Gps = (choice Gps).apart
-    apart Galileo = (choice Galileo).apart
-
-    types : (s : System) → AreTypesOf (types_before s n) (counted k s) (planned_of s k.shown.plan) (planned_of s p)
-    types Gps = (choice Gps).types
-    types Galileo = (choice Galileo).types
-
-record Fitting (k : Known) (n : ℕ) : Type 0 where
-  letter : file_system (is_chosen k n Gps) (is_chosen k n Galileo) ≡ k.letter
-  some : (is_chosen k n Gps || is_chosen k n Galileo) ≡ true
-  none : (s : System) → (counted k s == 0 || is_chosen k n s) ≡ true
-
-fitting : (k : Known) (n : ℕ) → fits k n ≡ true → Fitting k n
-fitting k n e =
-    let a = is_chosen k n Gps in
-    let b = is_chosen k n Galileo in
-    let last = both ((file_system a b == k.letter) && (a || b) && (k.gps == 0 || a)) (k.galileo == 0 || b) e in
-    let third = both ((file_system a b == k.letter) && (a || b)) (k.gps == 0 || a) last.0 in
-    let two = both (file_system a b == k.letter) (a || b) third.0 in
-    record { letter = is_equal (file_system a b) k.letter two.0; some = two.1; none = none third.1 last.1 } where
-      none : (k.gps == 0 || is_chosen k n Gps) ≡ true → (k.galileo == 0 || is_chosen k n Galileo) ≡ true → (s : System) → (counted k s == 0 || is_chosen k n s) ≡ true
-      none g e Gps = g
-      none g e Galileo = e
-
-pub some_shown : (k : Known) (n : ℕ) → IsHeadAt k n → SomeShown k n
-some_shown k zero at = made k 0 at (λ s. true) (λ l. absurd (omega (arith, l))) refl may none where
-  may : (s : System) → true ≡ true → may_have k 0 s ≡ true
-  may Gps e = refl
-  may Galileo e = refl
-
-  none : (s : System) → (counted k s == 0 || true) ≡ true
-  none s = or_true (counted k s == 0) where
-    or_true : (b : Bool) → (b || true) ≡ true
-    or_true b = grind arith
-some_shown k (suc n) at =
-    let fit = fitting k (suc n) (at.fitting (omega arith)) in
-    made k (suc n) at (is_chosen k (suc n)) (λ l. fit.letter) fit.some (λ s e. (both (may_have k (suc n) s) (k.letter == 77 || k.letter == letter s) e).0) fit.none
 
 -- ---- the result of a line
 

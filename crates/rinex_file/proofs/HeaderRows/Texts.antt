@@ -109,6 +109,10 @@ same_columns x y (f ∷ fs) same = ap₂ (λ t l. left (width_of f) t ++ l) same
 pub same_line : (x y : HeaderLists) (r : TextRow) → AreSameTexts x y (fields_of r) → texts_line x r ≡ texts_line y r
 same_line x y r same = ap (λ l. header_line (front_of r ++ l) (label_of r)) (same_columns x y (fields_of r) same)
 
+pub same_here : (x : HeaderLists) (fs : List HeaderField) → AreSameTexts x x fs
+same_here x [] = tt
+same_here x (f ∷ fs) = (refl, same_here x fs)
+
 -- two headers with what was read have the same texts
 pub same_texts : (new x y : HeaderLists) (fs : List HeaderField) → AreSameTexts new x fs → AreSameTexts new y fs → AreSameTexts x y fs
 same_texts new x y [] a b = tt

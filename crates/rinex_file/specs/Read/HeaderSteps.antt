@@ -4,9 +4,9 @@ use Rattle.std.specs.Prelude.{set, take, drop, min, Option, Some, None, Result, 
 use Rattle.gnss_obs.specs.declared.cell.StationValues.{StationValues}
 use Rattle.gnss_system.specs.Signals.{SignalAt, IsSignal, code_of, table}
 use Rattle.gnss_system.specs.declared.system.System.{System}
-use Rattle.gnss_system.specs.declared.system.System.TheVariants.{Gps, Galileo}
-use Rattle.gnss_obs.specs.Values.{PlanValue, planned_of}
+use Rattle.gnss_obs.specs.Values.{planned_of}
 use Rattle.gnss_system.specs.Satellites.{letter}
+use Rattle.gnss_system.specs.SystemValues.{with_value_of}
 use Rattle.rinex_file.specs.declared.header.fault.HeadFault.{HeadFault}
 use Rattle.rinex_file.specs.declared.header.fields.HeaderField.{HeaderField}
 use Rattle.rinex_file.specs.declared.header.fields.TextRow.{TextRow}
@@ -19,7 +19,7 @@ use Rattle.rinex_file.specs.declared.read.expected.Refusal.TheVariants.{Memory, 
 use Rattle.rinex_file.specs.Begun.{lines_of_header}
 use Rattle.rinex_file.specs.Blanks.{trimmed}
 use Rattle.rinex_file.specs.Texts.{HeaderLists, place_of, width_of, fault_of, fields_of, front_of, text_count}
-use Rattle.rinex_file.specs.FileValues.{AreTexts, of_system}
+use Rattle.rinex_file.specs.FileValues.{AreTexts}
 use Rattle.rinex_file.specs.Header.{row_at, row_place, row_count, texts_line, type_rows}
 use Rattle.rinex_file.specs.Read.Progress.{Known, Shown, IsShown, IsHeadAt, Has, HasRow, AreSized, types_before, lines_after}
 use Rattle.rinex_file.specs.Read.Progress.{lines_before, counted, shown_line}
@@ -159,17 +159,11 @@ with_first k first = record k { shown = record k.shown { first = first } }
 abbrev pub with_letter : Known → ℕ → Known
 with_letter k letter = record k { letter = letter }
 
--- the same plan with the signals of a system
-abbrev pub plan_with : System → PlanValue → List ℕ → PlanValue
-plan_with Gps p signals = record p { gps = signals }
-plan_with Galileo p signals = record p { galileo = signals }
-
 -- what was read, with the number of a system's signals and those that were read
 abbrev pub with_types : System → Known → ℕ → List ℕ → Known
 with_types system k count signals = record k {
-  shown = record k.shown { plan = plan_with system k.shown.plan signals };
-  gps = of_system system count k.gps;
-  galileo = of_system system k.galileo count;
+  shown = record k.shown { plan = with_value_of system k.shown.plan signals };
+  counts = with_value_of system k.counts count;
 }
 
 -- ---- lines of types

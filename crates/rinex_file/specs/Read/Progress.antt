@@ -13,16 +13,17 @@ use Rattle.rinex_file.specs.declared.read.expected.Expected.TheVariants.{Header,
 use Rattle.rinex_file.specs.declared.read.expected.Expected.TheVariants.{EventEpoch, Satellite}
 use Rattle.rinex_file.specs.Texts.{HeaderLists, text_of, fields_of}
 use Rattle.rinex_file.specs.declared.header.fields.HeaderField.{HeaderField}
-use Rattle.gnss_system.specs.declared.system.System.TheVariants.{Gps, Galileo}
 use Rattle.rinex_file.specs.Value.{SatelliteRow, Stamped, FileValue}
 use Rattle.gnss_obs.specs.GatheredEpochs.{IsCoordinate}
-use Rattle.rinex_file.specs.FileValues.{AreTexts, IsPlan, AreValues, IsTime, IsFileValue, of_system}
-use Rattle.rinex_file.specs.Header.{row_line, row_lines, lines_from, all_rows, row_at, row_count, first_types, file_system}
+use Rattle.rinex_file.specs.FileValues.{AreTexts, IsPlan, AreValues, IsTime, IsFileValue}
+use Rattle.rinex_file.specs.Header.{row_line, row_lines, lines_from, all_rows, row_at, row_count, first_types, flagged_letter}
 use Rattle.rinex_file.specs.Header.{most_type_rows}
-use Rattle.rinex_file.specs.Header.{is_some_planned, type_line, types_of, codes_of}
+use Rattle.rinex_file.specs.Header.{systems_letter, type_line, types_of, codes_of}
 use Rattle.rinex_file.specs.Limits.{types_in_line}
 use Rattle.rinex_file.specs.Lines.{satellite_line}
 use Rattle.gnss_system.specs.Satellites.{letter}
+use Rattle.gnss_system.specs.SystemValues.{value_of}
+use Rattle.gnss_system.specs.declared.by_system.BySystem.{BySystem}
 use Rattle.gnss_system.specs.Signals.{table}
 use Rattle.std.specs.List.{IsDistinct}
 use Rattle.rinex_file.specs.File.{stamped_lines}
@@ -63,11 +64,10 @@ lines_after h place = lines_from h.texts h.plan h.values (civil_of h.first) plac
 pub record Known : Type 0 where
   pub shown : Shown
   pub letter : ℕ
-  pub gps : ℕ
-  pub galileo : ℕ
+  pub counts : BySystem ℕ
 
 abbrev pub counted : Known → System → ℕ
-counted k system = of_system system k.gps k.galileo
+counted k system = value_of system k.counts
 
 -- ---- signals
 
@@ -109,10 +109,6 @@ pub record AreTypesOf (rows count : ℕ) (signals all : List ℕ) : Type 0 where
   pub number : AreCounted rows count all
   pub begun : signals ≡ take (signals_begun rows) all
 
--- the letter of the systems that a plan has
-abbrev pub systems_letter : PlanValue → ℕ
-systems_letter p = file_system (is_some_planned p.gps) (is_some_planned p.galileo)
-
 -- these texts are the same in these fields
 abbrev pub AreSameTexts : HeaderLists → HeaderLists → List HeaderField → Type 0
 AreSameTexts x y [] = ⊤
@@ -146,20 +142,15 @@ pub record AreSized (s : System) (rows count : ℕ) (signals : List ℕ) : Type 
   pub none : rows ≡ 0 → count ≡ 0
   pub size : length signals ≡ min (signals_begun rows) count
 
--- signals of a system may be planned, by the rows before an index: its first line of types may follow, or was there
-abbrev pub may_have : Known → ℕ → System → Bool
-may_have k place s = types_before s place == 0 || nat_lt 0 (counted k s)
-
--- and by the first line: `M` is for two or more systems, another letter for its own
+-- signals of a system are planned, or may be by the first line if the row of its first types isn't before an index: `M`
+-- is the letter of two or more systems, another letter that of one
 abbrev pub is_chosen : Known → ℕ → System → Bool
-is_chosen k place s = may_have k place s && (k.letter == 77 || k.letter == letter s)
+is_chosen k place s =
+    nat_lt 0 (counted k s) || (types_before s place == 0 && (k.letter == 77 || k.letter == letter s))
 
--- the systems that may be planned have the letter of the first line, and each that is planned is among them
+-- those systems have the letter of the first line, so that some plan has it and what the rows before an index said
 abbrev pub fits : Known → ℕ → Bool
-fits k place =
-    (file_system (is_chosen k place Gps) (is_chosen k place Galileo) == k.letter)
-    && (is_chosen k place Gps || is_chosen k place Galileo)
-    && (k.gps == 0 || is_chosen k place Gps) && (k.galileo == 0 || is_chosen k place Galileo)
+fits k place = (flagged_letter (is_chosen k place) == k.letter) && nat_lt 0 k.letter
 
 -- a line of a header is expected, that of the row at an index or of a later one
 pub record IsHeadAt (k : Known) (place : ℕ) : Type 0 where

@@ -6,16 +6,18 @@ ghost use Rattle.gnss_obs.specs.declared.cell.StationValues.{StationValues};
 ghost use Rattle.gnss_obs.specs.declared.civil.Civil.{Civil};
 ghost use Rattle.rinex_file.specs.Texts.{HeaderLists};
 ghost use Rattle.rinex_file.specs.Header.{row_line, has_line, row_at, row_count, lines_from, header_lines};
+ghost use Rattle.rinex_file.specs.Header.{systems_letter};
 
+use crate::header::letters::flagged_letter;
 use crate::header::lines::{
     END, SHIFT, STRENGTH_UNIT, UNIT, delta_line, first_line, labelled, position_line, texts_line,
-    version_with,
+    version_by,
 };
 use crate::header::rows::{HeaderRow, ROW_COUNT, row_at};
 use crate::header::texts::HeaderTexts;
 use crate::header::types::{type_rows, types_with};
 use crate::write::line::Line;
-use gnss_obs::{GpsTime, Plan, StationValues, System};
+use gnss_obs::{BySystem, GpsTime, Plan, StationValues, System};
 use std::marker::Model;
 
 /// The contents of a header.
@@ -59,6 +61,16 @@ fn place_from(plan: &Plan, from: usize) -> Option<usize>
     None
 }
 
+/// Returns the letter of the systems that are planned.
+fn systems_letter(plan: &Plan) -> u8
+    ensures { result ≡ systems_letter plan.now }
+{
+    flagged_letter(&BySystem {
+        gps: plan.signals(System::Gps) > 0,
+        galileo: plan.signals(System::Galileo) > 0,
+    })
+}
+
 /// Returns the line of a row.
 #[tactic(auto, unfolding(crate::specs::Header::row_line))]
 fn line_of(head: &Head, row: HeaderRow) -> Line
@@ -67,10 +79,7 @@ fn line_of(head: &Head, row: HeaderRow) -> Line
         ≡ row_line head.now.texts.now head.now.plan.now head.now.values (civil_of head.now.first) row }
 {
     match row {
-        HeaderRow::Version => version_with(
-            head.plan.signals(System::Gps) > 0,
-            head.plan.signals(System::Galileo) > 0,
-        ),
+        HeaderRow::Version => version_by(systems_letter(head.plan)),
         HeaderRow::Texts(row) => texts_line(head.texts, row),
         HeaderRow::Position => position_line(&head.values),
         HeaderRow::Delta => delta_line(&head.values),

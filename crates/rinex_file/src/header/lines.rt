@@ -2,13 +2,13 @@
 ghost use Rattle.std.specs.Prelude.{◌≡◌, ◌+◌, ◌≤◌, length};
 ghost use Rattle.gnss_obs.specs.Dates.{civil_of};
 ghost use Rattle.rinex_file.specs.Header.{header_line, lengths, texts_line, position_line, delta_line};
-ghost use Rattle.rinex_file.specs.Header.{first_line, version_with, version_by, file_system};
+ghost use Rattle.rinex_file.specs.Header.{first_line, version_by};
 ghost use Rattle.rinex_file.specs.Limits.{label_columns};
 
 use crate::header::fields::TextRow;
 use crate::header::texts::HeaderTexts;
 use crate::write::line::{Line, put, put_fixed, put_left, put_seconds, put_whole};
-use gnss_obs::{GpsTime, StationValues, System};
+use gnss_obs::{GpsTime, StationValues};
 
 /// Width of the content of a line, in columns.
 pub(crate) const CONTENT_COLUMNS: usize = 60;
@@ -55,26 +55,7 @@ pub(crate) fn three_lengths(a: i64, b: i64, c: i64, label: &[u8]) -> Line
     labelled(content.as_slice(), label)
 }
 
-/// Returns the line with version 3.05, the file's type and its systems, given whether GPS and
-/// Galileo are planned.
-pub(crate) fn version_with(gps: bool, galileo: bool) -> Line
-    ensures { result.items ≡ version_with gps galileo }
-{
-    version_by(file_system(gps, galileo))
-}
-
-/// Returns the letter of the systems that are planned.
-pub(crate) fn file_system(gps: bool, galileo: bool) -> u8
-    ensures { result ≡ file_system gps galileo }
-{
-    match (gps, galileo) {
-        (false, _) => System::Galileo.letter(),
-        (true, false) => System::Gps.letter(),
-        (true, true) => b'M',
-    }
-}
-
-/// Returns the first line of a file with this letter of its systems.
+/// Returns the line with version 3.05, the file's type and this letter of its systems.
 pub(crate) fn version_by(letter: u8) -> Line
     ensures { result.items ≡ version_by letter }
 {

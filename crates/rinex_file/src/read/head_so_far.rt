@@ -8,7 +8,8 @@ ghost use Rattle.rinex_file.specs.Read.Progress.{AreValid, IsHeadAt, counted, si
 ghost use Rattle.rinex_file.specs.Read.HeaderSteps.{begins_with, expected_if, known_line, SameFrom, TakesHeaderLine};
 ghost use Rattle.rinex_file.specs.Read.HeaderSteps.{TakesTypes, RefusesTypes, with_types, IsOnly, ReadsOrRefuses};
 
-use crate::header::lines::{END, SHIFT, STRENGTH_UNIT, UNIT, file_system};
+use crate::header::letters::flagged_letter;
+use crate::header::lines::{END, SHIFT, STRENGTH_UNIT, UNIT};
 use crate::header::rows::{HeaderRow, first_types, row_at};
 use crate::header::texts::HeaderTexts;
 use crate::header::types::type_rows;
@@ -52,8 +53,7 @@ impl Model for HeadSoFar {
             first = h.first;
           };
       letter = h.letter;
-      gps = h.types.gps.count;
-      galileo = h.types.galileo.count;
+      counts = record { gps = h.types.gps.count; galileo = h.types.galileo.count };
     } };
 
     ghost invariant = { λ h. IsOf Gps h.types.gps.signals × IsOf Galileo h.types.galileo.signals
@@ -130,15 +130,14 @@ impl HeadSoFar {
         place
     }
 
-    /// Returns whether signals of a system may be planned, by the rows before an index and by the
-    /// first line.
+    /// Returns whether signals of a system are planned, or may be by the first line if the row of
+    /// its first types isn't before an index.
     fn is_chosen(&self, place: usize, system: System) -> bool
         ensures { result ≡ is_chosen self.now place system }
     {
-        if place > first_types(system) && self.of(system).count == 0 {
-            return false;
-        }
-        self.letter == b'M' || self.letter == system.letter()
+        self.of(system).count > 0
+            || place <= first_types(system)
+                && (self.letter == b'M' || self.letter == system.letter())
     }
 
     /// Returns whether some plan has the first line's letter and what the rows before an index
@@ -146,12 +145,11 @@ impl HeadSoFar {
     fn fits(&self, place: usize) -> bool
         ensures { result ≡ fits self.now place }
     {
-        let gps = self.is_chosen(place, System::Gps);
-        let galileo = self.is_chosen(place, System::Galileo);
-        file_system(gps, galileo) == self.letter
-            && (gps || galileo)
-            && (self.types.gps.count == 0 || gps)
-            && (self.types.galileo.count == 0 || galileo)
+        let chosen = BySystem {
+            gps: self.is_chosen(place, System::Gps),
+            galileo: self.is_chosen(place, System::Galileo),
+        };
+        flagged_letter(&chosen) == self.letter && self.letter > 0
     }
 
     /// Processes a line of the types of a system.
@@ -231,11 +229,9 @@ impl HeadSoFar {
     fn expected_at(&self, place: usize) -> Result<Expected, Refusal>
         ensures { result ≡ expected_if (fits self.now place) place }
     {
-        if self.fits(place) {
-            Ok(Expected::Header(place))
-        } else {
-            Err(Refusal::Bad)
-        }
+        self.fits(place)
+            .then_some(Expected::Header(place))
+            .ok_or(Refusal::Bad)
     }
 }
 

@@ -1,8 +1,8 @@
 //! The lines of a header, read back.
-ghost use Rattle.std.specs.Prelude.{◌≡◌, ◌↔◌, ◌+◌, ◌≤◌, ◌<◌, ◌^◌, IsTrue};
+ghost use Rattle.std.specs.Prelude.{◌≡◌, ◌↔◌, ◌+◌, ◌≤◌, ◌<◌, ◌^◌, IsTrue, ⊤};
 ghost use Rattle.std.specs.Prelude.{length, take, drop};
 ghost use Rattle.gnss_obs.specs.GatheredEpochs.{IsCoordinate};
-ghost use Rattle.rinex_file.specs.Header.{header_line, height_line, position_line, version_by, IsSystemsLetter};
+ghost use Rattle.rinex_file.specs.Header.{header_line, height_line, position_line, version_by};
 ghost use Rattle.rinex_file.specs.Read.Fields.{number_in, ReadsExactly};
 ghost use Rattle.rinex_file.specs.Read.HeaderSteps.{ReadsOrRefusesTexts};
 ghost use Rattle.rinex_file.specs.Read.Progress.{IsPosition};
@@ -22,25 +22,13 @@ pub(crate) fn columns(line: &[u8], from: usize, width: usize) -> &[u8]
     &rest[..width.min(rest.len())]
 }
 
-/// Returns the letter of a file's systems by the first line, or None for any other line.
+/// Returns the byte in place of the letter of a file's systems, or None for a line that isn't the
+/// first.
 pub(crate) fn read_version(line: &[u8]) -> Option<u8>
-    ensures { ReadsExactly IsSystemsLetter version_by line.now result }
+    ensures { ReadsExactly (λ letter. ⊤) version_by line.now result }
 {
-    if line.len() <= 40 {
-        return None;
-    }
-    let letter = line[40];
-    if !is_systems_letter(letter) {
-        return None;
-    }
+    let letter = columns(line, 40, 1).first().copied().unwrap_or(0);
     is_same(line, version_by(letter).as_slice()).then_some(letter)
-}
-
-/// Returns whether this is the letter of one system or of several.
-fn is_systems_letter(letter: u8) -> bool
-    ensures { IsTrue result ↔ IsSystemsLetter letter }
-{
-    letter == b'M' || letter == b'G' || letter == b'E'
 }
 
 /// Returns the number in the 14 columns of a line that begin at `from`, in 0.0001 m, limited to

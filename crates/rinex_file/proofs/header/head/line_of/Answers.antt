@@ -1,18 +1,13 @@
 -- Each row's line is the one that the row's own function makes; a row that has no line for this plan has none here.
-use Rattle.rinex_file.proofs.HeaderRows.Agree.{planned_is}
 use Rattle.rinex_file.proofs.HeaderRows.Types.{length-system_types}
-use Rattle.rinex_file.proofs.Names.{◌≡◌, ◌∙◌, sym, ap, ap₂, ℕ, [], ◌∷◌, length, codes, nat_lt, PlanValue, civil_of, row_line, header_line, version_line, version_with, ◌++◌, ◌*◌, indices, length_indices, few_signals, letter, type_front, type_columns, type_line, types_of, codes_of}
+use Rattle.rinex_file.proofs.Names.{◌∙◌, sym, ap, ℕ, [], ◌∷◌, codes, civil_of, row_line, header_line, version_by, ◌++◌, ◌*◌, indices, length_indices, few_signals, letter, type_front, type_columns, type_line, types_of, codes_of}
 use Rattle.rinex_file.proofs.header.head.line_of.Goals as goal
-
-version_of : (p : PlanValue) (gps galileo : ℕ) → gps ≡ length p.gps → galileo ≡ length p.galileo → version_with (nat_lt 0 gps) (nat_lt 0 galileo) ≡ version_line p
-version_of p gps galileo g e = ap₂ version_with (ap (nat_lt 0) g ∙ planned_is p.gps) (ap (nat_lt 0) e ∙ planned_is p.galileo)
 
 pub returns-in-Version : goal.returns-in-Version
 unfolding row_line
 returns-in-Version c =
     let h = c.args.head.now in
-    c.version_with.ensures ∙ version_of h.plan.now c.signals.result c.signals-in-Version.result c.signals.ensures.count c.signals-in-Version.ensures.count
-    ∙ ap (row_line h.texts.now h.plan.now h.values (civil_of h.first)) (sym c.in-Version.is)
+    c.version_by.ensures ∙ ap version_by c.systems_letter.ensures ∙ ap (row_line h.texts.now h.plan.now h.values (civil_of h.first)) (sym c.in-Version.is)
 
 pub returns-in-Texts : goal.returns-in-Texts
 unfolding row_line

@@ -1,15 +1,12 @@
-use Rattle.rinex_file.proofs.Names.{arith, ◌∙◌, sym, ap, subst, length, slice_index, IsSystemsLetter, version_by}
-use Rattle.rinex_file.proofs.Judged.{exactly, refused}
-use Rattle.rinex_file.proofs.HeaderRows.Agree.{letter_at, version_size}
+use Rattle.rinex_file.proofs.Names.{◌≡◌, ◌∙◌, sym, ap, ⊤, ℕ, List, Option, drop, slice_get, take, unwrap_or, version_by}
+use Rattle.rinex_file.proofs.Judged.{exactly}
+use Rattle.rinex_file.proofs.HeaderRows.Agree.{letter_at}
 use Rattle.rinex_file.proofs.read.header_lines.read_version.Goals as goal
 
 pub returns : goal.returns
-returns c = exactly IsSystemsLetter version_by _ c.then_some.ensures (c.is_systems_letter.ensures.0 c.if-not-is_systems_letter.false)
-    (λ w some e. sym (ap (λ l. slice_index l 40) e ∙ letter_at w)) (c.as_slice.ensures.value ∙ c.version_by.ensures) c.is_same.ensures
+returns c = exactly (λ byte. ⊤) version_by _ c.then_some.ensures tt only (c.as_slice.ensures.value ∙ c.version_by.ensures) c.is_same.ensures where
+  read : c.unwrap_or-letter.result ≡ unwrap_or (slice_get (take 1 (drop 40 c.args.line.now)) 0) 0
+  read = c.unwrap_or-letter.ensures ∙ ap (λ (o : Option ℕ). unwrap_or o 0) (c.copied.ensures ∙ c.first.ensures.value ∙ ap (λ (l : List ℕ). slice_get l 0) c.columns.ensures.value)
 
-pub returns-then-line-le40 : goal.returns-then-line-le40
-returns-then-line-le40 c = λ letter is e. let size = ap length e ∙ version_size letter in omega (arith, c.if-line-le40.true, size)
-
-pub returns-then-not-is_systems_letter : goal.returns-then-not-is_systems_letter
-returns-then-not-is_systems_letter c = λ letter is e.
-    refused c.is_systems_letter.result (IsSystemsLetter (slice_index c.args.line.now 40)) c.is_systems_letter.ensures c.if-not-is_systems_letter.true (subst IsSystemsLetter (sym (ap (λ l. slice_index l 40) e ∙ letter_at letter)) is)
+  only : (byte : ℕ) → ⊤ → c.args.line.now ≡ version_by byte → byte ≡ c.unwrap_or-letter.result
+  only byte is e = sym (read ∙ ap (λ (l : List ℕ). unwrap_or (slice_get (take 1 (drop 40 l)) 0) 0) e ∙ letter_at byte)
