@@ -1,23 +1,41 @@
 -- Kept cells of a system as they arrive.
-use Rattle.std.proofs.Common.{◌≡◌, ℕ, ◌+◌, ◌*◌, ◌<◌, ◌==◌, ◌&&◌, ◌||◌, List, [], ◌∷◌, map, refl, sym, ap, ap₂, ◌∙◌, subst, arith, rules, length, All}
-use Rattle.std.proofs.lemmas.List.Elements.{All-head, All-push, All-tail}
-use Rattle.std.proofs.lemmas.List.Sorted.{All-permutation, length_permutation}
+use Rattle.std.proofs.Common.{Box, Global, ◌≡◌, ℕ, ◌+◌, ◌*◌, ◌<◌, ◌==◌, ◌&&◌, ◌||◌, Bool, true, false, nat_eq, List, [], ◌∷◌, map, refl, sym, ap, ap₂, ◌∙◌, subst, arith, rules, length, All}
+use Rattle.std.proofs.lemmas.List.Elements.{All-head, All-nil, All-push, All-tail}
+use Rattle.std.proofs.lemmas.List.Sorted.{All-permutation, IsPermutation-map, length_permutation}
+use Rattle.std.proofs.lemmas.List.{map-append}
+use Rattle.std.proofs.lemmas.Map.Keys.{IsDistinct-IsPermutation, IsDistinct-push}
+use Rattle.std.proofs.lemmas.Cmp.{nat_eq_equiv}
+use Rattle.std.specs.List.{IsDistinct}
 use Rattle.gnss_obs.proofs.OrderLemmas.{sort_moves}
 use Rattle.gnss_obs.specs.declared.arrivals.Added.TheVariants.{Kept}
-use Rattle.std.specs.Prelude.{true, nat_le}
+use Rattle.std.specs.Prelude.{nat_le}
 use Rattle.gnss_system.proofs.SystemLaws.{each_system}
 use Rattle.gnss_system.specs.Signals.{table}
-use Rattle.gnss_obs.specs.Names.{System, Cell, Added, Satellite, SignalAt, IsSignal, AreHeld, EpochValue, IsHeld, cells_of, IsObserved, heard_cell, same_key, cell_sort_key, is_held, AddsCell, IsAdded, slot, has_slot, sorted_cells, outcome_by, cells_after, epoch_with}
+use Rattle.gnss_system.specs.SystemValues.{value_of}
+use Rattle.gnss_system.specs.declared.by_system.BySystem.{BySystem}
+use Rattle.gnss_obs.specs.declared.cells.Cells.{Cells}
+use Rattle.gnss_obs.specs.Names.{System, Gps, Galileo, Cell, Added, Satellite, SignalAt, IsSignal, AreHeld, AreKept, EpochValue, IsHeld, list_any, cells_of, IsObserved, heard_cell, same_key, cell_sort_key, is_held, AddsCell, IsAdded, slot, has_slot, sorted_cells, outcome_by, cells_after, epoch_with}
 use Rattle.std.proofs.lemmas.Grind.{common_steps}
 
 -- ---- sorted cells
 
-pub held_sorted : (system : System) (planned : List ℕ) (cells : List Cell) → AreHeld system cells → AreHeld system (sorted_cells planned cells)
-held_sorted system planned cells h =
+pub kept_sorted : (system : System) (planned : List ℕ) (cells : List Cell) → AreKept system cells → AreKept system (sorted_cells planned cells)
+kept_sorted system planned cells h =
     let moved = sort_moves (cell_sort_key planned) cells in
     let n = length_permutation cells (sorted_cells planned cells) moved in
-    let m = h.few in
-    record { each = All-permutation (IsHeld system) cells (sorted_cells planned cells) moved h.each; few = omega (arith, n, m) }
+    let m = h.held.few in
+    record {
+      held = record { each = All-permutation (IsHeld system) cells (sorted_cells planned cells) moved h.held.each; few = omega (arith, n, m) };
+      apart = IsDistinct-IsPermutation nat_eq nat_eq_equiv.symm (map slot cells) (map slot (sorted_cells planned cells)) (IsPermutation-map slot cells (sorted_cells planned cells) moved) h.apart;
+    }
+
+none_kept : (system : System) {cells : List Cell} → cells ≡ [] → AreKept system cells
+unfolding IsDistinct
+none_kept system none = subst (AreKept system) (sym none) (record { held = record { each = All-nil (IsHeld system); few = omega arith }; apart = tt })
+
+pub all_empty : (lists : BySystem (Box Cells Global)) → lists.gps.value ≡ [] → lists.galileo.value ≡ [] → (s : System) → AreKept s (value_of s lists).value
+all_empty lists gps galileo Gps = none_kept Gps gps
+all_empty lists gps galileo Galileo = none_kept Galileo galileo
 
 -- ---- one more cell
 
@@ -41,12 +59,27 @@ held_slot system x is listed (c ∷ cells) all =
     (sym (same_is system x.satellite c.satellite x.signal c.signal is one.satellite ∙ slots_same x.satellite.id c.satellite.id x.signal.index c.signal.index (low_index x.signal listed) (low_index c.signal one.place)))
     (held_slot system x is listed cells (All-tail (IsHeld system) c cells all))
 
-pub held_added : {system : System} {old cells new : List Cell} {x : Cell} (k : Added) → x.satellite.system ≡ system → AreHeld system old → IsObserved (heard_cell x) → x.lli < 4
-    → cells ≡ old → AddsCell cells x k new → AreHeld system new
-held_added {system} {cells} {x} Kept is held observed low same a =
-    let h = subst (AreHeld system) (sym same) held in
-    record { each = subst (All (IsHeld system)) (sym a.cells) (All-push (IsHeld system) cells x h.each (search rules)); few = grind (arith, common_steps, a.cells, a.outcome) }
-held_added {system} {cells} _ is held observed low same a = subst (AreHeld system) (sym (a.cells ∙ same)) held
+-- A kept cell is of a new key.
+new_slot : (slots : List ℕ) (s : ℕ) (count : ℕ) → Kept ≡ outcome_by (has_slot s slots) count → list_any (nat_eq s) slots ≡ false
+new_slot slots s count kept = flip slots ∙ by (has_slot s slots) kept where
+  flip : (slots : List ℕ) → list_any (nat_eq s) slots ≡ has_slot s slots
+  flip [] = refl
+  flip (t ∷ slots) = ap₂ (λ a b. a || b) (nat_eq_equiv.symm s t) (flip slots)
+
+  by : (b : Bool) → Kept ≡ outcome_by b count → b ≡ false
+  by true e = cc
+  by false e = refl
+
+pub kept_added : {system : System} {old cells new : List Cell} {x : Cell} (k : Added) → x.satellite.system ≡ system → AreKept system old → IsObserved (heard_cell x) → x.lli < 4
+    → cells ≡ old → AddsCell cells x k new → AreKept system new
+kept_added {system} {cells = cells} {x} Kept is kept observed low same a =
+    let h = subst (AreKept system) (sym same) kept in
+    let held = h.held in
+    subst (AreKept system) (sym a.cells) (record {
+      held = record { each = All-push (IsHeld system) cells x held.each (search rules); few = grind (arith, common_steps, a.outcome) };
+      apart = subst (IsDistinct nat_eq) (sym (map-append slot cells (x ∷ []))) (IsDistinct-push nat_eq_equiv (map slot cells) (slot x) h.apart (new_slot (map slot cells) (slot x) (length cells) a.outcome));
+    })
+kept_added {system} {cells} _ is kept observed low same a = subst (AreKept system) (sym (a.cells ∙ same)) kept
 
 pub is_added : {system : System} {old e : EpochValue} {cells new : List Cell} {x : Cell} {k : Added} → x.satellite.system ≡ system → AreHeld system (cells_of system e)
     → IsObserved (heard_cell x) → e ≡ old → cells ≡ cells_of system e → AddsCell cells x k new → IsAdded old x k (epoch_with system e new)

@@ -1,8 +1,8 @@
 -- Sort keys, and items in their order.
-use Rattle.std.proofs.Common.{◌≡◌, Bool, true, false, List, [], ◌∷◌, ◌++◌, subst, arith, append-nil, fold, if◌then◌else◌, IsPermutation}
+use Rattle.std.proofs.Common.{◌≡◌, Bool, true, false, List, [], ◌∷◌, ◌++◌, map, refl, sym, subst, arith, append-nil, fold, if◌then◌else◌, IsPermutation}
 use Rattle.std.specs.List.{AllByRecursion}
 use Rattle.std.proofs.lemmas.List.Sorted.{IsPermutation-refl, IsPermutation-sym, IsPermutation-trans, IsPermutation-cons, IsPermutation-middle, IsPermutation-append_right}
-use Rattle.gnss_obs.specs.Order.{SortKey, is_before, insert_by}
+use Rattle.gnss_obs.specs.Order.{SortKey, SortKeysRise, is_before, insert_by}
 use Rattle.std.proofs.lemmas.Grind.{common_steps}
 
 -- ---- sort keys
@@ -17,11 +17,53 @@ pub before_all : (a b : SortKey) (ts : List SortKey) → is_before a b ≡ true 
 before_all a b [] h k = tt
 before_all a b (t ∷ ts) h k = (before_trans a b t h k.0, before_all a b ts h k.1)
 
+before_other : (a b : SortKey) → is_before a b ≡ false → (a ≡ b → ⊥) → is_before b a ≡ true
+before_other a b h other = grind (arith, common_steps)
+
 -- ---- one more item
+
+map-insert_by : {X : Type 0} (at : X → SortKey) (x : X) (ys : List X) → map at (insert_by at x ys) ≡ insert_by (λ (s : SortKey). s) (at x) (map at ys)
+map-insert_by at x [] = refl
+map-insert_by at x (y ∷ ys) = grind (arith, common_steps, map-insert_by at x ys)
 
 pub all-insert_by : {X : Type 0} (P : X → Type 0) (at : X → SortKey) (x : X) (ys : List X) → P x → AllByRecursion P ys → AllByRecursion P (insert_by at x ys)
 all-insert_by P at x [] h k = (h, tt)
 all-insert_by P at x (y ∷ ys) h k = grind (arith, common_steps, all-insert_by P at x ys h k.1)
+
+-- An item with a sort key of its own is inserted in order.
+pub rise-insert_by : {X : Type 0} (at : X → SortKey) (x : X) (ys : List X) → SortKeysRise (map at ys) → AllByRecursion (λ y. at x ≡ at y → ⊥) ys → SortKeysRise (map at (insert_by at x ys))
+rise-insert_by at x [] r other = (tt, tt)
+rise-insert_by at x (y ∷ ys) r other = by (is_before (at x) (at y)) refl (rise-insert_by at x ys r.1 other.1) where
+  by : (b : Bool) → is_before (at x) (at y) ≡ b → SortKeysRise (map at (insert_by at x ys)) → SortKeysRise (map at (if b then x ∷ y ∷ ys else y ∷ insert_by at x ys))
+  by true e h = ((e, before_all (at x) (at y) (map at ys) e r.0), r)
+  by false e h =
+      let first = before_other (at x) (at y) e other.0 in
+      let all : Before (at y) (insert_by (λ (s : SortKey). s) (at x) (map at ys)) = all-insert_by (λ t. is_before (at y) t ≡ true) (λ (s : SortKey). s) (at x) (map at ys) first r.0 in
+      (subst (Before (at y)) (sym (map-insert_by at x ys)) all, h)
+
+-- No two items have the same sort key.
+abbrev pub Differ : {X : Type 0} → (X → SortKey) → List X → Type 0
+Differ at [] = Unit {0}
+Differ at (x ∷ xs) = AllByRecursion (λ y. at x ≡ at y → ⊥) xs × Differ at xs
+
+abbrev DifferFrom : {X : Type 0} → (X → SortKey) → List X → X → Type 0
+DifferFrom at ys x = AllByRecursion (λ y. at x ≡ at y → ⊥) ys
+
+differ_more : {X : Type 0} (at : X → SortKey) (x : X) (ys xs : List X) → AllByRecursion (λ z. at x ≡ at z → ⊥) xs → AllByRecursion (DifferFrom at ys) xs → AllByRecursion (DifferFrom at (insert_by at x ys)) xs
+differ_more at x ys [] h all = tt
+differ_more at x ys (z ∷ xs) h all = (all-insert_by (λ y. at z ≡ at y → ⊥) at x ys (λ e. h.0 (sym e)) all.0, differ_more at x ys xs h.1 all.1)
+
+rise_onto : {X : Type 0} (at : X → SortKey) (ys xs : List X) → SortKeysRise (map at ys) → AllByRecursion (DifferFrom at ys) xs → Differ at xs → SortKeysRise (map at (fold (λ zs z. insert_by at z zs) ys xs))
+rise_onto at ys [] r all d = r
+rise_onto at ys (x ∷ xs) r all d = rise_onto at (insert_by at x ys) xs (rise-insert_by at x ys r all.0) (differ_more at x ys xs d.0 all.1) d.1
+
+differ_none : {X : Type 0} (at : X → SortKey) (xs : List X) → AllByRecursion (DifferFrom at []) xs
+differ_none at [] = tt
+differ_none at (x ∷ xs) = (tt, differ_none at xs)
+
+-- The sort keys of sorted items rise if no two are the same.
+pub sorted_rise : {X : Type 0} (at : X → SortKey) (xs : List X) → Differ at xs → SortKeysRise (map at (fold (λ zs z. insert_by at z zs) [] xs))
+sorted_rise at xs d = rise_onto at [] xs tt (differ_none at xs) d
 
 -- Sorting only moves items.
 insert_moves : {X : Type 0} (at : X → SortKey) (x : X) (ys : List X) → IsPermutation (x ∷ ys) (insert_by at x ys)

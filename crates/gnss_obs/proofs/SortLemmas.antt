@@ -2,14 +2,14 @@
 use Rattle.std.proofs.Common.{◌≡◌, ℕ, zero, suc, ◌+◌, ◌*◌, ◌<◌, ◌≤◌, ◌==◌, Bool, true, false, ◌||◌, List, [], ◌∷◌, ◌++◌, map, drop, refl, sym, ap, ap₂, ◌∙◌, subst, arith, length, get_or, Option, Some, None, All, nat_eq, is_some}
 use Rattle.std.specs.Prelude.{◌&&◌, fold, nat_lt, position}
 use Rattle.std.proofs.lemmas.List.{append_assoc, append-nil, get_or-map, length-append}
-use Rattle.std.proofs.lemmas.List.Elements.{All-append, All-cons, All-from_recursion, All-get_or, All-head, All-nil, All-push, All-tail, All-weaker}
+use Rattle.std.proofs.lemmas.List.Elements.{All-append, All-cons, All-get_or, All-head, All-nil, All-push, All-tail, All-weaker}
 use Rattle.std.proofs.lemmas.List.Quantifiers.{position-Some}
 use Rattle.std.proofs.lemmas.List.Sorted.{All-permutation, IsPermutation-sym, length_permutation}
-use Rattle.std.proofs.lemmas.Map.Keys.{apart_from_distinct}
+use Rattle.std.proofs.lemmas.Map.Keys.{apart_from_distinct, IsDistinct-head, IsDistinct-tail}
 use Rattle.gnss_obs.specs.Order.{Rise, RiseTo}
-use Rattle.gnss_obs.specs.Names.{AreBelow, AreHeld, AreInPlanOrder, Cell, IsHeld, IsOf, IsSignal, SignalAt, System, has_slot, indices, IsDistinct, slot, table, place_in, SortKey, is_before, SortKeysRise, insert_by, cell_sort_key, sorted_cells, sorted_epoch, cell_number, EpochValue, PlanValue, planned_of, cells_of, AreInOrder, option_map_or, AllByRecursion}
+use Rattle.gnss_obs.specs.Names.{AreBelow, AreHeld, AreKept, AreOrderedBy, AreSortedByPlan, HasPlannedCells, IsPlanned, Cell, IsHeld, IsOf, IsSignal, SignalAt, System, has_slot, indices, IsDistinct, slot, table, place_in, SortKey, is_before, SortKeysRise, insert_by, cell_sort_key, sorted_cells, sorted_epoch, cell_number, EpochValue, PlanValue, planned_of, cells_of, option_map_or, AllByRecursion}
 use Rattle.gnss_obs.proofs.HeldLemmas.{low_index}
-use Rattle.gnss_obs.proofs.OrderLemmas.{Before, sort_moves}
+use Rattle.gnss_obs.proofs.OrderLemmas.{Before, Differ, sort_moves, sorted_rise}
 use Rattle.gnss_obs.proofs.PlanLemmas.{few_signals, length_indices}
 use Rattle.gnss_system.proofs.SystemLaws.{equal_values, value_tabulated}
 use Rattle.std.proofs.lemmas.Grind.{common_steps}
@@ -145,15 +145,29 @@ same_place planned i p {a} apart h k e f = by (nat_lt i p) (nat_lt p i) refl ref
   by false true x y = absurd (clash (nat_eq a a) refl (sym (ap₂ (λ n m. nat_eq n m) f e) ∙ apart_from_distinct nat_eq planned p i 0 apart (let l : p < i = grind (arith, y) in l) h))
   by false false x y = grind (arith, x, y)
 
-abbrev IsPlanned : List ℕ → Cell → Type 0
-IsPlanned planned c = is_some (place_in c.signal planned) ≡ true
+-- Cells of the same sort key have the same slot.
+same_slot : (planned : List ℕ) (c d : Cell) → IsPlanned planned c → IsPlanned planned d → cell_sort_key planned c ≡ cell_sort_key planned d → slot c ≡ slot d
+same_slot planned c d h k same =
+    let p = placed planned c h in
+    let q = placed planned d k in
+    let place : p.0 ≡ q.0 = ap (λ o. option_map_or (λ n. n) o 0) (sym p.1.0) ∙ ap (λ (s : SortKey). s.place) same ∙ ap (λ o. option_map_or (λ n. n) o 0) q.1.0 in
+    ap₂ (λ n m. 32 * n + m) (ap (λ (s : SortKey). s.satellite) same) (sym p.1.2 ∙ ap (λ n. get_or planned n 0) place ∙ q.1.2)
 
-abbrev IsOwn : System → List ℕ → Cell → Type 0
-IsOwn system planned c = (c.satellite.system ≡ system) × IsPlanned planned c
+differ : (planned : List ℕ) (cells : List Cell) → All (IsPlanned planned) cells → IsDistinct nat_eq (map slot cells) → Differ (cell_sort_key planned) cells
+differ planned [] h apart = tt
+differ planned (c ∷ cells) h apart =
+    (each cells (All-tail (IsPlanned planned) c cells h) (IsDistinct-head nat_eq (slot c) (map slot cells) apart), differ planned cells (All-tail (IsPlanned planned) c cells h) (IsDistinct-tail nat_eq (slot c) (map slot cells) apart)) where
+      own : IsPlanned planned c
+      own = All-head (IsPlanned planned) c cells h
 
-planned_cells : (system : System) (planned : List ℕ) (cells : List Cell) → AreInPlanOrder system planned (sorted_cells planned cells) → All (IsPlanned planned) cells
-planned_cells system planned cells h =
-    All-weaker (IsOwn system planned) (IsPlanned planned) (λ c both. both.1) cells (of_sorted (IsOwn system planned) planned cells (All-from_recursion (IsOwn system planned) (sorted_cells planned cells) h.each))
+      each : (ds : List Cell) → All (IsPlanned planned) ds → AllByRecursion (λ s. nat_eq (slot c) s ≡ false) (map slot ds) → AllByRecursion (λ (d : Cell). cell_sort_key planned c ≡ cell_sort_key planned d → ⊥) ds
+      each [] all other = tt
+      each (d ∷ ds) all other =
+          (λ same. let is = same_slot planned c d own (All-head (IsPlanned planned) d ds all) same in let unlike = other.0 in absurd (grind (arith, is, unlike)), each ds (All-tail (IsPlanned planned) d ds all) other.1)
+
+-- Sorted cells are in the order of the plan.
+pub cells_rise : (system : System) (planned : List ℕ) (cells : List Cell) → AreKept system cells → All (IsPlanned planned) cells → AreOrderedBy planned (sorted_cells planned cells)
+cells_rise system planned cells kept all = sorted_rise (cell_sort_key planned) cells (differ planned cells all kept.apart)
 
 pub below_first : (planned : List ℕ) (n : ℕ) (cells : List Cell) → All (IsFrom planned n) cells → AreBelow planned n cells []
 below_first planned n cells from = record { rest = sorted_cells planned cells; split = refl; earlier = All-nil (λ c. cell_number planned c < n); later = to_sorted (IsFrom planned n) planned cells from }
@@ -179,8 +193,8 @@ index_of signals i s less at = get_or-map (λ (r : SignalAt). r.index) signals i
 -- The kept cells of a system, for its planned signals.
 pub record AreCellsOf (system : System) (signals : List SignalAt) (cells : List Cell) : Type 0 where
   pub plan : IsOf system signals
-  pub held : AreHeld system cells
-  pub order : AreInPlanOrder system (indices signals) (sorted_cells (indices signals) cells)
+  pub kept : AreKept system cells
+  pub planned : All (IsPlanned (indices signals)) cells
 
 -- Signal i of the planned ones.
 pub record IsEntry (signals : List SignalAt) (i : ℕ) (s : SignalAt) : Type 0 where
@@ -239,23 +253,23 @@ pub entry_found : {system : System} {signals : List SignalAt} {i : ℕ} {s : Sig
     → (length first < length cells) × AreBelow (indices signals) (64 * id + (i + 1)) cells (first ++ x ∷ [])
 entry_found {system} {signals} {i} {x = x} {cells} {first} id at of e found here b =
     let planned = indices signals in
-    let some = subst (IsPlanned planned) (sym here) (All-get_or (IsPlanned planned) cells at x found.0 (planned_cells system planned cells of.order)) in
-    let own = subst (IsHeld system) (sym here) (All-get_or (IsHeld system) cells at x found.0 of.held.each) in
+    let some = subst (IsPlanned planned) (sym here) (All-get_or (IsPlanned planned) cells at x found.0 of.planned) in
+    let own = subst (IsHeld system) (sym here) (All-get_or (IsHeld system) cells at x found.0 of.kept.held.each) in
     let number = number_at id x of.plan e some (low_index x.signal own.place) (ap slot here ∙ found.1 x) in
-    let next = below_found at (few_planned system signals of.plan) of.order.rise found.0 (sym here) number b in
+    let next = below_found at (few_planned system signals of.plan) (cells_rise system planned cells of.kept of.planned) found.0 (sym here) number b in
     let end : 64 * id + i + 1 ≡ 64 * id + (i + 1) = omega arith in
     (next.0, subst (λ n. AreBelow planned n cells (first ++ x ∷ [])) end next.1)
 
 pub entry_none : {system : System} {signals : List SignalAt} {i : ℕ} {s : SignalAt} {cells first : List Cell} (id : ℕ) → AreCellsOf system signals cells → IsEntry signals i s
     → has_slot (32 * id + s.index) (map slot cells) ≡ false → AreBelow (indices signals) (64 * id + i) cells first → AreBelow (indices signals) (64 * id + (i + 1)) cells first
 entry_none {system} {signals} {i} {cells = cells} {first} id of e none b =
-    below_skip (indices signals) (64 * id + i) (64 * id + (i + 1)) cells first (omega arith) (none_at id cells of.plan e (planned_cells system (indices signals) cells of.order) none) b
+    below_skip (indices signals) (64 * id + i) (64 * id + (i + 1)) cells first (omega arith) (none_at id cells of.plan e of.planned none) b
 
 -- No cell is of a place after the plan's.
 pub entries_end : {system : System} {signals : List SignalAt} {n : ℕ} {cells first : List Cell} (id : ℕ) → AreCellsOf system signals cells → n ≡ length signals
     → AreBelow (indices signals) (64 * id + n) cells first → AreBelow (indices signals) (64 * (id + 1)) cells first
 entries_end {system} {signals} {n} {cells} {first} id of end b =
-    below_skip (indices signals) (64 * id + n) (64 * (id + 1)) cells first (omega (arith, most, end, length_indices signals)) (All-weaker (IsPlanned (indices signals)) (Gap (indices signals) (64 * id + n) (64 * (id + 1))) later cells (planned_cells system (indices signals) cells of.order)) b where
+    below_skip (indices signals) (64 * id + n) (64 * (id + 1)) cells first (omega (arith, most, end, length_indices signals)) (All-weaker (IsPlanned (indices signals)) (Gap (indices signals) (64 * id + n) (64 * (id + 1))) later cells of.planned) b where
       most : length (indices signals) ≤ 64
       most = few_planned system signals of.plan
 
@@ -302,12 +316,16 @@ none_before at (x ∷ xs) = (tt, none_before at xs)
 pub sorted_same : (planned : List ℕ) (cells : List Cell) → SortKeysRise (map (cell_sort_key planned) cells) → sorted_cells planned cells ≡ cells
 sorted_same planned cells rise = rise_onto (cell_sort_key planned) [] cells (none_before (cell_sort_key planned) cells) rise
 
--- Sorting again changes nothing.
-pub sorted_again : (p : PlanValue) (e : EpochValue) → AreInOrder p (sorted_epoch p e) → sorted_epoch p (sorted_epoch p e) ≡ sorted_epoch p e
-sorted_again p e h =
+-- Sorting an epoch in order changes nothing.
+pub epoch_same : (p : PlanValue) (e : EpochValue) → AreSortedByPlan p e → sorted_epoch p e ≡ e
+epoch_same p e h =
     ap (λ cells. record { time = e.time; cells = cells }) (equal_values _ _ (λ s.
-    value_tabulated s (λ t. sorted_cells (planned_of t p) (cells_of t (sorted_epoch p e)))
-    ∙ sorted_same (planned_of s p) (cells_of s (sorted_epoch p e)) (h s).rise))
+    value_tabulated s (λ t. sorted_cells (planned_of t p) (cells_of t e)) ∙ sorted_same (planned_of s p) (cells_of s e) (h s)))
+
+-- The cells of a sorted epoch are planned if they were.
+pub planned_sorted : (p : PlanValue) (e : EpochValue) → HasPlannedCells p e → HasPlannedCells p (sorted_epoch p e)
+planned_sorted p e h s =
+    subst (All (IsPlanned (planned_of s p))) (sym (value_tabulated s (λ t. sorted_cells (planned_of t p) (cells_of t e)))) (to_sorted (IsPlanned (planned_of s p)) (planned_of s p) (cells_of s e) (h s))
 
 -- ---- cells in the order of their slots
 
@@ -371,7 +389,7 @@ slots_rise bound top planned (c ∷ cells) r all s =
     let rest = All-tail (IsPlannedCell planned) c cells all in
     (slots_first bound planned c cells r (All-head (IsPlannedCell planned) c cells all) rest s.1, slots_rise bound top planned cells r rest s.2)
 
-pub slots_sorted : (system : System) (planned : List ℕ) (cells : List Cell) → AreHeld system cells → AreInPlanOrder system planned (sorted_cells planned cells) → Rise planned → Rise (map slot cells)
+pub slots_sorted : (system : System) (planned : List ℕ) (cells : List Cell) → AreHeld system cells → All (IsPlanned planned) cells → Rise planned → Rise (map slot cells)
     → sorted_cells planned cells ≡ cells
-slots_sorted system planned cells held order r s =
-    sorted_same planned cells (slots_rise r.0 s.0 planned cells r.1 (λ i d less. (planned_cells system planned cells order i d less, low_index (get_or cells i d).signal (held.each i d less).place)) s.1)
+slots_sorted system planned cells held all r s =
+    sorted_same planned cells (slots_rise r.0 s.0 planned cells r.1 (λ i d less. (all i d less, low_index (get_or cells i d).signal (held.each i d less).place)) s.1)

@@ -1,16 +1,16 @@
 -- The cells of a pending epoch, in the order in which they arrive.
-use Rattle.std.specs.Prelude.{ℕ, ◌+◌, ◌*◌, ◌≡◌, ◌<◌, ◌≤◌, ◌==◌, Bool, nat_le, List, [], ◌∷◌, ◌++◌, length, get_or}
+use Rattle.std.specs.Prelude.{ℕ, ◌+◌, ◌*◌, ◌≡◌, ◌<◌, ◌≤◌, ◌==◌, Bool, nat_eq, nat_le, List, [], ◌∷◌, ◌++◌, length, get_or}
 use Rattle.std.specs.Prelude.{map, fold, if◌then◌else◌}
 use Rattle.std.specs.Option.{option_map_or}
 use Rattle.std.specs.Int.{bit_at}
-use Rattle.std.specs.List.{All, AllByRecursion, list_any}
+use Rattle.std.specs.List.{All, AllByRecursion, IsDistinct, list_any}
 use Rattle.gnss_system.specs.declared.system.System.{System}
 use Rattle.gnss_obs.specs.declared.cell.Cell.{Cell}
 use Rattle.gnss_obs.specs.declared.arrivals.Added.{Added}
 use Rattle.gnss_obs.specs.declared.arrivals.Added.TheVariants.{Kept, Repeated, Crowded}
 use Rattle.gnss_system.specs.Satellites.{most_satellites}
 use Rattle.gnss_obs.specs.HeardCells.{heard_cell}
-use Rattle.gnss_obs.specs.Values.{PlanValue, EpochValue, planned_of, cells_of, most_cells}
+use Rattle.gnss_obs.specs.Values.{AreHeld, PlanValue, EpochValue, planned_of, cells_of, most_cells}
 use Rattle.gnss_system.specs.SystemValues.{with_value_of, tabulate}
 use Rattle.gnss_obs.specs.Plans.{place_in}
 use Rattle.gnss_obs.specs.Order.{insert_by, cell_sort_key}
@@ -61,6 +61,11 @@ IsFound table slots s = (get_or table s 0 < length slots) × (get_or slots (get_
 
 abbrev pub AreFound : List ℕ → List Cell → Type 0
 AreFound table cells = AllByRecursion (IsFound table (map slot cells)) (map slot cells)
+
+-- Kept cells of a system, no two of the same key.
+pub record AreKept (system : System) (cells : List Cell) : Type 0 where
+  pub held : AreHeld system cells
+  pub apart : IsDistinct nat_eq (map slot cells)
 
 -- One more cell of a system is kept, unless one of its key is kept, or there is no room.
 pub record AddsCell (old : List Cell) (x : Cell) (added : Added) (new : List Cell) : Type 0 where

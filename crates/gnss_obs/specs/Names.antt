@@ -1,13 +1,13 @@
 -- The names that proofs cite, passed on from one place. Declares nothing.
 pub use Rattle.std.specs.List.{AllByRecursion, IsDistinct, list_any}
 pub use Rattle.std.specs.Option.{option_map_or}
-pub use Rattle.gnss_obs.specs.Arriving.{AddsCell, AreBelow, IsAdded, cell_number, cells_after, epoch_with, has_slot, outcome_by, slot, sorted_cells, sorted_epoch}
+pub use Rattle.gnss_obs.specs.Arriving.{AddsCell, AreBelow, AreKept, IsAdded, cell_number, cells_after, epoch_with, has_slot, outcome_by, slot, sorted_cells, sorted_epoch}
 pub use Rattle.gnss_obs.specs.Dates.{IsCivil, IsCivilOf, YearMonthDay, civil_of, clock_of, date_of, month_length, month_on, year_length, year_on}
 pub use Rattle.gnss_obs.specs.HeardCells.{IsObserved, heard_cell, same_key}
-pub use Rattle.gnss_obs.specs.PlanOrder.{AreInOrder, AreInPlanOrder, is_held}
+pub use Rattle.gnss_obs.specs.PlanOrder.{HasPlannedCells, IsPlanned, is_held}
 pub use Rattle.gnss_obs.specs.LockTimes.{lost, times4, times7}
 pub use Rattle.gnss_obs.specs.Observables.{light, nearest_doppler, nearest_phase, nearest_pseudorange, nearest_strength, strength_digit}
-pub use Rattle.gnss_obs.specs.Order.{AreOrderedBy, AreSorted, SortKey, SortKeysRise, cell_sort_key, insert_by, is_before}
+pub use Rattle.gnss_obs.specs.Order.{AreOrderedBy, AreSorted, AreSortedByPlan, SortKey, SortKeysRise, cell_sort_key, insert_by, is_before}
 pub use Rattle.gnss_obs.specs.Plans.{CodesNameSignals, IsTaken, below, between_commas, one_signal_more, onto_first, place_in, plan_of, signals_after, signals_of}
 pub use Rattle.gnss_obs.specs.Rounding.{IsNearest, nearest}
 pub use Rattle.gnss_system.specs.Satellites.{Satellite, satellites}

@@ -1,5 +1,5 @@
 -- The signals of a plan.
-use Rattle.std.specs.Prelude.{◌≡◌, ℕ, ◌+◌, ◌<◌, ◌≤◌, List, [], ◌∷◌, ◌++◌, map, length, All, Option, None, true, false}
+use Rattle.std.specs.Prelude.{◌≡◌, ℕ, ◌<◌, ◌≤◌, List, [], ◌∷◌, ◌++◌, map, length, All, Option, None, true, false}
 use Rattle.std.specs.Prelude.{◌==◌, ◌⊎◌, get_or, position, Result, Ok, Err, IsOk, MatchResult}
 use Rattle.gnss_system.specs.declared.system.System.{System}
 use Rattle.gnss_system.specs.Signals.{SignalAt, IsSignal, table, most_signals, signal_of_code, signal_at, greatest_signal_id}

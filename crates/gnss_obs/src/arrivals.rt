@@ -1,15 +1,16 @@
 //! The cells of an epoch as they arrive.
-ghost use Rattle.std.specs.Prelude.{◌≡◌, ◌<◌, [], IfOk};
+ghost use Rattle.std.specs.Prelude.{◌≡◌, ◌<◌, [], All, IfOk};
 ghost use Rattle.gnss_obs.specs.HeardCells.{heard_cell, IsObserved};
-ghost use Rattle.gnss_obs.specs.Arriving.{IsAdded, AddsCell, sorted_cells, sorted_epoch};
-ghost use Rattle.gnss_obs.specs.PlanOrder.{AreInOrder, AreInPlanOrder};
+ghost use Rattle.gnss_obs.specs.Arriving.{IsAdded, AddsCell, AreKept, sorted_cells, sorted_epoch};
+ghost use Rattle.gnss_obs.specs.Order.{AreSortedByPlan};
+ghost use Rattle.gnss_obs.specs.PlanOrder.{IsPlanned, HasPlannedCells};
 ghost use Rattle.gnss_system.specs.declared.system.System.{System};
 ghost use Rattle.gnss_system.specs.SystemValues.{value_of, with_value_of};
 ghost use Rattle.gnss_obs.specs.Values.{AreHeld, cells_of, empty_epoch, planned_of};
 
 use crate::cell::{Cell, StationValues};
 use crate::cells::Cells;
-use crate::epoch::{Epoch, MOST_CELLS};
+use crate::epoch::MOST_CELLS;
 use crate::order::sort_into;
 use crate::plan::Plan;
 use crate::time::GpsTime;
@@ -42,7 +43,8 @@ pub struct Arrivals {
 impl Model for Arrivals {
     ghost use Rattle.gnss_system.specs.declared.system.System.{System};
     ghost use Rattle.gnss_system.specs.SystemValues.{value_of, map_by};
-    ghost use Rattle.gnss_obs.specs.Values.{AreHeld, Closed};
+    ghost use Rattle.gnss_obs.specs.Arriving.{AreKept};
+    ghost use Rattle.gnss_obs.specs.Values.{Closed};
 
     ghost Value = { Closed };
 
@@ -52,7 +54,7 @@ impl Model for Arrivals {
           values = e.values;
         } };
 
-    ghost invariant = { λ e. (s : System) → AreHeld s (value_of s e.cells).value };
+    ghost invariant = { λ e. (s : System) → AreKept s (value_of s e.cells).value };
 }
 
 impl Arrivals {
@@ -125,8 +127,9 @@ impl Arrivals {
 
     /// Sorts the cells of each system by satellite and then by the order of a plan.
     pub fn sort(&mut self, plan: &Plan, spare: &mut Box<Cells>)
-        requires { AreInOrder plan.now (sorted_epoch plan.now self.old.epoch) }
-        ensures { self.new ≡ record { epoch = sorted_epoch plan.now self.old.epoch; values = self.old.values } }
+        requires { HasPlannedCells plan.now self.old.epoch }
+        ensures sorted { self.new ≡ record { epoch = sorted_epoch plan.now self.old.epoch; values = self.old.values } }
+        ensures order { AreSortedByPlan plan.now self.new.epoch }
     {
         sort_all(&mut self.cells, plan, spare);
     }
@@ -134,9 +137,8 @@ impl Arrivals {
 
 // Sorts the cells of each system.
 fn sort_all(cells: &mut BySystem<Box<Cells>>, plan: &Plan, spare: &mut Box<Cells>)
-    requires held { (s : System) → AreHeld s (value_of s cells.old).value }
-    requires order { (s : System) → AreInPlanOrder s (planned_of s plan.now)
-        (sorted_cells (planned_of s plan.now) (value_of s cells.old).value) }
+    requires kept { (s : System) → AreKept s (value_of s cells.old).value }
+    requires planned { (s : System) → All (IsPlanned (planned_of s plan.now)) (value_of s cells.old).value }
     ensures { (s : System) → (value_of s cells.new).value
         ≡ sorted_cells (planned_of s plan.now) (value_of s cells.old).value }
 {
@@ -186,9 +188,8 @@ fn add(cells: &mut Cells, x: Cell) -> Added
 // Sorts the cells of a system. They are copied only if they or the planned signals aren't in the
 // order of the table of signals.
 fn sort(cells: &mut Box<Cells>, plan: &Plan, system: System, spare: &mut Box<Cells>)
-    requires held { AreHeld system cells.old.value }
-    requires order { AreInPlanOrder system (planned_of system plan.now)
-        (sorted_cells (planned_of system plan.now) cells.old.value) }
+    requires kept { AreKept system cells.old.value }
+    requires planned { All (IsPlanned (planned_of system plan.now)) cells.old.value }
     ensures { cells.new.value ≡ sorted_cells (planned_of system plan.now) cells.old.value }
 {
     if cells.is_in_table_order() && plan.is_in_table_order(system) {

@@ -1,7 +1,7 @@
 //! Cells in the order of their satellites and of a plan.
-ghost use Rattle.std.specs.Prelude.{◌≡◌, ◌+◌, ◌*◌, ◌<◌, ◌≤◌, ◌++◌, ◌∷◌, [], List, ℕ};
-ghost use Rattle.gnss_obs.specs.Arriving.{sorted_cells, AreBelow, HasSatellites};
-ghost use Rattle.gnss_obs.specs.PlanOrder.{AreInPlanOrder};
+ghost use Rattle.std.specs.Prelude.{◌≡◌, ◌+◌, ◌*◌, ◌<◌, ◌≤◌, ◌++◌, ◌∷◌, [], List, ℕ, All};
+ghost use Rattle.gnss_obs.specs.Arriving.{sorted_cells, AreBelow, AreKept, HasSatellites};
+ghost use Rattle.gnss_obs.specs.PlanOrder.{IsPlanned};
 ghost use Rattle.gnss_obs.specs.Order.{IsLeastNext, unsorted};
 ghost use Rattle.gnss_system.specs.Satellites.{satellites};
 ghost use Rattle.gnss_obs.specs.SignalLists.{indices, IsOf};
@@ -30,9 +30,8 @@ pub(crate) fn least_next_after(least: usize, number: usize) -> usize
 /// Copies cells in the order of their satellites and then of the plan.
 #[inline(never)]
 pub(crate) fn sort_into(sorted: &mut Cells, cells: &Cells, plan: &Plan, system: System)
-    requires held { AreHeld system cells.now }
-    requires order { AreInPlanOrder system (planned_of system plan.now)
-        (sorted_cells (planned_of system plan.now) cells.now) }
+    requires kept { AreKept system cells.now }
+    requires planned { All (IsPlanned (planned_of system plan.now)) cells.now }
     ensures { sorted.new ≡ sorted_cells (planned_of system plan.now) cells.now }
 {
     let signals = plan.of(system);
@@ -61,8 +60,8 @@ fn satellites_of(cells: &[Cell], system: System) -> u64
 fn copy_satellite(sorted: &mut Cells, cells: &Cells, signals: &[Signal], system: System, id: u8)
     requires id { id ≤ satellites system }
     requires signals { IsOf system signals.now }
-    requires held { AreHeld system cells.now }
-    requires order { AreInPlanOrder system (indices signals.now) (sorted_cells (indices signals.now) cells.now) }
+    requires kept { AreKept system cells.now }
+    requires planned { All (IsPlanned (indices signals.now)) cells.now }
     requires before { AreBelow (indices signals.now) (64 * id) cells.now sorted.old }
     ensures { AreBelow (indices signals.now) (64 * (id + 1)) cells.now sorted.new }
 {

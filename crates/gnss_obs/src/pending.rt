@@ -2,7 +2,8 @@
 ghost use Rattle.std.specs.Prelude.{◌≡◌, ◌<◌, true, false, IfOk, if◌then◌else◌, Some, None, option_map};
 ghost use Rattle.gnss_obs.specs.HeardCells.{heard_cell, IsObserved};
 ghost use Rattle.gnss_obs.specs.Arriving.{IsAdded, sorted_epoch};
-ghost use Rattle.gnss_obs.specs.PlanOrder.{AreInOrder};
+ghost use Rattle.gnss_obs.specs.Order.{AreSortedByPlan};
+ghost use Rattle.gnss_obs.specs.PlanOrder.{HasPlannedCells};
 ghost use Rattle.gnss_obs.specs.Values.{AreHeld, cells_of, empty_epoch};
 ghost use Rattle.gnss_obs.specs.Stages.{IsStage, stage_value};
 
@@ -116,12 +117,13 @@ impl Pending {
 
     /// Closes the epoch: sorts its cells by satellite and then by the order of a plan.
     pub fn close(&mut self, plan: &Plan)
-        requires { AreInOrder plan.now (sorted_epoch plan.now self.old.epoch) }
-        ensures { self.new ≡ record {
+        requires { HasPlannedCells plan.now self.old.epoch }
+        ensures closed { self.new ≡ record {
           epoch = sorted_epoch plan.now self.old.epoch;
           values = self.old.values;
           is_open = false;
         } }
+        ensures order { AreSortedByPlan plan.now self.new.epoch }
     {
         let mut cells = into_arrivals(mem::replace(&mut self.stage, Stage::Moving));
         cells.sort(plan, &mut self.spare);

@@ -14,11 +14,11 @@ use Rattle.gnss_obs.specs.HeardCells.{HeardCell, kept_cell}
 use Rattle.obs_epoch.specs.Cells.{no_counts, with_skipped}
 use Rattle.obs_epoch.specs.Kinds.{is_accepted}
 use Rattle.gnss_obs.specs.Values.{PlanValue, planned_of, EpochValue, cells_of, empty_epoch}
-use Rattle.gnss_obs.specs.PlanOrder.{AreInOrder}
+use Rattle.gnss_obs.specs.PlanOrder.{HasPlannedCells}
 use Rattle.gnss_obs.specs.Arriving.{sorted_epoch, epoch_with}
 use Rattle.gnss_obs.specs.Stages.{PendingValue}
 use Rattle.gnss_obs.specs.Plans.{place_in}
-use Rattle.gnss_obs.specs.Order.{insert_by, cell_sort_key}
+use Rattle.gnss_obs.specs.Order.{AreSortedByPlan, insert_by, cell_sort_key}
 use Rattle.obs_epoch.specs.Loss.{lli_with}
 use Rattle.obs_epoch.specs.Epochs.{values_after_message}
 use Rattle.obs_epoch.specs.Clock.{State}
@@ -32,10 +32,11 @@ use Rattle.obs_epoch.specs.declared.taken.CellCounts.{CellCounts}
 abbrev pub no_pending : StationValues → PendingValue
 no_pending values = record { epoch = empty_epoch 0; values = values; is_open = true }
 
--- Once sorted, the cells are in the order of the plan. An epoch that was just closed is sorted.
+-- The cells are planned. An epoch that was just closed is in the order of the plan.
 pub record IsPending (p : PlanValue) (now : PendingValue) (just_closed : Bool) : Type 0 where
-  pub order : AreInOrder p (sorted_epoch p now.epoch)
-  pub closed : just_closed ≡ true → (now.is_open ≡ false) × (sorted_epoch p now.epoch ≡ now.epoch)
+  pub planned : HasPlannedCells p now.epoch
+  pub closed : just_closed ≡ true
+      → (now.is_open ≡ false) × (sorted_epoch p now.epoch ≡ now.epoch) × AreSortedByPlan p now.epoch
 
 -- One more cell, inserted in the order of a plan.
 abbrev pub with_more_in : System → PlanValue → EpochValue → Cell → EpochValue

@@ -3,9 +3,8 @@ pub use Rattle.std.specs.List.{AllByRecursion, IsDistinct, cons_option, list_any
 pub use Rattle.std.specs.Option.{option_map_or}
 pub use Rattle.gnss_obs.specs.GatheredEpochs.{AreGathered, AreGatheredEpochs, AreStationValues, IsGathered, IsGatheredEpoch, IsStrength, TimesRise, same_place}
 pub use Rattle.gnss_obs.specs.HeardCells.{HeardCell, IsKey, has_same_key, kept_cell}
-pub use Rattle.gnss_obs.specs.PlanOrder.{AreInPlanOrder}
 pub use Rattle.gnss_obs.specs.LockTimes.{LockTime}
-pub use Rattle.gnss_obs.specs.Names.{AreInOrder, Closed, EpochValue, IsAdded, IsHeld, IsSignal, PendingValue, PlanValue, Satellite, SignalAt, SortKey, SortKeysRise, cell_sort_key, cells_after, cells_of, epoch_with, heard_cell, hertz_of, id_of, insert_by, is_before, is_held, nearest_doppler, nearest_phase, nearest_pseudorange, nearest_strength, outcome_by, place_in, planned_of, signal_of_id, sorted_cells, sorted_epoch, table, weeks}
+pub use Rattle.gnss_obs.specs.Names.{AreSortedByPlan, Closed, EpochValue, HasPlannedCells, IsAdded, IsHeld, IsPlanned, IsSignal, PendingValue, PlanValue, Satellite, SignalAt, SortKey, SortKeysRise, cell_sort_key, cells_after, cells_of, epoch_with, heard_cell, hertz_of, id_of, insert_by, is_before, is_held, nearest_doppler, nearest_phase, nearest_pseudorange, nearest_strength, outcome_by, place_in, planned_of, signal_of_id, sorted_cells, sorted_epoch, table, weeks}
 pub use Rattle.gnss_obs.specs.Order.{sort_key_of, sorted}
 pub use Rattle.gnss_system.specs.Satellites.{satellite_of_id, satellite_set}
 pub use Rattle.gnss_system.specs.Systems.{is_system}

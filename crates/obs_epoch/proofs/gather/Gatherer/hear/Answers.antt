@@ -1,5 +1,5 @@
 use Rattle.std.proofs.Common.{◌∙◌, sym, ap, subst, refl, false}
-use Rattle.obs_epoch.specs.Names.{AreInOrder, sorted_epoch, PendingValue, State, values_after_message, GathererValue, rested, with_time, heard_summary}
+use Rattle.obs_epoch.specs.Names.{HasPlannedCells, PendingValue, State, values_after_message, GathererValue, rested, with_time, heard_summary}
 use Rattle.obs_epoch.proofs.ValueLemmas.{gathered_of, heard_is, never_both, step_setup}
 use Rattle.obs_epoch.proofs.gather.Gatherer.hear.Goals as goal
 
@@ -7,8 +7,8 @@ pub invariant_of-self : goal.invariant_of-self
 invariant_of-self c =
     let same = ap (λ (g : State). g.setup.plan) c.step-kind.ensures.step ∙ ap (λ s. s.plan) (step_setup c.self.inside.clock (heard_summary c.args.said.now)) in
     record {
-      order = subst (λ p. AreInOrder p (sorted_epoch p c.set_values.new.self.epoch)) (sym same)
-          (subst (λ e. AreInOrder c.self.inside.clock.setup.plan (sorted_epoch c.self.inside.clock.setup.plan e)) (sym (ap (λ (q : PendingValue). q.epoch) c.set_values.ensures)) c.self.invariant.order);
+      planned = subst (λ p. HasPlannedCells p c.set_values.new.self.epoch) (sym same)
+          (subst (HasPlannedCells c.self.inside.clock.setup.plan) (sym (ap (λ (q : PendingValue). q.epoch) c.set_values.ensures)) c.self.invariant.planned);
       closed = λ e. absurd (never_both false refl e);
     }
 

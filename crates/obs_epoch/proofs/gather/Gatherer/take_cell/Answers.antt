@@ -1,6 +1,6 @@
 use Rattle.std.proofs.Common.{◌≡◌, ◌∙◌, sym, ap, ap₂, subst, refl, true, is_some}
 use Rattle.obs_epoch.specs.Names.{Cell, StationValues, planned_of, heard_cell, kept_cell, place_in, GathererValue, hold, outcome_in, count_in, lli_with}
-use Rattle.obs_epoch.proofs.ValueLemmas.{gathered_of, held_is, never_both, order_added, outcome_is, planned_is}
+use Rattle.obs_epoch.proofs.ValueLemmas.{gathered_of, held_is, never_both, planned_added, outcome_is, planned_is}
 use Rattle.obs_epoch.proofs.gather.Gatherer.take_cell.Goals as goal
 
 pub invariant_of-self : goal.invariant_of-self
@@ -8,7 +8,7 @@ invariant_of-self c =
     let m : Cell = kept_cell (heard_cell c.args.x) c.lli.result in
     let planned = subst (λ (v : GathererValue). is_some (place_in c.args.x.signal (planned_of c.args.x.satellite.system v.clock.setup.plan)) ≡ true) (sym c.self.view_is) c.requires.planned in
     record {
-      order = order_added c.self.inside.clock.setup.plan c.self.inside.pending.epoch c.add.new.self.epoch m c.add.result planned c.self.invariant.order c.add.ensures.epoch;
+      planned = planned_added c.self.inside.clock.setup.plan c.self.inside.pending.epoch c.add.new.self.epoch m planned c.self.invariant.planned c.add.ensures.epoch;
       closed = λ e. absurd (never_both _ (ap (λ (v : GathererValue). v.just_closed) c.self.view_is ∙ c.requires.rested) e);
     }
 

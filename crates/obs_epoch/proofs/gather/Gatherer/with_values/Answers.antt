@@ -1,18 +1,12 @@
-use Rattle.std.proofs.Common.{ℕ, sym, ◌∙◌, [], refl, ap, subst, rules, false}
-use Rattle.obs_epoch.specs.Names.{AreInOrder, AreInPlanOrder, PlanValue, planned_of, cells_of, sorted_cells, empty_epoch, HasHeardMessages, GatherSetup, sorted_epoch, PendingValue}
-use Rattle.gnss_system.proofs.SystemLaws.{value_tabulated}
+use Rattle.std.proofs.Common.{[], refl, sym, ap, subst, rules, false}
+use Rattle.obs_epoch.specs.Names.{HasPlannedCells, HasHeardMessages, GatherSetup, sorted_epoch, PendingValue}
 use Rattle.obs_epoch.proofs.OneStepLemmas.{none_locked}
+use Rattle.obs_epoch.proofs.ValueLemmas.{none_planned}
 use Rattle.obs_epoch.proofs.gather.Gatherer.with_values.Goals as goal
-
--- An epoch without cells is in order.
-empty_order : (p : PlanValue) (t : ℕ) → AreInOrder p (sorted_epoch p (empty_epoch t))
-empty_order p t = λ s.
-    subst (AreInPlanOrder s (planned_of s p)) (sym (value_tabulated s (λ c. sorted_cells (planned_of c p) (cells_of c (empty_epoch t))) ∙ ap (sorted_cells (planned_of s p)) (value_tabulated s (λ c. []))))
-    (record { each = tt; rise = tt })
 
 pub invariant_of-result : goal.invariant_of-result
 invariant_of-result c = record {
-  order = subst (λ (q : PendingValue). AreInOrder c.new-clock.result.setup.plan (sorted_epoch c.new-clock.result.setup.plan q.epoch)) (sym c.in-Ok.ensures.empty.0) (empty_order c.new-clock.result.setup.plan 0);
+  planned = subst (λ (q : PendingValue). HasPlannedCells c.new-clock.result.setup.plan q.epoch) (sym c.in-Ok.ensures.empty.0) (none_planned c.new-clock.result.setup.plan 0);
   closed = λ e. cc;
 }
 
