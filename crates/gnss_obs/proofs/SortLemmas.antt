@@ -316,6 +316,12 @@ none_before at (x ∷ xs) = (tt, none_before at xs)
 pub sorted_same : (planned : List ℕ) (cells : List Cell) → SortKeysRise (map (cell_sort_key planned) cells) → sorted_cells planned cells ≡ cells
 sorted_same planned cells rise = rise_onto (cell_sort_key planned) [] cells (none_before (cell_sort_key planned) cells) rise
 
+-- A list of fewer than two cells is sorted.
+pub few_sorted : (planned : List ℕ) (cells : List Cell) → length cells < 2 → sorted_cells planned cells ≡ cells
+few_sorted planned [] h = refl
+few_sorted planned (c ∷ []) h = refl
+few_sorted planned (c ∷ d ∷ cells) h = absurd (omega (arith, h))
+
 -- Sorting an epoch in order changes nothing.
 pub epoch_same : (p : PlanValue) (e : EpochValue) → AreSortedByPlan p e → sorted_epoch p e ≡ e
 epoch_same p e h =

@@ -185,13 +185,16 @@ fn add(cells: &mut Cells, x: Cell) -> Added
     Added::Kept
 }
 
-// Sorts the cells of a system. They are copied only if they or the planned signals aren't in the
-// order of the table of signals.
+// Sorts the cells of a system. They are copied only if there are several, and they or the planned
+// signals aren't in the order of the table of signals.
 fn sort(cells: &mut Box<Cells>, plan: &Plan, system: System, spare: &mut Box<Cells>)
     requires kept { AreKept system cells.old.value }
     requires planned { All (IsPlanned (planned_of system plan.now)) cells.old.value }
     ensures { cells.new.value ≡ sorted_cells (planned_of system plan.now) cells.old.value }
 {
+    if cells.as_slice().len() < 2 {
+        return;
+    }
     if cells.is_in_table_order() && plan.is_in_table_order(system) {
         return;
     }
