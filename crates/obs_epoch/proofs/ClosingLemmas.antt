@@ -1,7 +1,7 @@
 -- The epoch that a step closes is the one that the longer list closes.
 use Rattle.std.proofs.Common.{◌≡◌, ℕ, ◌<◌, Bool, true, false, not, ◌&&◌, List, [], ◌∷◌, ◌++◌, refl, sym, ap, ap₂, ◌∙◌, arith, Option, Some, None, nat_lt, append-nil, if◌then◌else◌, option_to_list}
 use Rattle.obs_epoch.specs.Names.{Kind, CellCounts, GatherSetup, Heard, ends_epoch, is_own, Timed, greatest_time, is_closed, taken_at, State, is_pending, closes_first, no_counts, is_close_first, is_accepted, kind_after, closed_times, closed_so_far, option_map_or}
-use Rattle.obs_epoch.specs.Step.{closed_of, closed_by}
+use Rattle.obs_epoch.specs.Step.{closed_of, closed_time}
 use Rattle.obs_epoch.proofs.TimesLemmas.{next}
 use Rattle.obs_epoch.proofs.ClockLemmas.{standing, takes, same_time, Follows, first, greater, equal, new_time}
 use Rattle.obs_epoch.proofs.ClosedLemmas.{when, no_greatest, taken_follows, closed-push_none, closed-push_greater, closed-push_same, closed-push_first}
@@ -61,7 +61,7 @@ taken_by {s} {xs} m {u} own some (greater t e lt) shut h =
 abbrev closed_in : GatherSetup → List Timed → Heard → Bool → Option ℕ
 closed_in s xs m shut = closed_of (kind_after s xs no_counts m) (ends_epoch s m) (is_pending s xs && not shut) (greatest_time xs) (greatest_time (xs ++ next s xs m ∷ []))
 
-closed_in_is : (s : GatherSetup) (xs : List Timed) (m : Heard) (shut : Bool) → closes_first s xs m ≡ shut → closed_by (standing s xs shut) m ≡ closed_in s xs m shut
+closed_in_is : (s : GatherSetup) (xs : List Timed) (m : Heard) (shut : Bool) → closes_first s xs m ≡ shut → closed_time (standing s xs shut) m ≡ closed_in s xs m shut
 closed_in_is s xs m shut h = ap₂ (λ k (g : State). closed_of k (ends_epoch s m) (is_pending s xs && not shut) (greatest_time xs) g.latest) (takes s xs no_counts m shut h).0 (takes s xs no_counts m shut h).1
 
 -- The outcome of a message that isn't accepted, and of one that is.
@@ -103,7 +103,7 @@ closing_some s xs m u shut some h =
       kept_text k ends was before other kept at = grind (arith, common_steps)
 
 pub closing : (s : GatherSetup) (xs : List Timed) (m : Heard) (shut : Bool) → closes_first s xs m ≡ shut
-    → closed_so_far s (xs ++ next s xs m ∷ []) false ≡ closed_so_far s xs shut ++ option_to_list (closed_by (standing s xs shut) m)
+    → closed_so_far s (xs ++ next s xs m ∷ []) false ≡ closed_so_far s xs shut ++ option_to_list (closed_time (standing s xs shut) m)
 closing s xs m shut h = by (taken_at s xs m) refl ∙ ap (λ o. closed_so_far s xs shut ++ option_to_list o) (sym (closed_in_is s xs m shut h)) where
   by : (time : Option ℕ) → taken_at s xs m ≡ time
       → closed_so_far s (xs ++ next s xs m ∷ []) false ≡ closed_so_far s xs shut ++ option_to_list (closed_in s xs m shut)

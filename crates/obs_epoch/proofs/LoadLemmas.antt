@@ -1,6 +1,7 @@
 -- The cells of one more message, kept one by one, are the kept cells of the longer list.
 use Rattle.std.proofs.Common.{[], ◌≡◌, ℕ, suc, Bool, true, false, not, ◌||◌, ◌&&◌, List, ◌∷◌, ◌++◌, filter, refl, sym, ap, ap₂, ◌∙◌, subst, ◌==◌, arith, length, append_assoc, append-nil, Option, nat_le, if◌then◌else◌, cond}
-use Rattle.obs_epoch.specs.Names.{System, is_system, CellOutcome, Crowded, Kept, Repeated, Skipped, count_in, lookup, outcome_of, is_held, GatherSetup, HeardCell, kept_cell, is_of_system, is_among, kept, add, is_planned, has_same_key, lli_with, GathererValue, with_more, outcome_in, hold, hold_by, load, PlanValue, planned_of, most_cells, EpochValue, cells_of, insert_by, sort_key_of, sorted, cell_sort_key, Cell, KnownLock, CellCounts}
+use Rattle.obs_epoch.specs.Names.{System, is_system, CellOutcome, Crowded, Kept, Repeated, Skipped, count_in, lookup, outcome_by, outcome_of, outcome_of_added, is_held, GatherSetup, HeardCell, kept_cell, is_of_system, is_among, kept, add, is_planned, has_same_key, lli_with, GathererValue, with_more, outcome_in, hold, hold_by, load, PlanValue, planned_of, most_cells, EpochValue, cells_of, insert_by, sort_key_of, sorted, cell_sort_key, Cell, KnownLock, CellCounts}
+use Rattle.gnss_obs.specs.declared.arrivals.Added.TheVariants as added
 use Rattle.gnss_system.specs.SystemValues.{value_of, with_value_of, tabulate}
 use Rattle.gnss_system.specs.declared.by_system.BySystem.{BySystem}
 use Rattle.gnss_system.proofs.SystemLaws.{equal_values, value_tabulated, value_after, value_of_other, system_same, system_self}
@@ -47,7 +48,22 @@ cells_in_of : (system : System) (p : PlanValue) (f : HeardCell → Option KnownL
 cells_in_of system p f t xs = value_tabulated system (λ system. with_lli_by f t (sorted (planned_of system p) (kept system xs)))
 
 pub outcome_is : (s : GatherSetup) (f : HeardCell → Option KnownLock) (t : ℕ) (xs : List HeardCell) (x : HeardCell) → outcome_of s (cells_of x.satellite.system (epoch_of s.plan f t xs)) x ≡ outcome_after s xs x
-outcome_is s f t xs x = grind (arith, common_steps, cells_in_of, with_lli_by-held, among-sorted, with_lli_by-length, length-sorted)
+outcome_is s f t xs x =
+    ap₂ (λ a n. if is_planned s x then outcome_of_added (outcome_by a n) else Skipped)
+    (ap (λ (l : List Cell). is_held l x) (cells_in_of system s.plan f t xs) ∙ with_lli_by-held f t (sorted planned (kept system xs)) x ∙ among-sorted planned (kept system xs) x)
+    (ap (λ (l : List Cell). length l) (cells_in_of system s.plan f t xs) ∙ with_lli_by-length f t (sorted planned (kept system xs)) ∙ length-sorted planned (kept system xs))
+    ∙ by (is_planned s x) (is_among (kept system xs) x) (nat_le most_cells (length (kept system xs))) where
+      system : System
+      system = x.satellite.system
+
+      planned : List ℕ
+      planned = planned_of system s.plan
+
+      by : (p a c : Bool) → (if p then outcome_of_added (if a then added.Repeated else (if c then added.Crowded else added.Kept)) else Skipped) ≡ (if p then (if a then Repeated else (if c then Crowded else Kept)) else Skipped)
+      by false a c = refl
+      by true true c = refl
+      by true false true = refl
+      by true false false = refl
 
 -- The cells of another system don't change.
 add_other : (system : System) (ks : List HeardCell) (x : HeardCell) → is_of_system system x ≡ false → add system ks x ≡ ks

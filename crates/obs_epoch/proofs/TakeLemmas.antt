@@ -3,7 +3,7 @@ use Rattle.std.proofs.Common.{◌≡◌, ℕ, Bool, true, false, not, ◌||◌, 
 use Rattle.std.proofs.lemmas.List.Sums.{fold-append}
 use Rattle.obs_epoch.specs.Names.{Message, Kind, CloseFirst, CellCounts, GatherSetup, Heard, heard, is_own, ends_epoch, HeardCell, Timed, greatest_time, taken_at, timed, no_counts, with_skipped, offered, counts_of, counts_of_message, epoch_at, closed_so_far, closed_times, values_of, values_after_message, State, HasHeardMessages, is_pending, closes_first, is_close_first, is_accepted, kind_after, with_unlisted, GathererValue, Loaded, empty_epoch, noted, load, loaded_if, outcome_in, load_one, with_time, closed_if, closed_noted, epoch_begun, just_closed_as, rested, take_step, end_step, is_same, count_in, KnownLock, held_at, Locked, HasTakenMessages, EpochValue, option_map_or}
 use Rattle.rtcm_msg.specs.declared.message.Message.TheVariants as message
-use Rattle.obs_epoch.specs.Step.{kind_by, step_by, closed_by, closed_of}
+use Rattle.obs_epoch.specs.Step.{kind_by, step_by, closed_time, closed_of}
 use Rattle.obs_epoch.proofs.TimesLemmas.{next, timed-push}
 use Rattle.obs_epoch.proofs.ClockLemmas.{standing, same_state, takes, closes, new_time}
 use Rattle.obs_epoch.proofs.ClosedLemmas.{taken_follows}
@@ -113,14 +113,14 @@ reached g s ms m shut h early = by (taken_at s xs m) refl where
 
 -- The times of the closed epochs grow by that of the epoch that the step closes.
 pub times_taken : (g : GathererValue) (s : GatherSetup) (ms : List Heard) (m : Heard) (shut : Bool) → HasTakenMessages g s ms shut → closes_first s (timed s ms) m ≡ shut
-    → closed_so_far s (timed s (ms ++ m ∷ [])) false ≡ closed_so_far s (timed s ms) shut ++ option_to_list (closed_by g.clock m)
+    → closed_so_far s (timed s (ms ++ m ∷ [])) false ≡ closed_so_far s (timed s ms) shut ++ option_to_list (closed_time g.clock m)
 times_taken g s ms m shut h early =
     ap (λ l. closed_so_far s l false) (timed-push s ms m) ∙ closing s (timed s ms) m shut early
-    ∙ ap (λ c. closed_so_far s (timed s ms) shut ++ option_to_list (closed_by c m)) (sym (clock_is g.clock s ms shut h.clock))
+    ∙ ap (λ c. closed_so_far s (timed s ms) shut ++ option_to_list (closed_time c m)) (sym (clock_is g.clock s ms shut h.clock))
 
 -- That time is the greatest then.
 pub time_taken : {g : GathererValue} {s : GatherSetup} {ms : List Heard} (m : Heard) {shut : Bool} → HasTakenMessages g s ms shut → closes_first s (timed s ms) m ≡ shut
-    → (t : ℕ) → closed_by g.clock m ≡ Some t → greatest_time (timed s (ms ++ m ∷ [])) ≡ Some t
+    → (t : ℕ) → closed_time g.clock m ≡ Some t → greatest_time (timed s (ms ++ m ∷ [])) ≡ Some t
 time_taken {g} {s} {ms} m {shut} h early t e =
     let xs = timed s ms in
     let was = clock_is g.clock s ms shut h.clock in
@@ -138,7 +138,7 @@ pub record Taken (g : GathererValue) (s : GatherSetup) (ms : List Heard) (m : He
 pub taken : (g : GathererValue) (s : GatherSetup) (ms : List Heard) (m : Heard) (shut : Bool) → HasTakenMessages g s ms shut → closes_first s (timed s ms) m ≡ shut → Taken g s ms m shut
 taken g s ms m shut h early =
     let xs = timed s ms in
-    let o = closed_by g.clock m in
+    let o = closed_time g.clock m in
     let was = clock_is g.clock s ms shut h.clock in
     let kind : (n : CellCounts) → kind_by g.clock n m ≡ kind_after s xs n m = λ n. ap (λ c. kind_by c n m) was ∙ (takes s xs n m shut early).0 in
     let r = reached g s ms m shut h early in
@@ -154,7 +154,7 @@ was_pending : (k : Kind) (b : Bool) {p : Bool} (before after : Option ℕ) {t : 
 was_pending k b before after other untaken e = grind (arith, common_steps)
 
 pub pending_taken : {g : GathererValue} {s : GatherSetup} {ms : List Heard} (m : Heard) {shut : Bool} → HasTakenMessages g s ms shut → closes_first s (timed s ms) m ≡ shut
-    → taken_at s (timed s ms) m ≡ None → (t : ℕ) → closed_by g.clock m ≡ Some t → is_pending s (timed s ms) ≡ true
+    → taken_at s (timed s ms) m ≡ None → (t : ℕ) → closed_time g.clock m ≡ Some t → is_pending s (timed s ms) ≡ true
 pending_taken {g} {s} {ms} m {shut} h early none t e =
     let xs = timed s ms in
     let was = clock_is g.clock s ms shut h.clock in
@@ -174,10 +174,10 @@ given_alone (message.Msm4 m) = inl refl
 given_alone (message.Msm7 m) = inl refl
 given_alone (message.Other number set) = inl refl
 
-closes_none : (g : State) (m : Heard) → m.tow ≡ None → m.more ≡ None → closed_by g m ≡ None
+closes_none : (g : State) (m : Heard) → m.tow ≡ None → m.more ≡ None → closed_time g m ≡ None
 closes_none g m tow more = grind (arith, tow, more)
 
-pub no_point_given : (g : State) (m : Heard) (t : ℕ) → IsSet m → closed_by g m ≡ Some t → m.point ≡ None
+pub no_point_given : (g : State) (m : Heard) (t : ℕ) → IsSet m → closed_time g m ≡ Some t → m.point ≡ None
 no_point_given g m t (inl none) e = none
 no_point_given g m t (inr both) e = grind (arith, common_steps, closes_none)
 
@@ -187,7 +187,7 @@ same_values s ms m none = grind (arith, common_steps)
 
 pub record First (g : GathererValue) (s : GatherSetup) (ms : List Heard) (m : Heard) : Type 0 where
   pub kind : (n : CellCounts) → kind_by g.clock n m ≡ CloseFirst
-  pub has : is_some (closed_by g.clock m) ≡ true
+  pub has : is_some (closed_time g.clock m) ≡ true
   pub after : HasTakenMessages (take_step g m).state s ms true
 
 -- A message that closes first isn't processed.
@@ -205,7 +205,7 @@ closes_it g s ms m h early none = by (greatest_time (timed s ms)) refl where
   now : step_by g.clock m ≡ standing s xs true
   now = ap (λ c. step_by c m) was ∙ (closes s xs no_counts m early).1
 
-  just_closed : closed_by g.clock m ≡ greatest_time xs
+  just_closed : closed_time g.clock m ≡ greatest_time xs
   just_closed = ap (λ k. closed_of k (ends_epoch g.clock.setup m) g.clock.pending g.clock.latest (step_by g.clock m).latest) (kind no_counts) ∙ ap (λ (c : State). c.latest) was
 
   unchanged : values_after_message g.clock.setup g.values m ≡ values_of s ms
@@ -213,13 +213,13 @@ closes_it g s ms m h early none = by (greatest_time (timed s ms)) refl where
     by_own : (b : Bool) → (if b then option_map_or (λ p. record { x = p.x; y = p.y; z = p.z; height = option_map_or (λ h. h) p.height g.values.height }) m.point g.values else g.values) ≡ g.values
     by_own b = grind (arith, common_steps)
 
-  step : take_step g m ≡ closed_if (is_some (closed_by g.clock m)) (record { state = with_time g m; counts = no_counts })
-  step = ap (λ k. closed_if (is_some (closed_by g.clock m)) (loaded_if (is_accepted k) g.clock.latest (with_time g m) m)) (kind no_counts)
+  step : take_step g m ≡ closed_if (is_some (closed_time g.clock m)) (record { state = with_time g m; counts = no_counts })
+  step = ap (λ k. closed_if (is_some (closed_time g.clock m)) (loaded_if (is_accepted k) g.clock.latest (with_time g m) m)) (kind no_counts)
 
   by : (o : Option ℕ) → greatest_time xs ≡ o → First g s ms m
   by None e = absurd (grind (arith, early, e))
   by (Some t) e =
-      let is : closed_by g.clock m ≡ Some t = just_closed ∙ e in
+      let is : closed_time g.clock m ≡ Some t = just_closed ∙ e in
       let to : take_step g m ≡ record { state = noted (with_time g m); counts = no_counts } =
       step ∙ ap (λ o. closed_if (is_some o) (record { state = with_time g m; counts = no_counts })) is in
       let mid : Mid (with_time g m) s ms true (closed_so_far s xs false) = record {
@@ -305,11 +305,11 @@ loaded_apart f apart true before g m = load_apart f apart _ m.cells ∙ begun (i
   begun false = apart g _ g.locks
 loaded_apart f apart false before g m = refl
 
-closed_loaded : (accepted : Bool) (before : Option ℕ) (g : GathererValue) (m : Heard) → (loaded_if accepted before (with_time g m) m).state.just_closed ≡ is_some (closed_by g.clock m)
+closed_loaded : (accepted : Bool) (before : Option ℕ) (g : GathererValue) (m : Heard) → (loaded_if accepted before (with_time g m) m).state.just_closed ≡ is_some (closed_time g.clock m)
 closed_loaded accepted before g m = loaded_apart (λ v. v.just_closed) (λ v e locks. refl) accepted before (with_time g m) m
 
 step_apart : (f : GathererValue → Bool) → IsApart f → (g : GathererValue) (m : Heard) → f (take_step g m).state ≡ f (with_time g m)
-step_apart f apart g m = closed (is_some (closed_by g.clock m)) (loaded_if accepted g.clock.latest (with_time g m) m) ∙ loaded_apart f apart accepted g.clock.latest (with_time g m) m where
+step_apart f apart g m = closed (is_some (closed_time g.clock m)) (loaded_if accepted g.clock.latest (with_time g m) m) ∙ loaded_apart f apart accepted g.clock.latest (with_time g m) m where
   accepted : Bool
   accepted = is_accepted (kind_by g.clock no_counts m)
 
@@ -321,7 +321,7 @@ step_apart f apart g m = closed (is_some (closed_by g.clock m)) (loaded_if accep
 pub noted_is : (g : GathererValue) (m : Heard) → closed_noted (loaded_if (is_accepted (kind_by g.clock no_counts m)) g.clock.latest (with_time g m) m).state ≡ (take_step g m).state
 noted_is g m = let v = (loaded_if (is_accepted (kind_by g.clock no_counts m)) g.clock.latest (with_time g m) m).state in ap (λ b. if b then noted v else v) (closed_loaded _ _ g m)
 
-pub handed_is : (g : GathererValue) (m : Heard) → (take_step g m).state.just_closed ≡ is_some (closed_by g.clock m)
+pub handed_is : (g : GathererValue) (m : Heard) → (take_step g m).state.just_closed ≡ is_some (closed_time g.clock m)
 handed_is g m = step_apart (λ v. v.just_closed) (λ v e locks. refl) g m
 
 pub ended_is : (g : GathererValue) (m : Heard) → (take_step g m).state.has_ended ≡ g.has_ended
@@ -352,7 +352,7 @@ loaded_rested false before g m = refl
 
 -- The step of the gatherer, from what its message loads and whether the epoch is closed then.
 pub closed_is : (g : GathererValue) (m : Heard) (l : Loaded) (closed : Bool) → l ≡ loaded_if (is_accepted (kind_by g.clock no_counts m)) g.clock.latest (rested (with_time g m)) m
-    → closed ≡ is_some (closed_by g.clock m) → closed_noted (just_closed_as closed l.state) ≡ (take_step g m).state
+    → closed ≡ is_some (closed_time g.clock m) → closed_noted (just_closed_as closed l.state) ≡ (take_step g m).state
 closed_is g m l closed e is =
     let accepted = is_accepted (kind_by g.clock no_counts m) in
     ap (λ (v : Loaded). closed_noted (just_closed_as closed v.state)) (e ∙ loaded_rested accepted g.clock.latest (with_time g m) m)

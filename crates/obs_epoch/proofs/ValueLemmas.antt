@@ -1,7 +1,7 @@
 -- The value of a gatherer: with one more cell, after a message, and when its epoch is closed.
 use Rattle.std.proofs.Common.{◌≡◌, ℕ, Bool, true, false, List, [], ◌∷◌, ◌++◌, refl, sym, ap, ap₂, ◌∙◌, subst, arith, length, Option, is_some, if◌then◌else◌, All}
 use Rattle.std.proofs.lemmas.List.Elements.{All-nil, All-push}
-use Rattle.obs_epoch.specs.Names.{System, Cell, EpochValue, PlanValue, planned_of, cells_of, PendingValue, KnownLock, place_in, is_planned, has_same_key, GatherSetup, Heard, IsKey, HeardCell, kept_cell, heard_cell, insert_by, cell_sort_key, Crowded, Kept, Repeated, lookup, outcome_of_added, values_after_message, StationValues, is_held, GathererValue, with_more_in, with_more, outcome_in, hold, hold_by, just_closed_as, noted, rested, with_time, IsPending, AreSortedByPlan, HasPlannedCells, IsPlanned, empty_epoch, Added, IsAdded, cells_after, epoch_with, outcome_by, sorted_cells, sorted_epoch, State, step_by, lli_with}
+use Rattle.obs_epoch.specs.Names.{System, Cell, EpochValue, PlanValue, planned_of, cells_of, PendingValue, KnownLock, place_in, is_planned, has_same_key, GatherSetup, Heard, IsKey, HeardCell, kept_cell, heard_cell, insert_by, cell_sort_key, Skipped, lookup, outcome_of_added, values_after_message, StationValues, is_held, GathererValue, with_more_in, with_more, outcome_in, hold, hold_by, just_closed_as, noted, rested, with_time, IsPending, AreSortedByPlan, HasPlannedCells, IsPlanned, empty_epoch, Added, IsAdded, cells_after, epoch_with, outcome_by, sorted_cells, sorted_epoch, State, step_by, lli_with}
 use Rattle.gnss_system.specs.Systems.{systems}
 use Rattle.gnss_system.specs.SystemValues.{with_value_of, tabulate}
 use Rattle.gnss_system.proofs.SystemLaws.{each_after, value_tabulated, tabulated_after, with_same as same_after}
@@ -34,19 +34,13 @@ count_same system p e =
     ap (λ (l : List Cell). length l) (cells_sorted system p e)
     ∙ length_permutation (cells_of system e) _ (sort_moves (cell_sort_key (planned_of system p)) (cells_of system e))
 
-outcome_same : (a b : Bool) → (if a then Repeated else (if b then Crowded else Kept)) ≡ outcome_of_added (if a then added.Repeated else (if b then added.Crowded else added.Kept))
-outcome_same a b = grind (arith, common_steps)
-
 -- The outcome of a planned cell.
 outcome_added : (g : GathererValue) (p : PlanValue) (e : EpochValue) (x : HeardCell) → g.epoch ≡ sorted_epoch p e → is_planned g.clock.setup x ≡ true
     → outcome_in g x ≡ outcome_of_added (outcome_by (is_held (cells_of x.satellite.system e) x) (length (cells_of x.satellite.system e)))
 outcome_added g p e x is planned =
-    let held = ap (λ (v : EpochValue). is_held (cells_of x.satellite.system v) x) is ∙ held_any x.satellite.system p e x in
-    let count = ap (λ (v : EpochValue). length (cells_of x.satellite.system v)) is ∙ count_same x.satellite.system p e in
-    by _ _ planned held count where
-      by : (a : Bool) (n : ℕ) → is_planned g.clock.setup x ≡ true → is_held (cells_of x.satellite.system g.epoch) x ≡ a → length (cells_of x.satellite.system g.epoch) ≡ n
-          → outcome_in g x ≡ outcome_of_added (outcome_by a n)
-      by a n h e f = grind (arith, common_steps, outcome_same, h, e, f)
+    ap (λ b. if b then outcome_of_added (outcome_by (is_held (cells_of x.satellite.system g.epoch) x) (length (cells_of x.satellite.system g.epoch))) else Skipped) planned
+    ∙ ap₂ (λ a n. outcome_of_added (outcome_by a n)) (ap (λ (v : EpochValue). is_held (cells_of x.satellite.system v) x) is ∙ held_any x.satellite.system p e x)
+    (ap (λ (v : EpochValue). length (cells_of x.satellite.system v)) is ∙ count_same x.satellite.system p e)
 
 -- Sorting a list with one more cell is inserting it into the sorted one.
 sorted_push : (system : System) (p : PlanValue) (e : EpochValue) (m : Cell) → sorted_epoch p (epoch_with system e (cells_of system e ++ m ∷ [])) ≡ with_more_in system p (sorted_epoch p e) m

@@ -22,7 +22,7 @@ use Rattle.gnss_obs.specs.Order.{AreSortedByPlan, insert_by, cell_sort_key}
 use Rattle.obs_epoch.specs.Loss.{lli_with}
 use Rattle.obs_epoch.specs.Epochs.{values_after_message}
 use Rattle.obs_epoch.specs.Clock.{State}
-use Rattle.obs_epoch.specs.Step.{kind_by, step_by, closed_by}
+use Rattle.obs_epoch.specs.Step.{kind_by, step_by, closed_time}
 use Rattle.gnss_obs.specs.declared.cell.Cell.{Cell}
 use Rattle.obs_epoch.specs.declared.locks.KnownLock.{KnownLock}
 use Rattle.obs_epoch.specs.declared.taken.CellCounts.{CellCounts}
@@ -38,7 +38,7 @@ pub record IsPending (p : PlanValue) (now : PendingValue) (just_closed : Bool) :
   pub closed : just_closed ≡ true
       → (now.is_open ≡ false) × (sorted_epoch p now.epoch ≡ now.epoch) × AreSortedByPlan p now.epoch
 
--- One more cell, inserted in the order of a plan.
+-- A sorted epoch after one more cell has arrived.
 abbrev pub with_more_in : System → PlanValue → EpochValue → Cell → EpochValue
 with_more_in s p e m = epoch_with s e (insert_by (cell_sort_key (planned_of s p)) m (cells_of s e))
 
@@ -137,7 +137,7 @@ with_time g m =
     record g {
       clock = step_by g.clock m;
       values = values_after_message g.clock.setup g.values m;
-      just_closed = is_some (closed_by g.clock m);
+      just_closed = is_some (closed_time g.clock m);
     }
 
 abbrev pub closed_if : Bool → Loaded → Loaded
@@ -145,7 +145,7 @@ closed_if b l = record { state = if b then noted l.state else l.state; counts = 
 
 abbrev pub take_step : GathererValue → Heard → Loaded
 take_step g m =
-    closed_if (is_some (closed_by g.clock m))
+    closed_if (is_some (closed_time g.clock m))
     (loaded_if (is_accepted (kind_by g.clock no_counts m)) g.clock.latest (with_time g m) m)
 
 abbrev pub just_closed_as : Bool → GathererValue → GathererValue

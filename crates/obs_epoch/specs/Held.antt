@@ -1,5 +1,5 @@
 -- The kept cells and the lock records, and one step of each.
-use Rattle.std.specs.Prelude.{[], ℕ, ◌+◌, ◌-◌, ◌*◌, ◌≡◌, nat_le, List, ◌∷◌, length, get_or, set, replicate}
+use Rattle.std.specs.Prelude.{[], ℕ, ◌+◌, ◌-◌, ◌*◌, ◌≡◌, List, ◌∷◌, length, get_or, set, replicate}
 use Rattle.std.specs.Prelude.{count_by, fold, if◌then◌else◌, Option, Some, None, is_some}
 use Rattle.std.specs.Option.{option_map_or}
 use Rattle.gnss_system.specs.declared.system.System.{System}
@@ -12,12 +12,12 @@ use Rattle.gnss_obs.specs.declared.cell.Cell.{Cell}
 use Rattle.obs_epoch.specs.Heard.{GatherSetup}
 use Rattle.gnss_obs.specs.HeardCells.{HeardCell, heard_cell}
 use Rattle.obs_epoch.specs.Cells.{is_among, firsts, is_planned, has_listed_key}
-use Rattle.gnss_obs.specs.Values.{most_cells}
 use Rattle.obs_epoch.specs.Loss.{lock_of}
 use Rattle.obs_epoch.specs.declared.locks.KnownLock.{KnownLock}
 use Rattle.obs_epoch.specs.declared.locks.Keys.{Keys}
 use Rattle.obs_epoch.specs.declared.taken.CellCounts.{CellCounts}
 use Rattle.gnss_obs.specs.PlanOrder.{is_held}
+use Rattle.gnss_obs.specs.Arriving.{outcome_by}
 use Rattle.gnss_obs.specs.declared.arrivals.Added.{Added}
 use Rattle.gnss_obs.specs.declared.arrivals.Added.TheVariants as added
 
@@ -87,16 +87,15 @@ pub data CellOutcome : Type 0 where
   Crowded : CellOutcome
   Kept : CellOutcome
 
-abbrev pub outcome_of : GatherSetup → List Cell → HeardCell → CellOutcome
-outcome_of s ms x =
-    if is_planned s x
-    then (if is_held ms x then Repeated else (if nat_le most_cells (length ms) then Crowded else Kept)) else Skipped
-
 -- The outcome of a planned cell that was added.
 abbrev pub outcome_of_added : Added → CellOutcome
 outcome_of_added added.Kept = Kept
 outcome_of_added added.Repeated = Repeated
 outcome_of_added added.Crowded = Crowded
+
+abbrev pub outcome_of : GatherSetup → List Cell → HeardCell → CellOutcome
+outcome_of s ms x =
+    if is_planned s x then outcome_of_added (outcome_by (is_held ms x) (length ms)) else Skipped
 
 abbrev pub count_in : CellOutcome → CellCounts → CellCounts
 count_in Kept n = record n { kept = n.kept + 1 }

@@ -1,4 +1,4 @@
--- The names that proofs cite, passed on from one place. Declares nothing.
+-- The names that proofs cite, in one place.
 pub use Rattle.std.specs.List.{AllByRecursion, IsDistinct, cons_option, list_any}
 pub use Rattle.std.specs.Option.{option_map_or}
 pub use Rattle.gnss_obs.specs.GatheredEpochs.{AreGathered, AreGatheredEpochs, AreStationValues, IsGathered, IsGatheredEpoch, IsStrength, TimesRise, same_place}

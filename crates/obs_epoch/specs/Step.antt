@@ -58,5 +58,5 @@ abbrev pub closed_of : Kind → Bool → Bool → Option ℕ → Option ℕ → 
 closed_of kind ends_epoch was before after =
     if is_close_first kind then before else (if ends_epoch && (is_accepted kind || was) then after else None)
 
-abbrev pub closed_by : State → Heard → Option ℕ
-closed_by g m = closed_of (kind_by g no_counts m) (ends_epoch g.setup m) g.pending g.latest (step_by g m).latest
+abbrev pub closed_time : State → Heard → Option ℕ
+closed_time g m = closed_of (kind_by g no_counts m) (ends_epoch g.setup m) g.pending g.latest (step_by g m).latest

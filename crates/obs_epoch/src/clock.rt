@@ -48,7 +48,7 @@ impl Model for Clock {
 impl Clock {
     ghost use Rattle.obs_epoch.specs.Clock.{HasHeardMessages};
     ghost use Rattle.obs_epoch.specs.Cells.{no_counts};
-    ghost use Rattle.obs_epoch.specs.Step.{kind_by, step_by, kind_now, step_at, timed_by, closed_by};
+    ghost use Rattle.obs_epoch.specs.Step.{kind_by, step_by, kind_now, step_at, timed_by, closed_time};
 
     /// Returns the clock before the first message.
     pub fn new(
@@ -103,7 +103,7 @@ impl Clock {
     pub fn step(&mut self, said: &Summary) -> (Kind, Option<u64>)
         requires { ForSome said.now.time (λ tow. tow < week) }
         ensures kind { result.0 ≡ kind_by self.old no_counts (heard_summary said.now) }
-        ensures closed { result.1 ≡ closed_by self.old (heard_summary said.now) }
+        ensures closed { result.1 ≡ closed_time self.old (heard_summary said.now) }
         ensures step { self.new ≡ step_by self.old (heard_summary said.now) }
     {
         let is_mark = self.by_bit && self.is_own(said) && said.more == Some(false);

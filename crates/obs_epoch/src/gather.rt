@@ -14,7 +14,7 @@ ghost use Rattle.gnss_obs.specs.Plans.{place_in};
 ghost use Rattle.gnss_obs.specs.HeardCells.{heard_cell, IsObserved};
 ghost use Rattle.obs_epoch.specs.Epochs.{values_after_message, values_of};
 ghost use Rattle.obs_epoch.specs.Held.{count_in, most_locks, no_locks, outcome_of_added, recorded};
-ghost use Rattle.obs_epoch.specs.Step.{kind_by, closed_by as closed_at};
+ghost use Rattle.obs_epoch.specs.Step.{kind_by, closed_time};
 ghost use Rattle.gnss_obs.specs.Values.{Closed, cells_of, most_cells, planned_of};
 ghost use Rattle.obs_epoch.specs.Kinds.{is_no_station, setup_with, setup_of, with_counts};
 ghost use Rattle.obs_epoch.specs.GathererHistory.{HasGatheredEpochs, closed_by, closed_in, plan_in};
@@ -247,7 +247,7 @@ impl Gatherer {
     fn hear(&mut self, said: &Summary) -> (Kind, bool)
         requires { ForSome said.now.time (λ tow. tow < week) }
         ensures kind { result.0 ≡ kind_by self.old.clock no_counts (heard_summary said.now) }
-        ensures closed { result.1 ≡ is_some (closed_at self.old.clock (heard_summary said.now)) }
+        ensures closed { result.1 ≡ is_some (closed_time self.old.clock (heard_summary said.now)) }
         ensures step { self.new ≡ rested (with_time self.old (heard_summary said.now)) }
     {
         let values = self.values_after(said);

@@ -5,7 +5,7 @@ use Rattle.obs_epoch.specs.Names.{viewed_message, heard, Heard, heard_summary, w
 use Rattle.obs_epoch.proofs.TakeLemmas.{no_point, given_alone, closed_is, ended_is, loaded_rested}
 use Rattle.obs_epoch.proofs.ReturnedLemmas.{gathers_first, gathers_taken, has_closed}
 use Rattle.obs_epoch.proofs.KindLemmas.{counted_kind, exactly_first, again_taken, fits_now, kind_taken}
-use Rattle.obs_epoch.specs.Step.{kind_by, closed_by}
+use Rattle.obs_epoch.specs.Step.{kind_by, closed_time}
 use Rattle.obs_epoch.proofs.ViewLemmas.{summary_heard}
 use Rattle.obs_epoch.proofs.gather.Gatherer.take_view.Goals as goal
 
@@ -38,7 +38,7 @@ step_is : (c : goal.After-self-2) → c.note_closed.new.self ≡ (take_step c.ar
 step_is c =
     c.note_closed.ensures
     ∙ closed_is c.args.self.now (message c) (record { state = c.load-counts.new.self; counts = c.load-counts.result }) c.hear-kind.result.1 (loaded_is c)
-    (c.hear-kind.ensures.closed ∙ ap (λ m. is_some (closed_by c.args.self.now.clock m)) (said_is c))
+    (c.hear-kind.ensures.closed ∙ ap (λ m. is_some (closed_time c.args.self.now.clock m)) (said_is c))
 
 pub returns : goal.returns
 returns c =
