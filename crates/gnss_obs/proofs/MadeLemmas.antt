@@ -6,8 +6,8 @@ use Rattle.gnss_system.specs.Systems.{systems, index_of, before, after}
 use Rattle.gnss_system.specs.SystemValues.{value_of, tabulate, map_by}
 use Rattle.gnss_system.specs.declared.by_system.BySystem.{BySystem}
 use Rattle.gnss_obs.specs.Plans.{first_fault, signals_or_none, plan_unless, is_nil, plan_by, signals_in, is_none_planned}
-use Rattle.gnss_obs.specs.SignalLists.{AreRead, AreAdded, IsUnplannedAt}
-use Rattle.gnss_obs.specs.Names.{System, Gps, Galileo, PlanFault, UnknownCode, RepeatedCode, NothingPlanned, Memory, SignalAt, PlanValue, plan_of, indices, IsOf, DoneOr, IsDefined, IsMade, IsMemoryFaultOr, IsPlanResult, IsUnfit, IsUnplanned}
+use Rattle.gnss_obs.specs.SignalLists.{AreRead, AreAdded}
+use Rattle.gnss_obs.specs.Names.{System, Gps, Galileo, PlanFault, UnknownCode, RepeatedCode, NothingPlanned, Memory, SignalAt, PlanValue, plan_of, indices, IsOf, DoneOr, IsDefined, IsMade, IsMemoryFaultOr, IsPlanResult, IsUnplanned}
 use Rattle.gnss_system.proofs.SystemLaws.{Below, below_list, all_list, same_all, each_system, systems_split, index_less, equal_values, value_tabulated, value_mapped, sum_none}
 use Rattle.gnss_obs.proofs.FitLemmas.{unfit_not_of}
 use Rattle.std.proofs.lemmas.Grind.{common_steps}
@@ -81,11 +81,6 @@ plan_read added texts lists result is m = by result (made (λ e. plan_of texts �
   by (Err e) (inr none) = inr (plan none.0 ∙ rw (none.1, none.2) refl)
 
 -- ---- of lists
-
-pub unplanned_at : (s : System) (lists : BySystem (List SignalAt)) (fault : PlanFault) → Below (λ t. IsOf t (value_of t lists)) (index_of s) → IsUnfit s (value_of s lists) fault → IsUnplanned lists fault
-unplanned_at s lists (UnknownCode t place) below u = subst (λ r. IsUnplannedAt r lists (UnknownCode t place)) (sym u.unfit.0) (below, u)
-unplanned_at s lists (RepeatedCode t place) below u = subst (λ r. IsUnplannedAt r lists (RepeatedCode t place)) (sym u.unfit.0) (below, u)
-unplanned_at s lists _ below u = absurd u.unfit
 
 nil_at : {A : Type 0} (lists : BySystem (List A)) → is_none_planned lists ≡ true → (s : System) → value_of s lists ≡ []
 nil_at lists none s = by (value_of s lists) (each_system (λ s. is_nil (value_of s lists)) s none) where

@@ -1,6 +1,6 @@
 -- The cells of a pending epoch, in the order in which they arrive.
 use Rattle.std.specs.Prelude.{ℕ, ◌+◌, ◌*◌, ◌≡◌, ◌<◌, ◌≤◌, ◌==◌, Bool, nat_eq, nat_le, List, [], ◌∷◌, ◌++◌, length, get_or}
-use Rattle.std.specs.Prelude.{map, fold, if◌then◌else◌}
+use Rattle.std.specs.Prelude.{map, if◌then◌else◌}
 use Rattle.std.specs.Option.{option_map_or}
 use Rattle.std.specs.Int.{bit_at}
 use Rattle.std.specs.List.{All, AllByRecursion, IsDistinct, list_any}
@@ -13,7 +13,7 @@ use Rattle.gnss_obs.specs.HeardCells.{heard_cell}
 use Rattle.gnss_obs.specs.Values.{AreHeld, PlanValue, EpochValue, planned_of, cells_of, most_cells}
 use Rattle.gnss_system.specs.SystemValues.{with_value_of, tabulate}
 use Rattle.gnss_obs.specs.Plans.{place_in}
-use Rattle.gnss_obs.specs.Order.{insert_by, cell_sort_key}
+use Rattle.gnss_obs.specs.Order.{sorted_by, cell_sort_key}
 use Rattle.gnss_obs.specs.PlanOrder.{is_held}
 
 -- ---- one more cell
@@ -74,9 +74,8 @@ pub record AddsCell (old : List Cell) (x : Cell) (added : Added) (new : List Cel
 
 -- ---- sorting
 
--- The cells sorted by their sort keys; those with the same sort key in the order in which they arrived.
 abbrev pub sorted_cells : List ℕ → List Cell → List Cell
-sorted_cells planned cells = fold (λ ys c. insert_by (cell_sort_key planned) c ys) [] cells
+sorted_cells planned cells = sorted_by (cell_sort_key planned) cells
 
 abbrev pub sorted_epoch : PlanValue → EpochValue → EpochValue
 sorted_epoch p e =

@@ -63,8 +63,8 @@ year_on (suc years) y days =
 abbrev pub date_of : ℕ → YearMonthDay
 date_of days = year_on 1920 1980 (days + 5)
 
-abbrev pub civil_with : YearMonthDay → ℕ → Civil
-civil_with d clock = record {
+abbrev pub civil_on : YearMonthDay → ℕ → Civil
+civil_on d clock = record {
   year = d.year;
   month = d.month;
   day = d.day;
@@ -75,4 +75,4 @@ civil_with d clock = record {
 
 -- The date and time of day t milliseconds after 1980-01-06 00:00:00, before week 100,000.
 abbrev pub civil_of : ℕ → Civil
-civil_of t = civil_with (date_of (t / day_length)) (t % day_length)
+civil_of t = civil_on (date_of (t / day_length)) (t % day_length)

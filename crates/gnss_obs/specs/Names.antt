@@ -1,4 +1,4 @@
--- The names that proofs cite, passed on from one place. Declares nothing.
+-- The names that proofs cite, in one place.
 pub use Rattle.std.specs.List.{AllByRecursion, IsDistinct, list_any}
 pub use Rattle.std.specs.Option.{option_map_or}
 pub use Rattle.gnss_obs.specs.Arriving.{AddsCell, AreBelow, AreKept, IsAdded, cell_number, cells_after, epoch_with, has_slot, outcome_by, slot, sorted_cells, sorted_epoch}

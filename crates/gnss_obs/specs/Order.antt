@@ -35,6 +35,10 @@ abbrev pub insert_by : {X : Type 0} → (X → SortKey) → X → List X → Lis
 insert_by at x [] = x ∷ []
 insert_by at x (y ∷ ys) = if is_before (at x) (at y) then x ∷ y ∷ ys else y ∷ insert_by at x ys
 
+-- The items sorted by their sort keys; those with the same one in their order in the list.
+abbrev pub sorted_by : {X : Type 0} → (X → SortKey) → List X → List X
+sorted_by at xs = fold (λ ys x. insert_by at x ys) [] xs
+
 -- ---- numbers in order
 
 -- Each number is less than all after it, and than this bound.
@@ -61,9 +65,8 @@ sort_key_of planned x = sort_key planned x.satellite x.signal
 abbrev pub cell_sort_key : List ℕ → Cell → SortKey
 cell_sort_key planned c = sort_key planned c.satellite c.signal
 
--- The cells sorted by their sort keys.
 abbrev pub sorted : List ℕ → List HeardCell → List HeardCell
-sorted planned xs = fold (λ ys x. insert_by (sort_key_of planned) x ys) [] xs
+sorted planned xs = sorted_by (sort_key_of planned) xs
 
 -- Cells in the order of satellites, then of the indices of their signals in the list; no two have the same sort key.
 abbrev pub AreOrderedBy : List ℕ → List Cell → Type 0

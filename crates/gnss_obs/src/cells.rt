@@ -56,7 +56,7 @@ impl Cells {
         Cells {
             buffer: [Cell::default(); MOST_CELLS],
             count: 0,
-            // Most epochs have fewer cells, so that one comparison shows that there is none.
+            // Most epochs have fewer cells, so that an entry of a key never kept is past the last.
             table: [u8::MAX; SLOTS],
             least_next: 0,
         }

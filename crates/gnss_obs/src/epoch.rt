@@ -17,8 +17,8 @@ use std::marker::Model;
 /// Largest number of cells of one system that an epoch keeps.
 pub const MOST_CELLS: usize = 256;
 
-/// An epoch: its time, the kept cells of each system, and the station values that were known when
-/// it was closed.
+/// A closed epoch: its time, the kept cells of each system, and the station values, at first those
+/// that were known when it was closed.
 #[derive(Drop)]
 pub struct Epoch {
     cells: Arrivals,
@@ -66,7 +66,7 @@ impl Epoch {
         self.cells.time()
     }
 
-    /// Returns the station values that were known when the epoch was closed.
+    /// Returns the station values: those set last, at first those known when it was closed.
     pub fn station_values(&self) -> StationValues
         ensures { result ≡ self.now.values }
     {
