@@ -2,8 +2,8 @@
 from .epochs import LAST_WEEK, Gathered, Setup
 from .frames import frames_of
 from .lines import epoch_lines, event_lines, fixed, has_value, header
-from .messages import SIGNALS, WEEK, Message, Msm, Refused, Station, decode, number_of
-from .options import Fault
+from .messages import DEFAULT, EVERY, SIGNALS, WEEK, Cell, Message, Msm, Refused, Station, decode, number_of, numbers_of
+from .options import FORMS_OF, Fault
 
 KINDS = ("station", "other", "ignored", "late", "past", "taken")
 Report = dict[str, int]
@@ -17,11 +17,12 @@ def frame_lines(data: bytes) -> list[str]:
     return [f"{place} {len(message)} {word(number_of(message))}" for place, message in frames_of(data)]
 
 
-def show_lines(data: bytes) -> list[str]:
+def show_lines(data: bytes, numbers: set[int] = DEFAULT) -> list[str]:
+    """Returns a line for each station message, and each MSM of these numbers."""
     lines = []
     for place, message in frames_of(data):
         try:
-            read = decode(message)
+            read = decode(message, numbers)
         except Refused as fault:
             lines.append(f"{place} {word(number_of(message))} {fault}")
             continue
@@ -35,82 +36,99 @@ def show_lines(data: bytes) -> list[str]:
     return lines
 
 
-def messages_of(frames: list[tuple[int, bytes]]) -> list[Message]:
+def messages_of(frames: list[tuple[int, bytes]], numbers: set[int]) -> list[Message]:
     """Returns the messages of these frames that aren't refused."""
     messages = []
     for _, message in frames:
         try:
-            messages.append(decode(message))
+            messages.append(decode(message, numbers))
         except Refused:
             pass
     return messages
 
 
-def signal_counts(data: bytes, station: int | None) -> dict[tuple[str, str], int]:
+def observed(messages: list[Message], station: int | None) -> list[Msm]:
+    """Returns the MSMs of this station, or of any."""
+    return [read for read in messages if isinstance(read, Msm) and station in (None, read.station)]
+
+
+def counted(read: Msm) -> list[Cell]:
+    """Returns the cells that have a value, of listed satellites and signals."""
+    return [cell for cell in read.cells if cell.key is not None and has_value(cell)]
+
+
+def signal_counts(messages: list[Message], station: int | None) -> dict[tuple[str, str], int]:
     """Returns the number of cells with a value of each signal that has one, in the order of the tables."""
     counts = {(system, code): 0 for system, codes in SIGNALS.items() for code in codes.values()}
-    for read in messages_of(frames_of(data)):
-        if isinstance(read, Msm) and station in (None, read.station):
-            for cell in read.cells:
-                if cell.key is not None and has_value(cell):
-                    counts[cell.key[0], cell.key[2]] += 1
+    for read in observed(messages, station):
+        for system, _, code in (cell.key for cell in counted(read)):
+            counts[system, code] += 1
     return {signal: count for signal, count in counts.items() if count}
 
 
-def count_lines(data: bytes, station: int | None) -> list[str]:
-    counts = signal_counts(data, station)
+def count_lines(data: bytes, station: int | None, numbers: set[int] = EVERY) -> list[str]:
+    counts = signal_counts(messages_of(frames_of(data), numbers), station)
     if not counts:
         raise Fault("NoSignal")
     return [f"{system} {code} {count}" for (system, code), count in counts.items()]
 
 
-def first_station(data: bytes, station: int | None) -> Station | None:
+def first_station(messages: list[Message], station: int | None) -> Station | None:
     """Returns the first station message of this station, or of any."""
-    stations = (read for read in messages_of(frames_of(data)) if isinstance(read, Station))
+    stations = (read for read in messages if isinstance(read, Station))
     return next((read for read in stations if station in (None, read.station)), None)
 
 
-def first_stations(data: bytes) -> list[int]:
-    """Returns the first station, and the first other one, of the messages that are decoded."""
-    read = [message for message in messages_of(frames_of(data)) if isinstance(message, Station | Msm)]
-    return list(dict.fromkeys(message.station for message in read))[:2]
+def stations_of(messages: list[Message]) -> list[int]:
+    """Returns the stations of the messages that are decoded, in the order of their first ones."""
+    return list(dict.fromkeys(read.station for read in messages if isinstance(read, Station | Msm)))
 
 
-def week_near(data: bytes, station: int | None, noon: int) -> int | None:
-    """Returns the week in which the first MSM of this station, or of any, is nearest to noon; the earlier of two."""
-    times = (read.time for read in messages_of(frames_of(data)) if isinstance(read, Msm) and station in (None, read.station))
-    time = next(times, None)
-    if time is None:
-        return None
+def week_near(msms: list[Msm], noon: int) -> int:
+    """Returns the week in which the first of these MSMs is nearest to noon; the earlier of two."""
     weeks = range(max(noon // WEEK - 1, 0), min(noon // WEEK + 2, LAST_WEEK))
-    return min(weeks, key=lambda week: abs(week * WEEK + time - noon))
+    return min(weeks, key=lambda week: abs(week * WEEK + msms[0].time - noon))
 
 
-def option_line(data: bytes, station: int | None, noon: int | None = None) -> str:
-    """Returns the options of `convert` that fit a stream, of this station or of its only one."""
-    stations = first_stations(data)
-    if station is None and len(stations) > 1:
-        raise Fault(f"SeveralStations {stations[0]} {stations[1]}")
-    counts, first = signal_counts(data, station), first_station(data, station)
-    if not counts:
-        raise Fault("NoSignal")
-    words = [] if noon is None else [f"--week {week_near(data, station, noon)}"]
-    words += [] if station is None else [f"--station {station}"]
+def plan_words(counts: dict[tuple[str, str], int]) -> list[str]:
     names = {system: ",".join(code for at, code in counts if at == system) or "none" for system in SIGNALS}
-    words.append(f"--gps {names['G']} --galileo {names['E']}")
+    return [f"--gps {names['G']} --galileo {names['E']}"]
+
+
+def station_words(first: Station | None) -> list[str]:
+    words = []
     if first:
         words.append("--position=" + ",".join(fixed(value, 4) for value in first.coordinates))
     if first and first.height is not None:
         words.append(f"--antenna-height {fixed(first.height, 4)}")
-    return " ".join(words)
+    return words
 
 
-def convert(
-    data: bytes, setup: Setup, texts: dict[str, str], has_ended: bool = True
-) -> tuple[list[str], Report]:
+def option_line(data: bytes, station: int | None, noon: int | None = None, numbers: set[int] = EVERY) -> str:
+    """Returns the options of `convert` that fit a stream, of this station or of its only one."""
+    messages = messages_of(frames_of(data), numbers)
+    stations = stations_of(messages)
+    if station is None and len(stations) > 1:
+        raise Fault(f"SeveralStations {stations[0]} {stations[1]}")
+    counts = signal_counts(messages, station)
+    if not counts:
+        raise Fault("NoSignal")
+    msms = observed(messages, station)
+    text = "all" if any(read.number % 10 in (5, 6) and counted(read) for read in msms) else "4,7"
+    # those that are decoded with these options
+    decoded = numbers_of({"G", "E"} | {system for system, _ in counts}, FORMS_OF[text])
+    msms = [read for read in msms if read.number in decoded]
+    words = [] if noon is None else [f"--week {week_near(msms, noon)}"]
+    words += [] if station is None else [f"--station {station}"]
+    words += plan_words(counts)
+    words += ["--msm all"] if text == "all" else []
+    return " ".join(words + station_words(first_station(messages, station)))
+
+
+def convert(data: bytes, setup: Setup, texts: dict[str, str], has_ended: bool = True) -> tuple[list[str], Report]:
     """Returns the lines of the file and the report, or, of a stream that goes on, those of its closed epochs."""
     frames = frames_of(data)
-    messages = messages_of(frames)
+    messages = messages_of(frames, setup.numbers())
     gathered = Gathered(setup, messages)
     lines: list[str] = []
     closed = [time for time in gathered.times if has_ended or gathered.closing(time) < len(messages)]

@@ -1,7 +1,7 @@
 """Times, epochs and loss-of-lock indicators of a list of messages."""
 from dataclasses import dataclass
 
-from .messages import WEEK, Cell, Key, Message, Other, Station
+from .messages import WEEK, Cell, Key, Message, Other, Station, numbers_of
 
 LAST_WEEK = 100_000
 MOST_CELLS = 256
@@ -22,6 +22,12 @@ class Setup:
     plan: Plan
     # until a station message has others
     initial: StationValues = NO_VALUES
+    # the forms of MSM that are decoded
+    forms: tuple[int, ...] = (4, 7)
+
+    def numbers(self) -> set[int]:
+        """Returns the numbers of the MSMs that are decoded: of GPS and Galileo in any case."""
+        return numbers_of({"G", "E"} | {system for system, codes in self.plan.items() if codes}, self.forms)
 
 
 class Gathered:

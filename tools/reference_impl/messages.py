@@ -1,6 +1,9 @@
-"""Messages: their fields, and the values of each cell."""
+"""Messages, and the values of each cell."""
+from collections.abc import Iterable
 from dataclasses import dataclass, field
 from fractions import Fraction
+
+from .fields import FORMS, Bits, Fields, Refused, ones, read_fields
 
 WEEK = 604_800_000
 
@@ -15,37 +18,21 @@ GALILEO_SIGNALS = {
 }  # fmt: skip
 SIGNALS = {"G": GPS_SIGNALS, "E": GALILEO_SIGNALS}
 SATELLITES = {"G": 32, "E": 36}
-# The MSMs that are read: the system, and whether the message is an MSM7.
-READ = {1074: ("G", False), 1077: ("G", True), 1094: ("E", False), 1097: ("E", True)}
+# The number of its MSM1, less 1.
+FIRST_NUMBERS = {"G": 1070, "E": 1090}
 LISTED = {first + n for first in range(1071, 1130, 10) for n in range(7)}
 
+
+def numbers_of(systems: Iterable[str], forms: Iterable[int]) -> set[int]:
+    """Returns the numbers of the MSMs of these systems and forms."""
+    return {FIRST_NUMBERS[system] + form for system in systems for form in forms}
+
+
+# The MSMs that are decoded by `signals` and `options`, and by default by `convert` and `show`.
+EVERY = numbers_of(SIGNALS, FORMS)
+DEFAULT = numbers_of("GE", (4, 7))
+
 Key = tuple[str, int, str]
-
-
-class Refused(Exception):
-    """Why a message is refused: `Short` and its bit, `TooManyCells` or `BadTime`."""
-
-
-class Bits:
-    """Reads the bits of a message field by field."""
-
-    def __init__(self, message: bytes) -> None:
-        self.count = 8 * len(message)
-        self.number = int.from_bytes(message, "big")
-        self.place = 0
-
-    def peek(self, place: int, n: int) -> int:
-        return self.number >> (self.count - place - n) & (1 << n) - 1
-
-    def unsigned(self, n: int) -> int:
-        if self.place + n > self.count:
-            raise Refused(f"Short {self.place}")
-        self.place += n
-        return self.peek(self.place - n, n)
-
-    def signed(self, n: int) -> int:
-        value = self.unsigned(n)
-        return value - (1 << n) if value >> (n - 1) else value
 
 
 @dataclass
@@ -92,36 +79,20 @@ class Other:
 Message = Station | Msm | Other
 
 
-@dataclass(frozen=True)
-class Layout:
-    """The fields in which MSM4 and MSM7 differ: widths in bits, and units as negative powers of 2."""
-
-    range_bits: int
-    range_power: int
-    phase_bits: int
-    phase_power: int
-    lock_bits: int
-    strength_bits: int
-    strength_unit: Fraction
-
-
-MSM4 = Layout(15, 24, 22, 29, 4, 6, Fraction(1))
-MSM7 = Layout(20, 29, 24, 31, 10, 10, Fraction(1, 16))
-
-
 def number_of(message: bytes) -> int | None:
     return Bits(message).peek(0, 12) if len(message) > 1 else None
 
 
-def decode(message: bytes) -> Message:
+def decode(message: bytes, numbers: set[int]) -> Message:
+    """Decodes a message; an MSM only if it has one of these numbers."""
     bits = Bits(message)
     number = number_of(message)
     if number is None:
         raise Refused("Short 0")
     if number in (1005, 1006):
         return read_station(bits)
-    if number in READ:
-        return read_msm(bits, *READ[number])
+    if number in numbers:
+        return read_msm(bits, number)
     if number in LISTED and bits.count >= 55:
         return Other(bits.peek(12, 12), bits.peek(54, 1))
     return Other()
@@ -139,62 +110,43 @@ def read_station(bits: Bits) -> Station:
     return Station(number, station, (x, y, z), bits.unsigned(16) if number == 1006 else None)
 
 
-def ones(mask: int, width: int) -> list[int]:
-    """Returns the IDs of the bits set in a mask; the first bit is ID 1."""
-    return [n + 1 for n in range(width) if mask >> (width - 1 - n) & 1]
-
-
-def read_msm(bits: Bits, system: str, is_long: bool) -> Msm:
+def read_msm(bits: Bits, number: int) -> Msm:
     if bits.count >= 54 and bits.peek(24, 30) >= WEEK:
         raise Refused("BadTime")
     if bits.count >= 169 and len(ones(bits.peek(73, 64), 64)) * len(ones(bits.peek(137, 32), 32)) > 64:
         raise Refused("TooManyCells")
-    number, station, time, more = (bits.unsigned(n) for n in (12, 12, 30, 1))
-    for n in (3, 7, 2, 2, 1, 3):
-        bits.unsigned(n)
-    satellites, signals = ones(bits.unsigned(64), 64), ones(bits.unsigned(32), 32)
-    pairs = [(satellite, signal) for satellite in satellites for signal in signals]
-    mask = bits.unsigned(len(pairs)) if pairs else 0
-    listed = [pairs[n - 1] for n in ones(mask, len(pairs))]
-    cells = read_cells(bits, system, is_long, satellites, listed)
-    return Msm(number, station, time, more, len(satellites), len(signals), cells)
+    fields = read_fields(bits)
+    system = next(system for system, first in FIRST_NUMBERS.items() if number // 10 * 10 == first)
+    cells = [cell_of(fields, system, n) for n in range(len(fields.cells))]
+    counts = (len(fields.satellites), len(fields.signals))
+    return Msm(number, fields.station, fields.time, fields.more, *counts, cells)
 
 
-def read_cells(
-    bits: Bits, system: str, is_long: bool, satellites: list[int], listed: list[tuple[int, int]]
-) -> list[Cell]:
-    """Reads the satellite data and the cell data, column by column."""
-    whole = {id: bits.unsigned(8) for id in satellites}
-    if is_long:
-        for _ in satellites:
-            bits.unsigned(4)
-    part = {id: bits.unsigned(10) for id in satellites}
-    speed = {id: bits.signed(14) for id in satellites} if is_long else {}
-    layout = MSM7 if is_long else MSM4
-    ranges = [bits.signed(layout.range_bits) for _ in listed]
-    phases = [bits.signed(layout.phase_bits) for _ in listed]
-    locks = [bits.unsigned(layout.lock_bits) for _ in listed]
-    halves = [bits.unsigned(1) for _ in listed]
-    strengths = [bits.unsigned(layout.strength_bits) for _ in listed]
-    rates = [bits.signed(15) for _ in listed] if is_long else []
-    least = least_of_10 if is_long else least_of_4
-    cells = []
-    for n, (id, signal) in enumerate(listed):
-        code = SIGNALS[system].get(signal)
-        rough = None if whole[id] == 255 else whole[id] + Fraction(part[id], 1024)
-        is_rated = is_long and speed[id] != -8192 and rates[n] != -16384
-        cell = Cell(
-            key=(system, id, code) if code and id <= SATELLITES[system] else None,
-            pseudorange=finer(rough, ranges[n], layout.range_bits, layout.range_power),
-            phase=finer(rough, phases[n], layout.phase_bits, layout.phase_power),
-            rate=speed[id] + Fraction(rates[n], 10_000) if is_rated else None,
-            strength=strengths[n] * layout.strength_unit if strengths[n] else None,
-            least=least(locks[n]),
-            upper=least(locks[n] + 1),
-            half_cycle=halves[n],
-        )
-        cells.append(cell)
-    return cells
+def cell_of(fields: Fields, system: str, place: int) -> Cell:
+    """Returns the values of the cell at this place."""
+    id, signal = fields.cells[place]
+    code = SIGNALS[system].get(signal)
+    layout, form = FORMS[fields.number % 10], fields.number % 10
+    at = fields.satellites.index(id)
+    satellite = {name: column[at] for name, column in fields.of_satellites.items()}
+    cell = {name: column[place] for name, column in fields.of_cells.items()}
+    rough = None if satellite["whole"] == 255 else satellite["whole"] + Fraction(satellite["part"], 1024)
+    least = least_of_10 if form in (6, 7) else least_of_4
+    return Cell(
+        key=(system, id, code) if code and id <= SATELLITES[system] else None,
+        pseudorange=finer(rough, cell["range"], layout.cell["range"], layout.range_power),
+        phase=finer(rough, cell["phase"], layout.cell["phase"], layout.phase_power),
+        rate=rate_of(satellite.get("speed", -8192), cell.get("rate", -16384)),
+        strength=cell["strength"] * layout.strength_unit if cell["strength"] else None,
+        least=least(cell["lock"]),
+        upper=least(cell["lock"] + 1),
+        half_cycle=cell["half"],
+    )
+
+
+def rate_of(rough: int, fine: int) -> Fraction | None:
+    """Returns the sum of a rough and a fine rate; the least of each is invalid."""
+    return None if rough == -8192 or fine == -16384 else rough + Fraction(fine, 10_000)
 
 
 def finer(rough: Fraction | None, fine: int, width: int, power: int) -> Fraction | None:

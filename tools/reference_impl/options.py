@@ -9,6 +9,8 @@ from .messages import SIGNALS
 COLUMNS = {"run_by": 20, "date": 20, "marker": 60, "marker_type": 20, "observer": 20, "agency": 40}
 COLUMNS |= dict.fromkeys("rec_number rec_type rec_version ant_number ant_type".split(), 20)
 MOST = 1 << 37
+# The forms of MSM by the text of the option `--msm`.
+FORMS_OF = {"4,7": (4, 7), "all": (4, 5, 6, 7)}
 DATES = "a date yyyy-mm-dd, 1980-01-06 to 3896-07-18"
 WEEK = "WEEK: a GPS week, 0 to 99999, or " + DATES
 POSITION = "X,Y,Z: metres, up to 8 digits and 4 decimals each, -13743895.3472 to 13743895.3471"

@@ -4,11 +4,12 @@ import random
 from collections.abc import Iterator
 from dataclasses import dataclass, field
 
-from .messages import WEEK
+from .fields import FORMS, Fields, packed, pairs_of
+from .messages import FIRST_NUMBERS, WEEK
+from .recode import as_form
 
 # 2^-31 ms and its range, for GPS and Galileo.
 RANGES = {"G": (67 << 31, 86 << 31), "E": (78 << 31, 96 << 31)}
-NUMBERS = {"G": 1077, "E": 1097}
 SATELLITES = {"G": 12, "E": 10}
 # By ID: GPS 1C, 2L and 5Q; Galileo 1C, 6C, 7Q and 5Q.
 SIGNALS = {"G": (2, 16, 23), "E": (2, 8, 15, 23)}
@@ -30,7 +31,8 @@ class Form:
     """What an epoch has of each system, a number of random satellites or their IDs, and how it is split into messages.
 
     A message has at most `per` satellites and `group` signals, and 64 pairs of them. The messages of a system rise by
-    groups, then by satellites, or fall, or are in a random order. Each is sent `times` times, with other values.
+    groups, then by satellites, or fall, or are in a random order. Each is sent `times` times, with other values, as an
+    MSM of the form `msm`.
     """
 
     satellites: dict[str, int | tuple[int, ...]] = field(default_factory=lambda: SATELLITES)
@@ -39,6 +41,7 @@ class Form:
     group: int = 32
     order: str = "rise"
     times: int = 1
+    msm: int = 7
 
 
 PLAIN = Form()
@@ -51,15 +54,6 @@ def frame_of(message: bytes) -> bytes:
     for byte in frame:
         rest = (rest << 8 & 0xFFFFFF) ^ CRC_TABLE[rest >> 16 ^ byte]
     return frame + rest.to_bytes(3, "big")
-
-
-def packed(fields: list[tuple[int, int]]) -> bytes:
-    """Returns the bits of (width, value) fields, padded with zero bits."""
-    number = count = 0
-    for width, value in fields:
-        number, count = number << width | value % (1 << width), count + width
-    padding = -count % 8
-    return (number << padding).to_bytes((count + padding) // 8, "big")
 
 
 def station_message() -> bytes:
@@ -106,8 +100,8 @@ class System:
             self.draw.shuffle(parts)
         return parts
 
-    def message(self, part: Part, time: int, more: int) -> bytes:
-        """Returns the MSM7 of these satellites and signals and a time in ms."""
+    def message(self, part: Part, time: int, more: int, msm: int | None = None) -> bytes:
+        """Returns the MSM of these satellites and signals and a time in ms, of this form or of that of the stream."""
         satellites, signals = part
         draw, low, high = self.draw, *RANGES[self.system]
         ranges, rates = [], []
@@ -117,28 +111,29 @@ class System:
             rates.append(self.rate[satellite])
         rough = [at + (1 << 20) >> 21 for at in ranges]
         speeds = [(rate + 5_000) // 10_000 for rate in rates]
-        cells: list[list[tuple[int, int]]] = [[] for _ in range(6)]
+        cells: dict[str, list[int]] = {name: [] for name in FORMS[7].cell}
         for n, satellite in enumerate(satellites):
             rest = ranges[n] - (rough[n] << 21)
             for signal in signals:
                 key, noise = (satellite, signal), draw.getrandbits(30)
                 if noise >> 13 == 77:
                     self.locked_at[key] = time
-                cells[0].append((20, rest // 4 + (noise & 255)))
-                cells[1].append((24, rest + (noise >> 8 & 31)))
-                cells[2].append((10, lock_code(time - self.locked_at[key])))
-                cells[3].append((1, noise >> 13 == 78))
-                cells[4].append((10, 560 + (noise >> 13 & 255)))
-                cells[5].append((15, rates[n] - 10_000 * speeds[n] + (noise >> 21 & 7)))
-        masks = [
-            (64, sum(1 << 64 - satellite for satellite in satellites)),
-            (32, sum(1 << 32 - signal for signal in signals)),
-            (len(cells[0]), -1),
-        ]
-        head = [(12, NUMBERS[self.system]), (12, STATION), (30, time % WEEK), (1, more), (18, 0), *masks]
-        rows = [[(8, at >> 10) for at in rough], [(4, 0) for _ in rough], [(10, at) for at in rough]]
-        rows.append([(14, speed) for speed in speeds])
-        return packed([*head, *(field for row in (*rows, *cells) for field in row)])
+                cells["range"].append(rest // 4 + (noise & 255))
+                cells["phase"].append(rest + (noise >> 8 & 31))
+                cells["lock"].append(lock_code(time - self.locked_at[key]))
+                cells["half"].append(noise >> 13 == 78)
+                cells["strength"].append(560 + (noise >> 13 & 255))
+                cells["rate"].append(rates[n] - 10_000 * speeds[n] + (noise >> 21 & 7))
+        number = FIRST_NUMBERS[self.system] + 7
+        of_satellites = {
+            "whole": [at >> 10 for at in rough],
+            "extended": [0] * len(rough),
+            "part": rough,
+            "speed": speeds,
+        }
+        pairs = pairs_of(satellites, signals)
+        sent = Fields(number, STATION, time % WEEK, more, satellites, signals, pairs, of_satellites, cells)
+        return as_form(sent, msm or self.form.msm).message()
 
 
 def frames(seed: int, form: Form = PLAIN) -> Iterator[bytes]:
