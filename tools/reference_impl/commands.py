@@ -3,7 +3,7 @@ from .epochs import LAST_WEEK, Gathered, Setup
 from .frames import frames_of
 from .lines import epoch_lines, event_lines, fixed, has_value, header
 from .messages import DEFAULT, EVERY, SIGNALS, WEEK, Cell, Message, Msm, Refused, Station, decode, number_of, numbers_of
-from .options import FORMS_OF, Fault
+from .options import FORMS_OF, OPTION_NAMES, Fault
 
 KINDS = ("station", "other", "ignored", "late", "past", "taken")
 Report = dict[str, int]
@@ -87,12 +87,16 @@ def stations_of(messages: list[Message]) -> list[int]:
 def week_near(msms: list[Msm], noon: int) -> int:
     """Returns the week in which the first of these MSMs is nearest to noon; the earlier of two."""
     weeks = range(max(noon // WEEK - 1, 0), min(noon // WEEK + 2, LAST_WEEK))
-    return min(weeks, key=lambda week: abs(week * WEEK + msms[0].time - noon))
+    return min(weeks, key=lambda week: abs(week * WEEK + msms[0].gps_time() - noon))
 
 
 def plan_words(counts: dict[tuple[str, str], int]) -> list[str]:
-    names = {system: ",".join(code for at, code in counts if at == system) or "none" for system in SIGNALS}
-    return [f"--gps {names['G']} --galileo {names['E']}"]
+    """Returns the options of the signals: of GPS and Galileo, and of each other system that has one."""
+    words = []
+    for system, name in OPTION_NAMES.items():
+        codes = ",".join(code for at, code in counts if at == system)
+        words += [f"--{name} {codes or 'none'}"] if codes or system in "GE" else []
+    return words
 
 
 def station_words(first: Station | None) -> list[str]:

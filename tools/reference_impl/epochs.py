@@ -64,10 +64,10 @@ class Gathered:
             return "other"
         if isinstance(message, Station):
             return "station"
-        time = self.setup.week * WEEK + message.time
+        time = self.setup.week * WEEK + message.gps_time()
         if self.taken:
             greatest = max(self.taken.values())
-            ahead = (message.time - greatest) % WEEK
+            ahead = (message.gps_time() - greatest) % WEEK
             is_closed = any(self.ends_epoch(at) for at in range(self.first_of(greatest), place))
             if ahead > WEEK // 2 or ahead == 0 and is_closed:
                 return "late"

@@ -4,7 +4,7 @@ from collections.abc import Iterator
 from datetime import datetime, timedelta
 
 from .lines import fixed, header_line, station_lines, type_lines
-from .messages import SATELLITES, SIGNALS
+from .messages import NUMBER_OFFSETS, SATELLITES, SIGNALS
 from .options import MOST, Fault
 
 MOST_BYTES = 1220
@@ -49,7 +49,7 @@ class File:
         self.values: list[int] = []
         self.times: list[int] = []
         self.satellites = self.events = 0
-        self.plan: dict[str, list[str]] = {"G": [], "E": []}
+        self.plan: dict[str, list[str]] = {}
 
     def take(self) -> str:
         """Returns the next line, up to its line feed."""
@@ -97,25 +97,38 @@ class File:
             row += 1
         self.plan[system] = codes
 
+    def mixed_types(self) -> None:
+        """Reads the lines of the observation types of two systems or more."""
+        later = list(SIGNALS)
+        while len(self.plan) < 2 or self.data[self.place : self.place + 1] != "D":
+            system = self.data[self.place : self.place + 1]
+            # of the first another follows
+            if system not in (later if self.plan else later[:-1]):
+                self.take()
+                self.expect(False)
+            self.types(system)
+            later = later[later.index(system) + 1 :]
+
     def header(self) -> None:
         kind = self.take()
         front = f"{'3.05':>9}{'':11}{'OBSERVATION DATA':<20}"
-        kinds = [letter for letter in "GEM" if kind == header_line(front + letter, "RINEX VERSION / TYPE")]
+        kinds = [letter for letter in [*SIGNALS, "M"] if kind == header_line(front + letter, "RINEX VERSION / TYPE")]
         self.expect(kinds != [])
         for text, label in TEXT_LINES:
             self.expect(re.fullmatch(text + re.escape(label.ljust(20)), self.take()) is not None)
         self.values = self.station_line(0)
         self.values += self.station_line(1)
-        systems = "GE" if kinds == ["M"] else kinds
-        for system in systems:
-            self.types(system)
+        if kinds == ["M"]:
+            self.mixed_types()
+        else:
+            self.types(kinds[0])
         self.expect(self.take() == header_line("DBHZ", "SIGNAL STRENGTH UNIT"))
         first = self.take()
         date = [int(first[n : n + 6]) for n in range(0, 30, 6)]
         self.first = time_of(date, first[30:43])
         day = "".join(str(part).rjust(6) for part in date)
         self.expect(first == header_line(f"{day}{first[30:43]}     GPS", "TIME OF FIRST OBS"))
-        for system in systems:
+        for system in self.plan:
             self.expect(self.take() == header_line(system, "SYS / PHASE SHIFT"))
         self.expect(self.take() == header_line("", "END OF HEADER"))
 
@@ -135,7 +148,7 @@ class File:
         time, count = time_of([int(part) for part in found[1].split()], found[2]), int(found[3])
         self.expect(found[3] == str(count).rjust(3))
         self.expect(time == self.first if before is None else time > before)
-        self.expect(0 < count <= sum(SATELLITES[system] for system in "GE" if self.plan[system]))
+        self.expect(0 < count <= sum(SATELLITES[system] for system in self.plan))
         self.times.append(time)
         return time, count
 
@@ -156,9 +169,10 @@ class File:
         """Reads a satellite's line, which comes after that of another."""
         line = self.take()
         system, number = line[:1], int(line[1:3])
-        self.expect(line[:3] == f"{system}{number:02}" and bool(self.plan.get(system)))
-        self.expect(0 < number <= SATELLITES[system])
-        self.expect(before is None or ("GE".index(system), number) > ("GE".index(before[0]), before[1]))
+        self.expect(line[:3] == f"{system}{number:02}" and system in self.plan)
+        self.expect(0 < number - NUMBER_OFFSETS[system] <= SATELLITES[system])
+        order = list(self.plan)
+        self.expect(before is None or (order.index(system), number) > (order.index(before[0]), before[1]))
         columns = line[3:].ljust(64 * len(self.plan[system]))
         self.expect(line == line.rstrip(" ") and len(columns) == 64 * len(self.plan[system]))
         has_value = [self.signal(columns[n : n + 64]) for n in range(0, len(columns), 64)]

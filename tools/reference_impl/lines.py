@@ -3,13 +3,16 @@ from datetime import datetime, timedelta
 from fractions import Fraction
 
 from .epochs import Gathered, Plan, StationValues
-from .messages import SATELLITES, Cell
+from .messages import NUMBER_OFFSETS, SATELLITES, Cell
 
 LIGHT = 299_792_458
 # By the first digit of a signal's code.
 CARRIERS = {
     "G": {"1": 1_575_420_000, "2": 1_227_600_000, "5": 1_176_450_000},
     "E": {"1": 1_575_420_000, "5": 1_176_450_000, "6": 1_278_750_000, "7": 1_207_140_000, "8": 1_191_795_000},
+    "C": {"1": 1_575_420_000, "2": 1_561_098_000, "5": 1_176_450_000, "6": 1_268_520_000, "7": 1_207_140_000},
+    "J": {"1": 1_575_420_000, "2": 1_227_600_000, "5": 1_176_450_000, "6": 1_278_750_000},
+    "S": {"1": 1_575_420_000, "5": 1_176_450_000},
 }
 
 
@@ -117,7 +120,9 @@ def epoch_lines(gathered: Gathered, time: int) -> list[str]:
         for satellite in range(1, SATELLITES[system] + 1):
             cells = [kept.get((system, satellite, code)) for code in codes]
             if any(has_value(cell) for cell in cells):
-                row = f"{system}{satellite:02}" + "".join(columns(gathered, time, cell) for cell in cells)
+                row = f"{system}{satellite + NUMBER_OFFSETS[system]:02}" + "".join(
+                    columns(gathered, time, cell) for cell in cells
+                )
                 rows.append(row.rstrip(" "))
     if not rows:
         return []

@@ -16,16 +16,35 @@ GALILEO_SIGNALS = {
     2: "1C", 3: "1A", 4: "1B", 5: "1X", 6: "1Z", 8: "6C", 9: "6A", 10: "6B", 11: "6X", 12: "6Z",
     14: "7I", 15: "7Q", 16: "7X", 18: "8I", 19: "8Q", 20: "8X", 22: "5I", 23: "5Q", 24: "5X",
 }  # fmt: skip
-SIGNALS = {"G": GPS_SIGNALS, "E": GALILEO_SIGNALS}
-SATELLITES = {"G": 32, "E": 36}
+BEIDOU_SIGNALS = {
+    2: "2I", 3: "2Q", 4: "2X", 8: "6I", 9: "6Q", 10: "6X", 14: "7I", 15: "7Q", 16: "7X",
+    22: "5D", 23: "5P", 24: "5X", 25: "7D", 30: "1D", 31: "1P", 32: "1X",
+}  # fmt: skip
+QZSS_SIGNALS = {
+    2: "1C", 9: "6S", 10: "6L", 11: "6X", 15: "2S", 16: "2L", 17: "2X", 22: "5I", 23: "5Q", 24: "5X",
+    30: "1S", 31: "1L", 32: "1X",
+}  # fmt: skip
+SBAS_SIGNALS = {2: "1C", 22: "5I", 23: "5Q", 24: "5X"}
+# The systems in the order of a file, by their letters.
+SIGNALS = {"G": GPS_SIGNALS, "E": GALILEO_SIGNALS, "C": BEIDOU_SIGNALS, "J": QZSS_SIGNALS, "S": SBAS_SIGNALS}
+SATELLITES = {"G": 32, "E": 36, "C": 63, "J": 10, "S": 39}
+# What is added to the ID of a satellite for its number in a file.
+NUMBER_OFFSETS = {"G": 0, "E": 0, "C": 0, "J": 0, "S": 19}
 # The number of its MSM1, less 1.
-FIRST_NUMBERS = {"G": 1070, "E": 1090}
+FIRST_NUMBERS = {"G": 1070, "E": 1090, "C": 1120, "J": 1110, "S": 1100}
+# GPS time less the time of the system, in ms.
+AHEAD = {"G": 0, "E": 0, "C": 14_000, "J": 0, "S": 0}
 LISTED = {first + n for first in range(1071, 1130, 10) for n in range(7)}
 
 
 def numbers_of(systems: Iterable[str], forms: Iterable[int]) -> set[int]:
     """Returns the numbers of the MSMs of these systems and forms."""
     return {FIRST_NUMBERS[system] + form for system in systems for form in forms}
+
+
+def system_of(number: int) -> str:
+    """Returns the letter of the system of an MSM number."""
+    return next(system for system, first in FIRST_NUMBERS.items() if first == number // 10 * 10)
 
 
 # The MSMs that are decoded by `signals` and `options`, and by default by `convert` and `show`.
@@ -66,6 +85,10 @@ class Msm:
     satellites: int = 0
     signals: int = 0
     cells: list[Cell] = field(default_factory=list)
+
+    def gps_time(self) -> int:
+        """Returns the time of week in GPS time."""
+        return (self.time + AHEAD[system_of(self.number)]) % WEEK
 
 
 @dataclass
@@ -116,8 +139,7 @@ def read_msm(bits: Bits, number: int) -> Msm:
     if bits.count >= 169 and len(ones(bits.peek(73, 64), 64)) * len(ones(bits.peek(137, 32), 32)) > 64:
         raise Refused("TooManyCells")
     fields = read_fields(bits)
-    system = next(system for system, first in FIRST_NUMBERS.items() if number // 10 * 10 == first)
-    cells = [cell_of(fields, system, n) for n in range(len(fields.cells))]
+    cells = [cell_of(fields, system_of(number), n) for n in range(len(fields.cells))]
     counts = (len(fields.satellites), len(fields.signals))
     return Msm(number, fields.station, fields.time, fields.more, *counts, cells)
 

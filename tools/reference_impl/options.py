@@ -9,6 +9,8 @@ from .messages import SIGNALS
 COLUMNS = {"run_by": 20, "date": 20, "marker": 60, "marker_type": 20, "observer": 20, "agency": 40}
 COLUMNS |= dict.fromkeys("rec_number rec_type rec_version ant_number ant_type".split(), 20)
 MOST = 1 << 37
+# The options of the systems' signals, in the order of a file.
+OPTION_NAMES = {"G": "gps", "E": "galileo", "C": "beidou", "J": "qzss", "S": "sbas"}
 # The forms of MSM by the text of the option `--msm`.
 FORMS_OF = {"4,7": (4, 7), "all": (4, 5, 6, 7)}
 DATES = "a date yyyy-mm-dd, 1980-01-06 to 3896-07-18"
@@ -102,9 +104,11 @@ def codes_of(system: str, text: str) -> list[str]:
     return codes
 
 
-def plan_of(gps: str, galileo: str) -> Plan:
-    """Returns the plan of the options `--gps` and `--galileo`."""
-    plan = {system: codes_of(system, text) for system, text in (("G", gps), ("E", galileo))}
+def plan_of(gps: str, galileo: str, **others: str) -> Plan:
+    """Returns the plan of the options of the systems by their names; of others than GPS and Galileo the default is
+    `none`."""
+    texts = {"gps": gps, "galileo": galileo} | others
+    plan = {system: codes_of(system, texts.get(name, "none")) for system, name in OPTION_NAMES.items()}
     if not any(plan.values()):
         raise Fault("NothingPlanned")
     return plan

@@ -5,16 +5,17 @@ from collections.abc import Iterator
 from dataclasses import dataclass, field
 
 from .fields import FORMS, Fields, packed, pairs_of
-from .messages import FIRST_NUMBERS, WEEK
+from .messages import AHEAD, FIRST_NUMBERS, WEEK
+from .messages import SATELLITES as IDS
 from .recode import as_form
 
-# 2^-31 ms and its range, for GPS and Galileo.
+# The least and the greatest range of a satellite, in 2^-31 ms.
 RANGES = {"G": (67 << 31, 86 << 31), "E": (78 << 31, 96 << 31)}
+RANGES |= {"C": (72 << 31, 139 << 31), "J": (106 << 31, 138 << 31), "S": (120 << 31, 139 << 31)}
 SATELLITES = {"G": 12, "E": 10}
 # By ID: GPS 1C, 2L and 5Q; Galileo 1C, 6C, 7Q and 5Q.
 SIGNALS = {"G": (2, 16, 23), "E": (2, 8, 15, 23)}
 PLAN = ["--gps", "1C,2L,5Q", "--galileo", "1C,6C,7Q,5Q"]
-IDS = {"G": 32, "E": 36}
 MOST_PAIRS = 64
 STATION = 2003
 POSITION = (40_278_817_000, 3_306_800_000, 49_199_122_000)
@@ -132,14 +133,15 @@ class System:
             "speed": speeds,
         }
         pairs = pairs_of(satellites, signals)
-        sent = Fields(number, STATION, time % WEEK, more, satellites, signals, pairs, of_satellites, cells)
+        sent_time = (time - AHEAD[self.system]) % WEEK
+        sent = Fields(number, STATION, sent_time, more, satellites, signals, pairs, of_satellites, cells)
         return as_form(sent, msm or self.form.msm).message()
 
 
 def frames(seed: int, form: Form = PLAIN) -> Iterator[bytes]:
     """Returns the frames of an endless stream; the same seed gives the same frames."""
     draw = random.Random(seed)
-    systems = [System("G", form, draw), System("E", form, draw)]
+    systems = [System(system, form, draw) for system in form.signals]
     for epoch in itertools.count():
         if epoch % 10 == 0:
             yield frame_of(station_message())
