@@ -2,8 +2,23 @@
 from .epochs import LAST_WEEK, Gathered, Setup
 from .frames import frames_of
 from .lines import epoch_lines, event_lines, fixed, has_value, header
-from .messages import DEFAULT, EVERY, SIGNALS, WEEK, Cell, Message, Msm, Refused, Station, decode, number_of, numbers_of
-from .options import FORMS_OF, OPTION_NAMES, Fault
+from .messages import (
+    DEFAULT,
+    EVERY,
+    SIGNALS,
+    WEEK,
+    Cell,
+    Channels,
+    Message,
+    Msm,
+    Other,
+    Refused,
+    Station,
+    decode,
+    number_of,
+    numbers_of,
+)
+from .options import FORMS_OF, OPTION_NAMES, Fault, leap_seconds_at
 
 KINDS = ("station", "other", "ignored", "late", "past", "taken")
 Report = dict[str, int]
@@ -84,19 +99,37 @@ def stations_of(messages: list[Message]) -> list[int]:
     return list(dict.fromkeys(read.station for read in messages if isinstance(read, Station | Msm)))
 
 
+def channels_in(messages: list[Message], station: int | None) -> Channels:
+    """Returns the first channel of each slot: of messages 1020, and of MSMs of this station, or of any."""
+    channels: Channels = {}
+    for read in messages:
+        if isinstance(read, Other) or isinstance(read, Msm) and station in (None, read.station):
+            channels = read.channels | channels
+    return channels
+
+
 def week_near(msms: list[Msm], noon: int) -> int:
     """Returns the week in which the first of these MSMs is nearest to noon; the earlier of two."""
+    time = msms[0].gps_time(leap_seconds_at(noon))
     weeks = range(max(noon // WEEK - 1, 0), min(noon // WEEK + 2, LAST_WEEK))
-    return min(weeks, key=lambda week: abs(week * WEEK + msms[0].gps_time() - noon))
+    return min(weeks, key=lambda week: abs(week * WEEK + time - noon))
 
 
-def plan_words(counts: dict[tuple[str, str], int]) -> list[str]:
-    """Returns the options of the signals: of GPS and Galileo, and of each other system that has one."""
+def plan_words(counts: dict[tuple[str, str], int], glonass: list[str]) -> list[str]:
+    """Returns the options of the signals: of GPS and Galileo, and of each other system that has one; of GLONASS with
+    further ones."""
     words = []
     for system, name in OPTION_NAMES.items():
         codes = ",".join(code for at, code in counts if at == system)
         words += [f"--{name} {codes or 'none'}"] if codes or system in "GE" else []
+        words += glonass if codes and system == "R" else []
     return words
+
+
+def glonass_words(channels: Channels, noon: int | None) -> list[str]:
+    texts = ",".join(f"{slot}:{channel}" for slot, channel in sorted(channels.items()))
+    words = [f"--glonass-channels {texts}"] if channels else []
+    return words + ([] if noon is None else [f"--leap-seconds {leap_seconds_at(noon)}"])
 
 
 def station_words(first: Station | None) -> list[str]:
@@ -124,7 +157,7 @@ def option_line(data: bytes, station: int | None, noon: int | None = None, numbe
     msms = [read for read in msms if read.number in decoded]
     words = [] if noon is None else [f"--week {week_near(msms, noon)}"]
     words += [] if station is None else [f"--station {station}"]
-    words += plan_words(counts)
+    words += plan_words(counts, glonass_words(channels_in(messages, station), noon))
     words += ["--msm all"] if text == "all" else []
     return " ".join(words + station_words(first_station(messages, station)))
 
@@ -140,7 +173,7 @@ def convert(data: bytes, setup: Setup, texts: dict[str, str], has_ended: bool = 
     values = [gathered.station_values(time) for time, _ in written]
     for place, (time, epoch) in enumerate(written):
         if place == 0:
-            lines += header(texts, setup.plan, values[0], time)
+            lines += header(texts, setup.plan, values[0], time, setup.channels)
         elif values[place] != values[place - 1]:
             lines += event_lines(values[place])
         lines += epoch

@@ -1,7 +1,7 @@
 """Times, epochs and loss-of-lock indicators of a list of messages."""
-from dataclasses import dataclass
+from dataclasses import dataclass, field, replace
 
-from .messages import WEEK, Cell, Key, Message, Other, Station, numbers_of
+from .messages import WEEK, Cell, Channels, Key, Message, Other, Station, numbers_of
 
 LAST_WEEK = 100_000
 MOST_CELLS = 256
@@ -24,6 +24,9 @@ class Setup:
     initial: StationValues = NO_VALUES
     # the forms of MSM that are decoded
     forms: tuple[int, ...] = (4, 7)
+    # GPS time less UTC, and the channels, of GLONASS
+    leap_seconds: int = 18
+    channels: Channels = field(default_factory=dict)
 
     def numbers(self) -> set[int]:
         """Returns the numbers of the MSMs that are decoded: of GPS and Galileo in any case."""
@@ -64,10 +67,11 @@ class Gathered:
             return "other"
         if isinstance(message, Station):
             return "station"
-        time = self.setup.week * WEEK + message.gps_time()
+        of_week = message.gps_time(self.setup.leap_seconds)
+        time = self.setup.week * WEEK + of_week
         if self.taken:
             greatest = max(self.taken.values())
-            ahead = (message.gps_time() - greatest) % WEEK
+            ahead = (of_week - greatest) % WEEK
             is_closed = any(self.ends_epoch(at) for at in range(self.first_of(greatest), place))
             if ahead > WEEK // 2 or ahead == 0 and is_closed:
                 return "late"
@@ -102,10 +106,16 @@ class Gathered:
                 outcomes.append((outcome, cell))
         return outcomes
 
+    def seen(self, cell: Cell) -> Cell:
+        """Returns a cell without the phase and the rate of a GLONASS satellite whose channel isn't known."""
+        system, slot, _ = cell.key
+        return replace(cell, phase=None, rate=None) if system == "R" and slot not in self.setup.channels else cell
+
     def kept(self, time: int) -> dict[Key, Cell]:
         """Returns the kept cells of an epoch by their keys. They are collected once."""
         if time not in self.kept_cells:
-            self.kept_cells[time] = {cell.key: cell for outcome, cell in self.outcomes(time) if outcome == "kept"}
+            kept = [cell for outcome, cell in self.outcomes(time) if outcome == "kept"]
+            self.kept_cells[time] = {cell.key: self.seen(cell) for cell in kept}
         return self.kept_cells[time]
 
     def lli(self, time: int, cell: Cell) -> int:

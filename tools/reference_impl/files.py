@@ -3,8 +3,8 @@ import re
 from collections.abc import Iterator
 from datetime import datetime, timedelta
 
-from .lines import fixed, header_line, station_lines, type_lines
-from .messages import NUMBER_OFFSETS, SATELLITES, SIGNALS
+from .lines import fixed, header_line, slot_line, station_lines, type_lines
+from .messages import CHANNELS, NUMBER_OFFSETS, SATELLITES, SIGNALS
 from .options import MOST, Fault
 
 MOST_BYTES = 1220
@@ -109,6 +109,24 @@ class File:
             self.types(system)
             later = later[later.index(system) + 1 :]
 
+    def channels(self) -> None:
+        """Reads the lines of the GLONASS channels."""
+        row, count, slots = 0, 0, []
+        while row == 0 or len(slots) < count:
+            line = self.take()
+            if row == 0:
+                count = int(line[:3])
+                self.expect(count >= 0)
+            texts = [line[4 + 7 * n :][:7] for n in range(min(8, count - len(slots)))]
+            pairs = [(int(text[1:3]), int(text[4:6])) for text in texts]
+            self.expect(line == slot_line(" " * 4 if row else f"{count:>3} ", pairs))
+            self.expect(all(channel in CHANNELS for _, channel in pairs))
+            slots += [slot for slot, _ in pairs]
+            # rising, with room for those that follow
+            self.expect([0, *slots] == sorted({0, *slots}))
+            self.expect(max(slots, default=0) + count - len(slots) <= SATELLITES["R"])
+            row += 1
+
     def header(self) -> None:
         kind = self.take()
         front = f"{'3.05':>9}{'':11}{'OBSERVATION DATA':<20}"
@@ -130,6 +148,9 @@ class File:
         self.expect(first == header_line(f"{day}{first[30:43]}     GPS", "TIME OF FIRST OBS"))
         for system in self.plan:
             self.expect(self.take() == header_line(system, "SYS / PHASE SHIFT"))
+        if "R" in self.plan:
+            self.channels()
+            self.expect(self.take() == header_line("", "GLONASS COD/PHS/BIS"))
         self.expect(self.take() == header_line("", "END OF HEADER"))
 
     def event(self) -> None:

@@ -3,7 +3,7 @@ from datetime import datetime, timedelta
 from fractions import Fraction
 
 from .epochs import Gathered, Plan, StationValues
-from .messages import NUMBER_OFFSETS, SATELLITES, Cell
+from .messages import NUMBER_OFFSETS, SATELLITES, Cell, Channels, Key
 
 LIGHT = 299_792_458
 # By the first digit of a signal's code.
@@ -14,6 +14,8 @@ CARRIERS = {
     "J": {"1": 1_575_420_000, "2": 1_227_600_000, "5": 1_176_450_000, "6": 1_278_750_000},
     "S": {"1": 1_575_420_000, "5": 1_176_450_000},
 }
+# Of GLONASS the carrier of channel 0, and the step of a channel.
+GLONASS_CARRIERS = {"1": (1_602_000_000, 562_500), "2": (1_246_000_000, 437_500)}
 
 
 def thousandths(value: Fraction | None) -> int | None:
@@ -34,12 +36,20 @@ def column(value: int | None, lli: str = " ", digit: str = " ") -> str:
     return " " * 16 if value is None else fixed(value, 3).rjust(14) + lli + digit
 
 
+def carrier_of(key: Key, channels: Channels) -> int:
+    """Returns the carrier of a signal in Hz; a GLONASS satellite without a channel has no value that needs it."""
+    system, satellite, code = key
+    if system == "R":
+        first, step = GLONASS_CARRIERS[code[0]]
+        return first + step * channels.get(satellite, 0)
+    return CARRIERS[system][code[0]]
+
+
 def columns(gathered: Gathered, time: int, cell: Cell | None) -> str:
     """Returns the columns C, L, D and S of a signal."""
     if cell is None:
         return " " * 64
-    system, _, code = cell.key
-    hertz = CARRIERS[system][code[0]]
+    hertz = carrier_of(cell.key, gathered.setup.channels)
     c = None if cell.pseudorange is None else thousandths(cell.pseudorange * LIGHT / 1000)
     l = None if cell.phase is None else thousandths(cell.phase * hertz / 1000)
     d = None if cell.rate is None else thousandths(-cell.rate * hertz / LIGHT)
@@ -89,7 +99,22 @@ def type_lines(plan: Plan) -> list[str]:
     return lines
 
 
-def header(texts: dict[str, str], plan: Plan, values: StationValues, first: int) -> list[str]:
+def slot_line(front: str, channels: list[tuple[int, int]]) -> str:
+    texts = "".join(f"R{slot:02} {channel:>2} " for slot, channel in channels)
+    return header_line(front + texts, "GLONASS SLOT / FRQ #")
+
+
+def glonass_lines(channels: Channels) -> list[str]:
+    """Returns the lines of the channels by rising slots, eight in a line, and that of the biases, which are unknown."""
+    pairs = sorted(channels.items())
+    rows = [pairs[n : n + 8] for n in range(0, max(len(pairs), 1), 8)]
+    lines = [slot_line(" " * 4 if n else f"{len(pairs):>3} ", row) for n, row in enumerate(rows)]
+    return [*lines, header_line("", "GLONASS COD/PHS/BIS")]
+
+
+def header(
+    texts: dict[str, str], plan: Plan, values: StationValues, first: int, channels: Channels | None = None
+) -> list[str]:
     systems = [system for system in plan if plan[system]]
     kind = systems[0] if len(systems) == 1 else "M"
     at, seconds = date_of(first)
@@ -108,6 +133,7 @@ def header(texts: dict[str, str], plan: Plan, values: StationValues, first: int)
         header_line("DBHZ", "SIGNAL STRENGTH UNIT"),
         header_line(f"{day}{seconds:>13}     GPS", "TIME OF FIRST OBS"),
         *(header_line(system, "SYS / PHASE SHIFT") for system in systems),
+        *(glonass_lines(channels or {}) if "R" in systems else []),
         header_line("", "END OF HEADER"),
     ]
 

@@ -16,6 +16,7 @@ GALILEO_SIGNALS = {
     2: "1C", 3: "1A", 4: "1B", 5: "1X", 6: "1Z", 8: "6C", 9: "6A", 10: "6B", 11: "6X", 12: "6Z",
     14: "7I", 15: "7Q", 16: "7X", 18: "8I", 19: "8Q", 20: "8X", 22: "5I", 23: "5Q", 24: "5X",
 }  # fmt: skip
+GLONASS_SIGNALS = {2: "1C", 3: "1P", 8: "2C", 9: "2P"}
 BEIDOU_SIGNALS = {
     2: "2I", 3: "2Q", 4: "2X", 8: "6I", 9: "6Q", 10: "6X", 14: "7I", 15: "7Q", 16: "7X",
     22: "5D", 23: "5P", 24: "5X", 25: "7D", 30: "1D", 31: "1P", 32: "1X",
@@ -26,14 +27,22 @@ QZSS_SIGNALS = {
 }  # fmt: skip
 SBAS_SIGNALS = {2: "1C", 22: "5I", 23: "5Q", 24: "5X"}
 # The systems in the order of a file, by their letters.
-SIGNALS = {"G": GPS_SIGNALS, "E": GALILEO_SIGNALS, "C": BEIDOU_SIGNALS, "J": QZSS_SIGNALS, "S": SBAS_SIGNALS}
-SATELLITES = {"G": 32, "E": 36, "C": 63, "J": 10, "S": 39}
+SIGNALS = {
+    "G": GPS_SIGNALS, "E": GALILEO_SIGNALS, "R": GLONASS_SIGNALS, "C": BEIDOU_SIGNALS, "J": QZSS_SIGNALS,
+    "S": SBAS_SIGNALS,
+}  # fmt: skip
+SATELLITES = {"G": 32, "E": 36, "R": 27, "C": 63, "J": 10, "S": 39}
 # What is added to the ID of a satellite for its number in a file.
-NUMBER_OFFSETS = {"G": 0, "E": 0, "C": 0, "J": 0, "S": 19}
+NUMBER_OFFSETS = {"G": 0, "E": 0, "R": 0, "C": 0, "J": 0, "S": 19}
 # The number of its MSM1, less 1.
-FIRST_NUMBERS = {"G": 1070, "E": 1090, "C": 1120, "J": 1110, "S": 1100}
-# GPS time less the time of the system, in ms.
-AHEAD = {"G": 0, "E": 0, "C": 14_000, "J": 0, "S": 0}
+FIRST_NUMBERS = {"G": 1070, "E": 1090, "R": 1080, "C": 1120, "J": 1110, "S": 1100}
+# GPS time less the time of the system, in ms. That of GLONASS is UTC + 3 h: the leap seconds are added.
+AHEAD = {"G": 0, "E": 0, "R": -10_800_000, "C": 14_000, "J": 0, "S": 0}
+DAY = 86_400_000
+# The greatest time of day of GLONASS, on a day with a leap second.
+LAST_OF_DAY = 86_400_999
+# The channel numbers of GLONASS.
+CHANNELS = range(-7, 7)
 LISTED = {first + n for first in range(1071, 1130, 10) for n in range(7)}
 
 
@@ -76,6 +85,10 @@ class Cell:
     half_cycle: int
 
 
+# The channels of GLONASS by slots.
+Channels = dict[int, int]
+
+
 @dataclass
 class Msm:
     number: int
@@ -85,18 +98,21 @@ class Msm:
     satellites: int = 0
     signals: int = 0
     cells: list[Cell] = field(default_factory=list)
+    channels: Channels = field(default_factory=dict)
 
-    def gps_time(self) -> int:
+    def gps_time(self, leap_seconds: int) -> int:
         """Returns the time of week in GPS time."""
-        return (self.time + AHEAD[system_of(self.number)]) % WEEK
+        system = system_of(self.number)
+        return (self.time + AHEAD[system] + (1000 * leap_seconds if system == "R" else 0)) % WEEK
 
 
 @dataclass
 class Other:
-    """A message of another number; of a listed MSM with its station and DF393."""
+    """A message of another number; of a listed MSM with its station and DF393, of a 1020 with a channel."""
 
     station: int | None = None
     more: int | None = None
+    channels: Channels = field(default_factory=dict)
 
 
 Message = Station | Msm | Other
@@ -118,7 +134,23 @@ def decode(message: bytes, numbers: set[int]) -> Message:
         return read_msm(bits, number)
     if number in LISTED and bits.count >= 55:
         return Other(bits.peek(12, 12), bits.peek(54, 1))
+    if number == 1020 and bits.count >= 23:
+        return Other(channels=channels_of([bits.peek(12, 6)], [bits.peek(18, 5)]))
     return Other()
+
+
+def channels_of(slots: list[int], sent: list[int]) -> Channels:
+    """Returns the channels as they are sent, 7 more than they are, of listed slots."""
+    found = {slot: value - 7 for slot, value in zip(slots, sent) if value - 7 in CHANNELS}
+    return {slot: channel for slot, channel in found.items() if 1 <= slot <= SATELLITES["R"]}
+
+
+def time_of(system: str, sent: int) -> int | None:
+    """Returns the time of week of a system in ms, of the 30 bits of the field; None if there is no such time."""
+    day, of_day = divmod(sent, 1 << 27)
+    if system == "R":
+        return None if day == 7 or of_day > LAST_OF_DAY else DAY * day + of_day
+    return sent if sent < WEEK else None
 
 
 def read_station(bits: Bits) -> Station:
@@ -134,14 +166,17 @@ def read_station(bits: Bits) -> Station:
 
 
 def read_msm(bits: Bits, number: int) -> Msm:
-    if bits.count >= 54 and bits.peek(24, 30) >= WEEK:
+    system = system_of(number)
+    if bits.count >= 54 and time_of(system, bits.peek(24, 30)) is None:
         raise Refused("BadTime")
     if bits.count >= 169 and len(ones(bits.peek(73, 64), 64)) * len(ones(bits.peek(137, 32), 32)) > 64:
         raise Refused("TooManyCells")
     fields = read_fields(bits)
-    cells = [cell_of(fields, system_of(number), n) for n in range(len(fields.cells))]
+    cells = [cell_of(fields, system, n) for n in range(len(fields.cells))]
     counts = (len(fields.satellites), len(fields.signals))
-    return Msm(number, fields.station, fields.time, fields.more, *counts, cells)
+    sent = fields.of_satellites.get("extended", []) if system == "R" else []
+    channels = channels_of(fields.satellites, sent)
+    return Msm(number, fields.station, time_of(system, fields.time), fields.more, *counts, cells, channels)
 
 
 def cell_of(fields: Fields, system: str, place: int) -> Cell:

@@ -3,19 +3,25 @@ import re
 from datetime import date
 
 from .epochs import LAST_WEEK, Plan, StationValues
-from .messages import SIGNALS
+from .messages import CHANNELS, DAY, SATELLITES, SIGNALS, Channels
 
 # The texts of the header in the order in which they are judged, with their columns.
 COLUMNS = {"run_by": 20, "date": 20, "marker": 60, "marker_type": 20, "observer": 20, "agency": 40}
 COLUMNS |= dict.fromkeys("rec_number rec_type rec_version ant_number ant_type".split(), 20)
 MOST = 1 << 37
 # The options of the systems' signals, in the order of a file.
-OPTION_NAMES = {"G": "gps", "E": "galileo", "C": "beidou", "J": "qzss", "S": "sbas"}
+OPTION_NAMES = {"G": "gps", "E": "galileo", "R": "glonass", "C": "beidou", "J": "qzss", "S": "sbas"}
 # The forms of MSM by the text of the option `--msm`.
 FORMS_OF = {"4,7": (4, 7), "all": (4, 5, 6, 7)}
 DATES = "a date yyyy-mm-dd, 1980-01-06 to 3896-07-18"
 WEEK = "WEEK: a GPS week, 0 to 99999, or " + DATES
 POSITION = "X,Y,Z: metres, up to 8 digits and 4 decimals each, -13743895.3472 to 13743895.3471"
+SLOTS = "SLOT:CHANNEL,..: slots 1 to 27, each once, channels -7 to 6"
+# From each of these dates on GPS time is a second more ahead of UTC, 18 s from the last.
+LEAP_DATES = """
+    1981-07-01 1982-07-01 1983-07-01 1985-07-01 1988-01-01 1990-01-01 1991-01-01 1992-07-01 1993-07-01 1994-07-01
+    1996-01-01 1997-07-01 1999-01-01 2006-01-01 2009-01-01 2012-07-01 2015-07-01 2017-01-01
+""".split()
 HEIGHT = "HEIGHT: metres, up to 4 decimals, 0 to 6.5535"
 
 
@@ -87,6 +93,23 @@ def station_values(position: str, height: str) -> StationValues:
     if not 0 <= above < 1 << 16:
         raise Fault(f"BadHeight --antenna-height {HEIGHT}")
     return (x, y, z), above
+
+
+def leap_seconds_at(noon: int) -> int:
+    """Returns GPS time less UTC at noon of a date, which is given in milliseconds from 1980-01-06."""
+    return sum(days_of(text) <= noon // DAY for text in LEAP_DATES)
+
+
+def channels_of_text(text: str) -> Channels:
+    """Returns the channels of the option `--glonass-channels`."""
+    channels: Channels = {}
+    for part in text.split(",") if text else ():
+        found = re.fullmatch(r"([1-9]\d?):(0|-?[1-9])", part, re.ASCII)
+        slot, channel = map(int, found.groups()) if found else (0, 0)
+        if not 1 <= slot <= SATELLITES["R"] or slot in channels or channel not in CHANNELS:
+            raise Fault(f"BadChannels --glonass-channels {SLOTS}")
+        channels[slot] = channel
+    return channels
 
 
 def codes_of(system: str, text: str) -> list[str]:

@@ -5,19 +5,27 @@ from collections.abc import Iterator
 from dataclasses import dataclass, field
 
 from .fields import FORMS, Fields, packed, pairs_of
-from .messages import AHEAD, FIRST_NUMBERS, WEEK
+from .messages import AHEAD, DAY, FIRST_NUMBERS, WEEK
 from .messages import SATELLITES as IDS
 from .recode import as_form
 
 # The least and the greatest range of a satellite, in 2^-31 ms.
 RANGES = {"G": (67 << 31, 86 << 31), "E": (78 << 31, 96 << 31)}
-RANGES |= {"C": (72 << 31, 139 << 31), "J": (106 << 31, 138 << 31), "S": (120 << 31, 139 << 31)}
+RANGES |= {
+    "R": (63 << 31, 86 << 31),
+    "C": (72 << 31, 139 << 31),
+    "J": (106 << 31, 138 << 31),
+    "S": (120 << 31, 139 << 31),
+}
 SATELLITES = {"G": 12, "E": 10}
 # By ID: GPS 1C, 2L and 5Q; Galileo 1C, 6C, 7Q and 5Q.
 SIGNALS = {"G": (2, 16, 23), "E": (2, 8, 15, 23)}
 PLAN = ["--gps", "1C,2L,5Q", "--galileo", "1C,6C,7Q,5Q"]
 MOST_PAIRS = 64
 STATION = 2003
+LEAP_SECONDS = 18
+# The channels of GLONASS slots, by the rest of the slot by 8.
+CHANNELS = (6, 1, -4, 5, -7, 0, -1, 3)
 POSITION = (40_278_817_000, 3_306_800_000, 49_199_122_000)
 CRC_TABLE = []
 for _byte in range(256):
@@ -76,6 +84,12 @@ def pieces(items: list[int], size: int) -> list[list[int]]:
     return [items[n : n + size] for n in range(0, len(items), size)]
 
 
+def time_sent(system: str, time: int) -> int:
+    """Returns the 30 bits of the time of a system at a GPS time in ms."""
+    own = (time - AHEAD[system] - (1000 * LEAP_SECONDS if system == "R" else 0)) % WEEK
+    return own // DAY << 27 | own % DAY if system == "R" else own
+
+
 class System:
     """The satellites of a system: each moves at its own speed, and loses a lock now and then."""
 
@@ -88,6 +102,10 @@ class System:
         # m/s in units of 0.0001
         self.rate = {satellite: draw.randrange(-7_000_000, 7_000_000) for satellite in ids}
         self.locked_at = {(satellite, signal): 0 for satellite in ids for signal in form.signals[system]}
+
+    def extended(self, satellites: list[int]) -> list[int]:
+        """Returns the extended information: for GLONASS the channels and 7."""
+        return [CHANNELS[slot % 8] + 7 if self.system == "R" else 0 for slot in satellites]
 
     def parts(self) -> list[Part]:
         """Returns the satellites and signals of the messages of an epoch, in the order in which they are sent."""
@@ -128,12 +146,12 @@ class System:
         number = FIRST_NUMBERS[self.system] + 7
         of_satellites = {
             "whole": [at >> 10 for at in rough],
-            "extended": [0] * len(rough),
+            "extended": self.extended(satellites),
             "part": rough,
             "speed": speeds,
         }
         pairs = pairs_of(satellites, signals)
-        sent_time = (time - AHEAD[self.system]) % WEEK
+        sent_time = time_sent(self.system, time)
         sent = Fields(number, STATION, sent_time, more, satellites, signals, pairs, of_satellites, cells)
         return as_form(sent, msm or self.form.msm).message()
 
