@@ -54,6 +54,11 @@ class Form:
 
 
 PLAIN = Form()
+# Four systems as receivers send them: besides GPS and Galileo GLONASS 1C and 2C, and BeiDou 2I, 6I and 1P.
+FOUR = Form(
+    SATELLITES | {"R": 9, "C": 14},
+    SIGNALS | {"R": (2, 8), "C": (2, 8, 31)},
+)
 
 
 def frame_of(message: bytes) -> bytes:
