@@ -60,8 +60,7 @@ pub next_right : (x : ℕ) → x < 2 ^ 24 → (next_entry x < 2 ^ 24) × (uint 2
 next_right x b =
     let i : x / 65536 < 256 = omega (arith, b) in
     let e : get_or TABLES (x / 65536) 0 ≡ crc (bit_xor (x / 65536) 0 ∷ []) = table_right (x / 65536) i ∙ ap (λ (n : ℕ). crc (n ∷ [])) (sym (xor_zero_r (x / 65536))) in
-    let a : bit_and x 65535 ≡ x % 65536 = and_mask x 16 in
-    let l : bit_and x 65535 * 256 < 2 ^ 24 = omega (arith, a) in
+    let l : bit_and x 65535 * 256 < 2 ^ 24 = omega (arith, and_mask x 16) in
     let r : get_or TABLES (x / 65536) 0 < 2 ^ 24 = rw e (check_below (bit_xor (x / 65536) 0 ∷ [])) in (
       xor_lt 24 (bit_and x 65535 * 256) (get_or TABLES (x / 65536) 0) l r,
       table_step x (next_entry x) 0 (get_or TABLES (x / 65536) 0) b (lit< tt) e refl,

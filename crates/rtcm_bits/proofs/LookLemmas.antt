@@ -1,6 +1,6 @@
 -- The counts of looks of a window. Only the first ones are stored.
-use Rattle.rtcm_bits.proofs.Names.{◌≡◌, ℕ, ◌+◌, ◌-◌, ◌<◌, ◌≤◌, min, max, List, [], ◌∷◌, ◌++◌, length, drop, replicate, slice_index, slice_set, refl, sym, ap, ◌∙◌, arith, suc, zero, length-append, length-drop, append_assoc, ⊎_elim, ltb, get_or, Bool, true, false, drop-append-le, drop-replicate, drop-set-lt, get_or-append-add, get_or-append_right, get_or-drop, get_or_append_left, get_or-replicate, get_or-set_other, length-replicate, length-set, replicate-append-replicate, set-append_left, cases_lt, drop-append-add, get_or-append_seam, set-append_seam, Buffer, buffer, WindowValue, held_of, filled_up, counts_alone, looked_through, pushed_all, without_front, lt-ltb, le-ltb, get_or_default}
-use Rattle.rtcm_bits.proofs.WindowLemmas.{AgreeFrom, shifted, through_counts}
+use Rattle.rtcm_bits.proofs.Names.{◌≡◌, ℕ, ◌+◌, ◌-◌, ◌<◌, ◌≤◌, min, max, List, [], ◌∷◌, ◌++◌, length, drop, replicate, slice_index, slice_set, refl, sym, ap, ◌∙◌, arith, suc, zero, length-append, length-drop, append_assoc, ⊎_elim, get_or, drop-append-le, drop-replicate, drop-set-lt, get_or-append-add, get_or-append_right, get_or_append_left, get_or-replicate, get_or-set_other, length-replicate, replicate-append-replicate, set-append_left, cases_lt, drop-append-add, get_or-append_seam, set-append_seam, Buffer, buffer, WindowValue, held_of, filled_up, counts_alone, looked_through, pushed_all, without_front}
+use Rattle.rtcm_bits.proofs.WindowLemmas.{AgreeFrom, looked_length, shifted, through_counts}
 
 -- the sums of a window before and after looks at k bytes: e and e' count all looks, m is the largest count after them
 pub record AreSums (e e' k m largest : ℕ) : Type 0 where
@@ -28,17 +28,18 @@ filled_out xs ys o n k e h g =
     let z : n - (k + 0) ≡ n - k = omega arith in
     rw (e, l, z) (sym (ap (filled_up xs o) m ∙ r))
 
--- the first look at a byte after those with a count
-first_at : (ys : List ℕ) (z i : ℕ) → i ≡ length ys → (slice_index (ys ++ replicate (suc z) 0) i ≡ 0) × (slice_set (ys ++ replicate (suc z) 0) i 1 ≡ ys ++ (1 ∷ replicate z 0))
-first_at ys z i e = rw e (get_or-append_seam ys 0 (replicate z 0) 0, set-append_seam ys 0 (replicate z 0) 1)
+-- the count after those listed
+count_at : (ys zs : List ℕ) (x y i : ℕ) → i ≡ length ys → (slice_index (ys ++ x ∷ zs) i ≡ x) × (slice_set (ys ++ x ∷ zs) i y ≡ ys ++ y ∷ zs)
+count_at ys zs x y i e = rw e (get_or-append_seam ys x zs 0, set-append_seam ys x zs y)
 
+-- the first look at a byte after those with a count
 first_look : (xs : List ℕ) (o p n i : ℕ) → i ≡ length xs + o → p ≡ o + 1 → i < n
     → (slice_index (filled_up xs o n) i ≡ 0) × (slice_set (filled_up xs o n) i 1 ≡ filled_up xs p n)
 first_look xs o p n i e f h =
     let z : n - (length xs + o) ≡ suc (n - (length xs + (o + 1))) = omega (arith, e, h) in
     let r : replicate {A = ℕ} (o + 1) 1 ≡ replicate o 1 ++ 1 ∷ [] = sym (replicate-append-replicate o 1 1) in
     let k : i ≡ length (xs ++ replicate o 1) = simp (length-append, length-replicate) e in
-    let a = first_at (xs ++ replicate o 1) (n - (length xs + (o + 1))) i k in
+    let a = count_at (xs ++ replicate o 1) (replicate (n - (length xs + (o + 1))) 0) 0 1 i k in
     let s : xs ++ (replicate o 1 ++ replicate (suc (n - (length xs + (o + 1)))) 0) ≡ (xs ++ replicate o 1) ++ replicate (suc (n - (length xs + (o + 1)))) 0 =
     sym (append_assoc xs (replicate o 1) (replicate (suc (n - (length xs + (o + 1)))) 0)) in
     let t : xs ++ ((replicate o 1 ++ 1 ∷ []) ++ replicate (n - (length xs + (o + 1))) 0) ≡ (xs ++ replicate o 1) ++ (1 ∷ replicate (n - (length xs + (o + 1))) 0) = simp append_assoc in
@@ -59,14 +60,11 @@ first_looks {e} b xs o n m (suc k) h g =
     rw (r, f.0, f.1, y, x) refl
 
 -- the second look at the first byte looked at once
-second_at : (xs zs : List ℕ) → (slice_index (xs ++ (1 ∷ zs)) (length xs) ≡ 1) × (slice_set (xs ++ (1 ∷ zs)) (length xs) 2 ≡ xs ++ (2 ∷ zs))
-second_at xs zs = (get_or-append_seam xs 1 zs 0, set-append_seam xs 1 zs 2)
-
 second_look : (xs : List ℕ) (p n : ℕ) → (slice_index (filled_up xs (suc p) n) (length xs) ≡ 1)
     × (slice_set (filled_up xs (suc p) n) (length xs) 2 ≡ filled_up (xs ++ 2 ∷ []) p n)
 second_look xs p n =
     let l : length (xs ++ 2 ∷ []) + p ≡ length xs + suc p = simp length-append (omega arith) in
-    let a = second_at xs (replicate p 1 ++ replicate (n - (length xs + suc p)) 0) in
+    let a = count_at xs (replicate p 1 ++ replicate (n - (length xs + suc p)) 0) 1 2 (length xs) refl in
     let t : (xs ++ 2 ∷ []) ++ (replicate p 1 ++ replicate (n - (length xs + suc p)) 0) ≡ xs ++ (2 ∷ (replicate p 1 ++ replicate (n - (length xs + suc p)) 0)) = simp append_assoc in
     rw (l, t) a
 
@@ -78,17 +76,12 @@ second_look_at {b} {q} {s} xs v g i z y t =
     rw (t.sum, t.most, y, z, ← v, i, j, a.0, a.1) refl
 
 -- looks at the stored counts
-pub looked_length : (xs : List ℕ) (m s n : ℕ) → length (looked_through (counts_alone xs m) s n).looks ≡ length xs
-looked_length xs m s zero = refl
-looked_length xs m s (suc n) = length-set (looked_through (counts_alone xs m) s n).looks (s + n) _ ∙ looked_length xs m s n
-
 one_in_front : {zs : List ℕ} {i m k : ℕ} (xs ys : List ℕ) → zs ≡ xs ++ ys → i < length xs → k ≡ m
     → (slice_set zs i (min (slice_index zs i + 1) 65535) ≡ slice_set xs i (min (slice_index xs i + 1) 65535) ++ ys)
     × (max k (min (slice_index zs i + 1) 65535) ≡ max m (min (slice_index xs i + 1) 65535))
 one_in_front {i} {m} xs ys e h f =
-    let g : slice_index (xs ++ ys) i ≡ slice_index xs i = get_or_append_left xs ys 0 i h in
     let p : slice_set (xs ++ ys) i (min (slice_index xs i + 1) 65535) ≡ slice_set xs i (min (slice_index xs i + 1) 65535) ++ ys = set-append_left xs ys i (min (slice_index xs i + 1) 65535) h in
-    rw (e, f, g) (p, refl)
+    rw (e, f, get_or_append_left xs ys 0 i h) (p, refl)
 
 pub in_front : (xs ys : List ℕ) (m s n : ℕ) → s + n ≤ length xs
     → ((looked_through (counts_alone (xs ++ ys) m) s n).looks ≡ (looked_through (counts_alone xs m) s n).looks ++ ys)
@@ -96,7 +89,7 @@ pub in_front : (xs ys : List ℕ) (m s n : ℕ) → s + n ≤ length xs
 in_front xs ys m s zero h = (refl, refl)
 in_front xs ys m s (suc n) h =
     let r = in_front xs ys m s n (omega (arith, h)) in
-    let l : s + n < length (looked_through (counts_alone xs m) s n).looks = omega (arith, h, looked_length xs m s n) in
+    let l : s + n < length (looked_through (counts_alone xs m) s n).looks = omega (arith, h, looked_length (counts_alone xs m) s n) in
     one_in_front (looked_through (counts_alone xs m) s n).looks ys r.0 l r.1
 
 -- looks at bytes whose counts are the first of the stored ones from f on
@@ -108,7 +101,7 @@ later_looks {b} {e} {m} {k} xs o f s v h p q =
     let t = shifted xs f m s k in
     let l : s + k ≤ length (drop f xs) = omega (arith, h, length-drop f xs) in
     let i = in_front (drop f xs) (replicate o 1 ++ replicate (n - (length (drop f xs) + o)) 0) m s k l in
-    let j : length (looked_through (counts_alone (drop f xs) m) s k).looks ≡ length (drop f xs) = looked_length (drop f xs) m s k in
+    let j : length (looked_through (counts_alone (drop f xs) m) s k).looks ≡ length (drop f xs) = looked_length (counts_alone (drop f xs) m) s k in
     rw (p, q.most, q.sum, t.0, t.1, ← v, through_counts b (filled_up (drop f xs) o n) e m s k q.few, i.0, i.1, j) refl
 
 -- without the first bytes
@@ -143,8 +136,7 @@ first_looks_at {b} {m} {k} xs o v h g t =
 pub view_grown : {b' : Buffer ℕ} {e m : ℕ} {w : WindowValue} (b : Buffer ℕ) (more xs : List ℕ) (o : ℕ) → held_of b.items (filled_up xs o (length b.items)) e m ≡ w
     → b' ≡ buffer (b.items ++ more) b.capacity → length xs + o ≤ length b.items → held_of b'.items (filled_up xs o (length b'.items)) e m ≡ pushed_all w more
 view_grown b more xs o v x h =
-    let l : length (b.items ++ more) ≡ length b.items + length more = length-append b.items more in
-    rw (x, l, filled_more xs o (length b.items) (length more) h, ← v) refl
+    rw (x, length-append b.items more, filled_more xs o (length b.items) (length more) h, ← v) refl
 
 -- the last bytes of the ring, when no count is stored
 pub view_dropped : {b b' ys : List ℕ} {p e m j n : ℕ} {w : WindowValue} (xs : List ℕ) (o : ℕ) → held_of b (filled_up xs o (length b)) e m ≡ w
@@ -176,10 +168,8 @@ last_stored {b} {e} {m} {k} xs f o s v h t d l =
 seen_twice : (xs : List ℕ) (m s k : ℕ) → slice_index xs s ≡ 1 → ((j : ℕ) → slice_index xs (s + j) ≤ 1) → (looked_through (counts_alone xs m) s (suc k)).most ≡ max m 2
 seen_twice xs m s zero f g = let z : s + 0 ≡ s = omega arith in rw (z, f) refl
 seen_twice xs m s (suc k) f g =
-    let i = seen_twice xs m s k f g in
     let a = same_at xs m s (suc k) (s + suc k) (omega arith) in
-    let b = g (suc k) in
-    rw (i, a) (at_most m (slice_index xs (s + suc k)) b)
+    rw (seen_twice xs m s k f g, a) (at_most m (slice_index xs (s + suc k)) (g (suc k)))
   where
     at_most : (m n : ℕ) → n ≤ 1 → max (max m 2) (min (n + 1) 65535) ≡ max m 2
     at_most m n h = grind arith
@@ -220,20 +210,3 @@ last_looks {b} {e} {m} {s} {k} xs o v h g p t d l =
 
     sum_back : (x s j : ℕ) → x ≤ s → s ≡ x + (s - x + 0)
     sum_back x s j h = omega (arith, h)
-
--- the number of looks at a byte with a stored count, and at one without
-pub looks_stored : {b : List ℕ} {e m i r : ℕ} {w : WindowValue} (xs : List ℕ) (f o : ℕ) → held_of b (filled_up (drop f xs) o (length b)) e m ≡ w → i < length (drop f xs)
-    → r ≡ get_or xs (f + i) r → r ≡ slice_index w.looks i
-looks_stored {b} {i} {r} xs f o v h g =
-    rw (← v, get_or_append_left (drop f xs) (replicate o 1 ++ replicate (length b - (length (drop f xs) + o)) 0) 0 i h, get_or_default (drop f xs) i 0 r h, get_or-drop f xs i r) g
-
-pub looks_at_once : {b : List ℕ} {e m i r : ℕ} {w : WindowValue} (xs : List ℕ) (o : ℕ) (f : Bool → ℕ) → held_of b (filled_up xs o (length b)) e m ≡ w → length xs ≤ i
-    → r ≡ f (ltb i (length xs + o)) → f true ≡ 1 → f false ≡ 0 → r ≡ slice_index w.looks i
-looks_at_once {b} {i} xs o f v h g p q =
-    let n = length b in
-    let j : i ≡ length xs + (i - length xs) = omega (arith, h) in
-    let z : ℕ = n - (length xs + o) in
-    rw (← v) (g ∙ ⊎_elim
-    (λ (k : i < length xs + o). ap f (lt-ltb i (length xs + o) k) ∙ p ∙ sym (ap (slice_index (filled_up xs o n)) j ∙ at_once xs o z (i - length xs) (omega (arith, h, k))))
-    (λ (k : length xs + o ≤ i). ap f (le-ltb i (length xs + o) k) ∙ q ∙ sym (ap (slice_index (filled_up xs o n)) j ∙ not_once xs o z (i - length xs) (omega (arith, h, k))))
-    (cases_lt i (length xs + o)))

@@ -27,8 +27,7 @@ pub part_of_byte : (byte skip n : ℕ) → skip + n ≤ 8 → byte / 2 ^ (8 - sk
 part_of_byte byte skip n h =
     let e : skip + (n + (8 - skip - n)) ≡ 8 = omega arith in
     let p = part-uint skip n (8 - skip - n) byte in
-    let s : (1 * 2 ^ n) % 2 ^ 64 ≡ 2 ^ n = one_shl n 64 (omega arith) in
-    rw s (sym (rw e at p))
+    rw (one_shl n 64 (omega arith)) (sym (rw e at p))
 
 -- the bits of one byte among those of all
 pub part_of_bytes : (xs : List ℕ) (q r n : ℕ) → 8 * q + r + n ≤ 8 * length xs → r + n ≤ 8 → take n (drop (8 * q + r) (bits_of xs)) ≡ take n (drop r (uint 8 (get_or xs q 0)))

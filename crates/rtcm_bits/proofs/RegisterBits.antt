@@ -6,9 +6,7 @@ pub uint-cat : (w a k b : ℕ) → w ≤ k → uint w (a * 2 ^ k + b) ≡ uint w
 unfolding uint
 uint-cat zero a k b h = refl
 uint-cat (suc w) a k b h =
-    let e : bit_at (a * 2 ^ k + b) w ≡ bit_at b w = bit_at_cat_low a k b w (omega arith) in
-    let f : uint w (a * 2 ^ k + b) ≡ uint w b = uint-cat w a k b (omega arith) in
-    rw (e, f) refl
+    rw (bit_at_cat_low a k b w (omega arith), uint-cat w a k b (omega arith)) refl
 
 pub uint-mod : (w k n : ℕ) → w ≤ k → uint w (n % 2 ^ k) ≡ uint w n
 uint-mod w k n h = sym (uint-cat w (n / 2 ^ k) k (n % 2 ^ k) h) ∙ ap (uint w) (div-add-mod' n (2 ^ k))
@@ -37,7 +35,5 @@ pub uint-xor : (w a b : ℕ) → uint w (bit_xor a b) ≡ add_front (uint w a) (
 unfolding uint add_front
 uint-xor zero a b = refl
 uint-xor (suc w) a b =
-    let e : bit_at (bit_xor a b) w ≡ (bit_at a w + bit_at b w) % 2 = bit_at_xor a b w in
-    let f : eqb ((bit_at a w + bit_at b w) % 2) 1 ≡ plus (odd (a / 2 ^ w)) (odd (b / 2 ^ w)) = plus_is (bit_at a w) (bit_at b w) (bit_at-lt a w) (bit_at-lt b w) in
     let t : uint w (bit_xor a b) ≡ add_front (uint w a) (uint w b) = uint-xor w a b in
-    rw (e, f, t) refl
+    rw (bit_at_xor a b w, plus_is (bit_at a w) (bit_at b w) (bit_at-lt a w) (bit_at-lt b w), t) refl

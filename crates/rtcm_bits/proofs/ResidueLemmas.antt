@@ -55,25 +55,21 @@ step_none (true ∷ r) l h =
     get_or-add_front (drop 1 generator) (r ++ false ∷ []) 23 (omega (arith, length-generator)) (length-generator ∙ sym n) in
     let z : get_or (r ++ false ∷ []) 23 false ≡ false = get_or_push r false false 23 (omega (arith, l)) in
     let y : plus (get_or (drop 1 generator) 23 false) (get_or (r ++ false ∷ []) 23 false) ≡ true = rw (last_generator, z) refl in
-    let x : get_or (replicate 24 false) 23 false ≡ true = ap (λ q. get_or q 23 false) (sym h) ∙ g ∙ y in
-    absurd (true≢false (sym x))
+    absurd (true≢false (sym (ap (λ q. get_or q 23 false) (sym h) ∙ g ∙ y)))
 step_none (false ∷ r) l h =
     let e : take 23 (r ++ false ∷ []) ≡ take 23 r = take-append-le 23 r (false ∷ []) (omega (arith, l)) in
     let f : take 23 r ≡ r = take_all 23 r (omega (arith, l)) in
-    let g : r ≡ replicate 23 false = sym f ∙ sym e ∙ ap (take 23) h in
-    ap (λ q. false ∷ q) g
+    ap (λ q. false ∷ q) (sym f ∙ sym e ∙ ap (take 23) h)
 
 steps_none : (k : ℕ) (r : List Bool) → length r ≡ 24 → after_bits r (replicate k false) ≡ replicate 24 false → r ≡ replicate 24 false
 unfolding after_bits
 steps_none zero r l h = h
 steps_none (suc k) r l h =
-    let m : length (after_bit r false) ≡ 24 = length-after_bit r false (omega arith) ∙ l in
-    step_none r l (steps_none k (after_bit r false) m h)
+    step_none r l (steps_none k (after_bit r false) (length-after_bit r false (omega arith) ∙ l) h)
 
 -- a register and 24 further bits
 sum_after : (r n : List Bool) → length r ≡ 24 → length n ≡ 24 → after_bits r n ≡ after_bits (add_front r n) (replicate 24 false)
 sum_after r n l k =
-    let d = add_front r n in
     let m : length (add_front r n) ≡ 24 = length-add_front r n ∙ k in
     let z : length (replicate 24 false) ≡ 24 = length-replicate 24 false in
     let a : remainder (length n) (add_front r (n ++ replicate 24 false)) ≡ after_bits r n = divide_all r n l in
@@ -138,9 +134,8 @@ number_zeros = refl
 
 bits_same : (r n : List Bool) → length r ≡ 24 → length n ≡ 24 → number r ≡ number n → r ≡ n
 bits_same r n l k e =
-    let a : uint 24 (number r) ≡ r = ap (λ q. uint q (number r)) (sym l) ∙ uint-number r 0 in
     let b : uint 24 (number n) ≡ n = ap (λ q. uint q (number n)) (sym k) ∙ uint-number n 0 in
-    sym a ∙ ap (uint 24) e ∙ b
+    sym (ap (λ q. uint q (number r)) (sym l) ∙ uint-number r 0) ∙ ap (uint 24) e ∙ b
 
 -- the remainder is 0 if the three bytes after a message are its CRC
 pub residue_check : (m : List ℕ) (x y z : ℕ) → x < 256 → y < 256 → z < 256 → crc (m ++ x ∷ y ∷ z ∷ []) ≡ 0 → x * 65536 + y * 256 + z ≡ crc m
@@ -150,8 +145,7 @@ residue_check m x y z h k l e =
     let n = length-bits_remainder (bits_of m) in
     let p : length (after_bits r (three x y z)) ≡ 24 = length-after_bits r (three x y z) (omega arith) ∙ n in
     let a : after_bits r (three x y z) ≡ replicate 24 false = bits_same _ _ p (length-replicate 24 false) (sym (check_three m x y z) ∙ e ∙ sym number_zeros) in
-    let s : r ≡ three x y z = after_none r (three x y z) n (length-three x y z) a in
-    sym (ap number s ∙ number-three x y z h k l)
+    sym (ap number (after_none r (three x y z) n (length-three x y z) a) ∙ number-three x y z h k l)
 
 pub residue_none : (m : List ℕ) (x y z : ℕ) → x < 256 → y < 256 → z < 256 → x * 65536 + y * 256 + z ≡ crc m → crc (m ++ x ∷ y ∷ z ∷ []) ≡ 0
 unfolding crc

@@ -103,8 +103,6 @@ uint-none = refl
 pub table_step : (x y b t : ℕ) → x < 2 ^ 24 → b < 256 → t ≡ crc (bit_xor (x / 65536) b ∷ []) → y ≡ bit_xor (bit_and x 65535 * 256) t → uint 24 y ≡ after_bits (uint 24 x) (uint 8 b)
 unfolding bits_of
 table_step x y b t h k e f =
-    let hi = x / 65536 in
-    let lo = x % 65536 in
     let i = bit_xor (x / 65536) b in
     let m : bit_and x 65535 ≡ x % 65536 = and_mask x 16 in
     let sp : uint 24 x ≡ uint 8 (x / 65536) ++ uint 16 (x % 65536) = ap (uint 24) (sym (div-add-mod' x (2 ^ 16))) ∙ uint-split 8 16 (x / 65536) (x % 65536) (omega arith) in
@@ -119,11 +117,9 @@ table_step x y b t h k e f =
 -- the register moved up by a byte
 pub moved_up : (x t : ℕ) → bit_xor (bit_and x 65535 * 256 % 4294967296) t ≡ bit_xor (bit_and x 65535 * 256) t
 moved_up x t =
-    let m : bit_and x 65535 ≡ x % 65536 = and_mask x 16 in
-    ap (λ q. bit_xor q t) (mod-eq_of_lt (rw m (omega arith)))
+    ap (λ q. bit_xor q t) (mod-eq_of_lt (rw (and_mask x 16) (omega arith)))
 
 pub table_below : (x t i : ℕ) → t ≡ crc (i ∷ []) → bit_xor (bit_and x 65535 * 256 % 4294967296) t < 2 ^ 24
 table_below x t i e =
-    let m : bit_and x 65535 ≡ x % 65536 = and_mask x 16 in
     let b : crc (i ∷ []) < 2 ^ 24 = check_below (i ∷ []) in
-    xor_lt 24 (bit_and x 65535 * 256 % 4294967296) t (rw m (omega arith)) (rw e b)
+    xor_lt 24 (bit_and x 65535 * 256 % 4294967296) t (rw (and_mask x 16) (omega arith)) (rw e b)

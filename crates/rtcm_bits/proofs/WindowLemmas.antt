@@ -1,5 +1,5 @@
 -- The calls of a window and its ring, as the contracts state them.
-use Rattle.rtcm_bits.proofs.Names.{◌≡◌, ◌≢◌, ℕ, ◌+◌, ◌-◌, ◌<◌, ◌≤◌, min, max, List, [], ◌∷◌, ◌++◌, length, take, drop, slice_index, slice_range, slice_set, refl, sym, ap, ◌∙◌, arith, suc, zero, length-append, length-drop, ⊎_elim, cases_lt, drop-append-le, drop-drop, drop-set-add, get_or-drop, take_all, take_rest, take-append-add, drop-append-add, Buffer, buffer, WindowValue, held_of, counts_alone, looked_through, pushed, pushed_all, without_front, All, get_or_default}
+use Rattle.rtcm_bits.proofs.Names.{◌≡◌, ◌≢◌, ℕ, ◌+◌, ◌-◌, ◌<◌, ◌≤◌, min, max, List, [], ◌∷◌, ◌++◌, length, take, drop, slice_index, slice_range, slice_set, refl, sym, ap, ◌∙◌, arith, suc, zero, length-append, length-drop, length-set, ⊎_elim, cases_lt, drop-append-le, drop-drop, drop-set-add, get_or-drop, take_all, take_rest, take-append-add, drop-append-add, Buffer, buffer, WindowValue, held_of, counts_alone, looked_through, pushed, pushed_all, without_front, All, get_or_default}
 
 -- the counts of a range don't depend on the bytes, nor on the sum of all looks
 pub through_counts : (b xs : List ℕ) (e m start n : ℕ) → e ≤ 18446744073709551615 →
@@ -32,26 +32,41 @@ shifted xs f m start (suc n) =
     let r = shifted xs f m start n in
     one_more (looked_through (counts_alone xs m) (f + start) n).looks f (f + start + n) (start + n) (omega arith) r.0 r.1
 
+-- looks leave the bytes, and the number of counts
+pub looked_bytes : (w : WindowValue) (start n : ℕ) → (looked_through w start n).bytes ≡ w.bytes
+looked_bytes w start zero = refl
+looked_bytes w start (suc n) = looked_bytes w start n
+
+pub looked_length : (w : WindowValue) (start n : ℕ) → length (looked_through w start n).looks ≡ length w.looks
+looked_length w start zero = refl
+looked_length w start (suc n) = length-set (looked_through w start n).looks (start + n) _ ∙ looked_length w start n
+
+pub looked_left : (w v : WindowValue) (start n m : ℕ) → v ≡ without_front (looked_through w start m) n → length v.bytes ≡ length w.bytes - n
+looked_left w v start n m e = ap (λ (t : WindowValue). length t.bytes) e ∙ length-drop n _ ∙ ap (λ (t : List ℕ). length t - n) (looked_bytes w start m)
+
 -- looks at consecutive ranges
-looked_on : (w : WindowValue) (s j k : ℕ) → looked_through (looked_through w s j) (s + j) k ≡ looked_through w s (j + k)
+pub looked_on : (w : WindowValue) (s j k : ℕ) → looked_through (looked_through w s j) (s + j) k ≡ looked_through w s (j + k)
 looked_on w s j zero = let z : j + 0 ≡ j = omega arith in rw z refl
 looked_on w s j (suc k) =
     let z : j + suc k ≡ suc (j + k) = omega arith in
     let a : s + (j + k) ≡ s + j + k = omega arith in
     rw (z, looked_on w s j k, a) refl
 
--- looks at the bytes after the first j, before or after those are dropped
-front_last : (w : WindowValue) (j k : ℕ) → looked_through (without_front w j) 0 k ≡ without_front (looked_through w j k) j
-front_last w j zero = refl
-front_last w j (suc k) =
-    let v = looked_through w j k in
-    let a = one_more {m = v.most} v.looks j (j + k) (0 + k) (omega arith) refl refl in
-    rw (front_last w j k, a.0, a.1) refl
+-- looks at bytes after the first f, before or after those are dropped
+pub looked_past : {i : ℕ} (w : WindowValue) (f s k : ℕ) → i ≡ f + s → looked_through (without_front w f) s k ≡ without_front (looked_through w i k) f
+looked_past w f s zero e = refl
+looked_past {i} w f s (suc k) e =
+    let v = looked_through w i k in
+    let a = one_more {m = v.most} v.looks f (i + k) (s + k) (omega (arith, e)) refl refl in
+    rw (looked_past w f s k e, a.0, a.1) refl
 
-pub looked_to : (w v : WindowValue) (n : ℕ) → v ≡ without_front (looked_through w 0 n) n → looked_through v 0 1 ≡ without_front (looked_through w 0 (n + 1)) n
-looked_to w v n e =
-    ap (λ (t : WindowValue). looked_through t 0 1) e ∙ front_last (looked_through w 0 n) n 1
-    ∙ ap (λ (t : WindowValue). without_front t n) (ap (λ (i : ℕ). looked_through (looked_through w 0 n) i 1) (omega arith) ∙ looked_on w 0 n 1)
+front_last : (w : WindowValue) (j k : ℕ) → looked_through (without_front w j) 0 k ≡ without_front (looked_through w j k) j
+front_last w j k = looked_past w j 0 k (omega arith)
+
+pub looked_to : (w v : WindowValue) (n k : ℕ) → v ≡ without_front (looked_through w 0 n) n → looked_through v 0 k ≡ without_front (looked_through w 0 (n + k)) n
+looked_to w v n k e =
+    ap (λ (t : WindowValue). looked_through t 0 k) e ∙ front_last (looked_through w 0 n) n k
+    ∙ ap (λ (t : WindowValue). without_front t n) (ap (λ (i : ℕ). looked_through (looked_through w 0 n) i k) (omega arith) ∙ looked_on w 0 n k)
 
 -- the same window once n of its first bytes or more are dropped
 abbrev pub AgreeFrom : ℕ → WindowValue → WindowValue → Type 0
@@ -76,11 +91,10 @@ range_seam : (f b : List ℕ) (s n u : ℕ) → s ≤ length f → length f ≤ 
 range_seam f b s n u h g i =
     let x : s - s ≡ 0 = omega arith in
     let w : s + n - length f - 0 ≡ s + n - length f = omega arith in
-    let d : drop s (f ++ b) ≡ drop s f ++ b = drop-append-le s f b h in
     let r : take (length f - s) (drop s f) ≡ drop s f = take_rest f s in
     let m : n ≡ length (drop s f) + (s + n - length f) = omega (arith, h, g, length-drop s f) in
     let t : take (length (drop s f) + (s + n - length f)) (drop s f ++ b) ≡ drop s f ++ take (s + n - length f) b = take-append-add (drop s f) b (s + n - length f) in
-    rw (i, x, w, d, r) (sym (ap (λ q. take q (drop s f ++ b)) m ∙ t))
+    rw (i, x, w, drop-append-le s f b h, r) (sym (ap (λ q. take q (drop s f ++ b)) m ∙ t))
 
 range_second : (f b : List ℕ) (s n u : ℕ) → length f ≤ s → u ≡ length f
     → take (length f - u) (drop u f) ++ take (s + n - length f - (s - u)) (drop (s - u) b) ≡ take n (drop s (f ++ b))
@@ -121,5 +135,4 @@ all_bytes xs h k d l = rw (get_or_default xs k d 0 l) (h k)
 pub others_on : {w : List ℕ} {n byte : ℕ} (f b : List ℕ) → f ++ b ≡ w → n ≤ length f + length b → ((i : ℕ) → i < n → slice_index (f ++ b) i ≢ byte)
     → (n < length f + length b → slice_index (f ++ b) n ≡ byte) → (n ≤ length w) × ((i : ℕ) → i < n → slice_index w i ≢ byte) × (n < length w → slice_index w n ≡ byte)
 others_on f b e h o s =
-    let l : length (f ++ b) ≡ length f + length b = length-append f b in
-    rw (← e, l) (h, o, s)
+    rw (← e, length-append f b) (h, o, s)

@@ -1,5 +1,5 @@
 -- A number that is read from eight bytes at once.
-use Rattle.rtcm_bits.proofs.Names.{◌≡◌, ℕ, ◌+◌, ◌-◌, ◌*◌, ◌/◌, ◌%◌, ◌^◌, ◌<◌, ◌≤◌, Bool, List, [], ◌∷◌, ◌++◌, length, take, drop, get_or, refl, sym, ap, ◌∙◌, arith, take-append-drop, length-drop, lit<, from_be_bytes, w64, field_of, shl-shr, shr-shr, take-take, drop-take, drop-drop, length-take-le, get_or-take, get_or-drop, take-append_seam, drop-append_seam, uint, number, number_from, bits_of, length-bits_of, bits_of-append, number-uint, uint-number}
+use Rattle.rtcm_bits.proofs.Names.{◌≡◌, ℕ, ◌+◌, ◌-◌, ◌*◌, ◌/◌, ◌%◌, ◌^◌, ◌<◌, ◌≤◌, Bool, List, [], ◌∷◌, ◌++◌, length, take, drop, get_or, refl, sym, ap, ◌∙◌, arith, take-append-drop, length-drop, lit<, from_be_bytes, w64, field_of, shl-shr, shr-shr, take-take, drop-take, drop-drop, length-take-le, get_or-take, get_or-drop, take_at, drop_at, uint, number, number_from, bits_of, length-bits_of, bits_of-append, number-uint, uint-number}
 use Rattle.rtcm_bits.proofs.BitLemmas.{number-append}
 use Rattle.rtcm_bits.proofs.PartLemmas.{part-uint, Next, next_part}
 use Rattle.rtcm_bits.proofs.ListLemmas.{eight_of}
@@ -41,18 +41,12 @@ word_bits xs n h b e =
     ∙ sym e in
     ap (uint 64) (sym v) ∙ ap (λ (k : ℕ). uint k (number (bits_of xs))) (sym l) ∙ uint-number (bits_of xs) 0
 
--- the bits of a range of bytes
-bits_of-drop : (xs : List ℕ) (m : ℕ) → m ≤ length xs → drop (8 * m) (bits_of xs) ≡ bits_of (drop m xs)
-bits_of-drop xs m h =
+-- the bits of the first m bytes, and of the others
+bits_of-cut : (xs : List ℕ) (m : ℕ) → m ≤ length xs → (take (8 * m) (bits_of xs) ≡ bits_of (take m xs)) × (drop (8 * m) (bits_of xs) ≡ bits_of (drop m xs))
+bits_of-cut xs m h =
     let l : length (bits_of (take m xs)) ≡ 8 * m = omega (arith, length-bits_of (take m xs), length-take-le m xs h) in
-    ap (λ (t : List ℕ). drop (8 * m) (bits_of t)) (sym (take-append-drop m xs)) ∙ ap (drop (8 * m)) (bits_of-append (take m xs) (drop m xs))
-    ∙ ap (λ (n : ℕ). drop n (bits_of (take m xs) ++ bits_of (drop m xs))) (sym l) ∙ drop-append_seam (bits_of (take m xs)) (bits_of (drop m xs))
-
-bits_of-take : (xs : List ℕ) (m : ℕ) → m ≤ length xs → take (8 * m) (bits_of xs) ≡ bits_of (take m xs)
-bits_of-take xs m h =
-    let l : length (bits_of (take m xs)) ≡ 8 * m = omega (arith, length-bits_of (take m xs), length-take-le m xs h) in
-    ap (λ (t : List ℕ). take (8 * m) (bits_of t)) (sym (take-append-drop m xs)) ∙ ap (take (8 * m)) (bits_of-append (take m xs) (drop m xs))
-    ∙ ap (λ (n : ℕ). take n (bits_of (take m xs) ++ bits_of (drop m xs))) (sym l) ∙ take-append_seam (bits_of (take m xs)) (bits_of (drop m xs))
+    let e : bits_of xs ≡ bits_of (take m xs) ++ bits_of (drop m xs) = ap bits_of (sym (take-append-drop m xs)) ∙ bits_of-append (take m xs) (drop m xs) in
+    (ap (take (8 * m)) e ∙ take_at _ _ (8 * m) l, ap (drop (8 * m)) e ∙ drop_at _ _ (8 * m) l)
 
 -- eight bytes from one of them on
 pub word_of_range : (xs : List ℕ) (first m n : ℕ) → m ≡ 8 → first + 8 ≤ length xs → ((i : ℕ) → get_or xs i 0 < 256)
@@ -64,8 +58,8 @@ word_of_range xs first m n k h b e =
     let l : length (take m (drop first xs)) ≡ 8 = rw k (length-take-le 8 (drop first xs) (omega (arith, d, h))) in
     let c : (i : ℕ) → i < 8 → get_or (take m (drop first xs)) i 0 < 256 =
     λ i j. let f : get_or (take m (drop first xs)) i 0 ≡ get_or xs (first + i) 0 = ap (λ (q : ℕ). get_or (take q (drop first xs)) i 0) k ∙ get_or-take 8 (drop first xs) i 0 j ∙ get_or-drop first xs i 0 in rw f (b (first + i)) in
-    word_bits (take m (drop first xs)) n l c e ∙ ap (λ (q : ℕ). bits_of (take q (drop first xs))) k ∙ sym (bits_of-take (drop first xs) 8 (omega (arith, d, h)))
-    ∙ ap (take 64) (sym (bits_of-drop xs first (omega (arith, h))))
+    word_bits (take m (drop first xs)) n l c e ∙ ap (λ (q : ℕ). bits_of (take q (drop first xs))) k ∙ sym (bits_of-cut (drop first xs) 8 (omega (arith, d, h))).0
+    ∙ ap (take 64) (sym (bits_of-cut xs first (omega (arith, h))).1)
 
 -- bits among those of a word
 pub within_word : (l : List Bool) (at skip width place : ℕ) → skip + width ≤ 64 → place ≡ at + skip → take width (drop skip (take 64 (drop at l))) ≡ take width (drop place l)
@@ -83,11 +77,10 @@ in_nine {skip} {width} {high} {low} xs first h i j k f g =
     let rest : ℕ = skip + width - 64 in
     let place : ℕ = 8 * first + skip in
     let at : ℕ = 8 * first + 64 in
-    let e : at - place ≡ 64 - skip = omega arith in
     let m : at % 8 ≡ 0 = omega arith in
     let d : at / 8 ≡ first + 8 = omega arith in
     let v : high ≡ number (take (at - place) (drop place l)) =
     f ∙ ap number (within_word l (8 * first) skip (64 - skip) place (omega arith) refl)
-    ∙ ap (λ (n : ℕ). number (take n (drop place l))) (sym e) in
+    ∙ ap (λ (n : ℕ). number (take n (drop place l))) (sym (omega arith)) in
     let p : low ≡ number (take rest (drop (at % 8) (uint 8 (get_or xs (at / 8) 0)))) = rw (m, d) g in
     next_part {place = place} {at = at} xs rest (omega arith) (omega arith) (omega arith) (omega arith) v p

@@ -11,9 +11,8 @@ pub record Part (k n p b : ℕ) : Type 0 where
 
 pub part_is : (k n p b : ℕ) → k + n ≤ 8 → p < 2 ^ k → b < 2 ^ n → Part k n p b
 part_is k n p b h f g =
-    let e : 2 ^ (k + n) ≡ 2 ^ k * 2 ^ n = pow-add 2 k n in
     let m : 2 ^ (k + n) ≤ 2 ^ 8 = pow-le-pow_right (omega arith) h in
-    let l : p * 2 ^ n + b < 2 ^ (k + n) = rw e (join p (2 ^ k) b (2 ^ n) f g) in
+    let l : p * 2 ^ n + b < 2 ^ (k + n) = rw (pow-add 2 k n) (join p (2 ^ k) b (2 ^ n) f g) in
     let s : p * 2 ^ n % 65536 ≡ p * 2 ^ n = mod-eq_of_lt (omega arith) in
     record { whole = ap (λ t. t + b) s; below = rw s l; byte = rw s (omega arith) }
   where
@@ -41,7 +40,6 @@ begun_is xs k p now v = sym (length-whole xs k p) ∙ ap length v
 -- the first n of the bits that are left to put
 pub first_part : (left n value : ℕ) → n ≤ left → uint n (value / 2 ^ (left - n) % 2 ^ n) ++ uint (left - n) value ≡ uint left value
 first_part left n value h =
-    let m = left - n in
     let e : n + (left - n) ≡ left = omega arith in
     let s = uint-split n (left - n) (value / 2 ^ (left - n)) (value % 2 ^ (left - n)) (mod-lt value (pow_pos (left - n))) in
     ap (λ r. r ++ uint (left - n) value) (uint-mod n n (value / 2 ^ (left - n)) (omega arith))

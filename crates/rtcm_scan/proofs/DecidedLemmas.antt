@@ -49,38 +49,35 @@ pub none_past : (e : Bool) (b : List ℕ) (from to : ℕ) (fs : List Framed) →
 none_past e b from to [] s = refl
 none_past e b from to (f ∷ fs) s =
     let l : frame_end f ≤ to = scanned_le e b (frame_end f) to fs s.3 in
-    let n : (ltb f.offset to && ltb to (frame_end f)) ≡ false = and_right _ _ (le-ltb to (frame_end f) l) in
-    rw n (none_past e b (frame_end f) to fs s.3)
+    rw (and_right _ _ (le-ltb to (frame_end f) l)) (none_past e b (frame_end f) to fs s.3)
+
+-- if no frame from a place on passes a test, the frames found from it on don't
+pub frames_later : (t : Framed → Bool) (p k : ℕ) (s : List ℕ) → ((f : Framed) → p ≤ f.offset → t f ≡ false) → (list_any t (frames_from p k s) ≡ false) × (filter t (frames_from p k s) ≡ [])
+unfolding frames_from
+frames_later t p k [] h = (refl, refl)
+frames_later t p (suc k) (x ∷ s) h = frames_later t (p + 1) k s (λ f l. h f (omega (arith, l)))
+frames_later t p zero (x ∷ s) h =
+    let f : Framed = record { offset = p; message = framed_message (x ∷ s) } in
+    let r : List Framed = frames_from (p + 1) (frame_length (x ∷ s) - 1) s in
+    let later : (k : ℕ) → _ = λ k. frames_later t (p + 1) k s (λ f l. h f (omega (arith, l))) in
+    elim (begins_frame (x ∷ s)) as (λ v. (list_any t (cond v (f ∷ r) (frames_from (p + 1) 0 s)) ≡ false) × (filter t (cond v (f ∷ r) (frames_from (p + 1) 0 s)) ≡ [])) [
+      | true ↦ rw (h f (omega arith)) (later (frame_length (x ∷ s) - 1))
+      | false ↦ later 0
+    ]
 
 pub none_later : (to p k : ℕ) (s : List ℕ) → to ≤ p → list_any (is_inside to) (frames_from p k s) ≡ false
-unfolding frames_from
-none_later to p k [] h = refl
-none_later to p (suc k) (x ∷ s) h = none_later to (p + 1) k s (omega arith)
-none_later to p zero (x ∷ s) h =
-    let n : (ltb p to && ltb to (p + (length (framed_message (x ∷ s)) + 6))) ≡ false = and_left _ _ (le-ltb p to h) in
-    elim (begins_frame (x ∷ s)) as (λ v. list_any (is_inside to) (cond v (record { offset = p; message = framed_message (x ∷ s) } ∷ frames_from (p + 1) (frame_length (x ∷ s) - 1) s) (frames_from (p + 1) 0 s)) ≡ false) [
-      | true ↦ rw n (none_later to (p + 1) (frame_length (x ∷ s) - 1) s (omega arith))
-      | false ↦ none_later to (p + 1) 0 s (omega arith)
-    ]
+none_later to p k s h = (frames_later (is_inside to) p k s (λ f l. and_left _ _ (le-ltb f.offset to (omega (arith, h, l))))).0
 
 all_before : (e : Bool) (b : List ℕ) (from to : ℕ) (fs : List Framed) → Scanned e b from to fs → frames_before to fs ≡ fs
 unfolding frames_before
 all_before e b from to [] s = refl
 all_before e b from to (f ∷ fs) s =
     let l : frame_end f ≤ to = scanned_le e b (frame_end f) to fs s.3 in
-    let n : ltb f.offset to ≡ true = lt-ltb f.offset to (omega arith) in
-    rw n (ap (λ r. f ∷ r) (all_before e b (frame_end f) to fs s.3))
+    rw (lt-ltb f.offset to (omega arith)) (ap (λ r. f ∷ r) (all_before e b (frame_end f) to fs s.3))
 
 none_before : (to p k : ℕ) (s : List ℕ) → to ≤ p → frames_before to (frames_from p k s) ≡ []
-unfolding frames_before frames_from
-none_before to p k [] h = refl
-none_before to p (suc k) (x ∷ s) h = none_before to (p + 1) k s (omega arith)
-none_before to p zero (x ∷ s) h =
-    let n : ltb p to ≡ false = le-ltb p to h in
-    elim (begins_frame (x ∷ s)) as (λ v. filter (λ f. ltb f.offset to) (cond v (record { offset = p; message = framed_message (x ∷ s) } ∷ frames_from (p + 1) (frame_length (x ∷ s) - 1) s) (frames_from (p + 1) 0 s)) ≡ []) [
-      | true ↦ rw n (none_before to (p + 1) (frame_length (x ∷ s) - 1) s (omega arith))
-      | false ↦ none_before to (p + 1) 0 s (omega arith)
-    ]
+unfolding frames_before
+none_before to p k s h = (frames_later (λ f. ltb f.offset to) p k s (λ f l. le-ltb f.offset to (omega (arith, h, l)))).1
 
 -- the frames of b are the scanned ones and those after the scan
 pub frames_split : (e : Bool) (b : List ℕ) (to : ℕ) (fs : List Framed) → to ≤ length b → Scanned e b 0 to fs → frames_of b ≡ fs ++ frames_from to 0 (drop to b)
@@ -101,12 +98,10 @@ decided_is b to fs h s o =
     rw r refl)
     (place_scanned b 0 to k fs s (omega arith) i)))
     (λ i.
-    let g : get_or (places (length b)) to 0 ≡ to = get_or-places (length b) to 0 (omega arith) in
     let n : list_any (is_inside to) fs ≡ false = none_past false b 0 to fs s in
     let m : list_any (is_inside to) (frames_from to 0 (drop to b)) ≡ false = none_later to to 0 (drop to b) (omega arith) in
     let r : list_any (is_inside to) (frames_of b) ≡ false = ap (list_any (is_inside to)) split ∙ list_any-append (is_inside to) fs (frames_from to 0 (drop to b)) ∙ (rw (n, m) refl) in
-    let t : is_open (drop to b) ≡ true = o (omega arith) in
-    rw (g, r, t) refl)
+    rw (get_or-places (length b) to 0 (omega arith), r, o (omega arith)) refl)
 
 pub decided_frames_are : (b : List ℕ) (to : ℕ) (fs : List Framed) → to ≤ length b → Scanned false b 0 to fs → (to < length b → is_open (drop to b) ≡ true) → decided_frames b ≡ fs
 unfolding decided_frames frames_before

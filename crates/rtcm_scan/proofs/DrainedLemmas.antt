@@ -8,7 +8,6 @@ use Rattle.rtcm_scan.proofs.SkippedLemmas.{given_up_is}
 pub drained_ended : (v : FramerValue) (b : List ℕ) (fs : List Framed) → v.has_ended ≡ true → v.held ≡ [] → HasFramed v b fs → IsDrained v b fs
 drained_ended v b fs e h s =
     let l : length v.held ≡ 0 = ap length h in
-    let t : v.taken ≡ length b = s.taken in
     let p : first_held v ≡ length b = omega arith in
     let c : Scanned v.has_ended b 0 (length b) fs = (let k = s.scanned in rw p at k) in
     let k : v.skipped + sum_by (λ f. length f.message + 6) fs ≡ first_held v = s.skipped in
@@ -20,7 +19,6 @@ drained_ended v b fs e h s =
 
 pub drained_waiting : (v : FramerValue) (b : List ℕ) (fs : List Framed) → v.has_ended ≡ false → (0 < length v.held → is_open v.held ≡ true) → HasFramed v b fs → IsDrained v b fs
 drained_waiting v b fs e h s =
-    let t : v.taken ≡ length b = s.taken in
     let f : length v.held ≤ v.taken = s.fits in
     let c : Scanned false b 0 (first_held v) fs = (let k = s.scanned in rw e at k) in
     let o : first_held v < length b → is_open (drop (first_held v) b) ≡ true = λ i. ap is_open (sym s.held) ∙ h (omega arith) in

@@ -1,5 +1,5 @@
 -- What a framer has accepted after each of its steps.
-use Rattle.rtcm_scan.proofs.Names.{ℕ, ◌≡◌, ◌+◌, ◌-◌, ◌<◌, ◌≤◌, Bool, true, false, List, [], ◌∷◌, ◌++◌, length, drop, ap, ◌∙◌, arith, length-append, sum_by, drop-append-le, length-drop, drop-drop, sum_by_push, begins_frame, message_length, frame_length, framed_message, Framed, IsFrameOf, WindowValue, pushed, without_front, FramerValue, scan_of, with_window, HasFramed, first_held, IsPassed, Scanned}
+use Rattle.rtcm_scan.proofs.Names.{ℕ, ◌≡◌, ◌+◌, ◌-◌, ◌<◌, ◌≤◌, Bool, true, false, List, [], ◌∷◌, ◌++◌, length, drop, ap, ◌∙◌, arith, length-append, sum_by, drop-append-le, length-drop, drop-drop, sum_by_push, begins_frame, message_length, frame_length, framed_message, Framed, IsFrameOf, WindowValue, pushed, without_front, FramerValue, scan_of, with_byte, with_window, HasFramed, first_held, IsPassed, Scanned}
 use Rattle.rtcm_scan.proofs.FrameLemmas.{begins_parts, length-message}
 use Rattle.rtcm_scan.proofs.ScanLemmas.{scanned_skip, scanned_frame, scanned_longer, scanned_ended}
 use Rattle.rtcm_scan.proofs.PrefixLemmas.{known_first}
@@ -13,7 +13,7 @@ pub history_from : (v : FramerValue) (b : List ℕ) (fs : List Framed) → v.tak
 history_from v b fs t h f s k = record { taken = t; held = h; fits = f; scanned = s; first = known_first v.has_ended b (first_held v) fs (omega (arith, t)) s; skipped = k }
 
 pub history_push : (v : FramerValue) (b : List ℕ) (fs : List Framed) (x : ℕ) → v.has_ended ≡ false → HasFramed v b fs
-    → HasFramed (record v { taken = v.taken + 1; held = v.held ++ x ∷ []; looks = v.looks ++ 0 ∷ []; is_ready = false }) (b ++ x ∷ []) fs
+    → HasFramed (with_byte v x) (b ++ x ∷ []) fs
 history_push v b fs x n s =
     let l : length (v.held ++ x ∷ []) ≡ length v.held + 1 = length-append v.held (x ∷ []) in
     let m : length (b ++ x ∷ []) ≡ length b + 1 = length-append b (x ∷ []) in
@@ -22,7 +22,7 @@ history_push v b fs x n s =
     let e : v.taken + 1 - length (v.held ++ x ∷ []) ≡ first_held v = omega arith in
     let d : drop (first_held v) (b ++ x ∷ []) ≡ drop (first_held v) b ++ x ∷ [] = drop-append-le (first_held v) b (x ∷ []) (omega arith) in
     let c : Scanned false b 0 (first_held v) fs = (let k = s.scanned in rw n at k) in
-    history_from (record v { taken = v.taken + 1; held = v.held ++ x ∷ []; looks = v.looks ++ 0 ∷ []; is_ready = false }) (b ++ x ∷ []) fs
+    history_from (with_byte v x) (b ++ x ∷ []) fs
     (omega arith)
     (rw (e, d) (ap (λ h. h ++ x ∷ []) s.held))
     (omega arith)
@@ -73,7 +73,7 @@ history_take v b fs h s =
 
 -- the framer's view after each change of its window
 pub view_pushed : {v : FramerValue} {limit skipped tried : ℕ} {w w' : WindowValue} {ended ready : Bool} (place x : ℕ) → scan_of limit place w ended ready skipped tried ≡ v → w' ≡ pushed w x
-    → scan_of limit place w' ended false skipped tried ≡ record v { taken = v.taken + 1; held = v.held ++ x ∷ []; looks = v.looks ++ 0 ∷ []; is_ready = false }
+    → scan_of limit place w' ended false skipped tried ≡ with_byte v x
 view_pushed {limit} {skipped} {tried} {w} {ended} place x e f =
     let l : length (w.bytes ++ x ∷ []) ≡ length w.bytes + 1 = length-append w.bytes (x ∷ []) in
     let t : place + length (w.bytes ++ x ∷ []) ≡ place + length w.bytes + 1 = omega arith in

@@ -18,6 +18,10 @@ wanted_cases s = ⊎_elim
     (λ (n : slice_index s 0 ≡ preamble → ⊥). let p : eqb (slice_index s 0) preamble ≡ false = ne_eqb _ _ n in inr (n, rw p refl))
     (cases_eq (slice_index s 0) preamble)
 
+wanted_more : (s : List ℕ) → 1 < wanted_by s → (slice_index s 0 ≡ preamble) × (wanted_by s ≡ frame_length s)
+wanted_more s h = ⊎_elim (λ (k : (slice_index s 0 ≡ preamble) × (wanted_by s ≡ frame_length s)). k)
+    (λ (k : (slice_index s 0 ≡ preamble → ⊥) × (wanted_by s ≡ 1)). absurd (omega (arith, h, k.1))) (wanted_cases s)
+
 wanted_take : (s : List ℕ) (k : ℕ) → k ≤ length s → k ≡ wanted_by s → wanted_by (take k s) ≡ wanted_by s
 wanted_take s k h e =
     let t : take k s ++ drop k s ≡ s = take-append-drop k s in
@@ -44,25 +48,16 @@ take_three s n h =
     ∙ ap (λ q. q ++ get_or s (n + 3 + 2) 0 ∷ []) (append_assoc (take (n + 3) s) (get_or s (n + 3) 0 ∷ []) (get_or s (n + 3 + 1) 0 ∷ []))
     ∙ append_assoc (take (n + 3) s) (get_or s (n + 3) 0 ∷ get_or s (n + 3 + 1) 0 ∷ []) (get_or s (n + 3 + 2) 0 ∷ [])
 
--- a whole candidate whose register is 0 has a valid CRC
-right_check : Residue → (s : List ℕ) → AreBytes s → frame_length s ≤ length s → crc (take (frame_length s) s) ≡ 0 → sent_check s (message_length s + 3) ≡ crc (take (message_length s + 3) s)
-right_check law s b h e =
+-- the register of a whole candidate is 0 if its CRC is valid
+check_zero : Residue → (s : List ℕ) → AreBytes s → frame_length s ≤ length s → (crc (take (frame_length s) s) ≡ 0) ↔ (sent_check s (message_length s + 3) ≡ crc (take (message_length s + 3) s))
+check_zero law s b h =
     let n = message_length s in
-    (law (take (n + 3) s) (get_or s (n + 3) 0) (get_or s (n + 3 + 1) 0) (get_or s (n + 3 + 2) 0) (b (n + 3)) (b (n + 3 + 1)) (b (n + 3 + 2))).0 (ap crc (sym (take_three s n h)) ∙ e)
-
-wrong_check : Residue → (s : List ℕ) → AreBytes s → frame_length s ≤ length s → sent_check s (message_length s + 3) ≡ crc (take (message_length s + 3) s) → crc (take (frame_length s) s) ≡ 0
-wrong_check law s b h e =
-    let n = message_length s in
-    ap crc (take_three s n h) ∙ (law (take (n + 3) s) (get_or s (n + 3) 0) (get_or s (n + 3 + 1) 0) (get_or s (n + 3 + 2) 0) (b (n + 3)) (b (n + 3 + 1)) (b (n + 3 + 2))).1 e
+    rw (take_three s n h) (law (take (n + 3) s) (get_or s (n + 3) 0) (get_or s (n + 3 + 1) 0) (get_or s (n + 3 + 2) 0) (b (n + 3)) (b (n + 3 + 1)) (b (n + 3 + 2)))
 
 pub judge_missing : (c : Candidate) (e : Bool) (s : List ℕ) → 0 < length s → HasTaken c (take c.count s) → c.count ≡ asked s → c.count < c.wanted → if_missing e ≡ decision e s
 judge_missing c e s l t a h =
-    let w : c.wanted ≡ wanted_by (take c.count s) = t.wanted in
     ⊎_elim
-    (λ (g : length s < wanted_by s). ⊎_elim
-    (λ (k : (slice_index s 0 ≡ preamble) × (wanted_by s ≡ frame_length s)). let d : wanted_by s ≡ frame_length s = k.1 in decision_short e s k.0 (omega arith))
-    (λ (k : (slice_index s 0 ≡ preamble → ⊥) × (wanted_by s ≡ 1)). let d : wanted_by s ≡ 1 = k.1 in absurd (omega arith))
-    (wanted_cases s))
+    (λ (g : length s < wanted_by s). let k = wanted_more s (omega (arith, g, l)) in decision_short e s k.0 (omega (arith, k.1, g)))
     (λ (g : wanted_by s ≤ length s).
     let k : c.count ≡ wanted_by s = omega arith in
     let x : wanted_by (take c.count s) ≡ wanted_by s = wanted_take s c.count (omega arith) k in absurd (omega arith))
@@ -87,24 +82,17 @@ whole c s t a h =
 
 pub judge_found : Residue → {c : Candidate} (e : Bool) (s : List ℕ) → AreBytes s → IsWhole c s → 1 < c.wanted → c.register ≡ 0 → Found c.count ≡ decision e s
 judge_found law {c} e s b w g r =
-    ⊎_elim
-    (λ (k : (slice_index s 0 ≡ preamble) × (wanted_by s ≡ frame_length s)).
-    let d : wanted_by s ≡ frame_length s = k.1 in
-    let n : c.count ≡ frame_length s = omega arith in
+    let k = wanted_more s (omega (arith, w.wanted, g)) in
+    let n : c.count ≡ frame_length s = w.count ∙ k.1 in
     let z : crc (take (frame_length s) s) ≡ 0 = ap (λ q. crc (take q s)) (sym n) ∙ sym w.taken.register ∙ r in
-    ap Found n ∙ decision_found e s k.0 (omega arith) (right_check law s b (omega arith) z))
-    (λ (k : (slice_index s 0 ≡ preamble → ⊥) × (wanted_by s ≡ 1)). let d : wanted_by s ≡ 1 = k.1 in absurd (omega arith))
-    (wanted_cases s)
+    let l : frame_length s ≤ length s = omega (arith, n, w.within) in
+    ap Found n ∙ decision_found e s k.0 l ((check_zero law s b l).0 z)
 
 pub judge_wrong : Residue → {c : Candidate} (e : Bool) (s : List ℕ) → AreBytes s → IsWhole c s → 1 < c.wanted → (c.register ≡ 0 → ⊥) → Passed ≡ decision e s
 judge_wrong law {c} e s b w g r =
-    ⊎_elim
-    (λ (k : (slice_index s 0 ≡ preamble) × (wanted_by s ≡ frame_length s)).
-    let d : wanted_by s ≡ frame_length s = k.1 in
-    let n : c.count ≡ frame_length s = omega arith in
-    decision_wrong e s (omega arith) (λ q. r (w.taken.register ∙ ap (λ q. crc (take q s)) n ∙ wrong_check law s b (omega arith) q)))
-    (λ (k : (slice_index s 0 ≡ preamble → ⊥) × (wanted_by s ≡ 1)). let d : wanted_by s ≡ 1 = k.1 in absurd (omega arith))
-    (wanted_cases s)
+    let n : c.count ≡ frame_length s = w.count ∙ (wanted_more s (omega (arith, w.wanted, g))).1 in
+    let l : frame_length s ≤ length s = omega (arith, n, w.within) in
+    decision_wrong e s l (λ q. r (w.taken.register ∙ ap (λ q. crc (take q s)) n ∙ (check_zero law s b l).1 q))
 
 pub judge_none : (c : Candidate) (e : Bool) (s : List ℕ) → HasTaken c (take c.count s) → c.count ≡ asked s → (c.count < c.wanted → ⊥) → (1 < c.wanted → ⊥) → Passed ≡ decision e s
 judge_none c e s t a h g =

@@ -36,8 +36,7 @@ frame_begins m rest h =
 
 pub frame_message : (m rest : List ℕ) → length m ≤ longest_message → framed_message (frame_bytes m ++ rest) ≡ m
 frame_message m rest h =
-    let l : message_length (frame_bytes m ++ rest) ≡ length m = length_claimed m rest h in
-    ap (λ n. take n (drop 3 (frame_bytes m ++ rest))) l
+    ap (λ n. take n (drop 3 (frame_bytes m ++ rest))) (length_claimed m rest h)
     ∙ ap (λ x. take (length m) (drop 3 x)) (spread m rest)
     ∙ take_at m (three_bytes (crc (frame_header m ++ m)) ++ rest) (length m) refl
 
@@ -54,12 +53,10 @@ scanned_list : (pre : List ℕ) (ms : List (List ℕ)) {b : List ℕ} {p n : ℕ
 scanned_list pre [] {b} e q r a = (let l : length b ≡ length pre = ap length (e ∙ append-nil pre) in omega arith, λ k i j. (let l : length b ≡ length pre = ap length (e ∙ append-nil pre) in absurd (omega arith)))
 scanned_list pre (m ∷ ms) {b} {p} {n} e q r a =
     let h : length m ≤ longest_message = All-head (λ x. length x ≤ longest_message) m ms a in
-    let f : IsFrameOf (pre ++ (frame_bytes m ++ flat_map frame_bytes ms)) (record { offset = length pre; message = m }) = frame_here pre m (flat_map frame_bytes ms) h in
-    let v : IsFrameOf b (record { offset = p; message = m }) = (rw (e, q) f) in
     let l : p + (length m + 6) ≡ length (pre ++ frame_bytes m) = (let x = length-append pre (frame_bytes m) in let y = length-frame m in omega (arith, x, y)) in (
       omega arith,
       (λ k i j. absurd (omega arith)),
-      v,
+      (rw (e, q) (frame_here pre m (flat_map frame_bytes ms) h)),
       scanned_list (pre ++ frame_bytes m) ms (e ∙ sym (append_assoc pre (frame_bytes m) (flat_map frame_bytes ms))) l r (All-tail (λ x. length x ≤ longest_message) m ms a),
     )
 
@@ -136,14 +133,12 @@ none_across : (bytes : List ℕ) (ms : List (List ℕ)) (k : ℕ) → All (λ m.
 none_across bytes ms k a l far quiet f v h c = ⊎_elim
     (λ (x : f.offset < length bytes).
     let m : length f.message ≡ message_length (drop f.offset (stream_after bytes ms)) = ap length v.message ∙ length-message (drop f.offset (stream_after bytes ms)) v.begins in
-    let n : frame_length (drop f.offset (stream_after bytes ms)) ≤ longest_frame = frame_length_bound (drop f.offset (stream_after bytes ms)) in
-    short m n x far c)
+    short m (frame_length_bound (drop f.offset (stream_after bytes ms))) x far c)
     (λ (x : length bytes ≤ f.offset).
     let w = quiet f.offset x h v.begins in
     let g = frame_number bytes ms w.0 (omega (arith, w.1, l)) a in
     let s : f ≡ record { offset = frame_place bytes ms w.0; message = get_or ms w.0 [] } = same_frame (stream_after bytes ms) f (record { offset = frame_place bytes ms w.0; message = get_or ms w.0 [] }) v g w.2 in
-    let t : frame_end f ≡ frame_place bytes ms w.0 + (length (get_or ms w.0 []) + 6) = ap frame_end s in
-    crossing _ _ _ t (frame_ends bytes ms w.0 k w.1 l) c)
+    crossing _ _ _ (ap frame_end s) (frame_ends bytes ms w.0 k w.1 l) c)
     (cases_lt f.offset (length bytes))
   where
     short : {o lm ml j p : ℕ} → lm ≡ ml → ml + 6 ≤ longest_frame → o < j → j + most_undecided ≤ p → p < o + (lm + 6) → ⊥
@@ -156,7 +151,6 @@ pub stays_local : (bytes : List ℕ) (ms : List (List ℕ)) (k : ℕ) → StaysL
 unfolding frames_of
 stays_local bytes ms k a l far quiet i hi li =
     let b : List ℕ = stream_after bytes ms in
-    let x : ℕ = frame_place bytes ms k in
     let e : stream_after bytes ms ≡ stream_after bytes (take k ms) ++ flat_map frame_bytes (drop k ms) = cut_at bytes ms k in
     let within : frame_place bytes ms k ≤ length (stream_after bytes ms) = (let y : length (stream_after bytes ms) ≡ length (stream_after bytes (take k ms)) + length (flat_map frame_bytes (drop k ms)) = ap length e ∙ length-append (stream_after bytes (take k ms)) (flat_map frame_bytes (drop k ms)) in ends_within _ _ _ y) in
     let s : Scanned true b 0 (length b) (frames_from 0 0 b) = frames_scanned (length b) b 0 (omega arith) (omega arith) in

@@ -7,21 +7,15 @@ use Rattle.rtcm_scan.proofs.ScanLemmas.{scanned_none}
 pub most_moment : (v : FramerValue) (b : List ℕ) (fs : List Framed) → length v.held ≤ longest_frame → HasExamined v b fs → v.most ≤ most_looks
 most_moment v b fs h x =
     let s : HasFramed v b fs = x.history in
-    let k : v.tried ≤ length v.held = x.tried in
-    let e : v.most ≡ greatest_below (looks_at (spans_at b fs (first_held v) v.tried)) (length b) = x.counts.greatest_is in
     let g : greatest_below (looks_at (spans_at b fs (first_held v) v.tried)) (length b) ≤ most_looks =
     greatest_bound (looks_at (spans_at b fs (first_held v) v.tried)) (length b) most_looks (λ i. looks_bound v.has_ended b fs (first_held v) v.tried i s.scanned (omega arith)) in
-    rw e g
+    rw x.counts.greatest_is g
 
 pub examined_moment : (v : FramerValue) (b : List ℕ) (fs : List Framed) → length v.held ≤ longest_frame → HasExamined v b fs → v.examined ≤ most_looks * length b
 examined_moment v b fs h x =
     let s : HasFramed v b fs = x.history in
-    let k : v.tried ≤ length v.held = x.tried in
-    let f : length v.held ≤ v.taken = s.fits in
-    let t : v.taken ≡ length b = s.taken in
-    let e : v.examined ≡ all_looks (spans_at b fs (first_held v) v.tried) = x.counts.total in
     let g : all_looks (spans_at b fs (first_held v) v.tried) ≤ most_looks * length b = all_bound v.has_ended b fs (first_held v) s.scanned (omega arith) (omega arith) in
-    rw e g
+    rw x.counts.total g
 
 pub counts_end : (v : FramerValue) (b : List ℕ) (fs : List Framed) → HasExamined v b fs → HasExamined (record v { has_ended = true }) b fs
 counts_end v b fs x = record { history = history_end v b fs x.history; limit = x.limit; within = x.within; each = x.each; tried = x.tried; counts = x.counts }

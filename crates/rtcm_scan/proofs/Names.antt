@@ -22,12 +22,12 @@ pub use Rattle.rtcm_scan.specs.Passing.{AtFault, Breaking, Breaks, BreaksAfter, 
 pub use Rattle.rtcm_scan.specs.Pending.{asked, passed, with_candidate_examined}
 unfoldable pub use Rattle.rtcm_scan.specs.Results.{decision}
 pub use Rattle.rtcm_scan.specs.Results.{frame_at, if_missing, new_scan}
-pub use Rattle.rtcm_scan.specs.Scan.{AllPassed, FramerValue, HasFramed, IsPassed, IsScannedOn, Scanned, first_held, most_bytes, scan_of, window_of, with_bytes, with_looks, with_window}
+pub use Rattle.rtcm_scan.specs.Scan.{AllPassed, FramerValue, HasFramed, IsPassed, IsScannedOn, Scanned, first_held, most_bytes, scan_of, window_of, with_byte, with_bytes, with_looks, with_window}
 pub use Rattle.rtcm_scan.specs.declared.candidate.Candidate.{Candidate}
 pub use Rattle.rtcm_scan.specs.declared.feed.StreamFault.{StreamFault}
 pub use Rattle.rtcm_scan.specs.declared.feed.StreamFault.TheVariants.{Read, Sink, TooLong}
 pub use Rattle.rtcm_scan.specs.declared.front.Decision.TheVariants.{Found, Open, Passed}
-pub use Rattle.std.proofs.Common.{Bool, List, Option, [], add-one, add-zero, ap, arith, cond, drop, eqb, false, get_or, inl, inr, leb, length, length-append, length-set, length-take, ltb, map, max, min, nat_eq, not, refl, replicate, rules, set, slice_index, slice_range, slice_set, subst, suc, sum_by, sym, take, take_all, true, zero, ℕ, ⊎_elim, ◌%◌, ◌&&◌, ◌*◌, ◌++◌, ◌+◌, ◌-◌, ◌/◌, ◌<◌, ◌^◌, ◌||◌, ◌↔◌, ◌∙◌, ◌∷◌, ◌≡◌, ◌≢◌, ◌≤◌, ◌⊎◌}
+pub use Rattle.std.proofs.Common.{Bool, List, Option, [], add-one, add-zero, ap, arith, cond, drop, eqb, false, get_or, inl, inr, leb, length, length-append, length-set, length-take, ltb, map, max, min, nat_eq, not, refl, replicate, rules, set, slice_index, slice_range, subst, suc, sum_by, sym, take, take_all, true, zero, ℕ, ⊎_elim, ◌%◌, ◌&&◌, ◌*◌, ◌++◌, ◌+◌, ◌-◌, ◌/◌, ◌<◌, ◌||◌, ◌↔◌, ◌∙◌, ◌∷◌, ◌≡◌, ◌≢◌, ◌≤◌, ◌⊎◌}
 pub use Rattle.std.proofs.KnownBytes.{Consumes-kept, Consumes-nil, Consumes-trans}
 pub use Rattle.std.proofs.Math.Seq.{take-add}
 pub use Rattle.std.proofs.lemmas.Bool.{and_cases, and_from, and_left, and_parts, and_right, cases_Bool, cases_eq, cases_lt, eq-eqb, le-leb, le-ltb, leb-true, lt-leb, lt-ltb, ltb-false, ltb-true, ne_eqb, true≢false}

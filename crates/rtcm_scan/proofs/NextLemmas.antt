@@ -1,6 +1,7 @@
 -- The state after the steps of `next`.
 use Rattle.rtcm_scan.proofs.Names.{ℕ, ◌≡◌, ◌+◌, ◌-◌, ◌<◌, ◌≤◌, true, false, List, [], ◌∷◌, ◌++◌, length, drop, refl, sym, ap, ◌∙◌, arith, ⊎_elim, subst, length-drop, cases_Bool, nil_from_length, begins_frame, is_open, frame_length, framed_message, Framed, WindowValue, looked_through, without_front, FramerValue, HasFramed, first_held, IsPassed, window_of, with_window, with_looks, asked, with_candidate_examined, passed, HasExamined, IsCountedExactly, IsCountedTo, message_length, IsDrained}
-use Rattle.rtcm_scan.proofs.StepLemmas.{step_examined, step_give_up, step_take, looked_bytes}
+use Rattle.rtcm_bits.proofs.WindowLemmas.{looked_bytes}
+use Rattle.rtcm_scan.proofs.StepLemmas.{step_examined, step_give_up, step_take}
 use Rattle.rtcm_scan.proofs.KnownLemmas.{counted_empty, counted_open, counted_frame}
 use Rattle.rtcm_scan.proofs.FrameLemmas.{length-message, begins_parts}
 use Rattle.rtcm_scan.proofs.DecidedLemmas.{none_past}
@@ -32,9 +33,6 @@ found_begins v u size e f = rw e (f.0, f.1, refl)
 
 pub found_counts : (v u : FramerValue) (b : List ℕ) (fs : List Framed) → u ≡ with_candidate_examined v → v.tried ≤ asked v.held → HasExamined v b fs → HasExamined u b fs
 found_counts v u b fs e t x = rw e (step_examined v b fs t x)
-
-pub same_framed : (f g : Framed) → f.offset ≡ g.offset → f.message ≡ g.message → f ≡ g
-same_framed f g o m = ap (λ (p : ℕ). let r : Framed = record { offset = p; message = f.message } in r) o ∙ ap (λ (q : List ℕ). let r : Framed = record { offset = g.offset; message = q } in r) m
 
 abbrev pub found : FramerValue → Framed
 found v = record { offset = first_held v; message = framed_message v.held }
@@ -107,6 +105,5 @@ pub counts_open : {v u d w : FramerValue} {b : List ℕ} {fs : List Framed} → 
 counts_open {v} {d} {w} {b} {fs} e g f t l o k x =
     let c = with_candidate_examined v in
     let x' : HasExamined c b fs = step_examined v b fs k x in
-    let r : IsCountedExactly c b = counted_open c b fs t l o refl x' in
     let y : d ≡ c = g ∙ e in
-    counts_finish d w b fs f (rw y x') (rw y r)
+    counts_finish d w b fs f (rw y x') (rw y (counted_open c b fs t l o refl x'))

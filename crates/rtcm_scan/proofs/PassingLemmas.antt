@@ -114,13 +114,12 @@ module _ {S O : Type 0} (took : Coming S O) where
   pub part_breaks : {v v1 : FramerValue} {s s1 s2 : S} {o o1 o2 : O} (broke : Breaking S O) (piece : List ℕ) (n : ℕ) → (v.has_ended ≡ true → length piece ≡ 0)
       → v1.has_ended ≡ v.has_ended → PassesPart v s o v1 s1 o1 (take n piece) → BreaksKnown took broke v1.has_ended v1 s1 o1 s2 o2 → Breaks took broke v s o s2 o2 piece
   part_breaks {v} broke piece n going same p q s0 o0 ps b x =
-      let e : Bool = v.has_ended in
       let y = p s0 o0 ps b x in
       let k = q s0 o0 ps (b ++ take n piece) y.0 y.2 in
       record {
         taken = k.taken;
         reached = k.reached;
-        first = prefix_trans (known_frames e b) y.0 k.taken y.1 k.first;
+        first = prefix_trans (known_frames v.has_ended b) y.0 k.taken y.1 k.first;
         known = prefix_later b piece n k.reached same going k.known;
         broken = k.broken;
       }

@@ -40,37 +40,32 @@ scanned_join b from mid to [] [] s r = (omega (arith, s.0, r.0), passed_join b f
 scanned_join b from mid to [] (g ∷ gs) s r = (omega (arith, s.0, r.0), passed_join b from mid g.offset s.1 r.1, r.2, r.3)
 scanned_join b from mid to (f ∷ fs) gs s r = (s.0, s.1, s.2, scanned_join b (frame_end f) mid to fs gs s.3 r)
 
+-- the scanned frames are a prefix of the decided frames
+scanned_first : (b : List ℕ) (to : ℕ) (fs : List Framed) → to ≤ length b → Scanned false b 0 to fs → IsPrefix fs (decided_frames b) × (to ≤ decided b)
+scanned_first b to fs h s =
+    let u = scan_on (length b) b to (omega arith) h in
+    let j : Scanned false b 0 u.to (fs ++ u.frames) = scanned_join b 0 to u.to fs u.frames s u.scanned in
+    let d : decided b ≡ u.to = decided_is b u.to (fs ++ u.frames) u.within j u.stops in
+    ((u.frames, decided_frames_are b u.to (fs ++ u.frames) u.within j u.stops), omega (arith, d, scanned_le false b to u.to u.frames u.scanned))
+
 -- the decided frames of b are a prefix of the frames of each longer stream, decided or not
 pub stays_decided : (b t : List ℕ) → ((rest : List Framed) × (decided_frames (b ++ t) ≡ decided_frames b ++ rest)) × ((rest : List Framed) × (frames_of (b ++ t) ≡ decided_frames b ++ rest)) × (decided b ≤ decided (b ++ t))
 stays_decided b t =
     let r = scan_on (length b) b 0 (omega arith) (omega arith) in
-    let s : Scanned false b 0 r.to r.frames = r.scanned in
-    let d : decided b ≡ r.to = decided_is b r.to r.frames r.within s r.stops in
-    let e : decided_frames b ≡ r.frames = decided_frames_are b r.to r.frames r.within s r.stops in
-    let l : length (b ++ t) ≡ length b + length t = length-append b t in
-    let w : r.to ≤ length b = r.within in
-    let s' : Scanned false (b ++ t) 0 r.to r.frames = scanned_longer b t 0 r.to r.frames r.within s in
-    let u = scan_on (length (b ++ t)) (b ++ t) r.to (omega arith) (omega arith) in
-    let j : Scanned false (b ++ t) 0 u.to (r.frames ++ u.frames) = scanned_join (b ++ t) 0 r.to u.to r.frames u.frames s' u.scanned in
-    let d' : decided (b ++ t) ≡ u.to = decided_is (b ++ t) u.to (r.frames ++ u.frames) u.within j u.stops in
-    let e' : decided_frames (b ++ t) ≡ r.frames ++ u.frames = decided_frames_are (b ++ t) u.to (r.frames ++ u.frames) u.within j u.stops in
-    let m : r.to ≤ u.to = scanned_le false (b ++ t) r.to u.to u.frames u.scanned in (
-      (u.frames, e' ∙ ap (λ q. q ++ u.frames) (sym e)),
-      (frames_from r.to 0 (drop r.to (b ++ t)), frames_split false (b ++ t) r.to r.frames (omega arith) s' ∙ ap (λ q. q ++ frames_from r.to 0 (drop r.to (b ++ t))) (sym e)),
-      omega arith,
+    let d : decided b ≡ r.to = decided_is b r.to r.frames r.within r.scanned r.stops in
+    let e : decided_frames b ≡ r.frames = decided_frames_are b r.to r.frames r.within r.scanned r.stops in
+    let w : r.to ≤ length (b ++ t) = omega (arith, r.within, length-append b t) in
+    let s : Scanned false (b ++ t) 0 r.to r.frames = scanned_longer b t 0 r.to r.frames r.within r.scanned in
+    let p = scanned_first (b ++ t) r.to r.frames w s in (
+      (p.0.0, p.0.1 ∙ ap (λ q. q ++ p.0.0) (sym e)),
+      (frames_from r.to 0 (drop r.to (b ++ t)), frames_split false (b ++ t) r.to r.frames w s ∙ ap (λ q. q ++ frames_from r.to 0 (drop r.to (b ++ t))) (sym e)),
+      omega (arith, d, p.1),
     )
-
--- the scanned frames are a prefix of the decided frames
-scanned_first : (b : List ℕ) (to : ℕ) (fs : List Framed) → to ≤ length b → Scanned false b 0 to fs → IsPrefix fs (decided_frames b)
-scanned_first b to fs h s =
-    let u = scan_on (length b) b to (omega arith) h in
-    let j : Scanned false b 0 u.to (fs ++ u.frames) = scanned_join b 0 to u.to fs u.frames s u.scanned in
-    (u.frames, decided_frames_are b u.to (fs ++ u.frames) u.within j u.stops)
 
 -- the scanned frames are a prefix of the known frames
 pub known_first : (e : Bool) (b : List ℕ) (to : ℕ) (fs : List Framed) → to ≤ length b → Scanned e b 0 to fs → IsPrefix fs (known_frames e b)
 known_first true b to fs h s = (frames_from to 0 (drop to b), frames_split true b to fs h s)
-known_first false b to fs h s = scanned_first b to fs h s
+known_first false b to fs h s = (scanned_first b to fs h s).0
 
 -- at most 1,028 bytes are undecided
 pub decided_near : (b : List ℕ) → (decided b ≤ length b) × (length b ≤ decided b + most_undecided)

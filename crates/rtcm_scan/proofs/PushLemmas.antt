@@ -1,11 +1,7 @@
 -- What a framer has accepted after many bytes.
-use Rattle.rtcm_scan.proofs.Names.{ℕ, ◌≡◌, ◌+◌, ◌<◌, ◌≤◌, Bool, false, List, [], ◌∷◌, ◌++◌, length, replicate, refl, ap, arith, suc, length-append, append-nil, append_assoc, WindowValue, pushed_all, Framed, FramerValue, scan_of, with_bytes, HasFramed, HasExamined}
+use Rattle.rtcm_scan.proofs.Names.{ℕ, ◌≡◌, ◌+◌, ◌<◌, ◌≤◌, Bool, false, List, [], ◌∷◌, ◌++◌, length, replicate, refl, ap, arith, suc, length-append, append-nil, append_assoc, WindowValue, pushed_all, Framed, FramerValue, scan_of, with_byte, with_bytes, HasFramed, HasExamined}
 use Rattle.rtcm_scan.proofs.HistoryLemmas.{history_push, history_ready}
 use Rattle.rtcm_scan.proofs.StepLemmas.{step_push}
-
--- the state after one byte is pushed
-abbrev pub with_byte : FramerValue → ℕ → FramerValue
-with_byte v x = record v { taken = v.taken + 1; held = v.held ++ x ∷ []; looks = v.looks ++ 0 ∷ []; is_ready = false }
 
 -- no bytes; then one byte and those after it
 with_none : (v : FramerValue) → with_bytes v [] ≡ record v { is_ready = false }
@@ -38,6 +34,11 @@ pub step_push_all : (v : FramerValue) (b xs : List ℕ) (fs : List Framed) → v
 step_push_all v b xs fs = push_each (λ v b. HasExamined v b fs)
     (λ v b h. record { history = history_ready v b fs false h.history; limit = h.limit; within = h.within; each = h.each; tried = h.tried; counts = h.counts })
     (λ v b x n l h. step_push v b fs x n l h) xs
+
+-- a framer that has not ended and has room for n bytes
+pub has_room : {v : FramerValue} {limit skipped tried : ℕ} {w : WindowValue} {ready ended : Bool} (place n : ℕ) → scan_of limit place w ended ready skipped tried ≡ v → ended ≡ false
+    → place + length w.bytes + n ≤ limit → (v.has_ended ≡ false) × (v.taken + n ≤ v.limit)
+has_room place n e f h = rw (← e) (f, h)
 
 -- the framer's view after it
 pub view_pushed_all : {v : FramerValue} {limit skipped tried : ℕ} {w w' : WindowValue} {ended ready : Bool} (place : ℕ) (xs : List ℕ) → scan_of limit place w ended ready skipped tried ≡ v → w' ≡ pushed_all w xs

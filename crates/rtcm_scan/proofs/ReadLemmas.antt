@@ -39,11 +39,10 @@ pub read_room : {E : Type 0} {v : FramerValue} {r r' : Option (List ℕ)} {size 
     → MatchResult res (HasReadPiece v r r' size (buf ++ rest)) (λ _. Keeps r r')
 read_room {r} {r'} {buf} (Ok n) rest read =
     let few : n ≤ length buf = omega (arith, read.bound) in
-    let all : length (buf ++ rest) ≡ length buf + length rest = length-append buf rest in
     record {
       consumes = subst (λ (l : List ℕ). Consumes r r' l) (sym (take-append-le n buf rest few)) read.bytes.0;
       at_end = λ z. read.bytes.1 z (omega (arith, read.some));
-      within = omega (arith, few, all);
+      within = omega (arith, few, length-append buf rest);
       near = omega (arith, few, read.near);
     }
 read_room (Err e) rest read = read.bytes
@@ -101,7 +100,6 @@ module _ {S O : Type 0} (took : Coming S O) (broke : Breaking S O) where
   breaks_more {v} {v'} {s2} {o2} {r} {r'} {r2} {most} {n} {buffer} (going, len) on p read goes q =
       let piece : List ℕ = take n buffer in
       let l : length (take n buffer) ≡ n = length-take-le n buffer read.within in
-      let taken : v'.taken ≡ v.taken + length p.0 = p.2.1 in
       let fits : length v'.held + length (take n buffer) ≤ max most (length v'.held + 1) = omega (arith, l, read.near, on.size) in
       record {
         front = p.0;
@@ -111,8 +109,8 @@ module _ {S O : Type 0} (took : Coming S O) (broke : Breaking S O) where
             (subst (λ (e : Bool). HasBroken broke e s0 o0 ps s2 o2 (known_frames e (b ++ p.0)) ((b ++ p.0) ++ piece)) on.ended (q s0 o0 ps (b ++ p.0) (p.2.0 s0 o0 ps b x))));
         near = λ s0 o0 ps b x. near_held v' (b ++ p.0) (length piece) most (on.ended ∙ going) (p.2.0 s0 o0 ps b x).drained fits;
         few = omega (arith, l, read.within, len, on.size);
-        least = omega (arith, taken, goes.least);
-        greatest = omega (arith, taken, goes.most);
+        least = omega (arith, goes.least);
+        greatest = omega (arith, goes.most);
       }
 
   -- the sink failed before any byte was read

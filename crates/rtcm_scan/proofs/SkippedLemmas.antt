@@ -1,47 +1,31 @@
 -- The number of places in no frame is the number of bytes outside the frames.
-use Rattle.rtcm_scan.proofs.Names.{ℕ, ◌≡◌, ◌+◌, ◌-◌, ◌<◌, ◌≤◌, Bool, true, false, not, cond, ◌&&◌, ltb, leb, List, [], ◌∷◌, ◌++◌, length, drop, sum_by, refl, sym, ap, ◌∙◌, arith, suc, zero, list_any, count_by, lt-ltb, le-ltb, le-leb, lt-leb, and_left, and_right, sum_by_push, sum_by-cons, list_any-append, begins_frame, frame_length, framed_message, Framed, frame_end, frames_from, frames_of, places, is_within, skipped_before, Scanned}
+use Rattle.rtcm_scan.proofs.Names.{ℕ, ◌≡◌, ◌+◌, ◌-◌, ◌<◌, ◌≤◌, Bool, true, false, not, cond, ◌&&◌, ltb, leb, List, [], ◌∷◌, length, drop, sum_by, refl, sym, ap, ◌∙◌, arith, suc, zero, add-zero, list_any, count_by, lt-ltb, le-ltb, le-leb, lt-leb, and_left, and_right, sum_by_push, sum_by-cons, list_any-append, Framed, frame_end, frames_from, frames_of, places, is_within, skipped_before, Scanned}
 use Rattle.rtcm_scan.proofs.ScanLemmas.{scanned_le}
-use Rattle.rtcm_scan.proofs.DecidedLemmas.{or_none, frames_split}
+use Rattle.rtcm_scan.proofs.DecidedLemmas.{or_none, frames_later, frames_split}
 
 -- from a place on, all places pass a test, or none does
-count_all : (t : ℕ → Bool) (from d : ℕ) → ((q : ℕ) → from ≤ q → q < from + d → t q ≡ true) → count_by t (places (from + d)) ≡ count_by t (places from) + d
+count_same : (t : ℕ → Bool) (x : Bool) (from d : ℕ) → ((q : ℕ) → from ≤ q → q < from + d → t q ≡ x) → count_by t (places (from + d)) ≡ count_by t (places from) + cond x d 0
 unfolding places
-count_all t from zero h = let z : from + 0 ≡ from = omega arith in rw z (omega arith)
-count_all t from (suc d) h =
+count_same t x from zero h = let z : from + 0 ≡ from = omega arith in rw z (elim x as (λ v. count_by t (places from) ≡ count_by t (places from) + cond v 0 0) [ true ↦ omega arith | false ↦ omega arith ])
+count_same t x from (suc d) h =
     let z : from + suc d ≡ suc (from + d) = omega arith in
-    let r : count_by t (places (from + d)) ≡ count_by t (places from) + d = count_all t from d (λ q i j. h q i (omega arith)) in
-    let y : t (from + d) ≡ true = h (from + d) (omega arith) (omega arith) in
-    let s : count_by t (places (from + d) ++ (from + d) ∷ []) ≡ count_by t (places (from + d)) + cond (t (from + d)) 1 0 = sum_by_push (λ q. cond (t q) 1 0) (places (from + d)) (from + d) in
-    rw z (s ∙ ap (λ v. count_by t (places (from + d)) + cond v 1 0) y ∙ (omega (arith, r)))
-
-count_none : (t : ℕ → Bool) (from d : ℕ) → ((q : ℕ) → from ≤ q → q < from + d → t q ≡ false) → count_by t (places (from + d)) ≡ count_by t (places from)
-unfolding places
-count_none t from zero h = let z : from + 0 ≡ from = omega arith in rw z refl
-count_none t from (suc d) h =
-    let z : from + suc d ≡ suc (from + d) = omega arith in
-    let r : count_by t (places (from + d)) ≡ count_by t (places from) = count_none t from d (λ q i j. h q i (omega arith)) in
-    let y : t (from + d) ≡ false = h (from + d) (omega arith) (omega arith) in
-    let s : count_by t (places (from + d) ++ (from + d) ∷ []) ≡ count_by t (places (from + d)) + cond (t (from + d)) 1 0 = sum_by_push (λ q. cond (t q) 1 0) (places (from + d)) (from + d) in
-    rw z (s ∙ ap (λ v. count_by t (places (from + d)) + cond v 1 0) y ∙ (omega (arith, r)))
+    let r = count_same t x from d (λ q i j. h q i (omega arith)) in
+    let s = sum_by_push (λ q. cond (t q) 1 0) (places (from + d)) (from + d) in
+    rw z (s ∙ ap (λ v. count_by t (places (from + d)) + cond v 1 0) (h (from + d) (omega arith) (omega arith)) ∙ one_more x _ _ r)
+  where
+    one_more : (x : Bool) (u v : ℕ) → u ≡ v + cond x d 0 → u + cond x 1 0 ≡ v + cond x (suc d) 0
+    one_more true u v e = omega arith
+    one_more false u v e = omega arith
 
 -- a place before the frames, or before the scanned part, is in no frame
 none_ahead : (e : Bool) (b : List ℕ) (from to q : ℕ) (fs : List Framed) → Scanned e b from to fs → q < from → list_any (is_within q) fs ≡ false
 none_ahead e b from to q [] s l = refl
 none_ahead e b from to q (f ∷ fs) s l =
-    let h : from ≤ f.offset = s.0 in
     let n : (leb f.offset q && ltb q (frame_end f)) ≡ false = and_left _ _ (lt-leb f.offset q (omega arith)) in
     rw n (none_ahead e b (frame_end f) to q fs s.3 (omega arith))
 
 none_from : (q p k : ℕ) (s : List ℕ) → q < p → list_any (is_within q) (frames_from p k s) ≡ false
-unfolding frames_from
-none_from q p k [] h = refl
-none_from q p (suc k) (x ∷ s) h = none_from q (p + 1) k s (omega arith)
-none_from q p zero (x ∷ s) h =
-    let n : (leb p q && ltb q (p + (length (framed_message (x ∷ s)) + 6))) ≡ false = and_left _ _ (lt-leb p q h) in
-    elim (begins_frame (x ∷ s)) as (λ v. list_any (is_within q) (cond v (record { offset = p; message = framed_message (x ∷ s) } ∷ frames_from (p + 1) (frame_length (x ∷ s) - 1) s) (frames_from (p + 1) 0 s)) ≡ false) [
-      | true ↦ rw n (none_from q (p + 1) (frame_length (x ∷ s) - 1) s (omega arith))
-      | false ↦ none_from q (p + 1) 0 s (omega arith)
-    ]
+none_from q p k s h = (frames_later (is_within q) p k s (λ f l. and_left _ _ (lt-leb f.offset q (omega (arith, h, l))))).0
 
 -- both counts over one frame
 over_frame : {inside from offset to : ℕ} (before after bytes size : ℕ) → inside ≡ before + (offset - from) → after + bytes ≡ inside + (to - (offset + size))
@@ -54,22 +38,20 @@ count_left : (e : Bool) (b : List ℕ) (from to : ℕ) (fs : List Framed) (t : �
 count_left e b from to [] t s h =
     let l : from ≤ to = s.0 in
     let z : from + (to - from) ≡ to = omega arith in
-    let r : count_by t (places (from + (to - from))) ≡ count_by t (places from) + (to - from) = count_all t from (to - from) (λ q i j. h q i (omega arith)) in
+    let r : count_by t (places (from + (to - from))) ≡ count_by t (places from) + (to - from) = count_same t true from (to - from) (λ q i j. h q i (omega arith)) in
     let r' : count_by t (places to) ≡ count_by t (places from) + (to - from) = ap (λ n. count_by t (places n)) (sym z) ∙ r in
     omega arith
 count_left e b from to (f ∷ fs) t s h =
     let i : from ≤ f.offset = s.0 in
     let l : frame_end f ≤ to = scanned_le e b (frame_end f) to fs s.3 in
     let z : from + (f.offset - from) ≡ f.offset = omega arith in
-    let a : count_by t (places (from + (f.offset - from))) ≡ count_by t (places from) + (f.offset - from) = count_all t from (f.offset - from) (λ q j k.
+    let a : count_by t (places (from + (f.offset - from))) ≡ count_by t (places from) + (f.offset - from) = count_same t true from (f.offset - from) (λ q j k.
     let n : (leb f.offset q && ltb q (frame_end f)) ≡ false = and_left _ _ (lt-leb f.offset q (omega arith)) in
-    let m : list_any (is_within q) fs ≡ false = none_ahead e b (frame_end f) to q fs s.3 (omega arith) in
-    h q j (omega arith) ∙ rw (n, m) refl) in
+    h q j (omega arith) ∙ rw (n, none_ahead e b (frame_end f) to q fs s.3 (omega arith)) refl) in
     let a' : count_by t (places f.offset) ≡ count_by t (places from) + (f.offset - from) = ap (λ n. count_by t (places n)) (sym z) ∙ a in
-    let c : count_by t (places (frame_end f)) ≡ count_by t (places f.offset) = count_none t f.offset (length f.message + 6) (λ q j k.
-    let x : leb f.offset q ≡ true = le-leb f.offset q j in
+    let c : count_by t (places (frame_end f)) ≡ count_by t (places f.offset) = count_same t false f.offset (length f.message + 6) (λ q j k.
     let y : ltb q (frame_end f) ≡ true = lt-ltb q (frame_end f) k in
-    h q (omega arith) (omega arith) ∙ rw (x, y) refl) in
+    h q (omega arith) (omega arith) ∙ rw (le-leb f.offset q j, y) refl) ∙ add-zero _ in
     let r : count_by t (places to) + sum_by (λ f. length f.message + 6) fs ≡ count_by t (places (frame_end f)) + (to - frame_end f) = count_left e b (frame_end f) to fs t s.3 (λ q j k.
     let n : (leb f.offset q && ltb q (frame_end f)) ≡ false = and_right (leb f.offset q) _ (le-ltb q (frame_end f) j) in
     h q (omega arith) k ∙ rw n refl) in

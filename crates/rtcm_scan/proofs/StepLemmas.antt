@@ -1,6 +1,7 @@
 -- The counts of a framer, step by step.
-use Rattle.rtcm_scan.proofs.Names.{ℕ, ◌≡◌, ◌+◌, ◌-◌, ◌*◌, ◌<◌, ◌≤◌, min, max, Bool, true, false, not, cond, ◌&&◌, ltb, leb, List, [], ◌∷◌, ◌++◌, length, map, drop, set, get_or, refl, sym, ap, ◌∙◌, arith, suc, zero, ⊎_elim, subst, length-set, length-append, length-drop, filter, list_any, cases_lt, lt-ltb, le-ltb, get_or-set_same, map-append, filter-append, WindowValue, looked, looked_through, without_front, begins_frame, message_length, frame_length, has_preamble, framed_message, Framed, IsFrameOf, frame_end, places, is_inside, cost, FramerValue, HasFramed, first_held, IsPassed, Scanned, window_of, with_window, with_looks, asked, with_candidate_examined, Span, span, covers, looks_at, all_looks, tried_before, spans_at, CountsLooks, HasExamined, longest_frame, most_looks, most_bytes}
+use Rattle.rtcm_scan.proofs.Names.{ℕ, ◌≡◌, ◌+◌, ◌-◌, ◌*◌, ◌<◌, ◌≤◌, min, max, Bool, true, false, not, cond, ◌&&◌, ltb, leb, List, [], ◌∷◌, ◌++◌, length, map, drop, set, get_or, refl, sym, ap, ◌∙◌, arith, suc, zero, ⊎_elim, subst, length-set, length-append, length-drop, filter, list_any, cases_lt, lt-ltb, le-ltb, get_or-set_same, map-append, filter-append, WindowValue, looked, looked_through, without_front, begins_frame, message_length, frame_length, has_preamble, framed_message, Framed, IsFrameOf, frame_end, places, is_inside, cost, FramerValue, HasFramed, first_held, IsPassed, Scanned, window_of, with_byte, with_window, with_looks, asked, with_candidate_examined, Span, span, covers, looks_at, all_looks, tried_before, spans_at, CountsLooks, HasExamined, longest_frame, most_looks, most_bytes}
 use Rattle.std.specs.List.{AllByRecursion as ByRecursion}
+use Rattle.rtcm_bits.proofs.WindowLemmas.{looked_bytes, looked_length}
 use Rattle.rtcm_scan.proofs.LooksLemmas.{one_if, looks_push, all_push, counts_look, counts_push, none_cover, greatest_same}
 use Rattle.rtcm_scan.proofs.TriedLemmas.{sum_empty, counts_skip, counts_frame, looks_frame, all_frame, empty_covers}
 use Rattle.rtcm_scan.proofs.CostLemmas.{spans_longer, cost_within}
@@ -24,10 +25,7 @@ covers_more i p k n h = ⊎_elim
 
 looks_more : (xs : List Span) (q k n i : ℕ) → k ≤ n → looks_at (xs ++ span q k ∷ []) i ≤ looks_at (xs ++ span q n ∷ []) i
 looks_more xs q k n i h =
-    let a : looks_at (xs ++ span q k ∷ []) i ≡ looks_at xs i + one_if (covers i (span q k)) = looks_push xs (span q k) i in
-    let b : looks_at (xs ++ span q n ∷ []) i ≡ looks_at xs i + one_if (covers i (span q n)) = looks_push xs (span q n) i in
-    let c : one_if (covers i (span q k)) ≤ one_if (covers i (span q n)) = covers_more i q k n h in
-    join _ _ _ _ _ a b c
+    join _ _ _ _ _ (looks_push xs (span q k) i) (looks_push xs (span q n) i) (covers_more i q k n h)
   where
     join : (u v x c d : ℕ) → u ≡ x + c → v ≡ x + d → c ≤ d → u ≤ v
     join u v x c d e f g = omega arith
@@ -54,14 +52,6 @@ fit_less xs q k n h f = record {
 abbrev Counted : List Span → ℕ → ℕ → WindowValue → Type 0
 Counted xs p n w = CountsLooks xs p n w.looks w.examined w.most
 
-pub looked_bytes : (w : WindowValue) (start m : ℕ) → (looked_through w start m).bytes ≡ w.bytes
-looked_bytes w start zero = refl
-looked_bytes w start (suc m) = looked_bytes w start m
-
-pub looked_length : (w : WindowValue) (start m : ℕ) → length (looked_through w start m).looks ≡ length w.looks
-looked_length w start zero = refl
-looked_length w start (suc m) = length-set (looked_through w start m).looks (start + m) _ ∙ looked_length w start m
-
 -- the last span, of k bytes, can grow by m looks from `start` on: each at a byte of the stream that has a count, which is not full
 record CanGrow (xs : List Span) (q k p n start m : ℕ) (w : WindowValue) : Type 0 where
   pub meets : q + k ≡ p + start
@@ -76,12 +66,7 @@ counts_looked {q} {k} {p} {n} {j} xs w g c =
     counts_look xs q k g.meets l (omega (arith, g.within)) c in
     let s : get_or (set w.looks j (get_or w.looks j 0 + 1)) j 0 ≡ get_or w.looks j 0 + 1 = get_or-set_same w.looks j (get_or w.looks j 0 + 1) 0 l in
     let a : get_or (set w.looks j (get_or w.looks j 0 + 1)) j 0 ≡ looks_at (xs ++ span q (k + 1) ∷ []) (p + j) = d.each j (omega (arith, l, length-set w.looks j (get_or w.looks j 0 + 1))) in
-    let b : looks_at (xs ++ span q (k + 1) ∷ []) (p + j) ≤ 65535 = g.fit.looks (p + j) in
-    let m : min (get_or w.looks j 0 + 1) 65535 ≡ get_or w.looks j 0 + 1 = fits _ _ _ s a b in
-    let t : w.examined + 1 ≡ all_looks (xs ++ span q (k + 1) ∷ []) = d.total in
-    let u : all_looks (xs ++ span q (k + 1) ∷ []) ≤ 18446744073709551615 = g.fit.all in
-    let z : min (w.examined + 1) 18446744073709551615 ≡ w.examined + 1 = fits_all _ _ t u in
-    rw (m, z) d
+    rw (fits _ _ _ s a (g.fit.looks (p + j)), fits_all _ _ d.total g.fit.all) d
   where
     fits : (x y z : ℕ) → y ≡ x → y ≡ z → z ≤ 65535 → min x 65535 ≡ x
     fits x y z a b c = omega arith
@@ -128,12 +113,7 @@ pub step_examined_to : (v : FramerValue) (n : ℕ) (b : List ℕ) (fs : List Fra
 step_examined_to v n b fs h a0 a1 x =
     let s : HasFramed v b fs = x.history in
     let sc : Scanned v.has_ended b 0 (first_held v) fs = s.scanned in
-    let t : v.taken ≡ length b = s.taken in
-    let f : length v.held ≤ v.taken = s.fits in
-    let e : length v.looks ≡ length v.held = x.each in
     let z : v.tried + (n - v.tried) ≡ n = omega arith in
-    let lim : v.limit ≤ most_bytes = x.limit in
-    let wit : v.taken ≤ v.limit = x.within in
     let k : Fit (spans_at b fs (first_held v) n) = bound_fits v.has_ended b fs (first_held v) sc a0 (omega arith) (omega arith) in
     let c : Counted (spans_at b fs (first_held v) (v.tried + (n - v.tried))) (first_held v) (length b) (looked_through (window_of v) v.tried (n - v.tried)) =
     counts_through _ (n - v.tried) (window_of v) (record { meets = refl; counted = omega arith; within = omega arith; fit = subst (λ (q : ℕ). Fit (spans_at b fs (first_held v) q)) (sym z) k }) x.counts in
@@ -141,7 +121,7 @@ step_examined_to v n b fs h a0 a1 x =
       history = record { taken = s.taken; held = s.held; fits = s.fits; scanned = s.scanned; first = s.first; skipped = s.skipped };
       limit = x.limit;
       within = x.within;
-      each = looked_length (window_of v) v.tried (n - v.tried) ∙ e;
+      each = looked_length (window_of v) v.tried (n - v.tried) ∙ x.each;
       tried = a1;
       counts = subst (λ (q : ℕ). Counted (spans_at b fs (first_held v) q) (first_held v) (length b) (looked_through (window_of v) v.tried (n - v.tried))) z c;
     }
@@ -150,6 +130,14 @@ step_examined_to v n b fs h a0 a1 x =
 pub step_examined : (v : FramerValue) (b : List ℕ) (fs : List Framed) → v.tried ≤ asked v.held → HasExamined v b fs → HasExamined (with_candidate_examined v) b fs
 step_examined v b fs h x = let a = asked_bound v.held in step_examined_to v (asked v.held) b fs h a.0 a.1 x
 
+-- the counts of a framer whose candidate was examined whole
+pub counts_whole : (v : FramerValue) (b : List ℕ) (fs : List Framed) → 0 < length v.held → v.tried ≡ asked v.held → HasExamined v b fs
+    → CountsLooks (spans_at b fs (first_held v) (cost b (first_held v))) (first_held v) (length b) v.looks v.examined v.most
+counts_whole v b fs l a x =
+    let y : v.held ≡ drop (first_held v) b = x.history.held in
+    let k : v.tried ≡ cost b (first_held v) = a ∙ ap asked y ∙ sym (cost_asked b (first_held v) (omega (arith, l, ap length y))) in
+    subst (λ (q : ℕ). CountsLooks (spans_at b fs (first_held v) q) (first_held v) (length b) v.looks v.examined v.most) k x.counts
+
 -- the byte at a place is dropped
 pub step_give_up : (v : FramerValue) (b : List ℕ) (fs : List Framed) → 0 < length v.held → v.tried ≡ asked v.held → IsPassed v.has_ended v.held → HasExamined v b fs
     → HasExamined (record (with_window v (without_front (window_of v) 1) 0) { skipped = v.skipped + 1 }) b fs
@@ -157,21 +145,14 @@ step_give_up v b fs h a p x =
     let s : HasFramed v b fs = x.history in
     let n : HasFramed (record v { held = drop 1 v.held; skipped = v.skipped + 1 }) b fs = history_give_up v b fs h p s in
     let l : length (drop 1 v.held) ≡ length v.held - 1 = length-drop 1 v.held in
-    let f : length v.held ≤ v.taken = s.fits in
-    let t : v.taken ≡ length b = s.taken in
-    let e : first_held v + 1 ≡ v.taken - length (drop 1 v.held) = omega arith in
-    let g : length v.looks ≡ length v.held = x.each in
-    let y : v.held ≡ drop (first_held v) b = s.held in
-    let k : v.tried ≡ cost b (first_held v) = a ∙ ap asked y ∙ sym (cost_asked b (first_held v) (let q = ap length y in omega arith)) in
-    let c : CountsLooks (spans_at b fs (first_held v) (cost b (first_held v))) (first_held v) (length b) v.looks v.examined v.most =
-    subst (λ (q : ℕ). CountsLooks (spans_at b fs (first_held v) q) (first_held v) (length b) v.looks v.examined v.most) k x.counts in
+    let e : first_held v + 1 ≡ v.taken - length (drop 1 v.held) = omega (arith, l, h, s.fits) in
     let d : CountsLooks (spans_at b fs (first_held v + 1) 0) (first_held v + 1) (length b) (drop 1 v.looks) v.examined v.most =
-    counts_skip v.has_ended b fs (first_held v) s.scanned (omega arith) c in
+    counts_skip v.has_ended b fs (first_held v) s.scanned (omega (arith, h, x.each)) (counts_whole v b fs h a x) in
     record {
       history = record { taken = n.taken; held = n.held; fits = n.fits; scanned = n.scanned; first = n.first; skipped = n.skipped };
       limit = x.limit;
       within = x.within;
-      each = length-drop 1 v.looks ∙ ap (λ q. q - 1) g ∙ sym l;
+      each = length-drop 1 v.looks ∙ ap (λ q. q - 1) x.each ∙ sym l;
       tried = omega arith;
       counts = subst (λ (q : ℕ). CountsLooks (spans_at b fs q 0) q (length b) (drop 1 v.looks) v.examined v.most) e d;
     }
@@ -194,62 +175,43 @@ all_empty xs p = sum_empty (λ x. x.size) xs (span p 0) refl
 pub step_take : (v : FramerValue) (b : List ℕ) (fs : List Framed) → begins_frame v.held ≡ true → v.tried ≡ asked v.held → HasExamined v b fs
     → HasExamined (with_window v (without_front (looked_through (window_of v) 3 (message_length v.held)) (frame_length v.held)) 0) b (fs ++ record { offset = first_held v; message = framed_message v.held } ∷ [])
 step_take v b fs h a x =
-    let p = first_held v in
-    let m : ℕ = message_length v.held in
+    let p : ℕ = first_held v in
+    let n : ℕ = frame_length v.held in
     let g : Framed = record { offset = first_held v; message = framed_message v.held } in
     let s : HasFramed v b fs = x.history in
-    let n : HasFramed (record v { held = drop (frame_length v.held) v.held }) b (fs ++ g ∷ []) = history_take v b fs h s in
+    let r : HasFramed (record v { held = drop n v.held }) b (fs ++ g ∷ []) = history_take v b fs h s in
     let w : frame_length v.held ≤ length v.held = (begins_parts v.held h).1 in
     let q : length (framed_message v.held) ≡ message_length v.held = length-message v.held h in
-    let l : length (drop (frame_length v.held) v.held) ≡ length v.held - frame_length v.held = length-drop (frame_length v.held) v.held in
-    let f : length v.held ≤ v.taken = s.fits in
-    let t : v.taken ≡ length b = s.taken in
-    let e : frame_end g ≡ v.taken - length (drop (frame_length v.held) v.held) = omega arith in
+    let l : length (drop (frame_length v.held) v.held) ≡ length v.held - frame_length v.held = length-drop n v.held in
     let i : length v.looks ≡ length v.held = x.each in
-    let lim : v.limit ≤ most_bytes = x.limit in
-    let wit : v.taken ≤ v.limit = x.within in
-    let y : v.held ≡ drop (first_held v) b = s.held in
-    let sc : Scanned v.has_ended b 0 (first_held v) fs = s.scanned in
-    let o : list_any (is_inside (first_held v)) fs ≡ false = none_past v.has_ended b 0 (first_held v) fs s.scanned in
-    let k : v.tried ≡ cost b (first_held v) = a ∙ ap asked y ∙ sym (cost_asked b (first_held v) (let z = ap length y in omega arith)) in
-    let c : CountsLooks (spans_at b fs (first_held v) (cost b (first_held v))) (first_held v) (length b) v.looks v.examined v.most =
-    subst (λ (q : ℕ). CountsLooks (spans_at b fs (first_held v) q) (first_held v) (length b) v.looks v.examined v.most) k x.counts in
-    let xs = spans_at b fs (first_held v) (cost b (first_held v)) in
-    let c0 : Counted (spans_at b fs (first_held v) (cost b (first_held v)) ++ span (first_held v + 3) 0 ∷ []) (first_held v) (length b) (window_of v) =
-    counts_same xs (xs ++ span (first_held v + 3) 0 ∷ []) (λ j. looks_empty xs (first_held v + 3) j) (all_empty xs (first_held v + 3)) c in
-    let v' : IsFrameOf b g = record { begins = (let r = s.held in rw r at h); message = ap framed_message s.held } in
-    let sc' : Scanned v.has_ended b 0 (frame_end g) (fs ++ g ∷ []) = scanned_frame v.has_ended b 0 fs g sc v' in
-    let k' : Fit (spans_at b (fs ++ g ∷ []) (frame_end g) 0) = bound_fits {k = 0} v.has_ended b (fs ++ g ∷ []) (frame_end g) sc' (omega arith) (omega arith) (omega arith) in
-    let fit : Fit (spans_at b fs (first_held v) (cost b (first_held v)) ++ span (first_held v + 3) (length g.message) ∷ []) = record {
-      looks = λ j. (let r : looks_at (spans_at b fs (first_held v) (cost b (first_held v)) ++ span (first_held v + 3) (length g.message) ∷ []) j ≡ looks_at (spans_at b (fs ++ g ∷ []) (frame_end g) 0) j = looks_frame b fs g j o in
-          let u : looks_at (spans_at b (fs ++ g ∷ []) (frame_end g) 0) j ≤ 65535 = k'.looks j in rw r u);
-      all = (let r : all_looks (spans_at b fs (first_held v) (cost b (first_held v)) ++ span (first_held v + 3) (length g.message) ∷ []) ≡ all_looks (spans_at b (fs ++ g ∷ []) (frame_end g) 0) = all_frame b fs g o in
-          let u : all_looks (spans_at b (fs ++ g ∷ []) (frame_end g) 0) ≤ 18446744073709551615 = k'.all in rw r u);
+    let o : list_any (is_inside p) fs ≡ false = none_past v.has_ended b 0 p fs s.scanned in
+    let xs : List Span = spans_at b fs p (cost b p) in
+    let c : Counted (xs ++ span (p + 3) 0 ∷ []) p (length b) (window_of v) =
+    counts_same xs (xs ++ span (p + 3) 0 ∷ []) (λ j. looks_empty xs (p + 3) j) (all_empty xs (p + 3)) (counts_whole v b fs (omega (arith, w)) a x) in
+    let e : IsFrameOf b g = record { begins = (let r = s.held in rw r at h); message = ap framed_message s.held } in
+    let k : Fit (spans_at b (fs ++ g ∷ []) (frame_end g) 0) =
+    bound_fits {k = 0} v.has_ended b (fs ++ g ∷ []) (frame_end g) (scanned_frame v.has_ended b 0 fs g s.scanned e) (omega arith) (omega arith) (omega (arith, x.limit, x.within)) in
+    let fit : Fit (xs ++ span (p + 3) (length g.message) ∷ []) = record {
+      looks = λ j. (let r = looks_frame b fs g j o in let u = k.looks j in rw (← r) at u);
+      all = (let r = all_frame b fs g o in let u = k.all in rw (← r) at u);
     } in
-    let fit' : Fit (spans_at b fs (first_held v) (cost b (first_held v)) ++ span (first_held v + 3) (0 + message_length v.held) ∷ []) =
-    (let z : length g.message ≡ 0 + message_length v.held = omega arith in subst (λ (q : ℕ). Fit (spans_at b fs (first_held v) (cost b (first_held v)) ++ span (first_held v + 3) q ∷ [])) z fit) in
-    let c1 : Counted (spans_at b fs (first_held v) (cost b (first_held v)) ++ span (first_held v + 3) (0 + message_length v.held) ∷ []) (first_held v) (length b) (looked_through (window_of v) 3 (message_length v.held)) =
-    counts_through xs (message_length v.held) (window_of v) (record { meets = omega arith; counted = omega arith; within = omega arith; fit = fit' }) c0 in
-    let u = looked_through (window_of v) 3 (message_length v.held) in
-    let c2 : CountsLooks (spans_at b fs g.offset (cost b g.offset) ++ span (g.offset + 3) (length g.message) ∷ []) g.offset (length b) u.looks u.examined u.most =
-    (let z : 0 + message_length v.held ≡ length g.message = omega arith in
-    subst (λ (q : ℕ). CountsLooks (spans_at b fs (first_held v) (cost b (first_held v)) ++ span (first_held v + 3) q ∷ []) (first_held v) (length b) u.looks u.examined u.most) z c1) in
-    let j : length u.looks ≡ length v.looks = looked_length (window_of v) 3 (message_length v.held) in
-    let c3 : CountsLooks (spans_at b (fs ++ g ∷ []) (frame_end g) 0) (frame_end g) (length b) (drop (length g.message + 6) u.looks) u.examined u.most =
-    counts_frame v.has_ended b fs g sc (omega arith) c2 in
-    let d : drop (length g.message + 6) u.looks ≡ drop (frame_length v.held) u.looks = ap (λ z. drop (z + 6) u.looks) q in
-    let bs : drop (frame_length v.held) u.bytes ≡ drop (frame_length v.held) v.held = ap (drop (frame_length v.held)) (looked_bytes (window_of v) 3 (message_length v.held)) in
+    let z : length g.message ≡ 0 + message_length v.held = omega (arith, q) in
+    let u : WindowValue = looked_through (window_of v) 3 (message_length v.held) in
+    let d : Counted (xs ++ span (p + 3) (length g.message) ∷ []) p (length b) u = subst (λ (y : ℕ). Counted (xs ++ span (p + 3) y ∷ []) p (length b) u) (sym z)
+    (counts_through xs (message_length v.held) (window_of v) (record { meets = omega arith; counted = omega arith; within = omega arith; fit = subst (λ (y : ℕ). Fit (xs ++ span (p + 3) y ∷ [])) z fit }) c) in
+    let m : CountsLooks (spans_at b (fs ++ g ∷ []) (frame_end g) 0) (frame_end g) (length b) (drop (length g.message + 6) u.looks) u.examined u.most =
+    counts_frame v.has_ended b fs g s.scanned (omega (arith, w, q, i, looked_length (window_of v) 3 (message_length v.held))) d in
+    let bs : drop n u.bytes ≡ drop n v.held = ap (drop n) (looked_bytes (window_of v) 3 (message_length v.held)) in
     let lb : length (drop (frame_length v.held) u.bytes) ≡ length (drop (frame_length v.held) v.held) = ap length bs in
-    let e' : frame_end g ≡ v.taken - length (drop (frame_length v.held) u.bytes) = omega arith in
     record {
-      history = subst (λ (r : List ℕ). HasFramed (record (with_window v (without_front u (frame_length v.held)) 0) { held = r }) b (fs ++ g ∷ [])) (sym bs)
-          (record { taken = n.taken; held = n.held; fits = n.fits; scanned = n.scanned; first = n.first; skipped = n.skipped });
+      history = subst (λ (y : List ℕ). HasFramed (record (with_window v (without_front u n) 0) { held = y }) b (fs ++ g ∷ [])) (sym bs)
+          (record { taken = r.taken; held = r.held; fits = r.fits; scanned = r.scanned; first = r.first; skipped = r.skipped });
       limit = x.limit;
       within = x.within;
-      each = length-drop (frame_length v.held) u.looks ∙ ap (λ z. z - frame_length v.held) (j ∙ i) ∙ sym l ∙ sym lb;
+      each = length-drop n u.looks ∙ ap (λ y. y - n) (looked_length (window_of v) 3 (message_length v.held) ∙ i) ∙ sym l ∙ sym lb;
       tried = omega arith;
-      counts = subst (λ (q : ℕ). CountsLooks (spans_at b (fs ++ g ∷ []) q 0) q (length b) (drop (frame_length v.held) u.looks) u.examined u.most) e'
-          (subst (λ (r : List ℕ). CountsLooks (spans_at b (fs ++ g ∷ []) (frame_end g) 0) (frame_end g) (length b) r u.examined u.most) d c3);
+      counts = subst (λ (y : ℕ). CountsLooks (spans_at b (fs ++ g ∷ []) y 0) y (length b) (drop n u.looks) u.examined u.most) (omega arith)
+          (subst (λ (y : List ℕ). CountsLooks (spans_at b (fs ++ g ∷ []) (frame_end g) 0) (frame_end g) (length b) y u.examined u.most) (ap (λ y. drop (y + 6) u.looks) q) m);
     }
 
 rec_both : (P : Span → Type 0) (xs ys : List Span) → ByRecursion P xs → ByRecursion P ys → ByRecursion P (xs ++ ys)
@@ -274,7 +236,7 @@ messages_end e b from to [] s h = tt
 messages_end e b from to (f ∷ fs) s h = let l : frame_end f ≤ to = scanned_le e b (frame_end f) to fs s.3 in (omega arith, messages_end e b (frame_end f) to fs s.3 h)
 
 pub step_push : (v : FramerValue) (b : List ℕ) (fs : List Framed) (x : ℕ) → v.has_ended ≡ false → v.taken < v.limit → HasExamined v b fs
-    → HasExamined (record v { taken = v.taken + 1; held = v.held ++ x ∷ []; looks = v.looks ++ 0 ∷ []; is_ready = false }) (b ++ x ∷ []) fs
+    → HasExamined (with_byte v x) (b ++ x ∷ []) fs
 unfolding tried_before
 step_push v b fs x n lt h =
     let p = first_held v in

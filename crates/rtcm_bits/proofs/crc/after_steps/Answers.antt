@@ -2,9 +2,6 @@ use Rattle.rtcm_bits.proofs.Names.{◌≡◌, ◌+◌, ◌*◌, ◌-◌, ◌≤�
 use Rattle.rtcm_bits.proofs.LongLemmas.{long_step}
 use Rattle.rtcm_bits.proofs.crc.after_steps.Goals as goal
 
-pub loop-i-init : goal.loop-i-init
-loop-i-init c = record { whole = c.requires.whole; same = ap (λ (n : ℕ). crc (fold_into c.args.first (drop n c.args.bytes.now))) (omega arith) }
-
 pub loop-i-preserved : goal.loop-i-preserved
 loop-i-preserved c =
     let t : ℕ = c.args.start + 16 * c.loop-i.i in

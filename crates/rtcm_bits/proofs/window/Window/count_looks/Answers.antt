@@ -36,10 +36,7 @@ returns-then-len-lt-CAPACITY-clause-counted c =
 
 pub look_at_each-self-inside-requires-2 : goal.look_at_each-self-inside-requires-2
 look_at_each-self-inside-requires-2 c =
-    let i = c.self.inside in
-    let s = c.spell_out-self-inside in
-    let a : length c.as_mut_slice-2.result.now ≡ length s.new.counts.items = ap length c.as_mut_slice-2.ensures.value in
-    omega (arith, a, s.ensures.size)
+    omega (arith, ap length c.as_mut_slice-2.ensures.value, c.spell_out-self-inside.ensures.size)
 
 pub invariant_of-self-2 : goal.invariant_of-self-2
 invariant_of-self-2 c =

@@ -27,28 +27,29 @@ loop-offset-preserved g c =
       some = λ h. (let m = i.some h in (m.0, m.1 ++ f ∷ [], (n.some_counts m.0 m.1 m.2).0));
     }
 
-pub returns-in-Err : goal.returns-in-Err
-returns-in-Err g c =
+pub returns-in-Err-clause-part : goal.returns-in-Err-clause-part
+returns-in-Err-clause-part g c =
+    breaks_at g.S.FrameSink.took g.S.FrameSink.broke _ c.loop-offset.invariant.passed (c.in-Some.ensures.same.ended ∙ c.loop-offset.invariant.ended) c.in-Some.ensures.some_counts c.in-Err.ensures.part
+
+pub returns-in-Err-clause-ended : goal.returns-in-Err-clause-ended
+returns-in-Err-clause-ended g c =
+    c.in-Some.ensures.same.ended ∙ c.loop-offset.invariant.ended
+
+pub returns-in-Err-clause-same : goal.returns-in-Err-clause-same
+returns-in-Err-clause-same g c =
     let i = c.loop-offset.invariant in
     let n = c.in-Some.ensures in
-    record {
-      goes = c.take.ensures.goes;
-      whole = tt;
-      part = (breaks_at g.S.FrameSink.took g.S.FrameSink.broke _ c.loop-offset.invariant.passed (c.in-Some.ensures.same.ended ∙ c.loop-offset.invariant.ended) c.in-Some.ensures.some_counts c.in-Err.ensures.part);
-      ready = tt;
-      ended = n.same.ended ∙ i.ended;
-      same = record { limit = n.same.limit ∙ i.limit; taken = n.same.taken ∙ i.taken; some = λ h. (let m = i.some h in (m.0, _, (n.some_counts m.0 m.1 m.2).0)) };
-    }
+    record { limit = n.same.limit ∙ i.limit; taken = n.same.taken ∙ i.taken; some = λ h. (let m = i.some h in (m.0, _, (n.some_counts m.0 m.1 m.2).0)) }
 
-pub returns : goal.returns
-returns g c =
+pub returns-clause-whole : goal.returns-clause-whole
+returns-clause-whole g c = passes_known g.S.FrameSink.took c.loop-offset.invariant.passed c.in_default.ensures.none c.in_default.ensures.none_counts
+
+pub returns-clause-ended : goal.returns-clause-ended
+returns-clause-ended g c =
+    c.in_default.ensures.same.ended ∙ c.loop-offset.invariant.ended
+
+pub returns-clause-same : goal.returns-clause-same
+returns-clause-same g c =
     let i = c.loop-offset.invariant in
     let n = c.in_default.ensures in
-    record {
-      goes = i.can;
-      whole = (passes_known g.S.FrameSink.took c.loop-offset.invariant.passed c.in_default.ensures.none c.in_default.ensures.none_counts);
-      part = tt;
-      ready = n.ready;
-      ended = n.same.ended ∙ i.ended;
-      same = record { limit = n.same.limit ∙ i.limit; taken = n.same.taken ∙ i.taken; some = λ h. (let m = i.some h in (m.0, m.1, (n.none_counts m.0 m.1 m.2).0)) };
-    }
+    record { limit = n.same.limit ∙ i.limit; taken = n.same.taken ∙ i.taken; some = λ h. (let m = i.some h in (m.0, m.1, (n.none_counts m.0 m.1 m.2).0)) }

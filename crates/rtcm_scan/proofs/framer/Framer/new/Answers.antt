@@ -11,13 +11,8 @@ returns-in-Ok-clause-drained c = drained_new c.args.limit c.new-in-Ok.result.cou
 pub returns-in-Ok-clause-counted : goal.returns-in-Ok-clause-counted
 returns-in-Ok-clause-counted c = counted_new c.args.limit c.new-in-Ok.result.count c.in-Ok.window c.in-Ok.ensures
 
-pub returns-then-limit-gt-MOST_BYTES : goal.returns-then-limit-gt-MOST_BYTES
-returns-then-limit-gt-MOST_BYTES c = record {
-  new = tt;
-  history = tt;
-  counts = tt;
-  drained = tt;
-  counted = tt;
-  bad_limit = (λ _. c.if-limit-gt-MOST_BYTES.true, λ _. refl);
-  only = inl refl;
-}
+pub returns-then-limit-gt-MOST_BYTES-clause-bad_limit : goal.returns-then-limit-gt-MOST_BYTES-clause-bad_limit
+returns-then-limit-gt-MOST_BYTES-clause-bad_limit c = (λ _. c.if-limit-gt-MOST_BYTES.true, λ _. refl)
+
+pub returns-then-limit-gt-MOST_BYTES-clause-only : goal.returns-then-limit-gt-MOST_BYTES-clause-only
+returns-then-limit-gt-MOST_BYTES-clause-only c = inl refl

@@ -1,31 +1,26 @@
 use Rattle.rtcm_scan.proofs.Names.{◌≡◌, ◌+◌, ◌-◌, ◌≤◌, ◌<◌, ap, ◌∙◌, length, drop, refl, arith, length-drop, FramerValue, passed, longest_frame}
-use Rattle.rtcm_scan.proofs.PassOverLemmas.{to_history, to_counts, view_passed_on, others_held, after_length}
+use Rattle.rtcm_bits.proofs.WindowLemmas.{looked_left}
+use Rattle.rtcm_scan.proofs.PassOverLemmas.{to_history, to_counts, passed_on}
 use Rattle.rtcm_scan.proofs.framer.Framer.pass_over.Goals as goal
 
 pub returns-clause-history : goal.returns-clause-history
 returns-clause-history c = λ b fs s.
     let o = c.pass_others.ensures in
-    let i = c.self.inside in
-    let l : length i.window.bytes ≡ length c.args.self.now.held = ap (λ (v : FramerValue). length v.held) c.self.view_is in
-    let e = view_passed_on i.place c.pass_others.new.candidate.count c.self.view_is (omega (arith, l, c.requires)) c.drop_front.ensures o.window o.within in
-    let h = others_held (passed c.args.self.now) c.drop_front.new.self.bytes c.pass_others.result (ap (λ w. w.bytes) c.drop_front.ensures ∙ ap (λ (v : FramerValue). drop 1 v.held) c.self.view_is) o.within o.others in
-    rw e (to_history (passed c.args.self.now) c.pass_others.new.candidate.count refl h.0 h.1 s)
+    let p = passed_on c.self.inside.place c.pass_others.new.candidate.count c.self.view_is c.requires c.drop_front.ensures o.window o.within o.others in
+    rw p.0 (to_history (passed c.args.self.now) c.pass_others.new.candidate.count refl p.1 p.2 s)
 
 pub returns-clause-counts : goal.returns-clause-counts
 returns-clause-counts c = λ b fs s.
     let o = c.pass_others.ensures in
-    let i = c.self.inside in
-    let l : length i.window.bytes ≡ length c.args.self.now.held = ap (λ (v : FramerValue). length v.held) c.self.view_is in
-    let e = view_passed_on i.place c.pass_others.new.candidate.count c.self.view_is (omega (arith, l, c.requires)) c.drop_front.ensures o.window o.within in
-    let held : c.drop_front.new.self.bytes ≡ drop 1 c.args.self.now.held = ap (λ w. w.bytes) c.drop_front.ensures ∙ ap (λ (v : FramerValue). drop 1 v.held) c.self.view_is in
-    let h = others_held (passed c.args.self.now) c.drop_front.new.self.bytes c.pass_others.result held o.within o.others in
-    let k : length c.drop_front.new.self.bytes ≡ length (drop 1 c.args.self.now.held) = ap length held in
-    rw e (to_counts (passed c.args.self.now) c.pass_others.new.candidate.count refl h.0 h.1 (omega (arith, o.count, k)) s)
+    let p = passed_on c.self.inside.place c.pass_others.new.candidate.count c.self.view_is c.requires c.drop_front.ensures o.window o.within o.others in
+    let k : length c.drop_front.new.self.bytes ≡ length (passed c.args.self.now).held =
+    ap (λ w. length w.bytes) c.drop_front.ensures ∙ ap (λ (v : FramerValue). length (drop 1 v.held)) c.self.view_is in
+    rw p.0 (to_counts (passed c.args.self.now) c.pass_others.new.candidate.count refl p.1 p.2 (omega (arith, o.count, k)) s)
 
 pub returns-clause-same : goal.returns-clause-same
 returns-clause-same c =
     let o = c.pass_others.ensures in
-    let d = after_length c.drop_front.new.self c.pass_others.new.window c.pass_others.result _ o.window in
+    let d = looked_left c.drop_front.new.self c.pass_others.new.window 0 c.pass_others.result _ o.window in
     let k : length c.drop_front.new.self.bytes ≡ length c.self.inside.window.bytes - 1 = ap (λ w. length w.bytes) c.drop_front.ensures ∙ length-drop 1 c.self.inside.window.bytes in
     let l : length c.self.inside.window.bytes ≡ length c.args.self.now.held = ap (λ (v : FramerValue). length v.held) c.self.view_is in
     let t : c.self.inside.place + length c.self.inside.window.bytes ≡ c.args.self.now.taken = ap (λ (v : FramerValue). v.taken) c.self.view_is in
@@ -40,7 +35,7 @@ returns-clause-same c =
 pub invariant_of-self : goal.invariant_of-self
 invariant_of-self c =
     let o = c.pass_others.ensures in
-    let d = after_length c.drop_front.new.self c.pass_others.new.window c.pass_others.result _ o.window in
+    let d = looked_left c.drop_front.new.self c.pass_others.new.window 0 c.pass_others.result _ o.window in
     let k : length c.drop_front.new.self.bytes ≡ length c.self.inside.window.bytes - 1 = ap (λ w. length w.bytes) c.drop_front.ensures ∙ length-drop 1 c.self.inside.window.bytes in
     let l : length c.self.inside.window.bytes ≡ length c.args.self.now.held = ap (λ (v : FramerValue). length v.held) c.self.view_is in
     let i : c.self.inside.place + length c.self.inside.window.bytes ≤ c.self.inside.limit = c.self.invariant.0 in

@@ -53,8 +53,7 @@ invariant_of-self c =
 
 pub returns-clause-room : goal.returns-clause-room
 returns-clause-room c =
-    let l : length c.self-2.inside.window.bytes ≡ length c.loop-self-test.self.held = ap (λ (y : FramerValue). length y.held) c.self-2.view_is in
-    omega (arith, l, room c)
+    omega (arith, ap (λ (y : FramerValue). length y.held) c.self-2.view_is, room c)
 
 -- what is known when the loop is left
 finished : (c : goal.After-self-1) (w : FramerValue) (b : List ℕ) (fs : List Framed) → w ≡ with_ready c.loop-self-test.self → HasFramed c.args.self.now b fs → HasFramed w b fs × IsDrained w b fs

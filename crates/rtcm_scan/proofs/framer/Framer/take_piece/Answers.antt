@@ -1,24 +1,8 @@
 -- The frames that the bytes so far decide were passed on before more bytes are pushed, up to the limit of the
 -- framer.
-use Rattle.rtcm_scan.proofs.Names.{◌≡◌, ◌≤◌, ◌+◌, ◌∙◌, ap, sym, subst, refl, add-zero, arith, ℕ, length, slice_range, take, FramerValue}
-use Rattle.rtcm_scan.proofs.PassingLemmas.{at_limit, continues_most, continues_same, continues_block, part_none, part_drained, part_pushed, part_breaks}
+use Rattle.rtcm_scan.proofs.Names.{◌≡◌, ◌+◌, ◌∙◌, ap, arith, length, slice_range, take, FramerValue}
+use Rattle.rtcm_scan.proofs.PassingLemmas.{at_limit, continues_most, continues_same, continues_block, part_drained, part_pushed, part_breaks}
 use Rattle.rtcm_scan.proofs.framer.Framer.take_piece.Goals as goal
-
-pub loop-fault-init : goal.loop-fault-init
-loop-fault-init g c = record {
-  passes = part_none g.S.FrameSink.took c.args.self.now c.args.sink.now c.args.out.now;
-  can = c.requires.can;
-  bound = omega arith;
-  taken = sym (add-zero c.args.self.now.taken);
-  same = record {
-    least = omega arith;
-    most = omega arith;
-    within = subst (λ (n : ℕ). n ≤ c.args.self.now.limit) c.taken.ensures.value c.taken.ensures.within.0;
-    limit = refl;
-    ended = refl;
-    some = λ h. h;
-  };
-}
 
 pub returns-in-Err-clause-part : goal.returns-in-Err-clause-part
 returns-in-Err-clause-part g c =
